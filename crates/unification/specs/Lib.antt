@@ -1,0 +1,6 @@
+pub mod Ty
+pub mod Order
+pub mod Robinson
+pub mod Bindings
+pub mod Unify
+pub mod Calls

@@ -1,0 +1,1 @@
+// Unification over trees: definitions (specs/) and what is proved of them (proofs/). No code stands here.
