@@ -1,0 +1,4 @@
+pub mod Syntax
+pub mod Schema
+pub mod Diag
+pub mod Check
