@@ -2,3 +2,8 @@ pub mod Syntax
 pub mod Schema
 pub mod Diag
 pub mod Check
+pub mod Refusal
+pub mod Lines
+pub mod Frame
+pub mod References
+pub mod File
