@@ -1,3 +1,4 @@
 pub mod Every
 pub mod Grammar
 pub mod Agree
+pub mod Reading
