@@ -145,7 +145,7 @@ of-four b x y z i j k l low high =
     (make four b (omega (arith, i)) (x ∷ y ∷ z ∷ []) (omega arith) (omega arith) (range 0xf0 0xf7 b (i .low) (omega (arith, i))) refl
     (j, (k, (l, tt))) low high)
 
-in-rule : {s : List ℕ} → utf8.Character s → rule.Character s
+pub in-rule : {s : List ℕ} → utf8.Character s → rule.Character s
 in-rule (this (then {b = b} i end)) = alone {b = b} (omega (arith, i))
 in-rule (later (this (then {b = b} i (then {b = x} j end)))) = of-two b x i (follows j tt tt)
 in-rule (later (later (this (then {b = b} i (then {b = x} j (then {b = y} k end)))))) =

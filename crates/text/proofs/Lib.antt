@@ -2,3 +2,5 @@ pub mod Every
 pub mod Grammar
 pub mod Agree
 pub mod Reading
+pub mod First
+pub mod Walk
