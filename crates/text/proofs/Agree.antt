@@ -17,7 +17,7 @@ use Rattle.text.specs.Utf8.{Range, _to_, In, Fits, end, then, OneOf, thi
 use Rattle.text.specs.Rule as rule
 use Rattle.text.specs.Rule.{onesOf, ones, head, value, least, Later, Sequence, alone, several}
 use Rattle.text.proofs.Every.{both-left, both-right, same, same-eq, below, every}
-use Rattle.text.proofs.Grammar.{inside-in, in-inside}
+use Rattle.text.proofs.Grammar.{range, inside-in, in-inside}
 
 -- the bytes with n leading ones are those from low to high, and hold what is above low
 lead : ℕ → ℕ → ℕ → ℕ → Bool
@@ -31,14 +31,15 @@ record Lead (n low high : ℕ) : Type 0 where
 leads : (n low high : ℕ) → below (lead n low high) 256 ≡ true → Lead n low high
 unfolding lead
 leads n low high t =
-    record
-      { found = λ b l e. inside-in (low to high) b (sym (range b l) ∙ eq-eqb (ones b) n e)
-      ; given = λ b l i. eqb-true (ones b) n (range b l ∙ in-inside (low to high) b i)
-      ; holds = λ b l e. eqb-true (head b) (b - low) (both-right (eqb (ones b) n) _ (bits b l ∙ eq-eqb (ones b) n e))
-      }
+    record {
+      found = λ b l e. inside-in (low to high) b (sym (range b l) ∙ eq-eqb (ones b) n e);
+      given = λ b l i. eqb-true (ones b) n (range b l ∙ in-inside (low to high) b i);
+      holds = λ b l e. eqb-true (head b) (b - low) (both-right (eqb (ones b) n) _ (bits b l ∙ eq-eqb (ones b) n e));
+    }
   where
     range : (b : ℕ) → b < 256 → eqb (ones b) n ≡ inside (low to high) b
     range b l = same-eq (eqb (ones b) n) (inside (low to high) b) (both-left _ _ (every (lead n low high) 256 t b l))
+
     bits : (b : ℕ) → b < 256 → both (eqb (ones b) n) (eqb (head b) (b - low)) ≡ eqb (ones b) n
     bits b l = same-eq _ _ (both-right (same (eqb (ones b) n) (inside (low to high) b)) _ (every (lead n low high) 256 t b l))
 
@@ -78,9 +79,6 @@ choose (rs ∷ g) (suc k) h f = later (choose g k (le-of-suc-le-suc h) f)
 alternative : (k : ℕ) {s : List ℕ} → T (ltb k 9) → Fits (getD utf8.grammar k []) s → utf8.Character s
 alternative k h f = choose utf8.grammar k (lit< h) f
 
-range : (low high b : ℕ) → low ≤ b → b ≤ high → In (low to high) b
-range low high b l h = record { low = l; high = h }
-
 in-grammar : (b : ℕ) (t : List ℕ) → b < 256 → Sequence b t → utf8.Character (b ∷ t)
 unfolding value
 in-grammar b [] l q = absurd (omega (arith, q .two, q .long))
@@ -91,30 +89,30 @@ in-grammar b (x ∷ y ∷ []) l q =
     let p = taken three b l (x ∷ y ∷ []) (omega (arith, q .long)) q in
     let i = q .tail .0 in
     let rest = then (tail (q .tail .1 .0)) end in
-    elim (decLe b 0xe0)
-      [ yes h ↦ alternative 2 tt (then (range 0xe0 0xe0 b (p .0 .low) h) (then (range 0xa0 0xbf x (omega (arith, p, i)) (i .high)) rest))
+    elim (decLe b 0xe0) [
+      | yes h ↦ alternative 2 tt (then (range 0xe0 0xe0 b (p .0 .low) h) (then (range 0xa0 0xbf x (omega (arith, p, i)) (i .high)) rest))
       | no h₁ ↦
-          elim (decLe b 0xec)
-            [ yes h ↦ alternative 3 tt (then (range 0xe1 0xec b (omega arith) h) (then (tail i) rest))
+          elim (decLe b 0xec) [
+            | yes h ↦ alternative 3 tt (then (range 0xe1 0xec b (omega arith) h) (then (tail i) rest))
             | no h₂ ↦
-                elim (decLe b 0xed)
-                  [ yes h ↦ alternative 4 tt (then (range 0xed 0xed b (omega arith) h) (then (range 0x80 0xbf x (i .low) (i .high)) rest))
+                elim (decLe b 0xed) [
+                  | yes h ↦ alternative 4 tt (then (range 0xed 0xed b (omega arith) h) (then (range 0x80 0xbf x (i .low) (i .high)) rest))
                   | no h₃ ↦ alternative 5 tt (then (range 0xee 0xef b (omega arith) (p .0 .high)) (then (tail i) rest))
-                  ]
-            ]
-      ]
+                ]
+          ]
+    ]
 in-grammar b (x ∷ y ∷ z ∷ []) l q =
     let p = taken four b l (x ∷ y ∷ z ∷ []) (omega (arith, q .long)) q in
     let i = q .tail .0 in
     let rest = then (tail (q .tail .1 .0)) (then (tail (q .tail .1 .1 .0)) end) in
-    elim (decLe b 0xf0)
-      [ yes h ↦ alternative 6 tt (then (range 0xf0 0xf0 b (p .0 .low) h) (then (range 0x90 0xbf x (omega (arith, p, i)) (i .high)) rest))
+    elim (decLe b 0xf0) [
+      | yes h ↦ alternative 6 tt (then (range 0xf0 0xf0 b (p .0 .low) h) (then (range 0x90 0xbf x (omega (arith, p, i)) (i .high)) rest))
       | no h₁ ↦
-          elim (decLe b 0xf3)
-            [ yes h ↦ alternative 7 tt (then (range 0xf1 0xf3 b (omega arith) h) (then (tail i) rest))
+          elim (decLe b 0xf3) [
+            | yes h ↦ alternative 7 tt (then (range 0xf1 0xf3 b (omega arith) h) (then (tail i) rest))
             | no h₂ ↦ alternative 8 tt (then (range 0xf4 0xf4 b (omega arith) (omega (arith, p, i))) (then (range 0x80 0x8f x (i .low) (omega (arith, p, i))) rest))
-            ]
-      ]
+          ]
+    ]
 in-grammar b (x ∷ y ∷ z ∷ u ∷ t) l q = absurd (omega (arith, q .four, q .long))
 
 -- a byte of a range within the tail's is a later byte

@@ -41,11 +41,11 @@ module _ (s : List ℕ) (i : ℕ) (h : i < length s) where
   pub refused : (n : ℕ) → n ≡ ones (getD s i 0) → 0x80 ≤ getD s i 0 → (Sequence (getD s i 0) (take (n - 1) (drop (i + 1) s)) → ⊥) → Width (drop i s) 0
   refused n e l never =
       rw at
-      (record
-        { within = omega arith
-        ; whole = λ p. absurd (omega arith)
-        ; absent = λ _. none-of (getD s i 0) (drop (i + 1) s) l (λ q. never (rw e q))
-        })
+      (record {
+        within = omega arith;
+        whole = λ p. absurd (omega arith);
+        absent = λ _. none-of (getD s i 0) (drop (i + 1) s) l (λ q. never (rw e q));
+      })
 
   pub single : getD s i 0 < 0x80 → Width (drop i s) 1
   single l = rw at (record { within = omega arith; whole = λ _. alone l; absent = λ e. absurd (omega arith) })
@@ -55,8 +55,8 @@ module _ (s : List ℕ) (i : ℕ) (h : i < length s) where
   found (suc m) l room q =
       let less : suc m - 1 ≡ m = omega arith in
       rw at
-      (record
-        { within = simp length-drop (omega arith)
-        ; whole = λ _. several (rw less at q)
-        ; absent = λ e. absurd (omega arith)
-        })
+      (record {
+        within = simp length-drop (omega arith);
+        whole = λ _. several (rw less at q);
+        absent = λ e. absurd (omega arith);
+      })

@@ -11,10 +11,13 @@ use lib.Dec.{leb, lit≤}
 use borrow.Author.Tests.{leb-true, le-leb, lt-leb}
 use Rattle.text.proofs.Every.{both-left, both-right, both-false}
 use Rattle.text.specs.Star.{Star, none as nil, more}
-use Rattle.text.specs.Utf8.{Range, In, Fits, end, then, OneOf, this, later, both, inside, following, oneMore, count, grammar, Character, Text, characters}
+use Rattle.text.specs.Utf8.{Range, _to_, In, Fits, end, then, OneOf, this, later, both, inside, following, oneMore, count, grammar, Character, Text, characters}
 
 clash : {A X : Type 0} {x : A} → none ≡ some x → X
 clash e = let z : _≡_ {A = ℕ} 0 1 = cc in absurd (omega arith)
+
+pub range : (low high b : ℕ) → low ≤ b → b ≤ high → In (low to high) b
+range low high b l h = record { low = l; high = h }
 
 pub inside-in : (r : Range) (b : ℕ) → inside r b ≡ true → In r b
 inside-in r b h = record { low = leb-true _ _ (both-left _ _ h); high = leb-true _ _ (both-right (leb (r .low) b) _ h) }
@@ -37,6 +40,9 @@ above (up from some-byte rest) (later o) = omega (arith, above rest o)
 -- an alternative has a first byte
 filled : {l : ℕ} {g : List (List Range)} → Rising l g → OneOf g [] → ⊥
 filled (up from some-byte rest) (later o) = filled rest o
+
+pub not-empty : Character [] → ⊥
+not-empty c = filled grammar-rises c
 
 -- past the alternatives that end below b
 passed : (r : Range) (rs : List Range) (g : List (List Range)) (b : ℕ) → r .high < b → following ((r ∷ rs) ∷ g) b ≡ following g b
@@ -65,7 +71,7 @@ read g t (then {r = r} {b = b} i f) = rw (in-inside r b i, count) (read g t f)
 
 pub step : (a t : List ℕ) → Character a → characters (a ++ t) ≡ oneMore (characters t)
 unfolding characters count
-step [] t o = absurd (filled grammar-rises o)
+step [] t o = absurd (not-empty o)
 step (b ∷ a) t o =
     let c = chosen grammar-rises o in
     rw (c .is, count) (ap oneMore (read grammar t (c .fit)))
@@ -109,6 +115,7 @@ back [] (b ∷ s) n e = first (λ rs m h. back rs s m h) (following grammar b) r
         → (rs : List Range) → following grammar b ≡ some rs → (o : Option ℕ) → count grammar rs s ≡ o → oneMore o ≡ some n → Split [] (b ∷ s) n
     rest ih rs q none p h = clash h
     rest ih rs q (some m) p h = let z : n ≡ suc m = cc in rw z (start q (ih rs m p))
+
     first : ((rs : List Range) (m : ℕ) → count grammar rs s ≡ some m → Split rs s m)
         → (o : Option (List Range)) → following grammar b ≡ o → Split [] (b ∷ s) n
     first ih none q = clash (rw (q, count) at e)

@@ -4,3 +4,4 @@ pub mod Agree
 pub mod Reading
 pub mod First
 pub mod Walk
+pub mod Laws

@@ -43,11 +43,11 @@ module _ (v : ℕ) (t : List ℕ) (k w : ℕ) (r : Reading v t k w) where
       let b = getD t k 0 in
       let low : b - 0x80 ≡ b % 64 = omega (arith, l .low, l .high) in
       rw (add-one k, low)
-      (record
-        { is = rw (take-suc t k 0, value-snoc v (take k t) b, ← (r .is))
-        ; tail = rw (take-suc t k 0) (each-snoc Later (take k t) b (r .tail) l)
-        ; small = rw (pow-suc 64 k) (omega (arith, r .small))
-        })
+      (record {
+        is = rw (take-suc t k 0, value-snoc v (take k t) b, ← (r .is));
+        tail = rw (take-suc t k 0) (each-snoc Later (take k t) b (r .tail) l);
+        small = rw (pow-suc 64 k) (omega (arith, r .small));
+      })
 
   -- three later bytes stay far below 32 bits
   pub reading-small : k ≤ 2 → w < 0x100000
@@ -74,14 +74,14 @@ module _ (s : List ℕ) (i n : ℕ) (room : Room s i n) where
   module _ (w : ℕ) (r : Reading (head (getD s i 0)) (drop (i + 1) s) (n - 1) w) where
     pub complete : least n ≤ w → w ≤ 0x10ffff → Sequence (getD s i 0) (take (n - 1) (drop (i + 1) s))
     complete l h =
-        record
-          { two = rw (← (room .lead)) (room .two)
-          ; four = rw (← (room .lead)) (room .four)
-          ; long = rw (← (room .lead)) (simp (length-take, length-drop) (omega (arith, room .fits, room .two)))
-          ; tail = r .tail
-          ; low = rw (← (room .lead), ← (r .is)) l
-          ; high = rw (← (r .is)) h
-          }
+        record {
+          two = rw (← (room .lead)) (room .two);
+          four = rw (← (room .lead)) (room .four);
+          long = rw (← (room .lead)) (simp (length-take, length-drop) (omega (arith, room .fits, room .two)));
+          tail = r .tail;
+          low = rw (← (room .lead), ← (r .is)) l;
+          high = rw (← (r .is)) h;
+        }
 
     pub bounds : Sequence (getD s i 0) (take (n - 1) (drop (i + 1) s)) → (least n ≤ w) × (w ≤ 0x10ffff)
     bounds q = (rw (← (room .lead), ← (r .is)) at (q .low), rw (← (r .is)) at (q .high))

@@ -37,10 +37,11 @@ loop-less : tie.Need-loop-less Inv-loop μ-loop
 loop-less c = omega arith
 
 loop-again : tie.Need-loop-again Inv-loop μ-loop
-loop-again c = 
-    ( room _ _ _ (c .before .before .before .loop .inv .0) (c .before .width .ensures)
-    , omega arith
-    , c .before .before .before .loop .inv .2 ∙ on _ _ _ _ (λ j. c .before .before .before .before .shared-slice-known .given j .fits) (c .before .width .ensures) (omega arith))
+loop-again c = (
+  room _ _ _ (c .before .before .before .loop .inv .0) (c .before .width .ensures),
+  omega arith,
+  c .before .before .before .loop .inv .2 ∙ on _ _ _ _ (λ j. c .before .before .before .before .shared-slice-known .given j .fits) (c .before .width .ensures) (omega arith),
+)
 
 returns-2 : tie.Need-returns-2 Inv-loop μ-loop
 returns-2 c = sym (ap answer (c .before .loop .inv .2 ∙ done _ _ _ (c .loop-test .left)))

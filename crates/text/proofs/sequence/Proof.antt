@@ -70,18 +70,18 @@ array-read-if3 : tie.Need-array-read-if3 Inv-loop μ-loop
 array-read-if3 c = search needs
 
 returns-3 : tie.Need-returns-3 Inv-loop μ-loop
-returns-3 c = 
+returns-3 c =
     let all : c .before .before .loop .k ≡ c .before .before .before .before .before .before .args .n - 1 = omega arith in
     no-answer (λ q. omega (arith, bounds (c .before .before .before .before .before .before .args .s .now) (c .before .before .before .before .before .before .args .i) (c .before .before .before .before .before .before .args .n) (c .before .before .before .before .before .before .pre) (c .before .before .loop .value) (rw all at (c .before .before .loop .inv .1)) q, c .if3 .taken))
 
 returns-4 : tie.Need-returns-4 Inv-loop μ-loop
-returns-4 c = 
+returns-4 c =
     let all : c .before .before .loop .k ≡ c .before .before .before .before .before .before .args .n - 1 = omega arith in
     let r = rw all at (c .before .before .loop .inv .1) in
-    record
-      { yes = λ e. complete _ _ _ (c .before .before .before .before .before .before .pre) _ r (c .if3 .left) (leb-true _ _ e)
-      ; no = λ e q. omega (arith, bounds _ _ _ (c .before .before .before .before .before .before .pre) (c .before .before .loop .value) r q, leb-false (c .before .before .loop .value) 0x10ffff e)
-      }
+    record {
+      yes = λ e. complete _ _ _ (c .before .before .before .before .before .before .pre) _ r (c .if3 .left) (leb-true _ _ e);
+      no = λ e q. omega (arith, bounds _ _ _ (c .before .before .before .before .before .before .pre) (c .before .before .loop .value) r q, leb-false (c .before .before .loop .value) 0x10ffff e);
+    }
 
 pub sequence-spec : {M : Type 1} → statement M
 sequence-spec =
