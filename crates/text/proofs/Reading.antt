@@ -37,7 +37,7 @@ pub reading-none : (v : ℕ) (t : List ℕ) → v < 256 → Reading v t 0 v
 unfolding value
 reading-none v t h = record { is = refl; tail = tt; small = omega arith }
 
-module _ (v : ℕ) (t : List ℕ) (k w : ℕ) (r : Reading v t k w) where
+module _ {v : ℕ} {t : List ℕ} {k w : ℕ} (r : Reading v t k w) where
   pub reading-more : k < length t → Later (getD t k 0) → Reading v t (k + 1) (w * 64 + (getD t k 0 - 0x80))
   reading-more h l =
       let b = getD t k 0 in
@@ -61,17 +61,17 @@ unfolding head
 head-le b = mod-le b _
 
 -- the sequence of n bytes at i
-module _ (s : List ℕ) (i n : ℕ) (room : Room s i n) where
-  pub later-at : (k : ℕ) → k < n - 1 → Sequence (getD s i 0) (take (n - 1) (drop (i + 1) s)) → Later (getD s (i + 1 + k) 0)
-  later-at k h q = rw (getD-drop (i + 1) s k 0) at (each-at Later (drop (i + 1) s) (n - 1) k (q .tail) h (simp length-drop (omega (arith, room .fits))))
+module _ {s : List ℕ} {i n : ℕ} (room : Room s i n) where
+  pub later-at : {k : ℕ} → k < n - 1 → Sequence (getD s i 0) (take (n - 1) (drop (i + 1) s)) → Later (getD s (i + 1 + k) 0)
+  later-at {k} h q = rw (getD-drop (i + 1) s k 0) at (each-at Later (drop (i + 1) s) (n - 1) k (q .tail) h (simp length-drop (omega (arith, room .fits))))
 
-  pub read-on : (k w : ℕ) → k < n - 1 → Later (getD s (i + 1 + k) 0) → Reading (head (getD s i 0)) (drop (i + 1) s) k w
+  pub read-on : {k w : ℕ} → k < n - 1 → Later (getD s (i + 1 + k) 0) → Reading (head (getD s i 0)) (drop (i + 1) s) k w
       → Reading (head (getD s i 0)) (drop (i + 1) s) (k + 1) (w * 64 + (getD s (i + 1 + k) 0 - 0x80))
-  read-on k w h l r =
+  read-on {k} h l r =
       rw (← (getD-drop (i + 1) s k 0))
-      (reading-more _ (drop (i + 1) s) k w r (simp length-drop (omega (arith, room .fits))) (rw (getD-drop (i + 1) s k 0) l))
+      (reading-more r (simp length-drop (omega (arith, room .fits))) (rw (getD-drop (i + 1) s k 0) l))
 
-  module _ (w : ℕ) (r : Reading (head (getD s i 0)) (drop (i + 1) s) (n - 1) w) where
+  module _ {w : ℕ} (r : Reading (head (getD s i 0)) (drop (i + 1) s) (n - 1) w) where
     pub complete : least n ≤ w → w ≤ 0x10ffff → Sequence (getD s i 0) (take (n - 1) (drop (i + 1) s))
     complete l h =
         record {

@@ -1,8 +1,7 @@
+-- `text::characters` meets its contract. The invariant: what is counted, added to the count of the bytes that are left, is the count of
+-- all. The measure is the number of bytes that are left.
 use Rattle.text.proofs.characters.Statement.{statement}
 use Rattle.text.proofs.characters.Tie as tie
-use Rattle.text.proofs.characters.Reads as reads
-use Rattle.text.proofs.characters.Lts as lts
-use Rattle.text.proofs.width.Reads as width-reads
 use borrow.Author.Needs.{needs}
 use native.Mathlib.Omega.{arith}
 use Prim.Native.Nat.{_≤_, _-_}
@@ -21,27 +20,26 @@ abbrev μ-loop : tie.MeasureT-loop
 loop-holds : tie.Need-loop-holds Inv-loop μ-loop
 loop-holds c = (omega arith, omega arith, plus-zero _)
 
-width-requires : tie.Need-width-requires Inv-loop μ-loop
-width-requires c κs = search needs
-
 returns : tie.Need-returns Inv-loop μ-loop
-returns c = sym (ap answer (c .before .before .before .loop .inv .2 ∙ ap (plus (c .before .before .before .loop .count)) (stop _ _ (c .before .before .loop-test .taken) (rw (c .if1 .taken) at (c .before .width .ensures)))))
+returns c =
+    let l = c .before .before .before .loop in
+    let none = stop _ _ (c .before .before .loop-test .taken) (rw (c .if1 .taken) at (c .before .width .ensures)) in
+    sym (ap answer (l .inv .2 ∙ ap (plus (l .count)) none))
 
 add-i : tie.Need-add-i Inv-loop μ-loop
-add-i c = omega (arith, room (c .before .before .before .before .before .args .s .now) (c .before .before .before .loop .i) (c .before .width .result) (c .before .before .before .loop .inv .0) (c .before .width .ensures))
-
-add-count : tie.Need-add-count Inv-loop μ-loop
-add-count c = search needs
+add-i c =
+    let l = c .before .before .before .loop in
+    omega (arith, room (c .before .before .before .before .before .args .s .now) (l .i) _ (l .inv .0) (c .before .width .ensures))
 
 loop-less : tie.Need-loop-less Inv-loop μ-loop
 loop-less c = omega arith
 
 loop-again : tie.Need-loop-again Inv-loop μ-loop
-loop-again c = (
-  room _ _ _ (c .before .before .before .loop .inv .0) (c .before .width .ensures),
-  omega arith,
-  c .before .before .before .loop .inv .2 ∙ on _ _ _ _ (λ j. c .before .before .before .before .shared-slice-known .given j .fits) (c .before .width .ensures) (omega arith),
-)
+loop-again c =
+    let l = c .before .before .before .loop in
+    let w = c .before .width .ensures in
+    let known = c .before .before .before .before .shared-slice-known .given in
+    (room _ _ _ (l .inv .0) w, omega arith, l .inv .2 ∙ on _ _ _ _ (λ j. known j .fits) w (omega arith))
 
 returns-2 : tie.Need-returns-2 Inv-loop μ-loop
 returns-2 c = sym (ap answer (c .before .loop .inv .2 ∙ done _ _ _ (c .loop-test .left)))
@@ -53,10 +51,10 @@ characters-spec =
     Inv-loop
     μ-loop
     loop-holds
-    width-requires
+    (λ c κs. search needs)
     returns
     add-i
-    add-count
+    (λ c. search needs)
     loop-less
     loop-again
     returns-2)

@@ -1,11 +1,9 @@
+-- `text::sequence` meets its contract. The invariant: k later bytes were read, and the value is theirs. The measure is what is left to read.
 use Rattle.text.proofs.sequence.Statement.{statement}
 use Rattle.text.proofs.sequence.Tie as tie
-use Rattle.text.proofs.sequence.Reads as reads
-use Rattle.text.proofs.sequence.Lts as lts
-use Rattle.text.proofs.head.Reads as head-reads
 use borrow.Author.Needs.{needs}
 use native.Mathlib.Omega.{arith}
-use Prim.Native.Nat.{_≤_, _-_, _+_}
+use Prim.Native.Nat.{_≤_, _<_, _-_}
 use lib.ListN.{drop, getD}
 use mathlib.Core.Path.{_≡_}
 use borrow.Author.Tests.{leb-true, leb-false}
@@ -18,69 +16,56 @@ Inv-loop s i n value₀ from more k₀ value k = (k ≤ more) × Reading (head (
 abbrev μ-loop : tie.MeasureT-loop
 μ-loop s i n value₀ from more k₀ value k = more - k
 
-shared-slice-read-head : tie.Need-shared-slice-read-head Inv-loop μ-loop
-shared-slice-read-head c = search needs
-
 head-requires : tie.Need-head-requires Inv-loop μ-loop
 head-requires c κs = (c .before .before .pre .lead, omega arith)
 
-add-from : tie.Need-add-from Inv-loop μ-loop
-add-from c = search needs
-
-sub-more : tie.Need-sub-more Inv-loop μ-loop
-sub-more c = search needs
-
 loop-holds : tie.Need-loop-holds Inv-loop μ-loop
-loop-holds c = (omega arith, rw (c .head .ensures) (reading-none _ _ (omega (arith, head-le (getD (c .before .before .before .args .s .now) (c .before .before .before .args .i) 0), c .before .before .shared-slice-known .given (c .before .before .before .args .i)))))
-
-add-b : tie.Need-add-b Inv-loop μ-loop
-add-b c = search needs
-
-shared-slice-read-b : tie.Need-shared-slice-read-b Inv-loop μ-loop
-shared-slice-read-b c = search needs
+loop-holds c =
+    let a = c .before .before .before .args in
+    let first = getD (a .s .now) (a .i) 0 in
+    let small : head first < 256 = omega (arith, head-le first, c .before .before .shared-slice-known .given (a .i)) in
+    (omega arith, rw (c .head .ensures) (reading-none _ _ small))
 
 returns : tie.Need-returns Inv-loop μ-loop
-returns c = no-answer (λ q. omega (arith, later-at (c .before .before .before .before .before .before .before .args .s .now) (c .before .before .before .before .before .before .before .args .i) (c .before .before .before .before .before .before .before .args .n) (c .before .before .before .before .before .before .before .pre) (c .before .before .before .loop .k) (c .before .before .loop-test .taken) q))
+returns c =
+    let room = c .before .before .before .before .before .before .before .pre in
+    no-answer (λ q. omega (arith, later-at room (c .before .before .loop-test .taken) q))
 
 returns-2 : tie.Need-returns-2 Inv-loop μ-loop
-returns-2 c = no-answer (λ q. omega (arith, later-at (c .before .before .before .before .before .before .before .before .args .s .now) (c .before .before .before .before .before .before .before .before .args .i) (c .before .before .before .before .before .before .before .before .args .n) (c .before .before .before .before .before .before .before .before .pre) (c .before .before .before .before .loop .k) (c .before .before .before .loop-test .taken) q))
+returns-2 c =
+    let room = c .before .before .before .before .before .before .before .before .pre in
+    no-answer (λ q. omega (arith, later-at room (c .before .before .before .loop-test .taken) q))
 
 mul-value : tie.Need-mul-value Inv-loop μ-loop
-mul-value c = omega (arith, reading-small _ _ _ _ (c .before .before .before .before .loop .inv .1) (omega arith))
+mul-value c = omega (arith, reading-small (c .before .before .before .before .loop .inv .1) (omega arith))
 
 cast-value : tie.Need-cast-value Inv-loop μ-loop
 cast-value c = omega arith
 
 add-value : tie.Need-add-value Inv-loop μ-loop
-add-value c = omega (arith, reading-small _ _ _ _ (c .before .before .before .before .loop .inv .1) (omega arith))
-
-add-k : tie.Need-add-k Inv-loop μ-loop
-add-k c = search needs
-
-loop-less : tie.Need-loop-less Inv-loop μ-loop
-loop-less c = search needs
+add-value c = omega (arith, reading-small (c .before .before .before .before .loop .inv .1) (omega arith))
 
 loop-again : tie.Need-loop-again Inv-loop μ-loop
-loop-again c = (omega arith, read-on _ _ _ (c .before .before .before .before .before .before .before .before .pre) (c .before .before .before .before .loop .k) (c .before .before .before .before .loop .value) (c .before .before .before .loop-test .taken) (record { low = c .before .if1 .left; high = c .if2 .left }) (c .before .before .before .before .loop .inv .1))
-
-mul-if3 : tie.Need-mul-if3 Inv-loop μ-loop
-mul-if3 c = search needs
-
-array-read-if3 : tie.Need-array-read-if3 Inv-loop μ-loop
-array-read-if3 c = search needs
+loop-again c =
+    let room = c .before .before .before .before .before .before .before .before .pre in
+    let turn = c .before .before .before .loop-test .taken in
+    (omega arith, read-on room turn (record { low = c .before .if1 .left; high = c .if2 .left }) (c .before .before .before .before .loop .inv .1))
 
 returns-3 : tie.Need-returns-3 Inv-loop μ-loop
 returns-3 c =
-    let all : c .before .before .loop .k ≡ c .before .before .before .before .before .before .args .n - 1 = omega arith in
-    no-answer (λ q. omega (arith, bounds (c .before .before .before .before .before .before .args .s .now) (c .before .before .before .before .before .before .args .i) (c .before .before .before .before .before .before .args .n) (c .before .before .before .before .before .before .pre) (c .before .before .loop .value) (rw all at (c .before .before .loop .inv .1)) q, c .if3 .taken))
+    let before = c .before .before .before .before .before .before in
+    let all : c .before .before .loop .k ≡ before .args .n - 1 = omega arith in
+    let read = rw all at (c .before .before .loop .inv .1) in
+    no-answer (λ q. omega (arith, bounds (before .pre) read q, c .if3 .taken))
 
 returns-4 : tie.Need-returns-4 Inv-loop μ-loop
 returns-4 c =
-    let all : c .before .before .loop .k ≡ c .before .before .before .before .before .before .args .n - 1 = omega arith in
-    let r = rw all at (c .before .before .loop .inv .1) in
+    let before = c .before .before .before .before .before .before in
+    let all : c .before .before .loop .k ≡ before .args .n - 1 = omega arith in
+    let read = rw all at (c .before .before .loop .inv .1) in
     record {
-      yes = λ e. complete _ _ _ (c .before .before .before .before .before .before .pre) _ r (c .if3 .left) (leb-true _ _ e);
-      no = λ e q. omega (arith, bounds _ _ _ (c .before .before .before .before .before .before .pre) (c .before .before .loop .value) r q, leb-false (c .before .before .loop .value) 0x10ffff e);
+      yes = λ e. complete (before .pre) read (c .if3 .left) (leb-true _ _ e);
+      no = λ e q. omega (arith, bounds (before .pre) read q, leb-false (c .before .before .loop .value) 0x10ffff e);
     }
 
 pub sequence-spec : {M : Type 1} → statement M
@@ -89,22 +74,22 @@ sequence-spec =
     (tie.spec
     Inv-loop
     μ-loop
-    shared-slice-read-head
+    (λ c. search needs)
     head-requires
-    add-from
-    sub-more
+    (λ c. search needs)
+    (λ c. search needs)
     loop-holds
-    add-b
-    shared-slice-read-b
+    (λ c. search needs)
+    (λ c. search needs)
     returns
     returns-2
     mul-value
     cast-value
     add-value
-    add-k
-    loop-less
+    (λ c. search needs)
+    (λ c. search needs)
     loop-again
-    mul-if3
-    array-read-if3
+    (λ c. search needs)
+    (λ c. search needs)
     returns-3
     returns-4)
