@@ -9,25 +9,20 @@ use mathlib.Core.Logic.{_↔_}
 use mathlib.Core.Option.{Option, none, some}
 use lib.Dec.{leb, lit≤}
 use borrow.Author.Tests.{leb-true, le-leb, lt-leb}
+use Rattle.text.proofs.Every.{both-left, both-right, both-false}
 use Rattle.text.specs.Star.{Star, none as nil, more}
-use Rattle.text.specs.Utf8.{Range, In, Fits, end, then, OneOf, this, later, both, inside, following, oneMore, count, grammar, Character, Text, characters}
+use Rattle.text.specs.Utf8.{Range, _to_, In, Fits, end, then, OneOf, this, later, both, inside, following, oneMore, count, grammar, Character, Text, characters}
 
-both-left : (a b : Bool) → both a b ≡ true → a ≡ true
-both-left true b h = refl
-both-left false b h = h
+clash : {A X : Type 0} {x : A} → none ≡ some x → X
+clash e = let z : _≡_ {A = ℕ} 0 1 = cc in absurd (omega arith)
 
-both-right : (a b : Bool) → both a b ≡ true → b ≡ true
-both-right true b h = h
-both-right false b h = let z : true ≡ false = sym h in cc
+pub range : (low high b : ℕ) → low ≤ b → b ≤ high → In (low to high) b
+range low high b l h = record { low = l; high = h }
 
-both-false : (a : Bool) → both a false ≡ false
-both-false true = refl
-both-false false = refl
-
-inside-in : (r : Range) (b : ℕ) → inside r b ≡ true → In r b
+pub inside-in : (r : Range) (b : ℕ) → inside r b ≡ true → In r b
 inside-in r b h = record { low = leb-true _ _ (both-left _ _ h); high = leb-true _ _ (both-right (leb (r .low) b) _ h) }
 
-in-inside : (r : Range) (b : ℕ) → In r b → inside r b ≡ true
+pub in-inside : (r : Range) (b : ℕ) → In r b → inside r b ≡ true
 in-inside r b h = rw (le-leb (r .low) b (h .low), le-leb b (r .high) (h .high))
 
 -- no alternative is empty, and each starts above the one before it
@@ -45,6 +40,9 @@ above (up from some-byte rest) (later o) = omega (arith, above rest o)
 -- an alternative has a first byte
 filled : {l : ℕ} {g : List (List Range)} → Rising l g → OneOf g [] → ⊥
 filled (up from some-byte rest) (later o) = filled rest o
+
+pub not-empty : Character [] → ⊥
+not-empty c = filled grammar-rises c
 
 -- past the alternatives that end below b
 passed : (r : Range) (rs : List Range) (g : List (List Range)) (b : ℕ) → r .high < b → following ((r ∷ rs) ∷ g) b ≡ following g b
@@ -73,7 +71,7 @@ read g t (then {r = r} {b = b} i f) = rw (in-inside r b i, count) (read g t f)
 
 pub step : (a t : List ℕ) → Character a → characters (a ++ t) ≡ oneMore (characters t)
 unfolding characters count
-step [] t o = absurd (filled grammar-rises o)
+step [] t o = absurd (not-empty o)
 step (b ∷ a) t o =
     let c = chosen grammar-rises o in
     rw (c .is, count) (ap oneMore (read grammar t (c .fit)))
@@ -89,7 +87,7 @@ data Split (rs : List Range) : List ℕ → ℕ → Type 0 where
 
 begins : (g : List (List Range)) (b : ℕ) {rs : List Range} {a : List ℕ} → following g b ≡ some rs → Fits rs a → OneOf g (b ∷ a)
 unfolding following
-begins [] b e f = let z : _≡_ {A = ℕ} 0 1 = cc in absurd (omega arith)
+begins [] b e f = clash e
 begins ([] ∷ g) b e f = later (begins g b e f)
 begins ((r ∷ rs) ∷ g) b {rs = x} {a = a} e f = go (λ h. begins g b h f) (inside r b) refl
   where
@@ -110,22 +108,23 @@ join i (split f t) = split (then i f) t
 back : (rs : List Range) (s : List ℕ) (n : ℕ) → count grammar rs s ≡ some n → Split rs s n
 unfolding count
 back [] [] n e = let z : n ≡ 0 = cc in rw z (split end nil)
-back (r ∷ rs) [] n e = let z : _≡_ {A = ℕ} 0 1 = cc in absurd (omega arith)
+back (r ∷ rs) [] n e = clash e
 back [] (b ∷ s) n e = first (λ rs m h. back rs s m h) (following grammar b) refl
   where
     rest : ((rs : List Range) (m : ℕ) → count grammar rs s ≡ some m → Split rs s m)
         → (rs : List Range) → following grammar b ≡ some rs → (o : Option ℕ) → count grammar rs s ≡ o → oneMore o ≡ some n → Split [] (b ∷ s) n
-    rest ih rs q none p h = let z : _≡_ {A = ℕ} 0 1 = cc in absurd (omega arith)
+    rest ih rs q none p h = clash h
     rest ih rs q (some m) p h = let z : n ≡ suc m = cc in rw z (start q (ih rs m p))
+
     first : ((rs : List Range) (m : ℕ) → count grammar rs s ≡ some m → Split rs s m)
         → (o : Option (List Range)) → following grammar b ≡ o → Split [] (b ∷ s) n
-    first ih none q = let h : none ≡ some n = rw (q, count) at e in let z : _≡_ {A = ℕ} 0 1 = cc in absurd (omega arith)
+    first ih none q = clash (rw (q, count) at e)
     first ih (some rs) q = rest ih rs q (count grammar rs s) refl (rw (q, count) at e)
 back (r ∷ rs) (b ∷ s) n e = go (λ h. back rs s n h) (inside r b) refl
   where
     go : (count grammar rs s ≡ some n → Split rs s n) → (i : Bool) → inside r b ≡ i → Split (r ∷ rs) (b ∷ s) n
     go ih true q = join (inside-in r b q) (ih (rw (q, count) at e))
-    go ih false q = let h : none ≡ some n = rw (q, count) at e in let z : _≡_ {A = ℕ} 0 1 = cc in absurd (omega arith)
+    go ih false q = clash (rw (q, count) at e)
 
 -- nothing is owed at the start
 whole : {s : List ℕ} {n : ℕ} → Split [] s n → Text s n

@@ -44,9 +44,10 @@ pub record Sequence (b : ℕ) (t : List ℕ) : Type 0 where
   pub low : least (ones b) ≤ value (head b) t
   pub high : value (head b) t ≤ 0x10ffff
 
+-- a byte with two leading ones is not below 80, so no bytes are both
 pub data Character : List ℕ → Type 0 where
   alone : {b : ℕ} → b < 0x80 → Character (b ∷ [])
-  several : {b : ℕ} {t : List ℕ} → 0x80 ≤ b → Sequence b t → Character (b ∷ t)
+  several : {b : ℕ} {t : List ℕ} → Sequence b t → Character (b ∷ t)
 
 abbrev pub Text : List ℕ → ℕ → Type 0
 Text s n = Star Character s n

@@ -19,7 +19,6 @@ use lib.Dec.{leb}
 use Rattle.text.specs.Star.{Star}
 
 infix 80 _to_
-
 -- `%xLOW-HIGH`
 pub record Range : Type 0 where
   pub low : ℕ

@@ -1,4 +1,12 @@
-// Whether bytes are UTF-8, and of how many characters.
+// UTF-8: whether bytes are a text, and of how many characters.
+ghost use mathlib.Core.Path.{_≡_};
+ghost use Prim.Native.Nat.{_+_, _-_, _<_};
+ghost use lib.ListN.{length, getD, take, drop};
+ghost use Rattle.text.specs.Utf8.{characters};
+ghost use Rattle.text.specs.Rule.{ones, head, Sequence};
+ghost use Rattle.text.specs.Width.{Width, Room, Decides};
+ghost use Rattle.text.specs.Answer.{answer};
+
 pub enum Text {
     Chars(usize),
     Broken,
@@ -8,21 +16,31 @@ pub enum Text {
 const LEAST: [u32; 5] = [0, 0, 0x80, 0x800, 0x10000];
 
 // How many one bits the byte starts with.
-fn ones(b: u8) -> usize {
+fn ones(b: u8) -> usize
+    ensures { λ r. ⌜ r ≡ ones b ⌝ }
+{
     u8::leading_zeros(!b) as usize
 }
 
-// What a first byte holds after its leading ones.
-fn head(b: u8, n: usize) -> u32 {
+// What a first byte with n leading ones holds after them.
+fn head(b: u8, n: usize) -> u32
+    requires { ⌜ (n ≡ ones b) × (n < 8) ⌝ }
+    ensures { λ r. ⌜ r ≡ head b ⌝ }
+{
     (b & (0x7f >> n)) as u32
 }
 
-// Whether the n bytes at i, of which the first has n leading ones, are a sequence.
-fn sequence(s: &[u8], i: usize, n: usize) -> bool {
+// Whether the n bytes at i are a sequence.
+fn sequence(s: &[u8], i: usize, n: usize) -> bool
+    requires { ⌜ Room (now s) i n ⌝ }
+    ensures { λ r. ⌜ Decides (Sequence (getD (now (s .entry)) i 0) (take (n - 1) (drop (i + 1) (now (s .entry))))) r ⌝ }
+{
     let mut value = head(s[i], n);
-    let mut k: usize = 1;
-    while k < n {
-        let b = s[i + k];
+    let from = i + 1;
+    let more = n - 1;
+    let mut k: usize = 0;
+    while k < more {
+        let b = s[from + k];
         if b < 0x80 {
             return false;
         }
@@ -39,7 +57,10 @@ fn sequence(s: &[u8], i: usize, n: usize) -> bool {
 }
 
 // How many bytes the character at i takes; 0 where there is none.
-fn width(s: &[u8], i: usize) -> usize {
+fn width(s: &[u8], i: usize) -> usize
+    requires { ⌜ i < length (now s) ⌝ }
+    ensures { λ r. ⌜ Width (drop i (now (s .entry))) r ⌝ }
+{
     let first = s[i];
     if first < 0x80 {
         return 1;
@@ -61,7 +82,9 @@ fn width(s: &[u8], i: usize) -> usize {
 }
 
 // The characters are counted in the same walk that tests them.
-pub fn characters(s: &[u8]) -> Text {
+pub fn characters(s: &[u8]) -> Text
+    ensures { λ r. ⌜ r ≡ answer (characters (now (s .entry))) ⌝ }
+{
     let mut i: usize = 0;
     let mut count: usize = 0;
     while i < s.len() {
