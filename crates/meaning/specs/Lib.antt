@@ -7,3 +7,5 @@ pub mod Lines
 pub mod Frame
 pub mod References
 pub mod File
+pub mod Rules
+pub mod Refused
