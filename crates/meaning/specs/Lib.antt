@@ -9,3 +9,4 @@ pub mod References
 pub mod File
 pub mod Rules
 pub mod Refused
+pub mod Sound

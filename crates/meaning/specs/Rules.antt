@@ -238,4 +238,4 @@ pub record Writable (f : Frame) : Type 0 where
 -- The frames may come one after the other, from what was read so far to what is read then.
 pub data Rules : SoFar → List Frame → SoFar → Type 0 where
   done : {so : SoFar} → Rules so [] so
-  next : {so end : SoFar} {f : Frame} {fs : List Frame} → Obeys so f → Writable f → Rules (add so f) fs end → Rules so (f ∷ fs) end
+  next : {so end : SoFar} {f : Frame} {fs : List Frame} → Obeys so f → Rules (add so f) fs end → Rules so (f ∷ fs) end
