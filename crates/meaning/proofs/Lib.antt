@@ -5,3 +5,7 @@ pub mod Lists
 pub mod Kept
 pub mod Frames
 pub mod Sound
+pub mod Hex
+pub mod Lines
+pub mod Inverse
+pub mod Grammar
