@@ -9,3 +9,5 @@ pub mod Hex
 pub mod Lines
 pub mod Inverse
 pub mod Grammar
+pub mod Bytes
+pub mod Written

@@ -9,7 +9,7 @@ use Rattle.meaning.specs.Lines.{Line, closed, unclosed, LF, inFront, lin
 use Rattle.meaning.specs.Rules.{Absent}
 use Rattle.meaning.proofs.Tests.{cases}
 
-pub together : List Line → List ℕ
+unfoldable pub together : List Line → List ℕ
 together [] = []
 together (closed s ∷ ls) = s ++ LF ∷ together ls
 together (unclosed s ∷ ls) = s ++ together ls

@@ -1,5 +1,5 @@
 -- Document 01, "Frame lines", from the writer's side: the bytes of a frame, the line that it is written as, and the rules that the frames
--- of a file obey. `passes` and `accepts` in proofs/Passing.antt say that the files of File.antt are exactly these.
+-- of a file obey. `described-exactly` in proofs/Written.antt says that the files that pass are exactly these.
 use mathlib.Core.Bool.{Bool, true, false}
 use mathlib.Core.List.{List, [], _∷_, _++_, flatMap}
 use mathlib.Core.Logic.{_≢_}
@@ -13,7 +13,7 @@ use Rattle.meaning.specs.Syntax.{Field, QueryStmt, Query, FieldRef, Lite
 use Rattle.meaning.specs.Lines.{LF, digits, maxBytes}
 use Rattle.meaning.specs.Frame.{Kind, limits, name, schemaType, predicate, node, query, kindByte, mayStand, Alternative, TypeShape, aLeaf, aRecord, aUnion, Frame, theLimits, aName, aType, aPredicate, aNode, theQuery, frameKind}
 use Rattle.meaning.specs.References.{nameRefs, typeRefs, nodeRefs, shapeKeys}
-use Rattle.meaning.specs.File.{SoFar, add, start, maxNames, maxTypes, maxPredicates, maxNodes}
+use Rattle.meaning.specs.File.{SoFar, add, start, maxNames, maxTypes, maxPredicates, maxNodes, Described, describe, maxFile}
 
 -- ---- Lists
 
@@ -239,3 +239,15 @@ pub record Writable (f : Frame) : Type 0 where
 pub data Rules : SoFar → List Frame → SoFar → Type 0 where
   done : {so : SoFar} → Rules so [] so
   next : {so end : SoFar} {f : Frame} {fs : List Frame} → Obeys so f → Rules (add so f) fs end → Rules so (f ∷ fs) end
+
+-- The file is what frames that obey the rules are written as, and d is what they describe.
+pub record Written (file : List ℕ) (d : Described) : Type 0 where
+  pub these : List Frame
+  pub is : file ≡ fileOf these
+  pub size : length file ≤ maxFile
+  pub writable : All Writable these
+  pub end : SoFar
+  pub rules : Rules start these end
+  pub query : Query
+  pub last : end .query ≡ some query
+  pub describes : d ≡ describe end query
