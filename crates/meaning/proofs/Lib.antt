@@ -11,3 +11,4 @@ pub mod Inverse
 pub mod Grammar
 pub mod Bytes
 pub mod Written
+pub mod Room

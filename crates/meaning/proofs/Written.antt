@@ -121,11 +121,11 @@ said-line (closed s) f e = go (decoded s) refl e
 
 -- ---- The lines of a file
 
-record AreLines (ls : List Line) (fs : List Frame) : Type 0 where
-  are : together ls ≡ fileOf fs
-  writable : All Writable fs
+pub record AreLines (ls : List Line) (fs : List Frame) : Type 0 where
+  pub are : together ls ≡ fileOf fs
+  pub writable : All Writable fs
 
-are-lines : (ls : List Line) (fs : List Frame) → map said ls ≡ map frames fs → AreLines ls fs
+pub are-lines : (ls : List Line) (fs : List Frame) → map said ls ≡ map frames fs → AreLines ls fs
 unfolding together fileOf flatMap line
 are-lines [] [] e = record { are = refl; writable = tt }
 are-lines [] (f ∷ fs) e = let z : _≡_ {A = ℕ} 0 1 = cc in absurd (omega arith)
