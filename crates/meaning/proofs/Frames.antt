@@ -3,7 +3,8 @@ use mathlib.Core.Bool.{true, false}
 use mathlib.Core.List.{List, [], _∷_, map}
 use mathlib.Core.Path.{_≡_, refl, sym, ap}
 use Rattle.meaning.specs.Frame.{Frame}
-use Rattle.meaning.specs.File.{SoFar, Said, malformed, unknownKind, noFrame, frames, after, isMalformed, isMisplaced, isNoFrame, conditions, firstOf}
+use Rattle.meaning.specs.SoFar.{SoFar, Said, malformed, unknownKind, noFrame, frames, after}
+use Rattle.meaning.specs.Conditions.{isMalformed, isMisplaced, isNoFrame, conditions, firstOf}
 use Rattle.meaning.specs.Rules.{All, Obeys, Rules, done, next}
 use Rattle.meaning.specs.Refused.{Pass, none-left, more}
 use Rattle.meaning.proofs.Tests.{clash}

@@ -9,7 +9,7 @@ use Rattle.unification.specs.Ty.{Leaf, Int, String, Bytes, Fact}
 use Rattle.meaning.specs.Syntax.{Field, QueryStmt, Query, FieldRef, Literal, ExprKind, Node}
 use Rattle.meaning.specs.Frame.{Kind, Alternative, TypeShape, aLeaf, aRecord, aUnion, Frame, theLimits, aName, aType, aPredicate, aNode, theQuery, frameKind, Got, got, fails, Reader, andThen, nothing, one, pair, triple, byte, two, four, many, entry, choice, field, alternative, typeShapes, valueTypes, statements, headAndBody, exprKinds, spanAndKind, rest, frame, whole, frameOf}
 use Rattle.meaning.specs.Rules.{All, Byte, InTwo, InFour, asTwo, asFour, asField, asAlternative, asShape, asValueType, asStatement, asQuery, asExpr, asNode, asContent, FieldFits, AlternativeFits, ShapeFits, ValueTypeFits, StatementFits, QueryFits, ExprFits, NodeFits, Fits}
-use Rattle.meaning.proofs.Inverse.{Took, Inverse, Anything, Nothing, one-back, one-forth, pair-back, pair-forth, triple-back, triple-forth, pair-inverse, triple-inverse, byte-inverse, two-inverse, four-inverse, many-inverse, Entries, choice-forth, entry-nothing, entry-one, entry-pair}
+use Rattle.meaning.proofs.Inverse.{Took, Inverse, Anything, Nothing, one-back, one-forth, pair-back, pair-forth, triple-back, triple-forth, pair-inverse, triple-inverse, byte-inverse, two-inverse, four-inverse, many-inverse, Entries, end, _then_, choice-forth, entry-nothing, entry-one, entry-pair}
 
 field-inverse : Inverse Anything field asField FieldFits
 unfolding field asField
@@ -51,22 +51,13 @@ statement-inverse = record { back = back; forth = choice-forth asStatement State
     back (QueryStmt.Compare l r) t f e = pair-back QueryStmt.Compare two-inverse two-inverse l r t (f .0) (f .1) tt
 
     entries : Entries asStatement StatementFits 0 statements
-    entries = (
-      entry-pair _ _ 0x00 QueryStmt.Bind two-inverse two-inverse (λ a b. refl) (λ a b x y. (x, y)),
-      (
-        entry-one _ _ 0x01 QueryStmt.Implicit two-inverse (λ a. refl) (λ a x. x),
-        (
-          entry-one _ _ 0x02 QueryStmt.Negation two-inverse (λ a. refl) (λ a x. x),
-          (
-            entry-pair _ _ 0x03 QueryStmt.Deny two-inverse two-inverse (λ a b. refl) (λ a b x y. (x, y)),
-            (
-              entry-pair _ _ 0x04 QueryStmt.Compare two-inverse two-inverse (λ a b. refl) (λ a b x y. (x, y)),
-              tt,
-            ),
-          ),
-        ),
-      ),
-    )
+    entries =
+        entry-pair _ _ 0x00 QueryStmt.Bind two-inverse two-inverse (λ a b. refl) (λ a b x y. (x, y)) then
+        entry-one _ _ 0x01 QueryStmt.Implicit two-inverse (λ a. refl) (λ a x. x) then
+        entry-one _ _ 0x02 QueryStmt.Negation two-inverse (λ a. refl) (λ a x. x) then
+        entry-pair _ _ 0x03 QueryStmt.Deny two-inverse two-inverse (λ a b. refl) (λ a b x y. (x, y)) then
+        entry-pair _ _ 0x04 QueryStmt.Compare two-inverse two-inverse (λ a b. refl) (λ a b x y. (x, y)) then
+        end
 
 statements-inverse : Inverse Nothing (many (choice statements)) (flatMap asStatement) (All StatementFits)
 statements-inverse = many-inverse statement-inverse statement-filled
@@ -97,25 +88,14 @@ shape-inverse = record { back = back; forth = choice-forth asShape ShapeFits typ
     back (aUnion alts) t f e = one-back aUnion alternatives-inverse alts t f e
 
     entries : Entries asShape ShapeFits 0 typeShapes
-    entries = (
-      entry-nothing _ _ 0x00 (aLeaf Int) refl tt,
-      (
-        entry-nothing _ _ 0x01 (aLeaf String) refl tt,
-        (
-          entry-nothing _ _ 0x02 (aLeaf Bytes) refl tt,
-          (
-            entry-one _ _ 0x03 (λ x. aLeaf (Fact x)) two-inverse (λ a. refl) (λ a x. x),
-            (
-              entry-one _ _ 0x04 aRecord fields-inverse (λ a. refl) (λ a x. x),
-              (
-                entry-one _ _ 0x05 aUnion alternatives-inverse (λ a. refl) (λ a x. x),
-                tt,
-              ),
-            ),
-          ),
-        ),
-      ),
-    )
+    entries =
+        entry-nothing _ _ 0x00 (aLeaf Int) refl tt then
+        entry-nothing _ _ 0x01 (aLeaf String) refl tt then
+        entry-nothing _ _ 0x02 (aLeaf Bytes) refl tt then
+        entry-one _ _ 0x03 (λ x. aLeaf (Fact x)) two-inverse (λ a. refl) (λ a x. x) then
+        entry-one _ _ 0x04 aRecord fields-inverse (λ a. refl) (λ a x. x) then
+        entry-one _ _ 0x05 aUnion alternatives-inverse (λ a. refl) (λ a x. x) then
+        end
 
 value-inverse : Inverse Anything (choice valueTypes) asValueType ValueTypeFits
 unfolding valueTypes asValueType choice entry nothing
@@ -126,13 +106,10 @@ value-inverse = record { back = back; forth = choice-forth asValueType ValueType
     back (some x) t f e = one-back some two-inverse x t f tt
 
     entries : Entries asValueType ValueTypeFits 0 valueTypes
-    entries = (
-      entry-nothing _ _ 0x00 none refl tt,
-      (
-        entry-one _ _ 0x01 some two-inverse (λ a. refl) (λ a x. x),
-        tt,
-      ),
-    )
+    entries =
+        entry-nothing _ _ 0x00 none refl tt then
+        entry-one _ _ 0x01 some two-inverse (λ a. refl) (λ a x. x) then
+        end
 
 expr-inverse : Inverse Nothing (choice exprKinds) asExpr ExprFits
 unfolding exprKinds asExpr choice entry nothing
@@ -158,58 +135,25 @@ expr-inverse = record { back = back; forth = choice-forth asExpr ExprFits exprKi
     back (ExprKind.Select x y) t f e = pair-back ExprKind.Select two-inverse two-inverse x y t (f .0) (f .1) tt
 
     entries : Entries asExpr ExprFits 0 exprKinds
-    entries = (
-      entry-nothing _ _ 0x00 (ExprKind.Lit Literal.Int) refl tt,
-      (
-        entry-nothing _ _ 0x01 (ExprKind.Lit Literal.Str) refl tt,
-        (
-          entry-nothing _ _ 0x02 (ExprKind.Lit Literal.Bytes) refl tt,
-          (
-            entry-one _ _ 0x03 ExprKind.Var two-inverse (λ a. refl) (λ a x. x),
-            (
-              entry-nothing _ _ 0x04 ExprKind.Wildcard refl tt,
-              (
-                entry-nothing _ _ 0x05 ExprKind.Never refl tt,
-                (
-                  entry-one _ _ 0x06 ExprKind.Prefix two-inverse (λ a. refl) (λ a x. x),
-                  (
-                    entry-pair _ _ 0x07 ExprKind.Fuzzy two-inverse byte-inverse (λ a b. refl) (λ a b x y. (x, y)),
-                    (
-                      entry-one _ _ 0x08 ExprKind.Record fields-inverse (λ a. refl) (λ a x. x),
-                      (
-                        entry-pair _ _ 0x09 (λ n b. ExprKind.Access (FieldRef.Key n) b) two-inverse two-inverse (λ a b. refl) (λ a b x y. (x, y)),
-                        (
-                          entry-one _ _ 0x0a (ExprKind.Access FieldRef.Value) two-inverse (λ a. refl) (λ a x. x),
-                          (
-                            entry-one _ _ 0x0b ExprKind.Disjunction twos-inverse (λ a. refl) (λ a x. x),
-                            (
-                              entry-one _ _ 0x0c ExprKind.Subquery query-inverse (λ a. refl) (λ a x. x),
-                              (
-                                entry-pair _ _ 0x0d ExprKind.Fact two-inverse two-inverse (λ a b. refl) (λ a b x y. (x, y)),
-                                (
-                                  entry-one _ _ 0x0e ExprKind.Arith twos-inverse (λ a. refl) (λ a x. x),
-                                  (
-                                    entry-nothing _ _ 0x0f ExprKind.Error refl tt,
-                                    (
-                                      entry-pair _ _ 0x10 ExprKind.Select two-inverse two-inverse (λ a b. refl) (λ a b x y. (x, y)),
-                                      tt,
-                                    ),
-                                  ),
-                                ),
-                              ),
-                            ),
-                          ),
-                        ),
-                      ),
-                    ),
-                  ),
-                ),
-              ),
-            ),
-          ),
-        ),
-      ),
-    )
+    entries =
+        entry-nothing _ _ 0x00 (ExprKind.Lit Literal.Int) refl tt then
+        entry-nothing _ _ 0x01 (ExprKind.Lit Literal.Str) refl tt then
+        entry-nothing _ _ 0x02 (ExprKind.Lit Literal.Bytes) refl tt then
+        entry-one _ _ 0x03 ExprKind.Var two-inverse (λ a. refl) (λ a x. x) then
+        entry-nothing _ _ 0x04 ExprKind.Wildcard refl tt then
+        entry-nothing _ _ 0x05 ExprKind.Never refl tt then
+        entry-one _ _ 0x06 ExprKind.Prefix two-inverse (λ a. refl) (λ a x. x) then
+        entry-pair _ _ 0x07 ExprKind.Fuzzy two-inverse byte-inverse (λ a b. refl) (λ a b x y. (x, y)) then
+        entry-one _ _ 0x08 ExprKind.Record fields-inverse (λ a. refl) (λ a x. x) then
+        entry-pair _ _ 0x09 (λ n b. ExprKind.Access (FieldRef.Key n) b) two-inverse two-inverse (λ a b. refl) (λ a b x y. (x, y)) then
+        entry-one _ _ 0x0a (ExprKind.Access FieldRef.Value) two-inverse (λ a. refl) (λ a x. x) then
+        entry-one _ _ 0x0b ExprKind.Disjunction twos-inverse (λ a. refl) (λ a x. x) then
+        entry-one _ _ 0x0c ExprKind.Subquery query-inverse (λ a. refl) (λ a x. x) then
+        entry-pair _ _ 0x0d ExprKind.Fact two-inverse two-inverse (λ a b. refl) (λ a b x y. (x, y)) then
+        entry-one _ _ 0x0e ExprKind.Arith twos-inverse (λ a. refl) (λ a x. x) then
+        entry-nothing _ _ 0x0f ExprKind.Error refl tt then
+        entry-pair _ _ 0x10 ExprKind.Select two-inverse two-inverse (λ a b. refl) (λ a b x y. (x, y)) then
+        end
 
 node-inverse : Inverse Nothing spanAndKind asNode NodeFits
 unfolding spanAndKind asNode

@@ -280,14 +280,15 @@ module _ {B : Type 0} (w : B → List ℕ) (F : B → Type 0) where
   abbrev pub Entry : ℕ → Reader B → Type 0
   Entry n q = (s : List ℕ) (b : B) (t : List ℕ) → All Byte s → q s ≡ got b t → Took w F (n ∷ s) b t
 
-  abbrev pub Entries : ℕ → List (Reader B) → Type 0
-  Entries n [] = Unit {0}
-  Entries n (q ∷ qs) = Entry n q × Entries (suc n) qs
+  infixr 30 _then_
+  pub data Entries : ℕ → List (Reader B) → Type 0 where
+    end : {n : ℕ} → Entries n []
+    _then_ : {n : ℕ} {q : Reader B} {qs : List (Reader B)} → Entry n q → Entries (suc n) qs → Entries n (q ∷ qs)
 
   entry-at : (n i : ℕ) (table : List (Reader B)) (q : Reader B) → Entries n table → getElem? table i ≡ some q → Entry (n + i) q
-  entry-at n i [] q a e = let z : _≡_ {A = ℕ} 0 1 = cc in absurd (omega arith)
-  entry-at n zero (p ∷ table) q a e = let same : p ≡ q = cc in rw (← same, add-zero) (a .0)
-  entry-at n (suc i) (p ∷ table) q a e = rw (add-suc, ← suc-add n i) (entry-at (suc n) i table q (a .1) e)
+  entry-at n i [] q end e = let z : _≡_ {A = ℕ} 0 1 = cc in absurd (omega arith)
+  entry-at n zero (p ∷ table) q (a then rest) e = let same : p ≡ q = cc in rw (← same, add-zero) a
+  entry-at n (suc i) (p ∷ table) q (a then rest) e = rw (add-suc, ← suc-add n i) (entry-at (suc n) i table q rest e)
 
   pub choice-forth : (table : List (Reader B)) → Entries 0 table → (s : List ℕ) (b : B) (t : List ℕ) → All Byte s → choice table s ≡ got b t → Took w F s b t
   unfolding choice entry

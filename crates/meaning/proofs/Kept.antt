@@ -13,9 +13,9 @@ use Rattle.unification.specs.Calls.{Declared, DeclaredRow, Lacks}
 use Rattle.unification.specs.Calls as Calls
 use Rattle.meaning.specs.Syntax.{Field, Query, Node}
 use Rattle.meaning.specs.Frame.{Kind, mayStand, follows, kindByte, repeatable, Alternative, TypeShape, aLeaf, aRecord, aUnion, Frame, theLimits, aName, aType, aPredicate, aNode, theQuery, frameKind}
-use Rattle.meaning.specs.References.{fieldNames, fieldValues, shapeTypes, shapeKeys, optional, exprNames, exprNodes, queryNodes, nameRefs, typeRefs, nodeRefs}
-use Rattle.meaning.specs.File.{SoFar, start, typeAt, fieldRow, alternativeRow, tyOf, valueTy, predicateOf, add}
-use Rattle.meaning.specs.Rules.{All, Absent, Distinct, textsOf, keysOf, Obeys, Rules, done, next}
+use Rattle.meaning.specs.References.{fieldNames, fieldValues, shapeTypes, shapeKeys, optional, exprNames, exprNodes, queryNodes, nameRefs, typeRefs, nodeRefs, textsOf, keysOf}
+use Rattle.meaning.specs.SoFar.{SoFar, start, typeAt, fieldRow, alternativeRow, tyOf, valueTy, predicateOf, add}
+use Rattle.meaning.specs.Rules.{All, Absent, Distinct, Obeys, Rules, done, next}
 use Rattle.meaning.specs.Sound.{DeclaredOption, DeclaredPredicate, Lower, nodesNamed, namedByQuery, Kept}
 use Rattle.meaning.proofs.Lists.{all-append, all-snoc, all-map, all-at, distinct-append}
 

@@ -13,7 +13,9 @@ use borrow.Author.Tests.{ltb-true, ltb-false, lt-ltb, le-ltb}
 use Rattle.meaning.specs.Syntax.{Query}
 use Rattle.meaning.specs.Refusal.{Refusal, fileTooLong, misplacedKind}
 use Rattle.meaning.specs.Lines.{lines}
-use Rattle.meaning.specs.File.{SoFar, Said, said, start, after, Condition, conditions, firstOf, maxFile, Described, describe, Reading, refused, described, atEnd, readFrom, reading}
+use Rattle.meaning.specs.SoFar.{SoFar, Said, said, start, after}
+use Rattle.meaning.specs.Conditions.{Condition, conditions, firstOf}
+use Rattle.meaning.specs.File.{maxFile, Described, describe, Reading, refused, described, atEnd, readFrom, reading}
 use Rattle.meaning.specs.Rules.{All}
 use Rattle.meaning.specs.Refused.{First, here, later, Pass, none-left, more, AtLine, Refused, tooLong, atLine, missingQuery}
 use Rattle.meaning.proofs.Tests.{cases}

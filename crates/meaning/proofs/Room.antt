@@ -9,7 +9,8 @@ use Rattle.meaning.specs.Syntax.{Field, QueryStmt, Query, FieldRef, Lite
 use Rattle.meaning.specs.Lines.{Line, LF, lines, maxBytes}
 use Rattle.meaning.specs.Frame.{Alternative, TypeShape, aLeaf, aRecord, aUnion, Frame, theLimits, aName, aType, aPredicate, aNode, theQuery}
 use Rattle.meaning.specs.References.{fieldValues, stmtNodes, queryNodes, exprNodes}
-use Rattle.meaning.specs.File.{SoFar, Said, said, frames, start, fieldRow, alternativeRow, tyOf, add, maxFile}
+use Rattle.meaning.specs.SoFar.{SoFar, Said, said, frames, start, fieldRow, alternativeRow, tyOf, add}
+use Rattle.meaning.specs.File.{maxFile}
 use Rattle.meaning.specs.Rules.{All, asTwo, asFour, asField, asAlternative, asShape, asStatement, asQuery, asExpr, asNode, asContent, written, hex, line, fileOf, Writable, Rules, done, next}
 use Rattle.meaning.specs.Refused.{Pass}
 use Rattle.meaning.specs.Sound.{typeWords, allWords, maxWords, Narrow, Roomy}

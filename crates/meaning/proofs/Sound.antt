@@ -11,7 +11,8 @@ use Rattle.unification.specs.Calls.{Declared}
 use Rattle.meaning.specs.Syntax.{Query, Node, noNode, nodeAt}
 use Rattle.meaning.specs.References.{exprNames, exprNodes, queryNodes}
 use Rattle.meaning.specs.Lines.{lines}
-use Rattle.meaning.specs.File.{SoFar, Said, said, start, Described, countOf, describe, Reading, described, reading}
+use Rattle.meaning.specs.SoFar.{SoFar, Said, said, start}
+use Rattle.meaning.specs.File.{Described, countOf, describe, Reading, described, reading}
 use Rattle.meaning.specs.Rules.{All, Distinct}
 use Rattle.meaning.specs.Refused.{Pass}
 use Rattle.meaning.specs.Sound.{Lower, nodesNamed, namedByQuery, Kept, Sound}

@@ -9,7 +9,7 @@ use lib.Dec.{eqb, ltb}
 use borrow.Author.Tests.{ltb-true, lt-ltb, eqb-true, eqb-false, eq-eqb, ne-eqb}
 use Rattle.text.specs.Utf8.{both}
 use Rattle.text.proofs.Every.{both-left, both-right}
-use Rattle.meaning.specs.File.{allBelow, among, again, sameText, given}
+use Rattle.meaning.specs.Conditions.{anyOf, allBelow, among, again, sameText, given}
 use Rattle.meaning.specs.Rules.{All, Absent, Distinct}
 
 -- a test's two answers
@@ -34,17 +34,26 @@ unfolding allBelow
 all-below n [] h = refl
 all-below n (m ∷ ms) h = both-true (ltb m n) (allBelow n ms) (lt-ltb m n (h .0)) (all-below n ms (h .1))
 
-pub among-absent : (n : ℕ) (ms : List ℕ) → among n ms ≡ false → Absent n ms
-unfolding among
-among-absent n [] h = tt
-among-absent n (m ∷ ms) h = cases (eqb n m)
-    (λ q. clash (rw (q, among) at h))
-    (λ q. (eqb-false n m q, among-absent n ms (rw (q, among) at h)))
+-- no element passes the test
+pub none-passes : {A : Type 0} (test : A → Bool) (P : A → Type 0) → ((a : A) → test a ≡ false → P a) → (l : List A) → anyOf test l ≡ false → All P l
+unfolding anyOf
+none-passes test P f [] h = tt
+none-passes test P f (a ∷ l) h = cases (test a)
+    (λ q. clash (rw (q, anyOf) at h))
+    (λ q. (f a q, none-passes test P f l (rw (q, anyOf) at h)))
 
-pub absent-among : (n : ℕ) (ms : List ℕ) → Absent n ms → among n ms ≡ false
+pub passes-none : {A : Type 0} (test : A → Bool) (P : A → Type 0) → ((a : A) → P a → test a ≡ false) → (l : List A) → All P l → anyOf test l ≡ false
+unfolding anyOf
+passes-none test P f [] h = refl
+passes-none test P f (a ∷ l) h = rw (f a (h .0), anyOf) (passes-none test P f l (h .1))
+
+among-absent : (n : ℕ) (ms : List ℕ) → among n ms ≡ false → Absent n ms
 unfolding among
-absent-among n [] h = refl
-absent-among n (m ∷ ms) h = rw (ne-eqb n m (h .0), among) (absent-among n ms (h .1))
+among-absent n ms h = none-passes (eqb n) (λ m. n ≢ m) (λ m q. eqb-false n m q) ms h
+
+absent-among : (n : ℕ) (ms : List ℕ) → Absent n ms → among n ms ≡ false
+unfolding among
+absent-among n ms h = passes-none (eqb n) (λ m. n ≢ m) (λ m q. ne-eqb n m q) ms h
 
 -- each of ns is none of earlier, and none of them stands twice
 pub again-new : (earlier ns : List ℕ) → again earlier ns ≡ false → All (λ n. Absent n earlier) ns
@@ -97,16 +106,16 @@ unfolding sameText
 text-same [] = refl
 text-same (a ∷ s) = both-true (eqb a a) (sameText s s) (eq-eqb a a refl) (text-same s)
 
-pub given-absent : (s : List ℕ) (ts : List (List ℕ)) → given s ts ≡ false → Absent s ts
-unfolding given
-given-absent s [] h = tt
-given-absent s (t ∷ ts) h = cases (sameText s t)
-    (λ q. clash (rw (q, given) at h))
-    (λ q. (λ e. let z : true ≡ false = sym (text-same s) ∙ ap (sameText s) e ∙ q in true≢false z, given-absent s ts (rw (q, given) at h)))
+different : (s t : List ℕ) → sameText s t ≡ false → s ≢ t
+different s t q e = true≢false (sym (text-same s) ∙ ap (sameText s) e ∙ q)
 
-pub absent-given : (s : List ℕ) (ts : List (List ℕ)) → Absent s ts → given s ts ≡ false
+not-same : (s t : List ℕ) → s ≢ t → sameText s t ≡ false
+not-same s t n = cases (sameText s t) (λ q. absurd (n (same-text s t q))) (λ q. q)
+
+pub given-absent : (ts : List (List ℕ)) (s : List ℕ) → given ts s ≡ false → Absent s ts
 unfolding given
-absent-given s [] h = refl
-absent-given s (t ∷ ts) h = cases (sameText s t)
-    (λ q. absurd (h .0 (same-text s t q)))
-    (λ q. rw (q, given) (absent-given s ts (h .1)))
+given-absent ts s h = none-passes (sameText s) (λ t. s ≢ t) (λ t q. different s t q) ts h
+
+pub absent-given : (ts : List (List ℕ)) (s : List ℕ) → Absent s ts → given ts s ≡ false
+unfolding given
+absent-given ts s h = passes-none (sameText s) (λ t. s ≢ t) (λ t q. not-same s t q) ts h

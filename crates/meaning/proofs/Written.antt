@@ -12,7 +12,8 @@ use borrow.Author.Tests.{leb-true, le-leb}
 use Rattle.meaning.specs.Syntax.{Query}
 use Rattle.meaning.specs.Lines.{Line, closed, unclosed, LF, lines, decoded, maxBytes, atMost, someBytes, bytesOf}
 use Rattle.meaning.specs.Frame.{Kind, kindByte, kindOf, Frame, frameKind, Got, got, fails, frame, whole, frameOf}
-use Rattle.meaning.specs.File.{Said, malformed, unknownKind, noFrame, frames, saidOf, saidIn, saidBy, said, start, SoFar, Described, describe, described, reading, maxFile}
+use Rattle.meaning.specs.SoFar.{Said, malformed, unknownKind, noFrame, frames, saidOf, saidIn, saidBy, said, start, SoFar}
+use Rattle.meaning.specs.File.{Described, describe, described, reading, maxFile}
 use Rattle.meaning.specs.Rules.{All, Byte, Fits, asContent, written, hex, line, fileOf, Writable, Rules, Written}
 use Rattle.meaning.proofs.Tests.{cases}
 use Rattle.meaning.proofs.Hex.{decoded-hex, hex-no-LF, Hex, hex-decoded}

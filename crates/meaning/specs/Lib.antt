@@ -6,6 +6,8 @@ pub mod Refusal
 pub mod Lines
 pub mod Frame
 pub mod References
+pub mod SoFar
+pub mod Conditions
 pub mod File
 pub mod Rules
 pub mod Refused

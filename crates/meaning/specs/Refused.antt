@@ -8,7 +8,9 @@ use Prim.Native.Nat.{ℕ, _<_, _≤_}
 use lib.ListN.{length}
 use Rattle.meaning.specs.Refusal.{Refusal, fileTooLong, misplacedKind}
 use Rattle.meaning.specs.Lines.{lines}
-use Rattle.meaning.specs.File.{SoFar, Said, said, start, after, Condition, conditions, maxFile}
+use Rattle.meaning.specs.SoFar.{SoFar, Said, said, start, after}
+use Rattle.meaning.specs.Conditions.{Condition, conditions}
+use Rattle.meaning.specs.File.{maxFile}
 use Rattle.meaning.specs.Rules.{All}
 
 -- The condition of this refusal holds of the line, and none that stands before it in the list does.

@@ -12,8 +12,10 @@ use Rattle.unification.specs.Ty.{Leaf, Int, String, Bytes, Fact}
 use Rattle.meaning.specs.Syntax.{Field, QueryStmt, Query, FieldRef, Literal, ExprKind, Node}
 use Rattle.meaning.specs.Lines.{LF, digits, maxBytes}
 use Rattle.meaning.specs.Frame.{Kind, limits, name, schemaType, predicate, node, query, kindByte, mayStand, Alternative, TypeShape, aLeaf, aRecord, aUnion, Frame, theLimits, aName, aType, aPredicate, aNode, theQuery, frameKind}
-use Rattle.meaning.specs.References.{nameRefs, typeRefs, nodeRefs, shapeKeys}
-use Rattle.meaning.specs.File.{SoFar, add, start, maxNames, maxTypes, maxPredicates, maxNodes, Described, describe, maxFile}
+use Rattle.meaning.specs.References.{nameRefs, typeRefs, nodeRefs, textsOf, keysOf}
+use Rattle.meaning.specs.SoFar.{SoFar, add, start}
+use Rattle.meaning.specs.Conditions.{maxNames, maxTypes, maxPredicates, maxNodes}
+use Rattle.meaning.specs.File.{Described, describe, maxFile}
 
 -- ---- Lists
 
@@ -190,23 +192,6 @@ Fits (aNode n) = NodeFits n
 Fits (theQuery q) = QueryFits q
 
 -- ---- The rules
-
-unfoldable pub textsOf : Frame → List (List ℕ)
-textsOf (theLimits d t) = []
-textsOf (aName s) = s ∷ []
-textsOf (aType t) = []
-textsOf (aPredicate n k v) = []
-textsOf (aNode n) = []
-textsOf (theQuery q) = []
-
-unfoldable pub keysOf : Frame → List ℕ
-unfolding shapeKeys
-keysOf (theLimits d t) = []
-keysOf (aName s) = []
-keysOf (aType t) = shapeKeys t
-keysOf (aPredicate n k v) = []
-keysOf (aNode n) = []
-keysOf (theQuery q) = []
 
 -- one more of the kind is allowed
 abbrev pub Room : SoFar → Kind → Type 0

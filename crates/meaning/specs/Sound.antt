@@ -13,7 +13,9 @@ use Rattle.meaning.specs.Syntax.{Query, Node, Ast}
 use Rattle.meaning.specs.Schema.{Predicate, Schema}
 use Rattle.meaning.specs.Frame.{Kind}
 use Rattle.meaning.specs.References.{exprNames, exprNodes, queryNodes}
-use Rattle.meaning.specs.File.{SoFar, Described, maxNames, maxTypes, maxPredicates, maxNodes}
+use Rattle.meaning.specs.SoFar.{SoFar}
+use Rattle.meaning.specs.Conditions.{maxNames, maxTypes, maxPredicates, maxNodes}
+use Rattle.meaning.specs.File.{Described}
 use Rattle.meaning.specs.Rules.{All, Distinct}
 
 abbrev pub DeclaredOption : Option Ty → Type 0
