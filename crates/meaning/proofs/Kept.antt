@@ -17,10 +17,7 @@ use Rattle.meaning.specs.References.{fieldNames, fieldValues, shapeTypes
 use Rattle.meaning.specs.SoFar.{SoFar, start, typeAt, fieldRow, alternativeRow, tyOf, valueTy, predicateOf, add}
 use Rattle.meaning.specs.Rules.{All, Absent, Distinct, Obeys, Rules, done, next}
 use Rattle.meaning.specs.Sound.{DeclaredOption, DeclaredPredicate, Lower, nodesNamed, namedByQuery, Kept}
-use Rattle.meaning.proofs.Lists.{all-append, all-snoc, all-map, all-at, distinct-append}
-
-length-snoc : {A : Type 0} (s : List A) (x : A) → length (s ++ x ∷ []) ≡ suc (length s)
-length-snoc s x = length-append s (x ∷ []) ∙ omega arith
+use Rattle.meaning.proofs.Lists.{all-append, all-snoc, all-map, all-at, distinct-append, length-snoc}
 
 more-room : {A : Type 0} (s : List A) (x : A) (n : ℕ) → n < length s → n < length (s ++ x ∷ [])
 more-room s x n h = omega (arith, length-snoc s x)
@@ -85,7 +82,7 @@ named-snoc (x ∷ ns) n = ap (λ t. exprNodes (x .kind) ++ t) (named-snoc ns n) 
 
 -- ---- The query is last
 
-nothing-after : (k : Kind) → follows Kind.query k ≡ true → ⊥
+pub nothing-after : (k : Kind) → follows Kind.query k ≡ true → ⊥
 unfolding follows kindByte repeatable
 nothing-after Kind.limits e = true≢false (sym e)
 nothing-after Kind.name e = true≢false (sym e)

@@ -12,3 +12,6 @@ pub mod Grammar
 pub mod Bytes
 pub mod Written
 pub mod Room
+pub mod Lawful
+pub mod Grouped
+pub mod Content

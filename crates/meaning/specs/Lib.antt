@@ -12,3 +12,4 @@ pub mod File
 pub mod Rules
 pub mod Refused
 pub mod Sound
+pub mod Content
