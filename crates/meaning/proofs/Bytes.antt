@@ -1,12 +1,13 @@
 -- A frame whose numbers fit in their bytes is written in bytes.
 use mathlib.Core.List.{List, [], _∷_, _++_, flatMap}
 use mathlib.Core.Option.{Option, none, some}
-use Prim.Native.Nat.{ℕ, _/_, _%_, _<_}
+use Prim.Native.Nat.{ℕ, _/_, _%_}
 use native.Mathlib.Omega.{arith}
-use Rattle.unification.specs.Ty.{Leaf, Int, String, Bytes, Fact}
+use Rattle.unification.specs.Ty.{Int, String, Bytes, Fact}
 use Rattle.meaning.specs.Syntax.{Field, QueryStmt, Query, FieldRef, Literal, ExprKind, Node}
 use Rattle.meaning.specs.Frame.{Kind, kindByte, Alternative, TypeShape, aLeaf, aRecord, aUnion, Frame, theLimits, aName, aType, aPredicate, aNode, theQuery, frameKind}
-use Rattle.meaning.specs.Rules.{All, Byte, InTwo, InFour, asTwo, asFour, asField, asAlternative, asShape, asValueType, asStatement, asQuery, asExpr, asNode, asContent, written, FieldFits, AlternativeFits, ShapeFits, ValueTypeFits, StatementFits, QueryFits, ExprFits, NodeFits, Fits}
+use Rattle.meaning.specs.All.{All}
+use Rattle.meaning.specs.Writing.{Byte, InTwo, InFour, asTwo, asFour, asField, asAlternative, asShape, asValueType, asStatement, asQuery, asExpr, asNode, asContent, written, FieldFits, AlternativeFits, ShapeFits, ValueTypeFits, StatementFits, QueryFits, ExprFits, NodeFits, Fits}
 use Rattle.meaning.proofs.Lists.{all-append}
 
 two : (n : ℕ) → InTwo n → All Byte (asTwo n)

@@ -2,21 +2,22 @@
 use mathlib.Core.Bool.{Bool, true, false, not, _||_}
 use mathlib.Core.List.{List, [], _∷_}
 use mathlib.Core.Option.{Option, none, some}
-use mathlib.Core.Path.{_≡_, refl, sym, ap, _∙_}
-use Prim.Native.Nat.{ℕ, _<_, _≤_}
+use mathlib.Core.Path.{_≡_, refl, sym, ap}
+use Prim.Native.Nat.{ℕ}
 use native.Mathlib.Omega.{arith}
-use lib.Dec.{leb}
 use lib.ListN.{length}
 use borrow.Author.Tests.{leb-false, lt-leb, not-false}
-use Rattle.text.specs.Utf8.{Text, characters, both}
+use Rattle.text.specs.Utf8.{Text, characters}
 use Rattle.text.proofs.Every.{both-left, both-right}
 use Rattle.text.proofs.Grammar.{counts}
 use Rattle.meaning.specs.Frame.{Kind, limits, name, schemaType, predicate, node, query, mayStand, Frame, frameKind}
 use Rattle.meaning.specs.References.{nameRefs, typeRefs, nodeRefs, textsOf, keysOf}
 use Rattle.meaning.specs.SoFar.{SoFar, Said, frames}
-use Rattle.meaning.specs.Conditions.{anyOf, allBelow, again, given, maxNames, maxTypes, maxPredicates, maxNodes, isMalformed, isMisplaced, isFull, isOneTooMany, isNoFrame, ofFrame, broken, isBrokenText, isNameGivenBefore, refersEarlier, refersBadly, isBadReference, isRepeatedKey, Condition, conditions, firstOf}
-use Rattle.meaning.specs.Rules.{All, Absent, Distinct, Room, Obeys}
-use Rattle.meaning.proofs.Tests.{cases, clash, both-true, none-passes, passes-none, below-all, all-below, again-new, again-distinct, new-again, none-earlier, given-absent, absent-given}
+use Rattle.meaning.specs.Conditions.{allBelow, again, given, maxNames, maxTypes, maxPredicates, maxNodes, isMalformed, isMisplaced, isFull, isOneTooMany, isNoFrame, ofFrame, broken, isBrokenText, isNameGivenBefore, refersEarlier, refersBadly, isBadReference, isRepeatedKey, Condition, conditions, firstOf}
+use Rattle.meaning.specs.All.{All, Absent}
+use Rattle.meaning.proofs.Obeys.{Room, Obeys}
+use Rattle.meaning.proofs.Lists.{empty-absent}
+use Rattle.meaning.proofs.Tests.{cases, clash, both-true, none-passes, passes-none, below-all, all-below, again-new, again-distinct, new-again, given-absent, absent-given}
 
 -- ---- No condition of a list holds
 
@@ -120,4 +121,4 @@ no-condition so f o =
     reference = or-not (refersEarlier so f) (again (so .named) (nodeRefs f)) earlier (new-again (so .named) (nodeRefs f) (o .unnamed) (o .once))
 
     keys : isRepeatedKey so (frames f) ≡ false
-    keys = new-again [] (keysOf f) (none-earlier (keysOf f)) (o .keys)
+    keys = new-again [] (keysOf f) (empty-absent (keysOf f)) (o .keys)

@@ -1,24 +1,22 @@
 -- The files that pass are exactly the writings of lawful contents, and describe their trees. The rules over the frames stand between: a
 -- file that passes is frames that obey them (Written.antt), these stand kind by kind (Grouped.antt), and lawful content obeys them (Lawful.antt).
-use mathlib.Core.Bool.{Bool, true, false, true≢false}
+use mathlib.Core.Bool.{true≢false}
 use mathlib.Core.List.{List, [], _∷_, _++_, map}
 use mathlib.Core.Logic.{_↔_}
 use mathlib.Core.Option.{Option, none, some}
 use mathlib.Core.Path.{_≡_, refl, sym, ap, subst, _∙_}
-use Prim.Native.Nat.{ℕ, zero, suc, _+_, _<_, _≤_}
+use Prim.Native.Nat.{ℕ}
 use native.Mathlib.Omega.{arith}
 use lib.ListN.{length, length-map}
-use Rattle.text.specs.Utf8.{characters}
 use Rattle.meaning.specs.Syntax.{Query}
-use Rattle.meaning.specs.Lines.{position}
-use Rattle.meaning.specs.Frame.{Kind, limits, mayStand, kindByte, Frame, theLimits, aName, aType, aPredicate, aNode, theQuery, frameKind}
-use Rattle.meaning.specs.References.{exprNames, queryNodes}
+use Rattle.meaning.specs.Frame.{limits, mayStand, kindByte, Frame, theLimits, aName, aType, aPredicate, aNode, theQuery, frameKind}
 use Rattle.meaning.specs.SoFar.{SoFar, start, add}
-use Rattle.meaning.specs.Conditions.{sameText}
-use Rattle.meaning.specs.File.{Described, countOf, valueText, describe, described, reading}
-use Rattle.meaning.specs.Rules.{All, Distinct, fileOf, Obeys, Writable, Rules, done, next, Written}
-use Rattle.meaning.specs.Sound.{Lower, nodesNamed, namedByQuery, Kept}
-use Rattle.meaning.specs.Content.{PredicateFrame, predicateFrame, Content, framesOf, Below, Lawful, typesFrom, predicateWith, describes, Says}
+use Rattle.meaning.specs.File.{Described, describe, described, reading}
+use Rattle.meaning.specs.All.{All}
+use Rattle.meaning.specs.Writing.{fileOf, Writable}
+use Rattle.meaning.proofs.Obeys.{Obeys, Rules, done, next, Written}
+use Rattle.meaning.specs.Sound.{Kept}
+use Rattle.meaning.specs.Content.{predicateFrame, Content, framesOf, Lawful, typesFrom, predicateWith, describes, Says}
 use Rattle.meaning.proofs.Kept.{kept}
 use Rattle.meaning.proofs.Written.{described-exactly}
 use Rattle.meaning.proofs.Grouped.{queryFrame, queryThen, Grouped, grouped}

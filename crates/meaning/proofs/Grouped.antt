@@ -1,20 +1,19 @@
 -- Frames that obey the rules stand kind by kind: since the kinds never fall, what follows a frame has no kind below it.
-use mathlib.Core.Bool.{Bool, true, false, true≢false}
+use mathlib.Core.Bool.{true, true≢false}
 use mathlib.Core.List.{List, [], _∷_, _++_, map, append-nil, append-assoc}
 use mathlib.Core.Option.{Option, none, some}
 use mathlib.Core.Path.{_≡_, refl, sym, ap, subst, _∙_}
-use Prim.Native.Nat.{ℕ, zero, suc, _+_, _<_, _≤_}
+use Prim.Native.Nat.{ℕ, _<_, _≤_}
 use native.Mathlib.Omega.{arith}
 use lib.Dec.{ltb, eqb}
 use lib.ListN.{length}
 use borrow.Author.Tests.{ltb-true, eqb-true}
-use Rattle.unification.specs.Ty.{Ty}
 use Rattle.meaning.specs.Syntax.{Query, Node}
-use Rattle.meaning.specs.Schema.{Predicate}
 use Rattle.meaning.specs.Frame.{Kind, limits, name, schemaType, predicate, node, query, kindByte, repeatable, follows, mayStand, TypeShape, Frame, theLimits, aName, aType, aPredicate, aNode, theQuery, frameKind}
-use Rattle.meaning.specs.References.{shapeNames, shapeTypes, shapeKeys, optional, nameRefs, typeRefs, nodeRefs, keysOf}
-use Rattle.meaning.specs.SoFar.{SoFar, tyOf, predicateOf, add}
-use Rattle.meaning.specs.Rules.{All, Distinct, Obeys, Rules, done, next}
+use Rattle.meaning.specs.References.{shapeNames, shapeKeys, optional, nameRefs, typeRefs, keysOf}
+use Rattle.meaning.specs.SoFar.{SoFar, tyOf, add}
+use Rattle.meaning.specs.All.{All, Distinct}
+use Rattle.meaning.proofs.Obeys.{Obeys, Rules, done, next}
 use Rattle.meaning.specs.Content.{PredicateFrame, predicateFrame, TypesBefore, Below, typesFrom, predicateWith}
 use Rattle.meaning.proofs.Tests.{cases}
 use Rattle.meaning.proofs.Lists.{length-snoc}

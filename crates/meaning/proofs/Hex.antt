@@ -1,9 +1,9 @@
 -- Hexadecimal read and written. A digit's value is its place among the digits, which are tested one by one.
 use mathlib.Core.Bool.{Bool, true, false, not}
-use mathlib.Core.List.{List, [], _∷_, _++_, flatMap}
+use mathlib.Core.List.{List, [], _∷_, flatMap}
 use mathlib.Core.Option.{Option, none, some}
-use mathlib.Core.Path.{_≡_, refl, sym, ap, ap₂, _∙_}
-use Prim.Native.Nat.{ℕ, zero, suc, _+_, _*_, _/_, _%_, _<_, _≤_}
+use mathlib.Core.Path.{_≡_, refl, sym, ap}
+use Prim.Native.Nat.{ℕ, suc, _+_, _*_, _/_, _%_, _<_}
 use native.Mathlib.Nat.{div-add-mod'}
 use native.Mathlib.Omega.{arith}
 use lib.Dec.{eqb}
@@ -13,7 +13,8 @@ use Rattle.text.specs.Utf8.{both}
 use Rattle.text.proofs.Every.{both-left, both-right, below, every}
 use Rattle.meaning.specs.Diag.{ascii}
 use Rattle.meaning.specs.Lines.{LF, oneMore, position, digits, digit, pair, decoded}
-use Rattle.meaning.specs.Rules.{All, Absent, Byte, hex}
+use Rattle.meaning.specs.All.{All, Absent}
+use Rattle.meaning.specs.Writing.{Byte, hex}
 use Rattle.meaning.proofs.Tests.{cases, clash}
 
 -- ---- One digit

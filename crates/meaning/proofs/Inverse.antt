@@ -1,5 +1,4 @@
--- Reading and writing undo each other: the parts of the grammar in Frame.antt, against the bytes of Rules.antt.
-use mathlib.Core.Bool.{Bool, true, false}
+-- Reading and writing undo each other: the parts of the grammar in Frame.antt, against the bytes of Writing.antt.
 use mathlib.Core.List.{List, [], _∷_, _++_, flatMap, append-nil, append-assoc}
 use mathlib.Core.Option.{Option, none, some}
 use mathlib.Core.Path.{_≡_, refl, sym, ap, _∙_}
@@ -8,7 +7,8 @@ use native.Mathlib.Nat.{div-add-mod', add-zero, add-suc, suc-add, zero-add}
 use native.Mathlib.Omega.{arith}
 use lib.ListN.{length, getElem?, length-append}
 use Rattle.meaning.specs.Frame.{Got, got, fails, Reader, andThen, nothing, one, pair, triple, byte, two, four, manyIn, many, entry, choice}
-use Rattle.meaning.specs.Rules.{All, Byte, InTwo, InFour, asTwo, asFour}
+use Rattle.meaning.specs.All.{All}
+use Rattle.meaning.specs.Writing.{Byte, InTwo, InFour, asTwo, asFour}
 
 -- ---- What a reading took
 

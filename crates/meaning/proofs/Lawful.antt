@@ -2,23 +2,24 @@
 use mathlib.Core.Bool.{true}
 use mathlib.Core.List.{List, [], _∷_, _++_, map, flatMap, append-nil, append-assoc}
 use mathlib.Core.Option.{Option, none, some}
-use mathlib.Core.Path.{_≡_, refl, sym, ap, _∙_}
-use Prim.Native.Nat.{ℕ, zero, suc, _+_, _<_, _≤_}
+use mathlib.Core.Path.{_≡_, refl, _∙_}
+use Prim.Native.Nat.{ℕ, _+_, _<_, _≤_}
 use native.Mathlib.Nat.{zero-add}
 use native.Mathlib.Omega.{arith}
-use lib.ListN.{length, length-append, length-map}
+use lib.ListN.{length}
 use Rattle.text.specs.Utf8.{Text}
 use Rattle.unification.specs.Ty.{Ty}
-use Rattle.meaning.specs.Syntax.{Query, Node}
+use Rattle.meaning.specs.Syntax.{Node}
 use Rattle.meaning.specs.Schema.{Predicate}
-use Rattle.meaning.specs.Frame.{Kind, limits, name, schemaType, predicate, node, query, kindByte, repeatable, follows, mayStand, TypeShape, Frame, theLimits, aName, aType, aPredicate, aNode, theQuery, frameKind}
-use Rattle.meaning.specs.References.{shapeNames, shapeTypes, shapeKeys, optional, exprNames, exprNodes, queryNodes, nameRefs, typeRefs, nodeRefs, textsOf, keysOf}
-use Rattle.meaning.specs.SoFar.{SoFar, start, tyOf, predicateOf, add}
+use Rattle.meaning.specs.Frame.{Kind, limits, name, schemaType, predicate, node, query, kindByte, repeatable, follows, mayStand, TypeShape, Frame, theLimits, aName, aType, aNode, theQuery, frameKind}
+use Rattle.meaning.specs.References.{shapeNames, shapeKeys, optional, exprNames, exprNodes, queryNodes, nameRefs, typeRefs, nodeRefs, textsOf, keysOf}
+use Rattle.meaning.specs.SoFar.{SoFar, start, tyOf, add}
 use Rattle.meaning.specs.Conditions.{maxNames, maxTypes, maxPredicates, maxNodes}
-use Rattle.meaning.specs.Rules.{All, Absent, Distinct, Obeys, Rules, done, next}
+use Rattle.meaning.specs.All.{All, Absent, Distinct}
+use Rattle.meaning.proofs.Obeys.{Obeys, Rules, done, next}
 use Rattle.meaning.specs.Sound.{Lower, nodesNamed}
 use Rattle.meaning.specs.Content.{PredicateFrame, predicateFrame, Content, framesOf, TypesBefore, Below, Lawful, typesFrom, predicateWith}
-use Rattle.meaning.proofs.Lists.{all-append, all-left, all-right, distinct-left, distinct-right, distinct-across, length-snoc}
+use Rattle.meaning.proofs.Lists.{all-left, distinct-left, distinct-right, distinct-across, length-snoc}
 
 pub rules-append : {so mid end : SoFar} {fs gs : List Frame} → Rules so fs mid → Rules mid gs end → Rules so (fs ++ gs) end
 rules-append done s = s

@@ -1,9 +1,10 @@
+pub mod Obeys
+pub mod Lists
 pub mod Tests
 pub mod Conditions
 pub mod Refused
-pub mod Lists
-pub mod Kept
 pub mod Frames
+pub mod Kept
 pub mod Sound
 pub mod Hex
 pub mod Lines
@@ -12,6 +13,6 @@ pub mod Grammar
 pub mod Bytes
 pub mod Written
 pub mod Room
-pub mod Lawful
 pub mod Grouped
+pub mod Lawful
 pub mod Content

@@ -1,12 +1,11 @@
 -- A file and its lines: each line is closed by the LF that follows it, and put together again they are the file.
-use mathlib.Core.Bool.{Bool, true, false}
 use mathlib.Core.List.{List, [], _∷_, _++_, append-assoc}
 use mathlib.Core.Path.{_≡_, refl, sym, ap, _∙_}
 use Prim.Native.Nat.{ℕ}
 use lib.Dec.{eqb}
-use borrow.Author.Tests.{eqb-true, eq-eqb, ne-eqb}
+use borrow.Author.Tests.{eqb-true, ne-eqb}
 use Rattle.meaning.specs.Lines.{Line, closed, unclosed, LF, inFront, lines}
-use Rattle.meaning.specs.Rules.{Absent}
+use Rattle.meaning.specs.All.{Absent}
 use Rattle.meaning.proofs.Tests.{cases}
 
 unfoldable pub together : List Line → List ℕ

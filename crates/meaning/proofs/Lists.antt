@@ -1,11 +1,11 @@
 -- All, Absent and Distinct of lists put together.
-use mathlib.Core.List.{List, [], _∷_, _++_, map}
-use mathlib.Core.Path.{_≡_, refl, sym, _∙_}
-use Prim.Native.Nat.{ℕ, zero, suc, _<_, _≤_}
+use mathlib.Core.List.{List, [], _∷_, _++_}
+use mathlib.Core.Path.{_≡_, sym, _∙_}
+use Prim.Native.Nat.{ℕ, zero, suc, _<_}
 use native.Mathlib.Nat.{not-suc-le-zero, le-of-suc-le-suc}
 use native.Mathlib.Omega.{arith}
 use lib.ListN.{length, getD, length-append}
-use Rattle.meaning.specs.Rules.{All, Absent, Distinct}
+use Rattle.meaning.specs.All.{All, Absent, Distinct}
 
 module _ {A : Type 0} where
   pub all-append : (P : A → Type 0) (s t : List A) → All P s → All P t → All P (s ++ t)
@@ -32,7 +32,7 @@ module _ {A : Type 0} where
   all-at P (x ∷ s) zero d a h = a .0
   all-at P (x ∷ s) (suc n) d a h = all-at P s n d (a .1) (le-of-suc-le-suc h)
 
-  not-first : (x : A) (s t : List A) → All (λ y. Absent y (x ∷ s)) t → Absent x t
+  pub not-first : (x : A) (s t : List A) → All (λ y. Absent y (x ∷ s)) t → Absent x t
   not-first x s [] a = tt
   not-first x s (y ∷ t) a = (λ e. a .0 .0 (sym e), not-first x s t (a .1))
 
@@ -48,11 +48,11 @@ module _ {A : Type 0} where
   distinct-right [] t d = d
   distinct-right (x ∷ s) t d = distinct-right s t (d .1)
 
-  none-first : (x : A) (s t : List A) → Absent x t → All (λ y. Absent y s) t → All (λ y. Absent y (x ∷ s)) t
+  pub none-first : (x : A) (s t : List A) → Absent x t → All (λ y. Absent y s) t → All (λ y. Absent y (x ∷ s)) t
   none-first x s [] a b = tt
   none-first x s (y ∷ t) a b = ((λ e. a .0 (sym e), b .0), none-first x s t (a .1) (b .1))
 
-  empty-absent : (t : List A) → All (λ y. Absent y []) t
+  pub empty-absent : (t : List A) → All (λ y. Absent y []) t
   empty-absent [] = tt
   empty-absent (y ∷ t) = (tt, empty-absent t)
 

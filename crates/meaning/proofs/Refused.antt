@@ -1,22 +1,22 @@
 -- `reading` refuses a file for a reason exactly under that reason's condition. It goes through the lines as `Pass` does, so the proof is
 -- by induction on them, with the first condition that holds of each.
-use mathlib.Core.Bool.{Bool, true, false}
+use mathlib.Core.Bool.{false}
 use mathlib.Core.List.{List, [], _∷_, _++_, map}
 use mathlib.Core.Logic.{_↔_}
 use mathlib.Core.Option.{Option, none, some}
-use mathlib.Core.Path.{_≡_, refl, sym, ap, _∙_}
-use Prim.Native.Nat.{ℕ, _<_, _≤_}
+use mathlib.Core.Path.{_≡_, refl, ap, _∙_}
+use Prim.Native.Nat.{ℕ, _≤_}
 use native.Mathlib.Omega.{arith}
 use lib.Dec.{ltb}
 use lib.ListN.{length}
 use borrow.Author.Tests.{ltb-true, ltb-false, lt-ltb, le-ltb}
 use Rattle.meaning.specs.Syntax.{Query}
-use Rattle.meaning.specs.Refusal.{Refusal, fileTooLong, misplacedKind}
+use Rattle.meaning.specs.Refusal.{Refusal}
 use Rattle.meaning.specs.Lines.{lines}
 use Rattle.meaning.specs.SoFar.{SoFar, Said, said, start, after}
 use Rattle.meaning.specs.Conditions.{Condition, conditions, firstOf}
 use Rattle.meaning.specs.File.{maxFile, Described, describe, Reading, refused, described, atEnd, readFrom, reading}
-use Rattle.meaning.specs.Rules.{All}
+use Rattle.meaning.specs.All.{All}
 use Rattle.meaning.specs.Refused.{First, here, later, Pass, none-left, more, AtLine, Refused, tooLong, atLine, missingQuery}
 use Rattle.meaning.proofs.Tests.{cases}
 use Rattle.meaning.proofs.Conditions.{none-holds, holds-none}

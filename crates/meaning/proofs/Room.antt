@@ -1,23 +1,26 @@
 -- How much the lines that have passed can hold: a reference takes two bytes of a frame, and a frame's byte two characters of the file.
 use mathlib.Core.List.{List, [], _∷_, _++_, map, flatMap, append-nil}
 use mathlib.Core.Path.{_≡_, refl, sym, ap, _∙_}
-use Prim.Native.Nat.{ℕ, zero, suc, _+_, _*_, _<_, _≤_}
+use Prim.Native.Nat.{ℕ, suc, _+_, _*_, _≤_}
 use native.Mathlib.Omega.{arith}
 use lib.ListN.{length, length-append, length-map}
-use Rattle.unification.specs.Ty.{Int, String, Bytes, Fact, Record, Union, Ty, leaf, Row, ε, cell, rowLen}
-use Rattle.meaning.specs.Syntax.{Field, QueryStmt, Query, FieldRef, Literal, ExprKind, Node}
+use Rattle.unification.specs.Ty.{Int, Bytes, Fact, Record, Ty, rowLen}
+use Rattle.meaning.specs.Syntax.{Field, QueryStmt, FieldRef, Literal, ExprKind, Node}
 use Rattle.meaning.specs.Lines.{Line, LF, lines, maxBytes}
 use Rattle.meaning.specs.Frame.{Alternative, TypeShape, aLeaf, aRecord, aUnion, Frame, theLimits, aName, aType, aPredicate, aNode, theQuery}
 use Rattle.meaning.specs.References.{fieldValues, stmtNodes, queryNodes, exprNodes}
-use Rattle.meaning.specs.SoFar.{SoFar, Said, said, frames, start, fieldRow, alternativeRow, tyOf, add}
-use Rattle.meaning.specs.File.{maxFile}
-use Rattle.meaning.specs.Rules.{All, asTwo, asFour, asField, asAlternative, asShape, asStatement, asQuery, asExpr, asNode, asContent, written, hex, line, fileOf, Writable, Rules, done, next}
+use Rattle.meaning.specs.SoFar.{SoFar, said, start, fieldRow, alternativeRow, tyOf, add}
+use Rattle.meaning.specs.File.{Described, maxFile}
+use Rattle.meaning.specs.All.{All}
+use Rattle.meaning.specs.Writing.{asTwo, asField, asAlternative, asShape, asStatement, asQuery, asExpr, asNode, asContent, written, hex, line, fileOf, Writable}
+use Rattle.meaning.proofs.Obeys.{Rules, done, next}
 use Rattle.meaning.specs.Refused.{Pass}
 use Rattle.meaning.specs.Sound.{typeWords, allWords, maxWords, Narrow, Roomy}
 use Rattle.meaning.proofs.Lists.{all-snoc}
 use Rattle.meaning.proofs.Lines.{together, lines-together, together-append}
-use Rattle.meaning.proofs.Frames.{Obeying, pass-rules}
-use Rattle.meaning.proofs.Written.{AreLines, are-lines}
+use Rattle.meaning.proofs.Refused.{Accepted}
+use Rattle.meaning.proofs.Frames.{pass-rules}
+use Rattle.meaning.proofs.Written.{are-lines}
 
 -- ---- Lengths
 
@@ -190,3 +193,7 @@ roomy file so h b =
       narrow = narrow-rules (b .rules) (b .writable) tt;
       few = few-rules (b .rules) (b .writable) tt;
     }
+
+-- The same of a described file.
+pub described-begun : (file : List ℕ) (d : Described) (a : Accepted file d) → Begun file (a .end)
+described-begun file d a = begun file (lines file) [] (a .end) (sym (append-nil (lines file))) (a .pass)

@@ -1,16 +1,16 @@
--- What the tests of File.antt say, in the terms of Rules.antt.
-use mathlib.Core.Bool.{Bool, true, false, not, true≢false}
-use mathlib.Core.List.{List, [], _∷_, _++_}
-use mathlib.Core.Logic.{_↔_, _≢_}
-use mathlib.Core.Option.{Option, none, some}
+-- What the tests of File.antt say, in the terms of All.antt.
+use mathlib.Core.Bool.{Bool, true, false, true≢false}
+use mathlib.Core.List.{List, [], _∷_}
+use mathlib.Core.Logic.{_≢_}
 use mathlib.Core.Path.{_≡_, refl, sym, ap, _∙_}
-use Prim.Native.Nat.{ℕ, _<_, _≤_}
+use Prim.Native.Nat.{ℕ, _<_}
 use lib.Dec.{eqb, ltb}
 use borrow.Author.Tests.{ltb-true, lt-ltb, eqb-true, eqb-false, eq-eqb, ne-eqb}
 use Rattle.text.specs.Utf8.{both}
 use Rattle.text.proofs.Every.{both-left, both-right}
 use Rattle.meaning.specs.Conditions.{anyOf, allBelow, among, again, sameText, given}
-use Rattle.meaning.specs.Rules.{All, Absent, Distinct}
+use Rattle.meaning.specs.All.{All, Absent, Distinct}
+use Rattle.meaning.proofs.Lists.{all-map, not-first, none-first}
 
 -- a test's two answers
 pub cases : {X : Type 0} (b : Bool) → (b ≡ true → X) → (b ≡ false → X) → X
@@ -61,35 +61,19 @@ unfolding again
 again-new earlier [] h = tt
 again-new earlier (n ∷ ns) h = cases (among n earlier)
     (λ q. clash (rw (q, again) at h))
-    (λ q. (among-absent n earlier q, drop-first ns (again-new (n ∷ earlier) ns (rw (q, again) at h))))
-  where
-    drop-first : (ms : List ℕ) → All (λ m. Absent m (n ∷ earlier)) ms → All (λ m. Absent m earlier) ms
-    drop-first [] a = tt
-    drop-first (m ∷ ms) a = (a .0 .1, drop-first ms (a .1))
-
-first-absent : (n : ℕ) (earlier ms : List ℕ) → All (λ m. Absent m (n ∷ earlier)) ms → Absent n ms
-first-absent n earlier [] a = tt
-first-absent n earlier (m ∷ ms) a = (λ e. a .0 .0 (sym e), first-absent n earlier ms (a .1))
+    (λ q. (among-absent n earlier q, all-map (λ m. Absent m (n ∷ earlier)) (λ m. Absent m earlier) ns (λ m h. h .1) (again-new (n ∷ earlier) ns (rw (q, again) at h))))
 
 pub again-distinct : (earlier ns : List ℕ) → again earlier ns ≡ false → Distinct ns
 unfolding again
 again-distinct earlier [] h = tt
 again-distinct earlier (n ∷ ns) h = cases (among n earlier)
     (λ q. clash (rw (q, again) at h))
-    (λ q. let rest : again (n ∷ earlier) ns ≡ false = rw (q, again) at h in (first-absent n earlier ns (again-new (n ∷ earlier) ns rest), again-distinct (n ∷ earlier) ns rest))
-
-with-first : (n : ℕ) (earlier ms : List ℕ) → Absent n ms → All (λ m. Absent m earlier) ms → All (λ m. Absent m (n ∷ earlier)) ms
-with-first n earlier [] a b = tt
-with-first n earlier (m ∷ ms) a b = ((λ e. a .0 (sym e), b .0), with-first n earlier ms (a .1) (b .1))
+    (λ q. let rest : again (n ∷ earlier) ns ≡ false = rw (q, again) at h in (not-first n earlier ns (again-new (n ∷ earlier) ns rest), again-distinct (n ∷ earlier) ns rest))
 
 pub new-again : (earlier ns : List ℕ) → All (λ n. Absent n earlier) ns → Distinct ns → again earlier ns ≡ false
 unfolding again
 new-again earlier [] a d = refl
-new-again earlier (n ∷ ns) a d = rw (absent-among n earlier (a .0), again) (new-again (n ∷ earlier) ns (with-first n earlier ns (d .0) (a .1)) (d .1))
-
-pub none-earlier : (ns : List ℕ) → All (λ n. Absent n []) ns
-none-earlier [] = tt
-none-earlier (n ∷ ns) = (tt, none-earlier ns)
+new-again earlier (n ∷ ns) a d = rw (absent-among n earlier (a .0), again) (new-again (n ∷ earlier) ns (none-first n earlier ns (d .0) (a .1)) (d .1))
 
 pub same-text : (s t : List ℕ) → sameText s t ≡ true → s ≡ t
 unfolding sameText

@@ -1,27 +1,27 @@
 -- The files that pass are exactly the writings of frames that obey the rules: a line says a frame exactly where it is that frame's line.
-use mathlib.Core.Bool.{Bool, true, false}
-use mathlib.Core.List.{List, [], _∷_, _++_, map, flatMap, append-nil, append-assoc, head-eq-of-cons-eq, tail-eq-of-cons-eq}
+use mathlib.Core.List.{List, [], _∷_, map, flatMap, append-nil, append-assoc, head-eq-of-cons-eq, tail-eq-of-cons-eq}
 use mathlib.Core.Logic.{_↔_}
 use mathlib.Core.Option.{Option, none, some}
 use mathlib.Core.Path.{_≡_, refl, sym, ap, ap₂, subst, _∙_}
-use Prim.Native.Nat.{ℕ, zero, suc, _<_, _≤_}
+use Prim.Native.Nat.{ℕ, zero, suc, _≤_}
 use native.Mathlib.Omega.{arith}
 use lib.Dec.{leb}
 use lib.ListN.{length}
 use borrow.Author.Tests.{leb-true, le-leb}
-use Rattle.meaning.specs.Syntax.{Query}
 use Rattle.meaning.specs.Lines.{Line, closed, unclosed, LF, lines, decoded, maxBytes, atMost, someBytes, bytesOf}
 use Rattle.meaning.specs.Frame.{Kind, kindByte, kindOf, Frame, frameKind, Got, got, fails, frame, whole, frameOf}
-use Rattle.meaning.specs.SoFar.{Said, malformed, unknownKind, noFrame, frames, saidOf, saidIn, saidBy, said, start, SoFar}
-use Rattle.meaning.specs.File.{Described, describe, described, reading, maxFile}
-use Rattle.meaning.specs.Rules.{All, Byte, Fits, asContent, written, hex, line, fileOf, Writable, Rules, Written}
+use Rattle.meaning.specs.SoFar.{malformed, frames, saidOf, saidIn, saidBy, said}
+use Rattle.meaning.specs.File.{Described, described, reading}
+use Rattle.meaning.specs.All.{All}
+use Rattle.meaning.specs.Writing.{Byte, Fits, asContent, written, hex, line, fileOf, Writable}
+use Rattle.meaning.proofs.Obeys.{Written}
 use Rattle.meaning.proofs.Tests.{cases}
 use Rattle.meaning.proofs.Hex.{decoded-hex, hex-no-LF, Hex, hex-decoded}
 use Rattle.meaning.proofs.Lines.{together, lines-together, lines-closed}
 use Rattle.meaning.proofs.Grammar.{content-back, FrameTook, content-forth}
 use Rattle.meaning.proofs.Bytes.{written-bytes}
-use Rattle.meaning.proofs.Frames.{Obeying, pass-rules, rules-pass}
-use Rattle.meaning.proofs.Refused.{Accepted, accepted, described-when}
+use Rattle.meaning.proofs.Frames.{pass-rules, rules-pass}
+use Rattle.meaning.proofs.Refused.{accepted, described-when}
 
 -- ---- Kinds
 

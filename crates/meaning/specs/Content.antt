@@ -1,7 +1,7 @@
 -- Document 01, "Frame lines", from the writer's side: what a file holds, kind by kind, the rules that this obeys, how it is written, and the
 -- schema and tree that it describes. `says-exactly` in proofs/Content.antt: the files that pass 2 to 10 are exactly these, and describe that.
 use mathlib.Core.List.{List, [], _∷_, _++_, map}
-use mathlib.Core.Option.{Option, none, some}
+use mathlib.Core.Option.{Option}
 use mathlib.Core.Path.{_≡_}
 use Prim.Native.Nat.{ℕ, suc, _<_, _≤_}
 use lib.ListN.{length}
@@ -15,7 +15,8 @@ use Rattle.meaning.specs.References.{shapeNames, shapeTypes, shapeKeys, 
 use Rattle.meaning.specs.SoFar.{tyOf, predicateOf}
 use Rattle.meaning.specs.Conditions.{sameText, maxNames, maxTypes, maxPredicates, maxNodes}
 use Rattle.meaning.specs.File.{Described, countOf, valueText, maxFile}
-use Rattle.meaning.specs.Rules.{All, Distinct, fileOf, Writable}
+use Rattle.meaning.specs.All.{All, Distinct}
+use Rattle.meaning.specs.Writing.{fileOf, Writable}
 use Rattle.meaning.specs.Sound.{Lower, nodesNamed}
 
 -- references to a name, a type, and a type or none

@@ -9,7 +9,8 @@ pub mod References
 pub mod SoFar
 pub mod Conditions
 pub mod File
-pub mod Rules
+pub mod All
 pub mod Refused
+pub mod Writing
 pub mod Sound
 pub mod Content

@@ -9,14 +9,14 @@ use lib.ListN.{length}
 use Rattle.text.specs.Utf8.{Text}
 use Rattle.unification.specs.Ty.{Record, Union, Ty, leaf, Var, Error, rowLen}
 use Rattle.unification.specs.Calls.{Declared}
-use Rattle.meaning.specs.Syntax.{Query, Node, Ast}
-use Rattle.meaning.specs.Schema.{Predicate, Schema}
+use Rattle.meaning.specs.Syntax.{Query, Node}
+use Rattle.meaning.specs.Schema.{Predicate}
 use Rattle.meaning.specs.Frame.{Kind}
 use Rattle.meaning.specs.References.{exprNames, exprNodes, queryNodes}
 use Rattle.meaning.specs.SoFar.{SoFar}
 use Rattle.meaning.specs.Conditions.{maxNames, maxTypes, maxPredicates, maxNodes}
 use Rattle.meaning.specs.File.{Described}
-use Rattle.meaning.specs.Rules.{All, Distinct}
+use Rattle.meaning.specs.All.{All, Distinct}
 
 abbrev pub DeclaredOption : Option Ty → Type 0
 DeclaredOption none = Unit {0}

@@ -1,36 +1,13 @@
--- Document 01, "Frame lines", from the writer's side: the bytes of a frame, the line that it is written as, and the rules that the frames
--- of a file obey. `described-exactly` in proofs/Written.antt says that the files that pass are exactly these.
-use mathlib.Core.Bool.{Bool, true, false}
+-- Document 01, "Frame lines", from the writer's side: the bytes of a frame, the line that it is written as, and which frames can be written.
 use mathlib.Core.List.{List, [], _∷_, _++_, flatMap}
-use mathlib.Core.Logic.{_≢_}
 use mathlib.Core.Option.{Option, none, some}
-use mathlib.Core.Path.{_≡_}
 use Prim.Native.Nat.{ℕ, _/_, _%_, _<_, _≤_}
 use lib.ListN.{length, getD}
-use Rattle.text.specs.Utf8.{Text}
-use Rattle.unification.specs.Ty.{Leaf, Int, String, Bytes, Fact}
+use Rattle.unification.specs.Ty.{Int, String, Bytes, Fact}
 use Rattle.meaning.specs.Syntax.{Field, QueryStmt, Query, FieldRef, Literal, ExprKind, Node}
 use Rattle.meaning.specs.Lines.{LF, digits, maxBytes}
-use Rattle.meaning.specs.Frame.{Kind, limits, name, schemaType, predicate, node, query, kindByte, mayStand, Alternative, TypeShape, aLeaf, aRecord, aUnion, Frame, theLimits, aName, aType, aPredicate, aNode, theQuery, frameKind}
-use Rattle.meaning.specs.References.{nameRefs, typeRefs, nodeRefs, textsOf, keysOf}
-use Rattle.meaning.specs.SoFar.{SoFar, add, start}
-use Rattle.meaning.specs.Conditions.{maxNames, maxTypes, maxPredicates, maxNodes}
-use Rattle.meaning.specs.File.{Described, describe, maxFile}
-
--- ---- Lists
-
-abbrev pub All : {A : Type 0} → (A → Type 0) → List A → Type 0
-All P [] = Unit {0}
-All P (a ∷ l) = P a × All P l
-
--- a is none of them
-abbrev pub Absent : {A : Type 0} → A → List A → Type 0
-Absent a l = All (λ b. a ≢ b) l
-
--- none of them stands twice
-abbrev pub Distinct : {A : Type 0} → List A → Type 0
-Distinct [] = Unit {0}
-Distinct (a ∷ l) = Absent a l × Distinct l
+use Rattle.meaning.specs.Frame.{kindByte, Alternative, TypeShape, aLeaf, aRecord, aUnion, Frame, theLimits, aName, aType, aPredicate, aNode, theQuery, frameKind}
+use Rattle.meaning.specs.All.{All}
 
 -- ---- Bytes
 
@@ -191,48 +168,7 @@ Fits (aPredicate n k v) = InTwo n × InTwo k × ValueTypeFits v
 Fits (aNode n) = NodeFits n
 Fits (theQuery q) = QueryFits q
 
--- ---- The rules
-
--- one more of the kind is allowed
-abbrev pub Room : SoFar → Kind → Type 0
-Room so limits = Unit {0}
-Room so name = length (so .names) < maxNames
-Room so schemaType = length (so .types) < maxTypes
-Room so predicate = length (so .predicates) < maxPredicates
-Room so node = length (so .nodes) < maxNodes
-Room so query = Unit {0}
-
--- A frame may come next.
-pub record Obeys (so : SoFar) (f : Frame) : Type 0 where
-  pub placed : mayStand (so .previous) (frameKind f) ≡ true
-  pub room : Room so (frameKind f)
-  pub text : All (λ s. (n : ℕ) × Text s n) (textsOf f)
-  pub new : All (λ s. Absent s (so .names)) (textsOf f)
-  pub names : All (λ n. n < length (so .names)) (nameRefs f)
-  pub types : All (λ n. n < length (so .types)) (typeRefs f)
-  pub nodes : All (λ n. n < length (so .nodes)) (nodeRefs f)
-  pub unnamed : All (λ n. Absent n (so .named)) (nodeRefs f)
-  pub once : Distinct (nodeRefs f)
-  pub keys : Distinct (keysOf f)
-
 -- Its numbers fit in their bytes and it fits in a line.
 pub record Writable (f : Frame) : Type 0 where
   pub fits : Fits f
   pub short : length (written f) ≤ maxBytes
-
--- The frames may come one after the other, from what was read so far to what is read then.
-pub data Rules : SoFar → List Frame → SoFar → Type 0 where
-  done : {so : SoFar} → Rules so [] so
-  next : {so end : SoFar} {f : Frame} {fs : List Frame} → Obeys so f → Rules (add so f) fs end → Rules so (f ∷ fs) end
-
--- The file is what frames that obey the rules are written as, and d is what they describe.
-pub record Written (file : List ℕ) (d : Described) : Type 0 where
-  pub these : List Frame
-  pub is : file ≡ fileOf these
-  pub size : length file ≤ maxFile
-  pub writable : All Writable these
-  pub end : SoFar
-  pub rules : Rules start these end
-  pub query : Query
-  pub last : end .query ≡ some query
-  pub describes : d ≡ describe end query
