@@ -2,7 +2,7 @@
 -- bits of the first byte, 2 to 4, is the length, later bytes are 80 to bf, and the value is not below 80, 800 or 10000 for that length and
 -- not above 10ffff (hexadecimal)". `same-text` in proofs/Agree.antt shows that it is the grammar of Utf8.antt.
 use Prim.Native.Nat.{ℕ, zero, suc, _+_, _-_, _*_, _%_, _^_, _≤_, _<_}
-use mathlib.Core.Bool.{Bool, true, false}
+use mathlib.Core.Bool.{true, false}
 use mathlib.Core.Path.{_≡_}
 use mathlib.Core.List.{List, [], _∷_}
 use lib.Dec.{leb}
