@@ -1,4 +1,4 @@
--- The rule of docs/01-scope.md and the grammar of RFC 3629 have the same characters, and so the same texts. A computed test says which bytes
+-- The rule of 01-scope.md and the grammar of RFC 3629 have the same characters, and so the same texts. A computed test says which bytes
 -- have two, three or four leading ones, and what such a byte holds after them; the rest is arithmetic on the value.
 use Prim.Native.Nat.{ℕ, zero, suc, _+_, _-_, _*_, _%_, _≤_, _<_}
 use native.Mathlib.Omega.{arith}
