@@ -2,3 +2,4 @@ pub mod Syntax
 pub mod Schema
 pub mod Diag
 pub mod Check
+pub mod Answer
