@@ -1,5 +1,11 @@
 pub mod Syntax
 pub mod Schema
 pub mod Diag
+pub mod Refusal
+pub mod Lines
+pub mod Frame
+pub mod References
+pub mod File
 pub mod Check
 pub mod Answer
+pub mod Outcome

@@ -1,0 +1,7 @@
+pub mod Every
+pub mod Grammar
+pub mod Agree
+pub mod Reading
+pub mod First
+pub mod Walk
+pub mod Laws

@@ -1,0 +1,5 @@
+pub mod Star
+pub mod Utf8
+pub mod Rule
+pub mod Width
+pub mod Answer
