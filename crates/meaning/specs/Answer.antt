@@ -39,6 +39,7 @@ cellHead Kind.Union disc name = bytes₂ name ++ bytes₄ disc
 
 unfoldable mutual
   unfolding leafBytes kindByte cellHead bytes₂ rowLen
+
   pub tyBytes : Ty → List ℕ
   tyBytes (Ty.leaf p) = leafBytes p
   tyBytes (Ty.node k r) = kindByte k ∷ bytes₂ (rowLen r) ++ rowBytes r k

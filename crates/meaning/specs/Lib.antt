@@ -9,3 +9,4 @@ pub mod File
 pub mod Check
 pub mod Answer
 pub mod Outcome
+pub mod Table
