@@ -1,12 +1,12 @@
--- The rule of docs/01-scope.md and the grammar of RFC 3629 have the same characters, and so the same texts. A computed test says which bytes
+-- The rule of 01-scope.md and the grammar of RFC 3629 have the same characters, and so the same texts. A computed test says which bytes
 -- have two, three or four leading ones, and what such a byte holds after them; the rest is arithmetic on the value.
 use Prim.Native.Nat.{ℕ, zero, suc, _+_, _-_, _*_, _%_, _≤_, _<_}
 use native.Mathlib.Omega.{arith}
 use native.Mathlib.Nat.{le-trans, not-suc-le-zero, le-of-suc-le-suc}
 use native.Mathlib.Decide.{decLe}
-use mathlib.Core.Bool.{Bool, true, false}
+use mathlib.Core.Bool.{Bool, true}
 use mathlib.Core.Logic.{_↔_}
-use mathlib.Core.Path.{_≡_, refl, ap, sym, _∙_}
+use mathlib.Core.Path.{_≡_, refl, sym, _∙_}
 use mathlib.Core.List.{List, [], _∷_, _++_}
 use lib.Dec.{T, eqb, leb, ltb, lit<, leb→le}
 use lib.ListN.{length, getD}
@@ -32,13 +32,13 @@ leads : (n low high : ℕ) → below (lead n low high) 256 ≡ true → Lead n l
 unfolding lead
 leads n low high t =
     record {
-      found = λ b l e. inside-in (low to high) b (sym (range b l) ∙ eq-eqb (ones b) n e);
-      given = λ b l i. eqb-true (ones b) n (range b l ∙ in-inside (low to high) b i);
+      found = λ b l e. inside-in (low to high) b (sym (which b l) ∙ eq-eqb (ones b) n e);
+      given = λ b l i. eqb-true (ones b) n (which b l ∙ in-inside (low to high) b i);
       holds = λ b l e. eqb-true (head b) (b - low) (both-right (eqb (ones b) n) _ (bits b l ∙ eq-eqb (ones b) n e));
     }
   where
-    range : (b : ℕ) → b < 256 → eqb (ones b) n ≡ inside (low to high) b
-    range b l = same-eq (eqb (ones b) n) (inside (low to high) b) (both-left _ _ (every (lead n low high) 256 t b l))
+    which : (b : ℕ) → b < 256 → eqb (ones b) n ≡ inside (low to high) b
+    which b l = same-eq (eqb (ones b) n) (inside (low to high) b) (both-left _ _ (every (lead n low high) 256 t b l))
 
     bits : (b : ℕ) → b < 256 → both (eqb (ones b) n) (eqb (head b) (b - low)) ≡ eqb (ones b) n
     bits b l = same-eq _ _ (both-right (same (eqb (ones b) n) (inside (low to high) b)) _ (every (lead n low high) 256 t b l))
@@ -70,14 +70,17 @@ module _ {n low high : ℕ} (lead : Lead n low high) (b : ℕ) (byte : b < 256) 
 tail : {b : ℕ} → Later b → In utf8.tail b
 tail h = record { low = h .low; high = h .high }
 
+after-ED : {b : ℕ} → Later b → In utf8.afterED b
+after-ED h = record { low = h .low; high = h .high }
+
 choose : (g : List (List Range)) (k : ℕ) {s : List ℕ} → k < length g → Fits (getD g k []) s → OneOf g s
 choose [] k h f = absurd (not-suc-le-zero h)
 choose (rs ∷ g) zero h f = this f
 choose (rs ∷ g) (suc k) h f = later (choose g k (le-of-suc-le-suc h) f)
 
 -- the alternatives of UTF8-char, counted from 0
-alternative : (k : ℕ) {s : List ℕ} → T (ltb k 9) → Fits (getD utf8.grammar k []) s → utf8.Character s
-alternative k h f = choose utf8.grammar k (lit< h) f
+alternative : (k : ℕ) {s : List ℕ} → T (ltb k 9) → Fits (getD utf8.utf8-char k []) s → utf8.Character s
+alternative k h f = choose utf8.utf8-char k (lit< h) f
 
 in-grammar : (b : ℕ) (t : List ℕ) → b < 256 → Sequence b t → utf8.Character (b ∷ t)
 unfolding value
@@ -96,7 +99,7 @@ in-grammar b (x ∷ y ∷ []) l q =
             | yes h ↦ alternative 3 tt (then (range 0xe1 0xec b (omega arith) h) (then (tail i) rest))
             | no h₂ ↦
                 elim (decLe b 0xed) [
-                  | yes h ↦ alternative 4 tt (then (range 0xed 0xed b (omega arith) h) (then (range 0x80 0xbf x (i .low) (i .high)) rest))
+                  | yes h ↦ alternative 4 tt (then (range 0xed 0xed b (omega arith) h) (then (after-ED i) rest))
                   | no h₃ ↦ alternative 5 tt (then (range 0xee 0xef b (omega arith) (p .0 .high)) (then (tail i) rest))
                 ]
           ]
@@ -115,17 +118,19 @@ in-grammar b (x ∷ y ∷ z ∷ []) l q =
     ]
 in-grammar b (x ∷ y ∷ z ∷ u ∷ t) l q = absurd (omega (arith, q .four, q .long))
 
--- a byte of a range within the tail's is a later byte
-follows : {low high b : ℕ} → In (low to high) b → T (leb 0x80 low) → T (leb high 0xbf) → Later b
-follows i l h = record { low = le-trans (leb→le _ _ l) (i .low); high = le-trans (i .high) (leb→le _ _ h) }
+-- a byte of a range is in a wider one
+narrow : {low high low′ high′ b : ℕ} → In (low′ to high′) b → T (leb low low′) → T (leb high′ high) → In (low to high) b
+narrow i l h = record { low = le-trans (leb→le _ _ l) (i .low); high = le-trans (i .high) (leb→le _ _ h) }
 
-of-two : (b x : ℕ) → In (0xc2 to 0xdf) b → Later x → rule.Character (b ∷ x ∷ [])
+-- and a later byte where the range lies within the tail's
+follows : {low high b : ℕ} → In (low to high) b → T (leb 0x80 low) → T (leb high 0xbf) → Later b
+follows {b = b} i l h =
+    let wide : In (0x80 to 0xbf) b = narrow i l h in
+    record { low = wide .low; high = wide .high }
+
+of-two : (b x : ℕ) → In (0xc0 to 0xdf) b → Later x → 0x80 ≤ (b - 0xc0) * 64 + x % 64 → rule.Character (b ∷ x ∷ [])
 unfolding value
-of-two b x i j =
-    several
-    (make two b (omega (arith, i)) (x ∷ []) (omega arith) (omega arith) (range 0xc0 0xdf b (omega (arith, i)) (i .high)) refl (j, tt)
-    (omega (arith, i, j))
-    (omega (arith, i, j)))
+of-two b x i j low = several (make two b (omega (arith, i)) (x ∷ []) (omega arith) (omega arith) i refl (j, tt) low (omega (arith, i, j)))
 
 of-three : (b x y : ℕ) → In (0xe0 to 0xef) b → Later x → Later y → 0x800 ≤ ((b - 0xe0) * 64 + x % 64) * 64 + y % 64 → rule.Character (b ∷ x ∷ y ∷ [])
 unfolding value
@@ -140,28 +145,29 @@ of-four : (b x y z : ℕ) → In (0xf0 to 0xf4) b → Later x → Later y → La
 unfolding value
 of-four b x y z i j k l low high =
     several
-    (make four b (omega (arith, i)) (x ∷ y ∷ z ∷ []) (omega arith) (omega arith) (range 0xf0 0xf7 b (i .low) (omega (arith, i))) refl
+    (make four b (omega (arith, i)) (x ∷ y ∷ z ∷ []) (omega arith) (omega arith) (narrow i tt tt) refl
     (j, (k, (l, tt))) low high)
 
 pub in-rule : {s : List ℕ} → utf8.Character s → rule.Character s
 in-rule (this (then {b = b} i end)) = alone {b = b} (omega (arith, i))
-in-rule (later (this (then {b = b} i (then {b = x} j end)))) = of-two b x i (follows j tt tt)
+in-rule (later (this (then {b = b} i (then {b = x} j end)))) =
+    of-two b x (narrow i tt tt) (follows j tt tt) (omega (arith, i))
 in-rule (later (later (this (then {b = b} i (then {b = x} j (then {b = y} k end)))))) =
-    of-three b x y (range 0xe0 0xef b (i .low) (omega (arith, i))) (follows j tt tt) (follows k tt tt) (omega (arith, j))
+    of-three b x y (narrow i tt tt) (follows j tt tt) (follows k tt tt) (omega (arith, j))
 in-rule (later (later (later (this (then {b = b} i (then {b = x} j (then {b = y} k end))))))) =
-    of-three b x y (range 0xe0 0xef b (omega (arith, i)) (omega (arith, i))) (follows j tt tt) (follows k tt tt) (omega (arith, i))
+    of-three b x y (narrow i tt tt) (follows j tt tt) (follows k tt tt) (omega (arith, i))
 in-rule (later (later (later (later (this (then {b = b} i (then {b = x} j (then {b = y} k end)))))))) =
-    of-three b x y (range 0xe0 0xef b (omega (arith, i)) (omega (arith, i))) (follows j tt tt) (follows k tt tt) (omega (arith, i))
+    of-three b x y (narrow i tt tt) (follows j tt tt) (follows k tt tt) (omega (arith, i))
 in-rule (later (later (later (later (later (this (then {b = b} i (then {b = x} j (then {b = y} k end))))))))) =
-    of-three b x y (range 0xe0 0xef b (omega (arith, i)) (i .high)) (follows j tt tt) (follows k tt tt) (omega (arith, i))
+    of-three b x y (narrow i tt tt) (follows j tt tt) (follows k tt tt) (omega (arith, i))
 in-rule (later (later (later (later (later (later (this (then {b = b} i (then {b = x} j (then {b = y} k (then {b = z} l end))))))))))) =
-    of-four b x y z (range 0xf0 0xf4 b (i .low) (omega (arith, i))) (follows j tt tt) (follows k tt tt) (follows l tt tt)
+    of-four b x y z (narrow i tt tt) (follows j tt tt) (follows k tt tt) (follows l tt tt)
     (omega (arith, i, j)) (omega (arith, i))
 in-rule (later (later (later (later (later (later (later (this (then {b = b} i (then {b = x} j (then {b = y} k (then {b = z} l end)))))))))))) =
-    of-four b x y z (range 0xf0 0xf4 b (omega (arith, i)) (omega (arith, i))) (follows j tt tt) (follows k tt tt) (follows l tt tt)
+    of-four b x y z (narrow i tt tt) (follows j tt tt) (follows k tt tt) (follows l tt tt)
     (omega (arith, i)) (omega (arith, i))
 in-rule (later (later (later (later (later (later (later (later (this (then {b = b} i (then {b = x} j (then {b = y} k (then {b = z} l end))))))))))))) =
-    of-four b x y z (range 0xf0 0xf4 b (omega (arith, i)) (i .high)) (follows j tt tt) (follows k tt tt) (follows l tt tt)
+    of-four b x y z (narrow i tt tt) (follows j tt tt) (follows k tt tt) (follows l tt tt)
     (omega (arith, i)) (omega (arith, i, j))
 
 abbrev pub Byte : ℕ → Type 0

@@ -3,12 +3,12 @@ use Prim.Native.Nat.{ℕ, zero, suc, _+_, _-_, _≤_, _<_}
 use native.Mathlib.Omega.{arith}
 use native.Mathlib.Numerals.{add-one}
 use mathlib.Core.Logic.{_⊎_, inl, inr, ⊎-elim}
-use mathlib.Core.Path.{_≡_, refl, ap, sym}
+use mathlib.Core.Path.{_≡_, refl, ap}
 use mathlib.Core.List.{List, [], _∷_}
 use lib.ListN.{length, getD, take, drop, length-drop}
 use lib.Seq.{drop-cons}
 use Rattle.text.specs.Rule.{ones, Sequence, Character, alone, several}
-use Rattle.text.specs.Width.{Width}
+use Rattle.text.specs.Width.{Width, SequenceAt}
 
 -- a list's beginning is known by its length
 begin : (k : ℕ) (t : List ℕ) → take k t ≡ take (length (take k t)) t
@@ -38,7 +38,7 @@ module _ (s : List ℕ) (i : ℕ) (h : i < length s) where
   at : drop i s ≡ getD s i 0 ∷ drop (i + 1) s
   at = rw (add-one i) (drop-cons s i 0 h)
 
-  pub refused : (n : ℕ) → n ≡ ones (getD s i 0) → 0x80 ≤ getD s i 0 → (Sequence (getD s i 0) (take (n - 1) (drop (i + 1) s)) → ⊥) → Width (drop i s) 0
+  pub refused : (n : ℕ) → n ≡ ones (getD s i 0) → 0x80 ≤ getD s i 0 → (SequenceAt s i n → ⊥) → Width (drop i s) 0
   refused n e l never =
       rw at
       (record {
@@ -50,7 +50,7 @@ module _ (s : List ℕ) (i : ℕ) (h : i < length s) where
   pub single : getD s i 0 < 0x80 → Width (drop i s) 1
   single l = rw at (record { within = omega arith; whole = λ _. alone l; absent = λ e. absurd (omega arith) })
 
-  pub found : (n : ℕ) → 2 ≤ n → i + n ≤ length s → Sequence (getD s i 0) (take (n - 1) (drop (i + 1) s)) → Width (drop i s) n
+  pub found : (n : ℕ) → 2 ≤ n → i + n ≤ length s → SequenceAt s i n → Width (drop i s) n
   found zero l room q = absurd (omega arith)
   found (suc m) l room q =
       let less : suc m - 1 ≡ m = omega arith in

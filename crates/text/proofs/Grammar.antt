@@ -1,17 +1,17 @@
 -- `characters` counts what the grammar says. The first ranges of the alternatives rise, so a first byte fits one alternative at most and
 -- the function can choose by it; reading on, the ranges that are still owed are used up one by one.
-use Prim.Native.Nat.{ℕ, zero, suc, _≤_, _<_}
+use Prim.Native.Nat.{ℕ, suc, _≤_, _<_}
 use native.Mathlib.Omega.{arith}
 use mathlib.Core.Bool.{Bool, true, false}
-use mathlib.Core.Path.{_≡_, refl, ap, sym, _∙_, subst}
+use mathlib.Core.Path.{_≡_, refl, ap, _∙_}
 use mathlib.Core.List.{List, [], _∷_, _++_}
 use mathlib.Core.Logic.{_↔_}
 use mathlib.Core.Option.{Option, none, some}
 use lib.Dec.{leb, lit≤}
 use borrow.Author.Tests.{leb-true, le-leb, lt-leb}
 use Rattle.text.proofs.Every.{both-left, both-right, both-false}
-use Rattle.text.specs.Star.{Star, none as nil, more}
-use Rattle.text.specs.Utf8.{Range, _to_, In, Fits, end, then, OneOf, this, later, both, inside, following, oneMore, count, grammar, Character, Text, characters}
+use Rattle.text.specs.Star.{none as nil, more}
+use Rattle.text.specs.Utf8.{Range, _to_, In, Fits, end, then, OneOf, this, later, inside, following, oneMore, count, utf8-char, Character, Text, characters}
 
 clash : {A X : Type 0} {x : A} → none ≡ some x → X
 clash e = let z : _≡_ {A = ℕ} 0 1 = cc in absurd (omega arith)
@@ -30,8 +30,8 @@ data Rising : ℕ → List (List Range) → Type 0 where
   top : {l : ℕ} → Rising l []
   up : {l : ℕ} {r : Range} {rs : List Range} {g : List (List Range)} → l ≤ r .low → r .low ≤ r .high → Rising (suc (r .high)) g → Rising l ((r ∷ rs) ∷ g)
 
-grammar-rises : Rising 0 grammar
-grammar-rises = search (top, up, lit≤) depth 30 fits 5000
+rises : Rising 0 utf8-char
+rises = search (top, up, lit≤) depth 30 fits 5000
 
 above : {l b : ℕ} {g : List (List Range)} {s : List ℕ} → Rising l g → OneOf g (b ∷ s) → l ≤ b
 above (up from some-byte rest) (this (then i f)) = omega (arith, i .low)
@@ -42,7 +42,7 @@ filled : {l : ℕ} {g : List (List Range)} → Rising l g → OneOf g [] → ⊥
 filled (up from some-byte rest) (later o) = filled rest o
 
 pub not-empty : Character [] → ⊥
-not-empty c = filled grammar-rises c
+not-empty c = filled rises c
 
 -- past the alternatives that end below b
 passed : (r : Range) (rs : List Range) (g : List (List Range)) (b : ℕ) → r .high < b → following ((r ∷ rs) ∷ g) b ≡ following g b
@@ -73,8 +73,8 @@ pub step : (a t : List ℕ) → Character a → characters (a ++ t) ≡ oneMore 
 unfolding characters count
 step [] t o = absurd (not-empty o)
 step (b ∷ a) t o =
-    let c = chosen grammar-rises o in
-    rw (c .is, count) (ap oneMore (read grammar t (c .fit)))
+    let c = chosen rises o in
+    rw (c .is, count) (ap oneMore (read utf8-char t (c .fit)))
 
 forth : {s : List ℕ} {n : ℕ} → Text s n → characters s ≡ some n
 unfolding characters count
@@ -99,30 +99,30 @@ begins ((r ∷ rs) ∷ g) b {rs = x} {a = a} e f = go (λ h. begins g b h f) (in
     go ih false q = later (ih (rw (q, following) at e))
 
 -- a first byte before a split, and a byte that was owed
-start : {b : ℕ} {rs : List Range} {s : List ℕ} {n : ℕ} → following grammar b ≡ some rs → Split rs s n → Split [] (b ∷ s) (suc n)
-start {b} q (split f t) = split end (more (begins grammar b q f) t)
+start : {b : ℕ} {rs : List Range} {s : List ℕ} {n : ℕ} → following utf8-char b ≡ some rs → Split rs s n → Split [] (b ∷ s) (suc n)
+start {b} q (split f t) = split end (more (begins utf8-char b q f) t)
 
 join : {r : Range} {b : ℕ} {rs : List Range} {s : List ℕ} {n : ℕ} → In r b → Split rs s n → Split (r ∷ rs) (b ∷ s) n
 join i (split f t) = split (then i f) t
 
-back : (rs : List Range) (s : List ℕ) (n : ℕ) → count grammar rs s ≡ some n → Split rs s n
+back : (rs : List Range) (s : List ℕ) (n : ℕ) → count utf8-char rs s ≡ some n → Split rs s n
 unfolding count
 back [] [] n e = let z : n ≡ 0 = cc in rw z (split end nil)
 back (r ∷ rs) [] n e = clash e
-back [] (b ∷ s) n e = first (λ rs m h. back rs s m h) (following grammar b) refl
+back [] (b ∷ s) n e = first (λ rs m h. back rs s m h) (following utf8-char b) refl
   where
-    rest : ((rs : List Range) (m : ℕ) → count grammar rs s ≡ some m → Split rs s m)
-        → (rs : List Range) → following grammar b ≡ some rs → (o : Option ℕ) → count grammar rs s ≡ o → oneMore o ≡ some n → Split [] (b ∷ s) n
+    rest : ((rs : List Range) (m : ℕ) → count utf8-char rs s ≡ some m → Split rs s m)
+        → (rs : List Range) → following utf8-char b ≡ some rs → (o : Option ℕ) → count utf8-char rs s ≡ o → oneMore o ≡ some n → Split [] (b ∷ s) n
     rest ih rs q none p h = clash h
     rest ih rs q (some m) p h = let z : n ≡ suc m = cc in rw z (start q (ih rs m p))
 
-    first : ((rs : List Range) (m : ℕ) → count grammar rs s ≡ some m → Split rs s m)
-        → (o : Option (List Range)) → following grammar b ≡ o → Split [] (b ∷ s) n
+    first : ((rs : List Range) (m : ℕ) → count utf8-char rs s ≡ some m → Split rs s m)
+        → (o : Option (List Range)) → following utf8-char b ≡ o → Split [] (b ∷ s) n
     first ih none q = clash (rw (q, count) at e)
-    first ih (some rs) q = rest ih rs q (count grammar rs s) refl (rw (q, count) at e)
+    first ih (some rs) q = rest ih rs q (count utf8-char rs s) refl (rw (q, count) at e)
 back (r ∷ rs) (b ∷ s) n e = go (λ h. back rs s n h) (inside r b) refl
   where
-    go : (count grammar rs s ≡ some n → Split rs s n) → (i : Bool) → inside r b ≡ i → Split (r ∷ rs) (b ∷ s) n
+    go : (count utf8-char rs s ≡ some n → Split rs s n) → (i : Bool) → inside r b ≡ i → Split (r ∷ rs) (b ∷ s) n
     go ih true q = join (inside-in r b q) (ih (rw (q, count) at e))
     go ih false q = clash (rw (q, count) at e)
 

@@ -1,12 +1,12 @@
 -- What callers cite: what the enum's two cases say in the grammar's terms, and how many characters there can be.
-use Prim.Native.Nat.{ℕ, zero, suc, _+_, _≤_, _<_}
+use Prim.Native.Nat.{ℕ, _≤_, _<_}
 use native.Mathlib.Omega.{arith}
-use mathlib.Core.Path.{_≡_, refl, ap, sym, _∙_}
-use mathlib.Core.List.{List, [], _∷_, _++_}
+use mathlib.Core.Path.{_≡_, refl, ap, _∙_}
+use mathlib.Core.List.{List, [], _∷_}
 use mathlib.Core.Option.{Option, none, some}
 use lib.ListN.{length, length-append}
 use Rattle.text.specs.declared.Text.the-variants.{Chars, Broken}
-use Rattle.text.specs.Star.{Each, Star, none as nil, more}
+use Rattle.text.specs.Star.{Each, none as nil, more}
 use Rattle.text.specs.Utf8.{this, then, end, Character, Text, count, characters}
 use Rattle.text.specs.Answer.{answer}
 use Rattle.text.proofs.Grammar.{range, not-empty, counts}

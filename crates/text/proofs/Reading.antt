@@ -3,14 +3,14 @@ use Prim.Native.Nat.{ℕ, zero, suc, _+_, _-_, _*_, _%_, _^_, _≤_, _<_}
 use native.Mathlib.Omega.{arith}
 use native.Mathlib.Nat.{mod-le, le-of-suc-le-suc, not-suc-le-zero, pow-suc, pow-le-pow-right}
 use native.Mathlib.Numerals.{add-one}
-use mathlib.Core.Bool.{true, false}
-use mathlib.Core.Path.{_≡_, refl, sym, _∙_}
+use mathlib.Core.Bool.{false}
+use mathlib.Core.Path.{_≡_, refl}
 use mathlib.Core.List.{List, [], _∷_, _++_}
 use lib.ListN.{length, getD, take, drop, length-take, length-drop}
 use lib.Seq.{take-suc, getD-drop}
 use Rattle.text.specs.Star.{Each}
-use Rattle.text.specs.Rule.{head, value, least, Later, Sequence}
-use Rattle.text.specs.Width.{Room, Decides}
+use Rattle.text.specs.Rule.{head, value, least, Later}
+use Rattle.text.specs.Width.{Room, SequenceAt, Decides}
 
 each-snoc : (P : ℕ → Type 0) (t : List ℕ) (x : ℕ) → Each P t → P x → Each P (t ++ (x ∷ []))
 each-snoc P [] x e p = (p, tt)
@@ -62,7 +62,7 @@ head-le b = mod-le b _
 
 -- the sequence of n bytes at i
 module _ {s : List ℕ} {i n : ℕ} (room : Room s i n) where
-  pub later-at : {k : ℕ} → k < n - 1 → Sequence (getD s i 0) (take (n - 1) (drop (i + 1) s)) → Later (getD s (i + 1 + k) 0)
+  pub later-at : {k : ℕ} → k < n - 1 → SequenceAt s i n → Later (getD s (i + 1 + k) 0)
   later-at {k} h q = rw (getD-drop (i + 1) s k 0) at (each-at Later (drop (i + 1) s) (n - 1) k (q .tail) h (simp length-drop (omega (arith, room .fits))))
 
   pub read-on : {k w : ℕ} → k < n - 1 → Later (getD s (i + 1 + k) 0) → Reading (head (getD s i 0)) (drop (i + 1) s) k w
@@ -72,7 +72,7 @@ module _ {s : List ℕ} {i n : ℕ} (room : Room s i n) where
       (reading-more r (simp length-drop (omega (arith, room .fits))) (rw (getD-drop (i + 1) s k 0) l))
 
   module _ {w : ℕ} (r : Reading (head (getD s i 0)) (drop (i + 1) s) (n - 1) w) where
-    pub complete : least n ≤ w → w ≤ 0x10ffff → Sequence (getD s i 0) (take (n - 1) (drop (i + 1) s))
+    pub complete : least n ≤ w → w ≤ 0x10ffff → SequenceAt s i n
     complete l h =
         record {
           two = rw (← (room .lead)) (room .two);
@@ -83,5 +83,5 @@ module _ {s : List ℕ} {i n : ℕ} (room : Room s i n) where
           high = rw (← (r .is)) h;
         }
 
-    pub bounds : Sequence (getD s i 0) (take (n - 1) (drop (i + 1) s)) → (least n ≤ w) × (w ≤ 0x10ffff)
+    pub bounds : SequenceAt s i n → (least n ≤ w) × (w ≤ 0x10ffff)
     bounds q = (rw (← (room .lead), ← (r .is)) at (q .low), rw (← (r .is)) at (q .high))

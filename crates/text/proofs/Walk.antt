@@ -1,5 +1,5 @@
 -- The walk from character to character: what one step does to the count of the bytes that are left.
-use Prim.Native.Nat.{ℕ, zero, suc, _+_, _≤_, _<_}
+use Prim.Native.Nat.{ℕ, suc, _+_, _≤_, _<_}
 use native.Mathlib.Omega.{arith}
 use native.Mathlib.Nat.{zero-add}
 use mathlib.Core.Path.{_≡_, refl, ap, sym, _∙_}
@@ -7,7 +7,7 @@ use mathlib.Core.List.{List, [], _∷_, _++_}
 use mathlib.Core.Option.{Option, none, some}
 use lib.ListN.{length, getD, take, drop, take-append-drop, length-drop, drop-of-length-le}
 use lib.Seq.{drop-drop, take-append-seam}
-use Rattle.text.specs.Star.{Each, Star, none as nil, more}
+use Rattle.text.specs.Star.{Each, none as nil, more}
 use Rattle.text.specs.Utf8.{Text, count, characters, oneMore}
 use Rattle.text.specs.Width.{Width}
 use Rattle.text.proofs.Grammar.{step, counts}

@@ -1,8 +1,8 @@
--- The rule for texts in the words of docs/01-scope.md, "Frame lines": "a byte below 80 stands alone; otherwise the number of leading one
+-- The rule for texts in the words of 01-scope.md, "Frame lines": "a byte below 80 stands alone; otherwise the number of leading one
 -- bits of the first byte, 2 to 4, is the length, later bytes are 80 to bf, and the value is not below 80, 800 or 10000 for that length and
 -- not above 10ffff (hexadecimal)". `same-text` in proofs/Agree.antt shows that it is the grammar of Utf8.antt.
 use Prim.Native.Nat.{ℕ, zero, suc, _+_, _-_, _*_, _%_, _^_, _≤_, _<_}
-use mathlib.Core.Bool.{Bool, true, false}
+use mathlib.Core.Bool.{true, false}
 use mathlib.Core.Path.{_≡_}
 use mathlib.Core.List.{List, [], _∷_}
 use lib.Dec.{leb}

@@ -1,5 +1,5 @@
 -- Lists of bytes made of pieces: what both definitions of a text stand on.
-use Prim.Native.Nat.{ℕ, zero, suc}
+use Prim.Native.Nat.{ℕ, suc}
 use mathlib.Core.List.{List, [], _∷_, _++_}
 
 -- every element has the property

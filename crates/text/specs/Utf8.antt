@@ -10,20 +10,20 @@
 --                   %xF4 %x80-8F 2( UTF8-tail )
 --     UTF8-tail   = %x80-BF
 --
--- One difference, which this edition makes: see `afterED`.
-use Prim.Native.Nat.{ℕ, zero, suc, _≤_}
+-- It differs from the RFC in one place: see `afterED`.
+use Prim.Native.Nat.{ℕ, suc, _≤_}
 use mathlib.Core.Bool.{Bool, true, false}
-use mathlib.Core.List.{List, [], _∷_}
+use mathlib.Core.List.{List, [], _∷_, _++_}
 use mathlib.Core.Option.{Option, none, some}
 use lib.Dec.{leb}
 use Rattle.text.specs.Star.{Star}
 
-infix 80 _to_
--- `%xLOW-HIGH`
+-- `%xLOW-HIGH`, here `LOW to HIGH`
 pub record Range : Type 0 where
   pub low : ℕ
   pub high : ℕ
 
+infix 80 _to_
 abbrev pub _to_ : ℕ → ℕ → Range
 l to h = record { low = l; high = h }
 
@@ -34,23 +34,34 @@ only b = b to b
 abbrev pub tail : Range
 tail = 0x80 to 0xbf
 
--- What may follow ED. The RFC has 80-9F here, which keeps the values d800 to dfff out; in this edition they pass.
+-- What may follow ED: the one difference. The RFC has 80-9F here, which keeps the values d800 to dfff out; in this edition they pass.
 abbrev pub afterED : Range
 afterED = 0x80 to 0xbf
 
--- UTF8-char: its alternatives, in the RFC's order
-abbrev pub grammar : List (List Range)
-grammar =
-    (0x00 to 0x7f ∷ []) ∷
-    (0xc2 to 0xdf ∷ tail ∷ []) ∷
+-- Each rule as the list of its alternatives, in the RFC's order.
+abbrev pub utf8-1 : List (List Range)
+utf8-1 = (0x00 to 0x7f ∷ []) ∷ []
+
+abbrev pub utf8-2 : List (List Range)
+utf8-2 = (0xc2 to 0xdf ∷ tail ∷ []) ∷ []
+
+abbrev pub utf8-3 : List (List Range)
+utf8-3 =
     (only 0xe0 ∷ 0xa0 to 0xbf ∷ tail ∷ []) ∷
     (0xe1 to 0xec ∷ tail ∷ tail ∷ []) ∷
     (only 0xed ∷ afterED ∷ tail ∷ []) ∷
     (0xee to 0xef ∷ tail ∷ tail ∷ []) ∷
+    []
+
+abbrev pub utf8-4 : List (List Range)
+utf8-4 =
     (only 0xf0 ∷ 0x90 to 0xbf ∷ tail ∷ tail ∷ []) ∷
     (0xf1 to 0xf3 ∷ tail ∷ tail ∷ tail ∷ []) ∷
     (only 0xf4 ∷ 0x80 to 0x8f ∷ tail ∷ tail ∷ []) ∷
     []
+
+abbrev pub utf8-char : List (List Range)
+utf8-char = utf8-1 ++ utf8-2 ++ utf8-3 ++ utf8-4
 
 pub record In (r : Range) (b : ℕ) : Type 0 where
   pub low : r .low ≤ b
@@ -66,9 +77,9 @@ pub data OneOf : List (List Range) → List ℕ → Type 0 where
   this : {rs : List Range} {g : List (List Range)} {s : List ℕ} → Fits rs s → OneOf (rs ∷ g) s
   later : {rs : List Range} {g : List (List Range)} {s : List ℕ} → OneOf g s → OneOf (rs ∷ g) s
 
--- UTF8-char
+-- UTF8-char: the bytes of one character
 abbrev pub Character : List ℕ → Type 0
-Character s = OneOf grammar s
+Character s = OneOf utf8-char s
 
 -- UTF8-octets, with the number of its characters
 abbrev pub Text : List ℕ → ℕ → Type 0
@@ -103,4 +114,4 @@ count g (r ∷ rs) (b ∷ s) = elim (inside r b) [ true ↦ count g rs s | false
 
 unfoldable pub characters : List ℕ → Option ℕ
 unfolding count following
-characters s = count grammar [] s
+characters s = count utf8-char [] s

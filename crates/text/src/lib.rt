@@ -1,10 +1,10 @@
 // UTF-8: whether bytes are a text, and of how many characters.
 ghost use mathlib.Core.Path.{_≡_};
-ghost use Prim.Native.Nat.{_+_, _-_, _<_};
-ghost use lib.ListN.{length, getD, take, drop};
+ghost use Prim.Native.Nat.{_<_};
+ghost use lib.ListN.{length, drop};
 ghost use Rattle.text.specs.Utf8.{characters};
-ghost use Rattle.text.specs.Rule.{ones, head, Sequence};
-ghost use Rattle.text.specs.Width.{Width, Room, Decides};
+ghost use Rattle.text.specs.Rule.{ones, head};
+ghost use Rattle.text.specs.Width.{Width, Room, SequenceAt, Decides};
 ghost use Rattle.text.specs.Answer.{answer};
 
 pub enum Text {
@@ -33,7 +33,7 @@ fn head(b: u8, n: usize) -> u32
 // Whether the n bytes at i are a sequence.
 fn sequence(s: &[u8], i: usize, n: usize) -> bool
     requires { ⌜ Room (now s) i n ⌝ }
-    ensures { λ r. ⌜ Decides (Sequence (getD (now (s .entry)) i 0) (take (n - 1) (drop (i + 1) (now (s .entry))))) r ⌝ }
+    ensures { λ r. ⌜ Decides (SequenceAt (now (s .entry)) i n) r ⌝ }
 {
     let mut value = head(s[i], n);
     let from = i + 1;

@@ -22,8 +22,8 @@ fn section_7() {
     show(b"\xef\xbb\xbf\xf0\xa3\x8e\xb4");
 }
 
-// The least and the greatest of each length, and what lies just outside.
-fn lengths() {
+// One byte, and the least and the greatest of two, with what lies just outside.
+fn twos() {
     show(b"");
     show(b"\x00");
     show(b"\x7f");
@@ -31,9 +31,17 @@ fn lengths() {
     show(b"\xc1\xbf");
     show(b"\xc2\x80");
     show(b"\xdf\xbf");
+}
+
+// The same of three.
+fn threes() {
     show(b"\xe0\x9f\xbf");
     show(b"\xe0\xa0\x80");
     show(b"\xef\xbf\xbf");
+}
+
+// The same of four.
+fn fours() {
     show(b"\xf0\x8f\xbf\xbf");
     show(b"\xf0\x90\x80\x80");
     show(b"\xf4\x8f\xbf\xbf");
@@ -48,23 +56,31 @@ fn halves() {
     show(b"\xee\x80\x80");
 }
 
-// No first byte; lengths above four.
+// Bytes that start nothing.
 fn firsts() {
     show(b"\x80");
     show(b"\xbf");
     show(b"\xf5\x80\x80\x80");
     show(b"\xf7\xbf\xbf\xbf");
+}
+
+// Lengths above four.
+fn longer() {
     show(b"\xf8\x88\x80\x80\x80");
     show(b"\xfc\x84\x80\x80\x80\x80");
     show(b"\xfe");
     show(b"\xff");
 }
 
-// Sequences that end too soon, at the end of the text or before another character.
-fn tails() {
+// Sequences that the end of the text cuts.
+fn cut() {
     show(b"\xc2");
     show(b"\xe2\x89");
     show(b"\xf0\xa3\x8e");
+}
+
+// Sequences that another character cuts, and a tail too many.
+fn broken_into() {
     show(b"\xc2\x41");
     show(b"\xe2\x89\x41");
     show(b"\xe2\x89\xc2\xa2");
@@ -74,8 +90,12 @@ fn tails() {
 
 fn main() {
     section_7();
-    lengths();
+    twos();
+    threes();
+    fours();
     halves();
     firsts();
-    tails();
+    longer();
+    cut();
+    broken_into();
 }
