@@ -21,19 +21,19 @@ unfolding NoLoop LeadsBack
 not-behind s A x t e h = no-loop s A x (t, e, h)
 
 -- ---- What reaches an unknown
-leaf-reaches : (s : Subst) (p : Leaf) (z : ℕ) → ¬ Reaches s (leaf p) (Var z)
+pub leaf-reaches : (s : Subst) (p : Leaf) (z : ℕ) → ¬ Reaches s (leaf p) (Var z)
 leaf-reaches s p z = elim [ ]
 
 pub error-reaches : (s : Subst) (z : ℕ) → ¬ Reaches s Error (Var z)
 error-reaches s z = elim [ ]
 
-node-reaches : (s : Subst) (k : Kind) (r : Row) (z : ℕ) → Reaches s (node k r) (Var z) → ReachesRow s r (Var z)
+pub node-reaches : (s : Subst) (k : Kind) (r : Row) (z : ℕ) → Reaches s (node k r) (Var z) → ReachesRow s r (Var z)
 node-reaches s k r z (inside h) = h
 
-nil-reaches : (s : Subst) (z : ℕ) → ¬ ReachesRow s ε (Var z)
+pub nil-reaches : (s : Subst) (z : ℕ) → ¬ ReachesRow s ε (Var z)
 nil-reaches s z = elim [ ]
 
-cell-reaches : (s : Subst) (k l : ℕ) (t : Ty) (r : Row) (z : ℕ) → ReachesRow s (cell k l t r) (Var z) → Reaches s t (Var z) ⊎ ReachesRow s r (Var z)
+pub cell-reaches : (s : Subst) (k l : ℕ) (t : Ty) (r : Row) (z : ℕ) → ReachesRow s (cell k l t r) (Var z) → Reaches s t (Var z) ⊎ ReachesRow s r (Var z)
 cell-reaches s k l t r z (first h) = inl h
 cell-reaches s k l t r z (later h) = inr h
 
