@@ -73,7 +73,7 @@ kept-bindVar d st x t = go (occurs d (st .subst) x (st .left) t) refl (occurs-fe
     go spent e f = rw (e, bindVar) (kept-left st zero (omega arith))
 
 module _ (u : State → Ty → Ty → Unified) (rec : (st : State) (a b : Ty) → After (Kept st) (u st a b)) where
-  kept-field : (st : State) (k : ℕ) (x : Ty) (o : Option (ℕ × Ty)) → After (Kept st) (unifyField u st k x o)
+  pub kept-field : (st : State) (k : ℕ) (x : Ty) (o : Option (ℕ × Ty)) → After (Kept st) (unifyField u st k x o)
   unfolding unifyField
   kept-field st k x none = kept-refl st
   kept-field st k x (some y) = rec st x (y .1)
@@ -92,7 +92,7 @@ module _ (u : State → Ty → Ty → Unified) (rec : (st : State) (a b : Ty) �
       go true q = rw (q, unifyRecord) (kept-fields st xs ys)
       go false q = rw (q, unifyRecord) (kept-refl st)
 
-  kept-alternative : (st : State) (differ : UnionDiff → TyError) (k : ℕ) (o o′ : Option (ℕ × Ty)) → After (Kept st) (unifyAlternative u st differ k o o′)
+  pub kept-alternative : (st : State) (differ : UnionDiff → TyError) (k : ℕ) (o o′ : Option (ℕ × Ty)) → After (Kept st) (unifyAlternative u st differ k o o′)
   unfolding unifyAlternative
   kept-alternative st differ k none none = kept-refl st
   kept-alternative st differ k none (some y) = kept-refl st
