@@ -35,14 +35,14 @@ unannotate-append [] b ts = refl
 unannotate-append (Binding x prev ∷ a) b ts = unannotate-append a b ts
 unannotate-append (Annotation n prev ∷ a) b ts = unannotate-append a b (set ts n prev)
 
-unbind-length : (us : List Undo) (s : Subst) → length (unbind us s) ≡ length s
+pub unbind-length : (us : List Undo) (s : Subst) → length (unbind us s) ≡ length s
 unfolding unbind
 unbind-length [] s = refl
 unbind-length (Binding x prev ∷ us) s = unbind-length us (set s x prev) ∙ length-set s x prev
 unbind-length (Annotation n prev ∷ us) s = unbind-length us s
 
 -- ---- What `rewind` does to each part of the state
-rewind-subst : (k : ℕ) (us : List Undo) (st : State) → rewind k us st .subst ≡ unbind (take k us) (st .subst)
+pub rewind-subst : (k : ℕ) (us : List Undo) (st : State) → rewind k us st .subst ≡ unbind (take k us) (st .subst)
 unfolding rewind unbind revert
 rewind-subst zero us st = refl
 rewind-subst (suc k) [] st = refl
