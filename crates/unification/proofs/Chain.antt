@@ -188,6 +188,10 @@ follow-settled (suc k) (suc j) s (Var x) le h = go (bound s x) refl (λ t. follo
 unfoldable pub Solved : Subst → Ty → Type 0
 Solved s t = (x : ℕ) → Reaches s t (Var x) → bound s x ≡ none
 
+pub zonk-none : (s : Subst) (t : Ty) → zonkIn zero s t ≡ t
+unfolding zonkIn
+zonk-none s t = refl
+
 pub zonk-free : (k : ℕ) (s : Subst) (x : ℕ) → bound s x ≡ none → zonkIn k s (Var x) ≡ Var x
 unfolding zonkIn app
 zonk-free zero s x e = refl
@@ -233,7 +237,7 @@ mutual
   appRow-ext s f g (cell k l t r) h = rw (app-ext s f g t (λ x i. h x (first i)), appRow-ext s f g r (λ x i. h x (later i)))
 
 -- `zonk` at an unknown, by its binding.
-zonk-var : (k : ℕ) (s : Subst) (x : ℕ) (Q : Ty → Type 0) → (bound s x ≡ none → Q (Var x)) → ((t : Ty) → bound s x ≡ some t → Q (zonkIn k s t)) → Q (zonkIn (suc k) s (Var x))
+pub zonk-var : (k : ℕ) (s : Subst) (x : ℕ) (Q : Ty → Type 0) → (bound s x ≡ none → Q (Var x)) → ((t : Ty) → bound s x ≡ some t → Q (zonkIn k s t)) → Q (zonkIn (suc k) s (Var x))
 zonk-var k s x Q f g = go (bound s x) refl
   where
     go : (o : Option Ty) → bound s x ≡ o → Q (zonkIn (suc k) s (Var x))

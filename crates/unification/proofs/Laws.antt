@@ -1,13 +1,13 @@
 -- Sentences of document 01, modules 2 and 3, that demand 3's proviso leaves out, and the visits of small unifications: a
 -- definition that differs in one of them is refused here.
-use mathlib.Core.List.{List, [], _∷_, _++_}
-use mathlib.Core.Option.{Option, none, some}
+use mathlib.Core.List.{[], _∷_, _++_}
+use mathlib.Core.Option.{none, some}
 use mathlib.Core.Path.{_≡_, refl, sym, _∙_, ap}
-use Prim.Native.Nat.{ℕ, zero, suc, _-_}
+use Prim.Native.Nat.{ℕ, suc, _-_}
 use native.Mathlib.Omega.{arith}
 use lib.ListN.{length, set, take}
-use Rattle.unification.specs.Ty.{Leaf, Int, String, Kind, Record, Union, Ty, leaf, node, Var, Error, Row, ε, cell}
-use Rattle.unification.specs.Bindings.{Subst, bound, follow, repr, zonk, start, Undo, State, withLeft, withHistory, freshId, fresh, setVar, annotate, Snapshot, snapshot, rewind, rollback}
+use Rattle.unification.specs.Ty.{Int, String, Record, Union, Ty, leaf, node, Var, Error, ε, cell}
+use Rattle.unification.specs.Bindings.{Subst, bound, zonk, start, State, withLeft, withHistory, freshId, fresh, setVar, annotate, Snapshot, snapshot, rollback}
 use Rattle.unification.specs.Unify.{Absent, Renamed, Payload, TyError, Mismatch, UnionMismatch, UnknownField, Infinite, Unified, Ok, Err, Spent, unifyHeads, note, unifyIn, unify}
 use Rattle.unification.proofs.Chain.{Resolved, repr-resolved-is}
 use Rattle.unification.proofs.Undo.{rewind-subst, unbind-length}
@@ -108,6 +108,18 @@ two k t k′ t′ = node Record (cell k 0 t (cell k′ 0 t′ ε))
 
 abbrev alternatives : ℕ → ℕ → Ty → ℕ → ℕ → Ty → Ty
 alternatives name k t name′ k′ t′ = node Union (cell k name t (cell k′ name′ t′ ε))
+
+unknown-takes-error : try (none ∷ []) 9 (Var 0) Error ≡ succeeds (some Error ∷ []) 8
+unfolding try
+unknown-takes-error = refl
+
+error-given-unknown : try (none ∷ []) 9 Error (Var 0) ≡ succeeds (some Error ∷ []) 8
+unfolding try
+error-given-unknown = refl
+
+int-beside-error : try (none ∷ []) 9 int Error ≡ succeeds (none ∷ []) 8
+unfolding try
+int-beside-error = refl
 
 -- Names are sought from the found side alone.
 repeated-name-found : try [] 9 (two 1 int 1 int) (two 1 int 2 string) ≡ succeeds [] 6

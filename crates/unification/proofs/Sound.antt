@@ -4,16 +4,16 @@
 use mathlib.Core.Bool.{Bool, true, false}
 use mathlib.Core.Logic.{_↔_}
 use mathlib.Core.Option.{none, some}
-use mathlib.Core.Path.{_≡_, refl, sym, subst}
+use mathlib.Core.Path.{_≡_, refl, subst}
 use Prim.Native.Nat.{ℕ, zero, suc, _<_}
 use native.Mathlib.Decide.{ℕ-discrete}
 use lib.Dec.{eqb}
 use lib.ListN.{length, length-set}
-use Rattle.unification.specs.Ty.{Leaf, Leaf-discrete, Ty, leaf, node, Var, Error, app, appRow}
+use Rattle.unification.specs.Ty.{Leaf-discrete, Ty, leaf, node, Var, Error, app}
 use Rattle.unification.specs.Order.{Same}
 use Rattle.unification.specs.Bindings.{Subst, bound, repr, Answer, yes-left, no-left, spent, occurs, History, ended, State, withLeft, setVar}
 use Rattle.unification.specs.Unify.{Unified, Ok, Err, Spent, bindVar, unifyNodes, unifyHeads, note, unifyIn, unify}
-use Rattle.unification.specs.Calls.{Side, Reaches, itself, Admitted, Respects, live, EntryClaim, BindingsClaim, NoLoop}
+use Rattle.unification.specs.Calls.{Side, Reaches, itself, Admitted, Respects, live, EntryClaim, BindingsClaim}
 use Rattle.unification.proofs.Tests.{clash, eqb-true, eqb-false}
 use Rattle.unification.proofs.Order.{same-refl, same-sym, same-both}
 use Rattle.unification.proofs.Reach.{admitted-bind, admitted-follow}
@@ -23,7 +23,7 @@ use Rattle.unification.proofs.Respects.{respects-bind, repr-same}
 use Rattle.unification.proofs.Occurs.{occurs-never, occurs-no}
 use Rattle.unification.proofs.Sides.{Wf, side-follow, wf-bind}
 use Rattle.unification.proofs.Kept.{heads-in, unifyIn-spent, unifyIn-visit}
-use Rattle.unification.proofs.Post.{Any, Known, Step, Done, Failed, Stopped, Closing, Post, Inside, step-refl, stay, stop, under, loosen, Entry, nodes-post}
+use Rattle.unification.proofs.Post.{Any, Known, Step, Closing, Post, Inside, step-refl, stay, stop, under, loosen, Entry, nodes-post}
 
 -- ---- Binding
 setVar-step : (st : State) (x : ℕ) (t : Ty) → Wf (st .subst) → x < length (st .subst) → Side (length (st .subst)) t → ¬ Reaches (st .subst) t (Var x) → Step (st .subst) (st .history) (setVar st x t)
