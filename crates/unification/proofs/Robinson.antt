@@ -3,7 +3,7 @@
 use mathlib.Core.List.{List, [], _∷_}
 use mathlib.Core.Logic.{_↔_}
 use mathlib.Core.Option.{Option, none, some}
-use mathlib.Core.Path.{_≡_, refl, sym, _∙_, ap}
+use mathlib.Core.Path.{_≡_, refl, sym, _∙_}
 use Prim.Native.Nat.{ℕ, zero, suc, _+_}
 use native.Mathlib.Nat.{zero-add, add-zero}
 use native.Mathlib.Omega.{arith}
@@ -16,9 +16,9 @@ use Rattle.unification.specs.Unify.{Unified, Ok, Err, Spent, unify}
 use Rattle.unification.specs.Calls.{Side, Admitted, Respects, Machine, Calls}
 use Rattle.unification.specs.Tie.{equationsFrom, equations, solution, Together, AsRobinson, Ends, Succeeds}
 use Rattle.unification.proofs.Tests.{clash}
-use Rattle.unification.proofs.Order.{same-refl, same-trans, same-app, app-same, app-app, app-id}
+use Rattle.unification.proofs.Order.{same-refl, same-trans, same-app, app-same, app-app}
 use Rattle.unification.proofs.Acyclic.{Acyclic}
-use Rattle.unification.proofs.Chain.{Solved, zonk-free, zonk-bound, zonk-none, zonk-app, zonk-var, app-ext, zonk-solved}
+use Rattle.unification.proofs.Zonk.{zonk-none, zonk-bound, zonk-app, zonk-var, zonk-more, zonk-is}
 use Rattle.unification.proofs.Post.{Post}
 use Rattle.unification.proofs.Sound.{unify-post}
 use Rattle.unification.proofs.Demand3.{calls-inv}
@@ -54,38 +54,10 @@ module _ (θ : Substitution) where
       (λ u x t e. rw (zero-add x) at (to-respects zero s u x t e), λ R. from-respects zero s (λ y t e. rw (zero-add y) (R y t e)))
 
 -- ---- Resolving
-zonk-one : (s : Subst) (T : Ty) → Solved s T → zonkIn 1 s T ≡ T
-unfolding Solved
-zonk-one s T h = zonk-app 0 s T ∙ app-ext s (λ y. zonkIn 1 s (Var y)) (λ y. Var y) T (λ y i. zonk-free 1 s y (h y i)) ∙ app-id T
-
--- One step more may as well be made last.
-zonk-last : (k : ℕ) (s : Subst) (t : Ty) → zonkIn (suc k) s t ≡ zonkIn 1 s (zonkIn k s t)
-zonk-last zero s t = ap (zonkIn 1 s) (sym (zonk-none s t))
-zonk-last (suc k) s t =
-    zonk-app (suc k) s t
-    ∙ app-ext s _ (λ y. app (λ z. zonkIn 1 s (Var z)) (zonkIn (suc k) s (Var y))) t (λ y i. each y (λ u. zonk-last k s u) ∙ zonk-app 0 s (zonkIn (suc k) s (Var y)))
-    ∙ sym (zonk-app 0 s (zonkIn (suc k) s t) ∙ ap (app (λ z. zonkIn 1 s (Var z))) (zonk-app k s t) ∙ app-app (λ y. zonkIn (suc k) s (Var y)) (λ z. zonkIn 1 s (Var z)) t)
-  where
-    each : (y : ℕ) → ((u : Ty) → zonkIn (suc k) s u ≡ zonkIn 1 s (zonkIn k s u)) → zonkIn (suc (suc k)) s (Var y) ≡ zonkIn 1 s (zonkIn (suc k) s (Var y))
-    each y ih = go (bound s y) refl
-      where
-        go : (o : Option Ty) → bound s y ≡ o → zonkIn (suc (suc k)) s (Var y) ≡ zonkIn 1 s (zonkIn (suc k) s (Var y))
-        go none e = zonk-free (suc (suc k)) s y e ∙ sym (ap (zonkIn 1 s) (zonk-free (suc k) s y e) ∙ zonk-free 1 s y e)
-        go (some u) e = zonk-bound (suc k) s y u e ∙ ih u ∙ sym (ap (zonkIn 1 s) (zonk-bound k s y u e))
-
--- A resolved type has nothing left to resolve.
-zonk-more : (s : Subst) → Acyclic s → (t : Ty) → zonkIn (suc (length s)) s t ≡ zonk s t
-unfolding zonk
-zonk-more s A t = zonk-last (length s) s t ∙ zonk-one s (zonk s t) (zonk-solved s A t)
-
-pub zonk-app-solution : (s : Subst) → Acyclic s → (t : Ty) → zonk s t ≡ app (solution s) t
-unfolding solution
-zonk-app-solution s A t = sym (zonk-more s A t) ∙ zonk-app (length s) s t ∙ app-ext s _ (solution s) t (λ y i. zonk-more s A (Var y))
-
 pub solution-respects : (s : Subst) → Acyclic s → Respects (solution s) s
 unfolding Respects solution zonk
 solution-respects s A x t e =
-    let q : zonk s (Var x) ≡ app (solution s) t = sym (zonk-more s A (Var x)) ∙ zonk-bound (length s) s x t e ∙ zonk-app-solution s A t in
+    let q : zonk s (Var x) ≡ app (solution s) t = sym (zonk-more s A (Var x)) ∙ zonk-bound (length s) s x t e ∙ zonk-is s A t in
     rw q (same-refl (app (solution s) t))
 
 -- What respects the bindings does not notice resolving.
