@@ -1,18 +1,24 @@
 -- Sentences of document 01, modules 2 and 3, that demand 3's proviso leaves out, and the visits of small unifications: a
--- definition that differs in one of them is refused here.
+-- definition that differs in one of them is refused here. And a list of calls of which demand 3 says something.
 use mathlib.Core.List.{[], _∷_, _++_}
+use mathlib.Core.Bool.{true}
+use mathlib.Core.Logic.{_↔_}
 use mathlib.Core.Option.{none, some}
 use mathlib.Core.Path.{_≡_, refl, sym, _∙_, ap}
 use Prim.Native.Nat.{ℕ, suc, _-_}
 use native.Mathlib.Omega.{arith}
 use lib.ListN.{length, set, take}
-use Rattle.unification.specs.Ty.{Int, String, Record, Union, Ty, leaf, node, Var, Error, ε, cell}
-use Rattle.unification.specs.Bindings.{Subst, bound, zonk, start, State, withLeft, withHistory, freshId, fresh, setVar, annotate, Snapshot, snapshot, rollback}
+use Rattle.unification.specs.Ty.{Int, String, Record, Union, Ty, leaf, node, Var, Error, ε, cell, app}
+use Rattle.unification.specs.Bindings.{Subst, bound, zonk, start, ended, State, withLeft, withHistory, freshId, fresh, setVar, annotate, Snapshot, snapshot, rollback}
 use Rattle.unification.specs.Unify.{Absent, Renamed, Payload, TyError, Mismatch, UnionMismatch, UnknownField, Infinite, Unified, Ok, Err, Spent, unifyHeads, note, unifyIn, unify}
+use Rattle.unification.specs.Order.{Same}
+use Rattle.unification.specs.Calls.{itself, through, Admitted, Assignment, Respects, Machine, begin, unknown, unification, Calls, none-yet, then-call, live, BindingsClaim}
+use Rattle.unification.proofs.Tests.{clash}
 use Rattle.unification.proofs.Chain.{Resolved, repr-resolved-is}
 use Rattle.unification.proofs.Undo.{rewind-subst, unbind-length}
 use Rattle.unification.proofs.Kept.{heads-in, unifyIn-visit}
 use Rattle.unification.proofs.Depth.{unify-depth}
+use Rattle.unification.proofs.Demand3.{demand-3}
 
 -- What is seen of an end: the error, the bindings, the visits left.
 pub data Seen : Type 0 where
@@ -218,3 +224,30 @@ rollback-annotation = refl
 zonks-every-depth : zonk (some (one 1 (Var 1)) ∷ some (Var 2) ∷ none ∷ []) (two 1 (Var 0) 2 int) ≡ two 1 (one 1 (Var 2)) 2 int
 unfolding zonk
 zonks-every-depth = refl
+
+-- ---- A list of calls whose sides meet the proviso
+admitted-int : (s : Subst) → Admitted s int
+unfolding Admitted
+admitted-int s u itself = tt
+
+admitted-free : (s : Subst) (x : ℕ) → bound s x ≡ none → Admitted s (Var x)
+unfolding Admitted
+admitted-free s x free u itself = tt
+admitted-free s x free u (through e h) = clash (cc)
+
+unfoldable first-unknown : Machine
+unfolding begin fresh
+first-unknown = record { state = fresh (begin 9 [] .state); taken = [] }
+
+unfoldable united : State
+unfolding first-unknown setVar withLeft
+united = withHistory (setVar (withLeft (first-unknown .state) 7) 0 int) (ended (none ∷ []) (Var 0) int true (some int ∷ []) start)
+
+calls-united : Calls 9 [] (record { state = united; taken = [] })
+unfolding united first-unknown unify fresh begin withHistory setVar withLeft
+calls-united = then-call (then-call none-yet unknown) (unification {m = first-unknown} (Var 0) int (omega arith) tt refl)
+
+-- So demand 3 says of it that exactly the assignments of Int to the unknown respect the bindings.
+united-means : (σ : ℕ → Ty) → Assignment σ → Respects σ (united .subst) ↔ (Same (σ 0) int × Unit {0})
+unfolding BindingsClaim live united app withHistory setVar withLeft first-unknown fresh begin
+united-means σ a = demand-3 9 [] _ calls-united .between-calls .bindings (admitted-free (none ∷ []) 0 refl, admitted-int (none ∷ []), tt) σ a
