@@ -9,7 +9,7 @@ use Rattle.unification.specs.Ty.{Leaf, Kind, Ty, Row}
 use Rattle.unification.specs.Bindings as Bindings
 use Rattle.unification.specs.Bindings.{Answer, State, Snapshot, History}
 use Rattle.unification.specs.Unify as Unify
-use Rattle.unification.specs.Unify.{TyError, Unified, findKey}
+use Rattle.unification.specs.Unify.{TyError, Unified, findKey, findLabel}
 use Rattle.meaning.specs.Syntax.{Span, Field, QueryStmt, Query, FieldRef, Literal, ExprKind, Node, Ast, nodeAt, isDestructurable}
 use Rattle.meaning.specs.Schema.{Predicate, Schema, get, fieldOf}
 use Rattle.meaning.specs.Diag.{Code, Diagnostic}
@@ -173,6 +173,17 @@ formOf (ExprKind.Fact p e) = Form.another
 formOf (ExprKind.Arith es) = Form.another
 formOf (ExprKind.Select x e) = Form.another
 
+-- The code under which `report` reports
+unfoldable pub codeOf : TyError → Code
+codeOf (TyError.Mismatch expected got) = Code.RejectTypeMismatch
+codeOf (TyError.UnionMismatch diff expected got) = Code.RejectTypeMismatch
+codeOf (TyError.UnknownField name) = Code.RejectUnknownField
+codeOf TyError.Infinite = Code.RejectInfiniteType
+
+unfoldable pub isSome : {A : Type 0} → Option A → Bool
+isSome none = false
+isSome (some a) = true
+
 -- The three ways to visit a node.
 pub record Walk : Type 0 where
   pub infer : ℕ → Does Ty
@@ -207,12 +218,6 @@ module _ (schema : Schema) (nodes : List Node) where
     return Ty.Error
 
   -- `report`
-  unfoldable pub codeOf : TyError → Code
-  codeOf (TyError.Mismatch expected got) = Code.RejectTypeMismatch
-  codeOf (TyError.UnionMismatch diff expected got) = Code.RejectTypeMismatch
-  codeOf (TyError.UnknownField name) = Code.RejectUnknownField
-  codeOf TyError.Infinite = Code.RejectInfiniteType
-
   unfoldable pub report : ℕ → TyError → Does (Unit {0})
   unfolding reject codeOf
   report node err = reject node (codeOf err)
@@ -239,10 +244,6 @@ module _ (schema : Schema) (nodes : List Node) where
   unfolding get
   valueTy p = elim (get schema p) [ none ↦ none | some d ↦ d .value ]
 
-  isSome : {A : Type 0} → Option A → Bool
-  isSome none = false
-  isSome (some a) = true
-
   -- `key_shadows_value`: a key field called `value`
   unfoldable pub keyShadowsValue : ℕ → Bool
   unfolding keyTy fieldOf isSome
@@ -250,11 +251,6 @@ module _ (schema : Schema) (nodes : List Node) where
     | none ↦ false
     | some key ↦ elim (schema .valueField) [ none ↦ false | some value ↦ isSome (fieldOf key value) ]
   ]
-
-  -- The first alternative of this name: its payload.
-  unfoldable pub alternative : Row → ℕ → Option Ty
-  alternative Row.ε name = none
-  alternative (Row.cell disc alt payload r) name = elim (eqb alt name) [ true ↦ some payload | false ↦ alternative r name ]
 
   -- ---- `access`, on the resolved base
 
@@ -290,9 +286,9 @@ module _ (schema : Schema) (nodes : List Node) where
 
   -- The `Select` arm of `infer`, on the resolved base
   unfoldable pub selectOf : ℕ → ℕ → Ty → Does Ty
-  unfolding alternative rejectTy unresolved
+  unfolding findLabel rejectTy unresolved
   selectOf id name Ty.Error = return Ty.Error
-  selectOf id name (Ty.node Kind.Union r) = elim (alternative r name) [ some payload ↦ return payload | none ↦ rejectTy id Code.RejectUnknownAlternative ]
+  selectOf id name (Ty.node Kind.Union r) = elim (findLabel name r) [ some payload ↦ return payload | none ↦ rejectTy id Code.RejectUnknownAlternative ]
   selectOf id name (Ty.node Kind.Record r) = rejectTy id Code.RejectNotAUnion
   selectOf id name (Ty.leaf p) = rejectTy id Code.RejectNotAUnion
   selectOf id name (Ty.Var x) = unresolved id
@@ -571,8 +567,8 @@ module _ (schema : Schema) (nodes : List Node) where
 
   -- `{alt = p}` against a union is that alternative.
   unfoldable pub checkAlternative : Walk → ℕ → Field → Row → Does (Unit {0})
-  unfolding alternative annotate reject andThen
-  checkAlternative below id f row = elim (alternative row (f .name)) [
+  unfolding findLabel annotate reject andThen
+  checkAlternative below id f row = elim (findLabel (f .name) row) [
     | some payload ↦ do
       below .check (f .value) payload
       annotate id (Ty.node Kind.Union row)

@@ -1,7 +1,6 @@
 pub mod Syntax
 pub mod Schema
 pub mod Diag
-pub mod Check
 pub mod Refusal
 pub mod Lines
 pub mod Frame
@@ -14,3 +13,7 @@ pub mod Refused
 pub mod Writing
 pub mod Sound
 pub mod Content
+pub mod Check
+pub mod Answer
+pub mod Outcome
+pub mod Table

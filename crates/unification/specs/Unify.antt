@@ -53,6 +53,11 @@ unfoldable pub findKey : ℕ → Row → Option (ℕ × Ty)
 findKey k ε = none
 findKey k (cell m l t r) = elim (eqb k m) [ true ↦ some (l, t) | false ↦ findKey k r ]
 
+-- The first cell with this label: its type. (In a union the label is the alternative's name.)
+unfoldable pub findLabel : ℕ → Row → Option Ty
+findLabel n ε = none
+findLabel n (cell k l t r) = elim (eqb n l) [ true ↦ some t | false ↦ findLabel n r ]
+
 -- Each name of the found side is sought in the expected; `u` is `unify` one level down.
 unfoldable pub unifyField : (State → Ty → Ty → Unified) → State → ℕ → Ty → Option (ℕ × Ty) → Unified
 unifyField u st k x none = Err (UnknownField k) st

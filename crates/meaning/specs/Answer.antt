@@ -1,0 +1,85 @@
+-- The bytes of the answer (document 01, "Frame lines", "The answer"): for each node a line 07, for each diagnostic a line
+-- 08, in lower-case hexadecimal, each closed by LF.
+use mathlib.Core.Bool.{Bool, true, false}
+use mathlib.Core.List.{List, [], _∷_, _++_}
+use mathlib.Core.Option.{Option, none, some}
+use Prim.Native.Nat.{ℕ, suc, _+_, _*_, _/_, _%_}
+use lib.Dec.{ltb}
+use Rattle.unification.specs.Ty.{Leaf, Kind, Ty, Row, rowLen}
+use Rattle.meaning.specs.Syntax.{Span}
+use Rattle.meaning.specs.Diag.{Code, Diagnostic, ascii, asStr}
+use Rattle.meaning.specs.Check.{Typed}
+
+-- Big-endian numbers.
+unfoldable pub bytes₂ : ℕ → List ℕ
+bytes₂ n = n / 0x100 % 0x100 ∷ n % 0x100 ∷ []
+
+unfoldable pub bytes₄ : ℕ → List ℕ
+unfolding bytes₂
+bytes₄ n = bytes₂ (n / 0x1_0000) ++ bytes₂ n
+
+-- A type is written as a schema type is, but a record and a union have a count after the shape byte, and inner types
+-- stand in place of references. In a record a cell's key is its name; in a union the key is the discriminant and the
+-- label is the name.
+unfoldable pub leafBytes : Leaf → List ℕ
+unfolding bytes₂
+leafBytes Leaf.Int = 0 ∷ []
+leafBytes Leaf.String = 1 ∷ []
+leafBytes Leaf.Bytes = 2 ∷ []
+leafBytes (Leaf.Fact p) = 3 ∷ bytes₂ p
+
+unfoldable pub kindByte : Kind → ℕ
+kindByte Kind.Record = 4
+kindByte Kind.Union = 5
+
+unfoldable pub cellHead : Kind → ℕ → ℕ → List ℕ
+unfolding bytes₂ bytes₄
+cellHead Kind.Record name label = bytes₂ name
+cellHead Kind.Union disc name = bytes₂ name ++ bytes₄ disc
+
+unfoldable mutual
+  unfolding leafBytes kindByte cellHead bytes₂ rowLen
+
+  pub tyBytes : Ty → List ℕ
+  tyBytes (Ty.leaf p) = leafBytes p
+  tyBytes (Ty.node k r) = kindByte k ∷ bytes₂ (rowLen r) ++ rowBytes r k
+  tyBytes (Ty.Var x) = 6 ∷ bytes₂ x
+  tyBytes Ty.Error = 7 ∷ []
+
+  pub rowBytes : Row → Kind → List ℕ
+  rowBytes Row.ε k = []
+  rowBytes (Row.cell key label t r) k = cellHead k key label ++ tyBytes t ++ rowBytes r k
+
+unfoldable pub slotBytes : Option Ty → List ℕ
+unfolding tyBytes
+slotBytes none = 0xff ∷ []
+slotBytes (some t) = tyBytes t
+
+-- ---- Lines
+
+unfoldable pub hexDigit : ℕ → ℕ
+hexDigit n = elim (ltb n 10) [ true ↦ 48 + n | false ↦ 87 + n ]
+
+unfoldable pub hexLine : List ℕ → List ℕ
+unfolding hexDigit
+hexLine [] = 10 ∷ []
+hexLine (b ∷ bs) = hexDigit (b / 16) ∷ hexDigit (b % 16) ∷ hexLine bs
+
+-- The nodes from number n on.
+unfoldable pub nodeLines : ℕ → List (Option Ty) → List ℕ
+unfolding hexLine bytes₂ slotBytes
+nodeLines n [] = []
+nodeLines n (slot ∷ slots) = hexLine (7 ∷ bytes₂ n ++ slotBytes slot) ++ nodeLines (suc n) slots
+
+unfoldable pub diagnosticBytes : Diagnostic → List ℕ
+unfolding bytes₄ ascii asStr
+diagnosticBytes d = 8 ∷ bytes₄ (d .span .start) ++ bytes₄ (d .span .end) ++ ascii (asStr (d .code))
+
+unfoldable pub diagnosticLines : List Diagnostic → List ℕ
+unfolding hexLine diagnosticBytes
+diagnosticLines [] = []
+diagnosticLines (d ∷ ds) = hexLine (diagnosticBytes d) ++ diagnosticLines ds
+
+unfoldable pub answerLines : Typed → List ℕ
+unfolding nodeLines diagnosticLines
+answerLines t = nodeLines 0 (t .tys) ++ diagnosticLines (t .diagnostics)

@@ -1,0 +1,356 @@
+-- Document 01's examples: M, the whole case, the list of "Contract and case", and the rows of the table of refusals that are
+-- small enough to compute. Each row is a file, the lengths of the two slices, what the program prints and, of an accepted
+-- file, its visits. proofs/Table.antt computes them all.
+use mathlib.Core.Bool.{Bool, true, false}
+use mathlib.Core.List.{List, [], _∷_, _++_}
+use Prim.Native.Nat.{ℕ}
+use Prim.Native.String.{String}
+use lib.Dec.{eqb}
+use Rattle.text.specs.Utf8.{both}
+use Rattle.meaning.specs.Diag.{ascii}
+use Rattle.meaning.specs.Conditions.{sameText}
+use Rattle.meaning.specs.File.{Reading, refused, described, reading}
+use Rattle.meaning.specs.Check.{Checked, typed, exhausted, check}
+use Rattle.meaning.specs.Outcome.{decide, printedLines, maxVisits}
+
+pub record Example : Type 0 where
+  pub file : List ℕ
+  pub words : ℕ
+  pub bytes : ℕ
+  pub prints : List ℕ
+  pub visits : ℕ
+
+-- Each line closed by LF.
+unfoldable pub text : List String → List ℕ
+unfolding ascii
+text [] = []
+text (l ∷ ls) = ascii l ++ 10 ∷ text ls
+
+unfoldable pub accepted : List String → List String → ℕ → Example
+unfolding text
+accepted file prints visits = record { file = text file; words = 16384; bytes = 65536; prints = text prints; visits = visits }
+
+unfoldable pub turnedDown : List ℕ → ℕ → ℕ → String → Example
+unfolding text
+turnedDown file words bytes number = record { file = file; words = words; bytes = bytes; prints = text (number ∷ []); visits = 0 }
+
+unfoldable pub M : List String
+M = "01020020" ∷ "05000000000000000300" ∷ "060000" ∷ []
+
+unfoldable pub examples : List Example
+unfolding accepted M
+examples =
+    -- M
+    accepted M
+    (
+    "07000000" ∷
+    [])
+    0 ∷
+    -- the whole case
+    accepted (
+    "01020020" ∷
+    "0278" ∷
+    "0266" ∷
+    "050000000000000001030000" ∷
+    "05000000090000000a030000" ∷
+    "05000000040000000b0800010001" ∷
+    "050000000f00000010030000" ∷
+    "0600030000000002" ∷
+    [])
+    (
+    "070000060000" ∷
+    "070001060000" ∷
+    "0700020400010001060000" ∷
+    "070003060000" ∷
+    "08000000040000000b72656a6563742f696e66696e6974652d74797065" ∷
+    [])
+    3 ∷
+    -- Error against Var: x = error, head x: the unknown becomes Error.
+    accepted (
+    "01020020" ∷
+    "0278" ∷
+    "050000000000000001030000" ∷
+    "0500000002000000030f" ∷
+    "050000000400000005030000" ∷
+    "0600020000000001" ∷
+    [])
+    (
+    "07000007" ∷
+    "07000107" ∷
+    "07000207" ∷
+    [])
+    1 ∷
+    -- {a, b} against {b, a}: x = {a = 1, b = ""}; x = {b = "", a = 1}, head x.
+    accepted (
+    "01020020" ∷
+    "0278" ∷
+    "0261" ∷
+    "0262" ∷
+    "050000000000000001030000" ∷
+    "05000000020000000300" ∷
+    "05000000040000000501" ∷
+    "050000000600000007080001000100020002" ∷
+    "050000000800000009030000" ∷
+    "050000000a0000000b01" ∷
+    "050000000c0000000d00" ∷
+    "050000000e0000000f080002000500010006" ∷
+    "050000001000000011030000" ∷
+    "06000800000000030000040007" ∷
+    [])
+    (
+    "070000040002000100000201" ∷
+    "07000100" ∷
+    "07000201" ∷
+    "070003040002000100000201" ∷
+    "070004040002000100000201" ∷
+    "07000501" ∷
+    "07000600" ∷
+    "070007040002000201000100" ∷
+    "070008040002000100000201" ∷
+    [])
+    7 ∷
+    -- {a, a} of Int against {a = Int, b = String}: x = {a = 1, b = ""}; x = {a = 1, a = 1}: the found side has a twice.
+    accepted (
+    "01020020" ∷
+    "0278" ∷
+    "0261" ∷
+    "0262" ∷
+    "050000000000000001030000" ∷
+    "05000000020000000300" ∷
+    "05000000040000000501" ∷
+    "050000000600000007080001000100020002" ∷
+    "050000000800000009030000" ∷
+    "050000000a0000000b00" ∷
+    "050000000c0000000d00" ∷
+    "050000000e0000000f080001000500010006" ∷
+    "050000001000000011030000" ∷
+    "06000800000000030000040007" ∷
+    [])
+    (
+    "070000040002000100000201" ∷
+    "07000100" ∷
+    "07000201" ∷
+    "070003040002000100000201" ∷
+    "070004040002000100000201" ∷
+    "07000500" ∷
+    "07000600" ∷
+    "070007040002000100000100" ∷
+    "070008040002000100000201" ∷
+    [])
+    7 ∷
+    -- {a = Int, b = String} against {a, a} of Int: x = {a = 1, a = 1}; x = {a = 1, b = ""}: b is sought in {a, a}.
+    accepted (
+    "01020020" ∷
+    "0278" ∷
+    "0261" ∷
+    "0262" ∷
+    "050000000000000001030000" ∷
+    "05000000020000000300" ∷
+    "05000000040000000500" ∷
+    "050000000600000007080001000100010002" ∷
+    "050000000800000009030000" ∷
+    "050000000a0000000b00" ∷
+    "050000000c0000000d01" ∷
+    "050000000e0000000f080001000500020006" ∷
+    "050000001000000011030000" ∷
+    "06000800000000030000040007" ∷
+    [])
+    (
+    "070000040002000100000100" ∷
+    "07000100" ∷
+    "07000200" ∷
+    "070003040002000100000100" ∷
+    "070004040002000100000100" ∷
+    "07000500" ∷
+    "07000601" ∷
+    "070007040002000100000201" ∷
+    "070008040002000100000100" ∷
+    "080000000e0000000f72656a6563742f756e6b6e6f776e2d6669656c64" ∷
+    [])
+    6 ∷
+    -- union arity 0: p {} where p's key is the union {a : Int = 0}.
+    accepted (
+    "01020020" ∷
+    "0270" ∷
+    "0261" ∷
+    "0300" ∷
+    "03050001000000000000" ∷
+    "040000000100" ∷
+    "05000000000000000108" ∷
+    "0500000002000000030d00000000" ∷
+    "05000000040000000500" ∷
+    "060002010001" ∷
+    [])
+    (
+    "070000ff" ∷
+    "070001030000" ∷
+    "07000200" ∷
+    "08000000000000000172656a6563742f756e696f6e2d6172697479" ∷
+    [])
+    0 ∷
+    -- union arity 2: p {a = 1, a = 1} over the same schema.
+    accepted (
+    "01020020" ∷
+    "0270" ∷
+    "0261" ∷
+    "0300" ∷
+    "03050001000000000000" ∷
+    "040000000100" ∷
+    "05000000000000000100" ∷
+    "05000000020000000300" ∷
+    "050000000400000005080001000000010001" ∷
+    "0500000006000000070d00000002" ∷
+    "05000000080000000900" ∷
+    "060004010003" ∷
+    [])
+    (
+    "070000ff" ∷
+    "070001ff" ∷
+    "070002ff" ∷
+    "070003030000" ∷
+    "07000400" ∷
+    "08000000040000000572656a6563742f756e696f6e2d6172697479" ∷
+    [])
+    0 ∷
+    -- two facts compared: p _ < p _ where p's key is Int.
+    accepted (
+    "01020020" ∷
+    "0270" ∷
+    "0300" ∷
+    "040000000000" ∷
+    "05000000000000000104" ∷
+    "0500000002000000030d00000000" ∷
+    "05000000040000000504" ∷
+    "0500000006000000070d00000002" ∷
+    "05000000080000000900" ∷
+    "0600040400010003" ∷
+    [])
+    (
+    "07000000" ∷
+    "070001030000" ∷
+    "07000200" ∷
+    "070003030000" ∷
+    "07000400" ∷
+    "08000000020000000372656a6563742f747970652d6d69736d61746368" ∷
+    [])
+    2 ∷
+    -- the empty record compared: {} < {}.
+    accepted (
+    "01020020" ∷
+    "05000000000000000108" ∷
+    "05000000020000000308" ∷
+    "05000000040000000500" ∷
+    "0600020400000001" ∷
+    [])
+    (
+    "070000040000" ∷
+    "070001040000" ∷
+    "07000200" ∷
+    [])
+    2 ∷
+    -- a rollback past a new unknown: p {f = {g = y}} where p's key is {f : Int}; head y, which gets unknown 1.
+    accepted (
+    "01020020" ∷
+    "0270" ∷
+    "0266" ∷
+    "0267" ∷
+    "0279" ∷
+    "0300" ∷
+    "030400010000" ∷
+    "040000000100" ∷
+    "050000000000000001030003" ∷
+    "0500000002000000030800020000" ∷
+    "0500000004000000050800010001" ∷
+    "0500000006000000070d00000002" ∷
+    "050000000800000009030003" ∷
+    "060004010003" ∷
+    [])
+    (
+    "070000ff" ∷
+    "070001ff" ∷
+    "070002040001000100" ∷
+    "070003030000" ∷
+    "070004060001" ∷
+    "08000000020000000372656a6563742f747970652d6d69736d61746368" ∷
+    [])
+    1 ∷
+    -- key access on an absent predicate: (absent 7 _).f, and its key node is not visited.
+    accepted (
+    "01020020" ∷
+    "0266" ∷
+    "05000000000000000104" ∷
+    "0500000002000000030d00070000" ∷
+    "0500000004000000050900000001" ∷
+    "060002" ∷
+    [])
+    (
+    "070000ff" ∷
+    "070001030007" ∷
+    "07000207" ∷
+    [])
+    0 ∷
+    -- value access on an absent predicate: (absent 7 _).value.
+    accepted (
+    "01020020" ∷
+    "05000000000000000104" ∷
+    "0500000002000000030d00070000" ∷
+    "0500000004000000050a0001" ∷
+    "060002" ∷
+    [])
+    (
+    "070000ff" ∷
+    "070001030007" ∷
+    "07000207" ∷
+    "08000000040000000572656a6563742f6e6f2d76616c7565" ∷
+    [])
+    0 ∷
+    -- fuzzy distances 0, 2 and 3 with limit 2: Three fuzzy patterns as statements, head an integer.
+    accepted (
+    "01020020" ∷
+    "0266" ∷
+    "05000000000000000107000000" ∷
+    "05000000020000000307000002" ∷
+    "05000000040000000507000003" ∷
+    "05000000060000000700" ∷
+    "060003010000010001010002" ∷
+    [])
+    (
+    "07000001" ∷
+    "07000101" ∷
+    "07000201" ∷
+    "07000300" ∷
+    "08000000000000000172656a6563742f66757a7a792d64697374616e6365" ∷
+    "08000000040000000572656a6563742f66757a7a792d64697374616e6365" ∷
+    [])
+    0 ∷
+    []
+
+unfoldable pub refusals : List Example
+unfolding turnedDown text M ascii
+refusals =
+    turnedDown (text M) 16383 65536 "0f01" ∷
+    turnedDown (ascii "0102002") 16384 65536 "0f03" ∷
+    turnedDown [] 16384 65536 "0f04" ∷
+    turnedDown (text ("0102" ∷ [])) 16384 65536 "0f06" ∷
+    turnedDown (text ("01020020" ∷ "02ff" ∷ [])) 16384 65536 "0f07" ∷
+    turnedDown (text ("01020020" ∷ "0278" ∷ "0278" ∷ [])) 16384 65536 "0f08" ∷
+    turnedDown (text ("01020020" ∷ "05000000000000000300" ∷ "060001" ∷ [])) 16384 65536 "0f09" ∷
+    turnedDown (text ("01020020" ∷ "0278" ∷ "0300" ∷ "03040000000000000000" ∷ [])) 16384 65536 "0f0a" ∷
+    turnedDown (text M) 16384 8 "0f0c" ∷
+    []
+
+-- ---- The test of a row
+
+unfoldable pub visitsOf : Reading → ℕ
+unfolding check maxVisits
+visitsOf (refused r) = 0
+visitsOf (described d) = elim (check maxVisits (d .schema) (d .ast)) [ typed t ↦ t .visits | exhausted ↦ 0 ]
+
+unfoldable pub holds : Example → Bool
+unfolding sameText decide printedLines visitsOf reading
+holds e = both (sameText (printedLines (decide (e .file) (e .words)) (e .bytes)) (e .prints)) (eqb (visitsOf (reading (e .file))) (e .visits))
+
+unfoldable pub allHold : List Example → Bool
+unfolding holds
+allHold [] = true
+allHold (e ∷ es) = both (holds e) (allHold es)
