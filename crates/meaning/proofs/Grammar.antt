@@ -9,7 +9,8 @@ use Rattle.unification.specs.Ty.{Int, String, Bytes, Fact}
 use Rattle.meaning.specs.Syntax.{Field, QueryStmt, FieldRef, Literal, ExprKind}
 use Rattle.meaning.specs.Frame.{Kind, Alternative, TypeShape, aLeaf, aRecord, aUnion, Frame, theLimits, aName, aType, aPredicate, aNode, theQuery, frameKind, got, nothing, two, many, entry, choice, field, alternative, typeShapes, valueTypes, statements, headAndBody, exprKinds, spanAndKind, rest, frame}
 use Rattle.meaning.specs.All.{All}
-use Rattle.meaning.specs.Writing.{Byte, InTwo, asTwo, asField, asAlternative, asShape, asValueType, asStatement, asQuery, asExpr, asNode, asContent, FieldFits, AlternativeFits, ShapeFits, ValueTypeFits, StatementFits, QueryFits, ExprFits, NodeFits, Fits}
+use Rattle.meaning.specs.Writing.{Byte, InTwo, asField, asAlternative, asShape, asValueType, asStatement, asQuery, asExpr, asNode, asContent, FieldFits, AlternativeFits, ShapeFits, ValueTypeFits, StatementFits, QueryFits, ExprFits, NodeFits, Fits}
+use Rattle.meaning.specs.Answer.{bytes₂}
 use Rattle.meaning.proofs.Inverse.{Took, Inverse, Anything, Nothing, one-back, one-forth, pair-back, pair-forth, triple-back, triple-forth, pair-inverse, triple-inverse, byte-inverse, two-inverse, four-inverse, many-inverse, Entries, end, _then_, choice-forth, entry-nothing, entry-one, entry-pair}
 
 field-inverse : Inverse Anything field asField FieldFits
@@ -20,8 +21,8 @@ alternative-inverse : Inverse Anything alternative asAlternative AlternativeFits
 unfolding alternative asAlternative
 alternative-inverse = triple-inverse (λ n discriminant type. record { name = n; discriminant = discriminant; type = type }) two-inverse four-inverse two-inverse asAlternative AlternativeFits (λ a. a .name) (λ a. a .discriminant) (λ a. a .type) (λ a. refl) (λ a. refl) (λ a b c. refl) (λ a h. h) (λ a b c x y z. (x, y, z))
 
-two-filled : (n : ℕ) → 0 < length (asTwo n)
-unfolding asTwo
+two-filled : (n : ℕ) → 0 < length (bytes₂ n)
+unfolding bytes₂
 two-filled n = omega arith
 
 field-filled : (f : Field) → 0 < length (asField f)
@@ -69,7 +70,7 @@ fields-inverse = many-inverse field-inverse field-filled
 alternatives-inverse : Inverse Nothing (many alternative) (flatMap asAlternative) (All AlternativeFits)
 alternatives-inverse = many-inverse alternative-inverse alternative-filled
 
-twos-inverse : Inverse Nothing (many two) (flatMap asTwo) (All InTwo)
+twos-inverse : Inverse Nothing (many two) (flatMap bytes₂) (All InTwo)
 twos-inverse = many-inverse two-inverse two-filled
 
 query-inverse : Inverse Nothing headAndBody asQuery QueryFits

@@ -12,9 +12,9 @@ use Rattle.meaning.specs.Syntax.{Query, Node}
 use Rattle.meaning.specs.Frame.{Kind, limits, name, schemaType, predicate, node, query, kindByte, repeatable, follows, mayStand, TypeShape, Frame, theLimits, aName, aType, aPredicate, aNode, theQuery, frameKind}
 use Rattle.meaning.specs.References.{shapeNames, shapeKeys, optional, nameRefs, typeRefs, keysOf}
 use Rattle.meaning.specs.SoFar.{SoFar, tyOf, add}
-use Rattle.meaning.specs.All.{All, Distinct}
+use Rattle.meaning.specs.All.{All, Distinct, Below}
 use Rattle.meaning.proofs.Obeys.{Obeys, Rules, done, next}
-use Rattle.meaning.specs.Content.{PredicateFrame, predicateFrame, TypesBefore, Below, typesFrom, predicateWith}
+use Rattle.meaning.specs.Content.{PredicateFrame, predicateFrame, TypesBefore, typesFrom, predicateWith}
 use Rattle.meaning.proofs.Tests.{cases}
 use Rattle.meaning.proofs.Lists.{length-snoc}
 use Rattle.meaning.proofs.Kept.{nothing-after}

@@ -15,10 +15,10 @@ use Rattle.meaning.specs.Frame.{Kind, limits, name, schemaType, predicat
 use Rattle.meaning.specs.References.{shapeNames, shapeKeys, optional, exprNames, exprNodes, queryNodes, nameRefs, typeRefs, nodeRefs, textsOf, keysOf}
 use Rattle.meaning.specs.SoFar.{SoFar, start, tyOf, add}
 use Rattle.meaning.specs.Conditions.{maxNames, maxTypes, maxPredicates, maxNodes}
-use Rattle.meaning.specs.All.{All, Absent, Distinct}
+use Rattle.meaning.specs.All.{All, Absent, Distinct, Below}
 use Rattle.meaning.proofs.Obeys.{Obeys, Rules, done, next}
 use Rattle.meaning.specs.Sound.{Lower, nodesNamed}
-use Rattle.meaning.specs.Content.{PredicateFrame, predicateFrame, Content, framesOf, TypesBefore, Below, Lawful, typesFrom, predicateWith}
+use Rattle.meaning.specs.Content.{PredicateFrame, predicateFrame, Content, framesOf, TypesBefore, Lawful, typesFrom, predicateWith}
 use Rattle.meaning.proofs.Lists.{all-left, distinct-left, distinct-right, distinct-across, length-snoc}
 
 pub rules-append : {so mid end : SoFar} {fs gs : List Frame} → Rules so fs mid → Rules mid gs end → Rules so (fs ++ gs) end

@@ -12,7 +12,7 @@ use Rattle.meaning.specs.References.{nameRefs, typeRefs, nodeRefs, texts
 use Rattle.meaning.specs.SoFar.{SoFar, add, start}
 use Rattle.meaning.specs.Conditions.{maxNames, maxTypes, maxPredicates, maxNodes}
 use Rattle.meaning.specs.File.{Described, describe, maxFile}
-use Rattle.meaning.specs.All.{All, Absent, Distinct}
+use Rattle.meaning.specs.All.{All, Absent, Distinct, Below}
 use Rattle.meaning.specs.Writing.{Writable, fileOf}
 
 -- one more of the kind is allowed
@@ -30,9 +30,9 @@ pub record Obeys (so : SoFar) (f : Frame) : Type 0 where
   pub room : Room so (frameKind f)
   pub text : All (λ s. (n : ℕ) × Text s n) (textsOf f)
   pub new : All (λ s. Absent s (so .names)) (textsOf f)
-  pub names : All (λ n. n < length (so .names)) (nameRefs f)
-  pub types : All (λ n. n < length (so .types)) (typeRefs f)
-  pub nodes : All (λ n. n < length (so .nodes)) (nodeRefs f)
+  pub names : Below (length (so .names)) (nameRefs f)
+  pub types : Below (length (so .types)) (typeRefs f)
+  pub nodes : Below (length (so .nodes)) (nodeRefs f)
   pub unnamed : All (λ n. Absent n (so .named)) (nodeRefs f)
   pub once : Distinct (nodeRefs f)
   pub keys : Distinct (keysOf f)

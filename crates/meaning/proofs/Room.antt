@@ -6,13 +6,14 @@ use native.Mathlib.Omega.{arith}
 use lib.ListN.{length, length-append, length-map}
 use Rattle.unification.specs.Ty.{Int, Bytes, Fact, Record, Ty, rowLen}
 use Rattle.meaning.specs.Syntax.{Field, QueryStmt, FieldRef, Literal, ExprKind, Node}
-use Rattle.meaning.specs.Lines.{Line, LF, lines, maxBytes}
+use Rattle.meaning.specs.Lines.{Line, lines, maxBytes}
 use Rattle.meaning.specs.Frame.{Alternative, TypeShape, aLeaf, aRecord, aUnion, Frame, theLimits, aName, aType, aPredicate, aNode, theQuery}
 use Rattle.meaning.specs.References.{fieldValues, stmtNodes, queryNodes, exprNodes}
 use Rattle.meaning.specs.SoFar.{SoFar, said, start, fieldRow, alternativeRow, tyOf, add}
 use Rattle.meaning.specs.File.{Described, maxFile}
 use Rattle.meaning.specs.All.{All}
-use Rattle.meaning.specs.Writing.{asTwo, asField, asAlternative, asShape, asStatement, asQuery, asExpr, asNode, asContent, written, hex, line, fileOf, Writable}
+use Rattle.meaning.specs.Writing.{asField, asAlternative, asShape, asStatement, asQuery, asExpr, asNode, asContent, written, fileOf, Writable}
+use Rattle.meaning.specs.Answer.{bytes₂, hexLine}
 use Rattle.meaning.proofs.Obeys.{Rules, done, next}
 use Rattle.meaning.specs.Refused.{Pass}
 use Rattle.meaning.specs.Sound.{typeWords, allWords, maxWords, Narrow, Roomy}
@@ -34,28 +35,24 @@ unfolding flatMap asAlternative
 alternatives-length [] = refl
 alternatives-length (a ∷ alts) = omega (arith, alternatives-length alts)
 
-twos-length : (ns : List ℕ) → length (flatMap asTwo ns) ≡ 2 * length ns
-unfolding flatMap asTwo
+twos-length : (ns : List ℕ) → length (flatMap bytes₂ ns) ≡ 2 * length ns
+unfolding flatMap bytes₂
 twos-length [] = refl
 twos-length (n ∷ ns) = omega (arith, twos-length ns)
-
-hex-length : (s : List ℕ) → length (flatMap hex s) ≡ 2 * length s
-unfolding flatMap hex
-hex-length [] = refl
-hex-length (b ∷ s) = omega (arith, hex-length s)
 
 values-length : (fs : List Field) → length (fieldValues fs) ≡ length fs
 unfolding fieldValues
 values-length fs = length-map fs (λ f. f .value)
 
 -- a line has two characters for each byte, and an LF
-pub line-length : (s : List ℕ) → length (line s) ≡ 2 * length s + 1
-unfolding line
-line-length s = omega (arith, length-append (flatMap hex s) (LF ∷ []), hex-length s)
+pub line-length : (s : List ℕ) → length (hexLine s) ≡ 2 * length s + 1
+unfolding hexLine
+line-length [] = refl
+line-length (b ∷ s) = omega (arith, line-length s)
 
 pub file-length : (f : Frame) (fs : List Frame) → length (fileOf (f ∷ fs)) ≡ 2 * length (written f) + 1 + length (fileOf fs)
 unfolding fileOf flatMap
-file-length f fs = omega (arith, length-append (line (written f)) (fileOf fs), line-length (written f))
+file-length f fs = omega (arith, length-append (hexLine (written f)) (fileOf fs), line-length (written f))
 
 -- ---- Nodes
 

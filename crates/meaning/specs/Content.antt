@@ -15,7 +15,7 @@ use Rattle.meaning.specs.References.{shapeNames, shapeTypes, shapeKeys, 
 use Rattle.meaning.specs.SoFar.{tyOf, predicateOf}
 use Rattle.meaning.specs.Conditions.{sameText, maxNames, maxTypes, maxPredicates, maxNodes}
 use Rattle.meaning.specs.File.{Described, countOf, valueText, maxFile}
-use Rattle.meaning.specs.All.{All, Distinct}
+use Rattle.meaning.specs.All.{All, Distinct, Below}
 use Rattle.meaning.specs.Writing.{fileOf, Writable}
 use Rattle.meaning.specs.Sound.{Lower, nodesNamed}
 
@@ -48,10 +48,7 @@ framesOf c = theLimits (c .maxDistance) (c .maxTermChars) ∷ map aName (c .name
 -- Each type refers to types before it; the first of the list has this number.
 abbrev pub TypesBefore : ℕ → List TypeShape → Type 0
 TypesBefore i [] = Unit {0}
-TypesBefore i (t ∷ ts) = All (λ m. m < i) (shapeTypes t) × TypesBefore (suc i) ts
-
-abbrev pub Below : ℕ → List ℕ → Type 0
-Below n l = All (λ m. m < n) l
+TypesBefore i (t ∷ ts) = Below i (shapeTypes t) × TypesBefore (suc i) ts
 
 pub record Lawful (c : Content) : Type 0 where
   pub namesMax : length (c .names) ≤ maxNames

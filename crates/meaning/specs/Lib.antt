@@ -10,10 +10,10 @@ pub mod Conditions
 pub mod File
 pub mod All
 pub mod Refused
-pub mod Writing
 pub mod Sound
-pub mod Content
 pub mod Check
 pub mod Answer
+pub mod Writing
+pub mod Content
 pub mod Outcome
 pub mod Table

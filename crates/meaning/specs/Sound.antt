@@ -4,7 +4,7 @@ use mathlib.Core.List.{List, [], _∷_, _++_, flatMap}
 use mathlib.Core.Logic.{_≢_}
 use mathlib.Core.Option.{Option, none, some}
 use mathlib.Core.Path.{_≡_}
-use Prim.Native.Nat.{ℕ, suc, _+_, _*_, _<_, _≤_}
+use Prim.Native.Nat.{ℕ, suc, _+_, _*_, _≤_}
 use lib.ListN.{length}
 use Rattle.text.specs.Utf8.{Text}
 use Rattle.unification.specs.Ty.{Record, Union, Ty, leaf, Var, Error, rowLen}
@@ -16,7 +16,7 @@ use Rattle.meaning.specs.References.{exprNames, exprNodes, queryNodes}
 use Rattle.meaning.specs.SoFar.{SoFar}
 use Rattle.meaning.specs.Conditions.{maxNames, maxTypes, maxPredicates, maxNodes}
 use Rattle.meaning.specs.File.{Described}
-use Rattle.meaning.specs.All.{All, Distinct}
+use Rattle.meaning.specs.All.{All, Distinct, Below}
 
 abbrev pub DeclaredOption : Option Ty → Type 0
 DeclaredOption none = Unit {0}
@@ -28,7 +28,7 @@ DeclaredPredicate p = Declared (p .key) × DeclaredOption (p .value)
 -- Each node names only nodes before it; the first of the list has this number.
 abbrev pub Lower : ℕ → List Node → Type 0
 Lower i [] = Unit {0}
-Lower i (n ∷ ns) = All (λ m. m < i) (exprNodes (n .kind)) × Lower (suc i) ns
+Lower i (n ∷ ns) = Below i (exprNodes (n .kind)) × Lower (suc i) ns
 
 -- The nodes that the nodes name, in order.
 unfoldable pub nodesNamed : List Node → List ℕ
@@ -50,10 +50,10 @@ pub record Kept (so : SoFar) : Type 0 where
   pub types : All Declared (so .types)
   pub predicates : All DeclaredPredicate (so .predicates)
   pub lower : Lower 0 (so .nodes)
-  pub namesBelow : All (λ n. All (λ x. x < length (so .names)) (exprNames (n .kind))) (so .nodes)
+  pub namesBelow : All (λ n. Below (length (so .names)) (exprNames (n .kind))) (so .nodes)
   pub once : Distinct (so .named)
   pub named : so .named ≡ nodesNamed (so .nodes) ++ namedByQuery (so .query)
-  pub query : All (λ m. m < length (so .nodes)) (namedByQuery (so .query))
+  pub query : Below (length (so .nodes)) (namedByQuery (so .query))
   -- no query yet, as long as the last line is none
   pub unfinished : so .previous ≢ some Kind.query → so .query ≡ none
 
@@ -64,9 +64,9 @@ pub record Sound (d : Described) : Type 0 where
   pub nodesMax : length (d .ast .nodes) ≤ maxNodes
   pub predicates : All DeclaredPredicate (d .schema .predicates)
   pub lower : Lower 0 (d .ast .nodes)
-  pub namesBelow : All (λ n. All (λ x. x < length (d .schema .characters)) (exprNames (n .kind))) (d .ast .nodes)
+  pub namesBelow : All (λ n. Below (length (d .schema .characters)) (exprNames (n .kind))) (d .ast .nodes)
   pub once : Distinct (nodesNamed (d .ast .nodes) ++ queryNodes (d .ast .query))
-  pub query : All (λ m. m < length (d .ast .nodes)) (queryNodes (d .ast .query))
+  pub query : Below (length (d .ast .nodes)) (queryNodes (d .ast .query))
 
 -- ---- How much room the types take
 

@@ -1,87 +1,81 @@
 -- Document 01, "Frame lines", from the writer's side: the bytes of a frame, the line that it is written as, and which frames can be written.
 use mathlib.Core.List.{List, [], _∷_, _++_, flatMap}
 use mathlib.Core.Option.{Option, none, some}
-use Prim.Native.Nat.{ℕ, _/_, _%_, _<_, _≤_}
-use lib.ListN.{length, getD}
+use Prim.Native.Nat.{ℕ, _<_, _≤_}
+use lib.ListN.{length}
 use Rattle.unification.specs.Ty.{Int, String, Bytes, Fact}
 use Rattle.meaning.specs.Syntax.{Field, QueryStmt, Query, FieldRef, Literal, ExprKind, Node}
-use Rattle.meaning.specs.Lines.{LF, digits, maxBytes}
+use Rattle.meaning.specs.Lines.{maxBytes}
 use Rattle.meaning.specs.Frame.{kindByte, Alternative, TypeShape, aLeaf, aRecord, aUnion, Frame, theLimits, aName, aType, aPredicate, aNode, theQuery, frameKind}
 use Rattle.meaning.specs.All.{All}
+use Rattle.meaning.specs.Answer.{bytes₂, bytes₄, hexLine}
 
 -- ---- Bytes
 
-unfoldable pub asTwo : ℕ → List ℕ
-asTwo n = n / 0x100 ∷ n % 0x100 ∷ []
-
-unfoldable pub asFour : ℕ → List ℕ
-unfolding asTwo
-asFour n = asTwo (n / 0x10000) ++ asTwo (n % 0x10000)
-
 unfoldable pub asField : Field → List ℕ
-unfolding asTwo
-asField f = asTwo (f .name) ++ asTwo (f .value)
+unfolding bytes₂
+asField f = bytes₂ (f .name) ++ bytes₂ (f .value)
 
 unfoldable pub asAlternative : Alternative → List ℕ
-unfolding asTwo asFour
-asAlternative a = asTwo (a .name) ++ asFour (a .discriminant) ++ asTwo (a .type)
+unfolding bytes₂ bytes₄
+asAlternative a = bytes₂ (a .name) ++ bytes₄ (a .discriminant) ++ bytes₂ (a .type)
 
 unfoldable pub asShape : TypeShape → List ℕ
-unfolding asTwo asField asAlternative flatMap
+unfolding bytes₂ asField asAlternative flatMap
 asShape (aLeaf Int) = 0x00 ∷ []
 asShape (aLeaf String) = 0x01 ∷ []
 asShape (aLeaf Bytes) = 0x02 ∷ []
-asShape (aLeaf (Fact p)) = 0x03 ∷ asTwo p
+asShape (aLeaf (Fact p)) = 0x03 ∷ bytes₂ p
 asShape (aRecord fs) = 0x04 ∷ flatMap asField fs
 asShape (aUnion alts) = 0x05 ∷ flatMap asAlternative alts
 
 unfoldable pub asValueType : Option ℕ → List ℕ
-unfolding asTwo
+unfolding bytes₂
 asValueType none = 0x00 ∷ []
-asValueType (some t) = 0x01 ∷ asTwo t
+asValueType (some t) = 0x01 ∷ bytes₂ t
 
 unfoldable pub asStatement : QueryStmt → List ℕ
-unfolding asTwo
-asStatement (QueryStmt.Bind l r) = 0x00 ∷ asTwo l ++ asTwo r
-asStatement (QueryStmt.Implicit e) = 0x01 ∷ asTwo e
-asStatement (QueryStmt.Negation e) = 0x02 ∷ asTwo e
-asStatement (QueryStmt.Deny l r) = 0x03 ∷ asTwo l ++ asTwo r
-asStatement (QueryStmt.Compare l r) = 0x04 ∷ asTwo l ++ asTwo r
+unfolding bytes₂
+asStatement (QueryStmt.Bind l r) = 0x00 ∷ bytes₂ l ++ bytes₂ r
+asStatement (QueryStmt.Implicit e) = 0x01 ∷ bytes₂ e
+asStatement (QueryStmt.Negation e) = 0x02 ∷ bytes₂ e
+asStatement (QueryStmt.Deny l r) = 0x03 ∷ bytes₂ l ++ bytes₂ r
+asStatement (QueryStmt.Compare l r) = 0x04 ∷ bytes₂ l ++ bytes₂ r
 
 unfoldable pub asQuery : Query → List ℕ
-unfolding asTwo asStatement flatMap
-asQuery q = asTwo (q .head) ++ flatMap asStatement (q .body)
+unfolding bytes₂ asStatement flatMap
+asQuery q = bytes₂ (q .head) ++ flatMap asStatement (q .body)
 
 unfoldable pub asExpr : ExprKind → List ℕ
-unfolding asTwo asField asQuery flatMap
+unfolding bytes₂ asField asQuery flatMap
 asExpr (ExprKind.Lit Literal.Int) = 0x00 ∷ []
 asExpr (ExprKind.Lit Literal.Str) = 0x01 ∷ []
 asExpr (ExprKind.Lit Literal.Bytes) = 0x02 ∷ []
-asExpr (ExprKind.Var x) = 0x03 ∷ asTwo x
+asExpr (ExprKind.Var x) = 0x03 ∷ bytes₂ x
 asExpr ExprKind.Wildcard = 0x04 ∷ []
 asExpr ExprKind.Never = 0x05 ∷ []
-asExpr (ExprKind.Prefix x) = 0x06 ∷ asTwo x
-asExpr (ExprKind.Fuzzy x d) = 0x07 ∷ asTwo x ++ d ∷ []
+asExpr (ExprKind.Prefix x) = 0x06 ∷ bytes₂ x
+asExpr (ExprKind.Fuzzy x d) = 0x07 ∷ bytes₂ x ++ d ∷ []
 asExpr (ExprKind.Record fs) = 0x08 ∷ flatMap asField fs
-asExpr (ExprKind.Access (FieldRef.Key x) e) = 0x09 ∷ asTwo x ++ asTwo e
-asExpr (ExprKind.Access FieldRef.Value e) = 0x0a ∷ asTwo e
-asExpr (ExprKind.Disjunction es) = 0x0b ∷ flatMap asTwo es
+asExpr (ExprKind.Access (FieldRef.Key x) e) = 0x09 ∷ bytes₂ x ++ bytes₂ e
+asExpr (ExprKind.Access FieldRef.Value e) = 0x0a ∷ bytes₂ e
+asExpr (ExprKind.Disjunction es) = 0x0b ∷ flatMap bytes₂ es
 asExpr (ExprKind.Subquery q) = 0x0c ∷ asQuery q
-asExpr (ExprKind.Fact p e) = 0x0d ∷ asTwo p ++ asTwo e
-asExpr (ExprKind.Arith es) = 0x0e ∷ flatMap asTwo es
+asExpr (ExprKind.Fact p e) = 0x0d ∷ bytes₂ p ++ bytes₂ e
+asExpr (ExprKind.Arith es) = 0x0e ∷ flatMap bytes₂ es
 asExpr ExprKind.Error = 0x0f ∷ []
-asExpr (ExprKind.Select x e) = 0x10 ∷ asTwo x ++ asTwo e
+asExpr (ExprKind.Select x e) = 0x10 ∷ bytes₂ x ++ bytes₂ e
 
 unfoldable pub asNode : Node → List ℕ
-unfolding asFour asExpr
-asNode n = asFour (n .span .start) ++ asFour (n .span .end) ++ asExpr (n .kind)
+unfolding bytes₄ asExpr
+asNode n = bytes₄ (n .span .start) ++ bytes₄ (n .span .end) ++ asExpr (n .kind)
 
 unfoldable pub asContent : Frame → List ℕ
-unfolding asTwo asShape asValueType asNode asQuery
-asContent (theLimits d t) = d ∷ asTwo t
+unfolding bytes₂ asShape asValueType asNode asQuery
+asContent (theLimits d t) = d ∷ bytes₂ t
 asContent (aName s) = s
 asContent (aType t) = asShape t
-asContent (aPredicate n k v) = asTwo n ++ asTwo k ++ asValueType v
+asContent (aPredicate n k v) = bytes₂ n ++ bytes₂ k ++ asValueType v
 asContent (aNode n) = asNode n
 asContent (theQuery q) = asQuery q
 
@@ -89,17 +83,9 @@ unfoldable pub written : Frame → List ℕ
 unfolding asContent kindByte frameKind
 written f = kindByte (frameKind f) ∷ asContent f
 
-unfoldable pub hex : ℕ → List ℕ
-unfolding digits
-hex b = getD digits (b / 16) 0 ∷ getD digits (b % 16) 0 ∷ []
-
-unfoldable pub line : List ℕ → List ℕ
-unfolding hex flatMap
-line s = flatMap hex s ++ LF ∷ []
-
 unfoldable pub fileOf : List Frame → List ℕ
-unfolding line written flatMap
-fileOf fs = flatMap (λ f. line (written f)) fs
+unfolding hexLine written flatMap
+fileOf fs = flatMap (λ f. hexLine (written f)) fs
 
 -- ---- Numbers that fit in their bytes
 
