@@ -1,6 +1,6 @@
 -- Document 01, "Frame lines" and "When a file is turned down": what a file describes, and refusals 2 to 10. "1, 2, then lines in file
 -- order, in each the lowest number, then the missing 06".
-use mathlib.Core.Bool.{Bool, true, false, not}
+use mathlib.Core.Bool.{Bool, true, false, not, _||_}
 use mathlib.Core.List.{List, [], _∷_, _++_, map}
 use mathlib.Core.Option.{Option, none, some}
 use Prim.Native.Nat.{ℕ}
@@ -181,10 +181,14 @@ unfoldable pub refersEarlier : SoFar → Frame → Bool
 unfolding allBelow nameRefs typeRefs nodeRefs
 refersEarlier so f = both (allBelow (length (so .names)) (nameRefs f)) (both (allBelow (length (so .types)) (typeRefs f)) (allBelow (length (so .nodes)) (nodeRefs f)))
 
+unfoldable pub refersBadly : SoFar → Frame → Bool
+unfolding refersEarlier again nodeRefs
+refersBadly so f = not (refersEarlier so f) || again (so .named) (nodeRefs f)
+
 -- 9: "name, type or node reference not to an earlier frame; node named again"
 unfoldable pub isBadReference : SoFar → Said → Bool
-unfolding ofFrame refersEarlier again nodeRefs
-isBadReference so l = ofFrame (λ f. elim (refersEarlier so f) [ true ↦ again (so .named) (nodeRefs f) | false ↦ true ]) l
+unfolding ofFrame refersBadly
+isBadReference so l = ofFrame (refersBadly so) l
 
 unfoldable pub keyRepeated : Frame → Bool
 unfolding again shapeKeys

@@ -153,9 +153,9 @@ unfoldable pub alternative : Reader Alternative
 unfolding triple two four
 alternative = triple (λ n discriminant type. record { name = n; discriminant = discriminant; type = type }) two four two
 
-unfoldable pub typeShape : Reader TypeShape
-unfolding choice nothing one two many field alternative
-typeShape = choice (
+unfoldable pub typeShapes : List (Reader TypeShape)
+unfolding nothing one two many field alternative
+typeShapes =
     -- 00 Int, 01 String, 02 Bytes
     nothing (aLeaf Int) ∷
     nothing (aLeaf String) ∷
@@ -164,31 +164,31 @@ typeShape = choice (
     one (λ p. aLeaf (Fact p)) two ∷
     one aRecord (many field) ∷
     one aUnion (many alternative) ∷
-    [])
+    []
 
 -- 00 none, 01 one
-unfoldable pub valueType : Reader (Option ℕ)
-unfolding choice nothing one two
-valueType = choice (nothing none ∷ one some two ∷ [])
+unfoldable pub valueTypes : List (Reader (Option ℕ))
+unfolding nothing one two
+valueTypes = nothing none ∷ one some two ∷ []
 
-unfoldable pub statement : Reader QueryStmt
-unfolding choice one pair two
-statement = choice (
+unfoldable pub statements : List (Reader QueryStmt)
+unfolding one pair two
+statements =
     -- 00 Bind, 01 Implicit, 02 Negation, 03 Deny, 04 Compare
     pair QueryStmt.Bind two two ∷
     one QueryStmt.Implicit two ∷
     one QueryStmt.Negation two ∷
     pair QueryStmt.Deny two two ∷
     pair QueryStmt.Compare two two ∷
-    [])
+    []
 
 unfoldable pub headAndBody : Reader Query
-unfolding pair two many statement
-headAndBody = pair (λ head body. record { head = head; body = body }) two (many statement)
+unfolding pair two many choice statements
+headAndBody = pair (λ head body. record { head = head; body = body }) two (many (choice statements))
 
-unfoldable pub exprKind : Reader ExprKind
-unfolding choice nothing one pair two byte many field headAndBody
-exprKind = choice (
+unfoldable pub exprKinds : List (Reader ExprKind)
+unfolding nothing one pair two byte many field headAndBody
+exprKinds =
     -- 00, 01, 02 integer, string, bytes literal
     nothing (ExprKind.Lit Literal.Int) ∷
     nothing (ExprKind.Lit Literal.Str) ∷
@@ -210,21 +210,21 @@ exprKind = choice (
     one ExprKind.Arith (many two) ∷
     nothing ExprKind.Error ∷
     pair ExprKind.Select two two ∷
-    [])
+    []
 
 unfoldable pub spanAndKind : Reader Node
-unfolding triple four exprKind
-spanAndKind = triple (λ start end kind. record { span = record { start = start; end = end }; kind = kind }) four four exprKind
+unfolding triple four choice exprKinds
+spanAndKind = triple (λ start end kind. record { span = record { start = start; end = end }; kind = kind }) four four (choice exprKinds)
 
 unfoldable pub rest : Reader (List ℕ)
 rest s = got s []
 
 unfoldable pub frame : Kind → Reader Frame
-unfolding one pair triple byte two rest typeShape valueType spanAndKind headAndBody
+unfolding one pair triple byte two rest choice typeShapes valueTypes spanAndKind headAndBody
 frame limits = pair theLimits byte two
 frame name = one aName rest
-frame schemaType = one aType typeShape
-frame predicate = triple aPredicate two two valueType
+frame schemaType = one aType (choice typeShapes)
+frame predicate = triple aPredicate two two (choice valueTypes)
 frame node = one aNode spanAndKind
 frame query = one theQuery headAndBody
 

@@ -10,3 +10,6 @@ pub mod Check
 pub mod Answer
 pub mod Outcome
 pub mod Table
+pub mod Rules
+pub mod Refused
+pub mod Sound

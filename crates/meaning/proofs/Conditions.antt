@@ -1,0 +1,181 @@
+-- None of the conditions holds of a frame exactly where it obeys the rules.
+use mathlib.Core.Bool.{Bool, true, false, not, _||_}
+use mathlib.Core.List.{List, [], _∷_}
+use mathlib.Core.Option.{Option, none, some}
+use mathlib.Core.Path.{_≡_, refl, sym, ap, _∙_}
+use Prim.Native.Nat.{ℕ, _<_, _≤_}
+use native.Mathlib.Omega.{arith}
+use lib.Dec.{leb}
+use lib.ListN.{length}
+use borrow.Author.Tests.{leb-false, lt-leb, not-false}
+use Rattle.text.specs.Utf8.{Text, characters, both}
+use Rattle.text.proofs.Every.{both-left, both-right}
+use Rattle.text.proofs.Grammar.{counts}
+use Rattle.meaning.specs.Refusal.{Refusal}
+use Rattle.meaning.specs.Frame.{Kind, limits, name, schemaType, predicate, node, query, mayStand, Frame, theLimits, aName, aType, aPredicate, aNode, theQuery, frameKind}
+use Rattle.meaning.specs.References.{nameRefs, typeRefs, nodeRefs, shapeKeys}
+use Rattle.meaning.specs.File.{SoFar, Said, malformed, unknownKind, noFrame, frames, allBelow, again, given, isMalformed, isMisplaced, isFull, isOneTooMany, isNoFrame, ofFrame, textBroken, isBrokenText, textGiven, isNameGivenBefore, refersEarlier, refersBadly, isBadReference, keyRepeated, isRepeatedKey, Condition, conditions, firstOf, maxNames, maxTypes, maxPredicates, maxNodes}
+use Rattle.meaning.specs.Rules.{All, Absent, Distinct, textsOf, keysOf, Room, Obeys}
+use Rattle.meaning.proofs.Tests.{cases, clash, both-true, below-all, all-below, again-new, again-distinct, new-again, none-earlier, given-absent, absent-given}
+
+-- ---- No condition of a list holds
+
+pub none-holds : (cs : List Condition) (so : SoFar) (l : Said) → firstOf cs so l ≡ none → All (λ c. c .holds so l ≡ false) cs
+unfolding firstOf
+none-holds [] so l e = tt
+none-holds (c ∷ cs) so l e = cases (c .holds so l)
+    (λ q. let z : some (c .refusal) ≡ none = rw (q, firstOf) at e in let w : _≡_ {A = ℕ} 0 1 = cc in absurd (omega arith))
+    (λ q. (q, none-holds cs so l (rw (q, firstOf) at e)))
+
+pub holds-none : (cs : List Condition) (so : SoFar) (l : Said) → All (λ c. c .holds so l ≡ false) cs → firstOf cs so l ≡ none
+unfolding firstOf
+holds-none [] so l a = refl
+holds-none (c ∷ cs) so l a = rw (a .0, firstOf) (holds-none cs so l (a .1))
+
+-- ---- The parts of the rules
+
+room : (so : SoFar) (k : Kind) → isFull so k ≡ false → Room so k
+unfolding isFull
+room so limits h = tt
+room so name h = leb-false maxNames (length (so .names)) h
+room so schemaType h = leb-false maxTypes (length (so .types)) h
+room so predicate h = leb-false maxPredicates (length (so .predicates)) h
+room so node h = leb-false maxNodes (length (so .nodes)) h
+room so query h = tt
+
+full : (so : SoFar) (k : Kind) → Room so k → isFull so k ≡ false
+unfolding isFull
+full so limits h = refl
+full so name h = lt-leb maxNames (length (so .names)) h
+full so schemaType h = lt-leb maxTypes (length (so .types)) h
+full so predicate h = lt-leb maxPredicates (length (so .predicates)) h
+full so node h = lt-leb maxNodes (length (so .nodes)) h
+full so query h = refl
+
+abbrev Readable : List ℕ → Type 0
+Readable s = (n : ℕ) × Text s n
+
+text : (f : Frame) → textBroken f ≡ false → All Readable (textsOf f)
+unfolding textBroken textsOf
+text (theLimits d t) h = tt
+text (aName s) h = (go (characters s) refl, tt)
+  where
+    go : (o : Option ℕ) → characters s ≡ o → Readable s
+    go none q = clash (rw (q, textBroken) at h)
+    go (some n) q = (n, counts s n .1 q)
+text (aType t) h = tt
+text (aPredicate n k v) h = tt
+text (aNode n) h = tt
+text (theQuery q) h = tt
+
+unbroken : (f : Frame) → All Readable (textsOf f) → textBroken f ≡ false
+unfolding textBroken textsOf
+unbroken (theLimits d t) h = refl
+unbroken (aName s) h = rw (counts s (h .0 .0) .0 (h .0 .1), textBroken)
+unbroken (aType t) h = refl
+unbroken (aPredicate n k v) h = refl
+unbroken (aNode n) h = refl
+unbroken (theQuery q) h = refl
+
+new : (so : SoFar) (f : Frame) → textGiven so f ≡ false → All (λ s. Absent s (so .names)) (textsOf f)
+unfolding textGiven textsOf
+new so (theLimits d t) h = tt
+new so (aName s) h = (given-absent s (so .names) h, tt)
+new so (aType t) h = tt
+new so (aPredicate n k v) h = tt
+new so (aNode n) h = tt
+new so (theQuery q) h = tt
+
+not-given : (so : SoFar) (f : Frame) → All (λ s. Absent s (so .names)) (textsOf f) → textGiven so f ≡ false
+unfolding textGiven textsOf
+not-given so (theLimits d t) h = refl
+not-given so (aName s) h = absent-given s (so .names) (h .0)
+not-given so (aType t) h = refl
+not-given so (aPredicate n k v) h = refl
+not-given so (aNode n) h = refl
+not-given so (theQuery q) h = refl
+
+keys : (f : Frame) → keyRepeated f ≡ false → Distinct (keysOf f)
+unfolding keyRepeated keysOf
+keys (theLimits d t) h = tt
+keys (aName s) h = tt
+keys (aType t) h = again-distinct [] (shapeKeys t) h
+keys (aPredicate n k v) h = tt
+keys (aNode n) h = tt
+keys (theQuery q) h = tt
+
+not-repeated : (f : Frame) → Distinct (keysOf f) → keyRepeated f ≡ false
+unfolding keyRepeated keysOf
+not-repeated (theLimits d t) h = refl
+not-repeated (aName s) h = refl
+not-repeated (aType t) h = new-again [] (shapeKeys t) (none-earlier (shapeKeys t)) h
+not-repeated (aPredicate n k v) h = refl
+not-repeated (aNode n) h = refl
+not-repeated (theQuery q) h = refl
+
+-- ---- The whole
+
+not-or : (a b : Bool) → (not a || b) ≡ false → (a ≡ true) × (b ≡ false)
+not-or true b h = (refl, h)
+not-or false b h = clash h
+
+or-not : (a b : Bool) → a ≡ true → b ≡ false → (not a || b) ≡ false
+or-not true b p q = q
+or-not false b p q = clash (sym p)
+
+pub obeys : (so : SoFar) (f : Frame) → firstOf conditions so (frames f) ≡ none → Obeys so f
+unfolding conditions isMisplaced isOneTooMany isBrokenText isNameGivenBefore isBadReference isRepeatedKey ofFrame refersEarlier refersBadly
+obeys so f e =
+    record {
+      placed = not-false (mayStand (so .previous) (frameKind f)) (a .1 .0);
+      room = room so (frameKind f) (a .1 .1 .0);
+      text = text f (a .1 .1 .1 .1 .0);
+      new = new so f (a .1 .1 .1 .1 .1 .0);
+      names = below-all (length (so .names)) (nameRefs f) (both-left _ _ earlier);
+      types = below-all (length (so .types)) (typeRefs f) (both-left _ _ (both-right (allBelow (length (so .names)) (nameRefs f)) _ earlier));
+      nodes = below-all (length (so .nodes)) (nodeRefs f) (both-right (allBelow (length (so .types)) (typeRefs f)) _ (both-right (allBelow (length (so .names)) (nameRefs f)) _ earlier));
+      unnamed = again-new (so .named) (nodeRefs f) once;
+      once = again-distinct (so .named) (nodeRefs f) once;
+      keys = keys f (a .1 .1 .1 .1 .1 .1 .1 .0);
+    }
+  where
+    a : All (λ c. c .holds so (frames f) ≡ false) conditions
+    a = none-holds conditions so (frames f) e
+
+    earlier : refersEarlier so f ≡ true
+    earlier = not-or (refersEarlier so f) (again (so .named) (nodeRefs f)) (a .1 .1 .1 .1 .1 .1 .0) .0
+
+    once : again (so .named) (nodeRefs f) ≡ false
+    once = not-or (refersEarlier so f) (again (so .named) (nodeRefs f)) (a .1 .1 .1 .1 .1 .1 .0) .1
+
+pub no-condition : (so : SoFar) (f : Frame) → Obeys so f → firstOf conditions so (frames f) ≡ none
+unfolding conditions isMalformed isMisplaced isOneTooMany isNoFrame isBrokenText isNameGivenBefore isBadReference isRepeatedKey ofFrame refersEarlier refersBadly
+no-condition so f o =
+    holds-none conditions so (frames f) (
+      refl,
+      (
+        ap not (o .placed),
+        (
+          full so (frameKind f) (o .room),
+          (
+            refl,
+            (
+              unbroken f (o .text),
+              (
+                not-given so f (o .new),
+                (
+                  or-not (refersEarlier so f) (again (so .named) (nodeRefs f)) earlier (new-again (so .named) (nodeRefs f) (o .unnamed) (o .once)),
+                  (
+                    not-repeated f (o .keys),
+                    tt,
+                  ),
+                ),
+              ),
+            ),
+          ),
+        ),
+      ),
+    )
+  where
+    earlier : refersEarlier so f ≡ true
+    earlier = both-true _ _ (all-below (length (so .names)) (nameRefs f) (o .names)) (both-true _ _ (all-below (length (so .types)) (typeRefs f) (o .types)) (all-below (length (so .nodes)) (nodeRefs f) (o .nodes)))

@@ -1,0 +1,129 @@
+-- `reading` refuses a file for a reason exactly under that reason's condition. It goes through the lines as `Pass` does, so the proof is
+-- by induction on them, with the first condition that holds of each.
+use mathlib.Core.Bool.{Bool, true, false}
+use mathlib.Core.List.{List, [], _∷_, _++_, map}
+use mathlib.Core.Logic.{_↔_}
+use mathlib.Core.Option.{Option, none, some}
+use mathlib.Core.Path.{_≡_, refl, sym, ap, _∙_}
+use Prim.Native.Nat.{ℕ, _<_, _≤_}
+use native.Mathlib.Omega.{arith}
+use lib.Dec.{ltb}
+use lib.ListN.{length}
+use borrow.Author.Tests.{ltb-true, ltb-false, lt-ltb, le-ltb}
+use Rattle.meaning.specs.Syntax.{Query}
+use Rattle.meaning.specs.Refusal.{Refusal, fileTooLong, misplacedKind}
+use Rattle.meaning.specs.Lines.{lines}
+use Rattle.meaning.specs.File.{SoFar, Said, said, start, after, Condition, conditions, firstOf, maxFile, Described, describe, Reading, refused, described, atEnd, readFrom, reading}
+use Rattle.meaning.specs.Rules.{All}
+use Rattle.meaning.specs.Refused.{First, here, later, Pass, none-left, more, AtLine, Refused, tooLong, atLine, missingQuery}
+use Rattle.meaning.proofs.Tests.{cases}
+use Rattle.meaning.proofs.Conditions.{none-holds, holds-none}
+
+-- ---- One line
+
+pub some-first : (cs : List Condition) (so : SoFar) (l : Said) (i : Refusal) → firstOf cs so l ≡ some i → First cs so l i
+unfolding firstOf
+some-first [] so l i e = let z : _≡_ {A = ℕ} 0 1 = cc in absurd (omega arith)
+some-first (c ∷ cs) so l i e = cases (c .holds so l)
+    (λ q. let h : some (c .refusal) ≡ some i = rw (q, firstOf) at e in let same : i ≡ c .refusal = cc in rw same (here q))
+    (λ q. later q (some-first cs so l i (rw (q, firstOf) at e)))
+
+pub first-some : {cs : List Condition} {so : SoFar} {l : Said} {i : Refusal} → First cs so l i → firstOf cs so l ≡ some i
+unfolding firstOf
+first-some (here q) = rw (q, firstOf)
+first-some (later q f) = rw (q, firstOf) (first-some f)
+
+-- ---- The lines
+
+-- What follows lines that pass is read as if they were there already.
+pub past : {so end : SoFar} {ls : List Said} (rest : List Said) → Pass so ls end → readFrom so (ls ++ rest) ≡ readFrom end rest
+unfolding readFrom
+past rest none-left = refl
+past rest (more {so = so} {l = l} a p) = rw (holds-none conditions so l a, readFrom) (past rest p)
+
+-- How the reading of lines ends.
+data Ends (so : SoFar) (ls : List Said) : Reading → Type 0 where
+  stopped : {i : Refusal} → AtLine so ls i → Ends so ls (refused i)
+  through : (end : SoFar) → Pass so ls end → Ends so ls (atEnd end (end .query))
+
+ahead : {so : SoFar} {l : Said} {ls : List Said} {r : Reading} → All (λ c. c .holds so l ≡ false) conditions → Ends (after so l) ls r → Ends so (l ∷ ls) r
+ahead {l = l} a (stopped s) = stopped (record { before = l ∷ s .before; line = s .line; rest = s .rest; read = s .read; split = ap (λ x. l ∷ x) (s .split); pass = more a (s .pass); first = s .first })
+ahead a (through end p) = through end (more a p)
+
+ends : (so : SoFar) (ls : List Said) → Ends so ls (readFrom so ls)
+unfolding readFrom
+ends so [] = through so none-left
+ends so (l ∷ ls) = go (λ h. ends (after so l) ls) (firstOf conditions so l) refl
+  where
+    go : (Unit {0} → Ends (after so l) ls (readFrom (after so l) ls)) → (o : Option Refusal) → firstOf conditions so l ≡ o → Ends so (l ∷ ls) (readFrom so (l ∷ ls))
+    go ih none q = rw (q, readFrom) (ahead (none-holds conditions so l q) (ih tt))
+    go ih (some i) q = rw (q, readFrom) (stopped (record { before = []; line = l; rest = ls; read = so; split = refl; pass = none-left; first = some-first conditions so l i q }))
+
+-- ---- The file
+
+within : (file : List ℕ) → length file ≤ maxFile → reading file ≡ readFrom start (map said (lines file))
+unfolding reading
+within file h = rw (le-ltb maxFile (length file) h, reading)
+
+-- The ways a file can be read.
+pub data Read (file : List ℕ) : Reading → Type 0 where
+  turnedDown : {i : Refusal} → Refused file i → Read file (refused i)
+  passed : (end : SoFar) (q : Query) → length file ≤ maxFile → Pass start (map said (lines file)) end → end .query ≡ some q → Read file (described (describe end q))
+
+pub read : (file : List ℕ) → Read file (reading file)
+unfolding reading atEnd
+read file = cases (ltb maxFile (length file))
+    (λ q. rw (q, reading) (turnedDown (tooLong (ltb-true maxFile (length file) q))))
+    (λ q. rw (q, reading) (go (ltb-false maxFile (length file) q) (ends start (map said (lines file)))))
+  where
+    end-of : length file ≤ maxFile → (end : SoFar) → Pass start (map said (lines file)) end → (o : Option Query) → end .query ≡ o → Read file (atEnd end o)
+    end-of h end p none q = turnedDown (missingQuery end h p q)
+    end-of h end p (some x) q = passed end x h p q
+
+    go : length file ≤ maxFile → {r : Reading} → Ends start (map said (lines file)) r → Read file r
+    go h (stopped s) = turnedDown (atLine h s)
+    go h (through end p) = end-of h end p (end .query) refl
+
+why : {file : List ℕ} {r : Reading} (i : Refusal) → Read file r → r ≡ refused i → Refused file i
+why i (turnedDown {i = j} h) e = let same : i ≡ j = cc in rw same h
+why i (passed end q h p s) e = let z : _≡_ {A = ℕ} 0 1 = cc in absurd (omega arith)
+
+stops : {so : SoFar} {ls : List Said} {i : Refusal} → AtLine so ls i → readFrom so ls ≡ refused i
+unfolding readFrom
+stops {so = so} s = ap (readFrom so) (s .split) ∙ past (s .line ∷ s .rest) (s .pass) ∙ rw (first-some (s .first), readFrom)
+
+to-the-end : {so end : SoFar} {ls : List Said} → Pass so ls end → readFrom so ls ≡ atEnd end (end .query)
+unfolding readFrom
+to-the-end none-left = refl
+to-the-end (more {so = so} {l = l} a p) = rw (holds-none conditions so l a, readFrom) (to-the-end p)
+
+turned-down : (file : List ℕ) {i : Refusal} → Refused file i → reading file ≡ refused i
+unfolding reading atEnd
+turned-down file (tooLong h) = rw (lt-ltb maxFile (length file) h, reading)
+turned-down file (atLine h s) = within file h ∙ stops s
+turned-down file (missingQuery end h p q) = within file h ∙ to-the-end p ∙ ap (atEnd end) q
+
+-- Refused for a reason exactly under its condition.
+pub refused-when : (file : List ℕ) (i : Refusal) → (reading file ≡ refused i) ↔ Refused file i
+refused-when file i = (λ e. why i (read file) e, λ h. turned-down file h)
+
+-- Described exactly where all lines pass and the last is the query.
+pub accepted : (file : List ℕ) (end : SoFar) (q : Query) → length file ≤ maxFile → Pass start (map said (lines file)) end → end .query ≡ some q → reading file ≡ described (describe end q)
+unfolding atEnd
+accepted file end q h p e = within file h ∙ to-the-end p ∙ ap (atEnd end) e
+
+-- What the lines of a described file come to.
+pub record Accepted (file : List ℕ) (d : Described) : Type 0 where
+  pub end : SoFar
+  pub query : Query
+  pub size : length file ≤ maxFile
+  pub pass : Pass start (map said (lines file)) end
+  pub last : end .query ≡ some query
+  pub is : d ≡ describe end query
+
+pub described-when : (file : List ℕ) (d : Described) → reading file ≡ described d → Accepted file d
+described-when file d e = go (read file) e
+  where
+    go : {r : Reading} → Read file r → r ≡ described d → Accepted file d
+    go (turnedDown h) s = let z : _≡_ {A = ℕ} 0 1 = cc in absurd (omega arith)
+    go (passed end q h p s) t = record { end = end; query = q; size = h; pass = p; last = s; is = cc }

@@ -1,0 +1,176 @@
+-- The files that pass are exactly the writings of frames that obey the rules: a line says a frame exactly where it is that frame's line.
+use mathlib.Core.Bool.{Bool, true, false}
+use mathlib.Core.List.{List, [], _∷_, _++_, map, flatMap, append-nil, append-assoc, head-eq-of-cons-eq, tail-eq-of-cons-eq}
+use mathlib.Core.Logic.{_↔_}
+use mathlib.Core.Option.{Option, none, some}
+use mathlib.Core.Path.{_≡_, refl, sym, ap, ap₂, subst, _∙_}
+use Prim.Native.Nat.{ℕ, zero, suc, _<_, _≤_}
+use native.Mathlib.Omega.{arith}
+use lib.Dec.{leb}
+use lib.ListN.{length}
+use borrow.Author.Tests.{leb-true, le-leb}
+use Rattle.meaning.specs.Syntax.{Query}
+use Rattle.meaning.specs.Lines.{Line, closed, unclosed, LF, lines, decoded, maxBytes, atMost, someBytes, bytesOf}
+use Rattle.meaning.specs.Frame.{Kind, kindByte, kindOf, Frame, frameKind, Got, got, fails, frame, whole, frameOf}
+use Rattle.meaning.specs.File.{Said, malformed, unknownKind, noFrame, frames, saidOf, saidIn, saidBy, said, start, SoFar, Described, describe, described, reading, maxFile}
+use Rattle.meaning.specs.Rules.{All, Byte, Fits, asContent, written, hex, line, fileOf, Writable, Rules, Written}
+use Rattle.meaning.proofs.Tests.{cases}
+use Rattle.meaning.proofs.Hex.{decoded-hex, hex-no-LF, Hex, hex-decoded}
+use Rattle.meaning.proofs.Lines.{together, lines-together, lines-closed}
+use Rattle.meaning.proofs.Grammar.{content-back, FrameTook, content-forth}
+use Rattle.meaning.proofs.Bytes.{written-bytes}
+use Rattle.meaning.proofs.Frames.{Obeying, pass-rules, rules-pass}
+use Rattle.meaning.proofs.Refused.{Accepted, accepted, described-when}
+
+-- ---- Kinds
+
+byte-kind : (k : Kind) → kindOf (kindByte k) ≡ some k
+unfolding kindOf kindByte
+byte-kind Kind.limits = refl
+byte-kind Kind.name = refl
+byte-kind Kind.schemaType = refl
+byte-kind Kind.predicate = refl
+byte-kind Kind.node = refl
+byte-kind Kind.query = refl
+
+is-byte : (k k′ : Kind) (b : ℕ) → kindByte k ≡ b → some k ≡ some k′ → b ≡ kindByte k′
+is-byte k k′ b p e = let same : k ≡ k′ = cc in sym p ∙ ap kindByte same
+
+kind-byte : (b : ℕ) (k : Kind) → kindOf b ≡ some k → b ≡ kindByte k
+unfolding kindOf kindByte
+kind-byte zero k e = let z : _≡_ {A = ℕ} 0 1 = cc in absurd (omega arith)
+kind-byte (suc zero) k e = is-byte Kind.limits k 1 refl e
+kind-byte (suc (suc zero)) k e = is-byte Kind.name k 2 refl e
+kind-byte (suc (suc (suc zero))) k e = is-byte Kind.schemaType k 3 refl e
+kind-byte (suc (suc (suc (suc zero)))) k e = is-byte Kind.predicate k 4 refl e
+kind-byte (suc (suc (suc (suc (suc zero))))) k e = is-byte Kind.node k 5 refl e
+kind-byte (suc (suc (suc (suc (suc (suc zero)))))) k e = is-byte Kind.query k 6 refl e
+kind-byte (suc (suc (suc (suc (suc (suc (suc b))))))) k e = let z : _≡_ {A = ℕ} 0 1 = cc in absurd (omega arith)
+
+-- ---- A line
+
+abbrev pub lineOf : Frame → Line
+lineOf f = closed (flatMap hex (written f))
+
+frame-back : (f : Frame) → Writable f → frameOf (frameKind f) (asContent f) ≡ some f
+unfolding frameOf whole
+frame-back f w = ap (λ s. whole (frame (frameKind f) s)) (sym (append-nil (asContent f))) ∙ ap whole (content-back f (w .fits))
+
+at-most : (n : ℕ) (s : List ℕ) → length s ≤ n → atMost n s ≡ some s
+unfolding atMost
+at-most n s h = rw (le-leb (length s) n h, atMost)
+
+pub says : (f : Frame) → Writable f → said (lineOf f) ≡ frames f
+unfolding said saidBy saidIn saidOf bytesOf someBytes written
+says f w =
+    ap (λ o. saidBy (someBytes o)) (decoded-hex (written f) (written-bytes f (w .fits)))
+    ∙ ap saidBy (at-most maxBytes (written f) (w .short))
+    ∙ ap (λ k. saidIn k (asContent f)) (byte-kind (frameKind f))
+    ∙ ap (saidOf (frameKind f)) (frame-back f w)
+
+-- what a line is that says a frame
+pub record IsLine (l : Line) (f : Frame) : Type 0 where
+  pub is : l ≡ lineOf f
+  writable : Writable f
+
+-- from the frame back to the bytes, a step at a time
+frame-forth : (k : Kind) (s : List ℕ) (f : Frame) → All Byte s → frameOf k s ≡ some f → FrameTook k s f []
+unfolding frameOf whole
+frame-forth k s f h e = go (frame k s) refl e
+  where
+    go : (g : Got Frame) → frame k s ≡ g → whole g ≡ some f → FrameTook k s f []
+    go (got f′ []) q c = let same : f′ ≡ f = cc in content-forth k s f [] h (rw same at q)
+    go (got f′ (b ∷ t)) q c = let z : _≡_ {A = ℕ} 0 1 = cc in absurd (omega arith)
+    go fails q c = let z : _≡_ {A = ℕ} 0 1 = cc in absurd (omega arith)
+
+is-frame : (k : Kind) (o : Option Frame) (f : Frame) → saidOf k o ≡ frames f → o ≡ some f
+unfolding saidOf
+is-frame k none f e = let z : _≡_ {A = ℕ} 0 1 = cc in absurd (omega arith)
+is-frame k (some f′) f e = let same : f′ ≡ f = cc in ap some same
+
+is-written : (b : ℕ) (s : List ℕ) (f : Frame) → All Byte s → saidIn (kindOf b) s ≡ frames f → (b ∷ s ≡ written f) × Fits f
+unfolding saidIn written
+is-written b s f h e = go (kindOf b) refl e
+  where
+    go : (o : Option Kind) → kindOf b ≡ o → saidIn o s ≡ frames f → (b ∷ s ≡ written f) × Fits f
+    go none q c = let z : _≡_ {A = ℕ} 0 1 = cc in absurd (omega arith)
+    go (some k) q c =
+        let t = frame-forth k s f h (is-frame k (frameOf k s) f c) in
+        let first : b ≡ kindByte (frameKind f) = kind-byte b k q ∙ ap kindByte (sym (t .kind)) in
+        let later : s ≡ asContent f = t .bytes ∙ append-nil (asContent f) in
+        (cc, t .fits)
+
+is-line : (s : List ℕ) (b : ℕ) (t : List ℕ) (f : Frame) → Hex s (b ∷ t) → saidBy (atMost maxBytes (b ∷ t)) ≡ frames f → IsLine (closed s) f
+unfolding saidBy atMost
+is-line s b t f x e = cases (leb (length (b ∷ t)) maxBytes)
+    (λ q. short (leb-true (length (b ∷ t)) maxBytes q) (is-written b t f (x .bytes .1) (rw (q, atMost) at e)))
+    (λ q. let c : malformed ≡ frames f = rw (q, atMost) at e in let z : _≡_ {A = ℕ} 0 1 = cc in absurd (omega arith))
+  where
+    short : length (b ∷ t) ≤ maxBytes → (b ∷ t ≡ written f) × Fits f → IsLine (closed s) f
+    short h p = record { is = ap closed (x .is ∙ ap (flatMap hex) (p .0)); writable = record { fits = p .1; short = subst (λ x. length x ≤ maxBytes) (p .0) h } }
+
+pub said-line : (l : Line) (f : Frame) → said l ≡ frames f → IsLine l f
+unfolding said saidBy bytesOf someBytes
+said-line (unclosed s) f e = let z : _≡_ {A = ℕ} 0 1 = cc in absurd (omega arith)
+said-line (closed s) f e = go (decoded s) refl e
+  where
+    go : (o : Option (List ℕ)) → decoded s ≡ o → saidBy (someBytes o) ≡ frames f → IsLine (closed s) f
+    go none q c = let z : _≡_ {A = ℕ} 0 1 = cc in absurd (omega arith)
+    go (some []) q c = let z : _≡_ {A = ℕ} 0 1 = cc in absurd (omega arith)
+    go (some (b ∷ t)) q c = is-line s b t f (hex-decoded s (b ∷ t) q) c
+
+-- ---- The lines of a file
+
+record AreLines (ls : List Line) (fs : List Frame) : Type 0 where
+  are : together ls ≡ fileOf fs
+  writable : All Writable fs
+
+are-lines : (ls : List Line) (fs : List Frame) → map said ls ≡ map frames fs → AreLines ls fs
+unfolding together fileOf flatMap line
+are-lines [] [] e = record { are = refl; writable = tt }
+are-lines [] (f ∷ fs) e = let z : _≡_ {A = ℕ} 0 1 = cc in absurd (omega arith)
+are-lines (l ∷ ls) [] e = let z : _≡_ {A = ℕ} 0 1 = cc in absurd (omega arith)
+are-lines (l ∷ ls) (f ∷ fs) e = go (said-line l f (head-eq-of-cons-eq e)) (are-lines ls fs (tail-eq-of-cons-eq e))
+  where
+    go : IsLine l f → AreLines ls fs → AreLines (l ∷ ls) (f ∷ fs)
+    go i r =
+        record {
+          are = rw (i .is, r .are, append-assoc);
+          writable = (i .writable, r .writable);
+        }
+
+file-lines : (fs : List Frame) → All Writable fs → map said (lines (fileOf fs)) ≡ map frames fs
+unfolding fileOf flatMap line lines
+file-lines [] w = refl
+file-lines (f ∷ fs) w =
+    ap (λ s. map said (lines s)) (append-assoc (flatMap hex (written f)) (LF ∷ []) (fileOf fs))
+    ∙ ap (map said) (lines-closed (flatMap hex (written f)) (fileOf fs) (hex-no-LF (written f) (written-bytes f (w .0 .fits))))
+    ∙ ap₂ _∷_ (says f (w .0)) (file-lines fs (w .1))
+
+-- ---- The theorem
+
+passes : (file : List ℕ) (d : Described) → reading file ≡ described d → Written file d
+passes file d e =
+    let a = described-when file d e in
+    let o = pass-rules (a .pass) in
+    let l = are-lines (lines file) (o .these) (o .are) in
+    record {
+      these = o .these;
+      is = sym (lines-together file) ∙ l .are;
+      size = a .size;
+      writable = l .writable;
+      end = a .end;
+      rules = o .rules;
+      query = a .query;
+      last = a .last;
+      describes = a .is;
+    }
+
+accepts : (file : List ℕ) (d : Described) → Written file d → reading file ≡ described d
+accepts file d w =
+    accepted file (w .end) (w .query) (w .size) (rw (w .is, file-lines (w .these) (w .writable)) (rules-pass (w .rules))) (w .last)
+    ∙ ap described (sym (w .describes))
+
+-- A file describes a tree exactly where it is the writing of frames that obey the rules and describe that tree.
+pub described-exactly : (file : List ℕ) (d : Described) → (reading file ≡ described d) ↔ Written file d
+described-exactly file d = (passes file d, accepts file d)

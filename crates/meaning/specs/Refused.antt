@@ -1,0 +1,37 @@
+-- When a file is turned down, and for which reason: document 01, "1, 2, then lines in file order, in each the lowest number, then the
+-- missing 06", for 2 to 10. `refused-when` in proofs/Refused.antt says that `reading` refuses exactly so.
+use mathlib.Core.Bool.{Bool, true, false}
+use mathlib.Core.List.{List, [], _∷_, _++_, map}
+use mathlib.Core.Option.{Option, none, some}
+use mathlib.Core.Path.{_≡_}
+use Prim.Native.Nat.{ℕ, _<_, _≤_}
+use lib.ListN.{length}
+use Rattle.meaning.specs.Refusal.{Refusal, fileTooLong, misplacedKind}
+use Rattle.meaning.specs.Lines.{lines}
+use Rattle.meaning.specs.File.{SoFar, Said, said, start, after, Condition, conditions, maxFile}
+use Rattle.meaning.specs.Rules.{All}
+
+-- The condition of this refusal holds of the line, and none that stands before it in the list does.
+pub data First : List Condition → SoFar → Said → Refusal → Type 0 where
+  here : {c : Condition} {cs : List Condition} {so : SoFar} {l : Said} → c .holds so l ≡ true → First (c ∷ cs) so l (c .refusal)
+  later : {c : Condition} {cs : List Condition} {so : SoFar} {l : Said} {i : Refusal} → c .holds so l ≡ false → First cs so l i → First (c ∷ cs) so l i
+
+-- No condition holds of these lines, from what was read before them to what is read with them.
+pub data Pass : SoFar → List Said → SoFar → Type 0 where
+  none-left : {so : SoFar} → Pass so [] so
+  more : {so end : SoFar} {l : Said} {ls : List Said} → All (λ c. c .holds so l ≡ false) conditions → Pass (after so l) ls end → Pass so (l ∷ ls) end
+
+-- Lines that pass, and then a line for which this refusal is the first.
+pub record AtLine (so : SoFar) (ls : List Said) (i : Refusal) : Type 0 where
+  pub before : List Said
+  pub line : Said
+  pub rest : List Said
+  pub read : SoFar
+  pub split : ls ≡ before ++ line ∷ rest
+  pub pass : Pass so before read
+  pub first : First conditions read line i
+
+pub data Refused (file : List ℕ) : Refusal → Type 0 where
+  tooLong : maxFile < length file → Refused file fileTooLong
+  atLine : {i : Refusal} → length file ≤ maxFile → AtLine start (map said (lines file)) i → Refused file i
+  missingQuery : (end : SoFar) → length file ≤ maxFile → Pass start (map said (lines file)) end → end .query ≡ none → Refused file misplacedKind
