@@ -13,3 +13,4 @@ pub mod Table
 pub mod Rules
 pub mod Refused
 pub mod Sound
+pub mod Run
