@@ -88,9 +88,21 @@ pub record Ended (g : Grade) (c c′ : Checker) : Type 0 where
   pub stopped : Stopped c c′
 
 -- Where a step leads, with P of its value.
-abbrev pub Meets : {A : Type 0} → (A → Checker → Type 0) → Grade → Checker → Step A → Type 0
-Meets P g c (goes a c′) = Went P g c a c′
-Meets P g c (out c′) = Ended g c c′
+pub data Meets {A : Type 0} (P : A → Checker → Type 0) (g : Grade) (c : Checker) : Step A → Type 0 where
+  went : {a : A} {c′ : Checker} → Went P g c a c′ → Meets P g c (goes a c′)
+  ended : {c′ : Checker} → Ended g c c′ → Meets P g c (out c′)
+
+-- The same of a step that is known.
+abbrev pub MeetsAt : {A : Type 0} → (A → Checker → Type 0) → Grade → Checker → Step A → Type 0
+MeetsAt P g c (goes a c′) = Went P g c a c′
+MeetsAt P g c (out c′) = Ended g c c′
+
+pub meets : {A : Type 0} {P : A → Checker → Type 0} {g : Grade} {c : Checker} (s : Step A) → MeetsAt P g c s → Meets P g c s
+meets (goes a c′) w = went w
+meets (out c′) w = ended w
+
+pub going : {A : Type 0} {P : A → Checker → Type 0} {g : Grade} {c c′ : Checker} {a : A} → Meets P g c (goes a c′) → Went P g c a c′
+going (went w) = w
 
 -- ---- More unknowns
 pub made-more : (g : Grade) (c c′ : Checker) → Made g c c′ → unknowns c ≤ unknowns c′
@@ -119,7 +131,7 @@ unfolding Reached
 reached-refl c v tys ts cs = ([], cs)
 
 pub stays : {A : Type 0} (P : A → Checker → Type 0) (g : Grade) (c : Checker) (a : A) → Orderly c → P a c → Meets P g c (goes a c)
-stays P g c a o p = record { orderly = o; made = made-refl g c; reached = reached-refl c; holds = p }
+stays P g c a o p = went (record { orderly = o; made = made-refl g c; reached = reached-refl c; holds = p })
 
 pub made-trans : (g h k : Grade) (a b c : Checker) → Fits (plus g h) k → Made g a b → Made h b c → Made k a c
 made-trans g h k a b c f p q = record {
@@ -182,37 +194,41 @@ fits-left g h k f = record { nodes = λ x. omega (arith, f .nodes x); unknowns =
 -- ---- Steps that join
 
 module _ {A B : Type 0} (P : A → Checker → Type 0) (Q : B → Checker → Type 0) (g h k : Grade) (c : Checker) (f : Fits (plus g h) k) where
-  went-on : (a : A) (b : Checker) (s : Step B) → Went P g c a b → Meets Q h b s → Meets Q k c s
-  went-on a b (goes x e) p q = record {
+  went-on : {a : A} {b : Checker} {s : Step B} → Went P g c a b → Meets Q h b s → Meets Q k c s
+  went-on {a} {b} p (went {c′ = e} q) = went (record {
     orderly = q .orderly;
     made = made-trans g h k c b e f (p .made) (q .made);
     reached = reached-trans c b e (p .reached) (q .reached);
     holds = q .holds;
-  }
-  went-on a b (out e) p q = record { orderly = q .orderly; made = made-trans g h k c b e f (p .made) (q .made); stopped = stopped-trans c b e (p .reached) (q .stopped) }
+  })
+  went-on {a} {b} p (ended {c′ = e} q) = ended (record { orderly = q .orderly; made = made-trans g h k c b e f (p .made) (q .made); stopped = stopped-trans c b e (p .reached) (q .stopped) })
+
+  -- A step that is known to go on.
+  pub meets-after : {a : A} {b : Checker} {s : Step B} → Ready k c → (Ready g c → Meets P g c (goes a b)) → (Went P g c a b → Ready h b → Meets Q h b s) → Meets Q k c s
+  meets-after {a} {b} r p q = let w = going (p (ready-fits g k c (fits-left g h k f) r)) in went-on w (q w (ready-after g h k c b f (w .made) r))
 
   joined : (m : Step A) (next : A → Does B) → Ready k c → Meets P g c m → ((a : A) (b : Checker) → Went P g c a b → Ready h b → Meets Q h b (next a b)) → Meets Q k c (andThen m next)
   unfolding andThen
-  joined (goes a b) next r p q = went-on a b (next a b) p (q a b p (ready-after g h k c b f (p .made) r))
-  joined (out b) next r p q = record { orderly = p .orderly; made = made-fits g k c b (fits-left g h k f) (p .made); stopped = p .stopped }
+  joined m next r (went {a} {c′ = b} w) q = went-on w (q a b w (ready-after g h k c b f (w .made) r))
+  joined m next r (ended {c′ = b} w) q = ended (record { orderly = w .orderly; made = made-fits g k c b (fits-left g h k f) (w .made); stopped = w .stopped })
 
   pub meets-then : (m : Step A) (next : A → Does B) → Ready k c → (Ready g c → Meets P g c m) → ((a : A) (b : Checker) → Went P g c a b → Ready h b → Meets Q h b (next a b)) → Meets Q k c (andThen m next)
   meets-then m next r p q = joined m next r (p (ready-fits g k c (fits-left g h k f) r)) q
-
-pub meets-fits : {A : Type 0} (P : A → Checker → Type 0) (g k : Grade) (c : Checker) (m : Step A) → Fits g k → Meets P g c m → Meets P k c m
-meets-fits P g k c (goes a b) f p = record { orderly = p .orderly; made = made-fits g k c b f (p .made); reached = p .reached; holds = p .holds }
-meets-fits P g k c (out b) f p = record { orderly = p .orderly; made = made-fits g k c b f (p .made); stopped = p .stopped }
-
-pub meets-holds : {A : Type 0} (P Q : A → Checker → Type 0) (g : Grade) (c : Checker) (m : Step A) → ((a : A) (b : Checker) → Went P g c a b → Q a b) → Meets P g c m → Meets Q g c m
-meets-holds P Q g c (goes a b) i p = record { orderly = p .orderly; made = p .made; reached = p .reached; holds = i a b p }
-meets-holds P Q g c (out b) i p = p
 
 -- What follows a step, said from before the step.
 pub meets-from : {A B : Type 0} (P : A → Checker → Type 0) (Q : B → Checker → Type 0) (g k : Grade) (c : Checker) (m : Step A) (next : A → Does B) → Fits g k → Meets P g c m
     → ((a : A) (b : Checker) → Went P g c a b → Meets Q k c (next a b)) → Meets Q k c (andThen m next)
 unfolding andThen
-meets-from P Q g k c (goes a b) next f p q = q a b p
-meets-from P Q g k c (out b) next f p q = record { orderly = p .orderly; made = made-fits g k c b f (p .made); stopped = p .stopped }
+meets-from P Q g k c m next f (went {a} {c′ = b} w) q = q a b w
+meets-from P Q g k c m next f (ended {c′ = b} w) q = ended (record { orderly = w .orderly; made = made-fits g k c b f (w .made); stopped = w .stopped })
+
+pub meets-fits : {A : Type 0} (P : A → Checker → Type 0) (g k : Grade) (c : Checker) {m : Step A} → Fits g k → Meets P g c m → Meets P k c m
+meets-fits P g k c f (went {c′ = b} w) = went (record { orderly = w .orderly; made = made-fits g k c b f (w .made); reached = w .reached; holds = w .holds })
+meets-fits P g k c f (ended {c′ = b} w) = ended (record { orderly = w .orderly; made = made-fits g k c b f (w .made); stopped = w .stopped })
+
+-- Another value, and what holds of it.
+pub went-with : {A B : Type 0} {P : A → Checker → Type 0} {g : Grade} {c b : Checker} {a : A} (Q : B → Checker → Type 0) (x : B) → Went P g c a b → Q x b → Meets Q g c (goes x b)
+went-with Q x w p = went (record { orderly = w .orderly; made = w .made; reached = w .reached; holds = p })
 
 -- Two steps taken as one.
 pub meets-nest : {A B C : Type 0} (P : C → Checker → Type 0) (g : Grade) (c : Checker) (m : Step A) (f : A → Does B) (next : B → Does C)

@@ -24,14 +24,14 @@ use Rattle.unification.proofs.Undo.{Since, since-refl, since-length, since-fres
 use Rattle.unification.proofs.Kept.{After, Kept, unify-kept}
 use Rattle.unification.proofs.Log.{taken-pad, Log, log-annotate, Logged, unify-logged}
 use Rattle.unification.proofs.Demand3.{rolled-since}
-use Rattle.meaning.specs.Syntax.{Node}
+use Rattle.meaning.specs.Syntax.{Node, nodeAt}
 use Rattle.meaning.specs.Schema.{Schema}
 use Rattle.meaning.specs.Diag.{Code, Diagnostic}
 use Rattle.meaning.specs.Check.{Checker, Step, goes, out, Does, andThen, withState, freshVarId, lookupIn, lookup, pushEnv, introduce, annotate, unified, unify, ordered, orderable, Mark, snapshot, truncateEnv, rollback, reject, report, unifyAt}
 use Rattle.meaning.specs.Rules.{All}
 use Rattle.meaning.specs.Run.{Led, between-calls, at-the-limit, same}
 use Rattle.meaning.proofs.Lists.{all-map, all-append, all-right}
-use Rattle.meaning.proofs.Meets.{Grade, plus, Fits, unknowns, Orderly, Ready, Made, Reached, Stopped, Went, Ended, Meets, made-more, made-side, made-refl, reached-refl, stays, meets-then}
+use Rattle.meaning.proofs.Meets.{Grade, plus, Fits, unknowns, Orderly, Ready, Made, Reached, Stopped, Went, Ended, Meets, went, ended, meets, made-more, made-side, made-refl, reached-refl, stays, meets-then}
 
 -- ---- Grades of one thing
 abbrev pub no-thing : Grade
@@ -72,7 +72,7 @@ IsUnknown x v c = (v < unknowns c) × Known x c
 module _ (schema : Schema) (nodes : List Node) where
   pub reject-meets : (n : ℕ) (code : Code) (c : Checker) → Orderly c → Meets Nothing one-diagnostic c (reject schema nodes n code c)
   unfolding reject Reached
-  reject-meets n code c o = record {
+  reject-meets n code c o = meets (reject schema nodes n code c) (record {
     orderly = record { log = o .log; env = o .env; few = o .few; sides = o .sides };
     made = record {
       new = 0;
@@ -80,7 +80,7 @@ module _ (schema : Schema) (nodes : List Node) where
       unknowns = omega arith;
       pushed = [];
       env = refl;
-      reported = _ ∷ [];
+      reported = record { code = code; span = nodeAt nodes n .span } ∷ [];
       diagnostics = refl;
       few = omega arith;
       elsewhere = λ x e. refl;
@@ -88,7 +88,17 @@ module _ (schema : Schema) (nodes : List Node) where
     };
     reached = λ v tys ts cs. ([], cs);
     holds = tt;
-  }
+  })
+
+  -- By a test.
+  module _ (n : ℕ) (code : Code) (c : Checker) (o : Orderly c) where
+    pub reject-if : (b : Bool) → Meets Nothing one-diagnostic c ((elim b as (λ b. Does (Unit {0})) [ true ↦ reject schema nodes n code | false ↦ (λ c. goes tt c) ]) c)
+    reject-if true = reject-meets n code c o
+    reject-if false = stays Nothing one-diagnostic c tt o tt
+
+    pub reject-unless : (b : Bool) → Meets Nothing one-diagnostic c ((elim b as (λ b. Does (Unit {0})) [ true ↦ (λ c. goes tt c) | false ↦ reject schema nodes n code ]) c)
+    reject-unless true = stays Nothing one-diagnostic c tt o tt
+    reject-unless false = reject-meets n code c o
 
 -- ---- A new unknown
 fresh-more : (c : Checker) → length (Bindings.fresh (c .state) .subst) ≡ unknowns c + 1
@@ -129,12 +139,12 @@ env-more c o = all-map (λ e. e .1 < unknowns c) (λ e. e .1 < unknowns c + 1) (
 
 pub freshVarId-meets : (c : Checker) → Orderly c → Meets (λ v b. v < unknowns b) one-unknown c (freshVarId c)
 unfolding freshVarId withState Bindings.freshId
-freshVarId-meets c o = record {
+freshVarId-meets c o = meets (freshVarId c) (record {
   orderly = fresh-orderly c (c .env) o (env-more c o) (omega (arith, o .few));
   made = fresh-made c [];
   reached = fresh-reached c (c .env);
   holds = omega (arith, fresh-more c);
-}
+})
 
 -- ---- A variable
 lookup-below : (n : ℕ) (es : List (ℕ × ℕ)) (x v : ℕ) → All (λ e. e .1 < n) es → lookupIn es x ≡ some v → v < n
@@ -169,19 +179,19 @@ introduce-meets x c o = go (lookupIn (c .env) x) refl
   where
     go : (k : Option ℕ) → lookupIn (c .env) x ≡ k → Meets (IsUnknown x) one-unknown c (introduce x c)
     go (some v) e = rw (e, introduce) (stays (IsUnknown x) one-unknown c v o (lookup-below (unknowns c) (c .env) x v (o .env) e, (v, e)))
-    go none e = rw (e, introduce) (record {
+    go none e = rw (e, introduce) (meets (goes (unknowns c) (record { state = Bindings.fresh (c .state); env = (x, unknowns c) ∷ c .env; diagnostics = c .diagnostics })) (record {
       orderly = fresh-orderly c ((x, unknowns c) ∷ c .env) o (omega arith, env-more c o) (omega (arith, o .few));
       made = fresh-made c ((x, unknowns c) ∷ []);
       reached = fresh-reached c ((x, unknowns c) ∷ c .env);
       holds = (omega (arith, fresh-more c), (unknowns c, rw (eq-eqb x x refl, lookupIn)));
-    })
+    }))
 
 -- ---- An annotation
 pub annotate-meets : (n : ℕ) (t : Ty) (c : Checker) → Orderly c → Ready (one-node n) c → Side (unknowns c) t → Meets Nothing (one-node n) c (annotate n t c)
 unfolding annotate withState Bindings.annotate Reached
 annotate-meets n t c o r h =
     let lt : n < length (c .state .tys) = r .there n (omega (arith, same-self n)) in
-    record {
+    meets (annotate n t c) (record {
       orderly = record {
         log = log-annotate (c .state) n t lt (r .bare n (omega (arith, same-self n))) (o .log);
         env = o .env;
@@ -204,7 +214,7 @@ annotate-meets n t c o r h =
       };
       reached = λ v tys ts cs. ([], then-call cs (annotation n t));
       holds = tt;
-    }
+    })
 
 -- ---- Visits and bindings
 
@@ -231,23 +241,23 @@ still-made c st p tys = record {
 module _ (a b : Ty) (c : Checker) (o : Orderly c) (i : Side (unknowns c) a) (j : Side (unknowns c) b) where
   unified-meets : (res : Unified) → Unify.unify (c .state) a b ≡ res → After (Kept (c .state)) res → After (Logged (unknowns c)) res → Meets Nothing no-thing c (unified c res)
   unfolding unified withState Reached Stopped
-  unified-meets (Ok st) e k l = record {
+  unified-meets (Ok st) e k l = went (record {
     orderly = still-orderly c st o (l .log) (l .len) (k .tys);
     made = still-made c st (k .since) (k .tys);
     reached = λ v tys ts cs. ([], then-call cs (unification a b i j e));
     holds = tt;
-  }
-  unified-meets (Err err st) e k l = record {
+  })
+  unified-meets (Err err st) e k l = went (record {
     orderly = still-orderly c st o (l .log) (l .len) (k .tys);
     made = still-made c st (k .since) (k .tys);
     reached = λ v tys ts cs. ([], then-call cs (failure a b err i j e));
     holds = tt;
-  }
-  unified-meets (Spent st) e k l = record {
+  })
+  unified-meets (Spent st) e k l = ended (record {
     orderly = still-orderly c st o (l .log) (l .len) (k .tys);
     made = still-made c st (k .since) (k .tys);
     stopped = λ v tys ts cs. at-the-limit a b cs i j e;
-  }
+  })
 
   pub unify-meets : Meets Nothing no-thing c (unify a b c)
   unfolding unify
@@ -266,23 +276,23 @@ unifyAt-meets schema nodes n a b c o r i j =
 
 ordered-meets : (c : Checker) (a : Answer) → Orderly c → Fewer (c .state .left) a → Meets Nothing no-thing c (ordered c a)
 unfolding ordered withState Bindings.withLeft Reached Stopped
-ordered-meets c (yes-left v) o f = record {
+ordered-meets c (yes-left v) o f = went (record {
   orderly = still-orderly c (Bindings.withLeft (c .state) v) o (record { wf = o .log .wf; blank = o .log .blank; exact = o .log .exact }) refl refl;
   made = still-made c (Bindings.withLeft (c .state) v) (since-left (c .state) v f) refl;
   reached = λ w tys ts cs. ([], then-call cs (spending v f));
   holds = tt;
-}
-ordered-meets c (no-left v) o f = record {
+})
+ordered-meets c (no-left v) o f = went (record {
   orderly = still-orderly c (Bindings.withLeft (c .state) v) o (record { wf = o .log .wf; blank = o .log .blank; exact = o .log .exact }) refl refl;
   made = still-made c (Bindings.withLeft (c .state) v) (since-left (c .state) v f) refl;
   reached = λ w tys ts cs. ([], then-call cs (spending v f));
   holds = tt;
-}
-ordered-meets c spent o f = record {
+})
+ordered-meets c spent o f = ended (record {
   orderly = still-orderly c (Bindings.withLeft (c .state) zero) o (record { wf = o .log .wf; blank = o .log .blank; exact = o .log .exact }) refl refl;
   made = still-made c (Bindings.withLeft (c .state) zero) (since-left (c .state) zero (omega arith)) refl;
   stopped = λ w tys ts cs. let z : zero ≤ c .state .left = omega arith in between-calls (then-call cs (spending zero z));
-}
+})
 
 pub orderable-meets : (t : Ty) (c : Checker) → Orderly c → Meets Nothing no-thing c (orderable t c)
 unfolding orderable
@@ -301,7 +311,7 @@ module _ (g : Grade) (c c′ : Checker) (o : Orderly c) (m : Made g c c′) wher
 
   pub rolled-meets : Reached c c′ → Meets Nothing g c (rollback (record { state = Bindings.snapshot (c .state); env = length (c .env) }) c′)
   unfolding rollback truncateEnv withState take-snapshot Reached
-  rolled-meets r = record {
+  rolled-meets r = meets (rollback (record { state = Bindings.snapshot (c .state); env = length (c .env) }) c′) (record {
     orderly = record {
       log = record {
         wf = rw back-subst (wf-pad (c .state .subst) (m .new) (o .log .wf));
@@ -326,4 +336,36 @@ module _ (g : Grade) (c c′ : Checker) (o : Orderly c) (m : Made g c c′) wher
     };
     reached = λ v tys ts cs. let x = r v tys (take-snapshot (c .state) ∷ ts) (then-call cs snapping) in (take-snapshot (c .state) ∷ [], then-call (x .1) (rollingBack (x .0) ts (take-snapshot (c .state)) refl));
     holds = tt;
-  }
+  })
+
+-- ---- The environment cut back to where the stretch began
+pub cut-meets : (g : Grade) (c b : Checker) (t : Ty) → Orderly c → Went IsSide g c t b → Meets IsSide g c (goes t (record { state = b .state; env = drop (length (b .env) - length (c .env)) (b .env); diagnostics = b .diagnostics }))
+unfolding Reached
+cut-meets g c b t o w =
+    let m = w .made in
+    let e = gone g c b o m in
+    meets (goes t (record { state = b .state; env = drop (length (b .env) - length (c .env)) (b .env); diagnostics = b .diagnostics })) (record {
+      orderly = record {
+        log = w .orderly .log;
+        env = rw e (all-map (λ e. e .1 < unknowns c) (λ e. e .1 < unknowns b) (c .env) (λ e h. omega (arith, made-more g c b m)) (o .env));
+        few = rw e (omega (arith, o .few, made-more g c b m));
+        sides = w .orderly .sides;
+      };
+      made = record {
+        new = m .new;
+        since = m .since;
+        unknowns = m .unknowns;
+        pushed = [];
+        env = e;
+        reported = m .reported;
+        diagnostics = m .diagnostics;
+        few = m .few;
+        elsewhere = m .elsewhere;
+        nodes = m .nodes;
+      };
+      reached = same-state c b (w .reached);
+      holds = w .holds;
+    })
+  where
+    same-state : (c b : Checker) → Reached c b → Reached c (record { state = b .state; env = drop (length (b .env) - length (c .env)) (b .env); diagnostics = b .diagnostics })
+    same-state c b r = r

@@ -12,6 +12,7 @@ use Rattle.unification.specs.Ty.{Leaf, Kind, Ty, Row}
 use Rattle.unification.specs.Bindings as Bindings
 use Rattle.unification.specs.Unify.{TyError, findKey, findLabel}
 use Rattle.unification.specs.Calls.{Declared, DeclaredRow, Side, SideRow}
+use Rattle.unification.proofs.Tests.{clash}
 use Rattle.unification.proofs.Sides.{side-more, declared-side, Part, find-part, Field, fields, side-follow}
 use Rattle.meaning.specs.Syntax.{QueryStmt, Query, FieldRef, Literal, ExprKind, Node, nodeAt, isDestructurable}
 use Rattle.meaning.specs.Syntax as Syntax
@@ -20,10 +21,10 @@ use Rattle.meaning.specs.Diag.{Code}
 use Rattle.meaning.specs.References.{fieldValues, stmtNodes, queryNodes, exprNodes}
 use Rattle.meaning.specs.Rules.{All}
 use Rattle.meaning.specs.Sound.{DeclaredOption, DeclaredPredicate}
-use Rattle.meaning.specs.Check.{Checker, Step, goes, out, Does, andThen, freshVar, introduce, annotate, repr, unify, Form, aWildcard, aVariable, aConstant, aRecord, aDisjunction, anError, another, formOf, Walk, kind, form, reject, rejectTy, report, unifyAt, unresolved, keyTy, valueTy, keyShadowsValue, valueOf, fieldAt, keyOf, selectOf, accessOf, access, select, fuzzyDistance, fuzzyTerm, inferFields, inferAll, disjunction, fact, bindVariable, badTarget, onlyRight, notYet, destructure, bindWildcard, bindForm, denyForm, introduceSide, compareOrder, compare, generate, stmt, stmts, subquery, inferKind, inferAt, inferThenUnify, checkField, checkMentioned, checkFields, checkAlternative, checkUnion, checkRecord, checkForm, checkAgainst, checkAt, generateBranches, generatorForm, generatorAt, walk, headForm, query}
+use Rattle.meaning.specs.Check.{Checker, Step, goes, out, Does, andThen, freshVarId, freshVar, introduce, annotate, repr, unify, orderable, Form, aWildcard, aVariable, aConstant, aRecord, aDisjunction, anError, another, formOf, Walk, kind, form, reject, rejectTy, report, unifyAt, unresolved, keyTy, valueTy, keyShadowsValue, valueOf, fieldAt, keyOf, selectOf, accessOf, access, select, fuzzyDistance, fuzzyTerm, inferFields, inferAll, disjunction, fact, bindVariable, badTarget, onlyRight, notYet, destructure, bindWildcard, bindForm, denyForm, introduceSide, compareOrder, compare, generate, stmt, stmts, subquery, inferKind, inferAt, inferThenUnify, checkField, checkMentioned, checkFields, checkAlternative, checkUnion, checkRecord, checkForm, checkAgainst, checkAt, generateBranches, generatorForm, generatorAt, walk, headForm, query}
 use Rattle.meaning.specs.Run.{same, sumOf, weight, size}
-use Rattle.meaning.proofs.Meets.{Grade, plus, Fits, unknowns, Orderly, Ready, Made, Went, Meets, made-more, made-side, stays, ready-fits, meets-then, meets-fits, meets-holds, meets-from, meets-nest}
-use Rattle.meaning.proofs.Steps.{no-thing, one-diagnostic, one-unknown, one-node, same-self, Nothing, IsSide, Known, IsUnknown, reject-meets, freshVarId-meets, made-known, introduce-known, introduce-meets, annotate-meets, unify-meets, unifyAt-meets, orderable-meets, rolled-meets}
+use Rattle.meaning.proofs.Meets.{Grade, plus, Fits, unknowns, Orderly, Ready, Made, Went, Meets, going, made-more, made-side, stays, ready-fits, meets-after, meets-then, meets-from, meets-fits, went-with, meets-nest}
+use Rattle.meaning.proofs.Steps.{no-thing, one-diagnostic, one-unknown, one-node, same-self, Nothing, IsSide, Known, IsUnknown, reject-meets, reject-if, reject-unless, freshVarId-meets, made-known, introduce-known, introduce-meets, annotate-meets, unify-meets, unifyAt-meets, orderable-meets, rolled-meets, cut-meets}
 
 -- ---- Grades of visits
 
@@ -58,6 +59,11 @@ pub size-pos : (nodes : List Node) (d n : ℕ) → 1 ≤ size nodes d n
 unfolding weight
 size-pos nodes zero n = omega arith
 size-pos nodes (suc d) n = omega arith
+
+pub own-weight : (nodes : List Node) (own : ℕ → ℕ) (d n : ℕ) → own n ≤ weight nodes own d n
+unfolding weight
+own-weight nodes own zero n = omega arith
+own-weight nodes own (suc d) n = omega arith
 
 -- ---- What is asked of the visits below
 pub record Good (nodes : List Node) (d : ℕ) (below : Walk) : Type 0 where
@@ -129,7 +135,7 @@ row-more n m r le h = side-more n m le (Ty.node Kind.Record r) h
 module _ (schema : Schema) (nodes : List Node) (declared : All DeclaredPredicate (schema .predicates)) (id : ℕ) (c : Checker) (o : Orderly c) where
   rejectTy-meets : (code : Code) → Meets IsSide one-diagnostic c (rejectTy schema nodes id code c)
   unfolding rejectTy reject
-  rejectTy-meets code = let w = reject-meets schema nodes id code c o in record { orderly = w .orderly; made = w .made; reached = w .reached; holds = tt }
+  rejectTy-meets code = went-with IsSide Ty.Error (going (reject-meets schema nodes id code c o)) tt
 
   fieldAt-meets : (name : ℕ) (t : Ty) → Side (unknowns c) t → Meets IsSide one-diagnostic c (fieldAt schema nodes id name t c)
   unfolding fieldAt
@@ -185,3 +191,295 @@ module _ (schema : Schema) (nodes : List Node) (declared : All DeclaredPredicate
   selectOf-meets name (Ty.node Kind.Record r) h = rejectTy-meets _
   selectOf-meets name (Ty.leaf p) h = rejectTy-meets _
   selectOf-meets name (Ty.Var x) h = rejectTy-meets _
+
+-- ---- A comparison introduces a side that is a variable, and finds it when it infers that side.
+unfoldable early : Form → ℕ
+early (aVariable x) = 1
+early aWildcard = 0
+early aConstant = 0
+early (aRecord fs) = 0
+early (aDisjunction es) = 0
+early anError = 0
+early another = 0
+
+-- Of k unknowns, those that are left for later.
+unfoldable late : Form → ℕ → ℕ
+late (aVariable x) k = 0
+late aWildcard k = k
+late aConstant k = k
+late (aRecord fs) k = k
+late (aDisjunction es) k = k
+late anError k = k
+late another k = k
+
+early-late : (f : Form) (k : ℕ) → 1 ≤ k → early f + late f k ≤ k
+unfolding early late
+early-late (aVariable x) k h = omega arith
+early-late aWildcard k h = omega arith
+early-late aConstant k h = omega arith
+early-late (aRecord fs) k h = omega arith
+early-late (aDisjunction es) k h = omega arith
+early-late anError k h = omega arith
+early-late another k h = omega arith
+
+abbrev introducing : Form → Grade
+introducing f = record { nodes = λ x. 0; unknowns = early f; diagnostics = 0 }
+
+abbrev inferring-late : List Node → ℕ → ℕ → Form → Grade
+inferring-late nodes d n f = record { nodes = λ x. weight nodes (λ m. same x m) d n; unknowns = late f (size nodes d n); diagnostics = 3 * size nodes d n - 1 }
+
+abbrev Introduced : Form → Checker → Type 0
+Introduced (aVariable x) c = Known x c
+Introduced aWildcard c = Unit {0}
+Introduced aConstant c = Unit {0}
+Introduced (aRecord fs) c = Unit {0}
+Introduced (aDisjunction es) c = Unit {0}
+Introduced anError c = Unit {0}
+Introduced another c = Unit {0}
+
+made-introduced : (g : Grade) (c c′ : Checker) (f : Form) → Made g c c′ → Introduced f c → Introduced f c′
+made-introduced g c c′ (aVariable x) m k = made-known g c c′ x m k
+made-introduced g c c′ aWildcard m k = tt
+made-introduced g c c′ aConstant m k = tt
+made-introduced g c c′ (aRecord fs) m k = tt
+made-introduced g c c′ (aDisjunction es) m k = tt
+made-introduced g c c′ anError m k = tt
+made-introduced g c c′ another m k = tt
+
+introduceSide-meets : (schema : Schema) (nodes : List Node) (f : Form) (c : Checker) → Orderly c → Meets (λ u b. Introduced f b) (introducing f) c (introduceSide schema nodes f c)
+unfolding introduceSide early
+introduceSide-meets schema nodes (aVariable x) c o =
+    meets-from (IsUnknown x) _ one-unknown (introducing (aVariable x)) c (introduce x c) _ (omega arith) (introduce-meets x c o) (λ v b w. went-with _ tt w (w .holds .1))
+introduceSide-meets schema nodes aWildcard c o = stays _ (introducing aWildcard) c tt o tt
+introduceSide-meets schema nodes aConstant c o = stays _ (introducing aConstant) c tt o tt
+introduceSide-meets schema nodes (aRecord fs) c o = stays _ (introducing (aRecord fs)) c tt o tt
+introduceSide-meets schema nodes (aDisjunction es) c o = stays _ (introducing (aDisjunction es)) c tt o tt
+introduceSide-meets schema nodes anError c o = stays _ (introducing anError) c tt o tt
+introduceSide-meets schema nodes another c o = stays _ (introducing another) c tt o tt
+
+-- Only a variable has the form of one.
+variable-kind : (k : ExprKind) (x : ℕ) → formOf k ≡ aVariable x → k ≡ ExprKind.Var x
+unfolding formOf
+variable-kind (ExprKind.Var y) x e = cc
+variable-kind (ExprKind.Lit l) x e = clash (cc)
+variable-kind ExprKind.Wildcard x e = clash (cc)
+variable-kind ExprKind.Never x e = clash (cc)
+variable-kind (ExprKind.Prefix y) x e = clash (cc)
+variable-kind (ExprKind.Fuzzy y t) x e = clash (cc)
+variable-kind (ExprKind.Record fs) x e = clash (cc)
+variable-kind (ExprKind.Access f y) x e = clash (cc)
+variable-kind (ExprKind.Disjunction es) x e = clash (cc)
+variable-kind (ExprKind.Subquery q) x e = clash (cc)
+variable-kind (ExprKind.Fact p y) x e = clash (cc)
+variable-kind (ExprKind.Arith es) x e = clash (cc)
+variable-kind ExprKind.Error x e = clash (cc)
+variable-kind (ExprKind.Select y z) x e = clash (cc)
+
+-- ---- Functions of the visits below
+module _ (schema : Schema) (nodes : List Node) (declared : All DeclaredPredicate (schema .predicates)) (d : ℕ) (below : Walk) (good : Good nodes d below) where
+  access-meets : (id : ℕ) (f : FieldRef) (base : ℕ) (c : Checker) → Orderly c → Ready (within nodes d (base ∷ [])) c → Meets IsSide (within nodes d (base ∷ [])) c (access schema nodes below id f base c)
+  unfolding access repr sumOf
+  access-meets id f base c o r =
+      meets-then IsSide IsSide (inferring nodes d base) one-diagnostic (within nodes d (base ∷ [])) c (omega (arith, size-pos nodes d base)) (below .infer base c) _ r (good .infer base c o)
+      (λ t b w r′. accessOf-meets schema nodes declared id b (w .orderly) f (Bindings.repr (b .state .subst) t) (repr-side b t (w .orderly) (w .holds)))
+
+  select-meets : (id name base : ℕ) (c : Checker) → Orderly c → Ready (within nodes d (base ∷ [])) c → Meets IsSide (within nodes d (base ∷ [])) c (select schema nodes below id name base c)
+  unfolding select repr sumOf
+  select-meets id name base c o r =
+      meets-then IsSide IsSide (inferring nodes d base) one-diagnostic (within nodes d (base ∷ [])) c (omega (arith, size-pos nodes d base)) (below .infer base c) _ r (good .infer base c o)
+      (λ t b w r′. selectOf-meets schema nodes declared id b (w .orderly) name (Bindings.repr (b .state .subst) t) (repr-side b t (w .orderly) (w .holds)))
+
+  fact-meets : (p key : ℕ) (c : Checker) → Orderly c → Ready (within nodes d (key ∷ [])) c → Meets IsSide (within nodes d (key ∷ [])) c (fact schema nodes below p key c)
+  unfolding fact sumOf
+  fact-meets p key c o r = go (keyTy schema nodes p) refl (key-declared schema nodes declared p)
+    where
+      go : (k : Option Ty) → keyTy schema nodes p ≡ k → DeclaredOption k → Meets IsSide (within nodes d (key ∷ [])) c (fact schema nodes below p key c)
+      go none e q = rw (e, fact) (stays IsSide (within nodes d (key ∷ [])) c _ o tt)
+      go (some t) e q =
+          rw (e, fact) (meets-then Nothing IsSide (checking nodes d key) no-thing (within nodes d (key ∷ [])) c (omega arith) (below .check key t c) _ r
+          (λ r′. good .check key t c o r′ (declared-side (unknowns c) t q)) (λ u b w r′. stays IsSide no-thing b _ (w .orderly) tt))
+
+  fuzzy-meets : (id text distance : ℕ) (c : Checker) → Orderly c → Ready (within nodes d []) c → Meets IsSide (within nodes d []) c (inferKind schema nodes below id (ExprKind.Fuzzy text distance) c)
+  unfolding inferKind fuzzyTerm sumOf
+  fuzzy-meets id text distance c o r =
+      meets-then Nothing IsSide one-diagnostic one-diagnostic (within nodes d []) c (omega arith) (fuzzyDistance schema nodes id distance c) _ r (λ r′. far distance)
+      (λ u b w r′. meets-then Nothing IsSide one-diagnostic no-thing one-diagnostic b (omega arith) (fuzzyTerm schema nodes id text b) _ r′ (λ r″. long b (w .orderly)) (λ u′ b′ w′ r″. stays IsSide no-thing b′ _ (w′ .orderly) tt))
+    where
+      far : (e : ℕ) → Meets Nothing one-diagnostic c (fuzzyDistance schema nodes id e c)
+      far zero = reject-meets schema nodes id _ c o
+      far (suc e) = reject-if schema nodes id _ c o (ltb (schema .maxDistance) (suc e))
+
+      long : (b : Checker) → Orderly b → Meets Nothing one-diagnostic b (fuzzyTerm schema nodes id text b)
+      long b o′ = reject-if schema nodes id _ b o′ (ltb (schema .maxTermChars) (getD (schema .characters) text 0))
+
+  inferFields-meets : (fs : List Syntax.Field) (c : Checker) → Orderly c → Ready (visiting nodes d (fieldValues fs)) c → Meets (λ row b. SideRow (unknowns b) row) (visiting nodes d (fieldValues fs)) c (inferFields schema nodes below fs c)
+  unfolding inferFields fieldValues sumOf
+  inferFields-meets [] c o r = stays _ (visiting nodes d []) c Row.ε o tt
+  inferFields-meets (f ∷ fs) c o r =
+      meets-then IsSide _ (inferring nodes d (f .value)) (visiting nodes d (fieldValues fs)) (visiting nodes d (fieldValues (f ∷ fs))) c (omega arith) (below .infer (f .value) c) _ r (good .infer (f .value) c o)
+      (λ t b w r′. meets-then (λ row e. SideRow (unknowns e) row) _ (visiting nodes d (fieldValues fs)) no-thing (visiting nodes d (fieldValues fs)) b (omega arith) (inferFields schema nodes below fs b) _ r′ (inferFields-meets fs b (w .orderly))
+      (λ row b′ w′ r″. stays _ no-thing b′ _ (w′ .orderly) (refl, made-side _ b b′ t (w′ .made) (w .holds), w′ .holds)))
+
+  inferAll-meets : (t : Ty) (es : List ℕ) (c : Checker) → Orderly c → Ready (visiting nodes d es) c → Side (unknowns c) t → Meets Nothing (visiting nodes d es) c (inferAll schema nodes below t es c)
+  unfolding inferAll sumOf
+  inferAll-meets t [] c o r h = stays Nothing (visiting nodes d []) c tt o tt
+  inferAll-meets t (e ∷ es) c o r h =
+      meets-then IsSide Nothing (inferring nodes d e) (plus one-diagnostic (visiting nodes d es)) (visiting nodes d (e ∷ es)) c (omega (arith, size-pos nodes d e)) (below .infer e c) _ r (good .infer e c o)
+      (λ u b w r′. meets-then Nothing Nothing one-diagnostic (visiting nodes d es) (plus one-diagnostic (visiting nodes d es)) b (omega arith) (unifyAt schema nodes e u t b) _ r′
+      (λ r″. unifyAt-meets schema nodes e u t b (w .orderly) r″ (w .holds) (made-side _ c b t (w .made) h))
+      (λ u′ b′ w′ r″. inferAll-meets t es b′ (w′ .orderly) r″ (made-side _ b b′ t (w′ .made) (made-side _ c b t (w .made) h))))
+
+  freshVar-meets : (c : Checker) → Orderly c → Meets IsSide one-unknown c (freshVar c)
+  unfolding freshVar freshVarId
+  freshVar-meets c o = let w = going (freshVarId-meets c o) in went-with IsSide (Ty.Var _) w (w .holds)
+
+  disjunction-meets : (es : List ℕ) (c : Checker) → Orderly c → Ready (within nodes d es) c → Meets IsSide (within nodes d es) c (disjunction schema nodes below es c)
+  unfolding disjunction freshVar freshVarId sumOf
+  disjunction-meets es c o r =
+      meets-after IsSide IsSide one-unknown (visiting nodes d es) (within nodes d es) c (omega arith) r (λ r′. freshVar-meets c o)
+      (λ w r′. meets-then Nothing IsSide (visiting nodes d es) no-thing (visiting nodes d es) _ (omega arith) (inferAll schema nodes below _ es _) _ r′ (λ r″. inferAll-meets _ es _ (w .orderly) r″ (w .holds))
+      (λ u b′ w′ r″. stays IsSide no-thing b′ _ (w′ .orderly) (made-side _ _ b′ (Ty.Var (Bindings.freshId (c .state))) (w′ .made) (w .holds))))
+
+  -- ---- Statements
+  right-meets : (g : Grade) (r : ℕ) (c : Checker) → Fits (inferring nodes d r) g → Orderly c → Ready g c → Meets Nothing g c (onlyRight schema nodes below r c)
+  unfolding onlyRight
+  right-meets g r c f o y =
+      meets-from IsSide Nothing (inferring nodes d r) g c (below .infer r c) _ f (good .infer r c o (ready-fits (inferring nodes d r) g c f y)) (λ t b w. meets-fits Nothing (inferring nodes d r) g c f (went-with Nothing tt w tt))
+
+  bindVariable-meets : (x l r : ℕ) (c : Checker) → Orderly c → Ready (visiting nodes d (l ∷ r ∷ [])) c → Meets Nothing (visiting nodes d (l ∷ r ∷ [])) c (bindVariable schema nodes below x l r c)
+  unfolding bindVariable annotate sumOf
+  bindVariable-meets x l r c o y =
+      let rest = plus (inferring nodes d r) one-diagnostic in
+      meets-then (IsUnknown x) Nothing one-unknown (plus (one-node l) rest) (visiting nodes d (l ∷ r ∷ [])) c (bind-fits l r) (introduce x c) _ y (λ y′. introduce-meets x c o)
+      (λ v b w y′. meets-after Nothing Nothing (one-node l) rest (plus (one-node l) rest) b (omega arith) y′ (λ y″. annotate-meets l (Ty.Var v) b (w .orderly) y″ (w .holds .0))
+      (λ w′ z. meets-then IsSide Nothing (inferring nodes d r) one-diagnostic rest _ (omega arith) (below .infer r _) _ z (good .infer r _ (w′ .orderly))
+      (λ t b″ w″ z′. unifyAt-meets schema nodes r t (Ty.Var v) b″ (w″ .orderly) z′ (w″ .holds) (made-side _ _ b″ (Ty.Var v) (w″ .made) (made-side _ b _ (Ty.Var v) (w′ .made) (w .holds .0))))))
+    where
+      bind-fits : (l r : ℕ) → Fits (plus one-unknown (plus (one-node l) (plus (inferring nodes d r) one-diagnostic))) (visiting nodes d (l ∷ r ∷ []))
+      bind-fits l r = record { nodes = λ x. omega (arith, own-weight nodes (λ m. same x m) d l); unknowns = omega (arith, size-pos nodes d l); diagnostics = omega (arith, size-pos nodes d r) }
+
+  badTarget-meets : (l r : ℕ) (c : Checker) → Orderly c → Ready (visiting nodes d (l ∷ r ∷ [])) c → Meets Nothing (visiting nodes d (l ∷ r ∷ [])) c (badTarget schema nodes below l r c)
+  unfolding badTarget reject onlyRight sumOf
+  badTarget-meets l r c o y =
+      meets-after Nothing Nothing one-diagnostic (inferring nodes d r) (visiting nodes d (l ∷ r ∷ [])) c (omega (arith, size-pos nodes d l)) y (λ y′. reject-meets schema nodes l Code.RejectBindLhs c o)
+      (λ w y′. right-meets (inferring nodes d r) r _ (omega arith) (w .orderly) y′)
+
+  onlyRight-meets : (l r : ℕ) (c : Checker) → Orderly c → Ready (visiting nodes d (l ∷ r ∷ [])) c → Meets Nothing (visiting nodes d (l ∷ r ∷ [])) c (onlyRight schema nodes below r c)
+  unfolding sumOf
+  onlyRight-meets l r c o y = right-meets (visiting nodes d (l ∷ r ∷ [])) r c (omega arith) o y
+
+  notYet-meets : (l r : ℕ) (c : Checker) → Orderly c → Ready (visiting nodes d (l ∷ r ∷ [])) c → Meets Nothing (visiting nodes d (l ∷ r ∷ [])) c (notYet schema nodes below l r c)
+  unfolding notYet reject onlyRight sumOf
+  notYet-meets l r c o y =
+      let rest = plus (inferring nodes d l) (inferring nodes d r) in
+      meets-after Nothing Nothing one-diagnostic rest (visiting nodes d (l ∷ r ∷ [])) c (omega (arith, size-pos nodes d l)) y (λ y′. reject-meets schema nodes l Code.NyiBindUnification c o)
+      (λ w y′. meets-then IsSide Nothing (inferring nodes d l) (inferring nodes d r) rest _ (omega arith) (below .infer l _) _ y′ (good .infer l _ (w .orderly))
+      (λ t b′ w′ y″. right-meets (inferring nodes d r) r b′ (omega arith) (w′ .orderly) y″))
+
+  destructure-meets : (l r : ℕ) (c : Checker) → Orderly c → Ready (visiting nodes d (l ∷ r ∷ [])) c → Meets Nothing (visiting nodes d (l ∷ r ∷ [])) c (destructure schema nodes below l r c)
+  unfolding destructure sumOf
+  destructure-meets l r c o y =
+      let rest = plus (inferring nodes d r) one-diagnostic in
+      meets-then IsSide Nothing (inferring nodes d l) rest (visiting nodes d (l ∷ r ∷ [])) c (omega (arith, size-pos nodes d r)) (below .infer l c) _ y (good .infer l c o)
+      (λ t b w y′. meets-then IsSide Nothing (inferring nodes d r) one-diagnostic rest b (omega arith) (below .infer r b) _ y′ (good .infer r b (w .orderly))
+      (λ u b′ w′ y″. unifyAt-meets schema nodes r u t b′ (w′ .orderly) y″ (w′ .holds) (made-side _ b b′ t (w′ .made) (w .holds))))
+
+  bindWildcard-meets : (l r : ℕ) (c : Checker) → Orderly c → Ready (visiting nodes d (l ∷ r ∷ [])) c → Meets Nothing (visiting nodes d (l ∷ r ∷ [])) c (bindWildcard schema nodes below l r c)
+  unfolding bindWildcard sumOf
+  bindWildcard-meets l r c o y =
+      meets-then IsSide Nothing (inferring nodes d r) (one-node l) (visiting nodes d (l ∷ r ∷ [])) c
+      (record { nodes = λ x. omega (arith, own-weight nodes (λ m. same x m) d l); unknowns = omega arith; diagnostics = omega arith }) (below .infer r c) _ y (good .infer r c o)
+      (λ t b w y′. annotate-meets l t b (w .orderly) y′ (w .holds))
+
+  bindForm-meets : (f : Form) (l r : ℕ) (c : Checker) → Orderly c → Ready (visiting nodes d (l ∷ r ∷ [])) c → Meets Nothing (visiting nodes d (l ∷ r ∷ [])) c (bindForm schema nodes below f l r c)
+  unfolding bindForm
+  bindForm-meets aWildcard l r c o y = bindWildcard-meets l r c o y
+  bindForm-meets (aVariable x) l r c o y = bindVariable-meets x l r c o y
+  bindForm-meets aConstant l r c o y = badTarget-meets l r c o y
+  bindForm-meets (aRecord fs) l r c o y = go (isDestructurable nodes l) refl
+    where
+      go : (b : Bool) → isDestructurable nodes l ≡ b → Meets Nothing (visiting nodes d (l ∷ r ∷ [])) c (bindForm schema nodes below (aRecord fs) l r c)
+      go true e = rw (e, bindForm) (destructure-meets l r c o y)
+      go false e = rw (e, bindForm) (notYet-meets l r c o y)
+  bindForm-meets (aDisjunction es) l r c o y = notYet-meets l r c o y
+  bindForm-meets anError l r c o y = onlyRight-meets l r c o y
+  bindForm-meets another l r c o y = notYet-meets l r c o y
+
+  denyForm-meets : (f : Form) (l r : ℕ) (c : Checker) → Orderly c → Ready (visiting nodes d (l ∷ r ∷ [])) c → Meets Nothing (visiting nodes d (l ∷ r ∷ [])) c (denyForm schema nodes below f l r c)
+  unfolding denyForm
+  denyForm-meets aWildcard l r c o y = badTarget-meets l r c o y
+  denyForm-meets (aVariable x) l r c o y = bindVariable-meets x l r c o y
+  denyForm-meets aConstant l r c o y = badTarget-meets l r c o y
+  denyForm-meets (aRecord fs) l r c o y = notYet-meets l r c o y
+  denyForm-meets (aDisjunction es) l r c o y = notYet-meets l r c o y
+  denyForm-meets anError l r c o y = onlyRight-meets l r c o y
+  denyForm-meets another l r c o y = notYet-meets l r c o y
+
+  infer-late : (n : ℕ) (f : Form) (c : Checker) → form schema nodes n ≡ f → Orderly c → Ready (inferring-late nodes d n f) c → Introduced f c → Meets IsSide (inferring-late nodes d n f) c (below .infer n c)
+  unfolding form kind late
+  infer-late n (aVariable x) c e o y k = good .found n x c (variable-kind (nodeAt nodes n .kind) x e) o y k
+  infer-late n aWildcard c e o y k = good .infer n c o y
+  infer-late n aConstant c e o y k = good .infer n c o y
+  infer-late n (aRecord fs) c e o y k = good .infer n c o y
+  infer-late n (aDisjunction es) c e o y k = good .infer n c o y
+  infer-late n anError c e o y k = good .infer n c o y
+  infer-late n another c e o y k = good .infer n c o y
+
+  compareOrder-meets : (l : ℕ) (t : Ty) (c : Checker) → Orderly c → Ready one-diagnostic c → Meets Nothing one-diagnostic c (compareOrder schema nodes l t c)
+  unfolding compareOrder
+  compareOrder-meets l t c o y =
+      meets-then Nothing Nothing no-thing one-diagnostic one-diagnostic c (omega arith) (orderable t c) _ y (λ y′. orderable-meets t c o)
+      (λ has b w y′. reject-unless schema nodes l Code.RejectTypeMismatch b (w .orderly) has)
+
+  compare-meets : (l r : ℕ) (c : Checker) → Orderly c → Ready (visiting nodes d (l ∷ r ∷ [])) c → Meets Nothing (visiting nodes d (l ∷ r ∷ [])) c (compare schema nodes below l r c)
+  unfolding compare sumOf
+  compare-meets l r c o y =
+      let f = form schema nodes l in
+      let h = form schema nodes r in
+      let last = plus (inferring-late nodes d r h) one-diagnostic in
+      let sides = plus (inferring-late nodes d l f) last in
+      meets-then (λ u b. Introduced f b) Nothing (introducing f) (plus (introducing h) sides) (visiting nodes d (l ∷ r ∷ [])) c
+      (omega (arith, size-pos nodes d l, size-pos nodes d r, early-late f (size nodes d l) (size-pos nodes d l), early-late h (size nodes d r) (size-pos nodes d r)))
+      (introduceSide schema nodes f c) _ y (λ y₁. introduceSide-meets schema nodes f c o)
+      (λ u₁ c₁ w₁ y₁. meets-then (λ u b. Introduced h b) Nothing (introducing h) sides (plus (introducing h) sides) c₁ (omega arith) (introduceSide schema nodes h c₁) _ y₁ (λ y₂. introduceSide-meets schema nodes h c₁ (w₁ .orderly))
+      (λ u₂ c₂ w₂ y₂. meets-then IsSide Nothing (inferring-late nodes d l f) last sides c₂ (omega arith) (below .infer l c₂) _ y₂ (λ y₃. infer-late l f c₂ refl (w₂ .orderly) y₃ (made-introduced _ c₁ c₂ f (w₂ .made) (w₁ .holds)))
+      (λ t c₃ w₃ y₃. meets-then IsSide Nothing (inferring-late nodes d r h) one-diagnostic last c₃ (omega arith) (below .infer r c₃) _ y₃ (λ y₄. infer-late r h c₃ refl (w₃ .orderly) y₄ (made-introduced _ c₂ c₃ h (w₃ .made) (w₂ .holds)))
+      (λ v c₄ w₄ y₄. meets-then Nothing Nothing no-thing one-diagnostic one-diagnostic c₄ (omega arith) (unify v t c₄) _ y₄ (λ y₅. unify-meets v t c₄ (w₄ .orderly) (w₄ .holds) (made-side _ c₃ c₄ t (w₄ .made) (w₃ .holds)))
+      (λ failed c₅ w₅ y₅. after failed t c₅ (w₅ .orderly) y₅)))))
+    where
+      after : (failed : Option TyError) (t : Ty) (b : Checker) → Orderly b → Ready one-diagnostic b → Meets Nothing one-diagnostic b ((elim failed as (λ f. Does (Unit {0})) [ some err ↦ report schema nodes r err | none ↦ compareOrder schema nodes l t ]) b)
+      after none t b o′ y′ = compareOrder-meets l t b o′ y′
+      after (some err) t b o′ y′ = unfold report in reject-meets schema nodes r _ b o′
+
+  generate-meets : (n : ℕ) (c : Checker) → Orderly c → Ready (inferring nodes d n) c → Meets Nothing (inferring nodes d n) c (generate schema nodes below n c)
+  unfolding generate
+  generate-meets n c o y = meets-from IsSide Nothing (inferring nodes d n) (inferring nodes d n) c (below .generator n c) _ (omega arith) (good .generator n c o y) (λ t b w. went-with Nothing tt w tt)
+
+  pub stmts-meets : (ss : List QueryStmt) (c : Checker) → Orderly c → Ready (visiting nodes d (stmtNodes ss)) c → Meets Nothing (visiting nodes d (stmtNodes ss)) c (stmts schema nodes below ss c)
+  unfolding stmts stmt stmtNodes sumOf
+  stmts-meets [] c o y = stays Nothing (visiting nodes d []) c tt o tt
+  stmts-meets (QueryStmt.Bind l r ∷ ss) c o y =
+      meets-then Nothing Nothing (visiting nodes d (l ∷ r ∷ [])) (visiting nodes d (stmtNodes ss)) (visiting nodes d (l ∷ r ∷ stmtNodes ss)) c (omega arith) (bindForm schema nodes below (form schema nodes l) l r c) _ y
+      (bindForm-meets (form schema nodes l) l r c o) (λ u b w y′. stmts-meets ss b (w .orderly) y′)
+  stmts-meets (QueryStmt.Deny l r ∷ ss) c o y =
+      meets-then Nothing Nothing (visiting nodes d (l ∷ r ∷ [])) (visiting nodes d (stmtNodes ss)) (visiting nodes d (l ∷ r ∷ stmtNodes ss)) c (omega arith) (denyForm schema nodes below (form schema nodes l) l r c) _ y
+      (denyForm-meets (form schema nodes l) l r c o) (λ u b w y′. stmts-meets ss b (w .orderly) y′)
+  stmts-meets (QueryStmt.Compare l r ∷ ss) c o y =
+      meets-then Nothing Nothing (visiting nodes d (l ∷ r ∷ [])) (visiting nodes d (stmtNodes ss)) (visiting nodes d (l ∷ r ∷ stmtNodes ss)) c (omega arith) (compare schema nodes below l r c) _ y
+      (compare-meets l r c o) (λ u b w y′. stmts-meets ss b (w .orderly) y′)
+  stmts-meets (QueryStmt.Implicit e ∷ ss) c o y =
+      meets-then Nothing Nothing (inferring nodes d e) (visiting nodes d (stmtNodes ss)) (visiting nodes d (e ∷ stmtNodes ss)) c (omega arith) (generate schema nodes below e c) _ y
+      (generate-meets e c o) (λ u b w y′. stmts-meets ss b (w .orderly) y′)
+  stmts-meets (QueryStmt.Negation e ∷ ss) c o y =
+      meets-then Nothing Nothing (inferring nodes d e) (visiting nodes d (stmtNodes ss)) (visiting nodes d (e ∷ stmtNodes ss)) c (omega arith) (generate schema nodes below e c) _ y
+      (generate-meets e c o) (λ u b w y′. stmts-meets ss b (w .orderly) y′)
+
+  -- The statements, then the head; the environment is cut back to where it was.
+  subquery-meets : (q : Query) (c : Checker) → Orderly c → Ready (within nodes d (queryNodes q)) c → Meets IsSide (within nodes d (queryNodes q)) c (subquery schema nodes below q c)
+  unfolding subquery queryNodes sumOf
+  subquery-meets q c o y =
+      meets-nest IsSide (within nodes d (queryNodes q)) c (stmts schema nodes below (q .body) c) (λ u. below .infer (q .head)) _
+      (meets-from IsSide IsSide (within nodes d (queryNodes q)) (within nodes d (queryNodes q)) c _ _ (omega arith)
+      (meets-then Nothing IsSide (visiting nodes d (stmtNodes (q .body))) (inferring nodes d (q .head)) (within nodes d (queryNodes q)) c (omega arith) (stmts schema nodes below (q .body) c) _ y
+      (stmts-meets (q .body) c o) (λ u b w y′. good .infer (q .head) b (w .orderly) y′))
+      (λ t b w. cut-meets (within nodes d (queryNodes q)) c b t o w))
