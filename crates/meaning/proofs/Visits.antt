@@ -21,7 +21,7 @@ use Rattle.meaning.specs.Diag.{Code}
 use Rattle.meaning.specs.References.{fieldValues, stmtNodes, queryNodes, exprNodes}
 use Rattle.meaning.specs.Rules.{All}
 use Rattle.meaning.specs.Sound.{DeclaredOption, DeclaredPredicate}
-use Rattle.meaning.specs.Check.{Checker, Step, goes, out, Does, andThen, freshVarId, freshVar, introduce, annotate, repr, unify, orderable, Form, aWildcard, aVariable, aConstant, aRecord, aDisjunction, anError, another, formOf, Walk, kind, form, reject, rejectTy, report, unifyAt, unresolved, keyTy, valueTy, keyShadowsValue, valueOf, fieldAt, keyOf, selectOf, accessOf, access, select, fuzzyDistance, fuzzyTerm, inferFields, inferAll, disjunction, fact, bindVariable, badTarget, onlyRight, notYet, destructure, bindWildcard, bindForm, denyForm, introduceSide, compareOrder, compare, generate, stmt, stmts, subquery, inferKind, inferAt, inferThenUnify, checkField, checkMentioned, checkFields, checkAlternative, checkUnion, checkRecord, checkForm, checkAgainst, checkAt, generateBranches, generatorForm, generatorAt, walk, headForm, query}
+use Rattle.meaning.specs.Check.{Checker, Step, goes, out, Does, andThen, freshVarId, freshVar, introduce, annotate, repr, unify, orderable, snapshot, rollback, diagnosticsLen, Form, aWildcard, aVariable, aConstant, aRecord, aDisjunction, anError, another, formOf, Walk, kind, form, reject, rejectTy, report, unifyAt, unresolved, keyTy, valueTy, keyShadowsValue, valueOf, fieldAt, keyOf, selectOf, accessOf, access, select, fuzzyDistance, fuzzyTerm, inferFields, inferAll, disjunction, fact, bindVariable, badTarget, onlyRight, notYet, destructure, bindWildcard, bindForm, denyForm, introduceSide, compareOrder, compare, generate, stmt, stmts, subquery, inferKind, inferAt, inferThenUnify, checkField, checkMentioned, checkFields, checkAlternative, checkUnion, checkRecord, checkForm, checkAgainst, checkAt, generateBranches, generatorForm, generatorAt, walk, headForm, query}
 use Rattle.meaning.specs.Run.{same, sumOf, weight, size}
 use Rattle.meaning.proofs.Meets.{Grade, plus, Fits, unknowns, Orderly, Ready, Made, Went, Meets, going, made-more, made-side, stays, ready-fits, meets-after, meets-then, meets-from, meets-fits, went-with, meets-nest}
 use Rattle.meaning.proofs.Steps.{no-thing, one-diagnostic, one-unknown, one-node, same-self, Nothing, IsSide, Known, IsUnknown, reject-meets, reject-if, reject-unless, freshVarId-meets, made-known, introduce-known, introduce-meets, annotate-meets, unify-meets, unifyAt-meets, orderable-meets, rolled-meets, cut-meets}
@@ -483,3 +483,231 @@ module _ (schema : Schema) (nodes : List Node) (declared : All DeclaredPredicate
       (meets-then Nothing IsSide (visiting nodes d (stmtNodes (q .body))) (inferring nodes d (q .head)) (within nodes d (queryNodes q)) c (omega arith) (stmts schema nodes below (q .body) c) _ y
       (stmts-meets (q .body) c o) (λ u b w y′. good .infer (q .head) b (w .orderly) y′))
       (λ t b w. cut-meets (within nodes d (queryNodes q)) c b t o w))
+
+  -- ---- `infer`
+  inferKind-meets : (id : ℕ) (k : ExprKind) (c : Checker) → Orderly c → Ready (within nodes d (exprNodes k)) c → Meets IsSide (within nodes d (exprNodes k)) c (inferKind schema nodes below id k c)
+  unfolding inferKind exprNodes sumOf
+  inferKind-meets id (ExprKind.Lit Literal.Int) c o y = stays IsSide _ c _ o tt
+  inferKind-meets id (ExprKind.Lit Literal.Str) c o y = stays IsSide _ c _ o tt
+  inferKind-meets id (ExprKind.Lit Literal.Bytes) c o y = stays IsSide _ c _ o tt
+  inferKind-meets id (ExprKind.Var x) c o y =
+      meets-from (IsUnknown x) IsSide (within nodes d []) (within nodes d []) c (introduce x c) _ (omega arith) (meets-fits (IsUnknown x) one-unknown (within nodes d []) c (omega arith) (introduce-meets x c o)) (λ v b w. went-with IsSide (Ty.Var v) w (w .holds .0))
+  inferKind-meets id ExprKind.Wildcard c o y = meets-fits IsSide one-unknown (within nodes d []) c (omega arith) (freshVar-meets c o)
+  inferKind-meets id ExprKind.Never c o y = meets-fits IsSide one-unknown (within nodes d []) c (omega arith) (freshVar-meets c o)
+  inferKind-meets id (ExprKind.Prefix x) c o y = stays IsSide _ c _ o tt
+  inferKind-meets id (ExprKind.Fuzzy x t) c o y = fuzzy-meets id x t c o y
+  inferKind-meets id (ExprKind.Record fs) c o y =
+      meets-then (λ row b. SideRow (unknowns b) row) IsSide (visiting nodes d (fieldValues fs)) no-thing (within nodes d (fieldValues fs)) c (omega arith) (inferFields schema nodes below fs c) _ y (inferFields-meets fs c o)
+      (λ row b w y′. stays IsSide no-thing b (Ty.node Kind.Record row) (w .orderly) (w .holds))
+  inferKind-meets id (ExprKind.Access f e) c o y = access-meets id f e c o y
+  inferKind-meets id (ExprKind.Disjunction es) c o y = disjunction-meets es c o y
+  inferKind-meets id (ExprKind.Subquery q) c o y = subquery-meets q c o y
+  inferKind-meets id (ExprKind.Fact p e) c o y = fact-meets p e c o y
+  inferKind-meets id (ExprKind.Arith es) c o y =
+      meets-then Nothing IsSide (visiting nodes d es) no-thing (within nodes d es) c (omega arith) (inferAll schema nodes below (Ty.leaf Leaf.Int) es c) _ y (λ y′. inferAll-meets (Ty.leaf Leaf.Int) es c o y′ tt)
+      (λ u b w y′. stays IsSide no-thing b (Ty.leaf Leaf.Int) (w .orderly) tt)
+  inferKind-meets id ExprKind.Error c o y = stays IsSide _ c _ o tt
+  inferKind-meets id (ExprKind.Select x e) c o y = select-meets id x e c o y
+
+  -- The type that was inferred is the node's.
+  annotated : (id : ℕ) (t : Ty) (b : Checker) → Orderly b → Ready (one-node id) b → Side (unknowns b) t → Meets IsSide (one-node id) b (andThen (annotate id t b) (λ u c. goes t c))
+  annotated id t b o y h = meets-from Nothing IsSide (one-node id) (one-node id) b (annotate id t b) _ (omega arith) (annotate-meets id t b o y h) (λ u b′ w. went-with IsSide t w (made-side _ b b′ t (w .made) h))
+
+  inferAt-meets : (id : ℕ) (c : Checker) → Orderly c → Ready (inferring nodes (suc d) id) c → Meets IsSide (inferring nodes (suc d) id) c (inferAt schema nodes below id c)
+  unfolding inferAt kind weight
+  inferAt-meets id c o y =
+      let k = nodeAt nodes id .kind in
+      meets-then IsSide IsSide (within nodes d (exprNodes k)) (one-node id) (inferring nodes (suc d) id) c (omega arith) (inferKind schema nodes below id k c) _ y (inferKind-meets id k c o)
+      (λ t b w y′. annotated id t b (w .orderly) y′ (w .holds))
+
+  inferAt-found : (id x : ℕ) (c : Checker) → nodeAt nodes id .kind ≡ ExprKind.Var x → Orderly c → Ready (finding nodes (suc d) id) c → Known x c → Meets IsSide (finding nodes (suc d) id) c (inferAt schema nodes below id c)
+  unfolding inferAt inferKind kind
+  inferAt-found id x c e o y k =
+      meets-then IsSide IsSide no-thing (one-node id) (finding nodes (suc d) id) c (record { nodes = λ z. omega (arith, own-weight nodes (λ m. same z m) (suc d) id); unknowns = omega arith; diagnostics = omega arith })
+      (inferKind schema nodes below id (nodeAt nodes id .kind) c) _ y
+      (λ y′. rw e (meets-from (IsUnknown x) IsSide no-thing no-thing c (introduce x c) _ (omega arith) (introduce-known x c o k) (λ v b w. went-with IsSide (Ty.Var v) w (w .holds .0))))
+      (λ t b w y′. annotated id t b (w .orderly) y′ (w .holds))
+
+  -- ---- `check`
+  inferThenUnify-meets : (id : ℕ) (t : Ty) (c : Checker) → Orderly c → Ready (checking nodes (suc d) id) c → Side (unknowns c) t → Meets Nothing (checking nodes (suc d) id) c (inferThenUnify schema nodes below id t c)
+  unfolding inferThenUnify snapshot
+  inferThenUnify-meets id t c o y h =
+      meets-nest Nothing (checking nodes (suc d) id) c (inferAt schema nodes below id c) (λ found. unify found t) _
+      (meets-from Nothing Nothing (inferring nodes (suc d) id) (checking nodes (suc d) id) c _ _ (omega arith)
+      (meets-then IsSide Nothing (inferring nodes (suc d) id) no-thing (inferring nodes (suc d) id) c (omega arith) (inferAt schema nodes below id c) _ (ready-fits (inferring nodes (suc d) id) (checking nodes (suc d) id) c (omega arith) y)
+      (inferAt-meets id c o) (λ u b w y′. unify-meets u t b (w .orderly) (w .holds) (made-side _ c b t (w .made) h)))
+      after)
+    where
+      after : (failed : Option TyError) (b : Checker) → Went Nothing (inferring nodes (suc d) id) c failed b
+          → Meets Nothing (checking nodes (suc d) id) c ((elim failed as (λ f. Does (Unit {0})) [ none ↦ (λ c. goes tt c) | some err ↦ (λ b. andThen (rollback (record { state = Bindings.snapshot (c .state); env = length (c .env) }) b) (λ u. report schema nodes id err)) ]) b)
+      after none b w = meets-fits Nothing (inferring nodes (suc d) id) (checking nodes (suc d) id) c (omega arith) (went-with Nothing tt w tt)
+      after (some err) b w =
+          meets-then Nothing Nothing (inferring nodes (suc d) id) one-diagnostic (checking nodes (suc d) id) c (omega (arith, size-pos nodes (suc d) id)) (rollback (record { state = Bindings.snapshot (c .state); env = length (c .env) }) b) (λ u. report schema nodes id err) y
+          (λ y′. rolled-meets (inferring nodes (suc d) id) c b o (w .made) (w .reached)) (λ u b′ w′ y′. unfold report in reject-meets schema nodes id _ b′ (w′ .orderly))
+
+  checkField-meets : (n : ℕ) (t : Ty) (c : Checker) → Orderly c → Ready (checking nodes d n) c → Side (unknowns c) t → Meets Nothing (checking nodes d n) c (checkField schema nodes below n t c)
+  unfolding checkField snapshot diagnosticsLen
+  checkField-meets n t c o y h =
+      meets-from Nothing Nothing (checking nodes d n) (checking nodes d n) c (below .check n t c) _ (omega arith) (good .check n t c o y h) (λ u b w. after (ltb (length (c .diagnostics)) (length (b .diagnostics))) u b w)
+    where
+      after : (grew : Bool) (u : Unit {0}) (b : Checker) → Went Nothing (checking nodes d n) c u b
+          → Meets Nothing (checking nodes d n) c ((elim grew as (λ g. Does (Unit {0})) [ true ↦ rollback (record { state = Bindings.snapshot (c .state); env = length (c .env) }) | false ↦ (λ c. goes tt c) ]) b)
+      after true u b w = rolled-meets (checking nodes d n) c b o (w .made) (w .reached)
+      after false u b w = went-with Nothing tt w tt
+
+  checkFields-meets : (fs : List Syntax.Field) (row : Row) (c : Checker) → Orderly c → Ready (visiting nodes d (fieldValues fs)) c → SideRow (unknowns c) row → Meets Nothing (visiting nodes d (fieldValues fs)) c (checkFields schema nodes below fs row c)
+  unfolding checkFields checkMentioned fieldValues sumOf
+  checkFields-meets [] row c o y h = stays Nothing (visiting nodes d []) c tt o tt
+  checkFields-meets (f ∷ fs) row c o y h =
+      meets-then Nothing Nothing (checking nodes d (f .value)) (visiting nodes d (fieldValues fs)) (visiting nodes d (fieldValues (f ∷ fs))) c (omega arith) (checkMentioned schema nodes below f (findKey (f .name) row) c) _ y
+      (λ y′. mentioned (findKey (f .name) row) (find-part (Field (unknowns c)) (f .name) row (fields (unknowns c) row h)) y′)
+      (λ u b w y′. checkFields-meets fs row b (w .orderly) y′ (row-more (unknowns c) (unknowns b) row (made-more _ c b (w .made)) h))
+    where
+      mentioned : (p : Option (ℕ × Ty)) → Part (Field (unknowns c)) p → Ready (checking nodes d (f .value)) c → Meets Nothing (checking nodes d (f .value)) c (checkMentioned schema nodes below f p c)
+      mentioned none q y′ = meets-fits Nothing one-diagnostic (checking nodes d (f .value)) c (omega (arith, size-pos nodes d (f .value))) (reject-meets schema nodes (f .value) _ c o)
+      mentioned (some p) q y′ = checkField-meets (f .value) (p .1) c o y′ (q .1)
+
+  -- One alternative of a union: its payload, then the node itself, or one diagnostic.
+  abbrev choosing : ℕ → List Syntax.Field → Grade
+  choosing id fs = plus (visiting nodes d (fieldValues fs)) (record { nodes = λ x. same x id; unknowns = 0; diagnostics = 1 })
+
+  checkUnion-meets : (id : ℕ) (fs : List Syntax.Field) (row : Row) (c : Checker) → Orderly c → Ready (choosing id fs) c → Declared (Ty.node Kind.Union row) → Meets Nothing (choosing id fs) c (checkUnion schema nodes below id fs row c)
+  unfolding checkUnion checkAlternative fieldValues sumOf
+  checkUnion-meets id [] row c o y h = meets-fits Nothing one-diagnostic (choosing id []) c (omega arith) (reject-meets schema nodes id _ c o)
+  checkUnion-meets id (f ∷ []) row c o y h = go (findLabel (f .name) row) refl (payload-side (unknowns c) (f .name) row (h .1))
+    where
+      go : (p : Option Ty) → findLabel (f .name) row ≡ p → SideOption (unknowns c) p → Meets Nothing (choosing id (f ∷ [])) c (checkAlternative schema nodes below id f row c)
+      go none e q = rw (e, checkAlternative) (meets-fits Nothing one-diagnostic (choosing id (f ∷ [])) c (omega arith) (reject-meets schema nodes id _ c o))
+      go (some t) e q =
+          rw (e, checkAlternative) (meets-then Nothing Nothing (checking nodes d (f .value)) (one-node id) (choosing id (f ∷ [])) c (omega arith) (below .check (f .value) t c) _ y (λ y′. good .check (f .value) t c o y′ q)
+          (λ u b w y′. annotate-meets id (Ty.node Kind.Union row) b (w .orderly) y′ h))
+  checkUnion-meets id (f ∷ g ∷ fs) row c o y h = meets-fits Nothing one-diagnostic (choosing id (f ∷ g ∷ fs)) c (omega arith) (reject-meets schema nodes id _ c o)
+
+  -- A node's weight, by its kind.
+  weight-kind : (own : ℕ → ℕ) (n : ℕ) (k : ExprKind) → nodeAt nodes n .kind ≡ k → weight nodes own (suc d) n ≡ own n + sumOf (λ m. weight nodes own d m) (exprNodes k)
+  unfolding weight
+  weight-kind own n k e = rw e
+
+  module _ (id : ℕ) (fs : List Syntax.Field) (is : nodeAt nodes id .kind ≡ ExprKind.Record fs) where
+    record-fits : Fits (plus (visiting nodes d (fieldValues fs)) (record { nodes = λ x. same x id; unknowns = 0; diagnostics = 1 })) (checking nodes (suc d) id)
+    unfolding exprNodes
+    record-fits = record {
+      nodes = λ x. omega (arith, weight-kind (λ m. same x m) id (ExprKind.Record fs) is);
+      unknowns = omega (arith, weight-kind (λ m. 1) id (ExprKind.Record fs) is);
+      diagnostics = omega (arith, weight-kind (λ m. 1) id (ExprKind.Record fs) is);
+    }
+
+    checkRecord-meets : (t : Ty) (c : Checker) → Orderly c → Ready (checking nodes (suc d) id) c → Side (unknowns c) t → Meets Nothing (checking nodes (suc d) id) c (checkRecord schema nodes below id fs t c)
+    unfolding checkRecord
+    checkRecord-meets (Ty.node Kind.Record row) c o y h =
+        meets-then Nothing Nothing (visiting nodes d (fieldValues fs)) (one-node id) (checking nodes (suc d) id) c (record { nodes = λ x. record-fits .nodes x; unknowns = record-fits .unknowns; diagnostics = omega (arith, record-fits .diagnostics) }) (checkFields schema nodes below fs row c) _ y (λ y′. checkFields-meets fs row c o y′ h)
+        (λ u b w y′. annotate-meets id (Ty.node Kind.Record row) b (w .orderly) y′ (row-more (unknowns c) (unknowns b) row (made-more _ c b (w .made)) h))
+    checkRecord-meets (Ty.node Kind.Union row) c o y h = meets-fits Nothing (choosing id fs) (checking nodes (suc d) id) c record-fits (checkUnion-meets id fs row c o (ready-fits (choosing id fs) (checking nodes (suc d) id) c record-fits y) h)
+    checkRecord-meets (Ty.leaf p) c o y h = inferThenUnify-meets id (Ty.leaf p) c o y h
+    checkRecord-meets (Ty.Var x) c o y h = inferThenUnify-meets id (Ty.Var x) c o y h
+    checkRecord-meets Ty.Error c o y h = inferThenUnify-meets id Ty.Error c o y h
+
+  checkForm-meets : (id : ℕ) (k : ExprKind) (t : Ty) (c : Checker) → nodeAt nodes id .kind ≡ k → Orderly c → Ready (checking nodes (suc d) id) c → Side (unknowns c) t
+      → Meets Nothing (checking nodes (suc d) id) c (checkForm schema nodes below id (formOf k) t c)
+  unfolding checkForm formOf
+  checkForm-meets id (ExprKind.Lit l) t c e o y h = inferThenUnify-meets id t c o y h
+  checkForm-meets id (ExprKind.Var x) t c e o y h = inferThenUnify-meets id t c o y h
+  checkForm-meets id ExprKind.Wildcard t c e o y h =
+      let fits : Fits (one-node id) (checking nodes (suc d) id) = record { nodes = λ x. own-weight nodes (λ m. same x m) (suc d) id; unknowns = omega arith; diagnostics = omega arith } in
+      meets-fits Nothing (one-node id) (checking nodes (suc d) id) c fits (annotate-meets id t c o (ready-fits (one-node id) (checking nodes (suc d) id) c fits y) h)
+  checkForm-meets id ExprKind.Never t c e o y h = inferThenUnify-meets id t c o y h
+  checkForm-meets id (ExprKind.Prefix x) t c e o y h = inferThenUnify-meets id t c o y h
+  checkForm-meets id (ExprKind.Fuzzy x n) t c e o y h = inferThenUnify-meets id t c o y h
+  checkForm-meets id (ExprKind.Record fs) t c e o y h = checkRecord-meets id fs e t c o y h
+  checkForm-meets id (ExprKind.Access f n) t c e o y h = inferThenUnify-meets id t c o y h
+  checkForm-meets id (ExprKind.Disjunction es) t c e o y h = inferThenUnify-meets id t c o y h
+  checkForm-meets id (ExprKind.Subquery q) t c e o y h = inferThenUnify-meets id t c o y h
+  checkForm-meets id (ExprKind.Fact p n) t c e o y h = inferThenUnify-meets id t c o y h
+  checkForm-meets id (ExprKind.Arith es) t c e o y h = inferThenUnify-meets id t c o y h
+  checkForm-meets id ExprKind.Error t c e o y h = inferThenUnify-meets id t c o y h
+  checkForm-meets id (ExprKind.Select x n) t c e o y h = inferThenUnify-meets id t c o y h
+
+  checkAgainst-meets : (id : ℕ) (t : Ty) (c : Checker) → Orderly c → Ready (checking nodes (suc d) id) c → Side (unknowns c) t → Meets Nothing (checking nodes (suc d) id) c (checkAgainst schema nodes below id t c)
+  unfolding checkAgainst form kind
+  checkAgainst-meets id Ty.Error c o y h = stays Nothing (checking nodes (suc d) id) c tt o tt
+  checkAgainst-meets id (Ty.leaf p) c o y h = checkForm-meets id (nodeAt nodes id .kind) (Ty.leaf p) c refl o y h
+  checkAgainst-meets id (Ty.node k r) c o y h = checkForm-meets id (nodeAt nodes id .kind) (Ty.node k r) c refl o y h
+  checkAgainst-meets id (Ty.Var x) c o y h = checkForm-meets id (nodeAt nodes id .kind) (Ty.Var x) c refl o y h
+
+  checkAt-meets : (id : ℕ) (t : Ty) (c : Checker) → Orderly c → Ready (checking nodes (suc d) id) c → Side (unknowns c) t → Meets Nothing (checking nodes (suc d) id) c (checkAt schema nodes below id t c)
+  unfolding checkAt repr
+  checkAt-meets id t c o y h = checkAgainst-meets id (Bindings.repr (c .state .subst) t) c o y (repr-side c t o h)
+
+  -- ---- `generator`
+  generateBranches-meets : (last : Ty) (es : List ℕ) (c : Checker) → Orderly c → Ready (visiting nodes d es) c → Side (unknowns c) last → Meets IsSide (visiting nodes d es) c (generateBranches schema nodes below last es c)
+  unfolding generateBranches sumOf
+  generateBranches-meets last [] c o y h = stays IsSide (visiting nodes d []) c last o h
+  generateBranches-meets last (e ∷ es) c o y h =
+      meets-then IsSide IsSide (inferring nodes d e) (visiting nodes d es) (visiting nodes d (e ∷ es)) c (omega arith) (below .generator e c) _ y (good .generator e c o)
+      (λ t b w y′. generateBranches-meets t es b (w .orderly) y′ (w .holds))
+
+  generatorForm-meets : (id : ℕ) (k : ExprKind) (c : Checker) → nodeAt nodes id .kind ≡ k → Orderly c → Ready (inferring nodes (suc d) id) c → Meets IsSide (inferring nodes (suc d) id) c (generatorForm schema nodes below id (formOf k) c)
+  unfolding generatorForm formOf exprNodes
+  generatorForm-meets id (ExprKind.Lit l) c e o y = inferAt-meets id c o y
+  generatorForm-meets id (ExprKind.Var x) c e o y = inferAt-meets id c o y
+  generatorForm-meets id ExprKind.Wildcard c e o y = inferAt-meets id c o y
+  generatorForm-meets id ExprKind.Never c e o y = inferAt-meets id c o y
+  generatorForm-meets id (ExprKind.Prefix x) c e o y = inferAt-meets id c o y
+  generatorForm-meets id (ExprKind.Fuzzy x n) c e o y = inferAt-meets id c o y
+  generatorForm-meets id (ExprKind.Record fs) c e o y = inferAt-meets id c o y
+  generatorForm-meets id (ExprKind.Access f n) c e o y = inferAt-meets id c o y
+  generatorForm-meets id (ExprKind.Disjunction es) c e o y =
+      meets-then IsSide IsSide (visiting nodes d es) (one-node id) (inferring nodes (suc d) id) c
+      (record {
+        nodes = λ x. omega (arith, weight-kind (λ m. same x m) id (ExprKind.Disjunction es) e);
+        unknowns = omega (arith, weight-kind (λ m. 1) id (ExprKind.Disjunction es) e);
+        diagnostics = omega (arith, weight-kind (λ m. 1) id (ExprKind.Disjunction es) e);
+      })
+      (generateBranches schema nodes below Ty.Error es c) _ y (λ y′. generateBranches-meets Ty.Error es c o y′ tt) (λ t b w y′. annotated id t b (w .orderly) y′ (w .holds))
+  generatorForm-meets id (ExprKind.Subquery q) c e o y = inferAt-meets id c o y
+  generatorForm-meets id (ExprKind.Fact p n) c e o y = inferAt-meets id c o y
+  generatorForm-meets id (ExprKind.Arith es) c e o y = inferAt-meets id c o y
+  generatorForm-meets id ExprKind.Error c e o y = inferAt-meets id c o y
+  generatorForm-meets id (ExprKind.Select x n) c e o y = inferAt-meets id c o y
+
+  generatorAt-meets : (id : ℕ) (c : Checker) → Orderly c → Ready (inferring nodes (suc d) id) c → Meets IsSide (inferring nodes (suc d) id) c (generatorAt schema nodes below id c)
+  unfolding generatorAt form kind
+  generatorAt-meets id c o y = generatorForm-meets id (nodeAt nodes id .kind) c refl o y
+
+-- ---- The walk
+module _ (schema : Schema) (nodes : List Node) (declared : All DeclaredPredicate (schema .predicates)) where
+  pub walk-good : (d : ℕ) → Good nodes d (walk schema nodes d)
+  unfolding walk
+  walk-good zero = record {
+    infer = λ n c o y. stays IsSide (inferring nodes 0 n) c Ty.Error o tt;
+    found = λ n x c e o y k. stays IsSide (finding nodes 0 n) c Ty.Error o tt;
+    check = λ n t c o y h. stays Nothing (checking nodes 0 n) c tt o tt;
+    generator = λ n c o y. stays IsSide (inferring nodes 0 n) c Ty.Error o tt;
+  }
+  walk-good (suc d) = record {
+    infer = λ n c o y. inferAt-meets schema nodes declared d (walk schema nodes d) (walk-good d) n c o y;
+    found = λ n x c e o y k. inferAt-found schema nodes declared d (walk schema nodes d) (walk-good d) n x c e o y k;
+    check = λ n t c o y h. checkAt-meets schema nodes declared d (walk schema nodes d) (walk-good d) n t c o y h;
+    generator = λ n c o y. generatorAt-meets schema nodes declared d (walk schema nodes d) (walk-good d) n c o y;
+  }
+
+  headForm-meets : (n : ℕ) (f : Form) (c : Checker) → Orderly c → Meets Nothing one-diagnostic c (headForm schema nodes n f c)
+  unfolding headForm
+  headForm-meets n aWildcard c o = reject-meets schema nodes n _ c o
+  headForm-meets n (aVariable x) c o = stays Nothing one-diagnostic c tt o tt
+  headForm-meets n aConstant c o = stays Nothing one-diagnostic c tt o tt
+  headForm-meets n anError c o = stays Nothing one-diagnostic c tt o tt
+  headForm-meets n (aRecord fs) c o = stays Nothing one-diagnostic c tt o tt
+  headForm-meets n (aDisjunction es) c o = stays Nothing one-diagnostic c tt o tt
+  headForm-meets n another c o = stays Nothing one-diagnostic c tt o tt
+
+  pub query-meets : (q : Query) (c : Checker) → Orderly c → Ready (visiting nodes (length nodes) (queryNodes q)) c → Meets IsSide (visiting nodes (length nodes) (queryNodes q)) c (query schema nodes q c)
+  unfolding query queryNodes sumOf
+  query-meets q c o y =
+      let d = length nodes in
+      let good = walk-good d in
+      let head = plus one-diagnostic (inferring nodes d (q .head)) in
+      meets-then Nothing IsSide (visiting nodes d (stmtNodes (q .body))) head (visiting nodes d (queryNodes q)) c (omega (arith, size-pos nodes d (q .head))) (stmts schema nodes (walk schema nodes d) (q .body) c) _ y
+      (stmts-meets schema nodes declared d (walk schema nodes d) good (q .body) c o)
+      (λ u b w y′. meets-then Nothing IsSide one-diagnostic (inferring nodes d (q .head)) head b (omega arith) (headForm schema nodes (q .head) (form schema nodes (q .head)) b) _ y′ (λ y″. headForm-meets (q .head) (form schema nodes (q .head)) b (w .orderly))
+      (λ u′ b′ w′ y″. good .infer (q .head) b′ (w′ .orderly) y″))
