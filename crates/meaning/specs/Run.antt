@@ -11,7 +11,7 @@ use Rattle.unification.specs.Ty.{Ty}
 use Rattle.unification.specs.Bindings.{State}
 use Rattle.unification.specs.Unify.{Spent, unify}
 use Rattle.unification.specs.Calls.{Side, Machine, Calls}
-use Rattle.meaning.specs.Syntax.{Node, nodeAt}
+use Rattle.meaning.specs.Syntax.{ExprKind, Node, nodeAt}
 use Rattle.meaning.specs.References.{exprNodes}
 use Rattle.meaning.specs.Check.{Checker, Step, goes, out}
 
@@ -53,3 +53,46 @@ weight nodes own (suc d) n = own n + sumOf (λ m. weight nodes own d m) (exprNod
 -- How many nodes stand under a node, itself included.
 abbrev pub size : List Node → ℕ → ℕ → ℕ
 size nodes d n = weight nodes (λ m. 1) d n
+
+-- The records under a node, and the fields of all of them: what `infer` makes of record types at most.
+unfoldable pub recordsOf : ExprKind → ℕ
+recordsOf (ExprKind.Record fs) = 1
+recordsOf (ExprKind.Lit l) = 0
+recordsOf (ExprKind.Var x) = 0
+recordsOf ExprKind.Wildcard = 0
+recordsOf ExprKind.Never = 0
+recordsOf (ExprKind.Prefix x) = 0
+recordsOf (ExprKind.Fuzzy x d) = 0
+recordsOf (ExprKind.Access f e) = 0
+recordsOf (ExprKind.Disjunction es) = 0
+recordsOf (ExprKind.Subquery q) = 0
+recordsOf (ExprKind.Fact p e) = 0
+recordsOf (ExprKind.Arith es) = 0
+recordsOf ExprKind.Error = 0
+recordsOf (ExprKind.Select x e) = 0
+
+unfoldable pub fieldsOf : ExprKind → ℕ
+fieldsOf (ExprKind.Record fs) = length fs
+fieldsOf (ExprKind.Lit l) = 0
+fieldsOf (ExprKind.Var x) = 0
+fieldsOf ExprKind.Wildcard = 0
+fieldsOf ExprKind.Never = 0
+fieldsOf (ExprKind.Prefix x) = 0
+fieldsOf (ExprKind.Fuzzy x d) = 0
+fieldsOf (ExprKind.Access f e) = 0
+fieldsOf (ExprKind.Disjunction es) = 0
+fieldsOf (ExprKind.Subquery q) = 0
+fieldsOf (ExprKind.Fact p e) = 0
+fieldsOf (ExprKind.Arith es) = 0
+fieldsOf ExprKind.Error = 0
+fieldsOf (ExprKind.Select x e) = 0
+
+unfoldable pub records : List Node → ℕ → ℕ → ℕ
+unfolding weight recordsOf
+records nodes d n = weight nodes (λ m. recordsOf (nodeAt nodes m .kind)) d n
+
+-- At depth 0 no field is reached.
+unfoldable pub fieldsUnder : List Node → ℕ → ℕ → ℕ
+unfolding sumOf fieldsOf nodeAt exprNodes
+fieldsUnder nodes zero n = 0
+fieldsUnder nodes (suc d) n = fieldsOf (nodeAt nodes n .kind) + sumOf (λ m. fieldsUnder nodes d m) (exprNodes (nodeAt nodes n .kind))
