@@ -181,14 +181,14 @@ ready-fits g k c f r = record {
 }
 
 -- What one step annotated, the next does not.
-ready-after : (g h k : Grade) (c c′ : Checker) → Fits (plus g h) k → Made g c c′ → Ready k c → Ready h c′
+pub ready-after : (g h k : Grade) (c c′ : Checker) → Fits (plus g h) k → Made g c c′ → Ready k c → Ready h c′
 ready-after g h k c c′ f m r = record {
   once = λ x. omega (arith, f .nodes x, r .once x);
   there = λ x i. rw (m .nodes) (r .there x (omega (arith, f .nodes x)));
   bare = λ x i. m .elsewhere x (omega (arith, f .nodes x, r .once x)) ∙ r .bare x (omega (arith, f .nodes x));
 }
 
-fits-left : (g h k : Grade) → Fits (plus g h) k → Fits g k
+pub fits-left : (g h k : Grade) → Fits (plus g h) k → Fits g k
 fits-left g h k f = record { nodes = λ x. omega (arith, f .nodes x); unknowns = omega (arith, f .unknowns); diagnostics = omega (arith, f .diagnostics) }
 
 -- ---- Steps that join

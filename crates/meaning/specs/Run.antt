@@ -1,19 +1,22 @@
 -- The run of `check` as a list of demand 3's calls (document 01, "What demand 3 speaks of"), and what the nodes under a node
 -- weigh together, by which everything that a run makes is bounded.
 use mathlib.Core.Bool.{true, false}
-use mathlib.Core.List.{List, [], _∷_}
+use mathlib.Core.List.{List, [], _∷_, _++_}
 use mathlib.Core.Option.{Option}
 use mathlib.Core.Path.{_≡_}
-use Prim.Native.Nat.{ℕ, zero, suc, _+_}
+use Prim.Native.Nat.{ℕ, zero, suc, _+_, _*_, _<_, _≤_}
 use lib.Dec.{eqb}
 use lib.ListN.{length}
 use Rattle.unification.specs.Ty.{Ty}
 use Rattle.unification.specs.Bindings.{State}
 use Rattle.unification.specs.Unify.{Spent, unify}
 use Rattle.unification.specs.Calls.{Side, Machine, Calls}
-use Rattle.meaning.specs.Syntax.{ExprKind, Node, nodeAt}
-use Rattle.meaning.specs.References.{exprNodes}
-use Rattle.meaning.specs.Check.{Checker, Step, goes, out}
+use Rattle.meaning.specs.Syntax.{ExprKind, Node, Ast, nodeAt}
+use Rattle.meaning.specs.Schema.{Schema}
+use Rattle.meaning.specs.References.{exprNodes, queryNodes}
+use Rattle.meaning.specs.Rules.{All, Distinct}
+use Rattle.meaning.specs.Sound.{DeclaredPredicate, Lower, nodesNamed}
+use Rattle.meaning.specs.Check.{Checker, Step, goes, out, query, begin}
 
 -- ---- The run
 
@@ -24,10 +27,40 @@ pub data Led (v : ℕ) (tys : List (Option Ty)) : State → Type 0 where
   at-the-limit : {m : Machine} (a b : Ty) {st : State} → Calls v tys m → Side (length (m .state .subst)) a → Side (length (m .state .subst)) b
       → unify (m .state) a b ≡ Spent st → Led v tys st
 
--- The state in which a step ended.
-unfoldable pub ending : {A : Type 0} → Step A → State
-ending (goes a c) = c .state
-ending (out c) = c .state
+-- Where a step ended, whether it goes on or the visits ran out in it.
+unfoldable pub ending : {A : Type 0} → Step A → Checker
+ending (goes a c) = c
+ending (out c) = c
+
+-- What of a file that passes 1 to 10 the run rests on.
+pub record WellFormed (schema : Schema) (ast : Ast) : Type 0 where
+  pub declared : All DeclaredPredicate (schema .predicates)
+  pub lower : Lower 0 (ast .nodes)
+  pub once : Distinct (nodesNamed (ast .nodes) ++ queryNodes (ast .query))
+  pub query : All (λ m. m < length (ast .nodes)) (queryNodes (ast .query))
+
+-- The run of a query, with this many visits allowed.
+unfoldable pub run : Schema → Ast → ℕ → Step Ty
+unfolding query begin
+run schema ast ceiling = query schema (ast .nodes) (ast .query) (begin ceiling (length (ast .nodes)))
+
+-- What a run has made by its end, over this many nodes.
+pub record Room (nodes : ℕ) (c : Checker) : Type 0 where
+  pub unknowns : length (c .state .subst) ≤ nodes
+  pub environment : length (c .env) ≤ nodes
+  pub diagnostics : length (c .diagnostics) ≤ 3 * nodes
+  pub undo : length (c .state .undo) ≤ 2 * nodes
+  pub annotations : length (c .state .tys) ≡ nodes
+
+-- What a visit has made by its end: u unknowns and r diagnostics at most. The entries of the environment and of the undo log are
+-- bounded by the unknowns and the nodes that there are.
+pub record Grows (u r : ℕ) (c c′ : Checker) : Type 0 where
+  pub more : length (c .state .subst) ≤ length (c′ .state .subst)
+  pub unknowns : length (c′ .state .subst) ≤ length (c .state .subst) + u
+  pub diagnostics : length (c′ .diagnostics) ≤ length (c .diagnostics) + r
+  pub environment : length (c′ .env) ≤ length (c′ .state .subst)
+  pub undo : length (c′ .state .undo) ≤ length (c′ .state .subst) + length (c′ .state .tys)
+  pub annotations : length (c′ .state .tys) ≡ length (c .state .tys)
 
 -- ---- Weights
 
