@@ -3,22 +3,22 @@
 use mathlib.Core.Bool.{Bool, true, false}
 use mathlib.Core.List.{List, [], _∷_}
 use mathlib.Core.Option.{Option, none, some}
-use mathlib.Core.Path.{_≡_, refl, sym, _∙_, ap, fun-ext}
+use mathlib.Core.Path.{_≡_, refl, _∙_, fun-ext}
 use mathlib.Core.Logic.{by-cases}
-use Prim.Native.Nat.{ℕ, zero, suc, _<_, _≤_}
+use Prim.Native.Nat.{ℕ, zero, suc, _<_}
 use native.Mathlib.Decide.{decLt}
 use native.Mathlib.Omega.{arith}
 use lib.ListN.{length, List·getD-eq-default}
 use Rattle.unification.specs.Ty.{Leaf, Kind, Ty, Row}
 use Rattle.unification.specs.Unify.{findKey, findLabel}
 use Rattle.meaning.specs.Syntax.{Field, QueryStmt, Query, FieldRef, Literal, ExprKind, Node, noNode, nodeAt, allFields, destructurableKind, destructurableIn, isDestructurable}
-use Rattle.meaning.specs.Schema.{Predicate, Schema}
+use Rattle.meaning.specs.Schema.{Schema}
 use Rattle.meaning.specs.References.{fieldValues, stmtNodes, queryNodes, exprNodes}
 use Rattle.meaning.specs.Rules.{All}
 use Rattle.meaning.specs.Sound.{Lower}
 use Rattle.meaning.proofs.Lists.{all-map}
 use Rattle.meaning.proofs.Sound.{lower-at}
-use Rattle.meaning.specs.Check.{Step, Does, andThen, Form, aWildcard, aVariable, aConstant, aRecord, aDisjunction, anError, another, formOf, Walk, kind, form, keyTy, access, select, inferFields, inferAll, disjunction, fact, bindVariable, badTarget, onlyRight, notYet, destructure, bindWildcard, bindForm, denyForm, compare, generate, stmt, stmts, subquery, inferKind, inferAt, inferThenUnify, checkField, checkMentioned, checkFields, checkAlternative, checkUnion, checkRecord, checkForm, checkAgainst, checkAt, generateBranches, generatorForm, generatorAt, walk}
+use Rattle.meaning.specs.Check.{Form, aWildcard, aVariable, aConstant, aRecord, aDisjunction, anError, another, formOf, Walk, kind, form, keyTy, access, select, inferFields, inferAll, disjunction, fact, bindVariable, badTarget, onlyRight, notYet, destructure, bindWildcard, bindForm, denyForm, compare, generate, stmt, stmts, subquery, inferKind, inferAt, inferThenUnify, checkField, checkMentioned, checkFields, checkAlternative, checkUnion, checkRecord, checkForm, checkAgainst, checkAt, generateBranches, generatorForm, generatorAt, walk}
 
 -- They visit this node alike.
 pub record Alike (below below′ : Walk) (m : ℕ) : Type 0 where

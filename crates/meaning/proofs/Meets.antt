@@ -1,17 +1,14 @@
 -- What a step of the checker makes, and how steps join. A grade says how often each node may be annotated, how many unknowns
 -- and how many diagnostics a step may make; the grades of steps add up. Every step keeps the state in order and is a list of
 -- demand 3's calls.
-use mathlib.Core.Bool.{Bool, true, false}
-use mathlib.Core.List.{List, [], _∷_, _++_, append-assoc}
+use mathlib.Core.List.{List, [], _++_, append-assoc}
 use mathlib.Core.Option.{Option, none, some}
 use mathlib.Core.Path.{_≡_, refl, sym, _∙_, ap}
-use Prim.Native.Nat.{ℕ, zero, suc, _+_, _≤_, _<_}
+use Prim.Native.Nat.{ℕ, _+_, _≤_, _<_}
 use native.Mathlib.Omega.{arith}
-use lib.Dec.{eqb}
 use lib.ListN.{length, getD, length-append}
 use Rattle.unification.specs.Ty.{Ty}
-use Rattle.unification.specs.Bindings.{State}
-use Rattle.unification.specs.Calls.{Side, Taken, Machine, Calls}
+use Rattle.unification.specs.Calls.{Side, Taken, Calls}
 use Rattle.unification.proofs.Sides.{side-more}
 use Rattle.unification.proofs.Undo.{Since, since-refl, since-trans, since-length}
 use Rattle.unification.proofs.Log.{Log}

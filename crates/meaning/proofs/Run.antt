@@ -4,8 +4,8 @@
 -- `zonkIn` in the unification crate's Chain.antt, `occurs` in Occurs.antt, `unifyIn` in Depth.antt there.
 use mathlib.Core.List.{List, [], _∷_, _++_}
 use mathlib.Core.Logic.{by-cases}
-use mathlib.Core.Option.{Option, none, some}
-use mathlib.Core.Path.{_≡_, refl, sym, _∙_, ap}
+use mathlib.Core.Option.{Option, none}
+use mathlib.Core.Path.{_≡_, refl, _∙_, ap}
 use Prim.Native.Nat.{ℕ, zero, suc, _+_, _-_, _*_, _≤_, _<_}
 use native.Mathlib.Decide.{decLt}
 use native.Mathlib.Omega.{arith}
@@ -13,23 +13,24 @@ use lib.ListN.{length, getD, replicate, length-append, length-replicate, getD-re
 use Rattle.unification.specs.Ty.{Ty}
 use Rattle.unification.specs.Bindings.{State, start}
 use Rattle.unification.specs.Calls as Calls
-use Rattle.unification.specs.Calls.{Side, Assignment, Machine, Claim, Demand3, none-yet}
+use Rattle.unification.specs.Calls.{Side, Assignment, Taken, Claim, Demand3, none-yet}
 use Rattle.unification.proofs.Tests.{clash}
 use Rattle.unification.proofs.Undo.{since-length}
-use Rattle.unification.proofs.Log.{taken, taken-pad, Log, log-room, AllBlank}
+use Rattle.unification.proofs.Log.{taken, taken-pad, log-room, AllBlank}
 use Rattle.unification.proofs.Demand3.{calls-inv, demand-3}
-use Rattle.meaning.specs.Syntax.{Node, Ast, Query}
+use Rattle.meaning.specs.Syntax.{Node, Ast}
 use Rattle.meaning.specs.Schema.{Schema}
 use Rattle.meaning.specs.References.{stmtNodes, queryNodes}
 use Rattle.meaning.specs.File.{Described, maxNodes, described, reading}
+use Rattle.meaning.specs.Rules.{All}
 use Rattle.meaning.specs.Sound.{Sound}
 use Rattle.meaning.specs.Check.{Checker, Step, goes, out, Walk, walk, query, begin}
-use Rattle.meaning.specs.Run.{Led, between-calls, at-the-limit, ending, WellFormed, run, Room, Grows, same, sumOf, total, weight, size, records, fieldsUnder}
+use Rattle.meaning.specs.Run.{Led, between-calls, at-the-limit, ending, WellFormed, run, Room, Grows, same, sumOf, total, weight, size, records, recordFields}
 use Rattle.meaning.proofs.Sound.{sound}
-use Rattle.meaning.proofs.Depth.{Falls, lower-falls}
-use Rattle.meaning.proofs.Meets.{Grade, unknowns, Orderly, Ready, Made, Reached, Stopped, Went, Ended, Meets, went, ended, made-more}
+use Rattle.meaning.proofs.Depth.{lower-falls}
+use Rattle.meaning.proofs.Meets.{Grade, unknowns, Orderly, Ready, Made, Reached, Stopped, Meets, went, ended, going, made-more}
 use Rattle.meaning.proofs.Steps.{IsSide, Nothing}
-use Rattle.meaning.proofs.Visits.{inferring, checking, visiting, Good, walk-good, query-meets}
+use Rattle.meaning.proofs.Visits.{inferring, checking, visiting, walk-good, query-meets}
 use Rattle.meaning.proofs.Weights.{weight-once, once-times, total-ones, total-past, total-same, records-size, fields-size}
 
 -- ---- What a list of calls that led somewhere says
@@ -116,13 +117,16 @@ module _ (schema : Schema) (ast : Ast) (wf : WellFormed schema ast) where
       sums (m ∷ s) = omega (arith, records-size nodes (length nodes) m, sums s)
 
   -- The head is no field.
-  pub query-fields : sumOf (λ n. fieldsUnder nodes (length nodes) n) (queryNodes (ast .query)) < length nodes
+  pub query-fields : sumOf (λ n. recordFields nodes (length nodes) n) (queryNodes (ast .query)) < length nodes
   unfolding sumOf queryNodes
-  query-fields = omega (arith, query-size, fields-size nodes (length nodes) (ast .query .head), sums (stmtNodes (ast .query .body)))
+  query-fields = omega (arith, query-size, under (ast .query .head) (wf .query .0), sums (stmtNodes (ast .query .body)) (wf .query .1))
     where
-      sums : (s : List ℕ) → sumOf (λ n. fieldsUnder nodes (length nodes) n) s ≤ sumOf (λ n. size nodes (length nodes) n) s
-      sums [] = omega arith
-      sums (m ∷ s) = omega (arith, fields-size nodes (length nodes) m, sums s)
+      under : (n : ℕ) → n < length nodes → recordFields nodes (length nodes) n + 1 ≤ size nodes (length nodes) n
+      under n p = fields-size nodes (lower-falls nodes (wf .lower)) (length nodes) n p
+
+      sums : (s : List ℕ) → All (λ n. n < length nodes) s → sumOf (λ n. recordFields nodes (length nodes) n) s ≤ sumOf (λ n. size nodes (length nodes) n) s
+      sums [] h = omega arith
+      sums (m ∷ s) h = omega (arith, under m (h .0), sums s (h .1))
 
   begin-ready : (ceiling : ℕ) → Ready (visiting nodes (length nodes) (queryNodes (ast .query))) (begin ceiling (length nodes))
   unfolding begin
@@ -145,6 +149,14 @@ module _ (schema : Schema) (ast : Ast) (wf : WellFormed schema ast) where
   unfolding begin Calls.begin
   run-led ceiling = meets-led IsSide _ _ ceiling (replicate (length nodes) none) [] (run schema ast ceiling) none-yet (run-meets ceiling)
 
+  -- A run that goes to its end stands between two calls, with these snapshots at hand, and all of demand 3 holds there.
+  pub run-calls : (ceiling : ℕ) (t : Ty) (c : Checker) → run schema ast ceiling ≡ goes t c → (ts : List Taken) × Calls.Calls ceiling (replicate (length nodes) none) (record { state = c .state; taken = ts })
+  unfolding begin Calls.begin Reached
+  run-calls ceiling t c e = let x = going (rw e at (run-meets ceiling)) .reached ceiling (replicate (length nodes) none) [] none-yet in (x .0 ++ [], x .1)
+
+  pub run-whole : (ceiling : ℕ) (t : Ty) (c : Checker) → run schema ast ceiling ≡ goes t c → (ts : List Taken) × Demand3 (record { state = c .state; taken = ts })
+  run-whole ceiling t c e = let x = run-calls ceiling t c e in (x .0, demand-3 ceiling (replicate (length nodes) none) (record { state = c .state; taken = x .0 }) (x .1))
+
   -- Demand 3 of the run: at its end and, by the history, at every moment of it.
   pub run-demand-3 : (ceiling : ℕ) → Claim Assignment (ending (run schema ast ceiling) .state)
   run-demand-3 ceiling = led-claim ceiling (replicate (length nodes) none) (ending (run schema ast ceiling) .state) (run-led ceiling)
@@ -166,7 +178,7 @@ module _ (schema : Schema) (ast : Ast) (wf : WellFormed schema ast) where
         environment = omega (arith, g .unknowns, g .environment, query-size);
         diagnostics = omega (arith, g .diagnostics, query-size);
         undo = omega (arith, g .unknowns, g .undo, query-size, len);
-        annotations = len;
+        annotations = omega (arith, len);
       }
 
 -- ---- For every file that passes
@@ -177,6 +189,20 @@ module _ (file : List ℕ) (d : Described) (is : reading file ≡ described d) (
   pub file-demand-3 : Claim Assignment (ending (run (d .schema) (d .ast) ceiling) .state)
   file-demand-3 = run-demand-3 (d .schema) (d .ast) (sound-wellFormed d (sound file d is)) ceiling
 
-  pub file-room : Room (length (d .ast .nodes)) (ending (run (d .schema) (d .ast) ceiling)) × (length (d .ast .nodes) ≤ 512)
-  unfolding maxNodes
-  file-room = (run-room (d .schema) (d .ast) (sound-wellFormed d (sound file d is)) ceiling, sound file d is .nodesMax)
+  pub file-room : Room maxNodes (ending (run (d .schema) (d .ast) ceiling))
+  file-room =
+      let s = sound file d is in
+      let r = run-room (d .schema) (d .ast) (sound-wellFormed d s) ceiling in
+      record {
+        unknowns = omega (arith, r .unknowns, s .nodesMax);
+        environment = omega (arith, r .environment, s .nodesMax);
+        diagnostics = omega (arith, r .diagnostics, s .nodesMax);
+        undo = omega (arith, r .undo, s .nodesMax);
+        annotations = omega (arith, r .annotations, s .nodesMax);
+      }
+
+  pub file-records : sumOf (λ n. records (d .ast .nodes) (length (d .ast .nodes)) n) (queryNodes (d .ast .query)) ≤ maxNodes
+  file-records = let s = sound file d is in omega (arith, query-records (d .schema) (d .ast) (sound-wellFormed d s), s .nodesMax)
+
+  pub file-fields : sumOf (λ n. recordFields (d .ast .nodes) (length (d .ast .nodes)) n) (queryNodes (d .ast .query)) < maxNodes
+  file-fields = let s = sound file d is in omega (arith, query-fields (d .schema) (d .ast) (sound-wellFormed d s), s .nodesMax)

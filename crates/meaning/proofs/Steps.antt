@@ -5,19 +5,19 @@ use mathlib.Core.List.{List, [], _∷_, _++_}
 use mathlib.Core.Logic.{_≢_, by-cases}
 use mathlib.Core.Option.{Option, none, some}
 use mathlib.Core.Path.{_≡_, refl, sym, _∙_, ap}
-use Prim.Native.Nat.{ℕ, zero, suc, _+_, _-_, _≤_, _<_}
+use Prim.Native.Nat.{ℕ, zero, _+_, _-_, _≤_, _<_}
 use native.Mathlib.Decide.{ℕ-discrete}
 use native.Mathlib.Omega.{arith}
 use lib.Dec.{eqb}
 use lib.ListN.{length, getD, set, drop, replicate, length-append, length-set}
 use lib.Seq.{getD-set-same, getD-set-other, drop-at}
-use borrow.Author.Tests.{eqb-true, eq-eqb, ne-eqb}
+use borrow.Author.Tests.{eq-eqb, ne-eqb}
 use Rattle.unification.specs.Ty.{Ty}
 use Rattle.unification.specs.Bindings as Bindings
-use Rattle.unification.specs.Bindings.{Answer, yes-left, no-left, spent, State, Snapshot}
+use Rattle.unification.specs.Bindings.{Answer, yes-left, no-left, spent, State}
 use Rattle.unification.specs.Unify as Unify
 use Rattle.unification.specs.Unify.{TyError, Unified, Ok, Err, Spent}
-use Rattle.unification.specs.Calls.{Side, Taken, take-snapshot, Call, unknown, unification, failure, snapping, rollingBack, spending, annotation, Calls, then-call}
+use Rattle.unification.specs.Calls.{Side, take-snapshot, unknown, unification, failure, snapping, rollingBack, spending, annotation, then-call}
 use Rattle.unification.proofs.Sides.{side-more, wf-pad}
 use Rattle.unification.proofs.Occurs.{Fewer, orderable-fewer}
 use Rattle.unification.proofs.Undo.{Since, since-refl, since-length, since-fresh, since-annotate, since-left, rollback-subst, rollback-tys, rollback-undo}
@@ -26,12 +26,12 @@ use Rattle.unification.proofs.Log.{taken-pad, Log, log-annotate, Logged, unify-
 use Rattle.unification.proofs.Demand3.{rolled-since}
 use Rattle.meaning.specs.Syntax.{Node, nodeAt}
 use Rattle.meaning.specs.Schema.{Schema}
-use Rattle.meaning.specs.Diag.{Code, Diagnostic}
-use Rattle.meaning.specs.Check.{Checker, Step, goes, out, Does, andThen, withState, freshVarId, lookupIn, lookup, pushEnv, introduce, annotate, unified, unify, ordered, orderable, Mark, snapshot, truncateEnv, rollback, reject, report, unifyAt}
+use Rattle.meaning.specs.Diag.{Code}
+use Rattle.meaning.specs.Check.{Checker, goes, Does, andThen, withState, freshVarId, lookupIn, lookup, pushEnv, introduce, annotate, unified, unify, ordered, orderable, snapshot, truncateEnv, rollback, reject, report, unifyAt}
 use Rattle.meaning.specs.Rules.{All}
-use Rattle.meaning.specs.Run.{Led, between-calls, at-the-limit, same}
-use Rattle.meaning.proofs.Lists.{all-map, all-append, all-right}
-use Rattle.meaning.proofs.Meets.{Grade, plus, Fits, unknowns, Orderly, Ready, Made, Reached, Stopped, Went, Ended, Meets, went, ended, meets, made-more, made-side, made-refl, reached-refl, stays, meets-then}
+use Rattle.meaning.specs.Run.{between-calls, at-the-limit, same}
+use Rattle.meaning.proofs.Lists.{all-map}
+use Rattle.meaning.proofs.Meets.{Grade, unknowns, Orderly, Ready, Made, Reached, Stopped, Went, Meets, went, ended, meets, made-more, stays, meets-then}
 
 -- ---- Grades of one thing
 abbrev pub no-thing : Grade

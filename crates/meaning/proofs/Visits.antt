@@ -1,13 +1,13 @@
 -- What a visit of a node makes: each function of the checker meets its grade if the visits below do. A node annotates at most
 -- itself and the nodes under it; it makes at most one unknown and three diagnostics of its own.
 use mathlib.Core.Bool.{Bool, true, false}
-use mathlib.Core.List.{List, [], _∷_, _++_}
+use mathlib.Core.List.{List, [], _∷_}
 use mathlib.Core.Option.{Option, none, some}
-use mathlib.Core.Path.{_≡_, refl, sym, _∙_, ap}
-use Prim.Native.Nat.{ℕ, zero, suc, _+_, _-_, _*_, _≤_, _<_}
+use mathlib.Core.Path.{_≡_, refl}
+use Prim.Native.Nat.{ℕ, zero, suc, _+_, _-_, _*_, _≤_}
 use native.Mathlib.Omega.{arith}
 use lib.Dec.{eqb, ltb}
-use lib.ListN.{length, getD, getElem?, drop}
+use lib.ListN.{length, getD, getElem?}
 use Rattle.unification.specs.Ty.{Leaf, Kind, Ty, Row}
 use Rattle.unification.specs.Bindings as Bindings
 use Rattle.unification.specs.Unify.{TyError, findKey, findLabel}
@@ -21,10 +21,10 @@ use Rattle.meaning.specs.Diag.{Code}
 use Rattle.meaning.specs.References.{fieldValues, stmtNodes, queryNodes, exprNodes}
 use Rattle.meaning.specs.Rules.{All}
 use Rattle.meaning.specs.Sound.{DeclaredOption, DeclaredPredicate}
-use Rattle.meaning.specs.Check.{Checker, Step, goes, out, Does, andThen, freshVarId, freshVar, introduce, annotate, repr, unify, orderable, snapshot, rollback, diagnosticsLen, Form, aWildcard, aVariable, aConstant, aRecord, aDisjunction, anError, another, formOf, Walk, kind, form, reject, rejectTy, report, unifyAt, unresolved, keyTy, valueTy, keyShadowsValue, valueOf, fieldAt, keyOf, selectOf, accessOf, access, select, fuzzyDistance, fuzzyTerm, inferFields, inferAll, disjunction, fact, bindVariable, badTarget, onlyRight, notYet, destructure, bindWildcard, bindForm, denyForm, introduceSide, compareOrder, compare, generate, stmt, stmts, subquery, inferKind, inferAt, inferThenUnify, checkField, checkMentioned, checkFields, checkAlternative, checkUnion, checkRecord, checkForm, checkAgainst, checkAt, generateBranches, generatorForm, generatorAt, walk, headForm, query}
+use Rattle.meaning.specs.Check.{Checker, goes, Does, andThen, freshVarId, freshVar, introduce, annotate, repr, unify, orderable, snapshot, rollback, diagnosticsLen, Form, aWildcard, aVariable, aConstant, aRecord, aDisjunction, anError, another, formOf, Walk, kind, form, reject, rejectTy, report, unifyAt, unresolved, keyTy, valueTy, keyShadowsValue, valueOf, fieldAt, keyOf, selectOf, accessOf, access, select, fuzzyDistance, fuzzyTerm, inferFields, inferAll, disjunction, fact, bindVariable, badTarget, onlyRight, notYet, destructure, bindWildcard, bindForm, denyForm, introduceSide, compareOrder, compare, generate, stmt, stmts, subquery, inferKind, inferAt, inferThenUnify, checkField, checkMentioned, checkFields, checkAlternative, checkUnion, checkRecord, checkForm, checkAgainst, checkAt, generateBranches, generatorForm, generatorAt, walk, headForm, query}
 use Rattle.meaning.specs.Run.{same, sumOf, weight, size}
 use Rattle.meaning.proofs.Meets.{Grade, plus, Fits, unknowns, Orderly, Ready, Made, Went, Meets, going, made-more, made-side, stays, ready-fits, meets-after, meets-then, meets-from, meets-fits, went-with, meets-nest}
-use Rattle.meaning.proofs.Steps.{no-thing, one-diagnostic, one-unknown, one-node, same-self, Nothing, IsSide, Known, IsUnknown, reject-meets, reject-if, reject-unless, freshVarId-meets, made-known, introduce-known, introduce-meets, annotate-meets, unify-meets, unifyAt-meets, orderable-meets, rolled-meets, cut-meets}
+use Rattle.meaning.proofs.Steps.{no-thing, one-diagnostic, one-unknown, one-node, Nothing, IsSide, Known, IsUnknown, reject-meets, reject-if, reject-unless, freshVarId-meets, made-known, introduce-known, introduce-meets, annotate-meets, unify-meets, unifyAt-meets, orderable-meets, rolled-meets, cut-meets}
 
 -- ---- Grades of visits
 
@@ -83,7 +83,7 @@ module _ (schema : Schema) (nodes : List Node) (declared : All DeclaredPredicate
   got (a ∷ ps) zero h = h .0
   got (a ∷ ps) (suc p) h = got ps p (h .1)
 
-  key-declared : (p : ℕ) → DeclaredOption (keyTy schema nodes p)
+  pub key-declared : (p : ℕ) → DeclaredOption (keyTy schema nodes p)
   unfolding keyTy get
   key-declared p = go (get schema p) refl (got (schema .predicates) p declared)
     where
@@ -91,7 +91,7 @@ module _ (schema : Schema) (nodes : List Node) (declared : All DeclaredPredicate
       go none e h = rw (e, keyTy) tt
       go (some q) e h = rw (e, keyTy) (h .0)
 
-  value-declared : (p : ℕ) → DeclaredOption (valueTy schema nodes p)
+  pub value-declared : (p : ℕ) → DeclaredOption (valueTy schema nodes p)
   unfolding valueTy get
   value-declared p = go (get schema p) refl (got (schema .predicates) p declared)
     where
@@ -124,7 +124,7 @@ payload-side n name (Row.cell k l t r) h = go (eqb name l) refl (payload-side n 
     go true e ih = rw (e, findLabel) (declared-side n t (h .1))
     go false e ih = rw (e, findLabel) ih
 
-repr-side : (c : Checker) (t : Ty) → Orderly c → Side (unknowns c) t → Side (unknowns c) (Bindings.repr (c .state .subst) t)
+pub repr-side : (c : Checker) (t : Ty) → Orderly c → Side (unknowns c) t → Side (unknowns c) (Bindings.repr (c .state .subst) t)
 unfolding Bindings.repr
 repr-side c t o h = side-follow (suc (unknowns c)) (c .state .subst) t (o .log .wf) h
 
@@ -175,12 +175,12 @@ module _ (schema : Schema) (nodes : List Node) (declared : All DeclaredPredicate
   valueOf-meets (Ty.node k r) = rejectTy-meets _
   valueOf-meets (Ty.Var x) = rejectTy-meets _
 
-  accessOf-meets : (f : FieldRef) (t : Ty) → Side (unknowns c) t → Meets IsSide one-diagnostic c (accessOf schema nodes id f t c)
+  pub accessOf-meets : (f : FieldRef) (t : Ty) → Side (unknowns c) t → Meets IsSide one-diagnostic c (accessOf schema nodes id f t c)
   unfolding accessOf
   accessOf-meets FieldRef.Value t h = valueOf-meets t
   accessOf-meets (FieldRef.Key name) t h = keyOf-meets name t h
 
-  selectOf-meets : (name : ℕ) (t : Ty) → Side (unknowns c) t → Meets IsSide one-diagnostic c (selectOf schema nodes id name t c)
+  pub selectOf-meets : (name : ℕ) (t : Ty) → Side (unknowns c) t → Meets IsSide one-diagnostic c (selectOf schema nodes id name t c)
   unfolding selectOf unresolved
   selectOf-meets name Ty.Error h = stays IsSide one-diagnostic c Ty.Error o tt
   selectOf-meets name (Ty.node Kind.Union r) h = go (findLabel name r) refl (payload-side (unknowns c) name r (h .1))
@@ -277,19 +277,19 @@ variable-kind (ExprKind.Select y z) x e = clash (cc)
 
 -- ---- Functions of the visits below
 module _ (schema : Schema) (nodes : List Node) (declared : All DeclaredPredicate (schema .predicates)) (d : ℕ) (below : Walk) (good : Good nodes d below) where
-  access-meets : (id : ℕ) (f : FieldRef) (base : ℕ) (c : Checker) → Orderly c → Ready (within nodes d (base ∷ [])) c → Meets IsSide (within nodes d (base ∷ [])) c (access schema nodes below id f base c)
+  pub access-meets : (id : ℕ) (f : FieldRef) (base : ℕ) (c : Checker) → Orderly c → Ready (within nodes d (base ∷ [])) c → Meets IsSide (within nodes d (base ∷ [])) c (access schema nodes below id f base c)
   unfolding access repr sumOf
   access-meets id f base c o r =
       meets-then IsSide IsSide (inferring nodes d base) one-diagnostic (within nodes d (base ∷ [])) c (omega (arith, size-pos nodes d base)) (below .infer base c) _ r (good .infer base c o)
       (λ t b w r′. accessOf-meets schema nodes declared id b (w .orderly) f (Bindings.repr (b .state .subst) t) (repr-side b t (w .orderly) (w .holds)))
 
-  select-meets : (id name base : ℕ) (c : Checker) → Orderly c → Ready (within nodes d (base ∷ [])) c → Meets IsSide (within nodes d (base ∷ [])) c (select schema nodes below id name base c)
+  pub select-meets : (id name base : ℕ) (c : Checker) → Orderly c → Ready (within nodes d (base ∷ [])) c → Meets IsSide (within nodes d (base ∷ [])) c (select schema nodes below id name base c)
   unfolding select repr sumOf
   select-meets id name base c o r =
       meets-then IsSide IsSide (inferring nodes d base) one-diagnostic (within nodes d (base ∷ [])) c (omega (arith, size-pos nodes d base)) (below .infer base c) _ r (good .infer base c o)
       (λ t b w r′. selectOf-meets schema nodes declared id b (w .orderly) name (Bindings.repr (b .state .subst) t) (repr-side b t (w .orderly) (w .holds)))
 
-  fact-meets : (p key : ℕ) (c : Checker) → Orderly c → Ready (within nodes d (key ∷ [])) c → Meets IsSide (within nodes d (key ∷ [])) c (fact schema nodes below p key c)
+  pub fact-meets : (p key : ℕ) (c : Checker) → Orderly c → Ready (within nodes d (key ∷ [])) c → Meets IsSide (within nodes d (key ∷ [])) c (fact schema nodes below p key c)
   unfolding fact sumOf
   fact-meets p key c o r = go (keyTy schema nodes p) refl (key-declared schema nodes declared p)
     where
@@ -312,7 +312,7 @@ module _ (schema : Schema) (nodes : List Node) (declared : All DeclaredPredicate
       long : (b : Checker) → Orderly b → Meets Nothing one-diagnostic b (fuzzyTerm schema nodes id text b)
       long b o′ = reject-if schema nodes id _ b o′ (ltb (schema .maxTermChars) (getD (schema .characters) text 0))
 
-  inferFields-meets : (fs : List Syntax.Field) (c : Checker) → Orderly c → Ready (visiting nodes d (fieldValues fs)) c → Meets (λ row b. SideRow (unknowns b) row) (visiting nodes d (fieldValues fs)) c (inferFields schema nodes below fs c)
+  pub inferFields-meets : (fs : List Syntax.Field) (c : Checker) → Orderly c → Ready (visiting nodes d (fieldValues fs)) c → Meets (λ row b. SideRow (unknowns b) row) (visiting nodes d (fieldValues fs)) c (inferFields schema nodes below fs c)
   unfolding inferFields fieldValues sumOf
   inferFields-meets [] c o r = stays _ (visiting nodes d []) c Row.ε o tt
   inferFields-meets (f ∷ fs) c o r =
@@ -320,7 +320,7 @@ module _ (schema : Schema) (nodes : List Node) (declared : All DeclaredPredicate
       (λ t b w r′. meets-then (λ row e. SideRow (unknowns e) row) _ (visiting nodes d (fieldValues fs)) no-thing (visiting nodes d (fieldValues fs)) b (omega arith) (inferFields schema nodes below fs b) _ r′ (inferFields-meets fs b (w .orderly))
       (λ row b′ w′ r″. stays _ no-thing b′ _ (w′ .orderly) (refl, made-side _ b b′ t (w′ .made) (w .holds), w′ .holds)))
 
-  inferAll-meets : (t : Ty) (es : List ℕ) (c : Checker) → Orderly c → Ready (visiting nodes d es) c → Side (unknowns c) t → Meets Nothing (visiting nodes d es) c (inferAll schema nodes below t es c)
+  pub inferAll-meets : (t : Ty) (es : List ℕ) (c : Checker) → Orderly c → Ready (visiting nodes d es) c → Side (unknowns c) t → Meets Nothing (visiting nodes d es) c (inferAll schema nodes below t es c)
   unfolding inferAll sumOf
   inferAll-meets t [] c o r h = stays Nothing (visiting nodes d []) c tt o tt
   inferAll-meets t (e ∷ es) c o r h =
@@ -329,11 +329,11 @@ module _ (schema : Schema) (nodes : List Node) (declared : All DeclaredPredicate
       (λ r″. unifyAt-meets schema nodes e u t b (w .orderly) r″ (w .holds) (made-side _ c b t (w .made) h))
       (λ u′ b′ w′ r″. inferAll-meets t es b′ (w′ .orderly) r″ (made-side _ b b′ t (w′ .made) (made-side _ c b t (w .made) h))))
 
-  freshVar-meets : (c : Checker) → Orderly c → Meets IsSide one-unknown c (freshVar c)
+  pub freshVar-meets : (c : Checker) → Orderly c → Meets IsSide one-unknown c (freshVar c)
   unfolding freshVar freshVarId
   freshVar-meets c o = let w = going (freshVarId-meets c o) in went-with IsSide (Ty.Var _) w (w .holds)
 
-  disjunction-meets : (es : List ℕ) (c : Checker) → Orderly c → Ready (within nodes d es) c → Meets IsSide (within nodes d es) c (disjunction schema nodes below es c)
+  pub disjunction-meets : (es : List ℕ) (c : Checker) → Orderly c → Ready (within nodes d es) c → Meets IsSide (within nodes d es) c (disjunction schema nodes below es c)
   unfolding disjunction freshVar freshVarId sumOf
   disjunction-meets es c o r =
       meets-after IsSide IsSide one-unknown (visiting nodes d es) (within nodes d es) c (omega arith) r (λ r′. freshVar-meets c o)
@@ -341,12 +341,12 @@ module _ (schema : Schema) (nodes : List Node) (declared : All DeclaredPredicate
       (λ u b′ w′ r″. stays IsSide no-thing b′ _ (w′ .orderly) (made-side _ _ b′ (Ty.Var (Bindings.freshId (c .state))) (w′ .made) (w .holds))))
 
   -- ---- Statements
-  right-meets : (g : Grade) (r : ℕ) (c : Checker) → Fits (inferring nodes d r) g → Orderly c → Ready g c → Meets Nothing g c (onlyRight schema nodes below r c)
+  pub right-meets : (g : Grade) (r : ℕ) (c : Checker) → Fits (inferring nodes d r) g → Orderly c → Ready g c → Meets Nothing g c (onlyRight schema nodes below r c)
   unfolding onlyRight
   right-meets g r c f o y =
       meets-from IsSide Nothing (inferring nodes d r) g c (below .infer r c) _ f (good .infer r c o (ready-fits (inferring nodes d r) g c f y)) (λ t b w. meets-fits Nothing (inferring nodes d r) g c f (went-with Nothing tt w tt))
 
-  bindVariable-meets : (x l r : ℕ) (c : Checker) → Orderly c → Ready (visiting nodes d (l ∷ r ∷ [])) c → Meets Nothing (visiting nodes d (l ∷ r ∷ [])) c (bindVariable schema nodes below x l r c)
+  pub bindVariable-meets : (x l r : ℕ) (c : Checker) → Orderly c → Ready (visiting nodes d (l ∷ r ∷ [])) c → Meets Nothing (visiting nodes d (l ∷ r ∷ [])) c (bindVariable schema nodes below x l r c)
   unfolding bindVariable annotate sumOf
   bindVariable-meets x l r c o y =
       let rest = plus (inferring nodes d r) one-diagnostic in
@@ -358,7 +358,7 @@ module _ (schema : Schema) (nodes : List Node) (declared : All DeclaredPredicate
       bind-fits : (l r : ℕ) → Fits (plus one-unknown (plus (one-node l) (plus (inferring nodes d r) one-diagnostic))) (visiting nodes d (l ∷ r ∷ []))
       bind-fits l r = record { nodes = λ x. omega (arith, own-weight nodes (λ m. same x m) d l); unknowns = omega (arith, size-pos nodes d l); diagnostics = omega (arith, size-pos nodes d r) }
 
-  badTarget-meets : (l r : ℕ) (c : Checker) → Orderly c → Ready (visiting nodes d (l ∷ r ∷ [])) c → Meets Nothing (visiting nodes d (l ∷ r ∷ [])) c (badTarget schema nodes below l r c)
+  pub badTarget-meets : (l r : ℕ) (c : Checker) → Orderly c → Ready (visiting nodes d (l ∷ r ∷ [])) c → Meets Nothing (visiting nodes d (l ∷ r ∷ [])) c (badTarget schema nodes below l r c)
   unfolding badTarget reject onlyRight sumOf
   badTarget-meets l r c o y =
       meets-after Nothing Nothing one-diagnostic (inferring nodes d r) (visiting nodes d (l ∷ r ∷ [])) c (omega (arith, size-pos nodes d l)) y (λ y′. reject-meets schema nodes l Code.RejectBindLhs c o)
@@ -368,7 +368,7 @@ module _ (schema : Schema) (nodes : List Node) (declared : All DeclaredPredicate
   unfolding sumOf
   onlyRight-meets l r c o y = right-meets (visiting nodes d (l ∷ r ∷ [])) r c (omega arith) o y
 
-  notYet-meets : (l r : ℕ) (c : Checker) → Orderly c → Ready (visiting nodes d (l ∷ r ∷ [])) c → Meets Nothing (visiting nodes d (l ∷ r ∷ [])) c (notYet schema nodes below l r c)
+  pub notYet-meets : (l r : ℕ) (c : Checker) → Orderly c → Ready (visiting nodes d (l ∷ r ∷ [])) c → Meets Nothing (visiting nodes d (l ∷ r ∷ [])) c (notYet schema nodes below l r c)
   unfolding notYet reject onlyRight sumOf
   notYet-meets l r c o y =
       let rest = plus (inferring nodes d l) (inferring nodes d r) in
@@ -376,7 +376,7 @@ module _ (schema : Schema) (nodes : List Node) (declared : All DeclaredPredicate
       (λ w y′. meets-then IsSide Nothing (inferring nodes d l) (inferring nodes d r) rest _ (omega arith) (below .infer l _) _ y′ (good .infer l _ (w .orderly))
       (λ t b′ w′ y″. right-meets (inferring nodes d r) r b′ (omega arith) (w′ .orderly) y″))
 
-  destructure-meets : (l r : ℕ) (c : Checker) → Orderly c → Ready (visiting nodes d (l ∷ r ∷ [])) c → Meets Nothing (visiting nodes d (l ∷ r ∷ [])) c (destructure schema nodes below l r c)
+  pub destructure-meets : (l r : ℕ) (c : Checker) → Orderly c → Ready (visiting nodes d (l ∷ r ∷ [])) c → Meets Nothing (visiting nodes d (l ∷ r ∷ [])) c (destructure schema nodes below l r c)
   unfolding destructure sumOf
   destructure-meets l r c o y =
       let rest = plus (inferring nodes d r) one-diagnostic in
@@ -384,14 +384,14 @@ module _ (schema : Schema) (nodes : List Node) (declared : All DeclaredPredicate
       (λ t b w y′. meets-then IsSide Nothing (inferring nodes d r) one-diagnostic rest b (omega arith) (below .infer r b) _ y′ (good .infer r b (w .orderly))
       (λ u b′ w′ y″. unifyAt-meets schema nodes r u t b′ (w′ .orderly) y″ (w′ .holds) (made-side _ b b′ t (w′ .made) (w .holds))))
 
-  bindWildcard-meets : (l r : ℕ) (c : Checker) → Orderly c → Ready (visiting nodes d (l ∷ r ∷ [])) c → Meets Nothing (visiting nodes d (l ∷ r ∷ [])) c (bindWildcard schema nodes below l r c)
+  pub bindWildcard-meets : (l r : ℕ) (c : Checker) → Orderly c → Ready (visiting nodes d (l ∷ r ∷ [])) c → Meets Nothing (visiting nodes d (l ∷ r ∷ [])) c (bindWildcard schema nodes below l r c)
   unfolding bindWildcard sumOf
   bindWildcard-meets l r c o y =
       meets-then IsSide Nothing (inferring nodes d r) (one-node l) (visiting nodes d (l ∷ r ∷ [])) c
       (record { nodes = λ x. omega (arith, own-weight nodes (λ m. same x m) d l); unknowns = omega arith; diagnostics = omega arith }) (below .infer r c) _ y (good .infer r c o)
       (λ t b w y′. annotate-meets l t b (w .orderly) y′ (w .holds))
 
-  bindForm-meets : (f : Form) (l r : ℕ) (c : Checker) → Orderly c → Ready (visiting nodes d (l ∷ r ∷ [])) c → Meets Nothing (visiting nodes d (l ∷ r ∷ [])) c (bindForm schema nodes below f l r c)
+  pub bindForm-meets : (f : Form) (l r : ℕ) (c : Checker) → Orderly c → Ready (visiting nodes d (l ∷ r ∷ [])) c → Meets Nothing (visiting nodes d (l ∷ r ∷ [])) c (bindForm schema nodes below f l r c)
   unfolding bindForm
   bindForm-meets aWildcard l r c o y = bindWildcard-meets l r c o y
   bindForm-meets (aVariable x) l r c o y = bindVariable-meets x l r c o y
@@ -405,7 +405,7 @@ module _ (schema : Schema) (nodes : List Node) (declared : All DeclaredPredicate
   bindForm-meets anError l r c o y = onlyRight-meets l r c o y
   bindForm-meets another l r c o y = notYet-meets l r c o y
 
-  denyForm-meets : (f : Form) (l r : ℕ) (c : Checker) → Orderly c → Ready (visiting nodes d (l ∷ r ∷ [])) c → Meets Nothing (visiting nodes d (l ∷ r ∷ [])) c (denyForm schema nodes below f l r c)
+  pub denyForm-meets : (f : Form) (l r : ℕ) (c : Checker) → Orderly c → Ready (visiting nodes d (l ∷ r ∷ [])) c → Meets Nothing (visiting nodes d (l ∷ r ∷ [])) c (denyForm schema nodes below f l r c)
   unfolding denyForm
   denyForm-meets aWildcard l r c o y = badTarget-meets l r c o y
   denyForm-meets (aVariable x) l r c o y = bindVariable-meets x l r c o y
@@ -425,13 +425,13 @@ module _ (schema : Schema) (nodes : List Node) (declared : All DeclaredPredicate
   infer-late n anError c e o y k = good .infer n c o y
   infer-late n another c e o y k = good .infer n c o y
 
-  compareOrder-meets : (l : ℕ) (t : Ty) (c : Checker) → Orderly c → Ready one-diagnostic c → Meets Nothing one-diagnostic c (compareOrder schema nodes l t c)
+  pub compareOrder-meets : (l : ℕ) (t : Ty) (c : Checker) → Orderly c → Ready one-diagnostic c → Meets Nothing one-diagnostic c (compareOrder schema nodes l t c)
   unfolding compareOrder
   compareOrder-meets l t c o y =
       meets-then Nothing Nothing no-thing one-diagnostic one-diagnostic c (omega arith) (orderable t c) _ y (λ y′. orderable-meets t c o)
       (λ has b w y′. reject-unless schema nodes l Code.RejectTypeMismatch b (w .orderly) has)
 
-  compare-meets : (l r : ℕ) (c : Checker) → Orderly c → Ready (visiting nodes d (l ∷ r ∷ [])) c → Meets Nothing (visiting nodes d (l ∷ r ∷ [])) c (compare schema nodes below l r c)
+  pub compare-meets : (l r : ℕ) (c : Checker) → Orderly c → Ready (visiting nodes d (l ∷ r ∷ [])) c → Meets Nothing (visiting nodes d (l ∷ r ∷ [])) c (compare schema nodes below l r c)
   unfolding compare sumOf
   compare-meets l r c o y =
       let f = form schema nodes l in
@@ -475,7 +475,7 @@ module _ (schema : Schema) (nodes : List Node) (declared : All DeclaredPredicate
       (generate-meets e c o) (λ u b w y′. stmts-meets ss b (w .orderly) y′)
 
   -- The statements, then the head; the environment is cut back to where it was.
-  subquery-meets : (q : Query) (c : Checker) → Orderly c → Ready (within nodes d (queryNodes q)) c → Meets IsSide (within nodes d (queryNodes q)) c (subquery schema nodes below q c)
+  pub subquery-meets : (q : Query) (c : Checker) → Orderly c → Ready (within nodes d (queryNodes q)) c → Meets IsSide (within nodes d (queryNodes q)) c (subquery schema nodes below q c)
   unfolding subquery queryNodes sumOf
   subquery-meets q c o y =
       meets-nest IsSide (within nodes d (queryNodes q)) c (stmts schema nodes below (q .body) c) (λ u. below .infer (q .head)) _
@@ -485,7 +485,7 @@ module _ (schema : Schema) (nodes : List Node) (declared : All DeclaredPredicate
       (λ t b w. cut-meets (within nodes d (queryNodes q)) c b t o w))
 
   -- ---- `infer`
-  inferKind-meets : (id : ℕ) (k : ExprKind) (c : Checker) → Orderly c → Ready (within nodes d (exprNodes k)) c → Meets IsSide (within nodes d (exprNodes k)) c (inferKind schema nodes below id k c)
+  pub inferKind-meets : (id : ℕ) (k : ExprKind) (c : Checker) → Orderly c → Ready (within nodes d (exprNodes k)) c → Meets IsSide (within nodes d (exprNodes k)) c (inferKind schema nodes below id k c)
   unfolding inferKind exprNodes sumOf
   inferKind-meets id (ExprKind.Lit Literal.Int) c o y = stays IsSide _ c _ o tt
   inferKind-meets id (ExprKind.Lit Literal.Str) c o y = stays IsSide _ c _ o tt
@@ -513,7 +513,7 @@ module _ (schema : Schema) (nodes : List Node) (declared : All DeclaredPredicate
   annotated : (id : ℕ) (t : Ty) (b : Checker) → Orderly b → Ready (one-node id) b → Side (unknowns b) t → Meets IsSide (one-node id) b (andThen (annotate id t b) (λ u c. goes t c))
   annotated id t b o y h = meets-from Nothing IsSide (one-node id) (one-node id) b (annotate id t b) _ (omega arith) (annotate-meets id t b o y h) (λ u b′ w. went-with IsSide t w (made-side _ b b′ t (w .made) h))
 
-  inferAt-meets : (id : ℕ) (c : Checker) → Orderly c → Ready (inferring nodes (suc d) id) c → Meets IsSide (inferring nodes (suc d) id) c (inferAt schema nodes below id c)
+  pub inferAt-meets : (id : ℕ) (c : Checker) → Orderly c → Ready (inferring nodes (suc d) id) c → Meets IsSide (inferring nodes (suc d) id) c (inferAt schema nodes below id c)
   unfolding inferAt kind weight
   inferAt-meets id c o y =
       let k = nodeAt nodes id .kind in
@@ -529,7 +529,7 @@ module _ (schema : Schema) (nodes : List Node) (declared : All DeclaredPredicate
       (λ t b w y′. annotated id t b (w .orderly) y′ (w .holds))
 
   -- ---- `check`
-  inferThenUnify-meets : (id : ℕ) (t : Ty) (c : Checker) → Orderly c → Ready (checking nodes (suc d) id) c → Side (unknowns c) t → Meets Nothing (checking nodes (suc d) id) c (inferThenUnify schema nodes below id t c)
+  pub inferThenUnify-meets : (id : ℕ) (t : Ty) (c : Checker) → Orderly c → Ready (checking nodes (suc d) id) c → Side (unknowns c) t → Meets Nothing (checking nodes (suc d) id) c (inferThenUnify schema nodes below id t c)
   unfolding inferThenUnify snapshot
   inferThenUnify-meets id t c o y h =
       meets-nest Nothing (checking nodes (suc d) id) c (inferAt schema nodes below id c) (λ found. unify found t) _
@@ -545,7 +545,7 @@ module _ (schema : Schema) (nodes : List Node) (declared : All DeclaredPredicate
           meets-then Nothing Nothing (inferring nodes (suc d) id) one-diagnostic (checking nodes (suc d) id) c (omega (arith, size-pos nodes (suc d) id)) (rollback (record { state = Bindings.snapshot (c .state); env = length (c .env) }) b) (λ u. report schema nodes id err) y
           (λ y′. rolled-meets (inferring nodes (suc d) id) c b o (w .made) (w .reached)) (λ u b′ w′ y′. unfold report in reject-meets schema nodes id _ b′ (w′ .orderly))
 
-  checkField-meets : (n : ℕ) (t : Ty) (c : Checker) → Orderly c → Ready (checking nodes d n) c → Side (unknowns c) t → Meets Nothing (checking nodes d n) c (checkField schema nodes below n t c)
+  pub checkField-meets : (n : ℕ) (t : Ty) (c : Checker) → Orderly c → Ready (checking nodes d n) c → Side (unknowns c) t → Meets Nothing (checking nodes d n) c (checkField schema nodes below n t c)
   unfolding checkField snapshot diagnosticsLen
   checkField-meets n t c o y h =
       meets-from Nothing Nothing (checking nodes d n) (checking nodes d n) c (below .check n t c) _ (omega arith) (good .check n t c o y h) (λ u b w. after (ltb (length (c .diagnostics)) (length (b .diagnostics))) u b w)
@@ -555,7 +555,7 @@ module _ (schema : Schema) (nodes : List Node) (declared : All DeclaredPredicate
       after true u b w = rolled-meets (checking nodes d n) c b o (w .made) (w .reached)
       after false u b w = went-with Nothing tt w tt
 
-  checkFields-meets : (fs : List Syntax.Field) (row : Row) (c : Checker) → Orderly c → Ready (visiting nodes d (fieldValues fs)) c → SideRow (unknowns c) row → Meets Nothing (visiting nodes d (fieldValues fs)) c (checkFields schema nodes below fs row c)
+  pub checkFields-meets : (fs : List Syntax.Field) (row : Row) (c : Checker) → Orderly c → Ready (visiting nodes d (fieldValues fs)) c → SideRow (unknowns c) row → Meets Nothing (visiting nodes d (fieldValues fs)) c (checkFields schema nodes below fs row c)
   unfolding checkFields checkMentioned fieldValues sumOf
   checkFields-meets [] row c o y h = stays Nothing (visiting nodes d []) c tt o tt
   checkFields-meets (f ∷ fs) row c o y h =
@@ -584,7 +584,7 @@ module _ (schema : Schema) (nodes : List Node) (declared : All DeclaredPredicate
   checkUnion-meets id (f ∷ g ∷ fs) row c o y h = meets-fits Nothing one-diagnostic (choosing id (f ∷ g ∷ fs)) c (omega arith) (reject-meets schema nodes id _ c o)
 
   -- A node's weight, by its kind.
-  weight-kind : (own : ℕ → ℕ) (n : ℕ) (k : ExprKind) → nodeAt nodes n .kind ≡ k → weight nodes own (suc d) n ≡ own n + sumOf (λ m. weight nodes own d m) (exprNodes k)
+  pub weight-kind : (own : ℕ → ℕ) (n : ℕ) (k : ExprKind) → nodeAt nodes n .kind ≡ k → weight nodes own (suc d) n ≡ own n + sumOf (λ m. weight nodes own d m) (exprNodes k)
   unfolding weight
   weight-kind own n k e = rw e
 
@@ -597,7 +597,7 @@ module _ (schema : Schema) (nodes : List Node) (declared : All DeclaredPredicate
       diagnostics = omega (arith, weight-kind (λ m. 1) id (ExprKind.Record fs) is);
     }
 
-    checkRecord-meets : (t : Ty) (c : Checker) → Orderly c → Ready (checking nodes (suc d) id) c → Side (unknowns c) t → Meets Nothing (checking nodes (suc d) id) c (checkRecord schema nodes below id fs t c)
+    pub checkRecord-meets : (t : Ty) (c : Checker) → Orderly c → Ready (checking nodes (suc d) id) c → Side (unknowns c) t → Meets Nothing (checking nodes (suc d) id) c (checkRecord schema nodes below id fs t c)
     unfolding checkRecord
     checkRecord-meets (Ty.node Kind.Record row) c o y h =
         meets-then Nothing Nothing (visiting nodes d (fieldValues fs)) (one-node id) (checking nodes (suc d) id) c (record { nodes = λ x. record-fits .nodes x; unknowns = record-fits .unknowns; diagnostics = omega (arith, record-fits .diagnostics) }) (checkFields schema nodes below fs row c) _ y (λ y′. checkFields-meets fs row c o y′ h)
@@ -634,12 +634,12 @@ module _ (schema : Schema) (nodes : List Node) (declared : All DeclaredPredicate
   checkAgainst-meets id (Ty.node k r) c o y h = checkForm-meets id (nodeAt nodes id .kind) (Ty.node k r) c refl o y h
   checkAgainst-meets id (Ty.Var x) c o y h = checkForm-meets id (nodeAt nodes id .kind) (Ty.Var x) c refl o y h
 
-  checkAt-meets : (id : ℕ) (t : Ty) (c : Checker) → Orderly c → Ready (checking nodes (suc d) id) c → Side (unknowns c) t → Meets Nothing (checking nodes (suc d) id) c (checkAt schema nodes below id t c)
+  pub checkAt-meets : (id : ℕ) (t : Ty) (c : Checker) → Orderly c → Ready (checking nodes (suc d) id) c → Side (unknowns c) t → Meets Nothing (checking nodes (suc d) id) c (checkAt schema nodes below id t c)
   unfolding checkAt repr
   checkAt-meets id t c o y h = checkAgainst-meets id (Bindings.repr (c .state .subst) t) c o y (repr-side c t o h)
 
   -- ---- `generator`
-  generateBranches-meets : (last : Ty) (es : List ℕ) (c : Checker) → Orderly c → Ready (visiting nodes d es) c → Side (unknowns c) last → Meets IsSide (visiting nodes d es) c (generateBranches schema nodes below last es c)
+  pub generateBranches-meets : (last : Ty) (es : List ℕ) (c : Checker) → Orderly c → Ready (visiting nodes d es) c → Side (unknowns c) last → Meets IsSide (visiting nodes d es) c (generateBranches schema nodes below last es c)
   unfolding generateBranches sumOf
   generateBranches-meets last [] c o y h = stays IsSide (visiting nodes d []) c last o h
   generateBranches-meets last (e ∷ es) c o y h =
@@ -670,7 +670,7 @@ module _ (schema : Schema) (nodes : List Node) (declared : All DeclaredPredicate
   generatorForm-meets id ExprKind.Error c e o y = inferAt-meets id c o y
   generatorForm-meets id (ExprKind.Select x n) c e o y = inferAt-meets id c o y
 
-  generatorAt-meets : (id : ℕ) (c : Checker) → Orderly c → Ready (inferring nodes (suc d) id) c → Meets IsSide (inferring nodes (suc d) id) c (generatorAt schema nodes below id c)
+  pub generatorAt-meets : (id : ℕ) (c : Checker) → Orderly c → Ready (inferring nodes (suc d) id) c → Meets IsSide (inferring nodes (suc d) id) c (generatorAt schema nodes below id c)
   unfolding generatorAt form kind
   generatorAt-meets id c o y = generatorForm-meets id (nodeAt nodes id .kind) c refl o y
 
@@ -691,7 +691,7 @@ module _ (schema : Schema) (nodes : List Node) (declared : All DeclaredPredicate
     generator = λ n c o y. generatorAt-meets schema nodes declared d (walk schema nodes d) (walk-good d) n c o y;
   }
 
-  headForm-meets : (n : ℕ) (f : Form) (c : Checker) → Orderly c → Meets Nothing one-diagnostic c (headForm schema nodes n f c)
+  pub headForm-meets : (n : ℕ) (f : Form) (c : Checker) → Orderly c → Meets Nothing one-diagnostic c (headForm schema nodes n f c)
   unfolding headForm
   headForm-meets n aWildcard c o = reject-meets schema nodes n _ c o
   headForm-meets n (aVariable x) c o = stays Nothing one-diagnostic c tt o tt

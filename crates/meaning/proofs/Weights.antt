@@ -5,14 +5,14 @@ use mathlib.Core.List.{List, [], _∷_, _++_, flatMap}
 use mathlib.Core.Logic.{_⊎_, inl, inr, ⊎-elim, by-cases}
 use mathlib.Core.Path.{_≡_, refl, sym, _∙_, ap}
 use Prim.Native.Nat.{ℕ, zero, suc, _+_, _≤_, _<_}
-use native.Mathlib.Decide.{ℕ-discrete, decLt}
+use native.Mathlib.Decide.{ℕ-discrete}
 use native.Mathlib.Omega.{arith}
 use lib.ListN.{length, getD, length-map}
-use Rattle.meaning.specs.Syntax.{ExprKind, Node, noNode, nodeAt, Query}
-use Rattle.meaning.specs.References.{fieldValues, exprNodes, queryNodes}
+use Rattle.meaning.specs.Syntax.{ExprKind, Node, noNode, nodeAt}
+use Rattle.meaning.specs.References.{fieldValues, exprNodes}
 use Rattle.meaning.specs.Rules.{All, Absent, Distinct}
-use Rattle.meaning.specs.Sound.{Lower, nodesNamed}
-use Rattle.meaning.specs.Run.{same, sumOf, total, weight, size, recordsOf, records, fieldsOf, fieldsUnder}
+use Rattle.meaning.specs.Sound.{nodesNamed}
+use Rattle.meaning.specs.Run.{same, sumOf, total, weight, size, recordsOf, records, fieldsOf, recordFields}
 use Rattle.meaning.proofs.Lists.{all-map, all-append, all-left, all-right}
 use Rattle.meaning.proofs.Depth.{Falls}
 use Rattle.meaning.proofs.Steps.{same-self, same-other}
@@ -197,15 +197,14 @@ recordsOf-one ExprKind.Error = omega arith
 recordsOf-one (ExprKind.Select x e) = omega arith
 
 pub records-size : (nodes : List Node) (d n : ℕ) → records nodes d n ≤ size nodes d n
-unfolding records
 records-size nodes d n = weight-more nodes (λ m. recordsOf (nodeAt nodes m .kind)) (λ m. 1) (λ m. recordsOf-one (nodeAt nodes m .kind)) d n
 
--- Each field is a node under the record; at depth 0 none is visited.
-pub fields-size : (nodes : List Node) (d n : ℕ) → fieldsUnder nodes d n + 1 ≤ size nodes d n
-unfolding fieldsUnder weight
-fields-size nodes zero n = omega arith
-fields-size nodes (suc d) n = omega (arith, fields-parts (nodeAt nodes n .kind), sums (exprNodes (nodeAt nodes n .kind)) (λ m. fields-size nodes d m))
+-- Each field is a node under the record.
+pub fields-size : (nodes : List Node) → Falls nodes → (d n : ℕ) → n < d → recordFields nodes d n + 1 ≤ size nodes d n
+unfolding weight Falls sumOf
+fields-size nodes falls zero n p = absurd (omega arith)
+fields-size nodes falls (suc d) n p = omega (arith, fields-parts (nodeAt nodes n .kind), sums (exprNodes (nodeAt nodes n .kind)) (falls n) (λ m l. fields-size nodes falls d m (omega arith)))
   where
-    sums : (s : List ℕ) → ((m : ℕ) → fieldsUnder nodes d m + 1 ≤ size nodes d m) → sumOf (λ m. fieldsUnder nodes d m) s + length s ≤ sumOf (λ m. size nodes d m) s
-    sums [] ih = omega arith
-    sums (m ∷ s) ih = omega (arith, ih m, sums s ih)
+    sums : (s : List ℕ) → All (λ m. m < n) s → ((m : ℕ) → m < n → recordFields nodes d m + 1 ≤ size nodes d m) → sumOf (λ m. recordFields nodes d m) s + length s ≤ sumOf (λ m. size nodes d m) s
+    sums [] h ih = omega arith
+    sums (m ∷ s) h ih = omega (arith, ih m (h .0), sums s (h .1) ih)

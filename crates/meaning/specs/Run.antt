@@ -44,13 +44,13 @@ unfoldable pub run : Schema → Ast → ℕ → Step Ty
 unfolding query begin
 run schema ast ceiling = query schema (ast .nodes) (ast .query) (begin ceiling (length (ast .nodes)))
 
--- What a run has made by its end, over this many nodes.
+-- What a run has made by its end, over at most this many nodes.
 pub record Room (nodes : ℕ) (c : Checker) : Type 0 where
   pub unknowns : length (c .state .subst) ≤ nodes
   pub environment : length (c .env) ≤ nodes
   pub diagnostics : length (c .diagnostics) ≤ 3 * nodes
   pub undo : length (c .state .undo) ≤ 2 * nodes
-  pub annotations : length (c .state .tys) ≡ nodes
+  pub annotations : length (c .state .tys) ≤ nodes
 
 -- What a visit has made by its end: u unknowns and r diagnostics at most. The entries of the environment and of the undo log are
 -- bounded by the unknowns and the nodes that there are.
@@ -120,12 +120,8 @@ fieldsOf (ExprKind.Arith es) = 0
 fieldsOf ExprKind.Error = 0
 fieldsOf (ExprKind.Select x e) = 0
 
-unfoldable pub records : List Node → ℕ → ℕ → ℕ
-unfolding weight recordsOf
+abbrev pub records : List Node → ℕ → ℕ → ℕ
 records nodes d n = weight nodes (λ m. recordsOf (nodeAt nodes m .kind)) d n
 
--- At depth 0 no field is reached.
-unfoldable pub fieldsUnder : List Node → ℕ → ℕ → ℕ
-unfolding sumOf fieldsOf nodeAt exprNodes
-fieldsUnder nodes zero n = 0
-fieldsUnder nodes (suc d) n = fieldsOf (nodeAt nodes n .kind) + sumOf (λ m. fieldsUnder nodes d m) (exprNodes (nodeAt nodes n .kind))
+abbrev pub recordFields : List Node → ℕ → ℕ → ℕ
+recordFields nodes d n = weight nodes (λ m. fieldsOf (nodeAt nodes m .kind)) d n

@@ -3,14 +3,14 @@
 use mathlib.Core.Bool.{Bool, true, false}
 use mathlib.Core.List.{List, [], _∷_, _++_}
 use mathlib.Core.Option.{Option, none, some}
-use mathlib.Core.Path.{_≡_, refl, sym, _∙_, ap}
+use mathlib.Core.Path.{_≡_, refl, _∙_, ap}
 use Prim.Native.Nat.{ℕ, zero, suc, _+_, _≤_, _<_}
 use native.Mathlib.Decide.{ℕ-discrete}
 use native.Mathlib.Omega.{arith}
 use lib.Dec.{eqb}
 use lib.ListN.{length, getD, set, replicate, length-set}
-use Rattle.unification.specs.Ty.{Leaf, Leaf-discrete, Kind, Record, Union, Ty, leaf, node, Var, Error, Row, ε, cell, rowLen}
-use Rattle.unification.specs.Bindings.{Subst, bound, repr, Answer, yes-left, no-left, spent, occurs, Undo, Binding, Annotation, State, withLeft, fresh, setVar, annotate}
+use Rattle.unification.specs.Ty.{Leaf-discrete, Kind, Record, Union, Ty, leaf, node, Var, Error, Row, ε, cell, rowLen}
+use Rattle.unification.specs.Bindings.{Subst, bound, repr, Answer, yes-left, no-left, spent, occurs, Undo, Binding, Annotation, State, withLeft, setVar, annotate}
 use Rattle.unification.specs.Unify.{UnionDiff, TyError, Unified, Ok, Err, Spent, andThen, mapErr, bindVar, findKey, unifyField, unifyFields, unifyRecord, discriminants, unifyAlternative, unifyAlternatives, unifyUnion, unifyNodes, unifyHeads, note, unifyIn, unify}
 use Rattle.unification.specs.Calls.{Side, Reaches}
 use Rattle.unification.proofs.Tests.{clash}
@@ -70,6 +70,14 @@ pub record Log (st : State) : Type 0 where
 pub log-room : (st : State) → Log st → length (st .undo) ≤ length (st .subst) + length (st .tys)
 log-room st h = omega (arith, h .exact, taken-length (st .subst), taken-length (st .tys))
 
+-- Before a free unknown is bound, or a node without a type annotated, there is room for the entry.
+pub log-room-unknown : (st : State) (x : ℕ) → x < length (st .subst) → bound (st .subst) x ≡ none → Log st → length (st .undo) < length (st .subst) + length (st .tys)
+unfolding bound
+log-room-unknown st x h free l = omega (arith, l .exact, taken-free (st .subst) x h free, taken-length (st .tys))
+
+pub log-room-node : (st : State) (n : ℕ) → n < length (st .tys) → getD (st .tys) n none ≡ none → Log st → length (st .undo) < length (st .subst) + length (st .tys)
+log-room-node st n h free l = omega (arith, l .exact, taken-free (st .tys) n h free, taken-length (st .subst))
+
 pub log-annotate : (st : State) (n : ℕ) (t : Ty) → n < length (st .tys) → getD (st .tys) n none ≡ none → Log st → Log (annotate st n t)
 unfolding annotate
 log-annotate st n t h free l = record { wf = l .wf; blank = (free, l .blank); exact = omega (arith, l .exact, taken-set (st .tys) n t h free) }
@@ -81,11 +89,11 @@ pub record Logged (n : ℕ) (st : State) : Type 0 where
   pub log : Log st
   pub len : length (st .subst) ≡ n
 
-logged-left : (n : ℕ) (st : State) (v : ℕ) → Logged n st → Logged n (withLeft st v)
+pub logged-left : (n : ℕ) (st : State) (v : ℕ) → Logged n st → Logged n (withLeft st v)
 unfolding withLeft
 logged-left n st v h = record { log = record { wf = h .log .wf; blank = h .log .blank; exact = h .log .exact }; len = h .len }
 
-logged-setVar : (n : ℕ) (st : State) (x : ℕ) (t : Ty) → bound (st .subst) x ≡ none → x < n → Side n t → ¬ Reaches (st .subst) t (Var x) → Logged n st → Logged n (setVar st x t)
+pub logged-setVar : (n : ℕ) (st : State) (x : ℕ) (t : Ty) → bound (st .subst) x ≡ none → x < n → Side n t → ¬ Reaches (st .subst) t (Var x) → Logged n st → Logged n (setVar st x t)
 unfolding setVar bound
 logged-setVar n st x t free lt side off h =
     let side′ : Side (length (st .subst)) t = rw (h .len) side in
@@ -100,25 +108,25 @@ logged-setVar n st x t free lt side off h =
     }
 
 module _ (n : ℕ) where
-  logged-then : (res : Unified) (f : State → Unified) → After (Logged n) res → ((b : State) → Logged n b → After (Logged n) (f b)) → After (Logged n) (andThen res f)
+  pub logged-then : (res : Unified) (f : State → Unified) → After (Logged n) res → ((b : State) → Logged n b → After (Logged n) (f b)) → After (Logged n) (andThen res f)
   unfolding andThen
   logged-then (Ok b) f p q = q b p
   logged-then (Err e b) f p q = p
   logged-then (Spent b) f p q = p
 
-  logged-mapErr : (e : TyError) (res : Unified) → After (Logged n) res → After (Logged n) (mapErr e res)
+  pub logged-mapErr : (e : TyError) (res : Unified) → After (Logged n) res → After (Logged n) (mapErr e res)
   unfolding mapErr
   logged-mapErr e (Ok b) p = p
   logged-mapErr e (Err e′ b) p = p
   logged-mapErr e (Spent b) p = p
 
-  logged-note : (s : Subst) (a b : Ty) (res : Unified) → After (Logged n) res → After (Logged n) (note s a b res)
+  pub logged-note : (s : Subst) (a b : Ty) (res : Unified) → After (Logged n) res → After (Logged n) (note s a b res)
   unfolding note
   logged-note s a b (Ok c) p = record { log = record { wf = p .log .wf; blank = p .log .blank; exact = p .log .exact }; len = p .len }
   logged-note s a b (Err e c) p = record { log = record { wf = p .log .wf; blank = p .log .blank; exact = p .log .exact }; len = p .len }
   logged-note s a b (Spent c) p = p
 
-  logged-bindVar : (d : ℕ) (st : State) (x : ℕ) (t : Ty) → bound (st .subst) x ≡ none → x < n → Side n t → Logged n st → After (Logged n) (bindVar d st x t)
+  pub logged-bindVar : (d : ℕ) (st : State) (x : ℕ) (t : Ty) → bound (st .subst) x ≡ none → x < n → Side n t → Logged n st → After (Logged n) (bindVar d st x t)
   unfolding bindVar withLeft
   logged-bindVar d st x t free lt side h = go (occurs d (st .subst) x (st .left) t) refl
     where
@@ -127,11 +135,11 @@ module _ (n : ℕ) where
       go (no-left v) e = rw (e, bindVar) (logged-setVar n (withLeft st v) x t free lt side (occurs-no (st .subst) x free (h .log .wf .acyclic) d (st .left) t v e) (logged-left n st v h))
       go spent e = rw (e, bindVar) (logged-left n st zero h)
 
-  abbrev Keeping : (State → Ty → Ty → Unified) → Type 0
+  abbrev pub Keeping : (State → Ty → Ty → Unified) → Type 0
   Keeping u = (st : State) (a b : Ty) → Side n a → Side n b → Logged n st → After (Logged n) (u st a b)
 
-  module _ (u : State → Ty → Ty → Unified) (rec : (st : State) (a b : Ty) → Side n a → Side n b → Logged n st → After (Logged n) (u st a b)) where
-    logged-fields : (st : State) (xs ys : Row) → Parts (Alternative n) xs → Parts (Alternative n) ys → Logged n st → After (Logged n) (unifyFields u st xs ys)
+  module _ (u : State → Ty → Ty → Unified) (rec : Keeping u) where
+    pub logged-fields : (st : State) (xs ys : Row) → Parts (Alternative n) xs → Parts (Alternative n) ys → Logged n st → After (Logged n) (unifyFields u st xs ys)
     unfolding unifyFields unifyField
     logged-fields st ε ys f g h = h
     logged-fields st (cell k l x xs) ys f g h = logged-then (unifyField u st k x (findKey k ys)) _ (field (findKey k ys) (find-part (Alternative n) k ys g)) (λ b i. logged-fields b xs ys (f .1) g i)
@@ -140,7 +148,7 @@ module _ (n : ℕ) where
         field none p = h
         field (some y) p = rec st x (y .1) (f .0) p h
 
-    logged-record : (st : State) (xs ys : Row) → Parts (Alternative n) xs → Parts (Alternative n) ys → Logged n st → After (Logged n) (unifyRecord u st xs ys)
+    pub logged-record : (st : State) (xs ys : Row) → Parts (Alternative n) xs → Parts (Alternative n) ys → Logged n st → After (Logged n) (unifyRecord u st xs ys)
     unfolding unifyRecord
     logged-record st xs ys f g h = go (eqb (rowLen xs) (rowLen ys)) refl
       where
@@ -148,7 +156,7 @@ module _ (n : ℕ) where
         go true q = rw (q, unifyRecord) (logged-fields st xs ys f g h)
         go false q = rw (q, unifyRecord) h
 
-    logged-alternative : (st : State) (differ : UnionDiff → TyError) (k : ℕ) (o o′ : Option (ℕ × Ty)) → Part (Alternative n) o → Part (Alternative n) o′ → Logged n st → After (Logged n) (unifyAlternative u st differ k o o′)
+    pub logged-alternative : (st : State) (differ : UnionDiff → TyError) (k : ℕ) (o o′ : Option (ℕ × Ty)) → Part (Alternative n) o → Part (Alternative n) o′ → Logged n st → After (Logged n) (unifyAlternative u st differ k o o′)
     unfolding unifyAlternative
     logged-alternative st differ k none none f g h = h
     logged-alternative st differ k none (some y) f g h = h
@@ -159,7 +167,7 @@ module _ (n : ℕ) where
         go true q = rw (q, unifyAlternative) (logged-mapErr _ (u st (x .1) (y .1)) (rec st (x .1) (y .1) f g h))
         go false q = rw (q, unifyAlternative) h
 
-    logged-alternatives : (st : State) (differ : UnionDiff → TyError) (ks : List ℕ) (xs ys : Row) → Parts (Alternative n) xs → Parts (Alternative n) ys → Logged n st → After (Logged n) (unifyAlternatives u st differ ks xs ys)
+    pub logged-alternatives : (st : State) (differ : UnionDiff → TyError) (ks : List ℕ) (xs ys : Row) → Parts (Alternative n) xs → Parts (Alternative n) ys → Logged n st → After (Logged n) (unifyAlternatives u st differ ks xs ys)
     unfolding unifyAlternatives
     logged-alternatives st differ [] xs ys f g h = h
     logged-alternatives st differ (k ∷ ks) xs ys f g h =
@@ -167,7 +175,7 @@ module _ (n : ℕ) where
         (logged-alternative st differ k (findKey k xs) (findKey k ys) (find-part (Alternative n) k xs f) (find-part (Alternative n) k ys g) h)
         (λ b i. logged-alternatives b differ ks xs ys f g i)
 
-    logged-nodes : (st : State) (k : Kind) (xs : Row) (k′ : Kind) (ys : Row) → Side n (node k xs) → Side n (node k′ ys) → Logged n st → After (Logged n) (unifyNodes u st k xs k′ ys)
+    pub logged-nodes : (st : State) (k : Kind) (xs : Row) (k′ : Kind) (ys : Row) → Side n (node k xs) → Side n (node k′ ys) → Logged n st → After (Logged n) (unifyNodes u st k xs k′ ys)
     unfolding unifyNodes unifyUnion
     logged-nodes st Record xs Record ys f g h =
         let part = parts-map (Field n) (Alternative n) (λ l t p. p .1) in
@@ -176,7 +184,7 @@ module _ (n : ℕ) where
     logged-nodes st Union xs Record ys f g h = h
     logged-nodes st Union xs Union ys f g h = logged-alternatives st _ (discriminants xs ys) xs ys (alternatives n xs (f .1)) (alternatives n ys (g .1)) h
 
-    logged-heads : (d : ℕ) (st : State) (a b : Ty) → Resolved (st .subst) a → Resolved (st .subst) b → Side n a → Side n b → Logged n st → After (Logged n) (unifyHeads d u st a b)
+    pub logged-heads : (d : ℕ) (st : State) (a b : Ty) → Resolved (st .subst) a → Resolved (st .subst) b → Side n a → Side n b → Logged n st → After (Logged n) (unifyHeads d u st a b)
     unfolding unifyHeads
     logged-heads d st Error Error e f i j h = h
     logged-heads d st Error (leaf q) e f i j h = h
@@ -204,11 +212,11 @@ module _ (n : ℕ) where
     logged-heads d st (node k r) (node k′ r′) e f i j h = logged-nodes st k r k′ r′ i j h
 
   -- Resolving keeps a side a side.
-  side-repr : (st : State) (a : Ty) → Logged n st → Side n a → Side n (repr (st .subst) a)
+  pub side-repr : (st : State) (a : Ty) → Logged n st → Side n a → Side n (repr (st .subst) a)
   unfolding repr
   side-repr st a h i = rw (← h .len) (side-follow (suc (length (st .subst))) (st .subst) a (h .log .wf) (rw (h .len) i))
 
-  unifyIn-logged : (d : ℕ) → Keeping (unifyIn d)
+  pub unifyIn-logged : (d : ℕ) → Keeping (unifyIn d)
   unfolding unifyIn heads-in withLeft
   unifyIn-logged zero st a b i j h = h
   unifyIn-logged (suc d) st a b i j h = go (st .left) refl (λ st′ a′ b′. unifyIn-logged d st′ a′ b′)
