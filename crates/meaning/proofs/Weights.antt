@@ -1,5 +1,5 @@
 -- What all the nodes of a query weigh. The weights of nodes of which none is named by a node below k come to at most what the
--- first k nodes weigh by themselves: the highest of them is put in place of by what it names, and so on down. Each node is named
+-- first k nodes weigh by themselves: the highest of them is replaced by what it names, and so on down. Each node is named
 -- once, so no two of the list that arises are the same.
 use mathlib.Core.List.{List, [], _∷_, _++_, flatMap}
 use mathlib.Core.Logic.{_⊎_, inl, inr, ⊎-elim, by-cases}
@@ -73,7 +73,7 @@ module _ (nodes : List Node) (falls : Falls nodes) (own : ℕ → ℕ) (d : ℕ)
   abbrev heavy : List ℕ → ℕ
   heavy s = sumOf (λ m. weight nodes own d m) s
 
-  -- k in the list, put in place of by what it names.
+  -- k in the list, replaced by what it names.
   in-place : (k : ℕ) (a b : List ℕ) → k < d → All (λ m. m < suc k) (a ++ k ∷ b) → ((x : ℕ) → times x (a ++ k ∷ b) + namings nodes x (suc k) ≤ 1)
       → ((t : List ℕ) → All (λ m. m < k) t → ((x : ℕ) → times x t + namings nodes x k ≤ 1) → heavy t ≤ total own k) → heavy (a ++ k ∷ b) ≤ total own (suc k)
   unfolding total sumOf Falls
