@@ -2,21 +2,22 @@
 use mathlib.Core.Bool.{Bool, true, false, not, _||_}
 use mathlib.Core.List.{List, [], _∷_}
 use mathlib.Core.Option.{Option, none, some}
-use mathlib.Core.Path.{_≡_, refl, sym, ap, _∙_}
-use Prim.Native.Nat.{ℕ, _<_, _≤_}
+use mathlib.Core.Path.{_≡_, refl, sym, ap}
+use Prim.Native.Nat.{ℕ}
 use native.Mathlib.Omega.{arith}
-use lib.Dec.{leb}
 use lib.ListN.{length}
 use borrow.Author.Tests.{leb-false, lt-leb, not-false}
-use Rattle.text.specs.Utf8.{Text, characters, both}
+use Rattle.text.specs.Utf8.{Text, characters}
 use Rattle.text.proofs.Every.{both-left, both-right}
 use Rattle.text.proofs.Grammar.{counts}
-use Rattle.meaning.specs.Refusal.{Refusal}
-use Rattle.meaning.specs.Frame.{Kind, limits, name, schemaType, predicate, node, query, mayStand, Frame, theLimits, aName, aType, aPredicate, aNode, theQuery, frameKind}
-use Rattle.meaning.specs.References.{nameRefs, typeRefs, nodeRefs, shapeKeys}
-use Rattle.meaning.specs.File.{SoFar, Said, malformed, unknownKind, noFrame, frames, allBelow, again, given, isMalformed, isMisplaced, isFull, isOneTooMany, isNoFrame, ofFrame, textBroken, isBrokenText, textGiven, isNameGivenBefore, refersEarlier, refersBadly, isBadReference, keyRepeated, isRepeatedKey, Condition, conditions, firstOf, maxNames, maxTypes, maxPredicates, maxNodes}
-use Rattle.meaning.specs.Rules.{All, Absent, Distinct, textsOf, keysOf, Room, Obeys}
-use Rattle.meaning.proofs.Tests.{cases, clash, both-true, below-all, all-below, again-new, again-distinct, new-again, none-earlier, given-absent, absent-given}
+use Rattle.meaning.specs.Frame.{Kind, limits, name, schemaType, predicate, node, query, mayStand, Frame, frameKind}
+use Rattle.meaning.specs.References.{nameRefs, typeRefs, nodeRefs, textsOf, keysOf}
+use Rattle.meaning.specs.SoFar.{SoFar, Said, frames}
+use Rattle.meaning.specs.Conditions.{allBelow, again, given, maxNames, maxTypes, maxPredicates, maxNodes, isMalformed, isMisplaced, isFull, isOneTooMany, isNoFrame, ofFrame, broken, isBrokenText, isNameGivenBefore, refersEarlier, refersBadly, isBadReference, isRepeatedKey, Condition, conditions, firstOf}
+use Rattle.meaning.specs.All.{All, Absent}
+use Rattle.meaning.proofs.Obeys.{Room, Obeys}
+use Rattle.meaning.proofs.Lists.{empty-absent}
+use Rattle.meaning.proofs.Tests.{cases, clash, both-true, none-passes, passes-none, below-all, all-below, again-new, again-distinct, new-again, given-absent, absent-given}
 
 -- ---- No condition of a list holds
 
@@ -55,63 +56,17 @@ full so query h = refl
 abbrev Readable : List ℕ → Type 0
 Readable s = (n : ℕ) × Text s n
 
-text : (f : Frame) → textBroken f ≡ false → All Readable (textsOf f)
-unfolding textBroken textsOf
-text (theLimits d t) h = tt
-text (aName s) h = (go (characters s) refl, tt)
+readable : (s : List ℕ) → broken s ≡ false → Readable s
+unfolding broken
+readable s h = go (characters s) refl
   where
     go : (o : Option ℕ) → characters s ≡ o → Readable s
-    go none q = clash (rw (q, textBroken) at h)
+    go none q = clash (rw (q, broken) at h)
     go (some n) q = (n, counts s n .1 q)
-text (aType t) h = tt
-text (aPredicate n k v) h = tt
-text (aNode n) h = tt
-text (theQuery q) h = tt
 
-unbroken : (f : Frame) → All Readable (textsOf f) → textBroken f ≡ false
-unfolding textBroken textsOf
-unbroken (theLimits d t) h = refl
-unbroken (aName s) h = rw (counts s (h .0 .0) .0 (h .0 .1), textBroken)
-unbroken (aType t) h = refl
-unbroken (aPredicate n k v) h = refl
-unbroken (aNode n) h = refl
-unbroken (theQuery q) h = refl
-
-new : (so : SoFar) (f : Frame) → textGiven so f ≡ false → All (λ s. Absent s (so .names)) (textsOf f)
-unfolding textGiven textsOf
-new so (theLimits d t) h = tt
-new so (aName s) h = (given-absent s (so .names) h, tt)
-new so (aType t) h = tt
-new so (aPredicate n k v) h = tt
-new so (aNode n) h = tt
-new so (theQuery q) h = tt
-
-not-given : (so : SoFar) (f : Frame) → All (λ s. Absent s (so .names)) (textsOf f) → textGiven so f ≡ false
-unfolding textGiven textsOf
-not-given so (theLimits d t) h = refl
-not-given so (aName s) h = absent-given s (so .names) (h .0)
-not-given so (aType t) h = refl
-not-given so (aPredicate n k v) h = refl
-not-given so (aNode n) h = refl
-not-given so (theQuery q) h = refl
-
-keys : (f : Frame) → keyRepeated f ≡ false → Distinct (keysOf f)
-unfolding keyRepeated keysOf
-keys (theLimits d t) h = tt
-keys (aName s) h = tt
-keys (aType t) h = again-distinct [] (shapeKeys t) h
-keys (aPredicate n k v) h = tt
-keys (aNode n) h = tt
-keys (theQuery q) h = tt
-
-not-repeated : (f : Frame) → Distinct (keysOf f) → keyRepeated f ≡ false
-unfolding keyRepeated keysOf
-not-repeated (theLimits d t) h = refl
-not-repeated (aName s) h = refl
-not-repeated (aType t) h = new-again [] (shapeKeys t) (none-earlier (shapeKeys t)) h
-not-repeated (aPredicate n k v) h = refl
-not-repeated (aNode n) h = refl
-not-repeated (theQuery q) h = refl
+unbroken : (s : List ℕ) → Readable s → broken s ≡ false
+unfolding broken
+unbroken s h = rw (counts s (h .0) .0 (h .1), broken)
 
 -- ---- The whole
 
@@ -129,14 +84,14 @@ obeys so f e =
     record {
       placed = not-false (mayStand (so .previous) (frameKind f)) (a .1 .0);
       room = room so (frameKind f) (a .1 .1 .0);
-      text = text f (a .1 .1 .1 .1 .0);
-      new = new so f (a .1 .1 .1 .1 .1 .0);
+      text = none-passes broken Readable readable (textsOf f) (a .1 .1 .1 .1 .0);
+      new = none-passes (given (so .names)) (λ s. Absent s (so .names)) (given-absent (so .names)) (textsOf f) (a .1 .1 .1 .1 .1 .0);
       names = below-all (length (so .names)) (nameRefs f) (both-left _ _ earlier);
       types = below-all (length (so .types)) (typeRefs f) (both-left _ _ (both-right (allBelow (length (so .names)) (nameRefs f)) _ earlier));
       nodes = below-all (length (so .nodes)) (nodeRefs f) (both-right (allBelow (length (so .types)) (typeRefs f)) _ (both-right (allBelow (length (so .names)) (nameRefs f)) _ earlier));
       unnamed = again-new (so .named) (nodeRefs f) once;
       once = again-distinct (so .named) (nodeRefs f) once;
-      keys = keys f (a .1 .1 .1 .1 .1 .1 .1 .0);
+      keys = again-distinct [] (keysOf f) (a .1 .1 .1 .1 .1 .1 .1 .0);
     }
   where
     a : All (λ c. c .holds so (frames f) ≡ false) conditions
@@ -151,31 +106,19 @@ obeys so f e =
 pub no-condition : (so : SoFar) (f : Frame) → Obeys so f → firstOf conditions so (frames f) ≡ none
 unfolding conditions isMalformed isMisplaced isOneTooMany isNoFrame isBrokenText isNameGivenBefore isBadReference isRepeatedKey ofFrame refersEarlier refersBadly
 no-condition so f o =
-    holds-none conditions so (frames f) (
-      refl,
-      (
-        ap not (o .placed),
-        (
-          full so (frameKind f) (o .room),
-          (
-            refl,
-            (
-              unbroken f (o .text),
-              (
-                not-given so f (o .new),
-                (
-                  or-not (refersEarlier so f) (again (so .named) (nodeRefs f)) earlier (new-again (so .named) (nodeRefs f) (o .unnamed) (o .once)),
-                  (
-                    not-repeated f (o .keys),
-                    tt,
-                  ),
-                ),
-              ),
-            ),
-          ),
-        ),
-      ),
-    )
+    holds-none conditions so (frames f) (refl, (ap not (o .placed), (full so (frameKind f) (o .room), (refl, (text, (new, (reference, (keys, tt))))))))
   where
     earlier : refersEarlier so f ≡ true
     earlier = both-true _ _ (all-below (length (so .names)) (nameRefs f) (o .names)) (both-true _ _ (all-below (length (so .types)) (typeRefs f) (o .types)) (all-below (length (so .nodes)) (nodeRefs f) (o .nodes)))
+
+    text : isBrokenText so (frames f) ≡ false
+    text = passes-none broken Readable unbroken (textsOf f) (o .text)
+
+    new : isNameGivenBefore so (frames f) ≡ false
+    new = passes-none (given (so .names)) (λ s. Absent s (so .names)) (absent-given (so .names)) (textsOf f) (o .new)
+
+    reference : isBadReference so (frames f) ≡ false
+    reference = or-not (refersEarlier so f) (again (so .named) (nodeRefs f)) earlier (new-again (so .named) (nodeRefs f) (o .unnamed) (o .once))
+
+    keys : isRepeatedKey so (frames f) ≡ false
+    keys = new-again [] (keysOf f) (empty-absent (keysOf f)) (o .keys)

@@ -14,7 +14,7 @@ use Rattle.unification.specs.Unify.{findKey, findLabel}
 use Rattle.meaning.specs.Syntax.{Field, QueryStmt, Query, FieldRef, Literal, ExprKind, Node, noNode, nodeAt, allFields, destructurableKind, destructurableIn, isDestructurable}
 use Rattle.meaning.specs.Schema.{Schema}
 use Rattle.meaning.specs.References.{fieldValues, stmtNodes, queryNodes, exprNodes}
-use Rattle.meaning.specs.Rules.{All}
+use Rattle.meaning.specs.All.{All}
 use Rattle.meaning.specs.Sound.{Lower}
 use Rattle.meaning.proofs.Lists.{all-map}
 use Rattle.meaning.proofs.Sound.{lower-at}

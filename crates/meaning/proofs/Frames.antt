@@ -1,10 +1,12 @@
 -- Lines pass exactly where they are frames that obey the rules.
-use mathlib.Core.Bool.{true, false}
+use mathlib.Core.Bool.{false}
 use mathlib.Core.List.{List, [], _∷_, map}
-use mathlib.Core.Path.{_≡_, refl, sym, ap}
+use mathlib.Core.Path.{_≡_, refl}
 use Rattle.meaning.specs.Frame.{Frame}
-use Rattle.meaning.specs.File.{SoFar, Said, malformed, unknownKind, noFrame, frames, after, isMalformed, isMisplaced, isNoFrame, conditions, firstOf}
-use Rattle.meaning.specs.Rules.{All, Obeys, Rules, done, next}
+use Rattle.meaning.specs.SoFar.{SoFar, Said, malformed, unknownKind, noFrame, frames, after}
+use Rattle.meaning.specs.Conditions.{isMalformed, isMisplaced, isNoFrame, conditions}
+use Rattle.meaning.specs.All.{All}
+use Rattle.meaning.proofs.Obeys.{Obeys, Rules, done, next}
 use Rattle.meaning.specs.Refused.{Pass, none-left, more}
 use Rattle.meaning.proofs.Tests.{clash}
 use Rattle.meaning.proofs.Conditions.{none-holds, holds-none, obeys, no-condition}

@@ -1,15 +1,17 @@
 -- A frame is read from its bytes and from no others: production by production.
-use mathlib.Core.List.{List, [], _∷_, _++_, flatMap, append-nil, append-assoc}
+use mathlib.Core.List.{List, [], _++_, flatMap, append-nil}
 use mathlib.Core.Option.{Option, none, some}
-use mathlib.Core.Path.{_≡_, refl, sym, ap, _∙_}
-use Prim.Native.Nat.{ℕ, zero, suc, _+_, _<_, _≤_}
+use mathlib.Core.Path.{_≡_, refl}
+use Prim.Native.Nat.{ℕ, _<_}
 use native.Mathlib.Omega.{arith}
 use lib.ListN.{length}
-use Rattle.unification.specs.Ty.{Leaf, Int, String, Bytes, Fact}
-use Rattle.meaning.specs.Syntax.{Field, QueryStmt, Query, FieldRef, Literal, ExprKind, Node}
-use Rattle.meaning.specs.Frame.{Kind, Alternative, TypeShape, aLeaf, aRecord, aUnion, Frame, theLimits, aName, aType, aPredicate, aNode, theQuery, frameKind, Got, got, fails, Reader, andThen, nothing, one, pair, triple, byte, two, four, many, entry, choice, field, alternative, typeShapes, valueTypes, statements, headAndBody, exprKinds, spanAndKind, rest, frame, whole, frameOf}
-use Rattle.meaning.specs.Rules.{All, Byte, InTwo, InFour, asTwo, asFour, asField, asAlternative, asShape, asValueType, asStatement, asQuery, asExpr, asNode, asContent, FieldFits, AlternativeFits, ShapeFits, ValueTypeFits, StatementFits, QueryFits, ExprFits, NodeFits, Fits}
-use Rattle.meaning.proofs.Inverse.{Took, Inverse, Anything, Nothing, one-back, one-forth, pair-back, pair-forth, triple-back, triple-forth, pair-inverse, triple-inverse, byte-inverse, two-inverse, four-inverse, many-inverse, Entries, choice-forth, entry-nothing, entry-one, entry-pair}
+use Rattle.unification.specs.Ty.{Int, String, Bytes, Fact}
+use Rattle.meaning.specs.Syntax.{Field, QueryStmt, FieldRef, Literal, ExprKind}
+use Rattle.meaning.specs.Frame.{Kind, Alternative, TypeShape, aLeaf, aRecord, aUnion, Frame, theLimits, aName, aType, aPredicate, aNode, theQuery, frameKind, got, nothing, two, many, entry, choice, field, alternative, typeShapes, valueTypes, statements, headAndBody, exprKinds, spanAndKind, rest, frame}
+use Rattle.meaning.specs.All.{All}
+use Rattle.meaning.specs.Writing.{Byte, InTwo, asField, asAlternative, asShape, asValueType, asStatement, asQuery, asExpr, asNode, asContent, FieldFits, AlternativeFits, ShapeFits, ValueTypeFits, StatementFits, QueryFits, ExprFits, NodeFits, Fits}
+use Rattle.meaning.specs.Answer.{bytes₂}
+use Rattle.meaning.proofs.Inverse.{Took, Inverse, Anything, Nothing, one-back, one-forth, pair-back, pair-forth, triple-back, triple-forth, pair-inverse, triple-inverse, byte-inverse, two-inverse, four-inverse, many-inverse, Entries, end, _then_, choice-forth, entry-nothing, entry-one, entry-pair}
 
 field-inverse : Inverse Anything field asField FieldFits
 unfolding field asField
@@ -19,8 +21,8 @@ alternative-inverse : Inverse Anything alternative asAlternative AlternativeFits
 unfolding alternative asAlternative
 alternative-inverse = triple-inverse (λ n discriminant type. record { name = n; discriminant = discriminant; type = type }) two-inverse four-inverse two-inverse asAlternative AlternativeFits (λ a. a .name) (λ a. a .discriminant) (λ a. a .type) (λ a. refl) (λ a. refl) (λ a b c. refl) (λ a h. h) (λ a b c x y z. (x, y, z))
 
-two-filled : (n : ℕ) → 0 < length (asTwo n)
-unfolding asTwo
+two-filled : (n : ℕ) → 0 < length (bytes₂ n)
+unfolding bytes₂
 two-filled n = omega arith
 
 field-filled : (f : Field) → 0 < length (asField f)
@@ -51,22 +53,13 @@ statement-inverse = record { back = back; forth = choice-forth asStatement State
     back (QueryStmt.Compare l r) t f e = pair-back QueryStmt.Compare two-inverse two-inverse l r t (f .0) (f .1) tt
 
     entries : Entries asStatement StatementFits 0 statements
-    entries = (
-      entry-pair _ _ 0x00 QueryStmt.Bind two-inverse two-inverse (λ a b. refl) (λ a b x y. (x, y)),
-      (
-        entry-one _ _ 0x01 QueryStmt.Implicit two-inverse (λ a. refl) (λ a x. x),
-        (
-          entry-one _ _ 0x02 QueryStmt.Negation two-inverse (λ a. refl) (λ a x. x),
-          (
-            entry-pair _ _ 0x03 QueryStmt.Deny two-inverse two-inverse (λ a b. refl) (λ a b x y. (x, y)),
-            (
-              entry-pair _ _ 0x04 QueryStmt.Compare two-inverse two-inverse (λ a b. refl) (λ a b x y. (x, y)),
-              tt,
-            ),
-          ),
-        ),
-      ),
-    )
+    entries =
+        entry-pair _ _ 0x00 QueryStmt.Bind two-inverse two-inverse (λ a b. refl) (λ a b x y. (x, y)) then
+        entry-one _ _ 0x01 QueryStmt.Implicit two-inverse (λ a. refl) (λ a x. x) then
+        entry-one _ _ 0x02 QueryStmt.Negation two-inverse (λ a. refl) (λ a x. x) then
+        entry-pair _ _ 0x03 QueryStmt.Deny two-inverse two-inverse (λ a b. refl) (λ a b x y. (x, y)) then
+        entry-pair _ _ 0x04 QueryStmt.Compare two-inverse two-inverse (λ a b. refl) (λ a b x y. (x, y)) then
+        end
 
 statements-inverse : Inverse Nothing (many (choice statements)) (flatMap asStatement) (All StatementFits)
 statements-inverse = many-inverse statement-inverse statement-filled
@@ -77,7 +70,7 @@ fields-inverse = many-inverse field-inverse field-filled
 alternatives-inverse : Inverse Nothing (many alternative) (flatMap asAlternative) (All AlternativeFits)
 alternatives-inverse = many-inverse alternative-inverse alternative-filled
 
-twos-inverse : Inverse Nothing (many two) (flatMap asTwo) (All InTwo)
+twos-inverse : Inverse Nothing (many two) (flatMap bytes₂) (All InTwo)
 twos-inverse = many-inverse two-inverse two-filled
 
 query-inverse : Inverse Nothing headAndBody asQuery QueryFits
@@ -97,25 +90,14 @@ shape-inverse = record { back = back; forth = choice-forth asShape ShapeFits typ
     back (aUnion alts) t f e = one-back aUnion alternatives-inverse alts t f e
 
     entries : Entries asShape ShapeFits 0 typeShapes
-    entries = (
-      entry-nothing _ _ 0x00 (aLeaf Int) refl tt,
-      (
-        entry-nothing _ _ 0x01 (aLeaf String) refl tt,
-        (
-          entry-nothing _ _ 0x02 (aLeaf Bytes) refl tt,
-          (
-            entry-one _ _ 0x03 (λ x. aLeaf (Fact x)) two-inverse (λ a. refl) (λ a x. x),
-            (
-              entry-one _ _ 0x04 aRecord fields-inverse (λ a. refl) (λ a x. x),
-              (
-                entry-one _ _ 0x05 aUnion alternatives-inverse (λ a. refl) (λ a x. x),
-                tt,
-              ),
-            ),
-          ),
-        ),
-      ),
-    )
+    entries =
+        entry-nothing _ _ 0x00 (aLeaf Int) refl tt then
+        entry-nothing _ _ 0x01 (aLeaf String) refl tt then
+        entry-nothing _ _ 0x02 (aLeaf Bytes) refl tt then
+        entry-one _ _ 0x03 (λ x. aLeaf (Fact x)) two-inverse (λ a. refl) (λ a x. x) then
+        entry-one _ _ 0x04 aRecord fields-inverse (λ a. refl) (λ a x. x) then
+        entry-one _ _ 0x05 aUnion alternatives-inverse (λ a. refl) (λ a x. x) then
+        end
 
 value-inverse : Inverse Anything (choice valueTypes) asValueType ValueTypeFits
 unfolding valueTypes asValueType choice entry nothing
@@ -126,13 +108,10 @@ value-inverse = record { back = back; forth = choice-forth asValueType ValueType
     back (some x) t f e = one-back some two-inverse x t f tt
 
     entries : Entries asValueType ValueTypeFits 0 valueTypes
-    entries = (
-      entry-nothing _ _ 0x00 none refl tt,
-      (
-        entry-one _ _ 0x01 some two-inverse (λ a. refl) (λ a x. x),
-        tt,
-      ),
-    )
+    entries =
+        entry-nothing _ _ 0x00 none refl tt then
+        entry-one _ _ 0x01 some two-inverse (λ a. refl) (λ a x. x) then
+        end
 
 expr-inverse : Inverse Nothing (choice exprKinds) asExpr ExprFits
 unfolding exprKinds asExpr choice entry nothing
@@ -158,58 +137,25 @@ expr-inverse = record { back = back; forth = choice-forth asExpr ExprFits exprKi
     back (ExprKind.Select x y) t f e = pair-back ExprKind.Select two-inverse two-inverse x y t (f .0) (f .1) tt
 
     entries : Entries asExpr ExprFits 0 exprKinds
-    entries = (
-      entry-nothing _ _ 0x00 (ExprKind.Lit Literal.Int) refl tt,
-      (
-        entry-nothing _ _ 0x01 (ExprKind.Lit Literal.Str) refl tt,
-        (
-          entry-nothing _ _ 0x02 (ExprKind.Lit Literal.Bytes) refl tt,
-          (
-            entry-one _ _ 0x03 ExprKind.Var two-inverse (λ a. refl) (λ a x. x),
-            (
-              entry-nothing _ _ 0x04 ExprKind.Wildcard refl tt,
-              (
-                entry-nothing _ _ 0x05 ExprKind.Never refl tt,
-                (
-                  entry-one _ _ 0x06 ExprKind.Prefix two-inverse (λ a. refl) (λ a x. x),
-                  (
-                    entry-pair _ _ 0x07 ExprKind.Fuzzy two-inverse byte-inverse (λ a b. refl) (λ a b x y. (x, y)),
-                    (
-                      entry-one _ _ 0x08 ExprKind.Record fields-inverse (λ a. refl) (λ a x. x),
-                      (
-                        entry-pair _ _ 0x09 (λ n b. ExprKind.Access (FieldRef.Key n) b) two-inverse two-inverse (λ a b. refl) (λ a b x y. (x, y)),
-                        (
-                          entry-one _ _ 0x0a (ExprKind.Access FieldRef.Value) two-inverse (λ a. refl) (λ a x. x),
-                          (
-                            entry-one _ _ 0x0b ExprKind.Disjunction twos-inverse (λ a. refl) (λ a x. x),
-                            (
-                              entry-one _ _ 0x0c ExprKind.Subquery query-inverse (λ a. refl) (λ a x. x),
-                              (
-                                entry-pair _ _ 0x0d ExprKind.Fact two-inverse two-inverse (λ a b. refl) (λ a b x y. (x, y)),
-                                (
-                                  entry-one _ _ 0x0e ExprKind.Arith twos-inverse (λ a. refl) (λ a x. x),
-                                  (
-                                    entry-nothing _ _ 0x0f ExprKind.Error refl tt,
-                                    (
-                                      entry-pair _ _ 0x10 ExprKind.Select two-inverse two-inverse (λ a b. refl) (λ a b x y. (x, y)),
-                                      tt,
-                                    ),
-                                  ),
-                                ),
-                              ),
-                            ),
-                          ),
-                        ),
-                      ),
-                    ),
-                  ),
-                ),
-              ),
-            ),
-          ),
-        ),
-      ),
-    )
+    entries =
+        entry-nothing _ _ 0x00 (ExprKind.Lit Literal.Int) refl tt then
+        entry-nothing _ _ 0x01 (ExprKind.Lit Literal.Str) refl tt then
+        entry-nothing _ _ 0x02 (ExprKind.Lit Literal.Bytes) refl tt then
+        entry-one _ _ 0x03 ExprKind.Var two-inverse (λ a. refl) (λ a x. x) then
+        entry-nothing _ _ 0x04 ExprKind.Wildcard refl tt then
+        entry-nothing _ _ 0x05 ExprKind.Never refl tt then
+        entry-one _ _ 0x06 ExprKind.Prefix two-inverse (λ a. refl) (λ a x. x) then
+        entry-pair _ _ 0x07 ExprKind.Fuzzy two-inverse byte-inverse (λ a b. refl) (λ a b x y. (x, y)) then
+        entry-one _ _ 0x08 ExprKind.Record fields-inverse (λ a. refl) (λ a x. x) then
+        entry-pair _ _ 0x09 (λ n b. ExprKind.Access (FieldRef.Key n) b) two-inverse two-inverse (λ a b. refl) (λ a b x y. (x, y)) then
+        entry-one _ _ 0x0a (ExprKind.Access FieldRef.Value) two-inverse (λ a. refl) (λ a x. x) then
+        entry-one _ _ 0x0b ExprKind.Disjunction twos-inverse (λ a. refl) (λ a x. x) then
+        entry-one _ _ 0x0c ExprKind.Subquery query-inverse (λ a. refl) (λ a x. x) then
+        entry-pair _ _ 0x0d ExprKind.Fact two-inverse two-inverse (λ a b. refl) (λ a b x y. (x, y)) then
+        entry-one _ _ 0x0e ExprKind.Arith twos-inverse (λ a. refl) (λ a x. x) then
+        entry-nothing _ _ 0x0f ExprKind.Error refl tt then
+        entry-pair _ _ 0x10 ExprKind.Select two-inverse two-inverse (λ a b. refl) (λ a b x y. (x, y)) then
+        end
 
 node-inverse : Inverse Nothing spanAndKind asNode NodeFits
 unfolding spanAndKind asNode

@@ -1,5 +1,4 @@
--- Reading and writing undo each other: the parts of the grammar in Frame.antt, against the bytes of Rules.antt.
-use mathlib.Core.Bool.{Bool, true, false}
+-- Reading and writing undo each other: the parts of the grammar in Frame.antt, against the bytes of Writing.antt.
 use mathlib.Core.List.{List, [], _∷_, _++_, flatMap, append-nil, append-assoc}
 use mathlib.Core.Option.{Option, none, some}
 use mathlib.Core.Path.{_≡_, refl, sym, ap, _∙_}
@@ -8,7 +7,9 @@ use native.Mathlib.Nat.{div-add-mod', add-zero, add-suc, suc-add, zero-add}
 use native.Mathlib.Omega.{arith}
 use lib.ListN.{length, getElem?, length-append}
 use Rattle.meaning.specs.Frame.{Got, got, fails, Reader, andThen, nothing, one, pair, triple, byte, two, four, manyIn, many, entry, choice}
-use Rattle.meaning.specs.Rules.{All, Byte, InTwo, InFour, asTwo, asFour}
+use Rattle.meaning.specs.All.{All}
+use Rattle.meaning.specs.Writing.{Byte, InTwo, InFour}
+use Rattle.meaning.specs.Answer.{bytes₂, bytes₄}
 
 -- ---- What a reading took
 
@@ -192,35 +193,55 @@ byte-inverse = record { back = λ a t f e. refl; forth = forth }
     forth [] a t h e = let z : _≡_ {A = ℕ} 0 1 = cc in absurd (omega arith)
     forth (b ∷ s) a t h e = let p = same-got e in record { bytes = cc (p .0, p .1); fits = rw (p .0) at (h .0); rest = rw (p .1) at (h .1) }
 
-pub two-inverse : Inverse Anything two asTwo InTwo
-unfolding two asTwo
+pub two-inverse : Inverse Anything two bytes₂ InTwo
+unfolding two bytes₂
 two-inverse = record { back = back; forth = forth }
   where
-    back : (n : ℕ) (t : List ℕ) → InTwo n → Unit {0} → two (asTwo n ++ t) ≡ got n t
-    back n t f e = pair-back (λ high low. high * 0x100 + low) byte-inverse byte-inverse (n / 0x100) (n % 0x100) t (omega arith) (omega arith) tt ∙ rw (div-add-mod' n 0x100)
+    back : (n : ℕ) (t : List ℕ) → InTwo n → Unit {0} → two (bytes₂ n ++ t) ≡ got n t
+    back n t f e =
+        let is : n / 0x100 % 0x100 * 0x100 + n % 0x100 ≡ n = omega arith in
+        pair-back (λ high low. high * 0x100 + low) byte-inverse byte-inverse (n / 0x100 % 0x100) (n % 0x100) t (omega arith) (omega arith) tt ∙ ap (λ m. got m t) is
 
-    forth : (s : List ℕ) (n : ℕ) (t : List ℕ) → All Byte s → two s ≡ got n t → Took asTwo InTwo s n t
+    forth : (s : List ℕ) (n : ℕ) (t : List ℕ) → All Byte s → two s ≡ got n t → Took bytes₂ InTwo s n t
     forth s n t h e =
         let k = pair-forth (λ high low. high * 0x100 + low) byte-inverse byte-inverse s n t h e in
         let is : n ≡ k .first * 0x100 + k .second = k .is in
-        let high : n / 0x100 ≡ k .first = omega (arith, k .fits′) in
+        let high : n / 0x100 % 0x100 ≡ k .first = omega (arith, k .fits, k .fits′) in
         let low : n % 0x100 ≡ k .second = omega (arith, k .fits′) in
         record { bytes = rw (high, low) (k .bytes); fits = omega (arith, k .fits, k .fits′); rest = k .rest }
 
-pub four-inverse : Inverse Anything four asFour InFour
-unfolding four asFour
+-- the low half of a number is written as the number is
+low-half : (n : ℕ) → bytes₂ n ≡ bytes₂ (n % 0x10000)
+unfolding bytes₂
+low-half n =
+    let high : n / 0x100 % 0x100 ≡ n % 0x10000 / 0x100 % 0x100 = omega arith in
+    let low : n % 0x100 ≡ n % 0x10000 % 0x100 = omega arith in
+    cc
+
+pub four-inverse : Inverse Anything four bytes₄ InFour
+unfolding four bytes₄
 four-inverse = record { back = back; forth = forth }
   where
-    back : (n : ℕ) (t : List ℕ) → InFour n → Unit {0} → four (asFour n ++ t) ≡ got n t
-    back n t f e = pair-back (λ high low. high * 0x10000 + low) two-inverse two-inverse (n / 0x10000) (n % 0x10000) t (omega arith) (omega arith) tt ∙ rw (div-add-mod' n 0x10000)
+    halves : (n : ℕ) (t : List ℕ) → bytes₄ n ++ t ≡ bytes₂ (n / 0x10000) ++ (bytes₂ (n % 0x10000) ++ t)
+    halves n t = append-assoc (bytes₂ (n / 0x10000)) (bytes₂ n) t ∙ ap (λ l. bytes₂ (n / 0x10000) ++ (l ++ t)) (low-half n)
 
-    forth : (s : List ℕ) (n : ℕ) (t : List ℕ) → All Byte s → four s ≡ got n t → Took asFour InFour s n t
+    back : (n : ℕ) (t : List ℕ) → InFour n → Unit {0} → four (bytes₄ n ++ t) ≡ got n t
+    back n t f e =
+        ap four (halves n t)
+        ∙ pair-back (λ high low. high * 0x10000 + low) two-inverse two-inverse (n / 0x10000) (n % 0x10000) t (omega arith) (omega arith) tt
+        ∙ ap (λ m. got m t) (div-add-mod' n 0x10000)
+
+    forth : (s : List ℕ) (n : ℕ) (t : List ℕ) → All Byte s → four s ≡ got n t → Took bytes₄ InFour s n t
     forth s n t h e =
         let k = pair-forth (λ high low. high * 0x10000 + low) two-inverse two-inverse s n t h e in
         let is : n ≡ k .first * 0x10000 + k .second = k .is in
         let high : n / 0x10000 ≡ k .first = omega (arith, k .fits′) in
         let low : n % 0x10000 ≡ k .second = omega (arith, k .fits′) in
-        record { bytes = rw (high, low) (k .bytes); fits = omega (arith, k .fits, k .fits′); rest = k .rest }
+        record {
+          bytes = k .bytes ∙ ap (λ m. bytes₂ m ++ (bytes₂ (k .second) ++ t)) (sym high) ∙ ap (λ m. bytes₂ (n / 0x10000) ++ (bytes₂ m ++ t)) (sym low) ∙ sym (halves n t);
+          fits = omega (arith, k .fits, k .fits′);
+          rest = k .rest;
+        }
 
 -- ---- Lists to the end
 
@@ -280,14 +301,15 @@ module _ {B : Type 0} (w : B → List ℕ) (F : B → Type 0) where
   abbrev pub Entry : ℕ → Reader B → Type 0
   Entry n q = (s : List ℕ) (b : B) (t : List ℕ) → All Byte s → q s ≡ got b t → Took w F (n ∷ s) b t
 
-  abbrev pub Entries : ℕ → List (Reader B) → Type 0
-  Entries n [] = Unit {0}
-  Entries n (q ∷ qs) = Entry n q × Entries (suc n) qs
+  infixr 30 _then_
+  pub data Entries : ℕ → List (Reader B) → Type 0 where
+    end : {n : ℕ} → Entries n []
+    _then_ : {n : ℕ} {q : Reader B} {qs : List (Reader B)} → Entry n q → Entries (suc n) qs → Entries n (q ∷ qs)
 
   entry-at : (n i : ℕ) (table : List (Reader B)) (q : Reader B) → Entries n table → getElem? table i ≡ some q → Entry (n + i) q
-  entry-at n i [] q a e = let z : _≡_ {A = ℕ} 0 1 = cc in absurd (omega arith)
-  entry-at n zero (p ∷ table) q a e = let same : p ≡ q = cc in rw (← same, add-zero) (a .0)
-  entry-at n (suc i) (p ∷ table) q a e = rw (add-suc, ← suc-add n i) (entry-at (suc n) i table q (a .1) e)
+  entry-at n i [] q end e = let z : _≡_ {A = ℕ} 0 1 = cc in absurd (omega arith)
+  entry-at n zero (p ∷ table) q (a then rest) e = let same : p ≡ q = cc in rw (← same, add-zero) a
+  entry-at n (suc i) (p ∷ table) q (a then rest) e = rw (add-suc, ← suc-add n i) (entry-at (suc n) i table q rest e)
 
   pub choice-forth : (table : List (Reader B)) → Entries 0 table → (s : List ℕ) (b : B) (t : List ℕ) → All Byte s → choice table s ≡ got b t → Took w F s b t
   unfolding choice entry

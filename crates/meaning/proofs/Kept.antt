@@ -1,26 +1,23 @@
 -- What the rules keep, line by line: the parts of `Kept` that a frame changes follow from what it obeys.
-use mathlib.Core.Bool.{Bool, true, false, true≢false}
+use mathlib.Core.Bool.{true, true≢false}
 use mathlib.Core.List.{List, [], _∷_, _++_, map, flatMap, append-nil, append-assoc}
-use mathlib.Core.Logic.{_≢_}
 use mathlib.Core.Option.{Option, none, some}
 use mathlib.Core.Path.{_≡_, refl, sym, ap, _∙_}
-use Prim.Native.Nat.{ℕ, zero, suc, _+_, _<_, _≤_}
-use native.Mathlib.Nat.{zero-add, suc-add, add-suc}
+use Prim.Native.Nat.{ℕ, suc, _+_, _<_}
+use native.Mathlib.Nat.{zero-add}
 use native.Mathlib.Omega.{arith}
-use lib.ListN.{length, getD, length-append}
-use Rattle.unification.specs.Ty.{Record, Union, Ty, leaf, Error, Row, ε, cell}
+use lib.ListN.{length}
+use Rattle.unification.specs.Ty.{Record, Union, Ty, Error}
 use Rattle.unification.specs.Calls.{Declared, DeclaredRow, Lacks}
 use Rattle.unification.specs.Calls as Calls
-use Rattle.meaning.specs.Syntax.{Field, Query, Node}
+use Rattle.meaning.specs.Syntax.{Field, Node}
 use Rattle.meaning.specs.Frame.{Kind, mayStand, follows, kindByte, repeatable, Alternative, TypeShape, aLeaf, aRecord, aUnion, Frame, theLimits, aName, aType, aPredicate, aNode, theQuery, frameKind}
-use Rattle.meaning.specs.References.{fieldNames, fieldValues, shapeTypes, shapeKeys, optional, exprNames, exprNodes, queryNodes, nameRefs, typeRefs, nodeRefs}
-use Rattle.meaning.specs.File.{SoFar, start, typeAt, fieldRow, alternativeRow, tyOf, valueTy, predicateOf, add}
-use Rattle.meaning.specs.Rules.{All, Absent, Distinct, textsOf, keysOf, Obeys, Rules, done, next}
-use Rattle.meaning.specs.Sound.{DeclaredOption, DeclaredPredicate, Lower, nodesNamed, namedByQuery, Kept}
-use Rattle.meaning.proofs.Lists.{all-append, all-snoc, all-map, all-at, distinct-append}
-
-length-snoc : {A : Type 0} (s : List A) (x : A) → length (s ++ x ∷ []) ≡ suc (length s)
-length-snoc s x = length-append s (x ∷ []) ∙ omega arith
+use Rattle.meaning.specs.References.{fieldNames, fieldValues, shapeTypes, shapeKeys, optional, exprNames, exprNodes, queryNodes, nameRefs, typeRefs, nodeRefs, textsOf, keysOf}
+use Rattle.meaning.specs.SoFar.{SoFar, start, typeAt, fieldRow, alternativeRow, tyOf, valueTy, predicateOf, add}
+use Rattle.meaning.specs.All.{All, Absent, Distinct}
+use Rattle.meaning.proofs.Obeys.{Obeys, Rules, done, next}
+use Rattle.meaning.specs.Sound.{DeclaredOption, DeclaredPredicate, Lower, nodesNamed, Kept}
+use Rattle.meaning.proofs.Lists.{all-snoc, all-map, all-at, distinct-append, length-snoc}
 
 more-room : {A : Type 0} (s : List A) (x : A) (n : ℕ) → n < length s → n < length (s ++ x ∷ [])
 more-room s x n h = omega (arith, length-snoc s x)
@@ -85,7 +82,7 @@ named-snoc (x ∷ ns) n = ap (λ t. exprNodes (x .kind) ++ t) (named-snoc ns n) 
 
 -- ---- The query is last
 
-nothing-after : (k : Kind) → follows Kind.query k ≡ true → ⊥
+pub nothing-after : (k : Kind) → follows Kind.query k ≡ true → ⊥
 unfolding follows kindByte repeatable
 nothing-after Kind.limits e = true≢false (sym e)
 nothing-after Kind.name e = true≢false (sym e)

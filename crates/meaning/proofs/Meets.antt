@@ -14,7 +14,7 @@ use Rattle.unification.proofs.Undo.{Since, since-refl, since-trans, since-lengt
 use Rattle.unification.proofs.Log.{Log}
 use Rattle.meaning.specs.Diag.{Diagnostic}
 use Rattle.meaning.specs.Check.{Checker, Step, goes, out, Does, andThen}
-use Rattle.meaning.specs.Rules.{All}
+use Rattle.meaning.specs.All.{All}
 use Rattle.meaning.specs.Run.{Led}
 
 -- ---- Grades

@@ -1,20 +1,22 @@
 -- `reading` refuses a file for a reason exactly under that reason's condition. It goes through the lines as `Pass` does, so the proof is
 -- by induction on them, with the first condition that holds of each.
-use mathlib.Core.Bool.{Bool, true, false}
+use mathlib.Core.Bool.{false}
 use mathlib.Core.List.{List, [], _∷_, _++_, map}
 use mathlib.Core.Logic.{_↔_}
 use mathlib.Core.Option.{Option, none, some}
-use mathlib.Core.Path.{_≡_, refl, sym, ap, _∙_}
-use Prim.Native.Nat.{ℕ, _<_, _≤_}
+use mathlib.Core.Path.{_≡_, refl, ap, _∙_}
+use Prim.Native.Nat.{ℕ, _≤_}
 use native.Mathlib.Omega.{arith}
 use lib.Dec.{ltb}
 use lib.ListN.{length}
 use borrow.Author.Tests.{ltb-true, ltb-false, lt-ltb, le-ltb}
 use Rattle.meaning.specs.Syntax.{Query}
-use Rattle.meaning.specs.Refusal.{Refusal, fileTooLong, misplacedKind}
+use Rattle.meaning.specs.Refusal.{Refusal}
 use Rattle.meaning.specs.Lines.{lines}
-use Rattle.meaning.specs.File.{SoFar, Said, said, start, after, Condition, conditions, firstOf, maxFile, Described, describe, Reading, refused, described, atEnd, readFrom, reading}
-use Rattle.meaning.specs.Rules.{All}
+use Rattle.meaning.specs.SoFar.{SoFar, Said, said, start, after}
+use Rattle.meaning.specs.Conditions.{Condition, conditions, firstOf}
+use Rattle.meaning.specs.File.{maxFile, Described, describe, Reading, refused, described, atEnd, readFrom, reading}
+use Rattle.meaning.specs.All.{All}
 use Rattle.meaning.specs.Refused.{First, here, later, Pass, none-left, more, AtLine, Refused, tooLong, atLine, missingQuery}
 use Rattle.meaning.proofs.Tests.{cases}
 use Rattle.meaning.proofs.Conditions.{none-holds, holds-none}
@@ -35,11 +37,19 @@ first-some (later q f) = rw (q, firstOf) (first-some f)
 
 -- ---- The lines
 
+pub read-refused : (so : SoFar) (l : Said) (ls : List Said) (i : Refusal) → firstOf conditions so l ≡ some i → readFrom so (l ∷ ls) ≡ refused i
+unfolding readFrom
+read-refused so l ls i q = rw (q, readFrom)
+
+pub read-next : (so : SoFar) (l : Said) (ls : List Said) → firstOf conditions so l ≡ none → readFrom so (l ∷ ls) ≡ readFrom (after so l) ls
+unfolding readFrom
+read-next so l ls q = rw (q, readFrom)
+
 -- What follows lines that pass is read as if they were there already.
 pub past : {so end : SoFar} {ls : List Said} (rest : List Said) → Pass so ls end → readFrom so (ls ++ rest) ≡ readFrom end rest
 unfolding readFrom
 past rest none-left = refl
-past rest (more {so = so} {l = l} a p) = rw (holds-none conditions so l a, readFrom) (past rest p)
+past rest (more {so = so} {l = l} {ls = ls} a p) = read-next so l (ls ++ rest) (holds-none conditions so l a) ∙ past rest p
 
 -- How the reading of lines ends.
 data Ends (so : SoFar) (ls : List Said) : Reading → Type 0 where
@@ -89,13 +99,12 @@ why i (turnedDown {i = j} h) e = let same : i ≡ j = cc in rw same h
 why i (passed end q h p s) e = let z : _≡_ {A = ℕ} 0 1 = cc in absurd (omega arith)
 
 stops : {so : SoFar} {ls : List Said} {i : Refusal} → AtLine so ls i → readFrom so ls ≡ refused i
-unfolding readFrom
-stops {so = so} s = ap (readFrom so) (s .split) ∙ past (s .line ∷ s .rest) (s .pass) ∙ rw (first-some (s .first), readFrom)
+stops {so = so} {i = i} s = ap (readFrom so) (s .split) ∙ past (s .line ∷ s .rest) (s .pass) ∙ read-refused (s .read) (s .line) (s .rest) i (first-some (s .first))
 
 to-the-end : {so end : SoFar} {ls : List Said} → Pass so ls end → readFrom so ls ≡ atEnd end (end .query)
 unfolding readFrom
 to-the-end none-left = refl
-to-the-end (more {so = so} {l = l} a p) = rw (holds-none conditions so l a, readFrom) (to-the-end p)
+to-the-end (more {so = so} {l = l} {ls = ls} a p) = read-next so l ls (holds-none conditions so l a) ∙ to-the-end p
 
 turned-down : (file : List ℕ) {i : Refusal} → Refused file i → reading file ≡ refused i
 unfolding reading atEnd

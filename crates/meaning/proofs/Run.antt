@@ -21,8 +21,9 @@ use Rattle.unification.proofs.Demand3.{calls-inv, demand-3}
 use Rattle.meaning.specs.Syntax.{Node, Ast}
 use Rattle.meaning.specs.Schema.{Schema}
 use Rattle.meaning.specs.References.{stmtNodes, queryNodes}
-use Rattle.meaning.specs.File.{Described, maxNodes, described, reading}
-use Rattle.meaning.specs.Rules.{All}
+use Rattle.meaning.specs.Conditions.{maxNodes}
+use Rattle.meaning.specs.File.{Described, described, reading}
+use Rattle.meaning.specs.All.{All}
 use Rattle.meaning.specs.Sound.{Sound}
 use Rattle.meaning.specs.Check.{Checker, Step, goes, out, Walk, walk, query, begin}
 use Rattle.meaning.specs.Run.{Led, between-calls, at-the-limit, ending, WellFormed, run, Room, Grows, same, sumOf, total, weight, size, records, recordFields}

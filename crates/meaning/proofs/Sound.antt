@@ -1,22 +1,20 @@
 -- What holds of every described file, from what the rules keep.
-use mathlib.Core.List.{List, [], _∷_, _++_, map}
-use mathlib.Core.Option.{Option, none, some}
-use mathlib.Core.Path.{_≡_, refl, sym, ap}
-use Prim.Native.Nat.{ℕ, zero, suc, _+_, _<_, _≤_}
+use mathlib.Core.List.{List, [], _∷_, map}
+use mathlib.Core.Option.{some}
+use mathlib.Core.Path.{_≡_}
+use Prim.Native.Nat.{ℕ, zero, suc, _+_, _<_}
 use native.Mathlib.Nat.{not-suc-le-zero, le-of-suc-le-suc, zero-add, add-zero, add-suc, suc-add}
-use native.Mathlib.Omega.{arith}
 use lib.ListN.{length, getD, length-map}
 use Rattle.text.specs.Utf8.{characters}
-use Rattle.unification.specs.Calls.{Declared}
 use Rattle.meaning.specs.Syntax.{Query, Node, noNode, nodeAt}
-use Rattle.meaning.specs.References.{exprNames, exprNodes, queryNodes}
-use Rattle.meaning.specs.Lines.{lines}
-use Rattle.meaning.specs.File.{SoFar, Said, said, start, Described, countOf, describe, Reading, described, reading}
-use Rattle.meaning.specs.Rules.{All, Distinct}
+use Rattle.meaning.specs.References.{exprNodes}
+use Rattle.meaning.specs.SoFar.{SoFar, Said, start}
+use Rattle.meaning.specs.File.{Described, countOf, describe, described, reading}
+use Rattle.meaning.specs.All.{All}
 use Rattle.meaning.specs.Refused.{Pass}
-use Rattle.meaning.specs.Sound.{Lower, nodesNamed, namedByQuery, Kept, Sound}
-use Rattle.meaning.proofs.Refused.{Accepted, described-when}
-use Rattle.meaning.proofs.Frames.{Obeying, pass-rules}
+use Rattle.meaning.specs.Sound.{Lower, Kept, Sound}
+use Rattle.meaning.proofs.Refused.{described-when}
+use Rattle.meaning.proofs.Frames.{pass-rules}
 use Rattle.meaning.proofs.Kept.{kept}
 
 -- Lines that pass keep it all; `types` among it, every schema type of the file.

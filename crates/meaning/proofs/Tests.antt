@@ -1,16 +1,16 @@
--- What the tests of File.antt say, in the terms of Rules.antt.
-use mathlib.Core.Bool.{Bool, true, false, not, true≢false}
-use mathlib.Core.List.{List, [], _∷_, _++_}
-use mathlib.Core.Logic.{_↔_, _≢_}
-use mathlib.Core.Option.{Option, none, some}
+-- What the tests of File.antt say, in the terms of All.antt.
+use mathlib.Core.Bool.{Bool, true, false, true≢false}
+use mathlib.Core.List.{List, [], _∷_}
+use mathlib.Core.Logic.{_≢_}
 use mathlib.Core.Path.{_≡_, refl, sym, ap, _∙_}
-use Prim.Native.Nat.{ℕ, _<_, _≤_}
+use Prim.Native.Nat.{ℕ, _<_}
 use lib.Dec.{eqb, ltb}
 use borrow.Author.Tests.{ltb-true, lt-ltb, eqb-true, eqb-false, eq-eqb, ne-eqb}
 use Rattle.text.specs.Utf8.{both}
 use Rattle.text.proofs.Every.{both-left, both-right}
-use Rattle.meaning.specs.File.{allBelow, among, again, sameText, given}
-use Rattle.meaning.specs.Rules.{All, Absent, Distinct}
+use Rattle.meaning.specs.Conditions.{anyOf, allBelow, among, again, sameText, given}
+use Rattle.meaning.specs.All.{All, Absent, Distinct}
+use Rattle.meaning.proofs.Lists.{all-map, not-first, none-first}
 
 -- a test's two answers
 pub cases : {X : Type 0} (b : Bool) → (b ≡ true → X) → (b ≡ false → X) → X
@@ -34,17 +34,26 @@ unfolding allBelow
 all-below n [] h = refl
 all-below n (m ∷ ms) h = both-true (ltb m n) (allBelow n ms) (lt-ltb m n (h .0)) (all-below n ms (h .1))
 
-pub among-absent : (n : ℕ) (ms : List ℕ) → among n ms ≡ false → Absent n ms
-unfolding among
-among-absent n [] h = tt
-among-absent n (m ∷ ms) h = cases (eqb n m)
-    (λ q. clash (rw (q, among) at h))
-    (λ q. (eqb-false n m q, among-absent n ms (rw (q, among) at h)))
+-- no element passes the test
+pub none-passes : {A : Type 0} (test : A → Bool) (P : A → Type 0) → ((a : A) → test a ≡ false → P a) → (l : List A) → anyOf test l ≡ false → All P l
+unfolding anyOf
+none-passes test P f [] h = tt
+none-passes test P f (a ∷ l) h = cases (test a)
+    (λ q. clash (rw (q, anyOf) at h))
+    (λ q. (f a q, none-passes test P f l (rw (q, anyOf) at h)))
 
-pub absent-among : (n : ℕ) (ms : List ℕ) → Absent n ms → among n ms ≡ false
+pub passes-none : {A : Type 0} (test : A → Bool) (P : A → Type 0) → ((a : A) → P a → test a ≡ false) → (l : List A) → All P l → anyOf test l ≡ false
+unfolding anyOf
+passes-none test P f [] h = refl
+passes-none test P f (a ∷ l) h = rw (f a (h .0), anyOf) (passes-none test P f l (h .1))
+
+among-absent : (n : ℕ) (ms : List ℕ) → among n ms ≡ false → Absent n ms
 unfolding among
-absent-among n [] h = refl
-absent-among n (m ∷ ms) h = rw (ne-eqb n m (h .0), among) (absent-among n ms (h .1))
+among-absent n ms h = none-passes (eqb n) (λ m. n ≢ m) (λ m q. eqb-false n m q) ms h
+
+absent-among : (n : ℕ) (ms : List ℕ) → Absent n ms → among n ms ≡ false
+unfolding among
+absent-among n ms h = passes-none (eqb n) (λ m. n ≢ m) (λ m q. ne-eqb n m q) ms h
 
 -- each of ns is none of earlier, and none of them stands twice
 pub again-new : (earlier ns : List ℕ) → again earlier ns ≡ false → All (λ n. Absent n earlier) ns
@@ -52,35 +61,19 @@ unfolding again
 again-new earlier [] h = tt
 again-new earlier (n ∷ ns) h = cases (among n earlier)
     (λ q. clash (rw (q, again) at h))
-    (λ q. (among-absent n earlier q, drop-first ns (again-new (n ∷ earlier) ns (rw (q, again) at h))))
-  where
-    drop-first : (ms : List ℕ) → All (λ m. Absent m (n ∷ earlier)) ms → All (λ m. Absent m earlier) ms
-    drop-first [] a = tt
-    drop-first (m ∷ ms) a = (a .0 .1, drop-first ms (a .1))
-
-first-absent : (n : ℕ) (earlier ms : List ℕ) → All (λ m. Absent m (n ∷ earlier)) ms → Absent n ms
-first-absent n earlier [] a = tt
-first-absent n earlier (m ∷ ms) a = (λ e. a .0 .0 (sym e), first-absent n earlier ms (a .1))
+    (λ q. (among-absent n earlier q, all-map (λ m. Absent m (n ∷ earlier)) (λ m. Absent m earlier) ns (λ m h. h .1) (again-new (n ∷ earlier) ns (rw (q, again) at h))))
 
 pub again-distinct : (earlier ns : List ℕ) → again earlier ns ≡ false → Distinct ns
 unfolding again
 again-distinct earlier [] h = tt
 again-distinct earlier (n ∷ ns) h = cases (among n earlier)
     (λ q. clash (rw (q, again) at h))
-    (λ q. let rest : again (n ∷ earlier) ns ≡ false = rw (q, again) at h in (first-absent n earlier ns (again-new (n ∷ earlier) ns rest), again-distinct (n ∷ earlier) ns rest))
-
-with-first : (n : ℕ) (earlier ms : List ℕ) → Absent n ms → All (λ m. Absent m earlier) ms → All (λ m. Absent m (n ∷ earlier)) ms
-with-first n earlier [] a b = tt
-with-first n earlier (m ∷ ms) a b = ((λ e. a .0 (sym e), b .0), with-first n earlier ms (a .1) (b .1))
+    (λ q. let rest : again (n ∷ earlier) ns ≡ false = rw (q, again) at h in (not-first n earlier ns (again-new (n ∷ earlier) ns rest), again-distinct (n ∷ earlier) ns rest))
 
 pub new-again : (earlier ns : List ℕ) → All (λ n. Absent n earlier) ns → Distinct ns → again earlier ns ≡ false
 unfolding again
 new-again earlier [] a d = refl
-new-again earlier (n ∷ ns) a d = rw (absent-among n earlier (a .0), again) (new-again (n ∷ earlier) ns (with-first n earlier ns (d .0) (a .1)) (d .1))
-
-pub none-earlier : (ns : List ℕ) → All (λ n. Absent n []) ns
-none-earlier [] = tt
-none-earlier (n ∷ ns) = (tt, none-earlier ns)
+new-again earlier (n ∷ ns) a d = rw (absent-among n earlier (a .0), again) (new-again (n ∷ earlier) ns (none-first n earlier ns (d .0) (a .1)) (d .1))
 
 pub same-text : (s t : List ℕ) → sameText s t ≡ true → s ≡ t
 unfolding sameText
@@ -97,16 +90,16 @@ unfolding sameText
 text-same [] = refl
 text-same (a ∷ s) = both-true (eqb a a) (sameText s s) (eq-eqb a a refl) (text-same s)
 
-pub given-absent : (s : List ℕ) (ts : List (List ℕ)) → given s ts ≡ false → Absent s ts
-unfolding given
-given-absent s [] h = tt
-given-absent s (t ∷ ts) h = cases (sameText s t)
-    (λ q. clash (rw (q, given) at h))
-    (λ q. (λ e. let z : true ≡ false = sym (text-same s) ∙ ap (sameText s) e ∙ q in true≢false z, given-absent s ts (rw (q, given) at h)))
+different : (s t : List ℕ) → sameText s t ≡ false → s ≢ t
+different s t q e = true≢false (sym (text-same s) ∙ ap (sameText s) e ∙ q)
 
-pub absent-given : (s : List ℕ) (ts : List (List ℕ)) → Absent s ts → given s ts ≡ false
+not-same : (s t : List ℕ) → s ≢ t → sameText s t ≡ false
+not-same s t n = cases (sameText s t) (λ q. absurd (n (same-text s t q))) (λ q. q)
+
+pub given-absent : (ts : List (List ℕ)) (s : List ℕ) → given ts s ≡ false → Absent s ts
 unfolding given
-absent-given s [] h = refl
-absent-given s (t ∷ ts) h = cases (sameText s t)
-    (λ q. absurd (h .0 (same-text s t q)))
-    (λ q. rw (q, given) (absent-given s ts (h .1)))
+given-absent ts s h = none-passes (sameText s) (λ t. s ≢ t) (λ t q. different s t q) ts h
+
+pub absent-given : (ts : List (List ℕ)) (s : List ℕ) → Absent s ts → given ts s ≡ false
+unfolding given
+absent-given ts s h = passes-none (sameText s) (λ t. s ≢ t) (λ t q. not-same s t q) ts h

@@ -19,7 +19,7 @@ use Rattle.meaning.specs.Syntax as Syntax
 use Rattle.meaning.specs.Schema.{Predicate, Schema, get, fieldOf}
 use Rattle.meaning.specs.Diag.{Code}
 use Rattle.meaning.specs.References.{fieldValues, stmtNodes, queryNodes, exprNodes}
-use Rattle.meaning.specs.Rules.{All}
+use Rattle.meaning.specs.All.{All}
 use Rattle.meaning.specs.Sound.{DeclaredOption, DeclaredPredicate}
 use Rattle.meaning.specs.Check.{Checker, goes, Does, andThen, freshVarId, freshVar, introduce, annotate, repr, unify, orderable, snapshot, rollback, diagnosticsLen, Form, aWildcard, aVariable, aConstant, aRecord, aDisjunction, anError, another, formOf, Walk, kind, form, reject, rejectTy, report, unifyAt, unresolved, keyTy, valueTy, keyShadowsValue, valueOf, fieldAt, keyOf, selectOf, accessOf, access, select, fuzzyDistance, fuzzyTerm, inferFields, inferAll, disjunction, fact, bindVariable, badTarget, onlyRight, notYet, destructure, bindWildcard, bindForm, denyForm, introduceSide, compareOrder, compare, generate, stmt, stmts, subquery, inferKind, inferAt, inferThenUnify, checkField, checkMentioned, checkFields, checkAlternative, checkUnion, checkRecord, checkForm, checkAgainst, checkAt, generateBranches, generatorForm, generatorAt, walk, headForm, query}
 use Rattle.meaning.specs.Run.{same, sumOf, weight, size}

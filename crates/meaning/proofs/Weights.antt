@@ -10,7 +10,7 @@ use native.Mathlib.Omega.{arith}
 use lib.ListN.{length, getD, length-map}
 use Rattle.meaning.specs.Syntax.{ExprKind, Node, noNode, nodeAt}
 use Rattle.meaning.specs.References.{fieldValues, exprNodes}
-use Rattle.meaning.specs.Rules.{All, Absent, Distinct}
+use Rattle.meaning.specs.All.{All, Absent, Distinct}
 use Rattle.meaning.specs.Sound.{nodesNamed}
 use Rattle.meaning.specs.Run.{same, sumOf, total, weight, size, recordsOf, records, fieldsOf, recordFields}
 use Rattle.meaning.proofs.Lists.{all-map, all-append, all-left, all-right}

@@ -1,26 +1,27 @@
 -- The files that pass are exactly the writings of frames that obey the rules: a line says a frame exactly where it is that frame's line.
-use mathlib.Core.Bool.{Bool, true, false}
 use mathlib.Core.List.{List, [], _∷_, _++_, map, flatMap, append-nil, append-assoc, head-eq-of-cons-eq, tail-eq-of-cons-eq}
 use mathlib.Core.Logic.{_↔_}
 use mathlib.Core.Option.{Option, none, some}
 use mathlib.Core.Path.{_≡_, refl, sym, ap, ap₂, subst, _∙_}
-use Prim.Native.Nat.{ℕ, zero, suc, _<_, _≤_}
+use Prim.Native.Nat.{ℕ, zero, suc, _≤_}
 use native.Mathlib.Omega.{arith}
 use lib.Dec.{leb}
 use lib.ListN.{length}
 use borrow.Author.Tests.{leb-true, le-leb}
-use Rattle.meaning.specs.Syntax.{Query}
 use Rattle.meaning.specs.Lines.{Line, closed, unclosed, LF, lines, decoded, maxBytes, atMost, someBytes, bytesOf}
 use Rattle.meaning.specs.Frame.{Kind, kindByte, kindOf, Frame, frameKind, Got, got, fails, frame, whole, frameOf}
-use Rattle.meaning.specs.File.{Said, malformed, unknownKind, noFrame, frames, saidOf, saidIn, saidBy, said, start, SoFar, Described, describe, described, reading, maxFile}
-use Rattle.meaning.specs.Rules.{All, Byte, Fits, asContent, written, hex, line, fileOf, Writable, Rules, Written}
+use Rattle.meaning.specs.SoFar.{malformed, frames, saidOf, saidIn, saidBy, said}
+use Rattle.meaning.specs.File.{Described, described, reading}
+use Rattle.meaning.specs.All.{All}
+use Rattle.meaning.specs.Writing.{Byte, Fits, asContent, written, fileOf, Writable}
+use Rattle.meaning.proofs.Obeys.{Written}
 use Rattle.meaning.proofs.Tests.{cases}
-use Rattle.meaning.proofs.Hex.{decoded-hex, hex-no-LF, Hex, hex-decoded}
+use Rattle.meaning.proofs.Hex.{hexes, line-hexes, decoded-hex, hex-no-LF, Hex, hex-decoded}
 use Rattle.meaning.proofs.Lines.{together, lines-together, lines-closed}
 use Rattle.meaning.proofs.Grammar.{content-back, FrameTook, content-forth}
 use Rattle.meaning.proofs.Bytes.{written-bytes}
-use Rattle.meaning.proofs.Frames.{Obeying, pass-rules, rules-pass}
-use Rattle.meaning.proofs.Refused.{Accepted, accepted, described-when}
+use Rattle.meaning.proofs.Frames.{pass-rules, rules-pass}
+use Rattle.meaning.proofs.Refused.{accepted, described-when}
 
 -- ---- Kinds
 
@@ -50,7 +51,7 @@ kind-byte (suc (suc (suc (suc (suc (suc (suc b))))))) k e = let z : _≡_ {A = �
 -- ---- A line
 
 abbrev pub lineOf : Frame → Line
-lineOf f = closed (flatMap hex (written f))
+lineOf f = closed (hexes (written f))
 
 frame-back : (f : Frame) → Writable f → frameOf (frameKind f) (asContent f) ≡ some f
 unfolding frameOf whole
@@ -107,7 +108,7 @@ is-line s b t f x e = cases (leb (length (b ∷ t)) maxBytes)
     (λ q. let c : malformed ≡ frames f = rw (q, atMost) at e in let z : _≡_ {A = ℕ} 0 1 = cc in absurd (omega arith))
   where
     short : length (b ∷ t) ≤ maxBytes → (b ∷ t ≡ written f) × Fits f → IsLine (closed s) f
-    short h p = record { is = ap closed (x .is ∙ ap (flatMap hex) (p .0)); writable = record { fits = p .1; short = subst (λ x. length x ≤ maxBytes) (p .0) h } }
+    short h p = record { is = ap closed (x .is ∙ ap hexes (p .0)); writable = record { fits = p .1; short = subst (λ x. length x ≤ maxBytes) (p .0) h } }
 
 pub said-line : (l : Line) (f : Frame) → said l ≡ frames f → IsLine l f
 unfolding said saidBy bytesOf someBytes
@@ -121,12 +122,12 @@ said-line (closed s) f e = go (decoded s) refl e
 
 -- ---- The lines of a file
 
-record AreLines (ls : List Line) (fs : List Frame) : Type 0 where
-  are : together ls ≡ fileOf fs
-  writable : All Writable fs
+pub record AreLines (ls : List Line) (fs : List Frame) : Type 0 where
+  pub are : together ls ≡ fileOf fs
+  pub writable : All Writable fs
 
-are-lines : (ls : List Line) (fs : List Frame) → map said ls ≡ map frames fs → AreLines ls fs
-unfolding together fileOf flatMap line
+pub are-lines : (ls : List Line) (fs : List Frame) → map said ls ≡ map frames fs → AreLines ls fs
+unfolding together fileOf flatMap
 are-lines [] [] e = record { are = refl; writable = tt }
 are-lines [] (f ∷ fs) e = let z : _≡_ {A = ℕ} 0 1 = cc in absurd (omega arith)
 are-lines (l ∷ ls) [] e = let z : _≡_ {A = ℕ} 0 1 = cc in absurd (omega arith)
@@ -135,16 +136,21 @@ are-lines (l ∷ ls) (f ∷ fs) e = go (said-line l f (head-eq-of-cons-eq e)) (a
     go : IsLine l f → AreLines ls fs → AreLines (l ∷ ls) (f ∷ fs)
     go i r =
         record {
-          are = rw (i .is, r .are, append-assoc);
+          are =
+              ap (λ x. together (x ∷ ls)) (i .is)
+              ∙ ap (λ t. hexes (written f) ++ LF ∷ t) (r .are)
+              ∙ sym (append-assoc (hexes (written f)) (LF ∷ []) (fileOf fs))
+              ∙ ap (λ x. x ++ fileOf fs) (sym (line-hexes (written f)));
           writable = (i .writable, r .writable);
         }
 
 file-lines : (fs : List Frame) → All Writable fs → map said (lines (fileOf fs)) ≡ map frames fs
-unfolding fileOf flatMap line lines
+unfolding fileOf flatMap lines
 file-lines [] w = refl
 file-lines (f ∷ fs) w =
-    ap (λ s. map said (lines s)) (append-assoc (flatMap hex (written f)) (LF ∷ []) (fileOf fs))
-    ∙ ap (map said) (lines-closed (flatMap hex (written f)) (fileOf fs) (hex-no-LF (written f) (written-bytes f (w .0 .fits))))
+    ap (λ s. map said (lines (s ++ fileOf fs))) (line-hexes (written f))
+    ∙ ap (λ s. map said (lines s)) (append-assoc (hexes (written f)) (LF ∷ []) (fileOf fs))
+    ∙ ap (map said) (lines-closed (hexes (written f)) (fileOf fs) (hex-no-LF (written f) (written-bytes f (w .0 .fits))))
     ∙ ap₂ _∷_ (says f (w .0)) (file-lines fs (w .1))
 
 -- ---- The theorem

@@ -7,7 +7,7 @@ use Prim.Native.Nat.{ℕ, zero, suc, _+_, _*_}
 use lib.Dec.{eqb, ltb}
 use lib.ListN.{length, getD, getElem?}
 use Rattle.unification.specs.Ty.{Leaf, Int, String, Bytes, Fact}
-use Rattle.meaning.specs.Syntax.{Span, Field, QueryStmt, Query, FieldRef, Literal, ExprKind, Node}
+use Rattle.meaning.specs.Syntax.{Field, QueryStmt, Query, FieldRef, Literal, ExprKind, Node}
 
 -- ---- Kinds
 

@@ -3,9 +3,10 @@
 use mathlib.Core.Bool.{Bool, true, false}
 use mathlib.Core.List.{List, [], _∷_}
 use mathlib.Core.Option.{Option, none, some}
-use Prim.Native.Nat.{ℕ, suc, _+_, _*_}
+use Prim.Native.Nat.{ℕ, _+_, _*_}
 use lib.Dec.{eqb, leb}
 use lib.ListN.{length}
+use Rattle.text.specs.Utf8.{oneMore}
 use Rattle.meaning.specs.Diag.{ascii}
 
 -- A line, without its LF. Bytes after the last LF are a line that lacks one.
@@ -28,13 +29,8 @@ lines (b ∷ s) = elim (eqb b LF) [ true ↦ closed [] ∷ lines s | false ↦ i
 
 -- ---- Hexadecimal
 
-unfoldable pub oneMore : Option ℕ → Option ℕ
-oneMore none = none
-oneMore (some n) = some (suc n)
-
 -- where in the list the first element stands that passes the test
 unfoldable pub position : {A : Type 0} → (A → Bool) → List A → Option ℕ
-unfolding oneMore
 position test [] = none
 position test (a ∷ l) = elim (test a) [ true ↦ some 0 | false ↦ oneMore (position test l) ]
 

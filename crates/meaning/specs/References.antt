@@ -1,4 +1,4 @@
--- What a frame refers to, and what it may not repeat: document 01, "When a file is turned down", conditions 9 and 10. References to
+-- What a frame refers to, gives and may not repeat: document 01, "When a file is turned down", conditions 7 to 10. References to
 -- predicates are left out, since they "need not exist".
 use mathlib.Core.List.{List, [], _∷_, map}
 use mathlib.Core.Option.{Option, none, some}
@@ -108,3 +108,22 @@ unfolding fieldNames
 shapeKeys (aLeaf p) = []
 shapeKeys (aRecord fs) = fieldNames fs
 shapeKeys (aUnion alts) = map (λ a. a .discriminant) alts
+
+-- A name's text.
+unfoldable pub textsOf : Frame → List (List ℕ)
+textsOf (theLimits d t) = []
+textsOf (aName s) = s ∷ []
+textsOf (aType t) = []
+textsOf (aPredicate n k v) = []
+textsOf (aNode n) = []
+textsOf (theQuery q) = []
+
+-- What may not repeat within the frame.
+unfoldable pub keysOf : Frame → List ℕ
+unfolding shapeKeys
+keysOf (theLimits d t) = []
+keysOf (aName s) = []
+keysOf (aType t) = shapeKeys t
+keysOf (aPredicate n k v) = []
+keysOf (aNode n) = []
+keysOf (theQuery q) = []

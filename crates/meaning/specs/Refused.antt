@@ -1,15 +1,17 @@
 -- When a file is turned down, and for which reason: document 01, "1, 2, then lines in file order, in each the lowest number, then the
 -- missing 06", for 2 to 10. `refused-when` in proofs/Refused.antt says that `reading` refuses exactly so.
-use mathlib.Core.Bool.{Bool, true, false}
+use mathlib.Core.Bool.{true, false}
 use mathlib.Core.List.{List, [], _∷_, _++_, map}
-use mathlib.Core.Option.{Option, none, some}
+use mathlib.Core.Option.{none}
 use mathlib.Core.Path.{_≡_}
 use Prim.Native.Nat.{ℕ, _<_, _≤_}
 use lib.ListN.{length}
 use Rattle.meaning.specs.Refusal.{Refusal, fileTooLong, misplacedKind}
 use Rattle.meaning.specs.Lines.{lines}
-use Rattle.meaning.specs.File.{SoFar, Said, said, start, after, Condition, conditions, maxFile}
-use Rattle.meaning.specs.Rules.{All}
+use Rattle.meaning.specs.SoFar.{SoFar, Said, said, start, after}
+use Rattle.meaning.specs.Conditions.{Condition, conditions}
+use Rattle.meaning.specs.File.{maxFile}
+use Rattle.meaning.specs.All.{All}
 
 -- The condition of this refusal holds of the line, and none that stands before it in the list does.
 pub data First : List Condition → SoFar → Said → Refusal → Type 0 where

@@ -14,7 +14,7 @@ use Rattle.unification.specs.Calls.{Side, Machine, Calls}
 use Rattle.meaning.specs.Syntax.{ExprKind, Node, Ast, nodeAt}
 use Rattle.meaning.specs.Schema.{Schema}
 use Rattle.meaning.specs.References.{exprNodes, queryNodes}
-use Rattle.meaning.specs.Rules.{All, Distinct}
+use Rattle.meaning.specs.All.{All, Distinct}
 use Rattle.meaning.specs.Sound.{DeclaredPredicate, Lower, nodesNamed}
 use Rattle.meaning.specs.Check.{Checker, Step, goes, out, query, begin}
 

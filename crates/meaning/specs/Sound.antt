@@ -4,17 +4,19 @@ use mathlib.Core.List.{List, [], _∷_, _++_, flatMap}
 use mathlib.Core.Logic.{_≢_}
 use mathlib.Core.Option.{Option, none, some}
 use mathlib.Core.Path.{_≡_}
-use Prim.Native.Nat.{ℕ, suc, _<_, _≤_}
+use Prim.Native.Nat.{ℕ, suc, _+_, _*_, _≤_}
 use lib.ListN.{length}
 use Rattle.text.specs.Utf8.{Text}
-use Rattle.unification.specs.Ty.{Ty}
+use Rattle.unification.specs.Ty.{Record, Union, Ty, leaf, Var, Error, rowLen}
 use Rattle.unification.specs.Calls.{Declared}
-use Rattle.meaning.specs.Syntax.{Query, Node, Ast}
-use Rattle.meaning.specs.Schema.{Predicate, Schema}
+use Rattle.meaning.specs.Syntax.{Query, Node}
+use Rattle.meaning.specs.Schema.{Predicate}
 use Rattle.meaning.specs.Frame.{Kind}
 use Rattle.meaning.specs.References.{exprNames, exprNodes, queryNodes}
-use Rattle.meaning.specs.File.{SoFar, Described, maxNames, maxTypes, maxPredicates, maxNodes}
-use Rattle.meaning.specs.Rules.{All, Distinct}
+use Rattle.meaning.specs.SoFar.{SoFar}
+use Rattle.meaning.specs.Conditions.{maxNames, maxTypes, maxPredicates, maxNodes}
+use Rattle.meaning.specs.File.{Described}
+use Rattle.meaning.specs.All.{All, Distinct, Below}
 
 abbrev pub DeclaredOption : Option Ty → Type 0
 DeclaredOption none = Unit {0}
@@ -26,7 +28,7 @@ DeclaredPredicate p = Declared (p .key) × DeclaredOption (p .value)
 -- Each node names only nodes before it; the first of the list has this number.
 abbrev pub Lower : ℕ → List Node → Type 0
 Lower i [] = Unit {0}
-Lower i (n ∷ ns) = All (λ m. m < i) (exprNodes (n .kind)) × Lower (suc i) ns
+Lower i (n ∷ ns) = Below i (exprNodes (n .kind)) × Lower (suc i) ns
 
 -- The nodes that the nodes name, in order.
 unfoldable pub nodesNamed : List Node → List ℕ
@@ -48,10 +50,10 @@ pub record Kept (so : SoFar) : Type 0 where
   pub types : All Declared (so .types)
   pub predicates : All DeclaredPredicate (so .predicates)
   pub lower : Lower 0 (so .nodes)
-  pub namesBelow : All (λ n. All (λ x. x < length (so .names)) (exprNames (n .kind))) (so .nodes)
+  pub namesBelow : All (λ n. Below (length (so .names)) (exprNames (n .kind))) (so .nodes)
   pub once : Distinct (so .named)
   pub named : so .named ≡ nodesNamed (so .nodes) ++ namedByQuery (so .query)
-  pub query : All (λ m. m < length (so .nodes)) (namedByQuery (so .query))
+  pub query : Below (length (so .nodes)) (namedByQuery (so .query))
   -- no query yet, as long as the last line is none
   pub unfinished : so .previous ≢ some Kind.query → so .query ≡ none
 
@@ -62,6 +64,41 @@ pub record Sound (d : Described) : Type 0 where
   pub nodesMax : length (d .ast .nodes) ≤ maxNodes
   pub predicates : All DeclaredPredicate (d .schema .predicates)
   pub lower : Lower 0 (d .ast .nodes)
-  pub namesBelow : All (λ n. All (λ x. x < length (d .schema .characters)) (exprNames (n .kind))) (d .ast .nodes)
+  pub namesBelow : All (λ n. Below (length (d .schema .characters)) (exprNames (n .kind))) (d .ast .nodes)
   pub once : Distinct (nodesNamed (d .ast .nodes) ++ queryNodes (d .ast .query))
-  pub query : All (λ m. m < length (d .ast .nodes)) (queryNodes (d .ast .query))
+  pub query : Below (length (d .ast .nodes)) (queryNodes (d .ast .query))
+
+-- ---- How much room the types take
+
+-- The words of a type's own cells: one for a field (two references), two for an alternative (two references and a discriminant).
+unfoldable pub typeWords : Ty → ℕ
+unfolding rowLen
+typeWords (leaf p) = 0
+typeWords (Ty.node Record r) = rowLen r
+typeWords (Ty.node Union r) = 2 * rowLen r
+typeWords (Var x) = 0
+typeWords Error = 0
+
+unfoldable pub allWords : List Ty → ℕ
+unfolding typeWords
+allWords [] = 0
+allWords (t ∷ ts) = typeWords t + allWords ts
+
+-- An eighth of the largest file: a field takes eight characters of it and an alternative sixteen.
+unfoldable pub maxWords : ℕ
+maxWords = 8192
+
+-- A type's own cells fit in a frame.
+abbrev pub Narrow : Ty → Type 0
+Narrow (leaf p) = Unit {0}
+Narrow (Ty.node Record r) = rowLen r ≤ 127
+Narrow (Ty.node Union r) = rowLen r ≤ 63
+Narrow (Var x) = Unit {0}
+Narrow Error = Unit {0}
+
+-- What the lines that have passed take.
+pub record Roomy (so : SoFar) : Type 0 where
+  pub words : allWords (so .types) ≤ maxWords
+  pub narrow : All Narrow (so .types)
+  -- a reference is two bytes of a frame
+  pub few : All (λ n. length (exprNodes (n .kind)) ≤ 251) (so .nodes)

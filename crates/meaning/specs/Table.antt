@@ -8,7 +8,8 @@ use Prim.Native.String.{String}
 use lib.Dec.{eqb}
 use Rattle.text.specs.Utf8.{both}
 use Rattle.meaning.specs.Diag.{ascii}
-use Rattle.meaning.specs.File.{Reading, refused, described, reading, sameText}
+use Rattle.meaning.specs.Conditions.{sameText}
+use Rattle.meaning.specs.File.{Reading, refused, described, reading}
 use Rattle.meaning.specs.Check.{Checked, typed, exhausted, check}
 use Rattle.meaning.specs.Outcome.{decide, printedLines, maxVisits}
 
@@ -324,6 +325,134 @@ examples =
     0 ∷
     []
 
+-- Examples of our own, for what document 01's list leaves open to a wrong definition; the Rust answers each so.
+unfoldable pub ownExamples : List Example
+unfolding accepted
+ownExamples =
+    -- a failed bind keeps the bindings made so far: y = {p = 1, q = ""}; y = {p = x, q = 1}, head x.
+    accepted (
+    "01020020" ∷
+    "0278" ∷
+    "0279" ∷
+    "0270" ∷
+    "0271" ∷
+    "050000000000000001030001" ∷
+    "05000000020000000300" ∷
+    "05000000040000000501" ∷
+    "050000000600000007080002000100030002" ∷
+    "050000000800000009030001" ∷
+    "050000000a0000000b030000" ∷
+    "050000000c0000000d00" ∷
+    "050000000e0000000f080002000500030006" ∷
+    "050000001000000011030000" ∷
+    "06000800000000030000040007" ∷
+    [])
+    (
+    "070000040002000200000301" ∷
+    "07000100" ∷
+    "07000201" ∷
+    "070003040002000200000301" ∷
+    "070004040002000200000301" ∷
+    "07000500" ∷
+    "07000600" ∷
+    "070007040002000200000300" ∷
+    "07000800" ∷
+    "080000000e0000000f72656a6563742f747970652d6d69736d61746368" ∷
+    [])
+    8 ∷
+    -- a field with a diagnostic inside is rolled back: p {f = {g = 1}} where p's key is {f : {h : Int}}, head an integer
+    accepted (
+    "01020020" ∷
+    "0270" ∷
+    "0266" ∷
+    "0267" ∷
+    "0268" ∷
+    "0300" ∷
+    "030400030000" ∷
+    "030400010001" ∷
+    "040000000200" ∷
+    "05000000000000000100" ∷
+    "0500000002000000030800020000" ∷
+    "0500000004000000050800010001" ∷
+    "0500000006000000070d00000002" ∷
+    "05000000080000000900" ∷
+    "060004010003" ∷
+    [])
+    (
+    "070000ff" ∷
+    "070001ff" ∷
+    "0700020400010001040001000300" ∷
+    "070003030000" ∷
+    "07000400" ∷
+    "08000000000000000172656a6563742f756e6b6e6f776e2d6669656c64" ∷
+    [])
+    0 ∷
+    -- x = y, head x: the right side's unknown is bound to the left's
+    accepted (
+    "01020020" ∷
+    "0278" ∷
+    "0279" ∷
+    "050000000000000001030000" ∷
+    "050000000200000003030001" ∷
+    "050000000400000005030000" ∷
+    "0600020000000001" ∷
+    [])
+    (
+    "070000060000" ∷
+    "070001060000" ∷
+    "070002060000" ∷
+    [])
+    2 ∷
+    -- a disjunction as a statement does not unify its branches, as a value it does: 1 | ""; x = 1 | "", head x
+    accepted (
+    "01020020" ∷
+    "0278" ∷
+    "05000000000000000100" ∷
+    "05000000020000000301" ∷
+    "0500000004000000050b00000001" ∷
+    "050000000600000007030000" ∷
+    "05000000080000000900" ∷
+    "050000000a0000000b01" ∷
+    "050000000c0000000d0b00040005" ∷
+    "050000000e0000000f030000" ∷
+    "0600070100020000030006" ∷
+    [])
+    (
+    "07000000" ∷
+    "07000101" ∷
+    "07000201" ∷
+    "07000300" ∷
+    "07000400" ∷
+    "07000501" ∷
+    "07000600" ∷
+    "07000700" ∷
+    "080000000a0000000b72656a6563742f747970652d6d69736d61746368" ∷
+    [])
+    5 ∷
+    -- a subquery's variables are its own: x = (y where y = 1), head y
+    accepted (
+    "01020020" ∷
+    "0278" ∷
+    "0279" ∷
+    "050000000000000001030000" ∷
+    "050000000200000003030001" ∷
+    "05000000040000000500" ∷
+    "050000000600000007030001" ∷
+    "0500000008000000090c00030000010002" ∷
+    "050000000a0000000b030001" ∷
+    "0600050000000004" ∷
+    [])
+    (
+    "07000000" ∷
+    "07000100" ∷
+    "07000200" ∷
+    "07000300" ∷
+    "07000400" ∷
+    "070005060002" ∷
+    [])
+    4 ∷
+    []
+
 unfoldable pub refusals : List Example
 unfolding turnedDown text M ascii
 refusals =
@@ -336,6 +465,13 @@ refusals =
     turnedDown (text ("01020020" ∷ "05000000000000000300" ∷ "060001" ∷ [])) 16384 65536 "0f09" ∷
     turnedDown (text ("01020020" ∷ "0278" ∷ "0300" ∷ "03040000000000000000" ∷ [])) 16384 65536 "0f0a" ∷
     turnedDown (text M) 16384 8 "0f0c" ∷
+    -- Two faults on one line: the lower number. A record type whose second part is cut off, in place of a name's reference;
+    -- one that repeats a name, and whose type is not there.
+    turnedDown (text ("01020020" ∷ "030400010000" ∷ "0304" ∷ [])) 16384 65536 "0f09" ∷
+    turnedDown (text ("01020020" ∷ "03040001000000" ∷ [])) 16384 65536 "0f06" ∷
+    turnedDown (text ("01020020" ∷ "0278" ∷ "03040000000000000000" ∷ [])) 16384 65536 "0f09" ∷
+    -- 1 before 2, and the missing query after the lines.
+    turnedDown (text ("01020020" ∷ [])) 16384 65536 "0f04" ∷
     []
 
 -- ---- The test of a row

@@ -1,8 +1,8 @@
 -- No unknown leads back to itself, as an invariant: what is reached behind a binding is accessible. Binding x to a type that
 -- does not reach x keeps it, since what does not reach x is bound as before, and all that is new lies behind the type.
-use mathlib.Core.Logic.{_≢_, _⊎_, inl, inr, ⊎-elim, by-cases}
-use mathlib.Core.Option.{Option, none, some}
-use mathlib.Core.Path.{_≡_, refl, sym, _∙_}
+use mathlib.Core.Logic.{_≢_, ⊎-elim, by-cases}
+use mathlib.Core.Option.{some}
+use mathlib.Core.Path.{_≡_, sym, _∙_}
 use mathlib.Core.WellFounded.{Acc, Acc·intro, Subrelation·accessible}
 use Prim.Native.Nat.{ℕ, _<_}
 use native.Mathlib.Decide.{ℕ-discrete}

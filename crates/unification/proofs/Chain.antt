@@ -1,7 +1,6 @@
 -- A chain of bound unknowns is at most as long as there are unknowns: behind the binding of x nothing reaches x, so the
--- rest of the chain does without that binding, and there is one fewer. So `repr` ends at no bound unknown, and `zonk`
--- leaves none.
-use mathlib.Core.Logic.{_≢_, _⊎_, inl, inr, ⊎-elim, by-cases}
+-- rest of the chain does without that binding, and there is one fewer. So `repr` ends at no bound unknown.
+use mathlib.Core.Logic.{_≢_, _⊎_, inl, inr, by-cases}
 use mathlib.Core.List.{[], _∷_}
 use mathlib.Core.Option.{Option, none, some}
 use mathlib.Core.Path.{_≡_, refl, sym, _∙_, ap}
@@ -9,11 +8,11 @@ use Prim.Native.Nat.{ℕ, zero, suc, _≤_}
 use native.Mathlib.Decide.{ℕ-discrete}
 use native.Mathlib.Omega.{arith}
 use lib.ListN.{length, set}
-use Rattle.unification.specs.Ty.{Leaf, Kind, Ty, leaf, node, Var, Error, Row, ε, cell, app, appRow}
-use Rattle.unification.specs.Bindings.{Subst, bound, follow, repr, zonkIn, zonk}
+use Rattle.unification.specs.Ty.{Leaf, Kind, Ty, leaf, node, Var, Error, Row, ε, cell}
+use Rattle.unification.specs.Bindings.{Subst, bound, follow, repr}
 use Rattle.unification.specs.Calls.{Reaches, itself, inside, through, ReachesRow, first, later, LeadsBack, NoLoop}
 use Rattle.unification.proofs.Tests.{clash}
-use Rattle.unification.proofs.Reach.{bound-other, reaches-trans, reaches-var, follow-reaches}
+use Rattle.unification.proofs.Reach.{bound-other, follow-reaches}
 use Rattle.unification.proofs.Acyclic.{Acyclic, no-loop, Among, acyclic-among}
 
 pub not-behind : (s : Subst) → Acyclic s → (x : ℕ) (t : Ty) → bound s x ≡ some t → ¬ Reaches s t (Var x)
@@ -38,21 +37,21 @@ cell-reaches s k l t r z (first h) = inl h
 cell-reaches s k l t r z (later h) = inr h
 
 -- ---- One binding fewer
-count : Subst → ℕ
+pub count : Subst → ℕ
 count [] = zero
 count (none ∷ s) = count s
 count (some t ∷ s) = suc (count s)
 
-count-le : (s : Subst) → count s ≤ length s
+pub count-le : (s : Subst) → count s ≤ length s
 unfolding count
 count-le [] = omega arith
 count-le (none ∷ s) = omega (arith, count-le s)
 count-le (some t ∷ s) = omega (arith, count-le s)
 
-unfoldable unset : Subst → ℕ → Subst
+unfoldable pub unset : Subst → ℕ → Subst
 unset s x = set s x none
 
-count-unset : (s : Subst) (x : ℕ) (t : Ty) → bound s x ≡ some t → count s ≡ suc (count (unset s x))
+pub count-unset : (s : Subst) (x : ℕ) (t : Ty) → bound s x ≡ some t → count s ≡ suc (count (unset s x))
 unfolding count unset bound
 count-unset [] x t e = clash (cc)
 count-unset (none ∷ s) zero t e = clash (cc)
@@ -60,7 +59,7 @@ count-unset (some u ∷ s) zero t e = refl
 count-unset (none ∷ s) (suc x) t e = count-unset s x t e
 count-unset (some u ∷ s) (suc x) t e = ap suc (count-unset s x t e)
 
-unset-other : (s : Subst) (x y : ℕ) → y ≢ x → bound (unset s x) y ≡ bound s y
+pub unset-other : (s : Subst) (x y : ℕ) → y ≢ x → bound (unset s x) y ≡ bound s y
 unfolding unset
 unset-other s x y n = bound-other s x y none n
 
@@ -75,12 +74,12 @@ unset-among s x y t e = by-cases (ℕ-discrete y x)
     (λ p. clash (cc (unset-same s x)))
     (λ n. sym (unset-other s x y n) ∙ e)
 
-unset-acyclic : (s : Subst) (x : ℕ) → Acyclic s → Acyclic (unset s x)
+pub unset-acyclic : (s : Subst) (x : ℕ) → Acyclic s → Acyclic (unset s x)
 unset-acyclic s x A = acyclic-among (unset s x) s (unset-among s x) A
 
 -- What does not reach x reaches what it reaches without the binding of x.
 mutual
-  unset-reaches : (s : Subst) (x : ℕ) {t u : Ty} → ¬ Reaches s t (Var x) → Reaches s t u → Reaches (unset s x) t u
+  pub unset-reaches : (s : Subst) (x : ℕ) {t u : Ty} → ¬ Reaches s t (Var x) → Reaches s t u → Reaches (unset s x) t u
   unset-reaches s x off itself = itself
   unset-reaches s x off (inside h) = inside (unset-reachesRow s x (λ i. off (inside i)) h)
   unset-reaches s x off (through {x = y} e h) =
@@ -181,105 +180,3 @@ follow-settled (suc k) (suc j) s (Var x) le h = go (bound s x) refl (λ t. follo
     go : (o : Option Ty) → bound s x ≡ o → ((t : Ty) → Resolved s (follow k s t) → follow j s t ≡ follow k s t) → follow (suc j) s (Var x) ≡ follow (suc k) s (Var x)
     go none e ih = follow-free (suc j) s x e ∙ sym (follow-free (suc k) s x e)
     go (some t) e ih = follow-bound j s x t e ∙ ih t (rw (follow-bound k s x t e) at h) ∙ sym (follow-bound k s x t e)
-
--- ---- `zonk`
-
--- All unknowns in it are free.
-unfoldable pub Solved : Subst → Ty → Type 0
-Solved s t = (x : ℕ) → Reaches s t (Var x) → bound s x ≡ none
-
-pub zonk-free : (k : ℕ) (s : Subst) (x : ℕ) → bound s x ≡ none → zonkIn k s (Var x) ≡ Var x
-unfolding zonkIn app
-zonk-free zero s x e = refl
-zonk-free (suc k) s x e = ap {B = Ty} (λ (o : Option Ty). elim o [ none ↦ Var x | some u ↦ zonkIn k s u ]) e
-
-pub zonk-bound : (k : ℕ) (s : Subst) (x : ℕ) (t : Ty) → bound s x ≡ some t → zonkIn (suc k) s (Var x) ≡ zonkIn k s t
-unfolding zonkIn app
-zonk-bound k s x t e = ap {B = Ty} (λ (o : Option Ty). elim o [ none ↦ Var x | some u ↦ zonkIn k s u ]) e
-
-pub zonk-app : (k : ℕ) (s : Subst) (t : Ty) → zonkIn (suc k) s t ≡ app (λ x. zonkIn (suc k) s (Var x)) t
-unfolding zonkIn app
-zonk-app k s t = refl
-
--- What is reached in a type under a substitution is reached in what the substitution gives to an unknown of it.
-mutual
-  unfolding app
-
-  app-reaches : (s : Subst) (f : ℕ → Ty) (t : Ty) (z : ℕ) → Reaches s (app f t) (Var z) → (y : ℕ) × Reaches s t (Var y) × Reaches s (f y) (Var z)
-  app-reaches s f (leaf p) z h = absurd (leaf-reaches s p z h)
-  app-reaches s f (node k r) z h = let x = appRow-reaches s f r z (node-reaches s k (appRow f r) z h) in (x .0, inside (x .1), x .2)
-  app-reaches s f (Var y) z h = (y, itself, h)
-  app-reaches s f Error z h = absurd (error-reaches s z h)
-
-  appRow-reaches : (s : Subst) (f : ℕ → Ty) (r : Row) (z : ℕ) → ReachesRow s (appRow f r) (Var z) → (y : ℕ) × ReachesRow s r (Var y) × Reaches s (f y) (Var z)
-  appRow-reaches s f ε z h = absurd (nil-reaches s z h)
-  appRow-reaches s f (cell k l t r) z h = ⊎-elim
-      (λ i. let x = app-reaches s f t z i in (x .0, first (x .1), x .2))
-      (λ i. let x = appRow-reaches s f r z i in (x .0, later (x .1), x .2))
-      (cell-reaches s k l (app f t) (appRow f r) z h)
-
-mutual
-  unfolding app
-
-  -- Two substitutions that give the same to what is reached give the same type.
-  pub app-ext : (s : Subst) (f g : ℕ → Ty) (t : Ty) → ((x : ℕ) → Reaches s t (Var x) → f x ≡ g x) → app f t ≡ app g t
-  app-ext s f g (leaf p) h = refl
-  app-ext s f g (node k r) h = ap (node k) (appRow-ext s f g r (λ x i. h x (inside i)))
-  app-ext s f g (Var x) h = h x itself
-  app-ext s f g Error h = refl
-
-  appRow-ext : (s : Subst) (f g : ℕ → Ty) (r : Row) → ((x : ℕ) → ReachesRow s r (Var x) → f x ≡ g x) → appRow f r ≡ appRow g r
-  appRow-ext s f g ε h = refl
-  appRow-ext s f g (cell k l t r) h = rw (app-ext s f g t (λ x i. h x (first i)), appRow-ext s f g r (λ x i. h x (later i)))
-
--- `zonk` at an unknown, by its binding.
-zonk-var : (k : ℕ) (s : Subst) (x : ℕ) (Q : Ty → Type 0) → (bound s x ≡ none → Q (Var x)) → ((t : Ty) → bound s x ≡ some t → Q (zonkIn k s t)) → Q (zonkIn (suc k) s (Var x))
-zonk-var k s x Q f g = go (bound s x) refl
-  where
-    go : (o : Option Ty) → bound s x ≡ o → Q (zonkIn (suc k) s (Var x))
-    go none e = rw (zonk-free (suc k) s x e) (f e)
-    go (some t) e = rw (zonk-bound k s x t e) (g t e)
-
-zonk-reaches : (k : ℕ) (s : Subst) (t : Ty) (z : ℕ) → Reaches s (zonkIn k s t) (Var z) → Reaches s t (Var z)
-unfolding zonkIn
-zonk-reaches zero s t z h = h
-zonk-reaches (suc k) s t z h =
-    let x = app-reaches s (λ y. zonkIn (suc k) s (Var y)) t z (rw (zonk-app k s t) at h) in
-    reaches-trans s (x .1) (zonk-var k s (x .0) (λ u. Reaches s u (Var z) → Reaches s (Var (x .0)) (Var z))
-    (λ e i. i) (λ u e i. through e (zonk-reaches k s u z i)) (x .2))
-
-zonk-unset : (k : ℕ) (s : Subst) (x : ℕ) (t : Ty) → ¬ Reaches s t (Var x) → zonkIn k (unset s x) t ≡ zonkIn k s t
-unfolding zonkIn
-zonk-unset zero s x t off = refl
-zonk-unset (suc k) s x t off =
-    zonk-app k (unset s x) t ∙ app-ext s _ _ t (λ y i. zonk-var k s y (λ u. zonkIn (suc k) (unset s x) (Var y) ≡ u)
-    (λ e. zonk-free (suc k) (unset s x) y (same y i ∙ e))
-    (λ u e. zonk-bound k (unset s x) y u (same y i ∙ e) ∙ zonk-unset k s x u (λ h. off (reaches-trans s i (through e h))))) ∙ sym (zonk-app k s t)
-  where
-    same : (y : ℕ) → Reaches s t (Var y) → bound (unset s x) y ≡ bound s y
-    same y i = unset-other s x y (λ p. off (rw (← p) i))
-
-solved-set : (s : Subst) (x : ℕ) (t : Ty) → ¬ Reaches s t (Var x) → Solved (unset s x) t → Solved s t
-unfolding Solved
-solved-set s x t off h z i = sym (unset-other s x z (λ p. off (rw (← p) i))) ∙ h z (unset-reaches s x off i)
-
-zonkIn-solved : (k : ℕ) (s : Subst) → count s ≤ k → Acyclic s → (t : Ty) → Solved s (zonkIn k s t)
-unfolding zonkIn Solved
-zonkIn-solved zero s le A t z h = go (bound s z) refl
-  where
-    go : (o : Option Ty) → bound s z ≡ o → bound s z ≡ none
-    go none e = e
-    go (some u) e = absurd (omega (arith, count-unset s z u e))
-zonkIn-solved (suc k) s le A t z h =
-    let x = app-reaches s (λ y. zonkIn (suc k) s (Var y)) t z (rw (zonk-app k s t) at h) in
-    zonk-var k s (x .0) (λ u. Reaches s u (Var z) → bound s z ≡ none)
-    (λ e i. ⊎-elim (λ q. let p : x .0 ≡ z = cc (q) in rw (← p) e) (λ c. clash (cc (e, c .1))) (reaches-var s (x .0) (Var z) i))
-    (λ u e i.
-    let off = not-behind s A (x .0) u e in
-    solved-set s (x .0) (zonkIn k s u) (λ j. off (zonk-reaches k s u (x .0) j))
-    (rw (zonk-unset k s (x .0) u off) at (zonkIn-solved k (unset s (x .0)) (omega (arith, count-unset s (x .0) u e)) (unset-acyclic s (x .0) A) u)) z i)
-    (x .2)
-
-pub zonk-solved : (s : Subst) → Acyclic s → (t : Ty) → Solved s (zonk s t)
-unfolding zonk
-zonk-solved s A t = zonkIn-solved (length s) s (count-le s) A t

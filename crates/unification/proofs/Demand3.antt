@@ -2,16 +2,16 @@
 -- snapshot keeps the state of then, from which the present one is a stretch that a rollback undoes.
 use mathlib.Core.Bool.{Bool, true, false}
 use mathlib.Core.List.{List, [], _∷_, _++_, append-assoc}
-use mathlib.Core.Option.{Option, none, some}
-use mathlib.Core.Path.{_≡_, refl, sym, _∙_, ap}
-use mathlib.Core.WellFounded.{Acc, Acc·intro}
+use mathlib.Core.Option.{Option, none}
+use mathlib.Core.Path.{_≡_, refl, _∙_, ap}
+use mathlib.Core.WellFounded.{Acc·intro}
 use Prim.Native.Nat.{ℕ, _+_, _-_}
 use native.Mathlib.Omega.{arith}
 use lib.ListN.{length, replicate, replicate-append-replicate}
-use Rattle.unification.specs.Ty.{Ty, app}
-use Rattle.unification.specs.Bindings.{Subst, bound, History, start, ended, rolled, State, withLeft, withHistory, fresh, annotate, Snapshot, snapshot, rollback}
+use Rattle.unification.specs.Ty.{Ty}
+use Rattle.unification.specs.Bindings.{Subst, bound, History, start, ended, rolled, State, withLeft, withHistory, fresh, annotate, snapshot, rollback}
 use Rattle.unification.specs.Unify.{Unified, Ok, Err, Spent, unify}
-use Rattle.unification.specs.Calls.{Side, Admitted, Respects, Assignment, Taken, Machine, begin, take-snapshot, Call, unknown, unification, failure, snapping, rollingBack, spending, annotation, Calls, none-yet, then-call, live, AllAdmitted, MakesEqual, EntryClaim, BindingsClaim, NoLoop, AtEveryMoment, Claim, GivesBack, AllGiveBack, Demand3}
+use Rattle.unification.specs.Calls.{Side, Admitted, Respects, Assignment, Taken, Machine, begin, take-snapshot, Call, unknown, unification, failure, snapping, rollingBack, spending, annotation, Calls, none-yet, then-call, live, EntryClaim, BindingsClaim, AtEveryMoment, Claim, GivesBack, AllGiveBack, Demand3}
 use Rattle.unification.proofs.Tests.{clash}
 use Rattle.unification.proofs.Acyclic.{Behind, Acyclic, no-loop}
 use Rattle.unification.proofs.Respects.{respects-among}

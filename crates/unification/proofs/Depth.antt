@@ -4,12 +4,11 @@ use mathlib.Core.List.{List, [], _∷_}
 use mathlib.Core.Option.{Option, none, some}
 use mathlib.Core.Path.{_≡_, refl, sym, _∙_, ap}
 use Prim.Native.Nat.{ℕ, zero, suc, _≤_}
-use native.Mathlib.Decide.{ℕ-discrete}
 use native.Mathlib.Omega.{arith}
 use lib.Dec.{eqb}
-use Rattle.unification.specs.Ty.{Leaf, Kind, Record, Union, Ty, leaf, node, Var, Error, Row, ε, cell, rowLen}
-use Rattle.unification.specs.Bindings.{repr, occurs, State, withLeft}
-use Rattle.unification.specs.Unify.{UnionDiff, TyError, Unified, Ok, Err, Spent, andThen, mapErr, bindVar, findKey, unifyField, unifyFields, unifyRecord, discriminants, unifyAlternative, unifyAlternatives, unifyUnion, unifyNodes, unifyHeads, note, unifyIn, unify}
+use Rattle.unification.specs.Ty.{Kind, Record, Union, Ty, leaf, node, Var, Error, Row, ε, cell, rowLen}
+use Rattle.unification.specs.Bindings.{repr, State, withLeft}
+use Rattle.unification.specs.Unify.{UnionDiff, TyError, Unified, Ok, Err, Spent, andThen, bindVar, findKey, unifyField, unifyFields, unifyRecord, discriminants, unifyAlternative, unifyAlternatives, unifyUnion, unifyNodes, unifyHeads, note, unifyIn, unify}
 use Rattle.unification.proofs.Occurs.{occurs-depth}
 use Rattle.unification.proofs.Kept.{After, Kept, heads-in, unifyIn-spent, unifyIn-visit, unifyIn-kept, kept-field, kept-alternative}
 

@@ -1,19 +1,19 @@
 -- What every unification keeps, on any sides: the annotations, and all that `Since` says with no unknown made, the visits
 -- left never growing among it. So a depth not below the visits left is as good as any other.
 use mathlib.Core.Bool.{Bool, true, false}
-use mathlib.Core.List.{List, [], _∷_, _++_}
+use mathlib.Core.List.{List, [], _∷_}
 use mathlib.Core.Option.{Option, none, some}
-use mathlib.Core.Path.{_≡_, refl, sym, _∙_, ap}
+use mathlib.Core.Path.{_≡_, refl, _∙_, ap}
 use Prim.Native.Nat.{ℕ, zero, suc, _≤_}
 use native.Mathlib.Decide.{ℕ-discrete}
 use native.Mathlib.Nat.{add-zero}
 use native.Mathlib.Omega.{arith}
 use lib.Dec.{eqb}
 use lib.ListN.{length}
-use Rattle.unification.specs.Ty.{Leaf, Leaf-discrete, Kind, Record, Union, Ty, leaf, node, Var, Error, Row, ε, cell, rowLen}
-use Rattle.unification.specs.Bindings.{Subst, repr, Answer, yes-left, no-left, spent, occurs, Undo, History, ended, State, withLeft, withHistory, setVar}
+use Rattle.unification.specs.Ty.{Leaf-discrete, Kind, Record, Union, Ty, leaf, node, Var, Error, Row, ε, cell, rowLen}
+use Rattle.unification.specs.Bindings.{Subst, repr, Answer, yes-left, no-left, spent, occurs, ended, State, withLeft, withHistory, setVar}
 use Rattle.unification.specs.Unify.{UnionDiff, TyError, Unified, Ok, Err, Spent, andThen, mapErr, bindVar, findKey, unifyField, unifyFields, unifyRecord, discriminants, unifyAlternative, unifyAlternatives, unifyUnion, unifyNodes, unifyHeads, note, unifyIn, unify}
-use Rattle.unification.proofs.Occurs.{Fewer, occurs-fewer, occurs-depth}
+use Rattle.unification.proofs.Occurs.{Fewer, occurs-fewer}
 use Rattle.unification.proofs.Undo.{Since, since-refl, since-trans, since-length, since-history, since-setVar, since-left}
 
 -- Of the state in which a unification ended, however it ended.

@@ -1,18 +1,24 @@
 -- Sentences of document 01, modules 2 and 3, that demand 3's proviso leaves out, and the visits of small unifications: a
--- definition that differs in one of them is refused here.
-use mathlib.Core.List.{List, [], _∷_, _++_}
-use mathlib.Core.Option.{Option, none, some}
+-- definition that differs in one of them is refused here. And a list of calls of which demand 3 says something.
+use mathlib.Core.List.{[], _∷_, _++_}
+use mathlib.Core.Bool.{true}
+use mathlib.Core.Logic.{_↔_}
+use mathlib.Core.Option.{none, some}
 use mathlib.Core.Path.{_≡_, refl, sym, _∙_, ap}
-use Prim.Native.Nat.{ℕ, zero, suc, _-_}
+use Prim.Native.Nat.{ℕ, suc, _-_}
 use native.Mathlib.Omega.{arith}
 use lib.ListN.{length, set, take}
-use Rattle.unification.specs.Ty.{Leaf, Int, String, Kind, Record, Union, Ty, leaf, node, Var, Error, Row, ε, cell}
-use Rattle.unification.specs.Bindings.{Subst, bound, follow, repr, zonk, start, Undo, State, withLeft, withHistory, freshId, fresh, setVar, annotate, Snapshot, snapshot, rewind, rollback}
+use Rattle.unification.specs.Ty.{Int, String, Record, Union, Ty, leaf, node, Var, Error, ε, cell, app}
+use Rattle.unification.specs.Bindings.{Subst, bound, zonk, start, ended, State, withLeft, withHistory, freshId, fresh, setVar, annotate, Snapshot, snapshot, rollback}
 use Rattle.unification.specs.Unify.{Absent, Renamed, Payload, TyError, Mismatch, UnionMismatch, UnknownField, Infinite, Unified, Ok, Err, Spent, unifyHeads, note, unifyIn, unify}
+use Rattle.unification.specs.Order.{Same}
+use Rattle.unification.specs.Calls.{itself, through, Admitted, Assignment, Respects, Machine, begin, unknown, unification, Calls, none-yet, then-call, live, BindingsClaim}
+use Rattle.unification.proofs.Tests.{clash}
 use Rattle.unification.proofs.Chain.{Resolved, repr-resolved-is}
 use Rattle.unification.proofs.Undo.{rewind-subst, unbind-length}
 use Rattle.unification.proofs.Kept.{heads-in, unifyIn-visit}
 use Rattle.unification.proofs.Depth.{unify-depth}
+use Rattle.unification.proofs.Demand3.{demand-3}
 
 -- What is seen of an end: the error, the bindings, the visits left.
 pub data Seen : Type 0 where
@@ -108,6 +114,18 @@ two k t k′ t′ = node Record (cell k 0 t (cell k′ 0 t′ ε))
 
 abbrev alternatives : ℕ → ℕ → Ty → ℕ → ℕ → Ty → Ty
 alternatives name k t name′ k′ t′ = node Union (cell k name t (cell k′ name′ t′ ε))
+
+unknown-takes-error : try (none ∷ []) 9 (Var 0) Error ≡ succeeds (some Error ∷ []) 8
+unfolding try
+unknown-takes-error = refl
+
+error-given-unknown : try (none ∷ []) 9 Error (Var 0) ≡ succeeds (some Error ∷ []) 8
+unfolding try
+error-given-unknown = refl
+
+int-beside-error : try (none ∷ []) 9 int Error ≡ succeeds (none ∷ []) 8
+unfolding try
+int-beside-error = refl
 
 -- Names are sought from the found side alone.
 repeated-name-found : try [] 9 (two 1 int 1 int) (two 1 int 2 string) ≡ succeeds [] 6
@@ -206,3 +224,30 @@ rollback-annotation = refl
 zonks-every-depth : zonk (some (one 1 (Var 1)) ∷ some (Var 2) ∷ none ∷ []) (two 1 (Var 0) 2 int) ≡ two 1 (one 1 (Var 2)) 2 int
 unfolding zonk
 zonks-every-depth = refl
+
+-- ---- A list of calls whose sides meet the proviso
+admitted-int : (s : Subst) → Admitted s int
+unfolding Admitted
+admitted-int s u itself = tt
+
+admitted-free : (s : Subst) (x : ℕ) → bound s x ≡ none → Admitted s (Var x)
+unfolding Admitted
+admitted-free s x free u itself = tt
+admitted-free s x free u (through e h) = clash (cc)
+
+unfoldable first-unknown : Machine
+unfolding begin fresh
+first-unknown = record { state = fresh (begin 9 [] .state); taken = [] }
+
+unfoldable united : State
+unfolding first-unknown setVar withLeft
+united = withHistory (setVar (withLeft (first-unknown .state) 7) 0 int) (ended (none ∷ []) (Var 0) int true (some int ∷ []) start)
+
+calls-united : Calls 9 [] (record { state = united; taken = [] })
+unfolding united first-unknown unify fresh begin withHistory setVar withLeft
+calls-united = then-call (then-call none-yet unknown) (unification {m = first-unknown} (Var 0) int (omega arith) tt refl)
+
+-- So demand 3 says of it that exactly the assignments of Int to the unknown respect the bindings.
+united-means : (σ : ℕ → Ty) → Assignment σ → Respects σ (united .subst) ↔ (Same (σ 0) int × Unit {0})
+unfolding BindingsClaim live united app withHistory setVar withLeft first-unknown fresh begin
+united-means σ a = demand-3 9 [] _ calls-united .between-calls .bindings (admitted-free (none ∷ []) 0 refl, admitted-int (none ∷ []), tt) σ a

@@ -2,18 +2,18 @@
 -- respects the bindings, so the unknown is never the same as a node that holds it. Where it says no, the type does not
 -- reach the unknown. A depth not below the visits left is as good as any other.
 use mathlib.Core.Bool.{Bool, true, false}
-use mathlib.Core.Logic.{_⊎_, inl, inr, ⊎-elim}
-use mathlib.Core.Option.{Option, none, some}
-use mathlib.Core.Path.{_≡_, refl, sym, _∙_, ap}
-use Prim.Native.Nat.{ℕ, zero, suc, _+_, _≤_, _<_}
+use mathlib.Core.Logic.{⊎-elim}
+use mathlib.Core.Option.{none}
+use mathlib.Core.Path.{_≡_, refl, sym, ap}
+use Prim.Native.Nat.{ℕ, zero, suc, _≤_}
 use native.Mathlib.Omega.{arith}
 use lib.Dec.{eqb}
 use lib.ListN.{length}
 use Rattle.unification.specs.Ty.{Leaf, Int, String, Bytes, Fact, Kind, Ty, leaf, node, Var, Error, Row, ε, cell, app, appRow}
 use Rattle.unification.specs.Order.{Same}
-use Rattle.unification.specs.Bindings.{Subst, bound, follow, repr, Answer, yes-left, no-left, spent, anyRow, occursIn, occurs}
+use Rattle.unification.specs.Bindings.{Subst, bound, repr, Answer, yes-left, no-left, spent, anyRow, occursIn, occurs}
 use Rattle.unification.specs.Unify.{visited, leafOrderable, orderable, allOrderable}
-use Rattle.unification.specs.Calls.{Reaches, itself, inside, through, ReachesRow, first, later, Respects}
+use Rattle.unification.specs.Calls.{Reaches, ReachesRow, first, Respects}
 use Rattle.unification.proofs.Tests.{clash, eqb-true, eqb-false}
 use Rattle.unification.proofs.Order.{size, rowSize, same-size}
 use Rattle.unification.proofs.Reach.{reaches-var, reaches-follow}

@@ -1,9 +1,9 @@
--- Equal up to order is an equivalence, keeps the size, and a substitution carries it from what it gives unknowns to types.
+-- Equal up to order is an equivalence, keeps the size, and substitutions carry it.
 -- It is defined by recursion on its left side, so a partner on the right is moved about by insertions.
 use mathlib.Core.Path.{_≡_, refl, sym, _∙_, ap}
-use Prim.Native.Nat.{ℕ, zero, suc, _+_}
+use Prim.Native.Nat.{ℕ, suc, _+_}
 use native.Mathlib.Omega.{arith}
-use Rattle.unification.specs.Ty.{Leaf, Kind, Ty, leaf, node, Var, Error, Row, ε, cell, app, appRow}
+use Rattle.unification.specs.Ty.{Ty, leaf, node, Var, Error, Row, ε, cell, app, appRow}
 use Rattle.unification.specs.Order.{Same, SameRow, Inserted, here, there}
 
 mutual
@@ -147,6 +147,63 @@ mutual
   pub appRow-same : (σ τ : ℕ → Ty) → ((x : ℕ) → Same (σ x) (τ x)) → (r : Row) → SameRow (appRow σ r) (appRow τ r)
   appRow-same σ τ h ε = tt
   appRow-same σ τ h (cell k l t r) = (app τ t, appRow τ r, app-same σ τ h t, appRow-same σ τ h r, here)
+
+inserted-app : (σ : ℕ → Ty) {k l : ℕ} {t : Ty} {r s : Row} → Inserted k l t r s → Inserted k l (app σ t) (appRow σ r) (appRow σ s)
+unfolding appRow
+inserted-app σ here = here
+inserted-app σ (there i) = there (inserted-app σ i)
+
+mutual
+  unfolding app
+
+  pub same-app : (σ : ℕ → Ty) (a b : Ty) → Same a b → Same (app σ a) (app σ b)
+  same-app σ (leaf p) (leaf q) e = e
+  same-app σ (leaf p) (node k r) e = absurd e
+  same-app σ (leaf p) (Var x) e = absurd e
+  same-app σ (leaf p) Error e = absurd e
+  same-app σ (node k r) (leaf p) e = absurd e
+  same-app σ (node k r) (node k′ r′) e = (e .0, sameRow-app σ r r′ (e .1))
+  same-app σ (node k r) (Var x) e = absurd e
+  same-app σ (node k r) Error e = absurd e
+  same-app σ (Var x) (leaf p) e = absurd e
+  same-app σ (Var x) (node k r) e = absurd e
+  same-app σ (Var x) (Var y) e = rw e (same-refl (σ y))
+  same-app σ (Var x) Error e = absurd e
+  same-app σ Error (leaf p) e = absurd e
+  same-app σ Error (node k r) e = absurd e
+  same-app σ Error (Var x) e = absurd e
+  same-app σ Error Error e = tt
+
+  pub sameRow-app : (σ : ℕ → Ty) (r s : Row) → SameRow r s → SameRow (appRow σ r) (appRow σ s)
+  sameRow-app σ ε ε e = tt
+  sameRow-app σ ε (cell k l t s) e = absurd e
+  sameRow-app σ (cell k l t r) s e = (app σ (e .0), appRow σ (e .1), same-app σ t (e .0) (e .2), sameRow-app σ r (e .1) (e .3), inserted-app σ (e .4))
+
+mutual
+  unfolding app
+
+  pub app-app : (σ τ : ℕ → Ty) (t : Ty) → app τ (app σ t) ≡ app (λ x. app τ (σ x)) t
+  app-app σ τ (leaf p) = refl
+  app-app σ τ (node k r) = ap (node k) (appRow-app σ τ r)
+  app-app σ τ (Var x) = refl
+  app-app σ τ Error = refl
+
+  appRow-app : (σ τ : ℕ → Ty) (r : Row) → appRow τ (appRow σ r) ≡ appRow (λ x. app τ (σ x)) r
+  appRow-app σ τ ε = refl
+  appRow-app σ τ (cell k l t r) = rw (app-app σ τ t, appRow-app σ τ r)
+
+mutual
+  unfolding app
+
+  pub app-id : (t : Ty) → app (λ x. Var x) t ≡ t
+  app-id (leaf p) = refl
+  app-id (node k r) = ap (node k) (appRow-id r)
+  app-id (Var x) = refl
+  app-id Error = refl
+
+  appRow-id : (r : Row) → appRow (λ x. Var x) r ≡ r
+  appRow-id ε = refl
+  appRow-id (cell k l t r) = rw (app-id t, appRow-id r)
 
 -- Both sides replaced by the same.
 pub same-both : (a a′ b b′ : Ty) → Same a a′ → Same b b′ → Same a′ b′ → Same a b

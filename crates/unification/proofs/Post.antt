@@ -12,9 +12,9 @@ use Rattle.unification.specs.Ty.{Kind, Record, Union, Ty, node, Row, ε,
 use Rattle.unification.specs.Order.{Same, SameRow}
 use Rattle.unification.specs.Bindings.{Subst, History, State}
 use Rattle.unification.specs.Unify.{UnionDiff, TyError, Unified, Ok, Err, Spent, andThen, mapErr, findKey, unifyField, unifyFields, unifyRecord, discriminants, unifyAlternative, unifyAlternatives, unifyUnion, unifyNodes}
-use Rattle.unification.specs.Calls.{Lacks, Distinct, Allowed, Side, Reaches, itself, Admitted, Respects, live, AllAdmitted, MakesEqual, EntryClaim, BindingsClaim, AtEveryMoment}
+use Rattle.unification.specs.Calls.{Distinct, Side, itself, Admitted, Respects, live, AllAdmitted, MakesEqual, BindingsClaim, AtEveryMoment}
 use Rattle.unification.proofs.Tests.{clash, eqb-true, eqb-false}
-use Rattle.unification.proofs.Rows.{Both, Match, AgreeAt, Agree, match-same, same-match, same-len, agree-same, same-agree, agree-discriminants, appCell, find-app, distinct-app, rowLen-app, discriminants-app}
+use Rattle.unification.proofs.Rows.{Both, Match, AgreeAt, match-same, same-match, same-len, agree-same, same-agree, agree-discriminants, appCell, find-app, distinct-app, rowLen-app, discriminants-app}
 use Rattle.unification.proofs.Sides.{Parts, Part, find-part, parts-map, Field, Alternative, fields, alternatives, Permits, admitted-parts, Wf}
 
 -- Every substitution.

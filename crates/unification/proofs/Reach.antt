@@ -7,8 +7,8 @@ use Prim.Native.Nat.{ℕ, zero, suc, _<_}
 use native.Mathlib.Decide.{ℕ-discrete}
 use lib.ListN.{length, set}
 use lib.Seq.{getD-set-same, getD-set-other}
-use Rattle.unification.specs.Ty.{Leaf, Kind, Ty, leaf, node, Var, Error, Row, ε, cell}
-use Rattle.unification.specs.Bindings.{Subst, bound, follow, repr}
+use Rattle.unification.specs.Ty.{Ty, leaf, node, Var, Error, Row}
+use Rattle.unification.specs.Bindings.{Subst, bound, follow}
 use Rattle.unification.specs.Calls.{Reaches, itself, inside, through, ReachesRow, first, later, Admitted}
 use Rattle.unification.proofs.Tests.{clash}
 

@@ -8,7 +8,7 @@ use native.Mathlib.Decide.{ℕ-discrete}
 use lib.ListN.{length, set}
 use Rattle.unification.specs.Ty.{Ty, leaf, node, Var, Error, app}
 use Rattle.unification.specs.Order.{Same}
-use Rattle.unification.specs.Bindings.{Subst, bound, follow, repr, zonkIn, zonk}
+use Rattle.unification.specs.Bindings.{Subst, bound, follow, repr}
 use Rattle.unification.specs.Calls.{Respects}
 use Rattle.unification.proofs.Tests.{clash}
 use Rattle.unification.proofs.Order.{same-refl, same-trans}

@@ -5,7 +5,7 @@ use mathlib.Core.List.{List, [], _∷_}
 use mathlib.Core.Logic.{_↔_, _≢_, _⊎_, inl, inr, by-cases}
 use mathlib.Core.Option.{Option, none, some}
 use mathlib.Core.Path.{_≡_, refl, sym, _∙_, ap}
-use Prim.Native.Nat.{ℕ, zero, suc}
+use Prim.Native.Nat.{ℕ, suc}
 use native.Mathlib.Decide.{ℕ-discrete}
 use native.Mathlib.Omega.{arith}
 use lib.Dec.{eqb, ltb}
@@ -13,7 +13,7 @@ use Rattle.unification.specs.Ty.{Ty, Row, ε, cell, rowLen, app, appRow}
 use Rattle.unification.specs.Order.{Same, SameRow, Inserted, here, there}
 use Rattle.unification.specs.Unify.{findKey, insertOnce, withKeys, discriminants}
 use Rattle.unification.specs.Calls.{Lacks, Distinct}
-use Rattle.unification.proofs.Tests.{clash, eqb-true, eqb-false}
+use Rattle.unification.proofs.Tests.{eqb-true, eqb-false}
 
 -- ---- Look-up
 find-head : (k l : ℕ) (t : Ty) (r : Row) → findKey k (cell k l t r) ≡ some (l, t)

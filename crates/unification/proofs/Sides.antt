@@ -11,9 +11,9 @@ use native.Mathlib.Omega.{arith}
 use lib.Dec.{eqb}
 use lib.ListN.{length, set, replicate, length-set, length-append}
 use Rattle.unification.specs.Ty.{Kind, Record, Union, Ty, leaf, node, Var, Error, Row, ε, cell}
-use Rattle.unification.specs.Bindings.{Subst, bound, follow, repr}
+use Rattle.unification.specs.Bindings.{Subst, bound, follow}
 use Rattle.unification.specs.Unify.{findKey}
-use Rattle.unification.specs.Calls.{Labelled, Declared, DeclaredRow, Side, SideRow, Reaches, inside, ReachesRow, first, later, Allowed, Admitted}
+use Rattle.unification.specs.Calls.{Declared, DeclaredRow, Side, SideRow, Reaches, inside, ReachesRow, first, later, Allowed, Admitted}
 use Rattle.unification.proofs.Reach.{bound-same, bound-other}
 use Rattle.unification.proofs.Acyclic.{Acyclic, acyclic-bind, Among, acyclic-among}
 

@@ -10,7 +10,7 @@ use native.Mathlib.Omega.{arith}
 use lib.ListN.{length, getD, take, drop, set, replicate, length-append, length-set, length-replicate, replicate-append-replicate}
 use lib.Seq.{set-set, set-getD, take-at, drop-at}
 use Rattle.unification.specs.Ty.{Ty}
-use Rattle.unification.specs.Bindings.{Subst, bound, Undo, Binding, Annotation, History, State, withLeft, withHistory, fresh, setVar, annotate, Snapshot, snapshot, revert, rewind, rollback}
+use Rattle.unification.specs.Bindings.{Subst, bound, Undo, Binding, Annotation, History, State, withLeft, withHistory, fresh, setVar, annotate, snapshot, revert, rewind, rollback}
 
 -- Changes of bindings taken back, newest first, and those of annotations.
 unfoldable pub unbind : List Undo → Subst → Subst

@@ -4,3 +4,4 @@ pub mod Robinson
 pub mod Bindings
 pub mod Unify
 pub mod Calls
+pub mod Tie

@@ -1,0 +1,103 @@
+-- Document 01, "Frame lines", from the writer's side: what a file holds, kind by kind, the rules that this obeys, how it is written, and the
+-- schema and tree that it describes. `says-exactly` in proofs/Content.antt: the files that pass 2 to 10 are exactly these, and describe that.
+use mathlib.Core.List.{List, [], _∷_, _++_, map}
+use mathlib.Core.Option.{Option}
+use mathlib.Core.Path.{_≡_}
+use Prim.Native.Nat.{ℕ, suc, _<_, _≤_}
+use lib.ListN.{length}
+use Rattle.text.specs.Utf8.{Text, characters}
+use Rattle.unification.specs.Ty.{Ty}
+use Rattle.meaning.specs.Syntax.{Query, Node}
+use Rattle.meaning.specs.Schema.{Predicate}
+use Rattle.meaning.specs.Lines.{position}
+use Rattle.meaning.specs.Frame.{TypeShape, Frame, theLimits, aName, aType, aPredicate, aNode, theQuery}
+use Rattle.meaning.specs.References.{shapeNames, shapeTypes, shapeKeys, optional, exprNames, queryNodes}
+use Rattle.meaning.specs.SoFar.{tyOf, predicateOf}
+use Rattle.meaning.specs.Conditions.{sameText, maxNames, maxTypes, maxPredicates, maxNodes}
+use Rattle.meaning.specs.File.{Described, countOf, valueText, maxFile}
+use Rattle.meaning.specs.All.{All, Distinct, Below}
+use Rattle.meaning.specs.Writing.{fileOf, Writable}
+use Rattle.meaning.specs.Sound.{Lower, nodesNamed}
+
+-- references to a name, a type, and a type or none
+pub record PredicateFrame : Type 0 where
+  pub name : ℕ
+  pub key : ℕ
+  pub value : Option ℕ
+
+pub record Content : Type 0 where
+  pub maxDistance : ℕ
+  pub maxTermChars : ℕ
+  pub names : List (List ℕ)
+  pub types : List TypeShape
+  pub predicates : List PredicateFrame
+  pub nodes : List Node
+  pub query : Query
+
+-- ---- How it is written
+
+abbrev pub predicateFrame : PredicateFrame → Frame
+predicateFrame p = aPredicate (p .name) (p .key) (p .value)
+
+-- "01 limits, exactly once, first", the kinds "never falling", "06 query, exactly once, last"
+unfoldable pub framesOf : Content → List Frame
+framesOf c = theLimits (c .maxDistance) (c .maxTermChars) ∷ map aName (c .names) ++ (map aType (c .types) ++ (map predicateFrame (c .predicates) ++ (map aNode (c .nodes) ++ theQuery (c .query) ∷ [])))
+
+-- ---- The rules
+
+-- Each type refers to types before it; the first of the list has this number.
+abbrev pub TypesBefore : ℕ → List TypeShape → Type 0
+TypesBefore i [] = Unit {0}
+TypesBefore i (t ∷ ts) = Below i (shapeTypes t) × TypesBefore (suc i) ts
+
+pub record Lawful (c : Content) : Type 0 where
+  pub namesMax : length (c .names) ≤ maxNames
+  pub typesMax : length (c .types) ≤ maxTypes
+  pub predicatesMax : length (c .predicates) ≤ maxPredicates
+  pub nodesMax : length (c .nodes) ≤ maxNodes
+  pub texts : All (λ s. (n : ℕ) × Text s n) (c .names)
+  pub distinct : Distinct (c .names)
+  pub typeNames : All (λ t. Below (length (c .names)) (shapeNames t)) (c .types)
+  pub typeTypes : TypesBefore 0 (c .types)
+  pub typeKeys : All (λ t. Distinct (shapeKeys t)) (c .types)
+  pub predicateNames : All (λ p. p .name < length (c .names)) (c .predicates)
+  pub predicateTypes : All (λ p. Below (length (c .types)) (p .key ∷ optional (p .value))) (c .predicates)
+  pub nodeNames : All (λ n. Below (length (c .names)) (exprNames (n .kind))) (c .nodes)
+  pub nodeNodes : Lower 0 (c .nodes)
+  pub queryBelow : Below (length (c .nodes)) (queryNodes (c .query))
+  -- "a node is named at most once"
+  pub once : Distinct (nodesNamed (c .nodes) ++ queryNodes (c .query))
+  pub writable : All Writable (framesOf c)
+
+-- ---- What it describes
+
+-- The types as trees, after those that are there already.
+unfoldable pub typesFrom : List Ty → List TypeShape → List Ty
+unfolding tyOf
+typesFrom ts [] = ts
+typesFrom ts (s ∷ ss) = typesFrom (ts ++ tyOf ts s ∷ []) ss
+
+unfoldable pub predicateWith : List Ty → PredicateFrame → Predicate
+unfolding predicateOf
+predicateWith ts p = predicateOf ts (p .name) (p .key) (p .value)
+
+unfoldable pub describes : Content → Described
+unfolding typesFrom predicateWith position sameText valueText countOf characters
+describes c = record {
+  schema = record {
+    predicates = map (predicateWith (typesFrom [] (c .types))) (c .predicates);
+    valueField = position (sameText valueText) (c .names);
+    characters = map (λ s. countOf (characters s)) (c .names);
+    maxDistance = c .maxDistance;
+    maxTermChars = c .maxTermChars;
+  };
+  ast = record { nodes = c .nodes; query = c .query };
+}
+
+-- The file holds this, and so describes d.
+pub record Says (file : List ℕ) (d : Described) : Type 0 where
+  pub content : Content
+  pub is : file ≡ fileOf (framesOf content)
+  pub size : length file ≤ maxFile
+  pub lawful : Lawful content
+  pub tree : d ≡ describes content
