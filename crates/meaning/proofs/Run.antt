@@ -1,7 +1,8 @@
 -- Each query's run is a list of demand 3's calls, so demand 3 holds of it, and it makes no more than its nodes weigh: at the
 -- start the state is in order and no node has a type, and every visit meets its grade.
--- Where a number bounds a depth: `walk` and `destructurableIn` in Depth.antt, `weight` in Weights.antt; `follow` of `repr` and
--- `zonkIn` in the unification crate's Chain.antt, `occurs` in Occurs.antt, `unifyIn` in Depth.antt there.
+-- Where a number bounds a depth, that it suffices: `walk-depth` and `destructurable-depth` in Depth.antt, `weight-depth` in
+-- Weights.antt; in the unification crate `repr-resolved` in Chain.antt for `repr`, `zonk-solved` in Zonk.antt for `zonk`,
+-- `occurs-depth` in Occurs.antt, `unify-depth` in Depth.antt.
 use mathlib.Core.List.{List, [], _∷_, _++_}
 use mathlib.Core.Logic.{by-cases}
 use mathlib.Core.Option.{Option, none}
