@@ -17,3 +17,4 @@ pub mod Writing
 pub mod Content
 pub mod Outcome
 pub mod Table
+pub mod Run

@@ -61,7 +61,7 @@ module _ (n : ℕ) (then st : State) (p : Since n then st) where
       let c = rw (← rollback-subst p) at (claim-pad (then .subst) n (then .history) (h .known .1)) in
       record { wf = w; known = ((c, no-loop _ (w .acyclic), now .known .0), c) }
 
-  rolled-since : Since n then (rollback st (snapshot then))
+  pub rolled-since : Since n then (rollback st (snapshot then))
   unfolding unbind unannotate
   rolled-since = record {
     new = [];

@@ -9,9 +9,10 @@ use Prim.Native.Nat.{ℕ, zero, suc, _≤_}
 use native.Mathlib.Omega.{arith}
 use lib.Dec.{eqb}
 use lib.ListN.{length}
-use Rattle.unification.specs.Ty.{Ty, leaf, node, Var, Error, Row, ε, cell, app, appRow}
+use Rattle.unification.specs.Ty.{Leaf, Int, String, Bytes, Fact, Kind, Ty, leaf, node, Var, Error, Row, ε, cell, app, appRow}
 use Rattle.unification.specs.Order.{Same}
 use Rattle.unification.specs.Bindings.{Subst, bound, repr, Answer, yes-left, no-left, spent, anyRow, occursIn, occurs}
+use Rattle.unification.specs.Unify.{visited, leafOrderable, orderable, allOrderable}
 use Rattle.unification.specs.Calls.{Reaches, ReachesRow, first, Respects}
 use Rattle.unification.proofs.Tests.{clash, eqb-true, eqb-false}
 use Rattle.unification.proofs.Order.{size, rowSize, same-size}
@@ -185,3 +186,43 @@ occurs-depth (suc d) zero s x (suc v) t p q = absurd (omega arith)
 occurs-depth (suc d) (suc e) s x zero t p q = refl
 occurs-depth (suc d) (suc e) s x (suc v) t p q =
     occursIn-depth (λ u t′. occurs d s x u t′) (λ u t′. occurs e s x u t′) x v (λ u t′. occurs-fewer d s x u t′) (λ u t′ le. occurs-depth d e s x u t′ (omega arith) (omega arith)) (repr s t)
+
+-- ---- `orderable` makes the visits left fewer too
+visited-fewer : (v : ℕ) (ask : ℕ → Answer) → ((w : ℕ) → Fewer w (ask w)) → Fewer v (visited v ask)
+unfolding visited
+visited-fewer zero ask h = tt
+visited-fewer (suc v) ask h = fewer-trans (suc v) v (ask v) (omega arith) (h v)
+
+leaf-fewer : (p : Leaf) (v : ℕ) → Fewer v (leafOrderable p v)
+unfolding leafOrderable
+leaf-fewer Int v = omega arith
+leaf-fewer String v = omega arith
+leaf-fewer Bytes v = omega arith
+leaf-fewer (Fact p) v = omega arith
+
+-- A row, by the answer of its first cell.
+unfoldable goes-on : Row → Answer → Answer
+goes-on r a = elim a [ yes-left w ↦ allOrderable r w | no-left w ↦ no-left w | spent ↦ spent ]
+
+first-cell : (k l : ℕ) (t : Ty) (r : Row) (v : ℕ) → allOrderable (cell k l t r) v ≡ goes-on r (orderable t v)
+unfolding goes-on orderable allOrderable
+first-cell k l t r v = refl
+
+goes-on-fewer : (r : Row) (v : ℕ) (a : Answer) → Fewer v a → ((w : ℕ) → Fewer w (allOrderable r w)) → Fewer v (goes-on r a)
+unfolding goes-on
+goes-on-fewer r v (yes-left w) f h = fewer-trans v w (allOrderable r w) f (h w)
+goes-on-fewer r v (no-left w) f h = f
+goes-on-fewer r v spent f h = tt
+
+mutual
+  unfolding orderable
+
+  pub orderable-fewer : (t : Ty) (v : ℕ) → Fewer v (orderable t v)
+  orderable-fewer (leaf p) v = visited-fewer v (λ w. leafOrderable p w) (leaf-fewer p)
+  orderable-fewer (node k r) v = visited-fewer v (λ w. allOrderable r w) (λ w. allOrderable-fewer r w)
+  orderable-fewer (Var x) v = visited-fewer v (λ w. yes-left w) (λ w. omega arith)
+  orderable-fewer Error v = visited-fewer v (λ w. yes-left w) (λ w. omega arith)
+
+  allOrderable-fewer : (r : Row) (v : ℕ) → Fewer v (allOrderable r v)
+  allOrderable-fewer ε v = omega arith
+  allOrderable-fewer (cell k l t r) v = rw (first-cell k l t r v) (goes-on-fewer r v (orderable t v) (orderable-fewer t v) (λ w. allOrderable-fewer r w))

@@ -31,7 +31,7 @@ mutual
   sideRow-more n m le (cell k l t r) h = (h .0, side-more n m le t (h .1), sideRow-more n m le r (h .2))
 
 mutual
-  declared-side : (n : ℕ) (t : Ty) → Declared t → Side n t
+  pub declared-side : (n : ℕ) (t : Ty) → Declared t → Side n t
   declared-side n (leaf p) h = tt
   declared-side n (node Record r) h = declaredRow-side n r (h .1)
   declared-side n (node Union r) h = h
