@@ -1,0 +1,128 @@
+-- What the functions of src/lib.rt promise. Each that walks types or changes the state says: for all rows and every state
+-- that the words stand for, the words after stand for what the definition gives.
+use mathlib.Core.List.{List}
+use mathlib.Core.Option.{Option, none, some}
+use mathlib.Core.Path.{_≡_}
+use Prim.Native.Nat.{ℕ, _≤_, _<_}
+use lib.ListN.{length}
+use Rattle.unification.specs.Ty as Tree
+use Rattle.unification.specs.Ty.{Row, appRow}
+use Rattle.unification.specs.Bindings as Bindings
+use Rattle.unification.specs.Bindings.{Subst, Answer, anyRow, State, History}
+use Rattle.unification.specs.Unify as Unify
+use Rattle.unification.specs.Unify.{findKey, findLabel}
+use Rattle.unification.proofs.Acyclic.{Acyclic}
+use Rattle.work.specs.Layout.{TYS, UNDO-LEN, END}
+use Rattle.cells.specs.declared.Ty.{Ty}
+use Rattle.cells.specs.declared.Ty.the-variants.{Record, Union}
+use Rattle.cells.specs.declared.Kind.{Kind}
+use Rattle.cells.specs.declared.Kind.the-variants.{Fields, Alternatives}
+use Rattle.cells.specs.declared.Found.{Found}
+use Rattle.cells.specs.declared.Found.the-variants as Found
+use Rattle.cells.specs.declared.Asked.{Asked}
+use Rattle.cells.specs.declared.Asked.the-variants as Asked
+use Rattle.cells.specs.declared.UnionDiff.{UnionDiff}
+use Rattle.cells.specs.declared.UnionDiff.the-variants as UnionDiff
+use Rattle.cells.specs.declared.TyError.{TyError}
+use Rattle.cells.specs.declared.TyError.the-variants as TyError
+use Rattle.cells.specs.declared.Unified.{Unified}
+use Rattle.cells.specs.declared.Unified.the-variants as Unified
+use Rattle.cells.specs.Stands.{Rows, tree, IsCell, Ok, Cells, Binds, Holds, Keeps}
+
+-- ---- Look-up
+
+abbrev pub foundPart : Rows → Found → Option (ℕ × Tree.Ty)
+foundPart T (Found.At p) = some (p .label, tree T (p .ty))
+foundPart T Found.Nothing = none
+
+abbrev pub foundTy : Rows → Found → Option Tree.Ty
+foundTy T (Found.At p) = some (tree T (p .ty))
+foundTy T Found.Nothing = none
+
+abbrev pub OkFound : List ℕ → Found → Type 0
+OkFound w (Found.At p) = Ok w (p .ty)
+OkFound w Found.Nothing = Unit {0}
+
+pub record FindsKey (w : List ℕ) (k : Kind) (c key : ℕ) (r : Found) : Type 0 where
+  pub is : (T : Rows) → Cells w T → IsCell w k c → foundPart T r ≡ findKey key (T c)
+  pub ok : (T : Rows) → Cells w T → IsCell w k c → OkFound w r
+
+pub record FindsName (w : List ℕ) (c name : ℕ) (r : Found) : Type 0 where
+  pub is : (T : Rows) → Cells w T → IsCell w Alternatives c → foundTy T r ≡ findLabel name (T c)
+  pub ok : (T : Rows) → Cells w T → IsCell w Alternatives c → OkFound w r
+
+-- ---- Questions
+
+pub record Reprs (w : List ℕ) (t r : Ty) : Type 0 where
+  pub is : (T : Rows) (s : Subst) → Binds w T s → tree T r ≡ Bindings.repr s (tree T t)
+  pub ok : (T : Rows) (s : Subst) → Binds w T s → Ok w t → Ok w r
+
+abbrev pub answerOf : Asked → Answer
+answerOf (Asked.Yes l) = Answer.yes-left l
+answerOf (Asked.No l) = Answer.no-left l
+answerOf Asked.Spent = Answer.spent
+
+abbrev pub askedLeft : Asked → ℕ
+askedLeft (Asked.Yes l) = l
+askedLeft (Asked.No l) = l
+askedLeft Asked.Spent = 0
+
+-- The depth is any that is not below the visits left.
+pub record Occurs (w : List ℕ) (x : ℕ) (t : Ty) (left : ℕ) (r : Asked) : Type 0 where
+  pub is : (T : Rows) (s : Subst) → Cells w T → Binds w T s → Ok w t → (d : ℕ) → left ≤ d → answerOf r ≡ Bindings.occurs d s x left (tree T t)
+  pub fewer : askedLeft r ≤ left
+
+pub record OccursIn (w : List ℕ) (x : ℕ) (k : Kind) (c left : ℕ) (r : Asked) : Type 0 where
+  pub is : (T : Rows) (s : Subst) → Cells w T → Binds w T s → IsCell w k c → (d : ℕ) → left ≤ d
+    → answerOf r ≡ anyRow (λ v u. Bindings.occurs d s x v u) left (T c)
+  pub fewer : askedLeft r ≤ left
+
+-- Of the type with every bound unknown replaced.
+pub record IsOrderable (w : List ℕ) (t : Ty) (left : ℕ) (r : Asked) : Type 0 where
+  pub is : (T : Rows) (s : Subst) → Cells w T → Binds w T s → Acyclic s → Ok w t → answerOf r ≡ Unify.orderable (Bindings.zonk s (tree T t)) left
+  pub fewer : askedLeft r ≤ left
+
+pub record AllOrderable (w : List ℕ) (k : Kind) (c left : ℕ) (r : Asked) : Type 0 where
+  pub is : (T : Rows) (s : Subst) → Cells w T → Binds w T s → Acyclic s → IsCell w k c
+    → answerOf r ≡ Unify.allOrderable (appRow (λ x. Bindings.zonk s (Tree.Var x)) (T c)) left
+  pub fewer : askedLeft r ≤ left
+
+-- ---- The state
+
+-- Back to a length of the undo log, whatever history the snapshot noted.
+pub record RollsBack (w : List ℕ) (mark : ℕ) (w′ : List ℕ) : Type 0 where
+  pub is : (T : Rows) (st : State) → Holds w T st → (past : History) → Holds w′ T (Bindings.rollback st (record { undo = mark; past = past }))
+  pub keeps : (T : Rows) (st : State) → Holds w T st → Keeps TYS END w w′
+
+-- ---- Unification
+
+abbrev pub diffOf : UnionDiff → Unify.UnionDiff
+diffOf (UnionDiff.Absent n k) = Unify.Absent n k
+diffOf (UnionDiff.Renamed e g k) = Unify.Renamed e g k
+diffOf (UnionDiff.Payload n k) = Unify.Payload n k
+
+abbrev pub errorOf : Rows → TyError → Unify.TyError
+errorOf T (TyError.Mismatch e g) = Unify.Mismatch (tree T e) (tree T g)
+errorOf T (TyError.UnionMismatch d e g) = Unify.UnionMismatch (diffOf d) (tree T e) (tree T g)
+errorOf T (TyError.UnknownField n) = Unify.UnknownField n
+errorOf T TyError.Infinite = Unify.Infinite
+
+abbrev pub unifiedLeft : Unified → ℕ
+unifiedLeft (Unified.Good l) = l
+unifiedLeft (Unified.Bad e l) = l
+unifiedLeft Unified.Spent = 0
+
+-- How the words and the answer after a unification stand for how it ends over trees. Only bindings and the undo log change.
+pub record Stays (w w′ : List ℕ) (T : Rows) (st : State) : Type 0 where
+  pub holds : Holds w′ T st
+  pub keeps : Keeps UNDO-LEN END w w′
+
+unfoldable pub Ends : List ℕ → List ℕ → Rows → Unified → Unify.Unified → Type 0
+Ends w w′ T r (Unify.Ok st) = (r ≡ Unified.Good (st .left)) × Stays w w′ T st
+Ends w w′ T r (Unify.Err e st) = (e′ : TyError) × (r ≡ Unified.Bad e′ (st .left)) × (errorOf T e′ ≡ e) × Stays w w′ T st
+Ends w w′ T r (Unify.Spent st) = (r ≡ Unified.Spent) × (st .left ≡ 0) × Stays w w′ T st
+
+pub record Unifies (w : List ℕ) (got expected : Ty) (left : ℕ) (w′ : List ℕ) (r : Unified) : Type 0 where
+  pub is : (T : Rows) (st : State) → Holds w T st → st .left ≡ left → Ok w got → Ok w expected → (d : ℕ) → left ≤ d
+    → Ends w w′ T r (Unify.unifyIn d st (tree T got) (tree T expected))
+  pub fewer : unifiedLeft r ≤ left
