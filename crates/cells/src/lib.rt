@@ -171,7 +171,7 @@ pub fn alternative(w: &[u32], c: u32, j: u32) -> Part
     Part { key: word(w, at), label: x / 256, ty: declared(w, x % 256) }
 }
 
-pub fn part(w: &[u32], k: Kind, c: u32, j: u32) -> Part
+pub fn part_at(w: &[u32], k: Kind, c: u32, j: u32) -> Part
     ensures { λ r. ⌜ r ≡ partW (now (w .entry)) k c j ⌝ }
 {
     match k {
@@ -187,7 +187,7 @@ pub fn find_key(w: &[u32], k: Kind, c: u32, key: u32) -> Found
     let n = count(w, c);
     let mut j: u32 = 0;
     while j < n {
-        let p = part(w, k, c, j);
+        let p = part_at(w, k, c, j);
         if p.key == key {
             return Found::At(p);
         }
@@ -213,7 +213,7 @@ pub fn find_name(w: &[u32], c: u32, name: u32) -> Found
 }
 
 // `var_ty`
-pub fn bound(w: &[u32], x: u32) -> Bound
+pub fn var_ty(w: &[u32], x: u32) -> Bound
     ensures { λ r. ⌜ r ≡ boundW (now (w .entry)) x ⌝ }
 {
     if x < word(w, work::UNKNOWNS) {
@@ -241,7 +241,7 @@ pub fn repr(w: &[u32], t: Ty) -> Ty
                 return at;
             }
         };
-        let b = bound(w, x);
+        let b = var_ty(w, x);
         match b {
             Bound::Free => {
                 return at;
@@ -285,8 +285,9 @@ fn occurs_in(w: &[u32], x: u32, k: Kind, c: u32, left: u32) -> Asked
     let mut j: u32 = 0;
     let mut rest = left;
     while j < n {
-        let p = part(w, k, c, j);
-        let r = occurs(w, x, p.ty, rest);
+        let p = part_at(w, k, c, j);
+        let t = p.ty;
+        let r = occurs(w, x, t, rest);
         match r {
             Asked::No(l) => {
                 rest = l;
@@ -472,7 +473,9 @@ fn unify_fields(w: &mut [u32], c: u32, d: u32, n: u32, left: u32) -> Unified {
                 return Unified::Bad(TyError::UnknownField(p.key), rest);
             }
         };
-        let r = unify(w, p.ty, q.ty, rest);
+        let x = p.ty;
+        let y = q.ty;
+        let r = unify(w, x, y, rest);
         match r {
             Unified::Good(l) => {
                 rest = l;
@@ -568,7 +571,9 @@ fn unify_alternative(w: &mut [u32], c: u32, d: u32, k: u32, left: u32) -> Unifie
             Found::Nothing => differ(c, d, UnionDiff::Absent(p.label, k), left),
             Found::At(q) => {
                 if p.label == q.label {
-                    unify_payload(w, c, d, k, p, q.ty, left)
+                    let a = p.ty;
+                    let b = q.ty;
+                    unify_payload(w, c, d, UnionDiff::Payload(p.label, k), a, b, left)
                 } else {
                     differ(c, d, UnionDiff::Renamed(q.label, p.label, k), left)
                 }
@@ -577,10 +582,11 @@ fn unify_alternative(w: &mut [u32], c: u32, d: u32, k: u32, left: u32) -> Unifie
     }
 }
 
-fn unify_payload(w: &mut [u32], c: u32, d: u32, k: u32, p: Part, y: Ty, left: u32) -> Unified {
-    let r = unify(w, p.ty, y, left);
+// A failure inside becomes a difference of the payload.
+fn unify_payload(w: &mut [u32], c: u32, d: u32, diff: UnionDiff, a: Ty, b: Ty, left: u32) -> Unified {
+    let r = unify(w, a, b, left);
     match r {
-        Unified::Bad(_, l) => differ(c, d, UnionDiff::Payload(p.label, k), l),
+        Unified::Bad(_, l) => differ(c, d, diff, l),
         _ => r,
     }
 }
@@ -610,8 +616,9 @@ fn all_orderable(w: &[u32], k: Kind, c: u32, left: u32) -> Asked
     let mut j: u32 = 0;
     let mut rest = left;
     while j < n {
-        let p = part(w, k, c, j);
-        let r = orderable(w, p.ty, rest);
+        let p = part_at(w, k, c, j);
+        let t = p.ty;
+        let r = orderable(w, t, rest);
         match r {
             Asked::Yes(l) => {
                 rest = l;
