@@ -12,14 +12,14 @@ use Rattle.unification.specs.Ty as Tree
 use Rattle.unification.specs.Ty.{Row, ε, cell}
 use Rattle.unification.specs.Bindings.{Subst, bound, Undo, Binding, Annotation, State}
 use Rattle.unification.proofs.Acyclic.{Acyclic}
-use Rattle.work.specs.Layout.{TYPE-COUNT, TYPES, RECORD-COUNT, UNKNOWNS, BINDINGS, TYS, UNDO, UNDO-LEN, END}
+use Rattle.work.specs.Layout.{TYPE-COUNT, TYPES, FIELDS, RECORD-COUNT, RECORD-FIELD-COUNT, UNKNOWNS, BINDINGS, TYS, UNDO, UNDO-LEN, END}
 use Rattle.cells.specs.declared.Ty.{Ty}
 use Rattle.cells.specs.declared.Ty.the-variants.{Int, Str, Bytes, Fact, Record, Union, Var, Error}
 use Rattle.cells.specs.declared.Kind.{Kind}
 use Rattle.cells.specs.declared.Kind.the-variants.{Fields, Alternatives}
 use Rattle.cells.specs.declared.Bound.{Bound}
 use Rattle.cells.specs.declared.Bound.the-variants.{To, Free}
-use Rattle.cells.specs.Words.{pick, countW, partW, slotW, boundW}
+use Rattle.cells.specs.Words.{pick, countW, firstW, partW, slotW, boundW}
 
 -- The rows of the cells, by number.
 abbrev pub Rows : Type 0
@@ -74,10 +74,19 @@ abbrev pub OkBound : List ℕ → Bound → Type 0
 OkBound w Free = Unit {0}
 OkBound w (To t) = Ok w t
 
--- T is the rows of all cells: each is what its words say, over T itself.
+-- the words of a part of a schema type
+abbrev pub partWords : Kind → ℕ
+partWords Fields = 1
+partWords Alternatives = 2
+
+-- T is the rows of all cells: each is what its words say, over T itself. The words of each stand in their region.
 pub record Cells (w : List ℕ) (T : Rows) : Type 0 where
   pub row : (k : Kind) (c : ℕ) → IsCell w k c → T c ≡ rowW T w k c
   pub ok : (k : Kind) (c j : ℕ) → IsCell w k c → j < countW w c → Ok w (partW w k c j .ty)
+  pub declared-fits : (k : Kind) (c : ℕ) → IsCell w k c → c < 256 → FIELDS + (firstW w c + partWords k * countW w c) ≤ RECORD-COUNT
+  pub made-fits : (c : ℕ) → IsCell w Fields c → 256 ≤ c → firstW w c + countW w c ≤ getD w RECORD-FIELD-COUNT 0
+  pub few-records : getD w RECORD-COUNT 0 ≤ 512
+  pub few-fields : getD w RECORD-FIELD-COUNT 0 ≤ 512
 
 pub record Binds (w : List ℕ) (T : Rows) (s : Subst) : Type 0 where
   pub unknowns : length s ≡ getD w UNKNOWNS 0
