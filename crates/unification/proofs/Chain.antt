@@ -38,21 +38,21 @@ cell-reaches s k l t r z (first h) = inl h
 cell-reaches s k l t r z (later h) = inr h
 
 -- ---- One binding fewer
-count : Subst → ℕ
+pub count : Subst → ℕ
 count [] = zero
 count (none ∷ s) = count s
 count (some t ∷ s) = suc (count s)
 
-count-le : (s : Subst) → count s ≤ length s
+pub count-le : (s : Subst) → count s ≤ length s
 unfolding count
 count-le [] = omega arith
 count-le (none ∷ s) = omega (arith, count-le s)
 count-le (some t ∷ s) = omega (arith, count-le s)
 
-unfoldable unset : Subst → ℕ → Subst
+unfoldable pub unset : Subst → ℕ → Subst
 unset s x = set s x none
 
-count-unset : (s : Subst) (x : ℕ) (t : Ty) → bound s x ≡ some t → count s ≡ suc (count (unset s x))
+pub count-unset : (s : Subst) (x : ℕ) (t : Ty) → bound s x ≡ some t → count s ≡ suc (count (unset s x))
 unfolding count unset bound
 count-unset [] x t e = clash (cc)
 count-unset (none ∷ s) zero t e = clash (cc)
@@ -60,11 +60,11 @@ count-unset (some u ∷ s) zero t e = refl
 count-unset (none ∷ s) (suc x) t e = count-unset s x t e
 count-unset (some u ∷ s) (suc x) t e = ap suc (count-unset s x t e)
 
-unset-other : (s : Subst) (x y : ℕ) → y ≢ x → bound (unset s x) y ≡ bound s y
+pub unset-other : (s : Subst) (x y : ℕ) → y ≢ x → bound (unset s x) y ≡ bound s y
 unfolding unset
 unset-other s x y n = bound-other s x y none n
 
-unset-same : (s : Subst) (x : ℕ) → bound (unset s x) x ≡ none
+pub unset-same : (s : Subst) (x : ℕ) → bound (unset s x) x ≡ none
 unfolding bound unset
 unset-same [] x = refl
 unset-same (o ∷ s) zero = refl
@@ -75,7 +75,7 @@ unset-among s x y t e = by-cases (ℕ-discrete y x)
     (λ p. clash (cc (unset-same s x)))
     (λ n. sym (unset-other s x y n) ∙ e)
 
-unset-acyclic : (s : Subst) (x : ℕ) → Acyclic s → Acyclic (unset s x)
+pub unset-acyclic : (s : Subst) (x : ℕ) → Acyclic s → Acyclic (unset s x)
 unset-acyclic s x A = acyclic-among (unset s x) s (unset-among s x) A
 
 -- What does not reach x reaches what it reaches without the binding of x.
