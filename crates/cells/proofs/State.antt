@@ -55,7 +55,7 @@ slot-set : (w : List ℕ) (at : ℕ) (t : Ty) → getD w at 0 ≡ tagW t → get
 unfolding slotW
 slot-set w at t p q = rw (p, q, tag-not-free t, read-back t)
 
-slot-free : (w : List ℕ) (at : ℕ) → getD w at 0 ≡ 0 → slotW w at ≡ Free
+pub slot-free : (w : List ℕ) (at : ℕ) → getD w at 0 ≡ 0 → slotW w at ≡ Free
 unfolding slotW
 slot-free w at p = rw p
 
@@ -68,7 +68,7 @@ module _ (w : List ℕ) (at : ℕ) (t : Ty) where
   unfolding putTy
   put-length = simp length-set
 
-  put-keeps : {a e : ℕ} → a ≤ at → at + 1 < e → Keeps a e w (putTy w at t)
+  pub put-keeps : {a e : ℕ} → a ≤ at → at + 1 < e → Keeps a e w (putTy w at t)
   put-keeps lo hi = record { below = λ i h. put-other i (λ q. omega arith) (λ q. omega arith); above = λ i h. put-other i (λ q. omega arith) (λ q. omega arith); long = put-length }
 
   put-tag : at + 1 < length w → getD (putTy w at t) at 0 ≡ tagW t
@@ -80,11 +80,11 @@ module _ (w : List ℕ) (at : ℕ) (t : Ty) where
   put-payload h = getD-set-same (set w at (tagW t)) (at + 1) (payloadW t) 0 (omega (arith, length-set w at (tagW t)))
 
 -- ---- An entry is pushed
-entry-binding : (x : ℕ) → x < 65536 → entryOf x ≡ Binding x none
+pub entry-binding : (x : ℕ) → x < 65536 → entryOf x ≡ Binding x none
 unfolding entryOf
 entry-binding x h = rw (lt-ltb x 65536 h)
 
-entry-annotation : (n : ℕ) → entryOf (n + 65536) ≡ Annotation n none
+pub entry-annotation : (n : ℕ) → entryOf (n + 65536) ≡ Annotation n none
 unfolding entryOf
 entry-annotation n =
     let e : n + 65536 - 65536 ≡ n = omega arith in
@@ -146,7 +146,7 @@ module _ (w : List ℕ) (long : END ≤ length w) (at : ℕ) (slot : IsSlot at) 
     put-log : getD (putTy w at t) UNDO-LEN 0 ≡ getD w UNDO-LEN 0
     put-log = put-other w at t UNDO-LEN (λ q. slot .before (sym q)) (λ q. slot .behind (sym q))
 
-    set-change : Change w (pushUndoW (putTy w at t) e) at (To t)
+    pub set-change : Change w (pushUndoW (putTy w at t) e) at (To t)
     set-change =
         let r : getD (putTy w at t) UNDO-LEN 0 < 1024 = omega (arith, put-log) in
         record {
@@ -157,7 +157,7 @@ module _ (w : List ℕ) (long : END ≤ length w) (at : ℕ) (slot : IsSlot at) 
           other = λ i lo hi n m m′. push-other (putTy w at t) e r i n (λ q. omega arith) ∙ put-other w at t i m m′;
         }
 
-    set-undo : undoOf (pushUndoW (putTy w at t) e) (getD (pushUndoW (putTy w at t) e) UNDO-LEN 0) ≡ entryOf e ∷ undoOf w (getD w UNDO-LEN 0)
+    pub set-undo : undoOf (pushUndoW (putTy w at t) e) (getD (pushUndoW (putTy w at t) e) UNDO-LEN 0) ≡ entryOf e ∷ undoOf w (getD w UNDO-LEN 0)
     set-undo =
         push-undo (putTy w at t) e (omega (arith, put-log)) (omega (arith, put-length w at t))
         ∙ rw put-log (ap {B = List Undo} (λ us. entryOf e ∷ us) (undo-same w (putTy w at t) (getD w UNDO-LEN 0) (λ i h. put-other w at t (UNDO + i) (λ q. omega (arith, slot .high)) (λ q. omega (arith, slot .high)))))
@@ -185,7 +185,7 @@ getD-set-at l i j a d Q lt same other = by-cases (ℕ-discrete j i)
 
 -- Bindings, and the types of nodes, where a slot of their own changed; or none of theirs.
 module _ {w w′ : List ℕ} {at : ℕ} {b : Bound} (c : Change w w′ at b) where
-  abbrev cells : SameCells w w′
+  abbrev pub cells : SameCells w w′
   cells = keeps-cells (omega arith) (c .keeps)
 
   other-slot : (i : ℕ) → IsSlot i → i ≢ at → i ≢ at + 1 → i + 1 ≢ at → slotW w′ i ≡ slotW w i
@@ -200,7 +200,7 @@ module _ {w w′ : List ℕ} {at : ℕ} {b : Bound} (c : Change w w′ at b) whe
       let n = apart lt in
       other-slot (BINDINGS + 2 * x) (binding-slot x lt) (n .0) (n .1) (n .2))
 
-  binds-other : {T : Rows} {s : Subst} → at + 1 < UNDO-LEN → length s ≤ 512 → Binds w T s → Binds w′ T s
+  pub binds-other : {T : Rows} {s : Subst} → at + 1 < UNDO-LEN → length s ≤ 512 → Binds w T s → Binds w′ T s
   binds-other {T} {s} hi few B = record {
       unknowns = B .unknowns ∙ sym unknowns-same;
       at = λ x. B .at x ∙ ap (boundTree T) (sym (same x));
@@ -210,7 +210,7 @@ module _ {w w′ : List ℕ} {at : ℕ} {b : Bound} (c : Change w w′ at b) whe
       same : (x : ℕ) → boundW w′ x ≡ boundW w x
       same x = other-bound (omega (arith, B .unknowns)) x (λ h. (λ q. omega arith, λ q. omega arith, λ q. omega arith))
 
-  types-other : {T : Rows} {tys : List (Option Tree.Ty)} → UNDO-LEN < at → length tys ≤ 512 → Types w T tys → Types w′ T tys
+  pub types-other : {T : Rows} {tys : List (Option Tree.Ty)} → UNDO-LEN < at → length tys ≤ 512 → Types w T tys → Types w′ T tys
   types-other {T} {tys} lo few Y = record {
       at = λ n h. Y .at n h ∙ ap (boundTree T) (sym (same n h));
       ok = λ n h. rw (same n h) (ok-bound-same cells (slotW w (TYS + 2 * n)) (Y .ok n h));
@@ -219,7 +219,7 @@ module _ {w w′ : List ℕ} {at : ℕ} {b : Bound} (c : Change w w′ at b) whe
       same : (n : ℕ) → n < length tys → slotW w′ (TYS + 2 * n) ≡ slotW w (TYS + 2 * n)
       same n h = other-slot (TYS + 2 * n) (type-slot n (omega arith)) (λ q. omega arith) (λ q. omega arith) (λ q. omega arith)
 
-binds-at : {w w′ : List ℕ} {x : ℕ} {b : Bound} {T : Rows} {s : Subst} → Change w w′ (BINDINGS + 2 * x) b → OkBound w b → x < length s → length s ≤ 512 → Binds w T s → Binds w′ T (set s x (boundTree T b))
+pub binds-at : {w w′ : List ℕ} {x : ℕ} {b : Bound} {T : Rows} {s : Subst} → Change w w′ (BINDINGS + 2 * x) b → OkBound w b → x < length s → length s ≤ 512 → Binds w T s → Binds w′ T (set s x (boundTree T b))
 unfolding bound boundW
 binds-at {w} {w′} {x} {b} {T} {s} c o lt few B = record {
     unknowns = length-set s x (boundTree T b) ∙ B .unknowns ∙ sym (unknowns-same c);
@@ -237,7 +237,7 @@ binds-at {w} {w′} {x} {b} {T} {s} c o lt few B = record {
     same : (y : ℕ) → y ≢ x → boundW w′ y ≡ boundW w y
     same y n = other-bound c (omega (arith, B .unknowns)) y (λ h. (λ q. n (omega arith), λ q. omega arith, λ q. omega arith))
 
-types-at : {w w′ : List ℕ} {n : ℕ} {b : Bound} {T : Rows} {tys : List (Option Tree.Ty)} → Change w w′ (TYS + 2 * n) b → OkBound w b → n < length tys → length tys ≤ 512 → Types w T tys → Types w′ T (set tys n (boundTree T b))
+pub types-at : {w w′ : List ℕ} {n : ℕ} {b : Bound} {T : Rows} {tys : List (Option Tree.Ty)} → Change w w′ (TYS + 2 * n) b → OkBound w b → n < length tys → length tys ≤ 512 → Types w T tys → Types w′ T (set tys n (boundTree T b))
 types-at {w} {w′} {n} {b} {T} {tys} c o lt few Y = record {
     at = λ m h. getD-set-at tys n m (boundTree T b) none (λ v. v ≡ boundTree T (slotW w′ (TYS + 2 * m))) lt
       (λ e. rw (e, c .here))
