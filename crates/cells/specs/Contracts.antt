@@ -74,7 +74,7 @@ pub record Occurs (w : List ℕ) (x : ℕ) (t : Ty) (left : ℕ) (r : Asked) : T
 
 pub record OccursIn (w : List ℕ) (x : ℕ) (k : Kind) (c left : ℕ) (r : Asked) : Type 0 where
   pub is : (T : Rows) (s : Subst) → Cells w T → Binds w T s → IsCell w k c → (d : ℕ) → left ≤ d
-    → answerOf r ≡ anyRow (λ v u. Bindings.occurs d s x v u) left (T c)
+      → answerOf r ≡ anyRow (λ v u. Bindings.occurs d s x v u) left (T c)
   pub fewer : askedLeft r ≤ left
 
 -- Of the type with every bound unknown replaced.
@@ -84,7 +84,7 @@ pub record IsOrderable (w : List ℕ) (t : Ty) (left : ℕ) (r : Asked) : Type 0
 
 pub record AllOrderable (w : List ℕ) (k : Kind) (c left : ℕ) (r : Asked) : Type 0 where
   pub is : (T : Rows) (s : Subst) → Cells w T → Binds w T s → Acyclic s → IsCell w k c
-    → answerOf r ≡ Unify.allOrderable (appRow (λ x. Bindings.zonk s (Tree.Var x)) (T c)) left
+      → answerOf r ≡ Unify.allOrderable (appRow (λ x. Bindings.zonk s (Tree.Var x)) (T c)) left
   pub fewer : askedLeft r ≤ left
 
 -- ---- The state
@@ -124,5 +124,5 @@ Ends w w′ T r (Unify.Spent st) = (r ≡ Unified.Spent) × (st .left ≡ 0) × 
 
 pub record Unifies (w : List ℕ) (got expected : Ty) (left : ℕ) (w′ : List ℕ) (r : Unified) : Type 0 where
   pub is : (T : Rows) (st : State) → Holds w T st → st .left ≡ left → Ok w got → Ok w expected → (d : ℕ) → left ≤ d
-    → Ends w w′ T r (Unify.unifyIn d st (tree T got) (tree T expected))
+      → Ends w w′ T r (Unify.unifyIn d st (tree T got) (tree T expected))
   pub fewer : unifiedLeft r ≤ left

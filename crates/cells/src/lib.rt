@@ -5,7 +5,9 @@ ghost use Prim.Native.Nat.{ℕ, _+_, _*_, _<_, _≤_};
 ghost use lib.ListN.{length, getD, set};
 ghost use Rattle.cells.specs.Words.{tyW, tagW, payloadW, declaredW, countW, firstW, fieldW, alternativeW, partW, boundW, pushUndoW, setVarW, annotateW, freshW, revertW};
 ghost use Rattle.cells.specs.Contracts.{FindsKey, FindsName, Reprs, Occurs, OccursIn, IsOrderable, AllOrderable, RollsBack, Unifies};
-use work::{word, put, wide};
+use work::put;
+use work::wide;
+use work::word;
 
 // A type in hand; two words in the slice. A record and a union name a cell: below 256 the schema type of that number,
 // from 256 on an inferred record.
@@ -155,11 +157,19 @@ pub fn field(w: &[u32], c: u32, j: u32) -> Part
 {
     if c < 256 {
         let x = word(w, work::FIELDS + first(w, c) + wide(j));
-        Part { key: x / 256, label: 0, ty: declared(w, x % 256) }
+        Part {
+            key: x / 256,
+            label: 0,
+            ty: declared(w, x % 256),
+        }
     } else {
         let at = work::RECORD_FIELDS + 2 * (first(w, c) + wide(j));
         let x = word(w, at);
-        Part { key: x / 16, label: 0, ty: ty_of(x % 16, word(w, at + 1)) }
+        Part {
+            key: x / 16,
+            label: 0,
+            ty: ty_of(x % 16, word(w, at + 1)),
+        }
     }
 }
 
@@ -168,7 +178,11 @@ pub fn alternative(w: &[u32], c: u32, j: u32) -> Part
 {
     let at = work::FIELDS + first(w, c) + 2 * wide(j);
     let x = word(w, at + 1);
-    Part { key: word(w, at), label: x / 256, ty: declared(w, x % 256) }
+    Part {
+        key: word(w, at),
+        label: x / 256,
+        ty: declared(w, x % 256),
+    }
 }
 
 pub fn part_at(w: &[u32], k: Kind, c: u32, j: u32) -> Part
@@ -264,13 +278,7 @@ pub fn occurs(w: &[u32], x: u32, t: Ty, left: u32) -> Asked
     let l = left - 1;
     let r = repr(w, t);
     match r {
-        Ty::Var(y) => {
-            if x == y {
-                Asked::Yes(l)
-            } else {
-                Asked::No(l)
-            }
-        }
+        Ty::Var(y) => { if x == y { Asked::Yes(l) } else { Asked::No(l) } }
         Ty::Record(c) => occurs_in(w, x, Kind::Fields, c, l),
         Ty::Union(c) => occurs_in(w, x, Kind::Alternatives, c, l),
         _ => Asked::No(l),
@@ -513,13 +521,7 @@ fn lower(key: u32, from: u64, best: Next) -> Next {
     }
     match best {
         Next::Nothing => Next::Is(key),
-        Next::Is(b) => {
-            if key < b {
-                Next::Is(key)
-            } else {
-                best
-            }
-        }
+        Next::Is(b) => { if key < b { Next::Is(key) } else { best } }
     }
 }
 
@@ -555,7 +557,10 @@ fn unify_union(w: &mut [u32], c: u32, d: u32, left: u32) -> Unified {
 }
 
 fn differ(c: u32, d: u32, diff: UnionDiff, left: u32) -> Unified {
-    Unified::Bad(TyError::UnionMismatch(diff, Ty::Union(d), Ty::Union(c)), left)
+    Unified::Bad(
+        TyError::UnionMismatch(diff, Ty::Union(d), Ty::Union(c)),
+        left,
+    )
 }
 
 // Presence on both sides, then the name, then the payload.
@@ -583,7 +588,15 @@ fn unify_alternative(w: &mut [u32], c: u32, d: u32, k: u32, left: u32) -> Unifie
 }
 
 // A failure inside becomes a difference of the payload.
-fn unify_payload(w: &mut [u32], c: u32, d: u32, diff: UnionDiff, a: Ty, b: Ty, left: u32) -> Unified {
+fn unify_payload(
+    w: &mut [u32],
+    c: u32,
+    d: u32,
+    diff: UnionDiff,
+    a: Ty,
+    b: Ty,
+    left: u32,
+) -> Unified {
     let r = unify(w, a, b, left);
     match r {
         Unified::Bad(_, l) => differ(c, d, diff, l),
