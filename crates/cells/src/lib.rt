@@ -3,8 +3,8 @@
 ghost use mathlib.Core.Path.{_≡_};
 ghost use Prim.Native.Nat.{ℕ, _+_, _*_, _<_, _≤_};
 ghost use lib.ListN.{length, getD, set};
-ghost use Rattle.cells.specs.Words.{tyW, tagW, payloadW, declaredW, countW, firstW, fieldW, alternativeW, partW, boundW, pushUndoW, setVarW, annotateW, freshW, revertW};
-ghost use Rattle.cells.specs.Contracts.{FindsKey, FindsName, Reprs, Occurs, OccursIn, IsOrderable, AllOrderable, RollsBack, Unifies};
+ghost use Rattle.cells.specs.Words.{tyW, tagW, payloadW, declaredW, countW, firstW, fieldW, alternativeW, partW, boundW, pushUndoW, setVarW, annotateW, freshW, revertW, sameLeafW};
+ghost use Rattle.cells.specs.Contracts.{FindsKey, FindsName, Reprs, Occurs, OccursIn, IsOrderable, AllOrderable, RollsBack, Unifies, Lowers, LeastFrom, NextFrom};
 use work::put;
 use work::wide;
 use work::word;
@@ -394,7 +394,9 @@ fn bind_var(w: &mut [u32], x: u32, t: Ty, left: u32) -> Unified {
 }
 
 // Are two types that are no unknown, no cell and no error the same?
-fn same_leaf(a: Ty, b: Ty) -> bool {
+fn same_leaf(a: Ty, b: Ty) -> bool
+    ensures { λ r. ⌜ r ≡ sameLeafW a b ⌝ }
+{
     tag_of(a) == tag_of(b) && payload_of(a) == payload_of(b)
 }
 
@@ -503,7 +505,9 @@ pub enum Next {
 }
 
 // The least discriminant of one union that is not below `from`, or `best` where that is less.
-fn least_from(w: &[u32], c: u32, from: u64, best: Next) -> Next {
+fn least_from(w: &[u32], c: u32, from: u64, best: Next) -> Next
+    ensures { λ r. ⌜ LeastFrom (now (w .entry)) c from best r ⌝ }
+{
     let n = count(w, c);
     let mut j: u32 = 0;
     let mut least = best;
@@ -515,7 +519,9 @@ fn least_from(w: &[u32], c: u32, from: u64, best: Next) -> Next {
     least
 }
 
-fn lower(key: u32, from: u64, best: Next) -> Next {
+fn lower(key: u32, from: u64, best: Next) -> Next
+    ensures { λ r. ⌜ Lowers key from best r ⌝ }
+{
     if (key as u64) < from {
         return best;
     }
@@ -526,7 +532,9 @@ fn lower(key: u32, from: u64, best: Next) -> Next {
 }
 
 // The least discriminant of either that is not below `from`.
-fn next_discriminant(w: &[u32], c: u32, d: u32, from: u64) -> Next {
+fn next_discriminant(w: &[u32], c: u32, d: u32, from: u64) -> Next
+    ensures { λ r. ⌜ NextFrom (now (w .entry)) c d from r ⌝ }
+{
     least_from(w, d, from, least_from(w, c, from, Next::Nothing))
 }
 
