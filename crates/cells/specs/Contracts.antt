@@ -6,7 +6,7 @@ use mathlib.Core.Path.{_≡_}
 use Prim.Native.Nat.{ℕ, _≤_, _<_}
 use lib.ListN.{length}
 use Rattle.unification.specs.Ty as Tree
-use Rattle.unification.specs.Ty.{Row, appRow}
+use Rattle.unification.specs.Ty.{Row, ε, cell, appRow}
 use Rattle.unification.specs.Bindings as Bindings
 use Rattle.unification.specs.Bindings.{Subst, Answer, anyRow, State, History}
 use Rattle.unification.specs.Unify as Unify
@@ -27,6 +27,9 @@ use Rattle.cells.specs.declared.TyError.{TyError}
 use Rattle.cells.specs.declared.TyError.the-variants as TyError
 use Rattle.cells.specs.declared.Unified.{Unified}
 use Rattle.cells.specs.declared.Unified.the-variants as Unified
+use Rattle.cells.specs.declared.Next.{Next}
+use Rattle.cells.specs.declared.Next.the-variants as Next
+use Rattle.cells.specs.Words.{lowerW}
 use Rattle.cells.specs.Stands.{Rows, tree, IsCell, Ok, Cells, Binds, Holds, Keeps}
 
 -- ---- Look-up
@@ -51,6 +54,31 @@ pub record FindsName (w : List ℕ) (c name : ℕ) (r : Found) : Type 0 where
   pub is : (T : Rows) → Cells w T → IsCell w Alternatives c → foundTy T r ≡ findLabel name (T c)
   pub ok : (T : Rows) → Cells w T → IsCell w Alternatives c → OkFound w r
 
+-- ---- The alternatives of two unions, by ascending discriminant
+
+-- The least key that is not below `from`, or `best` where that is lower.
+unfoldable pub leastFrom : ℕ → Row → Next → Next
+unfolding lowerW
+leastFrom from ε best = best
+leastFrom from (cell k l t r) best = leastFrom from r (lowerW k from best)
+
+abbrev pub KeysBelow : ℕ → Row → Type 0
+KeysBelow n ε = Unit {0}
+KeysBelow n (cell k l t r) = (k < n) × KeysBelow n r
+
+-- A key is a word.
+pub record Lowers (key from : ℕ) (best r : Next) : Type 0 where
+  pub is : r ≡ lowerW key from best
+  pub small : key < 4294967296
+
+pub record LeastFrom (w : List ℕ) (c from : ℕ) (best r : Next) : Type 0 where
+  pub is : (T : Rows) → Cells w T → IsCell w Alternatives c → r ≡ leastFrom from (T c) best
+  pub small : (T : Rows) → Cells w T → IsCell w Alternatives c → KeysBelow 4294967296 (T c)
+
+pub record NextFrom (w : List ℕ) (c d from : ℕ) (r : Next) : Type 0 where
+  pub is : (T : Rows) → Cells w T → IsCell w Alternatives c → IsCell w Alternatives d → r ≡ leastFrom from (T d) (leastFrom from (T c) Next.Nothing)
+  pub small : (T : Rows) → Cells w T → IsCell w Alternatives c → IsCell w Alternatives d → KeysBelow 4294967296 (T c) × KeysBelow 4294967296 (T d)
+
 -- ---- Questions
 
 pub record Reprs (w : List ℕ) (t r : Ty) : Type 0 where
@@ -74,7 +102,7 @@ pub record Occurs (w : List ℕ) (x : ℕ) (t : Ty) (left : ℕ) (r : Asked) : T
 
 pub record OccursIn (w : List ℕ) (x : ℕ) (k : Kind) (c left : ℕ) (r : Asked) : Type 0 where
   pub is : (T : Rows) (s : Subst) → Cells w T → Binds w T s → IsCell w k c → (d : ℕ) → left ≤ d
-    → answerOf r ≡ anyRow (λ v u. Bindings.occurs d s x v u) left (T c)
+      → answerOf r ≡ anyRow (λ v u. Bindings.occurs d s x v u) left (T c)
   pub fewer : askedLeft r ≤ left
 
 -- Of the type with every bound unknown replaced.
@@ -84,7 +112,7 @@ pub record IsOrderable (w : List ℕ) (t : Ty) (left : ℕ) (r : Asked) : Type 0
 
 pub record AllOrderable (w : List ℕ) (k : Kind) (c left : ℕ) (r : Asked) : Type 0 where
   pub is : (T : Rows) (s : Subst) → Cells w T → Binds w T s → Acyclic s → IsCell w k c
-    → answerOf r ≡ Unify.allOrderable (appRow (λ x. Bindings.zonk s (Tree.Var x)) (T c)) left
+      → answerOf r ≡ Unify.allOrderable (appRow (λ x. Bindings.zonk s (Tree.Var x)) (T c)) left
   pub fewer : askedLeft r ≤ left
 
 -- ---- The state
@@ -124,5 +152,5 @@ Ends w w′ T r (Unify.Spent st) = (r ≡ Unified.Spent) × (st .left ≡ 0) × 
 
 pub record Unifies (w : List ℕ) (got expected : Ty) (left : ℕ) (w′ : List ℕ) (r : Unified) : Type 0 where
   pub is : (T : Rows) (st : State) → Holds w T st → st .left ≡ left → Ok w got → Ok w expected → (d : ℕ) → left ≤ d
-    → Ends w w′ T r (Unify.unifyIn d st (tree T got) (tree T expected))
+      → Ends w w′ T r (Unify.unifyIn d st (tree T got) (tree T expected))
   pub fewer : unifiedLeft r ≤ left

@@ -113,9 +113,9 @@ undoOf w (suc n) = entryOf (getD w (UNDO + n) 0) ∷ undoOf w n
 pub data Logged : List Undo → Subst → List (Option Tree.Ty) → Type 0 where
   none-set : {s : Subst} {tys : List (Option Tree.Ty)} → ((x : ℕ) → getD s x none ≡ none) → ((n : ℕ) → getD tys n none ≡ none) → Logged [] s tys
   binding : {us : List Undo} {s : Subst} {tys : List (Option Tree.Ty)} (x : ℕ) (t : Tree.Ty) → getD s x none ≡ some t
-    → Logged us (set s x none) tys → Logged (Binding x none ∷ us) s tys
+      → Logged us (set s x none) tys → Logged (Binding x none ∷ us) s tys
   annotation : {us : List Undo} {s : Subst} {tys : List (Option Tree.Ty)} (n : ℕ) (t : Tree.Ty) → getD tys n none ≡ some t
-    → Logged us s (set tys n none) → Logged (Annotation n none ∷ us) s tys
+      → Logged us s (set tys n none) → Logged (Annotation n none ∷ us) s tys
 
 -- ---- The state
 

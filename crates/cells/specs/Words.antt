@@ -12,6 +12,8 @@ use Rattle.cells.specs.declared.Kind.the-variants.{Fields, Alternatives}
 use Rattle.cells.specs.declared.Part.{Part}
 use Rattle.cells.specs.declared.Bound.{Bound}
 use Rattle.cells.specs.declared.Bound.the-variants.{To, Free}
+use Rattle.cells.specs.declared.Next.{Next}
+use Rattle.cells.specs.declared.Next.the-variants as Next
 
 abbrev pub pick {ℓ} : {A : Type ℓ} → Bool → A → A → A
 pick true a b = a
@@ -40,6 +42,10 @@ payloadW (Record c) = c
 payloadW (Union c) = c
 payloadW (Var x) = x
 payloadW Error = 0
+
+-- Two types that are no unknown, no cell and no error.
+unfoldable pub sameLeafW : Ty → Ty → Bool
+sameLeafW a b = pick (eqb (tagW a) (tagW b)) (eqb (payloadW a) (payloadW b)) false
 
 -- ---- Cells: below 256 the schema type of that number, from 256 on an inferred record.
 
@@ -82,6 +88,14 @@ alternativeW w c j = record {
 abbrev pub partW : List ℕ → Kind → ℕ → ℕ → Part
 partW w Fields c j = fieldW w c j
 partW w Alternatives c j = alternativeW w c j
+
+-- The key or what was found so far, the lower of the two; a key below `from` does not count.
+abbrev pub lesser : ℕ → Next → Next
+lesser key Next.Nothing = Next.Is key
+lesser key (Next.Is b) = pick (ltb key b) (Next.Is key) (Next.Is b)
+
+unfoldable pub lowerW : ℕ → ℕ → Next → Next
+lowerW key from best = pick (ltb key from) best (lesser key best)
 
 -- ---- Bindings and node types: tag 0 stands for none.
 unfoldable pub slotW : List ℕ → ℕ → Bound

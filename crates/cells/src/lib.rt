@@ -3,9 +3,11 @@
 ghost use mathlib.Core.Path.{_≡_};
 ghost use Prim.Native.Nat.{ℕ, _+_, _*_, _<_, _≤_};
 ghost use lib.ListN.{length, getD, set};
-ghost use Rattle.cells.specs.Words.{tyW, tagW, payloadW, declaredW, countW, firstW, fieldW, alternativeW, partW, boundW, pushUndoW, setVarW, annotateW, freshW, revertW};
-ghost use Rattle.cells.specs.Contracts.{FindsKey, FindsName, Reprs, Occurs, OccursIn, IsOrderable, AllOrderable, RollsBack, Unifies};
-use work::{word, put, wide};
+ghost use Rattle.cells.specs.Words.{tyW, tagW, payloadW, declaredW, countW, firstW, fieldW, alternativeW, partW, boundW, pushUndoW, setVarW, annotateW, freshW, revertW, sameLeafW};
+ghost use Rattle.cells.specs.Contracts.{FindsKey, FindsName, Reprs, Occurs, OccursIn, IsOrderable, AllOrderable, RollsBack, Unifies, Lowers, LeastFrom, NextFrom};
+use work::put;
+use work::wide;
+use work::word;
 
 // A type in hand; two words in the slice. A record and a union name a cell: below 256 the schema type of that number,
 // from 256 on an inferred record.
@@ -155,11 +157,19 @@ pub fn field(w: &[u32], c: u32, j: u32) -> Part
 {
     if c < 256 {
         let x = word(w, work::FIELDS + first(w, c) + wide(j));
-        Part { key: x / 256, label: 0, ty: declared(w, x % 256) }
+        Part {
+            key: x / 256,
+            label: 0,
+            ty: declared(w, x % 256),
+        }
     } else {
         let at = work::RECORD_FIELDS + 2 * (first(w, c) + wide(j));
         let x = word(w, at);
-        Part { key: x / 16, label: 0, ty: ty_of(x % 16, word(w, at + 1)) }
+        Part {
+            key: x / 16,
+            label: 0,
+            ty: ty_of(x % 16, word(w, at + 1)),
+        }
     }
 }
 
@@ -168,7 +178,11 @@ pub fn alternative(w: &[u32], c: u32, j: u32) -> Part
 {
     let at = work::FIELDS + first(w, c) + 2 * wide(j);
     let x = word(w, at + 1);
-    Part { key: word(w, at), label: x / 256, ty: declared(w, x % 256) }
+    Part {
+        key: word(w, at),
+        label: x / 256,
+        ty: declared(w, x % 256),
+    }
 }
 
 pub fn part_at(w: &[u32], k: Kind, c: u32, j: u32) -> Part
@@ -264,13 +278,7 @@ pub fn occurs(w: &[u32], x: u32, t: Ty, left: u32) -> Asked
     let l = left - 1;
     let r = repr(w, t);
     match r {
-        Ty::Var(y) => {
-            if x == y {
-                Asked::Yes(l)
-            } else {
-                Asked::No(l)
-            }
-        }
+        Ty::Var(y) => { if x == y { Asked::Yes(l) } else { Asked::No(l) } }
         Ty::Record(c) => occurs_in(w, x, Kind::Fields, c, l),
         Ty::Union(c) => occurs_in(w, x, Kind::Alternatives, c, l),
         _ => Asked::No(l),
@@ -386,7 +394,9 @@ fn bind_var(w: &mut [u32], x: u32, t: Ty, left: u32) -> Unified {
 }
 
 // Are two types that are no unknown, no cell and no error the same?
-fn same_leaf(a: Ty, b: Ty) -> bool {
+fn same_leaf(a: Ty, b: Ty) -> bool
+    ensures { λ r. ⌜ r ≡ sameLeafW a b ⌝ }
+{
     tag_of(a) == tag_of(b) && payload_of(a) == payload_of(b)
 }
 
@@ -495,7 +505,9 @@ pub enum Next {
 }
 
 // The least discriminant of one union that is not below `from`, or `best` where that is less.
-fn least_from(w: &[u32], c: u32, from: u64, best: Next) -> Next {
+fn least_from(w: &[u32], c: u32, from: u64, best: Next) -> Next
+    ensures { λ r. ⌜ LeastFrom (now (w .entry)) c from best r ⌝ }
+{
     let n = count(w, c);
     let mut j: u32 = 0;
     let mut least = best;
@@ -507,24 +519,22 @@ fn least_from(w: &[u32], c: u32, from: u64, best: Next) -> Next {
     least
 }
 
-fn lower(key: u32, from: u64, best: Next) -> Next {
+fn lower(key: u32, from: u64, best: Next) -> Next
+    ensures { λ r. ⌜ Lowers key from best r ⌝ }
+{
     if (key as u64) < from {
         return best;
     }
     match best {
         Next::Nothing => Next::Is(key),
-        Next::Is(b) => {
-            if key < b {
-                Next::Is(key)
-            } else {
-                best
-            }
-        }
+        Next::Is(b) => { if key < b { Next::Is(key) } else { best } }
     }
 }
 
 // The least discriminant of either that is not below `from`.
-fn next_discriminant(w: &[u32], c: u32, d: u32, from: u64) -> Next {
+fn next_discriminant(w: &[u32], c: u32, d: u32, from: u64) -> Next
+    ensures { λ r. ⌜ NextFrom (now (w .entry)) c d from r ⌝ }
+{
     least_from(w, d, from, least_from(w, c, from, Next::Nothing))
 }
 
@@ -555,7 +565,10 @@ fn unify_union(w: &mut [u32], c: u32, d: u32, left: u32) -> Unified {
 }
 
 fn differ(c: u32, d: u32, diff: UnionDiff, left: u32) -> Unified {
-    Unified::Bad(TyError::UnionMismatch(diff, Ty::Union(d), Ty::Union(c)), left)
+    Unified::Bad(
+        TyError::UnionMismatch(diff, Ty::Union(d), Ty::Union(c)),
+        left,
+    )
 }
 
 // Presence on both sides, then the name, then the payload.
@@ -583,7 +596,15 @@ fn unify_alternative(w: &mut [u32], c: u32, d: u32, k: u32, left: u32) -> Unifie
 }
 
 // A failure inside becomes a difference of the payload.
-fn unify_payload(w: &mut [u32], c: u32, d: u32, diff: UnionDiff, a: Ty, b: Ty, left: u32) -> Unified {
+fn unify_payload(
+    w: &mut [u32],
+    c: u32,
+    d: u32,
+    diff: UnionDiff,
+    a: Ty,
+    b: Ty,
+    left: u32,
+) -> Unified {
     let r = unify(w, a, b, left);
     match r {
         Unified::Bad(_, l) => differ(c, d, diff, l),

@@ -283,3 +283,88 @@ zonkIn-solved (suc k) s le A t z h =
 pub zonk-solved : (s : Subst) → Acyclic s → (t : Ty) → Solved s (zonk s t)
 unfolding zonk
 zonk-solved s A t = zonkIn-solved (length s) s (count-le s) A t
+
+-- ---- `zonk` step by step
+mutual
+  unfolding app
+
+  app-var : (t : Ty) → app Var t ≡ t
+  app-var (leaf p) = refl
+  app-var (node k r) = ap (node k) (appRow-var r)
+  app-var (Var x) = refl
+  app-var Error = refl
+
+  appRow-var : (r : Row) → appRow Var r ≡ r
+  appRow-var ε = refl
+  appRow-var (cell k l t r) = rw (app-var t, appRow-var r)
+
+-- It replaces each unknown.
+pub zonk-replaces : (s : Subst) (t : Ty) → zonk s t ≡ app (λ x. zonk s (Var x)) t
+unfolding zonk zonkIn
+zonk-replaces s t = go (length s)
+  where
+    go : (k : ℕ) → zonkIn k s t ≡ app (λ x. zonkIn k s (Var x)) t
+    go zero = sym (app-var t)
+    go (suc k) = zonk-app k s t
+
+pub zonk-leaf : (s : Subst) (p : Leaf) → zonk s (leaf p) ≡ leaf p
+unfolding app
+zonk-leaf s p = zonk-replaces s (leaf p)
+
+pub zonk-error : (s : Subst) → zonk s Error ≡ Error
+unfolding app
+zonk-error s = zonk-replaces s Error
+
+pub zonk-node : (s : Subst) (k : Kind) (r : Row) → zonk s (node k r) ≡ node k (appRow (λ x. zonk s (Var x)) r)
+unfolding app
+zonk-node s k r = zonk-replaces s (node k r)
+
+pub zonk-unbound : (s : Subst) (x : ℕ) → bound s x ≡ none → zonk s (Var x) ≡ Var x
+unfolding zonk
+zonk-unbound s x e = zonk-free (length s) s x e
+
+-- Steps past as many as there are bindings change nothing.
+zonk-settled : (k : ℕ) (s : Subst) → count s ≤ k → Acyclic s → (t : Ty) → zonkIn (suc k) s t ≡ zonkIn k s t
+unfolding zonkIn
+zonk-settled zero s le A t = zonk-app zero s t ∙ app-ext s _ Var t (λ x i. zonk-var zero s x (λ u. u ≡ Var x)
+    (λ e. refl)
+    (λ u e. absurd (omega (arith, count-unset s x u e)))) ∙ app-var t
+zonk-settled (suc k) s le A t = zonk-app (suc k) s t ∙ app-ext s _ _ t (λ x i. zonk-var (suc k) s x (λ u. u ≡ zonkIn (suc k) s (Var x))
+    (λ e. sym (zonk-free (suc k) s x e))
+    (λ u e.
+    let off = not-behind s A x u e in
+    sym (zonk-unset (suc k) s x u off)
+    ∙ zonk-settled k (unset s x) (omega (arith, count-unset s x u e)) (unset-acyclic s x A) u
+    ∙ zonk-unset k s x u off
+    ∙ sym (zonk-bound k s x u e))) ∙ sym (zonk-app k s t)
+
+pub zonk-through : (s : Subst) → Acyclic s → (x : ℕ) (t : Ty) → bound s x ≡ some t → zonk s (Var x) ≡ zonk s t
+unfolding zonk
+zonk-through s A x t e = go (length s) (count-le s)
+  where
+    off : ¬ Reaches s t (Var x)
+    off = not-behind s A x t e
+
+    go : (k : ℕ) → count s ≤ k → zonkIn k s (Var x) ≡ zonkIn k s t
+    go zero le = absurd (omega (arith, count-unset s x t e))
+    go (suc k) le =
+        zonk-bound k s x t e
+        ∙ sym (zonk-unset k s x t off)
+        ∙ sym (zonk-settled k (unset s x) (omega (arith, count-unset s x t e)) (unset-acyclic s x A) t)
+        ∙ zonk-unset (suc k) s x t off
+
+zonk-follow : (k : ℕ) (s : Subst) → Acyclic s → (t : Ty) → zonk s t ≡ zonk s (follow k s t)
+unfolding follow
+zonk-follow zero s A t = refl
+zonk-follow (suc k) s A (leaf p) = refl
+zonk-follow (suc k) s A (node c r) = refl
+zonk-follow (suc k) s A Error = refl
+zonk-follow (suc k) s A (Var x) = go (bound s x) refl (λ t. zonk-follow k s A t)
+  where
+    go : (o : Option Ty) → bound s x ≡ o → ((t : Ty) → zonk s t ≡ zonk s (follow k s t)) → zonk s (Var x) ≡ zonk s (follow (suc k) s (Var x))
+    go none e ih = rw (follow-free (suc k) s x e)
+    go (some t) e ih = rw (follow-bound k s x t e) (zonk-through s A x t e ∙ ih t)
+
+pub zonk-repr : (s : Subst) → Acyclic s → (t : Ty) → zonk s t ≡ zonk s (repr s t)
+unfolding repr
+zonk-repr s A t = zonk-follow (suc (length s)) s A t

@@ -101,4 +101,3 @@ UNDO = 14497
 
 abbrev pub END : ℕ
 END = 15521
-

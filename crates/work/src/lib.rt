@@ -7,35 +7,58 @@ ghost use Prim.Native.Nat.{_-_};
 
 // ---- What a file said, written once by the reading.
 pub const NAME_COUNT: usize = 0;
+
 pub const TYPE_COUNT: usize = 1;
+
 pub const PREDICATE_COUNT: usize = 2;
+
 pub const NODE_COUNT: usize = 3;
 // One more than the number of the name `value`, or 0.
 pub const VALUE_NAME: usize = 4;
+
 pub const MAX_DISTANCE: usize = 5;
+
 pub const MAX_TERM: usize = 6;
 // Where the query's line starts, and its length.
 pub const QUERY: usize = 7;
+
 pub const NAMES: usize = 16;
+
 pub const TYPES: usize = 272;
+
 pub const PREDICATES: usize = 784;
+
 pub const NODES: usize = 912;
+
 pub const FIELDS: usize = 1424;
 
 // ---- What a run makes.
 pub const RECORD_COUNT: usize = 9616;
+
 pub const RECORD_FIELD_COUNT: usize = 9617;
+
 pub const ENV_LEN: usize = 9618;
+
 pub const DIAGNOSTIC_COUNT: usize = 9619;
+
 pub const UNKNOWNS: usize = 9620;
+
 pub const RECORDS: usize = 9632;
+
 pub const RECORD_FIELDS: usize = 10144;
+
 pub const ENV: usize = 11168;
+
 pub const DIAGNOSTICS: usize = 11680;
+
 pub const TYS: usize = 12448;
+
 pub const UNDO_LEN: usize = 13472;
+
 pub const BINDINGS: usize = 13473;
+
 pub const UNDO: usize = 14497;
+
 pub const END: usize = 15521;
 
 pub fn wide(x: u32) -> usize

@@ -2,7 +2,7 @@
 use borrow.Author.Needs.{needs}
 use lib.ListN.{length}
 use Prim.Native.Nat.{_-_}
-use Rattle.work.proofs.Lists.{Zeroing, zeroing-start, zeroing-next, zeroing-end}
+use Rattle.work.proofs.Lists.{Zeroing, zeroing-start, zeroing-next, zeroing-all}
 use Rattle.work.proofs.clear.Statement.{statement}
 use Rattle.work.proofs.clear.Tie as tie
 
@@ -25,4 +25,4 @@ clear-spec =
     (λ c. search needs)
     (λ c. zeroing-next (c .before .loop .inv) (search needs))
     (λ c. search needs)
-    (λ c. zeroing-end (c .before .loop .inv) (search needs)))
+    (λ c. zeroing-all (c .before .loop .inv) (search needs)))
