@@ -8,13 +8,14 @@ use lib.ListN.{length}
 use Rattle.unification.specs.Ty as Tree
 use Rattle.unification.specs.Ty.{Row, ε, cell, appRow}
 use Rattle.unification.specs.Bindings as Bindings
-use Rattle.unification.specs.Bindings.{Subst, Answer, anyRow, State, History}
+use Rattle.unification.specs.Bindings.{Subst, bound, Answer, anyRow, State, History}
 use Rattle.unification.specs.Unify as Unify
 use Rattle.unification.specs.Unify.{findKey, findLabel}
 use Rattle.unification.proofs.Acyclic.{Acyclic}
+use Rattle.unification.proofs.Chain.{Resolved}
 use Rattle.work.specs.Layout.{TYS, UNDO-LEN, END}
 use Rattle.cells.specs.declared.Ty.{Ty}
-use Rattle.cells.specs.declared.Ty.the-variants.{Record, Union}
+use Rattle.cells.specs.declared.Ty.the-variants.{Record, Union, Var}
 use Rattle.cells.specs.declared.Kind.{Kind}
 use Rattle.cells.specs.declared.Kind.the-variants.{Fields, Alternatives}
 use Rattle.cells.specs.declared.Found.{Found}
@@ -29,7 +30,7 @@ use Rattle.cells.specs.declared.Unified.{Unified}
 use Rattle.cells.specs.declared.Unified.the-variants as Unified
 use Rattle.cells.specs.declared.Next.{Next}
 use Rattle.cells.specs.declared.Next.the-variants as Next
-use Rattle.cells.specs.Words.{lowerW}
+use Rattle.cells.specs.Words.{countW, lowerW}
 use Rattle.cells.specs.Stands.{Rows, tree, IsCell, Ok, Cells, Binds, Holds, Keeps}
 
 -- ---- Look-up
@@ -154,3 +155,43 @@ pub record Unifies (w : List ℕ) (got expected : Ty) (left : ℕ) (w′ : List 
   pub is : (T : Rows) (st : State) → Holds w T st → st .left ≡ left → Ok w got → Ok w expected → (d : ℕ) → left ≤ d
       → Ends w w′ T r (Unify.unifyIn d st (tree T got) (tree T expected))
   pub fewer : unifiedLeft r ≤ left
+
+-- A step inside it, from a state of which P holds, to what `f` gives over trees. The depth is any that is not below the
+-- visits left.
+pub record Step (P : Rows → State → Type 0) (f : ℕ → Rows → State → Unify.Unified) (w : List ℕ) (left : ℕ) (w′ : List ℕ) (r : Unified) : Type 0 where
+  pub is : (T : Rows) (st : State) → Holds w T st → st .left ≡ left → P T st → (d : ℕ) → left ≤ d → Ends w w′ T r (f d T st)
+  pub fewer : unifiedLeft r ≤ left
+
+abbrev pub unifier : ℕ → State → Tree.Ty → Tree.Ty → Unify.Unified
+unifier d st a b = Unify.unifyIn d st a b
+
+-- x is a free unknown.
+pub record BindsVar (w : List ℕ) (x : ℕ) (t : Ty) (left : ℕ) (w′ : List ℕ) (r : Unified) : Type 0 where
+  pub step : Step (λ T st. (bound (st .subst) x ≡ none) × Ok w (Var x) × Ok w t) (λ d T st. Unify.bindVar d st x (tree T t)) w left w′ r
+
+-- Both sides are at the end of their chains.
+pub record UnifiesHeads (w : List ℕ) (a b : Ty) (left : ℕ) (w′ : List ℕ) (r : Unified) : Type 0 where
+  pub step : Step (λ T st. Ok w a × Ok w b × Resolved (st .subst) (tree T a) × Resolved (st .subst) (tree T b))
+      (λ d T st. Unify.unifyHeads d (unifier d) st (tree T a) (tree T b)) w left w′ r
+
+pub record UnifiesRecord (w : List ℕ) (c e left : ℕ) (w′ : List ℕ) (r : Unified) : Type 0 where
+  pub step : Step (λ T st. IsCell w Fields c × IsCell w Fields e) (λ d T st. Unify.unifyRecord (unifier d) st (T c) (T e)) w left w′ r
+
+-- n is the number of fields of c.
+pub record UnifiesFields (w : List ℕ) (c e n left : ℕ) (w′ : List ℕ) (r : Unified) : Type 0 where
+  pub step : Step (λ T st. IsCell w Fields c × IsCell w Fields e × (n ≡ countW w c)) (λ d T st. Unify.unifyFields (unifier d) st (T c) (T e)) w left w′ r
+
+pub record UnifiesUnion (w : List ℕ) (c e left : ℕ) (w′ : List ℕ) (r : Unified) : Type 0 where
+  pub step : Step (λ T st. IsCell w Alternatives c × IsCell w Alternatives e) (λ d T st. Unify.unifyUnion (unifier d) st (T c) (T e)) w left w′ r
+
+-- c is the found union, e the expected.
+abbrev pub differs : Rows → ℕ → ℕ → Unify.UnionDiff → Unify.TyError
+differs T c e diff = Unify.UnionMismatch diff (Tree.node Tree.Union (T e)) (Tree.node Tree.Union (T c))
+
+pub record UnifiesAlternative (w : List ℕ) (c e k left : ℕ) (w′ : List ℕ) (r : Unified) : Type 0 where
+  pub step : Step (λ T st. IsCell w Alternatives c × IsCell w Alternatives e)
+      (λ d T st. Unify.unifyAlternative (unifier d) st (differs T c e) k (findKey k (T c)) (findKey k (T e))) w left w′ r
+
+pub record UnifiesPayload (w : List ℕ) (c e : ℕ) (diff : UnionDiff) (a b : Ty) (left : ℕ) (w′ : List ℕ) (r : Unified) : Type 0 where
+  pub step : Step (λ T st. Ok w a × Ok w b)
+      (λ d T st. Unify.mapErr (differs T c e (diffOf diff)) (Unify.unifyIn d st (tree T a) (tree T b))) w left w′ r

@@ -4,7 +4,10 @@ ghost use mathlib.Core.Path.{_≡_};
 ghost use Prim.Native.Nat.{ℕ, _+_, _*_, _<_, _≤_};
 ghost use lib.ListN.{length, getD, set};
 ghost use Rattle.cells.specs.Words.{tyW, tagW, payloadW, declaredW, countW, firstW, fieldW, alternativeW, partW, boundW, pushUndoW, setVarW, annotateW, freshW, revertW, sameLeafW};
-ghost use Rattle.cells.specs.Contracts.{FindsKey, FindsName, Reprs, Occurs, OccursIn, IsOrderable, AllOrderable, RollsBack, Unifies, Lowers, LeastFrom, NextFrom};
+ghost use Rattle.cells.specs.Contracts.{FindsKey, FindsName, Reprs, Occurs, OccursIn, IsOrderable, AllOrderable, RollsBack, Lowers, LeastFrom, NextFrom, Unifies, BindsVar, UnifiesHeads, UnifiesRecord, UnifiesFields, UnifiesUnion, UnifiesAlternative, UnifiesPayload};
+ghost use Rattle.cells.specs.declared.Ty.the-variants as Ty;
+ghost use Rattle.cells.specs.declared.TyError.the-variants as TyError;
+ghost use Rattle.cells.specs.declared.Unified.the-variants as Unified;
 use work::put;
 use work::wide;
 use work::word;
@@ -381,7 +384,9 @@ pub fn rollback(w: &mut [u32], mark: u32)
     }
 }
 
-fn bind_var(w: &mut [u32], x: u32, t: Ty, left: u32) -> Unified {
+fn bind_var(w: &mut [u32], x: u32, t: Ty, left: u32) -> Unified
+    ensures { λ r. ⌜ BindsVar (now (w .entry)) x t left (now (w .exit)) r ⌝ }
+{
     let o = occurs(w, x, t, left);
     match o {
         Asked::Yes(l) => Unified::Bad(TyError::Infinite, l),
@@ -412,7 +417,9 @@ pub fn unify(w: &mut [u32], got: Ty, expected: Ty, left: u32) -> Unified
     unify_heads(w, a, b, left - 1)
 }
 
-fn unify_heads(w: &mut [u32], a: Ty, b: Ty, left: u32) -> Unified {
+fn unify_heads(w: &mut [u32], a: Ty, b: Ty, left: u32) -> Unified
+    ensures { λ r. ⌜ UnifiesHeads (now (w .entry)) a b left (now (w .exit)) r ⌝ }
+{
     match a {
         Ty::Error => match b {
             Ty::Var(y) => {
@@ -461,7 +468,9 @@ fn unify_heads(w: &mut [u32], a: Ty, b: Ty, left: u32) -> Unified {
     }
 }
 
-fn unify_record(w: &mut [u32], c: u32, d: u32, left: u32) -> Unified {
+fn unify_record(w: &mut [u32], c: u32, d: u32, left: u32) -> Unified
+    ensures { λ r. ⌜ UnifiesRecord (now (w .entry)) c d left (now (w .exit)) r ⌝ }
+{
     let n = count(w, c);
     if n == count(w, d) {
         unify_fields(w, c, d, n, left)
@@ -471,7 +480,9 @@ fn unify_record(w: &mut [u32], c: u32, d: u32, left: u32) -> Unified {
 }
 
 // Each name of the found side is sought in the expected.
-fn unify_fields(w: &mut [u32], c: u32, d: u32, n: u32, left: u32) -> Unified {
+fn unify_fields(w: &mut [u32], c: u32, d: u32, n: u32, left: u32) -> Unified
+    ensures { λ r. ⌜ UnifiesFields (now (w .entry)) c d n left (now (w .exit)) r ⌝ }
+{
     let mut j: u32 = 0;
     let mut rest = left;
     while j < n {
@@ -539,7 +550,9 @@ fn next_discriminant(w: &[u32], c: u32, d: u32, from: u64) -> Next
 }
 
 // Discriminants ascending; each is compared whole before the next.
-fn unify_union(w: &mut [u32], c: u32, d: u32, left: u32) -> Unified {
+fn unify_union(w: &mut [u32], c: u32, d: u32, left: u32) -> Unified
+    ensures { λ r. ⌜ UnifiesUnion (now (w .entry)) c d left (now (w .exit)) r ⌝ }
+{
     let mut from: u64 = 0;
     let mut rest = left;
     while from < 4294967296 {
@@ -564,7 +577,9 @@ fn unify_union(w: &mut [u32], c: u32, d: u32, left: u32) -> Unified {
     Unified::Good(rest)
 }
 
-fn differ(c: u32, d: u32, diff: UnionDiff, left: u32) -> Unified {
+fn differ(c: u32, d: u32, diff: UnionDiff, left: u32) -> Unified
+    ensures { λ r. ⌜ r ≡ Unified.Bad (TyError.UnionMismatch diff (Ty.Union d) (Ty.Union c)) left ⌝ }
+{
     Unified::Bad(
         TyError::UnionMismatch(diff, Ty::Union(d), Ty::Union(c)),
         left,
@@ -572,7 +587,9 @@ fn differ(c: u32, d: u32, diff: UnionDiff, left: u32) -> Unified {
 }
 
 // Presence on both sides, then the name, then the payload.
-fn unify_alternative(w: &mut [u32], c: u32, d: u32, k: u32, left: u32) -> Unified {
+fn unify_alternative(w: &mut [u32], c: u32, d: u32, k: u32, left: u32) -> Unified
+    ensures { λ r. ⌜ UnifiesAlternative (now (w .entry)) c d k left (now (w .exit)) r ⌝ }
+{
     let x = find_key(w, Kind::Alternatives, c, k);
     let y = find_key(w, Kind::Alternatives, d, k);
     match x {
@@ -604,7 +621,9 @@ fn unify_payload(
     a: Ty,
     b: Ty,
     left: u32,
-) -> Unified {
+) -> Unified
+    ensures { λ r. ⌜ UnifiesPayload (now (w .entry)) c d diff a b left (now (w .exit)) r ⌝ }
+{
     let r = unify(w, a, b, left);
     match r {
         Unified::Bad(_, l) => differ(c, d, diff, l),
