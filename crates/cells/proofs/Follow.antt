@@ -1,13 +1,12 @@
 -- Along a chain of bound unknowns: what is left to follow from where the code stands is what the whole would follow.
 use mathlib.Core.List.{List, [], _∷_}
-use mathlib.Core.Logic.{inl, inr}
 use mathlib.Core.Option.{none, some}
 use mathlib.Core.Path.{_≡_, refl, sym, _∙_}
 use native.Mathlib.Nat.{sub-zero}
 use native.Mathlib.Omega.{arith}
 use Prim.Native.Nat.{ℕ, suc, _+_, _-_, _<_, _≤_}
 use lib.ListN.{length, getD}
-use types.Run.{OneOf}
+use types.Run.{OneOf, miss}
 use denote.Enum.Declared.{tagOf}
 use Rattle.unification.specs.Ty as Tree
 use Rattle.unification.specs.Bindings.{Subst, bound, follow, repr}
@@ -48,13 +47,7 @@ not-unknown (Fact p) h = tt
 not-unknown (Record c) h = tt
 not-unknown (Union c) h = tt
 not-unknown Error h = tt
-not-unknown (Var x) (inl e) = absurd (omega arith)
-not-unknown (Var x) (inr (inl e)) = absurd (omega arith)
-not-unknown (Var x) (inr (inr (inl e))) = absurd (omega arith)
-not-unknown (Var x) (inr (inr (inr (inl e)))) = absurd (omega arith)
-not-unknown (Var x) (inr (inr (inr (inr (inl e))))) = absurd (omega arith)
-not-unknown (Var x) (inr (inr (inr (inr (inr (inl e)))))) = absurd (omega arith)
-not-unknown (Var x) (inr (inr (inr (inr (inr (inr e)))))) = absurd (omega arith)
+not-unknown (Var x) h = absurd (miss (0 ∷ 1 ∷ 2 ∷ 3 ∷ 4 ∷ 5 ∷ 7 ∷ []) 6 tt h)
 
 follow-shape : (m : ℕ) (T : Rows) (s : Subst) (t : Ty) → Shape t → follow (suc m) s (tree T t) ≡ tree T t
 unfolding follow
