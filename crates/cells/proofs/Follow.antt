@@ -1,0 +1,96 @@
+-- Along a chain of bound unknowns: what is left to follow from where the code stands is what the whole would follow.
+use mathlib.Core.List.{List, [], _∷_}
+use mathlib.Core.Option.{none, some}
+use mathlib.Core.Path.{_≡_, refl, sym, _∙_}
+use native.Mathlib.Nat.{sub-zero}
+use native.Mathlib.Omega.{arith}
+use Prim.Native.Nat.{ℕ, suc, _+_, _-_, _<_, _≤_}
+use lib.ListN.{length, getD}
+use types.Run.{OneOf, miss}
+use denote.Enum.Declared.{tagOf}
+use Rattle.unification.specs.Ty as Tree
+use Rattle.unification.specs.Bindings.{Subst, bound, follow, repr}
+use Rattle.work.specs.Layout.{UNKNOWNS}
+use Rattle.cells.specs.declared.Ty.{Ty}
+use Rattle.cells.specs.declared.Ty.the-variants.{Int, Str, Bytes, Fact, Record, Union, Var, Error}
+use Rattle.cells.specs.declared.Bound.the-variants.{To, Free}
+use Rattle.cells.specs.Words.{boundW}
+use Rattle.cells.specs.Stands.{Rows, tree, Ok, Binds}
+use Rattle.cells.specs.Contracts.{Reprs}
+use Rattle.cells.proofs.Ty.{the-type}
+
+-- after k of at most n + 1 steps
+pub record Following (w : List ℕ) (t : Ty) (n k : ℕ) (at : Ty) : Type 0 where
+  pub within : k ≤ suc n
+  pub to : (T : Rows) (s : Subst) → Binds w T s → follow (suc n) s (tree T t) ≡ follow (suc n - k) s (tree T at)
+  pub ok : (T : Rows) (s : Subst) → Binds w T s → Ok w t → Ok w at
+
+pub follow-start : (w : List ℕ) (t : Ty) (n : ℕ) → Following w t n 0 t
+follow-start w t n = record { within = omega arith; to = λ T s B. rw sub-zero; ok = λ T s B o. o }
+
+-- No unknown.
+abbrev pub Shape : Ty → Type 0
+Shape (Var x) = ⊥
+Shape Int = Unit {0}
+Shape Str = Unit {0}
+Shape Bytes = Unit {0}
+Shape (Fact p) = Unit {0}
+Shape (Record c) = Unit {0}
+Shape (Union c) = Unit {0}
+Shape Error = Unit {0}
+
+pub not-unknown : (t : Ty) → OneOf (0 ∷ 1 ∷ 2 ∷ 3 ∷ 4 ∷ 5 ∷ 7 ∷ []) (tagOf the-type t) → Shape t
+not-unknown Int h = tt
+not-unknown Str h = tt
+not-unknown Bytes h = tt
+not-unknown (Fact p) h = tt
+not-unknown (Record c) h = tt
+not-unknown (Union c) h = tt
+not-unknown Error h = tt
+not-unknown (Var x) h = absurd (miss (0 ∷ 1 ∷ 2 ∷ 3 ∷ 4 ∷ 5 ∷ 7 ∷ []) 6 tt h)
+
+follow-shape : (m : ℕ) (T : Rows) (s : Subst) (t : Ty) → Shape t → follow (suc m) s (tree T t) ≡ tree T t
+unfolding follow
+follow-shape m T s (Var x) h = absurd h
+follow-shape m T s Int h = refl
+follow-shape m T s Str h = refl
+follow-shape m T s Bytes h = refl
+follow-shape m T s (Fact p) h = refl
+follow-shape m T s (Record c) h = refl
+follow-shape m T s (Union c) h = refl
+follow-shape m T s Error h = refl
+
+module _ {w : List ℕ} {t : Ty} {n k : ℕ} {at : Ty} (g : Following w t n k at) (e : n ≡ getD w UNKNOWNS 0) where
+  whole : (T : Rows) (s : Subst) → Binds w T s → repr s (tree T t) ≡ follow (suc n - k) s (tree T at)
+  unfolding repr
+  whole T s B = let long : length s ≡ n = B .unknowns ∙ sym e in rw long (g .to T s B)
+
+  -- the whole where there is a step left
+  step : k ≤ n → (T : Rows) (s : Subst) → Binds w T s → repr s (tree T t) ≡ follow (suc (n - k)) s (tree T at)
+  step h T s B = let one : suc n - k ≡ suc (n - k) = omega arith in rw one at (whole T s B)
+
+  pub ends-shape : k ≤ n → Shape at → Reprs w t at
+  ends-shape h o = record { is = λ T s B. sym (step h T s B ∙ follow-shape (n - k) T s at o); ok = g .ok }
+
+  module _ (x : ℕ) (v : at ≡ Var x) (h : k ≤ n) where
+    pub ends-free : boundW w x ≡ Free → Reprs w t (Var x)
+    unfolding follow
+    ends-free f = record {
+      is = λ T s B. let b : bound s x ≡ none = rw (B .at, f) in sym (step h T s B ∙ rw (v, b, follow));
+      ok = λ T s B o. rw v at (g .ok T s B o);
+    }
+
+    pub follow-next : (u : Ty) → boundW w x ≡ To u → Following w t n (k + 1) u
+    unfolding follow
+    follow-next u f = record {
+      within = omega arith;
+      to = λ T s B.
+          let b : bound s x ≡ some (tree T u) = rw (B .at, f) in
+          let one : suc n - k ≡ suc (suc n - (k + 1)) = omega arith in
+          g .to T s B ∙ rw (one, v, b, follow);
+      ok = λ T s B o. rw f at (B .ok x);
+    }
+
+  pub ends-last : n < k → Reprs w t at
+  unfolding follow
+  ends-last h = record { is = λ T s B. let none : suc n - k ≡ 0 = omega arith in sym (rw none at (whole T s B)); ok = g .ok }

@@ -1,0 +1,93 @@
+-- The parts of a cell one by one: the row from number j on is the part at j and the row from j + 1 on. A loop that looks for the
+-- first part of a kind keeps that what is sought in the row is what is sought in the rest of it.
+use mathlib.Core.List.{List}
+use mathlib.Core.Option.{Option, none, some}
+use mathlib.Core.Path.{_≡_, refl, sym, _∙_, ap}
+use native.Mathlib.Nat.{sub-zero}
+use native.Mathlib.Omega.{arith}
+use Prim.Native.Nat.{ℕ, zero, suc, _+_, _-_, _<_, _≤_}
+use borrow.Author.Tests.{eq-eqb, ne-eqb}
+use Rattle.unification.specs.Ty as Tree
+use Rattle.unification.specs.Ty.{Row, ε, cell}
+use Rattle.unification.specs.Unify.{findKey, findLabel}
+use Rattle.cells.specs.declared.Kind.{Kind}
+use Rattle.cells.specs.declared.Kind.the-variants.{Alternatives}
+use Rattle.cells.specs.declared.Part.{Part}
+use Rattle.cells.specs.declared.Found.{Found}
+use Rattle.cells.specs.declared.Found.the-variants as Found
+use Rattle.cells.specs.Words.{countW, partW}
+use Rattle.cells.specs.Stands.{Rows, tree, rowFrom, rowW, IsCell, Ok, Cells}
+use Rattle.cells.specs.Contracts.{FindsKey, FindsName}
+
+-- ---- The row of a cell
+module _ (T : Rows) (w : List ℕ) (k : Kind) (c n : ℕ) where
+  -- the parts from number j on
+  abbrev pub rest : ℕ → Row
+  rest j = rowFrom T w k c j (n - j)
+
+  pub rest-whole : n ≡ countW w c → Cells w T → IsCell w k c → T c ≡ rest 0
+  unfolding rowW
+  rest-whole e C i = C .row k c i ∙ rw (← e, sub-zero)
+
+  pub rest-cell : (j : ℕ) (p : Part) → j < n → p ≡ partW w k c j → rest j ≡ cell (p .key) (p .label) (tree T (p .ty)) (rest (j + 1))
+  unfolding rowFrom
+  rest-cell j p h e = let more : n - j ≡ suc (n - (j + 1)) = omega arith in rw (more, rowFrom, e)
+
+  pub rest-none : (j : ℕ) → n ≤ j → rest j ≡ ε
+  unfolding rowFrom
+  rest-none j h = let none : n - j ≡ 0 = omega arith in rw (none, rowFrom)
+
+pub part-ok : {w : List ℕ} {T : Rows} → Cells w T → (k : Kind) (c n j : ℕ) (p : Part) → n ≡ countW w c → IsCell w k c → j < n → p ≡ partW w k c j → Ok w (p .ty)
+part-ok C k c n j p e i h q = rw q (C .ok k c j i (omega arith))
+
+-- ---- A search that has come to number j
+pub record Seeking {A : Type 0} (f : Row → A) (w : List ℕ) (k : Kind) (c n j : ℕ) : Type 0 where
+  pub within : j ≤ n
+  pub all : n ≡ countW w c
+  pub to : (T : Rows) → Cells w T → IsCell w k c → f (T c) ≡ f (rest T w k c n j)
+
+pub seek-start : {A : Type 0} (f : Row → A) (w : List ℕ) (k : Kind) (c n : ℕ) → n ≡ countW w c → Seeking f w k c n 0
+seek-start f w k c n e = record { within = omega arith; all = e; to = λ T C i. ap f (rest-whole T w k c n e C i) }
+
+module _ {A : Type 0} {f : Row → A} {w : List ℕ} {k : Kind} {c n j : ℕ} (g : Seeking f w k c n j) where
+  seek-here : (p : Part) → j < n → p ≡ partW w k c j → (T : Rows) → Cells w T → IsCell w k c
+      → f (T c) ≡ f (cell (p .key) (p .label) (tree T (p .ty)) (rest T w k c n (j + 1)))
+  seek-here p h e T C i = g .to T C i ∙ ap f (rest-cell T w k c n j p h e)
+
+  seek-past : (p : Part) → j < n → p ≡ partW w k c j → ((t : Tree.Ty) (r : Row) → f (cell (p .key) (p .label) t r) ≡ f r) → Seeking f w k c n (j + 1)
+  seek-past p h e q = record { within = omega arith; all = g .all; to = λ T C i. seek-here p h e T C i ∙ q (tree T (p .ty)) (rest T w k c n (j + 1)) }
+
+  seek-none : n ≤ j → (T : Rows) → Cells w T → IsCell w k c → f (T c) ≡ f ε
+  seek-none h T C i = g .to T C i ∙ ap f (rest-none T w k c n j h)
+
+module _ {w : List ℕ} {k : Kind} {c n j key : ℕ} (g : Seeking (findKey key) w k c n j) where
+  pub key-here : (p : Part) → j < n → p ≡ partW w k c j → p .key ≡ key → FindsKey w k c key (Found.At p)
+  unfolding findKey
+  key-here p h e q = record {
+    is = λ T C i. sym (seek-here g p h e T C i ∙ rw (eq-eqb key (p .key) (sym q), findKey));
+    ok = λ T C i. part-ok C k c n j p (g .all) i h e;
+  }
+
+  pub key-past : (p : Part) → j < n → p ≡ partW w k c j → ¬ (p .key ≡ key) → Seeking (findKey key) w k c n (j + 1)
+  unfolding findKey
+  key-past p h e q = seek-past g p h e (λ t r. rw (ne-eqb key (p .key) (λ x. q (sym x)), findKey))
+
+  pub key-none : n ≤ j → FindsKey w k c key Found.Nothing
+  unfolding findKey
+  key-none h = record { is = λ T C i. sym (seek-none g h T C i); ok = λ T C i. tt }
+
+module _ {w : List ℕ} {c n j name : ℕ} (g : Seeking (findLabel name) w Alternatives c n j) where
+  pub name-here : (p : Part) → j < n → p ≡ partW w Alternatives c j → p .label ≡ name → FindsName w c name (Found.At p)
+  unfolding findLabel
+  name-here p h e q = record {
+    is = λ T C i. sym (seek-here g p h e T C i ∙ rw (eq-eqb name (p .label) (sym q), findLabel));
+    ok = λ T C i. part-ok C Alternatives c n j p (g .all) i h e;
+  }
+
+  pub name-past : (p : Part) → j < n → p ≡ partW w Alternatives c j → ¬ (p .label ≡ name) → Seeking (findLabel name) w Alternatives c n (j + 1)
+  unfolding findLabel
+  name-past p h e q = seek-past g p h e (λ t r. rw (ne-eqb name (p .label) (λ x. q (sym x)), findLabel))
+
+  pub name-none : n ≤ j → FindsName w c name Found.Nothing
+  unfolding findLabel
+  name-none h = record { is = λ T C i. sym (seek-none g h T C i); ok = λ T C i. tt }

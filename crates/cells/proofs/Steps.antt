@@ -1,0 +1,146 @@
+-- Steps of a unification: one that changes nothing, one that fails, one that sets an unknown, one that is another; and a loop
+-- of them, of which is kept that what is to be done of the whole is what is left to do of the state reached.
+use mathlib.Core.List.{List, [], _∷_}
+use mathlib.Core.Option.{Option, none, some}
+use mathlib.Core.Path.{_≡_, refl, sym, _∙_, ap}
+use Prim.Native.Nat.{ℕ, _<_, _≤_}
+use native.Mathlib.Omega.{arith}
+use lib.ListN.{length, getD}
+use types.Run.{OneOf, miss}
+use denote.Enum.Declared.{tagOf}
+use Rattle.unification.specs.Ty as Tree
+use Rattle.unification.specs.Bindings as Bindings
+use Rattle.unification.specs.Bindings.{bound, State}
+use Rattle.unification.specs.Calls.{Reaches}
+use Rattle.unification.specs.Unify as Unify
+use Rattle.unification.specs.Unify.{andThen}
+use Rattle.unification.proofs.Tests.{clash}
+use Rattle.work.specs.Layout.{UNKNOWNS, UNDO-LEN, END}
+use Rattle.cells.specs.declared.Ty.{Ty}
+use Rattle.cells.specs.declared.TyError.{TyError}
+use Rattle.cells.specs.declared.Unified.{Unified}
+use Rattle.cells.specs.declared.Unified.the-variants.{Good, Bad, Spent}
+use Rattle.cells.specs.Words.{setVarW}
+use Rattle.cells.specs.Stands.{Rows, tree, Ok, Holds, Keeps}
+use Rattle.cells.specs.Contracts.{errorOf, unifiedLeft, Stays, Ends, Step}
+use Rattle.cells.proofs.Unified.{the-type}
+use Rattle.cells.proofs.Frame.{keeps-refl, keeps-trans}
+use Rattle.cells.proofs.Holding.{set-var-keeps, set-var-holds}
+
+-- ---- Ends
+pub stay : {w : List ℕ} {T : Rows} {st : State} → Holds w T st → Stays w w T st
+stay H = record { holds = H; keeps = keeps-refl }
+
+pub stays-after : {u v w : List ℕ} {T : Rows} {st : State} → Keeps UNDO-LEN END u v → Stays v w T st → Stays u w T st
+stays-after k s = record { holds = s .holds; keeps = keeps-trans k (s .keeps) }
+
+pub ends-after : {u v : List ℕ} (w : List ℕ) (T : Rows) (r : Unified) (o : Unify.Unified) → Keeps UNDO-LEN END u v → Ends v w T r o → Ends u w T r o
+unfolding Ends
+ends-after w T r (Unify.Ok st) k e = (e .0, stays-after k (e .1))
+ends-after w T r (Unify.Err x st) k e = (e .0, e .1, e .2, stays-after k (e .3))
+ends-after w T r (Unify.Spent st) k e = (e .0, e .1, stays-after k (e .2))
+
+-- ---- Steps that do little
+module _ {P : Rows → State → Type 0} {f : ℕ → Rows → State → Unify.Unified} {w : List ℕ} {left : ℕ} where
+  pub goes-on : ((T : Rows) (st : State) (d : ℕ) → P T st → f d T st ≡ Unify.Ok st) → Step P f w left w (Good left)
+  unfolding Ends
+  goes-on e = record { is = λ T st H q p d h. rw (e T st d p) (ap Good (sym q), stay H); fewer = omega arith }
+
+  pub fails : (x : TyError) → ((T : Rows) (st : State) (d : ℕ) → Holds w T st → P T st → f d T st ≡ Unify.Err (errorOf T x) st) → Step P f w left w (Bad x left)
+  unfolding Ends
+  fails x e = record { is = λ T st H q p d h. rw (e T st d H p) (x, ap (Bad x) (sym q), refl, stay H); fewer = omega arith }
+
+  pub is-other : {Q : Rows → State → Type 0} {g : ℕ → Rows → State → Unify.Unified} {w′ : List ℕ} {r : Unified} → ((T : Rows) (st : State) → P T st → Q T st)
+      → ((T : Rows) (st : State) (d : ℕ) → Holds w T st → P T st → f d T st ≡ g d T st) → Step Q g w left w′ r → Step P f w left w′ r
+  is-other c e s = record { is = λ T st H q p d h. rw (e T st d H p) (s .is T st H q (c T st p) d h); fewer = s .fewer }
+
+  pub sets : (x : ℕ) (t : Ty) (w′ : List ℕ) → w′ ≡ setVarW w x t
+      → ((T : Rows) (st : State) → P T st → Ok w t × (x < getD w UNKNOWNS 0) × (bound (st .subst) x ≡ none) × (¬ Reaches (st .subst) (tree T t) (Tree.Var x)))
+      → ((T : Rows) (st : State) (d : ℕ) → P T st → f d T st ≡ Unify.Ok (Bindings.setVar st x (tree T t))) → Step P f w left w′ (Good left)
+  unfolding Ends Bindings.setVar
+  sets x t w′ q c e = rw q record {
+      is = λ T st H l p d h.
+        let b = c T st p in
+        let lt : x < length (st .subst) = omega (arith, H .binds .unknowns, b .1) in
+        rw (e T st d p) (ap Good (sym l), record { holds = set-var-holds H x t lt (b .2) (b .0) (b .3); keeps = set-var-keeps w x t (omega (arith, H .few-unknowns)) });
+      fewer = omega arith;
+    }
+
+-- ---- A loop of steps
+
+-- The state that the words w stand for now, and that the rest of the work from it is the whole.
+pub record Reached (w₀ w : List ℕ) (T : Rows) (rest : ℕ) (whole : Unify.Unified) (work : State → Unify.Unified) : Type 0 where
+  pub state : State
+  pub holds : Holds w T state
+  pub keeps : Keeps UNDO-LEN END w₀ w
+  pub visits : state .left ≡ rest
+  pub same : whole ≡ work state
+
+pub record Going (P : Rows → State → Type 0) (f : ℕ → Rows → State → Unify.Unified) (w₀ : List ℕ) (left : ℕ) (w : List ℕ) (rest : ℕ) (g : ℕ → Rows → State → Unify.Unified) : Type 0 where
+  pub long : length w ≡ length w₀
+  pub fewer : rest ≤ left
+  pub to : (T : Rows) (st : State) → Holds w₀ T st → st .left ≡ left → P T st → (d : ℕ) → left ≤ d → Reached w₀ w T rest (f d T st) (λ s. g d T s)
+
+pub go-start : {P : Rows → State → Type 0} {f g : ℕ → Rows → State → Unify.Unified} {w : List ℕ} {left : ℕ}
+    → ((T : Rows) (st : State) (d : ℕ) → Holds w T st → P T st → f d T st ≡ g d T st) → Going P f w left w left g
+go-start e = record { long = refl; fewer = omega arith; to = λ T st H q p d h. record { state = st; holds = H; keeps = keeps-refl; visits = q; same = e T st d H p } }
+
+-- how a step that was good ended
+good : (w w′ : List ℕ) (T : Rows) (l : ℕ) (o : Unify.Unified) → Ends w w′ T (Good l) o → (st : State) × (o ≡ Unify.Ok st) × (st .left ≡ l) × Stays w w′ T st
+unfolding Ends
+good w w′ T l (Unify.Ok st) e = (st, refl, cc (e .0), e .1)
+good w w′ T l (Unify.Err x st) e = clash (cc (e .1))
+good w w′ T l (Unify.Spent st) e = clash (cc (e .0))
+
+abbrev pub NotGood : Unified → Type 0
+NotGood r = OneOf (1 ∷ 2 ∷ []) (tagOf the-type r)
+
+-- what is not good ends the whole
+cut : (w w′ : List ℕ) (T : Rows) (r : Unified) → NotGood r → (o : Unify.Unified) (f : State → Unify.Unified) → Ends w w′ T r o → Ends w w′ T r (andThen o f)
+unfolding Ends andThen
+cut w w′ T r x (Unify.Ok st) f e = absurd (miss (1 ∷ 2 ∷ []) 0 tt (rw (e .0) at x))
+cut w w′ T r x (Unify.Err y st) f e = e
+cut w w′ T r x (Unify.Spent st) f e = e
+
+module _ {P : Rows → State → Type 0} {f : ℕ → Rows → State → Unify.Unified} {w₀ : List ℕ} {left : ℕ} {w : List ℕ} {rest : ℕ} {g : ℕ → Rows → State → Unify.Unified} (G : Going P f w₀ left w rest g) where
+  -- What is known of a state reached.
+  abbrev pub Here : (Rows → State → ℕ → Type 0) → Type 0
+  Here Q = (T : Rows) (st : State) → Holds w₀ T st → P T st → Keeps UNDO-LEN END w₀ w → (s : State) → Holds w T s → (d : ℕ) → Q T s d
+
+  pub go-end : Here (λ T s d. g d T s ≡ Unify.Ok s) → Step P f w₀ left w (Good rest)
+  unfolding Ends
+  go-end e = record { is = λ T st H q p d h. let R = G .to T st H q p d h in rw (R .same, e T st H p (R .keeps) (R .state) (R .holds) d) (ap Good (sym (R .visits)), record { holds = R .holds; keeps = R .keeps }); fewer = G .fewer }
+
+  pub go-fail : (x : TyError) → Here (λ T s d. g d T s ≡ Unify.Err (errorOf T x) s) → Step P f w₀ left w (Bad x rest)
+  unfolding Ends
+  go-fail x e = record { is = λ T st H q p d h. let R = G .to T st H q p d h in rw (R .same, e T st H p (R .keeps) (R .state) (R .holds) d) (x, ap (Bad x) (sym (R .visits)), refl, record { holds = R .holds; keeps = R .keeps }); fewer = G .fewer }
+
+  -- A turn: a step, and then the rest.
+  module _ (g′ : ℕ → Rows → State → Unify.Unified) {Q : Rows → State → Type 0} {u : ℕ → Rows → State → Unify.Unified} {w′ : List ℕ} {r : Unified} (S : Step Q u w rest w′ r)
+      (has : Here (λ T s d. Q T s)) (turn : Here (λ T s d. g d T s ≡ andThen (u d T s) (λ s′. g′ d T s′))) where
+    pub go-next : (l : ℕ) → r ≡ Good l → length w′ ≡ length w → Going P f w₀ left w′ l g′
+    unfolding andThen
+    go-next l e len = record {
+        long = len ∙ G .long;
+        fewer = omega (arith, G .fewer, rw e at (S .fewer));
+        to = λ T st H q p d h.
+          let R = G .to T st H q p d h in
+          let E = S .is T (R .state) (R .holds) (R .visits) (has T st H p (R .keeps) (R .state) (R .holds) d) d (omega (arith, G .fewer)) in
+          let D = good w w′ T l (u d T (R .state)) (rw e at E) in
+          record {
+            state = D .0;
+            holds = D .3 .holds;
+            keeps = keeps-trans (R .keeps) (D .3 .keeps);
+            visits = D .2;
+            same = R .same ∙ turn T st H p (R .keeps) (R .state) (R .holds) d ∙ ap (λ (o : Unify.Unified). andThen o (λ s′. g′ d T s′)) (D .1);
+          };
+      }
+
+    pub go-stop : NotGood r → Step P f w₀ left w′ r
+    go-stop x = record {
+        is = λ T st H q p d h.
+          let R = G .to T st H q p d h in
+          let E = S .is T (R .state) (R .holds) (R .visits) (has T st H p (R .keeps) (R .state) (R .holds) d) d (omega (arith, G .fewer)) in
+          rw (R .same, turn T st H p (R .keeps) (R .state) (R .holds) d) (ends-after w′ T r _ (R .keeps) (cut w w′ T r x (u d T (R .state)) (λ s′. g′ d T s′) E));
+        fewer = omega (arith, G .fewer, S .fewer);
+      }

@@ -1,0 +1,31 @@
+-- The test is the one of `firstW`, and each word is the one that it names.
+use borrow.Author.Needs.{needs}
+use Rattle.cells.proofs.first.Statement.{statement}
+use Rattle.cells.proofs.first.Tie as tie
+use borrow.Author.Tests.{lt-ltb, le-ltb}
+use Rattle.cells.specs.Words.{firstW}
+
+returns : tie.Need-returns
+unfolding firstW
+returns c = (simp (lt-ltb _ _ (c .before .before .before .if1 .taken), c .wide2 .ensures .0, c .before .word .ensures, c .before .before .wide .ensures .0), c .wide2 .ensures .1)
+
+returns-2 : tie.Need-returns-2
+unfolding firstW
+returns-2 c = (simp (le-ltb _ _ (c .before .before .before .if1 .left), c .wide4 .ensures .0, c .before .word2 .ensures, c .before .before .wide3 .ensures .0), c .wide4 .ensures .1)
+
+pub first-spec : {M : Type 1} → statement M
+first-spec =
+    tie.close
+    (tie.spec
+    (λ c κs. search needs)
+    (λ c. search needs)
+    (λ c. search needs)
+    (λ c. search needs)
+    (λ c κs. search needs)
+    (λ c κs. search needs)
+    (λ c κs. search needs)
+    (λ c. search needs)
+    (λ c κs. search needs)
+    (λ c κs. search needs)
+    returns
+    returns-2)

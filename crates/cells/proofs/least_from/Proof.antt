@@ -1,0 +1,27 @@
+-- The least of the row is the least of the rest from j on; the measure is what is left of the parts.
+use Rattle.cells.proofs.least_from.Statement.{statement}
+use Rattle.cells.proofs.least_from.Tie as tie
+use borrow.Author.Needs.{needs}
+use Prim.Native.Nat.{_-_}
+use Rattle.cells.proofs.Discriminants.{Lowering, scan-start, scan-next, scan-end}
+
+abbrev Inv-loop : tie.InvT-loop
+Inv-loop w c from n j₀ least₀ j least = Lowering w c from least₀ n j least
+
+abbrev μ-loop : tie.MeasureT-loop
+μ-loop w c from n j₀ least₀ j least = n - j
+
+pub least-from-spec : {M : Type 1} → statement M
+least-from-spec =
+    tie.close
+    (tie.spec
+    Inv-loop
+    μ-loop
+    (λ c κs. search needs)
+    (λ c. scan-start _ _ _ _ _ (c .count .ensures))
+    (λ c κs. search needs)
+    (λ c κs. search needs)
+    (λ c. search needs)
+    (λ c. search needs)
+    (λ c. scan-next (c .before .before .before .loop .inv) (c .before .alternative .result) (c .lower .result) (c .before .before .loop-test .taken) (c .before .alternative .ensures) (c .lower .ensures))
+    (λ c. scan-end (c .before .loop .inv) (c .loop-test .left)))

@@ -1,0 +1,673 @@
+// Types as numbered cells in the work slice: bindings, `repr`, `occurs`, `set_var`, `snapshot`, `rollback`, `unify`,
+// `orderable`, as ty.rs has them. A visit is counted at each entry of `unify`, `occurs` and `orderable`.
+ghost use mathlib.Core.Path.{_≡_};
+ghost use Prim.Native.Nat.{ℕ, _+_, _*_, _<_, _≤_};
+ghost use lib.ListN.{length, getD, set};
+ghost use Rattle.cells.specs.Words.{tyW, tagW, payloadW, declaredW, countW, firstW, fieldW, alternativeW, partW, boundW, pushUndoW, setVarW, annotateW, freshW, revertW, sameLeafW};
+ghost use Rattle.cells.specs.Contracts.{FindsKey, FindsName, Reprs, Occurs, OccursIn, IsOrderable, AllOrderable, RollsBack, Lowers, LeastFrom, NextFrom, Unifies, BindsVar, UnifiesHeads, UnifiesRecord, UnifiesFields, UnifiesUnion, UnifiesAlternative, UnifiesPayload};
+ghost use Rattle.cells.specs.declared.Ty.the-variants as Ty;
+ghost use Rattle.cells.specs.declared.TyError.the-variants as TyError;
+ghost use Rattle.cells.specs.declared.Unified.the-variants as Unified;
+use work::put;
+use work::wide;
+use work::word;
+
+// A type in hand; two words in the slice. A record and a union name a cell: below 256 the schema type of that number,
+// from 256 on an inferred record.
+pub enum Ty {
+    Int,
+    Str,
+    Bytes,
+    Fact(u32),
+    Record(u32),
+    Union(u32),
+    Var(u32),
+    Error,
+}
+
+pub enum Kind {
+    Fields,
+    Alternatives,
+}
+
+// A cell's field or alternative: in a record the key is the name and the label 0, in a union the key is the
+// discriminant and the label the name.
+pub struct Part {
+    pub key: u32,
+    pub label: u32,
+    pub ty: Ty,
+}
+
+pub enum Found {
+    At(Part),
+    Nothing,
+}
+
+pub enum Bound {
+    To(Ty),
+    Free,
+}
+
+// How a question that costs visits ends, with the visits left.
+pub enum Asked {
+    Yes(u32),
+    No(u32),
+    Spent,
+}
+
+pub enum UnionDiff {
+    Absent(u32, u32),
+    Renamed(u32, u32, u32),
+    Payload(u32, u32),
+}
+
+pub enum TyError {
+    Mismatch(Ty, Ty),
+    UnionMismatch(UnionDiff, Ty, Ty),
+    UnknownField(u32),
+    Infinite,
+}
+
+pub enum Unified {
+    Good(u32),
+    Bad(TyError, u32),
+    Spent,
+}
+
+pub fn ty_of(tag: u32, payload: u32) -> Ty
+    ensures { λ r. ⌜ r ≡ tyW tag payload ⌝ }
+{
+    match tag {
+        1 => Ty::Int,
+        2 => Ty::Str,
+        3 => Ty::Bytes,
+        4 => Ty::Fact(payload),
+        5 => Ty::Record(payload),
+        6 => Ty::Union(payload),
+        7 => Ty::Var(payload),
+        _ => Ty::Error,
+    }
+}
+
+pub fn tag_of(t: Ty) -> u32
+    ensures { λ r. ⌜ r ≡ tagW t ⌝ }
+{
+    match t {
+        Ty::Int => 1,
+        Ty::Str => 2,
+        Ty::Bytes => 3,
+        Ty::Fact(_) => 4,
+        Ty::Record(_) => 5,
+        Ty::Union(_) => 6,
+        Ty::Var(_) => 7,
+        Ty::Error => 8,
+    }
+}
+
+pub fn payload_of(t: Ty) -> u32
+    ensures { λ r. ⌜ r ≡ payloadW t ⌝ }
+{
+    match t {
+        Ty::Int => 0,
+        Ty::Str => 0,
+        Ty::Bytes => 0,
+        Ty::Fact(p) => p,
+        Ty::Record(c) => c,
+        Ty::Union(c) => c,
+        Ty::Var(x) => x,
+        Ty::Error => 0,
+    }
+}
+
+// The schema type of this number.
+pub fn declared(w: &[u32], t: u32) -> Ty
+    ensures { λ r. ⌜ r ≡ declaredW (now (w .entry)) t ⌝ }
+{
+    let at = work::TYPES + 2 * wide(t);
+    let tag = word(w, at) % 16;
+    if tag == 5 {
+        return Ty::Record(t);
+    }
+    if tag == 6 {
+        return Ty::Union(t);
+    }
+    ty_of(tag, word(w, at + 1))
+}
+
+// How many fields or alternatives a cell has, and where they start in their region.
+pub fn count(w: &[u32], c: u32) -> u32
+    ensures { λ r. ⌜ r ≡ countW (now (w .entry)) c ⌝ }
+{
+    if c < 256 {
+        word(w, work::TYPES + 2 * wide(c)) / 16
+    } else {
+        word(w, work::RECORDS + wide(c - 256)) % 1024
+    }
+}
+
+pub fn first(w: &[u32], c: u32) -> usize
+    ensures { λ r. ⌜ (r ≡ firstW (now (w .entry)) c) × (r < 4294967296) ⌝ }
+{
+    if c < 256 {
+        wide(word(w, work::TYPES + 2 * wide(c) + 1))
+    } else {
+        wide(word(w, work::RECORDS + wide(c - 256)) / 1024)
+    }
+}
+
+pub fn field(w: &[u32], c: u32, j: u32) -> Part
+    ensures { λ r. ⌜ r ≡ fieldW (now (w .entry)) c j ⌝ }
+{
+    if c < 256 {
+        let x = word(w, work::FIELDS + first(w, c) + wide(j));
+        Part {
+            key: x / 256,
+            label: 0,
+            ty: declared(w, x % 256),
+        }
+    } else {
+        let at = work::RECORD_FIELDS + 2 * (first(w, c) + wide(j));
+        let x = word(w, at);
+        Part {
+            key: x / 16,
+            label: 0,
+            ty: ty_of(x % 16, word(w, at + 1)),
+        }
+    }
+}
+
+pub fn alternative(w: &[u32], c: u32, j: u32) -> Part
+    ensures { λ r. ⌜ r ≡ alternativeW (now (w .entry)) c j ⌝ }
+{
+    let at = work::FIELDS + first(w, c) + 2 * wide(j);
+    let x = word(w, at + 1);
+    Part {
+        key: word(w, at),
+        label: x / 256,
+        ty: declared(w, x % 256),
+    }
+}
+
+pub fn part_at(w: &[u32], k: Kind, c: u32, j: u32) -> Part
+    ensures { λ r. ⌜ r ≡ partW (now (w .entry)) k c j ⌝ }
+{
+    match k {
+        Kind::Fields => field(w, c, j),
+        Kind::Alternatives => alternative(w, c, j),
+    }
+}
+
+// The first part with this key.
+pub fn find_key(w: &[u32], k: Kind, c: u32, key: u32) -> Found
+    ensures { λ r. ⌜ FindsKey (now (w .entry)) k c key r ⌝ }
+{
+    let n = count(w, c);
+    let mut j: u32 = 0;
+    while j < n {
+        let p = part_at(w, k, c, j);
+        if p.key == key {
+            return Found::At(p);
+        }
+        j += 1;
+    }
+    Found::Nothing
+}
+
+// The first alternative of this name.
+pub fn find_name(w: &[u32], c: u32, name: u32) -> Found
+    ensures { λ r. ⌜ FindsName (now (w .entry)) c name r ⌝ }
+{
+    let n = count(w, c);
+    let mut j: u32 = 0;
+    while j < n {
+        let p = alternative(w, c, j);
+        if p.label == name {
+            return Found::At(p);
+        }
+        j += 1;
+    }
+    Found::Nothing
+}
+
+// `var_ty`
+pub fn var_ty(w: &[u32], x: u32) -> Bound
+    ensures { λ r. ⌜ r ≡ boundW (now (w .entry)) x ⌝ }
+{
+    if x < word(w, work::UNKNOWNS) {
+        let at = work::BINDINGS + 2 * wide(x);
+        let tag = word(w, at);
+        if tag == 0 {
+            return Bound::Free;
+        }
+        return Bound::To(ty_of(tag, word(w, at + 1)));
+    }
+    Bound::Free
+}
+
+// `repr`: a chain is at most as long as there are unknowns.
+pub fn repr(w: &[u32], t: Ty) -> Ty
+    ensures { λ r. ⌜ Reprs (now (w .entry)) t r ⌝ }
+{
+    let n = wide(word(w, work::UNKNOWNS));
+    let mut k: usize = 0;
+    let mut at = t;
+    while k <= n {
+        let x = match at {
+            Ty::Var(x) => x,
+            _ => {
+                return at;
+            }
+        };
+        let b = var_ty(w, x);
+        match b {
+            Bound::Free => {
+                return at;
+            }
+            Bound::To(u) => {
+                at = u;
+            }
+        }
+        k += 1;
+    }
+    at
+}
+
+pub fn occurs(w: &[u32], x: u32, t: Ty, left: u32) -> Asked
+    ensures { λ r. ⌜ Occurs (now (w .entry)) x t left r ⌝ }
+{
+    if left == 0 {
+        return Asked::Spent;
+    }
+    let l = left - 1;
+    let r = repr(w, t);
+    match r {
+        Ty::Var(y) => { if x == y { Asked::Yes(l) } else { Asked::No(l) } }
+        Ty::Record(c) => occurs_in(w, x, Kind::Fields, c, l),
+        Ty::Union(c) => occurs_in(w, x, Kind::Alternatives, c, l),
+        _ => Asked::No(l),
+    }
+}
+
+// `any` over the parts of a cell: to the first yes.
+fn occurs_in(w: &[u32], x: u32, k: Kind, c: u32, left: u32) -> Asked
+    ensures { λ r. ⌜ OccursIn (now (w .entry)) x k c left r ⌝ }
+{
+    let n = count(w, c);
+    let mut j: u32 = 0;
+    let mut rest = left;
+    while j < n {
+        let p = part_at(w, k, c, j);
+        let t = p.ty;
+        let r = occurs(w, x, t, rest);
+        match r {
+            Asked::No(l) => {
+                rest = l;
+            }
+            _ => {
+                return r;
+            }
+        }
+        j += 1;
+    }
+    Asked::No(rest)
+}
+
+// The undo log holds an unknown as its number and a node as its number and 65,536: what stood there before is always
+// none, since an unknown is bound only while it is free and a node is annotated once.
+fn push_undo(w: &mut [u32], entry: u32)
+    ensures { λ _. ⌜ now (w .exit) ≡ pushUndoW (now (w .entry)) entry ⌝ }
+{
+    let n = word(w, work::UNDO_LEN);
+    if n < 1024 {
+        put(w, work::UNDO + wide(n), entry);
+        put(w, work::UNDO_LEN, n + 1);
+    }
+}
+
+// A new unknown, free, and its number.
+pub fn fresh_var_id(w: &mut [u32]) -> u32
+    ensures { λ r. ⌜ (r ≡ getD (now (w .entry)) 9620 0) × (now (w .exit) ≡ freshW (now (w .entry))) ⌝ }
+{
+    let x = word(w, work::UNKNOWNS);
+    if x < 512 {
+        put(w, work::BINDINGS + 2 * wide(x), 0);
+        put(w, work::UNKNOWNS, x + 1);
+    }
+    x
+}
+
+fn set_var(w: &mut [u32], x: u32, t: Ty)
+    ensures { λ _. ⌜ now (w .exit) ≡ setVarW (now (w .entry)) x t ⌝ }
+{
+    let at = work::BINDINGS + 2 * wide(x);
+    put(w, at, tag_of(t));
+    put(w, at + 1, payload_of(t));
+    push_undo(w, x);
+}
+
+pub fn annotate(w: &mut [u32], n: u32, t: Ty)
+    ensures { λ _. ⌜ now (w .exit) ≡ annotateW (now (w .entry)) n t ⌝ }
+{
+    if n < 512 {
+        let at = work::TYS + 2 * wide(n);
+        put(w, at, tag_of(t));
+        put(w, at + 1, payload_of(t));
+        push_undo(w, n + 65536);
+    }
+}
+
+pub fn snapshot(w: &[u32]) -> u32
+    ensures { λ r. ⌜ r ≡ getD (now (w .entry)) 13472 0 ⌝ }
+{
+    word(w, work::UNDO_LEN)
+}
+
+fn revert(w: &mut [u32], entry: u32)
+    ensures { λ _. ⌜ now (w .exit) ≡ revertW (now (w .entry)) entry ⌝ }
+{
+    if entry < 65536 {
+        put(w, work::BINDINGS + 2 * wide(entry), 0);
+    } else {
+        put(w, work::TYS + 2 * wide(entry - 65536), 0);
+    }
+}
+
+pub fn rollback(w: &mut [u32], mark: u32)
+    ensures { λ _. ⌜ RollsBack (now (w .entry)) mark (now (w .exit)) ⌝ }
+{
+    let mut n = word(w, work::UNDO_LEN);
+    while mark < n {
+        n -= 1;
+        let entry = word(w, work::UNDO + wide(n));
+        revert(w, entry);
+        put(w, work::UNDO_LEN, n);
+    }
+}
+
+fn bind_var(w: &mut [u32], x: u32, t: Ty, left: u32) -> Unified
+    ensures { λ r. ⌜ BindsVar (now (w .entry)) x t left (now (w .exit)) r ⌝ }
+{
+    let o = occurs(w, x, t, left);
+    match o {
+        Asked::Yes(l) => Unified::Bad(TyError::Infinite, l),
+        Asked::No(l) => {
+            set_var(w, x, t);
+            Unified::Good(l)
+        }
+        Asked::Spent => Unified::Spent,
+    }
+}
+
+// Are two types that are no unknown, no cell and no error the same?
+fn same_leaf(a: Ty, b: Ty) -> bool
+    ensures { λ r. ⌜ r ≡ sameLeafW a b ⌝ }
+{
+    tag_of(a) == tag_of(b) && payload_of(a) == payload_of(b)
+}
+
+// `got` is the type of the node that the caller reports at.
+pub fn unify(w: &mut [u32], got: Ty, expected: Ty, left: u32) -> Unified
+    ensures { λ r. ⌜ Unifies (now (w .entry)) got expected left (now (w .exit)) r ⌝ }
+{
+    if left == 0 {
+        return Unified::Spent;
+    }
+    let a = repr(w, got);
+    let b = repr(w, expected);
+    unify_heads(w, a, b, left - 1)
+}
+
+fn unify_heads(w: &mut [u32], a: Ty, b: Ty, left: u32) -> Unified
+    ensures { λ r. ⌜ UnifiesHeads (now (w .entry)) a b left (now (w .exit)) r ⌝ }
+{
+    match a {
+        Ty::Error => match b {
+            Ty::Var(y) => {
+                set_var(w, y, Ty::Error);
+                Unified::Good(left)
+            }
+            _ => Unified::Good(left),
+        },
+        Ty::Var(x) => match b {
+            Ty::Error => {
+                set_var(w, x, Ty::Error);
+                Unified::Good(left)
+            }
+            Ty::Var(y) => {
+                if x == y {
+                    Unified::Good(left)
+                } else {
+                    bind_var(w, x, b, left)
+                }
+            }
+            _ => bind_var(w, x, b, left),
+        },
+        Ty::Record(c) => match b {
+            Ty::Error => Unified::Good(left),
+            Ty::Var(y) => bind_var(w, y, a, left),
+            Ty::Record(d) => unify_record(w, c, d, left),
+            _ => Unified::Bad(TyError::Mismatch(b, a), left),
+        },
+        Ty::Union(c) => match b {
+            Ty::Error => Unified::Good(left),
+            Ty::Var(y) => bind_var(w, y, a, left),
+            Ty::Union(d) => unify_union(w, c, d, left),
+            _ => Unified::Bad(TyError::Mismatch(b, a), left),
+        },
+        _ => match b {
+            Ty::Error => Unified::Good(left),
+            Ty::Var(y) => bind_var(w, y, a, left),
+            _ => {
+                if same_leaf(a, b) {
+                    Unified::Good(left)
+                } else {
+                    Unified::Bad(TyError::Mismatch(b, a), left)
+                }
+            }
+        },
+    }
+}
+
+fn unify_record(w: &mut [u32], c: u32, d: u32, left: u32) -> Unified
+    ensures { λ r. ⌜ UnifiesRecord (now (w .entry)) c d left (now (w .exit)) r ⌝ }
+{
+    let n = count(w, c);
+    if n == count(w, d) {
+        unify_fields(w, c, d, n, left)
+    } else {
+        Unified::Bad(TyError::Mismatch(Ty::Record(d), Ty::Record(c)), left)
+    }
+}
+
+// Each name of the found side is sought in the expected.
+fn unify_fields(w: &mut [u32], c: u32, d: u32, n: u32, left: u32) -> Unified
+    ensures { λ r. ⌜ UnifiesFields (now (w .entry)) c d n left (now (w .exit)) r ⌝ }
+{
+    let mut j: u32 = 0;
+    let mut rest = left;
+    while j < n {
+        let p = field(w, c, j);
+        let found = find_key(w, Kind::Fields, d, p.key);
+        let q = match found {
+            Found::At(q) => q,
+            Found::Nothing => {
+                return Unified::Bad(TyError::UnknownField(p.key), rest);
+            }
+        };
+        let x = p.ty;
+        let y = q.ty;
+        let r = unify(w, x, y, rest);
+        match r {
+            Unified::Good(l) => {
+                rest = l;
+            }
+            _ => {
+                return r;
+            }
+        }
+        j += 1;
+    }
+    Unified::Good(rest)
+}
+
+pub enum Next {
+    Is(u32),
+    Nothing,
+}
+
+// The least discriminant of one union that is not below `from`, or `best` where that is less.
+fn least_from(w: &[u32], c: u32, from: u64, best: Next) -> Next
+    ensures { λ r. ⌜ LeastFrom (now (w .entry)) c from best r ⌝ }
+{
+    let n = count(w, c);
+    let mut j: u32 = 0;
+    let mut least = best;
+    while j < n {
+        let p = alternative(w, c, j);
+        least = lower(p.key, from, least);
+        j += 1;
+    }
+    least
+}
+
+fn lower(key: u32, from: u64, best: Next) -> Next
+    ensures { λ r. ⌜ Lowers key from best r ⌝ }
+{
+    if (key as u64) < from {
+        return best;
+    }
+    match best {
+        Next::Nothing => Next::Is(key),
+        Next::Is(b) => { if key < b { Next::Is(key) } else { best } }
+    }
+}
+
+// The least discriminant of either that is not below `from`.
+fn next_discriminant(w: &[u32], c: u32, d: u32, from: u64) -> Next
+    ensures { λ r. ⌜ NextFrom (now (w .entry)) c d from r ⌝ }
+{
+    least_from(w, d, from, least_from(w, c, from, Next::Nothing))
+}
+
+// Discriminants ascending; each is compared whole before the next.
+fn unify_union(w: &mut [u32], c: u32, d: u32, left: u32) -> Unified
+    ensures { λ r. ⌜ UnifiesUnion (now (w .entry)) c d left (now (w .exit)) r ⌝ }
+{
+    let mut from: u64 = 0;
+    let mut rest = left;
+    while from < 4294967296 {
+        let next = next_discriminant(w, c, d, from);
+        let k = match next {
+            Next::Is(k) => k,
+            Next::Nothing => {
+                return Unified::Good(rest);
+            }
+        };
+        let r = unify_alternative(w, c, d, k, rest);
+        match r {
+            Unified::Good(l) => {
+                rest = l;
+            }
+            _ => {
+                return r;
+            }
+        }
+        from = (k as u64) + 1;
+    }
+    Unified::Good(rest)
+}
+
+fn differ(c: u32, d: u32, diff: UnionDiff, left: u32) -> Unified
+    ensures { λ r. ⌜ r ≡ Unified.Bad (TyError.UnionMismatch diff (Ty.Union d) (Ty.Union c)) left ⌝ }
+{
+    Unified::Bad(
+        TyError::UnionMismatch(diff, Ty::Union(d), Ty::Union(c)),
+        left,
+    )
+}
+
+// Presence on both sides, then the name, then the payload.
+fn unify_alternative(w: &mut [u32], c: u32, d: u32, k: u32, left: u32) -> Unified
+    ensures { λ r. ⌜ UnifiesAlternative (now (w .entry)) c d k left (now (w .exit)) r ⌝ }
+{
+    let x = find_key(w, Kind::Alternatives, c, k);
+    let y = find_key(w, Kind::Alternatives, d, k);
+    match x {
+        Found::Nothing => match y {
+            Found::Nothing => Unified::Good(left),
+            Found::At(q) => differ(c, d, UnionDiff::Absent(q.label, k), left),
+        },
+        Found::At(p) => match y {
+            Found::Nothing => differ(c, d, UnionDiff::Absent(p.label, k), left),
+            Found::At(q) => {
+                if p.label == q.label {
+                    let a = p.ty;
+                    let b = q.ty;
+                    unify_payload(w, c, d, UnionDiff::Payload(p.label, k), a, b, left)
+                } else {
+                    differ(c, d, UnionDiff::Renamed(q.label, p.label, k), left)
+                }
+            }
+        },
+    }
+}
+
+// A failure inside becomes a difference of the payload.
+fn unify_payload(
+    w: &mut [u32],
+    c: u32,
+    d: u32,
+    diff: UnionDiff,
+    a: Ty,
+    b: Ty,
+    left: u32,
+) -> Unified
+    ensures { λ r. ⌜ UnifiesPayload (now (w .entry)) c d diff a b left (now (w .exit)) r ⌝ }
+{
+    let r = unify(w, a, b, left);
+    match r {
+        Unified::Bad(_, l) => differ(c, d, diff, l),
+        _ => r,
+    }
+}
+
+// `orderable` of the resolved type: unknowns are looked up on the way.
+pub fn orderable(w: &[u32], t: Ty, left: u32) -> Asked
+    ensures { λ r. ⌜ IsOrderable (now (w .entry)) t left r ⌝ }
+{
+    if left == 0 {
+        return Asked::Spent;
+    }
+    let l = left - 1;
+    let r = repr(w, t);
+    match r {
+        Ty::Fact(_) => Asked::No(l),
+        Ty::Record(c) => all_orderable(w, Kind::Fields, c, l),
+        Ty::Union(c) => all_orderable(w, Kind::Alternatives, c, l),
+        _ => Asked::Yes(l),
+    }
+}
+
+// `all` over the parts of a cell: to the first no.
+fn all_orderable(w: &[u32], k: Kind, c: u32, left: u32) -> Asked
+    ensures { λ r. ⌜ AllOrderable (now (w .entry)) k c left r ⌝ }
+{
+    let n = count(w, c);
+    let mut j: u32 = 0;
+    let mut rest = left;
+    while j < n {
+        let p = part_at(w, k, c, j);
+        let t = p.ty;
+        let r = orderable(w, t, rest);
+        match r {
+            Asked::Yes(l) => {
+                rest = l;
+            }
+            _ => {
+                return r;
+            }
+        }
+        j += 1;
+    }
+    Asked::Yes(rest)
+}
