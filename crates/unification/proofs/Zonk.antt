@@ -159,26 +159,13 @@ unfolding solution
 zonk-is s A t = sym (zonk-more s A t) ∙ zonk-app (length s) s t ∙ app-ext s _ (solution s) t (λ y i. zonk-more s A (Var y))
 
 -- ---- What `zonk` gives without a word of acyclicity
-mutual
-  unfolding app
-
-  app-var : (t : Ty) → app Var t ≡ t
-  app-var (leaf p) = refl
-  app-var (node k r) = ap (node k) (appRow-var r)
-  app-var (Var x) = refl
-  app-var Error = refl
-
-  appRow-var : (r : Row) → appRow Var r ≡ r
-  appRow-var ε = refl
-  appRow-var (cell k l t r) = rw (app-var t, appRow-var r)
-
 -- It replaces each unknown.
 pub zonk-replaces : (s : Subst) (t : Ty) → zonk s t ≡ app (λ x. zonk s (Var x)) t
 unfolding zonk zonkIn
 zonk-replaces s t = go (length s)
   where
     go : (k : ℕ) → zonkIn k s t ≡ app (λ x. zonkIn k s (Var x)) t
-    go zero = sym (app-var t)
+    go zero = sym (app-id t)
     go (suc k) = zonk-app k s t
 
 pub zonk-leaf : (s : Subst) (p : Leaf) → zonk s (leaf p) ≡ leaf p
