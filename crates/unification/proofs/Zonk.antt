@@ -7,7 +7,7 @@ use mathlib.Core.Path.{_≡_, refl, sym, _∙_, ap}
 use Prim.Native.Nat.{ℕ, zero, suc, _+_, _≤_}
 use native.Mathlib.Omega.{arith}
 use lib.ListN.{length}
-use Rattle.unification.specs.Ty.{Kind, Ty, leaf, node, Var, Error, Row, ε, cell, app, appRow}
+use Rattle.unification.specs.Ty.{Leaf, Kind, Ty, leaf, node, Var, Error, Row, ε, cell, app, appRow}
 use Rattle.unification.specs.Bindings.{Subst, bound, follow, repr, zonkIn, zonk}
 use Rattle.unification.specs.Calls.{Reaches, itself, inside, through, ReachesRow, first, later}
 use Rattle.unification.specs.Tie.{solution}
@@ -157,6 +157,32 @@ zonk-more s A t = zonk-last (length s) s t ∙ zonk-one s (zonk s t) (zonk-solve
 pub zonk-is : (s : Subst) → Acyclic s → (t : Ty) → zonk s t ≡ app (solution s) t
 unfolding solution
 zonk-is s A t = sym (zonk-more s A t) ∙ zonk-app (length s) s t ∙ app-ext s _ (solution s) t (λ y i. zonk-more s A (Var y))
+
+-- ---- What `zonk` gives without a word of acyclicity
+-- It replaces each unknown.
+pub zonk-replaces : (s : Subst) (t : Ty) → zonk s t ≡ app (λ x. zonk s (Var x)) t
+unfolding zonk zonkIn
+zonk-replaces s t = go (length s)
+  where
+    go : (k : ℕ) → zonkIn k s t ≡ app (λ x. zonkIn k s (Var x)) t
+    go zero = sym (app-id t)
+    go (suc k) = zonk-app k s t
+
+pub zonk-leaf : (s : Subst) (p : Leaf) → zonk s (leaf p) ≡ leaf p
+unfolding app
+zonk-leaf s p = zonk-replaces s (leaf p)
+
+pub zonk-error : (s : Subst) → zonk s Error ≡ Error
+unfolding app
+zonk-error s = zonk-replaces s Error
+
+pub zonk-node : (s : Subst) (k : Kind) (r : Row) → zonk s (node k r) ≡ node k (appRow (λ x. zonk s (Var x)) r)
+unfolding app
+zonk-node s k r = zonk-replaces s (node k r)
+
+pub zonk-unbound : (s : Subst) (x : ℕ) → bound s x ≡ none → zonk s (Var x) ≡ Var x
+unfolding zonk
+zonk-unbound s x e = zonk-free (length s) s x e
 
 -- ---- What `zonk` gives, by the shape of the type
 module _ (s : Subst) (A : Acyclic s) where

@@ -1,0 +1,103 @@
+-- Where the regions of the work slice stand: the numbers of the constants in src/lib.rt. Each region starts where the one
+-- before it ends; the last ends at 15,521 of 16,384 words.
+use Prim.Native.Nat.{ℕ}
+
+-- ---- What a file said, written once by the reading
+
+abbrev pub NAME-COUNT : ℕ
+NAME-COUNT = 0
+
+abbrev pub TYPE-COUNT : ℕ
+TYPE-COUNT = 1
+
+abbrev pub PREDICATE-COUNT : ℕ
+PREDICATE-COUNT = 2
+
+abbrev pub NODE-COUNT : ℕ
+NODE-COUNT = 3
+
+-- one more than the number of the name `value`, or 0
+abbrev pub VALUE-NAME : ℕ
+VALUE-NAME = 4
+
+abbrev pub MAX-DISTANCE : ℕ
+MAX-DISTANCE = 5
+
+abbrev pub MAX-TERM : ℕ
+MAX-TERM = 6
+
+-- where the query's line starts, and its length
+abbrev pub QUERY : ℕ
+QUERY = 7
+
+-- 256 names, a word each: where the line starts times 512, and the number of characters
+abbrev pub NAMES : ℕ
+NAMES = 16
+
+-- 256 types, two words each: the tag and 16 times the number of parts; the predicate or where the parts start
+abbrev pub TYPES : ℕ
+TYPES = 272
+
+-- 128 predicates, a word each: the name times 131,072, the key's type times 512, twice the value's type and 1 if there is one
+abbrev pub PREDICATES : ℕ
+PREDICATES = 784
+
+-- 512 nodes, a word each: where the line starts times 2,048, twice its length in bytes, and 1 if a frame names it
+abbrev pub NODES : ℕ
+NODES = 912
+
+-- 8,192 words of parts: a field is a word, an alternative two
+abbrev pub FIELDS : ℕ
+FIELDS = 1424
+
+-- ---- What a run makes
+
+-- inferred records
+abbrev pub RECORD-COUNT : ℕ
+RECORD-COUNT = 9616
+
+abbrev pub RECORD-FIELD-COUNT : ℕ
+RECORD-FIELD-COUNT = 9617
+
+abbrev pub ENV-LEN : ℕ
+ENV-LEN = 9618
+
+abbrev pub DIAGNOSTIC-COUNT : ℕ
+DIAGNOSTIC-COUNT = 9619
+
+abbrev pub UNKNOWNS : ℕ
+UNKNOWNS = 9620
+
+-- 512 inferred records, a word each: where the fields start times 1,024, and their number
+abbrev pub RECORDS : ℕ
+RECORDS = 9632
+
+-- 512 fields, two words each: the name times 16 and the tag; the payload
+abbrev pub RECORD-FIELDS : ℕ
+RECORD-FIELDS = 10144
+
+-- 512 entries, a word each: the variable times 65,536 and the unknown
+abbrev pub ENV : ℕ
+ENV = 11168
+
+-- 1,536 diagnostics, two to a word, the first in the low half: the node times 16 and the code
+abbrev pub DIAGNOSTICS : ℕ
+DIAGNOSTICS = 11680
+
+-- 512 node types, two words each: the tag, 0 for none, and the payload
+abbrev pub TYS : ℕ
+TYS = 12448
+
+abbrev pub UNDO-LEN : ℕ
+UNDO-LEN = 13472
+
+-- 512 bindings, two words each: the tag, 0 for free, and the payload
+abbrev pub BINDINGS : ℕ
+BINDINGS = 13473
+
+-- 1,024 entries: an unknown's number, or 65,536 and a node's
+abbrev pub UNDO : ℕ
+UNDO = 14497
+
+abbrev pub END : ℕ
+END = 15521
