@@ -1,0 +1,82 @@
+//! The commands of the judge. `oracle help` lists them.
+
+mod options;
+mod printed;
+mod selftest;
+
+use std::io::{Read, Write};
+use std::process::ExitCode;
+
+use judge::Limits;
+use options::Options;
+
+const HELP: &str = "\
+oracle answer [--words N] [--bytes N] [--visits]
+    Reads a file on standard input and prints its answer: the lines, or 0f and the refusal's number.
+    --words and --bytes are the lengths of the two slices (16384 and 65536).
+    --visits prints the line `visits N` on standard error as well.
+    A file that the Rust can't hold prints nothing, says why on standard error and ends with status 2.
+
+oracle selftest
+    Every example of document 01, and the text examples of RFC 3629.
+
+oracle help
+    This text.
+
+The sources are compiled in: building with ORACLE_SRC=FOLDER takes them from another folder docs/src.
+";
+
+/// How a command ended: whether all was well, or why it could not be done.
+type Done = Result<bool, String>;
+
+fn main() -> ExitCode {
+    let given: Vec<String> = std::env::args().skip(1).collect();
+    let done = judge::on_large_stack(move || run(&given));
+    match done {
+        Ok(true) => ExitCode::SUCCESS,
+        Ok(false) => ExitCode::FAILURE,
+        Err(why) => {
+            eprintln!("oracle: {why}");
+            ExitCode::from(2)
+        }
+    }
+}
+
+fn run(given: &[String]) -> Done {
+    let Some((command, rest)) = given.split_first() else {
+        print!("{HELP}");
+        return Ok(true);
+    };
+    match command.as_str() {
+        "answer" => answer(rest),
+        "selftest" => selftest::run(rest),
+        "help" | "--help" => {
+            print!("{HELP}");
+            Ok(true)
+        }
+        "--src" => Err("the sources are compiled in; build with ORACLE_SRC=FOLDER".to_owned()),
+        other => Err(format!("no command {other:?}; see `oracle help`")),
+    }
+}
+
+fn answer(given: &[String]) -> Done {
+    let options = Options::parse(given, &["words", "bytes"], &["visits"])?;
+    let mut limits = Limits::default();
+    limits.words = options.number("words")?.unwrap_or(limits.words);
+    limits.bytes = options.number("bytes")?.unwrap_or(limits.bytes);
+
+    let mut file = vec![];
+    std::io::stdin()
+        .read_to_end(&mut file)
+        .map_err(|why| format!("standard input: {why}"))?;
+    let ran = judge::answer(&file, &limits);
+    if options.flag("visits") {
+        eprintln!("visits {}", ran.visits);
+    }
+    let text = printed::printed(&ran.answer)
+        .map_err(|why| format!("the Rust can't hold this file: {why}"))?;
+    std::io::stdout()
+        .write_all(&text)
+        .map_err(|why| format!("standard output: {why}"))?;
+    Ok(true)
+}

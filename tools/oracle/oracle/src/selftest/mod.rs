@@ -1,0 +1,97 @@
+//! `oracle selftest`: what document 01 says outright, held against the judge.
+//!
+//! The expected answers and visits were worked out from document 01 by hand and not by running.
+
+mod examples;
+mod reading;
+mod refusals;
+mod texts;
+
+use judge::{Answer, Limits, Ran};
+
+use crate::Done;
+use crate::options::Options;
+
+/// Counts of one group of cases.
+pub struct Group {
+    name: &'static str,
+    passed: usize,
+    failed: usize,
+}
+
+impl Group {
+    fn new(name: &'static str) -> Self {
+        Group {
+            name,
+            passed: 0,
+            failed: 0,
+        }
+    }
+
+    /// Counts one case, and tells of it where the two differ.
+    pub fn same<T: PartialEq + std::fmt::Debug>(&mut self, case: &str, found: T, expected: T) {
+        if found == expected {
+            self.passed += 1;
+        } else {
+            self.failed += 1;
+            println!("FAILED {}: {case}", self.name);
+            println!("  expected {expected:?}");
+            println!("  found    {found:?}");
+        }
+    }
+
+    /// A file that is turned down.
+    pub fn refused(&mut self, case: &str, file: &[u8], number: u8) {
+        let found = judge::answer(file, &Limits::default()).answer;
+        self.same(case, found, Answer::Refused(number));
+    }
+
+    /// A file that passes the reading.
+    pub fn read(&mut self, case: &str, file: &[u8]) {
+        let found = judge::read(file, &Limits::default()).err();
+        self.same(case, found, None);
+    }
+}
+
+/// The bytes of lines written one under another; blanks within a line are for the reader's eye.
+pub fn lines(text: &str) -> Vec<u8> {
+    let mut file = vec![];
+    for line in text.lines() {
+        let line: String = line.split_whitespace().collect();
+        if !line.is_empty() {
+            file.extend_from_slice(line.as_bytes());
+            file.push(b'\n');
+        }
+    }
+    file
+}
+
+/// The diagnostic line at a span.
+pub fn report(start: u32, end: u32, code: &str) -> String {
+    let digits: String = code.bytes().map(|byte| format!("{byte:02x}")).collect();
+    format!("08{start:08x}{end:08x}{digits}\n")
+}
+
+fn default(file: &[u8]) -> Ran {
+    judge::answer(file, &Limits::default())
+}
+
+pub fn run(given: &[String]) -> Done {
+    Options::parse(given, &[], &[])?;
+    let mut total = (0, 0);
+    let groups: [(&'static str, fn(&mut Group)); 5] = [
+        ("the examples of document 01", examples::whole),
+        ("the table of refusals", refusals::run),
+        ("the list of the computed table", examples::table),
+        ("the examples of RFC 3629", texts::run),
+        ("the rules of reading", reading::run),
+    ];
+    for (name, cases) in groups {
+        let mut group = Group::new(name);
+        cases(&mut group);
+        println!("{name}: {} passed, {} failed", group.passed, group.failed);
+        total = (total.0 + group.passed, total.1 + group.failed);
+    }
+    println!("selftest: {} passed, {} failed", total.0, total.1);
+    Ok(total.1 == 0)
+}
