@@ -1,8 +1,16 @@
 //! The commands of the judge. `oracle help` lists them.
 
+mod calls;
+mod compare;
+mod corpus;
+mod mismatch;
 mod options;
+mod port;
 mod printed;
+mod record;
 mod selftest;
+mod shrink;
+mod tally;
 
 use std::io::{Read, Write};
 use std::process::ExitCode;
@@ -16,6 +24,21 @@ oracle answer [--words N] [--bytes N] [--visits]
     --words and --bytes are the lengths of the two slices (16384 and 65536).
     --visits prints the line `visits N` on standard error as well.
     A file that the Rust can't hold prints nothing, says why on standard error and ends with status 2.
+
+oracle compare answers --seed S --count N [--style NAME] [--program P] [--out DIR]
+oracle compare reading --seed S --count N [--style NAME] [--out DIR]
+oracle compare calls   --seed S --count N [--style NAME] [--out DIR]
+    Holds the port against the Rust on generated files: the program P (with arguments, if it needs
+    some), from standard input to standard output, and the static library in process where it was
+    there when oracle was built, with both slices full of ff before each call. Each mismatch is kept
+    with both outputs and a smaller file that shows it too, in target/mismatch or DIR. Counts files
+    by refusal, code, node shape and statement. Ends with status 1 where there is a mismatch.
+    `--bytes-exhaustive FILE` in place of --seed and --count takes each prefix of FILE, FILE without
+    each byte, and FILE with each byte changed to each other value.
+
+oracle record [--check]
+    Writes vectors/answers.bin, the recorded sample of answers; with --check holds it against the
+    generator and the Rust instead.
 
 oracle selftest
     Every example of document 01, and the text examples of RFC 3629.
@@ -49,6 +72,8 @@ fn run(given: &[String]) -> Done {
     };
     match command.as_str() {
         "answer" => answer(rest),
+        "compare" => compare::run(rest),
+        "record" => record::run(rest),
         "selftest" => selftest::run(rest),
         "help" | "--help" => {
             print!("{HELP}");

@@ -2,7 +2,7 @@
 //!
 //! The expected answers and visits were worked out from document 01 by hand and not by running.
 
-mod examples;
+pub mod examples;
 mod reading;
 mod refusals;
 mod texts;

@@ -1,0 +1,100 @@
+//! The files that a run goes through.
+
+use crate::options::Options;
+
+/// One file, and what it is called in reports.
+pub struct Item {
+    pub name: String,
+    pub file: Vec<u8>,
+}
+
+/// Where a run's files come from.
+pub enum Corpus {
+    /// `count` generated files from `seed` on, going round the styles.
+    Generated {
+        styles: Vec<&'static str>,
+        seed: u64,
+        count: u64,
+    },
+    /// A file and all that one byte can do to it.
+    Neighbours(Vec<u8>),
+}
+
+/// The options that `Corpus::from` reads.
+pub const OPTIONS: [&str; 4] = ["seed", "count", "style", "bytes-exhaustive"];
+
+impl Corpus {
+    pub fn from(options: &Options) -> Result<Corpus, String> {
+        if let Some(path) = options.text("bytes-exhaustive") {
+            let file = std::fs::read(path).map_err(|why| format!("{path}: {why}"))?;
+            return Ok(Corpus::Neighbours(file));
+        }
+        Ok(Corpus::Generated {
+            styles: styles(options)?,
+            seed: options.needed("seed")?,
+            count: options.needed("count")?,
+        })
+    }
+
+    pub fn count(&self) -> u64 {
+        match self {
+            Corpus::Generated { count, .. } => *count,
+            // Each prefix; each byte dropped; each byte changed to each other value.
+            Corpus::Neighbours(file) => file.len() as u64 * 257 + 1,
+        }
+    }
+
+    pub fn item(&self, number: u64) -> Item {
+        match self {
+            Corpus::Generated { styles, seed, .. } => {
+                let style = styles[(number % styles.len() as u64) as usize];
+                let seed = seed.wrapping_add(number);
+                Item {
+                    name: format!("{style}-{seed}"),
+                    file: files::generate(style, seed),
+                }
+            }
+            Corpus::Neighbours(file) => neighbour(file, number as usize),
+        }
+    }
+}
+
+/// The styles asked for: one, or all.
+pub fn styles(options: &Options) -> Result<Vec<&'static str>, String> {
+    let Some(named) = options.text("style") else {
+        return Ok(files::STYLES.to_vec());
+    };
+    let known = files::STYLES.iter().find(|style| **style == named);
+    match known {
+        Some(style) => Ok(vec![style]),
+        None => Err(format!(
+            "no style {named:?}; there are {}",
+            files::STYLES.join(", ")
+        )),
+    }
+}
+
+fn neighbour(file: &[u8], number: usize) -> Item {
+    let length = file.len();
+    if number <= length {
+        return Item {
+            name: format!("first-{number}"),
+            file: file[..number].to_vec(),
+        };
+    }
+    let number = number - length - 1;
+    let mut file = file.to_vec();
+    if number < length {
+        file.remove(number);
+        return Item {
+            name: format!("without-{number}"),
+            file,
+        };
+    }
+    let (at, step) = ((number - length) / 255, (number - length) % 255);
+    file[at] = file[at].wrapping_add(1 + step as u8);
+    Item {
+        name: format!("byte-{at}-{:02x}", file[at]),
+        file,
+    }
+}
