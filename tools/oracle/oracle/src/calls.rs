@@ -19,7 +19,7 @@ fn other() -> Option<Box<dyn Other>> {
 }
 
 pub fn run(options: &Options) -> Done {
-    let styles = corpus::styles(options)?;
+    let style = corpus::style(options)?;
     let (seed, count): (u64, u64) = (options.needed("seed")?, options.needed("count")?);
     let mut other = other();
     if other.is_none() {
@@ -30,7 +30,6 @@ pub fn run(options: &Options) -> Done {
     let mut seen = Seen::default();
 
     for number in 0..count {
-        let style = styles[(number % styles.len() as u64) as usize];
         let mut random = Random::new(seed.wrapping_add(number));
         let Some((bytes, file)) = schema(style, &mut random) else {
             seen.no_schema += 1;
@@ -74,9 +73,10 @@ pub fn run(options: &Options) -> Done {
 }
 
 /// A generated file past refusals 1 to 10, if a few tries find one.
-fn schema(style: &str, random: &mut Random) -> Option<(Vec<u8>, File)> {
+fn schema(style: Option<&str>, random: &mut Random) -> Option<(Vec<u8>, File)> {
     for _ in 0..8 {
-        let bytes = files::generate(style, random.next());
+        let seed = random.next();
+        let bytes = files::generate(style.unwrap_or_else(|| files::pick(seed)), seed);
         if let Ok(file) = judge::read(&bytes, &Limits::default()) {
             return Some((bytes, file));
         }

@@ -10,9 +10,10 @@ pub struct Item {
 
 /// Where a run's files come from.
 pub enum Corpus {
-    /// `count` generated files from `seed` on, going round the styles.
+    /// `count` generated files, one for each seed from `seed` on: of one style, or of the style that
+    /// the generator picks for the seed.
     Generated {
-        styles: Vec<&'static str>,
+        style: Option<&'static str>,
         seed: u64,
         count: u64,
     },
@@ -30,7 +31,7 @@ impl Corpus {
             return Ok(Corpus::Neighbours(file));
         }
         Ok(Corpus::Generated {
-            styles: styles(options)?,
+            style: style(options)?,
             seed: options.needed("seed")?,
             count: options.needed("count")?,
         })
@@ -46,9 +47,9 @@ impl Corpus {
 
     pub fn item(&self, number: u64) -> Item {
         match self {
-            Corpus::Generated { styles, seed, .. } => {
-                let style = styles[(number % styles.len() as u64) as usize];
+            Corpus::Generated { style, seed, .. } => {
                 let seed = seed.wrapping_add(number);
+                let style = style.unwrap_or_else(|| files::pick(seed));
                 Item {
                     name: format!("{style}-{seed}"),
                     file: files::generate(style, seed),
@@ -59,14 +60,14 @@ impl Corpus {
     }
 }
 
-/// The styles asked for: one, or all.
-pub fn styles(options: &Options) -> Result<Vec<&'static str>, String> {
+/// The style asked for, if one is.
+pub fn style(options: &Options) -> Result<Option<&'static str>, String> {
     let Some(named) = options.text("style") else {
-        return Ok(files::STYLES.to_vec());
+        return Ok(None);
     };
     let known = files::STYLES.iter().find(|style| **style == named);
     match known {
-        Some(style) => Ok(vec![style]),
+        Some(style) => Ok(Some(style)),
         None => Err(format!(
             "no style {named:?}; there are {}",
             files::STYLES.join(", ")
