@@ -3,6 +3,7 @@
 //! The expected answers and visits were worked out from document 01 by hand and not by running.
 
 pub mod examples;
+mod large;
 mod reading;
 mod refusals;
 mod texts;
@@ -79,12 +80,13 @@ fn default(file: &[u8]) -> Ran {
 pub fn run(given: &[String]) -> Done {
     Options::parse(given, &[], &[])?;
     let mut total = (0, 0);
-    let groups: [(&'static str, fn(&mut Group)); 5] = [
+    let groups: [(&'static str, fn(&mut Group)); 6] = [
         ("the examples of document 01", examples::whole),
         ("the table of refusals", refusals::run),
         ("the list of the computed table", examples::table),
         ("the examples of RFC 3629", texts::run),
         ("the rules of reading", reading::run),
+        ("types too large", large::run),
     ];
     for (name, cases) in groups {
         let mut group = Group::new(name);
