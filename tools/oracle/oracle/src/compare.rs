@@ -8,8 +8,19 @@ use crate::corpus::{self, Corpus, Item};
 use crate::mismatch::Mismatches;
 use crate::options::Options;
 use crate::port::Port;
-use crate::shrink::shrink;
 use crate::tally::{Progress, Tally};
+
+/// The most files tried to make one that shows a mismatch smaller.
+const TRIES: usize = 20_000;
+
+/// A smaller file that still differs, as far as the tries go.
+fn shrink(file: &[u8], differs: impl Fn(&[u8]) -> bool) -> Vec<u8> {
+    let mut tries = 0;
+    trial::shrink(file, &mut |smaller| {
+        tries += 1;
+        tries <= TRIES && differs(smaller)
+    })
+}
 
 pub fn run(given: &[String]) -> Done {
     let mut known = corpus::OPTIONS.to_vec();

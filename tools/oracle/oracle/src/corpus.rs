@@ -10,8 +10,8 @@ pub struct Item {
 
 /// Where a run's files come from.
 pub enum Corpus {
-    /// `count` generated files, one for each seed from `seed` on: of one style, or of the style that
-    /// the generator picks for the seed.
+    /// The first `count` files of the run of that seed, of one style or of the style that the
+    /// generator picks for each.
     Generated {
         style: Option<&'static str>,
         seed: u64,
@@ -48,11 +48,13 @@ impl Corpus {
     pub fn item(&self, number: u64) -> Item {
         match self {
             Corpus::Generated { style, seed, .. } => {
-                let seed = seed.wrapping_add(number);
-                let style = style.unwrap_or_else(|| files::pick(seed));
+                let (style, file) = match style {
+                    Some(style) => (*style, files::generate(style, trial::nth(*seed, number))),
+                    None => trial::file(*seed, number),
+                };
                 Item {
-                    name: format!("{style}-{seed}"),
-                    file: files::generate(style, seed),
+                    name: format!("{style}-{seed}-{number}"),
+                    file,
                 }
             }
             Corpus::Neighbours(file) => neighbour(file, number as usize),

@@ -9,8 +9,8 @@ mod port;
 mod printed;
 mod record;
 mod selftest;
-mod shrink;
 mod tally;
+mod trials;
 
 use std::io::{Read, Write};
 use std::process::ExitCode;
@@ -24,6 +24,19 @@ oracle answer [--words N] [--bytes N] [--visits]
     --words and --bytes are the lengths of the two slices (16384 and 65536).
     --visits prints the line `visits N` on standard error as well.
     A file that the Rust can't hold prints nothing, says why on standard error and ends with status 2.
+
+oracle generate --seed S --count N [--style NAME] [--out DIR]
+    Makes files and counts what they are; with --out writes each into DIR. The same seed gives the
+    same files.
+
+oracle agree --seed S --count N [--out DIR]
+    Holds the judge (first reader, unchanged Rust, counted copy) against the model (second reader,
+    second checker, second count) on generated files, with slices and visits around each boundary.
+    Ends with status 1 where there is a mismatch.
+
+oracle mutants [--seed S] [--count N]
+    Switches on each mistake of a list in the model and says which the files tell from the right
+    one. Ends with status 1 unless all that are wrong are told, and none that is equal in behaviour.
 
 oracle compare answers --seed S --count N [--style NAME] [--program P] [--out DIR]
 oracle compare reading --seed S --count N [--style NAME] [--out DIR]
@@ -71,8 +84,11 @@ fn run(given: &[String]) -> Done {
         return Ok(true);
     };
     match command.as_str() {
+        "agree" => trials::agree(rest),
         "answer" => answer(rest),
         "compare" => compare::run(rest),
+        "generate" => trials::generate(rest),
+        "mutants" => trials::mutants(rest),
         "record" => record::run(rest),
         "selftest" => selftest::run(rest),
         "help" | "--help" => {

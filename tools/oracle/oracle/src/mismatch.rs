@@ -6,6 +6,12 @@ use std::path::PathBuf;
 /// After so many a run ends: something is wrong with more than a corner.
 const MOST: u64 = 50;
 
+/// The folder that mismatches are kept in, where no other is named.
+pub fn folder(out: Option<&str>) -> PathBuf {
+    let default = concat!(env!("CARGO_MANIFEST_DIR"), "/../target/mismatch");
+    PathBuf::from(out.unwrap_or(default))
+}
+
 /// The folder of a run's mismatches, and how many there are.
 pub struct Mismatches {
     folder: PathBuf,
@@ -14,9 +20,8 @@ pub struct Mismatches {
 
 impl Mismatches {
     pub fn new(out: Option<&str>) -> Self {
-        let default = concat!(env!("CARGO_MANIFEST_DIR"), "/../target/mismatch");
         Mismatches {
-            folder: PathBuf::from(out.unwrap_or(default)),
+            folder: folder(out),
             count: 0,
         }
     }

@@ -1,0 +1,34 @@
+//! `trial agree SEED COUNT` and `trial mutants SEED COUNT`.
+
+use std::path::Path;
+use std::process::ExitCode;
+
+fn main() -> ExitCode {
+    let given: Vec<String> = std::env::args().skip(1).collect();
+    let [what, seed, count] = given.as_slice() else {
+        eprintln!("trial agree|mutants SEED COUNT");
+        return ExitCode::from(2);
+    };
+    let (Ok(seed), Ok(count)) = (seed.parse(), count.parse()) else {
+        eprintln!("SEED and COUNT are numbers");
+        return ExitCode::from(2);
+    };
+    let good = judge::on_large_stack(|| match what.as_str() {
+        "agree" => {
+            let agreed = trial::agree(seed, count, Path::new("mismatches"));
+            println!("{agreed:#?}");
+            agreed.mismatches == 0
+        }
+        "mutants" => {
+            let told = trial::mutants(seed, count);
+            println!("{:?}", told.surprises);
+            told.surprises.is_empty()
+        }
+        _ => false,
+    });
+    if good {
+        ExitCode::SUCCESS
+    } else {
+        ExitCode::FAILURE
+    }
+}
