@@ -12,11 +12,12 @@ use crate::Done;
 use crate::options::Options;
 use crate::printed::printed;
 use crate::selftest;
+use crate::tally::Tally;
 
 const STORED: &str = concat!(env!("CARGO_MANIFEST_DIR"), "/../../../vectors/answers.bin");
 
 /// Cases of each style, from the seeds 0 on.
-const EACH: usize = 40;
+const EACH: u64 = 50;
 /// Seeds tried for them.
 const TRIES: u64 = 400;
 /// A case's file and answer are shorter than these, and the whole sample than that.
@@ -27,19 +28,21 @@ const SAMPLE_BYTES: usize = 1_500_000;
 pub fn run(given: &[String]) -> Done {
     let options = Options::parse(given, &["to"], &["check"])?;
     let path = options.text("to").unwrap_or(STORED);
-    let (sample, cases) = sample();
-    if sample.len() > SAMPLE_BYTES {
-        return Err(format!("the sample has {} bytes, too many", sample.len()));
+    let (Sample { bytes, tally, .. }, by_style) = sample();
+    if bytes.len() > SAMPLE_BYTES {
+        return Err(format!("the sample has {} bytes, too many", bytes.len()));
     }
     if !options.flag("check") {
-        fs::write(path, &sample).map_err(|why| format!("{path}: {why}"))?;
-        println!("record: {cases} cases, {} bytes", sample.len());
+        fs::write(path, &bytes).map_err(|why| format!("{path}: {why}"))?;
+        println!("cases by style: {}", by_style.join(", "));
+        tally.print();
+        println!("record: {} cases, {} bytes", tally.files, bytes.len());
         return Ok(true);
     }
 
     let stored = fs::read(path).map_err(|why| format!("{path}: {why}"))?;
     let (stored_cases, differing) = replay(&stored)?;
-    let same = stored == sample;
+    let same = stored == bytes;
     println!(
         "record --check: {stored_cases} cases, {differing} answered otherwise, {}",
         if same {
@@ -51,28 +54,30 @@ pub fn run(given: &[String]) -> Done {
     Ok(same && differing == 0)
 }
 
-/// The sample and the number of its cases: the files of document 01, then each style's.
-fn sample() -> (Vec<u8>, usize) {
+/// The sample and how many cases each style has: the files of document 01, then each style's.
+fn sample() -> (Sample, Vec<String>) {
     let mut sample = Sample::default();
-    for file in selftest::examples::files() {
+    for file in selftest::small_files() {
         sample.add(&file);
     }
+    let mut by_style = vec![format!("document 01 {}", sample.tally.files)];
     for style in files::STYLES {
-        let before = sample.cases;
+        let before = sample.tally.files;
         for seed in 0..TRIES {
             sample.add(&files::generate(style, seed));
-            if sample.cases - before == EACH {
+            if sample.tally.files - before == EACH {
                 break;
             }
         }
+        by_style.push(format!("{style} {}", sample.tally.files - before));
     }
-    (sample.bytes, sample.cases)
+    (sample, by_style)
 }
 
 #[derive(Default)]
 struct Sample {
     bytes: Vec<u8>,
-    cases: usize,
+    tally: Tally,
     seen: BTreeSet<Vec<u8>>,
 }
 
@@ -82,7 +87,9 @@ impl Sample {
         if file.len() >= FILE_BYTES || self.seen.contains(file) {
             return;
         }
-        let Ok(answer) = printed(&judge::answer(file, &Limits::default()).answer) else {
+        let limits = Limits::default();
+        let ran = judge::answer(file, &limits);
+        let Ok(answer) = printed(&ran.answer) else {
             return;
         };
         if answer.len() >= ANSWER_BYTES {
@@ -93,7 +100,8 @@ impl Sample {
             self.bytes.extend_from_slice(&length.to_be_bytes());
             self.bytes.extend_from_slice(part);
         }
-        self.cases += 1;
+        self.tally
+            .add(&ran, judge::read(file, &limits).ok().as_ref());
         self.seen.insert(file.to_vec());
     }
 }

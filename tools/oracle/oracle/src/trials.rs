@@ -62,12 +62,5 @@ pub fn mutants(given: &[String]) -> Done {
     for surprise in &told.surprises {
         println!("SURPRISE {surprise}");
     }
-    println!(
-        "mutants: {} of {} wrong ones told apart, {} equal in behaviour, {} surprises",
-        told.told,
-        told.wrong,
-        told.equal,
-        told.surprises.len()
-    );
     Ok(told.surprises.is_empty())
 }

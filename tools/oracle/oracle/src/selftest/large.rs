@@ -17,6 +17,12 @@ pub fn run(group: &mut Group) {
     let fits = matches!(ran.answer, Answer::Lines(_));
     group.same("a key of 2^8 parts fits", fits, true);
 
+    // p a: binding the variable a walks the whole key.
+    let expected = [Answer::Refused(12), Answer::Refused(11)];
+    for (file, expected) in files().zip(expected) {
+        group.same("a small file", default(&file).answer, expected);
+    }
+
     // The same schema, not used: nothing is copied.
     let mut unused = doubled_key(60);
     unused.nodes[1].shape = Shape::Error;
@@ -41,6 +47,15 @@ pub fn run(group: &mut Group) {
     group.same("its visits", ran.visits, 10 * 4 + 2047 + 2047);
     let ran = default(&judge::encode(&compared(60, Shape::Var(0))));
     group.same("2^60 parts unified", ran.answer, Answer::Refused(11));
+}
+
+/// Small files that get 12 and 11.
+pub fn files() -> impl Iterator<Item = Vec<u8>> {
+    let mut walked = doubled_key(20);
+    walked.nodes[0].shape = Shape::Var(0);
+    [doubled_key(12), walked]
+        .into_iter()
+        .map(|file| judge::encode(&file))
 }
 
 /// p _, where p's key is a record of two of a record of two and so on.

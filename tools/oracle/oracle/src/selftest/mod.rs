@@ -2,7 +2,7 @@
 //!
 //! The expected answers and visits were worked out from document 01 by hand and not by running.
 
-pub mod examples;
+mod examples;
 mod large;
 mod reading;
 mod refusals;
@@ -75,6 +75,11 @@ pub fn report(start: u32, end: u32, code: &str) -> String {
 
 fn default(file: &[u8]) -> Ran {
     judge::answer(file, &Limits::default())
+}
+
+/// Files of the self-test that are small enough to be recorded.
+pub fn small_files() -> impl Iterator<Item = Vec<u8>> {
+    examples::files().chain(large::files())
 }
 
 pub fn run(given: &[String]) -> Done {
