@@ -25,7 +25,7 @@ fn shrink(file: &[u8], differs: impl Fn(&[u8]) -> bool) -> Vec<u8> {
 pub fn run(given: &[String]) -> Done {
     let mut known = corpus::OPTIONS.to_vec();
     known.extend(["program", "out"]);
-    let options = Options::parse(given, &known, &[])?;
+    let options = Options::parse(given, &known, &["model", corpus::SHORT])?;
     match &options.words[..] {
         [what] if what == "answers" => answers(&options),
         [what] if what == "reading" => reading(&options),
@@ -44,16 +44,19 @@ fn ports(options: &Options) -> Result<Vec<Port>, String> {
         }
         ports.push(Port::Program(command));
     }
+    if options.flag("model") {
+        ports.push(Port::Model);
+    }
     if linked::HAS_CHECK {
         ports.push(Port::Library);
     }
     if ports.is_empty() {
         return Err(format!(
-            "nothing to compare with: {NO_LIBRARY}, and no --program"
+            "nothing to compare with: {NO_LIBRARY}, no --program and no --model"
         ));
     }
     if !linked::HAS_CHECK {
-        eprintln!("{NO_LIBRARY}: only the program is compared");
+        eprintln!("{NO_LIBRARY}, so it is not compared");
     }
     Ok(ports)
 }
@@ -81,7 +84,7 @@ fn answers(options: &Options) -> Done {
         for port in &ports {
             asked += 1;
             compare(port, &item, &limits, &mut mismatches)?;
-            if let Port::Library = port {
+            if !matches!(port, Port::Program(_)) {
                 // Slices of other lengths, a different pair for each file.
                 asked += 1;
                 compare(port, &item, &other_limits(&ran, number), &mut mismatches)?;

@@ -19,16 +19,24 @@ pub enum Corpus {
     },
     /// A file and all that one byte can do to it.
     Neighbours(Vec<u8>),
+    /// Every file of up to two bytes, and every second line of one and two bytes after a right
+    /// first one.
+    Short,
 }
 
-/// The options that `Corpus::from` reads.
+/// The options with a value that `Corpus::from` reads.
 pub const OPTIONS: [&str; 4] = ["seed", "count", "style", "bytes-exhaustive"];
+/// The flag that it reads.
+pub const SHORT: &str = "short";
 
 impl Corpus {
     pub fn from(options: &Options) -> Result<Corpus, String> {
         if let Some(path) = options.text("bytes-exhaustive") {
             let file = std::fs::read(path).map_err(|why| format!("{path}: {why}"))?;
             return Ok(Corpus::Neighbours(file));
+        }
+        if options.flag(SHORT) {
+            return Ok(Corpus::Short);
         }
         Ok(Corpus::Generated {
             style: style(options)?,
@@ -42,6 +50,7 @@ impl Corpus {
             Corpus::Generated { count, .. } => *count,
             // Each prefix; each byte dropped; each byte changed to each other value.
             Corpus::Neighbours(file) => file.len() as u64 * 257 + 1,
+            Corpus::Short => 2 * STRINGS - 1,
         }
     }
 
@@ -58,6 +67,7 @@ impl Corpus {
                 }
             }
             Corpus::Neighbours(file) => neighbour(file, number as usize),
+            Corpus::Short => short(number),
         }
     }
 }
@@ -74,6 +84,37 @@ pub fn style(options: &Options) -> Result<Option<&'static str>, String> {
             "no style {named:?}; there are {}",
             files::STYLES.join(", ")
         )),
+    }
+}
+
+/// Byte strings of up to two bytes.
+const STRINGS: u64 = 1 + 256 + 65_536;
+
+fn string(number: u64) -> Vec<u8> {
+    match number {
+        0 => vec![],
+        1..=256 => vec![(number - 1) as u8],
+        _ => ((number - 257) as u16).to_be_bytes().to_vec(),
+    }
+}
+
+fn short(number: u64) -> Item {
+    if number < STRINGS {
+        let file = string(number);
+        return Item {
+            name: format!("bytes-{file:02x?}"),
+            file,
+        };
+    }
+    let mut file = b"01020020\n".to_vec();
+    let frame = string(number - STRINGS + 1);
+    for byte in &frame {
+        file.extend_from_slice(format!("{byte:02x}").as_bytes());
+    }
+    file.push(b'\n');
+    Item {
+        name: format!("frame-{frame:02x?}"),
+        file,
     }
 }
 

@@ -46,8 +46,10 @@ oracle compare calls   --seed S --count N [--style NAME] [--out DIR]
     there when oracle was built, with both slices full of ff before each call. Each mismatch is kept
     with both outputs and a smaller file that shows it too, in target/mismatch or DIR. Counts files
     by refusal, code, node shape and statement. Ends with status 1 where there is a mismatch.
-    `--bytes-exhaustive FILE` in place of --seed and --count takes each prefix of FILE, FILE without
-    each byte, and FILE with each byte changed to each other value.
+    In place of --seed and --count: `--bytes-exhaustive FILE` takes each prefix of FILE, FILE without
+    each byte, and FILE with each byte changed to each other value; `--short` takes every file of up
+    to two bytes, and every line of up to two bytes after a right first line.
+    `--model` holds the model against the Rust, as `agree` does, on these files too.
 
 oracle record [--check]
     Writes vectors/answers.bin, the recorded sample of answers; with --check holds it against the

@@ -1,17 +1,19 @@
-//! The port, as a program or as calls in process.
+//! What is held against the Rust: the port, as a program or as calls in process, or the model.
 
 use std::io::{Read, Write};
 use std::process::{Command, Stdio};
 
 use judge::{Answer, Limits};
 
-/// How the port is asked for a file's answer.
+/// How it is asked for a file's answer.
 pub enum Port {
     /// A program from standard input to standard output, with its arguments. It lends the slices
     /// of document 01.
     Program(Vec<String>),
     /// The static library, with slices of any length.
     Library,
+    /// No port: the model, so that judge and model can be held together on chosen files too.
+    Model,
 }
 
 /// What the port gave: as many bytes as can be held against what was expected.
@@ -22,6 +24,7 @@ impl Port {
         match self {
             Port::Program(_) => "program",
             Port::Library => "library",
+            Port::Model => "model",
         }
     }
 
@@ -35,6 +38,16 @@ impl Port {
         match self {
             Port::Program(command) => {
                 Ok((program(command, file)?, crate::printed::printed(expected)?))
+            }
+            Port::Model => {
+                let answer = match model::answer(file, &trial::as_model(limits), None).answer {
+                    model::Answer::Lines(lines) => Answer::Lines(lines),
+                    model::Answer::Refused(number) => Answer::Refused(number),
+                };
+                Ok((
+                    crate::printed::printed(&answer)?,
+                    crate::printed::printed(expected)?,
+                ))
             }
             Port::Library => {
                 let (number, work, answer) = library(file, limits);

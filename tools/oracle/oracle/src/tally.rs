@@ -1,9 +1,9 @@
-//! Counts of what a run has seen: answers by kind, codes, node shapes, statement kinds.
+//! Counts of what a run has seen: files by answer, code, node shape and statement kind.
 
-use std::collections::BTreeMap;
+use std::collections::{BTreeMap, BTreeSet};
 use std::time::{Duration, Instant};
 
-use judge::{Answer, File, Query, Ran, Shape, Stmt};
+use judge::{Answer, File, Ran, Shape, Stmt};
 
 #[derive(Default)]
 pub struct Tally {
@@ -25,23 +25,26 @@ impl Tally {
             Answer::Refused(number) => *self.refused.entry(*number).or_default() += 1,
             Answer::LeftOut(why) => *self.left_out.entry(why).or_default() += 1,
         }
-        for code in &ran.codes {
+        // A file counts once for each code, shape and statement that it has, however often.
+        for code in ran.codes.iter().collect::<BTreeSet<_>>() {
             *self.codes.entry(code).or_default() += 1;
         }
-        if let Some(file) = read {
-            self.add_query(&file.query);
-            for node in &file.nodes {
-                self.shapes[usize::from(node.shape.byte())] += 1;
-                if let Shape::Subquery(query) = &node.shape {
-                    self.add_query(query);
-                }
+        let Some(file) = read else {
+            return;
+        };
+        let mut stmts: BTreeSet<u8> = file.query.body.iter().map(Stmt::byte).collect();
+        let mut shapes = BTreeSet::new();
+        for node in &file.nodes {
+            shapes.insert(node.shape.byte());
+            if let Shape::Subquery(query) = &node.shape {
+                stmts.extend(query.body.iter().map(Stmt::byte));
             }
         }
-    }
-
-    fn add_query(&mut self, query: &Query) {
-        for stmt in &query.body {
-            self.stmts[usize::from(stmt.byte())] += 1;
+        for shape in shapes {
+            self.shapes[usize::from(shape)] += 1;
+        }
+        for stmt in stmts {
+            self.stmts[usize::from(stmt)] += 1;
         }
     }
 
@@ -58,15 +61,15 @@ impl Tally {
         println!("files {}, accepted {}", self.files, self.accepted);
         print_counts("refused", refused);
         print_counts("left out", named(&self.left_out));
-        print_counts("diagnostics", named(&self.codes));
+        print_counts("with a diagnostic", named(&self.codes));
         let shapes = Shape::NAMES.iter().zip(self.shapes);
         print_counts(
-            "nodes",
+            "with a node",
             shapes.map(|(name, count)| ((*name).to_owned(), count)),
         );
         let stmts = Stmt::NAMES.iter().zip(self.stmts);
         print_counts(
-            "statements",
+            "with a statement",
             stmts.map(|(name, count)| ((*name).to_owned(), count)),
         );
     }
