@@ -13,6 +13,9 @@ use judge::{Answer, Limits, Ran};
 use crate::Done;
 use crate::options::Options;
 
+/// What runs the cases of a group.
+type Cases = fn(&mut Group);
+
 /// Counts of one group of cases.
 pub struct Group {
     name: &'static str,
@@ -85,7 +88,7 @@ pub fn small_files() -> impl Iterator<Item = Vec<u8>> {
 pub fn run(given: &[String]) -> Done {
     Options::parse(given, &[], &[])?;
     let mut total = (0, 0);
-    let groups: [(&'static str, fn(&mut Group)); 6] = [
+    let groups: [(&'static str, Cases); 6] = [
         ("the examples of document 01", examples::whole),
         ("the table of refusals", refusals::run),
         ("the list of the computed table", examples::table),
