@@ -40,6 +40,18 @@ pub fn characters(rng: &mut Rng) -> Vec<u8> {
     file
 }
 
+/// One character that is no digit, or a digit spelt otherwise.
+pub fn spelling(rng: &mut Rng) -> Vec<u8> {
+    let mut file = valid::tiny(rng);
+    let at = rng.below(file.len());
+    if rng.chance(70) {
+        file[at] = rng.pick(NEAR);
+    } else {
+        file[at] = file[at].to_ascii_uppercase();
+    }
+    file
+}
+
 /// Lines: dropped, doubled, swapped, moved.
 pub fn lines(rng: &mut Rng) -> Vec<u8> {
     let mut of = split(&sound(rng));

@@ -193,26 +193,38 @@ fn unknowns(rng: &mut Rng, draft: &mut Draft, length: usize) {
     draft.head = draft.var(names[0]);
 }
 
-/// Unions within unions, with as many alternatives as a line holds.
+/// Unions within unions, with as many alternatives as a line holds; where the file has
+/// room for it, the second is another type, with its alternatives in another order.
 fn unions(rng: &mut Rng, draft: &mut Draft, width: usize) {
-    for _ in 0..2 {
-        let mut ty = draft.ty(Shape::Int);
-        for _ in 0..width {
-            let mut alternatives: Vec<_> = (0..width).map(|n| (0, n as u32, 0)).collect();
-            let inner = rng.below(width);
-            alternatives[inner].2 = ty;
-            if rng.chance(30) {
-                alternatives.reverse();
-            }
-            ty = draft.ty(Shape::Union(alternatives));
-        }
-        let predicate = draft.predicate(0, ty, None);
+    let first = widest(rng, draft, width);
+    let second = if width < 40 {
+        widest(rng, draft, width)
+    } else {
+        first
+    };
+    for (predicate, ty) in [(0, first), (1, second)] {
+        draft.predicate(0, ty, None);
         let key = draft.var(1 + predicate);
         let fact = draft.node(Expr::Fact(predicate, key));
         draft.body.push(Stmt::Implicit(fact));
     }
     draft.equate(1, 2);
+    let (left, right) = (draft.var(1), draft.var(2));
+    draft.body.push(Stmt::Compare(left, right));
     draft.head = draft.node(Expr::Int);
+}
+
+fn widest(rng: &mut Rng, draft: &mut Draft, width: usize) -> u16 {
+    let mut ty = draft.ty(Shape::Int);
+    for _ in 0..width {
+        let mut alternatives: Vec<_> = (0..width).map(|n| (0, n as u32, 0)).collect();
+        alternatives[width - 1].2 = ty;
+        if rng.chance(30) {
+            alternatives.reverse();
+        }
+        ty = draft.ty(Shape::Union(alternatives));
+    }
+    ty
 }
 
 /// Three diagnostics for each of many nodes.

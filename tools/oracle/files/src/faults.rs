@@ -11,7 +11,7 @@ pub fn kinds(rng: &mut Rng) -> Vec<u8> {
     if rng.chance(80) {
         for kind in 1..=first {
             // What a later frame refers to stays, the rest may be left out.
-            if kind == first || [1, 5].contains(&kind) || rng.chance(70) {
+            if kind == first || [1, 5].contains(&kind) || rng.chance(85) {
                 file.push(minimal(kind, &file));
             }
         }
@@ -120,12 +120,15 @@ fn content(rng: &mut Rng, kind: u8, faults: &[u8], world: &World) -> Vec<u8> {
         }
         5 => {
             let node = if has(9) { beyond(rng, nodes) } else { 1 };
-            let name = if has(9) && rng.chance(30) {
+            let name = if has(9) && rng.chance(50) {
                 beyond(rng, names)
             } else {
                 1
             };
-            let expr = match rng.below(8) {
+            let expr = match rng.below(11) {
+                8 => Expr::Var(name),
+                9 => Expr::Prefix(name),
+                10 => Expr::Fuzzy(name, 1),
                 0 => Expr::Record(vec![(0, 0), (name, node)]),
                 1 => Expr::Disjunction(vec![0, node]),
                 2 => Expr::Arith(if has(9) { vec![0, 0] } else { vec![0] }),
@@ -201,13 +204,24 @@ fn spoil_line(rng: &mut Rng, mut line: Vec<u8>) -> Vec<u8> {
 pub fn two_faults(rng: &mut Rng) -> Vec<u8> {
     let first = rng.from_to(3, 10) as u8;
     let second = rng.from_to(3, 10) as u8;
-    let kind = rng.from_to(2, 6) as u8;
+    let kind = kind_for(rng, &[first, second]);
     let rest = rng.chance(70);
     let mut file = faulty(rng, kind, &[first, second]);
     if rest {
         file.extend(b"060000\n");
     }
     file
+}
+
+/// A kind whose frame can have those faults, as far as there is one.
+fn kind_for(rng: &mut Rng, faults: &[u8]) -> u8 {
+    let has = |fault| faults.contains(&fault);
+    match () {
+        _ if has(10) => 3,
+        _ if has(7) || has(8) => 2,
+        _ if has(5) => rng.from_to(2, 5) as u8,
+        _ => rng.from_to(3, 6) as u8,
+    }
 }
 
 fn faulty(rng: &mut Rng, kind: u8, faults: &[u8]) -> Vec<u8> {
@@ -239,8 +253,8 @@ fn faulty(rng: &mut Rng, kind: u8, faults: &[u8]) -> Vec<u8> {
 
 /// A fault on one line and another on the next.
 pub fn one_after_another(rng: &mut Rng) -> Vec<u8> {
-    let kind = rng.from_to(2, 6) as u8;
     let first = rng.from_to(3, 10) as u8;
+    let kind = kind_for(rng, &[first]);
     let mut file = faulty(rng, kind, &[first]);
     let world = world(None, 5);
     let kind = rng.from_to(kind as usize, 6) as u8;
@@ -268,14 +282,24 @@ pub fn one_frame(rng: &mut Rng) -> Vec<u8> {
             frame.extend((0..rng.pick(&[0, 0, 1, 2, 4, 8, 16])).map(|_| rng.below(2) as u8));
             frame
         }
-        4 => draft::predicate(
-            rng.below(3) as u16,
-            rng.below(3) as u16,
-            rng.chance(50).then_some(1),
-        ),
+        4 => {
+            let (name, key) = (rng.below(3) as u16, rng.below(3) as u16);
+            let mut frame = draft::predicate(name, key, rng.chance(50).then_some(1));
+            if rng.chance(20) {
+                frame[5] = rng.below(4) as u8;
+            }
+            frame
+        }
         5 => {
-            let mut frame = vec![5, 0, 0, 0, 1, 0, 0, 0, 2, rng.below(19) as u8];
-            let length = rng.pick(&[0, 0, 1, 2, 2, 3, 4, 4, 5, 6, 7, 8]);
+            let shape = rng.below(19);
+            let mut frame = vec![5, 0, 0, 0, 1, 0, 0, 0, 2, shape as u8];
+            // The length that the shape wants, where it wants one.
+            let wanted = [0, 0, 0, 2, 0, 0, 2, 3, 4, 4, 2, 4, 5, 4, 4, 0, 4, 0, 0];
+            let length = if rng.chance(70) {
+                wanted[shape]
+            } else {
+                rng.pick(&[0, 0, 1, 2, 2, 3, 4, 4, 5, 6, 7, 8])
+            };
             frame.extend((0..length).map(|at| if at % 2 == 1 { rng.below(6) as u8 } else { 0 }));
             frame
         }

@@ -35,8 +35,8 @@ pub const CALM: Taste = Taste {
     nodes: 50,
 };
 
-const WORDS: [&str; 12] = [
-    "a", "b", "c", "d", "value", "x", "y", "z", "name", "", "id", "of",
+const WORDS: [&str; 13] = [
+    "a", "b", "c", "d", "value", "x", "y", "z", "name", "", "id", "A", "of",
 ];
 
 pub struct Grower<'a> {
@@ -202,7 +202,7 @@ impl Grower<'_> {
             0 => Stmt::Implicit(self.fact(depth)),
             1 => {
                 let branches = (0..self.rng.from_to(0, 3))
-                    .map(|_| self.fact(depth))
+                    .map(|_| self.branch(depth))
                     .collect();
                 Stmt::Implicit(self.draft.node(Expr::Disjunction(branches)))
             }
@@ -234,6 +234,17 @@ impl Grower<'_> {
                 Stmt::Compare(left, self.value(goal, 1))
             }
         }
+    }
+
+    /// A fact, or some of them again.
+    fn branch(&mut self, depth: usize) -> u16 {
+        if self.rng.chance(75) {
+            return self.fact(depth);
+        }
+        let branches = (0..self.rng.from_to(0, 3))
+            .map(|_| self.fact(depth))
+            .collect();
+        self.draft.node(Expr::Disjunction(branches))
     }
 
     /// A record of variables and wildcards, for the left of a bind.
@@ -385,7 +396,10 @@ impl Grower<'_> {
             },
             Some(Shape::Str) => match self.rng.below(4) {
                 0 => Expr::Prefix(self.any_name()),
-                1 => Expr::Fuzzy(self.any_name(), self.rng.pick(&[1, 1, 2, 2, 0, 3])),
+                1 => Expr::Fuzzy(
+                    self.any_name(),
+                    self.rng.pick(&[1, 1, 1, 1, 2, 2, 2, 2, 0, 3]),
+                ),
                 _ => Expr::Str,
             },
             Some(Shape::Bytes) => Expr::Bytes,
@@ -464,6 +478,8 @@ impl Grower<'_> {
             .collect();
         let name = if !fitting.is_empty() && self.rng.chance(70) {
             self.rng.pick(&fitting)
+        } else if self.rng.chance(75) {
+            self.new_name()
         } else {
             self.any_name()
         };
@@ -471,6 +487,21 @@ impl Grower<'_> {
             self.known.push((name, goal));
         }
         self.draft.var(name)
+    }
+
+    /// A name that is not in scope, as long as there are not too many.
+    fn new_name(&mut self) -> u16 {
+        let free: Vec<u16> = (0..self.draft.names.len() as u16)
+            .filter(|name| !self.known.iter().any(|(known, _)| known == name))
+            .collect();
+        if !free.is_empty() {
+            return self.rng.pick(&free);
+        }
+        let count = self.draft.names.len();
+        if count > 40 {
+            return self.any_name();
+        }
+        self.draft.name(&format!("v{count}"))
     }
 
     /// Reads from a variable down to the type wanted, where a short walk gets there.

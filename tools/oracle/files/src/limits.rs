@@ -239,17 +239,20 @@ fn spend_on_blocks(rng: &mut Rng, draft: &mut Draft, left: &mut u64) {
     let names = chain(draft, "x", steps);
     *left -= (1 << (steps + 2)) - 4;
     while *left >= 2 {
-        let step = steps.min(left.ilog2() - 1);
-        let name = names[step as usize];
         if rng.chance(50) {
-            // The occurs check walks the whole type.
+            // The occurs check walks the whole type once.
+            let step = steps.min(left.ilog2() - 1);
             let new = draft.name(&format!("y{}", draft.names.len()));
-            draft.equate(new, name);
+            draft.equate(new, names[step as usize]);
+            *left -= 1 << (step + 1);
         } else {
+            // Unification walks it, and the question for its order does.
+            let step = steps.min((*left + 2).ilog2() - 2);
+            let name = names[step as usize];
             let (l, r) = (draft.var(name), draft.var(name));
             draft.body.push(Stmt::Compare(l, r));
+            *left -= (1 << (step + 2)) - 2;
         }
-        *left -= 1 << (step + 1);
     }
     if *left == 1 {
         let name = draft.name("z");

@@ -8,6 +8,17 @@ pub fn grown(rng: &mut Rng) -> Vec<u8> {
     grow::grown(rng, CALM).bytes()
 }
 
+/// The same with many statements and nodes.
+pub fn large(rng: &mut Rng) -> Vec<u8> {
+    let taste = Taste {
+        misfits: rng.pick(&[1, 3, 10]),
+        statements: 60,
+        nodes: 450,
+        ..CALM
+    };
+    grow::grown(rng, taste).bytes()
+}
+
 /// Near misses: patterns of which a part does not fit.
 pub fn misfits(rng: &mut Rng) -> Vec<u8> {
     let taste = Taste {
@@ -51,7 +62,7 @@ pub fn tiny(rng: &mut Rng) -> Vec<u8> {
     wild_tree(rng, nodes).bytes()
 }
 
-fn wild_tree(rng: &mut Rng, nodes: usize) -> Draft {
+pub fn wild_tree(rng: &mut Rng, nodes: usize) -> Draft {
     let mut draft = Draft::new();
     grow::schema(rng, &mut draft);
     let mut free = Vec::new();
@@ -224,15 +235,20 @@ pub fn alike(rng: &mut Rng) -> Vec<u8> {
     let unions = rng.chance(60);
     let mut fields = grow::fields(rng, 4, 5, 3);
     let mut alternatives = grow::alternatives(rng, 4, 5, 4);
+    if rng.chance(50) {
+        for alternative in &mut alternatives {
+            alternative.2 = payload(rng, &mut draft);
+        }
+    }
     let mut family = Vec::new();
     for _ in 0..rng.from_to(2, 4) {
         family.push(if unions {
             let ty = draft.ty(Shape::Union(alternatives.clone()));
-            twist_union(rng, &mut draft, &mut alternatives, ty);
+            twist_union(rng, &mut draft, &mut alternatives);
             ty
         } else {
             let ty = draft.ty(Shape::Record(fields.clone()));
-            twist_record(rng, &mut draft, &mut fields, ty);
+            twist_record(rng, &mut draft, &mut fields);
             ty
         });
     }
@@ -294,14 +310,17 @@ fn crossed(rng: &mut Rng, draft: &mut Draft, family: usize) -> Stmt {
     ])
 }
 
-fn twist_union(
-    rng: &mut Rng,
-    draft: &mut Draft,
-    alternatives: &mut Vec<(u16, u32, u16)>,
-    own: u16,
-) {
+/// A record of two fields, the names drawn from few.
+fn payload(rng: &mut Rng, draft: &mut Draft) -> u16 {
+    let first = rng.below(4) as u16;
+    let second = (first + rng.from_to(1, 2) as u16) % 4;
+    let (a, b) = (rng.below(2) as u16, rng.below(2) as u16);
+    draft.ty(Shape::Record(vec![(first, a), (second, b)]))
+}
+
+fn twist_union(rng: &mut Rng, draft: &mut Draft, alternatives: &mut Vec<(u16, u32, u16)>) {
     let at = rng.below(alternatives.len());
-    match rng.below(9) {
+    match rng.below(11) {
         0..3 => rng.shuffle(alternatives),
         3 if !alternatives.is_empty() => alternatives[at].0 = rng.below(4) as u16,
         4 if !alternatives.is_empty() => {
@@ -318,17 +337,12 @@ fn twist_union(
                 alternatives.push((rng.below(4) as u16, disc, rng.below(5) as u16));
             }
         }
-        _ if !alternatives.is_empty() => {
-            // Two records that differ in a name stand under one alternative.
-            let mut fields = vec![(0, own.min(4)), (1, 0)];
-            rng.shuffle(&mut fields);
-            alternatives[at].2 = draft.ty(Shape::Record(fields));
-        }
+        _ if !alternatives.is_empty() => alternatives[at].2 = payload(rng, draft),
         _ => {}
     }
 }
 
-fn twist_record(rng: &mut Rng, draft: &mut Draft, fields: &mut Vec<(u16, u16)>, own: u16) {
+fn twist_record(rng: &mut Rng, draft: &mut Draft, fields: &mut Vec<(u16, u16)>) {
     let at = rng.below(fields.len());
     match rng.below(7) {
         0..3 => rng.shuffle(fields),
@@ -338,14 +352,69 @@ fn twist_record(rng: &mut Rng, draft: &mut Draft, fields: &mut Vec<(u16, u16)>, 
                 fields[at].0 = name;
             }
         }
-        4 if !fields.is_empty() => fields[at].1 = rng.below(5) as u16,
+        4 if !fields.is_empty() => fields[at].1 = rng.below(draft.types.len().min(5)) as u16,
         5 if !fields.is_empty() => drop(fields.remove(at)),
-        _ if !fields.is_empty() => {
-            let inner = vec![(0, own.min(4)), (1, rng.below(5) as u16)];
-            fields[at].1 = draft.ty(Shape::Record(inner));
-        }
+        _ if !fields.is_empty() => fields[at].1 = payload(rng, draft),
         _ => {}
     }
+}
+
+/// Inferred records beside declared ones: fields in another order, renamed, repeated,
+/// left out.
+pub fn records(rng: &mut Rng) -> Vec<u8> {
+    let mut draft = Draft::new();
+    for word in ["a", "b", "c", "d", "r", "s", "t", "x", "y"] {
+        draft.name(word);
+    }
+    draft.types.extend([Shape::Int, Shape::Str]);
+    let mut fields = grow::fields(rng, 4, 2, 3);
+    for _ in 0..2 {
+        let ty = draft.ty(Shape::Record(fields.clone()));
+        draft.predicate(0, ty, None);
+        twist_record(rng, &mut draft, &mut fields);
+    }
+    for _ in 0..rng.from_to(2, 6) {
+        let left = draft.var(4 + rng.below(3) as u16);
+        let stmt = match rng.below(8) {
+            0 | 1 => Stmt::Implicit(draft.node(Expr::Fact(rng.below(2) as u16, left))),
+            2 => Stmt::Compare(left, draft.var(4 + rng.below(3) as u16)),
+            3 => Stmt::Bind(left, draft.var(4 + rng.below(3) as u16)),
+            4 => Stmt::Deny(left, inferred(rng, &mut draft, &fields)),
+            _ => Stmt::Bind(left, inferred(rng, &mut draft, &fields)),
+        };
+        draft.body.push(stmt);
+    }
+    let parts = (4..9).map(|name| (name, draft.var(name))).collect();
+    draft.head = draft.node(Expr::Record(parts));
+    draft.bytes()
+}
+
+fn inferred(rng: &mut Rng, draft: &mut Draft, fields: &[(u16, u16)]) -> u16 {
+    let mut fields = fields.to_vec();
+    rng.shuffle(&mut fields);
+    if !fields.is_empty() {
+        let (at, from) = (rng.below(fields.len()), rng.below(fields.len()));
+        match rng.below(8) {
+            0 | 1 => fields[at] = fields[from],
+            2 => fields[at].0 = rng.below(4) as u16,
+            3 => drop(fields.remove(at)),
+            4 => fields.push(fields[at]),
+            _ => {}
+        }
+    }
+    let parts = fields
+        .into_iter()
+        .map(|(name, ty)| {
+            let expr = match rng.below(6) {
+                0 | 1 => Expr::Var(7 + rng.below(2) as u16),
+                2 => Expr::Wildcard,
+                _ if ty == 0 => Expr::Int,
+                _ => Expr::Str,
+            };
+            (name, draft.node(expr))
+        })
+        .collect();
+    draft.node(Expr::Record(parts))
 }
 
 /// Reads of every kind from every kind of base.
@@ -363,7 +432,10 @@ pub fn accesses(rng: &mut Rng) -> Vec<u8> {
     }
     for _ in 0..rng.from_to(1, 3) {
         let types = draft.types.len();
-        let fields = grow::fields(rng, 3, types, 3);
+        let mut fields = grow::fields(rng, 3, types, 3);
+        if rng.chance(30) && fields.iter().all(|field| field.0 != 0) {
+            fields.push((0, rng.below(types) as u16));
+        }
         draft.ty(Shape::Record(fields));
         let alternatives = grow::alternatives(rng, 3, types, 3);
         draft.ty(Shape::Union(alternatives));
@@ -383,8 +455,10 @@ pub fn accesses(rng: &mut Rng) -> Vec<u8> {
                 draft.body.push(Stmt::Implicit(fact));
             }
             1 => {
-                let inner = draft.node(Expr::Int);
-                let record = draft.node(Expr::Record(vec![(rng.below(3) as u16, inner)]));
+                // A field may come twice, with different types.
+                let parts = [Expr::Int, Expr::Str, Expr::Wildcard]
+                    .map(|expr| (rng.below(3) as u16, draft.node(expr)));
+                let record = draft.node(Expr::Record(parts.to_vec()));
                 draft.bind(left, record);
             }
             2 => {

@@ -11,7 +11,7 @@ pub fn lent(seed: u64, plain: &Ran) -> Vec<Limits> {
     let usual = Limits::default();
     let mut all = vec![usual];
     if let Answer::Refused(1..=10) = plain.answer {
-        if seed.is_multiple_of(16) {
+        if seed.is_multiple_of(16) || plain.answer == Answer::Refused(2) {
             all.push(Limits {
                 words: 16_383,
                 ..usual
