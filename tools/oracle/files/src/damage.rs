@@ -5,14 +5,15 @@ use crate::rng::Rng;
 use crate::valid;
 
 fn sound(rng: &mut Rng) -> Vec<u8> {
-    match rng.below(6) {
+    let draft = match rng.below(6) {
         0 => valid::grown(rng),
         1 => valid::misfits(rng),
         2 => valid::alike(rng),
         3 => valid::wild(rng),
         4 => valid::accesses(rng),
         _ => valid::tiny(rng),
-    }
+    };
+    draft.bytes()
 }
 
 fn split(file: &[u8]) -> Vec<Vec<u8>> {
@@ -42,7 +43,7 @@ pub fn characters(rng: &mut Rng) -> Vec<u8> {
 
 /// One character that is no digit, or a digit spelt otherwise.
 pub fn spelling(rng: &mut Rng) -> Vec<u8> {
-    let mut file = valid::tiny(rng);
+    let mut file = valid::tiny(rng).bytes();
     let at = rng.below(file.len());
     if rng.chance(70) {
         file[at] = rng.pick(NEAR);

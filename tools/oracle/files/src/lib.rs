@@ -3,6 +3,7 @@
 mod damage;
 mod deep;
 mod draft;
+mod edge;
 mod faults;
 mod grow;
 mod limits;
@@ -18,19 +19,19 @@ type Make = fn(&mut Rng) -> Vec<u8>;
 
 /// Every style with its weight: the heavy ones are rare.
 const TABLE: &[(&str, usize, Make)] = &[
-    ("grown", 1500, valid::grown),
-    ("misfits", 1200, valid::misfits),
-    ("poison", 400, valid::poison),
-    ("scopes", 500, valid::scopes),
-    ("wild", 600, valid::wild),
-    ("tiny", 600, valid::tiny),
-    ("unknowns", 900, valid::unknowns),
-    ("records", 600, valid::records),
-    ("alike", 900, valid::alike),
-    ("accesses", 700, valid::accesses),
-    ("fuzzy", 200, valid::fuzzy),
-    ("left-sides", 500, valid::left_sides),
-    ("rollbacks", 700, valid::rollbacks),
+    ("grown", 1500, |rng| valid::grown(rng).bytes()),
+    ("misfits", 1200, |rng| valid::misfits(rng).bytes()),
+    ("poison", 400, |rng| valid::poison(rng).bytes()),
+    ("scopes", 500, |rng| valid::scopes(rng).bytes()),
+    ("wild", 600, |rng| valid::wild(rng).bytes()),
+    ("tiny", 600, |rng| valid::tiny(rng).bytes()),
+    ("unknowns", 900, |rng| valid::unknowns(rng).bytes()),
+    ("records", 600, |rng| valid::records(rng).bytes()),
+    ("alike", 900, |rng| valid::alike(rng).bytes()),
+    ("accesses", 700, |rng| valid::accesses(rng).bytes()),
+    ("fuzzy", 200, |rng| valid::fuzzy(rng).bytes()),
+    ("left-sides", 500, |rng| valid::left_sides(rng).bytes()),
+    ("rollbacks", 700, |rng| valid::rollbacks(rng).bytes()),
     ("damaged-characters", 300, damage::characters),
     ("spelling", 150, damage::spelling),
     ("damaged-lines", 200, damage::lines),
@@ -45,7 +46,7 @@ const TABLE: &[(&str, usize, Make)] = &[
     ("first-frame", 40, faults::first_frame),
     ("bytes", 60, noise::bytes),
     ("digits", 100, noise::digits),
-    ("large", 40, valid::large),
+    ("large", 40, |rng| valid::large(rng).bytes()),
     ("few-visits", 60, limits::few_visits),
     ("counts", 60, limits::counts),
     ("long-line", 50, limits::long_line),
@@ -53,6 +54,7 @@ const TABLE: &[(&str, usize, Make)] = &[
     ("long-file", 6, limits::long_file),
     ("long-answer", 4, limits::long_answer),
     ("doubling", 1, limits::doubling),
+    ("edge", 12, edge::edge),
     ("visits", 1, limits::visits),
 ];
 

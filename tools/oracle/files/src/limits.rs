@@ -180,50 +180,58 @@ pub fn long_file(rng: &mut Rng) -> Vec<u8> {
 /// Exactly so many visits by doubling types: each step of the chain, and each block on
 /// top of it, costs a power of two.
 pub fn visits(rng: &mut Rng) -> Vec<u8> {
-    let target = 1_048_575 + rng.below(4) as u64;
-    spend(rng, target).bytes()
+    let target = MOST_VISITS - 1 + rng.below(4) as u64;
+    spent(rng, target)
 }
 
 /// The same with few visits, for runs with a lower limit.
 pub fn few_visits(rng: &mut Rng) -> Vec<u8> {
     let target = 40 + rng.below(4_000) as u64;
-    spend(rng, target).bytes()
+    spent(rng, target)
 }
 
-fn spend(rng: &mut Rng, target: u64) -> Draft {
+pub const MOST_VISITS: u64 = 1_048_576;
+
+fn spent(rng: &mut Rng, target: u64) -> Vec<u8> {
     let mut draft = Draft::new();
-    // Under a fact that does not fit, all is rolled back and the answer stays short.
     let hidden = rng.chance(75);
+    spend(rng, &mut draft, target, hidden);
+    draft.head = draft.node(Expr::Int);
+    draft.bytes()
+}
+
+/// Adds statements of that many visits. Under a fact that does not fit, all is rolled
+/// back and the answer stays short.
+pub fn spend(rng: &mut Rng, draft: &mut Draft, target: u64, hidden: bool) {
     draft.name("a");
     draft.name("b");
-    draft.ty(Shape::Int);
-    draft.predicate(0, 0, None);
+    let int = draft.ty(Shape::Int);
+    let predicate = draft.predicate(0, int, None);
     let mut left = target - hidden as u64;
     if rng.chance(50) {
-        spend_on_pairs(&mut draft, &mut left);
+        spend_on_pairs(draft, &mut left);
     } else {
-        spend_on_blocks(rng, &mut draft, &mut left);
+        spend_on_blocks(rng, draft, &mut left);
     }
     if hidden {
         let head = draft.node(Expr::Str);
         let body = std::mem::take(&mut draft.body);
         let subquery = draft.node(Expr::Subquery(head, body));
-        let fact = draft.node(Expr::Fact(0, subquery));
+        let fact = draft.node(Expr::Fact(predicate, subquery));
         draft.body.push(Stmt::Implicit(fact));
     }
-    draft.head = draft.node(Expr::Int);
-    draft
 }
 
 /// `x1 = {a = x0, b = x0}` and so on: step i costs 2^(i+2) visits.
 fn chain(draft: &mut Draft, letter: &str, steps: u32) -> Vec<u16> {
+    let fields = [draft.name("a"), draft.name("b")];
     let names: Vec<u16> = (0..=steps)
         .map(|step| draft.name(&format!("{letter}{step}")))
         .collect();
     for step in 0..steps as usize {
         let left = draft.var(names[step + 1]);
         let (a, b) = (draft.var(names[step]), draft.var(names[step]));
-        let right = draft.node(Expr::Record(vec![(0, a), (1, b)]));
+        let right = draft.node(Expr::Record(vec![(fields[0], a), (fields[1], b)]));
         draft.bind(left, right);
     }
     names

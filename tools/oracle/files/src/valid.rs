@@ -4,42 +4,42 @@ use crate::draft::{Draft, Expr, Shape, Stmt};
 use crate::grow::{self, CALM, DISCRIMINANTS, Taste};
 use crate::rng::Rng;
 
-pub fn grown(rng: &mut Rng) -> Vec<u8> {
-    grow::grown(rng, CALM).bytes()
+pub fn grown(rng: &mut Rng) -> Draft {
+    grow::grown(rng, CALM)
 }
 
 /// The same with many statements and nodes.
-pub fn large(rng: &mut Rng) -> Vec<u8> {
+pub fn large(rng: &mut Rng) -> Draft {
     let taste = Taste {
         misfits: rng.pick(&[1, 3, 10]),
         statements: 60,
         nodes: 450,
         ..CALM
     };
-    grow::grown(rng, taste).bytes()
+    grow::grown(rng, taste)
 }
 
 /// Near misses: patterns of which a part does not fit.
-pub fn misfits(rng: &mut Rng) -> Vec<u8> {
+pub fn misfits(rng: &mut Rng) -> Draft {
     let taste = Taste {
         misfits: rng.pick(&[10, 20, 40]),
         odd_statements: 10,
         ..CALM
     };
-    grow::grown(rng, taste).bytes()
+    grow::grown(rng, taste)
 }
 
-pub fn poison(rng: &mut Rng) -> Vec<u8> {
+pub fn poison(rng: &mut Rng) -> Draft {
     let taste = Taste {
         misfits: 25,
         poison: 70,
         paths: 40,
         ..CALM
     };
-    grow::grown(rng, taste).bytes()
+    grow::grown(rng, taste)
 }
 
-pub fn scopes(rng: &mut Rng) -> Vec<u8> {
+pub fn scopes(rng: &mut Rng) -> Draft {
     let taste = Taste {
         scopes: 45,
         misfits: 8,
@@ -47,19 +47,19 @@ pub fn scopes(rng: &mut Rng) -> Vec<u8> {
         variables: 35,
         ..CALM
     };
-    grow::grown(rng, taste).bytes()
+    grow::grown(rng, taste)
 }
 
 /// Any shape over any free nodes, without a thought about types.
-pub fn wild(rng: &mut Rng) -> Vec<u8> {
+pub fn wild(rng: &mut Rng) -> Draft {
     let nodes = rng.from_to(1, 24);
-    wild_tree(rng, nodes).bytes()
+    wild_tree(rng, nodes)
 }
 
 /// The same with a handful of nodes, so that all small trees come up.
-pub fn tiny(rng: &mut Rng) -> Vec<u8> {
+pub fn tiny(rng: &mut Rng) -> Draft {
     let nodes = rng.from_to(1, 4);
-    wild_tree(rng, nodes).bytes()
+    wild_tree(rng, nodes)
 }
 
 pub fn wild_tree(rng: &mut Rng, nodes: usize) -> Draft {
@@ -152,7 +152,7 @@ fn wild_expr(rng: &mut Rng, draft: &Draft, free: &mut Vec<u16>) -> Expr {
 }
 
 /// Equations between terms of unknowns and records: chains, sharing, infinite types.
-pub fn unknowns(rng: &mut Rng) -> Vec<u8> {
+pub fn unknowns(rng: &mut Rng) -> Draft {
     let mut draft = Draft::new();
     for word in ["x", "y", "z", "u", "v", "w", "a", "b"] {
         draft.name(word);
@@ -187,7 +187,7 @@ pub fn unknowns(rng: &mut Rng) -> Vec<u8> {
         draft.body.push(stmt);
     }
     draft.head = term(rng, &mut draft, 1);
-    draft.bytes()
+    draft
 }
 
 fn term(rng: &mut Rng, draft: &mut Draft, depth: usize) -> u16 {
@@ -223,7 +223,7 @@ fn pattern(rng: &mut Rng, draft: &mut Draft, depth: usize) -> u16 {
 
 /// Types that are alike but for a twist, one variable for each, and the variables
 /// compared with each other.
-pub fn alike(rng: &mut Rng) -> Vec<u8> {
+pub fn alike(rng: &mut Rng) -> Draft {
     let mut draft = Draft::new();
     for word in ["a", "b", "c", "value", "p", "q", "r", "s"] {
         draft.name(word);
@@ -277,7 +277,7 @@ pub fn alike(rng: &mut Rng) -> Vec<u8> {
         draft.body.push(stmt);
     }
     draft.head = draft.var(4);
-    draft.bytes()
+    draft
 }
 
 fn crossed(rng: &mut Rng, draft: &mut Draft, family: usize) -> Stmt {
@@ -361,7 +361,7 @@ fn twist_record(rng: &mut Rng, draft: &mut Draft, fields: &mut Vec<(u16, u16)>) 
 
 /// Inferred records beside declared ones: fields in another order, renamed, repeated,
 /// left out.
-pub fn records(rng: &mut Rng) -> Vec<u8> {
+pub fn records(rng: &mut Rng) -> Draft {
     let mut draft = Draft::new();
     for word in ["a", "b", "c", "d", "r", "s", "t", "x", "y"] {
         draft.name(word);
@@ -386,7 +386,7 @@ pub fn records(rng: &mut Rng) -> Vec<u8> {
     }
     let parts = (4..9).map(|name| (name, draft.var(name))).collect();
     draft.head = draft.node(Expr::Record(parts));
-    draft.bytes()
+    draft
 }
 
 fn inferred(rng: &mut Rng, draft: &mut Draft, fields: &[(u16, u16)]) -> u16 {
@@ -418,7 +418,7 @@ fn inferred(rng: &mut Rng, draft: &mut Draft, fields: &[(u16, u16)]) -> u16 {
 }
 
 /// Reads of every kind from every kind of base.
-pub fn accesses(rng: &mut Rng) -> Vec<u8> {
+pub fn accesses(rng: &mut Rng) -> Draft {
     let mut draft = Draft::new();
     for word in ["value", "a", "b", "x", "y", "z", "w"] {
         draft.name(word);
@@ -490,11 +490,11 @@ pub fn accesses(rng: &mut Rng) -> Vec<u8> {
         });
     }
     draft.head = draft.var(3);
-    draft.bytes()
+    draft
 }
 
 /// Fuzzy terms around both limits, with characters of one to four bytes.
-pub fn fuzzy(rng: &mut Rng) -> Vec<u8> {
+pub fn fuzzy(rng: &mut Rng) -> Draft {
     let mut draft = Draft::new();
     draft.distance = rng.pick(&[0, 1, 2, 2, 3, 254, 255]);
     draft.term = rng.pick(&[0, 1, 2, 3, 4, 5, 0x0100, 0x0102, 0xffff]);
@@ -549,11 +549,11 @@ pub fn fuzzy(rng: &mut Rng) -> Vec<u8> {
         });
     }
     draft.head = draft.node(Expr::Prefix(rng.below(names) as u16));
-    draft.bytes()
+    draft
 }
 
 /// Each shape on the left of a bind or a denial, against each on the right.
-pub fn left_sides(rng: &mut Rng) -> Vec<u8> {
+pub fn left_sides(rng: &mut Rng) -> Draft {
     let mut draft = Draft::new();
     for word in ["x", "y", "a", "b"] {
         draft.name(word);
@@ -573,7 +573,7 @@ pub fn left_sides(rng: &mut Rng) -> Vec<u8> {
         });
     }
     draft.head = shallow(rng, &mut draft, 1);
-    draft.bytes()
+    draft
 }
 
 fn shallow(rng: &mut Rng, draft: &mut Draft, depth: usize) -> u16 {
@@ -620,7 +620,7 @@ fn shallow(rng: &mut Rng, draft: &mut Draft, depth: usize) -> u16 {
 }
 
 /// Facts whose fields introduce names and fail, and then use the names again.
-pub fn rollbacks(rng: &mut Rng) -> Vec<u8> {
+pub fn rollbacks(rng: &mut Rng) -> Draft {
     let mut draft = Draft::new();
     for word in ["x", "y", "z", "a", "b", "c"] {
         draft.name(word);
@@ -649,7 +649,7 @@ pub fn rollbacks(rng: &mut Rng) -> Vec<u8> {
     }
     let parts = (0..3).map(|name| (name, draft.var(name))).collect();
     draft.head = draft.node(Expr::Record(parts));
-    draft.bytes()
+    draft
 }
 
 fn faulty_fact(rng: &mut Rng, draft: &mut Draft, depth: usize) -> u16 {

@@ -1,12 +1,15 @@
-//! `trial agree SEED COUNT` and `trial mutants SEED COUNT`.
+//! `trial agree SEED COUNT`, `trial mutants SEED COUNT`, and `trial usual SEED COUNT` for
+//! the mutants with the program's own slices alone.
 
 use std::path::Path;
 use std::process::ExitCode;
 
+use trial::Lent;
+
 fn main() -> ExitCode {
     let given: Vec<String> = std::env::args().skip(1).collect();
     let [what, seed, count] = given.as_slice() else {
-        eprintln!("trial agree|mutants SEED COUNT");
+        eprintln!("trial agree|mutants|usual SEED COUNT");
         return ExitCode::from(2);
     };
     let (Ok(seed), Ok(count)) = (seed.parse(), count.parse()) else {
@@ -19,8 +22,13 @@ fn main() -> ExitCode {
             println!("{agreed:#?}");
             agreed.mismatches == 0
         }
-        "mutants" => {
-            let told = trial::mutants(seed, count);
+        "mutants" | "usual" => {
+            let with = if what == "usual" {
+                Lent::Usual
+            } else {
+                Lent::Varied
+            };
+            let told = trial::mutants(seed, count, with);
             println!("{:?}", told.surprises);
             told.surprises.is_empty()
         }

@@ -10,7 +10,7 @@ mod shrink;
 
 pub use agree::{Agreed, agree};
 pub use lend::lent;
-pub use mutants::{Told, mutants};
+pub use mutants::{Lent, Told, mutants};
 pub use shrink::shrink;
 
 /// The seed of the n-th file of a run.

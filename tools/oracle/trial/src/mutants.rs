@@ -26,14 +26,27 @@ struct Tell {
     judged: bool,
 }
 
+/// Which slices and visits the files are run with.
+#[derive(Clone, Copy, Debug, PartialEq, Eq)]
+pub enum Lent {
+    /// What the program lends, as a comparison with it has to.
+    Usual,
+    /// Others too, where they are telling.
+    Varied,
+}
+
 /// Runs so many files through the right model and through each mistake not yet told.
-pub fn mutants(seed: u64, count: u64) -> Told {
+pub fn mutants(seed: u64, count: u64, with: Lent) -> Told {
     let mut tells: Vec<Option<Tell>> = MUTATIONS.iter().map(|_| None).collect();
     let started = Instant::now();
     for n in 0..count {
         let (style, bytes) = file(seed, n);
         let plain = model::answer(&bytes, &model::Limits::default(), None);
-        for limits in lent(nth(seed, n), &plain) {
+        let mut all = lent(nth(seed, n), &plain);
+        if with == Lent::Usual {
+            all.truncate(1);
+        }
+        for limits in all {
             let lent = as_model(&limits);
             let right = model::answer(&bytes, &lent, None).answer;
             for (mutation, tell) in tells.iter_mut().enumerate() {
