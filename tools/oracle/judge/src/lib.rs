@@ -4,6 +4,7 @@
 //! the unchanged `check` of ty.rs. The Rust counts no visits, so they come from a copy of ty.rs
 //! that the build gives counting lines and checks to be ty.rs without them.
 
+pub mod calls;
 mod encode;
 mod file;
 pub mod levenshtein;
@@ -89,6 +90,8 @@ fn answer_here(file: &[u8], limits: &Limits) -> Ran {
         Err(number) => return stopped(Answer::Refused(number), 0),
     };
     let Some(tree) = tree::build(&file) else {
+        // The text rule lets pass nothing else that the Rust does not.
+        assert!(file.names.iter().any(|name| has_surrogate(name)));
         return stopped(Answer::LeftOut(SURROGATE), 0);
     };
     levenshtein::set(file.max_distance, file.max_term);
@@ -137,6 +140,12 @@ fn answer_here(file: &[u8], limits: &Limits) -> Ran {
         visits,
         codes,
     }
+}
+
+/// Whether a text that passed the reading has a value from d800 to dfff.
+fn has_surrogate(text: &[u8]) -> bool {
+    text.windows(2)
+        .any(|pair| pair[0] == 0xed && pair[1] >= 0xa0)
 }
 
 /// The 07 lines.

@@ -36,7 +36,7 @@ pub(crate) fn counted<R>(limit: u64, work: impl FnOnce() -> R) -> (Result<R, Sto
     (result, MADE.get())
 }
 
-/// Visits made so far, and a way to use some up from outside.
+/// So many visits at once; a list of calls may spend some in between.
 pub(crate) fn spend(visits: u64) {
     let left = LEFT.get();
     if visits > left {

@@ -1,8 +1,16 @@
 //! The commands of the judge. `oracle help` lists them.
 
+mod calls;
+mod compare;
+mod corpus;
+mod mismatch;
 mod options;
+mod port;
 mod printed;
+mod record;
 mod selftest;
+mod tally;
+mod trials;
 
 use std::io::{Read, Write};
 use std::process::ExitCode;
@@ -16,6 +24,36 @@ oracle answer [--words N] [--bytes N] [--visits]
     --words and --bytes are the lengths of the two slices (16384 and 65536).
     --visits prints the line `visits N` on standard error as well.
     A file that the Rust can't hold prints nothing, says why on standard error and ends with status 2.
+
+oracle generate --seed S --count N [--style NAME] [--out DIR]
+    Makes files and counts what they are; with --out writes each into DIR. The same seed gives the
+    same files.
+
+oracle agree --seed S --count N [--out DIR]
+    Holds the judge (first reader, unchanged Rust, counted copy) against the model (second reader,
+    second checker, second count) on generated files, with slices and visits around each boundary.
+    Ends with status 1 where there is a mismatch.
+
+oracle mutants [--seed S] [--count N]
+    Switches on each mistake of a list in the model and says which the files tell from the right
+    one. Ends with status 1 unless all that are wrong are told, and none that is equal in behaviour.
+
+oracle compare answers --seed S --count N [--style NAME] [--program P] [--out DIR]
+oracle compare reading --seed S --count N [--style NAME] [--out DIR]
+oracle compare calls   --seed S --count N [--style NAME] [--out DIR]
+    Holds the port against the Rust on generated files: the program P (with arguments, if it needs
+    some), from standard input to standard output, and the static library in process where it was
+    there when oracle was built, with both slices full of ff before each call. Each mismatch is kept
+    with both outputs and a smaller file that shows it too, in target/mismatch or DIR. Counts files
+    by refusal, code, node shape and statement. Ends with status 1 where there is a mismatch.
+    In place of --seed and --count: `--bytes-exhaustive FILE` takes each prefix of FILE, FILE without
+    each byte, and FILE with each byte changed to each other value; `--short` takes every file of up
+    to two bytes, and every line of up to two bytes after a right first line.
+    `--model` holds the model against the Rust, as `agree` does, on these files too.
+
+oracle record [--check]
+    Writes vectors/answers.bin, the recorded sample of answers; with --check holds it against the
+    generator and the Rust instead.
 
 oracle selftest
     Every example of document 01, and the text examples of RFC 3629.
@@ -48,7 +86,12 @@ fn run(given: &[String]) -> Done {
         return Ok(true);
     };
     match command.as_str() {
+        "agree" => trials::agree(rest),
         "answer" => answer(rest),
+        "compare" => compare::run(rest),
+        "generate" => trials::generate(rest),
+        "mutants" => trials::mutants(rest),
+        "record" => record::run(rest),
         "selftest" => selftest::run(rest),
         "help" | "--help" => {
             print!("{HELP}");

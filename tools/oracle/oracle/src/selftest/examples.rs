@@ -71,6 +71,11 @@ pub fn table(group: &mut Group) {
     }
 }
 
+/// The files of the table.
+pub fn files() -> impl Iterator<Item = Vec<u8>> {
+    ROWS.iter().map(|row| lines(row.file))
+}
+
 /// In the files, node n has the span from 2n to 2n + 1.
 const ROWS: &[Row] = &[
     Row {

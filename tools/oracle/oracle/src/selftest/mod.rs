@@ -3,6 +3,7 @@
 //! The expected answers and visits were worked out from document 01 by hand and not by running.
 
 mod examples;
+mod large;
 mod reading;
 mod refusals;
 mod texts;
@@ -11,6 +12,9 @@ use judge::{Answer, Limits, Ran};
 
 use crate::Done;
 use crate::options::Options;
+
+/// What runs the cases of a group.
+type Cases = fn(&mut Group);
 
 /// Counts of one group of cases.
 pub struct Group {
@@ -76,15 +80,21 @@ fn default(file: &[u8]) -> Ran {
     judge::answer(file, &Limits::default())
 }
 
+/// Files of the self-test that are small enough to be recorded.
+pub fn small_files() -> impl Iterator<Item = Vec<u8>> {
+    examples::files().chain(large::files())
+}
+
 pub fn run(given: &[String]) -> Done {
     Options::parse(given, &[], &[])?;
     let mut total = (0, 0);
-    let groups: [(&'static str, fn(&mut Group)); 5] = [
+    let groups: [(&'static str, Cases); 6] = [
         ("the examples of document 01", examples::whole),
         ("the table of refusals", refusals::run),
         ("the list of the computed table", examples::table),
         ("the examples of RFC 3629", texts::run),
         ("the rules of reading", reading::run),
+        ("types too large", large::run),
     ];
     for (name, cases) in groups {
         let mut group = Group::new(name);

@@ -114,7 +114,7 @@ fn doubling(count: u16) -> File {
 }
 
 /// x0 = {a = x1, b = x1} and so on, head x0: cheap to check, and twice as large with each.
-fn shrinking(count: u16) -> File {
+pub fn shrinking(count: u16) -> File {
     chain((0..count).map(|k| (k, k + 1)), count)
 }
 

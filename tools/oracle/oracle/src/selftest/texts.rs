@@ -76,6 +76,55 @@ pub fn run(group: &mut Group) {
         let found = judge::read(&term(text, 32), &Limits::default()).err();
         group.same(&format!("{text:02x?}"), found, (!passes).then_some(7));
     }
+    all_short(group);
+}
+
+/// Every text of up to two bytes, and every one of three and four bytes that stand at a boundary:
+/// the rule passes what the Rust's own test passes, with d800 to dfff open.
+fn all_short(group: &mut Group) {
+    let mut differing = vec![];
+    let mut number = 0;
+    let mut hold = |text: &[u8]| {
+        number += 1;
+        let found = judge::read(&term(text, 32), &Limits::default()).err();
+        let expected = (!passes(text)).then_some(7);
+        if found != expected && differing.len() < 10 {
+            differing.push((text.to_vec(), found));
+        }
+    };
+    for first in 0..=255 {
+        hold(&[first]);
+        for second in 0..=255 {
+            hold(&[first, second]);
+        }
+    }
+    for a in BYTES {
+        for b in BYTES {
+            for c in BYTES {
+                hold(&[a, b, c]);
+                for d in BYTES {
+                    hold(&[a, b, c, d]);
+                }
+            }
+        }
+    }
+    group.same(&format!("{number} short texts"), differing, vec![]);
+}
+
+const BYTES: [u8; 26] = [
+    0x00, 0x7f, 0x80, 0x8f, 0x90, 0x9f, 0xa0, 0xbf, 0xc0, 0xc1, 0xc2, 0xdf, 0xe0, 0xe1, 0xec, 0xed,
+    0xee, 0xef, 0xf0, 0xf1, 0xf3, 0xf4, 0xf5, 0xf7, 0xf8, 0xff,
+];
+
+/// The Rust's own test, each value from d800 to dfff replaced by one just above them.
+fn passes(text: &[u8]) -> bool {
+    let mut text = text.to_vec();
+    for at in 2..text.len() {
+        if let [0xed, 0xa0..=0xbf, 0x80..=0xbf] = text[at - 2..=at] {
+            text[at - 2..=at].copy_from_slice(b"\xee\x80\x80");
+        }
+    }
+    std::str::from_utf8(&text).is_ok()
 }
 
 /// A file whose one node is a fuzzy pattern of that term, so that its characters are counted.
