@@ -7,11 +7,13 @@ mod agree;
 mod lend;
 mod mutants;
 mod shrink;
+mod telling;
 
 pub use agree::{Agreed, agree};
 pub use lend::lent;
 pub use mutants::{Lent, Told, mutants};
 pub use shrink::shrink;
+pub use telling::{telling, told_by};
 
 /// The seed of the n-th file of a run.
 pub fn nth(seed: u64, n: u64) -> u64 {
