@@ -56,7 +56,7 @@ pub fn spelling(rng: &mut Rng) -> Vec<u8> {
 /// Lines: dropped, doubled, swapped, moved.
 pub fn lines(rng: &mut Rng) -> Vec<u8> {
     let mut of = split(&sound(rng));
-    for _ in 0..rng.from_to(1, 2) {
+    for _ in 0..rng.between(1, 2) {
         let (at, to) = (rng.below(of.len()), rng.below(of.len()));
         match rng.below(4) {
             0 => drop(of.remove(at)),

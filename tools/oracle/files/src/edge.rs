@@ -15,7 +15,7 @@ pub fn edge(rng: &mut Rng) -> Vec<u8> {
         4 => (valid::alike(rng), 0, 20),
         _ => stopping(rng),
     };
-    let left = rng.from_to(least, most);
+    let left = rng.between(least, most);
     let body = std::mem::take(&mut draft.body);
     spend(rng, &mut draft, MOST_VISITS - left as u64, true);
     draft.body.extend(body);
@@ -31,7 +31,7 @@ fn stopping(rng: &mut Rng) -> (Draft, usize, usize) {
     }
     draft.ty(Shape::Int);
     draft.ty(Shape::Str);
-    let width = rng.from_to(20, 60);
+    let width = rng.between(20, 60);
     let before = match rng.below(5) {
         0 => {
             // The unknown stands before, in the midst of, or behind the rest.

@@ -7,7 +7,7 @@ use crate::rng::Rng;
 /// Each pair of kinds, and each kind at the start, with what comes before and after.
 pub fn kinds(rng: &mut Rng) -> Vec<u8> {
     let mut file = Vec::new();
-    let (first, second) = (rng.from_to(1, 6) as u8, rng.from_to(0, 8) as u8);
+    let (first, second) = (rng.between(1, 6) as u8, rng.between(0, 8) as u8);
     if rng.chance(80) {
         for kind in 1..=first {
             // What a later frame refers to stays, the rest may be left out.
@@ -202,8 +202,8 @@ fn spoil_line(rng: &mut Rng, mut line: Vec<u8>) -> Vec<u8> {
 
 /// One line with the faults of a pair, as far as a line can have both.
 pub fn two_faults(rng: &mut Rng) -> Vec<u8> {
-    let first = rng.from_to(3, 10) as u8;
-    let second = rng.from_to(3, 10) as u8;
+    let first = rng.between(3, 10) as u8;
+    let second = rng.between(3, 10) as u8;
     let kind = kind_for(rng, &[first, second]);
     let rest = rng.chance(70);
     let mut file = faulty(rng, kind, &[first, second]);
@@ -219,8 +219,8 @@ fn kind_for(rng: &mut Rng, faults: &[u8]) -> u8 {
     match () {
         _ if has(10) => 3,
         _ if has(7) || has(8) => 2,
-        _ if has(5) => rng.from_to(2, 5) as u8,
-        _ => rng.from_to(3, 6) as u8,
+        _ if has(5) => rng.between(2, 5) as u8,
+        _ => rng.between(3, 6) as u8,
     }
 }
 
@@ -253,12 +253,12 @@ fn faulty(rng: &mut Rng, kind: u8, faults: &[u8]) -> Vec<u8> {
 
 /// A fault on one line and another on the next.
 pub fn one_after_another(rng: &mut Rng) -> Vec<u8> {
-    let first = rng.from_to(3, 10) as u8;
+    let first = rng.between(3, 10) as u8;
     let kind = kind_for(rng, &[first]);
     let mut file = faulty(rng, kind, &[first]);
     let world = world(None, 5);
-    let kind = rng.from_to(kind as usize, 6) as u8;
-    let second = rng.from_to(3, 10) as u8;
+    let kind = rng.between(kind as usize, 6) as u8;
+    let second = rng.between(3, 10) as u8;
     let line = draft::line(&content(rng, kind, &[second], &world));
     if second == 3 {
         file.extend(spoil_line(rng, line));
@@ -273,7 +273,7 @@ pub fn one_after_another(rng: &mut Rng) -> Vec<u8> {
 
 /// One frame of each shape with a length, shape, flag or reference beside the right one.
 pub fn one_frame(rng: &mut Rng) -> Vec<u8> {
-    let kind = rng.from_to(2, 6) as u8;
+    let kind = rng.between(2, 6) as u8;
     let world = world(None, kind);
     let mut frames = world.frames;
     let mut frame = match kind {
@@ -307,7 +307,7 @@ pub fn one_frame(rng: &mut Rng) -> Vec<u8> {
             let mut frame = vec![6, 0, rng.below(5) as u8];
             for _ in 0..rng.below(3) {
                 frame.push(rng.below(6) as u8);
-                for _ in 0..rng.from_to(1, 2) {
+                for _ in 0..rng.between(1, 2) {
                     short(&mut frame, rng.below(5) as u16);
                 }
             }
@@ -341,7 +341,7 @@ pub fn one_frame(rng: &mut Rng) -> Vec<u8> {
 
 /// The limits' frame in every length.
 pub fn first_frame(rng: &mut Rng) -> Vec<u8> {
-    let mut frames = vec![vec![1; rng.from_to(1, 7)]];
+    let mut frames = vec![vec![1; rng.between(1, 7)]];
     if rng.chance(50) {
         frames[0] = draft::limits(rng.byte(), rng.next() as u16);
     }

@@ -72,14 +72,14 @@ pub fn over(rng: &mut Rng, draft: Draft, taste: Taste) -> Draft {
 
 /// Scalars, then records, unions and facts over what is there, then predicates.
 pub fn schema(rng: &mut Rng, draft: &mut Draft) {
-    for _ in 0..rng.from_to(3, 8) {
+    for _ in 0..rng.between(3, 8) {
         let word = rng.pick(&WORDS);
         draft.name(word);
     }
     let names = draft.names.len();
     draft.types.extend([Shape::Int, Shape::Str, Shape::Bytes]);
-    let predicates = rng.from_to(1, 4);
-    for _ in 0..rng.from_to(1, 6) {
+    let predicates = rng.between(1, 4);
+    for _ in 0..rng.between(1, 6) {
         let shape = match rng.weighted(&[25, 50, 25]) {
             0 => {
                 let absent = rng.chance(8) as usize;
@@ -110,7 +110,7 @@ pub fn schema(rng: &mut Rng, draft: &mut Draft) {
 pub fn fields(rng: &mut Rng, names: usize, types: usize, most: usize) -> Vec<(u16, u16)> {
     let mut free: Vec<u16> = (0..names as u16).collect();
     rng.shuffle(&mut free);
-    free.truncate(rng.from_to(0, most.min(names)));
+    free.truncate(rng.between(0, most.min(names)));
     free.into_iter()
         .map(|name| (name, rng.below(types) as u16))
         .collect()
@@ -138,7 +138,7 @@ pub fn alternatives(
 ) -> Vec<(u16, u32, u16)> {
     let mut discs = DISCRIMINANTS;
     rng.shuffle(&mut discs);
-    let count = rng.from_to(0, most);
+    let count = rng.between(0, most);
     discs[..count]
         .iter()
         .map(|&disc| (rng.below(names) as u16, disc, rng.below(types) as u16))
@@ -147,14 +147,14 @@ pub fn alternatives(
 
 impl Grower<'_> {
     fn query(&mut self) {
-        for _ in 0..self.rng.from_to(1, self.taste.statements) {
+        for _ in 0..self.rng.between(1, self.taste.statements) {
             let stmt = self.statement(2);
             self.draft.body.push(stmt);
         }
         self.draft.head = match self.rng.weighted(&[50, 25, 5, 20]) {
             0 => self.variable(None),
             1 => {
-                let fields = (0..self.rng.from_to(0, 3))
+                let fields = (0..self.rng.between(0, 3))
                     .map(|_| (self.any_name(), self.variable(None)))
                     .collect();
                 self.draft.node(Expr::Record(fields))
@@ -201,7 +201,7 @@ impl Grower<'_> {
         match self.rng.weighted(&[40, 6, 8, 15, 6, 6, 3, 5, 11]) {
             0 => Stmt::Implicit(self.fact(depth)),
             1 => {
-                let branches = (0..self.rng.from_to(0, 3))
+                let branches = (0..self.rng.between(0, 3))
                     .map(|_| self.branch(depth))
                     .collect();
                 Stmt::Implicit(self.draft.node(Expr::Disjunction(branches)))
@@ -241,7 +241,7 @@ impl Grower<'_> {
         if self.rng.chance(75) {
             return self.fact(depth);
         }
-        let branches = (0..self.rng.from_to(0, 3))
+        let branches = (0..self.rng.between(0, 3))
             .map(|_| self.fact(depth))
             .collect();
         self.draft.node(Expr::Disjunction(branches))
@@ -366,7 +366,7 @@ impl Grower<'_> {
 
     fn scope(&mut self, goal: Option<u16>, depth: usize) -> u16 {
         if self.rng.chance(50) {
-            let branches = (0..self.rng.from_to(0, 3))
+            let branches = (0..self.rng.between(0, 3))
                 .map(|_| self.value(goal, depth))
                 .collect();
             return self.draft.node(Expr::Disjunction(branches));
@@ -387,7 +387,7 @@ impl Grower<'_> {
             None => return self.anything(depth),
             Some(Shape::Int) => match self.rng.below(4) {
                 0 if depth > 0 => {
-                    let operands = (0..self.rng.from_to(0, 3))
+                    let operands = (0..self.rng.between(0, 3))
                         .map(|_| self.value(goal, depth - 1))
                         .collect();
                     Expr::Arith(operands)
@@ -512,7 +512,7 @@ impl Grower<'_> {
             }
             let (name, mut at) = self.known[self.rng.below(self.known.len())];
             let mut steps = Vec::new();
-            for _ in 0..self.rng.from_to(1, 3) {
+            for _ in 0..self.rng.between(1, 3) {
                 let Some((step, next)) = at.and_then(|at| self.step(at)) else {
                     break;
                 };

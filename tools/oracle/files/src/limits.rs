@@ -135,7 +135,7 @@ fn filled(draft: &mut Draft, bytes: usize) -> Vec<Stmt> {
     let mut body = Vec::new();
     let mut left = bytes;
     while left > 0 {
-        let wide = left % 3 != 0 && left >= 5;
+        let wide = !left.is_multiple_of(3) && left >= 5;
         let first = draft.node(Expr::Int);
         if wide {
             let second = draft.node(Expr::Int);
@@ -304,7 +304,7 @@ fn answer_of(size: usize) -> Draft {
         draft.body.push(Stmt::Implicit(fact));
         left -= 788;
     }
-    while left % 9 != 0 && left >= 13 {
+    while !left.is_multiple_of(9) && left >= 13 {
         let node = draft.var(0);
         draft.body.push(Stmt::Implicit(node));
         left -= 13;

@@ -46,7 +46,7 @@ fn statements(frame: &[u8], head: usize) -> Vec<(usize, u8)> {
 }
 
 pub fn references(rng: &mut Rng) -> Vec<u8> {
-    let nodes = rng.from_to(2, 10);
+    let nodes = rng.between(2, 10);
     let mut frames = valid::wild_tree(rng, nodes).frames();
     let mut all = Vec::new();
     for (number, frame) in frames.iter().enumerate() {

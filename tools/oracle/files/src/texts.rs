@@ -81,7 +81,7 @@ const BROKEN: &[&[u8]] = &[
 pub fn texts(rng: &mut Rng) -> Vec<u8> {
     let term = rng.below(5) as u16;
     let mut frames = vec![draft::limits(2, term)];
-    let count = rng.from_to(1, 5);
+    let count = rng.between(1, 5);
     for _ in 0..count {
         frames.push(draft::name(&text(rng)));
     }

@@ -52,13 +52,13 @@ pub fn scopes(rng: &mut Rng) -> Draft {
 
 /// Any shape over any free nodes, without a thought about types.
 pub fn wild(rng: &mut Rng) -> Draft {
-    let nodes = rng.from_to(1, 24);
+    let nodes = rng.between(1, 24);
     wild_tree(rng, nodes)
 }
 
 /// The same with a handful of nodes, so that all small trees come up.
 pub fn tiny(rng: &mut Rng) -> Draft {
-    let nodes = rng.from_to(1, 4);
+    let nodes = rng.between(1, 4);
     wild_tree(rng, nodes)
 }
 
@@ -85,7 +85,7 @@ fn take(rng: &mut Rng, free: &mut Vec<u16>) -> Option<u16> {
 }
 
 fn some(rng: &mut Rng, free: &mut Vec<u16>, most: usize) -> Vec<u16> {
-    (0..rng.from_to(0, most))
+    (0..rng.between(0, most))
         .map_while(|_| take(rng, free))
         .collect()
 }
@@ -157,7 +157,7 @@ pub fn unknowns(rng: &mut Rng) -> Draft {
     for word in ["x", "y", "z", "u", "v", "w", "a", "b"] {
         draft.name(word);
     }
-    for _ in 0..rng.from_to(2, 9) {
+    for _ in 0..rng.between(2, 9) {
         let stmt = match rng.below(10) {
             0..6 => {
                 let left = draft.var(rng.below(6) as u16);
@@ -176,7 +176,7 @@ pub fn unknowns(rng: &mut Rng) -> Draft {
                 Stmt::Compare(left, term(rng, &mut draft, 2))
             }
             _ => {
-                let branches = (0..rng.from_to(1, 3))
+                let branches = (0..rng.between(1, 3))
                     .map(|_| term(rng, &mut draft, 1))
                     .collect();
                 let right = draft.node(Expr::Disjunction(branches));
@@ -241,7 +241,7 @@ pub fn alike(rng: &mut Rng) -> Draft {
         }
     }
     let mut family = Vec::new();
-    for _ in 0..rng.from_to(2, 4) {
+    for _ in 0..rng.between(2, 4) {
         family.push(if unions {
             let ty = draft.ty(Shape::Union(alternatives.clone()));
             twist_union(rng, &mut draft, &mut alternatives);
@@ -272,7 +272,7 @@ pub fn alike(rng: &mut Rng) -> Draft {
         let fact = draft.node(Expr::Fact(predicate, node));
         draft.body.push(Stmt::Implicit(fact));
     }
-    for _ in 0..rng.from_to(1, 4) {
+    for _ in 0..rng.between(1, 4) {
         let stmt = crossed(rng, &mut draft, family.len());
         draft.body.push(stmt);
     }
@@ -313,7 +313,7 @@ fn crossed(rng: &mut Rng, draft: &mut Draft, family: usize) -> Stmt {
 /// A record of two fields, the names drawn from few.
 fn payload(rng: &mut Rng, draft: &mut Draft) -> u16 {
     let first = rng.below(4) as u16;
-    let second = (first + rng.from_to(1, 2) as u16) % 4;
+    let second = (first + rng.between(1, 2) as u16) % 4;
     let (a, b) = (rng.below(2) as u16, rng.below(2) as u16);
     draft.ty(Shape::Record(vec![(first, a), (second, b)]))
 }
@@ -373,7 +373,7 @@ pub fn records(rng: &mut Rng) -> Draft {
         draft.predicate(0, ty, None);
         twist_record(rng, &mut draft, &mut fields);
     }
-    for _ in 0..rng.from_to(2, 6) {
+    for _ in 0..rng.between(2, 6) {
         let left = draft.var(4 + rng.below(3) as u16);
         let stmt = match rng.below(8) {
             0 | 1 => Stmt::Implicit(draft.node(Expr::Fact(rng.below(2) as u16, left))),
@@ -427,10 +427,10 @@ pub fn accesses(rng: &mut Rng) -> Draft {
         draft.names[0] = b"Value".to_vec();
     }
     draft.types.extend([Shape::Int, Shape::Str, Shape::Bytes]);
-    for fact in 0..rng.from_to(1, 4) {
+    for fact in 0..rng.between(1, 4) {
         draft.ty(Shape::Fact(fact as u16));
     }
-    for _ in 0..rng.from_to(1, 3) {
+    for _ in 0..rng.between(1, 3) {
         let types = draft.types.len();
         let mut fields = grow::fields(rng, 3, types, 3);
         if rng.chance(30) && fields.iter().all(|field| field.0 != 0) {
@@ -441,7 +441,7 @@ pub fn accesses(rng: &mut Rng) -> Draft {
         draft.ty(Shape::Union(alternatives));
     }
     let types = draft.types.len();
-    for _ in 0..rng.from_to(1, 4) {
+    for _ in 0..rng.between(1, 4) {
         let value = rng.chance(60).then(|| rng.below(types) as u16);
         draft.predicate(0, rng.below(types) as u16, value);
     }
@@ -472,9 +472,9 @@ pub fn accesses(rng: &mut Rng) -> Draft {
             }
         }
     }
-    for _ in 0..rng.from_to(1, 5) {
+    for _ in 0..rng.between(1, 5) {
         let mut at = draft.var(3 + rng.below(variables) as u16);
-        for _ in 0..rng.from_to(1, 3) {
+        for _ in 0..rng.between(1, 3) {
             let name = rng.below(3) as u16;
             at = draft.node(match rng.below(5) {
                 0 | 1 => Expr::Key(name, at),
@@ -508,7 +508,7 @@ pub fn fuzzy(rng: &mut Rng) -> Draft {
         "\u{ffff}".as_bytes(),
         "\u{10ffff}".as_bytes(),
     ];
-    for _ in 0..rng.from_to(1, 4) {
+    for _ in 0..rng.between(1, 4) {
         let length = match rng.below(12) {
             0 if draft.term <= 0x0102 => {
                 draft.term as usize - rng.below(2).min(draft.term as usize)
@@ -529,7 +529,7 @@ pub fn fuzzy(rng: &mut Rng) -> Draft {
         draft.name("a");
     }
     let names = draft.names.len();
-    for _ in 0..rng.from_to(1, 5) {
+    for _ in 0..rng.between(1, 5) {
         let near = draft
             .distance
             .wrapping_add(rng.below(3) as u8)
@@ -563,7 +563,7 @@ pub fn left_sides(rng: &mut Rng) -> Draft {
     draft.ty(Shape::Union(vec![(2, 1, 0), (3, 0, 1)]));
     draft.predicate(0, 1, Some(2));
     draft.predicate(0, 2, None);
-    for _ in 0..rng.from_to(1, 4) {
+    for _ in 0..rng.between(1, 4) {
         let left = shallow(rng, &mut draft, 2);
         let right = shallow(rng, &mut draft, 2);
         draft.body.push(match rng.below(5) {
@@ -633,7 +633,7 @@ pub fn rollbacks(rng: &mut Rng) -> Draft {
     let key = draft.ty(Shape::Record(fields));
     draft.predicate(0, key, None);
     draft.predicate(1, rng.below(5) as u16, Some(key));
-    for _ in 0..rng.from_to(1, 4) {
+    for _ in 0..rng.between(1, 4) {
         let fact = faulty_fact(rng, &mut draft, 3);
         let stmt = match rng.below(4) {
             0 => Stmt::Negation(fact),
@@ -656,7 +656,7 @@ fn faulty_fact(rng: &mut Rng, draft: &mut Draft, depth: usize) -> u16 {
     let key = match rng.below(4) {
         0 => some_term(rng, draft, depth),
         _ => {
-            let parts = (0..rng.from_to(1, 3))
+            let parts = (0..rng.between(1, 3))
                 .map(|_| (3 + rng.below(3) as u16, some_term(rng, draft, depth)))
                 .collect();
             draft.node(Expr::Record(parts))
@@ -677,13 +677,13 @@ fn some_term(rng: &mut Rng, draft: &mut Draft, depth: usize) -> u16 {
         4 => Expr::Str,
         5 => Expr::Wildcard,
         6 | 7 => {
-            let parts = (0..rng.from_to(1, 2))
+            let parts = (0..rng.between(1, 2))
                 .map(|_| (3 + rng.below(3) as u16, some_term(rng, draft, depth - 1)))
                 .collect();
             Expr::Record(parts)
         }
         8 => {
-            let branches = (0..rng.from_to(1, 2))
+            let branches = (0..rng.between(1, 2))
                 .map(|_| some_term(rng, draft, depth - 1))
                 .collect();
             Expr::Disjunction(branches)
@@ -695,7 +695,7 @@ fn some_term(rng: &mut Rng, draft: &mut Draft, depth: usize) -> u16 {
             Expr::Subquery(head, vec![Stmt::Bind(left, right)])
         }
         10 => {
-            let operands = (0..rng.from_to(1, 2))
+            let operands = (0..rng.between(1, 2))
                 .map(|_| some_term(rng, draft, depth - 1))
                 .collect();
             Expr::Arith(operands)

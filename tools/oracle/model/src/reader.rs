@@ -30,6 +30,9 @@ impl Slot {
     }
 }
 
+/// A frame's slots in order, with their values.
+type Row = Vec<(Slot, u32)>;
+
 /// The slots that follow a shape byte: first these once, then those to the end.
 struct Layout {
     once: &'static [Slot],
@@ -377,7 +380,7 @@ impl Reader {
 
     /// Refusal 6. The row of slots with their values, or those that came before the
     /// fault.
-    fn cut(&self, frame: &[u8]) -> Result<Vec<(Slot, u32)>, Vec<(Slot, u32)>> {
+    fn cut(&self, frame: &[u8]) -> Result<Row, Row> {
         let mut cursor = Cursor {
             frame,
             at: 1,
@@ -673,7 +676,7 @@ fn twice(mut values: Vec<u32>) -> bool {
 struct Cursor<'a> {
     frame: &'a [u8],
     at: usize,
-    row: Vec<(Slot, u32)>,
+    row: Row,
 }
 
 impl Cursor<'_> {

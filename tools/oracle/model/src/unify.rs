@@ -374,12 +374,10 @@ impl State<'_> {
                         *slot = before.filter(|_| !nothing);
                     }
                 }
-                Some(Undo::Annotation(node, before)) => {
-                    if !self.wrong.on(Wrong::AnnotationsKept) {
-                        self.tys[node as usize] = before.filter(|_| !nothing);
-                    }
+                Some(Undo::Annotation(node, before)) if !self.wrong.on(Wrong::AnnotationsKept) => {
+                    self.tys[node as usize] = before.filter(|_| !nothing);
                 }
-                None => {}
+                _ => {}
             }
         }
     }

@@ -59,3 +59,19 @@ fn each_refusal_comes_up() {
     }
     assert_eq!(seen, (1..=12).collect());
 }
+
+#[test]
+fn files_are_made_smaller() {
+    let usual = Limits::default();
+    let place = |wanted: &str| model::MUTATIONS.iter().position(|m| m.0 == wanted);
+    let wrong = place("a failed bind is undone");
+    let mut differs =
+        |file: &[u8]| answer(file, &usual, None).answer != answer(file, &usual, wrong).answer;
+    let telling = (0..)
+        .map(|n| trial::file(3, n).1)
+        .find(|file| differs(file));
+    let telling = telling.expect("the files do not end");
+    let small = trial::shrink(&telling, &mut differs);
+    assert!(differs(&small) && small.len() < telling.len());
+    assert!(small.len() < 400, "{}", String::from_utf8_lossy(&small));
+}
