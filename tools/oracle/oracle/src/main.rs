@@ -34,9 +34,11 @@ oracle agree --seed S --count N [--out DIR]
     second checker, second count) on generated files, with slices and visits around each boundary.
     Ends with status 1 where there is a mismatch.
 
-oracle mutants [--seed S] [--count N]
+oracle mutants [--seed S] [--count N] [--usual]
     Switches on each mistake of a list in the model and says which the files tell from the right
     one. Ends with status 1 unless all that are wrong are told, and none that is equal in behaviour.
+    --usual runs the files with the program's own slices alone; other lengths and visits can then
+    tell nothing.
 
 oracle compare answers --seed S --count N [--style NAME] [--program P] [--out DIR]
 oracle compare reading --seed S --count N [--style NAME] [--out DIR]

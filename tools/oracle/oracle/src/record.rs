@@ -20,7 +20,9 @@ const STORED: &str = concat!(env!("CARGO_MANIFEST_DIR"), "/../../../vectors/answ
 const EACH: u64 = 50;
 /// Seeds tried for them.
 const TRIES: u64 = 400;
-/// A case's file and answer are shorter than these, and the whole sample than that.
+/// A case's file and answer are shorter than these, and the whole sample than that. Only the files
+/// at the limits of reading need the first.
+const LIMIT_FILE_BYTES: usize = 2048;
 const FILE_BYTES: usize = 1024;
 const ANSWER_BYTES: usize = 2048;
 const SAMPLE_BYTES: usize = 1_500_000;
@@ -58,13 +60,13 @@ pub fn run(given: &[String]) -> Done {
 fn sample() -> (Sample, Vec<String>) {
     let mut sample = Sample::default();
     for file in selftest::small_files() {
-        sample.add(&file);
+        sample.add(&file, LIMIT_FILE_BYTES);
     }
     let mut by_style = vec![format!("document 01 {}", sample.tally.files)];
     for style in files::STYLES {
         let before = sample.tally.files;
         for seed in 0..TRIES {
-            sample.add(&files::generate(style, seed));
+            sample.add(&files::generate(style, seed), FILE_BYTES);
             if sample.tally.files - before == EACH {
                 break;
             }
@@ -83,8 +85,8 @@ struct Sample {
 
 impl Sample {
     /// Adds a file that is small, new and not left out.
-    fn add(&mut self, file: &[u8]) {
-        if file.len() >= FILE_BYTES || self.seen.contains(file) {
+    fn add(&mut self, file: &[u8], bytes: usize) {
+        if file.len() >= bytes || self.seen.contains(file) {
             return;
         }
         let limits = Limits::default();

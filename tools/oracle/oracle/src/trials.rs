@@ -55,10 +55,15 @@ pub fn agree(given: &[String]) -> Done {
 
 /// The mistakes beside the files.
 pub fn mutants(given: &[String]) -> Done {
-    let options = Options::parse(given, &["seed", "count"], &[])?;
+    let options = Options::parse(given, &["seed", "count"], &["usual"])?;
     let seed = options.number("seed")?.unwrap_or(1);
     let count = options.number("count")?.unwrap_or(60_000);
-    let told = trial::mutants(seed, count);
+    let with = if options.flag("usual") {
+        trial::Lent::Usual
+    } else {
+        trial::Lent::Varied
+    };
+    let told = trial::mutants(seed, count, with);
     for surprise in &told.surprises {
         println!("SURPRISE {surprise}");
     }

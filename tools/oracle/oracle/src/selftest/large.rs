@@ -1,6 +1,6 @@
 //! Types larger than the Rust can hold: what is left out, and what is still answered.
 
-use judge::{Answer, File, Node, Predicate, Query, Shape, Stmt, Type};
+use judge::{Answer, File, Limits, Node, Predicate, Query, Shape, Stmt, Type};
 
 use super::{Group, default, refusals};
 
@@ -18,10 +18,10 @@ pub fn run(group: &mut Group) {
     group.same("a key of 2^8 parts fits", fits, true);
 
     // p a: binding the variable a walks the whole key.
-    let expected = [Answer::Refused(12), Answer::Refused(11)];
-    for (file, expected) in files().zip(expected) {
-        group.same("a small file", default(&file).answer, expected);
+    for (file, number) in files() {
+        group.refused("a small file", &file, number);
     }
+    at_the_limits(group);
 
     // The same schema, not used: nothing is copied.
     let mut unused = doubled_key(60);
@@ -49,13 +49,133 @@ pub fn run(group: &mut Group) {
     group.same("2^60 parts unified", ran.answer, Answer::Refused(11));
 }
 
-/// Small files that get 12 and 11.
-pub fn files() -> impl Iterator<Item = Vec<u8>> {
+/// The visits and the length that the small files were made for.
+fn at_the_limits(group: &mut Group) {
+    let ran = default(&judge::encode(&exact(MOST_VISITS)));
+    group.same("as many visits as allowed", ran.visits, MOST_VISITS);
+    let with = |bytes| {
+        let limits = Limits {
+            bytes,
+            ..Limits::default()
+        };
+        judge::answer(&judge::encode(&one_byte_longer()), &limits).answer
+    };
+    let fits = matches!(with(65_537), Answer::Lines(lines) if lines.len() == 65_537);
+    group.same("an answer of 65,537 bytes", fits, true);
+}
+
+/// Small files and the numbers that they get: 12 and 11, far past the limits and exactly at them.
+pub fn files() -> Vec<(Vec<u8>, u8)> {
     let mut walked = doubled_key(20);
     walked.nodes[0].shape = Shape::Var(0);
-    [doubled_key(12), walked]
-        .into_iter()
-        .map(|file| judge::encode(&file))
+    [
+        (doubled_key(12), 12),
+        (walked, 11),
+        // As many visits as allowed, and one more.
+        (exact(MOST_VISITS), 12),
+        (exact(MOST_VISITS + 1), 11),
+        (one_byte_longer(), 12),
+    ]
+    .into_iter()
+    .map(|(file, number)| (judge::encode(&file), number))
+    .collect()
+}
+
+const MOST_VISITS: u64 = 1_048_576;
+
+/// A file that takes so many visits, some by each rule of counting:
+///
+/// - z = y, y = 1, y = 1: an unknown bound to another, and a chain that is no visit;
+/// - w = {a = w, b = 1}: occurs ends where it finds the unknown;
+/// - {a = q _, b = 1} < {a = q _, b = 1}: orderable ends at the fact, q being absent;
+/// - 1 + 1;
+/// - p x, where p's key is large enough to make up the rest.
+fn exact(visits: u64) -> File {
+    const STATEMENTS: u64 = (2 + 2 + 1) + 3 + (3 + 2) + 2;
+    // One for unify at p x, the others for occurs at each part of the key.
+    let mut file = key_of(&depths(visits - STATEMENTS - 1));
+    file.nodes[0].shape = Shape::Var(0);
+    let [a, b, w, y, z] = [0, 1, 2, 3, 4];
+
+    let mut nodes = Nodes(file.nodes);
+    let mut body = vec![];
+    let (left, right) = (nodes.push(Shape::Var(z)), nodes.push(Shape::Var(y)));
+    body.push(Stmt::Bind(left, right));
+    for _ in 0..2 {
+        let (left, right) = (nodes.push(Shape::Var(y)), nodes.push(Shape::Int));
+        body.push(Stmt::Bind(left, right));
+    }
+    let (inner, one) = (nodes.push(Shape::Var(w)), nodes.push(Shape::Int));
+    let right = nodes.push(Shape::Record(vec![(a, inner), (b, one)]));
+    let left = nodes.push(Shape::Var(w));
+    body.push(Stmt::Bind(left, right));
+    let sides = [(); 2].map(|()| {
+        let key = nodes.push(Shape::Wildcard);
+        let (fact, one) = (nodes.push(Shape::Fact(9, key)), nodes.push(Shape::Int));
+        nodes.push(Shape::Record(vec![(a, fact), (b, one)]))
+    });
+    body.push(Stmt::Compare(sides[0], sides[1]));
+    let operands = [(); 2].map(|()| nodes.push(Shape::Int));
+    let sum = nodes.push(Shape::Arith(operands.to_vec()));
+    body.push(Stmt::Implicit(sum));
+
+    file.nodes = nodes.0;
+    file.query.body = body;
+    file
+}
+
+/// p _ and a third node, with an answer of 65,537 bytes: 13 for p's node, 9 for the third, and for
+/// the key's 7 and the 65,508 of a record of five fields, each 16 times 2 to its depth less 10.
+fn one_byte_longer() -> File {
+    let mut nodes = Nodes(vec![]);
+    let mut file = key_of(&[11, 10, 9, 9, 0]);
+    std::mem::swap(&mut file.nodes, &mut nodes.0);
+    nodes.push(Shape::Int);
+    file.nodes = nodes.0;
+    file
+}
+
+/// Depths of full binary trees that make up, with a record over them, so many parts.
+fn depths(parts: u64) -> Vec<u16> {
+    // With k trees the powers of two 2^(depth + 1) add up to this.
+    for k in 1..=24 {
+        let sum = parts - 1 + k;
+        let mut powers: Vec<u32> = (0..32).filter(|bit| sum >> bit & 1 == 1).collect();
+        while (powers.len() as u64) < k && powers.last().is_some_and(|power| *power > 1) {
+            let power = powers.pop().expect("just seen");
+            powers.extend([power - 1; 2]);
+        }
+        if powers.len() as u64 == k && powers[0] > 0 {
+            return powers.iter().map(|power| *power as u16 - 1).collect();
+        }
+    }
+    unreachable!("so many trees suffice for the numbers asked for")
+}
+
+/// Nodes that get the next number.
+struct Nodes(Vec<Node>);
+
+impl Nodes {
+    fn push(&mut self, shape: Shape) -> u16 {
+        self.0.push(Node {
+            start: 0,
+            end: 0,
+            shape,
+        });
+        self.0.len() as u16 - 1
+    }
+}
+
+/// p _, where p's key is a record of full binary trees of these depths.
+fn key_of(depths: &[u16]) -> File {
+    let deepest = *depths.iter().max().expect("one at least");
+    let mut file = doubled_key(deepest);
+    let names = (0..depths.len().max(5)).map(|name| vec![b'a' + name as u8]);
+    file.names = names.collect();
+    let fields = (0..).zip(depths.iter().copied());
+    file.types.push(Type::Record(fields.collect()));
+    file.predicates[0].key = deepest + 1;
+    file
 }
 
 /// p _, where p's key is a record of two of a record of two and so on.

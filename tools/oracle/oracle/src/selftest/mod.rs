@@ -82,7 +82,8 @@ fn default(file: &[u8]) -> Ran {
 
 /// Files of the self-test that are small enough to be recorded.
 pub fn small_files() -> impl Iterator<Item = Vec<u8>> {
-    examples::files().chain(large::files())
+    let large = large::files().into_iter().map(|(file, _)| file);
+    examples::files().chain(large).chain(reading::files())
 }
 
 pub fn run(given: &[String]) -> Done {

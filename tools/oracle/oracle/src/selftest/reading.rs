@@ -180,37 +180,65 @@ fn names() -> String {
     format!("{START}\n{}", (0..256).map(name).collect::<String>())
 }
 
+const NODE: &str = "05000000000000000004\n";
+
+/// Lines with as many names, types, predicates and nodes as allowed, and a query that fits.
+fn full() -> [(&'static str, String, &'static str); 4] {
+    [
+        ("names", names(), "060000"),
+        (
+            "types",
+            format!("{START}\n0278\n{}", "0300\n".repeat(256)),
+            "060000",
+        ),
+        (
+            "predicates",
+            format!("{START}\n0278\n0300\n{}", "040000000000\n".repeat(128)),
+            "060000",
+        ),
+        ("nodes", format!("{START}\n{}", NODE.repeat(511)), "0601ff"),
+    ]
+}
+
 /// Exactly as many as allowed, and one more, which is turned down before its content is looked at.
 fn counts(group: &mut Group) {
-    let names = names();
-    let node = "05000000000000000004\n";
-    group.read("256 names", &lines(&format!("{names}{node}060000")));
-    group.refused(
-        "a 257th with a broken text",
-        &lines(&format!("{names}02ff")),
-        5,
-    );
-    group.refused("a 257th that is odd", &lines(&format!("{names}02f")), 3);
-    group.refused(
-        "a 257th misplaced",
-        &lines(&format!("{names}0300\n02ff")),
-        4,
-    );
+    for (kind, (case, above, query)) in (2..).zip(full()) {
+        // The nodes are one short, so that each file can have the node that its query names.
+        let last = if kind == 5 { NODE } else { "" };
+        group.read(
+            &format!("as many {case} as allowed"),
+            &lines(&format!("{above}{NODE}{query}")),
+        );
+        for (fault, line) in [("bare", ""), ("broken", "ff")] {
+            let line = format!("{above}{last}{kind:02x}{line}");
+            group.refused(&format!("one more of {case}, {fault}"), &lines(&line), 5);
+        }
+        let odd = format!("{above}{last}{kind:02x}f");
+        group.refused(&format!("one more of {case}, odd"), &lines(&odd), 3);
+    }
+    let misplaced = format!("{}0300\n02ff", names());
+    group.refused("a 257th name misplaced", &lines(&misplaced), 4);
+}
 
-    let types = format!("{START}\n0278\n{}", "0300\n".repeat(256));
-    group.read("256 types", &lines(&format!("{types}{node}060000")));
-    group.refused("a 257th type", &lines(&format!("{types}03")), 5);
-
-    let predicates = format!("{START}\n0278\n0300\n{}", "040000000000\n".repeat(128));
-    group.read(
-        "128 predicates",
-        &lines(&format!("{predicates}{node}060000")),
-    );
-    group.refused("a 129th", &lines(&format!("{predicates}04")), 5);
-
-    let nodes = format!("{START}\n{}", node.repeat(512));
-    group.read("512 nodes", &lines(&format!("{nodes}0601ff")));
-    group.refused("a 513th", &lines(&format!("{nodes}05")), 5);
+/// Small files at and one past the limits of reading: the empty file, counts, the length of a line.
+pub fn files() -> Vec<Vec<u8>> {
+    let mut files = vec![vec![], b"\n".to_vec()];
+    for (kind, (_, above, query)) in (2..5).zip(full()) {
+        files.push(lines(&format!("{above}{NODE}{query}")));
+        for text in [
+            format!("{above}{kind:02x}"),
+            format!("{above}{kind:02x}ff"),
+            format!("{above}0{kind}f"),
+            format!("{above}{NODE}{kind:02x}"),
+        ] {
+            files.push(lines(&text));
+        }
+    }
+    for length in [510, 511, 512] {
+        let name = "61".repeat(length);
+        files.push(lines(&format!("{START}\n02{name}\n{NODE}060000")));
+    }
+    files
 }
 
 fn references(group: &mut Group) {
