@@ -16,6 +16,8 @@ use crate::tally::Tally;
 
 const STORED: &str = concat!(env!("CARGO_MANIFEST_DIR"), "/../../../vectors/answers.bin");
 
+/// Seed and count of the files that those which tell a mistake are taken from.
+const TELLING: (u64, u64) = (1, 3_000);
 /// Cases of each style, from the seeds 0 on.
 const EACH: u64 = 50;
 /// Seeds tried for them.
@@ -56,13 +58,23 @@ pub fn run(given: &[String]) -> Done {
     Ok(same && differing == 0)
 }
 
-/// The sample and how many cases each style has: the files of document 01, then each style's.
+/// The sample and how many cases of each sort it has: files of the self-test, files that each tell a
+/// mistake of the list, then each style's.
 fn sample() -> (Sample, Vec<String>) {
     let mut sample = Sample::default();
-    for file in selftest::small_files() {
+    for file in selftest::files() {
         sample.add(&file, LIMIT_FILE_BYTES);
     }
-    let mut by_style = vec![format!("document 01 {}", sample.tally.files)];
+    let known: Vec<Vec<u8>> = sample.seen.iter().cloned().collect();
+    let mut by_style = vec![format!("self-test {}", sample.tally.files)];
+    let (telling, open) = trial::telling(&known, TELLING.0, TELLING.1, FILE_BYTES - 1);
+    for file in &telling {
+        sample.add(file, FILE_BYTES);
+    }
+    by_style.push(format!("telling {}", telling.len()));
+    for mistake in open {
+        println!("not told by these: {mistake}");
+    }
     for style in files::STYLES {
         let before = sample.tally.files;
         for seed in 0..TRIES {

@@ -34,7 +34,7 @@ fn main() -> ExitCode {
             told.surprises.is_empty()
         }
         "telling" => {
-            let (kept, open) = trial::telling(seed, count, 1_000);
+            let (kept, open) = trial::telling(&[], seed, count, 1_000);
             let bytes: usize = kept.iter().map(Vec::len).sum();
             println!("{} files, {bytes} bytes, not told: {open:#?}", kept.len());
             true

@@ -14,16 +14,22 @@ pub fn told_by(file: &[u8]) -> Vec<usize> {
     (0..MUTATIONS.len()).filter(tells).collect()
 }
 
-/// Files of at most `longest` bytes, each made smaller for the first mistake that it was
-/// needed for, and taken from the first `count` files of a seed; then the names of the
-/// mistakes that none of them tells, those that are equal in behaviour left out.
-pub fn telling(seed: u64, count: u64, longest: usize) -> (Vec<Vec<u8>>, Vec<&'static str>) {
+/// Files of at most `longest` bytes that tell what the `known` ones do not, each made smaller
+/// for the first mistake that it was needed for, and taken from the first `count` files of a
+/// seed; then the names of the mistakes that none tells, those that are equal in behaviour
+/// left out.
+pub fn telling(
+    known: &[Vec<u8>],
+    seed: u64,
+    count: u64,
+    longest: usize,
+) -> (Vec<Vec<u8>>, Vec<&'static str>) {
     let mut open: Vec<usize> = (0..MUTATIONS.len())
         .filter(|&at| !MUTATIONS[at].1)
+        .filter(|&at| !known.iter().any(|file| told_by_one(file, at)))
         .collect();
-    let mut kept: Vec<Vec<u8>> = Vec::new();
-    // Some tell only by length; they are not tried again and again.
     let mut tries = vec![0; MUTATIONS.len()];
+    let mut kept: Vec<Vec<u8>> = Vec::new();
     for n in 0..count {
         let (_, bytes) = file(seed, n);
         // Longer ones are there for a limit and cannot be made small.
@@ -31,10 +37,8 @@ pub fn telling(seed: u64, count: u64, longest: usize) -> (Vec<Vec<u8>>, Vec<&'st
             continue;
         }
         for mutation in open.clone() {
-            if !open.contains(&mutation)
-                || tries[mutation] == TRIES
-                || !told_by_one(&bytes, mutation)
-            {
+            let wanted = open.contains(&mutation) && tries[mutation] < TRIES;
+            if !wanted || !told_by_one(&bytes, mutation) {
                 continue;
             }
             tries[mutation] += 1;

@@ -2,7 +2,7 @@
 
 use judge::Answer;
 
-use super::{Group, default, lines, report};
+use super::{Group, lines, report};
 
 /// M: the smallest file.
 pub const M: &str = "
@@ -33,11 +33,11 @@ fn m() -> Vec<u8> {
 }
 
 pub fn whole(group: &mut Group) {
-    let ran = default(&m());
+    let ran = group.answer(&m());
     group.same("M", ran.answer, Answer::Lines(lines("07000000")));
     group.same("M's visits", ran.visits, 0);
 
-    let ran = default(&lines(WHOLE));
+    let ran = group.answer(&lines(WHOLE));
     group.same(
         "the whole case",
         ran.answer,
@@ -63,17 +63,12 @@ pub fn table(group: &mut Group) {
         for (start, end, code) in row.reports {
             expected.extend_from_slice(report(*start, *end, code).as_bytes());
         }
-        let ran = default(&lines(row.file));
+        let ran = group.answer(&lines(row.file));
         group.same(row.case, ran.answer, Answer::Lines(expected));
         group.same(row.case, ran.visits, row.visits);
         let codes: Vec<&str> = row.reports.iter().map(|(_, _, code)| *code).collect();
         group.same(row.case, ran.codes, codes);
     }
-}
-
-/// The files of the table.
-pub fn files() -> impl Iterator<Item = Vec<u8>> {
-    ROWS.iter().map(|row| lines(row.file))
 }
 
 /// In the files, node n has the span from 2n to 2n + 1.

@@ -2,18 +2,18 @@
 
 use judge::{Answer, File, Limits, Node, Predicate, Query, Shape, Stmt, Type};
 
-use super::{Group, default, refusals};
+use super::{Group, refusals};
 
 pub fn run(group: &mut Group) {
     let left_out = Answer::LeftOut(judge::TOO_LARGE);
 
     // p _ over a key that doubles: the Rust copies the key out.
-    let ran = default(&judge::encode(&doubled_key(60)));
+    let ran = group.answer(&judge::encode(&doubled_key(60)));
     group.same("a key of 2^60 parts", ran.answer, left_out.clone());
-    let ran = default(&judge::encode(&doubled_key(12)));
+    let ran = group.answer(&judge::encode(&doubled_key(12)));
     group.same("a key of 2^12 parts", ran.answer, Answer::Refused(12));
     group.same("its visits", ran.visits, 0);
-    let ran = default(&judge::encode(&doubled_key(8)));
+    let ran = group.answer(&judge::encode(&doubled_key(8)));
     let fits = matches!(ran.answer, Answer::Lines(_));
     group.same("a key of 2^8 parts fits", fits, true);
 
@@ -26,7 +26,7 @@ pub fn run(group: &mut Group) {
     // The same schema, not used: nothing is copied.
     let mut unused = doubled_key(60);
     unused.nodes[1].shape = Shape::Error;
-    let ran = default(&judge::encode(&unused));
+    let ran = group.answer(&judge::encode(&unused));
     group.same(
         "a key of 2^60 parts, not used",
         ran.answer,
@@ -35,23 +35,23 @@ pub fn run(group: &mut Group) {
 
     // x0 = {a = x1, b = x1} and so on, then x0 < error: one visit, and then `compare` writes the
     // type out before it is looked at, so neither visits nor answer can be had from the Rust.
-    let ran = default(&judge::encode(&compared(60, Shape::Error)));
+    let ran = group.answer(&judge::encode(&compared(60, Shape::Error)));
     group.same("2^60 parts compared", ran.answer, left_out);
-    let ran = default(&judge::encode(&compared(10, Shape::Error)));
+    let ran = group.answer(&judge::encode(&compared(10, Shape::Error)));
     group.same("2^10 parts compared", ran.answer, Answer::Refused(12));
     // The binds, four visits each; unify; orderable at each part of the full tree.
     group.same("its visits", ran.visits, 10 * 4 + 1 + 2047);
 
     // With x0 < x0 unify walks both sides, part by part.
-    let ran = default(&judge::encode(&compared(10, Shape::Var(0))));
+    let ran = group.answer(&judge::encode(&compared(10, Shape::Var(0))));
     group.same("its visits", ran.visits, 10 * 4 + 2047 + 2047);
-    let ran = default(&judge::encode(&compared(60, Shape::Var(0))));
+    let ran = group.answer(&judge::encode(&compared(60, Shape::Var(0))));
     group.same("2^60 parts unified", ran.answer, Answer::Refused(11));
 }
 
 /// The visits and the length that the small files were made for.
 fn at_the_limits(group: &mut Group) {
-    let ran = default(&judge::encode(&exact(MOST_VISITS)));
+    let ran = group.answer(&judge::encode(&exact(MOST_VISITS)));
     group.same("as many visits as allowed", ran.visits, MOST_VISITS);
     let with = |bytes| {
         let limits = Limits {
@@ -89,13 +89,16 @@ const MOST_VISITS: u64 = 1_048_576;
 /// - w = {a = w, b = 1}: occurs ends where it finds the unknown;
 /// - {a = q _, b = 1} < {a = q _, b = 1}: orderable ends at the fact, q being absent;
 /// - 1 + 1;
-/// - p x, where p's key is large enough to make up the rest.
+/// - values of two unions compared, that differ at discriminant 1 of 1, 2 and 80000001, and of two
+///   that agree at 1 before one lacks 3;
+/// - p x, where p's key is large enough to make up the rest and has a union in it.
 fn exact(visits: u64) -> File {
-    const STATEMENTS: u64 = (2 + 2 + 1) + 3 + (3 + 2) + 2;
-    // One for unify at p x, the others for occurs at each part of the key.
-    let mut file = key_of(&depths(visits - STATEMENTS - 1));
+    const STATEMENTS: u64 = (2 + 2 + 1) + 3 + (3 + 2) + 2 + 2 + 2;
+    // One for unify at p x and two for occurs at the union, the others at each other part.
+    let mut file = key_of(&depths(visits - STATEMENTS - 3));
     file.nodes[0].shape = Shape::Var(0);
     let [a, b, w, y, z] = [0, 1, 2, 3, 4];
+    let unions = add_unions(&mut file);
 
     let mut nodes = Nodes(file.nodes);
     let mut body = vec![];
@@ -115,6 +118,14 @@ fn exact(visits: u64) -> File {
         nodes.push(Shape::Record(vec![(a, fact), (b, one)]))
     });
     body.push(Stmt::Compare(sides[0], sides[1]));
+    for pair in unions.chunks(2) {
+        let values = [pair[0], pair[1]].map(|predicate| {
+            let key = nodes.push(Shape::Wildcard);
+            let fact = nodes.push(Shape::Fact(predicate, key));
+            nodes.push(Shape::Value(fact))
+        });
+        body.push(Stmt::Compare(values[0], values[1]));
+    }
     let operands = [(); 2].map(|()| nodes.push(Shape::Int));
     let sum = nodes.push(Shape::Arith(operands.to_vec()));
     body.push(Stmt::Implicit(sum));
@@ -122,6 +133,40 @@ fn exact(visits: u64) -> File {
     file.nodes = nodes.0;
     file.query.body = body;
     file
+}
+
+/// Gives p's key a field that is a union, and adds predicates whose values are unions: two that
+/// differ at the least discriminant, and two that each lack one of the other's.
+fn add_unions(file: &mut File) -> [u16; 4] {
+    let [a, b, c] = [0, 1, 2];
+    let (int, record) = (0, 1);
+    let key = file.types.pop();
+    let high = 0x8000_0001;
+    let unions = [
+        vec![(a, 2, int), (b, high, int), (c, 1, int)],
+        vec![(a, 2, int), (b, high, int), (c, 1, record)],
+        vec![(a, 1, int), (b, 3, int)],
+        vec![(a, 1, int), (b, 4, int)],
+        vec![(a, 0, int)],
+    ];
+    let first = file.types.len() as u16;
+    file.types.extend(unions.map(Type::Union));
+    let Some(Type::Record(mut fields)) = key else {
+        unreachable!("p's key is the last type and a record");
+    };
+    let name = file.names.len() as u16;
+    file.names.push(b"union".to_vec());
+    fields.push((name, first + 4));
+    file.types.push(Type::Record(fields));
+    file.predicates[0].key = first + 5;
+    [0, 1, 2, 3].map(|number| {
+        file.predicates.push(Predicate {
+            name: 0,
+            key: int,
+            value: Some(first + number),
+        });
+        file.predicates.len() as u16 - 1
+    })
 }
 
 /// p _ and a third node, with an answer of 65,537 bytes: 13 for p's node, 9 for the third, and for

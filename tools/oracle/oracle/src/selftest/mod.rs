@@ -16,20 +16,40 @@ use crate::options::Options;
 /// What runs the cases of a group.
 type Cases = fn(&mut Group);
 
-/// Counts of one group of cases.
+/// The groups by name.
+const GROUPS: [(&str, Cases); 6] = [
+    ("the examples of document 01", examples::whole),
+    ("the table of refusals", refusals::run),
+    ("the list of the computed table", examples::table),
+    ("the examples of RFC 3629", texts::run),
+    ("the rules of reading", reading::run),
+    ("types too large", large::run),
+];
+
+/// One group of cases: counts, and the files that were asked about.
 pub struct Group {
     name: &'static str,
     passed: usize,
     failed: usize,
+    files: Vec<Vec<u8>>,
 }
 
 impl Group {
-    fn new(name: &'static str) -> Self {
-        Group {
+    fn run(name: &'static str, cases: Cases) -> Self {
+        let mut group = Group {
             name,
             passed: 0,
             failed: 0,
-        }
+            files: vec![],
+        };
+        cases(&mut group);
+        group
+    }
+
+    /// What a file gives with the program's slices.
+    pub fn answer(&mut self, file: &[u8]) -> Ran {
+        self.files.push(file.to_vec());
+        judge::answer(file, &Limits::default())
     }
 
     /// Counts one case, and tells of it where the two differ.
@@ -46,12 +66,13 @@ impl Group {
 
     /// A file that is turned down.
     pub fn refused(&mut self, case: &str, file: &[u8], number: u8) {
-        let found = judge::answer(file, &Limits::default()).answer;
+        let found = self.answer(file).answer;
         self.same(case, found, Answer::Refused(number));
     }
 
     /// A file that passes the reading.
     pub fn read(&mut self, case: &str, file: &[u8]) {
+        self.files.push(file.to_vec());
         let found = judge::read(file, &Limits::default()).err();
         self.same(case, found, None);
     }
@@ -76,30 +97,19 @@ pub fn report(start: u32, end: u32, code: &str) -> String {
     format!("08{start:08x}{end:08x}{digits}\n")
 }
 
-fn default(file: &[u8]) -> Ran {
-    judge::answer(file, &Limits::default())
-}
-
-/// Files of the self-test that are small enough to be recorded.
-pub fn small_files() -> impl Iterator<Item = Vec<u8>> {
-    let large = large::files().into_iter().map(|(file, _)| file);
-    examples::files().chain(large).chain(reading::files())
+/// Every file that the self-test asks about with the program's slices.
+pub fn files() -> Vec<Vec<u8>> {
+    GROUPS
+        .iter()
+        .flat_map(|(name, cases)| Group::run(name, *cases).files)
+        .collect()
 }
 
 pub fn run(given: &[String]) -> Done {
     Options::parse(given, &[], &[])?;
     let mut total = (0, 0);
-    let groups: [(&'static str, Cases); 6] = [
-        ("the examples of document 01", examples::whole),
-        ("the table of refusals", refusals::run),
-        ("the list of the computed table", examples::table),
-        ("the examples of RFC 3629", texts::run),
-        ("the rules of reading", reading::run),
-        ("types too large", large::run),
-    ];
-    for (name, cases) in groups {
-        let mut group = Group::new(name);
-        cases(&mut group);
+    for (name, cases) in GROUPS {
+        let group = Group::run(name, cases);
         println!("{name}: {} passed, {} failed", group.passed, group.failed);
         total = (total.0 + group.passed, total.1 + group.failed);
     }

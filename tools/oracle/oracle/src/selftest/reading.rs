@@ -83,6 +83,9 @@ fn characters(group: &mut Group) {
     };
     group.refused("a name line of 1,024 characters", &name(511), 4);
     group.refused("a name line of 1,026 characters", &name(512), 3);
+    let whole = |length: usize| [&name(length)[..], NODE.as_bytes(), b"060000\n"].concat();
+    group.read("a whole file with 1,024 characters in a line", &whole(511));
+    group.refused("a whole file with 1,026", &whole(512), 3);
 
     let m = lines(super::examples::M);
     let mut more = m.clone();
@@ -213,32 +216,13 @@ fn counts(group: &mut Group) {
             let line = format!("{above}{last}{kind:02x}{line}");
             group.refused(&format!("one more of {case}, {fault}"), &lines(&line), 5);
         }
+        if kind < 5 {
+            let late = format!("{above}{NODE}{kind:02x}");
+            group.refused(&format!("one more of {case}, misplaced"), &lines(&late), 4);
+        }
         let odd = format!("{above}{last}{kind:02x}f");
         group.refused(&format!("one more of {case}, odd"), &lines(&odd), 3);
     }
-    let misplaced = format!("{}0300\n02ff", names());
-    group.refused("a 257th name misplaced", &lines(&misplaced), 4);
-}
-
-/// Small files at and one past the limits of reading: the empty file, counts, the length of a line.
-pub fn files() -> Vec<Vec<u8>> {
-    let mut files = vec![vec![], b"\n".to_vec()];
-    for (kind, (_, above, query)) in (2..5).zip(full()) {
-        files.push(lines(&format!("{above}{NODE}{query}")));
-        for text in [
-            format!("{above}{kind:02x}"),
-            format!("{above}{kind:02x}ff"),
-            format!("{above}0{kind}f"),
-            format!("{above}{NODE}{kind:02x}"),
-        ] {
-            files.push(lines(&text));
-        }
-    }
-    for length in [510, 511, 512] {
-        let name = "61".repeat(length);
-        files.push(lines(&format!("{START}\n02{name}\n{NODE}060000")));
-    }
-    files
 }
 
 fn references(group: &mut Group) {
@@ -394,7 +378,14 @@ fn faults(group: &mut Group) {
     let node = "05 00000000 00000000 ";
     let schema = "01020020\n0278\n0300\n";
     let names = names();
+    let whole = format!("{schema}{node}04\n060000\n");
     for (case, text, expected) in [
+        (
+            "an unknown node shape",
+            whole.replace("04\n06", "11\n06"),
+            6,
+        ),
+        ("a last one", whole.replace("04\n06", "ff\n06"), 6),
         ("3 and 4", "01020020\n07g0".to_owned(), 3),
         ("4 and 6", "0300".to_owned(), 4),
         ("4 and 5", format!("{names}0300\n02"), 4),

@@ -3,7 +3,7 @@
 use judge::{Answer, File, Limits, Node, Query, Shape, Stmt};
 
 use super::examples::M;
-use super::{Group, default, lines};
+use super::{Group, lines};
 
 pub fn run(group: &mut Group) {
     let m = lines(M);
@@ -52,7 +52,7 @@ pub fn run(group: &mut Group) {
     let repeated = "01020020\n0278\n0300\n03040000000000000000";
     group.refused("10: a repeated field", &lines(repeated), 10);
 
-    let ran = default(&judge::encode(&doubling(24)));
+    let ran = group.answer(&judge::encode(&doubling(24)));
     group.same("11: x0 to x24", ran.answer, Answer::Refused(11));
     group.same("11: its visits", ran.visits, 1_048_576);
     visits_exact(group);
@@ -60,7 +60,7 @@ pub fn run(group: &mut Group) {
     group.same("12: M with 8 bytes", with(16_384, 8), Answer::Refused(12));
     group.same("12: M with none", with(16_384, 0), Answer::Refused(12));
     group.same("12: M with 9 bytes", with(16_384, 9), accepted);
-    let ran = default(&judge::encode(&shrinking(80)));
+    let ran = group.answer(&judge::encode(&shrinking(80)));
     group.same(
         "12: types too large to write",
         ran.answer,

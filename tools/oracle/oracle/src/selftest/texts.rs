@@ -2,7 +2,7 @@
 
 use judge::{Answer, File, Limits, Node, Query, Shape};
 
-use super::{Group, default};
+use super::Group;
 
 /// Section 7, with the number of characters.
 const WELL_FORMED: [(&[u8], u16); 4] = [
@@ -58,23 +58,27 @@ const BOUNDARIES: [(&[u8], bool); 33] = [
 pub fn run(group: &mut Group) {
     for (text, characters) in WELL_FORMED {
         let case = format!("{text:02x?}");
-        let fits = default(&term(text, characters));
+        let fits = group.answer(&term(text, characters));
         group.same(&case, fits.answer, Answer::Lines(b"07000001\n".to_vec()));
-        let too_long = default(&term(text, characters - 1));
+        let too_long = group.answer(&term(text, characters - 1));
         group.same(&case, too_long.codes, vec!["reject/fuzzy-term"]);
     }
     for text in ILL_FORMED {
         group.refused(&format!("{text:02x?}"), &term(text, 32), 7);
     }
-    let pair = default(&term(PAIR, 32));
+    let pair = group.answer(&term(PAIR, 32));
     group.same(
         "a surrogate pair",
         pair.answer,
         Answer::LeftOut(judge::SURROGATE),
     );
     for (text, passes) in BOUNDARIES {
-        let found = judge::read(&term(text, 32), &Limits::default()).err();
-        group.same(&format!("{text:02x?}"), found, (!passes).then_some(7));
+        let case = format!("{text:02x?}");
+        if passes {
+            group.read(&case, &term(text, 32));
+        } else {
+            group.refused(&case, &term(text, 32), 7);
+        }
     }
     all_short(group);
 }
