@@ -5,11 +5,20 @@ use crate::rng::Rng;
 
 /// Nests one shape; what nests is drawn, and how deep.
 pub fn deep(rng: &mut Rng) -> Vec<u8> {
+    let depth = rng.pick(&[3, 30, 100, 130, 250, 490]);
+    nest(rng, depth)
+}
+
+/// The same as deep as the nodes go, but for the few that stand around it.
+pub fn deepest(rng: &mut Rng) -> Vec<u8> {
+    nest(rng, 506)
+}
+
+fn nest(rng: &mut Rng, depth: usize) -> Vec<u8> {
     let mut draft = Draft::new();
     for word in ["a", "x", "y", "v"] {
         draft.name(word);
     }
-    let depth = rng.pick(&[3, 30, 100, 130, 250, 490]);
     match rng.below(14) {
         0 => nodes(rng, &mut draft, depth, |at| Expr::Record(vec![(0, at)])),
         1 => nodes(rng, &mut draft, depth, |at| Expr::Disjunction(vec![at])),

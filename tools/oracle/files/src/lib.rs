@@ -17,7 +17,8 @@ use rng::Rng;
 
 type Make = fn(&mut Rng) -> Vec<u8>;
 
-/// Every style with its weight: the heavy ones are rare.
+/// Every style with its weight: the heavy ones are rare. A style's place is part of what
+/// its seeds mean, so new ones go to the end.
 const TABLE: &[(&str, usize, Make)] = &[
     ("grown", 1500, |rng| valid::grown(rng).bytes()),
     ("misfits", 1200, |rng| valid::misfits(rng).bytes()),
@@ -56,6 +57,7 @@ const TABLE: &[(&str, usize, Make)] = &[
     ("doubling", 1, limits::doubling),
     ("edge", 12, edge::edge),
     ("visits", 1, limits::visits),
+    ("deepest", 4, deep::deepest),
 ];
 
 const fn styles() -> [&'static str; TABLE.len()] {
