@@ -1,0 +1,109 @@
+//! A second reader and a second checker, written from document 01 beside ty.rs.
+//!
+//! It shares no code with the judge: types are numbered cells, frames are read
+//! through tables, and the visits are counted here. Where both agree on a file, two
+//! readings of the papers agree. Each entry of [`MUTATIONS`] switches one mistake on,
+//! so that the files can be asked whether they would notice it.
+
+mod checker;
+mod mutation;
+mod reader;
+mod text;
+mod types;
+mod unify;
+mod writer;
+
+pub use mutation::MUTATIONS;
+use mutation::{Switch, Wrong};
+
+/// What a caller lends: words of the work slice, bytes of the answer slice, visits.
+#[derive(Clone, Copy, Debug, PartialEq, Eq)]
+pub struct Limits {
+    pub words: usize,
+    pub bytes: usize,
+    pub visits: u64,
+}
+
+impl Default for Limits {
+    fn default() -> Self {
+        Limits {
+            words: WORDS,
+            bytes: 65_536,
+            visits: 1_048_576,
+        }
+    }
+}
+
+const WORDS: usize = 16_384;
+const FILE_BYTES: usize = 65_536;
+
+/// The answer's lines, or the refusal's number.
+#[derive(Clone, Debug, PartialEq, Eq)]
+pub enum Answer {
+    Lines(Vec<u8>),
+    Refused(u8),
+}
+
+/// The number that a wrong checker gets when it would not come to an end. No right
+/// one gives it.
+pub const ENDLESS: u8 = 255;
+
+/// An answer, and the visits that were made for it (0 where reading already failed).
+#[derive(Clone, Debug, PartialEq, Eq)]
+pub struct Ran {
+    pub answer: Answer,
+    pub visits: u64,
+}
+
+impl Ran {
+    fn refused(number: u8, visits: u64) -> Ran {
+        Ran {
+            answer: Answer::Refused(number),
+            visits,
+        }
+    }
+}
+
+/// Reads, checks and writes one file; `mutation` is an index into [`MUTATIONS`].
+pub fn answer(file: &[u8], limits: &Limits, mutation: Option<usize>) -> Ran {
+    let wrong = Switch::new(mutation);
+    if let Some(number) = sizes(file, limits, wrong) {
+        return Ran::refused(number, 0);
+    }
+    let tree = match reader::read(file, wrong) {
+        Ok(tree) => tree,
+        Err(number) => return Ran::refused(number, 0),
+    };
+    let (state, stopped) = checker::run(&tree, limits.visits, wrong);
+    if let Some(number) = stopped {
+        return Ran::refused(number, state.visits);
+    }
+    match writer::write(&tree, &state, limits.bytes, wrong) {
+        Ok(lines) => Ran {
+            answer: Answer::Lines(lines),
+            visits: state.visits,
+        },
+        Err(number) => Ran::refused(number, state.visits),
+    }
+}
+
+/// Refusals 1 and 2, which come before any line is looked at.
+fn sizes(file: &[u8], limits: &Limits, wrong: Switch) -> Option<u8> {
+    let words = match () {
+        _ if wrong.on(Wrong::WordsOneLess) => WORDS - 1,
+        _ if wrong.on(Wrong::WordsOneMore) => WORDS + 1,
+        _ => WORDS,
+    };
+    let bytes = match () {
+        _ if wrong.on(Wrong::FileOneMore) => FILE_BYTES + 1,
+        _ if wrong.on(Wrong::FileOneLess) => FILE_BYTES - 1,
+        _ => FILE_BYTES,
+    };
+    let small = (limits.words < words).then_some(1);
+    let large = (file.len() > bytes).then_some(2);
+    if wrong.on(Wrong::TwoBeforeOne) {
+        large.or(small)
+    } else {
+        small.or(large)
+    }
+}

@@ -1,0 +1,248 @@
+//! `oracle compare`: the port beside the Rust.
+
+use judge::{Answer, Limits, Ran};
+
+use crate::Done;
+use crate::calls;
+use crate::corpus::{self, Corpus, Item};
+use crate::mismatch::Mismatches;
+use crate::options::Options;
+use crate::port::Port;
+use crate::tally::{Progress, Tally};
+
+/// The most files tried to make one that shows a mismatch smaller.
+const TRIES: usize = 20_000;
+
+/// A smaller file that still differs, as far as the tries go.
+fn shrink(file: &[u8], differs: impl Fn(&[u8]) -> bool) -> Vec<u8> {
+    let mut tries = 0;
+    trial::shrink(file, &mut |smaller| {
+        tries += 1;
+        tries <= TRIES && differs(smaller)
+    })
+}
+
+pub fn run(given: &[String]) -> Done {
+    let mut known = corpus::OPTIONS.to_vec();
+    known.extend(["program", "out"]);
+    let options = Options::parse(given, &known, &["model", corpus::SHORT])?;
+    match &options.words[..] {
+        [what] if what == "answers" => answers(&options),
+        [what] if what == "reading" => reading(&options),
+        [what] if what == "calls" => calls::run(&options),
+        _ => Err("compare what? one of answers, reading, calls".to_owned()),
+    }
+}
+
+/// The ports that are there.
+fn ports(options: &Options) -> Result<Vec<Port>, String> {
+    let mut ports = vec![];
+    if let Some(program) = options.text("program") {
+        let command: Vec<String> = program.split_whitespace().map(str::to_owned).collect();
+        if command.is_empty() {
+            return Err("--program names none".to_owned());
+        }
+        ports.push(Port::Program(command));
+    }
+    if options.flag("model") {
+        ports.push(Port::Model);
+    }
+    if linked::HAS_CHECK {
+        ports.push(Port::Library);
+    }
+    if ports.is_empty() {
+        return Err(format!(
+            "nothing to compare with: {NO_LIBRARY}, no --program and no --model"
+        ));
+    }
+    if !linked::HAS_CHECK {
+        eprintln!("{NO_LIBRARY}, so it is not compared");
+    }
+    Ok(ports)
+}
+
+const NO_LIBRARY: &str = "the static library was not there when oracle was built \
+    (SIGLA_LIB, or target/staticlib/libsigla.a at the repository's top)";
+
+/// Whole answers: lines, refusals, and what the slices hold afterwards.
+fn answers(options: &Options) -> Done {
+    let ports = ports(options)?;
+    let corpus = Corpus::from(options)?;
+    let mut mismatches = Mismatches::new(options.text("out"));
+    let mut tally = Tally::default();
+    let mut progress = Progress::new(corpus.count());
+    let mut asked = 0;
+
+    for number in 0..corpus.count() {
+        let item = corpus.item(number);
+        let limits = Limits::default();
+        let ran = judge::answer(&item.file, &limits);
+        tally.add(&ran, judge::read(&item.file, &limits).ok().as_ref());
+        if matches!(ran.answer, Answer::LeftOut(_)) {
+            continue;
+        }
+        for port in &ports {
+            asked += 1;
+            compare(port, &item, &limits, &mut mismatches)?;
+            if !matches!(port, Port::Program(_)) {
+                // Slices of other lengths, a different pair for each file.
+                asked += 1;
+                compare(port, &item, &other_limits(&ran, number), &mut mismatches)?;
+            }
+        }
+        if mismatches.too_many() {
+            println!("stopped after {} mismatches", mismatches.count);
+            break;
+        }
+        progress.at(number + 1, mismatches.count);
+    }
+    tally.print();
+    println!(
+        "compare answers: {} files, {} left out, {asked} comparisons, {} mismatches",
+        tally.files,
+        tally.left_out(),
+        mismatches.count
+    );
+    Ok(mismatches.count == 0)
+}
+
+/// Lengths around each boundary, and the answer's own.
+fn other_limits(ran: &Ran, number: u64) -> Limits {
+    let length = match &ran.answer {
+        Answer::Lines(lines) => lines.len(),
+        _ => 65_536,
+    };
+    let some = (number.wrapping_mul(0x9e37_79b9_7f4a_7c15) >> 33) as usize;
+    let (words, bytes) = match number % 10 {
+        0 => (16_384, length),
+        1 => (16_384, length.saturating_sub(1)),
+        2 => (16_385, length + 1),
+        3 => (20_000, 0),
+        4 => (16_383, 65_536),
+        5 => (0, 0),
+        6 => (16_384, some % (length + 1)),
+        7 => (some % 16_384, length),
+        8 => (20_000, 70_000),
+        _ => (16_384, length.saturating_sub(2)),
+    };
+    Limits {
+        words,
+        bytes,
+        ..Limits::default()
+    }
+}
+
+/// Holds one port against the Rust on one file, and keeps what differs, made smaller.
+fn compare(
+    port: &Port,
+    item: &Item,
+    limits: &Limits,
+    mismatches: &mut Mismatches,
+) -> Result<(), String> {
+    let ask = |file: &[u8]| {
+        let expected = judge::answer(file, limits).answer;
+        port.ask(file, limits, &expected)
+    };
+    let (found, expected) = ask(&item.file)?;
+    if found == expected {
+        return Ok(());
+    }
+    let small = shrink(&item.file, |file| match ask(file) {
+        Ok((found, expected)) => found != expected,
+        // A file that the Rust can't hold shows no difference.
+        Err(_) => false,
+    });
+    let (small_found, small_expected) = ask(&small)?;
+    let lent = format!("{} words, {} bytes\n", limits.words, limits.bytes);
+    mismatches.keep(
+        &format!(
+            "{}-{}-{}-{}",
+            port.name(),
+            item.name,
+            limits.words,
+            limits.bytes
+        ),
+        &[
+            ("lent", lent.as_bytes()),
+            ("file", &item.file),
+            ("expected", &expected),
+            ("found", &found),
+            ("small-file", &small),
+            ("small-expected", &small_expected),
+            ("small-found", &small_found),
+        ],
+    )
+}
+
+/// The reading alone: refusals 1 to 10, or none.
+fn reading(options: &Options) -> Done {
+    if !linked::HAS_READ {
+        return Err(format!("nothing to compare the reading with: {NO_LIBRARY}"));
+    }
+    let corpus = Corpus::from(options)?;
+    let mut mismatches = Mismatches::new(options.text("out"));
+    let mut tally = Tally::default();
+    let mut progress = Progress::new(corpus.count());
+
+    for number in 0..corpus.count() {
+        let item = corpus.item(number);
+        let words = [16_384, 16_384, 20_000, 16_383][(number % 4) as usize];
+        let differs = |file: &[u8]| {
+            let (found, expected) = read_both(file, words);
+            (found != expected).then_some((found, expected))
+        };
+        let limits = Limits {
+            words,
+            ..Limits::default()
+        };
+        let read = judge::read(&item.file, &limits);
+        let answer = match &read {
+            Ok(_) => Answer::Lines(vec![]),
+            Err(number) => Answer::Refused(*number),
+        };
+        let ran = Ran {
+            answer,
+            visits: 0,
+            codes: vec![],
+        };
+        tally.add(&ran, read.ok().as_ref());
+        if let Some((found, expected)) = differs(&item.file) {
+            let small = shrink(&item.file, |file| differs(file).is_some());
+            mismatches.keep(
+                &format!("reading-{}", item.name),
+                &[
+                    ("file", &item.file),
+                    ("expected", expected.as_bytes()),
+                    ("found", found.as_bytes()),
+                    ("small-file", &small),
+                ],
+            )?;
+        }
+        if mismatches.too_many() {
+            break;
+        }
+        progress.at(number + 1, mismatches.count);
+    }
+    tally.print();
+    println!(
+        "compare reading: {} files, {} mismatches",
+        tally.files, mismatches.count
+    );
+    Ok(mismatches.count == 0)
+}
+
+/// What the port and the first reader say of a file. A refusal leaves the work slice zero.
+fn read_both(file: &[u8], words: usize) -> (String, String) {
+    let limits = Limits {
+        words,
+        ..Limits::default()
+    };
+    let expected = judge::read(file, &limits).err().unwrap_or(0);
+    let mut work = vec![u32::MAX; words];
+    let found = linked::read(file, &mut work);
+    let clean = found == 0 || work.iter().all(|word| *word == 0);
+    (
+        format!("outcome {found}, work zero where refused: {clean}\n"),
+        format!("outcome {expected}, work zero where refused: true\n"),
+    )
+}

@@ -1,0 +1,127 @@
+//! The commands of the judge. `oracle help` lists them.
+
+mod calls;
+mod compare;
+mod corpus;
+mod mismatch;
+mod options;
+mod port;
+mod printed;
+mod record;
+mod selftest;
+mod tally;
+mod trials;
+
+use std::io::{Read, Write};
+use std::process::ExitCode;
+
+use judge::Limits;
+use options::Options;
+
+const HELP: &str = "\
+oracle answer [--words N] [--bytes N] [--visits]
+    Reads a file on standard input and prints its answer: the lines, or 0f and the refusal's number.
+    --words and --bytes are the lengths of the two slices (16384 and 65536).
+    --visits prints the line `visits N` on standard error as well.
+    A file that the Rust can't hold prints nothing, says why on standard error and ends with status 2.
+
+oracle generate --seed S --count N [--style NAME] [--out DIR]
+    Makes files and counts what they are; with --out writes each into DIR. The same seed gives the
+    same files.
+
+oracle agree --seed S --count N [--out DIR]
+    Holds the judge (first reader, unchanged Rust, counted copy) against the model (second reader,
+    second checker, second count) on generated files, with slices and visits around each boundary.
+    Ends with status 1 where there is a mismatch.
+
+oracle mutants [--seed S] [--count N] [--usual]
+    Switches on each mistake of a list in the model and says which the files tell from the right
+    one. Ends with status 1 unless all that are wrong are told, and none that is equal in behaviour.
+    --usual runs the files with the program's own slices alone; other lengths and visits can then
+    tell nothing.
+
+oracle compare answers --seed S --count N [--style NAME] [--program P] [--out DIR]
+oracle compare reading --seed S --count N [--style NAME] [--out DIR]
+oracle compare calls   --seed S --count N [--style NAME] [--out DIR]
+    Holds the port against the Rust on generated files: the program P (with arguments, if it needs
+    some), from standard input to standard output, and the static library in process where it was
+    there when oracle was built, with both slices full of ff before each call. Each mismatch is kept
+    with both outputs and a smaller file that shows it too, in target/mismatch or DIR. Counts files
+    by refusal, code, node shape and statement. Ends with status 1 where there is a mismatch.
+    In place of --seed and --count: `--bytes-exhaustive FILE` takes each prefix of FILE, FILE without
+    each byte, and FILE with each byte changed to each other value; `--short` takes every file of up
+    to two bytes, and every line of up to two bytes after a right first line.
+    `--model` holds the model against the Rust, as `agree` does, on these files too.
+
+oracle record [--check]
+    Writes vectors/answers.bin, the recorded sample of answers; with --check holds it against the
+    generator and the Rust instead.
+
+oracle selftest
+    Every example of document 01, and the text examples of RFC 3629.
+
+oracle help
+    This text.
+
+The sources are compiled in: building with ORACLE_SRC=FOLDER takes them from another folder docs/src.
+";
+
+/// How a command ended: whether all was well, or why it could not be done.
+type Done = Result<bool, String>;
+
+fn main() -> ExitCode {
+    let given: Vec<String> = std::env::args().skip(1).collect();
+    let done = judge::on_large_stack(move || run(&given));
+    match done {
+        Ok(true) => ExitCode::SUCCESS,
+        Ok(false) => ExitCode::FAILURE,
+        Err(why) => {
+            eprintln!("oracle: {why}");
+            ExitCode::from(2)
+        }
+    }
+}
+
+fn run(given: &[String]) -> Done {
+    let Some((command, rest)) = given.split_first() else {
+        print!("{HELP}");
+        return Ok(true);
+    };
+    match command.as_str() {
+        "agree" => trials::agree(rest),
+        "answer" => answer(rest),
+        "compare" => compare::run(rest),
+        "generate" => trials::generate(rest),
+        "mutants" => trials::mutants(rest),
+        "record" => record::run(rest),
+        "selftest" => selftest::run(rest),
+        "help" | "--help" => {
+            print!("{HELP}");
+            Ok(true)
+        }
+        "--src" => Err("the sources are compiled in; build with ORACLE_SRC=FOLDER".to_owned()),
+        other => Err(format!("no command {other:?}; see `oracle help`")),
+    }
+}
+
+fn answer(given: &[String]) -> Done {
+    let options = Options::parse(given, &["words", "bytes"], &["visits"])?;
+    let mut limits = Limits::default();
+    limits.words = options.number("words")?.unwrap_or(limits.words);
+    limits.bytes = options.number("bytes")?.unwrap_or(limits.bytes);
+
+    let mut file = vec![];
+    std::io::stdin()
+        .read_to_end(&mut file)
+        .map_err(|why| format!("standard input: {why}"))?;
+    let ran = judge::answer(&file, &limits);
+    if options.flag("visits") {
+        eprintln!("visits {}", ran.visits);
+    }
+    let text = printed::printed(&ran.answer)
+        .map_err(|why| format!("the Rust can't hold this file: {why}"))?;
+    std::io::stdout()
+        .write_all(&text)
+        .map_err(|why| format!("standard output: {why}"))?;
+    Ok(true)
+}

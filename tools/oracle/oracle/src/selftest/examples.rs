@@ -1,0 +1,373 @@
+//! M, the whole case, and the files of the list that "Contract and case" has a computed table for.
+
+use judge::Answer;
+
+use super::{Group, lines, report};
+
+/// M: the smallest file.
+pub const M: &str = "
+    01020020
+    05000000000000000300
+    060000";
+
+const WHOLE: &str = "
+    01020020
+    0278
+    0266
+    050000000000000001030000
+    05000000090000000a030000
+    05000000040000000b0800010001
+    050000000f00000010030000
+    0600030000000002";
+
+const WHOLE_PRINTS: &str = "
+    070000060000
+    070001060000
+    0700020400010001060000
+    070003060000
+    08000000040000000b72656a6563742f696e66696e6974652d74797065";
+
+/// M read as document 01 writes it: its node line has ten bytes.
+fn m() -> Vec<u8> {
+    lines(M)
+}
+
+pub fn whole(group: &mut Group) {
+    let ran = group.answer(&m());
+    group.same("M", ran.answer, Answer::Lines(lines("07000000")));
+    group.same("M's visits", ran.visits, 0);
+
+    let ran = group.answer(&lines(WHOLE));
+    group.same(
+        "the whole case",
+        ran.answer,
+        Answer::Lines(lines(WHOLE_PRINTS)),
+    );
+    // unify at the bind; occurs at the record and at the unknown in it.
+    group.same("its visits", ran.visits, 3);
+    group.same("its codes", ran.codes, vec!["reject/infinite-type"]);
+}
+
+/// One row: a file, the types it prints, its reports and its visits.
+struct Row {
+    case: &'static str,
+    file: &'static str,
+    types: &'static str,
+    reports: &'static [(u32, u32, &'static str)],
+    visits: u64,
+}
+
+pub fn table(group: &mut Group) {
+    for row in ROWS {
+        let mut expected = lines(row.types);
+        for (start, end, code) in row.reports {
+            expected.extend_from_slice(report(*start, *end, code).as_bytes());
+        }
+        let ran = group.answer(&lines(row.file));
+        group.same(row.case, ran.answer, Answer::Lines(expected));
+        group.same(row.case, ran.visits, row.visits);
+        let codes: Vec<&str> = row.reports.iter().map(|(_, _, code)| *code).collect();
+        group.same(row.case, ran.codes, codes);
+    }
+}
+
+/// In the files, node n has the span from 2n to 2n + 1.
+const ROWS: &[Row] = &[
+    Row {
+        case: "M",
+        file: M,
+        types: "07 0000 00",
+        reports: &[],
+        visits: 0,
+    },
+    Row {
+        case: "the whole case",
+        file: WHOLE,
+        types: "
+            07 0000 060000
+            07 0001 060000
+            07 0002 04 0001 0001 060000
+            07 0003 060000",
+        reports: &[(4, 11, "reject/infinite-type")],
+        visits: 3,
+    },
+    // x = error, head x: the unknown becomes Error.
+    Row {
+        case: "Error against Var",
+        file: "
+            01 02 0020
+            02 78
+            05 00000000 00000001 03 0000
+            05 00000002 00000003 0f
+            05 00000004 00000005 03 0000
+            06 0002 00 0000 0001",
+        types: "
+            07 0000 07
+            07 0001 07
+            07 0002 07",
+        reports: &[],
+        visits: 1,
+    },
+    // x = {a = 1, b = \"\"}; x = {b = \"\", a = 1}, head x.
+    Row {
+        case: "{a, b} against {b, a}",
+        file: "
+            01 02 0020
+            02 78
+            02 61
+            02 62
+            05 00000000 00000001 03 0000
+            05 00000002 00000003 00
+            05 00000004 00000005 01
+            05 00000006 00000007 08 0001 0001 0002 0002
+            05 00000008 00000009 03 0000
+            05 0000000a 0000000b 01
+            05 0000000c 0000000d 00
+            05 0000000e 0000000f 08 0002 0005 0001 0006
+            05 00000010 00000011 03 0000
+            06 0008 00 0000 0003 00 0004 0007",
+        types: "
+            07 0000 04 0002 0001 00 0002 01
+            07 0001 00
+            07 0002 01
+            07 0003 04 0002 0001 00 0002 01
+            07 0004 04 0002 0001 00 0002 01
+            07 0005 01
+            07 0006 00
+            07 0007 04 0002 0002 01 0001 00
+            07 0008 04 0002 0001 00 0002 01",
+        reports: &[],
+        // First bind: unify, occurs at the record and its two fields. Second: unify and two inner.
+        visits: 7,
+    },
+    // x = {a = 1, b = \"\"}; x = {a = 1, a = 1}: the found side has a twice.
+    Row {
+        case: "{a, a} of Int against {a = Int, b = String}",
+        file: "
+            01 02 0020
+            02 78
+            02 61
+            02 62
+            05 00000000 00000001 03 0000
+            05 00000002 00000003 00
+            05 00000004 00000005 01
+            05 00000006 00000007 08 0001 0001 0002 0002
+            05 00000008 00000009 03 0000
+            05 0000000a 0000000b 00
+            05 0000000c 0000000d 00
+            05 0000000e 0000000f 08 0001 0005 0001 0006
+            05 00000010 00000011 03 0000
+            06 0008 00 0000 0003 00 0004 0007",
+        types: "
+            07 0000 04 0002 0001 00 0002 01
+            07 0001 00
+            07 0002 01
+            07 0003 04 0002 0001 00 0002 01
+            07 0004 04 0002 0001 00 0002 01
+            07 0005 00
+            07 0006 00
+            07 0007 04 0002 0001 00 0001 00
+            07 0008 04 0002 0001 00 0002 01",
+        reports: &[],
+        visits: 7,
+    },
+    // x = {a = 1, a = 1}; x = {a = 1, b = \"\"}: b is sought in {a, a}.
+    Row {
+        case: "{a = Int, b = String} against {a, a} of Int",
+        file: "
+            01 02 0020
+            02 78
+            02 61
+            02 62
+            05 00000000 00000001 03 0000
+            05 00000002 00000003 00
+            05 00000004 00000005 00
+            05 00000006 00000007 08 0001 0001 0001 0002
+            05 00000008 00000009 03 0000
+            05 0000000a 0000000b 00
+            05 0000000c 0000000d 01
+            05 0000000e 0000000f 08 0001 0005 0002 0006
+            05 00000010 00000011 03 0000
+            06 0008 00 0000 0003 00 0004 0007",
+        types: "
+            07 0000 04 0002 0001 00 0001 00
+            07 0001 00
+            07 0002 00
+            07 0003 04 0002 0001 00 0001 00
+            07 0004 04 0002 0001 00 0001 00
+            07 0005 00
+            07 0006 01
+            07 0007 04 0002 0001 00 0002 01
+            07 0008 04 0002 0001 00 0001 00",
+        reports: &[(14, 15, "reject/unknown-field")],
+        // First bind as before, 4. Second: unify and the one for a; b is not found.
+        visits: 6,
+    },
+    // p {} where p's key is the union {a : Int = 0}.
+    Row {
+        case: "union arity 0",
+        file: "
+            01 02 0020
+            02 70
+            02 61
+            03 00
+            03 05 0001 00000000 0000
+            04 0000 0001 00
+            05 00000000 00000001 08
+            05 00000002 00000003 0d 0000 0000
+            05 00000004 00000005 00
+            06 0002 01 0001",
+        types: "
+            07 0000 ff
+            07 0001 03 0000
+            07 0002 00",
+        reports: &[(0, 1, "reject/union-arity")],
+        visits: 0,
+    },
+    // p {a = 1, a = 1} over the same schema.
+    Row {
+        case: "union arity 2",
+        file: "
+            01 02 0020
+            02 70
+            02 61
+            03 00
+            03 05 0001 00000000 0000
+            04 0000 0001 00
+            05 00000000 00000001 00
+            05 00000002 00000003 00
+            05 00000004 00000005 08 0001 0000 0001 0001
+            05 00000006 00000007 0d 0000 0002
+            05 00000008 00000009 00
+            06 0004 01 0003",
+        types: "
+            07 0000 ff
+            07 0001 ff
+            07 0002 ff
+            07 0003 03 0000
+            07 0004 00",
+        reports: &[(4, 5, "reject/union-arity")],
+        visits: 0,
+    },
+    // p _ < p _ where p's key is Int.
+    Row {
+        case: "two facts compared",
+        file: "
+            01 02 0020
+            02 70
+            03 00
+            04 0000 0000 00
+            05 00000000 00000001 04
+            05 00000002 00000003 0d 0000 0000
+            05 00000004 00000005 04
+            05 00000006 00000007 0d 0000 0002
+            05 00000008 00000009 00
+            06 0004 04 0001 0003",
+        types: "
+            07 0000 00
+            07 0001 03 0000
+            07 0002 00
+            07 0003 03 0000
+            07 0004 00",
+        reports: &[(2, 3, "reject/type-mismatch")],
+        visits: 2,
+    },
+    // {} < {}.
+    Row {
+        case: "the empty record compared",
+        file: "
+            01 02 0020
+            05 00000000 00000001 08
+            05 00000002 00000003 08
+            05 00000004 00000005 00
+            06 0002 04 0000 0001",
+        types: "
+            07 0000 04 0000
+            07 0001 04 0000
+            07 0002 00",
+        reports: &[],
+        visits: 2,
+    },
+    // p {f = {g = y}} where p's key is {f : Int}; head y, which gets unknown 1.
+    Row {
+        case: "a rollback past a new unknown",
+        file: "
+            01 02 0020
+            02 70
+            02 66
+            02 67
+            02 79
+            03 00
+            03 04 0001 0000
+            04 0000 0001 00
+            05 00000000 00000001 03 0003
+            05 00000002 00000003 08 0002 0000
+            05 00000004 00000005 08 0001 0001
+            05 00000006 00000007 0d 0000 0002
+            05 00000008 00000009 03 0003
+            06 0004 01 0003",
+        types: "
+            07 0000 ff
+            07 0001 ff
+            07 0002 04 0001 0001 00
+            07 0003 03 0000
+            07 0004 06 0001",
+        reports: &[(2, 3, "reject/type-mismatch")],
+        visits: 1,
+    },
+    // (absent 7 _).f, and its key node is not visited.
+    Row {
+        case: "key access on an absent predicate",
+        file: "
+            01 02 0020
+            02 66
+            05 00000000 00000001 04
+            05 00000002 00000003 0d 0007 0000
+            05 00000004 00000005 09 0000 0001
+            06 0002",
+        types: "
+            07 0000 ff
+            07 0001 03 0007
+            07 0002 07",
+        reports: &[],
+        visits: 0,
+    },
+    // (absent 7 _).value.
+    Row {
+        case: "value access on an absent predicate",
+        file: "
+            01 02 0020
+            05 00000000 00000001 04
+            05 00000002 00000003 0d 0007 0000
+            05 00000004 00000005 0a 0001
+            06 0002",
+        types: "
+            07 0000 ff
+            07 0001 03 0007
+            07 0002 07",
+        reports: &[(4, 5, "reject/no-value")],
+        visits: 0,
+    },
+    // Three fuzzy patterns as statements, head an integer.
+    Row {
+        case: "fuzzy distances 0, 2 and 3 with limit 2",
+        file: "
+            01 02 0020
+            02 66
+            05 00000000 00000001 07 0000 00
+            05 00000002 00000003 07 0000 02
+            05 00000004 00000005 07 0000 03
+            05 00000006 00000007 00
+            06 0003 01 0000 01 0001 01 0002",
+        types: "
+            07 0000 01
+            07 0001 01
+            07 0002 01
+            07 0003 00",
+        reports: &[
+            (0, 1, "reject/fuzzy-distance"),
+            (4, 5, "reject/fuzzy-distance"),
+        ],
+        visits: 0,
+    },
+];

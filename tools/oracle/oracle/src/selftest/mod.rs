@@ -1,0 +1,118 @@
+//! `oracle selftest`: what document 01 says outright, held against the judge.
+//!
+//! The expected answers and visits were worked out from document 01 by hand and not by running.
+
+mod examples;
+mod large;
+mod reading;
+mod refusals;
+mod texts;
+
+use judge::{Answer, Limits, Ran};
+
+use crate::Done;
+use crate::options::Options;
+
+/// What runs the cases of a group.
+type Cases = fn(&mut Group);
+
+/// The groups by name.
+const GROUPS: [(&str, Cases); 6] = [
+    ("the examples of document 01", examples::whole),
+    ("the table of refusals", refusals::run),
+    ("the list of the computed table", examples::table),
+    ("the examples of RFC 3629", texts::run),
+    ("the rules of reading", reading::run),
+    ("types too large", large::run),
+];
+
+/// One group of cases: counts, and the files that were asked about.
+pub struct Group {
+    name: &'static str,
+    passed: usize,
+    failed: usize,
+    files: Vec<Vec<u8>>,
+}
+
+impl Group {
+    fn run(name: &'static str, cases: Cases) -> Self {
+        let mut group = Group {
+            name,
+            passed: 0,
+            failed: 0,
+            files: vec![],
+        };
+        cases(&mut group);
+        group
+    }
+
+    /// What a file gives with the program's slices.
+    pub fn answer(&mut self, file: &[u8]) -> Ran {
+        self.files.push(file.to_vec());
+        judge::answer(file, &Limits::default())
+    }
+
+    /// Counts one case, and tells of it where the two differ.
+    pub fn same<T: PartialEq + std::fmt::Debug>(&mut self, case: &str, found: T, expected: T) {
+        if found == expected {
+            self.passed += 1;
+        } else {
+            self.failed += 1;
+            println!("FAILED {}: {case}", self.name);
+            println!("  expected {expected:?}");
+            println!("  found    {found:?}");
+        }
+    }
+
+    /// A file that is turned down.
+    pub fn refused(&mut self, case: &str, file: &[u8], number: u8) {
+        let found = self.answer(file).answer;
+        self.same(case, found, Answer::Refused(number));
+    }
+
+    /// A file that passes the reading.
+    pub fn read(&mut self, case: &str, file: &[u8]) {
+        self.files.push(file.to_vec());
+        let found = judge::read(file, &Limits::default()).err();
+        self.same(case, found, None);
+    }
+}
+
+/// The bytes of lines written one under another; blanks within a line are for the reader's eye.
+pub fn lines(text: &str) -> Vec<u8> {
+    let mut file = vec![];
+    for line in text.lines() {
+        let line: String = line.split_whitespace().collect();
+        if !line.is_empty() {
+            file.extend_from_slice(line.as_bytes());
+            file.push(b'\n');
+        }
+    }
+    file
+}
+
+/// The diagnostic line at a span.
+pub fn report(start: u32, end: u32, code: &str) -> String {
+    let digits: String = code.bytes().map(|byte| format!("{byte:02x}")).collect();
+    format!("08{start:08x}{end:08x}{digits}\n")
+}
+
+/// Every file that the self-test asks about with the program's slices.
+pub fn files() -> Vec<Vec<u8>> {
+    GROUPS
+        .iter()
+        .flat_map(|(name, cases)| Group::run(name, *cases).files)
+        .collect()
+}
+
+pub fn run(given: &[String]) -> Done {
+    Options::parse(given, &[], &[])?;
+    let mut total = (0, 0);
+    for (name, cases) in GROUPS {
+        let group = Group::run(name, cases);
+        println!("{name}: {} passed, {} failed", group.passed, group.failed);
+        total = (total.0 + group.passed, total.1 + group.failed);
+    }
+    println!("selftest: {} passed, {} failed", total.0, total.1);
+    Ok(total.1 == 0)
+}

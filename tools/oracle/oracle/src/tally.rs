@@ -1,0 +1,118 @@
+//! Counts of what a run has seen: files by answer, code, node shape and statement kind.
+
+use std::collections::{BTreeMap, BTreeSet};
+use std::time::{Duration, Instant};
+
+use judge::{Answer, File, Ran, Shape, Stmt};
+
+#[derive(Default)]
+pub struct Tally {
+    pub files: u64,
+    accepted: u64,
+    refused: BTreeMap<u8, u64>,
+    left_out: BTreeMap<&'static str, u64>,
+    codes: BTreeMap<&'static str, u64>,
+    shapes: [u64; Shape::NAMES.len()],
+    stmts: [u64; Stmt::NAMES.len()],
+}
+
+impl Tally {
+    /// One file: `read` is what it describes, where it passed the reading.
+    pub fn add(&mut self, ran: &Ran, read: Option<&File>) {
+        self.files += 1;
+        match &ran.answer {
+            Answer::Lines(_) => self.accepted += 1,
+            Answer::Refused(number) => *self.refused.entry(*number).or_default() += 1,
+            Answer::LeftOut(why) => *self.left_out.entry(why).or_default() += 1,
+        }
+        // A file counts once for each code, shape and statement that it has, however often.
+        for code in ran.codes.iter().collect::<BTreeSet<_>>() {
+            *self.codes.entry(code).or_default() += 1;
+        }
+        let Some(file) = read else {
+            return;
+        };
+        let mut stmts: BTreeSet<u8> = file.query.body.iter().map(Stmt::byte).collect();
+        let mut shapes = BTreeSet::new();
+        for node in &file.nodes {
+            shapes.insert(node.shape.byte());
+            if let Shape::Subquery(query) = &node.shape {
+                stmts.extend(query.body.iter().map(Stmt::byte));
+            }
+        }
+        for shape in shapes {
+            self.shapes[usize::from(shape)] += 1;
+        }
+        for stmt in stmts {
+            self.stmts[usize::from(stmt)] += 1;
+        }
+    }
+
+    pub fn left_out(&self) -> u64 {
+        self.left_out.values().sum()
+    }
+
+    /// Prints all counts.
+    pub fn print(&self) {
+        let refused = self
+            .refused
+            .iter()
+            .map(|(number, count)| (number.to_string(), *count));
+        println!("files {}, accepted {}", self.files, self.accepted);
+        print_counts("refused", refused);
+        print_counts("left out", named(&self.left_out));
+        print_counts("with a diagnostic", named(&self.codes));
+        let shapes = Shape::NAMES.iter().zip(self.shapes);
+        print_counts(
+            "with a node",
+            shapes.map(|(name, count)| ((*name).to_owned(), count)),
+        );
+        let stmts = Stmt::NAMES.iter().zip(self.stmts);
+        print_counts(
+            "with a statement",
+            stmts.map(|(name, count)| ((*name).to_owned(), count)),
+        );
+    }
+}
+
+fn named(counts: &BTreeMap<&'static str, u64>) -> impl Iterator<Item = (String, u64)> {
+    counts
+        .iter()
+        .map(|(name, count)| ((*name).to_owned(), *count))
+}
+
+fn print_counts(what: &str, counts: impl Iterator<Item = (String, u64)>) {
+    let counts: Vec<String> = counts
+        .map(|(name, count)| format!("{name} {count}"))
+        .collect();
+    println!("  {what}: {}", counts.join(", "));
+}
+
+/// A line on standard error now and then, so that a long run is seen to move.
+pub struct Progress {
+    count: u64,
+    last: Instant,
+    started: Instant,
+}
+
+impl Progress {
+    pub fn new(count: u64) -> Self {
+        Progress {
+            count,
+            last: Instant::now(),
+            started: Instant::now(),
+        }
+    }
+
+    pub fn at(&mut self, done: u64, mismatches: u64) {
+        if self.last.elapsed() < Duration::from_secs(5) {
+            return;
+        }
+        self.last = Instant::now();
+        let seconds = self.started.elapsed().as_secs();
+        eprintln!(
+            "{done} of {} files, {mismatches} mismatches, {seconds} s",
+            self.count
+        );
+    }
+}

@@ -1,0 +1,77 @@
+//! The files that are made for a limit meet it exactly.
+
+use std::collections::BTreeSet;
+
+use model::{Answer, Limits, answer};
+
+fn visits_of(style: &str, seed: u64) -> u64 {
+    let limits = Limits {
+        visits: 1 << 30,
+        ..Limits::default()
+    };
+    answer(&files::generate(style, seed), &limits, None).visits
+}
+
+#[test]
+fn visits() {
+    let seen: BTreeSet<u64> = (0..60).map(|seed| visits_of("visits", seed)).collect();
+    let wanted: BTreeSet<u64> = (1_048_575..=1_048_578).collect();
+    assert_eq!(seen, wanted);
+}
+
+#[test]
+fn visits_by_the_judge() {
+    for seed in 0..12 {
+        let file = files::generate("visits", seed);
+        let ran = judge::answer(&file, &judge::Limits::default());
+        let wanted = visits_of("visits", seed).min(1_048_576);
+        if !matches!(ran.answer, judge::Answer::LeftOut(_)) {
+            assert_eq!(ran.visits, wanted);
+        }
+    }
+}
+
+#[test]
+fn answers() {
+    let limits = Limits {
+        bytes: 100_000,
+        ..Limits::default()
+    };
+    let length = |seed| match answer(&files::generate("long-answer", seed), &limits, None).answer {
+        Answer::Lines(lines) => lines.len(),
+        Answer::Refused(number) => panic!("refused {number}"),
+    };
+    let seen: BTreeSet<usize> = (0..30).map(length).collect();
+    assert_eq!(seen, (65_535..=65_537).collect());
+}
+
+#[test]
+fn each_refusal_comes_up() {
+    let mut seen = BTreeSet::new();
+    for n in 0..60_000 {
+        let (_, file) = trial::file(7, n);
+        let plain = answer(&file, &Limits::default(), None);
+        for limits in trial::lent(trial::nth(7, n), &plain) {
+            if let Answer::Refused(number) = answer(&file, &trial::as_model(&limits), None).answer {
+                seen.insert(number);
+            }
+        }
+    }
+    assert_eq!(seen, (1..=12).collect());
+}
+
+#[test]
+fn files_are_made_smaller() {
+    let usual = Limits::default();
+    let place = |wanted: &str| model::MUTATIONS.iter().position(|m| m.0 == wanted);
+    let wrong = place("a failed bind is undone");
+    let mut differs =
+        |file: &[u8]| answer(file, &usual, None).answer != answer(file, &usual, wrong).answer;
+    let telling = (0..)
+        .map(|n| trial::file(3, n).1)
+        .find(|file| differs(file));
+    let telling = telling.expect("the files do not end");
+    let small = trial::shrink(&telling, &mut differs);
+    assert!(differs(&small) && small.len() < telling.len());
+    assert!(small.len() < 400, "{}", String::from_utf8_lossy(&small));
+}
