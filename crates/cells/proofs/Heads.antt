@@ -215,9 +215,9 @@ module _ {w : List ℕ} {a b : Ty} {left : ℕ} where
   unfolding unifyHeads
   var-same x y p q e = record { step = goes-on (λ T st d k. rw (p, q, eq-eqb x y e, unifyHeads)) }
 
-  pub var-var : (x y : ℕ) {w′ : List ℕ} {r : Unified} → a ≡ Var x → b ≡ Var y → ¬ (x ≡ y) → BindsVar w x b left w′ r → UnifiesHeads w a b left w′ r
+  pub var-var : (x y : ℕ) {w′ : List ℕ} {r : Unified} → a ≡ Var x → b ≡ Var y → ¬ (x ≡ y) → BindsVar w x (Var y) left w′ r → UnifiesHeads w a b left w′ r
   unfolding unifyHeads
-  var-var x y p q n B = record { step = is-other (λ T st k. (rw p at (k .2), rw p at (k .0), k .1)) (λ T st d H k. rw (p, q, ne-eqb x y n, unifyHeads)) (B .step) }
+  var-var x y p q n B = record { step = is-other (λ T st k. (rw p at (k .2), rw p at (k .0), rw q at (k .1))) (λ T st d H k. rw (p, q, ne-eqb x y n, unifyHeads)) (B .step) }
 
   pub var-else : (x : ℕ) {w′ : List ℕ} {r : Unified} → a ≡ Var x → OneOf (0 ∷ 1 ∷ 2 ∷ 3 ∷ 4 ∷ 5 ∷ []) (tagOf the-type b) → BindsVar w x b left w′ r → UnifiesHeads w a b left w′ r
   var-else x p o B = record { step = is-other (λ T st k. (rw p at (k .2), rw p at (k .0), k .1)) (λ T st d H k. rw p (var-other d (unifier d) st T x b o)) (B .step) }
@@ -226,31 +226,31 @@ module _ {w : List ℕ} {a b : Ty} {left : ℕ} where
   unfolding unifyHeads
   record-error c p q = record { step = goes-on (λ T st d k. rw (p, q)) }
 
-  pub record-var : (c y : ℕ) {w′ : List ℕ} {r : Unified} → a ≡ Record c → b ≡ Var y → BindsVar w y a left w′ r → UnifiesHeads w a b left w′ r
+  pub record-var : (c y : ℕ) {w′ : List ℕ} {r : Unified} → a ≡ Record c → b ≡ Var y → BindsVar w y (Record c) left w′ r → UnifiesHeads w a b left w′ r
   unfolding unifyHeads
-  record-var c y p q B = record { step = is-other (λ T st k. (rw q at (k .3), rw q at (k .1), k .0)) (λ T st d H k. rw (p, q)) (B .step) }
+  record-var c y p q B = record { step = is-other (λ T st k. (rw q at (k .3), rw q at (k .1), rw p at (k .0))) (λ T st d H k. rw (p, q)) (B .step) }
 
   pub record-record : (c e : ℕ) {w′ : List ℕ} {r : Unified} → a ≡ Record c → b ≡ Record e → UnifiesRecord w c e left w′ r → UnifiesHeads w a b left w′ r
   unfolding unifyHeads Unify.unifyNodes
   record-record c e p q R = record { step = is-other (λ T st k. (rw p at (k .0), rw q at (k .1))) (λ T st d H k. rw (p, q)) (R .step) }
 
-  pub record-else : (c : ℕ) → a ≡ Record c → OneOf (0 ∷ 1 ∷ 2 ∷ 3 ∷ 5 ∷ []) (tagOf the-type b) → UnifiesHeads w a b left w (Bad (Mismatch b a) left)
-  record-else c p o = record { step = fails (Mismatch b a) (λ T st d H k. rw p (record-other d (unifier d) st T c b o)) }
+  pub record-else : (c : ℕ) → a ≡ Record c → OneOf (0 ∷ 1 ∷ 2 ∷ 3 ∷ 5 ∷ []) (tagOf the-type b) → UnifiesHeads w a b left w (Bad (Mismatch b (Record c)) left)
+  record-else c p o = record { step = fails (Mismatch b (Record c)) (λ T st d H k. rw p (record-other d (unifier d) st T c b o)) }
 
   pub union-error : (c : ℕ) → a ≡ Union c → b ≡ Error → UnifiesHeads w a b left w (Good left)
   unfolding unifyHeads
   union-error c p q = record { step = goes-on (λ T st d k. rw (p, q)) }
 
-  pub union-var : (c y : ℕ) {w′ : List ℕ} {r : Unified} → a ≡ Union c → b ≡ Var y → BindsVar w y a left w′ r → UnifiesHeads w a b left w′ r
+  pub union-var : (c y : ℕ) {w′ : List ℕ} {r : Unified} → a ≡ Union c → b ≡ Var y → BindsVar w y (Union c) left w′ r → UnifiesHeads w a b left w′ r
   unfolding unifyHeads
-  union-var c y p q B = record { step = is-other (λ T st k. (rw q at (k .3), rw q at (k .1), k .0)) (λ T st d H k. rw (p, q)) (B .step) }
+  union-var c y p q B = record { step = is-other (λ T st k. (rw q at (k .3), rw q at (k .1), rw p at (k .0))) (λ T st d H k. rw (p, q)) (B .step) }
 
   pub union-union : (c e : ℕ) {w′ : List ℕ} {r : Unified} → a ≡ Union c → b ≡ Union e → UnifiesUnion w c e left w′ r → UnifiesHeads w a b left w′ r
   unfolding unifyHeads Unify.unifyNodes
   union-union c e p q R = record { step = is-other (λ T st k. (rw p at (k .0), rw q at (k .1))) (λ T st d H k. rw (p, q)) (R .step) }
 
-  pub union-else : (c : ℕ) → a ≡ Union c → OneOf (0 ∷ 1 ∷ 2 ∷ 3 ∷ 4 ∷ []) (tagOf the-type b) → UnifiesHeads w a b left w (Bad (Mismatch b a) left)
-  union-else c p o = record { step = fails (Mismatch b a) (λ T st d H k. rw p (union-other d (unifier d) st T c b o)) }
+  pub union-else : (c : ℕ) → a ≡ Union c → OneOf (0 ∷ 1 ∷ 2 ∷ 3 ∷ 4 ∷ []) (tagOf the-type b) → UnifiesHeads w a b left w (Bad (Mismatch b (Union c)) left)
+  union-else c p o = record { step = fails (Mismatch b (Union c)) (λ T st d H k. rw p (union-other d (unifier d) st T c b o)) }
 
   pub leaf-error : IsLeaf a → b ≡ Error → UnifiesHeads w a b left w (Good left)
   unfolding unifyHeads
