@@ -42,10 +42,12 @@ use Rattle.cells.proofs.Steps.{goes-on, fails, is-other, Going, go-star
 module _ {w : List ℕ} {c e : ℕ} {diff : UnionDiff} {a b : Ty} {left : ℕ} {w′ : List ℕ} {r : Unified} (U : Unifies w a b left w′ r) where
   pub payload-fails : (x : TyError) (l : ℕ) → r ≡ Bad x l → UnifiesPayload w c e diff a b left w′ (Bad (UnionMismatch diff (Union e) (Union c)) l)
   unfolding Ends mapErr
-  payload-fails x l q = record { step = record {
+  payload-fails x l q = record {
+    step = record {
       is = λ T st H v k d h. one T (Unify.unifyIn d st (tree T a) (tree T b)) (rw q at (U .is T st H v (k .0) (k .1) d h));
       fewer = rw q at (U .fewer);
-    } }
+    };
+  }
     where
       one : (T : Rows) (o : Unify.Unified) → Ends w w′ T (Bad x l) o → Ends w w′ T (Bad (UnionMismatch diff (Union e) (Union c)) l) (mapErr (differs T c e (diffOf diff)) o)
       one T (Unify.Ok st) z = clash (cc (z .0))
@@ -54,10 +56,12 @@ module _ {w : List ℕ} {c e : ℕ} {diff : UnionDiff} {a b : Ty} {left : ℕ} {
 
   pub payload-else : OneOf (0 ∷ 2 ∷ []) (tagOf the-type r) → UnifiesPayload w c e diff a b left w′ r
   unfolding Ends mapErr
-  payload-else x = record { step = record {
+  payload-else x = record {
+    step = record {
       is = λ T st H v k d h. one T (Unify.unifyIn d st (tree T a) (tree T b)) (U .is T st H v (k .0) (k .1) d h);
       fewer = U .fewer;
-    } }
+    };
+  }
     where
       one : (T : Rows) (o : Unify.Unified) → Ends w w′ T r o → Ends w w′ T r (mapErr (differs T c e (diffOf diff)) o)
       one T (Unify.Ok st) z = z
@@ -86,16 +90,20 @@ module _ {w : List ℕ} {c e k : ℕ} {x y : Found} (X : FindsKey w Alternatives
   module _ (o m : Part) (p : x ≡ At o) (q : y ≡ At m) where
     pub renamed : {left : ℕ} {r : Unified} → ¬ (o .label ≡ m .label) → r ≡ Bad (UnionMismatch (Renamed (m .label) (o .label) k) (Union e) (Union c)) left → UnifiesAlternative w c e k left w r
     unfolding unifyAlternative
-    renamed n z = rw z record { step = fails (UnionMismatch (Renamed (m .label) (o .label) k) (Union e) (Union c))
-      (λ T st d H i. sides T st d H i p q ∙ rw (ne-eqb (o .label) (m .label) n, unifyAlternative)) }
+    renamed n z = rw z record {
+      step = fails (UnionMismatch (Renamed (m .label) (o .label) k) (Union e) (Union c))
+          (λ T st d H i. sides T st d H i p q ∙ rw (ne-eqb (o .label) (m .label) n, unifyAlternative));
+    }
 
     pub in-both : {left : ℕ} {w′ : List ℕ} {r : Unified} → o .label ≡ m .label → UnifiesPayload w c e (Payload (o .label) k) (o .ty) (m .ty) left w′ r → UnifiesAlternative w c e k left w′ r
     unfolding unifyAlternative
-    in-both n P = record { step = record {
-      is = λ T st H v i d h. rw (sides T st d H i p q, eq-eqb (o .label) (m .label) n, unifyAlternative)
-        (P .step .is T st H v (rw p at (X .ok T (H .cells) (i .0)), rw q at (Y .ok T (H .cells) (i .1))) d h);
-      fewer = P .step .fewer;
-    } }
+    in-both n P = record {
+      step = record {
+        is = λ T st H v i d h. rw (sides T st d H i p q, eq-eqb (o .label) (m .label) n, unifyAlternative)
+            (P .step .is T st H v (rw p at (X .ok T (H .cells) (i .0)), rw q at (Y .ok T (H .cells) (i .1))) d h);
+        fewer = P .step .fewer;
+      };
+    }
 
 -- ---- The loop
 abbrev pub alternativesFrom : ℕ → ℕ → ℕ → ℕ → Rows → State → Unify.Unified
@@ -106,8 +114,10 @@ pub record UnionGoing (w₀ : List ℕ) (c e left : ℕ) (w : List ℕ) (from le
 
 pub union-start : (w : List ℕ) (c e left : ℕ) → UnionGoing w c e left w 0 left
 unfolding unifyUnion
-union-start w c e left = record { going = go-start (λ T st d H k.
-    ap (λ (ks : List ℕ). unifyAlternatives (unifier d) st (differs T c e) ks (T c) (T e)) (sym (remaining-all (T c) (T e)))) }
+union-start w c e left = record {
+  going = go-start (λ T st d H k.
+      ap (λ (ks : List ℕ). unifyAlternatives (unifier d) st (differs T c e) ks (T c) (T e)) (sym (remaining-all (T c) (T e))));
+}
 
 module _ {w₀ : List ℕ} {c e left : ℕ} {w : List ℕ} {from left′ : ℕ} (g : UnionGoing w₀ c e left w from left′) where
   pub union-past : 4294967296 ≤ from → UnifiesUnion w₀ c e left w (Good left′)
@@ -117,9 +127,11 @@ module _ {w₀ : List ℕ} {c e left : ℕ} {w : List ℕ} {from left′ : ℕ} 
   module _ {next : Next} (lt : from < 4294967296) (N : NextFrom w c e from next) where
     pub union-end : next ≡ Next.Nothing → UnifiesUnion w₀ c e left w (Good left′)
     unfolding unifyAlternatives
-    union-end q = record { step = go-end (g .going) (λ T st H k K s S d.
-      let same = keeps-cells (omega arith) K in
-      rw (remaining-none from (T c) (T e) next lt (N .is T (S .cells) (cell-same same (k .0)) (cell-same same (k .1))) q)) }
+    union-end q = record {
+      step = go-end (g .going) (λ T st H k K s S d.
+          let same = keeps-cells (omega arith) K in
+          rw (remaining-none from (T c) (T e) next lt (N .is T (S .cells) (cell-same same (k .0)) (cell-same same (k .1))) q));
+    }
 
     module _ {k : ℕ} {w′ : List ℕ} {r : Unified} (q : next ≡ Next.Is k) (A : UnifiesAlternative w c e k left′ w′ r) where
       turn : (T : Rows) (d : ℕ) {s : State} → Holds w T s → IsCell w₀ Alternatives c → IsCell w₀ Alternatives e → Keeps UNDO-LEN END w₀ w
@@ -132,11 +144,15 @@ module _ {w₀ : List ℕ} {c e left : ℕ} {w : List ℕ} {from left′ : ℕ} 
           rw (remaining-next from (T c) (T e) next lt (N .is T (S .cells) j j′) k q (N .small T (S .cells) j j′))
 
       pub union-next : (l : ℕ) → r ≡ Good l → length w′ ≡ length w → UnionGoing w₀ c e left w′ (k + 1) l
-      union-next l x len = record { going = go-next (g .going) (λ d T st. alternativesFrom c e (k + 1) d T st) (A .step)
-        (λ T st H i K s S d. let same = keeps-cells (omega arith) K in (cell-same same (i .0), cell-same same (i .1)))
-        (λ T st H i K s S d. turn T d S (i .0) (i .1) K) l x len }
+      union-next l x len = record {
+        going = go-next (g .going) (λ d T st. alternativesFrom c e (k + 1) d T st) (A .step)
+            (λ T st H i K s S d. let same = keeps-cells (omega arith) K in (cell-same same (i .0), cell-same same (i .1)))
+            (λ T st H i K s S d. turn T d S (i .0) (i .1) K) l x len;
+      }
 
       pub union-stop : NotGood r → UnifiesUnion w₀ c e left w′ r
-      union-stop x = record { step = go-stop (g .going) (λ d T st. alternativesFrom c e (k + 1) d T st) (A .step)
-        (λ T st H i K s S d. let same = keeps-cells (omega arith) K in (cell-same same (i .0), cell-same same (i .1)))
-        (λ T st H i K s S d. turn T d S (i .0) (i .1) K) x }
+      union-stop x = record {
+        step = go-stop (g .going) (λ d T st. alternativesFrom c e (k + 1) d T st) (A .step)
+            (λ T st H i K s S d. let same = keeps-cells (omega arith) K in (cell-same same (i .0), cell-same same (i .1)))
+            (λ T st H i K s S d. turn T d S (i .0) (i .1) K) x;
+      }

@@ -10,7 +10,7 @@ use Rattle.cells.specs.Contracts.{leastFrom}
 
 pub next-discriminant-spec : {M : Type 1} → statement M
 next-discriminant-spec = tie.close (tie.spec (λ c κs. search needs) (λ c κs. search needs) (λ c. record {
-      is = λ T C i j. c .least-from2 .ensures .is T C j ∙ ap (leastFrom _ (T _)) (c .before .least-from .ensures .is T C i);
-      small = λ T C i j. (c .before .least-from .ensures .small T C i, c .least-from2 .ensures .small T C j);
-      above = c .least-from2 .ensures .above (c .before .least-from .ensures .above tt)
-    }))
+  is = λ T C i j. c .least-from2 .ensures .is T C j ∙ ap (leastFrom _ (T _)) (c .before .least-from .ensures .is T C i);
+  small = λ T C i j. (c .before .least-from .ensures .small T C i, c .least-from2 .ensures .small T C j);
+  above = c .least-from2 .ensures .above (c .before .least-from .ensures .above tt);
+}))
