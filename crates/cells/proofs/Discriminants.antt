@@ -16,7 +16,7 @@ use Rattle.cells.specs.declared.Next.{Next}
 use Rattle.cells.specs.declared.Next.the-variants as Next
 use Rattle.cells.specs.Words.{pick, countW, partW, lesser, lowerW}
 use Rattle.cells.specs.Stands.{Rows, tree, IsCell, Cells}
-use Rattle.cells.specs.Contracts.{leastFrom, KeysBelow, Lowers, LeastFrom}
+use Rattle.cells.specs.Contracts.{leastFrom, KeysBelow, NotBelow, Lowers, LeastFrom}
 use Rattle.cells.proofs.Parts.{rest, rest-whole, rest-cell, rest-none}
 
 -- ---- The scan of one union that has come to number j
@@ -24,12 +24,27 @@ pub record Lowering (w : List ℕ) (c from : ℕ) (best : Next) (n j : ℕ) (lea
   pub within : j ≤ n
   pub to : (T : Rows) → Cells w T → IsCell w Alternatives c → leastFrom from (T c) best ≡ leastFrom from (rest T w Alternatives c n j) least
   pub small : (T : Rows) → Cells w T → IsCell w Alternatives c → KeysBelow 4294967296 (rest T w Alternatives c n j) → KeysBelow 4294967296 (T c)
+  pub above : NotBelow from best → NotBelow from least
+
+lower-above : (key from : ℕ) (o : Next) → NotBelow from o → NotBelow from (lowerW key from o)
+unfolding lowerW
+lower-above key from o h = go (ltb key from) refl o h
+  where
+    go : (b : Bool) → ltb key from ≡ b → (o : Next) → NotBelow from o → NotBelow from (pick b o (lesser key o))
+    go true q o h = h
+    go false q Next.Nothing h = ltb-false key from q
+    go false q (Next.Is m) h = one (ltb key m)
+      where
+        one : (b : Bool) → NotBelow from (pick b (Next.Is key) (Next.Is m))
+        one true = ltb-false key from q
+        one false = h
 
 pub scan-start : (w : List ℕ) (c from : ℕ) (best : Next) (n : ℕ) → n ≡ countW w c → Lowering w c from best n 0 best
 scan-start w c from best n e = record {
   within = omega arith;
   to = λ T C i. ap (λ (r : Row). leastFrom from r best) (rest-whole T w Alternatives c n e C i);
   small = λ T C i h. rw (rest-whole T w Alternatives c n e C i) h;
+  above = λ h. h;
 }
 
 module _ {w : List ℕ} {c from : ℕ} {best : Next} {n j : ℕ} {least : Next} (g : Lowering w c from best n j least) where
@@ -39,6 +54,7 @@ module _ {w : List ℕ} {c from : ℕ} {best : Next} {n j : ℕ} {least : Next} 
     within = omega arith;
     to = λ T C i. g .to T C i ∙ rw (rest-cell T w Alternatives c n j p h e, leastFrom, ← l .is);
     small = λ T C i b. g .small T C i (rw (rest-cell T w Alternatives c n j p h e) (l .small, b));
+    above = λ b. rw (l .is) (lower-above (p .key) from least (g .above b));
   }
 
   pub scan-end : n ≤ j → LeastFrom w c from best least
@@ -46,6 +62,7 @@ module _ {w : List ℕ} {c from : ℕ} {best : Next} {n j : ℕ} {least : Next} 
   scan-end h = record {
     is = λ T C i. sym (g .to T C i ∙ rw (rest-none T w Alternatives c n j h, leastFrom));
     small = λ T C i. g .small T C i (rw (rest-none T w Alternatives c n j h) tt);
+    above = g .above;
   }
 
 -- ---- The ascending list of the discriminants, from a number on

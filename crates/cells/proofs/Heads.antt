@@ -46,30 +46,39 @@ module _ {w : List ℕ} {x : ℕ} {t : Ty} {left : ℕ} {o : Asked} (O : Occurs 
 
   pub bind-occurs : (l : ℕ) → o ≡ Yes l → BindsVar w x t left w (Bad Infinite l)
   unfolding Ends bindVar withLeft
-  bind-occurs l e = record { step = record {
-    is = λ T st H q p d h. rw (answer T st H q (p .2) d h, e, bindVar) (Infinite, refl, refl, stay (holds-left H l));
-    fewer = rw e at (O .fewer);
-  } }
+  bind-occurs l e = record {
+    step = record {
+      is = λ T st H q p d h. rw (answer T st H q (p .2) d h, e, bindVar) (Infinite, refl, refl, stay (holds-left H l));
+      fewer = rw e at (O .fewer);
+    };
+  }
 
   pub bind-sets : (l : ℕ) → o ≡ No l → (w′ : List ℕ) → w′ ≡ setVarW w x t → BindsVar w x t left w′ (Good l)
   unfolding Ends bindVar withLeft Bindings.setVar
-  bind-sets l e w′ s = rw s record { step = record {
-    is = λ T st H q p d h.
-      let a : Bindings.occurs d (st .subst) x (st .left) (tree T t) ≡ no-left l = answer T st H q (p .2) d h ∙ ap answerOf e in
-      let lt : x < length (st .subst) = omega (arith, H .binds .unknowns, p .1) in
-      rw (a, bindVar) (refl, record {
-        holds = set-var-holds (holds-left H l) x t lt (p .0) (p .2) (occurs-no (st .subst) x (p .0) (H .acyclic) d (st .left) (tree T t) l a);
-        keeps = set-var-keeps w x t (omega (arith, H .few-unknowns));
-      });
-    fewer = rw e at (O .fewer);
-  } }
+  bind-sets l e w′ s = rw s record {
+    step = record {
+      is = λ T st H q p d h.
+          let a : Bindings.occurs d (st .subst) x (st .left) (tree T t) ≡ no-left l = answer T st H q (p .2) d h ∙ ap answerOf e in
+          let lt : x < length (st .subst) = omega (arith, H .binds .unknowns, p .1) in
+          rw (a, bindVar) (
+            refl,
+            record {
+              holds = set-var-holds (holds-left H l) x t lt (p .0) (p .2) (occurs-no (st .subst) x (p .0) (H .acyclic) d (st .left) (tree T t) l a);
+              keeps = set-var-keeps w x t (omega (arith, H .few-unknowns));
+            },
+          );
+      fewer = rw e at (O .fewer);
+    };
+  }
 
   pub bind-spent : o ≡ Asked.Spent → BindsVar w x t left w Spent
   unfolding Ends bindVar withLeft
-  bind-spent e = record { step = record {
-    is = λ T st H q p d h. rw (answer T st H q (p .2) d h, e, bindVar) (refl, refl, stay (holds-left H 0));
-    fewer = omega arith;
-  } }
+  bind-spent e = record {
+    step = record {
+      is = λ T st H q p d h. rw (answer T st H q (p .2) d h, e, bindVar) (refl, refl, stay (holds-left H 0));
+      fewer = omega arith;
+    };
+  }
 
 -- ---- Leaves
 abbrev leafTy : Leaf → Ty
@@ -198,26 +207,30 @@ module _ (d : ℕ) (u : State → Tree.Ty → Tree.Ty → Unify.Unified) (st : S
 module _ {w : List ℕ} {a b : Ty} {left : ℕ} where
   pub error-var : (y : ℕ) (w′ : List ℕ) → a ≡ Error → b ≡ Var y → w′ ≡ setVarW w y Error → UnifiesHeads w a b left w′ (Good left)
   unfolding unifyHeads
-  error-var y w′ p q e = record { step = sets y Error w′ e
-    (λ T st k. (tt, rw q at (k .1), rw q at (k .3), error-reaches (st .subst) y))
-    (λ T st d k. rw (p, q)) }
+  error-var y w′ p q e = record {
+    step = sets y Error w′ e
+        (λ T st k. (tt, rw q at (k .1), rw q at (k .3), error-reaches (st .subst) y))
+        (λ T st d k. rw (p, q));
+  }
 
   pub error-else : a ≡ Error → OneOf (0 ∷ 1 ∷ 2 ∷ 3 ∷ 4 ∷ 5 ∷ 7 ∷ []) (tagOf the-type b) → UnifiesHeads w a b left w (Good left)
   error-else p o = record { step = goes-on (λ T st d k. rw p (error-other d (unifier d) st T b o)) }
 
   pub var-error : (x : ℕ) (w′ : List ℕ) → a ≡ Var x → b ≡ Error → w′ ≡ setVarW w x Error → UnifiesHeads w a b left w′ (Good left)
   unfolding unifyHeads
-  var-error x w′ p q e = record { step = sets x Error w′ e
-    (λ T st k. (tt, rw p at (k .0), rw p at (k .2), error-reaches (st .subst) x))
-    (λ T st d k. rw (p, q)) }
+  var-error x w′ p q e = record {
+    step = sets x Error w′ e
+        (λ T st k. (tt, rw p at (k .0), rw p at (k .2), error-reaches (st .subst) x))
+        (λ T st d k. rw (p, q));
+  }
 
   pub var-same : (x y : ℕ) → a ≡ Var x → b ≡ Var y → x ≡ y → UnifiesHeads w a b left w (Good left)
   unfolding unifyHeads
   var-same x y p q e = record { step = goes-on (λ T st d k. rw (p, q, eq-eqb x y e, unifyHeads)) }
 
-  pub var-var : (x y : ℕ) {w′ : List ℕ} {r : Unified} → a ≡ Var x → b ≡ Var y → ¬ (x ≡ y) → BindsVar w x b left w′ r → UnifiesHeads w a b left w′ r
+  pub var-var : (x y : ℕ) {w′ : List ℕ} {r : Unified} → a ≡ Var x → b ≡ Var y → ¬ (x ≡ y) → BindsVar w x (Var y) left w′ r → UnifiesHeads w a b left w′ r
   unfolding unifyHeads
-  var-var x y p q n B = record { step = is-other (λ T st k. (rw p at (k .2), rw p at (k .0), k .1)) (λ T st d H k. rw (p, q, ne-eqb x y n, unifyHeads)) (B .step) }
+  var-var x y p q n B = record { step = is-other (λ T st k. (rw p at (k .2), rw p at (k .0), rw q at (k .1))) (λ T st d H k. rw (p, q, ne-eqb x y n, unifyHeads)) (B .step) }
 
   pub var-else : (x : ℕ) {w′ : List ℕ} {r : Unified} → a ≡ Var x → OneOf (0 ∷ 1 ∷ 2 ∷ 3 ∷ 4 ∷ 5 ∷ []) (tagOf the-type b) → BindsVar w x b left w′ r → UnifiesHeads w a b left w′ r
   var-else x p o B = record { step = is-other (λ T st k. (rw p at (k .2), rw p at (k .0), k .1)) (λ T st d H k. rw p (var-other d (unifier d) st T x b o)) (B .step) }
@@ -226,31 +239,31 @@ module _ {w : List ℕ} {a b : Ty} {left : ℕ} where
   unfolding unifyHeads
   record-error c p q = record { step = goes-on (λ T st d k. rw (p, q)) }
 
-  pub record-var : (c y : ℕ) {w′ : List ℕ} {r : Unified} → a ≡ Record c → b ≡ Var y → BindsVar w y a left w′ r → UnifiesHeads w a b left w′ r
+  pub record-var : (c y : ℕ) {w′ : List ℕ} {r : Unified} → a ≡ Record c → b ≡ Var y → BindsVar w y (Record c) left w′ r → UnifiesHeads w a b left w′ r
   unfolding unifyHeads
-  record-var c y p q B = record { step = is-other (λ T st k. (rw q at (k .3), rw q at (k .1), k .0)) (λ T st d H k. rw (p, q)) (B .step) }
+  record-var c y p q B = record { step = is-other (λ T st k. (rw q at (k .3), rw q at (k .1), rw p at (k .0))) (λ T st d H k. rw (p, q)) (B .step) }
 
   pub record-record : (c e : ℕ) {w′ : List ℕ} {r : Unified} → a ≡ Record c → b ≡ Record e → UnifiesRecord w c e left w′ r → UnifiesHeads w a b left w′ r
   unfolding unifyHeads Unify.unifyNodes
   record-record c e p q R = record { step = is-other (λ T st k. (rw p at (k .0), rw q at (k .1))) (λ T st d H k. rw (p, q)) (R .step) }
 
-  pub record-else : (c : ℕ) → a ≡ Record c → OneOf (0 ∷ 1 ∷ 2 ∷ 3 ∷ 5 ∷ []) (tagOf the-type b) → UnifiesHeads w a b left w (Bad (Mismatch b a) left)
-  record-else c p o = record { step = fails (Mismatch b a) (λ T st d H k. rw p (record-other d (unifier d) st T c b o)) }
+  pub record-else : (c : ℕ) → a ≡ Record c → OneOf (0 ∷ 1 ∷ 2 ∷ 3 ∷ 5 ∷ []) (tagOf the-type b) → UnifiesHeads w a b left w (Bad (Mismatch b (Record c)) left)
+  record-else c p o = record { step = fails (Mismatch b (Record c)) (λ T st d H k. rw p (record-other d (unifier d) st T c b o)) }
 
   pub union-error : (c : ℕ) → a ≡ Union c → b ≡ Error → UnifiesHeads w a b left w (Good left)
   unfolding unifyHeads
   union-error c p q = record { step = goes-on (λ T st d k. rw (p, q)) }
 
-  pub union-var : (c y : ℕ) {w′ : List ℕ} {r : Unified} → a ≡ Union c → b ≡ Var y → BindsVar w y a left w′ r → UnifiesHeads w a b left w′ r
+  pub union-var : (c y : ℕ) {w′ : List ℕ} {r : Unified} → a ≡ Union c → b ≡ Var y → BindsVar w y (Union c) left w′ r → UnifiesHeads w a b left w′ r
   unfolding unifyHeads
-  union-var c y p q B = record { step = is-other (λ T st k. (rw q at (k .3), rw q at (k .1), k .0)) (λ T st d H k. rw (p, q)) (B .step) }
+  union-var c y p q B = record { step = is-other (λ T st k. (rw q at (k .3), rw q at (k .1), rw p at (k .0))) (λ T st d H k. rw (p, q)) (B .step) }
 
   pub union-union : (c e : ℕ) {w′ : List ℕ} {r : Unified} → a ≡ Union c → b ≡ Union e → UnifiesUnion w c e left w′ r → UnifiesHeads w a b left w′ r
   unfolding unifyHeads Unify.unifyNodes
   union-union c e p q R = record { step = is-other (λ T st k. (rw p at (k .0), rw q at (k .1))) (λ T st d H k. rw (p, q)) (R .step) }
 
-  pub union-else : (c : ℕ) → a ≡ Union c → OneOf (0 ∷ 1 ∷ 2 ∷ 3 ∷ 4 ∷ []) (tagOf the-type b) → UnifiesHeads w a b left w (Bad (Mismatch b a) left)
-  union-else c p o = record { step = fails (Mismatch b a) (λ T st d H k. rw p (union-other d (unifier d) st T c b o)) }
+  pub union-else : (c : ℕ) → a ≡ Union c → OneOf (0 ∷ 1 ∷ 2 ∷ 3 ∷ 4 ∷ []) (tagOf the-type b) → UnifiesHeads w a b left w (Bad (Mismatch b (Union c)) left)
+  union-else c p o = record { step = fails (Mismatch b (Union c)) (λ T st d H k. rw p (union-other d (unifier d) st T c b o)) }
 
   pub leaf-error : IsLeaf a → b ≡ Error → UnifiesHeads w a b left w (Good left)
   unfolding unifyHeads
@@ -264,8 +277,10 @@ module _ {w : List ℕ} {a b : Ty} {left : ℕ} where
   leaf-same o e = record { step = goes-on (λ T st d k. rw (← same-true a b e, leaf-is T a o) (leaves-same d (unifier d) st (leaf a o .0))) }
 
   pub leaf-else : IsLeaf a → OneOf (0 ∷ 1 ∷ 2 ∷ 3 ∷ 4 ∷ 5 ∷ []) (tagOf the-type b) → sameLeafW a b ≡ false → UnifiesHeads w a b left w (Bad (Mismatch b a) left)
-  leaf-else o o′ e = record { step = fails (Mismatch b a) (λ T st d H k. rw (leaf-is T a o)
-    (leaf-differs d (unifier d) st T (leaf a o .0) b o′ (λ q. same-false a b e (leaf a o .1 ∙ q)))) }
+  leaf-else o o′ e = record {
+    step = fails (Mismatch b a) (λ T st d H k. rw (leaf-is T a o)
+        (leaf-differs d (unifier d) st T (leaf a o .0) b o′ (λ q. same-false a b e (leaf a o .1 ∙ q))));
+  }
 
 -- ---- An entry
 pub unify-none : {w : List ℕ} {a b : Ty} {left : ℕ} → left ≡ 0 → Unifies w a b left w Spent
@@ -294,6 +309,6 @@ unify-enter {w} {got} {expected} {a} {b} {left} {w′} {r} z ra rb U = record { 
         let x : tree T a ≡ Bindings.repr s (tree T got) = ra .is T s (H .binds) in
         let y : tree T b ≡ Bindings.repr s (tree T expected) = rb .is T s (H .binds) in
         let there = U .step .is T (withLeft st (left - 1)) (holds-left H (left - 1)) refl
-            (ra .ok T s (H .binds) k, rb .ok T s (H .binds) m, rw x (repr-resolved s (H .acyclic) (tree T got)), rw y (repr-resolved s (H .acyclic) (tree T expected))) d (omega arith) in
+        (ra .ok T s (H .binds) k, rb .ok T s (H .binds) m, rw x (repr-resolved s (H .acyclic) (tree T got)), rw y (repr-resolved s (H .acyclic) (tree T expected))) d (omega arith) in
         rw (unifyIn-visit d st (left - 1) (tree T got) (tree T expected) e)
         (ends-note w w′ T r s (tree T got) (tree T expected) (heads-in d st (left - 1) (tree T got) (tree T expected)) (rw (x, y) at there))

@@ -89,7 +89,7 @@ module _ {w : List ℕ} {T : Rows} {st : State} (H : Holds w T st) (x : ℕ) (t 
       let at = BINDINGS + 2 * x in
       let slot = binding-slot x (omega (arith, H .few-unknowns)) in
       let undo : Binding x none ∷ st .undo ≡ undoOf (setVarW w x t) (getD (setVarW w x t) UNDO-LEN 0) =
-          sym (set-undo w (H .long) at slot t x room ∙ rw (entry-binding x (omega (arith, H .few-unknowns)), ← H .undo)) in
+      sym (set-undo w (H .long) at slot t x room ∙ rw (entry-binding x (omega (arith, H .few-unknowns)), ← H .undo)) in
       rw free
       (binding-changed {b = To t} H o (Binding x none ∷ st .undo) (st .left) (st .history) undo
       (set-change w (H .long) at slot t x room) lt
@@ -119,7 +119,7 @@ module _ {w : List ℕ} {T : Rows} {st : State} (H : Holds w T st) (n : ℕ) (t 
       let slot = type-slot n (omega (arith, H .few-nodes)) in
       let w′ = pushUndoW (putTy w at t) (n + 65536) in
       let undo : Annotation n none ∷ st .undo ≡ undoOf w′ (getD w′ UNDO-LEN 0) =
-          sym (set-undo w (H .long) at slot t (n + 65536) room ∙ rw (entry-annotation n, ← H .undo)) in
+      sym (set-undo w (H .long) at slot t (n + 65536) room ∙ rw (entry-annotation n, ← H .undo)) in
       rw (annotate-is, free)
       (type-changed {b = To t} H o (Annotation n none ∷ st .undo) (st .left) (st .history) undo
       (set-change w (H .long) at slot t (n + 65536) room) lt
@@ -200,7 +200,7 @@ module _ {w : List ℕ} {T : Rows} {st : State} (H : Holds w T st) (few : length
       ok = λ n h. rw (fresh-type n h) (ok-bound-same fresh-cells (slotW w (TYS + 2 * n)) (H .types .ok n h));
     };
     undo = H .undo ∙ sym (rw (fresh-other UNDO-LEN (λ q. omega arith) (λ q. omega arith))
-      (undo-same w (freshW w) (getD w UNDO-LEN 0) (λ i h. fresh-other (UNDO + i) (λ q. omega arith) (λ q. omega (arith, next-few)))));
+        (undo-same w (freshW w) (getD w UNDO-LEN 0) (λ i h. fresh-other (UNDO + i) (λ q. omega arith) (λ q. omega (arith, next-few)))));
     logged = logged-fresh (H .logged);
     acyclic = acyclic-among (st .subst ++ none ∷ []) (st .subst) (λ x t e. sym (getD-end (st .subst) x) ∙ e) (H .acyclic);
     few-unknowns = omega (arith, length-append (st .subst) (none ∷ []));

@@ -44,15 +44,19 @@ cell-length {w} {T} C k c i = ap rowLen (C .row k c i) ∙ row-length T w k c (c
 module _ {w : List ℕ} {c e n m left : ℕ} (nc : n ≡ countW w c) (ne : m ≡ countW w e) where
   pub record-same : {w′ : List ℕ} {r : Unified} → n ≡ m → UnifiesFields w c e n left w′ r → UnifiesRecord w c e left w′ r
   unfolding unifyRecord
-  record-same q F = record { step = is-other (λ T st k. (k .0, k .1, nc)) (λ T st d H k.
-    let same : rowLen (T c) ≡ rowLen (T e) = cell-length (H .cells) Fields c (k .0) ∙ sym nc ∙ q ∙ ne ∙ sym (cell-length (H .cells) Fields e (k .1)) in
-    rw (eq-eqb (rowLen (T c)) (rowLen (T e)) same, unifyRecord)) (F .step) }
+  record-same q F = record {
+    step = is-other (λ T st k. (k .0, k .1, nc)) (λ T st d H k.
+        let same : rowLen (T c) ≡ rowLen (T e) = cell-length (H .cells) Fields c (k .0) ∙ sym nc ∙ q ∙ ne ∙ sym (cell-length (H .cells) Fields e (k .1)) in
+        rw (eq-eqb (rowLen (T c)) (rowLen (T e)) same, unifyRecord)) (F .step);
+  }
 
   pub record-differs : ¬ (n ≡ m) → UnifiesRecord w c e left w (Bad (Mismatch (Record e) (Record c)) left)
   unfolding unifyRecord
-  record-differs q = record { step = fails (Mismatch (Record e) (Record c)) (λ T st d H k.
-    let other : ¬ (rowLen (T c) ≡ rowLen (T e)) = λ x. q (nc ∙ sym (cell-length (H .cells) Fields c (k .0)) ∙ x ∙ cell-length (H .cells) Fields e (k .1) ∙ sym ne) in
-    rw (ne-eqb (rowLen (T c)) (rowLen (T e)) other, unifyRecord)) }
+  record-differs q = record {
+    step = fails (Mismatch (Record e) (Record c)) (λ T st d H k.
+        let other : ¬ (rowLen (T c) ≡ rowLen (T e)) = λ x. q (nc ∙ sym (cell-length (H .cells) Fields c (k .0)) ∙ x ∙ cell-length (H .cells) Fields e (k .1) ∙ sym ne) in
+        rw (ne-eqb (rowLen (T c)) (rowLen (T e)) other, unifyRecord));
+  }
 
 -- ---- The loop
 
@@ -92,8 +96,10 @@ module _ {w₀ : List ℕ} {c e n left : ℕ} {w : List ℕ} {j left′ : ℕ} (
       found {T} S i K = sym (F .is T (S .cells) (cell-same (keeps-cells (omega arith) K) i))
 
       pub fields-unknown : f ≡ Nothing → UnifiesFields w₀ c e n left w (Bad (UnknownField (p .key)) left′)
-      fields-unknown q = record { step = go-fail (g .going) (UnknownField (p .key)) (λ T st H k K s S d.
-        rw (rest-cell T w₀ Fields c n j p lt (was (H .cells) (k .0) (k .2) K)) (lacks (unifier d) s (p .key) (p .label) (tree T (p .ty)) _ (T e) (found S (k .1) K ∙ ap (foundPart T) q))) }
+      fields-unknown q = record {
+        step = go-fail (g .going) (UnknownField (p .key)) (λ T st H k K s S d.
+            rw (rest-cell T w₀ Fields c n j p lt (was (H .cells) (k .0) (k .2) K)) (lacks (unifier d) s (p .key) (p .label) (tree T (p .ty)) _ (T e) (found S (k .1) K ∙ ap (foundPart T) q)));
+      }
 
       module _ {o : Part} {w′ : List ℕ} {r : Unified} (q : f ≡ At o) (U : Unifies w (p .ty) (o .ty) left′ w′ r) where
         step : Step (λ T st. Ok w (p .ty) × Ok w (o .ty)) (λ d T st. Unify.unifyIn d st (tree T (p .ty)) (tree T (o .ty))) w left′ w′ r
@@ -110,11 +116,16 @@ module _ {w₀ : List ℕ} {c e n left : ℕ} {w : List ℕ} {j left′ : ℕ} (
             rw (rest-cell T w₀ Fields c n j p lt (was C i z K)) (has (unifier d) s (p .key) (p .label) (o .label) (tree T (p .ty)) (tree T (o .ty)) _ (T e) (found S i′ K ∙ ap (foundPart T) q))
 
         pub fields-next : (l : ℕ) → r ≡ Good l → length w′ ≡ length w → FieldsGoing w₀ c e n left w′ (j + 1) l
-        fields-next l x len = record { within = omega arith; going = go-next (g .going) (λ d T st. fieldsFrom w₀ c e n (j + 1) d T st) step
-          (λ T st H k K s S d. oks (H .cells) S (k .0) (k .1) (k .2) K)
-          (λ T st H k K s S d. turn T d (H .cells) S (k .0) (k .1) (k .2) K) l x len }
+        fields-next l x len = record {
+          within = omega arith;
+          going = go-next (g .going) (λ d T st. fieldsFrom w₀ c e n (j + 1) d T st) step
+              (λ T st H k K s S d. oks (H .cells) S (k .0) (k .1) (k .2) K)
+              (λ T st H k K s S d. turn T d (H .cells) S (k .0) (k .1) (k .2) K) l x len;
+        }
 
         pub fields-stop : NotGood r → UnifiesFields w₀ c e n left w′ r
-        fields-stop x = record { step = go-stop (g .going) (λ d T st. fieldsFrom w₀ c e n (j + 1) d T st) step
-          (λ T st H k K s S d. oks (H .cells) S (k .0) (k .1) (k .2) K)
-          (λ T st H k K s S d. turn T d (H .cells) S (k .0) (k .1) (k .2) K) x }
+        fields-stop x = record {
+          step = go-stop (g .going) (λ d T st. fieldsFrom w₀ c e n (j + 1) d T st) step
+              (λ T st H k K s S d. oks (H .cells) S (k .0) (k .1) (k .2) K)
+              (λ T st H k K s S d. turn T d (H .cells) S (k .0) (k .1) (k .2) K) x;
+        }

@@ -152,8 +152,8 @@ module _ (w : List ℕ) (long : END ≤ length w) (at : ℕ) (slot : IsSlot at) 
         record {
           keeps = keeps-trans (put-keeps w at t (slot .low) (omega (arith, slot .high))) (keeps-wider (omega arith) (omega arith) (push-keeps (putTy w at t) e));
           here = slot-set (pushUndoW (putTy w at t) e) at t
-            (push-other (putTy w at t) e r at (slot .before) (λ q. omega (arith, slot .high)) ∙ put-tag w at t (omega (arith, slot .high)))
-            (push-other (putTy w at t) e r (at + 1) (slot .behind) (λ q. omega (arith, slot .high)) ∙ put-payload w at t (omega (arith, slot .high)));
+              (push-other (putTy w at t) e r at (slot .before) (λ q. omega (arith, slot .high)) ∙ put-tag w at t (omega (arith, slot .high)))
+              (push-other (putTy w at t) e r (at + 1) (slot .behind) (λ q. omega (arith, slot .high)) ∙ put-payload w at t (omega (arith, slot .high)));
           other = λ i lo hi n m m′. push-other (putTy w at t) e r i n (λ q. omega arith) ∙ put-other w at t i m m′;
         }
 
@@ -202,19 +202,19 @@ module _ {w w′ : List ℕ} {at : ℕ} {b : Bound} (c : Change w w′ at b) whe
 
   pub binds-other : {T : Rows} {s : Subst} → at + 1 < UNDO-LEN → length s ≤ 512 → Binds w T s → Binds w′ T s
   binds-other {T} {s} hi few B = record {
-      unknowns = B .unknowns ∙ sym unknowns-same;
-      at = λ x. B .at x ∙ ap (boundTree T) (sym (same x));
-      ok = λ x. rw (same x) (ok-bound-same cells (boundW w x) (B .ok x));
-    }
+    unknowns = B .unknowns ∙ sym unknowns-same;
+    at = λ x. B .at x ∙ ap (boundTree T) (sym (same x));
+    ok = λ x. rw (same x) (ok-bound-same cells (boundW w x) (B .ok x));
+  }
     where
       same : (x : ℕ) → boundW w′ x ≡ boundW w x
       same x = other-bound (omega (arith, B .unknowns)) x (λ h. (λ q. omega arith, λ q. omega arith, λ q. omega arith))
 
   pub types-other : {T : Rows} {tys : List (Option Tree.Ty)} → UNDO-LEN < at → length tys ≤ 512 → Types w T tys → Types w′ T tys
   types-other {T} {tys} lo few Y = record {
-      at = λ n h. Y .at n h ∙ ap (boundTree T) (sym (same n h));
-      ok = λ n h. rw (same n h) (ok-bound-same cells (slotW w (TYS + 2 * n)) (Y .ok n h));
-    }
+    at = λ n h. Y .at n h ∙ ap (boundTree T) (sym (same n h));
+    ok = λ n h. rw (same n h) (ok-bound-same cells (slotW w (TYS + 2 * n)) (Y .ok n h));
+  }
     where
       same : (n : ℕ) → n < length tys → slotW w′ (TYS + 2 * n) ≡ slotW w (TYS + 2 * n)
       same n h = other-slot (TYS + 2 * n) (type-slot n (omega arith)) (λ q. omega arith) (λ q. omega arith) (λ q. omega arith)
@@ -222,14 +222,14 @@ module _ {w w′ : List ℕ} {at : ℕ} {b : Bound} (c : Change w w′ at b) whe
 pub binds-at : {w w′ : List ℕ} {x : ℕ} {b : Bound} {T : Rows} {s : Subst} → Change w w′ (BINDINGS + 2 * x) b → OkBound w b → x < length s → length s ≤ 512 → Binds w T s → Binds w′ T (set s x (boundTree T b))
 unfolding bound boundW
 binds-at {w} {w′} {x} {b} {T} {s} c o lt few B = record {
-    unknowns = length-set s x (boundTree T b) ∙ B .unknowns ∙ sym (unknowns-same c);
-    at = λ y. getD-set-at s x y (boundTree T b) none (λ v. v ≡ boundTree T (boundW w′ y)) lt
+  unknowns = length-set s x (boundTree T b) ∙ B .unknowns ∙ sym (unknowns-same c);
+  at = λ y. getD-set-at s x y (boundTree T b) none (λ v. v ≡ boundTree T (boundW w′ y)) lt
       (λ e. rw (e, here))
       (λ n. B .at y ∙ ap (boundTree T) (sym (same y n)));
-    ok = λ y. by-cases (ℕ-discrete y x)
+  ok = λ y. by-cases (ℕ-discrete y x)
       (λ e. rw (e, here) (ok-bound-same (cells c) b o))
       (λ n. rw (same y n) (ok-bound-same (cells c) (boundW w y) (B .ok y)));
-  }
+}
   where
     here : boundW w′ x ≡ b
     here = rw (unknowns-same c, lt-ltb x (getD w UNKNOWNS 0) (omega (arith, B .unknowns))) (c .here)
@@ -239,13 +239,13 @@ binds-at {w} {w′} {x} {b} {T} {s} c o lt few B = record {
 
 pub types-at : {w w′ : List ℕ} {n : ℕ} {b : Bound} {T : Rows} {tys : List (Option Tree.Ty)} → Change w w′ (TYS + 2 * n) b → OkBound w b → n < length tys → length tys ≤ 512 → Types w T tys → Types w′ T (set tys n (boundTree T b))
 types-at {w} {w′} {n} {b} {T} {tys} c o lt few Y = record {
-    at = λ m h. getD-set-at tys n m (boundTree T b) none (λ v. v ≡ boundTree T (slotW w′ (TYS + 2 * m))) lt
+  at = λ m h. getD-set-at tys n m (boundTree T b) none (λ v. v ≡ boundTree T (slotW w′ (TYS + 2 * m))) lt
       (λ e. rw (e, c .here))
       (λ k. Y .at m (within m h) ∙ ap (boundTree T) (sym (same m h k)));
-    ok = λ m h. by-cases (ℕ-discrete m n)
+  ok = λ m h. by-cases (ℕ-discrete m n)
       (λ e. rw (e, c .here) (ok-bound-same (cells c) b o))
       (λ k. rw (same m h k) (ok-bound-same (cells c) (slotW w (TYS + 2 * m)) (Y .ok m (within m h))));
-  }
+}
   where
     within : (m : ℕ) → m < length (set tys n (boundTree T b)) → m < length tys
     within m h = omega (arith, length-set tys n (boundTree T b))

@@ -59,12 +59,12 @@ module _ {P : Rows → State → Type 0} {f : ℕ → Rows → State → Unify.U
       → ((T : Rows) (st : State) (d : ℕ) → P T st → f d T st ≡ Unify.Ok (Bindings.setVar st x (tree T t))) → Step P f w left w′ (Good left)
   unfolding Ends Bindings.setVar
   sets x t w′ q c e = rw q record {
-      is = λ T st H l p d h.
+    is = λ T st H l p d h.
         let b = c T st p in
         let lt : x < length (st .subst) = omega (arith, H .binds .unknowns, b .1) in
         rw (e T st d p) (ap Good (sym l), record { holds = set-var-holds H x t lt (b .2) (b .0) (b .3); keeps = set-var-keeps w x t (omega (arith, H .few-unknowns)) });
-      fewer = omega arith;
-    }
+    fewer = omega arith;
+  }
 
 -- ---- A loop of steps
 
@@ -121,9 +121,9 @@ module _ {P : Rows → State → Type 0} {f : ℕ → Rows → State → Unify.U
     pub go-next : (l : ℕ) → r ≡ Good l → length w′ ≡ length w → Going P f w₀ left w′ l g′
     unfolding andThen
     go-next l e len = record {
-        long = len ∙ G .long;
-        fewer = omega (arith, G .fewer, rw e at (S .fewer));
-        to = λ T st H q p d h.
+      long = len ∙ G .long;
+      fewer = omega (arith, G .fewer, rw e at (S .fewer));
+      to = λ T st H q p d h.
           let R = G .to T st H q p d h in
           let E = S .is T (R .state) (R .holds) (R .visits) (has T st H p (R .keeps) (R .state) (R .holds) d) d (omega (arith, G .fewer)) in
           let D = good w w′ T l (u d T (R .state)) (rw e at E) in
@@ -134,13 +134,13 @@ module _ {P : Rows → State → Type 0} {f : ℕ → Rows → State → Unify.U
             visits = D .2;
             same = R .same ∙ turn T st H p (R .keeps) (R .state) (R .holds) d ∙ ap (λ (o : Unify.Unified). andThen o (λ s′. g′ d T s′)) (D .1);
           };
-      }
+    }
 
     pub go-stop : NotGood r → Step P f w₀ left w′ r
     go-stop x = record {
-        is = λ T st H q p d h.
+      is = λ T st H q p d h.
           let R = G .to T st H q p d h in
           let E = S .is T (R .state) (R .holds) (R .visits) (has T st H p (R .keeps) (R .state) (R .holds) d) d (omega (arith, G .fewer)) in
           rw (R .same, turn T st H p (R .keeps) (R .state) (R .holds) d) (ends-after w′ T r _ (R .keeps) (cut w w′ T r x (u d T (R .state)) (λ s′. g′ d T s′) E));
-        fewer = omega (arith, G .fewer, S .fewer);
-      }
+      fewer = omega (arith, G .fewer, S .fewer);
+    }

@@ -72,13 +72,20 @@ pub record Lowers (key from : ℕ) (best r : Next) : Type 0 where
   pub is : r ≡ lowerW key from best
   pub small : key < 4294967296
 
+-- No key below `from` is found, whatever the words are.
+abbrev pub NotBelow : ℕ → Next → Type 0
+NotBelow from Next.Nothing = Unit {0}
+NotBelow from (Next.Is k) = from ≤ k
+
 pub record LeastFrom (w : List ℕ) (c from : ℕ) (best r : Next) : Type 0 where
   pub is : (T : Rows) → Cells w T → IsCell w Alternatives c → r ≡ leastFrom from (T c) best
   pub small : (T : Rows) → Cells w T → IsCell w Alternatives c → KeysBelow 4294967296 (T c)
+  pub above : NotBelow from best → NotBelow from r
 
 pub record NextFrom (w : List ℕ) (c d from : ℕ) (r : Next) : Type 0 where
   pub is : (T : Rows) → Cells w T → IsCell w Alternatives c → IsCell w Alternatives d → r ≡ leastFrom from (T d) (leastFrom from (T c) Next.Nothing)
   pub small : (T : Rows) → Cells w T → IsCell w Alternatives c → IsCell w Alternatives d → KeysBelow 4294967296 (T c) × KeysBelow 4294967296 (T d)
+  pub above : NotBelow from r
 
 -- ---- Questions
 

@@ -613,15 +613,7 @@ fn unify_alternative(w: &mut [u32], c: u32, d: u32, k: u32, left: u32) -> Unifie
 }
 
 // A failure inside becomes a difference of the payload.
-fn unify_payload(
-    w: &mut [u32],
-    c: u32,
-    d: u32,
-    diff: UnionDiff,
-    a: Ty,
-    b: Ty,
-    left: u32,
-) -> Unified
+fn unify_payload(w: &mut [u32], c: u32, d: u32, diff: UnionDiff, a: Ty, b: Ty, left: u32) -> Unified
     ensures { λ r. ⌜ UnifiesPayload (now (w .entry)) c d diff a b left (now (w .exit)) r ⌝ }
 {
     let r = unify(w, a, b, left);

@@ -1,7 +1,10 @@
--- The scan of the second union goes on from what the first gave.
 use borrow.Author.Needs.{needs}
 use Rattle.cells.proofs.next_discriminant.Statement.{statement}
 use Rattle.cells.proofs.next_discriminant.Tie as tie
+use Rattle.cells.proofs.next_discriminant.Reads as reads
+use Rattle.cells.proofs.next_discriminant.Lts as lts
+use Rattle.cells.proofs.least_from.Reads as least-from-reads
+use native.Mathlib.Omega.{arith}
 use mathlib.Core.Path.{_∙_, ap}
 use Rattle.cells.specs.Contracts.{leastFrom}
 
@@ -9,4 +12,5 @@ pub next-discriminant-spec : {M : Type 1} → statement M
 next-discriminant-spec = tie.close (tie.spec (λ c κs. search needs) (λ c κs. search needs) (λ c. record {
   is = λ T C i j. c .least-from2 .ensures .is T C j ∙ ap (leastFrom _ (T _)) (c .before .least-from .ensures .is T C i);
   small = λ T C i j. (c .before .least-from .ensures .small T C i, c .least-from2 .ensures .small T C j);
+  above = c .least-from2 .ensures .above (c .before .least-from .ensures .above tt);
 }))
