@@ -1,3 +1,4 @@
+-- Made from Proof.ans by tools/answers, e2ff2358e8bc0292.
 use Prim.Native.Nat.{ℕ, _<_, _+_, _-_, _*_, _≤_}
 use borrow.Fn.Kinds.{In}
 use borrow.Fn.PlainCycle.{Measures, is, falls, and}

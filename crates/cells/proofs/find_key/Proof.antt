@@ -1,3 +1,4 @@
+-- Made from Proof.ans by tools/answers, a37a3630fe04872d.
 -- What is sought in the row is what is sought in the rest from j on; the measure is what is left of the parts.
 use Rattle.cells.proofs.find_key.Statement.{statement}
 use Rattle.cells.proofs.find_key.Tie as tie

@@ -1,3 +1,4 @@
+-- Made from Proof.ans by tools/answers, dcd3052d9f9d768f.
 -- The least of the row is the least of the rest from j on; the measure is what is left of the parts.
 use Rattle.cells.proofs.least_from.Statement.{statement}
 use Rattle.cells.proofs.least_from.Tie as tie

@@ -1,3 +1,4 @@
+-- Made from Proof.ans by tools/answers, 8e3006cd7f03e8fc.
 use Rattle.cells.proofs.rollback.Statement.{statement}
 use Rattle.cells.proofs.rollback.Tie as tie
 use Rattle.cells.proofs.rollback.Reads as reads
