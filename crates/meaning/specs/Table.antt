@@ -3,14 +3,16 @@
 -- file, its visits. proofs/Table.antt computes them all.
 use mathlib.Core.Bool.{Bool, true, false}
 use mathlib.Core.List.{List, [], _∷_, _++_}
-use Prim.Native.Nat.{ℕ}
+use Prim.Native.Nat.{ℕ, zero, suc, _+_, _/_, _%_}
 use Prim.Native.String.{String}
 use lib.Dec.{eqb}
+use lib.ListN.{replicate}
 use Rattle.text.specs.Utf8.{both}
 use Rattle.meaning.specs.Diag.{ascii}
 use Rattle.meaning.specs.Conditions.{sameText}
 use Rattle.meaning.specs.File.{Reading, refused, described, reading}
 use Rattle.meaning.specs.Check.{Checked, typed, exhausted, check}
+use Rattle.meaning.specs.Answer.{hexLine}
 use Rattle.meaning.specs.Outcome.{decide, printedLines, maxVisits}
 
 pub record Example : Type 0 where
@@ -453,12 +455,20 @@ ownExamples =
     4 ∷
     []
 
+-- So many names, each another text of two characters.
+unfoldable pub nameLines : ℕ → List ℕ
+unfolding hexLine
+nameLines zero = []
+nameLines (suc n) = hexLine (0x02 ∷ (0x30 + n / 16) ∷ (0x30 + n % 16) ∷ []) ++ nameLines n
+
 unfoldable pub refusals : List Example
-unfolding turnedDown text M ascii
+unfolding turnedDown text M ascii nameLines
 refusals =
     turnedDown (text M) 16383 65536 "0f01" ∷
+    turnedDown (replicate 65537 0) 16384 65536 "0f02" ∷
     turnedDown (ascii "0102002") 16384 65536 "0f03" ∷
     turnedDown [] 16384 65536 "0f04" ∷
+    turnedDown (text ("01020020" ∷ []) ++ nameLines 257) 16384 65536 "0f05" ∷
     turnedDown (text ("0102" ∷ [])) 16384 65536 "0f06" ∷
     turnedDown (text ("01020020" ∷ "02ff" ∷ [])) 16384 65536 "0f07" ∷
     turnedDown (text ("01020020" ∷ "0278" ∷ "0278" ∷ [])) 16384 65536 "0f08" ∷
