@@ -2,3 +2,4 @@ pub mod Words
 pub mod Stands
 pub mod Contracts
 pub mod CodeCalls
+pub mod Inferred

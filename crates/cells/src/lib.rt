@@ -8,6 +8,12 @@ ghost use Rattle.cells.specs.Contracts.{FindsKey, FindsName, Reprs, Occu
 ghost use Rattle.cells.specs.declared.Ty.the-variants as Ty;
 ghost use Rattle.cells.specs.declared.TyError.the-variants as TyError;
 ghost use Rattle.cells.specs.declared.Unified.the-variants as Unified;
+
+mod inferred;
+
+pub use inferred::new_record;
+pub use inferred::put_field;
+pub use inferred::reserve;
 use work::put;
 use work::wide;
 use work::word;
