@@ -1,25 +1,23 @@
 -- What a change of words leaves as it was. `Keeps` says that only one region changed; what is read from other words stands
 -- for the same: cells (`SameCells`), a slot, the undo log.
 use mathlib.Core.Bool.{Bool, true, false}
-use mathlib.Core.List.{List, [], _∷_}
+use mathlib.Core.List.{List}
 use mathlib.Core.Path.{_≡_, refl, sym, _∙_, ap}
 use Prim.Native.Nat.{ℕ, zero, suc, _+_, _-_, _*_, _%_, _<_, _≤_}
 use native.Mathlib.Omega.{arith}
 use lib.Dec.{ltb}
-use lib.ListN.{length, getD, set, length-set}
+use lib.ListN.{getD, set, length-set}
 use lib.Seq.{getD-set-other}
-use borrow.Author.Tests.{lt-ltb, le-ltb, ltb-true, ltb-false}
-use Rattle.unification.specs.Bindings.{Undo}
+use borrow.Author.Tests.{lt-ltb, le-ltb, ltb-true}
 use Rattle.work.specs.Layout.{TYPE-COUNT, TYPES, FIELDS, RECORD-COUNT, RECORD-FIELD-COUNT, ENV-LEN, UNKNOWNS, RECORDS, RECORD-FIELDS, ENV, BINDINGS, UNDO}
 use Rattle.cells.specs.declared.Ty.{Ty}
 use Rattle.cells.specs.declared.Ty.the-variants.{Int, Str, Bytes, Fact, Record, Union, Var, Error}
 use Rattle.cells.specs.declared.Kind.{Kind}
 use Rattle.cells.specs.declared.Kind.the-variants.{Fields, Alternatives}
-use Rattle.cells.specs.declared.Part.{Part}
 use Rattle.cells.specs.declared.Bound.{Bound}
 use Rattle.cells.specs.declared.Bound.the-variants.{To, Free}
-use Rattle.cells.specs.Words.{pick, tyW, declaredW, countW, firstW, declaredField, madeField, fieldW, alternativeW, partW, slotW, boundW}
-use Rattle.cells.specs.Stands.{Rows, rowFrom, rowW, tagOf, IsCell, declared, made, Ok, OkBound, partWords, Cells, entryOf, undoOf, Keeps}
+use Rattle.cells.specs.Words.{pick, declaredW, countW, firstW, declaredField, madeField, fieldW, alternativeW, partW, slotW, boundW}
+use Rattle.cells.specs.Stands.{Rows, rowFrom, rowW, IsCell, declared, made, Ok, OkBound, Cells, undoOf, Keeps}
 
 -- ---- One region changed
 pub keeps-refl : {a e : ℕ} {w : List ℕ} → Keeps a e w w
