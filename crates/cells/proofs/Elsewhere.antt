@@ -29,23 +29,23 @@ bound-agree agree (To t) o = rw (agree t o)
 -- Over rows that give the same trees the words stand for the same state.
 pub holds-moved : {w w′ : List ℕ} {T T′ : Rows} {st : State} → MoreCells w w′ → SameSlots w w′ → ((t : Ty) → Ok w t → tree T′ t ≡ tree T t) → Cells w′ T′ → Holds w T st → Holds w′ T′ st
 holds-moved {w} {w′} {T} {T′} {st} M S agree C H = record {
-    long = omega (arith, S .long, H .long);
-    cells = C;
-    binds = record {
-      unknowns = H .binds .unknowns ∙ sym (S .unknowns);
-      at = λ x. H .binds .at x ∙ sym (ap (boundTree T′) (bound x) ∙ bound-agree agree (boundW w x) (H .binds .ok x));
-      ok = λ x. rw (bound x) (ok-bound-more M (boundW w x) (H .binds .ok x));
-    };
-    types = record {
-      at = λ n h. H .types .at n h ∙ sym (ap (boundTree T′) (type n h) ∙ bound-agree agree (slotW w (TYS + 2 * n)) (H .types .ok n h));
-      ok = λ n h. rw (type n h) (ok-bound-more M (slotW w (TYS + 2 * n)) (H .types .ok n h));
-    };
-    undo = H .undo ∙ sym (rw (S .at UNDO-LEN (omega arith) (omega arith)) (undo-same w w′ (getD w UNDO-LEN 0) (λ i h. S .at (UNDO + i) (omega arith) (omega (arith, few)))));
-    logged = H .logged;
-    acyclic = H .acyclic;
-    few-unknowns = H .few-unknowns;
-    few-nodes = H .few-nodes;
-  }
+  long = omega (arith, S .long, H .long);
+  cells = C;
+  binds = record {
+    unknowns = H .binds .unknowns ∙ sym (S .unknowns);
+    at = λ x. H .binds .at x ∙ sym (ap (boundTree T′) (bound x) ∙ bound-agree agree (boundW w x) (H .binds .ok x));
+    ok = λ x. rw (bound x) (ok-bound-more M (boundW w x) (H .binds .ok x));
+  };
+  types = record {
+    at = λ n h. H .types .at n h ∙ sym (ap (boundTree T′) (type n h) ∙ bound-agree agree (slotW w (TYS + 2 * n)) (H .types .ok n h));
+    ok = λ n h. rw (type n h) (ok-bound-more M (slotW w (TYS + 2 * n)) (H .types .ok n h));
+  };
+  undo = H .undo ∙ sym (rw (S .at UNDO-LEN (omega arith) (omega arith)) (undo-same w w′ (getD w UNDO-LEN 0) (λ i h. S .at (UNDO + i) (omega arith) (omega (arith, few)))));
+  logged = H .logged;
+  acyclic = H .acyclic;
+  few-unknowns = H .few-unknowns;
+  few-nodes = H .few-nodes;
+}
   where
     few : getD w UNDO-LEN 0 ≤ 1024
     few = omega (arith, holds-log H, logged-length (H .logged), H .few-unknowns, H .few-nodes)

@@ -183,9 +183,9 @@ module _ {w w′ : List ℕ} (S : SameCells w w′) where
         record {
           row = λ k c i. let h = cell-before i in C .row k c h ∙ sym (row-more M C {T′ = T} (λ t o. refl) h);
           ok = λ k c j i lt.
-            let h = cell-before i in
-            let l : j < countW w c = omega (arith, count-more M few h) in
-            rw (part-same h j l) (ok-same (partW w k c j .ty) (C .ok k c j h l));
+              let h = cell-before i in
+              let l : j < countW w c = omega (arith, count-more M few h) in
+              rw (part-same h j l) (ok-same (partW w k c j .ty) (C .ok k c j h l));
           declared-fits = λ k c i lt. let h = cell-before i in rw (count-more M few h, first-more M few h) (C .declared-fits k c h lt);
           made-fits = λ c i le. let h = cell-before i in rw (count-more M few h, first-more M few h, S .said RECORD-FIELD-COUNT (omega arith)) (C .made-fits c h le);
           few-records = omega (arith, S .said RECORD-COUNT (omega arith), C .few-records);
