@@ -4,7 +4,7 @@ use mathlib.Core.Bool.{Bool, true, false}
 use mathlib.Core.List.{List, [], _∷_}
 use mathlib.Core.Path.{_≡_, refl, sym, _∙_, ap}
 use native.Mathlib.Omega.{arith}
-use Prim.Native.Nat.{ℕ, zero, suc, _+_, _-_, _<_, _≤_, min}
+use Prim.Native.Nat.{ℕ, suc, _+_, _-_, _<_, _≤_, min}
 use lib.Dec.{eqb, ltb}
 use borrow.Author.Tests.{lt-ltb, le-ltb, ltb-true, ltb-false, eqb-true, eqb-false}
 use Rattle.unification.specs.Ty.{Row, ε, cell}
@@ -15,7 +15,7 @@ use Rattle.cells.specs.declared.Part.{Part}
 use Rattle.cells.specs.declared.Next.{Next}
 use Rattle.cells.specs.declared.Next.the-variants as Next
 use Rattle.cells.specs.Words.{pick, countW, partW, lesser, lowerW}
-use Rattle.cells.specs.Stands.{Rows, tree, IsCell, Cells}
+use Rattle.cells.specs.Stands.{Rows, IsCell, Cells}
 use Rattle.cells.specs.Contracts.{leastFrom, KeysBelow, NotBelow, Lowers, LeastFrom}
 use Rattle.cells.proofs.Parts.{rest, rest-whole, rest-cell, rest-none}
 

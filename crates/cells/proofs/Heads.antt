@@ -2,27 +2,25 @@
 -- an unknown there is free; where the occurs check says no, the type does not reach it, and bindings stay without a loop.
 use mathlib.Core.Bool.{Bool, true, false}
 use mathlib.Core.List.{List, [], _∷_}
-use mathlib.Core.Option.{Option, none, some}
 use mathlib.Core.Path.{_≡_, refl, sym, _∙_, ap}
-use Prim.Native.Nat.{ℕ, zero, suc, _+_, _-_, _<_, _≤_}
+use Prim.Native.Nat.{ℕ, zero, suc, _-_, _<_, _≤_}
 use native.Mathlib.Decide.{ℕ-discrete}
 use native.Mathlib.Omega.{arith}
 use lib.Dec.{eqb}
-use lib.ListN.{length, getD}
+use lib.ListN.{length}
 use borrow.Author.Tests.{eq-eqb, ne-eqb, eqb-true}
 use types.Run.{OneOf, miss}
 use denote.Enum.Declared.{tagOf}
 use Rattle.unification.specs.Ty as Tree
 use Rattle.unification.specs.Ty.{Leaf, Leaf-discrete}
 use Rattle.unification.specs.Bindings as Bindings
-use Rattle.unification.specs.Bindings.{Subst, bound, Answer, yes-left, no-left, spent, State, withLeft, withHistory, ended}
+use Rattle.unification.specs.Bindings.{Subst, no-left, State, withLeft, withHistory, ended}
 use Rattle.unification.specs.Unify as Unify
 use Rattle.unification.specs.Unify.{unifyHeads, bindVar, note}
 use Rattle.unification.proofs.Tests.{clash}
-use Rattle.unification.proofs.Chain.{Resolved, repr-resolved, error-reaches}
+use Rattle.unification.proofs.Chain.{repr-resolved, error-reaches}
 use Rattle.unification.proofs.Occurs.{occurs-no}
 use Rattle.unification.proofs.Kept.{heads-in, unifyIn-spent, unifyIn-visit}
-use Rattle.work.specs.Layout.{UNKNOWNS, UNDO-LEN, END}
 use Rattle.cells.specs.declared.Ty.{Ty}
 use Rattle.cells.specs.declared.Ty.the-variants.{Int, Str, Bytes, Fact, Record, Union, Var, Error}
 use Rattle.cells.specs.declared.Asked.{Asked}
@@ -32,8 +30,8 @@ use Rattle.cells.specs.declared.TyError.the-variants.{Mismatch, Infinite
 use Rattle.cells.specs.declared.Unified.{Unified}
 use Rattle.cells.specs.declared.Unified.the-variants.{Good, Bad, Spent}
 use Rattle.cells.specs.Words.{pick, tagW, payloadW, sameLeafW, setVarW}
-use Rattle.cells.specs.Stands.{Rows, tree, Ok, Holds, Keeps}
-use Rattle.cells.specs.Contracts.{Reprs, answerOf, Occurs, errorOf, Stays, Ends, Step, unifier, BindsVar, UnifiesHeads, UnifiesRecord, UnifiesUnion, Unifies}
+use Rattle.cells.specs.Stands.{Rows, tree, Ok, Holds}
+use Rattle.cells.specs.Contracts.{Reprs, answerOf, Occurs, Ends, unifier, BindsVar, UnifiesHeads, UnifiesRecord, UnifiesUnion, Unifies}
 use Rattle.cells.proofs.Ty.{the-type}
 use Rattle.cells.proofs.Holding.{holds-left, holds-history, set-var-keeps, set-var-holds}
 use Rattle.cells.proofs.State.{read-back}

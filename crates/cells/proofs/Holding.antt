@@ -3,7 +3,7 @@
 use mathlib.Core.Bool.{Bool, true, false}
 use mathlib.Core.List.{List, [], _∷_, _++_}
 use mathlib.Core.Logic.{_≢_, by-cases}
-use mathlib.Core.Option.{Option, none, some}
+use mathlib.Core.Option.{none}
 use mathlib.Core.Path.{_≡_, refl, sym, _∙_, ap}
 use Prim.Native.Nat.{ℕ, zero, suc, _+_, _-_, _*_, _<_, _≤_}
 use native.Mathlib.Decide.{ℕ-discrete}
@@ -14,19 +14,19 @@ use lib.Seq.{getD-set-same, getD-set-other}
 use borrow.Author.Tests.{lt-ltb, le-ltb, ltb-true, ltb-false}
 use Rattle.unification.specs.Ty as Tree
 use Rattle.unification.specs.Bindings as Bindings
-use Rattle.unification.specs.Bindings.{Subst, bound, Undo, Binding, Annotation, History, State, withLeft, withHistory}
+use Rattle.unification.specs.Bindings.{bound, Undo, Binding, Annotation, History, State, withLeft, withHistory}
 use Rattle.unification.specs.Calls.{Reaches}
 use Rattle.unification.proofs.Acyclic.{Acyclic, acyclic-among, acyclic-bind}
-use Rattle.unification.proofs.Chain.{error-reaches, unset, unset-acyclic}
-use Rattle.work.specs.Layout.{ENV-LEN, UNKNOWNS, TYS, UNDO-LEN, BINDINGS, UNDO, ENV, END}
+use Rattle.unification.proofs.Chain.{unset, unset-acyclic}
+use Rattle.work.specs.Layout.{UNKNOWNS, TYS, UNDO-LEN, BINDINGS, UNDO, END}
 use Rattle.cells.specs.declared.Ty.{Ty}
 use Rattle.cells.specs.declared.Bound.{Bound}
 use Rattle.cells.specs.declared.Bound.the-variants.{To, Free}
 use Rattle.cells.specs.Words.{pick, slotW, boundW, putTy, pushUndoW, setVarW, annotateW, freshW}
-use Rattle.cells.specs.Stands.{Rows, tree, boundTree, Ok, OkBound, Cells, Binds, Types, entryOf, undoOf, Logged, Holds, Keeps}
-use Rattle.cells.proofs.Frame.{keeps-trans, keeps-wider, keeps-set, SameCells, keeps-cells, ok-bound-same, cells-same, slot-same, bound-same, undo-same}
-use Rattle.cells.proofs.Logged.{logged-length, logged-bind, logged-annotate, room-to-bind, room-to-annotate, Unbound, Unannotated, getD-end, logged-fresh}
-use Rattle.cells.proofs.State.{entry-binding, entry-annotation, put-keeps, push-keeps, Change, IsSlot, binding-slot, type-slot, set-change, set-undo, pop-change, pop-undo, slot-free, cells, binds-other, types-other, binds-at, types-at}
+use Rattle.cells.specs.Stands.{Rows, tree, boundTree, Ok, OkBound, undoOf, Logged, Holds, Keeps}
+use Rattle.cells.proofs.Frame.{keeps-refl, keeps-trans, keeps-wider, SameCells, ok-bound-same, cells-same, slot-same, undo-same}
+use Rattle.cells.proofs.Logged.{logged-bind, logged-annotate, room-to-bind, room-to-annotate, Unbound, Unannotated, getD-end, logged-fresh}
+use Rattle.cells.proofs.State.{entry-binding, entry-annotation, put-keeps, push-keeps, Change, binding-slot, type-slot, set-change, set-undo, pop-change, pop-undo, slot-free, cells, binds-other, types-other, binds-at, types-at}
 
 -- ---- Visits and history are in no word
 module _ {w : List ℕ} {T : Rows} {st : State} (H : Holds w T st) where
@@ -104,7 +104,7 @@ annotate-keeps w n t = go (ltb n 512) refl
     go true q =
         let h = ltb-true n 512 q in
         keeps-trans (put-keeps w (TYS + 2 * n) t (omega arith) (omega arith)) (keeps-wider (omega arith) (omega arith) (push-keeps (putTy w (TYS + 2 * n) t) (n + 65536)))
-    go false q = record { below = λ i h. refl; above = λ i h. refl; long = refl }
+    go false q = keeps-refl
 
 module _ {w : List ℕ} {T : Rows} {st : State} (H : Holds w T st) (n : ℕ) (t : Ty) (lt : n < length (st .tys)) (free : getD (st .tys) n none ≡ none) (o : Ok w t) where
   annotate-is : annotateW w n t ≡ pushUndoW (putTy w (TYS + 2 * n) t) (n + 65536)

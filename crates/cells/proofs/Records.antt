@@ -1,15 +1,14 @@
 -- `unify_record` and its loop: the fields from number j on are what is left to do. The words that fields are read from do not
 -- change on the way, so a field read now is the field of the cell as it was.
-use mathlib.Core.List.{List, [], _∷_}
-use mathlib.Core.Option.{Option, none, some}
+use mathlib.Core.List.{List}
+use mathlib.Core.Option.{none, some}
 use mathlib.Core.Path.{_≡_, refl, sym, _∙_, ap}
 use Prim.Native.Nat.{ℕ, zero, suc, _+_, _<_, _≤_}
 use native.Mathlib.Omega.{arith}
-use lib.Dec.{eqb}
 use lib.ListN.{length}
 use borrow.Author.Tests.{eq-eqb, ne-eqb}
 use Rattle.unification.specs.Ty as Tree
-use Rattle.unification.specs.Ty.{Row, ε, cell, rowLen}
+use Rattle.unification.specs.Ty.{Row, cell, rowLen}
 use Rattle.unification.specs.Bindings.{State}
 use Rattle.unification.specs.Unify as Unify
 use Rattle.unification.specs.Unify.{andThen, findKey, unifyField, unifyFields, unifyRecord}
@@ -27,7 +26,7 @@ use Rattle.cells.specs.declared.Unified.the-variants.{Good, Bad}
 use Rattle.cells.specs.Words.{countW, partW, fieldW}
 use Rattle.cells.specs.Stands.{Rows, tree, rowFrom, rowW, IsCell, Ok, Cells, Holds, Keeps}
 use Rattle.cells.specs.Contracts.{foundPart, FindsKey, Step, unifier, UnifiesRecord, UnifiesFields, Unifies}
-use Rattle.cells.proofs.Frame.{SameCells, keeps-cells, cell-same, part-same, ok-same}
+use Rattle.cells.proofs.Frame.{keeps-cells, cell-same, part-same, ok-same}
 use Rattle.cells.proofs.Parts.{rest, rest-whole, rest-cell, rest-none, part-ok}
 use Rattle.cells.proofs.Steps.{fails, is-other, Going, go-start, go-end, go-fail, go-next, go-stop, NotGood}
 

@@ -3,7 +3,7 @@
 use mathlib.Core.Bool.{Bool, true, false}
 use mathlib.Core.List.{List, [], _∷_}
 use mathlib.Core.Option.{Option, none}
-use mathlib.Core.Path.{_≡_, refl, sym, _∙_, ap}
+use mathlib.Core.Path.{_≡_, refl, sym, _∙_}
 use Prim.Native.Nat.{ℕ, zero, suc, _+_, _-_, _*_, _<_, _≤_}
 use native.Mathlib.Omega.{arith}
 use lib.Dec.{ltb}
@@ -11,12 +11,12 @@ use lib.ListN.{length, getD, set, length-set}
 use lib.Seq.{getD-set-same}
 use Rattle.unification.specs.Ty as Tree
 use Rattle.unification.specs.Bindings as Bindings
-use Rattle.unification.specs.Bindings.{Subst, Undo, Binding, Annotation, History, rolled, State, withHistory, revert, rewind}
+use Rattle.unification.specs.Bindings.{Subst, Undo, Binding, Annotation, History, rolled, State, revert, rewind}
 use Rattle.work.specs.Layout.{TYS, UNDO-LEN, BINDINGS, UNDO, END}
 use Rattle.cells.specs.Words.{pick, revertW}
-use Rattle.cells.specs.Stands.{Rows, entryOf, undoOf, Logged, Holds, Keeps}
+use Rattle.cells.specs.Stands.{Rows, entryOf, undoOf, Holds, Keeps}
 use Rattle.cells.specs.Contracts.{RollsBack}
-use Rattle.cells.proofs.Frame.{keeps-refl, keeps-trans, keeps-set}
+use Rattle.cells.proofs.Frame.{keeps-refl, keeps-trans}
 use Rattle.cells.proofs.Logged.{logged-unbind, logged-unannotate}
 use Rattle.cells.proofs.State.{binding-slot, type-slot, pop-change}
 use Rattle.cells.proofs.Holding.{holds-history, undo-length, holds-log, unbind-holds, unannotate-holds}

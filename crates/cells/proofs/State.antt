@@ -2,32 +2,28 @@
 -- type, and changes the undo log (`Change`): the slot's value is the written one, every other stands, and cells are not
 -- touched.
 use mathlib.Core.Bool.{Bool, true, false}
-use mathlib.Core.List.{List, [], _∷_, _++_}
+use mathlib.Core.List.{List, _∷_}
 use mathlib.Core.Logic.{_≢_, by-cases}
-use mathlib.Core.Option.{Option, none, some}
+use mathlib.Core.Option.{Option, none}
 use mathlib.Core.Path.{_≡_, refl, sym, _∙_, ap}
-use Prim.Native.Nat.{ℕ, zero, suc, _+_, _-_, _*_, _<_, _≤_}
+use Prim.Native.Nat.{ℕ, suc, _+_, _-_, _*_, _<_, _≤_}
 use native.Mathlib.Decide.{ℕ-discrete}
 use native.Mathlib.Numerals.{add-one}
 use native.Mathlib.Omega.{arith}
 use lib.Dec.{eqb, ltb}
-use lib.ListN.{length, getD, set, length-set, length-append}
+use lib.ListN.{length, getD, set, length-set}
 use lib.Seq.{getD-set-same, getD-set-other}
-use borrow.Author.Tests.{lt-ltb, le-ltb, ltb-true, ltb-false}
+use borrow.Author.Tests.{lt-ltb, le-ltb, ltb-true}
 use Rattle.unification.specs.Ty as Tree
-use Rattle.unification.specs.Bindings as Bindings
-use Rattle.unification.specs.Bindings.{Subst, bound, Undo, Binding, Annotation, History, State, withLeft, withHistory}
-use Rattle.unification.specs.Calls.{Reaches}
-use Rattle.unification.proofs.Acyclic.{Acyclic, acyclic-among, acyclic-bind}
-use Rattle.work.specs.Layout.{UNKNOWNS, TYS, UNDO-LEN, BINDINGS, UNDO, ENV, END}
+use Rattle.unification.specs.Bindings.{Subst, bound, Undo, Binding, Annotation}
+use Rattle.work.specs.Layout.{UNKNOWNS, TYS, UNDO-LEN, BINDINGS, UNDO, END}
 use Rattle.cells.specs.declared.Ty.{Ty}
 use Rattle.cells.specs.declared.Ty.the-variants.{Int, Str, Bytes, Fact, Record, Union, Var, Error}
 use Rattle.cells.specs.declared.Bound.{Bound}
 use Rattle.cells.specs.declared.Bound.the-variants.{To, Free}
-use Rattle.cells.specs.Words.{pick, tyW, tagW, payloadW, slotW, boundW, putTy, pushUndoW, setVarW, annotateW, freshW}
-use Rattle.cells.specs.Stands.{Rows, tree, boundTree, Ok, OkBound, Cells, Binds, Types, entryOf, undoOf, Logged, Holds, Keeps}
-use Rattle.cells.proofs.Frame.{keeps-refl, keeps-trans, keeps-wider, keeps-set, SameCells, keeps-cells, ok-same, ok-bound-same, cells-same, slot-same, bound-same, undo-same}
-use Rattle.cells.proofs.Logged.{logged-length, logged-bind, logged-annotate, room-to-bind, room-to-annotate, getD-end, logged-fresh}
+use Rattle.cells.specs.Words.{pick, tyW, tagW, payloadW, slotW, boundW, putTy, pushUndoW}
+use Rattle.cells.specs.Stands.{Rows, boundTree, OkBound, Binds, Types, entryOf, undoOf, Keeps}
+use Rattle.cells.proofs.Frame.{keeps-refl, keeps-trans, keeps-wider, keeps-set, SameCells, keeps-cells, ok-bound-same, slot-same, bound-same, undo-same}
 
 -- ---- A type is read back as it was written
 pub read-back : (t : Ty) → tyW (tagW t) (payloadW t) ≡ t

@@ -1,7 +1,7 @@
 -- Steps of a unification: one that changes nothing, one that fails, one that sets an unknown, one that is another; and a loop
 -- of them, of which is kept that what is to be done of the whole is what is left to do of the state reached.
 use mathlib.Core.List.{List, [], _∷_}
-use mathlib.Core.Option.{Option, none, some}
+use mathlib.Core.Option.{none}
 use mathlib.Core.Path.{_≡_, refl, sym, _∙_, ap}
 use Prim.Native.Nat.{ℕ, _<_, _≤_}
 use native.Mathlib.Omega.{arith}
@@ -22,7 +22,7 @@ use Rattle.cells.specs.declared.Unified.{Unified}
 use Rattle.cells.specs.declared.Unified.the-variants.{Good, Bad, Spent}
 use Rattle.cells.specs.Words.{setVarW}
 use Rattle.cells.specs.Stands.{Rows, tree, Ok, Holds, Keeps}
-use Rattle.cells.specs.Contracts.{errorOf, unifiedLeft, Stays, Ends, Step}
+use Rattle.cells.specs.Contracts.{errorOf, Stays, Ends, Step}
 use Rattle.cells.proofs.Unified.{the-type}
 use Rattle.cells.proofs.Frame.{keeps-refl, keeps-trans}
 use Rattle.cells.proofs.Holding.{set-var-keeps, set-var-holds}

@@ -1,20 +1,16 @@
 -- `unify_union`: the discriminants from `from` on are what is left to do, and the next of them is the least that either side
 -- declares. One discriminant is `unify_alternative`, whose payload's failure becomes a difference of the unions.
 use mathlib.Core.List.{List, [], _∷_}
-use mathlib.Core.Option.{Option, none, some}
 use mathlib.Core.Path.{_≡_, refl, sym, _∙_, ap}
 use Prim.Native.Nat.{ℕ, _+_, _<_, _≤_}
 use native.Mathlib.Omega.{arith}
-use lib.Dec.{eqb}
 use lib.ListN.{length}
 use borrow.Author.Tests.{eq-eqb, ne-eqb}
 use types.Run.{OneOf, miss}
 use denote.Enum.Declared.{tagOf}
-use Rattle.unification.specs.Ty as Tree
-use Rattle.unification.specs.Ty.{Row}
 use Rattle.unification.specs.Bindings.{State}
 use Rattle.unification.specs.Unify as Unify
-use Rattle.unification.specs.Unify.{andThen, mapErr, findKey, discriminants, unifyAlternative, unifyAlternatives, unifyUnion}
+use Rattle.unification.specs.Unify.{andThen, mapErr, findKey, unifyAlternative, unifyAlternatives, unifyUnion}
 use Rattle.unification.proofs.Tests.{clash}
 use Rattle.work.specs.Layout.{UNDO-LEN, END}
 use Rattle.cells.specs.declared.Ty.{Ty}
@@ -31,12 +27,12 @@ use Rattle.cells.specs.declared.TyError.{TyError}
 use Rattle.cells.specs.declared.TyError.the-variants.{UnionMismatch}
 use Rattle.cells.specs.declared.Unified.{Unified}
 use Rattle.cells.specs.declared.Unified.the-variants.{Good, Bad, Spent}
-use Rattle.cells.specs.Stands.{Rows, tree, IsCell, Ok, Cells, Holds, Keeps}
-use Rattle.cells.specs.Contracts.{foundPart, FindsKey, NextFrom, diffOf, Ends, Step, unifier, differs, UnifiesUnion, UnifiesAlternative, UnifiesPayload, Unifies}
+use Rattle.cells.specs.Stands.{Rows, tree, IsCell, Ok, Holds, Keeps}
+use Rattle.cells.specs.Contracts.{foundPart, FindsKey, NextFrom, diffOf, Ends, unifier, differs, UnifiesUnion, UnifiesAlternative, UnifiesPayload, Unifies}
 use Rattle.cells.proofs.Unified.{the-type}
 use Rattle.cells.proofs.Frame.{keeps-cells, cell-same}
 use Rattle.cells.proofs.Remaining.{remaining, remaining-all, remaining-past, remaining-none, remaining-next}
-use Rattle.cells.proofs.Steps.{goes-on, fails, is-other, Going, go-start, go-end, go-next, go-stop, NotGood}
+use Rattle.cells.proofs.Steps.{fails, Going, go-start, go-end, go-next, go-stop, NotGood}
 
 -- ---- A payload
 module _ {w : List ℕ} {c e : ℕ} {diff : UnionDiff} {a b : Ty} {left : ℕ} {w′ : List ℕ} {r : Unified} (U : Unifies w a b left w′ r) where
