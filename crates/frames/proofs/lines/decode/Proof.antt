@@ -1,0 +1,63 @@
+-- Made from Proof.ans by tools/answers, 069cf6c39ed2c2c9.
+-- `frames::decode` meets its contract. The invariant: the bytes read so far, in front of what the line holds from here on, are what it
+-- holds. The measure is what is left of the file.
+use Rattle.frames.proofs.lines.decode.Statement.{statement}
+use Rattle.frames.proofs.lines.decode.Tie as tie
+use borrow.Author.Needs.{needs}
+use Prim.Native.Nat.{_-_}
+use mathlib.Core.Path.{_≡_, sym, ap, _∙_}
+use mathlib.Core.Option.{some}
+use lib.ListN.{length}
+use Rattle.hex.proofs.Line.{decoded-none, lines-at-end, decodedLine, headLine}
+use Rattle.frames.proofs.Decoding.{SoFar, at-start, one-on, no-bytes, empty, whole, too-long, found, missing, bad, good}
+
+abbrev Inv-loop : tie.InvT-loop
+Inv-loop file at line₀ i₀ n₀ line i n = SoFar file at line i n
+
+abbrev μ-loop : tie.MeasureT-loop
+μ-loop file at line₀ i₀ n₀ line i n = length file - i
+
+loop-holds : tie.Need-loop-holds Inv-loop μ-loop
+loop-holds c = at-start _ _ _ (c .before .pre .1)
+
+returns : tie.Need-returns Inv-loop μ-loop
+returns c = bad (c .before .before .before .before .loop .inv) (empty (c .before .before .before .before .loop .inv) (c .before .before .before .before .before .before .pre .0) (c .before .before .before .loop-test .taken) (c .before .if1 .taken) (c .if2 .taken))
+
+returns-2 : tie.Need-returns-2 Inv-loop μ-loop
+returns-2 c = good (c .before .before .before .before .loop .inv) (whole (c .before .before .before .before .loop .inv) (c .before .before .before .before .before .before .pre .0) (c .before .before .before .loop-test .taken) (c .before .if1 .taken) (c .if2 .left))
+
+returns-3 : tie.Need-returns-3 Inv-loop μ-loop
+returns-3 c = bad (c .before .before .before .before .loop .inv) (too-long (c .before .before .before .before .loop .inv) (c .before .before .before .before .before .before .pre .0) (c .before .before .before .loop-test .taken) (c .before .if1 .left) (c .if3 .taken))
+
+returns-4 : tie.Need-returns-4 Inv-loop μ-loop
+returns-4 c = bad (c .before .before .before .before .before .before .loop .inv) (no-bytes (c .before .before .before .before .before .before .loop .inv) (c .before .before .before .before .before .before .before .before .pre .0) (decoded-none _ _ (c .before .before .before .before .before .loop-test .taken) (c .before .before .before .if1 .left) (missing _ _ (rw (c .before .pair .ensures) at (c .if4 .taken)))))
+
+loop-again : tie.Need-loop-again Inv-loop μ-loop
+loop-again c =
+    let e = c .before .pair .ensures in
+    one-on (c .before .before .before .before .before .before .loop .inv) _ (c .before .before .if3 .left) (found _ _ (rw e at (c .if4 .left)) ∙ ap some (sym e))
+
+returns-5 : tie.Need-returns-5 Inv-loop μ-loop
+returns-5 c = bad (c .before .loop .inv) (no-bytes (c .before .loop .inv) (c .before .before .before .pre .0) (ap (λ ls. decodedLine (headLine ls)) (lines-at-end _ _ (c .loop-test .left))))
+
+pub decode-spec : {M : Type 1} → statement M
+decode-spec =
+    tie.close
+    (tie.spec
+    Inv-loop
+    μ-loop
+    loop-holds
+    (λ c. search needs)
+    returns
+    (λ c. search needs)
+    returns-2
+    returns-3
+    (λ c κs. search needs)
+    returns-4
+    (λ c. search needs)
+    (λ c. search needs)
+    (λ c. search needs)
+    (λ c. search needs)
+    (λ c. search needs)
+    loop-again
+    returns-5)
