@@ -1,0 +1,9 @@
+pub mod Below
+pub mod Digits
+pub mod ItemsOf
+pub mod LineParts
+pub mod NodeArms
+pub mod QuerySays
+pub mod Readers
+pub mod Spans
+pub mod Steps
