@@ -1,56 +1,109 @@
-//! Links the port's static library where there is one, and tells which of its calls exist.
+//! Links the port's static libraries where they are there, and tells which of their calls exist.
 //!
-//! `SIGLA_LIB` names the library; without it target/staticlib/libsigla.a at the repository's top is
-//! taken, if it is there.
+//! `SIGLA_LIB` names the checker's library and `CALLS_LIB` the one of the calls on the substitution;
+//! without them libsigla.a and libcalls.a in target/staticlib at the repository's top are taken, if
+//! they are there.
 
 use std::env;
 use std::fs;
 use std::path::{Path, PathBuf};
 
-const CALLS: [&str; 2] = ["sigla_check", "sigla_read"];
+/// Each has a cfg of its own.
+const WHOLE: [&str; 2] = ["sigla_check", "sigla_read"];
+
+/// These go together: the cfg `sigla_calls` is for all.
+const CALLS: [&str; 7] = [
+    "sigla_fresh",
+    "sigla_reserve",
+    "sigla_put_field",
+    "sigla_new_record",
+    "sigla_snapshot",
+    "sigla_rollback",
+    "sigla_unify",
+];
 
 fn main() {
-    println!("cargo::rerun-if-env-changed=SIGLA_LIB");
-    for call in CALLS {
-        println!("cargo::rustc-check-cfg=cfg({call})");
+    for cfg in WHOLE.iter().chain(&["sigla_calls"]) {
+        println!("cargo::rustc-check-cfg=cfg({cfg})");
     }
-    let top = Path::new(env!("CARGO_MANIFEST_DIR")).join("../../..");
-    let named = env::var_os("SIGLA_LIB").map(PathBuf::from);
-    let library = named
-        .clone()
-        .unwrap_or_else(|| top.join("target/staticlib/libsigla.a"));
-    println!("cargo::rerun-if-changed={}", library.display());
-    let Ok(archive) = fs::read(&library) else {
-        if named.is_some() {
-            println!(
-                "cargo::error=SIGLA_LIB names no file: {}",
-                library.display()
-            );
-        }
-        return;
-    };
-    let library = library.canonicalize().expect("an existing file has a path");
-    for call in CALLS {
-        // An archive lists its symbols by name, each closed by a zero byte.
-        let symbol = format!("{call}\0");
-        if archive
-            .windows(symbol.len())
-            .any(|window| window == symbol.as_bytes())
-        {
+    let whole = Library::find("SIGLA_LIB", "libsigla.a");
+    let calls = Library::find("CALLS_LIB", "libcalls.a");
+    if let Some(whole) = &whole {
+        for call in WHOLE.iter().filter(|call| whole.has(call)) {
             println!("cargo::rustc-cfg={call}");
         }
+        whole.link();
     }
-    link(&library);
+
+    // Of two libraries with the same call one alone is linked, so that no symbol is there twice. What
+    // else an object of the port holds is local to it.
+    let of = |library: &Option<Library>| library.as_ref().map_or(0, Library::calls);
+    match (of(&whole), of(&calls)) {
+        (0, 0) => {}
+        (0, all) if all == CALLS.len() => {
+            println!("cargo::rustc-cfg=sigla_calls");
+            calls.expect("it has the calls").link();
+        }
+        (all, others) if all == CALLS.len() => {
+            println!("cargo::rustc-cfg=sigla_calls");
+            if others > 0 {
+                println!("cargo::warning=both libraries have the calls; the checker's are taken");
+            }
+        }
+        (some, others) => println!(
+            "cargo::warning=the calls are not linked: the checker's library has {some} of {}, the other {others}",
+            CALLS.len()
+        ),
+    }
 }
 
-/// The library by its folder and name, so that whoever uses this crate links it too.
-fn link(library: &Path) {
-    let folder = library.parent().expect("a file stands in a folder");
-    let name = library.file_stem().and_then(|stem| stem.to_str());
-    let Some(name) = name.and_then(|stem| stem.strip_prefix("lib")) else {
-        println!("cargo::error=a static library is called libNAME.a");
-        return;
-    };
-    println!("cargo::rustc-link-search=native={}", folder.display());
-    println!("cargo::rustc-link-lib=static={name}");
+/// A static library that is there.
+struct Library {
+    path: PathBuf,
+    archive: Vec<u8>,
+}
+
+impl Library {
+    /// The library that a variable names, or the one of this name in target/staticlib.
+    fn find(variable: &str, name: &str) -> Option<Library> {
+        println!("cargo::rerun-if-env-changed={variable}");
+        let named = env::var_os(variable).map(PathBuf::from);
+        let top = Path::new(env!("CARGO_MANIFEST_DIR")).join("../../..");
+        let path = named
+            .clone()
+            .unwrap_or_else(|| top.join("target/staticlib").join(name));
+        println!("cargo::rerun-if-changed={}", path.display());
+        let Ok(archive) = fs::read(&path) else {
+            if named.is_some() {
+                println!("cargo::error={variable} names no file: {}", path.display());
+            }
+            return None;
+        };
+        let path = path.canonicalize().expect("an existing file has a path");
+        Some(Library { path, archive })
+    }
+
+    /// An archive lists its symbols by name, each closed by a zero byte.
+    fn has(&self, call: &str) -> bool {
+        let symbol = format!("{call}\0");
+        self.archive
+            .windows(symbol.len())
+            .any(|window| window == symbol.as_bytes())
+    }
+
+    fn calls(&self) -> usize {
+        CALLS.iter().filter(|call| self.has(call)).count()
+    }
+
+    /// The library by its folder and name, so that whoever uses this crate links it too.
+    fn link(&self) {
+        let folder = self.path.parent().expect("a file stands in a folder");
+        let name = self.path.file_stem().and_then(|stem| stem.to_str());
+        let Some(name) = name.and_then(|stem| stem.strip_prefix("lib")) else {
+            println!("cargo::error=a static library is called libNAME.a");
+            return;
+        };
+        println!("cargo::rustc-link-search=native={}", folder.display());
+        println!("cargo::rustc-link-lib=static={name}");
+    }
 }

@@ -77,8 +77,9 @@ pub struct Step {
 
 /// Another implementation of the same calls.
 pub trait Other {
-    /// The steps of a list over the schema of `file`, which is past refusals 1 to 10.
-    fn run(&mut self, file: &[u8], visits: u64, calls: &[Call]) -> Vec<Step>;
+    /// The steps of a list over the schema of `file`, or none where it needs more than there is room
+    /// for.
+    fn run(&mut self, file: &File, visits: u64, calls: &[Call]) -> Option<Vec<Step>>;
 }
 
 /// The steps that the Rust makes, or why it can't hold the file.

@@ -1,4 +1,4 @@
-//! The port's calls, in process, where its static library was there when this was built.
+//! The port's functions, in process, where its static libraries were there when this was built.
 //!
 //! The C signatures, agreed with the port:
 //!
@@ -10,6 +10,8 @@
 //! // 0 where the file passes refusals 1 to 10, else the refusal's number.
 //! uint8_t sigla_read(const uint8_t *file, size_t file_len, uint32_t *work, size_t work_len);
 //! ```
+
+pub mod calls;
 
 #[cfg(any(sigla_check, sigla_read))]
 unsafe extern "C" {

@@ -52,6 +52,8 @@ oracle compare calls   --seed S --count N [--style NAME] [--out DIR]
     each byte, and FILE with each byte changed to each other value; `--short` takes every file of up
     to two bytes, and every line of up to two bytes after a right first line.
     `--model` holds the model against the Rust, as `agree` does, on these files too.
+    Calls are compared in process alone: random lists of unifications, snapshots and rollbacks over a
+    generated schema, with the outcome, the visits left and every binding after each call.
 
 oracle record [--check]
     Writes vectors/answers.bin, the recorded sample of answers; with --check holds it against the
