@@ -117,11 +117,11 @@ reads-statement f = record { run = run }
     run at [] a t st q = no-got q
     run at (b ∷ s) a t st q = by-tag at b s a t (st .0) (st .1) q
 
-pub stmt-size-some : (f : List ℕ) (at : ℕ) → 0 < stmtSizeW f at
+pub stmt-size : (f : List ℕ) (at : ℕ) → (6 ≤ stmtSizeW f at) × (stmtSizeW f at ≤ 10)
 unfolding stmtSizeW
-stmt-size-some f at = go (eqb (digitsW f at) 1) (eqb (digitsW f at) 2)
+stmt-size f at = go (eqb (digitsW f at) 1) (eqb (digitsW f at) 2)
   where
-    go : (p q : Bool) → 0 < pick p 6 (pick q 6 10)
+    go : (p q : Bool) → (6 ≤ pick p 6 (pick q 6 10)) × (pick p 6 (pick q 6 10) ≤ 10)
     go true q = omega arith
     go false true = omega arith
     go false false = omega arith
@@ -173,5 +173,5 @@ module _ (f : List ℕ) (end below : ℕ) where
   stmts-are (suc k) at (a ∷ l) h e b =
       let low = lower-stmt below (digitsW f at) (halfAt f (at + 2)) (halfAt f (at + 6)) l (rw (h .0) b) in
       let here : statement (stmtW f at below) ≡ a = low .here ∙ h .0 in
-      let on = stmts-are k (at + stmtSizeW f at) l (h .2) (omega (arith, stmt-size-some f at)) (low .on) in
+      let on = stmts-are k (at + stmtSizeW f at) l (h .2) (omega (arith, stmt-size f at .0)) (low .on) in
       stmts-next k at (h .1) ∙ ap (λ s. s ∷ stmtsFrom k f (at + stmtSizeW f at) end below) here ∙ ap (λ m. a ∷ m) on

@@ -1,7 +1,7 @@
 -- A node's line and the query's line, taken apart: which readers ran, on what bytes, and where those stand. From that the kind of the
 -- node is what each arm of `node_at` makes of the shape byte and the digits after it.
 use mathlib.Core.List.{List, [], _∷_}
-use mathlib.Core.Option.{none, some}
+use mathlib.Core.Option.{some}
 use mathlib.Core.Path.{_≡_, sym, _∙_, ap}
 use Prim.Native.Nat.{ℕ, _+_, _*_, _/_, _%_}
 use native.Mathlib.Omega.{arith}

@@ -15,7 +15,7 @@ use Rattle.tree.specs.declared.Stmt.{Stmt}
 use Rattle.tree.specs.declared.Stmt.the-variants as Stmt
 use Rattle.tree.specs.Nodes.{fieldW, fieldOf, fieldsFrom, itemW, itemsFrom, stmtOf, stmtW, stmtSizeW, statement, stmtsFrom, stmtsW}
 use Rattle.tree.proofs.Digits.{lower-below}
-use Rattle.tree.proofs.Below.{stmt-size-some, stmts-done, stmts-next}
+use Rattle.tree.proofs.Below.{stmt-size, stmts-done, stmts-next}
 
 -- ---- Fields and items
 
@@ -60,22 +60,22 @@ module _ (f : List ℕ) (l : Items) where
 stmts-enough : (f : List ℕ) (end below j k at : ℕ) → end ≤ at + j → end ≤ at + k → stmtsFrom j f at end below ≡ stmtsFrom k f at end below
 stmts-enough f end below zero k at p q = stmts-done f end below zero at (omega arith) ∙ sym (stmts-done f end below k at (omega arith))
 stmts-enough f end below (suc j) zero at p q = stmts-done f end below (suc j) at (omega arith) ∙ sym (stmts-done f end below zero at (omega arith))
-stmts-enough f end below (suc j) (suc k) at p q = go (ltb at end) refl (stmts-enough f end below j k (at + stmtSizeW f at) (omega (arith, stmt-size-some f at)) (omega (arith, stmt-size-some f at)))
+stmts-enough f end below (suc j) (suc k) at p q = go (ltb at end) refl (stmts-enough f end below j k (at + stmtSizeW f at) (omega (arith, stmt-size f at .0)) (omega (arith, stmt-size f at .0)))
   where
     go : (t : Bool) → ltb at end ≡ t → stmtsFrom j f (at + stmtSizeW f at) end below ≡ stmtsFrom k f (at + stmtSizeW f at) end below → stmtsFrom (suc j) f at end below ≡ stmtsFrom (suc k) f at end below
     go false e on = stmts-done f end below (suc j) at (ltb-false at end e) ∙ sym (stmts-done f end below (suc k) at (ltb-false at end e))
     go true e on = stmts-next f end below j at (ltb-true at end e) ∙ ap (λ m. statement (stmtW f at below) ∷ m) on ∙ sym (stmts-next f end below k at (ltb-true at end e))
 
 -- the statements after the first
-abbrev pub after : List ℕ → Stmts → Stmts
-after f b = record { at = b .at + stmtSizeW f (b .at); end = b .end; below = b .below }
+abbrev pub laterStmts : List ℕ → Stmts → Stmts
+laterStmts f b = record { at = b .at + stmtSizeW f (b .at); end = b .end; below = b .below }
 
 module _ (f : List ℕ) (b : Stmts) where
   pub stmts-end : b .end ≤ b .at → stmtsW f b ≡ []
   unfolding stmtsW
   stmts-end h = stmts-done f (b .end) (b .below) (b .end) (b .at) h
 
-  pub stmts-first : b .at < b .end → stmtsW f b ≡ statement (stmtW f (b .at) (b .below)) ∷ stmtsW f (after f b)
+  pub stmts-first : b .at < b .end → stmtsW f b ≡ statement (stmtW f (b .at) (b .below)) ∷ stmtsW f (laterStmts f b)
   unfolding stmtsW
   stmts-first h =
       stmts-enough f (b .end) (b .below) (b .end) (suc (b .end)) (b .at) (omega arith) (omega arith)

@@ -6,7 +6,7 @@ ghost use Rattle.tree.specs.Nodes.{lowerW, fieldW, itemW, stmtW, stmtSiz
 use work::wide;
 use work::word;
 
-// The byte of two digits, and 0 past the end.
+// The byte of two digits, and 0 past the end. A place is below 2^40, so that what is added to it fits.
 fn hex_byte(f: &[u8], i: usize) -> u32
     requires { ⌜ i < 1099511627776 ⌝ }
     ensures { λ r. ⌜ (r ≡ digitsW (now (f .entry)) i) × (r < 512) ⌝ }
