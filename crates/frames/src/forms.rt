@@ -8,12 +8,12 @@ ghost use Rattle.frames.specs.Contracts.{numberOf, kindAt, stands, byteW
 
 // A row for each kind that came before, a column for each that comes.
 const FOLLOWS: [[bool; 6]; 6] = [
-    [false, true, true, true, true, true],
-    [false, true, true, true, true, true],
-    [false, false, true, true, true, true],
-    [false, false, false, true, true, true],
-    [false, false, false, false, true, true],
-    [false, false, false, false, false, false],
+    [false, true, true, true, true, true], // limits
+    [false, true, true, true, true, true], // name
+    [false, false, true, true, true, true], // schema type
+    [false, false, false, true, true, true], // predicate
+    [false, false, false, false, true, true], // node
+    [false, false, false, false, false, false], // query
 ];
 
 // The kinds from 0 on, and 6 for a byte that is none.
