@@ -3,8 +3,9 @@
 -- cell is.
 use mathlib.Core.List.{List, _∷_}
 use mathlib.Core.Option.{Option, none}
+use mathlib.Core.Logic.{⊎-elim}
 use mathlib.Core.Path.{_≡_, refl, sym, subst}
-use Prim.Native.Nat.{ℕ, _+_, _≤_, _<_}
+use Prim.Native.Nat.{ℕ, zero, suc, _+_, _*_, _≤_, _<_}
 use native.Mathlib.Omega.{arith}
 use lib.ListN.{length, getD}
 use Rattle.unification.specs.Ty as Tree
@@ -12,20 +13,23 @@ use Rattle.unification.specs.Bindings as Bindings
 use Rattle.unification.specs.Bindings.{State}
 use Rattle.unification.specs.Unify as Unify
 use Rattle.unification.specs.Calls as Calls
-use Rattle.unification.specs.Calls.{Side, Machine, Demand3}
+use Rattle.unification.specs.Calls.{Side, SideRow, Machine, Demand3}
 use Rattle.unification.proofs.Sides.{side-more}
 use Rattle.unification.proofs.Demand3.{demand-3}
-use Rattle.work.specs.Layout.{UNKNOWNS, UNDO-LEN, END}
+use Rattle.work.specs.Layout.{RECORD-COUNT, UNKNOWNS, UNDO-LEN, RECORD-FIELDS, END}
 use Rattle.cells.specs.declared.Ty.{Ty}
 use Rattle.cells.specs.declared.Ty.the-variants.{Int, Str, Bytes, Fact, Record, Union, Var, Error}
+use Rattle.cells.specs.declared.Kind.{Kind}
 use Rattle.cells.specs.declared.Kind.the-variants.{Fields, Alternatives}
 use Rattle.cells.specs.declared.Unified.{Unified}
-use Rattle.cells.specs.Words.{freshW, annotateW}
+use Rattle.cells.specs.Words.{freshW, annotateW, madeField}
+use Rattle.cells.specs.Inferred.{reserveW, putFieldW, newRecordW, rowMade, rowsWith, Filled}
 use Rattle.cells.specs.Stands.{Rows, tree, IsCell, Ok, Holds, Keeps}
 use Rattle.cells.specs.Contracts.{Stays, Ends, Unifies}
-use Rattle.cells.specs.CodeCalls.{kindTree, Permitted, with-state, CodeCalls, none-yet, unknown, record-cell, unification, failure, snapping, rollingBack, spending, annotation}
-use Rattle.cells.proofs.Frame.{SameCells, keeps-cells, cell-before}
+use Rattle.cells.specs.CodeCalls.{kindTree, Permitted, with-state, CodeCalls, none-yet, unknown, reserving, filling, record-cell, unification, failure, snapping, rollingBack, spending, annotation}
+use Rattle.cells.proofs.Frame.{SameCells, keeps-cells, cell-before, cell-by}
 use Rattle.cells.proofs.Holding.{holds-left, annotate-keeps, annotate-holds, fresh-cells, fresh-holds}
+use Rattle.cells.proofs.Making.{reserve-other, reserve-holds, put-field-keeps, put-field-holds, new-record-other, new-record-more, new-record-row, new-or-old, new-record-holds}
 
 -- What a type in hand stands for is a permitted side.
 pub ok-side : {w : List ℕ} {T : Rows} {st : State} → Holds w T st → Permitted w T → (t : Ty) → Ok w t → Side (length (st .subst)) (tree T t)
@@ -39,8 +43,34 @@ ok-side H P (Var x) o = omega (arith, H .binds .unknowns)
 ok-side H P Error o = tt
 
 -- Cells that stay are permitted still.
+permitted-old : {w w′ : List ℕ} {T : Rows} → ((k : Kind) (c : ℕ) → IsCell w′ k c → IsCell w k c) → getD w UNKNOWNS 0 ≤ getD w′ UNKNOWNS 0 → Permitted w T → Permitted w′ T
+permitted-old {w} {w′} {T} old more P = record { cell = λ k c h. side-more (getD w UNKNOWNS 0) (getD w′ UNKNOWNS 0) more (Tree.node (kindTree k) (T c)) (P .cell k c (old k c h)) }
+
 permitted-same : {w w′ : List ℕ} {T : Rows} → SameCells w w′ → Permitted w T → Permitted w′ T
-permitted-same {w} {w′} {T} S P = record { cell = λ k c h. side-more (getD w UNKNOWNS 0) (getD w′ UNKNOWNS 0) (S .unknowns) (Tree.node (kindTree k) (T c)) (P .cell k c (cell-before S h)) }
+permitted-same S P = permitted-old (λ k c h. cell-before S h) (S .unknowns) P
+
+-- A new record has types in hand for fields, so it is permitted.
+module _ {w : List ℕ} {T : Rows} {st : State} (H : Holds w T st) (P : Permitted w T) where
+  fields-side : (from n : ℕ) → ((j : ℕ) → j < n → Ok w (madeField w (RECORD-FIELDS + 2 * (from + j)) .ty)) → SideRow (getD w UNKNOWNS 0) (rowMade T w from n)
+  unfolding rowMade
+  fields-side from zero oks = tt
+  fields-side from (suc n) oks =
+      let here : from + 0 ≡ from = omega arith in
+      let first : Ok w (madeField w (RECORD-FIELDS + 2 * from) .ty) = rw here at (oks 0 (omega arith)) in
+      (refl,
+      rw (← H .binds .unknowns) (ok-side H P (madeField w (RECORD-FIELDS + 2 * from) .ty) first),
+      fields-side (from + 1) n (λ j lt. let next : from + 1 + j ≡ from + (j + 1) = omega arith in rw next (oks (j + 1) (omega arith))))
+
+  permitted-record : (from n : ℕ) → getD w RECORD-COUNT 0 < 512 → Filled w from n → Permitted (newRecordW w from n) (rowsWith w from n T)
+  permitted-record from n room F =
+      let fits : from + n ≤ 512 = omega (arith, F .given, H .cells .few-fields) in
+      let same : getD (newRecordW w from n) UNKNOWNS 0 ≡ getD w UNKNOWNS 0 = new-record-other w from n room fits UNKNOWNS (λ q. omega arith) (λ q. omega arith) in
+      record {
+        cell = λ k c h. rw same (⊎-elim
+            (λ o. rw (new-record-more w from n room fits (H .long) T .same k c o) (P .cell k c o))
+            (λ o. rw (o .0, o .1, new-record-row w from n room fits (H .long) T) (fields-side from n (F .ok)))
+            (new-or-old w from n room fits (H .long) h));
+      }
 
 -- The words after a list of the code's calls, and the list of demand 3's calls beside it.
 pub record Beside (v : ℕ) (tys : List (Option Tree.Ty)) (w : List ℕ) (T : Rows) (m : Machine) : Type 0 where
@@ -72,7 +102,32 @@ module _ {v : ℕ} {tys : List (Option Tree.Ty)} where
       let b = code-calls k in
       let lt : length (m .state .subst) < 512 = omega (arith, b .holds .binds .unknowns) in
       record { calls = Calls.then-call (b .calls) Calls.unknown; holds = fresh-holds (b .holds) lt; permitted = permitted-same (fresh-cells (b .holds) lt) (b .permitted) }
-  code-calls (record-cell k H P) = record { calls = code-calls k .calls; holds = H; permitted = P }
+  code-calls (reserving {w} n k room) =
+      let b = code-calls k in
+      record {
+        calls = b .calls;
+        holds = reserve-holds w n room (b .holds);
+        permitted = permitted-old
+            (λ k c h. cell-by (λ j l. sym (reserve-other w n room j (λ q. omega arith))) (omega (arith, reserve-other w n room RECORD-COUNT (λ q. omega arith))) h)
+            (omega (arith, reserve-other w n room UNKNOWNS (λ q. omega arith))) (b .permitted);
+      }
+  code-calls (filling {w} i name t from n k lt small R low high) =
+      let b = code-calls k in
+      let K = put-field-keeps w i name t lt small in
+      record {
+        calls = b .calls;
+        holds = put-field-holds w i name t lt small R low high (b .holds .cells .few-records) (b .holds);
+        permitted = permitted-old
+            (λ k c h. cell-by (λ j l. sym (K .below j (omega arith))) (omega (arith, K .below RECORD-COUNT (omega arith))) h)
+            (omega (arith, K .below UNKNOWNS (omega arith))) (b .permitted);
+      }
+  code-calls (record-cell {w} from n k room F) =
+      let b = code-calls k in
+      record {
+        calls = b .calls;
+        holds = new-record-holds w from n room (omega (arith, F .given, b .holds .cells .few-fields)) (b .holds .long) (b .holds) F;
+        permitted = permitted-record (b .holds) (b .permitted) from n room F;
+      }
   code-calls (unification got expected r st k og oe U e) =
       let b = code-calls k in
       stayed b

@@ -7,12 +7,10 @@ use native.Mathlib.Omega.{arith}
 use lib.ListN.{length, getD}
 use Rattle.unification.specs.Bindings.{State}
 use Rattle.work.specs.Layout.{ENV-LEN, UNKNOWNS, ENV, TYS, BINDINGS, UNDO, UNDO-LEN, END}
-use Rattle.cells.specs.declared.Ty.{Ty}
-use Rattle.cells.specs.declared.Bound.{Bound}
-use Rattle.cells.specs.declared.Bound.the-variants.{To, Free}
 use Rattle.cells.specs.Words.{slotW, boundW}
-use Rattle.cells.specs.Stands.{Rows, tree, boundTree, Ok, OkBound, Cells, Holds, Keeps}
-use Rattle.cells.proofs.Frame.{MoreCells, SameCells, same-more, ok-bound-more, cells-same, slot-same, bound-same, undo-same}
+use Rattle.cells.specs.Stands.{Rows, boundTree, Cells, Holds, Keeps}
+use Rattle.cells.specs.Inferred.{More}
+use Rattle.cells.proofs.Frame.{OldCells, SameCells, same-old, more-refl, bound-more, ok-bound-old, cells-same, slot-same, bound-same, undo-same}
 use Rattle.cells.proofs.Logged.{logged-length}
 use Rattle.cells.proofs.Holding.{holds-log}
 
@@ -22,23 +20,19 @@ pub record SameSlots (w w′ : List ℕ) : Type 0 where
   pub at : (i : ℕ) → TYS ≤ i → i < END → getD w′ i 0 ≡ getD w i 0
   pub long : length w′ ≡ length w
 
-bound-agree : {w : List ℕ} {T T′ : Rows} → ((t : Ty) → Ok w t → tree T′ t ≡ tree T t) → (b : Bound) → OkBound w b → boundTree T′ b ≡ boundTree T b
-bound-agree agree Free o = refl
-bound-agree agree (To t) o = rw (agree t o)
-
 -- Over rows that give the same trees the words stand for the same state.
-pub holds-moved : {w w′ : List ℕ} {T T′ : Rows} {st : State} → MoreCells w w′ → SameSlots w w′ → ((t : Ty) → Ok w t → tree T′ t ≡ tree T t) → Cells w′ T′ → Holds w T st → Holds w′ T′ st
-holds-moved {w} {w′} {T} {T′} {st} M S agree C H = record {
+pub holds-moved : {w w′ : List ℕ} {T T′ : Rows} {st : State} → OldCells w w′ → SameSlots w w′ → More w T T′ → Cells w′ T′ → Holds w T st → Holds w′ T′ st
+holds-moved {w} {w′} {T} {T′} {st} O S M C H = record {
   long = omega (arith, S .long, H .long);
   cells = C;
   binds = record {
     unknowns = H .binds .unknowns ∙ sym (S .unknowns);
-    at = λ x. H .binds .at x ∙ sym (ap (boundTree T′) (bound x) ∙ bound-agree agree (boundW w x) (H .binds .ok x));
-    ok = λ x. rw (bound x) (ok-bound-more M (boundW w x) (H .binds .ok x));
+    at = λ x. H .binds .at x ∙ sym (ap (boundTree T′) (bound x) ∙ bound-more M (boundW w x) (H .binds .ok x));
+    ok = λ x. rw (bound x) (ok-bound-old O (boundW w x) (H .binds .ok x));
   };
   types = record {
-    at = λ n h. H .types .at n h ∙ sym (ap (boundTree T′) (type n h) ∙ bound-agree agree (slotW w (TYS + 2 * n)) (H .types .ok n h));
-    ok = λ n h. rw (type n h) (ok-bound-more M (slotW w (TYS + 2 * n)) (H .types .ok n h));
+    at = λ n h. H .types .at n h ∙ sym (ap (boundTree T′) (type n h) ∙ bound-more M (slotW w (TYS + 2 * n)) (H .types .ok n h));
+    ok = λ n h. rw (type n h) (ok-bound-old O (slotW w (TYS + 2 * n)) (H .types .ok n h));
   };
   undo = H .undo ∙ sym (rw (S .at UNDO-LEN (omega arith) (omega arith)) (undo-same w w′ (getD w UNDO-LEN 0) (λ i h. S .at (UNDO + i) (omega arith) (omega (arith, few)))));
   logged = H .logged;
@@ -66,7 +60,7 @@ pub record SameState (w w′ : List ℕ) : Type 0 where
   pub slots : SameSlots w w′
 
 pub holds-same : {w w′ : List ℕ} {T : Rows} {st : State} → SameState w w′ → Holds w T st → Holds w′ T st
-holds-same S H = holds-moved (same-more (S .cells)) (S .slots) (λ t o. refl) (cells-same (S .cells) (H .cells)) H
+holds-same S H = holds-moved (same-old (S .cells) (H .cells)) (S .slots) more-refl (cells-same (S .cells) (H .cells)) H
 
 pub keeps-env : {a e : ℕ} {w w′ : List ℕ} → ENV ≤ a → e ≤ TYS → Keeps a e w w′ → SameState w w′
 keeps-env lo hi k = record {

@@ -2,6 +2,8 @@
 -- for the same: cells (`SameCells`), a slot, the undo log.
 use mathlib.Core.Bool.{Bool, true, false}
 use mathlib.Core.List.{List}
+use mathlib.Core.Logic.{_⊎_, inl, ⊎-elim}
+use mathlib.Core.Option.{some}
 use mathlib.Core.Path.{_≡_, refl, sym, _∙_, ap}
 use Prim.Native.Nat.{ℕ, zero, suc, _+_, _-_, _*_, _%_, _<_, _≤_}
 use native.Mathlib.Omega.{arith}
@@ -9,6 +11,7 @@ use lib.Dec.{ltb}
 use lib.ListN.{getD, set, length-set}
 use lib.Seq.{getD-set-other}
 use borrow.Author.Tests.{lt-ltb, le-ltb, ltb-true}
+use Rattle.unification.specs.Ty as Tree
 use Rattle.work.specs.Layout.{TYPE-COUNT, TYPES, FIELDS, RECORD-COUNT, RECORD-FIELD-COUNT, ENV-LEN, UNKNOWNS, RECORDS, RECORD-FIELDS, ENV, BINDINGS, UNDO}
 use Rattle.cells.specs.declared.Ty.{Ty}
 use Rattle.cells.specs.declared.Ty.the-variants.{Int, Str, Bytes, Fact, Record, Union, Var, Error}
@@ -17,7 +20,8 @@ use Rattle.cells.specs.declared.Kind.the-variants.{Fields, Alternatives}
 use Rattle.cells.specs.declared.Bound.{Bound}
 use Rattle.cells.specs.declared.Bound.the-variants.{To, Free}
 use Rattle.cells.specs.Words.{pick, declaredW, countW, firstW, declaredField, madeField, fieldW, alternativeW, partW, slotW, boundW}
-use Rattle.cells.specs.Stands.{Rows, tree, rowFrom, rowW, IsCell, declared, made, Ok, OkBound, Cells, undoOf, Keeps}
+use Rattle.cells.specs.Inferred.{More}
+use Rattle.cells.specs.Stands.{Rows, tree, boundTree, rowFrom, rowW, IsCell, declared, made, Ok, OkBound, Cells, undoOf, Keeps}
 
 -- ---- One region changed
 pub keeps-refl : {a e : ℕ} {w : List ℕ} → Keeps a e w w
@@ -38,15 +42,147 @@ keeps-set w i v lo hi = record {
 
 -- ---- Cells
 
--- The words of the cells that there were are as they were, and no unknown went. There may be cells more.
-pub record MoreCells (w w′ : List ℕ) : Type 0 where
+-- The words that the cells of before are read from are as they were, and no unknown went.
+pub record OldCells (w w′ : List ℕ) : Type 0 where
   pub said : (i : ℕ) → i < RECORD-COUNT → getD w′ i 0 ≡ getD w i 0
-  pub heads : (i : ℕ) → i < getD w RECORD-COUNT 0 → i < 512 → getD w′ (RECORDS + i) 0 ≡ getD w (RECORDS + i) 0
-  pub fields : (i : ℕ) → i < 2 * getD w RECORD-FIELD-COUNT 0 → i < 1024 → getD w′ (RECORD-FIELDS + i) 0 ≡ getD w (RECORD-FIELDS + i) 0
   pub records : getD w RECORD-COUNT 0 ≤ getD w′ RECORD-COUNT 0
+  pub places : (c : ℕ) → 256 ≤ c → c - 256 < getD w RECORD-COUNT 0 → getD w′ (RECORDS + (c - 256)) 0 ≡ getD w (RECORDS + (c - 256)) 0
+  pub fields : (c : ℕ) → 256 ≤ c → c - 256 < getD w RECORD-COUNT 0
+      → (i : ℕ) → RECORD-FIELDS + 2 * firstW w c ≤ i → i < RECORD-FIELDS + 2 * (firstW w c + countW w c) → getD w′ i 0 ≡ getD w i 0
   pub unknowns : getD w UNKNOWNS 0 ≤ getD w′ UNKNOWNS 0
 
--- All words that cells are read from are as they were.
+pub field-declared : (w : List ℕ) (c j : ℕ) → c < 256 → fieldW w c j ≡ declaredField w (getD w (FIELDS + firstW w c + j) 0)
+unfolding fieldW
+field-declared w c j lt = rw (lt-ltb c 256 lt)
+
+pub field-made : (w : List ℕ) (c j : ℕ) → 256 ≤ c → fieldW w c j ≡ madeField w (RECORD-FIELDS + 2 * (firstW w c + j))
+unfolding fieldW
+field-made w c j le = rw (le-ltb c 256 le)
+
+pub made-field-same : (w w′ : List ℕ) (at : ℕ) → getD w′ at 0 ≡ getD w at 0 → getD w′ (at + 1) 0 ≡ getD w (at + 1) 0 → madeField w′ at ≡ madeField w at
+unfolding madeField
+made-field-same w w′ at p q = rw (p, q)
+
+ok-by : (w w′ : List ℕ) (t : Ty) → ((k : Kind) (c : ℕ) → IsCell w k c → IsCell w′ k c) → getD w UNKNOWNS 0 ≤ getD w′ UNKNOWNS 0 → Ok w t → Ok w′ t
+ok-by w w′ Int c u o = tt
+ok-by w w′ Str c u o = tt
+ok-by w w′ Bytes c u o = tt
+ok-by w w′ (Fact p) c u o = tt
+ok-by w w′ (Record x) c u o = c Fields x o
+ok-by w w′ (Union x) c u o = c Alternatives x o
+ok-by w w′ (Var x) c u o = omega arith
+ok-by w w′ Error c u o = tt
+
+pub cell-by : {w w′ : List ℕ} → ((i : ℕ) → i < RECORD-COUNT → getD w′ i 0 ≡ getD w i 0) → getD w RECORD-COUNT 0 ≤ getD w′ RECORD-COUNT 0
+    → {k : Kind} {c : ℕ} → IsCell w k c → IsCell w′ k c
+cell-by {w} {w′} said records (declared {k} {c} lt many tag) =
+    declared lt (omega (arith, said TYPE-COUNT (omega arith))) (ap (λ (x : ℕ). x % 16) (said (TYPES + 2 * c) (omega arith)) ∙ tag)
+cell-by {w} {w′} said records (made {c} le many) = made le (omega arith)
+
+pub more-refl : {w : List ℕ} {T : Rows} → More w T T
+more-refl = record { same = λ k c h. refl }
+
+-- A type of before stands for the same tree.
+module _ {w : List ℕ} {T T′ : Rows} (M : More w T T′) where
+  pub tree-more : (t : Ty) → Ok w t → tree T′ t ≡ tree T t
+  tree-more Int o = refl
+  tree-more Str o = refl
+  tree-more Bytes o = refl
+  tree-more (Fact p) o = refl
+  tree-more (Record c) o = ap (Tree.node Tree.Record) (M .same Fields c o)
+  tree-more (Union c) o = ap (Tree.node Tree.Union) (M .same Alternatives c o)
+  tree-more (Var x) o = refl
+  tree-more Error o = refl
+
+  pub bound-more : (b : Bound) → OkBound w b → boundTree T′ b ≡ boundTree T b
+  bound-more Free o = refl
+  bound-more (To t) o = ap some (tree-more t o)
+
+-- A cell that is new in w.
+pub record NewCell (w : List ℕ) (T : Rows) (k : Kind) (c : ℕ) : Type 0 where
+  pub row : T c ≡ rowW T w k c
+  pub ok : (j : ℕ) → j < countW w c → Ok w (partW w k c j .ty)
+  pub made : 256 ≤ c
+  pub fits : firstW w c + countW w c ≤ getD w RECORD-FIELD-COUNT 0
+
+module _ {w w′ : List ℕ} (S : OldCells w w′) where
+  pub cell-old : {k : Kind} {c : ℕ} → IsCell w k c → IsCell w′ k c
+  cell-old h = cell-by (S .said) (S .records) h
+
+  pub ok-old : (t : Ty) → Ok w t → Ok w′ t
+  ok-old t o = ok-by w w′ t (λ k c h. cell-old h) (S .unknowns) o
+
+  pub ok-bound-old : (b : Bound) → OkBound w b → OkBound w′ b
+  ok-bound-old Free o = tt
+  ok-bound-old (To t) o = ok-old t o
+
+  pub declared-old : (t : ℕ) → t < 256 → declaredW w′ t ≡ declaredW w t
+  unfolding declaredW
+  declared-old t h = rw (S .said (TYPES + 2 * t) (omega arith), S .said (TYPES + 2 * t + 1) (omega arith))
+
+  -- The words of a cell are where they were.
+  pub count-old : {k : Kind} {c : ℕ} → IsCell w k c → countW w′ c ≡ countW w c
+  unfolding countW
+  count-old (declared {k} {c} lt many tag) = rw (lt-ltb c 256 lt, S .said (TYPES + 2 * c) (omega arith))
+  count-old (made {c} le many) = rw (le-ltb c 256 le, S .places c le many)
+
+  pub first-old : {k : Kind} {c : ℕ} → IsCell w k c → firstW w′ c ≡ firstW w c
+  unfolding firstW
+  first-old (declared {k} {c} lt many tag) = rw (lt-ltb c 256 lt, S .said (TYPES + 2 * c + 1) (omega arith))
+  first-old (made {c} le many) = rw (le-ltb c 256 le, S .places c le many)
+
+  declared-field-old : (c j : ℕ) → c < 256 → firstW w′ c ≡ firstW w c → FIELDS + firstW w c + j < RECORD-COUNT → fieldW w′ c j ≡ fieldW w c j
+  unfolding declaredField
+  declared-field-old c j lt f h =
+      let at = FIELDS + firstW w c + j in
+      rw (field-declared w′ c j lt, field-declared w c j lt, f, S .said at (omega arith), declared-old (getD w at 0 % 256) (omega arith))
+
+  alternative-old : (c j : ℕ) → firstW w′ c ≡ firstW w c → FIELDS + firstW w c + 2 * j + 1 < RECORD-COUNT → alternativeW w′ c j ≡ alternativeW w c j
+  unfolding alternativeW
+  alternative-old c j f h =
+      let at = FIELDS + firstW w c + 2 * j in
+      rw (f, S .said at (omega arith), S .said (at + 1) (omega arith), declared-old (getD w (at + 1) 0 % 256) (omega arith))
+
+  module _ {T : Rows} (C : Cells w T) where
+    pub part-old : {k : Kind} {c : ℕ} → IsCell w k c → (j : ℕ) → j < countW w c → partW w′ k c j ≡ partW w k c j
+    part-old (declared {k = Fields} {c} lt many tag) j h =
+        let i : IsCell w Fields c = declared lt many tag in
+        declared-field-old c j lt (first-old i) (omega (arith, C .declared-fits Fields c i lt))
+    part-old (declared {k = Alternatives} {c} lt many tag) j h =
+        let i : IsCell w Alternatives c = declared lt many tag in
+        alternative-old c j (first-old i) (omega (arith, C .declared-fits Alternatives c i lt))
+    part-old (made {c} le many) j h =
+        let i : IsCell w Fields c = made le many in
+        let at = RECORD-FIELDS + 2 * (firstW w c + j) in
+        rw (field-made w′ c j le, field-made w c j le, first-old i)
+        (made-field-same w w′ at (S .fields c le many at (omega arith) (omega arith)) (S .fields c le many (at + 1) (omega arith) (omega arith)))
+
+    module _ {T′ : Rows} (M : More w T T′) where
+      row-from-old : {k : Kind} {c : ℕ} → IsCell w k c → (n j : ℕ) → j + n ≤ countW w c → rowFrom T′ w′ k c j n ≡ rowFrom T w k c j n
+      unfolding rowFrom
+      row-from-old i zero j h = refl
+      row-from-old {k} {c} i (suc n) j h =
+          rw (part-old i j (omega arith), tree-more M (partW w k c j .ty) (C .ok k c j i (omega arith)), row-from-old i n (j + 1) (omega arith))
+
+      pub row-old : {k : Kind} {c : ℕ} → IsCell w k c → rowW T′ w′ k c ≡ rowW T w k c
+      unfolding rowW
+      row-old {k} {c} i = rw (count-old i) (row-from-old i (countW w c) 0 (omega arith))
+
+      -- Each cell is one of before, or new.
+      pub cells-more : ((k : Kind) (c : ℕ) → IsCell w′ k c → IsCell w k c ⊎ NewCell w′ T′ k c) → getD w RECORD-FIELD-COUNT 0 ≤ getD w′ RECORD-FIELD-COUNT 0
+          → getD w′ RECORD-COUNT 0 ≤ 512 → getD w′ RECORD-FIELD-COUNT 0 ≤ 512 → Cells w′ T′
+      cells-more which more few many = record {
+        row = λ k c i. ⊎-elim (λ h. M .same k c h ∙ C .row k c h ∙ sym (row-old h)) (λ n. n .row) (which k c i);
+        ok = λ k c j i lt. ⊎-elim
+            (λ h. let l : j < countW w c = omega (arith, count-old h) in rw (part-old {k = k} {c = c} h j l) (ok-old (partW w k c j .ty) (C .ok k c j h l)))
+            (λ n. n .ok j lt) (which k c i);
+        declared-fits = λ k c i lt. ⊎-elim (λ h. rw (count-old {k = k} {c = c} h, first-old {k = k} {c = c} h) (C .declared-fits k c h lt)) (λ n. absurd (omega (arith, n .made))) (which k c i);
+        made-fits = λ c i le. ⊎-elim (λ h. omega (arith, count-old h, first-old h, C .made-fits c h le)) (λ n. n .fits) (which Fields c i);
+        few-records = few;
+        few-fields = many;
+      }
+
+-- All words that cells are read from are as they were, and no unknown went.
 pub record SameCells (w w′ : List ℕ) : Type 0 where
   pub said : (i : ℕ) → i < ENV-LEN → getD w′ i 0 ≡ getD w i 0
   pub made : (i : ℕ) → RECORDS ≤ i → i < ENV → getD w′ i 0 ≡ getD w i 0
@@ -59,138 +195,38 @@ keeps-cells lo k = record {
   unknowns = omega (arith, k .below UNKNOWNS (omega arith));
 }
 
-pub same-more : {w w′ : List ℕ} → SameCells w w′ → MoreCells w w′
-same-more S = record {
-  said = λ i h. S .said i (omega arith);
-  heads = λ i h few. S .made (RECORDS + i) (omega arith) (omega arith);
-  fields = λ i h few. S .made (RECORD-FIELDS + i) (omega arith) (omega arith);
-  records = omega (arith, S .said RECORD-COUNT (omega arith));
-  unknowns = S .unknowns;
-}
-
-cell-by : {w w′ : List ℕ} → ((i : ℕ) → i < RECORD-COUNT → getD w′ i 0 ≡ getD w i 0) → getD w RECORD-COUNT 0 ≤ getD w′ RECORD-COUNT 0 → {k : Kind} {c : ℕ} → IsCell w k c → IsCell w′ k c
-cell-by {w} {w′} said many (declared {k} {c} lt there tag) =
-    declared lt (omega (arith, said TYPE-COUNT (omega arith))) (ap (λ (x : ℕ). x % 16) (said (TYPES + 2 * c) (omega arith)) ∙ tag)
-cell-by {w} {w′} said many (made {c} le there) = made le (omega arith)
-
-ok-by : (w w′ : List ℕ) (t : Ty) → ((k : Kind) (c : ℕ) → IsCell w k c → IsCell w′ k c) → getD w UNKNOWNS 0 ≤ getD w′ UNKNOWNS 0 → Ok w t → Ok w′ t
-ok-by w w′ Int c u o = tt
-ok-by w w′ Str c u o = tt
-ok-by w w′ Bytes c u o = tt
-ok-by w w′ (Fact p) c u o = tt
-ok-by w w′ (Record x) c u o = c Fields x o
-ok-by w w′ (Union x) c u o = c Alternatives x o
-ok-by w w′ (Var x) c u o = omega arith
-ok-by w w′ Error c u o = tt
-
-pub field-declared : (w : List ℕ) (c j : ℕ) → c < 256 → fieldW w c j ≡ declaredField w (getD w (FIELDS + firstW w c + j) 0)
-unfolding fieldW
-field-declared w c j lt = rw (lt-ltb c 256 lt)
-
-pub field-made : (w : List ℕ) (c j : ℕ) → 256 ≤ c → fieldW w c j ≡ madeField w (RECORD-FIELDS + 2 * (firstW w c + j))
-unfolding fieldW
-field-made w c j le = rw (le-ltb c 256 le)
-
-module _ {w w′ : List ℕ} (M : MoreCells w w′) where
-  pub cell-more : {k : Kind} {c : ℕ} → IsCell w k c → IsCell w′ k c
-  cell-more h = cell-by (M .said) (M .records) h
-
-  pub ok-more : (t : Ty) → Ok w t → Ok w′ t
-  ok-more t o = ok-by w w′ t (λ k c h. cell-more h) (M .unknowns) o
-
-  pub ok-bound-more : (b : Bound) → OkBound w b → OkBound w′ b
-  ok-bound-more Free o = tt
-  ok-bound-more (To t) o = ok-more t o
-
-  declared-more : (t : ℕ) → t < 256 → declaredW w′ t ≡ declaredW w t
-  unfolding declaredW
-  declared-more t h = rw (M .said (TYPES + 2 * t) (omega arith), M .said (TYPES + 2 * t + 1) (omega arith))
-
-  -- The words of a cell are where they were.
-  pub count-more : getD w RECORD-COUNT 0 ≤ 512 → {k : Kind} {c : ℕ} → IsCell w k c → countW w′ c ≡ countW w c
-  unfolding countW
-  count-more few (declared {k} {c} lt many tag) = rw (lt-ltb c 256 lt, M .said (TYPES + 2 * c) (omega arith))
-  count-more few (made {c} le many) = rw (le-ltb c 256 le, M .heads (c - 256) many (omega arith))
-
-  pub first-more : getD w RECORD-COUNT 0 ≤ 512 → {k : Kind} {c : ℕ} → IsCell w k c → firstW w′ c ≡ firstW w c
-  unfolding firstW
-  first-more few (declared {k} {c} lt many tag) = rw (lt-ltb c 256 lt, M .said (TYPES + 2 * c + 1) (omega arith))
-  first-more few (made {c} le many) = rw (le-ltb c 256 le, M .heads (c - 256) many (omega arith))
-
-  declared-field-more : (c j : ℕ) → c < 256 → firstW w′ c ≡ firstW w c → FIELDS + firstW w c + j < RECORD-COUNT → fieldW w′ c j ≡ fieldW w c j
-  unfolding declaredField
-  declared-field-more c j lt f h =
-      let at = FIELDS + firstW w c + j in
-      rw (field-declared w′ c j lt, field-declared w c j lt, f, M .said at (omega arith), declared-more (getD w at 0 % 256) (omega arith))
-
-  made-field-more : (c j : ℕ) → 256 ≤ c → firstW w′ c ≡ firstW w c → firstW w c + j < getD w RECORD-FIELD-COUNT 0 → firstW w c + j < 512 → fieldW w′ c j ≡ fieldW w c j
-  unfolding madeField
-  made-field-more c j le f h few =
-      let at = 2 * (firstW w c + j) in
-      let e : RECORD-FIELDS + at + 1 ≡ RECORD-FIELDS + (at + 1) = omega arith in
-      rw (field-made w′ c j le, field-made w c j le, f, M .fields at (omega arith) (omega arith), e, M .fields (at + 1) (omega arith) (omega arith))
-
-  alternative-more : (c j : ℕ) → firstW w′ c ≡ firstW w c → FIELDS + firstW w c + 2 * j + 1 < RECORD-COUNT → alternativeW w′ c j ≡ alternativeW w c j
-  unfolding alternativeW
-  alternative-more c j f h =
-      let at = FIELDS + firstW w c + 2 * j in
-      rw (f, M .said at (omega arith), M .said (at + 1) (omega arith), declared-more (getD w (at + 1) 0 % 256) (omega arith))
-
-  module _ {T : Rows} (C : Cells w T) where
-    pub part-more : {k : Kind} {c : ℕ} → IsCell w k c → (j : ℕ) → j < countW w c → partW w′ k c j ≡ partW w k c j
-    part-more (declared {k = Fields} {c} lt many tag) j h =
-        let i : IsCell w Fields c = declared lt many tag in
-        declared-field-more c j lt (first-more (C .few-records) i) (omega (arith, C .declared-fits Fields c i lt))
-    part-more (declared {k = Alternatives} {c} lt many tag) j h =
-        let i : IsCell w Alternatives c = declared lt many tag in
-        alternative-more c j (first-more (C .few-records) i) (omega (arith, C .declared-fits Alternatives c i lt))
-    part-more (made {c} le many) j h =
-        let i : IsCell w Fields c = made le many in
-        made-field-more c j le (first-more (C .few-records) i) (omega (arith, C .made-fits c i le)) (omega (arith, C .made-fits c i le, C .few-fields))
-
-    -- Over rows that give the same trees a cell's row is what it was.
-    module _ {T′ : Rows} (agree : (t : Ty) → Ok w t → tree T′ t ≡ tree T t) where
-      row-from-more : {k : Kind} {c : ℕ} → IsCell w k c → (n j : ℕ) → j + n ≤ countW w c → rowFrom T′ w′ k c j n ≡ rowFrom T w k c j n
-      unfolding rowFrom
-      row-from-more i zero j h = refl
-      row-from-more {k} {c} i (suc n) j h = rw (part-more i j (omega arith), agree (partW w k c j .ty) (C .ok k c j i (omega arith)), row-from-more i n (j + 1) (omega arith))
-
-      pub row-more : {k : Kind} {c : ℕ} → IsCell w k c → rowW T′ w′ k c ≡ rowW T w k c
-      unfolding rowW
-      row-more {k} {c} i = rw (count-more (C .few-records) i) (row-from-more i (countW w c) 0 (omega arith))
-
 module _ {w w′ : List ℕ} (S : SameCells w w′) where
   pub cell-same : {k : Kind} {c : ℕ} → IsCell w k c → IsCell w′ k c
-  cell-same h = cell-more (same-more S) h
+  cell-same h = cell-by (λ i l. S .said i (omega arith)) (omega (arith, S .said RECORD-COUNT (omega arith))) h
 
   pub cell-before : {k : Kind} {c : ℕ} → IsCell w′ k c → IsCell w k c
   cell-before h = cell-by (λ i l. sym (S .said i (omega arith))) (omega (arith, S .said RECORD-COUNT (omega arith))) h
 
   pub ok-same : (t : Ty) → Ok w t → Ok w′ t
-  ok-same t o = ok-more (same-more S) t o
+  ok-same t o = ok-by w w′ t (λ k c h. cell-same h) (S .unknowns) o
 
   pub ok-bound-same : (b : Bound) → OkBound w b → OkBound w′ b
-  ok-bound-same b o = ok-bound-more (same-more S) b o
+  ok-bound-same Free o = tt
+  ok-bound-same (To t) o = ok-same t o
 
   module _ {T : Rows} (C : Cells w T) where
+    pub same-old : OldCells w w′
+    same-old = record {
+      said = λ i h. S .said i (omega arith);
+      records = omega (arith, S .said RECORD-COUNT (omega arith));
+      places = λ c le many. S .made (RECORDS + (c - 256)) (omega arith) (omega (arith, C .few-records));
+      fields = λ c le many i lo hi. S .made i (omega arith) (omega (arith, C .made-fits c (made le many) le, C .few-fields));
+      unknowns = S .unknowns;
+    }
+
     pub part-same : {k : Kind} {c : ℕ} → IsCell w k c → (j : ℕ) → j < countW w c → partW w′ k c j ≡ partW w k c j
-    part-same i j h = part-more (same-more S) C i j h
+    part-same i j h = part-old same-old C i j h
 
     pub cells-same : Cells w′ T
     cells-same =
-        let M = same-more S in
-        let few = C .few-records in
-        record {
-          row = λ k c i. let h = cell-before i in C .row k c h ∙ sym (row-more M C {T′ = T} (λ t o. refl) h);
-          ok = λ k c j i lt.
-              let h = cell-before i in
-              let l : j < countW w c = omega (arith, count-more M few h) in
-              rw (part-same h j l) (ok-same (partW w k c j .ty) (C .ok k c j h l));
-          declared-fits = λ k c i lt. let h = cell-before i in rw (count-more M few h, first-more M few h) (C .declared-fits k c h lt);
-          made-fits = λ c i le. let h = cell-before i in rw (count-more M few h, first-more M few h, S .said RECORD-FIELD-COUNT (omega arith)) (C .made-fits c h le);
-          few-records = omega (arith, S .said RECORD-COUNT (omega arith), C .few-records);
-          few-fields = omega (arith, S .said RECORD-FIELD-COUNT (omega arith), C .few-fields);
-        }
+        let fields = S .said RECORD-FIELD-COUNT (omega arith) in
+        cells-more same-old C more-refl (λ k c i. inl (cell-before i)) (omega (arith, fields))
+        (omega (arith, S .said RECORD-COUNT (omega arith), C .few-records)) (omega (arith, fields, C .few-fields))
 
 -- ---- Slots and the undo log
 pub slot-same : (w w′ : List ℕ) (at : ℕ) → getD w′ at 0 ≡ getD w at 0 → getD w′ (at + 1) 0 ≡ getD w (at + 1) 0 → slotW w′ at ≡ slotW w at

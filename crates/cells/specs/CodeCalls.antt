@@ -3,20 +3,21 @@
 use mathlib.Core.List.{List, [], _∷_, _++_}
 use mathlib.Core.Option.{Option, none}
 use mathlib.Core.Path.{_≡_}
-use Prim.Native.Nat.{ℕ, _≤_, _<_}
+use Prim.Native.Nat.{ℕ, _+_, _≤_, _<_}
 use lib.ListN.{length, getD}
 use Rattle.unification.specs.Ty as Tree
 use Rattle.unification.specs.Bindings as Bindings
 use Rattle.unification.specs.Bindings.{State}
 use Rattle.unification.specs.Unify as Unify
 use Rattle.unification.specs.Calls.{Side, Taken, Machine, begin, take-snapshot}
-use Rattle.work.specs.Layout.{UNKNOWNS}
+use Rattle.work.specs.Layout.{UNKNOWNS, RECORD-COUNT, RECORD-FIELD-COUNT}
 use Rattle.cells.specs.declared.Ty.{Ty}
 use Rattle.cells.specs.declared.Kind.{Kind}
 use Rattle.cells.specs.declared.Kind.the-variants.{Fields, Alternatives}
 use Rattle.cells.specs.declared.Unified.{Unified}
 use Rattle.cells.specs.Words.{freshW, annotateW}
 use Rattle.cells.specs.Stands.{Rows, tree, IsCell, Ok, Holds}
+use Rattle.cells.specs.Inferred.{reserveW, putFieldW, newRecordW, Reserved, Filled, rowsWith}
 use Rattle.cells.specs.Contracts.{Unifies, RollsBack}
 
 abbrev pub kindTree : Kind → Tree.Kind
@@ -35,8 +36,11 @@ pub data CodeCalls (v : ℕ) (tys : List (Option Tree.Ty)) : List ℕ → Rows �
   none-yet : {w : List ℕ} {T : Rows} → Holds w T (begin v tys .state) → Permitted w T → CodeCalls v tys w T (begin v tys)
   -- `fresh_var_id`
   unknown : {w : List ℕ} {T : Rows} {m : Machine} → CodeCalls v tys w T m → getD w UNKNOWNS 0 < 512 → CodeCalls v tys (freshW w) T (with-state m (Bindings.fresh (m .state)))
-  -- a record cell: no binding changes
-  record-cell : {w w′ : List ℕ} {T T′ : Rows} {m : Machine} → CodeCalls v tys w T m → Holds w′ T′ (m .state) → Permitted w′ T′ → CodeCalls v tys w′ T′ m
+  -- An inferred record, in three calls that change no binding: `reserve`, `put_field` of a field that was given to no record yet, and `new_record`
+  reserving : {w : List ℕ} {T : Rows} {m : Machine} (n : ℕ) → CodeCalls v tys w T m → getD w RECORD-FIELD-COUNT 0 + n ≤ 512 → CodeCalls v tys (reserveW w n) T m
+  filling : {w : List ℕ} {T : Rows} {m : Machine} (i name : ℕ) (t : Ty) (from n : ℕ) → CodeCalls v tys w T m → i < 512 → name < 65536 → Reserved w from n → from ≤ i → i < from + n
+      → CodeCalls v tys (putFieldW w i name t) T m
+  record-cell : {w : List ℕ} {T : Rows} {m : Machine} (from n : ℕ) → CodeCalls v tys w T m → getD w RECORD-COUNT 0 < 512 → Filled w from n → CodeCalls v tys (newRecordW w from n) (rowsWith w from n T) m
   -- `unify`
   unification : {w w′ : List ℕ} {T : Rows} {m : Machine} (got expected : Ty) (r : Unified) (st : State) → CodeCalls v tys w T m → Ok w got → Ok w expected
       → Unifies w got expected (m .state .left) w′ r → Unify.unify (m .state) (tree T got) (tree T expected) ≡ Unify.Ok st → CodeCalls v tys w′ T (with-state m st)

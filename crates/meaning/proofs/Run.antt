@@ -85,7 +85,7 @@ module _ (schema : Schema) (ast : Ast) (wf : WellFormed schema ast) (d : ℕ) (c
   generator-room n r = meets-grows IsSide (inferring (ast .nodes) d n) c (visits .generator n c) (walk-good schema (ast .nodes) (wf .declared) d .generator n c o r)
 
 -- ---- The start
-begin-orderly : (ceiling n : ℕ) → Orderly (begin ceiling n)
+pub begin-orderly : (ceiling n : ℕ) → Orderly (begin ceiling n)
 unfolding begin taken Calls.begin
 begin-orderly ceiling n = record {
   log = record { wf = calls-inv ceiling [] (Calls.begin ceiling []) none-yet .sound .wf; blank = tt; exact = omega (arith, taken-pad [] n) };
@@ -130,7 +130,7 @@ module _ (schema : Schema) (ast : Ast) (wf : WellFormed schema ast) where
       sums [] h = omega arith
       sums (m ∷ s) h = omega (arith, under m (h .0), sums s (h .1))
 
-  begin-ready : (ceiling : ℕ) → Ready (visiting nodes (length nodes) (queryNodes (ast .query))) (begin ceiling (length nodes))
+  pub begin-ready : (ceiling : ℕ) → Ready (visiting nodes (length nodes) (queryNodes (ast .query))) (begin ceiling (length nodes))
   unfolding begin
   begin-ready ceiling = record {
     once = λ x. omega (arith, query-weight (λ n. same x n), total-same x (length nodes));

@@ -99,7 +99,7 @@ module _ (schema : Schema) (nodes : List Node) (declared : All DeclaredPredicate
       go none e h = rw (e, valueTy) tt
       go (some q) e h = rw (e, valueTy) (h .1)
 
-abbrev SideOption : ℕ → Option Ty → Type 0
+abbrev pub SideOption : ℕ → Option Ty → Type 0
 SideOption n none = Unit {0}
 SideOption n (some t) = Side n t
 
@@ -115,7 +115,7 @@ field-side n (Ty.node Kind.Union r) name h = tt
 field-side n (Ty.Var x) name h = tt
 field-side n Ty.Error name h = tt
 
-payload-side : (n name : ℕ) (r : Row) → DeclaredRow Kind.Union r → SideOption n (findLabel name r)
+pub payload-side : (n name : ℕ) (r : Row) → DeclaredRow Kind.Union r → SideOption n (findLabel name r)
 unfolding findLabel
 payload-side n name Row.ε h = tt
 payload-side n name (Row.cell k l t r) h = go (eqb name l) refl (payload-side n name r (h .2))
@@ -193,7 +193,7 @@ module _ (schema : Schema) (nodes : List Node) (declared : All DeclaredPredicate
   selectOf-meets name (Ty.Var x) h = rejectTy-meets _
 
 -- ---- A comparison introduces a side that is a variable, and finds it when it infers that side.
-unfoldable early : Form → ℕ
+unfoldable pub early : Form → ℕ
 early (aVariable x) = 1
 early aWildcard = 0
 early aConstant = 0
@@ -203,7 +203,7 @@ early anError = 0
 early another = 0
 
 -- Of k unknowns, those that are left for later.
-unfoldable late : Form → ℕ → ℕ
+unfoldable pub late : Form → ℕ → ℕ
 late (aVariable x) k = 0
 late aWildcard k = k
 late aConstant k = k
@@ -212,7 +212,7 @@ late (aDisjunction es) k = k
 late anError k = k
 late another k = k
 
-early-late : (f : Form) (k : ℕ) → 1 ≤ k → early f + late f k ≤ k
+pub early-late : (f : Form) (k : ℕ) → 1 ≤ k → early f + late f k ≤ k
 unfolding early late
 early-late (aVariable x) k h = omega arith
 early-late aWildcard k h = omega arith
@@ -222,13 +222,13 @@ early-late (aDisjunction es) k h = omega arith
 early-late anError k h = omega arith
 early-late another k h = omega arith
 
-abbrev introducing : Form → Grade
+abbrev pub introducing : Form → Grade
 introducing f = record { nodes = λ x. 0; unknowns = early f; diagnostics = 0 }
 
-abbrev inferring-late : List Node → ℕ → ℕ → Form → Grade
+abbrev pub inferring-late : List Node → ℕ → ℕ → Form → Grade
 inferring-late nodes d n f = record { nodes = λ x. weight nodes (λ m. same x m) d n; unknowns = late f (size nodes d n); diagnostics = 3 * size nodes d n - 1 }
 
-abbrev Introduced : Form → Checker → Type 0
+abbrev pub Introduced : Form → Checker → Type 0
 Introduced (aVariable x) c = Known x c
 Introduced aWildcard c = Unit {0}
 Introduced aConstant c = Unit {0}
@@ -237,7 +237,7 @@ Introduced (aDisjunction es) c = Unit {0}
 Introduced anError c = Unit {0}
 Introduced another c = Unit {0}
 
-made-introduced : (g : Grade) (c c′ : Checker) (f : Form) → Made g c c′ → Introduced f c → Introduced f c′
+pub made-introduced : (g : Grade) (c c′ : Checker) (f : Form) → Made g c c′ → Introduced f c → Introduced f c′
 made-introduced g c c′ (aVariable x) m k = made-known g c c′ x m k
 made-introduced g c c′ aWildcard m k = tt
 made-introduced g c c′ aConstant m k = tt
@@ -246,7 +246,7 @@ made-introduced g c c′ (aDisjunction es) m k = tt
 made-introduced g c c′ anError m k = tt
 made-introduced g c c′ another m k = tt
 
-introduceSide-meets : (schema : Schema) (nodes : List Node) (f : Form) (c : Checker) → Orderly c → Meets (λ u b. Introduced f b) (introducing f) c (introduceSide schema nodes f c)
+pub introduceSide-meets : (schema : Schema) (nodes : List Node) (f : Form) (c : Checker) → Orderly c → Meets (λ u b. Introduced f b) (introducing f) c (introduceSide schema nodes f c)
 unfolding introduceSide early
 introduceSide-meets schema nodes (aVariable x) c o =
     meets-from (IsUnknown x) _ one-unknown (introducing (aVariable x)) c (introduce x c) _ (omega arith) (introduce-meets x c o) (λ v b w. went-with _ tt w (w .holds .1))
@@ -258,7 +258,7 @@ introduceSide-meets schema nodes anError c o = stays _ (introducing anError) c t
 introduceSide-meets schema nodes another c o = stays _ (introducing another) c tt o tt
 
 -- Only a variable has the form of one.
-variable-kind : (k : ExprKind) (x : ℕ) → formOf k ≡ aVariable x → k ≡ ExprKind.Var x
+pub variable-kind : (k : ExprKind) (x : ℕ) → formOf k ≡ aVariable x → k ≡ ExprKind.Var x
 unfolding formOf
 variable-kind (ExprKind.Var y) x e = cc
 variable-kind (ExprKind.Lit l) x e = clash (cc)
@@ -415,7 +415,7 @@ module _ (schema : Schema) (nodes : List Node) (declared : All DeclaredPredicate
   denyForm-meets anError l r c o y = onlyRight-meets l r c o y
   denyForm-meets another l r c o y = notYet-meets l r c o y
 
-  infer-late : (n : ℕ) (f : Form) (c : Checker) → form schema nodes n ≡ f → Orderly c → Ready (inferring-late nodes d n f) c → Introduced f c → Meets IsSide (inferring-late nodes d n f) c (below .infer n c)
+  pub infer-late : (n : ℕ) (f : Form) (c : Checker) → form schema nodes n ≡ f → Orderly c → Ready (inferring-late nodes d n f) c → Introduced f c → Meets IsSide (inferring-late nodes d n f) c (below .infer n c)
   unfolding form kind late
   infer-late n (aVariable x) c e o y k = good .found n x c (variable-kind (nodeAt nodes n .kind) x e) o y k
   infer-late n aWildcard c e o y k = good .infer n c o y

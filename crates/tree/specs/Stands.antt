@@ -8,15 +8,14 @@ use Prim.Native.Nat.{ℕ, zero, suc, _+_, _-_, _*_, _/_, _%_, _≤_, _<_}
 use lib.Dec.{T, eqb}
 use lib.ListN.{length, getD}
 use Rattle.unification.specs.Ty as Tree
-use Rattle.work.specs.Layout.{NAME-COUNT, TYPE-COUNT, PREDICATE-COUNT, NODE-COUNT, VALUE-NAME, MAX-DISTANCE, MAX-TERM, QUERY, NAMES, TYPES, PREDICATES, NODES, END}
+use Rattle.work.specs.Layout.{NAME-COUNT, TYPE-COUNT, PREDICATE-COUNT, NODE-COUNT, VALUE-NAME, MAX-DISTANCE, MAX-TERM, QUERY, NAMES, TYPES, PREDICATES, NODES, FIELDS, RECORD-COUNT, END}
 use Rattle.cells.specs.declared.Kind.{Kind}
-use Rattle.cells.specs.Words.{pick, declaredW, countW, partW}
-use Rattle.cells.specs.Stands.{Rows, tree, tagOf, rowW, Ok}
+use Rattle.cells.specs.Words.{pick, declaredW, countW, firstW, partW}
+use Rattle.cells.specs.Stands.{Rows, tree, tagOf, rowW, partWords}
 use Rattle.meaning.specs.Syntax.{Node, Query, nodeAt}
 use Rattle.meaning.specs.Schema.{Predicate, Schema}
 use Rattle.meaning.specs.References.{exprNodes, queryNodes}
 use Rattle.meaning.specs.Frame.{aNode, theQuery, node, query, frameOf}
-use Rattle.meaning.specs.Conditions.{allBelow}
 use Rattle.meaning.specs.File.{Described}
 use Rattle.hex.specs.Digits.{lineAt}
 
@@ -39,10 +38,13 @@ pub record QueryIs (f w : List ℕ) (q : Query) : Type 0 where
 
 -- ---- The schema
 
--- The cells of the first n schema types: each is what its words say, over T, and names only earlier types.
+-- The cells of the first n schema types: each is what its words say, over T, names only earlier types and has its
+-- parts in their region. No type is an unknown.
 pub record TypeCells (w : List ℕ) (T : Rows) (n : ℕ) : Type 0 where
   pub row : (k : Kind) (c : ℕ) → c < n → getD w (TYPES + 2 * c) 0 % 16 ≡ tagOf k → T c ≡ rowW T w k c
   pub earlier : (k : Kind) (c j : ℕ) → c < n → getD w (TYPES + 2 * c) 0 % 16 ≡ tagOf k → j < countW w c → (t : ℕ) × (t < c) × (partW w k c j .ty ≡ declaredW w t)
+  pub fits : (k : Kind) (c : ℕ) → c < n → getD w (TYPES + 2 * c) 0 % 16 ≡ tagOf k → FIELDS + (firstW w c + partWords k * countW w c) ≤ RECORD-COUNT
+  pub tags : (c : ℕ) → c < n → getD w (TYPES + 2 * c) 0 % 16 < 7
 
 abbrev pub valueOf : Rows → List ℕ → ℕ → Option Tree.Ty
 valueOf T w x = pick (eqb (x % 2) 1) (some (tree T (declaredW w (x / 2 % 256)))) none
