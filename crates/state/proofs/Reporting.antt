@@ -99,7 +99,17 @@ module _ (w : List ℕ) (n : ℕ) (code : Code) (room : getD w DIAGNOSTIC-COUNT 
         rw (reject-count, reject-here, number, node, code-back code, diagnostics-same nodes w (rejectW w n code) count reject-before)
 
 -- ---- The run after
-module _ {f w : List ℕ} {T : Rows} {d : Described} {c : Checker} (sound : Sound d) (R : Runs f w T d c) (n : ℕ) (code : Code) (room : getD w DIAGNOSTIC-COUNT 0 < 1536) (small : n < 512) where
+module _ {f w : List ℕ} {T : Rows} {d : Described} {c : Checker} (sound : Sound d) (R : Runs f w T d c) (n : ℕ) (code : Code) (room : getD w DIAGNOSTIC-COUNT 0 < 1536) (there : n < length (d .ast .nodes)) where
+  small : n < 512
+  small = omega (arith, R .stands .few)
+
+  among : (i : ℕ) → i < getD (rejectW w n code) DIAGNOSTIC-COUNT 0 → halfW (rejectW w n code) i / 16 < length (d .ast .nodes)
+  among i h = by-cases (ℕ-discrete i (getD w DIAGNOSTIC-COUNT 0))
+      (λ e. rw (e, reject-here w n code room small (R .holds .long)) (omega (arith, number-small code)))
+      (λ ne.
+      let lt : i < getD w DIAGNOSTIC-COUNT 0 = omega (arith, reject-count w n code room small (R .holds .long)) in
+      rw (reject-before w n code room small (R .holds .long) i lt) (R .among i lt))
+
   pub reject-runs : Runs f (rejectW w n code) T d (record { state = c .state; env = c .env; diagnostics = record { code = codeOf code; span = nodeAt (d .ast .nodes) n .span } ∷ c .diagnostics })
   reject-runs =
       let length = reject-other w n code room small ENV-LEN (λ q. omega arith) (λ q. omega arith) in
@@ -107,7 +117,7 @@ module _ {f w : List ℕ} {T : Rows} {d : Described} {c : Checker} (sound : Soun
       (R .env ∙ sym (rw length (env-same w (rejectW w n code) (getD w ENV-LEN 0) (λ i h. reject-other w n code room small (ENV + i) (λ q. omega arith) (λ q. omega (arith, R .few-env))))))
       (omega (arith, length, R .few-env))
       (ap {B = List Diagnostic} (λ ds. record { code = codeOf code; span = nodeAt (d .ast .nodes) n .span } ∷ ds) (R .diagnostics) ∙ sym (reject-diagnostics w n code room small (R .holds .long) (d .ast .nodes)))
-      (omega (arith, reject-count w n code room small (R .holds .long)))
+      (omega (arith, reject-count w n code room small (R .holds .long))) among
 
   pub reject-grew : Grew w (rejectW w n code) 0 0
   reject-grew = same-grew (R .holds) (reject-aside w n code room small .cells) (reject-keeps w n code room small)

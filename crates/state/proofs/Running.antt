@@ -74,6 +74,11 @@ unfolding diagnosticsOf
 diagnostics-same nodes w w′ zero s = refl
 diagnostics-same nodes w w′ (suc n) s = rw (s n (omega arith), diagnostics-same nodes w w′ n (λ i h. s i (omega arith)))
 
+-- The diagnostics are as they were, so each is at a node still.
+pub among-same : (n : ℕ) (w w′ : List ℕ) → getD w′ DIAGNOSTIC-COUNT 0 ≡ getD w DIAGNOSTIC-COUNT 0 → ((i : ℕ) → i < getD w DIAGNOSTIC-COUNT 0 → halfW w′ i ≡ halfW w i)
+    → ((i : ℕ) → i < getD w DIAGNOSTIC-COUNT 0 → halfW w i / 16 < n) → (i : ℕ) → i < getD w′ DIAGNOSTIC-COUNT 0 → halfW w′ i / 16 < n
+among-same n w w′ count same before i h = rw (same i (omega arith)) (before i (omega arith))
+
 -- ---- The state alone changed
 
 -- The environment and the diagnostics are as they were.
@@ -97,6 +102,7 @@ runs-state {f} {w} {w′} {T} {T′} {d} {c} sound R O M Q H nodes = record {
   diagnostics = R .diagnostics ∙ sym (rw (Q .diagnostics)
       (diagnostics-same (d .ast .nodes) w w′ (getD w DIAGNOSTIC-COUNT 0) (λ i h. half-same w w′ i (Q .at (DIAGNOSTICS + i / 2) (omega arith) (omega (arith, R .few-diagnostics))))));
   few-diagnostics = omega (arith, Q .diagnostics, R .few-diagnostics);
+  among = among-same (length (d .ast .nodes)) w w′ (Q .diagnostics) (λ i h. half-same w w′ i (Q .at (DIAGNOSTICS + i / 2) (omega arith) (omega (arith, R .few-diagnostics)))) (R .among);
 }
 
 module _ {f w : List ℕ} {T : Rows} {d : Described} {c : Checker} (sound : Sound d) (R : Runs f w T d c) where
@@ -135,8 +141,9 @@ module _ {f w : List ℕ} {T : Rows} {d : Described} {c : Checker} (sound : Soun
 
 -- ---- The environment or the diagnostics alone changed
 pub runs-aside : {f w w′ : List ℕ} {T : Rows} {d : Described} {c c′ : Checker} → Sound d → Runs f w T d c → SameState w w′ → c′ .state ≡ c .state
-    → c′ .env ≡ envOf w′ (getD w′ ENV-LEN 0) → getD w′ ENV-LEN 0 ≤ 512 → c′ .diagnostics ≡ diagnosticsOf (d .ast .nodes) w′ (getD w′ DIAGNOSTIC-COUNT 0) → getD w′ DIAGNOSTIC-COUNT 0 ≤ 1536 → Runs f w′ T d c′
-runs-aside sound R S state env few-env diagnostics few-diagnostics = record {
+    → c′ .env ≡ envOf w′ (getD w′ ENV-LEN 0) → getD w′ ENV-LEN 0 ≤ 512 → c′ .diagnostics ≡ diagnosticsOf (d .ast .nodes) w′ (getD w′ DIAGNOSTIC-COUNT 0) → getD w′ DIAGNOSTIC-COUNT 0 ≤ 1536
+    → ((i : ℕ) → i < getD w′ DIAGNOSTIC-COUNT 0 → halfW w′ i / 16 < length (d .ast .nodes)) → Runs f w′ T d c′
+runs-aside sound R S state env few-env diagnostics few-diagnostics among = record {
   stands = stands-more (R .holds .cells) (same-old (S .cells) (R .holds .cells)) more-refl sound (S .slots .long) (R .stands);
   holds = rw state (holds-same S (R .holds));
   nodes = rw state (R .nodes);
@@ -144,4 +151,5 @@ runs-aside sound R S state env few-env diagnostics few-diagnostics = record {
   few-env = few-env;
   diagnostics = diagnostics;
   few-diagnostics = few-diagnostics;
+  among = among;
 }

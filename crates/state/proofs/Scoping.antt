@@ -25,7 +25,7 @@ use Rattle.meaning.specs.Check as Check
 use Rattle.meaning.specs.Check.{Checker, Step, goes, andThen, lookupIn, withState}
 use Rattle.state.specs.Words.{envOf, pushEnvW, Introduces}
 use Rattle.state.specs.Runs.{diagnosticsOf, Runs, Grew}
-use Rattle.state.proofs.Running.{env-same, half-same, diagnostics-same, grew-refl, grew-trans, same-grew, runs-slots, grew-slots, fresh-runs, fresh-grew, runs-aside}
+use Rattle.state.proofs.Running.{env-same, half-same, diagnostics-same, among-same, grew-refl, grew-trans, same-grew, runs-slots, grew-slots, fresh-runs, fresh-grew, runs-aside}
 
 pub env-length : (w : List ℕ) (n : ℕ) → length (envOf w n) ≡ n
 unfolding envOf
@@ -42,6 +42,7 @@ module _ {f w w′ : List ℕ} {T : Rows} {d : Described} {c : Checker} (sound :
   runs-env es e few = runs-aside sound R S refl e few
       (R .diagnostics ∙ sym (rw count (diagnostics-same (d .ast .nodes) w w′ (getD w DIAGNOSTIC-COUNT 0) (λ i h. half-same w w′ i (at (DIAGNOSTICS + i / 2) (omega arith) (omega (arith, R .few-diagnostics)))))))
       (omega (arith, count, R .few-diagnostics))
+      (among-same (length (d .ast .nodes)) w w′ count (λ i h. half-same w w′ i (at (DIAGNOSTICS + i / 2) (omega arith) (omega (arith, R .few-diagnostics)))) (R .among))
 
 -- ---- `push_env`
 module _ (w : List ℕ) (symbol var : ℕ) (room : getD w ENV-LEN 0 < 512) (name : symbol < 65536) (unknown : var < 65536) where

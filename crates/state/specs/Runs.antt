@@ -1,7 +1,7 @@
 -- What the work slice stands for in the midst of a run: the checker of meaning/specs/Check.antt, over a file that was read.
 use mathlib.Core.List.{List, [], _∷_}
 use mathlib.Core.Path.{_≡_}
-use Prim.Native.Nat.{ℕ, zero, suc, _+_, _/_, _%_, _≤_}
+use Prim.Native.Nat.{ℕ, zero, suc, _+_, _/_, _%_, _<_, _≤_}
 use lib.ListN.{length, getD}
 use Rattle.work.specs.Layout.{RECORD-COUNT, RECORD-FIELD-COUNT, ENV-LEN, DIAGNOSTIC-COUNT, END}
 use Rattle.cells.specs.Stands.{Rows, Holds, Keeps}
@@ -31,6 +31,8 @@ pub record Runs (f w : List ℕ) (T : Rows) (d : Described) (c : Checker) : Type
   pub few-env : getD w ENV-LEN 0 ≤ 512
   pub diagnostics : c .diagnostics ≡ diagnosticsOf (d .ast .nodes) w (getD w DIAGNOSTIC-COUNT 0)
   pub few-diagnostics : getD w DIAGNOSTIC-COUNT 0 ≤ 1536
+  -- each is at a node of the file
+  pub among : (i : ℕ) → i < getD w DIAGNOSTIC-COUNT 0 → halfW w i / 16 < length (d .ast .nodes)
 
 -- At most n records and m fields were made, and only words of the run changed.
 pub record Grew (w w′ : List ℕ) (n m : ℕ) : Type 0 where
