@@ -1,0 +1,42 @@
+-- Made from Proof.ans by tools/answers, b2350ac9f40c4e98.
+-- In a record the name stands before the type, in a union the name and then the discriminant.
+use borrow.Author.Needs.{needs}
+use Rattle.answer.proofs.part_head.Statement.{statement}
+use Rattle.answer.proofs.part_head.Tie as tie
+use Rattle.answer.proofs.part_head.Reads as reads
+use Rattle.answer.proofs.part_head.Lts as lts
+use Rattle.answer.proofs.full.Reads as full-reads
+use Rattle.answer.proofs.half.Reads as half-reads
+use native.Mathlib.Omega.{arith}
+use Rattle.meaning.specs.Answer.{cellHead, bytes₂, bytes₄}
+use Rattle.answer.proofs.Digits.{hex-then, hex-full}
+
+returns : tie.Need-returns
+unfolding cellHead
+returns c = rw (c .before .before .before .before .enum-told .given .1) (c .before .before .half .ensures)
+
+returns-2 : tie.Need-returns-2
+unfolding cellHead
+returns-2 c = rw (c .before .before .before .before .before .before .before .before .before .before .before .enum-told2 .given .1) (hex-then (bytes₂ (c .before .before .before .before .before .before .before .before .before .before .before .before .before .before .args .p .label)) (bytes₄ (c .before .before .before .before .before .before .before .before .before .before .before .before .before .before .args .p .key)) (c .before .before .before .before .before .before .before .before .before .half2 .ensures) (c .before .before .before .before .before .r .given .1) (c .before .before .full .ensures))
+
+returns-3 : tie.Need-returns-3
+unfolding cellHead
+returns-3 c = rw (c .before .before .before .before .before .before .enum-told2 .given .1) (hex-full (bytes₂ (c .before .before .before .before .before .before .before .before .before .args .p .label)) (bytes₄ (c .before .before .before .before .before .before .before .before .before .args .p .key)) (c .before .before .before .before .half2 .ensures) (c .enum-told3 .given .1))
+
+pub part-head-spec : {M : Type 1} → statement M
+part-head-spec =
+    tie.close
+    (tie.spec
+    (λ c. search needs)
+    (λ c κs. search needs)
+    (λ c. search needs)
+    (λ c κs. search needs)
+    (λ c. search needs)
+    (λ c κs. search needs)
+    (λ c. search needs)
+    (λ c. search needs)
+    returns
+    (λ c. search needs)
+    returns-2
+    (λ c. search needs)
+    returns-3)
