@@ -16,3 +16,4 @@ pub mod Going
 pub mod Stating
 pub mod Refs
 pub mod Referring
+pub mod NodeLines

@@ -85,6 +85,10 @@ pub record Takes (f : List ℕ) (at : ℕ) (k : Frame.Kind) (s w : List ℕ) (c 
 pub record TakesAnywhere (k : Frame.Kind) (s w : List ℕ) (c : Counters) (w′ : List ℕ) (r : Step) : Type 0 where
   pub is : (f : List ℕ) (at : ℕ) → Takes f at k s w c w′ r
 
+-- At this place of whatever file.
+pub record TakesThere (at : ℕ) (k : Frame.Kind) (s w : List ℕ) (c : Counters) (w′ : List ℕ) (r : Step) : Type 0 where
+  pub is : (f : List ℕ) → Takes f at k s w c w′ r
+
 -- ---- Names
 
 pub record SameLine (f : List ℕ) (a b : ℕ) (r : Bool) : Type 0 where

@@ -2,8 +2,12 @@
 ghost use mathlib.Core.Path.{_≡_};
 ghost use Prim.Native.Nat.{ℕ, _+_, _<_, _≤_};
 ghost use lib.ListN.{length};
+ghost use Rattle.meaning.specs.Frame.{node, query};
+ghost use Rattle.reading.specs.Contracts.{TakesThere};
 ghost use Rattle.reading.specs.Marks.{NamesNode, NamesFields, NamesItems, NamesStatements, NamesAll};
 use crate::Counters;
+use crate::Refusal;
+use crate::Step;
 use frames::byte;
 use frames::half;
 use work::put;
@@ -114,4 +118,32 @@ fn name_all(s: &[u8], w: &mut [u32], c: Counters) -> bool
         13 => name_node(w, half(s, 12), nodes),
         _ => true,
     }
+}
+
+pub fn take_node(at: usize, s: &[u8], w: &mut [u32], c: Counters) -> Step
+    requires { ⌜ (at < 65536) × (10 ≤ length (now s)) × (length (now s) ≤ 512) × (c .nodes < 512) × (16384 ≤ length (now w)) ⌝ }
+    ensures { λ r. ⌜ TakesThere at node (now (s .entry)) (now (w .entry)) c (now (w .exit)) r ⌝ }
+{
+    if !name_all(s, w, c) {
+        return Step::Off(Refusal::BadReference);
+    }
+    let n = c.nodes;
+    put(w, work::NODES + wide(n), ((at * 1024 + s.len()) * 2) as u32);
+    let mut next = c;
+    next.nodes = n + 1;
+    Step::On(next)
+}
+
+pub fn take_query(at: usize, s: &[u8], w: &mut [u32], c: Counters) -> Step
+    requires { ⌜ (at < 65536) × (length (now s) ≤ 512) × (c .nodes ≤ 512) × (16384 ≤ length (now w)) ⌝ }
+    ensures { λ r. ⌜ TakesThere at query (now (s .entry)) (now (w .entry)) c (now (w .exit)) r ⌝ }
+{
+    if !name_node(w, half(s, 1), c.nodes) {
+        return Step::Off(Refusal::BadReference);
+    }
+    if !name_statements(s, w, 3, c.nodes) {
+        return Step::Off(Refusal::BadReference);
+    }
+    put(w, work::QUERY, (at * 1024 + s.len()) as u32);
+    Step::On(c)
 }
