@@ -24,15 +24,13 @@ use Rattle.meaning.specs.SoFar.{SoFar, start}
 use Rattle.meaning.specs.File.{countOf, describe}
 use Rattle.tree.specs.Stands.{TypeCells, SchemaStands, Stands}
 use Rattle.reading.specs.declared.Counters.{Counters}
+use Rattle.reading.specs.Contracts.{noCounters, counts, counted}
 use Rattle.reading.specs.Held.{LimitsHeld, NameIs, NamesHeld, wordsOf, partType, IsOf, TypesHeld, PredicatesHeld, NodesHeld, Marked, QueryHeld, Held}
 use Rattle.reading.proofs.Regions.{over, keeps-sets, WordsAt, sets-words}
 use Rattle.reading.proofs.Lines.{types-same, predicates-same, nodes-same}
 use Rattle.reading.proofs.Kept.{first-is, count-is, field-is, limits-kept, query-kept}
 
 -- ---- Before the first line
-
-abbrev pub noCounters : Counters
-noCounters = record { names = 0; types = 0; predicates = 0; nodes = 0; fields = 0; value = 0 }
 
 pub nothing-held : (f w : List ℕ) → length f ≤ 65536 → 16384 ≤ length w → Held f 0 w (λ t. ε) noCounters 6 start
 unfolding start position among anyOf
@@ -52,13 +50,6 @@ nothing-held f w small long = record {
 }
 
 -- ---- After the last
-
--- The counts in the order of their words, and the words with these written.
-abbrev pub counts : Counters → List ℕ
-counts c = c .names ∷ c .types ∷ c .predicates ∷ c .nodes ∷ c .value ∷ []
-
-abbrev pub counted : List ℕ → Counters → List ℕ
-counted w c = sets w NAME-COUNT (counts c)
 
 cells-held : {w : List ℕ} {T : Rows} {n fields : ℕ} {types : List _} → fields ≤ 8192 → TypesHeld w T n fields types → TypeCells w T (length types)
 unfolding declaredField alternativeW

@@ -17,3 +17,5 @@ pub mod Stating
 pub mod Refs
 pub mod Referring
 pub mod NodeLines
+pub mod AnyLine
+pub mod AllLines

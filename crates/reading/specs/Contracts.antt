@@ -4,14 +4,17 @@ use mathlib.Core.List.{List, [], _∷_}
 use mathlib.Core.Option.{Option, none, some}
 use mathlib.Core.Path.{_≡_}
 use Prim.Native.Nat.{ℕ, _+_, _*_, _<_, _≤_}
-use lib.ListN.{length, getD, drop, set}
-use Rattle.work.specs.Layout.{NAMES, TYPES, PREDICATES}
+use lib.Dec.{leb, ltb}
+use lib.ListN.{length, getD, drop, set, replicate}
+use lib.Seq.{sets}
+use Rattle.work.specs.Layout.{NAME-COUNT, NAMES, TYPES, PREDICATES}
 use Rattle.meaning.specs.Refusal as Refused
 use Rattle.meaning.specs.Frame as Frame
-use Rattle.meaning.specs.Frame.{mayStand, kindByte, frameOf}
-use Rattle.meaning.specs.SoFar.{SoFar, Said, frames, add}
+use Rattle.meaning.specs.Frame.{mayStand, kindByte, kindOf, frameOf}
+use Rattle.meaning.specs.SoFar.{SoFar, Said, frames, saidBy, add, after}
 use Rattle.meaning.specs.Conditions.{sameText, given, isFull, conditions, firstOf}
 use Rattle.meaning.specs.File.{Described, Reading, refused, described, reading}
+use Rattle.meaning.specs.Outcome.{minWords}
 use Rattle.hex.specs.Digits.{lineAt}
 use Rattle.frames.specs.Contracts.{numberOf}
 use Rattle.cells.specs.Words.{pick}
@@ -115,7 +118,50 @@ pub record AddsPredicate (w : List ℕ) (c : Counters) (entry : ℕ) (w′ : Lis
   pub words : w′ ≡ set w (PREDICATES + c .predicates) entry
   pub step : r ≡ Step.On (withPredicate c)
 
--- ---- The whole reading: refused exactly as the definition says, or what the definition describes stands in the slice.
+-- ---- Any line
+
+-- Whether one more of a kind is too many, by the counters.
+abbrev pub fullOf : Counters → ℕ → Bool
+fullOf c kind = getD (false ∷ leb 256 (c .names) ∷ leb 256 (c .types) ∷ leb 128 (c .predicates) ∷ leb 512 (c .nodes) ∷ []) kind false
+
+-- The line is refused by the first condition that holds of what it says, or that is added to what was read.
+pub record TakesLine (f : List ℕ) (at : ℕ) (s w : List ℕ) (c : Counters) (previous kind : ℕ) (w′ : List ℕ) (r : Step) : Type 0 where
+  pub is : (next : ℕ) (T : Rows) (so : SoFar) → Held f at w T c previous so → Line f at next s → kind ≡ numberOf (kindOf (getD s 0 0))
+      → Steps f next w′ kind (after so (saidBy (some s))) r (firstOf conditions so (saidBy (some s)))
+
+-- ---- All lines
+
+abbrev pub noCounters : Counters
+noCounters = record { names = 0; types = 0; predicates = 0; nodes = 0; fields = 0; value = 0 }
+
+-- The counts in the order of their words, and the words with these written.
+abbrev pub counts : Counters → List ℕ
+counts c = c .names ∷ c .types ∷ c .predicates ∷ c .nodes ∷ c .value ∷ []
+
+abbrev pub counted : List ℕ → Counters → List ℕ
+counted w c = sets w NAME-COUNT (counts c)
+
+-- Refused exactly as the definition says, or what the definition describes stands in the slice.
 unfoldable pub Ends : List ℕ → List ℕ → Read → Reading → Type 0
 Ends f w′ r (refused e) = (e′ : Refusal) × (r ≡ Read.Refused e′) × (refusal e′ ≡ e)
 Ends f w′ r (described d) = (r ≡ Read.Accepted) × ((T : Rows) × Stands f w′ T d)
+
+pub record TakesLines (f w w′ : List ℕ) (r : Read) : Type 0 where
+  pub ends : Ends f w′ r (reading f)
+
+-- ---- The file
+
+-- Refusals 1 to 10 in document 01's order, with so many words lent: the part of `decide` (meaning/specs/Outcome.antt) before the check.
+unfoldable pub readingIn : List ℕ → ℕ → Reading
+unfolding reading minWords
+readingIn f words = elim (ltb words minWords) [ true ↦ refused Refused.workTooShort | false ↦ reading f ]
+
+pub record ReadsFile (f w w′ : List ℕ) (r : Read) : Type 0 where
+  pub ends : Ends f w′ r (readingIn f (length w))
+  pub long : length w′ ≡ length w
+
+-- The same, with zeros throughout after a refusal.
+pub record Reads (f w w′ : List ℕ) (r : Read) : Type 0 where
+  pub ends : Ends f w′ r (readingIn f (length w))
+  pub long : length w′ ≡ length w
+  pub cleared : (e : Refusal) → r ≡ Read.Refused e → w′ ≡ replicate (length w) 0
