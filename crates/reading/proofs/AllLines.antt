@@ -3,7 +3,8 @@ use mathlib.Core.Bool.{Bool, true, false}
 use mathlib.Core.List.{List, [], _∷_, map}
 use mathlib.Core.Option.{Option, none, some}
 use mathlib.Core.Path.{_≡_, refl, sym, ap, subst, _∙_}
-use Prim.Native.Nat.{ℕ, zero, suc, _+_, _*_, _<_, _≤_}
+use Prim.Native.Nat.{ℕ, zero, suc, _+_, _-_, _*_, _<_, _≤_}
+use native.Mathlib.Nat.{sub-zero}
 use native.Mathlib.Omega.{arith}
 use lib.Dec.{ltb}
 use lib.ListN.{length, getD, take, drop, replicate}
@@ -82,10 +83,11 @@ module _ {f w : List ℕ} {c : Counters} {previous at : ℕ} (m : Midway f w c p
     abbrev says : Said
     says = saidBy (some (take n line))
 
-    steps : (r : Step) → TakesLine f at (take n line) w c previous kind w′ r → Steps f next w′ kind (after (m .so) says) r (firstOf conditions (m .so) says)
-    steps r t = t .is next (m .rows) (m .so) (m .held) (line-holds h) (e ∙ ap (λ b. numberOf (kindOf b)) (sym (first-taken h)))
+    -- The code lends the bytes from 0 to n.
+    steps : (r : Step) → TakesLine f at (take (n - 0) line) w c previous kind w′ r → Steps f next w′ kind (after (m .so) says) r (firstOf conditions (m .so) says)
+    steps r t = subst (λ j. TakesLine f at (take j line) w c previous kind w′ r) (sub-zero n) t .is next (m .rows) (m .so) (m .held) (line-holds h) (e ∙ ap (λ b. numberOf (kindOf b)) (sym (first-taken h)))
 
-    pub midway-on : (d : Counters) → TakesLine f at (take n line) w c previous kind w′ (On d) → Midway f w′ d kind next
+    pub midway-on : (d : Counters) → TakesLine f at (take (n - 0) line) w c previous kind w′ (On d) → Midway f w′ d kind next
     midway-on d t = go (firstOf conditions (m .so) says) refl (steps (On d) t)
       where
         go : (o : Option Refused.Refusal) → firstOf conditions (m .so) says ≡ o → Steps f next w′ kind (after (m .so) says) (On d) o → Midway f w′ d kind next
@@ -99,7 +101,7 @@ module _ {f w : List ℕ} {c : Counters} {previous at : ℕ} (m : Midway f w c p
             }
         go (some i) q s = let x = s .1 in let z : _≡_ {A = ℕ} 0 1 = cc in absurd (omega arith)
 
-    pub midway-off : (i : Refusal) → TakesLine f at (take n line) w c previous kind w′ (Off i) → Ends f w′ (Read.Refused i) (reading f)
+    pub midway-off : (i : Refusal) → TakesLine f at (take (n - 0) line) w c previous kind w′ (Off i) → Ends f w′ (Read.Refused i) (reading f)
     midway-off i t = go (firstOf conditions (m .so) says) refl (steps (Off i) t)
       where
         go : (o : Option Refused.Refusal) → firstOf conditions (m .so) says ≡ o → Steps f next w′ kind (after (m .so) says) (Off i) o → Ends f w′ (Read.Refused i) (reading f)
@@ -107,6 +109,15 @@ module _ {f w : List ℕ} {c : Counters} {previous at : ℕ} (m : Midway f w c p
         go (some j) q s =
             let same : i ≡ s .0 = cc (s .1) in
             ends-refused f w′ i (reading f) (m .left ∙ next-lines h (m .so) ∙ read-refused (m .so) says (map said (lines (drop next f))) j q ∙ ap refused (sym (ap refusal same ∙ s .2)))
+
+  -- what `take_line` asks
+  pub midway-asks : {line : List ℕ} {n next : ℕ} → Holds f at line n next → at < length f
+      → (at < 65536) × (0 < length (take (n - 0) line)) × (length (take (n - 0) line) ≤ 512) × (16384 ≤ length w) × (c .names ≤ 256) × (c .types ≤ 256) × (c .fields ≤ 8192) × (c .nodes ≤ 512)
+  midway-asks {n = n} h l =
+      let b = line-holds h in
+      let o = m .held in
+      rw (sub-zero n)
+      (omega (arith, o .small), b .some, b .most, o .long, omega (arith, o .names .count, o .names .few), omega (arith, o .types .count, o .types .few), omega (arith, o .room, o .place, o .small), omega (arith, o .nodes .count, o .nodes .few))
 
   pub midway-bad : Malformed f at → Ends f w (Read.Refused Refusal.MalformedLine) (reading f)
   unfolding said saidBy
@@ -173,3 +184,6 @@ pub ends-cleared : (f w w′ : List ℕ) (e : Refusal) (r : Reading) → Ends f 
 unfolding Ends
 ends-cleared f w w′ e (refused i) h = h
 ends-cleared f w w′ e (described d) h = let x = h .0 in let z : _≡_ {A = ℕ} 0 1 = cc in absurd (omega arith)
+
+pub never-refused : {X : Type 0} (e : Refusal) → Read.Accepted ≡ Read.Refused e → X
+never-refused e q = let z : _≡_ {A = ℕ} 0 1 = cc in absurd (omega arith)
