@@ -7,7 +7,7 @@ use Prim.Native.Nat.{ℕ, zero, suc, _+_, _-_, _*_, _<_, _≤_}
 use native.Mathlib.Nat.{sub-zero}
 use native.Mathlib.Omega.{arith}
 use lib.Dec.{ltb}
-use lib.ListN.{length, getD, take, drop, replicate}
+use lib.ListN.{length, getD, take, drop}
 use borrow.Author.Tests.{lt-ltb, le-ltb}
 use Rattle.cells.specs.Stands.{Rows}
 use Rattle.meaning.specs.Syntax.{Query}
@@ -179,11 +179,11 @@ pub decided : (f : List ℕ) (words : ℕ) → decide f words ≡ decideRead (re
 unfolding decide decideRead readingIn
 decided f words = cases (ltb words minWords) (λ q. rw (q, decide, readingIn)) (λ q. rw (q, decide, readingIn))
 
--- After clearing nothing stands, and nothing has to.
-pub ends-cleared : (f w w′ : List ℕ) (e : Refusal) (r : Reading) → Ends f w (Read.Refused e) r → Ends f w′ (Read.Refused e) r
+-- A refusal says nothing of the slice.
+pub ends-cleared : (f w w′ : List ℕ) (r : Read) (e : Refusal) (d : Reading) → r ≡ Read.Refused e → Ends f w r d → Ends f w′ r d
 unfolding Ends
-ends-cleared f w w′ e (refused i) h = h
-ends-cleared f w w′ e (described d) h = let x = h .0 in let z : _≡_ {A = ℕ} 0 1 = cc in absurd (omega arith)
+ends-cleared f w w′ r e (refused i) q h = h
+ends-cleared f w w′ r e (described d) q h = let x = h .0 in let z : _≡_ {A = ℕ} 0 1 = cc in absurd (omega arith)
 
 pub never-refused : {X : Type 0} (e : Refusal) → Read.Accepted ≡ Read.Refused e → X
 never-refused e q = let z : _≡_ {A = ℕ} 0 1 = cc in absurd (omega arith)
