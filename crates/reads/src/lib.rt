@@ -7,7 +7,7 @@ use reading::Read;
 use reading::Refusal;
 
 // Document 01's number of a refusal.
-fn number(e: Refusal) -> u32
+fn number(e: Refusal) -> u8
     ensures { λ r. ⌜ r ≡ Refused.number (refusal e) ⌝ }
 {
     match e {
@@ -28,7 +28,7 @@ fn number(e: Refusal) -> u32
 
 // 0 where the file was read into the slice; else the refusal's number, and the slice is zero throughout.
 #[no_mangle]
-pub extern "C" fn sigla_read(file: &[u8], w: &mut [u32]) -> u32
+pub extern "C" fn sigla_read(file: &[u8], w: &mut [u32]) -> u8
     ensures { λ r. ⌜ CallsRead (now (file .entry)) (now (w .entry)) (now (w .exit)) r ⌝ }
 {
     let r = reading::read_or_clear(file, w);
