@@ -1,9 +1,8 @@
 -- The lines one after the other: what was read so far is held, and reading what is left from there is reading the file.
-use mathlib.Core.Bool.{Bool, true, false}
 use mathlib.Core.List.{List, [], _∷_, map}
 use mathlib.Core.Option.{Option, none, some}
 use mathlib.Core.Path.{_≡_, refl, sym, ap, subst, _∙_}
-use Prim.Native.Nat.{ℕ, zero, suc, _+_, _-_, _*_, _<_, _≤_}
+use Prim.Native.Nat.{ℕ, zero, suc, _-_, _<_, _≤_}
 use native.Mathlib.Nat.{sub-zero}
 use native.Mathlib.Omega.{arith}
 use lib.Dec.{ltb}
@@ -12,13 +11,12 @@ use borrow.Author.Tests.{lt-ltb, le-ltb}
 use Rattle.cells.specs.Stands.{Rows}
 use Rattle.meaning.specs.Syntax.{Query}
 use Rattle.meaning.specs.Refusal as Refused
-use Rattle.meaning.specs.Frame as Frame
-use Rattle.meaning.specs.Frame.{Kind, kindByte, kindOf}
-use Rattle.meaning.specs.Lines.{bytesOf, lines}
+use Rattle.meaning.specs.Frame.{kindByte, kindOf}
+use Rattle.meaning.specs.Lines.{lines}
 use Rattle.meaning.specs.SoFar.{SoFar, Said, said, saidBy, after}
 use Rattle.meaning.specs.Conditions.{conditions, firstOf}
-use Rattle.meaning.specs.File.{maxFile, describe, Reading, refused, described, atEnd, readFrom, isTooLong, reading}
-use Rattle.meaning.specs.Outcome.{minWords, Decided, decideRead, decide}
+use Rattle.meaning.specs.File.{maxFile, Reading, refused, described, atEnd, readFrom, isTooLong, reading}
+use Rattle.meaning.specs.Outcome.{minWords, decideRead, decide}
 use Rattle.meaning.proofs.Tests.{cases}
 use Rattle.meaning.proofs.Refused.{read-refused, read-next, within}
 use Rattle.hex.proofs.Line.{lines-at-end}

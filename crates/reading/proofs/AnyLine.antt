@@ -1,18 +1,18 @@
 -- A line of any kind: refused by its place, its number or its form, or taken as a frame of its kind.
-use mathlib.Core.Bool.{Bool, true, false, not}
+use mathlib.Core.Bool.{Bool, true, false}
 use mathlib.Core.List.{List, [], _∷_}
 use mathlib.Core.Option.{Option, none, some}
 use mathlib.Core.Path.{_≡_, refl, sym, ap, subst, _∙_}
-use Prim.Native.Nat.{ℕ, zero, suc, _+_, _-_, _*_, _<_, _≤_}
+use Prim.Native.Nat.{ℕ, zero, suc, _<_, _≤_}
 use native.Mathlib.Omega.{arith}
 use lib.Dec.{leb, ltb}
-use lib.ListN.{length, getD, drop, set}
+use lib.ListN.{length, drop, set}
 use borrow.Author.Tests.{ltb-true, ltb-false, leb-false}
 use Rattle.work.specs.Layout.{MAX-DISTANCE, MAX-TERM}
 use Rattle.cells.specs.Stands.{Rows}
 use Rattle.meaning.specs.Refusal as Refused
 use Rattle.meaning.specs.Frame as Frame
-use Rattle.meaning.specs.Frame.{Kind, Frame, theLimits, aName, aType, aPredicate, aNode, theQuery, Got, got, fails, Reader, andThen, one, pair, triple, byte, two, rest, choice, typeShapes, valueTypes, spanAndKind, headAndBody, mayStand, kindByte, kindOf, frameKind, frame, whole, frameOf}
+use Rattle.meaning.specs.Frame.{Kind, Frame, theLimits, aName, aType, aPredicate, aNode, theQuery, Got, got, fails, Reader, andThen, one, pair, triple, byte, two, rest, choice, typeShapes, valueTypes, spanAndKind, headAndBody, mayStand, kindByte, kindOf, frameKind, frame, frameOf}
 use Rattle.meaning.specs.References.{textsOf, nameRefs, typeRefs, nodeRefs, keysOf}
 use Rattle.meaning.specs.SoFar.{SoFar, saidOf, saidIn, saidBy, frames, add, after}
 use Rattle.meaning.specs.Conditions.{anyOf, allBelow, again, maxNames, maxTypes, maxPredicates, maxNodes, isFull, refersEarlier, refersBadly, conditions, firstOf}
@@ -28,7 +28,7 @@ use Rattle.reading.specs.declared.Counters.{Counters}
 use Rattle.reading.specs.declared.Step.{Step}
 use Rattle.reading.specs.declared.Step.the-variants.{On, Off}
 use Rattle.reading.specs.Held.{Held}
-use Rattle.reading.specs.Contracts.{refusal, Line, Comes, Steps, Takes, TakesAnywhere, fullOf, TakesLine}
+use Rattle.reading.specs.Contracts.{Comes, Steps, Takes, TakesAnywhere, fullOf, TakesLine}
 use Rattle.reading.proofs.Lines.{limits-held}
 use Rattle.reading.proofs.Order.{first-unknown, first-misplaced, first-too-many, first-no-frame, first-none}
 use Rattle.reading.proofs.Stepping.{refuses, goes-on}

@@ -1,22 +1,19 @@
 -- The two ends of reading: before the first line nothing is held, and after the query and the counts the slice stands for what
 -- was read.
-use mathlib.Core.Bool.{Bool, true, false}
-use mathlib.Core.List.{List, [], _∷_, map}
-use mathlib.Core.Option.{Option, none, some}
+use mathlib.Core.List.{List, [], map}
+use mathlib.Core.Option.{some}
 use mathlib.Core.Path.{_≡_, refl, sym, ap, subst, _∙_}
-use Prim.Native.Nat.{ℕ, suc, _+_, _*_, _/_, _%_, _<_, _≤_}
+use Prim.Native.Nat.{ℕ, _+_, _*_, _%_, _<_, _≤_}
 use native.Mathlib.Omega.{arith}
-use lib.ListN.{length, getD, set, length-set, length-map, List·getD-map}
-use lib.Seq.{sets}
+use lib.ListN.{length, getD, length-map, List·getD-map}
 use Rattle.text.specs.Utf8.{characters, count}
 use Rattle.unification.specs.Ty.{ε}
-use Rattle.work.specs.Layout.{NAME-COUNT, TYPE-COUNT, PREDICATE-COUNT, NODE-COUNT, VALUE-NAME, MAX-DISTANCE, MAX-TERM, QUERY, NAMES, TYPES, PREDICATES, NODES, FIELDS, RECORD-COUNT, END}
+use Rattle.work.specs.Layout.{NAME-COUNT, TYPE-COUNT, PREDICATE-COUNT, MAX-DISTANCE, MAX-TERM, QUERY, NAMES, FIELDS, RECORD-COUNT}
 use Rattle.cells.specs.declared.Kind.{Kind}
 use Rattle.cells.specs.declared.Kind.the-variants.{Fields, Alternatives}
 use Rattle.cells.specs.Words.{declaredW, countW, firstW, declaredField, alternativeW, partW}
-use Rattle.cells.specs.Stands.{Rows, tree, tagOf, partWords, Keeps}
-use Rattle.cells.proofs.Frame.{keeps-trans, keeps-wider, keeps-set}
-use Rattle.meaning.specs.Syntax.{Query, nodeAt}
+use Rattle.cells.specs.Stands.{Rows, partWords, Keeps}
+use Rattle.meaning.specs.Syntax.{Query}
 use Rattle.meaning.specs.Frame as Frame
 use Rattle.meaning.specs.Lines.{position}
 use Rattle.meaning.specs.Conditions.{anyOf, among}
@@ -25,10 +22,10 @@ use Rattle.meaning.specs.File.{countOf, describe}
 use Rattle.tree.specs.Stands.{TypeCells, SchemaStands, Stands}
 use Rattle.reading.specs.declared.Counters.{Counters}
 use Rattle.reading.specs.Contracts.{noCounters, counts, counted}
-use Rattle.reading.specs.Held.{LimitsHeld, NameIs, NamesHeld, wordsOf, partType, IsOf, TypesHeld, PredicatesHeld, NodesHeld, Marked, QueryHeld, Held}
+use Rattle.reading.specs.Held.{LimitsHeld, partType, IsOf, TypesHeld, QueryHeld, Held}
 use Rattle.reading.proofs.Regions.{over, keeps-sets, WordsAt, sets-words}
 use Rattle.reading.proofs.Lines.{types-same, predicates-same, nodes-same}
-use Rattle.reading.proofs.Kept.{first-is, count-is, field-is, limits-kept, query-kept}
+use Rattle.reading.proofs.Kept.{field-is, query-kept}
 
 -- ---- Before the first line
 

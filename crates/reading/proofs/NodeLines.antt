@@ -1,9 +1,9 @@
 -- A node's line and the query's: refused by what they refer to, or one more node, or the query, is held.
 use mathlib.Core.Bool.{Bool, true, false, not, _||_}
 use mathlib.Core.List.{List, [], _∷_, _++_}
-use mathlib.Core.Option.{Option, none, some}
+use mathlib.Core.Option.{some}
 use mathlib.Core.Path.{_≡_, refl, sym, ap, subst, _∙_}
-use Prim.Native.Nat.{ℕ, _+_, _*_, _<_, _≤_}
+use Prim.Native.Nat.{ℕ, _+_, _*_, _<_}
 use native.Mathlib.Omega.{arith}
 use lib.ListN.{length, drop, set}
 use Rattle.text.specs.Utf8.{both}
@@ -22,7 +22,7 @@ use Rattle.reading.specs.declared.Counters.{Counters}
 use Rattle.reading.specs.declared.Step.the-variants.{On, Off}
 use Rattle.reading.specs.Held.{Marked, Held}
 use Rattle.reading.specs.Marks.{Refers, NamesNode, NamesStatements, NamesAll}
-use Rattle.reading.specs.Contracts.{withNode, Line, Comes, Takes, TakesThere}
+use Rattle.reading.specs.Contracts.{withNode, TakesThere}
 use Rattle.reading.proofs.Lines.{node-held, query-held}
 use Rattle.reading.proofs.Order.{first-bad, first-none}
 use Rattle.reading.proofs.Stepping.{refuses, goes-on, begun, nodes-room}

@@ -11,9 +11,9 @@ use Rattle.work.specs.Layout.{NAME-COUNT, NAMES, TYPES, PREDICATES}
 use Rattle.meaning.specs.Refusal as Refused
 use Rattle.meaning.specs.Frame as Frame
 use Rattle.meaning.specs.Frame.{mayStand, kindByte, kindOf, frameOf}
-use Rattle.meaning.specs.SoFar.{SoFar, Said, frames, saidBy, add, after}
+use Rattle.meaning.specs.SoFar.{SoFar, frames, saidBy, add, after}
 use Rattle.meaning.specs.Conditions.{sameText, given, isFull, conditions, firstOf}
-use Rattle.meaning.specs.File.{Described, Reading, refused, described, reading}
+use Rattle.meaning.specs.File.{Reading, refused, described, reading}
 use Rattle.meaning.specs.Outcome.{minWords}
 use Rattle.hex.specs.Digits.{lineAt}
 use Rattle.frames.specs.Contracts.{numberOf}

@@ -12,7 +12,7 @@ mod types;
 use frames::Decoded;
 use work::put;
 
-// The refusals of document 01, by meaning; their numbers stand in specs/Refusals.antt.
+// The refusals of document 01, by meaning: `refusal` of specs/Contracts.antt.
 pub enum Refusal {
     WorkTooShort,
     FileTooLong,
