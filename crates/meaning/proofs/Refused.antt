@@ -71,7 +71,7 @@ ends so (l ∷ ls) = go (λ h. ends (after so l) ls) (firstOf conditions so l) r
 
 -- ---- The file
 
-within : (file : List ℕ) → length file ≤ maxFile → reading file ≡ readFrom start (map said (lines file))
+pub within : (file : List ℕ) → length file ≤ maxFile → reading file ≡ readFrom start (map said (lines file))
 unfolding reading
 within file h = rw (le-ltb maxFile (length file) h, reading)
 

@@ -37,7 +37,7 @@ byte-kind Kind.query = refl
 is-byte : (k k′ : Kind) (b : ℕ) → kindByte k ≡ b → some k ≡ some k′ → b ≡ kindByte k′
 is-byte k k′ b p e = let same : k ≡ k′ = cc in sym p ∙ ap kindByte same
 
-kind-byte : (b : ℕ) (k : Kind) → kindOf b ≡ some k → b ≡ kindByte k
+pub kind-byte : (b : ℕ) (k : Kind) → kindOf b ≡ some k → b ≡ kindByte k
 unfolding kindOf kindByte
 kind-byte zero k e = let z : _≡_ {A = ℕ} 0 1 = cc in absurd (omega arith)
 kind-byte (suc zero) k e = is-byte Kind.limits k 1 refl e
