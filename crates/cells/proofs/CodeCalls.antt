@@ -56,10 +56,11 @@ module _ {w : List ℕ} {T : Rows} {st : State} (H : Holds w T st) (P : Permitte
   fields-side from zero oks = tt
   fields-side from (suc n) oks =
       let here : from + 0 ≡ from = omega arith in
-      let first : Ok w (madeField w (RECORD-FIELDS + 2 * from) .ty) = rw here at (oks 0 (omega arith)) in
-      (refl,
-      rw (← H .binds .unknowns) (ok-side H P (madeField w (RECORD-FIELDS + 2 * from) .ty) first),
-      fields-side (from + 1) n (λ j lt. let next : from + 1 + j ≡ from + (j + 1) = omega arith in rw next (oks (j + 1) (omega arith))))
+      let first : Ok w (madeField w (RECORD-FIELDS + 2 * from) .ty) = rw here at (oks 0 (omega arith)) in (
+        refl,
+        rw (← H .binds .unknowns) (ok-side H P (madeField w (RECORD-FIELDS + 2 * from) .ty) first),
+        fields-side (from + 1) n (λ j lt. let next : from + 1 + j ≡ from + (j + 1) = omega arith in rw next (oks (j + 1) (omega arith))),
+      )
 
   permitted-record : (from n : ℕ) → getD w RECORD-COUNT 0 < 512 → Filled w from n → Permitted (newRecordW w from n) (rowsWith w from n T)
   permitted-record from n room F =

@@ -63,7 +63,7 @@ pub made-field-same : (w w′ : List ℕ) (at : ℕ) → getD w′ at 0 ≡ getD
 unfolding madeField
 made-field-same w w′ at p q = rw (p, q)
 
-ok-by : (w w′ : List ℕ) (t : Ty) → ((k : Kind) (c : ℕ) → IsCell w k c → IsCell w′ k c) → getD w UNKNOWNS 0 ≤ getD w′ UNKNOWNS 0 → Ok w t → Ok w′ t
+pub ok-by : (w w′ : List ℕ) (t : Ty) → ((k : Kind) (c : ℕ) → IsCell w k c → IsCell w′ k c) → getD w UNKNOWNS 0 ≤ getD w′ UNKNOWNS 0 → Ok w t → Ok w′ t
 ok-by w w′ Int c u o = tt
 ok-by w w′ Str c u o = tt
 ok-by w w′ Bytes c u o = tt

@@ -4,3 +4,4 @@ pub mod Running
 pub mod Reporting
 pub mod Scoping
 pub mod Recording
+pub mod Starting

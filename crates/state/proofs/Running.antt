@@ -94,7 +94,7 @@ keeps-quiet lo k = record { env = k .below ENV-LEN (omega arith); diagnostics = 
 pub runs-state : {f w w′ : List ℕ} {T T′ : Rows} {d : Described} {c : Checker} {st : State} → Sound d → Runs f w T d c → OldCells w w′ → More w T T′ → Quiet w w′
     → Holds w′ T′ st → length (st .tys) ≡ length (c .state .tys) → Runs f w′ T′ d (record { state = st; env = c .env; diagnostics = c .diagnostics })
 runs-state {f} {w} {w′} {T} {T′} {d} {c} sound R O M Q H nodes = record {
-  stands = stands-more (R .holds .cells) O M sound (Q .long) (R .stands);
+  stands = stands-more w w′ (O .said) M sound (Q .long) (R .stands);
   holds = H;
   nodes = nodes ∙ R .nodes;
   env = R .env ∙ sym (rw (Q .env) (env-same w w′ (getD w ENV-LEN 0) (λ i h. Q .at (ENV + i) (omega arith) (omega (arith, R .few-env)))));
@@ -143,8 +143,8 @@ module _ {f w : List ℕ} {T : Rows} {d : Described} {c : Checker} (sound : Soun
 pub runs-aside : {f w w′ : List ℕ} {T : Rows} {d : Described} {c c′ : Checker} → Sound d → Runs f w T d c → SameState w w′ → c′ .state ≡ c .state
     → c′ .env ≡ envOf w′ (getD w′ ENV-LEN 0) → getD w′ ENV-LEN 0 ≤ 512 → c′ .diagnostics ≡ diagnosticsOf (d .ast .nodes) w′ (getD w′ DIAGNOSTIC-COUNT 0) → getD w′ DIAGNOSTIC-COUNT 0 ≤ 1536
     → ((i : ℕ) → i < getD w′ DIAGNOSTIC-COUNT 0 → halfW w′ i / 16 < length (d .ast .nodes)) → Runs f w′ T d c′
-runs-aside sound R S state env few-env diagnostics few-diagnostics among = record {
-  stands = stands-more (R .holds .cells) (same-old (S .cells) (R .holds .cells)) more-refl sound (S .slots .long) (R .stands);
+runs-aside {w = w} {w′} sound R S state env few-env diagnostics few-diagnostics among = record {
+  stands = stands-more w w′ (λ i h. S .cells .said i (omega arith)) more-refl sound (S .slots .long) (R .stands);
   holds = rw state (holds-same S (R .holds));
   nodes = rw state (R .nodes);
   env = env;

@@ -63,7 +63,7 @@ rewind-undo (suc k) [] st = refl
 rewind-undo (suc k) (Binding x prev ∷ us) st = rewind-undo k us (revert (Binding x prev) st)
 rewind-undo (suc k) (Annotation n prev ∷ us) st = rewind-undo k us (revert (Annotation n prev) st)
 
-rewind-left : (k : ℕ) (us : List Undo) (st : State) → rewind k us st .left ≡ st .left
+pub rewind-left : (k : ℕ) (us : List Undo) (st : State) → rewind k us st .left ≡ st .left
 unfolding rewind revert
 rewind-left zero us st = refl
 rewind-left (suc k) [] st = refl

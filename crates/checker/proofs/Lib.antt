@@ -1,0 +1,16 @@
+mod Looping
+mod Inferring
+mod Arms
+mod Alls
+mod Generating
+mod Stating
+mod Bodies
+mod Checking
+mod Against
+mod Mentioning
+mod Comparing
+mod Building
+mod Recording
+mod Callees
+mod Choosing
+mod Querying

@@ -1,0 +1,228 @@
+-- Statements over two nodes: each is a short list of steps, the loads of which the two nodes' visits hold.
+use mathlib.Core.List.{List, [], _∷_}
+use mathlib.Core.Path.{_≡_, refl, sym, _∙_, ap}
+use Prim.Native.Nat.{ℕ, zero, suc, _+_, _≤_, _<_}
+use native.Mathlib.Omega.{arith}
+use lib.ListN.{length}
+use Rattle.unification.specs.Ty as Tree
+use Rattle.unification.proofs.Tests.{clash}
+use Rattle.cells.specs.declared.Ty.{Ty}
+use Rattle.cells.specs.declared.Ty.the-variants.{Var}
+use Rattle.cells.specs.Stands.{Rows, tree, Ok}
+use Rattle.meaning.specs.Diag.{Code}
+use Rattle.meaning.specs.File.{Described}
+use Rattle.meaning.specs.Check as Check
+use Rattle.meaning.specs.Check.{Checker, Step, goes, out, Does, andThen, Walk, introduce, annotate, reject, unifyAt, bindVariable, badTarget, onlyRight, notYet, destructure, bindWildcard}
+use Rattle.meaning.specs.Run.{same, sumOf}
+use Rattle.meaning.proofs.Meets.{plus, Ready, Meets}
+use Rattle.meaning.proofs.Steps.{no-thing, one-diagnostic, one-unknown, one-node, Nothing, IsSide, IsUnknown, reject-meets, introduce-meets, annotate-meets}
+use Rattle.meaning.proofs.Visits.{Good, inferring, visiting, size-pos, own-weight}
+use Rattle.steps.specs.declared.Typed.{Typed}
+use Rattle.steps.specs.declared.Typed.the-variants as Typed
+use Rattle.steps.specs.declared.Done.{Done}
+use Rattle.steps.specs.declared.Done.the-variants as Done
+use Rattle.steps.specs.Ends.{typed, done, silent, numbered, Ends}
+use Rattle.steps.specs.Loads.{Load, only, both, Holds, infers, visits, Begins, Beside}
+use Rattle.steps.specs.Contracts.{nodesOf, Fine, Notes, Rejects, Brings, UnifiesAt, onlyW, Named}
+use Rattle.checker.specs.Contracts.{below, Infers, Sides, BadTargets, NotYets, Destructures, BindsVariable}
+use Rattle.steps.proofs.Sequel.{begins-part, ends-wider}
+use Rattle.steps.proofs.Results.{After, fine-after, tree-after, on-here, then-typed, stop-typed, then-silent, then-numbered, only-ends, silent-on}
+use Rattle.checker.proofs.Inferring.{good, ok-unknown}
+
+-- ---- The right side alone
+abbrev pub OnlyRights : List ℕ → List ℕ → ℕ → ℕ → ℕ → List ℕ → Done → Type 0
+OnlyRights f w lhs rhs left w′ r = Sides (λ d b x y. onlyRight (d .schema) (nodesOf d) b y) f w lhs rhs left w′ r
+
+right-ends : {f w w′ : List ℕ} {rhs left : ℕ} {r : Typed} {T : Rows} {d : Described} {k : ℕ} {c : Checker} → Infers f w rhs left w′ r → Named d k rhs → Begins f w T d (infers (nodesOf d) k rhs) left c
+    → Ends f w w′ T d (infers (nodesOf d) k rhs .records) (infers (nodesOf d) k rhs .fields) (done (onlyW r)) (onlyRight (d .schema) (nodesOf d) (below d k) rhs c)
+unfolding onlyRight
+right-ends {rhs = rhs} {T = T} {d = d} {k = k} {c = c} I named s = only-ends (below d k .infer rhs c) (I .is d k named .is T c s tt)
+
+right-fits : (d : Described) (k lhs rhs : ℕ) → Holds (both (only one-diagnostic) (infers (nodesOf d) k rhs)) (visits (nodesOf d) k (lhs ∷ rhs ∷ []))
+unfolding sumOf
+right-fits d k lhs rhs = record { grade = omega (arith, size-pos (nodesOf d) k lhs); records = omega arith; fields = omega arith }
+
+pub only-right : {f w w′ : List ℕ} {lhs rhs left : ℕ} {r : Typed} → Infers f w rhs left w′ r → OnlyRights f w lhs rhs left w′ (onlyW r)
+unfolding sumOf
+only-right {lhs = lhs} {rhs = rhs} I = record {
+  is = λ d k nl nr. record {
+    is = λ T c s u.
+        ends-wider (omega arith) (omega arith) (right-ends I nr (begins-part (infers (nodesOf d) k rhs) (visits (nodesOf d) k (lhs ∷ rhs ∷ [])) (record { grade = omega arith; records = omega arith; fields = omega arith }) s));
+  };
+}
+
+-- ---- A target that can't be
+pub bad-target : {f w w₁ w₂ : List ℕ} {lhs rhs left : ℕ} {r : Typed} → Rejects f w lhs Code.RejectBindLhs left w₁ → Infers f w₁ rhs left w₂ r → BadTargets f w lhs rhs left w₂ (onlyW r)
+unfolding badTarget onlyRight
+bad-target {lhs = lhs} {rhs = rhs} R I = record {
+  is = λ d k nl nr. record {
+    is = λ T c s u.
+        then-silent (only one-diagnostic) (infers (nodesOf d) k rhs) (visits (nodesOf d) k (lhs ∷ rhs ∷ [])) (right-fits d k lhs rhs) Nothing (reject (d .schema) (nodesOf d) lhs Code.RejectBindLhs c)
+        (λ u. onlyRight (d .schema) (nodesOf d) (below d k) rhs) s
+        (λ y. reject-meets (d .schema) (nodesOf d) lhs Code.RejectBindLhs c (s .orderly)) (λ s₁. R d (nl .there) .is T c s₁ tt) (λ T₁ b a h. right-ends I nr (a .begins));
+  };
+}
+
+-- ---- Not yet
+abbrev two : Described → ℕ → ℕ → ℕ → Load
+two d k lhs rhs = both (infers (nodesOf d) k lhs) (infers (nodesOf d) k rhs)
+
+both-fits : (d : Described) (k lhs rhs : ℕ) → Holds (both (only one-diagnostic) (both (infers (nodesOf d) k lhs) (infers (nodesOf d) k rhs))) (visits (nodesOf d) k (lhs ∷ rhs ∷ []))
+unfolding sumOf
+both-fits d k lhs rhs = record { grade = omega (arith, size-pos (nodesOf d) k lhs); records = omega arith; fields = omega arith }
+
+module _ {f w w₁ w₂ : List ℕ} {lhs rhs left : ℕ} {r : Typed} (R : Rejects f w lhs Code.NyiBindUnification left w₁) (I : Infers f w₁ lhs left w₂ r) where
+  pub not-yet : {w₃ : List ℕ} {t : Ty} {l : ℕ} {x : Typed} → r ≡ Typed.Got t l → Infers f w₂ rhs l w₃ x → NotYets f w lhs rhs left w₃ (onlyW x)
+  unfolding notYet onlyRight
+  not-yet g J = record {
+    is = λ d k nl nr. record {
+      is = λ T c s u.
+          then-silent (only one-diagnostic) (two d k lhs rhs) (visits (nodesOf d) k (lhs ∷ rhs ∷ [])) (both-fits d k lhs rhs) Nothing (reject (d .schema) (nodesOf d) lhs Code.NyiBindUnification c)
+          (λ u b. andThen (below d k .infer lhs b) (λ ty. onlyRight (d .schema) (nodesOf d) (below d k) rhs)) s
+          (λ y. reject-meets (d .schema) (nodesOf d) lhs Code.NyiBindUnification c (s .orderly)) (λ s₁. R d (nl .there) .is T c s₁ tt)
+          (λ T₁ b a h. then-typed (infers (nodesOf d) k lhs) (infers (nodesOf d) k rhs) (two d k lhs rhs) (record { grade = omega arith; records = omega arith; fields = omega arith }) (below d k .infer lhs b)
+          (λ ty. onlyRight (d .schema) (nodesOf d) (below d k) rhs) g (a .begins)
+          (λ y. good s k .infer lhs b (a .begins .orderly) y) (λ s₂. I .is d k nl .is T₁ b s₂ tt) (λ T₂ b₂ a₂ fine. right-ends J nr (a₂ .begins)));
+    };
+  }
+
+  pub not-yet-out : r ≡ Typed.Out → NotYets f w lhs rhs left w₂ Done.Out
+  unfolding notYet onlyRight
+  not-yet-out g = record {
+    is = λ d k nl nr. record {
+      is = λ T c s u.
+          then-silent (only one-diagnostic) (two d k lhs rhs) (visits (nodesOf d) k (lhs ∷ rhs ∷ [])) (both-fits d k lhs rhs) Nothing (reject (d .schema) (nodesOf d) lhs Code.NyiBindUnification c)
+          (λ u b. andThen (below d k .infer lhs b) (λ ty. onlyRight (d .schema) (nodesOf d) (below d k) rhs)) s
+          (λ y. reject-meets (d .schema) (nodesOf d) lhs Code.NyiBindUnification c (s .orderly)) (λ s₁. R d (nl .there) .is T c s₁ tt)
+          (λ T₁ b a h. stop-typed (infers (nodesOf d) k lhs) (infers (nodesOf d) k rhs) (two d k lhs rhs) (record { grade = omega arith; records = omega arith; fields = omega arith }) (below d k .infer lhs b)
+          (λ ty. onlyRight (d .schema) (nodesOf d) (below d k) rhs) g refl (a .begins) (λ s₂. I .is d k nl .is T₁ b s₂ tt));
+    };
+  }
+
+-- ---- The right side inferred and unified with a type in hand
+unified-fits : (d : Described) (k rhs : ℕ) → Holds (both (infers (nodesOf d) k rhs) (only one-diagnostic)) (both (infers (nodesOf d) k rhs) (only one-diagnostic))
+unified-fits d k rhs = record { grade = omega arith; records = omega arith; fields = omega arith }
+
+module _ {f w w₁ : List ℕ} {rhs left : ℕ} {r : Typed} {t : Ty} {T : Rows} {d : Described} {k : ℕ} {c : Checker} (I : Infers f w rhs left w₁ r) (named : Named d k rhs) (fine : Fine w t T c)
+    (s : Begins f w T d (both (infers (nodesOf d) k rhs) (only one-diagnostic)) left c) where
+  abbrev rest : Load
+  rest = both (infers (nodesOf d) k rhs) (only one-diagnostic)
+
+  unified-ends : {w₂ : List ℕ} {u : Ty} {l : ℕ} {x : Done} → r ≡ Typed.Got u l → UnifiesAt f w₁ rhs u t l w₂ x
+      → Ends f w w₂ T d (rest .records) (rest .fields) (done x) (andThen (below d k .infer rhs c) (λ ty. unifyAt (d .schema) (nodesOf d) rhs ty (tree T t)))
+  unified-ends g U = then-typed (infers (nodesOf d) k rhs) (only one-diagnostic) rest (unified-fits d k rhs) (below d k .infer rhs c) (λ ty. unifyAt (d .schema) (nodesOf d) rhs ty (tree T t)) g s
+      (λ y. good s k .infer rhs c (s .orderly) y) (λ s₁. I .is d k named .is T c s₁ tt)
+      (λ T₁ b a fine₁. rw (← tree-after a t (fine .ok)) (U .is d (named .there) .is T₁ b (a .begins) (fine₁, fine-after a t fine)))
+
+  unified-out : r ≡ Typed.Out → Ends f w w₁ T d (rest .records) (rest .fields) (done Done.Out) (andThen (below d k .infer rhs c) (λ ty. unifyAt (d .schema) (nodesOf d) rhs ty (tree T t)))
+  unified-out g = stop-typed (infers (nodesOf d) k rhs) (only one-diagnostic) rest (unified-fits d k rhs) (below d k .infer rhs c) (λ ty. unifyAt (d .schema) (nodesOf d) rhs ty (tree T t)) g refl s
+      (λ s₁. I .is d k named .is T c s₁ tt)
+
+-- ---- A record on the left
+pattern-fits : (d : Described) (k lhs rhs : ℕ) → Holds (both (infers (nodesOf d) k lhs) (both (infers (nodesOf d) k rhs) (only one-diagnostic))) (visits (nodesOf d) k (lhs ∷ rhs ∷ []))
+unfolding sumOf
+pattern-fits d k lhs rhs = record { grade = omega (arith, size-pos (nodesOf d) k rhs); records = omega arith; fields = omega arith }
+
+module _ {f w w₁ : List ℕ} {lhs rhs left : ℕ} {r : Typed} (I : Infers f w lhs left w₁ r) where
+  -- What follows the left side.
+  destructured : {w₂ : List ℕ} {x : Done} {t : Ty} {l : ℕ} → r ≡ Typed.Got t l
+      → ((d : Described) (k : ℕ) → Named d k rhs → (T : Rows) (c : Checker) → Fine w₁ t T c → Begins f w₁ T d (both (infers (nodesOf d) k rhs) (only one-diagnostic)) l c
+      → Ends f w₁ w₂ T d (both (infers (nodesOf d) k rhs) (only one-diagnostic) .records) (both (infers (nodesOf d) k rhs) (only one-diagnostic) .fields) (done x) (andThen (below d k .infer rhs c) (λ ty. unifyAt (d .schema) (nodesOf d) rhs ty (tree T t))))
+      → Destructures f w lhs rhs left w₂ x
+  unfolding destructure
+  destructured g next = record {
+    is = λ d k nl nr. record {
+      is = λ T c s u.
+          then-typed (infers (nodesOf d) k lhs) (both (infers (nodesOf d) k rhs) (only one-diagnostic)) (visits (nodesOf d) k (lhs ∷ rhs ∷ [])) (pattern-fits d k lhs rhs) (below d k .infer lhs c)
+          (λ p b. andThen (below d k .infer rhs b) (λ ty. unifyAt (d .schema) (nodesOf d) rhs ty p)) g s
+          (λ y. good s k .infer lhs c (s .orderly) y) (λ s₁. I .is d k nl .is T c s₁ tt) (λ T₁ b a fine. next d k nr T₁ b fine (a .begins));
+    };
+  }
+
+  pub destructure-out : r ≡ Typed.Out → Destructures f w lhs rhs left w₁ Done.Out
+  unfolding destructure
+  destructure-out g = record {
+    is = λ d k nl nr. record {
+      is = λ T c s u.
+          stop-typed (infers (nodesOf d) k lhs) (both (infers (nodesOf d) k rhs) (only one-diagnostic)) (visits (nodesOf d) k (lhs ∷ rhs ∷ [])) (pattern-fits d k lhs rhs) (below d k .infer lhs c)
+          (λ p b. andThen (below d k .infer rhs b) (λ ty. unifyAt (d .schema) (nodesOf d) rhs ty p)) g refl s (λ s₁. I .is d k nl .is T c s₁ tt);
+    };
+  }
+
+  module _ {w₂ : List ℕ} {t : Ty} {l : ℕ} {y : Typed} (g : r ≡ Typed.Got t l) (J : Infers f w₁ rhs l w₂ y) where
+    pub destructure-unified : {w₃ : List ℕ} {u : Ty} {v : ℕ} {x : Done} → y ≡ Typed.Got u v → UnifiesAt f w₂ rhs u t v w₃ x → Destructures f w lhs rhs left w₃ x
+    destructure-unified h U = destructured g (λ d k nr T c fine s. unified-ends J nr fine s h U)
+
+    pub destructure-right-out : y ≡ Typed.Out → Destructures f w lhs rhs left w₂ Done.Out
+    destructure-right-out h = destructured g (λ d k nr T c fine s. unified-out J nr fine s h)
+
+-- ---- A wildcard on the left
+wildcard-fits : (d : Described) (k lhs rhs : ℕ) → Holds (both (infers (nodesOf d) k rhs) (only (one-node lhs))) (visits (nodesOf d) k (lhs ∷ rhs ∷ []))
+unfolding sumOf
+wildcard-fits d k lhs rhs = record {
+  grade = record { nodes = λ x. omega (arith, own-weight (nodesOf d) (λ m. same x m) k lhs); unknowns = omega arith; diagnostics = omega arith };
+  records = omega arith;
+  fields = omega arith;
+}
+
+abbrev pub Wildcards : List ℕ → List ℕ → ℕ → ℕ → ℕ → List ℕ → Done → Type 0
+Wildcards f w lhs rhs left w′ r = Sides (λ d b x y. bindWildcard (d .schema) (nodesOf d) b x y) f w lhs rhs left w′ r
+
+module _ {f w w₁ : List ℕ} {lhs rhs left : ℕ} {r : Typed} (I : Infers f w rhs left w₁ r) where
+  pub wildcard-noted : {w₂ : List ℕ} {t : Ty} {l : ℕ} → r ≡ Typed.Got t l → Notes f w₁ lhs t l w₂ → Wildcards f w lhs rhs left w₂ (Done.On l)
+  unfolding bindWildcard
+  wildcard-noted g ann = record {
+    is = λ d k nl nr. record {
+      is = λ T c s u.
+          then-typed (infers (nodesOf d) k rhs) (only (one-node lhs)) (visits (nodesOf d) k (lhs ∷ rhs ∷ [])) (wildcard-fits d k lhs rhs) (below d k .infer rhs c) (λ ty. annotate lhs ty) g s
+          (λ y. good s k .infer rhs c (s .orderly) y) (λ s₁. I .is d k nr .is T c s₁ tt) (λ T₁ b a fine. silent-on (ann d (nl .there) .is T₁ b (a .begins) fine));
+    };
+  }
+
+  pub wildcard-out : r ≡ Typed.Out → Wildcards f w lhs rhs left w₁ Done.Out
+  unfolding bindWildcard
+  wildcard-out g = record {
+    is = λ d k nl nr. record {
+      is = λ T c s u.
+          stop-typed (infers (nodesOf d) k rhs) (only (one-node lhs)) (visits (nodesOf d) k (lhs ∷ rhs ∷ [])) (wildcard-fits d k lhs rhs) (below d k .infer rhs c) (λ ty. annotate lhs ty) g refl s
+          (λ s₁. I .is d k nr .is T c s₁ tt);
+    };
+  }
+
+-- ---- A variable on the left
+noted-fits : (d : Described) (k lhs rhs : ℕ) → Holds (both (only one-unknown) (both (only (one-node lhs)) (both (infers (nodesOf d) k rhs) (only one-diagnostic)))) (visits (nodesOf d) k (lhs ∷ rhs ∷ []))
+unfolding sumOf
+noted-fits d k lhs rhs = record {
+  grade = record { nodes = λ x. omega (arith, own-weight (nodesOf d) (λ m. same x m) k lhs); unknowns = omega (arith, size-pos (nodesOf d) k lhs); diagnostics = omega (arith, size-pos (nodesOf d) k rhs) };
+  records = omega arith;
+  fields = omega arith;
+}
+
+module _ {f w w₁ w₂ w₃ : List ℕ} {symbol lhs rhs left v : ℕ} {r : Typed} (B : Brings f w symbol left w₁ v) (ann : Notes f w₁ lhs (Var v) left w₂) (I : Infers f w₂ rhs left w₃ r) where
+  variable-then : {w₄ : List ℕ} {x : Done}
+      → ((d : Described) (k : ℕ) → Named d k rhs → (T : Rows) (c : Checker) → Fine w₂ (Var v) T c → Begins f w₂ T d (both (infers (nodesOf d) k rhs) (only one-diagnostic)) left c
+      → Ends f w₂ w₄ T d (both (infers (nodesOf d) k rhs) (only one-diagnostic) .records) (both (infers (nodesOf d) k rhs) (only one-diagnostic) .fields) (done x) (andThen (below d k .infer rhs c) (λ ty. unifyAt (d .schema) (nodesOf d) rhs ty (Tree.Var v))))
+      → BindsVariable f w symbol lhs rhs left w₄ x
+  unfolding bindVariable
+  variable-then next = record {
+    is = λ small. record {
+      is = λ d k nl nr. record {
+        is = λ T c s u.
+            let right = both (infers (nodesOf d) k rhs) (only one-diagnostic) in
+            then-numbered (only one-unknown) (both (only (one-node lhs)) right) (visits (nodesOf d) k (lhs ∷ rhs ∷ [])) (noted-fits d k lhs rhs) (IsUnknown symbol) (introduce symbol c)
+            (λ x b. andThen (annotate lhs (Tree.Var x) b) (λ u e. andThen (below d k .infer rhs e) (λ ty. unifyAt (d .schema) (nodesOf d) rhs ty (Tree.Var x)))) s
+            (λ y. introduce-meets symbol c (s .orderly)) (λ s₁. B .is d small .is T c s₁ tt)
+            (λ T₁ b a h. let fine : Fine w₁ (Var v) T₁ b = record { ok = ok-unknown (a .begins .runs) (h .0); side = h .0 } in
+            then-silent (only (one-node lhs)) right (both (only (one-node lhs)) right) (record { grade = omega arith; records = omega arith; fields = omega arith }) Nothing (annotate lhs (Tree.Var v) b)
+            (λ u e. andThen (below d k .infer rhs e) (λ ty. unifyAt (d .schema) (nodesOf d) rhs ty (Tree.Var v))) (a .begins)
+            (λ y. annotate-meets lhs (Tree.Var v) b (a .begins .orderly) y (h .0)) (λ s₂. ann d (nl .there) .is T₁ b s₂ fine)
+            (λ T₂ b₂ a₂ h₂. next d k nr T₂ b₂ (fine-after a₂ (Var v) fine) (a₂ .begins)));
+      };
+    };
+  }
+
+  pub variable-unified : {w₄ : List ℕ} {u : Ty} {l : ℕ} {x : Done} → r ≡ Typed.Got u l → UnifiesAt f w₃ rhs u (Var v) l w₄ x → BindsVariable f w symbol lhs rhs left w₄ x
+  variable-unified g U = variable-then (λ d k nr T c fine s. unified-ends I nr fine s g U)
+
+  pub variable-out : r ≡ Typed.Out → BindsVariable f w symbol lhs rhs left w₃ Done.Out
+  variable-out g = variable-then (λ d k nr T c fine s. unified-out I nr fine s g)

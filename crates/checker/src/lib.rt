@@ -1,0 +1,550 @@
+// `check` of ty.rs over the work slice: infer, check, stmt, generator and bind call each other in a cycle; the node number
+// falls, and a rank orders calls on one node.
+ghost use mathlib.Core.Path.{_≡_};
+ghost use Prim.Native.Nat.{_<_};
+ghost use Rattle.tree.specs.Nodes.{LowerItems};
+ghost use Rattle.steps.specs.Contracts.{onlyW};
+ghost use Rattle.checker.specs.Contracts.{InfersRecord, InfersAll, Subqueries, Facts, InfersKind, Infers, InfersThenUnifies, ChecksField, Mentions, ChecksFields, ChecksUnion, ChecksRecord, Checks, Generates, Branches, BindsVariable, BadTargets, NotYets, Destructures, Binds, Denies, Compares, States, StatesAll, Queries};
+use cells::Bound;
+use cells::Found;
+use cells::Kind;
+use cells::Ty;
+use cells::Unified;
+use state::Code;
+use state::introduce;
+use state::reject;
+use steps::Done;
+use steps::Typed;
+use tree::Items;
+use tree::Node;
+use tree::Stmt;
+use tree::Stmts;
+use work::put;
+use work::word;
+
+fn infer_record(f: &[u8], w: &mut [u32], items: Items, left: u32) -> Typed
+    requires { ⌜ (0 < items .n → 0 < items .below) × (items .at < 2147483648) ⌝ }
+    ensures { λ r. ⌜ InfersRecord (now (f .entry)) (now (w .entry)) items left (now (w .exit)) r ⌝ }
+{
+    let n = items.n;
+    let from = cells::reserve(w, n);
+    // It never comes to that: there is room in every run.
+    if from > 512 {
+        return Typed::Out;
+    }
+    if n > 512 - from {
+        return Typed::Out;
+    }
+    let mut i: u32 = 0;
+    let mut rest = left;
+    while i < n {
+        let e = tree::field_at(f, items, i);
+        let r = infer(f, w, e.value, rest);
+        match r {
+            Typed::Got(t, l) => {
+                cells::put_field(w, from + i, e.name, t);
+                rest = l;
+            }
+            Typed::Out => {
+                return Typed::Out;
+            }
+        }
+        i += 1;
+    }
+    Typed::Got(cells::new_record(w, from, n), rest)
+}
+
+// Each operand or branch, unified with one type.
+fn infer_all(f: &[u8], w: &mut [u32], items: Items, with: Ty, left: u32) -> Typed
+    requires { ⌜ (0 < items .n → 0 < items .below) × (items .at < 2147483648) ⌝ }
+    ensures { λ r. ⌜ InfersAll (now (f .entry)) (now (w .entry)) items with left (now (w .exit)) r ⌝ }
+{
+    let n = items.n;
+    let mut i: u32 = 0;
+    let mut rest = left;
+    while i < n {
+        let e = tree::item_at(f, items, i);
+        let r = infer(f, w, e, rest);
+        match r {
+            Typed::Got(t, l) => {
+                let d = steps::unify_at(w, e, t, with, l);
+                match d {
+                    Done::On(m) => {
+                        rest = m;
+                    }
+                    Done::Out => {
+                        return Typed::Out;
+                    }
+                }
+            }
+            Typed::Out => {
+                return Typed::Out;
+            }
+        }
+        i += 1;
+    }
+    Typed::Got(with, rest)
+}
+
+fn subquery(f: &[u8], w: &mut [u32], head: u32, body: Stmts, left: u32) -> Typed
+    requires { ⌜ (head < body .below) × (body .end < 2147483648) ⌝ }
+    ensures { λ r. ⌜ Subqueries (now (f .entry)) (now (w .entry)) head body left (now (w .exit)) r ⌝ }
+{
+    let scope = word(w, work::ENV_LEN);
+    let d = stmts(f, w, body, left);
+    match d {
+        Done::On(l) => {
+            let r = infer(f, w, head, l);
+            put(w, work::ENV_LEN, scope);
+            r
+        }
+        Done::Out => Typed::Out,
+    }
+}
+
+fn fact(f: &[u8], w: &mut [u32], p: u32, key: u32, left: u32) -> Typed
+    ensures { λ r. ⌜ Facts (now (f .entry)) (now (w .entry)) p key left (now (w .exit)) r ⌝ }
+{
+    let t = steps::key_ty(w, p);
+    match t {
+        Bound::To(u) => {
+            let d = check(f, w, key, u, left);
+            match d {
+                Done::On(l) => Typed::Got(Ty::Fact(p), l),
+                Done::Out => Typed::Out,
+            }
+        }
+        Bound::Free => Typed::Got(Ty::Fact(p), left),
+    }
+}
+
+fn infer_kind(f: &[u8], w: &mut [u32], n: u32, left: u32) -> Typed
+    ensures { λ r. ⌜ InfersKind (now (f .entry)) (now (w .entry)) n left (now (w .exit)) r ⌝ }
+{
+    let e = tree::node_at(f, w, n);
+    match e {
+        Node::Int => Typed::Got(Ty::Int, left),
+        Node::Bytes => Typed::Got(Ty::Bytes, left),
+        Node::Str => Typed::Got(Ty::Str, left),
+        Node::Prefix(_) => Typed::Got(Ty::Str, left),
+        Node::Fuzzy(term, distance) => {
+            steps::fuzzy_distance(w, n, distance);
+            steps::fuzzy_term(w, n, term);
+            Typed::Got(Ty::Str, left)
+        }
+        Node::Wildcard => Typed::Got(Ty::Var(cells::fresh_var_id(w)), left),
+        Node::Never => Typed::Got(Ty::Var(cells::fresh_var_id(w)), left),
+        Node::Error => Typed::Got(Ty::Error, left),
+        Node::Var(symbol) => Typed::Got(Ty::Var(introduce(w, symbol)), left),
+        Node::Arith(items) => infer_all(f, w, items, Ty::Int, left),
+        Node::Record(items) => infer_record(f, w, items, left),
+        Node::Key(name, base) => {
+            let r = infer(f, w, base, left);
+            match r {
+                Typed::Got(t, l) => steps::key_of(w, n, name, cells::repr(w, t), l),
+                Typed::Out => Typed::Out,
+            }
+        }
+        Node::Value(base) => {
+            let r = infer(f, w, base, left);
+            match r {
+                Typed::Got(t, l) => steps::value_of(w, n, cells::repr(w, t), l),
+                Typed::Out => Typed::Out,
+            }
+        }
+        Node::Select(name, base) => {
+            let r = infer(f, w, base, left);
+            match r {
+                Typed::Got(t, l) => steps::select_of(w, n, name, cells::repr(w, t), l),
+                Typed::Out => Typed::Out,
+            }
+        }
+        Node::Fact(p, key) => fact(f, w, p, key, left),
+        Node::Disjunction(items) => {
+            let result = Ty::Var(cells::fresh_var_id(w));
+            infer_all(f, w, items, result, left)
+        }
+        Node::Subquery(head, body) => subquery(f, w, head, body, left),
+    }
+}
+
+pub fn infer(f: &[u8], w: &mut [u32], n: u32, left: u32) -> Typed
+    ensures { λ r. ⌜ Infers (now (f .entry)) (now (w .entry)) n left (now (w .exit)) r ⌝ }
+{
+    let r = infer_kind(f, w, n, left);
+    match r {
+        Typed::Got(t, l) => {
+            cells::annotate(w, n, t);
+            Typed::Got(t, l)
+        }
+        Typed::Out => Typed::Out,
+    }
+}
+
+fn infer_then_unify(f: &[u8], w: &mut [u32], n: u32, expected: Ty, left: u32) -> Done
+    ensures { λ r. ⌜ InfersThenUnifies (now (f .entry)) (now (w .entry)) n expected left (now (w .exit)) r ⌝ }
+{
+    let undo = cells::snapshot(w);
+    let env = word(w, work::ENV_LEN);
+    let r = infer(f, w, n, left);
+    match r {
+        Typed::Got(t, l) => {
+            let u = cells::unify(w, t, expected, l);
+            match u {
+                Unified::Good(m) => Done::On(m),
+                Unified::Bad(err, m) => {
+                    steps::rollback(w, undo, env);
+                    steps::report(w, n, err);
+                    Done::On(m)
+                }
+                Unified::Spent => Done::Out,
+            }
+        }
+        Typed::Out => Done::Out,
+    }
+}
+
+// A field in a scope of its own: whatever diagnostic arose inside it, it is rolled back.
+fn check_field(f: &[u8], w: &mut [u32], value: u32, t: Ty, left: u32) -> Done
+    ensures { λ r. ⌜ ChecksField (now (f .entry)) (now (w .entry)) value t left (now (w .exit)) r ⌝ }
+{
+    let before = word(w, work::DIAGNOSTIC_COUNT);
+    let undo = cells::snapshot(w);
+    let env = word(w, work::ENV_LEN);
+    let d = check(f, w, value, t, left);
+    match d {
+        Done::On(l) => {
+            if before < word(w, work::DIAGNOSTIC_COUNT) {
+                steps::rollback(w, undo, env);
+            }
+            Done::On(l)
+        }
+        Done::Out => Done::Out,
+    }
+}
+
+fn check_mentioned(f: &[u8], w: &mut [u32], c: u32, name: u32, value: u32, left: u32) -> Done
+    ensures { λ r. ⌜ Mentions (now (f .entry)) (now (w .entry)) name value c left (now (w .exit)) r ⌝ }
+{
+    let found = cells::find_key(w, Kind::Fields, c, name);
+    match found {
+        Found::At(p) => {
+            let t = p.ty;
+            check_field(f, w, value, t, left)
+        }
+        Found::Nothing => {
+            reject(w, value, Code::RejectUnknownField);
+            Done::On(left)
+        }
+    }
+}
+
+fn check_fields(f: &[u8], w: &mut [u32], items: Items, c: u32, left: u32) -> Done
+    requires { ⌜ (0 < items .n → 0 < items .below) × (items .at < 2147483648) ⌝ }
+    ensures { λ r. ⌜ ChecksFields (now (f .entry)) (now (w .entry)) items c left (now (w .exit)) r ⌝ }
+{
+    let n = items.n;
+    let mut i: u32 = 0;
+    let mut rest = left;
+    while i < n {
+        let e = tree::field_at(f, items, i);
+        let d = check_mentioned(f, w, c, e.name, e.value, rest);
+        match d {
+            Done::On(l) => {
+                rest = l;
+            }
+            Done::Out => {
+                return Done::Out;
+            }
+        }
+        i += 1;
+    }
+    Done::On(rest)
+}
+
+fn check_union(f: &[u8], w: &mut [u32], n: u32, items: Items, c: u32, left: u32) -> Done
+    requires { ⌜ LowerItems n items ⌝ }
+    ensures { λ r. ⌜ ChecksUnion (now (f .entry)) (now (w .entry)) n items c left (now (w .exit)) r ⌝ }
+{
+    if items.n != 1 {
+        reject(w, n, Code::RejectUnionArity);
+        return Done::On(left);
+    }
+    let e = tree::field_at(f, items, 0);
+    let found = cells::find_name(w, c, e.name);
+    match found {
+        Found::At(p) => {
+            let t = p.ty;
+            let d = check(f, w, e.value, t, left);
+            match d {
+                Done::On(l) => {
+                    cells::annotate(w, n, Ty::Union(c));
+                    Done::On(l)
+                }
+                Done::Out => Done::Out,
+            }
+        }
+        Found::Nothing => {
+            reject(w, n, Code::RejectUnknownAlternative);
+            Done::On(left)
+        }
+    }
+}
+
+fn check_record(f: &[u8], w: &mut [u32], n: u32, items: Items, expected: Ty, left: u32) -> Done
+    requires { ⌜ LowerItems n items ⌝ }
+    ensures { λ r. ⌜ ChecksRecord (now (f .entry)) (now (w .entry)) n items expected left (now (w .exit)) r ⌝ }
+{
+    match expected {
+        Ty::Record(c) => {
+            let d = check_fields(f, w, items, c, left);
+            match d {
+                Done::On(l) => {
+                    cells::annotate(w, n, expected);
+                    Done::On(l)
+                }
+                Done::Out => Done::Out,
+            }
+        }
+        Ty::Union(c) => check_union(f, w, n, items, c, left),
+        _ => infer_then_unify(f, w, n, expected, left),
+    }
+}
+
+// Against Error nothing is visited.
+pub fn check(f: &[u8], w: &mut [u32], n: u32, expected: Ty, left: u32) -> Done
+    ensures { λ r. ⌜ Checks (now (f .entry)) (now (w .entry)) n expected left (now (w .exit)) r ⌝ }
+{
+    let t = cells::repr(w, expected);
+    if cells::tag_of(t) == 8 {
+        return Done::On(left);
+    }
+    let e = tree::node_at(f, w, n);
+    match e {
+        Node::Wildcard => {
+            cells::annotate(w, n, t);
+            Done::On(left)
+        }
+        Node::Record(items) => check_record(f, w, n, items, t, left),
+        _ => infer_then_unify(f, w, n, t, left),
+    }
+}
+
+// Branches are not unified.
+pub fn generator(f: &[u8], w: &mut [u32], n: u32, left: u32) -> Typed
+    ensures { λ r. ⌜ Generates (now (f .entry)) (now (w .entry)) n left (now (w .exit)) r ⌝ }
+{
+    let e = tree::node_at(f, w, n);
+    match e {
+        Node::Disjunction(items) => {
+            let r = branches(f, w, items, left);
+            match r {
+                Typed::Got(t, l) => {
+                    cells::annotate(w, n, t);
+                    Typed::Got(t, l)
+                }
+                Typed::Out => Typed::Out,
+            }
+        }
+        _ => infer(f, w, n, left),
+    }
+}
+
+fn branches(f: &[u8], w: &mut [u32], items: Items, left: u32) -> Typed
+    requires { ⌜ (0 < items .n → 0 < items .below) × (items .at < 2147483648) ⌝ }
+    ensures { λ r. ⌜ Branches (now (f .entry)) (now (w .entry)) items left (now (w .exit)) r ⌝ }
+{
+    let n = items.n;
+    let mut i: u32 = 0;
+    let mut rest = left;
+    let mut last = Ty::Error;
+    while i < n {
+        let e = tree::item_at(f, items, i);
+        let r = generator(f, w, e, rest);
+        match r {
+            Typed::Got(t, l) => {
+                last = t;
+                rest = l;
+            }
+            Typed::Out => {
+                return Typed::Out;
+            }
+        }
+        i += 1;
+    }
+    Typed::Got(last, rest)
+}
+
+fn only(r: Typed) -> Done
+    ensures { λ x. ⌜ x ≡ onlyW r ⌝ }
+{
+    match r {
+        Typed::Got(_, l) => Done::On(l),
+        Typed::Out => Done::Out,
+    }
+}
+
+// `bind` and `deny` with a variable on the left.
+fn bind_variable(f: &[u8], w: &mut [u32], symbol: u32, lhs: u32, rhs: u32, left: u32) -> Done
+    ensures { λ r. ⌜ BindsVariable (now (f .entry)) (now (w .entry)) symbol lhs rhs left (now (w .exit)) r ⌝ }
+{
+    let var = introduce(w, symbol);
+    cells::annotate(w, lhs, Ty::Var(var));
+    let r = infer(f, w, rhs, left);
+    match r {
+        Typed::Got(t, l) => steps::unify_at(w, rhs, t, Ty::Var(var), l),
+        Typed::Out => Done::Out,
+    }
+}
+
+fn bad_target(f: &[u8], w: &mut [u32], lhs: u32, rhs: u32, left: u32) -> Done
+    ensures { λ r. ⌜ BadTargets (now (f .entry)) (now (w .entry)) lhs rhs left (now (w .exit)) r ⌝ }
+{
+    reject(w, lhs, Code::RejectBindLhs);
+    only(infer(f, w, rhs, left))
+}
+
+fn not_yet(f: &[u8], w: &mut [u32], lhs: u32, rhs: u32, left: u32) -> Done
+    ensures { λ r. ⌜ NotYets (now (f .entry)) (now (w .entry)) lhs rhs left (now (w .exit)) r ⌝ }
+{
+    reject(w, lhs, Code::NyiBindUnification);
+    let r = infer(f, w, lhs, left);
+    match r {
+        Typed::Got(_, l) => only(infer(f, w, rhs, l)),
+        Typed::Out => Done::Out,
+    }
+}
+
+fn destructure(f: &[u8], w: &mut [u32], lhs: u32, rhs: u32, left: u32) -> Done
+    ensures { λ r. ⌜ Destructures (now (f .entry)) (now (w .entry)) lhs rhs left (now (w .exit)) r ⌝ }
+{
+    let p = infer(f, w, lhs, left);
+    match p {
+        Typed::Got(pattern, l) => {
+            let v = infer(f, w, rhs, l);
+            match v {
+                Typed::Got(value, m) => steps::unify_at(w, rhs, value, pattern, m),
+                Typed::Out => Done::Out,
+            }
+        }
+        Typed::Out => Done::Out,
+    }
+}
+
+fn bind(f: &[u8], w: &mut [u32], lhs: u32, rhs: u32, left: u32) -> Done
+    ensures { λ r. ⌜ Binds (now (f .entry)) (now (w .entry)) lhs rhs left (now (w .exit)) r ⌝ }
+{
+    let e = tree::node_at(f, w, lhs);
+    match e {
+        Node::Wildcard => {
+            let r = infer(f, w, rhs, left);
+            match r {
+                Typed::Got(t, l) => {
+                    cells::annotate(w, lhs, t);
+                    Done::On(l)
+                }
+                Typed::Out => Done::Out,
+            }
+        }
+        Node::Var(symbol) => bind_variable(f, w, symbol, lhs, rhs, left),
+        Node::Record(_) => {
+            if steps::destructurable(f, w, lhs) {
+                destructure(f, w, lhs, rhs, left)
+            } else {
+                not_yet(f, w, lhs, rhs, left)
+            }
+        }
+        Node::Int | Node::Str | Node::Bytes | Node::Prefix(_) => bad_target(f, w, lhs, rhs, left),
+        Node::Error => only(infer(f, w, rhs, left)),
+        _ => not_yet(f, w, lhs, rhs, left),
+    }
+}
+
+fn deny(f: &[u8], w: &mut [u32], lhs: u32, rhs: u32, left: u32) -> Done
+    ensures { λ r. ⌜ Denies (now (f .entry)) (now (w .entry)) lhs rhs left (now (w .exit)) r ⌝ }
+{
+    let e = tree::node_at(f, w, lhs);
+    match e {
+        Node::Var(symbol) => bind_variable(f, w, symbol, lhs, rhs, left),
+        Node::Wildcard | Node::Int | Node::Str | Node::Bytes | Node::Prefix(_) => bad_target(
+            f,
+            w,
+            lhs,
+            rhs,
+            left,
+        ),
+        Node::Error => only(infer(f, w, rhs, left)),
+        _ => not_yet(f, w, lhs, rhs, left),
+    }
+}
+
+fn compare(f: &[u8], w: &mut [u32], lhs: u32, rhs: u32, left: u32) -> Done
+    ensures { λ r. ⌜ Compares (now (f .entry)) (now (w .entry)) lhs rhs left (now (w .exit)) r ⌝ }
+{
+    steps::introduce_side(f, w, lhs);
+    steps::introduce_side(f, w, rhs);
+    let x = infer(f, w, lhs, left);
+    match x {
+        Typed::Got(a, l) => {
+            let y = infer(f, w, rhs, l);
+            match y {
+                Typed::Got(b, m) => steps::compare_types(w, lhs, rhs, a, b, m),
+                Typed::Out => Done::Out,
+            }
+        }
+        Typed::Out => Done::Out,
+    }
+}
+
+fn stmt(f: &[u8], w: &mut [u32], at: usize, below: u32, left: u32) -> Done
+    requires { ⌜ (0 < below) × (at < 2147483648) ⌝ }
+    ensures { λ r. ⌜ States (now (f .entry)) (now (w .entry)) at below left (now (w .exit)) r ⌝ }
+{
+    let s = tree::stmt_at(f, at, below);
+    match s {
+        Stmt::Implicit(n) => only(generator(f, w, n, left)),
+        Stmt::Negation(n) => only(generator(f, w, n, left)),
+        Stmt::Bind(lhs, rhs) => bind(f, w, lhs, rhs, left),
+        Stmt::Deny(lhs, rhs) => deny(f, w, lhs, rhs, left),
+        Stmt::Compare(lhs, rhs) => compare(f, w, lhs, rhs, left),
+    }
+}
+
+fn stmts(f: &[u8], w: &mut [u32], body: Stmts, left: u32) -> Done
+    requires { ⌜ (0 < body .below) × (body .end < 2147483648) ⌝ }
+    ensures { λ r. ⌜ StatesAll (now (f .entry)) (now (w .entry)) body left (now (w .exit)) r ⌝ }
+{
+    let end = body.end;
+    let below = body.below;
+    let mut at = body.at;
+    let mut rest = left;
+    while at < end {
+        let d = stmt(f, w, at, below, rest);
+        match d {
+            Done::On(l) => {
+                rest = l;
+            }
+            Done::Out => {
+                return Done::Out;
+            }
+        }
+        at += tree::stmt_size(f, at);
+    }
+    Done::On(rest)
+}
+
+// The query of the file that was read: every type and diagnostic is then in the slice. The head is inferred last.
+pub fn query(f: &[u8], w: &mut [u32], ceiling: u32) -> Done
+    ensures { λ r. ⌜ Queries (now (f .entry)) (now (w .entry)) ceiling (now (w .exit)) r ⌝ }
+{
+    steps::begin(w);
+    let head = tree::query_head(f, w);
+    let d = stmts(f, w, tree::query_body(w), ceiling);
+    match d {
+        Done::On(l) => {
+            steps::check_head(f, w, head);
+            only(infer(f, w, head, l))
+        }
+        Done::Out => Done::Out,
+    }
+}

@@ -1,0 +1,140 @@
+-- The steps that the cycle asks for besides those on the head of a type: a report, a rollback, the environment cut back, both bounds of
+-- a fuzzy pattern, a unification. Each goes beside its namesake of meaning/specs/Check.antt.
+use mathlib.Core.Bool.{Bool, true, false}
+use mathlib.Core.List.{List}
+use mathlib.Core.Option.{Option, none, some}
+use mathlib.Core.Path.{_≡_, refl, sym, _∙_, ap}
+use native.Mathlib.Omega.{arith}
+use Prim.Native.Nat.{ℕ, zero, suc, _+_, _-_, _<_, _≤_}
+use lib.Dec.{ltb}
+use lib.ListN.{length, getD, set}
+use borrow.Author.Tests.{ne-eqb}
+use Rattle.unification.specs.Bindings as Bindings
+use Rattle.unification.specs.Bindings.{State, withHistory}
+use Rattle.unification.specs.Unify as Unify
+use Rattle.unification.proofs.Undo.{rewind-left}
+use Rattle.unification.proofs.Kept as Kept
+use Rattle.work.specs.Layout.{ENV-LEN, TYS, END}
+use Rattle.cells.specs.declared.Ty.{Ty}
+use Rattle.cells.specs.declared.TyError.{TyError}
+use Rattle.cells.specs.declared.TyError.the-variants as TyError
+use Rattle.cells.specs.declared.Unified.{Unified}
+use Rattle.cells.specs.Words.{pick}
+use Rattle.cells.specs.Stands.{Rows, tree, Keeps}
+use Rattle.cells.specs.Contracts as Cells
+use Rattle.cells.specs.Contracts.{errorOf, Unifies}
+use Rattle.cells.proofs.Frame.{more-refl, keeps-wider}
+use Rattle.meaning.specs.File.{Described}
+use Rattle.meaning.specs.Check as Check
+use Rattle.meaning.specs.Check.{Checker, Does, goes}
+use Rattle.meaning.proofs.Meets.{Grade, Orderly, Meets}
+use Rattle.meaning.proofs.Steps.{no-thing, one-diagnostic, Nothing, reject-meets, reject-if}
+use Rattle.state.specs.declared.Code.{Code}
+use Rattle.state.specs.declared.Code.the-variants as Code
+use Rattle.state.specs.Words.{codeOf, rejectW}
+use Rattle.state.proofs.Running.{runs-slots, grew-slots}
+use Rattle.state.proofs.Scoping.{runs-env-length, cut-runs, cut-grew, rollback-runs, rollback-grew}
+use Rattle.steps.specs.Ends.{silent, unified, Ends, went, spent}
+use Rattle.steps.specs.Loads.{Load, only, both, Holds, Begins, Beside}
+use Rattle.steps.specs.Contracts.{nodesOf, Reports, RollsTo, Cuts, Fuzzes, UnifiesTo}
+use Rattle.steps.specs.Outside.{reportCode, fuzzyDistanceW, fuzzyTermW, Rewinds}
+use Rattle.steps.proofs.Ending.{reject-ends}
+use Rattle.steps.proofs.Sequel.{ends-here}
+use Rattle.steps.proofs.Results.{then-silent}
+
+-- ---- `report`
+report-code : (T : Rows) (err : TyError) → Check.codeOf (errorOf T err) ≡ codeOf (reportCode err)
+unfolding Check.codeOf
+report-code T (TyError.Mismatch e g) = refl
+report-code T (TyError.UnionMismatch d e g) = refl
+report-code T (TyError.UnknownField n) = refl
+report-code T TyError.Infinite = refl
+
+pub reports : (f w : List ℕ) (n : ℕ) (err : TyError) (left : ℕ) → Reports f w n err left (rejectW w n (reportCode err))
+unfolding Check.report
+reports f w n err left d there = record { is = λ T c B u. rw (report-code T err) (reject-ends B n there (reportCode err)) }
+
+-- ---- The environment cut back
+pub cuts : (f w : List ℕ) (scope : ℕ) → Cuts f w scope (set w ENV-LEN scope)
+unfolding Check.truncateEnv
+cuts f w scope d left = record {
+  is = λ T c B within.
+      let h : scope ≤ getD w ENV-LEN 0 = omega (arith, runs-env-length (B .runs)) in
+      went (record { T′ = T; more = more-refl; runs = cut-runs (B .sound) (B .runs) scope h; grew = cut-grew (B .sound) (B .runs) scope h; is = B .visits });
+}
+
+-- ---- `rollback`
+rollback-visits : (st : State) (at : Bindings.Snapshot) → Bindings.rollback st at .left ≡ st .left
+unfolding Bindings.rollback withHistory
+rollback-visits st at = rewind-left (length (st .undo) - at .undo) (st .undo) st
+
+pub rolls : (f w : List ℕ) {undo env : ℕ} {w′ : List ℕ} → Rewinds w undo env w′ → RollsTo f w undo env w′
+unfolding Check.rollback Check.truncateEnv Check.withState
+rolls f w {w′ = w′} X d left at p q = rw (← q) (back (rw (← p, ← q) at X))
+  where
+    back : Rewinds w (at .state .undo) (at .env) w′ → Beside f w left w′ (silent left) d (only no-thing) (λ T c. at .env ≤ length (c .env)) (λ T. Check.rollback at)
+    back X = record {
+      is = λ T c B within.
+          let h : at .env ≤ getD w ENV-LEN 0 = omega (arith, runs-env-length (B .runs)) in
+          rw (X .cut) (went (record {
+            T′ = T;
+            more = more-refl;
+            runs = rollback-runs (B .sound) (B .runs) (X .back) (at .state .past) (at .env) h;
+            grew = rollback-grew (B .sound) (B .runs) (X .back) (at .state .past) (at .env) h;
+            is = rollback-visits (c .state) (at .state) ∙ B .visits;
+          }));
+    }
+
+-- ---- Both bounds of a fuzzy pattern
+module _ {f w : List ℕ} {T : Rows} {d : Described} {left : ℕ} {c : Checker} (B : Begins f w T d (only one-diagnostic) left c) (n : ℕ) (there : n < length (nodesOf d)) where
+  -- By a test.
+  reject-if-ends : (code : Code) (b : Bool)
+      → Ends f w (pick b (rejectW w n code) w) T d 0 0 (silent left) ((elim b as (λ b. Does (Unit {0})) [ true ↦ Check.reject (d .schema) (nodesOf d) n (codeOf code) | false ↦ (λ c. goes tt c) ]) c)
+  reject-if-ends code true = reject-ends B n there code
+  reject-if-ends code false = ends-here tt c (B .runs) (B .visits)
+
+  distance-ends : (distance : ℕ) → Ends f w (fuzzyDistanceW w n distance) T d 0 0 (silent left) (Check.fuzzyDistance (d .schema) (nodesOf d) n distance c)
+  unfolding Check.fuzzyDistance fuzzyDistanceW
+  distance-ends zero = reject-ends B n there Code.RejectFuzzyDistance
+  distance-ends (suc e) = rw (ne-eqb (suc e) 0 (λ q. omega arith), B .runs .stands .schema .distance) (reject-if-ends Code.RejectFuzzyDistance (ltb (d .schema .maxDistance) (suc e)))
+
+  term-ends : (term : ℕ) → term < length (d .schema .characters) → Ends f w (fuzzyTermW w n term) T d 0 0 (silent left) (Check.fuzzyTerm (d .schema) (nodesOf d) n term c)
+  unfolding Check.fuzzyTerm fuzzyTermW
+  term-ends term name = rw (B .runs .stands .schema .term, B .runs .stands .schema .characters term name) (reject-if-ends Code.RejectFuzzyTerm (ltb (d .schema .maxTermChars) (getD (d .schema .characters) term 0)))
+
+distance-meets : (d : Described) (n distance : ℕ) (c : Checker) → Orderly c → Meets Nothing one-diagnostic c (Check.fuzzyDistance (d .schema) (nodesOf d) n distance c)
+unfolding Check.fuzzyDistance
+distance-meets d n zero c o = reject-meets (d .schema) (nodesOf d) n _ c o
+distance-meets d n (suc e) c o = reject-if (d .schema) (nodesOf d) n _ c o (ltb (d .schema .maxDistance) (suc e))
+
+pub fuzzes : (f w : List ℕ) (n term distance left : ℕ) → Fuzzes f w n term distance left (fuzzyTermW (fuzzyDistanceW w n distance) n term)
+fuzzes f w n term distance left d there name = record {
+  is = λ T c B u.
+      then-silent one one (only (record { nodes = λ x. 0; unknowns = 0; diagnostics = 2 })) (record { grade = record { nodes = λ x. omega arith; unknowns = omega arith; diagnostics = omega arith }; records = omega arith; fields = omega arith })
+      Nothing (Check.fuzzyDistance (d .schema) (nodesOf d) n distance c) (λ v. Check.fuzzyTerm (d .schema) (nodesOf d) n term) B
+      (λ y. distance-meets d n distance c (B .orderly)) (λ s. distance-ends s n there distance) (λ T₁ b a x. term-ends (a .begins) n there term name);
+}
+  where
+    one : Load
+    one = only one-diagnostic
+
+-- ---- `unify`
+module _ {f w w′ : List ℕ} {T : Rows} {d : Described} {left : ℕ} {c : Checker} {r : Unified} (B : Begins f w T d (only no-thing) left c) where
+  unified-ends : (res : Unify.Unified) → Cells.Ends w w′ T r res → Kept.After (Kept.Kept (c .state)) res → Ends f w w′ T d 0 0 (unified r) (Check.unified c res)
+  unfolding Check.unified Check.withState Cells.Ends
+  unified-ends (Unify.Ok st) e k =
+      let K : Keeps TYS END w w′ = keeps-wider (omega arith) (omega arith) (e .1 .keeps) in
+      went (record { T′ = T; more = more-refl; runs = runs-slots (B .sound) (B .runs) K (e .1 .holds) (ap length (k .tys)); grew = grew-slots (B .sound) (B .runs) K; is = e .0 })
+  unified-ends (Unify.Err x st) e k =
+      let K : Keeps TYS END w w′ = keeps-wider (omega arith) (omega arith) (e .3 .keeps) in
+      went {a = some x} (record { T′ = T; more = more-refl; runs = runs-slots (B .sound) (B .runs) K (e .3 .holds) (ap length (k .tys)); grew = grew-slots (B .sound) (B .runs) K; is = (e .0, e .1, e .2) })
+  unified-ends (Unify.Spent st) e k = spent (e .0)
+
+pub unifies : (f w : List ℕ) {got expected : Ty} {left : ℕ} {w′ : List ℕ} {r : Unified} → Unifies w got expected left w′ r → UnifiesTo f w got expected left w′ r
+unfolding Check.unify Unify.unify
+unifies f w {got} {expected} U d = record {
+  is = λ T c B fine.
+      unified-ends B (Unify.unify (c .state) (tree T got) (tree T expected))
+      (U .is T (c .state) (B .runs .holds) (B .visits) (fine .0 .ok) (fine .1 .ok) (c .state .left) (omega (arith, B .visits)))
+      (Kept.unify-kept (c .state) (tree T got) (tree T expected));
+}

@@ -1,0 +1,114 @@
+-- How the steps outside of the cycle end: at once with a type in hand, or after one diagnostic. The room for it is the load's.
+use mathlib.Core.List.{List, _∷_}
+use mathlib.Core.Option.{Option, none, some}
+use mathlib.Core.Path.{_≡_, refl, sym, _∙_, ap}
+use native.Mathlib.Omega.{arith}
+use Prim.Native.Nat.{ℕ, zero, suc, _+_, _<_, _≤_}
+use lib.ListN.{length, getD}
+use Rattle.unification.specs.Ty as Tree
+use Rattle.unification.specs.Bindings as Bindings
+use Rattle.unification.proofs.Tests.{clash}
+use Rattle.work.specs.Layout.{ENV-LEN, DIAGNOSTIC-COUNT, UNKNOWNS}
+use Rattle.cells.specs.declared.Ty.{Ty}
+use Rattle.cells.specs.declared.Ty.the-variants.{Error}
+use Rattle.cells.specs.Words.{annotateW, freshW}
+use Rattle.cells.specs.Stands.{Rows, tree, Ok}
+use Rattle.cells.proofs.Holding.{annotate-keeps}
+use Rattle.cells.proofs.Frame.{more-refl}
+use Rattle.meaning.specs.Syntax.{Node}
+use Rattle.meaning.specs.Diag.{Diagnostic}
+use Rattle.meaning.specs.File.{Described}
+use Rattle.meaning.specs.Check as Check
+use Rattle.meaning.specs.Check.{Checker, Step, goes, andThen, lookupIn}
+use Rattle.meaning.proofs.Steps.{one-diagnostic, same-self}
+use Rattle.state.specs.declared.Code.{Code}
+use Rattle.state.specs.Words.{codeOf, rejectW, Introduces}
+use Rattle.state.specs.Runs.{diagnosticsOf, Runs}
+use Rattle.state.proofs.Running.{grew-refl, annotate-runs, grew-slots, fresh-runs, fresh-grew}
+use Rattle.state.proofs.Scoping.{runs-env-length, Gives, introduce-runs}
+use Rattle.state.proofs.Reporting.{reject-runs, reject-grew}
+use Rattle.steps.specs.declared.Typed.{Typed}
+use Rattle.steps.specs.declared.Typed.the-variants as Typed
+use Rattle.steps.specs.Ends.{typed, silent, numbered, Ends, went}
+use Rattle.steps.specs.Loads.{Load, only, Begins}
+use Rattle.steps.specs.Contracts.{nodesOf, Rejects, Notes, Freshens, Brings}
+
+diagnostics-length : (nodes : List Node) (w : List ℕ) (n : ℕ) → length (diagnosticsOf nodes w n) ≡ n
+unfolding diagnosticsOf
+diagnostics-length nodes w zero = refl
+diagnostics-length nodes w (suc n) = ap suc (diagnostics-length nodes w n)
+
+pub runs-diagnostics-length : {f w : List ℕ} {T : Rows} {d : Described} {c : Checker} → Runs f w T d c → length (c .diagnostics) ≡ getD w DIAGNOSTIC-COUNT 0
+runs-diagnostics-length {f} {w} {T} {d} R = ap (λ (ds : List Diagnostic). length ds) (R .diagnostics) ∙ diagnostics-length (d .ast .nodes) w (getD w DIAGNOSTIC-COUNT 0)
+
+module _ {f w : List ℕ} {T : Rows} {d : Described} {left : ℕ} {c : Checker} (B : Begins f w T d (only one-diagnostic) left c) where
+  -- A type in hand comes back.
+  pub ends-with : (t : Ty) (ty : Tree.Ty) → Ok w t → tree T t ≡ ty → Ends f w w T d 0 0 (typed w (Typed.Got t left)) (goes ty c)
+  ends-with t ty o e = went (record { T′ = T; more = more-refl; runs = B .runs; grew = grew-refl; is = record { t = t; res = ap (Typed.Got t) (sym (B .visits)); ok = o; is = e } })
+
+  module _ (n : ℕ) (there : n < length (nodesOf d)) (code : Code) where
+    room : getD w DIAGNOSTIC-COUNT 0 < 1536
+    room = omega (arith, runs-diagnostics-length (B .runs), B .free .diagnostics)
+
+    pub reject-ends : Ends f w (rejectW w n code) T d 0 0 (silent left) (Check.reject (d .schema) (nodesOf d) n (codeOf code) c)
+    unfolding Check.reject
+    reject-ends = went (record { T′ = T; more = more-refl; runs = reject-runs (B .sound) (B .runs) n code room there; grew = reject-grew (B .sound) (B .runs) n code room there; is = B .visits })
+
+    -- `reject_ty`
+    pub reject-ty-ends : {w′ : List ℕ} {r : Typed} → (r ≡ Typed.Got Error left) × (w′ ≡ rejectW w n code) → Ends f w w′ T d 0 0 (typed w′ r) (Check.rejectTy (d .schema) (nodesOf d) n (codeOf code) c)
+    unfolding Check.rejectTy Check.reject andThen
+    reject-ty-ends e = rw (e .0, e .1) (went (record {
+      T′ = T;
+      more = more-refl;
+      runs = reject-runs (B .sound) (B .runs) n code room there;
+      grew = reject-grew (B .sound) (B .runs) n code room there;
+      is = record { t = Error; res = ap (Typed.Got Error) (sym (B .visits)); ok = tt; is = refl };
+    }))
+
+pub rejects : (f w : List ℕ) (n : ℕ) (code : Code) (left : ℕ) → Rejects f w n (codeOf code) left (rejectW w n code)
+rejects f w n code left d there = record { is = λ T c B u. reject-ends B n there code }
+
+-- ---- A node's type, and a new unknown
+pub notes : (f w : List ℕ) (n : ℕ) (t : Ty) (left : ℕ) → Notes f w n t left (annotateW w n t)
+unfolding Check.annotate Check.withState Bindings.annotate
+notes f w n t left d there = record {
+  is = λ T c B fine.
+      let R = B .runs in
+      let free = B .free .ready .bare n (omega (arith, same-self n)) in
+      went (record { T′ = T; more = more-refl; runs = annotate-runs (B .sound) R n t (omega (arith, R .nodes)) free (fine .ok); grew = grew-slots (B .sound) R (annotate-keeps w n t); is = B .visits });
+}
+
+pub freshens : (f w : List ℕ) (left : ℕ) → Freshens f w left (freshW w) (getD w UNKNOWNS 0)
+unfolding Check.freshVarId Check.withState Bindings.freshId Bindings.fresh
+freshens f w left d = record {
+  is = λ T c B u.
+      let R = B .runs in
+      let few : length (c .state .subst) < 512 = omega (arith, B .free .unknowns) in
+      went (record { T′ = T; more = more-refl; runs = fresh-runs (B .sound) R few; grew = fresh-grew (B .sound) R few; is = (sym (R .holds .binds .unknowns), B .visits) });
+}
+
+-- ---- A variable's unknown
+given : {f w w′ : List ℕ} {T : Rows} {d : Described} {left x : ℕ} (c : Checker) (s : Step ℕ) → c .state .left ≡ left → Gives f w w′ T d s x → ((b : Checker) → s ≡ goes x b → b .state .left ≡ c .state .left) → Ends f w w′ T d 0 0 (numbered x left) s
+given c s v G same = rw (G .step) (went (record { T′ = _; more = more-refl; runs = G .runs; grew = G .grew; is = (refl, same (G .after) (G .step) ∙ v) }))
+
+introduce-left : (symbol x : ℕ) (c b : Checker) → Check.introduce symbol c ≡ goes x b → b .state .left ≡ c .state .left
+unfolding Check.introduce Check.lookup Check.freshVarId Check.pushEnv Check.withState andThen Bindings.fresh
+introduce-left symbol x c b e = go (lookupIn (c .env) symbol) refl
+  where
+    go : (o : Option ℕ) → lookupIn (c .env) symbol ≡ o → b .state .left ≡ c .state .left
+    go (some v) q = let z : goes v c ≡ goes x b = rw (q, Check.introduce) at e in let k : c ≡ b = cc z in ap (λ (k : Checker). k .state .left) (sym k)
+    go none q = let z = rw (q, Check.introduce) at e in
+        let k : record { state = Bindings.fresh (c .state); env = (symbol, Bindings.freshId (c .state)) ∷ c .env; diagnostics = c .diagnostics } ≡ b = cc z in
+        ap (λ (k : Checker). k .state .left) (sym k)
+
+pub brings : (f w : List ℕ) (symbol left : ℕ) (w′ : List ℕ) (x : ℕ) → Introduces w symbol w′ x → Brings f w symbol left w′ x
+brings f w symbol left w′ x I = record {
+  is = λ d small. record {
+    is = λ T c B u.
+        let room : lookupIn (c .env) symbol ≡ none → (length (c .state .subst) < 512) × (getD w ENV-LEN 0 < 512) = λ q. (omega (arith, B .free .unknowns), omega (arith, B .free .unknowns, B .orderly .few, runs-env-length (B .runs))) in
+        given c (Check.introduce symbol c) (B .visits) (introduce-runs (B .sound) (B .runs) small room I) (introduce-left symbol x c);
+  };
+  found = λ d small. record {
+    is = λ T c B known. given c (Check.introduce symbol c) (B .visits) (introduce-runs (B .sound) (B .runs) small (λ q. clash (cc (q, known .1))) I) (introduce-left symbol x c);
+  };
+}

@@ -1,0 +1,12 @@
+pub mod Growing
+pub mod Sequel
+pub mod Results
+pub mod Looking
+pub mod Ending
+pub mod Accessing
+pub mod Reading
+pub mod Forms
+pub mod Unvisited
+pub mod Besides
+pub mod Uniting
+pub mod Starting

@@ -1,0 +1,33 @@
+use borrow.Author.Needs.{needs}
+use Rattle.steps.proofs.fuzzy_term.Statement.{statement}
+use Rattle.steps.proofs.fuzzy_term.Tie as tie
+use Rattle.steps.proofs.fuzzy_term.Reads as reads
+use Rattle.steps.proofs.fuzzy_term.Lts as lts
+use Rattle.state.proofs.reject.Reads as reject-reads
+use Rattle.work.proofs.wide.Reads as wide-reads
+use Rattle.work.proofs.word.Reads as word-reads
+use native.Mathlib.Omega.{arith}
+use borrow.Author.Tests.{lt-ltb, le-ltb}
+use Rattle.steps.specs.Outside.{fuzzyTermW}
+
+returns : tie.Need-returns
+unfolding fuzzyTermW
+returns c = simp (c .before .before .reject .ensures, lt-ltb _ _ (rw (c .before .before .before .before .before .before .before .before .word .ensures, c .before .before .before .before .before .word2 .ensures, c .before .before .before .before .before .before .wide .ensures .0) at (c .before .before .before .before .if1 .taken)))
+
+returns-2 : tie.Need-returns-2
+unfolding fuzzyTermW
+returns-2 c = simp (le-ltb _ _ (rw (c .before .before .before .before .word .ensures, c .before .word2 .ensures, c .before .before .wide .ensures .0) at (c .if1 .left)))
+
+pub fuzzy-term-spec : {M : Type 1} → statement M
+fuzzy-term-spec =
+    tie.close
+    (tie.spec
+    (λ c κs. search needs)
+    (λ c κs. search needs)
+    (λ c. search needs)
+    (λ c κs. search needs)
+    (λ c κs. search needs)
+    (λ c. search needs)
+    returns
+    (λ c. search needs)
+    returns-2)

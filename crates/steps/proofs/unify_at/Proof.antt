@@ -1,0 +1,27 @@
+-- Made from Proof.ans by tools/answers, ab23edd861b3a2d6.
+-- The definition's unification, and where it fails one diagnostic.
+use borrow.Author.Needs.{needs}
+use Rattle.steps.proofs.unify_at.Statement.{statement}
+use Rattle.steps.proofs.unify_at.Tie as tie
+use Rattle.steps.proofs.unify_at.Reads as reads
+use Rattle.steps.proofs.unify_at.Lts as lts
+use Rattle.cells.proofs.unify.Reads as unify-reads
+use Rattle.steps.proofs.report.Reads as report-reads
+use native.Mathlib.Omega.{arith}
+use Rattle.steps.proofs.Uniting.{unite-good, unite-bad, unite-spent}
+
+pub unify-at-spec : {M : Type 1} → statement M
+unify-at-spec =
+    tie.close
+    (tie.spec
+    (λ c κs. search needs)
+    (λ c. search needs)
+    (λ c. search needs)
+    (λ c κs. search needs)
+    (λ c. search needs)
+    (λ c. search needs)
+    (λ c. unite-good _ (c .before .before .before .before .before .unify .ensures) (c .before .r .given .1))
+    (λ c. search needs)
+    (λ c. unite-bad _ (c .before .before .before .before .before .before .before .before .before .unify .ensures) (c .before .before .before .before .before .r2 .given .1) (c .before .before .report .ensures))
+    (λ c. search needs)
+    (λ c. unite-spent _ (c .before .before .before .before .unify .ensures) (c .enum-told .given .1)))

@@ -1,0 +1,76 @@
+-- How a step of the code ends beside a step of the definition: the words after stand for the checker after, over rows that hold
+-- those of before.
+use mathlib.Core.List.{List}
+use mathlib.Core.Option.{Option, none, some}
+use mathlib.Core.Path.{_≡_}
+use Prim.Native.Nat.{ℕ}
+use Rattle.unification.specs.Ty as Tree
+use Rattle.unification.specs.Unify as Unify
+use Rattle.cells.specs.declared.Ty.{Ty}
+use Rattle.cells.specs.declared.TyError.{TyError}
+use Rattle.cells.specs.declared.Unified.{Unified}
+use Rattle.cells.specs.declared.Unified.the-variants as Unified
+use Rattle.cells.specs.Stands.{Rows, tree, Ok}
+use Rattle.cells.specs.Contracts.{errorOf}
+use Rattle.meaning.specs.File.{Described}
+use Rattle.meaning.specs.Check.{Checker, Step, goes, out}
+use Rattle.cells.specs.Inferred.{More}
+use Rattle.state.specs.Runs.{Runs, Grew}
+use Rattle.steps.specs.declared.Typed.{Typed}
+use Rattle.steps.specs.declared.Typed.the-variants as Typed
+use Rattle.steps.specs.declared.Done.{Done}
+use Rattle.steps.specs.declared.Done.the-variants as Done
+
+-- ---- What the code gives back
+
+-- For a value of the definition, with the visits left; and where the visits ran out.
+pub record Result (A : Type 0) : Type 1 where
+  pub Is : Rows → A → ℕ → Type 0
+  pub Out : Type 0
+
+-- A type in hand stands for the definition's.
+pub record IsTyped (w : List ℕ) (r : Typed) (T : Rows) (ty : Tree.Ty) (left : ℕ) : Type 0 where
+  pub t : Ty
+  pub res : r ≡ Typed.Got t left
+  pub ok : Ok w t
+  pub is : tree T t ≡ ty
+
+abbrev pub typed : List ℕ → Typed → Result Tree.Ty
+typed w r = record { Is = λ T ty left. IsTyped w r T ty left; Out = r ≡ Typed.Out }
+
+abbrev pub done : Done → Result (Unit {0})
+done r = record { Is = λ T u left. r ≡ Done.On left; Out = r ≡ Done.Out }
+
+-- The type is left out.
+abbrev pub counted : Done → Result Tree.Ty
+counted r = record { Is = λ T ty left. r ≡ Done.On left; Out = r ≡ Done.Out }
+
+-- Nothing comes back, and no visits are spent.
+abbrev pub silent : ℕ → Result (Unit {0})
+silent left = record { Is = λ T u l. l ≡ left; Out = ⊥ }
+
+-- An unknown's number comes back, and no visits are spent.
+abbrev pub numbered : ℕ → ℕ → Result ℕ
+numbered x left = record { Is = λ T v l. (x ≡ v) × (l ≡ left); Out = ⊥ }
+
+-- A unification succeeds, or the error in hand stands for the definition's.
+abbrev pub IsUnified : Unified → Rows → Option Unify.TyError → ℕ → Type 0
+IsUnified r T none left = r ≡ Unified.Good left
+IsUnified r T (some e) left = (x : TyError) × (r ≡ Unified.Bad x left) × (errorOf T x ≡ e)
+
+abbrev pub unified : Unified → Result (Option Unify.TyError)
+unified r = record { Is = λ T e left. IsUnified r T e left; Out = r ≡ Unified.Spent }
+
+-- ---- The end
+
+-- At most n records and m fields of records were made.
+pub record Gone {A : Type 0} (f w w′ : List ℕ) (T : Rows) (d : Described) (n m : ℕ) (E : Result A) (a : A) (c : Checker) : Type 0 where
+  pub T′ : Rows
+  pub more : More w T T′
+  pub runs : Runs f w′ T′ d c
+  pub grew : Grew w w′ n m
+  pub is : E .Is T′ a (c .state .left)
+
+pub data Ends {A : Type 0} (f w w′ : List ℕ) (T : Rows) (d : Described) (n m : ℕ) (E : Result A) : Step A → Type 0 where
+  went : {a : A} {c : Checker} → Gone f w w′ T d n m E a c → Ends f w w′ T d n m E (goes a c)
+  spent : {c : Checker} → E .Out → Ends f w w′ T d n m E (out c)

@@ -1,0 +1,118 @@
+-- What the steps outside of the cycle promise (src/steps.rt): those that read or write words say which; the others go beside their
+-- namesakes of meaning/specs/Check.antt.
+use mathlib.Core.Bool.{Bool, true, false}
+use mathlib.Core.List.{List}
+use mathlib.Core.Path.{_≡_}
+use Prim.Native.Nat.{ℕ, _+_, _*_, _/_, _%_, _<_}
+use lib.Dec.{eqb, ltb}
+use lib.ListN.{length, getD, set}
+use Rattle.unification.specs.Ty as Tree
+use Rattle.work.specs.Layout.{PREDICATE-COUNT, MAX-DISTANCE, MAX-TERM, NAMES, PREDICATES, RECORD-COUNT, RECORD-FIELD-COUNT, ENV-LEN, DIAGNOSTIC-COUNT, UNKNOWNS, TYS, UNDO-LEN}
+use Rattle.cells.specs.declared.Ty.{Ty}
+use Rattle.cells.specs.declared.Bound.{Bound}
+use Rattle.cells.specs.declared.Bound.the-variants.{To, Free}
+use Rattle.cells.specs.declared.TyError.{TyError}
+use Rattle.cells.specs.declared.TyError.the-variants as TyError
+use Rattle.cells.specs.Words.{pick, declaredW}
+use Rattle.cells.specs.Stands.{Rows, tree, boundTree, Ok, OkBound, Cells, Keeps}
+use Rattle.cells.specs.Contracts.{RollsBack}
+use Rattle.meaning.specs.Schema.{fieldOf}
+use Rattle.meaning.specs.File.{Described}
+use Rattle.meaning.specs.Check as Check
+use Rattle.meaning.specs.Check.{Checker, Does}
+use Rattle.meaning.proofs.Steps.{one-diagnostic}
+use Rattle.state.specs.declared.Code.{Code}
+use Rattle.state.specs.declared.Code.the-variants as Code
+use Rattle.state.specs.Words.{rejectW}
+use Rattle.state.specs.Runs.{Runs}
+use Rattle.steps.specs.declared.Typed.{Typed}
+use Rattle.steps.specs.declared.Done.{Done}
+use Rattle.steps.specs.Ends.{done}
+use Rattle.steps.specs.Loads.{only, Beside}
+use Rattle.steps.specs.Contracts.{nodesOf, Fine, OnType, UnifiesAt, ComparesTypes, BringsSide, Heads, Starts}
+
+-- ---- Words
+abbrev pub reportCode : TyError → Code
+reportCode (TyError.Mismatch e g) = Code.RejectTypeMismatch
+reportCode (TyError.UnionMismatch d e g) = Code.RejectTypeMismatch
+reportCode (TyError.UnknownField n) = Code.RejectUnknownField
+reportCode TyError.Infinite = Code.RejectInfiniteType
+
+unfoldable pub keyTyW : List ℕ → ℕ → Bound
+unfolding declaredW
+keyTyW w p = pick (ltb p (getD w PREDICATE-COUNT 0)) (To (declaredW w (getD w (PREDICATES + p) 0 / 512 % 256))) Free
+
+unfoldable pub valueTyW : List ℕ → ℕ → Bound
+unfolding declaredW
+valueTyW w p =
+    pick (ltb p (getD w PREDICATE-COUNT 0))
+    (pick (eqb (getD w (PREDICATES + p) 0 % 2) 1) (To (declaredW w (getD w (PREDICATES + p) 0 / 2 % 256))) Free) Free
+
+unfoldable pub fuzzyDistanceW : List ℕ → ℕ → ℕ → List ℕ
+unfolding rejectW
+fuzzyDistanceW w n distance =
+    pick (eqb distance 0) (rejectW w n Code.RejectFuzzyDistance)
+    (pick (ltb (getD w MAX-DISTANCE 0) distance) (rejectW w n Code.RejectFuzzyDistance) w)
+
+unfoldable pub fuzzyTermW : List ℕ → ℕ → ℕ → List ℕ
+unfolding rejectW
+fuzzyTermW w n term = pick (ltb (getD w MAX-TERM 0) (getD w (NAMES + term) 0 % 512)) (rejectW w n Code.RejectFuzzyTerm) w
+
+-- The state goes back, and the environment is cut.
+pub record Rewinds (w : List ℕ) (undo env : ℕ) (w′ : List ℕ) : Type 0 where
+  pub between : List ℕ
+  pub back : RollsBack w undo between
+  pub cut : w′ ≡ set between ENV-LEN env
+
+-- ---- Look-up
+pub record FieldIs (w : List ℕ) (t : Ty) (name : ℕ) (r : Bound) : Type 0 where
+  pub is : (T : Rows) → Cells w T → Ok w t → boundTree T r ≡ fieldOf (tree T t) name
+  pub ok : (T : Rows) → Cells w T → Ok w t → OkBound w r
+
+pub record Shadows (w : List ℕ) (p : ℕ) (r : Bool) : Type 0 where
+  pub is : (f : List ℕ) (T : Rows) (d : Described) (c : Checker) → Runs f w T d c → r ≡ Check.keyShadowsValue (d .schema) (nodesOf d) p
+
+-- ---- Steps on the head of a type
+pub record OnHead (m : Described → Tree.Ty → Does Tree.Ty) (w : List ℕ) (n : ℕ) (t : Ty) (left : ℕ) (w′ : List ℕ) (r : Typed) : Type 0 where
+  pub is : (f : List ℕ) → OnType m f w n t left w′ r
+
+abbrev pub ValueOf : List ℕ → ℕ → Ty → ℕ → List ℕ → Typed → Type 0
+ValueOf w n t left w′ r = OnHead (λ d ty. Check.valueOf (d .schema) (nodesOf d) n ty) w n t left w′ r
+
+abbrev pub FieldAt : List ℕ → ℕ → ℕ → Ty → ℕ → List ℕ → Typed → Type 0
+FieldAt w n name t left w′ r = OnHead (λ d ty. Check.fieldAt (d .schema) (nodesOf d) n name ty) w n t left w′ r
+
+abbrev pub KeyOf : List ℕ → ℕ → ℕ → Ty → ℕ → List ℕ → Typed → Type 0
+KeyOf w n name t left w′ r = OnHead (λ d ty. Check.keyOf (d .schema) (nodesOf d) n name ty) w n t left w′ r
+
+abbrev pub SelectOf : List ℕ → ℕ → ℕ → Ty → ℕ → List ℕ → Typed → Type 0
+SelectOf w n name t left w′ r = OnHead (λ d ty. Check.selectOf (d .schema) (nodesOf d) n name ty) w n t left w′ r
+
+-- ---- Steps that spend visits
+pub record Unites (w : List ℕ) (n : ℕ) (got expected : Ty) (left : ℕ) (w′ : List ℕ) (r : Done) : Type 0 where
+  pub is : (f : List ℕ) → UnifiesAt f w n got expected left w′ r
+
+pub record ComparesOrder (w : List ℕ) (lhs : ℕ) (t : Ty) (left : ℕ) (w′ : List ℕ) (r : Done) : Type 0 where
+  pub is : (f : List ℕ) (d : Described) → lhs < length (nodesOf d) → Beside f w left w′ (done r) d (only one-diagnostic) (Fine w t) (λ T. Check.compareOrder (d .schema) (nodesOf d) lhs (tree T t))
+
+pub record ComparesBoth (w : List ℕ) (lhs rhs : ℕ) (a b : Ty) (left : ℕ) (w′ : List ℕ) (r : Done) : Type 0 where
+  pub is : (f : List ℕ) → ComparesTypes f w lhs rhs a b left w′ r
+
+-- ---- Steps on a node, which spend none
+pub record IntroducesSide (f w : List ℕ) (n : ℕ) (w′ : List ℕ) : Type 0 where
+  pub is : (left : ℕ) → BringsSide f w n left w′
+
+pub record ChecksHead (f w : List ℕ) (n : ℕ) (w′ : List ℕ) : Type 0 where
+  pub is : (left : ℕ) → Heads f w n left w′
+
+-- ---- The start
+unfoldable pub countersW : List ℕ → List ℕ
+countersW w = set (set (set (set (set (set w RECORD-COUNT 0) RECORD-FIELD-COUNT 0) ENV-LEN 0) DIAGNOSTIC-COUNT 0) UNKNOWNS 0) UNDO-LEN 0
+
+-- The first n nodes have no type, and only words of node types changed.
+pub record Untypes (w : List ℕ) (n : ℕ) (w′ : List ℕ) : Type 0 where
+  pub keeps : Keeps TYS UNDO-LEN w w′
+  pub untyped : (i : ℕ) → i < n → getD w′ (TYS + 2 * i) 0 ≡ 0
+
+pub record StartsRun (w w′ : List ℕ) : Type 0 where
+  pub is : (f : List ℕ) → Starts f w w′

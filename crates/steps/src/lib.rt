@@ -1,0 +1,348 @@
+// The steps of `check` outside of its cycle: they visit no node.
+ghost use mathlib.Core.Path.{_≡_};
+ghost use lib.ListN.{getD};
+ghost use Rattle.cells.specs.declared.Ty.the-variants as Ty;
+ghost use Rattle.tree.specs.Nodes.{LowerItems};
+ghost use Rattle.state.specs.Words.{rejectW};
+ghost use Rattle.steps.specs.declared.Typed.the-variants as Typed;
+ghost use Rattle.steps.specs.Outside.{reportCode, keyTyW, valueTyW, fuzzyDistanceW, fuzzyTermW, Rewinds, FieldIs, Shadows, ValueOf, FieldAt, KeyOf, SelectOf, Unites, ComparesOrder, ComparesBoth, IntroducesSide, ChecksHead, countersW, Untypes, StartsRun};
+ghost use Rattle.steps.specs.Contracts.{Asks, AsksAll};
+use cells::Asked;
+use cells::Bound;
+use cells::Found;
+use cells::Kind;
+use cells::Ty;
+use cells::TyError;
+use cells::Unified;
+use state::Code;
+use state::introduce;
+use state::reject;
+use tree::Items;
+use tree::Node;
+use work::put;
+use work::wide;
+use work::word;
+
+// A type with the visits left, or the visits ran out.
+pub enum Typed {
+    Got(Ty, u32),
+    Out,
+}
+
+// The visits left, or the visits ran out.
+pub enum Done {
+    On(u32),
+    Out,
+}
+
+// ---- State
+
+pub fn reject_ty(w: &mut [u32], n: u32, code: Code, left: u32) -> Typed
+    ensures { λ r. ⌜ (r ≡ Typed.Got Ty.Error left) × (now (w .exit) ≡ rejectW (now (w .entry)) n code) ⌝ }
+{
+    reject(w, n, code);
+    Typed::Got(Ty::Error, left)
+}
+
+pub fn report(w: &mut [u32], n: u32, err: TyError)
+    ensures { λ _. ⌜ now (w .exit) ≡ rejectW (now (w .entry)) n (reportCode err) ⌝ }
+{
+    match err {
+        TyError::Mismatch(_, _) => reject(w, n, Code::RejectTypeMismatch),
+        TyError::UnionMismatch(_, _, _) => reject(w, n, Code::RejectTypeMismatch),
+        TyError::UnknownField(_) => reject(w, n, Code::RejectUnknownField),
+        TyError::Infinite => reject(w, n, Code::RejectInfiniteType),
+    }
+}
+
+pub fn rollback(w: &mut [u32], undo: u32, env: u32)
+    ensures { λ _. ⌜ Rewinds (now (w .entry)) undo env (now (w .exit)) ⌝ }
+{
+    cells::rollback(w, undo);
+    put(w, work::ENV_LEN, env);
+}
+
+// Unifies, and reports a failure at a node.
+pub fn unify_at(w: &mut [u32], n: u32, got: Ty, expected: Ty, left: u32) -> Done
+    ensures { λ r. ⌜ Unites (now (w .entry)) n got expected left (now (w .exit)) r ⌝ }
+{
+    let r = cells::unify(w, got, expected, left);
+    match r {
+        Unified::Good(l) => Done::On(l),
+        Unified::Bad(err, l) => {
+            report(w, n, err);
+            Done::On(l)
+        }
+        Unified::Spent => Done::Out,
+    }
+}
+
+// The two sides of a comparison agree: the type must have an order.
+pub fn compare_order(w: &mut [u32], lhs: u32, t: Ty, left: u32) -> Done
+    ensures { λ r. ⌜ ComparesOrder (now (w .entry)) lhs t left (now (w .exit)) r ⌝ }
+{
+    let o = cells::orderable(w, t, left);
+    match o {
+        Asked::Yes(l) => Done::On(l),
+        Asked::No(l) => {
+            reject(w, lhs, Code::RejectTypeMismatch);
+            Done::On(l)
+        }
+        Asked::Spent => Done::Out,
+    }
+}
+
+pub fn compare_types(w: &mut [u32], lhs: u32, rhs: u32, a: Ty, b: Ty, left: u32) -> Done
+    ensures { λ r. ⌜ ComparesBoth (now (w .entry)) lhs rhs a b left (now (w .exit)) r ⌝ }
+{
+    let u = cells::unify(w, b, a, left);
+    match u {
+        Unified::Good(l) => compare_order(w, lhs, a, l),
+        Unified::Bad(err, l) => {
+            report(w, rhs, err);
+            Done::On(l)
+        }
+        Unified::Spent => Done::Out,
+    }
+}
+
+// ---- Schema
+
+pub fn key_ty(w: &[u32], p: u32) -> Bound
+    ensures { λ r. ⌜ r ≡ keyTyW (now (w .entry)) p ⌝ }
+{
+    if p < word(w, work::PREDICATE_COUNT) {
+        let x = word(w, work::PREDICATES + wide(p));
+        return Bound::To(cells::declared(w, x / 512 % 256));
+    }
+    Bound::Free
+}
+
+pub fn value_ty(w: &[u32], p: u32) -> Bound
+    ensures { λ r. ⌜ r ≡ valueTyW (now (w .entry)) p ⌝ }
+{
+    if p < word(w, work::PREDICATE_COUNT) {
+        let x = word(w, work::PREDICATES + wide(p));
+        if x % 2 == 1 {
+            return Bound::To(cells::declared(w, x / 2 % 256));
+        }
+        return Bound::Free;
+    }
+    Bound::Free
+}
+
+pub fn field_of(w: &[u32], t: Ty, name: u32) -> Bound
+    ensures { λ r. ⌜ FieldIs (now (w .entry)) t name r ⌝ }
+{
+    match t {
+        Ty::Record(c) => {
+            let found = cells::find_key(w, Kind::Fields, c, name);
+            match found {
+                Found::At(p) => {
+                    let u = p.ty;
+                    Bound::To(u)
+                }
+                Found::Nothing => Bound::Free,
+            }
+        }
+        _ => Bound::Free,
+    }
+}
+
+// A key field called `value`.
+pub fn key_shadows_value(w: &[u32], p: u32) -> bool
+    ensures { λ r. ⌜ Shadows (now (w .entry)) p r ⌝ }
+{
+    let value = word(w, work::VALUE_NAME);
+    if value == 0 {
+        return false;
+    }
+    let key = key_ty(w, p);
+    match key {
+        Bound::To(t) => {
+            let found = field_of(w, t, value - 1);
+            match found {
+                Bound::To(_) => true,
+                Bound::Free => false,
+            }
+        }
+        Bound::Free => false,
+    }
+}
+
+// ---- Access and select, on the resolved base
+
+pub fn value_of(w: &mut [u32], n: u32, base: Ty, left: u32) -> Typed
+    ensures { λ r. ⌜ ValueOf (now (w .entry)) n base left (now (w .exit)) r ⌝ }
+{
+    match base {
+        Ty::Error => Typed::Got(Ty::Error, left),
+        Ty::Fact(p) => {
+            if key_shadows_value(w, p) {
+                return reject_ty(w, n, Code::RejectValueShadowed, left);
+            }
+            let value = value_ty(w, p);
+            match value {
+                Bound::To(t) => Typed::Got(t, left),
+                Bound::Free => reject_ty(w, n, Code::RejectNoValue, left),
+            }
+        }
+        Ty::Var(_) => reject_ty(w, n, Code::RejectUnresolvedAccess, left),
+        _ => reject_ty(w, n, Code::RejectTypeMismatch, left),
+    }
+}
+
+pub fn field_at(w: &mut [u32], n: u32, name: u32, t: Ty, left: u32) -> Typed
+    ensures { λ r. ⌜ FieldAt (now (w .entry)) n name t left (now (w .exit)) r ⌝ }
+{
+    let found = field_of(w, t, name);
+    match found {
+        Bound::To(u) => Typed::Got(u, left),
+        Bound::Free => reject_ty(w, n, Code::RejectUnknownField, left),
+    }
+}
+
+// On a fact it is the key's field, and a fact of an absent predicate is an error without a diagnostic.
+pub fn key_of(w: &mut [u32], n: u32, name: u32, base: Ty, left: u32) -> Typed
+    ensures { λ r. ⌜ KeyOf (now (w .entry)) n name base left (now (w .exit)) r ⌝ }
+{
+    match base {
+        Ty::Error => Typed::Got(Ty::Error, left),
+        Ty::Fact(p) => {
+            let key = key_ty(w, p);
+            match key {
+                Bound::To(t) => field_at(w, n, name, t, left),
+                Bound::Free => Typed::Got(Ty::Error, left),
+            }
+        }
+        Ty::Record(_) => field_at(w, n, name, base, left),
+        Ty::Var(_) => reject_ty(w, n, Code::RejectUnresolvedAccess, left),
+        _ => reject_ty(w, n, Code::RejectTypeMismatch, left),
+    }
+}
+
+pub fn select_of(w: &mut [u32], n: u32, name: u32, base: Ty, left: u32) -> Typed
+    ensures { λ r. ⌜ SelectOf (now (w .entry)) n name base left (now (w .exit)) r ⌝ }
+{
+    match base {
+        Ty::Error => Typed::Got(Ty::Error, left),
+        Ty::Union(c) => {
+            let found = cells::find_name(w, c, name);
+            match found {
+                Found::At(p) => {
+                    let t = p.ty;
+                    Typed::Got(t, left)
+                }
+                Found::Nothing => reject_ty(w, n, Code::RejectUnknownAlternative, left),
+            }
+        }
+        Ty::Var(_) => reject_ty(w, n, Code::RejectUnresolvedAccess, left),
+        _ => reject_ty(w, n, Code::RejectNotAUnion, left),
+    }
+}
+
+// ---- Both bounds of a fuzzy pattern
+
+pub fn fuzzy_distance(w: &mut [u32], n: u32, distance: u32)
+    ensures { λ _. ⌜ now (w .exit) ≡ fuzzyDistanceW (now (w .entry)) n distance ⌝ }
+{
+    if distance == 0 {
+        reject(w, n, Code::RejectFuzzyDistance);
+    } else if word(w, work::MAX_DISTANCE) < distance {
+        reject(w, n, Code::RejectFuzzyDistance);
+    }
+}
+
+pub fn fuzzy_term(w: &mut [u32], n: u32, term: u32)
+    ensures { λ _. ⌜ now (w .exit) ≡ fuzzyTermW (now (w .entry)) n term ⌝ }
+{
+    if word(w, work::MAX_TERM) < word(w, work::NAMES + wide(term)) % 512 {
+        reject(w, n, Code::RejectFuzzyTerm);
+    }
+}
+
+// ---- Nodes that are looked at, not visited
+
+// A side that is a variable is introduced before either side is inferred.
+pub fn introduce_side(f: &[u8], w: &mut [u32], n: u32)
+    ensures { λ _. ⌜ IntroducesSide (now (f .entry)) (now (w .entry)) n (now (w .exit)) ⌝ }
+{
+    let e = tree::node_at(f, w, n);
+    match e {
+        Node::Var(symbol) => {
+            introduce(w, symbol);
+        }
+        _ => {}
+    }
+}
+
+// A wildcard has no type of its own that the head could have.
+pub fn check_head(f: &[u8], w: &mut [u32], n: u32)
+    ensures { λ _. ⌜ ChecksHead (now (f .entry)) (now (w .entry)) n (now (w .exit)) ⌝ }
+{
+    let e = tree::node_at(f, w, n);
+    match e {
+        Node::Wildcard => reject(w, n, Code::RejectWildcardInHead),
+        _ => {}
+    }
+}
+
+pub fn destructurable(f: &[u8], w: &[u32], n: u32) -> bool
+    ensures { λ r. ⌜ Asks (now (f .entry)) (now (w .entry)) n r ⌝ }
+{
+    let e = tree::node_at(f, w, n);
+    match e {
+        Node::Var(_) => true,
+        Node::Wildcard => true,
+        Node::Record(items) => all_destructurable(f, w, items),
+        _ => false,
+    }
+}
+
+// `all` over the fields of a record: to the first that is not.
+fn all_destructurable(f: &[u8], w: &[u32], items: Items) -> bool
+    requires { ⌜ LowerItems (items .below) items ⌝ }
+    ensures { λ r. ⌜ AsksAll (now (f .entry)) (now (w .entry)) items r ⌝ }
+{
+    let n = items.n;
+    let mut i: u32 = 0;
+    while i < n {
+        let e = tree::field_at(f, items, i);
+        if !destructurable(f, w, e.value) {
+            return false;
+        }
+        i += 1;
+    }
+    true
+}
+
+// ---- The start
+
+fn begin_counters(w: &mut [u32])
+    ensures { λ _. ⌜ now (w .exit) ≡ countersW (now (w .entry)) ⌝ }
+{
+    put(w, work::RECORD_COUNT, 0);
+    put(w, work::RECORD_FIELD_COUNT, 0);
+    put(w, work::ENV_LEN, 0);
+    put(w, work::DIAGNOSTIC_COUNT, 0);
+    put(w, work::UNKNOWNS, 0);
+    put(w, work::UNDO_LEN, 0);
+}
+
+fn begin_types(w: &mut [u32])
+    ensures { λ _. ⌜ Untypes (now (w .entry)) 512 (now (w .exit)) ⌝ }
+{
+    let mut n: u32 = 0;
+    while n < 512 {
+        put(w, work::TYS + 2 * wide(n), 0);
+        n += 1;
+    }
+}
+
+// The counters of a run are 0, and no node has a type.
+pub fn begin(w: &mut [u32])
+    ensures { λ _. ⌜ StartsRun (now (w .entry)) (now (w .exit)) ⌝ }
+{
+    begin_counters(w);
+    begin_types(w);
+}
