@@ -1,7 +1,7 @@
 //! Links the port's static libraries where they are there, and tells which of their calls exist.
 //!
 //! `SIGLA_LIB` names the checker's library and `CALLS_LIB` the one of the calls on the substitution;
-//! without them libsigla.a and libcalls.a in target/staticlib at the repository's top are taken, if
+//! without them libsigla_lib.a and libcalls.a in target/staticlib at the repository's top are taken, if
 //! they are there.
 
 use std::env;
@@ -26,7 +26,7 @@ fn main() {
     for cfg in WHOLE.iter().chain(&["sigla_calls"]) {
         println!("cargo::rustc-check-cfg=cfg({cfg})");
     }
-    let whole = Library::find("SIGLA_LIB", "libsigla.a");
+    let whole = Library::find("SIGLA_LIB", "libsigla_lib.a");
     let calls = Library::find("CALLS_LIB", "libcalls.a");
     if let Some(whole) = &whole {
         for call in WHOLE.iter().filter(|call| whole.has(call)) {

@@ -5,6 +5,7 @@ mod deep;
 mod draft;
 mod edge;
 mod faults;
+mod filled;
 mod grow;
 mod limits;
 mod noise;
@@ -13,6 +14,7 @@ mod rng;
 mod texts;
 mod valid;
 
+pub use filled::{GROWING, filled};
 use rng::Rng;
 
 type Make = fn(&mut Rng) -> Vec<u8>;

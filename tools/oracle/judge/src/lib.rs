@@ -12,6 +12,7 @@ pub mod lower;
 mod measure;
 mod read;
 mod stack;
+mod timing;
 mod tree;
 mod visits;
 mod write;
@@ -24,6 +25,7 @@ pub use file::{File, Node, Predicate, Query, Shape, Stmt, Type};
 use measure::Measure;
 pub use read::read;
 pub use stack::{answer, on_large_stack};
+pub use timing::{Parts, timed};
 use visits::Stop;
 use write::Lines;
 

@@ -61,8 +61,8 @@ fn ports(options: &Options) -> Result<Vec<Port>, String> {
     Ok(ports)
 }
 
-const NO_LIBRARY: &str = "the static library was not there when oracle was built \
-    (SIGLA_LIB, or target/staticlib/libsigla.a at the repository's top)";
+pub const NO_LIBRARY: &str = "the static library was not there when oracle was built \
+    (SIGLA_LIB, or target/staticlib/libsigla_lib.a at the repository's top)";
 
 /// Whole answers: lines, refusals, and what the slices hold afterwards.
 fn answers(options: &Options) -> Done {

@@ -1,5 +1,6 @@
 //! The commands of the judge. `oracle help` lists them.
 
+mod bench;
 mod calls;
 mod compare;
 mod corpus;
@@ -55,6 +56,16 @@ oracle compare calls   --seed S --count N [--style NAME] [--out DIR]
     Calls are compared in process alone: random lists of unifications, snapshots and rollbacks over a
     generated schema, with the outcome, the visits left and every binding after each call.
 
+oracle bench answers [--seed S] [--count N] [--rounds R] [--style NAME]
+oracle bench reading [--seed S] [--count N] [--rounds R] [--style NAME]
+    Times the port's call in process beside the Rust's reading, tree building and `check`, or the port's
+    reading beside the judge's reader: N files of each style, the quickest of R rounds of each, as ratios
+    (below 1 the port is quicker), by style, by length, and for files that grow in one respect; with
+    --style that style alone. Files that the Rust can't hold, and those of refusals 11 and 12, which it
+    does not know, are left out. Where the port's time goes: valgrind --tool=callgrind
+    --toggle-collect=sigla_check target/release/oracle bench answers --style large --rounds 1, then
+    callgrind_annotate.
+
 oracle record [--check]
     Writes vectors/answers.bin, the recorded sample of answers; with --check holds it against the
     generator and the Rust instead.
@@ -92,6 +103,7 @@ fn run(given: &[String]) -> Done {
     match command.as_str() {
         "agree" => trials::agree(rest),
         "answer" => answer(rest),
+        "bench" => bench::run(rest),
         "compare" => compare::run(rest),
         "generate" => trials::generate(rest),
         "mutants" => trials::mutants(rest),

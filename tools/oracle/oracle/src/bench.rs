@@ -1,0 +1,284 @@
+//! `oracle bench`: how long the port's calls take beside the Rust, on the same files in one process.
+
+use std::hint::black_box;
+use std::time::{Duration, Instant};
+
+use judge::{Answer, Limits, Parts};
+
+use crate::Done;
+use crate::corpus;
+use crate::options::Options;
+
+/// Files of each style, and how often each is run; the quickest run of each side counts.
+const COUNT: u64 = 60;
+const ROUNDS: u32 = 7;
+
+pub fn run(given: &[String]) -> Done {
+    let options = Options::parse(given, &["seed", "count", "rounds", "style"], &[])?;
+    let rounds = options.number("rounds")?.unwrap_or(ROUNDS).max(1);
+    match &options.words[..] {
+        [what] if what == "answers" && linked::HAS_CHECK => answers(&options, rounds),
+        [what] if what == "reading" && linked::HAS_READ => reading(&options, rounds),
+        [what] if what == "answers" || what == "reading" => {
+            Err(format!("nothing to time: {}", crate::compare::NO_LIBRARY))
+        }
+        _ => Err("bench what? one of answers, reading".to_owned()),
+    }
+}
+
+/// One file's times: the quickest of all rounds.
+struct Timed {
+    bytes: usize,
+    port: Duration,
+    rust: Duration,
+    /// The Rust with the answer's lines, where whole answers are timed.
+    lines: Duration,
+}
+
+/// The slices that the port is lent, as the program lends them.
+struct Slices {
+    work: Vec<u32>,
+    answer: Vec<u8>,
+}
+
+impl Slices {
+    fn new(limits: &Limits) -> Self {
+        Slices {
+            work: vec![0; limits.words],
+            answer: vec![0; limits.bytes],
+        }
+    }
+
+    fn check(&mut self, file: &[u8]) -> Duration {
+        let started = Instant::now();
+        black_box(linked::check(
+            black_box(file),
+            &mut self.work,
+            &mut self.answer,
+        ));
+        started.elapsed()
+    }
+
+    fn read(&mut self, file: &[u8]) -> Duration {
+        let started = Instant::now();
+        black_box(linked::read(black_box(file), &mut self.work));
+        started.elapsed()
+    }
+}
+
+/// The styles asked for, and the first number of their files.
+fn wanted(options: &Options) -> Result<(Vec<&'static str>, u64, u64), String> {
+    let styles = match corpus::style(options)? {
+        Some(style) => vec![style],
+        None => files::STYLES.to_vec(),
+    };
+    let seed = options.number("seed")?.unwrap_or(1);
+    let count = options.number("count")?.unwrap_or(COUNT);
+    Ok((styles, seed, count))
+}
+
+/// Whole calls: the port's beside the Rust's reading, building and `check`.
+fn answers(options: &Options, rounds: u32) -> Done {
+    let (styles, seed, count) = wanted(options)?;
+    let limits = Limits::default();
+    let mut slices = Slices::new(&limits);
+    let mut all = vec![];
+    println!(
+        "the port's call / the Rust's reading, tree and check; [the answer's lines counted too]"
+    );
+    heading();
+    for style in styles {
+        let mut timed = vec![];
+        let mut left_out = 0;
+        for number in 0..count {
+            let file = files::generate(style, trial::nth(seed, number));
+            // The Rust has no limit of visits and none for types' size.
+            let ends = !matches!(
+                judge::answer(&file, &limits).answer,
+                Answer::LeftOut(_) | Answer::Refused(11 | 12)
+            );
+            if ends {
+                timed.push(answer_times(&file, &limits, rounds, &mut slices));
+            } else {
+                left_out += 1;
+            }
+        }
+        line(style, &timed, left_out);
+        all.append(&mut timed);
+    }
+    if options.text("style").is_some() {
+        return Ok(true);
+    }
+    println!();
+    by_size(&all);
+    println!();
+    grown(
+        |file| answer_times(file, &limits, rounds, &mut slices),
+        &limits,
+    )?;
+    println!();
+    let clearing = (0..rounds.max(100)).map(|_| slices.check(b"")).min();
+    println!(
+        "clearing both slices (the call on an empty file): {:.2} us",
+        micros(clearing.unwrap_or_default())
+    );
+    Ok(true)
+}
+
+/// The reading alone: the port's beside the first reader.
+fn reading(options: &Options, rounds: u32) -> Done {
+    let (styles, seed, count) = wanted(options)?;
+    let limits = Limits::default();
+    let mut slices = Slices::new(&limits);
+    let mut all = vec![];
+    println!(
+        "the port's reading / the judge's reader; the port clears the work slice after a refusal"
+    );
+    heading();
+    for style in styles {
+        let mut timed: Vec<Timed> = (0..count)
+            .map(|number| {
+                let file = files::generate(style, trial::nth(seed, number));
+                read_times(&file, &limits, rounds, &mut slices)
+            })
+            .collect();
+        line(style, &timed, 0);
+        all.append(&mut timed);
+    }
+    if options.text("style").is_some() {
+        return Ok(true);
+    }
+    println!();
+    by_size(&all);
+    println!();
+    grown(
+        |file| read_times(file, &limits, rounds, &mut slices),
+        &limits,
+    )?;
+    Ok(true)
+}
+
+/// Runs both sides in turn, so that what slows the machine slows both.
+fn answer_times(file: &[u8], limits: &Limits, rounds: u32, slices: &mut Slices) -> Timed {
+    let mut best = Timed::of(file);
+    for _ in 0..rounds {
+        best.port = best.port.min(slices.check(file));
+        let parts: Parts = judge::timed(file, limits);
+        best.rust = best.rust.min(parts.checked());
+        best.lines = best.lines.min(parts.answered());
+    }
+    best
+}
+
+fn read_times(file: &[u8], limits: &Limits, rounds: u32, slices: &mut Slices) -> Timed {
+    let mut best = Timed::of(file);
+    for _ in 0..rounds {
+        best.port = best.port.min(slices.read(file));
+        let started = Instant::now();
+        drop(black_box(judge::read(black_box(file), limits)));
+        best.rust = best.rust.min(started.elapsed());
+    }
+    best.lines = best.rust;
+    best
+}
+
+impl Timed {
+    fn of(file: &[u8]) -> Self {
+        Timed {
+            bytes: file.len(),
+            port: Duration::MAX,
+            rust: Duration::MAX,
+            lines: Duration::MAX,
+        }
+    }
+
+    fn ratio(&self) -> f64 {
+        self.port.as_secs_f64() / self.rust.as_secs_f64().max(1e-9)
+    }
+}
+
+fn micros(time: Duration) -> f64 {
+    time.as_secs_f64() * 1e6
+}
+
+fn heading() {
+    println!(
+        "{:20} {:>5} {:>7} {:>10} {:>10} {:>7} {:>7}   {:>6} {:>6} {:>6} {:>6}",
+        "files",
+        "count",
+        "bytes",
+        "port us",
+        "Rust us",
+        "ratio",
+        "[lines]",
+        "10 %",
+        "half",
+        "90 %",
+        "most"
+    );
+}
+
+/// Means of bytes and times, the ratio of the sums, and how the files' own ratios spread.
+fn line(name: &str, timed: &[Timed], left_out: u64) {
+    if timed.is_empty() {
+        println!("{name:20} {:5} all {left_out} left out", 0);
+        return;
+    }
+    let sum = |of: fn(&Timed) -> Duration| timed.iter().map(of).sum::<Duration>();
+    let (port, rust, lines) = (
+        sum(|file| file.port),
+        sum(|file| file.rust),
+        sum(|file| file.lines),
+    );
+    let count = timed.len();
+    let mut ratios: Vec<f64> = timed.iter().map(Timed::ratio).collect();
+    ratios.sort_by(f64::total_cmp);
+    let at = |share: usize| ratios[(count - 1) * share / 100];
+    println!(
+        "{name:20} {count:5} {:7} {:10.2} {:10.2} {:7.2} {:>7}   {:6.2} {:6.2} {:6.2} {:6.2}{}",
+        timed.iter().map(|file| file.bytes).sum::<usize>() / count,
+        micros(port) / count as f64,
+        micros(rust) / count as f64,
+        port.as_secs_f64() / rust.as_secs_f64(),
+        format!("[{:.2}]", port.as_secs_f64() / lines.as_secs_f64()),
+        at(10),
+        at(50),
+        at(90),
+        at(100),
+        if left_out > 0 {
+            format!("  ({left_out} left out)")
+        } else {
+            String::new()
+        }
+    );
+}
+
+/// The same files by their length.
+fn by_size(all: &[Timed]) {
+    let mut from = 0;
+    for to in [256, 1024, 4096, 16_384, 65_537, usize::MAX] {
+        let some: Vec<Timed> = all
+            .iter()
+            .filter(|file| (from..to).contains(&file.bytes))
+            .map(|file| Timed { ..*file })
+            .collect();
+        if !some.is_empty() {
+            line(&format!("from {from} bytes"), &some, 0);
+        }
+        from = to;
+    }
+}
+
+/// Files that grow in one respect, at a quarter, half and all of its limit.
+fn grown(mut time: impl FnMut(&[u8]) -> Timed, limits: &Limits) -> Result<(), String> {
+    for (what, most) in files::GROWING {
+        for count in [most / 4, most / 2, most] {
+            let file = files::filled(what, count).expect("it is listed");
+            if let Answer::Refused(number) = judge::answer(&file, limits).answer {
+                return Err(format!("{what} {count} is refused with {number}"));
+            }
+            line(&format!("{what} {count}"), &[time(&file)], 0);
+        }
+    }
+    Ok(())
+}
