@@ -8,6 +8,7 @@ mod faults;
 mod filled;
 mod grow;
 mod limits;
+mod nested;
 mod noise;
 mod references;
 mod rng;
@@ -15,6 +16,7 @@ mod texts;
 mod valid;
 
 pub use filled::{GROWING, filled};
+pub use nested::nested;
 use rng::Rng;
 
 type Make = fn(&mut Rng) -> Vec<u8>;

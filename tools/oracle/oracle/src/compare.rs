@@ -25,7 +25,8 @@ fn shrink(file: &[u8], differs: impl Fn(&[u8]) -> bool) -> Vec<u8> {
 pub fn run(given: &[String]) -> Done {
     let mut known = corpus::OPTIONS.to_vec();
     known.extend(["program", "out"]);
-    let options = Options::parse(given, &known, &["model", corpus::SHORT])?;
+    let [short, nested] = corpus::FLAGS;
+    let options = Options::parse(given, &known, &["model", short, nested])?;
     match &options.words[..] {
         [what] if what == "answers" => answers(&options),
         [what] if what == "reading" => reading(&options),

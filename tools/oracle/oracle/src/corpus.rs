@@ -22,12 +22,14 @@ pub enum Corpus {
     /// Every file of up to two bytes, and every second line of one and two bytes after a right
     /// first one.
     Short,
+    /// Every recursion as deep as it goes.
+    Nested(Vec<(String, Vec<u8>)>),
 }
 
 /// The options with a value that `Corpus::from` reads.
 pub const OPTIONS: [&str; 4] = ["seed", "count", "style", "bytes-exhaustive"];
-/// The flag that it reads.
-pub const SHORT: &str = "short";
+/// The flags that it reads.
+pub const FLAGS: [&str; 2] = ["short", "nested"];
 
 impl Corpus {
     pub fn from(options: &Options) -> Result<Corpus, String> {
@@ -35,8 +37,11 @@ impl Corpus {
             let file = std::fs::read(path).map_err(|why| format!("{path}: {why}"))?;
             return Ok(Corpus::Neighbours(file));
         }
-        if options.flag(SHORT) {
+        if options.flag("short") {
             return Ok(Corpus::Short);
+        }
+        if options.flag("nested") {
+            return Ok(Corpus::Nested(files::nested()));
         }
         Ok(Corpus::Generated {
             style: style(options)?,
@@ -51,6 +56,7 @@ impl Corpus {
             // Each prefix; each byte dropped; each byte changed to each other value.
             Corpus::Neighbours(file) => file.len() as u64 * 257 + 1,
             Corpus::Short => 2 * STRINGS - 1,
+            Corpus::Nested(files) => files.len() as u64,
         }
     }
 
@@ -68,6 +74,10 @@ impl Corpus {
             }
             Corpus::Neighbours(file) => neighbour(file, number as usize),
             Corpus::Short => short(number),
+            Corpus::Nested(files) => {
+                let (name, file) = files[number as usize].clone();
+                Item { name, file }
+            }
         }
     }
 }

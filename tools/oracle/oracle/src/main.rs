@@ -51,7 +51,8 @@ oracle compare calls   --seed S --count N [--style NAME] [--out DIR]
     by refusal, code, node shape and statement. Ends with status 1 where there is a mismatch.
     In place of --seed and --count: `--bytes-exhaustive FILE` takes each prefix of FILE, FILE without
     each byte, and FILE with each byte changed to each other value; `--short` takes every file of up
-    to two bytes, and every line of up to two bytes after a right first line.
+    to two bytes, and every line of up to two bytes after a right first line; `--nested` takes a file for
+    each recursion, as deep as the limits let it go.
     `--model` holds the model against the Rust, as `agree` does, on these files too.
     Calls are compared in process alone: random lists of unifications, snapshots and rollbacks over a
     generated schema, with the outcome, the visits left and every binding after each call.
