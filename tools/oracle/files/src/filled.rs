@@ -3,9 +3,10 @@
 use crate::draft::{Draft, Expr, Shape, Stmt};
 
 /// What grows, and the most there can be of it in a file made here.
-pub const GROWING: [(&str, usize); 9] = [
+pub const GROWING: [(&str, usize); 10] = [
     ("names", 256),
     ("names-alike", 256),
+    ("names-within", 256),
     ("fields", 7168),
     ("alternatives", 3584),
     ("predicates", 128),
@@ -19,9 +20,12 @@ pub const GROWING: [(&str, usize); 9] = [
 pub fn filled(what: &str, count: usize) -> Option<Vec<u8>> {
     let mut draft = Draft::new();
     match what {
-        // They differ at once, or at their ends alone.
+        // They differ at once, at their ends alone, or shortly before them.
         "names" => names(&mut draft, count, |n| format!("{n:03}{}", "x".repeat(110))),
         "names-alike" => names(&mut draft, count, |n| format!("{}{n:03}", "x".repeat(110))),
+        "names-within" => names(&mut draft, count, |n| {
+            format!("{}{n:03}xxxx", "x".repeat(106))
+        }),
         "fields" => fields(&mut draft, count),
         "alternatives" => alternatives(&mut draft, count),
         "predicates" => {
