@@ -73,8 +73,8 @@ module _ {f : List ℕ} {a b i : ℕ} (m : Matching f a b i) where
 
 -- ---- Digits that differ
 
-pub differ-none : (f : List ℕ) (a b n : ℕ) → Differ f a b n false
-differ-none f a b n = record { is = λ e s l p q. clash (sym e) }
+pub differ-none : (f : List ℕ) (a b n : ℕ) → Differ f a b n n
+differ-none f a b n = record { is = λ e s l p q. omega arith }
 
 four-same : (f : List ℕ) (x y : ℕ) → ((k : ℕ) → k < 4 → getD f (x + k) 0 ≡ getD f (y + k) 0) → fourAt f x ≡ fourAt f y
 unfolding fourAt
@@ -92,7 +92,7 @@ eight-same f x y h =
     plus : (x m k : ℕ) → x + m + k ≡ x + (m + k)
     plus x m k = omega arith
 
-pub eight-differ : (f : List ℕ) (a b n i : ℕ) → i + 8 ≤ n → (eightAt f (a + i) ≡ eightAt f (b + i) → ⊥) → Differ f a b n true
+pub eight-differ : (f : List ℕ) (a b n i : ℕ) → i + 8 ≤ n → (eightAt f (a + i) ≡ eightAt f (b + i) → ⊥) → Differ f a b n i
 eight-differ f a b n i h ne = record {
   is = λ e s l p q.
       ne (eight-same f (a + i) (b + i) (λ k m. rw (plus a i k, plus b i k) (same-digits f s a b (line-takes f a s p .is) (line-takes f b s q .is) (i + k) (omega arith))));
@@ -114,8 +114,8 @@ module _ (f : List ℕ) (x at chars digits : ℕ) where
   unfolding countOf
   name-other-count n = unlike (λ s p c l. n (c ∙ ap countOf (l .characters)))
 
-  pub name-other-digits : Differ f (x / 512) at digits true → SameName f x at chars digits false
-  name-other-digits d = unlike (λ s p c l. d .is refl (0x02 ∷ s) (omega (arith, l .long)) p (l .line))
+  pub name-other-digits : (i : ℕ) → Differ f (x / 512) at digits i → i < digits → SameName f x at chars digits false
+  name-other-digits i d h = unlike (λ s p c l. d .is h (0x02 ∷ s) (omega (arith, l .long)) p (l .line))
 
   pub name-line : {r : Bool} → SameLine f (x / 512) at r → SameName f x at chars digits r
   unfolding sameText

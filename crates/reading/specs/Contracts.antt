@@ -102,9 +102,9 @@ fourAt f i = getD f i 0 + 256 * getD f (i + 1) 0 + 65536 * getD f (i + 2) 0 + 16
 unfoldable pub eightAt : List ℕ → ℕ → ℕ
 eightAt f i = fourAt f i + 4294967296 * fourAt f (i + 4)
 
--- Lines of at least n digits that were found to differ are not the same. Nothing is said of others.
-pub record Differ (f : List ℕ) (a b n : ℕ) (r : Bool) : Type 0 where
-  pub is : r ≡ true → (s : List ℕ) → n ≤ 2 * length s → lineAt f a ≡ some s → lineAt f b ≡ some s → ⊥
+-- Lines of at least n digits that were found to differ before that are not the same. Nothing is said of others.
+pub record Differ (f : List ℕ) (a b n r : ℕ) : Type 0 where
+  pub is : r < n → (s : List ℕ) → n ≤ 2 * length s → lineAt f a ≡ some s → lineAt f b ≡ some s → ⊥
 
 pub record SameLine (f : List ℕ) (a b : ℕ) (r : Bool) : Type 0 where
   pub is : (s t : List ℕ) → lineAt f a ≡ some s → lineAt f b ≡ some t → r ≡ sameText s t

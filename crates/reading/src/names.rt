@@ -6,7 +6,7 @@ ghost use lib.ListN.{length, drop};
 ghost use Rattle.meaning.specs.Conditions.{sameText};
 ghost use Rattle.meaning.specs.File.{valueText};
 ghost use Rattle.meaning.specs.Frame.{name};
-ghost use Rattle.reading.specs.Contracts.{fourAt, eightAt, Differ, SameLine, SameName, GivenBefore, AddsName, Takes};
+ghost use Rattle.reading.specs.Contracts.{fourAt, eightAt, Differ, SameLine, GivenBefore, AddsName, Takes};
 use crate::Counters;
 use crate::Refusal;
 use crate::Step;
@@ -53,59 +53,58 @@ fn eight(f: &[u8], i: usize) -> u64
     four(f, i) + 4294967296 * four(f, i + 4)
 }
 
-// Whether some of the first n digits differ, eight at a time: where they do, the lines do, so that `same_line` seldom walks
-// far. The last eight come first, since names often differ at their ends.
-fn differ(file: &[u8], a: usize, b: usize, n: usize) -> bool
+// A place where eight of the first n digits differ, or n: where it is found the lines differ, so that `same_line` seldom walks
+// far. The place where other lines differed comes first, and the last eight where there is none: names alike often differ there.
+fn differ(file: &[u8], a: usize, b: usize, n: usize, first: usize) -> usize
     ensures { λ r. ⌜ Differ (now (file .entry)) a b n r ⌝ }
 {
     if n < 8 {
-        return false;
+        return n;
     }
     if file.len() < n {
-        return false;
+        return n;
     }
     let last = file.len() - n;
     if last < a {
-        return false;
+        return n;
     }
     if last < b {
-        return false;
+        return n;
+    }
+    if first < n - 8 {
+        if eight(file, a + first) != eight(file, b + first) {
+            return first;
+        }
     }
     if eight(file, a + (n - 8)) != eight(file, b + (n - 8)) {
-        return true;
+        return n - 8;
     }
     let mut i: usize = 0;
     while i < n - 8 {
         if eight(file, a + i) != eight(file, b + i) {
-            return true;
+            return i;
         }
         i += 8;
     }
-    false
-}
-
-// Whether the name of this word has the text of the line at b, which has so many characters and digits.
-fn same_name(file: &[u8], x: u32, b: usize, chars: usize, n: usize) -> bool
-    ensures { λ r. ⌜ SameName (now (file .entry)) x b chars n r ⌝ }
-{
-    if wide(x % 512) != chars {
-        return false;
-    }
-    let a = wide(x / 512);
-    if differ(file, a, b, n) {
-        return false;
-    }
-    same_line(file, a, b)
+    n
 }
 
 // The line has so many characters and digits.
 fn given_before(file: &[u8], w: &[u32], names: u32, at: usize, chars: usize, n: usize) -> bool
     ensures { λ r. ⌜ GivenBefore (now (file .entry)) (now (w .entry)) names at chars n r ⌝ }
 {
+    let mut place = n;
     let mut j: u32 = 0;
     while j < names {
-        if same_name(file, word(w, work::NAMES + wide(j)), at, chars, n) {
-            return true;
+        let x = word(w, work::NAMES + wide(j));
+        if wide(x % 512) == chars {
+            let a = wide(x / 512);
+            place = differ(file, a, at, n, place);
+            if n <= place {
+                if same_line(file, a, at) {
+                    return true;
+                }
+            }
         }
         j += 1;
     }

@@ -1,23 +1,26 @@
--- Made from Proof.ans by tools/answers, f40c5291ebd35b74.
+-- Made from Proof.ans by tools/answers, 39da27f95a4f4300.
 -- `reading::given_before` meets its contract. The invariant: the text was given before exactly where it is among the names from j on.
 -- The measure is the names left.
 use Rattle.reading.proofs.names.given_before.Statement.{statement}
 use Rattle.reading.proofs.names.given_before.Tie as tie
 use Rattle.reading.proofs.names.given_before.Reads as reads
 use Rattle.reading.proofs.names.given_before.Lts as lts
-use Rattle.reading.proofs.names.same_name.Reads as same-name-reads
+use Rattle.reading.proofs.names.differ.Reads as differ-reads
+use Rattle.reading.proofs.names.same_line.Reads as same-line-reads
 use Rattle.work.proofs.wide.Reads as wide-reads
 use Rattle.work.proofs.word.Reads as word-reads
 use borrow.Author.Needs.{needs}
 use native.Mathlib.Omega.{arith}
 use Prim.Native.Nat.{_-_}
-use Rattle.reading.proofs.Texts.{Looking, look-start, look-found, look-next, look-none}
+use mathlib.Core.Path.{refl}
+use mathlib.Core.Logic.{⊎-elim}
+use Rattle.reading.proofs.Texts.{name-other-count, name-other-digits, name-line, Looking, look-start, look-found, look-next, look-none}
 
 abbrev Inv-loop : tie.InvT-loop
-Inv-loop file w names at chars n j₀ j = Looking file w names at chars n j
+Inv-loop file w names at chars n place₀ j₀ place j = Looking file w names at chars n j
 
 abbrev μ-loop : tie.MeasureT-loop
-μ-loop file w names at chars n j₀ j = names - j
+μ-loop file w names at chars n place₀ j₀ place j = names - j
 
 pub given-before-spec : {M : Type 1} → statement M
 given-before-spec =
@@ -30,8 +33,19 @@ given-before-spec =
     (λ c. search needs)
     (λ c κs. search needs)
     (λ c κs. search needs)
-    (λ c. look-found (c .before .before .before .before .before .loop .inv) (c .before .before .before .before .loop-test .taken) (rw (c .before .before .word .ensures, c .before .before .before .wide .ensures .0) at (c .before .same-name .ensures)) (c .if1 .taken))
+    (λ c κs. search needs)
+    (λ c κs. search needs)
+    (λ c κs. search needs)
+    (λ c. look-found (c .before .before .before .before .before .before .before .before .before .before .loop .inv) (c .before .before .before .before .before .before .before .before .before .loop-test .taken) (name-line _ _ _ _ _ (rw (c .before .before .before .before .wide3 .ensures .0, c .before .before .before .before .before .before .before .word .ensures, c .before .before .before .before .before .before .before .before .wide .ensures .0) at (c .before .same-line .ensures))) (c .if3 .taken))
     (λ c. search needs)
     (λ c. search needs)
-    (λ c. look-next (c .before .before .before .before .before .loop .inv) (c .before .before .before .before .loop-test .taken) (rw (c .before .before .word .ensures, c .before .before .before .wide .ensures .0) at (c .before .same-name .ensures)) (c .if1 .left))
+    (λ c.
+    look-next (c .before .before .before .before .before .loop .inv) (c .before .before .before .before .loop-test .taken)
+    (⊎-elim
+    (λ y. name-line _ _ _ _ _ (rw (y .1 .ensures .0, c .before .before .word .ensures, c .before .before .before .wide .ensures .0, y .5 .left) at (y .4 .ensures)))
+    (⊎-elim
+    (λ y. name-other-digits _ _ _ _ _ _ (rw (y .1 .ensures .0, c .before .before .word .ensures, c .before .before .before .wide .ensures .0) at (y .2 .ensures)) (y .3 .left))
+    (λ y. name-other-count _ _ _ _ _ (λ e. y .0 .left (rw (c .before .wide2 .ensures .0, c .before .before .word .ensures, c .before .before .before .wide .ensures .0) e))))
+    (c .if1 .came))
+    refl)
     (λ c. look-none (c .before .loop .inv) (c .loop-test .left)))
