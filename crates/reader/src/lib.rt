@@ -66,3 +66,23 @@ pub fn full<'a>(r: Reader<'a>) -> Taken
 {
     full_at(r.line, r.at)
 }
+
+pub struct Limits {
+    pub distance: u32,
+    pub term: u32,
+}
+
+// The limits frame, one number after the other, from behind its kind. Whoever calls it needs no walk by hand.
+pub fn read_limits(line: &[u8]) -> Limits
+    ensures { λ r. ⌜ (r .distance ≡ byteW (now (line .entry)) 1) × (r .term ≡ halfW (now (line .entry)) 2) ⌝ }
+{
+    let distance = byte(Reader { line, at: 1 });
+    let term = half(Reader {
+        line,
+        at: distance.at,
+    });
+    Limits {
+        distance: distance.value,
+        term: term.value,
+    }
+}
