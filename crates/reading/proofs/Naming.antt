@@ -28,7 +28,7 @@ use Rattle.reading.specs.declared.Counters.{Counters}
 use Rattle.reading.specs.declared.Step.{Step}
 use Rattle.reading.specs.declared.Step.the-variants.{On, Off}
 use Rattle.reading.specs.Held.{Held}
-use Rattle.reading.specs.Contracts.{withName, Line, Comes, Steps, Takes, GivenBefore, AddsName}
+use Rattle.reading.specs.Contracts.{withName, Line, Comes, Steps, Takes, NameLine, GivenBefore, AddsName}
 use Rattle.reading.proofs.Lines.{name-held}
 use Rattle.reading.proofs.Order.{first-broken, first-given, first-none}
 use Rattle.reading.proofs.Stepping.{refuses, goes-on, begun, names-room}
@@ -90,23 +90,27 @@ module _ (f : List ℕ) (at : ℕ) (s w : List ℕ) (c : Counters) where
     unfolding textsOf
     read = any-one broken (drop 1 s) false (whole-text (drop 1 s) chars text)
 
-    given-is : {so : SoFar} {fr : Frame} {next : ℕ} {T : Rows} {previous : ℕ} (r : Bool) → GivenBefore f w (c .names) at r → Held f at w T c previous so → Line f at next s → Comes so Frame.name s fr
+    as-line : {so : SoFar} {fr : Frame} {next : ℕ} → Line f at next s → Comes so Frame.name s fr → NameLine f at chars (2 * length s) (drop 1 s)
+    unfolding kindByte
+    as-line l k = record { line = l .is ∙ ap some (k .first); characters = text; long = ap (λ t. 2 * length t) (k .first) }
+
+    given-is : {so : SoFar} {fr : Frame} {next : ℕ} {T : Rows} {previous : ℕ} (r : Bool) → GivenBefore f w (c .names) at chars (2 * length s) r → Held f at w T c previous so → Line f at next s → Comes so Frame.name s fr
         → anyOf (given (so .names)) (textsOf (aName (drop 1 s))) ≡ r
     unfolding textsOf kindByte
-    given-is {so} r g h l k = any-one (given (so .names)) (drop 1 s) r (sym (g .is (c .value) (so .names) (drop 1 s) (h .names) (l .is ∙ ap some (k .first))))
+    given-is {so} r g h l k = any-one (given (so .names)) (drop 1 s) r (sym (g .is (c .value) (so .names) (drop 1 s) (h .names) (as-line l k)))
 
-    pub name-given : GivenBefore f w (c .names) at true → Takes f at Frame.name s w c w (Off Refusal.NameGivenBefore)
+    pub name-given : GivenBefore f w (c .names) at chars (2 * length s) true → Takes f at Frame.name s w c w (Off Refusal.NameGivenBefore)
     unfolding frameKind kindByte
     name-given g = record {
       is = λ next T previous so fr h l k. refuses f next w 1 (add so fr) Refusal.NameGivenBefore _ (as-name so fr _ k (first-given so (aName (drop 1 s)) (k .placed) (k .room) read (given-is true g h l k)));
     }
 
-    pub name-taken : GivenBefore f w (c .names) at false → Takes f at Frame.name s w c (set w (NAMES + c .names) (at * 512 + chars)) (On (withName c (pick (sameText valueText (drop 1 s)) (c .names + 1) (c .value))))
+    pub name-taken : GivenBefore f w (c .names) at chars (2 * length s) false → Takes f at Frame.name s w c (set w (NAMES + c .names) (at * 512 + chars)) (On (withName c (pick (sameText valueText (drop 1 s)) (c .names + 1) (c .value))))
     unfolding frameKind kindByte textsOf keysOf again refersBadly refersEarlier allBelow nameRefs typeRefs nodeRefs mayStand
     name-taken g = record {
       is = λ next T previous so fr h l k.
           let b = begun (so .previous) Frame.name (k .placed) refl in
-          let n = g .is (c .value) (so .names) (drop 1 s) (h .names) (l .is ∙ ap some (k .first)) in
+          let n = g .is (c .value) (so .names) (drop 1 s) (h .names) (as-line l k) in
           let few = few-characters s chars text (l .some) (l .most) in
           goes-on f next _ 1 (add so fr) _ T _
           (as-name so fr none k (first-none so (aName (drop 1 s)) (k .placed) (k .room) read (given-is false g h l k) refl refl))
@@ -114,5 +118,5 @@ module _ (f : List ℕ) (at : ℕ) (s w : List ℕ) (c : Counters) where
           (name-held h next (omega (arith, l .on)) (l .within) (drop 1 s) chars (b .0) (k .placed) (b .1) (names-room so (k .room)) (l .is ∙ ap some (k .first)) text few (sym n)));
     }
 
-    pub name-adds : (v : Bool) (w′ : List ℕ) (r : Step) → GivenBefore f w (c .names) at false → v ≡ sameText valueText (drop 1 s) → AddsName at chars v w c w′ r → Takes f at Frame.name s w c w′ r
+    pub name-adds : (v : Bool) (w′ : List ℕ) (r : Step) → GivenBefore f w (c .names) at chars (2 * length s) false → v ≡ sameText valueText (drop 1 s) → AddsName at chars v w c w′ r → Takes f at Frame.name s w c w′ r
     name-adds v w′ r g e a = rw (a .words, a .step, e) (name-taken g)

@@ -4,7 +4,8 @@ use mathlib.Core.Bool.{Bool, true, false}
 use mathlib.Core.List.{List, [], _∷_}
 use mathlib.Core.Option.{Option, none, some}
 use mathlib.Core.Path.{_≡_, refl, sym, ap, subst, _∙_}
-use Prim.Native.Nat.{ℕ, zero, suc, _+_, _-_, _*_, _/_, _<_, _≤_}
+use Prim.Native.Nat.{ℕ, zero, suc, _+_, _-_, _*_, _/_, _%_, _<_, _≤_}
+use native.Mathlib.Nat.{add-zero}
 use native.Mathlib.Numerals.{add-one}
 use native.Mathlib.Omega.{arith}
 use lib.Dec.{eqb, ltb}
@@ -12,17 +13,17 @@ use lib.ListN.{length, getD, drop, length-drop, drop-of-length-le}
 use lib.Seq.{drop-cons, getD-drop, ext-getD}
 use borrow.Author.Count.{below-more}
 use borrow.Author.Tests.{ltb-true, ltb-false, eqb-true, eqb-false, ne-eqb, eq-eqb}
-use Rattle.text.specs.Utf8.{both}
+use Rattle.text.specs.Utf8.{both, characters}
 use Rattle.work.specs.Layout.{NAMES}
 use Rattle.hex.specs.Digits.{lineAt}
 use Rattle.hex.proofs.Bytes.{Spells, line-takes, line-spells, same-digits, same-bytes}
 use Rattle.meaning.specs.Diag.{ascii}
 use Rattle.meaning.specs.Lines.{LF}
 use Rattle.meaning.specs.Conditions.{anyOf, sameText, given}
-use Rattle.meaning.specs.File.{valueText}
+use Rattle.meaning.specs.File.{valueText, countOf}
 use Rattle.meaning.proofs.Tests.{cases, clash, same-text, text-same}
 use Rattle.reading.specs.Held.{NamesHeld}
-use Rattle.reading.specs.Contracts.{SameLine, GivenBefore}
+use Rattle.reading.specs.Contracts.{fourAt, eightAt, Differ, SameLine, NameLine, SameName, GivenBefore}
 
 -- ---- Two lines
 
@@ -70,6 +71,56 @@ module _ {f : List ℕ} {a b i : ℕ} (m : Matching f a b i) where
         sym (subst (λ u. sameText s u ≡ true) same (text-same s));
   }
 
+-- ---- Digits that differ
+
+pub differ-none : (f : List ℕ) (a b n : ℕ) → Differ f a b n false
+differ-none f a b n = record { is = λ e s l p q. clash (sym e) }
+
+four-same : (f : List ℕ) (x y : ℕ) → ((k : ℕ) → k < 4 → getD f (x + k) 0 ≡ getD f (y + k) 0) → fourAt f x ≡ fourAt f y
+unfolding fourAt
+four-same f x y h =
+    let first : getD f x 0 ≡ getD f y 0 = rw (add-zero x, add-zero y) at (h 0 (omega arith)) in
+    omega (arith, first, h 1 (omega arith), h 2 (omega arith), h 3 (omega arith))
+
+eight-same : (f : List ℕ) (x y : ℕ) → ((k : ℕ) → k < 8 → getD f (x + k) 0 ≡ getD f (y + k) 0) → eightAt f x ≡ eightAt f y
+unfolding eightAt
+eight-same f x y h =
+    let low = four-same f x y (λ k l. h k (omega arith)) in
+    let high = four-same f (x + 4) (y + 4) (λ k l. rw (plus x 4 k, plus y 4 k) (h (4 + k) (omega arith))) in
+    omega (arith, low, high)
+  where
+    plus : (x m k : ℕ) → x + m + k ≡ x + (m + k)
+    plus x m k = omega arith
+
+pub eight-differ : (f : List ℕ) (a b n i : ℕ) → i + 8 ≤ n → (eightAt f (a + i) ≡ eightAt f (b + i) → ⊥) → Differ f a b n true
+eight-differ f a b n i h ne = record {
+  is = λ e s l p q.
+      ne (eight-same f (a + i) (b + i) (λ k m. rw (plus a i k, plus b i k) (same-digits f s a b (line-takes f a s p .is) (line-takes f b s q .is) (i + k) (omega arith))));
+}
+  where
+    plus : (x m k : ℕ) → x + m + k ≡ x + (m + k)
+    plus x m k = omega arith
+
+-- ---- One name
+
+module _ (f : List ℕ) (x at chars digits : ℕ) where
+  -- no text has both the name's word and the line
+  unlike : ((s : List ℕ) → lineAt f (x / 512) ≡ some (0x02 ∷ s) → x % 512 ≡ countOf (characters s) → NameLine f at chars digits s → ⊥) → SameName f x at chars digits false
+  unlike n = record {
+    is = λ s t p c l. cases (sameText s t) (λ e. absurd (n s p c (subst (NameLine f at chars digits) (sym (same-text s t e)) l))) (λ e. sym e);
+  }
+
+  pub name-other-count : (x % 512 ≡ chars → ⊥) → SameName f x at chars digits false
+  unfolding countOf
+  name-other-count n = unlike (λ s p c l. n (c ∙ ap countOf (l .characters)))
+
+  pub name-other-digits : Differ f (x / 512) at digits true → SameName f x at chars digits false
+  name-other-digits d = unlike (λ s p c l. d .is refl (0x02 ∷ s) (omega (arith, l .long)) p (l .line))
+
+  pub name-line : {r : Bool} → SameLine f (x / 512) at r → SameName f x at chars digits r
+  unfolding sameText
+  name-line same = record { is = λ s t p c l. same .is (0x02 ∷ s) (0x02 ∷ t) p (l .line) }
+
 -- ---- The names so far
 
 eqb-swapped : (a b : ℕ) → eqb a b ≡ eqb b a
@@ -85,31 +136,31 @@ same-swapped (a ∷ s) [] = refl
 same-swapped (a ∷ s) (b ∷ t) = rw (eqb-swapped a b, same-swapped s t)
 
 -- What is left to look at from name j on.
-pub record Looking (f w : List ℕ) (n at j : ℕ) : Type 0 where
+pub record Looking (f w : List ℕ) (n at chars digits j : ℕ) : Type 0 where
   pub within : j ≤ n
-  pub to : (value : ℕ) (names : List (List ℕ)) (s : List ℕ) → NamesHeld f w n value names → lineAt f at ≡ some (0x02 ∷ s) → given names s ≡ anyOf (sameText s) (drop j names)
+  pub to : (value : ℕ) (names : List (List ℕ)) (s : List ℕ) → NamesHeld f w n value names → NameLine f at chars digits s → given names s ≡ anyOf (sameText s) (drop j names)
 
-pub look-start : (f w : List ℕ) (n at : ℕ) → Looking f w n at 0
+pub look-start : (f w : List ℕ) (n at chars digits : ℕ) → Looking f w n at chars digits 0
 unfolding given
-look-start f w n at = record { within = omega arith; to = λ v names s h l. refl }
+look-start f w n at chars digits = record { within = omega arith; to = λ v names s h l. refl }
 
-module _ {f w : List ℕ} {n at j : ℕ} (g : Looking f w n at j) where
-  module _ (here : j < n) {r : Bool} (same : SameLine f (getD w (NAMES + j) 0 / 512) at r) where
-    at-name : (v : ℕ) (names : List (List ℕ)) (s : List ℕ) → NamesHeld f w n v names → lineAt f at ≡ some (0x02 ∷ s) → given names s ≡ elim r [ true ↦ true | false ↦ anyOf (sameText s) (drop (j + 1) names) ]
-    unfolding anyOf sameText
+module _ {f w : List ℕ} {n at chars digits j : ℕ} (g : Looking f w n at chars digits j) where
+  module _ (here : j < n) {r : Bool} (same : SameName f (getD w (NAMES + j) 0) at chars digits r) where
+    at-name : (v : ℕ) (names : List (List ℕ)) (s : List ℕ) → NamesHeld f w n v names → NameLine f at chars digits s → given names s ≡ elim r [ true ↦ true | false ↦ anyOf (sameText s) (drop (j + 1) names) ]
+    unfolding anyOf
     at-name v names s h l =
         let b : j < length names = omega (arith, h .count) in
         let e : drop j names ≡ getD names j [] ∷ drop (j + 1) names = rw add-one (drop-cons names j [] b) in
-        let q : r ≡ sameText (getD names j []) s = same .is (0x02 ∷ getD names j []) (0x02 ∷ s) (h .name j b .line) l in
+        let q : r ≡ sameText (getD names j []) s = same .is (getD names j []) s (h .name j b .line) (h .name j b .characters) l in
         g .to v names s h l ∙ ap (anyOf (sameText s)) e ∙ ap (λ t. elim t [ true ↦ true | false ↦ anyOf (sameText s) (drop (j + 1) names) ]) (same-swapped s (getD names j []) ∙ sym q)
 
-    pub look-found : r ≡ true → GivenBefore f w n at true
+    pub look-found : r ≡ true → GivenBefore f w n at chars digits true
     look-found e = record { is = λ v names s h l. sym (at-name v names s h l ∙ rw e) }
 
-    pub look-next : r ≡ false → Looking f w n at (j + 1)
+    pub look-next : r ≡ false → Looking f w n at chars digits (j + 1)
     look-next e = record { within = omega arith; to = λ v names s h l. at-name v names s h l ∙ rw e }
 
-  pub look-none : n ≤ j → GivenBefore f w n at false
+  pub look-none : n ≤ j → GivenBefore f w n at chars digits false
   unfolding anyOf
   look-none h = record { is = λ v names s held l. sym (g .to v names s held l ∙ ap (anyOf (sameText s)) (let past : length names ≤ j = omega (arith, held .count) in drop-of-length-le names past)) }
 

@@ -3,7 +3,7 @@ use mathlib.Core.Bool.{Bool, true, false}
 use mathlib.Core.List.{List, [], _∷_}
 use mathlib.Core.Option.{Option, none, some}
 use mathlib.Core.Path.{_≡_}
-use Prim.Native.Nat.{ℕ, _+_, _*_, _<_, _≤_}
+use Prim.Native.Nat.{ℕ, _+_, _*_, _/_, _%_, _<_, _≤_}
 use lib.Dec.{leb, ltb}
 use lib.ListN.{length, getD, drop, set, replicate}
 use lib.Seq.{sets}
@@ -13,8 +13,9 @@ use Rattle.meaning.specs.Frame as Frame
 use Rattle.meaning.specs.Frame.{mayStand, kindByte, kindOf, frameOf}
 use Rattle.meaning.specs.SoFar.{SoFar, frames, saidBy, add, after}
 use Rattle.meaning.specs.Conditions.{sameText, given, isFull, conditions, firstOf}
-use Rattle.meaning.specs.File.{Reading, refused, described, reading}
+use Rattle.meaning.specs.File.{Reading, refused, described, reading, countOf}
 use Rattle.meaning.specs.Outcome.{minWords}
+use Rattle.text.specs.Utf8.{characters}
 use Rattle.hex.specs.Digits.{lineAt}
 use Rattle.frames.specs.Contracts.{numberOf}
 use Rattle.cells.specs.Words.{pick}
@@ -94,11 +95,31 @@ pub record TakesThere (at : ℕ) (k : Frame.Kind) (s w : List ℕ) (c : Counters
 
 -- ---- Names
 
+-- The bytes at i as one number.
+unfoldable pub fourAt : List ℕ → ℕ → ℕ
+fourAt f i = getD f i 0 + 256 * getD f (i + 1) 0 + 65536 * getD f (i + 2) 0 + 16777216 * getD f (i + 3) 0
+
+unfoldable pub eightAt : List ℕ → ℕ → ℕ
+eightAt f i = fourAt f i + 4294967296 * fourAt f (i + 4)
+
+-- Lines of at least n digits that were found to differ are not the same. Nothing is said of others.
+pub record Differ (f : List ℕ) (a b n : ℕ) (r : Bool) : Type 0 where
+  pub is : r ≡ true → (s : List ℕ) → n ≤ 2 * length s → lineAt f a ≡ some s → lineAt f b ≡ some s → ⊥
+
 pub record SameLine (f : List ℕ) (a b : ℕ) (r : Bool) : Type 0 where
   pub is : (s t : List ℕ) → lineAt f a ≡ some s → lineAt f b ≡ some t → r ≡ sameText s t
 
-pub record GivenBefore (f w : List ℕ) (n at : ℕ) (r : Bool) : Type 0 where
-  pub is : (value : ℕ) (names : List (List ℕ)) (s : List ℕ) → NamesHeld f w n value names → lineAt f at ≡ some (0x02 ∷ s) → r ≡ given names s
+-- A text's line, by its characters and digits.
+pub record NameLine (f : List ℕ) (at chars digits : ℕ) (s : List ℕ) : Type 0 where
+  pub line : lineAt f at ≡ some (0x02 ∷ s)
+  pub characters : characters s ≡ some chars
+  pub long : digits ≡ 2 * length (0x02 ∷ s)
+
+pub record SameName (f : List ℕ) (x at chars digits : ℕ) (r : Bool) : Type 0 where
+  pub is : (s t : List ℕ) → lineAt f (x / 512) ≡ some (0x02 ∷ s) → x % 512 ≡ countOf (characters s) → NameLine f at chars digits t → r ≡ sameText s t
+
+pub record GivenBefore (f w : List ℕ) (n at chars digits : ℕ) (r : Bool) : Type 0 where
+  pub is : (value : ℕ) (names : List (List ℕ)) (s : List ℕ) → NamesHeld f w n value names → NameLine f at chars digits s → r ≡ given names s
 
 pub record AddsName (at chars : ℕ) (value : Bool) (w : List ℕ) (c : Counters) (w′ : List ℕ) (r : Step) : Type 0 where
   pub words : w′ ≡ set w (NAMES + c .names) (at * 512 + chars)

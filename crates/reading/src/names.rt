@@ -6,7 +6,7 @@ ghost use lib.ListN.{length, drop};
 ghost use Rattle.meaning.specs.Conditions.{sameText};
 ghost use Rattle.meaning.specs.File.{valueText};
 ghost use Rattle.meaning.specs.Frame.{name};
-ghost use Rattle.reading.specs.Contracts.{SameLine, GivenBefore, AddsName, Takes};
+ghost use Rattle.reading.specs.Contracts.{fourAt, eightAt, Differ, SameLine, SameName, GivenBefore, AddsName, Takes};
 use crate::Counters;
 use crate::Refusal;
 use crate::Step;
@@ -32,12 +32,79 @@ fn same_line(file: &[u8], a: usize, b: usize) -> bool
     false
 }
 
-fn given_before(file: &[u8], w: &[u32], names: u32, at: usize) -> bool
-    ensures { λ r. ⌜ GivenBefore (now (file .entry)) (now (w .entry)) names at r ⌝ }
+fn wide64(b: u8) -> u64
+    ensures { λ r. ⌜ (r ≡ b) × (r < 256) ⌝ }
+{
+    b as u64
+}
+
+// The digits at i as one number: four, or eight.
+fn four(f: &[u8], i: usize) -> u64
+    requires { ⌜ i + 4 ≤ length (now f) ⌝ }
+    ensures { λ r. ⌜ (r ≡ fourAt (now (f .entry)) i) × (r < 4294967296) ⌝ }
+{
+    wide64(f[i]) + 256 * wide64(f[i + 1]) + 65536 * wide64(f[i + 2]) + 16777216 * wide64(f[i + 3])
+}
+
+fn eight(f: &[u8], i: usize) -> u64
+    requires { ⌜ i + 8 ≤ length (now f) ⌝ }
+    ensures { λ r. ⌜ r ≡ eightAt (now (f .entry)) i ⌝ }
+{
+    four(f, i) + 4294967296 * four(f, i + 4)
+}
+
+// Whether some of the first n digits differ, eight at a time: where they do, the lines do, so that `same_line` seldom walks
+// far. The last eight come first, since names often differ at their ends.
+fn differ(file: &[u8], a: usize, b: usize, n: usize) -> bool
+    ensures { λ r. ⌜ Differ (now (file .entry)) a b n r ⌝ }
+{
+    if n < 8 {
+        return false;
+    }
+    if file.len() < n {
+        return false;
+    }
+    let last = file.len() - n;
+    if last < a {
+        return false;
+    }
+    if last < b {
+        return false;
+    }
+    if eight(file, a + (n - 8)) != eight(file, b + (n - 8)) {
+        return true;
+    }
+    let mut i: usize = 0;
+    while i < n - 8 {
+        if eight(file, a + i) != eight(file, b + i) {
+            return true;
+        }
+        i += 8;
+    }
+    false
+}
+
+// Whether the name of this word has the text of the line at b, which has so many characters and digits.
+fn same_name(file: &[u8], x: u32, b: usize, chars: usize, n: usize) -> bool
+    ensures { λ r. ⌜ SameName (now (file .entry)) x b chars n r ⌝ }
+{
+    if wide(x % 512) != chars {
+        return false;
+    }
+    let a = wide(x / 512);
+    if differ(file, a, b, n) {
+        return false;
+    }
+    same_line(file, a, b)
+}
+
+// The line has so many characters and digits.
+fn given_before(file: &[u8], w: &[u32], names: u32, at: usize, chars: usize, n: usize) -> bool
+    ensures { λ r. ⌜ GivenBefore (now (file .entry)) (now (w .entry)) names at chars n r ⌝ }
 {
     let mut j: u32 = 0;
     while j < names {
-        if same_line(file, wide(word(w, work::NAMES + wide(j)) / 512), at) {
+        if same_name(file, word(w, work::NAMES + wide(j)), at, chars, n) {
             return true;
         }
         j += 1;
@@ -86,7 +153,7 @@ pub fn take_name(file: &[u8], at: usize, s: &[u8], w: &mut [u32], c: Counters) -
     match got {
         text::Text::Broken => Step::Off(Refusal::BrokenText),
         text::Text::Chars(chars) => {
-            if given_before(file, w, c.names, at) {
+            if given_before(file, w, c.names, at, chars, 2 * s.len()) {
                 return Step::Off(Refusal::NameGivenBefore);
             }
             add_name(at, chars, is_value(s), w, c)

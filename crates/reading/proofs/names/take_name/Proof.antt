@@ -22,6 +22,7 @@ take-name-spec =
     (λ c κs. search needs)
     (λ c. search needs)
     (λ c. search needs)
+    (λ c. search needs)
     (λ c κs. search needs)
     (λ c. search needs)
     (λ c. name-given _ _ (c .before .before .before .before .before .before .before .before .before .before .before .args .s .now) _ _ _ (text-whole (c .before .before .before .before .before .before .before .before .before .before .before .args .s .now) _ (c .before .before .before .before .before .before .characters .ensures) _ (c .before .before .before .before .got .given .1)) (rw (c .if1 .taken) at (c .before .given-before .ensures)))
