@@ -5,7 +5,6 @@ ghost use Rattle.meaning.specs.Refusal.{number};
 ghost use Rattle.meaning.specs.Answer.{hexLine};
 ghost use Rattle.reading.specs.Contracts.{refusal};
 ghost use Rattle.desk.specs.Contracts.{RunsFile, ChecksFile};
-
 use answer::Wrote;
 use reading::Counters;
 use reading::Read;
