@@ -95,8 +95,9 @@ fn is_full(c: Counters, kind: usize) -> bool
 fn take_limits(s: &[u8], w: &mut [u32], c: Counters) -> Step
     ensures { λ r. ⌜ TakesAnywhere limits (now (s .entry)) (now (w .entry)) c (now (w .exit)) r ⌝ }
 {
-    put(w, work::MAX_DISTANCE, frames::byte(s, 1));
-    put(w, work::MAX_TERM, frames::half(s, 2));
+    let limits = reader::read_limits(s);
+    put(w, work::MAX_DISTANCE, limits.distance);
+    put(w, work::MAX_TERM, limits.term);
     Step::On(c)
 }
 

@@ -1,3 +1,4 @@
+-- Made from Proof.ans by tools/answers, 93933a417ae40684.
 use borrow.Author.Needs.{needs}
 use Rattle.steps.proofs.fuzzy_term.Statement.{statement}
 use Rattle.steps.proofs.fuzzy_term.Tie as tie

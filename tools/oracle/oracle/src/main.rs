@@ -68,7 +68,7 @@ oracle bench reading [--seed S] [--count N] [--rounds R] [--style NAME]
     callgrind_annotate.
 
 oracle record [--check]
-    Writes vectors/answers.bin, the recorded sample of answers; with --check holds it against the
+    Writes crates/replay/stdin, the recorded sample of answers; with --check holds it against the
     generator and the Rust instead.
 
 oracle selftest

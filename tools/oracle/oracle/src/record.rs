@@ -14,7 +14,7 @@ use crate::printed::printed;
 use crate::selftest;
 use crate::tally::Tally;
 
-const STORED: &str = concat!(env!("CARGO_MANIFEST_DIR"), "/../../../vectors/answers.bin");
+const STORED: &str = concat!(env!("CARGO_MANIFEST_DIR"), "/../../../crates/replay/stdin");
 
 /// Seed and count of the files that those which tell a mistake are taken from.
 const TELLING: (u64, u64) = (1, 20_000);

@@ -1,0 +1,60 @@
+//! The type checker of Sigla queries. The code behind it is proved to answer, for every file and every two slices, what its definition
+//! gives: see docs/PROMISE.md.
+//!
+//! ```
+//! let mut work = vec![0u32; sigla::WORDS];
+//! let mut answer = vec![0u8; 65536];
+//! assert_eq!(sigla::check(b"", &mut work, &mut answer), Err(sigla::Refusal::MisplacedKind));
+//! ```
+
+/// The words that must be lent.
+pub const WORDS: usize = 16384;
+
+/// Why a file is turned down; the numbers are those of the refusals.
+#[derive(Clone, Copy, Debug, PartialEq, Eq)]
+#[repr(u8)]
+pub enum Refusal {
+    WorkTooShort = 1,
+    FileTooLong = 2,
+    MalformedLine = 3,
+    MisplacedKind = 4,
+    TooMany = 5,
+    MalformedFrame = 6,
+    BrokenText = 7,
+    NameGivenBefore = 8,
+    BadReference = 9,
+    RepeatedKey = 10,
+    TooManyVisits = 11,
+    AnswerTooLong = 12,
+}
+
+const REFUSALS: [Refusal; 12] = [
+    Refusal::WorkTooShort,
+    Refusal::FileTooLong,
+    Refusal::MalformedLine,
+    Refusal::MisplacedKind,
+    Refusal::TooMany,
+    Refusal::MalformedFrame,
+    Refusal::BrokenText,
+    Refusal::NameGivenBefore,
+    Refusal::BadReference,
+    Refusal::RepeatedKey,
+    Refusal::TooManyVisits,
+    Refusal::AnswerTooLong,
+];
+
+unsafe extern "C" {
+    fn sigla_check(file: *const u8, file_len: usize, work: *mut u32, work_len: usize, answer: *mut u8, answer_len: usize) -> u8;
+}
+
+/// Types the query of a file. The answer's lines stand at the start of `answer`, and their length comes back; zeros follow them. After a
+/// refusal both slices are zero throughout, and after an acceptance the work slice is.
+pub fn check(file: &[u8], work: &mut [u32], answer: &mut [u8]) -> Result<usize, Refusal> {
+    // SAFETY: each pointer goes with the length of the slice that it comes from; two of the slices are borrowed for writing, so none
+    // overlaps another; the library keeps no pointer.
+    let number = unsafe { sigla_check(file.as_ptr(), file.len(), work.as_mut_ptr(), work.len(), answer.as_mut_ptr(), answer.len()) };
+    match number {
+        0 => Ok(answer.iter().position(|&byte| byte == 0).unwrap_or(answer.len())),
+        n => Err(REFUSALS[usize::from(n) - 1]),
+    }
+}

@@ -1,0 +1,3 @@
+mod Deciding
+mod Lining
+pub mod Demands
