@@ -22,7 +22,7 @@ use Rattle.answer.specs.declared.Wrote.{Wrote}
 use Rattle.answer.specs.declared.Wrote.the-variants.{To, Full}
 use Rattle.answer.specs.Writes.{Writes, hexOf}
 use Rattle.answer.specs.Types.{Resolves, WritesTy}
-use Rattle.answer.specs.Lines.{found, nodeBytes, WritesSlot, WritesNode, WritesNodeLine, WritesNodeLines}
+use Rattle.answer.specs.Lines.{nodeBytes, WritesSlot, WritesNode, WritesNodeLine, WritesNodeLines}
 use Rattle.answer.proofs.Writing.{writes-as, writes-then, writes-full, Goes, goes-start, goes-next, goes-full, goes-done}
 use Rattle.answer.proofs.Digits.{hex-then, hex-full, line-is}
 

@@ -1,8 +1,8 @@
 -- Demand 3 of the code's calls. Each call's contract says that the words after it stand for the state that the definition gives,
 -- and that state is one that a list of demand 3's calls leads to; what a type in hand stands for is a permitted side, since every
 -- cell is.
-use mathlib.Core.List.{List, _∷_}
-use mathlib.Core.Option.{Option, none}
+use mathlib.Core.List.{List}
+use mathlib.Core.Option.{Option}
 use mathlib.Core.Logic.{⊎-elim}
 use mathlib.Core.Path.{_≡_, refl, sym, subst}
 use Prim.Native.Nat.{ℕ, zero, suc, _+_, _*_, _≤_, _<_}
@@ -16,15 +16,15 @@ use Rattle.unification.specs.Calls as Calls
 use Rattle.unification.specs.Calls.{Side, SideRow, Machine, Demand3}
 use Rattle.unification.proofs.Sides.{side-more}
 use Rattle.unification.proofs.Demand3.{demand-3}
-use Rattle.work.specs.Layout.{RECORD-COUNT, UNKNOWNS, UNDO-LEN, RECORD-FIELDS, END}
+use Rattle.work.specs.Layout.{RECORD-COUNT, UNKNOWNS, RECORD-FIELDS}
 use Rattle.cells.specs.declared.Ty.{Ty}
 use Rattle.cells.specs.declared.Ty.the-variants.{Int, Str, Bytes, Fact, Record, Union, Var, Error}
 use Rattle.cells.specs.declared.Kind.{Kind}
 use Rattle.cells.specs.declared.Kind.the-variants.{Fields, Alternatives}
 use Rattle.cells.specs.declared.Unified.{Unified}
-use Rattle.cells.specs.Words.{freshW, annotateW, madeField}
-use Rattle.cells.specs.Inferred.{reserveW, putFieldW, newRecordW, rowMade, rowsWith, Filled}
-use Rattle.cells.specs.Stands.{Rows, tree, IsCell, Ok, Holds, Keeps}
+use Rattle.cells.specs.Words.{madeField}
+use Rattle.cells.specs.Inferred.{newRecordW, rowMade, rowsWith, Filled}
+use Rattle.cells.specs.Stands.{Rows, tree, IsCell, Ok, Holds}
 use Rattle.cells.specs.Contracts.{Stays, Ends, Unifies}
 use Rattle.cells.specs.CodeCalls.{kindTree, Permitted, with-state, CodeCalls, none-yet, unknown, reserving, filling, record-cell, unification, failure, snapping, rollingBack, spending, annotation}
 use Rattle.cells.proofs.Frame.{SameCells, keeps-cells, cell-before, cell-by}

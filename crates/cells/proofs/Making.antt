@@ -7,18 +7,18 @@ use mathlib.Core.Path.{_≡_, refl, sym, _∙_, ap}
 use native.Mathlib.Decide.{ℕ-discrete}
 use native.Mathlib.Omega.{arith}
 use Prim.Native.Nat.{ℕ, zero, suc, _+_, _-_, _*_, _/_, _%_, _<_, _≤_}
-use lib.Dec.{eqb, ltb}
+use lib.Dec.{ltb}
 use lib.ListN.{length, getD, set, length-set}
 use lib.Seq.{getD-set-same, getD-set-other}
 use borrow.Author.Tests.{lt-ltb, le-ltb, ltb-true, ltb-false, eq-eqb, ne-eqb}
 use Rattle.unification.specs.Bindings.{State}
-use Rattle.work.specs.Layout.{TYPE-COUNT, TYPES, RECORD-COUNT, RECORD-FIELD-COUNT, UNKNOWNS, RECORDS, RECORD-FIELDS, ENV, TYS, END}
+use Rattle.work.specs.Layout.{TYPE-COUNT, TYPES, RECORD-COUNT, RECORD-FIELD-COUNT, UNKNOWNS, RECORDS, RECORD-FIELDS, ENV, END}
 use Rattle.cells.specs.declared.Ty.{Ty}
 use Rattle.cells.specs.declared.Ty.the-variants.{Int, Str, Bytes, Fact, Record, Union, Var, Error}
 use Rattle.cells.specs.declared.Kind.{Kind}
 use Rattle.cells.specs.declared.Kind.the-variants.{Fields}
-use Rattle.cells.specs.Words.{pick, tagW, payloadW, countW, firstW, madeField, fieldW}
-use Rattle.cells.specs.Stands.{Rows, tree, rowFrom, rowW, IsCell, declared, made, Ok, Cells, Holds, Keeps}
+use Rattle.cells.specs.Words.{tagW, payloadW, countW, firstW, madeField, fieldW}
+use Rattle.cells.specs.Stands.{Rows, rowFrom, rowW, IsCell, declared, made, Cells, Holds, Keeps}
 use Rattle.cells.specs.Inferred.{reserveW, putFieldW, newRecordW, newRecordTy, More, Adds, Reserved, rowMade, rowsWith, Filled}
 use Rattle.cells.proofs.Frame.{keeps-trans, keeps-set, cell-by, OldCells, SameCells, NewCell, more-refl, ok-old, count-old, first-old, cells-more, tree-more, field-made, made-field-same}
 use Rattle.cells.proofs.Elsewhere.{SameSlots, holds-moved}

@@ -1,6 +1,6 @@
 -- Demand 3's list of calls, made by the code: the words that each call leaves, by the contracts of src/, beside the machine of
 -- unification/specs/Calls.antt.
-use mathlib.Core.List.{List, [], _∷_, _++_}
+use mathlib.Core.List.{List, _∷_, _++_}
 use mathlib.Core.Option.{Option, none}
 use mathlib.Core.Path.{_≡_}
 use Prim.Native.Nat.{ℕ, _+_, _≤_, _<_}

@@ -4,7 +4,6 @@ use mathlib.Core.List.{List}
 use mathlib.Core.Option.{Option, none, some}
 use mathlib.Core.Path.{_≡_}
 use Prim.Native.Nat.{ℕ, _≤_, _<_}
-use lib.ListN.{length}
 use Rattle.unification.specs.Ty as Tree
 use Rattle.unification.specs.Ty.{Row, ε, cell, appRow}
 use Rattle.unification.specs.Bindings as Bindings
@@ -15,7 +14,7 @@ use Rattle.unification.proofs.Acyclic.{Acyclic}
 use Rattle.unification.proofs.Chain.{Resolved}
 use Rattle.work.specs.Layout.{TYS, UNDO-LEN, END}
 use Rattle.cells.specs.declared.Ty.{Ty}
-use Rattle.cells.specs.declared.Ty.the-variants.{Record, Union, Var}
+use Rattle.cells.specs.declared.Ty.the-variants.{Union, Var}
 use Rattle.cells.specs.declared.Kind.{Kind}
 use Rattle.cells.specs.declared.Kind.the-variants.{Fields, Alternatives}
 use Rattle.cells.specs.declared.Found.{Found}

@@ -1,6 +1,5 @@
 -- The words after each step of making an inferred record (src/inferred.rt). There is room for 512 fields and 512 records; past
 -- it nothing is written, and that it never comes to that is shown where the run is.
-use mathlib.Core.Bool.{Bool, true, false}
 use mathlib.Core.List.{List}
 use mathlib.Core.Logic.{_⊎_}
 use mathlib.Core.Path.{_≡_}

@@ -1,8 +1,6 @@
 -- What the words of the work slice stand for: types as trees, and the state of unification/specs/Bindings.antt. This is the one
 -- relation between the code's words and the definitions.
-use mathlib.Core.Bool.{Bool, true, false}
 use mathlib.Core.List.{List, [], _∷_}
-use mathlib.Core.Logic.{_⊎_}
 use mathlib.Core.Option.{Option, none, some}
 use mathlib.Core.Path.{_≡_}
 use Prim.Native.Nat.{ℕ, zero, suc, _+_, _-_, _*_, _%_, _≤_, _<_}
@@ -12,7 +10,7 @@ use Rattle.unification.specs.Ty as Tree
 use Rattle.unification.specs.Ty.{Row, ε, cell}
 use Rattle.unification.specs.Bindings.{Subst, bound, Undo, Binding, Annotation, State}
 use Rattle.unification.proofs.Acyclic.{Acyclic}
-use Rattle.work.specs.Layout.{TYPE-COUNT, TYPES, FIELDS, RECORD-COUNT, RECORD-FIELD-COUNT, UNKNOWNS, BINDINGS, TYS, UNDO, UNDO-LEN, END}
+use Rattle.work.specs.Layout.{TYPE-COUNT, TYPES, FIELDS, RECORD-COUNT, RECORD-FIELD-COUNT, UNKNOWNS, TYS, UNDO, UNDO-LEN, END}
 use Rattle.cells.specs.declared.Ty.{Ty}
 use Rattle.cells.specs.declared.Ty.the-variants.{Int, Str, Bytes, Fact, Record, Union, Var, Error}
 use Rattle.cells.specs.declared.Kind.{Kind}

@@ -1,7 +1,7 @@
 -- How the words of the work slice are read as types, parts of cells, bindings and undo entries.
 use mathlib.Core.Bool.{Bool, true, false}
-use mathlib.Core.List.{List, [], _∷_}
-use Prim.Native.Nat.{ℕ, zero, suc, _+_, _-_, _*_, _/_, _%_}
+use mathlib.Core.List.{List}
+use Prim.Native.Nat.{ℕ, _+_, _-_, _*_, _/_, _%_}
 use lib.Dec.{eqb, ltb}
 use lib.ListN.{getD, set}
 use Rattle.work.specs.Layout.{TYPES, FIELDS, RECORDS, RECORD-FIELDS, UNKNOWNS, BINDINGS, TYS, UNDO, UNDO-LEN}

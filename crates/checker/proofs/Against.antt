@@ -1,23 +1,19 @@
 -- `check` by the head of what is expected and by the node's form: nothing against Error, a note for a wildcard, fields or an alternative
 -- for a record, and else what is inferred unified.
-use mathlib.Core.Bool.{Bool, true, false}
 use mathlib.Core.List.{List, [], _∷_}
 use mathlib.Core.Logic.{_≢_}
-use mathlib.Core.Option.{Option, none, some}
+use mathlib.Core.Option.{none, some}
 use mathlib.Core.Path.{_≡_, refl, sym, _∙_, ap}
-use Prim.Native.Nat.{ℕ, zero, suc, _+_, _-_, _≤_, _<_}
+use Prim.Native.Nat.{ℕ, zero, suc, _+_, _-_, _<_}
 use native.Mathlib.Omega.{arith}
 use lib.ListN.{length}
 use Rattle.unification.specs.Ty as Tree
 use Rattle.unification.specs.Bindings as Bindings
 use Rattle.unification.specs.Unify.{findLabel}
-use Rattle.unification.specs.Calls.{Side, SideRow}
-use Rattle.unification.proofs.Tests.{clash}
 use Rattle.cells.specs.declared.Ty.{Ty}
 use Rattle.cells.specs.declared.Ty.the-variants.{Int, Str, Bytes, Fact, Record, Union, Var, Error}
-use Rattle.cells.specs.declared.Kind.the-variants.{Fields, Alternatives}
 use Rattle.cells.specs.Words.{tagW}
-use Rattle.cells.specs.Stands.{Rows, tree, Ok}
+use Rattle.cells.specs.Stands.{Rows, tree}
 use Rattle.cells.specs.declared.Part.{Part}
 use Rattle.cells.specs.declared.Found.{Found}
 use Rattle.cells.specs.declared.Found.the-variants as Found
@@ -26,23 +22,24 @@ use Rattle.meaning.specs.Syntax.{Field, ExprKind, nodeAt}
 use Rattle.meaning.specs.References.{fieldValues, exprNodes}
 use Rattle.meaning.specs.Diag.{Code}
 use Rattle.meaning.specs.File.{Described}
-use Rattle.meaning.specs.Check.{Checker, Step, goes, out, Does, andThen, Walk, walk, Form, aWildcard, aVariable, aConstant, aRecord, aDisjunction, anError, another, form, formOf, repr, annotate, reject, inferThenUnify, checkFields, checkAlternative, checkUnion, checkRecord, checkForm, checkAgainst, checkAt}
+use Rattle.meaning.specs.Check.{Checker, Walk, walk, Form, aWildcard, aVariable, aConstant, aRecord, aDisjunction, anError, another, form, formOf, repr, annotate, reject, inferThenUnify, checkFields, checkAlternative, checkUnion, checkRecord, checkForm, checkAgainst, checkAt}
 use Rattle.meaning.specs.Run.{same, sumOf, weight}
-use Rattle.meaning.proofs.Meets.{unknowns, Meets, Fits}
-use Rattle.meaning.proofs.Steps.{no-thing, one-diagnostic, one-node, Nothing, annotate-meets}
-use Rattle.meaning.proofs.Visits.{Good, size-pos, own-weight, payload-side, checkFields-meets}
+use Rattle.meaning.proofs.Meets.{unknowns}
+use Rattle.meaning.proofs.Steps.{one-diagnostic, one-node, Nothing}
+use Rattle.meaning.proofs.Visits.{size-pos, own-weight, payload-side, checkFields-meets}
 use Rattle.tree.specs.declared.Items.{Items}
 use Rattle.tree.specs.declared.Node.{Node}
 use Rattle.tree.specs.declared.Node.the-variants as Node
 use Rattle.tree.specs.Nodes.{fieldW, fieldOf, fieldsFrom, kindW, IsNode}
 use Rattle.steps.specs.declared.Done.{Done}
 use Rattle.steps.specs.declared.Done.the-variants as Done
-use Rattle.steps.specs.Ends.{done, silent, Ends}
+use Rattle.steps.specs.Ends.{done, Ends}
 use Rattle.steps.specs.Loads.{Load, only, both, Holds, checks, visits, Begins, Beside}
 use Rattle.steps.specs.Contracts.{nodesOf, Fine, FineRecord, FineUnion, Notes, Rejects, Named, AllNamed, Node-at}
-use Rattle.checker.specs.Contracts.{below, InfersThenUnifies, ChecksFields, ChecksUnion, ChecksRecord, Checks}
+use Rattle.checker.specs.Contracts.{below, InfersThenUnifies, ChecksFields, ChecksUnion, Checks}
+use Rattle.checker.proofs.Within.{ChecksRecord}
 use Rattle.steps.proofs.Sequel.{begins-part, ends-wider}
-use Rattle.steps.proofs.Results.{After, fine-after, tree-after, on-here, then-done, stop-done, silent-on}
+use Rattle.steps.proofs.Results.{fine-after, tree-after, on-here, then-done, stop-done, silent-on}
 use Rattle.steps.proofs.Reading.{parts-named, kind-read, form-read}
 use Rattle.checker.proofs.Inferring.{good}
 use Rattle.checker.proofs.Arms.{fine-head}

@@ -1,20 +1,19 @@
 -- `infer_all`: each operand or branch is inferred and unified with one type. A turn of the loop is one step of the definition's list;
 -- what it gives from item i on, from here, is what it gives on all from the start.
 use mathlib.Core.List.{List, [], _∷_}
-use mathlib.Core.Path.{_≡_, refl, sym, _∙_, ap}
-use Prim.Native.Nat.{ℕ, zero, suc, _+_, _-_, _≤_, _<_}
+use mathlib.Core.Path.{_≡_, refl}
+use Prim.Native.Nat.{ℕ, suc, _+_, _-_, _≤_, _<_}
 use native.Mathlib.Omega.{arith}
 use Rattle.unification.specs.Ty as Tree
 use Rattle.unification.proofs.Tests.{clash}
 use Rattle.cells.specs.declared.Ty.{Ty}
-use Rattle.cells.specs.Stands.{Rows, tree, Ok}
+use Rattle.cells.specs.Stands.{Rows, tree}
 use Rattle.meaning.specs.File.{Described}
-use Rattle.meaning.specs.All.{All}
-use Rattle.meaning.specs.Check.{Checker, Step, goes, out, Does, andThen, inferAll, unifyAt}
+use Rattle.meaning.specs.Check.{Checker, Step, goes, andThen, inferAll, unifyAt}
 use Rattle.meaning.specs.Run.{sumOf}
 use Rattle.meaning.proofs.Meets.{Ready, Meets, meets-then, made-side}
-use Rattle.meaning.proofs.Steps.{no-thing, one-diagnostic, Nothing, IsSide, unifyAt-meets}
-use Rattle.meaning.proofs.Visits.{Good, inferring, visiting, size-pos}
+use Rattle.meaning.proofs.Steps.{one-diagnostic, Nothing, IsSide, unifyAt-meets}
+use Rattle.meaning.proofs.Visits.{inferring, visiting, size-pos}
 use Rattle.tree.specs.declared.Items.{Items}
 use Rattle.tree.specs.Nodes.{itemW, itemsFrom}
 use Rattle.steps.specs.declared.Typed.{Typed}
@@ -26,7 +25,7 @@ use Rattle.steps.specs.Loads.{Load, only, both, Holds, infers, visits, Begins, 
 use Rattle.steps.specs.Contracts.{nodesOf, Fine, UnifiesAt, Named, AllNamed}
 use Rattle.checker.specs.Contracts.{below, Infers, InfersAll, allWith}
 use Rattle.steps.proofs.Sequel.{andThen-first}
-use Rattle.steps.proofs.Results.{After, fine-after, tree-after, type-here, then-typed, stop-typed, stop-done}
+use Rattle.steps.proofs.Results.{fine-after, tree-after, type-here, then-typed, stop-typed, stop-done}
 use Rattle.checker.proofs.Looping.{Midway, mid-start, mid-tree, mid-fine, mid-ends, mid-led, mid-after}
 use Rattle.checker.proofs.Inferring.{good}
 

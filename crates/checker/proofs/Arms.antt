@@ -1,9 +1,9 @@
 -- The arms of `infer_kind` that visit nodes below: a base and then its field, value or alternative; a fact's key; operands and branches;
 -- a subquery. What a kind's parts make and what it makes of its own is the load of the arm.
 use mathlib.Core.List.{List, [], _∷_}
-use mathlib.Core.Option.{Option, none, some}
+use mathlib.Core.Option.{none, some}
 use mathlib.Core.Path.{_≡_, refl, sym, _∙_, ap}
-use Prim.Native.Nat.{ℕ, suc, _+_, _≤_, _<_}
+use Prim.Native.Nat.{ℕ, _<_}
 use native.Mathlib.Omega.{arith}
 use lib.ListN.{length}
 use Rattle.unification.specs.Ty as Tree
@@ -14,20 +14,20 @@ use Rattle.cells.specs.declared.Ty.{Ty}
 use Rattle.cells.specs.declared.Ty.the-variants.{Int, Str, Fact, Var}
 use Rattle.cells.specs.declared.Bound.{Bound}
 use Rattle.cells.specs.declared.Bound.the-variants.{To, Free}
-use Rattle.cells.specs.Stands.{Rows, tree, boundTree, Ok}
+use Rattle.cells.specs.Stands.{Rows, tree, boundTree}
 use Rattle.cells.specs.Contracts.{Reprs}
-use Rattle.meaning.specs.Syntax.{ExprKind, Field, FieldRef, Query, noNode, nodeAt}
-use Rattle.meaning.specs.References.{fieldNames, exprNames, exprNodes, queryNodes}
-use Rattle.meaning.specs.All.{All, Below}
+use Rattle.meaning.specs.Syntax.{ExprKind, Field, FieldRef, noNode, nodeAt}
+use Rattle.meaning.specs.References.{fieldNames, exprNames, exprNodes}
+use Rattle.meaning.specs.All.{Below}
 use Rattle.meaning.specs.Conditions.{maxNames}
 use Rattle.meaning.specs.Sound.{Sound}
 use Rattle.meaning.proofs.Lists.{all-at, all-map}
 use Rattle.meaning.specs.File.{Described}
-use Rattle.meaning.specs.Check.{Checker, Step, goes, Does, andThen, repr, Walk, keyTy, accessOf, access, selectOf, select, fact, inferKind, disjunction, freshVar, freshVarId, fuzzyDistance, fuzzyTerm}
+use Rattle.meaning.specs.Check.{Checker, goes, Does, andThen, repr, Walk, keyTy, accessOf, access, selectOf, select, fact, inferKind, disjunction, freshVarId, fuzzyDistance, fuzzyTerm}
 use Rattle.meaning.specs.Run.{sumOf, recordsOf, fieldsOf}
-use Rattle.meaning.proofs.Meets.{unknowns, Meets}
-use Rattle.meaning.proofs.Steps.{no-thing, one-diagnostic, one-unknown, Nothing, IsSide, freshVarId-meets}
-use Rattle.meaning.proofs.Visits.{Good, repr-side, size-pos, key-declared}
+use Rattle.meaning.proofs.Meets.{unknowns}
+use Rattle.meaning.proofs.Steps.{no-thing, one-diagnostic, one-unknown, Nothing, freshVarId-meets}
+use Rattle.meaning.proofs.Visits.{repr-side, size-pos, key-declared}
 use Rattle.tree.specs.declared.Node.{Node}
 use Rattle.tree.specs.declared.Node.the-variants as Node
 use Rattle.tree.specs.declared.Items.{Items}
@@ -37,14 +37,13 @@ use Rattle.steps.specs.declared.Typed.{Typed}
 use Rattle.steps.specs.declared.Typed.the-variants as Typed
 use Rattle.steps.specs.declared.Done.{Done}
 use Rattle.steps.specs.declared.Done.the-variants as Done
-use Rattle.steps.specs.Ends.{typed, done, Ends}
-use Rattle.steps.specs.Loads.{Load, only, both, Holds, infers, checks, visits, parts, Begins, Beside}
-use Rattle.steps.specs.Contracts.{nodesOf, Always, Fine, Freshens, Fuzzes, UnifiesAt, KeyIs, OnType, Named, AllNamed, Node-at}
+use Rattle.steps.specs.Loads.{Load, only, both, Holds, infers, checks, visits, parts, Begins}
+use Rattle.steps.specs.Contracts.{nodesOf, Fine, Freshens, Fuzzes, KeyIs, OnType}
 use Rattle.checker.specs.Contracts.{below, Infers, InfersKind, InfersRecord, InfersAll, Subqueries, Facts, allWith, Checks}
 use Rattle.steps.proofs.Sequel.{andThen-assoc, begins-part, ends-wider}
 use Rattle.steps.proofs.Reading.{kind-read}
-use Rattle.steps.proofs.Results.{After, fine-after, tree-after, type-here, then-typed, stop-typed, then-done, stop-done, then-numbered, silent-typed}
-use Rattle.checker.proofs.Inferring.{good, arm, ok-unknown, fresh-fits}
+use Rattle.steps.proofs.Results.{type-here, then-typed, stop-typed, then-done, stop-done, then-numbered, silent-typed}
+use Rattle.checker.proofs.Inferring.{good, arm, ok-unknown}
 
 -- ---- A type in hand followed to its head
 pub fine-head : {f w : List ℕ} {T : Rows} {d : Described} {L : Load} {left : ℕ} {c : Checker} {t u : Ty} → Begins f w T d L left c → Reprs w t u → Fine w t T c → Fine w u T c

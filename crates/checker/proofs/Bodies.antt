@@ -5,7 +5,7 @@ use mathlib.Core.List.{List, [], _∷_}
 use mathlib.Core.Path.{_≡_, refl, sym, _∙_, ap}
 use Prim.Native.Nat.{ℕ, zero, suc, _+_, _-_, _≤_, _<_}
 use native.Mathlib.Omega.{arith}
-use lib.Dec.{eqb, ltb}
+use lib.Dec.{eqb}
 use lib.ListN.{length, getD, length-append}
 use borrow.Author.Tests.{lt-ltb, le-ltb}
 use Rattle.unification.specs.Ty as Tree
@@ -17,12 +17,12 @@ use Rattle.meaning.specs.References.{stmtNodes, queryNodes, exprNodes}
 use Rattle.meaning.specs.All.{All}
 use Rattle.meaning.specs.File.{Described}
 use Rattle.meaning.specs.Check as Check
-use Rattle.meaning.specs.Check.{Checker, Step, goes, out, Does, andThen, Walk, Form, aWildcard, aVariable, aConstant, aRecord, aDisjunction, anError, another, formOf, bindForm, denyForm, generate, stmt, stmts, badTarget, onlyRight, notYet, destructure, bindWildcard, bindVariable, envLen, truncateEnv, subquery}
+use Rattle.meaning.specs.Check.{Checker, Step, goes, out, Does, andThen, Walk, Form, aWildcard, aVariable, aConstant, aRecord, aDisjunction, anError, another, formOf, bindForm, denyForm, generate, stmt, stmts, badTarget, onlyRight, notYet, bindWildcard, envLen, truncateEnv, subquery}
 use Rattle.meaning.specs.Run as Run
 use Rattle.meaning.specs.Run.{sumOf}
 use Rattle.meaning.proofs.Meets.{Grade, Ready, Made, Meets}
 use Rattle.meaning.proofs.Steps.{no-thing, Nothing}
-use Rattle.meaning.proofs.Visits.{Good, visiting, size-pos, stmts-meets}
+use Rattle.meaning.proofs.Visits.{visiting, stmts-meets}
 use Rattle.work.specs.Layout.{ENV-LEN}
 use Rattle.state.specs.Words.{envOf}
 use Rattle.state.specs.Runs.{Runs}
@@ -39,11 +39,12 @@ use Rattle.steps.specs.declared.Typed.the-variants as Typed
 use Rattle.steps.specs.declared.Done.{Done}
 use Rattle.steps.specs.declared.Done.the-variants as Done
 use Rattle.steps.specs.Ends.{typed, done, Ends}
-use Rattle.steps.specs.Loads.{Load, only, both, Holds, infers, visits, parts, Begins, Beside}
-use Rattle.steps.specs.Contracts.{nodesOf, Always, onlyW, Cuts, Named, AllNamed, Asks}
-use Rattle.checker.specs.Contracts.{below, Infers, Generates, Sides, Binds, Denies, Compares, BadTargets, NotYets, Destructures, BindsVariable, States, StatesAll, Subqueries}
-use Rattle.steps.proofs.Sequel.{begins-part, ends-wider, Led}
-use Rattle.steps.proofs.Results.{After, on-here, then-typed, stop-typed, then-done, stop-done, only-ends, silent-typed}
+use Rattle.steps.specs.Loads.{Load, only, both, Holds, infers, visits, parts, Begins}
+use Rattle.steps.specs.Contracts.{nodesOf, onlyW, Cuts, Named, AllNamed, Asks}
+use Rattle.checker.specs.Contracts.{below, Infers, Generates, Sides, Binds, Denies, Compares, NotYets, Destructures, BindsVariable, States, StatesAll, Subqueries}
+use Rattle.checker.proofs.Within.{BadTargets}
+use Rattle.steps.proofs.Sequel.{begins-part, ends-wider}
+use Rattle.steps.proofs.Results.{on-here, then-typed, stop-typed, then-done, stop-done, only-ends, silent-typed}
 use Rattle.checker.proofs.Looping.{Midway, mid-start, mid-ends, mid-led, mid-after}
 use Rattle.steps.proofs.Reading.{kind-read, form-read, name-small}
 use Rattle.checker.proofs.Inferring.{good}

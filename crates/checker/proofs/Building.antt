@@ -1,7 +1,7 @@
 -- `infer_record` beside the definition's list of fields: the row is built from behind there and from the front in the slice, so midway
 -- the whole is the rest with the cells so far put in front of its row.
 use mathlib.Core.List.{List, [], _∷_}
-use mathlib.Core.Path.{_≡_, refl, sym, _∙_, ap}
+use mathlib.Core.Path.{_≡_, refl}
 use Prim.Native.Nat.{ℕ, _+_}
 use native.Mathlib.Omega.{arith}
 use lib.ListN.{length}
@@ -12,7 +12,7 @@ use Rattle.meaning.specs.File.{Described}
 use Rattle.meaning.specs.Check.{Checker, Step, goes, out, Does, andThen, inferFields, inferKind}
 use Rattle.meaning.specs.Run.{sumOf, records, recordsOf, recordFields, fieldsOf}
 use Rattle.meaning.proofs.Visits.{visiting, size-pos}
-use Rattle.steps.specs.Loads.{Load, only, both, Holds, infers, parts}
+use Rattle.steps.specs.Loads.{Load, both, Holds, infers, parts}
 use Rattle.steps.specs.Contracts.{nodesOf}
 use Rattle.checker.specs.Contracts.{below}
 use Rattle.steps.proofs.Sequel.{andThen-assoc}

@@ -1,10 +1,10 @@
 -- `check`: what is inferred is unified with what is expected. Where that fails, and where a diagnostic arose inside a field, the stretch
 -- is rolled back to where it began: only its unknowns and its diagnostics stay.
 use mathlib.Core.Bool.{Bool, true, false}
-use mathlib.Core.List.{List, [], _∷_}
+use mathlib.Core.List.{List}
 use mathlib.Core.Option.{Option, none, some}
 use mathlib.Core.Path.{_≡_, refl, sym, _∙_, ap}
-use Prim.Native.Nat.{ℕ, zero, suc, _+_, _-_, _*_, _≤_, _<_}
+use Prim.Native.Nat.{ℕ, zero, suc, _-_, _≤_, _<_}
 use native.Mathlib.Omega.{arith}
 use lib.Dec.{ltb}
 use lib.ListN.{length, getD}
@@ -19,24 +19,25 @@ use Rattle.cells.specs.declared.TyError.{TyError}
 use Rattle.cells.specs.declared.TyError.the-variants as TyError
 use Rattle.cells.specs.declared.Unified.{Unified}
 use Rattle.cells.specs.declared.Unified.the-variants as Unified
-use Rattle.cells.specs.Stands.{Rows, tree, Ok}
+use Rattle.cells.specs.Stands.{Rows, tree}
 use Rattle.cells.specs.Contracts.{errorOf}
 use Rattle.cells.proofs.Holding.{holds-log}
-use Rattle.meaning.specs.Syntax.{Node, nodeAt}
+use Rattle.meaning.specs.Syntax.{Node}
 use Rattle.meaning.specs.File.{Described}
-use Rattle.meaning.specs.Check.{Checker, Step, goes, out, Does, andThen, Walk, walk, Mark, codeOf, reject, report, unify, rollback, snapshot, diagnosticsLen, inferAt, inferThenUnify, checkField}
-use Rattle.meaning.proofs.Meets.{plus, unknowns, Orderly, Ready, Made, Reached, Went, Meets, made-trans, reached-trans}
-use Rattle.meaning.proofs.Steps.{no-thing, one-diagnostic, Nothing, IsSide, reject-meets, unify-meets, rolled-meets}
+use Rattle.meaning.specs.Check.{Checker, Step, goes, out, Does, andThen, walk, Mark, codeOf, report, unify, rollback, snapshot, diagnosticsLen, inferAt, inferThenUnify, checkField}
+use Rattle.meaning.proofs.Meets.{Went, made-trans, reached-trans}
+use Rattle.meaning.proofs.Steps.{no-thing, one-diagnostic, Nothing, IsSide, unify-meets, rolled-meets}
 use Rattle.meaning.proofs.Visits.{Good, size-pos}
 use Rattle.state.specs.Runs.{Runs, diagnosticsOf}
 use Rattle.steps.specs.declared.Typed.{Typed}
 use Rattle.steps.specs.declared.Typed.the-variants as Typed
 use Rattle.steps.specs.declared.Done.{Done}
 use Rattle.steps.specs.declared.Done.the-variants as Done
-use Rattle.steps.specs.Ends.{Result, typed, done, silent, unified, IsUnified, Gone, Ends, went, spent}
-use Rattle.steps.specs.Loads.{Load, only, both, Holds, infers, checks, Begins, Beside}
+use Rattle.steps.specs.Ends.{Result, typed, done, silent, unified, IsUnified, Gone, Ends, went}
+use Rattle.steps.specs.Loads.{Load, only, both, Holds, infers, checks, Begins}
 use Rattle.steps.specs.Contracts.{nodesOf, Fine, UnifiesTo, Reports, RollsTo, Named, Node-at}
-use Rattle.checker.specs.Contracts.{below, Infers, InfersThenUnifies, ChecksField, Checks}
+use Rattle.checker.specs.Contracts.{below, Infers, InfersThenUnifies, Checks}
+use Rattle.checker.proofs.Within.{ChecksField}
 use Rattle.steps.proofs.Sequel.{begins-part, begins-after, gone-trans, gone-on, holds-left, Led, led, then-ends, stop-ends}
 use Rattle.steps.proofs.Results.{After, with-visits, fine-after, tree-after, got-same, on-here, then-typed, stop-typed, then-done, stop-done, then-silent, silent-on}
 use Rattle.checker.proofs.Inferring.{good}

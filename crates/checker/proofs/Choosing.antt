@@ -1,14 +1,13 @@
 -- An arm for several variants: which form of node, or which type, it is for.
 use mathlib.Core.List.{List, [], _∷_}
-use mathlib.Core.Path.{_≡_, refl, sym}
+use mathlib.Core.Path.{_≡_, refl}
 use Prim.Native.Nat.{ℕ}
 use types.Run.{OneOf, miss}
 use denote.Enum.Declared.{tagOf}
 use Rattle.cells.specs.declared.Ty.{Ty}
 use Rattle.cells.specs.declared.Ty.the-variants.{Int, Str, Bytes, Fact, Record, Union, Var, Error}
 use Rattle.cells.proofs.Ty as ty
-use Rattle.meaning.specs.Syntax.{Field}
-use Rattle.meaning.specs.Check.{Form, aWildcard, aVariable, aConstant, aRecord, aDisjunction, anError, another, formOf, denyForm, badTarget}
+use Rattle.meaning.specs.Check.{formOf, denyForm, badTarget}
 use Rattle.tree.specs.declared.Node.{Node}
 use Rattle.tree.specs.declared.Node.the-variants as Node
 use Rattle.tree.specs.declared.Items.{Items}
@@ -16,8 +15,9 @@ use Rattle.tree.specs.Nodes.{IsNode, kindW}
 use Rattle.tree.proofs.Node.{the-type}
 use Rattle.steps.specs.declared.Done.{Done}
 use Rattle.steps.specs.Contracts.{nodesOf}
-use Rattle.steps.proofs.Forms.{ByForm, by-form}
-use Rattle.checker.specs.Contracts.{BadTargets, Denies, InfersThenUnifies, ChecksRecord}
+use Rattle.steps.proofs.Forms.{by-form}
+use Rattle.checker.specs.Contracts.{Denies, InfersThenUnifies}
+use Rattle.checker.proofs.Within.{BadTargets, ChecksRecord}
 use Rattle.checker.proofs.Bodies.{Later, DeniedLater, deny-as}
 use Rattle.checker.proofs.Against.{Inferred, NoCell, record-other}
 

@@ -1,30 +1,27 @@
 -- `compare`: each side that is a variable is introduced first, so that it is found when the side is inferred; then the types are
 -- compared. An unknown is paid for once: early where the side is a variable, and else when it is inferred.
 use mathlib.Core.List.{List, [], _∷_}
-use mathlib.Core.Path.{_≡_, refl, sym, _∙_, ap}
-use Prim.Native.Nat.{ℕ, _+_, _≤_, _<_}
+use mathlib.Core.Path.{_≡_, refl}
+use Prim.Native.Nat.{ℕ}
 use native.Mathlib.Omega.{arith}
-use lib.ListN.{length}
 use Rattle.unification.specs.Ty as Tree
-use Rattle.unification.proofs.Tests.{clash}
 use Rattle.cells.specs.declared.Ty.{Ty}
 use Rattle.cells.specs.Stands.{Rows, tree}
 use Rattle.meaning.specs.Syntax.{nodeAt}
 use Rattle.meaning.specs.File.{Described}
-use Rattle.meaning.specs.Check.{Checker, Step, goes, out, Does, andThen, Form, aWildcard, aVariable, aConstant, aRecord, aDisjunction, anError, another, form, formOf, kind, introduce, introduceSide, compare}
+use Rattle.meaning.specs.Check.{Checker, andThen, Form, aWildcard, aVariable, aConstant, aRecord, aDisjunction, anError, another, form, kind, introduceSide, compare}
 use Rattle.meaning.specs.Run.{sumOf, size, records, recordFields}
-use Rattle.meaning.proofs.Meets.{Meets}
-use Rattle.meaning.proofs.Steps.{one-diagnostic, IsSide}
-use Rattle.meaning.proofs.Visits.{Good, size-pos, early, late, early-late, introducing, inferring-late, Introduced, made-introduced, introduceSide-meets, infer-late, variable-kind}
+use Rattle.meaning.proofs.Steps.{one-diagnostic}
+use Rattle.meaning.proofs.Visits.{size-pos, late, early-late, introducing, inferring-late, Introduced, made-introduced, introduceSide-meets, infer-late, variable-kind}
 use Rattle.steps.specs.declared.Typed.{Typed}
 use Rattle.steps.specs.declared.Typed.the-variants as Typed
 use Rattle.steps.specs.declared.Done.{Done}
 use Rattle.steps.specs.declared.Done.the-variants as Done
 use Rattle.steps.specs.Ends.{typed, done, Ends}
-use Rattle.steps.specs.Loads.{Load, only, both, Holds, visits, Begins, Beside}
-use Rattle.steps.specs.Contracts.{nodesOf, Fine, BringsSide, compareTypes, ComparesTypes, Named}
+use Rattle.steps.specs.Loads.{Load, only, both, Holds, visits, Begins}
+use Rattle.steps.specs.Contracts.{nodesOf, BringsSide, compareTypes, ComparesTypes, Named}
 use Rattle.checker.specs.Contracts.{below, Infers, Compares}
-use Rattle.steps.proofs.Results.{After, fine-after, tree-after, then-typed, stop-typed, then-silent}
+use Rattle.steps.proofs.Results.{fine-after, tree-after, then-typed, stop-typed, then-silent}
 use Rattle.checker.proofs.Inferring.{good}
 
 abbrev lates : Described → ℕ → ℕ → Form → Load

@@ -1,23 +1,21 @@
 -- `generator`: the branches of a disjunction are generators in turn, and the last one's type is the node's; every other node is
 -- inferred.
 use mathlib.Core.List.{List, [], _∷_}
-use mathlib.Core.Path.{_≡_, refl, sym, _∙_, ap}
+use mathlib.Core.Path.{_≡_, refl}
 use Prim.Native.Nat.{ℕ, zero, suc, _+_, _-_, _≤_, _<_}
 use native.Mathlib.Omega.{arith}
-use lib.ListN.{length}
 use Rattle.unification.specs.Ty as Tree
 use Rattle.unification.proofs.Tests.{clash}
 use Rattle.cells.specs.declared.Ty.{Ty}
 use Rattle.cells.specs.declared.Ty.the-variants.{Error}
-use Rattle.cells.specs.Stands.{Rows, tree, Ok}
+use Rattle.cells.specs.Stands.{Rows, tree}
 use Rattle.meaning.specs.Syntax.{ExprKind, nodeAt}
 use Rattle.meaning.specs.References.{exprNodes}
 use Rattle.meaning.specs.File.{Described}
-use Rattle.meaning.specs.Check.{Checker, Step, goes, out, Does, andThen, Walk, walk, annotate, form, formOf, kind, inferAt, generateBranches, generatorForm, generatorAt}
+use Rattle.meaning.specs.Check.{Checker, Step, goes, Does, andThen, Walk, walk, annotate, formOf, kind, inferAt, generateBranches, generatorForm, generatorAt}
 use Rattle.meaning.specs.Run.{sumOf, weight}
-use Rattle.meaning.proofs.Meets.{Meets}
 use Rattle.meaning.proofs.Steps.{one-node, IsSide}
-use Rattle.meaning.proofs.Visits.{Good, size-pos, generateBranches-meets, weight-kind}
+use Rattle.meaning.proofs.Visits.{size-pos, generateBranches-meets}
 use Rattle.tree.specs.declared.Items.{Items}
 use Rattle.tree.specs.declared.Node.{Node}
 use Rattle.tree.specs.declared.Node.the-variants as Node
@@ -26,10 +24,10 @@ use Rattle.steps.specs.declared.Typed.{Typed}
 use Rattle.steps.specs.declared.Typed.the-variants as Typed
 use Rattle.steps.specs.Ends.{typed, Ends}
 use Rattle.steps.specs.Loads.{Load, only, both, Holds, infers, visits, Begins, Beside}
-use Rattle.steps.specs.Contracts.{nodesOf, Always, Fine, Notes, Named, AllNamed, Node-at}
+use Rattle.steps.specs.Contracts.{nodesOf, Always, Fine, Notes, Named, AllNamed}
 use Rattle.checker.specs.Contracts.{below, Infers, Generates, Branches}
 use Rattle.steps.proofs.Sequel.{Led}
-use Rattle.steps.proofs.Results.{After, got-same, type-here, then-typed, stop-typed}
+use Rattle.steps.proofs.Results.{got-same, type-here, then-typed, stop-typed}
 use Rattle.checker.proofs.Looping.{Midway, mid-start, mid-ends, mid-led, mid-after}
 use Rattle.steps.proofs.Reading.{parts-named, kind-read, form-read}
 use Rattle.checker.proofs.Inferring.{good, noted}

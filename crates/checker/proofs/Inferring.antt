@@ -1,25 +1,22 @@
 -- `infer`: a node's kind gives its type, which is then noted. Each arm of `infer_kind` goes beside the definition's arm of the kind
 -- that was read; a variable's arm also for one that the environment has.
-use mathlib.Core.List.{List, [], _∷_}
-use mathlib.Core.Path.{_≡_, refl, sym, _∙_, ap}
-use Prim.Native.Nat.{ℕ, zero, suc, _+_, _≤_, _<_}
+use mathlib.Core.List.{List}
+use mathlib.Core.Path.{_≡_, refl, sym, _∙_}
+use Prim.Native.Nat.{ℕ, zero, suc, _<_}
 use native.Mathlib.Omega.{arith}
-use lib.ListN.{length, getD}
+use lib.ListN.{length}
 use Rattle.unification.specs.Ty as Tree
 use Rattle.unification.proofs.Tests.{clash}
-use Rattle.work.specs.Layout.{UNKNOWNS}
 use Rattle.cells.specs.declared.Ty.{Ty}
 use Rattle.cells.specs.declared.Ty.the-variants.{Int, Str, Bytes, Var, Error}
 use Rattle.cells.specs.Stands.{Rows, tree, Ok}
 use Rattle.meaning.specs.Syntax.{ExprKind, nodeAt}
 use Rattle.meaning.specs.References.{exprNodes}
-use Rattle.meaning.specs.All.{All}
-use Rattle.meaning.specs.Sound.{Sound}
 use Rattle.meaning.specs.File.{Described}
-use Rattle.meaning.specs.Check.{Checker, Step, goes, Does, andThen, freshVarId, freshVar, introduce, annotate, inferKind, inferAt, kind, Walk, walk}
+use Rattle.meaning.specs.Check.{Checker, goes, andThen, freshVarId, freshVar, introduce, annotate, inferKind, inferAt, kind, Walk, walk}
 use Rattle.meaning.specs.Run.{same, sumOf, weight, recordsOf, fieldsOf}
 use Rattle.meaning.proofs.Meets.{unknowns, Orderly, Meets, meets-from, went-with}
-use Rattle.meaning.proofs.Steps.{no-thing, one-diagnostic, one-unknown, one-node, Nothing, IsSide, Known, IsUnknown, annotate-meets, freshVarId-meets, introduce-meets, introduce-known}
+use Rattle.meaning.proofs.Steps.{no-thing, one-unknown, one-node, Nothing, IsSide, Known, IsUnknown, annotate-meets, freshVarId-meets, introduce-meets, introduce-known}
 use Rattle.meaning.proofs.Visits.{Good, inferKind-meets, walk-good, own-weight}
 use Rattle.state.specs.Runs.{Runs}
 use Rattle.tree.specs.declared.Node.{Node}
@@ -27,12 +24,12 @@ use Rattle.tree.specs.declared.Node.the-variants as Node
 use Rattle.tree.specs.Nodes.{kindW, IsNode}
 use Rattle.steps.specs.declared.Typed.{Typed}
 use Rattle.steps.specs.declared.Typed.the-variants as Typed
-use Rattle.steps.specs.Ends.{typed, silent, numbered, Ends}
+use Rattle.steps.specs.Ends.{typed, numbered, Ends}
 use Rattle.steps.specs.Loads.{Load, only, both, Holds, infers, finds, parts, Begins, Beside}
 use Rattle.steps.specs.Contracts.{nodesOf, Always, Fine, Notes, Freshens, Brings, Named, AllNamed, Node-at}
 use Rattle.checker.specs.Contracts.{below, Infers, InfersKind}
 use Rattle.steps.proofs.Sequel.{begins-part}
-use Rattle.steps.proofs.Results.{After, tree-after, fine-after, type-here, then-typed, stop-typed, then-silent, then-numbered}
+use Rattle.steps.proofs.Results.{tree-after, fine-after, type-here, then-typed, stop-typed, then-silent, then-numbered}
 use Rattle.steps.proofs.Reading.{parts-named, kind-read, name-small}
 
 pub good : {f w : List ℕ} {T : Rows} {d : Described} {L : Load} {left : ℕ} {c : Checker} → Begins f w T d L left c → (k : ℕ) → Good (nodesOf d) k (below d k)

@@ -1,4 +1,5 @@
 mod Looping
+mod Within
 mod Inferring
 mod Arms
 mod Alls

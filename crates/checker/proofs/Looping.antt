@@ -1,19 +1,18 @@
 -- A loop midway: the words stand for a checker from which the rest of the definition's list gives what the whole list gives from the
 -- start. A turn that goes on keeps this; the end of the rest is the end of the whole, and so is a turn in which the visits run out.
 use mathlib.Core.List.{List}
-use mathlib.Core.Path.{_≡_, refl, sym, _∙_, ap}
+use mathlib.Core.Path.{_≡_, _∙_, ap}
 use Prim.Native.Nat.{ℕ, _+_, _≤_}
 use native.Mathlib.Omega.{arith}
-use Rattle.unification.specs.Calls.{Side}
 use Rattle.unification.proofs.Sides.{side-more}
 use Rattle.cells.specs.declared.Ty.{Ty}
 use Rattle.cells.specs.Stands.{Rows, tree, Ok}
 use Rattle.meaning.specs.File.{Described}
-use Rattle.meaning.specs.Check.{Checker, Step, goes, out, Does, andThen}
-use Rattle.meaning.proofs.Meets.{unknowns, Ready, Went, Meets, going, made-more}
+use Rattle.meaning.specs.Check.{Checker, Step, Does, andThen}
+use Rattle.meaning.proofs.Meets.{unknowns, Ready, Meets, made-more}
 use Rattle.cells.specs.Inferred.{More}
 use Rattle.state.specs.Runs.{Grew}
-use Rattle.steps.specs.Ends.{Result, Gone, Ends, went, spent}
+use Rattle.steps.specs.Ends.{Result, Ends, went, spent}
 use Rattle.steps.specs.Loads.{Load, both, Holds, Begins}
 use Rattle.steps.specs.Contracts.{Fine}
 use Rattle.cells.proofs.Frame.{tree-more, more-refl}

@@ -3,12 +3,11 @@
 use mathlib.Core.List.{List, [], _∷_}
 use mathlib.Core.Option.{Option, none, some}
 use mathlib.Core.Path.{_≡_, refl, sym, _∙_, ap}
-use Prim.Native.Nat.{ℕ, zero, suc, _+_, _-_, _≤_, _<_}
+use Prim.Native.Nat.{ℕ, _+_, _-_, _≤_, _<_}
 use native.Mathlib.Omega.{arith}
-use lib.ListN.{length}
 use Rattle.unification.specs.Ty as Tree
 use Rattle.unification.specs.Unify.{findKey}
-use Rattle.unification.specs.Calls.{Side, SideRow}
+use Rattle.unification.specs.Calls.{SideRow}
 use Rattle.unification.proofs.Tests.{clash}
 use Rattle.unification.proofs.Sides.{side-more, Part, find-part, Field, fields}
 use Rattle.cells.specs.declared.Ty.{Ty}
@@ -16,28 +15,29 @@ use Rattle.cells.specs.declared.Kind.the-variants.{Fields}
 use Rattle.cells.specs.declared.Part as Cell
 use Rattle.cells.specs.declared.Found.{Found}
 use Rattle.cells.specs.declared.Found.the-variants as Found
-use Rattle.cells.specs.Stands.{Rows, tree, Ok}
+use Rattle.cells.specs.Stands.{Rows, tree}
 use Rattle.cells.specs.Contracts.{foundPart, FindsKey}
 use Rattle.meaning.specs.Syntax as Syntax
 use Rattle.meaning.specs.Diag.{Code}
 use Rattle.meaning.specs.References.{fieldValues}
 use Rattle.meaning.specs.File.{Described}
-use Rattle.meaning.specs.Check.{Checker, Step, goes, out, Does, andThen, reject, checkMentioned, checkFields}
+use Rattle.meaning.specs.Check.{Checker, Step, Does, checkMentioned, checkFields}
 use Rattle.meaning.specs.Run.{sumOf}
 use Rattle.meaning.proofs.Meets.{unknowns, Ready, Meets, meets-fits}
 use Rattle.meaning.proofs.Steps.{one-diagnostic, Nothing, reject-meets}
-use Rattle.meaning.proofs.Visits.{Good, checking, size-pos, checkField-meets}
+use Rattle.meaning.proofs.Visits.{checking, size-pos, checkField-meets}
 use Rattle.tree.specs.declared.Items.{Items}
 use Rattle.tree.specs.Nodes.{fieldW, fieldOf, fieldsFrom}
 use Rattle.steps.specs.declared.Done.{Done}
 use Rattle.steps.specs.declared.Done.the-variants as Done
 use Rattle.steps.specs.Ends.{done, Ends}
-use Rattle.steps.specs.Loads.{Load, only, both, Holds, checks, visits, Begins, Beside}
-use Rattle.steps.specs.Contracts.{nodesOf, Fine, FineRecord, Rejects, Named, AllNamed}
-use Rattle.checker.specs.Contracts.{below, ChecksField, Mentions, ChecksFields}
+use Rattle.steps.specs.Loads.{Load, both, Holds, checks, visits, Begins}
+use Rattle.steps.specs.Contracts.{nodesOf, FineRecord, Rejects, Named, AllNamed}
+use Rattle.checker.specs.Contracts.{below, Mentions, ChecksFields}
+use Rattle.checker.proofs.Within.{ChecksField}
 use Rattle.steps.proofs.Growing.{cell-kept}
 use Rattle.steps.proofs.Reading.{fields-some, fields-none}
-use Rattle.steps.proofs.Results.{on-here, stop-done, silent-on}
+use Rattle.steps.proofs.Results.{on-here, stop-done}
 use Rattle.checker.proofs.Looping.{Midway, mid-start, mid-ends, mid-led, mid-after}
 use Rattle.checker.proofs.Inferring.{good}
 use Rattle.checker.proofs.Against.{rejected}

@@ -1,16 +1,15 @@
 -- `query`: the statements, then the head, which reads variables that they bind.
-use mathlib.Core.List.{List, [], _∷_}
+use mathlib.Core.List.{List}
 use mathlib.Core.Path.{_≡_, refl, sym, subst, _∙_, ap}
-use Prim.Native.Nat.{ℕ, _+_, _≤_, _<_}
+use Prim.Native.Nat.{ℕ, _<_}
 use native.Mathlib.Omega.{arith}
 use lib.ListN.{length}
 use Rattle.unification.specs.Ty as Tree
-use Rattle.unification.proofs.Tests.{clash}
 use Rattle.cells.specs.Stands.{Rows}
 use Rattle.meaning.specs.Syntax.{Query}
 use Rattle.meaning.specs.References.{stmtNodes, queryNodes}
 use Rattle.meaning.specs.File.{Described}
-use Rattle.meaning.specs.Check.{Checker, Step, goes, out, Does, andThen, form, headForm, query, begin}
+use Rattle.meaning.specs.Check.{Checker, Step, andThen, form, headForm, query, begin}
 use Rattle.meaning.specs.Run.{sumOf, run}
 use Rattle.meaning.specs.Conditions.{maxNodes}
 use Rattle.meaning.specs.Sound.{Sound}
@@ -27,8 +26,8 @@ use Rattle.steps.specs.declared.Typed.{Typed}
 use Rattle.steps.specs.declared.Typed.the-variants as Typed
 use Rattle.steps.specs.declared.Done.{Done}
 use Rattle.steps.specs.declared.Done.the-variants as Done
-use Rattle.steps.specs.Ends.{typed, done, counted, Ends, went, spent}
-use Rattle.steps.specs.Loads.{Load, only, both, Holds, infers, visits, Begins}
+use Rattle.steps.specs.Ends.{typed, counted, Ends, went, spent}
+use Rattle.steps.specs.Loads.{only, both, Holds, infers, visits, Begins}
 use Rattle.steps.specs.Contracts.{nodesOf, onlyW, Starts, Named, AllNamed, Heads}
 use Rattle.steps.specs.Outside.{ChecksHead, StartsRun}
 use Rattle.checker.specs.Contracts.{below, Infers, StatesAll, Ran, to-the-end, out-of-visits, Queries}

@@ -1,32 +1,30 @@
 -- Statements over two nodes: each is a short list of steps, the loads of which the two nodes' visits hold.
 use mathlib.Core.List.{List, [], _∷_}
-use mathlib.Core.Path.{_≡_, refl, sym, _∙_, ap}
-use Prim.Native.Nat.{ℕ, zero, suc, _+_, _≤_, _<_}
+use mathlib.Core.Path.{_≡_, refl}
+use Prim.Native.Nat.{ℕ}
 use native.Mathlib.Omega.{arith}
-use lib.ListN.{length}
 use Rattle.unification.specs.Ty as Tree
-use Rattle.unification.proofs.Tests.{clash}
 use Rattle.cells.specs.declared.Ty.{Ty}
 use Rattle.cells.specs.declared.Ty.the-variants.{Var}
-use Rattle.cells.specs.Stands.{Rows, tree, Ok}
+use Rattle.cells.specs.Stands.{Rows, tree}
 use Rattle.meaning.specs.Diag.{Code}
 use Rattle.meaning.specs.File.{Described}
 use Rattle.meaning.specs.Check as Check
-use Rattle.meaning.specs.Check.{Checker, Step, goes, out, Does, andThen, Walk, introduce, annotate, reject, unifyAt, bindVariable, badTarget, onlyRight, notYet, destructure, bindWildcard}
+use Rattle.meaning.specs.Check.{Checker, andThen, introduce, annotate, reject, unifyAt, bindVariable, badTarget, onlyRight, notYet, destructure, bindWildcard}
 use Rattle.meaning.specs.Run.{same, sumOf}
-use Rattle.meaning.proofs.Meets.{plus, Ready, Meets}
-use Rattle.meaning.proofs.Steps.{no-thing, one-diagnostic, one-unknown, one-node, Nothing, IsSide, IsUnknown, reject-meets, introduce-meets, annotate-meets}
-use Rattle.meaning.proofs.Visits.{Good, inferring, visiting, size-pos, own-weight}
+use Rattle.meaning.proofs.Steps.{one-diagnostic, one-unknown, one-node, Nothing, IsUnknown, reject-meets, introduce-meets, annotate-meets}
+use Rattle.meaning.proofs.Visits.{size-pos, own-weight}
 use Rattle.steps.specs.declared.Typed.{Typed}
 use Rattle.steps.specs.declared.Typed.the-variants as Typed
 use Rattle.steps.specs.declared.Done.{Done}
 use Rattle.steps.specs.declared.Done.the-variants as Done
-use Rattle.steps.specs.Ends.{typed, done, silent, numbered, Ends}
-use Rattle.steps.specs.Loads.{Load, only, both, Holds, infers, visits, Begins, Beside}
+use Rattle.steps.specs.Ends.{done, Ends}
+use Rattle.steps.specs.Loads.{Load, only, both, Holds, infers, visits, Begins}
 use Rattle.steps.specs.Contracts.{nodesOf, Fine, Notes, Rejects, Brings, UnifiesAt, onlyW, Named}
-use Rattle.checker.specs.Contracts.{below, Infers, Sides, BadTargets, NotYets, Destructures, BindsVariable}
+use Rattle.checker.specs.Contracts.{below, Infers, Sides, NotYets, Destructures, BindsVariable}
+use Rattle.checker.proofs.Within.{BadTargets}
 use Rattle.steps.proofs.Sequel.{begins-part, ends-wider}
-use Rattle.steps.proofs.Results.{After, fine-after, tree-after, on-here, then-typed, stop-typed, then-silent, then-numbered, only-ends, silent-on}
+use Rattle.steps.proofs.Results.{fine-after, tree-after, then-typed, stop-typed, then-silent, then-numbered, only-ends, silent-on}
 use Rattle.checker.proofs.Inferring.{good, ok-unknown}
 
 -- ---- The right side alone

@@ -4,40 +4,27 @@
 -- The cycle ends since the node falls, and on one node the rank: a call's measure is 16 * n + rank, where n is the node, the greater
 -- of two, or for items and statements their `below`, under which stands all that they name. Ranks:
 --   0 infer_record infer_all branches check_fields stmt   1 stmts   2 subquery   3 infer_kind   4 infer
---   5 infer_then_unify generator bind_variable bad_target not_yet destructure   6 check_union bind deny compare
---   7 check_record   8 check   9 check_field fact
+--   5 infer_then_unify generator bind_name not_yet destructure   6 check_union bind deny compare   8 check   9 check_field fact
 -- For it the functions over items need `0 < n → 0 < below`, `subquery` that its head is under `below`, and those that take a node with
 -- its items that `below` is the node: `Lower` of tree/specs/Nodes.antt says so, whatever the file holds.
 use mathlib.Core.List.{List, [], _∷_}
-use mathlib.Core.Option.{none, some}
 use mathlib.Core.Path.{_≡_}
-use Prim.Native.Nat.{ℕ, suc, _≤_, _<_}
-use lib.ListN.{length, getD}
+use Prim.Native.Nat.{ℕ, suc, _<_}
 use Rattle.unification.specs.Ty as Tree
 use Rattle.unification.specs.Unify.{findKey}
-use Rattle.unification.specs.Calls.{Side, SideRow}
 use Rattle.cells.specs.declared.Ty.{Ty}
-use Rattle.cells.specs.declared.Kind.the-variants.{Fields, Alternatives}
-use Rattle.cells.specs.Stands.{Rows, tree, boundTree, IsCell, Ok, OkBound, Keeps}
-use Rattle.meaning.specs.Syntax.{Field, Query, QueryStmt, ExprKind, Node, nodeAt}
+use Rattle.cells.specs.Stands.{Rows, tree}
+use Rattle.meaning.specs.Syntax.{Field, Query, QueryStmt, ExprKind, nodeAt}
 use Rattle.meaning.specs.References.{fieldNames, fieldValues, stmtNodes, queryNodes}
-use Rattle.meaning.specs.All.{All, Below}
+use Rattle.meaning.specs.All.{Below}
 use Rattle.meaning.specs.File.{Described}
 use Rattle.meaning.specs.Sound.{Sound}
 use Rattle.meaning.specs.Run.{run}
-use Rattle.work.specs.Layout.{RECORD-COUNT, RECORD-FIELD-COUNT, END}
 use Rattle.tree.specs.Stands.{Stands}
 use Rattle.meaning.specs.Check as Check
-use Rattle.meaning.specs.Check.{Checker, Step, Does, goes, out, andThen, _>>=_, Walk, walk, form}
-use Rattle.meaning.proofs.Meets.{unknowns}
-use Rattle.meaning.proofs.Steps.{no-thing, one-diagnostic, one-unknown, one-node, Known}
-use Rattle.meaning.proofs.Visits.{introducing}
-use Rattle.meaning.specs.Diag.{Code}
+use Rattle.meaning.specs.Check.{Checker, Step, Does, goes, out, andThen, Walk, walk, form}
+use Rattle.meaning.proofs.Steps.{no-thing, Known}
 use Rattle.state.specs.Runs.{Runs}
-use Rattle.cells.specs.declared.Bound.{Bound}
-use Rattle.cells.specs.declared.TyError.{TyError}
-use Rattle.cells.specs.declared.Unified.{Unified}
-use Rattle.cells.specs.Contracts.{errorOf}
 use Rattle.tree.specs.declared.Items.{Items}
 use Rattle.tree.specs.declared.Stmts.{Stmts}
 use Rattle.tree.specs.Nodes.{fieldsFrom, itemsFrom, statement, stmtW, stmtsW}
@@ -45,9 +32,9 @@ use Rattle.steps.specs.declared.Typed.{Typed}
 use Rattle.steps.specs.declared.Typed.the-variants as Typed
 use Rattle.steps.specs.declared.Done.{Done}
 use Rattle.steps.specs.declared.Done.the-variants as Done
-use Rattle.steps.specs.Ends.{typed, done, silent, numbered, unified}
-use Rattle.steps.specs.Loads.{Load, only, infers, finds, checks, visits, parts, Beside}
-use Rattle.steps.specs.Contracts.{Always, Brings, BringsSide, ComparesTypes, Cuts, Fine, FineRecord, FineUnion, Freshens, Fuzzes, KeyIs, Notes, OnType, Rejects, Reports, RollsTo, Starts, UnifiesAt, UnifiesTo, compareTypes, nodesOf, onlyW, AllNamed, Named, Node-at}
+use Rattle.steps.specs.Ends.{typed, done}
+use Rattle.steps.specs.Loads.{only, infers, finds, checks, visits, parts, Beside}
+use Rattle.steps.specs.Contracts.{Always, Fine, FineRecord, FineUnion, nodesOf, AllNamed, Named, Node-at}
 
 -- ---- Nodes that are visited
 abbrev pub below : Described → ℕ → Walk
@@ -93,11 +80,7 @@ pub record InfersThenUnifies (f w : List ℕ) (n : ℕ) (t : Ty) (left : ℕ) (w
   pub is : (d : Described) (k : ℕ) → Node-at d k n
       → Beside f w left w′ (done r) d (checks (nodesOf d) (suc k) n) (Fine w t) (λ T. Check.inferThenUnify (d .schema) (nodesOf d) (below d k) n (tree T t))
 
-pub record ChecksField (f w : List ℕ) (n : ℕ) (t : Ty) (left : ℕ) (w′ : List ℕ) (r : Done) : Type 0 where
-  pub is : (d : Described) (k : ℕ) → Named d k n
-      → Beside f w left w′ (done r) d (checks (nodesOf d) k n) (Fine w t) (λ T. Check.checkField (d .schema) (nodesOf d) (below d k) n (tree T t))
-
--- A field that a record names: the expected record has it or not.
+-- A field that a record names, in a scope of its own: the expected record has it or not.
 pub record Mentions (f w : List ℕ) (name value e left : ℕ) (w′ : List ℕ) (r : Done) : Type 0 where
   pub is : (d : Described) (k : ℕ) → Named d k value
       → Beside f w left w′ (done r) d (checks (nodesOf d) k value) (FineRecord w e) (λ T. Check.checkMentioned (d .schema) (nodesOf d) (below d k) (record { name = name; value = value }) (findKey name (T e)))
@@ -109,10 +92,6 @@ pub record ChecksFields (f w : List ℕ) (l : Items) (e left : ℕ) (w′ : List
 pub record ChecksUnion (f w : List ℕ) (n : ℕ) (l : Items) (e left : ℕ) (w′ : List ℕ) (r : Done) : Type 0 where
   pub is : (d : Described) (k : ℕ) (fs : List Field) → fs ≡ fieldsFrom f l 0 (l .n) → Node-at d k n → nodeAt (nodesOf d) n .kind ≡ ExprKind.Record fs
       → Beside f w left w′ (done r) d (checks (nodesOf d) (suc k) n) (FineUnion w e) (λ T. Check.checkUnion (d .schema) (nodesOf d) (below d k) n fs (T e))
-
-pub record ChecksRecord (f w : List ℕ) (n : ℕ) (l : Items) (t : Ty) (left : ℕ) (w′ : List ℕ) (r : Done) : Type 0 where
-  pub is : (d : Described) (k : ℕ) (fs : List Field) → fs ≡ fieldsFrom f l 0 (l .n) → Node-at d k n → nodeAt (nodesOf d) n .kind ≡ ExprKind.Record fs
-      → Beside f w left w′ (done r) d (checks (nodesOf d) (suc k) n) (Fine w t) (λ T. Check.checkRecord (d .schema) (nodesOf d) (below d k) n fs (tree T t))
 
 pub record Checks (f w : List ℕ) (n : ℕ) (t : Ty) (left : ℕ) (w′ : List ℕ) (r : Done) : Type 0 where
   pub is : (d : Described) (k : ℕ) → Named d k n
@@ -141,9 +120,6 @@ Denies f w lhs rhs left w′ r = Sides (λ d b x y. Check.denyForm (d .schema) (
 
 abbrev pub Compares : List ℕ → List ℕ → ℕ → ℕ → ℕ → List ℕ → Done → Type 0
 Compares f w lhs rhs left w′ r = Sides (λ d b x y. Check.compare (d .schema) (nodesOf d) b x y) f w lhs rhs left w′ r
-
-abbrev pub BadTargets : List ℕ → List ℕ → ℕ → ℕ → ℕ → List ℕ → Done → Type 0
-BadTargets f w lhs rhs left w′ r = Sides (λ d b x y. Check.badTarget (d .schema) (nodesOf d) b x y) f w lhs rhs left w′ r
 
 abbrev pub NotYets : List ℕ → List ℕ → ℕ → ℕ → ℕ → List ℕ → Done → Type 0
 NotYets f w lhs rhs left w′ r = Sides (λ d b x y. Check.notYet (d .schema) (nodesOf d) b x y) f w lhs rhs left w′ r

@@ -4,7 +4,7 @@ ghost use mathlib.Core.Path.{_≡_};
 ghost use Prim.Native.Nat.{_<_};
 ghost use Rattle.tree.specs.Nodes.{LowerItems};
 ghost use Rattle.steps.specs.Contracts.{onlyW};
-ghost use Rattle.checker.specs.Contracts.{InfersRecord, InfersAll, Subqueries, Facts, InfersKind, Infers, InfersThenUnifies, ChecksField, Mentions, ChecksFields, ChecksUnion, ChecksRecord, Checks, Generates, Branches, BindsVariable, BadTargets, NotYets, Destructures, Binds, Denies, Compares, States, StatesAll, Queries};
+ghost use Rattle.checker.specs.Contracts.{InfersRecord, InfersAll, Subqueries, Facts, InfersKind, Infers, InfersThenUnifies, Mentions, ChecksFields, ChecksUnion, Checks, Generates, Branches, BindsVariable, NotYets, Destructures, Binds, Denies, Compares, States, StatesAll, Queries};
 use cells::Bound;
 use cells::Found;
 use cells::Kind;
@@ -205,32 +205,26 @@ fn infer_then_unify(f: &[u8], w: &mut [u32], n: u32, expected: Ty, left: u32) ->
 }
 
 // A field in a scope of its own: whatever diagnostic arose inside it, it is rolled back.
-fn check_field(f: &[u8], w: &mut [u32], value: u32, t: Ty, left: u32) -> Done
-    ensures { λ r. ⌜ ChecksField (now (f .entry)) (now (w .entry)) value t left (now (w .exit)) r ⌝ }
-{
-    let before = word(w, work::DIAGNOSTIC_COUNT);
-    let undo = cells::snapshot(w);
-    let env = word(w, work::ENV_LEN);
-    let d = check(f, w, value, t, left);
-    match d {
-        Done::On(l) => {
-            if before < word(w, work::DIAGNOSTIC_COUNT) {
-                steps::rollback(w, undo, env);
-            }
-            Done::On(l)
-        }
-        Done::Out => Done::Out,
-    }
-}
-
-fn check_mentioned(f: &[u8], w: &mut [u32], c: u32, name: u32, value: u32, left: u32) -> Done
+fn check_field(f: &[u8], w: &mut [u32], c: u32, name: u32, value: u32, left: u32) -> Done
     ensures { λ r. ⌜ Mentions (now (f .entry)) (now (w .entry)) name value c left (now (w .exit)) r ⌝ }
 {
     let found = cells::find_key(w, Kind::Fields, c, name);
     match found {
         Found::At(p) => {
             let t = p.ty;
-            check_field(f, w, value, t, left)
+            let before = word(w, work::DIAGNOSTIC_COUNT);
+            let undo = cells::snapshot(w);
+            let scope = word(w, work::ENV_LEN);
+            let d = check(f, w, value, t, left);
+            match d {
+                Done::On(l) => {
+                    if before < word(w, work::DIAGNOSTIC_COUNT) {
+                        steps::rollback(w, undo, scope);
+                    }
+                    Done::On(l)
+                }
+                Done::Out => Done::Out,
+            }
         }
         Found::Nothing => {
             reject(w, value, Code::RejectUnknownField);
@@ -248,7 +242,7 @@ fn check_fields(f: &[u8], w: &mut [u32], items: Items, c: u32, left: u32) -> Don
     let mut rest = left;
     while i < n {
         let e = tree::field_at(f, items, i);
-        let d = check_mentioned(f, w, c, e.name, e.value, rest);
+        let d = check_field(f, w, c, e.name, e.value, rest);
         match d {
             Done::On(l) => {
                 rest = l;
@@ -291,26 +285,6 @@ fn check_union(f: &[u8], w: &mut [u32], n: u32, items: Items, c: u32, left: u32)
     }
 }
 
-fn check_record(f: &[u8], w: &mut [u32], n: u32, items: Items, expected: Ty, left: u32) -> Done
-    requires { ⌜ LowerItems n items ⌝ }
-    ensures { λ r. ⌜ ChecksRecord (now (f .entry)) (now (w .entry)) n items expected left (now (w .exit)) r ⌝ }
-{
-    match expected {
-        Ty::Record(c) => {
-            let d = check_fields(f, w, items, c, left);
-            match d {
-                Done::On(l) => {
-                    cells::annotate(w, n, expected);
-                    Done::On(l)
-                }
-                Done::Out => Done::Out,
-            }
-        }
-        Ty::Union(c) => check_union(f, w, n, items, c, left),
-        _ => infer_then_unify(f, w, n, expected, left),
-    }
-}
-
 // Against Error nothing is visited.
 pub fn check(f: &[u8], w: &mut [u32], n: u32, expected: Ty, left: u32) -> Done
     ensures { λ r. ⌜ Checks (now (f .entry)) (now (w .entry)) n expected left (now (w .exit)) r ⌝ }
@@ -325,7 +299,20 @@ pub fn check(f: &[u8], w: &mut [u32], n: u32, expected: Ty, left: u32) -> Done
             cells::annotate(w, n, t);
             Done::On(left)
         }
-        Node::Record(items) => check_record(f, w, n, items, t, left),
+        Node::Record(items) => match t {
+            Ty::Record(c) => {
+                let d = check_fields(f, w, items, c, left);
+                match d {
+                    Done::On(l) => {
+                        cells::annotate(w, n, t);
+                        Done::On(l)
+                    }
+                    Done::Out => Done::Out,
+                }
+            }
+            Ty::Union(c) => check_union(f, w, n, items, c, left),
+            _ => infer_then_unify(f, w, n, t, left),
+        },
         _ => infer_then_unify(f, w, n, t, left),
     }
 }
@@ -385,7 +372,7 @@ fn only(r: Typed) -> Done
 }
 
 // `bind` and `deny` with a variable on the left.
-fn bind_variable(f: &[u8], w: &mut [u32], symbol: u32, lhs: u32, rhs: u32, left: u32) -> Done
+fn bind_name(f: &[u8], w: &mut [u32], symbol: u32, lhs: u32, rhs: u32, left: u32) -> Done
     ensures { λ r. ⌜ BindsVariable (now (f .entry)) (now (w .entry)) symbol lhs rhs left (now (w .exit)) r ⌝ }
 {
     let var = introduce(w, symbol);
@@ -395,13 +382,6 @@ fn bind_variable(f: &[u8], w: &mut [u32], symbol: u32, lhs: u32, rhs: u32, left:
         Typed::Got(t, l) => steps::unify_at(w, rhs, t, Ty::Var(var), l),
         Typed::Out => Done::Out,
     }
-}
-
-fn bad_target(f: &[u8], w: &mut [u32], lhs: u32, rhs: u32, left: u32) -> Done
-    ensures { λ r. ⌜ BadTargets (now (f .entry)) (now (w .entry)) lhs rhs left (now (w .exit)) r ⌝ }
-{
-    reject(w, lhs, Code::RejectBindLhs);
-    only(infer(f, w, rhs, left))
 }
 
 fn not_yet(f: &[u8], w: &mut [u32], lhs: u32, rhs: u32, left: u32) -> Done
@@ -446,7 +426,7 @@ fn bind(f: &[u8], w: &mut [u32], lhs: u32, rhs: u32, left: u32) -> Done
                 Typed::Out => Done::Out,
             }
         }
-        Node::Var(symbol) => bind_variable(f, w, symbol, lhs, rhs, left),
+        Node::Var(symbol) => bind_name(f, w, symbol, lhs, rhs, left),
         Node::Record(_) => {
             if steps::destructurable(f, w, lhs) {
                 destructure(f, w, lhs, rhs, left)
@@ -454,7 +434,10 @@ fn bind(f: &[u8], w: &mut [u32], lhs: u32, rhs: u32, left: u32) -> Done
                 not_yet(f, w, lhs, rhs, left)
             }
         }
-        Node::Int | Node::Str | Node::Bytes | Node::Prefix(_) => bad_target(f, w, lhs, rhs, left),
+        Node::Int | Node::Str | Node::Bytes | Node::Prefix(_) => {
+            reject(w, lhs, Code::RejectBindLhs);
+            only(infer(f, w, rhs, left))
+        }
         Node::Error => only(infer(f, w, rhs, left)),
         _ => not_yet(f, w, lhs, rhs, left),
     }
@@ -465,14 +448,11 @@ fn deny(f: &[u8], w: &mut [u32], lhs: u32, rhs: u32, left: u32) -> Done
 {
     let e = tree::node_at(f, w, lhs);
     match e {
-        Node::Var(symbol) => bind_variable(f, w, symbol, lhs, rhs, left),
-        Node::Wildcard | Node::Int | Node::Str | Node::Bytes | Node::Prefix(_) => bad_target(
-            f,
-            w,
-            lhs,
-            rhs,
-            left,
-        ),
+        Node::Var(symbol) => bind_name(f, w, symbol, lhs, rhs, left),
+        Node::Wildcard | Node::Int | Node::Str | Node::Bytes | Node::Prefix(_) => {
+            reject(w, lhs, Code::RejectBindLhs);
+            only(infer(f, w, rhs, left))
+        }
         Node::Error => only(infer(f, w, rhs, left)),
         _ => not_yet(f, w, lhs, rhs, left),
     }

@@ -1,8 +1,7 @@
 -- What the three calls of `run` come to is what the definition decides, and clearing the slices makes it the definition's outcome.
-use mathlib.Core.Bool.{Bool, true, false}
 use mathlib.Core.List.{List, _++_}
 use mathlib.Core.Path.{_≡_, refl, sym, ap, _∙_, subst}
-use Prim.Native.Nat.{ℕ, _-_, _<_, _≤_}
+use Prim.Native.Nat.{ℕ, _-_, _≤_}
 use native.Mathlib.Omega.{arith}
 use lib.Dec.{ltb}
 use lib.ListN.{length, take, replicate}
@@ -12,9 +11,8 @@ use Rattle.unification.specs.Ty as Tree
 use Rattle.cells.specs.Stands.{Rows}
 use Rattle.meaning.specs.Refusal as Meaning
 use Rattle.meaning.specs.File.{Described, Reading, refused, described, reading}
-use Rattle.meaning.specs.Check.{Checker, Step, goes, out, Typed, typed, exhausted, checked, check}
+use Rattle.meaning.specs.Check.{Step, checked, check}
 use Rattle.meaning.specs.Run.{run}
-use Rattle.meaning.specs.Answer.{answerLines}
 use Rattle.meaning.specs.Outcome as Defined
 use Rattle.meaning.specs.Outcome.{Decided, turnedDown, answered, minWords, maxVisits, decideChecked, decideRead, decide, refuse, accept, finish, outcome}
 use Rattle.meaning.proofs.Tests.{cases}
@@ -25,7 +23,6 @@ use Rattle.reading.specs.declared.Refusal.the-variants as Refusal
 use Rattle.reading.specs.declared.Read.{Read}
 use Rattle.reading.specs.declared.Read.the-variants as Read
 use Rattle.tree.specs.Stands.{Stands}
-use Rattle.state.specs.Runs.{Runs}
 use Rattle.steps.specs.declared.Done.{Done}
 use Rattle.steps.specs.declared.Done.the-variants as Done
 use Rattle.checker.specs.Contracts.{Ran, to-the-end, out-of-visits, Queries}

@@ -1,5 +1,4 @@
 -- Document 01's three demands of the whole call, for every file and every two lengths.
-use mathlib.Core.Bool.{true, false}
 use mathlib.Core.List.{List, [], _∷_, _++_}
 use mathlib.Core.Path.{_≡_, refl, sym, ap, _∙_, subst}
 use Prim.Native.Nat.{ℕ, _+_, _-_, _<_, _≤_}

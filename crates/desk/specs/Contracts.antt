@@ -1,5 +1,5 @@
 -- What the functions of src/ promise: the whole call is the one of meaning/specs/Outcome.antt, for every file and every two slices.
-use mathlib.Core.List.{List, [], _∷_}
+use mathlib.Core.List.{List}
 use mathlib.Core.Path.{_≡_}
 use Prim.Native.Nat.{ℕ, _<_, _≤_}
 use lib.ListN.{length, take}

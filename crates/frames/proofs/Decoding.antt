@@ -3,18 +3,17 @@ use mathlib.Core.Bool.{Bool, true, false}
 use mathlib.Core.List.{List, [], _∷_, _++_, append-nil}
 use mathlib.Core.Option.{Option, none, some}
 use mathlib.Core.Path.{_≡_, refl, sym, ap, subst, _∙_}
-use Prim.Native.Nat.{ℕ, zero, suc, _+_, _*_, _<_, _≤_}
+use Prim.Native.Nat.{ℕ, _+_, _*_, _<_, _≤_}
 use native.Mathlib.Numerals.{add-one}
 use native.Mathlib.Omega.{arith}
 use lib.Dec.{ltb}
-use lib.ListN.{length, getD, take, drop, set, length-append, length-take, length-set}
+use lib.ListN.{length, getD, take, drop, set, length-append, length-set}
 use lib.Seq.{take-suc-set, length-take-le}
 use borrow.Author.Tests.{ltb-true, ltb-false}
-use Rattle.meaning.specs.Lines.{Line, LF, lines, digit, decoded, someBytes}
+use Rattle.meaning.specs.Lines.{LF, lines, digit, decoded, someBytes}
 use Rattle.hex.specs.Digits.{orElse, digitW, byteOf, pairAt, firstLine, lineAt}
-use Rattle.hex.proofs.Line.{no-some, is-digit, no-digit, pair-within, pair-past, pair-below, headLine, others, decodedLine, decodedAt, othersAt, prefixed, prefixed-nil, prefixed-twice, lines-at-LF, lines-split, decoded-on, others-on, decoded-none}
-use Rattle.hex.proofs.Bytes.{From, ends, more, from, bytes-of, line-at, bytes-enough, bytes-too-many}
-use Rattle.frames.specs.declared.lines.Decoded.{Decoded}
+use Rattle.hex.proofs.Line.{is-digit, no-digit, pair-within, pair-past, pair-below, headLine, others, decodedLine, decodedAt, othersAt, prefixed, prefixed-nil, prefixed-twice, lines-at-LF, lines-split, decoded-on, others-on}
+use Rattle.hex.proofs.Bytes.{From, ends, from, bytes-of, bytes-enough, bytes-too-many}
 use Rattle.frames.specs.declared.lines.Decoded.the-variants.{Bytes, Bad}
 use Rattle.frames.specs.Contracts.{Holds, Malformed, Decodes}
 

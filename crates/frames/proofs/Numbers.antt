@@ -1,9 +1,9 @@
 -- Past the end every byte is 0, and so are the numbers made of them.
 use mathlib.Core.Path.{_≡_, refl, sym}
-use Prim.Native.Nat.{ℕ, _+_, _*_, _<_, _≤_}
+use Prim.Native.Nat.{ℕ, _+_, _<_, _≤_}
 use native.Mathlib.Omega.{arith}
 use mathlib.Core.List.{List, [], _∷_}
-use lib.ListN.{length, getD, List·getD-eq-default}
+use lib.ListN.{length, List·getD-eq-default}
 use Rattle.hex.proofs.Values.{run}
 use Rattle.frames.specs.Contracts.{byteW, halfW, fullW, sizeW}
 

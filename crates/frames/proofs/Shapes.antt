@@ -2,16 +2,16 @@
 -- byte that says how to go on picks the test from a list.
 use mathlib.Core.Bool.{Bool, true, false}
 use mathlib.Core.List.{List, [], _∷_}
-use mathlib.Core.Option.{Option, none, some}
+use mathlib.Core.Option.{some}
 use mathlib.Core.Path.{_≡_, refl, sym, ap, _∙_}
-use Prim.Native.Nat.{ℕ, zero, suc, _+_, _-_, _*_, _%_, _<_, _≤_}
+use Prim.Native.Nat.{ℕ, zero, suc, _+_, _-_, _%_, _<_, _≤_}
 use native.Mathlib.Omega.{arith}
 use lib.Dec.{eqb, ltb, leb}
 use lib.ListN.{length, getD, getElem?, drop, drop-of-length-le, List·getD-eq-default}
-use borrow.Author.Tests.{eq-eqb, ne-eqb, eqb-true, eqb-false, ltb-true, ltb-false, le-leb, lt-leb}
+use borrow.Author.Tests.{ne-eqb, eqb-true, eqb-false, ltb-true, ltb-false, le-leb, lt-leb}
 use Rattle.text.specs.Utf8.{both}
 use Rattle.hex.proofs.Line.{from-here}
-use Rattle.meaning.specs.Frame.{Kind, limits, name, schemaType, predicate, node, query, theLimits, aType, aPredicate, aNode, theQuery, Got, got, fails, Reader, andThen, nothing, one, pair, triple, byte, two, four, many, entry, choice, field, alternative, typeShapes, valueTypes, statements, headAndBody, exprKinds, spanAndKind, rest, frame, whole, frameOf}
+use Rattle.meaning.specs.Frame.{limits, name, schemaType, predicate, node, query, theLimits, aType, aPredicate, aNode, theQuery, Got, got, fails, Reader, andThen, nothing, one, pair, triple, byte, two, many, entry, choice, typeShapes, valueTypes, headAndBody, exprKinds, spanAndKind, rest, frame, whole, frameOf}
 use Rattle.frames.specs.Contracts.{kindAt, byteW, halfW, wholly, isFrame, sizeW, typeShape, valueType, statement, exprKind}
 use Rattle.frames.proofs.Following.{no-kind}
 use Rattle.frames.proofs.Readers.{Sized, sized-nothing, sized-byte, sized-two, sized-four, sized-one, sized-pair, sized-field, sized-alternative, many-end, many-stop, items-test}

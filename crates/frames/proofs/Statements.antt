@@ -11,7 +11,7 @@ use Rattle.hex.proofs.Line.{from-here}
 use Rattle.meaning.specs.Syntax.{QueryStmt}
 use Rattle.meaning.specs.Frame.{Got, got, fails, Reader, andThen, one, pair, two, many, entry, choice, statements}
 use Rattle.frames.specs.Contracts.{byteW, halfW, sizeW, statement}
-use Rattle.frames.proofs.Readers.{Sized, sized-one, sized-pair, sized-two, Shrinks, many-end, many-stop, many-step}
+use Rattle.frames.proofs.Readers.{sized-one, sized-pair, sized-two, Shrinks, many-end, many-stop, many-step}
 
 -- ---- A byte that says how to go on
 

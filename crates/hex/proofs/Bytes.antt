@@ -12,7 +12,7 @@ use lib.Seq.{ext-getD}
 use borrow.Author.Tests.{eqb-true, eqb-false, lt-ltb, le-leb, lt-leb, leb-true, ltb-true, ltb-false}
 use Rattle.meaning.specs.Lines.{Line, closed, unclosed, LF, lines, digit, decoded, maxBytes, atMost, someBytes, bytesOf}
 use Rattle.hex.specs.Digits.{orElse, digitW, digitsW, pairAt, firstLine, lineAt}
-use Rattle.hex.proofs.Line.{no-some, digit-below, digit-same, digit-other, pair-below, headLine, others, decodedLine, decodedAt, prefixed, DigitsAt, pair-digits, lines-at-LF, lines-at-end, decoded-on, decoded-none}
+use Rattle.hex.proofs.Line.{no-some, digit-below, digit-same, digit-other, pair-below, headLine, decodedLine, decodedAt, prefixed, pair-digits, lines-at-LF, lines-at-end, decoded-on, decoded-none}
 
 -- ---- One place
 

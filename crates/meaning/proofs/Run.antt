@@ -12,7 +12,7 @@ use native.Mathlib.Decide.{decLt}
 use native.Mathlib.Omega.{arith}
 use lib.ListN.{length, getD, replicate, length-append, length-replicate, getD-replicate}
 use Rattle.unification.specs.Ty.{Ty}
-use Rattle.unification.specs.Bindings.{State, start}
+use Rattle.unification.specs.Bindings.{State}
 use Rattle.unification.specs.Calls as Calls
 use Rattle.unification.specs.Calls.{Side, Assignment, Taken, Claim, Demand3, none-yet}
 use Rattle.unification.proofs.Tests.{clash}
@@ -26,7 +26,7 @@ use Rattle.meaning.specs.Conditions.{maxNodes}
 use Rattle.meaning.specs.File.{Described, described, reading}
 use Rattle.meaning.specs.All.{All}
 use Rattle.meaning.specs.Sound.{Sound}
-use Rattle.meaning.specs.Check.{Checker, Step, goes, out, Walk, walk, query, begin}
+use Rattle.meaning.specs.Check.{Checker, Step, goes, Walk, walk, query, begin}
 use Rattle.meaning.specs.Run.{Led, between-calls, at-the-limit, ending, WellFormed, run, Room, Grows, same, sumOf, total, weight, size, records, recordFields}
 use Rattle.meaning.proofs.Sound.{sound}
 use Rattle.meaning.proofs.Depth.{lower-falls}

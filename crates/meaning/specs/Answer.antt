@@ -1,13 +1,12 @@
 -- The bytes of the answer (document 01, "Frame lines", "The answer"): for each node a line 07, for each diagnostic a line
 -- 08, in lower-case hexadecimal, each closed by LF.
-use mathlib.Core.Bool.{Bool, true, false}
+use mathlib.Core.Bool.{true, false}
 use mathlib.Core.List.{List, [], _∷_, _++_}
 use mathlib.Core.Option.{Option, none, some}
-use Prim.Native.Nat.{ℕ, suc, _+_, _*_, _/_, _%_}
+use Prim.Native.Nat.{ℕ, suc, _+_, _/_, _%_}
 use lib.Dec.{ltb}
 use Rattle.unification.specs.Ty.{Leaf, Kind, Ty, Row, rowLen}
-use Rattle.meaning.specs.Syntax.{Span}
-use Rattle.meaning.specs.Diag.{Code, Diagnostic, ascii, asStr}
+use Rattle.meaning.specs.Diag.{Diagnostic, ascii, asStr}
 use Rattle.meaning.specs.Check.{Typed}
 
 -- Big-endian numbers.

@@ -1,5 +1,5 @@
 -- `check` of ty.rs, function by function, over the tree. Message texts are left out (card 1 brings them).
-use mathlib.Core.Bool.{Bool, true, false, not}
+use mathlib.Core.Bool.{Bool, true, false}
 use mathlib.Core.List.{List, [], _∷_, map}
 use mathlib.Core.Option.{Option, none, some}
 use Prim.Native.Nat.{ℕ, zero, suc, _-_}
@@ -10,8 +10,8 @@ use Rattle.unification.specs.Bindings as Bindings
 use Rattle.unification.specs.Bindings.{Answer, State, Snapshot, History}
 use Rattle.unification.specs.Unify as Unify
 use Rattle.unification.specs.Unify.{TyError, Unified, findKey, findLabel}
-use Rattle.meaning.specs.Syntax.{Span, Field, QueryStmt, Query, FieldRef, Literal, ExprKind, Node, Ast, nodeAt, isDestructurable}
-use Rattle.meaning.specs.Schema.{Predicate, Schema, get, fieldOf}
+use Rattle.meaning.specs.Syntax.{Field, QueryStmt, Query, FieldRef, Literal, ExprKind, Node, Ast, nodeAt, isDestructurable}
+use Rattle.meaning.specs.Schema.{Schema, get, fieldOf}
 use Rattle.meaning.specs.Diag.{Code, Diagnostic}
 
 -- ---- The state, and steps over it

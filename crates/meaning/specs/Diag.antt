@@ -1,7 +1,7 @@
 -- The codes that ty.rs reports, and `Code::as_str` (diag.rs).
 use mathlib.Core.List as List
 use mathlib.Core.List.{List}
-use Prim.Native.Char.{Char, code}
+use Prim.Native.Char.{code}
 use Prim.Native.Nat.{ℕ}
 use Prim.Native.String.{String}
 use Rattle.meaning.specs.Syntax.{Span}

@@ -1,14 +1,14 @@
 -- The whole call (document 01, "When a file is turned down"; "Contract and case"): the outcome and both slices at exit,
 -- from the file and the lengths of the two slices alone. "1, 2, then lines in file order, in each the lowest number, then
 -- the missing 06, then 11, then 12. After a refusal both slices are zero throughout."
-use mathlib.Core.Bool.{Bool, true, false}
+use mathlib.Core.Bool.{true, false}
 use mathlib.Core.List.{List, [], _∷_, _++_}
 use Prim.Native.Nat.{ℕ, _-_}
 use lib.Dec.{ltb}
 use lib.ListN.{length, replicate}
 use Rattle.meaning.specs.Refusal.{Refusal, workTooShort, tooManyVisits, answerTooLong, number}
-use Rattle.meaning.specs.File.{Described, Reading, refused, described, reading}
-use Rattle.meaning.specs.Check.{Typed, Checked, typed, exhausted, check}
+use Rattle.meaning.specs.File.{Reading, refused, described, reading}
+use Rattle.meaning.specs.Check.{Checked, typed, exhausted, check}
 use Rattle.meaning.specs.Answer.{answerLines, hexLine}
 
 -- The words that must be lent, and the visits that a query may make.

@@ -1,6 +1,5 @@
 -- The schema: schema.rs, `Predicate`, `Schema::get`, `PredicateTyRef::find_field`. A declared type is a `Ty` without
 -- unknowns, as `schema_ty` of ty.rs makes it.
-use mathlib.Core.Bool.{Bool, true, false}
 use mathlib.Core.List.{List}
 use mathlib.Core.Option.{Option, none, some}
 use Prim.Native.Nat.{ℕ}

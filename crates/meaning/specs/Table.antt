@@ -1,7 +1,7 @@
 -- Document 01's examples: M, the whole case, the list of "Contract and case", and the rows of the table of refusals that are
 -- small enough to compute. Each row is a file, the lengths of the two slices, what the program prints and, of an accepted
 -- file, its visits. proofs/Table.antt computes them all.
-use mathlib.Core.Bool.{Bool, true, false}
+use mathlib.Core.Bool.{Bool, true}
 use mathlib.Core.List.{List, [], _∷_, _++_}
 use Prim.Native.Nat.{ℕ, zero, suc, _+_, _/_, _%_}
 use Prim.Native.String.{String}
@@ -11,7 +11,7 @@ use Rattle.text.specs.Utf8.{both}
 use Rattle.meaning.specs.Diag.{ascii}
 use Rattle.meaning.specs.Conditions.{sameText}
 use Rattle.meaning.specs.File.{Reading, refused, described, reading}
-use Rattle.meaning.specs.Check.{Checked, typed, exhausted, check}
+use Rattle.meaning.specs.Check.{typed, exhausted, check}
 use Rattle.meaning.specs.Answer.{hexLine}
 use Rattle.meaning.specs.Outcome.{decide, printedLines, maxVisits}
 

@@ -2,17 +2,16 @@
 use mathlib.Core.Bool.{Bool, true, false}
 use mathlib.Core.List.{List, [], _∷_, _++_}
 use mathlib.Core.Option.{Option, none, some}
-use mathlib.Core.Path.{_≡_, refl, sym, ap, subst, _∙_}
-use Prim.Native.Nat.{ℕ, zero, suc, _+_, _*_, _/_, _%_, _<_, _≤_}
+use mathlib.Core.Path.{_≡_, ap, subst, _∙_}
+use Prim.Native.Nat.{ℕ, _+_, _*_, _/_, _%_, _<_, _≤_}
 use native.Mathlib.Omega.{arith}
-use lib.Dec.{eqb, ltb}
 use lib.ListN.{length, getD, set, length-append}
 use lib.Seq.{getD-set-same}
 use Rattle.text.specs.Utf8.{characters, oneMore}
 use Rattle.work.specs.Layout.{QUERY, NAMES, TYPES, PREDICATES, NODES, FIELDS}
 use Rattle.unification.specs.Ty as Tree
-use Rattle.cells.specs.Words.{pick, declaredW}
-use Rattle.cells.specs.Stands.{Rows, tree}
+use Rattle.cells.specs.Words.{pick}
+use Rattle.cells.specs.Stands.{Rows}
 use Rattle.cells.proofs.Frame.{keeps-set}
 use Rattle.meaning.specs.Syntax.{Node, Query, noNode, nodeAt}
 use Rattle.meaning.specs.Schema.{Predicate}
@@ -25,8 +24,8 @@ use Rattle.meaning.specs.Conditions.{anyOf, sameText, given}
 use Rattle.meaning.specs.File.{valueText, countOf}
 use Rattle.meaning.proofs.Tests.{cases, clash, same-text}
 use Rattle.hex.specs.Digits.{lineAt}
-use Rattle.tree.specs.Stands.{LineIs, NodeIs, QueryIs, PredicateIs, noPredicate, numbered, valueOf}
-use Rattle.reading.specs.Held.{NameIs, NamesHeld, wordsOf, partType, IsOf, TypesHeld, PredicatesHeld, NodesHeld}
+use Rattle.tree.specs.Stands.{NodeIs, QueryIs, PredicateIs, noPredicate, numbered}
+use Rattle.reading.specs.Held.{NameIs, NamesHeld, TypesHeld, PredicatesHeld, NodesHeld}
 use Rattle.reading.proofs.Regions.{snoc}
 use Rattle.reading.proofs.Kept.{name-kept, node-kept}
 

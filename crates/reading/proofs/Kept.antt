@@ -6,12 +6,11 @@ use mathlib.Core.Option.{Option, none, some}
 use mathlib.Core.Path.{_≡_, refl, sym, ap, _∙_}
 use Prim.Native.Nat.{ℕ, zero, suc, _+_, _*_, _/_, _%_, _<_, _≤_}
 use native.Mathlib.Omega.{arith}
-use lib.Dec.{eqb, ltb}
+use lib.Dec.{eqb}
 use lib.ListN.{length, getD}
 use borrow.Author.Count.{below-more}
 use borrow.Author.Tests.{lt-ltb, eqb-true}
 use Rattle.unification.specs.Ty as Tree
-use Rattle.unification.specs.Ty.{Row, ε, cell}
 use Rattle.work.specs.Layout.{MAX-DISTANCE, MAX-TERM, QUERY, NAMES, TYPES, PREDICATES, NODES, FIELDS}
 use Rattle.cells.specs.declared.Ty.{Ty}
 use Rattle.cells.specs.declared.Ty.the-variants as Ty
@@ -24,9 +23,9 @@ use Rattle.meaning.specs.Syntax.{Node, Query}
 use Rattle.meaning.specs.Schema.{Predicate}
 use Rattle.meaning.specs.Frame as Frame
 use Rattle.meaning.specs.Conditions.{among}
-use Rattle.tree.specs.Stands.{LineIs, NodeIs, QueryIs, PredicateIs, noPredicate, valueOf}
+use Rattle.tree.specs.Stands.{NodeIs, QueryIs, PredicateIs, noPredicate, valueOf}
 use Rattle.meaning.proofs.Tests.{clash}
-use Rattle.reading.specs.Held.{LimitsHeld, NameIs, NamesHeld, wordsOf, partType, IsOf, TypesHeld, PredicatesHeld, NodesHeld, flag, Marked, QueryHeld}
+use Rattle.reading.specs.Held.{LimitsHeld, NameIs, NamesHeld, wordsOf, partType, IsOf, TypesHeld, PredicatesHeld, NodesHeld, flag, Marked}
 use Rattle.reading.proofs.Regions.{Same}
 
 -- ---- Limits, names, nodes and the query

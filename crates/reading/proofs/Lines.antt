@@ -1,10 +1,10 @@
 -- What is held after a line of each kind that meets no condition. A line changes the words of its own kind; of the other kinds
 -- the same is held as before.
-use mathlib.Core.Bool.{Bool, true, false}
-use mathlib.Core.List.{List, [], _∷_, _++_, map}
+use mathlib.Core.Bool.{true, false}
+use mathlib.Core.List.{List, [], _∷_, _++_}
 use mathlib.Core.Option.{Option, none, some}
-use mathlib.Core.Path.{_≡_, refl, sym, ap, subst, _∙_}
-use Prim.Native.Nat.{ℕ, suc, _+_, _*_, _/_, _%_, _<_, _≤_}
+use mathlib.Core.Path.{_≡_, refl, ap, subst, _∙_}
+use Prim.Native.Nat.{ℕ, _+_, _*_, _/_, _<_, _≤_}
 use native.Mathlib.Omega.{arith}
 use lib.ListN.{length, getD, set, length-append}
 use lib.Seq.{getD-set-same, sets}
@@ -20,7 +20,7 @@ use Rattle.meaning.specs.References.{shapeTypes, optional, exprNodes, queryNode
 use Rattle.meaning.specs.All.{Below}
 use Rattle.meaning.specs.Frame as Frame
 use Rattle.meaning.specs.Frame.{TypeShape, mayStand, theLimits, aName, aType, aPredicate, aNode, theQuery, frameOf}
-use Rattle.meaning.specs.SoFar.{SoFar, tyOf, predicateOf, add}
+use Rattle.meaning.specs.SoFar.{SoFar, tyOf, add}
 use Rattle.meaning.specs.Conditions.{sameText, given}
 use Rattle.meaning.specs.File.{valueText}
 use Rattle.meaning.proofs.Kept.{nothing-after}
@@ -29,7 +29,7 @@ use Rattle.reading.specs.Marks.{Marks}
 use Rattle.reading.specs.Contracts.{withName, withType, withPredicate, withNode}
 use Rattle.reading.specs.Held.{LimitsHeld, TypesHeld, PredicatesHeld, NodesHeld, Marked, QueryHeld, Held}
 use Rattle.reading.proofs.Regions.{Same, same-part, under, over, same-trans, keeps-sets, WordsAt, words-kept, sets-words}
-use Rattle.reading.proofs.Kept.{limits-kept, names-kept, marked-kept, marked-more, nodes-kept, query-kept, types-kept, predicates-kept}
+use Rattle.reading.proofs.Kept.{limits-kept, names-kept, marked-kept, marked-more, nodes-kept, types-kept, predicates-kept}
 use Rattle.reading.proofs.Added.{name-added, valueWord, predicate-added, node-added, query-added}
 use Rattle.reading.proofs.Shapes.{shapeWords, shapeHead, shapeSecond, shapeRow, withRow, older-row, new-row, shape-added}
 

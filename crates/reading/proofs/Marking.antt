@@ -3,16 +3,15 @@
 use mathlib.Core.Bool.{Bool, true, false, not}
 use mathlib.Core.List.{List, [], _∷_, _++_, append-assoc, append-nil}
 use mathlib.Core.Path.{_≡_, refl, sym, ap, subst, _∙_}
-use Prim.Native.Nat.{ℕ, zero, suc, _+_, _*_, _/_, _%_, _<_, _≤_}
+use Prim.Native.Nat.{ℕ, _+_, _/_, _%_, _<_, _≤_}
 use native.Mathlib.Omega.{arith}
 use lib.Dec.{eqb, ltb}
 use lib.ListN.{length, getD, set}
 use lib.Seq.{getD-set-same, getD-set-other}
-use borrow.Author.Tests.{eq-eqb, ne-eqb, eqb-true, eqb-false, lt-ltb, le-ltb, ltb-true, not-false}
+use borrow.Author.Tests.{eq-eqb, ne-eqb, eqb-true, eqb-false, lt-ltb, le-ltb}
 use Rattle.text.specs.Utf8.{both}
 use Rattle.text.proofs.Every.{both-left, both-right}
-use Rattle.work.specs.Layout.{NODES, FIELDS}
-use Rattle.cells.specs.Stands.{Keeps}
+use Rattle.work.specs.Layout.{NODES}
 use Rattle.cells.proofs.Frame.{keeps-refl, keeps-trans, keeps-set}
 use Rattle.meaning.specs.Conditions.{anyOf, allBelow, among, again}
 use Rattle.meaning.proofs.Tests.{cases, clash}

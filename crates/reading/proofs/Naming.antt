@@ -1,6 +1,6 @@
 -- A name line: refused by its text, or one more name is held.
 use mathlib.Core.Bool.{Bool, true, false}
-use mathlib.Core.List.{List, [], _∷_, _++_}
+use mathlib.Core.List.{List, [], _∷_}
 use mathlib.Core.Option.{Option, none, some}
 use mathlib.Core.Path.{_≡_, refl, sym, ap, subst, _∙_}
 use Prim.Native.Nat.{ℕ, _+_, _-_, _*_, _<_, _≤_}
@@ -15,20 +15,19 @@ use Rattle.text.proofs.Laws.{characters-le}
 use Rattle.work.specs.Layout.{NAMES}
 use Rattle.cells.specs.Words.{pick}
 use Rattle.cells.specs.Stands.{Rows}
-use Rattle.hex.specs.Digits.{lineAt}
 use Rattle.meaning.specs.Refusal as Refused
 use Rattle.meaning.specs.Frame as Frame
 use Rattle.meaning.specs.Frame.{Frame, aName, mayStand, kindByte, frameKind, frame, one, andThen, rest, whole, frameOf}
 use Rattle.meaning.specs.References.{textsOf, nameRefs, typeRefs, nodeRefs, keysOf}
 use Rattle.meaning.specs.SoFar.{SoFar, add, frames}
-use Rattle.meaning.specs.Conditions.{anyOf, allBelow, again, broken, given, sameText, isFull, refersEarlier, refersBadly, conditions, firstOf}
+use Rattle.meaning.specs.Conditions.{anyOf, allBelow, again, broken, given, sameText, refersEarlier, refersBadly, conditions, firstOf}
 use Rattle.meaning.specs.File.{valueText}
 use Rattle.reading.specs.declared.Refusal.the-variants as Refusal
 use Rattle.reading.specs.declared.Counters.{Counters}
 use Rattle.reading.specs.declared.Step.{Step}
 use Rattle.reading.specs.declared.Step.the-variants.{On, Off}
 use Rattle.reading.specs.Held.{Held}
-use Rattle.reading.specs.Contracts.{withName, Line, Comes, Steps, Takes, NameLine, GivenBefore, AddsName}
+use Rattle.reading.specs.Contracts.{withName, Line, Comes, Takes, NameLine, GivenBefore, AddsName}
 use Rattle.reading.proofs.Lines.{name-held}
 use Rattle.reading.proofs.Order.{first-broken, first-given, first-none}
 use Rattle.reading.proofs.Stepping.{refuses, goes-on, begun, names-room}

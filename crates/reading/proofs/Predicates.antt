@@ -1,20 +1,20 @@
 -- A predicate line: its frame by places of the line, refused by its references, or one more predicate is held.
-use mathlib.Core.Bool.{Bool, true, false, not, _||_}
-use mathlib.Core.List.{List, [], _∷_}
+use mathlib.Core.Bool.{Bool, true, false, not}
+use mathlib.Core.List.{List, []}
 use mathlib.Core.Option.{Option, none, some}
 use mathlib.Core.Path.{_≡_, refl, sym, ap, subst, _∙_}
 use Prim.Native.Nat.{ℕ, zero, suc, _+_, _*_, _<_, _≤_}
 use native.Mathlib.Omega.{arith}
 use lib.Dec.{ltb}
-use lib.ListN.{length, getD, drop, set, getElem?}
-use borrow.Author.Tests.{ltb-true, ltb-false, lt-ltb, le-ltb, eqb-true, eqb-false}
+use lib.ListN.{length, drop, set, getElem?}
+use borrow.Author.Tests.{ltb-true, lt-ltb, le-ltb}
 use Rattle.text.specs.Utf8.{both}
 use Rattle.text.proofs.Every.{both-left, both-right}
 use Rattle.work.specs.Layout.{PREDICATES}
 use Rattle.cells.specs.Stands.{Rows}
 use Rattle.meaning.specs.Refusal as Refused
 use Rattle.meaning.specs.Frame as Frame
-use Rattle.meaning.specs.Frame.{Frame, aPredicate, Got, got, fails, andThen, nothing, one, pair, triple, two, entry, choice, valueTypes, mayStand, kindByte, frameKind, frame, whole, frameOf}
+use Rattle.meaning.specs.Frame.{Frame, aPredicate, got, fails, andThen, nothing, one, pair, triple, two, entry, valueTypes, mayStand, kindByte, frameKind, frame, frameOf}
 use Rattle.meaning.specs.References.{optional, textsOf, nameRefs, typeRefs, nodeRefs, keysOf}
 use Rattle.meaning.specs.SoFar.{SoFar, add, frames}
 use Rattle.meaning.specs.Conditions.{anyOf, allBelow, again, refersEarlier, refersBadly, conditions, firstOf}
@@ -26,14 +26,14 @@ use Rattle.frames.proofs.Statements.{choice-at}
 use Rattle.reading.specs.declared.Refusal.the-variants as Refusal
 use Rattle.reading.specs.declared.Counters.{Counters}
 use Rattle.reading.specs.declared.Step.{Step}
-use Rattle.reading.specs.declared.Step.the-variants.{On, Off}
+use Rattle.reading.specs.declared.Step.the-variants.{Off}
 use Rattle.reading.specs.Held.{Held}
-use Rattle.reading.specs.Contracts.{withPredicate, Comes, Takes, TakesAnywhere, AddsPredicate}
+use Rattle.reading.specs.Contracts.{withPredicate, Comes, TakesAnywhere, AddsPredicate}
 use Rattle.reading.proofs.Added.{valueWord}
 use Rattle.reading.proofs.Lines.{predicate-held}
 use Rattle.reading.proofs.Order.{first-bad, first-none}
 use Rattle.reading.proofs.Stepping.{refuses, goes-on, begun, predicates-room}
-use Rattle.reading.proofs.Typing.{one-made, whole-made, sized-got, past-end, both-all, or-none}
+use Rattle.reading.proofs.Typing.{one-made, whole-made, sized-got, both-all, or-none}
 use Rattle.reading.proofs.Walks.{both-none}
 
 -- What the bytes from 5 on say of the value type.

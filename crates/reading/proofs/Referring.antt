@@ -3,8 +3,8 @@ use mathlib.Core.Bool.{Bool, true, false}
 use mathlib.Core.List.{List, [], _∷_}
 use mathlib.Core.Logic.{_⊎_, inl, inr, ⊎-elim}
 use mathlib.Core.Option.{some}
-use mathlib.Core.Path.{_≡_, refl, sym}
-use Prim.Native.Nat.{ℕ, zero, suc, _+_, _*_, _<_, _≤_}
+use mathlib.Core.Path.{_≡_, sym}
+use Prim.Native.Nat.{ℕ, _<_, _≤_}
 use native.Mathlib.Omega.{arith}
 use lib.Dec.{eqb, ltb}
 use lib.ListN.{length, drop}

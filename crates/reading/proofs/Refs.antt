@@ -1,20 +1,20 @@
 -- What a node's frame refers to, by its shape byte and places of the line.
-use mathlib.Core.Bool.{Bool, true, false}
+use mathlib.Core.Bool.{true, false}
 use mathlib.Core.List.{List, [], _∷_, map}
-use mathlib.Core.Option.{Option, none, some}
+use mathlib.Core.Option.{some}
 use mathlib.Core.Path.{_≡_, refl, sym, ap, subst, _∙_}
 use Prim.Native.Nat.{ℕ, zero, suc, _+_, _*_, _<_, _≤_}
 use native.Mathlib.Omega.{arith}
-use lib.ListN.{length, getD, drop, getElem?}
+use lib.ListN.{length, drop, getElem?}
 use lib.Dec.{ltb}
 use borrow.Author.Tests.{ltb-true, ltb-false}
 use Rattle.meaning.proofs.Tests.{cases}
-use Rattle.meaning.specs.Syntax.{Field, QueryStmt, Query, FieldRef, Literal, ExprKind, Node}
+use Rattle.meaning.specs.Syntax.{QueryStmt, Query, FieldRef, Literal, ExprKind, Node}
 use Rattle.meaning.specs.Frame as Frame
-use Rattle.meaning.specs.Frame.{Frame, aNode, Got, got, fails, Reader, andThen, nothing, one, pair, triple, byte, two, four, many, field, headAndBody, entry, choice, exprKinds, spanAndKind, frame, whole, frameOf}
+use Rattle.meaning.specs.Frame.{Frame, aNode, got, fails, Reader, andThen, nothing, one, pair, triple, two, many, field, headAndBody, entry, exprKinds, spanAndKind, frame, frameOf}
 use Rattle.meaning.specs.References.{fieldNames, fieldValues, stmtNodes, queryNodes, exprNames, exprNodes}
 use Rattle.frames.specs.Contracts.{byteW, halfW, fullW, exprKind, statement}
-use Rattle.frames.proofs.Readers.{Sized, sized-one, sized-pair, sized-two, sized-four, sized-byte, itemsAt, fieldAt, Items, fields-are, numbers-are}
+use Rattle.frames.proofs.Readers.{Sized, sized-one, sized-pair, sized-two, sized-four, sized-byte, itemsAt, fieldAt, fields-are, numbers-are}
 use Rattle.frames.proofs.Statements.{choice-at, Fill, statements-are}
 use Rattle.reading.proofs.Typing.{one-made, whole-made, sized-got, map-items, past-end}
 

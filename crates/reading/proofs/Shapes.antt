@@ -1,28 +1,27 @@
 -- One more type. The older ones read other words and rows; a new record or union has a new row, which is that of the words
 -- written for its parts, and these name earlier types.
-use mathlib.Core.Bool.{Bool, true, false}
 use mathlib.Core.List.{List, [], _∷_, _++_, map}
-use mathlib.Core.Path.{_≡_, refl, sym, ap, subst, _∙_}
+use mathlib.Core.Path.{_≡_, refl, sym, subst, _∙_}
 use Prim.Native.Nat.{ℕ, zero, suc, _+_, _*_, _/_, _%_, _<_, _≤_}
 use native.Mathlib.Omega.{arith}
 use lib.Dec.{eqb}
 use lib.ListN.{length, getD, length-append, length-map}
 use borrow.Author.Tests.{eq-eqb, ne-eqb}
 use Rattle.unification.specs.Ty as Tree
-use Rattle.unification.specs.Ty.{Leaf, Row, ε, cell}
+use Rattle.unification.specs.Ty.{Leaf, Row, ε}
 use Rattle.work.specs.Layout.{TYPES, FIELDS}
 use Rattle.cells.specs.declared.Kind.{Kind}
 use Rattle.cells.specs.declared.Kind.the-variants.{Fields, Alternatives}
-use Rattle.cells.specs.Words.{pick, tyW, declaredW, countW, firstW, declaredField, alternativeW, partW}
+use Rattle.cells.specs.Words.{pick, tyW, declaredW, countW, firstW, declaredField, alternativeW}
 use Rattle.cells.specs.Stands.{Rows, tree, tagOf, rowFrom, rowW}
 use Rattle.meaning.specs.Syntax.{Field}
 use Rattle.meaning.specs.Frame.{Alternative, TypeShape, aLeaf, aRecord, aUnion}
 use Rattle.meaning.specs.References.{fieldValues, shapeTypes}
 use Rattle.meaning.specs.SoFar.{typeAt, fieldRow, alternativeRow, tyOf}
-use Rattle.meaning.specs.All.{All, Below}
+use Rattle.meaning.specs.All.{Below}
 use Rattle.reading.specs.Parts.{fieldWord, alternativeWords}
 use Rattle.reading.specs.Held.{wordsOf, partType, IsOf, TypesHeld}
-use Rattle.reading.proofs.Regions.{Same, WordsAt, words-head, words-tail, snoc}
+use Rattle.reading.proofs.Regions.{WordsAt, words-head, words-tail, snoc}
 use Rattle.reading.proofs.Kept.{first-is, count-is, field-is}
 
 -- ---- A type's first word without the number of parts, and its second, where it has none

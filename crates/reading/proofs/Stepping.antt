@@ -1,5 +1,5 @@
 -- How a line's step follows from the first condition that holds of it, and what a kind that may come says of the lines before.
-use mathlib.Core.Bool.{Bool, true, false}
+use mathlib.Core.Bool.{true, false}
 use mathlib.Core.List.{List}
 use mathlib.Core.Option.{Option, none, some}
 use mathlib.Core.Path.{_≡_, refl, sym, subst, _∙_}
@@ -14,7 +14,6 @@ use Rattle.meaning.specs.Conditions.{maxNames, maxTypes, maxPredicates, maxNode
 use Rattle.meaning.proofs.Tests.{clash}
 use Rattle.reading.specs.declared.Refusal.{Refusal}
 use Rattle.reading.specs.declared.Counters.{Counters}
-use Rattle.reading.specs.declared.Step.{Step}
 use Rattle.reading.specs.declared.Step.the-variants.{On, Off}
 use Rattle.reading.specs.Held.{Held}
 use Rattle.reading.specs.Contracts.{refusal, Steps}

@@ -2,9 +2,9 @@
 -- far. A text was given before exactly where the walk over the names finds a line with the same digits.
 use mathlib.Core.Bool.{Bool, true, false}
 use mathlib.Core.List.{List, [], _∷_}
-use mathlib.Core.Option.{Option, none, some}
+use mathlib.Core.Option.{some}
 use mathlib.Core.Path.{_≡_, refl, sym, ap, subst, _∙_}
-use Prim.Native.Nat.{ℕ, zero, suc, _+_, _-_, _*_, _/_, _%_, _<_, _≤_}
+use Prim.Native.Nat.{ℕ, _+_, _-_, _*_, _/_, _%_, _<_, _≤_}
 use native.Mathlib.Nat.{add-zero}
 use native.Mathlib.Numerals.{add-one}
 use native.Mathlib.Omega.{arith}
@@ -13,7 +13,7 @@ use lib.ListN.{length, getD, drop, length-drop, drop-of-length-le}
 use lib.Seq.{drop-cons, getD-drop, ext-getD}
 use borrow.Author.Count.{below-more}
 use borrow.Author.Tests.{ltb-true, ltb-false, eqb-true, eqb-false, ne-eqb, eq-eqb}
-use Rattle.text.specs.Utf8.{both, characters}
+use Rattle.text.specs.Utf8.{characters}
 use Rattle.work.specs.Layout.{NAMES}
 use Rattle.hex.specs.Digits.{lineAt}
 use Rattle.hex.proofs.Bytes.{Spells, line-takes, line-spells, same-digits, same-bytes}
@@ -21,7 +21,7 @@ use Rattle.meaning.specs.Diag.{ascii}
 use Rattle.meaning.specs.Lines.{LF}
 use Rattle.meaning.specs.Conditions.{anyOf, sameText, given}
 use Rattle.meaning.specs.File.{valueText, countOf}
-use Rattle.meaning.proofs.Tests.{cases, clash, same-text, text-same}
+use Rattle.meaning.proofs.Tests.{cases, same-text, text-same}
 use Rattle.reading.specs.Held.{NamesHeld}
 use Rattle.reading.specs.Contracts.{fourAt, eightAt, Differ, SameLine, NameLine, SameName, GivenBefore}
 

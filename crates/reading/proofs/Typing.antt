@@ -1,31 +1,29 @@
 -- A type line: its shape byte says what its frame is, by places of the line; the frame is refused by its references or keys, or one more
 -- type is held.
 use mathlib.Core.Bool.{Bool, true, false, not, _||_}
-use mathlib.Core.List.{List, [], _∷_, _++_, map}
+use mathlib.Core.List.{List, [], _∷_, map}
 use mathlib.Core.Option.{Option, none, some}
 use mathlib.Core.Path.{_≡_, refl, sym, ap, subst, _∙_}
-use Prim.Native.Nat.{ℕ, zero, suc, _+_, _-_, _*_, _/_, _<_, _≤_}
-use native.Mathlib.Nat.{suc-mul}
+use Prim.Native.Nat.{ℕ, zero, suc, _+_, _-_, _*_, _/_, _≤_}
 use native.Mathlib.Omega.{arith}
-use lib.Dec.{eqb, ltb}
-use lib.ListN.{length, getD, drop, set, getElem?, length-map}
+use lib.Dec.{ltb}
+use lib.ListN.{length, drop, set, getElem?, length-map}
 use lib.Seq.{sets}
-use borrow.Author.Tests.{ltb-true, ltb-false, not-true, not-false}
+use borrow.Author.Tests.{ltb-true, ltb-false, not-false}
 use Rattle.text.specs.Utf8.{both}
-use Rattle.text.proofs.Every.{both-left, both-right}
+use Rattle.text.proofs.Every.{both-right}
 use Rattle.unification.specs.Ty.{Leaf, Int, String, Bytes, Fact}
 use Rattle.work.specs.Layout.{TYPES, FIELDS}
 use Rattle.cells.specs.Stands.{Rows}
 use Rattle.meaning.specs.Syntax.{Field}
 use Rattle.meaning.specs.Refusal as Refused
 use Rattle.meaning.specs.Frame as Frame
-use Rattle.meaning.specs.Frame.{Frame, aType, TypeShape, aLeaf, aRecord, aUnion, Alternative, Got, got, fails, Reader, andThen, nothing, one, two, many, field, alternative, entry, choice, typeShapes, mayStand, kindByte, frameKind, frame, whole, frameOf}
+use Rattle.meaning.specs.Frame.{Frame, aType, TypeShape, aLeaf, aRecord, aUnion, Alternative, Got, got, fails, Reader, andThen, nothing, one, two, many, field, alternative, entry, typeShapes, mayStand, kindByte, frameKind, frame, whole, frameOf}
 use Rattle.meaning.specs.References.{fieldNames, fieldValues, shapeNames, shapeTypes, shapeKeys, textsOf, nameRefs, typeRefs, nodeRefs, keysOf}
 use Rattle.meaning.specs.SoFar.{SoFar, add, frames}
-use Rattle.meaning.specs.Conditions.{anyOf, allBelow, again, broken, given, isFull, refersEarlier, refersBadly, conditions, firstOf}
-use Rattle.meaning.specs.All.{Below}
-use Rattle.meaning.proofs.Tests.{cases, clash, below-all}
-use Rattle.frames.specs.Contracts.{byteW, halfW, fullW, typeShape}
+use Rattle.meaning.specs.Conditions.{anyOf, allBelow, again, refersEarlier, refersBadly, conditions, firstOf}
+use Rattle.meaning.proofs.Tests.{cases, below-all}
+use Rattle.frames.specs.Contracts.{byteW, halfW, typeShape}
 use Rattle.frames.proofs.Readers.{Sized, sized-one, sized-two, itemsAt, fieldAt, alternativeAt, Items, fields-are, alternatives-are}
 use Rattle.frames.proofs.Statements.{choice-at}
 use Rattle.reading.specs.declared.Refusal.the-variants as Refusal
@@ -34,7 +32,7 @@ use Rattle.reading.specs.declared.Step.{Step}
 use Rattle.reading.specs.declared.Step.the-variants.{On, Off}
 use Rattle.reading.specs.Held.{Held}
 use Rattle.reading.specs.Parts.{fieldWord, alternativeWords, typeW, keyW, PartsEarlier, KeysDistinct, PutsFields, PutsAlternatives}
-use Rattle.reading.specs.Contracts.{withType, Line, Comes, Steps, Takes, TakesAnywhere, AddsType, TakesType}
+use Rattle.reading.specs.Contracts.{withType, Line, Comes, Steps, TakesAnywhere, AddsType, TakesType}
 use Rattle.reading.proofs.Shapes.{leafTag, leafPayload, shapeWords, shapeHead, shapeSecond, shapeRow, withRow, alternative-words}
 use Rattle.reading.proofs.Lines.{type-held}
 use Rattle.reading.proofs.Order.{first-bad, first-repeated, first-none}

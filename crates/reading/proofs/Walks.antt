@@ -2,7 +2,7 @@
 -- what is asked of the parts left.
 use mathlib.Core.Bool.{Bool, true, false, not}
 use mathlib.Core.List.{List, [], _∷_, _++_, map}
-use mathlib.Core.Path.{_≡_, refl, sym, ap, subst, _∙_}
+use mathlib.Core.Path.{_≡_, refl, sym, ap, _∙_}
 use Prim.Native.Nat.{ℕ, zero, suc, _+_, _-_, _*_, _<_, _≤_}
 use native.Mathlib.Nat.{zero-mul, suc-mul}
 use native.Mathlib.Numerals.{add-one}
@@ -12,12 +12,11 @@ use lib.ListN.{length, set}
 use lib.Seq.{sets}
 use borrow.Author.Tests.{eq-eqb, ne-eqb, lt-ltb, le-ltb}
 use Rattle.text.specs.Utf8.{both}
-use Rattle.work.specs.Layout.{FIELDS}
 use Rattle.meaning.specs.Conditions.{anyOf, allBelow, among, again}
 use Rattle.meaning.proofs.Tests.{cases}
 use Rattle.frames.specs.Contracts.{halfW, fullW}
 use Rattle.frames.proofs.Readers.{itemsAt, fieldAt, alternativeAt}
-use Rattle.reading.specs.Parts.{fieldWord, alternativeWords, typeW, keyW, PartsEarlier, KeyBefore, KeysDistinct, PutsFields, PutsAlternatives}
+use Rattle.reading.specs.Parts.{fieldWord, alternativeWords, typeW, keyW, KeyBefore, KeysDistinct}
 
 pub record Walking {B : Type 0} (goal g : ℕ → B) (size end i : ℕ) : Type 0 where
   pub to : (k : ℕ) → 2 + k * size ≡ end → (m : ℕ) × (i + m * size ≡ end) × (goal k ≡ g m)

@@ -1,10 +1,10 @@
 -- A record in the making, in a run: the words of its fields and its cell are read by nothing else.
 use mathlib.Core.List.{List}
-use mathlib.Core.Path.{_≡_, refl}
+use mathlib.Core.Path.{refl}
 use native.Mathlib.Omega.{arith}
-use Prim.Native.Nat.{ℕ, _+_, _*_, _<_, _≤_}
-use lib.ListN.{getD, set}
-use Rattle.work.specs.Layout.{RECORD-COUNT, RECORD-FIELD-COUNT, ENV-LEN, DIAGNOSTIC-COUNT, END}
+use Prim.Native.Nat.{ℕ, _+_, _<_, _≤_}
+use lib.ListN.{getD}
+use Rattle.work.specs.Layout.{RECORD-COUNT, RECORD-FIELD-COUNT, ENV-LEN, DIAGNOSTIC-COUNT}
 use Rattle.cells.specs.declared.Ty.{Ty}
 use Rattle.cells.specs.Stands.{Rows}
 use Rattle.cells.specs.Inferred.{reserveW, putFieldW, newRecordW, Reserved, rowsWith, Filled}
@@ -14,7 +14,7 @@ use Rattle.meaning.specs.Sound.{Sound}
 use Rattle.meaning.specs.File.{Described}
 use Rattle.meaning.specs.Check.{Checker}
 use Rattle.state.specs.Runs.{Runs, Grew}
-use Rattle.state.proofs.Running.{Quiet, runs-state}
+use Rattle.state.proofs.Running.{runs-state}
 
 module _ {f w : List ℕ} {T : Rows} {d : Described} {c : Checker} (sound : Sound d) (R : Runs f w T d c) where
   module _ (n : ℕ) (room : getD w RECORD-FIELD-COUNT 0 + n ≤ 512) where

@@ -11,8 +11,8 @@ use Prim.Native.Nat.{ℕ, suc, _+_, _*_, _/_, _%_, _<_, _≤_}
 use lib.Dec.{eqb}
 use lib.ListN.{length, getD, set, length-set}
 use lib.Seq.{getD-set-same, getD-set-other}
-use borrow.Author.Tests.{lt-ltb, eqb-true, eqb-false, eq-eqb, ne-eqb}
-use Rattle.work.specs.Layout.{RECORD-COUNT, ENV-LEN, DIAGNOSTIC-COUNT, UNKNOWNS, DIAGNOSTICS, ENV, TYS, END}
+use borrow.Author.Tests.{lt-ltb, eq-eqb, ne-eqb}
+use Rattle.work.specs.Layout.{RECORD-COUNT, ENV-LEN, DIAGNOSTIC-COUNT, UNKNOWNS, DIAGNOSTICS, ENV, END}
 use Rattle.cells.specs.Words.{pick}
 use Rattle.cells.specs.Stands.{Rows, Keeps}
 use Rattle.cells.proofs.Frame.{keeps-trans, keeps-set}
@@ -23,7 +23,7 @@ use Rattle.meaning.specs.Sound.{Sound}
 use Rattle.meaning.specs.File.{Described}
 use Rattle.meaning.specs.Check.{Checker}
 use Rattle.state.specs.declared.Code.{Code}
-use Rattle.state.specs.Words.{codeOf, numberOf, codeAt, halfW, besideW, putHalfW, rejectW, envOf}
+use Rattle.state.specs.Words.{codeOf, numberOf, halfW, besideW, putHalfW, rejectW}
 use Rattle.state.specs.Runs.{diagnosticOf, diagnosticsOf, Runs, Grew}
 use Rattle.state.proofs.Entries.{number-small, code-back}
 use Rattle.state.proofs.Running.{env-same, half-same, diagnostics-same, same-grew, runs-aside}

@@ -1,38 +1,29 @@
 -- The words stand for a run: what each step of the state does to it. A step changes the state, the environment or the diagnostics;
 -- the words of the others are as they were.
-use mathlib.Core.Bool.{Bool, true, false}
-use mathlib.Core.List.{List, [], _∷_}
-use mathlib.Core.Logic.{_≢_, by-cases}
-use mathlib.Core.Option.{Option, none, some}
-use mathlib.Core.Path.{_≡_, refl, sym, _∙_, ap}
-use native.Mathlib.Decide.{ℕ-discrete}
-use native.Mathlib.Numerals.{add-one}
+use mathlib.Core.List.{List}
+use mathlib.Core.Logic.{_≢_}
+use mathlib.Core.Option.{none, some}
+use mathlib.Core.Path.{_≡_, refl, sym, _∙_}
 use native.Mathlib.Omega.{arith}
-use Prim.Native.Nat.{ℕ, zero, suc, _+_, _-_, _*_, _/_, _%_, _<_, _≤_}
-use lib.Dec.{eqb}
-use lib.ListN.{length, getD, set, length-set}
-use lib.Seq.{getD-set-same, getD-set-other}
-use borrow.Author.Tests.{lt-ltb, eqb-true, eqb-false, eq-eqb, ne-eqb}
+use Prim.Native.Nat.{ℕ, zero, suc, _+_, _-_, _/_, _<_, _≤_}
+use lib.ListN.{length, getD, length-set}
 use Rattle.unification.specs.Bindings as Bindings
 use Rattle.unification.specs.Bindings.{State}
-use Rattle.work.specs.Layout.{RECORD-COUNT, RECORD-FIELD-COUNT, ENV-LEN, DIAGNOSTIC-COUNT, UNKNOWNS, RECORDS, ENV, DIAGNOSTICS, TYS, UNDO-LEN, BINDINGS, END}
+use Rattle.work.specs.Layout.{RECORD-COUNT, RECORD-FIELD-COUNT, ENV-LEN, DIAGNOSTIC-COUNT, UNKNOWNS, ENV, DIAGNOSTICS, TYS, BINDINGS, END}
 use Rattle.cells.specs.declared.Ty.{Ty}
-use Rattle.cells.specs.Words.{pick, annotateW, freshW}
+use Rattle.cells.specs.Words.{annotateW, freshW}
 use Rattle.cells.specs.Stands.{Rows, tree, Ok, Holds, Keeps}
-use Rattle.cells.specs.Inferred.{More, Adds}
-use Rattle.cells.proofs.Frame.{keeps-refl, keeps-trans, keeps-wider, keeps-set, OldCells, more-refl, SameCells, keeps-cells, same-old}
-use Rattle.cells.proofs.Elsewhere.{SameSlots, SameState, holds-same}
-use Rattle.cells.proofs.Holding.{annotate-keeps, annotate-holds, fresh-other, fresh-length, fresh-unknowns, fresh-cells, fresh-holds}
+use Rattle.cells.specs.Inferred.{More}
+use Rattle.cells.proofs.Frame.{keeps-refl, keeps-trans, keeps-wider, OldCells, more-refl, SameCells, keeps-cells, same-old}
+use Rattle.cells.proofs.Elsewhere.{SameState, holds-same}
+use Rattle.cells.proofs.Holding.{annotate-keeps, annotate-holds, fresh-other, fresh-length, fresh-cells, fresh-holds}
 use Rattle.cells.proofs.Making.{adds-refl, adds-trans, same-adds}
-use Rattle.meaning.specs.Syntax.{Node, nodeAt}
-use Rattle.meaning.specs.Diag.{Diagnostic}
+use Rattle.meaning.specs.Syntax.{Node}
 use Rattle.meaning.specs.Sound.{Sound}
 use Rattle.meaning.specs.File.{Described}
 use Rattle.meaning.specs.Check.{Checker}
-use Rattle.state.specs.declared.Code.{Code}
-use Rattle.state.specs.Words.{codeOf, numberOf, codeAt, halfW, besideW, putHalfW, rejectW, envOf, pushEnvW}
-use Rattle.state.specs.Runs.{diagnosticOf, diagnosticsOf, Runs, Grew}
-use Rattle.state.proofs.Entries.{number-small, code-back}
+use Rattle.state.specs.Words.{halfW, envOf}
+use Rattle.state.specs.Runs.{diagnosticsOf, Runs, Grew}
 use Rattle.state.proofs.Standing.{stands-more}
 
 -- ---- What was made

@@ -1,6 +1,5 @@
 -- The environment: one entry more, and cut back to a length; a variable's unknown; and a rollback, which goes back in the state and in
 -- the environment.
-use mathlib.Core.Bool.{Bool, true, false}
 use mathlib.Core.List.{List, [], _∷_}
 use mathlib.Core.Logic.{_≢_}
 use mathlib.Core.Option.{Option, none, some}
@@ -24,7 +23,7 @@ use Rattle.meaning.specs.File.{Described}
 use Rattle.meaning.specs.Check as Check
 use Rattle.meaning.specs.Check.{Checker, Step, goes, andThen, lookupIn, withState}
 use Rattle.state.specs.Words.{envOf, pushEnvW, Introduces}
-use Rattle.state.specs.Runs.{diagnosticsOf, Runs, Grew}
+use Rattle.state.specs.Runs.{Runs, Grew}
 use Rattle.state.proofs.Running.{env-same, half-same, diagnostics-same, among-same, grew-refl, grew-trans, same-grew, runs-slots, grew-slots, fresh-runs, fresh-grew, runs-aside}
 
 pub env-length : (w : List ℕ) (n : ℕ) → length (envOf w n) ≡ n

@@ -1,6 +1,5 @@
 -- The words of a run besides those of types: how diagnostics and variables are written and read (src/lib.rt). There is room for
 -- 1,536 diagnostics and 512 variables; past it nothing is written, and that it never comes to that is shown where the run is.
-use mathlib.Core.Bool.{Bool, true, false}
 use mathlib.Core.List.{List, [], _∷_}
 use mathlib.Core.Option.{Option, none, some}
 use mathlib.Core.Path.{_≡_}

@@ -2,10 +2,10 @@
 -- a fuzzy pattern, a unification. Each goes beside its namesake of meaning/specs/Check.antt.
 use mathlib.Core.Bool.{Bool, true, false}
 use mathlib.Core.List.{List}
-use mathlib.Core.Option.{Option, none, some}
-use mathlib.Core.Path.{_≡_, refl, sym, _∙_, ap}
+use mathlib.Core.Option.{some}
+use mathlib.Core.Path.{_≡_, refl, _∙_, ap}
 use native.Mathlib.Omega.{arith}
-use Prim.Native.Nat.{ℕ, zero, suc, _+_, _-_, _<_, _≤_}
+use Prim.Native.Nat.{ℕ, zero, suc, _-_, _<_, _≤_}
 use lib.Dec.{ltb}
 use lib.ListN.{length, getD, set}
 use borrow.Author.Tests.{ne-eqb}
@@ -27,7 +27,7 @@ use Rattle.cells.proofs.Frame.{more-refl, keeps-wider}
 use Rattle.meaning.specs.File.{Described}
 use Rattle.meaning.specs.Check as Check
 use Rattle.meaning.specs.Check.{Checker, Does, goes}
-use Rattle.meaning.proofs.Meets.{Grade, Orderly, Meets}
+use Rattle.meaning.proofs.Meets.{Orderly, Meets}
 use Rattle.meaning.proofs.Steps.{no-thing, one-diagnostic, Nothing, reject-meets, reject-if}
 use Rattle.state.specs.declared.Code.{Code}
 use Rattle.state.specs.declared.Code.the-variants as Code
@@ -35,7 +35,7 @@ use Rattle.state.specs.Words.{codeOf, rejectW}
 use Rattle.state.proofs.Running.{runs-slots, grew-slots}
 use Rattle.state.proofs.Scoping.{runs-env-length, cut-runs, cut-grew, rollback-runs, rollback-grew}
 use Rattle.steps.specs.Ends.{silent, unified, Ends, went, spent}
-use Rattle.steps.specs.Loads.{Load, only, both, Holds, Begins, Beside}
+use Rattle.steps.specs.Loads.{Load, only, Begins, Beside}
 use Rattle.steps.specs.Contracts.{nodesOf, Reports, RollsTo, Cuts, Fuzzes, UnifiesTo}
 use Rattle.steps.specs.Outside.{reportCode, fuzzyDistanceW, fuzzyTermW, Rewinds}
 use Rattle.steps.proofs.Ending.{reject-ends}

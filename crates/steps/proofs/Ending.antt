@@ -3,7 +3,7 @@ use mathlib.Core.List.{List, _∷_}
 use mathlib.Core.Option.{Option, none, some}
 use mathlib.Core.Path.{_≡_, refl, sym, _∙_, ap}
 use native.Mathlib.Omega.{arith}
-use Prim.Native.Nat.{ℕ, zero, suc, _+_, _<_, _≤_}
+use Prim.Native.Nat.{ℕ, zero, suc, _<_}
 use lib.ListN.{length, getD}
 use Rattle.unification.specs.Ty as Tree
 use Rattle.unification.specs.Bindings as Bindings
@@ -30,7 +30,7 @@ use Rattle.state.proofs.Reporting.{reject-runs, reject-grew}
 use Rattle.steps.specs.declared.Typed.{Typed}
 use Rattle.steps.specs.declared.Typed.the-variants as Typed
 use Rattle.steps.specs.Ends.{typed, silent, numbered, Ends, went}
-use Rattle.steps.specs.Loads.{Load, only, Begins}
+use Rattle.steps.specs.Loads.{only, Begins}
 use Rattle.steps.specs.Contracts.{nodesOf, Rejects, Notes, Freshens, Brings}
 
 diagnostics-length : (nodes : List Node) (w : List ℕ) (n : ℕ) → length (diagnosticsOf nodes w n) ≡ n

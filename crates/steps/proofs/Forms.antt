@@ -1,7 +1,7 @@
 -- The form of a node by the arm that a `match` took: an arm for several variants says which tags the node may have.
 use mathlib.Core.Bool.{Bool, true, false, not}
 use mathlib.Core.List.{List, [], _∷_}
-use mathlib.Core.Path.{_≡_, refl, sym}
+use mathlib.Core.Path.{_≡_, refl}
 use Prim.Native.Nat.{ℕ}
 use lib.Dec.{T, eqb}
 use mir.Val.{hasKey}

@@ -5,15 +5,14 @@ use mathlib.Core.List.{List, [], _∷_}
 use mathlib.Core.Option.{Option, none, some}
 use mathlib.Core.Path.{_≡_, refl, sym, _∙_, ap}
 use native.Mathlib.Omega.{arith}
-use Prim.Native.Nat.{ℕ, zero, suc, _+_, _-_, _*_, _/_, _%_, _<_, _≤_}
+use Prim.Native.Nat.{ℕ, zero, suc, _+_, _-_, _/_, _%_, _<_, _≤_}
 use types.Run.{OneOf, miss}
 use denote.Enum.Declared.{tagOf}
 use lib.Dec.{eqb, ltb}
 use lib.ListN.{length, getD, getElem?}
-use borrow.Author.Tests.{ltb-true, ltb-false, eqb-true, eqb-false}
+use borrow.Author.Tests.{ltb-true, ltb-false, eqb-true}
 use Rattle.unification.specs.Ty as Tree
 use Rattle.unification.specs.Unify.{findKey}
-use Rattle.unification.proofs.Tests.{clash}
 use Rattle.work.specs.Layout.{PREDICATE-COUNT, VALUE-NAME, PREDICATES, TYPE-COUNT}
 use Rattle.cells.specs.declared.Ty.{Ty}
 use Rattle.cells.specs.declared.Ty.the-variants.{Int, Str, Bytes, Fact, Record, Union, Var, Error}
@@ -24,13 +23,13 @@ use Rattle.cells.specs.declared.Found.the-variants.{At, Nothing}
 use Rattle.cells.specs.declared.Bound.{Bound}
 use Rattle.cells.specs.declared.Bound.the-variants.{To, Free}
 use Rattle.cells.specs.Words.{pick, declaredW}
-use Rattle.cells.specs.Stands.{Rows, tree, boundTree, Ok, OkBound, Cells}
-use Rattle.cells.specs.Contracts.{foundPart, FindsKey}
+use Rattle.cells.specs.Stands.{Rows, tree, boundTree, Ok, OkBound}
+use Rattle.cells.specs.Contracts.{FindsKey}
 use Rattle.cells.proofs.Ty.{the-type}
 use Rattle.meaning.specs.Schema.{Predicate, Schema, get, fieldOf}
 use Rattle.meaning.specs.File.{Described}
 use Rattle.meaning.specs.Check.{Checker, isSome, keyTy, valueTy, keyShadowsValue}
-use Rattle.tree.specs.Stands.{valueOf, PredicateIs, noPredicate, numbered, SchemaStands}
+use Rattle.tree.specs.Stands.{PredicateIs, noPredicate, numbered, SchemaStands}
 use Rattle.state.specs.Runs.{Runs}
 use Rattle.state.proofs.Standing.{declared-ok}
 use Rattle.steps.specs.Contracts.{nodesOf, KeyIs}

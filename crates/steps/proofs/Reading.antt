@@ -1,8 +1,7 @@
 -- What a node in hand is: `node_at` gives the kind that the tree has, and what the kind names is lower, so that any depth above the
 -- node is above its parts.
-use mathlib.Core.Bool.{Bool, true}
 use mathlib.Core.List.{List, [], _∷_}
-use mathlib.Core.Path.{_≡_, refl, sym, _∙_, ap}
+use mathlib.Core.Path.{_≡_, refl, sym, ap}
 use Prim.Native.Nat.{ℕ, suc, _+_, _-_, _≤_, _<_}
 use native.Mathlib.Omega.{arith}
 use lib.Dec as Dec
@@ -10,7 +9,7 @@ use lib.ListN.{length}
 use Rattle.cells.specs.Stands.{Rows}
 use Rattle.meaning.specs.Syntax.{ExprKind, noNode, nodeAt}
 use Rattle.meaning.specs.References.{exprNames, exprNodes}
-use Rattle.meaning.specs.Conditions.{allBelow, maxNames}
+use Rattle.meaning.specs.Conditions.{maxNames}
 use Rattle.meaning.specs.All.{All, Below}
 use Rattle.meaning.specs.File.{Described}
 use Rattle.meaning.specs.Sound.{Sound}
@@ -23,7 +22,7 @@ use Rattle.tree.specs.declared.Node.{Node}
 use Rattle.tree.specs.Nodes.{fieldW, fieldOf, fieldsFrom, kindW, IsNode}
 use Rattle.state.specs.Runs.{Runs}
 use Rattle.steps.specs.Loads.{Load, Begins}
-use Rattle.steps.specs.Contracts.{nodesOf, Named, AllNamed, Node-at}
+use Rattle.steps.specs.Contracts.{nodesOf, Named, AllNamed}
 
 module _ {d : Described} {n : ℕ} (s : Sound d) (there : n < length (nodesOf d)) where
   pub parts-lower : All (λ m. m < n) (exprNodes (nodeAt (nodesOf d) n .kind))

@@ -1,16 +1,14 @@
 -- The laws of Sequel.antt for what the code gives back: a type with the visits left, the visits left, or that they ran out.
 use mathlib.Core.List.{List}
-use mathlib.Core.Path.{_≡_, refl, sym, _∙_, ap}
+use mathlib.Core.Path.{_≡_, refl, sym, ap}
 use Prim.Native.Nat.{ℕ}
-use native.Mathlib.Omega.{arith}
 use Rattle.unification.specs.Ty as Tree
-use Rattle.unification.specs.Calls.{Side}
 use Rattle.unification.proofs.Tests.{clash}
 use Rattle.cells.specs.declared.Ty.{Ty}
 use Rattle.cells.specs.Stands.{Rows, tree, Ok}
 use Rattle.meaning.specs.File.{Described}
-use Rattle.meaning.specs.Check.{Checker, Step, goes, out, Does, andThen}
-use Rattle.meaning.proofs.Meets.{unknowns, Ready, Made, Went, Meets, made-side}
+use Rattle.meaning.specs.Check.{Checker, Step, goes, Does, andThen}
+use Rattle.meaning.proofs.Meets.{Ready, Made, Went, Meets, made-side}
 use Rattle.meaning.proofs.Steps.{IsSide}
 use Rattle.cells.specs.Inferred.{More}
 use Rattle.state.specs.Runs.{Runs, Grew}

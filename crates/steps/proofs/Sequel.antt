@@ -1,29 +1,21 @@
 -- One step after another. If the first step of the code ends beside the definition's first, and the second beside what follows, the two
 -- end beside `andThen`: rows and words grew twice, and what the first step made of a load leaves the rest of it free for the second.
 use mathlib.Core.List.{List}
-use mathlib.Core.Path.{_≡_, refl, sym, _∙_, ap}
-use Prim.Native.Nat.{ℕ, _+_, _≤_, _<_}
+use mathlib.Core.Path.{_≡_, refl, _∙_, ap}
+use Prim.Native.Nat.{ℕ, _+_, _≤_}
 use native.Mathlib.Omega.{arith}
 use lib.ListN.{length, length-append}
 use Rattle.unification.specs.Ty as Tree
-use Rattle.unification.specs.Calls.{Side}
 use Rattle.unification.proofs.Undo.{since-length}
-use Rattle.unification.proofs.Tests.{clash}
-use Rattle.cells.specs.declared.Ty.{Ty}
-use Rattle.cells.specs.Stands.{Rows, tree, Ok}
+use Rattle.cells.specs.Stands.{Rows}
 use Rattle.meaning.specs.File.{Described}
 use Rattle.meaning.specs.Check.{Checker, Step, goes, out, Does, andThen}
-use Rattle.meaning.proofs.Meets.{Grade, plus, Fits, unknowns, Orderly, Ready, Made, Went, Meets, going, ready-fits, ready-after}
-use Rattle.meaning.proofs.Steps.{IsSide, Nothing}
-use Rattle.cells.specs.Inferred.{More}
+use Rattle.meaning.proofs.Meets.{Grade, unknowns, Ready, Made, Went, Meets, going, ready-fits, ready-after}
 use Rattle.state.specs.Runs.{Runs, Grew}
-use Rattle.steps.specs.declared.Typed.{Typed}
 use Rattle.steps.specs.declared.Typed.the-variants as Typed
-use Rattle.steps.specs.declared.Done.{Done}
 use Rattle.steps.specs.declared.Done.the-variants as Done
-use Rattle.steps.specs.Ends.{Result, IsTyped, typed, done, Gone, Ends, went, spent}
+use Rattle.steps.specs.Ends.{Result, Gone, Ends, went, spent}
 use Rattle.steps.specs.Loads.{Load, both, Holds, Free, Begins}
-use Rattle.steps.specs.Contracts.{Fine}
 use Rattle.cells.proofs.Frame.{more-refl}
 use Rattle.steps.proofs.Growing.{more-trans, grew-refl, grew-trans, grew-wider}
 

@@ -1,13 +1,12 @@
 -- `unify_at`, `compare_order`, `compare_types`: a unification or the question for an order, and one diagnostic where it fails.
-use mathlib.Core.Bool.{true, false}
+use mathlib.Core.Bool.{false}
 use mathlib.Core.List.{List}
 use mathlib.Core.Option.{Option, none, some}
 use mathlib.Core.Path.{_≡_, refl, sym, _∙_, ap}
 use native.Mathlib.Omega.{arith}
-use Prim.Native.Nat.{ℕ, _<_}
-use lib.ListN.{length}
+use Prim.Native.Nat.{ℕ}
 use Rattle.unification.specs.Bindings as Bindings
-use Rattle.unification.specs.Bindings.{Answer, yes-left, no-left}
+use Rattle.unification.specs.Bindings.{yes-left, no-left}
 use Rattle.unification.specs.Unify as Unify
 use Rattle.unification.proofs.Tests.{clash}
 use Rattle.cells.specs.declared.Ty.{Ty}
@@ -22,7 +21,7 @@ use Rattle.cells.proofs.Frame.{more-refl, keeps-refl}
 use Rattle.cells.proofs.Holding.{holds-left}
 use Rattle.meaning.specs.File.{Described}
 use Rattle.meaning.specs.Check as Check
-use Rattle.meaning.specs.Check.{Checker, Step, Does, goes, out, andThen}
+use Rattle.meaning.specs.Check.{Checker, Step, Does, goes, andThen}
 use Rattle.meaning.proofs.Meets.{Went, Meets, going}
 use Rattle.meaning.proofs.Steps.{no-thing, one-diagnostic, Nothing, unify-meets, orderable-meets}
 use Rattle.state.specs.declared.Code.the-variants as Code
@@ -31,9 +30,9 @@ use Rattle.state.specs.Runs.{Runs}
 use Rattle.state.proofs.Running.{runs-slots}
 use Rattle.steps.specs.declared.Done.{Done}
 use Rattle.steps.specs.declared.Done.the-variants as Done
-use Rattle.steps.specs.Ends.{Result, IsUnified, unified, done, silent, Gone, Ends, spent}
-use Rattle.steps.specs.Loads.{Load, only, both, Holds, Begins}
-use Rattle.steps.specs.Contracts.{nodesOf, Fine, UnifiesTo, compareTypes}
+use Rattle.steps.specs.Ends.{IsUnified, unified, done, silent, Gone, Ends, spent}
+use Rattle.steps.specs.Loads.{only, both, Holds, Begins}
+use Rattle.steps.specs.Contracts.{Fine, UnifiesTo, compareTypes}
 use Rattle.steps.specs.Outside.{reportCode, Unites, ComparesOrder, ComparesBoth}
 use Rattle.steps.proofs.Growing.{grew-refl}
 use Rattle.steps.proofs.Sequel.{then-ends, stop-ends, ends-here, begins-after}

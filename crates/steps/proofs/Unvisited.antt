@@ -25,7 +25,7 @@ use Rattle.state.specs.declared.Code.the-variants as Code
 use Rattle.state.specs.Words.{rejectW, Introduces}
 use Rattle.state.specs.Runs.{Runs}
 use Rattle.steps.specs.Ends.{silent, numbered, Ends, went, spent}
-use Rattle.steps.specs.Contracts.{nodesOf, Brings, BringsSide, Heads, Asks, allApart, AsksAll}
+use Rattle.steps.specs.Contracts.{nodesOf, Asks, allApart, AsksAll}
 use Rattle.steps.specs.Outside.{IntroducesSide, ChecksHead}
 use Rattle.steps.proofs.Ending.{reject-ends, brings}
 use Rattle.steps.proofs.Sequel.{ends-here}

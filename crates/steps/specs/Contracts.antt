@@ -1,10 +1,10 @@
 -- What the steps outside of the cycle promise, as the cycle asks for them: each goes beside its namesake of meaning/specs/Check.antt,
 -- for every described file.
 use mathlib.Core.Bool.{Bool}
-use mathlib.Core.List.{List, [], _∷_}
+use mathlib.Core.List.{List}
 use mathlib.Core.Option.{none, some}
 use mathlib.Core.Path.{_≡_}
-use Prim.Native.Nat.{ℕ, suc, _≤_, _<_}
+use Prim.Native.Nat.{ℕ, _≤_, _<_}
 use lib.ListN.{length, getD}
 use Rattle.unification.specs.Ty as Tree
 use Rattle.unification.specs.Calls.{Side, SideRow}
@@ -12,15 +12,13 @@ use Rattle.cells.specs.declared.Ty.{Ty}
 use Rattle.cells.specs.declared.Kind.the-variants.{Fields, Alternatives}
 use Rattle.cells.specs.Stands.{Rows, tree, boundTree, IsCell, Ok, OkBound, Keeps}
 use Rattle.meaning.specs.Syntax.{Field, Node, allFields, destructurableIn, isDestructurable}
-use Rattle.meaning.specs.References.{fieldValues, stmtNodes, queryNodes}
 use Rattle.meaning.specs.All.{All}
 use Rattle.meaning.specs.File.{Described}
 use Rattle.meaning.specs.Sound.{Sound}
-use Rattle.meaning.specs.Run.{run}
 use Rattle.work.specs.Layout.{RECORD-COUNT, RECORD-FIELD-COUNT, END}
 use Rattle.tree.specs.Stands.{Stands}
 use Rattle.meaning.specs.Check as Check
-use Rattle.meaning.specs.Check.{Checker, Step, Does, goes, out, andThen, _>>=_, Walk, walk, form}
+use Rattle.meaning.specs.Check.{Checker, Does, _>>=_, andThen, form}
 use Rattle.meaning.proofs.Meets.{unknowns}
 use Rattle.meaning.proofs.Steps.{no-thing, one-diagnostic, one-unknown, one-node, Known}
 use Rattle.meaning.proofs.Visits.{introducing}
@@ -31,14 +29,13 @@ use Rattle.cells.specs.declared.TyError.{TyError}
 use Rattle.cells.specs.declared.Unified.{Unified}
 use Rattle.cells.specs.Contracts.{errorOf}
 use Rattle.tree.specs.declared.Items.{Items}
-use Rattle.tree.specs.declared.Stmts.{Stmts}
-use Rattle.tree.specs.Nodes.{fieldsFrom, itemsFrom, statement, stmtW, stmtsW}
+use Rattle.tree.specs.Nodes.{fieldsFrom}
 use Rattle.steps.specs.declared.Typed.{Typed}
 use Rattle.steps.specs.declared.Typed.the-variants as Typed
 use Rattle.steps.specs.declared.Done.{Done}
 use Rattle.steps.specs.declared.Done.the-variants as Done
 use Rattle.steps.specs.Ends.{typed, done, silent, numbered, unified}
-use Rattle.steps.specs.Loads.{Load, only, infers, finds, checks, visits, parts, Beside}
+use Rattle.steps.specs.Loads.{only, Beside}
 
 abbrev pub nodesOf : Described → List Node
 nodesOf d = d .ast .nodes

@@ -1,6 +1,6 @@
 -- What the steps outside of the cycle promise (src/steps.rt): those that read or write words say which; the others go beside their
 -- namesakes of meaning/specs/Check.antt.
-use mathlib.Core.Bool.{Bool, true, false}
+use mathlib.Core.Bool.{Bool}
 use mathlib.Core.List.{List}
 use mathlib.Core.Path.{_≡_}
 use Prim.Native.Nat.{ℕ, _+_, _*_, _/_, _%_, _<_}

@@ -11,7 +11,7 @@ use Rattle.cells.specs.Words.{pick}
 use Rattle.work.specs.Layout.{NODES}
 use Rattle.meaning.specs.Syntax as Syntax
 use Rattle.meaning.specs.Syntax.{ExprKind, Literal, FieldRef, Query}
-use Rattle.meaning.specs.Frame.{got, fails, Reader, nothing, one, pair, byte, two, many, field, headAndBody, choice, entry, exprKinds}
+use Rattle.meaning.specs.Frame.{got, fails, Reader, one, pair, two, many, field, headAndBody, choice, entry, exprKinds}
 use Rattle.frames.specs.Contracts.{exprKind}
 use Rattle.meaning.specs.References.{fieldValues, queryNodes, exprNodes}
 use Rattle.meaning.specs.Conditions.{allBelow}

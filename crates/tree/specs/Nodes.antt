@@ -1,10 +1,10 @@
 -- How nodes and statements are read from the file's digits (src/lib.rt).
-use mathlib.Core.Bool.{Bool, true, false}
+use mathlib.Core.Bool.{true, false}
 use mathlib.Core.List.{List, [], _∷_}
 use mathlib.Core.Path.{_≡_}
 use Prim.Native.Nat.{ℕ, zero, suc, _+_, _-_, _*_, _/_, _%_, _<_}
 use lib.Dec.{T, eqb, ltb}
-use lib.ListN.{length, getD}
+use lib.ListN.{getD}
 use Rattle.work.specs.Layout.{NODES, QUERY}
 use Rattle.cells.specs.Words.{pick}
 use Rattle.meaning.specs.Syntax as Syntax

@@ -1,10 +1,9 @@
 -- What the work slice holds after a file was read, together with the file's text: the schema and the tree that it describes.
 -- The checker builds on this.
-use mathlib.Core.Bool.{Bool, true, false}
-use mathlib.Core.List.{List, [], _∷_}
+use mathlib.Core.List.{List, _∷_}
 use mathlib.Core.Option.{Option, none, some}
 use mathlib.Core.Path.{_≡_}
-use Prim.Native.Nat.{ℕ, zero, suc, _+_, _-_, _*_, _/_, _%_, _≤_, _<_}
+use Prim.Native.Nat.{ℕ, suc, _+_, _-_, _*_, _/_, _%_, _≤_, _<_}
 use lib.Dec.{T, eqb}
 use lib.ListN.{length, getD}
 use Rattle.unification.specs.Ty as Tree
@@ -14,7 +13,6 @@ use Rattle.cells.specs.Words.{pick, declaredW, countW, firstW, partW}
 use Rattle.cells.specs.Stands.{Rows, tree, tagOf, rowW, partWords}
 use Rattle.meaning.specs.Syntax.{Node, Query, nodeAt}
 use Rattle.meaning.specs.Schema.{Predicate, Schema}
-use Rattle.meaning.specs.References.{exprNodes, queryNodes}
 use Rattle.meaning.specs.Frame.{aNode, theQuery, node, query, frameOf}
 use Rattle.meaning.specs.File.{Described}
 use Rattle.hex.specs.Digits.{lineAt}

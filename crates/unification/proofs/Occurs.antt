@@ -9,11 +9,11 @@ use Prim.Native.Nat.{ℕ, zero, suc, _≤_}
 use native.Mathlib.Omega.{arith}
 use lib.Dec.{eqb}
 use lib.ListN.{length}
-use Rattle.unification.specs.Ty.{Leaf, Int, String, Bytes, Fact, Kind, Ty, leaf, node, Var, Error, Row, ε, cell, app, appRow}
+use Rattle.unification.specs.Ty.{Leaf, Int, String, Bytes, Fact, Ty, leaf, node, Var, Error, Row, ε, cell, app, appRow}
 use Rattle.unification.specs.Order.{Same}
 use Rattle.unification.specs.Bindings.{Subst, bound, repr, Answer, yes-left, no-left, spent, anyRow, occursIn, occurs}
 use Rattle.unification.specs.Unify.{visited, leafOrderable, orderable, allOrderable}
-use Rattle.unification.specs.Calls.{Reaches, ReachesRow, first, Respects}
+use Rattle.unification.specs.Calls.{Reaches, ReachesRow, Respects}
 use Rattle.unification.proofs.Tests.{clash, eqb-true, eqb-false}
 use Rattle.unification.proofs.Order.{size, rowSize, same-size}
 use Rattle.unification.proofs.Reach.{reaches-var, reaches-follow}

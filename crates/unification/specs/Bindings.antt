@@ -6,7 +6,7 @@ use mathlib.Core.Option.{Option, none, some}
 use Prim.Native.Nat.{ℕ, zero, suc, _-_}
 use lib.Dec.{eqb}
 use lib.ListN.{length, getD, set}
-use Rattle.unification.specs.Ty.{Leaf, Kind, Ty, leaf, node, Var, Error, Row, ε, cell, app}
+use Rattle.unification.specs.Ty.{Ty, leaf, node, Var, Error, Row, ε, cell, app}
 
 -- What each unknown is bound to.
 abbrev pub Subst : Type 0

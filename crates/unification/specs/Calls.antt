@@ -7,10 +7,10 @@ use mathlib.Core.Option.{Option, none, some}
 use mathlib.Core.Path.{_≡_}
 use Prim.Native.Nat.{ℕ, _-_, _<_, _≤_}
 use lib.ListN.{length, replicate}
-use Rattle.unification.specs.Ty.{Leaf, Kind, Record, Union, Ty, leaf, node, Var, Error, Row, ε, cell, app}
+use Rattle.unification.specs.Ty.{Kind, Record, Union, Ty, leaf, node, Var, Error, Row, ε, cell, app}
 use Rattle.unification.specs.Order.{Same, Finite}
 use Rattle.unification.specs.Bindings.{Subst, bound, History, start, ended, rolled, State, withLeft, fresh, annotate, Snapshot, snapshot, rollback}
-use Rattle.unification.specs.Unify.{TyError, Unified, Ok, Err, Spent, unify}
+use Rattle.unification.specs.Unify.{TyError, Ok, Err, Spent, unify}
 
 -- ---- Sides: built from Int, String, Bytes, Fact, Error, the schema's types, earlier unknowns and records of these.
 

@@ -3,7 +3,7 @@
 -- A finite type has no unknown in it.
 use mathlib.Core.Path.{_≡_}
 use Prim.Native.Nat.{ℕ}
-use Rattle.unification.specs.Ty.{Leaf, Kind, Ty, leaf, node, Var, Error, Row, ε, cell}
+use Rattle.unification.specs.Ty.{Ty, leaf, node, Var, Error, Row, ε, cell}
 
 -- The second row is the first with the cell (k, l, t) put in somewhere.
 pub data Inserted (k l : ℕ) (t : Ty) : Row → Row → Type 0 where

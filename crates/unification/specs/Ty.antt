@@ -1,5 +1,5 @@
 -- The types of a query: `Ty` of syntax.rs, with `TyVarId` and `PredicateId` and `Symbol` as numbers.
-use Prim.Native.Nat.{ℕ, zero, suc, _+_}
+use Prim.Native.Nat.{ℕ, zero, suc}
 
 pub data Leaf : Type 0 where
   Int String Bytes : Leaf

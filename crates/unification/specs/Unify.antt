@@ -1,13 +1,13 @@
 -- `unify` of ty.rs with `unify_shapes`, `unify_union` and `bind_var`, and `orderable`. An entry costs a visit, and none
 -- is made when no visit is left.
-use mathlib.Core.Bool.{Bool, true, false}
+use mathlib.Core.Bool.{true, false}
 use mathlib.Core.List.{List, [], _∷_}
 use mathlib.Core.Option.{Option, none, some}
 use Prim.Native.Nat.{ℕ, zero, suc}
 use lib.Dec.{eqb, ltb}
 use native.Mathlib.Decide.{ℕ-discrete}
-use Rattle.unification.specs.Ty.{Leaf, Int, String, Bytes, Fact, Leaf-discrete, Kind, Record, Union, Kind-discrete, Ty, leaf, node, Var, Error, Row, ε, cell, rowLen}
-use Rattle.unification.specs.Bindings.{Subst, repr, Answer, yes-left, no-left, spent, occurs, State, withLeft, setVar, History, ended}
+use Rattle.unification.specs.Ty.{Leaf, Int, String, Bytes, Fact, Leaf-discrete, Kind, Record, Union, Ty, leaf, node, Var, Error, Row, ε, cell, rowLen}
+use Rattle.unification.specs.Bindings.{Subst, repr, Answer, yes-left, no-left, spent, occurs, State, withLeft, setVar, ended}
 
 -- How two unions first differ, in discriminant order.
 pub data UnionDiff : Type 0 where

@@ -1,0 +1,28 @@
+-- Parts of functions that go beside a step of their own in meaning/specs/Check.antt: a field's value checked in a scope of its own, a
+-- record against a type, a left side that cannot be bound.
+use mathlib.Core.List.{List}
+use mathlib.Core.Path.{_≡_}
+use Prim.Native.Nat.{ℕ, suc}
+use Rattle.cells.specs.declared.Ty.{Ty}
+use Rattle.cells.specs.Stands.{tree}
+use Rattle.meaning.specs.Syntax.{Field, ExprKind, nodeAt}
+use Rattle.meaning.specs.File.{Described}
+use Rattle.meaning.specs.Check as Check
+use Rattle.tree.specs.declared.Items.{Items}
+use Rattle.tree.specs.Nodes.{fieldsFrom}
+use Rattle.steps.specs.declared.Done.{Done}
+use Rattle.steps.specs.Ends.{done}
+use Rattle.steps.specs.Loads.{checks, Beside}
+use Rattle.steps.specs.Contracts.{Fine, nodesOf, Named, Node-at}
+use Rattle.checker.specs.Contracts.{below, Sides}
+
+pub record ChecksField (f w : List ℕ) (n : ℕ) (t : Ty) (left : ℕ) (w′ : List ℕ) (r : Done) : Type 0 where
+  pub is : (d : Described) (k : ℕ) → Named d k n
+      → Beside f w left w′ (done r) d (checks (nodesOf d) k n) (Fine w t) (λ T. Check.checkField (d .schema) (nodesOf d) (below d k) n (tree T t))
+
+pub record ChecksRecord (f w : List ℕ) (n : ℕ) (l : Items) (t : Ty) (left : ℕ) (w′ : List ℕ) (r : Done) : Type 0 where
+  pub is : (d : Described) (k : ℕ) (fs : List Field) → fs ≡ fieldsFrom f l 0 (l .n) → Node-at d k n → nodeAt (nodesOf d) n .kind ≡ ExprKind.Record fs
+      → Beside f w left w′ (done r) d (checks (nodesOf d) (suc k) n) (Fine w t) (λ T. Check.checkRecord (d .schema) (nodesOf d) (below d k) n fs (tree T t))
+
+abbrev pub BadTargets : List ℕ → List ℕ → ℕ → ℕ → ℕ → List ℕ → Done → Type 0
+BadTargets f w lhs rhs left w′ r = Sides (λ d b x y. Check.badTarget (d .schema) (nodesOf d) b x y) f w lhs rhs left w′ r
