@@ -7,8 +7,8 @@ use native.Mathlib.Omega.{arith}
 use lib.ListN.{length}
 use Rattle.unification.specs.Ty as Tree
 use Rattle.unification.specs.Ty.{Row, ε, cell, rowLen, appRow}
-use Rattle.unification.specs.Bindings.{Subst, zonk}
-use Rattle.unification.proofs.Chain.{Resolved, repr-resolved}
+use Rattle.unification.specs.Bindings.{Subst, zonk, Resolved}
+use Rattle.unification.proofs.Chain.{repr-resolved}
 use Rattle.unification.proofs.Zonk.{zonk-repr, zonk-leaf, zonk-error, zonk-node, zonk-unbound, zonk-replaces}
 use Rattle.cells.specs.declared.Ty.{Ty}
 use Rattle.cells.specs.declared.Ty.the-variants.{Record, Union, Var, Error}

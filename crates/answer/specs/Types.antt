@@ -5,7 +5,7 @@ use lib.ListN.{length}
 use Rattle.unification.specs.Ty as Tree
 use Rattle.unification.specs.Ty.{Row, appRow}
 use Rattle.unification.specs.Bindings.{Subst, zonk}
-use Rattle.unification.proofs.Acyclic.{Acyclic}
+use Rattle.unification.specs.Acyclic.{Acyclic}
 use Rattle.cells.specs.declared.Ty.{Ty}
 use Rattle.cells.specs.declared.Kind.{Kind}
 use Rattle.cells.specs.declared.Kind.the-variants.{Fields, Alternatives}

@@ -10,10 +10,10 @@ use denote.Enum.Declared.{tagOf}
 use Rattle.unification.specs.Ty as Tree
 use Rattle.unification.specs.Ty.{Row, ε, cell, app, appRow}
 use Rattle.unification.specs.Bindings as Bindings
-use Rattle.unification.specs.Bindings.{Subst, Answer, yes-left, no-left, spent, anyRow, occursIn}
+use Rattle.unification.specs.Bindings.{Subst, Answer, yes-left, no-left, spent, anyRow, occursIn, Resolved}
 use Rattle.unification.specs.Unify as Unify
-use Rattle.unification.proofs.Acyclic.{Acyclic}
-use Rattle.unification.proofs.Chain.{Resolved, repr-resolved}
+use Rattle.unification.specs.Acyclic.{Acyclic}
+use Rattle.unification.proofs.Chain.{repr-resolved}
 use Rattle.unification.proofs.Zonk.{zonk-repr, zonk-leaf, zonk-error, zonk-node, zonk-unbound, zonk-replaces}
 use Rattle.cells.specs.declared.Ty.{Ty}
 use Rattle.cells.specs.declared.Ty.the-variants.{Int, Str, Bytes, Fact, Record, Union, Var, Error}

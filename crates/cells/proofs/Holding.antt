@@ -16,7 +16,8 @@ use Rattle.unification.specs.Ty as Tree
 use Rattle.unification.specs.Bindings as Bindings
 use Rattle.unification.specs.Bindings.{bound, Undo, Binding, Annotation, History, State, withLeft, withHistory}
 use Rattle.unification.specs.Calls.{Reaches}
-use Rattle.unification.proofs.Acyclic.{Acyclic, acyclic-among, acyclic-bind}
+use Rattle.unification.specs.Acyclic.{Acyclic}
+use Rattle.unification.proofs.Acyclic.{acyclic-among, acyclic-bind}
 use Rattle.unification.proofs.Chain.{unset, unset-acyclic}
 use Rattle.work.specs.Layout.{UNKNOWNS, TYS, UNDO-LEN, BINDINGS, UNDO, END}
 use Rattle.cells.specs.declared.Ty.{Ty}

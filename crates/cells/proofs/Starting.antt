@@ -11,7 +11,7 @@ use borrow.Author.Tests.{le-ltb}
 use Rattle.unification.specs.Ty as Tree
 use Rattle.unification.specs.Bindings.{bound, History, State}
 use Rattle.unification.proofs.Tests.{clash}
-use Rattle.unification.proofs.Acyclic.{Behind, Acyclic}
+use Rattle.unification.specs.Acyclic.{Behind, Acyclic}
 use Rattle.work.specs.Layout.{UNKNOWNS, TYS, UNDO-LEN, END}
 use Rattle.cells.specs.declared.Bound.the-variants.{Free}
 use Rattle.cells.specs.Words.{slotW, boundW}

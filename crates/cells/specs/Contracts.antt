@@ -7,11 +7,10 @@ use Prim.Native.Nat.{ℕ, _≤_, _<_}
 use Rattle.unification.specs.Ty as Tree
 use Rattle.unification.specs.Ty.{Row, ε, cell, appRow}
 use Rattle.unification.specs.Bindings as Bindings
-use Rattle.unification.specs.Bindings.{Subst, bound, Answer, anyRow, State, History}
+use Rattle.unification.specs.Bindings.{Subst, bound, Answer, anyRow, State, History, Resolved}
 use Rattle.unification.specs.Unify as Unify
 use Rattle.unification.specs.Unify.{findKey, findLabel}
-use Rattle.unification.proofs.Acyclic.{Acyclic}
-use Rattle.unification.proofs.Chain.{Resolved}
+use Rattle.unification.specs.Acyclic.{Acyclic}
 use Rattle.work.specs.Layout.{TYS, UNDO-LEN, END}
 use Rattle.cells.specs.declared.Ty.{Ty}
 use Rattle.cells.specs.declared.Ty.the-variants.{Union, Var}

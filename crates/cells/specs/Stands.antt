@@ -9,7 +9,7 @@ use lib.ListN.{length, getD, set}
 use Rattle.unification.specs.Ty as Tree
 use Rattle.unification.specs.Ty.{Row, ε, cell}
 use Rattle.unification.specs.Bindings.{Subst, bound, Undo, Binding, Annotation, State}
-use Rattle.unification.proofs.Acyclic.{Acyclic}
+use Rattle.unification.specs.Acyclic.{Acyclic}
 use Rattle.work.specs.Layout.{TYPE-COUNT, TYPES, FIELDS, RECORD-COUNT, RECORD-FIELD-COUNT, UNKNOWNS, TYS, UNDO, UNDO-LEN, END}
 use Rattle.cells.specs.declared.Ty.{Ty}
 use Rattle.cells.specs.declared.Ty.the-variants.{Int, Str, Bytes, Fact, Record, Union, Var, Error}

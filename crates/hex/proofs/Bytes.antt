@@ -9,7 +9,7 @@ use native.Mathlib.Omega.{arith}
 use lib.Dec.{eqb, ltb, leb}
 use lib.ListN.{length, getD, drop}
 use lib.Seq.{ext-getD}
-use borrow.Author.Tests.{eqb-true, eqb-false, lt-ltb, le-leb, lt-leb, leb-true, ltb-true, ltb-false}
+use borrow.Author.Tests.{eqb-true, eqb-false, lt-ltb, le-ltb, le-leb, lt-leb, leb-true, ltb-true, ltb-false}
 use Rattle.meaning.specs.Lines.{Line, closed, unclosed, LF, lines, digit, decoded, maxBytes, atMost, someBytes, bytesOf}
 use Rattle.hex.specs.Digits.{orElse, digitW, digitsW, pairAt, firstLine, lineAt}
 use Rattle.hex.proofs.Line.{no-some, digit-below, digit-same, digit-other, pair-below, headLine, decodedLine, decodedAt, prefixed, pair-digits, lines-at-LF, lines-at-end, decoded-on, decoded-none}
@@ -133,14 +133,18 @@ digit-is : (c n : ℕ) → digit c ≡ some n → digitW c ≡ n
 unfolding digitW
 digit-is c n e = ap (orElse 16) e
 
-digits-within : (f : List ℕ) (i : ℕ) → i + 1 < length f → digitsW f i ≡ digitW (getD f i 0) * 16 + digitW (getD f (i + 1) 0)
+pub digits-there : (f : List ℕ) (i : ℕ) → i + 1 < length f → digitsW f i ≡ digitW (getD f i 0) * 16 + digitW (getD f (i + 1) 0)
 unfolding digitsW
-digits-within f i h = ap (λ t. elim t [ true ↦ digitW (getD f i 0) * 16 + digitW (getD f (i + 1) 0) | false ↦ 0 ]) (lt-ltb (i + 1) (length f) h)
+digits-there f i h = rw (lt-ltb (i + 1) (length f) h, digitsW)
+
+pub digits-past : (f : List ℕ) (i : ℕ) → length f ≤ i + 1 → digitsW f i ≡ 0
+unfolding digitsW
+digits-past f i h = rw (le-ltb (i + 1) (length f) h, digitsW)
 
 pub pair-digitsW : (f : List ℕ) (i b : ℕ) → pairAt f i ≡ some b → digitsW f i ≡ b
 pair-digitsW f i b e =
     let d = pair-digits f i b e in
-    omega (arith, digits-within f i (d .room), digit-is (getD f i 0) (d .h) (d .high), digit-is (getD f (i + 1) 0) (d .l) (d .low), d .is)
+    omega (arith, digits-there f i (d .room), digit-is (getD f i 0) (d .h) (d .high), digit-is (getD f (i + 1) 0) (d .l) (d .low), d .is)
 
 module _ (f : List ℕ) (at : ℕ) (s : List ℕ) (e : lineAt f at ≡ some s) where
   pub line-takes : Takes (decodedAt f at) s

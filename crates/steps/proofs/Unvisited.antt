@@ -20,7 +20,7 @@ use Rattle.tree.specs.declared.Node.{Node}
 use Rattle.tree.specs.declared.Node.the-variants as Node
 use Rattle.tree.specs.Nodes.{fieldW, fieldOf, fieldsFrom, kindW, LowerItems, IsNode}
 use Rattle.tree.proofs.Node.{the-type}
-use Rattle.tree.proofs.Digits.{lower-below}
+use Rattle.tree.proofs.Lowering.{lower-below}
 use Rattle.state.specs.declared.Code.the-variants as Code
 use Rattle.state.specs.Words.{rejectW, Introduces}
 use Rattle.state.specs.Runs.{Runs}

@@ -18,7 +18,7 @@ use Rattle.hex.specs.Digits.{digitsW, halfAt}
 use Rattle.tree.specs.declared.Items.{Items}
 use Rattle.tree.specs.declared.Stmt.the-variants as Stmt
 use Rattle.tree.specs.Nodes.{lowerW, fieldW, fieldOf, fieldsFrom, itemW, itemsFrom, stmtOf, stmtW, stmtSizeW, statement, stmtsFrom}
-use Rattle.tree.proofs.Digits.{lower-stays}
+use Rattle.tree.proofs.Lowering.{lower-stays}
 use Rattle.tree.proofs.Readers.{Stand, Ran, Reads, no-got, reads-one, reads-pair, reads-two, Listed}
 
 -- ---- All below

@@ -1,5 +1,5 @@
 pub mod Below
-pub mod Digits
+pub mod Lowering
 pub mod ItemsOf
 pub mod LineParts
 pub mod NodeArms

@@ -21,7 +21,7 @@ use Rattle.tree.specs.declared.Node.{Node}
 use Rattle.tree.specs.declared.Node.the-variants as Node
 use Rattle.tree.specs.Stands.{NodeIs}
 use Rattle.tree.specs.Nodes.{lowerW, itemsW, parentW, fieldsFrom, itemsFrom, stmtsW, kindW, LowerItems, Lower, IsNode}
-use Rattle.tree.proofs.Digits.{lower-stays, lower-below}
+use Rattle.tree.proofs.Lowering.{lower-stays, lower-below}
 use Rattle.tree.proofs.Readers.{Reads, no-got, went, reads-nothing, reads-byte, reads-one, reads-pair, reads-two, Listed, listed, listed-length}
 use Rattle.tree.proofs.Below.{first-below, items-are, fieldAt, reads-field, fields-are}
 use Rattle.tree.proofs.ItemsOf.{items-at, items-below, items-some, items-count}

@@ -14,7 +14,7 @@ use Rattle.tree.specs.declared.Stmts.{Stmts}
 use Rattle.tree.specs.declared.Stmt.{Stmt}
 use Rattle.tree.specs.declared.Stmt.the-variants as Stmt
 use Rattle.tree.specs.Nodes.{fieldW, fieldOf, fieldsFrom, itemW, itemsFrom, stmtOf, stmtW, stmtSizeW, statement, stmtsFrom, stmtsW}
-use Rattle.tree.proofs.Digits.{lower-below}
+use Rattle.tree.proofs.Lowering.{lower-below}
 use Rattle.tree.proofs.Below.{stmt-size, stmts-done, stmts-next}
 
 -- ---- Fields and items

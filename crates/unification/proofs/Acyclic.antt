@@ -9,15 +9,9 @@ use native.Mathlib.Decide.{ℕ-discrete}
 use lib.ListN.{length, set}
 use Rattle.unification.specs.Ty.{Ty, Var, Row}
 use Rattle.unification.specs.Bindings.{Subst, bound}
+use Rattle.unification.specs.Acyclic.{Behind, Acyclic}
 use Rattle.unification.specs.Calls.{Reaches, itself, inside, through, ReachesRow, first, later, LeadsBack, NoLoop}
 use Rattle.unification.proofs.Reach.{bound-same, bound-other, reaches-trans, reaches-after}
-
--- y is reached behind the binding of x.
-unfoldable pub Behind : Subst → ℕ → ℕ → Type 0
-Behind s y x = (t : Ty) × (bound s x ≡ some t) × Reaches s t (Var y)
-
-unfoldable pub Acyclic : Subst → Type 0
-Acyclic s = (x : ℕ) → Acc (Behind s) x
 
 never-behind : (s : Subst) (x : ℕ) → Acc (Behind s) x → ¬ Behind s x x
 never-behind s x (Acc·intro x′ h) b = never-behind s x′ (h x′ b) b

@@ -9,11 +9,12 @@ use native.Mathlib.Decide.{ℕ-discrete}
 use native.Mathlib.Omega.{arith}
 use lib.ListN.{length, set}
 use Rattle.unification.specs.Ty.{Leaf, Kind, Ty, leaf, node, Var, Error, Row, ε, cell}
-use Rattle.unification.specs.Bindings.{Subst, bound, follow, repr}
+use Rattle.unification.specs.Bindings.{Subst, bound, follow, repr, Resolved}
 use Rattle.unification.specs.Calls.{Reaches, itself, inside, through, ReachesRow, first, later, LeadsBack, NoLoop}
 use Rattle.unification.proofs.Tests.{clash}
 use Rattle.unification.proofs.Reach.{bound-other, follow-reaches}
-use Rattle.unification.proofs.Acyclic.{Acyclic, no-loop, Among, acyclic-among}
+use Rattle.unification.specs.Acyclic.{Acyclic}
+use Rattle.unification.proofs.Acyclic.{no-loop, Among, acyclic-among}
 
 pub not-behind : (s : Subst) → Acyclic s → (x : ℕ) (t : Ty) → bound s x ≡ some t → ¬ Reaches s t (Var x)
 unfolding NoLoop LeadsBack
@@ -90,13 +91,6 @@ mutual
   unset-reachesRow s x off (later h) = later (unset-reachesRow s x (λ i. off (later i)) h)
 
 -- ---- `repr`
-
--- At a free unknown, or at no unknown.
-abbrev pub Resolved : Subst → Ty → Type 0
-Resolved s (leaf p) = Unit {0}
-Resolved s (node k r) = Unit {0}
-Resolved s (Var x) = bound s x ≡ none
-Resolved s Error = Unit {0}
 
 follow-free : (k : ℕ) (s : Subst) (x : ℕ) → bound s x ≡ none → follow k s (Var x) ≡ Var x
 unfolding follow

@@ -13,7 +13,8 @@ use Rattle.unification.specs.Bindings.{Subst, bound, History, start, end
 use Rattle.unification.specs.Unify.{Unified, Ok, Err, Spent, unify}
 use Rattle.unification.specs.Calls.{Side, Admitted, Respects, Assignment, Taken, Machine, begin, take-snapshot, Call, unknown, unification, failure, snapping, rollingBack, spending, annotation, Calls, none-yet, then-call, live, EntryClaim, BindingsClaim, AtEveryMoment, Claim, GivesBack, AllGiveBack, Demand3}
 use Rattle.unification.proofs.Tests.{clash}
-use Rattle.unification.proofs.Acyclic.{Behind, Acyclic, no-loop}
+use Rattle.unification.specs.Acyclic.{Behind, Acyclic}
+use Rattle.unification.proofs.Acyclic.{no-loop}
 use Rattle.unification.proofs.Respects.{respects-among}
 use Rattle.unification.proofs.Sides.{Wf, bound-pad, pad-among, wf-pad}
 use Rattle.unification.proofs.Undo.{unbind, unannotate, Since, since-refl, since-trans, since-length, since-fresh, since-left, since-annotate, rollback-subst, rollback-tys, rollback-undo, rollback-left}

@@ -9,12 +9,12 @@ use Prim.Native.Nat.{ℕ, suc, _-_}
 use native.Mathlib.Omega.{arith}
 use lib.ListN.{length, set, take}
 use Rattle.unification.specs.Ty.{Int, String, Record, Union, Ty, leaf, node, Var, Error, ε, cell, app}
-use Rattle.unification.specs.Bindings.{Subst, bound, zonk, start, ended, State, withLeft, withHistory, freshId, fresh, setVar, annotate, Snapshot, snapshot, rollback}
+use Rattle.unification.specs.Bindings.{Subst, bound, zonk, start, ended, State, withLeft, withHistory, freshId, fresh, setVar, annotate, Snapshot, snapshot, rollback, Resolved}
 use Rattle.unification.specs.Unify.{Absent, Renamed, Payload, TyError, Mismatch, UnionMismatch, UnknownField, Infinite, Unified, Ok, Err, Spent, unifyHeads, note, unifyIn, unify}
 use Rattle.unification.specs.Order.{Same}
 use Rattle.unification.specs.Calls.{itself, through, Admitted, Assignment, Respects, Machine, begin, unknown, unification, Calls, none-yet, then-call, live, BindingsClaim}
 use Rattle.unification.proofs.Tests.{clash}
-use Rattle.unification.proofs.Chain.{Resolved, repr-resolved-is}
+use Rattle.unification.proofs.Chain.{repr-resolved-is}
 use Rattle.unification.proofs.Undo.{rewind-subst, unbind-length}
 use Rattle.unification.proofs.Kept.{heads-in, unifyIn-visit}
 use Rattle.unification.proofs.Depth.{unify-depth}

@@ -10,11 +10,11 @@ use native.Mathlib.Omega.{arith}
 use lib.Dec.{eqb}
 use lib.ListN.{length, getD, set, replicate, length-set}
 use Rattle.unification.specs.Ty.{Leaf-discrete, Kind, Record, Union, Ty, leaf, node, Var, Error, Row, ε, cell, rowLen}
-use Rattle.unification.specs.Bindings.{Subst, bound, repr, Answer, yes-left, no-left, spent, occurs, Undo, Binding, Annotation, State, withLeft, setVar, annotate}
+use Rattle.unification.specs.Bindings.{Subst, bound, repr, Answer, yes-left, no-left, spent, occurs, Undo, Binding, Annotation, State, withLeft, setVar, annotate, Resolved}
 use Rattle.unification.specs.Unify.{UnionDiff, TyError, Unified, Ok, Err, Spent, andThen, mapErr, bindVar, findKey, unifyField, unifyFields, unifyRecord, discriminants, unifyAlternative, unifyAlternatives, unifyUnion, unifyNodes, unifyHeads, note, unifyIn, unify}
 use Rattle.unification.specs.Calls.{Side, Reaches}
 use Rattle.unification.proofs.Tests.{clash}
-use Rattle.unification.proofs.Chain.{error-reaches, Resolved, repr-resolved}
+use Rattle.unification.proofs.Chain.{error-reaches, repr-resolved}
 use Rattle.unification.proofs.Occurs.{occurs-no}
 use Rattle.unification.proofs.Sides.{Parts, Part, find-part, parts-map, Field, Alternative, fields, alternatives, Wf, side-follow, wf-bind}
 use Rattle.unification.proofs.Kept.{After, heads-in, unifyIn-spent, unifyIn-visit}

@@ -11,14 +11,14 @@ use lib.Dec.{eqb}
 use lib.ListN.{length}
 use Rattle.unification.specs.Ty.{Leaf, Int, String, Bytes, Fact, Ty, leaf, node, Var, Error, Row, ε, cell, app, appRow}
 use Rattle.unification.specs.Order.{Same}
-use Rattle.unification.specs.Bindings.{Subst, bound, repr, Answer, yes-left, no-left, spent, anyRow, occursIn, occurs}
+use Rattle.unification.specs.Bindings.{Subst, bound, repr, Answer, yes-left, no-left, spent, anyRow, occursIn, occurs, Resolved}
 use Rattle.unification.specs.Unify.{visited, leafOrderable, orderable, allOrderable}
 use Rattle.unification.specs.Calls.{Reaches, ReachesRow, Respects}
 use Rattle.unification.proofs.Tests.{clash, eqb-true, eqb-false}
 use Rattle.unification.proofs.Order.{size, rowSize, same-size}
 use Rattle.unification.proofs.Reach.{reaches-var, reaches-follow}
-use Rattle.unification.proofs.Acyclic.{Acyclic}
-use Rattle.unification.proofs.Chain.{leaf-reaches, error-reaches, node-reaches, nil-reaches, cell-reaches, Resolved, repr-resolved, repr-resolved-is}
+use Rattle.unification.specs.Acyclic.{Acyclic}
+use Rattle.unification.proofs.Chain.{leaf-reaches, error-reaches, node-reaches, nil-reaches, cell-reaches, repr-resolved, repr-resolved-is}
 use Rattle.unification.proofs.Respects.{repr-same}
 
 -- A row's answer is that of its first cell that says yes, or of the last.

@@ -17,7 +17,7 @@ use Rattle.unification.specs.Calls.{Side, Admitted, Respects, Machine, C
 use Rattle.unification.specs.Tie.{equationsFrom, equations, solution, Together, AsRobinson, Ends, Succeeds}
 use Rattle.unification.proofs.Tests.{clash}
 use Rattle.unification.proofs.Order.{same-refl, same-trans, same-app, app-same, app-app}
-use Rattle.unification.proofs.Acyclic.{Acyclic}
+use Rattle.unification.specs.Acyclic.{Acyclic}
 use Rattle.unification.proofs.Zonk.{zonk-none, zonk-bound, zonk-app, zonk-var, zonk-more, zonk-is}
 use Rattle.unification.proofs.Post.{Post}
 use Rattle.unification.proofs.Sound.{unify-post}

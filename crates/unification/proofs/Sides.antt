@@ -15,7 +15,8 @@ use Rattle.unification.specs.Bindings.{Subst, bound, follow}
 use Rattle.unification.specs.Unify.{findKey}
 use Rattle.unification.specs.Calls.{Declared, DeclaredRow, Side, SideRow, Reaches, inside, ReachesRow, first, later, Allowed, Admitted}
 use Rattle.unification.proofs.Reach.{bound-same, bound-other}
-use Rattle.unification.proofs.Acyclic.{Acyclic, acyclic-bind, Among, acyclic-among}
+use Rattle.unification.specs.Acyclic.{Acyclic}
+use Rattle.unification.proofs.Acyclic.{acyclic-bind, Among, acyclic-among}
 
 -- ---- More unknowns, and the schema's types
 mutual

@@ -11,14 +11,14 @@ use lib.Dec.{eqb}
 use lib.ListN.{length, length-set}
 use Rattle.unification.specs.Ty.{Leaf-discrete, Ty, leaf, node, Var, Error, app}
 use Rattle.unification.specs.Order.{Same}
-use Rattle.unification.specs.Bindings.{Subst, bound, repr, Answer, yes-left, no-left, spent, occurs, History, ended, State, withLeft, setVar}
+use Rattle.unification.specs.Bindings.{Subst, bound, repr, Answer, yes-left, no-left, spent, occurs, History, ended, State, withLeft, setVar, Resolved}
 use Rattle.unification.specs.Unify.{Unified, Ok, Err, Spent, bindVar, unifyNodes, unifyHeads, note, unifyIn, unify}
 use Rattle.unification.specs.Calls.{Side, Reaches, itself, Admitted, Respects, live, EntryClaim, BindingsClaim}
 use Rattle.unification.proofs.Tests.{clash, eqb-true, eqb-false}
 use Rattle.unification.proofs.Order.{same-refl, same-sym, same-both}
 use Rattle.unification.proofs.Reach.{admitted-bind, admitted-follow}
 use Rattle.unification.proofs.Acyclic.{no-loop}
-use Rattle.unification.proofs.Chain.{error-reaches, Resolved, repr-resolved}
+use Rattle.unification.proofs.Chain.{error-reaches, repr-resolved}
 use Rattle.unification.proofs.Respects.{respects-bind, repr-same}
 use Rattle.unification.proofs.Occurs.{occurs-never, occurs-no}
 use Rattle.unification.proofs.Sides.{Wf, side-follow, wf-bind}

@@ -14,7 +14,7 @@ use Rattle.unification.specs.Tie.{solution}
 use Rattle.unification.proofs.Tests.{clash}
 use Rattle.unification.proofs.Order.{app-app, app-id, size, rowSize}
 use Rattle.unification.proofs.Reach.{reaches-trans, reaches-var}
-use Rattle.unification.proofs.Acyclic.{Acyclic}
+use Rattle.unification.specs.Acyclic.{Acyclic}
 use Rattle.unification.proofs.Chain.{leaf-reaches, error-reaches, node-reaches, nil-reaches, cell-reaches, not-behind, count, count-le, unset, count-unset, unset-other, unset-acyclic, unset-reaches}
 
 -- All unknowns in it are free.

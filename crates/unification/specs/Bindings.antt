@@ -3,6 +3,7 @@
 use mathlib.Core.Bool.{Bool, true, false}
 use mathlib.Core.List.{List, [], _∷_, _++_}
 use mathlib.Core.Option.{Option, none, some}
+use mathlib.Core.Path.{_≡_}
 use Prim.Native.Nat.{ℕ, zero, suc, _-_}
 use lib.Dec.{eqb}
 use lib.ListN.{length, getD, set}
@@ -28,6 +29,13 @@ follow (suc k) s Error = Error
 unfoldable pub repr : Subst → Ty → Ty
 unfolding follow
 repr s t = follow (suc (length s)) s t
+
+-- What `repr` ends at: a free unknown, or no unknown.
+abbrev pub Resolved : Subst → Ty → Type 0
+Resolved s (leaf p) = Unit {0}
+Resolved s (node k r) = Unit {0}
+Resolved s (Var x) = bound s x ≡ none
+Resolved s Error = Unit {0}
 
 -- `zonk`: every bound unknown replaced, at every depth. Bindings lead from unknown to unknown at most as often as
 -- there are unknowns, since none leads back to itself.

@@ -4,4 +4,5 @@ pub mod Robinson
 pub mod Bindings
 pub mod Unify
 pub mod Calls
+pub mod Acyclic
 pub mod Tie

@@ -1,4 +1,4 @@
--- Made from Proof.ans by tools/answers, 5e57f00b8565d503.
+-- Made from Proof.ans by tools/answers, 684957dfb2753882.
 -- A call costs a visit, so twice the visits left falls; the walk over a cell's parts stands one above. The answer for the row is
 -- the answer for the rest from j on.
 use Prim.Native.Nat.{ℕ, _<_, _+_, _-_, _*_}
@@ -17,7 +17,7 @@ use Rattle.cells.proofs.+all_orderable+orderable.{statement}
 use Rattle.cells.proofs.+all_orderable+orderable.Tie.{close}
 use borrow.Author.Needs.{needs}
 use native.Mathlib.Omega.{arith}
-use Rattle.unification.proofs.Acyclic.{Acyclic}
+use Rattle.unification.specs.Acyclic.{Acyclic}
 use Rattle.cells.proofs.Asking.{orders, Walking, walk-start, order-no-visit, order-fact, order-record, order-union, order-else, all-goes-on, all-stops, all-done}
 
 abbrev μ-all-orderable : Measures 1 all-orderable-kinds.ps ℕ

@@ -1,4 +1,4 @@
--- Made from Proof.ans by tools/answers, 39c950fa19cdc301.
+-- Made from Proof.ans by tools/answers, 74de29b93490667b.
 -- `tree::hex_byte` meets its contract: the test is `digitsW`'s own, and each digit is below 17.
 use borrow.Author.Needs.{needs}
 use Rattle.tree.proofs.hex_byte.Statement.{statement}
@@ -10,7 +10,7 @@ use native.Mathlib.Omega.{arith}
 use mathlib.Core.Path.{sym, _∙_, ap}
 use Prim.Native.Nat.{_+_, _*_, _<_}
 use Rattle.hex.specs.Digits.{digitW}
-use Rattle.tree.proofs.Digits.{digits-past, digits-there}
+use Rattle.hex.proofs.Bytes.{digits-past, digits-there}
 
 add-j : tie.Need-add-j
 add-j c = search needs

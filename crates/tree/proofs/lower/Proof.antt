@@ -1,4 +1,4 @@
--- Made from Proof.ans by tools/answers, 1883c8aa7c5a7fae.
+-- Made from Proof.ans by tools/answers, 6104a3c74129184c.
 -- `tree::lower` meets its contract by the test that it makes.
 use Rattle.tree.proofs.lower.Statement.{statement}
 use Rattle.tree.proofs.lower.Tie as tie
@@ -7,7 +7,7 @@ use Rattle.tree.proofs.lower.Lts as lts
 use borrow.Author.Needs.{needs}
 use native.Mathlib.Omega.{arith}
 use mathlib.Core.Path.{sym}
-use Rattle.tree.proofs.Digits.{lower-stays, lower-zero}
+use Rattle.tree.proofs.Lowering.{lower-stays, lower-zero}
 
 returns : tie.Need-returns
 returns c = sym (lower-stays _ _ (c .if1 .taken))

@@ -1,22 +1,11 @@
--- The byte of two digits where both are there, and past the end; a number that stays where it is lower, and one that does not.
+-- A number that stays where it is lower, and one that does not.
 use mathlib.Core.Bool.{Bool, true, false}
-use mathlib.Core.List.{List}
 use mathlib.Core.Path.{_≡_, refl}
-use Prim.Native.Nat.{ℕ, _+_, _*_, _≤_, _<_}
+use Prim.Native.Nat.{ℕ, _≤_, _<_}
 use native.Mathlib.Omega.{arith}
 use lib.Dec.{ltb}
-use lib.ListN.{length, getD}
 use borrow.Author.Tests.{lt-ltb, le-ltb, ltb-true, ltb-false}
-use Rattle.hex.specs.Digits.{digitW, digitsW}
 use Rattle.tree.specs.Nodes.{lowerW}
-
-pub digits-past : (f : List ℕ) (i : ℕ) → length f ≤ i + 1 → digitsW f i ≡ 0
-unfolding digitsW
-digits-past f i h = rw (le-ltb (i + 1) (length f) h, digitsW)
-
-pub digits-there : (f : List ℕ) (i : ℕ) → i + 1 < length f → digitsW f i ≡ digitW (getD f i 0) * 16 + digitW (getD f (i + 1) 0)
-unfolding digitsW
-digits-there f i h = rw (lt-ltb (i + 1) (length f) h, digitsW)
 
 pub lower-stays : (x n : ℕ) → x < n → lowerW x n ≡ x
 unfolding lowerW
