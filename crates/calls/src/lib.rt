@@ -2,6 +2,7 @@
 // function takes any words: what they stand for is its caller's to keep.
 ghost use mathlib.Core.Path.{_≡_};
 ghost use lib.ListN.{getD};
+ghost use Rattle.work.specs.Layout.{RECORD-FIELD-COUNT, UNKNOWNS, UNDO-LEN};
 ghost use Rattle.cells.specs.Inferred.{reserveW, putFieldW, newRecordTy, newRecordW};
 ghost use Rattle.cells.specs.Words.{tyW, payloadW, freshW};
 ghost use Rattle.cells.specs.Contracts.{RollsBack};
@@ -13,7 +14,7 @@ use cells::Unified;
 // A new unknown, and its number.
 #[no_mangle]
 pub extern "C" fn sigla_fresh(w: &mut [u32]) -> u32
-    ensures { λ r. ⌜ (r ≡ getD (now (w .entry)) 9620 0) × (now (w .exit) ≡ freshW (now (w .entry))) ⌝ }
+    ensures { λ r. ⌜ (r ≡ getD (now (w .entry)) UNKNOWNS 0) × (now (w .exit) ≡ freshW (now (w .entry))) ⌝ }
 {
     cells::fresh_var_id(w)
 }
@@ -21,7 +22,7 @@ pub extern "C" fn sigla_fresh(w: &mut [u32]) -> u32
 // Room for so many fields of a record: where they start.
 #[no_mangle]
 pub extern "C" fn sigla_reserve(w: &mut [u32], n: u32) -> u32
-    ensures { λ r. ⌜ (r ≡ getD (now (w .entry)) 9617 0) × (now (w .exit) ≡ reserveW (now (w .entry)) n) ⌝ }
+    ensures { λ r. ⌜ (r ≡ getD (now (w .entry)) RECORD-FIELD-COUNT 0) × (now (w .exit) ≡ reserveW (now (w .entry)) n) ⌝ }
 {
     cells::reserve(w, n)
 }
@@ -43,7 +44,7 @@ pub extern "C" fn sigla_new_record(w: &mut [u32], from: u32, n: u32) -> u32
 
 #[no_mangle]
 pub extern "C" fn sigla_snapshot(w: &[u32]) -> u32
-    ensures { λ r. ⌜ r ≡ getD (now (w .entry)) 13472 0 ⌝ }
+    ensures { λ r. ⌜ r ≡ getD (now (w .entry)) UNDO-LEN 0 ⌝ }
 {
     cells::snapshot(w)
 }

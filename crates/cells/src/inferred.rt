@@ -1,6 +1,7 @@
 // Inferred records: a cell each, with its fields in one place.
 ghost use mathlib.Core.Path.{_≡_};
 ghost use lib.ListN.{getD};
+ghost use Rattle.work.specs.Layout.{RECORD-FIELD-COUNT};
 ghost use Rattle.cells.specs.Inferred.{reserveW, putFieldW, newRecordW, newRecordTy};
 use crate::Ty;
 use crate::payload_of;
@@ -11,7 +12,7 @@ use work::word;
 
 // Room for n fields of a record that is being inferred: where they start.
 pub fn reserve(w: &mut [u32], n: u32) -> u32
-    ensures { λ r. ⌜ (r ≡ getD (now (w .entry)) 9617 0) × (now (w .exit) ≡ reserveW (now (w .entry)) n) ⌝ }
+    ensures { λ r. ⌜ (r ≡ getD (now (w .entry)) RECORD-FIELD-COUNT 0) × (now (w .exit) ≡ reserveW (now (w .entry)) n) ⌝ }
 {
     let from = word(w, work::RECORD_FIELD_COUNT);
     if from <= 512 {

@@ -3,6 +3,7 @@
 ghost use mathlib.Core.Path.{_≡_};
 ghost use Prim.Native.Nat.{ℕ, _+_, _*_, _<_, _≤_};
 ghost use lib.ListN.{length, getD, set};
+ghost use Rattle.work.specs.Layout.{UNKNOWNS, UNDO-LEN};
 ghost use Rattle.cells.specs.Words.{tyW, tagW, payloadW, declaredW, countW, firstW, fieldW, alternativeW, partW, boundW, pushUndoW, setVarW, annotateW, freshW, revertW, sameLeafW};
 ghost use Rattle.cells.specs.Contracts.{FindsKey, FindsName, Reprs, Occurs, OccursIn, IsOrderable, AllOrderable, RollsBack, Lowers, LeastFrom, NextFrom, Unifies, BindsVar, UnifiesHeads, UnifiesRecord, UnifiesFields, UnifiesUnion, UnifiesAlternative, UnifiesPayload};
 ghost use Rattle.cells.specs.declared.Ty.the-variants as Ty;
@@ -332,7 +333,7 @@ fn push_undo(w: &mut [u32], entry: u32)
 
 // A new unknown, free, and its number.
 pub fn fresh_var_id(w: &mut [u32]) -> u32
-    ensures { λ r. ⌜ (r ≡ getD (now (w .entry)) 9620 0) × (now (w .exit) ≡ freshW (now (w .entry))) ⌝ }
+    ensures { λ r. ⌜ (r ≡ getD (now (w .entry)) UNKNOWNS 0) × (now (w .exit) ≡ freshW (now (w .entry))) ⌝ }
 {
     let x = word(w, work::UNKNOWNS);
     if x < 512 {
@@ -363,7 +364,7 @@ pub fn annotate(w: &mut [u32], n: u32, t: Ty)
 }
 
 pub fn snapshot(w: &[u32]) -> u32
-    ensures { λ r. ⌜ r ≡ getD (now (w .entry)) 13472 0 ⌝ }
+    ensures { λ r. ⌜ r ≡ getD (now (w .entry)) UNDO-LEN 0 ⌝ }
 {
     word(w, work::UNDO_LEN)
 }

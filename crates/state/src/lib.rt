@@ -2,6 +2,7 @@
 ghost use mathlib.Core.Path.{_≡_};
 ghost use Prim.Native.Nat.{_<_};
 ghost use lib.ListN.{getD};
+ghost use Rattle.work.specs.Layout.{ENV-LEN};
 ghost use Rattle.meaning.specs.Check.{lookupIn};
 ghost use Rattle.state.specs.Words.{numberOf, besideW, halfW, rejectW, envOf, knownAs, pushEnvW, Introduces};
 use work::put;
@@ -88,7 +89,7 @@ pub fn diagnostic(w: &[u32], i: u32) -> u32
 
 // Newest first.
 pub fn lookup(w: &[u32], symbol: u32) -> Known
-    ensures { λ r. ⌜ knownAs r ≡ lookupIn (envOf (now (w .entry)) (getD (now (w .entry)) 9618 0)) symbol ⌝ }
+    ensures { λ r. ⌜ knownAs r ≡ lookupIn (envOf (now (w .entry)) (getD (now (w .entry)) ENV-LEN 0)) symbol ⌝ }
 {
     let mut i = word(w, work::ENV_LEN);
     while 0 < i {
