@@ -1,5 +1,5 @@
--- What the functions of the cycle promise (src/lib.rt): each goes beside its namesake of meaning/specs/Check.antt, for every described
--- file and every depth above the nodes that it visits.
+-- What the functions of the cycle promise (src/lib.rt): each goes beside the step of meaning/specs/Check.antt that its contract names,
+-- for every described file and every depth above the nodes that it visits.
 --
 -- The cycle ends since the node falls, and on one node the rank: a call's measure is 16 * n + rank, where n is the node, the greater
 -- of two, or for items and statements their `below`, under which stands all that they name. Ranks:
