@@ -18,3 +18,4 @@ pub mod Content
 pub mod Outcome
 pub mod Table
 pub mod Run
+pub mod Surrogates

@@ -15,7 +15,7 @@ use Rattle.text.specs.Star.{Each, Star, none as nil, more}
 use Rattle.text.specs.Utf8 as utf8
 use Rattle.text.specs.Utf8.{Range, _to_, In, Fits, end, then, OneOf, this, later, both, inside}
 use Rattle.text.specs.Rule as rule
-use Rattle.text.specs.Rule.{onesOf, ones, head, value, least, Later, Sequence, alone, several}
+use Rattle.text.specs.Rule.{onesOf, ones, head, value, least, Later, Scalar, Sequence, alone, several}
 use Rattle.text.proofs.Every.{both-left, both-right, same, same-eq, below, every}
 use Rattle.text.proofs.Grammar.{range, inside-in, in-inside}
 
@@ -56,22 +56,19 @@ unfolding lead onesOf ones head
 four = leads 4 0xf0 0xf7 refl
 
 module _ {n low high : ℕ} (lead : Lead n low high) (b : ℕ) (byte : b < 256) (t : List ℕ) where
-  make : 2 ≤ n → n ≤ 4 → In (low to high) b → 1 + length t ≡ n → Each Later t → least n ≤ value (b - low) t → value (b - low) t ≤ 0x10ffff → Sequence b t
-  make h₂ h₄ i long tail l h =
+  make : 2 ≤ n → n ≤ 4 → In (low to high) b → 1 + length t ≡ n → Each Later t → least n ≤ value (b - low) t → value (b - low) t ≤ 0x10ffff → Scalar (value (b - low) t) → Sequence b t
+  make h₂ h₄ i long tail l h whole =
       let e = lead .given b byte i in
       let v = lead .holds b byte e in
-      record { two = rw e h₂; four = rw e h₄; long = long ∙ sym e; tail = tail; low = rw (e, v) l; high = rw v h }
+      record { two = rw e h₂; four = rw e h₄; long = long ∙ sym e; tail = tail; low = rw (e, v) l; high = rw v h; scalar = rw v whole }
 
-  taken : ones b ≡ n → Sequence b t → In (low to high) b × (least n ≤ value (b - low) t) × (value (b - low) t ≤ 0x10ffff)
+  taken : ones b ≡ n → Sequence b t → In (low to high) b × (least n ≤ value (b - low) t) × (value (b - low) t ≤ 0x10ffff) × Scalar (value (b - low) t)
   taken e q =
       let v = lead .holds b byte e in
-      (lead .found b byte e, rw (e, v) at (q .low), rw v at (q .high))
+      (lead .found b byte e, rw (e, v) at (q .low), rw v at (q .high), rw v at (q .scalar))
 
 tail : {b : ℕ} → Later b → In utf8.tail b
 tail h = record { low = h .low; high = h .high }
-
-after-ED : {b : ℕ} → Later b → In utf8.afterED b
-after-ED h = record { low = h .low; high = h .high }
 
 choose : (g : List (List Range)) (k : ℕ) {s : List ℕ} → k < length g → Fits (getD g k []) s → OneOf g s
 choose [] k h f = absurd (not-suc-le-zero h)
@@ -81,6 +78,14 @@ choose (rs ∷ g) (suc k) h f = later (choose g k (le-of-suc-le-suc h) f)
 -- the alternatives of UTF8-char, counted from 0
 alternative : (k : ℕ) {s : List ℕ} → T (ltb k 9) → Fits (getD utf8.utf8-char k []) s → utf8.Character s
 alternative k h f = choose utf8.utf8-char k (lit< h) f
+
+-- ed's second byte, where the value is not from d800 to dfff
+below-half : (b x y : ℕ) → b ≡ 0xed → Later x → Later y → Scalar (((b - 0xe0) * 64 + x % 64) * 64 + y % 64) → x ≤ 0x9f
+below-half b x y e i j s =
+    elim (decLe x 0x9f) [
+      | yes h ↦ h
+      | no h ↦ absurd (omega (arith, i, j, s (omega (arith, i, j))))
+    ]
 
 in-grammar : (b : ℕ) (t : List ℕ) → b < 256 → Sequence b t → utf8.Character (b ∷ t)
 unfolding value
@@ -99,7 +104,7 @@ in-grammar b (x ∷ y ∷ []) l q =
             | yes h ↦ alternative 3 tt (then (range 0xe1 0xec b (omega arith) h) (then (tail i) rest))
             | no h₂ ↦
                 elim (decLe b 0xed) [
-                  | yes h ↦ alternative 4 tt (then (range 0xed 0xed b (omega arith) h) (then (after-ED i) rest))
+                  | yes h ↦ alternative 4 tt (then (range 0xed 0xed b (omega arith) h) (then (range 0x80 0x9f x (i .low) (below-half b x y (omega arith) i (q .tail .1 .0) (p .3))) rest))
                   | no h₃ ↦ alternative 5 tt (then (range 0xee 0xef b (omega arith) (p .0 .high)) (then (tail i) rest))
                 ]
           ]
@@ -130,13 +135,15 @@ follows {b = b} i l h =
 
 of-two : (b x : ℕ) → In (0xc0 to 0xdf) b → Later x → 0x80 ≤ (b - 0xc0) * 64 + x % 64 → rule.Character (b ∷ x ∷ [])
 unfolding value
-of-two b x i j low = several (make two b (omega (arith, i)) (x ∷ []) (omega arith) (omega arith) i refl (j, tt) low (omega (arith, i, j)))
+of-two b x i j low = several (make two b (omega (arith, i)) (x ∷ []) (omega arith) (omega arith) i refl (j, tt) low (omega (arith, i, j)) (λ h. omega (arith, i, j)))
 
-of-three : (b x y : ℕ) → In (0xe0 to 0xef) b → Later x → Later y → 0x800 ≤ ((b - 0xe0) * 64 + x % 64) * 64 + y % 64 → rule.Character (b ∷ x ∷ y ∷ [])
+of-three : (b x y : ℕ) → In (0xe0 to 0xef) b → Later x → Later y → 0x800 ≤ ((b - 0xe0) * 64 + x % 64) * 64 + y % 64
+    → Scalar (((b - 0xe0) * 64 + x % 64) * 64 + y % 64)
+    → rule.Character (b ∷ x ∷ y ∷ [])
 unfolding value
-of-three b x y i j k low =
+of-three b x y i j k low whole =
     several
-    (make three b (omega (arith, i)) (x ∷ y ∷ []) (omega arith) (omega arith) i refl (j, (k, tt)) low (omega (arith, i, j, k)))
+    (make three b (omega (arith, i)) (x ∷ y ∷ []) (omega arith) (omega arith) i refl (j, (k, tt)) low (omega (arith, i, j, k)) whole)
 
 of-four : (b x y z : ℕ) → In (0xf0 to 0xf4) b → Later x → Later y → Later z
     → 0x10000 ≤ (((b - 0xf0) * 64 + x % 64) * 64 + y % 64) * 64 + z % 64
@@ -146,20 +153,20 @@ unfolding value
 of-four b x y z i j k l low high =
     several
     (make four b (omega (arith, i)) (x ∷ y ∷ z ∷ []) (omega arith) (omega arith) (narrow i tt tt) refl
-    (j, (k, (l, tt))) low high)
+    (j, (k, (l, tt))) low high (λ h. omega (arith, i, low)))
 
 pub in-rule : {s : List ℕ} → utf8.Character s → rule.Character s
 in-rule (this (then {b = b} i end)) = alone {b = b} (omega (arith, i))
 in-rule (later (this (then {b = b} i (then {b = x} j end)))) =
     of-two b x (narrow i tt tt) (follows j tt tt) (omega (arith, i))
 in-rule (later (later (this (then {b = b} i (then {b = x} j (then {b = y} k end)))))) =
-    of-three b x y (narrow i tt tt) (follows j tt tt) (follows k tt tt) (omega (arith, j))
+    of-three b x y (narrow i tt tt) (follows j tt tt) (follows k tt tt) (omega (arith, j)) (λ h. omega (arith, i, j, k))
 in-rule (later (later (later (this (then {b = b} i (then {b = x} j (then {b = y} k end))))))) =
-    of-three b x y (narrow i tt tt) (follows j tt tt) (follows k tt tt) (omega (arith, i))
+    of-three b x y (narrow i tt tt) (follows j tt tt) (follows k tt tt) (omega (arith, i)) (λ h. omega (arith, i, j, k))
 in-rule (later (later (later (later (this (then {b = b} i (then {b = x} j (then {b = y} k end)))))))) =
-    of-three b x y (narrow i tt tt) (follows j tt tt) (follows k tt tt) (omega (arith, i))
+    of-three b x y (narrow i tt tt) (follows j tt tt) (follows k tt tt) (omega (arith, i)) (λ h. omega (arith, i, j, k))
 in-rule (later (later (later (later (later (this (then {b = b} i (then {b = x} j (then {b = y} k end))))))))) =
-    of-three b x y (narrow i tt tt) (follows j tt tt) (follows k tt tt) (omega (arith, i))
+    of-three b x y (narrow i tt tt) (follows j tt tt) (follows k tt tt) (omega (arith, i)) (λ h. omega (arith, i, j, k))
 in-rule (later (later (later (later (later (later (this (then {b = b} i (then {b = x} j (then {b = y} k (then {b = z} l end))))))))))) =
     of-four b x y z (narrow i tt tt) (follows j tt tt) (follows k tt tt) (follows l tt tt)
     (omega (arith, i, j)) (omega (arith, i))

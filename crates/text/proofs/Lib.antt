@@ -5,3 +5,4 @@ pub mod Reading
 pub mod First
 pub mod Walk
 pub mod Laws
+pub mod Surrogates

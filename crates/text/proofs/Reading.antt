@@ -3,13 +3,13 @@ use Prim.Native.Nat.{ℕ, zero, suc, _+_, _-_, _*_, _%_, _^_, _≤_, _<_}
 use native.Mathlib.Omega.{arith}
 use native.Mathlib.Nat.{mod-le, le-of-suc-le-suc, not-suc-le-zero, pow-suc, pow-le-pow-right}
 use native.Mathlib.Numerals.{add-one}
-use mathlib.Core.Bool.{false}
+use mathlib.Core.Bool.{true, false}
 use mathlib.Core.Path.{_≡_, refl}
 use mathlib.Core.List.{List, [], _∷_, _++_}
 use lib.ListN.{length, getD, take, drop, length-take, length-drop}
 use lib.Seq.{take-suc, getD-drop}
 use Rattle.text.specs.Star.{Each}
-use Rattle.text.specs.Rule.{head, value, least, Later}
+use Rattle.text.specs.Rule.{head, value, least, Later, Scalar}
 use Rattle.text.specs.Width.{Room, SequenceAt, Decides}
 
 each-snoc : (P : ℕ → Type 0) (t : List ℕ) (x : ℕ) → Each P t → P x → Each P (t ++ (x ∷ []))
@@ -56,6 +56,9 @@ module _ {v : ℕ} {t : List ℕ} {k w : ℕ} (r : Reading v t k w) where
 pub no-answer : {P : Type 0} → (P → ⊥) → Decides P false
 no-answer n = record { yes = λ e. let z : _≡_ {A = ℕ} 0 1 = cc in absurd (omega arith); no = λ _. n }
 
+pub yes-answer : {P : Type 0} → P → Decides P true
+yes-answer p = record { yes = λ _. p; no = λ e. let z : _≡_ {A = ℕ} 0 1 = cc in absurd (omega arith) }
+
 pub head-le : (b : ℕ) → head b ≤ b
 unfolding head
 head-le b = mod-le b _
@@ -72,8 +75,8 @@ module _ {s : List ℕ} {i n : ℕ} (room : Room s i n) where
       (reading-more r (simp length-drop (omega (arith, room .fits))) (rw (getD-drop (i + 1) s k 0) l))
 
   module _ {w : ℕ} (r : Reading (head (getD s i 0)) (drop (i + 1) s) (n - 1) w) where
-    pub complete : least n ≤ w → w ≤ 0x10ffff → SequenceAt s i n
-    complete l h =
+    pub complete : least n ≤ w → w ≤ 0x10ffff → Scalar w → SequenceAt s i n
+    complete l h whole =
         record {
           two = rw (← (room .lead)) (room .two);
           four = rw (← (room .lead)) (room .four);
@@ -81,7 +84,8 @@ module _ {s : List ℕ} {i n : ℕ} (room : Room s i n) where
           tail = r .tail;
           low = rw (← (room .lead), ← (r .is)) l;
           high = rw (← (r .is)) h;
+          scalar = rw (← (r .is)) whole;
         }
 
-    pub bounds : SequenceAt s i n → (least n ≤ w) × (w ≤ 0x10ffff)
-    bounds q = (rw (← (room .lead), ← (r .is)) at (q .low), rw (← (r .is)) at (q .high))
+    pub bounds : SequenceAt s i n → (least n ≤ w) × (w ≤ 0x10ffff) × Scalar w
+    bounds q = (rw (← (room .lead), ← (r .is)) at (q .low), rw (← (r .is)) at (q .high), rw (← (r .is)) at (q .scalar))

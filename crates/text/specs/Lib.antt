@@ -3,3 +3,4 @@ pub mod Utf8
 pub mod Rule
 pub mod Width
 pub mod Answer
+pub mod Surrogates

@@ -1,6 +1,7 @@
 -- The rule for texts in the words of 01-scope.md, "Frame lines": "a byte below 80 stands alone; otherwise the number of leading one
 -- bits of the first byte, 2 to 4, is the length, later bytes are 80 to bf, and the value is not below 80, 800 or 10000 for that length and
--- not above 10ffff (hexadecimal)". `same-text` in proofs/Agree.antt shows that it is the grammar of Utf8.antt.
+-- not above 10ffff (hexadecimal)"; and of 02-change-requests.md, card 2: "RFC 3629 forbids the values d800 to dfff (hexadecimal)". `same-text`
+-- in proofs/Agree.antt shows that it is the grammar of Utf8.antt.
 use Prim.Native.Nat.{ℕ, zero, suc, _+_, _-_, _*_, _%_, _^_, _≤_, _<_}
 use mathlib.Core.Bool.{true, false}
 use mathlib.Core.Path.{_≡_}
@@ -35,6 +36,10 @@ pub record Later (b : ℕ) : Type 0 where
   pub low : 0x80 ≤ b
   pub high : b ≤ 0xbf
 
+-- not from d800 to dfff, the halves of UTF-16's pairs
+abbrev pub Scalar : ℕ → Type 0
+Scalar v = 0xd800 ≤ v → 0xdfff < v
+
 -- a first byte and the later bytes of a sequence
 pub record Sequence (b : ℕ) (t : List ℕ) : Type 0 where
   pub two : 2 ≤ ones b
@@ -43,6 +48,7 @@ pub record Sequence (b : ℕ) (t : List ℕ) : Type 0 where
   pub tail : Each Later t
   pub low : least (ones b) ≤ value (head b) t
   pub high : value (head b) t ≤ 0x10ffff
+  pub scalar : Scalar (value (head b) t)
 
 -- a byte with two leading ones is not below 80, so no bytes are both
 pub data Character : List ℕ → Type 0 where

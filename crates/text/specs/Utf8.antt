@@ -9,8 +9,6 @@
 --     UTF8-4      = %xF0 %x90-BF 2( UTF8-tail ) / %xF1-F3 3( UTF8-tail ) /
 --                   %xF4 %x80-8F 2( UTF8-tail )
 --     UTF8-tail   = %x80-BF
---
--- It differs from the RFC in one place: see `afterED`.
 use Prim.Native.Nat.{ℕ, suc, _≤_}
 use mathlib.Core.Bool.{Bool, true, false}
 use mathlib.Core.List.{List, [], _∷_, _++_}
@@ -34,10 +32,6 @@ only b = b to b
 abbrev pub tail : Range
 tail = 0x80 to 0xbf
 
--- What may follow ED: the one difference. The RFC has 80-9F here, which keeps the values d800 to dfff out; in this edition they pass.
-abbrev pub afterED : Range
-afterED = 0x80 to 0xbf
-
 -- Each rule as the list of its alternatives, in the RFC's order.
 abbrev pub utf8-1 : List (List Range)
 utf8-1 = (0x00 to 0x7f ∷ []) ∷ []
@@ -49,7 +43,7 @@ abbrev pub utf8-3 : List (List Range)
 utf8-3 =
     (only 0xe0 ∷ 0xa0 to 0xbf ∷ tail ∷ []) ∷
     (0xe1 to 0xec ∷ tail ∷ tail ∷ []) ∷
-    (only 0xed ∷ afterED ∷ tail ∷ []) ∷
+    (only 0xed ∷ 0x80 to 0x9f ∷ tail ∷ []) ∷
     (0xee to 0xef ∷ tail ∷ tail ∷ []) ∷
     []
 

@@ -53,7 +53,13 @@ fn sequence(s: &[u8], i: usize, n: usize) -> bool
     if value < LEAST[n] {
         return false;
     }
-    value <= 0x10ffff
+    if 0x10ffff < value {
+        return false;
+    }
+    if value < 0xd800 {
+        return true;
+    }
+    0xdfff < value
 }
 
 // How many bytes the character at i takes; 0 where there is none.

@@ -48,11 +48,13 @@ fn fours() {
     show(b"\xf4\x90\x80\x80");
 }
 
-// The values d800 to dfff, which pass in this edition, and their neighbours.
+// The values d800 to dfff, a pair of them, and their neighbours.
 fn halves() {
     show(b"\xed\x9f\xbf");
     show(b"\xed\xa0\x80");
+    show(b"\xed\xad\xbf");
     show(b"\xed\xbf\xbf");
+    show(b"\xed\xa0\xbd\xed\xb8\x80");
     show(b"\xee\x80\x80");
 }
 

@@ -6,9 +6,9 @@ use native.Mathlib.Omega.{arith}
 use Prim.Native.Nat.{_≤_, _<_, _-_}
 use lib.ListN.{drop, getD}
 use mathlib.Core.Path.{_≡_}
-use borrow.Author.Tests.{leb-true, leb-false}
+use borrow.Author.Tests.{ltb-true, ltb-false}
 use Rattle.text.specs.Rule.{head}
-use Rattle.text.proofs.Reading.{Reading, reading-none, reading-small, no-answer, head-le, later-at, read-on, complete, bounds}
+use Rattle.text.proofs.Reading.{Reading, reading-none, reading-small, no-answer, yes-answer, head-le, later-at, read-on, complete, bounds}
 
 abbrev Inv-loop : tie.InvT-loop
 Inv-loop s i n value₀ from more k₀ value k = (k ≤ more) × Reading (head (getD s i 0)) (drop from s) k value
@@ -56,16 +56,30 @@ returns-3 c =
     let before = c .before .before .before .before .before .before in
     let all : c .before .before .loop .k ≡ before .args .n - 1 = omega arith in
     let read = rw all at (c .before .before .loop .inv .1) in
-    no-answer (λ q. omega (arith, bounds (before .pre) read q, c .if3 .taken))
+    no-answer (λ q. omega (arith, bounds (before .pre) read q .0, c .if3 .taken))
 
 returns-4 : tie.Need-returns-4 Inv-loop μ-loop
 returns-4 c =
-    let before = c .before .before .before .before .before .before in
-    let all : c .before .before .loop .k ≡ before .args .n - 1 = omega arith in
-    let read = rw all at (c .before .before .loop .inv .1) in
+    let before = c .before .before .before .before .before .before .before in
+    let all : c .before .before .before .loop .k ≡ before .args .n - 1 = omega arith in
+    let read = rw all at (c .before .before .before .loop .inv .1) in
+    no-answer (λ q. omega (arith, bounds (before .pre) read q .1, c .if4 .taken))
+
+returns-5 : tie.Need-returns-5 Inv-loop μ-loop
+returns-5 c =
+    let before = c .before .before .before .before .before .before .before .before in
+    let all : c .before .before .before .before .loop .k ≡ before .args .n - 1 = omega arith in
+    let read = rw all at (c .before .before .before .before .loop .inv .1) in
+    yes-answer (complete (before .pre) read (c .before .before .if3 .left) (c .before .if4 .left) (λ l. absurd (omega (arith, l, c .if5 .taken))))
+
+returns-6 : tie.Need-returns-6 Inv-loop μ-loop
+returns-6 c =
+    let before = c .before .before .before .before .before .before .before .before in
+    let all : c .before .before .before .before .loop .k ≡ before .args .n - 1 = omega arith in
+    let read = rw all at (c .before .before .before .before .loop .inv .1) in
     record {
-      yes = λ e. complete (before .pre) read (c .if3 .left) (leb-true _ _ e);
-      no = λ e q. omega (arith, bounds (before .pre) read q, leb-false (c .before .before .loop .value) 0x10ffff e);
+      yes = λ e. complete (before .pre) read (c .before .before .if3 .left) (c .before .if4 .left) (λ _. ltb-true _ _ e);
+      no = λ e q. omega (arith, bounds (before .pre) read q .2 (c .if5 .left), ltb-false 0xdfff (c .before .before .before .before .loop .value) e);
     }
 
 pub sequence-spec : {M : Type 1} → statement M
@@ -92,4 +106,6 @@ sequence-spec =
     (λ c. search needs)
     (λ c. search needs)
     returns-3
-    returns-4)
+    returns-4
+    returns-5
+    returns-6)
