@@ -1,14 +1,15 @@
 -- What callers cite: what the enum's two cases say in the grammar's terms, and how many characters there can be.
 use Prim.Native.Nat.{ℕ, _≤_, _<_}
 use native.Mathlib.Omega.{arith}
-use mathlib.Core.Path.{_≡_, refl, ap, _∙_}
+use mathlib.Core.Path.{_≡_, refl, ap, sym, _∙_}
 use mathlib.Core.List.{List, [], _∷_}
 use mathlib.Core.Option.{Option, none, some}
 use lib.ListN.{length, length-append}
+use Rattle.text.specs.declared.Text.{Text as Answer}
 use Rattle.text.specs.declared.Text.the-variants.{Chars, Broken}
 use Rattle.text.specs.Star.{Each, none as nil, more}
 use Rattle.text.specs.Utf8.{this, then, end, Character, Text, count, characters}
-use Rattle.text.specs.Answer.{answer}
+use Rattle.text.specs.Answer.{answer, Tests}
 use Rattle.text.proofs.Grammar.{range, not-empty, counts}
 
 -- `Chars n`: a text of n characters
@@ -25,6 +26,10 @@ answer-broken s e n t =
     let h : Broken ≡ Chars n = rw (counts s n .0 t) at e in
     let z : _≡_ {A = ℕ} 0 1 = cc in
     omega arith
+
+-- Two tests under this contract agree on every slice, text or not, and count the same characters.
+pub agree : (s : List ℕ) (r q : Answer) → Tests s r → Tests s q → r ≡ q
+agree s r q e f = e ∙ sym f
 
 pub characters-empty : characters [] ≡ some 0
 unfolding characters count

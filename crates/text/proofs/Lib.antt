@@ -6,3 +6,5 @@ pub mod First
 pub mod Walk
 pub mod Laws
 pub mod Surrogates
+pub mod Machine
+pub mod Tabled

@@ -14,7 +14,7 @@ use Rattle.text.specs.Surrogates.{utf8-char-open, charactersOpen, HasSur
 use Rattle.text.proofs.Every.{both-left, both-right, both-false}
 use Rattle.text.proofs.Grammar.{clash, range, inside-in, in-inside}
 
-mismatch : {X : Type 0} → true ≡ false → X
+pub mismatch : {X : Type 0} → true ≡ false → X
 mismatch e = let z : _≡_ {A = ℕ} 0 1 = cc in absurd (omega arith)
 
 -- ---- What is kept

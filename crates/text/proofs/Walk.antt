@@ -22,7 +22,7 @@ pub plus-zero : (o : Option ℕ) → o ≡ plus 0 o
 plus-zero none = refl
 plus-zero (some n) = ap some (sym (zero-add n))
 
-plus-more : (k : ℕ) (o : Option ℕ) → plus k (oneMore o) ≡ plus (k + 1) o
+pub plus-more : (k : ℕ) (o : Option ℕ) → plus k (oneMore o) ≡ plus (k + 1) o
 plus-more k none = refl
 plus-more k (some n) = ap some (omega arith)
 

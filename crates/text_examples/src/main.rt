@@ -1,9 +1,9 @@
-// Runs the text test on RFC 3629's example sequences and on the bytes either side of each of its limits, and prints for each
-// the number of characters or `broken`.
+// Runs both text tests on RFC 3629's example sequences and on the bytes either side of each of its limits, and prints for each
+// what the first says and what the second says: the number of characters or `broken`.
 use text::Text;
 
-fn show(s: &[u8]) {
-    match text::characters(s) {
+fn print(t: Text) {
+    match t {
         Text::Chars(n) => {
             io::print_decimal(1, n as u64);
         }
@@ -11,6 +11,12 @@ fn show(s: &[u8]) {
             io::write_all(1, b"broken");
         }
     }
+}
+
+fn show(s: &[u8]) {
+    print(text::characters(s));
+    io::write_all(1, b" ");
+    print(text::characters_by_table(s));
     io::write_all(1, b"\n");
 }
 
