@@ -75,7 +75,7 @@ first [] = Next.Nothing
 first (k ∷ ks) = Next.Is k
 
 -- ascending, each at least m
-abbrev Ascending : ℕ → List ℕ → Type 0
+abbrev pub Ascending : ℕ → List ℕ → Type 0
 Ascending m [] = Unit {0}
 Ascending m (k ∷ ks) = (m ≤ k) × Ascending (suc k) ks
 
@@ -94,7 +94,7 @@ unfolding withKeys
 ascending-keys ε ks a = a
 ascending-keys (cell k l t r) ks a = ascending-insert 0 k (withKeys r ks) (omega arith) (ascending-keys r ks a)
 
-ascending : (xs ys : Row) → Ascending 0 (discriminants xs ys)
+pub ascending : (xs ys : Row) → Ascending 0 (discriminants xs ys)
 unfolding discriminants
 ascending xs ys = ascending-keys xs (withKeys ys []) (ascending-keys ys [] tt)
 

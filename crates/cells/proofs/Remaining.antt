@@ -15,7 +15,7 @@ use Rattle.cells.specs.Words.{pick}
 use Rattle.cells.specs.Contracts.{leastFrom, KeysBelow}
 use Rattle.cells.proofs.Discriminants.{onward, onward-all, next-is, next-nothing, onward-past}
 
-abbrev words : ℕ
+abbrev pub words : ℕ
 words = 4294967296
 
 unfoldable pub remaining : ℕ → Row → Row → List ℕ
