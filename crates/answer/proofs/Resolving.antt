@@ -11,11 +11,14 @@ use Rattle.unification.specs.Bindings.{Subst, zonk, Resolved}
 use Rattle.unification.proofs.Chain.{repr-resolved}
 use Rattle.unification.proofs.Zonk.{zonk-repr, zonk-leaf, zonk-error, zonk-node, zonk-unbound, zonk-replaces}
 use Rattle.cells.specs.declared.Ty.{Ty}
-use Rattle.cells.specs.declared.Ty.the-variants.{Record, Union, Var, Error}
+use Rattle.cells.specs.declared.Ty.the-variants.{Int, Str, Bytes, Fact, Record, Union, Var, Error}
 use Rattle.cells.specs.declared.Kind.{Kind}
 use Rattle.cells.specs.declared.Kind.the-variants.{Fields, Alternatives}
 use Rattle.cells.specs.declared.Part.{Part}
-use Rattle.cells.specs.Words.{countW, partW}
+use types.Run.{OneOf, miss}
+use denote.Enum.Declared.{tagOf}
+use Rattle.cells.proofs.Ty as ty
+use Rattle.cells.specs.Words.{countW, partW, partsW, partOfW}
 use Rattle.cells.specs.Stands.{Rows, tree, rowFrom, rowW, IsCell, Ok}
 use Rattle.cells.specs.Contracts.{Reprs}
 use Rattle.cells.proofs.Parts.{rest, rest-whole, rest-cell, rest-none, part-ok}
@@ -23,7 +26,7 @@ use Rattle.meaning.specs.Answer.{bytes₂, leafBytes, kindByte, cellHead, tyByt
 use Rattle.answer.specs.declared.Wrote.{Wrote}
 use Rattle.answer.specs.declared.Wrote.the-variants.{To, Full}
 use Rattle.answer.specs.Writes.{Writes, Moves, hexOf}
-use Rattle.answer.specs.Types.{kindOf, Resolves, resolved, WritesTy, WritesPart, WritesRow}
+use Rattle.answer.specs.Types.{kindOf, headOf, partHeadOf, Resolves, resolved, WritesTy, WritesPart, WritesRow}
 use Rattle.answer.proofs.Writing.{writes-as, writes-to, writes-moves, full-moves, moves-then, moves-none, moves-next, Goes, goes-start, goes-next, goes-full, goes-done}
 use Rattle.answer.proofs.Digits.{hex-append, hex-then, hex-full}
 
@@ -142,3 +145,123 @@ module _ {w out₀ : List ℕ} {at : ℕ} {k : Kind} {c n : ℕ} {out : List ℕ
     is = λ T s R i b. goes-done (g .go T s R i b) (rw (rest-none T w k c n j l));
     moves = g .moves;
   }
+
+-- ---- A type, its parts in a loop
+pub plain-head : (u : Ty) (key label : ℕ) → OneOf (0 ∷ 1 ∷ 2 ∷ 3 ∷ 4 ∷ 6 ∷ 7 ∷ []) (tagOf ty.the-type u) → bytes₂ key ≡ partHeadOf u key label
+unfolding cellHead
+plain-head Int key label o = refl
+plain-head Str key label o = refl
+plain-head Bytes key label o = refl
+plain-head (Fact p) key label o = refl
+plain-head (Record c) key label o = refl
+plain-head (Union c) key label o = absurd (miss (0 ∷ 1 ∷ 2 ∷ 3 ∷ 4 ∷ 6 ∷ 7 ∷ []) 5 tt o)
+plain-head (Var x) key label o = refl
+plain-head Error key label o = refl
+
+head-digits : (w : List ℕ) (u : Ty) → 1 ≤ length (hexOf (headOf w u))
+unfolding hexOf
+head-digits w Int = omega arith
+head-digits w Str = omega arith
+head-digits w Bytes = omega arith
+head-digits w (Fact p) = omega arith
+head-digits w (Record c) = omega arith
+head-digits w (Union c) = omega arith
+head-digits w (Var x) = omega arith
+head-digits w Error = omega arith
+
+-- Where the parts start there is less room.
+pub head-moves : (w : List ℕ) {out : List ℕ} {at : ℕ} (u : Ty) {mid : List ℕ} {h : Wrote} {n : ℕ} → Writes out at (hexOf (headOf w u)) mid h → h ≡ To n → (at < n) × (n ≤ length out)
+head-moves w u f e = let g = writes-to f e in (omega (arith, g .0, head-digits w u), g .1)
+
+abbrev pub Along : List ℕ → List ℕ → ℕ → Ty → ℕ → List ℕ → ℕ → ℕ → Type 0
+Along w mid from Int n out j to = (n ≡ 0) × (mid ≡ out) × (from ≡ to)
+Along w mid from Str n out j to = (n ≡ 0) × (mid ≡ out) × (from ≡ to)
+Along w mid from Bytes n out j to = (n ≡ 0) × (mid ≡ out) × (from ≡ to)
+Along w mid from (Fact p) n out j to = (n ≡ 0) × (mid ≡ out) × (from ≡ to)
+Along w mid from (Record c) n out j to = Rowing w mid from Fields c n out j to
+Along w mid from (Union c) n out j to = Rowing w mid from Alternatives c n out j to
+Along w mid from (Var x) n out j to = (n ≡ 0) × (mid ≡ out) × (from ≡ to)
+Along w mid from Error n out j to = (n ≡ 0) × (mid ≡ out) × (from ≡ to)
+
+pub record Typing (w mid : List ℕ) (from : ℕ) (u : Ty) (n : ℕ) (out : List ℕ) (j to : ℕ) : Type 0 where
+  pub moves : Moves mid from out (To to)
+  pub along : Along w mid from u n out j to
+
+pub typing-start : (w mid : List ℕ) (from : ℕ) (u : Ty) (n : ℕ) → n ≡ partsW w u → Typing w mid from u n mid 0 from
+typing-start w mid from u n e = record { moves = moves-none mid from; along = go u e }
+  where
+    go : (u : Ty) → n ≡ partsW w u → Along w mid from u n mid 0 from
+    go Int e = (e, refl, refl)
+    go Str e = (e, refl, refl)
+    go Bytes e = (e, refl, refl)
+    go (Fact p) e = (e, refl, refl)
+    go (Record c) e = row-start w mid from Fields c n e
+    go (Union c) e = row-start w mid from Alternatives c n e
+    go (Var x) e = (e, refl, refl)
+    go Error e = (e, refl, refl)
+
+none-there : {A : Type 0} {n j : ℕ} → n ≡ 0 → j < n → A
+none-there e h = absurd (omega arith)
+
+module _ {w mid : List ℕ} {from n : ℕ} {out : List ℕ} {j to : ℕ} (p : Part) (l : j < n) {half : List ℕ} {b : Wrote} {m : ℕ} (q : b ≡ To m) {out′ : List ℕ} {r : Wrote} (x : WritesTy w half m (p .ty) out′ r) where
+  pub typing-next : (u : Ty) → Typing w mid from u n out j to → p ≡ partOfW w u j → Writes out to (hexOf (partHeadOf u (p .key) (p .label))) half b → {k : ℕ} → r ≡ To k → Typing w mid from u n out′ (j + 1) k
+  typing-next u g e f {k} z = record { moves = moves-next (g .moves) (moves-then (writes-moves f) q (x .moves)) z; along = go u (g .along) e f }
+    where
+      go : (u : Ty) → Along w mid from u n out j to → p ≡ partOfW w u j → Writes out to (hexOf (partHeadOf u (p .key) (p .label))) half b → Along w mid from u n out′ (j + 1) k
+      go Int g e f = none-there (g .0) l
+      go Str g e f = none-there (g .0) l
+      go Bytes g e f = none-there (g .0) l
+      go (Fact p) g e f = none-there (g .0) l
+      go (Record c) g e f = row-next g p l e (part-then f q x) z
+      go (Union c) g e f = row-next g p l e (part-then f q x) z
+      go (Var y) g e f = none-there (g .0) l
+      go Error g e f = none-there (g .0) l
+
+module _ {w out : List ℕ} {at : ℕ} {t : Ty} {mid : List ℕ} {h : Wrote} where
+  pub typing-full : (u : Ty) → Reprs w t u → Writes out at (hexOf (headOf w u)) mid h → h ≡ Full → WritesTy w out at t mid Full
+  unfolding leafBytes kindByte
+  typing-full Int rep f e = ty-leaf rep Tree.Int (λ T. refl) (rw e at f)
+  typing-full Str rep f e = ty-leaf rep Tree.String (λ T. refl) (rw e at f)
+  typing-full Bytes rep f e = ty-leaf rep Tree.Bytes (λ T. refl) (rw e at f)
+  typing-full (Fact p) rep f e = ty-leaf rep (Tree.Fact p) (λ T. refl) (rw e at f)
+  typing-full (Record c) rep f e = ty-cell-full rep Fields c refl (countW w c) refl f e
+  typing-full (Union c) rep f e = ty-cell-full rep Alternatives c refl (countW w c) refl f e
+  typing-full (Var x) rep f e = ty-var rep x refl (rw e at f)
+  typing-full Error rep f e = ty-error rep refl (rw e at f)
+
+  module _ {from : ℕ} (z : h ≡ To from) {n : ℕ} {now : List ℕ} {j to : ℕ} where
+    pub typing-done : (u : Ty) → Reprs w t u → Writes out at (hexOf (headOf w u)) mid h → Typing w mid from u n now j to → n ≤ j → WritesTy w out at t now (To to)
+    unfolding leafBytes kindByte
+    typing-done Int rep f g l = ty-leaf rep Tree.Int (λ T. refl) (rw (← g .along .1, ← g .along .2) (rw z at f))
+    typing-done Str rep f g l = ty-leaf rep Tree.String (λ T. refl) (rw (← g .along .1, ← g .along .2) (rw z at f))
+    typing-done Bytes rep f g l = ty-leaf rep Tree.Bytes (λ T. refl) (rw (← g .along .1, ← g .along .2) (rw z at f))
+    typing-done (Fact p) rep f g l = ty-leaf rep (Tree.Fact p) (λ T. refl) (rw (← g .along .1, ← g .along .2) (rw z at f))
+    typing-done (Record c) rep f g l = ty-cell rep Fields c refl (countW w c) refl f z (row-done (g .along) l)
+    typing-done (Union c) rep f g l = ty-cell rep Alternatives c refl (countW w c) refl f z (row-done (g .along) l)
+    typing-done (Var x) rep f g l = ty-var rep x refl (rw (← g .along .1, ← g .along .2) (rw z at f))
+    typing-done Error rep f g l = ty-error rep refl (rw (← g .along .1, ← g .along .2) (rw z at f))
+
+    module _ (p : Part) (l : j < n) {half : List ℕ} {b : Wrote} where
+      pub typing-stops : (u : Ty) → Reprs w t u → Writes out at (hexOf (headOf w u)) mid h → Typing w mid from u n now j to → p ≡ partOfW w u j
+          → Writes now to (hexOf (partHeadOf u (p .key) (p .label))) half b → b ≡ Full → WritesTy w out at t half Full
+      unfolding kindByte
+      typing-stops Int rep f g e s q = none-there (g .along .0) l
+      typing-stops Str rep f g e s q = none-there (g .along .0) l
+      typing-stops Bytes rep f g e s q = none-there (g .along .0) l
+      typing-stops (Fact p) rep f g e s q = none-there (g .along .0) l
+      typing-stops (Record c) rep f g e s q = ty-cell rep Fields c refl (countW w c) refl f z (row-stops (g .along) p l e (part-full s q) refl)
+      typing-stops (Union c) rep f g e s q = ty-cell rep Alternatives c refl (countW w c) refl f z (row-stops (g .along) p l e (part-full s q) refl)
+      typing-stops (Var x) rep f g e s q = none-there (g .along .0) l
+      typing-stops Error rep f g e s q = none-there (g .along .0) l
+
+      pub typing-ends : (u : Ty) → Reprs w t u → Writes out at (hexOf (headOf w u)) mid h → Typing w mid from u n now j to → p ≡ partOfW w u j
+          → Writes now to (hexOf (partHeadOf u (p .key) (p .label))) half b → {m : ℕ} → b ≡ To m → {out′ : List ℕ} {r : Wrote} → WritesTy w half m (p .ty) out′ r → r ≡ Full → WritesTy w out at t out′ Full
+      unfolding kindByte
+      typing-ends Int rep f g e s q x y = none-there (g .along .0) l
+      typing-ends Str rep f g e s q x y = none-there (g .along .0) l
+      typing-ends Bytes rep f g e s q x y = none-there (g .along .0) l
+      typing-ends (Fact p) rep f g e s q x y = none-there (g .along .0) l
+      typing-ends (Record c) rep f g e s q x y = ty-cell rep Fields c refl (countW w c) refl f z (row-stops (g .along) p l e (part-then s q x) y)
+      typing-ends (Union c) rep f g e s q x y = ty-cell rep Alternatives c refl (countW w c) refl f z (row-stops (g .along) p l e (part-then s q x) y)
+      typing-ends (Var v) rep f g e s q x y = none-there (g .along .0) l
+      typing-ends Error rep f g e s q x y = none-there (g .along .0) l

@@ -1,5 +1,5 @@
 -- What is written of a type in hand: the bytes of meaning/specs/Answer.antt, of the type with every bound unknown replaced.
-use mathlib.Core.List.{List, _++_}
+use mathlib.Core.List.{List, [], _∷_, _++_}
 use Prim.Native.Nat.{ℕ, _≤_}
 use lib.ListN.{length}
 use Rattle.unification.specs.Ty as Tree
@@ -7,17 +7,40 @@ use Rattle.unification.specs.Ty.{Row, appRow}
 use Rattle.unification.specs.Bindings.{Subst, zonk}
 use Rattle.unification.specs.Acyclic.{Acyclic}
 use Rattle.cells.specs.declared.Ty.{Ty}
+use Rattle.cells.specs.declared.Ty.the-variants.{Int, Str, Bytes, Fact, Record, Union, Var, Error}
+use Rattle.cells.specs.Words.{countW}
 use Rattle.cells.specs.declared.Kind.{Kind}
 use Rattle.cells.specs.declared.Kind.the-variants.{Fields, Alternatives}
 use Rattle.cells.specs.declared.Part.{Part}
 use Rattle.cells.specs.Stands.{Rows, tree, IsCell, Ok, Cells, Binds}
-use Rattle.meaning.specs.Answer.{tyBytes, rowBytes, cellHead}
+use Rattle.meaning.specs.Answer.{bytes₂, tyBytes, rowBytes, cellHead}
 use Rattle.answer.specs.declared.Wrote.{Wrote}
 use Rattle.answer.specs.Writes.{Writes, Moves, hexOf}
 
 abbrev pub kindOf : Kind → Tree.Kind
 kindOf Fields = Tree.Record
 kindOf Alternatives = Tree.Union
+
+-- What stands before the parts of a resolved type, and before the type of a part of it.
+abbrev pub headOf : List ℕ → Ty → List ℕ
+headOf w Int = 0 ∷ []
+headOf w Str = 1 ∷ []
+headOf w Bytes = 2 ∷ []
+headOf w (Fact p) = 3 ∷ bytes₂ p
+headOf w (Record c) = 4 ∷ bytes₂ (countW w c)
+headOf w (Union c) = 5 ∷ bytes₂ (countW w c)
+headOf w (Var x) = 6 ∷ bytes₂ x
+headOf w Error = 7 ∷ []
+
+abbrev pub partHeadOf : Ty → ℕ → ℕ → List ℕ
+partHeadOf Int key label = cellHead Tree.Record key label
+partHeadOf Str key label = cellHead Tree.Record key label
+partHeadOf Bytes key label = cellHead Tree.Record key label
+partHeadOf (Fact p) key label = cellHead Tree.Record key label
+partHeadOf (Record c) key label = cellHead Tree.Record key label
+partHeadOf (Union c) key label = cellHead Tree.Union key label
+partHeadOf (Var x) key label = cellHead Tree.Record key label
+partHeadOf Error key label = cellHead Tree.Record key label
 
 -- The words hold types whose unknowns can be resolved.
 pub record Resolves (w : List ℕ) (T : Rows) (s : Subst) : Type 0 where

@@ -3,12 +3,11 @@ ghost use mathlib.Core.List.{[], _∷_};
 ghost use mathlib.Core.Path.{_≡_};
 ghost use Prim.Native.Nat.{_<_};
 ghost use lib.ListN.{length};
-ghost use Rattle.meaning.specs.Answer.{hexDigit, bytes₂, bytes₄, cellHead};
+ghost use Rattle.meaning.specs.Answer.{hexDigit, bytes₂, bytes₄};
 ghost use Rattle.answer.specs.Writes.{Writes, hexOf};
-ghost use Rattle.answer.specs.Types.{kindOf, WritesTy, WritesPart, WritesRow};
+ghost use Rattle.answer.specs.Types.{headOf, partHeadOf, WritesTy};
 ghost use Rattle.answer.specs.Lines.{WritesSlot, WritesNode, WritesNodeLine, WritesNodeLines};
 ghost use Rattle.answer.specs.Reports.{WritesText, WritesCode, WritesSpan, WritesPlace, WritesDiagnostic, WritesDiagnosticLine, WritesDiagnosticLines, WritesAnswer};
-use cells::Kind;
 use cells::Ty;
 use work::wide;
 use work::word;
@@ -91,74 +90,67 @@ fn tagged(out: &mut [u8], at: usize, tag: u32, x: u32) -> Wrote
     }
 }
 
-// What stands before a part's type.
-fn part_head(out: &mut [u8], at: usize, k: Kind, p: cells::Part) -> Wrote
-    ensures { λ r. ⌜ Writes (now (out .entry)) at (hexOf (cellHead (kindOf k) (p .key) (p .label))) (now (out .exit)) r ⌝ }
+// What stands before the parts of a resolved type: its shape, with a number or with how many parts there are.
+fn head(w: &[u32], out: &mut [u8], at: usize, u: Ty) -> Wrote
+    ensures { λ r. ⌜ Writes (now (out .entry)) at (hexOf (headOf (now (w .entry)) u)) (now (out .exit)) r ⌝ }
 {
-    match k {
-        Kind::Fields => half(out, at, p.key),
-        Kind::Alternatives => {
+    match u {
+        Ty::Int => byte(out, at, 0),
+        Ty::Str => byte(out, at, 1),
+        Ty::Bytes => byte(out, at, 2),
+        Ty::Fact(p) => tagged(out, at, 3, p),
+        Ty::Record(c) => tagged(out, at, 4, cells::count(w, c)),
+        Ty::Union(c) => tagged(out, at, 5, cells::count(w, c)),
+        Ty::Var(x) => tagged(out, at, 6, x),
+        Ty::Error => byte(out, at, 7),
+    }
+}
+
+// What stands before a part's type: in a record the name, in a union the name and the discriminant.
+fn part_head(out: &mut [u8], at: usize, u: Ty, p: cells::Part) -> Wrote
+    ensures { λ r. ⌜ Writes (now (out .entry)) at (hexOf (partHeadOf u (p .key) (p .label))) (now (out .exit)) r ⌝ }
+{
+    match u {
+        Ty::Union(_) => {
             let r = half(out, at, p.label);
             match r {
                 Wrote::To(n) => full(out, n, p.key),
                 Wrote::Full => Wrote::Full,
             }
         }
+        _ => half(out, at, p.key),
     }
 }
 
-// A type, resolved on the way. Each call writes at least one byte before the next, so the room left falls.
+// A type, resolved on the way. What stands before its parts is written first, so the room left falls.
 pub fn ty(w: &[u32], out: &mut [u8], at: usize, t: Ty) -> Wrote
     ensures { λ r. ⌜ WritesTy (now (w .entry)) (now (out .entry)) at t (now (out .exit)) r ⌝ }
 {
-    let r = cells::repr(w, t);
-    match r {
-        Ty::Int => byte(out, at, 0),
-        Ty::Str => byte(out, at, 1),
-        Ty::Bytes => byte(out, at, 2),
-        Ty::Fact(p) => tagged(out, at, 3, p),
-        Ty::Record(c) => {
-            let h = tagged(out, at, 4, cells::count(w, c));
-            match h {
-                Wrote::To(n) => row(w, out, n, Kind::Fields, c),
-                Wrote::Full => Wrote::Full,
-            }
+    let u = cells::repr(w, t);
+    let h = head(w, out, at, u);
+    let from = match h {
+        Wrote::To(n) => n,
+        Wrote::Full => {
+            return Wrote::Full;
         }
-        Ty::Union(c) => {
-            let h = tagged(out, at, 5, cells::count(w, c));
-            match h {
-                Wrote::To(n) => row(w, out, n, Kind::Alternatives, c),
-                Wrote::Full => Wrote::Full,
-            }
-        }
-        Ty::Var(x) => tagged(out, at, 6, x),
-        Ty::Error => byte(out, at, 7),
-    }
-}
-
-fn part(w: &[u32], out: &mut [u8], at: usize, k: Kind, p: cells::Part) -> Wrote
-    ensures { λ r. ⌜ WritesPart (now (w .entry)) (now (out .entry)) at k p (now (out .exit)) r ⌝ }
-{
-    let t = p.ty;
-    let r = part_head(out, at, k, p);
-    match r {
-        Wrote::To(n) => ty(w, out, n, t),
-        Wrote::Full => Wrote::Full,
-    }
-}
-
-fn row(w: &[u32], out: &mut [u8], at: usize, k: Kind, c: u32) -> Wrote
-    ensures { λ r. ⌜ WritesRow (now (w .entry)) (now (out .entry)) at k c (now (out .exit)) r ⌝ }
-{
-    let n = cells::count(w, c);
+    };
+    let n = cells::part_count(w, u);
     let mut j: u32 = 0;
-    let mut to = at;
+    let mut to = from;
     while j < n {
-        let p = cells::part_at(w, k, c, j);
-        let r = part(w, out, to, k, p);
+        let p = cells::part_of(w, u, j);
+        let q = p.ty;
+        let b = part_head(out, to, u, p);
+        let m = match b {
+            Wrote::To(m) => m,
+            Wrote::Full => {
+                return Wrote::Full;
+            }
+        };
+        let r = ty(w, out, m, q);
         match r {
-            Wrote::To(m) => {
-                to = m;
+            Wrote::To(l) => {
+                to = l;
             }
             Wrote::Full => {
                 return Wrote::Full;

@@ -1,5 +1,6 @@
 -- Questions over the parts of a cell, as `occurs` and `orderable` ask them: the answer for the row is the answer for the rest of
 -- it with the visits left. A question is put to each part in turn until one ends it.
+use mathlib.Core.Bool.{true, false}
 use mathlib.Core.List.{List, [], _∷_}
 use mathlib.Core.Path.{_≡_, refl, sym, _∙_, ap}
 use native.Mathlib.Omega.{arith}
@@ -22,7 +23,7 @@ use Rattle.cells.specs.declared.Kind.the-variants.{Fields, Alternatives}
 use Rattle.cells.specs.declared.Part.{Part}
 use Rattle.cells.specs.declared.Asked.{Asked}
 use Rattle.cells.specs.declared.Asked.the-variants.{Yes, No, Spent}
-use Rattle.cells.specs.Words.{countW, partW}
+use Rattle.cells.specs.Words.{countW, partW, fieldW, isUnknownW, partsW, partOfW}
 use Rattle.cells.specs.Stands.{Rows, tree, IsCell, Ok, Cells, Binds}
 use Rattle.cells.specs.Contracts.{Reprs, answerOf, askedLeft, Occurs, OccursIn, IsOrderable, AllOrderable}
 use Rattle.cells.proofs.Ty as ty
@@ -149,6 +150,116 @@ module _ {w : List ℕ} {x : ℕ} {k : Kind} {c left n j v : ℕ} (g : Walking A
   pub occurs-none : n ≤ j → OccursIn w x k c left (No v)
   unfolding anyRow
   occurs-none h = record { is = λ T s C B i d b. sym (walk-none g h T s C B tt i d b); fewer = g .fewer }
+
+-- ---- `occurs` over the parts of a type in hand
+pub no-unknown : (x : ℕ) (u : Ty) → OneOf (0 ∷ 1 ∷ 2 ∷ 3 ∷ 4 ∷ 5 ∷ 7 ∷ []) (tagOf ty.the-type u) → false ≡ isUnknownW u x
+no-unknown x Int o = refl
+no-unknown x Str o = refl
+no-unknown x Bytes o = refl
+no-unknown x (Fact p) o = refl
+no-unknown x (Record c) o = refl
+no-unknown x (Union c) o = refl
+no-unknown x (Var y) o = absurd (miss (0 ∷ 1 ∷ 2 ∷ 3 ∷ 4 ∷ 5 ∷ 7 ∷ []) 6 tt o)
+no-unknown x Error o = refl
+
+pub no-parts : (w : List ℕ) (u : Ty) → OneOf (0 ∷ 1 ∷ 2 ∷ 3 ∷ 6 ∷ 7 ∷ []) (tagOf ty.the-type u) → 0 ≡ partsW w u
+no-parts w Int o = refl
+no-parts w Str o = refl
+no-parts w Bytes o = refl
+no-parts w (Fact p) o = refl
+no-parts w (Record c) o = absurd (miss (0 ∷ 1 ∷ 2 ∷ 3 ∷ 6 ∷ 7 ∷ []) 4 tt o)
+no-parts w (Union c) o = absurd (miss (0 ∷ 1 ∷ 2 ∷ 3 ∷ 6 ∷ 7 ∷ []) 5 tt o)
+no-parts w (Var y) o = refl
+no-parts w Error o = refl
+
+pub no-part : (w : List ℕ) (u : Ty) (j : ℕ) {p : Part} → OneOf (0 ∷ 1 ∷ 2 ∷ 3 ∷ 6 ∷ 7 ∷ []) (tagOf ty.the-type u) → p ≡ fieldW w 0 j → p ≡ partOfW w u j
+no-part w Int j o e = e
+no-part w Str j o e = e
+no-part w Bytes j o e = e
+no-part w (Fact p) j o e = e
+no-part w (Record c) j o e = absurd (miss (0 ∷ 1 ∷ 2 ∷ 3 ∷ 6 ∷ 7 ∷ []) 4 tt o)
+no-part w (Union c) j o e = absurd (miss (0 ∷ 1 ∷ 2 ∷ 3 ∷ 6 ∷ 7 ∷ []) 5 tt o)
+no-part w (Var y) j o e = e
+no-part w Error j o e = e
+
+abbrev pub Along : List ℕ → ℕ → Ty → ℕ → ℕ → ℕ → ℕ → Type 0
+Along w x Int left n j v = (n ≡ 0) × (v ≡ left)
+Along w x Str left n j v = (n ≡ 0) × (v ≡ left)
+Along w x Bytes left n j v = (n ≡ 0) × (v ≡ left)
+Along w x (Fact p) left n j v = (n ≡ 0) × (v ≡ left)
+Along w x (Record c) left n j v = Walking Any (asks x) w Fields c left n j v
+Along w x (Union c) left n j v = Walking Any (asks x) w Alternatives c left n j v
+Along w x (Var y) left n j v = (n ≡ 0) × (v ≡ left)
+Along w x Error left n j v = (n ≡ 0) × (v ≡ left)
+
+pub record Occurring (w : List ℕ) (x : ℕ) (u : Ty) (left n j v : ℕ) : Type 0 where
+  pub fewer : v ≤ left
+  pub along : Along w x u left n j v
+
+pub occurring-start : (w : List ℕ) (x : ℕ) (u : Ty) (left n : ℕ) → n ≡ partsW w u → Occurring w x u left n 0 left
+occurring-start w x u left n e = record { fewer = omega arith; along = go u e }
+  where
+    go : (u : Ty) → n ≡ partsW w u → Along w x u left n 0 left
+    go Int e = (e, refl)
+    go Str e = (e, refl)
+    go Bytes e = (e, refl)
+    go (Fact p) e = (e, refl)
+    go (Record c) e = walk-start Any (asks x) w Fields c left n e
+    go (Union c) e = walk-start Any (asks x) w Alternatives c left n e
+    go (Var y) e = (e, refl)
+    go Error e = (e, refl)
+
+none-there : {A : Type 0} {left n j v : ℕ} → (n ≡ 0) × (v ≡ left) → j < n → A
+none-there g h = absurd (omega (arith, g .0))
+
+module _ {w : List ℕ} {x : ℕ} {left n j v : ℕ} where
+  pub occurring-next : (u : Ty) → Occurring w x u left n j v → (p : Part) → j < n → p ≡ partOfW w u j → {a : Asked} → Occurs w x (p .ty) v a → (l : ℕ) → a ≡ No l → Occurring w x u left n (j + 1) l
+  occurring-next u g p h e {a} o l q = record { fewer = omega (arith, g .fewer, rw q at (o .fewer)); along = go u (g .along) e }
+    where
+      go : (u : Ty) → Along w x u left n j v → p ≡ partOfW w u j → Along w x u left n (j + 1) l
+      go Int g e = none-there g h
+      go Str g e = none-there g h
+      go Bytes g e = none-there g h
+      go (Fact p) g e = none-there g h
+      go (Record c) g e = occurs-next g p h e o l q
+      go (Union c) g e = occurs-next g p h e o l q
+      go (Var y) g e = none-there g h
+      go Error g e = none-there g h
+
+module _ {w : List ℕ} {x : ℕ} {t : Ty} {left : ℕ} (some : ¬ (left ≡ 0)) where
+  pub occurring-yes : (u : Ty) → Reprs w t u → true ≡ isUnknownW u x → Occurs w x t left (Yes (left - 1))
+  unfolding occursIn
+  occurring-yes (Var y) rep e = visit some rep (Yes (left - 1)) (omega arith) (λ T s C B o d h. rw (← e, occursIn))
+  occurring-yes Int rep e = absurd (let z : _≡_ {A = ℕ} 0 1 = cc in omega arith)
+  occurring-yes Str rep e = absurd (let z : _≡_ {A = ℕ} 0 1 = cc in omega arith)
+  occurring-yes Bytes rep e = absurd (let z : _≡_ {A = ℕ} 0 1 = cc in omega arith)
+  occurring-yes (Fact p) rep e = absurd (let z : _≡_ {A = ℕ} 0 1 = cc in omega arith)
+  occurring-yes (Record c) rep e = absurd (let z : _≡_ {A = ℕ} 0 1 = cc in omega arith)
+  occurring-yes (Union c) rep e = absurd (let z : _≡_ {A = ℕ} 0 1 = cc in omega arith)
+  occurring-yes Error rep e = absurd (let z : _≡_ {A = ℕ} 0 1 = cc in omega arith)
+
+  module _ {n j v : ℕ} where
+    pub occurring-ends : (u : Ty) → Reprs w t u → Occurring w x u (left - 1) n j v → (p : Part) → j < n → p ≡ partOfW w u j → {a : Asked} → Occurs w x (p .ty) v a
+        → OneOf (0 ∷ 2 ∷ []) (tagOf asked.the-type a) → Occurs w x t left a
+    occurring-ends Int rep g p h e o q = none-there (g .along) h
+    occurring-ends Str rep g p h e o q = none-there (g .along) h
+    occurring-ends Bytes rep g p h e o q = none-there (g .along) h
+    occurring-ends (Fact r) rep g p h e o q = none-there (g .along) h
+    occurring-ends (Record c) rep g p h e o q = occurs-record some rep c _ refl (occurs-ends (g .along) p h e o q)
+    occurring-ends (Union c) rep g p h e o q = occurs-union some rep c _ refl (occurs-ends (g .along) p h e o q)
+    occurring-ends (Var y) rep g p h e o q = none-there (g .along) h
+    occurring-ends Error rep g p h e o q = none-there (g .along) h
+
+    pub occurring-none : (u : Ty) → Reprs w t u → false ≡ isUnknownW u x → Occurring w x u (left - 1) n j v → n ≤ j → Occurs w x t left (No v)
+    unfolding occursIn
+    occurring-none Int rep f g h = rw (g .along .1) (visit some rep (No (left - 1)) (omega arith) (λ T s C B o d h. refl))
+    occurring-none Str rep f g h = rw (g .along .1) (visit some rep (No (left - 1)) (omega arith) (λ T s C B o d h. refl))
+    occurring-none Bytes rep f g h = rw (g .along .1) (visit some rep (No (left - 1)) (omega arith) (λ T s C B o d h. refl))
+    occurring-none (Fact p) rep f g h = rw (g .along .1) (visit some rep (No (left - 1)) (omega arith) (λ T s C B o d h. refl))
+    occurring-none (Record c) rep f g h = occurs-record some rep c _ refl (occurs-none (g .along) h)
+    occurring-none (Union c) rep f g h = occurs-union some rep c _ refl (occurs-none (g .along) h)
+    occurring-none (Var y) rep f g h = rw (g .along .1) (visit some rep (No (left - 1)) (omega arith) (λ T s C B o d h. rw (← f, occursIn)))
+    occurring-none Error rep f g h = rw (g .along .1) (visit some rep (No (left - 1)) (omega arith) (λ T s C B o d h. refl))
 
 -- ---- `orderable`
 abbrev pub orders : ℕ → Subst → ℕ → Row → Answer

@@ -89,6 +89,37 @@ abbrev pub partW : List ℕ → Kind → ℕ → ℕ → Part
 partW w Fields c j = fieldW w c j
 partW w Alternatives c j = alternativeW w c j
 
+-- ---- A type in hand: whether it is this unknown, how many parts it has, and its part of this number.
+abbrev pub isUnknownW : Ty → ℕ → Bool
+isUnknownW Int x = false
+isUnknownW Str x = false
+isUnknownW Bytes x = false
+isUnknownW (Fact p) x = false
+isUnknownW (Record c) x = false
+isUnknownW (Union c) x = false
+isUnknownW (Var y) x = eqb x y
+isUnknownW Error x = false
+
+abbrev pub partsW : List ℕ → Ty → ℕ
+partsW w Int = 0
+partsW w Str = 0
+partsW w Bytes = 0
+partsW w (Fact p) = 0
+partsW w (Record c) = countW w c
+partsW w (Union c) = countW w c
+partsW w (Var y) = 0
+partsW w Error = 0
+
+abbrev pub partOfW : List ℕ → Ty → ℕ → Part
+partOfW w Int j = fieldW w 0 j
+partOfW w Str j = fieldW w 0 j
+partOfW w Bytes j = fieldW w 0 j
+partOfW w (Fact p) j = fieldW w 0 j
+partOfW w (Record c) j = fieldW w c j
+partOfW w (Union c) j = alternativeW w c j
+partOfW w (Var y) j = fieldW w 0 j
+partOfW w Error j = fieldW w 0 j
+
 -- The key or what was found so far, the lower of the two; a key below `from` does not count.
 abbrev pub lesser : ℕ → Next → Next
 lesser key Next.Nothing = Next.Is key

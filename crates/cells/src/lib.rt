@@ -4,8 +4,8 @@ ghost use mathlib.Core.Path.{_≡_};
 ghost use Prim.Native.Nat.{ℕ, _+_, _*_, _<_, _≤_};
 ghost use lib.ListN.{length, getD, set};
 ghost use Rattle.work.specs.Layout.{UNKNOWNS, UNDO-LEN};
-ghost use Rattle.cells.specs.Words.{tyW, tagW, payloadW, declaredW, countW, firstW, fieldW, alternativeW, partW, boundW, pushUndoW, setVarW, annotateW, freshW, revertW, sameLeafW};
-ghost use Rattle.cells.specs.Contracts.{FindsKey, FindsName, Reprs, Occurs, OccursIn, IsOrderable, AllOrderable, RollsBack, Lowers, LeastFrom, NextFrom, Unifies, BindsVar, UnifiesHeads, UnifiesRecord, UnifiesFields, UnifiesUnion, UnifiesAlternative, UnifiesPayload};
+ghost use Rattle.cells.specs.Words.{tyW, tagW, payloadW, declaredW, countW, firstW, fieldW, alternativeW, partW, boundW, pushUndoW, setVarW, annotateW, freshW, revertW, sameLeafW, isUnknownW, partsW, partOfW};
+ghost use Rattle.cells.specs.Contracts.{FindsKey, FindsName, Reprs, Occurs, IsOrderable, AllOrderable, RollsBack, Lowers, LeastFrom, NextFrom, Unifies, BindsVar, UnifiesHeads, UnifiesRecord, UnifiesFields, UnifiesUnion, UnifiesAlternative, UnifiesPayload};
 ghost use Rattle.cells.specs.declared.Ty.the-variants as Ty;
 ghost use Rattle.cells.specs.declared.TyError.the-variants as TyError;
 ghost use Rattle.cells.specs.declared.Unified.the-variants as Unified;
@@ -279,33 +279,55 @@ pub fn repr(w: &[u32], t: Ty) -> Ty
     at
 }
 
+// Whether a type in hand is this unknown.
+fn is_unknown(t: Ty, x: u32) -> bool
+    ensures { λ r. ⌜ r ≡ isUnknownW t x ⌝ }
+{
+    match t {
+        Ty::Var(y) => x == y,
+        _ => false,
+    }
+}
+
+// How many parts a type in hand has, and its part at j.
+pub fn part_count(w: &[u32], t: Ty) -> u32
+    ensures { λ r. ⌜ r ≡ partsW (now (w .entry)) t ⌝ }
+{
+    match t {
+        Ty::Record(c) => count(w, c),
+        Ty::Union(c) => count(w, c),
+        _ => 0,
+    }
+}
+
+pub fn part_of(w: &[u32], t: Ty, j: u32) -> Part
+    ensures { λ r. ⌜ r ≡ partOfW (now (w .entry)) t j ⌝ }
+{
+    match t {
+        Ty::Union(c) => alternative(w, c, j),
+        Ty::Record(c) => field(w, c, j),
+        _ => field(w, 0, j),
+    }
+}
+
+// `occurs`: to the first yes.
 pub fn occurs(w: &[u32], x: u32, t: Ty, left: u32) -> Asked
     ensures { λ r. ⌜ Occurs (now (w .entry)) x t left r ⌝ }
 {
     if left == 0 {
         return Asked::Spent;
     }
-    let l = left - 1;
-    let r = repr(w, t);
-    match r {
-        Ty::Var(y) => { if x == y { Asked::Yes(l) } else { Asked::No(l) } }
-        Ty::Record(c) => occurs_in(w, x, Kind::Fields, c, l),
-        Ty::Union(c) => occurs_in(w, x, Kind::Alternatives, c, l),
-        _ => Asked::No(l),
+    let u = repr(w, t);
+    let mut rest = left - 1;
+    if is_unknown(u, x) {
+        return Asked::Yes(rest);
     }
-}
-
-// `any` over the parts of a cell: to the first yes.
-fn occurs_in(w: &[u32], x: u32, k: Kind, c: u32, left: u32) -> Asked
-    ensures { λ r. ⌜ OccursIn (now (w .entry)) x k c left r ⌝ }
-{
-    let n = count(w, c);
+    let n = part_count(w, u);
     let mut j: u32 = 0;
-    let mut rest = left;
     while j < n {
-        let p = part_at(w, k, c, j);
-        let t = p.ty;
-        let r = occurs(w, x, t, rest);
+        let p = part_of(w, u, j);
+        let q = p.ty;
+        let r = occurs(w, x, q, rest);
         match r {
             Asked::No(l) => {
                 rest = l;

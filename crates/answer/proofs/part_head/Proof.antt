@@ -1,4 +1,4 @@
--- Made from Proof.ans by tools/answers, b2350ac9f40c4e98.
+-- Made from Proof.ans by tools/answers, 22640cb87999862e.
 -- In a record the name stands before the type, in a union the name and then the discriminant.
 use borrow.Author.Needs.{needs}
 use Rattle.answer.proofs.part_head.Statement.{statement}
@@ -8,20 +8,20 @@ use Rattle.answer.proofs.part_head.Lts as lts
 use Rattle.answer.proofs.full.Reads as full-reads
 use Rattle.answer.proofs.half.Reads as half-reads
 use native.Mathlib.Omega.{arith}
+use mathlib.Core.Path.{ap}
 use Rattle.meaning.specs.Answer.{cellHead, bytes₂, bytes₄}
+use Rattle.answer.specs.Writes.{hexOf}
+use Rattle.answer.proofs.Writing.{writes-as}
 use Rattle.answer.proofs.Digits.{hex-then, hex-full}
+use Rattle.answer.proofs.Resolving.{plain-head}
 
 returns : tie.Need-returns
 unfolding cellHead
-returns c = rw (c .before .before .before .before .enum-told .given .1) (c .before .before .half .ensures)
+returns c = rw (c .before .before .before .before .before .before .before .before .before .before .before .enum-told .given .1) (hex-then (bytes₂ (c .before .before .before .before .before .before .before .before .before .before .before .before .before .before .args .p .label)) (bytes₄ (c .before .before .before .before .before .before .before .before .before .before .before .before .before .before .args .p .key)) (c .before .before .before .before .before .before .before .before .before .half .ensures) (c .before .before .before .before .before .r .given .1) (c .before .before .full .ensures))
 
 returns-2 : tie.Need-returns-2
 unfolding cellHead
-returns-2 c = rw (c .before .before .before .before .before .before .before .before .before .before .before .enum-told2 .given .1) (hex-then (bytes₂ (c .before .before .before .before .before .before .before .before .before .before .before .before .before .before .args .p .label)) (bytes₄ (c .before .before .before .before .before .before .before .before .before .before .before .before .before .before .args .p .key)) (c .before .before .before .before .before .before .before .before .before .half2 .ensures) (c .before .before .before .before .before .r .given .1) (c .before .before .full .ensures))
-
-returns-3 : tie.Need-returns-3
-unfolding cellHead
-returns-3 c = rw (c .before .before .before .before .before .before .enum-told2 .given .1) (hex-full (bytes₂ (c .before .before .before .before .before .before .before .before .before .args .p .label)) (bytes₄ (c .before .before .before .before .before .before .before .before .before .args .p .key)) (c .before .before .before .before .half2 .ensures) (c .enum-told3 .given .1))
+returns-2 c = rw (c .before .before .before .before .before .before .enum-told .given .1) (hex-full (bytes₂ (c .before .before .before .before .before .before .before .before .before .args .p .label)) (bytes₄ (c .before .before .before .before .before .before .before .before .before .args .p .key)) (c .before .before .before .before .half .ensures) (c .enum-told2 .given .1))
 
 pub part-head-spec : {M : Type 1} → statement M
 part-head-spec =
@@ -34,9 +34,8 @@ part-head-spec =
     (λ c. search needs)
     (λ c κs. search needs)
     (λ c. search needs)
-    (λ c. search needs)
     returns
     (λ c. search needs)
     returns-2
     (λ c. search needs)
-    returns-3)
+    (λ c. writes-as (ap hexOf (plain-head (c .before .before .before .before .before .before .args .u) (c .before .before .before .before .before .before .args .p .key) (c .before .before .before .before .before .before .args .p .label) (c .before .before .before .before .match .keys2))) (c .before .before .half2 .ensures)))
