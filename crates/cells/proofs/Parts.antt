@@ -2,7 +2,7 @@
 -- first part of a kind keeps that what is sought in the row is what is sought in the rest of it.
 use mathlib.Core.List.{List}
 use mathlib.Core.Option.{none}
-use mathlib.Core.Path.{_≡_, sym, _∙_, ap}
+use mathlib.Core.Path.{_≡_, refl, sym, _∙_, ap}
 use native.Mathlib.Nat.{sub-zero}
 use native.Mathlib.Omega.{arith}
 use Prim.Native.Nat.{ℕ, suc, _+_, _-_, _<_, _≤_}
@@ -17,7 +17,7 @@ use Rattle.cells.specs.declared.Found.{Found}
 use Rattle.cells.specs.declared.Found.the-variants as Found
 use Rattle.cells.specs.Words.{countW, partW}
 use Rattle.cells.specs.Stands.{Rows, tree, rowFrom, rowW, IsCell, Ok, Cells}
-use Rattle.cells.specs.Contracts.{FindsKey, FindsName}
+use Rattle.cells.specs.Contracts.{FindsPlace, FindsKey, FindsName}
 
 -- ---- The row of a cell
 module _ (T : Rows) (w : List ℕ) (k : Kind) (c n : ℕ) where
@@ -61,20 +61,34 @@ module _ {A : Type 0} {f : Row → A} {w : List ℕ} {k : Kind} {c n j : ℕ} (g
   seek-none h T C i = g .to T C i ∙ ap f (rest-none T w k c n j h)
 
 module _ {w : List ℕ} {k : Kind} {c n j key : ℕ} (g : Seeking (findKey key) w k c n j) where
-  pub key-here : (p : Part) → j < n → p ≡ partW w k c j → p .key ≡ key → FindsKey w k c key (Found.At p)
+  pub key-past : (x : ℕ) → j < n → x ≡ partW w k c j .key → ¬ (x ≡ key) → Seeking (findKey key) w k c n (j + 1)
   unfolding findKey
-  key-here p h e q = record {
-    is = λ T C i. sym (seek-here g p h e T C i ∙ rw (eq-eqb key (p .key) (sym q), findKey));
-    ok = λ T C i. part-ok C k c n j p (g .all) i h e;
+  key-past x h e q = seek-past g (partW w k c j) h refl (λ t r. rw (ne-eqb key (partW w k c j .key) (λ y. q (e ∙ sym y)), findKey))
+
+  pub key-here : (x : ℕ) → x ≡ partW w k c j .key → x ≡ key → FindsPlace w k c key j
+  key-here x e q = record { from = λ T C i. rw (g .all) at (g .to T C i); here = λ h. sym e ∙ q }
+
+  pub key-none : n ≤ j → FindsPlace w k c key j
+  key-none h = record { from = λ T C i. rw (g .all) at (g .to T C i); here = λ l. let e = g .all in absurd (omega arith) }
+
+-- ---- From the number to the part
+module _ {w : List ℕ} {k : Kind} {c key n j : ℕ} (F : FindsPlace w k c key j) (e : n ≡ countW w c) where
+  pub place-here : (p : Part) → j < n → p ≡ partW w k c j → FindsKey w k c key (Found.At p)
+  unfolding findKey
+  place-here p h q =
+      let h′ : j < countW w c = rw e at h in
+      let same : key ≡ p .key = sym (F .here h′) ∙ sym (ap (λ (o : Part). o .key) q) in
+      record {
+        is = λ T C i. sym (F .from T C i ∙ ap (findKey key) (rest-cell T w k c (countW w c) j p h′ q) ∙ rw (eq-eqb key (p .key) same, findKey));
+        ok = λ T C i. part-ok C k c n j p e i h q;
+      }
+
+  pub place-none : n ≤ j → FindsKey w k c key Found.Nothing
+  unfolding findKey
+  place-none h = record {
+    is = λ T C i. sym (F .from T C i ∙ ap (findKey key) (rest-none T w k c (countW w c) j (rw e at h)));
+    ok = λ T C i. tt;
   }
-
-  pub key-past : (p : Part) → j < n → p ≡ partW w k c j → ¬ (p .key ≡ key) → Seeking (findKey key) w k c n (j + 1)
-  unfolding findKey
-  key-past p h e q = seek-past g p h e (λ t r. rw (ne-eqb key (p .key) (λ x. q (sym x)), findKey))
-
-  pub key-none : n ≤ j → FindsKey w k c key Found.Nothing
-  unfolding findKey
-  key-none h = record { is = λ T C i. sym (seek-none g h T C i); ok = λ T C i. tt }
 
 module _ {w : List ℕ} {c n j name : ℕ} (g : Seeking (findLabel name) w Alternatives c n j) where
   pub name-here : (p : Part) → j < n → p ≡ partW w Alternatives c j → p .label ≡ name → FindsName w c name (Found.At p)

@@ -3,7 +3,7 @@
 use mathlib.Core.List.{List}
 use mathlib.Core.Option.{Option, none, some}
 use mathlib.Core.Path.{_≡_}
-use Prim.Native.Nat.{ℕ, _≤_, _<_}
+use Prim.Native.Nat.{ℕ, _-_, _≤_, _<_}
 use Rattle.unification.specs.Ty as Tree
 use Rattle.unification.specs.Ty.{Row, ε, cell, appRow}
 use Rattle.unification.specs.Bindings as Bindings
@@ -28,8 +28,8 @@ use Rattle.cells.specs.declared.Unified.{Unified}
 use Rattle.cells.specs.declared.Unified.the-variants as Unified
 use Rattle.cells.specs.declared.Next.{Next}
 use Rattle.cells.specs.declared.Next.the-variants as Next
-use Rattle.cells.specs.Words.{countW, lowerW}
-use Rattle.cells.specs.Stands.{Rows, tree, IsCell, Ok, Cells, Binds, Holds, Keeps}
+use Rattle.cells.specs.Words.{countW, partW, lowerW}
+use Rattle.cells.specs.Stands.{Rows, tree, rowFrom, IsCell, Ok, Cells, Binds, Holds, Keeps}
 
 -- ---- Look-up
 
@@ -48,6 +48,11 @@ OkFound w Found.Nothing = Unit {0}
 pub record FindsKey (w : List ℕ) (k : Kind) (c key : ℕ) (r : Found) : Type 0 where
   pub is : (T : Rows) → Cells w T → IsCell w k c → foundPart T r ≡ findKey key (T c)
   pub ok : (T : Rows) → Cells w T → IsCell w k c → OkFound w r
+
+-- The number of the first part with this key, or one past the last: what is sought in the row is what is sought from there on.
+pub record FindsPlace (w : List ℕ) (k : Kind) (c key r : ℕ) : Type 0 where
+  pub from : (T : Rows) → Cells w T → IsCell w k c → findKey key (T c) ≡ findKey key (rowFrom T w k c r (countW w c - r))
+  pub here : r < countW w c → partW w k c r .key ≡ key
 
 pub record FindsName (w : List ℕ) (c name : ℕ) (r : Found) : Type 0 where
   pub is : (T : Rows) → Cells w T → IsCell w Alternatives c → foundTy T r ≡ findLabel name (T c)

@@ -3,9 +3,9 @@
 ghost use mathlib.Core.Path.{_≡_};
 ghost use Prim.Native.Nat.{ℕ, _+_, _*_, _<_, _≤_};
 ghost use lib.ListN.{length, getD, set};
-ghost use Rattle.work.specs.Layout.{UNKNOWNS, UNDO-LEN};
+ghost use Rattle.work.specs.Layout.{UNKNOWNS, UNDO, UNDO-LEN};
 ghost use Rattle.cells.specs.Words.{tyW, tagW, payloadW, declaredW, countW, firstW, fieldW, alternativeW, partW, boundW, pushUndoW, setVarW, annotateW, freshW, revertW, sameLeafW, isUnknownW, partsW, partOfW};
-ghost use Rattle.cells.specs.Contracts.{FindsKey, FindsName, Reprs, Occurs, IsOrderable, AllOrderable, RollsBack, Lowers, LeastFrom, NextFrom, Unifies, BindsVar, UnifiesHeads, UnifiesRecord, UnifiesFields, UnifiesUnion, UnifiesAlternative, UnifiesPayload};
+ghost use Rattle.cells.specs.Contracts.{FindsPlace, FindsKey, FindsName, Reprs, Occurs, IsOrderable, AllOrderable, RollsBack, Lowers, LeastFrom, NextFrom, Unifies, BindsVar, UnifiesHeads, UnifiesRecord, UnifiesFields, UnifiesUnion, UnifiesAlternative, UnifiesPayload};
 ghost use Rattle.cells.specs.declared.Ty.the-variants as Ty;
 ghost use Rattle.cells.specs.declared.TyError.the-variants as TyError;
 ghost use Rattle.cells.specs.declared.Unified.the-variants as Unified;
@@ -204,18 +204,46 @@ pub fn part_at(w: &[u32], k: Kind, c: u32, j: u32) -> Part
     }
 }
 
-// The first part with this key.
-pub fn find_key(w: &[u32], k: Kind, c: u32, key: u32) -> Found
-    ensures { λ r. ⌜ FindsKey (now (w .entry)) k c key r ⌝ }
+// The key alone.
+fn key_at(w: &[u32], k: Kind, c: u32, j: u32) -> u32
+    ensures { λ r. ⌜ r ≡ partW (now (w .entry)) k c j .key ⌝ }
+{
+    match k {
+        Kind::Fields => {
+            if c < 256 {
+                word(w, work::FIELDS + first(w, c) + wide(j)) / 256
+            } else {
+                word(w, work::RECORD_FIELDS + 2 * (first(w, c) + wide(j))) / 16
+            }
+        }
+        Kind::Alternatives => word(w, work::FIELDS + first(w, c) + 2 * wide(j)),
+    }
+}
+
+// The number of the first part with this key, or how many parts there are.
+fn place_of(w: &[u32], k: Kind, c: u32, key: u32) -> u32
+    ensures { λ r. ⌜ FindsPlace (now (w .entry)) k c key r ⌝ }
 {
     let n = count(w, c);
     let mut j: u32 = 0;
     while j < n {
-        let p = part_at(w, k, c, j);
-        if p.key == key {
-            return Found::At(p);
+        let x = key_at(w, k, c, j);
+        if x == key {
+            return j;
         }
         j += 1;
+    }
+    j
+}
+
+// The first part with this key.
+pub fn find_key(w: &[u32], k: Kind, c: u32, key: u32) -> Found
+    ensures { λ r. ⌜ FindsKey (now (w .entry)) k c key r ⌝ }
+{
+    let j = place_of(w, k, c, key);
+    if j < count(w, c) {
+        let p = part_at(w, k, c, j);
+        return Found::At(p);
     }
     Found::Nothing
 }
@@ -251,8 +279,8 @@ pub fn var_ty(w: &[u32], x: u32) -> Bound
     Bound::Free
 }
 
-// `repr`: a chain is at most as long as there are unknowns.
-pub fn repr(w: &[u32], t: Ty) -> Ty
+// `repr` without haste: a chain is at most as long as there are unknowns.
+fn follow_any(w: &[u32], t: Ty) -> Ty
     ensures { λ r. ⌜ Reprs (now (w .entry)) t r ⌝ }
 {
     let n = wide(word(w, work::UNKNOWNS));
@@ -277,6 +305,86 @@ pub fn repr(w: &[u32], t: Ty) -> Ty
         k += 1;
     }
     at
+}
+
+// A word that is known to be within the slice.
+fn inside(w: &[u32], i: usize) -> u32
+    requires { ⌜ i < length (now w) ⌝ }
+    ensures { λ r. ⌜ r ≡ getD (now (w .entry)) i 0 ⌝ }
+{
+    w[i]
+}
+
+// The same from an unknown on, where all bindings are within the slice: no read is tested.
+fn follow_within(w: &[u32], from: u32, n: u32) -> Ty
+    requires { ⌜ (n ≡ getD (now w) UNKNOWNS 0) × (n ≤ 512) × (UNDO ≤ length (now w)) ⌝ }
+    ensures { λ r. ⌜ Reprs (now (w .entry)) (Ty.Var from) r ⌝ }
+{
+    let mut x = from;
+    let mut k: u32 = 0;
+    while k <= n {
+        if n <= x {
+            return Ty::Var(x);
+        }
+        let at = work::BINDINGS + 2 * wide(x);
+        let tag = inside(w, at);
+        let p = inside(w, at + 1);
+        if tag == 7 {
+            x = p;
+        } else {
+            if tag == 0 {
+                return Ty::Var(x);
+            }
+            return ty_of(tag, p);
+        }
+        k += 1;
+    }
+    Ty::Var(x)
+}
+
+fn follow_far(w: &[u32], x: u32) -> Ty
+    ensures { λ r. ⌜ Reprs (now (w .entry)) (Ty.Var x) r ⌝ }
+{
+    let n = word(w, work::UNKNOWNS);
+    if n <= 512 {
+        if work::UNDO <= w.len() {
+            return follow_within(w, x, n);
+        }
+    }
+    follow_any(w, Ty::Var(x))
+}
+
+// `repr` where it is not asked often.
+fn head(w: &[u32], t: Ty) -> Ty
+    ensures { λ r. ⌜ Reprs (now (w .entry)) t r ⌝ }
+{
+    match t {
+        Ty::Var(x) => follow_far(w, x),
+        _ => t,
+    }
+}
+
+// `repr`: mostly the first binding tells. The slice is lent anew to the call, so that it can stay in registers otherwise.
+pub fn repr(w: &[u32], t: Ty) -> Ty
+    ensures { λ r. ⌜ Reprs (now (w .entry)) t r ⌝ }
+{
+    let x = match t {
+        Ty::Var(x) => x,
+        _ => {
+            return t;
+        }
+    };
+    let b = var_ty(w, x);
+    let u = match b {
+        Bound::Free => {
+            return t;
+        }
+        Bound::To(u) => u,
+    };
+    match u {
+        Ty::Var(_) => follow_far(&w[..], x),
+        _ => u,
+    }
 }
 
 // Whether a type in hand is this unknown.
@@ -516,13 +624,11 @@ fn unify_fields(w: &mut [u32], c: u32, d: u32, n: u32, left: u32) -> Unified
     let mut rest = left;
     while j < n {
         let p = field(w, c, j);
-        let found = find_key(w, Kind::Fields, d, p.key);
-        let q = match found {
-            Found::At(q) => q,
-            Found::Nothing => {
-                return Unified::Bad(TyError::UnknownField(p.key), rest);
-            }
-        };
+        let i = place_of(w, Kind::Fields, d, p.key);
+        if count(w, d) <= i {
+            return Unified::Bad(TyError::UnknownField(p.key), rest);
+        }
+        let q = field(w, d, i);
         let x = p.ty;
         let y = q.ty;
         let r = unify(w, x, y, rest);
@@ -552,8 +658,8 @@ fn least_from(w: &[u32], c: u32, from: u64, best: Next) -> Next
     let mut j: u32 = 0;
     let mut least = best;
     while j < n {
-        let p = alternative(w, c, j);
-        least = lower(p.key, from, least);
+        let key = key_at(w, Kind::Alternatives, c, j);
+        least = lower(key, from, least);
         j += 1;
     }
     least
@@ -619,25 +725,31 @@ fn differ(c: u32, d: u32, diff: UnionDiff, left: u32) -> Unified
 fn unify_alternative(w: &mut [u32], c: u32, d: u32, k: u32, left: u32) -> Unified
     ensures { λ r. ⌜ UnifiesAlternative (now (w .entry)) c d k left (now (w .exit)) r ⌝ }
 {
-    let x = find_key(w, Kind::Alternatives, c, k);
-    let y = find_key(w, Kind::Alternatives, d, k);
-    match x {
-        Found::Nothing => match y {
-            Found::Nothing => Unified::Good(left),
-            Found::At(q) => differ(c, d, UnionDiff::Absent(q.label, k), left),
-        },
-        Found::At(p) => match y {
-            Found::Nothing => differ(c, d, UnionDiff::Absent(p.label, k), left),
-            Found::At(q) => {
-                if p.label == q.label {
-                    let a = p.ty;
-                    let b = q.ty;
-                    unify_payload(w, c, d, UnionDiff::Payload(p.label, k), a, b, left)
-                } else {
-                    differ(c, d, UnionDiff::Renamed(q.label, p.label, k), left)
-                }
+    let i = place_of(w, Kind::Alternatives, c, k);
+    let j = place_of(w, Kind::Alternatives, d, k);
+    let n = count(w, c);
+    let m = count(w, d);
+    if i < n {
+        let p = alternative(w, c, i);
+        if j < m {
+            let q = alternative(w, d, j);
+            if p.label == q.label {
+                let a = p.ty;
+                let b = q.ty;
+                unify_payload(w, c, d, UnionDiff::Payload(p.label, k), a, b, left)
+            } else {
+                differ(c, d, UnionDiff::Renamed(q.label, p.label, k), left)
             }
-        },
+        } else {
+            differ(c, d, UnionDiff::Absent(p.label, k), left)
+        }
+    } else {
+        if j < m {
+            let q = alternative(w, d, j);
+            differ(c, d, UnionDiff::Absent(q.label, k), left)
+        } else {
+            Unified::Good(left)
+        }
     }
 }
 
@@ -660,7 +772,7 @@ pub fn orderable(w: &[u32], t: Ty, left: u32) -> Asked
         return Asked::Spent;
     }
     let l = left - 1;
-    let r = repr(w, t);
+    let r = head(w, t);
     match r {
         Ty::Fact(_) => Asked::No(l),
         Ty::Record(c) => all_orderable(w, Kind::Fields, c, l),

@@ -1,4 +1,4 @@
--- Made from Proof.ans by tools/answers, 684957dfb2753882.
+-- Made from Proof.ans by tools/answers, ba47fa7360725c19.
 -- A call costs a visit, so twice the visits left falls; the walk over a cell's parts stands one above. The answer for the row is
 -- the answer for the rest from j on.
 use Prim.Native.Nat.{ℕ, _<_, _+_, _-_, _*_}
@@ -11,8 +11,8 @@ use Rattle.cells.proofs.orderable.Reads as orderable
 use Rattle.cells.proofs.orderable.Kinds as orderable-kinds
 use Rattle.cells.proofs.+all_orderable+orderable.Lts-orderable as orderable-lts
 use Rattle.cells.proofs.count.Reads as count-reads
+use Rattle.cells.proofs.head.Reads as head-reads
 use Rattle.cells.proofs.part_at.Reads as part-at-reads
-use Rattle.cells.proofs.repr.Reads as repr-reads
 use Rattle.cells.proofs.+all_orderable+orderable.{statement}
 use Rattle.cells.proofs.+all_orderable+orderable.Tie.{close}
 use borrow.Author.Needs.{needs}
@@ -75,7 +75,7 @@ pub +all-orderable+orderable-spec : {M : Type 1} → statement M
     (λ c. all-goes-on (c .before .before .before .before .before .before .loop .inv) (c .before .before .before .before .part-at .result) (c .before .before .before .before .before .loop-test .taken) (c .before .before .before .before .part-at .ensures) (c .before .before .before .orderable .ensures) (c .before .r .given .0 .0) (c .before .r .given .1))
     (λ c. all-done (c .before .loop .inv) (c .loop-test .left)))
     λ t. orderable-lts.spec
-    (repr-reads.Asked, repr-reads.Learnt, all-orderable-below t, all-orderable.Post)
+    (head-reads.Asked, head-reads.Learnt, all-orderable-below t, all-orderable.Post)
     (orderable-at t)
     orderable.Post
     (λ c. order-no-visit (c .if1 .taken))
@@ -86,7 +86,7 @@ pub +all-orderable+orderable-spec : {M : Type 1} → statement M
     (λ c κs. search needs)
     (λ c. search needs)
     (λ c κs. search needs)
-    (λ c. order-fact (c .before .before .before .if1 .left) (c .before .before .repr .ensures) (c .enum-told .given .0 .0) (c .enum-told .given .1))
-    (λ c. order-record (c .before .before .before .before .before .if1 .left) (c .before .before .before .before .repr .ensures) (c .before .before .r .given .0 .0) (c .all-orderable .result) (c .before .before .r .given .1) (c .all-orderable .ensures))
-    (λ c. order-union (c .before .before .before .before .before .if1 .left) (c .before .before .before .before .repr .ensures) (c .before .before .r2 .given .0 .0) (c .all-orderable2 .result) (c .before .before .r2 .given .1) (c .all-orderable2 .ensures))
-    (λ c. order-else (c .before .before .if1 .left) (c .before .repr .ensures) (c .match .keys4))
+    (λ c. order-fact (c .before .before .before .if1 .left) (c .before .before .head .ensures) (c .enum-told .given .0 .0) (c .enum-told .given .1))
+    (λ c. order-record (c .before .before .before .before .before .if1 .left) (c .before .before .before .before .head .ensures) (c .before .before .r .given .0 .0) (c .all-orderable .result) (c .before .before .r .given .1) (c .all-orderable .ensures))
+    (λ c. order-union (c .before .before .before .before .before .if1 .left) (c .before .before .before .before .head .ensures) (c .before .before .r2 .given .0 .0) (c .all-orderable2 .result) (c .before .before .r2 .given .1) (c .all-orderable2 .ensures))
+    (λ c. order-else (c .before .before .if1 .left) (c .before .head .ensures) (c .match .keys4))

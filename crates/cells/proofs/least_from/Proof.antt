@@ -1,9 +1,17 @@
--- Made from Proof.ans by tools/answers, dcd3052d9f9d768f.
+-- Made from Proof.ans by tools/answers, 22cf1720644e2869.
 -- The least of the row is the least of the rest from j on; the measure is what is left of the parts.
 use Rattle.cells.proofs.least_from.Statement.{statement}
 use Rattle.cells.proofs.least_from.Tie as tie
+use Rattle.cells.proofs.least_from.Reads as reads
+use Rattle.cells.proofs.least_from.Lts as lts
+use Rattle.cells.proofs.count.Reads as count-reads
+use Rattle.cells.proofs.key_at.Reads as key-at-reads
+use Rattle.cells.proofs.lower.Reads as lower-reads
 use borrow.Author.Needs.{needs}
+use native.Mathlib.Omega.{arith}
+use mathlib.Core.Path.{refl, sym}
 use Prim.Native.Nat.{_-_}
+use Rattle.cells.specs.Words.{alternativeW}
 use Rattle.cells.proofs.Discriminants.{Lowering, scan-start, scan-next, scan-end}
 
 abbrev Inv-loop : tie.InvT-loop
@@ -24,5 +32,5 @@ least-from-spec =
     (λ c κs. search needs)
     (λ c. search needs)
     (λ c. search needs)
-    (λ c. scan-next (c .before .before .before .loop .inv) (c .before .alternative .result) (c .lower .result) (c .before .before .loop-test .taken) (c .before .alternative .ensures) (c .lower .ensures))
+    (λ c. scan-next (c .before .before .before .loop .inv) (alternativeW _ _ _) (c .lower .result) (c .before .before .loop-test .taken) refl (rw (c .before .key-at .ensures) at (c .lower .ensures)))
     (λ c. scan-end (c .before .loop .inv) (c .loop-test .left)))

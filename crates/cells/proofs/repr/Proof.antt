@@ -1,34 +1,27 @@
--- Made from Proof.ans by tools/answers, 17765c3575b808df.
--- What is left to follow from `at` is what the whole would follow; the measure is the number of steps left.
+-- Made from Proof.ans by tools/answers, 425e224ef1986a90.
+-- No unknown, a free one, or one bound to no unknown is told at once; else the chain is followed.
+use borrow.Author.Needs.{needs}
 use Rattle.cells.proofs.repr.Statement.{statement}
 use Rattle.cells.proofs.repr.Tie as tie
-use borrow.Author.Needs.{needs}
-use mathlib.Core.Path.{sym, _∙_}
-use Prim.Native.Nat.{suc, _-_}
-use Rattle.cells.proofs.Follow.{Following, follow-start, not-unknown, ends-shape, ends-free, follow-next, ends-last}
-
-abbrev Inv-loop : tie.InvT-loop
-Inv-loop w n k₀ at₀ k at = Following w at₀ n k at
-
-abbrev μ-loop : tie.MeasureT-loop
-μ-loop w n k₀ at₀ k at = suc n - k
+use Rattle.cells.proofs.repr.Reads as reads
+use Rattle.cells.proofs.repr.Lts as lts
+use Rattle.cells.proofs.follow_far.Reads as follow-far-reads
+use Rattle.cells.proofs.var_ty.Reads as var-ty-reads
+use native.Mathlib.Omega.{arith}
+use mathlib.Core.Path.{refl, sym, _∙_}
+use Rattle.cells.proofs.Follow.{follow-start, not-unknown, ends-shape, ends-free, ends-bound}
 
 pub repr-spec : {M : Type 1} → statement M
 repr-spec =
     tie.close
     (tie.spec
-    Inv-loop
-    μ-loop
-    (λ c κs. search needs)
-    (λ c κs. search needs)
-    (λ c. follow-start _ _ _)
     (λ c. search needs)
-    (λ c. ends-shape (c .before .before .loop .inv) (c .before .before .before .wide .ensures .0 ∙ c .before .before .before .before .word .ensures) (search needs) (not-unknown (c .before .before .loop .at) (c .match .keys2)))
+    (λ c. ends-shape (follow-start _ _ _) refl (omega arith) (not-unknown (c .before .before .args .t) (c .match .keys2)))
     (λ c κs. search needs)
     (λ c. search needs)
-    (λ c. ends-free (c .before .before .before .before .before .before .before .loop .inv) (c .before .before .before .before .before .before .before .before .wide .ensures .0 ∙ c .before .before .before .before .before .before .before .before .before .word .ensures) (c .before .before .before .before .at .given .0 .0) (c .before .before .before .before .at .given .1) (search needs) (sym (c .before .before .var-ty .ensures) ∙ c .enum-told .given .1))
+    (λ c. ends-free (follow-start _ _ _) refl (c .before .before .before .before .t .given .0 .0) (c .before .before .before .before .t .given .1) (omega arith) (sym (c .before .before .var-ty .ensures) ∙ c .enum-told .given .1))
     (λ c. search needs)
     (λ c. search needs)
-    (λ c. search needs)
-    (λ c. follow-next (c .before .before .before .before .before .before .before .before .loop .inv) (c .before .before .before .before .before .before .before .before .before .wide .ensures .0 ∙ c .before .before .before .before .before .before .before .before .before .before .word .ensures) (c .before .before .before .before .before .at .given .0 .0) (c .before .before .before .before .before .at .given .1) (search needs) (c .before .b .given .0 .0) (sym (c .before .before .before .var-ty .ensures) ∙ c .before .b .given .1))
-    (λ c. ends-last (c .before .loop .inv) (c .before .before .wide .ensures .0 ∙ c .before .before .before .word .ensures) (search needs)))
+    (λ c κs. search needs)
+    (λ c. rw (c .before .before .before .before .before .before .before .before .t .given .1) (c .follow-far .ensures))
+    (λ c. ends-bound (follow-start _ _ _) refl (c .before .before .before .before .before .before .t .given .0 .0) (c .before .before .before .before .before .before .t .given .1) (omega arith) (c .before .before .b .given .0 .0) (sym (c .before .before .before .before .var-ty .ensures) ∙ c .before .before .b .given .1) (not-unknown (c .before .before .b .given .0 .0) (c .match3 .keys2))))
