@@ -1,3 +1,5 @@
 mod Deciding
 mod Lining
 pub mod Demands
+pub mod Beginning
+pub mod CodeRun

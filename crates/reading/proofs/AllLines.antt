@@ -1,5 +1,5 @@
 -- The lines one after the other: what was read so far is held, and reading what is left from there is reading the file.
-use mathlib.Core.List.{List, [], _∷_, map}
+use mathlib.Core.List.{List, [], _∷_, _++_, map}
 use mathlib.Core.Option.{Option, none, some}
 use mathlib.Core.Path.{_≡_, refl, sym, ap, subst, _∙_}
 use Prim.Native.Nat.{ℕ, zero, suc, _-_, _<_, _≤_}
@@ -13,7 +13,10 @@ use Rattle.meaning.specs.Syntax.{Query}
 use Rattle.meaning.specs.Refusal as Refused
 use Rattle.meaning.specs.Frame.{kindByte, kindOf}
 use Rattle.meaning.specs.Lines.{lines}
-use Rattle.meaning.specs.SoFar.{SoFar, Said, said, saidBy, after}
+use Rattle.meaning.specs.SoFar.{SoFar, Said, start, said, saidBy, after}
+use Rattle.meaning.specs.Refused.{Pass, none-left, more}
+use Rattle.meaning.proofs.Conditions.{none-holds}
+use Rattle.meaning.proofs.Sound.{pass-kept}
 use Rattle.meaning.specs.Conditions.{conditions, firstOf}
 use Rattle.meaning.specs.File.{maxFile, Reading, refused, described, atEnd, readFrom, isTooLong, reading}
 use Rattle.meaning.specs.Outcome.{minWords, decideRead, decide}
@@ -33,19 +36,26 @@ use Rattle.reading.specs.declared.Step.the-variants.{On, Off}
 use Rattle.reading.specs.Held.{QueryHeld, Held}
 use Rattle.reading.specs.Contracts.{refusal, Line, Steps, TakesLine, noCounters, counted, Ends, TakesLines, readingIn}
 use Rattle.reading.proofs.Order.{first-malformed}
-use Rattle.reading.proofs.Ends.{nothing-held, whole-held}
+use Rattle.reading.proofs.Ends.{nothing-held, whole-held, all-declared}
 
 -- ---- Between two lines
+
+-- One line more passes.
+pass-on : {so mid : SoFar} {ls : List Said} (l : Said) → Pass so ls mid → firstOf conditions mid l ≡ none → Pass so (ls ++ l ∷ []) (after mid l)
+pass-on {mid = mid} l none-left e = more (none-holds conditions mid l e) none-left
+pass-on l (more a p) e = more a (pass-on l p e)
 
 pub record Midway (f w : List ℕ) (c : Counters) (previous at : ℕ) : Type 0 where
   pub rows : Rows
   pub so : SoFar
   pub held : Held f at w rows c previous so
   pub left : reading f ≡ readFrom so (map said (lines (drop at f)))
+  pub before : List Said
+  pub passed : Pass start before so
 
 pub midway-start : (f w : List ℕ) → length f ≤ 65536 → 16384 ≤ length w → Midway f w noCounters 6 0
 unfolding maxFile
-midway-start f w small long = record { rows = _; so = _; held = nothing-held f w small long; left = within f small }
+midway-start f w small long = record { rows = _; so = _; held = nothing-held f w small long; left = within f small; before = []; passed = none-left }
 
 ends-refused : (f w : List ℕ) (e : Refusal) (r : Reading) → r ≡ refused (refusal e) → Ends f w (Read.Refused e) r
 unfolding Ends
@@ -96,6 +106,8 @@ module _ {f w : List ℕ} {c : Counters} {previous at : ℕ} (m : Midway f w c p
               so = after (m .so) says;
               held = subst (λ x. Held f next w′ (s .2 .0) x kind (after (m .so) says)) (sym same) (s .2 .1);
               left = m .left ∙ next-lines h (m .so) ∙ read-next (m .so) says (map said (lines (drop next f))) q;
+              before = m .before ++ says ∷ [];
+              passed = pass-on says (m .passed) q;
             }
         go (some i) q s = let x = s .1 in let z : _≡_ {A = ℕ} 0 1 = cc in absurd (omega arith)
 
@@ -141,7 +153,7 @@ module _ {f w : List ℕ} {c : Counters} {previous at : ℕ} (m : Midway f w c p
         go none q =
             let x : QueryHeld f w (m .so .previous) none = rw q at (m .held .query) in
             absurd (x (sym previous-was ∙ ap kindAt e))
-        go (some y) q = subst (Ends f (counted w c) Read.Accepted) (sym (at-end ∙ ap (atEnd (m .so)) q)) (refl, (m .rows, whole-held (m .held) y q))
+        go (some y) q = subst (Ends f (counted w c) Read.Accepted) (sym (at-end ∙ ap (atEnd (m .so)) q)) (refl, (m .rows, whole-held (m .held) y q, all-declared (m .held) (pass-kept (m .passed))))
 
     pub midway-missing : (previous ≡ 5 → ⊥) → Ends f w (Read.Refused Refusal.MisplacedKind) (reading f)
     unfolding atEnd kindByte

@@ -7,21 +7,27 @@ use Prim.Native.Nat.{ℕ, _+_, _*_, _%_, _<_, _≤_}
 use native.Mathlib.Omega.{arith}
 use lib.ListN.{length, getD, length-map, List·getD-map}
 use Rattle.text.specs.Utf8.{characters, count}
+use Rattle.unification.specs.Ty as Tree
 use Rattle.unification.specs.Ty.{ε}
-use Rattle.work.specs.Layout.{NAME-COUNT, TYPE-COUNT, PREDICATE-COUNT, MAX-DISTANCE, MAX-TERM, QUERY, NAMES, FIELDS, RECORD-COUNT}
+use Rattle.unification.specs.Calls.{Declared}
+use Rattle.work.specs.Layout.{NAME-COUNT, TYPE-COUNT, PREDICATE-COUNT, MAX-DISTANCE, MAX-TERM, QUERY, NAMES, TYPES, FIELDS, RECORD-COUNT}
 use Rattle.cells.specs.declared.Kind.{Kind}
 use Rattle.cells.specs.declared.Kind.the-variants.{Fields, Alternatives}
 use Rattle.cells.specs.Words.{declaredW, countW, firstW, declaredField, alternativeW, partW}
-use Rattle.cells.specs.Stands.{Rows, partWords, Keeps}
+use Rattle.cells.specs.CodeCalls.{kindTree}
+use Rattle.cells.specs.Stands.{Rows, tree, tagOf, partWords, Keeps}
 use Rattle.meaning.specs.Syntax.{Query}
 use Rattle.meaning.specs.Frame as Frame
 use Rattle.meaning.specs.Lines.{position}
 use Rattle.meaning.specs.Conditions.{anyOf, among}
 use Rattle.meaning.specs.SoFar.{SoFar, start}
 use Rattle.meaning.specs.File.{countOf, describe}
+use Rattle.meaning.specs.All.{All}
+use Rattle.meaning.specs.Sound.{Kept}
+use Rattle.meaning.proofs.Lists.{all-at}
 use Rattle.tree.specs.Stands.{TypeCells, SchemaStands, Stands}
 use Rattle.reading.specs.declared.Counters.{Counters}
-use Rattle.reading.specs.Contracts.{noCounters, counts, counted}
+use Rattle.reading.specs.Contracts.{noCounters, counts, counted, Declares}
 use Rattle.reading.specs.Held.{LimitsHeld, partType, IsOf, TypesHeld, QueryHeld, Held}
 use Rattle.reading.proofs.Regions.{over, keeps-sets, WordsAt, sets-words}
 use Rattle.reading.proofs.Lines.{types-same, predicates-same, nodes-same}
@@ -105,4 +111,20 @@ module _ {f : List ℕ} {at : ℕ} {w : List ℕ} {T : Rows} {c : Counters} {pre
         few = h .nodes .few;
         node = nodes-same h (over kept (omega arith)) .node;
         query = query-kept (kept .above QUERY (omega arith)) (last .1);
+      }
+
+  -- Every schema type that was read is declared.
+  of-tag : (w : List ℕ) (T : Rows) (k : Kind) (t : ℕ) → getD w (TYPES + 2 * t) 0 % 16 ≡ tagOf k → tree T (declaredW w t) ≡ Tree.node (kindTree k) (T t)
+  unfolding declaredW
+  of-tag w T Fields t e = rw (e, declaredW)
+  of-tag w T Alternatives t e = rw (e, declaredW)
+
+  pub all-declared : Kept so → Declares (counted w c) T
+  all-declared k =
+      let types : getD (counted w c) TYPE-COUNT 0 ≡ length (so .types) = there .at 1 (omega arith) ∙ h .types .count in
+      let held = types-same h (over kept (omega arith)) (over kept (omega arith)) in
+      record {
+        cell = λ kind t lt e.
+            let inside : t < length (so .types) = omega arith in
+            subst Declared (held .type t inside ∙ of-tag (counted w c) T kind t e) (all-at Declared (so .types) t Tree.Error (k .types) inside);
       }

@@ -7,7 +7,9 @@ use Prim.Native.Nat.{ℕ, _+_, _*_, _/_, _%_, _<_, _≤_}
 use lib.Dec.{leb, ltb}
 use lib.ListN.{length, getD, drop, set, replicate}
 use lib.Seq.{sets}
-use Rattle.work.specs.Layout.{NAME-COUNT, NAMES, TYPES, PREDICATES}
+use Rattle.unification.specs.Ty as Tree
+use Rattle.unification.specs.Calls.{Declared}
+use Rattle.work.specs.Layout.{NAME-COUNT, TYPE-COUNT, NAMES, TYPES, PREDICATES}
 use Rattle.meaning.specs.Refusal as Refused
 use Rattle.meaning.specs.Frame as Frame
 use Rattle.meaning.specs.Frame.{mayStand, kindByte, kindOf, frameOf}
@@ -18,8 +20,10 @@ use Rattle.meaning.specs.Outcome.{minWords}
 use Rattle.text.specs.Utf8.{characters}
 use Rattle.hex.specs.Digits.{lineAt}
 use Rattle.frames.specs.Contracts.{numberOf}
+use Rattle.cells.specs.declared.Kind.{Kind}
+use Rattle.cells.specs.CodeCalls.{kindTree}
 use Rattle.cells.specs.Words.{pick}
-use Rattle.cells.specs.Stands.{Rows}
+use Rattle.cells.specs.Stands.{Rows, tagOf}
 use Rattle.reading.specs.declared.Refusal.{Refusal}
 use Rattle.reading.specs.declared.Refusal.the-variants as Refusal
 use Rattle.reading.specs.declared.Read.{Read}
@@ -162,10 +166,14 @@ counts c = c .names ∷ c .types ∷ c .predicates ∷ c .nodes ∷ c .value ∷
 abbrev pub counted : List ℕ → Counters → List ℕ
 counted w c = sets w NAME-COUNT (counts c)
 
+-- Every schema type that was read, named by a predicate or not, is one that a file past 1 to 10 can declare.
+pub record Declares (w : List ℕ) (T : Rows) : Type 0 where
+  pub cell : (k : Kind) (c : ℕ) → c < getD w TYPE-COUNT 0 → getD w (TYPES + 2 * c) 0 % 16 ≡ tagOf k → Declared (Tree.node (kindTree k) (T c))
+
 -- Refused exactly as the definition says, or what the definition describes stands in the slice.
 unfoldable pub Ends : List ℕ → List ℕ → Read → Reading → Type 0
 Ends f w′ r (refused e) = (e′ : Refusal) × (r ≡ Read.Refused e′) × (refusal e′ ≡ e)
-Ends f w′ r (described d) = (r ≡ Read.Accepted) × ((T : Rows) × Stands f w′ T d)
+Ends f w′ r (described d) = (r ≡ Read.Accepted) × ((T : Rows) × Stands f w′ T d × Declares w′ T)
 
 pub record TakesLines (f w w′ : List ℕ) (r : Read) : Type 0 where
   pub ends : Ends f w′ r (reading f)
