@@ -1,5 +1,6 @@
 -- Document 01's three demands of the whole call, for every file and every two lengths.
 use mathlib.Core.List.{List, [], _∷_, _++_}
+use mathlib.Core.Option.{Option, none, some}
 use mathlib.Core.Path.{_≡_, refl, sym, ap, _∙_, subst}
 use Prim.Native.Nat.{ℕ, _+_, _-_, _<_, _≤_}
 use native.Mathlib.Omega.{arith}
@@ -10,13 +11,18 @@ use borrow.Author.Tests.{ltb-true, ltb-false, lt-ltb, le-ltb}
 use Rattle.meaning.specs.Refusal.{Refusal, workTooShort, tooManyVisits, answerTooLong, number}
 use Rattle.meaning.specs.Refused as Lines
 use Rattle.meaning.specs.Content.{Says}
-use Rattle.meaning.specs.File.{Described, Reading, refused, described, reading}
-use Rattle.meaning.specs.Check.{Typed, Checked, typed, exhausted, check}
-use Rattle.meaning.specs.Answer.{answerLines, hexLine}
-use Rattle.meaning.specs.Outcome.{Decided, turnedDown, answered, Outcome, Accepted, Refused, minWords, maxVisits, decideChecked, decideRead, decide, refuse, accept, finish, outcome}
+use Rattle.meaning.specs.Syntax.{Ast}
+use Rattle.meaning.specs.All.{All, Any, Each}
+use Rattle.meaning.specs.File.{Form, viewOf, Reading, refused, described, reading}
+use Rattle.meaning.specs.Sound.{Sound}
+use Rattle.meaning.specs.Check.{Typed}
+use Rattle.meaning.specs.Answer.{formLines, hexLine}
+use Rattle.meaning.specs.Outcome.{Decided, turnedDown, answered, Outcome, Accepted, Refused, minWords, maxVisits, runAll, decideRun, decideRead, decide, refuse, accept, finish, outcome}
 use Rattle.meaning.proofs.Tests.{cases}
 use Rattle.meaning.proofs.Refused.{refused-when}
 use Rattle.meaning.proofs.Content.{says-exactly}
+use Rattle.meaning.proofs.Lists.{all-map}
+use Rattle.meaning.proofs.Forms.{Ran, RanOut, Runs, all-ran, one-out, runs, each-ran, any-out}
 use Rattle.meaning.proofs.Sound.{sound}
 use Rattle.meaning.proofs.Run.{sound-wellFormed, run-led, run-demand-3, run-whole}
 use Rattle.desk.specs.Demands.{RefusedWhen, for-work, for-file, for-visits, for-answer, AcceptedWhen, Demand1, Demand2, Demand3, CallRefused, CallAccepted, shown}
@@ -33,8 +39,8 @@ module _ (file : List ℕ) (words : ℕ) where
   data Decides : Decided → Type 0 where
     short : words < minWords → Decides (turnedDown workTooShort)
     unread : {i : Refusal} → minWords ≤ words → Lines.Refused file i → Decides (turnedDown i)
-    spent : (d : Described) → minWords ≤ words → Says file d → check maxVisits (d .schema) (d .ast) ≡ exhausted → Decides (turnedDown tooManyVisits)
-    answers : (d : Described) (t : Typed) → minWords ≤ words → Says file d → check maxVisits (d .schema) (d .ast) ≡ typed t → Decides (answered (answerLines t))
+    spent : (f : Form) → minWords ≤ words → Says file f → Any (RanOut (f .schema)) (f .queries) → Decides (turnedDown tooManyVisits)
+    answers : (f : Form) (ts : List Typed) → minWords ≤ words → Says file f → Each (Ran (f .schema)) (f .queries) ts → Decides (answered (formLines ts))
 
   short-decides : words < minWords → decide file words ≡ turnedDown workTooShort
   unfolding decide
@@ -48,23 +54,23 @@ module _ (file : List ℕ) (words : ℕ) where
   unfolding decideRead
   unread-decides i h r = enough-decides h ∙ ap decideRead (refused-when file i .1 r)
 
-  says-decides : (d : Described) (x : Checked) → minWords ≤ words → Says file d → check maxVisits (d .schema) (d .ast) ≡ x → decide file words ≡ decideChecked x
+  says-decides : (f : Form) (x : Option (List Typed)) → minWords ≤ words → Says file f → runAll (f .schema) (f .queries) ≡ x → decide file words ≡ decideRun x
   unfolding decideRead
-  says-decides d x h s e = enough-decides h ∙ ap decideRead (says-exactly file d .1 s) ∙ ap decideChecked e
+  says-decides f x h s e = enough-decides h ∙ ap decideRead (says-exactly file f .1 s) ∙ ap decideRun e
 
   decides : Decides (decide file words)
-  unfolding decideChecked
+  unfolding decideRun
   decides = cases (ltb words minWords)
       (λ b. let h = ltb-true words minWords b in subst Decides (sym (short-decides h)) (short h))
       (λ b. read (ltb-false words minWords b) (reading file) refl)
     where
-      checks : minWords ≤ words → (d : Described) → Says file d → (x : Checked) → check maxVisits (d .schema) (d .ast) ≡ x → Decides (decide file words)
-      checks h d s (typed t) e = subst Decides (sym (says-decides d (typed t) h s e)) (answers d t h s e)
-      checks h d s exhausted e = subst Decides (sym (says-decides d exhausted h s e)) (spent d h s e)
+      checks : minWords ≤ words → (f : Form) → Says file f → {x : Option (List Typed)} → Runs (f .schema) (f .queries) x → runAll (f .schema) (f .queries) ≡ x → Decides (decide file words)
+      checks h f s (all-ran ts r) e = subst Decides (sym (says-decides f (some ts) h s e)) (answers f ts h s r)
+      checks h f s (one-out r) e = subst Decides (sym (says-decides f none h s e)) (spent f h s r)
 
       read : minWords ≤ words → (r : Reading) → reading file ≡ r → Decides (decide file words)
       read h (refused i) e = let r = refused-when file i .0 e in subst Decides (sym (unread-decides i h r)) (unread h r)
-      read h (described d) e = checks h d (says-exactly file d .0 e) (check maxVisits (d .schema) (d .ast)) refl
+      read h (described f) e = checks h f (says-exactly file f .0 e) (runs (f .schema) (f .queries)) refl
 
   module _ (bytes : ℕ) where
     -- ---- How it ends
@@ -84,7 +90,7 @@ module _ (file : List ℕ) (words : ℕ) where
     -- The two ways of a call.
     data Ends : Outcome → Type 0 where
       refused-so : (i : Refusal) → RefusedWhen file words bytes i → Ends (refuse i words bytes)
-      accepted-so : (d : Described) (t : Typed) → AcceptedWhen file words bytes d t → Ends (accept (answerLines t) words bytes)
+      accepted-so : (f : Form) (ts : List Typed) → AcceptedWhen file words bytes f ts → Ends (accept (formLines ts) words bytes)
 
     ends : Ends (outcome file words bytes)
     ends = go decides refl
@@ -93,22 +99,22 @@ module _ (file : List ℕ) (words : ℕ) where
         go (short h) e = subst Ends (sym (down _ e)) (refused-so _ (for-work h))
         go (unread h r) e = subst Ends (sym (down _ e)) (refused-so _ (for-file h r))
         go (spent d h s c) e = subst Ends (sym (down _ e)) (refused-so _ (for-visits d h s c))
-        go (answers d t h s c) e = cases (ltb bytes (length (answerLines t)))
-            (λ b. let l = ltb-true bytes (length (answerLines t)) b in subst Ends (sym (over _ e l)) (refused-so _ (for-answer d t h s c l)))
-            (λ b. let l = ltb-false bytes (length (answerLines t)) b in subst Ends (sym (fitting _ e l)) (accepted-so d t (record { enough = h; says = s; checks = c; fits = l })))
+        go (answers d t h s c) e = cases (ltb bytes (length (formLines t)))
+            (λ b. let l = ltb-true bytes (length (formLines t)) b in subst Ends (sym (over _ e l)) (refused-so _ (for-answer d t h s c l)))
+            (λ b. let l = ltb-false bytes (length (formLines t)) b in subst Ends (sym (fitting _ e l)) (accepted-so d t (record { enough = h; says = s; checks = c; fits = l })))
 
     refuses : (i : Refusal) → RefusedWhen file words bytes i → outcome file words bytes ≡ refuse i words bytes
-    unfolding decideChecked
+    unfolding decideRun
     refuses i (for-work h) = down i (short-decides h)
     refuses i (for-file h r) = down i (unread-decides i h r)
-    refuses i (for-visits d h s c) = down i (says-decides d exhausted h s c)
-    refuses i (for-answer d t h s c l) = over (answerLines t) (says-decides d (typed t) h s c) l
+    refuses i (for-visits d h s c) = down i (says-decides d none h s (any-out (d .schema) (d .queries) c))
+    refuses i (for-answer d t h s c l) = over (formLines t) (says-decides d (some t) h s (each-ran (d .schema) (d .queries) t c)) l
 
-    accepts : (d : Described) (t : Typed) → AcceptedWhen file words bytes d t → outcome file words bytes ≡ accept (answerLines t) words bytes
-    unfolding decideChecked
-    accepts d t a = fitting (answerLines t) (says-decides d (typed t) (a .enough) (a .says) (a .checks)) (a .fits)
+    accepts : (d : Form) (t : List Typed) → AcceptedWhen file words bytes d t → outcome file words bytes ≡ accept (formLines t) words bytes
+    unfolding decideRun
+    accepts d t a = fitting (formLines t) (says-decides d (some t) (a .enough) (a .says) (each-ran (d .schema) (d .queries) t (a .checks))) (a .fits)
 
-    -- Every call is accepted or refused for one of the twelve reasons, each exactly under its condition; zeros as document 01 has them.
+    -- Every call is accepted or refused for one of the thirteen reasons, each exactly under its condition; zeros as document 01 has them.
     pub demand-1 : Demand1 file words bytes
     unfolding refuse accept
     demand-1 = record {
@@ -122,7 +128,7 @@ module _ (file : List ℕ) (words : ℕ) where
         why i (refused-so j h) e = let same : i ≡ j = cc in rw same h
         why i (accepted-so d t h) e = let z : _≡_ {A = ℕ} 0 1 = cc in absurd (omega arith)
 
-        passed : {o : Outcome} → Ends o → o .result ≡ Accepted → (d : Described) × (t : Typed) × AcceptedWhen file words bytes d t
+        passed : {o : Outcome} → Ends o → o .result ≡ Accepted → (d : Form) × (t : List Typed) × AcceptedWhen file words bytes d t
         passed (refused-so j h) e = let z : _≡_ {A = ℕ} 0 1 = cc in absurd (omega arith)
         passed (accepted-so d t h) e = (d, t, h)
 
@@ -139,17 +145,21 @@ module _ (file : List ℕ) (words : ℕ) where
     unfolding accept
     demand-2 e =
         let a = demand-1 .accepted-exactly .0 e in
-        record { d = a .0; t = a .1; when = a .2; answer = ap Outcome.answer (accepts (a .0) (a .1) (a .2)) }
+        record { f = a .0; ts = a .1; when = a .2; answer = ap Outcome.answer (accepts (a .0) (a .1) (a .2)) }
 
--- The run on what a file says is a list of demand 3's calls, and the claim holds of it.
-pub demand-3 : (file : List ℕ) (d : Described) → Says file d → Demand3 d
-demand-3 file d s =
-    let wf = sound-wellFormed d (sound file d (says-exactly file d .1 s)) in
-    record {
-      calls = run-led (d .schema) (d .ast) wf maxVisits;
-      claim = run-demand-3 (d .schema) (d .ast) wf maxVisits;
-      whole = run-whole (d .schema) (d .ast) wf maxVisits;
-    }
+-- The run on each query that a file says is a list of demand 3's calls, and the claim holds of it.
+pub demand-3 : (file : List ℕ) (f : Form) → Says file f → All (λ a. Demand3 (viewOf f a)) (f .queries)
+demand-3 file f s = all-map (λ a. Sound (viewOf f a)) (λ a. Demand3 (viewOf f a)) (f .queries) one (sound file f (says-exactly file f .1 s))
+  where
+    one : (a : Ast) → Sound (viewOf f a) → Demand3 (viewOf f a)
+    one a h =
+        let d = viewOf f a in
+        let wf = sound-wellFormed d h in
+        record {
+          calls = run-led (d .schema) (d .ast) wf maxVisits;
+          claim = run-demand-3 (d .schema) (d .ast) wf maxVisits;
+          whole = run-whole (d .schema) (d .ast) wf maxVisits;
+        }
 
 -- ---- Of a call of `check_file`, by its contract
 
@@ -164,25 +174,25 @@ module _ {f w buf w′ buf′ : List ℕ} where
       }
 
   pub call-accepted : (n : ℕ) → ChecksFile f w buf w′ buf′ (Call.Accepted n) → CallAccepted f w buf w′ buf′ n
-  unfolding decideChecked
+  unfolding decideRun
   call-accepted n h =
       let x = demand-2 f (length w) (length buf) (sym (h .result)) in
       let a = x .when in
       let told = h .ends n refl in
-      let same : answered (take n buf′) ≡ answered (answerLines (x .t)) = sym (told .1) ∙ says-decides f (length w) (x .d) (typed (x .t)) (a .enough) (a .says) (a .checks) in
-      let there : take n buf′ ≡ answerLines (x .t) = cc in
-      let all : buf′ ≡ answerLines (x .t) ++ replicate (length buf - length (answerLines (x .t))) 0 = h .answer ∙ x .answer in
-      let size : length buf′ ≡ length (answerLines (x .t)) + (length buf - length (answerLines (x .t))) =
-      ap length all ∙ length-append (answerLines (x .t)) (replicate (length buf - length (answerLines (x .t))) 0) ∙ ap (λ m. length (answerLines (x .t)) + m) (length-replicate {A = ℕ} (length buf - length (answerLines (x .t))) 0) in
-      let long : n ≡ length (answerLines (x .t)) = sym (length-take-le n buf′ (omega (arith, size, a .fits, told .0))) ∙ ap length there in
-      record { d = x .d; t = x .t; when = a; work = h .work ∙ demand-1 f (length w) (length buf) .work-zeros; long = long; answer = all ∙ ap (λ m. answerLines (x .t) ++ replicate (length buf - m) 0) (sym long) }
+      let same : answered (take n buf′) ≡ answered (formLines (x .ts)) = sym (told .1) ∙ says-decides f (length w) (x .f) (some (x .ts)) (a .enough) (a .says) (each-ran (x .f .schema) (x .f .queries) (x .ts) (a .checks)) in
+      let there : take n buf′ ≡ formLines (x .ts) = cc in
+      let all : buf′ ≡ formLines (x .ts) ++ replicate (length buf - length (formLines (x .ts))) 0 = h .answer ∙ x .answer in
+      let size : length buf′ ≡ length (formLines (x .ts)) + (length buf - length (formLines (x .ts))) =
+      ap length all ∙ length-append (formLines (x .ts)) (replicate (length buf - length (formLines (x .ts))) 0) ∙ ap (λ m. length (formLines (x .ts)) + m) (length-replicate {A = ℕ} (length buf - length (formLines (x .ts))) 0) in
+      let long : n ≡ length (formLines (x .ts)) = sym (length-take-le n buf′ (omega (arith, size, a .fits, told .0))) ∙ ap length there in
+      record { form = x .f; ts = x .ts; when = a; work = h .work ∙ demand-1 f (length w) (length buf) .work-zeros; long = long; answer = all ∙ ap (λ m. formLines (x .ts) ++ replicate (length buf - m) 0) (sym long) }
 
 prints-refused : (f : List ℕ) (words bytes : ℕ) (i : Refusal) → RefusedWhen f words bytes i → printedLines (decide f words) bytes ≡ hexLine (0x0f ∷ number i ∷ [])
-unfolding printedLines decideChecked
+unfolding printedLines decideRun
 prints-refused f words bytes i (for-work h) = ap (λ x. printedLines x bytes) (short-decides f words h)
 prints-refused f words bytes i (for-file h r) = ap (λ x. printedLines x bytes) (unread-decides f words i h r)
-prints-refused f words bytes i (for-visits d h s c) = ap (λ x. printedLines x bytes) (says-decides f words d exhausted h s c)
-prints-refused f words bytes i (for-answer d t h s c l) = ap (λ x. printedLines x bytes) (says-decides f words d (typed t) h s c) ∙ rw (lt-ltb bytes (length (answerLines t)) l, printedLines)
+prints-refused f words bytes i (for-visits d h s c) = ap (λ x. printedLines x bytes) (says-decides f words d none h s (any-out (d .schema) (d .queries) c))
+prints-refused f words bytes i (for-answer d t h s c l) = ap (λ x. printedLines x bytes) (says-decides f words d (some t) h s (each-ran (d .schema) (d .queries) t c)) ∙ rw (lt-ltb bytes (length (formLines t)) l, printedLines)
 
 prints-accepted : (f : List ℕ) (words bytes : ℕ) (ls : List ℕ) → decide f words ≡ answered ls → length ls ≤ bytes → printedLines (decide f words) bytes ≡ ls
 unfolding printedLines

@@ -5,18 +5,18 @@ use Prim.Native.Nat.{ℕ, suc, _+_, _*_, _≤_}
 use native.Mathlib.Omega.{arith}
 use lib.ListN.{length, length-append, length-map}
 use Rattle.unification.specs.Ty.{Int, Bytes, Fact, Record, Ty, rowLen}
-use Rattle.meaning.specs.Syntax.{Field, QueryStmt, FieldRef, Literal, ExprKind, Node}
+use Rattle.meaning.specs.Syntax.{Field, QueryStmt, FieldRef, Literal, ExprKind, Node, Ast}
 use Rattle.meaning.specs.Lines.{Line, lines, maxBytes}
 use Rattle.meaning.specs.Frame.{Alternative, TypeShape, aLeaf, aRecord, aUnion, Frame, theLimits, aName, aType, aPredicate, aNode, theQuery}
 use Rattle.meaning.specs.References.{fieldValues, stmtNodes, queryNodes, exprNodes}
 use Rattle.meaning.specs.SoFar.{SoFar, said, start, fieldRow, alternativeRow, tyOf, add}
-use Rattle.meaning.specs.File.{Described, maxFile}
+use Rattle.meaning.specs.File.{Form, maxFile}
 use Rattle.meaning.specs.All.{All}
 use Rattle.meaning.specs.Writing.{asField, asAlternative, asShape, asStatement, asQuery, asExpr, asNode, asContent, written, fileOf, Writable}
 use Rattle.meaning.specs.Answer.{bytes₂, hexLine}
 use Rattle.meaning.proofs.Obeys.{Rules, done, next}
 use Rattle.meaning.specs.Refused.{Pass}
-use Rattle.meaning.specs.Sound.{typeWords, allWords, maxWords, Narrow, Roomy}
+use Rattle.meaning.specs.Sound.{typeWords, allWords, maxWords, Narrow, Few, Roomy}
 use Rattle.meaning.proofs.Lists.{all-snoc}
 use Rattle.meaning.proofs.Lines.{together, lines-together, together-append}
 use Rattle.meaning.proofs.Refused.{Accepted}
@@ -142,9 +142,6 @@ narrow-add so (aPredicate n k v) w a = a
 narrow-add so (aNode n) w a = a
 narrow-add so (theQuery q) w a = a
 
-abbrev Few : Node → Type 0
-Few n = length (exprNodes (n .kind)) ≤ 251
-
 few-add : (so : SoFar) (f : Frame) → Writable f → All Few (so .nodes) → All Few (add so f .nodes)
 unfolding add
 few-add so (theLimits d t) w a = a
@@ -152,7 +149,19 @@ few-add so (aName s) w a = a
 few-add so (aType t) w a = a
 few-add so (aPredicate n k v) w a = a
 few-add so (aNode n) w a = all-snoc Few (so .nodes) n a (node-room n w)
-few-add so (theQuery q) w a = a
+few-add so (theQuery q) w a = tt
+
+abbrev FewEach : List Ast → Type 0
+FewEach l = All (λ a. All Few (a .nodes)) l
+
+few-each-add : (so : SoFar) (f : Frame) → All Few (so .nodes) → FewEach (so .queries) → FewEach (add so f .queries)
+unfolding add
+few-each-add so (theLimits d t) b a = a
+few-each-add so (aName s) b a = a
+few-each-add so (aType t) b a = a
+few-each-add so (aPredicate n k v) b a = a
+few-each-add so (aNode n) b a = a
+few-each-add so (theQuery q) b a = all-snoc (λ x. All Few (x .nodes)) (so .queries) (record { nodes = so .nodes; query = q }) a b
 
 narrow-rules : {so end : SoFar} {fs : List Frame} → Rules so fs end → All Writable fs → All Narrow (so .types) → All Narrow (end .types)
 narrow-rules done w a = a
@@ -161,6 +170,10 @@ narrow-rules (next {so = so} {f = f} o r) w a = narrow-rules r (w .1) (narrow-ad
 few-rules : {so end : SoFar} {fs : List Frame} → Rules so fs end → All Writable fs → All Few (so .nodes) → All Few (end .nodes)
 few-rules done w a = a
 few-rules (next {so = so} {f = f} o r) w a = few-rules r (w .1) (few-add so f (w .0) a)
+
+few-each-rules : {so end : SoFar} {fs : List Frame} → Rules so fs end → All Writable fs → All Few (so .nodes) → FewEach (so .queries) → FewEach (end .queries)
+few-each-rules done w b a = a
+few-each-rules (next {so = so} {f = f} o r) w b a = few-each-rules r (w .1) (few-add so f (w .0) b) (few-each-add so f b a)
 
 -- ---- Lines that have passed, whatever follows them
 
@@ -189,8 +202,9 @@ roomy file so h b =
       words = omega (arith, words-rules (b .rules), b .size);
       narrow = narrow-rules (b .rules) (b .writable) tt;
       few = few-rules (b .rules) (b .writable) tt;
+      fewEach = few-each-rules (b .rules) (b .writable) tt tt;
     }
 
 -- The same of a described file.
-pub described-begun : (file : List ℕ) (d : Described) (a : Accepted file d) → Begun file (a .end)
+pub described-begun : (file : List ℕ) (d : Form) (a : Accepted file d) → Begun file (a .end)
 described-begun file d a = begun file (lines file) [] (a .end) (sym (append-nil (lines file))) (a .pass)

@@ -23,12 +23,12 @@ use Rattle.meaning.specs.Syntax.{Node, Ast}
 use Rattle.meaning.specs.Schema.{Schema}
 use Rattle.meaning.specs.References.{stmtNodes, queryNodes}
 use Rattle.meaning.specs.Conditions.{maxNodes}
-use Rattle.meaning.specs.File.{Described, described, reading}
+use Rattle.meaning.specs.File.{Described, Form, viewAt, described, reading}
 use Rattle.meaning.specs.All.{All}
 use Rattle.meaning.specs.Sound.{Sound}
 use Rattle.meaning.specs.Check.{Checker, Step, goes, Walk, walk, query, begin}
 use Rattle.meaning.specs.Run.{Led, between-calls, at-the-limit, ending, WellFormed, run, Room, Grows, same, sumOf, total, weight, size, records, recordFields}
-use Rattle.meaning.proofs.Sound.{sound}
+use Rattle.meaning.proofs.Sound.{sound-at}
 use Rattle.meaning.proofs.Depth.{lower-falls}
 use Rattle.meaning.proofs.Meets.{Grade, unknowns, Orderly, Ready, Made, Reached, Stopped, Meets, went, ended, going, made-more}
 use Rattle.meaning.proofs.Steps.{IsSide, Nothing}
@@ -183,17 +183,20 @@ module _ (schema : Schema) (ast : Ast) (wf : WellFormed schema ast) where
         annotations = omega (arith, len);
       }
 
--- ---- For every file that passes
+-- ---- For every query of a file that passes
 pub sound-wellFormed : (d : Described) → Sound d → WellFormed (d .schema) (d .ast)
 sound-wellFormed d s = record { declared = s .predicates; lower = s .lower; once = s .once; query = s .query }
 
-module _ (file : List ℕ) (d : Described) (is : reading file ≡ described d) (ceiling : ℕ) where
+module _ (file : List ℕ) (f : Form) (is : reading file ≡ described f) (k : ℕ) (below : k < length (f .queries)) (ceiling : ℕ) where
+  abbrev d : Described
+  d = viewAt f k
+
   pub file-demand-3 : Claim Assignment (ending (run (d .schema) (d .ast) ceiling) .state)
-  file-demand-3 = run-demand-3 (d .schema) (d .ast) (sound-wellFormed d (sound file d is)) ceiling
+  file-demand-3 = run-demand-3 (d .schema) (d .ast) (sound-wellFormed d (sound-at file f is k below)) ceiling
 
   pub file-room : Room maxNodes (ending (run (d .schema) (d .ast) ceiling))
   file-room =
-      let s = sound file d is in
+      let s = sound-at file f is k below in
       let r = run-room (d .schema) (d .ast) (sound-wellFormed d s) ceiling in
       record {
         unknowns = omega (arith, r .unknowns, s .nodesMax);
@@ -204,7 +207,7 @@ module _ (file : List ℕ) (d : Described) (is : reading file ≡ described d) (
       }
 
   pub file-records : sumOf (λ n. records (d .ast .nodes) (length (d .ast .nodes)) n) (queryNodes (d .ast .query)) ≤ maxNodes
-  file-records = let s = sound file d is in omega (arith, query-records (d .schema) (d .ast) (sound-wellFormed d s), s .nodesMax)
+  file-records = let s = sound-at file f is k below in omega (arith, query-records (d .schema) (d .ast) (sound-wellFormed d s), s .nodesMax)
 
   pub file-fields : sumOf (λ n. recordFields (d .ast .nodes) (length (d .ast .nodes)) n) (queryNodes (d .ast .query)) < maxNodes
-  file-fields = let s = sound file d is in omega (arith, query-fields (d .schema) (d .ast) (sound-wellFormed d s), s .nodesMax)
+  file-fields = let s = sound-at file f is k below in omega (arith, query-fields (d .schema) (d .ast) (sound-wellFormed d s), s .nodesMax)

@@ -10,16 +10,15 @@ use Rattle.text.specs.Utf8.{characters}
 use Rattle.text.specs.Surrogates.{HasSurrogate, charactersOpen}
 use Rattle.text.proofs.Surrogates.{kept, turned-down}
 use Rattle.meaning.specs.All.{All}
-use Rattle.meaning.specs.Refusal.{Refusal, malformedLine, misplacedKind, tooMany, malformedFrame, brokenText, nameGivenBefore, badReference, repeatedKey}
-use Rattle.meaning.specs.Syntax.{Query}
-use Rattle.meaning.specs.Frame.{Frame, theLimits, aName, aType, aPredicate, aNode, theQuery}
+use Rattle.meaning.specs.Refusal.{Refusal, malformedLine, misplacedKind, tooMany, malformedFrame, brokenText, nameGivenBefore, badReference, repeatedKey, tooManyQueries}
+use Rattle.meaning.specs.Frame.{Kind, limits, name, schemaType, predicate, node, query, Frame, theLimits, aName, aType, aPredicate, aNode, theQuery}
 use Rattle.meaning.specs.References.{textsOf}
 use Rattle.meaning.specs.Lines.{lines}
 use Rattle.meaning.specs.SoFar.{Said, malformed, unknownKind, noFrame, frames, said, SoFar, start, add, after}
-use Rattle.meaning.specs.Conditions.{anyOf, ofFrame, broken, Condition, conditions, firstOf, isMalformed, isMisplaced, isOneTooMany, isNoFrame, isBrokenText, isNameGivenBefore, isBadReference, isRepeatedKey}
-use Rattle.meaning.specs.File.{Reading, refused, described, countOf, describe, atEnd, readFrom, isTooLong, reading}
+use Rattle.meaning.specs.Conditions.{anyOf, ofFrame, broken, Condition, conditions, firstOf, isMalformed, isMisplaced, isOneTooMany, isQueryTooMany, isNoFrame, isBrokenText, isNameGivenBefore, isBadReference, isRepeatedKey}
+use Rattle.meaning.specs.File.{Reading, refused, described, countOf, schemaOf, describe, atEnd, readFrom, isTooLong, reading}
 use Rattle.meaning.specs.Outcome.{Decided, turnedDown, decideRead, decide, minWords, finish, outcome}
-use Rattle.meaning.specs.Surrogates.{brokenOpen, isBrokenOpen, conditionsOpen, describeOpen, atEndOpen, readFromOpen, readingOpen, decideOpen, outcomeOpen, NoSurrogate, NoSurrogateOn, NoSurrogateIn}
+use Rattle.meaning.specs.Surrogates.{brokenOpen, isBrokenOpen, conditionsOpen, schemaOpen, describeOpen, atEndOpen, readFromOpen, readingOpen, decideOpen, outcomeOpen, NoSurrogate, NoSurrogateOn, NoSurrogateIn}
 use Rattle.meaning.proofs.Lists.{all-snoc}
 
 same-broken : (s : List ℕ) → NoSurrogate s → broken s ≡ brokenOpen s
@@ -64,6 +63,7 @@ same-first so l w =
     (record { refusal = malformedLine; holds = isMalformed } ∷
     record { refusal = misplacedKind; holds = isMisplaced } ∷
     record { refusal = tooMany; holds = isOneTooMany } ∷
+    record { refusal = tooManyQueries; holds = isQueryTooMany } ∷
     record { refusal = malformedFrame; holds = isNoFrame } ∷
     [])
     (record { refusal = nameGivenBefore; holds = isNameGivenBefore } ∷
@@ -93,16 +93,21 @@ same-counts (s ∷ ts) w =
     let more = same-counts ts (w .1) in
     cc
 
-same-end : (so : SoFar) (q : Option Query) → All NoSurrogate (so .names) → atEnd so q ≡ atEndOpen so q
-unfolding atEnd atEndOpen describe describeOpen
+same-end : (so : SoFar) (k : Option Kind) → All NoSurrogate (so .names) → atEnd so k ≡ atEndOpen so k
+unfolding atEnd atEndOpen describe describeOpen schemaOf schemaOpen
 same-end so none h = refl
-same-end so (some q) h = rw (same-counts (so .names) h)
+same-end so (some limits) h = refl
+same-end so (some name) h = refl
+same-end so (some schemaType) h = refl
+same-end so (some predicate) h = refl
+same-end so (some node) h = refl
+same-end so (some query) h = rw (same-counts (so .names) h)
 
 -- ---- Line after line
 
 same-from : (so : SoFar) (ls : List Said) → All NoSurrogate (so .names) → All NoSurrogateOn ls → readFrom so ls ≡ readFromOpen so ls
 unfolding readFrom readFromOpen
-same-from so [] h w = same-end so (so .query) h
+same-from so [] h w = same-end so (so .previous) h
 same-from so (l ∷ ls) h w = go (same-from (after so l) ls (names-after so l h (w .0)) (w .1)) (firstOf conditionsOpen so l) refl
   where
     go : readFrom (after so l) ls ≡ readFromOpen (after so l) ls → (o : Option Refusal) → firstOf conditionsOpen so l ≡ o → readFrom so (l ∷ ls) ≡ readFromOpen so (l ∷ ls)

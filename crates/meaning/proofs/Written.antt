@@ -11,7 +11,7 @@ use borrow.Author.Tests.{leb-true, le-leb}
 use Rattle.meaning.specs.Lines.{Line, closed, unclosed, LF, lines, decoded, maxBytes, atMost, someBytes, bytesOf}
 use Rattle.meaning.specs.Frame.{Kind, kindByte, kindOf, Frame, frameKind, Got, got, fails, frame, whole, frameOf}
 use Rattle.meaning.specs.SoFar.{malformed, frames, saidOf, saidIn, saidBy, said}
-use Rattle.meaning.specs.File.{Described, described, reading}
+use Rattle.meaning.specs.File.{Form, described, reading}
 use Rattle.meaning.specs.All.{All}
 use Rattle.meaning.specs.Writing.{Byte, Fits, asContent, written, fileOf, Writable}
 use Rattle.meaning.proofs.Obeys.{Written}
@@ -144,7 +144,7 @@ are-lines (l ∷ ls) (f ∷ fs) e = go (said-line l f (head-eq-of-cons-eq e)) (a
           writable = (i .writable, r .writable);
         }
 
-file-lines : (fs : List Frame) → All Writable fs → map said (lines (fileOf fs)) ≡ map frames fs
+pub file-lines : (fs : List Frame) → All Writable fs → map said (lines (fileOf fs)) ≡ map frames fs
 unfolding fileOf flatMap lines
 file-lines [] w = refl
 file-lines (f ∷ fs) w =
@@ -155,7 +155,7 @@ file-lines (f ∷ fs) w =
 
 -- ---- The theorem
 
-passes : (file : List ℕ) (d : Described) → reading file ≡ described d → Written file d
+passes : (file : List ℕ) (d : Form) → reading file ≡ described d → Written file d
 passes file d e =
     let a = described-when file d e in
     let o = pass-rules (a .pass) in
@@ -167,16 +167,15 @@ passes file d e =
       writable = l .writable;
       end = a .end;
       rules = o .rules;
-      query = a .query;
       last = a .last;
       describes = a .is;
     }
 
-accepts : (file : List ℕ) (d : Described) → Written file d → reading file ≡ described d
+accepts : (file : List ℕ) (d : Form) → Written file d → reading file ≡ described d
 accepts file d w =
-    accepted file (w .end) (w .query) (w .size) (rw (w .is, file-lines (w .these) (w .writable)) (rules-pass (w .rules))) (w .last)
+    accepted file (w .end) (w .size) (rw (w .is, file-lines (w .these) (w .writable)) (rules-pass (w .rules))) (w .last)
     ∙ ap described (sym (w .describes))
 
 -- A file describes a tree exactly where it is the writing of frames that obey the rules and describe that tree.
-pub described-exactly : (file : List ℕ) (d : Described) → (reading file ≡ described d) ↔ Written file d
+pub described-exactly : (file : List ℕ) (d : Form) → (reading file ≡ described d) ↔ Written file d
 described-exactly file d = (passes file d, accepts file d)

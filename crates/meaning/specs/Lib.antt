@@ -18,4 +18,6 @@ pub mod Content
 pub mod Outcome
 pub mod Table
 pub mod Run
+pub mod Alone
+pub mod OneQuery
 pub mod Surrogates

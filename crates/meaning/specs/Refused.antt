@@ -1,13 +1,15 @@
 -- When a file is turned down, and for which reason: document 01, "1, 2, then lines in file order, in each the lowest number, then the
--- missing 06", for 2 to 10. `refused-when` in proofs/Refused.antt says that `reading` refuses exactly so.
+-- missing 06", for 2 to 10 and 13. `refused-when` in proofs/Refused.antt says that `reading` refuses exactly so.
 use mathlib.Core.Bool.{true, false}
 use mathlib.Core.List.{List, [], _∷_, _++_, map}
-use mathlib.Core.Option.{none}
+use mathlib.Core.Logic.{_≢_}
+use mathlib.Core.Option.{some}
 use mathlib.Core.Path.{_≡_}
 use Prim.Native.Nat.{ℕ, _<_, _≤_}
 use lib.ListN.{length}
 use Rattle.meaning.specs.Refusal.{Refusal, fileTooLong, misplacedKind}
 use Rattle.meaning.specs.Lines.{lines}
+use Rattle.meaning.specs.Frame.{Kind}
 use Rattle.meaning.specs.SoFar.{SoFar, Said, said, start, after}
 use Rattle.meaning.specs.Conditions.{Condition, conditions}
 use Rattle.meaning.specs.File.{maxFile}
@@ -36,4 +38,4 @@ pub record AtLine (so : SoFar) (ls : List Said) (i : Refusal) : Type 0 where
 pub data Refused (file : List ℕ) : Refusal → Type 0 where
   tooLong : maxFile < length file → Refused file fileTooLong
   atLine : {i : Refusal} → length file ≤ maxFile → AtLine start (map said (lines file)) i → Refused file i
-  missingQuery : (end : SoFar) → length file ≤ maxFile → Pass start (map said (lines file)) end → end .query ≡ none → Refused file misplacedKind
+  missingQuery : (end : SoFar) → length file ≤ maxFile → Pass start (map said (lines file)) end → end .previous ≢ some Kind.query → Refused file misplacedKind

@@ -3,6 +3,7 @@
 -- file, its visits. proofs/Table.antt computes them all.
 use mathlib.Core.Bool.{Bool, true}
 use mathlib.Core.List.{List, [], _∷_, _++_}
+use mathlib.Core.Option.{Option, none, some}
 use Prim.Native.Nat.{ℕ, zero, suc, _+_, _/_, _%_}
 use Prim.Native.String.{String}
 use lib.Dec.{eqb}
@@ -11,9 +12,9 @@ use Rattle.text.specs.Utf8.{both}
 use Rattle.meaning.specs.Diag.{ascii}
 use Rattle.meaning.specs.Conditions.{sameText}
 use Rattle.meaning.specs.File.{Reading, refused, described, reading}
-use Rattle.meaning.specs.Check.{typed, exhausted, check}
+use Rattle.meaning.specs.Check.{Typed}
 use Rattle.meaning.specs.Answer.{hexLine}
-use Rattle.meaning.specs.Outcome.{decide, printedLines, maxVisits}
+use Rattle.meaning.specs.Outcome.{decide, printedLines, runAll}
 
 pub record Example : Type 0 where
   pub file : List ℕ
@@ -455,6 +456,54 @@ ownExamples =
     4 ∷
     []
 
+-- ---- Forms (card 3)
+
+-- M's query, so many times
+unfoldable pub again : ℕ → List ℕ
+unfolding text
+again zero = []
+again (suc n) = text ("05000000000000000300" ∷ "060000" ∷ []) ++ again n
+
+unfoldable pub forms : List Example
+unfolding accepted turnedDown text again
+forms =
+    -- two queries over one schema; each has its nodes and unknowns from 0
+    accepted (
+    "01020020" ∷
+    "0278" ∷
+    "050000000000000001030000" ∷
+    "060000" ∷
+    "05000000020000000300" ∷
+    "050000000400000005030000" ∷
+    "060001" ∷
+    [])
+    (
+    "0b0000" ∷
+    "070000060000" ∷
+    "0b0001" ∷
+    "070000ff" ∷
+    "070001060000" ∷
+    [])
+    0 ∷
+    -- 06 after 06, 03 and 02 after 06, and a 05 last
+    turnedDown (text ("01020020" ∷ "05000000000000000300" ∷ "060000" ∷ "060000" ∷ [])) 16384 65536 "0f04" ∷
+    turnedDown (text ("01020020" ∷ "05000000000000000300" ∷ "060000" ∷ "0300" ∷ [])) 16384 65536 "0f04" ∷
+    turnedDown (text ("01020020" ∷ "05000000000000000300" ∷ "060000" ∷ "0278" ∷ [])) 16384 65536 "0f04" ∷
+    turnedDown (text ("01020020" ∷ "05000000000000000300" ∷ "060000" ∷ "05000000000000000300" ∷ [])) 16384 65536 "0f04" ∷
+    -- a node of the query before is no earlier node
+    turnedDown (text ("01020020" ∷ "05000000000000000300" ∷ "060000" ∷ "0500000000000000030a0000" ∷ "060000" ∷ [])) 16384 65536 "0f09" ∷
+    -- the whole answer counts for 12: 2 * 16 bytes
+    record { file = text ("01020020" ∷ []) ++ again 2; words = 16384; bytes = 32; prints = text ("0b0000" ∷ "07000000" ∷ "0b0001" ∷ "07000000" ∷ []); visits = 0 } ∷
+    turnedDown (text ("01020020" ∷ []) ++ again 2) 16384 31 "0f0c" ∷
+    -- 13: the 65th 06, before 6 (a length wrong for 06) and after 4 (06 after 06)
+    turnedDown (text ("01020020" ∷ []) ++ again 65) 16384 65536 "0f0d" ∷
+    turnedDown (text ("01020020" ∷ []) ++ (again 64 ++ text ("05000000000000000300" ∷ "06" ∷ []))) 16384 65536 "0f0d" ∷
+    turnedDown (text ("01020020" ∷ []) ++ (again 64 ++ text ("060000" ∷ []))) 16384 65536 "0f04" ∷
+    turnedDown (text ("01020020" ∷ []) ++ (again 64 ++ text ("05000000000000000300" ∷ []))) 16384 65536 "0f04" ∷
+    -- a bad line of the last query is told before any run
+    turnedDown (text ("01020020" ∷ []) ++ (again 2 ++ text ("05000000000000000300" ∷ "060001" ∷ []))) 16384 65536 "0f09" ∷
+    []
+
 -- So many names, each another text of two characters.
 unfoldable pub nameLines : ℕ → List ℕ
 unfolding hexLine
@@ -486,10 +535,16 @@ refusals =
 
 -- ---- The test of a row
 
+-- of all queries together
+unfoldable pub visitsIn : Option (List Typed) → ℕ
+visitsIn none = 0
+visitsIn (some []) = 0
+visitsIn (some (t ∷ ts)) = t .visits + visitsIn (some ts)
+
 unfoldable pub visitsOf : Reading → ℕ
-unfolding check maxVisits
+unfolding visitsIn runAll
 visitsOf (refused r) = 0
-visitsOf (described d) = elim (check maxVisits (d .schema) (d .ast)) [ typed t ↦ t .visits | exhausted ↦ 0 ]
+visitsOf (described f) = visitsIn (runAll (f .schema) (f .queries))
 
 unfoldable pub holds : Example → Bool
 unfolding sameText decide printedLines visitsOf reading

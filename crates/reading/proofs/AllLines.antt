@@ -9,9 +9,8 @@ use lib.Dec.{ltb}
 use lib.ListN.{length, getD, take, drop}
 use borrow.Author.Tests.{lt-ltb, le-ltb}
 use Rattle.cells.specs.Stands.{Rows}
-use Rattle.meaning.specs.Syntax.{Query}
 use Rattle.meaning.specs.Refusal as Refused
-use Rattle.meaning.specs.Frame.{kindByte, kindOf}
+use Rattle.meaning.specs.Frame.{query, kindByte, kindOf}
 use Rattle.meaning.specs.Lines.{lines}
 use Rattle.meaning.specs.SoFar.{SoFar, Said, start, said, saidBy, after}
 use Rattle.meaning.specs.Refused.{Pass, none-left, more}
@@ -21,7 +20,7 @@ use Rattle.meaning.specs.Conditions.{conditions, firstOf}
 use Rattle.meaning.specs.File.{maxFile, Reading, refused, described, atEnd, readFrom, isTooLong, reading}
 use Rattle.meaning.specs.Outcome.{minWords, decideRead, decide}
 use Rattle.meaning.proofs.Tests.{cases}
-use Rattle.meaning.proofs.Refused.{read-refused, read-next, within}
+use Rattle.meaning.proofs.Refused.{read-refused, read-next, within, not-ended}
 use Rattle.hex.proofs.Line.{lines-at-end}
 use Rattle.frames.specs.Contracts.{Holds, Malformed, numberOf, kindAt}
 use Rattle.frames.proofs.Decoding.{holds-line}
@@ -33,10 +32,10 @@ use Rattle.reading.specs.declared.Read.the-variants as Read
 use Rattle.reading.specs.declared.Counters.{Counters}
 use Rattle.reading.specs.declared.Step.{Step}
 use Rattle.reading.specs.declared.Step.the-variants.{On, Off}
-use Rattle.reading.specs.Held.{QueryHeld, Held}
+use Rattle.reading.specs.Held.{Held}
 use Rattle.reading.specs.Contracts.{refusal, Line, Steps, TakesLine, noCounters, counted, Ends, TakesLines, readingIn}
 use Rattle.reading.proofs.Order.{first-malformed}
-use Rattle.reading.proofs.Ends.{nothing-held, whole-held, all-declared}
+use Rattle.reading.proofs.Ends.{nothing-held, schema-held, long-held, all-declared}
 
 -- ---- Between two lines
 
@@ -122,12 +121,12 @@ module _ {f w : List ℕ} {c : Counters} {previous at : ℕ} (m : Midway f w c p
 
   -- what `take_line` asks
   pub midway-asks : {line : List ℕ} {n next : ℕ} → Holds f at line n next → at < length f
-      → (at < 65536) × (0 < length (take (n - 0) line)) × (length (take (n - 0) line) ≤ 512) × (16384 ≤ length w) × (c .names ≤ 256) × (c .types ≤ 256) × (c .fields ≤ 8192) × (c .nodes ≤ 512)
+      → (at < 65536) × (0 < length (take (n - 0) line)) × (length (take (n - 0) line) ≤ 512) × (16384 ≤ length w) × (c .names ≤ 256) × (c .types ≤ 256) × (c .fields ≤ 8192) × (c .nodes ≤ 512) × (c .queries ≤ 64)
   midway-asks {n = n} h l =
       let b = line-holds h in
       let o = m .held in
       rw (sub-zero n)
-      (omega (arith, o .small), b .some, b .most, o .long, omega (arith, o .names .count, o .names .few), omega (arith, o .types .count, o .types .few), omega (arith, o .room, o .place, o .small), omega (arith, o .nodes .count, o .nodes .few))
+      (omega (arith, o .small), b .some, b .most, o .long, omega (arith, o .names .count, o .names .few), omega (arith, o .types .count, o .types .few), omega (arith, o .room, o .place, o .small), omega (arith, o .nodes .count, o .nodes .few), omega (arith, o .queries, o .turns))
 
   pub midway-bad : Malformed f at → Ends f w (Read.Refused Refusal.MalformedLine) (reading f)
   unfolding said saidBy
@@ -138,7 +137,7 @@ module _ {f w : List ℕ} {c : Counters} {previous at : ℕ} (m : Midway f w c p
 
   -- ---- The end of the file
   module _ (last : length f ≤ at) where
-    at-end : reading f ≡ atEnd (m .so) (m .so .query)
+    at-end : reading f ≡ atEnd (m .so) (m .so .previous)
     unfolding readFrom
     at-end = m .left ∙ ap (λ ls. readFrom (m .so) (map said ls)) (lines-at-end f at last)
 
@@ -147,23 +146,13 @@ module _ {f w : List ℕ} {c : Counters} {previous at : ℕ} (m : Midway f w c p
 
     pub midway-whole : previous ≡ 5 → Ends f (counted w c) Read.Accepted (reading f)
     unfolding atEnd Ends kindOf
-    midway-whole e = go (m .so .query) refl
-      where
-        go : (o : Option Query) → m .so .query ≡ o → Ends f (counted w c) Read.Accepted (reading f)
-        go none q =
-            let x : QueryHeld f w (m .so .previous) none = rw q at (m .held .query) in
-            absurd (x (sym previous-was ∙ ap kindAt e))
-        go (some y) q = subst (Ends f (counted w c) Read.Accepted) (sym (at-end ∙ ap (atEnd (m .so)) q)) (refl, (m .rows, whole-held (m .held) y q, all-declared (m .held) (pass-kept (m .passed))))
+    midway-whole e =
+        let was : m .so .previous ≡ some query = sym previous-was ∙ ap kindAt e in
+        subst (Ends f (counted w c) Read.Accepted) (sym (at-end ∙ ap (atEnd (m .so)) was)) (refl, long-held (m .held), (m .rows, schema-held (m .held) query was, all-declared (m .held) (pass-kept (m .passed))))
 
     pub midway-missing : (previous ≡ 5 → ⊥) → Ends f w (Read.Refused Refusal.MisplacedKind) (reading f)
-    unfolding atEnd kindByte
-    midway-missing e = go (m .so .query) refl
-      where
-        go : (o : Option Query) → m .so .query ≡ o → Ends f w (Read.Refused Refusal.MisplacedKind) (reading f)
-        go none q = ends-refused f w Refusal.MisplacedKind (reading f) (at-end ∙ ap (atEnd (m .so)) q)
-        go (some y) q =
-            let x : QueryHeld f w (m .so .previous) (some y) = rw q at (m .held .query) in
-            absurd (e (m .held .kind ∙ ap numberOf (x .0)))
+    unfolding kindByte
+    midway-missing e = ends-refused f w Refusal.MisplacedKind (reading f) (at-end ∙ not-ended (m .so) (m .so .previous) (λ q. e (m .held .kind ∙ ap numberOf q)))
 
 -- ---- The file
 

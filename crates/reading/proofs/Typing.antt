@@ -163,7 +163,7 @@ module _ {f : List ℕ} {at next : ℕ} {s w : List ℕ} {T : Rows} {c : Counter
       let b = begun (so .previous) Frame.schemaType (k .placed) refl in
       let there : allBelow (length (so .types)) (shapeTypes t) ≡ true = both-right (allBelow (length (so .names)) (shapeNames t)) (allBelow (length (so .types)) (shapeTypes t)) (not-false _ (sym (type-refers so t) ∙ r)) in
       goes-on f next w′ 2 (add so fr) (withType c (length (shapeWords t))) (withRow T (length (so .types)) (shapeRow (so .types) t)) _
-      (as-type none (first-none so (aType t) (k .placed) (k .room) refl refl r q))
+      (as-type none (first-none so (aType t) (k .placed) (k .room) (k .turn) refl refl r q))
       (rw (is, e) (type-held h next (omega (arith, l .on)) (l .within) t (b .0) (k .placed) (b .1) (types-room so (k .room)) (below-all (length (so .types)) (shapeTypes t) there) fits))
 
   module _ (size : ℕ) (p : PartsAre s size t) where
@@ -181,11 +181,11 @@ module _ {f : List ℕ} {at next : ℕ} {s w : List ℕ} {T : Rows} {c : Counter
 
     type-bad : PartsEarlier s size (c .names) (c .types) false → Steps f next w 2 (add so fr) (Off Refusal.BadReference) (firstOf conditions so (frames fr))
     unfolding frameKind textsOf anyOf
-    type-bad e = refuses f next w 2 (add so fr) Refusal.BadReference _ (as-type _ (first-bad so (aType t) (k .placed) (k .room) refl refl (earlier-is false e)))
+    type-bad e = refuses f next w 2 (add so fr) Refusal.BadReference _ (as-type _ (first-bad so (aType t) (k .placed) (k .room) (k .turn) refl refl (earlier-is false e)))
 
     type-repeats : PartsEarlier s size (c .names) (c .types) true → KeysDistinct s size false → Steps f next w 2 (add so fr) (Off Refusal.RepeatedKey) (firstOf conditions so (frames fr))
     unfolding frameKind textsOf anyOf keysOf
-    type-repeats e d = refuses f next w 2 (add so fr) Refusal.RepeatedKey _ (as-type _ (first-repeated so (aType t) (k .placed) (k .room) refl refl (earlier-is true e) (keys-are false d)))
+    type-repeats e d = refuses f next w 2 (add so fr) Refusal.RepeatedKey _ (as-type _ (first-repeated so (aType t) (k .placed) (k .room) (k .turn) refl refl (earlier-is true e) (keys-are false d)))
 
 -- ---- The ends of a type line
 
