@@ -1,7 +1,7 @@
 -- Card 2: a text with a value from d800 to dfff is none any more, and every other one is what it was.
 use Prim.Native.Nat.{ℕ, suc, _≤_, _<_}
 use native.Mathlib.Omega.{arith}
-use mathlib.Core.Bool.{Bool, true, false}
+use mathlib.Core.Bool.{Bool, true, false, true≢false}
 use mathlib.Core.Logic.{_↔_}
 use mathlib.Core.Path.{_≡_, refl, ap, sym, _∙_}
 use mathlib.Core.List.{List, [], _∷_, _++_}
@@ -13,9 +13,6 @@ use Rattle.text.specs.Utf8.{Range, _to_, only, tail, In, utf8-1, utf8-2,
 use Rattle.text.specs.Surrogates.{utf8-char-open, charactersOpen, HasSurrogate, here, later}
 use Rattle.text.proofs.Every.{both-left, both-right, both-false}
 use Rattle.text.proofs.Grammar.{clash, range, inside-in, in-inside}
-
-pub mismatch : {X : Type 0} → true ≡ false → X
-mismatch e = let z : _≡_ {A = ℕ} 0 1 = cc in absurd (omega arith)
 
 -- ---- What is kept
 -- two grammars that differ in one alternative, at a byte that does not choose it
@@ -42,7 +39,7 @@ same-following b n =
 above-9f : (x : ℕ) → inside (0x80 to 0x9f) x ≡ false → In (0x80 to 0xbf) x → In (0xa0 to 0xbf) x
 above-9f x e i =
     elim (decLe x 0x9f) [
-      | yes h ↦ mismatch (sym (in-inside (0x80 to 0x9f) x (range 0x80 0x9f x (i .low) h)) ∙ e)
+      | yes h ↦ absurd (true≢false (sym (in-inside (0x80 to 0x9f) x (range 0x80 0x9f x (i .low) h)) ∙ e))
       | no h ↦ range 0xa0 0xbf x (omega arith) (i .high)
     ]
 
@@ -85,7 +82,7 @@ module _ (b : ℕ) (s : List ℕ) (ih : Same s) where
       go true p true q = rw (p, q, count) (ih .owing (λ h. n (later (later h))) (tail ∷ []))
       go true p false q =
           let i = inside-in (0x80 to 0x9f) b p in
-          mismatch (sym (in-inside (0x80 to 0xbf) b (range 0x80 0xbf b (i .low) (omega (arith, i)))) ∙ q)
+          absurd (true≢false (sym (in-inside (0x80 to 0xbf) b (range 0x80 0xbf b (i .low) (omega (arith, i)))) ∙ q))
       go false p true q = rw (p, q, count) (third s n (above-9f b p (inside-in (0x80 to 0xbf) b q)))
       go false p false q = rw (p, q, count)
 
