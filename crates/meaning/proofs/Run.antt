@@ -27,7 +27,8 @@ use Rattle.meaning.specs.File.{Described, Form, viewAt, described, readi
 use Rattle.meaning.specs.All.{All}
 use Rattle.meaning.specs.Sound.{Sound}
 use Rattle.meaning.specs.Check.{Checker, Step, goes, Walk, walk, query, begin}
-use Rattle.meaning.specs.Run.{Led, between-calls, at-the-limit, ending, WellFormed, run, Room, Grows, same, sumOf, total, weight, size, records, recordFields}
+use Rattle.meaning.specs.Run.{Led, between-calls, at-the-limit, ending, run}
+use Rattle.meaning.specs.Weights.{WellFormed, Room, Grows, same, sumOf, total, weight, size, records, recordFields}
 use Rattle.meaning.proofs.Sound.{sound-at}
 use Rattle.meaning.proofs.Depth.{lower-falls}
 use Rattle.meaning.proofs.Meets.{Grade, unknowns, Orderly, Ready, Made, Reached, Stopped, Meets, went, ended, going, made-more}
