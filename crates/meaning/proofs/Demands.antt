@@ -23,6 +23,7 @@ use Rattle.meaning.proofs.Lists.{all-map}
 use Rattle.meaning.proofs.Refused.{refused-when}
 use Rattle.meaning.proofs.Forms.{Ran, RanOut, Runs, all-ran, one-out, runs, each-ran, any-out}
 use Rattle.meaning.proofs.Texts.{texts-counted, broken-exactly}
+use Rattle.meaning.proofs.Nonzero.{form-nonzero}
 use Rattle.meaning.proofs.Sound.{sound}
 use Rattle.meaning.proofs.Run.{sound-wellFormed, run-led, run-demand-3, run-whole}
 
@@ -145,7 +146,7 @@ module _ (file : List ℕ) (words : ℕ) where
     unfolding accept
     demand-2 e =
         let a = demand-1 .accepted-exactly .0 e in
-        record { f = a .0; ts = a .1; when = a .2; answer = ap Outcome.answer (accepts (a .0) (a .1) (a .2)); texts = texts-counted file (a .0) (a .2 .reads) }
+        record { f = a .0; ts = a .1; when = a .2; answer = ap Outcome.answer (accepts (a .0) (a .1) (a .2)); nonzero = form-nonzero (a .1); texts = texts-counted file (a .0) (a .2 .reads) }
 
 -- The run on each query that a file describes is a list of demand 3's calls, and the claim holds of it.
 pub demand-3 : (file : List ℕ) (f : Form) → reading file ≡ described f → All (λ a. Demand3 (viewOf f a)) (f .queries)

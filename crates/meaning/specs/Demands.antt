@@ -12,7 +12,7 @@ use Rattle.unification.specs.Ty as Tree
 use Rattle.unification.specs.Calls as Calls
 use Rattle.meaning.specs.Refusal.{Refusal, workTooShort, brokenText, tooManyVisits, answerTooLong}
 use Rattle.meaning.specs.Refused as Lines
-use Rattle.meaning.specs.All.{Any, Each}
+use Rattle.meaning.specs.All.{All, Any, Each}
 use Rattle.meaning.specs.SoFar.{textsIn}
 use Rattle.meaning.specs.File.{Described, Form, described, reading}
 use Rattle.meaning.specs.Check.{Checker, Typed, typed, exhausted, goes, check}
@@ -53,13 +53,14 @@ pub record Demand1 (file : List ℕ) (words bytes : ℕ) : Type 0 where
 -- ---- Demand 2
 
 -- Of an accepted call: the answer is that of ts (`formLines`: one query's lines, or each query's after its line 0b), and zeros after it. It has
--- the type of each node, and each diagnostic's span and code in their order. The texts of the file's name lines are RFC 3629's, and the number
+-- the type of each node, and each diagnostic's span and code in their order; none of its bytes is zero, so it ends at the first zero. The texts of the file's name lines are RFC 3629's, and the number
 -- by which a fuzzy term is tested (`characters` of the schema) is the grammar's number of characters.
 pub record Demand2 (file : List ℕ) (words bytes : ℕ) : Type 0 where
   pub f : Form
   pub ts : List Typed
   pub when : AcceptedWhen file words bytes f ts
   pub answer : outcome file words bytes .answer ≡ formLines ts ++ replicate (bytes - length (formLines ts)) 0
+  pub nonzero : All (λ b. 0 < b) (formLines ts)
   pub texts : Each Text (textsIn file) (f .schema .characters)
 
 -- ---- Demand 3
