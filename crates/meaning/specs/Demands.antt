@@ -53,8 +53,9 @@ pub record Demand1 (file : List ℕ) (words bytes : ℕ) : Type 0 where
 -- ---- Demand 2
 
 -- Of an accepted call: the answer is that of ts (`formLines`: one query's lines, or each query's after its line 0b), and zeros after it. It has
--- the type of each node, and each diagnostic's span and code in their order; none of its bytes is zero, so it ends at the first zero. The texts of the file's name lines are RFC 3629's, and the number
--- by which a fuzzy term is tested (`characters` of the schema) is the grammar's number of characters.
+-- the type of each node, and each diagnostic's span and code in their order; none of its bytes is zero, so it ends at the first zero. The texts
+-- of the file's name lines are RFC 3629's, and the number by which a fuzzy term is tested (`characters` of the schema) is the grammar's number of
+-- characters.
 pub record Demand2 (file : List ℕ) (words bytes : ℕ) : Type 0 where
   pub f : Form
   pub ts : List Typed

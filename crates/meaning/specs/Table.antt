@@ -1,9 +1,10 @@
 -- Evidence for the definitions, computed in proofs/Table.antt. Document 01's examples: M, the whole case, the list of "Contract and case", and
 -- the table of refusals but 11, whose row takes more visits than can be computed; our own; forms of several queries. Each row is a file, the
 -- lengths of the two slices, what the program prints and, of an accepted file, its visits. Then whole outcomes: the result and both slices.
-use mathlib.Core.Bool.{Bool, true, false}
+use mathlib.Core.Bool.{Bool, true}
 use mathlib.Core.List.{List, [], _∷_, _++_}
 use mathlib.Core.Option.{Option, none, some}
+use mathlib.Core.Path.{_≡_}
 use Prim.Native.Nat.{ℕ, zero, suc, _+_, _/_, _%_}
 use Prim.Native.String.{String}
 use lib.Dec.{eqb}
@@ -536,6 +537,31 @@ refusals =
     turnedDown (text ("01020020" ∷ [])) 16384 65536 "0f04" ∷
     []
 
+-- A line so many times.
+unfoldable pub times : ℕ → String → List ℕ
+unfolding text
+times zero l = []
+times (suc n) l = text (l ∷ []) ++ times n l
+
+-- Limits and forms that document 01's examples leave open: the last that passes and the first that does not.
+unfoldable pub limitsOf : List Example
+unfolding turnedDown text ascii times nameLines hexLine again
+limitsOf =
+    -- 3: an empty line, an odd one, an upper-case digit; a name of 511 bytes and one of 512
+    turnedDown (text ("01020020" ∷ "" ∷ [])) 16384 65536 "0f03" ∷
+    turnedDown (text ("0102002" ∷ [])) 16384 65536 "0f03" ∷
+    turnedDown (text ("0102002A" ∷ [])) 16384 65536 "0f03" ∷
+    record { file = text ("01020020" ∷ []) ++ hexLine (0x02 ∷ replicate 511 0x61) ++ again 1; words = 16384; bytes = 65536; prints = text ("07000000" ∷ []); visits = 0 } ∷
+    turnedDown (text ("01020020" ∷ []) ++ hexLine (0x02 ∷ replicate 512 0x61)) 16384 65536 "0f03" ∷
+    -- 4: kinds 00 and 07, and the limits twice
+    turnedDown (text ("01020020" ∷ "00" ∷ [])) 16384 65536 "0f04" ∷
+    turnedDown (text ("01020020" ∷ "07" ∷ [])) 16384 65536 "0f04" ∷
+    turnedDown (text ("01020020" ∷ "01020020" ∷ [])) 16384 65536 "0f04" ∷
+    -- 5: the 257th type and the 129th predicate
+    turnedDown (text ("01020020" ∷ "0278" ∷ []) ++ times 257 "0300") 16384 65536 "0f05" ∷
+    turnedDown (text ("01020020" ∷ "0278" ∷ "0300" ∷ []) ++ times 129 "040000000000") 16384 65536 "0f05" ∷
+    []
+
 -- ---- The test of a row
 
 -- of all queries together
@@ -553,10 +579,11 @@ unfoldable pub holds : Example → Bool
 unfolding sameText decide printedLines visitsOf reading
 holds e = both (sameText (printedLines (decide (e .file) (e .words)) (e .bytes)) (e .prints)) (eqb (visitsOf (reading (e .file))) (e .visits))
 
--- the number of the first row, from n on, that fails the test
-unfoldable pub firstFailing : {A : Type 0} → (A → Bool) → ℕ → List A → Option ℕ
-firstFailing test n [] = none
-firstFailing test n (a ∷ l) = elim (test a) [ true ↦ firstFailing test (suc n) l | false ↦ some n ]
+-- Each row passes its test.
+infixr 30 _then_
+pub data Rows {A : Type 0} (test : A → Bool) : List A → Type 0 where
+  end : Rows test []
+  _then_ : {a : A} {l : List A} → test a ≡ true → Rows test l → Rows test (a ∷ l)
 
 -- ---- Whole outcomes
 
