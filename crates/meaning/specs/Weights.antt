@@ -1,9 +1,8 @@
--- What a run rests on and what it can make: means to demand 3 and to the room that the code's regions have. What the nodes under a node weigh
--- together bounds everything that a run makes.
+-- What a run rests on, and what the nodes under a node weigh together, by which everything that a run makes is bounded: means to demand 3 and to the
+-- room that the code's regions have.
 use mathlib.Core.Bool.{true, false}
 use mathlib.Core.List.{List, [], _∷_, _++_}
-use mathlib.Core.Path.{_≡_}
-use Prim.Native.Nat.{ℕ, zero, suc, _+_, _*_, _<_, _≤_}
+use Prim.Native.Nat.{ℕ, zero, suc, _+_, _<_}
 use lib.Dec.{eqb}
 use lib.ListN.{length}
 use Rattle.meaning.specs.Syntax.{ExprKind, Node, Ast, nodeAt}
@@ -11,7 +10,6 @@ use Rattle.meaning.specs.Schema.{Schema}
 use Rattle.meaning.specs.References.{exprNodes, queryNodes}
 use Rattle.meaning.specs.All.{All, Distinct}
 use Rattle.meaning.specs.Sound.{DeclaredPredicate, Lower, nodesNamed}
-use Rattle.meaning.specs.Check.{Checker}
 
 -- What of a file that passes 1 to 10 the run rests on.
 pub record WellFormed (schema : Schema) (ast : Ast) : Type 0 where
@@ -19,24 +17,6 @@ pub record WellFormed (schema : Schema) (ast : Ast) : Type 0 where
   pub lower : Lower 0 (ast .nodes)
   pub once : Distinct (nodesNamed (ast .nodes) ++ queryNodes (ast .query))
   pub query : All (λ m. m < length (ast .nodes)) (queryNodes (ast .query))
-
--- What a run has made by its end, over at most this many nodes.
-pub record Room (nodes : ℕ) (c : Checker) : Type 0 where
-  pub unknowns : length (c .state .subst) ≤ nodes
-  pub environment : length (c .env) ≤ nodes
-  pub diagnostics : length (c .diagnostics) ≤ 3 * nodes
-  pub undo : length (c .state .undo) ≤ 2 * nodes
-  pub annotations : length (c .state .tys) ≤ nodes
-
--- What a visit has made by its end: u unknowns and r diagnostics at most. The entries of the environment and of the undo log are
--- bounded by the unknowns and the nodes that there are.
-pub record Grows (u r : ℕ) (c c′ : Checker) : Type 0 where
-  pub more : length (c .state .subst) ≤ length (c′ .state .subst)
-  pub unknowns : length (c′ .state .subst) ≤ length (c .state .subst) + u
-  pub diagnostics : length (c′ .diagnostics) ≤ length (c .diagnostics) + r
-  pub environment : length (c′ .env) ≤ length (c′ .state .subst)
-  pub undo : length (c′ .state .undo) ≤ length (c′ .state .subst) + length (c′ .state .tys)
-  pub annotations : length (c′ .state .tys) ≡ length (c .state .tys)
 
 -- ---- Weights
 

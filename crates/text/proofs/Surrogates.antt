@@ -9,10 +9,18 @@ use mathlib.Core.Option.{Option, none, some}
 use native.Mathlib.Decide.{decLe}
 use lib.Dec.{eqb, leb, ltb}
 use borrow.Author.Tests.{eqb-true, eqb-false, lt-leb, ltb-true}
-use Rattle.text.specs.Utf8.{Range, _to_, only, tail, In, utf8-1, utf8-2, utf8-3, utf8-4, utf8-char, both, inside, following, oneMore, count, characters}
+use Rattle.text.specs.Utf8.{Range, _to_, only, tail, In, Text, utf8-1, utf8-2, utf8-3, utf8-4, utf8-char, both, inside, following, oneMore, count, characters}
+use Rattle.text.specs.Rule.{onesOf, ones, head, value}
 use Rattle.text.specs.Surrogates.{utf8-char-open, charactersOpen, HasSurrogate, here, later}
 use Rattle.text.proofs.Every.{both-left, both-right, both-false}
-use Rattle.text.proofs.Grammar.{clash, range, inside-in, in-inside}
+use Rattle.text.proofs.Grammar.{clash, range, inside-in, in-inside, counts}
+
+-- ---- Which bytes they are
+
+-- Of the characters of three bytes that begin with ed, those whose value is from d800 to dfff have a0 to bf next.
+pub surrogate-values : (x y : ℕ) → In tail x → In tail y → In (0xa0 to 0xbf) x ↔ In (0xd800 to 0xdfff) (value (head 0xed) (x ∷ y ∷ []))
+unfolding value head ones onesOf
+surrogate-values x y i j = (λ h. range 0xd800 0xdfff _ (omega (arith, h, i, j)) (omega (arith, h, i, j)), λ v. range 0xa0 0xbf x (omega (arith, v, i, j)) (i .high))
 
 -- ---- What is kept
 -- two grammars that differ in one alternative, at a byte that does not choose it
@@ -146,6 +154,10 @@ none-counted (later {b = b} {s = s} h) [] l = go (λ rs k. none-counted h rs k) 
 pub turned-down : (s : List ℕ) → HasSurrogate s → characters s ≡ none
 unfolding characters
 turned-down s h = none-counted h [] refl
+
+-- Such a text is not in RFC 3629's grammar.
+pub surrogate-no-text : (s : List ℕ) → HasSurrogate s → (n : ℕ) → Text s n → ⊥
+surrogate-no-text s h n t = clash (sym (turned-down s h) ∙ counts s n .0 t)
 
 -- What the card changes, in one sentence: the texts are those of before that have no such value, with the same number of characters.
 pub exactly : (s : List ℕ) (n : ℕ) → (characters s ≡ some n) ↔ ((charactersOpen s ≡ some n) × (HasSurrogate s → ⊥))
