@@ -10,7 +10,7 @@ use Rattle.cells.specs.declared.Ty.{Ty}
 use Rattle.cells.specs.Stands.{Rows, tree}
 use Rattle.meaning.specs.File.{Described}
 use Rattle.meaning.specs.Check.{Checker, Step, goes, andThen, inferAll, unifyAt}
-use Rattle.meaning.specs.Run.{sumOf}
+use Rattle.meaning.specs.Weights.{sumOf}
 use Rattle.meaning.proofs.Meets.{Ready, Meets, meets-then, made-side}
 use Rattle.meaning.proofs.Steps.{one-diagnostic, Nothing, IsSide, unifyAt-meets}
 use Rattle.meaning.proofs.Visits.{inferring, visiting, size-pos}

@@ -18,8 +18,8 @@ use Rattle.meaning.specs.All.{All}
 use Rattle.meaning.specs.File.{Described}
 use Rattle.meaning.specs.Check as Check
 use Rattle.meaning.specs.Check.{Checker, Step, goes, out, Does, andThen, Walk, Form, aWildcard, aVariable, aConstant, aRecord, aDisjunction, anError, another, formOf, bindForm, denyForm, generate, stmt, stmts, badTarget, onlyRight, notYet, bindWildcard, envLen, truncateEnv, subquery}
-use Rattle.meaning.specs.Run as Run
-use Rattle.meaning.specs.Run.{sumOf}
+use Rattle.meaning.specs.Weights as Weights
+use Rattle.meaning.specs.Weights.{sumOf}
 use Rattle.meaning.proofs.Meets.{Grade, Ready, Made, Meets}
 use Rattle.meaning.proofs.Steps.{no-thing, Nothing}
 use Rattle.meaning.proofs.Visits.{visiting, stmts-meets}
@@ -231,11 +231,11 @@ stmt-sum (QueryStmt.Negation e) ss g = omega arith
 
 stmt-fits : (d : Described) (k : ℕ) (s : QueryStmt) (ss : List QueryStmt) → Holds (both (visits (nodesOf d) k (stmtNodes (s ∷ []))) (visits (nodesOf d) k (stmtNodes ss))) (visits (nodesOf d) k (stmtNodes (s ∷ ss)))
 stmt-fits d k s ss =
-    let size = stmt-sum s ss (λ n. Run.size (nodesOf d) k n) in
+    let size = stmt-sum s ss (λ n. Weights.size (nodesOf d) k n) in
     record {
-      grade = record { nodes = λ x. omega (arith, stmt-sum s ss (λ n. Run.weight (nodesOf d) (λ m. Run.same x m) k n)); unknowns = omega (arith, size); diagnostics = omega (arith, size) };
-      records = omega (arith, stmt-sum s ss (λ n. Run.records (nodesOf d) k n));
-      fields = omega (arith, stmt-sum s ss (λ n. Run.recordFields (nodesOf d) k n));
+      grade = record { nodes = λ x. omega (arith, stmt-sum s ss (λ n. Weights.weight (nodesOf d) (λ m. Weights.same x m) k n)); unknowns = omega (arith, size); diagnostics = omega (arith, size) };
+      records = omega (arith, stmt-sum s ss (λ n. Weights.records (nodesOf d) k n));
+      fields = omega (arith, stmt-sum s ss (λ n. Weights.recordFields (nodesOf d) k n));
     }
 
 andThen-unit : (m : Step (Unit {0})) → andThen m (λ u b. goes tt b) ≡ m

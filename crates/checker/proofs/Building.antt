@@ -10,7 +10,7 @@ use Rattle.meaning.specs.Syntax.{Field, ExprKind}
 use Rattle.meaning.specs.References.{fieldValues, exprNodes}
 use Rattle.meaning.specs.File.{Described}
 use Rattle.meaning.specs.Check.{Checker, Step, goes, out, Does, andThen, inferFields, inferKind}
-use Rattle.meaning.specs.Run.{sumOf, records, recordsOf, recordFields, fieldsOf}
+use Rattle.meaning.specs.Weights.{sumOf, records, recordsOf, recordFields, fieldsOf}
 use Rattle.meaning.proofs.Visits.{visiting, size-pos}
 use Rattle.steps.specs.Loads.{Load, both, Holds, infers, parts}
 use Rattle.steps.specs.Contracts.{nodesOf}

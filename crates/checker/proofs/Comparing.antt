@@ -10,7 +10,7 @@ use Rattle.cells.specs.Stands.{Rows, tree}
 use Rattle.meaning.specs.Syntax.{nodeAt}
 use Rattle.meaning.specs.File.{Described}
 use Rattle.meaning.specs.Check.{Checker, andThen, Form, aWildcard, aVariable, aConstant, aRecord, aDisjunction, anError, another, form, kind, introduceSide, compare}
-use Rattle.meaning.specs.Run.{sumOf, size, records, recordFields}
+use Rattle.meaning.specs.Weights.{sumOf, size, records, recordFields}
 use Rattle.meaning.proofs.Steps.{one-diagnostic}
 use Rattle.meaning.proofs.Visits.{size-pos, late, early-late, introducing, inferring-late, Introduced, made-introduced, introduceSide-meets, infer-late, variable-kind}
 use Rattle.steps.specs.declared.Typed.{Typed}

@@ -13,7 +13,7 @@ use Rattle.meaning.specs.Syntax.{ExprKind, nodeAt}
 use Rattle.meaning.specs.References.{exprNodes}
 use Rattle.meaning.specs.File.{Described}
 use Rattle.meaning.specs.Check.{Checker, Step, goes, Does, andThen, Walk, walk, annotate, formOf, kind, inferAt, generateBranches, generatorForm, generatorAt}
-use Rattle.meaning.specs.Run.{sumOf, weight}
+use Rattle.meaning.specs.Weights.{sumOf, weight}
 use Rattle.meaning.proofs.Steps.{one-node, IsSide}
 use Rattle.meaning.proofs.Visits.{size-pos, generateBranches-meets}
 use Rattle.tree.specs.declared.Items.{Items}

@@ -14,7 +14,7 @@ use Rattle.meaning.specs.Syntax.{ExprKind, nodeAt}
 use Rattle.meaning.specs.References.{exprNodes}
 use Rattle.meaning.specs.File.{Described}
 use Rattle.meaning.specs.Check.{Checker, goes, andThen, freshVarId, freshVar, introduce, annotate, inferKind, inferAt, kind, Walk, walk}
-use Rattle.meaning.specs.Run.{same, sumOf, weight, recordsOf, fieldsOf}
+use Rattle.meaning.specs.Weights.{same, sumOf, weight, recordsOf, fieldsOf}
 use Rattle.meaning.proofs.Meets.{unknowns, Orderly, Meets, meets-from, went-with}
 use Rattle.meaning.proofs.Steps.{no-thing, one-unknown, one-node, Nothing, IsSide, Known, IsUnknown, annotate-meets, freshVarId-meets, introduce-meets, introduce-known}
 use Rattle.meaning.proofs.Visits.{Good, inferKind-meets, walk-good, own-weight}

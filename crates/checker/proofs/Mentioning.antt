@@ -22,7 +22,7 @@ use Rattle.meaning.specs.Diag.{Code}
 use Rattle.meaning.specs.References.{fieldValues}
 use Rattle.meaning.specs.File.{Described}
 use Rattle.meaning.specs.Check.{Checker, Step, Does, checkMentioned, checkFields}
-use Rattle.meaning.specs.Run.{sumOf}
+use Rattle.meaning.specs.Weights.{sumOf}
 use Rattle.meaning.proofs.Meets.{unknowns, Ready, Meets, meets-fits}
 use Rattle.meaning.proofs.Steps.{one-diagnostic, Nothing, reject-meets}
 use Rattle.meaning.proofs.Visits.{checking, size-pos, checkField-meets}

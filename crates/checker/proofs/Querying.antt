@@ -10,7 +10,8 @@ use Rattle.meaning.specs.Syntax.{Query}
 use Rattle.meaning.specs.References.{stmtNodes, queryNodes}
 use Rattle.meaning.specs.File.{Described}
 use Rattle.meaning.specs.Check.{Checker, Step, andThen, form, headForm, query, begin}
-use Rattle.meaning.specs.Run.{sumOf, run}
+use Rattle.meaning.specs.Run.{run}
+use Rattle.meaning.specs.Weights.{sumOf}
 use Rattle.meaning.specs.Conditions.{maxNodes}
 use Rattle.meaning.specs.Sound.{Sound}
 use Rattle.meaning.proofs.Run.{begin-orderly, begin-ready, query-size, query-records, query-fields, sound-wellFormed}

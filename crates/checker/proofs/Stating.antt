@@ -11,7 +11,7 @@ use Rattle.meaning.specs.Diag.{Code}
 use Rattle.meaning.specs.File.{Described}
 use Rattle.meaning.specs.Check as Check
 use Rattle.meaning.specs.Check.{Checker, andThen, introduce, annotate, reject, unifyAt, bindVariable, badTarget, onlyRight, notYet, destructure, bindWildcard}
-use Rattle.meaning.specs.Run.{same, sumOf}
+use Rattle.meaning.specs.Weights.{same, sumOf}
 use Rattle.meaning.proofs.Steps.{one-diagnostic, one-unknown, one-node, Nothing, IsUnknown, reject-meets, introduce-meets, annotate-meets}
 use Rattle.meaning.proofs.Visits.{size-pos, own-weight}
 use Rattle.steps.specs.declared.Typed.{Typed}

@@ -62,10 +62,10 @@ last-past so predicate h = refl
 last-past so node h = refl
 last-past so query h = lt-leb maxQueries (length (so .queries)) h
 
-abbrev Readable : List ℕ → Type 0
+abbrev pub Readable : List ℕ → Type 0
 Readable s = (n : ℕ) × Text s n
 
-readable : (s : List ℕ) → broken s ≡ false → Readable s
+pub readable : (s : List ℕ) → broken s ≡ false → Readable s
 unfolding broken
 readable s h = go (characters s) refl
   where
@@ -73,7 +73,7 @@ readable s h = go (characters s) refl
     go none q = clash (rw (q, broken) at h)
     go (some n) q = (n, counts s n .1 q)
 
-unbroken : (s : List ℕ) → Readable s → broken s ≡ false
+pub unbroken : (s : List ℕ) → Readable s → broken s ≡ false
 unfolding broken
 unbroken s h = rw (counts s (h .0) .0 (h .1), broken)
 

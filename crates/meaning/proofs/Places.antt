@@ -14,10 +14,11 @@ use Rattle.meaning.proofs.Lists.{all-append}
 use Rattle.meaning.proofs.Written.{file-lines}
 use Rattle.meaning.proofs.Content.{says-exactly}
 
--- of the schema
+-- before the nodes: the limits, a name, a type or a predicate
 abbrev pub Early : Frame → Type 0
 Early g = kindByte (frameKind g) < kindByte node
 
+-- The file's lines are these frames of the schema, and then those of each query.
 pub record Lined (file : List ℕ) (f : Form) : Type 0 where
   pub schema : List Frame
   pub early : All Early schema

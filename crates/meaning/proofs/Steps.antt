@@ -29,7 +29,8 @@ use Rattle.meaning.specs.Schema.{Schema}
 use Rattle.meaning.specs.Diag.{Code}
 use Rattle.meaning.specs.Check.{Checker, goes, Does, andThen, withState, freshVarId, lookupIn, lookup, pushEnv, introduce, annotate, unified, unify, ordered, orderable, snapshot, truncateEnv, rollback, reject, report, unifyAt}
 use Rattle.meaning.specs.All.{All}
-use Rattle.meaning.specs.Run.{between-calls, at-the-limit, same}
+use Rattle.meaning.specs.Run.{between-calls, at-the-limit}
+use Rattle.meaning.specs.Weights.{same}
 use Rattle.meaning.proofs.Lists.{all-map}
 use Rattle.meaning.proofs.Meets.{Grade, unknowns, Orderly, Ready, Made, Reached, Stopped, Went, Meets, went, ended, meets, made-more, stays, meets-then}
 

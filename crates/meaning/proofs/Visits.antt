@@ -22,7 +22,7 @@ use Rattle.meaning.specs.References.{fieldValues, stmtNodes, queryNodes,
 use Rattle.meaning.specs.All.{All}
 use Rattle.meaning.specs.Sound.{DeclaredOption, DeclaredPredicate}
 use Rattle.meaning.specs.Check.{Checker, goes, Does, andThen, freshVarId, freshVar, introduce, annotate, repr, unify, orderable, snapshot, rollback, diagnosticsLen, Form, aWildcard, aVariable, aConstant, aRecord, aDisjunction, anError, another, formOf, Walk, kind, form, reject, rejectTy, report, unifyAt, unresolved, keyTy, valueTy, keyShadowsValue, valueOf, fieldAt, keyOf, selectOf, accessOf, access, select, fuzzyDistance, fuzzyTerm, inferFields, inferAll, disjunction, fact, bindVariable, badTarget, onlyRight, notYet, destructure, bindWildcard, bindForm, denyForm, introduceSide, compareOrder, compare, generate, stmt, stmts, subquery, inferKind, inferAt, inferThenUnify, checkField, checkMentioned, checkFields, checkAlternative, checkUnion, checkRecord, checkForm, checkAgainst, checkAt, generateBranches, generatorForm, generatorAt, walk, headForm, query}
-use Rattle.meaning.specs.Run.{same, sumOf, weight, size}
+use Rattle.meaning.specs.Weights.{same, sumOf, weight, size}
 use Rattle.meaning.proofs.Meets.{Grade, plus, Fits, unknowns, Orderly, Ready, Made, Went, Meets, going, made-more, made-side, stays, ready-fits, meets-after, meets-then, meets-from, meets-fits, went-with, meets-nest}
 use Rattle.meaning.proofs.Steps.{no-thing, one-diagnostic, one-unknown, one-node, Nothing, IsSide, Known, IsUnknown, reject-meets, reject-if, reject-unless, freshVarId-meets, made-known, introduce-known, introduce-meets, annotate-meets, unify-meets, unifyAt-meets, orderable-meets, rolled-meets, cut-meets}
 

@@ -25,7 +25,7 @@ use Rattle.meaning.proofs.Refused.{accepted, described-when}
 
 -- ---- Kinds
 
-byte-kind : (k : Kind) → kindOf (kindByte k) ≡ some k
+pub byte-kind : (k : Kind) → kindOf (kindByte k) ≡ some k
 unfolding kindOf kindByte
 byte-kind Kind.limits = refl
 byte-kind Kind.name = refl
@@ -53,11 +53,11 @@ kind-byte (suc (suc (suc (suc (suc (suc (suc b))))))) k e = let z : _≡_ {A = �
 abbrev pub lineOf : Frame → Line
 lineOf f = closed (hexes (written f))
 
-frame-back : (f : Frame) → Writable f → frameOf (frameKind f) (asContent f) ≡ some f
+pub frame-back : (f : Frame) → Writable f → frameOf (frameKind f) (asContent f) ≡ some f
 unfolding frameOf whole
 frame-back f w = ap (λ s. whole (frame (frameKind f) s)) (sym (append-nil (asContent f))) ∙ ap whole (content-back f (w .fits))
 
-at-most : (n : ℕ) (s : List ℕ) → length s ≤ n → atMost n s ≡ some s
+pub at-most : (n : ℕ) (s : List ℕ) → length s ≤ n → atMost n s ≡ some s
 unfolding atMost
 at-most n s h = rw (le-leb (length s) n h, atMost)
 
@@ -72,10 +72,10 @@ says f w =
 -- what a line is that says a frame
 pub record IsLine (l : Line) (f : Frame) : Type 0 where
   pub is : l ≡ lineOf f
-  writable : Writable f
+  pub writable : Writable f
 
 -- from the frame back to the bytes, a step at a time
-frame-forth : (k : Kind) (s : List ℕ) (f : Frame) → All Byte s → frameOf k s ≡ some f → FrameTook k s f []
+pub frame-forth : (k : Kind) (s : List ℕ) (f : Frame) → All Byte s → frameOf k s ≡ some f → FrameTook k s f []
 unfolding frameOf whole
 frame-forth k s f h e = go (frame k s) refl e
   where

@@ -1,4 +1,5 @@
--- Document 01, "When a file is turned down": conditions 3 to 10 of a line and 13 of card 3, each by itself, and their order.
+-- Document 01, "When a file is turned down": conditions 3 to 10 of a line and 13 of card 3, each by itself, and their order. They are tests of what a
+-- line says; Means.antt has what that is, and `obeys` and `no-condition` in proofs/Conditions.antt say what a frame obeys that meets none.
 use mathlib.Core.Bool.{Bool, true, false, not, _||_}
 use mathlib.Core.List.{List, [], _∷_}
 use mathlib.Core.Option.{Option, none, some}
@@ -58,7 +59,7 @@ maxNodes = 512
 unfoldable pub maxQueries : ℕ
 maxQueries = 64
 
--- 3
+-- 3: the line is `Malformed` (Means.antt)
 unfoldable pub isMalformed : SoFar → Said → Bool
 isMalformed so malformed = true
 isMalformed so unknownKind = false
@@ -107,7 +108,7 @@ isQueryTooMany so unknownKind = false
 isQueryTooMany so (noFrame k) = isLastQueryPast so k
 isQueryTooMany so (frames f) = isLastQueryPast so (frameKind f)
 
--- 6
+-- 6: no frame of the line's kind is written so (`is-no-frame` of Means.antt)
 unfoldable pub isNoFrame : SoFar → Said → Bool
 isNoFrame so malformed = false
 isNoFrame so unknownKind = false

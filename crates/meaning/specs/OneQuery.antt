@@ -1,5 +1,5 @@
--- The reading and the outcome as they were before card 3, to compare with: one query, nothing after it, and no 13. `as-before` in
--- proofs/OneQuery.antt. What did not move is used as it is now.
+-- The call before card 3 of 02-change-requests.md: one query, nothing after it, and no 13. A name that ends in `Before` is what the one without it
+-- was; what did not move is used as it stands. `as-before` in proofs/OneQuery.antt says what the card keeps.
 use mathlib.Core.Bool.{Bool, true, false, not}
 use mathlib.Core.List.{List, [], _∷_, _++_, map}
 use mathlib.Core.Logic.{_≢_}

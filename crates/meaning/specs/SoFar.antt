@@ -1,15 +1,15 @@
 -- Document 01, "Frame lines": what one line says, what has been read so far, and what a frame adds to it. After a 06 line the nodes
 -- start anew (card 3: "Nodes, unknowns and visits start at 0 for each query").
-use mathlib.Core.List.{List, [], _∷_, _++_}
+use mathlib.Core.List.{List, [], _∷_, _++_, map, flatMap}
 use mathlib.Core.Option.{Option, none, some}
 use Prim.Native.Nat.{ℕ}
 use lib.ListN.{getD}
 use Rattle.unification.specs.Ty.{Record, Union, Ty, leaf, Error, Row, ε, cell}
 use Rattle.meaning.specs.Syntax.{Field, Node, Ast}
 use Rattle.meaning.specs.Schema.{Predicate}
-use Rattle.meaning.specs.Lines.{Line, bytesOf}
+use Rattle.meaning.specs.Lines.{Line, bytesOf, lines}
 use Rattle.meaning.specs.Frame.{Kind, limits, name, schemaType, predicate, node, query, kindOf, Alternative, TypeShape, aLeaf, aRecord, aUnion, Frame, theLimits, aName, aType, aPredicate, aNode, theQuery, frameOf}
-use Rattle.meaning.specs.References.{exprNodes}
+use Rattle.meaning.specs.References.{exprNodes, textsOf}
 
 -- ---- What a line says, taken alone
 
@@ -39,6 +39,19 @@ saidBy (some (k ∷ content)) = saidIn (kindOf k) content
 unfoldable pub said : Line → Said
 unfolding saidBy bytesOf
 said l = saidBy (bytesOf l)
+
+-- the text that a line gives, if it is a name's
+unfoldable pub textsOn : Said → List (List ℕ)
+unfolding textsOf
+textsOn malformed = []
+textsOn unknownKind = []
+textsOn (noFrame k) = []
+textsOn (frames f) = textsOf f
+
+-- the texts of a file's name lines, in file order
+unfoldable pub textsIn : List ℕ → List (List ℕ)
+unfolding textsOn said lines flatMap
+textsIn file = flatMap textsOn (map said (lines file))
 
 -- ---- What has been read so far, in file order
 

@@ -1,5 +1,6 @@
--- The reading before card 2 of 02-change-requests.md: with the grammar that let the values d800 to dfff pass (crate text, Surrogates.antt), and all
--- else as it stands. `reads-as-before` and `answers-as-before` in proofs/Surrogates.antt say what the card keeps.
+-- The call before card 2 of 02-change-requests.md: with the open grammar, which let the values d800 to dfff pass (crate text, Surrogates.antt), and
+-- all else as it stands. A name that ends in `Open` is the one without it, over that grammar. `answers-as-before` in proofs/Surrogates.antt says what
+-- the card keeps.
 use mathlib.Core.Bool.{Bool, true, false}
 use mathlib.Core.List.{List, [], _∷_, map}
 use mathlib.Core.Option.{Option, none, some}
@@ -82,7 +83,7 @@ outcomeOpen file words bytes = finish (decideOpen file words) words bytes
 
 -- ---- A file without such a value
 
--- a text without a value from d800 to dfff
+-- no value from d800 to dfff in a text, on a line, in a file
 abbrev pub NoSurrogate : List ℕ → Type 0
 NoSurrogate s = HasSurrogate s → ⊥
 

@@ -11,7 +11,7 @@ use Rattle.meaning.specs.References.{exprNodes}
 use Rattle.meaning.specs.File.{Described}
 use Rattle.meaning.specs.Sound.{Sound}
 use Rattle.meaning.specs.Check.{Checker, Does}
-use Rattle.meaning.specs.Run.{sumOf, recordsOf, records, fieldsOf, recordFields}
+use Rattle.meaning.specs.Weights.{sumOf, recordsOf, records, fieldsOf, recordFields}
 use Rattle.meaning.proofs.Meets.{Grade, unknowns, Orderly, Ready, Fits, plus}
 use Rattle.meaning.proofs.Visits.{inferring, finding, checking, visiting, within}
 use Rattle.state.specs.Runs.{Runs}
