@@ -145,6 +145,14 @@ limit-examples =
     refl then
     -- limits twice
     refl then
+    -- a byte too many
+    refl then
+    -- shape 06
+    refl then
+    -- flag 02
+    refl then
+    -- statement 05
+    refl then
     -- 257 types
     refl then
     -- 129 predicates

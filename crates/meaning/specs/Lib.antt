@@ -24,3 +24,4 @@ pub mod Alone
 pub mod OneQuery
 pub mod Surrogates
 pub mod Demands
+pub mod Reasons

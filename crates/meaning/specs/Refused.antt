@@ -1,7 +1,7 @@
 -- When a file is turned down, and for which reason: document 01, "1, 2, then lines in file order, in each the lowest number, then the
 -- missing 06", for 2 to 10 and 13. `refused-when` in proofs/Refused.antt says that `reading` refuses exactly so. A condition is a test of what a
 -- line says (Conditions.antt); `means` in proofs/Means.antt says what that is without the reader: 3 where the line is `Malformed`, 6 where no
--- frame of its kind is written so.
+-- frame of its kind is written so; `line-refused` and `frame-refused` in proofs/Reasons.antt have both of a whole call.
 use mathlib.Core.Bool.{true, false}
 use mathlib.Core.List.{List, [], _∷_, _++_, map}
 use mathlib.Core.Logic.{_≢_}

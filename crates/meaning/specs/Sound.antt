@@ -3,10 +3,10 @@
 use mathlib.Core.List.{List, [], _∷_, _++_, flatMap}
 use mathlib.Core.Option.{Option, none, some}
 use mathlib.Core.Path.{_≡_}
-use Prim.Native.Nat.{ℕ, suc, _+_, _*_, _≤_}
+use Prim.Native.Nat.{ℕ, suc, _≤_}
 use lib.ListN.{length}
 use Rattle.text.specs.Utf8.{Text}
-use Rattle.unification.specs.Ty.{Record, Union, Ty, leaf, Var, Error, rowLen}
+use Rattle.unification.specs.Ty.{Ty}
 use Rattle.unification.specs.Calls.{Declared}
 use Rattle.meaning.specs.Syntax.{Node, Ast}
 use Rattle.meaning.specs.Schema.{Predicate}
@@ -72,42 +72,3 @@ pub record Sound (d : Described) : Type 0 where
   pub namesBelow : All (λ n. Below (length (d .schema .characters)) (exprNames (n .kind))) (d .ast .nodes)
   pub once : Distinct (nodesNamed (d .ast .nodes) ++ queryNodes (d .ast .query))
   pub query : Below (length (d .ast .nodes)) (queryNodes (d .ast .query))
-
--- ---- How much room the types take
-
--- The words of a type's own cells: one for a field (two references), two for an alternative (two references and a discriminant).
-unfoldable pub typeWords : Ty → ℕ
-unfolding rowLen
-typeWords (leaf p) = 0
-typeWords (Ty.node Record r) = rowLen r
-typeWords (Ty.node Union r) = 2 * rowLen r
-typeWords (Var x) = 0
-typeWords Error = 0
-
-unfoldable pub allWords : List Ty → ℕ
-unfolding typeWords
-allWords [] = 0
-allWords (t ∷ ts) = typeWords t + allWords ts
-
--- An eighth of the largest file: a field takes eight characters of it and an alternative sixteen.
-unfoldable pub maxWords : ℕ
-maxWords = 8192
-
--- A type's own cells fit in a frame.
-abbrev pub Narrow : Ty → Type 0
-Narrow (leaf p) = Unit {0}
-Narrow (Ty.node Record r) = rowLen r ≤ 127
-Narrow (Ty.node Union r) = rowLen r ≤ 63
-Narrow (Var x) = Unit {0}
-Narrow Error = Unit {0}
-
--- a reference is two bytes of a frame
-abbrev pub Few : Node → Type 0
-Few n = length (exprNodes (n .kind)) ≤ 251
-
--- What the lines that have passed take.
-pub record Roomy (so : SoFar) : Type 0 where
-  pub words : allWords (so .types) ≤ maxWords
-  pub narrow : All Narrow (so .types)
-  pub few : All Few (so .nodes)
-  pub fewEach : All (λ a. All Few (a .nodes)) (so .queries)
