@@ -6,9 +6,9 @@ use Prim.Native.Nat.{ℕ, zero, suc, _+_, _≤_, _<_}
 use native.Mathlib.Decide.{decLe}
 use native.Mathlib.Omega.{arith}
 use lib.ListN.{length, getD, take, drop}
-use Rattle.meaning.specs.Syntax.{Ast}
+use Rattle.meaning.specs.Syntax.{Node, Ast}
 use Rattle.meaning.specs.Lines.{Line, lines}
-use Rattle.meaning.specs.Frame.{Kind, kindByte, kindOf, Frame, theQuery, frameKind, frameOf}
+use Rattle.meaning.specs.Frame.{Kind, kindByte, kindOf, Frame, aNode, theQuery, frameKind, frameOf}
 use Rattle.meaning.specs.SoFar.{malformed, unknownKind, noFrame, frames, saidOf, saidIn, saidBy, said}
 use Rattle.meaning.specs.File.{Form, described, reading, maxFile}
 use Rattle.meaning.specs.Content.{queryFrames}
@@ -91,3 +91,13 @@ all-ahead f form small e =
       are = l .are;
       ended = λ none-left. let some = some-queries f form e .0 in let long : length (form .queries) ≡ 0 = ap length none-left in absurd (omega arith);
     }
+
+-- Where a query lies ahead, the file goes on.
+pub query-ahead : {f : List ℕ} {at : ℕ} {a : Ast} {qs : List Ast} → Ahead f at (a ∷ qs) → at < length f
+unfolding queryFrames flatMap
+query-ahead {f} {at} {a} {qs} h = go (h .schema) (a .nodes) (h .are)
+  where
+    go : (schema : List Frame) (nodes : List Node) → map said (lines (drop at f)) ≡ map frames (schema ++ (map aNode nodes ++ theQuery (a .query) ∷ [] ++ flatMap queryFrames qs)) → at < length f
+    go (g ∷ schema) nodes e = not-ended f at g (schema ++ (map aNode nodes ++ theQuery (a .query) ∷ [] ++ flatMap queryFrames qs)) e
+    go [] (n ∷ nodes) e = not-ended f at (aNode n) (map aNode nodes ++ theQuery (a .query) ∷ [] ++ flatMap queryFrames qs) e
+    go [] [] e = not-ended f at (theQuery (a .query)) (flatMap queryFrames qs) e
