@@ -29,7 +29,7 @@ fn one(out: &mut [u8], at: usize, b: u8) -> Wrote
     Wrote::Full
 }
 
-fn hex_digit(n: u32) -> u8
+pub fn hex_digit(n: u32) -> u8
     requires { ⌜ n < 16 ⌝ }
     ensures { λ r. ⌜ r ≡ hexDigit n ⌝ }
 {

@@ -4,7 +4,7 @@ ghost use mathlib.Core.Path.{_≡_};
 ghost use Prim.Native.Nat.{_<_, _≤_};
 ghost use lib.ListN.{length};
 ghost use Rattle.meaning.specs.Refusal.{number};
-ghost use Rattle.meaning.specs.Answer.{hexDigit, hexLine};
+ghost use Rattle.meaning.specs.Answer.{hexLine};
 ghost use Rattle.reading.specs.Contracts.{refusal};
 ghost use Rattle.desk.specs.Turns.{headLine, Follows, Least, Place, OneOfSeveral, Turns};
 ghost use Rattle.desk.specs.Contracts.{RunsQueries, RunsFile, ChecksFile};
@@ -55,17 +55,18 @@ fn is_one_of_several(k: u32, next: usize, end: usize) -> bool
 fn heading(out: &mut [u8], page: Wrote, k: u32, several: bool) -> Wrote
     ensures { λ r. ⌜ Follows (now (out .entry)) page (headLine several k) (now (out .exit)) r ⌝ }
 {
-    if !several {
-        return page;
-    }
-    match page {
-        Wrote::To(n) => answer::number_line(out, n, k),
-        Wrote::Full => Wrote::Full,
+    if several {
+        match page {
+            Wrote::To(n) => answer::number_line(out, n, k),
+            Wrote::Full => Wrote::Full,
+        }
+    } else {
+        page
     }
 }
 
 // One query, from its lines to its answer. Where the slice is full it still runs, for its visits.
-fn turn(
+fn one_query(
     file: &[u8],
     at: usize,
     k: u32,
@@ -98,7 +99,7 @@ fn turn(
 }
 
 // The queries of a file that was read, one after the other: 11 of any of them, then 12 of them all.
-fn turns(file: &[u8], work: &mut [u32], out: &mut [u8]) -> Outcome
+fn all_queries(file: &[u8], work: &mut [u32], out: &mut [u8]) -> Outcome
     requires { ⌜ length (now file) ≤ 65536 ⌝ }
     ensures { λ r. ⌜ RunsQueries (now (file .entry)) (now (work .entry)) (now (out .entry)) (now (out .exit)) r ⌝ }
 {
@@ -106,7 +107,7 @@ fn turns(file: &[u8], work: &mut [u32], out: &mut [u8]) -> Outcome
     let mut k: u32 = 0;
     let mut page = Wrote::To(0);
     while at < file.len() {
-        let t = turn(file, at, k, work, out, page);
+        let t = one_query(file, at, k, work, out, page);
         match t {
             Turn::On(next, written) => {
                 at = next;
@@ -131,7 +132,7 @@ fn run(file: &[u8], work: &mut [u32], out: &mut [u8]) -> Outcome
     let r = reading::read_file(file, work);
     match r {
         Read::Refused(e) => Outcome::Refused(e),
-        Read::Accepted => turns(file, work, out),
+        Read::Accepted => all_queries(file, work, out),
     }
 }
 
@@ -171,19 +172,12 @@ pub fn refusal_number(e: Refusal) -> u8
     }
 }
 
-fn hex_digit(n: u8) -> u8
-    requires { ⌜ n < 16 ⌝ }
-    ensures { λ r. ⌜ r ≡ hexDigit n ⌝ }
-{
-    if n < 10 { 48 + n } else { 87 + n }
-}
-
 // The line that the program prints for a refusal: 0f, its number, LF.
 pub fn refusal_line(e: Refusal) -> [u8; 5]
     ensures { λ r. ⌜ r ≡ hexLine (0x0f ∷ number (refusal e) ∷ []) ⌝ }
 {
     let n = refusal_number(e);
-    let high = hex_digit(n / 16);
-    let low = hex_digit(n % 16);
+    let high = answer::hex_digit((n / 16) as u32);
+    let low = answer::hex_digit((n % 16) as u32);
     [48, 102, high, low, 10]
 }
