@@ -41,3 +41,11 @@ hex-full a b f e = writes-as (sym (hex-append a b)) (writes-full f e (hexOf b))
 pub tagged-to : {out : List ℕ} {at : ℕ} (tag x : ℕ) {mid : List ℕ} {r : Wrote} {n : ℕ} → Writes out at (hexOf (tag ∷ bytes₂ x)) mid r → r ≡ To n → (n ≡ at + 6) × (n ≤ length mid)
 unfolding hexOf bytes₂
 tagged-to tag x f e = let h = writes-to f e in (h .0, omega (arith, h .1, f .long))
+
+-- A line is its digits and LF.
+module _ {out : List ℕ} {at : ℕ} (a : List ℕ) {mid : List ℕ} {r : Wrote} (f : Writes out at (hexOf a) mid r) where
+  pub line-then : {n : ℕ} {out′ : List ℕ} {r′ : Wrote} → r ≡ To n → Writes mid n (10 ∷ []) out′ r′ → Writes out at (hexLine a) out′ r′
+  line-then e g = writes-as (sym (line-is a)) (writes-then f e g)
+
+  pub line-full : r ≡ Full → Writes out at (hexLine a) mid Full
+  line-full e = writes-as (sym (line-is a)) (writes-full f e (10 ∷ []))

@@ -3,7 +3,7 @@ ghost use mathlib.Core.List.{[], _∷_};
 ghost use mathlib.Core.Path.{_≡_};
 ghost use Prim.Native.Nat.{_<_};
 ghost use lib.ListN.{length};
-ghost use Rattle.meaning.specs.Answer.{hexDigit, bytes₂, bytes₄};
+ghost use Rattle.meaning.specs.Answer.{hexDigit, hexLine, bytes₂, bytes₄};
 ghost use Rattle.answer.specs.Writes.{Writes, hexOf};
 ghost use Rattle.answer.specs.Types.{headOf, partHeadOf, WritesTy};
 ghost use Rattle.answer.specs.Lines.{WritesSlot, WritesNode, WritesNodeLine, WritesNodeLines};
@@ -29,7 +29,7 @@ fn one(out: &mut [u8], at: usize, b: u8) -> Wrote
     Wrote::Full
 }
 
-fn hex_digit(n: u32) -> u8
+pub fn hex_digit(n: u32) -> u8
     requires { ⌜ n < 16 ⌝ }
     ensures { λ r. ⌜ r ≡ hexDigit n ⌝ }
 {
@@ -335,6 +335,17 @@ fn diagnostic_lines(f: &[u8], w: &[u32], out: &mut [u8], at: usize) -> Wrote
         i += 1;
     }
     Wrote::To(to)
+}
+
+// The line before a query's own lines where the file has several.
+pub fn number_line(out: &mut [u8], at: usize, k: u32) -> Wrote
+    ensures { λ r. ⌜ Writes (now (out .entry)) at (hexLine (0x0b ∷ bytes₂ k)) (now (out .exit)) r ⌝ }
+{
+    let r = tagged(out, at, 11, k);
+    match r {
+        Wrote::To(m) => close(out, m),
+        Wrote::Full => Wrote::Full,
+    }
 }
 
 // The whole answer: where it ends.

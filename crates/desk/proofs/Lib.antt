@@ -1,3 +1,5 @@
+mod Turning
+mod Telling
 mod Deciding
 mod Lining
 pub mod Demands

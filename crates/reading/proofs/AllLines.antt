@@ -73,7 +73,7 @@ module _ {f : List ℕ} {at : ℕ} {line : List ℕ} {n next : ℕ} (h : Holds f
   }
 
   -- the first of the bytes that the line has
-  first-taken : getD (take n line) 0 0 ≡ getD line 0 0
+  pub first-taken : getD (take n line) 0 0 ≡ getD line 0 0
   first-taken = go n line (h .some)
     where
       go : (n : ℕ) (l : List ℕ) → 0 < n → getD (take n l) 0 0 ≡ getD l 0 0

@@ -79,7 +79,7 @@ frame-made Frame.predicate s = made-then _ (two s) _ (λ a t. made-then _ (two t
 frame-made Frame.node s = made-one _ aNode spanAndKind s (λ a. refl)
 frame-made Frame.query s = made-one _ theQuery headAndBody s (λ a. refl)
 
-frame-kind : (k : Kind) (s : List ℕ) (fr : Frame) → frameOf k s ≡ some fr → frameKind fr ≡ k
+pub frame-kind : (k : Kind) (s : List ℕ) (fr : Frame) → frameOf k s ≡ some fr → frameKind fr ≡ k
 unfolding frameOf Made
 frame-kind k s fr e = frame-made k s fr [] (whole-made (frame k s) fr e)
 
