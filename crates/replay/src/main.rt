@@ -25,7 +25,8 @@ fn read_part(into: &mut [u8]) -> Part {
 // Whether the program prints this for the file.
 fn answers(file: &[u8], printed: &[u8], work: &mut [u32; 16384], out: &mut [u8; 65536]) -> bool {
     let n = program::printed(file, work, out);
-    check::same(&out[0..n], printed)
+    let all: &[u8] = out;
+    check::same(&all[0..n], printed)
 }
 
 // The next case of the sample, read and answered.
