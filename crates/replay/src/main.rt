@@ -36,7 +36,12 @@ enum Case {
     End,
 }
 
-fn next_case(file: &mut [u8], printed: &mut [u8], work: &mut [u32; 16384], out: &mut [u8; 65536]) -> Case {
+fn next_case(
+    file: &mut [u8],
+    printed: &mut [u8],
+    work: &mut [u32; 16384],
+    out: &mut [u8; 65536],
+) -> Case {
     let a = read_part(file);
     let Part::Bytes(n) = a else {
         return Case::End;
