@@ -1,4 +1,4 @@
--- Made from Proof.ans by tools/answers, f5e040c23bb7544b.
+-- Made from Proof.ans by tools/answers, f5e040c23bb7544b 06f3407b2fb17206.
 -- `desk::refusal_line` meets its contract.
 use borrow.Author.Needs.{needs}
 use Rattle.desk.proofs.refusal_line.Statement.{statement}

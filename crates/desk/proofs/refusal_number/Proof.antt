@@ -1,4 +1,4 @@
--- Made from Proof.ans by tools/answers, 2f2e8da86ef73c81.
+-- Made from Proof.ans by tools/answers, 2f2e8da86ef73c81 d6cc922469d8e425.
 -- `desk::refusal_number` meets its contract: each arm is one row of the table.
 use borrow.Author.Needs.{needs}
 use Rattle.desk.proofs.refusal_number.Statement.{statement}

@@ -1,4 +1,4 @@
--- Made from Proof.ans by tools/answers, 25f7c3e35ed51415.
+-- Made from Proof.ans by tools/answers, 25f7c3e35ed51415 8c45f4e84aef389f.
 -- `desk::run` meets its contract: the reading, the check and the writing, each as far as the one before it goes.
 use borrow.Author.Needs.{needs}
 use Rattle.desk.proofs.run.Statement.{statement}

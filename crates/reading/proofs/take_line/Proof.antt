@@ -1,4 +1,4 @@
--- Made from Proof.ans by tools/answers, 4e8c949b29eeb62b.
+-- Made from Proof.ans by tools/answers, 4e8c949b29eeb62b d8cb0c1cbab5fe4f.
 -- `reading::take_line` meets its contract: each end is one of a line's, and each arm takes a frame of its kind.
 use borrow.Author.Needs.{needs}
 use Rattle.reading.proofs.take_line.Statement.{statement}

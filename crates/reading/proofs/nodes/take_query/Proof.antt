@@ -1,4 +1,4 @@
--- Made from Proof.ans by tools/answers, 3a8459aab6a1eb6a.
+-- Made from Proof.ans by tools/answers, 3a8459aab6a1eb6a dded4b9cea741a50.
 -- `reading::take_query` meets its contract: the head or a statement's node is not there, or the query is held.
 use borrow.Author.Needs.{needs}
 use Rattle.reading.proofs.nodes.take_query.Statement.{statement}
