@@ -19,9 +19,6 @@ extern "C" {
  * (README.md has their meaning). */
 uint8_t sigla_check(const uint8_t *file, size_t file_len, uint32_t *work, size_t work_len, uint8_t *answer, size_t answer_len);
 
-/* 0 where the file passes refusals 1 to 10; else the refusal's number, and the work slice is zero throughout. */
-uint8_t sigla_read(const uint8_t *file, size_t file_len, uint32_t *work, size_t work_len);
-
 #ifdef __cplusplus
 }
 #endif

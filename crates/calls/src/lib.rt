@@ -1,5 +1,6 @@
-// Demand 3's calls for programs in other languages. A type goes as its tag and its payload (crates/cells/specs/Words.antt). Every
-// function takes any words: what they stand for is its caller's to keep.
+// Demand 3's calls on numbers, for the comparison with the Rust (tools/oracle); a program that embeds the checker has no use for
+// them. A type goes as its tag and its payload (crates/cells/specs/Words.antt). Every function takes any words: what they stand for
+// is its caller's to keep.
 ghost use mathlib.Core.Path.{_≡_};
 ghost use lib.ListN.{getD};
 ghost use Rattle.work.specs.Layout.{RECORD-FIELD-COUNT, UNKNOWNS, UNDO-LEN};

@@ -19,7 +19,11 @@ fn read_input(into: &mut [u8]) -> Input
         let got = libc::read(libc::STDIN_FILENO, &mut into[n..]);
         let more = io::count(got, &into[n..]);
         if more == 0 {
-            return if got < 0 { Input::Failed } else { Input::Bytes(n) };
+            return if got < 0 {
+                Input::Failed
+            } else {
+                Input::Bytes(n)
+            };
         }
         n += more;
     }
@@ -49,12 +53,18 @@ pub fn run() {
     let r = read_input(&mut input);
     match r {
         Input::Failed => {
-            io::write_all(libc::STDERR_FILENO, b"sigla: reading standard input failed\n");
+            io::write_all(
+                libc::STDERR_FILENO,
+                b"sigla: reading standard input failed\n",
+            );
         }
         Input::Bytes(n) => {
             let m = printed(&input[0..n], &mut work, &mut out);
             if !io::write_all(libc::STDOUT_FILENO, &out[0..m]) {
-                io::write_all(libc::STDERR_FILENO, b"sigla: writing standard output failed\n");
+                io::write_all(
+                    libc::STDERR_FILENO,
+                    b"sigla: writing standard output failed\n",
+                );
             }
         }
     }

@@ -25,7 +25,8 @@ fn read_part(into: &mut [u8]) -> Part {
 // Whether the program prints this for the file.
 fn answers(file: &[u8], printed: &[u8], work: &mut [u32; 16384], out: &mut [u8; 65536]) -> bool {
     let n = program::printed(file, work, out);
-    check::same(&out[0..n], printed)
+    let all: &[u8] = out;
+    check::same(&all[0..n], printed)
 }
 
 // The next case of the sample, read and answered.
@@ -35,7 +36,12 @@ enum Case {
     End,
 }
 
-fn next_case(file: &mut [u8], printed: &mut [u8], work: &mut [u32; 16384], out: &mut [u8; 65536]) -> Case {
+fn next_case(
+    file: &mut [u8],
+    printed: &mut [u8],
+    work: &mut [u32; 16384],
+    out: &mut [u8; 65536],
+) -> Case {
     let a = read_part(file);
     let Part::Bytes(n) = a else {
         return Case::End;

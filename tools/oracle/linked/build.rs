@@ -1,8 +1,8 @@
 //! Links the port's static libraries where they are there, and tells which of their calls exist.
 //!
-//! `SIGLA_LIB` names the checker's library and `CALLS_LIB` the one of the calls on the substitution;
-//! without them libsigla_lib.a and libcalls.a in target/staticlib at the repository's top are taken, if
-//! they are there.
+//! `SIGLA_LIB` names the checker's library, `READING_LIB` the one of the reading and `CALLS_LIB` the one
+//! of the calls on the substitution; without them libsigla_lib.a, libreading_calls.a and libcalls.a in
+//! target/staticlib at the repository's top are taken, if they are there.
 
 use std::env;
 use std::fs;
@@ -27,12 +27,13 @@ fn main() {
         println!("cargo::rustc-check-cfg=cfg({cfg})");
     }
     let whole = Library::find("SIGLA_LIB", "libsigla_lib.a");
+    let reading = Library::find("READING_LIB", "libreading_calls.a");
     let calls = Library::find("CALLS_LIB", "libcalls.a");
-    if let Some(whole) = &whole {
-        for call in WHOLE.iter().filter(|call| whole.has(call)) {
+    for library in [&whole, &reading].into_iter().flatten() {
+        for call in WHOLE.iter().filter(|call| library.has(call)) {
             println!("cargo::rustc-cfg={call}");
         }
-        whole.link();
+        library.link();
     }
 
     // Of two libraries with the same call one alone is linked, so that no symbol is there twice. What

@@ -1,4 +1,4 @@
--- Made from Proof.ans by tools/answers, 7dab0df5b6c82792.
+-- Made from Proof.ans by tools/answers, efef4bcf90a7ea45 2a70f1ab5d23246f.
 -- `reading::take_lines` meets its contract. The invariant: what was read so far is held, and reading what is left is reading the file. The
 -- measure is what is left of the file.
 use Rattle.reading.proofs.take_lines.Statement.{statement}
@@ -39,7 +39,7 @@ same-length : tie.Need-same-length Inv-loop μ-loop
 same-length c = search needs
 
 returns : tie.Need-returns Inv-loop μ-loop
-returns c = record { ends = midway-bad (c .before .before .before .before .before .loop .inv .2) (c .before .before .decode .ensures .fails (c .enum-told .given .1)) }
+returns c = record { ends = midway-bad (c .before .before .before .before .before .loop .inv .2) (c .before .before .decode .ensures .fails (c .enum-told .given .1) (c .before .before .before .before .loop-test .taken)) }
 
 enum-known-got : tie.Need-enum-known-got Inv-loop μ-loop
 enum-known-got c = search needs

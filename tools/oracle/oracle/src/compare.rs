@@ -178,7 +178,9 @@ fn compare(
 /// The reading alone: refusals 1 to 10, or none.
 fn reading(options: &Options) -> Done {
     if !linked::HAS_READ {
-        return Err(format!("nothing to compare the reading with: {NO_LIBRARY}"));
+        return Err("nothing to compare the reading with: libreading_calls.a was not there when oracle was \
+            built (READING_LIB, or target/staticlib at the repository's top)"
+            .to_owned());
     }
     let corpus = Corpus::from(options)?;
     let mut mismatches = Mismatches::new(options.text("out"));
