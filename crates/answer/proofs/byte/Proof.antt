@@ -1,4 +1,4 @@
--- Made from Proof.ans by tools/answers, b964149146d96b44 d381f74b31fb4b7b.
+-- Made from Proof.ans by tools/answers, b964149146d96b44.
 -- One digit after the other.
 use borrow.Author.Needs.{needs}
 use Rattle.answer.proofs.byte.Statement.{statement}

@@ -1,4 +1,4 @@
--- Made from Proof.ans by tools/answers, e51f63ca5cde5c3c f19a9b225c255545.
+-- Made from Proof.ans by tools/answers, e51f63ca5cde5c3c.
 -- Each arm's text is the one of the code of that number.
 use borrow.Author.Needs.{needs}
 use Rattle.answer.proofs.code.Statement.{statement}

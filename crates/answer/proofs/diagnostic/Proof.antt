@@ -1,4 +1,4 @@
--- Made from Proof.ans by tools/answers, 7d45a6ffd81c10b9 115f470e90f1898c.
+-- Made from Proof.ans by tools/answers, 7d45a6ffd81c10b9.
 -- Where the node stands, then the code.
 use borrow.Author.Needs.{needs}
 use Rattle.answer.proofs.diagnostic.Statement.{statement}

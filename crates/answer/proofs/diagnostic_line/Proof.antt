@@ -1,4 +1,4 @@
--- Made from Proof.ans by tools/answers, a7c23a876c9af484 b78b417d350fa92c.
+-- Made from Proof.ans by tools/answers, a7c23a876c9af484.
 -- The digits, then LF.
 use borrow.Author.Needs.{needs}
 use Rattle.answer.proofs.diagnostic_line.Statement.{statement}

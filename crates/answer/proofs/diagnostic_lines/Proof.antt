@@ -1,4 +1,4 @@
--- Made from Proof.ans by tools/answers, a679ac69a1daf808 abe9bb711b47ebce.
+-- Made from Proof.ans by tools/answers, a679ac69a1daf808.
 -- To write the lines from i on is to write them all; the measure is the diagnostics that are left.
 use Rattle.answer.proofs.diagnostic_lines.Statement.{statement}
 use Rattle.answer.proofs.diagnostic_lines.Tie as tie

@@ -1,4 +1,4 @@
--- Made from Proof.ans by tools/answers, d6987272924ce93f 09a9a8f0126ee928.
+-- Made from Proof.ans by tools/answers, d6987272924ce93f.
 -- The high half, then the low one.
 use borrow.Author.Needs.{needs}
 use Rattle.answer.proofs.full.Statement.{statement}

@@ -1,4 +1,4 @@
--- Made from Proof.ans by tools/answers, 9ecba82faab3cb03 0d42e2ee06ed30ee.
+-- Made from Proof.ans by tools/answers, 9ecba82faab3cb03.
 -- One byte after the other.
 use borrow.Author.Needs.{needs}
 use Rattle.answer.proofs.half.Statement.{statement}

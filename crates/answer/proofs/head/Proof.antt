@@ -1,4 +1,4 @@
--- Made from Proof.ans by tools/answers, 4f54919730c020a5 2b24e3098ae871e1.
+-- Made from Proof.ans by tools/answers, 4f54919730c020a5.
 -- By the match.
 use borrow.Author.Needs.{needs}
 use Rattle.answer.proofs.head.Statement.{statement}

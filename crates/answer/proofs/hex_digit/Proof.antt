@@ -1,4 +1,4 @@
--- Made from Proof.ans by tools/answers, a77e200945ba5b04 844694e54e6e2653.
+-- Made from Proof.ans by tools/answers, a77e200945ba5b04.
 -- The test is the one of `hexDigit`.
 use borrow.Author.Needs.{needs}
 use Rattle.answer.proofs.hex_digit.Statement.{statement}

@@ -1,4 +1,4 @@
--- Made from Proof.ans by tools/answers, ebdf4788d84c81c2 1b101104e2a4f8b6.
+-- Made from Proof.ans by tools/answers, ebdf4788d84c81c2.
 -- The number, then what the node was found to be.
 use borrow.Author.Needs.{needs}
 use Rattle.answer.proofs.node.Statement.{statement}

@@ -1,4 +1,4 @@
--- Made from Proof.ans by tools/answers, 4c04e11bfd27763f 82ab2ad5f6d63950.
+-- Made from Proof.ans by tools/answers, 4c04e11bfd27763f.
 -- The digits, then LF.
 use borrow.Author.Needs.{needs}
 use Rattle.answer.proofs.node_line.Statement.{statement}

@@ -1,4 +1,4 @@
--- Made from Proof.ans by tools/answers, 14805455f3cd6020 b1d4d7a817c5ed1c.
+-- Made from Proof.ans by tools/answers, 14805455f3cd6020.
 -- To write the lines from i on is to write them all; the measure is the nodes that are left.
 use Rattle.answer.proofs.node_lines.Statement.{statement}
 use Rattle.answer.proofs.node_lines.Tie as tie

@@ -1,4 +1,4 @@
--- Made from Proof.ans by tools/answers, 5fc85b08e3f8d31e dffab17e18718bbd.
+-- Made from Proof.ans by tools/answers, 5fc85b08e3f8d31e.
 -- One byte is stored, or there is no room for it.
 use borrow.Author.Needs.{needs}
 use Rattle.answer.proofs.one.Statement.{statement}

@@ -1,4 +1,4 @@
--- Made from Proof.ans by tools/answers, 9205979a85015366 846c28ce17598cf4.
+-- Made from Proof.ans by tools/answers, 9205979a85015366.
 -- The line's kind, then the span.
 use Rattle.answer.proofs.place.Statement.{statement}
 use Rattle.answer.proofs.place.Tie as tie

@@ -1,4 +1,4 @@
--- Made from Proof.ans by tools/answers, 99285ea0e5a28029 96d4c8ef8eb64fc4.
+-- Made from Proof.ans by tools/answers, 99285ea0e5a28029.
 -- To copy the digits from i on is to copy all sixteen; where the file is too short for them, nothing is promised.
 use Rattle.answer.proofs.span.Statement.{statement}
 use Rattle.answer.proofs.span.Tie as tie

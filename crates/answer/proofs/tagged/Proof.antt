@@ -1,4 +1,4 @@
--- Made from Proof.ans by tools/answers, 35c4764589308dac ce31b38d7791be92.
+-- Made from Proof.ans by tools/answers, 35c4764589308dac.
 -- The byte, then the number.
 use borrow.Author.Needs.{needs}
 use Rattle.answer.proofs.tagged.Statement.{statement}

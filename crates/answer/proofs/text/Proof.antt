@@ -1,4 +1,4 @@
--- Made from Proof.ans by tools/answers, a29b57e71a50ed38 c2f0f057eb8b6e7b.
+-- Made from Proof.ans by tools/answers, a29b57e71a50ed38.
 -- To write the text from i on is to write all of it; the measure is what is left of it.
 use Rattle.answer.proofs.text.Statement.{statement}
 use Rattle.answer.proofs.text.Tie as tie

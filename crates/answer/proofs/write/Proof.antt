@@ -1,4 +1,4 @@
--- Made from Proof.ans by tools/answers, bc2f39da5dbc24d0 075e133fdf83b6e6.
+-- Made from Proof.ans by tools/answers, bc2f39da5dbc24d0.
 -- The lines of the nodes, then those of the diagnostics.
 use borrow.Author.Needs.{needs}
 use Rattle.answer.proofs.write.Statement.{statement}

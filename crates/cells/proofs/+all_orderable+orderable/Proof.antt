@@ -1,4 +1,4 @@
--- Made from Proof.ans by tools/answers, ba47fa7360725c19 f4c1fed7bb53cf49.
+-- Made from Proof.ans by tools/answers, ba47fa7360725c19.
 -- A call costs a visit, so twice the visits left falls; the walk over a cell's parts stands one above. The answer for the row is
 -- the answer for the rest from j on.
 use Prim.Native.Nat.{ℕ, _<_, _+_, _-_, _*_}

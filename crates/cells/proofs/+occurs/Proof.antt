@@ -1,4 +1,4 @@
--- Made from Proof.ans by tools/answers, ad72d81e9a5da851 122c605d9b7379e3.
+-- Made from Proof.ans by tools/answers, ad72d81e9a5da851.
 -- A call costs a visit, so the visits left fall. The answer for the row is the answer for the rest from j on.
 use Prim.Native.Nat.{ℕ, _<_, _-_}
 use borrow.Fn.Kinds.{In}

@@ -1,4 +1,4 @@
--- Made from Proof.ans by tools/answers, 4d4173e3b5b6e13c bd01f3cfa4daed30.
+-- Made from Proof.ans by tools/answers, 4d4173e3b5b6e13c.
 -- The words are those that `alternativeW` reads.
 use borrow.Author.Needs.{needs}
 use Rattle.cells.proofs.alternative.Statement.{statement}

@@ -1,4 +1,4 @@
--- Made from Proof.ans by tools/answers, ff389a11ced13705 ce6f3603972bbb19.
+-- Made from Proof.ans by tools/answers, ff389a11ced13705.
 use borrow.Author.Needs.{needs}
 use Rattle.cells.proofs.bind_var.Statement.{statement}
 use Rattle.cells.proofs.bind_var.Tie as tie

@@ -1,4 +1,4 @@
--- Made from Proof.ans by tools/answers, c7b522dd489aefb8 cf3a908e221d780a.
+-- Made from Proof.ans by tools/answers, c7b522dd489aefb8.
 -- The test is the one of `countW`, and each word is the one that it names.
 use borrow.Author.Needs.{needs}
 use Rattle.cells.proofs.count.Statement.{statement}

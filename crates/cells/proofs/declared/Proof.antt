@@ -1,4 +1,4 @@
--- Made from Proof.ans by tools/answers, 0ea4f9779beaa653 6eaa2bed84d12f56.
+-- Made from Proof.ans by tools/answers, 0ea4f9779beaa653.
 -- The two tests are those of `declaredW`.
 use borrow.Author.Needs.{needs}
 use Rattle.cells.proofs.declared.Statement.{statement}

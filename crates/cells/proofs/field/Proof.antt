@@ -1,4 +1,4 @@
--- Made from Proof.ans by tools/answers, 3fb7bade4454876a 2e1aad98f130e9a0.
+-- Made from Proof.ans by tools/answers, 3fb7bade4454876a.
 -- The test is the one of `fieldW`; the words are read where it reads them.
 use borrow.Author.Needs.{needs}
 use Rattle.cells.proofs.field.Statement.{statement}

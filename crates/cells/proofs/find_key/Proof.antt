@@ -1,4 +1,4 @@
--- Made from Proof.ans by tools/answers, bea1b9854d4c683e 4d959d7cf53b3eb3.
+-- Made from Proof.ans by tools/answers, bea1b9854d4c683e.
 -- The part at the number that was found.
 use borrow.Author.Needs.{needs}
 use Rattle.cells.proofs.find_key.Statement.{statement}

@@ -1,4 +1,4 @@
--- Made from Proof.ans by tools/answers, 5879a2ca431aef05 50aa4e94f97c0402.
+-- Made from Proof.ans by tools/answers, 5879a2ca431aef05.
 -- The test is the one of `firstW`, and each word is the one that it names.
 use borrow.Author.Needs.{needs}
 use Rattle.cells.proofs.first.Statement.{statement}

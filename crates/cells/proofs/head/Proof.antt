@@ -1,4 +1,4 @@
--- Made from Proof.ans by tools/answers, 2eeaefb742eb7097 7f0f407ce02398e3.
+-- Made from Proof.ans by tools/answers, 2eeaefb742eb7097.
 -- No unknown is its own end.
 use borrow.Author.Needs.{needs}
 use Rattle.cells.proofs.head.Statement.{statement}

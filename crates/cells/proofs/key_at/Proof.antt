@@ -1,4 +1,4 @@
--- Made from Proof.ans by tools/answers, 520ef7e0cd0713a1 37928311663ab3d6.
+-- Made from Proof.ans by tools/answers, 520ef7e0cd0713a1.
 -- The words are those that `fieldW` and `alternativeW` read the key from.
 use borrow.Author.Needs.{needs}
 use Rattle.cells.proofs.key_at.Statement.{statement}

@@ -1,4 +1,4 @@
--- Made from Proof.ans by tools/answers, 22cf1720644e2869 e79bf5c2552b8fdd.
+-- Made from Proof.ans by tools/answers, 22cf1720644e2869.
 -- The least of the row is the least of the rest from j on; the measure is what is left of the parts.
 use Rattle.cells.proofs.least_from.Statement.{statement}
 use Rattle.cells.proofs.least_from.Tie as tie

@@ -1,4 +1,4 @@
--- Made from Proof.ans by tools/answers, 85d2aa47a27c6f68 12b60aec459a65b3.
+-- Made from Proof.ans by tools/answers, 85d2aa47a27c6f68.
 -- The tests are those of `lowerW`. The key is a word, so it is small.
 use borrow.Author.Needs.{needs}
 use Rattle.cells.proofs.lower.Statement.{statement}

@@ -1,4 +1,4 @@
--- Made from Proof.ans by tools/answers, a1dddf461a104986 be249de9699dd85f.
+-- Made from Proof.ans by tools/answers, a1dddf461a104986.
 use borrow.Author.Needs.{needs}
 use Rattle.cells.proofs.next_discriminant.Statement.{statement}
 use Rattle.cells.proofs.next_discriminant.Tie as tie

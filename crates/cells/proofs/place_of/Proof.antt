@@ -1,4 +1,4 @@
--- Made from Proof.ans by tools/answers, d25adcb156f12c25 e15b16e0941ab7db.
+-- Made from Proof.ans by tools/answers, d25adcb156f12c25.
 -- What is sought in the row is what is sought in the rest from j on; the measure is what is left of the parts.
 use Rattle.cells.proofs.place_of.Statement.{statement}
 use Rattle.cells.proofs.place_of.Tie as tie

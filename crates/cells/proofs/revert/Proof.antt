@@ -1,4 +1,4 @@
--- Made from Proof.ans by tools/answers, c3ff4bb0ee262684 115eebc321753cb1.
+-- Made from Proof.ans by tools/answers, c3ff4bb0ee262684.
 -- The test is the one of `revertW`.
 use borrow.Author.Needs.{needs}
 use Rattle.cells.proofs.revert.Statement.{statement}

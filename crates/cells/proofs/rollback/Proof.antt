@@ -1,4 +1,4 @@
--- Made from Proof.ans by tools/answers, 8e3006cd7f03e8fc 05bb6559301370f5.
+-- Made from Proof.ans by tools/answers, 8e3006cd7f03e8fc.
 use Rattle.cells.proofs.rollback.Statement.{statement}
 use Rattle.cells.proofs.rollback.Tie as tie
 use Rattle.cells.proofs.rollback.Reads as reads

@@ -1,4 +1,4 @@
--- Made from Proof.ans by tools/answers, 6513f98c2f914da5 6f5daed600c4605f.
+-- Made from Proof.ans by tools/answers, 6513f98c2f914da5.
 -- The tests of tag and payload, in the order of `sameLeafW`.
 use borrow.Author.Needs.{needs}
 use Rattle.cells.proofs.same_leaf.Statement.{statement}

@@ -1,4 +1,4 @@
--- Made from Proof.ans by tools/answers, e84de7558fd894bf 1ced8a6814700052.
+-- Made from Proof.ans by tools/answers, e84de7558fd894bf.
 -- The writes one after another are `putTy` and `pushUndoW`.
 use borrow.Author.Needs.{needs}
 use Rattle.cells.proofs.set_var.Statement.{statement}

@@ -1,4 +1,4 @@
--- Made from Proof.ans by tools/answers, 34a1d7d20ed14830 6c074da026bb4432.
+-- Made from Proof.ans by tools/answers, 34a1d7d20ed14830.
 -- What a node names is lower, so the node falls, and on one node the rank of specs/Contracts.antt. Each arm is a law of its own.
 use Prim.Native.Nat.{ℕ, _<_, _+_, _-_, _*_, _≤_}
 use borrow.Fn.Kinds.{In}

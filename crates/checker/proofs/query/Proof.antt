@@ -1,4 +1,4 @@
--- Made from Proof.ans by tools/answers, 7c0ead871c6c823b a5b3e307159b86d5.
+-- Made from Proof.ans by tools/answers, 7c0ead871c6c823b.
 -- `checker::query` meets its contract: the statements from where a run begins, then the head.
 use borrow.Author.Needs.{needs}
 use Rattle.checker.proofs.query.Statement.{statement}

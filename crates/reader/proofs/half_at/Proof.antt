@@ -1,4 +1,4 @@
--- Made from Proof.ans by tools/answers, 01f9da56463f8b96 6c6ef1804853b831.
+-- Made from Proof.ans by tools/answers, 01f9da56463f8b96.
 -- `reader::half_at` meets its contract: the index moves where the line goes on.
 use borrow.Author.Needs.{needs}
 use Rattle.reader.proofs.half_at.Statement.{statement}

@@ -1,4 +1,4 @@
--- Made from Proof.ans by tools/answers, 0bf0908025a1f203 69362f79b617b0a1.
+-- Made from Proof.ans by tools/answers, 0bf0908025a1f203.
 -- `reading::take_limits` meets its contract: the two limits are in their words.
 use borrow.Author.Needs.{needs}
 use Rattle.reading.proofs.take_limits.Statement.{statement}

@@ -1,4 +1,4 @@
--- Made from Proof.ans by tools/answers, 674a414cf4eab091 1d9c35fa0169ba7f.
+-- Made from Proof.ans by tools/answers, 674a414cf4eab091.
 use borrow.Author.Needs.{needs}
 use Rattle.state.proofs.beside.Statement.{statement}
 use Rattle.state.proofs.beside.Tie as tie

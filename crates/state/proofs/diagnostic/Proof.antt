@@ -1,4 +1,4 @@
--- Made from Proof.ans by tools/answers, 2a85b7bcb0b071f7 239a925ee3d5eb30.
+-- Made from Proof.ans by tools/answers, 2a85b7bcb0b071f7.
 use borrow.Author.Needs.{needs}
 use Rattle.state.proofs.diagnostic.Statement.{statement}
 use Rattle.state.proofs.diagnostic.Tie as tie

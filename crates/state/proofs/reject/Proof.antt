@@ -1,4 +1,4 @@
--- Made from Proof.ans by tools/answers, 75774a16c8231c15 5b20af29fed948aa.
+-- Made from Proof.ans by tools/answers, 75774a16c8231c15.
 use borrow.Author.Needs.{needs}
 use Rattle.state.proofs.reject.Statement.{statement}
 use Rattle.state.proofs.reject.Tie as tie

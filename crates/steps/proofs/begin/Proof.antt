@@ -1,4 +1,4 @@
--- Made from Proof.ans by tools/answers, 288c5832f5eca2c7 5c53f3d883f21735.
+-- Made from Proof.ans by tools/answers, 288c5832f5eca2c7.
 -- The counters, then the node types.
 use borrow.Author.Needs.{needs}
 use Rattle.steps.proofs.begin.Statement.{statement}

@@ -1,4 +1,4 @@
--- Made from Proof.ans by tools/answers, 582d94936c4704ee c82fd34c994f390d.
+-- Made from Proof.ans by tools/answers, 582d94936c4704ee.
 -- Only a wildcard is rejected.
 use borrow.Author.Needs.{needs}
 use Rattle.steps.proofs.check_head.Statement.{statement}

@@ -1,4 +1,4 @@
--- Made from Proof.ans by tools/answers, fb2f8371e919fdea 24a13db7563d261a.
+-- Made from Proof.ans by tools/answers, fb2f8371e919fdea.
 use borrow.Author.Needs.{needs}
 use Rattle.steps.proofs.field_at.Statement.{statement}
 use Rattle.steps.proofs.field_at.Tie as tie

@@ -1,4 +1,4 @@
--- Made from Proof.ans by tools/answers, f756eb882c0385f9 6057ddcb4db2482f.
+-- Made from Proof.ans by tools/answers, f756eb882c0385f9.
 use borrow.Author.Needs.{needs}
 use Rattle.steps.proofs.fuzzy_distance.Statement.{statement}
 use Rattle.steps.proofs.fuzzy_distance.Tie as tie

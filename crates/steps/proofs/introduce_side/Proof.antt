@@ -1,4 +1,4 @@
--- Made from Proof.ans by tools/answers, 0e83f83b0276e078 83ba409d2e86d216.
+-- Made from Proof.ans by tools/answers, 0e83f83b0276e078.
 -- Only a variable is introduced.
 use borrow.Author.Needs.{needs}
 use Rattle.steps.proofs.introduce_side.Statement.{statement}

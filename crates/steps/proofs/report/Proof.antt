@@ -1,4 +1,4 @@
--- Made from Proof.ans by tools/answers, 95e2ee398ff94703 18750d491a104b28.
+-- Made from Proof.ans by tools/answers, 95e2ee398ff94703.
 use borrow.Author.Needs.{needs}
 use Rattle.steps.proofs.report.Statement.{statement}
 use Rattle.steps.proofs.report.Tie as tie

@@ -1,4 +1,4 @@
--- Made from Proof.ans by tools/answers, 9eb361fc5925dba6 4d18da12ac2bd28b.
+-- Made from Proof.ans by tools/answers, 9eb361fc5925dba6.
 use borrow.Author.Needs.{needs}
 use Rattle.steps.proofs.select_of.Statement.{statement}
 use Rattle.steps.proofs.select_of.Tie as tie

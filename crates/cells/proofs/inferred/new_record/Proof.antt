@@ -1,4 +1,4 @@
--- Made from Proof.ans by tools/answers, 347723f436763702 31c3d6474ba1ddc4.
+-- Made from Proof.ans by tools/answers, 347723f436763702.
 use borrow.Author.Needs.{needs}
 use Rattle.cells.proofs.inferred.new_record.Statement.{statement}
 use Rattle.cells.proofs.inferred.new_record.Tie as tie

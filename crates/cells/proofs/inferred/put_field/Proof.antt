@@ -1,4 +1,4 @@
--- Made from Proof.ans by tools/answers, 92bb66d543f8429c a46741824614ffc2.
+-- Made from Proof.ans by tools/answers, 92bb66d543f8429c.
 use borrow.Author.Needs.{needs}
 use Rattle.cells.proofs.inferred.put_field.Statement.{statement}
 use Rattle.cells.proofs.inferred.put_field.Tie as tie

@@ -1,4 +1,4 @@
--- Made from Proof.ans by tools/answers, 86058e0f88e3fd96 f1459623fbd5663e.
+-- Made from Proof.ans by tools/answers, 86058e0f88e3fd96.
 -- `reading::parts_earlier` meets its contract. The invariant: the test of all parts is the test of those left. The measure is what is
 -- left of the line.
 use Rattle.reading.proofs.types.parts_earlier.Statement.{statement}

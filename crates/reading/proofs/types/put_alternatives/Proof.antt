@@ -1,4 +1,4 @@
--- Made from Proof.ans by tools/answers, 31e6ec478c656129 d945bcc5737806c5.
+-- Made from Proof.ans by tools/answers, 31e6ec478c656129.
 -- `reading::put_alternatives` meets its contract. The invariant: the words of all parts written to the words at the start are those of the parts left
 -- written to the words now. The measure is what is left of the line.
 use Rattle.reading.proofs.types.put_alternatives.Statement.{statement}

@@ -1,4 +1,4 @@
--- Made from Proof.ans by tools/answers, 2c27b470dc43e892 6b8974657598b2ac.
+-- Made from Proof.ans by tools/answers, 2c27b470dc43e892.
 -- `reading::put_fields` meets its contract. The invariant: the words of all parts written to the words at the start are those of the parts left
 -- written to the words now. The measure is what is left of the line.
 use Rattle.reading.proofs.types.put_fields.Statement.{statement}

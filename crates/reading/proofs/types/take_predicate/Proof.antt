@@ -1,4 +1,4 @@
--- Made from Proof.ans by tools/answers, 6243c2e605530047 53b9da48c32f0886.
+-- Made from Proof.ans by tools/answers, 6243c2e605530047.
 -- `reading::take_predicate` meets its contract: each end is one of a predicate line's.
 use borrow.Author.Needs.{needs}
 use Rattle.reading.proofs.types.take_predicate.Statement.{statement}

@@ -1,4 +1,4 @@
--- Made from Proof.ans by tools/answers, 656a8d93f5337109 5eedc88e2a812c0b.
+-- Made from Proof.ans by tools/answers, 656a8d93f5337109.
 -- `reading::take_record` meets its contract: each end is one of such a line's.
 use borrow.Author.Needs.{needs}
 use Rattle.reading.proofs.types.take_record.Statement.{statement}

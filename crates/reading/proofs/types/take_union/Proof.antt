@@ -1,4 +1,4 @@
--- Made from Proof.ans by tools/answers, 36b55cbf44585795 ba2cdedd215b0af2.
+-- Made from Proof.ans by tools/answers, 36b55cbf44585795.
 -- `reading::take_union` meets its contract: each end is one of such a line's.
 use borrow.Author.Needs.{needs}
 use Rattle.reading.proofs.types.take_union.Statement.{statement}
