@@ -1,24 +1,24 @@
--- Made from Proof.ans by tools/answers, ba47fa7360725c19.
+-- Made from Proof.ans by tools/answers, 4c11e9c1db7ee57b.
 -- A call costs a visit, so twice the visits left falls; the walk over a cell's parts stands one above. The answer for the row is
 -- the answer for the rest from j on.
 use Prim.Native.Nat.{ℕ, _<_, _+_, _-_, _*_}
 use borrow.Fn.Kinds.{In}
 use borrow.Fn.PlainCycle.{Measures, is, falls, and}
-use Rattle.cells.proofs.all_orderable.Reads as all-orderable
-use Rattle.cells.proofs.all_orderable.Kinds as all-orderable-kinds
-use Rattle.cells.proofs.+all_orderable+orderable.Lts-all_orderable as all-orderable-lts
-use Rattle.cells.proofs.orderable.Reads as orderable
-use Rattle.cells.proofs.orderable.Kinds as orderable-kinds
-use Rattle.cells.proofs.+all_orderable+orderable.Lts-orderable as orderable-lts
+use Rattle.unify.proofs.all_orderable.Reads as all-orderable
+use Rattle.unify.proofs.all_orderable.Kinds as all-orderable-kinds
+use Rattle.unify.proofs.+all_orderable+orderable.Lts-all_orderable as all-orderable-lts
+use Rattle.unify.proofs.orderable.Reads as orderable
+use Rattle.unify.proofs.orderable.Kinds as orderable-kinds
+use Rattle.unify.proofs.+all_orderable+orderable.Lts-orderable as orderable-lts
 use Rattle.cells.proofs.count.Reads as count-reads
 use Rattle.cells.proofs.head.Reads as head-reads
 use Rattle.cells.proofs.part_at.Reads as part-at-reads
-use Rattle.cells.proofs.+all_orderable+orderable.{statement}
-use Rattle.cells.proofs.+all_orderable+orderable.Tie.{close}
+use Rattle.unify.proofs.+all_orderable+orderable.{statement}
+use Rattle.unify.proofs.+all_orderable+orderable.Tie.{close}
 use borrow.Author.Needs.{needs}
 use native.Mathlib.Omega.{arith}
 use Rattle.unification.specs.Acyclic.{Acyclic}
 use Rattle.cells.proofs.Asking.{orders, Walking, walk-start, order-no-visit, order-fact, order-record, order-union, order-else, all-goes-on, all-stops, all-done}
 
 abbrev μ-all-orderable : Measures 1 all-orderable-kinds.ps ℕ
 μ-all-orderable κs a = 2 * a .1 .1 .1 .0 + 1

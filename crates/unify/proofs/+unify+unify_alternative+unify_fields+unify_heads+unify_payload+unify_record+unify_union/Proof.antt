@@ -1,49 +1,49 @@
--- Made from Proof.ans by tools/answers, 68b17059a9ef4bc7.
+-- Made from Proof.ans by tools/answers, 63b76776eaa963b8.
 -- An entry costs a visit, and the visits left never grow: the measure is the visits left, and among calls with as many left
 -- the place of a function on the way down from `unify_heads` to the next `unify`. Each arm is a law of its own.
 use Prim.Native.Nat.{ℕ, _<_, _+_, _-_, _*_, _≤_}
 use borrow.Fn.Kinds.{In}
 use borrow.Fn.PlainCycle.{Measures, is, falls, and}
-use Rattle.cells.proofs.unify.Reads as unify
-use Rattle.cells.proofs.unify.Kinds as unify-kinds
-use Rattle.cells.proofs.+unify+unify_alternative+unify_fields+unify_heads+unify_payload+unify_record+unify_union.Lts-unify as unify-lts
-use Rattle.cells.proofs.unify_alternative.Reads as unify-alternative
-use Rattle.cells.proofs.unify_alternative.Kinds as unify-alternative-kinds
-use Rattle.cells.proofs.+unify+unify_alternative+unify_fields+unify_heads+unify_payload+unify_record+unify_union.Lts-unify_alternative as unify-alternative-lts
-use Rattle.cells.proofs.unify_fields.Reads as unify-fields
-use Rattle.cells.proofs.unify_fields.Kinds as unify-fields-kinds
-use Rattle.cells.proofs.+unify+unify_alternative+unify_fields+unify_heads+unify_payload+unify_record+unify_union.Lts-unify_fields as unify-fields-lts
-use Rattle.cells.proofs.unify_heads.Reads as unify-heads
-use Rattle.cells.proofs.unify_heads.Kinds as unify-heads-kinds
-use Rattle.cells.proofs.+unify+unify_alternative+unify_fields+unify_heads+unify_payload+unify_record+unify_union.Lts-unify_heads as unify-heads-lts
-use Rattle.cells.proofs.unify_payload.Reads as unify-payload
-use Rattle.cells.proofs.unify_payload.Kinds as unify-payload-kinds
-use Rattle.cells.proofs.+unify+unify_alternative+unify_fields+unify_heads+unify_payload+unify_record+unify_union.Lts-unify_payload as unify-payload-lts
-use Rattle.cells.proofs.unify_record.Reads as unify-record
-use Rattle.cells.proofs.unify_record.Kinds as unify-record-kinds
-use Rattle.cells.proofs.+unify+unify_alternative+unify_fields+unify_heads+unify_payload+unify_record+unify_union.Lts-unify_record as unify-record-lts
-use Rattle.cells.proofs.unify_union.Reads as unify-union
-use Rattle.cells.proofs.unify_union.Kinds as unify-union-kinds
-use Rattle.cells.proofs.+unify+unify_alternative+unify_fields+unify_heads+unify_payload+unify_record+unify_union.Lts-unify_union as unify-union-lts
+use Rattle.unify.proofs.unify.Reads as unify
+use Rattle.unify.proofs.unify.Kinds as unify-kinds
+use Rattle.unify.proofs.+unify+unify_alternative+unify_fields+unify_heads+unify_payload+unify_record+unify_union.Lts-unify as unify-lts
+use Rattle.unify.proofs.unify_alternative.Reads as unify-alternative
+use Rattle.unify.proofs.unify_alternative.Kinds as unify-alternative-kinds
+use Rattle.unify.proofs.+unify+unify_alternative+unify_fields+unify_heads+unify_payload+unify_record+unify_union.Lts-unify_alternative as unify-alternative-lts
+use Rattle.unify.proofs.unify_fields.Reads as unify-fields
+use Rattle.unify.proofs.unify_fields.Kinds as unify-fields-kinds
+use Rattle.unify.proofs.+unify+unify_alternative+unify_fields+unify_heads+unify_payload+unify_record+unify_union.Lts-unify_fields as unify-fields-lts
+use Rattle.unify.proofs.unify_heads.Reads as unify-heads
+use Rattle.unify.proofs.unify_heads.Kinds as unify-heads-kinds
+use Rattle.unify.proofs.+unify+unify_alternative+unify_fields+unify_heads+unify_payload+unify_record+unify_union.Lts-unify_heads as unify-heads-lts
+use Rattle.unify.proofs.unify_payload.Reads as unify-payload
+use Rattle.unify.proofs.unify_payload.Kinds as unify-payload-kinds
+use Rattle.unify.proofs.+unify+unify_alternative+unify_fields+unify_heads+unify_payload+unify_record+unify_union.Lts-unify_payload as unify-payload-lts
+use Rattle.unify.proofs.unify_record.Reads as unify-record
+use Rattle.unify.proofs.unify_record.Kinds as unify-record-kinds
+use Rattle.unify.proofs.+unify+unify_alternative+unify_fields+unify_heads+unify_payload+unify_record+unify_union.Lts-unify_record as unify-record-lts
+use Rattle.unify.proofs.unify_union.Reads as unify-union
+use Rattle.unify.proofs.unify_union.Kinds as unify-union-kinds
+use Rattle.unify.proofs.+unify+unify_alternative+unify_fields+unify_heads+unify_payload+unify_record+unify_union.Lts-unify_union as unify-union-lts
 use Rattle.cells.proofs.alternative.Reads as alternative-reads
-use Rattle.cells.proofs.bind_var.Reads as bind-var-reads
+use Rattle.unify.proofs.bind_var.Reads as bind-var-reads
 use Rattle.cells.proofs.count.Reads as count-reads
-use Rattle.cells.proofs.differ.Reads as differ-reads
+use Rattle.unify.proofs.differ.Reads as differ-reads
 use Rattle.cells.proofs.field.Reads as field-reads
-use Rattle.cells.proofs.next_discriminant.Reads as next-discriminant-reads
+use Rattle.unify.proofs.next_discriminant.Reads as next-discriminant-reads
 use Rattle.cells.proofs.place_of.Reads as place-of-reads
 use Rattle.cells.proofs.repr.Reads as repr-reads
-use Rattle.cells.proofs.same_leaf.Reads as same-leaf-reads
+use Rattle.unify.proofs.same_leaf.Reads as same-leaf-reads
 use Rattle.cells.proofs.set_var.Reads as set-var-reads
-use Rattle.cells.proofs.+unify+unify_alternative+unify_fields+unify_heads+unify_payload+unify_record+unify_union.{statement}
-use Rattle.cells.proofs.+unify+unify_alternative+unify_fields+unify_heads+unify_payload+unify_record+unify_union.Tie.{close}
+use Rattle.unify.proofs.+unify+unify_alternative+unify_fields+unify_heads+unify_payload+unify_record+unify_union.{statement}
+use Rattle.unify.proofs.+unify+unify_alternative+unify_fields+unify_heads+unify_payload+unify_record+unify_union.Tie.{close}
 use borrow.Author.Needs.{needs}
 use native.Mathlib.Omega.{arith}
 use mathlib.Core.Path.{_≡_, refl, sym, ap, _∙_}
 use Rattle.cells.proofs.Heads.{error-var, error-else, var-error, var-same, var-var, var-else, record-error, record-var, record-record, record-else, union-error, union-var, union-union, union-else, leaf-error, leaf-var, leaf-same, leaf-else, unify-none, unify-enter}
 use Rattle.cells.proofs.Parts.{place-here, place-none}
 use Rattle.cells.proofs.Records.{record-same, record-differs, FieldsGoing, fields-start, fields-unknown, fields-next, fields-stop, fields-end}
 use Rattle.cells.proofs.Unions.{payload-fails, payload-else, in-neither, in-expected, in-found, renamed, in-both, UnionGoing, union-start, union-next, union-stop, union-end, union-past}
 
 abbrev μ-unify : Measures 1 unify-kinds.ps ℕ
 μ-unify κs a = 8 * a .1 .1 .1 .0
