@@ -111,19 +111,9 @@ pub record Occurs (w : List ℕ) (x : ℕ) (t : Ty) (left : ℕ) (r : Asked) : T
   pub is : (T : Rows) (s : Subst) → Cells w T → Binds w T s → Ok w t → (d : ℕ) → left ≤ d → answerOf r ≡ Bindings.occurs d s x left (tree T t)
   pub fewer : askedLeft r ≤ left
 
-pub record OccursIn (w : List ℕ) (x : ℕ) (k : Kind) (c left : ℕ) (r : Asked) : Type 0 where
-  pub is : (T : Rows) (s : Subst) → Cells w T → Binds w T s → IsCell w k c → (d : ℕ) → left ≤ d
-      → answerOf r ≡ anyRow (λ v u. Bindings.occurs d s x v u) left (T c)
-  pub fewer : askedLeft r ≤ left
-
 -- Of the type with every bound unknown replaced.
 pub record IsOrderable (w : List ℕ) (t : Ty) (left : ℕ) (r : Asked) : Type 0 where
   pub is : (T : Rows) (s : Subst) → Cells w T → Binds w T s → Acyclic s → Ok w t → answerOf r ≡ Unify.orderable (Bindings.zonk s (tree T t)) left
-  pub fewer : askedLeft r ≤ left
-
-pub record AllOrderable (w : List ℕ) (k : Kind) (c left : ℕ) (r : Asked) : Type 0 where
-  pub is : (T : Rows) (s : Subst) → Cells w T → Binds w T s → Acyclic s → IsCell w k c
-      → answerOf r ≡ Unify.allOrderable (appRow (λ x. Bindings.zonk s (Tree.Var x)) (T c)) left
   pub fewer : askedLeft r ≤ left
 
 -- ---- The state

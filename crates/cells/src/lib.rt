@@ -358,16 +358,6 @@ fn follow_far(w: &[u32], x: u32) -> Ty
     follow_any(w, Ty::Var(x))
 }
 
-// `repr` where it is not asked often.
-pub fn head(w: &[u32], t: Ty) -> Ty
-    ensures { λ r. ⌜ Reprs (now (w .entry)) t r ⌝ }
-{
-    match t {
-        Ty::Var(x) => follow_far(w, x),
-        _ => t,
-    }
-}
-
 // `repr`: mostly the first binding tells. The slice is lent anew to the call, so that it can stay in registers otherwise.
 pub fn repr(w: &[u32], t: Ty) -> Ty
     ensures { λ r. ⌜ Reprs (now (w .entry)) t r ⌝ }
@@ -422,6 +412,31 @@ pub fn part_of(w: &[u32], t: Ty, j: u32) -> Part
     }
 }
 
+// Its type alone.
+fn field_ty(w: &[u32], c: u32, j: u32) -> Ty
+    ensures { λ r. ⌜ r ≡ fieldW (now (w .entry)) c j .ty ⌝ }
+{
+    if c < 256 {
+        declared(w, word(w, work::FIELDS + first(w, c) + wide(j)) % 256)
+    } else {
+        let at = work::RECORD_FIELDS + 2 * (first(w, c) + wide(j));
+        ty_of(word(w, at) % 16, word(w, at + 1))
+    }
+}
+
+pub fn part_ty(w: &[u32], t: Ty, j: u32) -> Ty
+    ensures { λ r. ⌜ r ≡ partOfW (now (w .entry)) t j .ty ⌝ }
+{
+    match t {
+        Ty::Union(c) => declared(
+            w,
+            word(w, work::FIELDS + first(w, c) + 2 * wide(j) + 1) % 256,
+        ),
+        Ty::Record(c) => field_ty(w, c, j),
+        _ => field_ty(w, 0, j),
+    }
+}
+
 // `occurs`: to the first yes.
 pub fn occurs(w: &[u32], x: u32, t: Ty, left: u32) -> Asked
     ensures { λ r. ⌜ Occurs (now (w .entry)) x t left r ⌝ }
@@ -437,8 +452,7 @@ pub fn occurs(w: &[u32], x: u32, t: Ty, left: u32) -> Asked
     let n = part_count(w, u);
     let mut j: u32 = 0;
     while j < n {
-        let p = part_of(w, u, j);
-        let q = p.ty;
+        let q = part_ty(w, u, j);
         let r = occurs(w, x, q, rest);
         match r {
             Asked::No(l) => {

@@ -1,7 +1,7 @@
 // `unify` and `orderable` over the cells, as ty.rs has them. A visit is counted at each entry.
 ghost use mathlib.Core.Path.{_≡_};
 ghost use Rattle.cells.specs.Words.{sameLeafW};
-ghost use Rattle.cells.specs.Contracts.{IsOrderable, AllOrderable, Lowers, LeastFrom, NextFrom, Unifies, BindsVar, UnifiesHeads, UnifiesRecord, UnifiesFields, UnifiesUnion, UnifiesAlternative, UnifiesPayload};
+ghost use Rattle.cells.specs.Contracts.{IsOrderable, Lowers, LeastFrom, NextFrom, Unifies, BindsVar, UnifiesHeads, UnifiesRecord, UnifiesFields, UnifiesUnion, UnifiesAlternative, UnifiesPayload};
 ghost use Rattle.cells.specs.declared.Ty.the-variants as Ty;
 ghost use Rattle.cells.specs.declared.TyError.the-variants as TyError;
 ghost use Rattle.cells.specs.declared.Unified.the-variants as Unified;
@@ -15,10 +15,10 @@ use cells::UnionDiff;
 use cells::alternative;
 use cells::count;
 use cells::field;
-use cells::head;
 use cells::key_at;
 use cells::occurs;
-use cells::part_at;
+use cells::part_count;
+use cells::part_ty;
 use cells::payload_of;
 use cells::place_of;
 use cells::repr;
@@ -263,34 +263,26 @@ fn unify_payload(w: &mut [u32], c: u32, d: u32, diff: UnionDiff, a: Ty, b: Ty, l
     }
 }
 
-// `orderable` of the resolved type: unknowns are looked up on the way.
+// `orderable` of the resolved type: unknowns are looked up on the way; to the first no.
 pub fn orderable(w: &[u32], t: Ty, left: u32) -> Asked
     ensures { λ r. ⌜ IsOrderable (now (w .entry)) t left r ⌝ }
 {
     if left == 0 {
         return Asked::Spent;
     }
-    let l = left - 1;
-    let r = head(w, t);
-    match r {
-        Ty::Fact(_) => Asked::No(l),
-        Ty::Record(c) => all_orderable(w, Kind::Fields, c, l),
-        Ty::Union(c) => all_orderable(w, Kind::Alternatives, c, l),
-        _ => Asked::Yes(l),
+    let u = repr(w, t);
+    let mut rest = left - 1;
+    match u {
+        Ty::Fact(_) => {
+            return Asked::No(rest);
+        }
+        _ => {}
     }
-}
-
-// `all` over the parts of a cell: to the first no.
-fn all_orderable(w: &[u32], k: Kind, c: u32, left: u32) -> Asked
-    ensures { λ r. ⌜ AllOrderable (now (w .entry)) k c left r ⌝ }
-{
-    let n = count(w, c);
+    let n = part_count(w, u);
     let mut j: u32 = 0;
-    let mut rest = left;
     while j < n {
-        let p = part_at(w, k, c, j);
-        let t = p.ty;
-        let r = orderable(w, t, rest);
+        let q = part_ty(w, u, j);
+        let r = orderable(w, q, rest);
         match r {
             Asked::Yes(l) => {
                 rest = l;
