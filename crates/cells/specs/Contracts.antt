@@ -118,10 +118,11 @@ pub record IsOrderable (w : List ℕ) (t : Ty) (left : ℕ) (r : Asked) : Type 0
 
 -- ---- The state
 
--- Back to a length of the undo log, whatever history the snapshot noted.
+-- Back to a length of the undo log, whatever history the snapshot noted. Whatever the words are, only node types, bindings and the
+-- log change.
 pub record RollsBack (w : List ℕ) (mark : ℕ) (w′ : List ℕ) : Type 0 where
   pub is : (T : Rows) (st : State) → Holds w T st → (past : History) → Holds w′ T (Bindings.rollback st (record { undo = mark; past = past }))
-  pub keeps : (T : Rows) (st : State) → Holds w T st → Keeps TYS END w w′
+  pub keeps : Keeps TYS END w w′
 
 -- ---- Unification
 
@@ -151,16 +152,19 @@ Ends w w′ T r (Unify.Ok st) = (r ≡ Unified.Good (st .left)) × Stays w w′ 
 Ends w w′ T r (Unify.Err e st) = (e′ : TyError) × (r ≡ Unified.Bad e′ (st .left)) × (errorOf T e′ ≡ e) × Stays w w′ T st
 Ends w w′ T r (Unify.Spent st) = (r ≡ Unified.Spent) × (st .left ≡ 0) × Stays w w′ T st
 
+-- Whatever the words are, the visits left do not rise, and only bindings and the undo log change.
 pub record Unifies (w : List ℕ) (got expected : Ty) (left : ℕ) (w′ : List ℕ) (r : Unified) : Type 0 where
   pub is : (T : Rows) (st : State) → Holds w T st → st .left ≡ left → Ok w got → Ok w expected → (d : ℕ) → left ≤ d
       → Ends w w′ T r (Unify.unifyIn d st (tree T got) (tree T expected))
   pub fewer : unifiedLeft r ≤ left
+  pub keeps : Keeps UNDO-LEN END w w′
 
 -- A step inside it, from a state of which P holds, to what `f` gives over trees. The depth is any that is not below the
 -- visits left.
 pub record Step (P : Rows → State → Type 0) (f : ℕ → Rows → State → Unify.Unified) (w : List ℕ) (left : ℕ) (w′ : List ℕ) (r : Unified) : Type 0 where
   pub is : (T : Rows) (st : State) → Holds w T st → st .left ≡ left → P T st → (d : ℕ) → left ≤ d → Ends w w′ T r (f d T st)
   pub fewer : unifiedLeft r ≤ left
+  pub keeps : Keeps UNDO-LEN END w w′
 
 abbrev pub unifier : ℕ → State → Tree.Ty → Tree.Ty → Unify.Unified
 unifier d st a b = Unify.unifyIn d st a b

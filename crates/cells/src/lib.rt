@@ -13,7 +13,14 @@ mod inferred;
 pub use inferred::new_record;
 pub use inferred::put_field;
 pub use inferred::reserve;
+use work::Counters;
+use work::above_tag;
+use work::part_name;
+use work::part_type;
 use work::put;
+use work::run_first;
+use work::run_size;
+use work::tag_in;
 use work::wide;
 use work::word;
 
@@ -135,7 +142,7 @@ pub fn declared(w: &[u32], t: u32) -> Ty
     ensures { λ r. ⌜ r ≡ declaredW (now (w .entry)) t ⌝ }
 {
     let at = work::TYPES + 2 * wide(t);
-    let tag = word(w, at) % 16;
+    let tag = tag_in(word(w, at));
     if tag == 5 {
         return Ty::Record(t);
     }
@@ -149,40 +156,40 @@ pub fn declared(w: &[u32], t: u32) -> Ty
 pub fn count(w: &[u32], c: u32) -> u32
     ensures { λ r. ⌜ r ≡ countW (now (w .entry)) c ⌝ }
 {
-    if c < 256 {
-        word(w, work::TYPES + 2 * wide(c)) / 16
+    if c < Counters::TYPES {
+        above_tag(word(w, work::TYPES + 2 * wide(c)))
     } else {
-        word(w, work::RECORDS + wide(c - 256)) % 1024
+        run_size(word(w, work::RECORDS + wide(c - Counters::TYPES)))
     }
 }
 
 pub fn first(w: &[u32], c: u32) -> usize
     ensures { λ r. ⌜ (r ≡ firstW (now (w .entry)) c) × (r < 4294967296) ⌝ }
 {
-    if c < 256 {
+    if c < Counters::TYPES {
         wide(word(w, work::TYPES + 2 * wide(c) + 1))
     } else {
-        wide(word(w, work::RECORDS + wide(c - 256)) / 1024)
+        wide(run_first(word(w, work::RECORDS + wide(c - Counters::TYPES))))
     }
 }
 
 pub fn field(w: &[u32], c: u32, j: u32) -> Part
     ensures { λ r. ⌜ r ≡ fieldW (now (w .entry)) c j ⌝ }
 {
-    if c < 256 {
+    if c < Counters::TYPES {
         let x = word(w, work::FIELDS + first(w, c) + wide(j));
         Part {
-            key: x / 256,
+            key: part_name(x),
             label: 0,
-            ty: declared(w, x % 256),
+            ty: declared(w, part_type(x)),
         }
     } else {
         let at = work::RECORD_FIELDS + 2 * (first(w, c) + wide(j));
         let x = word(w, at);
         Part {
-            key: x / 16,
+            key: above_tag(x),
             label: 0,
-            ty: ty_of(x % 16, word(w, at + 1)),
+            ty: ty_of(tag_in(x), word(w, at + 1)),
         }
     }
 }
@@ -194,8 +201,8 @@ pub fn alternative(w: &[u32], c: u32, j: u32) -> Part
     let x = word(w, at + 1);
     Part {
         key: word(w, at),
-        label: x / 256,
-        ty: declared(w, x % 256),
+        label: part_name(x),
+        ty: declared(w, part_type(x)),
     }
 }
 
@@ -214,10 +221,10 @@ pub fn key_at(w: &[u32], k: Kind, c: u32, j: u32) -> u32
 {
     match k {
         Kind::Fields => {
-            if c < 256 {
-                word(w, work::FIELDS + first(w, c) + wide(j)) / 256
+            if c < Counters::TYPES {
+                part_name(word(w, work::FIELDS + first(w, c) + wide(j)))
             } else {
-                word(w, work::RECORD_FIELDS + 2 * (first(w, c) + wide(j))) / 16
+                above_tag(word(w, work::RECORD_FIELDS + 2 * (first(w, c) + wide(j))))
             }
         }
         Kind::Alternatives => word(w, work::FIELDS + first(w, c) + 2 * wide(j)),
@@ -350,7 +357,7 @@ fn follow_far(w: &[u32], x: u32) -> Ty
     ensures { λ r. ⌜ Reprs (now (w .entry)) (Ty.Var x) r ⌝ }
 {
     let n = word(w, work::UNKNOWNS);
-    if n <= 512 {
+    if n <= Counters::UNKNOWNS {
         if work::UNDO <= w.len() {
             return follow_within(w, x, n);
         }
@@ -416,11 +423,11 @@ pub fn part_of(w: &[u32], t: Ty, j: u32) -> Part
 fn field_ty(w: &[u32], c: u32, j: u32) -> Ty
     ensures { λ r. ⌜ r ≡ fieldW (now (w .entry)) c j .ty ⌝ }
 {
-    if c < 256 {
-        declared(w, word(w, work::FIELDS + first(w, c) + wide(j)) % 256)
+    if c < Counters::TYPES {
+        declared(w, part_type(word(w, work::FIELDS + first(w, c) + wide(j))))
     } else {
         let at = work::RECORD_FIELDS + 2 * (first(w, c) + wide(j));
-        ty_of(word(w, at) % 16, word(w, at + 1))
+        ty_of(tag_in(word(w, at)), word(w, at + 1))
     }
 }
 
@@ -430,7 +437,7 @@ pub fn part_ty(w: &[u32], t: Ty, j: u32) -> Ty
     match t {
         Ty::Union(c) => declared(
             w,
-            word(w, work::FIELDS + first(w, c) + 2 * wide(j) + 1) % 256,
+            part_type(word(w, work::FIELDS + first(w, c) + 2 * wide(j) + 1)),
         ),
         Ty::Record(c) => field_ty(w, c, j),
         _ => field_ty(w, 0, j),
@@ -467,13 +474,15 @@ pub fn occurs(w: &[u32], x: u32, t: Ty, left: u32) -> Asked
     Asked::No(rest)
 }
 
-// The undo log holds an unknown as its number and a node as its number and 65,536: what stood there before is always
-// none, since an unknown is bound only while it is free and a node is annotated once.
+// The undo log holds an unknown as its number and a node as its number and this: what stood there before is always none,
+// since an unknown is bound only while it is free and a node is annotated once.
+const NODE: u32 = 65536;
+
 fn push_undo(w: &mut [u32], entry: u32)
     ensures { λ _. ⌜ now (w .exit) ≡ pushUndoW (now (w .entry)) entry ⌝ }
 {
     let n = word(w, work::UNDO_LEN);
-    if n < 1024 {
+    if n < Counters::UNDO {
         put(w, work::UNDO + wide(n), entry);
         put(w, work::UNDO_LEN, n + 1);
     }
@@ -484,7 +493,7 @@ pub fn fresh_var_id(w: &mut [u32]) -> u32
     ensures { λ r. ⌜ (r ≡ getD (now (w .entry)) UNKNOWNS 0) × (now (w .exit) ≡ freshW (now (w .entry))) ⌝ }
 {
     let x = word(w, work::UNKNOWNS);
-    if x < 512 {
+    if x < Counters::UNKNOWNS {
         put(w, work::BINDINGS + 2 * wide(x), 0);
         put(w, work::UNKNOWNS, x + 1);
     }
@@ -494,20 +503,22 @@ pub fn fresh_var_id(w: &mut [u32]) -> u32
 pub fn set_var(w: &mut [u32], x: u32, t: Ty)
     ensures { λ _. ⌜ now (w .exit) ≡ setVarW (now (w .entry)) x t ⌝ }
 {
-    let at = work::BINDINGS + 2 * wide(x);
-    put(w, at, tag_of(t));
-    put(w, at + 1, payload_of(t));
-    push_undo(w, x);
+    if x < Counters::UNKNOWNS {
+        let at = work::BINDINGS + 2 * wide(x);
+        put(w, at, tag_of(t));
+        put(w, at + 1, payload_of(t));
+        push_undo(w, x);
+    }
 }
 
 pub fn annotate(w: &mut [u32], n: u32, t: Ty)
     ensures { λ _. ⌜ now (w .exit) ≡ annotateW (now (w .entry)) n t ⌝ }
 {
-    if n < 512 {
+    if n < Counters::NODES {
         let at = work::TYS + 2 * wide(n);
         put(w, at, tag_of(t));
         put(w, at + 1, payload_of(t));
-        push_undo(w, n + 65536);
+        push_undo(w, n + NODE);
     }
 }
 
@@ -520,10 +531,15 @@ pub fn snapshot(w: &[u32]) -> u32
 fn revert(w: &mut [u32], entry: u32)
     ensures { λ _. ⌜ now (w .exit) ≡ revertW (now (w .entry)) entry ⌝ }
 {
-    if entry < 65536 {
-        put(w, work::BINDINGS + 2 * wide(entry), 0);
+    if entry < NODE {
+        if entry < Counters::UNKNOWNS {
+            put(w, work::BINDINGS + 2 * wide(entry), 0);
+        }
     } else {
-        put(w, work::TYS + 2 * wide(entry - 65536), 0);
+        let n = entry - NODE;
+        if n < Counters::NODES {
+            put(w, work::TYS + 2 * wide(n), 0);
+        }
     }
 }
 

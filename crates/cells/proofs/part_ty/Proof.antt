@@ -1,4 +1,4 @@
--- Made from Proof.ans by tools/answers, f228615b742a9444.
+-- Made from Proof.ans by tools/answers, 2adb59a754df54bc.
 -- By the match.
 use borrow.Author.Needs.{needs}
 use Rattle.cells.proofs.part_ty.Statement.{statement}
@@ -8,6 +8,7 @@ use Rattle.cells.proofs.part_ty.Lts as lts
 use Rattle.cells.proofs.declared.Reads as declared-reads
 use Rattle.cells.proofs.field_ty.Reads as field-ty-reads
 use Rattle.cells.proofs.first.Reads as first-reads
+use Rattle.work.proofs.part_type.Reads as part-type-reads
 use Rattle.work.proofs.wide.Reads as wide-reads
 use Rattle.work.proofs.word.Reads as word-reads
 use native.Mathlib.Omega.{arith}
@@ -18,7 +19,7 @@ use Rattle.cells.proofs.Asking.{no-part-ty}
 
 returns : tie.Need-returns
 unfolding alternativeW
-returns c = rw (c .before .before .before .before .before .t .given .1) (simp (c .declared .ensures, c .before .word .ensures, c .before .before .before .first .ensures .0, c .before .before .wide .ensures .0))
+returns c = rw (c .before .before .before .before .before .before .t .given .1) (simp (c .declared .ensures, c .before .part-type .ensures, c .before .before .word .ensures, c .before .before .before .before .first .ensures .0, c .before .before .before .wide .ensures .0))
 
 pub part-ty-spec : {M : Type 1} → statement M
 part-ty-spec =
@@ -31,6 +32,7 @@ part-ty-spec =
     (λ c. search needs)
     (λ c. search needs)
     (λ c. search needs)
+    (λ c κs. search needs)
     (λ c κs. search needs)
     (λ c κs. search needs)
     (λ c. search needs)

@@ -1,4 +1,4 @@
--- Made from Proof.ans by tools/answers, 63b76776eaa963b8.
+-- Made from Proof.ans by tools/answers, ea046d05e7e9acb8.
 -- An entry costs a visit, and the visits left never grow: the measure is the visits left, and among calls with as many left
 -- the place of a function on the way down from `unify_heads` to the next `unify`. Each arm is a law of its own.
 use Prim.Native.Nat.{ℕ, _<_, _+_, _-_, _*_, _≤_}
@@ -231,17 +231,17 @@ pub +unify+unify-alternative+unify-fields+unify-heads+unify-payload+unify-record
     (λ c κs. search needs)
     (λ c κs. search needs)
     (λ c κs. search needs)
-    (λ c. c .before .before .before .before .before .before .before .before .loop .inv .going .long)
+    (λ c. c .before .before .before .before .before .before .before .before .loop .inv .going .keeps .long)
     (λ c. fields-unknown (c .before .before .before .before .before .before .before .before .loop .inv) (c .before .before .before .before .before .before .before .loop-test .taken) (c .before .before .before .before .before .field .ensures) (place-none (c .before .before .before .place-of .ensures) (c .before .count .ensures) (c .if1 .taken)) refl)
     (λ c κs. search needs)
     (λ c κs. omega (arith, c .before .before .before .before .before .before .before .before .before .before .before .loop .inv .going .fewer))
     (λ c. search needs)
-    (λ c. c .before .before .before .unify .kept .0 ∙ c .before .before .before .before .before .before .before .before .before .before .before .before .before .before .before .loop .inv .going .long)
+    (λ c. c .before .before .before .unify .kept .0 ∙ c .before .before .before .before .before .before .before .before .before .before .before .before .before .before .before .loop .inv .going .keeps .long)
     (λ c. fields-stop (c .before .before .before .before .before .before .before .before .before .before .before .before .before .before .before .loop .inv) (c .before .before .before .before .before .before .before .before .before .before .before .before .before .before .loop-test .taken) (c .before .before .before .before .before .before .before .before .before .before .before .before .field .ensures) (place-here (c .before .before .before .before .before .before .before .before .before .before .place-of .ensures) (c .before .before .before .before .before .before .before .before .count .ensures) (c .before .before .before .before .before .field2 .result) (c .before .before .before .before .before .before .before .if1 .left) (c .before .before .before .before .before .field2 .ensures)) refl (c .before .before .before .unify .ensures) (c .match .keys2))
     (λ c. search needs)
     (λ c. omega arith)
-    (λ c. fields-next (c .before .before .before .before .before .before .before .before .before .before .before .before .before .before .before .before .before .loop .inv) (c .before .before .before .before .before .before .before .before .before .before .before .before .before .before .before .before .loop-test .taken) (c .before .before .before .before .before .before .before .before .before .before .before .before .before .before .field .ensures) (place-here (c .before .before .before .before .before .before .before .before .before .before .before .before .place-of .ensures) (c .before .before .before .before .before .before .before .before .before .before .count .ensures) (c .before .before .before .before .before .before .before .field2 .result) (c .before .before .before .before .before .before .before .before .before .if1 .left) (c .before .before .before .before .before .before .before .field2 .ensures)) refl (c .before .before .before .before .before .unify .ensures) (c .before .r .given .0 .0) (c .before .r .given .1) (c .before .before .before .before .before .unify .kept .0))
-    (λ c. c .before .loop .inv .going .long)
+    (λ c. fields-next (c .before .before .before .before .before .before .before .before .before .before .before .before .before .before .before .before .before .loop .inv) (c .before .before .before .before .before .before .before .before .before .before .before .before .before .before .before .before .loop-test .taken) (c .before .before .before .before .before .before .before .before .before .before .before .before .before .before .field .ensures) (place-here (c .before .before .before .before .before .before .before .before .before .before .before .before .place-of .ensures) (c .before .before .before .before .before .before .before .before .before .before .count .ensures) (c .before .before .before .before .before .before .before .field2 .result) (c .before .before .before .before .before .before .before .before .before .if1 .left) (c .before .before .before .before .before .before .before .field2 .ensures)) refl (c .before .before .before .before .before .unify .ensures) (c .before .r .given .0 .0) (c .before .r .given .1))
+    (λ c. c .before .loop .inv .going .keeps .long)
     (λ c. fields-end (c .before .loop .inv) (c .loop-test .left)))
     (λ t. unify-heads-lts.spec (
       set-var-reads.Asked,
@@ -353,15 +353,15 @@ pub +unify+unify-alternative+unify-fields+unify-heads+unify-payload+unify-record
     (λ c κs. search needs)
     (λ c. search needs)
     (λ c. search needs)
-    (λ c. c .before .before .before .before .before .loop .inv .0 .going .long)
+    (λ c. c .before .before .before .before .before .loop .inv .0 .going .keeps .long)
     (λ c. union-end (c .before .before .before .before .before .loop .inv .0) (c .before .before .before .before .loop-test .taken) (c .before .before .next-discriminant .ensures) (c .enum-told .given .1))
     (λ c κs. omega (arith, c .before .before .before .before .before .before .before .loop .inv .0 .going .fewer))
     (λ c. search needs)
-    (λ c. c .before .before .before .unify-alternative .kept .0 ∙ c .before .before .before .before .before .before .before .before .before .before .before .loop .inv .0 .going .long)
+    (λ c. c .before .before .before .unify-alternative .kept .0 ∙ c .before .before .before .before .before .before .before .before .before .before .before .loop .inv .0 .going .keeps .long)
     (λ c. union-stop (c .before .before .before .before .before .before .before .before .before .before .before .loop .inv .0) (c .before .before .before .before .before .before .before .before .before .before .loop-test .taken) (c .before .before .before .before .before .before .before .before .next-discriminant .ensures) (c .before .before .before .before .before .before .next .given .1) (c .before .before .before .unify-alternative .ensures) (c .match2 .keys2))
     (λ c. search needs)
     (λ c. search needs)
     (λ c. omega (arith, rw (c .before .before .before .before .before .before .before .before .next .given .1) at (c .before .before .before .before .before .before .before .before .before .before .next-discriminant .ensures .above)))
-    (λ c. (union-next (c .before .before .before .before .before .before .before .before .before .before .before .before .before .loop .inv .0) (c .before .before .before .before .before .before .before .before .before .before .before .before .loop-test .taken) (c .before .before .before .before .before .before .before .before .before .before .next-discriminant .ensures) (c .before .before .before .before .before .before .before .before .next .given .1) (c .before .before .before .before .before .unify-alternative .ensures) (c .before .r .given .0 .0) (c .before .r .given .1) (c .before .before .before .before .before .unify-alternative .kept .0), omega arith))
-    (λ c. c .before .loop .inv .0 .going .long)
+    (λ c. (union-next (c .before .before .before .before .before .before .before .before .before .before .before .before .before .loop .inv .0) (c .before .before .before .before .before .before .before .before .before .before .before .before .loop-test .taken) (c .before .before .before .before .before .before .before .before .before .before .next-discriminant .ensures) (c .before .before .before .before .before .before .before .before .next .given .1) (c .before .before .before .before .before .unify-alternative .ensures) (c .before .r .given .0 .0) (c .before .r .given .1), omega arith))
+    (λ c. c .before .loop .inv .0 .going .keeps .long)
     (λ c. union-past (c .before .loop .inv .0) (c .loop-test .left))
