@@ -3,7 +3,7 @@
 use mathlib.Core.List.{List}
 use mathlib.Core.Option.{Option, none, some}
 use mathlib.Core.Path.{_≡_}
-use Prim.Native.Nat.{ℕ, _-_, _≤_, _<_}
+use Prim.Native.Nat.{ℕ, _≤_, _<_}
 use Rattle.unification.specs.Ty as Tree
 use Rattle.unification.specs.Ty.{Row, ε, cell, appRow}
 use Rattle.unification.specs.Bindings as Bindings
@@ -18,6 +18,8 @@ use Rattle.cells.specs.declared.Kind.{Kind}
 use Rattle.cells.specs.declared.Kind.the-variants.{Fields, Alternatives}
 use Rattle.cells.specs.declared.Found.{Found}
 use Rattle.cells.specs.declared.Found.the-variants as Found
+use Rattle.cells.specs.declared.Place.{Place}
+use Rattle.cells.specs.declared.Place.the-variants as Place
 use Rattle.cells.specs.declared.Asked.{Asked}
 use Rattle.cells.specs.declared.Asked.the-variants as Asked
 use Rattle.cells.specs.declared.UnionDiff.{UnionDiff}
@@ -29,7 +31,7 @@ use Rattle.cells.specs.declared.Unified.the-variants as Unified
 use Rattle.cells.specs.declared.Next.{Next}
 use Rattle.cells.specs.declared.Next.the-variants as Next
 use Rattle.cells.specs.Words.{countW, partW, lowerW}
-use Rattle.cells.specs.Stands.{Rows, tree, rowFrom, IsCell, Ok, Cells, Binds, Holds, Keeps}
+use Rattle.cells.specs.Stands.{Rows, tree, IsCell, Ok, Cells, Binds, Holds, Keeps}
 
 -- ---- Look-up
 
@@ -45,18 +47,29 @@ abbrev pub OkFound : List ℕ → Found → Type 0
 OkFound w (Found.At p) = Ok w (p .ty)
 OkFound w Found.Nothing = Unit {0}
 
+-- the part that stands there
+abbrev pub partAt : List ℕ → Kind → ℕ → Place → Found
+partAt w k c (Place.At j) = Found.At (partW w k c j)
+partAt w k c Place.Nowhere = Found.Nothing
+
+abbrev pub HasKey : ℕ → Found → Type 0
+HasKey key (Found.At p) = p .key ≡ key
+HasKey key Found.Nothing = Unit {0}
+
+abbrev pub HasName : ℕ → Found → Type 0
+HasName name (Found.At p) = p .label ≡ name
+HasName name Found.Nothing = Unit {0}
+
+-- What is found has the key, or the name, whatever the words are.
 pub record FindsKey (w : List ℕ) (k : Kind) (c key : ℕ) (r : Found) : Type 0 where
   pub is : (T : Rows) → Cells w T → IsCell w k c → foundPart T r ≡ findKey key (T c)
   pub ok : (T : Rows) → Cells w T → IsCell w k c → OkFound w r
-
--- The number of the first part with this key, or one past the last: what is sought in the row is what is sought from there on.
-pub record FindsPlace (w : List ℕ) (k : Kind) (c key r : ℕ) : Type 0 where
-  pub from : (T : Rows) → Cells w T → IsCell w k c → findKey key (T c) ≡ findKey key (rowFrom T w k c r (countW w c - r))
-  pub here : r < countW w c → partW w k c r .key ≡ key
+  pub has : HasKey key r
 
 pub record FindsName (w : List ℕ) (c name : ℕ) (r : Found) : Type 0 where
   pub is : (T : Rows) → Cells w T → IsCell w Alternatives c → foundTy T r ≡ findLabel name (T c)
   pub ok : (T : Rows) → Cells w T → IsCell w Alternatives c → OkFound w r
+  pub has : HasName name r
 
 -- ---- The alternatives of two unions, by ascending discriminant
 

@@ -5,7 +5,7 @@ ghost use Prim.Native.Nat.{ℕ, _+_, _*_, _<_, _≤_};
 ghost use lib.ListN.{length, getD, set};
 ghost use Rattle.work.specs.Layout.{UNKNOWNS, UNDO, UNDO-LEN};
 ghost use Rattle.cells.specs.Words.{tyW, tagW, payloadW, declaredW, countW, firstW, fieldW, alternativeW, partW, boundW, pushUndoW, setVarW, annotateW, freshW, revertW, isUnknownW, partsW, partOfW};
-ghost use Rattle.cells.specs.Contracts.{FindsPlace, FindsKey, FindsName, Reprs, Occurs, RollsBack};
+ghost use Rattle.cells.specs.Contracts.{partAt, FindsKey, FindsName, Reprs, Occurs, RollsBack};
 ghost use Rattle.cells.specs.declared.Ty.the-variants as Ty;
 
 mod inferred;
@@ -53,6 +53,12 @@ pub struct Part {
 pub enum Found {
     At(Part),
     Nothing,
+}
+
+// Where a part stands among those of its cell.
+pub enum Place {
+    At(u32),
+    Nowhere,
 }
 
 pub enum Bound {
@@ -231,32 +237,31 @@ pub fn key_at(w: &[u32], k: Kind, c: u32, j: u32) -> u32
     }
 }
 
-// The number of the first part with this key, or how many parts there are.
-pub fn place_of(w: &[u32], k: Kind, c: u32, key: u32) -> u32
-    ensures { λ r. ⌜ FindsPlace (now (w .entry)) k c key r ⌝ }
+// Where the first part with this key stands.
+pub fn place_of(w: &[u32], k: Kind, c: u32, key: u32) -> Place
+    ensures { λ r. ⌜ FindsKey (now (w .entry)) k c key (partAt (now (w .entry)) k c r) ⌝ }
 {
     let n = count(w, c);
     let mut j: u32 = 0;
     while j < n {
         let x = key_at(w, k, c, j);
         if x == key {
-            return j;
+            return Place::At(j);
         }
         j += 1;
     }
-    j
+    Place::Nowhere
 }
 
 // The first part with this key.
 pub fn find_key(w: &[u32], k: Kind, c: u32, key: u32) -> Found
     ensures { λ r. ⌜ FindsKey (now (w .entry)) k c key r ⌝ }
 {
-    let j = place_of(w, k, c, key);
-    if j < count(w, c) {
-        let p = part_at(w, k, c, j);
-        return Found::At(p);
+    let place = place_of(w, k, c, key);
+    match place {
+        Place::At(j) => Found::At(part_at(w, k, c, j)),
+        Place::Nowhere => Found::Nothing,
     }
-    Found::Nothing
 }
 
 // The first alternative of this name.

@@ -9,8 +9,8 @@ mod names;
 mod nodes;
 mod types;
 
-pub use work::Counters;
 use frames::Decoded;
+pub use work::Counters;
 use work::put;
 
 // The refusals of document 01, by meaning: `refusal` of specs/Contracts.antt.

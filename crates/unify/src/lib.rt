@@ -8,6 +8,7 @@ ghost use Rattle.cells.specs.declared.Unified.the-variants as Unified;
 use cells::Asked;
 use cells::Kind;
 use cells::Next;
+use cells::Place;
 use cells::Ty;
 use cells::TyError;
 use cells::Unified;
@@ -128,10 +129,13 @@ fn unify_fields(w: &mut [u32], c: u32, d: u32, n: u32, left: u32) -> Unified
     let mut rest = left;
     while j < n {
         let p = field(w, c, j);
-        let i = place_of(w, Kind::Fields, d, p.key);
-        if count(w, d) <= i {
-            return Unified::Bad(TyError::UnknownField(p.key), rest);
-        }
+        let place = place_of(w, Kind::Fields, d, p.key);
+        let i = match place {
+            Place::At(i) => i,
+            Place::Nowhere => {
+                return Unified::Bad(TyError::UnknownField(p.key), rest);
+            }
+        };
         let q = field(w, d, i);
         let x = p.ty;
         let y = q.ty;
@@ -224,31 +228,32 @@ fn differ(c: u32, d: u32, diff: UnionDiff, left: u32) -> Unified
 fn unify_alternative(w: &mut [u32], c: u32, d: u32, k: u32, left: u32) -> Unified
     ensures { λ r. ⌜ UnifiesAlternative (now (w .entry)) c d k left (now (w .exit)) r ⌝ }
 {
-    let i = place_of(w, Kind::Alternatives, c, k);
-    let j = place_of(w, Kind::Alternatives, d, k);
-    let n = count(w, c);
-    let m = count(w, d);
-    if i < n {
-        let p = alternative(w, c, i);
-        if j < m {
-            let q = alternative(w, d, j);
-            if p.label == q.label {
-                let a = p.ty;
-                let b = q.ty;
-                unify_payload(w, c, d, UnionDiff::Payload(p.label, k), a, b, left)
-            } else {
-                differ(c, d, UnionDiff::Renamed(q.label, p.label, k), left)
+    let found = place_of(w, Kind::Alternatives, c, k);
+    let expected = place_of(w, Kind::Alternatives, d, k);
+    match found {
+        Place::At(i) => {
+            let p = alternative(w, c, i);
+            match expected {
+                Place::At(j) => {
+                    let q = alternative(w, d, j);
+                    if p.label == q.label {
+                        let a = p.ty;
+                        let b = q.ty;
+                        unify_payload(w, c, d, UnionDiff::Payload(p.label, k), a, b, left)
+                    } else {
+                        differ(c, d, UnionDiff::Renamed(q.label, p.label, k), left)
+                    }
+                }
+                Place::Nowhere => differ(c, d, UnionDiff::Absent(p.label, k), left),
             }
-        } else {
-            differ(c, d, UnionDiff::Absent(p.label, k), left)
         }
-    } else {
-        if j < m {
-            let q = alternative(w, d, j);
-            differ(c, d, UnionDiff::Absent(q.label, k), left)
-        } else {
-            Unified::Good(left)
-        }
+        Place::Nowhere => match expected {
+            Place::At(j) => {
+                let q = alternative(w, d, j);
+                differ(c, d, UnionDiff::Absent(q.label, k), left)
+            }
+            Place::Nowhere => Unified::Good(left),
+        },
     }
 }
 

@@ -1,4 +1,4 @@
--- Made from Proof.ans by tools/answers, ea046d05e7e9acb8.
+-- Made from Proof.ans by tools/answers, ebf4dbb08b8f11d6.
 -- An entry costs a visit, and the visits left never grow: the measure is the visits left, and among calls with as many left
 -- the place of a function on the way down from `unify_heads` to the next `unify`. Each arm is a law of its own.
 use Prim.Native.Nat.{ℕ, _<_, _+_, _-_, _*_, _≤_}
@@ -26,15 +26,15 @@ use Rattle.unify.proofs.unify_union.Reads as unify-union
 use Rattle.unify.proofs.unify_union.Kinds as unify-union-kinds
 use Rattle.unify.proofs.+unify+unify_alternative+unify_fields+unify_heads+unify_payload+unify_record+unify_union.Lts-unify_union as unify-union-lts
 use Rattle.cells.proofs.alternative.Reads as alternative-reads
-use Rattle.unify.proofs.bind_var.Reads as bind-var-reads
 use Rattle.cells.proofs.count.Reads as count-reads
-use Rattle.unify.proofs.differ.Reads as differ-reads
 use Rattle.cells.proofs.field.Reads as field-reads
-use Rattle.unify.proofs.next_discriminant.Reads as next-discriminant-reads
 use Rattle.cells.proofs.place_of.Reads as place-of-reads
 use Rattle.cells.proofs.repr.Reads as repr-reads
-use Rattle.unify.proofs.same_leaf.Reads as same-leaf-reads
 use Rattle.cells.proofs.set_var.Reads as set-var-reads
+use Rattle.unify.proofs.bind_var.Reads as bind-var-reads
+use Rattle.unify.proofs.differ.Reads as differ-reads
+use Rattle.unify.proofs.next_discriminant.Reads as next-discriminant-reads
+use Rattle.unify.proofs.same_leaf.Reads as same-leaf-reads
 use Rattle.unify.proofs.+unify+unify_alternative+unify_fields+unify_heads+unify_payload+unify_record+unify_union.{statement}
 use Rattle.unify.proofs.+unify+unify_alternative+unify_fields+unify_heads+unify_payload+unify_record+unify_union.Tie.{close}
 use borrow.Author.Needs.{needs}
@@ -181,8 +181,6 @@ pub +unify+unify-alternative+unify-fields+unify-heads+unify-payload+unify-record
     (λ t. unify-alternative-lts.spec (
       place-of-reads.Asked,
       place-of-reads.Learnt,
-      count-reads.Asked,
-      count-reads.Learnt,
       alternative-reads.Asked,
       alternative-reads.Learnt,
       unify-payload-below t,
@@ -194,32 +192,34 @@ pub +unify+unify-alternative+unify-fields+unify-heads+unify-payload+unify-record
     unify-alternative.Post
     (λ c κs. search needs)
     (λ c κs. search needs)
+    (λ c. search needs)
     (λ c κs. search needs)
-    (λ c κs. search needs)
-    (λ c κs. search needs)
+    (λ c. search needs)
     (λ c κs. search needs)
     (λ c κs. omega arith)
     (λ c κs. search needs)
+    (λ c. search needs)
+    (λ c κs. search needs)
+    (λ c. search needs)
+    (λ c. search needs)
     (λ c κs. search needs)
     (λ c κs. search needs)
-    (λ c κs. search needs)
     (λ c. search needs)
-    (λ c. in-both (place-here (c .before .before .before .before .before .before .before .before .before .before .before .before .before .before .before .before .before .before .before .place-of .ensures) (c .before .before .before .before .before .before .before .before .before .before .before .before .before .before .before .count .ensures) (c .before .before .before .before .before .before .before .before .before .before .alternative .result) (c .before .before .before .before .before .before .before .before .before .before .before .before .if1 .taken) (c .before .before .before .before .before .before .before .before .before .before .alternative .ensures)) (place-here (c .before .before .before .before .before .before .before .before .before .before .before .before .before .before .before .before .before .place-of2 .ensures) (c .before .before .before .before .before .before .before .before .before .before .before .before .before .count2 .ensures) (c .before .before .before .before .before .before .before .alternative2 .result) (c .before .before .before .before .before .before .before .before .before .if2 .taken) (c .before .before .before .before .before .before .before .alternative2 .ensures)) (c .before .before .before .before .before .before .before .before .before .before .alternative .result) (c .before .before .before .before .before .before .before .alternative2 .result) refl refl (c .before .before .before .before .if3 .taken) (c .before .before .unify-payload .ensures))
     (λ c. search needs)
-    (λ c. renamed (place-here (c .before .before .before .before .before .before .before .before .before .before .before .before .before .before .before .before .place-of .ensures) (c .before .before .before .before .before .before .before .before .before .before .before .before .count .ensures) (c .before .before .before .before .before .before .before .alternative .result) (c .before .before .before .before .before .before .before .before .before .if1 .taken) (c .before .before .before .before .before .before .before .alternative .ensures)) (place-here (c .before .before .before .before .before .before .before .before .before .before .before .before .before .before .place-of2 .ensures) (c .before .before .before .before .before .before .before .before .before .before .count2 .ensures) (c .before .before .before .before .alternative2 .result) (c .before .before .before .before .before .before .if2 .taken) (c .before .before .before .before .alternative2 .ensures)) (c .before .before .before .before .before .before .before .alternative .result) (c .before .before .before .before .alternative2 .result) refl refl (c .before .if3 .left) (c .differ .ensures))
+    (λ c. in-both (place-here (c .before .before .before .before .before .before .before .before .before .before .before .before .before .before .before .before .before .before .before .place-of .ensures) (c .before .before .before .before .before .before .before .before .before .before .before .before .before .before .before .found .given .0 .0) (c .before .before .before .before .before .before .before .before .before .before .before .before .alternative .result) (c .before .before .before .before .before .before .before .before .before .before .before .before .before .before .before .found .given .1) (c .before .before .before .before .before .before .before .before .before .before .before .before .alternative .ensures)) (place-here (c .before .before .before .before .before .before .before .before .before .before .before .before .before .before .before .before .before .place-of2 .ensures) (c .before .before .before .before .before .before .before .before .before .before .expected .given .0 .0) (c .before .before .before .before .before .before .before .alternative2 .result) (c .before .before .before .before .before .before .before .before .before .before .expected .given .1) (c .before .before .before .before .before .before .before .alternative2 .ensures)) (c .before .before .before .before .before .before .before .before .before .before .before .before .alternative .result) (c .before .before .before .before .before .before .before .alternative2 .result) refl refl (c .before .before .before .before .if1 .taken) (c .before .before .unify-payload .ensures))
     (λ c. search needs)
-    (λ c. in-found (place-here (c .before .before .before .before .before .before .before .before .before .before .before .place-of .ensures) (c .before .before .before .before .before .before .before .count .ensures) (c .before .before .alternative .result) (c .before .before .before .before .if1 .taken) (c .before .before .alternative .ensures)) (place-none (c .before .before .before .before .before .before .before .before .before .place-of2 .ensures) (c .before .before .before .before .before .count2 .ensures) (c .before .if2 .left)) (c .before .before .alternative .result) refl refl (c .differ2 .ensures))
+    (λ c. renamed (place-here (c .before .before .before .before .before .before .before .before .before .before .before .before .before .before .before .before .place-of .ensures) (c .before .before .before .before .before .before .before .before .before .before .before .before .found .given .0 .0) (c .before .before .before .before .before .before .before .before .before .alternative .result) (c .before .before .before .before .before .before .before .before .before .before .before .before .found .given .1) (c .before .before .before .before .before .before .before .before .before .alternative .ensures)) (place-here (c .before .before .before .before .before .before .before .before .before .before .before .before .before .before .place-of2 .ensures) (c .before .before .before .before .before .before .before .expected .given .0 .0) (c .before .before .before .before .alternative2 .result) (c .before .before .before .before .before .before .before .expected .given .1) (c .before .before .before .before .alternative2 .ensures)) (c .before .before .before .before .before .before .before .before .before .alternative .result) (c .before .before .before .before .alternative2 .result) refl refl (c .before .if1 .left) (c .differ .ensures))
     (λ c. search needs)
-    (λ c. in-expected (place-none (c .before .before .before .before .before .before .before .before .before .before .before .place-of .ensures) (c .before .before .before .before .before .before .before .count .ensures) (c .before .before .before .before .if1 .left)) (place-here (c .before .before .before .before .before .before .before .before .before .place-of2 .ensures) (c .before .before .before .before .before .count2 .ensures) (c .before .alternative3 .result) (c .before .before .before .if4 .taken) (c .before .alternative3 .ensures)) (c .before .alternative3 .result) refl refl (c .differ3 .ensures))
+    (λ c. in-found (place-here (c .before .before .before .before .before .before .before .before .before .before .place-of .ensures) (c .before .before .before .before .before .before .found .given .0 .0) (c .before .before .before .alternative .result) (c .before .before .before .before .before .before .found .given .1) (c .before .before .before .alternative .ensures)) (place-none (c .before .before .before .before .before .before .before .before .place-of2 .ensures) (c .before .enum-told .given .1)) (c .before .before .before .alternative .result) refl refl (c .differ2 .ensures))
     (λ c. search needs)
-    (λ c. in-neither (place-none (c .before .before .before .before .before .before .before .before .place-of .ensures) (c .before .before .before .before .count .ensures) (c .before .if1 .left)) (place-none (c .before .before .before .before .before .before .place-of2 .ensures) (c .before .before .count2 .ensures) (c .if4 .left)) refl refl))
+    (λ c. in-expected (place-none (c .before .before .before .before .before .before .before .before .before .before .place-of .ensures) (c .before .before .before .before .before .before .enum-told2 .given .1)) (place-here (c .before .before .before .before .before .before .before .before .place-of2 .ensures) (c .before .before .before .before .expected2 .given .0 .0) (c .before .alternative3 .result) (c .before .before .before .before .expected2 .given .1) (c .before .alternative3 .ensures)) (c .before .alternative3 .result) refl refl (c .differ3 .ensures))
+    (λ c. search needs)
+    (λ c. in-neither (place-none (c .before .before .before .before .before .before .place-of .ensures) (c .before .before .enum-told2 .given .1)) (place-none (c .before .before .before .before .place-of2 .ensures) (c .enum-told3 .given .1)) refl refl))
     (λ t. unify-fields-lts.spec (
       field-reads.Asked,
       field-reads.Learnt,
       place-of-reads.Asked,
       place-of-reads.Learnt,
-      count-reads.Asked,
-      count-reads.Learnt,
       unify-below t,
       unify.Post,
     )
@@ -230,17 +230,18 @@ pub +unify+unify-alternative+unify-fields+unify-heads+unify-payload+unify-record
     (λ c. fields-start _ _ _ _ _)
     (λ c κs. search needs)
     (λ c κs. search needs)
-    (λ c κs. search needs)
-    (λ c. c .before .before .before .before .before .before .before .before .loop .inv .going .keeps .long)
-    (λ c. fields-unknown (c .before .before .before .before .before .before .before .before .loop .inv) (c .before .before .before .before .before .before .before .loop-test .taken) (c .before .before .before .before .before .field .ensures) (place-none (c .before .before .before .place-of .ensures) (c .before .count .ensures) (c .if1 .taken)) refl)
+    (λ c. search needs)
+    (λ c. search needs)
+    (λ c. c .before .before .before .before .before .before .before .loop .inv .going .keeps .long)
+    (λ c. fields-unknown (c .before .before .before .before .before .before .before .loop .inv) (c .before .before .before .before .before .before .loop-test .taken) (c .before .before .before .before .field .ensures) (place-none (c .before .before .place-of .ensures) (c .enum-told .given .1)) refl)
     (λ c κs. search needs)
     (λ c κs. omega (arith, c .before .before .before .before .before .before .before .before .before .before .before .loop .inv .going .fewer))
     (λ c. search needs)
     (λ c. c .before .before .before .unify .kept .0 ∙ c .before .before .before .before .before .before .before .before .before .before .before .before .before .before .before .loop .inv .going .keeps .long)
-    (λ c. fields-stop (c .before .before .before .before .before .before .before .before .before .before .before .before .before .before .before .loop .inv) (c .before .before .before .before .before .before .before .before .before .before .before .before .before .before .loop-test .taken) (c .before .before .before .before .before .before .before .before .before .before .before .before .field .ensures) (place-here (c .before .before .before .before .before .before .before .before .before .before .place-of .ensures) (c .before .before .before .before .before .before .before .before .count .ensures) (c .before .before .before .before .before .field2 .result) (c .before .before .before .before .before .before .before .if1 .left) (c .before .before .before .before .before .field2 .ensures)) refl (c .before .before .before .unify .ensures) (c .match .keys2))
+    (λ c. fields-stop (c .before .before .before .before .before .before .before .before .before .before .before .before .before .before .before .loop .inv) (c .before .before .before .before .before .before .before .before .before .before .before .before .before .before .loop-test .taken) (c .before .before .before .before .before .before .before .before .before .before .before .before .field .ensures) (place-here (c .before .before .before .before .before .before .before .before .before .before .place-of .ensures) (c .before .before .before .before .before .before .before .before .place .given .0 .0) (c .before .before .before .before .before .field2 .result) (c .before .before .before .before .before .before .before .before .place .given .1) (c .before .before .before .before .before .field2 .ensures)) refl (c .before .before .before .unify .ensures) (c .match2 .keys2))
     (λ c. search needs)
     (λ c. omega arith)
-    (λ c. fields-next (c .before .before .before .before .before .before .before .before .before .before .before .before .before .before .before .before .before .loop .inv) (c .before .before .before .before .before .before .before .before .before .before .before .before .before .before .before .before .loop-test .taken) (c .before .before .before .before .before .before .before .before .before .before .before .before .before .before .field .ensures) (place-here (c .before .before .before .before .before .before .before .before .before .before .before .before .place-of .ensures) (c .before .before .before .before .before .before .before .before .before .before .count .ensures) (c .before .before .before .before .before .before .before .field2 .result) (c .before .before .before .before .before .before .before .before .before .if1 .left) (c .before .before .before .before .before .before .before .field2 .ensures)) refl (c .before .before .before .before .before .unify .ensures) (c .before .r .given .0 .0) (c .before .r .given .1))
+    (λ c. fields-next (c .before .before .before .before .before .before .before .before .before .before .before .before .before .before .before .before .before .loop .inv) (c .before .before .before .before .before .before .before .before .before .before .before .before .before .before .before .before .loop-test .taken) (c .before .before .before .before .before .before .before .before .before .before .before .before .before .before .field .ensures) (place-here (c .before .before .before .before .before .before .before .before .before .before .before .before .place-of .ensures) (c .before .before .before .before .before .before .before .before .before .before .place .given .0 .0) (c .before .before .before .before .before .before .before .field2 .result) (c .before .before .before .before .before .before .before .before .before .before .place .given .1) (c .before .before .before .before .before .before .before .field2 .ensures)) refl (c .before .before .before .before .before .unify .ensures) (c .before .r .given .0 .0) (c .before .r .given .1))
     (λ c. c .before .loop .inv .going .keeps .long)
     (λ c. fields-end (c .before .loop .inv) (c .loop-test .left)))
     (λ t. unify-heads-lts.spec (
