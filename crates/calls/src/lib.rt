@@ -100,7 +100,7 @@ pub extern "C" fn sigla_unify(
 ) -> u32
     ensures { λ r. ⌜ CallsUnify (now (w .entry)) gtag got etag expected left (now (w .exit)) (now (out .entry)) (now (out .exit)) r ⌝ }
 {
-    let r = cells::unify(
+    let r = unify::unify(
         w,
         cells::ty_of(gtag, got),
         cells::ty_of(etag, expected),

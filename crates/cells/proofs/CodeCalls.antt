@@ -145,7 +145,7 @@ module _ {v : ℕ} {tys : List (Option Tree.Ty)} where
       record {
         calls = Calls.then-call (b .calls) (Calls.rollingBack newer older to e);
         holds = R .is _ _ (b .holds) (to .at .past);
-        permitted = permitted-same (keeps-cells (omega arith) (R .keeps _ _ (b .holds))) (b .permitted);
+        permitted = permitted-same (keeps-cells (omega arith) (R .keeps)) (b .permitted);
       }
   code-calls (spending u k le) =
       let b = code-calls k in

@@ -42,6 +42,7 @@ module _ {w : List ℕ} {c e : ℕ} {diff : UnionDiff} {a b : Ty} {left : ℕ} {
     step = record {
       is = λ T st H v k d h. one T (Unify.unifyIn d st (tree T a) (tree T b)) (rw q at (U .is T st H v (k .0) (k .1) d h));
       fewer = rw q at (U .fewer);
+      keeps = U .keeps;
     };
   }
     where
@@ -56,6 +57,7 @@ module _ {w : List ℕ} {c e : ℕ} {diff : UnionDiff} {a b : Ty} {left : ℕ} {
     step = record {
       is = λ T st H v k d h. one T (Unify.unifyIn d st (tree T a) (tree T b)) (U .is T st H v (k .0) (k .1) d h);
       fewer = U .fewer;
+      keeps = U .keeps;
     };
   }
     where
@@ -98,6 +100,7 @@ module _ {w : List ℕ} {c e k : ℕ} {x y : Found} (X : FindsKey w Alternatives
         is = λ T st H v i d h. rw (sides T st d H i p q, eq-eqb (o .label) (m .label) n, unifyAlternative)
             (P .step .is T st H v (rw p at (X .ok T (H .cells) (i .0)), rw q at (Y .ok T (H .cells) (i .1))) d h);
         fewer = P .step .fewer;
+        keeps = P .step .keeps;
       };
     }
 
@@ -139,11 +142,11 @@ module _ {w₀ : List ℕ} {c e left : ℕ} {w : List ℕ} {from left′ : ℕ} 
           let j′ = cell-same same i′ in
           rw (remaining-next from (T c) (T e) next lt (N .is T (S .cells) j j′) k q (N .small T (S .cells) j j′))
 
-      pub union-next : (l : ℕ) → r ≡ Good l → length w′ ≡ length w → UnionGoing w₀ c e left w′ (k + 1) l
-      union-next l x len = record {
+      pub union-next : (l : ℕ) → r ≡ Good l → UnionGoing w₀ c e left w′ (k + 1) l
+      union-next l x = record {
         going = go-next (g .going) (λ d T st. alternativesFrom c e (k + 1) d T st) (A .step)
             (λ T st H i K s S d. let same = keeps-cells (omega arith) K in (cell-same same (i .0), cell-same same (i .1)))
-            (λ T st H i K s S d. turn T d S (i .0) (i .1) K) l x len;
+            (λ T st H i K s S d. turn T d S (i .0) (i .1) K) l x;
       }
 
       pub union-stop : NotGood r → UnifiesUnion w₀ c e left w′ r

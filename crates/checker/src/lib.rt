@@ -189,7 +189,7 @@ fn infer_then_unify(f: &[u8], w: &mut [u32], n: u32, expected: Ty, left: u32) ->
     let r = infer(f, w, n, left);
     match r {
         Typed::Got(t, l) => {
-            let u = cells::unify(w, t, expected, l);
+            let u = unify::unify(w, t, expected, l);
             match u {
                 Unified::Good(m) => Done::On(m),
                 Unified::Bad(err, m) => {

@@ -29,11 +29,12 @@ use Rattle.reading.specs.declared.Refusal.{Refusal}
 use Rattle.reading.specs.declared.Refusal.the-variants as Refusal
 use Rattle.reading.specs.declared.Read.{Read}
 use Rattle.reading.specs.declared.Read.the-variants as Read
-use Rattle.reading.specs.declared.Counters.{Counters}
+use Rattle.work.specs.declared.Counters.{Counters}
+use Rattle.work.specs.Counted.{noCounters}
 use Rattle.reading.specs.declared.Step.{Step}
 use Rattle.reading.specs.declared.Step.the-variants.{On, Off}
 use Rattle.reading.specs.Held.{Held}
-use Rattle.reading.specs.Contracts.{refusal, Line, Steps, TakesLine, noCounters, counted, Ends, TakesLines, readingIn}
+use Rattle.reading.specs.Contracts.{refusal, Line, Steps, TakesLine, counted, Ends, TakesLines, readingIn}
 use Rattle.reading.proofs.Order.{first-malformed}
 use Rattle.reading.proofs.Ends.{nothing-held, schema-held, long-held, all-declared}
 

@@ -24,7 +24,7 @@ use Rattle.frames.proofs.Readers.{sized-pair, sized-byte, sized-two}
 use Rattle.frames.proofs.Shapes.{up, type-short, predicate-short, node-short}
 use Rattle.reading.specs.declared.Refusal.{Refusal}
 use Rattle.reading.specs.declared.Refusal.the-variants as Refusal
-use Rattle.reading.specs.declared.Counters.{Counters}
+use Rattle.work.specs.declared.Counters.{Counters}
 use Rattle.reading.specs.declared.Step.{Step}
 use Rattle.reading.specs.declared.Step.the-variants.{On, Off}
 use Rattle.reading.specs.Held.{Held}

@@ -25,8 +25,9 @@ use Rattle.meaning.specs.All.{All}
 use Rattle.meaning.specs.Sound.{Kept}
 use Rattle.meaning.proofs.Lists.{all-at}
 use Rattle.tree.specs.Stands.{TypeCells, SchemaStands}
-use Rattle.reading.specs.declared.Counters.{Counters}
-use Rattle.reading.specs.Contracts.{noCounters, counts, counted, Declares}
+use Rattle.work.specs.declared.Counters.{Counters}
+use Rattle.work.specs.Counted.{noCounters}
+use Rattle.reading.specs.Contracts.{counts, counted, Declares}
 use Rattle.reading.specs.Held.{LimitsHeld, partType, IsOf, TypesHeld, Held}
 use Rattle.reading.proofs.Regions.{over, keeps-sets, WordsAt, sets-words}
 use Rattle.reading.proofs.Lines.{types-same, predicates-same}

@@ -23,7 +23,7 @@ use Rattle.meaning.specs.Frame.{TypeShape, mayStand, theLimits, aName, aType, a
 use Rattle.meaning.specs.SoFar.{SoFar, tyOf, add}
 use Rattle.meaning.specs.Conditions.{anyOf, among, sameText, given}
 use Rattle.meaning.specs.File.{valueText}
-use Rattle.reading.specs.declared.Counters.{Counters}
+use Rattle.work.specs.declared.Counters.{Counters}
 use Rattle.reading.specs.Marks.{Marks}
 use Rattle.reading.specs.Contracts.{withName, withType, withPredicate, withNode, withQuery}
 use Rattle.reading.specs.Held.{LimitsHeld, TypesHeld, PredicatesHeld, NodesHeld, Marked, Held}

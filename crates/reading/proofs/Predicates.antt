@@ -24,7 +24,7 @@ use Rattle.frames.specs.Contracts.{byteW, halfW, valueType}
 use Rattle.frames.proofs.Readers.{sized-one, sized-two}
 use Rattle.frames.proofs.Statements.{choice-at}
 use Rattle.reading.specs.declared.Refusal.the-variants as Refusal
-use Rattle.reading.specs.declared.Counters.{Counters}
+use Rattle.work.specs.declared.Counters.{Counters}
 use Rattle.reading.specs.declared.Step.{Step}
 use Rattle.reading.specs.declared.Step.the-variants.{Off}
 use Rattle.reading.specs.Held.{Held}

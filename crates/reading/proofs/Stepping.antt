@@ -13,7 +13,7 @@ use Rattle.meaning.specs.SoFar.{SoFar}
 use Rattle.meaning.specs.Conditions.{maxNames, maxTypes, maxPredicates, maxNodes, maxQueries, isFull, isLastQueryPast}
 use Rattle.meaning.proofs.Tests.{clash}
 use Rattle.reading.specs.declared.Refusal.{Refusal}
-use Rattle.reading.specs.declared.Counters.{Counters}
+use Rattle.work.specs.declared.Counters.{Counters}
 use Rattle.reading.specs.declared.Step.the-variants.{On, Off}
 use Rattle.reading.specs.Held.{Held}
 use Rattle.reading.specs.Contracts.{refusal, Steps}

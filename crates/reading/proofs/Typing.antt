@@ -27,7 +27,7 @@ use Rattle.frames.specs.Contracts.{byteW, halfW, typeShape}
 use Rattle.frames.proofs.Readers.{Sized, sized-one, sized-two, itemsAt, fieldAt, alternativeAt, Items, fields-are, alternatives-are}
 use Rattle.frames.proofs.Statements.{choice-at}
 use Rattle.reading.specs.declared.Refusal.the-variants as Refusal
-use Rattle.reading.specs.declared.Counters.{Counters}
+use Rattle.work.specs.declared.Counters.{Counters}
 use Rattle.reading.specs.declared.Step.{Step}
 use Rattle.reading.specs.declared.Step.the-variants.{On, Off}
 use Rattle.reading.specs.Held.{Held}

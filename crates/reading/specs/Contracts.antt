@@ -28,7 +28,7 @@ use Rattle.reading.specs.declared.Refusal.{Refusal}
 use Rattle.reading.specs.declared.Refusal.the-variants as Refusal
 use Rattle.reading.specs.declared.Read.{Read}
 use Rattle.reading.specs.declared.Read.the-variants as Read
-use Rattle.reading.specs.declared.Counters.{Counters}
+use Rattle.work.specs.declared.Counters.{Counters}
 use Rattle.reading.specs.declared.Step.{Step}
 use Rattle.reading.specs.declared.Step.the-variants as Step
 use Rattle.reading.specs.Held.{NamesHeld, Held}
@@ -165,9 +165,6 @@ pub record TakesLine (f : List ℕ) (at : ℕ) (s w : List ℕ) (c : Counters) (
       → Steps f next w′ kind (after so (saidBy (some s))) r (firstOf conditions so (saidBy (some s)))
 
 -- ---- All lines
-
-abbrev pub noCounters : Counters
-noCounters = record { names = 0; types = 0; predicates = 0; nodes = 0; fields = 0; value = 0; queries = 0 }
 
 -- The counts in the order of their words, and the words with these written.
 abbrev pub counts : Counters → List ℕ

@@ -23,7 +23,7 @@ use Rattle.text.specs.Utf8.{characters}
 use Rattle.hex.specs.Digits.{lineAt}
 use Rattle.frames.specs.Contracts.{numberOf}
 use Rattle.tree.specs.Stands.{NodeIs, PredicateIs, noPredicate, numbered}
-use Rattle.reading.specs.declared.Counters.{Counters}
+use Rattle.work.specs.declared.Counters.{Counters}
 
 -- ---- Limits
 

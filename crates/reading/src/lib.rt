@@ -3,13 +3,14 @@ ghost use mathlib.Core.Path.{_≡_};
 ghost use Prim.Native.Nat.{ℕ, _+_, _<_, _≤_};
 ghost use lib.ListN.{length};
 ghost use Rattle.meaning.specs.Frame.{limits};
-ghost use Rattle.reading.specs.Contracts.{TakesAnywhere, fullOf, pastOf, TakesLine, noCounters, counted, TakesLines, ReadsFile, Reads};
+ghost use Rattle.reading.specs.Contracts.{TakesAnywhere, fullOf, pastOf, TakesLine, counted, TakesLines, ReadsFile, Reads};
 
 mod names;
 mod nodes;
 mod types;
 
 use frames::Decoded;
+pub use work::Counters;
 use work::put;
 
 // The refusals of document 01, by meaning: `refusal` of specs/Contracts.antt.
@@ -27,50 +28,6 @@ pub enum Refusal {
     TooManyVisits,
     AnswerTooLong,
     TooManyQueries,
-}
-
-// The run's counters, with its limits. `fields` counts the words of schema types' parts; `value` is one more than the number
-// of the name `value`, or 0.
-pub struct Counters {
-    pub names: u32,
-    pub types: u32,
-    pub predicates: u32,
-    pub nodes: u32,
-    pub fields: u32,
-    pub value: u32,
-    pub queries: u32,
-}
-
-impl Counters {
-    pub const FILE: usize = 65536;
-
-    pub const WORDS: usize = 16384;
-
-    pub const NAMES: u32 = 256;
-
-    pub const TYPES: u32 = 256;
-
-    pub const PREDICATES: u32 = 128;
-
-    pub const NODES: u32 = 512;
-
-    pub const QUERIES: u32 = 64;
-
-    pub const VISITS: u32 = 1_048_576;
-
-    pub fn new() -> Self
-        ensures { λ r. ⌜ r ≡ noCounters ⌝ }
-    {
-        Self {
-            names: 0,
-            types: 0,
-            predicates: 0,
-            nodes: 0,
-            fields: 0,
-            value: 0,
-            queries: 0,
-        }
-    }
 }
 
 // What a line did: the counters after it, or the refusal.
@@ -167,7 +124,7 @@ fn take_lines(file: &[u8], w: &mut [u32]) -> Read
     requires { ⌜ (length (now file) ≤ 65536) × (16384 ≤ length (now w)) ⌝ }
     ensures { λ r. ⌜ TakesLines (now (file .entry)) (now (w .entry)) (now (w .exit)) r ⌝ }
 {
-    let mut line = [0u8; 512];
+    let mut line = [0u8; Counters::LINE];
     let mut c = Counters::new();
     let mut previous: usize = 6;
     let mut at: usize = 0;

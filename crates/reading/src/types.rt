@@ -12,8 +12,10 @@ use crate::Step;
 use frames::byte;
 use frames::full;
 use frames::half;
+use work::part;
 use work::put;
 use work::wide;
+use work::with_tag;
 
 // Whether each part of the type, `size` bytes long, names a name and an earlier type.
 fn parts_earlier(s: &[u8], size: usize, names: u32, types: u32) -> bool
@@ -81,7 +83,7 @@ fn put_fields(s: &[u8], w: &mut [u32], from: u32)
     let mut i: usize = 2;
     let mut at = work::FIELDS + wide(from);
     while i < s.len() {
-        put(w, at, half(s, i) * 256 + half(s, i + 2));
+        put(w, at, part(half(s, i), half(s, i + 2)));
         i += 4;
         at += 1;
     }
@@ -95,7 +97,7 @@ fn put_alternatives(s: &[u8], w: &mut [u32], from: u32)
     let mut at = work::FIELDS + wide(from);
     while i < s.len() {
         put(w, at, full(s, i + 2));
-        put(w, at + 1, half(s, i) * 256 + half(s, i + 6));
+        put(w, at + 1, part(half(s, i), half(s, i + 6)));
         i += 8;
         at += 2;
     }
@@ -129,7 +131,7 @@ fn take_record(s: &[u8], w: &mut [u32], c: Counters) -> Step
     let n = ((s.len() - 2) / 4) as u32;
     let from = c.fields;
     put_fields(s, w, from);
-    add_type(w, c, n * 16 + 5, from, n)
+    add_type(w, c, with_tag(n, 5), from, n)
 }
 
 fn take_union(s: &[u8], w: &mut [u32], c: Counters) -> Step
@@ -145,7 +147,7 @@ fn take_union(s: &[u8], w: &mut [u32], c: Counters) -> Step
     let n = ((s.len() - 2) / 8) as u32;
     let from = c.fields;
     put_alternatives(s, w, from);
-    add_type(w, c, n * 16 + 6, from, n * 2)
+    add_type(w, c, with_tag(n, 6), from, n * 2)
 }
 
 pub fn take_type(s: &[u8], w: &mut [u32], c: Counters) -> Step

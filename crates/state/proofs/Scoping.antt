@@ -133,17 +133,17 @@ rewind-nodes (suc k) (Annotation n t ∷ us) st = rewind-nodes k us (revert (Ann
 module _ {f w w′ : List ℕ} {T : Rows} {d : Described} {c : Checker} {mark : ℕ} (sound : Sound d) (R : Runs f w T d c) (B : RollsBack w mark w′) (past : History) where
   rolled-runs : Runs f w′ T d (record { state = Bindings.rollback (c .state) (record { undo = mark; past = past }); env = c .env; diagnostics = c .diagnostics })
   unfolding Bindings.rollback withHistory
-  rolled-runs = runs-slots sound R (B .keeps T (c .state) (R .holds)) (B .is T (c .state) (R .holds) past) (rewind-nodes (length (c .state .undo) - mark) (c .state .undo) (c .state))
+  rolled-runs = runs-slots sound R (B .keeps) (B .is T (c .state) (R .holds) past) (rewind-nodes (length (c .state .undo) - mark) (c .state .undo) (c .state))
 
   module _ (n : ℕ) (within : n ≤ getD w ENV-LEN 0) where
     still : n ≤ getD w′ ENV-LEN 0
-    still = omega (arith, B .keeps T (c .state) (R .holds) .below ENV-LEN (omega arith))
+    still = omega (arith, B .keeps .below ENV-LEN (omega arith))
 
     pub rollback-runs : Runs f (set w′ ENV-LEN n) T d (record { state = Bindings.rollback (c .state) (record { undo = mark; past = past }); env = drop (length (c .env) - n) (c .env); diagnostics = c .diagnostics })
     rollback-runs = cut-runs sound rolled-runs n still
 
     pub rollback-grew : Grew w (set w′ ENV-LEN n) 0 0
-    rollback-grew = grew-trans (grew-slots sound R (B .keeps T (c .state) (R .holds))) (cut-grew sound rolled-runs n still)
+    rollback-grew = grew-trans (grew-slots sound R (B .keeps)) (cut-grew sound rolled-runs n still)
 
 -- ---- `introduce`
 

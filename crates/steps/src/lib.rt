@@ -66,7 +66,7 @@ pub fn rollback(w: &mut [u32], undo: u32, env: u32)
 pub fn unify_at(w: &mut [u32], n: u32, got: Ty, expected: Ty, left: u32) -> Done
     ensures { λ r. ⌜ Unites (now (w .entry)) n got expected left (now (w .exit)) r ⌝ }
 {
-    let r = cells::unify(w, got, expected, left);
+    let r = unify::unify(w, got, expected, left);
     match r {
         Unified::Good(l) => Done::On(l),
         Unified::Bad(err, l) => {
@@ -81,7 +81,7 @@ pub fn unify_at(w: &mut [u32], n: u32, got: Ty, expected: Ty, left: u32) -> Done
 pub fn compare_order(w: &mut [u32], lhs: u32, t: Ty, left: u32) -> Done
     ensures { λ r. ⌜ ComparesOrder (now (w .entry)) lhs t left (now (w .exit)) r ⌝ }
 {
-    let o = cells::orderable(w, t, left);
+    let o = unify::orderable(w, t, left);
     match o {
         Asked::Yes(l) => Done::On(l),
         Asked::No(l) => {
@@ -95,7 +95,7 @@ pub fn compare_order(w: &mut [u32], lhs: u32, t: Ty, left: u32) -> Done
 pub fn compare_types(w: &mut [u32], lhs: u32, rhs: u32, a: Ty, b: Ty, left: u32) -> Done
     ensures { λ r. ⌜ ComparesBoth (now (w .entry)) lhs rhs a b left (now (w .exit)) r ⌝ }
 {
-    let u = cells::unify(w, b, a, left);
+    let u = unify::unify(w, b, a, left);
     match u {
         Unified::Good(l) => compare_order(w, lhs, a, l),
         Unified::Bad(err, l) => {

@@ -76,7 +76,7 @@ use Rattle.cells.proofs.reserve.Reads as reserve-reads
 use Rattle.cells.proofs.repr.Reads as repr-reads
 use Rattle.cells.proofs.snapshot.Reads as snapshot-reads
 use Rattle.cells.proofs.tag_of.Reads as tag-of-reads
-use Rattle.cells.proofs.unify.Reads as unify-reads
+use Rattle.unify.proofs.unify.Reads as unify-reads
 use Rattle.checker.proofs.only.Reads as only-reads
 use Rattle.state.proofs.introduce.Reads as introduce-reads
 use Rattle.state.proofs.reject.Reads as reject-reads

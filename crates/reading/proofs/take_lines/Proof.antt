@@ -7,7 +7,7 @@ use Rattle.reading.proofs.take_lines.Reads as reads
 use Rattle.reading.proofs.take_lines.Lts as lts
 use Rattle.frames.proofs.kind_of.Reads as kind-of-reads
 use Rattle.frames.proofs.decode.Reads as decode-reads
-use Rattle.reading.proofs.Counters.new.Reads as new-reads
+use Rattle.work.proofs.Counters.new.Reads as new-reads
 use Rattle.reading.proofs.put_counts.Reads as put-counts-reads
 use Rattle.reading.proofs.take_line.Reads as take-line-reads
 use borrow.Author.Needs.{needs}

@@ -5,7 +5,7 @@ use Rattle.steps.proofs.compare_order.Statement.{statement}
 use Rattle.steps.proofs.compare_order.Tie as tie
 use Rattle.steps.proofs.compare_order.Reads as reads
 use Rattle.steps.proofs.compare_order.Lts as lts
-use Rattle.cells.proofs.orderable.Reads as orderable-reads
+use Rattle.unify.proofs.orderable.Reads as orderable-reads
 use Rattle.state.proofs.reject.Reads as reject-reads
 use native.Mathlib.Omega.{arith}
 use Rattle.steps.proofs.Uniting.{order-yes, order-no, order-spent}

@@ -5,7 +5,7 @@ use Rattle.steps.proofs.compare_types.Statement.{statement}
 use Rattle.steps.proofs.compare_types.Tie as tie
 use Rattle.steps.proofs.compare_types.Reads as reads
 use Rattle.steps.proofs.compare_types.Lts as lts
-use Rattle.cells.proofs.unify.Reads as unify-reads
+use Rattle.unify.proofs.unify.Reads as unify-reads
 use Rattle.steps.proofs.compare_order.Reads as compare-order-reads
 use Rattle.steps.proofs.report.Reads as report-reads
 use native.Mathlib.Omega.{arith}

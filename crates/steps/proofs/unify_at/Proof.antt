@@ -5,7 +5,7 @@ use Rattle.steps.proofs.unify_at.Statement.{statement}
 use Rattle.steps.proofs.unify_at.Tie as tie
 use Rattle.steps.proofs.unify_at.Reads as reads
 use Rattle.steps.proofs.unify_at.Lts as lts
-use Rattle.cells.proofs.unify.Reads as unify-reads
+use Rattle.unify.proofs.unify.Reads as unify-reads
 use Rattle.steps.proofs.report.Reads as report-reads
 use native.Mathlib.Omega.{arith}
 use Rattle.steps.proofs.Uniting.{unite-good, unite-bad, unite-spent}

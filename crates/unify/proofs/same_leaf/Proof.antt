@@ -1,10 +1,10 @@
--- Made from Proof.ans by tools/answers, 6513f98c2f914da5.
+-- Made from Proof.ans by tools/answers, da22a76835211612.
 -- The tests of tag and payload, in the order of `sameLeafW`.
 use borrow.Author.Needs.{needs}
-use Rattle.cells.proofs.same_leaf.Statement.{statement}
-use Rattle.cells.proofs.same_leaf.Tie as tie
+use Rattle.unify.proofs.same_leaf.Statement.{statement}
+use Rattle.unify.proofs.same_leaf.Tie as tie
 use borrow.Author.Tests.{eq-eqb, ne-eqb}
 use Rattle.cells.specs.Words.{sameLeafW}
 
 returns : tie.Need-returns
 unfolding sameLeafW

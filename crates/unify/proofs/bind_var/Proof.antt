@@ -1,13 +1,13 @@
--- Made from Proof.ans by tools/answers, ff389a11ced13705.
+-- Made from Proof.ans by tools/answers, 42c8b0149bb58ae6.
 use borrow.Author.Needs.{needs}
-use Rattle.cells.proofs.bind_var.Statement.{statement}
-use Rattle.cells.proofs.bind_var.Tie as tie
-use Rattle.cells.proofs.bind_var.Reads as reads
-use Rattle.cells.proofs.bind_var.Lts as lts
+use Rattle.unify.proofs.bind_var.Statement.{statement}
+use Rattle.unify.proofs.bind_var.Tie as tie
+use Rattle.unify.proofs.bind_var.Reads as reads
+use Rattle.unify.proofs.bind_var.Lts as lts
 use Rattle.cells.proofs.occurs.Reads as occurs-reads
 use Rattle.cells.proofs.set_var.Reads as set-var-reads
 use native.Mathlib.Omega.{arith}
 use Rattle.cells.proofs.Heads.{bind-occurs, bind-sets, bind-spent}
 
 pub bind-var-spec : {M : Type 1} → statement M
 bind-var-spec =

@@ -1,13 +1,13 @@
--- Made from Proof.ans by tools/answers, a1dddf461a104986.
+-- Made from Proof.ans by tools/answers, fd5eda37ee899d99.
 use borrow.Author.Needs.{needs}
-use Rattle.cells.proofs.next_discriminant.Statement.{statement}
-use Rattle.cells.proofs.next_discriminant.Tie as tie
-use Rattle.cells.proofs.next_discriminant.Reads as reads
-use Rattle.cells.proofs.next_discriminant.Lts as lts
-use Rattle.cells.proofs.least_from.Reads as least-from-reads
+use Rattle.unify.proofs.next_discriminant.Statement.{statement}
+use Rattle.unify.proofs.next_discriminant.Tie as tie
+use Rattle.unify.proofs.next_discriminant.Reads as reads
+use Rattle.unify.proofs.next_discriminant.Lts as lts
+use Rattle.unify.proofs.least_from.Reads as least-from-reads
 use native.Mathlib.Omega.{arith}
 use mathlib.Core.Path.{_∙_, ap}
 use Rattle.cells.specs.Contracts.{leastFrom}
 
 pub next-discriminant-spec : {M : Type 1} → statement M
 next-discriminant-spec = tie.close (tie.spec (λ c κs. search needs) (λ c κs. search needs) (λ c. record {

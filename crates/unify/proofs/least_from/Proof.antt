@@ -1,18 +1,18 @@
--- Made from Proof.ans by tools/answers, 22cf1720644e2869.
+-- Made from Proof.ans by tools/answers, c2e494436a1a8bf7.
 -- The least of the row is the least of the rest from j on; the measure is what is left of the parts.
-use Rattle.cells.proofs.least_from.Statement.{statement}
-use Rattle.cells.proofs.least_from.Tie as tie
-use Rattle.cells.proofs.least_from.Reads as reads
-use Rattle.cells.proofs.least_from.Lts as lts
+use Rattle.unify.proofs.least_from.Statement.{statement}
+use Rattle.unify.proofs.least_from.Tie as tie
+use Rattle.unify.proofs.least_from.Reads as reads
+use Rattle.unify.proofs.least_from.Lts as lts
 use Rattle.cells.proofs.count.Reads as count-reads
 use Rattle.cells.proofs.key_at.Reads as key-at-reads
-use Rattle.cells.proofs.lower.Reads as lower-reads
+use Rattle.unify.proofs.lower.Reads as lower-reads
 use borrow.Author.Needs.{needs}
 use native.Mathlib.Omega.{arith}
 use mathlib.Core.Path.{refl, sym}
 use Prim.Native.Nat.{_-_}
 use Rattle.cells.specs.Words.{alternativeW}
 use Rattle.cells.proofs.Discriminants.{Lowering, scan-start, scan-next, scan-end}
 
 abbrev Inv-loop : tie.InvT-loop
 Inv-loop w c from n j₀ least₀ j least = Lowering w c from least₀ n j least

@@ -1,49 +1,49 @@
--- Made from Proof.ans by tools/answers, 68b17059a9ef4bc7.
+-- Made from Proof.ans by tools/answers, ebf4dbb08b8f11d6.
 -- An entry costs a visit, and the visits left never grow: the measure is the visits left, and among calls with as many left
 -- the place of a function on the way down from `unify_heads` to the next `unify`. Each arm is a law of its own.
 use Prim.Native.Nat.{ℕ, _<_, _+_, _-_, _*_, _≤_}
 use borrow.Fn.Kinds.{In}
 use borrow.Fn.PlainCycle.{Measures, is, falls, and}
-use Rattle.cells.proofs.unify.Reads as unify
-use Rattle.cells.proofs.unify.Kinds as unify-kinds
-use Rattle.cells.proofs.+unify+unify_alternative+unify_fields+unify_heads+unify_payload+unify_record+unify_union.Lts-unify as unify-lts
-use Rattle.cells.proofs.unify_alternative.Reads as unify-alternative
-use Rattle.cells.proofs.unify_alternative.Kinds as unify-alternative-kinds
-use Rattle.cells.proofs.+unify+unify_alternative+unify_fields+unify_heads+unify_payload+unify_record+unify_union.Lts-unify_alternative as unify-alternative-lts
-use Rattle.cells.proofs.unify_fields.Reads as unify-fields
-use Rattle.cells.proofs.unify_fields.Kinds as unify-fields-kinds
-use Rattle.cells.proofs.+unify+unify_alternative+unify_fields+unify_heads+unify_payload+unify_record+unify_union.Lts-unify_fields as unify-fields-lts
-use Rattle.cells.proofs.unify_heads.Reads as unify-heads
-use Rattle.cells.proofs.unify_heads.Kinds as unify-heads-kinds
-use Rattle.cells.proofs.+unify+unify_alternative+unify_fields+unify_heads+unify_payload+unify_record+unify_union.Lts-unify_heads as unify-heads-lts
-use Rattle.cells.proofs.unify_payload.Reads as unify-payload
-use Rattle.cells.proofs.unify_payload.Kinds as unify-payload-kinds
-use Rattle.cells.proofs.+unify+unify_alternative+unify_fields+unify_heads+unify_payload+unify_record+unify_union.Lts-unify_payload as unify-payload-lts
-use Rattle.cells.proofs.unify_record.Reads as unify-record
-use Rattle.cells.proofs.unify_record.Kinds as unify-record-kinds
-use Rattle.cells.proofs.+unify+unify_alternative+unify_fields+unify_heads+unify_payload+unify_record+unify_union.Lts-unify_record as unify-record-lts
-use Rattle.cells.proofs.unify_union.Reads as unify-union
-use Rattle.cells.proofs.unify_union.Kinds as unify-union-kinds
-use Rattle.cells.proofs.+unify+unify_alternative+unify_fields+unify_heads+unify_payload+unify_record+unify_union.Lts-unify_union as unify-union-lts
+use Rattle.unify.proofs.unify.Reads as unify
+use Rattle.unify.proofs.unify.Kinds as unify-kinds
+use Rattle.unify.proofs.+unify+unify_alternative+unify_fields+unify_heads+unify_payload+unify_record+unify_union.Lts-unify as unify-lts
+use Rattle.unify.proofs.unify_alternative.Reads as unify-alternative
+use Rattle.unify.proofs.unify_alternative.Kinds as unify-alternative-kinds
+use Rattle.unify.proofs.+unify+unify_alternative+unify_fields+unify_heads+unify_payload+unify_record+unify_union.Lts-unify_alternative as unify-alternative-lts
+use Rattle.unify.proofs.unify_fields.Reads as unify-fields
+use Rattle.unify.proofs.unify_fields.Kinds as unify-fields-kinds
+use Rattle.unify.proofs.+unify+unify_alternative+unify_fields+unify_heads+unify_payload+unify_record+unify_union.Lts-unify_fields as unify-fields-lts
+use Rattle.unify.proofs.unify_heads.Reads as unify-heads
+use Rattle.unify.proofs.unify_heads.Kinds as unify-heads-kinds
+use Rattle.unify.proofs.+unify+unify_alternative+unify_fields+unify_heads+unify_payload+unify_record+unify_union.Lts-unify_heads as unify-heads-lts
+use Rattle.unify.proofs.unify_payload.Reads as unify-payload
+use Rattle.unify.proofs.unify_payload.Kinds as unify-payload-kinds
+use Rattle.unify.proofs.+unify+unify_alternative+unify_fields+unify_heads+unify_payload+unify_record+unify_union.Lts-unify_payload as unify-payload-lts
+use Rattle.unify.proofs.unify_record.Reads as unify-record
+use Rattle.unify.proofs.unify_record.Kinds as unify-record-kinds
+use Rattle.unify.proofs.+unify+unify_alternative+unify_fields+unify_heads+unify_payload+unify_record+unify_union.Lts-unify_record as unify-record-lts
+use Rattle.unify.proofs.unify_union.Reads as unify-union
+use Rattle.unify.proofs.unify_union.Kinds as unify-union-kinds
+use Rattle.unify.proofs.+unify+unify_alternative+unify_fields+unify_heads+unify_payload+unify_record+unify_union.Lts-unify_union as unify-union-lts
 use Rattle.cells.proofs.alternative.Reads as alternative-reads
-use Rattle.cells.proofs.bind_var.Reads as bind-var-reads
 use Rattle.cells.proofs.count.Reads as count-reads
-use Rattle.cells.proofs.differ.Reads as differ-reads
 use Rattle.cells.proofs.field.Reads as field-reads
-use Rattle.cells.proofs.next_discriminant.Reads as next-discriminant-reads
 use Rattle.cells.proofs.place_of.Reads as place-of-reads
 use Rattle.cells.proofs.repr.Reads as repr-reads
-use Rattle.cells.proofs.same_leaf.Reads as same-leaf-reads
 use Rattle.cells.proofs.set_var.Reads as set-var-reads
-use Rattle.cells.proofs.+unify+unify_alternative+unify_fields+unify_heads+unify_payload+unify_record+unify_union.{statement}
-use Rattle.cells.proofs.+unify+unify_alternative+unify_fields+unify_heads+unify_payload+unify_record+unify_union.Tie.{close}
+use Rattle.unify.proofs.bind_var.Reads as bind-var-reads
+use Rattle.unify.proofs.differ.Reads as differ-reads
+use Rattle.unify.proofs.next_discriminant.Reads as next-discriminant-reads
+use Rattle.unify.proofs.same_leaf.Reads as same-leaf-reads
+use Rattle.unify.proofs.+unify+unify_alternative+unify_fields+unify_heads+unify_payload+unify_record+unify_union.{statement}
+use Rattle.unify.proofs.+unify+unify_alternative+unify_fields+unify_heads+unify_payload+unify_record+unify_union.Tie.{close}
 use borrow.Author.Needs.{needs}
 use native.Mathlib.Omega.{arith}
 use mathlib.Core.Path.{_≡_, refl, sym, ap, _∙_}
 use Rattle.cells.proofs.Heads.{error-var, error-else, var-error, var-same, var-var, var-else, record-error, record-var, record-record, record-else, union-error, union-var, union-union, union-else, leaf-error, leaf-var, leaf-same, leaf-else, unify-none, unify-enter}
 use Rattle.cells.proofs.Parts.{place-here, place-none}
 use Rattle.cells.proofs.Records.{record-same, record-differs, FieldsGoing, fields-start, fields-unknown, fields-next, fields-stop, fields-end}
 use Rattle.cells.proofs.Unions.{payload-fails, payload-else, in-neither, in-expected, in-found, renamed, in-both, UnionGoing, union-start, union-next, union-stop, union-end, union-past}
 
 abbrev μ-unify : Measures 1 unify-kinds.ps ℕ
 μ-unify κs a = 8 * a .1 .1 .1 .0
@@ -181,8 +181,6 @@ pub +unify+unify-alternative+unify-fields+unify-heads+unify-payload+unify-record
     (λ t. unify-alternative-lts.spec (
       place-of-reads.Asked,
       place-of-reads.Learnt,
-      count-reads.Asked,
-      count-reads.Learnt,
       alternative-reads.Asked,
       alternative-reads.Learnt,
       unify-payload-below t,
@@ -194,32 +192,34 @@ pub +unify+unify-alternative+unify-fields+unify-heads+unify-payload+unify-record
     unify-alternative.Post
     (λ c κs. search needs)
     (λ c κs. search needs)
+    (λ c. search needs)
     (λ c κs. search needs)
-    (λ c κs. search needs)
-    (λ c κs. search needs)
+    (λ c. search needs)
     (λ c κs. search needs)
     (λ c κs. omega arith)
     (λ c κs. search needs)
+    (λ c. search needs)
+    (λ c κs. search needs)
+    (λ c. search needs)
+    (λ c. search needs)
     (λ c κs. search needs)
     (λ c κs. search needs)
-    (λ c κs. search needs)
     (λ c. search needs)
-    (λ c. in-both (place-here (c .before .before .before .before .before .before .before .before .before .before .before .before .before .before .before .before .before .before .before .place-of .ensures) (c .before .before .before .before .before .before .before .before .before .before .before .before .before .before .before .count .ensures) (c .before .before .before .before .before .before .before .before .before .before .alternative .result) (c .before .before .before .before .before .before .before .before .before .before .before .before .if1 .taken) (c .before .before .before .before .before .before .before .before .before .before .alternative .ensures)) (place-here (c .before .before .before .before .before .before .before .before .before .before .before .before .before .before .before .before .before .place-of2 .ensures) (c .before .before .before .before .before .before .before .before .before .before .before .before .before .count2 .ensures) (c .before .before .before .before .before .before .before .alternative2 .result) (c .before .before .before .before .before .before .before .before .before .if2 .taken) (c .before .before .before .before .before .before .before .alternative2 .ensures)) (c .before .before .before .before .before .before .before .before .before .before .alternative .result) (c .before .before .before .before .before .before .before .alternative2 .result) refl refl (c .before .before .before .before .if3 .taken) (c .before .before .unify-payload .ensures))
     (λ c. search needs)
-    (λ c. renamed (place-here (c .before .before .before .before .before .before .before .before .before .before .before .before .before .before .before .before .place-of .ensures) (c .before .before .before .before .before .before .before .before .before .before .before .before .count .ensures) (c .before .before .before .before .before .before .before .alternative .result) (c .before .before .before .before .before .before .before .before .before .if1 .taken) (c .before .before .before .before .before .before .before .alternative .ensures)) (place-here (c .before .before .before .before .before .before .before .before .before .before .before .before .before .before .place-of2 .ensures) (c .before .before .before .before .before .before .before .before .before .before .count2 .ensures) (c .before .before .before .before .alternative2 .result) (c .before .before .before .before .before .before .if2 .taken) (c .before .before .before .before .alternative2 .ensures)) (c .before .before .before .before .before .before .before .alternative .result) (c .before .before .before .before .alternative2 .result) refl refl (c .before .if3 .left) (c .differ .ensures))
+    (λ c. in-both (place-here (c .before .before .before .before .before .before .before .before .before .before .before .before .before .before .before .before .before .before .before .place-of .ensures) (c .before .before .before .before .before .before .before .before .before .before .before .before .before .before .before .found .given .0 .0) (c .before .before .before .before .before .before .before .before .before .before .before .before .alternative .result) (c .before .before .before .before .before .before .before .before .before .before .before .before .before .before .before .found .given .1) (c .before .before .before .before .before .before .before .before .before .before .before .before .alternative .ensures)) (place-here (c .before .before .before .before .before .before .before .before .before .before .before .before .before .before .before .before .before .place-of2 .ensures) (c .before .before .before .before .before .before .before .before .before .before .expected .given .0 .0) (c .before .before .before .before .before .before .before .alternative2 .result) (c .before .before .before .before .before .before .before .before .before .before .expected .given .1) (c .before .before .before .before .before .before .before .alternative2 .ensures)) (c .before .before .before .before .before .before .before .before .before .before .before .before .alternative .result) (c .before .before .before .before .before .before .before .alternative2 .result) refl refl (c .before .before .before .before .if1 .taken) (c .before .before .unify-payload .ensures))
     (λ c. search needs)
-    (λ c. in-found (place-here (c .before .before .before .before .before .before .before .before .before .before .before .place-of .ensures) (c .before .before .before .before .before .before .before .count .ensures) (c .before .before .alternative .result) (c .before .before .before .before .if1 .taken) (c .before .before .alternative .ensures)) (place-none (c .before .before .before .before .before .before .before .before .before .place-of2 .ensures) (c .before .before .before .before .before .count2 .ensures) (c .before .if2 .left)) (c .before .before .alternative .result) refl refl (c .differ2 .ensures))
+    (λ c. renamed (place-here (c .before .before .before .before .before .before .before .before .before .before .before .before .before .before .before .before .place-of .ensures) (c .before .before .before .before .before .before .before .before .before .before .before .before .found .given .0 .0) (c .before .before .before .before .before .before .before .before .before .alternative .result) (c .before .before .before .before .before .before .before .before .before .before .before .before .found .given .1) (c .before .before .before .before .before .before .before .before .before .alternative .ensures)) (place-here (c .before .before .before .before .before .before .before .before .before .before .before .before .before .before .place-of2 .ensures) (c .before .before .before .before .before .before .before .expected .given .0 .0) (c .before .before .before .before .alternative2 .result) (c .before .before .before .before .before .before .before .expected .given .1) (c .before .before .before .before .alternative2 .ensures)) (c .before .before .before .before .before .before .before .before .before .alternative .result) (c .before .before .before .before .alternative2 .result) refl refl (c .before .if1 .left) (c .differ .ensures))
     (λ c. search needs)
-    (λ c. in-expected (place-none (c .before .before .before .before .before .before .before .before .before .before .before .place-of .ensures) (c .before .before .before .before .before .before .before .count .ensures) (c .before .before .before .before .if1 .left)) (place-here (c .before .before .before .before .before .before .before .before .before .place-of2 .ensures) (c .before .before .before .before .before .count2 .ensures) (c .before .alternative3 .result) (c .before .before .before .if4 .taken) (c .before .alternative3 .ensures)) (c .before .alternative3 .result) refl refl (c .differ3 .ensures))
+    (λ c. in-found (place-here (c .before .before .before .before .before .before .before .before .before .before .place-of .ensures) (c .before .before .before .before .before .before .found .given .0 .0) (c .before .before .before .alternative .result) (c .before .before .before .before .before .before .found .given .1) (c .before .before .before .alternative .ensures)) (place-none (c .before .before .before .before .before .before .before .before .place-of2 .ensures) (c .before .enum-told .given .1)) (c .before .before .before .alternative .result) refl refl (c .differ2 .ensures))
     (λ c. search needs)
-    (λ c. in-neither (place-none (c .before .before .before .before .before .before .before .before .place-of .ensures) (c .before .before .before .before .count .ensures) (c .before .if1 .left)) (place-none (c .before .before .before .before .before .before .place-of2 .ensures) (c .before .before .count2 .ensures) (c .if4 .left)) refl refl))
+    (λ c. in-expected (place-none (c .before .before .before .before .before .before .before .before .before .before .place-of .ensures) (c .before .before .before .before .before .before .enum-told2 .given .1)) (place-here (c .before .before .before .before .before .before .before .before .place-of2 .ensures) (c .before .before .before .before .expected2 .given .0 .0) (c .before .alternative3 .result) (c .before .before .before .before .expected2 .given .1) (c .before .alternative3 .ensures)) (c .before .alternative3 .result) refl refl (c .differ3 .ensures))
+    (λ c. search needs)
+    (λ c. in-neither (place-none (c .before .before .before .before .before .before .place-of .ensures) (c .before .before .enum-told2 .given .1)) (place-none (c .before .before .before .before .place-of2 .ensures) (c .enum-told3 .given .1)) refl refl))
     (λ t. unify-fields-lts.spec (
       field-reads.Asked,
       field-reads.Learnt,
       place-of-reads.Asked,
       place-of-reads.Learnt,
-      count-reads.Asked,
-      count-reads.Learnt,
       unify-below t,
       unify.Post,
     )
@@ -230,18 +230,19 @@ pub +unify+unify-alternative+unify-fields+unify-heads+unify-payload+unify-record
     (λ c. fields-start _ _ _ _ _)
     (λ c κs. search needs)
     (λ c κs. search needs)
-    (λ c κs. search needs)
-    (λ c. c .before .before .before .before .before .before .before .before .loop .inv .going .long)
-    (λ c. fields-unknown (c .before .before .before .before .before .before .before .before .loop .inv) (c .before .before .before .before .before .before .before .loop-test .taken) (c .before .before .before .before .before .field .ensures) (place-none (c .before .before .before .place-of .ensures) (c .before .count .ensures) (c .if1 .taken)) refl)
+    (λ c. search needs)
+    (λ c. search needs)
+    (λ c. c .before .before .before .before .before .before .before .loop .inv .going .keeps .long)
+    (λ c. fields-unknown (c .before .before .before .before .before .before .before .loop .inv) (c .before .before .before .before .before .before .loop-test .taken) (c .before .before .before .before .field .ensures) (place-none (c .before .before .place-of .ensures) (c .enum-told .given .1)) refl)
     (λ c κs. search needs)
     (λ c κs. omega (arith, c .before .before .before .before .before .before .before .before .before .before .before .loop .inv .going .fewer))
     (λ c. search needs)
-    (λ c. c .before .before .before .unify .kept .0 ∙ c .before .before .before .before .before .before .before .before .before .before .before .before .before .before .before .loop .inv .going .long)
-    (λ c. fields-stop (c .before .before .before .before .before .before .before .before .before .before .before .before .before .before .before .loop .inv) (c .before .before .before .before .before .before .before .before .before .before .before .before .before .before .loop-test .taken) (c .before .before .before .before .before .before .before .before .before .before .before .before .field .ensures) (place-here (c .before .before .before .before .before .before .before .before .before .before .place-of .ensures) (c .before .before .before .before .before .before .before .before .count .ensures) (c .before .before .before .before .before .field2 .result) (c .before .before .before .before .before .before .before .if1 .left) (c .before .before .before .before .before .field2 .ensures)) refl (c .before .before .before .unify .ensures) (c .match .keys2))
+    (λ c. c .before .before .before .unify .kept .0 ∙ c .before .before .before .before .before .before .before .before .before .before .before .before .before .before .before .loop .inv .going .keeps .long)
+    (λ c. fields-stop (c .before .before .before .before .before .before .before .before .before .before .before .before .before .before .before .loop .inv) (c .before .before .before .before .before .before .before .before .before .before .before .before .before .before .loop-test .taken) (c .before .before .before .before .before .before .before .before .before .before .before .before .field .ensures) (place-here (c .before .before .before .before .before .before .before .before .before .before .place-of .ensures) (c .before .before .before .before .before .before .before .before .place .given .0 .0) (c .before .before .before .before .before .field2 .result) (c .before .before .before .before .before .before .before .before .place .given .1) (c .before .before .before .before .before .field2 .ensures)) refl (c .before .before .before .unify .ensures) (c .match2 .keys2))
     (λ c. search needs)
     (λ c. omega arith)
-    (λ c. fields-next (c .before .before .before .before .before .before .before .before .before .before .before .before .before .before .before .before .before .loop .inv) (c .before .before .before .before .before .before .before .before .before .before .before .before .before .before .before .before .loop-test .taken) (c .before .before .before .before .before .before .before .before .before .before .before .before .before .before .field .ensures) (place-here (c .before .before .before .before .before .before .before .before .before .before .before .before .place-of .ensures) (c .before .before .before .before .before .before .before .before .before .before .count .ensures) (c .before .before .before .before .before .before .before .field2 .result) (c .before .before .before .before .before .before .before .before .before .if1 .left) (c .before .before .before .before .before .before .before .field2 .ensures)) refl (c .before .before .before .before .before .unify .ensures) (c .before .r .given .0 .0) (c .before .r .given .1) (c .before .before .before .before .before .unify .kept .0))
-    (λ c. c .before .loop .inv .going .long)
+    (λ c. fields-next (c .before .before .before .before .before .before .before .before .before .before .before .before .before .before .before .before .before .loop .inv) (c .before .before .before .before .before .before .before .before .before .before .before .before .before .before .before .before .loop-test .taken) (c .before .before .before .before .before .before .before .before .before .before .before .before .before .before .field .ensures) (place-here (c .before .before .before .before .before .before .before .before .before .before .before .before .place-of .ensures) (c .before .before .before .before .before .before .before .before .before .before .place .given .0 .0) (c .before .before .before .before .before .before .before .field2 .result) (c .before .before .before .before .before .before .before .before .before .before .place .given .1) (c .before .before .before .before .before .before .before .field2 .ensures)) refl (c .before .before .before .before .before .unify .ensures) (c .before .r .given .0 .0) (c .before .r .given .1))
+    (λ c. c .before .loop .inv .going .keeps .long)
     (λ c. fields-end (c .before .loop .inv) (c .loop-test .left)))
     (λ t. unify-heads-lts.spec (
       set-var-reads.Asked,
@@ -353,15 +354,15 @@ pub +unify+unify-alternative+unify-fields+unify-heads+unify-payload+unify-record
     (λ c κs. search needs)
     (λ c. search needs)
     (λ c. search needs)
-    (λ c. c .before .before .before .before .before .loop .inv .0 .going .long)
+    (λ c. c .before .before .before .before .before .loop .inv .0 .going .keeps .long)
     (λ c. union-end (c .before .before .before .before .before .loop .inv .0) (c .before .before .before .before .loop-test .taken) (c .before .before .next-discriminant .ensures) (c .enum-told .given .1))
     (λ c κs. omega (arith, c .before .before .before .before .before .before .before .loop .inv .0 .going .fewer))
     (λ c. search needs)
-    (λ c. c .before .before .before .unify-alternative .kept .0 ∙ c .before .before .before .before .before .before .before .before .before .before .before .loop .inv .0 .going .long)
+    (λ c. c .before .before .before .unify-alternative .kept .0 ∙ c .before .before .before .before .before .before .before .before .before .before .before .loop .inv .0 .going .keeps .long)
     (λ c. union-stop (c .before .before .before .before .before .before .before .before .before .before .before .loop .inv .0) (c .before .before .before .before .before .before .before .before .before .before .loop-test .taken) (c .before .before .before .before .before .before .before .before .next-discriminant .ensures) (c .before .before .before .before .before .before .next .given .1) (c .before .before .before .unify-alternative .ensures) (c .match2 .keys2))
     (λ c. search needs)
     (λ c. search needs)
     (λ c. omega (arith, rw (c .before .before .before .before .before .before .before .before .next .given .1) at (c .before .before .before .before .before .before .before .before .before .before .next-discriminant .ensures .above)))
-    (λ c. (union-next (c .before .before .before .before .before .before .before .before .before .before .before .before .before .loop .inv .0) (c .before .before .before .before .before .before .before .before .before .before .before .before .loop-test .taken) (c .before .before .before .before .before .before .before .before .before .before .next-discriminant .ensures) (c .before .before .before .before .before .before .before .before .next .given .1) (c .before .before .before .before .before .unify-alternative .ensures) (c .before .r .given .0 .0) (c .before .r .given .1) (c .before .before .before .before .before .unify-alternative .kept .0), omega arith))
-    (λ c. c .before .loop .inv .0 .going .long)
+    (λ c. (union-next (c .before .before .before .before .before .before .before .before .before .before .before .before .before .loop .inv .0) (c .before .before .before .before .before .before .before .before .before .before .before .before .loop-test .taken) (c .before .before .before .before .before .before .before .before .before .before .next-discriminant .ensures) (c .before .before .before .before .before .before .before .before .next .given .1) (c .before .before .before .before .before .unify-alternative .ensures) (c .before .r .given .0 .0) (c .before .r .given .1), omega arith))
+    (λ c. c .before .loop .inv .0 .going .keeps .long)
     (λ c. union-past (c .before .loop .inv .0) (c .loop-test .left))

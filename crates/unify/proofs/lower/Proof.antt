@@ -1,10 +1,10 @@
--- Made from Proof.ans by tools/answers, 85d2aa47a27c6f68.
+-- Made from Proof.ans by tools/answers, 6393a9d9ffcf410d.
 -- The tests are those of `lowerW`. The key is a word, so it is small.
 use borrow.Author.Needs.{needs}
-use Rattle.cells.proofs.lower.Statement.{statement}
-use Rattle.cells.proofs.lower.Tie as tie
+use Rattle.unify.proofs.lower.Statement.{statement}
+use Rattle.unify.proofs.lower.Tie as tie
 use borrow.Author.Tests.{lt-ltb, le-ltb}
 use Rattle.cells.specs.Words.{lowerW}
 
 returns : tie.Need-returns
 unfolding lowerW
