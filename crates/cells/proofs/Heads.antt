@@ -47,7 +47,7 @@ module _ {w : List ℕ} {x : ℕ} {t : Ty} {left : ℕ} {o : Asked} (O : Occurs 
   unfolding Ends bindVar withLeft
   bind-occurs l e = record {
     step = record {
-      is = λ T st H q p d h. rw (answer T st H q (p .2) d h, e, bindVar) (Infinite, refl, refl, stay (holds-left H l));
+      is = λ T st H q p d h. rw (answer T st H q (p .2) d h, e, bindVar) (Infinite, refl, record { is = refl; ok = tt }, stay (holds-left H l));
       fewer = rw e at (O .fewer);
       keeps = keeps-refl;
     };
@@ -250,7 +250,7 @@ module _ {w : List ℕ} {a b : Ty} {left : ℕ} where
   record-record c e p q R = record { step = is-other (λ T st k. (rw p at (k .0), rw q at (k .1))) (λ T st d H k. rw (p, q)) (R .step) }
 
   pub record-else : (c : ℕ) → a ≡ Record c → OneOf (0 ∷ 1 ∷ 2 ∷ 3 ∷ 5 ∷ []) (tagOf the-type b) → UnifiesHeads w a b left w (Bad (Mismatch b (Record c)) left)
-  record-else c p o = record { step = fails (Mismatch b (Record c)) (λ T st d H k. rw p (record-other d (unifier d) st T c b o)) }
+  record-else c p o = record { step = fails (Mismatch b (Record c)) (λ T st k. (k .1, rw p at (k .0))) (λ T st d H k. rw p (record-other d (unifier d) st T c b o)) }
 
   pub union-error : (c : ℕ) → a ≡ Union c → b ≡ Error → UnifiesHeads w a b left w (Good left)
   unfolding unifyHeads
@@ -265,7 +265,7 @@ module _ {w : List ℕ} {a b : Ty} {left : ℕ} where
   union-union c e p q R = record { step = is-other (λ T st k. (rw p at (k .0), rw q at (k .1))) (λ T st d H k. rw (p, q)) (R .step) }
 
   pub union-else : (c : ℕ) → a ≡ Union c → OneOf (0 ∷ 1 ∷ 2 ∷ 3 ∷ 4 ∷ []) (tagOf the-type b) → UnifiesHeads w a b left w (Bad (Mismatch b (Union c)) left)
-  union-else c p o = record { step = fails (Mismatch b (Union c)) (λ T st d H k. rw p (union-other d (unifier d) st T c b o)) }
+  union-else c p o = record { step = fails (Mismatch b (Union c)) (λ T st k. (k .1, rw p at (k .0))) (λ T st d H k. rw p (union-other d (unifier d) st T c b o)) }
 
   pub leaf-error : IsLeaf a → b ≡ Error → UnifiesHeads w a b left w (Good left)
   unfolding unifyHeads
@@ -280,7 +280,7 @@ module _ {w : List ℕ} {a b : Ty} {left : ℕ} where
 
   pub leaf-else : IsLeaf a → OneOf (0 ∷ 1 ∷ 2 ∷ 3 ∷ 4 ∷ 5 ∷ []) (tagOf the-type b) → sameLeafW a b ≡ false → UnifiesHeads w a b left w (Bad (Mismatch b a) left)
   leaf-else o o′ e = record {
-    step = fails (Mismatch b a) (λ T st d H k. rw (leaf-is T a o)
+    step = fails (Mismatch b a) (λ T st k. (k .1, k .0)) (λ T st d H k. rw (leaf-is T a o)
         (leaf-differs d (unifier d) st T (leaf a o .0) b o′ (λ q. same-false a b e (leaf a o .1 ∙ q))));
   }
 

@@ -52,7 +52,7 @@ module _ {w : List ℕ} {c e n m left : ℕ} (nc : n ≡ countW w c) (ne : m ≡
   pub record-differs : ¬ (n ≡ m) → UnifiesRecord w c e left w (Bad (Mismatch (Record e) (Record c)) left)
   unfolding unifyRecord
   record-differs q = record {
-    step = fails (Mismatch (Record e) (Record c)) (λ T st d H k.
+    step = fails (Mismatch (Record e) (Record c)) (λ T st k. (k .1, k .0)) (λ T st d H k.
         let other : ¬ (rowLen (T c) ≡ rowLen (T e)) = λ x. q (nc ∙ sym (cell-length (H .cells) Fields c (k .0)) ∙ x ∙ cell-length (H .cells) Fields e (k .1) ∙ sym ne) in
         rw (ne-eqb (rowLen (T c)) (rowLen (T e)) other, unifyRecord));
   }
@@ -96,7 +96,7 @@ module _ {w₀ : List ℕ} {c e n left : ℕ} {w : List ℕ} {j left′ : ℕ} (
 
       pub fields-unknown : f ≡ Nothing → UnifiesFields w₀ c e n left w (Bad (UnknownField (p .key)) left′)
       fields-unknown q = record {
-        step = go-fail (g .going) (UnknownField (p .key)) (λ T st H k K s S d.
+        step = go-fail (g .going) (UnknownField (p .key)) tt (λ T st H k K s S d.
             rw (rest-cell T w₀ Fields c n j p lt (was (H .cells) (k .0) (k .2) K)) (lacks (unifier d) s (p .key) (p .label) (tree T (p .ty)) _ (T e) (found S (k .1) K ∙ ap (foundPart T) q)));
       }
 

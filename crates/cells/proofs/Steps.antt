@@ -22,7 +22,7 @@ use Rattle.cells.specs.declared.Unified.{Unified}
 use Rattle.cells.specs.declared.Unified.the-variants.{Good, Bad, Spent}
 use Rattle.cells.specs.Words.{setVarW}
 use Rattle.cells.specs.Stands.{Rows, tree, Ok, Holds, Keeps}
-use Rattle.cells.specs.Contracts.{errorOf, Stays, Ends, Step}
+use Rattle.cells.specs.Contracts.{errorOf, OkError, Stays, Ends, Step}
 use Rattle.cells.proofs.Unified.{the-type}
 use Rattle.cells.proofs.Frame.{keeps-refl, keeps-trans}
 use Rattle.cells.proofs.Holding.{set-var-keeps, set-var-holds}
@@ -46,9 +46,14 @@ module _ {P : Rows → State → Type 0} {f : ℕ → Rows → State → Unify.U
   unfolding Ends
   goes-on e = record { is = λ T st H q p d h. rw (e T st d p) (ap Good (sym q), stay H); fewer = omega arith; keeps = keeps-refl }
 
-  pub fails : (x : TyError) → ((T : Rows) (st : State) (d : ℕ) → Holds w T st → P T st → f d T st ≡ Unify.Err (errorOf T x) st) → Step P f w left w (Bad x left)
+  pub fails : (x : TyError) → ((T : Rows) (st : State) → P T st → OkError w x)
+      → ((T : Rows) (st : State) (d : ℕ) → Holds w T st → P T st → f d T st ≡ Unify.Err (errorOf T x) st) → Step P f w left w (Bad x left)
   unfolding Ends
-  fails x e = record { is = λ T st H q p d h. rw (e T st d H p) (x, ap (Bad x) (sym q), refl, stay H); fewer = omega arith; keeps = keeps-refl }
+  fails x ok e = record {
+    is = λ T st H q p d h. rw (e T st d H p) (x, ap (Bad x) (sym q), record { is = refl; ok = ok T st p }, stay H);
+    fewer = omega arith;
+    keeps = keeps-refl;
+  }
 
   pub is-other : {Q : Rows → State → Type 0} {g : ℕ → Rows → State → Unify.Unified} {w′ : List ℕ} {r : Unified} → ((T : Rows) (st : State) → P T st → Q T st)
       → ((T : Rows) (st : State) (d : ℕ) → Holds w T st → P T st → f d T st ≡ g d T st) → Step Q g w left w′ r → Step P f w left w′ r
@@ -111,9 +116,16 @@ module _ {P : Rows → State → Type 0} {f : ℕ → Rows → State → Unify.U
   unfolding Ends
   go-end e = record { is = λ T st H q p d h. let R = G .to T st H q p d h in rw (R .same, e T st H p (G .keeps) (R .state) (R .holds) d) (ap Good (sym (R .visits)), record { holds = R .holds; keeps = G .keeps }); fewer = G .fewer; keeps = G .keeps }
 
-  pub go-fail : (x : TyError) → Here (λ T s d. g d T s ≡ Unify.Err (errorOf T x) s) → Step P f w₀ left w (Bad x rest)
+  pub go-fail : (x : TyError) → OkError w x → Here (λ T s d. g d T s ≡ Unify.Err (errorOf T x) s) → Step P f w₀ left w (Bad x rest)
   unfolding Ends
-  go-fail x e = record { is = λ T st H q p d h. let R = G .to T st H q p d h in rw (R .same, e T st H p (G .keeps) (R .state) (R .holds) d) (x, ap (Bad x) (sym (R .visits)), refl, record { holds = R .holds; keeps = G .keeps }); fewer = G .fewer; keeps = G .keeps }
+  go-fail x ok e = record {
+    is = λ T st H q p d h.
+        let R = G .to T st H q p d h in
+        rw (R .same, e T st H p (G .keeps) (R .state) (R .holds) d)
+        (x, ap (Bad x) (sym (R .visits)), record { is = refl; ok = ok }, record { holds = R .holds; keeps = G .keeps });
+    fewer = G .fewer;
+    keeps = G .keeps;
+  }
 
   -- A turn: a step, and then the rest.
   module _ (g′ : ℕ → Rows → State → Unify.Unified) {Q : Rows → State → Type 0} {u : ℕ → Rows → State → Unify.Unified} {w′ : List ℕ} {r : Unified} (S : Step Q u w rest w′ r)

@@ -40,16 +40,19 @@ module _ {w : List ℕ} {c e : ℕ} {diff : UnionDiff} {a b : Ty} {left : ℕ} {
   unfolding Ends mapErr
   payload-fails x l q = record {
     step = record {
-      is = λ T st H v k d h. one T (Unify.unifyIn d st (tree T a) (tree T b)) (rw q at (U .is T st H v (k .0) (k .1) d h));
+      is = λ T st H v k d h. one T (k .2) (k .3) (Unify.unifyIn d st (tree T a) (tree T b)) (rw q at (U .is T st H v (k .0) (k .1) d h));
       fewer = rw q at (U .fewer);
       keeps = U .keeps;
     };
   }
     where
-      one : (T : Rows) (o : Unify.Unified) → Ends w w′ T (Bad x l) o → Ends w w′ T (Bad (UnionMismatch diff (Union e) (Union c)) l) (mapErr (differs T c e (diffOf diff)) o)
-      one T (Unify.Ok st) z = clash (cc (z .0))
-      one T (Unify.Err y st) z = let v : l ≡ st .left = cc (z .1) in (UnionMismatch diff (Union e) (Union c), ap (Bad (UnionMismatch diff (Union e) (Union c))) v, refl, z .3)
-      one T (Unify.Spent st) z = clash (cc (z .0))
+      one : (T : Rows) → IsCell w Alternatives c → IsCell w Alternatives e → (o : Unify.Unified) → Ends w w′ T (Bad x l) o → Ends w w′ T (Bad (UnionMismatch diff (Union e) (Union c)) l) (mapErr (differs T c e (diffOf diff)) o)
+      one T i j (Unify.Ok st) z = clash (cc (z .0))
+      one T i j (Unify.Err y st) z =
+          let v : l ≡ st .left = cc (z .1) in
+          let same = keeps-cells (omega arith) (z .3 .keeps) in
+          (UnionMismatch diff (Union e) (Union c), ap (Bad (UnionMismatch diff (Union e) (Union c))) v, record { is = refl; ok = (cell-same same j, cell-same same i) }, z .3)
+      one T i j (Unify.Spent st) z = clash (cc (z .0))
 
   pub payload-else : OneOf (0 ∷ 2 ∷ []) (tagOf the-type r) → UnifiesPayload w c e diff a b left w′ r
   unfolding Ends mapErr
@@ -79,17 +82,17 @@ module _ {w : List ℕ} {c e k : ℕ} {x y : Found} (X : FindsKey w Alternatives
 
   pub in-expected : (o : Part) {left : ℕ} {r : Unified} → x ≡ Nothing → y ≡ At o → r ≡ Bad (UnionMismatch (Absent (o .label) k) (Union e) (Union c)) left → UnifiesAlternative w c e k left w r
   unfolding unifyAlternative
-  in-expected o p q z = rw z record { step = fails (UnionMismatch (Absent (o .label) k) (Union e) (Union c)) (λ T st d H i. sides T st d H i p q) }
+  in-expected o p q z = rw z record { step = fails (UnionMismatch (Absent (o .label) k) (Union e) (Union c)) (λ T st i. (i .1, i .0)) (λ T st d H i. sides T st d H i p q) }
 
   pub in-found : (o : Part) {left : ℕ} {r : Unified} → x ≡ At o → y ≡ Nothing → r ≡ Bad (UnionMismatch (Absent (o .label) k) (Union e) (Union c)) left → UnifiesAlternative w c e k left w r
   unfolding unifyAlternative
-  in-found o p q z = rw z record { step = fails (UnionMismatch (Absent (o .label) k) (Union e) (Union c)) (λ T st d H i. sides T st d H i p q) }
+  in-found o p q z = rw z record { step = fails (UnionMismatch (Absent (o .label) k) (Union e) (Union c)) (λ T st i. (i .1, i .0)) (λ T st d H i. sides T st d H i p q) }
 
   module _ (o m : Part) (p : x ≡ At o) (q : y ≡ At m) where
     pub renamed : {left : ℕ} {r : Unified} → ¬ (o .label ≡ m .label) → r ≡ Bad (UnionMismatch (Renamed (m .label) (o .label) k) (Union e) (Union c)) left → UnifiesAlternative w c e k left w r
     unfolding unifyAlternative
     renamed n z = rw z record {
-      step = fails (UnionMismatch (Renamed (m .label) (o .label) k) (Union e) (Union c))
+      step = fails (UnionMismatch (Renamed (m .label) (o .label) k) (Union e) (Union c)) (λ T st i. (i .1, i .0))
           (λ T st d H i. sides T st d H i p q ∙ rw (ne-eqb (o .label) (m .label) n, unifyAlternative));
     }
 
@@ -98,7 +101,7 @@ module _ {w : List ℕ} {c e k : ℕ} {x y : Found} (X : FindsKey w Alternatives
     in-both n P = record {
       step = record {
         is = λ T st H v i d h. rw (sides T st d H i p q, eq-eqb (o .label) (m .label) n, unifyAlternative)
-            (P .step .is T st H v (rw p at (X .ok T (H .cells) (i .0)), rw q at (Y .ok T (H .cells) (i .1))) d h);
+            (P .step .is T st H v (rw p at (X .ok T (H .cells) (i .0)), rw q at (Y .ok T (H .cells) (i .1)), i .0, i .1) d h);
         fewer = P .step .fewer;
         keeps = P .step .keeps;
       };

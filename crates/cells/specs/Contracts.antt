@@ -150,6 +150,18 @@ errorOf T (TyError.UnionMismatch d e g) = Unify.UnionMismatch (diffOf d) (tree T
 errorOf T (TyError.UnknownField n) = Unify.UnknownField n
 errorOf T TyError.Infinite = Unify.Infinite
 
+-- The types that an error shows exist.
+abbrev pub OkError : List ℕ → TyError → Type 0
+OkError w (TyError.Mismatch e g) = Ok w e × Ok w g
+OkError w (TyError.UnionMismatch d e g) = Ok w e × Ok w g
+OkError w (TyError.UnknownField n) = Unit {0}
+OkError w TyError.Infinite = Unit {0}
+
+-- An error in hand stands for the definition's.
+pub record IsError (w : List ℕ) (T : Rows) (x : TyError) (e : Unify.TyError) : Type 0 where
+  pub is : errorOf T x ≡ e
+  pub ok : OkError w x
+
 abbrev pub unifiedLeft : Unified → ℕ
 unifiedLeft (Unified.Good l) = l
 unifiedLeft (Unified.Bad e l) = l
@@ -162,7 +174,7 @@ pub record Stays (w w′ : List ℕ) (T : Rows) (st : State) : Type 0 where
 
 unfoldable pub Ends : List ℕ → List ℕ → Rows → Unified → Unify.Unified → Type 0
 Ends w w′ T r (Unify.Ok st) = (r ≡ Unified.Good (st .left)) × Stays w w′ T st
-Ends w w′ T r (Unify.Err e st) = (e′ : TyError) × (r ≡ Unified.Bad e′ (st .left)) × (errorOf T e′ ≡ e) × Stays w w′ T st
+Ends w w′ T r (Unify.Err e st) = (e′ : TyError) × (r ≡ Unified.Bad e′ (st .left)) × IsError w′ T e′ e × Stays w w′ T st
 Ends w w′ T r (Unify.Spent st) = (r ≡ Unified.Spent) × (st .left ≡ 0) × Stays w w′ T st
 
 -- Whatever the words are, the visits left do not rise, and only bindings and the undo log change.
@@ -210,5 +222,5 @@ pub record UnifiesAlternative (w : List ℕ) (c e k left : ℕ) (w′ : List ℕ
       (λ d T st. Unify.unifyAlternative (unifier d) st (differs T c e) k (findKey k (T c)) (findKey k (T e))) w left w′ r
 
 pub record UnifiesPayload (w : List ℕ) (c e : ℕ) (diff : UnionDiff) (a b : Ty) (left : ℕ) (w′ : List ℕ) (r : Unified) : Type 0 where
-  pub step : Step (λ T st. Ok w a × Ok w b)
+  pub step : Step (λ T st. Ok w a × Ok w b × IsCell w Alternatives c × IsCell w Alternatives e)
       (λ d T st. Unify.mapErr (differs T c e (diffOf diff)) (Unify.unifyIn d st (tree T a) (tree T b))) w left w′ r

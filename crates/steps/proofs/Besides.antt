@@ -127,7 +127,7 @@ module _ {f w w′ : List ℕ} {T : Rows} {d : Described} {left : ℕ} {c : Chec
       went (record { T′ = T; more = more-refl; runs = runs-slots (B .sound) (B .runs) K (e .1 .holds) (ap length (k .tys)); grew = grew-slots (B .sound) (B .runs) K; is = e .0 })
   unified-ends (Unify.Err x st) e k =
       let K : Keeps TYS END w w′ = keeps-wider (omega arith) (omega arith) (e .3 .keeps) in
-      went {a = some x} (record { T′ = T; more = more-refl; runs = runs-slots (B .sound) (B .runs) K (e .3 .holds) (ap length (k .tys)); grew = grew-slots (B .sound) (B .runs) K; is = (e .0, e .1, e .2) })
+      went {a = some x} (record { T′ = T; more = more-refl; runs = runs-slots (B .sound) (B .runs) K (e .3 .holds) (ap length (k .tys)); grew = grew-slots (B .sound) (B .runs) K; is = (e .0, e .1, e .2 .is) })
   unified-ends (Unify.Spent st) e k = spent (e .0)
 
 pub unifies : (f w : List ℕ) {got expected : Ty} {left : ℕ} {w′ : List ℕ} {r : Unified} → Unifies w got expected left w′ r → UnifiesTo f w got expected left w′ r
