@@ -2,15 +2,16 @@
 -- weigh together, by which everything that a run makes is bounded.
 use mathlib.Core.Bool.{true, false}
 use mathlib.Core.List.{List, [], _∷_, _++_}
-use mathlib.Core.Option.{Option}
+use mathlib.Core.Option.{Option, none}
 use mathlib.Core.Path.{_≡_}
 use Prim.Native.Nat.{ℕ, zero, suc, _+_, _*_, _<_, _≤_}
 use lib.Dec.{eqb}
-use lib.ListN.{length}
+use lib.ListN.{length, replicate}
 use Rattle.unification.specs.Ty.{Ty}
 use Rattle.unification.specs.Bindings.{State}
 use Rattle.unification.specs.Unify.{Spent, unify}
-use Rattle.unification.specs.Calls.{Side, Machine, Calls}
+use Rattle.unification.specs.Calls.{Side, Assignment, Machine, Calls, Claim}
+use Rattle.unification.specs.Tie.{AllAsRobinson}
 use Rattle.meaning.specs.Syntax.{ExprKind, Node, Ast, nodeAt}
 use Rattle.meaning.specs.Schema.{Schema}
 use Rattle.meaning.specs.References.{exprNodes, queryNodes}
@@ -43,6 +44,17 @@ pub record WellFormed (schema : Schema) (ast : Ast) : Type 0 where
 unfoldable pub run : Schema → Ast → ℕ → Step Ty
 unfolding query begin
 run schema ast ceiling = query schema (ast .nodes) (ast .query) (begin ceiling (length (ast .nodes)))
+
+-- Demand 3 of the run: it is a list of calls, and the clauses hold at its end and, by the history, at every moment of it, (d) of every
+-- rollback among them; whether the run goes to its end or passes the visit limit.
+pub record RunDemand3 (schema : Schema) (ast : Ast) (ceiling : ℕ) : Type 0 where
+  pub calls : Led ceiling (replicate (length (ast .nodes)) none) (ending (run schema ast ceiling) .state)
+  pub claim : Claim Assignment (ending (run schema ast ceiling) .state)
+
+-- Of every unification of the run, inner ones too, that demand 3's proviso admits: success found a most general unifier of the sides
+-- and the earlier bindings, failure means that there is none.
+abbrev pub RunAsRobinson : Schema → Ast → ℕ → Type 0
+RunAsRobinson schema ast ceiling = AllAsRobinson (ending (run schema ast ceiling) .state .history)
 
 -- What a run has made by its end, over at most this many nodes.
 pub record Room (nodes : ℕ) (c : Checker) : Type 0 where
