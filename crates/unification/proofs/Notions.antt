@@ -1,17 +1,16 @@
 -- Small examples of the notions of demand 3, computed and proved, that a weaker or a stronger notion would fail: what the proviso
 -- leaves out, how often, what is not undone, what a rollback gives back, what Robinson's notions say of a list of calls.
-use mathlib.Core.Bool.{Bool, true, false}
-use mathlib.Core.List.{List, [], _∷_}
+use mathlib.Core.List.{[], _∷_}
 use mathlib.Core.Option.{none, some}
 use mathlib.Core.Path.{_≡_, refl}
-use Prim.Native.Nat.{ℕ, suc}
+use Prim.Native.Nat.{ℕ}
 use native.Mathlib.Omega.{arith}
-use Rattle.unification.specs.Ty.{Int, String, Fact, Record, Ty, leaf, node, Var, Error, Row, ε, cell, app}
+use Rattle.unification.specs.Ty.{Int, String, Fact, Record, Ty, leaf, node, Var, Error, Row, ε, cell}
 use Rattle.unification.specs.Order.{Same, SameRow, Inserted, here, there}
 use Rattle.unification.specs.Robinson.{Substitution, Unifies, MostGeneral}
-use Rattle.unification.specs.Bindings.{Subst, bound, History, start, State, fresh, rollback, snapshot}
-use Rattle.unification.specs.Unify.{Unified, Ok, Err, Spent, unify}
-use Rattle.unification.specs.Calls.{Reaches, itself, through, Allowed, Admitted, Taken, Machine, begin, take-snapshot, Calls, none-yet, then-call, unknown, unification, failure, snapping, rollingBack, live, BackTo, bindingsAt}
+use Rattle.unification.specs.Bindings.{Subst, bound, start, State, fresh, rollback, snapshot}
+use Rattle.unification.specs.Unify.{endOf, unify}
+use Rattle.unification.specs.Calls.{Reaches, itself, through, Allowed, Admitted, Machine, begin, take-snapshot, Calls, none-yet, then-call, unknown, unification, failure, snapping, rollingBack, live, BackTo, bindingsAt}
 use Rattle.unification.specs.Tie.{solution, Together}
 use Rattle.unification.proofs.Tests.{clash}
 use Rattle.unification.proofs.Demand3.{demand-3}
@@ -86,50 +85,40 @@ as-often h = let q = h .1 in one-int (q .0) (q .1) (q .2) (q .4) (q .3)
 -- ---- What is not undone
 
 -- Of a unification that fails, what succeeded inside it; of one that passes the limit, what ended inside it.
-unfoldable past : Unified → History
-past (Ok st) = st .history
-past (Err e st) = st .history
-past (Spent st) = st .history
-
-inner-stays : live (past (unify (record { subst = none ∷ []; tys = []; undo = []; left = 9; history = start }) (two 1 (Var 0) 2 int) (two 1 int 2 string)))
+inner-stays : live (endOf (unify (record { subst = none ∷ []; tys = []; undo = []; left = 9; history = start }) (two 1 (Var 0) 2 int) (two 1 int 2 string)) .history)
     ≡ record { before = none ∷ []; got = Var 0; expected = int } ∷ []
-unfolding live past unify
+unfolding live unify
 inner-stays = refl
 
-limit-stays : live (past (unify (record { subst = none ∷ none ∷ []; tys = []; undo = []; left = 3; history = start }) (two 1 (Var 0) 2 (Var 1)) (two 1 int 2 int)))
+limit-stays : live (endOf (unify (record { subst = none ∷ none ∷ []; tys = []; undo = []; left = 3; history = start }) (two 1 (Var 0) 2 (Var 1)) (two 1 int 2 int)) .history)
     ≡ record { before = none ∷ none ∷ []; got = Var 0; expected = int } ∷ []
-unfolding live past unify
+unfolding live unify
 limit-stays = refl
 
 -- ---- A list of calls: an unknown and Int; a snapshot; a second unknown and String, a third, the first and String, which fails; a rollback.
-unfoldable state : Unified → State
-state (Ok st) = st
-state (Err e st) = st
-state (Spent st) = st
-
 unfoldable one-made : State
 unfolding begin fresh
 one-made = fresh (begin 9 [] .state)
 
 unfoldable one-bound : State
-unfolding one-made state unify
-one-bound = state (unify one-made (Var 0) int)
+unfolding one-made unify
+one-bound = endOf (unify one-made (Var 0) int)
 
 unfoldable two-made : State
 unfolding one-bound fresh
 two-made = fresh one-bound
 
 unfoldable two-bound : State
-unfolding two-made state unify
-two-bound = state (unify two-made (Var 1) string)
+unfolding two-made unify
+two-bound = endOf (unify two-made (Var 1) string)
 
 unfoldable three-made : State
 unfolding two-bound fresh
 three-made = fresh two-bound
 
 unfoldable one-refused : State
-unfolding three-made state unify
-one-refused = state (unify three-made (Var 0) string)
+unfolding three-made unify
+one-refused = endOf (unify three-made (Var 0) string)
 
 abbrev before : State → Machine
 before st = record { state = st; taken = [] }
@@ -138,15 +127,15 @@ abbrev since : State → Machine
 since st = record { state = st; taken = take-snapshot one-bound ∷ [] }
 
 calls-bound : Calls 9 [] (before one-bound)
-unfolding one-bound one-made state unify fresh begin
+unfolding one-bound one-made unify fresh begin
 calls-bound = then-call (then-call none-yet unknown) (unification {m = before one-made} (Var 0) int (omega arith) tt refl)
 
 calls-two : Calls 9 [] (since two-bound)
-unfolding two-bound two-made one-bound one-made state unify fresh begin
+unfolding two-bound two-made one-bound one-made unify fresh begin
 calls-two = then-call (then-call (then-call calls-bound snapping) unknown) (unification {m = since two-made} (Var 1) string (omega arith) tt refl)
 
 calls-refused : Calls 9 [] (since one-refused)
-unfolding one-refused three-made two-bound two-made one-bound one-made state unify fresh begin
+unfolding one-refused three-made two-bound two-made one-bound one-made unify fresh begin
 calls-refused = then-call (then-call calls-two unknown) (failure {m = since three-made} (Var 0) string _ (omega arith) tt refl)
 
 calls-rolled : Calls 9 [] (since (rollback one-refused (snapshot one-bound)))
@@ -155,14 +144,14 @@ calls-rolled = then-call calls-refused (rollingBack {m = since one-refused} [] [
 
 -- What the first unification bound is a most general unifier; there is none for the third.
 finds : MostGeneral (solution (some int ∷ [])) (Together (none ∷ []) (Var 0) int)
-unfolding one-bound one-made state unify fresh begin
+unfolding one-bound one-made unify fresh begin
 finds = robinson 9 [] _ calls-bound .0 free-admitted (int-admitted (none ∷ []))
 
 finds-none : (θ : Substitution) → ¬ Unifies θ (Together (some int ∷ some string ∷ none ∷ []) (Var 0) string)
-unfolding one-refused three-made two-bound two-made one-bound one-made state unify fresh begin bound
+unfolding one-refused three-made two-bound two-made one-bound one-made unify fresh begin bound
 finds-none = robinson 9 [] _ calls-refused .0 (bound-admitted (some string ∷ none ∷ [])) (string-admitted (some int ∷ some string ∷ none ∷ []))
 
 -- The rollback, by the claim: the first unknown is bound as at the snapshot, the other two are there and free.
 gave-back : BackTo (some int ∷ []) (some int ∷ some string ∷ none ∷ []) (some int ∷ none ∷ none ∷ [])
-unfolding one-refused three-made two-bound two-made one-bound one-made state unify fresh begin rollback snapshot bindingsAt
+unfolding one-refused three-made two-bound two-made one-bound one-made unify fresh begin rollback snapshot bindingsAt
 gave-back = demand-3 9 [] _ calls-rolled .between-calls .moments .0
