@@ -49,8 +49,9 @@ noted-long s h e = omega (arith, ap length e, pad-length (bindingsAt h) (length 
 noted-pad : (s : Subst) (n : ℕ) (h : History) → Noted s h → Noted (s ++ replicate n none) h
 unfolding Noted
 noted-pad s n h e =
-    let more : length s - length (bindingsAt h) + n ≡ length (s ++ replicate n none) - length (bindingsAt h) = omega (arith, pad-length s n, noted-long s h e) in
-    pad-pad (bindingsAt h) s (length s - length (bindingsAt h)) n e ∙ ap {B = Subst} (λ k. bindingsAt h ++ replicate k none) more
+    let b = bindingsAt h in
+    let more : length s - length b + n ≡ length (s ++ replicate n none) - length b = omega (arith, pad-length s n, noted-long s h e) in
+    pad-pad b s (length s - length b) n e ∙ ap {B = Subst} (λ k. b ++ replicate k none) more
 
 sound-after : (st : State) (A : Type 0) (C : (ℕ → Ty) → Type 0) (res : Unified) → Sound st → Post (st .subst) (st .history) A C res → After Sound res
 sound-after st A C (Ok b) h p = record { wf = p .step .wf; known = record { moments = p .step .moments (h .known); here = p .here (h .known) } }
@@ -74,7 +75,10 @@ fresh-sound st h =
     let here = h .known .here in
     record {
       wf = wf-pad (st .subst) 1 (h .wf);
-      known = record { moments = h .known .moments; here = record { noted = noted-pad (st .subst) 1 (st .history) (here .noted); claim = claim-pad (st .subst) 1 (st .history) (here .claim) } };
+      known = record {
+        moments = h .known .moments;
+        here = record { noted = noted-pad (st .subst) 1 (st .history) (here .noted); claim = claim-pad (st .subst) 1 (st .history) (here .claim) };
+      };
     }
 
 -- ---- A rollback

@@ -75,7 +75,8 @@ no-int : (t : Ty) (r : Row) → Same int t → ¬ Inserted 1 0 t r (cell 1 0 str
 no-int t r e here = clash (cc)
 no-int t r e (there i) = no-int-in-one t _ e i
 
-one-int : (t : Ty) (r : Row) → Same int t → Inserted 1 0 t r (cell 1 0 int (cell 1 0 string (cell 1 0 string ε))) → ¬ SameRow (cell 1 0 int (cell 1 0 string ε)) r
+one-int : (t : Ty) (r : Row) → Same int t → Inserted 1 0 t r (cell 1 0 int (cell 1 0 string (cell 1 0 string ε)))
+    → ¬ SameRow (cell 1 0 int (cell 1 0 string ε)) r
 one-int t r e here q = no-int (q .0) (q .1) (q .2) (q .4)
 one-int t r e (there i) q = no-int t _ e i
 
@@ -85,12 +86,15 @@ as-often h = let q = h .1 in one-int (q .0) (q .1) (q .2) (q .4) (q .3)
 -- ---- What is not undone
 
 -- Of a unification that fails, what succeeded inside it; of one that passes the limit, what ended inside it.
-inner-stays : live (endOf (unify (record { subst = none ∷ []; tys = []; undo = []; left = 9; history = start }) (two 1 (Var 0) 2 int) (two 1 int 2 string)) .history)
+abbrev from : Subst → ℕ → State
+from s v = record { subst = s; tys = []; undo = []; left = v; history = start }
+
+inner-stays : live (endOf (unify (from (none ∷ []) 9) (two 1 (Var 0) 2 int) (two 1 int 2 string)) .history)
     ≡ record { before = none ∷ []; got = Var 0; expected = int } ∷ []
 unfolding live unify
 inner-stays = refl
 
-limit-stays : live (endOf (unify (record { subst = none ∷ none ∷ []; tys = []; undo = []; left = 3; history = start }) (two 1 (Var 0) 2 (Var 1)) (two 1 int 2 int)) .history)
+limit-stays : live (endOf (unify (from (none ∷ none ∷ []) 3) (two 1 (Var 0) 2 (Var 1)) (two 1 int 2 int)) .history)
     ≡ record { before = none ∷ none ∷ []; got = Var 0; expected = int } ∷ []
 unfolding live unify
 limit-stays = refl

@@ -96,13 +96,14 @@ all-as-robinson (rolled past s s′ h) c = all-as-robinson h (c .4)
 pub robinson : (v : ℕ) (tys : List (Option Ty)) (m : Machine) → Calls v tys m → AllAsRobinson (m .state .history)
 robinson v tys m cs = all-as-robinson (m .state .history) (calls-inv v tys m cs .sound .known .moments)
 
-pub robinson-at-the-limit : (v : ℕ) (tys : List (Option Ty)) (m : Machine) → Calls v tys m → (a b : Ty) (st : State) → Side (length (m .state .subst)) a → Side (length (m .state .subst)) b
-    → unify (m .state) a b ≡ Spent st → AllAsRobinson (st .history)
+pub robinson-at-the-limit : (v : ℕ) (tys : List (Option Ty)) (m : Machine) → Calls v tys m → (a b : Ty) (st : State)
+    → Side (length (m .state .subst)) a → Side (length (m .state .subst)) b → unify (m .state) a b ≡ Spent st → AllAsRobinson (st .history)
 robinson-at-the-limit v tys m cs a b st i j e =
     let h : Sound st = rw e at (unify-sound (m .state) a b (calls-inv v tys m cs .sound) i j) in
     all-as-robinson (st .history) (h .known .moments)
 
 -- So a unification succeeds exactly where there is a unifier.
-pub succeeds-exactly : (s : Subst) (a b : Ty) (ok : Bool) (s′ : Subst) → AsRobinson s a b ok s′ → (ok ≡ true) ↔ ((θ : Substitution) × Unifies θ (Together s a b))
+pub succeeds-exactly : (s : Subst) (a b : Ty) (ok : Bool) (s′ : Subst) → AsRobinson s a b ok s′
+    → (ok ≡ true) ↔ ((θ : Substitution) × Unifies θ (Together s a b))
 succeeds-exactly s a b true s′ r = (λ e. (solution s′, r .unifies), λ u. refl)
 succeeds-exactly s a b false s′ r = (λ e. clash (cc), λ u. absurd (r (u .0) (u .1)))
