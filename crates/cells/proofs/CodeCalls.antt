@@ -33,7 +33,7 @@ use Rattle.cells.specs.Words.{declaredW, madeField, freshW}
 use Rattle.cells.specs.Inferred.{newRecordW, newRecordTy, rowMade, rowsWith, Filled}
 use Rattle.cells.specs.Stands.{Rows, tree, boundTree, tagOf, IsCell, declared, made, Ok, Holds}
 use Rattle.cells.specs.Contracts.{Stays, Ends, Unifies}
-use Rattle.cells.specs.CodeCalls.{kindTree, Declares, Permitted, untyped, with-state, united, CodeCalls, none-yet, unknown, reserving, filling, record-cell, success, failure, snapping, rollingBack, spending, annotation, CodeLed, between-calls, at-the-limit, Told}
+use Rattle.cells.specs.CodeCalls.{kindTree, Declares, Permitted, untyped, with-state, united, CodeCalls, none-yet, unknown, reserving, filling, record-cell, success, failure, snapping, rollingBack, spending, annotation, CodeLed, between-calls, at-the-limit, Returned}
 use Rattle.cells.proofs.Frame.{SameCells, keeps-cells, cell-before, cell-by}
 use Rattle.cells.proofs.Holding.{holds-log, holds-left, annotate-keeps, annotate-holds, fresh-cells, fresh-holds}
 use Rattle.cells.proofs.Making.{reserve-other, reserve-holds, put-field-keeps, put-field-holds, new-record-ty, new-record-other, new-record-count, new-record-more, new-record-row, new-or-old, new-record-holds}
@@ -129,13 +129,21 @@ split (t ∷ ts) [] older mark e = record { to = t; before = []; after = ts; is 
 split (t ∷ ts) (x ∷ newer) older mark e =
     let q : map marked ts ≡ newer ++ mark ∷ older = cc in
     let r = split ts newer older mark q in
-    record { to = r .to; before = t ∷ r .before; after = r .after; is = ap {B = List Taken} (λ us. t ∷ us) (r .is); from = r .from; mark-is = r .mark-is; older-are = r .older-are }
+    record {
+      to = r .to;
+      before = t ∷ r .before;
+      after = r .after;
+      is = ap {B = List Taken} (λ us. t ∷ us) (r .is);
+      from = r .from;
+      mark-is = r .mark-is;
+      older-are = r .older-are;
+    }
 
 -- What `unify` gives back, with the state in which it ended over trees.
 module _ (v nodes : ℕ) (w′ : List ℕ) (T : Rows) (marks : List ℕ) (m : Machine) (a b : Tree.Ty) where
   abbrev Goes : Unified → State → Type 0
-  Goes (Unified.Good l) st = Beside v nodes w′ T l marks (with-state m st) × Told (m .state .subst) a b (st .subst) (Unified.Good l)
-  Goes (Unified.Bad e l) st = Beside v nodes w′ T l marks (with-state m st) × Told (m .state .subst) a b (st .subst) (Unified.Bad e l)
+  Goes (Unified.Good l) st = Beside v nodes w′ T l marks (with-state m st) × Returned (m .state .subst) a b (st .subst) (Unified.Good l)
+  Goes (Unified.Bad e l) st = Beside v nodes w′ T l marks (with-state m st) × Returned (m .state .subst) a b (st .subst) (Unified.Bad e l)
   Goes Unified.Spent st = Holds w′ T st × (Unify.unify (m .state) a b ≡ Unify.Spent st)
 
 module _ {v nodes : ℕ} where
@@ -158,7 +166,8 @@ module _ {v nodes : ℕ} where
     unfolding Unify.unify
     ends = U .is T (m .state) (b .holds) (b .visits) og oe (m .state .left) (omega (arith, b .visits))
 
-    stayed : (st : State) → Calls.Calls v (untyped nodes) (with-state m st) → Stays w w′ T st → length (st .tys) ≡ length (m .state .tys) → Beside v nodes w′ T (st .left) marks (with-state m st)
+    stayed : (st : State) → Calls.Calls v (untyped nodes) (with-state m st) → Stays w w′ T st → length (st .tys) ≡ length (m .state .tys)
+        → Beside v nodes w′ T (st .left) marks (with-state m st)
     stayed st calls s same = record {
       calls = calls;
       holds = s .holds;
@@ -169,13 +178,16 @@ module _ {v nodes : ℕ} where
     }
 
     told : (ok : Bool) (st : State) (h : History) → Calls.Calls v (untyped nodes) (with-state m st) → st .history ≡ ended (m .state .subst) x y ok (st .subst) h
-        → EntryClaim Assignment (m .state .subst) x y ok (st .subst) × (Admitted (m .state .subst) x → Admitted (m .state .subst) y → AsRobinson (m .state .subst) x y ok (st .subst))
+        → EntryClaim Assignment (m .state .subst) x y ok (st .subst)
+        × (Admitted (m .state .subst) x → Admitted (m .state .subst) y → AsRobinson (m .state .subst) x y ok (st .subst))
     told ok st h calls e =
-        let claim : AtEveryMoment Assignment (ended (m .state .subst) x y ok (st .subst) h) = rw e at (demand-3 v (untyped nodes) _ calls .between-calls .moments) in
-        let rob : AllAsRobinson (ended (m .state .subst) x y ok (st .subst) h) = rw e at (robinson v (untyped nodes) _ calls) in
+        let last = ended (m .state .subst) x y ok (st .subst) h in
+        let claim : AtEveryMoment Assignment last = rw e at (demand-3 v (untyped nodes) _ calls .between-calls .moments) in
+        let rob : AllAsRobinson last = rw e at (robinson v (untyped nodes) _ calls) in
         (claim .0, rob .0)
 
-    go : (u : Unify.Unified) → Unify.unify (m .state) x y ≡ u → Ends w w′ T r u → After (Kept (m .state)) u → Notes (m .state .subst) x y u → Goes v nodes w′ T marks m x y r (Unify.endOf u)
+    go : (u : Unify.Unified) → Unify.unify (m .state) x y ≡ u → Ends w w′ T r u → After (Kept (m .state)) u → Notes (m .state .subst) x y u
+        → Goes v nodes w′ T marks m x y r (Unify.endOf u)
     unfolding Ends
     go (Unify.Ok st) q e kept n =
         let calls = Calls.then-call (b .calls) (Calls.unification x y got-side expected-side q) in
@@ -290,7 +302,9 @@ module _ {v nodes : ℕ} where
   -- Wherever a list of the code's calls has led, the limit included, the words stand for a state of which demand 3's clauses hold and all
   -- unifications went as Robinson's notions say.
   pub code-demand-3 : {w : List ℕ} {T : Rows} {st : State} → CodeLed v nodes w T st → Holds w T st × Claim Assignment st × AllAsRobinson (st .history)
-  code-demand-3 (between-calls {m = m} k) = let b = code-calls k in (b .holds, demand-3 v (untyped nodes) m (b .calls) .between-calls, robinson v (untyped nodes) m (b .calls))
+  code-demand-3 (between-calls {m = m} k) =
+      let b = code-calls k in
+      (b .holds, demand-3 v (untyped nodes) m (b .calls) .between-calls, robinson v (untyped nodes) m (b .calls))
   code-demand-3 (at-the-limit {m = m} got expected k og oe U) =
       let b = code-calls k in
       let g = unify-goes b og oe U in
@@ -306,7 +320,8 @@ module _ {v nodes : ℕ} where
     code-unknown x few e =
         let b = code-calls k in
         let after = code-calls (unknown k few) in
-        (omega (arith, b .holds .binds .unknowns), omega (arith, b .holds .binds .unknowns, after .holds .binds .unknowns, length-append (m .state .subst) (none ∷ [])))
+        let is : x ≡ length (m .state .subst) = omega (arith, b .holds .binds .unknowns) in
+        (is, omega (arith, is, after .holds .binds .unknowns, length-append (m .state .subst) (none ∷ [])))
 
     -- `new_record`: the record of the fields that were filled, a type in hand from then on.
     pub code-record : (from n : ℕ) (t : Ty) → getD w RECORD-COUNT 0 < 512 → Filled w from n → t ≡ newRecordTy w from n
@@ -321,7 +336,7 @@ module _ {v nodes : ℕ} where
 
     -- `unify`: how it ended.
     pub code-unify : {w′ : List ℕ} (got expected : Ty) (r : Unified) → Ok w got → Ok w expected → Unifies w got expected left w′ r
-        → Told (m .state .subst) (tree T got) (tree T expected) (united T (m .state) got expected .subst) r
+        → Returned (m .state .subst) (tree T got) (tree T expected) (united T (m .state) got expected .subst) r
     code-unify got expected (Unified.Good l) og oe U = unify-goes (code-calls k) og oe U .1
     code-unify got expected (Unified.Bad e l) og oe U = unify-goes (code-calls k) og oe U .1
     code-unify got expected Unified.Spent og oe U = tt

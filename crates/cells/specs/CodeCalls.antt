@@ -69,40 +69,42 @@ pub data CodeCalls (v nodes : ℕ) : List ℕ → Rows → ℕ → List ℕ → 
   unknown : {w : List ℕ} {T : Rows} {left : ℕ} {marks : List ℕ} {m : Machine} → CodeCalls v nodes w T left marks m → getD w UNKNOWNS 0 < 512
       → CodeCalls v nodes (freshW w) T left marks (with-state m (Bindings.fresh (m .state)))
   -- An inferred record, in three calls that change no binding: `reserve`, `put_field` of a field that was given to no record yet, and `new_record`
-  reserving : {w : List ℕ} {T : Rows} {left : ℕ} {marks : List ℕ} {m : Machine} (n : ℕ) → CodeCalls v nodes w T left marks m → getD w RECORD-FIELD-COUNT 0 + n ≤ 512
-      → CodeCalls v nodes (reserveW w n) T left marks m
+  reserving : {w : List ℕ} {T : Rows} {left : ℕ} {marks : List ℕ} {m : Machine} (n : ℕ) → CodeCalls v nodes w T left marks m
+      → getD w RECORD-FIELD-COUNT 0 + n ≤ 512 → CodeCalls v nodes (reserveW w n) T left marks m
   filling : {w : List ℕ} {T : Rows} {left : ℕ} {marks : List ℕ} {m : Machine} (i name : ℕ) (t : Ty) (from n : ℕ) → CodeCalls v nodes w T left marks m
       → i < 512 → name < 65536 → Reserved w from n → from ≤ i → i < from + n → CodeCalls v nodes (putFieldW w i name t) T left marks m
-  record-cell : {w : List ℕ} {T : Rows} {left : ℕ} {marks : List ℕ} {m : Machine} (from n : ℕ) → CodeCalls v nodes w T left marks m → getD w RECORD-COUNT 0 < 512 → Filled w from n
-      → CodeCalls v nodes (newRecordW w from n) (rowsWith w from n T) left marks m
+  record-cell : {w : List ℕ} {T : Rows} {left : ℕ} {marks : List ℕ} {m : Machine} (from n : ℕ) → CodeCalls v nodes w T left marks m
+      → getD w RECORD-COUNT 0 < 512 → Filled w from n → CodeCalls v nodes (newRecordW w from n) (rowsWith w from n T) left marks m
   -- `unify`, which gave back success or a failure
-  success : {w w′ : List ℕ} {T : Rows} {left left′ : ℕ} {marks : List ℕ} {m : Machine} (got expected : Ty) → CodeCalls v nodes w T left marks m → Ok w got → Ok w expected
-      → Unifies w got expected left w′ (Unified.Good left′) → CodeCalls v nodes w′ T left′ marks (with-state m (united T (m .state) got expected))
-  failure : {w w′ : List ℕ} {T : Rows} {left left′ : ℕ} {marks : List ℕ} {m : Machine} (got expected : Ty) (e : TyError) → CodeCalls v nodes w T left marks m → Ok w got → Ok w expected
-      → Unifies w got expected left w′ (Unified.Bad e left′) → CodeCalls v nodes w′ T left′ marks (with-state m (united T (m .state) got expected))
+  success : {w w′ : List ℕ} {T : Rows} {left left′ : ℕ} {marks : List ℕ} {m : Machine} (got expected : Ty) → CodeCalls v nodes w T left marks m
+      → Ok w got → Ok w expected → Unifies w got expected left w′ (Unified.Good left′)
+      → CodeCalls v nodes w′ T left′ marks (with-state m (united T (m .state) got expected))
+  failure : {w w′ : List ℕ} {T : Rows} {left left′ : ℕ} {marks : List ℕ} {m : Machine} (got expected : Ty) (e : TyError) → CodeCalls v nodes w T left marks m
+      → Ok w got → Ok w expected → Unifies w got expected left w′ (Unified.Bad e left′)
+      → CodeCalls v nodes w′ T left′ marks (with-state m (united T (m .state) got expected))
   -- `snapshot`, which gave back the mark
   snapping : {w : List ℕ} {T : Rows} {left : ℕ} {marks : List ℕ} {m : Machine} (mark : ℕ) → CodeCalls v nodes w T left marks m → mark ≡ getD w UNDO-LEN 0
       → CodeCalls v nodes w T left (mark ∷ marks) (record { state = m .state; taken = take-snapshot (m .state) ∷ m .taken })
   -- `rollback`, to a mark at hand
-  rollingBack : {w w′ : List ℕ} {T : Rows} {left : ℕ} {marks : List ℕ} {m : Machine} (newer older : List ℕ) (mark : ℕ) → CodeCalls v nodes w T left marks m → marks ≡ newer ++ mark ∷ older
-      → RollsBack w mark w′ → CodeCalls v nodes w′ T left (mark ∷ older) (rolledTo (m .state) (drop (length newer) (m .taken)))
+  rollingBack : {w w′ : List ℕ} {T : Rows} {left : ℕ} {marks : List ℕ} {m : Machine} (newer older : List ℕ) (mark : ℕ) → CodeCalls v nodes w T left marks m
+      → marks ≡ newer ++ mark ∷ older → RollsBack w mark w′ → CodeCalls v nodes w′ T left (mark ∷ older) (rolledTo (m .state) (drop (length newer) (m .taken)))
   -- visits spent in between; `orderable` and `occurs` give back no more than they get
   spending : {w : List ℕ} {T : Rows} {left : ℕ} {marks : List ℕ} {m : Machine} (u : ℕ) → CodeCalls v nodes w T left marks m → u ≤ left
       → CodeCalls v nodes w T u marks (with-state m (Bindings.withLeft (m .state) u))
   -- `annotate`, of a node without a type
-  annotation : {w : List ℕ} {T : Rows} {left : ℕ} {marks : List ℕ} {m : Machine} (n : ℕ) (t : Ty) → CodeCalls v nodes w T left marks m → Ok w t → n < nodes → slotW w (TYS + 2 * n) ≡ Free
-      → CodeCalls v nodes (annotateW w n t) T left marks (with-state m (Bindings.annotate (m .state) n (tree T t)))
+  annotation : {w : List ℕ} {T : Rows} {left : ℕ} {marks : List ℕ} {m : Machine} (n : ℕ) (t : Ty) → CodeCalls v nodes w T left marks m
+      → Ok w t → n < nodes → slotW w (TYS + 2 * n) ≡ Free → CodeCalls v nodes (annotateW w n t) T left marks (with-state m (Bindings.annotate (m .state) n (tree T t)))
 
 -- Where a list has led: between two calls, or to where a unification passed the visit limit, which ends the list.
 pub data CodeLed (v nodes : ℕ) : List ℕ → Rows → State → Type 0 where
   between-calls : {w : List ℕ} {T : Rows} {left : ℕ} {marks : List ℕ} {m : Machine} → CodeCalls v nodes w T left marks m → CodeLed v nodes w T (m .state)
-  at-the-limit : {w w′ : List ℕ} {T : Rows} {left : ℕ} {marks : List ℕ} {m : Machine} (got expected : Ty) → CodeCalls v nodes w T left marks m → Ok w got → Ok w expected
-      → Unifies w got expected left w′ Unified.Spent → CodeLed v nodes w′ T (united T (m .state) got expected)
+  at-the-limit : {w w′ : List ℕ} {T : Rows} {left : ℕ} {marks : List ℕ} {m : Machine} (got expected : Ty) → CodeCalls v nodes w T left marks m
+      → Ok w got → Ok w expected → Unifies w got expected left w′ Unified.Spent → CodeLed v nodes w′ T (united T (m .state) got expected)
 
 -- ---- What the code gives back
 
 -- `unify`, of a unification from the bindings s to s′: clause (a) of demand 3, and Robinson's notions. Where the visits ran out nothing is said.
-abbrev pub Told : Subst → Tree.Ty → Tree.Ty → Subst → Unified → Type 0
-Told s a b s′ (Unified.Good left) = EntryClaim Assignment s a b true s′ × (Admitted s a → Admitted s b → AsRobinson s a b true s′)
-Told s a b s′ (Unified.Bad e left) = EntryClaim Assignment s a b false s′ × (Admitted s a → Admitted s b → AsRobinson s a b false s′)
-Told s a b s′ Unified.Spent = Unit {0}
+abbrev pub Returned : Subst → Tree.Ty → Tree.Ty → Subst → Unified → Type 0
+Returned s a b s′ (Unified.Good left) = EntryClaim Assignment s a b true s′ × (Admitted s a → Admitted s b → AsRobinson s a b true s′)
+Returned s a b s′ (Unified.Bad e left) = EntryClaim Assignment s a b false s′ × (Admitted s a → Admitted s b → AsRobinson s a b false s′)
+Returned s a b s′ Unified.Spent = Unit {0}
