@@ -158,7 +158,10 @@ module _ (schema : Schema) (ast : Ast) (wf : WellFormed schema ast) where
   run-led ceiling = meets-led IsSide _ _ ceiling (replicate (length nodes) none) [] (run schema ast ceiling) none-yet (run-meets ceiling)
 
   pub run-demand-3 : (ceiling : ℕ) → RunDemand3 schema ast ceiling
-  run-demand-3 ceiling = record { calls = run-led ceiling; claim = led-claim ceiling (replicate (length nodes) none) (ending (run schema ast ceiling) .state) (run-led ceiling) }
+  run-demand-3 ceiling = record {
+    calls = run-led ceiling;
+    claim = led-claim ceiling (replicate (length nodes) none) (ending (run schema ast ceiling) .state) (run-led ceiling);
+  }
 
   pub run-robinson : (ceiling : ℕ) → RunAsRobinson schema ast ceiling
   run-robinson ceiling = led-robinson ceiling (replicate (length nodes) none) (ending (run schema ast ceiling) .state) (run-led ceiling)
