@@ -1,5 +1,3 @@
 mod Deciding
 mod Lining
 pub mod Demands
-pub mod Beginning
-pub mod CodeRun
