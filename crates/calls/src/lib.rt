@@ -7,10 +7,22 @@ ghost use Rattle.work.specs.Layout.{RECORD-FIELD-COUNT, UNKNOWNS, UNDO-LEN};
 ghost use Rattle.cells.specs.Inferred.{reserveW, putFieldW, newRecordTy, newRecordW};
 ghost use Rattle.cells.specs.Words.{tyW, payloadW, freshW};
 ghost use Rattle.cells.specs.Contracts.{RollsBack};
+ghost use Rattle.calls.specs.Beginning.{begunW};
 ghost use Rattle.calls.specs.Numbers.{reasonOf, fieldOf, two, CallsUnify};
 use cells::Ty;
 use cells::TyError;
 use cells::Unified;
+
+// A list of calls starts here: no unknown, no inferred record, nothing to take back. The schema types that a reading left stay.
+#[no_mangle]
+pub extern "C" fn sigla_begin(w: &mut [u32])
+    ensures { λ _. ⌜ now (w .exit) ≡ begunW (now (w .entry)) ⌝ }
+{
+    work::put(w, work::RECORD_COUNT, 0);
+    work::put(w, work::RECORD_FIELD_COUNT, 0);
+    work::put(w, work::UNKNOWNS, 0);
+    work::put(w, work::UNDO_LEN, 0);
+}
 
 // A new unknown, and its number.
 #[no_mangle]

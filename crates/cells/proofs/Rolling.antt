@@ -127,4 +127,4 @@ module _ {w₀ : List ℕ} {mark : ℕ} {w : List ℕ} {n : ℕ} (g : Rolling w�
       one : (T : Rows) (st : State) (past : History) → Back w T st mark n → Holds w T (Bindings.rollback st (record { undo = mark; past = past }))
       one T st past b =
           let H : Holds w T (backTo mark st) = rw (b .same) (done T (b .reached) (b .holds) (b .log)) in
-          holds-history H (rolled past (backTo mark st .subst) (st .history))
+          holds-history H (rolled past (st .subst) (backTo mark st .subst) (st .history))

@@ -3,5 +3,3 @@ mod Telling
 mod Deciding
 mod Lining
 pub mod Demands
-pub mod Beginning
-pub mod CodeRun

@@ -17,7 +17,8 @@ use Rattle.meaning.specs.Sound.{Sound}
 use Rattle.meaning.specs.Check.{Typed}
 use Rattle.meaning.specs.Answer.{formLines}
 use Rattle.meaning.specs.Outcome.{Decided, turnedDown, answered, Outcome, Accepted, Refused, minWords, maxVisits, runAll, decideRun, decideRead, decide, refuse, accept, finish, outcome}
-use Rattle.meaning.specs.Demands.{RefusedWhen, for-work, for-file, for-visits, for-answer, AcceptedWhen, Demand1, Demand2, Demand3}
+use Rattle.meaning.specs.Demands.{RefusedWhen, for-work, for-file, for-visits, for-answer, AcceptedWhen, Demand1, Demand2}
+use Rattle.meaning.specs.Run.{RunDemand3, RunAsRobinson}
 use Rattle.meaning.proofs.Tests.{cases}
 use Rattle.meaning.proofs.Lists.{all-map}
 use Rattle.meaning.proofs.Refused.{refused-when}
@@ -25,7 +26,14 @@ use Rattle.meaning.proofs.Forms.{Ran, RanOut, Runs, all-ran, one-out, r
 use Rattle.meaning.proofs.Texts.{texts-counted, broken-exactly}
 use Rattle.meaning.proofs.Nonzero.{form-nonzero}
 use Rattle.meaning.proofs.Sound.{sound}
-use Rattle.meaning.proofs.Run.{sound-wellFormed, run-led, run-demand-3, run-whole}
+use Rattle.meaning.proofs.Run.{sound-wellFormed, run-demand-3, run-robinson}
+
+-- Every unification of the run on each query goes as Robinson's notions say.
+all-robinson : (file : List ℕ) (f : Form) → reading file ≡ described f → All (λ a. RunAsRobinson (f .schema) a maxVisits) (f .queries)
+unfolding viewOf
+all-robinson file f s =
+    all-map (λ a. Sound (viewOf f a)) (λ a. RunAsRobinson (f .schema) a maxVisits) (f .queries)
+    (λ a h. run-robinson (f .schema) a (sound-wellFormed (viewOf f a) h) maxVisits) (sound file f s)
 
 module _ (file : List ℕ) (words : ℕ) where
   -- ---- What is decided, and when
@@ -146,18 +154,11 @@ module _ (file : List ℕ) (words : ℕ) where
     unfolding accept
     demand-2 e =
         let a = demand-1 .accepted-exactly .0 e in
-        record { f = a .0; ts = a .1; when = a .2; answer = ap Outcome.answer (accepts (a .0) (a .1) (a .2)); nonzero = form-nonzero (a .1); texts = texts-counted file (a .0) (a .2 .reads) }
+        record { f = a .0; ts = a .1; when = a .2; answer = ap Outcome.answer (accepts (a .0) (a .1) (a .2)); nonzero = form-nonzero (a .1); texts = texts-counted file (a .0) (a .2 .reads); robinson = all-robinson file (a .0) (a .2 .reads) }
 
 -- The run on each query that a file describes is a list of demand 3's calls, and the claim holds of it.
-pub demand-3 : (file : List ℕ) (f : Form) → reading file ≡ described f → All (λ a. Demand3 (viewOf f a)) (f .queries)
-demand-3 file f s = all-map (λ a. Sound (viewOf f a)) (λ a. Demand3 (viewOf f a)) (f .queries) one (sound file f s)
-  where
-    one : (a : Ast) → Sound (viewOf f a) → Demand3 (viewOf f a)
-    one a h =
-        let d = viewOf f a in
-        let wf = sound-wellFormed d h in
-        record {
-          calls = run-led (d .schema) (d .ast) wf maxVisits;
-          claim = run-demand-3 (d .schema) (d .ast) wf maxVisits;
-          whole = run-whole (d .schema) (d .ast) wf maxVisits;
-        }
+pub demand-3 : (file : List ℕ) (f : Form) → reading file ≡ described f → All (λ a. RunDemand3 (f .schema) a maxVisits) (f .queries)
+unfolding viewOf
+demand-3 file f s =
+    all-map (λ a. Sound (viewOf f a)) (λ a. RunDemand3 (f .schema) a maxVisits) (f .queries)
+    (λ a h. run-demand-3 (f .schema) a (sound-wellFormed (viewOf f a) h) maxVisits) (sound file f s)

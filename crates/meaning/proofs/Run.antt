@@ -14,29 +14,35 @@ use lib.ListN.{length, getD, replicate, length-replicate, getD-replicate}
 use Rattle.unification.specs.Ty.{Ty}
 use Rattle.unification.specs.Bindings.{State}
 use Rattle.unification.specs.Calls as Calls
-use Rattle.unification.specs.Calls.{Assignment, Taken, Claim, Demand3, none-yet}
+use Rattle.unification.specs.Calls.{Assignment, Claim, none-yet}
+use Rattle.unification.specs.Tie.{AllAsRobinson}
 use Rattle.unification.proofs.Tests.{clash}
 use Rattle.unification.proofs.Log.{taken, taken-pad}
 use Rattle.unification.proofs.Demand3.{calls-inv, demand-3}
+use Rattle.unification.proofs.Robinson.{robinson, robinson-at-the-limit}
 use Rattle.meaning.specs.Syntax.{Node, Ast}
 use Rattle.meaning.specs.Schema.{Schema}
 use Rattle.meaning.specs.References.{stmtNodes, queryNodes}
 use Rattle.meaning.specs.File.{Described}
 use Rattle.meaning.specs.All.{All}
 use Rattle.meaning.specs.Sound.{Sound}
-use Rattle.meaning.specs.Check.{Checker, Step, goes, query, begin}
-use Rattle.meaning.specs.Run.{Led, between-calls, at-the-limit, ending, run}
+use Rattle.meaning.specs.Check.{Checker, Step, query, begin}
+use Rattle.meaning.specs.Run.{Led, between-calls, at-the-limit, ending, run, RunDemand3, RunAsRobinson}
 use Rattle.meaning.specs.Weights.{WellFormed, same, sumOf, total, weight, size, records, recordFields}
 use Rattle.meaning.proofs.Depth.{lower-falls}
-use Rattle.meaning.proofs.Meets.{Grade, Orderly, Ready, Reached, Stopped, Meets, went, ended, going}
+use Rattle.meaning.proofs.Meets.{Grade, Orderly, Ready, Reached, Stopped, Meets, went, ended}
 use Rattle.meaning.proofs.Steps.{IsSide}
 use Rattle.meaning.proofs.Visits.{visiting, query-meets}
 use Rattle.meaning.proofs.Weights.{weight-once, once-times, total-ones, total-past, total-same, records-size, fields-size}
 
 -- ---- What a list of calls that led somewhere says
-pub led-claim : (v : ℕ) (tys : List (Option Ty)) (st : State) → Led v tys st → Claim Assignment st
+led-claim : (v : ℕ) (tys : List (Option Ty)) (st : State) → Led v tys st → Claim Assignment st
 led-claim v tys st (between-calls {m} cs) = demand-3 v tys m cs .between-calls
 led-claim v tys st (at-the-limit {m} a b cs i j e) = demand-3 v tys m cs .at-the-limit a b st i j e
+
+led-robinson : (v : ℕ) (tys : List (Option Ty)) (st : State) → Led v tys st → AllAsRobinson (st .history)
+led-robinson v tys st (between-calls {m} cs) = robinson v tys m cs
+led-robinson v tys st (at-the-limit {m} a b cs i j e) = robinson-at-the-limit v tys m cs a b st i j e
 
 -- ---- What a step that meets its grade says
 module _ {A : Type 0} (P : A → Checker → Type 0) (g : Grade) (c : Checker) where
@@ -108,21 +114,18 @@ module _ (schema : Schema) (ast : Ast) (wf : WellFormed schema ast) where
   run-meets ceiling = query-meets schema nodes (wf .declared) (ast .query) (begin ceiling (length nodes)) (begin-orderly ceiling (length nodes)) (begin-ready ceiling)
 
   -- The run is a list of calls.
-  pub run-led : (ceiling : ℕ) → Led ceiling (replicate (length nodes) none) (ending (run schema ast ceiling) .state)
+  run-led : (ceiling : ℕ) → Led ceiling (replicate (length nodes) none) (ending (run schema ast ceiling) .state)
   unfolding begin Calls.begin
   run-led ceiling = meets-led IsSide _ _ ceiling (replicate (length nodes) none) [] (run schema ast ceiling) none-yet (run-meets ceiling)
 
-  -- A run that goes to its end stands between two calls, with these snapshots at hand, and all of demand 3 holds there.
-  pub run-calls : (ceiling : ℕ) (t : Ty) (c : Checker) → run schema ast ceiling ≡ goes t c → (ts : List Taken) × Calls.Calls ceiling (replicate (length nodes) none) (record { state = c .state; taken = ts })
-  unfolding begin Calls.begin Reached
-  run-calls ceiling t c e = let x = going (rw e at (run-meets ceiling)) .reached ceiling (replicate (length nodes) none) [] none-yet in (x .0 ++ [], x .1)
+  pub run-demand-3 : (ceiling : ℕ) → RunDemand3 schema ast ceiling
+  run-demand-3 ceiling = record {
+    calls = run-led ceiling;
+    claim = led-claim ceiling (replicate (length nodes) none) (ending (run schema ast ceiling) .state) (run-led ceiling);
+  }
 
-  pub run-whole : (ceiling : ℕ) (t : Ty) (c : Checker) → run schema ast ceiling ≡ goes t c → (ts : List Taken) × Demand3 (record { state = c .state; taken = ts })
-  run-whole ceiling t c e = let x = run-calls ceiling t c e in (x .0, demand-3 ceiling (replicate (length nodes) none) (record { state = c .state; taken = x .0 }) (x .1))
-
-  -- Demand 3 of the run: at its end and, by the history, at every moment of it.
-  pub run-demand-3 : (ceiling : ℕ) → Claim Assignment (ending (run schema ast ceiling) .state)
-  run-demand-3 ceiling = led-claim ceiling (replicate (length nodes) none) (ending (run schema ast ceiling) .state) (run-led ceiling)
+  pub run-robinson : (ceiling : ℕ) → RunAsRobinson schema ast ceiling
+  run-robinson ceiling = led-robinson ceiling (replicate (length nodes) none) (ending (run schema ast ceiling) .state) (run-led ceiling)
 
 -- ---- For every query of a file that passes
 pub sound-wellFormed : (d : Described) → Sound d → WellFormed (d .schema) (d .ast)

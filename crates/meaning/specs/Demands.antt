@@ -3,20 +3,17 @@
 -- `says-exactly` of proofs/Content.antt, and `Means` (Means.antt) has what each line says, without the reader of Frame.antt.
 use mathlib.Core.List.{List, _++_}
 use mathlib.Core.Logic.{_↔_}
-use mathlib.Core.Option.{none}
 use mathlib.Core.Path.{_≡_}
 use Prim.Native.Nat.{ℕ, _-_, _<_, _≤_}
 use lib.ListN.{length, replicate}
 use Rattle.text.specs.Utf8.{Text}
-use Rattle.unification.specs.Ty as Tree
-use Rattle.unification.specs.Calls as Calls
 use Rattle.meaning.specs.Refusal.{Refusal, workTooShort, brokenText, tooManyVisits, answerTooLong}
 use Rattle.meaning.specs.Refused as Lines
 use Rattle.meaning.specs.All.{All, Any, Each}
 use Rattle.meaning.specs.SoFar.{textsIn}
-use Rattle.meaning.specs.File.{Described, Form, described, reading}
-use Rattle.meaning.specs.Check.{Checker, Typed, typed, exhausted, goes, check}
-use Rattle.meaning.specs.Run.{Led, ending, run}
+use Rattle.meaning.specs.File.{Form, described, reading}
+use Rattle.meaning.specs.Check.{Typed, typed, exhausted, check}
+use Rattle.meaning.specs.Run.{RunAsRobinson}
 use Rattle.meaning.specs.Answer.{formLines}
 use Rattle.meaning.specs.Outcome.{Outcome, Accepted, Refused, minWords, maxVisits, outcome}
 
@@ -55,7 +52,7 @@ pub record Demand1 (file : List ℕ) (words bytes : ℕ) : Type 0 where
 -- Of an accepted call: the answer is that of ts (`formLines`: one query's lines, or each query's after its line 0b), and zeros after it. It has
 -- the type of each node, and each diagnostic's span and code in their order; none of its bytes is zero, so it ends at the first zero. The texts
 -- of the file's name lines are RFC 3629's, and the number by which a fuzzy term is tested (`characters` of the schema) is the grammar's number of
--- characters.
+-- characters. Every unification that the runs make, inner ones too, finds what Robinson's would, wherever demand 3 admits its sides.
 pub record Demand2 (file : List ℕ) (words bytes : ℕ) : Type 0 where
   pub f : Form
   pub ts : List Typed
@@ -63,15 +60,4 @@ pub record Demand2 (file : List ℕ) (words bytes : ℕ) : Type 0 where
   pub answer : outcome file words bytes .answer ≡ formLines ts ++ replicate (bytes - length (formLines ts)) 0
   pub nonzero : All (λ b. 0 < b) (formLines ts)
   pub texts : Each Text (textsIn file) (f .schema .characters)
-
--- ---- Demand 3
-
--- Of the run of `check` on each query that a file describes, with the schema, which is the run that the code goes beside (`Queries` of crate
--- checker): it is a list of demand 3's calls; the claim holds at its end and, by the history, at every moment of it; and where it goes to its
--- end, all of demand 3 holds there, rollbacks too. What a unification on such a list finds is what Robinson's would: `robinson` of
--- unification/proofs/Robinson.antt.
-pub record Demand3 (d : Described) : Type 0 where
-  pub calls : Led maxVisits (replicate (length (d .ast .nodes)) none) (ending (run (d .schema) (d .ast) maxVisits) .state)
-  pub claim : Calls.Claim Calls.Assignment (ending (run (d .schema) (d .ast) maxVisits) .state)
-  pub whole : (ty : Tree.Ty) (c : Checker) → run (d .schema) (d .ast) maxVisits ≡ goes ty c
-      → (ts : List Calls.Taken) × Calls.Demand3 (record { state = c .state; taken = ts })
+  pub robinson : All (λ a. RunAsRobinson (f .schema) a maxVisits) (f .queries)

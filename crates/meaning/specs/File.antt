@@ -7,6 +7,7 @@ use Prim.Native.Nat.{ℕ}
 use lib.Dec.{ltb}
 use lib.ListN.{length, getD}
 use Rattle.text.specs.Utf8.{characters}
+use Rattle.unification.specs.Ty.{Ty}
 use Rattle.meaning.specs.Syntax.{Ast}
 use Rattle.meaning.specs.Schema.{Schema}
 use Rattle.meaning.specs.Diag.{ascii}
@@ -94,3 +95,14 @@ isTooLong file = ltb maxFile (length file)
 unfoldable pub reading : List ℕ → Reading
 unfolding isTooLong readFrom start said lines
 reading file = elim (isTooLong file) [ true ↦ refused fileTooLong | false ↦ readFrom start (map said (lines file)) ]
+
+-- What has been read when the last line has passed.
+unfoldable pub lastOf : SoFar → List Said → SoFar
+unfolding after
+lastOf so [] = so
+lastOf so (l ∷ ls) = lastOf (after so l) ls
+
+-- The types that the 03 lines of a file declare, by number, named by a predicate or not.
+unfoldable pub typesOf : List ℕ → List Ty
+unfolding lastOf start said lines
+typesOf file = lastOf start (map said (lines file)) .types

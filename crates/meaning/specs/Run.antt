@@ -1,13 +1,14 @@
 -- The run of `check` as a list of demand 3's calls (document 01, "What demand 3 speaks of").
 use mathlib.Core.List.{List}
-use mathlib.Core.Option.{Option}
+use mathlib.Core.Option.{Option, none}
 use mathlib.Core.Path.{_≡_}
 use Prim.Native.Nat.{ℕ}
-use lib.ListN.{length}
+use lib.ListN.{length, replicate}
 use Rattle.unification.specs.Ty.{Ty}
 use Rattle.unification.specs.Bindings.{State}
 use Rattle.unification.specs.Unify.{Spent, unify}
-use Rattle.unification.specs.Calls.{Side, Machine, Calls}
+use Rattle.unification.specs.Calls.{Side, Assignment, Machine, Calls, Claim}
+use Rattle.unification.specs.Tie.{AllAsRobinson}
 use Rattle.meaning.specs.Syntax.{Ast}
 use Rattle.meaning.specs.Schema.{Schema}
 use Rattle.meaning.specs.Check.{Checker, Step, goes, out, query, begin}
@@ -28,3 +29,14 @@ ending (out c) = c
 unfoldable pub run : Schema → Ast → ℕ → Step Ty
 unfolding query begin
 run schema ast ceiling = query schema (ast .nodes) (ast .query) (begin ceiling (length (ast .nodes)))
+
+-- Demand 3 of the run: it is a list of calls, and the clauses hold at its end and, by the history, at every moment of it, (d) of every
+-- rollback among them; whether the run goes to its end or passes the visit limit.
+pub record RunDemand3 (schema : Schema) (ast : Ast) (ceiling : ℕ) : Type 0 where
+  pub calls : Led ceiling (replicate (length (ast .nodes)) none) (ending (run schema ast ceiling) .state)
+  pub claim : Claim Assignment (ending (run schema ast ceiling) .state)
+
+-- Of every unification of the run, inner ones too, that demand 3's proviso admits: success found a most general unifier of the sides
+-- and the earlier bindings, failure means that there is none.
+abbrev pub RunAsRobinson : Schema → Ast → ℕ → Type 0
+RunAsRobinson schema ast ceiling = AllAsRobinson (ending (run schema ast ceiling) .state .history)

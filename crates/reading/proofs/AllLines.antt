@@ -8,6 +8,7 @@ use native.Mathlib.Omega.{arith}
 use lib.Dec.{ltb}
 use lib.ListN.{length, getD, take, drop}
 use borrow.Author.Tests.{lt-ltb, le-ltb}
+use Rattle.cells.specs.CodeCalls.{Declares}
 use Rattle.cells.specs.Stands.{Rows}
 use Rattle.meaning.specs.Refusal as Refused
 use Rattle.meaning.specs.Frame.{query, kindByte, kindOf}
@@ -17,7 +18,7 @@ use Rattle.meaning.specs.Refused.{Pass, none-left, more}
 use Rattle.meaning.proofs.Conditions.{none-holds}
 use Rattle.meaning.proofs.Sound.{pass-kept}
 use Rattle.meaning.specs.Conditions.{conditions, firstOf}
-use Rattle.meaning.specs.File.{maxFile, Reading, refused, described, atEnd, readFrom, isTooLong, reading}
+use Rattle.meaning.specs.File.{maxFile, Reading, refused, described, atEnd, readFrom, isTooLong, reading, lastOf, typesOf}
 use Rattle.meaning.specs.Outcome.{minWords, decideRead, decide}
 use Rattle.meaning.proofs.Tests.{cases}
 use Rattle.meaning.proofs.Refused.{read-refused, read-next, within, not-ended}
@@ -52,10 +53,12 @@ pub record Midway (f w : List ℕ) (c : Counters) (previous at : ℕ) : Type 0 w
   pub left : reading f ≡ readFrom so (map said (lines (drop at f)))
   pub before : List Said
   pub passed : Pass start before so
+  pub last : lastOf start (map said (lines f)) ≡ lastOf so (map said (lines (drop at f)))
 
 pub midway-start : (f w : List ℕ) → length f ≤ 65536 → 16384 ≤ length w → Midway f w noCounters 6 0
 unfolding maxFile
-midway-start f w small long = record { rows = _; so = _; held = nothing-held f w small long; left = within f small; before = []; passed = none-left }
+midway-start f w small long =
+    record { rows = _; so = _; held = nothing-held f w small long; left = within f small; before = []; passed = none-left; last = refl }
 
 ends-refused : (f w : List ℕ) (e : Refusal) (r : Reading) → r ≡ refused (refusal e) → Ends f w (Read.Refused e) r
 unfolding Ends
@@ -82,9 +85,17 @@ module _ {f : List ℕ} {at : ℕ} {line : List ℕ} {n next : ℕ} (h : Holds f
       go (suc n) [] p = refl
       go (suc n) (b ∷ l) p = refl
 
-  next-lines : (so : SoFar) → readFrom so (map said (lines (drop at f))) ≡ readFrom so (saidBy (some (take n line)) ∷ map said (lines (drop next f)))
+  -- what the lines from here on say
+  says-next : map said (lines (drop at f)) ≡ saidBy (some (take n line)) ∷ map said (lines (drop next f))
   unfolding said
-  next-lines so = ap (λ ls. readFrom so (map said ls)) (h .splits) ∙ ap (λ o. readFrom so (saidBy o ∷ map said (lines (drop next f)))) (h .bytes)
+  says-next = ap (map said) (h .splits) ∙ ap (λ o. saidBy o ∷ map said (lines (drop next f))) (h .bytes)
+
+  next-lines : (so : SoFar) → readFrom so (map said (lines (drop at f))) ≡ readFrom so (saidBy (some (take n line)) ∷ map said (lines (drop next f)))
+  next-lines so = ap (readFrom so) says-next
+
+  next-last : (so : SoFar) → lastOf so (map said (lines (drop at f))) ≡ lastOf (after so (saidBy (some (take n line)))) (map said (lines (drop next f)))
+  unfolding lastOf
+  next-last so = ap (lastOf so) says-next
 
 module _ {f w : List ℕ} {c : Counters} {previous at : ℕ} (m : Midway f w c previous at) where
   module _ {line : List ℕ} {n next : ℕ} (h : Holds f at line n next) (kind : ℕ) (e : kind ≡ numberOf (kindOf (getD line 0 0))) (w′ : List ℕ) where
@@ -108,6 +119,7 @@ module _ {f w : List ℕ} {c : Counters} {previous at : ℕ} (m : Midway f w c p
               left = m .left ∙ next-lines h (m .so) ∙ read-next (m .so) says (map said (lines (drop next f))) q;
               before = m .before ++ says ∷ [];
               passed = pass-on says (m .passed) q;
+              last = m .last ∙ next-last h (m .so);
             }
         go (some i) q s = let x = s .1 in let z : _≡_ {A = ℕ} 0 1 = cc in absurd (omega arith)
 
@@ -142,6 +154,10 @@ module _ {f w : List ℕ} {c : Counters} {previous at : ℕ} (m : Midway f w c p
     unfolding readFrom
     at-end = m .left ∙ ap (λ ls. readFrom (m .so) (map said ls)) (lines-at-end f at last)
 
+    types-were : m .so .types ≡ typesOf f
+    unfolding lastOf typesOf
+    types-were = ap SoFar.types (sym (m .last ∙ ap (λ ls. lastOf (m .so) (map said ls)) (lines-at-end f at last)))
+
     previous-was : kindAt previous ≡ m .so .previous
     previous-was = ap kindAt (m .held .kind) ∙ kind-of-number (m .so .previous)
 
@@ -149,7 +165,8 @@ module _ {f w : List ℕ} {c : Counters} {previous at : ℕ} (m : Midway f w c p
     unfolding atEnd Ends kindOf
     midway-whole e =
         let was : m .so .previous ≡ some query = sym previous-was ∙ ap kindAt e in
-        subst (Ends f (counted w c) Read.Accepted) (sym (at-end ∙ ap (atEnd (m .so)) was)) (refl, long-held (m .held), (m .rows, schema-held (m .held) query was, all-declared (m .held) (pass-kept (m .passed))))
+        let types = subst (Declares (counted w c) (m .rows)) types-were (all-declared (m .held) (pass-kept (m .passed))) in
+        subst (Ends f (counted w c) Read.Accepted) (sym (at-end ∙ ap (atEnd (m .so)) was)) (refl, long-held (m .held), (m .rows, schema-held (m .held) query was, types))
 
     pub midway-missing : (previous ≡ 5 → ⊥) → Ends f w (Read.Refused Refusal.MisplacedKind) (reading f)
     unfolding kindByte

@@ -10,12 +10,12 @@ use Rattle.text.specs.Utf8.{characters, count}
 use Rattle.unification.specs.Ty as Tree
 use Rattle.unification.specs.Ty.{ε}
 use Rattle.unification.specs.Calls.{Declared}
-use Rattle.work.specs.Layout.{NAME-COUNT, TYPE-COUNT, PREDICATE-COUNT, MAX-DISTANCE, MAX-TERM, NAMES, TYPES, FIELDS, RECORD-COUNT}
+use Rattle.work.specs.Layout.{NAME-COUNT, TYPE-COUNT, PREDICATE-COUNT, MAX-DISTANCE, MAX-TERM, NAMES, FIELDS, RECORD-COUNT}
 use Rattle.cells.specs.declared.Kind.{Kind}
 use Rattle.cells.specs.declared.Kind.the-variants.{Fields, Alternatives}
 use Rattle.cells.specs.Words.{declaredW, countW, firstW, declaredField, alternativeW, partW}
-use Rattle.cells.specs.CodeCalls.{kindTree}
-use Rattle.cells.specs.Stands.{Rows, tree, tagOf, partWords, Keeps}
+use Rattle.cells.specs.CodeCalls.{Declares}
+use Rattle.cells.specs.Stands.{Rows, partWords, Keeps}
 use Rattle.meaning.specs.Frame as Frame
 use Rattle.meaning.specs.Lines.{position}
 use Rattle.meaning.specs.Conditions.{anyOf, among}
@@ -27,7 +27,7 @@ use Rattle.meaning.proofs.Lists.{all-at}
 use Rattle.tree.specs.Stands.{TypeCells, SchemaStands}
 use Rattle.work.specs.declared.Counters.{Counters}
 use Rattle.work.specs.Counted.{noCounters}
-use Rattle.reading.specs.Contracts.{counts, counted, Declares}
+use Rattle.reading.specs.Contracts.{counts, counted}
 use Rattle.reading.specs.Held.{LimitsHeld, partType, IsOf, TypesHeld, Held}
 use Rattle.reading.proofs.Regions.{over, keeps-sets, WordsAt, sets-words}
 use Rattle.reading.proofs.Lines.{types-same, predicates-same}
@@ -104,18 +104,12 @@ module _ {f : List ℕ} {at : ℕ} {w : List ℕ} {T : Rows} {c : Counters} {pre
   pub long-held : 16384 ≤ length (counted w c)
   long-held = rw (kept .long) (h .long)
 
-  -- Every schema type that was read is declared.
-  of-tag : (w : List ℕ) (T : Rows) (k : Kind) (t : ℕ) → getD w (TYPES + 2 * t) 0 % 16 ≡ tagOf k → tree T (declaredW w t) ≡ Tree.node (kindTree k) (T t)
-  unfolding declaredW
-  of-tag w T Fields t e = rw (e, declaredW)
-  of-tag w T Alternatives t e = rw (e, declaredW)
-
-  pub all-declared : Kept so → Declares (counted w c) T
+  -- Every schema type that was read is there by its number, and declared.
+  pub all-declared : Kept so → Declares (counted w c) T (so .types)
   all-declared k =
-      let types : getD (counted w c) TYPE-COUNT 0 ≡ length (so .types) = there .at 1 (omega arith) ∙ h .types .count in
       let held = types-same h (over kept (omega arith)) (over kept (omega arith)) in
       record {
-        cell = λ kind t lt e.
-            let inside : t < length (so .types) = omega arith in
-            subst Declared (held .type t inside ∙ of-tag (counted w c) T kind t e) (all-at Declared (so .types) t Tree.Error (k .types) inside);
+        count = there .at 1 (omega arith) ∙ h .types .count;
+        type = λ t lt. sym (held .type t lt);
+        declared = λ t lt. all-at Declared (so .types) t Tree.Error (k .types) lt;
       }

@@ -7,23 +7,20 @@ use Prim.Native.Nat.{ℕ, _+_, _*_, _/_, _%_, _<_, _≤_}
 use lib.Dec.{leb, ltb}
 use lib.ListN.{length, getD, drop, set, replicate}
 use lib.Seq.{sets}
-use Rattle.unification.specs.Ty as Tree
-use Rattle.unification.specs.Calls.{Declared}
-use Rattle.work.specs.Layout.{NAME-COUNT, TYPE-COUNT, NAMES, TYPES, PREDICATES}
+use Rattle.work.specs.Layout.{NAME-COUNT, NAMES, TYPES, PREDICATES}
 use Rattle.meaning.specs.Refusal as Refused
 use Rattle.meaning.specs.Frame as Frame
 use Rattle.meaning.specs.Frame.{mayStand, kindByte, kindOf, frameOf}
 use Rattle.meaning.specs.SoFar.{SoFar, frames, saidBy, add, after}
 use Rattle.meaning.specs.Conditions.{sameText, given, isFull, isLastQueryPast, conditions, firstOf}
-use Rattle.meaning.specs.File.{Reading, refused, described, reading, countOf}
+use Rattle.meaning.specs.File.{Reading, refused, described, reading, typesOf, countOf}
 use Rattle.meaning.specs.Outcome.{minWords}
 use Rattle.text.specs.Utf8.{characters}
 use Rattle.hex.specs.Digits.{lineAt}
 use Rattle.frames.specs.Contracts.{numberOf}
-use Rattle.cells.specs.declared.Kind.{Kind}
-use Rattle.cells.specs.CodeCalls.{kindTree}
+use Rattle.cells.specs.CodeCalls.{Declares}
 use Rattle.cells.specs.Words.{pick}
-use Rattle.cells.specs.Stands.{Rows, tagOf}
+use Rattle.cells.specs.Stands.{Rows}
 use Rattle.reading.specs.declared.Refusal.{Refusal}
 use Rattle.reading.specs.declared.Refusal.the-variants as Refusal
 use Rattle.reading.specs.declared.Read.{Read}
@@ -173,14 +170,11 @@ counts c = c .names ∷ c .types ∷ c .predicates ∷ c .nodes ∷ c .value ∷
 abbrev pub counted : List ℕ → Counters → List ℕ
 counted w c = sets w NAME-COUNT (counts c)
 
--- Every schema type that was read, named by a predicate or not, is one that a file past 1 to 10 can declare.
-pub record Declares (w : List ℕ) (T : Rows) : Type 0 where
-  pub cell : (k : Kind) (c : ℕ) → c < getD w TYPE-COUNT 0 → getD w (TYPES + 2 * c) 0 % 16 ≡ tagOf k → Declared (Tree.node (kindTree k) (T c))
-
--- Refused exactly as the definition says, or the schema that the definition describes stands in the slice.
+-- Refused exactly as the definition says, or the schema that the definition describes stands in the slice, and every type of the file by
+-- its number.
 unfoldable pub Ends : List ℕ → List ℕ → Read → Reading → Type 0
 Ends f w′ r (refused e) = (e′ : Refusal) × (r ≡ Read.Refused e′) × (refusal e′ ≡ e)
-Ends f w′ r (described d) = (r ≡ Read.Accepted) × (16384 ≤ length w′) × ((T : Rows) × SchemaStands w′ T (d .schema) × Declares w′ T)
+Ends f w′ r (described d) = (r ≡ Read.Accepted) × (16384 ≤ length w′) × ((T : Rows) × SchemaStands w′ T (d .schema) × Declares w′ T (typesOf f))
 
 pub record TakesLines (f w w′ : List ℕ) (r : Read) : Type 0 where
   pub ends : Ends f w′ r (reading f)

@@ -11,7 +11,8 @@ use lib.ListN.{length, getD, set, drop, length-set}
 use lib.Seq.{getD-set-same, getD-set-other}
 use borrow.Author.Tests.{lt-ltb}
 use Rattle.unification.specs.Bindings as Bindings
-use Rattle.unification.specs.Bindings.{Undo, Binding, Annotation, History, State, revert, rewind, withHistory}
+use Rattle.unification.specs.Bindings.{History, withHistory}
+use Rattle.unification.proofs.Undo.{rewind-nodes}
 use Rattle.work.specs.Layout.{RECORD-COUNT, ENV-LEN, DIAGNOSTIC-COUNT, UNKNOWNS, ENV, DIAGNOSTICS, TYS, END}
 use Rattle.cells.specs.Words.{freshW}
 use Rattle.cells.specs.Stands.{Rows, Keeps}
@@ -123,13 +124,6 @@ module _ {f w : List ℕ} {T : Rows} {d : Described} {c : Checker} (sound : Soun
   cut-grew = same-grew (R .holds) (cut-aside .cells) (keeps-set w ENV-LEN n (omega arith) (omega arith))
 
 -- ---- `rollback`
-rewind-nodes : (k : ℕ) (us : List Undo) (st : State) → length (rewind k us st .tys) ≡ length (st .tys)
-unfolding rewind revert
-rewind-nodes zero us st = refl
-rewind-nodes (suc k) [] st = refl
-rewind-nodes (suc k) (Binding x t ∷ us) st = rewind-nodes k us (revert (Binding x t) st)
-rewind-nodes (suc k) (Annotation n t ∷ us) st = rewind-nodes k us (revert (Annotation n t) st) ∙ length-set (st .tys) n t
-
 module _ {f w w′ : List ℕ} {T : Rows} {d : Described} {c : Checker} {mark : ℕ} (sound : Sound d) (R : Runs f w T d c) (B : RollsBack w mark w′) (past : History) where
   rolled-runs : Runs f w′ T d (record { state = Bindings.rollback (c .state) (record { undo = mark; past = past }); env = c .env; diagnostics = c .diagnostics })
   unfolding Bindings.rollback withHistory

@@ -12,7 +12,8 @@ use std::path::{Path, PathBuf};
 const WHOLE: [&str; 2] = ["sigla_check", "sigla_read"];
 
 /// These go together: the cfg `sigla_calls` is for all.
-const CALLS: [&str; 7] = [
+const CALLS: [&str; 8] = [
+    "sigla_begin",
     "sigla_fresh",
     "sigla_reserve",
     "sigla_put_field",
