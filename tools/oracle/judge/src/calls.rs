@@ -84,7 +84,7 @@ pub trait Other {
 
 /// The steps that the Rust makes, or why it can't hold the file.
 pub fn run(file: &File, visits: u64, calls: &[Call]) -> Result<Vec<Step>, &'static str> {
-    let tree = tree::build(file).ok_or(crate::SURROGATE)?;
+    let tree = tree::build(file);
     let (mut first, mut second) = (Diagnostics::new(), Diagnostics::new());
     let mut counted = crate::counted::probe::Bench::new(&tree.schema, &tree.interner, &mut first);
     let mut plain = crate::probed::probe::Bench::new(&tree.schema, &tree.interner, &mut second);

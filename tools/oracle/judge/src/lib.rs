@@ -71,8 +71,6 @@ pub struct Ran {
     pub codes: Vec<&'static str>,
 }
 
-/// A name has a value from d800 to dfff, which no Rust text holds.
-pub const SURROGATE: &str = "surrogate";
 /// The Rust would write out types too large to hold.
 pub const TOO_LARGE: &str = "types too large";
 
@@ -91,11 +89,7 @@ fn answer_here(file: &[u8], limits: &Limits) -> Ran {
         Ok(file) => file,
         Err(number) => return stopped(Answer::Refused(number), 0),
     };
-    let Some(tree) = tree::build(&file) else {
-        // The text rule lets pass nothing else that the Rust does not.
-        assert!(file.names.iter().any(|name| has_surrogate(name)));
-        return stopped(Answer::LeftOut(SURROGATE), 0);
-    };
+    let tree = tree::build(&file);
     levenshtein::set(file.max_distance, file.max_term);
 
     let mut counted = Diagnostics::new();
@@ -142,12 +136,6 @@ fn answer_here(file: &[u8], limits: &Limits) -> Ran {
         visits,
         codes,
     }
-}
-
-/// Whether a text that passed the reading has a value from d800 to dfff.
-fn has_surrogate(text: &[u8]) -> bool {
-    text.windows(2)
-        .any(|pair| pair[0] == 0xed && pair[1] >= 0xa0)
 }
 
 /// The 07 lines.

@@ -255,36 +255,9 @@ fn may_follow(previous: u8, present: u8) -> bool {
     }
 }
 
-/// The text rule of document 01. Values d800 to dfff pass in this edition.
+/// The text rule: RFC 3629's, as the Rust's own test has it.
 fn is_text(bytes: &[u8]) -> bool {
-    let mut at = 0;
-    while at < bytes.len() {
-        let first = bytes[at];
-        let length = match first.leading_ones() {
-            0 => 1,
-            ones @ 2..=4 => ones as usize,
-            _ => return false,
-        };
-        if length > bytes.len() - at {
-            return false;
-        }
-        let mut value = match length {
-            1 => u32::from(first),
-            _ => u32::from(first & (0x7f >> length)),
-        };
-        for later in &bytes[at + 1..at + length] {
-            if !(0x80..=0xbf).contains(later) {
-                return false;
-            }
-            value = value * 64 + u32::from(later & 0x3f);
-        }
-        let least = [0, 0x80, 0x800, 0x10000][length - 1];
-        if value < least || value > 0x10ffff {
-            return false;
-        }
-        at += length;
-    }
-    true
+    std::str::from_utf8(bytes).is_ok()
 }
 
 fn exists(there: bool) -> Result<(), u8> {

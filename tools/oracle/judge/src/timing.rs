@@ -50,10 +50,7 @@ pub fn timed(file: &[u8], limits: &Limits) -> Parts {
         return parts;
     };
     parts.read = lap();
-    let Some(tree) = black_box(tree::build(&file)) else {
-        parts.build = lap();
-        return parts;
-    };
+    let tree = black_box(tree::build(&file));
     levenshtein::set(file.max_distance, file.max_term);
     parts.build = lap();
     let mut diagnostics = Diagnostics::new();

@@ -29,13 +29,13 @@ pub struct Tree {
     pub numbers: HashMap<Symbol, u16>,
 }
 
-/// The Rust's values, or none where a name's text is one that the Rust can't hold.
-pub fn build(file: &File) -> Option<Tree> {
-    let texts = file
+/// The Rust's values.
+pub fn build(file: &File) -> Tree {
+    let texts: Vec<&str> = file
         .names
         .iter()
-        .map(|name| std::str::from_utf8(name).ok())
-        .collect::<Option<Vec<&str>>>()?;
+        .map(|name| std::str::from_utf8(name).expect("a text past refusal 7"))
+        .collect();
 
     // As in the original, names that the schema mentions live in its own interner and the query's
     // other names in a second one over it.
@@ -83,7 +83,7 @@ pub fn build(file: &File) -> Option<Tree> {
     }
     let ast = Ast::new(query(&file.query, &nodes), store);
 
-    Some(Tree {
+    Tree {
         schema,
         interner,
         ast,
@@ -91,7 +91,7 @@ pub fn build(file: &File) -> Option<Tree> {
         nodes,
         symbols,
         numbers,
-    })
+    }
 }
 
 /// For each name, whether a type or a predicate mentions it.

@@ -96,7 +96,11 @@ mutations! {
     FirstF5, "f5 to f7 pass", false;
     FirstF8, "f8 to ff stand alone", false;
     StrayContinuation, "80 to bf stand alone", false;
-    SurrogatesRefused, "d800 to dfff are refused", false;
+    SurrogatesPass, "d800 to dfff pass", false;
+    HighHalvesPass, "d800 to dbff pass", false;
+    EdRefused, "every character that begins with ed is refused", false;
+    PairsOnlyRefused, "halves are refused only where they make a pair", false;
+    PairsPass, "two halves that make a pair pass as one character", false;
     SevenIsOverlong, "7f wants a second byte", false;
     TruncatedTail, "a sequence may be cut off by the text's end", false;
     LaterUntested, "later bytes are not judged", false;
