@@ -6,6 +6,7 @@ mod draft;
 mod edge;
 mod faults;
 mod filled;
+mod forms;
 mod grow;
 mod limits;
 mod nested;
@@ -62,6 +63,13 @@ const TABLE: &[(&str, usize, Make)] = &[
     ("edge", 12, edge::edge),
     ("visits", 1, limits::visits),
     ("deepest", 4, deep::deepest),
+    ("forms", 900, forms::forms),
+    ("form-faults", 600, forms::faults),
+    ("form-few-visits", 120, forms::few_visits),
+    ("full-forms", 60, forms::full),
+    ("form-nodes", 25, forms::nodes),
+    ("form-answers", 6, forms::answers),
+    ("form-visits", 2, forms::visits),
 ];
 
 const fn styles() -> [&'static str; TABLE.len()] {

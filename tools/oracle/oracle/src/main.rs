@@ -23,7 +23,7 @@ const HELP: &str = "\
 oracle answer [--words N] [--bytes N] [--visits]
     Reads a file on standard input and prints its answer: the lines, or 0f and the refusal's number.
     --words and --bytes are the lengths of the two slices (16384 and 65536).
-    --visits prints the line `visits N` on standard error as well.
+    --visits prints the line `visits` and each query's number of them on standard error as well.
     A file that the Rust can't hold prints nothing, says why on standard error and ends with status 2.
 
 oracle generate --seed S --count N [--style NAME] [--out DIR]
@@ -48,7 +48,8 @@ oracle compare calls   --seed S --count N [--style NAME] [--out DIR]
     some), from standard input to standard output, and the static library in process where it was
     there when oracle was built, with both slices full of ff before each call. Each mismatch is kept
     with both outputs and a smaller file that shows it too, in target/mismatch or DIR. Counts files
-    by refusal, code, node shape and statement. Ends with status 1 where there is a mismatch.
+    by refusal, code, node shape and statement. Of an accepted form each query's lines are also held
+    against what the port answers to that query alone. Ends with status 1 where there is a mismatch.
     In place of --seed and --count: `--bytes-exhaustive FILE` takes each prefix of FILE, FILE without
     each byte, and FILE with each byte changed to each other value; `--short` takes every file of up
     to two bytes, and every line of up to two bytes after a right first line; `--nested` takes a file for
@@ -72,7 +73,7 @@ oracle record [--check]
     generator and the Rust instead.
 
 oracle selftest
-    Every example of document 01, and the text examples of RFC 3629.
+    Every example of document 01, the text examples of RFC 3629, and what card 3 says of several queries.
 
 oracle help
     This text.
@@ -131,7 +132,8 @@ fn answer(given: &[String]) -> Done {
         .map_err(|why| format!("standard input: {why}"))?;
     let ran = judge::answer(&file, &limits);
     if options.flag("visits") {
-        eprintln!("visits {}", ran.visits);
+        let visits: Vec<String> = ran.visits.iter().map(u64::to_string).collect();
+        eprintln!("visits {}", visits.join(" "));
     }
     let text = printed::printed(&ran.answer)
         .map_err(|why| format!("the Rust can't hold this file: {why}"))?;

@@ -1,6 +1,6 @@
 //! The octet sequences that RFC 3629 gives as examples, as names.
 
-use judge::{Answer, File, Limits, Node, Query, Shape};
+use judge::{Answer, File, Limits, Node, Query, Shape, Tree};
 
 use super::Group;
 
@@ -163,14 +163,16 @@ fn term(text: &[u8], max_term: u16) -> Vec<u8> {
         names: vec![text.to_vec()],
         types: vec![],
         predicates: vec![],
-        nodes: vec![Node {
-            start: 0,
-            end: 0,
-            shape: Shape::Fuzzy(0, 1),
+        trees: vec![Tree {
+            nodes: vec![Node {
+                start: 0,
+                end: 0,
+                shape: Shape::Fuzzy(0, 1),
+            }],
+            query: Query {
+                head: 0,
+                body: vec![],
+            },
         }],
-        query: Query {
-            head: 0,
-            body: vec![],
-        },
     })
 }
