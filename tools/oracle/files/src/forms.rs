@@ -227,7 +227,7 @@ pub fn visits(rng: &mut Rng) -> Vec<u8> {
         draft.close();
     }
     let mut frames = draft.form_frames();
-    if rng.chance(25) {
+    if rng.chance(35) {
         frames.push(vec![5]);
     }
     draft::lines(&frames)

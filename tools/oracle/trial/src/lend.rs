@@ -17,6 +17,10 @@ pub fn lent(seed: u64, plain: &Ran) -> Vec<Limits> {
                 ..usual
             });
         }
+        if seed % 16 == 1 {
+            // No query runs before all lines are read.
+            all.push(Limits { visits: 0, ..usual });
+        }
         return all;
     }
     // Each query has its own visits.

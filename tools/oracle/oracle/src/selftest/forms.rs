@@ -1,8 +1,9 @@
 //! Several queries in a file: what card 3 says outright.
 
-use judge::{Answer, Limits};
+use judge::{Answer, Limits, Node, Predicate, Query, Shape, Tree};
 
 use super::examples::M;
+use super::large::doubled_key;
 use super::refusals::doubling;
 use super::{Group, lines, report};
 
@@ -178,7 +179,7 @@ fn limits(group: &mut Group) {
             let names = 2 + *count;
             // The names of the longest chain serve all.
             for node in &mut trees[0].nodes {
-                if let judge::Shape::Record(parts) = &mut node.shape {
+                if let Shape::Record(parts) = &mut node.shape {
                     parts.iter_mut().for_each(|part| part.0 += 26 - names);
                 }
             }
@@ -215,10 +216,51 @@ fn limits(group: &mut Group) {
     let broken = [&form(&[24, 2])[..], b"05\n"].concat();
     group.refused("11 in the first, and a bad last line", &broken, 6);
 
+    small(group);
+
     // 12 goes by all lines, the 0b lines included.
     let m = lines(&format!("{M}\n{ONE}"));
     for (bytes, fits) in [(32, true), (31, false), (25, false), (16, false), (0, false)] {
         let found = matches!(with(&m, bytes, 0).answer, Answer::Lines(_));
         group.same("two queries in a slice", found, fits);
+    }
+}
+
+/// Small forms of a query that runs out of visits, one whose answer is too long, and one that is neither.
+fn small(group: &mut Group) {
+    let mut file = doubled_key(20);
+    file.predicates.push(Predicate {
+        name: 0,
+        key: 12,
+        value: None,
+    });
+    let node = |shape| Node {
+        start: 0,
+        end: 0,
+        shape,
+    };
+    let tree = |shapes: &[Shape]| Tree {
+        nodes: shapes.iter().cloned().map(node).collect(),
+        query: Query {
+            head: shapes.len() as u16 - 1,
+            body: vec![],
+        },
+    };
+    let out = tree(&[Shape::Var(0), Shape::Fact(0, 0)]);
+    let long = tree(&[Shape::Wildcard, Shape::Fact(1, 0)]);
+    let int = tree(&[Shape::Int]);
+    for (case, trees, number) in [
+        ("out of visits, then an integer", [&out, &int], 11),
+        ("an integer, then out of visits", [&int, &out], 11),
+        ("a long answer, then an integer", [&long, &int], 12),
+        ("an integer, then a long answer", [&int, &long], 12),
+        ("a long answer, then out of visits", [&long, &out], 11),
+        ("out of visits, then a long answer", [&out, &long], 11),
+    ] {
+        file.trees = trees.map(Tree::clone).to_vec();
+        let bytes = judge::encode(&file);
+        group.refused(case, &bytes, number);
+        let broken = [&bytes[..], b"05\n"].concat();
+        group.refused("the same and a bad line", &broken, 6);
     }
 }

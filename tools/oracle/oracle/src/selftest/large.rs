@@ -224,7 +224,7 @@ fn key_of(depths: &[u16]) -> File {
 }
 
 /// p _, where p's key is a record of two of a record of two and so on.
-fn doubled_key(depth: u16) -> File {
+pub fn doubled_key(depth: u16) -> File {
     let mut types = vec![Type::Int];
     for below in 0..depth {
         types.push(Type::Record(vec![(0, below), (1, below)]));
