@@ -253,7 +253,10 @@ pub fn nodes(rng: &mut Rng) -> Vec<u8> {
     if rng.chance(30) {
         let last = frames.len() - 2;
         frames[last] = rng
-            .pick(&[b"\x05".as_slice(), b"\x05\x00\x00\x00\x00\x00\x00\x00\x00\x11"])
+            .pick(&[
+                b"\x05".as_slice(),
+                b"\x05\x00\x00\x00\x00\x00\x00\x00\x00\x11",
+            ])
             .to_vec();
     }
     draft::lines(&frames)

@@ -655,7 +655,10 @@ impl Reader {
     fn names_beyond(&self, row: &[(Slot, u32)]) -> bool {
         let count = self.rows.nodes.len();
         let mistaken = self.wrong.on(Wrong::OtherQuerysNode);
-        mistaken && row.iter().any(|&(slot, at)| slot == Node && at as usize >= count)
+        mistaken
+            && row
+                .iter()
+                .any(|&(slot, at)| slot == Node && at as usize >= count)
     }
 
     fn keep_type(&mut self, values: &[u32]) {

@@ -64,7 +64,9 @@ fn halves(text: &[u8]) -> Halves {
     let mut found = Halves { pairs: 0, alone: 0 };
     let half = |at: usize, from: u8, to: u8| {
         text.get(at) == Some(&0xed)
-            && text.get(at + 1).is_some_and(|byte| (from..=to).contains(byte))
+            && text
+                .get(at + 1)
+                .is_some_and(|byte| (from..=to).contains(byte))
     };
     let mut at = 0;
     while at < text.len() {

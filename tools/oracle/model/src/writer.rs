@@ -57,7 +57,11 @@ pub fn write(states: &[State], most: usize, wrong: Switch) -> Result<Vec<u8>, u8
         }
         writer.types()?;
         if !wrong.on(Wrong::ReportsLast) {
-            let from = if wrong.on(Wrong::ReportsOfBefore) { 0 } else { number };
+            let from = if wrong.on(Wrong::ReportsOfBefore) {
+                0
+            } else {
+                number
+            };
             for state in &states[from..=number] {
                 writer.reports(state)?;
             }

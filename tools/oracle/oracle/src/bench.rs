@@ -19,10 +19,11 @@ pub fn run(given: &[String]) -> Done {
     match &options.words[..] {
         [what] if what == "answers" && linked::HAS_CHECK => answers(&options, rounds),
         [what] if what == "reading" && linked::HAS_READ => reading(&options, rounds),
+        [what] if what == "texts" => crate::texts::bench(rounds.max(20)),
         [what] if what == "answers" || what == "reading" => {
             Err(format!("nothing to time: {}", crate::compare::NO_LIBRARY))
         }
-        _ => Err("bench what? one of answers, reading".to_owned()),
+        _ => Err("bench what? one of answers, reading, texts".to_owned()),
     }
 }
 

@@ -9,6 +9,7 @@ use crate::mismatch::Mismatches;
 use crate::options::Options;
 use crate::port::Port;
 use crate::tally::{Progress, Tally};
+use crate::texts;
 
 /// The most files tried to make one that shows a mismatch smaller.
 const TRIES: usize = 20_000;
@@ -31,7 +32,8 @@ pub fn run(given: &[String]) -> Done {
         [what] if what == "answers" => answers(&options),
         [what] if what == "reading" => reading(&options),
         [what] if what == "calls" => calls::run(&options),
-        _ => Err("compare what? one of answers, reading, calls".to_owned()),
+        [what] if what == "texts" => texts::compare(),
+        _ => Err("compare what? one of answers, reading, calls, texts".to_owned()),
     }
 }
 

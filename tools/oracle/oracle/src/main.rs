@@ -11,6 +11,7 @@ mod printed;
 mod record;
 mod selftest;
 mod tally;
+mod texts;
 mod trials;
 
 use std::io::{Read, Write};
@@ -44,6 +45,7 @@ oracle mutants [--seed S] [--count N] [--usual]
 oracle compare answers --seed S --count N [--style NAME] [--program P] [--out DIR]
 oracle compare reading --seed S --count N [--style NAME] [--out DIR]
 oracle compare calls   --seed S --count N [--style NAME] [--out DIR]
+oracle compare texts
     Holds the port against the Rust on generated files: the program P (with arguments, if it needs
     some), from standard input to standard output, and the static library in process where it was
     there when oracle was built, with both slices full of ff before each call. Each mismatch is kept
@@ -57,9 +59,12 @@ oracle compare calls   --seed S --count N [--style NAME] [--out DIR]
     `--model` holds the model against the Rust, as `agree` does, on these files too.
     Calls are compared in process alone: random lists of unifications, snapshots and rollbacks over a
     generated schema, with the outcome, the visits left and every binding after each call.
+    Texts: every string of up to three bytes, and many of four, through both text tests of the port and the
+    Rust's own.
 
 oracle bench answers [--seed S] [--count N] [--rounds R] [--style NAME]
 oracle bench reading [--seed S] [--count N] [--rounds R] [--style NAME]
+oracle bench texts [--rounds R]
     Times the port's call in process beside the Rust's reading, tree building and `check`, or the port's
     reading beside the judge's reader: N files of each style, the quickest of R rounds of each, as ratios
     (below 1 the port is quicker), by style, by length, and for files that grow in one respect; with

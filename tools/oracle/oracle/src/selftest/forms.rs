@@ -105,7 +105,11 @@ fn counts(group: &mut Group) {
     for (case, more, number) in [
         ("65 queries", ONE.to_owned(), 13),
         ("a 65th that is too short", format!("{node}06"), 13),
-        ("a 65th with an unknown statement", format!("{node}06 0000 05"), 13),
+        (
+            "a 65th with an unknown statement",
+            format!("{node}06 0000 05"),
+            13,
+        ),
         ("a 65th that names no node", format!("{node}06 0001"), 13),
         ("a 65th directly after the 64th", "06 0000".to_owned(), 4),
         ("an odd 65th", format!("{node}06000"), 3),
@@ -129,11 +133,23 @@ fn places(group: &mut Group) {
         ("06 after 06", "06 0000", 4),
         ("07 after 06", "07", 4),
         ("05 last", "05 00000000 00000000 00", 4),
-        ("two 05 last", "05 00000000 00000000 00\n05 00000000 00000000 00", 4),
+        (
+            "two 05 last",
+            "05 00000000 00000000 00\n05 00000000 00000000 00",
+            4,
+        ),
         ("05, then 02", "05 00000000 00000000 00\n02 78", 4),
         ("a bad last query", "05 00000000 00000000 00\n06", 6),
-        ("a bad node of the last query", "05 00000000 00000000 11\n06 0000", 6),
-        ("an LF after the last", "05 00000000 00000000 00\n06 0000\n0", 3),
+        (
+            "a bad node of the last query",
+            "05 00000000 00000000 11\n06 0000",
+            6,
+        ),
+        (
+            "an LF after the last",
+            "05 00000000 00000000 00\n06 0000\n0",
+            3,
+        ),
     ] {
         group.refused(case, &lines(&format!("{m}{more}")), number);
     }
@@ -200,7 +216,11 @@ fn limits(group: &mut Group) {
     };
     let file = form(&[5, 3, 5]);
     let ran = group.answer(&file);
-    group.same("the visits of each", ran.visits, vec![visits(5), visits(3), visits(5)]);
+    group.same(
+        "the visits of each",
+        ran.visits,
+        vec![visits(5), visits(3), visits(5)],
+    );
     let exact = with(&file, 65_536, visits(5));
     let accepted = matches!(exact.answer, Answer::Lines(_));
     group.same("each within its visits", accepted, true);
@@ -220,7 +240,13 @@ fn limits(group: &mut Group) {
 
     // 12 goes by all lines, the 0b lines included.
     let m = lines(&format!("{M}\n{ONE}"));
-    for (bytes, fits) in [(32, true), (31, false), (25, false), (16, false), (0, false)] {
+    for (bytes, fits) in [
+        (32, true),
+        (31, false),
+        (25, false),
+        (16, false),
+        (0, false),
+    ] {
         let found = matches!(with(&m, bytes, 0).answer, Answer::Lines(_));
         group.same("two queries in a slice", found, fits);
     }
