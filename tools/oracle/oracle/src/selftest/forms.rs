@@ -3,7 +3,7 @@
 use judge::{Answer, Limits, Node, Predicate, Query, Shape, Tree};
 
 use super::examples::M;
-use super::large::doubled_key;
+use super::large::{doubled_key, key_of};
 use super::refusals::doubling;
 use super::{Group, lines, report};
 
@@ -289,4 +289,19 @@ fn small(group: &mut Group) {
         let broken = [&bytes[..], b"05\n"].concat();
         group.refused("the same and a bad line", &broken, 6);
     }
+
+    // Three times half of the visits allowed: each query has all of them.
+    let mut file = doubled_key(18);
+    file.trees = vec![out; 3];
+    let ran = group.answer(&judge::encode(&file));
+    group.same("half of the visits each", ran.visits, vec![1 << 19; 3]);
+    group.same("not 11", ran.answer, Answer::Refused(12));
+    // Twice 32,774 bytes; and 65,522, 9 and two lines 0b.
+    let long = tree(&[Shape::Wildcard, Shape::Fact(0, 0)]);
+    let mut file = doubled_key(11);
+    file.trees = vec![long.clone(); 2];
+    group.refused("too long together", &judge::encode(&file), 12);
+    let mut file = key_of(&[11, 10, 9, 9]);
+    file.trees = vec![long, int];
+    group.refused("too long with the lines 0b", &judge::encode(&file), 12);
 }

@@ -212,7 +212,7 @@ impl Nodes {
 }
 
 /// p _, where p's key is a record of full binary trees of these depths.
-fn key_of(depths: &[u16]) -> File {
+pub fn key_of(depths: &[u16]) -> File {
     let deepest = *depths.iter().max().expect("one at least");
     let mut file = doubled_key(deepest);
     let names = (0..depths.len().max(5)).map(|name| vec![b'a' + name as u8]);
