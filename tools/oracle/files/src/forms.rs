@@ -57,6 +57,22 @@ fn some(rng: &mut Rng, count: usize, nodes: usize) -> Draft {
     draft
 }
 
+/// So many queries that mean something, over one schema: for questions of time.
+pub fn grown(rng: &mut Rng, count: usize) -> Vec<u8> {
+    let mut draft = Draft::new();
+    grow::schema(rng, &mut draft);
+    for _ in 0..count {
+        let taste = Taste {
+            nodes: 24,
+            statements: 3,
+            ..CALM
+        };
+        draft = grow::over(rng, draft, taste);
+        draft.close();
+    }
+    draft::lines(&draft.form_frames())
+}
+
 /// Where the queries' own frames start, each with its last one's place.
 fn places(frames: &[Vec<u8>]) -> Vec<(usize, usize)> {
     let mut from = frames.iter().position(|f| f[0] == 5).unwrap_or(0);

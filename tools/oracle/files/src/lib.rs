@@ -13,12 +13,14 @@ mod nested;
 mod noise;
 mod references;
 mod rng;
+mod shapes;
 mod texts;
 mod valid;
 
 pub use filled::{GROWING, filled};
 pub use nested::nested;
 use rng::Rng;
+pub use shapes::{form, shapes};
 
 type Make = fn(&mut Rng) -> Vec<u8>;
 

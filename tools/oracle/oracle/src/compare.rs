@@ -151,7 +151,7 @@ fn each_alone(
 
 /// For each query of a form the file with it alone, cut from the form's own lines, and the lines of the
 /// answer that stand between its 0b line and the next.
-fn alone(form: &[u8], answer: &[u8]) -> Vec<(Vec<u8>, Vec<u8>)> {
+pub fn alone(form: &[u8], answer: &[u8]) -> Vec<(Vec<u8>, Vec<u8>)> {
     let mut schema = vec![];
     let mut files = vec![];
     let mut own = vec![];

@@ -64,6 +64,8 @@ oracle compare texts
 
 oracle bench answers [--seed S] [--count N] [--rounds R] [--style NAME]
 oracle bench reading [--seed S] [--count N] [--rounds R] [--style NAME]
+oracle bench shapes [--rounds R]
+oracle bench forms [--rounds R]
 oracle bench texts [--rounds R]
     Times the port's call in process beside the Rust's reading, tree building and `check`, or the port's
     reading beside the judge's reader: N files of each style, the quickest of R rounds of each, as ratios
@@ -71,7 +73,10 @@ oracle bench texts [--rounds R]
     --style that style alone. Files that the Rust can't hold, and those of refusals 11 and 12, which it
     does not know, are left out. Where the port's time goes: valgrind --tool=callgrind
     --toggle-collect=sigla_check target/release/oracle bench answers --style large --rounds 1, then
-    callgrind_annotate.
+    callgrind_annotate (it counts `rep stosb`, with which slices are cleared, by bytes).
+    Shapes: files with wide, nested and many types, long chains and a million visits, and where the time goes
+    on both sides. Forms: a file of up to 64 queries beside the Rust that reads the schema once, and beside as
+    many calls with one query each. Texts: both text tests on names of 511 bytes beside the Rust's own.
 
 oracle record [--check]
     Writes crates/replay/stdin, the recorded sample of answers; with --check holds it against the
