@@ -18,7 +18,7 @@ mod texts;
 mod valid;
 
 pub use filled::{GROWING, filled};
-pub use nested::nested;
+pub use nested::{nested, stacked};
 use rng::Rng;
 pub use shapes::{form, shapes};
 

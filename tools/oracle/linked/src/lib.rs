@@ -12,6 +12,7 @@
 //! ```
 
 pub mod calls;
+pub mod stack;
 pub mod texts;
 
 #[cfg(any(sigla_check, sigla_read))]

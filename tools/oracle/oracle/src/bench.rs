@@ -300,7 +300,7 @@ fn shapes(rounds: u32) -> Done {
         all.push((format!("{what}-{most}"), file));
     }
     for (name, file) in files::nested() {
-        if ["everything-0-true", "everything-2-true", "infinite"].contains(&name.as_str()) {
+        if ["everything-0-true", "everything-2-true"].contains(&name.as_str()) {
             all.push((name, file));
         }
     }

@@ -10,6 +10,7 @@ mod port;
 mod printed;
 mod record;
 mod selftest;
+mod stack;
 mod tally;
 mod texts;
 mod trials;
@@ -82,6 +83,11 @@ oracle record [--check]
     Writes crates/replay/stdin, the recorded sample of answers; with --check holds it against the
     generator and the Rust instead.
 
+oracle stack [--most BYTES] [--out FILE]
+    The greatest use of stack by the port's call, in process, on a thread whose stack is painted: over the
+    files of `--nested`, others that nest shapes of nodes over the deepest types, and the deep styles. Prints
+    the files that use most; --out writes the first of them. Ends with status 1 where it is more than --most.
+
 oracle selftest
     Every example of document 01, the text examples of RFC 3629, and what card 3 says of several queries.
 
@@ -121,6 +127,7 @@ fn run(given: &[String]) -> Done {
         "mutants" => trials::mutants(rest),
         "record" => record::run(rest),
         "selftest" => selftest::run(rest),
+        "stack" => stack::run(rest),
         "help" | "--help" => {
             print!("{HELP}");
             Ok(true)
