@@ -10,6 +10,9 @@
 /// The words that must be lent.
 pub const WORDS: usize = 16384;
 
+/// Bytes of stack that suffice for every file tried; 561,600 were used, on samples/deepest.hex.
+pub const STACK: usize = 655_360;
+
 /// Why a file is turned down; the numbers are those of the refusals.
 #[derive(Clone, Copy, Debug, PartialEq, Eq)]
 #[repr(u8)]

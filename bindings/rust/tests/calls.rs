@@ -1,9 +1,10 @@
 //! The call on the sample query and the sample form, on refusals, and on slices of other lengths.
 
-use sigla::{QUERIES, Refusal, WORDS, by_query, check};
+use sigla::{QUERIES, Refusal, STACK, WORDS, by_query, check};
 
 const SAMPLE: &[u8] = include_bytes!("../../../samples/infinite.hex");
 const FORM: &[u8] = include_bytes!("../../../samples/form.hex");
+const DEEPEST: &[u8] = include_bytes!("../../../samples/deepest.hex");
 
 fn lent() -> (Vec<u32>, Vec<u8>) {
     (vec![0xffff_ffff; WORDS], vec![0xff; 65536])
@@ -80,4 +81,12 @@ fn a_file_has_64_queries_at_most() {
     let (mut work, mut answer) = lent();
     assert_eq!(check(&form(QUERIES + 1), &mut work, &mut answer), Err(Refusal::TooManyQueries));
     assert!(work.iter().all(|&word| word == 0) && answer.iter().all(|&byte| byte == 0));
+}
+
+#[test]
+fn the_stated_stack_suffices() {
+    let (mut work, mut answer) = lent();
+    let thread = std::thread::Builder::new().stack_size(STACK);
+    let thread = thread.spawn(move || check(DEEPEST, &mut work, &mut answer)).expect("a thread can be started");
+    assert!(thread.join().expect("the thread ends").is_ok());
 }
