@@ -100,15 +100,13 @@ fn answers(options: &Options, rounds: u32) -> Done {
         for number in 0..count {
             let file = files::generate(style, trial::nth(seed, number));
             // The Rust has no limit of visits and none for types' size.
-            let ends = !matches!(
-                judge::answer(&file, &limits).answer,
-                Answer::LeftOut(_) | Answer::Refused(11 | 12)
-            );
-            if ends {
-                timed.push(answer_times(&file, &limits, rounds, &mut slices));
-            } else {
+            let answer = judge::answer(&file, &limits).answer;
+            if matches!(answer, Answer::LeftOut(_) | Answer::Refused(11 | 12)) {
                 left_out += 1;
+                continue;
             }
+            right(&format!("{style} {number}"), &file, &answer, &limits)?;
+            timed.push(answer_times(&file, &limits, rounds, &mut slices));
         }
         line(style, &timed, left_out);
         all.append(&mut timed);
