@@ -88,9 +88,12 @@ fn places(frames: &[Vec<u8>]) -> Vec<(usize, usize)> {
 
 /// A form with one fault, in its first, its last or any of its queries.
 pub fn faults(rng: &mut Rng) -> Vec<u8> {
-    let count = match rng.below(10) {
-        0 => QUERIES,
+    let count = match rng.below(14) {
+        0 => 1,
         1 => 30,
+        2 => QUERIES - 1,
+        3 => QUERIES,
+        4 => QUERIES + 1,
         _ => rng.between(2, 4),
     };
     let mut frames = some(rng, count, if count > 4 { 2 } else { 6 }).form_frames();
@@ -229,9 +232,9 @@ pub fn visits(rng: &mut Rng) -> Vec<u8> {
         limits::answer_over(&mut draft, size);
         draft.close();
     }
-    let before = rng.below(3);
+    let before = rng.pick(&[0, 1, 2, 28, 60]);
     for place in 0..before + rng.between(1, 3) {
-        if place < before {
+        if place < before.min(2) {
             let target = rng.pick(&[100, 5_000, MOST_VISITS / 2]);
             spent(rng, &mut draft, target);
         } else if place == before {
