@@ -1,8 +1,9 @@
 //! Links the port's static libraries where they are there, and tells which of their calls exist.
 //!
-//! `SIGLA_LIB` names the checker's library, `READING_LIB` the one of the reading and `CALLS_LIB` the one
-//! of the calls on the substitution; without them libsigla_lib.a, libreading_calls.a and libcalls.a in
-//! target/staticlib at the repository's top are taken, if they are there.
+//! `SIGLA_LIB` names the checker's library, `READING_LIB` the one of the reading, `CALLS_LIB` the one of the
+//! calls on the substitution and `TEXT_LIB` the one of the two text tests; without them libsigla_lib.a,
+//! libreading_calls.a, libcalls.a and libtext_calls.a in target/staticlib at the repository's top are
+//! taken, if they are there.
 
 use std::env;
 use std::fs;
@@ -23,8 +24,11 @@ const CALLS: [&str; 8] = [
     "sigla_unify",
 ];
 
+/// These too, by the cfg `sigla_texts`.
+const TEXTS: [&str; 2] = ["sigla_characters", "sigla_characters_by_table"];
+
 fn main() {
-    for cfg in WHOLE.iter().chain(&["sigla_calls"]) {
+    for cfg in WHOLE.iter().chain(&["sigla_calls", "sigla_texts"]) {
         println!("cargo::rustc-check-cfg=cfg({cfg})");
     }
     let whole = Library::find("SIGLA_LIB", "libsigla_lib.a");
@@ -35,6 +39,13 @@ fn main() {
             println!("cargo::rustc-cfg={call}");
         }
         library.link();
+    }
+
+    if let Some(texts) = Library::find("TEXT_LIB", "libtext_calls.a")
+        && TEXTS.iter().all(|call| texts.has(call))
+    {
+        println!("cargo::rustc-cfg=sigla_texts");
+        texts.link();
     }
 
     // Of two libraries with the same call one alone is linked, so that no symbol is there twice. What

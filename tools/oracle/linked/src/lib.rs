@@ -13,6 +13,8 @@
 //! ```
 
 pub mod calls;
+pub mod stack;
+pub mod texts;
 
 #[cfg(any(sigla_check, sigla_read))]
 unsafe extern "C" {
