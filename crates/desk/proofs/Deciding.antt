@@ -75,7 +75,7 @@ checks-run : (d : Described) → decideRead (described d) ≡ decideChecked (che
 unfolding decideRead check run
 checks-run d = refl
 
-module _ (f w w₁ : List ℕ) (r : Read) (h : ReadsFile f w w₁ r) (was : r ≡ Read.Accepted) (w₂ : List ℕ) (q : Done) (ran : Queries f w₁ maxVisits w₂ q) where
+module _ (f w w₁ : List ℕ) (r : Read) (h : ReadsFile f w w₁ r) (was : r ≡ Read.Accepted) (w₂ : List ℕ) {b₁ b₂ : List ℕ} (q : Done) (ran : Queries f w₁ b₁ maxVisits w₂ b₂ q) where
   x : WasRead f w₁ (readingIn f (length w))
   x = was-read f w₁ r (readingIn f (length w)) (h .ends) was
 
@@ -86,16 +86,16 @@ module _ (f w w₁ : List ℕ) (r : Read) (h : ReadsFile f w w₁ r) (was : r �
   unfolding the-run
   decides-run = decide-reads f (length w) ∙ ap decideRead (x .is) ∙ checks-run (x .d)
 
-  has-run : Ran f w₂ (x .d) q the-run
+  has-run : Ran f w₂ b₂ (x .d) q the-run
   unfolding the-run
   has-run = ran .is (x .rows) (x .d) (sound f (x .d) (enough-words f (length w) (x .d) (x .is))) (x .stands)
 
-  pub out-of-visits-told : (buf : List ℕ) → q ≡ Done.Out → Told buf buf (Outcome.Refused Refusal.TooManyVisits) (decide f (length w))
+  pub out-of-visits-told : (buf buf₁ : List ℕ) → q ≡ Done.Out → Told buf buf₁ (Outcome.Refused Refusal.TooManyVisits) (decide f (length w))
   unfolding Told decideChecked checked
-  out-of-visits-told buf e = subst (Told buf buf (Outcome.Refused Refusal.TooManyVisits)) (sym decides-run) (go has-run)
+  out-of-visits-told buf buf₁ e = subst (Told buf buf₁ (Outcome.Refused Refusal.TooManyVisits)) (sym decides-run) (go has-run)
     where
-      go : {s : Step Tree.Ty} → Ran f w₂ (x .d) q s → Told buf buf (Outcome.Refused Refusal.TooManyVisits) (decideChecked (checked maxVisits s))
-      go (to-the-end T h p) = let z : _≡_ {A = ℕ} 0 1 = cc in absurd (omega arith)
+      go : {s : Step Tree.Ty} → Ran f w₂ b₂ (x .d) q s → Told buf buf₁ (Outcome.Refused Refusal.TooManyVisits) (decideChecked (checked maxVisits s))
+      go (to-the-end T h t p) = let z : _≡_ {A = ℕ} 0 1 = cc in absurd (omega arith)
       go (out-of-visits p) = (Refusal.TooManyVisits, refl, refl)
 
   module _ (left : ℕ) (e : q ≡ Done.On left) (buf buf′ : List ℕ) (a : Wrote) (wrote : WritesAnswer f w₂ buf buf′ a) where
@@ -104,8 +104,8 @@ module _ (f w w₁ : List ℕ) (r : Read) (h : ReadsFile f w w₁ r) (was : r �
     unfolding decideChecked checked
     by-writing o told = subst (Told buf buf′ o) (sym decides-run) (go has-run)
       where
-        go : {s : Step Tree.Ty} → Ran f w₂ (x .d) q s → Told buf buf′ o (decideChecked (checked maxVisits s))
-        go (to-the-end {ty = ty} {c = c} T h p) = told _ (wrote .is T (x .d) c h maxVisits ty _ refl)
+        go : {s : Step Tree.Ty} → Ran f w₂ b₂ (x .d) q s → Told buf buf′ o (decideChecked (checked maxVisits s))
+        go (to-the-end {ty = ty} {c = c} T h t p) = told _ (wrote .is T (x .d) c h maxVisits ty _ refl)
         go (out-of-visits p) = let z : _≡_ {A = ℕ} 0 1 = cc in absurd (omega arith)
 
     pub written-told : (n : ℕ) → a ≡ Wrote.To n → Told buf buf′ (Outcome.Accepted n) (decide f (length w))
@@ -115,6 +115,12 @@ module _ (f w w₁ : List ℕ) (r : Read) (h : ReadsFile f w w₁ r) (was : r �
     pub too-long-told : a ≡ Wrote.Full → Told buf buf′ (Outcome.Refused Refusal.AnswerTooLong) (decide f (length w))
     unfolding Told
     too-long-told p = by-writing (Outcome.Refused Refusal.AnswerTooLong) (λ ls g. (λ l. absurd (omega (arith, whole-over g p)), λ l. refl))
+
+-- Of the slice before only its length counts, and no call changes that.
+pub told-long : (buf buf₁ buf′ : List ℕ) (o : Outcome) (d : Decided) → length buf₁ ≡ length buf → Told buf₁ buf′ o d → Told buf buf′ o d
+unfolding Told
+told-long buf buf₁ buf′ o (turnedDown e) q t = t
+told-long buf buf₁ buf′ o (answered ls) q t = (λ h. t .0 (omega arith), λ h. t .1 (omega arith))
 
 -- ---- Clearing
 

@@ -27,7 +27,7 @@ fn run(file: &[u8], work: &mut [u32], out: &mut [u8]) -> Outcome
         }
         Read::Accepted => {}
     }
-    let d = checker::query(file, work, Counters::VISITS);
+    let d = checker::query(file, work, Counters::VISITS, out);
     match d {
         Done::Out => {
             return Outcome::Refused(Refusal::TooManyVisits);

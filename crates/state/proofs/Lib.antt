@@ -2,6 +2,8 @@ pub mod Entries
 pub mod Standing
 pub mod Running
 pub mod Reporting
+pub mod Lining
 pub mod Scoping
 pub mod Recording
 pub mod Starting
+pub mod Lined

@@ -60,7 +60,7 @@ module _ (w : List ℕ) (n : ℕ) (code : Code) (room : getD w DIAGNOSTIC-COUNT 
   unfolding rejectW putHalfW
   reject-is = rw (lt-ltb count 1536 room, lt-ltb n 512 small)
 
-  reject-other : (j : ℕ) → j ≢ DIAGNOSTIC-COUNT → j ≢ place → getD (rejectW w n code) j 0 ≡ getD w j 0
+  pub reject-other : (j : ℕ) → j ≢ DIAGNOSTIC-COUNT → j ≢ place → getD (rejectW w n code) j 0 ≡ getD w j 0
   reject-other j p q = rw reject-is (getD-set-other (set w place value) DIAGNOSTIC-COUNT j (count + 1) 0 p ∙ getD-set-other w place j value 0 q)
 
   reject-keeps : Keeps RECORD-COUNT END w (rejectW w n code)

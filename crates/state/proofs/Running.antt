@@ -111,7 +111,7 @@ module _ {f w : List ℕ} {T : Rows} {d : Described} {c : Checker} (sound : Soun
 
   -- ---- `fresh_var_id`
   module _ (few : length (c .state .subst) < 512) where
-    fresh-word : (i : ℕ) → i ≢ UNKNOWNS → i < BINDINGS → getD (freshW w) i 0 ≡ getD w i 0
+    pub fresh-word : (i : ℕ) → i ≢ UNKNOWNS → i < BINDINGS → getD (freshW w) i 0 ≡ getD w i 0
     fresh-word i n h = fresh-other (R .holds) few i n (λ q. omega arith)
 
     fresh-keeps : Keeps RECORD-COUNT END w (freshW w)

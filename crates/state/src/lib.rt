@@ -4,7 +4,10 @@ ghost use Prim.Native.Nat.{_<_};
 ghost use lib.ListN.{getD};
 ghost use Rattle.work.specs.Layout.{ENV-LEN};
 ghost use Rattle.meaning.specs.Check.{lookupIn};
+ghost use lib.ListN.{set};
+ghost use mathlib.Core.List.{[], _∷_};
 ghost use Rattle.state.specs.Words.{numberOf, besideW, halfW, rejectW, envOf, knownAs, pushEnvW, Introduces};
+ghost use Rattle.state.specs.Lines.{placeW, setPlaceW, lineBytes, Appends, Rejected};
 use work::put;
 use work::wide;
 use work::word;
@@ -64,8 +67,71 @@ fn beside(i: u32, entry: u32, old: u32) -> u32
     }
 }
 
-// The node and the code.
-pub fn reject(w: &mut [u32], n: u32, code: Code)
+// ---- The lines of the diagnostics, in the answer slice
+
+const PLACE: usize = 9621;
+
+const PLACE_HIGH: usize = 9622;
+
+pub const FULL: usize = 9623;
+
+// Where the next byte goes.
+pub fn place(w: &[u32]) -> usize
+    ensures { λ r. ⌜ r ≡ placeW (now (w .entry)) ⌝ }
+{
+    wide(word(w, PLACE)) + wide(word(w, PLACE_HIGH)) * 4294967296
+}
+
+pub fn set_place(w: &mut [u32], at: usize)
+    ensures { λ _. ⌜ now (w .exit) ≡ setPlaceW (now (w .entry)) at ⌝ }
+{
+    put(w, PLACE, (at % 4294967296) as u32);
+    put(w, PLACE_HIGH, (at / 4294967296) as u32);
+}
+
+// No line yet.
+pub fn begin_lines(w: &mut [u32])
+    ensures { λ _. ⌜ now (w .exit) ≡ set (set (set (now (w .entry)) 9621 0) 9622 0) 9623 0 ⌝ }
+{
+    put(w, PLACE, 0);
+    put(w, PLACE_HIGH, 0);
+    put(w, FULL, 0);
+}
+
+// A byte behind the bytes before it; where there is no room, that is noted and no byte is written from then on.
+fn emit(w: &mut [u32], out: &mut [u8], b: u8)
+    ensures { λ _. ⌜ Appends (b ∷ []) (now (w .entry)) (now (out .entry)) (now (w .exit)) (now (out .exit)) ⌝ }
+{
+    if word(w, FULL) == 0 {
+        let at = place(w);
+        if at < out.len() {
+            out[at] = b;
+            set_place(w, at + 1);
+        } else {
+            put(w, FULL, 1);
+        }
+    }
+}
+
+fn pair(w: &mut [u32], out: &mut [u8], a: u8, b: u8)
+    ensures { λ _. ⌜ Appends (a ∷ b ∷ []) (now (w .entry)) (now (out .entry)) (now (w .exit)) (now (out .exit)) ⌝ }
+{
+    emit(w, out, a);
+    emit(w, out, b);
+}
+
+fn line(w: &mut [u32], out: &mut [u8], n: u32)
+    requires { ⌜ n < 14 ⌝ }
+    ensures { λ _. ⌜ Appends (lineBytes n) (now (w .entry)) (now (out .entry)) (now (w .exit)) (now (out .exit)) ⌝ }
+{
+    pair(w, out, 48, 56);
+    pair(w, out, (48 + n / 10) as u8, (48 + n % 10) as u8);
+    pair(w, out, 48, 48);
+    pair(w, out, 48, 48);
+    pair(w, out, 48, 10);
+}
+
+fn keep(w: &mut [u32], n: u32, code: Code)
     ensures { λ _. ⌜ now (w .exit) ≡ rejectW (now (w .entry)) n code ⌝ }
 {
     let i = word(w, work::DIAGNOSTIC_COUNT);
@@ -77,6 +143,14 @@ pub fn reject(w: &mut [u32], n: u32, code: Code)
             put(w, work::DIAGNOSTIC_COUNT, i + 1);
         }
     }
+}
+
+// The node and the code, and the line.
+pub fn reject(w: &mut [u32], n: u32, code: Code, out: &mut [u8])
+    ensures { λ _. ⌜ Rejected (now (w .entry)) (now (out .entry)) n code (now (w .exit)) (now (out .exit)) ⌝ }
+{
+    line(w, out, code_number(code));
+    keep(w, n, code);
 }
 
 // The i-th diagnostic: the node times 16, and the code's number.

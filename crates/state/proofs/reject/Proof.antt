@@ -1,49 +1,17 @@
--- Made from Proof.ans by tools/answers, 75774a16c8231c15.
+-- Made from Proof.ans by tools/answers, 18337106bbeff5b2.
 use borrow.Author.Needs.{needs}
 use Rattle.state.proofs.reject.Statement.{statement}
 use Rattle.state.proofs.reject.Tie as tie
 use Rattle.state.proofs.reject.Reads as reads
 use Rattle.state.proofs.reject.Lts as lts
-use Rattle.state.proofs.beside.Reads as beside-reads
 use Rattle.state.proofs.code_number.Reads as code-number-reads
-use Rattle.work.proofs.put.Reads as put-reads
-use Rattle.work.proofs.wide.Reads as wide-reads
-use Rattle.work.proofs.word.Reads as word-reads
+use Rattle.state.proofs.keep.Reads as keep-reads
+use Rattle.state.proofs.line.Reads as line-reads
 use native.Mathlib.Omega.{arith}
-use borrow.Author.Tests.{lt-ltb, le-ltb}
-use Rattle.state.specs.Words.{rejectW, putHalfW}
-use Rattle.state.proofs.Entries.{number-small}
-
-returns : tie.Need-returns
-unfolding rejectW putHalfW
-returns c = simp (c .before .before .put2 .ensures, c .before .before .before .before .before .before .put .ensures, c .before .before .before .before .before .before .before .before .beside .ensures, c .before .before .before .before .before .before .before .before .before .word2 .ensures, c .before .before .before .before .before .before .before .before .before .before .before .code-number .ensures, c .before .before .before .before .before .before .before .before .before .before .before .before .wide .ensures .0, c .before .before .before .before .before .before .before .before .before .before .before .before .before .before .before .word .ensures, lt-ltb _ _ (rw (c .before .before .before .before .before .before .before .before .before .before .before .before .before .before .before .word .ensures) at (c .before .before .before .before .before .before .before .before .before .before .before .before .before .before .if1 .taken)), lt-ltb _ _ (c .before .before .before .before .before .before .before .before .before .before .before .before .before .if2 .taken))
-
-returns-2 : tie.Need-returns-2
-unfolding rejectW
-returns-2 c = simp (lt-ltb _ _ (rw (c .before .before .word .ensures) at (c .before .if1 .taken)), le-ltb _ _ (c .if2 .left))
-
-returns-3 : tie.Need-returns-3
-unfolding rejectW
-returns-3 c = simp (le-ltb _ _ (rw (c .before .word .ensures) at (c .if1 .left)))
+use mathlib.Core.Path.{refl}
+use Rattle.state.proofs.Lining.{number-fits}
 
 pub reject-spec : {M : Type 1} → statement M
 reject-spec =
     tie.close
-    (tie.spec
-    (λ c κs. search needs)
-    (λ c κs. search needs)
-    (λ c. search needs)
-    (λ c. search needs)
-    (λ c κs. search needs)
-    (λ c. omega (arith, c .before .before .if2 .taken, c .code-number .ensures, number-small (c .before .before .before .before .before .before .before .args .code)))
-    (λ c κs. search needs)
-    (λ c κs. omega (arith, c .before .before .before .before .if2 .taken, c .before .before .code-number .ensures, number-small (c .before .before .before .before .before .before .before .before .before .args .code)))
-    (λ c κs. search needs)
-    (λ c. search needs)
-    (λ c κs. search needs)
-    (λ c. search needs)
-    returns
-    (λ c. search needs)
-    returns-2
-    (λ c. search needs)
-    returns-3)
+    (tie.spec (λ c κs. search needs) (λ c κs. omega (arith, c .code-number .ensures, number-fits (c .before .before .before .before .before .args .code))) (λ c κs. search needs) (λ c. search needs) (λ c. search needs) (λ c. record { between = _; line = rw (c .before .before .before .before .before .before .before .before .before .code-number .ensures) at (c .before .before .before .before .before .before .before .before .line .ensures); words = c .before .before .keep .ensures }))
