@@ -32,29 +32,6 @@ use Rattle.answer.specs.Reports.{SpanAt, SpansOf, WritesText, WritesCode
 use Rattle.answer.proofs.Writing.{writes-as, writes-to, writes-then, writes-full, Goes, goes-start, goes-next, goes-full, goes-done}
 use Rattle.answer.proofs.Digits.{hex-append, hex-then, hex-full, line-is}
 
--- ---- A text
-pub record Texting (s out₀ : List ℕ) (at : ℕ) (out : List ℕ) (i to : ℕ) : Type 0 where
-  pub long : length out ≡ length out₀
-  pub go : at ≤ length out₀ → Goes out₀ at (hexOf s) out to (hexOf (drop i s))
-
-pub text-start : (s out : List ℕ) (at : ℕ) → Texting s out at out 0 at
-text-start s out at = record { long = refl; go = λ l. goes-start out at _ _ l refl }
-
-module _ {s out₀ : List ℕ} {at : ℕ} {out : List ℕ} {i to : ℕ} (g : Texting s out₀ at out i to) where
-  module _ (l : i < length s) {out′ : List ℕ} {r : Wrote} (f : Writes out to (hexOf (getD s i 0 ∷ [])) out′ r) where
-    here : hexOf (drop i s) ≡ hexOf (getD s i 0 ∷ []) ++ hexOf (drop (i + 1) s)
-    here = ap hexOf (drop-cons s i 0 l ∙ rw (add-one i)) ∙ hex-append (getD s i 0 ∷ []) (drop (i + 1) s)
-
-    pub text-next : {m : ℕ} → r ≡ To m → Texting s out₀ at out′ (i + 1) m
-    text-next e = record { long = f .long ∙ g .long; go = λ b. goes-next (g .go b) _ _ here f e }
-
-    pub text-full : r ≡ Full → WritesText out₀ at s out′ Full
-    text-full e = record { is = λ b. goes-full (g .go b) _ _ here f e }
-
-  pub text-done : length s ≤ i → WritesText out₀ at s out (To to)
-  unfolding hexOf
-  text-done l = record { is = λ b. goes-done (g .go b) (rw (drop-of-length-le s l)) }
-
 -- ---- A code
 
 -- c is none of the first n numbers, as the last arm of a `match` has it

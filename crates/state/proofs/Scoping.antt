@@ -12,7 +12,7 @@ use lib.Seq.{getD-set-same, getD-set-other}
 use borrow.Author.Tests.{lt-ltb}
 use Rattle.unification.specs.Bindings as Bindings
 use Rattle.unification.specs.Bindings.{Undo, Binding, Annotation, History, State, revert, rewind, withHistory}
-use Rattle.work.specs.Layout.{RECORD-COUNT, ENV-LEN, DIAGNOSTIC-COUNT, UNKNOWNS, ENV, DIAGNOSTICS, TYS, END}
+use Rattle.work.specs.Layout.{RECORD-COUNT, ENV-LEN, DIAGNOSTIC-COUNT, UNKNOWNS, ENV, END}
 use Rattle.cells.specs.Words.{freshW}
 use Rattle.cells.specs.Stands.{Rows, Keeps}
 use Rattle.cells.specs.Contracts.{RollsBack}
@@ -25,7 +25,7 @@ use Rattle.meaning.specs.Check.{Checker, Step, goes, andThen, lookupIn, withSta
 use Rattle.state.specs.Words.{envOf, pushEnvW, Introduces}
 use Rattle.state.specs.Runs.{Runs, Grew}
 use Rattle.state.proofs.Lining.{Unlined, unlined-trans}
-use Rattle.state.proofs.Running.{env-same, half-same, diagnostics-same, among-same, grew-refl, grew-trans, same-grew, runs-slots, grew-slots, fresh-word, fresh-runs, fresh-grew, runs-aside}
+use Rattle.state.proofs.Running.{env-same, grew-refl, grew-trans, same-grew, runs-slots, grew-slots, fresh-word, fresh-runs, fresh-grew, runs-aside}
 
 pub env-length : (w : List ℕ) (n : ℕ) → length (envOf w n) ≡ n
 unfolding envOf
@@ -37,12 +37,9 @@ runs-env-length {f} {w} R = ap (λ (es : List (ℕ × ℕ)). length es) (R .env)
 
 -- ---- Words of the environment alone changed
 module _ {f w w′ : List ℕ} {T : Rows} {d : Described} {c : Checker} (sound : Sound d) (R : Runs f w T d c) (S : SameState w w′)
-    (count : getD w′ DIAGNOSTIC-COUNT 0 ≡ getD w DIAGNOSTIC-COUNT 0) (at : (i : ℕ) → DIAGNOSTICS ≤ i → i < TYS → getD w′ i 0 ≡ getD w i 0) where
+    (count : getD w′ DIAGNOSTIC-COUNT 0 ≡ getD w DIAGNOSTIC-COUNT 0) where
   runs-env : (es : List (ℕ × ℕ)) → es ≡ envOf w′ (getD w′ ENV-LEN 0) → getD w′ ENV-LEN 0 ≤ 512 → Runs f w′ T d (record { state = c .state; env = es; diagnostics = c .diagnostics })
-  runs-env es e few = runs-aside sound R S refl e few
-      (R .diagnostics ∙ sym (rw count (diagnostics-same (d .ast .nodes) w w′ (getD w DIAGNOSTIC-COUNT 0) (λ i h. half-same w w′ i (at (DIAGNOSTICS + i / 2) (omega arith) (omega (arith, R .few-diagnostics)))))))
-      (omega (arith, count, R .few-diagnostics))
-      (among-same (length (d .ast .nodes)) w w′ count (λ i h. half-same w w′ i (at (DIAGNOSTICS + i / 2) (omega arith) (omega (arith, R .few-diagnostics)))) (R .among))
+  runs-env es e few = runs-aside sound R S refl e few (R .diagnostics ∙ sym count) (omega (arith, count, R .few-diagnostics))
 
 -- ---- `push_env`
 module _ (w : List ℕ) (symbol var : ℕ) (room : getD w ENV-LEN 0 < 512) (name : symbol < 65536) (unknown : var < 65536) where
@@ -84,7 +81,7 @@ module _ {f w : List ℕ} {T : Rows} {d : Described} {c : Checker} (sound : Soun
     pub push-env-runs : Runs f (pushEnvW w symbol var) T d (record { state = c .state; env = (symbol, var) ∷ c .env; diagnostics = c .diagnostics })
     push-env-runs =
         let other = push-other w symbol var room name unknown in
-        runs-env sound R (push-aside w symbol var room name unknown) (other DIAGNOSTIC-COUNT (λ q. omega arith) (λ q. omega arith)) (λ i l h. other i (λ q. omega arith) (λ q. omega arith)) ((symbol, var) ∷ c .env)
+        runs-env sound R (push-aside w symbol var room name unknown) (other DIAGNOSTIC-COUNT (λ q. omega arith) (λ q. omega arith)) ((symbol, var) ∷ c .env)
         (ap {B = List (ℕ × ℕ)} (λ es. (symbol, var) ∷ es) (R .env) ∙ sym (push-env w symbol var room name unknown (R .holds .long)))
         (omega (arith, push-count w symbol var room name unknown (R .holds .long)))
 
@@ -121,7 +118,7 @@ module _ {f w : List ℕ} {T : Rows} {d : Described} {c : Checker} (sound : Soun
       (ap (λ (m : ℕ). drop k (envOf w m)) (sym all) ∙ env-drop w k n)
 
   pub cut-runs : Runs f now T d (record { state = c .state; env = drop (length (c .env) - n) (c .env); diagnostics = c .diagnostics })
-  cut-runs = runs-env sound R cut-aside (cut-keeps .above DIAGNOSTIC-COUNT (omega arith)) (λ i l h. cut-keeps .above i (omega arith)) _ cut-env (omega (arith, cut-length, R .few-env))
+  cut-runs = runs-env sound R cut-aside (cut-keeps .above DIAGNOSTIC-COUNT (omega arith)) _ cut-env (omega (arith, cut-length, R .few-env))
 
   pub cut-unlined : Unlined w now
   cut-unlined = record { at = λ i l h. cut-keeps .above i (omega arith) }

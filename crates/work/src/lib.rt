@@ -42,14 +42,19 @@ pub const ENV_LEN: usize = 9618;
 pub const DIAGNOSTIC_COUNT: usize = 9619;
 
 pub const UNKNOWNS: usize = 9620;
+// Where the next line of a diagnostic goes in the answer slice, in two words; and 1 where one had no room.
+pub const PLACE: usize = 9621;
+
+pub const PLACE_HIGH: usize = 9622;
+
+pub const FULL: usize = 9623;
 
 pub const RECORDS: usize = 9632;
 
 pub const RECORD_FIELDS: usize = 10144;
 
+// The words from 11,680 to the node types are free.
 pub const ENV: usize = 11168;
-
-pub const DIAGNOSTICS: usize = 11680;
 
 pub const TYS: usize = 12448;
 
