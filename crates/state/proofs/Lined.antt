@@ -52,10 +52,10 @@ module _ {f w w′ : List ℕ} {T : Rows} {d : Described} {c : Checker} (sound :
   place-grew = same-grew (R .holds) (place-aside .cells) (keeps-wider (omega arith) (omega arith) K)
 
 -- ---- The newest diagnostic is the first of the list, and its line the last
-reversed-onto : {A : Type 0} (as bs : List A) → reversed as bs ≡ reversed as [] ++ bs
+reversed-onto : {A : Type 0} (xs ys : List A) → reversed xs ys ≡ reversed xs [] ++ ys
 unfolding reversed
-reversed-onto [] bs = refl
-reversed-onto (a ∷ as) bs = reversed-onto as (a ∷ bs) ∙ sym (append-assoc (reversed as []) (a ∷ []) bs) ∙ ap (λ (l : List A). l ++ bs) (sym (reversed-onto as (a ∷ [])))
+reversed-onto [] ys = refl
+reversed-onto {A} (x ∷ xs) ys = reversed-onto xs (x ∷ ys) ∙ sym (append-assoc (reversed xs []) (x ∷ []) ys) ∙ ap (λ (l : List A). l ++ ys) (sym (reversed-onto xs (x ∷ [])))
 
 lines-append : (ds es : List Diagnostic) → diagnosticLines (ds ++ es) ≡ diagnosticLines ds ++ diagnosticLines es
 unfolding diagnosticLines
