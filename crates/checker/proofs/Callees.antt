@@ -37,7 +37,7 @@ use Rattle.checker.proofs.Alls.{Turn}
 pub as-node : {f w : List ℕ} {n : ℕ} {r nd : Node} → r ≡ nd → IsNode f w n r → IsNode f w n nd
 as-node {f} {w} {n} e i = subst (λ (x : Node). IsNode f w n x) e i
 
-pub rejects-by : {f w ou w′ ou′ : List ℕ} {n left : ℕ} (code : Code) → Rejected w ou n code w′ ou′ → Rejects f w ou n (codeOf code) left w′ ou′
+pub rejects-by : {f w ou w′ ou′ : List ℕ} {n left : ℕ} (code : Code) → Rejected f w ou n code w′ ou′ → Rejects f w ou n (codeOf code) left w′ ou′
 rejects-by {f} {w} {n = n} {left = left} code x = rejects f w n code left x
 
 pub notes-by : {f w ou w′ : List ℕ} {n left : ℕ} {t : Ty} → w′ ≡ annotateW w n t → Notes f w ou n t left w′ ou
@@ -47,7 +47,7 @@ pub freshens-by : {f w ou w′ : List ℕ} {left x : ℕ} → (x ≡ getD w UNKN
 freshens-by {f} {w} {ou} {w′} {left} {x} e =
     subst (λ (v : List ℕ). Freshens f w ou left v ou x) (sym (e .1)) (subst (λ (y : ℕ). Freshens f w ou left (freshW w) ou y) (sym (e .0)) (freshens f w left))
 
-pub reports-by : {f w ou w′ ou′ : List ℕ} {n left : ℕ} (err : TyError) → Rejected w ou n (reportCode err) w′ ou′ → Reports f w ou n err left w′ ou′
+pub reports-by : {f w ou w′ ou′ : List ℕ} {n left : ℕ} (err : TyError) → Rejected f w ou n (reportCode err) w′ ou′ → Reports f w ou n err left w′ ou′
 reports-by {f} {w} {n = n} {left = left} err x = reports f w n err left x
 
 pub rolls-by : {f w ou w′ : List ℕ} {undo env u e : ℕ} → undo ≡ u → env ≡ e → Rewinds w undo env w′ → RollsTo f w ou u e w′ ou
@@ -57,21 +57,21 @@ rolls-by {f} {w} {ou} {w′} {undo} {env} {u} {e} p q r =
 pub cuts-by : {f w ou w′ : List ℕ} {scope : ℕ} → w′ ≡ set w ENV-LEN scope → Cuts f w ou scope w′ ou
 cuts-by {f} {w} {ou} {w′} {scope} e = subst (λ (v : List ℕ). Cuts f w ou scope v ou) (sym e) (cuts f w scope)
 
-pub fuzzes-by : {f w ou w₁ ou₁ w₂ ou₂ : List ℕ} {n left : ℕ} (term distance : ℕ) → RejectedIf w ou n Code.RejectFuzzyDistance w₁ ou₁ (farW w distance) → RejectedIf w₁ ou₁ n Code.RejectFuzzyTerm w₂ ou₂ (longW w₁ term) → Fuzzes f w ou n term distance left w₂ ou₂
+pub fuzzes-by : {f w ou w₁ ou₁ w₂ ou₂ : List ℕ} {n left : ℕ} (term distance : ℕ) → RejectedIf f w ou n Code.RejectFuzzyDistance w₁ ou₁ (farW w distance) → RejectedIf f w₁ ou₁ n Code.RejectFuzzyTerm w₂ ou₂ (longW w₁ term) → Fuzzes f w ou n term distance left w₂ ou₂
 fuzzes-by {f} {w} {n = n} {left = left} term distance p q = fuzzes f w n term distance left p q
 
 pub key-by : {f w : List ℕ} {p : ℕ} {r : Bound} → r ≡ keyTyW w p → KeyIs f w p r
 key-by {f} {w} {p} e = subst (λ (b : Bound). KeyIs f w p b) (sym e) (key-is f w p)
 
 -- ---- An access by its field
-pub key-on : {f w ou w′ ou′ : List ℕ} {n left : ℕ} {t : Ty} {r : Typed} (name : ℕ) → KeyOf w ou n name t left w′ ou′ r
+pub key-on : {f w ou w′ ou′ : List ℕ} {n left : ℕ} {t : Ty} {r : Typed} (name : ℕ) → KeyOf f w ou n name t left w′ ou′ r
     → OnType (λ d ty. Check.accessOf (d .schema) (nodesOf d) n (FieldRef.Key name) ty) f w ou n t left w′ ou′ r
 unfolding Check.accessOf
-key-on {f} name k = k .is f
+key-on name k = k
 
-pub value-on : {f w ou w′ ou′ : List ℕ} {n left : ℕ} {t : Ty} {r : Typed} → ValueOf w ou n t left w′ ou′ r → OnType (λ d ty. Check.accessOf (d .schema) (nodesOf d) n FieldRef.Value ty) f w ou n t left w′ ou′ r
+pub value-on : {f w ou w′ ou′ : List ℕ} {n left : ℕ} {t : Ty} {r : Typed} → ValueOf f w ou n t left w′ ou′ r → OnType (λ d ty. Check.accessOf (d .schema) (nodesOf d) n FieldRef.Value ty) f w ou n t left w′ ou′ r
 unfolding Check.accessOf
-value-on {f} v = v .is f
+value-on v = v
 
 -- ---- Parts read from the file
 pub item-falls : (f : List ℕ) (l : Items) (i : ℕ) {e : ℕ} → (0 < l .n → 0 < l .below) → i < l .n → e ≡ itemW f l i → e < l .below

@@ -29,7 +29,7 @@ use Rattle.meaning.proofs.Meets.{Went, made-trans, reached-trans}
 use Rattle.meaning.proofs.Steps.{no-thing, one-diagnostic, Nothing, IsSide, unify-meets, rolled-meets}
 use Rattle.meaning.proofs.Visits.{Good, size-pos}
 use Rattle.state.specs.Lines.{Told}
-use Rattle.state.specs.Runs.{Runs, diagnosticsOf}
+use Rattle.state.specs.Runs.{Runs}
 use Rattle.steps.specs.declared.Typed.{Typed}
 use Rattle.steps.specs.declared.Typed.the-variants as Typed
 use Rattle.steps.specs.declared.Done.{Done}
@@ -200,14 +200,6 @@ module _ {f w ou w₁ ou₁ : List ℕ} {n left : ℕ} {t : Ty} {r : Typed} (I :
               (unify-ends a fine fine₁ (begins-part (only no-thing) (only one-diagnostic) (holds-left (only no-thing) (only one-diagnostic) (only one-diagnostic) unify-fits) s₂))))
 
 -- ---- A field in a scope of its own
-count-length : (nodes : List Node) (w : List ℕ) (n : ℕ) → length (diagnosticsOf nodes w n) ≡ n
-unfolding diagnosticsOf
-count-length nodes w zero = refl
-count-length nodes w (suc n) = ap suc (count-length nodes w n)
-
-pub count-is : {f w : List ℕ} {T : Rows} {d : Described} {c : Checker} → Runs f w T d c → length (c .diagnostics) ≡ getD w DIAGNOSTIC-COUNT 0
-count-is {w = w} {d = d} r = ap length (r .diagnostics) ∙ count-length (nodesOf d) w (getD w DIAGNOSTIC-COUNT 0)
-
 -- Whether a diagnostic arose.
 abbrev closing : Bool → Mark → Does (Unit {0})
 closing true m c = rollback m c
@@ -245,7 +237,7 @@ module _ {f w ou w₁ ou₁ : List ℕ} {n left : ℕ} {t : Ty} {r : Done} (C : 
         is = λ T c s fine.
             rw (field-same d k n (tree T t) c) (then-done (checks (nodesOf d) k n) (only no-thing) (checks (nodesOf d) k n) (same-load (checks (nodesOf d) k n)) Nothing (below d k .check n (tree T t) c)
             (λ u b. closing (ltb (length (c .diagnostics)) (length (b .diagnostics))) (markOf c) b) g s (λ y. good s k .check n (tree T t) c (s .orderly) y (fine .side)) (λ s₁. C .is d k named .is T c s₁ fine)
-            (λ T₁ b a. rw (le-ltb (length (c .diagnostics)) (length (b .diagnostics)) (omega (arith, h, count-is (s .runs), count-is (a .begins .runs)))) (on-here (a .begins .runs) (a .begins .lines) (a .begins .visits))));
+            (λ T₁ b a. rw (le-ltb (length (c .diagnostics)) (length (b .diagnostics)) (omega (arith, h, s .runs .diagnostics, a .begins .runs .diagnostics))) (on-here (a .begins .runs) (a .begins .lines) (a .begins .visits))));
       };
     }
 
@@ -261,5 +253,5 @@ module _ {f w ou w₁ ou₁ : List ℕ} {n left : ℕ} {t : Ty} {r : Done} (C : 
         back : {T : Rows} {d : Described} {c : Checker} (k : ℕ) → Begins f w ou T d (checks (nodesOf d) k n) left c → Led f w ou w₁ ou₁ T d (checks (nodesOf d) k n) (done r) Nothing c (below d k .check n (tree T t) c)
             → Ends f w ou w₂ ou₂ T d (checks (nodesOf d) k n .records) (checks (nodesOf d) k n .fields) (done (Done.On l)) (checkField (d .schema) (nodesOf d) (below d k) n (tree T t) c)
         back {T} {d} {c} k s L =
-            rw (field-same d k n (tree T t) c, L .is, lt-ltb (length (c .diagnostics)) (length (L .b .diagnostics)) (omega (arith, h, count-is (s .runs), count-is (L .gone .runs))))
+            rw (field-same d k n (tree T t) c, L .is, lt-ltb (length (c .diagnostics)) (length (L .b .diagnostics)) (omega (arith, h, s .runs .diagnostics, L .gone .runs .diagnostics)))
             (silent-on (rolled-ends (checks (nodesOf d) k n) Nothing s (L .gone) (L .went) (cc (g, L .gone .is)) R))

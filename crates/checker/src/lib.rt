@@ -67,7 +67,7 @@ fn infer_all(f: &[u8], w: &mut [u32], items: Items, with: Ty, left: u32, out: &m
         let r = infer(f, w, e, rest, out);
         match r {
             Typed::Got(t, l) => {
-                let d = steps::unify_at(w, e, t, with, l, out);
+                let d = steps::unify_at(f, w, e, t, with, l, out);
                 match d {
                     Done::On(m) => {
                         rest = m;
@@ -128,8 +128,8 @@ fn infer_kind(f: &[u8], w: &mut [u32], n: u32, left: u32, out: &mut [u8]) -> Typ
         Node::Str => Typed::Got(Ty::Str, left),
         Node::Prefix(_) => Typed::Got(Ty::Str, left),
         Node::Fuzzy(term, distance) => {
-            steps::fuzzy_distance(w, n, distance, out);
-            steps::fuzzy_term(w, n, term, out);
+            steps::fuzzy_distance(f, w, n, distance, out);
+            steps::fuzzy_term(f, w, n, term, out);
             Typed::Got(Ty::Str, left)
         }
         Node::Wildcard => Typed::Got(Ty::Var(cells::fresh_var_id(w)), left),
@@ -141,21 +141,21 @@ fn infer_kind(f: &[u8], w: &mut [u32], n: u32, left: u32, out: &mut [u8]) -> Typ
         Node::Key(name, base) => {
             let r = infer(f, w, base, left, out);
             match r {
-                Typed::Got(t, l) => steps::key_of(w, n, name, cells::repr(w, t), l, out),
+                Typed::Got(t, l) => steps::key_of(f, w, n, name, cells::repr(w, t), l, out),
                 Typed::Out => Typed::Out,
             }
         }
         Node::Value(base) => {
             let r = infer(f, w, base, left, out);
             match r {
-                Typed::Got(t, l) => steps::value_of(w, n, cells::repr(w, t), l, out),
+                Typed::Got(t, l) => steps::value_of(f, w, n, cells::repr(w, t), l, out),
                 Typed::Out => Typed::Out,
             }
         }
         Node::Select(name, base) => {
             let r = infer(f, w, base, left, out);
             match r {
-                Typed::Got(t, l) => steps::select_of(w, n, name, cells::repr(w, t), l, out),
+                Typed::Got(t, l) => steps::select_of(f, w, n, name, cells::repr(w, t), l, out),
                 Typed::Out => Typed::Out,
             }
         }
@@ -194,7 +194,7 @@ fn infer_then_unify(f: &[u8], w: &mut [u32], n: u32, expected: Ty, left: u32, ou
                 Unified::Good(m) => Done::On(m),
                 Unified::Bad(err, m) => {
                     steps::rollback(w, undo, env);
-                    steps::report(w, n, err, out);
+                    steps::report(f, w, n, err, out);
                     Done::On(m)
                 }
                 Unified::Spent => Done::Out,
@@ -227,7 +227,7 @@ fn check_field(f: &[u8], w: &mut [u32], c: u32, name: u32, value: u32, left: u32
             }
         }
         Found::Nothing => {
-            reject(w, value, Code::RejectUnknownField, out);
+            reject(f, w, value, Code::RejectUnknownField, out);
             Done::On(left)
         }
     }
@@ -261,7 +261,7 @@ fn check_union(f: &[u8], w: &mut [u32], n: u32, items: Items, c: u32, left: u32,
     ensures { λ r. ⌜ ChecksUnion (now (f .entry)) (now (w .entry)) (now (out .entry)) n items c left (now (w .exit)) (now (out .exit)) r ⌝ }
 {
     if items.n != 1 {
-        reject(w, n, Code::RejectUnionArity, out);
+        reject(f, w, n, Code::RejectUnionArity, out);
         return Done::On(left);
     }
     let e = tree::field_at(f, items, 0);
@@ -279,7 +279,7 @@ fn check_union(f: &[u8], w: &mut [u32], n: u32, items: Items, c: u32, left: u32,
             }
         }
         Found::Nothing => {
-            reject(w, n, Code::RejectUnknownAlternative, out);
+            reject(f, w, n, Code::RejectUnknownAlternative, out);
             Done::On(left)
         }
     }
@@ -379,7 +379,7 @@ fn bind_name(f: &[u8], w: &mut [u32], symbol: u32, lhs: u32, rhs: u32, left: u32
     cells::annotate(w, lhs, Ty::Var(var));
     let r = infer(f, w, rhs, left, out);
     match r {
-        Typed::Got(t, l) => steps::unify_at(w, rhs, t, Ty::Var(var), l, out),
+        Typed::Got(t, l) => steps::unify_at(f, w, rhs, t, Ty::Var(var), l, out),
         Typed::Out => Done::Out,
     }
 }
@@ -387,7 +387,7 @@ fn bind_name(f: &[u8], w: &mut [u32], symbol: u32, lhs: u32, rhs: u32, left: u32
 fn not_yet(f: &[u8], w: &mut [u32], lhs: u32, rhs: u32, left: u32, out: &mut [u8]) -> Done
     ensures { λ r. ⌜ NotYets (now (f .entry)) (now (w .entry)) (now (out .entry)) lhs rhs left (now (w .exit)) (now (out .exit)) r ⌝ }
 {
-    reject(w, lhs, Code::NyiBindUnification, out);
+    reject(f, w, lhs, Code::NyiBindUnification, out);
     let r = infer(f, w, lhs, left, out);
     match r {
         Typed::Got(_, l) => only(infer(f, w, rhs, l, out)),
@@ -403,7 +403,7 @@ fn destructure(f: &[u8], w: &mut [u32], lhs: u32, rhs: u32, left: u32, out: &mut
         Typed::Got(pattern, l) => {
             let v = infer(f, w, rhs, l, out);
             match v {
-                Typed::Got(value, m) => steps::unify_at(w, rhs, value, pattern, m, out),
+                Typed::Got(value, m) => steps::unify_at(f, w, rhs, value, pattern, m, out),
                 Typed::Out => Done::Out,
             }
         }
@@ -435,7 +435,7 @@ fn bind(f: &[u8], w: &mut [u32], lhs: u32, rhs: u32, left: u32, out: &mut [u8]) 
             }
         }
         Node::Int | Node::Str | Node::Bytes | Node::Prefix(_) => {
-            reject(w, lhs, Code::RejectBindLhs, out);
+            reject(f, w, lhs, Code::RejectBindLhs, out);
             only(infer(f, w, rhs, left, out))
         }
         Node::Error => only(infer(f, w, rhs, left, out)),
@@ -450,7 +450,7 @@ fn deny(f: &[u8], w: &mut [u32], lhs: u32, rhs: u32, left: u32, out: &mut [u8]) 
     match e {
         Node::Var(symbol) => bind_name(f, w, symbol, lhs, rhs, left, out),
         Node::Wildcard | Node::Int | Node::Str | Node::Bytes | Node::Prefix(_) => {
-            reject(w, lhs, Code::RejectBindLhs, out);
+            reject(f, w, lhs, Code::RejectBindLhs, out);
             only(infer(f, w, rhs, left, out))
         }
         Node::Error => only(infer(f, w, rhs, left, out)),
@@ -468,7 +468,7 @@ fn compare(f: &[u8], w: &mut [u32], lhs: u32, rhs: u32, left: u32, out: &mut [u8
         Typed::Got(a, l) => {
             let y = infer(f, w, rhs, l, out);
             match y {
-                Typed::Got(b, m) => steps::compare_types(w, lhs, rhs, a, b, m, out),
+                Typed::Got(b, m) => steps::compare_types(f, w, lhs, rhs, a, b, m, out),
                 Typed::Out => Done::Out,
             }
         }

@@ -53,7 +53,7 @@ report-code T (TyError.UnionMismatch d e g) = refl
 report-code T (TyError.UnknownField n) = refl
 report-code T TyError.Infinite = refl
 
-pub reports : (f w : List ℕ) {ou w′ ou′ : List ℕ} (n : ℕ) (err : TyError) (left : ℕ) → Rejected w ou n (reportCode err) w′ ou′ → Reports f w ou n err left w′ ou′
+pub reports : (f w : List ℕ) {ou w′ ou′ : List ℕ} (n : ℕ) (err : TyError) (left : ℕ) → Rejected f w ou n (reportCode err) w′ ou′ → Reports f w ou n err left w′ ou′
 unfolding Check.report
 reports f w n err left x d there = record { is = λ T c B u. rw (report-code T err) (reject-ends B n there (reportCode err) x) }
 
@@ -92,17 +92,17 @@ rolls f w {ou} {w′ = w′} X d left at p q = rw (← q) (back (rw (← p, ← 
 -- ---- Both bounds of a fuzzy pattern
 module _ {f w ou : List ℕ} {T : Rows} {d : Described} {left : ℕ} {c : Checker} (B : Begins f w ou T d (only one-diagnostic) left c) (n : ℕ) (there : n < length (nodesOf d)) where
   -- By a test.
-  reject-if-ends : (code : Code) {w′ ou′ : List ℕ} (b : Bool) → RejectedIf w ou n code w′ ou′ b
+  reject-if-ends : (code : Code) {w′ ou′ : List ℕ} (b : Bool) → RejectedIf f w ou n code w′ ou′ b
       → Ends f w ou w′ ou′ T d 0 0 (silent left) ((elim b as (λ b. Does (Unit {0})) [ true ↦ Check.reject (d .schema) (nodesOf d) n (codeOf code) | false ↦ (λ c. goes tt c) ]) c)
   reject-if-ends code true (reported x) = reject-ends B n there code x
   reject-if-ends code false (stayed p q) = rw (p, q) (ends-here tt c (B .runs) (B .lines) (B .visits))
 
-  distance-ends : (distance : ℕ) {w′ ou′ : List ℕ} → RejectedIf w ou n Code.RejectFuzzyDistance w′ ou′ (farW w distance) → Ends f w ou w′ ou′ T d 0 0 (silent left) (Check.fuzzyDistance (d .schema) (nodesOf d) n distance c)
+  distance-ends : (distance : ℕ) {w′ ou′ : List ℕ} → RejectedIf f w ou n Code.RejectFuzzyDistance w′ ou′ (farW w distance) → Ends f w ou w′ ou′ T d 0 0 (silent left) (Check.fuzzyDistance (d .schema) (nodesOf d) n distance c)
   unfolding Check.fuzzyDistance
   distance-ends zero (reported x) = reject-ends B n there Code.RejectFuzzyDistance x
   distance-ends (suc e) x = reject-if-ends Code.RejectFuzzyDistance (ltb (d .schema .maxDistance) (suc e)) (rw (ne-eqb (suc e) 0 (λ q. omega arith), B .runs .stands .schema .distance) at x)
 
-  term-ends : (term : ℕ) → term < length (d .schema .characters) → {w′ ou′ : List ℕ} → RejectedIf w ou n Code.RejectFuzzyTerm w′ ou′ (longW w term) → Ends f w ou w′ ou′ T d 0 0 (silent left) (Check.fuzzyTerm (d .schema) (nodesOf d) n term c)
+  term-ends : (term : ℕ) → term < length (d .schema .characters) → {w′ ou′ : List ℕ} → RejectedIf f w ou n Code.RejectFuzzyTerm w′ ou′ (longW w term) → Ends f w ou w′ ou′ T d 0 0 (silent left) (Check.fuzzyTerm (d .schema) (nodesOf d) n term c)
   unfolding Check.fuzzyTerm
   term-ends term name x = reject-if-ends Code.RejectFuzzyTerm (ltb (d .schema .maxTermChars) (getD (d .schema .characters) term 0)) (rw (B .runs .stands .schema .term, B .runs .stands .schema .characters term name) at x)
 
@@ -111,7 +111,7 @@ unfolding Check.fuzzyDistance
 distance-meets d n zero c o = reject-meets (d .schema) (nodesOf d) n _ c o
 distance-meets d n (suc e) c o = reject-if (d .schema) (nodesOf d) n _ c o (ltb (d .schema .maxDistance) (suc e))
 
-pub fuzzes : (f w : List ℕ) {ou w₁ ou₁ w₂ ou₂ : List ℕ} (n term distance left : ℕ) → RejectedIf w ou n Code.RejectFuzzyDistance w₁ ou₁ (farW w distance) → RejectedIf w₁ ou₁ n Code.RejectFuzzyTerm w₂ ou₂ (longW w₁ term) → Fuzzes f w ou n term distance left w₂ ou₂
+pub fuzzes : (f w : List ℕ) {ou w₁ ou₁ w₂ ou₂ : List ℕ} (n term distance left : ℕ) → RejectedIf f w ou n Code.RejectFuzzyDistance w₁ ou₁ (farW w distance) → RejectedIf f w₁ ou₁ n Code.RejectFuzzyTerm w₂ ou₂ (longW w₁ term) → Fuzzes f w ou n term distance left w₂ ou₂
 fuzzes f w n term distance left X Y d there name = record {
   is = λ T c B u.
       then-silent one one (only (record { nodes = λ x. 0; unknowns = 0; diagnostics = 2 })) (record { grade = record { nodes = λ x. omega arith; unknowns = omega arith; diagnostics = omega arith }; records = omega arith; fields = omega arith })

@@ -1,5 +1,5 @@
 -- How the steps outside of the cycle end: at once with a type in hand, or after one diagnostic. The room for it is the load's.
-use mathlib.Core.List.{List, _∷_}
+use mathlib.Core.List.{List, [], _∷_}
 use mathlib.Core.Option.{Option, none, some}
 use mathlib.Core.Path.{_≡_, refl, sym, subst, _∙_, ap}
 use native.Mathlib.Omega.{arith}
@@ -15,16 +15,16 @@ use Rattle.cells.specs.Words.{annotateW, freshW}
 use Rattle.cells.specs.Stands.{Rows, tree, Ok}
 use Rattle.cells.proofs.Holding.{annotate-keeps}
 use Rattle.cells.proofs.Frame.{more-refl}
-use Rattle.meaning.specs.Syntax.{Node}
 use Rattle.meaning.specs.Diag.{Diagnostic}
 use Rattle.meaning.specs.File.{Described}
 use Rattle.meaning.specs.Check as Check
-use Rattle.meaning.specs.Check.{Checker, Step, goes, andThen, lookupIn}
+use Rattle.meaning.specs.Check.{Checker, Step, goes, andThen, lookupIn, reversed}
+use Rattle.meaning.specs.Answer.{diagnosticLines}
 use Rattle.meaning.proofs.Steps.{one-diagnostic, same-self}
 use Rattle.state.specs.declared.Code.{Code}
 use Rattle.state.specs.Words.{codeOf, Introduces}
-use Rattle.state.specs.Lines.{linesOf, Lines, Told, Rejected}
-use Rattle.state.specs.Runs.{diagnosticsOf, Runs}
+use Rattle.state.specs.Lines.{Lines, Told, Rejected}
+use Rattle.state.specs.Runs.{Runs}
 use Rattle.state.proofs.Running.{grew-refl, annotate-runs, grew-slots, fresh-word, fresh-runs, fresh-grew}
 use Rattle.state.proofs.Scoping.{runs-env-length, Gives, introduce-runs}
 use Rattle.state.proofs.Lining.{lines-same}
@@ -35,14 +35,6 @@ use Rattle.steps.specs.Ends.{typed, silent, numbered, Ends, went}
 use Rattle.steps.specs.Loads.{only, Begins}
 use Rattle.steps.specs.Contracts.{nodesOf, Rejects, Notes, Freshens, Brings}
 
-diagnostics-length : (nodes : List Node) (w : List ℕ) (n : ℕ) → length (diagnosticsOf nodes w n) ≡ n
-unfolding diagnosticsOf
-diagnostics-length nodes w zero = refl
-diagnostics-length nodes w (suc n) = ap suc (diagnostics-length nodes w n)
-
-pub runs-diagnostics-length : {f w : List ℕ} {T : Rows} {d : Described} {c : Checker} → Runs f w T d c → length (c .diagnostics) ≡ getD w DIAGNOSTIC-COUNT 0
-runs-diagnostics-length {f} {w} {T} {d} R = ap (λ (ds : List Diagnostic). length ds) (R .diagnostics) ∙ diagnostics-length (d .ast .nodes) w (getD w DIAGNOSTIC-COUNT 0)
-
 module _ {f w ou : List ℕ} {T : Rows} {d : Described} {left : ℕ} {c : Checker} (B : Begins f w ou T d (only one-diagnostic) left c) where
   -- A type in hand comes back.
   pub ends-with : (t : Ty) (ty : Tree.Ty) → Ok w t → tree T t ≡ ty → Ends f w ou w ou T d 0 0 (typed w (Typed.Got t left)) (goes ty c)
@@ -50,25 +42,25 @@ module _ {f w ou : List ℕ} {T : Rows} {d : Described} {left : ℕ} {c : Checke
 
   module _ (n : ℕ) (there : n < length (nodesOf d)) (code : Code) where
     room : getD w DIAGNOSTIC-COUNT 0 < 1536
-    room = omega (arith, runs-diagnostics-length (B .runs), B .free .diagnostics)
+    room = omega (arith, B .runs .diagnostics, B .free .diagnostics)
 
-    pub reject-ends : {w′ ou′ : List ℕ} → Rejected w ou n code w′ ou′ → Ends f w ou w′ ou′ T d 0 0 (silent left) (Check.reject (d .schema) (nodesOf d) n (codeOf code) c)
+    pub reject-ends : {w′ ou′ : List ℕ} → Rejected f w ou n code w′ ou′ → Ends f w ou w′ ou′ T d 0 0 (silent left) (Check.reject (d .schema) (nodesOf d) n (codeOf code) c)
     unfolding Check.reject
-    reject-ends x = went (record { T′ = T; more = more-refl; runs = rejected-runs (B .sound) (B .runs) x room there; lines = rejected-lines (B .sound) (B .runs) x room there (B .lines); grew = rejected-grew (B .sound) (B .runs) x room there; is = B .visits })
+    reject-ends x = went (record { T′ = T; more = more-refl; runs = rejected-runs (B .sound) (B .runs) x room; lines = rejected-lines (B .sound) (B .runs) x room there (B .lines); grew = rejected-grew (B .sound) (B .runs) x room; is = B .visits })
 
     -- `reject_ty`
-    pub reject-ty-ends : {w′ ou′ : List ℕ} {r : Typed} → (r ≡ Typed.Got Error left) × (Rejected w ou n code w′ ou′) → Ends f w ou w′ ou′ T d 0 0 (typed w′ r) (Check.rejectTy (d .schema) (nodesOf d) n (codeOf code) c)
+    pub reject-ty-ends : {w′ ou′ : List ℕ} {r : Typed} → (r ≡ Typed.Got Error left) × (Rejected f w ou n code w′ ou′) → Ends f w ou w′ ou′ T d 0 0 (typed w′ r) (Check.rejectTy (d .schema) (nodesOf d) n (codeOf code) c)
     unfolding Check.rejectTy Check.reject andThen
     reject-ty-ends e = rw (e .0) (went (record {
       T′ = T;
       more = more-refl;
-      runs = rejected-runs (B .sound) (B .runs) (e .1) room there;
+      runs = rejected-runs (B .sound) (B .runs) (e .1) room;
       lines = rejected-lines (B .sound) (B .runs) (e .1) room there (B .lines);
-      grew = rejected-grew (B .sound) (B .runs) (e .1) room there;
+      grew = rejected-grew (B .sound) (B .runs) (e .1) room;
       is = record { t = Error; res = ap (Typed.Got Error) (sym (B .visits)); ok = tt; is = refl };
     }))
 
-pub rejects : (f w : List ℕ) {ou w′ ou′ : List ℕ} (n : ℕ) (code : Code) (left : ℕ) → Rejected w ou n code w′ ou′ → Rejects f w ou n (codeOf code) left w′ ou′
+pub rejects : (f w : List ℕ) {ou w′ ou′ : List ℕ} (n : ℕ) (code : Code) (left : ℕ) → Rejected f w ou n code w′ ou′ → Rejects f w ou n (codeOf code) left w′ ou′
 rejects f w n code left x d there = record { is = λ T c B u. reject-ends B n there code x }
 
 -- ---- A node's type, and a new unknown
@@ -92,7 +84,7 @@ freshens f w left d = record {
 
 -- ---- A variable's unknown
 given : {f w ou w′ : List ℕ} {T : Rows} {d : Described} {left x : ℕ} (c : Checker) (s : Step ℕ) → c .state .left ≡ left → Told w ou c → Gives f w w′ T d c s x → ((b : Checker) → s ≡ goes x b → b .state .left ≡ c .state .left) → Ends f w ou w′ ou T d 0 0 (numbered x left) s
-given {w = w} {ou} {w′} c s v t G same = rw (G .step) (went (record { T′ = _; more = more-refl; runs = G .runs; lines = subst (λ (ds : List Diagnostic). Lines w′ ou (linesOf ds)) (sym (G .reported)) (lines-same (G .unlined) t); grew = G .grew; is = (refl, same (G .after) (G .step) ∙ v) }))
+given {w = w} {ou} {w′} c s v t G same = rw (G .step) (went (record { T′ = _; more = more-refl; runs = G .runs; lines = subst (λ (ds : List Diagnostic). Lines w′ ou (diagnosticLines (reversed ds []))) (sym (G .reported)) (lines-same (G .unlined) t); grew = G .grew; is = (refl, same (G .after) (G .step) ∙ v) }))
 
 introduce-left : (symbol x : ℕ) (c b : Checker) → Check.introduce symbol c ≡ goes x b → b .state .left ≡ c .state .left
 unfolding Check.introduce Check.lookup Check.freshVarId Check.pushEnv Check.withState andThen Bindings.fresh

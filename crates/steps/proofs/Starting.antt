@@ -6,10 +6,10 @@ use native.Mathlib.Decide.{ℕ-discrete}
 use native.Mathlib.Omega.{arith}
 use Prim.Native.Nat.{ℕ, zero, suc, _+_, _*_, _≤_, _<_}
 use lib.ListN.{getD, set}
-use Rattle.work.specs.Layout.{RECORD-COUNT, RECORD-FIELD-COUNT, ENV-LEN, DIAGNOSTIC-COUNT, UNKNOWNS, TYS, UNDO-LEN, END}
+use Rattle.work.specs.Layout.{RECORD-COUNT, RECORD-FIELD-COUNT, ENV-LEN, DIAGNOSTIC-COUNT, UNKNOWNS, PLACE, PLACE-HIGH, FULL, TYS, UNDO-LEN, END}
 use Rattle.cells.specs.Stands.{Keeps}
 use Rattle.cells.proofs.Frame.{keeps-refl, keeps-trans, keeps-wider, keeps-set}
-use Rattle.state.specs.Lines.{PLACE, PLACE-HIGH, FULL, AFTER-FULL}
+use Rattle.state.specs.Lines.{AFTER-FULL}
 use Rattle.meaning.specs.Check.{begin}
 use Rattle.state.proofs.Starting.{Started, start-runs}
 use Rattle.state.proofs.Lined.{place-runs, no-lines}

@@ -32,8 +32,8 @@ use Rattle.steps.specs.declared.Done.{Done}
 use Rattle.steps.specs.declared.Done.the-variants as Done
 use Rattle.steps.specs.Ends.{IsUnified, unified, done, silent, Gone, Ends, spent}
 use Rattle.steps.specs.Loads.{only, both, Holds, Begins}
-use Rattle.steps.specs.Contracts.{Fine, UnifiesTo, compareTypes}
-use Rattle.steps.specs.Outside.{reportCode, Unites, ComparesOrder, ComparesBoth}
+use Rattle.steps.specs.Contracts.{Fine, UnifiesTo, compareTypes, UnifiesAt, ComparesTypes}
+use Rattle.steps.specs.Outside.{reportCode, ComparesOrder}
 use Rattle.steps.proofs.Growing.{grew-refl}
 use Rattle.steps.proofs.Sequel.{then-ends, stop-ends, ends-here, begins-after}
 use Rattle.steps.proofs.Results.{After, tree-after, fine-after, with-visits, on-here, silent-on}
@@ -80,20 +80,20 @@ module _ {f w ou w₁ ou₁ : List ℕ} {got expected : Ty} {left : ℕ} {r : Un
       never R (some y) v i = clash (cc (e, i .1))
 
 -- ---- `unify_at`
-module _ {w ou w₁ : List ℕ} (n : ℕ) {got expected : Ty} {left : ℕ} {r : Unified} (U : Unifies w got expected left w₁ r) where
-  pub unite-good : {l : ℕ} → r ≡ Unified.Good l → Unites w ou n got expected left w₁ ou (Done.On l)
+module _ {f w ou w₁ : List ℕ} (n : ℕ) {got expected : Ty} {left : ℕ} {r : Unified} (U : Unifies w got expected left w₁ r) where
+  pub unite-good : {l : ℕ} → r ≡ Unified.Good l → UnifiesAt f w ou n got expected left w₁ ou (Done.On l)
   unfolding Check.unifyAt
-  unite-good e = record { is = λ f. record { is = λ d there. record { is = λ T c B fine. then-good (unifies f w U) B fine _ e (λ T₁ b a. on-here (a .begins .runs) (a .begins .lines) (a .begins .visits)) } } }
+  unite-good e = record { is = λ d there. record { is = λ T c B fine. then-good (unifies f w U) B fine _ e (λ T₁ b a. on-here (a .begins .runs) (a .begins .lines) (a .begins .visits)) } }
 
-  pub unite-bad : {err : TyError} {l : ℕ} → r ≡ Unified.Bad err l → {w₂ ou₂ : List ℕ} → Rejected w₁ ou n (reportCode err) w₂ ou₂ → Unites w ou n got expected left w₂ ou₂ (Done.On l)
+  pub unite-bad : {err : TyError} {l : ℕ} → r ≡ Unified.Bad err l → {w₂ ou₂ : List ℕ} → Rejected f w₁ ou n (reportCode err) w₂ ou₂ → UnifiesAt f w ou n got expected left w₂ ou₂ (Done.On l)
   unfolding Check.unifyAt
   unite-bad {err} {l} e q = (record {
-    is = λ f. record { is = λ d there. record { is = λ T c B fine. then-bad (unifies f w U) B fine _ e (λ T₁ b a. silent-on (reports f w₁ n err l q d there .is T₁ b (a .begins) tt)) } };
+    is = λ d there. record { is = λ T c B fine. then-bad (unifies f w U) B fine _ e (λ T₁ b a. silent-on (reports f w₁ n err l q d there .is T₁ b (a .begins) tt)) };
   })
 
-  pub unite-spent : r ≡ Unified.Spent → Unites w ou n got expected left w₁ ou Done.Out
+  pub unite-spent : r ≡ Unified.Spent → UnifiesAt f w ou n got expected left w₁ ou Done.Out
   unfolding Check.unifyAt
-  unite-spent e = record { is = λ f. record { is = λ d there. record { is = λ T c B fine. then-spent (unifies f w U) B fine _ e refl } } }
+  unite-spent e = record { is = λ d there. record { is = λ T c B fine. then-spent (unifies f w U) B fine _ e refl } }
 
 -- ---- `compare_order`
 
@@ -106,24 +106,24 @@ module _ {f w ou : List ℕ} {T : Rows} {d : Described} {left : ℕ} {c : Checke
   unfolding Check.withState Bindings.withLeft
   leaving-runs = runs-slots (B .sound) (B .runs) keeps-refl (holds-left (B .runs .holds) v) refl
 
-module _ {w ou : List ℕ} (lhs : ℕ) {t : Ty} {left : ℕ} {r : Asked} (O : IsOrderable w t left r) where
-  answered : {f : List ℕ} {T : Rows} {d : Described} {c : Checker} → Begins f w ou T d (only one-diagnostic) left c → Fine w t T c → answerOf r ≡ Unify.orderable (Bindings.zonk (c .state .subst) (tree T t)) (c .state .left)
+module _ {f w ou : List ℕ} (lhs : ℕ) {t : Ty} {left : ℕ} {r : Asked} (O : IsOrderable w t left r) where
+  answered : {T : Rows} {d : Described} {c : Checker} → Begins f w ou T d (only one-diagnostic) left c → Fine w t T c → answerOf r ≡ Unify.orderable (Bindings.zonk (c .state .subst) (tree T t)) (c .state .left)
   answered {T = T} {c = c} B fine = rw (B .visits) (O .is T (c .state .subst) (B .runs .holds .cells) (B .runs .holds .binds) (B .runs .holds .acyclic) (fine .ok))
 
-  pub order-yes : {l : ℕ} → r ≡ Asked.Yes l → ComparesOrder w ou lhs t left w ou (Done.On l)
+  pub order-yes : {l : ℕ} → r ≡ Asked.Yes l → ComparesOrder f w ou lhs t left w ou (Done.On l)
   unfolding Check.compareOrder Check.orderable Check.ordered andThen Bindings.withLeft
   order-yes {l} e = record {
-    is = λ f d there. record {
+    is = λ d there. record {
       is = λ T c B fine.
           let q : yes-left l ≡ Unify.orderable (Bindings.zonk (c .state .subst) (tree T t)) (c .state .left) = rw e at (answered B fine) in
           rw (← q) (ends-here tt (leaving c l) (leaving-runs B l) (B .lines) refl);
     };
   }
 
-  pub order-no : {l : ℕ} → r ≡ Asked.No l → {w′ ou′ : List ℕ} → Rejected w ou lhs Code.RejectTypeMismatch w′ ou′ → ComparesOrder w ou lhs t left w′ ou′ (Done.On l)
+  pub order-no : {l : ℕ} → r ≡ Asked.No l → {w′ ou′ : List ℕ} → Rejected f w ou lhs Code.RejectTypeMismatch w′ ou′ → ComparesOrder f w ou lhs t left w′ ou′ (Done.On l)
   unfolding Check.compareOrder Check.orderable Check.ordered andThen Bindings.withLeft
   order-no {l} e p = (record {
-    is = λ f d there. record {
+    is = λ d there. record {
       is = λ T c B fine.
           let q : no-left l ≡ Unify.orderable (Bindings.zonk (c .state .subst) (tree T t)) (c .state .left) = rw e at (answered B fine) in
           let m : Meets Nothing no-thing c (goes false (leaving c l)) = rw (← q) at (orderable-meets (tree T t) c (B .orderly)) in
@@ -132,13 +132,13 @@ module _ {w ou : List ℕ} (lhs : ℕ) {t : Ty} {left : ℕ} {r : Asked} (O : Is
     };
   })
     where
-      begun : {f : List ℕ} {T : Rows} {d : Described} {c b : Checker} → Begins f w ou T d (only one-diagnostic) left c → (g : Gone f w ou w ou T d 0 0 (silent (b .state .left)) tt b) → Went Nothing no-thing c false b → Begins f w ou (g .T′) d (only one-diagnostic) (b .state .left) b
+      begun : {T : Rows} {d : Described} {c b : Checker} → Begins f w ou T d (only one-diagnostic) left c → (g : Gone f w ou w ou T d 0 0 (silent (b .state .left)) tt b) → Went Nothing no-thing c false b → Begins f w ou (g .T′) d (only one-diagnostic) (b .state .left) b
       begun B g v = begins-after (only no-thing) (only one-diagnostic) (only one-diagnostic) Nothing then-one g (record { orderly = v .orderly; made = v .made; reached = v .reached; holds = tt }) B
 
-  pub order-spent : r ≡ Asked.Spent → ComparesOrder w ou lhs t left w ou Done.Out
+  pub order-spent : r ≡ Asked.Spent → ComparesOrder f w ou lhs t left w ou Done.Out
   unfolding Check.compareOrder Check.orderable Check.ordered andThen Bindings.withLeft
   order-spent e = record {
-    is = λ f d there. record {
+    is = λ d there. record {
       is = λ T c B fine.
           let q : Bindings.spent ≡ Unify.orderable (Bindings.zonk (c .state .subst) (tree T t)) (c .state .left) = rw e at (answered B fine) in
           rw (← q) (spent refl);
@@ -146,23 +146,21 @@ module _ {w ou : List ℕ} (lhs : ℕ) {t : Ty} {left : ℕ} {r : Asked} (O : Is
   }
 
 -- ---- `compare_types`
-module _ {w ou w₁ : List ℕ} (lhs rhs : ℕ) {a b : Ty} {left : ℕ} {r : Unified} (U : Unifies w b a left w₁ r) where
-  pub compare-good : {l : ℕ} → r ≡ Unified.Good l → {w₂ ou₂ : List ℕ} {x : Done} → ComparesOrder w₁ ou lhs a l w₂ ou₂ x → ComparesBoth w ou lhs rhs a b left w₂ ou₂ x
+module _ {f w ou w₁ : List ℕ} (lhs rhs : ℕ) {a b : Ty} {left : ℕ} {r : Unified} (U : Unifies w b a left w₁ r) where
+  pub compare-good : {l : ℕ} → r ≡ Unified.Good l → {w₂ ou₂ : List ℕ} {x : Done} → ComparesOrder f w₁ ou lhs a l w₂ ou₂ x → ComparesTypes f w ou lhs rhs a b left w₂ ou₂ x
   unfolding compareTypes
   compare-good e O = record {
-    is = λ f. record {
-      is = λ d here there. record {
-        is = λ T c B fine. then-good (unifies f w U) B (fine .1, fine .0) _ e (λ T₁ b₁ s. rw (← tree-after s a (fine .0 .ok)) (O .is f d here .is T₁ b₁ (s .begins) (fine-after s a (fine .0))));
-      };
+    is = λ d here there. record {
+      is = λ T c B fine. then-good (unifies f w U) B (fine .1, fine .0) _ e (λ T₁ b₁ s. rw (← tree-after s a (fine .0 .ok)) (O .is d here .is T₁ b₁ (s .begins) (fine-after s a (fine .0))));
     };
   }
 
-  pub compare-bad : {err : TyError} {l : ℕ} → r ≡ Unified.Bad err l → {w₂ ou₂ : List ℕ} → Rejected w₁ ou rhs (reportCode err) w₂ ou₂ → ComparesBoth w ou lhs rhs a b left w₂ ou₂ (Done.On l)
+  pub compare-bad : {err : TyError} {l : ℕ} → r ≡ Unified.Bad err l → {w₂ ou₂ : List ℕ} → Rejected f w₁ ou rhs (reportCode err) w₂ ou₂ → ComparesTypes f w ou lhs rhs a b left w₂ ou₂ (Done.On l)
   unfolding compareTypes
   compare-bad {err} {l} e q = (record {
-    is = λ f. record { is = λ d here there. record { is = λ T c B fine. then-bad (unifies f w U) B (fine .1, fine .0) _ e (λ T₁ b₁ s. silent-on (reports f w₁ rhs err l q d there .is T₁ b₁ (s .begins) tt)) } };
+    is = λ d here there. record { is = λ T c B fine. then-bad (unifies f w U) B (fine .1, fine .0) _ e (λ T₁ b₁ s. silent-on (reports f w₁ rhs err l q d there .is T₁ b₁ (s .begins) tt)) };
   })
 
-  pub compare-spent : r ≡ Unified.Spent → ComparesBoth w ou lhs rhs a b left w₁ ou Done.Out
+  pub compare-spent : r ≡ Unified.Spent → ComparesTypes f w ou lhs rhs a b left w₁ ou Done.Out
   unfolding compareTypes
-  compare-spent e = record { is = λ f. record { is = λ d here there. record { is = λ T c B fine. then-spent (unifies f w U) B (fine .1, fine .0) _ e refl } } }
+  compare-spent e = record { is = λ d here there. record { is = λ T c B fine. then-spent (unifies f w U) B (fine .1, fine .0) _ e refl } }

@@ -105,7 +105,7 @@ module _ {f w ou : List ℕ} {n : ℕ} {nd : Node} (i : IsNode f w n nd) where
     };
   }
 
-  pub head-wildcard : nd ≡ Node.Wildcard → {w′ ou′ : List ℕ} → Rejected w ou n Code.RejectWildcardInHead w′ ou′ → ChecksHead f w ou n w′ ou′
+  pub head-wildcard : nd ≡ Node.Wildcard → {w′ ou′ : List ℕ} → Rejected f w ou n Code.RejectWildcardInHead w′ ou′ → ChecksHead f w ou n w′ ou′
   unfolding kindW formOf headForm
   head-wildcard e x = record {
     is = λ left d there. record {

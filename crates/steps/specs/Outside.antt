@@ -29,7 +29,7 @@ use Rattle.steps.specs.declared.Typed.{Typed}
 use Rattle.steps.specs.declared.Done.{Done}
 use Rattle.steps.specs.Ends.{done}
 use Rattle.steps.specs.Loads.{only, Beside}
-use Rattle.steps.specs.Contracts.{nodesOf, Fine, OnType, UnifiesAt, ComparesTypes, BringsSide, Heads, Starts}
+use Rattle.steps.specs.Contracts.{nodesOf, Fine, OnType, BringsSide, Heads, Starts}
 
 -- ---- Words
 abbrev pub reportCode : TyError → Code
@@ -49,9 +49,9 @@ valueTyW w p =
     (pick (eqb (getD w (PREDICATES + p) 0 % 2) 1) (To (declaredW w (getD w (PREDICATES + p) 0 / 2 % 256))) Free) Free
 
 -- A diagnostic by a test.
-pub data RejectedIf (w ou : List ℕ) (n : ℕ) (code : Code) (w′ ou′ : List ℕ) : Bool → Type 0 where
-  reported : Rejected w ou n code w′ ou′ → RejectedIf w ou n code w′ ou′ true
-  stayed : w′ ≡ w → ou′ ≡ ou → RejectedIf w ou n code w′ ou′ false
+pub data RejectedIf (f w ou : List ℕ) (n : ℕ) (code : Code) (w′ ou′ : List ℕ) : Bool → Type 0 where
+  reported : Rejected f w ou n code w′ ou′ → RejectedIf f w ou n code w′ ou′ true
+  stayed : w′ ≡ w → ou′ ≡ ou → RejectedIf f w ou n code w′ ou′ false
 
 abbrev pub farW : List ℕ → ℕ → Bool
 farW w distance = pick (eqb distance 0) true (ltb (getD w MAX-DISTANCE 0) distance)
@@ -74,30 +74,21 @@ pub record Shadows (w : List ℕ) (p : ℕ) (r : Bool) : Type 0 where
   pub is : (f : List ℕ) (T : Rows) (d : Described) (c : Checker) → Runs f w T d c → r ≡ Check.keyShadowsValue (d .schema) (nodesOf d) p
 
 -- ---- Steps on the head of a type
-pub record OnHead (m : Described → Tree.Ty → Does Tree.Ty) (w ou : List ℕ) (n : ℕ) (t : Ty) (left : ℕ) (w′ ou′ : List ℕ) (r : Typed) : Type 0 where
-  pub is : (f : List ℕ) → OnType m f w ou n t left w′ ou′ r
+abbrev pub ValueOf : List ℕ → List ℕ → List ℕ → ℕ → Ty → ℕ → List ℕ → List ℕ → Typed → Type 0
+ValueOf f w ou n t left w′ ou′ r = OnType (λ d ty. Check.valueOf (d .schema) (nodesOf d) n ty) f w ou n t left w′ ou′ r
 
-abbrev pub ValueOf : List ℕ → List ℕ → ℕ → Ty → ℕ → List ℕ → List ℕ → Typed → Type 0
-ValueOf w ou n t left w′ ou′ r = OnHead (λ d ty. Check.valueOf (d .schema) (nodesOf d) n ty) w ou n t left w′ ou′ r
+abbrev pub FieldAt : List ℕ → List ℕ → List ℕ → ℕ → ℕ → Ty → ℕ → List ℕ → List ℕ → Typed → Type 0
+FieldAt f w ou n name t left w′ ou′ r = OnType (λ d ty. Check.fieldAt (d .schema) (nodesOf d) n name ty) f w ou n t left w′ ou′ r
 
-abbrev pub FieldAt : List ℕ → List ℕ → ℕ → ℕ → Ty → ℕ → List ℕ → List ℕ → Typed → Type 0
-FieldAt w ou n name t left w′ ou′ r = OnHead (λ d ty. Check.fieldAt (d .schema) (nodesOf d) n name ty) w ou n t left w′ ou′ r
+abbrev pub KeyOf : List ℕ → List ℕ → List ℕ → ℕ → ℕ → Ty → ℕ → List ℕ → List ℕ → Typed → Type 0
+KeyOf f w ou n name t left w′ ou′ r = OnType (λ d ty. Check.keyOf (d .schema) (nodesOf d) n name ty) f w ou n t left w′ ou′ r
 
-abbrev pub KeyOf : List ℕ → List ℕ → ℕ → ℕ → Ty → ℕ → List ℕ → List ℕ → Typed → Type 0
-KeyOf w ou n name t left w′ ou′ r = OnHead (λ d ty. Check.keyOf (d .schema) (nodesOf d) n name ty) w ou n t left w′ ou′ r
-
-abbrev pub SelectOf : List ℕ → List ℕ → ℕ → ℕ → Ty → ℕ → List ℕ → List ℕ → Typed → Type 0
-SelectOf w ou n name t left w′ ou′ r = OnHead (λ d ty. Check.selectOf (d .schema) (nodesOf d) n name ty) w ou n t left w′ ou′ r
+abbrev pub SelectOf : List ℕ → List ℕ → List ℕ → ℕ → ℕ → Ty → ℕ → List ℕ → List ℕ → Typed → Type 0
+SelectOf f w ou n name t left w′ ou′ r = OnType (λ d ty. Check.selectOf (d .schema) (nodesOf d) n name ty) f w ou n t left w′ ou′ r
 
 -- ---- Steps that spend visits
-pub record Unites (w ou : List ℕ) (n : ℕ) (got expected : Ty) (left : ℕ) (w′ ou′ : List ℕ) (r : Done) : Type 0 where
-  pub is : (f : List ℕ) → UnifiesAt f w ou n got expected left w′ ou′ r
-
-pub record ComparesOrder (w ou : List ℕ) (lhs : ℕ) (t : Ty) (left : ℕ) (w′ ou′ : List ℕ) (r : Done) : Type 0 where
-  pub is : (f : List ℕ) (d : Described) → lhs < length (nodesOf d) → Beside f w ou left w′ ou′ (done r) d (only one-diagnostic) (Fine w t) (λ T. Check.compareOrder (d .schema) (nodesOf d) lhs (tree T t))
-
-pub record ComparesBoth (w ou : List ℕ) (lhs rhs : ℕ) (a b : Ty) (left : ℕ) (w′ ou′ : List ℕ) (r : Done) : Type 0 where
-  pub is : (f : List ℕ) → ComparesTypes f w ou lhs rhs a b left w′ ou′ r
+pub record ComparesOrder (f w ou : List ℕ) (lhs : ℕ) (t : Ty) (left : ℕ) (w′ ou′ : List ℕ) (r : Done) : Type 0 where
+  pub is : (d : Described) → lhs < length (nodesOf d) → Beside f w ou left w′ ou′ (done r) d (only one-diagnostic) (Fine w t) (λ T. Check.compareOrder (d .schema) (nodesOf d) lhs (tree T t))
 
 -- ---- Steps on a node, which spend none
 pub record IntroducesSide (f w ou : List ℕ) (n : ℕ) (w′ ou′ : List ℕ) : Type 0 where

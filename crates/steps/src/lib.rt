@@ -6,8 +6,8 @@ ghost use Rattle.tree.specs.Nodes.{LowerItems};
 ghost use Rattle.state.specs.Lines.{Rejected};
 ghost use Rattle.state.specs.declared.Code.the-variants as Code;
 ghost use Rattle.steps.specs.declared.Typed.the-variants as Typed;
-ghost use Rattle.steps.specs.Outside.{reportCode, keyTyW, valueTyW, RejectedIf, farW, longW, Rewinds, FieldIs, Shadows, ValueOf, FieldAt, KeyOf, SelectOf, Unites, ComparesOrder, ComparesBoth, IntroducesSides, ChecksHead, countersW, Untypes, StartsRun};
-ghost use Rattle.steps.specs.Contracts.{Asks, AsksAll};
+ghost use Rattle.steps.specs.Outside.{reportCode, keyTyW, valueTyW, RejectedIf, farW, longW, Rewinds, FieldIs, Shadows, ValueOf, FieldAt, KeyOf, SelectOf, ComparesOrder, IntroducesSides, ChecksHead, countersW, Untypes, StartsRun};
+ghost use Rattle.steps.specs.Contracts.{UnifiesAt, ComparesTypes, Asks, AsksAll};
 use cells::Asked;
 use cells::Bound;
 use cells::Found;
@@ -38,21 +38,21 @@ pub enum Done {
 
 // ---- State
 
-pub fn reject_ty(w: &mut [u32], n: u32, code: Code, left: u32, out: &mut [u8]) -> Typed
-    ensures { λ r. ⌜ (r ≡ Typed.Got Ty.Error left) × Rejected (now (w .entry)) (now (out .entry)) n code (now (w .exit)) (now (out .exit)) ⌝ }
+pub fn reject_ty(f: &[u8], w: &mut [u32], n: u32, code: Code, left: u32, out: &mut [u8]) -> Typed
+    ensures { λ r. ⌜ (r ≡ Typed.Got Ty.Error left) × Rejected (now (f .entry)) (now (w .entry)) (now (out .entry)) n code (now (w .exit)) (now (out .exit)) ⌝ }
 {
-    reject(w, n, code, out);
+    reject(f, w, n, code, out);
     Typed::Got(Ty::Error, left)
 }
 
-pub fn report(w: &mut [u32], n: u32, err: TyError, out: &mut [u8])
-    ensures { λ _. ⌜ Rejected (now (w .entry)) (now (out .entry)) n (reportCode err) (now (w .exit)) (now (out .exit)) ⌝ }
+pub fn report(f: &[u8], w: &mut [u32], n: u32, err: TyError, out: &mut [u8])
+    ensures { λ _. ⌜ Rejected (now (f .entry)) (now (w .entry)) (now (out .entry)) n (reportCode err) (now (w .exit)) (now (out .exit)) ⌝ }
 {
     match err {
-        TyError::Mismatch(_, _) => reject(w, n, Code::RejectTypeMismatch, out),
-        TyError::UnionMismatch(_, _, _) => reject(w, n, Code::RejectTypeMismatch, out),
-        TyError::UnknownField(_) => reject(w, n, Code::RejectUnknownField, out),
-        TyError::Infinite => reject(w, n, Code::RejectInfiniteType, out),
+        TyError::Mismatch(_, _) => reject(f, w, n, Code::RejectTypeMismatch, out),
+        TyError::UnionMismatch(_, _, _) => reject(f, w, n, Code::RejectTypeMismatch, out),
+        TyError::UnknownField(_) => reject(f, w, n, Code::RejectUnknownField, out),
+        TyError::Infinite => reject(f, w, n, Code::RejectInfiniteType, out),
     }
 }
 
@@ -64,14 +64,14 @@ pub fn rollback(w: &mut [u32], undo: u32, env: u32)
 }
 
 // Unifies, and reports a failure at a node.
-pub fn unify_at(w: &mut [u32], n: u32, got: Ty, expected: Ty, left: u32, out: &mut [u8]) -> Done
-    ensures { λ r. ⌜ Unites (now (w .entry)) (now (out .entry)) n got expected left (now (w .exit)) (now (out .exit)) r ⌝ }
+pub fn unify_at(f: &[u8], w: &mut [u32], n: u32, got: Ty, expected: Ty, left: u32, out: &mut [u8]) -> Done
+    ensures { λ r. ⌜ UnifiesAt (now (f .entry)) (now (w .entry)) (now (out .entry)) n got expected left (now (w .exit)) (now (out .exit)) r ⌝ }
 {
     let r = cells::unify(w, got, expected, left);
     match r {
         Unified::Good(l) => Done::On(l),
         Unified::Bad(err, l) => {
-            report(w, n, err, out);
+            report(f, w, n, err, out);
             Done::On(l)
         }
         Unified::Spent => Done::Out,
@@ -79,28 +79,28 @@ pub fn unify_at(w: &mut [u32], n: u32, got: Ty, expected: Ty, left: u32, out: &m
 }
 
 // The two sides of a comparison agree: the type must have an order.
-pub fn compare_order(w: &mut [u32], lhs: u32, t: Ty, left: u32, out: &mut [u8]) -> Done
-    ensures { λ r. ⌜ ComparesOrder (now (w .entry)) (now (out .entry)) lhs t left (now (w .exit)) (now (out .exit)) r ⌝ }
+pub fn compare_order(f: &[u8], w: &mut [u32], lhs: u32, t: Ty, left: u32, out: &mut [u8]) -> Done
+    ensures { λ r. ⌜ ComparesOrder (now (f .entry)) (now (w .entry)) (now (out .entry)) lhs t left (now (w .exit)) (now (out .exit)) r ⌝ }
 {
     let o = cells::orderable(w, t, left);
     match o {
         Asked::Yes(l) => Done::On(l),
         Asked::No(l) => {
-            reject(w, lhs, Code::RejectTypeMismatch, out);
+            reject(f, w, lhs, Code::RejectTypeMismatch, out);
             Done::On(l)
         }
         Asked::Spent => Done::Out,
     }
 }
 
-pub fn compare_types(w: &mut [u32], lhs: u32, rhs: u32, a: Ty, b: Ty, left: u32, out: &mut [u8]) -> Done
-    ensures { λ r. ⌜ ComparesBoth (now (w .entry)) (now (out .entry)) lhs rhs a b left (now (w .exit)) (now (out .exit)) r ⌝ }
+pub fn compare_types(f: &[u8], w: &mut [u32], lhs: u32, rhs: u32, a: Ty, b: Ty, left: u32, out: &mut [u8]) -> Done
+    ensures { λ r. ⌜ ComparesTypes (now (f .entry)) (now (w .entry)) (now (out .entry)) lhs rhs a b left (now (w .exit)) (now (out .exit)) r ⌝ }
 {
     let u = cells::unify(w, b, a, left);
     match u {
-        Unified::Good(l) => compare_order(w, lhs, a, l, out),
+        Unified::Good(l) => compare_order(f, w, lhs, a, l, out),
         Unified::Bad(err, l) => {
-            report(w, rhs, err, out);
+            report(f, w, rhs, err, out);
             Done::On(l)
         }
         Unified::Spent => Done::Out,
@@ -173,57 +173,57 @@ pub fn key_shadows_value(w: &[u32], p: u32) -> bool
 
 // ---- Access and select, on the resolved base
 
-pub fn value_of(w: &mut [u32], n: u32, base: Ty, left: u32, out: &mut [u8]) -> Typed
-    ensures { λ r. ⌜ ValueOf (now (w .entry)) (now (out .entry)) n base left (now (w .exit)) (now (out .exit)) r ⌝ }
+pub fn value_of(f: &[u8], w: &mut [u32], n: u32, base: Ty, left: u32, out: &mut [u8]) -> Typed
+    ensures { λ r. ⌜ ValueOf (now (f .entry)) (now (w .entry)) (now (out .entry)) n base left (now (w .exit)) (now (out .exit)) r ⌝ }
 {
     match base {
         Ty::Error => Typed::Got(Ty::Error, left),
         Ty::Fact(p) => {
             if key_shadows_value(w, p) {
-                return reject_ty(w, n, Code::RejectValueShadowed, left, out);
+                return reject_ty(f, w, n, Code::RejectValueShadowed, left, out);
             }
             let value = value_ty(w, p);
             match value {
                 Bound::To(t) => Typed::Got(t, left),
-                Bound::Free => reject_ty(w, n, Code::RejectNoValue, left, out),
+                Bound::Free => reject_ty(f, w, n, Code::RejectNoValue, left, out),
             }
         }
-        Ty::Var(_) => reject_ty(w, n, Code::RejectUnresolvedAccess, left, out),
-        _ => reject_ty(w, n, Code::RejectTypeMismatch, left, out),
+        Ty::Var(_) => reject_ty(f, w, n, Code::RejectUnresolvedAccess, left, out),
+        _ => reject_ty(f, w, n, Code::RejectTypeMismatch, left, out),
     }
 }
 
-pub fn field_at(w: &mut [u32], n: u32, name: u32, t: Ty, left: u32, out: &mut [u8]) -> Typed
-    ensures { λ r. ⌜ FieldAt (now (w .entry)) (now (out .entry)) n name t left (now (w .exit)) (now (out .exit)) r ⌝ }
+pub fn field_at(f: &[u8], w: &mut [u32], n: u32, name: u32, t: Ty, left: u32, out: &mut [u8]) -> Typed
+    ensures { λ r. ⌜ FieldAt (now (f .entry)) (now (w .entry)) (now (out .entry)) n name t left (now (w .exit)) (now (out .exit)) r ⌝ }
 {
     let found = field_of(w, t, name);
     match found {
         Bound::To(u) => Typed::Got(u, left),
-        Bound::Free => reject_ty(w, n, Code::RejectUnknownField, left, out),
+        Bound::Free => reject_ty(f, w, n, Code::RejectUnknownField, left, out),
     }
 }
 
 // On a fact it is the key's field, and a fact of an absent predicate is an error without a diagnostic.
-pub fn key_of(w: &mut [u32], n: u32, name: u32, base: Ty, left: u32, out: &mut [u8]) -> Typed
-    ensures { λ r. ⌜ KeyOf (now (w .entry)) (now (out .entry)) n name base left (now (w .exit)) (now (out .exit)) r ⌝ }
+pub fn key_of(f: &[u8], w: &mut [u32], n: u32, name: u32, base: Ty, left: u32, out: &mut [u8]) -> Typed
+    ensures { λ r. ⌜ KeyOf (now (f .entry)) (now (w .entry)) (now (out .entry)) n name base left (now (w .exit)) (now (out .exit)) r ⌝ }
 {
     match base {
         Ty::Error => Typed::Got(Ty::Error, left),
         Ty::Fact(p) => {
             let key = key_ty(w, p);
             match key {
-                Bound::To(t) => field_at(w, n, name, t, left, out),
+                Bound::To(t) => field_at(f, w, n, name, t, left, out),
                 Bound::Free => Typed::Got(Ty::Error, left),
             }
         }
-        Ty::Record(_) => field_at(w, n, name, base, left, out),
-        Ty::Var(_) => reject_ty(w, n, Code::RejectUnresolvedAccess, left, out),
-        _ => reject_ty(w, n, Code::RejectTypeMismatch, left, out),
+        Ty::Record(_) => field_at(f, w, n, name, base, left, out),
+        Ty::Var(_) => reject_ty(f, w, n, Code::RejectUnresolvedAccess, left, out),
+        _ => reject_ty(f, w, n, Code::RejectTypeMismatch, left, out),
     }
 }
 
-pub fn select_of(w: &mut [u32], n: u32, name: u32, base: Ty, left: u32, out: &mut [u8]) -> Typed
-    ensures { λ r. ⌜ SelectOf (now (w .entry)) (now (out .entry)) n name base left (now (w .exit)) (now (out .exit)) r ⌝ }
+pub fn select_of(f: &[u8], w: &mut [u32], n: u32, name: u32, base: Ty, left: u32, out: &mut [u8]) -> Typed
+    ensures { λ r. ⌜ SelectOf (now (f .entry)) (now (w .entry)) (now (out .entry)) n name base left (now (w .exit)) (now (out .exit)) r ⌝ }
 {
     match base {
         Ty::Error => Typed::Got(Ty::Error, left),
@@ -234,31 +234,31 @@ pub fn select_of(w: &mut [u32], n: u32, name: u32, base: Ty, left: u32, out: &mu
                     let t = p.ty;
                     Typed::Got(t, left)
                 }
-                Found::Nothing => reject_ty(w, n, Code::RejectUnknownAlternative, left, out),
+                Found::Nothing => reject_ty(f, w, n, Code::RejectUnknownAlternative, left, out),
             }
         }
-        Ty::Var(_) => reject_ty(w, n, Code::RejectUnresolvedAccess, left, out),
-        _ => reject_ty(w, n, Code::RejectNotAUnion, left, out),
+        Ty::Var(_) => reject_ty(f, w, n, Code::RejectUnresolvedAccess, left, out),
+        _ => reject_ty(f, w, n, Code::RejectNotAUnion, left, out),
     }
 }
 
 // ---- Both bounds of a fuzzy pattern
 
-pub fn fuzzy_distance(w: &mut [u32], n: u32, distance: u32, out: &mut [u8])
-    ensures { λ _. ⌜ RejectedIf (now (w .entry)) (now (out .entry)) n Code.RejectFuzzyDistance (now (w .exit)) (now (out .exit)) (farW (now (w .entry)) distance) ⌝ }
+pub fn fuzzy_distance(f: &[u8], w: &mut [u32], n: u32, distance: u32, out: &mut [u8])
+    ensures { λ _. ⌜ RejectedIf (now (f .entry)) (now (w .entry)) (now (out .entry)) n Code.RejectFuzzyDistance (now (w .exit)) (now (out .exit)) (farW (now (w .entry)) distance) ⌝ }
 {
     if distance == 0 {
-        reject(w, n, Code::RejectFuzzyDistance, out);
+        reject(f, w, n, Code::RejectFuzzyDistance, out);
     } else if word(w, work::MAX_DISTANCE) < distance {
-        reject(w, n, Code::RejectFuzzyDistance, out);
+        reject(f, w, n, Code::RejectFuzzyDistance, out);
     }
 }
 
-pub fn fuzzy_term(w: &mut [u32], n: u32, term: u32, out: &mut [u8])
-    ensures { λ _. ⌜ RejectedIf (now (w .entry)) (now (out .entry)) n Code.RejectFuzzyTerm (now (w .exit)) (now (out .exit)) (longW (now (w .entry)) term) ⌝ }
+pub fn fuzzy_term(f: &[u8], w: &mut [u32], n: u32, term: u32, out: &mut [u8])
+    ensures { λ _. ⌜ RejectedIf (now (f .entry)) (now (w .entry)) (now (out .entry)) n Code.RejectFuzzyTerm (now (w .exit)) (now (out .exit)) (longW (now (w .entry)) term) ⌝ }
 {
     if word(w, work::MAX_TERM) < word(w, work::NAMES + wide(term)) % 512 {
-        reject(w, n, Code::RejectFuzzyTerm, out);
+        reject(f, w, n, Code::RejectFuzzyTerm, out);
     }
 }
 
@@ -283,7 +283,7 @@ pub fn check_head(f: &[u8], w: &mut [u32], n: u32, out: &mut [u8])
 {
     let e = tree::node_at(f, w, n);
     match e {
-        Node::Wildcard => reject(w, n, Code::RejectWildcardInHead, out),
+        Node::Wildcard => reject(f, w, n, Code::RejectWildcardInHead, out),
         _ => {}
     }
 }

@@ -1,4 +1,4 @@
--- Made from Proof.ans by tools/answers, 1198b32fbff2ad71.
+-- Made from Proof.ans by tools/answers, ef0e1edf90e25ca3.
 -- What a node names is lower, so the node falls, and on one node the rank of specs/Contracts.antt. Each arm is a law of its own.
 use Prim.Native.Nat.{ℕ, _<_, _+_, _-_, _*_, _≤_}
 use borrow.Fn.Kinds.{In}
@@ -1436,7 +1436,7 @@ bind-name-returns : (t : ℕ) → bind-name-lts.Need-returns (
   unify-at-reads.Asked,
   unify-at-reads.Learnt,
 ) (bind-name-at t) bind-name.Post
-bind-name-returns t c = variable-unified (brings _ _ _ _ _ _ (c .before .before .before .before .before .before .before .before .before .before .before .before .before .before .before .before .before .before .before .before .before .before .before .introduce .ensures)) (notes-by (c .before .before .before .before .before .before .before .before .before .before .before .before .before .before .before .before .before .before .before .annotate .ensures)) (c .before .before .before .before .before .before .before .before .before .before .before .before .before .before .infer .ensures) (c .before .before .before .before .before .before .before .before .r .given .1) (c .before .before .before .before .unify-at .ensures .is _)
+bind-name-returns t c = variable-unified (brings _ _ _ _ _ _ (c .before .before .before .before .before .before .before .before .before .before .before .before .before .before .before .before .before .before .before .before .before .before .before .introduce .ensures)) (notes-by (c .before .before .before .before .before .before .before .before .before .before .before .before .before .before .before .before .before .before .before .annotate .ensures)) (c .before .before .before .before .before .before .before .before .before .before .before .before .before .before .infer .ensures) (c .before .before .before .before .before .before .before .before .r .given .1) (c .before .before .before .before .unify-at .ensures)
 
 bind-name-same-length-3 : (t : ℕ) → bind-name-lts.Need-same-length-3 (
   introduce-reads.Asked,
@@ -3100,7 +3100,7 @@ compare-same-length : (t : ℕ) → compare-lts.Need-same-length (
   compare-types-reads.Asked,
   compare-types-reads.Learnt,
 ) (compare-at t) compare.Post
-compare-same-length t c = c .before .before .before .before .compare-types .kept .0 ∙ c .before .before .before .before .before .before .before .before .before .before .before .before .before .before .infer2 .kept .1 .0 ∙ c .before .before .before .before .before .before .before .before .before .before .before .before .before .before .before .before .before .before .before .before .before .before .before .before .infer .kept .1 .0 ∙ c .before .before .before .before .before .before .before .before .before .before .before .before .before .before .before .before .before .before .before .before .before .before .before .before .before .before .before .before .before .introduce-side2 .kept .1 .0 ∙ c .before .before .before .before .before .before .before .before .before .before .before .before .before .before .before .before .before .before .before .before .before .before .before .before .before .before .before .before .before .before .before .before .before .introduce-side .kept .1 .0
+compare-same-length t c = c .before .before .before .before .compare-types .kept .1 .0 ∙ c .before .before .before .before .before .before .before .before .before .before .before .before .before .before .infer2 .kept .1 .0 ∙ c .before .before .before .before .before .before .before .before .before .before .before .before .before .before .before .before .before .before .before .before .before .before .before .before .infer .kept .1 .0 ∙ c .before .before .before .before .before .before .before .before .before .before .before .before .before .before .before .before .before .before .before .before .before .before .before .before .before .before .before .before .before .introduce-side2 .kept .1 .0 ∙ c .before .before .before .before .before .before .before .before .before .before .before .before .before .before .before .before .before .before .before .before .before .before .before .before .before .before .before .before .before .before .before .before .before .introduce-side .kept .1 .0
 
 compare-same-length-2 : (t : ℕ) → compare-lts.Need-same-length-2 (
   introduce-side-reads.Asked,
@@ -3120,7 +3120,7 @@ compare-returns : (t : ℕ) → compare-lts.Need-returns (
   compare-types-reads.Asked,
   compare-types-reads.Learnt,
 ) (compare-at t) compare.Post
-compare-returns t c = compare-types (c .before .before .before .before .before .before .before .before .before .before .before .before .before .before .before .before .before .before .before .before .before .before .before .before .before .before .before .before .before .before .before .before .before .introduce-side .ensures .is _ .is _) (c .before .before .before .before .before .before .before .before .before .before .before .before .before .before .before .before .before .before .before .before .before .before .before .before .before .before .before .before .before .introduce-side2 .ensures .is _ .is _) (c .before .before .before .before .before .before .before .before .before .before .before .before .before .before .before .before .before .before .before .before .before .before .before .before .infer .ensures) (c .before .before .before .before .before .before .before .before .before .before .before .before .before .before .before .before .before .before .x .given .1) (c .before .before .before .before .before .before .before .before .before .before .before .before .before .before .infer2 .ensures) (c .before .before .before .before .before .before .before .before .y .given .1) (c .before .before .before .before .compare-types .ensures .is _)
+compare-returns t c = compare-types (c .before .before .before .before .before .before .before .before .before .before .before .before .before .before .before .before .before .before .before .before .before .before .before .before .before .before .before .before .before .before .before .before .before .introduce-side .ensures .is _ .is _) (c .before .before .before .before .before .before .before .before .before .before .before .before .before .before .before .before .before .before .before .before .before .before .before .before .before .before .before .before .before .introduce-side2 .ensures .is _ .is _) (c .before .before .before .before .before .before .before .before .before .before .before .before .before .before .before .before .before .before .before .before .before .before .before .before .infer .ensures) (c .before .before .before .before .before .before .before .before .before .before .before .before .before .before .before .before .before .before .x .given .1) (c .before .before .before .before .before .before .before .before .before .before .before .before .before .before .infer2 .ensures) (c .before .before .before .before .before .before .before .before .y .given .1) (c .before .before .before .before .compare-types .ensures)
 
 compare-same-length-3 : (t : ℕ) → compare-lts.Need-same-length-3 (
   introduce-side-reads.Asked,
@@ -3613,7 +3613,7 @@ destructure-returns : (t : ℕ) → destructure-lts.Need-returns (
   unify-at-reads.Asked,
   unify-at-reads.Learnt,
 ) (destructure-at t) destructure.Post
-destructure-returns t c = destructure-unified (c .before .before .before .before .before .before .before .before .before .before .before .before .before .before .before .before .before .before .before .before .before .before .before .before .infer .ensures) (c .before .before .before .before .before .before .before .before .before .before .before .before .before .before .before .before .before .before .p .given .1) (c .before .before .before .before .before .before .before .before .before .before .before .before .before .before .infer2 .ensures) (c .before .before .before .before .before .before .before .before .v .given .1) (c .before .before .before .before .unify-at .ensures .is _)
+destructure-returns t c = destructure-unified (c .before .before .before .before .before .before .before .before .before .before .before .before .before .before .before .before .before .before .before .before .before .before .before .before .infer .ensures) (c .before .before .before .before .before .before .before .before .before .before .before .before .before .before .before .before .before .before .p .given .1) (c .before .before .before .before .before .before .before .before .before .before .before .before .before .before .infer2 .ensures) (c .before .before .before .before .before .before .before .before .v .given .1) (c .before .before .before .before .unify-at .ensures)
 
 destructure-same-length-3 : (t : ℕ) → destructure-lts.Need-same-length-3 (
   infer-below t,
@@ -4125,7 +4125,7 @@ infer-all-same-length : (t : ℕ) → infer-all-lts.Need-same-length (
   unify-at-reads.Asked,
   unify-at-reads.Learnt,
 ) (infer-all-at t) infer-all.Post infer-all-Inv-loop infer-all-μ-loop
-infer-all-same-length t c = c .before .before .before .before .before .before .unify-at .kept .0 ∙ c .before .before .before .before .before .before .before .before .before .before .before .before .before .before .before .before .infer .kept .1 .0 ∙ c .before .before .before .before .before .before .before .before .before .before .before .before .before .before .before .before .before .before .before .before .before .loop .inv .1 .words
+infer-all-same-length t c = c .before .before .before .before .before .before .unify-at .kept .1 .0 ∙ c .before .before .before .before .before .before .before .before .before .before .before .before .before .before .before .before .infer .kept .1 .0 ∙ c .before .before .before .before .before .before .before .before .before .before .before .before .before .before .before .before .before .before .before .before .before .loop .inv .1 .words
 
 infer-all-same-length-2 : (t : ℕ) → infer-all-lts.Need-same-length-2 (
   item-at-reads.Asked,
@@ -4135,7 +4135,7 @@ infer-all-same-length-2 : (t : ℕ) → infer-all-lts.Need-same-length-2 (
   unify-at-reads.Asked,
   unify-at-reads.Learnt,
 ) (infer-all-at t) infer-all.Post infer-all-Inv-loop infer-all-μ-loop
-infer-all-same-length-2 t c = c .before .before .before .before .before .before .unify-at .kept .1 .1 .1 .1 .1 .0 ∙ c .before .before .before .before .before .before .before .before .before .before .before .before .before .before .before .before .infer .kept .1 .1 .1 .1 .0 ∙ c .before .before .before .before .before .before .before .before .before .before .before .before .before .before .before .before .before .before .before .before .before .loop .inv .1 .out
+infer-all-same-length-2 t c = c .before .before .before .before .before .before .unify-at .kept .1 .1 .1 .1 .1 .1 .0 ∙ c .before .before .before .before .before .before .before .before .before .before .before .before .before .before .before .before .infer .kept .1 .1 .1 .1 .0 ∙ c .before .before .before .before .before .before .before .before .before .before .before .before .before .before .before .before .before .before .before .before .before .loop .inv .1 .out
 
 infer-all-returns : (t : ℕ) → infer-all-lts.Need-returns (
   item-at-reads.Asked,
@@ -4145,7 +4145,7 @@ infer-all-returns : (t : ℕ) → infer-all-lts.Need-returns (
   unify-at-reads.Asked,
   unify-at-reads.Learnt,
 ) (infer-all-at t) infer-all.Post infer-all-Inv-loop infer-all-μ-loop
-infer-all-returns t c = all-out (c .before .before .before .before .before .before .before .before .before .before .before .before .before .before .before .before .before .before .before .before .before .loop .inv .0) (c .before .before .before .before .before .before .before .before .before .before .before .before .before .before .before .before .before .before .before .before .loop-test .taken) (turn-at (c .before .before .before .before .before .before .before .before .before .before .before .before .before .before .before .before .before .before .before .item-at .ensures) (turn-unified (c .before .before .before .before .before .before .before .before .before .before .before .before .before .before .before .before .infer .ensures) (c .before .before .before .before .before .before .before .before .before .before .r .given .1) (c .before .before .before .before .before .before .unify-at .ensures .is _))) (c .enum-told .given .1)
+infer-all-returns t c = all-out (c .before .before .before .before .before .before .before .before .before .before .before .before .before .before .before .before .before .before .before .before .before .loop .inv .0) (c .before .before .before .before .before .before .before .before .before .before .before .before .before .before .before .before .before .before .before .before .loop-test .taken) (turn-at (c .before .before .before .before .before .before .before .before .before .before .before .before .before .before .before .before .before .before .before .item-at .ensures) (turn-unified (c .before .before .before .before .before .before .before .before .before .before .before .before .before .before .before .before .infer .ensures) (c .before .before .before .before .before .before .before .before .before .before .r .given .1) (c .before .before .before .before .before .before .unify-at .ensures))) (c .enum-told .given .1)
 
 infer-all-enum-told-2 : (t : ℕ) → infer-all-lts.Need-enum-told-2 (
   item-at-reads.Asked,
@@ -4215,7 +4215,7 @@ infer-all-loop-again : (t : ℕ) → infer-all-lts.Need-loop-again (
   unify-at-reads.Asked,
   unify-at-reads.Learnt,
 ) (infer-all-at t) infer-all.Post infer-all-Inv-loop infer-all-μ-loop
-infer-all-loop-again t c = (all-next (c .before .before .before .before .before .before .before .before .before .before .before .before .before .before .before .before .before .before .before .before .before .before .loop .inv .0) (c .before .before .before .before .before .before .before .before .before .before .before .before .before .before .before .before .before .before .before .before .before .loop-test .taken) (turn-at (c .before .before .before .before .before .before .before .before .before .before .before .before .before .before .before .before .before .before .before .before .item-at .ensures) (turn-unified (c .before .before .before .before .before .before .before .before .before .before .before .before .before .before .before .before .before .infer .ensures) (c .before .before .before .before .before .before .before .before .before .before .before .r .given .1) (c .before .before .before .before .before .before .before .unify-at .ensures .is _))) (c .before .d .given .1), record { words = c .before .before .before .before .before .before .before .unify-at .kept .0 ∙ c .before .before .before .before .before .before .before .before .before .before .before .before .before .before .before .before .before .infer .kept .1 .0 ∙ c .before .before .before .before .before .before .before .before .before .before .before .before .before .before .before .before .before .before .before .before .before .before .loop .inv .1 .words; out = c .before .before .before .before .before .before .before .unify-at .kept .1 .1 .1 .1 .1 .0 ∙ c .before .before .before .before .before .before .before .before .before .before .before .before .before .before .before .before .before .infer .kept .1 .1 .1 .1 .0 ∙ c .before .before .before .before .before .before .before .before .before .before .before .before .before .before .before .before .before .before .before .before .before .before .loop .inv .1 .out })
+infer-all-loop-again t c = (all-next (c .before .before .before .before .before .before .before .before .before .before .before .before .before .before .before .before .before .before .before .before .before .before .loop .inv .0) (c .before .before .before .before .before .before .before .before .before .before .before .before .before .before .before .before .before .before .before .before .before .loop-test .taken) (turn-at (c .before .before .before .before .before .before .before .before .before .before .before .before .before .before .before .before .before .before .before .before .item-at .ensures) (turn-unified (c .before .before .before .before .before .before .before .before .before .before .before .before .before .before .before .before .before .infer .ensures) (c .before .before .before .before .before .before .before .before .before .before .before .r .given .1) (c .before .before .before .before .before .before .before .unify-at .ensures))) (c .before .d .given .1), record { words = c .before .before .before .before .before .before .before .unify-at .kept .1 .0 ∙ c .before .before .before .before .before .before .before .before .before .before .before .before .before .before .before .before .before .infer .kept .1 .0 ∙ c .before .before .before .before .before .before .before .before .before .before .before .before .before .before .before .before .before .before .before .before .before .before .loop .inv .1 .words; out = c .before .before .before .before .before .before .before .unify-at .kept .1 .1 .1 .1 .1 .1 .0 ∙ c .before .before .before .before .before .before .before .before .before .before .before .before .before .before .before .before .before .infer .kept .1 .1 .1 .1 .0 ∙ c .before .before .before .before .before .before .before .before .before .before .before .before .before .before .before .before .before .before .before .before .before .before .loop .inv .1 .out })
 
 infer-all-same-length-5 : (t : ℕ) → infer-all-lts.Need-same-length-5 (
   item-at-reads.Asked,
@@ -6933,7 +6933,7 @@ infer-kind-returns-16 : (t : ℕ) → infer-kind-lts.Need-returns-16 (
   subquery-below t,
   subquery.Post,
 ) (infer-kind-at t) infer-kind.Post
-infer-kind-returns-16 t c = head-arm select-head (as-node (c .before .before .before .before .before .before .before .before .before .before .before .before .before .before .before .before .before .before .before .before .e7 .given .1) (c .before .before .before .before .before .before .before .before .before .before .before .before .before .before .before .before .before .before .before .before .before .before .node-at .ensures)) (c .before .before .before .before .before .before .before .before .before .before .before .before .before .before .before .before .infer3 .ensures) (c .before .before .before .before .before .before .before .before .before .before .r3 .given .1) (c .before .before .before .before .before .before .repr3 .ensures) (c .before .before .before .before .select-of .ensures .is _)
+infer-kind-returns-16 t c = head-arm select-head (as-node (c .before .before .before .before .before .before .before .before .before .before .before .before .before .before .before .before .before .before .before .before .e7 .given .1) (c .before .before .before .before .before .before .before .before .before .before .before .before .before .before .before .before .before .before .before .before .before .before .node-at .ensures)) (c .before .before .before .before .before .before .before .before .before .before .before .before .before .before .before .before .infer3 .ensures) (c .before .before .before .before .before .before .before .before .before .before .r3 .given .1) (c .before .before .before .before .before .before .repr3 .ensures) (c .before .before .before .before .select-of .ensures)
 
 infer-kind-same-length-25 : (t : ℕ) → infer-kind-lts.Need-same-length-25 (
   node-at-reads.Asked,
