@@ -10,6 +10,7 @@ use lib.ListN.{length, getD, length-append}
 use borrow.Author.Tests.{lt-ltb, le-ltb}
 use Rattle.unification.specs.Ty as Tree
 use Rattle.unification.proofs.Tests.{clash}
+use Rattle.cells.specs.declared.Ty.{Ty}
 use Rattle.cells.specs.Words.{pick}
 use Rattle.cells.specs.Stands.{Rows}
 use Rattle.meaning.specs.Syntax.{QueryStmt, Query, ExprKind, isDestructurable}
@@ -384,11 +385,14 @@ module _ {f w ou w₁ ou₁ : List ℕ} {head left : ℕ} {body : Stmts} {x : Do
       };
     }
 
-    pub subquery-ends : {scope : ℕ} {w₂ ou₂ w₃ ou₃ : List ℕ} (r : Typed) → Infers f w₁ ou₁ head l w₂ ou₂ r → scope ≡ getD w ENV-LEN 0 → Cuts f w₂ ou₂ scope w₃ ou₃ → Subqueries f w ou head body left w₃ ou₃ r
-    subquery-ends (Typed.Got t v) I z C = subquery-then (λ d k nh T₁ c b len up s₁.
+    pub subquery-ends : {scope : ℕ} {w₂ ou₂ w₃ ou₃ : List ℕ} {r : Typed} {t : Ty} {v : ℕ} → Infers f w₁ ou₁ head l w₂ ou₂ r → r ≡ Typed.Got t v → scope ≡ getD w ENV-LEN 0 → Cuts f w₂ ou₂ scope w₃ ou₃
+        → Subqueries f w ou head body left w₃ ou₃ (Typed.Got t v)
+    subquery-ends {t = t} {v} I got z C = subquery-then (λ d k nh T₁ c b len up s₁.
         then-typed (infers (nodesOf d) k head) (only no-thing) (infers (nodesOf d) k head) (record { grade = omega arith; records = omega arith; fields = omega arith }) (below d k .infer head b)
-        (λ ty e. andThen (truncateEnv (length (c .env)) e) (λ u z. goes ty z)) refl s₁ (λ y. good s₁ k .infer head b (s₁ .orderly) y) (λ s₂. I .is d k nh .is T₁ b s₂ tt)
+        (λ ty e. andThen (truncateEnv (length (c .env)) e) (λ u z. goes ty z)) got s₁ (λ y. good s₁ k .infer head b (s₁ .orderly) y) (λ s₂. I .is d k nh .is T₁ b s₂ tt)
         (λ T₂ e a fine. silent-typed t (fine .ok) (rw (len ∙ sym z) (C d v .is T₂ e (a .begins) (omega (arith, len, z, up, made-env _ b e (a .made)))))))
-    subquery-ends Typed.Out I z C = subquery-then (λ d k nh T₁ c b len up s₁.
+
+    pub subquery-head-out : {w₂ ou₂ : List ℕ} {r : Typed} → Infers f w₁ ou₁ head l w₂ ou₂ r → r ≡ Typed.Out → Subqueries f w ou head body left w₂ ou₂ Typed.Out
+    subquery-head-out I none = subquery-then (λ d k nh T₁ c b len up s₁.
         stop-typed (infers (nodesOf d) k head) (only no-thing) (infers (nodesOf d) k head) (record { grade = omega arith; records = omega arith; fields = omega arith }) (below d k .infer head b)
-        (λ ty e. andThen (truncateEnv (length (c .env)) e) (λ u z. goes ty z)) refl refl s₁ (λ s₂. I .is d k nh .is T₁ b s₂ tt))
+        (λ ty e. andThen (truncateEnv (length (c .env)) e) (λ u z. goes ty z)) none refl s₁ (λ s₂. I .is d k nh .is T₁ b s₂ tt))

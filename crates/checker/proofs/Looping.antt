@@ -13,7 +13,7 @@ use Rattle.meaning.specs.Check.{Checker, Step, Does, andThen}
 use Rattle.meaning.proofs.Meets.{unknowns, Ready, Meets, made-more}
 use Rattle.cells.specs.Inferred.{More}
 use Rattle.state.specs.Runs.{Grew}
-use Rattle.steps.specs.Ends.{Result, Ends, went, spent}
+use Rattle.steps.specs.Ends.{Result, Gone, Ends, went, spent}
 use Rattle.steps.specs.Loads.{Load, both, Holds, Begins}
 use Rattle.steps.specs.Contracts.{Fine}
 use Rattle.cells.proofs.Frame.{tree-more, more-refl}
@@ -66,15 +66,19 @@ module _ {A : Type 0} {f w₀ ou₀ w ou : List ℕ} {T : Rows} {d : Described} 
   pub mid-ends : {w₂ ou₂ : List ℕ} {E : Result A} → Ends f w ou w₂ ou₂ (M .T₁) d (H .records) (H .fields) E (rest (M .b)) → Ends f w₀ ou₀ w₂ ou₂ T d (K .records) (K .fields) E whole
   mid-ends {w₂} {ou₂} {E} h = rw (M .same) (go h)
     where
-      go : {s : Step A} → Ends f w ou w₂ ou₂ (M .T₁) d (H .records) (H .fields) E s → Ends f w₀ ou₀ w₂ ou₂ T d (K .records) (K .fields) E s
-      go (went g) = went (record {
+      on : {B : Type 0} {F : Result B} {a : B} {b : Checker} → Gone f w ou w₂ ou₂ (M .T₁) d (H .records) (H .fields) F a b → Gone f w₀ ou₀ w₂ ou₂ T d (K .records) (K .fields) F a b
+      on g = record {
         T′ = g .T′;
         more = more-trans (M .grew .adds) (M .more) (g .more);
-        runs = g .runs; lines = g .lines;
+        runs = g .runs;
+        lines = g .lines;
         grew = grew-trans (M .few-records) (M .few-fields) (M .grew) (g .grew);
         is = g .is;
-      })
-      go (spent o) = spent o
+      }
+
+      go : {s : Step A} → Ends f w ou w₂ ou₂ (M .T₁) d (H .records) (H .fields) E s → Ends f w₀ ou₀ w₂ ou₂ T d (K .records) (K .fields) E s
+      go (went g) = went (on g)
+      go (spent g) = spent (on g)
 
   -- A turn that goes on.
   module _ {B : Type 0} {w₁ ou₁ : List ℕ} (G H′ : Load) (fits : Holds (both G H′) H) {E : Result B} (P : B → Checker → Type 0) (m : Step B) where

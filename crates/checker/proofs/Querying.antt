@@ -31,6 +31,7 @@ use Rattle.steps.specs.Loads.{only, both, Holds, infers, visits, Begins}
 use Rattle.steps.specs.Contracts.{nodesOf, onlyW, Starts, Named, AllNamed, Heads}
 use Rattle.steps.specs.Outside.{ChecksHead, StartsRun}
 use Rattle.checker.specs.Contracts.{below, Infers, StatesAll, Ran, to-the-end, out-of-visits, Queries}
+use Rattle.steps.proofs.Sequel.{gone-as}
 use Rattle.steps.proofs.Results.{then-done, stop-done, then-silent}
 use Rattle.checker.proofs.Inferring.{good}
 use Rattle.checker.proofs.Bodies.{sayingAll}
@@ -44,8 +45,8 @@ unfolding queryNodes sumOf
 query-fits d q = record { grade = omega (arith, size-pos (nodesOf d) (depth d) (q .head)); records = omega arith; fields = omega arith }
 
 counted-ends : {f w ou w′ ou′ : List ℕ} {T : Rows} {d : Described} {n m : ℕ} {r : Typed} {s : Step Tree.Ty} → Ends f w ou w′ ou′ T d n m (typed w′ r) s → Ends f w ou w′ ou′ T d n m (counted (onlyW r)) s
-counted-ends (went g) = went (record { T′ = g .T′; more = g .more; runs = g .runs; lines = g .lines; grew = g .grew; is = ap onlyW (g .is .res) })
-counted-ends (spent o) = spent (ap onlyW o)
+counted-ends (went g) = went (gone-as (omega arith) (omega arith) (λ R x. ap onlyW (x .res)) g)
+counted-ends (spent g) = spent (gone-as (omega arith) (omega arith) (λ R x. ap onlyW x) g)
 
 module _ {f w ou w₁ ou₁ : List ℕ} {body : Stmts} {left : ℕ} {x : Done} (S : StatesAll f w ou body left w₁ ou₁ x) (T : Rows) (d : Described) (c : Checker) (q : Query) (e : q .body ≡ stmtsW f body)
     (named : AllNamed d (depth d) (queryNodes q)) (s : Begins f w ou T d (visits (nodesOf d) (depth d) (queryNodes q)) left c) where
@@ -92,7 +93,7 @@ query-begins T d ceiling S sound stands =
 -- ---- The whole
 ran : {f w ou w′ ou′ : List ℕ} {T : Rows} {d : Described} {n m : ℕ} {r : Done} {s : Step Tree.Ty} → Ends f w ou w′ ou′ T d n m (counted r) s → Ran f w′ ou′ d r s
 ran (went g) = to-the-end (g .T′) (g .runs) (g .lines) (g .is)
-ran (spent o) = out-of-visits o
+ran (spent g) = out-of-visits (g .T′) (g .runs) (g .lines) (g .is)
 
 query-named : (d : Described) → Sound d → AllNamed d (depth d) (queryNodes (d .ast .query))
 query-named d sound = all-map (λ m. m < depth d) (Named d (depth d)) (queryNodes (d .ast .query)) (λ m l. record { there = l; under = l }) (sound .query)

@@ -142,10 +142,10 @@ pub record StatesAll (f w ou : List ℕ) (body : Stmts) (left : ℕ) (w′ ou′
 
 -- ---- The whole
 
--- `query`, from words that a file was read into: the words after stand for where the run ends.
+-- `query`, from words that a file was read into: the words after stand for where the run ends, or for where its visits ran out.
 pub data Ran (f w′ ou′ : List ℕ) (d : Described) (r : Done) : Step Tree.Ty → Type 0 where
   to-the-end : {ty : Tree.Ty} {c : Checker} (T : Rows) → Runs f w′ T d c → Told w′ ou′ c → r ≡ Done.On (c .state .left) → Ran f w′ ou′ d r (goes ty c)
-  out-of-visits : {c : Checker} → r ≡ Done.Out → Ran f w′ ou′ d r (out c)
+  out-of-visits : {c : Checker} (T : Rows) → Runs f w′ T d c → Told w′ ou′ c → r ≡ Done.Out → Ran f w′ ou′ d r (out c)
 
 pub record Queries (f w ou : List ℕ) (ceiling : ℕ) (w′ ou′ : List ℕ) (r : Done) : Type 0 where
   pub is : (T : Rows) (d : Described) → Sound d → Stands f w T d → Ran f w′ ou′ d r (run (d .schema) (d .ast) ceiling)

@@ -95,8 +95,13 @@ fn subquery(f: &[u8], w: &mut [u32], head: u32, body: Stmts, left: u32, out: &mu
     match d {
         Done::On(l) => {
             let r = infer(f, w, head, l, out);
-            put(w, work::ENV_LEN, scope);
-            r
+            match r {
+                Typed::Got(t, m) => {
+                    put(w, work::ENV_LEN, scope);
+                    Typed::Got(t, m)
+                }
+                Typed::Out => Typed::Out,
+            }
         }
         Done::Out => Typed::Out,
     }

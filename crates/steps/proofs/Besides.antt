@@ -132,7 +132,9 @@ module _ {f w ou w′ : List ℕ} {T : Rows} {d : Described} {left : ℕ} {c : C
   unified-ends (Unify.Err x st) e k =
       let K : Keeps TYS END w w′ = keeps-wider (omega arith) (omega arith) (e .3 .keeps) in
       went {a = some x} (record { T′ = T; more = more-refl; runs = runs-slots (B .sound) (B .runs) K (e .3 .holds) (ap length (k .tys)); lines = lines-same (keeps-unlined (omega arith) K) (B .lines); grew = grew-slots (B .sound) (B .runs) K; is = (e .0, e .1, e .2) })
-  unified-ends (Unify.Spent st) e k = spent (e .0)
+  unified-ends (Unify.Spent st) e k =
+      let K : Keeps TYS END w w′ = keeps-wider (omega arith) (omega arith) (e .2 .keeps) in
+      spent (record { T′ = T; more = more-refl; runs = runs-slots (B .sound) (B .runs) K (e .2 .holds) (ap length (k .tys)); lines = lines-same (keeps-unlined (omega arith) K) (B .lines); grew = grew-slots (B .sound) (B .runs) K; is = e .0 })
 
 pub unifies : (f w : List ℕ) {ou : List ℕ} {got expected : Ty} {left : ℕ} {w′ : List ℕ} {r : Unified} → Unifies w got expected left w′ r → UnifiesTo f w ou got expected left w′ ou r
 unfolding Check.unify Unify.unify

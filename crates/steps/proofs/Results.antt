@@ -1,6 +1,7 @@
 -- The laws of Sequel.antt for what the code gives back: a type with the visits left, the visits left, or that they ran out.
 use mathlib.Core.List.{List}
 use mathlib.Core.Path.{_≡_, refl, sym, ap}
+use native.Mathlib.Omega.{arith}
 use Prim.Native.Nat.{ℕ}
 use Rattle.unification.specs.Ty as Tree
 use Rattle.unification.proofs.Tests.{clash}
@@ -22,7 +23,7 @@ use Rattle.steps.specs.Loads.{Load, both, Holds, Begins}
 use Rattle.steps.specs.Contracts.{Fine, onlyW}
 use Rattle.cells.proofs.Frame.{tree-more}
 use Rattle.steps.proofs.Growing.{ok-kept}
-use Rattle.steps.proofs.Sequel.{then-ends, stop-ends, ends-here}
+use Rattle.steps.proofs.Sequel.{then-ends, stop-ends, ends-here, gone-as}
 
 -- ---- What comes back at once
 pub type-here : {f w ou : List ℕ} {T : Rows} {d : Described} {n m left : ℕ} {c : Checker} (t : Ty) → Runs f w T d c → Told w ou c → c .state .left ≡ left → Ok w t → Ends f w ou w ou T d n m (typed w (Typed.Got t left)) (goes (tree T t) c)
@@ -65,8 +66,8 @@ module _ {B : Type 0} {f w ou w₁ ou₁ : List ℕ} {T : Rows} {d : Described} 
           let i = got-same e (g .is) in
           rw (← i .1) (rest (g .T′) b (record { more = g .more; grew = g .grew; made = v .made; begins = with-visits (i .2) s₁ }) (record { ok = i .0; side = rw (i .1) (v .holds) }))
 
-  pub stop-typed : {w₂ ou₂ : List ℕ} (m : Step Tree.Ty) (next : Tree.Ty → Does B) → r ≡ Typed.Out → E .Out → Begins f w ou T d K left c → (Begins f w ou T d G left c → Ends f w ou w₁ ou₁ T d (G .records) (G .fields) (typed w₁ r) m)
-      → Ends f w ou w₂ ou₂ T d (K .records) (K .fields) E (andThen m next)
+  pub stop-typed : (m : Step Tree.Ty) (next : Tree.Ty → Does B) → r ≡ Typed.Out → E .Out → Begins f w ou T d K left c → (Begins f w ou T d G left c → Ends f w ou w₁ ou₁ T d (G .records) (G .fields) (typed w₁ r) m)
+      → Ends f w ou w₁ ou₁ T d (K .records) (K .fields) E (andThen m next)
   stop-typed m next e o s first = stop-ends G H K fits m next (λ R a v i. clash (cc (e, i .res))) (λ p. o) s first
 
 module _ {B : Type 0} {f w ou w₁ ou₁ : List ℕ} {T : Rows} {d : Described} {left : ℕ} {c : Checker} (G H K : Load) (fits : Holds (both G H) K) (P : Unit {0} → Checker → Type 0) {r : Done} {E : Result B} where
@@ -81,8 +82,8 @@ module _ {B : Type 0} {f w ou w₁ ou₁ : List ℕ} {T : Rows} {d : Described} 
           let q : b .state .left ≡ l = cc (e, g .is) in
           rest (g .T′) b (record { more = g .more; grew = g .grew; made = v .made; begins = with-visits q s₁ })
 
-  pub stop-done : {w₂ ou₂ : List ℕ} (m : Step (Unit {0})) (next : Unit {0} → Does B) → r ≡ Done.Out → E .Out → Begins f w ou T d K left c → (Begins f w ou T d G left c → Ends f w ou w₁ ou₁ T d (G .records) (G .fields) (done r) m)
-      → Ends f w ou w₂ ou₂ T d (K .records) (K .fields) E (andThen m next)
+  pub stop-done : (m : Step (Unit {0})) (next : Unit {0} → Does B) → r ≡ Done.Out → E .Out → Begins f w ou T d K left c → (Begins f w ou T d G left c → Ends f w ou w₁ ou₁ T d (G .records) (G .fields) (done r) m)
+      → Ends f w ou w₁ ou₁ T d (K .records) (K .fields) E (andThen m next)
   stop-done m next e o s first = stop-ends G H K fits m next (λ R a v i. clash (cc (e, i))) (λ p. o) s first
 
 -- ---- A step that always goes on, and then
@@ -104,13 +105,13 @@ module _ {B : Type 0} {f w ou w₁ ou₁ : List ℕ} {T : Rows} {d : Described} 
 -- ---- The visits of a type alone
 pub only-ends : {f w ou w′ ou′ : List ℕ} {T : Rows} {d : Described} {n m : ℕ} {r : Typed} (s : Step Tree.Ty) → Ends f w ou w′ ou′ T d n m (typed w′ r) s → Ends f w ou w′ ou′ T d n m (done (onlyW r)) (andThen s (λ ty b. goes tt b))
 unfolding andThen
-only-ends s (went g) = went (record { T′ = g .T′; more = g .more; runs = g .runs; lines = g .lines; grew = g .grew; is = ap onlyW (g .is .res) })
-only-ends s (spent o) = spent (ap onlyW o)
+only-ends s (went g) = went (gone-as (omega arith) (omega arith) (λ R x. ap onlyW (x .res)) g)
+only-ends s (spent g) = spent (gone-as (omega arith) (omega arith) (λ R x. ap onlyW x) g)
 
 -- ---- A silent step is one that goes on
 pub silent-on : {f w ou w′ ou′ : List ℕ} {T : Rows} {d : Described} {n m left : ℕ} {s : Step (Unit {0})} → Ends f w ou w′ ou′ T d n m (silent left) s → Ends f w ou w′ ou′ T d n m (done (Done.On left)) s
-silent-on (went g) = went (record { T′ = g .T′; more = g .more; runs = g .runs; lines = g .lines; grew = g .grew; is = ap Done.On (sym (g .is)) })
-silent-on (spent o) = absurd o
+silent-on (went g) = went (gone-as (omega arith) (omega arith) (λ R x. ap Done.On (sym x)) g)
+silent-on (spent g) = absurd (g .is)
 
 -- A type in hand outlives it.
 pub silent-typed : {f w ou w′ ou′ : List ℕ} {T : Rows} {d : Described} {n m left : ℕ} {s : Step (Unit {0})} (t : Ty) → Ok w t → Ends f w ou w′ ou′ T d n m (silent left) s
@@ -123,4 +124,4 @@ silent-typed t o (went g) = went (record {
   grew = g .grew;
   is = record { t = t; res = ap (Typed.Got t) (sym (g .is)); ok = ok-kept (g .grew .adds) t o; is = tree-more (g .more) t o };
 })
-silent-typed t o (spent e) = absurd e
+silent-typed t o (spent g) = absurd (g .is)

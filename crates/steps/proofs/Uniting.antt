@@ -72,7 +72,7 @@ module _ {f w ou w₁ ou₁ : List ℕ} {got expected : Ty} {left : ℕ} {r : Un
           let z : errorOf (g .T′) err ≡ y = ap (errorOf (g .T′)) (sym p) ∙ g .is .2 in
           rw (← z) (rest (g .T′) b (record { more = g .more; grew = g .grew; made = v .made; begins = with-visits q s }))
 
-  then-spent : {w₂ ou₂ : List ℕ} {x : Done} (next : Option Unify.TyError → Does (Unit {0})) → r ≡ Unified.Spent → x ≡ Done.Out → Ends f w ou w₂ ou₂ T d 0 0 (done x) (andThen first next)
+  then-spent : {x : Done} (next : Option Unify.TyError → Does (Unit {0})) → r ≡ Unified.Spent → x ≡ Done.Out → Ends f w ou w₁ ou₁ T d 0 0 (done x) (andThen first next)
   then-spent next e o = stop-ends (only no-thing) (only one-diagnostic) (only one-diagnostic) then-one first next never (λ p. o) B (λ s. U d .is T c s fine)
     where
       never : (R : Rows) (a : Option Unify.TyError) (v : ℕ) → ¬ (IsUnified r R a v)
@@ -141,7 +141,7 @@ module _ {f w ou : List ℕ} (lhs : ℕ) {t : Ty} {left : ℕ} {r : Asked} (O : 
     is = λ d there. record {
       is = λ T c B fine.
           let q : Bindings.spent ≡ Unify.orderable (Bindings.zonk (c .state .subst) (tree T t)) (c .state .left) = rw e at (answered B fine) in
-          rw (← q) (spent refl);
+          rw (← q) (spent (record { T′ = T; more = more-refl; runs = leaving-runs B 0; lines = B .lines; grew = grew-refl; is = refl }));
     };
   }
 

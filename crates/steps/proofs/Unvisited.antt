@@ -65,7 +65,7 @@ module _ {f w ou : List ℕ} {n : ℕ} {nd : Node} (i : IsNode f w n nd) where
 brought : {f w ou w′ ou′ : List ℕ} {T : Rows} {d : Described} {a b left v : ℕ} (m : Step ℕ) → Ends f w ou w′ ou′ T d a b (numbered v left) m → Ends f w ou w′ ou′ T d a b (silent left) (andThen m (λ y e. goes tt e))
 unfolding andThen
 brought m (went g) = went (record { T′ = g .T′; more = g .more; runs = g .runs; lines = g .lines; grew = g .grew; is = g .is .1 })
-brought m (spent o) = absurd o
+brought m (spent g) = absurd (g .is)
 
 pub side-variable : {f w ou w′ : List ℕ} {n x v : ℕ} {nd : Node} → IsNode f w n nd → nd ≡ Node.Var x → Introduces w x w′ v → IntroducesSide f w ou n w′ ou
 unfolding kindW formOf introduceSide early

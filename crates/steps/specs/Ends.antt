@@ -73,6 +73,11 @@ pub record Gone {A : Type 0} (f w ou w′ ou′ : List ℕ) (T : Rows) (d : Desc
   pub grew : Grew w w′ n m
   pub is : E .Is T′ a (c .state .left)
 
+-- The visits ran out: no value comes back, and the code says so.
+abbrev pub stopped : {A : Type 0} → Result A → Result (Unit {0})
+stopped E = record { Is = λ T u left. E .Out; Out = ⊥ }
+
+-- Also where the visits ran out, the words stand for the checker in which the step stopped.
 pub data Ends {A : Type 0} (f w ou w′ ou′ : List ℕ) (T : Rows) (d : Described) (n m : ℕ) (E : Result A) : Step A → Type 0 where
   went : {a : A} {c : Checker} → Gone f w ou w′ ou′ T d n m E a c → Ends f w ou w′ ou′ T d n m E (goes a c)
-  spent : {c : Checker} → E .Out → Ends f w ou w′ ou′ T d n m E (out c)
+  spent : {c : Checker} → Gone f w ou w′ ou′ T d n m (stopped E) tt c → Ends f w ou w′ ou′ T d n m E (out c)

@@ -18,7 +18,7 @@ use native.Mathlib.Omega.{arith}
 use mathlib.Core.Path.{refl}
 use denote.Ref.{now}
 use lib.ListN.{length}
-use Rattle.answer.proofs.Writing.{writes-moves}
+use Rattle.writer.proofs.Writing.{writes-moves}
 use Rattle.answer.proofs.Resolving.{head-moves, Typing, typing-start, typing-next, typing-full, typing-done, typing-stops, typing-ends}
 
 abbrev μ-ty : Measures 2 ty-kinds.ps ℕ

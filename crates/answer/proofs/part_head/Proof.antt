@@ -5,14 +5,14 @@ use Rattle.answer.proofs.part_head.Statement.{statement}
 use Rattle.answer.proofs.part_head.Tie as tie
 use Rattle.answer.proofs.part_head.Reads as reads
 use Rattle.answer.proofs.part_head.Lts as lts
-use Rattle.answer.proofs.full.Reads as full-reads
-use Rattle.answer.proofs.half.Reads as half-reads
+use Rattle.writer.proofs.full.Reads as full-reads
+use Rattle.writer.proofs.half.Reads as half-reads
 use native.Mathlib.Omega.{arith}
 use mathlib.Core.Path.{ap}
 use Rattle.meaning.specs.Answer.{cellHead, bytes₂, bytes₄}
-use Rattle.answer.specs.Writes.{hexOf}
-use Rattle.answer.proofs.Writing.{writes-as}
-use Rattle.answer.proofs.Digits.{hex-then, hex-full}
+use Rattle.writer.specs.Writes.{hexOf}
+use Rattle.writer.proofs.Writing.{writes-as}
+use Rattle.writer.proofs.Digits.{hex-then, hex-full}
 use Rattle.answer.proofs.Resolving.{plain-head}
 
 returns : tie.Need-returns

@@ -1,4 +1,4 @@
--- Made from Proof.ans by tools/answers, ef0e1edf90e25ca3.
+-- Made from Proof.ans by tools/answers, 828e349875860226.
 -- What a node names is lower, so the node falls, and on one node the rank of specs/Contracts.antt. Each arm is a law of its own.
 use Prim.Native.Nat.{ℕ, _<_, _+_, _-_, _*_, _≤_}
 use borrow.Fn.Kinds.{In}
@@ -118,7 +118,7 @@ use Rattle.checker.proofs.Arms.{head-arm, head-out, key-head, value-hea
 use Rattle.checker.proofs.Alls.{turn-unified, turn-out, AllGoing, all-start, all-next, all-out, all-end}
 use Rattle.checker.proofs.Generating.{BranchesGoing, branches-start, branches-next, branches-out, branches-end, generator-inferred, generator-branched, generator-out}
 use Rattle.checker.proofs.Stating.{only-right, bad-target, not-yet, not-yet-out, destructure-out, destructure-unified, destructure-right-out, wildcard-noted, wildcard-out, variable-unified, variable-out}
-use Rattle.checker.proofs.Bodies.{bind-wildcard, bind-constant, bind-error, bind-later, deny-error, deny-later, bind-apart, bind-whole, bind-variable, deny-variable, stmt-implicit, stmt-negation, stmt-bind, stmt-deny, stmt-compare, StmtsGoing, stmts-start, stmts-next, stmts-out, stmts-end, subquery-out, subquery-ends}
+use Rattle.checker.proofs.Bodies.{bind-wildcard, bind-constant, bind-error, bind-later, deny-error, deny-later, bind-apart, bind-whole, bind-variable, deny-variable, stmt-implicit, stmt-negation, stmt-bind, stmt-deny, stmt-compare, StmtsGoing, stmts-start, stmts-next, stmts-out, stmts-end, subquery-out, subquery-head-out, subquery-ends}
 use Rattle.checker.proofs.Checking.{unify-out, unify-good, unify-spent, unify-bad, field-out, field-kept, field-rolled}
 use Rattle.checker.proofs.Against.{check-nothing, check-wildcard, check-record, check-inferred, record-noted, record-out, record-union, union-arity, union-unknown, union-noted, union-out}
 use Rattle.checker.proofs.Mentioning.{mentions-field, mentions-none, FieldsGoing, fields-start, fields-next, fields-out, fields-end}
@@ -8723,6 +8723,18 @@ subquery-infer-requires : (t : ℕ) → subquery-lts.Need-infer-requires (
 ) (subquery-at t) subquery.Post
 subquery-infer-requires t c κs = omega (arith, c .before .before .before .before .before .before .before .before .before .before .before .before .before .before .before .before .before .pre .1 .0)
 
+subquery-enum-known-r : (t : ℕ) → subquery-lts.Need-enum-known-r (
+  word-reads.Asked,
+  word-reads.Learnt,
+  stmts-below t,
+  stmts.Post,
+  infer-below t,
+  infer.Post,
+  put-reads.Asked,
+  put-reads.Learnt,
+) (subquery-at t) subquery.Post
+subquery-enum-known-r t c = search needs
+
 subquery-put-requires : (t : ℕ) → subquery-lts.Need-put-requires (
   word-reads.Asked,
   word-reads.Learnt,
@@ -8746,6 +8758,18 @@ subquery-enum-told : (t : ℕ) → subquery-lts.Need-enum-told (
   put-reads.Learnt,
 ) (subquery-at t) subquery.Post
 subquery-enum-told t c = search needs
+
+subquery-enum-told-2 : (t : ℕ) → subquery-lts.Need-enum-told-2 (
+  word-reads.Asked,
+  word-reads.Learnt,
+  stmts-below t,
+  stmts.Post,
+  infer-below t,
+  infer.Post,
+  put-reads.Asked,
+  put-reads.Learnt,
+) (subquery-at t) subquery.Post
+subquery-enum-told-2 t c = search needs
 
 subquery-same-length : (t : ℕ) → subquery-lts.Need-same-length (
   word-reads.Asked,
@@ -8781,7 +8805,7 @@ subquery-returns : (t : ℕ) → subquery-lts.Need-returns (
   put-reads.Asked,
   put-reads.Learnt,
 ) (subquery-at t) subquery.Post
-subquery-returns t c = subquery-ends (c .before .before .before .before .before .before .before .before .before .before .before .before .before .before .before .before .before .before .stmts .ensures) (c .before .before .before .before .before .before .before .before .before .before .before .before .d .given .1) _ (c .before .before .before .before .before .before .before .before .infer .ensures) (c .before .before .before .before .before .before .before .before .before .before .before .before .before .before .before .before .before .before .before .before .before .word .ensures) (cuts-by (c .before .before .put .ensures))
+subquery-returns t c = subquery-ends (c .before .before .before .before .before .before .before .before .before .before .before .before .before .before .before .before .before .before .before .before .before .stmts .ensures) (c .before .before .before .before .before .before .before .before .before .before .before .before .before .before .before .d .given .1) (c .before .before .before .before .before .before .before .before .before .before .before .infer .ensures) (c .before .before .before .before .before .r .given .1) (c .before .before .before .before .before .before .before .before .before .before .before .before .before .before .before .before .before .before .before .before .before .before .before .before .word .ensures) (cuts-by (c .before .before .put .ensures))
 
 subquery-same-length-3 : (t : ℕ) → subquery-lts.Need-same-length-3 (
   word-reads.Asked,
@@ -8817,7 +8841,43 @@ subquery-returns-2 : (t : ℕ) → subquery-lts.Need-returns-2 (
   put-reads.Asked,
   put-reads.Learnt,
 ) (subquery-at t) subquery.Post
-subquery-returns-2 t c = subquery-out (c .before .before .before .before .before .before .stmts .ensures) (c .enum-told .given .1)
+subquery-returns-2 t c = subquery-head-out (c .before .before .before .before .before .before .before .before .before .before .before .before .before .before .before .before .stmts .ensures) (c .before .before .before .before .before .before .before .before .before .before .d .given .1) (c .before .before .before .before .before .before .infer .ensures) (c .enum-told .given .1)
+
+subquery-same-length-5 : (t : ℕ) → subquery-lts.Need-same-length-5 (
+  word-reads.Asked,
+  word-reads.Learnt,
+  stmts-below t,
+  stmts.Post,
+  infer-below t,
+  infer.Post,
+  put-reads.Asked,
+  put-reads.Learnt,
+) (subquery-at t) subquery.Post
+subquery-same-length-5 t c = search needs
+
+subquery-same-length-6 : (t : ℕ) → subquery-lts.Need-same-length-6 (
+  word-reads.Asked,
+  word-reads.Learnt,
+  stmts-below t,
+  stmts.Post,
+  infer-below t,
+  infer.Post,
+  put-reads.Asked,
+  put-reads.Learnt,
+) (subquery-at t) subquery.Post
+subquery-same-length-6 t c = search needs
+
+subquery-returns-3 : (t : ℕ) → subquery-lts.Need-returns-3 (
+  word-reads.Asked,
+  word-reads.Learnt,
+  stmts-below t,
+  stmts.Post,
+  infer-below t,
+  infer.Post,
+  put-reads.Asked,
+  put-reads.Learnt,
+) (subquery-at t) subquery.Post
+subquery-returns-3 t c = subquery-out (c .before .before .before .before .before .before .stmts .ensures) (c .enum-told2 .given .1)
 
 pub +bind+bind-name+branches+check+check-field+check-fields+check-union+compare+deny+destructure+fact+generator+infer+infer-all+infer-kind+infer-record+infer-then-unify+not-yet+stmt+stmts+subquery-spec :
     {M : Type 1} → statement M
@@ -9602,11 +9662,16 @@ pub +bind+bind-name+branches+check+check-field+check-fields+check-union+compare+
     (subquery-stmts-requires t)
     (subquery-enum-known-d t)
     (subquery-infer-requires t)
+    (subquery-enum-known-r t)
     (subquery-put-requires t)
     (subquery-enum-told t)
+    (subquery-enum-told-2 t)
     (subquery-same-length t)
     (subquery-same-length-2 t)
     (subquery-returns t)
     (subquery-same-length-3 t)
     (subquery-same-length-4 t)
     (subquery-returns-2 t)
+    (subquery-same-length-5 t)
+    (subquery-same-length-6 t)
+    (subquery-returns-3 t)
