@@ -26,7 +26,7 @@ module _ {out a b mid : List ℕ} {end : ℕ} (there : take (length a) out ≡ a
   ends : (end ≡ length a + length b) × (end ≤ length out)
   ends = writes-to f refl
 
-  mid-is : mid ≡ a ++ (b ++ drop end out)
+  mid-is : mid ≡ (a ++ b) ++ drop end out
   unfolding placed
   mid-is =
       let m : mid ≡ placed (length a) b out = f .fits (omega (arith, ends .0, ends .1)) .1 in
@@ -38,19 +38,18 @@ module _ {out a b mid : List ℕ} {end : ℕ} (there : take (length a) out ≡ a
       let n : length (b ++ a) ≡ length b + length a = length-append b a in
       let n′ : length (a ++ b) ≡ length a + length b = length-append a b in
       let sum : end ≡ 0 + length (b ++ a) = omega (arith, ends .0, n) in
-      let grouped : mid ≡ (a ++ b) ++ drop end out = mid-is ∙ sym (append-assoc a b (drop end out)) in
-      let both : take end mid ≡ a ++ b = ap (take end) grouped ∙ take-at (a ++ b) (drop end out) end (n′ ∙ sym (ends .0)) in
+      let both : take end mid ≡ a ++ b = ap (take end) mid-is ∙ take-at (a ++ b) (drop end out) end (n′ ∙ sym (ends .0)) in
       let second : drop (length a) (take end mid) ≡ b = ap (drop (length a)) both ∙ drop-at a b (length a) refl in
-      let first : take (length a) mid ≡ a = ap (take (length a)) mid-is ∙ take-at a (b ++ drop end out) (length a) refl in
-      let rest : drop end mid ≡ drop end out = ap (drop end) grouped ∙ drop-at (a ++ b) (drop end out) end (n′ ∙ sym (ends .0)) in
+      let first : take (length a) mid ≡ a = ap (take (length a)) (mid-is ∙ append-assoc a b (drop end out)) ∙ take-at a (b ++ drop end out) (length a) refl in
+      let rest : drop end mid ≡ drop end out = ap (drop end) mid-is ∙ drop-at (a ++ b) (drop end out) end (n′ ∙ sym (ends .0)) in
       record {
         fits = λ h. (ap To sum, e ∙ rw (second, first, rest) (sym (append-assoc b a (drop end out)) ∙ ap (λ (k : ℕ). (b ++ a) ++ drop k out) sum));
         over = λ h. absurd (omega (arith, sum, ends .1));
         long = long;
       }
 
-full-writes : {out a b : List ℕ} → length out < length a + length b → {out′ : List ℕ} → length out′ ≡ length out → Writes out 0 (b ++ a) out′ Full
-full-writes {a = a} {b} h long = let n : length (b ++ a) ≡ length b + length a = length-append b a in record { fits = λ l. absurd (omega (arith, n)); over = λ l. refl; long = long }
+full-writes : {out : List ℕ} (a b : List ℕ) → length out < length a + length b → {out′ : List ℕ} → length out′ ≡ length out → Writes out 0 (b ++ a) out′ Full
+full-writes a b h long = let n : length (b ++ a) ≡ length b + length a = length-append b a in record { fits = λ l. absurd (omega (arith, n)); over = λ l. refl; long = long }
 
 -- ---- The whole
 abbrev answered : ℕ → Checker → Typed
@@ -77,7 +76,7 @@ module _ {w out : List ℕ} {full : ℕ} (p : full ≡ getD w FULL 0) where
     where
       go : (c : Checker) → Lines w out (reports c) → Writes out 0 (nodes c ++ reports c) out Full
       go c (within q e l t) = absurd (some (p ∙ q))
-      go c (beyond q l) = full-writes (omega arith) refl
+      go c (beyond q l) = full-writes (reports c) (nodes c) (omega arith) refl
 
   module _ (free : full ≡ 0) {at : ℕ} (place : at ≡ placeW w) where
     pub answer-past : length out < at → WritesAnswer w out out Full
@@ -96,7 +95,7 @@ module _ {w out : List ℕ} {full : ℕ} (p : full ≡ getD w FULL 0) where
       answer-full z = answers (g .moves .long) (λ f T d c R L. go c R L)
         where
           go : {f : List ℕ} {T : Rows} {d : Described} (c : Checker) → Runs f w T d c → Lines w out (reports c) → Writes out 0 (nodes c ++ reports c) mid Full
-          go c R (within q e l t) = full-writes (writes-over (written c R e l) z) (g .moves .long)
+          go c R (within q e l t) = full-writes (reports c) (nodes c) (writes-over (written c R e l) z) (g .moves .long)
           go c R (beyond q l) = absurd (omega (arith, p, free, q))
 
       module _ {end : ℕ} (z : r ≡ To end) where
