@@ -14,7 +14,7 @@ use Rattle.meaning.specs.File.{Described}
 use Rattle.meaning.specs.Check.{Checker, Typed, goes, typed, checked, reversed, zonked}
 use Rattle.meaning.specs.Answer.{nodeLines, diagnosticLines, answerLines}
 use Rattle.state.specs.Runs.{Runs}
-use Rattle.state.specs.Lines.{placeW, Lines, within, beyond, Told}
+use Rattle.state.specs.Lines.{placeW, Lines, within, beyond}
 use Rattle.writer.specs.declared.Wrote.{Wrote}
 use Rattle.writer.specs.declared.Wrote.the-variants.{To, Full}
 use Rattle.writer.specs.Writes.{placed, Writes}
@@ -32,7 +32,8 @@ module _ {out a b mid : List ℕ} {end : ℕ} (there : take (length a) out ≡ a
       let m : mid ≡ placed (length a) b out = f .fits (omega (arith, ends .0, ends .1)) .1 in
       m ∙ rw (there, ends .0) refl
 
-  pub exchanged-writes : {out′ : List ℕ} → length out′ ≡ length out → out′ ≡ slice (length a) end mid ++ (take (length a) mid ++ drop end mid) → Writes out 0 (b ++ a) out′ (To end)
+  pub exchanged-writes : {out′ : List ℕ} → length out′ ≡ length out → out′ ≡ slice (length a) end mid ++ (take (length a) mid ++ drop end mid)
+      → Writes out 0 (b ++ a) out′ (To end)
   unfolding placed slice
   exchanged-writes {out′} long e =
       let n : length (b ++ a) ≡ length b + length a = length-append b a in
@@ -49,7 +50,8 @@ module _ {out a b mid : List ℕ} {end : ℕ} (there : take (length a) out ≡ a
       }
 
 full-writes : {out : List ℕ} (a b : List ℕ) → length out < length a + length b → {out′ : List ℕ} → length out′ ≡ length out → Writes out 0 (b ++ a) out′ Full
-full-writes a b h long = let n : length (b ++ a) ≡ length b + length a = length-append b a in record { fits = λ l. absurd (omega (arith, n)); over = λ l. refl; long = long }
+full-writes a b h long = let n : length (b ++ a) ≡ length b + length a = length-append b a in
+    record { fits = λ l. absurd (omega (arith, n)); over = λ l. refl; long = long }
 
 -- ---- The whole
 abbrev answered : ℕ → Checker → Typed
@@ -66,7 +68,8 @@ abbrev reports : Checker → List ℕ
 reports c = diagnosticLines (reversed (c .diagnostics) [])
 
 answers : {w out out′ : List ℕ} {r : Wrote} → length out′ ≡ length out
-    → ((f : List ℕ) (T : Rows) (d : Described) (c : Checker) → Runs f w T d c → Lines w out (reports c) → Writes out 0 (nodes c ++ reports c) out′ r) → WritesAnswer w out out′ r
+    → ((f : List ℕ) (T : Rows) (d : Described) (c : Checker) → Runs f w T d c → Lines w out (reports c)
+    → Writes out 0 (nodes c ++ reports c) out′ r) → WritesAnswer w out out′ r
 unfolding answerLines
 answers long go = record { is = λ f T d c R L ceiling ty t q. writes-as (ap answerLines (typed-is ceiling ty c t q)) (go f T d c R L); long = long }
 
@@ -87,7 +90,8 @@ module _ {w out : List ℕ} {full : ℕ} (p : full ≡ getD w FULL 0) where
         go c (beyond q l) = absurd (omega (arith, p, free, q))
 
     module _ {mid : List ℕ} {r : Wrote} (g : WritesNodeLines w out at mid r) where
-      module _ {f : List ℕ} {T : Rows} {d : Described} (c : Checker) (R : Runs f w T d c) (e : placeW w ≡ length (reports c)) (l : length (reports c) ≤ length out) where
+      module _ {f : List ℕ} {T : Rows} {d : Described} (c : Checker) (R : Runs f w T d c)
+          (e : placeW w ≡ length (reports c)) (l : length (reports c) ≤ length out) where
         written : Writes out (length (reports c)) (nodes c) mid r
         written = rw (place ∙ e) at (g .is T (c .state) (R .holds) (R .stands .nodes ∙ sym (R .nodes)) (omega (arith, place, e)))
 
@@ -99,10 +103,12 @@ module _ {w out : List ℕ} {full : ℕ} (p : full ≡ getD w FULL 0) where
           go c R (beyond q l) = absurd (omega (arith, p, free, q))
 
       module _ {end : ℕ} (z : r ≡ To end) where
-        pub answer-exchanged : {out′ : List ℕ} → length out′ ≡ length out → out′ ≡ slice at end mid ++ (take at mid ++ drop end mid) → WritesAnswer w out out′ (To end)
+        pub answer-exchanged : {out′ : List ℕ} → length out′ ≡ length out → out′ ≡ slice at end mid ++ (take at mid ++ drop end mid)
+            → WritesAnswer w out out′ (To end)
         answer-exchanged {out′} long s = answers long (λ f T d c R L. go c R L)
           where
-            go : {f : List ℕ} {T : Rows} {d : Described} (c : Checker) → Runs f w T d c → Lines w out (reports c) → Writes out 0 (nodes c ++ reports c) out′ (To end)
+            go : {f : List ℕ} {T : Rows} {d : Described} (c : Checker) → Runs f w T d c → Lines w out (reports c)
+                → Writes out 0 (nodes c ++ reports c) out′ (To end)
             go c R (within q e l t) = exchanged-writes t l (rw z at (written c R e l)) long (rw (place ∙ e) at s)
             go c R (beyond q l) = absurd (omega (arith, p, free, q))
 

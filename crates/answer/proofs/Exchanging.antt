@@ -31,9 +31,10 @@ module _ (x y z : List ℕ) {q r : ℕ} (b : length x ≡ q) (c : length x + len
   parts : reversed 0 r (reversed q r (reversed 0 q (x ++ (y ++ z)))) ≡ y ++ (x ++ z)
   parts =
       let one : reversed 0 q (x ++ (y ++ z)) ≡ rev x ++ (y ++ z) = reversed-part [] x (y ++ z) 0 q refl b in
-      let two : reversed q r (rev x ++ (y ++ z)) ≡ rev x ++ (rev y ++ z) = reversed-part (rev x) y z q r (rev-long x ∙ b) (length-append (rev x) y ∙ omega (arith, rev-long x, c)) in
+      let two : reversed q r (rev x ++ (y ++ z)) ≡ rev x ++ (rev y ++ z) = reversed-part (rev x) y z q r (rev-long x ∙ b) (length-append (rev x) y
+      ∙ omega (arith, rev-long x, c)) in
       let three : reversed 0 r ((rev x ++ rev y) ++ z) ≡ rev (rev x ++ rev y) ++ z =
-          reversed-part [] (rev x ++ rev y) z 0 r refl (length-append (rev x) (rev y) ∙ omega (arith, rev-long x, rev-long y, c)) in
+      reversed-part [] (rev x ++ rev y) z 0 r refl (length-append (rev x) (rev y) ∙ omega (arith, rev-long x, rev-long y, c)) in
       ap (λ (l : List ℕ). reversed 0 r (reversed q r l)) one
       ∙ ap (reversed 0 r) (two ∙ sym (append-assoc (rev x) (rev y) z))
       ∙ three ∙ ap (λ (l : List ℕ). l ++ z) (rev-rev-append x y) ∙ append-assoc y x z

@@ -38,7 +38,8 @@ slot-bound : (w : List ℕ) (i : ℕ) → ¬ (getD w i 0 ≡ 0) → slotW w i �
 unfolding slotW
 slot-bound w i e = rw (ne-eqb _ _ e)
 
-pub slot-none : {w out : List ℕ} {at n : ℕ} {out′ : List ℕ} {r : Wrote} → getD w (TYS + 2 * n) 0 ≡ 0 → Writes out at (hexOf (255 ∷ [])) out′ r → WritesSlot w out at n out′ r
+pub slot-none : {w out : List ℕ} {at n : ℕ} {out′ : List ℕ} {r : Wrote} → getD w (TYS + 2 * n) 0 ≡ 0 → Writes out at (hexOf (255 ∷ [])) out′ r
+    → WritesSlot w out at n out′ r
 unfolding slotBytes zonked
 slot-none {w} {out} {at} {n} e f = record { is = λ T st H l. rw (H .types .at n l, slot-free w (TYS + 2 * n) e) f; moves = writes-moves f }
 
@@ -54,13 +55,15 @@ slot-some {w} {out} {at} {n} {out′} {r} t e q f = record {
 
 -- ---- A line
 module _ {w out : List ℕ} {at n : ℕ} {mid : List ℕ} {h : Wrote} where
-  pub node-then : Writes out at (hexOf (7 ∷ bytes₂ n)) mid h → {m : ℕ} → h ≡ To m → {out′ : List ℕ} {r : Wrote} → WritesSlot w mid m n out′ r → WritesNode w out at n out′ r
+  pub node-then : Writes out at (hexOf (7 ∷ bytes₂ n)) mid h → {m : ℕ} → h ≡ To m → {out′ : List ℕ} {r : Wrote} → WritesSlot w mid m n out′ r
+      → WritesNode w out at n out′ r
   node-then f e g = record { is = λ T st H l. hex-then _ _ f e (g .is T st H l); moves = moves-then (writes-moves f) e (g .moves) }
 
   pub node-full : Writes out at (hexOf (7 ∷ bytes₂ n)) mid h → h ≡ Full → WritesNode w out at n mid Full
   node-full f e = record { is = λ T st H l. hex-full _ _ f e; moves = full-moves (f .long) }
 
-  pub line-then : WritesNode w out at n mid h → {m : ℕ} → h ≡ To m → {out′ : List ℕ} {r : Wrote} → Writes mid m (10 ∷ []) out′ r → WritesNodeLine w out at n out′ r
+  pub line-then : WritesNode w out at n mid h → {m : ℕ} → h ≡ To m → {out′ : List ℕ} {r : Wrote} → Writes mid m (10 ∷ []) out′ r
+      → WritesNodeLine w out at n out′ r
   line-then f e g = record {
     is = λ T st H l. writes-as (sym (line-is (nodeBytes st n))) (writes-then (f .is T st H l) e g);
     moves = moves-then (f .moves) e (writes-moves g);
@@ -90,7 +93,8 @@ pub record Noding (w out₀ : List ℕ) (at n : ℕ) (out : List ℕ) (i to : �
   pub within : i ≤ n
   pub all : n ≡ getD w NODE-COUNT 0
   pub moves : Moves out₀ at out (To to)
-  pub go : (T : Rows) (st : State) → Holds w T st → getD w NODE-COUNT 0 ≡ length (st .tys) → at ≤ length out₀ → Goes out₀ at (linesFrom st 0) out to (linesFrom st i)
+  pub go : (T : Rows) (st : State) → Holds w T st → getD w NODE-COUNT 0 ≡ length (st .tys) → at ≤ length out₀
+      → Goes out₀ at (linesFrom st 0) out to (linesFrom st i)
 
 pub nodes-start : (w out : List ℕ) (at n : ℕ) → n ≡ getD w NODE-COUNT 0 → Noding w out at n out 0 at
 nodes-start w out at n e = record { within = omega arith; all = e; moves = moves-none out at; go = λ T st H c l. goes-start out at _ _ l refl }

@@ -37,7 +37,8 @@ pub record WritesNodeLine (w out : List ℕ) (at n : ℕ) (out′ : List ℕ) (r
   pub moves : Moves out at out′ r
 
 pub record WritesNodeLines (w out : List ℕ) (at : ℕ) (out′ : List ℕ) (r : Wrote) : Type 0 where
-  pub is : (T : Rows) (st : State) → Holds w T st → getD w NODE-COUNT 0 ≡ length (st .tys) → at ≤ length out → Writes out at (nodeLines 0 (map (zonked st) (st .tys))) out′ r
+  pub is : (T : Rows) (st : State) → Holds w T st → getD w NODE-COUNT 0 ≡ length (st .tys) → at ≤ length out
+      → Writes out at (nodeLines 0 (map (zonked st) (st .tys))) out′ r
   pub moves : Moves out at out′ r
 
 -- After a run that ended, with the lines of its diagnostics in the slice: the slice is full exactly where the answer is longer than

@@ -4,7 +4,7 @@ use mathlib.Core.Bool.{Bool, true, false}
 use mathlib.Core.List.{List}
 use mathlib.Core.Option.{Option, none, some}
 use mathlib.Core.Path.{_≡_, refl, sym, _∙_, ap}
-use Prim.Native.Nat.{ℕ, zero, suc, _-_, _≤_, _<_}
+use Prim.Native.Nat.{ℕ, suc, _-_, _≤_, _<_}
 use native.Mathlib.Omega.{arith}
 use lib.Dec.{ltb}
 use lib.ListN.{length, getD}
@@ -22,7 +22,6 @@ use Rattle.cells.specs.declared.Unified.the-variants as Unified
 use Rattle.cells.specs.Stands.{Rows, tree}
 use Rattle.cells.specs.Contracts.{errorOf}
 use Rattle.cells.proofs.Holding.{holds-log}
-use Rattle.meaning.specs.Syntax.{Node}
 use Rattle.meaning.specs.File.{Described}
 use Rattle.meaning.specs.Check.{Checker, Step, goes, out, Does, andThen, walk, Mark, codeOf, report, unify, rollback, snapshot, diagnosticsLen, inferAt, inferThenUnify, checkField}
 use Rattle.meaning.proofs.Meets.{Went, made-trans, reached-trans}

@@ -114,17 +114,22 @@ module _ {f w w₁ : List ℕ} (ceiling : ℕ) {head : ℕ} {b : Stmts} (S : Sta
     body-says = sym (ap (stmtsW f) bd ∙ query-body-is f w₁ (d .ast .query) (starts .runs .stands .query) (depth d) (starts .runs .stands .few) (rw (all-below (depth d) (queryNodes (d .ast .query)) (sound .query)) tt))
 
   module _ {ou w₂ ou₂ : List ℕ} {x : Done} (D : StatesAll f w₁ ou b ceiling w₂ ou₂ x) where
-    pub queried-out : x ≡ Done.Out → Queries f w ou ceiling w₂ ou₂ Done.Out
+    pub queried-out : x ≡ Done.Out → length w₂ ≡ length w → length ou₂ ≡ length ou → Queries f w ou ceiling w₂ ou₂ Done.Out
     unfolding run
-    queried-out e = record {
+    queried-out e words slice = record {
       is = λ T d sound stands. ran (query-out D T d (begin ceiling (depth d)) (d .ast .query) (body-says ou T d sound stands) (query-named d sound) (starts ou T d sound stands) e);
+      words = words;
+      slice = slice;
     }
 
-    pub queried-on : {w₃ ou₃ w₄ ou₄ : List ℕ} {l : ℕ} {r : Typed} → x ≡ Done.On l → ChecksHead f w₂ ou₂ head w₃ ou₃ → Infers f w₃ ou₃ head l w₄ ou₄ r → Queries f w ou ceiling w₄ ou₄ (onlyW r)
+    pub queried-on : {w₃ ou₃ w₄ ou₄ : List ℕ} {l : ℕ} {r : Typed} → x ≡ Done.On l → ChecksHead f w₂ ou₂ head w₃ ou₃ → Infers f w₃ ou₃ head l w₄ ou₄ r
+        → length w₄ ≡ length w → length ou₄ ≡ length ou → Queries f w ou ceiling w₄ ou₄ (onlyW r)
     unfolding run
-    queried-on {w₃} {ou₃} {w₄} {ou₄} {l} {r} e H I = record {
+    queried-on {w₃} {ou₃} {w₄} {ou₄} {l} {r} e H I words slice = record {
       is = λ T d sound stands.
           let at = head-is ou T d sound stands in
           ran (query-on D T d (begin ceiling (depth d)) (d .ast .query) (body-says ou T d sound stands) (query-named d sound) (starts ou T d sound stands) e
           (subst (λ (n : ℕ). Heads f w₂ ou₂ n l w₃ ou₃) at (H .is l)) (subst (λ (n : ℕ). Infers f w₃ ou₃ n l w₄ ou₄ r) at I));
+      words = words;
+      slice = slice;
     }

@@ -10,6 +10,7 @@
 use mathlib.Core.List.{List, [], _∷_}
 use mathlib.Core.Path.{_≡_}
 use Prim.Native.Nat.{ℕ, suc, _<_}
+use lib.ListN.{length}
 use Rattle.unification.specs.Ty as Tree
 use Rattle.unification.specs.Unify.{findKey}
 use Rattle.cells.specs.declared.Ty.{Ty}
@@ -149,3 +150,6 @@ pub data Ran (f w′ ou′ : List ℕ) (d : Described) (r : Done) : Step Tree.Ty
 
 pub record Queries (f w ou : List ℕ) (ceiling : ℕ) (w′ ou′ : List ℕ) (r : Done) : Type 0 where
   pub is : (T : Rows) (d : Described) → Sound d → Stands f w T d → Ran f w′ ou′ d r (run (d .schema) (d .ast) ceiling)
+  -- whatever stands in the slices
+  pub words : length w′ ≡ length w
+  pub slice : length ou′ ≡ length ou

@@ -186,7 +186,14 @@ pub fn infer(f: &[u8], w: &mut [u32], n: u32, left: u32, out: &mut [u8]) -> Type
     }
 }
 
-fn infer_then_unify(f: &[u8], w: &mut [u32], n: u32, expected: Ty, left: u32, out: &mut [u8]) -> Done
+fn infer_then_unify(
+    f: &[u8],
+    w: &mut [u32],
+    n: u32,
+    expected: Ty,
+    left: u32,
+    out: &mut [u8],
+) -> Done
     ensures { λ r. ⌜ InfersThenUnifies (now (f .entry)) (now (w .entry)) (now (out .entry)) n expected left (now (w .exit)) (now (out .exit)) r ⌝ }
 {
     let undo = cells::snapshot(w);
@@ -210,7 +217,15 @@ fn infer_then_unify(f: &[u8], w: &mut [u32], n: u32, expected: Ty, left: u32, ou
 }
 
 // A field in a scope of its own: whatever diagnostic arose inside it, it is rolled back.
-fn check_field(f: &[u8], w: &mut [u32], c: u32, name: u32, value: u32, left: u32, out: &mut [u8]) -> Done
+fn check_field(
+    f: &[u8],
+    w: &mut [u32],
+    c: u32,
+    name: u32,
+    value: u32,
+    left: u32,
+    out: &mut [u8],
+) -> Done
     ensures { λ r. ⌜ Mentions (now (f .entry)) (now (w .entry)) (now (out .entry)) name value c left (now (w .exit)) (now (out .exit)) r ⌝ }
 {
     let found = cells::find_key(w, Kind::Fields, c, name);
@@ -261,7 +276,15 @@ fn check_fields(f: &[u8], w: &mut [u32], items: Items, c: u32, left: u32, out: &
     Done::On(rest)
 }
 
-fn check_union(f: &[u8], w: &mut [u32], n: u32, items: Items, c: u32, left: u32, out: &mut [u8]) -> Done
+fn check_union(
+    f: &[u8],
+    w: &mut [u32],
+    n: u32,
+    items: Items,
+    c: u32,
+    left: u32,
+    out: &mut [u8],
+) -> Done
     requires { ⌜ LowerItems n items ⌝ }
     ensures { λ r. ⌜ ChecksUnion (now (f .entry)) (now (w .entry)) (now (out .entry)) n items c left (now (w .exit)) (now (out .exit)) r ⌝ }
 {
@@ -377,7 +400,15 @@ fn only(r: Typed) -> Done
 }
 
 // `bind` and `deny` with a variable on the left.
-fn bind_name(f: &[u8], w: &mut [u32], symbol: u32, lhs: u32, rhs: u32, left: u32, out: &mut [u8]) -> Done
+fn bind_name(
+    f: &[u8],
+    w: &mut [u32],
+    symbol: u32,
+    lhs: u32,
+    rhs: u32,
+    left: u32,
+    out: &mut [u8],
+) -> Done
     ensures { λ r. ⌜ BindsVariable (now (f .entry)) (now (w .entry)) (now (out .entry)) symbol lhs rhs left (now (w .exit)) (now (out .exit)) r ⌝ }
 {
     let var = introduce(w, symbol);

@@ -2,21 +2,19 @@
 use mathlib.Core.List.{List, [], _∷_, _++_, append-assoc, append-nil}
 use mathlib.Core.Path.{_≡_, refl, sym, _∙_, ap}
 use native.Mathlib.Omega.{arith}
-use Prim.Native.Nat.{ℕ, _+_, _*_, _/_, _<_, _≤_}
-use lib.ListN.{length, getD, set, take}
-use lib.Seq.{getD-set-same, getD-set-other}
-use Rattle.work.specs.Layout.{RECORD-COUNT, ENV-LEN, DIAGNOSTIC-COUNT, UNKNOWNS, PLACE, PLACE-HIGH, FULL, ENV, END}
+use Prim.Native.Nat.{ℕ, _+_, _<_, _≤_}
+use lib.ListN.{length, getD}
+use Rattle.work.specs.Layout.{ENV-LEN, DIAGNOSTIC-COUNT, UNKNOWNS, PLACE, PLACE-HIGH, FULL, ENV}
 use Rattle.cells.specs.Stands.{Rows, Keeps}
-use Rattle.cells.proofs.Frame.{keeps-trans, keeps-set, keeps-wider}
+use Rattle.cells.proofs.Frame.{keeps-wider}
 use Rattle.cells.proofs.Elsewhere.{SameState}
-use Rattle.meaning.specs.Syntax.{Node, Span, nodeAt}
+use Rattle.meaning.specs.Syntax.{nodeAt}
 use Rattle.meaning.specs.Diag.{Diagnostic}
 use Rattle.meaning.specs.Sound.{Sound}
 use Rattle.meaning.specs.File.{Described}
 use Rattle.meaning.specs.Check.{Checker, reversed}
 use Rattle.meaning.specs.Answer.{hexLine, diagnosticBytes, diagnosticLines}
 use Rattle.state.specs.declared.Code.{Code}
-use Rattle.state.specs.Words.{codeOf, countedW}
 use Rattle.state.specs.Runs.{Runs, Grew}
 use Rattle.state.specs.Lines.{AFTER-FULL, diagnosed, Lines, within, Told, Rejected}
 use Rattle.state.proofs.Running.{env-same, grew-trans, same-grew, runs-aside}
@@ -55,12 +53,14 @@ module _ {f w w′ : List ℕ} {T : Rows} {d : Described} {c : Checker} (sound :
 reversed-onto : {A : Type 0} (xs ys : List A) → reversed xs ys ≡ reversed xs [] ++ ys
 unfolding reversed
 reversed-onto [] ys = refl
-reversed-onto {A} (x ∷ xs) ys = reversed-onto xs (x ∷ ys) ∙ sym (append-assoc (reversed xs []) (x ∷ []) ys) ∙ ap (λ (l : List A). l ++ ys) (sym (reversed-onto xs (x ∷ [])))
+reversed-onto {A} (x ∷ xs) ys = reversed-onto xs (x ∷ ys) ∙ sym (append-assoc (reversed xs []) (x ∷ []) ys)
+    ∙ ap (λ (l : List A). l ++ ys) (sym (reversed-onto xs (x ∷ [])))
 
 lines-append : (ds es : List Diagnostic) → diagnosticLines (ds ++ es) ≡ diagnosticLines ds ++ diagnosticLines es
 unfolding diagnosticLines
 lines-append [] es = refl
-lines-append (d ∷ ds) es = ap (λ (l : List ℕ). hexLine (diagnosticBytes d) ++ l) (lines-append ds es) ∙ sym (append-assoc (hexLine (diagnosticBytes d)) (diagnosticLines ds) (diagnosticLines es))
+lines-append (d ∷ ds) es = ap (λ (l : List ℕ). hexLine (diagnosticBytes d) ++ l) (lines-append ds es)
+    ∙ sym (append-assoc (hexLine (diagnosticBytes d)) (diagnosticLines ds) (diagnosticLines es))
 
 line-last : (d : Diagnostic) (ds : List Diagnostic) → diagnosticLines (reversed (d ∷ ds) []) ≡ diagnosticLines (reversed ds []) ++ hexLine (diagnosticBytes d)
 unfolding reversed diagnosticLines
@@ -69,7 +69,8 @@ line-last d ds =
     ∙ ap (λ (l : List ℕ). diagnosticLines (reversed ds []) ++ l) (append-nil (hexLine (diagnosticBytes d)))
 
 -- ---- `reject`
-module _ {f w o w′ o′ : List ℕ} {T : Rows} {d : Described} {c : Checker} (sound : Sound d) (R : Runs f w T d c) {n : ℕ} {code : Code} (X : Rejected f w o n code w′ o′) (room : getD w DIAGNOSTIC-COUNT 0 < 1536) where
+module _ {f w o w′ o′ : List ℕ} {T : Rows} {d : Described} {c : Checker} (sound : Sound d) (R : Runs f w T d c)
+    {n : ℕ} {code : Code} (X : Rejected f w o n code w′ o′) (room : getD w DIAGNOSTIC-COUNT 0 < 1536) where
   mid : Runs f (X .between) T d c
   mid = place-runs sound R (X .tells .keeps)
 
@@ -80,9 +81,11 @@ module _ {f w o w′ o′ : List ℕ} {T : Rows} {d : Described} {c : Checker} (
   rejected-runs = rw (X .words) (count-runs sound mid (diagnosed code (nodeAt (d .ast .nodes) n .span)) mid-room)
 
   pub rejected-grew : Grew w w′ 0 0
-  rejected-grew = rw (X .words) (grew-trans (place-grew sound R (X .tells .keeps)) (count-grew sound mid (diagnosed code (nodeAt (d .ast .nodes) n .span)) mid-room))
+  rejected-grew = rw (X .words)
+      (grew-trans (place-grew sound R (X .tells .keeps)) (count-grew sound mid (diagnosed code (nodeAt (d .ast .nodes) n .span)) mid-room))
 
-  pub rejected-lines : n < length (d .ast .nodes) → Told w o c → Lines w′ o′ (diagnosticLines (reversed (diagnosed code (nodeAt (d .ast .nodes) n .span) ∷ c .diagnostics) []))
+  pub rejected-lines : n < length (d .ast .nodes) → Told w o c
+      → Lines w′ o′ (diagnosticLines (reversed (diagnosed code (nodeAt (d .ast .nodes) n .span) ∷ c .diagnostics) []))
   rejected-lines there L = rw (X .words, line-last (diagnosed code (nodeAt (d .ast .nodes) n .span)) (c .diagnostics)) (lines-same
       (record { at = λ i l h. count-other (X .between) mid-room i (λ q. omega arith) })
       (X .tells .lines (diagnosticLines (reversed (c .diagnostics) [])) (nodeAt (d .ast .nodes) n .span) (R .holds .long)

@@ -1,8 +1,8 @@
 -- The lines of the diagnostics in the answer slice: one line more, and the steps that leave them as they were.
-use mathlib.Core.List.{List, [], _∷_, _++_}
-use mathlib.Core.Path.{_≡_, refl, sym, ap, _∙_}
+use mathlib.Core.List.{List, _++_}
+use mathlib.Core.Path.{_≡_, refl, sym, _∙_}
 use native.Mathlib.Omega.{arith}
-use Prim.Native.Nat.{ℕ, _+_, _*_, _/_, _%_, _<_, _≤_}
+use Prim.Native.Nat.{ℕ, _+_, _/_, _%_, _<_, _≤_}
 use lib.ListN.{length, getD, set, take, drop, length-append, length-set}
 use lib.Seq.{getD-set-same, getD-set-other, take-at}
 use Rattle.work.specs.Layout.{PLACE, PLACE-HIGH, FULL, END}
@@ -26,24 +26,28 @@ pub unlined-trans : {u v w : List ℕ} → Unlined u v → Unlined v w → Unlin
 unlined-trans p q = record { at = λ i l h. q .at i l h ∙ p .at i l h }
 
 pub lines-same : {w w′ o s : List ℕ} → Unlined w w′ → Lines w o s → Lines w′ o s
-lines-same U (within f p l t) = within (U .at FULL (omega arith) (omega arith) ∙ f) (omega (arith, p, U .at PLACE (omega arith) (omega arith), U .at PLACE-HIGH (omega arith) (omega arith))) l t
+lines-same U (within f p l t) =
+    within (U .at FULL (omega arith) (omega arith) ∙ f) (omega (arith, p, U .at PLACE (omega arith) (omega arith), U .at PLACE-HIGH (omega arith) (omega arith))) l t
 lines-same U (beyond f l) = beyond (U .at FULL (omega arith) (omega arith) ∙ f) l
 
 -- ---- A text more, behind the bytes so far
 
 module _ (w : List ℕ) (at : ℕ) where
   place-keeps : Keeps PLACE AFTER-FULL w (setPlaceW w at)
-  place-keeps = keeps-trans (keeps-set w PLACE (at % 4294967296) (omega arith) (omega arith)) (keeps-set (set w PLACE (at % 4294967296)) PLACE-HIGH (at / 4294967296) (omega arith) (omega arith))
+  place-keeps = keeps-trans (keeps-set w PLACE (at % 4294967296) (omega arith) (omega arith))
+      (keeps-set (set w PLACE (at % 4294967296)) PLACE-HIGH (at / 4294967296) (omega arith) (omega arith))
 
   place-full : getD (setPlaceW w at) FULL 0 ≡ getD w FULL 0
-  place-full = getD-set-other (set w PLACE (at % 4294967296)) PLACE-HIGH FULL (at / 4294967296) 0 (λ q. omega arith) ∙ getD-set-other w PLACE FULL (at % 4294967296) 0 (λ q. omega arith)
+  place-full = getD-set-other (set w PLACE (at % 4294967296)) PLACE-HIGH FULL (at / 4294967296) 0 (λ q. omega arith)
+      ∙ getD-set-other w PLACE FULL (at % 4294967296) 0 (λ q. omega arith)
 
   place-now : END ≤ length w → placeW (setPlaceW w at) ≡ at
   place-now long =
       let low : getD (setPlaceW w at) PLACE 0 ≡ at % 4294967296 =
-          getD-set-other (set w PLACE (at % 4294967296)) PLACE-HIGH PLACE (at / 4294967296) 0 (λ q. omega arith) ∙ getD-set-same w PLACE (at % 4294967296) 0 (omega arith) in
+      getD-set-other (set w PLACE (at % 4294967296)) PLACE-HIGH PLACE (at / 4294967296) 0 (λ q. omega arith)
+      ∙ getD-set-same w PLACE (at % 4294967296) 0 (omega arith) in
       let high : getD (setPlaceW w at) PLACE-HIGH 0 ≡ at / 4294967296 =
-          getD-set-same (set w PLACE (at % 4294967296)) PLACE-HIGH (at / 4294967296) 0 (omega (arith, length-set w PLACE (at % 4294967296))) in
+      getD-set-same (set w PLACE (at % 4294967296)) PLACE-HIGH (at / 4294967296) 0 (omega (arith, length-set w PLACE (at % 4294967296))) in
       omega (arith, low, high)
 
 placed-taken : (s x o : List ℕ) → take (length s) o ≡ s → take (length (s ++ x)) (placed (length s) x o) ≡ s ++ x
@@ -56,7 +60,8 @@ module _ {w o s x : List ℕ} {o′ : List ℕ} {r : Wrote} (free : getD w FULL 
       let h = writes-to f e in
       let n : length (s ++ x) ≡ length s + length x = length-append s x in
       let o-is : o′ ≡ placed (length s) x o = rw p at (f .fits (omega (arith, h .0, h .1)) .1) in
-      within (place-full w m ∙ free) (place-now w m long ∙ omega (arith, h .0, p, n)) (omega (arith, h .0, h .1, p, n, f .long)) (rw o-is (placed-taken s x o t))
+      within (place-full w m ∙ free) (place-now w m long ∙ omega (arith, h .0, p, n))
+      (omega (arith, h .0, h .1, p, n, f .long)) (rw o-is (placed-taken s x o t))
   lines-behind e (beyond q l) = absurd (omega (arith, free, q))
 
   lines-over : r ≡ Full → Lines w o s → Lines (set w FULL 1) o′ (s ++ x)
@@ -79,7 +84,11 @@ module _ {f w o : List ℕ} {n : ℕ} {c : Code} {full : ℕ} (p : full ≡ getD
     told {m} e k = rw k record { lines = λ s b long t L. lines-behind (sym p ∙ free) (text b t) long e L; keeps = place-keeps w m; long = g .long }
 
     pub no-room : {w′ : List ℕ} → r ≡ Full → w′ ≡ set w FULL 1 → Tells f w o n c w′ o′
-    no-room e k = rw k record { lines = λ s b long t L. lines-over (sym p ∙ free) (text b t) long e L; keeps = keeps-set w FULL 1 (omega arith) (omega arith); long = g .long }
+    no-room e k = rw k record {
+      lines = λ s b long t L. lines-over (sym p ∙ free) (text b t) long e L;
+      keeps = keeps-set w FULL 1 (omega arith) (omega arith);
+      long = g .long;
+    }
 
   pub was-full : ¬ (full ≡ 0) → Tells f w o n c w o
   was-full some = record { lines = λ s b long t L. lines-full _ (λ z. some (p ∙ z)) L; keeps = keeps-refl; long = refl }

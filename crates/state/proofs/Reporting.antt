@@ -2,7 +2,6 @@
 use mathlib.Core.List.{List, _∷_}
 use mathlib.Core.Logic.{_≢_}
 use mathlib.Core.Path.{_≡_, refl, sym, _∙_, ap}
-use native.Mathlib.Numerals.{add-one}
 use native.Mathlib.Omega.{arith}
 use Prim.Native.Nat.{ℕ, suc, _+_, _<_, _≤_}
 use lib.ListN.{length, getD, set}
@@ -44,7 +43,8 @@ module _ (w : List ℕ) (room : getD w DIAGNOSTIC-COUNT 0 < 1536) where
   counted long = rw count-is (getD-set-same w DIAGNOSTIC-COUNT (count + 1) 0 (omega arith))
 
 -- ---- The run after
-module _ {f w : List ℕ} {T : Rows} {d : Described} {c : Checker} (sound : Sound d) (R : Runs f w T d c) (x : Diagnostic) (room : getD w DIAGNOSTIC-COUNT 0 < 1536) where
+module _ {f w : List ℕ} {T : Rows} {d : Described} {c : Checker} (sound : Sound d) (R : Runs f w T d c)
+    (x : Diagnostic) (room : getD w DIAGNOSTIC-COUNT 0 < 1536) where
   pub count-runs : Runs f (countedW w) T d (record { state = c .state; env = c .env; diagnostics = x ∷ c .diagnostics })
   count-runs =
       let len = count-other w room ENV-LEN (λ q. omega arith) in

@@ -62,7 +62,8 @@ span-at f w n nd h = record {
   there = span-there f w n nd h;
   digits =
       let room : 16 ≤ length (drop (lineStartW w n + 2) f) = simp length-drop (omega (arith, span-there f w n nd h)) in
-      sym (ap (take 16) (span-written f w n nd h []) ∙ take-at (take 16 (drop (lineStartW w n + 2) f)) (hexLine []) 16 (length-take-le 16 (drop (lineStartW w n + 2) f) room));
+      sym (ap (take 16) (span-written f w n nd h [])
+      ∙ take-at (take 16 (drop (lineStartW w n + 2) f)) (hexLine []) 16 (length-take-le 16 (drop (lineStartW w n + 2) f) room));
 }
 
 -- ---- A line
@@ -79,7 +80,8 @@ module _ {f out : List ℕ} {at line : ℕ} {mid : List ℕ} {h : Wrote} (p : Wr
 
 module _ {f w out : List ℕ} {at n : ℕ} {c : Code} {mid : List ℕ} {h : Wrote} where
   module _ (line : ℕ) (q : line ≡ lineStartW w n) (p : WritesHead f out at line mid h) where
-    pub diagnostic-then : {m : ℕ} → h ≡ To m → {out′ : List ℕ} {r : Wrote} → WritesText mid m (ascii (asStr (codeOf c))) out′ r → WritesDiagnostic f w out at n c out′ r
+    pub diagnostic-then : {m : ℕ} → h ≡ To m → {out′ : List ℕ} {r : Wrote} → WritesText mid m (ascii (asStr (codeOf c))) out′ r
+        → WritesDiagnostic f w out at n c out′ r
     unfolding diagnosticBytes
     diagnostic-then e g = record {
       is = λ s t. let b = p .is s (rw q t) in hex-then _ _ b e (g .is (omega (arith, writes-to b e .1, b .long)));
@@ -90,7 +92,8 @@ module _ {f w out : List ℕ} {at n : ℕ} {c : Code} {mid : List ℕ} {h : Wrot
     unfolding diagnosticBytes
     diagnostic-full e = record { is = λ s t. hex-full _ _ (p .is s (rw q t)) e; long = p .long }
 
-  pub closed-then : WritesDiagnostic f w out at n c mid h → {m : ℕ} → h ≡ To m → {out′ : List ℕ} {r : Wrote} → Writes mid m (10 ∷ []) out′ r → WritesLine f w out at n c out′ r
+  pub closed-then : WritesDiagnostic f w out at n c mid h → {m : ℕ} → h ≡ To m → {out′ : List ℕ} {r : Wrote} → Writes mid m (10 ∷ []) out′ r
+      → WritesLine f w out at n c out′ r
   closed-then p e g = record {
     is = λ s t. writes-as (sym (line-is (diagnosticBytes (diagnosed c s)))) (writes-then (p .is s t) e g);
     long = g .long ∙ p .long;

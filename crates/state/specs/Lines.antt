@@ -66,7 +66,8 @@ Told w o c = Lines w o (diagnosticLines (reversed (c .diagnostics) []))
 
 -- A line behind those before it, whatever they were.
 pub record Tells (f w o : List ℕ) (n : ℕ) (c : Code) (w′ o′ : List ℕ) : Type 0 where
-  pub lines : (s : List ℕ) (p : Span) → END ≤ length w → SpanAt f (lineStartW w n) p → Lines w o s → Lines w′ o′ (s ++ hexLine (diagnosticBytes (diagnosed c p)))
+  pub lines : (s : List ℕ) (p : Span) → END ≤ length w → SpanAt f (lineStartW w n) p → Lines w o s
+      → Lines w′ o′ (s ++ hexLine (diagnosticBytes (diagnosed c p)))
   pub keeps : Keeps PLACE AFTER-FULL w w′
   pub long : length o′ ≡ length o
 

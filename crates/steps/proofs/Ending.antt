@@ -3,7 +3,7 @@ use mathlib.Core.List.{List, [], _∷_}
 use mathlib.Core.Option.{Option, none, some}
 use mathlib.Core.Path.{_≡_, refl, sym, subst, _∙_, ap}
 use native.Mathlib.Omega.{arith}
-use Prim.Native.Nat.{ℕ, zero, suc, _<_}
+use Prim.Native.Nat.{ℕ, _<_}
 use lib.ListN.{length, getD}
 use Rattle.unification.specs.Ty as Tree
 use Rattle.unification.specs.Bindings as Bindings
@@ -24,7 +24,6 @@ use Rattle.meaning.proofs.Steps.{one-diagnostic, same-self}
 use Rattle.state.specs.declared.Code.{Code}
 use Rattle.state.specs.Words.{codeOf, Introduces}
 use Rattle.state.specs.Lines.{Lines, Told, Rejected}
-use Rattle.state.specs.Runs.{Runs}
 use Rattle.state.proofs.Running.{grew-refl, annotate-runs, grew-slots, fresh-word, fresh-runs, fresh-grew}
 use Rattle.state.proofs.Scoping.{runs-env-length, Gives, introduce-runs}
 use Rattle.state.proofs.Lining.{lines-same}

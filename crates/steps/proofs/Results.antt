@@ -120,7 +120,8 @@ unfolding andThen
 silent-typed t o (went g) = went (record {
   T′ = g .T′;
   more = g .more;
-  runs = g .runs; lines = g .lines;
+  runs = g .runs;
+  lines = g .lines;
   grew = g .grew;
   is = record { t = t; res = ap (Typed.Got t) (sym (g .is)); ok = ok-kept (g .grew .adds) t o; is = tree-more (g .more) t o };
 })

@@ -71,8 +71,8 @@ pub ends-here : {A : Type 0} {f w ou : List ℕ} {T : Rows} {d : Described} {n m
 ends-here {T = T} a c r t i = went (record { T′ = T; more = more-refl; runs = r; lines = t; grew = grew-refl; is = i })
 
 -- More may have been made than was; and another result by the same words.
-pub gone-as : {A B : Type 0} {f w ou w′ ou′ : List ℕ} {T : Rows} {d : Described} {n m k l : ℕ} {E : Result A} {E′ : Result B} {a : A} {a′ : B} {c : Checker} → n ≤ k → m ≤ l
-    → ((R : Rows) → E .Is R a (c .state .left) → E′ .Is R a′ (c .state .left)) → Gone f w ou w′ ou′ T d n m E a c → Gone f w ou w′ ou′ T d k l E′ a′ c
+pub gone-as : {A B : Type 0} {f w ou w′ ou′ : List ℕ} {T : Rows} {d : Described} {n m k l : ℕ} {E : Result A} {E′ : Result B} {a : A} {a′ : B} {c : Checker}
+    → n ≤ k → m ≤ l → ((R : Rows) → E .Is R a (c .state .left) → E′ .Is R a′ (c .state .left)) → Gone f w ou w′ ou′ T d n m E a c → Gone f w ou w′ ou′ T d k l E′ a′ c
 gone-as i j to g = record { T′ = g .T′; more = g .more; runs = g .runs; lines = g .lines; grew = grew-wider i j (g .grew); is = to (g .T′) (g .is) }
 
 pub ends-wider : {A : Type 0} {f w ou w′ ou′ : List ℕ} {T : Rows} {d : Described} {n m k l : ℕ} {E : Result A} {s : Step A} → n ≤ k → m ≤ l → Ends f w ou w′ ou′ T d n m E s → Ends f w ou w′ ou′ T d k l E s
@@ -98,7 +98,8 @@ pub gone-trans : {A B : Type 0} {f w ou w₁ ou₁ w₂ ou₂ : List ℕ} {T : R
 gone-trans G H K fits g h = record {
   T′ = h .T′;
   more = more-trans (g .grew .adds) (g .more) (h .more);
-  runs = h .runs; lines = h .lines;
+  runs = h .runs;
+  lines = h .lines;
   grew = grew-trans (fits .records) (fits .fields) (g .grew) (h .grew);
   is = h .is;
 }

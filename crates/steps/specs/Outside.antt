@@ -6,7 +6,6 @@ use mathlib.Core.Path.{_≡_}
 use Prim.Native.Nat.{ℕ, _+_, _*_, _/_, _%_, _<_}
 use lib.Dec.{eqb, ltb}
 use lib.ListN.{length, getD, set}
-use Rattle.unification.specs.Ty as Tree
 use Rattle.work.specs.Layout.{PREDICATE-COUNT, MAX-DISTANCE, MAX-TERM, NAMES, PREDICATES, RECORD-COUNT, RECORD-FIELD-COUNT, ENV-LEN, DIAGNOSTIC-COUNT, UNKNOWNS, TYS, UNDO-LEN}
 use Rattle.cells.specs.declared.Ty.{Ty}
 use Rattle.cells.specs.declared.Bound.{Bound}
@@ -19,7 +18,7 @@ use Rattle.cells.specs.Contracts.{RollsBack}
 use Rattle.meaning.specs.Schema.{fieldOf}
 use Rattle.meaning.specs.File.{Described}
 use Rattle.meaning.specs.Check as Check
-use Rattle.meaning.specs.Check.{Checker, Does}
+use Rattle.meaning.specs.Check.{Checker}
 use Rattle.meaning.proofs.Steps.{one-diagnostic}
 use Rattle.state.specs.declared.Code.{Code}
 use Rattle.state.specs.declared.Code.the-variants as Code

@@ -64,7 +64,15 @@ pub fn rollback(w: &mut [u32], undo: u32, env: u32)
 }
 
 // Unifies, and reports a failure at a node.
-pub fn unify_at(f: &[u8], w: &mut [u32], n: u32, got: Ty, expected: Ty, left: u32, out: &mut [u8]) -> Done
+pub fn unify_at(
+    f: &[u8],
+    w: &mut [u32],
+    n: u32,
+    got: Ty,
+    expected: Ty,
+    left: u32,
+    out: &mut [u8],
+) -> Done
     ensures { λ r. ⌜ UnifiesAt (now (f .entry)) (now (w .entry)) (now (out .entry)) n got expected left (now (w .exit)) (now (out .exit)) r ⌝ }
 {
     let r = cells::unify(w, got, expected, left);
@@ -93,7 +101,16 @@ pub fn compare_order(f: &[u8], w: &mut [u32], lhs: u32, t: Ty, left: u32, out: &
     }
 }
 
-pub fn compare_types(f: &[u8], w: &mut [u32], lhs: u32, rhs: u32, a: Ty, b: Ty, left: u32, out: &mut [u8]) -> Done
+pub fn compare_types(
+    f: &[u8],
+    w: &mut [u32],
+    lhs: u32,
+    rhs: u32,
+    a: Ty,
+    b: Ty,
+    left: u32,
+    out: &mut [u8],
+) -> Done
     ensures { λ r. ⌜ ComparesTypes (now (f .entry)) (now (w .entry)) (now (out .entry)) lhs rhs a b left (now (w .exit)) (now (out .exit)) r ⌝ }
 {
     let u = cells::unify(w, b, a, left);
@@ -193,7 +210,15 @@ pub fn value_of(f: &[u8], w: &mut [u32], n: u32, base: Ty, left: u32, out: &mut 
     }
 }
 
-pub fn field_at(f: &[u8], w: &mut [u32], n: u32, name: u32, t: Ty, left: u32, out: &mut [u8]) -> Typed
+pub fn field_at(
+    f: &[u8],
+    w: &mut [u32],
+    n: u32,
+    name: u32,
+    t: Ty,
+    left: u32,
+    out: &mut [u8],
+) -> Typed
     ensures { λ r. ⌜ FieldAt (now (f .entry)) (now (w .entry)) (now (out .entry)) n name t left (now (w .exit)) (now (out .exit)) r ⌝ }
 {
     let found = field_of(w, t, name);
@@ -204,7 +229,15 @@ pub fn field_at(f: &[u8], w: &mut [u32], n: u32, name: u32, t: Ty, left: u32, ou
 }
 
 // On a fact it is the key's field, and a fact of an absent predicate is an error without a diagnostic.
-pub fn key_of(f: &[u8], w: &mut [u32], n: u32, name: u32, base: Ty, left: u32, out: &mut [u8]) -> Typed
+pub fn key_of(
+    f: &[u8],
+    w: &mut [u32],
+    n: u32,
+    name: u32,
+    base: Ty,
+    left: u32,
+    out: &mut [u8],
+) -> Typed
     ensures { λ r. ⌜ KeyOf (now (f .entry)) (now (w .entry)) (now (out .entry)) n name base left (now (w .exit)) (now (out .exit)) r ⌝ }
 {
     match base {
@@ -222,7 +255,15 @@ pub fn key_of(f: &[u8], w: &mut [u32], n: u32, name: u32, base: Ty, left: u32, o
     }
 }
 
-pub fn select_of(f: &[u8], w: &mut [u32], n: u32, name: u32, base: Ty, left: u32, out: &mut [u8]) -> Typed
+pub fn select_of(
+    f: &[u8],
+    w: &mut [u32],
+    n: u32,
+    name: u32,
+    base: Ty,
+    left: u32,
+    out: &mut [u8],
+) -> Typed
     ensures { λ r. ⌜ SelectOf (now (f .entry)) (now (w .entry)) (now (out .entry)) n name base left (now (w .exit)) (now (out .exit)) r ⌝ }
 {
     match base {
