@@ -1,3 +1,4 @@
+mod Continuing
 mod Turning
 mod Telling
 mod Deciding

@@ -24,17 +24,15 @@ use Rattle.tree.specs.Stands.{SchemaStands}
 use Rattle.reading.specs.declared.Refusal.the-variants as Refusal
 use Rattle.loading.specs.Contracts.{Ahead}
 use Rattle.loading.proofs.Lines.{query-ahead, all-ahead}
-use Rattle.answer.specs.declared.Wrote.{Wrote}
-use Rattle.answer.specs.declared.Wrote.the-variants.{To, Full}
-use Rattle.answer.specs.Writes.{Writes}
-use Rattle.answer.proofs.Writing.{writes-none, writes-to, writes-as, writes-then, whole-there, whole-over}
+use Rattle.writer.specs.declared.Wrote.{Wrote}
+use Rattle.writer.specs.declared.Wrote.the-variants.{To, Full}
 use Rattle.desk.specs.declared.Turn.{Turn}
 use Rattle.desk.specs.declared.Turn.the-variants as Turn
 use Rattle.desk.specs.declared.Outcome.{Outcome}
 use Rattle.desk.specs.declared.Outcome.the-variants as Outcome
-use Rattle.desk.specs.Turns.{headLine, several, Follows, Turned, Turns}
+use Rattle.desk.specs.Turns.{headLine, several, Follows, Turned, Turns, Continues}
+use Rattle.desk.proofs.Continuing.{continues-none, continues-to, continues-as, continues-then, after-full, whole-there, whole-over}
 use Rattle.desk.specs.Contracts.{Told, RunsQueries}
-use Rattle.desk.proofs.Turning.{after-full}
 
 -- ---- The lines of queries, from number k on
 
@@ -100,7 +98,7 @@ record Telling (f : List ℕ) (form : Form) (w out₀ out : List ℕ) (at k : �
   sound : All (λ a. Sound (viewOf form a)) left
   rows : Rows
   stands : SchemaStands w rows (form .schema)
-  written : Writes out₀ 0 (linesOf (ltb 1 (length (form .queries))) 0 ts) out page
+  written : Continues out₀ 0 (linesOf (ltb 1 (length (form .queries))) 0 ts) out page
 
 pub record Midway (f w₀ out₀ w out : List ℕ) (at k : ℕ) (page : Wrote) : Type 0 where
   pub words : length w ≡ length w₀
@@ -127,17 +125,17 @@ midway-start f w out small = record {
     sound = sound f form e;
     rows = T;
     stands = S;
-    written = writes-none out 0 (omega arith);
+    written = continues-none out 0 (omega arith);
   };
 }
 
 -- The page goes on from wherever it stands.
-goes-on : {out₀ a out : List ℕ} {page : Wrote} {b out′ : List ℕ} {r : Wrote} → Writes out₀ 0 a out page → Follows out page b out′ r → Writes out₀ 0 (a ++ b) out′ r
+goes-on : {out₀ a out : List ℕ} {page : Wrote} {b out′ : List ℕ} {r : Wrote} → Continues out₀ 0 a out page → Follows out page b out′ r → Continues out₀ 0 (a ++ b) out′ r
 goes-on {out₀} {a} {out} {page} {b} {out′} {r} f g = go page refl
   where
-    go : (p : Wrote) → page ≡ p → Writes out₀ 0 (a ++ b) out′ r
-    go (To n) e = writes-then f e (g .1 n e (omega (arith, writes-to f e .1, f .long)))
-    go Full e = subst (Writes out₀ 0 (a ++ b) out′) (sym (g .2 e)) (after-full f e b out′ (g .0 ∙ f .long))
+    go : (p : Wrote) → page ≡ p → Continues out₀ 0 (a ++ b) out′ r
+    go (To n) e = continues-then f e (g .1 n e (omega (arith, continues-to f e .1, f .long)))
+    go Full e = subst (Continues out₀ 0 (a ++ b) out′) (sym (g .2 e)) (after-full f e b out′ (g .0 ∙ f .long))
 
 module _ {f w₀ out₀ w out : List ℕ} {at k : ℕ} {page : Wrote} (m : Midway f w₀ out₀ w out at k page) where
   -- ---- A turn
@@ -194,7 +192,7 @@ module _ {f w₀ out₀ w out : List ℕ} {at k : ℕ} {page : Wrote} (m : Midwa
                 sound = y .later;
                 rows = z .4 .0;
                 stands = z .4 .1;
-                written = subst (Writes out₀ 0 (linesOf m₀ 0 (x .ts ++ u ∷ [])) out′) to (writes-as (sym (lines-snoc m₀ 0 (x .ts) u)) (goes-on (x .written) follows));
+                written = subst (Continues out₀ 0 (linesOf m₀ 0 (x .ts ++ u ∷ [])) out′) to (continues-as (sym (lines-snoc m₀ 0 (x .ts) u)) (goes-on (x .written) follows));
               }
 
       one-out : r ≡ Turn.Out → runAll (form .schema) (form .queries) ≡ none
@@ -226,19 +224,19 @@ module _ {f w₀ out₀ w out : List ℕ} {at k : ℕ} {page : Wrote} (m : Midwa
   module _ (end : length f ≤ at) where
     -- what is decided stands on the page
     at-end : (T : Rows) (form : Form) → reading f ≡ described form → minWords ≤ length w₀ → SchemaStands w₀ T (form .schema)
-        → (ts : List Typed) × (runAll (form .schema) (form .queries) ≡ some ts) × Writes out₀ 0 (formLines ts) out page
+        → (ts : List Typed) × (runAll (form .schema) (form .queries) ≡ some ts) × Continues out₀ 0 (formLines ts) out page
     at-end T form q l S = let x = m .is T form q l S in go x (x .left) (x .are) (x .ahead)
       where
         go : (x : Telling f form w out₀ out at k page) (left : List Ast) → x .before ++ left ≡ form .queries → Ahead f at left
-            → (ts : List Typed) × (runAll (form .schema) (form .queries) ≡ some ts) × Writes out₀ 0 (formLines ts) out page
+            → (ts : List Typed) × (runAll (form .schema) (form .queries) ≡ some ts) × Continues out₀ 0 (formLines ts) out page
         go x (a ∷ qs) e A = absurd (omega (arith, query-ahead A))
         go x [] e A =
             let whole : x .before ≡ form .queries = sym (append-nil (x .before)) ∙ e in
             let ran : Each (Ran (form .schema)) (form .queries) (x .ts) = subst (λ qs. Each (Ran (form .schema)) qs (x .ts)) whole (x .ran) in
             let count : length (form .queries) ≡ length (x .ts) = sym (each-long (Ran (form .schema)) (form .queries) (x .ts) ran) in
-            (x .ts, each-ran (form .schema) (form .queries) (x .ts) ran, writes-as (ap (λ n. linesOf (ltb 1 n) 0 (x .ts)) count ∙ sym (form-lines (x .ts))) (x .written))
+            (x .ts, each-ran (form .schema) (form .queries) (x .ts) ran, continues-as (ap (λ n. linesOf (ltb 1 n) 0 (x .ts)) count ∙ sym (form-lines (x .ts))) (x .written))
 
-    module _ (o : Outcome) (tell : (ls : List ℕ) → Writes out₀ 0 ls out page → Told out₀ out o (answered ls)) where
+    module _ (o : Outcome) (tell : (ls : List ℕ) → Continues out₀ 0 ls out page → Told out₀ out o (answered ls)) where
       by-page : RunsQueries f w₀ out₀ out o
       unfolding decideRun
       by-page = record { told = λ T form q l S. let y = at-end T form q l S in subst (λ x. Told out₀ out o (decideRun x)) (sym (y .1)) (tell (formLines (y .0)) (y .2)) }

@@ -2,9 +2,9 @@
 use mathlib.Core.Bool.{Bool, true, false}
 use mathlib.Core.List.{List, [], _∷_, _++_}
 use mathlib.Core.Path.{_≡_}
-use Prim.Native.Nat.{ℕ, zero, suc, _≤_, _<_}
+use Prim.Native.Nat.{ℕ, zero, suc, _+_, _≤_, _<_}
 use lib.Dec.{ltb}
-use lib.ListN.{length}
+use lib.ListN.{length, take}
 use Rattle.cells.specs.Stands.{Rows}
 use Rattle.meaning.specs.Syntax.{Ast}
 use Rattle.meaning.specs.File.{Described}
@@ -12,11 +12,12 @@ use Rattle.meaning.specs.Sound.{Sound}
 use Rattle.meaning.specs.Check.{Typed, Checked, typed, exhausted, check}
 use Rattle.meaning.specs.Answer.{bytes₂, hexLine, answerLines}
 use Rattle.meaning.specs.Outcome.{minWords, maxVisits}
-use Rattle.tree.specs.Stands.{SchemaStands}
+use Rattle.tree.specs.Stands.{SchemaStands, Stands}
 use Rattle.loading.specs.Contracts.{Ahead}
-use Rattle.answer.specs.declared.Wrote.{Wrote}
-use Rattle.answer.specs.declared.Wrote.the-variants.{To, Full}
-use Rattle.answer.specs.Writes.{Writes}
+use Rattle.writer.specs.declared.Wrote.{Wrote}
+use Rattle.writer.specs.declared.Wrote.the-variants.{To, Full}
+use Rattle.desk.specs.declared.Ended.{Ended}
+use Rattle.desk.specs.declared.Ended.the-variants as Ended
 use Rattle.desk.specs.declared.Turn.{Turn}
 use Rattle.desk.specs.declared.Turn.the-variants as Turn
 
@@ -48,9 +49,28 @@ pub record OneOfSeveral (k next end : ℕ) (r : Bool) : Type 0 where
   pub first : k ≡ 0 → r ≡ ltb next end
   pub later : 0 < k → r ≡ true
 
+-- A text stands from a place on, and what stood before it stays, or the slice is too short; the rest of the slice may be anything, since
+-- a run leaves lines there that change places.
+pub record Continues (out : List ℕ) (at : ℕ) (text out′ : List ℕ) (r : Wrote) : Type 0 where
+  pub fits : at + length text ≤ length out → (r ≡ To (at + length text)) × (take (at + length text) out′ ≡ take at out ++ text)
+  pub over : length out < at + length text → r ≡ Full
+  pub long : length out′ ≡ length out
+
 -- A text is written after what stands on the page.
 abbrev pub Follows : List ℕ → Wrote → List ℕ → List ℕ → Wrote → Type 0
-Follows out page text out′ r = (length out′ ≡ length out) × ((n : ℕ) → page ≡ To n → n ≤ length out → Writes out n text out′ r) × (page ≡ Full → r ≡ Full)
+Follows out page text out′ r = (length out′ ≡ length out) × ((n : ℕ) → page ≡ To n → n ≤ length out → Continues out n text out′ r) × (page ≡ Full → r ≡ Full)
+
+-- ---- The run and its lines
+
+-- The visits ran out; or the answer's lines stand at the start of the slice, and the schema stands as before.
+unfoldable pub Answered : List ℕ → List ℕ → List ℕ → Ended → Described → Checked → Type 0
+Answered out w′ out′ r d exhausted = r ≡ Ended.Out
+Answered out w′ out′ r d (typed t) = (a : Wrote) × (r ≡ Ended.Lines a) × ((T : Rows) × SchemaStands w′ T (d .schema)) × Continues out 0 (answerLines t) out′ a
+
+pub record Answers (f w out w′ out′ : List ℕ) (r : Ended) : Type 0 where
+  pub is : (T : Rows) (d : Described) → Sound d → Stands f w T d → Answered out w′ out′ r d (check maxVisits (d .schema) (d .ast))
+  pub words : length w′ ≡ length w
+  pub bytes : length out′ ≡ length out
 
 -- ---- The turn
 

@@ -6,9 +6,9 @@ ghost use lib.ListN.{length};
 ghost use Rattle.meaning.specs.Refusal.{number};
 ghost use Rattle.meaning.specs.Answer.{hexLine};
 ghost use Rattle.reading.specs.Contracts.{refusal};
-ghost use Rattle.desk.specs.Turns.{headLine, Follows, Least, Place, OneOfSeveral, Turns};
+ghost use Rattle.desk.specs.Turns.{headLine, Follows, Least, Place, OneOfSeveral, Answers, Turns};
 ghost use Rattle.desk.specs.Contracts.{RunsQueries, RunsFile, ChecksFile};
-use answer::Wrote;
+use writer::Wrote;
 use reading::Counters;
 use reading::Read;
 use reading::Refusal;
@@ -17,6 +17,12 @@ use steps::Done;
 pub enum Outcome {
     Accepted(usize),
     Refused(Refusal),
+}
+
+// How a query's run ends: its visits ran out, or where its lines end.
+pub enum Ended {
+    Lines(Wrote),
+    Out,
 }
 
 // How a query's turn ends: where the next one starts and what is written by then, or its visits ran out.
@@ -65,6 +71,17 @@ fn heading(out: &mut [u8], page: Wrote, k: u32, several: bool) -> Wrote
     }
 }
 
+// The run of the query that is loaded, and its answer from the start of the slice on.
+fn answer_query(file: &[u8], work: &mut [u32], out: &mut [u8]) -> Ended
+    ensures { λ r. ⌜ Answers (now (file .entry)) (now (work .entry)) (now (out .entry)) (now (work .exit)) (now (out .exit)) r ⌝ }
+{
+    let d = checker::query(file, work, Counters::VISITS, out);
+    match d {
+        Done::Out => Ended::Out,
+        Done::On(_) => Ended::Lines(answer::write(work, out)),
+    }
+}
+
 // One query, from its lines to its answer. Where the slice is full it still runs, for its visits.
 fn one_query(
     file: &[u8],
@@ -80,15 +97,14 @@ fn one_query(
     let several = is_one_of_several(k, next, file.len());
     let head = heading(out, page, k, several);
     let from = place(head, out.len());
-    let d = checker::query(file, work, Counters::VISITS);
-    match d {
-        Done::Out => {
+    let rest = out.len() - from;
+    let e = answer_query(file, work, &mut out[from..]);
+    let a = match e {
+        Ended::Lines(a) => a,
+        Ended::Out => {
             return Turn::Out;
         }
-        Done::On(_) => {}
-    }
-    let rest = out.len() - from;
-    let a = answer::write(file, work, &mut out[from..]);
+    };
     match head {
         Wrote::To(_) => match a {
             Wrote::To(n) => Turn::On(next, Wrote::To(from + least(n, rest))),
@@ -177,7 +193,7 @@ pub fn refusal_line(e: Refusal) -> [u8; 5]
     ensures { λ r. ⌜ r ≡ hexLine (0x0f ∷ number (refusal e) ∷ []) ⌝ }
 {
     let n = refusal_number(e);
-    let high = answer::hex_digit((n / 16) as u32);
-    let low = answer::hex_digit((n % 16) as u32);
+    let high = writer::hex_digit((n / 16) as u32);
+    let low = writer::hex_digit((n % 16) as u32);
     [48, 102, high, low, 10]
 }

@@ -108,6 +108,12 @@ pub const ENV_LEN: usize = RECORD_COUNT + 2;
 pub const DIAGNOSTIC_COUNT: usize = RECORD_COUNT + 3;
 
 pub const UNKNOWNS: usize = RECORD_COUNT + 4;
+// Where the next line of a diagnostic goes in the answer slice, in two words; and 1 where one had no room.
+pub const PLACE: usize = RECORD_COUNT + 5;
+
+pub const PLACE_HIGH: usize = RECORD_COUNT + 6;
+
+pub const FULL: usize = RECORD_COUNT + 7;
 
 pub const RECORDS: usize = RECORD_COUNT + 16;
 
@@ -115,9 +121,8 @@ pub const RECORD_FIELDS: usize = RECORDS + Counters::RECORDS as usize;
 
 pub const ENV: usize = RECORD_FIELDS + 2 * Counters::RECORD_FIELDS as usize;
 
-pub const DIAGNOSTICS: usize = ENV + Counters::ENTRIES as usize;
-
-pub const TYS: usize = DIAGNOSTICS + Counters::DIAGNOSTICS as usize / 2;
+// The words between the environment and the node types are free.
+pub const TYS: usize = ENV + Counters::ENTRIES as usize + 768;
 
 pub const UNDO_LEN: usize = TYS + 2 * Counters::NODES as usize;
 

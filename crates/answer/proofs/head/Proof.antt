@@ -5,8 +5,8 @@ use Rattle.answer.proofs.head.Statement.{statement}
 use Rattle.answer.proofs.head.Tie as tie
 use Rattle.answer.proofs.head.Reads as reads
 use Rattle.answer.proofs.head.Lts as lts
-use Rattle.answer.proofs.byte.Reads as byte-reads
-use Rattle.answer.proofs.tagged.Reads as tagged-reads
+use Rattle.writer.proofs.byte.Reads as byte-reads
+use Rattle.writer.proofs.tagged.Reads as tagged-reads
 use Rattle.cells.proofs.count.Reads as count-reads
 use native.Mathlib.Omega.{arith}
 use Rattle.answer.specs.Types.{headOf}

@@ -6,7 +6,7 @@ use Rattle.answer.proofs.node.Tie as tie
 use Rattle.answer.proofs.node.Reads as reads
 use Rattle.answer.proofs.node.Lts as lts
 use Rattle.answer.proofs.slot.Reads as slot-reads
-use Rattle.answer.proofs.tagged.Reads as tagged-reads
+use Rattle.writer.proofs.tagged.Reads as tagged-reads
 use native.Mathlib.Omega.{arith}
 use Rattle.answer.proofs.Noding.{node-then, node-full}
 

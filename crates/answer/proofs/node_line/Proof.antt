@@ -5,7 +5,7 @@ use Rattle.answer.proofs.node_line.Statement.{statement}
 use Rattle.answer.proofs.node_line.Tie as tie
 use Rattle.answer.proofs.node_line.Reads as reads
 use Rattle.answer.proofs.node_line.Lts as lts
-use Rattle.answer.proofs.close.Reads as close-reads
+use Rattle.writer.proofs.close.Reads as close-reads
 use Rattle.answer.proofs.node.Reads as node-reads
 use native.Mathlib.Omega.{arith}
 use Rattle.answer.proofs.Noding.{line-then, line-full}

@@ -5,7 +5,7 @@ use Rattle.answer.proofs.slot.Statement.{statement}
 use Rattle.answer.proofs.slot.Tie as tie
 use Rattle.answer.proofs.slot.Reads as reads
 use Rattle.answer.proofs.slot.Lts as lts
-use Rattle.answer.proofs.byte.Reads as byte-reads
+use Rattle.writer.proofs.byte.Reads as byte-reads
 use Rattle.answer.proofs.ty.Reads as ty-reads
 use Rattle.cells.proofs.ty_of.Reads as ty-of-reads
 use Rattle.work.proofs.wide.Reads as wide-reads

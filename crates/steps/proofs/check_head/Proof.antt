@@ -18,6 +18,7 @@ check-head-spec =
     (λ c. search needs)
     (λ c κs. search needs)
     (λ c. search needs)
-    (λ c. head-wildcard (c .before .before .before .before .before .before .node-at .ensures) (c .before .before .before .before .enum-told .given .1) (c .before .before .reject .ensures))
+    (λ c. search needs)
+    (λ c. head-wildcard (c .before .before .before .before .before .before .before .before .before .node-at .ensures) (c .before .before .before .before .before .before .before .enum-told .given .1) (c .before .before .before .before .reject .ensures))
     (λ c. search needs)
     (λ c. head-other (c .before .node-at .ensures) (c .match .keys2)))

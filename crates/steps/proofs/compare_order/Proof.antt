@@ -22,6 +22,7 @@ compare-order-spec =
     (λ c. search needs)
     (λ c. order-yes _ (c .before .before .before .orderable .ensures) (c .before .o .given .1))
     (λ c. search needs)
-    (λ c. order-no _ (c .before .before .before .before .before .before .before .orderable .ensures) (c .before .before .before .before .before .o2 .given .1) (c .before .before .reject .ensures))
+    (λ c. search needs)
+    (λ c. order-no _ (c .before .before .before .before .before .before .before .before .before .before .orderable .ensures) (c .before .before .before .before .before .before .before .before .o2 .given .1) (c .before .before .before .before .reject .ensures))
     (λ c. search needs)
     (λ c. order-spent _ (c .before .before .orderable .ensures) (c .enum-told .given .1)))

@@ -22,6 +22,7 @@ unify-at-spec =
     (λ c. search needs)
     (λ c. unite-good _ (c .before .before .before .before .before .unify .ensures) (c .before .r .given .1))
     (λ c. search needs)
-    (λ c. unite-bad _ (c .before .before .before .before .before .before .before .before .before .unify .ensures) (c .before .before .before .before .before .r2 .given .1) (c .before .before .report .ensures))
+    (λ c. search needs)
+    (λ c. unite-bad _ (c .before .before .before .before .before .before .before .before .before .before .before .before .unify .ensures) (c .before .before .before .before .before .before .before .before .r2 .given .1) (c .before .before .before .before .report .ensures))
     (λ c. search needs)
     (λ c. unite-spent _ (c .before .before .before .before .unify .ensures) (c .enum-told .given .1)))
