@@ -45,11 +45,6 @@ unfolding itemsAt
 map-items g v n i zero = refl
 map-items g v n i (suc k) = ap (λ l. g (v i) ∷ l) (map-items g v n (i + n) k)
 
-pub items-as : {A : Type 0} (v u : ℕ → A) (n i k : ℕ) → ((j : ℕ) → v j ≡ u j) → itemsAt v n i k ≡ itemsAt u n i k
-unfolding itemsAt
-items-as v u n i zero h = refl
-items-as v u n i (suc k) h = rw (h i, items-as v u n (i + n) k h)
-
 -- What a reader of one size got is what stands there.
 pub sized-got : {A : Type 0} {r : Reader A} {n : ℕ} {v : List ℕ → ℕ → A} → Sized r n v → (s : List ℕ) (i : ℕ) (a : A) (t : List ℕ) → i ≤ length s → r (drop i s) ≡ got a t → a ≡ v s i
 sized-got {n = n} p s i a t l e = cases (ltb (length s) (i + n))
@@ -116,22 +111,22 @@ module _ (so : SoFar) (s : List ℕ) (fr : Frame) (long : 2 ≤ length s) (k : C
       (o .0, c .2 ∙ ap aType (o .2), alternatives-are s 2 (o .0) [] long (o .1))
 
 fields-parts : (s : List ℕ) (fs : List Field) → Items (fieldAt s) 4 s 2 fs [] → PartsAre s 4 (aRecord fs)
-unfolding shapeNames shapeTypes shapeKeys fieldNames fieldValues keyW
+unfolding shapeNames shapeTypes shapeKeys fieldNames fieldValues typeW keyW
 fields-parts s fs h = record {
   count = length fs;
   fit = h .fit;
   names = ap (map (λ f. f .name)) (h .are) ∙ map-items (λ f. f .name) (fieldAt s) 4 2 (length fs);
-  types = ap (map (λ f. f .value)) (h .are) ∙ map-items (λ f. f .value) (fieldAt s) 4 2 (length fs) ∙ items-as (λ j. halfW s (j + 2)) (typeW s 4) 4 2 (length fs) (λ j. let z : j + 2 ≡ j + 4 - 2 = omega arith in ap (halfW s) z);
+  types = ap (map (λ f. f .value)) (h .are) ∙ map-items (λ f. f .value) (fieldAt s) 4 2 (length fs);
   keys = ap (map (λ f. f .name)) (h .are) ∙ map-items (λ f. f .name) (fieldAt s) 4 2 (length fs);
 }
 
 alternatives-parts : (s : List ℕ) (alts : List Alternative) → Items (alternativeAt s) 8 s 2 alts [] → PartsAre s 8 (aUnion alts)
-unfolding shapeNames shapeTypes shapeKeys keyW
+unfolding shapeNames shapeTypes shapeKeys typeW keyW
 alternatives-parts s alts h = record {
   count = length alts;
   fit = h .fit;
   names = ap (map (λ a. a .name)) (h .are) ∙ map-items (λ a. a .name) (alternativeAt s) 8 2 (length alts);
-  types = ap (map (λ a. a .type)) (h .are) ∙ map-items (λ a. a .type) (alternativeAt s) 8 2 (length alts) ∙ items-as (λ j. halfW s (j + 6)) (typeW s 8) 8 2 (length alts) (λ j. let z : j + 6 ≡ j + 8 - 2 = omega arith in ap (halfW s) z);
+  types = ap (map (λ a. a .type)) (h .are) ∙ map-items (λ a. a .type) (alternativeAt s) 8 2 (length alts);
   keys = ap (map (λ a. a .discriminant)) (h .are) ∙ map-items (λ a. a .discriminant) (alternativeAt s) 8 2 (length alts);
 }
 

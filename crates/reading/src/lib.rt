@@ -67,7 +67,7 @@ fn is_past(c: Counters, kind: usize) -> bool
 fn take_limits(s: &[u8], w: &mut [u32], c: Counters) -> Step
     ensures { λ r. ⌜ TakesAnywhere limits (now (s .entry)) (now (w .entry)) c (now (w .exit)) r ⌝ }
 {
-    let limits = reader::read_limits(s);
+    let limits = reader::read_limits(s, 1);
     put(w, work::MAX_DISTANCE, limits.distance);
     put(w, work::MAX_TERM, limits.term);
     Step::On(c)

@@ -3,19 +3,45 @@ ghost use mathlib.Core.Path.{_≡_};
 ghost use mathlib.Core.Logic.{_⊎_};
 ghost use Prim.Native.Nat.{ℕ, _+_, _<_, _≤_};
 ghost use lib.ListN.{length};
-ghost use Rattle.reading.specs.Parts.{keyW, PartsEarlier, KeyBefore, KeysDistinct, PutsFields, PutsAlternatives};
+ghost use Rattle.reading.specs.Parts.{ReadsPart, PartsEarlier, KeyBefore, KeysDistinct, PutsFields, PutsAlternatives};
 ghost use Rattle.reading.specs.Contracts.{TakesAnywhere, AddsType, TakesType, AddsPredicate};
 ghost use Rattle.meaning.specs.Frame.{schemaType, predicate};
 use crate::Counters;
 use crate::Refusal;
 use crate::Step;
 use frames::byte;
-use frames::full;
 use frames::half;
 use work::part;
 use work::put;
 use work::wide;
 use work::with_tag;
+
+// A part of a record or union type: its name, what may not repeat, and its type.
+struct Part {
+    name: u32,
+    key: u32,
+    ty: u32,
+}
+
+fn read_part(s: &[u8], size: usize, i: usize) -> Part
+    ensures { λ r. ⌜ ReadsPart (now (s .entry)) size i r ⌝ }
+{
+    if size == 4 {
+        let f = reader::read_field(s, i);
+        Part {
+            name: f.name,
+            key: f.name,
+            ty: f.ty,
+        }
+    } else {
+        let a = reader::read_alternative(s, i);
+        Part {
+            name: a.name,
+            key: a.discriminant,
+            ty: a.ty,
+        }
+    }
+}
 
 // Whether each part of the type, `size` bytes long, names a name and an earlier type.
 fn parts_earlier(s: &[u8], size: usize, names: u32, types: u32) -> bool
@@ -24,10 +50,11 @@ fn parts_earlier(s: &[u8], size: usize, names: u32, types: u32) -> bool
 {
     let mut i: usize = 2;
     while i < s.len() {
-        if names <= half(s, i) {
+        let p = read_part(s, size, i);
+        if names <= p.name {
             return false;
         }
-        if types <= half(s, i + size - 2) {
+        if types <= p.ty {
             return false;
         }
         i += size;
@@ -35,26 +62,14 @@ fn parts_earlier(s: &[u8], size: usize, names: u32, types: u32) -> bool
     true
 }
 
-// What may not repeat: a field's name, an alternative's discriminant.
-fn key(s: &[u8], size: usize, i: usize) -> u32
-    requires { ⌜ i ≤ 512 ⌝ }
-    ensures { λ r. ⌜ r ≡ keyW (now (s .entry)) size i ⌝ }
-{
-    if size == 4 {
-        half(s, i)
-    } else {
-        full(s, i + 2)
-    }
-}
-
 fn key_before(s: &[u8], size: usize, i: usize) -> bool
     requires { ⌜ (i ≤ 512) × (2 ≤ size) × (size ≤ 8) ⌝ }
     ensures { λ r. ⌜ KeyBefore (now (s .entry)) size i r ⌝ }
 {
-    let k = key(s, size, i);
+    let p = read_part(s, size, i);
     let mut j: usize = 2;
     while j < i {
-        if key(s, size, j) == k {
+        if read_part(s, size, j).key == p.key {
             return true;
         }
         j += size;
@@ -83,7 +98,8 @@ fn put_fields(s: &[u8], w: &mut [u32], from: u32)
     let mut i: usize = 2;
     let mut at = work::FIELDS + wide(from);
     while i < s.len() {
-        put(w, at, part(half(s, i), half(s, i + 2)));
+        let f = reader::read_field(s, i);
+        put(w, at, part(f.name, f.ty));
         i += 4;
         at += 1;
     }
@@ -96,8 +112,9 @@ fn put_alternatives(s: &[u8], w: &mut [u32], from: u32)
     let mut i: usize = 2;
     let mut at = work::FIELDS + wide(from);
     while i < s.len() {
-        put(w, at, full(s, i + 2));
-        put(w, at + 1, part(half(s, i), half(s, i + 6)));
+        let a = reader::read_alternative(s, i);
+        put(w, at, a.discriminant);
+        put(w, at + 1, part(a.name, a.ty));
         i += 8;
         at += 2;
     }
@@ -180,18 +197,19 @@ pub fn take_predicate(s: &[u8], w: &mut [u32], c: Counters) -> Step
     requires { ⌜ (6 ≤ length (now s)) × (c .names ≤ 256) × (c .types ≤ 256) × (c .predicates < 128) ⌝ }
     ensures { λ r. ⌜ TakesAnywhere predicate (now (s .entry)) (now (w .entry)) c (now (w .exit)) r ⌝ }
 {
-    let name = half(s, 1);
-    let key = half(s, 3);
+    let p = reader::read_predicate(s, 1);
+    let name = p.name;
+    let key = p.key;
+    let value = p.value;
     if c.names <= name {
         return Step::Off(Refusal::BadReference);
     }
     if c.types <= key {
         return Step::Off(Refusal::BadReference);
     }
-    if byte(s, 5) == 0 {
+    if p.flag == 0 {
         return add_predicate(w, c, name * 131072 + key * 512);
     }
-    let value = half(s, 6);
     if c.types <= value {
         return Step::Off(Refusal::BadReference);
     }
