@@ -37,7 +37,6 @@ keyW s size i = pick (eqb size 4) (halfW s i) (fullW s (i + 2))
 
 pub record ReadsPart (s : List ℕ) (size i : ℕ) (r : Part) : Type 0 where
   pub name : r .name ≡ halfW s i
-  pub key : r .key ≡ keyW s size i
   pub ty : r .ty ≡ typeW s size i
 
 pub record PartsEarlier (s : List ℕ) (size names types : ℕ) (r : Bool) : Type 0 where

@@ -3,23 +3,23 @@ ghost use mathlib.Core.Path.{_≡_};
 ghost use mathlib.Core.Logic.{_⊎_};
 ghost use Prim.Native.Nat.{ℕ, _+_, _<_, _≤_};
 ghost use lib.ListN.{length};
-ghost use Rattle.reading.specs.Parts.{ReadsPart, PartsEarlier, KeyBefore, KeysDistinct, PutsFields, PutsAlternatives};
+ghost use Rattle.reading.specs.Parts.{keyW, ReadsPart, PartsEarlier, KeyBefore, KeysDistinct, PutsFields, PutsAlternatives};
 ghost use Rattle.reading.specs.Contracts.{TakesAnywhere, AddsType, TakesType, AddsPredicate};
 ghost use Rattle.meaning.specs.Frame.{schemaType, predicate};
 use crate::Counters;
 use crate::Refusal;
 use crate::Step;
 use frames::byte;
+use frames::full;
 use frames::half;
 use work::part;
 use work::put;
 use work::wide;
 use work::with_tag;
 
-// A part of a record or union type: its name, what may not repeat, and its type.
+// A part of a record or union type.
 struct Part {
     name: u32,
-    key: u32,
     ty: u32,
 }
 
@@ -30,14 +30,12 @@ fn read_part(s: &[u8], size: usize, i: usize) -> Part
         let f = reader::read_field(s, i);
         Part {
             name: f.name,
-            key: f.name,
             ty: f.ty,
         }
     } else {
         let a = reader::read_alternative(s, i);
         Part {
             name: a.name,
-            key: a.discriminant,
             ty: a.ty,
         }
     }
@@ -62,14 +60,26 @@ fn parts_earlier(s: &[u8], size: usize, names: u32, types: u32) -> bool
     true
 }
 
+// What may not repeat: a field's name, an alternative's discriminant.
+fn key(s: &[u8], size: usize, i: usize) -> u32
+    requires { ⌜ i ≤ 512 ⌝ }
+    ensures { λ r. ⌜ r ≡ keyW (now (s .entry)) size i ⌝ }
+{
+    if size == 4 {
+        half(s, i)
+    } else {
+        full(s, i + 2)
+    }
+}
+
 fn key_before(s: &[u8], size: usize, i: usize) -> bool
     requires { ⌜ (i ≤ 512) × (2 ≤ size) × (size ≤ 8) ⌝ }
     ensures { λ r. ⌜ KeyBefore (now (s .entry)) size i r ⌝ }
 {
-    let p = read_part(s, size, i);
+    let k = key(s, size, i);
     let mut j: usize = 2;
     while j < i {
-        if read_part(s, size, j).key == p.key {
+        if key(s, size, j) == k {
             return true;
         }
         j += size;
@@ -87,6 +97,27 @@ fn keys_distinct(s: &[u8], size: usize) -> bool
             return false;
         }
         i += size;
+    }
+    true
+}
+
+// The same for a record's fields, whose names were found to be numbers below 256: each is marked where it stands first.
+fn names_distinct(s: &[u8]) -> bool
+    requires { ⌜ length (now s) ≤ 512 ⌝ }
+    ensures { λ r. ⌜ KeysDistinct (now (s .entry)) 4 r ⌝ }
+{
+    let mut seen = [0u8; 256];
+    let mut i: usize = 2;
+    while i < s.len() {
+        let k = half(s, i) as usize;
+        if 256 <= k {
+            return keys_distinct(s, 4);
+        }
+        if seen[k] == 1 {
+            return false;
+        }
+        seen[k] = 1;
+        i += 4;
     }
     true
 }
@@ -142,7 +173,7 @@ fn take_record(s: &[u8], w: &mut [u32], c: Counters) -> Step
     if !parts_earlier(s, 4, c.names, c.types) {
         return Step::Off(Refusal::BadReference);
     }
-    if !keys_distinct(s, 4) {
+    if !names_distinct(s) {
         return Step::Off(Refusal::RepeatedKey);
     }
     let n = ((s.len() - 2) / 4) as u32;
