@@ -91,10 +91,10 @@ module _ {M : Type 1} (𝓤 : URA M) (H : Heap 𝓤) (A : Atoms 𝓤) (W : Given
         use2 W (raw Pre) (qed W (Token ∷ ‵ (owns (T.the-row α ∷ []) (reader n, tt) (T′.lowered (reader n) ∷ [], tt)) ∷ []) ∵ join ! $ frame ! $ done !) $
         frame ! $ done !
 
-    abbrev Told : Taken → SProp 𝓤
-    Told = ensured 𝓤 H A thin.ended (clauses Says 𝓤) (κ, tt) (reader n, tt) tt
+    abbrev Ensured : Taken → SProp 𝓤
+    Ensured = ensured 𝓤 H A thin.ended (clauses Says 𝓤) (κ, tt) (reader n, tt) tt
 
-    said : (t : Taken) → ent 𝓤 (Told t) (fact 𝓤 (Says (now s) n t))
+    said : (t : Taken) → ent 𝓤 (Ensured t) (fact 𝓤 (Says (now s) n t))
     said t = exE 𝓤 _ (λ ws. snd∗ 𝓤 (sem 𝓤 H A (lasts thin.ended (κ, tt) (reader n, tt) ws)) (fact 𝓤 (Says (now s) n t)))
 
   -- the machine value of a number that was taken, and that it is well typed
@@ -112,7 +112,7 @@ module _ {M : Type 1} (𝓤 : URA M) (H : Heap 𝓤) (A : Atoms 𝓤) (W : Given
         → Seq K W (Token ∷ ‵ Own ∷ Γ) (runs C Λ E (seq (call f (o ∷ []) d) rest) P)
     takes k fm Says known n fits x go =
         use2 W (raw (Pre Says n) ⊛ ‵ Own) (goes Says n fits) $ split k $ calls-at k fm (Takes Says 𝓤 H A) known (to Says n) (and-then k x (no-more k)) (λ u.
-        use1 W (later (some (λ (t : Taken). (Token ⊛ ‵ (S.the-row .own t (u ∷ []))) ⊛ raw (Told Says n t)))) (id⊢ 𝓤 _) $ await k tt $ pick k (λ t.
+        use1 W (later (some (λ (t : Taken). (Token ⊛ ‵ (S.the-row .own t (u ∷ []))) ⊛ raw (Ensured Says n t)))) (id⊢ 𝓤 _) $ await k tt $ pick k (λ t.
         split k $ move k (1 ∷ []) $ use1 W (raw (fact 𝓤 (Says (now s) n t))) (said Says n t) $ heard k (Says (now s) n t) (λ e.
         split k $ move k (1 ∷ []) $ peeks k S.the-row (Is S.the-row) (shows 𝓤 H A S.the-row) t (u ∷ []) (λ is. drop k $
         subst (λ x. Seq K W (Token ∷ ‵ Own ∷ Γ) (lands C Λ E d x rest P)) (sym (spelled t u is))
@@ -148,19 +148,19 @@ module _ (R : RattleType) where
         abbrev at-call : walkOf 𝓤 H A ended stayed (promises 𝓤) .Ghost
         at-call = (((κ, tt), (q, tt), tt, (s, (n, tt)), passed), tt)
 
-        abbrev pub Ends : Val → SProp 𝓤
-        Ends = walkOf 𝓤 H A ended stayed (promises 𝓤) .post at-call
+        abbrev pub AtExit : Val → SProp 𝓤
+        AtExit = walkOf 𝓤 H A ended stayed (promises 𝓤) .post at-call
 
-        abbrev pub Starts : SProp 𝓤
-        Starts = ⋆ 𝓤 H A (Token 𝓤 H A W κ q s ∷ ‵ (Own 𝓤 H A W κ q s) ∷ [])
+        abbrev pub AtEntry : SProp 𝓤
+        AtEntry = ⋆ 𝓤 H A (Token 𝓤 H A W κ q s ∷ ‵ (Own 𝓤 H A W κ q s) ∷ [])
 
-        pub exits : n < 2 ^ 64 → (r : R .Denot) (u : Val) → Says (now s) n r → ent 𝓤 (emp 𝓤) (sem 𝓤 H A (R .own r (u ∷ []))) → ent 𝓤 Starts (Ends u)
+        pub exits : n < 2 ^ 64 → (r : R .Denot) (u : Val) → Says (now s) n r → ent 𝓤 (emp 𝓤) (sem 𝓤 H A (R .own r (u ∷ []))) → ent 𝓤 AtEntry (AtExit u)
         exits fits r u e has =
             qed W (Token 𝓤 H A W κ q s ∷ ‵ (Own 𝓤 H A W κ q s) ∷ []) ∵
             suffices ! _ (ends-at 𝓤 H A ended stayed (promises 𝓤) W at-call u r (tt, (tt, tt)) (tt, (tt, tt))) $ says ! e $ frame ! $
             nothing ! $ owned ! usize (Is usize) (uint-makes 𝓤 H A W w64) n _ (refl, fits) $ fjoin ! $ move ! (1 ∷ 0 ∷ []) $ fjoin ! $ frame ! $ by ! has
 
-        opens : ent 𝓤 (onEntry 𝓤 H A signature (κ, tt) (q, tt) (s, (n, tt)) passed) Starts
+        opens : ent 𝓤 (onEntry 𝓤 H A signature (κ, tt) (q, tt) (s, (n, tt)) passed) AtEntry
         opens =
             qed W (Token 𝓤 H A W κ q s ∷ ‵ (owns (ShrSlice (named 0) κ u8 ∷ usize ∷ []) (s, (n, tt)) passed) ∷ []) ∵
             move ! (1 ∷ []) $ fsplit ! $ move ! (1 ∷ []) $ drop ! $ move ! (1 ∷ []) $ by ! (id⊢ 𝓤 _)
@@ -170,7 +170,7 @@ module _ (R : RattleType) where
       Walked C Λ f =
           (κ : Lft) (q : Share) (s : RefT (List ℕ)) (n : ℕ)
           → Holds (hasTy (sliceTy (tyRef (named 0) imm (tyInt w8))) (v 𝓤 H A W κ q s)) × WT (v 𝓤 H A W κ q s) → n < 2 ^ 64
-          → ent 𝓤 (Starts κ q s n) (WpFn 𝓤 H C Λ f (v 𝓤 H A W κ q s ∷ vint w64 n ∷ []) (Ends κ q s n))
+          → ent 𝓤 (AtEntry κ q s n) (WpFn 𝓤 H C Λ f (v 𝓤 H A W κ q s ∷ vint w64 n ∷ []) (AtExit κ q s n))
 
       pub chain-meets : (𝓣 : Tables 𝓤 H) (f : Fn) → Walked (𝓣 .C) (𝓣 .Λ) f → Meets 𝓤 H A signature (WpFn 𝓤 H (𝓣 .C) (𝓣 .Λ) f) (closing 𝓤 H A ended (promises 𝓤))
       chain-meets 𝓣 f walk =

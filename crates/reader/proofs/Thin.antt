@@ -147,11 +147,11 @@ module _ (name : Name) (Says : List ℕ → ℕ → Taken → Type 0) where
         move ! (1 ∷ []) $ drop ! $ nothing ! $ owned ! usize (Is usize) (uint-makes 𝓤 H A W w64) (d .at) _ (refl, fits) $ fjoin ! $
         move ! (1 ∷ 0 ∷ []) $ fjoin ! $ move ! (2 ∷ 0 ∷ []) $ use2 W (raw (Work Says 𝓤 H A .pre to)) asked $ frame ! $ done !)
 
-    abbrev Told : Taken → SProp 𝓤
-    Told = ensured 𝓤 H A work.ended (work-clauses Says 𝓤) κs (d .line, (d .at, tt)) tt
+    abbrev Ensured : Taken → SProp 𝓤
+    Ensured = ensured 𝓤 H A work.ended (work-clauses Says 𝓤) κs (d .line, (d .at, tt)) tt
 
     -- of the callee's `ensured`, the clause alone: it has no `&mut`, so what is said of last values is dropped
-    said : (r : Taken) → ent 𝓤 (Told r) (fact 𝓤 (Found r))
+    said : (r : Taken) → ent 𝓤 (Ensured r) (fact 𝓤 (Found r))
     said r = exE 𝓤 _ (λ ws. snd∗ 𝓤 (sem 𝓤 H A (lasts work.ended (κ, tt) (d .line, (d .at, tt)) ws)) (fact 𝓤 (Found r)))
 
     exits : (r : Taken) (u : Val) → Found r → ent 𝓤 (⋆ 𝓤 H A (‵ (S.the-row .own r (u ∷ [])) ∷ Token ∷ ‵ Own ∷ [])) (Post u)
@@ -170,7 +170,7 @@ module _ (name : Name) (Says : List ℕ → ℕ → Taken → Type 0) where
           assigns ! (of-opd ! (field-in ! refl (look-in ! 4 (sub ! 1 refl (whole !))))) (from ! (stop !)) (init ! 0 refl (tt, wt .1 .1 .0)) $
           move ! (8 ∷ []) $ use1 W (raw (Work Says 𝓤 H A .pre to) ⊛ ‵ Own) (apart (wt .1 .1 .0 .fits)) $ split ! $
           calls-at ! fm (Work Says 𝓤 H A) known to (and-then ! (local-at ! 4 refl) (and-then ! (local-at ! 2 refl) (no-more !))) (λ u.
-          use1 W (later (some (λ (r : Taken). (Token ⊛ ‵ (S.the-row .own r (u ∷ []))) ⊛ raw (Told r)))) (id⊢ 𝓤 _) $ await ! tt $ pick ! (λ r.
+          use1 W (later (some (λ (r : Taken). (Token ⊛ ‵ (S.the-row .own r (u ∷ []))) ⊛ raw (Ensured r)))) (id⊢ 𝓤 _) $ await ! tt $ pick ! (λ r.
           split ! $ move ! (1 ∷ []) $ use1 W (raw (fact 𝓤 (Found r))) (said r) $ heard ! (Found r) (λ e. split ! $ move ! (1 ∷ []) $
           -- [the result; the token; what the struct owns; _3; …; _2; …; _1; …; room for _0; …]
           peeks ! S.the-row (Is S.the-row) (shows 𝓤 H A S.the-row) r (u ∷ []) (λ is.
