@@ -17,7 +17,8 @@ use Rattle.unification.specs.Calls as Calls
 use Rattle.unification.specs.Calls.{Assignment, Claim, none-yet}
 use Rattle.unification.specs.Tie.{AllAsRobinson}
 use Rattle.unification.proofs.Tests.{clash}
-use Rattle.unification.proofs.Log.{taken, taken-pad}
+use Rattle.unification.specs.Log.{taken}
+use Rattle.unification.proofs.Log.{taken-pad}
 use Rattle.unification.proofs.Demand3.{calls-inv, demand-3}
 use Rattle.unification.proofs.Robinson.{robinson, robinson-at-the-limit}
 use Rattle.meaning.specs.Syntax.{Node, Ast}
@@ -30,9 +31,10 @@ use Rattle.meaning.specs.Check.{Checker, Step, query, begin}
 use Rattle.meaning.specs.Run.{Led, between-calls, at-the-limit, ending, run, RunDemand3, RunAsRobinson}
 use Rattle.meaning.specs.Weights.{WellFormed, same, sumOf, total, weight, size, records, recordFields}
 use Rattle.meaning.proofs.Depth.{lower-falls}
-use Rattle.meaning.proofs.Meets.{Grade, Orderly, Ready, Reached, Stopped, Meets, went, ended}
+use Rattle.meaning.specs.Grades.{Grade, Orderly, Ready, visiting}
+use Rattle.meaning.proofs.Meets.{Reached, Stopped, Meets, went, ended}
 use Rattle.meaning.proofs.Steps.{IsSide}
-use Rattle.meaning.proofs.Visits.{visiting, query-meets}
+use Rattle.meaning.proofs.Visits.{query-meets}
 use Rattle.meaning.proofs.Weights.{weight-once, once-times, total-ones, total-past, total-same, records-size, fields-size}
 
 -- ---- What a list of calls that led somewhere says

@@ -25,3 +25,4 @@ pub mod OneQuery
 pub mod Surrogates
 pub mod Demands
 pub mod Reasons
+pub mod Grades

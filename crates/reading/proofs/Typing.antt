@@ -24,7 +24,8 @@ use Rattle.meaning.specs.SoFar.{SoFar, add, frames}
 use Rattle.meaning.specs.Conditions.{anyOf, allBelow, again, refersEarlier, refersBadly, conditions, firstOf}
 use Rattle.meaning.proofs.Tests.{cases, below-all}
 use Rattle.frames.specs.Contracts.{byteW, halfW, typeShape}
-use Rattle.frames.proofs.Readers.{Sized, sized-one, sized-two, itemsAt, fieldAt, alternativeAt, Items, fields-are, alternatives-are}
+use Rattle.frames.specs.Items.{itemsAt, fieldAt, alternativeAt}
+use Rattle.frames.proofs.Readers.{Sized, sized-one, sized-two, Items, fields-are, alternatives-are}
 use Rattle.frames.proofs.Statements.{choice-at}
 use Rattle.reading.specs.declared.Refusal.the-variants as Refusal
 use Rattle.work.specs.declared.Counters.{Counters}

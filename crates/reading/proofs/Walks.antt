@@ -15,7 +15,7 @@ use Rattle.text.specs.Utf8.{both}
 use Rattle.meaning.specs.Conditions.{anyOf, allBelow, among, again}
 use Rattle.meaning.proofs.Tests.{cases}
 use Rattle.frames.specs.Contracts.{halfW, fullW}
-use Rattle.frames.proofs.Readers.{itemsAt, fieldAt, alternativeAt}
+use Rattle.frames.specs.Items.{itemsAt, fieldAt, alternativeAt}
 use Rattle.reading.specs.Parts.{fieldWord, alternativeWords, typeW, keyW, KeyBefore, KeysDistinct}
 
 pub record Walking {B : Type 0} (goal g : ℕ → B) (size end i : ℕ) : Type 0 where

@@ -13,7 +13,7 @@ use Rattle.meaning.specs.Syntax.{Field}
 use Rattle.meaning.specs.Frame.{Alternative}
 use Rattle.meaning.specs.Conditions.{allBelow, among, again}
 use Rattle.frames.specs.Contracts.{halfW, fullW}
-use Rattle.frames.proofs.Readers.{itemsAt, fieldAt, alternativeAt}
+use Rattle.frames.specs.Items.{itemsAt, fieldAt, alternativeAt}
 use Rattle.reading.specs.declared.types.Part.{Part}
 
 -- ---- Words

@@ -16,7 +16,8 @@ use Rattle.unification.proofs.Tests.{clash}
 use Rattle.unification.specs.Acyclic.{Behind, Acyclic}
 use Rattle.unification.proofs.Acyclic.{no-loop}
 use Rattle.unification.proofs.Respects.{respects-among}
-use Rattle.unification.proofs.Sides.{Wf, bound-pad, pad-among, wf-pad}
+use Rattle.unification.specs.Log.{Wf}
+use Rattle.unification.proofs.Sides.{bound-pad, pad-among, wf-pad}
 use Rattle.unification.proofs.Undo.{unbind, unannotate, Since, since-refl, since-trans, since-length, since-fresh, since-left, since-annotate, rollback-subst, rollback-tys, rollback-undo, rollback-left}
 use Rattle.unification.proofs.Kept.{After, Kept, unify-kept}
 use Rattle.unification.proofs.Post.{Any, Moments, Here, Known, Post}

@@ -16,7 +16,8 @@ use Rattle.unification.specs.Calls.{Distinct, Side, itself, Admitted, Re
 use Rattle.unification.specs.Acyclic.{Acyclic}
 use Rattle.unification.proofs.Tests.{clash, eqb-true, eqb-false}
 use Rattle.unification.proofs.Rows.{Both, Match, AgreeAt, match-same, same-match, same-len, agree-same, same-agree, agree-discriminants, appCell, find-app, distinct-app, rowLen-app, discriminants-app}
-use Rattle.unification.proofs.Sides.{Parts, Part, find-part, parts-map, Field, Alternative, fields, alternatives, Permits, admitted-parts, Wf}
+use Rattle.unification.specs.Log.{Wf}
+use Rattle.unification.proofs.Sides.{Parts, Part, find-part, parts-map, Field, Alternative, fields, alternatives, Permits, admitted-parts}
 
 -- Every substitution.
 abbrev pub Any : (ℕ → Ty) → Type 0

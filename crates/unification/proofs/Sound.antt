@@ -22,7 +22,8 @@ use Rattle.unification.proofs.Reach.{admitted-bind, admitted-follow}
 use Rattle.unification.proofs.Chain.{error-reaches, repr-resolved}
 use Rattle.unification.proofs.Respects.{respects-bind, repr-same}
 use Rattle.unification.proofs.Occurs.{occurs-never, occurs-no}
-use Rattle.unification.proofs.Sides.{Wf, side-follow, wf-bind}
+use Rattle.unification.specs.Log.{Wf}
+use Rattle.unification.proofs.Sides.{side-follow, wf-bind}
 use Rattle.unification.proofs.Kept.{After, heads-in, unifyIn-spent, unifyIn-visit}
 use Rattle.unification.proofs.Post.{Any, Known, Step, Closing, Post, Inside, step-refl, stay, stop, under, loosen, Entry, nodes-post}
 

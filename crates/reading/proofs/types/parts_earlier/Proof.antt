@@ -1,4 +1,4 @@
--- Made from Proof.ans by tools/answers, 6ec4d11cf147ef0a.
+-- Made from Proof.ans by tools/answers, 559bdd15e2324c27.
 -- `reading::parts_earlier` meets its contract. The invariant: the test of all parts is the test of those left. The measure is what is
 -- left of the line.
 use Rattle.reading.proofs.types.parts_earlier.Statement.{statement}
@@ -12,7 +12,7 @@ use Prim.Native.Nat.{_+_, _-_, _≤_}
 use mathlib.Core.Path.{sym, _∙_}
 use lib.ListN.{length}
 use Rattle.meaning.specs.Conditions.{allBelow}
-use Rattle.frames.proofs.Readers.{itemsAt}
+use Rattle.frames.specs.Items.{itemsAt}
 use Rattle.reading.proofs.Walks.{Walking, walk-start, walk-next, walk-stop, walk-end, earlier, earlier-next, earlier-no-name, earlier-no-type}
 
 abbrev Inv-loop : tie.InvT-loop

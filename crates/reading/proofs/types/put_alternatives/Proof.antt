@@ -1,4 +1,4 @@
--- Made from Proof.ans by tools/answers, b509b1f151667a5c.
+-- Made from Proof.ans by tools/answers, a712d2e5a8c95a21.
 -- `reading::put_alternatives` meets its contract. The invariant: the words of all parts written to the words at the start are those of the parts left
 -- written to the words now. The measure is what is left of the line.
 use Rattle.reading.proofs.types.put_alternatives.Statement.{statement}
@@ -16,7 +16,7 @@ use mathlib.Core.List.{map}
 use lib.ListN.{length, length-set}
 use lib.Seq.{sets}
 use Rattle.work.specs.Layout.{FIELDS}
-use Rattle.frames.proofs.Readers.{itemsAt, alternativeAt}
+use Rattle.frames.specs.Items.{itemsAt, alternativeAt}
 use Rattle.reading.specs.Parts.{alternativeWords}
 use Rattle.reading.proofs.Walks.{Walking, walk-start, walk-next, walk-end, alternative-next}
 

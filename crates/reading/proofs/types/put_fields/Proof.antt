@@ -1,4 +1,4 @@
--- Made from Proof.ans by tools/answers, 3ddc8098b7494586.
+-- Made from Proof.ans by tools/answers, a59eeed509db3f72.
 -- `reading::put_fields` meets its contract. The invariant: the words of all parts written to the words at the start are those of the parts left
 -- written to the words now. The measure is what is left of the line.
 use Rattle.reading.proofs.types.put_fields.Statement.{statement}
@@ -16,7 +16,7 @@ use mathlib.Core.List.{map}
 use lib.ListN.{length, length-set}
 use lib.Seq.{sets}
 use Rattle.work.specs.Layout.{FIELDS}
-use Rattle.frames.proofs.Readers.{itemsAt, fieldAt}
+use Rattle.frames.specs.Items.{itemsAt, fieldAt}
 use Rattle.reading.specs.Parts.{fieldWord}
 use Rattle.reading.proofs.Walks.{Walking, walk-start, walk-next, walk-end, field-next}
 
