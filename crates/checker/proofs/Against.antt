@@ -24,8 +24,8 @@ use Rattle.meaning.specs.Diag.{Code}
 use Rattle.meaning.specs.File.{Described}
 use Rattle.meaning.specs.Check.{Checker, Walk, walk, Form, aWildcard, aVariable, aConstant, aRecord, aDisjunction, anError, another, form, formOf, repr, annotate, reject, inferThenUnify, checkFields, checkAlternative, checkUnion, checkRecord, checkForm, checkAgainst, checkAt}
 use Rattle.meaning.specs.Weights.{same, sumOf, weight}
-use Rattle.meaning.proofs.Meets.{unknowns}
-use Rattle.meaning.proofs.Steps.{one-diagnostic, one-node, Nothing}
+use Rattle.meaning.specs.Grades.{unknowns, one-diagnostic, one-node}
+use Rattle.meaning.proofs.Steps.{Nothing}
 use Rattle.meaning.proofs.Visits.{size-pos, own-weight, payload-side, checkFields-meets}
 use Rattle.tree.specs.declared.Items.{Items}
 use Rattle.tree.specs.declared.Node.{Node}

@@ -11,9 +11,10 @@ use Rattle.cells.specs.Stands.{Rows, tree}
 use Rattle.meaning.specs.File.{Described}
 use Rattle.meaning.specs.Check.{Checker, Step, goes, andThen, inferAll, unifyAt}
 use Rattle.meaning.specs.Weights.{sumOf}
-use Rattle.meaning.proofs.Meets.{Ready, Meets, meets-then, made-side}
-use Rattle.meaning.proofs.Steps.{one-diagnostic, Nothing, IsSide, unifyAt-meets}
-use Rattle.meaning.proofs.Visits.{inferring, visiting, size-pos}
+use Rattle.meaning.specs.Grades.{Ready, one-diagnostic, inferring, visiting}
+use Rattle.meaning.proofs.Meets.{Meets, meets-then, made-side}
+use Rattle.meaning.proofs.Steps.{Nothing, IsSide, unifyAt-meets}
+use Rattle.meaning.proofs.Visits.{size-pos}
 use Rattle.tree.specs.declared.Items.{Items}
 use Rattle.tree.specs.Nodes.{itemW, itemsFrom}
 use Rattle.steps.specs.declared.Typed.{Typed}

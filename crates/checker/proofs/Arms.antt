@@ -25,8 +25,8 @@ use Rattle.meaning.proofs.Lists.{all-at, all-map}
 use Rattle.meaning.specs.File.{Described}
 use Rattle.meaning.specs.Check.{Checker, goes, Does, andThen, repr, Walk, keyTy, accessOf, access, selectOf, select, fact, inferKind, disjunction, freshVarId, fuzzyDistance, fuzzyTerm}
 use Rattle.meaning.specs.Weights.{sumOf, recordsOf, fieldsOf}
-use Rattle.meaning.proofs.Meets.{unknowns}
-use Rattle.meaning.proofs.Steps.{no-thing, one-diagnostic, one-unknown, Nothing, freshVarId-meets}
+use Rattle.meaning.specs.Grades.{unknowns, no-thing, one-diagnostic, one-unknown}
+use Rattle.meaning.proofs.Steps.{Nothing, freshVarId-meets}
 use Rattle.meaning.proofs.Visits.{repr-side, size-pos, key-declared}
 use Rattle.tree.specs.declared.Node.{Node}
 use Rattle.tree.specs.declared.Node.the-variants as Node

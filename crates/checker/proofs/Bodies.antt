@@ -21,9 +21,10 @@ use Rattle.meaning.specs.Check as Check
 use Rattle.meaning.specs.Check.{Checker, Step, goes, out, Does, andThen, Walk, Form, aWildcard, aVariable, aConstant, aRecord, aDisjunction, anError, another, formOf, bindForm, denyForm, generate, stmt, stmts, badTarget, onlyRight, notYet, bindWildcard, envLen, truncateEnv, subquery}
 use Rattle.meaning.specs.Weights as Weights
 use Rattle.meaning.specs.Weights.{sumOf}
-use Rattle.meaning.proofs.Meets.{Grade, Ready, Made, Meets}
-use Rattle.meaning.proofs.Steps.{no-thing, Nothing}
-use Rattle.meaning.proofs.Visits.{visiting, stmts-meets}
+use Rattle.meaning.specs.Grades.{Grade, Ready, no-thing, visiting}
+use Rattle.meaning.proofs.Meets.{Made, Meets}
+use Rattle.meaning.proofs.Steps.{Nothing}
+use Rattle.meaning.proofs.Visits.{stmts-meets}
 use Rattle.work.specs.Layout.{ENV-LEN}
 use Rattle.state.specs.Words.{envOf}
 use Rattle.state.specs.Runs.{Runs}

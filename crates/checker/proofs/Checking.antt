@@ -25,7 +25,8 @@ use Rattle.cells.proofs.Holding.{holds-log}
 use Rattle.meaning.specs.File.{Described}
 use Rattle.meaning.specs.Check.{Checker, Step, goes, out, Does, andThen, walk, Mark, codeOf, report, unify, rollback, snapshot, diagnosticsLen, inferAt, inferThenUnify, checkField}
 use Rattle.meaning.proofs.Meets.{Went, made-trans, reached-trans}
-use Rattle.meaning.proofs.Steps.{no-thing, one-diagnostic, Nothing, IsSide, unify-meets, rolled-meets}
+use Rattle.meaning.specs.Grades.{no-thing, one-diagnostic}
+use Rattle.meaning.proofs.Steps.{Nothing, IsSide, unify-meets, rolled-meets}
 use Rattle.meaning.proofs.Visits.{Good, size-pos}
 use Rattle.state.specs.Lines.{Told}
 use Rattle.state.specs.Runs.{Runs}

@@ -11,8 +11,8 @@ use Rattle.meaning.specs.Syntax.{nodeAt}
 use Rattle.meaning.specs.File.{Described}
 use Rattle.meaning.specs.Check.{Checker, andThen, Form, aWildcard, aVariable, aConstant, aRecord, aDisjunction, anError, another, form, kind, introduceSide, compare}
 use Rattle.meaning.specs.Weights.{sumOf, size, records, recordFields}
-use Rattle.meaning.proofs.Steps.{one-diagnostic}
-use Rattle.meaning.proofs.Visits.{size-pos, late, early-late, introducing, inferring-late, Introduced, made-introduced, introduceSide-meets, infer-late, variable-kind}
+use Rattle.meaning.specs.Grades.{one-diagnostic, introducing}
+use Rattle.meaning.proofs.Visits.{size-pos, late, early-late, inferring-late, Introduced, made-introduced, introduceSide-meets, infer-late, variable-kind}
 use Rattle.steps.specs.declared.Typed.{Typed}
 use Rattle.steps.specs.declared.Typed.the-variants as Typed
 use Rattle.steps.specs.declared.Done.{Done}

@@ -14,7 +14,8 @@ use Rattle.meaning.specs.References.{exprNodes}
 use Rattle.meaning.specs.File.{Described}
 use Rattle.meaning.specs.Check.{Checker, Step, goes, Does, andThen, Walk, walk, annotate, formOf, kind, inferAt, generateBranches, generatorForm, generatorAt}
 use Rattle.meaning.specs.Weights.{sumOf, weight}
-use Rattle.meaning.proofs.Steps.{one-node, IsSide}
+use Rattle.meaning.specs.Grades.{one-node}
+use Rattle.meaning.proofs.Steps.{IsSide}
 use Rattle.meaning.proofs.Visits.{size-pos, generateBranches-meets}
 use Rattle.tree.specs.declared.Items.{Items}
 use Rattle.tree.specs.declared.Node.{Node}

@@ -15,8 +15,9 @@ use Rattle.meaning.specs.References.{exprNodes}
 use Rattle.meaning.specs.File.{Described}
 use Rattle.meaning.specs.Check.{Checker, goes, andThen, freshVarId, freshVar, introduce, annotate, inferKind, inferAt, kind, Walk, walk}
 use Rattle.meaning.specs.Weights.{same, sumOf, weight, recordsOf, fieldsOf}
-use Rattle.meaning.proofs.Meets.{unknowns, Orderly, Meets, meets-from, went-with}
-use Rattle.meaning.proofs.Steps.{no-thing, one-unknown, one-node, Nothing, IsSide, Known, IsUnknown, annotate-meets, freshVarId-meets, introduce-meets, introduce-known}
+use Rattle.meaning.specs.Grades.{unknowns, Orderly, no-thing, one-unknown, one-node, Known}
+use Rattle.meaning.proofs.Meets.{Meets, meets-from, went-with}
+use Rattle.meaning.proofs.Steps.{Nothing, IsSide, IsUnknown, annotate-meets, freshVarId-meets, introduce-meets, introduce-known}
 use Rattle.meaning.proofs.Visits.{Good, inferKind-meets, walk-good, own-weight}
 use Rattle.state.specs.Runs.{Runs}
 use Rattle.tree.specs.declared.Node.{Node}

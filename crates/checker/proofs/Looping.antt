@@ -10,7 +10,8 @@ use Rattle.cells.specs.declared.Ty.{Ty}
 use Rattle.cells.specs.Stands.{Rows, tree, Ok}
 use Rattle.meaning.specs.File.{Described}
 use Rattle.meaning.specs.Check.{Checker, Step, Does, andThen}
-use Rattle.meaning.proofs.Meets.{unknowns, Ready, Meets, made-more}
+use Rattle.meaning.specs.Grades.{unknowns, Ready}
+use Rattle.meaning.proofs.Meets.{Meets, made-more}
 use Rattle.cells.specs.Inferred.{More}
 use Rattle.state.specs.Runs.{Grew}
 use Rattle.steps.specs.Ends.{Result, Gone, Ends, went, spent}

@@ -23,9 +23,10 @@ use Rattle.meaning.specs.References.{fieldValues}
 use Rattle.meaning.specs.File.{Described}
 use Rattle.meaning.specs.Check.{Checker, Step, Does, checkMentioned, checkFields}
 use Rattle.meaning.specs.Weights.{sumOf}
-use Rattle.meaning.proofs.Meets.{unknowns, Ready, Meets, meets-fits}
-use Rattle.meaning.proofs.Steps.{one-diagnostic, Nothing, reject-meets}
-use Rattle.meaning.proofs.Visits.{checking, size-pos, checkField-meets}
+use Rattle.meaning.specs.Grades.{unknowns, Ready, one-diagnostic, checking}
+use Rattle.meaning.proofs.Meets.{Meets, meets-fits}
+use Rattle.meaning.proofs.Steps.{Nothing, reject-meets}
+use Rattle.meaning.proofs.Visits.{size-pos, checkField-meets}
 use Rattle.tree.specs.declared.Items.{Items}
 use Rattle.tree.specs.Nodes.{fieldW, fieldOf, fieldsFrom}
 use Rattle.steps.specs.declared.Done.{Done}

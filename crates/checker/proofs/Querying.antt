@@ -16,7 +16,8 @@ use Rattle.meaning.specs.Conditions.{maxNodes}
 use Rattle.meaning.specs.Sound.{Sound}
 use Rattle.meaning.proofs.Run.{begin-orderly, begin-ready, query-size, query-records, query-fields, sound-wellFormed}
 use Rattle.tree.specs.Stands.{Stands}
-use Rattle.meaning.proofs.Steps.{one-diagnostic, Nothing}
+use Rattle.meaning.specs.Grades.{one-diagnostic}
+use Rattle.meaning.proofs.Steps.{Nothing}
 use Rattle.meaning.proofs.Visits.{size-pos, stmts-meets, headForm-meets}
 use Rattle.tree.specs.declared.Stmts.{Stmts}
 use Rattle.tree.specs.Nodes.{stmtsW, headW, bodyW}

@@ -25,7 +25,7 @@ use Rattle.meaning.specs.File.{Described}
 use Rattle.meaning.specs.Check.{Checker, Step, Does}
 use Rattle.meaning.proofs.Meets.{made-refl}
 use Rattle.meaning.proofs.Steps.{IsSide}
-use Rattle.meaning.proofs.Visits.{visiting}
+use Rattle.meaning.specs.Grades.{visiting}
 use Rattle.tree.specs.declared.Items.{Items}
 use Rattle.tree.specs.declared.Field.{Field}
 use Rattle.tree.specs.Nodes.{fieldW, fieldOf, fieldsFrom}

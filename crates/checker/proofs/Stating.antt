@@ -12,7 +12,8 @@ use Rattle.meaning.specs.File.{Described}
 use Rattle.meaning.specs.Check as Check
 use Rattle.meaning.specs.Check.{Checker, andThen, introduce, annotate, reject, unifyAt, bindVariable, badTarget, onlyRight, notYet, destructure, bindWildcard}
 use Rattle.meaning.specs.Weights.{same, sumOf}
-use Rattle.meaning.proofs.Steps.{one-diagnostic, one-unknown, one-node, Nothing, IsUnknown, reject-meets, introduce-meets, annotate-meets}
+use Rattle.meaning.specs.Grades.{one-diagnostic, one-unknown, one-node}
+use Rattle.meaning.proofs.Steps.{Nothing, IsUnknown, reject-meets, introduce-meets, annotate-meets}
 use Rattle.meaning.proofs.Visits.{size-pos, own-weight}
 use Rattle.steps.specs.declared.Typed.{Typed}
 use Rattle.steps.specs.declared.Typed.the-variants as Typed

@@ -24,7 +24,7 @@ use Rattle.meaning.specs.Run.{run}
 use Rattle.tree.specs.Stands.{Stands}
 use Rattle.meaning.specs.Check as Check
 use Rattle.meaning.specs.Check.{Checker, Step, Does, goes, out, andThen, Walk, walk, form}
-use Rattle.meaning.proofs.Steps.{no-thing, Known}
+use Rattle.meaning.specs.Grades.{no-thing, Known}
 use Rattle.state.specs.Runs.{Runs}
 use Rattle.state.specs.Lines.{Told}
 use Rattle.tree.specs.declared.Items.{Items}

@@ -23,7 +23,7 @@ use Rattle.meaning.specs.Schema.{fieldOf}
 use Rattle.meaning.specs.File.{Described}
 use Rattle.meaning.specs.Sound.{Sound}
 use Rattle.meaning.specs.Check.{Checker, Does, goes, rejectTy, keyTy, valueTy, fieldAt, keyOf, valueOf, selectOf, unresolved}
-use Rattle.meaning.proofs.Meets.{unknowns}
+use Rattle.meaning.specs.Grades.{unknowns}
 use Rattle.meaning.proofs.Visits.{key-declared}
 use Rattle.state.specs.declared.Code.{Code}
 use Rattle.state.specs.declared.Code.the-variants as Code

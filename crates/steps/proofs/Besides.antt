@@ -27,8 +27,9 @@ use Rattle.cells.proofs.Frame.{more-refl, keeps-wider}
 use Rattle.meaning.specs.File.{Described}
 use Rattle.meaning.specs.Check as Check
 use Rattle.meaning.specs.Check.{Checker, Does, goes}
-use Rattle.meaning.proofs.Meets.{Orderly, Meets}
-use Rattle.meaning.proofs.Steps.{no-thing, one-diagnostic, Nothing, reject-meets, reject-if}
+use Rattle.meaning.specs.Grades.{Orderly, no-thing, one-diagnostic}
+use Rattle.meaning.proofs.Meets.{Meets}
+use Rattle.meaning.proofs.Steps.{Nothing, reject-meets, reject-if}
 use Rattle.state.specs.declared.Code.{Code}
 use Rattle.state.specs.declared.Code.the-variants as Code
 use Rattle.state.specs.Words.{codeOf}

@@ -20,7 +20,8 @@ use Rattle.meaning.specs.File.{Described}
 use Rattle.meaning.specs.Check as Check
 use Rattle.meaning.specs.Check.{Checker, Step, goes, andThen, lookupIn, reversed}
 use Rattle.meaning.specs.Answer.{diagnosticLines}
-use Rattle.meaning.proofs.Steps.{one-diagnostic, same-self}
+use Rattle.meaning.specs.Grades.{one-diagnostic}
+use Rattle.meaning.proofs.Steps.{same-self}
 use Rattle.state.specs.declared.Code.{Code}
 use Rattle.state.specs.Words.{codeOf, Introduces}
 use Rattle.state.specs.Lines.{Lines, Told, Rejected}

@@ -9,7 +9,8 @@ use Rattle.cells.specs.declared.Ty.{Ty}
 use Rattle.cells.specs.Stands.{Rows, tree, Ok}
 use Rattle.meaning.specs.File.{Described}
 use Rattle.meaning.specs.Check.{Checker, Step, goes, Does, andThen}
-use Rattle.meaning.proofs.Meets.{Ready, Made, Went, Meets, made-side}
+use Rattle.meaning.specs.Grades.{Ready}
+use Rattle.meaning.proofs.Meets.{Made, Went, Meets, made-side}
 use Rattle.meaning.proofs.Steps.{IsSide}
 use Rattle.cells.specs.Inferred.{More}
 use Rattle.state.specs.Lines.{Told}

@@ -10,7 +10,8 @@ use Rattle.unification.proofs.Undo.{since-length}
 use Rattle.cells.specs.Stands.{Rows}
 use Rattle.meaning.specs.File.{Described}
 use Rattle.meaning.specs.Check.{Checker, Step, goes, out, Does, andThen}
-use Rattle.meaning.proofs.Meets.{Grade, unknowns, Ready, Made, Went, Meets, going, ready-fits, ready-after}
+use Rattle.meaning.specs.Grades.{Grade, unknowns, Ready}
+use Rattle.meaning.proofs.Meets.{Made, Went, Meets, going, ready-fits, ready-after}
 use Rattle.state.specs.Runs.{Runs, Grew}
 use Rattle.state.specs.Lines.{Told}
 use Rattle.steps.specs.declared.Typed.the-variants as Typed

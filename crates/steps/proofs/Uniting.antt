@@ -23,7 +23,8 @@ use Rattle.meaning.specs.File.{Described}
 use Rattle.meaning.specs.Check as Check
 use Rattle.meaning.specs.Check.{Checker, Step, Does, goes, andThen}
 use Rattle.meaning.proofs.Meets.{Went, Meets, going}
-use Rattle.meaning.proofs.Steps.{no-thing, one-diagnostic, Nothing, unify-meets, orderable-meets}
+use Rattle.meaning.specs.Grades.{no-thing, one-diagnostic}
+use Rattle.meaning.proofs.Steps.{Nothing, unify-meets, orderable-meets}
 use Rattle.state.specs.declared.Code.the-variants as Code
 use Rattle.state.specs.Lines.{Rejected}
 use Rattle.state.specs.Runs.{Runs}

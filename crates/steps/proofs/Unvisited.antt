@@ -12,7 +12,7 @@ use Rattle.meaning.specs.Syntax.{allFields, destructurableKind, destructurableI
 use Rattle.meaning.specs.File.{Described}
 use Rattle.meaning.specs.Sound.{Sound}
 use Rattle.meaning.specs.Check.{Checker, Step, goes, andThen, Form, aWildcard, aVariable, form, formOf, introduce, introduceSide, headForm}
-use Rattle.meaning.proofs.Visits.{early}
+use Rattle.meaning.specs.Grades.{early}
 use Rattle.meaning.proofs.Depth.{lower-falls, destructurable-is}
 use Rattle.tree.specs.declared.Items.{Items}
 use Rattle.tree.specs.declared.Field.{Field}

@@ -19,9 +19,7 @@ use Rattle.work.specs.Layout.{RECORD-COUNT, RECORD-FIELD-COUNT, END}
 use Rattle.tree.specs.Stands.{Stands}
 use Rattle.meaning.specs.Check as Check
 use Rattle.meaning.specs.Check.{Checker, Does, _>>=_, andThen, form}
-use Rattle.meaning.proofs.Meets.{unknowns}
-use Rattle.meaning.proofs.Steps.{no-thing, one-diagnostic, one-unknown, one-node, Known}
-use Rattle.meaning.proofs.Visits.{introducing}
+use Rattle.meaning.specs.Grades.{unknowns, no-thing, one-diagnostic, one-unknown, one-node, Known, introducing}
 use Rattle.meaning.specs.Diag.{Code}
 use Rattle.state.specs.Runs.{Runs}
 use Rattle.state.specs.Lines.{Told}

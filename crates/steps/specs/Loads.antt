@@ -12,8 +12,7 @@ use Rattle.meaning.specs.File.{Described}
 use Rattle.meaning.specs.Sound.{Sound}
 use Rattle.meaning.specs.Check.{Checker, Does}
 use Rattle.meaning.specs.Weights.{sumOf, recordsOf, records, fieldsOf, recordFields}
-use Rattle.meaning.proofs.Meets.{Grade, unknowns, Orderly, Ready, Fits, plus}
-use Rattle.meaning.proofs.Visits.{inferring, finding, checking, visiting, within}
+use Rattle.meaning.specs.Grades.{Grade, unknowns, Orderly, Ready, Fits, plus, inferring, finding, checking, visiting, within}
 use Rattle.state.specs.Runs.{Runs}
 use Rattle.state.specs.Lines.{Told}
 use Rattle.steps.specs.Ends.{Result, Ends}

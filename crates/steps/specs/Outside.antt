@@ -19,7 +19,7 @@ use Rattle.meaning.specs.Schema.{fieldOf}
 use Rattle.meaning.specs.File.{Described}
 use Rattle.meaning.specs.Check as Check
 use Rattle.meaning.specs.Check.{Checker}
-use Rattle.meaning.proofs.Steps.{one-diagnostic}
+use Rattle.meaning.specs.Grades.{one-diagnostic}
 use Rattle.state.specs.declared.Code.{Code}
 use Rattle.state.specs.declared.Code.the-variants as Code
 use Rattle.state.specs.Lines.{Rejected}
