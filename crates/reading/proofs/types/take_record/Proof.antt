@@ -1,4 +1,4 @@
--- Made from Proof.ans by tools/answers, 506b66f169523c5d.
+-- Made from Proof.ans by tools/answers, 684f33de2be95d31 da9f18b39b64ffdc.
 -- `reading::take_record` meets its contract: each end is one of such a line's.
 use borrow.Author.Needs.{needs}
 use Rattle.reading.proofs.types.take_record.Statement.{statement}
@@ -9,6 +9,7 @@ use Rattle.reading.proofs.types.add_type.Reads as add-type-reads
 use Rattle.reading.proofs.types.names_distinct.Reads as names-distinct-reads
 use Rattle.reading.proofs.types.parts_earlier.Reads as parts-earlier-reads
 use Rattle.reading.proofs.types.put_fields.Reads as put-fields-reads
+use Rattle.work.proofs.with_tag.Reads as with-tag-reads
 use native.Mathlib.Omega.{arith}
 use borrow.Author.Tests.{not-true, not-false}
 use Rattle.reading.proofs.Typing.{record-bad, record-repeats, record-takes}
@@ -24,8 +25,7 @@ take-record-spec =
     (λ c. search needs)
     (λ c. search needs)
     (λ c κs. search needs)
-    (λ c. search needs)
-    (λ c. search needs)
+    (λ c κs. search needs)
     (λ c κs. search needs)
     (λ c. search needs)
-    (λ c. record-takes _ _ _ (c .before .before .before .before .before .before .before .before .before .before .before .before .before .before .pre .0) _ _ _ _ (search needs) (rw (not-false (c .before .before .before .before .before .before .before .before .before .before .before .parts-earlier .result) (c .before .before .before .before .before .before .before .before .before .before .if1 .left)) at (c .before .before .before .before .before .before .before .before .before .before .before .parts-earlier .ensures)) (rw (not-false (c .before .before .before .before .before .before .before .before .before .names-distinct .result) (c .before .before .before .before .before .before .before .before .if2 .left)) at (c .before .before .before .before .before .before .before .before .before .names-distinct .ensures)) (c .before .before .before .before .before .before .put-fields .ensures) (c .before .before .add-type .ensures)))
+    (λ c. record-takes _ _ _ (c .before .before .before .before .before .before .before .before .before .before .before .before .before .before .before .pre .0) _ _ _ _ (search needs) (rw (not-false (c .before .before .before .before .before .before .before .before .before .before .before .before .parts-earlier .result) (c .before .before .before .before .before .before .before .before .before .before .before .if1 .left)) at (c .before .before .before .before .before .before .before .before .before .before .before .before .parts-earlier .ensures)) (rw (not-false (c .before .before .before .before .before .before .before .before .before .before .names-distinct .result) (c .before .before .before .before .before .before .before .before .before .if2 .left)) at (c .before .before .before .before .before .before .before .before .before .before .names-distinct .ensures)) (c .before .before .before .before .before .before .before .put-fields .ensures) (rw (c .before .before .before .with-tag .ensures) at (c .before .before .add-type .ensures))))
