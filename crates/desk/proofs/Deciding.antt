@@ -14,6 +14,7 @@ use Rattle.meaning.specs.Outcome.{Decided, turnedDown, answered, minWords, deci
 use Rattle.meaning.proofs.Tests.{cases}
 use Rattle.meaning.proofs.Content.{says-exactly}
 use Rattle.reading.specs.Contracts.{refusal, Ends, readingIn, ReadsFile}
+use Rattle.reading.proofs.AllLines.{decided}
 use Rattle.reading.specs.declared.Refusal.{Refusal}
 use Rattle.reading.specs.declared.Refusal.the-variants as Refusal
 use Rattle.reading.specs.declared.Read.{Read}
@@ -23,10 +24,6 @@ use Rattle.desk.specs.declared.Outcome.the-variants as Outcome
 use Rattle.desk.specs.Contracts.{resultOf, Told, RunsQueries, RunsFile, ChecksFile}
 
 -- ---- Reading
-
-decide-reads : (f : List ℕ) (words : ℕ) → decide f words ≡ decideRead (readingIn f words)
-unfolding decide readingIn decideRead
-decide-reads f words = cases (ltb words minWords) (λ q. rw (q, decide, readingIn)) (λ q. rw (q, decide, readingIn))
 
 enough-words : (f : List ℕ) (words : ℕ) (d : Form) → readingIn f words ≡ described d → reading f ≡ described d
 unfolding readingIn
@@ -38,7 +35,7 @@ enough-words f words d e = cases (ltb words minWords)
 pub not-read : (f w w′ buf : List ℕ) (r : Read) (e : Refusal) → ReadsFile f w w′ r → r ≡ Read.Refused e
     → Told buf buf (Outcome.Refused e) (decide f (length w))
 unfolding Ends Told decideRead
-not-read f w w′ buf r e h q = subst (Told buf buf (Outcome.Refused e)) (sym (decide-reads f (length w))) (go (readingIn f (length w)) (h .ends))
+not-read f w w′ buf r e h q = subst (Told buf buf (Outcome.Refused e)) (sym (decided f (length w))) (go (readingIn f (length w)) (h .ends))
   where
     go : (x : Reading) → Ends f w′ r x → Told buf buf (Outcome.Refused e) (decideRead x)
     go (refused i) g = let p = g .1 in let same : e ≡ g .0 = cc in (e, refl, ap refusal same ∙ g .2)
@@ -57,7 +54,7 @@ read-small f w w′ r h q = go (readingIn f (length w)) refl (h .ends)
 
 pub was-read : (f w w′ buf buf′ : List ℕ) (r : Read) (o : Outcome) → ReadsFile f w w′ r → r ≡ Read.Accepted → RunsQueries f w′ buf buf′ o → Told buf buf′ o (decide f (length w))
 unfolding Ends decideRead minWords
-was-read f w w′ buf buf′ r o h q runs = subst (Told buf buf′ o) (sym (decide-reads f (length w))) (go (readingIn f (length w)) refl (h .ends))
+was-read f w w′ buf buf′ r o h q runs = subst (Told buf buf′ o) (sym (decided f (length w))) (go (readingIn f (length w)) refl (h .ends))
   where
     go : (x : Reading) → readingIn f (length w) ≡ x → Ends f w′ r x → Told buf buf′ o (decideRead x)
     go (refused i) e g = let p = g .1 in let z : _≡_ {A = ℕ} 0 1 = cc in absurd (omega arith)

@@ -77,11 +77,15 @@ module _ {out out₁ : List ℕ} {page head : Wrote} {line : List ℕ} (f : Foll
 
     -- the page had room for the line, and what the lines came to in their part is what they come to in the whole
     joined : (m : ℕ) → head ≡ To m → Follows out page (line ++ text) (back part) (shifted place a)
-    joined m e = (same-long, (λ n q l.
-        let first = f .1 n q l in
-        let to = continues-to first e in
-        let here : place ≡ m = p .is m e (omega (arith, to .1, f .0)) in
-        continues-then first (e ∙ ap To (sym here)) whole), λ q. no-page (sym e ∙ f .2 q))
+    joined m e = (
+      same-long,
+      (λ n q l.
+          let first = f .1 n q l in
+          let to = continues-to first e in
+          let here : place ≡ m = p .is m e (omega (arith, to .1, f .0)) in
+          continues-then first (e ∙ ap To (sym here)) whole),
+      λ q. no-page (sym e ∙ f .2 q),
+    )
 
     pub lines-full : (m : ℕ) → head ≡ To m → a ≡ Full → Follows out page (line ++ text) (back part) Full
     lines-full m e q = subst (Follows out page (line ++ text) (back part)) (ap (shifted place) q) (joined m e)

@@ -83,14 +83,7 @@ fn answer_query(file: &[u8], work: &mut [u32], out: &mut [u8]) -> Ended
 }
 
 // One query, from its lines to its answer. Where the slice is full it still runs, for its visits.
-fn one_query(
-    file: &[u8],
-    at: usize,
-    k: u32,
-    work: &mut [u32],
-    out: &mut [u8],
-    page: Wrote,
-) -> Turn
+fn one_query(file: &[u8], at: usize, k: u32, work: &mut [u32], out: &mut [u8], page: Wrote) -> Turn
     ensures { λ r. ⌜ Turns (now (file .entry)) at k (now (work .entry)) (now (out .entry)) page (now (work .exit)) (now (out .exit)) r ⌝ }
 {
     let next = loading::load(file, at, work);

@@ -24,7 +24,7 @@ run-spec =
     (λ c. search needs)
     (λ c. search needs)
     (λ c. record {
-  told = was-read _ _ _ _ _ _ _ (c .before .before .before .before .before .before .before .before .before .before .before .read-file .ensures) (c .before .before .before .before .before .before .before .enum-told .given .1) (c .before .before .before .before .all-queries .ensures);
-  words = c .before .before .before .before .all-queries .kept .1 .0 ∙ c .before .before .before .before .before .before .before .before .before .before .before .read-file .ensures .long;
-  bytes = search needs;
-}))
+      told = was-read _ _ _ _ _ _ _ (c .before .before .before .before .before .before .before .before .before .before .before .read-file .ensures) (c .before .before .before .before .before .before .before .enum-told .given .1) (c .before .before .before .before .all-queries .ensures);
+      words = c .before .before .before .before .all-queries .kept .1 .0 ∙ c .before .before .before .before .before .before .before .before .before .before .before .read-file .ensures .long;
+      bytes = search needs;
+    }))
