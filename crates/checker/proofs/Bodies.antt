@@ -26,8 +26,7 @@ use Rattle.meaning.proofs.Meets.{Made, Meets}
 use Rattle.meaning.proofs.Steps.{Nothing}
 use Rattle.meaning.proofs.Visits.{stmts-meets}
 use Rattle.work.specs.Layout.{ENV-LEN}
-use Rattle.state.specs.Words.{envOf}
-use Rattle.state.specs.Runs.{Runs}
+use Rattle.state.proofs.Scoping.{runs-env-length}
 use Rattle.hex.specs.Digits.{digitsW}
 use Rattle.tree.specs.declared.Items.{Items}
 use Rattle.tree.specs.declared.Stmts.{Stmts}
@@ -349,14 +348,6 @@ subquery-fits d k q = record { grade = omega arith; records = omega arith; field
 pub made-env : (g : Grade) (c c′ : Checker) → Made g c c′ → length (c .env) ≤ length (c′ .env)
 made-env g c c′ m = omega (arith, ap length (m .env) ∙ length-append (m .pushed) (c .env))
 
-env-length : (w : List ℕ) (n : ℕ) → length (envOf w n) ≡ n
-unfolding envOf
-env-length w zero = refl
-env-length w (suc n) = ap suc (env-length w n)
-
-pub scope-is : {f w : List ℕ} {T : Rows} {d : Described} {c : Checker} → Runs f w T d c → length (c .env) ≡ getD w ENV-LEN 0
-scope-is {w = w} r = ap length (r .env) ∙ env-length w (getD w ENV-LEN 0)
-
 module _ {f w ou w₁ ou₁ : List ℕ} {head left : ℕ} {body : Stmts} {x : Done} (D : StatesAll f w ou body left w₁ ou₁ x) where
   pub subquery-out : x ≡ Done.Out → Subqueries f w ou head body left w₁ ou₁ Typed.Out
   unfolding subquery envLen exprNodes queryNodes
@@ -382,7 +373,7 @@ module _ {f w ou w₁ ou₁ : List ℕ} {head left : ℕ} {body : Stmts} {x : Do
             then-done (visits (nodesOf d) k (stmtNodes (q .body))) (infers (nodesOf d) k (q .head)) (parts (nodesOf d) k (ExprKind.Subquery q)) (subquery-fits d k q) Nothing (sayingAll d k (q .body) c)
             (λ u b. andThen (below d k .infer (q .head) b) (λ ty e. andThen (truncateEnv (length (c .env)) e) (λ u z. goes ty z))) g s
             (λ y. stmts-meets (d .schema) (nodesOf d) (s .sound .predicates) k (below d k) (good s k) (q .body) c (s .orderly) y) (λ s₁. D .is d k (q .body) (ap (λ z. z .body) e) (named .1) .is T c s₁ tt)
-            (λ T₁ b a. rw h (next d k (rw h at (named .0)) T₁ c b (scope-is (s .runs)) (made-env _ c b (a .made)) (rw h at (a .begins))));
+            (λ T₁ b a. rw h (next d k (rw h at (named .0)) T₁ c b (runs-env-length (s .runs)) (made-env _ c b (a .made)) (rw h at (a .begins))));
       };
     }
 

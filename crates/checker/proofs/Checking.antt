@@ -30,6 +30,7 @@ use Rattle.meaning.proofs.Steps.{Nothing, IsSide, unify-meets, rolled-meets}
 use Rattle.meaning.proofs.Visits.{Good, size-pos}
 use Rattle.state.specs.Lines.{Told}
 use Rattle.state.specs.Runs.{Runs}
+use Rattle.state.proofs.Scoping.{runs-env-length}
 use Rattle.steps.specs.declared.Typed.{Typed}
 use Rattle.steps.specs.declared.Typed.the-variants as Typed
 use Rattle.steps.specs.declared.Done.{Done}
@@ -42,7 +43,7 @@ use Rattle.checker.proofs.Within.{ChecksField}
 use Rattle.steps.proofs.Sequel.{begins-part, begins-after, gone-trans, gone-on, holds-left, Led, led, then-ends, stop-ends}
 use Rattle.steps.proofs.Results.{After, with-visits, fine-after, tree-after, got-same, on-here, then-typed, stop-typed, then-done, stop-done, then-silent, silent-on}
 use Rattle.checker.proofs.Inferring.{good}
-use Rattle.checker.proofs.Bodies.{scope-is, made-env}
+use Rattle.checker.proofs.Bodies.{made-env}
 
 -- ---- Back to where the stretch began
 abbrev pub markOf : Checker → Mark
@@ -58,7 +59,7 @@ module _ {f w ou w₂ ou₂ w₃ ou₃ : List ℕ} {T : Rows} {d : Described} {l
   rolled-ends : Ends f w ou w₃ ou₃ T d (G .records) (G .fields) (silent v) (rollback (markOf c) b)
   unfolding Bindings.snapshot
   rolled-ends = gone-on G (only no-thing) G (same-load G) g
-      (R d v (markOf c) (sym (holds-log (s .runs .holds))) (scope-is (s .runs)) .is (g .T′) b (with-visits e (begins-after G (only no-thing) G P (same-load G) g x s)) (omega (arith, scope-is (s .runs), made-env (G .grade) c b (x .made))))
+      (R d v (markOf c) (sym (holds-log (s .runs .holds))) (runs-env-length (s .runs)) .is (g .T′) b (with-visits e (begins-after G (only no-thing) G P (same-load G) g x s)) (omega (arith, runs-env-length (s .runs), made-env (G .grade) c b (x .made))))
 
 -- ---- `infer_then_unify`
 checks-fits : (d : Described) (k n : ℕ) → Holds (both (infers (nodesOf d) k n) (only one-diagnostic)) (checks (nodesOf d) k n)
