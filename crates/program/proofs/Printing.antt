@@ -1,4 +1,5 @@
--- What a call leaves is what the definition prints: after an answer the slice has it already; after a refusal the slice is zero throughout, and the refusal's line takes the place of its first bytes.
+-- What a call leaves is what the definition prints: after an answer the slice has it already; after a refusal the slice is zero
+-- throughout, and the refusal's line takes the place of its first bytes.
 use mathlib.Core.List.{List, [], _∷_, _++_}
 use mathlib.Core.Path.{_≡_, refl, sym, ap, _∙_}
 use Prim.Native.Nat.{ℕ, _+_, _-_, _≤_}
