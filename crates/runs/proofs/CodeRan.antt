@@ -13,12 +13,12 @@ use Rattle.steps.specs.declared.Done.{Done}
 use Rattle.checker.specs.Contracts.{Ran, to-the-end, out-of-visits, Queries}
 use Rattle.runs.specs.CodeRan.{StandsAt, CodeRan}
 
-stands-at : {f w : List ℕ} {d : Described} {r : Done} (s : Step Tree.Ty) → Ran f w d r s → StandsAt w r s
-stands-at (goes ty c) (to-the-end T R e) = (e, (T, R .holds))
-stands-at (out c) (out-of-visits e) = e
+stands-at : {f w buf : List ℕ} {d : Described} {r : Done} (s : Step Tree.Ty) → Ran f w buf d r s → StandsAt w r s
+stands-at (goes ty c) (to-the-end T R t e) = (e, (T, R .holds))
+stands-at (out c) (out-of-visits T R t e) = (e, (T, R .holds))
 
-pub code-ran : {f w w′ : List ℕ} {T : Rows} {d : Described} {ceiling : ℕ} {r : Done}
-    → Sound d → Stands f w T d → Queries f w ceiling w′ r → CodeRan w′ d ceiling r
+pub code-ran : {f w buf w′ buf′ : List ℕ} {T : Rows} {d : Described} {ceiling : ℕ} {r : Done}
+    → Sound d → Stands f w T d → Queries f w buf ceiling w′ buf′ r → CodeRan w′ d ceiling r
 code-ran {T = T} {d} {ceiling} sound S Q =
     let wf = sound-wellFormed d sound in
     record {

@@ -11,11 +11,11 @@ use Rattle.meaning.specs.Run.{run, RunDemand3, RunAsRobinson}
 use Rattle.steps.specs.declared.Done.{Done}
 use Rattle.steps.specs.declared.Done.the-variants as Done
 
--- Where the definition's run ends, the words stand for its state, and the code gives back the visits that it has left; where it runs out
--- of visits, so does the code.
+-- Where the definition's run ends, or where it runs out of visits, the words stand for its state; the code gives back the visits that it has
+-- left, or that it ran out.
 abbrev pub StandsAt : List ℕ → Done → Step Tree.Ty → Type 0
 StandsAt w r (goes ty c) = (r ≡ Done.On (c .state .left)) × ((T : Rows) × Holds w T (c .state))
-StandsAt w r (out c) = r ≡ Done.Out
+StandsAt w r (out c) = (r ≡ Done.Out) × ((T : Rows) × Holds w T (c .state))
 
 pub record CodeRan (w : List ℕ) (d : Described) (ceiling : ℕ) (r : Done) : Type 0 where
   pub stands : StandsAt w r (run (d .schema) (d .ast) ceiling)

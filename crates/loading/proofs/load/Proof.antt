@@ -32,7 +32,7 @@ load-spec =
     (λ c κs. search needs)
     (λ c. search needs)
     (λ c. search needs)
-    (λ c. loading-bad (c .before .before .before .before .before .loop .inv .1) (c .before .before .decode .ensures .fails (c .enum-told .given .1)))
+    (λ c. loading-bad (c .before .before .before .before .before .loop .inv .1) (c .before .before .decode .ensures .fails (c .enum-told .given .1) (c .before .before .before .before .loop-test .taken)))
     (λ c. search needs)
     (λ c. search needs)
     (λ c κs. search needs)
