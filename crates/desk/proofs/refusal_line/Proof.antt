@@ -5,7 +5,7 @@ use Rattle.desk.proofs.refusal_line.Statement.{statement}
 use Rattle.desk.proofs.refusal_line.Tie as tie
 use Rattle.desk.proofs.refusal_line.Reads as reads
 use Rattle.desk.proofs.refusal_line.Lts as lts
-use Rattle.answer.proofs.hex_digit.Reads as hex-digit-reads
+use Rattle.writer.proofs.hex_digit.Reads as hex-digit-reads
 use Rattle.desk.proofs.refusal_number.Reads as refusal-number-reads
 use native.Mathlib.Omega.{arith}
 use Rattle.desk.proofs.Lining.{line-of}
