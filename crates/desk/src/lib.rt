@@ -8,11 +8,11 @@ ghost use Rattle.meaning.specs.Answer.{hexLine};
 ghost use Rattle.reading.specs.Contracts.{refusal};
 ghost use Rattle.desk.specs.Turns.{headLine, Follows, Least, Place, OneOfSeveral, Answers, Turns};
 ghost use Rattle.desk.specs.Contracts.{RunsQueries, RunsFile, ChecksFile};
-use writer::Wrote;
 use reading::Counters;
 use reading::Read;
 use reading::Refusal;
 use steps::Done;
+use writer::Wrote;
 
 pub enum Outcome {
     Accepted(usize),

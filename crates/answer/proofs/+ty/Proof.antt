@@ -1,4 +1,4 @@
--- Made from Proof.ans by tools/answers, 5e3f22237b47cfbf.
+-- Made from Proof.ans by tools/answers, 5e3f22237b47cfbf ead7c99961b74ea7.
 -- What stands before the parts is written first, so the room left falls. To write the parts from j on is to write them all.
 use Prim.Native.Nat.{ℕ, _<_, _-_}
 use borrow.Fn.Kinds.{In}

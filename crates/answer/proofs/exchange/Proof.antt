@@ -1,4 +1,4 @@
--- Made from Proof.ans by tools/answers, 1d38b9d9a9ab3918.
+-- Made from Proof.ans by tools/answers, 1d38b9d9a9ab3918 170002bbb5417c26.
 -- Three reversals, each within the slice, whose length no call changes.
 use borrow.Author.Needs.{needs}
 use Rattle.answer.proofs.exchange.Statement.{statement}

@@ -1,4 +1,4 @@
--- Made from Proof.ans by tools/answers, 4f54919730c020a5.
+-- Made from Proof.ans by tools/answers, 4f54919730c020a5 da02fc56e390c2e8.
 -- By the match.
 use borrow.Author.Needs.{needs}
 use Rattle.answer.proofs.head.Statement.{statement}

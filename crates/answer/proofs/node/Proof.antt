@@ -1,4 +1,4 @@
--- Made from Proof.ans by tools/answers, ebdf4788d84c81c2.
+-- Made from Proof.ans by tools/answers, ebdf4788d84c81c2 8d37aab464b1b32f.
 -- The number, then what the node was found to be.
 use borrow.Author.Needs.{needs}
 use Rattle.answer.proofs.node.Statement.{statement}

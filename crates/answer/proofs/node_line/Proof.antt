@@ -1,4 +1,4 @@
--- Made from Proof.ans by tools/answers, 4c04e11bfd27763f.
+-- Made from Proof.ans by tools/answers, 4c04e11bfd27763f b270a8ebab0831be.
 -- The digits, then LF.
 use borrow.Author.Needs.{needs}
 use Rattle.answer.proofs.node_line.Statement.{statement}

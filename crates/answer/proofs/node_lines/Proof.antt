@@ -1,4 +1,4 @@
--- Made from Proof.ans by tools/answers, 6787955ce59ccb9f.
+-- Made from Proof.ans by tools/answers, 6787955ce59ccb9f 9edb453550da1e31.
 -- To write the lines from i on is to write them all; the measure is the nodes that are left.
 use Rattle.answer.proofs.node_lines.Statement.{statement}
 use Rattle.answer.proofs.node_lines.Tie as tie

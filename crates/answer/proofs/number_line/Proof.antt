@@ -1,4 +1,4 @@
--- Made from Proof.ans by tools/answers, 0c65f788f1193612.
+-- Made from Proof.ans by tools/answers, eb7c672540048d0a 18125d55195935cf.
 -- The digits, then LF.
 use borrow.Author.Needs.{needs}
 use Rattle.answer.proofs.number_line.Statement.{statement}

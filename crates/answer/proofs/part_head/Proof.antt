@@ -1,4 +1,4 @@
--- Made from Proof.ans by tools/answers, 0d1c18e67bd123c8.
+-- Made from Proof.ans by tools/answers, 0d1c18e67bd123c8 6faf9f1f834b55ce.
 -- In a record the name stands before the type, in a union the name and then the discriminant.
 use borrow.Author.Needs.{needs}
 use Rattle.answer.proofs.part_head.Statement.{statement}

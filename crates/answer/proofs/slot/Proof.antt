@@ -1,4 +1,4 @@
--- Made from Proof.ans by tools/answers, df526387f6d5fda9.
+-- Made from Proof.ans by tools/answers, df526387f6d5fda9 3af62eded5bf7fc7.
 -- The node's two words stand for none or for a type.
 use borrow.Author.Needs.{needs}
 use Rattle.answer.proofs.slot.Statement.{statement}

@@ -1,4 +1,4 @@
--- Made from Proof.ans by tools/answers, 14c0cac031d62b51.
+-- Made from Proof.ans by tools/answers, 14c0cac031d62b51 10aaea6b1fd1d074.
 -- The lines of the nodes behind those of the diagnostics; then the blocks change places, where there are two.
 use borrow.Author.Needs.{needs}
 use Rattle.answer.proofs.write.Statement.{statement}

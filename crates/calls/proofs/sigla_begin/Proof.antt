@@ -1,4 +1,4 @@
--- Made from Proof.ans by tools/answers, 574db0c6f6812c5d.
+-- Made from Proof.ans by tools/answers, 574db0c6f6812c5d 61209647cca9a6bb.
 -- Four zeros, in the order of `begunW`.
 use borrow.Author.Needs.{needs}
 use Rattle.calls.proofs.sigla_begin.Statement.{statement}

@@ -1,4 +1,4 @@
--- Made from Proof.ans by tools/answers, 85d40b900976e6f0.
+-- Made from Proof.ans by tools/answers, 85d40b900976e6f0 b93289fe8c367293.
 -- The answer is that of `unify`, told by its case.
 use borrow.Author.Needs.{needs}
 use Rattle.calls.proofs.sigla_unify.Statement.{statement}

@@ -1,4 +1,4 @@
--- Made from Proof.ans by tools/answers, 7f29ce522627d6fe.
+-- Made from Proof.ans by tools/answers, 7f29ce522627d6fe 261e992563397ba4.
 -- A call costs a visit, so the visits left fall. The answer for the row is the answer for the rest from j on.
 use Prim.Native.Nat.{ℕ, _<_, _-_}
 use borrow.Fn.Kinds.{In}

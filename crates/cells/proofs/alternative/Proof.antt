@@ -1,4 +1,4 @@
--- Made from Proof.ans by tools/answers, 054bbe96a7b8d5d9.
+-- Made from Proof.ans by tools/answers, 054bbe96a7b8d5d9 19709761bfe35da8.
 -- The words are those that `alternativeW` reads.
 use borrow.Author.Needs.{needs}
 use Rattle.cells.proofs.alternative.Statement.{statement}

@@ -1,4 +1,4 @@
--- Made from Proof.ans by tools/answers, 40e48cf275877a75.
+-- Made from Proof.ans by tools/answers, 40e48cf275877a75 23bbc200483730c4.
 -- The test is the one of `countW`, and each word is the one that it names.
 use borrow.Author.Needs.{needs}
 use Rattle.cells.proofs.count.Statement.{statement}

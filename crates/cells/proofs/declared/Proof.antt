@@ -1,4 +1,4 @@
--- Made from Proof.ans by tools/answers, 82a0ec30d125427d.
+-- Made from Proof.ans by tools/answers, 82a0ec30d125427d 7711f812b3fb65fc.
 -- The two tests are those of `declaredW`.
 use borrow.Author.Needs.{needs}
 use Rattle.cells.proofs.declared.Statement.{statement}

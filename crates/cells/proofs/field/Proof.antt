@@ -1,4 +1,4 @@
--- Made from Proof.ans by tools/answers, a231acf327af3f65.
+-- Made from Proof.ans by tools/answers, a231acf327af3f65 af6552000d0dbeb4.
 -- The test is the one of `fieldW`; the words are read where it reads them.
 use borrow.Author.Needs.{needs}
 use Rattle.cells.proofs.field.Statement.{statement}

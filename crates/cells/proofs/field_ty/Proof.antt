@@ -1,4 +1,4 @@
--- Made from Proof.ans by tools/answers, 7f9288f1857de3f4.
+-- Made from Proof.ans by tools/answers, 7f9288f1857de3f4 06235b431b892479.
 -- The words are those that `fieldW` reads the type from.
 use borrow.Author.Needs.{needs}
 use Rattle.cells.proofs.field_ty.Statement.{statement}

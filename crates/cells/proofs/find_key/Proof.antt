@@ -1,4 +1,4 @@
--- Made from Proof.ans by tools/answers, 97590de650bc39e5.
+-- Made from Proof.ans by tools/answers, 97590de650bc39e5 96ddc7a4a218979a.
 -- The part at the place that was found.
 use borrow.Author.Needs.{needs}
 use Rattle.cells.proofs.find_key.Statement.{statement}

@@ -1,4 +1,4 @@
--- Made from Proof.ans by tools/answers, 6bd6d3b4a6d46002.
+-- Made from Proof.ans by tools/answers, 6bd6d3b4a6d46002 9159909a9f7f91bd.
 -- The test is the one of `firstW`, and each word is the one that it names.
 use borrow.Author.Needs.{needs}
 use Rattle.cells.proofs.first.Statement.{statement}

@@ -1,4 +1,4 @@
--- Made from Proof.ans by tools/answers, 0120f14f92f433ba.
+-- Made from Proof.ans by tools/answers, 0120f14f92f433ba 6198ece6e946129c.
 -- The words are those that `fieldW` and `alternativeW` read the key from.
 use borrow.Author.Needs.{needs}
 use Rattle.cells.proofs.key_at.Statement.{statement}

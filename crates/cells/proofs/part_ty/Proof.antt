@@ -1,4 +1,4 @@
--- Made from Proof.ans by tools/answers, 2adb59a754df54bc.
+-- Made from Proof.ans by tools/answers, 2adb59a754df54bc 5443c5810658ecd2.
 -- By the match.
 use borrow.Author.Needs.{needs}
 use Rattle.cells.proofs.part_ty.Statement.{statement}

@@ -1,4 +1,4 @@
--- Made from Proof.ans by tools/answers, 513ab68a270f96ea.
+-- Made from Proof.ans by tools/answers, 513ab68a270f96ea 2eebcca6b77e8f6f.
 -- What is sought in the row is what is sought in the rest from j on; the measure is what is left of the parts.
 use Rattle.cells.proofs.place_of.Statement.{statement}
 use Rattle.cells.proofs.place_of.Tie as tie

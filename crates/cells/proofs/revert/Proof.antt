@@ -1,4 +1,4 @@
--- Made from Proof.ans by tools/answers, 6ce80546c206d774.
+-- Made from Proof.ans by tools/answers, 6ce80546c206d774 dc786dd401ba1fa9.
 -- The tests are those of `revertW`.
 use borrow.Author.Needs.{needs}
 use Rattle.cells.proofs.revert.Statement.{statement}

@@ -1,4 +1,4 @@
--- Made from Proof.ans by tools/answers, 99ce2af284c981cf.
+-- Made from Proof.ans by tools/answers, 99ce2af284c981cf 38f02c1b27841947.
 -- Each turn takes the newest entry back; the measure is the log's length.
 use Rattle.cells.proofs.rollback.Statement.{statement}
 use Rattle.cells.proofs.rollback.Tie as tie

@@ -1,4 +1,4 @@
--- Made from Proof.ans by tools/answers, ca47a3dd65308e40.
+-- Made from Proof.ans by tools/answers, ca47a3dd65308e40 64f152a6dce96dde.
 -- The test is the one of `setVarW`; the writes one after another are `putTy` and `pushUndoW`.
 use borrow.Author.Needs.{needs}
 use Rattle.cells.proofs.set_var.Statement.{statement}

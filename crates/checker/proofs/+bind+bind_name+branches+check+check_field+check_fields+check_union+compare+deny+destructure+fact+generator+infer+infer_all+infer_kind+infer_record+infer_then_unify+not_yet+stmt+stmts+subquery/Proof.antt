@@ -1,4 +1,4 @@
--- Made from Proof.ans by tools/answers, 828e349875860226.
+-- Made from Proof.ans by tools/answers, 828e349875860226 83b059194fdcd8a3.
 -- What a node names is lower, so the node falls, and on one node the rank of specs/Contracts.antt. Each arm is a law of its own.
 use Prim.Native.Nat.{ℕ, _<_, _+_, _-_, _*_, _≤_}
 use borrow.Fn.Kinds.{In}

@@ -1,4 +1,4 @@
--- Made from Proof.ans by tools/answers, 8b0d15b1736a8217.
+-- Made from Proof.ans by tools/answers, 8b0d15b1736a8217 d7173b52ddc3f87a.
 -- `checker::query` meets its contract: the statements from where a run begins, then the head.
 use borrow.Author.Needs.{needs}
 use Rattle.checker.proofs.query.Statement.{statement}

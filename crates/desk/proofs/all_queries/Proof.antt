@@ -1,4 +1,4 @@
--- Made from Proof.ans by tools/answers, a2cecfb71f9ab7d9.
+-- Made from Proof.ans by tools/answers, a2cecfb71f9ab7d9 d007b8598a6cb2b5.
 -- `desk::all_queries` meets its contract, query by query (Telling.antt). The measure is what is left of the file.
 use Rattle.desk.proofs.all_queries.Statement.{statement}
 use Rattle.desk.proofs.all_queries.Tie as tie

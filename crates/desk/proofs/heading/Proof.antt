@@ -1,4 +1,4 @@
--- Made from Proof.ans by tools/answers, f419f088f9e18862.
+-- Made from Proof.ans by tools/answers, f419f088f9e18862 fca4245e87961d5d.
 -- `desk::heading` meets its contract.
 use borrow.Author.Needs.{needs}
 use Rattle.desk.proofs.heading.Statement.{statement}

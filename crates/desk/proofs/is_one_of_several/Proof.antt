@@ -1,4 +1,4 @@
--- Made from Proof.ans by tools/answers, 639866943c14d2bb.
+-- Made from Proof.ans by tools/answers, 639866943c14d2bb 14d9189ce47e321c.
 -- `desk::is_one_of_several` meets its contract.
 use Rattle.desk.proofs.is_one_of_several.Statement.{statement}
 use Rattle.desk.proofs.is_one_of_several.Tie as tie

@@ -1,4 +1,4 @@
--- Made from Proof.ans by tools/answers, 59d9bf80ff892eb7.
+-- Made from Proof.ans by tools/answers, 59d9bf80ff892eb7 8492e19ea63bd199.
 -- `desk::place` meets its contract.
 use borrow.Author.Needs.{needs}
 use Rattle.desk.proofs.place.Statement.{statement}

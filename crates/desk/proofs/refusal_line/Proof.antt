@@ -1,4 +1,4 @@
--- Made from Proof.ans by tools/answers, cfc55c1a49348817.
+-- Made from Proof.ans by tools/answers, cfc55c1a49348817 2517e62d51fea60e.
 -- `desk::refusal_line` meets its contract.
 use borrow.Author.Needs.{needs}
 use Rattle.desk.proofs.refusal_line.Statement.{statement}

@@ -1,4 +1,4 @@
--- Made from Proof.ans by tools/answers, ae297eebac95663d.
+-- Made from Proof.ans by tools/answers, ae297eebac95663d dd95541158ed32df.
 -- `desk::refusal_number` meets its contract: each arm is one row of the table.
 use borrow.Author.Needs.{needs}
 use Rattle.desk.proofs.refusal_number.Statement.{statement}

@@ -1,4 +1,4 @@
--- Made from Proof.ans by tools/answers, e679286544ef636c.
+-- Made from Proof.ans by tools/answers, e679286544ef636c a172b168037ec9f6.
 -- `desk::run` meets its contract: the reading, and then the queries of what was read.
 use borrow.Author.Needs.{needs}
 use Rattle.desk.proofs.run.Statement.{statement}

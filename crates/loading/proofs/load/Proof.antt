@@ -1,4 +1,4 @@
--- Made from Proof.ans by tools/answers, 4dbcdfc559946999.
+-- Made from Proof.ans by tools/answers, 3c5876ca298dc7cb de9c0b7945fed1c4.
 -- `loading::load` meets its contract, line by line (Loading.antt). The measure is what is left of the file.
 use Rattle.loading.proofs.load.Statement.{statement}
 use Rattle.loading.proofs.load.Tie as tie

@@ -1,4 +1,4 @@
--- Made from Proof.ans by tools/answers, 30d022c001f50dd6.
+-- Made from Proof.ans by tools/answers, 30d022c001f50dd6 20049f056e3246ec.
 -- `program::printed` meets its contract.
 use borrow.Author.Needs.{needs}
 use Rattle.program.proofs.printed.Statement.{statement}

@@ -1,4 +1,4 @@
--- Made from Proof.ans by tools/answers, 3ab64ac6bda1dae9.
+-- Made from Proof.ans by tools/answers, 3ab64ac6bda1dae9 401947d460864549.
 -- `program::read_input` ends: each turn that goes on has read a byte at least, and the slice keeps its length.
 use Rattle.program.proofs.read_input.Statement.{statement}
 use Rattle.program.proofs.read_input.Tie as tie

@@ -1,4 +1,4 @@
--- Made from Proof.ans by tools/answers, 83def1610c5f6ee2.
+-- Made from Proof.ans by tools/answers, 83def1610c5f6ee2 5e3f739a69c0653c.
 -- `program::run` is safe: what was read lies in the slice.
 use borrow.Author.Needs.{needs}
 use Rattle.program.proofs.run.Statement.{statement}

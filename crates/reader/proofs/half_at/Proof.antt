@@ -1,4 +1,4 @@
--- Made from Proof.ans by tools/answers, 728dc5761a077049.
+-- Made from Proof.ans by tools/answers, 728dc5761a077049 5fb553775aeacd31.
 -- `reader::half_at` meets its contract: the index moves where the line goes on.
 use borrow.Author.Needs.{needs}
 use Rattle.reader.proofs.half_at.Statement.{statement}

@@ -1,4 +1,4 @@
--- Made from Proof.ans by tools/answers, dad50cf2b75bb042.
+-- Made from Proof.ans by tools/answers, dad50cf2b75bb042 a1e2ffb07592a646.
 -- `reading::is_past` meets its contract.
 use Rattle.reading.proofs.is_past.Statement.{statement}
 use Rattle.reading.proofs.is_past.Tie as tie

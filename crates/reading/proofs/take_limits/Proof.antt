@@ -1,4 +1,4 @@
--- Made from Proof.ans by tools/answers, ac208e2fc74c7a1e.
+-- Made from Proof.ans by tools/answers, ac208e2fc74c7a1e 119223c1feba2e55.
 -- `reading::take_limits` meets its contract: the two limits are in their words.
 use borrow.Author.Needs.{needs}
 use Rattle.reading.proofs.take_limits.Statement.{statement}

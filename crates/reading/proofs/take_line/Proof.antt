@@ -1,4 +1,4 @@
--- Made from Proof.ans by tools/answers, 349ede430573d035.
+-- Made from Proof.ans by tools/answers, 349ede430573d035 834078fa87c24f86.
 -- `reading::take_line` meets its contract: each end is one of a line's, and each arm takes a frame of its kind.
 use borrow.Author.Needs.{needs}
 use Rattle.reading.proofs.take_line.Statement.{statement}

@@ -1,4 +1,4 @@
--- Made from Proof.ans by tools/answers, efef4bcf90a7ea45.
+-- Made from Proof.ans by tools/answers, efef4bcf90a7ea45 0c9890625d5132ec.
 -- `reading::take_lines` meets its contract. The invariant: what was read so far is held, and reading what is left is reading the file. The
 -- measure is what is left of the file.
 use Rattle.reading.proofs.take_lines.Statement.{statement}

@@ -1,4 +1,4 @@
--- Made from Proof.ans by tools/answers, 14e495ef74754e62.
+-- Made from Proof.ans by tools/answers, 14e495ef74754e62 8054a96bf5521ef7.
 -- The answer is that of `read_or_clear`, told by its case.
 use borrow.Author.Needs.{needs}
 use Rattle.reading_calls.proofs.sigla_read.Statement.{statement}

@@ -1,4 +1,4 @@
--- Made from Proof.ans by tools/answers, 308db7029c85a987.
+-- Made from Proof.ans by tools/answers, 308db7029c85a987 c742a47832b2bba6.
 -- The replay ends: a sample has at most 65,536 cases. The slices keep their lengths.
 use Rattle.replay.proofs.replay.Statement.{statement}
 use Rattle.replay.proofs.replay.Tie as tie

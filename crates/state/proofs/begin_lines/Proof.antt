@@ -1,4 +1,4 @@
--- Made from Proof.ans by tools/answers, 0ada0ea8676ec90a.
+-- Made from Proof.ans by tools/answers, 0ada0ea8676ec90a e46e77c16111898f.
 use borrow.Author.Needs.{needs}
 use Rattle.state.proofs.begin_lines.Statement.{statement}
 use Rattle.state.proofs.begin_lines.Tie as tie

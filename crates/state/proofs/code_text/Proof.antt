@@ -1,4 +1,4 @@
--- Made from Proof.ans by tools/answers, 1567451ad5f5e659.
+-- Made from Proof.ans by tools/answers, 1567451ad5f5e659 dc11aefad5745ab6.
 -- Each arm's text is the one of the code.
 use borrow.Author.Needs.{needs}
 use Rattle.state.proofs.code_text.Statement.{statement}

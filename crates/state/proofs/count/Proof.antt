@@ -1,4 +1,4 @@
--- Made from Proof.ans by tools/answers, 2caa63f3b4289846.
+-- Made from Proof.ans by tools/answers, 2caa63f3b4289846 be4e8574d6192b4b.
 -- The test is the one of `countedW`.
 use borrow.Author.Needs.{needs}
 use Rattle.state.proofs.count.Statement.{statement}

@@ -1,4 +1,4 @@
--- Made from Proof.ans by tools/answers, d312a159e08ff5bf.
+-- Made from Proof.ans by tools/answers, d312a159e08ff5bf d7da1f19577df100.
 -- Where the node stands, then the code.
 use borrow.Author.Needs.{needs}
 use Rattle.state.proofs.diagnostic.Statement.{statement}

@@ -1,4 +1,4 @@
--- Made from Proof.ans by tools/answers, ae49852159c51ca6.
+-- Made from Proof.ans by tools/answers, ae49852159c51ca6 1425062b4781b1b7.
 -- The line's kind, then the span.
 use Rattle.state.proofs.head.Statement.{statement}
 use Rattle.state.proofs.head.Tie as tie

@@ -1,4 +1,4 @@
--- Made from Proof.ans by tools/answers, 7c81db019010227e.
+-- Made from Proof.ans by tools/answers, 7c81db019010227e 214004754b2fa554.
 -- The digits, then LF.
 use borrow.Author.Needs.{needs}
 use Rattle.state.proofs.line.Statement.{statement}

@@ -1,4 +1,4 @@
--- Made from Proof.ans by tools/answers, e434518ceb2e9ed8.
+-- Made from Proof.ans by tools/answers, e434518ceb2e9ed8 954393848d349e84.
 use borrow.Author.Needs.{needs}
 use Rattle.state.proofs.set_place.Statement.{statement}
 use Rattle.state.proofs.set_place.Tie as tie

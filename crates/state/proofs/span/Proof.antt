@@ -1,4 +1,4 @@
--- Made from Proof.ans by tools/answers, 9f2cfc1479f445eb.
+-- Made from Proof.ans by tools/answers, 9f2cfc1479f445eb a02958cddf9bd5bd.
 -- To copy the digits from i on is to copy all sixteen; where the file is too short for them, nothing is promised.
 use Rattle.state.proofs.span.Statement.{statement}
 use Rattle.state.proofs.span.Tie as tie

@@ -1,4 +1,4 @@
--- Made from Proof.ans by tools/answers, fb8909d7e2991bc1.
+-- Made from Proof.ans by tools/answers, fb8909d7e2991bc1 7e0db0e668d05811.
 -- A line that fits moves the place; one that does not is noted.
 use borrow.Author.Needs.{needs}
 use Rattle.state.proofs.tell.Statement.{statement}

@@ -1,4 +1,4 @@
--- Made from Proof.ans by tools/answers, d58f3bd61681f5cd.
+-- Made from Proof.ans by tools/answers, d58f3bd61681f5cd 417e1e032e12993b.
 -- The counters, then the node types.
 use borrow.Author.Needs.{needs}
 use Rattle.steps.proofs.begin.Statement.{statement}

@@ -1,4 +1,4 @@
--- Made from Proof.ans by tools/answers, 582d94936c4704ee.
+-- Made from Proof.ans by tools/answers, 582d94936c4704ee 521ff09a333b88b7.
 -- Only a wildcard is rejected.
 use borrow.Author.Needs.{needs}
 use Rattle.steps.proofs.check_head.Statement.{statement}

@@ -1,4 +1,4 @@
--- Made from Proof.ans by tools/answers, 9d2de5a1a5b445fc.
+-- Made from Proof.ans by tools/answers, 9d2de5a1a5b445fc d2ad347d645dc37d.
 -- The definition's question for an order, and where there is none one diagnostic.
 use borrow.Author.Needs.{needs}
 use Rattle.steps.proofs.compare_order.Statement.{statement}

@@ -1,4 +1,4 @@
--- Made from Proof.ans by tools/answers, f66dd1d7eb0b1b2d.
+-- Made from Proof.ans by tools/answers, f66dd1d7eb0b1b2d da4b93e06d43b24e.
 -- The definition's unification, and then the order; where it fails one diagnostic.
 use borrow.Author.Needs.{needs}
 use Rattle.steps.proofs.compare_types.Statement.{statement}

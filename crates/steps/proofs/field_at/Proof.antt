@@ -1,4 +1,4 @@
--- Made from Proof.ans by tools/answers, fb2f8371e919fdea.
+-- Made from Proof.ans by tools/answers, fb2f8371e919fdea aa5341c3f83fd585.
 -- The field found is the definition's; where there is none, that is reported.
 use borrow.Author.Needs.{needs}
 use Rattle.steps.proofs.field_at.Statement.{statement}

@@ -1,4 +1,4 @@
--- Made from Proof.ans by tools/answers, 72e379d5056ea08f.
+-- Made from Proof.ans by tools/answers, 72e379d5056ea08f f85513cba63aa895.
 -- The tests are those of `farW`.
 use borrow.Author.Needs.{needs}
 use Rattle.steps.proofs.fuzzy_distance.Statement.{statement}

@@ -1,4 +1,4 @@
--- Made from Proof.ans by tools/answers, 0225337091972327.
+-- Made from Proof.ans by tools/answers, 0225337091972327 5d7aaf3f481cfad9.
 -- The test is the one of `longW`.
 use borrow.Author.Needs.{needs}
 use Rattle.steps.proofs.fuzzy_term.Statement.{statement}

@@ -1,4 +1,4 @@
--- Made from Proof.ans by tools/answers, bc28f68b992cde3b.
+-- Made from Proof.ans by tools/answers, bc28f68b992cde3b 6883e96f2c9ac197.
 -- Only a variable is introduced.
 use borrow.Author.Needs.{needs}
 use Rattle.steps.proofs.introduce_side.Statement.{statement}

@@ -1,4 +1,4 @@
--- Made from Proof.ans by tools/answers, b51244a01ad6f357.
+-- Made from Proof.ans by tools/answers, b51244a01ad6f357 f3d69f7314bafce5.
 -- The key's field is looked up as in a record; a fact of an absent predicate is an error without a diagnostic.
 use borrow.Author.Needs.{needs}
 use Rattle.steps.proofs.key_of.Statement.{statement}

@@ -1,4 +1,4 @@
--- Made from Proof.ans by tools/answers, 5a449dd4a7ceba68.
+-- Made from Proof.ans by tools/answers, 5a449dd4a7ceba68 22b0a2f7bd5a8c6d.
 -- The code of each failure is the one of `reportCode`.
 use borrow.Author.Needs.{needs}
 use Rattle.steps.proofs.report.Statement.{statement}

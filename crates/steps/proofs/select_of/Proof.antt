@@ -1,4 +1,4 @@
--- Made from Proof.ans by tools/answers, 9eb361fc5925dba6.
+-- Made from Proof.ans by tools/answers, 9eb361fc5925dba6 d0380a94d70d64b0.
 -- An alternative found is the definition's; every other end is one diagnostic, or an error that was reported before.
 use borrow.Author.Needs.{needs}
 use Rattle.steps.proofs.select_of.Statement.{statement}

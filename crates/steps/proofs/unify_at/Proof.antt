@@ -1,4 +1,4 @@
--- Made from Proof.ans by tools/answers, ab23edd861b3a2d6.
+-- Made from Proof.ans by tools/answers, ab23edd861b3a2d6 0ec07b6eed512f01.
 -- The definition's unification, and where it fails one diagnostic.
 use borrow.Author.Needs.{needs}
 use Rattle.steps.proofs.unify_at.Statement.{statement}

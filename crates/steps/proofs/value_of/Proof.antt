@@ -1,4 +1,4 @@
--- Made from Proof.ans by tools/answers, 2fc3cbcb560a926a.
+-- Made from Proof.ans by tools/answers, 2fc3cbcb560a926a 7454680190b8aeda.
 -- The value that the predicate has, if no key field is called so; every other end is one diagnostic, or an error that was reported before.
 use borrow.Author.Needs.{needs}
 use Rattle.steps.proofs.value_of.Statement.{statement}

@@ -1,4 +1,4 @@
--- Made from Proof.ans by tools/answers, 56dde69e9c0cde0c.
+-- Made from Proof.ans by tools/answers, 56dde69e9c0cde0c 15854493e5ddba0a.
 -- A call costs a visit, so the visits left fall. The answer for the row is the answer for the rest from j on.
 use Prim.Native.Nat.{ℕ, _<_, _-_}
 use borrow.Fn.Kinds.{In}

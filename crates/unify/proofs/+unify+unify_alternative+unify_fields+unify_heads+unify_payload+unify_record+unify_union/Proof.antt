@@ -1,4 +1,4 @@
--- Made from Proof.ans by tools/answers, ebf4dbb08b8f11d6.
+-- Made from Proof.ans by tools/answers, ebf4dbb08b8f11d6 177cc214ab86a0f8.
 -- An entry costs a visit, and the visits left never grow: the measure is the visits left, and among calls with as many left
 -- the place of a function on the way down from `unify_heads` to the next `unify`. Each arm is a law of its own.
 use Prim.Native.Nat.{ℕ, _<_, _+_, _-_, _*_, _≤_}

@@ -1,4 +1,4 @@
--- Made from Proof.ans by tools/answers, 42c8b0149bb58ae6.
+-- Made from Proof.ans by tools/answers, 42c8b0149bb58ae6 d91d065415c87eef.
 use borrow.Author.Needs.{needs}
 use Rattle.unify.proofs.bind_var.Statement.{statement}
 use Rattle.unify.proofs.bind_var.Tie as tie

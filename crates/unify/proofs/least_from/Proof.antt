@@ -1,4 +1,4 @@
--- Made from Proof.ans by tools/answers, c2e494436a1a8bf7.
+-- Made from Proof.ans by tools/answers, c2e494436a1a8bf7 2955fa9c8fa851b5.
 -- The least of the row is the least of the rest from j on; the measure is what is left of the parts.
 use Rattle.unify.proofs.least_from.Statement.{statement}
 use Rattle.unify.proofs.least_from.Tie as tie

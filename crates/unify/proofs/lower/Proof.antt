@@ -1,4 +1,4 @@
--- Made from Proof.ans by tools/answers, 6393a9d9ffcf410d.
+-- Made from Proof.ans by tools/answers, 6393a9d9ffcf410d c33a39803614c919.
 -- The tests are those of `lowerW`. The key is a word, so it is small.
 use borrow.Author.Needs.{needs}
 use Rattle.unify.proofs.lower.Statement.{statement}

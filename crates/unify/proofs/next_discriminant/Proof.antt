@@ -1,4 +1,4 @@
--- Made from Proof.ans by tools/answers, fd5eda37ee899d99.
+-- Made from Proof.ans by tools/answers, fd5eda37ee899d99 3be7cc92ba31ccf0.
 use borrow.Author.Needs.{needs}
 use Rattle.unify.proofs.next_discriminant.Statement.{statement}
 use Rattle.unify.proofs.next_discriminant.Tie as tie

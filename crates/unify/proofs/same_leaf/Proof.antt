@@ -1,4 +1,4 @@
--- Made from Proof.ans by tools/answers, da22a76835211612.
+-- Made from Proof.ans by tools/answers, da22a76835211612 7c979e320d81fd45.
 -- The tests of tag and payload, in the order of `sameLeafW`.
 use borrow.Author.Needs.{needs}
 use Rattle.unify.proofs.same_leaf.Statement.{statement}

@@ -1,4 +1,4 @@
--- Made from Proof.ans by tools/answers, 83a89d343d0344d1.
+-- Made from Proof.ans by tools/answers, 83a89d343d0344d1 287372c91bc70066.
 -- One digit after the other.
 use borrow.Author.Needs.{needs}
 use Rattle.writer.proofs.byte.Statement.{statement}

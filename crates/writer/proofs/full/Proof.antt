@@ -1,4 +1,4 @@
--- Made from Proof.ans by tools/answers, cf2b8eb14bc7cef2.
+-- Made from Proof.ans by tools/answers, cf2b8eb14bc7cef2 b7f9cc4d1ef8e887.
 -- The high half, then the low one.
 use borrow.Author.Needs.{needs}
 use Rattle.writer.proofs.full.Statement.{statement}

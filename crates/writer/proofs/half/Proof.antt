@@ -1,4 +1,4 @@
--- Made from Proof.ans by tools/answers, beae687ab30d219c.
+-- Made from Proof.ans by tools/answers, beae687ab30d219c e8549e8fcbc52092.
 -- One byte after the other.
 use borrow.Author.Needs.{needs}
 use Rattle.writer.proofs.half.Statement.{statement}

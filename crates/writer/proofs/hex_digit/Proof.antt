@@ -1,4 +1,4 @@
--- Made from Proof.ans by tools/answers, 56ccc7527b9ae657.
+-- Made from Proof.ans by tools/answers, 56ccc7527b9ae657 7068efcba2db4134.
 -- The test is the one of `hexDigit`.
 use borrow.Author.Needs.{needs}
 use Rattle.writer.proofs.hex_digit.Statement.{statement}

@@ -1,4 +1,4 @@
--- Made from Proof.ans by tools/answers, 48ef5ee3ca773ab5.
+-- Made from Proof.ans by tools/answers, 48ef5ee3ca773ab5 24d64a0126300b62.
 -- One byte is stored, or there is no room for it.
 use borrow.Author.Needs.{needs}
 use Rattle.writer.proofs.one.Statement.{statement}

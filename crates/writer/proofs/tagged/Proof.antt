@@ -1,4 +1,4 @@
--- Made from Proof.ans by tools/answers, 67ca85444feaa6ae.
+-- Made from Proof.ans by tools/answers, 67ca85444feaa6ae 2a245a8d91c73669.
 -- The byte, then the number.
 use borrow.Author.Needs.{needs}
 use Rattle.writer.proofs.tagged.Statement.{statement}

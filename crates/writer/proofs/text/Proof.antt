@@ -1,4 +1,4 @@
--- Made from Proof.ans by tools/answers, 6694536a5c656c07.
+-- Made from Proof.ans by tools/answers, 6694536a5c656c07 5e35583025c7ec0e.
 -- To write the text from i on is to write all of it; the measure is what is left of it.
 use Rattle.writer.proofs.text.Statement.{statement}
 use Rattle.writer.proofs.text.Tie as tie

@@ -1,4 +1,4 @@
--- Made from Proof.ans by tools/answers, fe76c605d3c93235.
+-- Made from Proof.ans by tools/answers, fe76c605d3c93235 55be240229d71c02.
 -- The tests are those of `newRecordW`.
 use borrow.Author.Needs.{needs}
 use Rattle.cells.proofs.inferred.new_record.Statement.{statement}

@@ -1,4 +1,4 @@
--- Made from Proof.ans by tools/answers, 0f1a6327170698fb.
+-- Made from Proof.ans by tools/answers, 0f1a6327170698fb a242199308c9e7f2.
 -- The tests are those of `putFieldW`; a tag is below 16, so the name and the tag fit in a word.
 use borrow.Author.Needs.{needs}
 use Rattle.cells.proofs.inferred.put_field.Statement.{statement}

@@ -1,4 +1,4 @@
--- Made from Proof.ans by tools/answers, 7f36d5a4284170b9.
+-- Made from Proof.ans by tools/answers, 7f36d5a4284170b9 4a75c498e085d41f.
 -- `frames::decode` meets its contract. The invariant: the bytes read so far, in front of what the line holds from here on, are what it
 -- holds. The measure is what is left of the file.
 use Rattle.frames.proofs.lines.decode.Statement.{statement}
@@ -61,7 +61,7 @@ loop-less : tie.Need-loop-less Inv-loop μ-loop
 loop-less c = search needs
 
 loop-again : tie.Need-loop-again Inv-loop μ-loop
-loop-again c = 
+loop-again c =
     let e = c .before .pair .ensures in
     one-on (c .before .before .before .before .before .before .loop .inv) _ (c .before .before .if3 .left) (found _ _ (rw e at (c .if4 .left)) ∙ ap some (sym e))
 

@@ -1,4 +1,4 @@
--- Made from Proof.ans by tools/answers, 90bb4c69c4791c8c.
+-- Made from Proof.ans by tools/answers, 90bb4c69c4791c8c 9dc653a43e6bb4fc.
 -- `reading::take_query` meets its contract: the head or a statement's node is not there, or the query is held.
 use borrow.Author.Needs.{needs}
 use Rattle.reading.proofs.nodes.take_query.Statement.{statement}

@@ -1,4 +1,4 @@
--- Made from Proof.ans by tools/answers, 1f86ff38e0df5ec1.
+-- Made from Proof.ans by tools/answers, 1f86ff38e0df5ec1 872f6c58068b82a5.
 -- `reading::key_before` meets its contract. The invariant: the key is among those before i exactly where it is among those from j up to i.
 -- The measure is what is left up to i.
 use Rattle.reading.proofs.types.key_before.Statement.{statement}

@@ -1,4 +1,4 @@
--- Made from Proof.ans by tools/answers, 6384aa6f7ee9c6e3.
+-- Made from Proof.ans by tools/answers, 6384aa6f7ee9c6e3 d891ec34842e2656.
 -- `reading::names_distinct` meets its contract. The invariant: no name passed repeats, and the marks are those of the names passed. The measure is
 -- what is left of the line.
 use Rattle.reading.proofs.types.names_distinct.Statement.{statement}

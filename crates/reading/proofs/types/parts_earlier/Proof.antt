@@ -1,4 +1,4 @@
--- Made from Proof.ans by tools/answers, 559bdd15e2324c27.
+-- Made from Proof.ans by tools/answers, 559bdd15e2324c27 ae6c939ed75f8816.
 -- `reading::parts_earlier` meets its contract. The invariant: the test of all parts is the test of those left. The measure is what is
 -- left of the line.
 use Rattle.reading.proofs.types.parts_earlier.Statement.{statement}

@@ -1,4 +1,4 @@
--- Made from Proof.ans by tools/answers, 98b9c061d9d24848.
+-- Made from Proof.ans by tools/answers, 98b9c061d9d24848 b812f2ade8119e00.
 -- `reading::read_part` meets its contract: the type stands behind the name, or behind name and discriminant.
 use borrow.Author.Needs.{needs}
 use Rattle.reading.proofs.types.read_part.Statement.{statement}

@@ -1,4 +1,4 @@
--- Made from Proof.ans by tools/answers, 3c94f351a53fa76c.
+-- Made from Proof.ans by tools/answers, 3c94f351a53fa76c a7b6c081836959c5.
 -- `reading::take_predicate` meets its contract: each end is one of a predicate line's.
 use borrow.Author.Needs.{needs}
 use Rattle.reading.proofs.types.take_predicate.Statement.{statement}

@@ -1,4 +1,4 @@
--- Made from Proof.ans by tools/answers, 05bc907bc439be59.
+-- Made from Proof.ans by tools/answers, 05bc907bc439be59 ffaa1834041578cf.
 -- `reading::take_union` meets its contract: each end is one of such a line's.
 use borrow.Author.Needs.{needs}
 use Rattle.reading.proofs.types.take_union.Statement.{statement}
