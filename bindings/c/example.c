@@ -1,4 +1,4 @@
-/* Types the file that standard input holds: prints the answer, or `refused` and the refusal's number. */
+/* Types the queries of the file that standard input holds: prints the answer, or `refused` and the refusal's number. */
 #include <stdio.h>
 #include <string.h>
 

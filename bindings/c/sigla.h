@@ -10,17 +10,18 @@
 
 #define SIGLA_WORDS 16384       /* the words that must be lent */
 #define SIGLA_BYTES 65536       /* the answer bytes that the program lends */
+#define SIGLA_QUERIES 64        /* the most queries of a file */
+#define SIGLA_STACK 655360      /* bytes of stack that suffice for every file tried (562,160 were used, on samples/deepest.hex) */
 
 #ifdef __cplusplus
 extern "C" {
 #endif
 
-/* 0 where the file is accepted: the answer's lines stand in `answer`, and zeros after the last LF. Else the refusal's number, 1 to 12
- * (README.md has their meaning). */
+/* 0 where the file is accepted: the answer's lines stand in `answer`, and zeros after the last LF, so the answer ends at the first zero
+ * byte or with the slice. A file may hold up to 64 queries over one schema; with more than one, a line 0b and the query's number stand
+ * before each query's lines. Else the refusal's number, 1 to 13, for the whole file (docs/FORMAT.md has the files, the answers and the
+ * refusals). */
 uint8_t sigla_check(const uint8_t *file, size_t file_len, uint32_t *work, size_t work_len, uint8_t *answer, size_t answer_len);
-
-/* 0 where the file passes refusals 1 to 10; else the refusal's number, and the work slice is zero throughout. */
-uint8_t sigla_read(const uint8_t *file, size_t file_len, uint32_t *work, size_t work_len);
 
 #ifdef __cplusplus
 }

@@ -55,8 +55,20 @@ pub fn write(name: &str, text: &str) -> PathBuf {
     path
 }
 
+/// Where the sources come from; the sums are those of `sha256sum`.
+const ORIGIN: &str = "the public repository boxops-uk/fjord, commit 55e5a5be04 (MIT)";
+const SUMS: &str = include_str!("SOURCES");
+
 fn stop(why: &str) -> ! {
     println!("cargo::error=the Rust sources are not there: {why}");
-    println!("cargo::error=set ORACLE_SRC to the folder docs/src that holds crates/fjord-engine");
+    println!(
+        "cargo::error=they are these files of {ORIGIN}, with their sums (sha256sum -c tools/oracle/SOURCES):"
+    );
+    for line in SUMS.lines() {
+        println!("cargo::error=  {line}");
+    }
+    println!(
+        "cargo::error=set ORACLE_SRC to the folder that holds them by these paths, and build again"
+    );
     std::process::exit(1)
 }

@@ -10,6 +10,9 @@
 /// The words that must be lent.
 pub const WORDS: usize = 16384;
 
+/// Bytes of stack that suffice for every file tried; 562,160 were used, on samples/deepest.hex.
+pub const STACK: usize = 655_360;
+
 /// Why a file is turned down; the numbers are those of the refusals.
 #[derive(Clone, Copy, Debug, PartialEq, Eq)]
 #[repr(u8)]
@@ -26,9 +29,13 @@ pub enum Refusal {
     RepeatedKey = 10,
     TooManyVisits = 11,
     AnswerTooLong = 12,
+    TooManyQueries = 13,
 }
 
-const REFUSALS: [Refusal; 12] = [
+/// The most queries of a file.
+pub const QUERIES: usize = 64;
+
+const REFUSALS: [Refusal; 13] = [
     Refusal::WorkTooShort,
     Refusal::FileTooLong,
     Refusal::MalformedLine,
@@ -41,14 +48,16 @@ const REFUSALS: [Refusal; 12] = [
     Refusal::RepeatedKey,
     Refusal::TooManyVisits,
     Refusal::AnswerTooLong,
+    Refusal::TooManyQueries,
 ];
 
 unsafe extern "C" {
     fn sigla_check(file: *const u8, file_len: usize, work: *mut u32, work_len: usize, answer: *mut u8, answer_len: usize) -> u8;
 }
 
-/// Types the query of a file. The answer's lines stand at the start of `answer`, and their length comes back; zeros follow them. After a
-/// refusal both slices are zero throughout, and after an acceptance the work slice is.
+/// Types the queries of a file (docs/FORMAT.md). The answer's lines stand at the start of `answer`, and their length comes back; zeros
+/// follow them. Where there is more than one query, a line 0b with its number stands before each one's lines: [`by_query`] takes them
+/// apart. A refusal is for the whole file; after it both slices are zero throughout, and after an acceptance the work slice is.
 pub fn check(file: &[u8], work: &mut [u32], answer: &mut [u8]) -> Result<usize, Refusal> {
     // SAFETY: each pointer goes with the length of the slice that it comes from; two of the slices are borrowed for writing, so none
     // overlaps another; the library keeps no pointer.
@@ -57,4 +66,27 @@ pub fn check(file: &[u8], work: &mut [u32], answer: &mut [u8]) -> Result<usize, 
         0 => Ok(answer.iter().position(|&byte| byte == 0).unwrap_or(answer.len())),
         n => Err(REFUSALS[usize::from(n) - 1]),
     }
+}
+
+/// The lines of each query of an answer, in the file's order, without the lines 0b.
+///
+/// ```
+/// assert_eq!(sigla::by_query(b"07000000\n"), [b"07000000\n"]);
+/// assert_eq!(sigla::by_query(b"0b0000\n07000000\n0b0001\n07000001\n"), [b"07000000\n", b"07000001\n"]);
+/// ```
+pub fn by_query(answer: &[u8]) -> Vec<&[u8]> {
+    let mut parts = Vec::new();
+    let mut from = 0;
+    let mut at = 0;
+    for line in answer.split_inclusive(|&byte| byte == b'\n') {
+        if line.starts_with(b"0b") {
+            if at > 0 {
+                parts.push(&answer[from..at]);
+            }
+            from = at + line.len();
+        }
+        at += line.len();
+    }
+    parts.push(&answer[from..]);
+    parts
 }

@@ -1,8 +1,10 @@
-//! The call on the sample query, on refusals, and on slices of other lengths.
+//! The call on the sample query and the sample form, on refusals, and on slices of other lengths.
 
-use sigla::{Refusal, WORDS, check};
+use sigla::{QUERIES, Refusal, STACK, WORDS, by_query, check};
 
 const SAMPLE: &[u8] = include_bytes!("../../../samples/infinite.hex");
+const FORM: &[u8] = include_bytes!("../../../samples/form.hex");
+const DEEPEST: &[u8] = include_bytes!("../../../samples/deepest.hex");
 
 fn lent() -> (Vec<u32>, Vec<u8>) {
     (vec![0xffff_ffff; WORDS], vec![0xff; 65536])
@@ -38,4 +40,53 @@ fn slices_decide_the_first_and_the_last_refusal() {
     assert_eq!(check(SAMPLE, &mut vec![7; WORDS + 3], &mut answer[..n]), Ok(n));
     assert_eq!(check(SAMPLE, &mut vec![7; WORDS], &mut answer[..n - 1]), Err(Refusal::AnswerTooLong));
     assert_eq!(check(SAMPLE, &mut vec![7; WORDS], &mut []), Err(Refusal::AnswerTooLong));
+}
+
+/// The lines of a file: those of the schema, and each query's own.
+fn taken_apart(file: &[u8]) -> (Vec<u8>, Vec<Vec<u8>>) {
+    let (mut schema, mut queries, mut own) = (Vec::new(), Vec::new(), Vec::new());
+    for line in file.split_inclusive(|&byte| byte == b'\n') {
+        match &line[..2] {
+            b"05" => own.extend_from_slice(line),
+            b"06" => {
+                own.extend_from_slice(line);
+                queries.push(std::mem::take(&mut own));
+            }
+            _ => schema.extend_from_slice(line),
+        }
+    }
+    (schema, queries)
+}
+
+#[test]
+fn each_query_of_a_form_is_answered_as_if_alone() {
+    let (mut work, mut answer) = lent();
+    let n = check(FORM, &mut work, &mut answer).expect("the form is accepted");
+    let parts: Vec<Vec<u8>> = by_query(&answer[..n]).into_iter().map(<[u8]>::to_vec).collect();
+    let (schema, queries) = taken_apart(FORM);
+    assert_eq!((parts.len(), queries.len()), (2, 2));
+    for (part, query) in parts.iter().zip(&queries) {
+        let n = check(&[&schema[..], query].concat(), &mut work, &mut answer).expect("a query alone is accepted");
+        assert_eq!(&answer[..n], part);
+    }
+    assert!(answer.iter().rev().take_while(|&&byte| byte == 0).count() > 0);
+}
+
+#[test]
+fn a_file_has_64_queries_at_most() {
+    let form = |queries: usize| [b"01020020\n".to_vec(), b"05000000000000000000\n060000\n".repeat(queries)].concat();
+    let (mut work, mut answer) = lent();
+    let n = check(&form(QUERIES), &mut work, &mut answer).expect("as many as allowed");
+    assert_eq!(by_query(&answer[..n]), vec![b"07000000\n"; QUERIES]);
+    let (mut work, mut answer) = lent();
+    assert_eq!(check(&form(QUERIES + 1), &mut work, &mut answer), Err(Refusal::TooManyQueries));
+    assert!(work.iter().all(|&word| word == 0) && answer.iter().all(|&byte| byte == 0));
+}
+
+#[test]
+fn the_stated_stack_suffices() {
+    let (mut work, mut answer) = lent();
+    let thread = std::thread::Builder::new().stack_size(STACK);
+    let thread = thread.spawn(move || check(DEEPEST, &mut work, &mut answer)).expect("a thread can be started");
+    assert!(thread.join().expect("the thread ends").is_ok());
 }

@@ -1,5 +1,4 @@
-pub mod Writing
-pub mod Digits
 pub mod Resolving
 pub mod Noding
-pub mod Reporting
+pub mod Exchanging
+pub mod Answering

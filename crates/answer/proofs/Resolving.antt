@@ -23,12 +23,12 @@ use Rattle.cells.specs.Stands.{Rows, tree, rowFrom, rowW, IsCell, Ok}
 use Rattle.cells.specs.Contracts.{Reprs}
 use Rattle.cells.proofs.Parts.{rest, rest-whole, rest-cell, rest-none, part-ok}
 use Rattle.meaning.specs.Answer.{bytes₂, leafBytes, kindByte, cellHead, tyBytes, rowBytes}
-use Rattle.answer.specs.declared.Wrote.{Wrote}
-use Rattle.answer.specs.declared.Wrote.the-variants.{To, Full}
-use Rattle.answer.specs.Writes.{Writes, Moves, hexOf}
+use Rattle.writer.specs.declared.Wrote.{Wrote}
+use Rattle.writer.specs.declared.Wrote.the-variants.{To, Full}
+use Rattle.writer.specs.Writes.{Writes, Moves, hexOf}
 use Rattle.answer.specs.Types.{kindOf, headOf, partHeadOf, Resolves, resolved, WritesTy, WritesPart, WritesRow}
-use Rattle.answer.proofs.Writing.{writes-as, writes-to, writes-moves, full-moves, moves-then, moves-none, moves-next, Goes, goes-start, goes-next, goes-full, goes-done}
-use Rattle.answer.proofs.Digits.{hex-append, hex-then, hex-full}
+use Rattle.writer.proofs.Writing.{writes-as, writes-to, writes-moves, full-moves, moves-then, moves-none, moves-next, Goes, goes-start, goes-next, goes-full, goes-done}
+use Rattle.writer.proofs.Digits.{hex-append, hex-then, hex-full}
 
 -- ---- The parts that are counted are those that are written
 

@@ -1,4 +1,2 @@
-pub mod Writes
 pub mod Types
 pub mod Lines
-pub mod Reports

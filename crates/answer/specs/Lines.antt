@@ -1,17 +1,21 @@
--- What is written of a node: its number and what it was found to be, as a line of meaning/specs/Answer.antt.
+-- What is written of a node: its number and what it was found to be, as a line of meaning/specs/Answer.antt; and the whole answer,
+-- which is the one of the run that the work slice stands for.
 use mathlib.Core.List.{List, _∷_, _++_, map}
 use mathlib.Core.Option.{Option, none}
 use mathlib.Core.Path.{_≡_}
-use Prim.Native.Nat.{ℕ, _<_}
+use Prim.Native.Nat.{ℕ, _≤_, _<_}
 use lib.ListN.{length, getD}
 use Rattle.unification.specs.Ty as Tree
 use Rattle.unification.specs.Bindings.{State}
 use Rattle.work.specs.Layout.{NODE-COUNT}
 use Rattle.cells.specs.Stands.{Rows, Holds}
-use Rattle.meaning.specs.Check.{zonked}
-use Rattle.meaning.specs.Answer.{bytes₂, slotBytes, hexLine, nodeLines}
-use Rattle.answer.specs.declared.Wrote.{Wrote}
-use Rattle.answer.specs.Writes.{Writes, hexOf}
+use Rattle.meaning.specs.File.{Described}
+use Rattle.meaning.specs.Check.{Checker, Typed, goes, typed, checked, zonked}
+use Rattle.meaning.specs.Answer.{bytes₂, slotBytes, hexLine, nodeLines, answerLines}
+use Rattle.writer.specs.declared.Wrote.{Wrote}
+use Rattle.writer.specs.Writes.{Writes, Moves, hexOf}
+use Rattle.state.specs.Runs.{Runs}
+use Rattle.state.specs.Lines.{Told}
 
 -- What the node of this number was found to be, resolved.
 abbrev pub found : State → ℕ → Option Tree.Ty
@@ -22,12 +26,24 @@ nodeBytes st n = 7 ∷ bytes₂ n ++ slotBytes (found st n)
 
 pub record WritesSlot (w out : List ℕ) (at n : ℕ) (out′ : List ℕ) (r : Wrote) : Type 0 where
   pub is : (T : Rows) (st : State) → Holds w T st → n < length (st .tys) → Writes out at (hexOf (slotBytes (found st n))) out′ r
+  pub moves : Moves out at out′ r
 
 pub record WritesNode (w out : List ℕ) (at n : ℕ) (out′ : List ℕ) (r : Wrote) : Type 0 where
   pub is : (T : Rows) (st : State) → Holds w T st → n < length (st .tys) → Writes out at (hexOf (nodeBytes st n)) out′ r
+  pub moves : Moves out at out′ r
 
 pub record WritesNodeLine (w out : List ℕ) (at n : ℕ) (out′ : List ℕ) (r : Wrote) : Type 0 where
   pub is : (T : Rows) (st : State) → Holds w T st → n < length (st .tys) → Writes out at (hexLine (nodeBytes st n)) out′ r
+  pub moves : Moves out at out′ r
 
-pub record WritesNodeLines (w out out′ : List ℕ) (r : Wrote) : Type 0 where
-  pub is : (T : Rows) (st : State) → Holds w T st → getD w NODE-COUNT 0 ≡ length (st .tys) → Writes out 0 (nodeLines 0 (map (zonked st) (st .tys))) out′ r
+pub record WritesNodeLines (w out : List ℕ) (at : ℕ) (out′ : List ℕ) (r : Wrote) : Type 0 where
+  pub is : (T : Rows) (st : State) → Holds w T st → getD w NODE-COUNT 0 ≡ length (st .tys) → at ≤ length out
+      → Writes out at (nodeLines 0 (map (zonked st) (st .tys))) out′ r
+  pub moves : Moves out at out′ r
+
+-- After a run that ended, with the lines of its diagnostics in the slice: the slice is full exactly where the answer is longer than
+-- it (`whole-over` in writer/proofs/Writing.antt), and else begins with the answer, which ends where it is said (`whole-there`).
+pub record WritesAnswer (w out out′ : List ℕ) (r : Wrote) : Type 0 where
+  pub is : (f : List ℕ) (T : Rows) (d : Described) (c : Checker) → Runs f w T d c → Told w out c
+      → (ceiling : ℕ) (ty : Tree.Ty) (t : Typed) → checked ceiling (goes ty c) ≡ typed t → Writes out 0 (answerLines t) out′ r
+  pub long : length out′ ≡ length out

@@ -14,8 +14,8 @@ use Rattle.cells.specs.declared.Kind.the-variants.{Fields, Alternatives}
 use Rattle.cells.specs.declared.Part.{Part}
 use Rattle.cells.specs.Stands.{Rows, tree, IsCell, Ok, Cells, Binds}
 use Rattle.meaning.specs.Answer.{bytes₂, tyBytes, rowBytes, cellHead}
-use Rattle.answer.specs.declared.Wrote.{Wrote}
-use Rattle.answer.specs.Writes.{Writes, Moves, hexOf}
+use Rattle.writer.specs.declared.Wrote.{Wrote}
+use Rattle.writer.specs.Writes.{Writes, Moves, hexOf}
 
 abbrev pub kindOf : Kind → Tree.Kind
 kindOf Fields = Tree.Record

@@ -1,94 +1,22 @@
 // The answer's lines, written into a lent slice.
-ghost use mathlib.Core.List.{[], _∷_};
+ghost use mathlib.Core.List.{[], _∷_, _++_};
 ghost use mathlib.Core.Path.{_≡_};
-ghost use Prim.Native.Nat.{_<_};
-ghost use lib.ListN.{length};
-ghost use Rattle.meaning.specs.Answer.{hexDigit, bytes₂, bytes₄};
-ghost use Rattle.answer.specs.Writes.{Writes, hexOf};
+ghost use Prim.Native.Nat.{_≤_};
+ghost use lib.ListN.{length, take, drop};
+ghost use Rattle.bytes.specs.Bytes.{slice};
+ghost use Rattle.meaning.specs.Answer.{hexLine, bytes₂};
+ghost use Rattle.writer.specs.Writes.{Writes, hexOf};
 ghost use Rattle.answer.specs.Types.{headOf, partHeadOf, WritesTy};
-ghost use Rattle.answer.specs.Lines.{WritesSlot, WritesNode, WritesNodeLine, WritesNodeLines};
-ghost use Rattle.answer.specs.Reports.{WritesText, WritesCode, WritesSpan, WritesPlace, WritesDiagnostic, WritesDiagnosticLine, WritesDiagnosticLines, WritesAnswer};
+ghost use Rattle.answer.specs.Lines.{WritesSlot, WritesNode, WritesNodeLine, WritesNodeLines, WritesAnswer};
 use cells::Ty;
 use work::wide;
 use work::word;
-
-// Where the next byte goes, or the slice is too short.
-pub enum Wrote {
-    To(usize),
-    Full,
-}
-
-// All that is written is written here: a byte, if there is room.
-fn one(out: &mut [u8], at: usize, b: u8) -> Wrote
-    ensures { λ r. ⌜ Writes (now (out .entry)) at (b ∷ []) (now (out .exit)) r ⌝ }
-{
-    if at < out.len() {
-        out[at] = b;
-        return Wrote::To(at + 1);
-    }
-    Wrote::Full
-}
-
-fn hex_digit(n: u32) -> u8
-    requires { ⌜ n < 16 ⌝ }
-    ensures { λ r. ⌜ r ≡ hexDigit n ⌝ }
-{
-    if n < 10 {
-        (48 + n) as u8
-    } else {
-        (87 + n) as u8
-    }
-}
-
-fn byte(out: &mut [u8], at: usize, b: u32) -> Wrote
-    requires { ⌜ b < 256 ⌝ }
-    ensures { λ r. ⌜ Writes (now (out .entry)) at (hexOf (b ∷ [])) (now (out .exit)) r ⌝ }
-{
-    let r = one(out, at, hex_digit(b / 16));
-    match r {
-        Wrote::To(n) => one(out, n, hex_digit(b % 16)),
-        Wrote::Full => Wrote::Full,
-    }
-}
-
-// Numbers, the high byte first.
-fn half(out: &mut [u8], at: usize, x: u32) -> Wrote
-    ensures { λ r. ⌜ Writes (now (out .entry)) at (hexOf (bytes₂ x)) (now (out .exit)) r ⌝ }
-{
-    let r = byte(out, at, x / 256 % 256);
-    match r {
-        Wrote::To(n) => byte(out, n, x % 256),
-        Wrote::Full => Wrote::Full,
-    }
-}
-
-fn full(out: &mut [u8], at: usize, x: u32) -> Wrote
-    ensures { λ r. ⌜ Writes (now (out .entry)) at (hexOf (bytes₄ x)) (now (out .exit)) r ⌝ }
-{
-    let r = half(out, at, x / 65536);
-    match r {
-        Wrote::To(n) => half(out, n, x),
-        Wrote::Full => Wrote::Full,
-    }
-}
-
-fn close(out: &mut [u8], at: usize) -> Wrote
-    ensures { λ r. ⌜ Writes (now (out .entry)) at (10 ∷ []) (now (out .exit)) r ⌝ }
-{
-    one(out, at, 10)
-}
-
-// A byte and a number of two bytes.
-fn tagged(out: &mut [u8], at: usize, tag: u32, x: u32) -> Wrote
-    requires { ⌜ tag < 256 ⌝ }
-    ensures { λ r. ⌜ Writes (now (out .entry)) at (hexOf (tag ∷ bytes₂ x)) (now (out .exit)) r ⌝ }
-{
-    let r = byte(out, at, tag);
-    match r {
-        Wrote::To(n) => half(out, n, x),
-        Wrote::Full => Wrote::Full,
-    }
-}
+use writer::Wrote;
+use writer::byte;
+use writer::close;
+use writer::full;
+use writer::half;
+use writer::tagged;
 
 // What stands before the parts of a resolved type: its shape, with a number or with how many parts there are.
 fn head(w: &[u32], out: &mut [u8], at: usize, u: Ty) -> Wrote
@@ -193,12 +121,12 @@ fn node_line(w: &[u32], out: &mut [u8], at: usize, n: u32) -> Wrote
     }
 }
 
-fn node_lines(w: &[u32], out: &mut [u8]) -> Wrote
-    ensures { λ r. ⌜ WritesNodeLines (now (w .entry)) (now (out .entry)) (now (out .exit)) r ⌝ }
+fn node_lines(w: &[u32], out: &mut [u8], at: usize) -> Wrote
+    ensures { λ r. ⌜ WritesNodeLines (now (w .entry)) (now (out .entry)) at (now (out .exit)) r ⌝ }
 {
     let n = word(w, work::NODE_COUNT);
     let mut i: u32 = 0;
-    let mut to: usize = 0;
+    let mut to = at;
     while i < n {
         let r = node_line(w, out, to, i);
         match r {
@@ -214,136 +142,47 @@ fn node_lines(w: &[u32], out: &mut [u8]) -> Wrote
     Wrote::To(to)
 }
 
-// The bytes of a text.
-fn text(out: &mut [u8], at: usize, s: &[u8]) -> Wrote
-    ensures { λ r. ⌜ WritesText (now (out .entry)) at (now (s .entry)) (now (out .exit)) r ⌝ }
+// The line before a query's own lines where the file has several.
+pub fn number_line(out: &mut [u8], at: usize, k: u32) -> Wrote
+    ensures { λ r. ⌜ Writes (now (out .entry)) at (hexLine (0x0b ∷ bytes₂ k)) (now (out .exit)) r ⌝ }
 {
-    let mut i: usize = 0;
-    let mut to = at;
-    while i < s.len() {
-        let r = byte(out, to, s[i] as u32);
-        match r {
-            Wrote::To(m) => {
-                to = m;
-            }
-            Wrote::Full => {
-                return Wrote::Full;
-            }
-        }
-        i += 1;
-    }
-    Wrote::To(to)
-}
-
-fn code(out: &mut [u8], at: usize, c: u32) -> Wrote
-    ensures { λ r. ⌜ WritesCode (now (out .entry)) at c (now (out .exit)) r ⌝ }
-{
-    match c {
-        0 => text(out, at, b"nyi/bind-unification"),
-        1 => text(out, at, b"reject/bind-lhs"),
-        2 => text(out, at, b"reject/fuzzy-distance"),
-        3 => text(out, at, b"reject/fuzzy-term"),
-        4 => text(out, at, b"reject/infinite-type"),
-        5 => text(out, at, b"reject/no-value"),
-        6 => text(out, at, b"reject/not-a-union"),
-        7 => text(out, at, b"reject/type-mismatch"),
-        8 => text(out, at, b"reject/union-arity"),
-        9 => text(out, at, b"reject/unknown-alternative"),
-        10 => text(out, at, b"reject/unknown-field"),
-        11 => text(out, at, b"reject/unresolved-access"),
-        12 => text(out, at, b"reject/value-shadowed"),
-        _ => text(out, at, b"reject/wildcard-in-head"),
-    }
-}
-
-// The span stands in the node's line as the answer has it: sixteen digits, after the two of the line's kind.
-fn span(f: &[u8], out: &mut [u8], at: usize, line: usize) -> Wrote
-    ensures { λ r. ⌜ WritesSpan (now (f .entry)) (now (out .entry)) at line (now (out .exit)) r ⌝ }
-{
-    if f.len() < 18 {
-        return Wrote::Full;
-    }
-    if f.len() - 18 < line {
-        return Wrote::Full;
-    }
-    let from = line + 2;
-    let mut i: usize = 0;
-    let mut to = at;
-    while i < 16 {
-        let r = one(out, to, f[from + i]);
-        match r {
-            Wrote::To(m) => {
-                to = m;
-            }
-            Wrote::Full => {
-                return Wrote::Full;
-            }
-        }
-        i += 1;
-    }
-    Wrote::To(to)
-}
-
-fn place(f: &[u8], out: &mut [u8], at: usize, line: usize) -> Wrote
-    ensures { λ r. ⌜ WritesPlace (now (f .entry)) (now (out .entry)) at line (now (out .exit)) r ⌝ }
-{
-    let r = byte(out, at, 8);
-    match r {
-        Wrote::To(m) => span(f, out, m, line),
-        Wrote::Full => Wrote::Full,
-    }
-}
-
-// d is the node times 16, and the code's number.
-fn diagnostic(f: &[u8], w: &[u32], out: &mut [u8], at: usize, d: u32) -> Wrote
-    ensures { λ r. ⌜ WritesDiagnostic (now (f .entry)) (now (w .entry)) (now (out .entry)) at d (now (out .exit)) r ⌝ }
-{
-    let r = place(f, out, at, tree::line_start(w, d / 16));
-    match r {
-        Wrote::To(m) => code(out, m, d % 16),
-        Wrote::Full => Wrote::Full,
-    }
-}
-
-fn diagnostic_line(f: &[u8], w: &[u32], out: &mut [u8], at: usize, d: u32) -> Wrote
-    ensures { λ r. ⌜ WritesDiagnosticLine (now (f .entry)) (now (w .entry)) (now (out .entry)) at d (now (out .exit)) r ⌝ }
-{
-    let r = diagnostic(f, w, out, at, d);
+    let r = tagged(out, at, 11, k);
     match r {
         Wrote::To(m) => close(out, m),
         Wrote::Full => Wrote::Full,
     }
 }
 
-// The oldest first.
-fn diagnostic_lines(f: &[u8], w: &[u32], out: &mut [u8], at: usize) -> Wrote
-    ensures { λ r. ⌜ WritesDiagnosticLines (now (f .entry)) (now (w .entry)) (now (out .entry)) at (now (out .exit)) r ⌝ }
+// Two blocks at the start change places, the one to `mid` and the one from there to `end`: each is reversed, then both together.
+fn exchange(out: &mut [u8], mid: usize, end: usize)
+    requires { ⌜ (mid ≤ end) × (end ≤ length (now out)) ⌝ }
+    ensures { λ _. ⌜ now (out .exit) ≡ slice mid end (now (out .entry)) ++ (take mid (now (out .entry)) ++ drop end (now (out .entry))) ⌝ }
 {
-    let n = word(w, work::DIAGNOSTIC_COUNT);
-    let mut i: u32 = 0;
-    let mut to = at;
-    while i < n {
-        let r = diagnostic_line(f, w, out, to, state::diagnostic(w, i));
-        match r {
-            Wrote::To(m) => {
-                to = m;
-            }
-            Wrote::Full => {
-                return Wrote::Full;
-            }
-        }
-        i += 1;
-    }
-    Wrote::To(to)
+    bytes::reverse(out, 0, mid);
+    bytes::reverse(out, mid, end);
+    bytes::reverse(out, 0, end);
 }
 
-// The whole answer: where it ends.
-pub fn write(f: &[u8], w: &[u32], out: &mut [u8]) -> Wrote
-    ensures { λ r. ⌜ WritesAnswer (now (f .entry)) (now (w .entry)) (now (out .entry)) (now (out .exit)) r ⌝ }
+// The lines of the nodes go behind those of the diagnostics, which the run left in the slice; then the two blocks change places.
+// Where the answer ends.
+pub fn write(w: &[u32], out: &mut [u8]) -> Wrote
+    ensures { λ r. ⌜ WritesAnswer (now (w .entry)) (now (out .entry)) (now (out .exit)) r ⌝ }
 {
-    let r = node_lines(w, out);
+    if word(w, work::FULL) != 0 {
+        return Wrote::Full;
+    }
+    let at = state::place(w);
+    if out.len() < at {
+        return Wrote::Full;
+    }
+    let r = node_lines(w, out, at);
     match r {
-        Wrote::To(m) => diagnostic_lines(f, w, out, m),
+        Wrote::To(end) => {
+            if 0 < at {
+                exchange(out, at, end);
+            }
+            Wrote::To(end)
+        }
         Wrote::Full => Wrote::Full,
     }
 }

@@ -1,15 +1,28 @@
-// Demand 3's calls for programs in other languages. A type goes as its tag and its payload (crates/cells/specs/Words.antt). Every
-// function takes any words: what they stand for is its caller's to keep.
+// Demand 3's calls on numbers, for the comparison with the Rust (tools/oracle); a program that embeds the checker has no use for
+// them. A type goes as its tag and its payload (crates/cells/specs/Words.antt). Every function takes any words: what they stand for
+// is its caller's to keep.
 ghost use mathlib.Core.Path.{_≡_};
 ghost use lib.ListN.{getD};
 ghost use Rattle.work.specs.Layout.{RECORD-FIELD-COUNT, UNKNOWNS, UNDO-LEN};
 ghost use Rattle.cells.specs.Inferred.{reserveW, putFieldW, newRecordTy, newRecordW};
 ghost use Rattle.cells.specs.Words.{tyW, payloadW, freshW};
 ghost use Rattle.cells.specs.Contracts.{RollsBack};
+ghost use Rattle.calls.specs.Beginning.{begunW};
 ghost use Rattle.calls.specs.Numbers.{reasonOf, fieldOf, two, CallsUnify};
 use cells::Ty;
 use cells::TyError;
 use cells::Unified;
+
+// A list of calls starts here: no unknown, no inferred record, nothing to take back. The schema types that a reading left stay.
+#[no_mangle]
+pub extern "C" fn sigla_begin(w: &mut [u32])
+    ensures { λ _. ⌜ now (w .exit) ≡ begunW (now (w .entry)) ⌝ }
+{
+    work::put(w, work::RECORD_COUNT, 0);
+    work::put(w, work::RECORD_FIELD_COUNT, 0);
+    work::put(w, work::UNKNOWNS, 0);
+    work::put(w, work::UNDO_LEN, 0);
+}
 
 // A new unknown, and its number.
 #[no_mangle]
@@ -99,7 +112,7 @@ pub extern "C" fn sigla_unify(
 ) -> u32
     ensures { λ r. ⌜ CallsUnify (now (w .entry)) gtag got etag expected left (now (w .exit)) (now (out .entry)) (now (out .exit)) r ⌝ }
 {
-    let r = cells::unify(
+    let r = unify::unify(
         w,
         cells::ty_of(gtag, got),
         cells::ty_of(etag, expected),

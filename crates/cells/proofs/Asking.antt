@@ -1,4 +1,4 @@
--- Questions over the parts of a cell, as `occurs` and `orderable` ask them: the answer for the row is the answer for the rest of
+-- Questions over the parts of a type, as `occurs` and `orderable` ask them: the answer for the row is the answer for the rest of
 -- it with the visits left. A question is put to each part in turn until one ends it.
 use mathlib.Core.Bool.{true, false}
 use mathlib.Core.List.{List, [], _∷_}
@@ -25,44 +25,119 @@ use Rattle.cells.specs.declared.Asked.{Asked}
 use Rattle.cells.specs.declared.Asked.the-variants.{Yes, No, Spent}
 use Rattle.cells.specs.Words.{countW, partW, fieldW, isUnknownW, partsW, partOfW}
 use Rattle.cells.specs.Stands.{Rows, tree, IsCell, Ok, Cells, Binds}
-use Rattle.cells.specs.Contracts.{Reprs, answerOf, askedLeft, Occurs, OccursIn, IsOrderable, AllOrderable}
+use Rattle.cells.specs.Contracts.{Reprs, answerOf, askedLeft, Occurs, IsOrderable}
 use Rattle.cells.proofs.Ty as ty
 use Rattle.cells.proofs.Asked as asked
 use Rattle.cells.proofs.Parts.{rest, rest-whole, rest-cell, rest-none, part-ok}
 
 -- ---- A walk that has come to number j with v visits left: f is the question over a row, of bindings with P.
 pub record Walking (P : Subst → Type 0) (f : ℕ → Subst → ℕ → Row → Answer) (w : List ℕ) (k : Kind) (c left n j v : ℕ) : Type 0 where
-  pub within : j ≤ n
   pub all : n ≡ countW w c
-  pub fewer : v ≤ left
   pub to : (T : Rows) (s : Subst) → Cells w T → Binds w T s → P s → IsCell w k c → (d : ℕ) → left ≤ d → f d s left (T c) ≡ f d s v (rest T w k c n j)
-
-pub walk-start : (P : Subst → Type 0) (f : ℕ → Subst → ℕ → Row → Answer) (w : List ℕ) (k : Kind) (c left n : ℕ) → n ≡ countW w c → Walking P f w k c left n 0 left
-walk-start P f w k c left n e = record {
-  within = omega arith;
-  all = e;
-  fewer = omega arith;
-  to = λ T s C B A i d h. ap (f d s left) (rest-whole T w k c n e C i);
-}
 
 module _ {P : Subst → Type 0} {f : ℕ → Subst → ℕ → Row → Answer} {w : List ℕ} {k : Kind} {c left n j v : ℕ} (g : Walking P f w k c left n j v) where
   -- The part at j comes next.
-  walk-here : (p : Part) → j < n → p ≡ partW w k c j → (T : Rows) (s : Subst) → Cells w T → Binds w T s → P s → IsCell w k c → (d : ℕ) → left ≤ d
-      → f d s left (T c) ≡ f d s v (cell (p .key) (p .label) (tree T (p .ty)) (rest T w k c n (j + 1)))
-  walk-here p h e T s C B A i d l = g .to T s C B A i d l ∙ ap (f d s v) (rest-cell T w k c n j p h e)
+  walk-here : (t : Ty) → j < n → t ≡ partW w k c j .ty → (T : Rows) (s : Subst) → Cells w T → Binds w T s → P s → IsCell w k c → (d : ℕ) → left ≤ d
+      → f d s left (T c) ≡ f d s v (cell (partW w k c j .key) (partW w k c j .label) (tree T t) (rest T w k c n (j + 1)))
+  walk-here t h e T s C B A i d l = rw e (g .to T s C B A i d l ∙ ap (f d s v) (rest-cell T w k c n j (partW w k c j) h refl))
 
-  walk-next : (p : Part) → j < n → p ≡ partW w k c j → (v′ : ℕ) → v′ ≤ v
-      → ((T : Rows) (s : Subst) → Cells w T → Binds w T s → P s → Ok w (p .ty) → (d : ℕ) → left ≤ d → (r : Row) → f d s v (cell (p .key) (p .label) (tree T (p .ty)) r) ≡ f d s v′ r)
-      → Walking P f w k c left n (j + 1) v′
-  walk-next p h e v′ l q = record {
-    within = omega arith;
-    all = g .all;
-    fewer = omega (arith, g .fewer);
-    to = λ T s C B A i d b. walk-here p h e T s C B A i d b ∙ q T s C B A (part-ok C k c n j p (g .all) i h e) d b (rest T w k c n (j + 1));
-  }
+  walk-ok : (t : Ty) → j < n → t ≡ partW w k c j .ty → (T : Rows) → Cells w T → IsCell w k c → Ok w t
+  walk-ok t h e T C i = rw e (part-ok C k c n j (partW w k c j) (g .all) i h refl)
 
   walk-none : n ≤ j → (T : Rows) (s : Subst) → Cells w T → Binds w T s → P s → IsCell w k c → (d : ℕ) → left ≤ d → f d s left (T c) ≡ f d s v ε
   walk-none h T s C B A i d l = g .to T s C B A i d l ∙ ap (f d s v) (rest-none T w k c n j h)
+
+-- ---- The parts of a type in hand: it is a cell, or it has none.
+pub data HasParts : Ty → Kind → ℕ → Type 0 where
+  fields : {c : ℕ} → HasParts (Record c) Fields c
+  alternatives : {c : ℕ} → HasParts (Union c) Alternatives c
+
+abbrev pub NoParts : Ty → Type 0
+NoParts Int = Unit {0}
+NoParts Str = Unit {0}
+NoParts Bytes = Unit {0}
+NoParts (Fact p) = Unit {0}
+NoParts (Record c) = ⊥
+NoParts (Union c) = ⊥
+NoParts (Var x) = Unit {0}
+NoParts Error = Unit {0}
+
+by-parts : {A : Type 0} (u : Ty) → ((k : Kind) (c : ℕ) → HasParts u k c → A) → (NoParts u → A) → A
+by-parts Int f g = g tt
+by-parts Str f g = g tt
+by-parts Bytes f g = g tt
+by-parts (Fact p) f g = g tt
+by-parts (Record c) f g = f Fields c fields
+by-parts (Union c) f g = f Alternatives c alternatives
+by-parts (Var x) f g = g tt
+by-parts Error f g = g tt
+
+none-of : (w : List ℕ) (u : Ty) → NoParts u → partsW w u ≡ 0
+none-of w Int o = refl
+none-of w Str o = refl
+none-of w Bytes o = refl
+none-of w (Fact p) o = refl
+none-of w (Record c) o = absurd o
+none-of w (Union c) o = absurd o
+none-of w (Var x) o = refl
+none-of w Error o = refl
+
+count-of : (w : List ℕ) {u : Ty} {k : Kind} {c : ℕ} → HasParts u k c → partsW w u ≡ countW w c
+count-of w fields = refl
+count-of w alternatives = refl
+
+part-of : (w : List ℕ) (j : ℕ) {u : Ty} {k : Kind} {c : ℕ} → HasParts u k c → partOfW w u j ≡ partW w k c j
+part-of w j fields = refl
+part-of w j alternatives = refl
+
+cell-of : {w : List ℕ} {u : Ty} {k : Kind} {c : ℕ} → HasParts u k c → Ok w u → IsCell w k c
+cell-of fields o = o
+cell-of alternatives o = o
+
+abbrev kindOf : Kind → Tree.Kind
+kindOf Fields = Tree.Record
+kindOf Alternatives = Tree.Union
+
+tree-of : (T : Rows) {u : Ty} {k : Kind} {c : ℕ} → HasParts u k c → tree T u ≡ Tree.node (kindOf k) (T c)
+tree-of T fields = refl
+tree-of T alternatives = refl
+
+-- The walk over them. Where there are none no visit is made.
+pub record Asking (P : Subst → Type 0) (f : ℕ → Subst → ℕ → Row → Answer) (w : List ℕ) (u : Ty) (left n j v : ℕ) : Type 0 where
+  pub within : j ≤ n
+  pub all : n ≡ partsW w u
+  pub fewer : v ≤ left
+  pub unmoved : j ≡ 0 → v ≡ left
+  pub walks : (k : Kind) (c : ℕ) → HasParts u k c → Walking P f w k c left n j v
+
+pub asking-start : (P : Subst → Type 0) (f : ℕ → Subst → ℕ → Row → Answer) (w : List ℕ) (u : Ty) (left n : ℕ) → n ≡ partsW w u → Asking P f w u left n 0 left
+asking-start P f w u left n e = record {
+  within = omega arith;
+  all = e;
+  fewer = omega arith;
+  unmoved = λ _. refl;
+  walks = λ k c i. record { all = e ∙ count-of w i; to = λ T s C B A o d h. ap (f d s left) (rest-whole T w k c n (e ∙ count-of w i) C o) };
+}
+
+module _ {P : Subst → Type 0} {f : ℕ → Subst → ℕ → Row → Answer} {w : List ℕ} {u : Ty} {left n j v : ℕ} (g : Asking P f w u left n j v) where
+  -- the type of the part at j, as the cell has it
+  here : {t : Ty} {k : Kind} {c : ℕ} → HasParts u k c → t ≡ partOfW w u j .ty → t ≡ partW w k c j .ty
+  here i e = e ∙ ap (λ (p : Part). p .ty) (part-of w j i)
+
+  asking-next : (t : Ty) → j < n → t ≡ partOfW w u j .ty → (v′ : ℕ) → v′ ≤ v
+      → ((T : Rows) (s : Subst) → Cells w T → Binds w T s → P s → Ok w t → (d : ℕ) → left ≤ d → (k m : ℕ) (r : Row) → f d s v (cell k m (tree T t) r) ≡ f d s v′ r)
+      → Asking P f w u left n (j + 1) v′
+  asking-next t h e v′ l q = record {
+    within = omega arith;
+    all = g .all;
+    fewer = omega (arith, g .fewer);
+    unmoved = λ z. absurd (omega arith);
+    walks = λ k c i. record {
+      all = g .walks k c i .all;
+      to = λ T s C B A o d b. walk-here (g .walks k c i) t h (here i e) T s C B A o d b
+          ∙ q T s C B A (walk-ok (g .walks k c i) t h (here i e) T C o) d b _ _ (rest T w k c n (j + 1));
+    };
+  }
 
 -- ---- `occurs`
 abbrev pub Any : Subst → Type 0
@@ -93,36 +168,6 @@ module _ {w : List ℕ} {x : ℕ} {t u : Ty} {left : ℕ} (some : ¬ (left ≡ 0
           let m : left - 1 ≡ l = omega arith in
           rw (e, Bindings.occurs, ← rep .is T s B, ← m) (a T s C B (rep .ok T s B o) d (omega arith))
 
-  pub occurs-here : (y : ℕ) → u ≡ Var y → x ≡ y → Occurs w x t left (Yes (left - 1))
-  unfolding occursIn
-  occurs-here y v e = visit (Yes (left - 1)) (omega arith) (λ T s C B o d h. rw (v, eq-eqb x y e, occursIn))
-
-  pub occurs-other : (y : ℕ) → u ≡ Var y → ¬ (x ≡ y) → Occurs w x t left (No (left - 1))
-  unfolding occursIn
-  occurs-other y v e = visit (No (left - 1)) (omega arith) (λ T s C B o d h. rw (v, ne-eqb x y e, occursIn))
-
-  pub occurs-record : (c : ℕ) (r : Asked) → u ≡ Record c → OccursIn w x Fields c (left - 1) r → Occurs w x t left r
-  unfolding occursIn
-  occurs-record c r v i = visit r (i .fewer) (λ T s C B o d h. rw v (i .is T s C B (rw v at o) d h))
-
-  pub occurs-union : (c : ℕ) (r : Asked) → u ≡ Union c → OccursIn w x Alternatives c (left - 1) r → Occurs w x t left r
-  unfolding occursIn
-  occurs-union c r v i = visit r (i .fewer) (λ T s C B o d h. rw v (i .is T s C B (rw v at o) d h))
-
-  pub occurs-leaf : OneOf (0 ∷ 1 ∷ 2 ∷ 3 ∷ 7 ∷ []) (tagOf ty.the-type u) → Occurs w x t left (No (left - 1))
-  unfolding occursIn
-  occurs-leaf o = visit (No (left - 1)) (omega arith) (λ T s C B k d h. sym (none-inside T (λ v t. Bindings.occurs d s x v t) u o))
-    where
-      none-inside : (T : Rows) (ask : ℕ → Tree.Ty → Answer) (u : Ty) → OneOf (0 ∷ 1 ∷ 2 ∷ 3 ∷ 7 ∷ []) (tagOf ty.the-type u) → occursIn ask x (left - 1) (tree T u) ≡ no-left (left - 1)
-      none-inside T ask Int o = refl
-      none-inside T ask Str o = refl
-      none-inside T ask Bytes o = refl
-      none-inside T ask (Fact p) o = refl
-      none-inside T ask Error o = refl
-      none-inside T ask (Record c) o = absurd (miss (0 ∷ 1 ∷ 2 ∷ 3 ∷ 7 ∷ []) 4 tt o)
-      none-inside T ask (Union c) o = absurd (miss (0 ∷ 1 ∷ 2 ∷ 3 ∷ 7 ∷ []) 5 tt o)
-      none-inside T ask (Var y) o = absurd (miss (0 ∷ 1 ∷ 2 ∷ 3 ∷ 7 ∷ []) 6 tt o)
-
 -- `any` goes on after a no and ends with any other answer.
 any-next : (ask : ℕ → Tree.Ty → Answer) (v l k m : ℕ) (t : Tree.Ty) (r : Row) → ask v t ≡ no-left l → anyRow ask v (cell k m t r) ≡ anyRow ask l r
 unfolding anyRow
@@ -134,24 +179,6 @@ any-ends (Yes l) h ask v k m t r e = rw (e, anyRow)
 any-ends Spent h ask v k m t r e = rw (e, anyRow)
 any-ends (No l) h ask v k m t r e = absurd (miss (0 ∷ 2 ∷ []) 1 tt h)
 
-module _ {w : List ℕ} {x : ℕ} {k : Kind} {c left n j v : ℕ} (g : Walking Any (asks x) w k c left n j v) where
-  module _ (p : Part) (h : j < n) (e : p ≡ partW w k c j) {a : Asked} (o : Occurs w x (p .ty) v a) where
-    pub occurs-next : (l : ℕ) → a ≡ No l → Walking Any (asks x) w k c left n (j + 1) l
-    occurs-next l q = walk-next g p h e l (rw q at (o .fewer)) (λ T s C B A i d b r.
-        any-next (λ u t. Bindings.occurs d s x u t) v l _ _ _ r (sym (rw q at (o .is T s C B i d (omega (arith, g .fewer))))))
-
-    pub occurs-ends : OneOf (0 ∷ 2 ∷ []) (tagOf asked.the-type a) → OccursIn w x k c left a
-    occurs-ends q = record {
-      is = λ T s C B i d b. sym (walk-here g p h e T s C B tt i d b
-          ∙ any-ends a q (λ u t. Bindings.occurs d s x u t) v _ _ _ _ (sym (o .is T s C B (part-ok C k c n j p (g .all) i h e) d (omega (arith, g .fewer)))));
-      fewer = omega (arith, g .fewer, o .fewer);
-    }
-
-  pub occurs-none : n ≤ j → OccursIn w x k c left (No v)
-  unfolding anyRow
-  occurs-none h = record { is = λ T s C B i d b. sym (walk-none g h T s C B tt i d b); fewer = g .fewer }
-
--- ---- `occurs` over the parts of a type in hand
 pub no-unknown : (x : ℕ) (u : Ty) → OneOf (0 ∷ 1 ∷ 2 ∷ 3 ∷ 4 ∷ 5 ∷ 7 ∷ []) (tagOf ty.the-type u) → false ≡ isUnknownW u x
 no-unknown x Int o = refl
 no-unknown x Str o = refl
@@ -182,84 +209,57 @@ no-part w (Union c) j o e = absurd (miss (0 ∷ 1 ∷ 2 ∷ 3 ∷ 6 ∷ 7 ∷ []
 no-part w (Var y) j o e = e
 no-part w Error j o e = e
 
-abbrev pub Along : List ℕ → ℕ → Ty → ℕ → ℕ → ℕ → ℕ → Type 0
-Along w x Int left n j v = (n ≡ 0) × (v ≡ left)
-Along w x Str left n j v = (n ≡ 0) × (v ≡ left)
-Along w x Bytes left n j v = (n ≡ 0) × (v ≡ left)
-Along w x (Fact p) left n j v = (n ≡ 0) × (v ≡ left)
-Along w x (Record c) left n j v = Walking Any (asks x) w Fields c left n j v
-Along w x (Union c) left n j v = Walking Any (asks x) w Alternatives c left n j v
-Along w x (Var y) left n j v = (n ≡ 0) × (v ≡ left)
-Along w x Error left n j v = (n ≡ 0) × (v ≡ left)
+pub no-part-ty : (w : List ℕ) (u : Ty) (j : ℕ) {t : Ty} → OneOf (0 ∷ 1 ∷ 2 ∷ 3 ∷ 6 ∷ 7 ∷ []) (tagOf ty.the-type u) → t ≡ fieldW w 0 j .ty → t ≡ partOfW w u j .ty
+no-part-ty w u j o e = e ∙ ap (λ (p : Part). p .ty) (no-part w u j o refl)
 
-pub record Occurring (w : List ℕ) (x : ℕ) (u : Ty) (left n j v : ℕ) : Type 0 where
-  pub fewer : v ≤ left
-  pub along : Along w x u left n j v
+-- A type without parts holds an unknown where it is that unknown.
+is-inside : (x : ℕ) (T : Rows) (ask : ℕ → Tree.Ty → Answer) (v : ℕ) (u : Ty) → true ≡ isUnknownW u x → yes-left v ≡ occursIn ask x v (tree T u)
+unfolding occursIn
+is-inside x T ask v (Var y) e = rw (← e, occursIn)
+is-inside x T ask v Int e = absurd (let z : _≡_ {A = ℕ} 0 1 = cc in omega arith)
+is-inside x T ask v Str e = absurd (let z : _≡_ {A = ℕ} 0 1 = cc in omega arith)
+is-inside x T ask v Bytes e = absurd (let z : _≡_ {A = ℕ} 0 1 = cc in omega arith)
+is-inside x T ask v (Fact p) e = absurd (let z : _≡_ {A = ℕ} 0 1 = cc in omega arith)
+is-inside x T ask v (Record c) e = absurd (let z : _≡_ {A = ℕ} 0 1 = cc in omega arith)
+is-inside x T ask v (Union c) e = absurd (let z : _≡_ {A = ℕ} 0 1 = cc in omega arith)
+is-inside x T ask v Error e = absurd (let z : _≡_ {A = ℕ} 0 1 = cc in omega arith)
 
-pub occurring-start : (w : List ℕ) (x : ℕ) (u : Ty) (left n : ℕ) → n ≡ partsW w u → Occurring w x u left n 0 left
-occurring-start w x u left n e = record { fewer = omega arith; along = go u e }
-  where
-    go : (u : Ty) → n ≡ partsW w u → Along w x u left n 0 left
-    go Int e = (e, refl)
-    go Str e = (e, refl)
-    go Bytes e = (e, refl)
-    go (Fact p) e = (e, refl)
-    go (Record c) e = walk-start Any (asks x) w Fields c left n e
-    go (Union c) e = walk-start Any (asks x) w Alternatives c left n e
-    go (Var y) e = (e, refl)
-    go Error e = (e, refl)
+not-inside : (x : ℕ) (T : Rows) (ask : ℕ → Tree.Ty → Answer) (v : ℕ) (u : Ty) → false ≡ isUnknownW u x → NoParts u → no-left v ≡ occursIn ask x v (tree T u)
+unfolding occursIn
+not-inside x T ask v Int e o = refl
+not-inside x T ask v Str e o = refl
+not-inside x T ask v Bytes e o = refl
+not-inside x T ask v (Fact p) e o = refl
+not-inside x T ask v (Record c) e o = absurd o
+not-inside x T ask v (Union c) e o = absurd o
+not-inside x T ask v (Var y) e o = rw (← e, occursIn)
+not-inside x T ask v Error e o = refl
 
-none-there : {A : Type 0} {left n j v : ℕ} → (n ≡ 0) × (v ≡ left) → j < n → A
-none-there g h = absurd (omega (arith, g .0))
+module _ {w : List ℕ} {x : ℕ} {u : Ty} {left n j v : ℕ} (g : Asking Any (asks x) w u left n j v) where
+  pub occurring-next : (t : Ty) → j < n → t ≡ partOfW w u j .ty → {a : Asked} → Occurs w x t v a → (l : ℕ) → a ≡ No l → Asking Any (asks x) w u left n (j + 1) l
+  occurring-next t h e o l q = asking-next g t h e l (rw q at (o .fewer)) (λ T s C B A i d b k m r.
+      any-next (λ u t. Bindings.occurs d s x u t) v l k m _ r (sym (rw q at (o .is T s C B i d (omega (arith, g .fewer))))))
 
-module _ {w : List ℕ} {x : ℕ} {left n j v : ℕ} where
-  pub occurring-next : (u : Ty) → Occurring w x u left n j v → (p : Part) → j < n → p ≡ partOfW w u j → {a : Asked} → Occurs w x (p .ty) v a → (l : ℕ) → a ≡ No l → Occurring w x u left n (j + 1) l
-  occurring-next u g p h e {a} o l q = record { fewer = omega (arith, g .fewer, rw q at (o .fewer)); along = go u (g .along) e }
-    where
-      go : (u : Ty) → Along w x u left n j v → p ≡ partOfW w u j → Along w x u left n (j + 1) l
-      go Int g e = none-there g h
-      go Str g e = none-there g h
-      go Bytes g e = none-there g h
-      go (Fact p) g e = none-there g h
-      go (Record c) g e = occurs-next g p h e o l q
-      go (Union c) g e = occurs-next g p h e o l q
-      go (Var y) g e = none-there g h
-      go Error g e = none-there g h
+module _ {w : List ℕ} {x : ℕ} {t u : Ty} {left : ℕ} (some : ¬ (left ≡ 0)) (rep : Reprs w t u) where
+  pub occurring-yes : true ≡ isUnknownW u x → Occurs w x t left (Yes (left - 1))
+  occurring-yes e = visit some rep (Yes (left - 1)) (omega arith) (λ T s C B o d h. is-inside x T _ (left - 1) u e)
 
-module _ {w : List ℕ} {x : ℕ} {t : Ty} {left : ℕ} (some : ¬ (left ≡ 0)) where
-  pub occurring-yes : (u : Ty) → Reprs w t u → true ≡ isUnknownW u x → Occurs w x t left (Yes (left - 1))
-  unfolding occursIn
-  occurring-yes (Var y) rep e = visit some rep (Yes (left - 1)) (omega arith) (λ T s C B o d h. rw (← e, occursIn))
-  occurring-yes Int rep e = absurd (let z : _≡_ {A = ℕ} 0 1 = cc in omega arith)
-  occurring-yes Str rep e = absurd (let z : _≡_ {A = ℕ} 0 1 = cc in omega arith)
-  occurring-yes Bytes rep e = absurd (let z : _≡_ {A = ℕ} 0 1 = cc in omega arith)
-  occurring-yes (Fact p) rep e = absurd (let z : _≡_ {A = ℕ} 0 1 = cc in omega arith)
-  occurring-yes (Record c) rep e = absurd (let z : _≡_ {A = ℕ} 0 1 = cc in omega arith)
-  occurring-yes (Union c) rep e = absurd (let z : _≡_ {A = ℕ} 0 1 = cc in omega arith)
-  occurring-yes Error rep e = absurd (let z : _≡_ {A = ℕ} 0 1 = cc in omega arith)
-
-  module _ {n j v : ℕ} where
-    pub occurring-ends : (u : Ty) → Reprs w t u → Occurring w x u (left - 1) n j v → (p : Part) → j < n → p ≡ partOfW w u j → {a : Asked} → Occurs w x (p .ty) v a
-        → OneOf (0 ∷ 2 ∷ []) (tagOf asked.the-type a) → Occurs w x t left a
-    occurring-ends Int rep g p h e o q = none-there (g .along) h
-    occurring-ends Str rep g p h e o q = none-there (g .along) h
-    occurring-ends Bytes rep g p h e o q = none-there (g .along) h
-    occurring-ends (Fact r) rep g p h e o q = none-there (g .along) h
-    occurring-ends (Record c) rep g p h e o q = occurs-record some rep c _ refl (occurs-ends (g .along) p h e o q)
-    occurring-ends (Union c) rep g p h e o q = occurs-union some rep c _ refl (occurs-ends (g .along) p h e o q)
-    occurring-ends (Var y) rep g p h e o q = none-there (g .along) h
-    occurring-ends Error rep g p h e o q = none-there (g .along) h
-
-    pub occurring-none : (u : Ty) → Reprs w t u → false ≡ isUnknownW u x → Occurring w x u (left - 1) n j v → n ≤ j → Occurs w x t left (No v)
+  module _ {n j v : ℕ} (g : Asking Any (asks x) w u (left - 1) n j v) where
+    pub occurring-ends : (q : Ty) → j < n → q ≡ partOfW w u j .ty → {a : Asked} → Occurs w x q v a → OneOf (0 ∷ 2 ∷ []) (tagOf asked.the-type a) → Occurs w x t left a
     unfolding occursIn
-    occurring-none Int rep f g h = rw (g .along .1) (visit some rep (No (left - 1)) (omega arith) (λ T s C B o d h. refl))
-    occurring-none Str rep f g h = rw (g .along .1) (visit some rep (No (left - 1)) (omega arith) (λ T s C B o d h. refl))
-    occurring-none Bytes rep f g h = rw (g .along .1) (visit some rep (No (left - 1)) (omega arith) (λ T s C B o d h. refl))
-    occurring-none (Fact p) rep f g h = rw (g .along .1) (visit some rep (No (left - 1)) (omega arith) (λ T s C B o d h. refl))
-    occurring-none (Record c) rep f g h = occurs-record some rep c _ refl (occurs-none (g .along) h)
-    occurring-none (Union c) rep f g h = occurs-union some rep c _ refl (occurs-none (g .along) h)
-    occurring-none (Var y) rep f g h = rw (g .along .1) (visit some rep (No (left - 1)) (omega arith) (λ T s C B o d h. rw (← f, occursIn)))
-    occurring-none Error rep f g h = rw (g .along .1) (visit some rep (No (left - 1)) (omega arith) (λ T s C B o d h. refl))
+    occurring-ends q h e {a} o z = by-parts u
+        (λ k c i. visit some rep a (omega (arith, g .fewer, o .fewer)) (λ T s C B p d b. rw (tree-of T i) (sym
+        (walk-here (g .walks k c i) q h (here g i e) T s C B tt (cell-of i p) d b
+        ∙ any-ends a z (λ u t. Bindings.occurs d s x u t) v (partW w k c j .key) (partW w k c j .label) (tree T q) (rest T w k c n (j + 1))
+        (sym (o .is T s C B (walk-ok (g .walks k c i) q h (here g i e) T C (cell-of i p)) d (omega (arith, g .fewer))))))))
+        (λ none. absurd (omega (arith, g .all, none-of w u none)))
+
+    pub occurring-none : false ≡ isUnknownW u x → n ≤ j → Occurs w x t left (No v)
+    unfolding occursIn anyRow
+    occurring-none f h = by-parts u
+        (λ k c i. visit some rep (No v) (g .fewer) (λ T s C B p d b. rw (tree-of T i) (sym (walk-none (g .walks k c i) h T s C B tt (cell-of i p) d b))))
+        (λ none. rw (g .unmoved (omega (arith, g .all, g .within, none-of w u none)))
+        (visit some rep (No (left - 1)) (omega arith) (λ T s C B o d b. not-inside x T _ (left - 1) u f none)))
 
 -- ---- `orderable`
 abbrev pub orders : ℕ → Subst → ℕ → Row → Answer
@@ -299,29 +299,9 @@ module _ {w : List ℕ} {t u : Ty} {left : ℕ} (some : ¬ (left ≡ 0)) (rep : 
   order-fact q v = order (No (left - 1)) (omega arith) (λ T s C B A o. rw (v, zonk-leaf s (Tree.Fact q)) (visited-some left _ some))
 
   order-node : (k : Tree.Kind) (r : Asked) (T : Rows) (s : Subst) (c : ℕ) → tree T u ≡ Tree.node k (T c)
-      → answerOf r ≡ orders 0 s (left - 1) (T c) → Unify.orderable (Bindings.zonk s (tree T u)) left ≡ answerOf r
+      → orders 0 s (left - 1) (T c) ≡ answerOf r → Unify.orderable (Bindings.zonk s (tree T u)) left ≡ answerOf r
   unfolding Unify.orderable
-  order-node k r T s c v q = rw (v, zonk-node s k (T c)) (visited-some left _ some ∙ sym q)
-
-  pub order-record : (c : ℕ) (r : Asked) → u ≡ Record c → AllOrderable w Fields c (left - 1) r → IsOrderable w t left r
-  order-record c r v i = order r (i .fewer) (λ T s C B A o. order-node Tree.Record r T s c (ap (tree T) v) (i .is T s C B A (rw v at o)))
-
-  pub order-union : (c : ℕ) (r : Asked) → u ≡ Union c → AllOrderable w Alternatives c (left - 1) r → IsOrderable w t left r
-  order-union c r v i = order r (i .fewer) (λ T s C B A o. order-node Tree.Union r T s c (ap (tree T) v) (i .is T s C B A (rw v at o)))
-
-  pub order-else : OneOf (0 ∷ 1 ∷ 2 ∷ 6 ∷ 7 ∷ []) (tagOf ty.the-type u) → IsOrderable w t left (Yes (left - 1))
-  unfolding Unify.orderable Unify.leafOrderable
-  order-else h = order (Yes (left - 1)) (omega arith) (λ T s C B A o. yes-at T s u h (rw (← rep .is T s B) at (repr-resolved s A (tree T t))))
-    where
-      yes-at : (T : Rows) (s : Subst) (u : Ty) → OneOf (0 ∷ 1 ∷ 2 ∷ 6 ∷ 7 ∷ []) (tagOf ty.the-type u) → Resolved s (tree T u) → Unify.orderable (Bindings.zonk s (tree T u)) left ≡ yes-left (left - 1)
-      yes-at T s Int h f = rw (zonk-leaf s Tree.Int) (visited-some left _ some)
-      yes-at T s Str h f = rw (zonk-leaf s Tree.String) (visited-some left _ some)
-      yes-at T s Bytes h f = rw (zonk-leaf s Tree.Bytes) (visited-some left _ some)
-      yes-at T s (Fact q) h f = absurd (miss (0 ∷ 1 ∷ 2 ∷ 6 ∷ 7 ∷ []) 3 tt h)
-      yes-at T s (Record c) h f = absurd (miss (0 ∷ 1 ∷ 2 ∷ 6 ∷ 7 ∷ []) 4 tt h)
-      yes-at T s (Union c) h f = absurd (miss (0 ∷ 1 ∷ 2 ∷ 6 ∷ 7 ∷ []) 5 tt h)
-      yes-at T s (Var y) h f = rw (zonk-unbound s y f) (visited-some left _ some)
-      yes-at T s Error h f = rw (zonk-error s) (visited-some left _ some)
+  order-node k r T s c v q = rw (v, zonk-node s k (T c)) (visited-some left _ some ∙ q)
 
 -- `all` goes on after a yes and ends with any other answer.
 abbrev goes-on : Row → Answer → Answer
@@ -336,23 +316,41 @@ all-ends (No l) h v k m t r e = all-cell v k m t r (no-left l) e
 all-ends Spent h v k m t r e = all-cell v k m t r spent e
 all-ends (Yes l) h v k m t r e = absurd (miss (1 ∷ 2 ∷ []) 0 tt h)
 
-module _ {w : List ℕ} {k : Kind} {c left n j v : ℕ} (g : Walking Acyclic orders w k c left n j v) where
-  module _ (p : Part) (h : j < n) (e : p ≡ partW w k c j) {a : Asked} (o : IsOrderable w (p .ty) v a) where
-    -- the answer of the part at j, over its type with the unknowns replaced
-    said : (T : Rows) (s : Subst) → Cells w T → Binds w T s → Acyclic s → Ok w (p .ty) → Unify.orderable (app (λ x. Bindings.zonk s (Tree.Var x)) (tree T (p .ty))) v ≡ answerOf a
-    said T s C B A i = rw (← zonk-replaces s (tree T (p .ty))) (sym (o .is T s C B A i))
+module _ {w : List ℕ} {u : Ty} {left n j v : ℕ} (g : Asking Acyclic orders w u left n j v) where
+  -- the answer of a part, over its type with the unknowns replaced
+  said : (t : Ty) {a : Asked} → IsOrderable w t v a → (T : Rows) (s : Subst) → Cells w T → Binds w T s → Acyclic s → Ok w t
+      → Unify.orderable (app (λ x. Bindings.zonk s (Tree.Var x)) (tree T t)) v ≡ answerOf a
+  said t o T s C B A i = rw (← zonk-replaces s (tree T t)) (sym (o .is T s C B A i))
 
-    pub all-goes-on : (l : ℕ) → a ≡ Yes l → Walking Acyclic orders w k c left n (j + 1) l
-    unfolding appRow
-    all-goes-on l q = walk-next g p h e l (rw q at (o .fewer)) (λ T s C B A i d b r. all-cell v _ _ _ _ (yes-left l) (rw q at (said T s C B A i)))
+  pub ordering-next : (t : Ty) → j < n → t ≡ partOfW w u j .ty → {a : Asked} → IsOrderable w t v a → (l : ℕ) → a ≡ Yes l → Asking Acyclic orders w u left n (j + 1) l
+  unfolding appRow
+  ordering-next t h e o l q = asking-next g t h e l (rw q at (o .fewer))
+      (λ T s C B A i d b k m r. all-cell v _ _ _ _ (yes-left l) (rw q at (said t o T s C B A i)))
 
-    pub all-stops : OneOf (1 ∷ 2 ∷ []) (tagOf asked.the-type a) → AllOrderable w k c left a
-    unfolding appRow
-    all-stops q = record {
-      is = λ T s C B A i. sym (walk-here g p h e T s C B A i left (omega arith) ∙ all-ends a q v _ _ _ _ (said T s C B A (part-ok C k c n j p (g .all) i h e)));
-      fewer = omega (arith, g .fewer, o .fewer);
-    }
+module _ {w : List ℕ} {t u : Ty} {left : ℕ} (some : ¬ (left ≡ 0)) (rep : Reprs w t u) {n j v : ℕ} (g : Asking Acyclic orders w u (left - 1) n j v) where
+  pub ordering-ends : (q : Ty) → j < n → q ≡ partOfW w u j .ty → {a : Asked} → IsOrderable w q v a → OneOf (1 ∷ 2 ∷ []) (tagOf asked.the-type a) → IsOrderable w t left a
+  unfolding appRow
+  ordering-ends q h e {a} o z = by-parts u
+      (λ k c i. order some rep a (omega (arith, g .fewer, o .fewer)) (λ T s C B A p. order-node some rep (kindOf k) a T s c (tree-of T i)
+      (walk-here (g .walks k c i) q h (here g i e) T s C B A (cell-of i p) (left - 1) (omega arith)
+      ∙ all-ends a z v _ _ _ _ (said g q o T s C B A (walk-ok (g .walks k c i) q h (here g i e) T C (cell-of i p))))))
+      (λ none. absurd (omega (arith, g .all, none-of w u none)))
 
-  pub all-done : n ≤ j → AllOrderable w k c left (Yes v)
-  unfolding appRow Unify.allOrderable
-  all-done h = record { is = λ T s C B A i. sym (walk-none g h T s C B A i left (omega arith)); fewer = g .fewer }
+  pub ordering-none : OneOf (0 ∷ 1 ∷ 2 ∷ 4 ∷ 5 ∷ 6 ∷ 7 ∷ []) (tagOf ty.the-type u) → n ≤ j → IsOrderable w t left (Yes v)
+  unfolding appRow Unify.allOrderable Unify.orderable Unify.leafOrderable
+  ordering-none f h = by-parts u
+      (λ k c i. order some rep (Yes v) (g .fewer) (λ T s C B A p. order-node some rep (kindOf k) (Yes v) T s c (tree-of T i)
+      (walk-none (g .walks k c i) h T s C B A (cell-of i p) (left - 1) (omega arith))))
+      (λ none. rw (g .unmoved (omega (arith, g .all, g .within, none-of w u none)))
+      (order some rep (Yes (left - 1)) (omega arith) (λ T s C B A o. yes-at T s u f none (rw (← rep .is T s B) at (repr-resolved s A (tree T t))))))
+    where
+      yes-at : (T : Rows) (s : Subst) (u : Ty) → OneOf (0 ∷ 1 ∷ 2 ∷ 4 ∷ 5 ∷ 6 ∷ 7 ∷ []) (tagOf ty.the-type u) → NoParts u → Resolved s (tree T u)
+          → Unify.orderable (Bindings.zonk s (tree T u)) left ≡ yes-left (left - 1)
+      yes-at T s Int h o f = rw (zonk-leaf s Tree.Int) (visited-some left _ some)
+      yes-at T s Str h o f = rw (zonk-leaf s Tree.String) (visited-some left _ some)
+      yes-at T s Bytes h o f = rw (zonk-leaf s Tree.Bytes) (visited-some left _ some)
+      yes-at T s (Fact q) h o f = absurd (miss (0 ∷ 1 ∷ 2 ∷ 4 ∷ 5 ∷ 6 ∷ 7 ∷ []) 3 tt h)
+      yes-at T s (Record c) h o f = absurd o
+      yes-at T s (Union c) h o f = absurd o
+      yes-at T s (Var y) h o f = rw (zonk-unbound s y f) (visited-some left _ some)
+      yes-at T s Error h o f = rw (zonk-error s) (visited-some left _ some)

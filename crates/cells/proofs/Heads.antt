@@ -35,6 +35,7 @@ use Rattle.cells.specs.Contracts.{Reprs, answerOf, Occurs, Ends, unifier
 use Rattle.cells.proofs.Ty.{the-type}
 use Rattle.cells.proofs.Holding.{holds-left, holds-history, set-var-keeps, set-var-holds}
 use Rattle.cells.proofs.State.{read-back}
+use Rattle.cells.proofs.Frame.{keeps-refl}
 use Rattle.cells.proofs.Steps.{stay, goes-on, fails, is-other, sets}
 
 -- ---- `bind_var`
@@ -46,8 +47,9 @@ module _ {w : List ℕ} {x : ℕ} {t : Ty} {left : ℕ} {o : Asked} (O : Occurs 
   unfolding Ends bindVar withLeft
   bind-occurs l e = record {
     step = record {
-      is = λ T st H q p d h. rw (answer T st H q (p .2) d h, e, bindVar) (Infinite, refl, refl, stay (holds-left H l));
+      is = λ T st H q p d h. rw (answer T st H q (p .2) d h, e, bindVar) (Infinite, refl, record { is = refl; ok = tt }, stay (holds-left H l));
       fewer = rw e at (O .fewer);
+      keeps = keeps-refl;
     };
   }
 
@@ -62,10 +64,11 @@ module _ {w : List ℕ} {x : ℕ} {t : Ty} {left : ℕ} {o : Asked} (O : Occurs 
             refl,
             record {
               holds = set-var-holds (holds-left H l) x t lt (p .0) (p .2) (occurs-no (st .subst) x (p .0) (H .acyclic) d (st .left) (tree T t) l a);
-              keeps = set-var-keeps w x t (omega (arith, H .few-unknowns));
+              keeps = set-var-keeps w x t;
             },
           );
       fewer = rw e at (O .fewer);
+      keeps = set-var-keeps w x t;
     };
   }
 
@@ -75,6 +78,7 @@ module _ {w : List ℕ} {x : ℕ} {t : Ty} {left : ℕ} {o : Asked} (O : Occurs 
     step = record {
       is = λ T st H q p d h. rw (answer T st H q (p .2) d h, e, bindVar) (refl, refl, stay (holds-left H 0));
       fewer = omega arith;
+      keeps = keeps-refl;
     };
   }
 
@@ -246,7 +250,7 @@ module _ {w : List ℕ} {a b : Ty} {left : ℕ} where
   record-record c e p q R = record { step = is-other (λ T st k. (rw p at (k .0), rw q at (k .1))) (λ T st d H k. rw (p, q)) (R .step) }
 
   pub record-else : (c : ℕ) → a ≡ Record c → OneOf (0 ∷ 1 ∷ 2 ∷ 3 ∷ 5 ∷ []) (tagOf the-type b) → UnifiesHeads w a b left w (Bad (Mismatch b (Record c)) left)
-  record-else c p o = record { step = fails (Mismatch b (Record c)) (λ T st d H k. rw p (record-other d (unifier d) st T c b o)) }
+  record-else c p o = record { step = fails (Mismatch b (Record c)) (λ T st k. (k .1, rw p at (k .0))) (λ T st d H k. rw p (record-other d (unifier d) st T c b o)) }
 
   pub union-error : (c : ℕ) → a ≡ Union c → b ≡ Error → UnifiesHeads w a b left w (Good left)
   unfolding unifyHeads
@@ -261,7 +265,7 @@ module _ {w : List ℕ} {a b : Ty} {left : ℕ} where
   union-union c e p q R = record { step = is-other (λ T st k. (rw p at (k .0), rw q at (k .1))) (λ T st d H k. rw (p, q)) (R .step) }
 
   pub union-else : (c : ℕ) → a ≡ Union c → OneOf (0 ∷ 1 ∷ 2 ∷ 3 ∷ 4 ∷ []) (tagOf the-type b) → UnifiesHeads w a b left w (Bad (Mismatch b (Union c)) left)
-  union-else c p o = record { step = fails (Mismatch b (Union c)) (λ T st d H k. rw p (union-other d (unifier d) st T c b o)) }
+  union-else c p o = record { step = fails (Mismatch b (Union c)) (λ T st k. (k .1, rw p at (k .0))) (λ T st d H k. rw p (union-other d (unifier d) st T c b o)) }
 
   pub leaf-error : IsLeaf a → b ≡ Error → UnifiesHeads w a b left w (Good left)
   unfolding unifyHeads
@@ -276,14 +280,14 @@ module _ {w : List ℕ} {a b : Ty} {left : ℕ} where
 
   pub leaf-else : IsLeaf a → OneOf (0 ∷ 1 ∷ 2 ∷ 3 ∷ 4 ∷ 5 ∷ []) (tagOf the-type b) → sameLeafW a b ≡ false → UnifiesHeads w a b left w (Bad (Mismatch b a) left)
   leaf-else o o′ e = record {
-    step = fails (Mismatch b a) (λ T st d H k. rw (leaf-is T a o)
+    step = fails (Mismatch b a) (λ T st k. (k .1, k .0)) (λ T st d H k. rw (leaf-is T a o)
         (leaf-differs d (unifier d) st T (leaf a o .0) b o′ (λ q. same-false a b e (leaf a o .1 ∙ q))));
   }
 
 -- ---- An entry
 pub unify-none : {w : List ℕ} {a b : Ty} {left : ℕ} → left ≡ 0 → Unifies w a b left w Spent
 unfolding Ends Unify.unifyIn
-unify-none {w} {a} {b} {left} z = record { is = λ T st H q k m d h. one T st H d (q ∙ z); fewer = omega arith }
+unify-none {w} {a} {b} {left} z = record { is = λ T st H q k m d h. one T st H d (q ∙ z); fewer = omega arith; keeps = keeps-refl }
   where
     one : (T : Rows) (st : State) → Holds w T st → (d : ℕ) → st .left ≡ 0 → Ends w w T Spent (Unify.unifyIn d st (tree T a) (tree T b))
     one T st H zero e = (refl, e, stay H)
@@ -297,7 +301,7 @@ ends-note w w′ T r s a b (Unify.Spent st) e = e
 
 pub unify-enter : {w : List ℕ} {got expected a b : Ty} {left : ℕ} {w′ : List ℕ} {r : Unified} → ¬ (left ≡ 0) → Reprs w got a → Reprs w expected b → UnifiesHeads w a b (left - 1) w′ r → Unifies w got expected left w′ r
 unfolding heads-in withLeft
-unify-enter {w} {got} {expected} {a} {b} {left} {w′} {r} z ra rb U = record { is = λ T st H q k m d h. one T st H q k m d h; fewer = omega (arith, U .step .fewer) }
+unify-enter {w} {got} {expected} {a} {b} {left} {w′} {r} z ra rb U = record { is = λ T st H q k m d h. one T st H q k m d h; fewer = omega (arith, U .step .fewer); keeps = U .step .keeps }
   where
     one : (T : Rows) (st : State) → Holds w T st → st .left ≡ left → Ok w got → Ok w expected → (d : ℕ) → left ≤ d → Ends w w′ T r (Unify.unifyIn d st (tree T got) (tree T expected))
     one T st H q k m zero h = absurd (omega arith)

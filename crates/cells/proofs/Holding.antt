@@ -78,20 +78,31 @@ module _ {w w′ : List ℕ} {T : Rows} {st : State} {b : Bound} (H : Holds w T 
   }
 
 -- ---- `set_var`
-pub set-var-keeps : (w : List ℕ) (x : ℕ) (t : Ty) → x < 512 → Keeps UNDO-LEN END w (setVarW w x t)
+pub set-var-keeps : (w : List ℕ) (x : ℕ) (t : Ty) → Keeps UNDO-LEN END w (setVarW w x t)
 unfolding setVarW
-set-var-keeps w x t h = keeps-trans (put-keeps w (BINDINGS + 2 * x) t (omega arith) (omega arith)) (push-keeps (putTy w (BINDINGS + 2 * x) t) x)
+set-var-keeps w x t = go (ltb x 512) refl
+  where
+    go : (b : Bool) → ltb x 512 ≡ b → Keeps UNDO-LEN END w (pick b (pushUndoW (putTy w (BINDINGS + 2 * x) t) x) w)
+    go true q =
+        let h = ltb-true x 512 q in
+        keeps-trans (put-keeps w (BINDINGS + 2 * x) t (omega arith) (omega arith)) (push-keeps (putTy w (BINDINGS + 2 * x) t) x)
+    go false q = keeps-refl
 
 module _ {w : List ℕ} {T : Rows} {st : State} (H : Holds w T st) (x : ℕ) (t : Ty) (lt : x < length (st .subst)) (free : bound (st .subst) x ≡ none) (o : Ok w t) where
+  set-var-is : setVarW w x t ≡ pushUndoW (putTy w (BINDINGS + 2 * x) t) x
+  unfolding setVarW
+  set-var-is = rw (lt-ltb x 512 (omega (arith, H .few-unknowns)))
+
   pub set-var-holds : ¬ Reaches (st .subst) (tree T t) (Tree.Var x) → Holds (setVarW w x t) T (Bindings.setVar st x (tree T t))
-  unfolding setVarW Bindings.setVar bound
+  unfolding Bindings.setVar bound
   set-var-holds away =
       let room : getD w UNDO-LEN 0 < 1024 = omega (arith, room-to-bind (H .logged) (tree T t) x lt free, holds-log H, H .few-unknowns, H .few-nodes) in
       let at = BINDINGS + 2 * x in
       let slot = binding-slot x (omega (arith, H .few-unknowns)) in
-      let undo : Binding x none ∷ st .undo ≡ undoOf (setVarW w x t) (getD (setVarW w x t) UNDO-LEN 0) =
+      let w′ = pushUndoW (putTy w at t) x in
+      let undo : Binding x none ∷ st .undo ≡ undoOf w′ (getD w′ UNDO-LEN 0) =
       sym (set-undo w (H .long) at slot t x room ∙ rw (entry-binding x (omega (arith, H .few-unknowns)), ← H .undo)) in
-      rw free
+      rw (set-var-is, free)
       (binding-changed {b = To t} H o (Binding x none ∷ st .undo) (st .left) (st .history) undo
       (set-change w (H .long) at slot t x room) lt
       (logged-bind (H .logged) (tree T t) x lt free) (acyclic-bind (st .subst) x (tree T t) lt away (H .acyclic)))

@@ -13,11 +13,12 @@ use Rattle.unification.specs.Unify.{findKey, findLabel}
 use Rattle.cells.specs.declared.Kind.{Kind}
 use Rattle.cells.specs.declared.Kind.the-variants.{Alternatives}
 use Rattle.cells.specs.declared.Part.{Part}
-use Rattle.cells.specs.declared.Found.{Found}
 use Rattle.cells.specs.declared.Found.the-variants as Found
+use Rattle.cells.specs.declared.Place.{Place}
+use Rattle.cells.specs.declared.Place.the-variants as Place
 use Rattle.cells.specs.Words.{countW, partW}
 use Rattle.cells.specs.Stands.{Rows, tree, rowFrom, rowW, IsCell, Ok, Cells}
-use Rattle.cells.specs.Contracts.{FindsPlace, FindsKey, FindsName}
+use Rattle.cells.specs.Contracts.{partAt, FindsKey, FindsName}
 
 -- ---- The row of a cell
 module _ (T : Rows) (w : List ℕ) (k : Kind) (c n : ℕ) where
@@ -65,30 +66,25 @@ module _ {w : List ℕ} {k : Kind} {c n j key : ℕ} (g : Seeking (findKey key) 
   unfolding findKey
   key-past x h e q = seek-past g (partW w k c j) h refl (λ t r. rw (ne-eqb key (partW w k c j .key) (λ y. q (e ∙ sym y)), findKey))
 
-  pub key-here : (x : ℕ) → x ≡ partW w k c j .key → x ≡ key → FindsPlace w k c key j
-  key-here x e q = record { from = λ T C i. rw (g .all) at (g .to T C i); here = λ h. sym e ∙ q }
-
-  pub key-none : n ≤ j → FindsPlace w k c key j
-  key-none h = record { from = λ T C i. rw (g .all) at (g .to T C i); here = λ l. let e = g .all in absurd (omega arith) }
-
--- ---- From the number to the part
-module _ {w : List ℕ} {k : Kind} {c key n j : ℕ} (F : FindsPlace w k c key j) (e : n ≡ countW w c) where
-  pub place-here : (p : Part) → j < n → p ≡ partW w k c j → FindsKey w k c key (Found.At p)
+  pub key-here : (x : ℕ) → j < n → x ≡ partW w k c j .key → x ≡ key → FindsKey w k c key (Found.At (partW w k c j))
   unfolding findKey
-  place-here p h q =
-      let h′ : j < countW w c = rw e at h in
-      let same : key ≡ p .key = sym (F .here h′) ∙ sym (ap (λ (o : Part). o .key) q) in
-      record {
-        is = λ T C i. sym (F .from T C i ∙ ap (findKey key) (rest-cell T w k c (countW w c) j p h′ q) ∙ rw (eq-eqb key (p .key) same, findKey));
-        ok = λ T C i. part-ok C k c n j p e i h q;
-      }
-
-  pub place-none : n ≤ j → FindsKey w k c key Found.Nothing
-  unfolding findKey
-  place-none h = record {
-    is = λ T C i. sym (F .from T C i ∙ ap (findKey key) (rest-none T w k c (countW w c) j (rw e at h)));
-    ok = λ T C i. tt;
+  key-here x h e q = record {
+    is = λ T C i. sym (seek-here g (partW w k c j) h refl T C i ∙ rw (eq-eqb key (partW w k c j .key) (sym q ∙ e), findKey));
+    ok = λ T C i. part-ok C k c n j (partW w k c j) (g .all) i h refl;
+    has = sym e ∙ q;
   }
+
+  pub key-none : n ≤ j → FindsKey w k c key Found.Nothing
+  unfolding findKey
+  key-none h = record { is = λ T C i. sym (seek-none g h T C i); ok = λ T C i. tt; has = tt }
+
+-- ---- From the place to the part
+module _ {w : List ℕ} {k : Kind} {c key : ℕ} {r : Place} (F : FindsKey w k c key (partAt w k c r)) where
+  pub place-here : (j : ℕ) (p : Part) → r ≡ Place.At j → p ≡ partW w k c j → FindsKey w k c key (Found.At p)
+  place-here j p e q = rw q (rw e at F)
+
+  pub place-none : r ≡ Place.Nowhere → FindsKey w k c key Found.Nothing
+  place-none e = rw e at F
 
 module _ {w : List ℕ} {c n j name : ℕ} (g : Seeking (findLabel name) w Alternatives c n j) where
   pub name-here : (p : Part) → j < n → p ≡ partW w Alternatives c j → p .label ≡ name → FindsName w c name (Found.At p)
@@ -96,6 +92,7 @@ module _ {w : List ℕ} {c n j name : ℕ} (g : Seeking (findLabel name) w Alter
   name-here p h e q = record {
     is = λ T C i. sym (seek-here g p h e T C i ∙ rw (eq-eqb name (p .label) (sym q), findLabel));
     ok = λ T C i. part-ok C Alternatives c n j p (g .all) i h e;
+    has = q;
   }
 
   pub name-past : (p : Part) → j < n → p ≡ partW w Alternatives c j → ¬ (p .label ≡ name) → Seeking (findLabel name) w Alternatives c n (j + 1)
@@ -104,4 +101,4 @@ module _ {w : List ℕ} {c n j name : ℕ} (g : Seeking (findLabel name) w Alter
 
   pub name-none : n ≤ j → FindsName w c name Found.Nothing
   unfolding findLabel
-  name-none h = record { is = λ T C i. sym (seek-none g h T C i); ok = λ T C i. tt }
+  name-none h = record { is = λ T C i. sym (seek-none g h T C i); ok = λ T C i. tt; has = tt }

@@ -52,7 +52,7 @@ module _ {w : List ℕ} {c e n m left : ℕ} (nc : n ≡ countW w c) (ne : m ≡
   pub record-differs : ¬ (n ≡ m) → UnifiesRecord w c e left w (Bad (Mismatch (Record e) (Record c)) left)
   unfolding unifyRecord
   record-differs q = record {
-    step = fails (Mismatch (Record e) (Record c)) (λ T st d H k.
+    step = fails (Mismatch (Record e) (Record c)) (λ T st k. (k .1, k .0)) (λ T st d H k.
         let other : ¬ (rowLen (T c) ≡ rowLen (T e)) = λ x. q (nc ∙ sym (cell-length (H .cells) Fields c (k .0)) ∙ x ∙ cell-length (H .cells) Fields e (k .1) ∙ sym ne) in
         rw (ne-eqb (rowLen (T c)) (rowLen (T e)) other, unifyRecord));
   }
@@ -96,13 +96,13 @@ module _ {w₀ : List ℕ} {c e n left : ℕ} {w : List ℕ} {j left′ : ℕ} (
 
       pub fields-unknown : f ≡ Nothing → UnifiesFields w₀ c e n left w (Bad (UnknownField (p .key)) left′)
       fields-unknown q = record {
-        step = go-fail (g .going) (UnknownField (p .key)) (λ T st H k K s S d.
+        step = go-fail (g .going) (UnknownField (p .key)) tt (λ T st H k K s S d.
             rw (rest-cell T w₀ Fields c n j p lt (was (H .cells) (k .0) (k .2) K)) (lacks (unifier d) s (p .key) (p .label) (tree T (p .ty)) _ (T e) (found S (k .1) K ∙ ap (foundPart T) q)));
       }
 
       module _ {o : Part} {w′ : List ℕ} {r : Unified} (q : f ≡ At o) (U : Unifies w (p .ty) (o .ty) left′ w′ r) where
         step : Step (λ T st. Ok w (p .ty) × Ok w (o .ty)) (λ d T st. Unify.unifyIn d st (tree T (p .ty)) (tree T (o .ty))) w left′ w′ r
-        step = record { is = λ T st H l k d h. U .is T st H l (k .0) (k .1) d h; fewer = U .fewer }
+        step = record { is = λ T st H l k d h. U .is T st H l (k .0) (k .1) d h; fewer = U .fewer; keeps = U .keeps }
 
         oks : {T : Rows} {s : State} → Cells w₀ T → Holds w T s → IsCell w₀ Fields c → IsCell w₀ Fields e → n ≡ countW w₀ c → Keeps UNDO-LEN END w₀ w → Ok w (p .ty) × Ok w (o .ty)
         oks {T} C S i i′ z K =
@@ -114,12 +114,12 @@ module _ {w₀ : List ℕ} {c e n left : ℕ} {w : List ℕ} {j left′ : ℕ} (
         turn T d {s} C S i i′ z K =
             rw (rest-cell T w₀ Fields c n j p lt (was C i z K)) (has (unifier d) s (p .key) (p .label) (o .label) (tree T (p .ty)) (tree T (o .ty)) _ (T e) (found S i′ K ∙ ap (foundPart T) q))
 
-        pub fields-next : (l : ℕ) → r ≡ Good l → length w′ ≡ length w → FieldsGoing w₀ c e n left w′ (j + 1) l
-        fields-next l x len = record {
+        pub fields-next : (l : ℕ) → r ≡ Good l → FieldsGoing w₀ c e n left w′ (j + 1) l
+        fields-next l x = record {
           within = omega arith;
           going = go-next (g .going) (λ d T st. fieldsFrom w₀ c e n (j + 1) d T st) step
               (λ T st H k K s S d. oks (H .cells) S (k .0) (k .1) (k .2) K)
-              (λ T st H k K s S d. turn T d (H .cells) S (k .0) (k .1) (k .2) K) l x len;
+              (λ T st H k K s S d. turn T d (H .cells) S (k .0) (k .1) (k .2) K) l x;
         }
 
         pub fields-stop : NotGood r → UnifiesFields w₀ c e n left w′ r

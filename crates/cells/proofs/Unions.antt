@@ -40,15 +40,19 @@ module _ {w : List ℕ} {c e : ℕ} {diff : UnionDiff} {a b : Ty} {left : ℕ} {
   unfolding Ends mapErr
   payload-fails x l q = record {
     step = record {
-      is = λ T st H v k d h. one T (Unify.unifyIn d st (tree T a) (tree T b)) (rw q at (U .is T st H v (k .0) (k .1) d h));
+      is = λ T st H v k d h. one T (k .2) (k .3) (Unify.unifyIn d st (tree T a) (tree T b)) (rw q at (U .is T st H v (k .0) (k .1) d h));
       fewer = rw q at (U .fewer);
+      keeps = U .keeps;
     };
   }
     where
-      one : (T : Rows) (o : Unify.Unified) → Ends w w′ T (Bad x l) o → Ends w w′ T (Bad (UnionMismatch diff (Union e) (Union c)) l) (mapErr (differs T c e (diffOf diff)) o)
-      one T (Unify.Ok st) z = clash (cc (z .0))
-      one T (Unify.Err y st) z = let v : l ≡ st .left = cc (z .1) in (UnionMismatch diff (Union e) (Union c), ap (Bad (UnionMismatch diff (Union e) (Union c))) v, refl, z .3)
-      one T (Unify.Spent st) z = clash (cc (z .0))
+      one : (T : Rows) → IsCell w Alternatives c → IsCell w Alternatives e → (o : Unify.Unified) → Ends w w′ T (Bad x l) o → Ends w w′ T (Bad (UnionMismatch diff (Union e) (Union c)) l) (mapErr (differs T c e (diffOf diff)) o)
+      one T i j (Unify.Ok st) z = clash (cc (z .0))
+      one T i j (Unify.Err y st) z =
+          let v : l ≡ st .left = cc (z .1) in
+          let same = keeps-cells (omega arith) (z .3 .keeps) in
+          (UnionMismatch diff (Union e) (Union c), ap (Bad (UnionMismatch diff (Union e) (Union c))) v, record { is = refl; ok = (cell-same same j, cell-same same i) }, z .3)
+      one T i j (Unify.Spent st) z = clash (cc (z .0))
 
   pub payload-else : OneOf (0 ∷ 2 ∷ []) (tagOf the-type r) → UnifiesPayload w c e diff a b left w′ r
   unfolding Ends mapErr
@@ -56,6 +60,7 @@ module _ {w : List ℕ} {c e : ℕ} {diff : UnionDiff} {a b : Ty} {left : ℕ} {
     step = record {
       is = λ T st H v k d h. one T (Unify.unifyIn d st (tree T a) (tree T b)) (U .is T st H v (k .0) (k .1) d h);
       fewer = U .fewer;
+      keeps = U .keeps;
     };
   }
     where
@@ -77,17 +82,17 @@ module _ {w : List ℕ} {c e k : ℕ} {x y : Found} (X : FindsKey w Alternatives
 
   pub in-expected : (o : Part) {left : ℕ} {r : Unified} → x ≡ Nothing → y ≡ At o → r ≡ Bad (UnionMismatch (Absent (o .label) k) (Union e) (Union c)) left → UnifiesAlternative w c e k left w r
   unfolding unifyAlternative
-  in-expected o p q z = rw z record { step = fails (UnionMismatch (Absent (o .label) k) (Union e) (Union c)) (λ T st d H i. sides T st d H i p q) }
+  in-expected o p q z = rw z record { step = fails (UnionMismatch (Absent (o .label) k) (Union e) (Union c)) (λ T st i. (i .1, i .0)) (λ T st d H i. sides T st d H i p q) }
 
   pub in-found : (o : Part) {left : ℕ} {r : Unified} → x ≡ At o → y ≡ Nothing → r ≡ Bad (UnionMismatch (Absent (o .label) k) (Union e) (Union c)) left → UnifiesAlternative w c e k left w r
   unfolding unifyAlternative
-  in-found o p q z = rw z record { step = fails (UnionMismatch (Absent (o .label) k) (Union e) (Union c)) (λ T st d H i. sides T st d H i p q) }
+  in-found o p q z = rw z record { step = fails (UnionMismatch (Absent (o .label) k) (Union e) (Union c)) (λ T st i. (i .1, i .0)) (λ T st d H i. sides T st d H i p q) }
 
   module _ (o m : Part) (p : x ≡ At o) (q : y ≡ At m) where
     pub renamed : {left : ℕ} {r : Unified} → ¬ (o .label ≡ m .label) → r ≡ Bad (UnionMismatch (Renamed (m .label) (o .label) k) (Union e) (Union c)) left → UnifiesAlternative w c e k left w r
     unfolding unifyAlternative
     renamed n z = rw z record {
-      step = fails (UnionMismatch (Renamed (m .label) (o .label) k) (Union e) (Union c))
+      step = fails (UnionMismatch (Renamed (m .label) (o .label) k) (Union e) (Union c)) (λ T st i. (i .1, i .0))
           (λ T st d H i. sides T st d H i p q ∙ rw (ne-eqb (o .label) (m .label) n, unifyAlternative));
     }
 
@@ -96,8 +101,9 @@ module _ {w : List ℕ} {c e k : ℕ} {x y : Found} (X : FindsKey w Alternatives
     in-both n P = record {
       step = record {
         is = λ T st H v i d h. rw (sides T st d H i p q, eq-eqb (o .label) (m .label) n, unifyAlternative)
-            (P .step .is T st H v (rw p at (X .ok T (H .cells) (i .0)), rw q at (Y .ok T (H .cells) (i .1))) d h);
+            (P .step .is T st H v (rw p at (X .ok T (H .cells) (i .0)), rw q at (Y .ok T (H .cells) (i .1)), i .0, i .1) d h);
         fewer = P .step .fewer;
+        keeps = P .step .keeps;
       };
     }
 
@@ -139,11 +145,11 @@ module _ {w₀ : List ℕ} {c e left : ℕ} {w : List ℕ} {from left′ : ℕ} 
           let j′ = cell-same same i′ in
           rw (remaining-next from (T c) (T e) next lt (N .is T (S .cells) j j′) k q (N .small T (S .cells) j j′))
 
-      pub union-next : (l : ℕ) → r ≡ Good l → length w′ ≡ length w → UnionGoing w₀ c e left w′ (k + 1) l
-      union-next l x len = record {
+      pub union-next : (l : ℕ) → r ≡ Good l → UnionGoing w₀ c e left w′ (k + 1) l
+      union-next l x = record {
         going = go-next (g .going) (λ d T st. alternativesFrom c e (k + 1) d T st) (A .step)
             (λ T st H i K s S d. let same = keeps-cells (omega arith) K in (cell-same same (i .0), cell-same same (i .1)))
-            (λ T st H i K s S d. turn T d S (i .0) (i .1) K) l x len;
+            (λ T st H i K s S d. turn T d S (i .0) (i .1) K) l x;
       }
 
       pub union-stop : NotGood r → UnifiesUnion w₀ c e left w′ r

@@ -3,7 +3,7 @@
 use mathlib.Core.List.{List}
 use mathlib.Core.Option.{Option, none, some}
 use mathlib.Core.Path.{_≡_}
-use Prim.Native.Nat.{ℕ, _-_, _≤_, _<_}
+use Prim.Native.Nat.{ℕ, _≤_, _<_}
 use Rattle.unification.specs.Ty as Tree
 use Rattle.unification.specs.Ty.{Row, ε, cell, appRow}
 use Rattle.unification.specs.Bindings as Bindings
@@ -18,6 +18,8 @@ use Rattle.cells.specs.declared.Kind.{Kind}
 use Rattle.cells.specs.declared.Kind.the-variants.{Fields, Alternatives}
 use Rattle.cells.specs.declared.Found.{Found}
 use Rattle.cells.specs.declared.Found.the-variants as Found
+use Rattle.cells.specs.declared.Place.{Place}
+use Rattle.cells.specs.declared.Place.the-variants as Place
 use Rattle.cells.specs.declared.Asked.{Asked}
 use Rattle.cells.specs.declared.Asked.the-variants as Asked
 use Rattle.cells.specs.declared.UnionDiff.{UnionDiff}
@@ -29,7 +31,7 @@ use Rattle.cells.specs.declared.Unified.the-variants as Unified
 use Rattle.cells.specs.declared.Next.{Next}
 use Rattle.cells.specs.declared.Next.the-variants as Next
 use Rattle.cells.specs.Words.{countW, partW, lowerW}
-use Rattle.cells.specs.Stands.{Rows, tree, rowFrom, IsCell, Ok, Cells, Binds, Holds, Keeps}
+use Rattle.cells.specs.Stands.{Rows, tree, IsCell, Ok, Cells, Binds, Holds, Keeps}
 
 -- ---- Look-up
 
@@ -45,18 +47,29 @@ abbrev pub OkFound : List ℕ → Found → Type 0
 OkFound w (Found.At p) = Ok w (p .ty)
 OkFound w Found.Nothing = Unit {0}
 
+-- the part that stands there
+abbrev pub partAt : List ℕ → Kind → ℕ → Place → Found
+partAt w k c (Place.At j) = Found.At (partW w k c j)
+partAt w k c Place.Nowhere = Found.Nothing
+
+abbrev pub HasKey : ℕ → Found → Type 0
+HasKey key (Found.At p) = p .key ≡ key
+HasKey key Found.Nothing = Unit {0}
+
+abbrev pub HasName : ℕ → Found → Type 0
+HasName name (Found.At p) = p .label ≡ name
+HasName name Found.Nothing = Unit {0}
+
+-- What is found has the key, or the name, whatever the words are.
 pub record FindsKey (w : List ℕ) (k : Kind) (c key : ℕ) (r : Found) : Type 0 where
   pub is : (T : Rows) → Cells w T → IsCell w k c → foundPart T r ≡ findKey key (T c)
   pub ok : (T : Rows) → Cells w T → IsCell w k c → OkFound w r
-
--- The number of the first part with this key, or one past the last: what is sought in the row is what is sought from there on.
-pub record FindsPlace (w : List ℕ) (k : Kind) (c key r : ℕ) : Type 0 where
-  pub from : (T : Rows) → Cells w T → IsCell w k c → findKey key (T c) ≡ findKey key (rowFrom T w k c r (countW w c - r))
-  pub here : r < countW w c → partW w k c r .key ≡ key
+  pub has : HasKey key r
 
 pub record FindsName (w : List ℕ) (c name : ℕ) (r : Found) : Type 0 where
   pub is : (T : Rows) → Cells w T → IsCell w Alternatives c → foundTy T r ≡ findLabel name (T c)
   pub ok : (T : Rows) → Cells w T → IsCell w Alternatives c → OkFound w r
+  pub has : HasName name r
 
 -- ---- The alternatives of two unions, by ascending discriminant
 
@@ -111,27 +124,18 @@ pub record Occurs (w : List ℕ) (x : ℕ) (t : Ty) (left : ℕ) (r : Asked) : T
   pub is : (T : Rows) (s : Subst) → Cells w T → Binds w T s → Ok w t → (d : ℕ) → left ≤ d → answerOf r ≡ Bindings.occurs d s x left (tree T t)
   pub fewer : askedLeft r ≤ left
 
-pub record OccursIn (w : List ℕ) (x : ℕ) (k : Kind) (c left : ℕ) (r : Asked) : Type 0 where
-  pub is : (T : Rows) (s : Subst) → Cells w T → Binds w T s → IsCell w k c → (d : ℕ) → left ≤ d
-      → answerOf r ≡ anyRow (λ v u. Bindings.occurs d s x v u) left (T c)
-  pub fewer : askedLeft r ≤ left
-
 -- Of the type with every bound unknown replaced.
 pub record IsOrderable (w : List ℕ) (t : Ty) (left : ℕ) (r : Asked) : Type 0 where
   pub is : (T : Rows) (s : Subst) → Cells w T → Binds w T s → Acyclic s → Ok w t → answerOf r ≡ Unify.orderable (Bindings.zonk s (tree T t)) left
   pub fewer : askedLeft r ≤ left
 
-pub record AllOrderable (w : List ℕ) (k : Kind) (c left : ℕ) (r : Asked) : Type 0 where
-  pub is : (T : Rows) (s : Subst) → Cells w T → Binds w T s → Acyclic s → IsCell w k c
-      → answerOf r ≡ Unify.allOrderable (appRow (λ x. Bindings.zonk s (Tree.Var x)) (T c)) left
-  pub fewer : askedLeft r ≤ left
-
 -- ---- The state
 
--- Back to a length of the undo log, whatever history the snapshot noted.
+-- Back to a length of the undo log, whatever history the snapshot noted. Whatever the words are, only node types, bindings and the
+-- log change.
 pub record RollsBack (w : List ℕ) (mark : ℕ) (w′ : List ℕ) : Type 0 where
   pub is : (T : Rows) (st : State) → Holds w T st → (past : History) → Holds w′ T (Bindings.rollback st (record { undo = mark; past = past }))
-  pub keeps : (T : Rows) (st : State) → Holds w T st → Keeps TYS END w w′
+  pub keeps : Keeps TYS END w w′
 
 -- ---- Unification
 
@@ -146,6 +150,18 @@ errorOf T (TyError.UnionMismatch d e g) = Unify.UnionMismatch (diffOf d) (tree T
 errorOf T (TyError.UnknownField n) = Unify.UnknownField n
 errorOf T TyError.Infinite = Unify.Infinite
 
+-- The types that an error shows exist.
+abbrev pub OkError : List ℕ → TyError → Type 0
+OkError w (TyError.Mismatch e g) = Ok w e × Ok w g
+OkError w (TyError.UnionMismatch d e g) = Ok w e × Ok w g
+OkError w (TyError.UnknownField n) = Unit {0}
+OkError w TyError.Infinite = Unit {0}
+
+-- An error in hand stands for the definition's.
+pub record IsError (w : List ℕ) (T : Rows) (x : TyError) (e : Unify.TyError) : Type 0 where
+  pub is : errorOf T x ≡ e
+  pub ok : OkError w x
+
 abbrev pub unifiedLeft : Unified → ℕ
 unifiedLeft (Unified.Good l) = l
 unifiedLeft (Unified.Bad e l) = l
@@ -158,19 +174,22 @@ pub record Stays (w w′ : List ℕ) (T : Rows) (st : State) : Type 0 where
 
 unfoldable pub Ends : List ℕ → List ℕ → Rows → Unified → Unify.Unified → Type 0
 Ends w w′ T r (Unify.Ok st) = (r ≡ Unified.Good (st .left)) × Stays w w′ T st
-Ends w w′ T r (Unify.Err e st) = (e′ : TyError) × (r ≡ Unified.Bad e′ (st .left)) × (errorOf T e′ ≡ e) × Stays w w′ T st
+Ends w w′ T r (Unify.Err e st) = (e′ : TyError) × (r ≡ Unified.Bad e′ (st .left)) × IsError w′ T e′ e × Stays w w′ T st
 Ends w w′ T r (Unify.Spent st) = (r ≡ Unified.Spent) × (st .left ≡ 0) × Stays w w′ T st
 
+-- Whatever the words are, the visits left do not rise, and only bindings and the undo log change.
 pub record Unifies (w : List ℕ) (got expected : Ty) (left : ℕ) (w′ : List ℕ) (r : Unified) : Type 0 where
   pub is : (T : Rows) (st : State) → Holds w T st → st .left ≡ left → Ok w got → Ok w expected → (d : ℕ) → left ≤ d
       → Ends w w′ T r (Unify.unifyIn d st (tree T got) (tree T expected))
   pub fewer : unifiedLeft r ≤ left
+  pub keeps : Keeps UNDO-LEN END w w′
 
 -- A step inside it, from a state of which P holds, to what `f` gives over trees. The depth is any that is not below the
 -- visits left.
 pub record Step (P : Rows → State → Type 0) (f : ℕ → Rows → State → Unify.Unified) (w : List ℕ) (left : ℕ) (w′ : List ℕ) (r : Unified) : Type 0 where
   pub is : (T : Rows) (st : State) → Holds w T st → st .left ≡ left → P T st → (d : ℕ) → left ≤ d → Ends w w′ T r (f d T st)
   pub fewer : unifiedLeft r ≤ left
+  pub keeps : Keeps UNDO-LEN END w w′
 
 abbrev pub unifier : ℕ → State → Tree.Ty → Tree.Ty → Unify.Unified
 unifier d st a b = Unify.unifyIn d st a b
@@ -203,5 +222,5 @@ pub record UnifiesAlternative (w : List ℕ) (c e k left : ℕ) (w′ : List ℕ
       (λ d T st. Unify.unifyAlternative (unifier d) st (differs T c e) k (findKey k (T c)) (findKey k (T e))) w left w′ r
 
 pub record UnifiesPayload (w : List ℕ) (c e : ℕ) (diff : UnionDiff) (a b : Ty) (left : ℕ) (w′ : List ℕ) (r : Unified) : Type 0 where
-  pub step : Step (λ T st. Ok w a × Ok w b)
+  pub step : Step (λ T st. Ok w a × Ok w b × IsCell w Alternatives c × IsCell w Alternatives e)
       (λ d T st. Unify.mapErr (differs T c e (diffOf diff)) (Unify.unifyIn d st (tree T a) (tree T b))) w left w′ r

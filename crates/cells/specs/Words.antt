@@ -148,7 +148,7 @@ pushUndoW w e = pick (ltb (getD w UNDO-LEN 0) 1024) (set (set w (UNDO + getD w U
 
 unfoldable pub setVarW : List ℕ → ℕ → Ty → List ℕ
 unfolding putTy pushUndoW
-setVarW w x t = pushUndoW (putTy w (BINDINGS + 2 * x) t) x
+setVarW w x t = pick (ltb x 512) (pushUndoW (putTy w (BINDINGS + 2 * x) t) x) w
 
 unfoldable pub annotateW : List ℕ → ℕ → Ty → List ℕ
 unfolding putTy pushUndoW
@@ -159,4 +159,7 @@ freshW w = pick (ltb (getD w UNKNOWNS 0) 512) (set (set w (BINDINGS + 2 * getD w
 
 -- An undo entry below 65,536 is an unknown, another a node.
 unfoldable pub revertW : List ℕ → ℕ → List ℕ
-revertW w e = pick (ltb e 65536) (set w (BINDINGS + 2 * e) 0) (set w (TYS + 2 * (e - 65536)) 0)
+revertW w e =
+    pick (ltb e 65536)
+    (pick (ltb e 512) (set w (BINDINGS + 2 * e) 0) w)
+    (pick (ltb (e - 65536) 512) (set w (TYS + 2 * (e - 65536)) 0) w)

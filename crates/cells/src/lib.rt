@@ -1,21 +1,26 @@
-// Types as numbered cells in the work slice: bindings, `repr`, `occurs`, `set_var`, `snapshot`, `rollback`, `unify`,
-// `orderable`, as ty.rs has them. A visit is counted at each entry of `unify`, `occurs` and `orderable`.
+// Types as numbered cells in the work slice: bindings, `repr`, `occurs`, `set_var`, `snapshot`, `rollback`, as ty.rs has
+// them. A visit is counted at each entry of `occurs`.
 ghost use mathlib.Core.Path.{_≡_};
 ghost use Prim.Native.Nat.{ℕ, _+_, _*_, _<_, _≤_};
 ghost use lib.ListN.{length, getD, set};
 ghost use Rattle.work.specs.Layout.{UNKNOWNS, UNDO, UNDO-LEN};
-ghost use Rattle.cells.specs.Words.{tyW, tagW, payloadW, declaredW, countW, firstW, fieldW, alternativeW, partW, boundW, pushUndoW, setVarW, annotateW, freshW, revertW, sameLeafW, isUnknownW, partsW, partOfW};
-ghost use Rattle.cells.specs.Contracts.{FindsPlace, FindsKey, FindsName, Reprs, Occurs, IsOrderable, AllOrderable, RollsBack, Lowers, LeastFrom, NextFrom, Unifies, BindsVar, UnifiesHeads, UnifiesRecord, UnifiesFields, UnifiesUnion, UnifiesAlternative, UnifiesPayload};
+ghost use Rattle.cells.specs.Words.{tyW, tagW, payloadW, declaredW, countW, firstW, fieldW, alternativeW, partW, boundW, pushUndoW, setVarW, annotateW, freshW, revertW, isUnknownW, partsW, partOfW};
+ghost use Rattle.cells.specs.Contracts.{partAt, FindsKey, FindsName, Reprs, Occurs, RollsBack};
 ghost use Rattle.cells.specs.declared.Ty.the-variants as Ty;
-ghost use Rattle.cells.specs.declared.TyError.the-variants as TyError;
-ghost use Rattle.cells.specs.declared.Unified.the-variants as Unified;
 
 mod inferred;
 
 pub use inferred::new_record;
 pub use inferred::put_field;
 pub use inferred::reserve;
+use work::Counters;
+use work::above_tag;
+use work::part_name;
+use work::part_type;
 use work::put;
+use work::run_first;
+use work::run_size;
+use work::tag_in;
 use work::wide;
 use work::word;
 
@@ -50,6 +55,12 @@ pub enum Found {
     Nothing,
 }
 
+// Where a part stands among those of its cell.
+pub enum Place {
+    At(u32),
+    Nowhere,
+}
+
 pub enum Bound {
     To(Ty),
     Free,
@@ -79,6 +90,12 @@ pub enum Unified {
     Good(u32),
     Bad(TyError, u32),
     Spent,
+}
+
+// A discriminant still to be compared.
+pub enum Next {
+    Is(u32),
+    Nothing,
 }
 
 pub fn ty_of(tag: u32, payload: u32) -> Ty
@@ -131,7 +148,7 @@ pub fn declared(w: &[u32], t: u32) -> Ty
     ensures { λ r. ⌜ r ≡ declaredW (now (w .entry)) t ⌝ }
 {
     let at = work::TYPES + 2 * wide(t);
-    let tag = word(w, at) % 16;
+    let tag = tag_in(word(w, at));
     if tag == 5 {
         return Ty::Record(t);
     }
@@ -145,40 +162,40 @@ pub fn declared(w: &[u32], t: u32) -> Ty
 pub fn count(w: &[u32], c: u32) -> u32
     ensures { λ r. ⌜ r ≡ countW (now (w .entry)) c ⌝ }
 {
-    if c < 256 {
-        word(w, work::TYPES + 2 * wide(c)) / 16
+    if c < Counters::TYPES {
+        above_tag(word(w, work::TYPES + 2 * wide(c)))
     } else {
-        word(w, work::RECORDS + wide(c - 256)) % 1024
+        run_size(word(w, work::RECORDS + wide(c - Counters::TYPES)))
     }
 }
 
 pub fn first(w: &[u32], c: u32) -> usize
     ensures { λ r. ⌜ (r ≡ firstW (now (w .entry)) c) × (r < 4294967296) ⌝ }
 {
-    if c < 256 {
+    if c < Counters::TYPES {
         wide(word(w, work::TYPES + 2 * wide(c) + 1))
     } else {
-        wide(word(w, work::RECORDS + wide(c - 256)) / 1024)
+        wide(run_first(word(w, work::RECORDS + wide(c - Counters::TYPES))))
     }
 }
 
 pub fn field(w: &[u32], c: u32, j: u32) -> Part
     ensures { λ r. ⌜ r ≡ fieldW (now (w .entry)) c j ⌝ }
 {
-    if c < 256 {
+    if c < Counters::TYPES {
         let x = word(w, work::FIELDS + first(w, c) + wide(j));
         Part {
-            key: x / 256,
+            key: part_name(x),
             label: 0,
-            ty: declared(w, x % 256),
+            ty: declared(w, part_type(x)),
         }
     } else {
         let at = work::RECORD_FIELDS + 2 * (first(w, c) + wide(j));
         let x = word(w, at);
         Part {
-            key: x / 16,
+            key: above_tag(x),
             label: 0,
-            ty: ty_of(x % 16, word(w, at + 1)),
+            ty: ty_of(tag_in(x), word(w, at + 1)),
         }
     }
 }
@@ -190,8 +207,8 @@ pub fn alternative(w: &[u32], c: u32, j: u32) -> Part
     let x = word(w, at + 1);
     Part {
         key: word(w, at),
-        label: x / 256,
-        ty: declared(w, x % 256),
+        label: part_name(x),
+        ty: declared(w, part_type(x)),
     }
 }
 
@@ -205,47 +222,46 @@ pub fn part_at(w: &[u32], k: Kind, c: u32, j: u32) -> Part
 }
 
 // The key alone.
-fn key_at(w: &[u32], k: Kind, c: u32, j: u32) -> u32
+pub fn key_at(w: &[u32], k: Kind, c: u32, j: u32) -> u32
     ensures { λ r. ⌜ r ≡ partW (now (w .entry)) k c j .key ⌝ }
 {
     match k {
         Kind::Fields => {
-            if c < 256 {
-                word(w, work::FIELDS + first(w, c) + wide(j)) / 256
+            if c < Counters::TYPES {
+                part_name(word(w, work::FIELDS + first(w, c) + wide(j)))
             } else {
-                word(w, work::RECORD_FIELDS + 2 * (first(w, c) + wide(j))) / 16
+                above_tag(word(w, work::RECORD_FIELDS + 2 * (first(w, c) + wide(j))))
             }
         }
         Kind::Alternatives => word(w, work::FIELDS + first(w, c) + 2 * wide(j)),
     }
 }
 
-// The number of the first part with this key, or how many parts there are.
-fn place_of(w: &[u32], k: Kind, c: u32, key: u32) -> u32
-    ensures { λ r. ⌜ FindsPlace (now (w .entry)) k c key r ⌝ }
+// Where the first part with this key stands.
+pub fn place_of(w: &[u32], k: Kind, c: u32, key: u32) -> Place
+    ensures { λ r. ⌜ FindsKey (now (w .entry)) k c key (partAt (now (w .entry)) k c r) ⌝ }
 {
     let n = count(w, c);
     let mut j: u32 = 0;
     while j < n {
         let x = key_at(w, k, c, j);
         if x == key {
-            return j;
+            return Place::At(j);
         }
         j += 1;
     }
-    j
+    Place::Nowhere
 }
 
 // The first part with this key.
 pub fn find_key(w: &[u32], k: Kind, c: u32, key: u32) -> Found
     ensures { λ r. ⌜ FindsKey (now (w .entry)) k c key r ⌝ }
 {
-    let j = place_of(w, k, c, key);
-    if j < count(w, c) {
-        let p = part_at(w, k, c, j);
-        return Found::At(p);
+    let place = place_of(w, k, c, key);
+    match place {
+        Place::At(j) => Found::At(part_at(w, k, c, j)),
+        Place::Nowhere => Found::Nothing,
     }
-    Found::Nothing
 }
 
 // The first alternative of this name.
@@ -346,22 +362,12 @@ fn follow_far(w: &[u32], x: u32) -> Ty
     ensures { λ r. ⌜ Reprs (now (w .entry)) (Ty.Var x) r ⌝ }
 {
     let n = word(w, work::UNKNOWNS);
-    if n <= 512 {
+    if n <= Counters::UNKNOWNS {
         if work::UNDO <= w.len() {
             return follow_within(w, x, n);
         }
     }
     follow_any(w, Ty::Var(x))
-}
-
-// `repr` where it is not asked often.
-fn head(w: &[u32], t: Ty) -> Ty
-    ensures { λ r. ⌜ Reprs (now (w .entry)) t r ⌝ }
-{
-    match t {
-        Ty::Var(x) => follow_far(w, x),
-        _ => t,
-    }
 }
 
 // `repr`: mostly the first binding tells. The slice is lent anew to the call, so that it can stay in registers otherwise.
@@ -418,6 +424,31 @@ pub fn part_of(w: &[u32], t: Ty, j: u32) -> Part
     }
 }
 
+// Its type alone.
+fn field_ty(w: &[u32], c: u32, j: u32) -> Ty
+    ensures { λ r. ⌜ r ≡ fieldW (now (w .entry)) c j .ty ⌝ }
+{
+    if c < Counters::TYPES {
+        declared(w, part_type(word(w, work::FIELDS + first(w, c) + wide(j))))
+    } else {
+        let at = work::RECORD_FIELDS + 2 * (first(w, c) + wide(j));
+        ty_of(tag_in(word(w, at)), word(w, at + 1))
+    }
+}
+
+pub fn part_ty(w: &[u32], t: Ty, j: u32) -> Ty
+    ensures { λ r. ⌜ r ≡ partOfW (now (w .entry)) t j .ty ⌝ }
+{
+    match t {
+        Ty::Union(c) => declared(
+            w,
+            part_type(word(w, work::FIELDS + first(w, c) + 2 * wide(j) + 1)),
+        ),
+        Ty::Record(c) => field_ty(w, c, j),
+        _ => field_ty(w, 0, j),
+    }
+}
+
 // `occurs`: to the first yes.
 pub fn occurs(w: &[u32], x: u32, t: Ty, left: u32) -> Asked
     ensures { λ r. ⌜ Occurs (now (w .entry)) x t left r ⌝ }
@@ -433,8 +464,7 @@ pub fn occurs(w: &[u32], x: u32, t: Ty, left: u32) -> Asked
     let n = part_count(w, u);
     let mut j: u32 = 0;
     while j < n {
-        let p = part_of(w, u, j);
-        let q = p.ty;
+        let q = part_ty(w, u, j);
         let r = occurs(w, x, q, rest);
         match r {
             Asked::No(l) => {
@@ -449,13 +479,15 @@ pub fn occurs(w: &[u32], x: u32, t: Ty, left: u32) -> Asked
     Asked::No(rest)
 }
 
-// The undo log holds an unknown as its number and a node as its number and 65,536: what stood there before is always
-// none, since an unknown is bound only while it is free and a node is annotated once.
+// The undo log holds an unknown as its number and a node as its number and this: what stood there before is always none,
+// since an unknown is bound only while it is free and a node is annotated once.
+const NODE: u32 = 65536;
+
 fn push_undo(w: &mut [u32], entry: u32)
     ensures { λ _. ⌜ now (w .exit) ≡ pushUndoW (now (w .entry)) entry ⌝ }
 {
     let n = word(w, work::UNDO_LEN);
-    if n < 1024 {
+    if n < Counters::UNDO {
         put(w, work::UNDO + wide(n), entry);
         put(w, work::UNDO_LEN, n + 1);
     }
@@ -466,30 +498,32 @@ pub fn fresh_var_id(w: &mut [u32]) -> u32
     ensures { λ r. ⌜ (r ≡ getD (now (w .entry)) UNKNOWNS 0) × (now (w .exit) ≡ freshW (now (w .entry))) ⌝ }
 {
     let x = word(w, work::UNKNOWNS);
-    if x < 512 {
+    if x < Counters::UNKNOWNS {
         put(w, work::BINDINGS + 2 * wide(x), 0);
         put(w, work::UNKNOWNS, x + 1);
     }
     x
 }
 
-fn set_var(w: &mut [u32], x: u32, t: Ty)
+pub fn set_var(w: &mut [u32], x: u32, t: Ty)
     ensures { λ _. ⌜ now (w .exit) ≡ setVarW (now (w .entry)) x t ⌝ }
 {
-    let at = work::BINDINGS + 2 * wide(x);
-    put(w, at, tag_of(t));
-    put(w, at + 1, payload_of(t));
-    push_undo(w, x);
+    if x < Counters::UNKNOWNS {
+        let at = work::BINDINGS + 2 * wide(x);
+        put(w, at, tag_of(t));
+        put(w, at + 1, payload_of(t));
+        push_undo(w, x);
+    }
 }
 
 pub fn annotate(w: &mut [u32], n: u32, t: Ty)
     ensures { λ _. ⌜ now (w .exit) ≡ annotateW (now (w .entry)) n t ⌝ }
 {
-    if n < 512 {
+    if n < Counters::NODES {
         let at = work::TYS + 2 * wide(n);
         put(w, at, tag_of(t));
         put(w, at + 1, payload_of(t));
-        push_undo(w, n + 65536);
+        push_undo(w, n + NODE);
     }
 }
 
@@ -502,10 +536,15 @@ pub fn snapshot(w: &[u32]) -> u32
 fn revert(w: &mut [u32], entry: u32)
     ensures { λ _. ⌜ now (w .exit) ≡ revertW (now (w .entry)) entry ⌝ }
 {
-    if entry < 65536 {
-        put(w, work::BINDINGS + 2 * wide(entry), 0);
+    if entry < NODE {
+        if entry < Counters::UNKNOWNS {
+            put(w, work::BINDINGS + 2 * wide(entry), 0);
+        }
     } else {
-        put(w, work::TYS + 2 * wide(entry - 65536), 0);
+        let n = entry - NODE;
+        if n < Counters::NODES {
+            put(w, work::TYS + 2 * wide(n), 0);
+        }
     }
 }
 
@@ -519,288 +558,4 @@ pub fn rollback(w: &mut [u32], mark: u32)
         revert(w, entry);
         put(w, work::UNDO_LEN, n);
     }
-}
-
-fn bind_var(w: &mut [u32], x: u32, t: Ty, left: u32) -> Unified
-    ensures { λ r. ⌜ BindsVar (now (w .entry)) x t left (now (w .exit)) r ⌝ }
-{
-    let o = occurs(w, x, t, left);
-    match o {
-        Asked::Yes(l) => Unified::Bad(TyError::Infinite, l),
-        Asked::No(l) => {
-            set_var(w, x, t);
-            Unified::Good(l)
-        }
-        Asked::Spent => Unified::Spent,
-    }
-}
-
-// Are two types that are no unknown, no cell and no error the same?
-fn same_leaf(a: Ty, b: Ty) -> bool
-    ensures { λ r. ⌜ r ≡ sameLeafW a b ⌝ }
-{
-    tag_of(a) == tag_of(b) && payload_of(a) == payload_of(b)
-}
-
-// `got` is the type of the node that the caller reports at.
-pub fn unify(w: &mut [u32], got: Ty, expected: Ty, left: u32) -> Unified
-    ensures { λ r. ⌜ Unifies (now (w .entry)) got expected left (now (w .exit)) r ⌝ }
-{
-    if left == 0 {
-        return Unified::Spent;
-    }
-    let a = repr(w, got);
-    let b = repr(w, expected);
-    unify_heads(w, a, b, left - 1)
-}
-
-fn unify_heads(w: &mut [u32], a: Ty, b: Ty, left: u32) -> Unified
-    ensures { λ r. ⌜ UnifiesHeads (now (w .entry)) a b left (now (w .exit)) r ⌝ }
-{
-    match a {
-        Ty::Error => match b {
-            Ty::Var(y) => {
-                set_var(w, y, Ty::Error);
-                Unified::Good(left)
-            }
-            _ => Unified::Good(left),
-        },
-        Ty::Var(x) => match b {
-            Ty::Error => {
-                set_var(w, x, Ty::Error);
-                Unified::Good(left)
-            }
-            Ty::Var(y) => {
-                if x == y {
-                    Unified::Good(left)
-                } else {
-                    bind_var(w, x, b, left)
-                }
-            }
-            _ => bind_var(w, x, b, left),
-        },
-        Ty::Record(c) => match b {
-            Ty::Error => Unified::Good(left),
-            Ty::Var(y) => bind_var(w, y, a, left),
-            Ty::Record(d) => unify_record(w, c, d, left),
-            _ => Unified::Bad(TyError::Mismatch(b, a), left),
-        },
-        Ty::Union(c) => match b {
-            Ty::Error => Unified::Good(left),
-            Ty::Var(y) => bind_var(w, y, a, left),
-            Ty::Union(d) => unify_union(w, c, d, left),
-            _ => Unified::Bad(TyError::Mismatch(b, a), left),
-        },
-        _ => match b {
-            Ty::Error => Unified::Good(left),
-            Ty::Var(y) => bind_var(w, y, a, left),
-            _ => {
-                if same_leaf(a, b) {
-                    Unified::Good(left)
-                } else {
-                    Unified::Bad(TyError::Mismatch(b, a), left)
-                }
-            }
-        },
-    }
-}
-
-fn unify_record(w: &mut [u32], c: u32, d: u32, left: u32) -> Unified
-    ensures { λ r. ⌜ UnifiesRecord (now (w .entry)) c d left (now (w .exit)) r ⌝ }
-{
-    let n = count(w, c);
-    if n == count(w, d) {
-        unify_fields(w, c, d, n, left)
-    } else {
-        Unified::Bad(TyError::Mismatch(Ty::Record(d), Ty::Record(c)), left)
-    }
-}
-
-// Each name of the found side is sought in the expected.
-fn unify_fields(w: &mut [u32], c: u32, d: u32, n: u32, left: u32) -> Unified
-    ensures { λ r. ⌜ UnifiesFields (now (w .entry)) c d n left (now (w .exit)) r ⌝ }
-{
-    let mut j: u32 = 0;
-    let mut rest = left;
-    while j < n {
-        let p = field(w, c, j);
-        let i = place_of(w, Kind::Fields, d, p.key);
-        if count(w, d) <= i {
-            return Unified::Bad(TyError::UnknownField(p.key), rest);
-        }
-        let q = field(w, d, i);
-        let x = p.ty;
-        let y = q.ty;
-        let r = unify(w, x, y, rest);
-        match r {
-            Unified::Good(l) => {
-                rest = l;
-            }
-            _ => {
-                return r;
-            }
-        }
-        j += 1;
-    }
-    Unified::Good(rest)
-}
-
-pub enum Next {
-    Is(u32),
-    Nothing,
-}
-
-// The least discriminant of one union that is not below `from`, or `best` where that is less.
-fn least_from(w: &[u32], c: u32, from: u64, best: Next) -> Next
-    ensures { λ r. ⌜ LeastFrom (now (w .entry)) c from best r ⌝ }
-{
-    let n = count(w, c);
-    let mut j: u32 = 0;
-    let mut least = best;
-    while j < n {
-        let key = key_at(w, Kind::Alternatives, c, j);
-        least = lower(key, from, least);
-        j += 1;
-    }
-    least
-}
-
-fn lower(key: u32, from: u64, best: Next) -> Next
-    ensures { λ r. ⌜ Lowers key from best r ⌝ }
-{
-    if (key as u64) < from {
-        return best;
-    }
-    match best {
-        Next::Nothing => Next::Is(key),
-        Next::Is(b) => { if key < b { Next::Is(key) } else { best } }
-    }
-}
-
-// The least discriminant of either that is not below `from`.
-fn next_discriminant(w: &[u32], c: u32, d: u32, from: u64) -> Next
-    ensures { λ r. ⌜ NextFrom (now (w .entry)) c d from r ⌝ }
-{
-    least_from(w, d, from, least_from(w, c, from, Next::Nothing))
-}
-
-// Discriminants ascending; each is compared whole before the next.
-fn unify_union(w: &mut [u32], c: u32, d: u32, left: u32) -> Unified
-    ensures { λ r. ⌜ UnifiesUnion (now (w .entry)) c d left (now (w .exit)) r ⌝ }
-{
-    let mut from: u64 = 0;
-    let mut rest = left;
-    while from < 4294967296 {
-        let next = next_discriminant(w, c, d, from);
-        let k = match next {
-            Next::Is(k) => k,
-            Next::Nothing => {
-                return Unified::Good(rest);
-            }
-        };
-        let r = unify_alternative(w, c, d, k, rest);
-        match r {
-            Unified::Good(l) => {
-                rest = l;
-            }
-            _ => {
-                return r;
-            }
-        }
-        from = (k as u64) + 1;
-    }
-    Unified::Good(rest)
-}
-
-fn differ(c: u32, d: u32, diff: UnionDiff, left: u32) -> Unified
-    ensures { λ r. ⌜ r ≡ Unified.Bad (TyError.UnionMismatch diff (Ty.Union d) (Ty.Union c)) left ⌝ }
-{
-    Unified::Bad(
-        TyError::UnionMismatch(diff, Ty::Union(d), Ty::Union(c)),
-        left,
-    )
-}
-
-// Presence on both sides, then the name, then the payload.
-fn unify_alternative(w: &mut [u32], c: u32, d: u32, k: u32, left: u32) -> Unified
-    ensures { λ r. ⌜ UnifiesAlternative (now (w .entry)) c d k left (now (w .exit)) r ⌝ }
-{
-    let i = place_of(w, Kind::Alternatives, c, k);
-    let j = place_of(w, Kind::Alternatives, d, k);
-    let n = count(w, c);
-    let m = count(w, d);
-    if i < n {
-        let p = alternative(w, c, i);
-        if j < m {
-            let q = alternative(w, d, j);
-            if p.label == q.label {
-                let a = p.ty;
-                let b = q.ty;
-                unify_payload(w, c, d, UnionDiff::Payload(p.label, k), a, b, left)
-            } else {
-                differ(c, d, UnionDiff::Renamed(q.label, p.label, k), left)
-            }
-        } else {
-            differ(c, d, UnionDiff::Absent(p.label, k), left)
-        }
-    } else {
-        if j < m {
-            let q = alternative(w, d, j);
-            differ(c, d, UnionDiff::Absent(q.label, k), left)
-        } else {
-            Unified::Good(left)
-        }
-    }
-}
-
-// A failure inside becomes a difference of the payload.
-fn unify_payload(w: &mut [u32], c: u32, d: u32, diff: UnionDiff, a: Ty, b: Ty, left: u32) -> Unified
-    ensures { λ r. ⌜ UnifiesPayload (now (w .entry)) c d diff a b left (now (w .exit)) r ⌝ }
-{
-    let r = unify(w, a, b, left);
-    match r {
-        Unified::Bad(_, l) => differ(c, d, diff, l),
-        _ => r,
-    }
-}
-
-// `orderable` of the resolved type: unknowns are looked up on the way.
-pub fn orderable(w: &[u32], t: Ty, left: u32) -> Asked
-    ensures { λ r. ⌜ IsOrderable (now (w .entry)) t left r ⌝ }
-{
-    if left == 0 {
-        return Asked::Spent;
-    }
-    let l = left - 1;
-    let r = head(w, t);
-    match r {
-        Ty::Fact(_) => Asked::No(l),
-        Ty::Record(c) => all_orderable(w, Kind::Fields, c, l),
-        Ty::Union(c) => all_orderable(w, Kind::Alternatives, c, l),
-        _ => Asked::Yes(l),
-    }
-}
-
-// `all` over the parts of a cell: to the first no.
-fn all_orderable(w: &[u32], k: Kind, c: u32, left: u32) -> Asked
-    ensures { λ r. ⌜ AllOrderable (now (w .entry)) k c left r ⌝ }
-{
-    let n = count(w, c);
-    let mut j: u32 = 0;
-    let mut rest = left;
-    while j < n {
-        let p = part_at(w, k, c, j);
-        let t = p.ty;
-        let r = orderable(w, t, rest);
-        match r {
-            Asked::Yes(l) => {
-                rest = l;
-            }
-            _ => {
-                return r;
-            }
-        }
-        j += 1;
-    }
-    Asked::Yes(rest)
 }

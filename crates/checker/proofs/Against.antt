@@ -23,9 +23,9 @@ use Rattle.meaning.specs.References.{fieldValues, exprNodes}
 use Rattle.meaning.specs.Diag.{Code}
 use Rattle.meaning.specs.File.{Described}
 use Rattle.meaning.specs.Check.{Checker, Walk, walk, Form, aWildcard, aVariable, aConstant, aRecord, aDisjunction, anError, another, form, formOf, repr, annotate, reject, inferThenUnify, checkFields, checkAlternative, checkUnion, checkRecord, checkForm, checkAgainst, checkAt}
-use Rattle.meaning.specs.Run.{same, sumOf, weight}
-use Rattle.meaning.proofs.Meets.{unknowns}
-use Rattle.meaning.proofs.Steps.{one-diagnostic, one-node, Nothing}
+use Rattle.meaning.specs.Weights.{same, sumOf, weight}
+use Rattle.meaning.specs.Grades.{unknowns, one-diagnostic, one-node}
+use Rattle.meaning.proofs.Steps.{Nothing}
 use Rattle.meaning.proofs.Visits.{size-pos, own-weight, payload-side, checkFields-meets}
 use Rattle.tree.specs.declared.Items.{Items}
 use Rattle.tree.specs.declared.Node.{Node}
@@ -66,25 +66,25 @@ an-error T (Union x) h = absurd (omega arith)
 an-error T (Var x) h = absurd (omega arith)
 an-error T Error h = refl
 
-module _ {f w : List ℕ} {n left : ℕ} {e t : Ty} (R : Reprs w e t) where
+module _ {f w ou : List ℕ} {n left : ℕ} {e t : Ty} (R : Reprs w e t) where
   -- Against Error nothing is visited.
-  pub check-nothing : tagW t ≡ 8 → Checks f w n e left w (Done.On left)
+  pub check-nothing : tagW t ≡ 8 → Checks f w ou n e left w ou (Done.On left)
   unfolding walk checkAt repr checkAgainst
   check-nothing h = record { is = λ d k. at-depth d k }
     where
-      at-depth : (d : Described) (k : ℕ) → Named d k n → Beside f w left w (done (Done.On left)) d (checks (nodesOf d) k n) (Fine w e) (λ T. below d k .check n (tree T e))
+      at-depth : (d : Described) (k : ℕ) → Named d k n → Beside f w ou left w ou (done (Done.On left)) d (checks (nodesOf d) k n) (Fine w e) (λ T. below d k .check n (tree T e))
       at-depth d zero m = absurd (omega (arith, m .under))
-      at-depth d (suc k) m = record { is = λ T c s fine. rw (sym (R .is T (c .state .subst) (s .runs .holds .binds)) ∙ an-error T t h) (on-here (s .runs) (s .visits)) }
+      at-depth d (suc k) m = record { is = λ T c s fine. rw (sym (R .is T (c .state .subst) (s .runs .holds .binds)) ∙ an-error T t h) (on-here (s .runs) (s .lines) (s .visits)) }
 
   -- By the node's form.
-  pub check-as : {w′ : List ℕ} {r : Done} {nd : Node} → tagW t ≢ 8 → IsNode f w n nd
-      → ((d : Described) (k : ℕ) (T : Rows) (c : Checker) → Node-at d k n → nodeAt (nodesOf d) n .kind ≡ kindW f nd → Begins f w T d (checks (nodesOf d) (suc k) n) left c → Fine w t T c
-      → Ends f w w′ T d (checks (nodesOf d) (suc k) n .records) (checks (nodesOf d) (suc k) n .fields) (done r) (checkForm (d .schema) (nodesOf d) (below d k) n (formOf (kindW f nd)) (tree T t) c))
-      → Checks f w n e left w′ r
+  pub check-as : {w′ ou′ : List ℕ} {r : Done} {nd : Node} → tagW t ≢ 8 → IsNode f w n nd
+      → ((d : Described) (k : ℕ) (T : Rows) (c : Checker) → Node-at d k n → nodeAt (nodesOf d) n .kind ≡ kindW f nd → Begins f w ou T d (checks (nodesOf d) (suc k) n) left c → Fine w t T c
+      → Ends f w ou w′ ou′ T d (checks (nodesOf d) (suc k) n .records) (checks (nodesOf d) (suc k) n .fields) (done r) (checkForm (d .schema) (nodesOf d) (below d k) n (formOf (kindW f nd)) (tree T t) c))
+      → Checks f w ou n e left w′ ou′ r
   unfolding walk checkAt repr
-  check-as {w′} {r} {nd} h i next = record { is = λ d k. at-depth d k }
+  check-as {w′} {ou′} {r} {nd} h i next = record { is = λ d k. at-depth d k }
     where
-      at-depth : (d : Described) (k : ℕ) → Named d k n → Beside f w left w′ (done r) d (checks (nodesOf d) k n) (Fine w e) (λ T. below d k .check n (tree T e))
+      at-depth : (d : Described) (k : ℕ) → Named d k n → Beside f w ou left w′ ou′ (done r) d (checks (nodesOf d) k n) (Fine w e) (λ T. below d k .check n (tree T e))
       at-depth d zero m = absurd (omega (arith, m .under))
       at-depth d (suc k) m = record {
         is = λ T c s fine.
@@ -116,17 +116,17 @@ inferred-form another h d b n t c = refl
 inferred-form aWildcard h d b n t c = absurd h
 inferred-form (aRecord fs) h d b n t c = absurd h
 
-module _ {f w w′ : List ℕ} {n left : ℕ} {e t : Ty} (R : Reprs w e t) (h : tagW t ≢ 8) where
-  pub check-wildcard : IsNode f w n Node.Wildcard → Notes f w n t left w′ → Checks f w n e left w′ (Done.On left)
+module _ {f w ou w′ ou′ : List ℕ} {n left : ℕ} {e t : Ty} (R : Reprs w e t) (h : tagW t ≢ 8) where
+  pub check-wildcard : IsNode f w n Node.Wildcard → Notes f w ou n t left w′ ou′ → Checks f w ou n e left w′ ou′ (Done.On left)
   unfolding kindW formOf checkForm
   check-wildcard i ann = check-as R h i (λ d k T c at q s fine.
       ends-wider (omega arith) (omega arith) (silent-on (ann d (at .there) .is T c (begins-part (only (one-node n)) (checks (nodesOf d) (suc k) n) (note-fits d (suc k) n) s) fine)))
 
-  pub check-record : {l : Items} {r : Done} → IsNode f w n (Node.Record l) → ChecksRecord f w n l t left w′ r → Checks f w n e left w′ r
+  pub check-record : {l : Items} {r : Done} → IsNode f w n (Node.Record l) → ChecksRecord f w ou n l t left w′ ou′ r → Checks f w ou n e left w′ ou′ r
   unfolding kindW formOf checkForm
   check-record {l} i C = check-as R h i (λ d k T c at q s fine. C .is d k (fieldsFrom f l 0 (l .n)) refl at q .is T c s fine)
 
-  pub check-inferred : {nd : Node} {r : Done} → Inferred (formOf (kindW f nd)) → IsNode f w n nd → InfersThenUnifies f w n t left w′ r → Checks f w n e left w′ r
+  pub check-inferred : {nd : Node} {r : Done} → Inferred (formOf (kindW f nd)) → IsNode f w n nd → InfersThenUnifies f w ou n t left w′ ou′ r → Checks f w ou n e left w′ ou′ r
   check-inferred {nd} j i U = check-as R h i (λ d k T c at q s fine. rw (inferred-form (formOf (kindW f nd)) j d (below d k) n (tree T t) c) (U .is d k at .is T c s fine))
 
 -- ---- A record against a type
@@ -134,13 +134,13 @@ record-fits : (d : Described) (k n : ℕ) (fs : List Field) → nodeAt (nodesOf 
 unfolding weight exprNodes
 record-fits d k n fs e = rw e (record { grade = omega arith; records = omega arith; fields = omega arith })
 
-values-named : {d : Described} {k n : ℕ} {fs : List Field} {f w : List ℕ} {T : Rows} {L : Load} {left : ℕ} {c : Checker} → Begins f w T d L left c → Node-at d k n → nodeAt (nodesOf d) n .kind ≡ ExprKind.Record fs → AllNamed d k (fieldValues fs)
+values-named : {d : Described} {k n : ℕ} {fs : List Field} {f w ou : List ℕ} {T : Rows} {L : Load} {left : ℕ} {c : Checker} → Begins f w ou T d L left c → Node-at d k n → nodeAt (nodesOf d) n .kind ≡ ExprKind.Record fs → AllNamed d k (fieldValues fs)
 unfolding exprNodes
 values-named {k = k} s at e = rw e at (parts-named (s .sound) (at .there) k (at .above))
 
-module _ {f w : List ℕ} {n left : ℕ} {l : Items} where
-  module _ {w₁ : List ℕ} {e : ℕ} {r : Done} (C : ChecksFields f w l e left w₁ r) where
-    pub record-noted : {w₂ : List ℕ} {v : ℕ} → r ≡ Done.On v → Notes f w₁ n (Record e) v w₂ → ChecksRecord f w n l (Record e) left w₂ (Done.On v)
+module _ {f w ou : List ℕ} {n left : ℕ} {l : Items} where
+  module _ {w₁ ou₁ : List ℕ} {e : ℕ} {r : Done} (C : ChecksFields f w ou l e left w₁ ou₁ r) where
+    pub record-noted : {w₂ ou₂ : List ℕ} {v : ℕ} → r ≡ Done.On v → Notes f w₁ ou₁ n (Record e) v w₂ ou₂ → ChecksRecord f w ou n l (Record e) left w₂ ou₂ (Done.On v)
     unfolding checkRecord
     record-noted g ann = record {
       is = λ d k fs z at q. record {
@@ -153,7 +153,7 @@ module _ {f w : List ℕ} {n left : ℕ} {l : Items} where
       };
     }
 
-    pub record-out : r ≡ Done.Out → ChecksRecord f w n l (Record e) left w₁ Done.Out
+    pub record-out : r ≡ Done.Out → ChecksRecord f w ou n l (Record e) left w₁ ou₁ Done.Out
     unfolding checkRecord
     record-out g = record {
       is = λ d k fs z at q. record {
@@ -164,7 +164,7 @@ module _ {f w : List ℕ} {n left : ℕ} {l : Items} where
       };
     }
 
-  pub record-union : {w′ : List ℕ} {e : ℕ} {r : Done} → ChecksUnion f w n l e left w′ r → ChecksRecord f w n l (Union e) left w′ r
+  pub record-union : {w′ ou′ : List ℕ} {e : ℕ} {r : Done} → ChecksUnion f w ou n l e left w′ ou′ r → ChecksRecord f w ou n l (Union e) left w′ ou′ r
   unfolding checkRecord
   record-union C = record { is = λ d k fs z at q. record { is = λ T c s fine. C .is d k fs z at q .is T c s (record { cell = fine .ok; side = fine .side }) } }
 
@@ -190,15 +190,15 @@ no-cell T Error h d b n fs c = refl
 no-cell T (Record x) h d b n fs c = absurd h
 no-cell T (Union x) h d b n fs c = absurd h
 
-pub record-other : {f w w′ : List ℕ} {n left : ℕ} {l : Items} {t : Ty} {r : Done} → NoCell t → InfersThenUnifies f w n t left w′ r → ChecksRecord f w n l t left w′ r
+pub record-other : {f w ou w′ ou′ : List ℕ} {n left : ℕ} {l : Items} {t : Ty} {r : Done} → NoCell t → InfersThenUnifies f w ou n t left w′ ou′ r → ChecksRecord f w ou n l t left w′ ou′ r
 record-other {n = n} {t = t} h U = record { is = λ d k fs z at q. record { is = λ T c s fine. rw (no-cell T t h d (below d k) n fs c) (U .is d k at .is T c s fine) } }
 
 -- ---- One alternative of a union
 reject-fits : (d : Described) (k n : ℕ) → Holds (only one-diagnostic) (checks (nodesOf d) k n)
 reject-fits d k n = record { grade = omega (arith, size-pos (nodesOf d) k n); records = omega arith; fields = omega arith }
 
-pub rejected : {f w w′ : List ℕ} {n left : ℕ} {T : Rows} {d : Described} {c : Checker} (k : ℕ) (code : Code) → Rejects f w n code left w′ → n < length (nodesOf d) → Begins f w T d (checks (nodesOf d) k n) left c
-    → Ends f w w′ T d (checks (nodesOf d) k n .records) (checks (nodesOf d) k n .fields) (done (Done.On left)) (reject (d .schema) (nodesOf d) n code c)
+pub rejected : {f w ou w′ ou′ : List ℕ} {n left : ℕ} {T : Rows} {d : Described} {c : Checker} (k : ℕ) (code : Code) → Rejects f w ou n code left w′ ou′ → n < length (nodesOf d) → Begins f w ou T d (checks (nodesOf d) k n) left c
+    → Ends f w ou w′ ou′ T d (checks (nodesOf d) k n .records) (checks (nodesOf d) k n .fields) (done (Done.On left)) (reject (d .schema) (nodesOf d) n code c)
 rejected {n = n} {T = T} {d = d} {c = c} k code R there s =
     ends-wider (omega arith) (omega arith) (silent-on (R d there .is T c (begins-part (only one-diagnostic) (checks (nodesOf d) k n) (reject-fits d k n) s) tt))
 
@@ -214,7 +214,7 @@ unfolding fieldsFrom
 fields-length f l i zero = refl
 fields-length f l i (suc n) = ap suc (fields-length f l (i + 1) n)
 
-pub union-arity : {f w w′ : List ℕ} {n e left : ℕ} {l : Items} → l .n ≢ 1 → Rejects f w n Code.RejectUnionArity left w′ → ChecksUnion f w n l e left w′ (Done.On left)
+pub union-arity : {f w ou w′ ou′ : List ℕ} {n e left : ℕ} {l : Items} → l .n ≢ 1 → Rejects f w ou n Code.RejectUnionArity left w′ ou′ → ChecksUnion f w ou n l e left w′ ou′ (Done.On left)
 union-arity {f = f} {n = n} {e = e} {l = l} h R = record {
   is = λ d k fs z at q. record {
     is = λ T c s fine.
@@ -227,7 +227,7 @@ first-field : (f : List ℕ) (l : Items) → l .n ≡ 1 → (fs : List Field) �
 unfolding fieldsFrom
 first-field f l one fs z = z ∙ ap (fieldsFrom f l 0) one
 
-module _ {f w : List ℕ} {e name : ℕ} {found : Found} (F : FindsName w e name found) {p : Part} (g : found ≡ Found.At p) {T : Rows} {d : Described} {L : Load} {left : ℕ} {c : Checker} (s : Begins f w T d L left c) (fine : FineUnion w e T c) where
+module _ {f w ou : List ℕ} {e name : ℕ} {found : Found} (F : FindsName w e name found) {p : Part} (g : found ≡ Found.At p) {T : Rows} {d : Described} {L : Load} {left : ℕ} {c : Checker} (s : Begins f w ou T d L left c) (fine : FineUnion w e T c) where
   payload-is : findLabel name (T e) ≡ some (tree T (p .ty))
   payload-is = sym (F .is T (s .runs .holds .cells) (fine .cell)) ∙ ap (foundTy T) g
 
@@ -243,8 +243,8 @@ one-named : {d : Described} {k : ℕ} (x : Field) → AllNamed d k (fieldValues 
 unfolding fieldValues
 one-named x h = h .0
 
-module _ {f w : List ℕ} {n e left : ℕ} {l : Items} (one : l .n ≡ 1) {found : Found} (F : FindsName w e (fieldW f l 0 .name) found) where
-  pub union-unknown : {w′ : List ℕ} → found ≡ Found.Nothing → Rejects f w n Code.RejectUnknownAlternative left w′ → ChecksUnion f w n l e left w′ (Done.On left)
+module _ {f w ou : List ℕ} {n e left : ℕ} {l : Items} (one : l .n ≡ 1) {found : Found} (F : FindsName w e (fieldW f l 0 .name) found) where
+  pub union-unknown : {w′ ou′ : List ℕ} → found ≡ Found.Nothing → Rejects f w ou n Code.RejectUnknownAlternative left w′ ou′ → ChecksUnion f w ou n l e left w′ ou′ (Done.On left)
   unfolding checkUnion checkAlternative fieldOf
   union-unknown g R = record {
     is = λ d k fs z at q. record {
@@ -254,8 +254,8 @@ module _ {f w : List ℕ} {n e left : ℕ} {l : Items} (one : l .n ≡ 1) {found
     };
   }
 
-  module _ {p : Part} (g : found ≡ Found.At p) {w₁ : List ℕ} {r : Done} (C : Checks f w (fieldW f l 0 .value) (p .ty) left w₁ r) where
-    pub union-noted : {w₂ : List ℕ} {v : ℕ} → r ≡ Done.On v → Notes f w₁ n (Union e) v w₂ → ChecksUnion f w n l e left w₂ (Done.On v)
+  module _ {p : Part} (g : found ≡ Found.At p) {w₁ ou₁ : List ℕ} {r : Done} (C : Checks f w ou (fieldW f l 0 .value) (p .ty) left w₁ ou₁ r) where
+    pub union-noted : {w₂ ou₂ : List ℕ} {v : ℕ} → r ≡ Done.On v → Notes f w₁ ou₁ n (Union e) v w₂ ou₂ → ChecksUnion f w ou n l e left w₂ ou₂ (Done.On v)
     unfolding checkUnion checkAlternative fieldOf
     union-noted h ann = record {
       is = λ d k fs z at q. record {
@@ -271,7 +271,7 @@ module _ {f w : List ℕ} {n e left : ℕ} {l : Items} (one : l .n ≡ 1) {found
       };
     }
 
-    pub union-out : r ≡ Done.Out → ChecksUnion f w n l e left w₁ Done.Out
+    pub union-out : r ≡ Done.Out → ChecksUnion f w ou n l e left w₁ ou₁ Done.Out
     unfolding checkUnion checkAlternative fieldOf
     union-out h = record {
       is = λ d k fs z at q. record {

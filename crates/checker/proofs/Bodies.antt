@@ -10,6 +10,7 @@ use lib.ListN.{length, getD, length-append}
 use borrow.Author.Tests.{lt-ltb, le-ltb}
 use Rattle.unification.specs.Ty as Tree
 use Rattle.unification.proofs.Tests.{clash}
+use Rattle.cells.specs.declared.Ty.{Ty}
 use Rattle.cells.specs.Words.{pick}
 use Rattle.cells.specs.Stands.{Rows}
 use Rattle.meaning.specs.Syntax.{QueryStmt, Query, ExprKind, isDestructurable}
@@ -18,14 +19,14 @@ use Rattle.meaning.specs.All.{All}
 use Rattle.meaning.specs.File.{Described}
 use Rattle.meaning.specs.Check as Check
 use Rattle.meaning.specs.Check.{Checker, Step, goes, out, Does, andThen, Walk, Form, aWildcard, aVariable, aConstant, aRecord, aDisjunction, anError, another, formOf, bindForm, denyForm, generate, stmt, stmts, badTarget, onlyRight, notYet, bindWildcard, envLen, truncateEnv, subquery}
-use Rattle.meaning.specs.Run as Run
-use Rattle.meaning.specs.Run.{sumOf}
-use Rattle.meaning.proofs.Meets.{Grade, Ready, Made, Meets}
-use Rattle.meaning.proofs.Steps.{no-thing, Nothing}
-use Rattle.meaning.proofs.Visits.{visiting, stmts-meets}
+use Rattle.meaning.specs.Weights as Weights
+use Rattle.meaning.specs.Weights.{sumOf}
+use Rattle.meaning.specs.Grades.{Grade, Ready, no-thing, visiting}
+use Rattle.meaning.proofs.Meets.{Made, Meets}
+use Rattle.meaning.proofs.Steps.{Nothing}
+use Rattle.meaning.proofs.Visits.{stmts-meets}
 use Rattle.work.specs.Layout.{ENV-LEN}
-use Rattle.state.specs.Words.{envOf}
-use Rattle.state.specs.Runs.{Runs}
+use Rattle.state.proofs.Scoping.{runs-env-length}
 use Rattle.hex.specs.Digits.{digitsW}
 use Rattle.tree.specs.declared.Items.{Items}
 use Rattle.tree.specs.declared.Stmts.{Stmts}
@@ -51,12 +52,12 @@ use Rattle.checker.proofs.Inferring.{good}
 use Rattle.checker.proofs.Stating.{OnlyRights, Wildcards}
 
 -- ---- `bind` and `deny`
-module _ {f w w′ : List ℕ} {lhs rhs left : ℕ} {r : Done} {nd : Node} (i : IsNode f w lhs nd) (m : Described → Walk → ℕ → ℕ → Does (Unit {0})) where
+module _ {f w ou w′ ou′ : List ℕ} {lhs rhs left : ℕ} {r : Done} {nd : Node} (i : IsNode f w lhs nd) (m : Described → Walk → ℕ → ℕ → Does (Unit {0})) where
   -- By the form that was read.
-  pub bind-as : ((d : Described) (b : Walk) (c : Checker) → bindForm (d .schema) (nodesOf d) b (formOf (kindW f nd)) lhs rhs c ≡ m d b lhs rhs c) → Sides m f w lhs rhs left w′ r → Binds f w lhs rhs left w′ r
+  pub bind-as : ((d : Described) (b : Walk) (c : Checker) → bindForm (d .schema) (nodesOf d) b (formOf (kindW f nd)) lhs rhs c ≡ m d b lhs rhs c) → Sides m f w ou lhs rhs left w′ ou′ r → Binds f w ou lhs rhs left w′ ou′ r
   bind-as e S = record { is = λ d k nl nr. record { is = λ T c s u. rw (form-read s (nl .there) i, e d (below d k) c) (S .is d k nl nr .is T c s tt) } }
 
-  pub deny-as : ((d : Described) (b : Walk) (c : Checker) → denyForm (d .schema) (nodesOf d) b (formOf (kindW f nd)) lhs rhs c ≡ m d b lhs rhs c) → Sides m f w lhs rhs left w′ r → Denies f w lhs rhs left w′ r
+  pub deny-as : ((d : Described) (b : Walk) (c : Checker) → denyForm (d .schema) (nodesOf d) b (formOf (kindW f nd)) lhs rhs c ≡ m d b lhs rhs c) → Sides m f w ou lhs rhs left w′ ou′ r → Denies f w ou lhs rhs left w′ ou′ r
   deny-as e S = record { is = λ d k nl nr. record { is = λ T c s u. rw (form-read s (nl .there) i, e d (below d k) c) (S .is d k nl nr .is T c s tt) } }
 
 -- Left sides of which the binding comes later, in a binding and in a denial.
@@ -98,40 +99,40 @@ later-deny (aVariable v) h d b x y c = absurd h
 later-deny aConstant h d b x y c = absurd h
 later-deny anError h d b x y c = absurd h
 
-module _ {f w w′ : List ℕ} {lhs rhs left : ℕ} {r : Done} {nd : Node} (i : IsNode f w lhs nd) where
-  pub bind-wildcard : formOf (kindW f nd) ≡ aWildcard → Wildcards f w lhs rhs left w′ r → Binds f w lhs rhs left w′ r
+module _ {f w ou w′ ou′ : List ℕ} {lhs rhs left : ℕ} {r : Done} {nd : Node} (i : IsNode f w lhs nd) where
+  pub bind-wildcard : formOf (kindW f nd) ≡ aWildcard → Wildcards f w ou lhs rhs left w′ ou′ r → Binds f w ou lhs rhs left w′ ou′ r
   unfolding bindForm
   bind-wildcard q S = bind-as i (λ d b x y. bindWildcard (d .schema) (nodesOf d) b x y) (λ d b c. rw q refl) S
 
-  pub bind-constant : formOf (kindW f nd) ≡ aConstant → BadTargets f w lhs rhs left w′ r → Binds f w lhs rhs left w′ r
+  pub bind-constant : formOf (kindW f nd) ≡ aConstant → BadTargets f w ou lhs rhs left w′ ou′ r → Binds f w ou lhs rhs left w′ ou′ r
   unfolding bindForm
   bind-constant q S = bind-as i (λ d b x y. badTarget (d .schema) (nodesOf d) b x y) (λ d b c. rw q refl) S
 
-  pub bind-error : formOf (kindW f nd) ≡ anError → OnlyRights f w lhs rhs left w′ r → Binds f w lhs rhs left w′ r
+  pub bind-error : formOf (kindW f nd) ≡ anError → OnlyRights f w ou lhs rhs left w′ ou′ r → Binds f w ou lhs rhs left w′ ou′ r
   unfolding bindForm
   bind-error q S = bind-as i (λ d b x y. onlyRight (d .schema) (nodesOf d) b y) (λ d b c. rw q refl) S
 
-  pub bind-later : Later (formOf (kindW f nd)) → NotYets f w lhs rhs left w′ r → Binds f w lhs rhs left w′ r
+  pub bind-later : Later (formOf (kindW f nd)) → NotYets f w ou lhs rhs left w′ ou′ r → Binds f w ou lhs rhs left w′ ou′ r
   bind-later h S = bind-as i (λ d b x y. notYet (d .schema) (nodesOf d) b x y) (λ d b c. later-bind (formOf (kindW f nd)) h d b lhs rhs c) S
 
-  pub deny-constant : formOf (kindW f nd) ≡ aConstant → BadTargets f w lhs rhs left w′ r → Denies f w lhs rhs left w′ r
+  pub deny-constant : formOf (kindW f nd) ≡ aConstant → BadTargets f w ou lhs rhs left w′ ou′ r → Denies f w ou lhs rhs left w′ ou′ r
   unfolding denyForm
   deny-constant q S = deny-as i (λ d b x y. badTarget (d .schema) (nodesOf d) b x y) (λ d b c. rw q refl) S
 
-  pub deny-wildcard : formOf (kindW f nd) ≡ aWildcard → BadTargets f w lhs rhs left w′ r → Denies f w lhs rhs left w′ r
+  pub deny-wildcard : formOf (kindW f nd) ≡ aWildcard → BadTargets f w ou lhs rhs left w′ ou′ r → Denies f w ou lhs rhs left w′ ou′ r
   unfolding denyForm
   deny-wildcard q S = deny-as i (λ d b x y. badTarget (d .schema) (nodesOf d) b x y) (λ d b c. rw q refl) S
 
-  pub deny-error : formOf (kindW f nd) ≡ anError → OnlyRights f w lhs rhs left w′ r → Denies f w lhs rhs left w′ r
+  pub deny-error : formOf (kindW f nd) ≡ anError → OnlyRights f w ou lhs rhs left w′ ou′ r → Denies f w ou lhs rhs left w′ ou′ r
   unfolding denyForm
   deny-error q S = deny-as i (λ d b x y. onlyRight (d .schema) (nodesOf d) b y) (λ d b c. rw q refl) S
 
-  pub deny-later : DeniedLater (formOf (kindW f nd)) → NotYets f w lhs rhs left w′ r → Denies f w lhs rhs left w′ r
+  pub deny-later : DeniedLater (formOf (kindW f nd)) → NotYets f w ou lhs rhs left w′ ou′ r → Denies f w ou lhs rhs left w′ ou′ r
   deny-later h S = deny-as i (λ d b x y. notYet (d .schema) (nodesOf d) b x y) (λ d b c. later-deny (formOf (kindW f nd)) h d b lhs rhs c) S
 
 -- A record is taken apart where that can be done.
-module _ {f w w′ : List ℕ} {lhs rhs left : ℕ} {r : Done} {l : Items} (i : IsNode f w lhs (Node.Record l)) {b : Bool} (D : Asks f w lhs b) where
-  pub bind-apart : b ≡ true → Destructures f w lhs rhs left w′ r → Binds f w lhs rhs left w′ r
+module _ {f w ou w′ ou′ : List ℕ} {lhs rhs left : ℕ} {r : Done} {l : Items} (i : IsNode f w lhs (Node.Record l)) {b : Bool} (D : Asks f w lhs b) where
+  pub bind-apart : b ≡ true → Destructures f w ou lhs rhs left w′ ou′ r → Binds f w ou lhs rhs left w′ ou′ r
   unfolding kindW formOf bindForm
   bind-apart e S = record {
     is = λ d k nl nr. record {
@@ -140,7 +141,7 @@ module _ {f w w′ : List ℕ} {lhs rhs left : ℕ} {r : Done} {l : Items} (i : 
     };
   }
 
-  pub bind-whole : b ≡ false → NotYets f w lhs rhs left w′ r → Binds f w lhs rhs left w′ r
+  pub bind-whole : b ≡ false → NotYets f w ou lhs rhs left w′ ou′ r → Binds f w ou lhs rhs left w′ ou′ r
   unfolding kindW formOf bindForm
   bind-whole e S = record {
     is = λ d k nl nr. record {
@@ -150,24 +151,24 @@ module _ {f w w′ : List ℕ} {lhs rhs left : ℕ} {r : Done} {l : Items} (i : 
   }
 
 -- A variable, introduced before the right side is inferred.
-module _ {f w w′ : List ℕ} {lhs rhs left x : ℕ} {r : Done} (i : IsNode f w lhs (Node.Var x)) (B : BindsVariable f w x lhs rhs left w′ r) where
-  pub bind-variable : Binds f w lhs rhs left w′ r
+module _ {f w ou w′ ou′ : List ℕ} {lhs rhs left x : ℕ} {r : Done} (i : IsNode f w lhs (Node.Var x)) (B : BindsVariable f w ou x lhs rhs left w′ ou′ r) where
+  pub bind-variable : Binds f w ou lhs rhs left w′ ou′ r
   unfolding kindW formOf bindForm
   bind-variable = record { is = λ d k nl nr. record { is = λ T c s u. rw (form-read s (nl .there) i) (B .is (name-small (s .sound) (nl .there) (kind-read s (nl .there) i)) .is d k nl nr .is T c s tt) } }
 
-  pub deny-variable : Denies f w lhs rhs left w′ r
+  pub deny-variable : Denies f w ou lhs rhs left w′ ou′ r
   unfolding kindW formOf denyForm
   deny-variable = record { is = λ d k nl nr. record { is = λ T c s u. rw (form-read s (nl .there) i) (B .is (name-small (s .sound) (nl .there) (kind-read s (nl .there) i)) .is d k nl nr .is T c s tt) } }
 
 -- ---- `stmt`
-generated : {f w w′ : List ℕ} {left : ℕ} {r : Typed} (n : ℕ) → Generates f w n left w′ r → (d : Described) (k : ℕ) → Named d k n → (T : Rows) (c : Checker) → Begins f w T d (visits (nodesOf d) k (n ∷ [])) left c
-    → Ends f w w′ T d (visits (nodesOf d) k (n ∷ []) .records) (visits (nodesOf d) k (n ∷ []) .fields) (done (onlyW r)) (generate (d .schema) (nodesOf d) (below d k) n c)
+generated : {f w ou w′ ou′ : List ℕ} {left : ℕ} {r : Typed} (n : ℕ) → Generates f w ou n left w′ ou′ r → (d : Described) (k : ℕ) → Named d k n → (T : Rows) (c : Checker) → Begins f w ou T d (visits (nodesOf d) k (n ∷ [])) left c
+    → Ends f w ou w′ ou′ T d (visits (nodesOf d) k (n ∷ []) .records) (visits (nodesOf d) k (n ∷ []) .fields) (done (onlyW r)) (generate (d .schema) (nodesOf d) (below d k) n c)
 unfolding generate sumOf
 generated n G d k named T c s = ends-wider (omega arith) (omega arith) (only-ends (below d k .generator n c)
     (G .is d k named .is T c (begins-part (infers (nodesOf d) k n) (visits (nodesOf d) k (n ∷ [])) (record { grade = omega arith; records = omega arith; fields = omega arith }) s) tt))
 
-module _ {f w w′ : List ℕ} {at under left : ℕ} where
-  pub stmt-implicit : {n : ℕ} {r : Typed} → stmtW f at under ≡ Stmt.Implicit n → Generates f w n left w′ r → States f w at under left w′ (onlyW r)
+module _ {f w ou w′ ou′ : List ℕ} {at under left : ℕ} where
+  pub stmt-implicit : {n : ℕ} {r : Typed} → stmtW f at under ≡ Stmt.Implicit n → Generates f w ou n left w′ ou′ r → States f w ou at under left w′ ou′ (onlyW r)
   unfolding stmt stmtNodes
   stmt-implicit {n} e G = record {
     is = λ d k s q named. record {
@@ -176,7 +177,7 @@ module _ {f w w′ : List ℕ} {at under left : ℕ} where
     };
   }
 
-  pub stmt-negation : {n : ℕ} {r : Typed} → stmtW f at under ≡ Stmt.Negation n → Generates f w n left w′ r → States f w at under left w′ (onlyW r)
+  pub stmt-negation : {n : ℕ} {r : Typed} → stmtW f at under ≡ Stmt.Negation n → Generates f w ou n left w′ ou′ r → States f w ou at under left w′ ou′ (onlyW r)
   unfolding stmt stmtNodes
   stmt-negation {n} e G = record {
     is = λ d k s q named. record {
@@ -185,7 +186,7 @@ module _ {f w w′ : List ℕ} {at under left : ℕ} where
     };
   }
 
-  pub stmt-bind : {x y : ℕ} {r : Done} → stmtW f at under ≡ Stmt.Bind x y → Binds f w x y left w′ r → States f w at under left w′ r
+  pub stmt-bind : {x y : ℕ} {r : Done} → stmtW f at under ≡ Stmt.Bind x y → Binds f w ou x y left w′ ou′ r → States f w ou at under left w′ ou′ r
   unfolding stmt stmtNodes
   stmt-bind {x} {y} e B = record {
     is = λ d k s q named. record {
@@ -194,7 +195,7 @@ module _ {f w w′ : List ℕ} {at under left : ℕ} where
     };
   }
 
-  pub stmt-deny : {x y : ℕ} {r : Done} → stmtW f at under ≡ Stmt.Deny x y → Denies f w x y left w′ r → States f w at under left w′ r
+  pub stmt-deny : {x y : ℕ} {r : Done} → stmtW f at under ≡ Stmt.Deny x y → Denies f w ou x y left w′ ou′ r → States f w ou at under left w′ ou′ r
   unfolding stmt stmtNodes
   stmt-deny {x} {y} e B = record {
     is = λ d k s q named. record {
@@ -203,7 +204,7 @@ module _ {f w w′ : List ℕ} {at under left : ℕ} where
     };
   }
 
-  pub stmt-compare : {x y : ℕ} {r : Done} → stmtW f at under ≡ Stmt.Compare x y → Compares f w x y left w′ r → States f w at under left w′ r
+  pub stmt-compare : {x y : ℕ} {r : Done} → stmtW f at under ≡ Stmt.Compare x y → Compares f w ou x y left w′ ou′ r → States f w ou at under left w′ ou′ r
   unfolding stmt stmtNodes
   stmt-compare {x} {y} e B = record {
     is = λ d k s q named. record {
@@ -231,11 +232,11 @@ stmt-sum (QueryStmt.Negation e) ss g = omega arith
 
 stmt-fits : (d : Described) (k : ℕ) (s : QueryStmt) (ss : List QueryStmt) → Holds (both (visits (nodesOf d) k (stmtNodes (s ∷ []))) (visits (nodesOf d) k (stmtNodes ss))) (visits (nodesOf d) k (stmtNodes (s ∷ ss)))
 stmt-fits d k s ss =
-    let size = stmt-sum s ss (λ n. Run.size (nodesOf d) k n) in
+    let size = stmt-sum s ss (λ n. Weights.size (nodesOf d) k n) in
     record {
-      grade = record { nodes = λ x. omega (arith, stmt-sum s ss (λ n. Run.weight (nodesOf d) (λ m. Run.same x m) k n)); unknowns = omega (arith, size); diagnostics = omega (arith, size) };
-      records = omega (arith, stmt-sum s ss (λ n. Run.records (nodesOf d) k n));
-      fields = omega (arith, stmt-sum s ss (λ n. Run.recordFields (nodesOf d) k n));
+      grade = record { nodes = λ x. omega (arith, stmt-sum s ss (λ n. Weights.weight (nodesOf d) (λ m. Weights.same x m) k n)); unknowns = omega (arith, size); diagnostics = omega (arith, size) };
+      records = omega (arith, stmt-sum s ss (λ n. Weights.records (nodesOf d) k n));
+      fields = omega (arith, stmt-sum s ss (λ n. Weights.recordFields (nodesOf d) k n));
     }
 
 andThen-unit : (m : Step (Unit {0})) → andThen m (λ u b. goes tt b) ≡ m
@@ -249,39 +250,39 @@ saying d k s = stmt (d .schema) (nodesOf d) (below d k) s
 abbrev pub sayingAll : Described → ℕ → List QueryStmt → Does (Unit {0})
 sayingAll d k ss = stmts (d .schema) (nodesOf d) (below d k) ss
 
-stmt-meets : {f w : List ℕ} {T : Rows} {d : Described} {L : Load} {left : ℕ} {c : Checker} → Begins f w T d L left c → (k : ℕ) (s : QueryStmt) → Ready (visiting (nodesOf d) k (stmtNodes (s ∷ []))) c
+stmt-meets : {f w ou : List ℕ} {T : Rows} {d : Described} {L : Load} {left : ℕ} {c : Checker} → Begins f w ou T d L left c → (k : ℕ) (s : QueryStmt) → Ready (visiting (nodesOf d) k (stmtNodes (s ∷ []))) c
     → Meets Nothing (visiting (nodesOf d) k (stmtNodes (s ∷ []))) c (saying d k s c)
 unfolding stmts
 stmt-meets {d = d} {c = c} b k s y = rw (← andThen-unit (saying d k s c)) (stmts-meets (d .schema) (nodesOf d) (b .sound .predicates) k (below d k) (good b k) (s ∷ []) c (b .orderly) y)
 
-module _ {f w₀ w : List ℕ} {T : Rows} {d : Described} {K : Load} {rest : ℕ} {c : Checker} {whole : Step (Unit {0})} (k : ℕ) where
-  stmts-done : Midway f w₀ w T d K (visits (nodesOf d) k (stmtNodes [])) rest c whole (sayingAll d k []) → Ends f w₀ w T d (K .records) (K .fields) (done (Done.On rest)) whole
+module _ {f w₀ ou₀ w ou : List ℕ} {T : Rows} {d : Described} {K : Load} {rest : ℕ} {c : Checker} {whole : Step (Unit {0})} (k : ℕ) where
+  stmts-done : Midway f w₀ ou₀ w ou T d K (visits (nodesOf d) k (stmtNodes [])) rest c whole (sayingAll d k []) → Ends f w₀ ou₀ w ou T d (K .records) (K .fields) (done (Done.On rest)) whole
   unfolding stmts
-  stmts-done M = mid-ends M (on-here (M .begins .runs) (M .begins .visits))
+  stmts-done M = mid-ends M (on-here (M .begins .runs) (M .begins .lines) (M .begins .visits))
 
-  module _ {w′ : List ℕ} {at under : ℕ} {r : Done} (s : QueryStmt) (ss : List QueryStmt) (M : Midway f w₀ w T d K (visits (nodesOf d) k (stmtNodes (s ∷ ss))) rest c whole (sayingAll d k (s ∷ ss)))
-      (named : AllNamed d k (stmtNodes (s ∷ []))) (q : s ≡ statement (stmtW f at under)) (S : States f w at under rest w′ r) where
-    stmts-on : {l : ℕ} → r ≡ Done.On l → Midway f w₀ w′ T d K (visits (nodesOf d) k (stmtNodes ss)) l c whole (sayingAll d k ss)
+  module _ {w′ ou′ : List ℕ} {at under : ℕ} {r : Done} (s : QueryStmt) (ss : List QueryStmt) (M : Midway f w₀ ou₀ w ou T d K (visits (nodesOf d) k (stmtNodes (s ∷ ss))) rest c whole (sayingAll d k (s ∷ ss)))
+      (named : AllNamed d k (stmtNodes (s ∷ []))) (q : s ≡ statement (stmtW f at under)) (S : States f w ou at under rest w′ ou′ r) where
+    stmts-on : {l : ℕ} → r ≡ Done.On l → Midway f w₀ ou₀ w′ ou′ T d K (visits (nodesOf d) k (stmtNodes ss)) l c whole (sayingAll d k ss)
     unfolding stmts
     stmts-on {l} g =
         let L = mid-led M (visits (nodesOf d) k (stmtNodes (s ∷ []))) (visits (nodesOf d) k (stmtNodes ss)) (stmt-fits d k s ss) Nothing (saying d k s (M .b)) (λ o. clash (cc (g, o)))
         (λ y. stmt-meets (M .begins) k s y) (λ b. S .is d k s q named .is (M .T₁) (M .b) b tt) in
         mid-after M (visits (nodesOf d) k (stmtNodes (s ∷ []))) (visits (nodesOf d) k (stmtNodes ss)) (stmt-fits d k s ss) Nothing (saying d k s (M .b)) L (λ u. sayingAll d k ss) l refl (cc (g, L .gone .is))
 
-    stmts-stop : r ≡ Done.Out → Ends f w₀ w′ T d (K .records) (K .fields) (done Done.Out) whole
+    stmts-stop : r ≡ Done.Out → Ends f w₀ ou₀ w′ ou′ T d (K .records) (K .fields) (done Done.Out) whole
     unfolding stmts
     stmts-stop g = mid-ends M (stop-done (visits (nodesOf d) k (stmtNodes (s ∷ []))) (visits (nodesOf d) k (stmtNodes ss)) (visits (nodesOf d) k (stmtNodes (s ∷ ss))) (stmt-fits d k s ss) Nothing (saying d k s (M .b))
         (λ u. sayingAll d k ss) g refl (M .begins) (λ b. S .is d k s q named .is (M .T₁) (M .b) b tt))
 
 -- The number of statements is bounded by the digits up to the end.
-pub record StmtsGoing (f w₀ : List ℕ) (body : Stmts) (left : ℕ) (w : List ℕ) (at rest : ℕ) : Type 0 where
+pub record StmtsGoing (f w₀ ou₀ : List ℕ) (body : Stmts) (left : ℕ) (w ou : List ℕ) (at rest : ℕ) : Type 0 where
   pub fuel : ℕ
   pub enough : body .end ≤ at + fuel
   pub named : (d : Described) (k : ℕ) → AllNamed d k (stmtNodes (stmtsW f body)) → AllNamed d k (stmtNodes (stmtsFrom fuel f at (body .end) (body .below)))
-  pub to : (d : Described) (k : ℕ) (ss : List QueryStmt) → ss ≡ stmtsW f body → AllNamed d k (stmtNodes ss) → (T : Rows) (c : Checker) → Begins f w₀ T d (visits (nodesOf d) k (stmtNodes ss)) left c
-      → Midway f w₀ w T d (visits (nodesOf d) k (stmtNodes ss)) (visits (nodesOf d) k (stmtNodes (stmtsFrom fuel f at (body .end) (body .below)))) rest c (sayingAll d k ss c) (sayingAll d k (stmtsFrom fuel f at (body .end) (body .below)))
+  pub to : (d : Described) (k : ℕ) (ss : List QueryStmt) → ss ≡ stmtsW f body → AllNamed d k (stmtNodes ss) → (T : Rows) (c : Checker) → Begins f w₀ ou₀ T d (visits (nodesOf d) k (stmtNodes ss)) left c
+      → Midway f w₀ ou₀ w ou T d (visits (nodesOf d) k (stmtNodes ss)) (visits (nodesOf d) k (stmtNodes (stmtsFrom fuel f at (body .end) (body .below)))) rest c (sayingAll d k ss c) (sayingAll d k (stmtsFrom fuel f at (body .end) (body .below)))
 
-pub stmts-start : (f w : List ℕ) (body : Stmts) (left : ℕ) → StmtsGoing f w body left w (body .at) left
+pub stmts-start : (f w : List ℕ) {ou : List ℕ} (body : Stmts) (left : ℕ) → StmtsGoing f w ou body left w ou (body .at) left
 unfolding stmtsW
 stmts-start f w body left = record {
   fuel = body .end;
@@ -308,11 +309,11 @@ size-some f at = go (eqb (digitsW f at) 1) (eqb (digitsW f at) 2)
     go false true = omega arith
     go false false = omega arith
 
-module _ {f w₀ w : List ℕ} {body : Stmts} {left at rest : ℕ} (A : StmtsGoing f w₀ body left w at rest) where
-  pub stmts-end : body .end ≤ at → StatesAll f w₀ body left w (Done.On rest)
+module _ {f w₀ ou₀ w ou : List ℕ} {body : Stmts} {left at rest : ℕ} (A : StmtsGoing f w₀ ou₀ body left w ou at rest) where
+  pub stmts-end : body .end ≤ at → StatesAll f w₀ ou₀ body left w ou (Done.On rest)
   stmts-end h = record { is = λ d k ss q named. record { is = λ T c s u. stmts-done k (rw (from-none (A .fuel) f at (body .end) (body .below) h) at (A .to d k ss q named T c s)) } }
 
-  module _ (h : at < body .end) {w′ : List ℕ} {r : Done} (S : States f w at (body .below) rest w′ r) where
+  module _ (h : at < body .end) {w′ ou′ : List ℕ} {r : Done} (S : States f w ou at (body .below) rest w′ ou′ r) where
     abbrev less : ℕ
     less = A .fuel - 1
 
@@ -323,7 +324,7 @@ module _ {f w₀ w : List ℕ} {body : Stmts} {left at rest : ℕ} (A : StmtsGoi
         → AllNamed d k (stmtNodes (statement (stmtW f at (body .below)) ∷ [])) × AllNamed d k (stmtNodes (stmtsFrom less f (at + stmtSizeW f at) (body .end) (body .below)))
     both-named d k all = stmt-nodes (statement (stmtW f at (body .below))) (stmtsFrom less f (at + stmtSizeW f at) (body .end) (body .below)) (Named d k) (rw first-rest at (A .named d k all))
 
-    pub stmts-out : r ≡ Done.Out → StatesAll f w₀ body left w′ Done.Out
+    pub stmts-out : r ≡ Done.Out → StatesAll f w₀ ou₀ body left w′ ou′ Done.Out
     stmts-out g = record {
       is = λ d k ss q named. record {
         is = λ T c s u.
@@ -331,7 +332,7 @@ module _ {f w₀ w : List ℕ} {body : Stmts} {left at rest : ℕ} (A : StmtsGoi
       };
     }
 
-    pub stmts-next : {left′ : ℕ} → r ≡ Done.On left′ → StmtsGoing f w₀ body left w′ (at + stmtSizeW f at) left′
+    pub stmts-next : {left′ : ℕ} → r ≡ Done.On left′ → StmtsGoing f w₀ ou₀ body left w′ ou′ (at + stmtSizeW f at) left′
     stmts-next g = record {
       fuel = less;
       enough = omega (arith, A .enough, size-some f at);
@@ -347,16 +348,8 @@ subquery-fits d k q = record { grade = omega arith; records = omega arith; field
 pub made-env : (g : Grade) (c c′ : Checker) → Made g c c′ → length (c .env) ≤ length (c′ .env)
 made-env g c c′ m = omega (arith, ap length (m .env) ∙ length-append (m .pushed) (c .env))
 
-env-length : (w : List ℕ) (n : ℕ) → length (envOf w n) ≡ n
-unfolding envOf
-env-length w zero = refl
-env-length w (suc n) = ap suc (env-length w n)
-
-pub scope-is : {f w : List ℕ} {T : Rows} {d : Described} {c : Checker} → Runs f w T d c → length (c .env) ≡ getD w ENV-LEN 0
-scope-is {w = w} r = ap length (r .env) ∙ env-length w (getD w ENV-LEN 0)
-
-module _ {f w w₁ : List ℕ} {head left : ℕ} {body : Stmts} {x : Done} (D : StatesAll f w body left w₁ x) where
-  pub subquery-out : x ≡ Done.Out → Subqueries f w head body left w₁ Typed.Out
+module _ {f w ou w₁ ou₁ : List ℕ} {head left : ℕ} {body : Stmts} {x : Done} (D : StatesAll f w ou body left w₁ ou₁ x) where
+  pub subquery-out : x ≡ Done.Out → Subqueries f w ou head body left w₁ ou₁ Typed.Out
   unfolding subquery envLen exprNodes queryNodes
   subquery-out g = record {
     is = λ d k q e named. record {
@@ -368,10 +361,10 @@ module _ {f w w₁ : List ℕ} {head left : ℕ} {body : Stmts} {x : Done} (D : 
   }
 
   module _ {l : ℕ} (g : x ≡ Done.On l) where
-    subquery-then : {w₃ : List ℕ} {r : Typed}
-        → ((d : Described) (k : ℕ) → Named d k head → (T₁ : Rows) (c b : Checker) → length (c .env) ≡ getD w ENV-LEN 0 → length (c .env) ≤ length (b .env) → Begins f w₁ T₁ d (infers (nodesOf d) k head) l b
-        → Ends f w₁ w₃ T₁ d (infers (nodesOf d) k head .records) (infers (nodesOf d) k head .fields) (typed w₃ r) (andThen (below d k .infer head b) (λ ty e. andThen (truncateEnv (length (c .env)) e) (λ u z. goes ty z))))
-        → Subqueries f w head body left w₃ r
+    subquery-then : {w₃ ou₃ : List ℕ} {r : Typed}
+        → ((d : Described) (k : ℕ) → Named d k head → (T₁ : Rows) (c b : Checker) → length (c .env) ≡ getD w ENV-LEN 0 → length (c .env) ≤ length (b .env) → Begins f w₁ ou₁ T₁ d (infers (nodesOf d) k head) l b
+        → Ends f w₁ ou₁ w₃ ou₃ T₁ d (infers (nodesOf d) k head .records) (infers (nodesOf d) k head .fields) (typed w₃ r) (andThen (below d k .infer head b) (λ ty e. andThen (truncateEnv (length (c .env)) e) (λ u z. goes ty z))))
+        → Subqueries f w ou head body left w₃ ou₃ r
     unfolding subquery envLen exprNodes queryNodes
     subquery-then next = record {
       is = λ d k q e named. record {
@@ -380,15 +373,18 @@ module _ {f w w₁ : List ℕ} {head left : ℕ} {body : Stmts} {x : Done} (D : 
             then-done (visits (nodesOf d) k (stmtNodes (q .body))) (infers (nodesOf d) k (q .head)) (parts (nodesOf d) k (ExprKind.Subquery q)) (subquery-fits d k q) Nothing (sayingAll d k (q .body) c)
             (λ u b. andThen (below d k .infer (q .head) b) (λ ty e. andThen (truncateEnv (length (c .env)) e) (λ u z. goes ty z))) g s
             (λ y. stmts-meets (d .schema) (nodesOf d) (s .sound .predicates) k (below d k) (good s k) (q .body) c (s .orderly) y) (λ s₁. D .is d k (q .body) (ap (λ z. z .body) e) (named .1) .is T c s₁ tt)
-            (λ T₁ b a. rw h (next d k (rw h at (named .0)) T₁ c b (scope-is (s .runs)) (made-env _ c b (a .made)) (rw h at (a .begins))));
+            (λ T₁ b a. rw h (next d k (rw h at (named .0)) T₁ c b (runs-env-length (s .runs)) (made-env _ c b (a .made)) (rw h at (a .begins))));
       };
     }
 
-    pub subquery-ends : {scope : ℕ} {w₂ w₃ : List ℕ} (r : Typed) → Infers f w₁ head l w₂ r → scope ≡ getD w ENV-LEN 0 → Cuts f w₂ scope w₃ → Subqueries f w head body left w₃ r
-    subquery-ends (Typed.Got t v) I z C = subquery-then (λ d k nh T₁ c b len up s₁.
+    pub subquery-ends : {scope : ℕ} {w₂ ou₂ w₃ ou₃ : List ℕ} {r : Typed} {t : Ty} {v : ℕ} → Infers f w₁ ou₁ head l w₂ ou₂ r → r ≡ Typed.Got t v → scope ≡ getD w ENV-LEN 0 → Cuts f w₂ ou₂ scope w₃ ou₃
+        → Subqueries f w ou head body left w₃ ou₃ (Typed.Got t v)
+    subquery-ends {t = t} {v} I got z C = subquery-then (λ d k nh T₁ c b len up s₁.
         then-typed (infers (nodesOf d) k head) (only no-thing) (infers (nodesOf d) k head) (record { grade = omega arith; records = omega arith; fields = omega arith }) (below d k .infer head b)
-        (λ ty e. andThen (truncateEnv (length (c .env)) e) (λ u z. goes ty z)) refl s₁ (λ y. good s₁ k .infer head b (s₁ .orderly) y) (λ s₂. I .is d k nh .is T₁ b s₂ tt)
+        (λ ty e. andThen (truncateEnv (length (c .env)) e) (λ u z. goes ty z)) got s₁ (λ y. good s₁ k .infer head b (s₁ .orderly) y) (λ s₂. I .is d k nh .is T₁ b s₂ tt)
         (λ T₂ e a fine. silent-typed t (fine .ok) (rw (len ∙ sym z) (C d v .is T₂ e (a .begins) (omega (arith, len, z, up, made-env _ b e (a .made)))))))
-    subquery-ends Typed.Out I z C = subquery-then (λ d k nh T₁ c b len up s₁.
+
+    pub subquery-head-out : {w₂ ou₂ : List ℕ} {r : Typed} → Infers f w₁ ou₁ head l w₂ ou₂ r → r ≡ Typed.Out → Subqueries f w ou head body left w₂ ou₂ Typed.Out
+    subquery-head-out I none = subquery-then (λ d k nh T₁ c b len up s₁.
         stop-typed (infers (nodesOf d) k head) (only no-thing) (infers (nodesOf d) k head) (record { grade = omega arith; records = omega arith; fields = omega arith }) (below d k .infer head b)
-        (λ ty e. andThen (truncateEnv (length (c .env)) e) (λ u z. goes ty z)) refl refl s₁ (λ s₂. I .is d k nh .is T₁ b s₂ tt))
+        (λ ty e. andThen (truncateEnv (length (c .env)) e) (λ u z. goes ty z)) none refl s₁ (λ s₂. I .is d k nh .is T₁ b s₂ tt))

@@ -10,8 +10,9 @@ use Rattle.meaning.specs.Syntax.{Field, ExprKind}
 use Rattle.meaning.specs.References.{fieldValues, exprNodes}
 use Rattle.meaning.specs.File.{Described}
 use Rattle.meaning.specs.Check.{Checker, Step, goes, out, Does, andThen, inferFields, inferKind}
-use Rattle.meaning.specs.Run.{sumOf, records, recordsOf, recordFields, fieldsOf}
-use Rattle.meaning.proofs.Visits.{visiting, size-pos}
+use Rattle.meaning.specs.Weights.{sumOf, records, recordsOf, recordFields, fieldsOf}
+use Rattle.meaning.specs.Grades.{visiting}
+use Rattle.meaning.proofs.Visits.{size-pos}
 use Rattle.steps.specs.Loads.{Load, both, Holds, infers, parts}
 use Rattle.steps.specs.Contracts.{nodesOf}
 use Rattle.checker.specs.Contracts.{below}

@@ -14,7 +14,9 @@ use Rattle.cells.specs.Words.{annotateW, freshW}
 use Rattle.meaning.specs.Syntax.{FieldRef}
 use Rattle.meaning.specs.Check as Check
 use Rattle.state.specs.declared.Code.{Code}
-use Rattle.state.specs.Words.{codeOf, rejectW}
+use Rattle.state.specs.declared.Code.the-variants as Code
+use Rattle.state.specs.Lines.{Rejected}
+use Rattle.state.specs.Words.{codeOf}
 use Rattle.tree.specs.declared.Node.{Node}
 use Rattle.tree.specs.declared.Items.{Items}
 use Rattle.tree.specs.declared.Field.{Field}
@@ -25,7 +27,7 @@ use Rattle.tree.proofs.Steps.{field-lower, item-lower, LowerStmt, stmt-lower}
 use Rattle.steps.specs.declared.Typed.{Typed}
 use Rattle.steps.specs.declared.Done.{Done}
 use Rattle.steps.specs.Contracts.{nodesOf, Rejects, Notes, Freshens, Reports, RollsTo, Cuts, Fuzzes, KeyIs, OnType}
-use Rattle.steps.specs.Outside.{reportCode, keyTyW, fuzzyDistanceW, fuzzyTermW, Rewinds, KeyOf, ValueOf}
+use Rattle.steps.specs.Outside.{reportCode, keyTyW, RejectedIf, farW, longW, Rewinds, KeyOf, ValueOf}
 use Rattle.steps.proofs.Ending.{rejects, notes, freshens}
 use Rattle.steps.proofs.Looking.{key-is}
 use Rattle.steps.proofs.Besides.{reports, rolls, cuts, fuzzes}
@@ -35,43 +37,41 @@ use Rattle.checker.proofs.Alls.{Turn}
 pub as-node : {f w : List ℕ} {n : ℕ} {r nd : Node} → r ≡ nd → IsNode f w n r → IsNode f w n nd
 as-node {f} {w} {n} e i = subst (λ (x : Node). IsNode f w n x) e i
 
-pub rejects-by : {f w w′ : List ℕ} {n left : ℕ} (code : Code) → w′ ≡ rejectW w n code → Rejects f w n (codeOf code) left w′
-rejects-by {f} {w} {w′} {n} {left} code e = subst (λ (v : List ℕ). Rejects f w n (codeOf code) left v) (sym e) (rejects f w n code left)
+pub rejects-by : {f w ou w′ ou′ : List ℕ} {n left : ℕ} (code : Code) → Rejected f w ou n code w′ ou′ → Rejects f w ou n (codeOf code) left w′ ou′
+rejects-by {f} {w} {n = n} {left = left} code x = rejects f w n code left x
 
-pub notes-by : {f w w′ : List ℕ} {n left : ℕ} {t : Ty} → w′ ≡ annotateW w n t → Notes f w n t left w′
-notes-by {f} {w} {w′} {n} {left} {t} e = subst (λ (v : List ℕ). Notes f w n t left v) (sym e) (notes f w n t left)
+pub notes-by : {f w ou w′ : List ℕ} {n left : ℕ} {t : Ty} → w′ ≡ annotateW w n t → Notes f w ou n t left w′ ou
+notes-by {f} {w} {ou} {w′} {n} {left} {t} e = subst (λ (v : List ℕ). Notes f w ou n t left v ou) (sym e) (notes f w n t left)
 
-pub freshens-by : {f w w′ : List ℕ} {left x : ℕ} → (x ≡ getD w UNKNOWNS 0) × (w′ ≡ freshW w) → Freshens f w left w′ x
-freshens-by {f} {w} {w′} {left} {x} e =
-    subst (λ (v : List ℕ). Freshens f w left v x) (sym (e .1)) (subst (λ (y : ℕ). Freshens f w left (freshW w) y) (sym (e .0)) (freshens f w left))
+pub freshens-by : {f w ou w′ : List ℕ} {left x : ℕ} → (x ≡ getD w UNKNOWNS 0) × (w′ ≡ freshW w) → Freshens f w ou left w′ ou x
+freshens-by {f} {w} {ou} {w′} {left} {x} e =
+    subst (λ (v : List ℕ). Freshens f w ou left v ou x) (sym (e .1)) (subst (λ (y : ℕ). Freshens f w ou left (freshW w) ou y) (sym (e .0)) (freshens f w left))
 
-pub reports-by : {f w w′ : List ℕ} {n left : ℕ} (err : TyError) → w′ ≡ rejectW w n (reportCode err) → Reports f w n err left w′
-reports-by {f} {w} {w′} {n} {left} err e = subst (λ (v : List ℕ). Reports f w n err left v) (sym e) (reports f w n err left)
+pub reports-by : {f w ou w′ ou′ : List ℕ} {n left : ℕ} (err : TyError) → Rejected f w ou n (reportCode err) w′ ou′ → Reports f w ou n err left w′ ou′
+reports-by {f} {w} {n = n} {left = left} err x = reports f w n err left x
 
-pub rolls-by : {f w w′ : List ℕ} {undo env u e : ℕ} → undo ≡ u → env ≡ e → Rewinds w undo env w′ → RollsTo f w u e w′
-rolls-by {f} {w} {w′} {undo} {env} {u} {e} p q r =
-    subst (λ (x : ℕ). RollsTo f w x e w′) p (subst (λ (x : ℕ). RollsTo f w undo x w′) q (rolls f w r))
+pub rolls-by : {f w ou w′ : List ℕ} {undo env u e : ℕ} → undo ≡ u → env ≡ e → Rewinds w undo env w′ → RollsTo f w ou u e w′ ou
+rolls-by {f} {w} {ou} {w′} {undo} {env} {u} {e} p q r =
+    subst (λ (x : ℕ). RollsTo f w ou x e w′ ou) p (subst (λ (x : ℕ). RollsTo f w ou undo x w′ ou) q (rolls f w r))
 
-pub cuts-by : {f w w′ : List ℕ} {scope : ℕ} → w′ ≡ set w ENV-LEN scope → Cuts f w scope w′
-cuts-by {f} {w} {w′} {scope} e = subst (λ (v : List ℕ). Cuts f w scope v) (sym e) (cuts f w scope)
+pub cuts-by : {f w ou w′ : List ℕ} {scope : ℕ} → w′ ≡ set w ENV-LEN scope → Cuts f w ou scope w′ ou
+cuts-by {f} {w} {ou} {w′} {scope} e = subst (λ (v : List ℕ). Cuts f w ou scope v ou) (sym e) (cuts f w scope)
 
-pub fuzzes-by : {f w w₁ w₂ : List ℕ} {n left : ℕ} (term distance : ℕ) → w₁ ≡ fuzzyDistanceW w n distance → w₂ ≡ fuzzyTermW w₁ n term → Fuzzes f w n term distance left w₂
-fuzzes-by {f} {w} {w₁} {w₂} {n} {left} term distance p q =
-    subst (λ (v : List ℕ). Fuzzes f w n term distance left v) (sym q)
-    (subst (λ (v : List ℕ). Fuzzes f w n term distance left (fuzzyTermW v n term)) (sym p) (fuzzes f w n term distance left))
+pub fuzzes-by : {f w ou w₁ ou₁ w₂ ou₂ : List ℕ} {n left : ℕ} (term distance : ℕ) → RejectedIf f w ou n Code.RejectFuzzyDistance w₁ ou₁ (farW w distance) → RejectedIf f w₁ ou₁ n Code.RejectFuzzyTerm w₂ ou₂ (longW w₁ term) → Fuzzes f w ou n term distance left w₂ ou₂
+fuzzes-by {f} {w} {n = n} {left = left} term distance p q = fuzzes f w n term distance left p q
 
 pub key-by : {f w : List ℕ} {p : ℕ} {r : Bound} → r ≡ keyTyW w p → KeyIs f w p r
 key-by {f} {w} {p} e = subst (λ (b : Bound). KeyIs f w p b) (sym e) (key-is f w p)
 
 -- ---- An access by its field
-pub key-on : {f w w′ : List ℕ} {n left : ℕ} {t : Ty} {r : Typed} (name : ℕ) → KeyOf w n name t left w′ r
-    → OnType (λ d ty. Check.accessOf (d .schema) (nodesOf d) n (FieldRef.Key name) ty) f w n t left w′ r
+pub key-on : {f w ou w′ ou′ : List ℕ} {n left : ℕ} {t : Ty} {r : Typed} (name : ℕ) → KeyOf f w ou n name t left w′ ou′ r
+    → OnType (λ d ty. Check.accessOf (d .schema) (nodesOf d) n (FieldRef.Key name) ty) f w ou n t left w′ ou′ r
 unfolding Check.accessOf
-key-on {f} name k = k .is f
+key-on name k = k
 
-pub value-on : {f w w′ : List ℕ} {n left : ℕ} {t : Ty} {r : Typed} → ValueOf w n t left w′ r → OnType (λ d ty. Check.accessOf (d .schema) (nodesOf d) n FieldRef.Value ty) f w n t left w′ r
+pub value-on : {f w ou w′ ou′ : List ℕ} {n left : ℕ} {t : Ty} {r : Typed} → ValueOf f w ou n t left w′ ou′ r → OnType (λ d ty. Check.accessOf (d .schema) (nodesOf d) n FieldRef.Value ty) f w ou n t left w′ ou′ r
 unfolding Check.accessOf
-value-on {f} v = v .is f
+value-on v = v
 
 -- ---- Parts read from the file
 pub item-falls : (f : List ℕ) (l : Items) (i : ℕ) {e : ℕ} → (0 < l .n → 0 < l .below) → i < l .n → e ≡ itemW f l i → e < l .below
@@ -83,20 +83,20 @@ field-falls f l i some h q = rw q (field-lower f l i (some (omega arith)))
 pub stmt-falls : (f : List ℕ) (at : ℕ) {n : ℕ} {s s′ : Stmt} → 0 < n → s ≡ stmtW f at n → s ≡ s′ → LowerStmt n s′
 stmt-falls f at {n} h p q = subst (λ (x : Stmt). LowerStmt n x) (sym p ∙ q) (stmt-lower f at n h)
 
-pub turn-at : {f w w′ : List ℕ} {e x left : ℕ} {t : Ty} {r : Done} → e ≡ x → Turn f w e t left w′ r → Turn f w x t left w′ r
-turn-at {f} {w} {w′} {left = left} {t = t} {r = r} q u = subst (λ (y : ℕ). Turn f w y t left w′ r) q u
+pub turn-at : {f w ou w′ ou′ : List ℕ} {e x left : ℕ} {t : Ty} {r : Done} → e ≡ x → Turn f w ou e t left w′ ou′ r → Turn f w ou x t left w′ ou′ r
+turn-at {f} {w} {ou} {w′} {ou′} {left = left} {t = t} {r = r} q u = subst (λ (y : ℕ). Turn f w ou y t left w′ ou′ r) q u
 
-pub generates-at : {f w w′ : List ℕ} {e x left : ℕ} {r : Typed} → e ≡ x → Generates f w e left w′ r → Generates f w x left w′ r
-generates-at {f} {w} {w′} {left = left} {r = r} q u = subst (λ (y : ℕ). Generates f w y left w′ r) q u
+pub generates-at : {f w ou w′ ou′ : List ℕ} {e x left : ℕ} {r : Typed} → e ≡ x → Generates f w ou e left w′ ou′ r → Generates f w ou x left w′ ou′ r
+generates-at {f} {w} {ou} {w′} {ou′} {left = left} {r = r} q u = subst (λ (y : ℕ). Generates f w ou y left w′ ou′ r) q u
 
-pub mentions-at : {f w w′ : List ℕ} {e left : ℕ} {x y : Field} {r : Done} → x ≡ y → Mentions f w (x .name) (x .value) e left w′ r → Mentions f w (y .name) (y .value) e left w′ r
-mentions-at {f} {w} {w′} {e} {left} {r = r} q u = subst (λ (z : Field). Mentions f w (z .name) (z .value) e left w′ r) q u
+pub mentions-at : {f w ou w′ ou′ : List ℕ} {e left : ℕ} {x y : Field} {r : Done} → x ≡ y → Mentions f w ou (x .name) (x .value) e left w′ ou′ r → Mentions f w ou (y .name) (y .value) e left w′ ou′ r
+mentions-at {f} {w} {ou} {w′} {ou′} {e} {left} {r = r} q u = subst (λ (z : Field). Mentions f w ou (z .name) (z .value) e left w′ ou′ r) q u
 
-pub infers-at : {f w w′ : List ℕ} {left : ℕ} {x y : Field} {r : Typed} → x ≡ y → Infers f w (x .value) left w′ r → Infers f w (y .value) left w′ r
-infers-at {f} {w} {w′} {left} {r = r} q u = subst (λ (z : Field). Infers f w (z .value) left w′ r) q u
+pub infers-at : {f w ou w′ ou′ : List ℕ} {left : ℕ} {x y : Field} {r : Typed} → x ≡ y → Infers f w ou (x .value) left w′ ou′ r → Infers f w ou (y .value) left w′ ou′ r
+infers-at {f} {w} {ou} {w′} {ou′} {left} {r = r} q u = subst (λ (z : Field). Infers f w ou (z .value) left w′ ou′ r) q u
 
-pub checks-at : {f w w′ : List ℕ} {left : ℕ} {t : Ty} {x y : Field} {r : Done} → x ≡ y → Checks f w (x .value) t left w′ r → Checks f w (y .value) t left w′ r
-checks-at {f} {w} {w′} {left} {t} {r = r} q u = subst (λ (z : Field). Checks f w (z .value) t left w′ r) q u
+pub checks-at : {f w ou w′ ou′ : List ℕ} {left : ℕ} {t : Ty} {x y : Field} {r : Done} → x ≡ y → Checks f w ou (x .value) t left w′ ou′ r → Checks f w ou (y .value) t left w′ ou′ r
+checks-at {f} {w} {ou} {w′} {ou′} {left} {t} {r = r} q u = subst (λ (z : Field). Checks f w ou (z .value) t left w′ ou′ r) q u
 
 pub finds-at : {w : List ℕ} {c : ℕ} {x y : Field} {found : Found} → x ≡ y → FindsName w c (x .name) found → FindsName w c (y .name) found
 finds-at {w} {c} {found = found} q u = subst (λ (z : Field). FindsName w c (z .name) found) q u

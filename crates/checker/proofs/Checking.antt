@@ -4,7 +4,7 @@ use mathlib.Core.Bool.{Bool, true, false}
 use mathlib.Core.List.{List}
 use mathlib.Core.Option.{Option, none, some}
 use mathlib.Core.Path.{_≡_, refl, sym, _∙_, ap}
-use Prim.Native.Nat.{ℕ, zero, suc, _-_, _≤_, _<_}
+use Prim.Native.Nat.{ℕ, suc, _-_, _≤_, _<_}
 use native.Mathlib.Omega.{arith}
 use lib.Dec.{ltb}
 use lib.ListN.{length, getD}
@@ -22,13 +22,15 @@ use Rattle.cells.specs.declared.Unified.the-variants as Unified
 use Rattle.cells.specs.Stands.{Rows, tree}
 use Rattle.cells.specs.Contracts.{errorOf}
 use Rattle.cells.proofs.Holding.{holds-log}
-use Rattle.meaning.specs.Syntax.{Node}
 use Rattle.meaning.specs.File.{Described}
 use Rattle.meaning.specs.Check.{Checker, Step, goes, out, Does, andThen, walk, Mark, codeOf, report, unify, rollback, snapshot, diagnosticsLen, inferAt, inferThenUnify, checkField}
 use Rattle.meaning.proofs.Meets.{Went, made-trans, reached-trans}
-use Rattle.meaning.proofs.Steps.{no-thing, one-diagnostic, Nothing, IsSide, unify-meets, rolled-meets}
+use Rattle.meaning.specs.Grades.{no-thing, one-diagnostic}
+use Rattle.meaning.proofs.Steps.{Nothing, IsSide, unify-meets, rolled-meets}
 use Rattle.meaning.proofs.Visits.{Good, size-pos}
-use Rattle.state.specs.Runs.{Runs, diagnosticsOf}
+use Rattle.state.specs.Lines.{Told}
+use Rattle.state.specs.Runs.{Runs}
+use Rattle.state.proofs.Scoping.{runs-env-length}
 use Rattle.steps.specs.declared.Typed.{Typed}
 use Rattle.steps.specs.declared.Typed.the-variants as Typed
 use Rattle.steps.specs.declared.Done.{Done}
@@ -41,7 +43,7 @@ use Rattle.checker.proofs.Within.{ChecksField}
 use Rattle.steps.proofs.Sequel.{begins-part, begins-after, gone-trans, gone-on, holds-left, Led, led, then-ends, stop-ends}
 use Rattle.steps.proofs.Results.{After, with-visits, fine-after, tree-after, got-same, on-here, then-typed, stop-typed, then-done, stop-done, then-silent, silent-on}
 use Rattle.checker.proofs.Inferring.{good}
-use Rattle.checker.proofs.Bodies.{scope-is, made-env}
+use Rattle.checker.proofs.Bodies.{made-env}
 
 -- ---- Back to where the stretch began
 abbrev pub markOf : Checker → Mark
@@ -50,14 +52,14 @@ markOf c = record { state = Bindings.snapshot (c .state); env = length (c .env) 
 same-load : (G : Load) → Holds (both G (only no-thing)) G
 same-load G = record { grade = omega arith; records = omega arith; fields = omega arith }
 
-module _ {f w w₂ w₃ : List ℕ} {T : Rows} {d : Described} {left v : ℕ} {c b : Checker} (G : Load) {A : Type 0} {E : Result A} {a : A} (P : A → Checker → Type 0)
-    (s : Begins f w T d G left c) (g : Gone f w w₂ T d (G .records) (G .fields) E a b) (x : Went P (G .grade) c a b) (e : b .state .left ≡ v)
-    (R : RollsTo f w₂ (getD w UNDO-LEN 0) (getD w ENV-LEN 0) w₃) where
+module _ {f w ou w₂ ou₂ w₃ ou₃ : List ℕ} {T : Rows} {d : Described} {left v : ℕ} {c b : Checker} (G : Load) {A : Type 0} {E : Result A} {a : A} (P : A → Checker → Type 0)
+    (s : Begins f w ou T d G left c) (g : Gone f w ou w₂ ou₂ T d (G .records) (G .fields) E a b) (x : Went P (G .grade) c a b) (e : b .state .left ≡ v)
+    (R : RollsTo f w₂ ou₂ (getD w UNDO-LEN 0) (getD w ENV-LEN 0) w₃ ou₃) where
   -- The code's rollback, from the start of the stretch.
-  rolled-ends : Ends f w w₃ T d (G .records) (G .fields) (silent v) (rollback (markOf c) b)
+  rolled-ends : Ends f w ou w₃ ou₃ T d (G .records) (G .fields) (silent v) (rollback (markOf c) b)
   unfolding Bindings.snapshot
   rolled-ends = gone-on G (only no-thing) G (same-load G) g
-      (R d v (markOf c) (sym (holds-log (s .runs .holds))) (scope-is (s .runs)) .is (g .T′) b (with-visits e (begins-after G (only no-thing) G P (same-load G) g x s)) (omega (arith, scope-is (s .runs), made-env (G .grade) c b (x .made))))
+      (R d v (markOf c) (sym (holds-log (s .runs .holds))) (runs-env-length (s .runs)) .is (g .T′) b (with-visits e (begins-after G (only no-thing) G P (same-load G) g x s)) (omega (arith, runs-env-length (s .runs), made-env (G .grade) c b (x .made))))
 
 -- ---- `infer_then_unify`
 checks-fits : (d : Described) (k n : ℕ) → Holds (both (infers (nodesOf d) k n) (only one-diagnostic)) (checks (nodesOf d) k n)
@@ -100,8 +102,8 @@ then-same d k n t c = go (inferAt (d .schema) (nodesOf d) (below d k) n c)
 visited : {d : Described} {k n : ℕ} → Node-at d k n → Named d (suc k) n
 visited at = record { there = at .there; under = omega (arith, at .above) }
 
-module _ {f w w₁ : List ℕ} {n left : ℕ} {t : Ty} {r : Typed} (I : Infers f w n left w₁ r) where
-  pub unify-out : r ≡ Typed.Out → InfersThenUnifies f w n t left w₁ Done.Out
+module _ {f w ou w₁ ou₁ : List ℕ} {n left : ℕ} {t : Ty} {r : Typed} (I : Infers f w ou n left w₁ ou₁ r) where
+  pub unify-out : r ≡ Typed.Out → InfersThenUnifies f w ou n t left w₁ ou₁ Done.Out
   unify-out g = record {
     is = λ d k at. record {
       is = λ T c s fine.
@@ -110,13 +112,13 @@ module _ {f w w₁ : List ℕ} {n left : ℕ} {t : Ty} {r : Typed} (I : Infers f
     };
   }
 
-  module _ {u : Ty} {l : ℕ} (g : r ≡ Typed.Got u l) {w₂ : List ℕ} {x : Unified} (U : UnifiesTo f w₁ u t l w₂ x) where
+  module _ {u : Ty} {l : ℕ} (g : r ≡ Typed.Got u l) {w₂ ou₂ : List ℕ} {x : Unified} (U : UnifiesTo f w₁ ou₁ u t l w₂ ou₂ x) where
     -- The unification, after the visit.
-    unify-ends : {T : Rows} {d : Described} {G H : Load} {c : Checker} {T₁ : Rows} {b : Checker} (a : After f w w₁ T d G H l c T₁ b) → Fine w t T c → Fine w₁ u T₁ b → Begins f w₁ T₁ d (only no-thing) l b
-        → Ends f w₁ w₂ T₁ d 0 0 (unified x) (unify (tree T₁ u) (tree T t) b)
+    unify-ends : {T : Rows} {d : Described} {G H : Load} {c : Checker} {T₁ : Rows} {b : Checker} (a : After f w ou w₁ ou₁ T d G H l c T₁ b) → Fine w t T c → Fine w₁ u T₁ b → Begins f w₁ ou₁ T₁ d (only no-thing) l b
+        → Ends f w₁ ou₁ w₂ ou₂ T₁ d 0 0 (unified x) (unify (tree T₁ u) (tree T t) b)
     unify-ends {d = d} {T₁ = T₁} {b = b} a fine fine₁ s = rw (← tree-after a t (fine .ok)) (U d .is T₁ b s (fine₁, fine-after a t fine))
 
-    pub unify-good : {v : ℕ} → x ≡ Unified.Good v → InfersThenUnifies f w n t left w₂ (Done.On v)
+    pub unify-good : {v : ℕ} → x ≡ Unified.Good v → InfersThenUnifies f w ou n t left w₂ ou₂ (Done.On v)
     unify-good {v} z = record {
       is = λ d k at. record {
         is = λ T c s fine.
@@ -125,15 +127,15 @@ module _ {f w w₁ : List ℕ} {n left : ℕ} {t : Ty} {r : Typed} (I : Infers f
             (λ T₁ b a fine₁. let fine₂ = fine-after a t fine in
             then-ends (only no-thing) (only one-diagnostic) (only one-diagnostic) unify-fits Nothing (unify (tree T₁ u) (tree T t) b) (following d n (markOf c)) (λ o. clash (cc (z, o))) (a .begins)
             (λ y. rw (← tree-after a t (fine .ok)) (unify-meets (tree T₁ u) (tree T₁ t) b (a .begins .orderly) (fine₁ .side) (fine₂ .side))) (unify-ends a fine fine₁)
-            (λ o e q h s₂. succeeded d n (markOf c) o e (q .is) (s₂ .runs))));
+            (λ o e q h s₂. succeeded d n (markOf c) o e (q .is) (s₂ .runs) (s₂ .lines))));
       };
     }
       where
-        succeeded : {T₂ : Rows} (d : Described) (n : ℕ) (m : Mark) (o : Option Unify.TyError) (e : Checker) → IsUnified x T₂ o (e .state .left) → Runs f w₂ T₂ d e → Ends f w₂ w₂ T₂ d 0 0 (done (Done.On v)) (following d n m o e)
-        succeeded d n m none e i runs = on-here runs (cc (z, i))
-        succeeded d n m (some err) e i runs = clash (cc (z, i .1))
+        succeeded : {T₂ : Rows} (d : Described) (n : ℕ) (m : Mark) (o : Option Unify.TyError) (e : Checker) → IsUnified x T₂ o (e .state .left) → Runs f w₂ T₂ d e → Told w₂ ou₂ e → Ends f w₂ ou₂ w₂ ou₂ T₂ d 0 0 (done (Done.On v)) (following d n m o e)
+        succeeded d n m none e i runs told = on-here runs told (cc (z, i))
+        succeeded d n m (some err) e i runs told = clash (cc (z, i .1))
 
-    pub unify-spent : x ≡ Unified.Spent → InfersThenUnifies f w n t left w₂ Done.Out
+    pub unify-spent : x ≡ Unified.Spent → InfersThenUnifies f w ou n t left w₂ ou₂ Done.Out
     unify-spent z = record {
       is = λ d k at. record {
         is = λ T c s fine.
@@ -148,10 +150,10 @@ module _ {f w w₁ : List ℕ} {n left : ℕ} {t : Ty} {r : Typed} (I : Infers f
         unsucceeded R (some err) v i = clash (cc (z, i .1))
 
     -- The failure, rolled back and reported.
-    module _ {w₃ w₄ : List ℕ} {err : TyError} {v : ℕ} (z : x ≡ Unified.Bad err v) (R : RollsTo f w₂ (getD w UNDO-LEN 0) (getD w ENV-LEN 0) w₃) (O : Reports f w₃ n err v w₄) where
-      failed : {T : Rows} {d : Described} {c b : Checker} (k : ℕ) (o : Option Unify.TyError) → Node-at d k n → Begins f w T d (checks (nodesOf d) (suc k) n) left c
-          → (g : Gone f w w₂ T d (infers (nodesOf d) (suc k) n .records) (infers (nodesOf d) (suc k) n .fields) (unified x) o b) → Went Nothing (infers (nodesOf d) (suc k) n .grade) c o b
-          → Ends f w w₄ T d (checks (nodesOf d) (suc k) n .records) (checks (nodesOf d) (suc k) n .fields) (done (Done.On v)) (following d n (markOf c) o b)
+    module _ {w₃ ou₃ w₄ ou₄ : List ℕ} {err : TyError} {v : ℕ} (z : x ≡ Unified.Bad err v) (R : RollsTo f w₂ ou₂ (getD w UNDO-LEN 0) (getD w ENV-LEN 0) w₃ ou₃) (O : Reports f w₃ ou₃ n err v w₄ ou₄) where
+      failed : {T : Rows} {d : Described} {c b : Checker} (k : ℕ) (o : Option Unify.TyError) → Node-at d k n → Begins f w ou T d (checks (nodesOf d) (suc k) n) left c
+          → (g : Gone f w ou w₂ ou₂ T d (infers (nodesOf d) (suc k) n .records) (infers (nodesOf d) (suc k) n .fields) (unified x) o b) → Went Nothing (infers (nodesOf d) (suc k) n .grade) c o b
+          → Ends f w ou w₄ ou₄ T d (checks (nodesOf d) (suc k) n .records) (checks (nodesOf d) (suc k) n .fields) (done (Done.On v)) (following d n (markOf c) o b)
       failed k none at s q h = clash (cc (z, q .is))
       failed {T} {d} {c} {b} k (some e) at s q h =
           let G = infers (nodesOf d) (suc k) n in
@@ -161,9 +163,9 @@ module _ {f w w₁ : List ℕ} {n left : ℕ} {t : Ty} {r : Typed} (I : Infers f
           (λ y. rolled-meets (G .grade) c b (s .orderly) (h .made) (h .reached)) (λ s₁. rolled-ends G Nothing s₁ q h visits R)
           (λ T₃ b₃ a₃ u. rw (← same, report-same (q .T′) T₃ err d n b₃) (silent-on (O d (at .there) .is T₃ b₃ (a₃ .begins) tt)))
 
-      failing : {T : Rows} {d : Described} {c : Checker} (k : ℕ) → Node-at d k n → Begins f w T d (checks (nodesOf d) (suc k) n) left c → Fine w t T c → (L : Led f w w₁ T d (infers (nodesOf d) (suc k) n) (typed w₁ r) IsSide c (below d (suc k) .infer n c))
-          → Led f w₁ w₂ (L .gone .T′) d (only no-thing) (unified x) Nothing (L .b) (unify (L .a) (tree T t) (L .b))
-          → Ends f w w₄ T d (checks (nodesOf d) (suc k) n .records) (checks (nodesOf d) (suc k) n .fields) (done (Done.On v)) (inferThenUnify (d .schema) (nodesOf d) (below d k) n (tree T t) c)
+      failing : {T : Rows} {d : Described} {c : Checker} (k : ℕ) → Node-at d k n → Begins f w ou T d (checks (nodesOf d) (suc k) n) left c → Fine w t T c → (L : Led f w ou w₁ ou₁ T d (infers (nodesOf d) (suc k) n) (typed w₁ r) IsSide c (below d (suc k) .infer n c))
+          → Led f w₁ ou₁ w₂ ou₂ (L .gone .T′) d (only no-thing) (unified x) Nothing (L .b) (unify (L .a) (tree T t) (L .b))
+          → Ends f w ou w₄ ou₄ T d (checks (nodesOf d) (suc k) n .records) (checks (nodesOf d) (suc k) n .fields) (done (Done.On v)) (inferThenUnify (d .schema) (nodesOf d) (below d k) n (tree T t) c)
       unfolding andThen
       failing {T} {d} {c} k at s fine L M =
           let G = infers (nodesOf d) (suc k) n in
@@ -174,7 +176,7 @@ module _ {f w w₁ : List ℕ} {n left : ℕ} {t : Ty} {r : Typed} (I : Infers f
             holds = tt;
           }))
 
-      pub unify-bad : InfersThenUnifies f w n t left w₄ (Done.On v)
+      pub unify-bad : InfersThenUnifies f w ou n t left w₄ ou₄ (Done.On v)
       unify-bad = record {
         is = λ d k at. record {
           is = λ T c s fine.
@@ -184,14 +186,14 @@ module _ {f w w₁ : List ℕ} {n left : ℕ} {t : Ty} {r : Typed} (I : Infers f
         };
       }
         where
-          unified-after : {T : Rows} {d : Described} {c : Checker} (k : ℕ) → Node-at d k n → Begins f w T d (checks (nodesOf d) (suc k) n) left c → Fine w t T c → Led f w w₁ T d (infers (nodesOf d) (suc k) n) (typed w₁ r) IsSide c (below d (suc k) .infer n c)
-              → Ends f w w₄ T d (checks (nodesOf d) (suc k) n .records) (checks (nodesOf d) (suc k) n .fields) (done (Done.On v)) (inferThenUnify (d .schema) (nodesOf d) (below d k) n (tree T t) c)
+          unified-after : {T : Rows} {d : Described} {c : Checker} (k : ℕ) → Node-at d k n → Begins f w ou T d (checks (nodesOf d) (suc k) n) left c → Fine w t T c → Led f w ou w₁ ou₁ T d (infers (nodesOf d) (suc k) n) (typed w₁ r) IsSide c (below d (suc k) .infer n c)
+              → Ends f w ou w₄ ou₄ T d (checks (nodesOf d) (suc k) n .records) (checks (nodesOf d) (suc k) n .fields) (done (Done.On v)) (inferThenUnify (d .schema) (nodesOf d) (below d k) n (tree T t) c)
           unified-after {T} {d} {c} k at s fine L =
               let G = infers (nodesOf d) (suc k) n in
               let K = checks (nodesOf d) (suc k) n in
               let i = got-same g (L .gone .is) in
               let s₂ = with-visits (i .2) (begins-after G (only one-diagnostic) K IsSide (checks-fits d (suc k) n) (L .gone) (L .went) s) in
-              let a : After f w w₁ T d G (only one-diagnostic) l c (L .gone .T′) (L .b) = record { more = L .gone .more; grew = L .gone .grew; made = L .went .made; begins = s₂ } in
+              let a : After f w ou w₁ ou₁ T d G (only one-diagnostic) l c (L .gone .T′) (L .b) = record { more = L .gone .more; grew = L .gone .grew; made = L .went .made; begins = s₂ } in
               let fine₁ : Fine w₁ u (L .gone .T′) (L .b) = record { ok = i .0; side = rw (i .1) (L .went .holds) } in
               let fine₂ = fine-after a t fine in
               failing k at s fine L (rw (← i .1) (led (only no-thing) Nothing (λ o. clash (cc (z, o)))
@@ -199,14 +201,6 @@ module _ {f w w₁ : List ℕ} {n left : ℕ} {t : Ty} {r : Typed} (I : Infers f
               (unify-ends a fine fine₁ (begins-part (only no-thing) (only one-diagnostic) (holds-left (only no-thing) (only one-diagnostic) (only one-diagnostic) unify-fits) s₂))))
 
 -- ---- A field in a scope of its own
-count-length : (nodes : List Node) (w : List ℕ) (n : ℕ) → length (diagnosticsOf nodes w n) ≡ n
-unfolding diagnosticsOf
-count-length nodes w zero = refl
-count-length nodes w (suc n) = ap suc (count-length nodes w n)
-
-pub count-is : {f w : List ℕ} {T : Rows} {d : Described} {c : Checker} → Runs f w T d c → length (c .diagnostics) ≡ getD w DIAGNOSTIC-COUNT 0
-count-is {w = w} {d = d} r = ap length (r .diagnostics) ∙ count-length (nodesOf d) w (getD w DIAGNOSTIC-COUNT 0)
-
 -- Whether a diagnostic arose.
 abbrev closing : Bool → Mark → Does (Unit {0})
 closing true m c = rollback m c
@@ -226,8 +220,8 @@ field-same d k n t c = go (below d k .check n t c)
     go (goes u b) = tail (ltb (length (c .diagnostics)) (length (b .diagnostics))) b
     go (out b) = refl
 
-module _ {f w w₁ : List ℕ} {n left : ℕ} {t : Ty} {r : Done} (C : Checks f w n t left w₁ r) where
-  pub field-out : r ≡ Done.Out → ChecksField f w n t left w₁ Done.Out
+module _ {f w ou w₁ ou₁ : List ℕ} {n left : ℕ} {t : Ty} {r : Done} (C : Checks f w ou n t left w₁ ou₁ r) where
+  pub field-out : r ≡ Done.Out → ChecksField f w ou n t left w₁ ou₁ Done.Out
   field-out g = record {
     is = λ d k named. record {
       is = λ T c s fine.
@@ -238,27 +232,27 @@ module _ {f w w₁ : List ℕ} {n left : ℕ} {t : Ty} {r : Done} (C : Checks f 
 
   module _ {l : ℕ} (g : r ≡ Done.On l) where
     -- No diagnostic arose.
-    pub field-kept : getD w₁ DIAGNOSTIC-COUNT 0 ≤ getD w DIAGNOSTIC-COUNT 0 → ChecksField f w n t left w₁ (Done.On l)
+    pub field-kept : getD w₁ DIAGNOSTIC-COUNT 0 ≤ getD w DIAGNOSTIC-COUNT 0 → ChecksField f w ou n t left w₁ ou₁ (Done.On l)
     field-kept h = record {
       is = λ d k named. record {
         is = λ T c s fine.
             rw (field-same d k n (tree T t) c) (then-done (checks (nodesOf d) k n) (only no-thing) (checks (nodesOf d) k n) (same-load (checks (nodesOf d) k n)) Nothing (below d k .check n (tree T t) c)
             (λ u b. closing (ltb (length (c .diagnostics)) (length (b .diagnostics))) (markOf c) b) g s (λ y. good s k .check n (tree T t) c (s .orderly) y (fine .side)) (λ s₁. C .is d k named .is T c s₁ fine)
-            (λ T₁ b a. rw (le-ltb (length (c .diagnostics)) (length (b .diagnostics)) (omega (arith, h, count-is (s .runs), count-is (a .begins .runs)))) (on-here (a .begins .runs) (a .begins .visits))));
+            (λ T₁ b a. rw (le-ltb (length (c .diagnostics)) (length (b .diagnostics)) (omega (arith, h, s .runs .diagnostics, a .begins .runs .diagnostics))) (on-here (a .begins .runs) (a .begins .lines) (a .begins .visits))));
       };
     }
 
-    pub field-rolled : {w₂ : List ℕ} → getD w DIAGNOSTIC-COUNT 0 < getD w₁ DIAGNOSTIC-COUNT 0 → RollsTo f w₁ (getD w UNDO-LEN 0) (getD w ENV-LEN 0) w₂ → ChecksField f w n t left w₂ (Done.On l)
+    pub field-rolled : {w₂ ou₂ : List ℕ} → getD w DIAGNOSTIC-COUNT 0 < getD w₁ DIAGNOSTIC-COUNT 0 → RollsTo f w₁ ou₁ (getD w UNDO-LEN 0) (getD w ENV-LEN 0) w₂ ou₂ → ChecksField f w ou n t left w₂ ou₂ (Done.On l)
     unfolding andThen
-    field-rolled {w₂} h R = record {
+    field-rolled {w₂} {ou₂} h R = record {
       is = λ d k named. record {
         is = λ T c s fine.
             back k s (led (checks (nodesOf d) k n) Nothing (λ o. clash (cc (g, o))) (good s k .check n (tree T t) c (s .orderly) (s .free .ready) (fine .side)) (C .is d k named .is T c s fine));
       };
     }
       where
-        back : {T : Rows} {d : Described} {c : Checker} (k : ℕ) → Begins f w T d (checks (nodesOf d) k n) left c → Led f w w₁ T d (checks (nodesOf d) k n) (done r) Nothing c (below d k .check n (tree T t) c)
-            → Ends f w w₂ T d (checks (nodesOf d) k n .records) (checks (nodesOf d) k n .fields) (done (Done.On l)) (checkField (d .schema) (nodesOf d) (below d k) n (tree T t) c)
+        back : {T : Rows} {d : Described} {c : Checker} (k : ℕ) → Begins f w ou T d (checks (nodesOf d) k n) left c → Led f w ou w₁ ou₁ T d (checks (nodesOf d) k n) (done r) Nothing c (below d k .check n (tree T t) c)
+            → Ends f w ou w₂ ou₂ T d (checks (nodesOf d) k n .records) (checks (nodesOf d) k n .fields) (done (Done.On l)) (checkField (d .schema) (nodesOf d) (below d k) n (tree T t) c)
         back {T} {d} {c} k s L =
-            rw (field-same d k n (tree T t) c, L .is, lt-ltb (length (c .diagnostics)) (length (L .b .diagnostics)) (omega (arith, h, count-is (s .runs), count-is (L .gone .runs))))
+            rw (field-same d k n (tree T t) c, L .is, lt-ltb (length (c .diagnostics)) (length (L .b .diagnostics)) (omega (arith, h, s .runs .diagnostics, L .gone .runs .diagnostics)))
             (silent-on (rolled-ends (checks (nodesOf d) k n) Nothing s (L .gone) (L .went) (cc (g, L .gone .is)) R))

@@ -55,8 +55,8 @@ inferred f nd x = by-form f (0 ∷ 1 ∷ 2 ∷ 3 ∷ 5 ∷ 6 ∷ 7 ∷ 9 ∷ 10 
 }) nd x
 
 -- A wildcard or a constant cannot be denied.
-pub deny-target : {f w w′ : List ℕ} {lhs rhs left : ℕ} {r : Done} {nd : Node} → OneOf (4 ∷ 0 ∷ 1 ∷ 2 ∷ 6 ∷ []) (tagOf the-type nd) → IsNode f w lhs nd → BadTargets f w lhs rhs left w′ r
-    → Denies f w lhs rhs left w′ r
+pub deny-target : {f w ou w′ ou′ : List ℕ} {lhs rhs left : ℕ} {r : Done} {nd : Node} → OneOf (4 ∷ 0 ∷ 1 ∷ 2 ∷ 6 ∷ []) (tagOf the-type nd) → IsNode f w lhs nd → BadTargets f w ou lhs rhs left w′ ou′ r
+    → Denies f w ou lhs rhs left w′ ou′ r
 unfolding denyForm
 deny-target {f} {lhs = lhs} {rhs = rhs} {nd = nd} x i S = deny-as i (λ d b x y. badTarget (d .schema) (nodesOf d) b x y)
     (λ d b c. by-form f (4 ∷ 0 ∷ 1 ∷ 2 ∷ 6 ∷ []) (λ q. denyForm (d .schema) (nodesOf d) b q lhs rhs c ≡ badTarget (d .schema) (nodesOf d) b lhs rhs c) (record {
@@ -82,6 +82,6 @@ no-cell-by (Union c) x = miss (0 ∷ 1 ∷ 2 ∷ 3 ∷ 6 ∷ 7 ∷ []) 5 tt x
 no-cell-by (Var v) x = tt
 no-cell-by Error x = tt
 
-pub record-whole : {f w w′ : List ℕ} {n left : ℕ} {l : Items} {t : Ty} {r : Done} → InfersThenUnifies f w n t left w′ r → OneOf (0 ∷ 1 ∷ 2 ∷ 3 ∷ 6 ∷ 7 ∷ []) (tagOf ty.the-type t)
-    → ChecksRecord f w n l t left w′ r
+pub record-whole : {f w ou w′ ou′ : List ℕ} {n left : ℕ} {l : Items} {t : Ty} {r : Done} → InfersThenUnifies f w ou n t left w′ ou′ r → OneOf (0 ∷ 1 ∷ 2 ∷ 3 ∷ 6 ∷ 7 ∷ []) (tagOf ty.the-type t)
+    → ChecksRecord f w ou n l t left w′ ou′ r
 record-whole {t = t} I x = record-other (no-cell-by t x) I

@@ -10,9 +10,9 @@ use Rattle.cells.specs.Stands.{Rows, tree}
 use Rattle.meaning.specs.Syntax.{nodeAt}
 use Rattle.meaning.specs.File.{Described}
 use Rattle.meaning.specs.Check.{Checker, andThen, Form, aWildcard, aVariable, aConstant, aRecord, aDisjunction, anError, another, form, kind, introduceSide, compare}
-use Rattle.meaning.specs.Run.{sumOf, size, records, recordFields}
-use Rattle.meaning.proofs.Steps.{one-diagnostic}
-use Rattle.meaning.proofs.Visits.{size-pos, late, early-late, introducing, inferring-late, Introduced, made-introduced, introduceSide-meets, infer-late, variable-kind}
+use Rattle.meaning.specs.Weights.{sumOf, size, records, recordFields}
+use Rattle.meaning.specs.Grades.{one-diagnostic, introducing}
+use Rattle.meaning.proofs.Visits.{size-pos, late, early-late, inferring-late, Introduced, made-introduced, introduceSide-meets, infer-late, variable-kind}
 use Rattle.steps.specs.declared.Typed.{Typed}
 use Rattle.steps.specs.declared.Typed.the-variants as Typed
 use Rattle.steps.specs.declared.Done.{Done}
@@ -30,8 +30,8 @@ lates d k n q = record { grade = inferring-late (nodesOf d) k n q; records = rec
 abbrev formAt : Described → ℕ → Form
 formAt d n = form (d .schema) (nodesOf d) n
 
-late-ends : {f w w′ : List ℕ} {n left : ℕ} {r : Typed} {T : Rows} {d : Described} {c : Checker} (k : ℕ) (q : Form) → formAt d n ≡ q → Infers f w n left w′ r → Named d k n → Begins f w T d (lates d k n q) left c → Introduced q c
-    → Ends f w w′ T d (records (nodesOf d) k n) (recordFields (nodesOf d) k n) (typed w′ r) (below d k .infer n c)
+late-ends : {f w ou w′ ou′ : List ℕ} {n left : ℕ} {r : Typed} {T : Rows} {d : Described} {c : Checker} (k : ℕ) (q : Form) → formAt d n ≡ q → Infers f w ou n left w′ ou′ r → Named d k n → Begins f w ou T d (lates d k n q) left c → Introduced q c
+    → Ends f w ou w′ ou′ T d (records (nodesOf d) k n) (recordFields (nodesOf d) k n) (typed w′ r) (below d k .infer n c)
 unfolding form kind late
 late-ends {n = n} {T = T} {d = d} {c = c} k (aVariable x) e I named s h = I .found d k x named (variable-kind (nodeAt (nodesOf d) n .kind) x e) .is T c s h
 late-ends {T = T} {d = d} {c = c} k aWildcard e I named s h = I .is d k named .is T c s tt
@@ -65,11 +65,11 @@ all-fits d k lhs rhs = record {
 as-it-is : (G H : Load) → Holds (both G H) (both G H)
 as-it-is G H = record { grade = omega arith; records = omega arith; fields = omega arith }
 
-module _ {f w w₁ w₂ w₃ : List ℕ} {lhs rhs left : ℕ} {r : Typed} (A : BringsSide f w lhs left w₁) (B : BringsSide f w₁ rhs left w₂) (I : Infers f w₂ lhs left w₃ r) where
+module _ {f w ou w₁ ou₁ w₂ ou₂ w₃ ou₃ : List ℕ} {lhs rhs left : ℕ} {r : Typed} (A : BringsSide f w ou lhs left w₁ ou₁) (B : BringsSide f w₁ ou₁ rhs left w₂ ou₂) (I : Infers f w₂ ou₂ lhs left w₃ ou₃ r) where
   -- Both sides are introduced.
-  introduced : {w₄ : List ℕ} {x : Done} → ((d : Described) (k : ℕ) → Named d k lhs → Named d k rhs → (T : Rows) (c : Checker) → Begins f w₂ T d (sides d k lhs rhs) left c → Introduced (formAt d lhs) c → Introduced (formAt d rhs) c
-      → Ends f w₂ w₄ T d (sides d k lhs rhs .records) (sides d k lhs rhs .fields) (done x) (andThen (below d k .infer lhs c) (λ a b. andThen (below d k .infer rhs b) (λ y. compareTypes d lhs rhs a y))))
-      → Compares f w lhs rhs left w₄ x
+  introduced : {w₄ ou₄ : List ℕ} {x : Done} → ((d : Described) (k : ℕ) → Named d k lhs → Named d k rhs → (T : Rows) (c : Checker) → Begins f w₂ ou₂ T d (sides d k lhs rhs) left c → Introduced (formAt d lhs) c → Introduced (formAt d rhs) c
+      → Ends f w₂ ou₂ w₄ ou₄ T d (sides d k lhs rhs .records) (sides d k lhs rhs .fields) (done x) (andThen (below d k .infer lhs c) (λ a b. andThen (below d k .infer rhs b) (λ y. compareTypes d lhs rhs a y))))
+      → Compares f w ou lhs rhs left w₄ ou₄ x
   unfolding compare compareTypes
   introduced next = record {
     is = λ d k nl nr. record {
@@ -85,13 +85,13 @@ module _ {f w w₁ w₂ w₃ : List ℕ} {lhs rhs left : ℕ} {r : Typed} (A : B
     };
   }
 
-  pub compare-left-out : r ≡ Typed.Out → Compares f w lhs rhs left w₃ Done.Out
+  pub compare-left-out : r ≡ Typed.Out → Compares f w ou lhs rhs left w₃ ou₃ Done.Out
   compare-left-out g = introduced (λ d k nl nr T c s h h₂.
       stop-typed (lates d k lhs (formAt d lhs)) (last d k rhs) (sides d k lhs rhs) (as-it-is (lates d k lhs (formAt d lhs)) (last d k rhs)) (below d k .infer lhs c)
       (λ a b. andThen (below d k .infer rhs b) (λ y. compareTypes d lhs rhs a y)) g refl s (λ s₁. late-ends k (formAt d lhs) refl I nl s₁ h))
 
-  module _ {t : Ty} {l : ℕ} (g : r ≡ Typed.Got t l) {w₄ : List ℕ} {y : Typed} (J : Infers f w₃ rhs l w₄ y) where
-    pub compare-right-out : y ≡ Typed.Out → Compares f w lhs rhs left w₄ Done.Out
+  module _ {t : Ty} {l : ℕ} (g : r ≡ Typed.Got t l) {w₄ ou₄ : List ℕ} {y : Typed} (J : Infers f w₃ ou₃ rhs l w₄ ou₄ y) where
+    pub compare-right-out : y ≡ Typed.Out → Compares f w ou lhs rhs left w₄ ou₄ Done.Out
     compare-right-out z = introduced (λ d k nl nr T c s h h₂.
         then-typed (lates d k lhs (formAt d lhs)) (last d k rhs) (sides d k lhs rhs) (as-it-is (lates d k lhs (formAt d lhs)) (last d k rhs)) (below d k .infer lhs c)
         (λ a b. andThen (below d k .infer rhs b) (λ y. compareTypes d lhs rhs a y)) g s (λ x. infer-late (d .schema) (nodesOf d) (s .sound .predicates) k (below d k) (good s k) lhs (formAt d lhs) c refl (s .orderly) x h)
@@ -99,7 +99,7 @@ module _ {f w w₁ w₂ w₃ : List ℕ} {lhs rhs left : ℕ} {r : Typed} (A : B
         (λ T₁ b a fine. stop-typed (lates d k rhs (formAt d rhs)) (only one-diagnostic) (last d k rhs) (as-it-is (lates d k rhs (formAt d rhs)) (only one-diagnostic)) (below d k .infer rhs b)
         (λ y. compareTypes d lhs rhs (tree T₁ t) y) z refl (a .begins) (λ s₂. late-ends k (formAt d rhs) refl J nr s₂ (made-introduced _ c b (formAt d rhs) (a .made) h₂))))
 
-    pub compare-types : {u : Ty} {v : ℕ} {w₅ : List ℕ} {x : Done} → y ≡ Typed.Got u v → ComparesTypes f w₄ lhs rhs t u v w₅ x → Compares f w lhs rhs left w₅ x
+    pub compare-types : {u : Ty} {v : ℕ} {w₅ ou₅ : List ℕ} {x : Done} → y ≡ Typed.Got u v → ComparesTypes f w₄ ou₄ lhs rhs t u v w₅ ou₅ x → Compares f w ou lhs rhs left w₅ ou₅ x
     compare-types {u} z C = introduced (λ d k nl nr T c s h h₂.
         then-typed (lates d k lhs (formAt d lhs)) (last d k rhs) (sides d k lhs rhs) (as-it-is (lates d k lhs (formAt d lhs)) (last d k rhs)) (below d k .infer lhs c)
         (λ a b. andThen (below d k .infer rhs b) (λ y. compareTypes d lhs rhs a y)) g s (λ x. infer-late (d .schema) (nodesOf d) (s .sound .predicates) k (below d k) (good s k) lhs (formAt d lhs) c refl (s .orderly) x h)

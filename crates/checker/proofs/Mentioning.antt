@@ -22,10 +22,11 @@ use Rattle.meaning.specs.Diag.{Code}
 use Rattle.meaning.specs.References.{fieldValues}
 use Rattle.meaning.specs.File.{Described}
 use Rattle.meaning.specs.Check.{Checker, Step, Does, checkMentioned, checkFields}
-use Rattle.meaning.specs.Run.{sumOf}
-use Rattle.meaning.proofs.Meets.{unknowns, Ready, Meets, meets-fits}
-use Rattle.meaning.proofs.Steps.{one-diagnostic, Nothing, reject-meets}
-use Rattle.meaning.proofs.Visits.{checking, size-pos, checkField-meets}
+use Rattle.meaning.specs.Weights.{sumOf}
+use Rattle.meaning.specs.Grades.{unknowns, Ready, one-diagnostic, checking}
+use Rattle.meaning.proofs.Meets.{Meets, meets-fits}
+use Rattle.meaning.proofs.Steps.{Nothing, reject-meets}
+use Rattle.meaning.proofs.Visits.{size-pos, checkField-meets}
 use Rattle.tree.specs.declared.Items.{Items}
 use Rattle.tree.specs.Nodes.{fieldW, fieldOf, fieldsFrom}
 use Rattle.steps.specs.declared.Done.{Done}
@@ -46,8 +47,8 @@ use Rattle.checker.proofs.Against.{rejected}
 abbrev mentioning : Described → ℕ → Syntax.Field → Tree.Row → Does (Unit {0})
 mentioning d k x row = checkMentioned (d .schema) (nodesOf d) (below d k) x (findKey (x .name) row)
 
-module _ {f w w′ : List ℕ} {name value e left : ℕ} {found : Found} (F : FindsKey w Fields e name found) where
-  pub mentions-field : {p : Cell.Part} {r : Done} → found ≡ Found.At p → ChecksField f w value (p .ty) left w′ r → Mentions f w name value e left w′ r
+module _ {f w ou w′ ou′ : List ℕ} {name value e left : ℕ} {found : Found} (F : FindsKey w Fields e name found) where
+  pub mentions-field : {p : Cell.Part} {r : Done} → found ≡ Found.At p → ChecksField f w ou value (p .ty) left w′ ou′ r → Mentions f w ou name value e left w′ ou′ r
   unfolding checkMentioned
   mentions-field {p} g C = record {
     is = λ d k named. record {
@@ -58,7 +59,7 @@ module _ {f w w′ : List ℕ} {name value e left : ℕ} {found : Found} (F : Fi
     };
   }
 
-  pub mentions-none : found ≡ Found.Nothing → Rejects f w value Code.RejectUnknownField left w′ → Mentions f w name value e left w′ (Done.On left)
+  pub mentions-none : found ≡ Found.Nothing → Rejects f w ou value Code.RejectUnknownField left w′ ou′ → Mentions f w ou name value e left w′ ou′ (Done.On left)
   unfolding checkMentioned
   mentions-none g R = record {
     is = λ d k named. record {
@@ -68,7 +69,7 @@ module _ {f w w′ : List ℕ} {name value e left : ℕ} {found : Found} (F : Fi
     };
   }
 
-mentioned-meets : {f w : List ℕ} {T : Rows} {d : Described} {L : Load} {left : ℕ} {c : Checker} (k : ℕ) (x : Syntax.Field) (row : Tree.Row) → Begins f w T d L left c → SideRow (unknowns c) row → Ready (checking (nodesOf d) k (x .value)) c
+mentioned-meets : {f w ou : List ℕ} {T : Rows} {d : Described} {L : Load} {left : ℕ} {c : Checker} (k : ℕ) (x : Syntax.Field) (row : Tree.Row) → Begins f w ou T d L left c → SideRow (unknowns c) row → Ready (checking (nodesOf d) k (x .value)) c
     → Meets Nothing (checking (nodesOf d) k (x .value)) c (mentioning d k x row c)
 unfolding checkMentioned
 mentioned-meets {d = d} {c = c} k x row s side y = go (findKey (x .name) row) (find-part (Field (unknowns c)) (x .name) row (fields (unknowns c) row side))
@@ -85,54 +86,54 @@ some-fits : (d : Described) (k : ℕ) (x : Syntax.Field) (fs : List Syntax.Field
 unfolding fieldValues sumOf
 some-fits d k x fs = record { grade = omega arith; records = omega arith; fields = omega arith }
 
-module _ {f w₀ w : List ℕ} {T : Rows} {d : Described} {K : Load} {rest : ℕ} {c : Checker} {whole : Step (Unit {0})} (k e : ℕ) (fine : FineRecord w₀ e T c) where
-  fields-done : Midway f w₀ w T d K (visits (nodesOf d) k (fieldValues [])) rest c whole (mentioningAll d k (T e) []) → Ends f w₀ w T d (K .records) (K .fields) (done (Done.On rest)) whole
+module _ {f w₀ ou₀ w ou : List ℕ} {T : Rows} {d : Described} {K : Load} {rest : ℕ} {c : Checker} {whole : Step (Unit {0})} (k e : ℕ) (fine : FineRecord w₀ e T c) where
+  fields-done : Midway f w₀ ou₀ w ou T d K (visits (nodesOf d) k (fieldValues [])) rest c whole (mentioningAll d k (T e) []) → Ends f w₀ ou₀ w ou T d (K .records) (K .fields) (done (Done.On rest)) whole
   unfolding checkFields
-  fields-done M = mid-ends M (on-here (M .begins .runs) (M .begins .visits))
+  fields-done M = mid-ends M (on-here (M .begins .runs) (M .begins .lines) (M .begins .visits))
 
-  module _ {w′ : List ℕ} {r : Done} (x : Syntax.Field) (fs : List Syntax.Field) (M : Midway f w₀ w T d K (visits (nodesOf d) k (fieldValues (x ∷ fs))) rest c whole (mentioningAll d k (T e) (x ∷ fs)))
-      (named : Named d k (x .value)) (U : Mentions f w (x .name) (x .value) e rest w′ r) where
+  module _ {w′ ou′ : List ℕ} {r : Done} (x : Syntax.Field) (fs : List Syntax.Field) (M : Midway f w₀ ou₀ w ou T d K (visits (nodesOf d) k (fieldValues (x ∷ fs))) rest c whole (mentioningAll d k (T e) (x ∷ fs)))
+      (named : Named d k (x .value)) (U : Mentions f w ou (x .name) (x .value) e rest w′ ou′ r) where
     row-side : SideRow (unknowns (M .b)) (T e)
     row-side = side-more (unknowns c) (unknowns (M .b)) (M .up) (Tree.node Tree.Record (T e)) (fine .side)
 
     row-same : M .T₁ e ≡ T e
     row-same = M .more .same Fields e (fine .cell)
 
-    mentioned-ends : Begins f w (M .T₁) d (checks (nodesOf d) k (x .value)) rest (M .b) → Ends f w w′ (M .T₁) d (checks (nodesOf d) k (x .value) .records) (checks (nodesOf d) k (x .value) .fields) (done r) (mentioning d k x (T e) (M .b))
+    mentioned-ends : Begins f w ou (M .T₁) d (checks (nodesOf d) k (x .value)) rest (M .b) → Ends f w ou w′ ou′ (M .T₁) d (checks (nodesOf d) k (x .value) .records) (checks (nodesOf d) k (x .value) .fields) (done r) (mentioning d k x (T e) (M .b))
     mentioned-ends s = rw (← row-same) (U .is d k named .is (M .T₁) (M .b) s (record { cell = cell-kept (M .grew .adds) (fine .cell); side = rw row-same row-side }))
 
-    fields-on : {l : ℕ} → r ≡ Done.On l → Midway f w₀ w′ T d K (visits (nodesOf d) k (fieldValues fs)) l c whole (mentioningAll d k (T e) fs)
+    fields-on : {l : ℕ} → r ≡ Done.On l → Midway f w₀ ou₀ w′ ou′ T d K (visits (nodesOf d) k (fieldValues fs)) l c whole (mentioningAll d k (T e) fs)
     unfolding checkFields
     fields-on {l} g =
         let L = mid-led M (checks (nodesOf d) k (x .value)) (visits (nodesOf d) k (fieldValues fs)) (some-fits d k x fs) Nothing (mentioning d k x (T e) (M .b)) (λ o. clash (cc (g, o)))
         (λ y. mentioned-meets k x (T e) (M .begins) row-side y) mentioned-ends in
         mid-after M (checks (nodesOf d) k (x .value)) (visits (nodesOf d) k (fieldValues fs)) (some-fits d k x fs) Nothing (mentioning d k x (T e) (M .b)) L (λ u. mentioningAll d k (T e) fs) l refl (cc (g, L .gone .is))
 
-    fields-stop : r ≡ Done.Out → Ends f w₀ w′ T d (K .records) (K .fields) (done Done.Out) whole
+    fields-stop : r ≡ Done.Out → Ends f w₀ ou₀ w′ ou′ T d (K .records) (K .fields) (done Done.Out) whole
     unfolding checkFields
     fields-stop g = mid-ends M (stop-done (checks (nodesOf d) k (x .value)) (visits (nodesOf d) k (fieldValues fs)) (visits (nodesOf d) k (fieldValues (x ∷ fs))) (some-fits d k x fs) Nothing (mentioning d k x (T e) (M .b))
         (λ u. mentioningAll d k (T e) fs) g refl (M .begins) mentioned-ends)
 
-pub record FieldsGoing (f w₀ : List ℕ) (l : Items) (e left : ℕ) (w : List ℕ) (i rest : ℕ) : Type 0 where
+pub record FieldsGoing (f w₀ ou₀ : List ℕ) (l : Items) (e left : ℕ) (w ou : List ℕ) (i rest : ℕ) : Type 0 where
   pub within : i ≤ l .n
   pub named : (d : Described) (k : ℕ) → AllNamed d k (fieldValues (fieldsFrom f l 0 (l .n))) → AllNamed d k (fieldValues (fieldsFrom f l i (l .n - i)))
-  pub to : (d : Described) (k : ℕ) (fs : List Syntax.Field) → fs ≡ fieldsFrom f l 0 (l .n) → AllNamed d k (fieldValues fs) → (T : Rows) (c : Checker) → Begins f w₀ T d (visits (nodesOf d) k (fieldValues fs)) left c → FineRecord w₀ e T c
-      → Midway f w₀ w T d (visits (nodesOf d) k (fieldValues fs)) (visits (nodesOf d) k (fieldValues (fieldsFrom f l i (l .n - i)))) rest c (mentioningAll d k (T e) fs c) (mentioningAll d k (T e) (fieldsFrom f l i (l .n - i)))
+  pub to : (d : Described) (k : ℕ) (fs : List Syntax.Field) → fs ≡ fieldsFrom f l 0 (l .n) → AllNamed d k (fieldValues fs) → (T : Rows) (c : Checker) → Begins f w₀ ou₀ T d (visits (nodesOf d) k (fieldValues fs)) left c → FineRecord w₀ e T c
+      → Midway f w₀ ou₀ w ou T d (visits (nodesOf d) k (fieldValues fs)) (visits (nodesOf d) k (fieldValues (fieldsFrom f l i (l .n - i)))) rest c (mentioningAll d k (T e) fs c) (mentioningAll d k (T e) (fieldsFrom f l i (l .n - i)))
 
-pub fields-start : (f w : List ℕ) (l : Items) (e left : ℕ) → FieldsGoing f w l e left w 0 left
+pub fields-start : (f w : List ℕ) {ou : List ℕ} (l : Items) (e left : ℕ) → FieldsGoing f w ou l e left w ou 0 left
 fields-start f w l e left =
     let z : l .n - 0 ≡ l .n = omega arith in
     record { within = omega arith; named = λ d k h. rw z h; to = λ d k fs q all T c s fine. rw (z, ← q) (mid-start (mentioningAll d k (T e) fs c) (mentioningAll d k (T e) fs) s refl) }
 
-module _ {f w₀ w : List ℕ} {l : Items} {e left i rest : ℕ} (A : FieldsGoing f w₀ l e left w i rest) where
-  pub fields-end : l .n ≤ i → ChecksFields f w₀ l e left w (Done.On rest)
+module _ {f w₀ ou₀ w ou : List ℕ} {l : Items} {e left i rest : ℕ} (A : FieldsGoing f w₀ ou₀ l e left w ou i rest) where
+  pub fields-end : l .n ≤ i → ChecksFields f w₀ ou₀ l e left w ou (Done.On rest)
   fields-end h = record { is = λ d k fs q named. record { is = λ T c s fine. fields-done k e fine (rw (fields-none f l i h) at (A .to d k fs q named T c s fine)) } }
 
-  module _ (h : i < l .n) {w′ : List ℕ} {r : Done} (U : Mentions f w (fieldW f l i .name) (fieldW f l i .value) e rest w′ r) where
+  module _ (h : i < l .n) {w′ ou′ : List ℕ} {r : Done} (U : Mentions f w ou (fieldW f l i .name) (fieldW f l i .value) e rest w′ ou′ r) where
     first-named : (d : Described) (k : ℕ) → AllNamed d k (fieldValues (fieldsFrom f l 0 (l .n))) → AllNamed d k (fieldValues (fieldOf (fieldW f l i) ∷ fieldsFrom f l (i + 1) (l .n - (i + 1))))
     first-named d k all = rw (fields-some f l i h) at (A .named d k all)
 
-    pub fields-out : r ≡ Done.Out → ChecksFields f w₀ l e left w′ Done.Out
+    pub fields-out : r ≡ Done.Out → ChecksFields f w₀ ou₀ l e left w′ ou′ Done.Out
     unfolding fieldValues fieldOf
     fields-out g = record {
       is = λ d k fs q named. record {
@@ -141,7 +142,7 @@ module _ {f w₀ w : List ℕ} {l : Items} {e left i rest : ℕ} (A : FieldsGoin
       };
     }
 
-    pub fields-next : {left′ : ℕ} → r ≡ Done.On left′ → FieldsGoing f w₀ l e left w′ (i + 1) left′
+    pub fields-next : {left′ : ℕ} → r ≡ Done.On left′ → FieldsGoing f w₀ ou₀ l e left w′ ou′ (i + 1) left′
     unfolding fieldValues fieldOf
     fields-next g = record {
       within = omega arith;

@@ -10,12 +10,14 @@ use Rattle.meaning.specs.Syntax.{Query}
 use Rattle.meaning.specs.References.{stmtNodes, queryNodes}
 use Rattle.meaning.specs.File.{Described}
 use Rattle.meaning.specs.Check.{Checker, Step, andThen, form, headForm, query, begin}
-use Rattle.meaning.specs.Run.{sumOf, run}
+use Rattle.meaning.specs.Run.{run}
+use Rattle.meaning.specs.Weights.{sumOf}
 use Rattle.meaning.specs.Conditions.{maxNodes}
 use Rattle.meaning.specs.Sound.{Sound}
 use Rattle.meaning.proofs.Run.{begin-orderly, begin-ready, query-size, query-records, query-fields, sound-wellFormed}
 use Rattle.tree.specs.Stands.{Stands}
-use Rattle.meaning.proofs.Steps.{one-diagnostic, Nothing}
+use Rattle.meaning.specs.Grades.{one-diagnostic}
+use Rattle.meaning.proofs.Steps.{Nothing}
 use Rattle.meaning.proofs.Visits.{size-pos, stmts-meets, headForm-meets}
 use Rattle.tree.specs.declared.Stmts.{Stmts}
 use Rattle.tree.specs.Nodes.{stmtsW, headW, bodyW}
@@ -31,6 +33,7 @@ use Rattle.steps.specs.Loads.{only, both, Holds, infers, visits, Begins}
 use Rattle.steps.specs.Contracts.{nodesOf, onlyW, Starts, Named, AllNamed, Heads}
 use Rattle.steps.specs.Outside.{ChecksHead, StartsRun}
 use Rattle.checker.specs.Contracts.{below, Infers, StatesAll, Ran, to-the-end, out-of-visits, Queries}
+use Rattle.steps.proofs.Sequel.{gone-as}
 use Rattle.steps.proofs.Results.{then-done, stop-done, then-silent}
 use Rattle.checker.proofs.Inferring.{good}
 use Rattle.checker.proofs.Bodies.{sayingAll}
@@ -43,20 +46,20 @@ query-fits : (d : Described) (q : Query) → Holds (both (visits (nodesOf d) (de
 unfolding queryNodes sumOf
 query-fits d q = record { grade = omega (arith, size-pos (nodesOf d) (depth d) (q .head)); records = omega arith; fields = omega arith }
 
-counted-ends : {f w w′ : List ℕ} {T : Rows} {d : Described} {n m : ℕ} {r : Typed} {s : Step Tree.Ty} → Ends f w w′ T d n m (typed w′ r) s → Ends f w w′ T d n m (counted (onlyW r)) s
-counted-ends (went g) = went (record { T′ = g .T′; more = g .more; runs = g .runs; grew = g .grew; is = ap onlyW (g .is .res) })
-counted-ends (spent o) = spent (ap onlyW o)
+counted-ends : {f w ou w′ ou′ : List ℕ} {T : Rows} {d : Described} {n m : ℕ} {r : Typed} {s : Step Tree.Ty} → Ends f w ou w′ ou′ T d n m (typed w′ r) s → Ends f w ou w′ ou′ T d n m (counted (onlyW r)) s
+counted-ends (went g) = went (gone-as (omega arith) (omega arith) (λ R x. ap onlyW (x .res)) g)
+counted-ends (spent g) = spent (gone-as (omega arith) (omega arith) (λ R x. ap onlyW x) g)
 
-module _ {f w w₁ : List ℕ} {body : Stmts} {left : ℕ} {x : Done} (S : StatesAll f w body left w₁ x) (T : Rows) (d : Described) (c : Checker) (q : Query) (e : q .body ≡ stmtsW f body)
-    (named : AllNamed d (depth d) (queryNodes q)) (s : Begins f w T d (visits (nodesOf d) (depth d) (queryNodes q)) left c) where
-  pub query-out : x ≡ Done.Out → Ends f w w₁ T d (visits (nodesOf d) (depth d) (queryNodes q) .records) (visits (nodesOf d) (depth d) (queryNodes q) .fields) (counted Done.Out) (query (d .schema) (nodesOf d) q c)
+module _ {f w ou w₁ ou₁ : List ℕ} {body : Stmts} {left : ℕ} {x : Done} (S : StatesAll f w ou body left w₁ ou₁ x) (T : Rows) (d : Described) (c : Checker) (q : Query) (e : q .body ≡ stmtsW f body)
+    (named : AllNamed d (depth d) (queryNodes q)) (s : Begins f w ou T d (visits (nodesOf d) (depth d) (queryNodes q)) left c) where
+  pub query-out : x ≡ Done.Out → Ends f w ou w₁ ou₁ T d (visits (nodesOf d) (depth d) (queryNodes q) .records) (visits (nodesOf d) (depth d) (queryNodes q) .fields) (counted Done.Out) (query (d .schema) (nodesOf d) q c)
   unfolding query queryNodes
   query-out g = stop-done (visits (nodesOf d) (depth d) (stmtNodes (q .body))) (both (only one-diagnostic) (infers (nodesOf d) (depth d) (q .head))) (visits (nodesOf d) (depth d) (queryNodes q)) (query-fits d q) Nothing (sayingAll d (depth d) (q .body) c)
       (λ u b. andThen (headForm (d .schema) (nodesOf d) (q .head) (form (d .schema) (nodesOf d) (q .head)) b) (λ u. below d (depth d) .infer (q .head))) g refl s
       (λ s₁. S .is d (depth d) (q .body) e (named .1) .is T c s₁ tt)
 
-  pub query-on : {w₂ w₃ : List ℕ} {l : ℕ} {r : Typed} → x ≡ Done.On l → Heads f w₁ (q .head) l w₂ → Infers f w₂ (q .head) l w₃ r
-      → Ends f w w₃ T d (visits (nodesOf d) (depth d) (queryNodes q) .records) (visits (nodesOf d) (depth d) (queryNodes q) .fields) (counted (onlyW r)) (query (d .schema) (nodesOf d) q c)
+  pub query-on : {w₂ ou₂ w₃ ou₃ : List ℕ} {l : ℕ} {r : Typed} → x ≡ Done.On l → Heads f w₁ ou₁ (q .head) l w₂ ou₂ → Infers f w₂ ou₂ (q .head) l w₃ ou₃ r
+      → Ends f w ou w₃ ou₃ T d (visits (nodesOf d) (depth d) (queryNodes q) .records) (visits (nodesOf d) (depth d) (queryNodes q) .fields) (counted (onlyW r)) (query (d .schema) (nodesOf d) q c)
   unfolding query queryNodes
   query-on g H I =
       let k = depth d in
@@ -69,14 +72,15 @@ module _ {f w w₁ : List ℕ} {body : Stmts} {left : ℕ} {x : Done} (S : State
       (λ T₂ b₂ a₂ h. counted-ends (I .is d k (named .0) .is T₂ b₂ (a₂ .begins) tt)))
 
 -- ---- The start: no node has a type, and all that the query's nodes make fits
-pub query-begins : {f w w₁ : List ℕ} (T : Rows) (d : Described) (ceiling : ℕ) → Starts f w w₁ → Sound d → Stands f w T d
-    → Begins f w₁ T d (visits (nodesOf d) (depth d) (queryNodes (d .ast .query))) ceiling (begin ceiling (depth d))
+pub query-begins : {f w w₁ ou₁ : List ℕ} (T : Rows) (d : Described) (ceiling : ℕ) → Starts f w w₁ → Sound d → Stands f w T d
+    → Begins f w₁ ou₁ T d (visits (nodesOf d) (depth d) (queryNodes (d .ast .query))) ceiling (begin ceiling (depth d))
 unfolding begin maxNodes
 query-begins T d ceiling S sound stands =
     let wf = sound-wellFormed d sound in
     record {
       sound = sound;
       runs = S .is T d ceiling sound stands;
+      lines = S .lines _ d ceiling;
       orderly = begin-orderly ceiling (depth d);
       visits = refl;
       free = record {
@@ -89,9 +93,9 @@ query-begins T d ceiling S sound stands =
     }
 
 -- ---- The whole
-ran : {f w w′ : List ℕ} {T : Rows} {d : Described} {n m : ℕ} {r : Done} {s : Step Tree.Ty} → Ends f w w′ T d n m (counted r) s → Ran f w′ d r s
-ran (went g) = to-the-end (g .T′) (g .runs) (g .is)
-ran (spent o) = out-of-visits o
+ran : {f w ou w′ ou′ : List ℕ} {T : Rows} {d : Described} {n m : ℕ} {r : Done} {s : Step Tree.Ty} → Ends f w ou w′ ou′ T d n m (counted r) s → Ran f w′ ou′ d r s
+ran (went g) = to-the-end (g .T′) (g .runs) (g .lines) (g .is)
+ran (spent g) = out-of-visits (g .T′) (g .runs) (g .lines) (g .is)
 
 query-named : (d : Described) → Sound d → AllNamed d (depth d) (queryNodes (d .ast .query))
 query-named d sound = all-map (λ m. m < depth d) (Named d (depth d)) (queryNodes (d .ast .query)) (λ m l. record { there = l; under = l }) (sound .query)
@@ -101,8 +105,8 @@ unfolding bodyW
 body-lower w q = rw q (omega arith)
 
 module _ {f w w₁ : List ℕ} (ceiling : ℕ) {head : ℕ} {b : Stmts} (S : StartsRun w w₁) (hd : head ≡ headW f w₁) (bd : b ≡ bodyW w₁) where
-  module _ (T : Rows) (d : Described) (sound : Sound d) (stands : Stands f w T d) where
-    starts : Begins f w₁ T d (visits (nodesOf d) (depth d) (queryNodes (d .ast .query))) ceiling (begin ceiling (depth d))
+  module _ (ou : List ℕ) (T : Rows) (d : Described) (sound : Sound d) (stands : Stands f w T d) where
+    starts : Begins f w₁ ou T d (visits (nodesOf d) (depth d) (queryNodes (d .ast .query))) ceiling (begin ceiling (depth d))
     starts = query-begins T d ceiling (S .is f) sound stands
 
     head-is : head ≡ d .ast .query .head
@@ -111,18 +115,23 @@ module _ {f w w₁ : List ℕ} (ceiling : ℕ) {head : ℕ} {b : Stmts} (S : Sta
     body-says : d .ast .query .body ≡ stmtsW f b
     body-says = sym (ap (stmtsW f) bd ∙ query-body-is f w₁ (d .ast .query) (starts .runs .stands .query) (depth d) (starts .runs .stands .few) (rw (all-below (depth d) (queryNodes (d .ast .query)) (sound .query)) tt))
 
-  module _ {w₂ : List ℕ} {x : Done} (D : StatesAll f w₁ b ceiling w₂ x) where
-    pub queried-out : x ≡ Done.Out → Queries f w ceiling w₂ Done.Out
+  module _ {ou w₂ ou₂ : List ℕ} {x : Done} (D : StatesAll f w₁ ou b ceiling w₂ ou₂ x) where
+    pub queried-out : x ≡ Done.Out → length w₂ ≡ length w → length ou₂ ≡ length ou → Queries f w ou ceiling w₂ ou₂ Done.Out
     unfolding run
-    queried-out e = record {
-      is = λ T d sound stands. ran (query-out D T d (begin ceiling (depth d)) (d .ast .query) (body-says T d sound stands) (query-named d sound) (starts T d sound stands) e);
+    queried-out e words slice = record {
+      is = λ T d sound stands. ran (query-out D T d (begin ceiling (depth d)) (d .ast .query) (body-says ou T d sound stands) (query-named d sound) (starts ou T d sound stands) e);
+      words = words;
+      slice = slice;
     }
 
-    pub queried-on : {w₃ w₄ : List ℕ} {l : ℕ} {r : Typed} → x ≡ Done.On l → ChecksHead f w₂ head w₃ → Infers f w₃ head l w₄ r → Queries f w ceiling w₄ (onlyW r)
+    pub queried-on : {w₃ ou₃ w₄ ou₄ : List ℕ} {l : ℕ} {r : Typed} → x ≡ Done.On l → ChecksHead f w₂ ou₂ head w₃ ou₃ → Infers f w₃ ou₃ head l w₄ ou₄ r
+        → length w₄ ≡ length w → length ou₄ ≡ length ou → Queries f w ou ceiling w₄ ou₄ (onlyW r)
     unfolding run
-    queried-on {w₃} {w₄} {l} {r} e H I = record {
+    queried-on {w₃} {ou₃} {w₄} {ou₄} {l} {r} e H I words slice = record {
       is = λ T d sound stands.
-          let at = head-is T d sound stands in
-          ran (query-on D T d (begin ceiling (depth d)) (d .ast .query) (body-says T d sound stands) (query-named d sound) (starts T d sound stands) e
-          (subst (λ (n : ℕ). Heads f w₂ n l w₃) at (H .is l)) (subst (λ (n : ℕ). Infers f w₃ n l w₄ r) at I));
+          let at = head-is ou T d sound stands in
+          ran (query-on D T d (begin ceiling (depth d)) (d .ast .query) (body-says ou T d sound stands) (query-named d sound) (starts ou T d sound stands) e
+          (subst (λ (n : ℕ). Heads f w₂ ou₂ n l w₃ ou₃) at (H .is l)) (subst (λ (n : ℕ). Infers f w₃ ou₃ n l w₄ ou₄ r) at I));
+      words = words;
+      slice = slice;
     }

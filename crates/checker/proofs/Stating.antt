@@ -11,8 +11,9 @@ use Rattle.meaning.specs.Diag.{Code}
 use Rattle.meaning.specs.File.{Described}
 use Rattle.meaning.specs.Check as Check
 use Rattle.meaning.specs.Check.{Checker, andThen, introduce, annotate, reject, unifyAt, bindVariable, badTarget, onlyRight, notYet, destructure, bindWildcard}
-use Rattle.meaning.specs.Run.{same, sumOf}
-use Rattle.meaning.proofs.Steps.{one-diagnostic, one-unknown, one-node, Nothing, IsUnknown, reject-meets, introduce-meets, annotate-meets}
+use Rattle.meaning.specs.Weights.{same, sumOf}
+use Rattle.meaning.specs.Grades.{one-diagnostic, one-unknown, one-node}
+use Rattle.meaning.proofs.Steps.{Nothing, IsUnknown, reject-meets, introduce-meets, annotate-meets}
 use Rattle.meaning.proofs.Visits.{size-pos, own-weight}
 use Rattle.steps.specs.declared.Typed.{Typed}
 use Rattle.steps.specs.declared.Typed.the-variants as Typed
@@ -28,11 +29,11 @@ use Rattle.steps.proofs.Results.{fine-after, tree-after, then-typed, stop-typed
 use Rattle.checker.proofs.Inferring.{good, ok-unknown}
 
 -- ---- The right side alone
-abbrev pub OnlyRights : List ℕ → List ℕ → ℕ → ℕ → ℕ → List ℕ → Done → Type 0
-OnlyRights f w lhs rhs left w′ r = Sides (λ d b x y. onlyRight (d .schema) (nodesOf d) b y) f w lhs rhs left w′ r
+abbrev pub OnlyRights : List ℕ → List ℕ → List ℕ → ℕ → ℕ → ℕ → List ℕ → List ℕ → Done → Type 0
+OnlyRights f w ou lhs rhs left w′ ou′ r = Sides (λ d b x y. onlyRight (d .schema) (nodesOf d) b y) f w ou lhs rhs left w′ ou′ r
 
-right-ends : {f w w′ : List ℕ} {rhs left : ℕ} {r : Typed} {T : Rows} {d : Described} {k : ℕ} {c : Checker} → Infers f w rhs left w′ r → Named d k rhs → Begins f w T d (infers (nodesOf d) k rhs) left c
-    → Ends f w w′ T d (infers (nodesOf d) k rhs .records) (infers (nodesOf d) k rhs .fields) (done (onlyW r)) (onlyRight (d .schema) (nodesOf d) (below d k) rhs c)
+right-ends : {f w ou w′ ou′ : List ℕ} {rhs left : ℕ} {r : Typed} {T : Rows} {d : Described} {k : ℕ} {c : Checker} → Infers f w ou rhs left w′ ou′ r → Named d k rhs → Begins f w ou T d (infers (nodesOf d) k rhs) left c
+    → Ends f w ou w′ ou′ T d (infers (nodesOf d) k rhs .records) (infers (nodesOf d) k rhs .fields) (done (onlyW r)) (onlyRight (d .schema) (nodesOf d) (below d k) rhs c)
 unfolding onlyRight
 right-ends {rhs = rhs} {T = T} {d = d} {k = k} {c = c} I named s = only-ends (below d k .infer rhs c) (I .is d k named .is T c s tt)
 
@@ -40,7 +41,7 @@ right-fits : (d : Described) (k lhs rhs : ℕ) → Holds (both (only one-diagnos
 unfolding sumOf
 right-fits d k lhs rhs = record { grade = omega (arith, size-pos (nodesOf d) k lhs); records = omega arith; fields = omega arith }
 
-pub only-right : {f w w′ : List ℕ} {lhs rhs left : ℕ} {r : Typed} → Infers f w rhs left w′ r → OnlyRights f w lhs rhs left w′ (onlyW r)
+pub only-right : {f w ou w′ ou′ : List ℕ} {lhs rhs left : ℕ} {r : Typed} → Infers f w ou rhs left w′ ou′ r → OnlyRights f w ou lhs rhs left w′ ou′ (onlyW r)
 unfolding sumOf
 only-right {lhs = lhs} {rhs = rhs} I = record {
   is = λ d k nl nr. record {
@@ -50,7 +51,7 @@ only-right {lhs = lhs} {rhs = rhs} I = record {
 }
 
 -- ---- A target that can't be
-pub bad-target : {f w w₁ w₂ : List ℕ} {lhs rhs left : ℕ} {r : Typed} → Rejects f w lhs Code.RejectBindLhs left w₁ → Infers f w₁ rhs left w₂ r → BadTargets f w lhs rhs left w₂ (onlyW r)
+pub bad-target : {f w ou w₁ ou₁ w₂ ou₂ : List ℕ} {lhs rhs left : ℕ} {r : Typed} → Rejects f w ou lhs Code.RejectBindLhs left w₁ ou₁ → Infers f w₁ ou₁ rhs left w₂ ou₂ r → BadTargets f w ou lhs rhs left w₂ ou₂ (onlyW r)
 unfolding badTarget onlyRight
 bad-target {lhs = lhs} {rhs = rhs} R I = record {
   is = λ d k nl nr. record {
@@ -69,8 +70,8 @@ both-fits : (d : Described) (k lhs rhs : ℕ) → Holds (both (only one-diagnost
 unfolding sumOf
 both-fits d k lhs rhs = record { grade = omega (arith, size-pos (nodesOf d) k lhs); records = omega arith; fields = omega arith }
 
-module _ {f w w₁ w₂ : List ℕ} {lhs rhs left : ℕ} {r : Typed} (R : Rejects f w lhs Code.NyiBindUnification left w₁) (I : Infers f w₁ lhs left w₂ r) where
-  pub not-yet : {w₃ : List ℕ} {t : Ty} {l : ℕ} {x : Typed} → r ≡ Typed.Got t l → Infers f w₂ rhs l w₃ x → NotYets f w lhs rhs left w₃ (onlyW x)
+module _ {f w ou w₁ ou₁ w₂ ou₂ : List ℕ} {lhs rhs left : ℕ} {r : Typed} (R : Rejects f w ou lhs Code.NyiBindUnification left w₁ ou₁) (I : Infers f w₁ ou₁ lhs left w₂ ou₂ r) where
+  pub not-yet : {w₃ ou₃ : List ℕ} {t : Ty} {l : ℕ} {x : Typed} → r ≡ Typed.Got t l → Infers f w₂ ou₂ rhs l w₃ ou₃ x → NotYets f w ou lhs rhs left w₃ ou₃ (onlyW x)
   unfolding notYet onlyRight
   not-yet g J = record {
     is = λ d k nl nr. record {
@@ -84,7 +85,7 @@ module _ {f w w₁ w₂ : List ℕ} {lhs rhs left : ℕ} {r : Typed} (R : Reject
     };
   }
 
-  pub not-yet-out : r ≡ Typed.Out → NotYets f w lhs rhs left w₂ Done.Out
+  pub not-yet-out : r ≡ Typed.Out → NotYets f w ou lhs rhs left w₂ ou₂ Done.Out
   unfolding notYet onlyRight
   not-yet-out g = record {
     is = λ d k nl nr. record {
@@ -101,18 +102,18 @@ module _ {f w w₁ w₂ : List ℕ} {lhs rhs left : ℕ} {r : Typed} (R : Reject
 unified-fits : (d : Described) (k rhs : ℕ) → Holds (both (infers (nodesOf d) k rhs) (only one-diagnostic)) (both (infers (nodesOf d) k rhs) (only one-diagnostic))
 unified-fits d k rhs = record { grade = omega arith; records = omega arith; fields = omega arith }
 
-module _ {f w w₁ : List ℕ} {rhs left : ℕ} {r : Typed} {t : Ty} {T : Rows} {d : Described} {k : ℕ} {c : Checker} (I : Infers f w rhs left w₁ r) (named : Named d k rhs) (fine : Fine w t T c)
-    (s : Begins f w T d (both (infers (nodesOf d) k rhs) (only one-diagnostic)) left c) where
+module _ {f w ou w₁ ou₁ : List ℕ} {rhs left : ℕ} {r : Typed} {t : Ty} {T : Rows} {d : Described} {k : ℕ} {c : Checker} (I : Infers f w ou rhs left w₁ ou₁ r) (named : Named d k rhs) (fine : Fine w t T c)
+    (s : Begins f w ou T d (both (infers (nodesOf d) k rhs) (only one-diagnostic)) left c) where
   abbrev rest : Load
   rest = both (infers (nodesOf d) k rhs) (only one-diagnostic)
 
-  unified-ends : {w₂ : List ℕ} {u : Ty} {l : ℕ} {x : Done} → r ≡ Typed.Got u l → UnifiesAt f w₁ rhs u t l w₂ x
-      → Ends f w w₂ T d (rest .records) (rest .fields) (done x) (andThen (below d k .infer rhs c) (λ ty. unifyAt (d .schema) (nodesOf d) rhs ty (tree T t)))
+  unified-ends : {w₂ ou₂ : List ℕ} {u : Ty} {l : ℕ} {x : Done} → r ≡ Typed.Got u l → UnifiesAt f w₁ ou₁ rhs u t l w₂ ou₂ x
+      → Ends f w ou w₂ ou₂ T d (rest .records) (rest .fields) (done x) (andThen (below d k .infer rhs c) (λ ty. unifyAt (d .schema) (nodesOf d) rhs ty (tree T t)))
   unified-ends g U = then-typed (infers (nodesOf d) k rhs) (only one-diagnostic) rest (unified-fits d k rhs) (below d k .infer rhs c) (λ ty. unifyAt (d .schema) (nodesOf d) rhs ty (tree T t)) g s
       (λ y. good s k .infer rhs c (s .orderly) y) (λ s₁. I .is d k named .is T c s₁ tt)
       (λ T₁ b a fine₁. rw (← tree-after a t (fine .ok)) (U .is d (named .there) .is T₁ b (a .begins) (fine₁, fine-after a t fine)))
 
-  unified-out : r ≡ Typed.Out → Ends f w w₁ T d (rest .records) (rest .fields) (done Done.Out) (andThen (below d k .infer rhs c) (λ ty. unifyAt (d .schema) (nodesOf d) rhs ty (tree T t)))
+  unified-out : r ≡ Typed.Out → Ends f w ou w₁ ou₁ T d (rest .records) (rest .fields) (done Done.Out) (andThen (below d k .infer rhs c) (λ ty. unifyAt (d .schema) (nodesOf d) rhs ty (tree T t)))
   unified-out g = stop-typed (infers (nodesOf d) k rhs) (only one-diagnostic) rest (unified-fits d k rhs) (below d k .infer rhs c) (λ ty. unifyAt (d .schema) (nodesOf d) rhs ty (tree T t)) g refl s
       (λ s₁. I .is d k named .is T c s₁ tt)
 
@@ -121,12 +122,12 @@ pattern-fits : (d : Described) (k lhs rhs : ℕ) → Holds (both (infers (nodesO
 unfolding sumOf
 pattern-fits d k lhs rhs = record { grade = omega (arith, size-pos (nodesOf d) k rhs); records = omega arith; fields = omega arith }
 
-module _ {f w w₁ : List ℕ} {lhs rhs left : ℕ} {r : Typed} (I : Infers f w lhs left w₁ r) where
+module _ {f w ou w₁ ou₁ : List ℕ} {lhs rhs left : ℕ} {r : Typed} (I : Infers f w ou lhs left w₁ ou₁ r) where
   -- What follows the left side.
-  destructured : {w₂ : List ℕ} {x : Done} {t : Ty} {l : ℕ} → r ≡ Typed.Got t l
-      → ((d : Described) (k : ℕ) → Named d k rhs → (T : Rows) (c : Checker) → Fine w₁ t T c → Begins f w₁ T d (both (infers (nodesOf d) k rhs) (only one-diagnostic)) l c
-      → Ends f w₁ w₂ T d (both (infers (nodesOf d) k rhs) (only one-diagnostic) .records) (both (infers (nodesOf d) k rhs) (only one-diagnostic) .fields) (done x) (andThen (below d k .infer rhs c) (λ ty. unifyAt (d .schema) (nodesOf d) rhs ty (tree T t))))
-      → Destructures f w lhs rhs left w₂ x
+  destructured : {w₂ ou₂ : List ℕ} {x : Done} {t : Ty} {l : ℕ} → r ≡ Typed.Got t l
+      → ((d : Described) (k : ℕ) → Named d k rhs → (T : Rows) (c : Checker) → Fine w₁ t T c → Begins f w₁ ou₁ T d (both (infers (nodesOf d) k rhs) (only one-diagnostic)) l c
+      → Ends f w₁ ou₁ w₂ ou₂ T d (both (infers (nodesOf d) k rhs) (only one-diagnostic) .records) (both (infers (nodesOf d) k rhs) (only one-diagnostic) .fields) (done x) (andThen (below d k .infer rhs c) (λ ty. unifyAt (d .schema) (nodesOf d) rhs ty (tree T t))))
+      → Destructures f w ou lhs rhs left w₂ ou₂ x
   unfolding destructure
   destructured g next = record {
     is = λ d k nl nr. record {
@@ -137,7 +138,7 @@ module _ {f w w₁ : List ℕ} {lhs rhs left : ℕ} {r : Typed} (I : Infers f w 
     };
   }
 
-  pub destructure-out : r ≡ Typed.Out → Destructures f w lhs rhs left w₁ Done.Out
+  pub destructure-out : r ≡ Typed.Out → Destructures f w ou lhs rhs left w₁ ou₁ Done.Out
   unfolding destructure
   destructure-out g = record {
     is = λ d k nl nr. record {
@@ -147,11 +148,11 @@ module _ {f w w₁ : List ℕ} {lhs rhs left : ℕ} {r : Typed} (I : Infers f w 
     };
   }
 
-  module _ {w₂ : List ℕ} {t : Ty} {l : ℕ} {y : Typed} (g : r ≡ Typed.Got t l) (J : Infers f w₁ rhs l w₂ y) where
-    pub destructure-unified : {w₃ : List ℕ} {u : Ty} {v : ℕ} {x : Done} → y ≡ Typed.Got u v → UnifiesAt f w₂ rhs u t v w₃ x → Destructures f w lhs rhs left w₃ x
+  module _ {w₂ ou₂ : List ℕ} {t : Ty} {l : ℕ} {y : Typed} (g : r ≡ Typed.Got t l) (J : Infers f w₁ ou₁ rhs l w₂ ou₂ y) where
+    pub destructure-unified : {w₃ ou₃ : List ℕ} {u : Ty} {v : ℕ} {x : Done} → y ≡ Typed.Got u v → UnifiesAt f w₂ ou₂ rhs u t v w₃ ou₃ x → Destructures f w ou lhs rhs left w₃ ou₃ x
     destructure-unified h U = destructured g (λ d k nr T c fine s. unified-ends J nr fine s h U)
 
-    pub destructure-right-out : y ≡ Typed.Out → Destructures f w lhs rhs left w₂ Done.Out
+    pub destructure-right-out : y ≡ Typed.Out → Destructures f w ou lhs rhs left w₂ ou₂ Done.Out
     destructure-right-out h = destructured g (λ d k nr T c fine s. unified-out J nr fine s h)
 
 -- ---- A wildcard on the left
@@ -163,11 +164,11 @@ wildcard-fits d k lhs rhs = record {
   fields = omega arith;
 }
 
-abbrev pub Wildcards : List ℕ → List ℕ → ℕ → ℕ → ℕ → List ℕ → Done → Type 0
-Wildcards f w lhs rhs left w′ r = Sides (λ d b x y. bindWildcard (d .schema) (nodesOf d) b x y) f w lhs rhs left w′ r
+abbrev pub Wildcards : List ℕ → List ℕ → List ℕ → ℕ → ℕ → ℕ → List ℕ → List ℕ → Done → Type 0
+Wildcards f w ou lhs rhs left w′ ou′ r = Sides (λ d b x y. bindWildcard (d .schema) (nodesOf d) b x y) f w ou lhs rhs left w′ ou′ r
 
-module _ {f w w₁ : List ℕ} {lhs rhs left : ℕ} {r : Typed} (I : Infers f w rhs left w₁ r) where
-  pub wildcard-noted : {w₂ : List ℕ} {t : Ty} {l : ℕ} → r ≡ Typed.Got t l → Notes f w₁ lhs t l w₂ → Wildcards f w lhs rhs left w₂ (Done.On l)
+module _ {f w ou w₁ ou₁ : List ℕ} {lhs rhs left : ℕ} {r : Typed} (I : Infers f w ou rhs left w₁ ou₁ r) where
+  pub wildcard-noted : {w₂ ou₂ : List ℕ} {t : Ty} {l : ℕ} → r ≡ Typed.Got t l → Notes f w₁ ou₁ lhs t l w₂ ou₂ → Wildcards f w ou lhs rhs left w₂ ou₂ (Done.On l)
   unfolding bindWildcard
   wildcard-noted g ann = record {
     is = λ d k nl nr. record {
@@ -177,7 +178,7 @@ module _ {f w w₁ : List ℕ} {lhs rhs left : ℕ} {r : Typed} (I : Infers f w 
     };
   }
 
-  pub wildcard-out : r ≡ Typed.Out → Wildcards f w lhs rhs left w₁ Done.Out
+  pub wildcard-out : r ≡ Typed.Out → Wildcards f w ou lhs rhs left w₁ ou₁ Done.Out
   unfolding bindWildcard
   wildcard-out g = record {
     is = λ d k nl nr. record {
@@ -196,11 +197,11 @@ noted-fits d k lhs rhs = record {
   fields = omega arith;
 }
 
-module _ {f w w₁ w₂ w₃ : List ℕ} {symbol lhs rhs left v : ℕ} {r : Typed} (B : Brings f w symbol left w₁ v) (ann : Notes f w₁ lhs (Var v) left w₂) (I : Infers f w₂ rhs left w₃ r) where
-  variable-then : {w₄ : List ℕ} {x : Done}
-      → ((d : Described) (k : ℕ) → Named d k rhs → (T : Rows) (c : Checker) → Fine w₂ (Var v) T c → Begins f w₂ T d (both (infers (nodesOf d) k rhs) (only one-diagnostic)) left c
-      → Ends f w₂ w₄ T d (both (infers (nodesOf d) k rhs) (only one-diagnostic) .records) (both (infers (nodesOf d) k rhs) (only one-diagnostic) .fields) (done x) (andThen (below d k .infer rhs c) (λ ty. unifyAt (d .schema) (nodesOf d) rhs ty (Tree.Var v))))
-      → BindsVariable f w symbol lhs rhs left w₄ x
+module _ {f w ou w₁ ou₁ w₂ ou₂ w₃ ou₃ : List ℕ} {symbol lhs rhs left v : ℕ} {r : Typed} (B : Brings f w ou symbol left w₁ ou₁ v) (ann : Notes f w₁ ou₁ lhs (Var v) left w₂ ou₂) (I : Infers f w₂ ou₂ rhs left w₃ ou₃ r) where
+  variable-then : {w₄ ou₄ : List ℕ} {x : Done}
+      → ((d : Described) (k : ℕ) → Named d k rhs → (T : Rows) (c : Checker) → Fine w₂ (Var v) T c → Begins f w₂ ou₂ T d (both (infers (nodesOf d) k rhs) (only one-diagnostic)) left c
+      → Ends f w₂ ou₂ w₄ ou₄ T d (both (infers (nodesOf d) k rhs) (only one-diagnostic) .records) (both (infers (nodesOf d) k rhs) (only one-diagnostic) .fields) (done x) (andThen (below d k .infer rhs c) (λ ty. unifyAt (d .schema) (nodesOf d) rhs ty (Tree.Var v))))
+      → BindsVariable f w ou symbol lhs rhs left w₄ ou₄ x
   unfolding bindVariable
   variable-then next = record {
     is = λ small. record {
@@ -219,8 +220,8 @@ module _ {f w w₁ w₂ w₃ : List ℕ} {symbol lhs rhs left v : ℕ} {r : Type
     };
   }
 
-  pub variable-unified : {w₄ : List ℕ} {u : Ty} {l : ℕ} {x : Done} → r ≡ Typed.Got u l → UnifiesAt f w₃ rhs u (Var v) l w₄ x → BindsVariable f w symbol lhs rhs left w₄ x
+  pub variable-unified : {w₄ ou₄ : List ℕ} {u : Ty} {l : ℕ} {x : Done} → r ≡ Typed.Got u l → UnifiesAt f w₃ ou₃ rhs u (Var v) l w₄ ou₄ x → BindsVariable f w ou symbol lhs rhs left w₄ ou₄ x
   variable-unified g U = variable-then (λ d k nr T c fine s. unified-ends I nr fine s g U)
 
-  pub variable-out : r ≡ Typed.Out → BindsVariable f w symbol lhs rhs left w₃ Done.Out
+  pub variable-out : r ≡ Typed.Out → BindsVariable f w ou symbol lhs rhs left w₃ ou₃ Done.Out
   variable-out g = variable-then (λ d k nr T c fine s. unified-out I nr fine s g)

@@ -16,13 +16,13 @@ use Rattle.steps.specs.Loads.{checks, Beside}
 use Rattle.steps.specs.Contracts.{Fine, nodesOf, Named, Node-at}
 use Rattle.checker.specs.Contracts.{below, Sides}
 
-pub record ChecksField (f w : List ℕ) (n : ℕ) (t : Ty) (left : ℕ) (w′ : List ℕ) (r : Done) : Type 0 where
+pub record ChecksField (f w ou : List ℕ) (n : ℕ) (t : Ty) (left : ℕ) (w′ ou′ : List ℕ) (r : Done) : Type 0 where
   pub is : (d : Described) (k : ℕ) → Named d k n
-      → Beside f w left w′ (done r) d (checks (nodesOf d) k n) (Fine w t) (λ T. Check.checkField (d .schema) (nodesOf d) (below d k) n (tree T t))
+      → Beside f w ou left w′ ou′ (done r) d (checks (nodesOf d) k n) (Fine w t) (λ T. Check.checkField (d .schema) (nodesOf d) (below d k) n (tree T t))
 
-pub record ChecksRecord (f w : List ℕ) (n : ℕ) (l : Items) (t : Ty) (left : ℕ) (w′ : List ℕ) (r : Done) : Type 0 where
+pub record ChecksRecord (f w ou : List ℕ) (n : ℕ) (l : Items) (t : Ty) (left : ℕ) (w′ ou′ : List ℕ) (r : Done) : Type 0 where
   pub is : (d : Described) (k : ℕ) (fs : List Field) → fs ≡ fieldsFrom f l 0 (l .n) → Node-at d k n → nodeAt (nodesOf d) n .kind ≡ ExprKind.Record fs
-      → Beside f w left w′ (done r) d (checks (nodesOf d) (suc k) n) (Fine w t) (λ T. Check.checkRecord (d .schema) (nodesOf d) (below d k) n fs (tree T t))
+      → Beside f w ou left w′ ou′ (done r) d (checks (nodesOf d) (suc k) n) (Fine w t) (λ T. Check.checkRecord (d .schema) (nodesOf d) (below d k) n fs (tree T t))
 
-abbrev pub BadTargets : List ℕ → List ℕ → ℕ → ℕ → ℕ → List ℕ → Done → Type 0
-BadTargets f w lhs rhs left w′ r = Sides (λ d b x y. Check.badTarget (d .schema) (nodesOf d) b x y) f w lhs rhs left w′ r
+abbrev pub BadTargets : List ℕ → List ℕ → List ℕ → ℕ → ℕ → ℕ → List ℕ → List ℕ → Done → Type 0
+BadTargets f w ou lhs rhs left w′ ou′ r = Sides (λ d b x y. Check.badTarget (d .schema) (nodesOf d) b x y) f w ou lhs rhs left w′ ou′ r

@@ -10,6 +10,7 @@
 use mathlib.Core.List.{List, [], _∷_}
 use mathlib.Core.Path.{_≡_}
 use Prim.Native.Nat.{ℕ, suc, _<_}
+use lib.ListN.{length}
 use Rattle.unification.specs.Ty as Tree
 use Rattle.unification.specs.Unify.{findKey}
 use Rattle.cells.specs.declared.Ty.{Ty}
@@ -23,8 +24,9 @@ use Rattle.meaning.specs.Run.{run}
 use Rattle.tree.specs.Stands.{Stands}
 use Rattle.meaning.specs.Check as Check
 use Rattle.meaning.specs.Check.{Checker, Step, Does, goes, out, andThen, Walk, walk, form}
-use Rattle.meaning.proofs.Steps.{no-thing, Known}
+use Rattle.meaning.specs.Grades.{no-thing, Known}
 use Rattle.state.specs.Runs.{Runs}
+use Rattle.state.specs.Lines.{Told}
 use Rattle.tree.specs.declared.Items.{Items}
 use Rattle.tree.specs.declared.Stmts.{Stmts}
 use Rattle.tree.specs.Nodes.{fieldsFrom, itemsFrom, statement, stmtW, stmtsW}
@@ -41,110 +43,113 @@ abbrev pub below : Described → ℕ → Walk
 below d k = walk (d .schema) (nodesOf d) k
 
 -- ---- `infer`
-pub record Infers (f w : List ℕ) (n left : ℕ) (w′ : List ℕ) (r : Typed) : Type 0 where
-  pub is : (d : Described) (k : ℕ) → Named d k n → Beside f w left w′ (typed w′ r) d (infers (nodesOf d) k n) Always (λ T. below d k .infer n)
+pub record Infers (f w ou : List ℕ) (n left : ℕ) (w′ ou′ : List ℕ) (r : Typed) : Type 0 where
+  pub is : (d : Described) (k : ℕ) → Named d k n → Beside f w ou left w′ ou′ (typed w′ r) d (infers (nodesOf d) k n) Always (λ T. below d k .infer n)
   -- a variable that the environment has makes no unknown
   pub found : (d : Described) (k x : ℕ) → Named d k n → nodeAt (nodesOf d) n .kind ≡ ExprKind.Var x
-      → Beside f w left w′ (typed w′ r) d (finds (nodesOf d) k n) (λ T c. Known x c) (λ T. below d k .infer n)
+      → Beside f w ou left w′ ou′ (typed w′ r) d (finds (nodesOf d) k n) (λ T c. Known x c) (λ T. below d k .infer n)
 
-pub record InfersKind (f w : List ℕ) (n left : ℕ) (w′ : List ℕ) (r : Typed) : Type 0 where
+pub record InfersKind (f w ou : List ℕ) (n left : ℕ) (w′ ou′ : List ℕ) (r : Typed) : Type 0 where
   pub is : (d : Described) (k : ℕ) → Node-at d k n
-      → Beside f w left w′ (typed w′ r) d (parts (nodesOf d) k (nodeAt (nodesOf d) n .kind)) Always (λ T. Check.inferKind (d .schema) (nodesOf d) (below d k) n (nodeAt (nodesOf d) n .kind))
+      → Beside f w ou left w′ ou′ (typed w′ r) d (parts (nodesOf d) k (nodeAt (nodesOf d) n .kind)) Always (λ T. Check.inferKind (d .schema) (nodesOf d) (below d k) n (nodeAt (nodesOf d) n .kind))
   pub found : (d : Described) (k x : ℕ) → Node-at d k n → nodeAt (nodesOf d) n .kind ≡ ExprKind.Var x
-      → Beside f w left w′ (typed w′ r) d (only no-thing) (λ T c. Known x c) (λ T. Check.inferKind (d .schema) (nodesOf d) (below d k) n (nodeAt (nodesOf d) n .kind))
+      → Beside f w ou left w′ ou′ (typed w′ r) d (only no-thing) (λ T c. Known x c) (λ T. Check.inferKind (d .schema) (nodesOf d) (below d k) n (nodeAt (nodesOf d) n .kind))
 
 -- Names are half words.
-pub record InfersRecord (f w : List ℕ) (l : Items) (left : ℕ) (w′ : List ℕ) (r : Typed) : Type 0 where
+pub record InfersRecord (f w ou : List ℕ) (l : Items) (left : ℕ) (w′ ou′ : List ℕ) (r : Typed) : Type 0 where
   pub is : (d : Described) (k id : ℕ) (fs : List Field) → fs ≡ fieldsFrom f l 0 (l .n) → AllNamed d k (fieldValues fs) → Below 65536 (fieldNames fs)
-      → Beside f w left w′ (typed w′ r) d (parts (nodesOf d) k (ExprKind.Record fs)) Always (λ T. Check.inferKind (d .schema) (nodesOf d) (below d k) id (ExprKind.Record fs))
+      → Beside f w ou left w′ ou′ (typed w′ r) d (parts (nodesOf d) k (ExprKind.Record fs)) Always (λ T. Check.inferKind (d .schema) (nodesOf d) (below d k) id (ExprKind.Record fs))
 
 -- The type comes back with which all were unified.
 unfoldable pub allWith : Described → ℕ → Tree.Ty → List ℕ → Does Tree.Ty
 unfolding andThen
 allWith d k t es c = andThen (Check.inferAll (d .schema) (nodesOf d) (below d k) t es c) (λ u b. goes t b)
 
-pub record InfersAll (f w : List ℕ) (l : Items) (t : Ty) (left : ℕ) (w′ : List ℕ) (r : Typed) : Type 0 where
+pub record InfersAll (f w ou : List ℕ) (l : Items) (t : Ty) (left : ℕ) (w′ ou′ : List ℕ) (r : Typed) : Type 0 where
   pub is : (d : Described) (k : ℕ) (es : List ℕ) → es ≡ itemsFrom f l 0 (l .n) → AllNamed d k es
-      → Beside f w left w′ (typed w′ r) d (visits (nodesOf d) k es) (Fine w t) (λ T. allWith d k (tree T t) es)
+      → Beside f w ou left w′ ou′ (typed w′ r) d (visits (nodesOf d) k es) (Fine w t) (λ T. allWith d k (tree T t) es)
 
-pub record Subqueries (f w : List ℕ) (head : ℕ) (body : Stmts) (left : ℕ) (w′ : List ℕ) (r : Typed) : Type 0 where
+pub record Subqueries (f w ou : List ℕ) (head : ℕ) (body : Stmts) (left : ℕ) (w′ ou′ : List ℕ) (r : Typed) : Type 0 where
   pub is : (d : Described) (k : ℕ) (q : Query) → q ≡ record { head = head; body = stmtsW f body } → AllNamed d k (queryNodes q)
-      → Beside f w left w′ (typed w′ r) d (parts (nodesOf d) k (ExprKind.Subquery q)) Always (λ T. Check.subquery (d .schema) (nodesOf d) (below d k) q)
+      → Beside f w ou left w′ ou′ (typed w′ r) d (parts (nodesOf d) k (ExprKind.Subquery q)) Always (λ T. Check.subquery (d .schema) (nodesOf d) (below d k) q)
 
-pub record Facts (f w : List ℕ) (p key left : ℕ) (w′ : List ℕ) (r : Typed) : Type 0 where
+pub record Facts (f w ou : List ℕ) (p key left : ℕ) (w′ ou′ : List ℕ) (r : Typed) : Type 0 where
   pub is : (d : Described) (k : ℕ) → Named d k key
-      → Beside f w left w′ (typed w′ r) d (parts (nodesOf d) k (ExprKind.Fact p key)) Always (λ T. Check.fact (d .schema) (nodesOf d) (below d k) p key)
+      → Beside f w ou left w′ ou′ (typed w′ r) d (parts (nodesOf d) k (ExprKind.Fact p key)) Always (λ T. Check.fact (d .schema) (nodesOf d) (below d k) p key)
 
 -- ---- `check`
-pub record InfersThenUnifies (f w : List ℕ) (n : ℕ) (t : Ty) (left : ℕ) (w′ : List ℕ) (r : Done) : Type 0 where
+pub record InfersThenUnifies (f w ou : List ℕ) (n : ℕ) (t : Ty) (left : ℕ) (w′ ou′ : List ℕ) (r : Done) : Type 0 where
   pub is : (d : Described) (k : ℕ) → Node-at d k n
-      → Beside f w left w′ (done r) d (checks (nodesOf d) (suc k) n) (Fine w t) (λ T. Check.inferThenUnify (d .schema) (nodesOf d) (below d k) n (tree T t))
+      → Beside f w ou left w′ ou′ (done r) d (checks (nodesOf d) (suc k) n) (Fine w t) (λ T. Check.inferThenUnify (d .schema) (nodesOf d) (below d k) n (tree T t))
 
 -- A field that a record names, in a scope of its own: the expected record has it or not.
-pub record Mentions (f w : List ℕ) (name value e left : ℕ) (w′ : List ℕ) (r : Done) : Type 0 where
+pub record Mentions (f w ou : List ℕ) (name value e left : ℕ) (w′ ou′ : List ℕ) (r : Done) : Type 0 where
   pub is : (d : Described) (k : ℕ) → Named d k value
-      → Beside f w left w′ (done r) d (checks (nodesOf d) k value) (FineRecord w e) (λ T. Check.checkMentioned (d .schema) (nodesOf d) (below d k) (record { name = name; value = value }) (findKey name (T e)))
+      → Beside f w ou left w′ ou′ (done r) d (checks (nodesOf d) k value) (FineRecord w e) (λ T. Check.checkMentioned (d .schema) (nodesOf d) (below d k) (record { name = name; value = value }) (findKey name (T e)))
 
-pub record ChecksFields (f w : List ℕ) (l : Items) (e left : ℕ) (w′ : List ℕ) (r : Done) : Type 0 where
+pub record ChecksFields (f w ou : List ℕ) (l : Items) (e left : ℕ) (w′ ou′ : List ℕ) (r : Done) : Type 0 where
   pub is : (d : Described) (k : ℕ) (fs : List Field) → fs ≡ fieldsFrom f l 0 (l .n) → AllNamed d k (fieldValues fs)
-      → Beside f w left w′ (done r) d (visits (nodesOf d) k (fieldValues fs)) (FineRecord w e) (λ T. Check.checkFields (d .schema) (nodesOf d) (below d k) fs (T e))
+      → Beside f w ou left w′ ou′ (done r) d (visits (nodesOf d) k (fieldValues fs)) (FineRecord w e) (λ T. Check.checkFields (d .schema) (nodesOf d) (below d k) fs (T e))
 
-pub record ChecksUnion (f w : List ℕ) (n : ℕ) (l : Items) (e left : ℕ) (w′ : List ℕ) (r : Done) : Type 0 where
+pub record ChecksUnion (f w ou : List ℕ) (n : ℕ) (l : Items) (e left : ℕ) (w′ ou′ : List ℕ) (r : Done) : Type 0 where
   pub is : (d : Described) (k : ℕ) (fs : List Field) → fs ≡ fieldsFrom f l 0 (l .n) → Node-at d k n → nodeAt (nodesOf d) n .kind ≡ ExprKind.Record fs
-      → Beside f w left w′ (done r) d (checks (nodesOf d) (suc k) n) (FineUnion w e) (λ T. Check.checkUnion (d .schema) (nodesOf d) (below d k) n fs (T e))
+      → Beside f w ou left w′ ou′ (done r) d (checks (nodesOf d) (suc k) n) (FineUnion w e) (λ T. Check.checkUnion (d .schema) (nodesOf d) (below d k) n fs (T e))
 
-pub record Checks (f w : List ℕ) (n : ℕ) (t : Ty) (left : ℕ) (w′ : List ℕ) (r : Done) : Type 0 where
+pub record Checks (f w ou : List ℕ) (n : ℕ) (t : Ty) (left : ℕ) (w′ ou′ : List ℕ) (r : Done) : Type 0 where
   pub is : (d : Described) (k : ℕ) → Named d k n
-      → Beside f w left w′ (done r) d (checks (nodesOf d) k n) (Fine w t) (λ T. below d k .check n (tree T t))
+      → Beside f w ou left w′ ou′ (done r) d (checks (nodesOf d) k n) (Fine w t) (λ T. below d k .check n (tree T t))
 
 -- ---- `generator`
-pub record Generates (f w : List ℕ) (n left : ℕ) (w′ : List ℕ) (r : Typed) : Type 0 where
-  pub is : (d : Described) (k : ℕ) → Named d k n → Beside f w left w′ (typed w′ r) d (infers (nodesOf d) k n) Always (λ T. below d k .generator n)
+pub record Generates (f w ou : List ℕ) (n left : ℕ) (w′ ou′ : List ℕ) (r : Typed) : Type 0 where
+  pub is : (d : Described) (k : ℕ) → Named d k n → Beside f w ou left w′ ou′ (typed w′ r) d (infers (nodesOf d) k n) Always (λ T. below d k .generator n)
 
-pub record Branches (f w : List ℕ) (l : Items) (left : ℕ) (w′ : List ℕ) (r : Typed) : Type 0 where
+pub record Branches (f w ou : List ℕ) (l : Items) (left : ℕ) (w′ ou′ : List ℕ) (r : Typed) : Type 0 where
   pub is : (d : Described) (k : ℕ) (es : List ℕ) → es ≡ itemsFrom f l 0 (l .n) → AllNamed d k es
-      → Beside f w left w′ (typed w′ r) d (visits (nodesOf d) k es) Always (λ T. Check.generateBranches (d .schema) (nodesOf d) (below d k) Tree.Error es)
+      → Beside f w ou left w′ ou′ (typed w′ r) d (visits (nodesOf d) k es) Always (λ T. Check.generateBranches (d .schema) (nodesOf d) (below d k) Tree.Error es)
 
 -- ---- Statements
 
 -- A statement over two nodes, as the definition's step m of them.
-pub record Sides (m : Described → Walk → ℕ → ℕ → Does (Unit {0})) (f w : List ℕ) (lhs rhs left : ℕ) (w′ : List ℕ) (r : Done) : Type 0 where
+pub record Sides (m : Described → Walk → ℕ → ℕ → Does (Unit {0})) (f w ou : List ℕ) (lhs rhs left : ℕ) (w′ ou′ : List ℕ) (r : Done) : Type 0 where
   pub is : (d : Described) (k : ℕ) → Named d k lhs → Named d k rhs
-      → Beside f w left w′ (done r) d (visits (nodesOf d) k (lhs ∷ rhs ∷ [])) Always (λ T. m d (below d k) lhs rhs)
+      → Beside f w ou left w′ ou′ (done r) d (visits (nodesOf d) k (lhs ∷ rhs ∷ [])) Always (λ T. m d (below d k) lhs rhs)
 
-abbrev pub Binds : List ℕ → List ℕ → ℕ → ℕ → ℕ → List ℕ → Done → Type 0
-Binds f w lhs rhs left w′ r = Sides (λ d b x y. Check.bindForm (d .schema) (nodesOf d) b (form (d .schema) (nodesOf d) x) x y) f w lhs rhs left w′ r
+abbrev pub Binds : List ℕ → List ℕ → List ℕ → ℕ → ℕ → ℕ → List ℕ → List ℕ → Done → Type 0
+Binds f w ou lhs rhs left w′ ou′ r = Sides (λ d b x y. Check.bindForm (d .schema) (nodesOf d) b (form (d .schema) (nodesOf d) x) x y) f w ou lhs rhs left w′ ou′ r
 
-abbrev pub Denies : List ℕ → List ℕ → ℕ → ℕ → ℕ → List ℕ → Done → Type 0
-Denies f w lhs rhs left w′ r = Sides (λ d b x y. Check.denyForm (d .schema) (nodesOf d) b (form (d .schema) (nodesOf d) x) x y) f w lhs rhs left w′ r
+abbrev pub Denies : List ℕ → List ℕ → List ℕ → ℕ → ℕ → ℕ → List ℕ → List ℕ → Done → Type 0
+Denies f w ou lhs rhs left w′ ou′ r = Sides (λ d b x y. Check.denyForm (d .schema) (nodesOf d) b (form (d .schema) (nodesOf d) x) x y) f w ou lhs rhs left w′ ou′ r
 
-abbrev pub Compares : List ℕ → List ℕ → ℕ → ℕ → ℕ → List ℕ → Done → Type 0
-Compares f w lhs rhs left w′ r = Sides (λ d b x y. Check.compare (d .schema) (nodesOf d) b x y) f w lhs rhs left w′ r
+abbrev pub Compares : List ℕ → List ℕ → List ℕ → ℕ → ℕ → ℕ → List ℕ → List ℕ → Done → Type 0
+Compares f w ou lhs rhs left w′ ou′ r = Sides (λ d b x y. Check.compare (d .schema) (nodesOf d) b x y) f w ou lhs rhs left w′ ou′ r
 
-abbrev pub NotYets : List ℕ → List ℕ → ℕ → ℕ → ℕ → List ℕ → Done → Type 0
-NotYets f w lhs rhs left w′ r = Sides (λ d b x y. Check.notYet (d .schema) (nodesOf d) b x y) f w lhs rhs left w′ r
+abbrev pub NotYets : List ℕ → List ℕ → List ℕ → ℕ → ℕ → ℕ → List ℕ → List ℕ → Done → Type 0
+NotYets f w ou lhs rhs left w′ ou′ r = Sides (λ d b x y. Check.notYet (d .schema) (nodesOf d) b x y) f w ou lhs rhs left w′ ou′ r
 
-abbrev pub Destructures : List ℕ → List ℕ → ℕ → ℕ → ℕ → List ℕ → Done → Type 0
-Destructures f w lhs rhs left w′ r = Sides (λ d b x y. Check.destructure (d .schema) (nodesOf d) b x y) f w lhs rhs left w′ r
+abbrev pub Destructures : List ℕ → List ℕ → List ℕ → ℕ → ℕ → ℕ → List ℕ → List ℕ → Done → Type 0
+Destructures f w ou lhs rhs left w′ ou′ r = Sides (λ d b x y. Check.destructure (d .schema) (nodesOf d) b x y) f w ou lhs rhs left w′ ou′ r
 
 -- A name is a half word.
-pub record BindsVariable (f w : List ℕ) (symbol lhs rhs left : ℕ) (w′ : List ℕ) (r : Done) : Type 0 where
-  pub is : symbol < 65536 → Sides (λ d b x y. Check.bindVariable (d .schema) (nodesOf d) b symbol x y) f w lhs rhs left w′ r
+pub record BindsVariable (f w ou : List ℕ) (symbol lhs rhs left : ℕ) (w′ ou′ : List ℕ) (r : Done) : Type 0 where
+  pub is : symbol < 65536 → Sides (λ d b x y. Check.bindVariable (d .schema) (nodesOf d) b symbol x y) f w ou lhs rhs left w′ ou′ r
 
-pub record States (f w : List ℕ) (at under left : ℕ) (w′ : List ℕ) (r : Done) : Type 0 where
+pub record States (f w ou : List ℕ) (at under left : ℕ) (w′ ou′ : List ℕ) (r : Done) : Type 0 where
   pub is : (d : Described) (k : ℕ) (s : QueryStmt) → s ≡ statement (stmtW f at under) → AllNamed d k (stmtNodes (s ∷ []))
-      → Beside f w left w′ (done r) d (visits (nodesOf d) k (stmtNodes (s ∷ []))) Always (λ T. Check.stmt (d .schema) (nodesOf d) (below d k) s)
+      → Beside f w ou left w′ ou′ (done r) d (visits (nodesOf d) k (stmtNodes (s ∷ []))) Always (λ T. Check.stmt (d .schema) (nodesOf d) (below d k) s)
 
-pub record StatesAll (f w : List ℕ) (body : Stmts) (left : ℕ) (w′ : List ℕ) (r : Done) : Type 0 where
+pub record StatesAll (f w ou : List ℕ) (body : Stmts) (left : ℕ) (w′ ou′ : List ℕ) (r : Done) : Type 0 where
   pub is : (d : Described) (k : ℕ) (ss : List QueryStmt) → ss ≡ stmtsW f body → AllNamed d k (stmtNodes ss)
-      → Beside f w left w′ (done r) d (visits (nodesOf d) k (stmtNodes ss)) Always (λ T. Check.stmts (d .schema) (nodesOf d) (below d k) ss)
+      → Beside f w ou left w′ ou′ (done r) d (visits (nodesOf d) k (stmtNodes ss)) Always (λ T. Check.stmts (d .schema) (nodesOf d) (below d k) ss)
 
 -- ---- The whole
 
--- `query`, from words that a file was read into: the words after stand for where the run ends.
-pub data Ran (f w′ : List ℕ) (d : Described) (r : Done) : Step Tree.Ty → Type 0 where
-  to-the-end : {ty : Tree.Ty} {c : Checker} (T : Rows) → Runs f w′ T d c → r ≡ Done.On (c .state .left) → Ran f w′ d r (goes ty c)
-  out-of-visits : {c : Checker} → r ≡ Done.Out → Ran f w′ d r (out c)
+-- `query`, from words that a file was read into: the words after stand for where the run ends, or for where its visits ran out.
+pub data Ran (f w′ ou′ : List ℕ) (d : Described) (r : Done) : Step Tree.Ty → Type 0 where
+  to-the-end : {ty : Tree.Ty} {c : Checker} (T : Rows) → Runs f w′ T d c → Told w′ ou′ c → r ≡ Done.On (c .state .left) → Ran f w′ ou′ d r (goes ty c)
+  out-of-visits : {c : Checker} (T : Rows) → Runs f w′ T d c → Told w′ ou′ c → r ≡ Done.Out → Ran f w′ ou′ d r (out c)
 
-pub record Queries (f w : List ℕ) (ceiling : ℕ) (w′ : List ℕ) (r : Done) : Type 0 where
-  pub is : (T : Rows) (d : Described) → Sound d → Stands f w T d → Ran f w′ d r (run (d .schema) (d .ast) ceiling)
+pub record Queries (f w ou : List ℕ) (ceiling : ℕ) (w′ ou′ : List ℕ) (r : Done) : Type 0 where
+  pub is : (T : Rows) (d : Described) → Sound d → Stands f w T d → Ran f w′ ou′ d r (run (d .schema) (d .ast) ceiling)
+  -- whatever stands in the slices
+  pub words : length w′ ≡ length w
+  pub slice : length ou′ ≡ length ou

@@ -22,9 +22,9 @@ use tree::Stmts;
 use work::put;
 use work::word;
 
-fn infer_record(f: &[u8], w: &mut [u32], items: Items, left: u32) -> Typed
+fn infer_record(f: &[u8], w: &mut [u32], items: Items, left: u32, out: &mut [u8]) -> Typed
     requires { ⌜ (0 < items .n → 0 < items .below) × (items .at < 2147483648) ⌝ }
-    ensures { λ r. ⌜ InfersRecord (now (f .entry)) (now (w .entry)) items left (now (w .exit)) r ⌝ }
+    ensures { λ r. ⌜ InfersRecord (now (f .entry)) (now (w .entry)) (now (out .entry)) items left (now (w .exit)) (now (out .exit)) r ⌝ }
 {
     let n = items.n;
     let from = cells::reserve(w, n);
@@ -39,7 +39,7 @@ fn infer_record(f: &[u8], w: &mut [u32], items: Items, left: u32) -> Typed
     let mut rest = left;
     while i < n {
         let e = tree::field_at(f, items, i);
-        let r = infer(f, w, e.value, rest);
+        let r = infer(f, w, e.value, rest, out);
         match r {
             Typed::Got(t, l) => {
                 cells::put_field(w, from + i, e.name, t);
@@ -55,19 +55,19 @@ fn infer_record(f: &[u8], w: &mut [u32], items: Items, left: u32) -> Typed
 }
 
 // Each operand or branch, unified with one type.
-fn infer_all(f: &[u8], w: &mut [u32], items: Items, with: Ty, left: u32) -> Typed
+fn infer_all(f: &[u8], w: &mut [u32], items: Items, with: Ty, left: u32, out: &mut [u8]) -> Typed
     requires { ⌜ (0 < items .n → 0 < items .below) × (items .at < 2147483648) ⌝ }
-    ensures { λ r. ⌜ InfersAll (now (f .entry)) (now (w .entry)) items with left (now (w .exit)) r ⌝ }
+    ensures { λ r. ⌜ InfersAll (now (f .entry)) (now (w .entry)) (now (out .entry)) items with left (now (w .exit)) (now (out .exit)) r ⌝ }
 {
     let n = items.n;
     let mut i: u32 = 0;
     let mut rest = left;
     while i < n {
         let e = tree::item_at(f, items, i);
-        let r = infer(f, w, e, rest);
+        let r = infer(f, w, e, rest, out);
         match r {
             Typed::Got(t, l) => {
-                let d = steps::unify_at(w, e, t, with, l);
+                let d = steps::unify_at(f, w, e, t, with, l, out);
                 match d {
                     Done::On(m) => {
                         rest = m;
@@ -86,29 +86,34 @@ fn infer_all(f: &[u8], w: &mut [u32], items: Items, with: Ty, left: u32) -> Type
     Typed::Got(with, rest)
 }
 
-fn subquery(f: &[u8], w: &mut [u32], head: u32, body: Stmts, left: u32) -> Typed
+fn subquery(f: &[u8], w: &mut [u32], head: u32, body: Stmts, left: u32, out: &mut [u8]) -> Typed
     requires { ⌜ (head < body .below) × (body .end < 2147483648) ⌝ }
-    ensures { λ r. ⌜ Subqueries (now (f .entry)) (now (w .entry)) head body left (now (w .exit)) r ⌝ }
+    ensures { λ r. ⌜ Subqueries (now (f .entry)) (now (w .entry)) (now (out .entry)) head body left (now (w .exit)) (now (out .exit)) r ⌝ }
 {
     let scope = word(w, work::ENV_LEN);
-    let d = stmts(f, w, body, left);
+    let d = stmts(f, w, body, left, out);
     match d {
         Done::On(l) => {
-            let r = infer(f, w, head, l);
-            put(w, work::ENV_LEN, scope);
-            r
+            let r = infer(f, w, head, l, out);
+            match r {
+                Typed::Got(t, m) => {
+                    put(w, work::ENV_LEN, scope);
+                    Typed::Got(t, m)
+                }
+                Typed::Out => Typed::Out,
+            }
         }
         Done::Out => Typed::Out,
     }
 }
 
-fn fact(f: &[u8], w: &mut [u32], p: u32, key: u32, left: u32) -> Typed
-    ensures { λ r. ⌜ Facts (now (f .entry)) (now (w .entry)) p key left (now (w .exit)) r ⌝ }
+fn fact(f: &[u8], w: &mut [u32], p: u32, key: u32, left: u32, out: &mut [u8]) -> Typed
+    ensures { λ r. ⌜ Facts (now (f .entry)) (now (w .entry)) (now (out .entry)) p key left (now (w .exit)) (now (out .exit)) r ⌝ }
 {
     let t = steps::key_ty(w, p);
     match t {
         Bound::To(u) => {
-            let d = check(f, w, key, u, left);
+            let d = check(f, w, key, u, left, out);
             match d {
                 Done::On(l) => Typed::Got(Ty::Fact(p), l),
                 Done::Out => Typed::Out,
@@ -118,8 +123,8 @@ fn fact(f: &[u8], w: &mut [u32], p: u32, key: u32, left: u32) -> Typed
     }
 }
 
-fn infer_kind(f: &[u8], w: &mut [u32], n: u32, left: u32) -> Typed
-    ensures { λ r. ⌜ InfersKind (now (f .entry)) (now (w .entry)) n left (now (w .exit)) r ⌝ }
+fn infer_kind(f: &[u8], w: &mut [u32], n: u32, left: u32, out: &mut [u8]) -> Typed
+    ensures { λ r. ⌜ InfersKind (now (f .entry)) (now (w .entry)) (now (out .entry)) n left (now (w .exit)) (now (out .exit)) r ⌝ }
 {
     let e = tree::node_at(f, w, n);
     match e {
@@ -128,50 +133,50 @@ fn infer_kind(f: &[u8], w: &mut [u32], n: u32, left: u32) -> Typed
         Node::Str => Typed::Got(Ty::Str, left),
         Node::Prefix(_) => Typed::Got(Ty::Str, left),
         Node::Fuzzy(term, distance) => {
-            steps::fuzzy_distance(w, n, distance);
-            steps::fuzzy_term(w, n, term);
+            steps::fuzzy_distance(f, w, n, distance, out);
+            steps::fuzzy_term(f, w, n, term, out);
             Typed::Got(Ty::Str, left)
         }
         Node::Wildcard => Typed::Got(Ty::Var(cells::fresh_var_id(w)), left),
         Node::Never => Typed::Got(Ty::Var(cells::fresh_var_id(w)), left),
         Node::Error => Typed::Got(Ty::Error, left),
         Node::Var(symbol) => Typed::Got(Ty::Var(introduce(w, symbol)), left),
-        Node::Arith(items) => infer_all(f, w, items, Ty::Int, left),
-        Node::Record(items) => infer_record(f, w, items, left),
+        Node::Arith(items) => infer_all(f, w, items, Ty::Int, left, out),
+        Node::Record(items) => infer_record(f, w, items, left, out),
         Node::Key(name, base) => {
-            let r = infer(f, w, base, left);
+            let r = infer(f, w, base, left, out);
             match r {
-                Typed::Got(t, l) => steps::key_of(w, n, name, cells::repr(w, t), l),
+                Typed::Got(t, l) => steps::key_of(f, w, n, name, cells::repr(w, t), l, out),
                 Typed::Out => Typed::Out,
             }
         }
         Node::Value(base) => {
-            let r = infer(f, w, base, left);
+            let r = infer(f, w, base, left, out);
             match r {
-                Typed::Got(t, l) => steps::value_of(w, n, cells::repr(w, t), l),
+                Typed::Got(t, l) => steps::value_of(f, w, n, cells::repr(w, t), l, out),
                 Typed::Out => Typed::Out,
             }
         }
         Node::Select(name, base) => {
-            let r = infer(f, w, base, left);
+            let r = infer(f, w, base, left, out);
             match r {
-                Typed::Got(t, l) => steps::select_of(w, n, name, cells::repr(w, t), l),
+                Typed::Got(t, l) => steps::select_of(f, w, n, name, cells::repr(w, t), l, out),
                 Typed::Out => Typed::Out,
             }
         }
-        Node::Fact(p, key) => fact(f, w, p, key, left),
+        Node::Fact(p, key) => fact(f, w, p, key, left, out),
         Node::Disjunction(items) => {
             let result = Ty::Var(cells::fresh_var_id(w));
-            infer_all(f, w, items, result, left)
+            infer_all(f, w, items, result, left, out)
         }
-        Node::Subquery(head, body) => subquery(f, w, head, body, left),
+        Node::Subquery(head, body) => subquery(f, w, head, body, left, out),
     }
 }
 
-pub fn infer(f: &[u8], w: &mut [u32], n: u32, left: u32) -> Typed
-    ensures { λ r. ⌜ Infers (now (f .entry)) (now (w .entry)) n left (now (w .exit)) r ⌝ }
+pub fn infer(f: &[u8], w: &mut [u32], n: u32, left: u32, out: &mut [u8]) -> Typed
+    ensures { λ r. ⌜ Infers (now (f .entry)) (now (w .entry)) (now (out .entry)) n left (now (w .exit)) (now (out .exit)) r ⌝ }
 {
-    let r = infer_kind(f, w, n, left);
+    let r = infer_kind(f, w, n, left, out);
     match r {
         Typed::Got(t, l) => {
             cells::annotate(w, n, t);
@@ -181,20 +186,27 @@ pub fn infer(f: &[u8], w: &mut [u32], n: u32, left: u32) -> Typed
     }
 }
 
-fn infer_then_unify(f: &[u8], w: &mut [u32], n: u32, expected: Ty, left: u32) -> Done
-    ensures { λ r. ⌜ InfersThenUnifies (now (f .entry)) (now (w .entry)) n expected left (now (w .exit)) r ⌝ }
+fn infer_then_unify(
+    f: &[u8],
+    w: &mut [u32],
+    n: u32,
+    expected: Ty,
+    left: u32,
+    out: &mut [u8],
+) -> Done
+    ensures { λ r. ⌜ InfersThenUnifies (now (f .entry)) (now (w .entry)) (now (out .entry)) n expected left (now (w .exit)) (now (out .exit)) r ⌝ }
 {
     let undo = cells::snapshot(w);
     let env = word(w, work::ENV_LEN);
-    let r = infer(f, w, n, left);
+    let r = infer(f, w, n, left, out);
     match r {
         Typed::Got(t, l) => {
-            let u = cells::unify(w, t, expected, l);
+            let u = unify::unify(w, t, expected, l);
             match u {
                 Unified::Good(m) => Done::On(m),
                 Unified::Bad(err, m) => {
                     steps::rollback(w, undo, env);
-                    steps::report(w, n, err);
+                    steps::report(f, w, n, err, out);
                     Done::On(m)
                 }
                 Unified::Spent => Done::Out,
@@ -205,8 +217,16 @@ fn infer_then_unify(f: &[u8], w: &mut [u32], n: u32, expected: Ty, left: u32) ->
 }
 
 // A field in a scope of its own: whatever diagnostic arose inside it, it is rolled back.
-fn check_field(f: &[u8], w: &mut [u32], c: u32, name: u32, value: u32, left: u32) -> Done
-    ensures { λ r. ⌜ Mentions (now (f .entry)) (now (w .entry)) name value c left (now (w .exit)) r ⌝ }
+fn check_field(
+    f: &[u8],
+    w: &mut [u32],
+    c: u32,
+    name: u32,
+    value: u32,
+    left: u32,
+    out: &mut [u8],
+) -> Done
+    ensures { λ r. ⌜ Mentions (now (f .entry)) (now (w .entry)) (now (out .entry)) name value c left (now (w .exit)) (now (out .exit)) r ⌝ }
 {
     let found = cells::find_key(w, Kind::Fields, c, name);
     match found {
@@ -215,7 +235,7 @@ fn check_field(f: &[u8], w: &mut [u32], c: u32, name: u32, value: u32, left: u32
             let before = word(w, work::DIAGNOSTIC_COUNT);
             let undo = cells::snapshot(w);
             let scope = word(w, work::ENV_LEN);
-            let d = check(f, w, value, t, left);
+            let d = check(f, w, value, t, left, out);
             match d {
                 Done::On(l) => {
                     if before < word(w, work::DIAGNOSTIC_COUNT) {
@@ -227,22 +247,22 @@ fn check_field(f: &[u8], w: &mut [u32], c: u32, name: u32, value: u32, left: u32
             }
         }
         Found::Nothing => {
-            reject(w, value, Code::RejectUnknownField);
+            reject(f, w, value, Code::RejectUnknownField, out);
             Done::On(left)
         }
     }
 }
 
-fn check_fields(f: &[u8], w: &mut [u32], items: Items, c: u32, left: u32) -> Done
+fn check_fields(f: &[u8], w: &mut [u32], items: Items, c: u32, left: u32, out: &mut [u8]) -> Done
     requires { ⌜ (0 < items .n → 0 < items .below) × (items .at < 2147483648) ⌝ }
-    ensures { λ r. ⌜ ChecksFields (now (f .entry)) (now (w .entry)) items c left (now (w .exit)) r ⌝ }
+    ensures { λ r. ⌜ ChecksFields (now (f .entry)) (now (w .entry)) (now (out .entry)) items c left (now (w .exit)) (now (out .exit)) r ⌝ }
 {
     let n = items.n;
     let mut i: u32 = 0;
     let mut rest = left;
     while i < n {
         let e = tree::field_at(f, items, i);
-        let d = check_field(f, w, c, e.name, e.value, rest);
+        let d = check_field(f, w, c, e.name, e.value, rest, out);
         match d {
             Done::On(l) => {
                 rest = l;
@@ -256,12 +276,20 @@ fn check_fields(f: &[u8], w: &mut [u32], items: Items, c: u32, left: u32) -> Don
     Done::On(rest)
 }
 
-fn check_union(f: &[u8], w: &mut [u32], n: u32, items: Items, c: u32, left: u32) -> Done
+fn check_union(
+    f: &[u8],
+    w: &mut [u32],
+    n: u32,
+    items: Items,
+    c: u32,
+    left: u32,
+    out: &mut [u8],
+) -> Done
     requires { ⌜ LowerItems n items ⌝ }
-    ensures { λ r. ⌜ ChecksUnion (now (f .entry)) (now (w .entry)) n items c left (now (w .exit)) r ⌝ }
+    ensures { λ r. ⌜ ChecksUnion (now (f .entry)) (now (w .entry)) (now (out .entry)) n items c left (now (w .exit)) (now (out .exit)) r ⌝ }
 {
     if items.n != 1 {
-        reject(w, n, Code::RejectUnionArity);
+        reject(f, w, n, Code::RejectUnionArity, out);
         return Done::On(left);
     }
     let e = tree::field_at(f, items, 0);
@@ -269,7 +297,7 @@ fn check_union(f: &[u8], w: &mut [u32], n: u32, items: Items, c: u32, left: u32)
     match found {
         Found::At(p) => {
             let t = p.ty;
-            let d = check(f, w, e.value, t, left);
+            let d = check(f, w, e.value, t, left, out);
             match d {
                 Done::On(l) => {
                     cells::annotate(w, n, Ty::Union(c));
@@ -279,15 +307,15 @@ fn check_union(f: &[u8], w: &mut [u32], n: u32, items: Items, c: u32, left: u32)
             }
         }
         Found::Nothing => {
-            reject(w, n, Code::RejectUnknownAlternative);
+            reject(f, w, n, Code::RejectUnknownAlternative, out);
             Done::On(left)
         }
     }
 }
 
 // Against Error nothing is visited.
-pub fn check(f: &[u8], w: &mut [u32], n: u32, expected: Ty, left: u32) -> Done
-    ensures { λ r. ⌜ Checks (now (f .entry)) (now (w .entry)) n expected left (now (w .exit)) r ⌝ }
+pub fn check(f: &[u8], w: &mut [u32], n: u32, expected: Ty, left: u32, out: &mut [u8]) -> Done
+    ensures { λ r. ⌜ Checks (now (f .entry)) (now (w .entry)) (now (out .entry)) n expected left (now (w .exit)) (now (out .exit)) r ⌝ }
 {
     let t = cells::repr(w, expected);
     if cells::tag_of(t) == 8 {
@@ -301,7 +329,7 @@ pub fn check(f: &[u8], w: &mut [u32], n: u32, expected: Ty, left: u32) -> Done
         }
         Node::Record(items) => match t {
             Ty::Record(c) => {
-                let d = check_fields(f, w, items, c, left);
+                let d = check_fields(f, w, items, c, left, out);
                 match d {
                     Done::On(l) => {
                         cells::annotate(w, n, t);
@@ -310,21 +338,21 @@ pub fn check(f: &[u8], w: &mut [u32], n: u32, expected: Ty, left: u32) -> Done
                     Done::Out => Done::Out,
                 }
             }
-            Ty::Union(c) => check_union(f, w, n, items, c, left),
-            _ => infer_then_unify(f, w, n, t, left),
+            Ty::Union(c) => check_union(f, w, n, items, c, left, out),
+            _ => infer_then_unify(f, w, n, t, left, out),
         },
-        _ => infer_then_unify(f, w, n, t, left),
+        _ => infer_then_unify(f, w, n, t, left, out),
     }
 }
 
 // Branches are not unified.
-pub fn generator(f: &[u8], w: &mut [u32], n: u32, left: u32) -> Typed
-    ensures { λ r. ⌜ Generates (now (f .entry)) (now (w .entry)) n left (now (w .exit)) r ⌝ }
+pub fn generator(f: &[u8], w: &mut [u32], n: u32, left: u32, out: &mut [u8]) -> Typed
+    ensures { λ r. ⌜ Generates (now (f .entry)) (now (w .entry)) (now (out .entry)) n left (now (w .exit)) (now (out .exit)) r ⌝ }
 {
     let e = tree::node_at(f, w, n);
     match e {
         Node::Disjunction(items) => {
-            let r = branches(f, w, items, left);
+            let r = branches(f, w, items, left, out);
             match r {
                 Typed::Got(t, l) => {
                     cells::annotate(w, n, t);
@@ -333,13 +361,13 @@ pub fn generator(f: &[u8], w: &mut [u32], n: u32, left: u32) -> Typed
                 Typed::Out => Typed::Out,
             }
         }
-        _ => infer(f, w, n, left),
+        _ => infer(f, w, n, left, out),
     }
 }
 
-fn branches(f: &[u8], w: &mut [u32], items: Items, left: u32) -> Typed
+fn branches(f: &[u8], w: &mut [u32], items: Items, left: u32, out: &mut [u8]) -> Typed
     requires { ⌜ (0 < items .n → 0 < items .below) × (items .at < 2147483648) ⌝ }
-    ensures { λ r. ⌜ Branches (now (f .entry)) (now (w .entry)) items left (now (w .exit)) r ⌝ }
+    ensures { λ r. ⌜ Branches (now (f .entry)) (now (w .entry)) (now (out .entry)) items left (now (w .exit)) (now (out .exit)) r ⌝ }
 {
     let n = items.n;
     let mut i: u32 = 0;
@@ -347,7 +375,7 @@ fn branches(f: &[u8], w: &mut [u32], items: Items, left: u32) -> Typed
     let mut last = Ty::Error;
     while i < n {
         let e = tree::item_at(f, items, i);
-        let r = generator(f, w, e, rest);
+        let r = generator(f, w, e, rest, out);
         match r {
             Typed::Got(t, l) => {
                 last = t;
@@ -372,38 +400,46 @@ fn only(r: Typed) -> Done
 }
 
 // `bind` and `deny` with a variable on the left.
-fn bind_name(f: &[u8], w: &mut [u32], symbol: u32, lhs: u32, rhs: u32, left: u32) -> Done
-    ensures { λ r. ⌜ BindsVariable (now (f .entry)) (now (w .entry)) symbol lhs rhs left (now (w .exit)) r ⌝ }
+fn bind_name(
+    f: &[u8],
+    w: &mut [u32],
+    symbol: u32,
+    lhs: u32,
+    rhs: u32,
+    left: u32,
+    out: &mut [u8],
+) -> Done
+    ensures { λ r. ⌜ BindsVariable (now (f .entry)) (now (w .entry)) (now (out .entry)) symbol lhs rhs left (now (w .exit)) (now (out .exit)) r ⌝ }
 {
     let var = introduce(w, symbol);
     cells::annotate(w, lhs, Ty::Var(var));
-    let r = infer(f, w, rhs, left);
+    let r = infer(f, w, rhs, left, out);
     match r {
-        Typed::Got(t, l) => steps::unify_at(w, rhs, t, Ty::Var(var), l),
+        Typed::Got(t, l) => steps::unify_at(f, w, rhs, t, Ty::Var(var), l, out),
         Typed::Out => Done::Out,
     }
 }
 
-fn not_yet(f: &[u8], w: &mut [u32], lhs: u32, rhs: u32, left: u32) -> Done
-    ensures { λ r. ⌜ NotYets (now (f .entry)) (now (w .entry)) lhs rhs left (now (w .exit)) r ⌝ }
+fn not_yet(f: &[u8], w: &mut [u32], lhs: u32, rhs: u32, left: u32, out: &mut [u8]) -> Done
+    ensures { λ r. ⌜ NotYets (now (f .entry)) (now (w .entry)) (now (out .entry)) lhs rhs left (now (w .exit)) (now (out .exit)) r ⌝ }
 {
-    reject(w, lhs, Code::NyiBindUnification);
-    let r = infer(f, w, lhs, left);
+    reject(f, w, lhs, Code::NyiBindUnification, out);
+    let r = infer(f, w, lhs, left, out);
     match r {
-        Typed::Got(_, l) => only(infer(f, w, rhs, l)),
+        Typed::Got(_, l) => only(infer(f, w, rhs, l, out)),
         Typed::Out => Done::Out,
     }
 }
 
-fn destructure(f: &[u8], w: &mut [u32], lhs: u32, rhs: u32, left: u32) -> Done
-    ensures { λ r. ⌜ Destructures (now (f .entry)) (now (w .entry)) lhs rhs left (now (w .exit)) r ⌝ }
+fn destructure(f: &[u8], w: &mut [u32], lhs: u32, rhs: u32, left: u32, out: &mut [u8]) -> Done
+    ensures { λ r. ⌜ Destructures (now (f .entry)) (now (w .entry)) (now (out .entry)) lhs rhs left (now (w .exit)) (now (out .exit)) r ⌝ }
 {
-    let p = infer(f, w, lhs, left);
+    let p = infer(f, w, lhs, left, out);
     match p {
         Typed::Got(pattern, l) => {
-            let v = infer(f, w, rhs, l);
+            let v = infer(f, w, rhs, l, out);
             match v {
-                Typed::Got(value, m) => steps::unify_at(w, rhs, value, pattern, m),
+                Typed::Got(value, m) => steps::unify_at(f, w, rhs, value, pattern, m, out),
                 Typed::Out => Done::Out,
             }
         }
@@ -411,13 +447,13 @@ fn destructure(f: &[u8], w: &mut [u32], lhs: u32, rhs: u32, left: u32) -> Done
     }
 }
 
-fn bind(f: &[u8], w: &mut [u32], lhs: u32, rhs: u32, left: u32) -> Done
-    ensures { λ r. ⌜ Binds (now (f .entry)) (now (w .entry)) lhs rhs left (now (w .exit)) r ⌝ }
+fn bind(f: &[u8], w: &mut [u32], lhs: u32, rhs: u32, left: u32, out: &mut [u8]) -> Done
+    ensures { λ r. ⌜ Binds (now (f .entry)) (now (w .entry)) (now (out .entry)) lhs rhs left (now (w .exit)) (now (out .exit)) r ⌝ }
 {
     let e = tree::node_at(f, w, lhs);
     match e {
         Node::Wildcard => {
-            let r = infer(f, w, rhs, left);
+            let r = infer(f, w, rhs, left, out);
             match r {
                 Typed::Got(t, l) => {
                     cells::annotate(w, lhs, t);
@@ -426,49 +462,49 @@ fn bind(f: &[u8], w: &mut [u32], lhs: u32, rhs: u32, left: u32) -> Done
                 Typed::Out => Done::Out,
             }
         }
-        Node::Var(symbol) => bind_name(f, w, symbol, lhs, rhs, left),
+        Node::Var(symbol) => bind_name(f, w, symbol, lhs, rhs, left, out),
         Node::Record(_) => {
             if steps::destructurable(f, w, lhs) {
-                destructure(f, w, lhs, rhs, left)
+                destructure(f, w, lhs, rhs, left, out)
             } else {
-                not_yet(f, w, lhs, rhs, left)
+                not_yet(f, w, lhs, rhs, left, out)
             }
         }
         Node::Int | Node::Str | Node::Bytes | Node::Prefix(_) => {
-            reject(w, lhs, Code::RejectBindLhs);
-            only(infer(f, w, rhs, left))
+            reject(f, w, lhs, Code::RejectBindLhs, out);
+            only(infer(f, w, rhs, left, out))
         }
-        Node::Error => only(infer(f, w, rhs, left)),
-        _ => not_yet(f, w, lhs, rhs, left),
+        Node::Error => only(infer(f, w, rhs, left, out)),
+        _ => not_yet(f, w, lhs, rhs, left, out),
     }
 }
 
-fn deny(f: &[u8], w: &mut [u32], lhs: u32, rhs: u32, left: u32) -> Done
-    ensures { λ r. ⌜ Denies (now (f .entry)) (now (w .entry)) lhs rhs left (now (w .exit)) r ⌝ }
+fn deny(f: &[u8], w: &mut [u32], lhs: u32, rhs: u32, left: u32, out: &mut [u8]) -> Done
+    ensures { λ r. ⌜ Denies (now (f .entry)) (now (w .entry)) (now (out .entry)) lhs rhs left (now (w .exit)) (now (out .exit)) r ⌝ }
 {
     let e = tree::node_at(f, w, lhs);
     match e {
-        Node::Var(symbol) => bind_name(f, w, symbol, lhs, rhs, left),
+        Node::Var(symbol) => bind_name(f, w, symbol, lhs, rhs, left, out),
         Node::Wildcard | Node::Int | Node::Str | Node::Bytes | Node::Prefix(_) => {
-            reject(w, lhs, Code::RejectBindLhs);
-            only(infer(f, w, rhs, left))
+            reject(f, w, lhs, Code::RejectBindLhs, out);
+            only(infer(f, w, rhs, left, out))
         }
-        Node::Error => only(infer(f, w, rhs, left)),
-        _ => not_yet(f, w, lhs, rhs, left),
+        Node::Error => only(infer(f, w, rhs, left, out)),
+        _ => not_yet(f, w, lhs, rhs, left, out),
     }
 }
 
-fn compare(f: &[u8], w: &mut [u32], lhs: u32, rhs: u32, left: u32) -> Done
-    ensures { λ r. ⌜ Compares (now (f .entry)) (now (w .entry)) lhs rhs left (now (w .exit)) r ⌝ }
+fn compare(f: &[u8], w: &mut [u32], lhs: u32, rhs: u32, left: u32, out: &mut [u8]) -> Done
+    ensures { λ r. ⌜ Compares (now (f .entry)) (now (w .entry)) (now (out .entry)) lhs rhs left (now (w .exit)) (now (out .exit)) r ⌝ }
 {
     steps::introduce_side(f, w, lhs);
     steps::introduce_side(f, w, rhs);
-    let x = infer(f, w, lhs, left);
+    let x = infer(f, w, lhs, left, out);
     match x {
         Typed::Got(a, l) => {
-            let y = infer(f, w, rhs, l);
+            let y = infer(f, w, rhs, l, out);
             match y {
-                Typed::Got(b, m) => steps::compare_types(w, lhs, rhs, a, b, m),
+                Typed::Got(b, m) => steps::compare_types(f, w, lhs, rhs, a, b, m, out),
                 Typed::Out => Done::Out,
             }
         }
@@ -476,30 +512,30 @@ fn compare(f: &[u8], w: &mut [u32], lhs: u32, rhs: u32, left: u32) -> Done
     }
 }
 
-fn stmt(f: &[u8], w: &mut [u32], at: usize, below: u32, left: u32) -> Done
+fn stmt(f: &[u8], w: &mut [u32], at: usize, below: u32, left: u32, out: &mut [u8]) -> Done
     requires { ⌜ (0 < below) × (at < 2147483648) ⌝ }
-    ensures { λ r. ⌜ States (now (f .entry)) (now (w .entry)) at below left (now (w .exit)) r ⌝ }
+    ensures { λ r. ⌜ States (now (f .entry)) (now (w .entry)) (now (out .entry)) at below left (now (w .exit)) (now (out .exit)) r ⌝ }
 {
     let s = tree::stmt_at(f, at, below);
     match s {
-        Stmt::Implicit(n) => only(generator(f, w, n, left)),
-        Stmt::Negation(n) => only(generator(f, w, n, left)),
-        Stmt::Bind(lhs, rhs) => bind(f, w, lhs, rhs, left),
-        Stmt::Deny(lhs, rhs) => deny(f, w, lhs, rhs, left),
-        Stmt::Compare(lhs, rhs) => compare(f, w, lhs, rhs, left),
+        Stmt::Implicit(n) => only(generator(f, w, n, left, out)),
+        Stmt::Negation(n) => only(generator(f, w, n, left, out)),
+        Stmt::Bind(lhs, rhs) => bind(f, w, lhs, rhs, left, out),
+        Stmt::Deny(lhs, rhs) => deny(f, w, lhs, rhs, left, out),
+        Stmt::Compare(lhs, rhs) => compare(f, w, lhs, rhs, left, out),
     }
 }
 
-fn stmts(f: &[u8], w: &mut [u32], body: Stmts, left: u32) -> Done
+fn stmts(f: &[u8], w: &mut [u32], body: Stmts, left: u32, out: &mut [u8]) -> Done
     requires { ⌜ (0 < body .below) × (body .end < 2147483648) ⌝ }
-    ensures { λ r. ⌜ StatesAll (now (f .entry)) (now (w .entry)) body left (now (w .exit)) r ⌝ }
+    ensures { λ r. ⌜ StatesAll (now (f .entry)) (now (w .entry)) (now (out .entry)) body left (now (w .exit)) (now (out .exit)) r ⌝ }
 {
     let end = body.end;
     let below = body.below;
     let mut at = body.at;
     let mut rest = left;
     while at < end {
-        let d = stmt(f, w, at, below, rest);
+        let d = stmt(f, w, at, below, rest, out);
         match d {
             Done::On(l) => {
                 rest = l;
@@ -514,16 +550,16 @@ fn stmts(f: &[u8], w: &mut [u32], body: Stmts, left: u32) -> Done
 }
 
 // The query of the file that was read: every type and diagnostic is then in the slice. The head is inferred last.
-pub fn query(f: &[u8], w: &mut [u32], ceiling: u32) -> Done
-    ensures { λ r. ⌜ Queries (now (f .entry)) (now (w .entry)) ceiling (now (w .exit)) r ⌝ }
+pub fn query(f: &[u8], w: &mut [u32], ceiling: u32, out: &mut [u8]) -> Done
+    ensures { λ r. ⌜ Queries (now (f .entry)) (now (w .entry)) (now (out .entry)) ceiling (now (w .exit)) (now (out .exit)) r ⌝ }
 {
     steps::begin(w);
     let head = tree::query_head(f, w);
-    let d = stmts(f, w, tree::query_body(w), ceiling);
+    let d = stmts(f, w, tree::query_body(w), ceiling, out);
     match d {
         Done::On(l) => {
-            steps::check_head(f, w, head);
-            only(infer(f, w, head, l))
+            steps::check_head(f, w, head, out);
+            only(infer(f, w, head, l, out))
         }
         Done::Out => Done::Out,
     }

@@ -1,4 +1,4 @@
--- What the three calls of `run` come to is what the definition decides, and clearing the slices makes it the definition's outcome.
+-- What the reading and the queries' turns come to is what the definition decides, and clearing the slices makes it the definition's outcome.
 use mathlib.Core.List.{List, _++_}
 use mathlib.Core.Path.{_≡_, refl, sym, ap, _∙_, subst}
 use Prim.Native.Nat.{ℕ, _-_, _≤_}
@@ -7,41 +7,25 @@ use lib.Dec.{ltb}
 use lib.ListN.{length, take, replicate}
 use lib.Seq.{take-at}
 use borrow.Author.Tests.{ltb-true, ltb-false, le-ltb}
-use Rattle.unification.specs.Ty as Tree
-use Rattle.cells.specs.Stands.{Rows}
 use Rattle.meaning.specs.Refusal as Meaning
-use Rattle.meaning.specs.File.{Described, Reading, refused, described, reading}
-use Rattle.meaning.specs.Check.{Step, checked, check}
-use Rattle.meaning.specs.Run.{run}
+use Rattle.meaning.specs.File.{Form, Reading, refused, described, reading, maxFile}
 use Rattle.meaning.specs.Outcome as Defined
-use Rattle.meaning.specs.Outcome.{Decided, turnedDown, answered, minWords, maxVisits, decideChecked, decideRead, decide, refuse, accept, finish, outcome}
+use Rattle.meaning.specs.Outcome.{Decided, turnedDown, answered, minWords, decideRead, decide, refuse, accept, finish, outcome}
 use Rattle.meaning.proofs.Tests.{cases}
-use Rattle.meaning.proofs.Sound.{sound}
+use Rattle.meaning.proofs.Content.{says-exactly}
 use Rattle.reading.specs.Contracts.{refusal, Ends, readingIn, ReadsFile}
+use Rattle.reading.proofs.AllLines.{decided}
 use Rattle.reading.specs.declared.Refusal.{Refusal}
 use Rattle.reading.specs.declared.Refusal.the-variants as Refusal
 use Rattle.reading.specs.declared.Read.{Read}
 use Rattle.reading.specs.declared.Read.the-variants as Read
-use Rattle.tree.specs.Stands.{Stands}
-use Rattle.steps.specs.declared.Done.{Done}
-use Rattle.steps.specs.declared.Done.the-variants as Done
-use Rattle.checker.specs.Contracts.{Ran, to-the-end, out-of-visits, Queries}
-use Rattle.answer.specs.declared.Wrote.{Wrote}
-use Rattle.answer.specs.declared.Wrote.the-variants as Wrote
-use Rattle.answer.specs.Writes.{Writes}
-use Rattle.answer.specs.Reports.{WritesAnswer}
-use Rattle.answer.proofs.Writing.{whole-there, whole-over}
 use Rattle.desk.specs.declared.Outcome.{Outcome}
 use Rattle.desk.specs.declared.Outcome.the-variants as Outcome
-use Rattle.desk.specs.Contracts.{resultOf, Told, RunsFile, ChecksFile}
+use Rattle.desk.specs.Contracts.{resultOf, Told, RunsQueries, RunsFile, ChecksFile}
 
 -- ---- Reading
 
-decide-reads : (f : List ℕ) (words : ℕ) → decide f words ≡ decideRead (readingIn f words)
-unfolding decide readingIn decideRead
-decide-reads f words = cases (ltb words minWords) (λ q. rw (q, decide, readingIn)) (λ q. rw (q, decide, readingIn))
-
-enough-words : (f : List ℕ) (words : ℕ) (d : Described) → readingIn f words ≡ described d → reading f ≡ described d
+enough-words : (f : List ℕ) (words : ℕ) (d : Form) → readingIn f words ≡ described d → reading f ≡ described d
 unfolding readingIn
 enough-words f words d e = cases (ltb words minWords)
     (λ q. let h : refused Meaning.workTooShort ≡ described d = rw (q, readingIn) at e in let z : _≡_ {A = ℕ} 0 1 = cc in absurd (omega arith))
@@ -51,70 +35,30 @@ enough-words f words d e = cases (ltb words minWords)
 pub not-read : (f w w′ buf : List ℕ) (r : Read) (e : Refusal) → ReadsFile f w w′ r → r ≡ Read.Refused e
     → Told buf buf (Outcome.Refused e) (decide f (length w))
 unfolding Ends Told decideRead
-not-read f w w′ buf r e h q = subst (Told buf buf (Outcome.Refused e)) (sym (decide-reads f (length w))) (go (readingIn f (length w)) (h .ends))
+not-read f w w′ buf r e h q = subst (Told buf buf (Outcome.Refused e)) (sym (decided f (length w))) (go (readingIn f (length w)) (h .ends))
   where
     go : (x : Reading) → Ends f w′ r x → Told buf buf (Outcome.Refused e) (decideRead x)
     go (refused i) g = let p = g .1 in let same : e ≡ g .0 = cc in (e, refl, ap refusal same ∙ g .2)
     go (described d) g = let p = g .0 in let z : _≡_ {A = ℕ} 0 1 = cc in absurd (omega arith)
 
--- What a file that was read leaves.
-record WasRead (f w′ : List ℕ) (x : Reading) : Type 0 where
-  d : Described
-  is : x ≡ described d
-  rows : Rows
-  stands : Stands f w′ rows d
+-- ---- The queries
 
-was-read : (f w′ : List ℕ) (r : Read) (x : Reading) → Ends f w′ r x → r ≡ Read.Accepted → WasRead f w′ x
-unfolding Ends
-was-read f w′ r (refused i) g q = let p = g .1 in let z : _≡_ {A = ℕ} 0 1 = cc in absurd (omega arith)
-was-read f w′ r (described d) g q = record { d = d; is = refl; rows = g .1 .0; stands = g .1 .1 }
+-- A file that was read is short enough.
+pub read-small : (f w w′ : List ℕ) (r : Read) → ReadsFile f w w′ r → r ≡ Read.Accepted → length f ≤ 65536
+unfolding Ends maxFile
+read-small f w w′ r h q = go (readingIn f (length w)) refl (h .ends)
+  where
+    go : (x : Reading) → readingIn f (length w) ≡ x → Ends f w′ r x → length f ≤ 65536
+    go (refused i) e g = let p = g .1 in let z : _≡_ {A = ℕ} 0 1 = cc in absurd (omega arith)
+    go (described d) e g = says-exactly f d .0 (enough-words f (length w) d e) .size
 
--- ---- The run
-
-checks-run : (d : Described) → decideRead (described d) ≡ decideChecked (checked maxVisits (run (d .schema) (d .ast) maxVisits))
-unfolding decideRead check run
-checks-run d = refl
-
-module _ (f w w₁ : List ℕ) (r : Read) (h : ReadsFile f w w₁ r) (was : r ≡ Read.Accepted) (w₂ : List ℕ) (q : Done) (ran : Queries f w₁ maxVisits w₂ q) where
-  x : WasRead f w₁ (readingIn f (length w))
-  x = was-read f w₁ r (readingIn f (length w)) (h .ends) was
-
-  the-run : Step Tree.Ty
-  the-run = run (x .d .schema) (x .d .ast) maxVisits
-
-  decides-run : decide f (length w) ≡ decideChecked (checked maxVisits the-run)
-  unfolding the-run
-  decides-run = decide-reads f (length w) ∙ ap decideRead (x .is) ∙ checks-run (x .d)
-
-  has-run : Ran f w₂ (x .d) q the-run
-  unfolding the-run
-  has-run = ran .is (x .rows) (x .d) (sound f (x .d) (enough-words f (length w) (x .d) (x .is))) (x .stands)
-
-  pub out-of-visits-told : (buf : List ℕ) → q ≡ Done.Out → Told buf buf (Outcome.Refused Refusal.TooManyVisits) (decide f (length w))
-  unfolding Told decideChecked checked
-  out-of-visits-told buf e = subst (Told buf buf (Outcome.Refused Refusal.TooManyVisits)) (sym decides-run) (go has-run)
-    where
-      go : {s : Step Tree.Ty} → Ran f w₂ (x .d) q s → Told buf buf (Outcome.Refused Refusal.TooManyVisits) (decideChecked (checked maxVisits s))
-      go (to-the-end T h p) = let z : _≡_ {A = ℕ} 0 1 = cc in absurd (omega arith)
-      go (out-of-visits p) = (Refusal.TooManyVisits, refl, refl)
-
-  module _ (left : ℕ) (e : q ≡ Done.On left) (buf buf′ : List ℕ) (a : Wrote) (wrote : WritesAnswer f w₂ buf buf′ a) where
-    -- Something is written, and it is what is decided.
-    by-writing : (o : Outcome) → ((ls : List ℕ) → Writes buf 0 ls buf′ a → Told buf buf′ o (answered ls)) → Told buf buf′ o (decide f (length w))
-    unfolding decideChecked checked
-    by-writing o told = subst (Told buf buf′ o) (sym decides-run) (go has-run)
-      where
-        go : {s : Step Tree.Ty} → Ran f w₂ (x .d) q s → Told buf buf′ o (decideChecked (checked maxVisits s))
-        go (to-the-end {ty = ty} {c = c} T h p) = told _ (wrote .is T (x .d) c h maxVisits ty _ refl)
-        go (out-of-visits p) = let z : _≡_ {A = ℕ} 0 1 = cc in absurd (omega arith)
-
-    pub written-told : (n : ℕ) → a ≡ Wrote.To n → Told buf buf′ (Outcome.Accepted n) (decide f (length w))
-    unfolding Told
-    written-told n p = by-writing (Outcome.Accepted n) (λ ls g. let h = whole-there g p in (λ l. (ap Outcome.Accepted (h .0), rw (← h .0) (h .2)), λ l. absurd (omega (arith, h .0, h .1))))
-
-    pub too-long-told : a ≡ Wrote.Full → Told buf buf′ (Outcome.Refused Refusal.AnswerTooLong) (decide f (length w))
-    unfolding Told
-    too-long-told p = by-writing (Outcome.Refused Refusal.AnswerTooLong) (λ ls g. (λ l. absurd (omega (arith, whole-over g p)), λ l. refl))
+pub was-read : (f w w′ buf buf′ : List ℕ) (r : Read) (o : Outcome) → ReadsFile f w w′ r → r ≡ Read.Accepted → RunsQueries f w′ buf buf′ o → Told buf buf′ o (decide f (length w))
+unfolding Ends decideRead minWords
+was-read f w w′ buf buf′ r o h q runs = subst (Told buf buf′ o) (sym (decided f (length w))) (go (readingIn f (length w)) refl (h .ends))
+  where
+    go : (x : Reading) → readingIn f (length w) ≡ x → Ends f w′ r x → Told buf buf′ o (decideRead x)
+    go (refused i) e g = let p = g .1 in let z : _≡_ {A = ℕ} 0 1 = cc in absurd (omega arith)
+    go (described d) e g = runs .told (g .2 .0) d (enough-words f (length w) d e) (g .1) (g .2 .1)
 
 -- ---- Clearing
 

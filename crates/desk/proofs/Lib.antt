@@ -1,5 +1,6 @@
+mod Continuing
+mod Turning
+mod Telling
 mod Deciding
 mod Lining
 pub mod Demands
-pub mod Beginning
-pub mod CodeRun

@@ -3,8 +3,11 @@ use mathlib.Core.List.{List}
 use mathlib.Core.Path.{_≡_}
 use Prim.Native.Nat.{ℕ, _<_, _≤_}
 use lib.ListN.{length, take}
+use Rattle.cells.specs.Stands.{Rows}
+use Rattle.meaning.specs.File.{Form, described, reading}
 use Rattle.meaning.specs.Outcome as Defined
-use Rattle.meaning.specs.Outcome.{Decided, turnedDown, answered, Result, decide, outcome}
+use Rattle.meaning.specs.Outcome.{Decided, turnedDown, answered, Result, minWords, runAll, decideRun, decide, outcome}
+use Rattle.tree.specs.Stands.{SchemaStands}
 use Rattle.reading.specs.Contracts.{refusal}
 use Rattle.reading.specs.declared.Refusal.{Refusal}
 use Rattle.reading.specs.declared.Refusal.the-variants as Refusal
@@ -23,6 +26,10 @@ Told out out′ r (turnedDown e) = (e′ : Refusal) × (r ≡ Outcome.Refused e�
 Told out out′ r (answered ls) =
     (length ls ≤ length out → (r ≡ Outcome.Accepted (length ls)) × (take (length ls) out′ ≡ ls))
     × (length out < length ls → r ≡ Outcome.Refused Refusal.AnswerTooLong)
+
+-- The queries of a described form whose schema stands in the words.
+pub record RunsQueries (f w out out′ : List ℕ) (r : Outcome) : Type 0 where
+  pub told : (T : Rows) (form : Form) → reading f ≡ described form → minWords ≤ length w → SchemaStands w T (form .schema) → Told out out′ r (decideRun (runAll (form .schema) (form .queries)))
 
 pub record RunsFile (f w out w′ out′ : List ℕ) (r : Outcome) : Type 0 where
   pub told : Told out out′ r (decide f (length w))

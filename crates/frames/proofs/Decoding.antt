@@ -132,7 +132,7 @@ module _ {f : List ℕ} {at : ℕ} {line : List ℕ} {i n : ℕ} (r : SoFar f at
 
 -- ---- The answers
 
-pub bad : {f : List ℕ} {at : ℕ} {line : List ℕ} {i n : ℕ} → SoFar f at line i n → Malformed f at → Decodes f at line Bad
+pub bad : {f : List ℕ} {at : ℕ} {line : List ℕ} {i n : ℕ} → SoFar f at line i n → (at < length f → Malformed f at) → Decodes f at line Bad
 bad r m = record { room = r .room; holds = λ n next e. let z : _≡_ {A = ℕ} 0 1 = cc in absurd (omega arith); fails = λ _. m }
 
 pub good : {f : List ℕ} {at : ℕ} {line : List ℕ} {i n next : ℕ} → SoFar f at line i n → Holds f at line n next → Decodes f at line (Bytes n next)
@@ -143,7 +143,7 @@ good {f} {at} {line} {i} {n} {next} r h =
           let u : n ≡ m = cc in
           let v : next ≡ on = cc in
           subst (λ k. Holds f at line k on) u (subst (λ k. Holds f at line n k) v h);
-      fails = λ e. let z : _≡_ {A = ℕ} 0 1 = cc in absurd (omega arith);
+      fails = λ e _. let z : _≡_ {A = ℕ} 0 1 = cc in absurd (omega arith);
     }
 
 -- The same by the line at a place.

@@ -9,7 +9,7 @@ use lib.Dec.{eqb}
 use lib.ListN.{getD, List·getD-eq-default}
 use Rattle.text.proofs.Every.{same, same-eq, below, every}
 use Rattle.hex.proofs.Values.{run}
-use Rattle.meaning.specs.Frame.{Kind, limits, name, schemaType, predicate, node, query, kindByte, kindOf, repeatable, follows, mayStand}
+use Rattle.meaning.specs.Frame.{Kind, limits, name, schemaType, predicate, node, query, kindByte, kindOf, repeatable, rises, follows, mayStand}
 use Rattle.frames.specs.Contracts.{numberOf, kindAt, stands}
 
 pub no-kind : (b : ℕ) → 7 ≤ b → kindOf b ≡ none
@@ -54,7 +54,7 @@ table =
     ∷ (false ∷ false ∷ true ∷ true ∷ true ∷ true ∷ [])
     ∷ (false ∷ false ∷ false ∷ true ∷ true ∷ true ∷ [])
     ∷ (false ∷ false ∷ false ∷ false ∷ true ∷ true ∷ [])
-    ∷ (false ∷ false ∷ false ∷ false ∷ false ∷ false ∷ [])
+    ∷ (false ∷ false ∷ false ∷ false ∷ true ∷ false ∷ [])
     ∷ []
 
 right : ℕ → ℕ → Bool
@@ -64,7 +64,7 @@ row : ℕ → Bool
 row p = below (right p) 6
 
 at-each : below row 6 ≡ true
-unfolding row right kindOf kindByte repeatable follows mayStand
+unfolding row right kindOf kindByte repeatable rises follows mayStand
 at-each = refl
 
 pub stands-table : (previous kind : ℕ) → previous < 6 → kind < 6 → getD (getD table previous []) kind false ≡ stands (kindAt previous) (kindAt kind)

@@ -13,6 +13,7 @@ use Rattle.hex.proofs.Line.{from-here}
 use Rattle.meaning.specs.Syntax.{Field}
 use Rattle.meaning.specs.Frame.{Alternative, Got, got, fails, Reader, andThen, nothing, one, pair, triple, byte, two, four, manyIn, many, field, alternative, whole}
 use Rattle.frames.specs.Contracts.{byteW, halfW, fullW, wholly}
+use Rattle.frames.specs.Items.{fieldAt, alternativeAt, itemsAt}
 
 -- ---- Readers of one size
 
@@ -75,15 +76,9 @@ pub sized-four : Sized four 4 fullW
 unfolding four fullW
 sized-four = sized-pair (λ high low. high * 0x10000 + low) sized-two sized-two
 
-abbrev pub fieldAt : List ℕ → ℕ → Field
-fieldAt s i = record { name = halfW s i; value = halfW s (i + 2) }
-
 pub sized-field : Sized field 4 fieldAt
 unfolding field
 sized-field = sized-pair (λ n value. record { name = n; value = value }) sized-two sized-two
-
-abbrev pub alternativeAt : List ℕ → ℕ → Alternative
-alternativeAt s i = record { name = halfW s i; discriminant = fullW s (i + 2); type = halfW s (i + 6) }
 
 pub sized-alternative : Sized alternative 8 alternativeAt
 unfolding alternative
@@ -131,11 +126,6 @@ module _ {A : Type 0} (r : Reader A) (s : List ℕ) (i : ℕ) where
         ∙ ap (λ g. andThen g (λ more. got (a ∷ more))) (many-bound r c (length (drop (i + 1) s)) (length (drop j s)) (drop j s) (omega (arith, length-drop (i + 1) s, length-drop j s)) (omega arith))
 
 -- ---- Items of one size
-
--- k items, n bytes each, from a place on
-unfoldable pub itemsAt : {A : Type 0} → (ℕ → A) → ℕ → ℕ → ℕ → List A
-itemsAt v n i zero = []
-itemsAt v n i (suc k) = v i ∷ itemsAt v n (i + n) k
 
 pub length-items : {A : Type 0} (v : ℕ → A) (n i k : ℕ) → length (itemsAt v n i k) ≡ k
 unfolding itemsAt

@@ -15,7 +15,8 @@ use Rattle.meaning.specs.Frame.{limits, name, schemaType, predicate, node, quer
 use Rattle.frames.specs.Contracts.{kindAt, byteW, halfW, wholly, isFrame, sizeW, typeShape, valueType, statement, exprKind}
 use Rattle.frames.proofs.Following.{no-kind}
 use Rattle.frames.proofs.Readers.{Sized, sized-nothing, sized-byte, sized-two, sized-four, sized-one, sized-pair, sized-field, sized-alternative, many-end, many-stop, items-test}
-use Rattle.frames.proofs.Statements.{choice-at, choice-past, statementAt, statement-none, statement-lacks, statements-step}
+use Rattle.frames.specs.Items.{statementAt}
+use Rattle.frames.proofs.Statements.{choice-at, choice-past, statement-none, statement-lacks, statements-step}
 
 -- ---- One reader
 

@@ -11,6 +11,7 @@ use Rattle.hex.proofs.Line.{from-here}
 use Rattle.meaning.specs.Syntax.{QueryStmt}
 use Rattle.meaning.specs.Frame.{Got, got, fails, Reader, andThen, one, pair, two, many, entry, choice, statements}
 use Rattle.frames.specs.Contracts.{byteW, halfW, sizeW, statement}
+use Rattle.frames.specs.Items.{statementOf, statementAt, Fill, end, then}
 use Rattle.frames.proofs.Readers.{sized-one, sized-pair, sized-two, Shrinks, many-end, many-stop, many-step}
 
 -- ---- A byte that says how to go on
@@ -25,12 +26,6 @@ module _ {A : Type 0} (table : List (Reader A)) (s : List ℕ) (i : ℕ) where
   choice-past h = ap (choice table) (drop-of-length-le s h)
 
 -- ---- One statement
-
-abbrev pub statementOf : ℕ → ℕ → ℕ → QueryStmt
-statementOf tag a b = getD (QueryStmt.Bind a b ∷ QueryStmt.Implicit a ∷ QueryStmt.Negation a ∷ QueryStmt.Deny a b ∷ QueryStmt.Compare a b ∷ []) tag (QueryStmt.Implicit a)
-
-abbrev pub statementAt : List ℕ → ℕ → QueryStmt
-statementAt s i = statementOf (byteW s i) (halfW s (i + 1)) (halfW s (i + 3))
 
 abbrev rows : List (Reader QueryStmt)
 rows = pair QueryStmt.Bind two two ∷ one QueryStmt.Implicit two ∷ one QueryStmt.Negation two ∷ pair QueryStmt.Deny two two ∷ pair QueryStmt.Compare two two ∷ []
@@ -116,10 +111,6 @@ statement-shrinks b s a t e = go (next (b ∷ s) 0 (omega arith))
         omega (arith, ap length z, length-drop (0 + sizeW b) (b ∷ s), p)
 
 -- ---- Statements to the frame's end
-
-pub data Fill (s : List ℕ) : ℕ → List QueryStmt → Type 0 where
-  end : {i : ℕ} → i ≡ length s → Fill s i []
-  then : {i : ℕ} {xs : List QueryStmt} → 0 < sizeW (byteW s i) → i + sizeW (byteW s i) ≤ length s → Fill s (i + sizeW (byteW s i)) xs → Fill s i (statementAt s i ∷ xs)
 
 pub statements-step : (s : List ℕ) (i : ℕ) → 0 < sizeW (byteW s i) → i + sizeW (byteW s i) ≤ length s → many statement (drop i s) ≡ one (λ more. statementAt s i ∷ more) (many statement) (drop (i + sizeW (byteW s i)) s)
 statements-step s i p h =

@@ -34,7 +34,7 @@ pub record Malformed (file : List ℕ) (at : ℕ) : Type 0 where
 pub record Decodes (file : List ℕ) (at : ℕ) (line : List ℕ) (r : Decoded) : Type 0 where
   pub room : length line ≡ 512
   pub holds : (n next : ℕ) → r ≡ Bytes n next → Holds file at line n next
-  pub fails : r ≡ Bad → Malformed file at
+  pub fails : r ≡ Bad → at < length file → Malformed file at
 
 -- ---- Kinds
 

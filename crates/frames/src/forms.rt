@@ -13,7 +13,7 @@ const FOLLOWS: [[bool; 6]; 6] = [
     [false, false, true, true, true, true], // schema type
     [false, false, false, true, true, true], // predicate
     [false, false, false, false, true, true], // node
-    [false, false, false, false, false, false], // query
+    [false, false, false, false, true, false], // query
 ];
 
 // The kinds from 0 on, and 6 for a byte that is none.

@@ -31,9 +31,9 @@ pub enum Decoded {
     Bad,
 }
 
-// The line at a place, decoded into `line`; Bad under condition 3.
+// The line at a place, decoded into `line`; Bad under condition 3, and past the end.
 pub fn decode(file: &[u8], at: usize, line: &mut [u8; 512]) -> Decoded
-    requires { ⌜ (at < length (now file)) × (length (now line) ≡ 512) ⌝ }
+    requires { ⌜ length (now line) ≡ 512 ⌝ }
     ensures { λ r. ⌜ Decodes (now (file .entry)) at (now (line .exit)) r ⌝ }
 {
     let mut i = at;

@@ -13,7 +13,7 @@ use Rattle.text.proofs.Grammar.{counts}
 use Rattle.meaning.specs.Frame.{Kind, limits, name, schemaType, predicate, node, query, mayStand, Frame, frameKind}
 use Rattle.meaning.specs.References.{nameRefs, typeRefs, nodeRefs, textsOf, keysOf}
 use Rattle.meaning.specs.SoFar.{SoFar, Said, frames}
-use Rattle.meaning.specs.Conditions.{allBelow, again, given, maxNames, maxTypes, maxPredicates, maxNodes, isMalformed, isMisplaced, isFull, isOneTooMany, isNoFrame, ofFrame, broken, isBrokenText, isNameGivenBefore, refersEarlier, refersBadly, isBadReference, isRepeatedKey, Condition, conditions, firstOf}
+use Rattle.meaning.specs.Conditions.{allBelow, again, given, maxNames, maxTypes, maxPredicates, maxNodes, maxQueries, isMalformed, isMisplaced, isFull, isOneTooMany, isLastQueryPast, isQueryTooMany, isNoFrame, ofFrame, broken, isBrokenText, isNameGivenBefore, refersEarlier, refersBadly, isBadReference, isRepeatedKey, Condition, conditions, firstOf}
 use Rattle.meaning.specs.All.{All, Absent}
 use Rattle.meaning.proofs.Obeys.{Room, Obeys}
 use Rattle.meaning.proofs.Lists.{empty-absent}
@@ -35,14 +35,14 @@ holds-none (c ∷ cs) so l a = rw (a .0, firstOf) (holds-none cs so l (a .1))
 
 -- ---- The parts of the rules
 
-room : (so : SoFar) (k : Kind) → isFull so k ≡ false → Room so k
-unfolding isFull
-room so limits h = tt
-room so name h = leb-false maxNames (length (so .names)) h
-room so schemaType h = leb-false maxTypes (length (so .types)) h
-room so predicate h = leb-false maxPredicates (length (so .predicates)) h
-room so node h = leb-false maxNodes (length (so .nodes)) h
-room so query h = tt
+room : (so : SoFar) (k : Kind) → isFull so k ≡ false → isLastQueryPast so k ≡ false → Room so k
+unfolding isFull isLastQueryPast
+room so limits h q = tt
+room so name h q = leb-false maxNames (length (so .names)) h
+room so schemaType h q = leb-false maxTypes (length (so .types)) h
+room so predicate h q = leb-false maxPredicates (length (so .predicates)) h
+room so node h q = leb-false maxNodes (length (so .nodes)) h
+room so query h q = leb-false maxQueries (length (so .queries)) q
 
 full : (so : SoFar) (k : Kind) → Room so k → isFull so k ≡ false
 unfolding isFull
@@ -53,10 +53,19 @@ full so predicate h = lt-leb maxPredicates (length (so .predicates)) h
 full so node h = lt-leb maxNodes (length (so .nodes)) h
 full so query h = refl
 
-abbrev Readable : List ℕ → Type 0
+last-past : (so : SoFar) (k : Kind) → Room so k → isLastQueryPast so k ≡ false
+unfolding isLastQueryPast
+last-past so limits h = refl
+last-past so name h = refl
+last-past so schemaType h = refl
+last-past so predicate h = refl
+last-past so node h = refl
+last-past so query h = lt-leb maxQueries (length (so .queries)) h
+
+abbrev pub Readable : List ℕ → Type 0
 Readable s = (n : ℕ) × Text s n
 
-readable : (s : List ℕ) → broken s ≡ false → Readable s
+pub readable : (s : List ℕ) → broken s ≡ false → Readable s
 unfolding broken
 readable s h = go (characters s) refl
   where
@@ -64,7 +73,7 @@ readable s h = go (characters s) refl
     go none q = clash (rw (q, broken) at h)
     go (some n) q = (n, counts s n .1 q)
 
-unbroken : (s : List ℕ) → Readable s → broken s ≡ false
+pub unbroken : (s : List ℕ) → Readable s → broken s ≡ false
 unfolding broken
 unbroken s h = rw (counts s (h .0) .0 (h .1), broken)
 
@@ -79,34 +88,34 @@ or-not true b p q = q
 or-not false b p q = clash (sym p)
 
 pub obeys : (so : SoFar) (f : Frame) → firstOf conditions so (frames f) ≡ none → Obeys so f
-unfolding conditions isMisplaced isOneTooMany isBrokenText isNameGivenBefore isBadReference isRepeatedKey ofFrame refersEarlier refersBadly
+unfolding conditions isMisplaced isOneTooMany isQueryTooMany isBrokenText isNameGivenBefore isBadReference isRepeatedKey ofFrame refersEarlier refersBadly
 obeys so f e =
     record {
       placed = not-false (mayStand (so .previous) (frameKind f)) (a .1 .0);
-      room = room so (frameKind f) (a .1 .1 .0);
-      text = none-passes broken Readable readable (textsOf f) (a .1 .1 .1 .1 .0);
-      new = none-passes (given (so .names)) (λ s. Absent s (so .names)) (given-absent (so .names)) (textsOf f) (a .1 .1 .1 .1 .1 .0);
+      room = room so (frameKind f) (a .1 .1 .0) (a .1 .1 .1 .0);
+      text = none-passes broken Readable readable (textsOf f) (a .1 .1 .1 .1 .1 .0);
+      new = none-passes (given (so .names)) (λ s. Absent s (so .names)) (given-absent (so .names)) (textsOf f) (a .1 .1 .1 .1 .1 .1 .0);
       names = below-all (length (so .names)) (nameRefs f) (both-left _ _ earlier);
       types = below-all (length (so .types)) (typeRefs f) (both-left _ _ (both-right (allBelow (length (so .names)) (nameRefs f)) _ earlier));
       nodes = below-all (length (so .nodes)) (nodeRefs f) (both-right (allBelow (length (so .types)) (typeRefs f)) _ (both-right (allBelow (length (so .names)) (nameRefs f)) _ earlier));
       unnamed = again-new (so .named) (nodeRefs f) once;
       once = again-distinct (so .named) (nodeRefs f) once;
-      keys = again-distinct [] (keysOf f) (a .1 .1 .1 .1 .1 .1 .1 .0);
+      keys = again-distinct [] (keysOf f) (a .1 .1 .1 .1 .1 .1 .1 .1 .0);
     }
   where
     a : All (λ c. c .holds so (frames f) ≡ false) conditions
     a = none-holds conditions so (frames f) e
 
     earlier : refersEarlier so f ≡ true
-    earlier = not-or (refersEarlier so f) (again (so .named) (nodeRefs f)) (a .1 .1 .1 .1 .1 .1 .0) .0
+    earlier = not-or (refersEarlier so f) (again (so .named) (nodeRefs f)) (a .1 .1 .1 .1 .1 .1 .1 .0) .0
 
     once : again (so .named) (nodeRefs f) ≡ false
-    once = not-or (refersEarlier so f) (again (so .named) (nodeRefs f)) (a .1 .1 .1 .1 .1 .1 .0) .1
+    once = not-or (refersEarlier so f) (again (so .named) (nodeRefs f)) (a .1 .1 .1 .1 .1 .1 .1 .0) .1
 
 pub no-condition : (so : SoFar) (f : Frame) → Obeys so f → firstOf conditions so (frames f) ≡ none
-unfolding conditions isMalformed isMisplaced isOneTooMany isNoFrame isBrokenText isNameGivenBefore isBadReference isRepeatedKey ofFrame refersEarlier refersBadly
+unfolding conditions isMalformed isMisplaced isOneTooMany isQueryTooMany isNoFrame isBrokenText isNameGivenBefore isBadReference isRepeatedKey ofFrame refersEarlier refersBadly
 no-condition so f o =
-    holds-none conditions so (frames f) (refl, (ap not (o .placed), (full so (frameKind f) (o .room), (refl, (text, (new, (reference, (keys, tt))))))))
+    holds-none conditions so (frames f) (refl, (ap not (o .placed), (full so (frameKind f) (o .room), (last-past so (frameKind f) (o .room), (refl, (text, (new, (reference, (keys, tt)))))))))
   where
     earlier : refersEarlier so f ≡ true
     earlier = both-true _ _ (all-below (length (so .names)) (nameRefs f) (o .names)) (both-true _ _ (all-below (length (so .types)) (typeRefs f) (o .types)) (all-below (length (so .nodes)) (nodeRefs f) (o .nodes)))

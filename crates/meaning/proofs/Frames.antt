@@ -20,7 +20,7 @@ framed : (so : SoFar) (l : Said) → All (λ c. c .holds so l ≡ false) conditi
 unfolding conditions isMalformed isMisplaced isNoFrame
 framed so malformed a = clash (a .0)
 framed so unknownKind a = clash (a .1 .0)
-framed so (noFrame k) a = clash (a .1 .1 .1 .0)
+framed so (noFrame k) a = clash (a .1 .1 .1 .1 .0)
 framed so (frames f) a = record { frame = f; is = refl; obeys = obeys so f (holds-none conditions so (frames f) a) }
 
 pub record Obeying (so : SoFar) (ls : List Said) (end : SoFar) : Type 0 where

@@ -1,5 +1,5 @@
 -- A file and its lines: each line is closed by the LF that follows it, and put together again they are the file.
-use mathlib.Core.List.{List, [], _∷_, _++_, append-assoc}
+use mathlib.Core.List.{List, [], _∷_, _++_}
 use mathlib.Core.Path.{_≡_, refl, sym, ap, _∙_}
 use Prim.Native.Nat.{ℕ}
 use lib.Dec.{eqb}
@@ -30,15 +30,3 @@ pub lines-closed : (s t : List ℕ) → Absent LF s → lines (s ++ LF ∷ t) �
 unfolding lines inFront
 lines-closed [] t a = refl
 lines-closed (b ∷ s) t a = rw (ne-eqb b LF (λ e. a .0 (sym e)), lines) (ap (inFront b) (lines-closed s t (a .1)))
-
--- Bytes without an LF after the last line.
-pub lines-unclosed : (b : ℕ) (s : List ℕ) → Absent LF (b ∷ s) → lines (b ∷ s) ≡ unclosed (b ∷ s) ∷ []
-unfolding lines inFront
-lines-unclosed b [] a = rw (ne-eqb b LF (λ e. a .0 (sym e)), lines)
-lines-unclosed b (c ∷ s) a = rw (ne-eqb b LF (λ e. a .0 (sym e)), lines) (ap (inFront b) (lines-unclosed c s (a .1)))
-
-pub together-append : (a b : List Line) → together (a ++ b) ≡ together a ++ together b
-unfolding together
-together-append [] b = refl
-together-append (closed s ∷ a) b = ap (λ t. s ++ LF ∷ t) (together-append a b) ∙ sym (append-assoc s (LF ∷ together a) (together b))
-together-append (unclosed s ∷ a) b = ap (λ t. s ++ t) (together-append a b) ∙ sym (append-assoc s (together a) (together b))

@@ -11,45 +11,12 @@ use Rattle.unification.specs.Ty.{Ty}
 use Rattle.unification.specs.Calls.{Side, Taken, Calls}
 use Rattle.unification.proofs.Sides.{side-more}
 use Rattle.unification.proofs.Undo.{Since, since-refl, since-trans, since-length}
-use Rattle.unification.proofs.Log.{Log}
+use Rattle.unification.specs.Log.{Log}
 use Rattle.meaning.specs.Diag.{Diagnostic}
 use Rattle.meaning.specs.Check.{Checker, Step, goes, out, Does, andThen}
 use Rattle.meaning.specs.All.{All}
 use Rattle.meaning.specs.Run.{Led}
-
--- ---- Grades
-pub record Grade : Type 0 where
-  -- how often each node may be annotated
-  pub nodes : ℕ → ℕ
-  pub unknowns : ℕ
-  pub diagnostics : ℕ
-
-abbrev pub plus : Grade → Grade → Grade
-plus g h = record { nodes = λ x. g .nodes x + h .nodes x; unknowns = g .unknowns + h .unknowns; diagnostics = g .diagnostics + h .diagnostics }
-
-pub record Fits (g h : Grade) : Type 0 where
-  pub nodes : (x : ℕ) → g .nodes x ≤ h .nodes x
-  pub unknowns : g .unknowns ≤ h .unknowns
-  pub diagnostics : g .diagnostics ≤ h .diagnostics
-
--- ---- States
-
-abbrev pub unknowns : Checker → ℕ
-unknowns c = length (c .state .subst)
-
--- Every type of the state is over its unknowns, the environment holds no more entries than there are unknowns, and the undo
--- log is in order.
-pub record Orderly (c : Checker) : Type 0 where
-  pub log : Log (c .state)
-  pub env : All (λ e. e .1 < unknowns c) (c .env)
-  pub few : length (c .env) ≤ unknowns c
-  pub sides : (n : ℕ) (t : Ty) → getD (c .state .tys) n none ≡ some t → Side (unknowns c) t
-
--- The nodes of a grade exist, have no type yet, and are each annotated at most once.
-pub record Ready (g : Grade) (c : Checker) : Type 0 where
-  pub once : (x : ℕ) → g .nodes x ≤ 1
-  pub there : (x : ℕ) → 0 < g .nodes x → x < length (c .state .tys)
-  pub bare : (x : ℕ) → 0 < g .nodes x → getD (c .state .tys) x none ≡ none
+use Rattle.meaning.specs.Grades.{Grade, plus, Fits, unknowns, Orderly, Ready}
 
 -- From the first checker to the second no more was made than the grade allows.
 pub record Made (g : Grade) (c c′ : Checker) : Type 0 where

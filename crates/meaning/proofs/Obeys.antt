@@ -6,12 +6,11 @@ use mathlib.Core.Path.{_≡_}
 use Prim.Native.Nat.{ℕ, _<_, _≤_}
 use lib.ListN.{length}
 use Rattle.text.specs.Utf8.{Text}
-use Rattle.meaning.specs.Syntax.{Query}
 use Rattle.meaning.specs.Frame.{Kind, limits, name, schemaType, predicate, node, query, mayStand, Frame, frameKind}
 use Rattle.meaning.specs.References.{nameRefs, typeRefs, nodeRefs, textsOf, keysOf}
 use Rattle.meaning.specs.SoFar.{SoFar, add, start}
-use Rattle.meaning.specs.Conditions.{maxNames, maxTypes, maxPredicates, maxNodes}
-use Rattle.meaning.specs.File.{Described, describe, maxFile}
+use Rattle.meaning.specs.Conditions.{maxNames, maxTypes, maxPredicates, maxNodes, maxQueries}
+use Rattle.meaning.specs.File.{Form, describe, maxFile}
 use Rattle.meaning.specs.All.{All, Absent, Distinct, Below}
 use Rattle.meaning.specs.Writing.{Writable, fileOf}
 
@@ -22,7 +21,7 @@ Room so name = length (so .names) < maxNames
 Room so schemaType = length (so .types) < maxTypes
 Room so predicate = length (so .predicates) < maxPredicates
 Room so node = length (so .nodes) < maxNodes
-Room so query = Unit {0}
+Room so query = length (so .queries) < maxQueries
 
 -- A frame may come next.
 pub record Obeys (so : SoFar) (f : Frame) : Type 0 where
@@ -43,13 +42,12 @@ pub data Rules : SoFar → List Frame → SoFar → Type 0 where
   next : {so end : SoFar} {f : Frame} {fs : List Frame} → Obeys so f → Rules (add so f) fs end → Rules so (f ∷ fs) end
 
 -- The file is what frames that obey the rules are written as, and d is what they describe.
-pub record Written (file : List ℕ) (d : Described) : Type 0 where
+pub record Written (file : List ℕ) (d : Form) : Type 0 where
   pub these : List Frame
   pub is : file ≡ fileOf these
   pub size : length file ≤ maxFile
   pub writable : All Writable these
   pub end : SoFar
   pub rules : Rules start these end
-  pub query : Query
-  pub last : end .query ≡ some query
-  pub describes : d ≡ describe end query
+  pub last : end .previous ≡ some Kind.query
+  pub describes : d ≡ describe end

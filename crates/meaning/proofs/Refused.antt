@@ -2,20 +2,20 @@
 -- by induction on them, with the first condition that holds of each.
 use mathlib.Core.Bool.{false}
 use mathlib.Core.List.{List, [], _∷_, _++_, map}
-use mathlib.Core.Logic.{_↔_}
+use mathlib.Core.Logic.{_↔_, _≢_}
 use mathlib.Core.Option.{Option, none, some}
-use mathlib.Core.Path.{_≡_, refl, ap, _∙_}
+use mathlib.Core.Path.{_≡_, refl, sym, ap, subst, _∙_}
 use Prim.Native.Nat.{ℕ, _≤_}
 use native.Mathlib.Omega.{arith}
 use lib.Dec.{ltb}
 use lib.ListN.{length}
 use borrow.Author.Tests.{ltb-true, ltb-false, lt-ltb, le-ltb}
-use Rattle.meaning.specs.Syntax.{Query}
-use Rattle.meaning.specs.Refusal.{Refusal}
+use Rattle.meaning.specs.Refusal.{Refusal, misplacedKind}
 use Rattle.meaning.specs.Lines.{lines}
+use Rattle.meaning.specs.Frame.{Kind, limits, name, schemaType, predicate, node, query}
 use Rattle.meaning.specs.SoFar.{SoFar, Said, said, start, after}
 use Rattle.meaning.specs.Conditions.{Condition, conditions, firstOf}
-use Rattle.meaning.specs.File.{maxFile, Described, describe, Reading, refused, described, atEnd, readFrom, reading}
+use Rattle.meaning.specs.File.{maxFile, Form, describe, Reading, refused, described, atEnd, readFrom, reading}
 use Rattle.meaning.specs.All.{All}
 use Rattle.meaning.specs.Refused.{First, here, later, Pass, none-left, more, AtLine, Refused, tooLong, atLine, missingQuery}
 use Rattle.meaning.proofs.Tests.{cases}
@@ -54,7 +54,7 @@ past rest (more {so = so} {l = l} {ls = ls} a p) = read-next so l (ls ++ rest) (
 -- How the reading of lines ends.
 data Ends (so : SoFar) (ls : List Said) : Reading → Type 0 where
   stopped : {i : Refusal} → AtLine so ls i → Ends so ls (refused i)
-  through : (end : SoFar) → Pass so ls end → Ends so ls (atEnd end (end .query))
+  through : (end : SoFar) → Pass so ls end → Ends so ls (atEnd end (end .previous))
 
 ahead : {so : SoFar} {l : Said} {ls : List Said} {r : Reading} → All (λ c. c .holds so l ≡ false) conditions → Ends (after so l) ls r → Ends so (l ∷ ls) r
 ahead {l = l} a (stopped s) = stopped (record { before = l ∷ s .before; line = s .line; rest = s .rest; read = s .read; split = ap (λ x. l ∷ x) (s .split); pass = more a (s .pass); first = s .first })
@@ -71,6 +71,18 @@ ends so (l ∷ ls) = go (λ h. ends (after so l) ls) (firstOf conditions so l) r
 
 -- ---- The file
 
+abbrev Other : Option Kind → Type 0
+Other none = Unit {0}
+Other (some limits) = Unit {0}
+Other (some name) = Unit {0}
+Other (some schemaType) = Unit {0}
+Other (some predicate) = Unit {0}
+Other (some node) = Unit {0}
+Other (some query) = ⊥
+
+other-kind : {o : Option Kind} → o ≡ some Kind.query → Other o → ⊥
+other-kind e h = subst Other e h
+
 pub within : (file : List ℕ) → length file ≤ maxFile → reading file ≡ readFrom start (map said (lines file))
 unfolding reading
 within file h = rw (le-ltb maxFile (length file) h, reading)
@@ -78,7 +90,7 @@ within file h = rw (le-ltb maxFile (length file) h, reading)
 -- The ways a file can be read.
 pub data Read (file : List ℕ) : Reading → Type 0 where
   turnedDown : {i : Refusal} → Refused file i → Read file (refused i)
-  passed : (end : SoFar) (q : Query) → length file ≤ maxFile → Pass start (map said (lines file)) end → end .query ≡ some q → Read file (described (describe end q))
+  passed : (end : SoFar) → length file ≤ maxFile → Pass start (map said (lines file)) end → end .previous ≡ some Kind.query → Read file (described (describe end))
 
 pub read : (file : List ℕ) → Read file (reading file)
 unfolding reading atEnd
@@ -86,53 +98,67 @@ read file = cases (ltb maxFile (length file))
     (λ q. rw (q, reading) (turnedDown (tooLong (ltb-true maxFile (length file) q))))
     (λ q. rw (q, reading) (go (ltb-false maxFile (length file) q) (ends start (map said (lines file)))))
   where
-    end-of : length file ≤ maxFile → (end : SoFar) → Pass start (map said (lines file)) end → (o : Option Query) → end .query ≡ o → Read file (atEnd end o)
-    end-of h end p none q = turnedDown (missingQuery end h p q)
-    end-of h end p (some x) q = passed end x h p q
+    end-of : length file ≤ maxFile → (end : SoFar) → Pass start (map said (lines file)) end → (o : Option Kind) → end .previous ≡ o → Read file (atEnd end o)
+    end-of h end p none q = turnedDown (missingQuery end h p (λ e. other-kind (sym q ∙ e) tt))
+    end-of h end p (some limits) q = turnedDown (missingQuery end h p (λ e. other-kind (sym q ∙ e) tt))
+    end-of h end p (some name) q = turnedDown (missingQuery end h p (λ e. other-kind (sym q ∙ e) tt))
+    end-of h end p (some schemaType) q = turnedDown (missingQuery end h p (λ e. other-kind (sym q ∙ e) tt))
+    end-of h end p (some predicate) q = turnedDown (missingQuery end h p (λ e. other-kind (sym q ∙ e) tt))
+    end-of h end p (some node) q = turnedDown (missingQuery end h p (λ e. other-kind (sym q ∙ e) tt))
+    end-of h end p (some query) q = passed end h p q
 
     go : length file ≤ maxFile → {r : Reading} → Ends start (map said (lines file)) r → Read file r
     go h (stopped s) = turnedDown (atLine h s)
-    go h (through end p) = end-of h end p (end .query) refl
+    go h (through end p) = end-of h end p (end .previous) refl
 
 why : {file : List ℕ} {r : Reading} (i : Refusal) → Read file r → r ≡ refused i → Refused file i
 why i (turnedDown {i = j} h) e = let same : i ≡ j = cc in rw same h
-why i (passed end q h p s) e = let z : _≡_ {A = ℕ} 0 1 = cc in absurd (omega arith)
+why i (passed end h p s) e = let z : _≡_ {A = ℕ} 0 1 = cc in absurd (omega arith)
 
 stops : {so : SoFar} {ls : List Said} {i : Refusal} → AtLine so ls i → readFrom so ls ≡ refused i
 stops {so = so} {i = i} s = ap (readFrom so) (s .split) ∙ past (s .line ∷ s .rest) (s .pass) ∙ read-refused (s .read) (s .line) (s .rest) i (first-some (s .first))
 
-to-the-end : {so end : SoFar} {ls : List Said} → Pass so ls end → readFrom so ls ≡ atEnd end (end .query)
+to-the-end : {so end : SoFar} {ls : List Said} → Pass so ls end → readFrom so ls ≡ atEnd end (end .previous)
 unfolding readFrom
 to-the-end none-left = refl
 to-the-end (more {so = so} {l = l} {ls = ls} a p) = read-next so l ls (holds-none conditions so l a) ∙ to-the-end p
+
+pub not-ended : (end : SoFar) (o : Option Kind) → o ≢ some Kind.query → atEnd end o ≡ refused misplacedKind
+unfolding atEnd
+not-ended end none h = refl
+not-ended end (some limits) h = refl
+not-ended end (some name) h = refl
+not-ended end (some schemaType) h = refl
+not-ended end (some predicate) h = refl
+not-ended end (some node) h = refl
+not-ended end (some query) h = absurd (h refl)
 
 turned-down : (file : List ℕ) {i : Refusal} → Refused file i → reading file ≡ refused i
 unfolding reading atEnd
 turned-down file (tooLong h) = rw (lt-ltb maxFile (length file) h, reading)
 turned-down file (atLine h s) = within file h ∙ stops s
-turned-down file (missingQuery end h p q) = within file h ∙ to-the-end p ∙ ap (atEnd end) q
+turned-down file (missingQuery end h p q) = within file h ∙ to-the-end p ∙ not-ended end (end .previous) q
 
 -- Refused for a reason exactly under its condition.
 pub refused-when : (file : List ℕ) (i : Refusal) → (reading file ≡ refused i) ↔ Refused file i
 refused-when file i = (λ e. why i (read file) e, λ h. turned-down file h)
 
--- Described exactly where all lines pass and the last is the query.
-pub accepted : (file : List ℕ) (end : SoFar) (q : Query) → length file ≤ maxFile → Pass start (map said (lines file)) end → end .query ≡ some q → reading file ≡ described (describe end q)
+-- Described exactly where all lines pass and the last is a query.
+pub accepted : (file : List ℕ) (end : SoFar) → length file ≤ maxFile → Pass start (map said (lines file)) end → end .previous ≡ some Kind.query → reading file ≡ described (describe end)
 unfolding atEnd
-accepted file end q h p e = within file h ∙ to-the-end p ∙ ap (atEnd end) e
+accepted file end h p e = within file h ∙ to-the-end p ∙ ap (atEnd end) e
 
 -- What the lines of a described file come to.
-pub record Accepted (file : List ℕ) (d : Described) : Type 0 where
+pub record Accepted (file : List ℕ) (d : Form) : Type 0 where
   pub end : SoFar
-  pub query : Query
   pub size : length file ≤ maxFile
   pub pass : Pass start (map said (lines file)) end
-  pub last : end .query ≡ some query
-  pub is : d ≡ describe end query
+  pub last : end .previous ≡ some Kind.query
+  pub is : d ≡ describe end
 
-pub described-when : (file : List ℕ) (d : Described) → reading file ≡ described d → Accepted file d
+pub described-when : (file : List ℕ) (d : Form) → reading file ≡ described d → Accepted file d
 described-when file d e = go (read file) e
   where
     go : {r : Reading} → Read file r → r ≡ described d → Accepted file d
     go (turnedDown h) s = let z : _≡_ {A = ℕ} 0 1 = cc in absurd (omega arith)
-    go (passed end q h p s) t = record { end = end; query = q; size = h; pass = p; last = s; is = cc }
+    go (passed end h p s) t = record { end = end; size = h; pass = p; last = s; is = cc }

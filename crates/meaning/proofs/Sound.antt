@@ -1,19 +1,20 @@
 -- What holds of every described file, from what the rules keep.
 use mathlib.Core.List.{List, [], _∷_, map}
-use mathlib.Core.Option.{some}
 use mathlib.Core.Path.{_≡_}
-use Prim.Native.Nat.{ℕ, zero, suc, _+_, _<_}
+use Prim.Native.Nat.{ℕ, zero, suc, _+_, _<_, _≤_}
 use native.Mathlib.Nat.{not-suc-le-zero, le-of-suc-le-suc, zero-add, add-zero, add-suc, suc-add}
 use lib.ListN.{length, getD, length-map}
 use Rattle.text.specs.Utf8.{characters}
-use Rattle.meaning.specs.Syntax.{Query, Node, noNode, nodeAt}
+use Rattle.meaning.specs.Syntax.{Node, Ast, noNode, nodeAt}
 use Rattle.meaning.specs.References.{exprNodes}
 use Rattle.meaning.specs.SoFar.{SoFar, Said, start}
-use Rattle.meaning.specs.File.{Described, countOf, describe, described, reading}
+use Rattle.meaning.specs.File.{Form, viewOf, noAst, viewAt, countOf, schemaOf, describe, described, reading}
+use Rattle.meaning.specs.Conditions.{maxQueries}
 use Rattle.meaning.specs.All.{All}
 use Rattle.meaning.specs.Refused.{Pass}
-use Rattle.meaning.specs.Sound.{Lower, Kept, Sound}
+use Rattle.meaning.specs.Sound.{Lower, LawfulQuery, Kept, Sound}
 use Rattle.meaning.proofs.Refused.{described-when}
+use Rattle.meaning.proofs.Lists.{all-map, all-at}
 use Rattle.meaning.proofs.Frames.{pass-rules}
 use Rattle.meaning.proofs.Kept.{kept}
 
@@ -21,27 +22,44 @@ use Rattle.meaning.proofs.Kept.{kept}
 pub pass-kept : {end : SoFar} {ls : List Said} → Pass start ls end → Kept end
 pass-kept p = kept (pass-rules p .rules)
 
-sound-end : (end : SoFar) (q : Query) → end .query ≡ some q → Kept end → Sound (describe end q)
-unfolding describe
-sound-end end q e k =
+sound-query : (end : SoFar) (a : Ast) → Kept end → LawfulQuery (length (end .names)) a → Sound (viewOf (describe end) a)
+unfolding describe schemaOf viewOf
+sound-query end a k q =
     record {
       namesMax = rw counted (k .namesMax);
       predicatesMax = k .predicatesMax;
-      nodesMax = k .nodesMax;
+      nodesMax = q .nodesMax;
       predicates = k .predicates;
-      lower = k .lower;
-      namesBelow = rw counted (k .namesBelow);
-      once = rw (k .named, e) at (k .once);
-      query = rw e at (k .query);
+      lower = q .nodeNodes;
+      namesBelow = rw counted (q .nodeNames);
+      once = q .once;
+      query = q .queryBelow;
     }
   where
     counted : length (map (λ s. countOf (characters s)) (end .names)) ≡ length (end .names)
     counted = length-map (end .names) (λ s. countOf (characters s))
 
-pub sound : (file : List ℕ) (d : Described) → reading file ≡ described d → Sound d
-sound file d e =
-    let a = described-when file d e in
-    rw (a .is) (sound-end (a .end) (a .query) (a .last) (pass-kept (a .pass)))
+sound-end : (end : SoFar) → Kept end → All (λ a. Sound (viewOf (describe end) a)) (describe end .queries)
+unfolding describe
+sound-end end k = all-map (LawfulQuery (length (end .names))) (λ a. Sound (viewOf (describe end) a)) (end .queries) (λ a q. sound-query end a k q) (k .queries)
+
+-- Each query of a described file, with the schema.
+pub sound : (file : List ℕ) (f : Form) → reading file ≡ described f → All (λ a. Sound (viewOf f a)) (f .queries)
+sound file f e =
+    let a = described-when file f e in
+    rw (a .is) (sound-end (a .end) (pass-kept (a .pass)))
+
+pub sound-at : (file : List ℕ) (f : Form) → reading file ≡ described f → (k : ℕ) → k < length (f .queries) → Sound (viewAt f k)
+unfolding viewAt
+sound-at file f e k h = all-at (λ a. Sound (viewOf f a)) (f .queries) k noAst (sound file f e) h
+
+-- There is one, and there are no more than 64.
+pub some-queries : (file : List ℕ) (f : Form) → reading file ≡ described f → (1 ≤ length (f .queries)) × (length (f .queries) ≤ maxQueries)
+unfolding describe
+some-queries file f e =
+    let a = described-when file f e in
+    let k = pass-kept (a .pass) in
+    rw (a .is) (k .oneEnded (a .last), k .queriesMax)
 
 -- By number: what a node names is below it.
 lower-from : (i : ℕ) (ns : List Node) (n : ℕ) (d : Node) → Lower i ns → n < length ns → All (λ m. m < i + n) (exprNodes (getD ns n d .kind))

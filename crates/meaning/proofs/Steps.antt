@@ -22,30 +22,21 @@ use Rattle.unification.proofs.Sides.{side-more, wf-pad}
 use Rattle.unification.proofs.Occurs.{Fewer, orderable-fewer}
 use Rattle.unification.proofs.Undo.{Since, since-refl, since-length, since-fresh, since-annotate, since-left, rollback-subst, rollback-tys, rollback-undo}
 use Rattle.unification.proofs.Kept.{After, Kept, unify-kept}
-use Rattle.unification.proofs.Log.{taken-pad, Log, log-annotate, Logged, unify-logged}
+use Rattle.unification.specs.Log.{Log}
+use Rattle.unification.proofs.Log.{taken-pad, log-annotate, Logged, unify-logged}
 use Rattle.unification.proofs.Demand3.{rolled-since}
 use Rattle.meaning.specs.Syntax.{Node, nodeAt}
 use Rattle.meaning.specs.Schema.{Schema}
 use Rattle.meaning.specs.Diag.{Code}
 use Rattle.meaning.specs.Check.{Checker, goes, Does, andThen, withState, freshVarId, lookupIn, lookup, pushEnv, introduce, annotate, unified, unify, ordered, orderable, snapshot, truncateEnv, rollback, reject, report, unifyAt}
 use Rattle.meaning.specs.All.{All}
-use Rattle.meaning.specs.Run.{between-calls, at-the-limit, same}
+use Rattle.meaning.specs.Run.{between-calls, at-the-limit}
+use Rattle.meaning.specs.Weights.{same}
 use Rattle.meaning.proofs.Lists.{all-map}
-use Rattle.meaning.proofs.Meets.{Grade, unknowns, Orderly, Ready, Made, Reached, Stopped, Went, Meets, went, ended, meets, made-more, stays, meets-then}
+use Rattle.meaning.specs.Grades.{Grade, unknowns, Orderly, Ready, no-thing, one-diagnostic, one-unknown, one-node, Known}
+use Rattle.meaning.proofs.Meets.{Made, Reached, Stopped, Went, Meets, went, ended, meets, made-more, stays, meets-then}
 
--- ---- Grades of one thing
-abbrev pub no-thing : Grade
-no-thing = record { nodes = λ x. 0; unknowns = 0; diagnostics = 0 }
-
-abbrev pub one-diagnostic : Grade
-one-diagnostic = record { nodes = λ x. 0; unknowns = 0; diagnostics = 1 }
-
-abbrev pub one-unknown : Grade
-one-unknown = record { nodes = λ x. 0; unknowns = 1; diagnostics = 0 }
-
-abbrev pub one-node : ℕ → Grade
-one-node n = record { nodes = λ x. same x n; unknowns = 0; diagnostics = 0 }
-
+-- ---- The same node
 pub same-self : (x : ℕ) → same x x ≡ 1
 unfolding same
 same-self x = rw (eq-eqb x x refl, same)
@@ -60,10 +51,6 @@ Nothing a c = Unit {0}
 
 abbrev pub IsSide : Ty → Checker → Type 0
 IsSide t c = Side (unknowns c) t
-
--- The environment has this variable.
-abbrev pub Known : ℕ → Checker → Type 0
-Known x c = (v : ℕ) × (lookupIn (c .env) x ≡ some v)
 
 abbrev pub IsUnknown : ℕ → ℕ → Checker → Type 0
 IsUnknown x v c = (v < unknowns c) × Known x c

@@ -4,23 +4,25 @@ use mathlib.Core.Bool.{Bool, true, false}
 use mathlib.Core.List.{List, [], _∷_, _++_, map}
 use mathlib.Core.Option.{Option, none, some}
 use mathlib.Core.Path.{_≡_, refl, ap, sym, _∙_}
-use Prim.Native.Nat.{ℕ}
+use Prim.Native.Nat.{ℕ, _<_, _≤_}
 use lib.Dec.{ltb}
+use lib.ListN.{length}
 use Rattle.text.specs.Utf8.{characters}
 use Rattle.text.specs.Surrogates.{HasSurrogate, charactersOpen}
-use Rattle.text.proofs.Surrogates.{kept, turned-down}
+use Rattle.text.proofs.Surrogates.{kept, surrogate-no-text}
 use Rattle.meaning.specs.All.{All}
-use Rattle.meaning.specs.Refusal.{Refusal, malformedLine, misplacedKind, tooMany, malformedFrame, brokenText, nameGivenBefore, badReference, repeatedKey}
-use Rattle.meaning.specs.Syntax.{Query}
-use Rattle.meaning.specs.Frame.{Frame, theLimits, aName, aType, aPredicate, aNode, theQuery}
+use Rattle.meaning.specs.Refusal.{Refusal, malformedLine, misplacedKind, tooMany, malformedFrame, brokenText, nameGivenBefore, badReference, repeatedKey, tooManyQueries}
+use Rattle.meaning.specs.Frame.{Kind, limits, name, schemaType, predicate, node, query, mayStand, Frame, theLimits, aName, aType, aPredicate, aNode, theQuery}
 use Rattle.meaning.specs.References.{textsOf}
 use Rattle.meaning.specs.Lines.{lines}
 use Rattle.meaning.specs.SoFar.{Said, malformed, unknownKind, noFrame, frames, said, SoFar, start, add, after}
-use Rattle.meaning.specs.Conditions.{anyOf, ofFrame, broken, Condition, conditions, firstOf, isMalformed, isMisplaced, isOneTooMany, isNoFrame, isBrokenText, isNameGivenBefore, isBadReference, isRepeatedKey}
-use Rattle.meaning.specs.File.{Reading, refused, described, countOf, describe, atEnd, readFrom, isTooLong, reading}
-use Rattle.meaning.specs.Outcome.{Decided, turnedDown, decideRead, decide, minWords, finish, outcome}
-use Rattle.meaning.specs.Surrogates.{brokenOpen, isBrokenOpen, conditionsOpen, describeOpen, atEndOpen, readFromOpen, readingOpen, decideOpen, outcomeOpen, NoSurrogate, NoSurrogateOn, NoSurrogateIn}
+use Rattle.meaning.specs.Conditions.{anyOf, ofFrame, broken, maxNames, Condition, conditions, firstOf, isMalformed, isMisplaced, isOneTooMany, isQueryTooMany, isNoFrame, isBrokenText, isNameGivenBefore, isBadReference, isRepeatedKey}
+use Rattle.meaning.specs.File.{maxFile, Reading, refused, described, countOf, schemaOf, describe, atEnd, readFrom, isTooLong, reading}
+use Rattle.meaning.specs.Outcome.{Decided, turnedDown, Refused, decideRead, decide, minWords, finish, outcome}
+use Rattle.meaning.specs.Surrogates.{brokenOpen, isBrokenOpen, conditionsOpen, schemaOpen, describeOpen, atEndOpen, readFromOpen, readingOpen, decideOpen, outcomeOpen, NoSurrogate, NoSurrogateOn, NoSurrogateIn}
+use Rattle.meaning.specs.Refused.{Pass}
 use Rattle.meaning.proofs.Lists.{all-snoc}
+use Rattle.meaning.proofs.Demands.{demand-1}
 
 same-broken : (s : List ℕ) → NoSurrogate s → broken s ≡ brokenOpen s
 unfolding broken brokenOpen
@@ -64,6 +66,7 @@ same-first so l w =
     (record { refusal = malformedLine; holds = isMalformed } ∷
     record { refusal = misplacedKind; holds = isMisplaced } ∷
     record { refusal = tooMany; holds = isOneTooMany } ∷
+    record { refusal = tooManyQueries; holds = isQueryTooMany } ∷
     record { refusal = malformedFrame; holds = isNoFrame } ∷
     [])
     (record { refusal = nameGivenBefore; holds = isNameGivenBefore } ∷
@@ -93,16 +96,21 @@ same-counts (s ∷ ts) w =
     let more = same-counts ts (w .1) in
     cc
 
-same-end : (so : SoFar) (q : Option Query) → All NoSurrogate (so .names) → atEnd so q ≡ atEndOpen so q
-unfolding atEnd atEndOpen describe describeOpen
+same-end : (so : SoFar) (k : Option Kind) → All NoSurrogate (so .names) → atEnd so k ≡ atEndOpen so k
+unfolding atEnd atEndOpen describe describeOpen schemaOf schemaOpen
 same-end so none h = refl
-same-end so (some q) h = rw (same-counts (so .names) h)
+same-end so (some limits) h = refl
+same-end so (some name) h = refl
+same-end so (some schemaType) h = refl
+same-end so (some predicate) h = refl
+same-end so (some node) h = refl
+same-end so (some query) h = rw (same-counts (so .names) h)
 
 -- ---- Line after line
 
 same-from : (so : SoFar) (ls : List Said) → All NoSurrogate (so .names) → All NoSurrogateOn ls → readFrom so ls ≡ readFromOpen so ls
 unfolding readFrom readFromOpen
-same-from so [] h w = same-end so (so .query) h
+same-from so [] h w = same-end so (so .previous) h
 same-from so (l ∷ ls) h w = go (same-from (after so l) ls (names-after so l h (w .0)) (w .1)) (firstOf conditionsOpen so l) refl
   where
     go : readFrom (after so l) ls ≡ readFromOpen (after so l) ls → (o : Option Refusal) → firstOf conditionsOpen so l ≡ o → readFrom so (l ∷ ls) ≡ readFromOpen so (l ∷ ls)
@@ -126,9 +134,10 @@ answers-as-before file words bytes w = go (ltb words minWords) refl
     go true q = rw (q, outcome, outcomeOpen, decide, decideOpen)
     go false q = rw (q, reads-as-before file w, outcome, outcomeOpen, decide, decideOpen)
 
--- "Such a text gets 7": it breaks the rule of texts.
-pub surrogate-is-broken : (so : SoFar) (s : List ℕ) → HasSurrogate s → isBrokenText so (frames (aName s)) ≡ true
-unfolding isBrokenText ofFrame anyOf textsOf broken
-surrogate-is-broken so s h =
-    let breaks : broken s ≡ true = rw (turned-down s h, broken) in
-    rw (breaks, anyOf)
+-- "Such a text gets 7": lines that pass, and then a name that may stand there, with such a value in its text.
+pub surrogate-gets-7 : (file : List ℕ) (words bytes : ℕ) → minWords ≤ words → length file ≤ maxFile
+    → (before rest : List Said) (s : List ℕ) (so : SoFar) → map said (lines file) ≡ before ++ frames (aName s) ∷ rest → Pass start before so
+    → mayStand (so .previous) Kind.name ≡ true → length (so .names) < maxNames → HasSurrogate s → outcome file words bytes .result ≡ Refused brokenText
+surrogate-gets-7 file words bytes enough size before rest s so split pass placed room h =
+    demand-1 file words bytes .text-refused .1
+    (enough, record { size = size; before = before; text = s; rest = rest; read = so; split = split; pass = pass; placed = placed; room = room; broken = surrogate-no-text s h })

@@ -1,12 +1,197 @@
--- Document 01's examples, computed over the definitions in one go.
-use mathlib.Core.Bool.{true}
-use mathlib.Core.List.{_++_}
+-- The rows of specs/Table.antt, computed over the definitions. Each has a line of its own, so that a message tells which one fails.
+use mathlib.Core.List.{List, [], _∷_}
 use mathlib.Core.Path.{_≡_, refl}
+use Prim.Native.String.{String}
 use native.Mathlib.Decide.{ℕ-discrete}
+use Rattle.unification.specs.Ty.{Int, Record, Union, leaf, node, ε, cell}
 use Rattle.unification.specs.Bindings as Bindings
 use Rattle.unification.specs.Unify as Unify
-use Rattle.meaning.specs.Table.{examples, ownExamples, refusals, allHold}
+use Rattle.meaning.specs.File.{typesOf}
+use Rattle.meaning.specs.Table.{text, examples, ownExamples, forms, refusals, limitsOf, holds, Rows, end, _then_, wholes, ends}
 
-pub table : allHold (examples ++ ownExamples ++ refusals) ≡ true
-unfolding examples ownExamples refusals allHold ℕ-discrete Bindings.fresh Bindings.freshId Bindings.annotate Bindings.snapshot Bindings.rollback Bindings.zonk Unify.unify Unify.orderable
-table = refl
+-- Document 01's list.
+pub table : Rows holds examples
+unfolding examples holds ℕ-discrete Bindings.fresh Bindings.freshId Bindings.annotate Bindings.snapshot Bindings.rollback Bindings.zonk Unify.unify Unify.orderable
+table =
+    -- M
+    refl then
+    -- the whole case
+    refl then
+    -- Error against Var
+    refl then
+    -- {a, b} against {b, a}
+    refl then
+    -- {a, a} of Int against {a = Int, b = String}
+    refl then
+    -- the swap
+    refl then
+    -- union arity 0
+    refl then
+    -- union arity 2
+    refl then
+    -- two facts compared
+    refl then
+    -- the empty record compared
+    refl then
+    -- a rollback past a new unknown
+    refl then
+    -- key access on an absent predicate
+    refl then
+    -- value access on an absent predicate
+    refl then
+    -- fuzzy distances 0, 2 and 3
+    refl then
+    end
+
+-- Our own.
+pub own-examples : Rows holds ownExamples
+unfolding ownExamples holds ℕ-discrete Bindings.fresh Bindings.freshId Bindings.annotate Bindings.snapshot Bindings.rollback Bindings.zonk Unify.unify Unify.orderable
+own-examples =
+    -- a failed bind
+    refl then
+    -- a field with a diagnostic inside
+    refl then
+    -- x = y
+    refl then
+    -- a disjunction as a statement and as a value
+    refl then
+    -- a subquery's variables
+    refl then
+    end
+
+-- Forms of several queries.
+pub form-examples : Rows holds forms
+unfolding forms holds ℕ-discrete Bindings.fresh Bindings.freshId Bindings.annotate Bindings.snapshot Bindings.rollback Bindings.zonk Unify.unify Unify.orderable
+form-examples =
+    -- two queries
+    refl then
+    -- 06 after 06
+    refl then
+    -- 03 after 06
+    refl then
+    -- 02 after 06
+    refl then
+    -- a 05 last
+    refl then
+    -- a node of the query before
+    refl then
+    -- an answer of 32 bytes in 32
+    refl then
+    -- in 31
+    refl then
+    -- a 65th query
+    refl then
+    -- a 65th of no form
+    refl then
+    -- 06 after the 64th 06
+    refl then
+    -- a 05 after the 64th
+    refl then
+    -- a bad line of the last query
+    refl then
+    end
+
+-- Document 01's table of refusals.
+pub refusal-examples : Rows holds refusals
+unfolding refusals holds ℕ-discrete Bindings.fresh Bindings.freshId Bindings.annotate Bindings.snapshot Bindings.rollback Bindings.zonk Unify.unify Unify.orderable
+refusal-examples =
+    -- 1
+    refl then
+    -- 2
+    refl then
+    -- 3
+    refl then
+    -- 4
+    refl then
+    -- 5
+    refl then
+    -- 6
+    refl then
+    -- 7
+    refl then
+    -- 8
+    refl then
+    -- 9
+    refl then
+    -- 10
+    refl then
+    -- 12
+    refl then
+    -- a name that is not there
+    refl then
+    -- 6 before 9
+    refl then
+    -- 9 before 10
+    refl then
+    -- 1 before 2
+    refl then
+    -- no query
+    refl then
+    end
+
+-- The last that passes and the first that does not.
+pub limit-examples : Rows holds limitsOf
+unfolding limitsOf holds ℕ-discrete Bindings.fresh Bindings.freshId Bindings.annotate Bindings.snapshot Bindings.rollback Bindings.zonk Unify.unify Unify.orderable
+limit-examples =
+    -- an empty line
+    refl then
+    -- an odd one
+    refl then
+    -- an upper-case digit
+    refl then
+    -- a name of 511 bytes
+    refl then
+    -- of 512
+    refl then
+    -- kind 00
+    refl then
+    -- kind 07
+    refl then
+    -- limits twice
+    refl then
+    -- a byte too many
+    refl then
+    -- shape 06
+    refl then
+    -- flag 02
+    refl then
+    -- statement 05
+    refl then
+    -- 257 types
+    refl then
+    -- 129 predicates
+    refl then
+    end
+
+-- The result and both slices.
+pub whole-outcomes : Rows ends wholes
+unfolding wholes ends ℕ-discrete Bindings.fresh Bindings.freshId Bindings.annotate Bindings.snapshot Bindings.rollback Bindings.zonk Unify.unify Unify.orderable
+whole-outcomes =
+    -- M in 16 bytes
+    refl then
+    -- in 9
+    refl then
+    -- in 8
+    refl then
+    -- in more words
+    refl then
+    -- in 16,383 words
+    refl then
+    -- in no slices
+    refl then
+    -- an odd line
+    refl then
+    -- no line
+    refl then
+    -- two queries
+    refl then
+    end
+
+-- A file's types by number, none of which a predicate names: Int; a record of it under the name 0; a union of the two, by their
+-- discriminants 5 and 7 and their names 0 and 1.
+unfoldable three : List String
+three = "01020020" ∷ "0261" ∷ "0262" ∷ "0300" ∷ "030400000000" ∷ "030500000000000500000001000000070001" ∷ "05000000000000000300" ∷ "060000" ∷ []
+
+types : typesOf (text three) ≡ leaf Int ∷ node Record (cell 0 0 (leaf Int) ε) ∷ node Union (cell 5 0 (leaf Int) (cell 7 1 (node Record (cell 0 0 (leaf Int) ε)) ε)) ∷ []
+unfolding typesOf text three
+types = refl

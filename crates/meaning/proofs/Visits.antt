@@ -22,38 +22,10 @@ use Rattle.meaning.specs.References.{fieldValues, stmtNodes, queryNodes,
 use Rattle.meaning.specs.All.{All}
 use Rattle.meaning.specs.Sound.{DeclaredOption, DeclaredPredicate}
 use Rattle.meaning.specs.Check.{Checker, goes, Does, andThen, freshVarId, freshVar, introduce, annotate, repr, unify, orderable, snapshot, rollback, diagnosticsLen, Form, aWildcard, aVariable, aConstant, aRecord, aDisjunction, anError, another, formOf, Walk, kind, form, reject, rejectTy, report, unifyAt, unresolved, keyTy, valueTy, keyShadowsValue, valueOf, fieldAt, keyOf, selectOf, accessOf, access, select, fuzzyDistance, fuzzyTerm, inferFields, inferAll, disjunction, fact, bindVariable, badTarget, onlyRight, notYet, destructure, bindWildcard, bindForm, denyForm, introduceSide, compareOrder, compare, generate, stmt, stmts, subquery, inferKind, inferAt, inferThenUnify, checkField, checkMentioned, checkFields, checkAlternative, checkUnion, checkRecord, checkForm, checkAgainst, checkAt, generateBranches, generatorForm, generatorAt, walk, headForm, query}
-use Rattle.meaning.specs.Run.{same, sumOf, weight, size}
-use Rattle.meaning.proofs.Meets.{Grade, plus, Fits, unknowns, Orderly, Ready, Made, Went, Meets, going, made-more, made-side, stays, ready-fits, meets-after, meets-then, meets-from, meets-fits, went-with, meets-nest}
-use Rattle.meaning.proofs.Steps.{no-thing, one-diagnostic, one-unknown, one-node, Nothing, IsSide, Known, IsUnknown, reject-meets, reject-if, reject-unless, freshVarId-meets, made-known, introduce-known, introduce-meets, annotate-meets, unify-meets, unifyAt-meets, orderable-meets, rolled-meets, cut-meets}
-
--- ---- Grades of visits
-
--- A visit that infers: its own node has two diagnostics at most, for a fuzzy pattern; the third is for who asked.
-abbrev pub inferring : List Node → ℕ → ℕ → Grade
-inferring nodes d n = record { nodes = λ x. weight nodes (λ m. same x m) d n; unknowns = size nodes d n; diagnostics = 3 * size nodes d n - 1 }
-
--- A variable that the environment has makes no unknown.
-abbrev pub finding : List Node → ℕ → ℕ → Grade
-finding nodes d n = record { nodes = λ x. weight nodes (λ m. same x m) d n; unknowns = 0; diagnostics = 3 * size nodes d n - 1 }
-
-abbrev pub checking : List Node → ℕ → ℕ → Grade
-checking nodes d n = record { nodes = λ x. weight nodes (λ m. same x m) d n; unknowns = size nodes d n; diagnostics = 3 * size nodes d n }
-
--- Several nodes.
-abbrev pub visiting : List Node → ℕ → List ℕ → Grade
-visiting nodes d ns = record {
-  nodes = λ x. sumOf (λ n. weight nodes (λ m. same x m) d n) ns;
-  unknowns = sumOf (λ n. size nodes d n) ns;
-  diagnostics = 3 * sumOf (λ n. size nodes d n) ns;
-}
-
--- A node without its own annotation, over the parts that it names.
-abbrev pub within : List Node → ℕ → List ℕ → Grade
-within nodes d ns = record {
-  nodes = λ x. sumOf (λ n. weight nodes (λ m. same x m) d n) ns;
-  unknowns = 1 + sumOf (λ n. size nodes d n) ns;
-  diagnostics = 2 + 3 * sumOf (λ n. size nodes d n) ns;
-}
+use Rattle.meaning.specs.Weights.{same, sumOf, weight, size}
+use Rattle.meaning.specs.Grades.{Grade, plus, Fits, unknowns, Orderly, Ready, no-thing, one-diagnostic, one-unknown, one-node, Known, inferring, finding, checking, visiting, within, early, introducing}
+use Rattle.meaning.proofs.Meets.{Made, Went, Meets, going, made-more, made-side, stays, ready-fits, meets-after, meets-then, meets-from, meets-fits, went-with, meets-nest}
+use Rattle.meaning.proofs.Steps.{Nothing, IsSide, IsUnknown, reject-meets, reject-if, reject-unless, freshVarId-meets, made-known, introduce-known, introduce-meets, annotate-meets, unify-meets, unifyAt-meets, orderable-meets, rolled-meets, cut-meets}
 
 pub size-pos : (nodes : List Node) (d n : ℕ) → 1 ≤ size nodes d n
 unfolding weight
@@ -193,15 +165,6 @@ module _ (schema : Schema) (nodes : List Node) (declared : All DeclaredPredicate
   selectOf-meets name (Ty.Var x) h = rejectTy-meets _
 
 -- ---- A comparison introduces a side that is a variable, and finds it when it infers that side.
-unfoldable pub early : Form → ℕ
-early (aVariable x) = 1
-early aWildcard = 0
-early aConstant = 0
-early (aRecord fs) = 0
-early (aDisjunction es) = 0
-early anError = 0
-early another = 0
-
 -- Of k unknowns, those that are left for later.
 unfoldable pub late : Form → ℕ → ℕ
 late (aVariable x) k = 0
@@ -221,9 +184,6 @@ early-late (aRecord fs) k h = omega arith
 early-late (aDisjunction es) k h = omega arith
 early-late anError k h = omega arith
 early-late another k h = omega arith
-
-abbrev pub introducing : Form → Grade
-introducing f = record { nodes = λ x. 0; unknowns = early f; diagnostics = 0 }
 
 abbrev pub inferring-late : List Node → ℕ → ℕ → Form → Grade
 inferring-late nodes d n f = record { nodes = λ x. weight nodes (λ m. same x m) d n; unknowns = late f (size nodes d n); diagnostics = 3 * size nodes d n - 1 }

@@ -12,7 +12,7 @@ use Rattle.meaning.specs.Syntax.{ExprKind, Node, noNode, nodeAt}
 use Rattle.meaning.specs.References.{fieldValues, exprNodes}
 use Rattle.meaning.specs.All.{All, Absent, Distinct}
 use Rattle.meaning.specs.Sound.{nodesNamed}
-use Rattle.meaning.specs.Run.{same, sumOf, total, weight, size, recordsOf, records, fieldsOf, recordFields}
+use Rattle.meaning.specs.Weights.{same, sumOf, total, weight, size, recordsOf, records, fieldsOf, recordFields}
 use Rattle.meaning.proofs.Lists.{all-map, all-append, all-left, all-right}
 use Rattle.meaning.proofs.Depth.{Falls}
 use Rattle.meaning.proofs.Steps.{same-self, same-other}

@@ -11,7 +11,7 @@ use borrow.Author.Tests.{leb-true, le-leb}
 use Rattle.meaning.specs.Lines.{Line, closed, unclosed, LF, lines, decoded, maxBytes, atMost, someBytes, bytesOf}
 use Rattle.meaning.specs.Frame.{Kind, kindByte, kindOf, Frame, frameKind, Got, got, fails, frame, whole, frameOf}
 use Rattle.meaning.specs.SoFar.{malformed, frames, saidOf, saidIn, saidBy, said}
-use Rattle.meaning.specs.File.{Described, described, reading}
+use Rattle.meaning.specs.File.{Form, described, reading}
 use Rattle.meaning.specs.All.{All}
 use Rattle.meaning.specs.Writing.{Byte, Fits, asContent, written, fileOf, Writable}
 use Rattle.meaning.proofs.Obeys.{Written}
@@ -25,7 +25,7 @@ use Rattle.meaning.proofs.Refused.{accepted, described-when}
 
 -- ---- Kinds
 
-byte-kind : (k : Kind) → kindOf (kindByte k) ≡ some k
+pub byte-kind : (k : Kind) → kindOf (kindByte k) ≡ some k
 unfolding kindOf kindByte
 byte-kind Kind.limits = refl
 byte-kind Kind.name = refl
@@ -53,11 +53,11 @@ kind-byte (suc (suc (suc (suc (suc (suc (suc b))))))) k e = let z : _≡_ {A = �
 abbrev pub lineOf : Frame → Line
 lineOf f = closed (hexes (written f))
 
-frame-back : (f : Frame) → Writable f → frameOf (frameKind f) (asContent f) ≡ some f
+pub frame-back : (f : Frame) → Writable f → frameOf (frameKind f) (asContent f) ≡ some f
 unfolding frameOf whole
 frame-back f w = ap (λ s. whole (frame (frameKind f) s)) (sym (append-nil (asContent f))) ∙ ap whole (content-back f (w .fits))
 
-at-most : (n : ℕ) (s : List ℕ) → length s ≤ n → atMost n s ≡ some s
+pub at-most : (n : ℕ) (s : List ℕ) → length s ≤ n → atMost n s ≡ some s
 unfolding atMost
 at-most n s h = rw (le-leb (length s) n h, atMost)
 
@@ -72,10 +72,10 @@ says f w =
 -- what a line is that says a frame
 pub record IsLine (l : Line) (f : Frame) : Type 0 where
   pub is : l ≡ lineOf f
-  writable : Writable f
+  pub writable : Writable f
 
 -- from the frame back to the bytes, a step at a time
-frame-forth : (k : Kind) (s : List ℕ) (f : Frame) → All Byte s → frameOf k s ≡ some f → FrameTook k s f []
+pub frame-forth : (k : Kind) (s : List ℕ) (f : Frame) → All Byte s → frameOf k s ≡ some f → FrameTook k s f []
 unfolding frameOf whole
 frame-forth k s f h e = go (frame k s) refl e
   where
@@ -144,7 +144,7 @@ are-lines (l ∷ ls) (f ∷ fs) e = go (said-line l f (head-eq-of-cons-eq e)) (a
           writable = (i .writable, r .writable);
         }
 
-file-lines : (fs : List Frame) → All Writable fs → map said (lines (fileOf fs)) ≡ map frames fs
+pub file-lines : (fs : List Frame) → All Writable fs → map said (lines (fileOf fs)) ≡ map frames fs
 unfolding fileOf flatMap lines
 file-lines [] w = refl
 file-lines (f ∷ fs) w =
@@ -155,7 +155,7 @@ file-lines (f ∷ fs) w =
 
 -- ---- The theorem
 
-passes : (file : List ℕ) (d : Described) → reading file ≡ described d → Written file d
+passes : (file : List ℕ) (d : Form) → reading file ≡ described d → Written file d
 passes file d e =
     let a = described-when file d e in
     let o = pass-rules (a .pass) in
@@ -167,16 +167,15 @@ passes file d e =
       writable = l .writable;
       end = a .end;
       rules = o .rules;
-      query = a .query;
       last = a .last;
       describes = a .is;
     }
 
-accepts : (file : List ℕ) (d : Described) → Written file d → reading file ≡ described d
+accepts : (file : List ℕ) (d : Form) → Written file d → reading file ≡ described d
 accepts file d w =
-    accepted file (w .end) (w .query) (w .size) (rw (w .is, file-lines (w .these) (w .writable)) (rules-pass (w .rules))) (w .last)
+    accepted file (w .end) (w .size) (rw (w .is, file-lines (w .these) (w .writable)) (rules-pass (w .rules))) (w .last)
     ∙ ap described (sym (w .describes))
 
 -- A file describes a tree exactly where it is the writing of frames that obey the rules and describe that tree.
-pub described-exactly : (file : List ℕ) (d : Described) → (reading file ≡ described d) ↔ Written file d
+pub described-exactly : (file : List ℕ) (d : Form) → (reading file ≡ described d) ↔ Written file d
 described-exactly file d = (passes file d, accepts file d)

@@ -82,3 +82,18 @@ diagnosticLines (d ∷ ds) = hexLine (diagnosticBytes d) ++ diagnosticLines ds
 unfoldable pub answerLines : Typed → List ℕ
 unfolding nodeLines diagnosticLines
 answerLines t = nodeLines 0 (t .tys) ++ diagnosticLines (t .diagnostics)
+
+-- ---- A form (card 3)
+
+-- "each query has a line 0b with its number (2 bytes)", from number k on
+unfoldable pub numbered : ℕ → List Typed → List ℕ
+unfolding hexLine bytes₂ answerLines
+numbered k [] = []
+numbered k (t ∷ ts) = hexLine (0x0b ∷ bytes₂ k) ++ (answerLines t ++ numbered (suc k) ts)
+
+-- one query alone has no such line
+unfoldable pub formLines : List Typed → List ℕ
+unfolding answerLines numbered
+formLines [] = []
+formLines (t ∷ []) = answerLines t
+formLines (t ∷ u ∷ ts) = numbered 0 (t ∷ u ∷ ts)

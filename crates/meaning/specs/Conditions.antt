@@ -1,4 +1,5 @@
--- Document 01, "When a file is turned down": conditions 3 to 10 of a line, each by itself, and their order.
+-- Document 01, "When a file is turned down": conditions 3 to 10 of a line and 13 of card 3, each by itself, and their order. They are tests of what a
+-- line says; Means.antt has what that is, and `obeys` and `no-condition` in proofs/Conditions.antt say what a frame obeys that meets none.
 use mathlib.Core.Bool.{Bool, true, false, not, _||_}
 use mathlib.Core.List.{List, [], _∷_}
 use mathlib.Core.Option.{Option, none, some}
@@ -6,7 +7,7 @@ use Prim.Native.Nat.{ℕ}
 use lib.Dec.{eqb, leb, ltb}
 use lib.ListN.{length}
 use Rattle.text.specs.Utf8.{characters, both}
-use Rattle.meaning.specs.Refusal.{Refusal, malformedLine, misplacedKind, tooMany, malformedFrame, brokenText, nameGivenBefore, badReference, repeatedKey}
+use Rattle.meaning.specs.Refusal.{Refusal, malformedLine, misplacedKind, tooMany, malformedFrame, brokenText, nameGivenBefore, badReference, repeatedKey, tooManyQueries}
 use Rattle.meaning.specs.Frame.{Kind, limits, name, schemaType, predicate, node, query, mayStand, Frame, frameKind}
 use Rattle.meaning.specs.References.{nameRefs, typeRefs, nodeRefs, textsOf, keysOf}
 use Rattle.meaning.specs.SoFar.{Said, malformed, unknownKind, noFrame, frames, SoFar}
@@ -55,7 +56,10 @@ maxPredicates = 128
 unfoldable pub maxNodes : ℕ
 maxNodes = 512
 
--- 3
+unfoldable pub maxQueries : ℕ
+maxQueries = 64
+
+-- 3: the line is `Malformed` (Means.antt)
 unfoldable pub isMalformed : SoFar → Said → Bool
 isMalformed so malformed = true
 isMalformed so unknownKind = false
@@ -79,7 +83,7 @@ isFull so predicate = leb maxPredicates (length (so .predicates))
 isFull so node = leb maxNodes (length (so .nodes))
 isFull so query = false
 
--- 5: "over 256 names, 256 types, 128 predicates or 512 nodes"; by the kind alone
+-- 5: "over 256 names, 256 types, 128 predicates or 512 nodes"; by the kind alone, the nodes "for each query" (card 3)
 unfoldable pub isOneTooMany : SoFar → Said → Bool
 unfolding isFull frameKind
 isOneTooMany so malformed = false
@@ -87,7 +91,24 @@ isOneTooMany so unknownKind = false
 isOneTooMany so (noFrame k) = isFull so k
 isOneTooMany so (frames f) = isFull so (frameKind f)
 
--- 6
+unfoldable pub isLastQueryPast : SoFar → Kind → Bool
+unfolding maxQueries
+isLastQueryPast so limits = false
+isLastQueryPast so name = false
+isLastQueryPast so schemaType = false
+isLastQueryPast so predicate = false
+isLastQueryPast so node = false
+isLastQueryPast so query = leb maxQueries (length (so .queries))
+
+-- 13, "for a 65th query, between 5 and 6 on its line"; by the kind alone
+unfoldable pub isQueryTooMany : SoFar → Said → Bool
+unfolding isLastQueryPast frameKind
+isQueryTooMany so malformed = false
+isQueryTooMany so unknownKind = false
+isQueryTooMany so (noFrame k) = isLastQueryPast so k
+isQueryTooMany so (frames f) = isLastQueryPast so (frameKind f)
+
+-- 6: no frame of the line's kind is written so (`is-no-frame` of Means.antt)
 unfoldable pub isNoFrame : SoFar → Said → Bool
 isNoFrame so malformed = false
 isNoFrame so unknownKind = false
@@ -141,11 +162,12 @@ pub record Condition : Type 0 where
   pub holds : SoFar → Said → Bool
 
 unfoldable pub conditions : List Condition
-unfolding isMalformed isMisplaced isOneTooMany isNoFrame isBrokenText isNameGivenBefore isBadReference isRepeatedKey
+unfolding isMalformed isMisplaced isOneTooMany isQueryTooMany isNoFrame isBrokenText isNameGivenBefore isBadReference isRepeatedKey
 conditions =
     record { refusal = malformedLine; holds = isMalformed } ∷
     record { refusal = misplacedKind; holds = isMisplaced } ∷
     record { refusal = tooMany; holds = isOneTooMany } ∷
+    record { refusal = tooManyQueries; holds = isQueryTooMany } ∷
     record { refusal = malformedFrame; holds = isNoFrame } ∷
     record { refusal = brokenText; holds = isBrokenText } ∷
     record { refusal = nameGivenBefore; holds = isNameGivenBefore } ∷

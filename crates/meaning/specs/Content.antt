@@ -1,23 +1,23 @@
 -- Document 01, "Frame lines", from the writer's side: what a file holds, kind by kind, the rules that this obeys, how it is written, and the
--- schema and tree that it describes. `says-exactly` in proofs/Content.antt: the files that pass 2 to 10 are exactly these, and describe that.
-use mathlib.Core.List.{List, [], _∷_, _++_, map}
+-- schema and trees that it describes. `says-exactly` in proofs/Content.antt: the files that pass 2 to 10 and 13 are exactly these, and describe that.
+use mathlib.Core.List.{List, [], _∷_, _++_, map, flatMap}
 use mathlib.Core.Option.{Option}
 use mathlib.Core.Path.{_≡_}
 use Prim.Native.Nat.{ℕ, suc, _<_, _≤_}
 use lib.ListN.{length}
 use Rattle.text.specs.Utf8.{Text, characters}
 use Rattle.unification.specs.Ty.{Ty}
-use Rattle.meaning.specs.Syntax.{Query, Node}
+use Rattle.meaning.specs.Syntax.{Ast}
 use Rattle.meaning.specs.Schema.{Predicate}
 use Rattle.meaning.specs.Lines.{position}
 use Rattle.meaning.specs.Frame.{TypeShape, Frame, theLimits, aName, aType, aPredicate, aNode, theQuery}
-use Rattle.meaning.specs.References.{shapeNames, shapeTypes, shapeKeys, optional, exprNames, queryNodes}
+use Rattle.meaning.specs.References.{shapeNames, shapeTypes, shapeKeys, optional}
 use Rattle.meaning.specs.SoFar.{tyOf, predicateOf}
-use Rattle.meaning.specs.Conditions.{sameText, maxNames, maxTypes, maxPredicates, maxNodes}
-use Rattle.meaning.specs.File.{Described, countOf, valueText, maxFile}
+use Rattle.meaning.specs.Conditions.{sameText, maxNames, maxTypes, maxPredicates, maxQueries}
+use Rattle.meaning.specs.File.{Form, countOf, valueText, maxFile}
 use Rattle.meaning.specs.All.{All, Distinct, Below}
 use Rattle.meaning.specs.Writing.{fileOf, Writable}
-use Rattle.meaning.specs.Sound.{Lower, nodesNamed}
+use Rattle.meaning.specs.Sound.{LawfulQuery}
 
 -- references to a name, a type, and a type or none
 pub record PredicateFrame : Type 0 where
@@ -31,17 +31,24 @@ pub record Content : Type 0 where
   pub names : List (List ℕ)
   pub types : List TypeShape
   pub predicates : List PredicateFrame
-  pub nodes : List Node
-  pub query : Query
+  pub queries : List Ast
 
 -- ---- How it is written
 
 abbrev pub predicateFrame : PredicateFrame → Frame
 predicateFrame p = aPredicate (p .name) (p .key) (p .value)
 
--- "01 limits, exactly once, first", the kinds "never falling", "06 query, exactly once, last"
+-- a query: its nodes and its 06 line
+unfoldable pub queryFrames : Ast → List Frame
+queryFrames a = map aNode (a .nodes) ++ theQuery (a .query) ∷ []
+
+-- "01 limits, exactly once, first", then the names, the types and the predicates
+unfoldable pub schemaFrames : Content → List Frame
+schemaFrames c = theLimits (c .maxDistance) (c .maxTermChars) ∷ map aName (c .names) ++ (map aType (c .types) ++ map predicateFrame (c .predicates))
+
 unfoldable pub framesOf : Content → List Frame
-framesOf c = theLimits (c .maxDistance) (c .maxTermChars) ∷ map aName (c .names) ++ (map aType (c .types) ++ (map predicateFrame (c .predicates) ++ (map aNode (c .nodes) ++ theQuery (c .query) ∷ [])))
+unfolding schemaFrames flatMap queryFrames
+framesOf c = schemaFrames c ++ flatMap queryFrames (c .queries)
 
 -- ---- The rules
 
@@ -54,7 +61,6 @@ pub record Lawful (c : Content) : Type 0 where
   pub namesMax : length (c .names) ≤ maxNames
   pub typesMax : length (c .types) ≤ maxTypes
   pub predicatesMax : length (c .predicates) ≤ maxPredicates
-  pub nodesMax : length (c .nodes) ≤ maxNodes
   pub texts : All (λ s. (n : ℕ) × Text s n) (c .names)
   pub distinct : Distinct (c .names)
   pub typeNames : All (λ t. Below (length (c .names)) (shapeNames t)) (c .types)
@@ -62,11 +68,10 @@ pub record Lawful (c : Content) : Type 0 where
   pub typeKeys : All (λ t. Distinct (shapeKeys t)) (c .types)
   pub predicateNames : All (λ p. p .name < length (c .names)) (c .predicates)
   pub predicateTypes : All (λ p. Below (length (c .types)) (p .key ∷ optional (p .value))) (c .predicates)
-  pub nodeNames : All (λ n. Below (length (c .names)) (exprNames (n .kind))) (c .nodes)
-  pub nodeNodes : Lower 0 (c .nodes)
-  pub queryBelow : Below (length (c .nodes)) (queryNodes (c .query))
-  -- "a node is named at most once"
-  pub once : Distinct (nodesNamed (c .nodes) ++ queryNodes (c .query))
+  pub queries : All (LawfulQuery (length (c .names))) (c .queries)
+  -- "up to 64 queries"
+  pub queriesMin : 1 ≤ length (c .queries)
+  pub queriesMax : length (c .queries) ≤ maxQueries
   pub writable : All Writable (framesOf c)
 
 -- ---- What it describes
@@ -81,7 +86,7 @@ unfoldable pub predicateWith : List Ty → PredicateFrame → Predicate
 unfolding predicateOf
 predicateWith ts p = predicateOf ts (p .name) (p .key) (p .value)
 
-unfoldable pub describes : Content → Described
+unfoldable pub describes : Content → Form
 unfolding typesFrom predicateWith position sameText valueText countOf characters
 describes c = record {
   schema = record {
@@ -91,11 +96,11 @@ describes c = record {
     maxDistance = c .maxDistance;
     maxTermChars = c .maxTermChars;
   };
-  ast = record { nodes = c .nodes; query = c .query };
+  queries = c .queries;
 }
 
 -- The file holds this, and so describes d.
-pub record Says (file : List ℕ) (d : Described) : Type 0 where
+pub record Says (file : List ℕ) (d : Form) : Type 0 where
   pub content : Content
   pub is : file ≡ fileOf (framesOf content)
   pub size : length file ≤ maxFile

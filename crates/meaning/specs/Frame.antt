@@ -25,7 +25,7 @@ kindByte query = 0x06
 unfoldable pub kindOf : ℕ → Option Kind
 kindOf b = getD (none ∷ some limits ∷ some name ∷ some schemaType ∷ some predicate ∷ some node ∷ some query ∷ []) b none
 
--- Limits and query stand exactly once.
+-- Limits stand exactly once, and no query follows a query.
 unfoldable pub repeatable : Kind → Bool
 repeatable limits = false
 repeatable name = true
@@ -34,10 +34,15 @@ repeatable predicate = true
 repeatable node = true
 repeatable query = false
 
--- The kinds never fall, and one that stands once does not follow itself. So nothing follows the query.
-unfoldable pub follows : Kind → Kind → Bool
+-- Within a query and before it the kinds never fall, and one that is not repeatable does not follow itself.
+unfoldable pub rises : Kind → Kind → Bool
 unfolding kindByte repeatable
-follows p k = elim (ltb (kindByte p) (kindByte k)) [ true ↦ true | false ↦ elim (eqb (kindByte p) (kindByte k)) [ true ↦ repeatable k | false ↦ false ] ]
+rises p k = elim (ltb (kindByte p) (kindByte k)) [ true ↦ true | false ↦ elim (eqb (kindByte p) (kindByte k)) [ true ↦ repeatable k | false ↦ false ] ]
+
+-- Card 3: "a line 05, no other, may follow 06".
+unfoldable pub follows : Kind → Kind → Bool
+unfolding kindByte rises
+follows p k = elim (eqb (kindByte p) (kindByte query)) [ true ↦ eqb (kindByte k) (kindByte node) | false ↦ rises p k ]
 
 -- A frame of this kind may stand after one of that kind, if any: the first is the limits.
 unfoldable pub mayStand : Option Kind → Kind → Bool

@@ -15,7 +15,14 @@ pub mod Check
 pub mod Answer
 pub mod Writing
 pub mod Content
+pub mod Means
 pub mod Outcome
 pub mod Table
 pub mod Run
+pub mod Weights
+pub mod Alone
+pub mod OneQuery
 pub mod Surrogates
+pub mod Demands
+pub mod Reasons
+pub mod Grades

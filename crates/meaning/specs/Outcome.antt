@@ -3,15 +3,18 @@
 -- the missing 06, then 11, then 12. After a refusal both slices are zero throughout."
 use mathlib.Core.Bool.{true, false}
 use mathlib.Core.List.{List, [], _∷_, _++_}
+use mathlib.Core.Option.{Option, none, some}
 use Prim.Native.Nat.{ℕ, _-_}
 use lib.Dec.{ltb}
 use lib.ListN.{length, replicate}
+use Rattle.meaning.specs.Syntax.{Ast}
+use Rattle.meaning.specs.Schema.{Schema}
 use Rattle.meaning.specs.Refusal.{Refusal, workTooShort, tooManyVisits, answerTooLong, number}
 use Rattle.meaning.specs.File.{Reading, refused, described, reading}
-use Rattle.meaning.specs.Check.{Checked, typed, exhausted, check}
-use Rattle.meaning.specs.Answer.{answerLines, hexLine}
+use Rattle.meaning.specs.Check.{Typed, Checked, typed, exhausted, check}
+use Rattle.meaning.specs.Answer.{formLines, hexLine}
 
--- The words that must be lent, and the visits that a query may make.
+-- The words that must be lent, and the visits that a query of a form may make.
 unfoldable pub minWords : ℕ
 minWords = 16384
 
@@ -23,15 +26,27 @@ pub data Decided : Type 0 where
   turnedDown : Refusal → Decided
   answered : List ℕ → Decided
 
-unfoldable pub decideChecked : Checked → Decided
-unfolding answerLines
-decideChecked exhausted = turnedDown tooManyVisits
-decideChecked (typed t) = answered (answerLines t)
+unfoldable pub withChecked : Checked → Option (List Typed) → Option (List Typed)
+withChecked exhausted ts = none
+withChecked (typed t) none = none
+withChecked (typed t) (some ts) = some (t ∷ ts)
 
+-- Each query's run, from no node, no unknown and no visit; none where one of them runs out of visits.
+unfoldable pub runAll : Schema → List Ast → Option (List Typed)
+unfolding withChecked check maxVisits
+runAll schema [] = some []
+runAll schema (a ∷ more) = withChecked (check maxVisits schema a) (runAll schema more)
+
+unfoldable pub decideRun : Option (List Typed) → Decided
+unfolding formLines
+decideRun none = turnedDown tooManyVisits
+decideRun (some ts) = answered (formLines ts)
+
+-- "All lines are read before the first query runs, and one refusal turns down the whole file."
 unfoldable pub decideRead : Reading → Decided
-unfolding decideChecked check maxVisits
+unfolding decideRun runAll
 decideRead (refused r) = turnedDown r
-decideRead (described d) = decideChecked (check maxVisits (d .schema) (d .ast))
+decideRead (described f) = decideRun (runAll (f .schema) (f .queries))
 
 unfoldable pub decide : List ℕ → ℕ → Decided
 unfolding decideRead reading minWords

@@ -4,6 +4,8 @@ use Prim.Native.Nat.{ℕ}
 pub data Refusal : Type 0 where
   workTooShort fileTooLong malformedLine misplacedKind tooMany malformedFrame : Refusal
   brokenText nameGivenBefore badReference repeatedKey tooManyVisits answerTooLong : Refusal
+  -- card 3
+  tooManyQueries : Refusal
 
 unfoldable pub number : Refusal → ℕ
 number workTooShort = 1
@@ -18,3 +20,4 @@ number badReference = 9
 number repeatedKey = 10
 number tooManyVisits = 11
 number answerTooLong = 12
+number tooManyQueries = 13

@@ -1,14 +1,15 @@
--- Document 01, "Frame lines": what one line says, what has been read so far, and what a frame adds to it.
-use mathlib.Core.List.{List, [], _∷_, _++_}
+-- Document 01, "Frame lines": what one line says, what has been read so far, and what a frame adds to it. After a 06 line the nodes
+-- start anew (card 3: "Nodes, unknowns and visits start at 0 for each query").
+use mathlib.Core.List.{List, [], _∷_, _++_, map, flatMap}
 use mathlib.Core.Option.{Option, none, some}
 use Prim.Native.Nat.{ℕ}
 use lib.ListN.{getD}
 use Rattle.unification.specs.Ty.{Record, Union, Ty, leaf, Error, Row, ε, cell}
-use Rattle.meaning.specs.Syntax.{Field, Query, Node}
+use Rattle.meaning.specs.Syntax.{Field, Node, Ast}
 use Rattle.meaning.specs.Schema.{Predicate}
-use Rattle.meaning.specs.Lines.{Line, bytesOf}
+use Rattle.meaning.specs.Lines.{Line, bytesOf, lines}
 use Rattle.meaning.specs.Frame.{Kind, limits, name, schemaType, predicate, node, query, kindOf, Alternative, TypeShape, aLeaf, aRecord, aUnion, Frame, theLimits, aName, aType, aPredicate, aNode, theQuery, frameOf}
-use Rattle.meaning.specs.References.{exprNodes, queryNodes}
+use Rattle.meaning.specs.References.{exprNodes, textsOf}
 
 -- ---- What a line says, taken alone
 
@@ -39,6 +40,19 @@ unfoldable pub said : Line → Said
 unfolding saidBy bytesOf
 said l = saidBy (bytesOf l)
 
+-- the text that a line gives, if it is a name's
+unfoldable pub textsOn : Said → List (List ℕ)
+unfolding textsOf
+textsOn malformed = []
+textsOn unknownKind = []
+textsOn (noFrame k) = []
+textsOn (frames f) = textsOf f
+
+-- the texts of a file's name lines, in file order
+unfoldable pub textsIn : List ℕ → List (List ℕ)
+unfolding textsOn said lines flatMap
+textsIn file = flatMap textsOn (map said (lines file))
+
 -- ---- What has been read so far, in file order
 
 pub record SoFar : Type 0 where
@@ -50,13 +64,14 @@ pub record SoFar : Type 0 where
   pub names : List (List ℕ)
   pub types : List Ty
   pub predicates : List Predicate
+  -- of the present query: its nodes, and those that a frame has named
   pub nodes : List Node
-  -- the nodes that a frame has named
   pub named : List ℕ
-  pub query : Option Query
+  -- the queries that a 06 line has ended
+  pub queries : List Ast
 
 unfoldable pub start : SoFar
-start = record { previous = none; maxDistance = 0; maxTermChars = 0; names = []; types = []; predicates = []; nodes = []; named = []; query = none }
+start = record { previous = none; maxDistance = 0; maxTermChars = 0; names = []; types = []; predicates = []; nodes = []; named = []; queries = [] }
 
 -- ---- What a frame adds
 
@@ -90,13 +105,13 @@ unfolding typeAt valueTy
 predicateOf ts n k v = record { name = n; key = typeAt ts k; value = valueTy ts v }
 
 unfoldable pub add : SoFar → Frame → SoFar
-unfolding tyOf predicateOf exprNodes queryNodes
-add so (theLimits d t) = record { previous = some limits; maxDistance = d; maxTermChars = t; names = so .names; types = so .types; predicates = so .predicates; nodes = so .nodes; named = so .named; query = so .query }
-add so (aName s) = record { previous = some name; maxDistance = so .maxDistance; maxTermChars = so .maxTermChars; names = so .names ++ s ∷ []; types = so .types; predicates = so .predicates; nodes = so .nodes; named = so .named; query = so .query }
-add so (aType t) = record { previous = some schemaType; maxDistance = so .maxDistance; maxTermChars = so .maxTermChars; names = so .names; types = so .types ++ tyOf (so .types) t ∷ []; predicates = so .predicates; nodes = so .nodes; named = so .named; query = so .query }
-add so (aPredicate n k v) = record { previous = some predicate; maxDistance = so .maxDistance; maxTermChars = so .maxTermChars; names = so .names; types = so .types; predicates = so .predicates ++ predicateOf (so .types) n k v ∷ []; nodes = so .nodes; named = so .named; query = so .query }
-add so (aNode n) = record { previous = some node; maxDistance = so .maxDistance; maxTermChars = so .maxTermChars; names = so .names; types = so .types; predicates = so .predicates; nodes = so .nodes ++ n ∷ []; named = so .named ++ exprNodes (n .kind); query = so .query }
-add so (theQuery q) = record { previous = some query; maxDistance = so .maxDistance; maxTermChars = so .maxTermChars; names = so .names; types = so .types; predicates = so .predicates; nodes = so .nodes; named = so .named ++ queryNodes q; query = some q }
+unfolding tyOf predicateOf exprNodes
+add so (theLimits d t) = record { previous = some limits; maxDistance = d; maxTermChars = t; names = so .names; types = so .types; predicates = so .predicates; nodes = so .nodes; named = so .named; queries = so .queries }
+add so (aName s) = record { previous = some name; maxDistance = so .maxDistance; maxTermChars = so .maxTermChars; names = so .names ++ s ∷ []; types = so .types; predicates = so .predicates; nodes = so .nodes; named = so .named; queries = so .queries }
+add so (aType t) = record { previous = some schemaType; maxDistance = so .maxDistance; maxTermChars = so .maxTermChars; names = so .names; types = so .types ++ tyOf (so .types) t ∷ []; predicates = so .predicates; nodes = so .nodes; named = so .named; queries = so .queries }
+add so (aPredicate n k v) = record { previous = some predicate; maxDistance = so .maxDistance; maxTermChars = so .maxTermChars; names = so .names; types = so .types; predicates = so .predicates ++ predicateOf (so .types) n k v ∷ []; nodes = so .nodes; named = so .named; queries = so .queries }
+add so (aNode n) = record { previous = some node; maxDistance = so .maxDistance; maxTermChars = so .maxTermChars; names = so .names; types = so .types; predicates = so .predicates; nodes = so .nodes ++ n ∷ []; named = so .named ++ exprNodes (n .kind); queries = so .queries }
+add so (theQuery q) = record { previous = some query; maxDistance = so .maxDistance; maxTermChars = so .maxTermChars; names = so .names; types = so .types; predicates = so .predicates; nodes = []; named = []; queries = so .queries ++ record { nodes = so .nodes; query = q } ∷ [] }
 
 unfoldable pub after : SoFar → Said → SoFar
 unfolding add

@@ -1,20 +1,19 @@
--- What holds of every file that passes 1 to 10 (document 01, "Frame lines"): "a node is named at most once", its parts stand before it,
+-- What holds of every file that passes 1 to 10 and 13 (document 01, "Frame lines"): "a node is named at most once", its parts stand before it,
 -- and no type repeats a field name or a discriminant.
 use mathlib.Core.List.{List, [], _∷_, _++_, flatMap}
-use mathlib.Core.Logic.{_≢_}
 use mathlib.Core.Option.{Option, none, some}
 use mathlib.Core.Path.{_≡_}
-use Prim.Native.Nat.{ℕ, suc, _+_, _*_, _≤_}
+use Prim.Native.Nat.{ℕ, suc, _≤_}
 use lib.ListN.{length}
 use Rattle.text.specs.Utf8.{Text}
-use Rattle.unification.specs.Ty.{Record, Union, Ty, leaf, Var, Error, rowLen}
+use Rattle.unification.specs.Ty.{Ty}
 use Rattle.unification.specs.Calls.{Declared}
-use Rattle.meaning.specs.Syntax.{Query, Node}
+use Rattle.meaning.specs.Syntax.{Node, Ast}
 use Rattle.meaning.specs.Schema.{Predicate}
 use Rattle.meaning.specs.Frame.{Kind}
 use Rattle.meaning.specs.References.{exprNames, exprNodes, queryNodes}
 use Rattle.meaning.specs.SoFar.{SoFar}
-use Rattle.meaning.specs.Conditions.{maxNames, maxTypes, maxPredicates, maxNodes}
+use Rattle.meaning.specs.Conditions.{maxNames, maxTypes, maxPredicates, maxNodes, maxQueries}
 use Rattle.meaning.specs.File.{Described}
 use Rattle.meaning.specs.All.{All, Distinct, Below}
 
@@ -35,9 +34,13 @@ unfoldable pub nodesNamed : List Node → List ℕ
 unfolding flatMap
 nodesNamed ns = flatMap (λ n. exprNodes (n .kind)) ns
 
-abbrev pub namedByQuery : Option Query → List ℕ
-namedByQuery none = []
-namedByQuery (some q) = queryNodes q
+-- What a query obeys, of so many names: "The 512 nodes are for each query", and each node is named at most once within it.
+pub record LawfulQuery (names : ℕ) (a : Ast) : Type 0 where
+  pub nodesMax : length (a .nodes) ≤ maxNodes
+  pub nodeNames : All (λ n. Below names (exprNames (n .kind))) (a .nodes)
+  pub nodeNodes : Lower 0 (a .nodes)
+  pub queryBelow : Below (length (a .nodes)) (queryNodes (a .query))
+  pub once : Distinct (nodesNamed (a .nodes) ++ queryNodes (a .query))
 
 -- What holds whenever a line has passed.
 pub record Kept (so : SoFar) : Type 0 where
@@ -52,12 +55,14 @@ pub record Kept (so : SoFar) : Type 0 where
   pub lower : Lower 0 (so .nodes)
   pub namesBelow : All (λ n. Below (length (so .names)) (exprNames (n .kind))) (so .nodes)
   pub once : Distinct (so .named)
-  pub named : so .named ≡ nodesNamed (so .nodes) ++ namedByQuery (so .query)
-  pub query : Below (length (so .nodes)) (namedByQuery (so .query))
-  -- no query yet, as long as the last line is none
-  pub unfinished : so .previous ≢ some Kind.query → so .query ≡ none
+  pub named : so .named ≡ nodesNamed (so .nodes)
+  pub queries : All (LawfulQuery (length (so .names))) (so .queries)
+  pub queriesMax : length (so .queries) ≤ maxQueries
+  -- after a 06 line there is a query, and no node of the next one
+  pub oneEnded : so .previous ≡ some Kind.query → 1 ≤ length (so .queries)
+  pub closed : so .previous ≡ some Kind.query → so .nodes ≡ []
 
--- The same of what a file describes.
+-- The same of each query that a file describes, with the schema.
 pub record Sound (d : Described) : Type 0 where
   pub namesMax : length (d .schema .characters) ≤ maxNames
   pub predicatesMax : length (d .schema .predicates) ≤ maxPredicates
@@ -67,38 +72,3 @@ pub record Sound (d : Described) : Type 0 where
   pub namesBelow : All (λ n. Below (length (d .schema .characters)) (exprNames (n .kind))) (d .ast .nodes)
   pub once : Distinct (nodesNamed (d .ast .nodes) ++ queryNodes (d .ast .query))
   pub query : Below (length (d .ast .nodes)) (queryNodes (d .ast .query))
-
--- ---- How much room the types take
-
--- The words of a type's own cells: one for a field (two references), two for an alternative (two references and a discriminant).
-unfoldable pub typeWords : Ty → ℕ
-unfolding rowLen
-typeWords (leaf p) = 0
-typeWords (Ty.node Record r) = rowLen r
-typeWords (Ty.node Union r) = 2 * rowLen r
-typeWords (Var x) = 0
-typeWords Error = 0
-
-unfoldable pub allWords : List Ty → ℕ
-unfolding typeWords
-allWords [] = 0
-allWords (t ∷ ts) = typeWords t + allWords ts
-
--- An eighth of the largest file: a field takes eight characters of it and an alternative sixteen.
-unfoldable pub maxWords : ℕ
-maxWords = 8192
-
--- A type's own cells fit in a frame.
-abbrev pub Narrow : Ty → Type 0
-Narrow (leaf p) = Unit {0}
-Narrow (Ty.node Record r) = rowLen r ≤ 127
-Narrow (Ty.node Union r) = rowLen r ≤ 63
-Narrow (Var x) = Unit {0}
-Narrow Error = Unit {0}
-
--- What the lines that have passed take.
-pub record Roomy (so : SoFar) : Type 0 where
-  pub words : allWords (so .types) ≤ maxWords
-  pub narrow : All Narrow (so .types)
-  -- a reference is two bytes of a frame
-  pub few : All (λ n. length (exprNodes (n .kind)) ≤ 251) (so .nodes)

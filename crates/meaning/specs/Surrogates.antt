@@ -1,5 +1,6 @@
--- The reading before card 2 of 02-change-requests.md: with the grammar that let the values d800 to dfff pass (crate text, Surrogates.antt), and all
--- else as it stands. `reads-as-before` and `answers-as-before` in proofs/Surrogates.antt say what the card keeps.
+-- The call before card 2 of 02-change-requests.md: with the open grammar, which let the values d800 to dfff pass (crate text, Surrogates.antt), and
+-- all else as it stands. A name that ends in `Open` is the one without it, over that grammar. `answers-as-before` in proofs/Surrogates.antt says what
+-- the card keeps.
 use mathlib.Core.Bool.{Bool, true, false}
 use mathlib.Core.List.{List, [], _∷_, map}
 use mathlib.Core.Option.{Option, none, some}
@@ -7,14 +8,14 @@ use Prim.Native.Nat.{ℕ}
 use lib.Dec.{ltb}
 use Rattle.text.specs.Surrogates.{HasSurrogate, charactersOpen}
 use Rattle.meaning.specs.All.{All}
-use Rattle.meaning.specs.Syntax.{Query}
-use Rattle.meaning.specs.Refusal.{workTooShort, fileTooLong, malformedLine, misplacedKind, tooMany, malformedFrame, brokenText, nameGivenBefore, badReference, repeatedKey}
-use Rattle.meaning.specs.Frame.{Frame}
+use Rattle.meaning.specs.Schema.{Schema}
+use Rattle.meaning.specs.Refusal.{workTooShort, fileTooLong, malformedLine, misplacedKind, tooMany, malformedFrame, brokenText, nameGivenBefore, badReference, repeatedKey, tooManyQueries}
+use Rattle.meaning.specs.Frame.{Kind, limits, name, schemaType, predicate, node, query, Frame}
 use Rattle.meaning.specs.References.{textsOf}
 use Rattle.meaning.specs.Lines.{position, lines}
 use Rattle.meaning.specs.SoFar.{Said, malformed, unknownKind, noFrame, frames, said, SoFar, start, after}
-use Rattle.meaning.specs.Conditions.{anyOf, sameText, ofFrame, Condition, firstOf, isMalformed, isMisplaced, isOneTooMany, isNoFrame, isNameGivenBefore, isBadReference, isRepeatedKey}
-use Rattle.meaning.specs.File.{Described, countOf, valueText, Reading, refused, described, isTooLong}
+use Rattle.meaning.specs.Conditions.{anyOf, sameText, ofFrame, Condition, firstOf, isMalformed, isMisplaced, isOneTooMany, isQueryTooMany, isNoFrame, isNameGivenBefore, isBadReference, isRepeatedKey}
+use Rattle.meaning.specs.File.{Form, countOf, valueText, Reading, refused, described, isTooLong}
 use Rattle.meaning.specs.Outcome.{Decided, turnedDown, decideRead, minWords, Outcome, finish}
 
 unfoldable pub brokenOpen : List ℕ → Bool
@@ -26,11 +27,12 @@ unfolding ofFrame anyOf brokenOpen textsOf
 isBrokenOpen so l = ofFrame (λ f. anyOf brokenOpen (textsOf f)) l
 
 unfoldable pub conditionsOpen : List Condition
-unfolding isMalformed isMisplaced isOneTooMany isNoFrame isBrokenOpen isNameGivenBefore isBadReference isRepeatedKey
+unfolding isMalformed isMisplaced isOneTooMany isQueryTooMany isNoFrame isBrokenOpen isNameGivenBefore isBadReference isRepeatedKey
 conditionsOpen =
     record { refusal = malformedLine; holds = isMalformed } ∷
     record { refusal = misplacedKind; holds = isMisplaced } ∷
     record { refusal = tooMany; holds = isOneTooMany } ∷
+    record { refusal = tooManyQueries; holds = isQueryTooMany } ∷
     record { refusal = malformedFrame; holds = isNoFrame } ∷
     record { refusal = brokenText; holds = isBrokenOpen } ∷
     record { refusal = nameGivenBefore; holds = isNameGivenBefore } ∷
@@ -38,27 +40,33 @@ conditionsOpen =
     record { refusal = repeatedKey; holds = isRepeatedKey } ∷
     []
 
-unfoldable pub describeOpen : SoFar → Query → Described
+unfoldable pub schemaOpen : SoFar → Schema
 unfolding position sameText valueText countOf charactersOpen
-describeOpen so q = record {
-  schema = record {
-    predicates = so .predicates;
-    valueField = position (sameText valueText) (so .names);
-    characters = map (λ s. countOf (charactersOpen s)) (so .names);
-    maxDistance = so .maxDistance;
-    maxTermChars = so .maxTermChars;
-  };
-  ast = record { nodes = so .nodes; query = q };
+schemaOpen so = record {
+  predicates = so .predicates;
+  valueField = position (sameText valueText) (so .names);
+  characters = map (λ s. countOf (charactersOpen s)) (so .names);
+  maxDistance = so .maxDistance;
+  maxTermChars = so .maxTermChars;
 }
 
-unfoldable pub atEndOpen : SoFar → Option Query → Reading
+unfoldable pub describeOpen : SoFar → Form
+unfolding schemaOpen
+describeOpen so = record { schema = schemaOpen so; queries = so .queries }
+
+unfoldable pub atEndOpen : SoFar → Option Kind → Reading
 unfolding describeOpen
 atEndOpen so none = refused misplacedKind
-atEndOpen so (some q) = described (describeOpen so q)
+atEndOpen so (some limits) = refused misplacedKind
+atEndOpen so (some name) = refused misplacedKind
+atEndOpen so (some schemaType) = refused misplacedKind
+atEndOpen so (some predicate) = refused misplacedKind
+atEndOpen so (some node) = refused misplacedKind
+atEndOpen so (some query) = described (describeOpen so)
 
 unfoldable pub readFromOpen : SoFar → List Said → Reading
 unfolding firstOf conditionsOpen after atEndOpen
-readFromOpen so [] = atEndOpen so (so .query)
+readFromOpen so [] = atEndOpen so (so .previous)
 readFromOpen so (l ∷ ls) = elim (firstOf conditionsOpen so l) [ some r ↦ refused r | none ↦ readFromOpen (after so l) ls ]
 
 unfoldable pub readingOpen : List ℕ → Reading
@@ -75,7 +83,7 @@ outcomeOpen file words bytes = finish (decideOpen file words) words bytes
 
 -- ---- A file without such a value
 
--- a text without a value from d800 to dfff
+-- no value from d800 to dfff in a text, on a line, in a file
 abbrev pub NoSurrogate : List ℕ → Type 0
 NoSurrogate s = HasSurrogate s → ⊥
 

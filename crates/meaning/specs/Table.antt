@@ -1,8 +1,10 @@
--- Document 01's examples: M, the whole case, the list of "Contract and case", and the rows of the table of refusals that are
--- small enough to compute. Each row is a file, the lengths of the two slices, what the program prints and, of an accepted
--- file, its visits. proofs/Table.antt computes them all.
+-- Evidence for the definitions, computed in proofs/Table.antt. Document 01's examples: M, the whole case, the list of "Contract and case", and
+-- the table of refusals but 11, whose row takes more visits than can be computed; our own; forms of several queries. Each row is a file, the
+-- lengths of the two slices, what the program prints and, of an accepted file, its visits. Then whole outcomes: the result and both slices.
 use mathlib.Core.Bool.{Bool, true}
 use mathlib.Core.List.{List, [], _∷_, _++_}
+use mathlib.Core.Option.{Option, none, some}
+use mathlib.Core.Path.{_≡_}
 use Prim.Native.Nat.{ℕ, zero, suc, _+_, _/_, _%_}
 use Prim.Native.String.{String}
 use lib.Dec.{eqb}
@@ -11,9 +13,10 @@ use Rattle.text.specs.Utf8.{both}
 use Rattle.meaning.specs.Diag.{ascii}
 use Rattle.meaning.specs.Conditions.{sameText}
 use Rattle.meaning.specs.File.{Reading, refused, described, reading}
-use Rattle.meaning.specs.Check.{typed, exhausted, check}
+use Rattle.meaning.specs.Check.{Typed}
 use Rattle.meaning.specs.Answer.{hexLine}
-use Rattle.meaning.specs.Outcome.{decide, printedLines, maxVisits}
+use Rattle.meaning.specs.Refusal.{number}
+use Rattle.meaning.specs.Outcome.{decide, printedLines, runAll, Result, Accepted, Refused, Outcome, outcome}
 
 pub record Example : Type 0 where
   pub file : List ℕ
@@ -455,6 +458,54 @@ ownExamples =
     4 ∷
     []
 
+-- ---- Forms (card 3)
+
+-- M's query, so many times
+unfoldable pub again : ℕ → List ℕ
+unfolding text
+again zero = []
+again (suc n) = text ("05000000000000000300" ∷ "060000" ∷ []) ++ again n
+
+unfoldable pub forms : List Example
+unfolding accepted turnedDown text again
+forms =
+    -- two queries over one schema; each has its nodes and unknowns from 0
+    accepted (
+    "01020020" ∷
+    "0278" ∷
+    "050000000000000001030000" ∷
+    "060000" ∷
+    "05000000020000000300" ∷
+    "050000000400000005030000" ∷
+    "060001" ∷
+    [])
+    (
+    "0b0000" ∷
+    "070000060000" ∷
+    "0b0001" ∷
+    "070000ff" ∷
+    "070001060000" ∷
+    [])
+    0 ∷
+    -- 06 after 06, 03 and 02 after 06, and a 05 last
+    turnedDown (text ("01020020" ∷ "05000000000000000300" ∷ "060000" ∷ "060000" ∷ [])) 16384 65536 "0f04" ∷
+    turnedDown (text ("01020020" ∷ "05000000000000000300" ∷ "060000" ∷ "0300" ∷ [])) 16384 65536 "0f04" ∷
+    turnedDown (text ("01020020" ∷ "05000000000000000300" ∷ "060000" ∷ "0278" ∷ [])) 16384 65536 "0f04" ∷
+    turnedDown (text ("01020020" ∷ "05000000000000000300" ∷ "060000" ∷ "05000000000000000300" ∷ [])) 16384 65536 "0f04" ∷
+    -- a node of the query before is no earlier node
+    turnedDown (text ("01020020" ∷ "05000000000000000300" ∷ "060000" ∷ "0500000000000000030a0000" ∷ "060000" ∷ [])) 16384 65536 "0f09" ∷
+    -- the whole answer counts for 12: 2 * 16 bytes
+    record { file = text ("01020020" ∷ []) ++ again 2; words = 16384; bytes = 32; prints = text ("0b0000" ∷ "07000000" ∷ "0b0001" ∷ "07000000" ∷ []); visits = 0 } ∷
+    turnedDown (text ("01020020" ∷ []) ++ again 2) 16384 31 "0f0c" ∷
+    -- 13: the 65th 06, before 6 (a length wrong for 06) and after 4 (06 after 06)
+    turnedDown (text ("01020020" ∷ []) ++ again 65) 16384 65536 "0f0d" ∷
+    turnedDown (text ("01020020" ∷ []) ++ (again 64 ++ text ("05000000000000000300" ∷ "06" ∷ []))) 16384 65536 "0f0d" ∷
+    turnedDown (text ("01020020" ∷ []) ++ (again 64 ++ text ("060000" ∷ []))) 16384 65536 "0f04" ∷
+    turnedDown (text ("01020020" ∷ []) ++ (again 64 ++ text ("05000000000000000300" ∷ []))) 16384 65536 "0f04" ∷
+    -- a bad line of the last query is told before any run
+    turnedDown (text ("01020020" ∷ []) ++ (again 2 ++ text ("05000000000000000300" ∷ "060001" ∷ []))) 16384 65536 "0f09" ∷
+    []
+
 -- So many names, each another text of two characters.
 unfoldable pub nameLines : ℕ → List ℕ
 unfolding hexLine
@@ -475,27 +526,110 @@ refusals =
     turnedDown (text ("01020020" ∷ "05000000000000000300" ∷ "060001" ∷ [])) 16384 65536 "0f09" ∷
     turnedDown (text ("01020020" ∷ "0278" ∷ "0300" ∷ "03040000000000000000" ∷ [])) 16384 65536 "0f0a" ∷
     turnedDown (text M) 16384 8 "0f0c" ∷
-    -- Two faults on one line: the lower number. A record type whose second part is cut off, in place of a name's reference;
-    -- one that repeats a name, and whose type is not there.
+    -- a record type with a name that is not there; the same with its second part cut off, 6 before 9; one that repeats a name and whose type is
+    -- not there, 9 before 10
     turnedDown (text ("01020020" ∷ "030400010000" ∷ "0304" ∷ [])) 16384 65536 "0f09" ∷
     turnedDown (text ("01020020" ∷ "03040001000000" ∷ [])) 16384 65536 "0f06" ∷
     turnedDown (text ("01020020" ∷ "0278" ∷ "03040000000000000000" ∷ [])) 16384 65536 "0f09" ∷
-    -- 1 before 2, and the missing query after the lines.
+    -- 1 before 2
+    turnedDown (replicate 65537 0) 16383 65536 "0f01" ∷
+    -- lines that pass, and no query
     turnedDown (text ("01020020" ∷ [])) 16384 65536 "0f04" ∷
+    []
+
+-- A line so many times.
+unfoldable pub times : ℕ → String → List ℕ
+unfolding text
+times zero l = []
+times (suc n) l = text (l ∷ []) ++ times n l
+
+-- Limits and forms that document 01's examples leave open: the last that passes and the first that does not.
+unfoldable pub limitsOf : List Example
+unfolding turnedDown text ascii times nameLines hexLine again
+limitsOf =
+    -- 3: an empty line, an odd one, an upper-case digit; a name of 511 bytes and one of 512
+    turnedDown (text ("01020020" ∷ "" ∷ [])) 16384 65536 "0f03" ∷
+    turnedDown (text ("0102002" ∷ [])) 16384 65536 "0f03" ∷
+    turnedDown (text ("0102002A" ∷ [])) 16384 65536 "0f03" ∷
+    record { file = text ("01020020" ∷ []) ++ hexLine (0x02 ∷ replicate 511 0x61) ++ again 1; words = 16384; bytes = 65536; prints = text ("07000000" ∷ []); visits = 0 } ∷
+    turnedDown (text ("01020020" ∷ []) ++ hexLine (0x02 ∷ replicate 512 0x61)) 16384 65536 "0f03" ∷
+    -- 4: kinds 00 and 07, and the limits twice
+    turnedDown (text ("01020020" ∷ "00" ∷ [])) 16384 65536 "0f04" ∷
+    turnedDown (text ("01020020" ∷ "07" ∷ [])) 16384 65536 "0f04" ∷
+    turnedDown (text ("01020020" ∷ "01020020" ∷ [])) 16384 65536 "0f04" ∷
+    -- 6: a byte too many, shape 06, flag 02, statement 05
+    turnedDown (text ("0102002000" ∷ [])) 16384 65536 "0f06" ∷
+    turnedDown (text ("01020020" ∷ "0306" ∷ [])) 16384 65536 "0f06" ∷
+    turnedDown (text ("01020020" ∷ "0278" ∷ "0300" ∷ "040000000002" ∷ [])) 16384 65536 "0f06" ∷
+    turnedDown (text ("01020020" ∷ "05000000000000000300" ∷ "060000050000" ∷ [])) 16384 65536 "0f06" ∷
+    -- 5: the 257th type and the 129th predicate
+    turnedDown (text ("01020020" ∷ "0278" ∷ []) ++ times 257 "0300") 16384 65536 "0f05" ∷
+    turnedDown (text ("01020020" ∷ "0278" ∷ "0300" ∷ []) ++ times 129 "040000000000") 16384 65536 "0f05" ∷
     []
 
 -- ---- The test of a row
 
+-- of all queries together
+unfoldable pub visitsIn : Option (List Typed) → ℕ
+visitsIn none = 0
+visitsIn (some []) = 0
+visitsIn (some (t ∷ ts)) = t .visits + visitsIn (some ts)
+
 unfoldable pub visitsOf : Reading → ℕ
-unfolding check maxVisits
+unfolding visitsIn runAll
 visitsOf (refused r) = 0
-visitsOf (described d) = elim (check maxVisits (d .schema) (d .ast)) [ typed t ↦ t .visits | exhausted ↦ 0 ]
+visitsOf (described f) = visitsIn (runAll (f .schema) (f .queries))
 
 unfoldable pub holds : Example → Bool
 unfolding sameText decide printedLines visitsOf reading
 holds e = both (sameText (printedLines (decide (e .file) (e .words)) (e .bytes)) (e .prints)) (eqb (visitsOf (reading (e .file))) (e .visits))
 
-unfoldable pub allHold : List Example → Bool
-unfolding holds
-allHold [] = true
-allHold (e ∷ es) = both (holds e) (allHold es)
+-- Each row passes its test.
+infixr 30 _then_
+pub data Rows {A : Type 0} (test : A → Bool) : List A → Type 0 where
+  end : Rows test []
+  _then_ : {a : A} {l : List A} → test a ≡ true → Rows test l → Rows test (a ∷ l)
+
+-- ---- Whole outcomes
+
+-- A file with the lengths of the two slices, the refusal's number or 0, and the answer slice at exit. The work slice is zero in each.
+pub record Whole : Type 0 where
+  pub file : List ℕ
+  pub words : ℕ
+  pub bytes : ℕ
+  pub result : ℕ
+  pub answer : List ℕ
+
+unfoldable pub two : List String
+two = "01020020" ∷ "0278" ∷ "050000000000000001030000" ∷ "060000" ∷ "05000000020000000300" ∷ "060000" ∷ []
+
+unfoldable pub wholes : List Whole
+unfolding text M two
+wholes =
+    -- M: zeros after the answer, the answer alone, and one byte less
+    record { file = text M; words = 16384; bytes = 16; result = 0; answer = text ("07000000" ∷ []) ++ replicate 7 0 } ∷
+    record { file = text M; words = 16384; bytes = 9; result = 0; answer = text ("07000000" ∷ []) } ∷
+    record { file = text M; words = 16384; bytes = 8; result = 12; answer = replicate 8 0 } ∷
+    -- more words than are asked for, one less, and no slices at all
+    record { file = text M; words = 16400; bytes = 10; result = 0; answer = text ("07000000" ∷ []) ++ 0 ∷ [] } ∷
+    record { file = text M; words = 16383; bytes = 16; result = 1; answer = replicate 16 0 } ∷
+    record { file = text M; words = 0; bytes = 0; result = 1; answer = [] } ∷
+    -- a line that is odd, and no line
+    record { file = ascii "0102002"; words = 16384; bytes = 3; result = 3; answer = 0 ∷ 0 ∷ 0 ∷ [] } ∷
+    record { file = []; words = 16384; bytes = 5; result = 4; answer = replicate 5 0 } ∷
+    -- two queries
+    record { file = text two; words = 16384; bytes = 50; result = 0; answer = text ("0b0000" ∷ "070000060000" ∷ "0b0001" ∷ "07000000" ∷ []) ++ replicate 14 0 } ∷
+    []
+
+unfoldable pub resultNumber : Result → ℕ
+unfolding number
+resultNumber Accepted = 0
+resultNumber (Refused r) = number r
+
+unfoldable pub isOutcome : Whole → Outcome → Bool
+unfolding resultNumber sameText
+isOutcome w o = both (eqb (resultNumber (o .result)) (w .result)) (both (sameText (o .work) (replicate (w .words) 0)) (sameText (o .answer) (w .answer)))
+
+unfoldable pub ends : Whole → Bool
+unfolding isOutcome outcome
+ends w = isOutcome w (outcome (w .file) (w .words) (w .bytes))

@@ -8,20 +8,20 @@ use native.Mathlib.Omega.{arith}
 use lib.Dec.{ltb}
 use lib.ListN.{length, getD, take, drop}
 use borrow.Author.Tests.{lt-ltb, le-ltb}
+use Rattle.cells.specs.CodeCalls.{Declares}
 use Rattle.cells.specs.Stands.{Rows}
-use Rattle.meaning.specs.Syntax.{Query}
 use Rattle.meaning.specs.Refusal as Refused
-use Rattle.meaning.specs.Frame.{kindByte, kindOf}
+use Rattle.meaning.specs.Frame.{query, kindByte, kindOf}
 use Rattle.meaning.specs.Lines.{lines}
 use Rattle.meaning.specs.SoFar.{SoFar, Said, start, said, saidBy, after}
 use Rattle.meaning.specs.Refused.{Pass, none-left, more}
 use Rattle.meaning.proofs.Conditions.{none-holds}
 use Rattle.meaning.proofs.Sound.{pass-kept}
 use Rattle.meaning.specs.Conditions.{conditions, firstOf}
-use Rattle.meaning.specs.File.{maxFile, Reading, refused, described, atEnd, readFrom, isTooLong, reading}
+use Rattle.meaning.specs.File.{maxFile, Reading, refused, described, atEnd, readFrom, isTooLong, reading, lastOf, typesOf}
 use Rattle.meaning.specs.Outcome.{minWords, decideRead, decide}
 use Rattle.meaning.proofs.Tests.{cases}
-use Rattle.meaning.proofs.Refused.{read-refused, read-next, within}
+use Rattle.meaning.proofs.Refused.{read-refused, read-next, within, not-ended}
 use Rattle.hex.proofs.Line.{lines-at-end}
 use Rattle.frames.specs.Contracts.{Holds, Malformed, numberOf, kindAt}
 use Rattle.frames.proofs.Decoding.{holds-line}
@@ -30,13 +30,14 @@ use Rattle.reading.specs.declared.Refusal.{Refusal}
 use Rattle.reading.specs.declared.Refusal.the-variants as Refusal
 use Rattle.reading.specs.declared.Read.{Read}
 use Rattle.reading.specs.declared.Read.the-variants as Read
-use Rattle.reading.specs.declared.Counters.{Counters}
+use Rattle.work.specs.declared.Counters.{Counters}
+use Rattle.work.specs.Counted.{noCounters}
 use Rattle.reading.specs.declared.Step.{Step}
 use Rattle.reading.specs.declared.Step.the-variants.{On, Off}
-use Rattle.reading.specs.Held.{QueryHeld, Held}
-use Rattle.reading.specs.Contracts.{refusal, Line, Steps, TakesLine, noCounters, counted, Ends, TakesLines, readingIn}
+use Rattle.reading.specs.Held.{Held}
+use Rattle.reading.specs.Contracts.{refusal, Line, Steps, TakesLine, counted, Ends, TakesLines, readingIn}
 use Rattle.reading.proofs.Order.{first-malformed}
-use Rattle.reading.proofs.Ends.{nothing-held, whole-held, all-declared}
+use Rattle.reading.proofs.Ends.{nothing-held, schema-held, long-held, all-declared}
 
 -- ---- Between two lines
 
@@ -52,10 +53,12 @@ pub record Midway (f w : List ℕ) (c : Counters) (previous at : ℕ) : Type 0 w
   pub left : reading f ≡ readFrom so (map said (lines (drop at f)))
   pub before : List Said
   pub passed : Pass start before so
+  pub last : lastOf start (map said (lines f)) ≡ lastOf so (map said (lines (drop at f)))
 
 pub midway-start : (f w : List ℕ) → length f ≤ 65536 → 16384 ≤ length w → Midway f w noCounters 6 0
 unfolding maxFile
-midway-start f w small long = record { rows = _; so = _; held = nothing-held f w small long; left = within f small; before = []; passed = none-left }
+midway-start f w small long =
+    record { rows = _; so = _; held = nothing-held f w small long; left = within f small; before = []; passed = none-left; last = refl }
 
 ends-refused : (f w : List ℕ) (e : Refusal) (r : Reading) → r ≡ refused (refusal e) → Ends f w (Read.Refused e) r
 unfolding Ends
@@ -74,7 +77,7 @@ module _ {f : List ℕ} {at : ℕ} {line : List ℕ} {n next : ℕ} (h : Holds f
   }
 
   -- the first of the bytes that the line has
-  first-taken : getD (take n line) 0 0 ≡ getD line 0 0
+  pub first-taken : getD (take n line) 0 0 ≡ getD line 0 0
   first-taken = go n line (h .some)
     where
       go : (n : ℕ) (l : List ℕ) → 0 < n → getD (take n l) 0 0 ≡ getD l 0 0
@@ -82,9 +85,17 @@ module _ {f : List ℕ} {at : ℕ} {line : List ℕ} {n next : ℕ} (h : Holds f
       go (suc n) [] p = refl
       go (suc n) (b ∷ l) p = refl
 
-  next-lines : (so : SoFar) → readFrom so (map said (lines (drop at f))) ≡ readFrom so (saidBy (some (take n line)) ∷ map said (lines (drop next f)))
+  -- what the lines from here on say
+  says-next : map said (lines (drop at f)) ≡ saidBy (some (take n line)) ∷ map said (lines (drop next f))
   unfolding said
-  next-lines so = ap (λ ls. readFrom so (map said ls)) (h .splits) ∙ ap (λ o. readFrom so (saidBy o ∷ map said (lines (drop next f)))) (h .bytes)
+  says-next = ap (map said) (h .splits) ∙ ap (λ o. saidBy o ∷ map said (lines (drop next f))) (h .bytes)
+
+  next-lines : (so : SoFar) → readFrom so (map said (lines (drop at f))) ≡ readFrom so (saidBy (some (take n line)) ∷ map said (lines (drop next f)))
+  next-lines so = ap (readFrom so) says-next
+
+  next-last : (so : SoFar) → lastOf so (map said (lines (drop at f))) ≡ lastOf (after so (saidBy (some (take n line)))) (map said (lines (drop next f)))
+  unfolding lastOf
+  next-last so = ap (lastOf so) says-next
 
 module _ {f w : List ℕ} {c : Counters} {previous at : ℕ} (m : Midway f w c previous at) where
   module _ {line : List ℕ} {n next : ℕ} (h : Holds f at line n next) (kind : ℕ) (e : kind ≡ numberOf (kindOf (getD line 0 0))) (w′ : List ℕ) where
@@ -108,6 +119,7 @@ module _ {f w : List ℕ} {c : Counters} {previous at : ℕ} (m : Midway f w c p
               left = m .left ∙ next-lines h (m .so) ∙ read-next (m .so) says (map said (lines (drop next f))) q;
               before = m .before ++ says ∷ [];
               passed = pass-on says (m .passed) q;
+              last = m .last ∙ next-last h (m .so);
             }
         go (some i) q s = let x = s .1 in let z : _≡_ {A = ℕ} 0 1 = cc in absurd (omega arith)
 
@@ -122,12 +134,12 @@ module _ {f w : List ℕ} {c : Counters} {previous at : ℕ} (m : Midway f w c p
 
   -- what `take_line` asks
   pub midway-asks : {line : List ℕ} {n next : ℕ} → Holds f at line n next → at < length f
-      → (at < 65536) × (0 < length (take (n - 0) line)) × (length (take (n - 0) line) ≤ 512) × (16384 ≤ length w) × (c .names ≤ 256) × (c .types ≤ 256) × (c .fields ≤ 8192) × (c .nodes ≤ 512)
+      → (at < 65536) × (0 < length (take (n - 0) line)) × (length (take (n - 0) line) ≤ 512) × (16384 ≤ length w) × (c .names ≤ 256) × (c .types ≤ 256) × (c .fields ≤ 8192) × (c .nodes ≤ 512) × (c .queries ≤ 64)
   midway-asks {n = n} h l =
       let b = line-holds h in
       let o = m .held in
       rw (sub-zero n)
-      (omega (arith, o .small), b .some, b .most, o .long, omega (arith, o .names .count, o .names .few), omega (arith, o .types .count, o .types .few), omega (arith, o .room, o .place, o .small), omega (arith, o .nodes .count, o .nodes .few))
+      (omega (arith, o .small), b .some, b .most, o .long, omega (arith, o .names .count, o .names .few), omega (arith, o .types .count, o .types .few), omega (arith, o .room, o .place, o .small), omega (arith, o .nodes .count, o .nodes .few), omega (arith, o .queries, o .turns))
 
   pub midway-bad : Malformed f at → Ends f w (Read.Refused Refusal.MalformedLine) (reading f)
   unfolding said saidBy
@@ -138,32 +150,27 @@ module _ {f w : List ℕ} {c : Counters} {previous at : ℕ} (m : Midway f w c p
 
   -- ---- The end of the file
   module _ (last : length f ≤ at) where
-    at-end : reading f ≡ atEnd (m .so) (m .so .query)
+    at-end : reading f ≡ atEnd (m .so) (m .so .previous)
     unfolding readFrom
     at-end = m .left ∙ ap (λ ls. readFrom (m .so) (map said ls)) (lines-at-end f at last)
+
+    types-were : m .so .types ≡ typesOf f
+    unfolding lastOf typesOf
+    types-were = ap SoFar.types (sym (m .last ∙ ap (λ ls. lastOf (m .so) (map said ls)) (lines-at-end f at last)))
 
     previous-was : kindAt previous ≡ m .so .previous
     previous-was = ap kindAt (m .held .kind) ∙ kind-of-number (m .so .previous)
 
     pub midway-whole : previous ≡ 5 → Ends f (counted w c) Read.Accepted (reading f)
     unfolding atEnd Ends kindOf
-    midway-whole e = go (m .so .query) refl
-      where
-        go : (o : Option Query) → m .so .query ≡ o → Ends f (counted w c) Read.Accepted (reading f)
-        go none q =
-            let x : QueryHeld f w (m .so .previous) none = rw q at (m .held .query) in
-            absurd (x (sym previous-was ∙ ap kindAt e))
-        go (some y) q = subst (Ends f (counted w c) Read.Accepted) (sym (at-end ∙ ap (atEnd (m .so)) q)) (refl, (m .rows, whole-held (m .held) y q, all-declared (m .held) (pass-kept (m .passed))))
+    midway-whole e =
+        let was : m .so .previous ≡ some query = sym previous-was ∙ ap kindAt e in
+        let types = subst (Declares (counted w c) (m .rows)) types-were (all-declared (m .held) (pass-kept (m .passed))) in
+        subst (Ends f (counted w c) Read.Accepted) (sym (at-end ∙ ap (atEnd (m .so)) was)) (refl, long-held (m .held), (m .rows, schema-held (m .held) query was, types))
 
     pub midway-missing : (previous ≡ 5 → ⊥) → Ends f w (Read.Refused Refusal.MisplacedKind) (reading f)
-    unfolding atEnd kindByte
-    midway-missing e = go (m .so .query) refl
-      where
-        go : (o : Option Query) → m .so .query ≡ o → Ends f w (Read.Refused Refusal.MisplacedKind) (reading f)
-        go none q = ends-refused f w Refusal.MisplacedKind (reading f) (at-end ∙ ap (atEnd (m .so)) q)
-        go (some y) q =
-            let x : QueryHeld f w (m .so .previous) (some y) = rw q at (m .held .query) in
-            absurd (e (m .held .kind ∙ ap numberOf (x .0)))
+    unfolding kindByte
+    midway-missing e = ends-refused f w Refusal.MisplacedKind (reading f) (at-end ∙ not-ended (m .so) (m .so .previous) (λ q. e (m .held .kind ∙ ap numberOf q)))
 
 -- ---- The file
 

@@ -15,7 +15,7 @@ use Rattle.meaning.specs.Frame as Frame
 use Rattle.meaning.specs.Frame.{Kind, Frame, theLimits, aName, aType, aPredicate, aNode, theQuery, Got, got, fails, Reader, andThen, one, pair, triple, byte, two, rest, choice, typeShapes, valueTypes, spanAndKind, headAndBody, mayStand, kindByte, kindOf, frameKind, frame, frameOf}
 use Rattle.meaning.specs.References.{textsOf, nameRefs, typeRefs, nodeRefs, keysOf}
 use Rattle.meaning.specs.SoFar.{SoFar, saidOf, saidIn, saidBy, frames, add, after}
-use Rattle.meaning.specs.Conditions.{anyOf, allBelow, again, maxNames, maxTypes, maxPredicates, maxNodes, isFull, refersEarlier, refersBadly, conditions, firstOf}
+use Rattle.meaning.specs.Conditions.{anyOf, allBelow, again, maxNames, maxTypes, maxPredicates, maxNodes, maxQueries, isFull, isLastQueryPast, refersEarlier, refersBadly, conditions, firstOf}
 use Rattle.meaning.proofs.Tests.{cases, clash}
 use Rattle.meaning.proofs.Written.{kind-byte}
 use Rattle.frames.specs.Contracts.{numberOf, kindAt, stands, byteW, halfW, isSome, isFrame}
@@ -24,13 +24,13 @@ use Rattle.frames.proofs.Readers.{sized-pair, sized-byte, sized-two}
 use Rattle.frames.proofs.Shapes.{up, type-short, predicate-short, node-short}
 use Rattle.reading.specs.declared.Refusal.{Refusal}
 use Rattle.reading.specs.declared.Refusal.the-variants as Refusal
-use Rattle.reading.specs.declared.Counters.{Counters}
+use Rattle.work.specs.declared.Counters.{Counters}
 use Rattle.reading.specs.declared.Step.{Step}
 use Rattle.reading.specs.declared.Step.the-variants.{On, Off}
 use Rattle.reading.specs.Held.{Held}
-use Rattle.reading.specs.Contracts.{Comes, Steps, Takes, TakesAnywhere, fullOf, TakesLine}
+use Rattle.reading.specs.Contracts.{Comes, Steps, Takes, TakesAnywhere, fullOf, pastOf, TakesLine}
 use Rattle.reading.proofs.Lines.{limits-held}
-use Rattle.reading.proofs.Order.{first-unknown, first-misplaced, first-too-many, first-no-frame, first-none}
+use Rattle.reading.proofs.Order.{first-unknown, first-misplaced, first-too-many, first-too-many-queries, first-no-frame, first-none}
 use Rattle.reading.proofs.Stepping.{refuses, goes-on}
 use Rattle.reading.proofs.Typing.{whole-made, sized-got}
 
@@ -47,7 +47,7 @@ limits-takes s w w′ c d t p q e = record {
     is = λ next T previous so fr h l k.
         rw (e, p, q, limits-frame s fr (l .some) (k .is))
         (goes-on f next (set (set w MAX-DISTANCE (byteW s 1)) MAX-TERM (halfW s 2)) 0 (add so (theLimits (byteW s 1) (halfW s 2))) c T _
-        (first-none so (theLimits (byteW s 1) (halfW s 2)) (k .placed) (k .room) refl refl refl refl)
+        (first-none so (theLimits (byteW s 1) (halfW s 2)) (k .placed) (k .room) (k .turn) refl refl refl refl)
         (limits-held h next (omega (arith, l .on)) (l .within) (byteW s 1) (halfW s 2) (k .placed)));
   };
 }
@@ -79,7 +79,7 @@ frame-made Frame.predicate s = made-then _ (two s) _ (λ a t. made-then _ (two t
 frame-made Frame.node s = made-one _ aNode spanAndKind s (λ a. refl)
 frame-made Frame.query s = made-one _ theQuery headAndBody s (λ a. refl)
 
-frame-kind : (k : Kind) (s : List ℕ) (fr : Frame) → frameOf k s ≡ some fr → frameKind fr ≡ k
+pub frame-kind : (k : Kind) (s : List ℕ) (fr : Frame) → frameOf k s ≡ some fr → frameKind fr ≡ k
 unfolding frameOf Made
 frame-kind k s fr e = frame-made k s fr [] (whole-made (frame k s) fr e)
 
@@ -132,6 +132,18 @@ module _ (s : List ℕ) {f : List ℕ} {at : ℕ} {w : List ℕ} {T : Rows} {c :
       go Frame.node = ap (leb 512) (h .nodes .count)
       go Frame.query = refl
 
+  turns : (k : Kind) → kindAt kind ≡ some k → pastOf c kind ≡ isLastQueryPast so k
+  unfolding isLastQueryPast kindByte maxQueries
+  turns k q = ap (pastOf c) (e ∙ ap numberOf (sym kind-is ∙ q)) ∙ go k
+    where
+      go : (k : Kind) → pastOf c (numberOf (some k)) ≡ isLastQueryPast so k
+      go Frame.limits = refl
+      go Frame.name = refl
+      go Frame.schemaType = refl
+      go Frame.predicate = refl
+      go Frame.node = refl
+      go Frame.query = ap (leb 64) (h .queries)
+
   misplaces : stands (kindAt previous) (kindAt kind) ≡ false → firstOf conditions so (saidBy (some s)) ≡ some Refused.misplacedKind
   unfolding saidIn
   misplaces t = go (kindAt kind) refl
@@ -146,16 +158,22 @@ module _ (s : List ℕ) {f : List ℕ} {at : ℕ} {w : List ℕ} {T : Rows} {c :
         let k = kind-there (kindAt previous) (kindAt kind) t in
         ap (firstOf conditions so) (says (k .0) (k .1)) ∙ first-too-many so (k .0) (frameOf (k .0) (drop 1 s)) (frame-kind (k .0) (drop 1 s)) (places (k .0) true (k .1) t) (sym (fills (k .0) (k .1)) ∙ u)
 
-    misforms : fullOf c kind ≡ false → isFrame (kindAt kind) (drop 1 s) ≡ false → firstOf conditions so (saidBy (some s)) ≡ some Refused.malformedFrame
-    misforms u v =
+    overturns : fullOf c kind ≡ false → pastOf c kind ≡ true → firstOf conditions so (saidBy (some s)) ≡ some Refused.tooManyQueries
+    overturns u p =
+        let k = kind-there (kindAt previous) (kindAt kind) t in
+        ap (firstOf conditions so) (says (k .0) (k .1)) ∙ first-too-many-queries so (k .0) (frameOf (k .0) (drop 1 s)) (frame-kind (k .0) (drop 1 s)) (places (k .0) true (k .1) t) (sym (fills (k .0) (k .1)) ∙ u) (sym (turns (k .0) (k .1)) ∙ p)
+
+    misforms : fullOf c kind ≡ false → pastOf c kind ≡ false → isFrame (kindAt kind) (drop 1 s) ≡ false → firstOf conditions so (saidBy (some s)) ≡ some Refused.malformedFrame
+    misforms u p v =
         let k = kind-there (kindAt previous) (kindAt kind) t in
         let x : isSome (frameOf (k .0) (drop 1 s)) ≡ false = rw (k .1) at v in
-        ap (firstOf conditions so) (says (k .0) (k .1)) ∙ first-no-frame so (k .0) (frameOf (k .0) (drop 1 s)) (frame-kind (k .0) (drop 1 s)) (places (k .0) true (k .1) t) (sym (fills (k .0) (k .1)) ∙ u) (frame-none (frameOf (k .0) (drop 1 s)) x)
+        ap (firstOf conditions so) (says (k .0) (k .1)) ∙ first-no-frame so (k .0) (frameOf (k .0) (drop 1 s)) (frame-kind (k .0) (drop 1 s)) (places (k .0) true (k .1) t) (sym (fills (k .0) (k .1)) ∙ u) (sym (turns (k .0) (k .1)) ∙ p) (frame-none (frameOf (k .0) (drop 1 s)) x)
 
-    comes : (k : Kind) (fr : Frame) → kindAt kind ≡ some k → fullOf c kind ≡ false → frameOf k (drop 1 s) ≡ some fr → Comes so k s fr
-    comes k fr q u x = record {
+    comes : (k : Kind) (fr : Frame) → kindAt kind ≡ some k → fullOf c kind ≡ false → pastOf c kind ≡ false → frameOf k (drop 1 s) ≡ some fr → Comes so k s fr
+    comes k fr q u p x = record {
       placed = places k true q t;
       room = sym (fills k q) ∙ u;
+      turn = sym (turns k q) ∙ p;
       first = first-byte s long ∙ ap (λ b. b ∷ drop 1 s) (kind-byte (byteW s 0) k (sym kind-is ∙ q));
       is = x;
     }
@@ -170,9 +188,12 @@ module _ (f : List ℕ) (at : ℕ) (s w : List ℕ) (c : Counters) (previous kin
     pub line-too-many : fullOf c kind ≡ true → TakesLine f at s w c previous kind w (Off Refusal.TooMany)
     line-too-many u = record { is = λ next T so h l e. refuses f next w kind (after so (saidBy (some s))) Refusal.TooMany _ (overfills s h (l .some) kind e t u) }
 
-    module _ (u : fullOf c kind ≡ false) where
+    pub line-too-many-queries : fullOf c kind ≡ false → pastOf c kind ≡ true → TakesLine f at s w c previous kind w (Off Refusal.TooManyQueries)
+    line-too-many-queries u p = record { is = λ next T so h l e. refuses f next w kind (after so (saidBy (some s))) Refusal.TooManyQueries _ (overturns s h (l .some) kind e t u p) }
+
+    module _ (u : fullOf c kind ≡ false) (p : pastOf c kind ≡ false) where
       pub line-no-frame : isFrame (kindAt kind) (drop 1 s) ≡ false → TakesLine f at s w c previous kind w (Off Refusal.MalformedFrame)
-      line-no-frame v = record { is = λ next T so h l e. refuses f next w kind (after so (saidBy (some s))) Refusal.MalformedFrame _ (misforms s h (l .some) kind e t u v) }
+      line-no-frame v = record { is = λ next T so h l e. refuses f next w kind (after so (saidBy (some s))) Refusal.MalformedFrame _ (misforms s h (l .some) kind e t u p v) }
 
       pub line-takes : isFrame (kindAt kind) (drop 1 s) ≡ true → (k : Kind) → kind ≡ numberOf (some k) → (w′ : List ℕ) (r : Step) → Takes f at k s w c w′ r → TakesLine f at s w c previous kind w′ r
       unfolding after saidOf
@@ -184,7 +205,7 @@ module _ (f : List ℕ) (at : ℕ) (s w : List ℕ) (c : Counters) (previous kin
             is = λ next T so h l e.
                 let z : saidBy (some s) ≡ frames (y .0) = says s h (l .some) kind e k q ∙ ap (saidOf k) (y .1) in
                 subst (λ x. Steps f next w′ kind (after so x) r (firstOf conditions so x)) (sym z)
-                (subst (λ m. Steps f next w′ m (add so (y .0)) r (firstOf conditions so (frames (y .0)))) (sym n) (a .is next T previous so (y .0) h l (comes s h (l .some) kind e t k (y .0) q u (y .1))));
+                (subst (λ m. Steps f next w′ m (add so (y .0)) r (firstOf conditions so (frames (y .0)))) (sym n) (a .is next T previous so (y .0) h l (comes s h (l .some) kind e t k (y .0) q u p (y .1))));
           }
 
 -- ---- What the functions for each kind ask
@@ -201,6 +222,18 @@ module _ (c : Counters) (kind : ℕ) (u : fullOf c kind ≡ false) where
 
   pub room-for-node : kind ≡ 4 → c .nodes < 512
   room-for-node e = leb-false 512 (c .nodes) (rw e at u)
+
+pub room-for-query : (c : Counters) (kind : ℕ) → pastOf c kind ≡ false → kind ≡ 5 → c .queries < 64
+room-for-query c kind p e = leb-false 64 (c .queries) (rw e at p)
+
+pub past-other : (c : Counters) (kind : ℕ) → (kind ≡ 5 → ⊥) → false ≡ pastOf c kind
+past-other c zero n = refl
+past-other c (suc zero) n = refl
+past-other c (suc (suc zero)) n = refl
+past-other c (suc (suc (suc zero))) n = refl
+past-other c (suc (suc (suc (suc zero)))) n = refl
+past-other c (suc (suc (suc (suc (suc zero))))) n = absurd (n refl)
+past-other c (suc (suc (suc (suc (suc (suc kind)))))) n = refl
 
 module _ (s : List ℕ) (kind : ℕ) (v : isFrame (kindAt kind) (drop 1 s) ≡ true) where
   long-by : (k : Kind) (n : ℕ) → kind ≡ numberOf (some k) → (length s < n → isFrame (some k) (drop 1 s) ≡ false) → n ≤ length s

@@ -10,28 +10,28 @@ use Rattle.text.specs.Utf8.{characters, count}
 use Rattle.unification.specs.Ty as Tree
 use Rattle.unification.specs.Ty.{ε}
 use Rattle.unification.specs.Calls.{Declared}
-use Rattle.work.specs.Layout.{NAME-COUNT, TYPE-COUNT, PREDICATE-COUNT, MAX-DISTANCE, MAX-TERM, QUERY, NAMES, TYPES, FIELDS, RECORD-COUNT}
+use Rattle.work.specs.Layout.{NAME-COUNT, TYPE-COUNT, PREDICATE-COUNT, MAX-DISTANCE, MAX-TERM, NAMES, FIELDS, RECORD-COUNT}
 use Rattle.cells.specs.declared.Kind.{Kind}
 use Rattle.cells.specs.declared.Kind.the-variants.{Fields, Alternatives}
 use Rattle.cells.specs.Words.{declaredW, countW, firstW, declaredField, alternativeW, partW}
-use Rattle.cells.specs.CodeCalls.{kindTree}
-use Rattle.cells.specs.Stands.{Rows, tree, tagOf, partWords, Keeps}
-use Rattle.meaning.specs.Syntax.{Query}
+use Rattle.cells.specs.CodeCalls.{Declares}
+use Rattle.cells.specs.Stands.{Rows, partWords, Keeps}
 use Rattle.meaning.specs.Frame as Frame
 use Rattle.meaning.specs.Lines.{position}
 use Rattle.meaning.specs.Conditions.{anyOf, among}
 use Rattle.meaning.specs.SoFar.{SoFar, start}
-use Rattle.meaning.specs.File.{countOf, describe}
+use Rattle.meaning.specs.File.{countOf, schemaOf, describe}
 use Rattle.meaning.specs.All.{All}
 use Rattle.meaning.specs.Sound.{Kept}
 use Rattle.meaning.proofs.Lists.{all-at}
-use Rattle.tree.specs.Stands.{TypeCells, SchemaStands, Stands}
-use Rattle.reading.specs.declared.Counters.{Counters}
-use Rattle.reading.specs.Contracts.{noCounters, counts, counted, Declares}
-use Rattle.reading.specs.Held.{LimitsHeld, partType, IsOf, TypesHeld, QueryHeld, Held}
+use Rattle.tree.specs.Stands.{TypeCells, SchemaStands}
+use Rattle.work.specs.declared.Counters.{Counters}
+use Rattle.work.specs.Counted.{noCounters}
+use Rattle.reading.specs.Contracts.{counts, counted}
+use Rattle.reading.specs.Held.{LimitsHeld, partType, IsOf, TypesHeld, Held}
 use Rattle.reading.proofs.Regions.{over, keeps-sets, WordsAt, sets-words}
-use Rattle.reading.proofs.Lines.{types-same, predicates-same, nodes-same}
-use Rattle.reading.proofs.Kept.{field-is, query-kept}
+use Rattle.reading.proofs.Lines.{types-same, predicates-same}
+use Rattle.reading.proofs.Kept.{field-is}
 
 -- ---- Before the first line
 
@@ -49,7 +49,8 @@ nothing-held f w small long = record {
   predicates = record { count = refl; few = omega arith; predicate = λ p l. absurd (omega arith) };
   nodes = record { count = refl; few = omega arith; node = λ i l. absurd (omega arith) };
   named = record { mark = λ i l. absurd (omega arith); later = λ i l. refl };
-  query = λ e. let z : _≡_ {A = ℕ} 0 1 = cc in omega arith;
+  queries = refl;
+  turns = omega arith;
 }
 
 -- ---- After the last
@@ -79,9 +80,9 @@ module _ {f : List ℕ} {at : ℕ} {w : List ℕ} {T : Rows} {c : Counters} {pre
   there : WordsAt (counted w c) NAME-COUNT (counts c)
   there = sets-words w NAME-COUNT (counts c) (omega (arith, h .long))
 
-  schema-held : (k : Frame.Kind) (q : Query) → so .previous ≡ some k → SchemaStands (counted w c) T (describe so q .schema)
-  unfolding describe countOf
-  schema-held k q begun =
+  pub schema-held : (k : Frame.Kind) → so .previous ≡ some k → SchemaStands (counted w c) T (describe so .schema)
+  unfolding describe schemaOf countOf
+  schema-held k begun =
       let types : getD (counted w c) TYPE-COUNT 0 ≡ length (so .types) = there .at 1 (omega arith) ∙ h .types .count in
       let e : getD (counted w c) PREDICATE-COUNT 0 ≡ length (so .predicates) = there .at 2 (omega arith) ∙ h .predicates .count in
       let l : LimitsHeld w (some k) (so .maxDistance) (so .maxTermChars) = rw begun at (h .limits) in
@@ -100,31 +101,15 @@ module _ {f : List ℕ} {at : ℕ} {w : List ℕ} {T : Rows} {c : Counters} {pre
         term = kept .above MAX-TERM (omega arith) ∙ l .1;
       }
 
-  pub whole-held : (q : Query) → so .query ≡ some q → Stands f (counted w c) T (describe so q)
-  unfolding describe
-  whole-held q e =
-      let last : QueryHeld f w (so .previous) (some q) = rw e at (h .query) in
-      record {
-        long = rw (kept .long) (omega (arith, h .long));
-        schema = schema-held Frame.query q (last .0);
-        nodes = there .at 3 (omega arith) ∙ h .nodes .count;
-        few = h .nodes .few;
-        node = nodes-same h (over kept (omega arith)) .node;
-        query = query-kept (kept .above QUERY (omega arith)) (last .1);
-      }
+  pub long-held : 16384 ≤ length (counted w c)
+  long-held = rw (kept .long) (h .long)
 
-  -- Every schema type that was read is declared.
-  of-tag : (w : List ℕ) (T : Rows) (k : Kind) (t : ℕ) → getD w (TYPES + 2 * t) 0 % 16 ≡ tagOf k → tree T (declaredW w t) ≡ Tree.node (kindTree k) (T t)
-  unfolding declaredW
-  of-tag w T Fields t e = rw (e, declaredW)
-  of-tag w T Alternatives t e = rw (e, declaredW)
-
-  pub all-declared : Kept so → Declares (counted w c) T
+  -- Every schema type that was read is there by its number, and declared.
+  pub all-declared : Kept so → Declares (counted w c) T (so .types)
   all-declared k =
-      let types : getD (counted w c) TYPE-COUNT 0 ≡ length (so .types) = there .at 1 (omega arith) ∙ h .types .count in
       let held = types-same h (over kept (omega arith)) (over kept (omega arith)) in
       record {
-        cell = λ kind t lt e.
-            let inside : t < length (so .types) = omega arith in
-            subst Declared (held .type t inside ∙ of-tag (counted w c) T kind t e) (all-at Declared (so .types) t Tree.Error (k .types) inside);
+        count = there .at 1 (omega arith) ∙ h .types .count;
+        type = λ t lt. sym (held .type t lt);
+        declared = λ t lt. all-at Declared (so .types) t Tree.Error (k .types) lt;
       }

@@ -8,7 +8,7 @@ use native.Mathlib.Nat.{zero-mul, suc-mul}
 use native.Mathlib.Omega.{arith}
 use lib.ListN.{length}
 use borrow.Author.Tests.{lt-ltb, le-ltb}
-use Rattle.frames.proofs.Readers.{itemsAt}
+use Rattle.frames.specs.Items.{itemsAt}
 use Rattle.frames.specs.Contracts.{halfW}
 use Rattle.reading.specs.Marks.{Refers, NamesNode, NamesFields, NamesItems}
 use Rattle.reading.proofs.Marking.{refers-none, refers-name, refers-then, refers-stop}

@@ -21,34 +21,19 @@ use Rattle.meaning.specs.All.{Below}
 use Rattle.meaning.specs.Frame as Frame
 use Rattle.meaning.specs.Frame.{TypeShape, mayStand, theLimits, aName, aType, aPredicate, aNode, theQuery, frameOf}
 use Rattle.meaning.specs.SoFar.{SoFar, tyOf, add}
-use Rattle.meaning.specs.Conditions.{sameText, given}
+use Rattle.meaning.specs.Conditions.{anyOf, among, sameText, given}
 use Rattle.meaning.specs.File.{valueText}
-use Rattle.meaning.proofs.Kept.{nothing-after}
-use Rattle.reading.specs.declared.Counters.{Counters}
+use Rattle.work.specs.declared.Counters.{Counters}
 use Rattle.reading.specs.Marks.{Marks}
-use Rattle.reading.specs.Contracts.{withName, withType, withPredicate, withNode}
-use Rattle.reading.specs.Held.{LimitsHeld, TypesHeld, PredicatesHeld, NodesHeld, Marked, QueryHeld, Held}
+use Rattle.reading.specs.Contracts.{withName, withType, withPredicate, withNode, withQuery}
+use Rattle.reading.specs.Held.{LimitsHeld, TypesHeld, PredicatesHeld, NodesHeld, Marked, Held}
 use Rattle.reading.proofs.Regions.{Same, same-part, under, over, same-trans, keeps-sets, WordsAt, words-kept, sets-words}
 use Rattle.reading.proofs.Kept.{limits-kept, names-kept, marked-kept, marked-more, nodes-kept, types-kept, predicates-kept}
-use Rattle.reading.proofs.Added.{name-added, valueWord, predicate-added, node-added, query-added}
+use Rattle.reading.proofs.Added.{name-added, valueWord, predicate-added, node-added}
 use Rattle.reading.proofs.Shapes.{shapeWords, shapeHead, shapeSecond, shapeRow, withRow, older-row, new-row, shape-added}
-
--- ---- The query comes last
-
-no-query : (f w : List ℕ) (p : Option Frame.Kind) (q : Option Query) (k : Frame.Kind) → mayStand p k ≡ true → QueryHeld f w p q → q ≡ none
-unfolding mayStand
-no-query f w p none k s h = refl
-no-query f w p (some q) k s h = absurd (nothing-after k (rw (h .0) at s))
-
-not-query : (f w : List ℕ) (q : Option Query) (k : Frame.Kind) → q ≡ none → (some k ≡ some Frame.query → ⊥) → QueryHeld f w (some k) q
-not-query f w none k e n = n
-not-query f w (some q) k e n = let z : _≡_ {A = ℕ} 0 1 = cc in absurd (omega arith)
 
 module _ {f : List ℕ} {at : ℕ} {w : List ℕ} {T : Rows} {c : Counters} {previous : ℕ} {so : SoFar} (h : Held f at w T c previous so) where
   -- ---- What is held of the kinds that a line is not of
-  other-query : (w′ : List ℕ) (k : Frame.Kind) → mayStand (so .previous) k ≡ true → (some k ≡ some Frame.query → ⊥) → QueryHeld f w′ (some k) (so .query)
-  other-query w′ k stands n = not-query f w′ (so .query) k (no-query f w (so .previous) (so .query) k stands (h .query)) n
-
   module _ {w′ : List ℕ} where
     pub types-same : Same TYPES PREDICATES w w′ → Same FIELDS (FIELDS + c .fields) w w′ → TypesHeld w′ T (c .types) (c .fields) (so .types)
     types-same s p = types-kept (length (so .types)) (c .fields) w w′ T T (same-part s (omega arith) (omega (arith, h .types .few))) p (λ t l. refl) (h .types .few) (c .types) (so .types) refl (h .types)
@@ -89,7 +74,8 @@ module _ {f : List ℕ} {at : ℕ} {w : List ℕ} {T : Rows} {c : Counters} {pre
           predicates = predicates-same (over k (omega arith)) (over k (omega arith)) (over k (omega arith));
           nodes = nodes-same (over k (omega arith));
           named = named-same (over k (omega arith));
-          query = other-query _ Frame.limits stands (λ e. let z : _≡_ {A = ℕ} 0 1 = cc in omega arith);
+          queries = h .queries;
+          turns = h .turns;
         }
 
     -- ---- A name
@@ -111,7 +97,8 @@ module _ {f : List ℕ} {at : ℕ} {w : List ℕ} {T : Rows} {c : Counters} {pre
           predicates = predicates-same (over k (omega arith)) (over k (omega arith)) (over k (omega arith));
           nodes = nodes-same (over k (omega arith));
           named = named-same (over k (omega arith));
-          query = other-query _ Frame.name stands (λ e. let z : _≡_ {A = ℕ} 0 1 = cc in omega arith);
+          queries = h .queries;
+          turns = h .turns;
         }
 
     -- ---- A type
@@ -133,7 +120,8 @@ module _ {f : List ℕ} {at : ℕ} {w : List ℕ} {T : Rows} {c : Counters} {pre
           predicates-kept n (c .fields) w w′ T T′ types-there parts-there (older-row T n (shapeRow (so .types) s)) (h .types .few) (length (so .types ++ tyOf (so .types) s ∷ [])) (c .predicates) (so .predicates) (omega (arith, length-append (so .types) (tyOf (so .types) s ∷ []))) (same-trans (under parts (omega (arith, h .predicates .few))) (over head-second (omega (arith, h .types .count)))) (h .predicates);
       nodes = nodes-same (same-trans (under parts (omega arith)) (over head-second (omega (arith, h .types .count))));
       named = named-same (same-trans (under parts (omega arith)) (over head-second (omega (arith, h .types .count))));
-      query = other-query _ Frame.schemaType stands (λ e. let z : _≡_ {A = ℕ} 0 1 = cc in omega arith);
+      queries = h .queries;
+      turns = h .turns;
     }
       where
         n : ℕ
@@ -206,7 +194,8 @@ module _ {f : List ℕ} {at : ℕ} {w : List ℕ} {T : Rows} {c : Counters} {pre
               predicate-added t name key value (predicates-same (under k (omega arith)) (over k (omega arith)) (under k (omega (arith, h .predicates .count)))) room (getD-set-same w (PREDICATES + c .predicates) x 0 (omega (arith, h .long, h .predicates .count))) kt vt;
           nodes = nodes-same (over k (omega arith));
           named = named-same (over k (omega arith));
-          query = other-query _ Frame.predicate stands (λ e. let z : _≡_ {A = ℕ} 0 1 = cc in omega arith);
+          queries = h .queries;
+          turns = h .turns;
         }
 
     -- ---- A node and the query, whose line has size bytes; v are the words after the nodes that it names were marked.
@@ -233,28 +222,28 @@ module _ {f : List ℕ} {at : ℕ} {w : List ℕ} {T : Rows} {c : Counters} {pre
             predicates = predicates-same (under k (omega arith)) (over k (omega arith)) (under k (omega (arith, h .predicates .few)));
             nodes = node-added at size 0x05 content line sized small {w = v} nd (nodes-kept (λ i l. marks .half i) (h .nodes)) long room refl frame;
             named = rw (length-append (so .nodes) (nd ∷ [])) (marked-more (under set-here (omega (arith, h .nodes .count))) (rw (← h .nodes .count, here) (omega arith)) marked);
-            query = other-query _ Frame.node stands (λ e. let z : _≡_ {A = ℕ} 0 1 = cc in omega arith);
+            queries = h .queries;
+            turns = h .turns;
           }
 
-      pub query-held : (q : Query) (j : Frame.Kind) → so .previous ≡ some j
-          → lineAt f at ≡ some (0x06 ∷ content) → size ≡ length (0x06 ∷ content) → frameOf Frame.query content ≡ some (theQuery q) → Marked v (length (so .nodes)) (so .named ++ queryNodes q)
-          → Held f next (set v QUERY (at * 1024 + size)) T c 5 (add so (theQuery q))
-      unfolding add Frame.kindByte
-      query-held q j begun line sized frame marked =
-          let x = at * 1024 + size in
-          let k : Keeps QUERY 8 v (set v QUERY x) = keeps-set v QUERY x (omega arith) (omega arith) in
-          let long : 16384 ≤ length v = rw (marks .keeps .long) (h .long) in
+      pub query-held : (q : Query) (j : Frame.Kind) → so .previous ≡ some j → length (so .queries) < 64
+          → Held f next v T (withQuery c) 5 (add so (theQuery q))
+      unfolding add Frame.kindByte among anyOf
+      query-held q j begun turn =
+          let k = marks .keeps in
+          let more = length-append (so .queries) (record { nodes = so .nodes; query = q } ∷ []) in
           record {
-            long = rw (k .long) long;
+            long = long-same k;
             place = within;
             small = h .small;
             kind = refl;
             room = omega (arith, h .room);
-            limits = limits-same (same-trans (under (marks .keeps) (omega arith)) (under k (omega arith))) Frame.query j begun;
-            names = names-kept (same-trans (under (marks .keeps) (omega arith)) (over k (omega arith))) (h .names);
-            types = types-same (same-trans (under (marks .keeps) (omega arith)) (over k (omega arith))) (same-trans (over (marks .keeps) (omega arith)) (over k (omega arith)));
-            predicates = predicates-same (same-trans (under (marks .keeps) (omega arith)) (over k (omega arith))) (same-trans (over (marks .keeps) (omega arith)) (over k (omega arith))) (same-trans (under (marks .keeps) (omega (arith, h .predicates .few))) (over k (omega arith)));
-            nodes = nodes-kept (λ i l. ap (λ y. y / 2) (k .above (NODES + i) (omega arith)) ∙ marks .half i) (h .nodes);
-            named = marked-kept (h .nodes .few) (over k (omega arith)) marked;
-            query = (refl, query-added at size 0x06 content line sized small v q long refl frame);
+            limits = limits-same (under k (omega arith)) Frame.query j begun;
+            names = names-kept (under k (omega arith)) (h .names);
+            types = types-same (under k (omega arith)) (over k (omega arith));
+            predicates = predicates-same (under k (omega arith)) (over k (omega arith)) (under k (omega (arith, h .predicates .few)));
+            nodes = record { count = refl; few = omega arith; node = λ i l. absurd (omega arith) };
+            named = record { mark = λ i l. absurd (omega arith); later = λ i l. refl };
+            queries = omega (arith, more, h .queries);
+            turns = omega (arith, more);
           }

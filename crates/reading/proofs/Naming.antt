@@ -23,7 +23,7 @@ use Rattle.meaning.specs.SoFar.{SoFar, add, frames}
 use Rattle.meaning.specs.Conditions.{anyOf, allBelow, again, broken, given, sameText, refersEarlier, refersBadly, conditions, firstOf}
 use Rattle.meaning.specs.File.{valueText}
 use Rattle.reading.specs.declared.Refusal.the-variants as Refusal
-use Rattle.reading.specs.declared.Counters.{Counters}
+use Rattle.work.specs.declared.Counters.{Counters}
 use Rattle.reading.specs.declared.Step.{Step}
 use Rattle.reading.specs.declared.Step.the-variants.{On, Off}
 use Rattle.reading.specs.Held.{Held}
@@ -81,7 +81,7 @@ module _ (f : List ℕ) (at : ℕ) (s w : List ℕ) (c : Counters) where
   unfolding frameKind textsOf kindByte
   name-broken e = record {
     is = λ next T previous so fr h l k.
-        refuses f next w 1 (add so fr) Refusal.BrokenText _ (as-name so fr _ k (first-broken so (aName (drop 1 s)) (k .placed) (k .room) (any-one broken (drop 1 s) true (broken-text (drop 1 s) e))));
+        refuses f next w 1 (add so fr) Refusal.BrokenText _ (as-name so fr _ k (first-broken so (aName (drop 1 s)) (k .placed) (k .room) (k .turn) (any-one broken (drop 1 s) true (broken-text (drop 1 s) e))));
   }
 
   module _ (chars : ℕ) (text : characters (drop 1 s) ≡ some chars) where
@@ -101,7 +101,7 @@ module _ (f : List ℕ) (at : ℕ) (s w : List ℕ) (c : Counters) where
     pub name-given : GivenBefore f w (c .names) at chars (2 * length s) true → Takes f at Frame.name s w c w (Off Refusal.NameGivenBefore)
     unfolding frameKind kindByte
     name-given g = record {
-      is = λ next T previous so fr h l k. refuses f next w 1 (add so fr) Refusal.NameGivenBefore _ (as-name so fr _ k (first-given so (aName (drop 1 s)) (k .placed) (k .room) read (given-is true g h l k)));
+      is = λ next T previous so fr h l k. refuses f next w 1 (add so fr) Refusal.NameGivenBefore _ (as-name so fr _ k (first-given so (aName (drop 1 s)) (k .placed) (k .room) (k .turn) read (given-is true g h l k)));
     }
 
     pub name-taken : GivenBefore f w (c .names) at chars (2 * length s) false → Takes f at Frame.name s w c (set w (NAMES + c .names) (at * 512 + chars)) (On (withName c (pick (sameText valueText (drop 1 s)) (c .names + 1) (c .value))))
@@ -112,7 +112,7 @@ module _ (f : List ℕ) (at : ℕ) (s w : List ℕ) (c : Counters) where
           let n = g .is (c .value) (so .names) (drop 1 s) (h .names) (as-line l k) in
           let few = few-characters s chars text (l .some) (l .most) in
           goes-on f next _ 1 (add so fr) _ T _
-          (as-name so fr none k (first-none so (aName (drop 1 s)) (k .placed) (k .room) read (given-is false g h l k) refl refl))
+          (as-name so fr none k (first-none so (aName (drop 1 s)) (k .placed) (k .room) (k .turn) read (given-is false g h l k) refl refl))
           (subst (λ x. Held f next (set w (NAMES + c .names) (at * 512 + chars)) T (withName c (pick (sameText valueText (drop 1 s)) (c .names + 1) (c .value))) 1 (add so x)) (name-frame so s fr k)
           (name-held h next (omega (arith, l .on)) (l .within) (drop 1 s) chars (b .0) (k .placed) (b .1) (names-room so (k .room)) (l .is ∙ ap some (k .first)) text few (sym n)));
     }

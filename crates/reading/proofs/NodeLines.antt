@@ -18,14 +18,14 @@ use Rattle.meaning.specs.SoFar.{SoFar, add, frames}
 use Rattle.meaning.specs.Conditions.{anyOf, allBelow, again, refersEarlier, refersBadly, conditions, firstOf}
 use Rattle.frames.specs.Contracts.{halfW}
 use Rattle.reading.specs.declared.Refusal.the-variants as Refusal
-use Rattle.reading.specs.declared.Counters.{Counters}
+use Rattle.work.specs.declared.Counters.{Counters}
 use Rattle.reading.specs.declared.Step.the-variants.{On, Off}
 use Rattle.reading.specs.Held.{Marked, Held}
 use Rattle.reading.specs.Marks.{Refers, NamesNode, NamesStatements, NamesAll}
-use Rattle.reading.specs.Contracts.{withNode, TakesThere}
+use Rattle.reading.specs.Contracts.{withNode, withQuery, TakesThere}
 use Rattle.reading.proofs.Lines.{node-held, query-held}
 use Rattle.reading.proofs.Order.{first-bad, first-none}
-use Rattle.reading.proofs.Stepping.{refuses, goes-on, begun, nodes-room}
+use Rattle.reading.proofs.Stepping.{refuses, goes-on, begun, nodes-room, queries-room}
 use Rattle.reading.proofs.Typing.{one-made, whole-made}
 use Rattle.reading.proofs.Marking.{refers-then, refers-stop}
 use Rattle.reading.proofs.Refs.{HeadIs, head-is}
@@ -68,7 +68,7 @@ module _ (at : ℕ) (s w : List ℕ) (c : Counters) (v : List ℕ) where
       is = λ next T previous so fr h l k.
           let n = node-frame s fr (k .is) in
           let r = a .is (n .0) (k .is ∙ ap some (n .1)) in
-          refuses f next v 4 (add so fr) Refusal.BadReference _ (subst (λ y. firstOf conditions so (frames y) ≡ some Refused.badReference) (sym (n .1)) (first-bad so (aNode (n .0)) (k .placed) (k .room) refl refl (node-refers so (n .0) ∙ ap not (sym (answered h r)))));
+          refuses f next v 4 (add so fr) Refusal.BadReference _ (subst (λ y. firstOf conditions so (frames y) ≡ some Refused.badReference) (sym (n .1)) (first-bad so (aNode (n .0)) (k .placed) (k .room) (k .turn) refl refl (node-refers so (n .0) ∙ ap not (sym (answered h r)))));
     };
   }
 
@@ -83,7 +83,7 @@ module _ (at : ℕ) (s w : List ℕ) (c : Counters) (v : List ℕ) where
           let b = begun (so .previous) Frame.node (k .placed) refl in
           rw (e, n .1)
           (goes-on f next (set v (NODES + c .nodes) ((at * 1024 + length s) * 2)) 4 (add so (aNode (n .0))) (withNode c) T _
-          (first-none so (aNode (n .0)) (k .placed) (k .room) refl refl (node-refers so (n .0) ∙ ap not (sym (answered h r))) refl)
+          (first-none so (aNode (n .0)) (k .placed) (k .room) (k .turn) refl refl (node-refers so (n .0) ∙ ap not (sym (answered h r))) refl)
           (node-held h next (omega (arith, l .on)) (l .within) (length s) (drop 1 s) (l .most) v (r .marks refl) (n .0) (b .0) (k .placed) (b .1) (nodes-room so (k .room)) (l .is ∙ ap some (k .first)) (ap length (k .first)) is (marked-after h r refl)));
     };
   }
@@ -114,7 +114,7 @@ module _ (at : ℕ) (s w : List ℕ) (c : Counters) where
       is = λ next T previous so fr h l k.
           let n = query-frame s fr (l .some) (k .is) in
           let r = a (n .0) (n .2) in
-          refuses f next v 5 (add so fr) Refusal.BadReference _ (subst (λ y. firstOf conditions so (frames y) ≡ some Refused.badReference) (sym (n .1)) (first-bad so (theQuery (n .0)) (k .placed) (k .room) refl refl (query-refers so (n .0) ∙ ap not (sym (answered h r)))));
+          refuses f next v 5 (add so fr) Refusal.BadReference _ (subst (λ y. firstOf conditions so (frames y) ≡ some Refused.badReference) (sym (n .1)) (first-bad so (theQuery (n .0)) (k .placed) (k .room) (k .turn) refl refl (query-refers so (n .0) ∙ ap not (sym (answered h r)))));
     };
   }
 
@@ -124,17 +124,17 @@ module _ (at : ℕ) (s w : List ℕ) (c : Counters) where
   pub query-no-body : (v u : List ℕ) → NamesNode w (halfW s 1) (c .nodes) v true → NamesStatements s v 3 (c .nodes) u false → TakesThere at Frame.query s w c u (Off Refusal.BadReference)
   query-no-body v u n m = query-bad u (with-head v u false n m)
 
-  pub query-takes : (v u : List ℕ) → NamesNode w (halfW s 1) (c .nodes) v true → NamesStatements s v 3 (c .nodes) u true → (w′ : List ℕ) → w′ ≡ set u QUERY (at * 1024 + length s) → TakesThere at Frame.query s w c w′ (On c)
+  pub query-takes : (v u : List ℕ) → NamesNode w (halfW s 1) (c .nodes) v true → NamesStatements s v 3 (c .nodes) u true → TakesThere at Frame.query s w c u (On (withQuery c))
   unfolding frameKind textsOf anyOf kindByte keysOf again mayStand
-  query-takes v u n m w′ e = record {
+  query-takes v u n m = record {
     is = λ f. record {
       is = λ next T previous so fr h l k.
           let x = query-frame s fr (l .some) (k .is) in
           let r = with-head v u true n m (x .0) (x .2) in
           let b = begun (so .previous) Frame.query (k .placed) refl in
-          rw (e, x .1)
-          (goes-on f next (set u QUERY (at * 1024 + length s)) 5 (add so (theQuery (x .0))) c T _
-          (first-none so (theQuery (x .0)) (k .placed) (k .room) refl refl (query-refers so (x .0) ∙ ap not (sym (answered h r))) refl)
-          (query-held h next (omega (arith, l .on)) (l .within) (length s) (drop 1 s) (l .most) u (r .marks refl) (x .0) (b .0) (b .1) (l .is ∙ ap some (k .first)) (ap length (k .first)) (k .is ∙ ap some (x .1)) (marked-after h r refl)));
+          rw (x .1)
+          (goes-on f next u 5 (add so (theQuery (x .0))) (withQuery c) T _
+          (first-none so (theQuery (x .0)) (k .placed) (k .room) (k .turn) refl refl (query-refers so (x .0) ∙ ap not (sym (answered h r))) refl)
+          (query-held h next (omega (arith, l .on)) (l .within) (length s) (drop 1 s) (l .most) u (r .marks refl) (x .0) (b .0) (b .1) (queries-room so (k .turn))));
     };
   }

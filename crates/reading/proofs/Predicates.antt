@@ -24,7 +24,7 @@ use Rattle.frames.specs.Contracts.{byteW, halfW, valueType}
 use Rattle.frames.proofs.Readers.{sized-one, sized-two}
 use Rattle.frames.proofs.Statements.{choice-at}
 use Rattle.reading.specs.declared.Refusal.the-variants as Refusal
-use Rattle.reading.specs.declared.Counters.{Counters}
+use Rattle.work.specs.declared.Counters.{Counters}
 use Rattle.reading.specs.declared.Step.{Step}
 use Rattle.reading.specs.declared.Step.the-variants.{Off}
 use Rattle.reading.specs.Held.{Held}
@@ -104,7 +104,7 @@ module _ (s w : List ℕ) (c : Counters) (long : 6 ≤ length s) where
     is = λ f at. record {
       is = λ next T previous so fr h l k.
           let x = value-at so s fr long k in
-          refuses f next w 3 (add so fr) Refusal.BadReference _ (subst (λ y. firstOf conditions so (frames y) ≡ some Refused.badReference) (sym (x .1)) (first-bad so (aPredicate (halfW s 1) (halfW s 3) (x .0)) (k .placed) (k .room) refl refl (refers h (x .0) false (e (x .0) (x .2)))));
+          refuses f next w 3 (add so fr) Refusal.BadReference _ (subst (λ y. firstOf conditions so (frames y) ≡ some Refused.badReference) (sym (x .1)) (first-bad so (aPredicate (halfW s 1) (halfW s 3) (x .0)) (k .placed) (k .room) (k .turn) refl refl (refers h (x .0) false (e (x .0) (x .2)))));
     };
   }
 
@@ -121,7 +121,7 @@ module _ (s w : List ℕ) (c : Counters) (long : 6 ≤ length s) where
           let value = below-all (c .types) (optional v) (both-right (ltb (halfW s 3) (c .types)) (allBelow (c .types) (optional v)) types) in
           rw (a .step, a .words, z, same)
           (goes-on f next (set w (PREDICATES + c .predicates) (halfW s 1 * 131072 + halfW s 3 * 512 + valueWord v)) 3 (add so (aPredicate (halfW s 1) (halfW s 3) v)) (withPredicate c) T _
-          (first-none so (aPredicate (halfW s 1) (halfW s 3) v) (k .placed) (k .room) refl refl (refers h v true e) refl)
+          (first-none so (aPredicate (halfW s 1) (halfW s 3) v) (k .placed) (k .room) (k .turn) refl refl (refers h v true e) refl)
           (predicate-held h next (omega (arith, l .on)) (l .within) (halfW s 1) (halfW s 3) v (b .0) (k .placed) (b .1) (predicates-room so (k .room)) (omega (arith, h .types .count)) (subst (λ n. Below n (optional v)) (h .types .count) value)));
     };
   }

@@ -14,8 +14,9 @@ use Rattle.meaning.specs.Frame as Frame
 use Rattle.meaning.specs.Frame.{Frame, aNode, got, fails, Reader, andThen, nothing, one, pair, triple, two, many, field, headAndBody, entry, exprKinds, spanAndKind, frame, frameOf}
 use Rattle.meaning.specs.References.{fieldNames, fieldValues, stmtNodes, queryNodes, exprNames, exprNodes}
 use Rattle.frames.specs.Contracts.{byteW, halfW, fullW, exprKind, statement}
-use Rattle.frames.proofs.Readers.{Sized, sized-one, sized-pair, sized-two, sized-four, sized-byte, itemsAt, fieldAt, fields-are, numbers-are}
-use Rattle.frames.proofs.Statements.{choice-at, Fill, statements-are}
+use Rattle.frames.specs.Items.{itemsAt, fieldAt, Fill}
+use Rattle.frames.proofs.Readers.{Sized, sized-one, sized-pair, sized-two, sized-four, sized-byte, fields-are, numbers-are}
+use Rattle.frames.proofs.Statements.{choice-at, statements-are}
 use Rattle.reading.proofs.Typing.{one-made, whole-made, sized-got, map-items, past-end}
 
 -- The names and the nodes that a kind refers to are these.

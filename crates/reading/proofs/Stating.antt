@@ -8,7 +8,7 @@ use lib.ListN.{length}
 use Rattle.meaning.specs.Syntax.{QueryStmt}
 use Rattle.meaning.specs.References.{stmtNodes}
 use Rattle.frames.specs.Contracts.{byteW, halfW, sizeW}
-use Rattle.frames.proofs.Statements.{statementOf, statementAt, Fill, end, then}
+use Rattle.frames.specs.Items.{statementOf, statementAt, Fill, end, then}
 use Rattle.reading.specs.Marks.{Refers, NamesNode, NamesStatements}
 use Rattle.reading.proofs.Marking.{refers-none, refers-then, refers-stop}
 

@@ -8,12 +8,12 @@ use lib.ListN.{length}
 use borrow.Author.Tests.{leb-false}
 use Rattle.cells.specs.Stands.{Rows}
 use Rattle.meaning.specs.Refusal as Refused
-use Rattle.meaning.specs.Frame.{Kind, name, schemaType, predicate, node, mayStand}
+use Rattle.meaning.specs.Frame.{Kind, name, schemaType, predicate, node, query, mayStand}
 use Rattle.meaning.specs.SoFar.{SoFar}
-use Rattle.meaning.specs.Conditions.{maxNames, maxTypes, maxPredicates, maxNodes, isFull}
+use Rattle.meaning.specs.Conditions.{maxNames, maxTypes, maxPredicates, maxNodes, maxQueries, isFull, isLastQueryPast}
 use Rattle.meaning.proofs.Tests.{clash}
 use Rattle.reading.specs.declared.Refusal.{Refusal}
-use Rattle.reading.specs.declared.Counters.{Counters}
+use Rattle.work.specs.declared.Counters.{Counters}
 use Rattle.reading.specs.declared.Step.the-variants.{On, Off}
 use Rattle.reading.specs.Held.{Held}
 use Rattle.reading.specs.Contracts.{refusal, Steps}
@@ -46,3 +46,7 @@ module _ (so : SoFar) where
   pub nodes-room : isFull so node ≡ false → length (so .nodes) < 512
   unfolding isFull maxNodes
   nodes-room h = leb-false maxNodes (length (so .nodes)) h
+
+  pub queries-room : isLastQueryPast so query ≡ false → length (so .queries) < 64
+  unfolding isLastQueryPast maxQueries
+  queries-room h = leb-false maxQueries (length (so .queries)) h

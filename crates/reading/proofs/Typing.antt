@@ -24,10 +24,11 @@ use Rattle.meaning.specs.SoFar.{SoFar, add, frames}
 use Rattle.meaning.specs.Conditions.{anyOf, allBelow, again, refersEarlier, refersBadly, conditions, firstOf}
 use Rattle.meaning.proofs.Tests.{cases, below-all}
 use Rattle.frames.specs.Contracts.{byteW, halfW, typeShape}
-use Rattle.frames.proofs.Readers.{Sized, sized-one, sized-two, itemsAt, fieldAt, alternativeAt, Items, fields-are, alternatives-are}
+use Rattle.frames.specs.Items.{itemsAt, fieldAt, alternativeAt}
+use Rattle.frames.proofs.Readers.{Sized, sized-one, sized-two, Items, fields-are, alternatives-are}
 use Rattle.frames.proofs.Statements.{choice-at}
 use Rattle.reading.specs.declared.Refusal.the-variants as Refusal
-use Rattle.reading.specs.declared.Counters.{Counters}
+use Rattle.work.specs.declared.Counters.{Counters}
 use Rattle.reading.specs.declared.Step.{Step}
 use Rattle.reading.specs.declared.Step.the-variants.{On, Off}
 use Rattle.reading.specs.Held.{Held}
@@ -44,11 +45,6 @@ pub map-items : {A B : Type 0} (g : A → B) (v : ℕ → A) (n i k : ℕ) → m
 unfolding itemsAt
 map-items g v n i zero = refl
 map-items g v n i (suc k) = ap (λ l. g (v i) ∷ l) (map-items g v n (i + n) k)
-
-pub items-as : {A : Type 0} (v u : ℕ → A) (n i k : ℕ) → ((j : ℕ) → v j ≡ u j) → itemsAt v n i k ≡ itemsAt u n i k
-unfolding itemsAt
-items-as v u n i zero h = refl
-items-as v u n i (suc k) h = rw (h i, items-as v u n (i + n) k h)
 
 -- What a reader of one size got is what stands there.
 pub sized-got : {A : Type 0} {r : Reader A} {n : ℕ} {v : List ℕ → ℕ → A} → Sized r n v → (s : List ℕ) (i : ℕ) (a : A) (t : List ℕ) → i ≤ length s → r (drop i s) ≡ got a t → a ≡ v s i
@@ -116,22 +112,22 @@ module _ (so : SoFar) (s : List ℕ) (fr : Frame) (long : 2 ≤ length s) (k : C
       (o .0, c .2 ∙ ap aType (o .2), alternatives-are s 2 (o .0) [] long (o .1))
 
 fields-parts : (s : List ℕ) (fs : List Field) → Items (fieldAt s) 4 s 2 fs [] → PartsAre s 4 (aRecord fs)
-unfolding shapeNames shapeTypes shapeKeys fieldNames fieldValues keyW
+unfolding shapeNames shapeTypes shapeKeys fieldNames fieldValues typeW keyW
 fields-parts s fs h = record {
   count = length fs;
   fit = h .fit;
   names = ap (map (λ f. f .name)) (h .are) ∙ map-items (λ f. f .name) (fieldAt s) 4 2 (length fs);
-  types = ap (map (λ f. f .value)) (h .are) ∙ map-items (λ f. f .value) (fieldAt s) 4 2 (length fs) ∙ items-as (λ j. halfW s (j + 2)) (typeW s 4) 4 2 (length fs) (λ j. let z : j + 2 ≡ j + 4 - 2 = omega arith in ap (halfW s) z);
+  types = ap (map (λ f. f .value)) (h .are) ∙ map-items (λ f. f .value) (fieldAt s) 4 2 (length fs);
   keys = ap (map (λ f. f .name)) (h .are) ∙ map-items (λ f. f .name) (fieldAt s) 4 2 (length fs);
 }
 
 alternatives-parts : (s : List ℕ) (alts : List Alternative) → Items (alternativeAt s) 8 s 2 alts [] → PartsAre s 8 (aUnion alts)
-unfolding shapeNames shapeTypes shapeKeys keyW
+unfolding shapeNames shapeTypes shapeKeys typeW keyW
 alternatives-parts s alts h = record {
   count = length alts;
   fit = h .fit;
   names = ap (map (λ a. a .name)) (h .are) ∙ map-items (λ a. a .name) (alternativeAt s) 8 2 (length alts);
-  types = ap (map (λ a. a .type)) (h .are) ∙ map-items (λ a. a .type) (alternativeAt s) 8 2 (length alts) ∙ items-as (λ j. halfW s (j + 6)) (typeW s 8) 8 2 (length alts) (λ j. let z : j + 6 ≡ j + 8 - 2 = omega arith in ap (halfW s) z);
+  types = ap (map (λ a. a .type)) (h .are) ∙ map-items (λ a. a .type) (alternativeAt s) 8 2 (length alts);
   keys = ap (map (λ a. a .discriminant)) (h .are) ∙ map-items (λ a. a .discriminant) (alternativeAt s) 8 2 (length alts);
 }
 
@@ -163,7 +159,7 @@ module _ {f : List ℕ} {at next : ℕ} {s w : List ℕ} {T : Rows} {c : Counter
       let b = begun (so .previous) Frame.schemaType (k .placed) refl in
       let there : allBelow (length (so .types)) (shapeTypes t) ≡ true = both-right (allBelow (length (so .names)) (shapeNames t)) (allBelow (length (so .types)) (shapeTypes t)) (not-false _ (sym (type-refers so t) ∙ r)) in
       goes-on f next w′ 2 (add so fr) (withType c (length (shapeWords t))) (withRow T (length (so .types)) (shapeRow (so .types) t)) _
-      (as-type none (first-none so (aType t) (k .placed) (k .room) refl refl r q))
+      (as-type none (first-none so (aType t) (k .placed) (k .room) (k .turn) refl refl r q))
       (rw (is, e) (type-held h next (omega (arith, l .on)) (l .within) t (b .0) (k .placed) (b .1) (types-room so (k .room)) (below-all (length (so .types)) (shapeTypes t) there) fits))
 
   module _ (size : ℕ) (p : PartsAre s size t) where
@@ -181,11 +177,11 @@ module _ {f : List ℕ} {at next : ℕ} {s w : List ℕ} {T : Rows} {c : Counter
 
     type-bad : PartsEarlier s size (c .names) (c .types) false → Steps f next w 2 (add so fr) (Off Refusal.BadReference) (firstOf conditions so (frames fr))
     unfolding frameKind textsOf anyOf
-    type-bad e = refuses f next w 2 (add so fr) Refusal.BadReference _ (as-type _ (first-bad so (aType t) (k .placed) (k .room) refl refl (earlier-is false e)))
+    type-bad e = refuses f next w 2 (add so fr) Refusal.BadReference _ (as-type _ (first-bad so (aType t) (k .placed) (k .room) (k .turn) refl refl (earlier-is false e)))
 
     type-repeats : PartsEarlier s size (c .names) (c .types) true → KeysDistinct s size false → Steps f next w 2 (add so fr) (Off Refusal.RepeatedKey) (firstOf conditions so (frames fr))
     unfolding frameKind textsOf anyOf keysOf
-    type-repeats e d = refuses f next w 2 (add so fr) Refusal.RepeatedKey _ (as-type _ (first-repeated so (aType t) (k .placed) (k .room) refl refl (earlier-is true e) (keys-are false d)))
+    type-repeats e d = refuses f next w 2 (add so fr) Refusal.RepeatedKey _ (as-type _ (first-repeated so (aType t) (k .placed) (k .room) (k .turn) refl refl (earlier-is true e) (keys-are false d)))
 
 -- ---- The ends of a type line
 

@@ -8,14 +8,14 @@ use native.Mathlib.Nat.{zero-mul, suc-mul}
 use native.Mathlib.Numerals.{add-one}
 use native.Mathlib.Omega.{arith}
 use lib.Dec.{eqb, ltb}
-use lib.ListN.{length, set}
-use lib.Seq.{sets}
-use borrow.Author.Tests.{eq-eqb, ne-eqb, lt-ltb, le-ltb}
+use lib.ListN.{length, getD, set, replicate, length-set, length-replicate}
+use lib.Seq.{sets, getD-set-same, getD-set-other}
+use borrow.Author.Tests.{eqb-true, eqb-false, eq-eqb, ne-eqb, lt-ltb, le-ltb}
 use Rattle.text.specs.Utf8.{both}
 use Rattle.meaning.specs.Conditions.{anyOf, allBelow, among, again}
 use Rattle.meaning.proofs.Tests.{cases}
 use Rattle.frames.specs.Contracts.{halfW, fullW}
-use Rattle.frames.proofs.Readers.{itemsAt, fieldAt, alternativeAt}
+use Rattle.frames.specs.Items.{itemsAt, fieldAt, alternativeAt}
 use Rattle.reading.specs.Parts.{fieldWord, alternativeWords, typeW, keyW, KeyBefore, KeysDistinct}
 
 pub record Walking {B : Type 0} (goal g : ℕ → B) (size end i : ℕ) : Type 0 where
@@ -140,6 +140,54 @@ module _ {s : List ℕ} {size i : ℕ} (t : Telling s size i) (here : i < length
 pub tell-end : {s : List ℕ} {size i : ℕ} → Telling s size i → length s ≤ i → 0 < size → KeysDistinct s size true
 unfolding itemsAt again
 tell-end t l z = record { is = λ k q. sym (walk-end (t .walk) l z k q) }
+
+-- ---- Names marked where they stand first
+
+pub record Seen (s : List ℕ) (i : ℕ) (seen : List ℕ) : Type 0 where
+  pub long : length seen ≡ 256
+  pub is : (n : ℕ) → 2 + n * 4 ≡ i → (x : ℕ) → x < 256 → eqb (getD seen x 0) 1 ≡ among x (keys s 4 2 n)
+
+pub seen-start : (s : List ℕ) → Seen s 2 (replicate 256 0)
+unfolding itemsAt among anyOf
+seen-start s = record { long = length-replicate {A = ℕ} 256 0; is = go }
+  where
+    none : (n x : ℕ) → eqb (getD (replicate n 0) x 0) 1 ≡ false
+    none zero x = refl
+    none (suc n) zero = refl
+    none (suc n) (suc x) = none n x
+
+    go : (n : ℕ) → 2 + n * 4 ≡ 2 → (x : ℕ) → x < 256 → eqb (getD (replicate 256 0) x 0) 1 ≡ among x (keys s 4 2 n)
+    go zero e x h = none 256 x
+    go (suc n) e x h = absurd (omega (arith, suc-mul n 4))
+
+module _ {s : List ℕ} {i : ℕ} {seen : List ℕ} (m : Seen s i seen) {x : ℕ} (e : x ≡ halfW s i) (h : x < 256) where
+  before : KeyBefore s 4 i (eqb (getD seen x 0) 1)
+  unfolding keyW
+  before = record { is = λ n q. m .is n q x h ∙ ap (λ k. among k (keys s 4 2 n)) e }
+
+  pub seen-repeats : Telling s 4 i → i < length s → getD seen x 0 ≡ 1 → KeysDistinct s 4 false
+  seen-repeats t here q = tell-repeats t here before (eq-eqb _ 1 q)
+
+  pub seen-tells : Telling s 4 i → i < length s → (getD seen x 0 ≡ 1 → ⊥) → Telling s 4 (i + 4)
+  seen-tells t here q = tell-next t here before (ne-eqb _ 1 q)
+
+  last-key : (n y : ℕ) → 2 + n * 4 ≡ i → among y (keys s 4 2 (suc n)) ≡ among y (x ∷ keys s 4 2 n)
+  unfolding keyW
+  last-key n y q =
+      ap (among y) (items-last (keyW s 4) 4 2 n ∙ ap (λ j. keys s 4 2 n ++ keyW s 4 j ∷ []) q ∙ ap (λ k. keys s 4 2 n ++ k ∷ []) (sym e))
+      ∙ sym (among-last y x (keys s 4 2 n))
+
+  pub seen-next : Seen s (i + 4) (set seen x 1)
+  unfolding among anyOf
+  seen-next = record { long = simp length-set (m .long); is = go }
+    where
+      go : (n : ℕ) → 2 + n * 4 ≡ i + 4 → (y : ℕ) → y < 256 → eqb (getD (set seen x 1) y 0) 1 ≡ among y (keys s 4 2 n)
+      go zero q y l = absurd (omega (arith, zero-mul 4))
+      go (suc n) q y l =
+          let at : 2 + n * 4 ≡ i = omega (arith, suc-mul n 4) in
+          cases (eqb y x)
+          (λ t. ap (λ b. eqb b 1) (ap (λ j. getD (set seen x 1) j 0) (eqb-true y x t) ∙ getD-set-same seen x 1 0 (omega (arith, m .long))) ∙ sym (last-key n y at ∙ rw (t, anyOf)))
+          (λ f. ap (λ b. eqb b 1) (getD-set-other seen x y 1 0 (eqb-false y x f)) ∙ (m .is n at y l ∙ sym (last-key n y at ∙ rw (f, anyOf))))
 
 -- ---- Words
 

@@ -7,32 +7,29 @@ use Prim.Native.Nat.{ℕ, _+_, _*_, _/_, _%_, _<_, _≤_}
 use lib.Dec.{leb, ltb}
 use lib.ListN.{length, getD, drop, set, replicate}
 use lib.Seq.{sets}
-use Rattle.unification.specs.Ty as Tree
-use Rattle.unification.specs.Calls.{Declared}
-use Rattle.work.specs.Layout.{NAME-COUNT, TYPE-COUNT, NAMES, TYPES, PREDICATES}
+use Rattle.work.specs.Layout.{NAME-COUNT, NAMES, TYPES, PREDICATES}
 use Rattle.meaning.specs.Refusal as Refused
 use Rattle.meaning.specs.Frame as Frame
 use Rattle.meaning.specs.Frame.{mayStand, kindByte, kindOf, frameOf}
 use Rattle.meaning.specs.SoFar.{SoFar, frames, saidBy, add, after}
-use Rattle.meaning.specs.Conditions.{sameText, given, isFull, conditions, firstOf}
-use Rattle.meaning.specs.File.{Reading, refused, described, reading, countOf}
+use Rattle.meaning.specs.Conditions.{sameText, given, isFull, isLastQueryPast, conditions, firstOf}
+use Rattle.meaning.specs.File.{Reading, refused, described, reading, typesOf, countOf}
 use Rattle.meaning.specs.Outcome.{minWords}
 use Rattle.text.specs.Utf8.{characters}
 use Rattle.hex.specs.Digits.{lineAt}
 use Rattle.frames.specs.Contracts.{numberOf}
-use Rattle.cells.specs.declared.Kind.{Kind}
-use Rattle.cells.specs.CodeCalls.{kindTree}
+use Rattle.cells.specs.CodeCalls.{Declares}
 use Rattle.cells.specs.Words.{pick}
-use Rattle.cells.specs.Stands.{Rows, tagOf}
+use Rattle.cells.specs.Stands.{Rows}
 use Rattle.reading.specs.declared.Refusal.{Refusal}
 use Rattle.reading.specs.declared.Refusal.the-variants as Refusal
 use Rattle.reading.specs.declared.Read.{Read}
 use Rattle.reading.specs.declared.Read.the-variants as Read
-use Rattle.reading.specs.declared.Counters.{Counters}
+use Rattle.work.specs.declared.Counters.{Counters}
 use Rattle.reading.specs.declared.Step.{Step}
 use Rattle.reading.specs.declared.Step.the-variants as Step
 use Rattle.reading.specs.Held.{NamesHeld, Held}
-use Rattle.tree.specs.Stands.{Stands}
+use Rattle.tree.specs.Stands.{SchemaStands}
 
 -- Document 01's refusals, as the definitions have them.
 abbrev pub refusal : Refusal → Refused.Refusal
@@ -48,20 +45,25 @@ refusal Refusal.BadReference = Refused.badReference
 refusal Refusal.RepeatedKey = Refused.repeatedKey
 refusal Refusal.TooManyVisits = Refused.tooManyVisits
 refusal Refusal.AnswerTooLong = Refused.answerTooLong
+refusal Refusal.TooManyQueries = Refused.tooManyQueries
 
 -- ---- The counters after a line of each kind
 
 abbrev pub withName : Counters → ℕ → Counters
-withName c value = record { names = c .names + 1; types = c .types; predicates = c .predicates; nodes = c .nodes; fields = c .fields; value = value }
+withName c value = record { names = c .names + 1; types = c .types; predicates = c .predicates; nodes = c .nodes; fields = c .fields; value = value; queries = c .queries }
 
 abbrev pub withType : Counters → ℕ → Counters
-withType c words = record { names = c .names; types = c .types + 1; predicates = c .predicates; nodes = c .nodes; fields = c .fields + words; value = c .value }
+withType c words = record { names = c .names; types = c .types + 1; predicates = c .predicates; nodes = c .nodes; fields = c .fields + words; value = c .value; queries = c .queries }
 
 abbrev pub withPredicate : Counters → Counters
-withPredicate c = record { names = c .names; types = c .types; predicates = c .predicates + 1; nodes = c .nodes; fields = c .fields; value = c .value }
+withPredicate c = record { names = c .names; types = c .types; predicates = c .predicates + 1; nodes = c .nodes; fields = c .fields; value = c .value; queries = c .queries }
 
 abbrev pub withNode : Counters → Counters
-withNode c = record { names = c .names; types = c .types; predicates = c .predicates; nodes = c .nodes + 1; fields = c .fields; value = c .value }
+withNode c = record { names = c .names; types = c .types; predicates = c .predicates; nodes = c .nodes + 1; fields = c .fields; value = c .value; queries = c .queries }
+
+-- The nodes start anew.
+abbrev pub withQuery : Counters → Counters
+withQuery c = record { names = c .names; types = c .types; predicates = c .predicates; nodes = 0; fields = c .fields; value = c .value; queries = c .queries + 1 }
 
 -- ---- One line
 
@@ -77,6 +79,7 @@ pub record Line (f : List ℕ) (at next : ℕ) (s : List ℕ) : Type 0 where
 pub record Comes (so : SoFar) (k : Frame.Kind) (s : List ℕ) (frame : Frame.Frame) : Type 0 where
   pub placed : mayStand (so .previous) k ≡ true
   pub room : isFull so k ≡ false
+  pub turn : isLastQueryPast so k ≡ false
   pub first : s ≡ kindByte k ∷ drop 1 s
   pub is : frameOf k (drop 1 s) ≡ some frame
 
@@ -149,15 +152,16 @@ pub record AddsPredicate (w : List ℕ) (c : Counters) (entry : ℕ) (w′ : Lis
 abbrev pub fullOf : Counters → ℕ → Bool
 fullOf c kind = getD (false ∷ leb 256 (c .names) ∷ leb 256 (c .types) ∷ leb 128 (c .predicates) ∷ leb 512 (c .nodes) ∷ []) kind false
 
+-- Whether one more query is too many, by the counters.
+abbrev pub pastOf : Counters → ℕ → Bool
+pastOf c kind = getD (false ∷ false ∷ false ∷ false ∷ false ∷ leb 64 (c .queries) ∷ []) kind false
+
 -- The line is refused by the first condition that holds of what it says, or that is added to what was read.
 pub record TakesLine (f : List ℕ) (at : ℕ) (s w : List ℕ) (c : Counters) (previous kind : ℕ) (w′ : List ℕ) (r : Step) : Type 0 where
   pub is : (next : ℕ) (T : Rows) (so : SoFar) → Held f at w T c previous so → Line f at next s → kind ≡ numberOf (kindOf (getD s 0 0))
       → Steps f next w′ kind (after so (saidBy (some s))) r (firstOf conditions so (saidBy (some s)))
 
 -- ---- All lines
-
-abbrev pub noCounters : Counters
-noCounters = record { names = 0; types = 0; predicates = 0; nodes = 0; fields = 0; value = 0 }
 
 -- The counts in the order of their words, and the words with these written.
 abbrev pub counts : Counters → List ℕ
@@ -166,14 +170,11 @@ counts c = c .names ∷ c .types ∷ c .predicates ∷ c .nodes ∷ c .value ∷
 abbrev pub counted : List ℕ → Counters → List ℕ
 counted w c = sets w NAME-COUNT (counts c)
 
--- Every schema type that was read, named by a predicate or not, is one that a file past 1 to 10 can declare.
-pub record Declares (w : List ℕ) (T : Rows) : Type 0 where
-  pub cell : (k : Kind) (c : ℕ) → c < getD w TYPE-COUNT 0 → getD w (TYPES + 2 * c) 0 % 16 ≡ tagOf k → Declared (Tree.node (kindTree k) (T c))
-
--- Refused exactly as the definition says, or what the definition describes stands in the slice.
+-- Refused exactly as the definition says, or the schema that the definition describes stands in the slice, and every type of the file by
+-- its number.
 unfoldable pub Ends : List ℕ → List ℕ → Read → Reading → Type 0
 Ends f w′ r (refused e) = (e′ : Refusal) × (r ≡ Read.Refused e′) × (refusal e′ ≡ e)
-Ends f w′ r (described d) = (r ≡ Read.Accepted) × ((T : Rows) × Stands f w′ T d × Declares w′ T)
+Ends f w′ r (described d) = (r ≡ Read.Accepted) × (16384 ≤ length w′) × ((T : Rows) × SchemaStands w′ T (d .schema) × Declares w′ T (typesOf f))
 
 pub record TakesLines (f w w′ : List ℕ) (r : Read) : Type 0 where
   pub ends : Ends f w′ r (reading f)

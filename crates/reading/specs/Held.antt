@@ -12,7 +12,7 @@ use Rattle.cells.specs.declared.Kind.{Kind}
 use Rattle.cells.specs.declared.Kind.the-variants.{Fields, Alternatives}
 use Rattle.cells.specs.Words.{declaredW, countW, firstW}
 use Rattle.cells.specs.Stands.{Rows, tree, tagOf, rowW, partWords}
-use Rattle.meaning.specs.Syntax.{Node, Query, nodeAt}
+use Rattle.meaning.specs.Syntax.{Node, nodeAt}
 use Rattle.meaning.specs.Schema.{Predicate}
 use Rattle.meaning.specs.Frame as Frame
 use Rattle.meaning.specs.Lines.{position}
@@ -22,8 +22,8 @@ use Rattle.meaning.specs.File.{valueText, countOf}
 use Rattle.text.specs.Utf8.{characters}
 use Rattle.hex.specs.Digits.{lineAt}
 use Rattle.frames.specs.Contracts.{numberOf}
-use Rattle.tree.specs.Stands.{NodeIs, QueryIs, PredicateIs, noPredicate, numbered}
-use Rattle.reading.specs.declared.Counters.{Counters}
+use Rattle.tree.specs.Stands.{NodeIs, PredicateIs, noPredicate, numbered}
+use Rattle.work.specs.declared.Counters.{Counters}
 
 -- ---- Limits
 
@@ -93,11 +93,6 @@ pub record Marked (w : List ℕ) (m : ℕ) (named : List ℕ) : Type 0 where
   pub mark : (i : ℕ) → i < m → getD w (NODES + i) 0 % 2 ≡ flag (among i named)
   pub later : (i : ℕ) → m ≤ i → among i named ≡ false
 
--- ---- The query is the last line.
-abbrev pub QueryHeld : List ℕ → List ℕ → Option Frame.Kind → Option Query → Type 0
-QueryHeld f w previous none = previous ≡ some Frame.query → ⊥
-QueryHeld f w previous (some q) = (previous ≡ some Frame.query) × QueryIs f w q
-
 -- ---- The whole
 pub record Held (f : List ℕ) (at : ℕ) (w : List ℕ) (T : Rows) (c : Counters) (previous : ℕ) (so : SoFar) : Type 0 where
   pub long : 16384 ≤ length w
@@ -112,4 +107,5 @@ pub record Held (f : List ℕ) (at : ℕ) (w : List ℕ) (T : Rows) (c : Counter
   pub predicates : PredicatesHeld w T (length (so .types)) (c .predicates) (so .predicates)
   pub nodes : NodesHeld f w (c .nodes) (so .nodes)
   pub named : Marked w (length (so .nodes)) (so .named)
-  pub query : QueryHeld f w (so .previous) (so .query)
+  pub queries : c .queries ≡ length (so .queries)
+  pub turns : length (so .queries) ≤ 64

@@ -14,8 +14,7 @@ use Rattle.meaning.specs.Frame.{frameOf}
 use Rattle.meaning.specs.References.{stmtNodes, exprNames, exprNodes}
 use Rattle.meaning.specs.Conditions.{allBelow, again}
 use Rattle.frames.specs.Contracts.{halfW}
-use Rattle.frames.proofs.Readers.{itemsAt}
-use Rattle.frames.proofs.Statements.{Fill}
+use Rattle.frames.specs.Items.{itemsAt, Fill}
 use Rattle.reading.specs.Held.{Marked}
 
 pub record Marks (w w′ : List ℕ) : Type 0 where

@@ -13,7 +13,8 @@ use Rattle.meaning.specs.Syntax.{Field}
 use Rattle.meaning.specs.Frame.{Alternative}
 use Rattle.meaning.specs.Conditions.{allBelow, among, again}
 use Rattle.frames.specs.Contracts.{halfW, fullW}
-use Rattle.frames.proofs.Readers.{itemsAt, fieldAt, alternativeAt}
+use Rattle.frames.specs.Items.{itemsAt, fieldAt, alternativeAt}
+use Rattle.reading.specs.declared.types.Part.{Part}
 
 -- ---- Words
 
@@ -26,13 +27,17 @@ alternativeWords (a ∷ alts) = a .discriminant ∷ (a .name * 256 + a .type) �
 
 -- ---- Parts of a size from byte 2 to the line's end
 
--- the type at the end of the part at i
-abbrev pub typeW : List ℕ → ℕ → ℕ → ℕ
-typeW s size i = halfW s (i + size - 2)
+-- the type at the end of the part at i: behind the name, or behind name and discriminant
+unfoldable pub typeW : List ℕ → ℕ → ℕ → ℕ
+typeW s size i = pick (eqb size 4) (halfW s (i + 2)) (halfW s (i + 6))
 
 -- what may not repeat
 unfoldable pub keyW : List ℕ → ℕ → ℕ → ℕ
 keyW s size i = pick (eqb size 4) (halfW s i) (fullW s (i + 2))
+
+pub record ReadsPart (s : List ℕ) (size i : ℕ) (r : Part) : Type 0 where
+  pub name : r .name ≡ halfW s i
+  pub ty : r .ty ≡ typeW s size i
 
 pub record PartsEarlier (s : List ℕ) (size names types : ℕ) (r : Bool) : Type 0 where
   pub is : (k : ℕ) → 2 + k * size ≡ length s → r ≡ both (allBelow names (itemsAt (halfW s) size 2 k)) (allBelow types (itemsAt (typeW s size) size 2 k))

@@ -3,13 +3,14 @@ ghost use mathlib.Core.Path.{_≡_};
 ghost use Prim.Native.Nat.{ℕ, _+_, _<_, _≤_};
 ghost use lib.ListN.{length};
 ghost use Rattle.meaning.specs.Frame.{limits};
-ghost use Rattle.reading.specs.Contracts.{TakesAnywhere, fullOf, TakesLine, noCounters, counted, TakesLines, ReadsFile, Reads};
+ghost use Rattle.reading.specs.Contracts.{TakesAnywhere, fullOf, pastOf, TakesLine, counted, TakesLines, ReadsFile, Reads};
 
 mod names;
 mod nodes;
 mod types;
 
 use frames::Decoded;
+pub use work::Counters;
 use work::put;
 
 // The refusals of document 01, by meaning: `refusal` of specs/Contracts.antt.
@@ -26,46 +27,7 @@ pub enum Refusal {
     RepeatedKey,
     TooManyVisits,
     AnswerTooLong,
-}
-
-// The run's counters, with its limits. `fields` counts the words of schema types' parts; `value` is one more than the number
-// of the name `value`, or 0.
-pub struct Counters {
-    pub names: u32,
-    pub types: u32,
-    pub predicates: u32,
-    pub nodes: u32,
-    pub fields: u32,
-    pub value: u32,
-}
-
-impl Counters {
-    pub const FILE: usize = 65536;
-
-    pub const WORDS: usize = 16384;
-
-    pub const NAMES: u32 = 256;
-
-    pub const TYPES: u32 = 256;
-
-    pub const PREDICATES: u32 = 128;
-
-    pub const NODES: u32 = 512;
-
-    pub const VISITS: u32 = 1_048_576;
-
-    pub fn new() -> Self
-        ensures { λ r. ⌜ r ≡ noCounters ⌝ }
-    {
-        Self {
-            names: 0,
-            types: 0,
-            predicates: 0,
-            nodes: 0,
-            fields: 0,
-            value: 0,
-        }
-    }
+    TooManyQueries,
 }
 
 // What a line did: the counters after it, or the refusal.
@@ -92,10 +54,20 @@ fn is_full(c: Counters, kind: usize) -> bool
     }
 }
 
+// Whether one more query is too many.
+fn is_past(c: Counters, kind: usize) -> bool
+    ensures { λ r. ⌜ r ≡ pastOf c kind ⌝ }
+{
+    match kind {
+        5 => Counters::QUERIES <= c.queries,
+        _ => false,
+    }
+}
+
 fn take_limits(s: &[u8], w: &mut [u32], c: Counters) -> Step
     ensures { λ r. ⌜ TakesAnywhere limits (now (s .entry)) (now (w .entry)) c (now (w .exit)) r ⌝ }
 {
-    let limits = reader::read_limits(s);
+    let limits = reader::read_limits(s, 1);
     put(w, work::MAX_DISTANCE, limits.distance);
     put(w, work::MAX_TERM, limits.term);
     Step::On(c)
@@ -112,7 +84,7 @@ fn take_line(
     previous: usize,
     kind: usize,
 ) -> Step
-    requires { ⌜ (at < 65536) × (0 < length (now s)) × (length (now s) ≤ 512) × (16384 ≤ length (now w)) × (c .names ≤ 256) × (c .types ≤ 256) × (c .fields ≤ 8192) × (c .nodes ≤ 512) ⌝ }
+    requires { ⌜ (at < 65536) × (0 < length (now s)) × (length (now s) ≤ 512) × (16384 ≤ length (now w)) × (c .names ≤ 256) × (c .types ≤ 256) × (c .fields ≤ 8192) × (c .nodes ≤ 512) × (c .queries ≤ 64) ⌝ }
     ensures { λ r. ⌜ TakesLine (now (file .entry)) at (now (s .entry)) (now (w .entry)) c previous kind (now (w .exit)) r ⌝ }
 {
     if !frames::may_stand(previous, kind) {
@@ -120,6 +92,9 @@ fn take_line(
     }
     if is_full(c, kind) {
         return Step::Off(Refusal::TooMany);
+    }
+    if is_past(c, kind) {
+        return Step::Off(Refusal::TooManyQueries);
     }
     if !frames::is_frame(s, kind) {
         return Step::Off(Refusal::MalformedFrame);
@@ -144,12 +119,12 @@ fn put_counts(w: &mut [u32], c: Counters)
     put(w, work::VALUE_NAME, c.value);
 }
 
-// The lines in file order, then the missing query.
+// The lines in file order, then the missing query. After each query the nodes start anew: `load` finds them again.
 fn take_lines(file: &[u8], w: &mut [u32]) -> Read
     requires { ⌜ (length (now file) ≤ 65536) × (16384 ≤ length (now w)) ⌝ }
     ensures { λ r. ⌜ TakesLines (now (file .entry)) (now (w .entry)) (now (w .exit)) r ⌝ }
 {
-    let mut line = [0u8; 512];
+    let mut line = [0u8; Counters::LINE];
     let mut c = Counters::new();
     let mut previous: usize = 6;
     let mut at: usize = 0;

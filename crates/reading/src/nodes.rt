@@ -135,7 +135,7 @@ pub fn take_node(at: usize, s: &[u8], w: &mut [u32], c: Counters) -> Step
 }
 
 pub fn take_query(at: usize, s: &[u8], w: &mut [u32], c: Counters) -> Step
-    requires { ⌜ (at < 65536) × (length (now s) ≤ 512) × (c .nodes ≤ 512) × (16384 ≤ length (now w)) ⌝ }
+    requires { ⌜ (at < 65536) × (length (now s) ≤ 512) × (c .nodes ≤ 512) × (16384 ≤ length (now w)) × (c .queries < 64) ⌝ }
     ensures { λ r. ⌜ TakesThere at query (now (s .entry)) (now (w .entry)) c (now (w .exit)) r ⌝ }
 {
     if !name_node(w, half(s, 1), c.nodes) {
@@ -144,6 +144,8 @@ pub fn take_query(at: usize, s: &[u8], w: &mut [u32], c: Counters) -> Step
     if !name_statements(s, w, 3, c.nodes) {
         return Step::Off(Refusal::BadReference);
     }
-    put(w, work::QUERY, (at * 1024 + s.len()) as u32);
-    Step::On(c)
+    let mut next = c;
+    next.nodes = 0;
+    next.queries = c.queries + 1;
+    Step::On(next)
 }

@@ -3,7 +3,7 @@ ghost use mathlib.Core.Path.{_≡_};
 ghost use mathlib.Core.Logic.{_⊎_};
 ghost use Prim.Native.Nat.{ℕ, _+_, _<_, _≤_};
 ghost use lib.ListN.{length};
-ghost use Rattle.reading.specs.Parts.{keyW, PartsEarlier, KeyBefore, KeysDistinct, PutsFields, PutsAlternatives};
+ghost use Rattle.reading.specs.Parts.{keyW, ReadsPart, PartsEarlier, KeyBefore, KeysDistinct, PutsFields, PutsAlternatives};
 ghost use Rattle.reading.specs.Contracts.{TakesAnywhere, AddsType, TakesType, AddsPredicate};
 ghost use Rattle.meaning.specs.Frame.{schemaType, predicate};
 use crate::Counters;
@@ -12,8 +12,34 @@ use crate::Step;
 use frames::byte;
 use frames::full;
 use frames::half;
+use work::part;
 use work::put;
 use work::wide;
+use work::with_tag;
+
+// A part of a record or union type.
+struct Part {
+    name: u32,
+    ty: u32,
+}
+
+fn read_part(s: &[u8], size: usize, i: usize) -> Part
+    ensures { λ r. ⌜ ReadsPart (now (s .entry)) size i r ⌝ }
+{
+    if size == 4 {
+        let f = reader::read_field(s, i);
+        Part {
+            name: f.name,
+            ty: f.ty,
+        }
+    } else {
+        let a = reader::read_alternative(s, i);
+        Part {
+            name: a.name,
+            ty: a.ty,
+        }
+    }
+}
 
 // Whether each part of the type, `size` bytes long, names a name and an earlier type.
 fn parts_earlier(s: &[u8], size: usize, names: u32, types: u32) -> bool
@@ -22,10 +48,11 @@ fn parts_earlier(s: &[u8], size: usize, names: u32, types: u32) -> bool
 {
     let mut i: usize = 2;
     while i < s.len() {
-        if names <= half(s, i) {
+        let p = read_part(s, size, i);
+        if names <= p.name {
             return false;
         }
-        if types <= half(s, i + size - 2) {
+        if types <= p.ty {
             return false;
         }
         i += size;
@@ -74,6 +101,27 @@ fn keys_distinct(s: &[u8], size: usize) -> bool
     true
 }
 
+// The same for a record's fields, whose names were found to be numbers below 256: each is marked where it stands first.
+fn names_distinct(s: &[u8]) -> bool
+    requires { ⌜ length (now s) ≤ 512 ⌝ }
+    ensures { λ r. ⌜ KeysDistinct (now (s .entry)) 4 r ⌝ }
+{
+    let mut seen = [0u8; 256];
+    let mut i: usize = 2;
+    while i < s.len() {
+        let k = half(s, i) as usize;
+        if 256 <= k {
+            return keys_distinct(s, 4);
+        }
+        if seen[k] == 1 {
+            return false;
+        }
+        seen[k] = 1;
+        i += 4;
+    }
+    true
+}
+
 fn put_fields(s: &[u8], w: &mut [u32], from: u32)
     requires { ⌜ (length (now s) ≤ 512) × (from ≤ 8192) ⌝ }
     ensures { λ _. ⌜ PutsFields (now (s .entry)) (now (w .entry)) from (now (w .exit)) ⌝ }
@@ -81,7 +129,8 @@ fn put_fields(s: &[u8], w: &mut [u32], from: u32)
     let mut i: usize = 2;
     let mut at = work::FIELDS + wide(from);
     while i < s.len() {
-        put(w, at, half(s, i) * 256 + half(s, i + 2));
+        let f = reader::read_field(s, i);
+        put(w, at, part(f.name, f.ty));
         i += 4;
         at += 1;
     }
@@ -94,8 +143,9 @@ fn put_alternatives(s: &[u8], w: &mut [u32], from: u32)
     let mut i: usize = 2;
     let mut at = work::FIELDS + wide(from);
     while i < s.len() {
-        put(w, at, full(s, i + 2));
-        put(w, at + 1, half(s, i) * 256 + half(s, i + 6));
+        let a = reader::read_alternative(s, i);
+        put(w, at, a.discriminant);
+        put(w, at + 1, part(a.name, a.ty));
         i += 8;
         at += 2;
     }
@@ -123,13 +173,13 @@ fn take_record(s: &[u8], w: &mut [u32], c: Counters) -> Step
     if !parts_earlier(s, 4, c.names, c.types) {
         return Step::Off(Refusal::BadReference);
     }
-    if !keys_distinct(s, 4) {
+    if !names_distinct(s) {
         return Step::Off(Refusal::RepeatedKey);
     }
     let n = ((s.len() - 2) / 4) as u32;
     let from = c.fields;
     put_fields(s, w, from);
-    add_type(w, c, n * 16 + 5, from, n)
+    add_type(w, c, with_tag(n, 5), from, n)
 }
 
 fn take_union(s: &[u8], w: &mut [u32], c: Counters) -> Step
@@ -145,7 +195,7 @@ fn take_union(s: &[u8], w: &mut [u32], c: Counters) -> Step
     let n = ((s.len() - 2) / 8) as u32;
     let from = c.fields;
     put_alternatives(s, w, from);
-    add_type(w, c, n * 16 + 6, from, n * 2)
+    add_type(w, c, with_tag(n, 6), from, n * 2)
 }
 
 pub fn take_type(s: &[u8], w: &mut [u32], c: Counters) -> Step
@@ -178,18 +228,19 @@ pub fn take_predicate(s: &[u8], w: &mut [u32], c: Counters) -> Step
     requires { ⌜ (6 ≤ length (now s)) × (c .names ≤ 256) × (c .types ≤ 256) × (c .predicates < 128) ⌝ }
     ensures { λ r. ⌜ TakesAnywhere predicate (now (s .entry)) (now (w .entry)) c (now (w .exit)) r ⌝ }
 {
-    let name = half(s, 1);
-    let key = half(s, 3);
+    let p = reader::read_predicate(s, 1);
+    let name = p.name;
+    let key = p.key;
+    let value = p.value;
     if c.names <= name {
         return Step::Off(Refusal::BadReference);
     }
     if c.types <= key {
         return Step::Off(Refusal::BadReference);
     }
-    if byte(s, 5) == 0 {
+    if p.flag == 0 {
         return add_predicate(w, c, name * 131072 + key * 512);
     }
-    let value = half(s, 6);
     if c.types <= value {
         return Step::Off(Refusal::BadReference);
     }

@@ -1,7 +1,5 @@
 // Replays the recorded answers that stand on standard input (README.md has their layout): each file is checked, and
 // what the program prints for it is held against what was recorded.
-use desk::Outcome;
-
 // A part's length, or the input ends here or is no sample: a part is shorter than 2,048 bytes.
 enum Part {
     Bytes(usize),
@@ -25,20 +23,10 @@ fn read_part(into: &mut [u8]) -> Part {
 }
 
 // Whether the program prints this for the file.
-fn answers(file: &[u8], printed: &[u8], work: &mut [u32], out: &mut [u8]) -> bool {
-    let r = desk::check_file(file, work, out);
-    match r {
-        Outcome::Accepted(n) => {
-            if out.len() < n {
-                return false;
-            }
-            check::same(&out[0..n], printed)
-        }
-        Outcome::Refused(e) => {
-            let line = desk::refusal_line(e);
-            check::same(&line, printed)
-        }
-    }
+fn answers(file: &[u8], printed: &[u8], work: &mut [u32; 16384], out: &mut [u8; 65536]) -> bool {
+    let n = program::printed(file, work, out);
+    let all: &[u8] = out;
+    check::same(&all[0..n], printed)
 }
 
 // The next case of the sample, read and answered.
@@ -48,7 +36,12 @@ enum Case {
     End,
 }
 
-fn next_case(file: &mut [u8], printed: &mut [u8], work: &mut [u32], out: &mut [u8]) -> Case {
+fn next_case(
+    file: &mut [u8],
+    printed: &mut [u8],
+    work: &mut [u32; 16384],
+    out: &mut [u8; 65536],
+) -> Case {
     let a = read_part(file);
     let Part::Bytes(n) = a else {
         return Case::End;
@@ -77,7 +70,7 @@ fn report(cases: u64, otherwise: u64) {
     io::write_all(1, b" answered otherwise\n");
 }
 
-fn replay(file: &mut [u8], printed: &mut [u8], work: &mut [u32], out: &mut [u8]) {
+fn replay(file: &mut [u8], printed: &mut [u8], work: &mut [u32; 16384], out: &mut [u8; 65536]) {
     let mut cases: u64 = 0;
     let mut otherwise: u64 = 0;
     while cases < 65536 {

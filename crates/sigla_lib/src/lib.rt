@@ -1,7 +1,6 @@
 // The call for programs in other languages: every slice goes as a pointer and a length.
-ghost use Rattle.sigla_lib.specs.Numbers.{CallsCheck, CallsRead};
+ghost use Rattle.sigla_lib.specs.Numbers.{CallsCheck};
 use desk::Outcome;
-use reading::Read;
 
 // 0 where the file is accepted: the answer stands in `out` up to the first zero byte. Else the refusal's number.
 #[no_mangle]
@@ -12,17 +11,5 @@ pub extern "C" fn sigla_check(file: &[u8], work: &mut [u32], out: &mut [u8]) -> 
     match r {
         Outcome::Accepted(_) => 0,
         Outcome::Refused(e) => desk::refusal_number(e),
-    }
-}
-
-// 0 where the file was read into the slice; else the refusal's number, and the slice is zero throughout.
-#[no_mangle]
-pub extern "C" fn sigla_read(file: &[u8], work: &mut [u32]) -> u8
-    ensures { λ r. ⌜ CallsRead (now (file .entry)) (now (work .entry)) (now (work .exit)) r ⌝ }
-{
-    let r = reading::read_or_clear(file, work);
-    match r {
-        Read::Accepted => 0,
-        Read::Refused(e) => desk::refusal_number(e),
     }
 }

@@ -1,5 +1,5 @@
--- Diagnostics and variables as entries of words: an entry is read back as it was written, and others stand. A search through the
--- environment keeps that what is sought in the whole is sought in what is older than the entries seen.
+-- Variables as entries of words: a search through the environment keeps that what is sought in the whole is sought in what is older
+-- than the entries seen.
 use mathlib.Core.List.{List, _∷_}
 use mathlib.Core.Path.{_≡_, refl, sym, _∙_, ap}
 use native.Mathlib.Omega.{arith}
@@ -8,47 +8,10 @@ use lib.ListN.{getD}
 use borrow.Author.Tests.{eq-eqb, ne-eqb}
 use Rattle.work.specs.Layout.{ENV-LEN, UNKNOWNS, ENV}
 use Rattle.cells.specs.Words.{freshW}
-use Rattle.meaning.specs.Diag as Diag
 use Rattle.meaning.specs.Check.{lookupIn}
-use Rattle.state.specs.declared.Code.{Code}
-use Rattle.state.specs.declared.Code.the-variants as Code
 use Rattle.state.specs.declared.Known.{Known}
 use Rattle.state.specs.declared.Known.the-variants as Known
-use Rattle.state.specs.Words.{codeOf, numberOf, codeAt, envOf, knownAs, pushEnvW, Introduces}
-
--- ---- Codes
-pub number-small : (c : Code) → numberOf c < 16
-number-small Code.NyiBindUnification = omega arith
-number-small Code.RejectBindLhs = omega arith
-number-small Code.RejectFuzzyDistance = omega arith
-number-small Code.RejectFuzzyTerm = omega arith
-number-small Code.RejectInfiniteType = omega arith
-number-small Code.RejectNoValue = omega arith
-number-small Code.RejectNotAUnion = omega arith
-number-small Code.RejectTypeMismatch = omega arith
-number-small Code.RejectUnionArity = omega arith
-number-small Code.RejectUnknownAlternative = omega arith
-number-small Code.RejectUnknownField = omega arith
-number-small Code.RejectUnresolvedAccess = omega arith
-number-small Code.RejectValueShadowed = omega arith
-number-small Code.RejectWildcardInHead = omega arith
-
-pub code-back : (c : Code) → codeAt (numberOf c) ≡ codeOf c
-unfolding codeAt
-code-back Code.NyiBindUnification = refl
-code-back Code.RejectBindLhs = refl
-code-back Code.RejectFuzzyDistance = refl
-code-back Code.RejectFuzzyTerm = refl
-code-back Code.RejectInfiniteType = refl
-code-back Code.RejectNoValue = refl
-code-back Code.RejectNotAUnion = refl
-code-back Code.RejectTypeMismatch = refl
-code-back Code.RejectUnionArity = refl
-code-back Code.RejectUnknownAlternative = refl
-code-back Code.RejectUnknownField = refl
-code-back Code.RejectUnresolvedAccess = refl
-code-back Code.RejectValueShadowed = refl
-code-back Code.RejectWildcardInHead = refl
+use Rattle.state.specs.Words.{envOf, knownAs, pushEnvW, Introduces}
 
 entries : (w : List ℕ) (i : ℕ) → 0 < i → envOf w i ≡ (getD w (ENV + (i - 1)) 0 / 65536, getD w (ENV + (i - 1)) 0 % 65536) ∷ envOf w (i - 1)
 unfolding envOf

@@ -2,6 +2,9 @@ pub mod Entries
 pub mod Standing
 pub mod Running
 pub mod Reporting
+pub mod Telling
+pub mod Lining
 pub mod Scoping
 pub mod Recording
 pub mod Starting
+pub mod Lined

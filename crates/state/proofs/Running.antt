@@ -5,11 +5,11 @@ use mathlib.Core.Logic.{_≢_}
 use mathlib.Core.Option.{none, some}
 use mathlib.Core.Path.{_≡_, refl, sym, _∙_}
 use native.Mathlib.Omega.{arith}
-use Prim.Native.Nat.{ℕ, zero, suc, _+_, _-_, _/_, _<_, _≤_}
+use Prim.Native.Nat.{ℕ, zero, suc, _+_, _<_, _≤_}
 use lib.ListN.{length, getD, length-set}
 use Rattle.unification.specs.Bindings as Bindings
 use Rattle.unification.specs.Bindings.{State}
-use Rattle.work.specs.Layout.{RECORD-COUNT, RECORD-FIELD-COUNT, ENV-LEN, DIAGNOSTIC-COUNT, UNKNOWNS, ENV, DIAGNOSTICS, TYS, BINDINGS, END}
+use Rattle.work.specs.Layout.{RECORD-COUNT, RECORD-FIELD-COUNT, ENV-LEN, DIAGNOSTIC-COUNT, UNKNOWNS, ENV, TYS, BINDINGS, END}
 use Rattle.cells.specs.declared.Ty.{Ty}
 use Rattle.cells.specs.Words.{annotateW, freshW}
 use Rattle.cells.specs.Stands.{Rows, tree, Ok, Holds, Keeps}
@@ -18,12 +18,11 @@ use Rattle.cells.proofs.Frame.{keeps-refl, keeps-trans, keeps-wider, OldCells, 
 use Rattle.cells.proofs.Elsewhere.{SameState, holds-same}
 use Rattle.cells.proofs.Holding.{annotate-keeps, annotate-holds, fresh-other, fresh-length, fresh-cells, fresh-holds}
 use Rattle.cells.proofs.Making.{adds-refl, adds-trans, same-adds}
-use Rattle.meaning.specs.Syntax.{Node}
 use Rattle.meaning.specs.Sound.{Sound}
 use Rattle.meaning.specs.File.{Described}
 use Rattle.meaning.specs.Check.{Checker}
-use Rattle.state.specs.Words.{halfW, envOf}
-use Rattle.state.specs.Runs.{diagnosticsOf, Runs, Grew}
+use Rattle.state.specs.Words.{envOf}
+use Rattle.state.specs.Runs.{Runs, Grew}
 use Rattle.state.proofs.Standing.{stands-more}
 
 -- ---- What was made
@@ -56,20 +55,6 @@ unfolding envOf
 env-same w w′ zero s = refl
 env-same w w′ (suc n) s = rw (s n (omega arith), env-same w w′ n (λ i h. s i (omega arith)))
 
-pub half-same : (w w′ : List ℕ) (i : ℕ) → getD w′ (DIAGNOSTICS + i / 2) 0 ≡ getD w (DIAGNOSTICS + i / 2) 0 → halfW w′ i ≡ halfW w i
-unfolding halfW
-half-same w w′ i e = rw e
-
-pub diagnostics-same : (nodes : List Node) (w w′ : List ℕ) (n : ℕ) → ((i : ℕ) → i < n → halfW w′ i ≡ halfW w i) → diagnosticsOf nodes w′ n ≡ diagnosticsOf nodes w n
-unfolding diagnosticsOf
-diagnostics-same nodes w w′ zero s = refl
-diagnostics-same nodes w w′ (suc n) s = rw (s n (omega arith), diagnostics-same nodes w w′ n (λ i h. s i (omega arith)))
-
--- The diagnostics are as they were, so each is at a node still.
-pub among-same : (n : ℕ) (w w′ : List ℕ) → getD w′ DIAGNOSTIC-COUNT 0 ≡ getD w DIAGNOSTIC-COUNT 0 → ((i : ℕ) → i < getD w DIAGNOSTIC-COUNT 0 → halfW w′ i ≡ halfW w i)
-    → ((i : ℕ) → i < getD w DIAGNOSTIC-COUNT 0 → halfW w i / 16 < n) → (i : ℕ) → i < getD w′ DIAGNOSTIC-COUNT 0 → halfW w′ i / 16 < n
-among-same n w w′ count same before i h = rw (same i (omega arith)) (before i (omega arith))
-
 -- ---- The state alone changed
 
 -- The environment and the diagnostics are as they were.
@@ -90,10 +75,8 @@ runs-state {f} {w} {w′} {T} {T′} {d} {c} sound R O M Q H nodes = record {
   nodes = nodes ∙ R .nodes;
   env = R .env ∙ sym (rw (Q .env) (env-same w w′ (getD w ENV-LEN 0) (λ i h. Q .at (ENV + i) (omega arith) (omega (arith, R .few-env)))));
   few-env = omega (arith, Q .env, R .few-env);
-  diagnostics = R .diagnostics ∙ sym (rw (Q .diagnostics)
-      (diagnostics-same (d .ast .nodes) w w′ (getD w DIAGNOSTIC-COUNT 0) (λ i h. half-same w w′ i (Q .at (DIAGNOSTICS + i / 2) (omega arith) (omega (arith, R .few-diagnostics))))));
+  diagnostics = R .diagnostics ∙ sym (Q .diagnostics);
   few-diagnostics = omega (arith, Q .diagnostics, R .few-diagnostics);
-  among = among-same (length (d .ast .nodes)) w w′ (Q .diagnostics) (λ i h. half-same w w′ i (Q .at (DIAGNOSTICS + i / 2) (omega arith) (omega (arith, R .few-diagnostics)))) (R .among);
 }
 
 module _ {f w : List ℕ} {T : Rows} {d : Described} {c : Checker} (sound : Sound d) (R : Runs f w T d c) where
@@ -111,7 +94,7 @@ module _ {f w : List ℕ} {T : Rows} {d : Described} {c : Checker} (sound : Soun
 
   -- ---- `fresh_var_id`
   module _ (few : length (c .state .subst) < 512) where
-    fresh-word : (i : ℕ) → i ≢ UNKNOWNS → i < BINDINGS → getD (freshW w) i 0 ≡ getD w i 0
+    pub fresh-word : (i : ℕ) → i ≢ UNKNOWNS → i < BINDINGS → getD (freshW w) i 0 ≡ getD w i 0
     fresh-word i n h = fresh-other (R .holds) few i n (λ q. omega arith)
 
     fresh-keeps : Keeps RECORD-COUNT END w (freshW w)
@@ -132,9 +115,8 @@ module _ {f w : List ℕ} {T : Rows} {d : Described} {c : Checker} (sound : Soun
 
 -- ---- The environment or the diagnostics alone changed
 pub runs-aside : {f w w′ : List ℕ} {T : Rows} {d : Described} {c c′ : Checker} → Sound d → Runs f w T d c → SameState w w′ → c′ .state ≡ c .state
-    → c′ .env ≡ envOf w′ (getD w′ ENV-LEN 0) → getD w′ ENV-LEN 0 ≤ 512 → c′ .diagnostics ≡ diagnosticsOf (d .ast .nodes) w′ (getD w′ DIAGNOSTIC-COUNT 0) → getD w′ DIAGNOSTIC-COUNT 0 ≤ 1536
-    → ((i : ℕ) → i < getD w′ DIAGNOSTIC-COUNT 0 → halfW w′ i / 16 < length (d .ast .nodes)) → Runs f w′ T d c′
-runs-aside {w = w} {w′} sound R S state env few-env diagnostics few-diagnostics among = record {
+    → c′ .env ≡ envOf w′ (getD w′ ENV-LEN 0) → getD w′ ENV-LEN 0 ≤ 512 → length (c′ .diagnostics) ≡ getD w′ DIAGNOSTIC-COUNT 0 → getD w′ DIAGNOSTIC-COUNT 0 ≤ 1536 → Runs f w′ T d c′
+runs-aside {w = w} {w′} sound R S state env few-env diagnostics few-diagnostics = record {
   stands = stands-more w w′ (λ i h. S .cells .said i (omega arith)) more-refl sound (S .slots .long) (R .stands);
   holds = rw state (holds-same S (R .holds));
   nodes = rw state (R .nodes);
@@ -142,5 +124,4 @@ runs-aside {w = w} {w′} sound R S state env few-env diagnostics few-diagnostic
   few-env = few-env;
   diagnostics = diagnostics;
   few-diagnostics = few-diagnostics;
-  among = among;
 }

@@ -11,8 +11,9 @@ use lib.ListN.{length, getD, set, drop, length-set}
 use lib.Seq.{getD-set-same, getD-set-other}
 use borrow.Author.Tests.{lt-ltb}
 use Rattle.unification.specs.Bindings as Bindings
-use Rattle.unification.specs.Bindings.{Undo, Binding, Annotation, History, State, revert, rewind, withHistory}
-use Rattle.work.specs.Layout.{RECORD-COUNT, ENV-LEN, DIAGNOSTIC-COUNT, UNKNOWNS, ENV, DIAGNOSTICS, TYS, END}
+use Rattle.unification.specs.Bindings.{History, withHistory}
+use Rattle.unification.proofs.Undo.{rewind-nodes}
+use Rattle.work.specs.Layout.{RECORD-COUNT, ENV-LEN, DIAGNOSTIC-COUNT, UNKNOWNS, ENV, TYS, END}
 use Rattle.cells.specs.Words.{freshW}
 use Rattle.cells.specs.Stands.{Rows, Keeps}
 use Rattle.cells.specs.Contracts.{RollsBack}
@@ -24,7 +25,8 @@ use Rattle.meaning.specs.Check as Check
 use Rattle.meaning.specs.Check.{Checker, Step, goes, andThen, lookupIn, withState}
 use Rattle.state.specs.Words.{envOf, pushEnvW, Introduces}
 use Rattle.state.specs.Runs.{Runs, Grew}
-use Rattle.state.proofs.Running.{env-same, half-same, diagnostics-same, among-same, grew-refl, grew-trans, same-grew, runs-slots, grew-slots, fresh-runs, fresh-grew, runs-aside}
+use Rattle.state.proofs.Lining.{Unlined, unlined-trans}
+use Rattle.state.proofs.Running.{env-same, grew-refl, grew-trans, same-grew, runs-slots, grew-slots, fresh-word, fresh-runs, fresh-grew, runs-aside}
 
 pub env-length : (w : List ℕ) (n : ℕ) → length (envOf w n) ≡ n
 unfolding envOf
@@ -36,12 +38,9 @@ runs-env-length {f} {w} R = ap (λ (es : List (ℕ × ℕ)). length es) (R .env)
 
 -- ---- Words of the environment alone changed
 module _ {f w w′ : List ℕ} {T : Rows} {d : Described} {c : Checker} (sound : Sound d) (R : Runs f w T d c) (S : SameState w w′)
-    (count : getD w′ DIAGNOSTIC-COUNT 0 ≡ getD w DIAGNOSTIC-COUNT 0) (at : (i : ℕ) → DIAGNOSTICS ≤ i → i < TYS → getD w′ i 0 ≡ getD w i 0) where
+    (count : getD w′ DIAGNOSTIC-COUNT 0 ≡ getD w DIAGNOSTIC-COUNT 0) where
   runs-env : (es : List (ℕ × ℕ)) → es ≡ envOf w′ (getD w′ ENV-LEN 0) → getD w′ ENV-LEN 0 ≤ 512 → Runs f w′ T d (record { state = c .state; env = es; diagnostics = c .diagnostics })
-  runs-env es e few = runs-aside sound R S refl e few
-      (R .diagnostics ∙ sym (rw count (diagnostics-same (d .ast .nodes) w w′ (getD w DIAGNOSTIC-COUNT 0) (λ i h. half-same w w′ i (at (DIAGNOSTICS + i / 2) (omega arith) (omega (arith, R .few-diagnostics)))))))
-      (omega (arith, count, R .few-diagnostics))
-      (among-same (length (d .ast .nodes)) w w′ count (λ i h. half-same w w′ i (at (DIAGNOSTICS + i / 2) (omega arith) (omega (arith, R .few-diagnostics)))) (R .among))
+  runs-env es e few = runs-aside sound R S refl e few (R .diagnostics ∙ sym count) (omega (arith, count, R .few-diagnostics))
 
 -- ---- `push_env`
 module _ (w : List ℕ) (symbol var : ℕ) (room : getD w ENV-LEN 0 < 512) (name : symbol < 65536) (unknown : var < 65536) where
@@ -83,9 +82,12 @@ module _ {f w : List ℕ} {T : Rows} {d : Described} {c : Checker} (sound : Soun
     pub push-env-runs : Runs f (pushEnvW w symbol var) T d (record { state = c .state; env = (symbol, var) ∷ c .env; diagnostics = c .diagnostics })
     push-env-runs =
         let other = push-other w symbol var room name unknown in
-        runs-env sound R (push-aside w symbol var room name unknown) (other DIAGNOSTIC-COUNT (λ q. omega arith) (λ q. omega arith)) (λ i l h. other i (λ q. omega arith) (λ q. omega arith)) ((symbol, var) ∷ c .env)
+        runs-env sound R (push-aside w symbol var room name unknown) (other DIAGNOSTIC-COUNT (λ q. omega arith) (λ q. omega arith)) ((symbol, var) ∷ c .env)
         (ap {B = List (ℕ × ℕ)} (λ es. (symbol, var) ∷ es) (R .env) ∙ sym (push-env w symbol var room name unknown (R .holds .long)))
         (omega (arith, push-count w symbol var room name unknown (R .holds .long)))
+
+    pub push-env-unlined : Unlined w (pushEnvW w symbol var)
+    push-env-unlined = record { at = λ i l h. push-other w symbol var room name unknown i (λ q. omega arith) (λ q. omega arith) }
 
     pub push-env-grew : Grew w (pushEnvW w symbol var) 0 0
     push-env-grew = same-grew (R .holds) (push-aside w symbol var room name unknown .cells) (push-keeps w symbol var room name unknown)
@@ -117,56 +119,57 @@ module _ {f w : List ℕ} {T : Rows} {d : Described} {c : Checker} (sound : Soun
       (ap (λ (m : ℕ). drop k (envOf w m)) (sym all) ∙ env-drop w k n)
 
   pub cut-runs : Runs f now T d (record { state = c .state; env = drop (length (c .env) - n) (c .env); diagnostics = c .diagnostics })
-  cut-runs = runs-env sound R cut-aside (cut-keeps .above DIAGNOSTIC-COUNT (omega arith)) (λ i l h. cut-keeps .above i (omega arith)) _ cut-env (omega (arith, cut-length, R .few-env))
+  cut-runs = runs-env sound R cut-aside (cut-keeps .above DIAGNOSTIC-COUNT (omega arith)) _ cut-env (omega (arith, cut-length, R .few-env))
+
+  pub cut-unlined : Unlined w now
+  cut-unlined = record { at = λ i l h. cut-keeps .above i (omega arith) }
 
   pub cut-grew : Grew w now 0 0
   cut-grew = same-grew (R .holds) (cut-aside .cells) (keeps-set w ENV-LEN n (omega arith) (omega arith))
 
 -- ---- `rollback`
-rewind-nodes : (k : ℕ) (us : List Undo) (st : State) → length (rewind k us st .tys) ≡ length (st .tys)
-unfolding rewind revert
-rewind-nodes zero us st = refl
-rewind-nodes (suc k) [] st = refl
-rewind-nodes (suc k) (Binding x t ∷ us) st = rewind-nodes k us (revert (Binding x t) st)
-rewind-nodes (suc k) (Annotation n t ∷ us) st = rewind-nodes k us (revert (Annotation n t) st) ∙ length-set (st .tys) n t
-
 module _ {f w w′ : List ℕ} {T : Rows} {d : Described} {c : Checker} {mark : ℕ} (sound : Sound d) (R : Runs f w T d c) (B : RollsBack w mark w′) (past : History) where
   rolled-runs : Runs f w′ T d (record { state = Bindings.rollback (c .state) (record { undo = mark; past = past }); env = c .env; diagnostics = c .diagnostics })
   unfolding Bindings.rollback withHistory
-  rolled-runs = runs-slots sound R (B .keeps T (c .state) (R .holds)) (B .is T (c .state) (R .holds) past) (rewind-nodes (length (c .state .undo) - mark) (c .state .undo) (c .state))
+  rolled-runs = runs-slots sound R (B .keeps) (B .is T (c .state) (R .holds) past) (rewind-nodes (length (c .state .undo) - mark) (c .state .undo) (c .state))
 
   module _ (n : ℕ) (within : n ≤ getD w ENV-LEN 0) where
     still : n ≤ getD w′ ENV-LEN 0
-    still = omega (arith, B .keeps T (c .state) (R .holds) .below ENV-LEN (omega arith))
+    still = omega (arith, B .keeps .below ENV-LEN (omega arith))
 
     pub rollback-runs : Runs f (set w′ ENV-LEN n) T d (record { state = Bindings.rollback (c .state) (record { undo = mark; past = past }); env = drop (length (c .env) - n) (c .env); diagnostics = c .diagnostics })
     rollback-runs = cut-runs sound rolled-runs n still
 
+    pub rollback-unlined : Unlined w (set w′ ENV-LEN n)
+    rollback-unlined = unlined-trans (record { at = λ i l h. B .keeps .below i (omega arith) }) (cut-unlined sound rolled-runs n still)
+
     pub rollback-grew : Grew w (set w′ ENV-LEN n) 0 0
-    rollback-grew = grew-trans (grew-slots sound R (B .keeps T (c .state) (R .holds))) (cut-grew sound rolled-runs n still)
+    rollback-grew = grew-trans (grew-slots sound R (B .keeps)) (cut-grew sound rolled-runs n still)
 
 -- ---- `introduce`
 
 -- Where the definition's step leads, and that the words stand for it.
-pub record Gives {A : Type 0} (f w w′ : List ℕ) (T : Rows) (d : Described) (s : Step A) (a : A) : Type 0 where
+pub record Gives {A : Type 0} (f w w′ : List ℕ) (T : Rows) (d : Described) (before : Checker) (s : Step A) (a : A) : Type 0 where
   pub after : Checker
   pub step : s ≡ goes a after
   pub runs : Runs f w′ T d after
+  pub unlined : Unlined w w′
+  pub reported : after .diagnostics ≡ before .diagnostics
   pub grew : Grew w w′ 0 0
 
 pub introduce-runs : {f w w′ : List ℕ} {T : Rows} {d : Described} {c : Checker} {symbol r : ℕ} → Sound d → Runs f w T d c → symbol < 65536
-    → (lookupIn (c .env) symbol ≡ none → (length (c .state .subst) < 512) × (getD w ENV-LEN 0 < 512)) → Introduces w symbol w′ r → Gives f w w′ T d (Check.introduce symbol c) r
+    → (lookupIn (c .env) symbol ≡ none → (length (c .state .subst) < 512) × (getD w ENV-LEN 0 < 512)) → Introduces w symbol w′ r → Gives f w w′ T d c (Check.introduce symbol c) r
 unfolding Check.introduce Check.lookup Check.freshVarId Check.pushEnv withState andThen Bindings.freshId
 introduce-runs {f} {w} {w′} {T} {d} {c} {symbol} {r} sound R name room I = go (lookupIn (c .env) symbol) refl
   where
     sought : lookupIn (envOf w (getD w ENV-LEN 0)) symbol ≡ lookupIn (c .env) symbol
     sought = ap (λ (es : List (ℕ × ℕ)). lookupIn es symbol) (sym (R .env))
 
-    go : (o : Option ℕ) → lookupIn (c .env) symbol ≡ o → Gives f w w′ T d (Check.introduce symbol c) r
+    go : (o : Option ℕ) → lookupIn (c .env) symbol ≡ o → Gives f w w′ T d c (Check.introduce symbol c) r
     go (some v) q =
         let is : r ≡ v = rw (sought, q) at (I .is) in
         let words : w′ ≡ w = rw (sought, q) at (I .words) in
-        rw (is, words) record { after = c; step = rw (q, Check.introduce); runs = R; grew = grew-refl }
+        rw (is, words) record { after = c; step = rw (q, Check.introduce); runs = R; unlined = record { at = λ i l h. refl }; reported = refl; grew = grew-refl }
     go none q =
         let is : r ≡ getD w UNKNOWNS 0 = rw (sought, q) at (I .is) in
         let words : w′ ≡ pushEnvW (freshW w) symbol (getD w UNKNOWNS 0) = rw (sought, q) at (I .words) in
@@ -179,5 +182,7 @@ introduce-runs {f} {w} {w′} {T} {d} {c} {symbol} {r} sound R name room I = go 
           after = record { state = Bindings.fresh (c .state); env = (symbol, getD w UNKNOWNS 0) ∷ c .env; diagnostics = c .diagnostics };
           step = rw (q, Check.introduce, new);
           runs = push-env-runs sound F symbol (getD w UNKNOWNS 0) space name small;
+          unlined = unlined-trans (record { at = λ i l h. fresh-word sound R few i (λ q. omega arith) (omega arith) }) (push-env-unlined sound F symbol (getD w UNKNOWNS 0) space name small);
+          reported = refl;
           grew = grew-trans (fresh-grew sound R few) (push-env-grew sound F symbol (getD w UNKNOWNS 0) space name small);
         }

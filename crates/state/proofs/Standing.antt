@@ -74,27 +74,28 @@ cells-start {w} S records fields = record {
 }
 
 -- ---- What was said stands
-module _ (w w′ : List ℕ) (said : (i : ℕ) → i < RECORD-COUNT → getD w′ i 0 ≡ getD w i 0) where
+-- The words of the schema are as they were; those of the nodes and the query may be others.
+module _ (w w′ : List ℕ) (said : (i : ℕ) → i < NODES → (i ≡ NODE-COUNT → ⊥) → (i ≡ QUERY → ⊥) → getD w′ i 0 ≡ getD w i 0) (parts : (i : ℕ) → FIELDS ≤ i → i < RECORD-COUNT → getD w′ i 0 ≡ getD w i 0) where
   declared-said : (t : ℕ) → t < 256 → declaredW w′ t ≡ declaredW w t
   unfolding declaredW
-  declared-said t h = rw (said (TYPES + 2 * t) (omega arith), said (TYPES + 2 * t + 1) (omega arith))
+  declared-said t h = rw (said (TYPES + 2 * t) (omega arith) (λ e. omega arith) (λ e. omega arith), said (TYPES + 2 * t + 1) (omega arith) (λ e. omega arith) (λ e. omega arith))
 
   count-said : (c : ℕ) → c < 256 → countW w′ c ≡ countW w c
   unfolding countW
-  count-said c lt = rw (lt-ltb c 256 lt, said (TYPES + 2 * c) (omega arith))
+  count-said c lt = rw (lt-ltb c 256 lt, said (TYPES + 2 * c) (omega arith) (λ e. omega arith) (λ e. omega arith))
 
   first-said : (c : ℕ) → c < 256 → firstW w′ c ≡ firstW w c
   unfolding firstW
-  first-said c lt = rw (lt-ltb c 256 lt, said (TYPES + 2 * c + 1) (omega arith))
+  first-said c lt = rw (lt-ltb c 256 lt, said (TYPES + 2 * c + 1) (omega arith) (λ e. omega arith) (λ e. omega arith))
 
   part-said : (k : Kind) (c j : ℕ) → c < 256 → FIELDS + (firstW w c + partWords k * countW w c) ≤ RECORD-COUNT → j < countW w c → partW w′ k c j ≡ partW w k c j
   unfolding declaredField alternativeW
   part-said Fields c j lt fits h =
       let at = FIELDS + firstW w c + j in
-      rw (field-declared w′ c j lt, field-declared w c j lt, first-said c lt, said at (omega (arith, fits)), declared-said (getD w at 0 % 256) (omega arith))
+      rw (field-declared w′ c j lt, field-declared w c j lt, first-said c lt, parts at (omega (arith, fits)) (omega (arith, fits)), declared-said (getD w at 0 % 256) (omega arith))
   part-said Alternatives c j lt fits h =
       let at = FIELDS + firstW w c + 2 * j in
-      rw (first-said c lt, said at (omega (arith, fits)), said (at + 1) (omega (arith, fits)), declared-said (getD w (at + 1) 0 % 256) (omega arith))
+      rw (first-said c lt, parts at (omega (arith, fits)) (omega (arith, fits)), parts (at + 1) (omega (arith, fits)) (omega (arith, fits)), declared-said (getD w (at + 1) 0 % 256) (omega arith))
 
   module _ {T T′ : Rows} (M : More w T T′) where
     module _ {s : Schema} (S : SchemaStands w T s) where
@@ -109,7 +110,7 @@ module _ (w w′ : List ℕ) (said : (i : ℕ) → i < RECORD-COUNT → getD w�
         few = omega (arith, S .types)
 
         old-tag : getD w (TYPES + 2 * c) 0 % 16 ≡ tagOf k
-        old-tag = rw (← said (TYPES + 2 * c) (omega (arith, S .types))) tag
+        old-tag = rw (← said (TYPES + 2 * c) (omega (arith, S .types)) (λ e. omega (arith, S .types)) (λ e. omega (arith, S .types))) tag
 
         type-part : (j : ℕ) → j < countW w c → partW w′ k c j ≡ partW w k c j
         type-part j lt = part-said k c j few (S .cells .fits k c h old-tag) lt
@@ -141,7 +142,7 @@ module _ (w w′ : List ℕ) (said : (i : ℕ) → i < RECORD-COUNT → getD w�
         row = type-row;
         earlier = λ k c j h tag lt. type-earlier k c h tag j lt;
         fits = type-fits;
-        tags = λ c h. rw (said (TYPES + 2 * c) (omega (arith, S .types))) (S .cells .tags c h);
+        tags = λ c h. rw (said (TYPES + 2 * c) (omega (arith, S .types)) (λ e. omega (arith, S .types)) (λ e. omega (arith, S .types))) (S .cells .tags c h);
       }
 
       value-stands : (x : ℕ) → (x % 2 ≡ 1 → x / 2 % 256 < getD w TYPE-COUNT 0) → valueOf T w x ≡ valueOf T′ w′ x
@@ -151,9 +152,9 @@ module _ (w w′ : List ℕ) (said : (i : ℕ) → i < RECORD-COUNT → getD w�
           go true q = ap some (sym (declared-stands (x / 2 % 256) (there (eqb-true (x % 2) 1 q))))
           go false q = refl
 
-      predicate-stands : (p : ℕ) (d : Predicate) → p < 8192 → PredicateIs w T (getD w TYPE-COUNT 0) p d → PredicateIs w′ T′ (getD w TYPE-COUNT 0) p d
+      predicate-stands : (p : ℕ) (d : Predicate) → p < 128 → PredicateIs w T (getD w TYPE-COUNT 0) p d → PredicateIs w′ T′ (getD w TYPE-COUNT 0) p d
       predicate-stands p d h P =
-          let x = said (PREDICATES + p) (omega arith) in
+          let x = said (PREDICATES + p) (omega arith) (λ e. omega arith) (λ e. omega arith) in
           record {
             key = rw x (P .key ∙ sym (declared-stands (getD w (PREDICATES + p) 0 / 512 % 256) (P .key-there)));
             value = rw x (P .value ∙ value-stands (getD w (PREDICATES + p) 0) (P .value-there));
@@ -161,24 +162,27 @@ module _ (w w′ : List ℕ) (said : (i : ℕ) → i < RECORD-COUNT → getD w�
             value-there = rw x (P .value-there);
           }
 
-      schema-stands : length (s .predicates) ≤ 128 → length (s .characters) ≤ 256 → SchemaStands w′ T′ s
+      pub schema-stands : length (s .predicates) ≤ 128 → length (s .characters) ≤ 256 → SchemaStands w′ T′ s
       schema-stands few-predicates few-names = record {
-        types = omega (arith, said TYPE-COUNT (omega arith), S .types);
-        cells = rw (said TYPE-COUNT (omega arith)) types-stand;
-        predicates = said PREDICATE-COUNT (omega arith) ∙ S .predicates;
-        predicate = λ p h. rw (said TYPE-COUNT (omega arith)) (predicate-stands p _ (omega arith) (S .predicate p h));
-        value = said VALUE-NAME (omega arith) ∙ S .value;
-        names = said NAME-COUNT (omega arith) ∙ S .names;
-        characters = λ n h. rw (said (NAMES + n) (omega arith)) (S .characters n h);
-        distance = said MAX-DISTANCE (omega arith) ∙ S .distance;
-        term = said MAX-TERM (omega arith) ∙ S .term;
+        types = omega (arith, said TYPE-COUNT (omega arith) (λ e. omega arith) (λ e. omega arith), S .types);
+        cells = rw (said TYPE-COUNT (omega arith) (λ e. omega arith) (λ e. omega arith)) types-stand;
+        predicates = said PREDICATE-COUNT (omega arith) (λ e. omega arith) (λ e. omega arith) ∙ S .predicates;
+        predicate = λ p h. rw (said TYPE-COUNT (omega arith) (λ e. omega arith) (λ e. omega arith)) (predicate-stands p _ (omega arith) (S .predicate p h));
+        value = said VALUE-NAME (omega arith) (λ e. omega arith) (λ e. omega arith) ∙ S .value;
+        names = said NAME-COUNT (omega arith) (λ e. omega arith) (λ e. omega arith) ∙ S .names;
+        characters = λ n h. rw (said (NAMES + n) (omega arith) (λ e. omega arith) (λ e. omega arith)) (S .characters n h);
+        distance = said MAX-DISTANCE (omega arith) (λ e. omega arith) (λ e. omega arith) ∙ S .distance;
+        term = said MAX-TERM (omega arith) (λ e. omega arith) (λ e. omega arith) ∙ S .term;
       }
 
+-- All that was said
+module _ (w w′ : List ℕ) (said : (i : ℕ) → i < RECORD-COUNT → getD w′ i 0 ≡ getD w i 0) where
+  module _ {T T′ : Rows} (M : More w T T′) where
     pub stands-more : {f : List ℕ} {d : Described} → Sound d → length w′ ≡ length w → Stands f w T d → Stands f w′ T′ d
     unfolding maxNames maxPredicates
     stands-more sound long S = record {
       long = omega (arith, S .long);
-      schema = schema-stands (S .schema) (sound .predicatesMax) (sound .namesMax);
+      schema = schema-stands w w′ (λ i l m n. said i (omega arith)) (λ i l m. said i m) M (S .schema) (sound .predicatesMax) (sound .namesMax);
       nodes = said NODE-COUNT (omega arith) ∙ S .nodes;
       few = S .few;
       node = λ n h. let N = S .node n h in record { content = N .content; line = rw (said (NODES + n) (omega (arith, S .few))) (N .line); frame = N .frame };

@@ -2,7 +2,7 @@
 -- meaning/specs/Check.antt gives, over the file that was read.
 use mathlib.Core.List.{List}
 use mathlib.Core.Option.{Option, none}
-use mathlib.Core.Path.{_≡_}
+use mathlib.Core.Path.{_≡_, sym}
 use native.Mathlib.Omega.{arith}
 use Prim.Native.Nat.{ℕ, _+_, _*_, _<_}
 use lib.ListN.{length, getD, length-replicate}
@@ -17,7 +17,7 @@ use Rattle.meaning.specs.File.{Described}
 use Rattle.meaning.specs.Check.{begin}
 use Rattle.tree.specs.Stands.{Stands}
 use Rattle.state.specs.Words.{envOf}
-use Rattle.state.specs.Runs.{diagnosticsOf, Runs}
+use Rattle.state.specs.Runs.{Runs}
 use Rattle.state.proofs.Standing.{cells-start, stands-more}
 
 -- What `begin` leaves of the words.
@@ -32,7 +32,7 @@ pub record Started (w w′ : List ℕ) : Type 0 where
   pub untyped : (i : ℕ) → i < 512 → getD w′ (TYS + 2 * i) 0 ≡ 0
 
 pub start-runs : {f w w′ : List ℕ} {T : Rows} {d : Described} (ceiling : ℕ) → Sound d → Stands f w T d → Started w w′ → Runs f w′ T d (begin ceiling (length (d .ast .nodes)))
-unfolding begin envOf diagnosticsOf
+unfolding begin envOf
 start-runs {f} {w} {w′} {T} {d} ceiling sound before B =
     let n = length (d .ast .nodes) in
     let S : Stands f w′ T d = stands-more w w′ (B .keeps .below) more-refl sound (B .keeps .long) before in
@@ -42,7 +42,6 @@ start-runs {f} {w} {w′} {T} {d} ceiling sound before B =
       nodes = length-replicate {A = Option Tree.Ty} n none;
       env = rw (B .env);
       few-env = omega (arith, B .env);
-      diagnostics = rw (B .diagnostics);
+      diagnostics = sym (B .diagnostics);
       few-diagnostics = omega (arith, B .diagnostics);
-      among = λ i h. absurd (omega (arith, B .diagnostics));
     }

@@ -1,27 +1,15 @@
 -- What the work slice stands for in the midst of a run: the checker of meaning/specs/Check.antt, over a file that was read.
-use mathlib.Core.List.{List, [], _∷_}
+use mathlib.Core.List.{List}
 use mathlib.Core.Path.{_≡_}
-use Prim.Native.Nat.{ℕ, zero, suc, _+_, _/_, _%_, _<_, _≤_}
+use Prim.Native.Nat.{ℕ, _+_, _≤_}
 use lib.ListN.{length, getD}
 use Rattle.work.specs.Layout.{RECORD-COUNT, RECORD-FIELD-COUNT, ENV-LEN, DIAGNOSTIC-COUNT, END}
 use Rattle.cells.specs.Stands.{Rows, Holds, Keeps}
 use Rattle.cells.specs.Inferred.{Adds}
-use Rattle.meaning.specs.Syntax.{Node, nodeAt}
-use Rattle.meaning.specs.Diag.{Diagnostic}
 use Rattle.meaning.specs.File.{Described}
 use Rattle.meaning.specs.Check.{Checker}
 use Rattle.tree.specs.Stands.{Stands}
-use Rattle.state.specs.Words.{codeAt, halfW, envOf}
-
-unfoldable pub diagnosticOf : List Node → ℕ → Diagnostic
-unfolding codeAt nodeAt
-diagnosticOf nodes e = record { code = codeAt (e % 16); span = nodeAt nodes (e / 16) .span }
-
--- newest first
-unfoldable pub diagnosticsOf : List Node → List ℕ → ℕ → List Diagnostic
-unfolding diagnosticOf halfW
-diagnosticsOf nodes w zero = []
-diagnosticsOf nodes w (suc n) = diagnosticOf nodes (halfW w n) ∷ diagnosticsOf nodes w n
+use Rattle.state.specs.Words.{envOf}
 
 pub record Runs (f w : List ℕ) (T : Rows) (d : Described) (c : Checker) : Type 0 where
   pub stands : Stands f w T d
@@ -29,10 +17,9 @@ pub record Runs (f w : List ℕ) (T : Rows) (d : Described) (c : Checker) : Type
   pub nodes : length (c .state .tys) ≡ length (d .ast .nodes)
   pub env : c .env ≡ envOf w (getD w ENV-LEN 0)
   pub few-env : getD w ENV-LEN 0 ≤ 512
-  pub diagnostics : c .diagnostics ≡ diagnosticsOf (d .ast .nodes) w (getD w DIAGNOSTIC-COUNT 0)
+  -- their lines stand in the answer slice (`Told`, Lines.antt)
+  pub diagnostics : length (c .diagnostics) ≡ getD w DIAGNOSTIC-COUNT 0
   pub few-diagnostics : getD w DIAGNOSTIC-COUNT 0 ≤ 1536
-  -- each is at a node of the file
-  pub among : (i : ℕ) → i < getD w DIAGNOSTIC-COUNT 0 → halfW w i / 16 < length (d .ast .nodes)
 
 -- At most n records and m fields were made, and only words of the run changed.
 pub record Grew (w w′ : List ℕ) (n m : ℕ) : Type 0 where

@@ -1,12 +1,12 @@
--- The words of a run besides those of types: how diagnostics and variables are written and read (src/lib.rt). There is room for
--- 1,536 diagnostics and 512 variables; past it nothing is written, and that it never comes to that is shown where the run is.
+-- The words of a run besides those of types: how diagnostics are counted and variables are written and read (src/lib.rt). There are
+-- at most 1,536 diagnostics and 512 variables; past it nothing is written, and that it never comes to that is shown where the run is.
 use mathlib.Core.List.{List, [], _∷_}
 use mathlib.Core.Option.{Option, none, some}
 use mathlib.Core.Path.{_≡_}
 use Prim.Native.Nat.{ℕ, zero, suc, _+_, _*_, _/_, _%_}
-use lib.Dec.{eqb, ltb}
+use lib.Dec.{ltb}
 use lib.ListN.{getD, set}
-use Rattle.work.specs.Layout.{ENV-LEN, DIAGNOSTIC-COUNT, UNKNOWNS, ENV, DIAGNOSTICS}
+use Rattle.work.specs.Layout.{ENV-LEN, DIAGNOSTIC-COUNT, UNKNOWNS, ENV}
 use Rattle.cells.specs.Words.{pick, freshW}
 use Rattle.meaning.specs.Diag as Diag
 use Rattle.meaning.specs.Check.{lookupIn}
@@ -32,45 +32,9 @@ codeOf Code.RejectUnresolvedAccess = Diag.RejectUnresolvedAccess
 codeOf Code.RejectValueShadowed = Diag.RejectValueShadowed
 codeOf Code.RejectWildcardInHead = Diag.RejectWildcardInHead
 
-abbrev pub numberOf : Code → ℕ
-numberOf Code.NyiBindUnification = 0
-numberOf Code.RejectBindLhs = 1
-numberOf Code.RejectFuzzyDistance = 2
-numberOf Code.RejectFuzzyTerm = 3
-numberOf Code.RejectInfiniteType = 4
-numberOf Code.RejectNoValue = 5
-numberOf Code.RejectNotAUnion = 6
-numberOf Code.RejectTypeMismatch = 7
-numberOf Code.RejectUnionArity = 8
-numberOf Code.RejectUnknownAlternative = 9
-numberOf Code.RejectUnknownField = 10
-numberOf Code.RejectUnresolvedAccess = 11
-numberOf Code.RejectValueShadowed = 12
-numberOf Code.RejectWildcardInHead = 13
-
-unfoldable pub codeAt : ℕ → Diag.Code
-codeAt n = getD (
-    Diag.NyiBindUnification ∷ Diag.RejectBindLhs ∷ Diag.RejectFuzzyDistance ∷ Diag.RejectFuzzyTerm ∷ Diag.RejectInfiniteType ∷
-    Diag.RejectNoValue ∷ Diag.RejectNotAUnion ∷ Diag.RejectTypeMismatch ∷ Diag.RejectUnionArity ∷ Diag.RejectUnknownAlternative ∷
-    Diag.RejectUnknownField ∷ Diag.RejectUnresolvedAccess ∷ Diag.RejectValueShadowed ∷ Diag.RejectWildcardInHead ∷ []) n Diag.RejectWildcardInHead
-
--- ---- Diagnostics: a node and a code in half a word.
-unfoldable pub halfW : List ℕ → ℕ → ℕ
-halfW w i = pick (eqb (i % 2) 0) (getD w (DIAGNOSTICS + i / 2) 0 % 65536) (getD w (DIAGNOSTICS + i / 2) 0 / 65536)
-
--- The word that held `old`, with the i-th half.
-unfoldable pub besideW : ℕ → ℕ → ℕ → ℕ
-besideW i e old = pick (eqb (i % 2) 0) e (e * 65536 + old % 65536)
-
-unfoldable pub putHalfW : List ℕ → ℕ → ℕ → List ℕ
-unfolding besideW
-putHalfW w i e = set w (DIAGNOSTICS + i / 2) (besideW i e (getD w (DIAGNOSTICS + i / 2) 0))
-
-unfoldable pub rejectW : List ℕ → ℕ → Code → List ℕ
-unfolding putHalfW
-rejectW w n code =
-    pick (ltb (getD w DIAGNOSTIC-COUNT 0) 1536)
-    (pick (ltb n 512) (set (putHalfW w (getD w DIAGNOSTIC-COUNT 0) (n * 16 + numberOf code)) DIAGNOSTIC-COUNT (getD w DIAGNOSTIC-COUNT 0 + 1)) w) w
+-- ---- The number of diagnostics
+unfoldable pub countedW : List ℕ → List ℕ
+countedW w = pick (ltb (getD w DIAGNOSTIC-COUNT 0) 1536) (set w DIAGNOSTIC-COUNT (getD w DIAGNOSTIC-COUNT 0 + 1)) w
 
 -- ---- The environment: a variable and its unknown in a word, newest last in the slice and first in the list.
 unfoldable pub envOf : List ℕ → ℕ → List (ℕ × ℕ)

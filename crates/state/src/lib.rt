@@ -1,13 +1,16 @@
-// What a run keeps in the slice besides types: the environment and the diagnostics.
+// What a run keeps in the slice besides types: the environment, and where the lines of its diagnostics end in the answer slice.
 ghost use mathlib.Core.Path.{_≡_};
-ghost use Prim.Native.Nat.{_<_};
-ghost use lib.ListN.{getD};
+ghost use lib.ListN.{getD, set};
 ghost use Rattle.work.specs.Layout.{ENV-LEN};
+ghost use Rattle.meaning.specs.Diag.{ascii, asStr};
 ghost use Rattle.meaning.specs.Check.{lookupIn};
-ghost use Rattle.state.specs.Words.{numberOf, besideW, halfW, rejectW, envOf, knownAs, pushEnvW, Introduces};
+ghost use Rattle.writer.specs.Writes.{WritesText};
+ghost use Rattle.state.specs.Words.{codeOf, countedW, envOf, knownAs, pushEnvW, Introduces};
+ghost use Rattle.state.specs.Lines.{placeW, setPlaceW, WritesSpan, WritesHead, WritesDiagnostic, WritesLine, Tells, Rejected};
 use work::put;
 use work::wide;
 use work::word;
+use writer::Wrote;
 
 pub enum Code {
     NyiBindUnification,
@@ -26,65 +29,143 @@ pub enum Code {
     RejectWildcardInHead,
 }
 
-pub fn code_number(c: Code) -> u32
-    ensures { λ r. ⌜ r ≡ numberOf c ⌝ }
-{
-    match c {
-        Code::NyiBindUnification => 0,
-        Code::RejectBindLhs => 1,
-        Code::RejectFuzzyDistance => 2,
-        Code::RejectFuzzyTerm => 3,
-        Code::RejectInfiniteType => 4,
-        Code::RejectNoValue => 5,
-        Code::RejectNotAUnion => 6,
-        Code::RejectTypeMismatch => 7,
-        Code::RejectUnionArity => 8,
-        Code::RejectUnknownAlternative => 9,
-        Code::RejectUnknownField => 10,
-        Code::RejectUnresolvedAccess => 11,
-        Code::RejectValueShadowed => 12,
-        Code::RejectWildcardInHead => 13,
-    }
-}
-
 pub enum Known {
     As(u32),
     Nothing,
 }
 
-// Two diagnostics stand in a word, the first in its low half: the word with the i-th diagnostic.
-fn beside(i: u32, entry: u32, old: u32) -> u32
-    requires { ⌜ entry < 65536 ⌝ }
-    ensures { λ r. ⌜ r ≡ besideW i entry old ⌝ }
+// ---- The lines of the diagnostics, in the answer slice
+
+// Where the next line goes.
+pub fn place(w: &[u32]) -> usize
+    ensures { λ r. ⌜ r ≡ placeW (now (w .entry)) ⌝ }
 {
-    if i % 2 == 0 {
-        entry
-    } else {
-        entry * 65536 + old % 65536
+    wide(word(w, work::PLACE)) + wide(word(w, work::PLACE_HIGH)) * 4294967296
+}
+
+fn set_place(w: &mut [u32], at: usize)
+    ensures { λ _. ⌜ now (w .exit) ≡ setPlaceW (now (w .entry)) at ⌝ }
+{
+    put(w, work::PLACE, (at % 4294967296) as u32);
+    put(w, work::PLACE_HIGH, (at / 4294967296) as u32);
+}
+
+// No line yet.
+pub fn begin_lines(w: &mut [u32])
+    ensures { λ _. ⌜ now (w .exit) ≡ set (set (set (now (w .entry)) 9621 0) 9622 0) 9623 0 ⌝ }
+{
+    put(w, work::PLACE, 0);
+    put(w, work::PLACE_HIGH, 0);
+    put(w, work::FULL, 0);
+}
+
+fn code_text(out: &mut [u8], at: usize, c: Code) -> Wrote
+    ensures { λ r. ⌜ WritesText (now (out .entry)) at (ascii (asStr (codeOf c))) (now (out .exit)) r ⌝ }
+{
+    match c {
+        Code::NyiBindUnification => writer::text(out, at, b"nyi/bind-unification"),
+        Code::RejectBindLhs => writer::text(out, at, b"reject/bind-lhs"),
+        Code::RejectFuzzyDistance => writer::text(out, at, b"reject/fuzzy-distance"),
+        Code::RejectFuzzyTerm => writer::text(out, at, b"reject/fuzzy-term"),
+        Code::RejectInfiniteType => writer::text(out, at, b"reject/infinite-type"),
+        Code::RejectNoValue => writer::text(out, at, b"reject/no-value"),
+        Code::RejectNotAUnion => writer::text(out, at, b"reject/not-a-union"),
+        Code::RejectTypeMismatch => writer::text(out, at, b"reject/type-mismatch"),
+        Code::RejectUnionArity => writer::text(out, at, b"reject/union-arity"),
+        Code::RejectUnknownAlternative => writer::text(out, at, b"reject/unknown-alternative"),
+        Code::RejectUnknownField => writer::text(out, at, b"reject/unknown-field"),
+        Code::RejectUnresolvedAccess => writer::text(out, at, b"reject/unresolved-access"),
+        Code::RejectValueShadowed => writer::text(out, at, b"reject/value-shadowed"),
+        Code::RejectWildcardInHead => writer::text(out, at, b"reject/wildcard-in-head"),
     }
 }
 
-// The node and the code.
-pub fn reject(w: &mut [u32], n: u32, code: Code)
-    ensures { λ _. ⌜ now (w .exit) ≡ rejectW (now (w .entry)) n code ⌝ }
+// The span stands in the node's line as the answer has it: sixteen digits, after the two of the line's kind.
+fn span(f: &[u8], out: &mut [u8], at: usize, line: usize) -> Wrote
+    ensures { λ r. ⌜ WritesSpan (now (f .entry)) (now (out .entry)) at line (now (out .exit)) r ⌝ }
 {
-    let i = word(w, work::DIAGNOSTIC_COUNT);
-    if i < 1536 {
-        if n < 512 {
-            let at = work::DIAGNOSTICS + wide(i / 2);
-            let x = beside(i, n * 16 + code_number(code), word(w, at));
-            put(w, at, x);
-            put(w, work::DIAGNOSTIC_COUNT, i + 1);
+    if f.len() < 18 {
+        return Wrote::Full;
+    }
+    if f.len() - 18 < line {
+        return Wrote::Full;
+    }
+    let from = line + 2;
+    let mut i: usize = 0;
+    let mut to = at;
+    while i < 16 {
+        let r = writer::one(out, to, f[from + i]);
+        match r {
+            Wrote::To(m) => {
+                to = m;
+            }
+            Wrote::Full => {
+                return Wrote::Full;
+            }
+        }
+        i += 1;
+    }
+    Wrote::To(to)
+}
+
+fn head(f: &[u8], out: &mut [u8], at: usize, line: usize) -> Wrote
+    ensures { λ r. ⌜ WritesHead (now (f .entry)) (now (out .entry)) at line (now (out .exit)) r ⌝ }
+{
+    let r = writer::byte(out, at, 8);
+    match r {
+        Wrote::To(m) => span(f, out, m, line),
+        Wrote::Full => Wrote::Full,
+    }
+}
+
+fn diagnostic(f: &[u8], w: &[u32], out: &mut [u8], at: usize, n: u32, c: Code) -> Wrote
+    ensures { λ r. ⌜ WritesDiagnostic (now (f .entry)) (now (w .entry)) (now (out .entry)) at n c (now (out .exit)) r ⌝ }
+{
+    let r = head(f, out, at, tree::line_start(w, n));
+    match r {
+        Wrote::To(m) => code_text(out, m, c),
+        Wrote::Full => Wrote::Full,
+    }
+}
+
+fn line(f: &[u8], w: &[u32], out: &mut [u8], at: usize, n: u32, c: Code) -> Wrote
+    ensures { λ r. ⌜ WritesLine (now (f .entry)) (now (w .entry)) (now (out .entry)) at n c (now (out .exit)) r ⌝ }
+{
+    let r = diagnostic(f, w, out, at, n, c);
+    match r {
+        Wrote::To(m) => writer::close(out, m),
+        Wrote::Full => Wrote::Full,
+    }
+}
+
+// A line behind the lines before it; where there is no room, that is noted and no line is written from then on.
+fn tell(f: &[u8], w: &mut [u32], n: u32, c: Code, out: &mut [u8])
+    ensures { λ _. ⌜ Tells (now (f .entry)) (now (w .entry)) (now (out .entry)) n c (now (w .exit)) (now (out .exit)) ⌝ }
+{
+    if word(w, work::FULL) == 0 {
+        let r = line(f, w, out, place(w), n, c);
+        match r {
+            Wrote::To(m) => set_place(w, m),
+            Wrote::Full => put(w, work::FULL, 1),
         }
     }
 }
 
-// The i-th diagnostic: the node times 16, and the code's number.
-pub fn diagnostic(w: &[u32], i: u32) -> u32
-    ensures { λ r. ⌜ r ≡ halfW (now (w .entry)) i ⌝ }
+fn count(w: &mut [u32])
+    ensures { λ _. ⌜ now (w .exit) ≡ countedW (now (w .entry)) ⌝ }
 {
-    let x = word(w, work::DIAGNOSTICS + wide(i / 2));
-    if i % 2 == 0 { x % 65536 } else { x / 65536 }
+    let i = word(w, work::DIAGNOSTIC_COUNT);
+    if i < 1536 {
+        put(w, work::DIAGNOSTIC_COUNT, i + 1);
+    }
+}
+
+// A diagnostic at a node.
+pub fn reject(f: &[u8], w: &mut [u32], n: u32, c: Code, out: &mut [u8])
+    ensures { λ _. ⌜ Rejected (now (f .entry)) (now (w .entry)) (now (out .entry)) n c (now (w .exit)) (now (out .exit)) ⌝ }
+{
+    tell(f, w, n, c, out);
+    count(w);
 }
 
 // Newest first.

@@ -23,89 +23,86 @@ use Rattle.meaning.specs.Schema.{fieldOf}
 use Rattle.meaning.specs.File.{Described}
 use Rattle.meaning.specs.Sound.{Sound}
 use Rattle.meaning.specs.Check.{Checker, Does, goes, rejectTy, keyTy, valueTy, fieldAt, keyOf, valueOf, selectOf, unresolved}
-use Rattle.meaning.proofs.Meets.{unknowns}
+use Rattle.meaning.specs.Grades.{unknowns}
 use Rattle.meaning.proofs.Visits.{key-declared}
 use Rattle.state.specs.declared.Code.{Code}
 use Rattle.state.specs.declared.Code.the-variants as Code
-use Rattle.state.specs.Words.{codeOf, rejectW}
+use Rattle.state.specs.Words.{codeOf}
+use Rattle.state.specs.Lines.{Rejected}
 use Rattle.state.specs.Runs.{Runs}
 use Rattle.steps.specs.declared.Typed.{Typed}
 use Rattle.steps.specs.declared.Typed.the-variants as Typed
-use Rattle.steps.specs.Contracts.{nodesOf, Fine}
-use Rattle.steps.specs.Outside.{keyTyW, valueTyW, FieldIs, Shadows, OnHead, ValueOf, FieldAt, KeyOf, SelectOf}
+use Rattle.steps.specs.Contracts.{nodesOf, Fine, OnType}
+use Rattle.steps.specs.Outside.{keyTyW, valueTyW, FieldIs, Shadows, ValueOf, FieldAt, KeyOf, SelectOf}
 use Rattle.steps.proofs.Looking.{key-stands, key-ok, value-stands, value-ok}
 use Rattle.steps.proofs.Ending.{ends-with, reject-ty-ends}
 
 -- ---- `field_at`
-module _ {w : List ℕ} {n name left : ℕ} {t : Ty} {b : Bound} (F : FieldIs w t name b) where
-  pub field-at-found : (u : Ty) → b ≡ To u → FieldAt w n name t left w (Typed.Got u left)
+module _ {f w ou : List ℕ} {n name left : ℕ} {t : Ty} {b : Bound} (F : FieldIs w t name b) where
+  pub field-at-found : (u : Ty) → b ≡ To u → FieldAt f w ou n name t left w ou (Typed.Got u left)
   unfolding fieldAt
   field-at-found u q = record {
-    is = λ f. record {
-      is = λ d there. record {
-        is = λ T c B fine.
-            let e : some (tree T u) ≡ fieldOf (tree T t) name = rw q at (F .is T (B .runs .holds .cells) (fine .ok)) in
-            let o : Ok w u = rw q at (F .ok T (B .runs .holds .cells) (fine .ok)) in
-            rw (← e, fieldAt) (ends-with B u (tree T u) o refl);
-      };
+    is = λ d there. record {
+      is = λ T c B fine.
+          let e : some (tree T u) ≡ fieldOf (tree T t) name = rw q at (F .is T (B .runs .holds .cells) (fine .ok)) in
+          let o : Ok w u = rw q at (F .ok T (B .runs .holds .cells) (fine .ok)) in
+          rw (← e, fieldAt) (ends-with B u (tree T u) o refl);
     };
   }
 
-  pub field-at-none : b ≡ Free → {w′ : List ℕ} {r : Typed} → (r ≡ Typed.Got Error left) × (w′ ≡ rejectW w n Code.RejectUnknownField) → FieldAt w n name t left w′ r
+  pub field-at-none : b ≡ Free → {w′ ou′ : List ℕ} {r : Typed} → (r ≡ Typed.Got Error left) × (Rejected f w ou n Code.RejectUnknownField w′ ou′) → FieldAt f w ou n name t left w′ ou′ r
   unfolding fieldAt
   field-at-none q x = record {
-    is = λ f. record {
-      is = λ d there. record {
-        is = λ T c B fine.
-            let e : none ≡ fieldOf (tree T t) name = rw q at (F .is T (B .runs .holds .cells) (fine .ok)) in
-            rw (← e, fieldAt) (reject-ty-ends B n there Code.RejectUnknownField x);
-      };
+    is = λ d there. record {
+      is = λ T c B fine.
+          let e : none ≡ fieldOf (tree T t) name = rw q at (F .is T (B .runs .holds .cells) (fine .ok)) in
+          rw (← e, fieldAt) (reject-ty-ends B n there Code.RejectUnknownField x);
     };
   }
 
 -- ---- On a head in general
-module _ (m : Described → Tree.Ty → Does Tree.Ty) {w : List ℕ} {n left : ℕ} {t : Ty} where
+module _ (m : Described → Tree.Ty → Does Tree.Ty) {f w ou : List ℕ} {n left : ℕ} {t : Ty} where
   -- A type in hand comes back.
-  pub head-gives : (u : Ty) → ((f : List ℕ) (T : Rows) (d : Described) (c : Checker) → Runs f w T d c → Ok w t → Ok w u × (m d (tree T t) c ≡ goes (tree T u) c)) → OnHead m w n t left w (Typed.Got u left)
+  pub head-gives : (u : Ty) → ((T : Rows) (d : Described) (c : Checker) → Runs f w T d c → Ok w t → Ok w u × (m d (tree T t) c ≡ goes (tree T u) c)) → OnType m f w ou n t left w ou (Typed.Got u left)
   head-gives u h = record {
-    is = λ f. record { is = λ d there. record { is = λ T c B fine. let x = h f T d c (B .runs) (fine .ok) in rw (x .1) (ends-with B u (tree T u) (x .0) refl) } };
+    is = λ d there. record { is = λ T c B fine. let x = h T d c (B .runs) (fine .ok) in rw (x .1) (ends-with B u (tree T u) (x .0) refl) };
   }
 
   -- One diagnostic.
-  pub head-rejects : (code : Code) → ((f : List ℕ) (T : Rows) (d : Described) (c : Checker) → Runs f w T d c → Ok w t → m d (tree T t) c ≡ rejectTy (d .schema) (nodesOf d) n (codeOf code) c)
-      → {w′ : List ℕ} {r : Typed} → (r ≡ Typed.Got Error left) × (w′ ≡ rejectW w n code) → OnHead m w n t left w′ r
+  pub head-rejects : (code : Code) → ((T : Rows) (d : Described) (c : Checker) → Runs f w T d c → Ok w t → m d (tree T t) c ≡ rejectTy (d .schema) (nodesOf d) n (codeOf code) c)
+      → {w′ ou′ : List ℕ} {r : Typed} → (r ≡ Typed.Got Error left) × (Rejected f w ou n code w′ ou′) → OnType m f w ou n t left w′ ou′ r
   head-rejects code h x = record {
-    is = λ f. record { is = λ d there. record { is = λ T c B fine. rw (h f T d c (B .runs) (fine .ok)) (reject-ty-ends B n there code x) } };
+    is = λ d there. record { is = λ T c B fine. rw (h T d c (B .runs) (fine .ok)) (reject-ty-ends B n there code x) };
   }
 
 -- ---- `select_of`
 abbrev selects : ℕ → ℕ → Described → Tree.Ty → Does Tree.Ty
 selects n name d ty = selectOf (d .schema) (nodesOf d) n name ty
 
-module _ {w : List ℕ} (n name : ℕ) {left : ℕ} {t : Ty} where
-  pub select-error : t ≡ Error → SelectOf w n name t left w (Typed.Got Error left)
+module _ {f w ou : List ℕ} (n name : ℕ) {left : ℕ} {t : Ty} where
+  pub select-error : t ≡ Error → SelectOf f w ou n name t left w ou (Typed.Got Error left)
   unfolding selectOf
-  select-error e = head-gives (selects n name) Error (λ f T d c R o. (tt, rw e))
+  select-error e = head-gives (selects n name) Error (λ T d c R o. (tt, rw e))
 
-  pub select-unknown : (x : ℕ) → t ≡ Var x → {w′ : List ℕ} {r : Typed} → (r ≡ Typed.Got Error left) × (w′ ≡ rejectW w n Code.RejectUnresolvedAccess) → SelectOf w n name t left w′ r
+  pub select-unknown : (x : ℕ) → t ≡ Var x → {w′ ou′ : List ℕ} {r : Typed} → (r ≡ Typed.Got Error left) × (Rejected f w ou n Code.RejectUnresolvedAccess w′ ou′) → SelectOf f w ou n name t left w′ ou′ r
   unfolding selectOf unresolved
-  select-unknown x e q = head-rejects (selects n name) Code.RejectUnresolvedAccess (λ f T d c R o. rw e) q
+  select-unknown x e q = head-rejects (selects n name) Code.RejectUnresolvedAccess (λ T d c R o. rw e) q
 
   module _ {k : ℕ} {b : Found} (F : FindsName w k name b) (e : t ≡ Union k) where
-    pub select-found : (p : Part) → b ≡ At p → SelectOf w n name t left w (Typed.Got (p .ty) left)
+    pub select-found : (p : Part) → b ≡ At p → SelectOf f w ou n name t left w ou (Typed.Got (p .ty) left)
     unfolding selectOf
-    select-found p q = head-gives (selects n name) (p .ty) (λ f T d c R o.
+    select-found p q = head-gives (selects n name) (p .ty) (λ T d c R o.
         let z : some (tree T (p .ty)) ≡ findLabel name (T k) = rw q at (F .is T (R .holds .cells) (rw e at o)) in
         (rw q at (F .ok T (R .holds .cells) (rw e at o)), rw (e, ← z, selectOf)))
 
-    pub select-none : b ≡ Nothing → {w′ : List ℕ} {r : Typed} → (r ≡ Typed.Got Error left) × (w′ ≡ rejectW w n Code.RejectUnknownAlternative) → SelectOf w n name t left w′ r
+    pub select-none : b ≡ Nothing → {w′ ou′ : List ℕ} {r : Typed} → (r ≡ Typed.Got Error left) × (Rejected f w ou n Code.RejectUnknownAlternative w′ ou′) → SelectOf f w ou n name t left w′ ou′ r
     unfolding selectOf
-    select-none q x = head-rejects (selects n name) Code.RejectUnknownAlternative (λ f T d c R o.
+    select-none q x = head-rejects (selects n name) Code.RejectUnknownAlternative (λ T d c R o.
         let z : none ≡ findLabel name (T k) = rw q at (F .is T (R .holds .cells) (rw e at o)) in rw (e, ← z, selectOf)) x
 
-  pub select-other : OneOf (0 ∷ 1 ∷ 2 ∷ 3 ∷ 4 ∷ []) (tagOf the-type t) → {w′ : List ℕ} {r : Typed} → (r ≡ Typed.Got Error left) × (w′ ≡ rejectW w n Code.RejectNotAUnion) → SelectOf w n name t left w′ r
+  pub select-other : OneOf (0 ∷ 1 ∷ 2 ∷ 3 ∷ 4 ∷ []) (tagOf the-type t) → {w′ ou′ : List ℕ} {r : Typed} → (r ≡ Typed.Got Error left) × (Rejected f w ou n Code.RejectNotAUnion w′ ou′) → SelectOf f w ou n name t left w′ ou′ r
   unfolding selectOf
-  select-other x q = head-rejects (selects n name) Code.RejectNotAUnion (λ f T d c R o. go d T c t x) q
+  select-other x q = head-rejects (selects n name) Code.RejectNotAUnion (λ T d c R o. go d T c t x) q
     where
       go : (d : Described) (T : Rows) (c : Checker) (t : Ty) → OneOf (0 ∷ 1 ∷ 2 ∷ 3 ∷ 4 ∷ []) (tagOf the-type t) → selectOf (d .schema) (nodesOf d) n name (tree T t) c ≡ rejectTy (d .schema) (nodesOf d) n (codeOf Code.RejectNotAUnion) c
       go d T c Int x = refl
@@ -127,40 +124,38 @@ key-fine {f} {w} {T} {d} {c} s R p {u} e =
     let q : some (tree T u) ≡ keyTy (d .schema) (nodesOf d) p = rw (← e) at (key-stands R p) in
     record { ok = rw (← e) at (key-ok R p); side = declared-side (unknowns c) (tree T u) (rw (← q) at (key-declared (d .schema) (nodesOf d) (s .predicates) p)) }
 
-module _ {w : List ℕ} (n name : ℕ) {left : ℕ} {t : Ty} where
-  pub key-error : t ≡ Error → KeyOf w n name t left w (Typed.Got Error left)
+module _ {f w ou : List ℕ} (n name : ℕ) {left : ℕ} {t : Ty} where
+  pub key-error : t ≡ Error → KeyOf f w ou n name t left w ou (Typed.Got Error left)
   unfolding keyOf
-  key-error e = head-gives (keys n name) Error (λ f T d c R o. (tt, rw e))
+  key-error e = head-gives (keys n name) Error (λ T d c R o. (tt, rw e))
 
-  pub key-unknown : (x : ℕ) → t ≡ Var x → {w′ : List ℕ} {r : Typed} → (r ≡ Typed.Got Error left) × (w′ ≡ rejectW w n Code.RejectUnresolvedAccess) → KeyOf w n name t left w′ r
+  pub key-unknown : (x : ℕ) → t ≡ Var x → {w′ ou′ : List ℕ} {r : Typed} → (r ≡ Typed.Got Error left) × (Rejected f w ou n Code.RejectUnresolvedAccess w′ ou′) → KeyOf f w ou n name t left w′ ou′ r
   unfolding keyOf unresolved
-  key-unknown x e q = head-rejects (keys n name) Code.RejectUnresolvedAccess (λ f T d c R o. rw e) q
+  key-unknown x e q = head-rejects (keys n name) Code.RejectUnresolvedAccess (λ T d c R o. rw e) q
 
-  pub key-record : (k : ℕ) → t ≡ Record k → {w′ : List ℕ} {r : Typed} → FieldAt w n name t left w′ r → KeyOf w n name t left w′ r
+  pub key-record : (k : ℕ) → t ≡ Record k → {w′ ou′ : List ℕ} {r : Typed} → FieldAt f w ou n name t left w′ ou′ r → KeyOf f w ou n name t left w′ ou′ r
   unfolding keyOf
-  key-record k e F = record { is = λ f. record { is = λ d there. record { is = λ T c B fine. rw e (rw e at (F .is f .is d there .is T c B fine)) } } }
+  key-record k e F = record { is = λ d there. record { is = λ T c B fine. rw e (rw e at (F .is d there .is T c B fine)) } }
 
   module _ {p : ℕ} (e : t ≡ Fact p) {key : Bound} (k : key ≡ keyTyW w p) where
-    pub key-found : (u : Ty) → key ≡ To u → {w′ : List ℕ} {r : Typed} → FieldAt w n name u left w′ r → KeyOf w n name t left w′ r
+    pub key-found : (u : Ty) → key ≡ To u → {w′ ou′ : List ℕ} {r : Typed} → FieldAt f w ou n name u left w′ ou′ r → KeyOf f w ou n name t left w′ ou′ r
     unfolding keyOf
     key-found u q F = record {
-      is = λ f. record {
-        is = λ d there. record {
-          is = λ T c B fine.
-              let z : some (tree T u) ≡ keyTy (d .schema) (nodesOf d) p = rw (← k, q) at (key-stands (B .runs) p) in
-              rw (e, ← z, keyOf) (F .is f .is d there .is T c B (key-fine (B .sound) (B .runs) p (sym q ∙ k)));
-        };
+      is = λ d there. record {
+        is = λ T c B fine.
+            let z : some (tree T u) ≡ keyTy (d .schema) (nodesOf d) p = rw (← k, q) at (key-stands (B .runs) p) in
+            rw (e, ← z, keyOf) (F .is d there .is T c B (key-fine (B .sound) (B .runs) p (sym q ∙ k)));
       };
     }
 
-    pub key-absent : key ≡ Free → KeyOf w n name t left w (Typed.Got Error left)
+    pub key-absent : key ≡ Free → KeyOf f w ou n name t left w ou (Typed.Got Error left)
     unfolding keyOf
-    key-absent q = head-gives (keys n name) Error (λ f T d c R o.
+    key-absent q = head-gives (keys n name) Error (λ T d c R o.
         let z : none ≡ keyTy (d .schema) (nodesOf d) p = rw (← k, q) at (key-stands R p) in (tt, rw (e, ← z, keyOf)))
 
-  pub key-other : OneOf (0 ∷ 1 ∷ 2 ∷ 5 ∷ []) (tagOf the-type t) → {w′ : List ℕ} {r : Typed} → (r ≡ Typed.Got Error left) × (w′ ≡ rejectW w n Code.RejectTypeMismatch) → KeyOf w n name t left w′ r
+  pub key-other : OneOf (0 ∷ 1 ∷ 2 ∷ 5 ∷ []) (tagOf the-type t) → {w′ ou′ : List ℕ} {r : Typed} → (r ≡ Typed.Got Error left) × (Rejected f w ou n Code.RejectTypeMismatch w′ ou′) → KeyOf f w ou n name t left w′ ou′ r
   unfolding keyOf
-  key-other x q = head-rejects (keys n name) Code.RejectTypeMismatch (λ f T d c R o. go d T c t x) q
+  key-other x q = head-rejects (keys n name) Code.RejectTypeMismatch (λ T d c R o. go d T c t x) q
     where
       go : (d : Described) (T : Rows) (c : Checker) (t : Ty) → OneOf (0 ∷ 1 ∷ 2 ∷ 5 ∷ []) (tagOf the-type t) → keyOf (d .schema) (nodesOf d) n name (tree T t) c ≡ rejectTy (d .schema) (nodesOf d) n (codeOf Code.RejectTypeMismatch) c
       go d T c Int x = refl
@@ -176,35 +171,35 @@ module _ {w : List ℕ} (n name : ℕ) {left : ℕ} {t : Ty} where
 abbrev values : ℕ → Described → Tree.Ty → Does Tree.Ty
 values n d ty = valueOf (d .schema) (nodesOf d) n ty
 
-module _ {w : List ℕ} (n : ℕ) {left : ℕ} {t : Ty} where
-  pub value-error : t ≡ Error → ValueOf w n t left w (Typed.Got Error left)
+module _ {f w ou : List ℕ} (n : ℕ) {left : ℕ} {t : Ty} where
+  pub value-error : t ≡ Error → ValueOf f w ou n t left w ou (Typed.Got Error left)
   unfolding valueOf
-  value-error e = head-gives (values n) Error (λ f T d c R o. (tt, rw e))
+  value-error e = head-gives (values n) Error (λ T d c R o. (tt, rw e))
 
-  pub value-unknown : (x : ℕ) → t ≡ Var x → {w′ : List ℕ} {r : Typed} → (r ≡ Typed.Got Error left) × (w′ ≡ rejectW w n Code.RejectUnresolvedAccess) → ValueOf w n t left w′ r
+  pub value-unknown : (x : ℕ) → t ≡ Var x → {w′ ou′ : List ℕ} {r : Typed} → (r ≡ Typed.Got Error left) × (Rejected f w ou n Code.RejectUnresolvedAccess w′ ou′) → ValueOf f w ou n t left w′ ou′ r
   unfolding valueOf unresolved
-  value-unknown x e q = head-rejects (values n) Code.RejectUnresolvedAccess (λ f T d c R o. rw e) q
+  value-unknown x e q = head-rejects (values n) Code.RejectUnresolvedAccess (λ T d c R o. rw e) q
 
   module _ {p : ℕ} (e : t ≡ Fact p) {b : Bool} (S : Shadows w p b) where
-    pub value-shadowed : b ≡ true → {w′ : List ℕ} {r : Typed} → (r ≡ Typed.Got Error left) × (w′ ≡ rejectW w n Code.RejectValueShadowed) → ValueOf w n t left w′ r
+    pub value-shadowed : b ≡ true → {w′ ou′ : List ℕ} {r : Typed} → (r ≡ Typed.Got Error left) × (Rejected f w ou n Code.RejectValueShadowed w′ ou′) → ValueOf f w ou n t left w′ ou′ r
     unfolding valueOf
-    value-shadowed q x = head-rejects (values n) Code.RejectValueShadowed (λ f T d c R o. rw (e, ← (S .is f T d c R), q, valueOf)) x
+    value-shadowed q x = head-rejects (values n) Code.RejectValueShadowed (λ T d c R o. rw (e, ← (S .is f T d c R), q, valueOf)) x
 
     module _ (q : b ≡ false) {value : Bound} (v : value ≡ valueTyW w p) where
-      pub value-found : (u : Ty) → value ≡ To u → ValueOf w n t left w (Typed.Got u left)
+      pub value-found : (u : Ty) → value ≡ To u → ValueOf f w ou n t left w ou (Typed.Got u left)
       unfolding valueOf
-      value-found u z = head-gives (values n) u (λ f T d c R o.
+      value-found u z = head-gives (values n) u (λ T d c R o.
           let y : some (tree T u) ≡ valueTy (d .schema) (nodesOf d) p = rw (← v, z) at (value-stands R p) in
           (rw (← v, z) at (value-ok R p), rw (e, ← (S .is f T d c R), q, ← y, valueOf)))
 
-      pub value-absent : value ≡ Free → {w′ : List ℕ} {r : Typed} → (r ≡ Typed.Got Error left) × (w′ ≡ rejectW w n Code.RejectNoValue) → ValueOf w n t left w′ r
+      pub value-absent : value ≡ Free → {w′ ou′ : List ℕ} {r : Typed} → (r ≡ Typed.Got Error left) × (Rejected f w ou n Code.RejectNoValue w′ ou′) → ValueOf f w ou n t left w′ ou′ r
       unfolding valueOf
-      value-absent z x = head-rejects (values n) Code.RejectNoValue (λ f T d c R o.
+      value-absent z x = head-rejects (values n) Code.RejectNoValue (λ T d c R o.
           let y : none ≡ valueTy (d .schema) (nodesOf d) p = rw (← v, z) at (value-stands R p) in rw (e, ← (S .is f T d c R), q, ← y, valueOf)) x
 
-  pub value-other : OneOf (0 ∷ 1 ∷ 2 ∷ 4 ∷ 5 ∷ []) (tagOf the-type t) → {w′ : List ℕ} {r : Typed} → (r ≡ Typed.Got Error left) × (w′ ≡ rejectW w n Code.RejectTypeMismatch) → ValueOf w n t left w′ r
+  pub value-other : OneOf (0 ∷ 1 ∷ 2 ∷ 4 ∷ 5 ∷ []) (tagOf the-type t) → {w′ ou′ : List ℕ} {r : Typed} → (r ≡ Typed.Got Error left) × (Rejected f w ou n Code.RejectTypeMismatch w′ ou′) → ValueOf f w ou n t left w′ ou′ r
   unfolding valueOf
-  value-other x q = head-rejects (values n) Code.RejectTypeMismatch (λ f T d c R o. go d T c t x) q
+  value-other x q = head-rejects (values n) Code.RejectTypeMismatch (λ T d c R o. go d T c t x) q
     where
       go : (d : Described) (T : Rows) (c : Checker) (t : Ty) → OneOf (0 ∷ 1 ∷ 2 ∷ 4 ∷ 5 ∷ []) (tagOf the-type t) → valueOf (d .schema) (nodesOf d) n (tree T t) c ≡ rejectTy (d .schema) (nodesOf d) n (codeOf Code.RejectTypeMismatch) c
       go d T c Int x = refl

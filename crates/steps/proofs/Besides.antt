@@ -27,17 +27,21 @@ use Rattle.cells.proofs.Frame.{more-refl, keeps-wider}
 use Rattle.meaning.specs.File.{Described}
 use Rattle.meaning.specs.Check as Check
 use Rattle.meaning.specs.Check.{Checker, Does, goes}
-use Rattle.meaning.proofs.Meets.{Orderly, Meets}
-use Rattle.meaning.proofs.Steps.{no-thing, one-diagnostic, Nothing, reject-meets, reject-if}
+use Rattle.meaning.specs.Grades.{Orderly, no-thing, one-diagnostic}
+use Rattle.meaning.proofs.Meets.{Meets}
+use Rattle.meaning.proofs.Steps.{Nothing, reject-meets, reject-if}
 use Rattle.state.specs.declared.Code.{Code}
 use Rattle.state.specs.declared.Code.the-variants as Code
-use Rattle.state.specs.Words.{codeOf, rejectW}
+use Rattle.state.specs.Words.{codeOf}
+use Rattle.state.specs.Lines.{Rejected}
 use Rattle.state.proofs.Running.{runs-slots, grew-slots}
-use Rattle.state.proofs.Scoping.{runs-env-length, cut-runs, cut-grew, rollback-runs, rollback-grew}
+use Rattle.state.proofs.Scoping.{runs-env-length, cut-runs, cut-unlined, cut-grew, rollback-runs, rollback-unlined, rollback-grew}
+use Rattle.state.proofs.Lining.{lines-same}
+use Rattle.state.proofs.Lined.{keeps-unlined}
 use Rattle.steps.specs.Ends.{silent, unified, Ends, went, spent}
 use Rattle.steps.specs.Loads.{Load, only, Begins, Beside}
 use Rattle.steps.specs.Contracts.{nodesOf, Reports, RollsTo, Cuts, Fuzzes, UnifiesTo}
-use Rattle.steps.specs.Outside.{reportCode, fuzzyDistanceW, fuzzyTermW, Rewinds}
+use Rattle.steps.specs.Outside.{reportCode, RejectedIf, reported, stayed, farW, longW, Rewinds}
 use Rattle.steps.proofs.Ending.{reject-ends}
 use Rattle.steps.proofs.Sequel.{ends-here}
 use Rattle.steps.proofs.Results.{then-silent}
@@ -50,17 +54,17 @@ report-code T (TyError.UnionMismatch d e g) = refl
 report-code T (TyError.UnknownField n) = refl
 report-code T TyError.Infinite = refl
 
-pub reports : (f w : List ℕ) (n : ℕ) (err : TyError) (left : ℕ) → Reports f w n err left (rejectW w n (reportCode err))
+pub reports : (f w : List ℕ) {ou w′ ou′ : List ℕ} (n : ℕ) (err : TyError) (left : ℕ) → Rejected f w ou n (reportCode err) w′ ou′ → Reports f w ou n err left w′ ou′
 unfolding Check.report
-reports f w n err left d there = record { is = λ T c B u. rw (report-code T err) (reject-ends B n there (reportCode err)) }
+reports f w n err left x d there = record { is = λ T c B u. rw (report-code T err) (reject-ends B n there (reportCode err) x) }
 
 -- ---- The environment cut back
-pub cuts : (f w : List ℕ) (scope : ℕ) → Cuts f w scope (set w ENV-LEN scope)
+pub cuts : (f w : List ℕ) {ou : List ℕ} (scope : ℕ) → Cuts f w ou scope (set w ENV-LEN scope) ou
 unfolding Check.truncateEnv
 cuts f w scope d left = record {
   is = λ T c B within.
       let h : scope ≤ getD w ENV-LEN 0 = omega (arith, runs-env-length (B .runs)) in
-      went (record { T′ = T; more = more-refl; runs = cut-runs (B .sound) (B .runs) scope h; grew = cut-grew (B .sound) (B .runs) scope h; is = B .visits });
+      went (record { T′ = T; more = more-refl; runs = cut-runs (B .sound) (B .runs) scope h; lines = lines-same (cut-unlined (B .sound) (B .runs) scope h) (B .lines); grew = cut-grew (B .sound) (B .runs) scope h; is = B .visits });
 }
 
 -- ---- `rollback`
@@ -68,17 +72,18 @@ rollback-visits : (st : State) (at : Bindings.Snapshot) → Bindings.rollback st
 unfolding Bindings.rollback withHistory
 rollback-visits st at = rewind-left (length (st .undo) - at .undo) (st .undo) st
 
-pub rolls : (f w : List ℕ) {undo env : ℕ} {w′ : List ℕ} → Rewinds w undo env w′ → RollsTo f w undo env w′
+pub rolls : (f w : List ℕ) {ou : List ℕ} {undo env : ℕ} {w′ : List ℕ} → Rewinds w undo env w′ → RollsTo f w ou undo env w′ ou
 unfolding Check.rollback Check.truncateEnv Check.withState
-rolls f w {w′ = w′} X d left at p q = rw (← q) (back (rw (← p, ← q) at X))
+rolls f w {ou} {w′ = w′} X d left at p q = rw (← q) (back (rw (← p, ← q) at X))
   where
-    back : Rewinds w (at .state .undo) (at .env) w′ → Beside f w left w′ (silent left) d (only no-thing) (λ T c. at .env ≤ length (c .env)) (λ T. Check.rollback at)
+    back : Rewinds w (at .state .undo) (at .env) w′ → Beside f w ou left w′ ou (silent left) d (only no-thing) (λ T c. at .env ≤ length (c .env)) (λ T. Check.rollback at)
     back X = record {
       is = λ T c B within.
           let h : at .env ≤ getD w ENV-LEN 0 = omega (arith, runs-env-length (B .runs)) in
           rw (X .cut) (went (record {
             T′ = T;
             more = more-refl;
+            lines = lines-same (rollback-unlined (B .sound) (B .runs) (X .back) (at .state .past) (at .env) h) (B .lines);
             runs = rollback-runs (B .sound) (B .runs) (X .back) (at .state .past) (at .env) h;
             grew = rollback-grew (B .sound) (B .runs) (X .back) (at .state .past) (at .env) h;
             is = rollback-visits (c .state) (at .state) ∙ B .visits;
@@ -86,53 +91,55 @@ rolls f w {w′ = w′} X d left at p q = rw (← q) (back (rw (← p, ← q) at
     }
 
 -- ---- Both bounds of a fuzzy pattern
-module _ {f w : List ℕ} {T : Rows} {d : Described} {left : ℕ} {c : Checker} (B : Begins f w T d (only one-diagnostic) left c) (n : ℕ) (there : n < length (nodesOf d)) where
+module _ {f w ou : List ℕ} {T : Rows} {d : Described} {left : ℕ} {c : Checker} (B : Begins f w ou T d (only one-diagnostic) left c) (n : ℕ) (there : n < length (nodesOf d)) where
   -- By a test.
-  reject-if-ends : (code : Code) (b : Bool)
-      → Ends f w (pick b (rejectW w n code) w) T d 0 0 (silent left) ((elim b as (λ b. Does (Unit {0})) [ true ↦ Check.reject (d .schema) (nodesOf d) n (codeOf code) | false ↦ (λ c. goes tt c) ]) c)
-  reject-if-ends code true = reject-ends B n there code
-  reject-if-ends code false = ends-here tt c (B .runs) (B .visits)
+  reject-if-ends : (code : Code) {w′ ou′ : List ℕ} (b : Bool) → RejectedIf f w ou n code w′ ou′ b
+      → Ends f w ou w′ ou′ T d 0 0 (silent left) ((elim b as (λ b. Does (Unit {0})) [ true ↦ Check.reject (d .schema) (nodesOf d) n (codeOf code) | false ↦ (λ c. goes tt c) ]) c)
+  reject-if-ends code true (reported x) = reject-ends B n there code x
+  reject-if-ends code false (stayed p q) = rw (p, q) (ends-here tt c (B .runs) (B .lines) (B .visits))
 
-  distance-ends : (distance : ℕ) → Ends f w (fuzzyDistanceW w n distance) T d 0 0 (silent left) (Check.fuzzyDistance (d .schema) (nodesOf d) n distance c)
-  unfolding Check.fuzzyDistance fuzzyDistanceW
-  distance-ends zero = reject-ends B n there Code.RejectFuzzyDistance
-  distance-ends (suc e) = rw (ne-eqb (suc e) 0 (λ q. omega arith), B .runs .stands .schema .distance) (reject-if-ends Code.RejectFuzzyDistance (ltb (d .schema .maxDistance) (suc e)))
+  distance-ends : (distance : ℕ) {w′ ou′ : List ℕ} → RejectedIf f w ou n Code.RejectFuzzyDistance w′ ou′ (farW w distance) → Ends f w ou w′ ou′ T d 0 0 (silent left) (Check.fuzzyDistance (d .schema) (nodesOf d) n distance c)
+  unfolding Check.fuzzyDistance
+  distance-ends zero (reported x) = reject-ends B n there Code.RejectFuzzyDistance x
+  distance-ends (suc e) x = reject-if-ends Code.RejectFuzzyDistance (ltb (d .schema .maxDistance) (suc e)) (rw (ne-eqb (suc e) 0 (λ q. omega arith), B .runs .stands .schema .distance) at x)
 
-  term-ends : (term : ℕ) → term < length (d .schema .characters) → Ends f w (fuzzyTermW w n term) T d 0 0 (silent left) (Check.fuzzyTerm (d .schema) (nodesOf d) n term c)
-  unfolding Check.fuzzyTerm fuzzyTermW
-  term-ends term name = rw (B .runs .stands .schema .term, B .runs .stands .schema .characters term name) (reject-if-ends Code.RejectFuzzyTerm (ltb (d .schema .maxTermChars) (getD (d .schema .characters) term 0)))
+  term-ends : (term : ℕ) → term < length (d .schema .characters) → {w′ ou′ : List ℕ} → RejectedIf f w ou n Code.RejectFuzzyTerm w′ ou′ (longW w term) → Ends f w ou w′ ou′ T d 0 0 (silent left) (Check.fuzzyTerm (d .schema) (nodesOf d) n term c)
+  unfolding Check.fuzzyTerm
+  term-ends term name x = reject-if-ends Code.RejectFuzzyTerm (ltb (d .schema .maxTermChars) (getD (d .schema .characters) term 0)) (rw (B .runs .stands .schema .term, B .runs .stands .schema .characters term name) at x)
 
 distance-meets : (d : Described) (n distance : ℕ) (c : Checker) → Orderly c → Meets Nothing one-diagnostic c (Check.fuzzyDistance (d .schema) (nodesOf d) n distance c)
 unfolding Check.fuzzyDistance
 distance-meets d n zero c o = reject-meets (d .schema) (nodesOf d) n _ c o
 distance-meets d n (suc e) c o = reject-if (d .schema) (nodesOf d) n _ c o (ltb (d .schema .maxDistance) (suc e))
 
-pub fuzzes : (f w : List ℕ) (n term distance left : ℕ) → Fuzzes f w n term distance left (fuzzyTermW (fuzzyDistanceW w n distance) n term)
-fuzzes f w n term distance left d there name = record {
+pub fuzzes : (f w : List ℕ) {ou w₁ ou₁ w₂ ou₂ : List ℕ} (n term distance left : ℕ) → RejectedIf f w ou n Code.RejectFuzzyDistance w₁ ou₁ (farW w distance) → RejectedIf f w₁ ou₁ n Code.RejectFuzzyTerm w₂ ou₂ (longW w₁ term) → Fuzzes f w ou n term distance left w₂ ou₂
+fuzzes f w n term distance left X Y d there name = record {
   is = λ T c B u.
       then-silent one one (only (record { nodes = λ x. 0; unknowns = 0; diagnostics = 2 })) (record { grade = record { nodes = λ x. omega arith; unknowns = omega arith; diagnostics = omega arith }; records = omega arith; fields = omega arith })
       Nothing (Check.fuzzyDistance (d .schema) (nodesOf d) n distance c) (λ v. Check.fuzzyTerm (d .schema) (nodesOf d) n term) B
-      (λ y. distance-meets d n distance c (B .orderly)) (λ s. distance-ends s n there distance) (λ T₁ b a x. term-ends (a .begins) n there term name);
+      (λ y. distance-meets d n distance c (B .orderly)) (λ s. distance-ends s n there distance X) (λ T₁ b a x. term-ends (a .begins) n there term name Y);
 }
   where
     one : Load
     one = only one-diagnostic
 
 -- ---- `unify`
-module _ {f w w′ : List ℕ} {T : Rows} {d : Described} {left : ℕ} {c : Checker} {r : Unified} (B : Begins f w T d (only no-thing) left c) where
-  unified-ends : (res : Unify.Unified) → Cells.Ends w w′ T r res → Kept.After (Kept.Kept (c .state)) res → Ends f w w′ T d 0 0 (unified r) (Check.unified c res)
+module _ {f w ou w′ : List ℕ} {T : Rows} {d : Described} {left : ℕ} {c : Checker} {r : Unified} (B : Begins f w ou T d (only no-thing) left c) where
+  unified-ends : (res : Unify.Unified) → Cells.Ends w w′ T r res → Kept.After (Kept.Kept (c .state)) res → Ends f w ou w′ ou T d 0 0 (unified r) (Check.unified c res)
   unfolding Check.unified Check.withState Cells.Ends
   unified-ends (Unify.Ok st) e k =
       let K : Keeps TYS END w w′ = keeps-wider (omega arith) (omega arith) (e .1 .keeps) in
-      went (record { T′ = T; more = more-refl; runs = runs-slots (B .sound) (B .runs) K (e .1 .holds) (ap length (k .tys)); grew = grew-slots (B .sound) (B .runs) K; is = e .0 })
+      went (record { T′ = T; more = more-refl; runs = runs-slots (B .sound) (B .runs) K (e .1 .holds) (ap length (k .tys)); lines = lines-same (keeps-unlined (omega arith) K) (B .lines); grew = grew-slots (B .sound) (B .runs) K; is = e .0 })
   unified-ends (Unify.Err x st) e k =
       let K : Keeps TYS END w w′ = keeps-wider (omega arith) (omega arith) (e .3 .keeps) in
-      went {a = some x} (record { T′ = T; more = more-refl; runs = runs-slots (B .sound) (B .runs) K (e .3 .holds) (ap length (k .tys)); grew = grew-slots (B .sound) (B .runs) K; is = (e .0, e .1, e .2) })
-  unified-ends (Unify.Spent st) e k = spent (e .0)
+      went {a = some x} (record { T′ = T; more = more-refl; runs = runs-slots (B .sound) (B .runs) K (e .3 .holds) (ap length (k .tys)); lines = lines-same (keeps-unlined (omega arith) K) (B .lines); grew = grew-slots (B .sound) (B .runs) K; is = (e .0, e .1, e .2 .is) })
+  unified-ends (Unify.Spent st) e k =
+      let K : Keeps TYS END w w′ = keeps-wider (omega arith) (omega arith) (e .2 .keeps) in
+      spent (record { T′ = T; more = more-refl; runs = runs-slots (B .sound) (B .runs) K (e .2 .holds) (ap length (k .tys)); lines = lines-same (keeps-unlined (omega arith) K) (B .lines); grew = grew-slots (B .sound) (B .runs) K; is = e .0 })
 
-pub unifies : (f w : List ℕ) {got expected : Ty} {left : ℕ} {w′ : List ℕ} {r : Unified} → Unifies w got expected left w′ r → UnifiesTo f w got expected left w′ r
+pub unifies : (f w : List ℕ) {ou : List ℕ} {got expected : Ty} {left : ℕ} {w′ : List ℕ} {r : Unified} → Unifies w got expected left w′ r → UnifiesTo f w ou got expected left w′ ou r
 unfolding Check.unify Unify.unify
-unifies f w {got} {expected} U d = record {
+unifies f w {ou} {got} {expected} U d = record {
   is = λ T c B fine.
       unified-ends B (Unify.unify (c .state) (tree T got) (tree T expected))
       (U .is T (c .state) (B .runs .holds) (B .visits) (fine .0 .ok) (fine .1 .ok) (c .state .left) (omega (arith, B .visits)))

@@ -1,9 +1,9 @@
 -- How the steps outside of the cycle end: at once with a type in hand, or after one diagnostic. The room for it is the load's.
-use mathlib.Core.List.{List, _∷_}
+use mathlib.Core.List.{List, [], _∷_}
 use mathlib.Core.Option.{Option, none, some}
-use mathlib.Core.Path.{_≡_, refl, sym, _∙_, ap}
+use mathlib.Core.Path.{_≡_, refl, sym, subst, _∙_, ap}
 use native.Mathlib.Omega.{arith}
-use Prim.Native.Nat.{ℕ, zero, suc, _<_}
+use Prim.Native.Nat.{ℕ, _<_}
 use lib.ListN.{length, getD}
 use Rattle.unification.specs.Ty as Tree
 use Rattle.unification.specs.Bindings as Bindings
@@ -15,81 +15,76 @@ use Rattle.cells.specs.Words.{annotateW, freshW}
 use Rattle.cells.specs.Stands.{Rows, tree, Ok}
 use Rattle.cells.proofs.Holding.{annotate-keeps}
 use Rattle.cells.proofs.Frame.{more-refl}
-use Rattle.meaning.specs.Syntax.{Node}
 use Rattle.meaning.specs.Diag.{Diagnostic}
 use Rattle.meaning.specs.File.{Described}
 use Rattle.meaning.specs.Check as Check
-use Rattle.meaning.specs.Check.{Checker, Step, goes, andThen, lookupIn}
-use Rattle.meaning.proofs.Steps.{one-diagnostic, same-self}
+use Rattle.meaning.specs.Check.{Checker, Step, goes, andThen, lookupIn, reversed}
+use Rattle.meaning.specs.Answer.{diagnosticLines}
+use Rattle.meaning.specs.Grades.{one-diagnostic}
+use Rattle.meaning.proofs.Steps.{same-self}
 use Rattle.state.specs.declared.Code.{Code}
-use Rattle.state.specs.Words.{codeOf, rejectW, Introduces}
-use Rattle.state.specs.Runs.{diagnosticsOf, Runs}
-use Rattle.state.proofs.Running.{grew-refl, annotate-runs, grew-slots, fresh-runs, fresh-grew}
+use Rattle.state.specs.Words.{codeOf, Introduces}
+use Rattle.state.specs.Lines.{Lines, Told, Rejected}
+use Rattle.state.proofs.Running.{grew-refl, annotate-runs, grew-slots, fresh-word, fresh-runs, fresh-grew}
 use Rattle.state.proofs.Scoping.{runs-env-length, Gives, introduce-runs}
-use Rattle.state.proofs.Reporting.{reject-runs, reject-grew}
+use Rattle.state.proofs.Lining.{lines-same}
+use Rattle.state.proofs.Lined.{rejected-runs, rejected-grew, rejected-lines}
 use Rattle.steps.specs.declared.Typed.{Typed}
 use Rattle.steps.specs.declared.Typed.the-variants as Typed
 use Rattle.steps.specs.Ends.{typed, silent, numbered, Ends, went}
 use Rattle.steps.specs.Loads.{only, Begins}
 use Rattle.steps.specs.Contracts.{nodesOf, Rejects, Notes, Freshens, Brings}
 
-diagnostics-length : (nodes : List Node) (w : List ℕ) (n : ℕ) → length (diagnosticsOf nodes w n) ≡ n
-unfolding diagnosticsOf
-diagnostics-length nodes w zero = refl
-diagnostics-length nodes w (suc n) = ap suc (diagnostics-length nodes w n)
-
-pub runs-diagnostics-length : {f w : List ℕ} {T : Rows} {d : Described} {c : Checker} → Runs f w T d c → length (c .diagnostics) ≡ getD w DIAGNOSTIC-COUNT 0
-runs-diagnostics-length {f} {w} {T} {d} R = ap (λ (ds : List Diagnostic). length ds) (R .diagnostics) ∙ diagnostics-length (d .ast .nodes) w (getD w DIAGNOSTIC-COUNT 0)
-
-module _ {f w : List ℕ} {T : Rows} {d : Described} {left : ℕ} {c : Checker} (B : Begins f w T d (only one-diagnostic) left c) where
+module _ {f w ou : List ℕ} {T : Rows} {d : Described} {left : ℕ} {c : Checker} (B : Begins f w ou T d (only one-diagnostic) left c) where
   -- A type in hand comes back.
-  pub ends-with : (t : Ty) (ty : Tree.Ty) → Ok w t → tree T t ≡ ty → Ends f w w T d 0 0 (typed w (Typed.Got t left)) (goes ty c)
-  ends-with t ty o e = went (record { T′ = T; more = more-refl; runs = B .runs; grew = grew-refl; is = record { t = t; res = ap (Typed.Got t) (sym (B .visits)); ok = o; is = e } })
+  pub ends-with : (t : Ty) (ty : Tree.Ty) → Ok w t → tree T t ≡ ty → Ends f w ou w ou T d 0 0 (typed w (Typed.Got t left)) (goes ty c)
+  ends-with t ty o e = went (record { T′ = T; more = more-refl; runs = B .runs; lines = B .lines; grew = grew-refl; is = record { t = t; res = ap (Typed.Got t) (sym (B .visits)); ok = o; is = e } })
 
   module _ (n : ℕ) (there : n < length (nodesOf d)) (code : Code) where
     room : getD w DIAGNOSTIC-COUNT 0 < 1536
-    room = omega (arith, runs-diagnostics-length (B .runs), B .free .diagnostics)
+    room = omega (arith, B .runs .diagnostics, B .free .diagnostics)
 
-    pub reject-ends : Ends f w (rejectW w n code) T d 0 0 (silent left) (Check.reject (d .schema) (nodesOf d) n (codeOf code) c)
+    pub reject-ends : {w′ ou′ : List ℕ} → Rejected f w ou n code w′ ou′ → Ends f w ou w′ ou′ T d 0 0 (silent left) (Check.reject (d .schema) (nodesOf d) n (codeOf code) c)
     unfolding Check.reject
-    reject-ends = went (record { T′ = T; more = more-refl; runs = reject-runs (B .sound) (B .runs) n code room there; grew = reject-grew (B .sound) (B .runs) n code room there; is = B .visits })
+    reject-ends x = went (record { T′ = T; more = more-refl; runs = rejected-runs (B .sound) (B .runs) x room; lines = rejected-lines (B .sound) (B .runs) x room there (B .lines); grew = rejected-grew (B .sound) (B .runs) x room; is = B .visits })
 
     -- `reject_ty`
-    pub reject-ty-ends : {w′ : List ℕ} {r : Typed} → (r ≡ Typed.Got Error left) × (w′ ≡ rejectW w n code) → Ends f w w′ T d 0 0 (typed w′ r) (Check.rejectTy (d .schema) (nodesOf d) n (codeOf code) c)
+    pub reject-ty-ends : {w′ ou′ : List ℕ} {r : Typed} → (r ≡ Typed.Got Error left) × (Rejected f w ou n code w′ ou′) → Ends f w ou w′ ou′ T d 0 0 (typed w′ r) (Check.rejectTy (d .schema) (nodesOf d) n (codeOf code) c)
     unfolding Check.rejectTy Check.reject andThen
-    reject-ty-ends e = rw (e .0, e .1) (went (record {
+    reject-ty-ends e = rw (e .0) (went (record {
       T′ = T;
       more = more-refl;
-      runs = reject-runs (B .sound) (B .runs) n code room there;
-      grew = reject-grew (B .sound) (B .runs) n code room there;
+      runs = rejected-runs (B .sound) (B .runs) (e .1) room;
+      lines = rejected-lines (B .sound) (B .runs) (e .1) room there (B .lines);
+      grew = rejected-grew (B .sound) (B .runs) (e .1) room;
       is = record { t = Error; res = ap (Typed.Got Error) (sym (B .visits)); ok = tt; is = refl };
     }))
 
-pub rejects : (f w : List ℕ) (n : ℕ) (code : Code) (left : ℕ) → Rejects f w n (codeOf code) left (rejectW w n code)
-rejects f w n code left d there = record { is = λ T c B u. reject-ends B n there code }
+pub rejects : (f w : List ℕ) {ou w′ ou′ : List ℕ} (n : ℕ) (code : Code) (left : ℕ) → Rejected f w ou n code w′ ou′ → Rejects f w ou n (codeOf code) left w′ ou′
+rejects f w n code left x d there = record { is = λ T c B u. reject-ends B n there code x }
 
 -- ---- A node's type, and a new unknown
-pub notes : (f w : List ℕ) (n : ℕ) (t : Ty) (left : ℕ) → Notes f w n t left (annotateW w n t)
+pub notes : (f w : List ℕ) {ou : List ℕ} (n : ℕ) (t : Ty) (left : ℕ) → Notes f w ou n t left (annotateW w n t) ou
 unfolding Check.annotate Check.withState Bindings.annotate
 notes f w n t left d there = record {
   is = λ T c B fine.
       let R = B .runs in
       let free = B .free .ready .bare n (omega (arith, same-self n)) in
-      went (record { T′ = T; more = more-refl; runs = annotate-runs (B .sound) R n t (omega (arith, R .nodes)) free (fine .ok); grew = grew-slots (B .sound) R (annotate-keeps w n t); is = B .visits });
+      went (record { T′ = T; more = more-refl; runs = annotate-runs (B .sound) R n t (omega (arith, R .nodes)) free (fine .ok); lines = lines-same (record { at = λ i l h. annotate-keeps w n t .below i (omega arith) }) (B .lines); grew = grew-slots (B .sound) R (annotate-keeps w n t); is = B .visits });
 }
 
-pub freshens : (f w : List ℕ) (left : ℕ) → Freshens f w left (freshW w) (getD w UNKNOWNS 0)
+pub freshens : (f w : List ℕ) {ou : List ℕ} (left : ℕ) → Freshens f w ou left (freshW w) ou (getD w UNKNOWNS 0)
 unfolding Check.freshVarId Check.withState Bindings.freshId Bindings.fresh
 freshens f w left d = record {
   is = λ T c B u.
       let R = B .runs in
       let few : length (c .state .subst) < 512 = omega (arith, B .free .unknowns) in
-      went (record { T′ = T; more = more-refl; runs = fresh-runs (B .sound) R few; grew = fresh-grew (B .sound) R few; is = (sym (R .holds .binds .unknowns), B .visits) });
+      went (record { T′ = T; more = more-refl; runs = fresh-runs (B .sound) R few; lines = lines-same (record { at = λ i l h. fresh-word (B .sound) R few i (λ q. omega arith) (omega arith) }) (B .lines); grew = fresh-grew (B .sound) R few; is = (sym (R .holds .binds .unknowns), B .visits) });
 }
 
 -- ---- A variable's unknown
-given : {f w w′ : List ℕ} {T : Rows} {d : Described} {left x : ℕ} (c : Checker) (s : Step ℕ) → c .state .left ≡ left → Gives f w w′ T d s x → ((b : Checker) → s ≡ goes x b → b .state .left ≡ c .state .left) → Ends f w w′ T d 0 0 (numbered x left) s
-given c s v G same = rw (G .step) (went (record { T′ = _; more = more-refl; runs = G .runs; grew = G .grew; is = (refl, same (G .after) (G .step) ∙ v) }))
+given : {f w ou w′ : List ℕ} {T : Rows} {d : Described} {left x : ℕ} (c : Checker) (s : Step ℕ) → c .state .left ≡ left → Told w ou c → Gives f w w′ T d c s x → ((b : Checker) → s ≡ goes x b → b .state .left ≡ c .state .left) → Ends f w ou w′ ou T d 0 0 (numbered x left) s
+given {w = w} {ou} {w′} c s v t G same = rw (G .step) (went (record { T′ = _; more = more-refl; runs = G .runs; lines = subst (λ (ds : List Diagnostic). Lines w′ ou (diagnosticLines (reversed ds []))) (sym (G .reported)) (lines-same (G .unlined) t); grew = G .grew; is = (refl, same (G .after) (G .step) ∙ v) }))
 
 introduce-left : (symbol x : ℕ) (c b : Checker) → Check.introduce symbol c ≡ goes x b → b .state .left ≡ c .state .left
 unfolding Check.introduce Check.lookup Check.freshVarId Check.pushEnv Check.withState andThen Bindings.fresh
@@ -101,14 +96,14 @@ introduce-left symbol x c b e = go (lookupIn (c .env) symbol) refl
         let k : record { state = Bindings.fresh (c .state); env = (symbol, Bindings.freshId (c .state)) ∷ c .env; diagnostics = c .diagnostics } ≡ b = cc z in
         ap (λ (k : Checker). k .state .left) (sym k)
 
-pub brings : (f w : List ℕ) (symbol left : ℕ) (w′ : List ℕ) (x : ℕ) → Introduces w symbol w′ x → Brings f w symbol left w′ x
+pub brings : (f w : List ℕ) {ou : List ℕ} (symbol left : ℕ) (w′ : List ℕ) (x : ℕ) → Introduces w symbol w′ x → Brings f w ou symbol left w′ ou x
 brings f w symbol left w′ x I = record {
   is = λ d small. record {
     is = λ T c B u.
         let room : lookupIn (c .env) symbol ≡ none → (length (c .state .subst) < 512) × (getD w ENV-LEN 0 < 512) = λ q. (omega (arith, B .free .unknowns), omega (arith, B .free .unknowns, B .orderly .few, runs-env-length (B .runs))) in
-        given c (Check.introduce symbol c) (B .visits) (introduce-runs (B .sound) (B .runs) small room I) (introduce-left symbol x c);
+        given c (Check.introduce symbol c) (B .visits) (B .lines) (introduce-runs (B .sound) (B .runs) small room I) (introduce-left symbol x c);
   };
   found = λ d small. record {
-    is = λ T c B known. given c (Check.introduce symbol c) (B .visits) (introduce-runs (B .sound) (B .runs) small (λ q. clash (cc (q, known .1))) I) (introduce-left symbol x c);
+    is = λ T c B known. given c (Check.introduce symbol c) (B .visits) (B .lines) (introduce-runs (B .sound) (B .runs) small (λ q. clash (cc (q, known .1))) I) (introduce-left symbol x c);
   };
 }

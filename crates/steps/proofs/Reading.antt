@@ -35,10 +35,10 @@ module _ {d : Described} {n : ℕ} (s : Sound d) (there : n < length (nodesOf d)
 pub kind-is : {f w : List ℕ} {T : Rows} {d : Described} {c : Checker} {n : ℕ} {r : Node} → Sound d → Runs f w T d c → n < length (nodesOf d) → IsNode f w n r → nodeAt (nodesOf d) n .kind ≡ kindW f r
 kind-is {d = d} {n = n} s R there i = sym (i .is (nodeAt (nodesOf d) n) (R .stands .node n there) (rw (all-below n (exprNodes (nodeAt (nodesOf d) n .kind)) (parts-lower s there)) tt))
 
-pub kind-read : {f w : List ℕ} {T : Rows} {d : Described} {L : Load} {left : ℕ} {c : Checker} {n : ℕ} {r : Node} → Begins f w T d L left c → n < length (nodesOf d) → IsNode f w n r → nodeAt (nodesOf d) n .kind ≡ kindW f r
+pub kind-read : {f w ou : List ℕ} {T : Rows} {d : Described} {L : Load} {left : ℕ} {c : Checker} {n : ℕ} {r : Node} → Begins f w ou T d L left c → n < length (nodesOf d) → IsNode f w n r → nodeAt (nodesOf d) n .kind ≡ kindW f r
 kind-read b there i = kind-is (b .sound) (b .runs) there i
 
-pub form-read : {f w : List ℕ} {T : Rows} {d : Described} {L : Load} {left : ℕ} {c : Checker} {n : ℕ} {nd : Node} → Begins f w T d L left c → n < length (nodesOf d) → IsNode f w n nd → form (d .schema) (nodesOf d) n ≡ formOf (kindW f nd)
+pub form-read : {f w ou : List ℕ} {T : Rows} {d : Described} {L : Load} {left : ℕ} {c : Checker} {n : ℕ} {nd : Node} → Begins f w ou T d L left c → n < length (nodesOf d) → IsNode f w n nd → form (d .schema) (nodesOf d) n ≡ formOf (kindW f nd)
 unfolding form kind
 form-read s there i = ap formOf (kind-read s there i)
 

@@ -6,10 +6,13 @@ use native.Mathlib.Decide.{ℕ-discrete}
 use native.Mathlib.Omega.{arith}
 use Prim.Native.Nat.{ℕ, zero, suc, _+_, _*_, _≤_, _<_}
 use lib.ListN.{getD, set}
-use Rattle.work.specs.Layout.{RECORD-COUNT, RECORD-FIELD-COUNT, ENV-LEN, DIAGNOSTIC-COUNT, UNKNOWNS, TYS, UNDO-LEN, END}
+use Rattle.work.specs.Layout.{RECORD-COUNT, RECORD-FIELD-COUNT, ENV-LEN, DIAGNOSTIC-COUNT, UNKNOWNS, PLACE, PLACE-HIGH, FULL, TYS, UNDO-LEN, END}
 use Rattle.cells.specs.Stands.{Keeps}
 use Rattle.cells.proofs.Frame.{keeps-refl, keeps-trans, keeps-wider, keeps-set}
+use Rattle.state.specs.Lines.{AFTER-FULL}
+use Rattle.meaning.specs.Check.{begin}
 use Rattle.state.proofs.Starting.{Started, start-runs}
+use Rattle.state.proofs.Lined.{place-runs, no-lines}
 use Rattle.steps.specs.Outside.{countersW, Untypes, StartsRun}
 
 -- past the end a read gives 0 too
@@ -70,7 +73,22 @@ pub untypes-end : {w w′ : List ℕ} {n : ℕ} → 512 ≤ n → Untypes w n w�
 untypes-end h U = record { keeps = U .keeps; untyped = λ i lt. U .untyped i (omega arith) }
 
 -- ---- `begin`
-pub starts-run : (w : List ℕ) {v w′ : List ℕ} → v ≡ countersW w → Untypes v 512 w′ → StartsRun w w′
-starts-run w {v} {w′} e U =
-    let B : Started w w′ = started w w′ (rw e at U) in
-    record { is = λ f. record { is = λ T d ceiling sound S. start-runs ceiling sound S B; records = B .records; fields = B .fields; keeps = B .keeps } }
+pub starts-run : (w : List ℕ) {v u w′ : List ℕ} → v ≡ countersW w → Untypes v 512 u → w′ ≡ set (set (set u PLACE 0) PLACE-HIGH 0) FULL 0 → StartsRun w w′
+unfolding begin
+starts-run w {v} {u} {w′} e U z =
+    let a = set u PLACE 0 in
+    let b = set a PLACE-HIGH 0 in
+    let B : Started w u = started w u (rw e at U) in
+    let K : Keeps PLACE AFTER-FULL u w′ = rw z (keeps-trans (keeps-set u PLACE 0 (omega arith) (omega arith)) (keeps-trans (keeps-set a PLACE-HIGH 0 (omega arith) (omega arith)) (keeps-set b FULL 0 (omega arith) (omega arith)))) in
+    let low : getD w′ PLACE 0 ≡ 0 = rw z (zero-stays b FULL PLACE (zero-stays a PLACE-HIGH PLACE (zero-at u PLACE))) in
+    let high : getD w′ PLACE-HIGH 0 ≡ 0 = rw z (zero-stays b FULL PLACE-HIGH (zero-at a PLACE-HIGH)) in
+    let full : getD w′ FULL 0 ≡ 0 = rw z (zero-at b FULL) in
+    record {
+      is = λ f. record {
+        is = λ T d ceiling sound S. place-runs sound (start-runs ceiling sound S B) K;
+        lines = λ ou d ceiling. no-lines low high full;
+        records = K .below RECORD-COUNT (omega arith) ∙ B .records;
+        fields = K .below RECORD-FIELD-COUNT (omega arith) ∙ B .fields;
+        keeps = keeps-trans (B .keeps) (keeps-wider (omega arith) (omega arith) K);
+      };
+    }

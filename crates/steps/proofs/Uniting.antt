@@ -23,17 +23,18 @@ use Rattle.meaning.specs.File.{Described}
 use Rattle.meaning.specs.Check as Check
 use Rattle.meaning.specs.Check.{Checker, Step, Does, goes, andThen}
 use Rattle.meaning.proofs.Meets.{Went, Meets, going}
-use Rattle.meaning.proofs.Steps.{no-thing, one-diagnostic, Nothing, unify-meets, orderable-meets}
+use Rattle.meaning.specs.Grades.{no-thing, one-diagnostic}
+use Rattle.meaning.proofs.Steps.{Nothing, unify-meets, orderable-meets}
 use Rattle.state.specs.declared.Code.the-variants as Code
-use Rattle.state.specs.Words.{rejectW}
+use Rattle.state.specs.Lines.{Rejected}
 use Rattle.state.specs.Runs.{Runs}
 use Rattle.state.proofs.Running.{runs-slots}
 use Rattle.steps.specs.declared.Done.{Done}
 use Rattle.steps.specs.declared.Done.the-variants as Done
 use Rattle.steps.specs.Ends.{IsUnified, unified, done, silent, Gone, Ends, spent}
 use Rattle.steps.specs.Loads.{only, both, Holds, Begins}
-use Rattle.steps.specs.Contracts.{Fine, UnifiesTo, compareTypes}
-use Rattle.steps.specs.Outside.{reportCode, Unites, ComparesOrder, ComparesBoth}
+use Rattle.steps.specs.Contracts.{Fine, UnifiesTo, compareTypes, UnifiesAt, ComparesTypes}
+use Rattle.steps.specs.Outside.{reportCode, ComparesOrder}
 use Rattle.steps.proofs.Growing.{grew-refl}
 use Rattle.steps.proofs.Sequel.{then-ends, stop-ends, ends-here, begins-after}
 use Rattle.steps.proofs.Results.{After, tree-after, fine-after, with-visits, on-here, silent-on}
@@ -45,26 +46,26 @@ then-one : Holds (both (only no-thing) (only one-diagnostic)) (only one-diagnost
 then-one = record { grade = record { nodes = λ x. omega arith; unknowns = omega arith; diagnostics = omega arith }; records = omega arith; fields = omega arith }
 
 -- ---- A unification, and then
-module _ {f w w₁ : List ℕ} {got expected : Ty} {left : ℕ} {r : Unified} (U : UnifiesTo f w got expected left w₁ r) {T : Rows} {d : Described} {c : Checker}
-    (B : Begins f w T d (only one-diagnostic) left c) (fine : Fine w got T c × Fine w expected T c) where
+module _ {f w ou w₁ ou₁ : List ℕ} {got expected : Ty} {left : ℕ} {r : Unified} (U : UnifiesTo f w ou got expected left w₁ ou₁ r) {T : Rows} {d : Described} {c : Checker}
+    (B : Begins f w ou T d (only one-diagnostic) left c) (fine : Fine w got T c × Fine w expected T c) where
   abbrev first : Step (Option Unify.TyError)
   first = Check.unify (tree T got) (tree T expected) c
 
   meets : Meets Nothing no-thing c first
   meets = unify-meets (tree T got) (tree T expected) c (B .orderly) (fine .0 .side) (fine .1 .side)
 
-  then-good : {w₂ : List ℕ} {x : Done} (next : Option Unify.TyError → Does (Unit {0})) {l : ℕ} → r ≡ Unified.Good l → ((T₁ : Rows) (b : Checker) → After f w w₁ T d (only no-thing) (only one-diagnostic) l c T₁ b → Ends f w₁ w₂ T₁ d 0 0 (done x) (next none b)) → Ends f w w₂ T d 0 0 (done x) (andThen first next)
-  then-good {w₂} {x} next {l} e rest = then-ends (only no-thing) (only one-diagnostic) (only one-diagnostic) then-one Nothing first next (λ o. clash (cc (e, o))) B (λ y. meets) (λ s. U d .is T c s fine) on
+  then-good : {w₂ ou₂ : List ℕ} {x : Done} (next : Option Unify.TyError → Does (Unit {0})) {l : ℕ} → r ≡ Unified.Good l → ((T₁ : Rows) (b : Checker) → After f w ou w₁ ou₁ T d (only no-thing) (only one-diagnostic) l c T₁ b → Ends f w₁ ou₁ w₂ ou₂ T₁ d 0 0 (done x) (next none b)) → Ends f w ou w₂ ou₂ T d 0 0 (done x) (andThen first next)
+  then-good {w₂} {ou₂} {x} next {l} e rest = then-ends (only no-thing) (only one-diagnostic) (only one-diagnostic) then-one Nothing first next (λ o. clash (cc (e, o))) B (λ y. meets) (λ s. U d .is T c s fine) on
     where
-      on : (a : Option Unify.TyError) (b : Checker) (g : Gone f w w₁ T d 0 0 (unified r) a b) → Went Nothing no-thing c a b → Begins f w₁ (g .T′) d (only one-diagnostic) (b .state .left) b → Ends f w₁ w₂ (g .T′) d 0 0 (done x) (next a b)
+      on : (a : Option Unify.TyError) (b : Checker) (g : Gone f w ou w₁ ou₁ T d 0 0 (unified r) a b) → Went Nothing no-thing c a b → Begins f w₁ ou₁ (g .T′) d (only one-diagnostic) (b .state .left) b → Ends f w₁ ou₁ w₂ ou₂ (g .T′) d 0 0 (done x) (next a b)
       on none b g v s = let q : b .state .left ≡ l = cc (e, g .is) in rest (g .T′) b (record { more = g .more; grew = g .grew; made = v .made; begins = with-visits q s })
       on (some y) b g v s = clash (cc (e, g .is .1))
 
-  then-bad : {w₂ : List ℕ} {x : Done} (next : Option Unify.TyError → Does (Unit {0})) {err : TyError} {l : ℕ} → r ≡ Unified.Bad err l
-      → ((T₁ : Rows) (b : Checker) → After f w w₁ T d (only no-thing) (only one-diagnostic) l c T₁ b → Ends f w₁ w₂ T₁ d 0 0 (done x) (next (some (errorOf T₁ err)) b)) → Ends f w w₂ T d 0 0 (done x) (andThen first next)
-  then-bad {w₂} {x} next {err} {l} e rest = then-ends (only no-thing) (only one-diagnostic) (only one-diagnostic) then-one Nothing first next (λ o. clash (cc (e, o))) B (λ y. meets) (λ s. U d .is T c s fine) on
+  then-bad : {w₂ ou₂ : List ℕ} {x : Done} (next : Option Unify.TyError → Does (Unit {0})) {err : TyError} {l : ℕ} → r ≡ Unified.Bad err l
+      → ((T₁ : Rows) (b : Checker) → After f w ou w₁ ou₁ T d (only no-thing) (only one-diagnostic) l c T₁ b → Ends f w₁ ou₁ w₂ ou₂ T₁ d 0 0 (done x) (next (some (errorOf T₁ err)) b)) → Ends f w ou w₂ ou₂ T d 0 0 (done x) (andThen first next)
+  then-bad {w₂} {ou₂} {x} next {err} {l} e rest = then-ends (only no-thing) (only one-diagnostic) (only one-diagnostic) then-one Nothing first next (λ o. clash (cc (e, o))) B (λ y. meets) (λ s. U d .is T c s fine) on
     where
-      on : (a : Option Unify.TyError) (b : Checker) (g : Gone f w w₁ T d 0 0 (unified r) a b) → Went Nothing no-thing c a b → Begins f w₁ (g .T′) d (only one-diagnostic) (b .state .left) b → Ends f w₁ w₂ (g .T′) d 0 0 (done x) (next a b)
+      on : (a : Option Unify.TyError) (b : Checker) (g : Gone f w ou w₁ ou₁ T d 0 0 (unified r) a b) → Went Nothing no-thing c a b → Begins f w₁ ou₁ (g .T′) d (only one-diagnostic) (b .state .left) b → Ends f w₁ ou₁ w₂ ou₂ (g .T′) d 0 0 (done x) (next a b)
       on none b g v s = clash (cc (e, g .is))
       on (some y) b g v s =
           let q : b .state .left ≡ l = cc (e, g .is .1) in
@@ -72,7 +73,7 @@ module _ {f w w₁ : List ℕ} {got expected : Ty} {left : ℕ} {r : Unified} (U
           let z : errorOf (g .T′) err ≡ y = ap (errorOf (g .T′)) (sym p) ∙ g .is .2 in
           rw (← z) (rest (g .T′) b (record { more = g .more; grew = g .grew; made = v .made; begins = with-visits q s }))
 
-  then-spent : {w₂ : List ℕ} {x : Done} (next : Option Unify.TyError → Does (Unit {0})) → r ≡ Unified.Spent → x ≡ Done.Out → Ends f w w₂ T d 0 0 (done x) (andThen first next)
+  then-spent : {x : Done} (next : Option Unify.TyError → Does (Unit {0})) → r ≡ Unified.Spent → x ≡ Done.Out → Ends f w ou w₁ ou₁ T d 0 0 (done x) (andThen first next)
   then-spent next e o = stop-ends (only no-thing) (only one-diagnostic) (only one-diagnostic) then-one first next never (λ p. o) B (λ s. U d .is T c s fine)
     where
       never : (R : Rows) (a : Option Unify.TyError) (v : ℕ) → ¬ (IsUnified r R a v)
@@ -80,20 +81,20 @@ module _ {f w w₁ : List ℕ} {got expected : Ty} {left : ℕ} {r : Unified} (U
       never R (some y) v i = clash (cc (e, i .1))
 
 -- ---- `unify_at`
-module _ {w w₁ : List ℕ} (n : ℕ) {got expected : Ty} {left : ℕ} {r : Unified} (U : Unifies w got expected left w₁ r) where
-  pub unite-good : {l : ℕ} → r ≡ Unified.Good l → Unites w n got expected left w₁ (Done.On l)
+module _ {f w ou w₁ : List ℕ} (n : ℕ) {got expected : Ty} {left : ℕ} {r : Unified} (U : Unifies w got expected left w₁ r) where
+  pub unite-good : {l : ℕ} → r ≡ Unified.Good l → UnifiesAt f w ou n got expected left w₁ ou (Done.On l)
   unfolding Check.unifyAt
-  unite-good e = record { is = λ f. record { is = λ d there. record { is = λ T c B fine. then-good (unifies f w U) B fine _ e (λ T₁ b a. on-here (a .begins .runs) (a .begins .visits)) } } }
+  unite-good e = record { is = λ d there. record { is = λ T c B fine. then-good (unifies f w U) B fine _ e (λ T₁ b a. on-here (a .begins .runs) (a .begins .lines) (a .begins .visits)) } }
 
-  pub unite-bad : {err : TyError} {l : ℕ} → r ≡ Unified.Bad err l → {w₂ : List ℕ} → w₂ ≡ rejectW w₁ n (reportCode err) → Unites w n got expected left w₂ (Done.On l)
+  pub unite-bad : {err : TyError} {l : ℕ} → r ≡ Unified.Bad err l → {w₂ ou₂ : List ℕ} → Rejected f w₁ ou n (reportCode err) w₂ ou₂ → UnifiesAt f w ou n got expected left w₂ ou₂ (Done.On l)
   unfolding Check.unifyAt
-  unite-bad {err} {l} e q = rw q (record {
-    is = λ f. record { is = λ d there. record { is = λ T c B fine. then-bad (unifies f w U) B fine _ e (λ T₁ b a. silent-on (reports f w₁ n err l d there .is T₁ b (a .begins) tt)) } };
+  unite-bad {err} {l} e q = (record {
+    is = λ d there. record { is = λ T c B fine. then-bad (unifies f w U) B fine _ e (λ T₁ b a. silent-on (reports f w₁ n err l q d there .is T₁ b (a .begins) tt)) };
   })
 
-  pub unite-spent : r ≡ Unified.Spent → Unites w n got expected left w₁ Done.Out
+  pub unite-spent : r ≡ Unified.Spent → UnifiesAt f w ou n got expected left w₁ ou Done.Out
   unfolding Check.unifyAt
-  unite-spent e = record { is = λ f. record { is = λ d there. record { is = λ T c B fine. then-spent (unifies f w U) B fine _ e refl } } }
+  unite-spent e = record { is = λ d there. record { is = λ T c B fine. then-spent (unifies f w U) B fine _ e refl } }
 
 -- ---- `compare_order`
 
@@ -101,68 +102,66 @@ module _ {w w₁ : List ℕ} (n : ℕ) {got expected : Ty} {left : ℕ} {r : Uni
 abbrev leaving : Checker → ℕ → Checker
 leaving c v = Check.withState c (Bindings.withLeft (c .state) v)
 
-module _ {f w : List ℕ} {T : Rows} {d : Described} {left : ℕ} {c : Checker} (B : Begins f w T d (only one-diagnostic) left c) (v : ℕ) where
+module _ {f w ou : List ℕ} {T : Rows} {d : Described} {left : ℕ} {c : Checker} (B : Begins f w ou T d (only one-diagnostic) left c) (v : ℕ) where
   leaving-runs : Runs f w T d (leaving c v)
   unfolding Check.withState Bindings.withLeft
   leaving-runs = runs-slots (B .sound) (B .runs) keeps-refl (holds-left (B .runs .holds) v) refl
 
-module _ {w : List ℕ} (lhs : ℕ) {t : Ty} {left : ℕ} {r : Asked} (O : IsOrderable w t left r) where
-  answered : {f : List ℕ} {T : Rows} {d : Described} {c : Checker} → Begins f w T d (only one-diagnostic) left c → Fine w t T c → answerOf r ≡ Unify.orderable (Bindings.zonk (c .state .subst) (tree T t)) (c .state .left)
+module _ {f w ou : List ℕ} (lhs : ℕ) {t : Ty} {left : ℕ} {r : Asked} (O : IsOrderable w t left r) where
+  answered : {T : Rows} {d : Described} {c : Checker} → Begins f w ou T d (only one-diagnostic) left c → Fine w t T c → answerOf r ≡ Unify.orderable (Bindings.zonk (c .state .subst) (tree T t)) (c .state .left)
   answered {T = T} {c = c} B fine = rw (B .visits) (O .is T (c .state .subst) (B .runs .holds .cells) (B .runs .holds .binds) (B .runs .holds .acyclic) (fine .ok))
 
-  pub order-yes : {l : ℕ} → r ≡ Asked.Yes l → ComparesOrder w lhs t left w (Done.On l)
+  pub order-yes : {l : ℕ} → r ≡ Asked.Yes l → ComparesOrder f w ou lhs t left w ou (Done.On l)
   unfolding Check.compareOrder Check.orderable Check.ordered andThen Bindings.withLeft
   order-yes {l} e = record {
-    is = λ f d there. record {
+    is = λ d there. record {
       is = λ T c B fine.
           let q : yes-left l ≡ Unify.orderable (Bindings.zonk (c .state .subst) (tree T t)) (c .state .left) = rw e at (answered B fine) in
-          rw (← q) (ends-here tt (leaving c l) (leaving-runs B l) refl);
+          rw (← q) (ends-here tt (leaving c l) (leaving-runs B l) (B .lines) refl);
     };
   }
 
-  pub order-no : {l : ℕ} → r ≡ Asked.No l → {w′ : List ℕ} → w′ ≡ rejectW w lhs Code.RejectTypeMismatch → ComparesOrder w lhs t left w′ (Done.On l)
+  pub order-no : {l : ℕ} → r ≡ Asked.No l → {w′ ou′ : List ℕ} → Rejected f w ou lhs Code.RejectTypeMismatch w′ ou′ → ComparesOrder f w ou lhs t left w′ ou′ (Done.On l)
   unfolding Check.compareOrder Check.orderable Check.ordered andThen Bindings.withLeft
-  order-no {l} e p = rw p (record {
-    is = λ f d there. record {
+  order-no {l} e p = (record {
+    is = λ d there. record {
       is = λ T c B fine.
           let q : no-left l ≡ Unify.orderable (Bindings.zonk (c .state .subst) (tree T t)) (c .state .left) = rw e at (answered B fine) in
           let m : Meets Nothing no-thing c (goes false (leaving c l)) = rw (← q) at (orderable-meets (tree T t) c (B .orderly)) in
-          let g : Gone f w w T d 0 0 (silent l) tt (leaving c l) = record { T′ = T; more = more-refl; runs = leaving-runs B l; grew = grew-refl; is = refl } in
-          rw (← q) (silent-on (reject-ends (begun B g (going m)) lhs there Code.RejectTypeMismatch));
+          let g : Gone f w ou w ou T d 0 0 (silent l) tt (leaving c l) = record { T′ = T; more = more-refl; runs = leaving-runs B l; lines = B .lines; grew = grew-refl; is = refl } in
+          rw (← q) (silent-on (reject-ends (begun B g (going m)) lhs there Code.RejectTypeMismatch p));
     };
   })
     where
-      begun : {f : List ℕ} {T : Rows} {d : Described} {c b : Checker} → Begins f w T d (only one-diagnostic) left c → (g : Gone f w w T d 0 0 (silent (b .state .left)) tt b) → Went Nothing no-thing c false b → Begins f w (g .T′) d (only one-diagnostic) (b .state .left) b
+      begun : {T : Rows} {d : Described} {c b : Checker} → Begins f w ou T d (only one-diagnostic) left c → (g : Gone f w ou w ou T d 0 0 (silent (b .state .left)) tt b) → Went Nothing no-thing c false b → Begins f w ou (g .T′) d (only one-diagnostic) (b .state .left) b
       begun B g v = begins-after (only no-thing) (only one-diagnostic) (only one-diagnostic) Nothing then-one g (record { orderly = v .orderly; made = v .made; reached = v .reached; holds = tt }) B
 
-  pub order-spent : r ≡ Asked.Spent → ComparesOrder w lhs t left w Done.Out
+  pub order-spent : r ≡ Asked.Spent → ComparesOrder f w ou lhs t left w ou Done.Out
   unfolding Check.compareOrder Check.orderable Check.ordered andThen Bindings.withLeft
   order-spent e = record {
-    is = λ f d there. record {
+    is = λ d there. record {
       is = λ T c B fine.
           let q : Bindings.spent ≡ Unify.orderable (Bindings.zonk (c .state .subst) (tree T t)) (c .state .left) = rw e at (answered B fine) in
-          rw (← q) (spent refl);
+          rw (← q) (spent (record { T′ = T; more = more-refl; runs = leaving-runs B 0; lines = B .lines; grew = grew-refl; is = refl }));
     };
   }
 
 -- ---- `compare_types`
-module _ {w w₁ : List ℕ} (lhs rhs : ℕ) {a b : Ty} {left : ℕ} {r : Unified} (U : Unifies w b a left w₁ r) where
-  pub compare-good : {l : ℕ} → r ≡ Unified.Good l → {w₂ : List ℕ} {x : Done} → ComparesOrder w₁ lhs a l w₂ x → ComparesBoth w lhs rhs a b left w₂ x
+module _ {f w ou w₁ : List ℕ} (lhs rhs : ℕ) {a b : Ty} {left : ℕ} {r : Unified} (U : Unifies w b a left w₁ r) where
+  pub compare-good : {l : ℕ} → r ≡ Unified.Good l → {w₂ ou₂ : List ℕ} {x : Done} → ComparesOrder f w₁ ou lhs a l w₂ ou₂ x → ComparesTypes f w ou lhs rhs a b left w₂ ou₂ x
   unfolding compareTypes
   compare-good e O = record {
-    is = λ f. record {
-      is = λ d here there. record {
-        is = λ T c B fine. then-good (unifies f w U) B (fine .1, fine .0) _ e (λ T₁ b₁ s. rw (← tree-after s a (fine .0 .ok)) (O .is f d here .is T₁ b₁ (s .begins) (fine-after s a (fine .0))));
-      };
+    is = λ d here there. record {
+      is = λ T c B fine. then-good (unifies f w U) B (fine .1, fine .0) _ e (λ T₁ b₁ s. rw (← tree-after s a (fine .0 .ok)) (O .is d here .is T₁ b₁ (s .begins) (fine-after s a (fine .0))));
     };
   }
 
-  pub compare-bad : {err : TyError} {l : ℕ} → r ≡ Unified.Bad err l → {w₂ : List ℕ} → w₂ ≡ rejectW w₁ rhs (reportCode err) → ComparesBoth w lhs rhs a b left w₂ (Done.On l)
+  pub compare-bad : {err : TyError} {l : ℕ} → r ≡ Unified.Bad err l → {w₂ ou₂ : List ℕ} → Rejected f w₁ ou rhs (reportCode err) w₂ ou₂ → ComparesTypes f w ou lhs rhs a b left w₂ ou₂ (Done.On l)
   unfolding compareTypes
-  compare-bad {err} {l} e q = rw q (record {
-    is = λ f. record { is = λ d here there. record { is = λ T c B fine. then-bad (unifies f w U) B (fine .1, fine .0) _ e (λ T₁ b₁ s. silent-on (reports f w₁ rhs err l d there .is T₁ b₁ (s .begins) tt)) } };
+  compare-bad {err} {l} e q = (record {
+    is = λ d here there. record { is = λ T c B fine. then-bad (unifies f w U) B (fine .1, fine .0) _ e (λ T₁ b₁ s. silent-on (reports f w₁ rhs err l q d there .is T₁ b₁ (s .begins) tt)) };
   })
 
-  pub compare-spent : r ≡ Unified.Spent → ComparesBoth w lhs rhs a b left w₁ Done.Out
+  pub compare-spent : r ≡ Unified.Spent → ComparesTypes f w ou lhs rhs a b left w₁ ou Done.Out
   unfolding compareTypes
-  compare-spent e = record { is = λ f. record { is = λ d here there. record { is = λ T c B fine. then-spent (unifies f w U) B (fine .1, fine .0) _ e refl } } }
+  compare-spent e = record { is = λ d here there. record { is = λ T c B fine. then-spent (unifies f w U) B (fine .1, fine .0) _ e refl } }

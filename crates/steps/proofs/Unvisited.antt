@@ -12,7 +12,7 @@ use Rattle.meaning.specs.Syntax.{allFields, destructurableKind, destructurableI
 use Rattle.meaning.specs.File.{Described}
 use Rattle.meaning.specs.Sound.{Sound}
 use Rattle.meaning.specs.Check.{Checker, Step, goes, andThen, Form, aWildcard, aVariable, form, formOf, introduce, introduceSide, headForm}
-use Rattle.meaning.proofs.Visits.{early}
+use Rattle.meaning.specs.Grades.{early}
 use Rattle.meaning.proofs.Depth.{lower-falls, destructurable-is}
 use Rattle.tree.specs.declared.Items.{Items}
 use Rattle.tree.specs.declared.Field.{Field}
@@ -22,7 +22,8 @@ use Rattle.tree.specs.Nodes.{fieldW, fieldOf, fieldsFrom, kindW, LowerItems, Is
 use Rattle.tree.proofs.Node.{the-type}
 use Rattle.tree.proofs.Lowering.{lower-below}
 use Rattle.state.specs.declared.Code.the-variants as Code
-use Rattle.state.specs.Words.{rejectW, Introduces}
+use Rattle.state.specs.Words.{Introduces}
+use Rattle.state.specs.Lines.{Rejected}
 use Rattle.state.specs.Runs.{Runs}
 use Rattle.steps.specs.Ends.{silent, numbered, Ends, went, spent}
 use Rattle.steps.specs.Contracts.{nodesOf, Asks, allApart, AsksAll}
@@ -52,23 +53,23 @@ side-stays d c = record {
   other = λ h. refl;
 }
 
-module _ {f w : List ℕ} {n : ℕ} {nd : Node} (i : IsNode f w n nd) where
-  pub side-other : OneOf no-variable (tagOf the-type nd) → IntroducesSide f w n w
+module _ {f w ou : List ℕ} {n : ℕ} {nd : Node} (i : IsNode f w n nd) where
+  pub side-other : OneOf no-variable (tagOf the-type nd) → IntroducesSide f w ou n w ou
   side-other x = record {
     is = λ left d there. record {
       is = λ T c s u.
-          rw (form-read s there i, by-form f no-variable (λ q. introduceSide (d .schema) (nodesOf d) q c ≡ goes tt c) (side-stays d c) nd x) (ends-here tt c (s .runs) (s .visits));
+          rw (form-read s there i, by-form f no-variable (λ q. introduceSide (d .schema) (nodesOf d) q c ≡ goes tt c) (side-stays d c) nd x) (ends-here tt c (s .runs) (s .lines) (s .visits));
     };
   }
 
-brought : {f w w′ : List ℕ} {T : Rows} {d : Described} {a b left v : ℕ} (m : Step ℕ) → Ends f w w′ T d a b (numbered v left) m → Ends f w w′ T d a b (silent left) (andThen m (λ y e. goes tt e))
+brought : {f w ou w′ ou′ : List ℕ} {T : Rows} {d : Described} {a b left v : ℕ} (m : Step ℕ) → Ends f w ou w′ ou′ T d a b (numbered v left) m → Ends f w ou w′ ou′ T d a b (silent left) (andThen m (λ y e. goes tt e))
 unfolding andThen
-brought m (went g) = went (record { T′ = g .T′; more = g .more; runs = g .runs; grew = g .grew; is = g .is .1 })
-brought m (spent o) = absurd o
+brought m (went g) = went (record { T′ = g .T′; more = g .more; runs = g .runs; lines = g .lines; grew = g .grew; is = g .is .1 })
+brought m (spent g) = absurd (g .is)
 
-pub side-variable : {f w w′ : List ℕ} {n x v : ℕ} {nd : Node} → IsNode f w n nd → nd ≡ Node.Var x → Introduces w x w′ v → IntroducesSide f w n w′
+pub side-variable : {f w ou w′ : List ℕ} {n x v : ℕ} {nd : Node} → IsNode f w n nd → nd ≡ Node.Var x → Introduces w x w′ v → IntroducesSide f w ou n w′ ou
 unfolding kindW formOf introduceSide early
-side-variable {f} {w} {w′} {n} {x} {v} i e I = record {
+side-variable {f} {w} {ou} {w′} {n} {x} {v} i e I = record {
   is = λ left d there. record {
     is = λ T c s u.
         let k = kind-read s there (rw e at i) in
@@ -95,20 +96,20 @@ head-stays d n c = record {
   other = λ h. refl;
 }
 
-module _ {f w : List ℕ} {n : ℕ} {nd : Node} (i : IsNode f w n nd) where
-  pub head-other : OneOf no-wildcard (tagOf the-type nd) → ChecksHead f w n w
+module _ {f w ou : List ℕ} {n : ℕ} {nd : Node} (i : IsNode f w n nd) where
+  pub head-other : OneOf no-wildcard (tagOf the-type nd) → ChecksHead f w ou n w ou
   head-other x = record {
     is = λ left d there. record {
       is = λ T c s u.
-          rw (form-read s there i, by-form f no-wildcard (λ q. headForm (d .schema) (nodesOf d) n q c ≡ goes tt c) (head-stays d n c) nd x) (ends-here tt c (s .runs) (s .visits));
+          rw (form-read s there i, by-form f no-wildcard (λ q. headForm (d .schema) (nodesOf d) n q c ≡ goes tt c) (head-stays d n c) nd x) (ends-here tt c (s .runs) (s .lines) (s .visits));
     };
   }
 
-  pub head-wildcard : nd ≡ Node.Wildcard → {w′ : List ℕ} → w′ ≡ rejectW w n Code.RejectWildcardInHead → ChecksHead f w n w′
+  pub head-wildcard : nd ≡ Node.Wildcard → {w′ ou′ : List ℕ} → Rejected f w ou n Code.RejectWildcardInHead w′ ou′ → ChecksHead f w ou n w′ ou′
   unfolding kindW formOf headForm
   head-wildcard e x = record {
     is = λ left d there. record {
-      is = λ T c s u. let q : formAt d n ≡ aWildcard = form-read s there (rw e at i) in rw (x, q) (reject-ends s n there Code.RejectWildcardInHead);
+      is = λ T c s u. let q : formAt d n ≡ aWildcard = form-read s there (rw e at i) in rw q (reject-ends s n there Code.RejectWildcardInHead x);
     };
   }
 

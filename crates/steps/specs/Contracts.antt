@@ -19,11 +19,10 @@ use Rattle.work.specs.Layout.{RECORD-COUNT, RECORD-FIELD-COUNT, END}
 use Rattle.tree.specs.Stands.{Stands}
 use Rattle.meaning.specs.Check as Check
 use Rattle.meaning.specs.Check.{Checker, Does, _>>=_, andThen, form}
-use Rattle.meaning.proofs.Meets.{unknowns}
-use Rattle.meaning.proofs.Steps.{no-thing, one-diagnostic, one-unknown, one-node, Known}
-use Rattle.meaning.proofs.Visits.{introducing}
+use Rattle.meaning.specs.Grades.{unknowns, no-thing, one-diagnostic, one-unknown, one-node, Known, introducing}
 use Rattle.meaning.specs.Diag.{Code}
 use Rattle.state.specs.Runs.{Runs}
+use Rattle.state.specs.Lines.{Told}
 use Rattle.cells.specs.declared.Bound.{Bound}
 use Rattle.cells.specs.declared.TyError.{TyError}
 use Rattle.cells.specs.declared.Unified.{Unified}
@@ -75,54 +74,54 @@ pub record FineUnion (w : List ℕ) (e : ℕ) (T : Rows) (c : Checker) : Type 0 
 -- ---- The steps outside of the cycle, as it asks for them
 
 -- `annotate`: a node has this type.
-abbrev pub Notes : List ℕ → List ℕ → ℕ → Ty → ℕ → List ℕ → Type 0
-Notes f w n t left w′ = (d : Described) → n < length (nodesOf d) → Beside f w left w′ (silent left) d (only (one-node n)) (Fine w t) (λ T. Check.annotate n (tree T t))
+abbrev pub Notes : List ℕ → List ℕ → List ℕ → ℕ → Ty → ℕ → List ℕ → List ℕ → Type 0
+Notes f w ou n t left w′ ou′ = (d : Described) → n < length (nodesOf d) → Beside f w ou left w′ ou′ (silent left) d (only (one-node n)) (Fine w t) (λ T. Check.annotate n (tree T t))
 
 -- `reject`
-abbrev pub Rejects : List ℕ → List ℕ → ℕ → Code → ℕ → List ℕ → Type 0
-Rejects f w n code left w′ = (d : Described) → n < length (nodesOf d) → Beside f w left w′ (silent left) d (only one-diagnostic) Always (λ T. Check.reject (d .schema) (nodesOf d) n code)
+abbrev pub Rejects : List ℕ → List ℕ → List ℕ → ℕ → Code → ℕ → List ℕ → List ℕ → Type 0
+Rejects f w ou n code left w′ ou′ = (d : Described) → n < length (nodesOf d) → Beside f w ou left w′ ou′ (silent left) d (only one-diagnostic) Always (λ T. Check.reject (d .schema) (nodesOf d) n code)
 
 -- `fresh_var_id`
-abbrev pub Freshens : List ℕ → List ℕ → ℕ → List ℕ → ℕ → Type 0
-Freshens f w left w′ x = (d : Described) → Beside f w left w′ (numbered x left) d (only one-unknown) Always (λ T. Check.freshVarId)
+abbrev pub Freshens : List ℕ → List ℕ → List ℕ → ℕ → List ℕ → List ℕ → ℕ → Type 0
+Freshens f w ou left w′ ou′ x = (d : Described) → Beside f w ou left w′ ou′ (numbered x left) d (only one-unknown) Always (λ T. Check.freshVarId)
 
 -- `introduce`; a variable that the environment has makes no unknown
-pub record Brings (f w : List ℕ) (symbol left : ℕ) (w′ : List ℕ) (x : ℕ) : Type 0 where
-  pub is : (d : Described) → symbol < 65536 → Beside f w left w′ (numbered x left) d (only one-unknown) Always (λ T. Check.introduce symbol)
-  pub found : (d : Described) → symbol < 65536 → Beside f w left w′ (numbered x left) d (only no-thing) (λ T c. Known symbol c) (λ T. Check.introduce symbol)
+pub record Brings (f w ou : List ℕ) (symbol left : ℕ) (w′ ou′ : List ℕ) (x : ℕ) : Type 0 where
+  pub is : (d : Described) → symbol < 65536 → Beside f w ou left w′ ou′ (numbered x left) d (only one-unknown) Always (λ T. Check.introduce symbol)
+  pub found : (d : Described) → symbol < 65536 → Beside f w ou left w′ ou′ (numbered x left) d (only no-thing) (λ T c. Known symbol c) (λ T. Check.introduce symbol)
 
 -- The environment cut back to a length.
-abbrev pub Cuts : List ℕ → List ℕ → ℕ → List ℕ → Type 0
-Cuts f w scope w′ = (d : Described) (left : ℕ) → Beside f w left w′ (silent left) d (only no-thing) (λ T c. scope ≤ length (c .env)) (λ T. Check.truncateEnv scope)
+abbrev pub Cuts : List ℕ → List ℕ → List ℕ → ℕ → List ℕ → List ℕ → Type 0
+Cuts f w ou scope w′ ou′ = (d : Described) (left : ℕ) → Beside f w ou left w′ ou′ (silent left) d (only no-thing) (λ T c. scope ≤ length (c .env)) (λ T. Check.truncateEnv scope)
 
 -- `fuzzy`; the term is a name
-abbrev pub Fuzzes : List ℕ → List ℕ → ℕ → ℕ → ℕ → ℕ → List ℕ → Type 0
-Fuzzes f w n term distance left w′ = (d : Described) → n < length (nodesOf d) → term < length (d .schema .characters)
-    → Beside f w left w′ (silent left) d (only (record { nodes = λ x. 0; unknowns = 0; diagnostics = 2 })) Always
+abbrev pub Fuzzes : List ℕ → List ℕ → List ℕ → ℕ → ℕ → ℕ → ℕ → List ℕ → List ℕ → Type 0
+Fuzzes f w ou n term distance left w′ ou′ = (d : Described) → n < length (nodesOf d) → term < length (d .schema .characters)
+    → Beside f w ou left w′ ou′ (silent left) d (only (record { nodes = λ x. 0; unknowns = 0; diagnostics = 2 })) Always
     (λ T c. andThen (Check.fuzzyDistance (d .schema) (nodesOf d) n distance c) (λ u. Check.fuzzyTerm (d .schema) (nodesOf d) n term))
 
 -- `unify`
-abbrev pub UnifiesTo : List ℕ → List ℕ → Ty → Ty → ℕ → List ℕ → Unified → Type 0
-UnifiesTo f w got expected left w′ r = (d : Described) → Beside f w left w′ (unified r) d (only no-thing) (λ T c. Fine w got T c × Fine w expected T c) (λ T. Check.unify (tree T got) (tree T expected))
+abbrev pub UnifiesTo : List ℕ → List ℕ → List ℕ → Ty → Ty → ℕ → List ℕ → List ℕ → Unified → Type 0
+UnifiesTo f w ou got expected left w′ ou′ r = (d : Described) → Beside f w ou left w′ ou′ (unified r) d (only no-thing) (λ T c. Fine w got T c × Fine w expected T c) (λ T. Check.unify (tree T got) (tree T expected))
 
 -- `report`
-abbrev pub Reports : List ℕ → List ℕ → ℕ → TyError → ℕ → List ℕ → Type 0
-Reports f w n err left w′ = (d : Described) → n < length (nodesOf d) → Beside f w left w′ (silent left) d (only one-diagnostic) Always (λ T. Check.report (d .schema) (nodesOf d) n (errorOf T err))
+abbrev pub Reports : List ℕ → List ℕ → List ℕ → ℕ → TyError → ℕ → List ℕ → List ℕ → Type 0
+Reports f w ou n err left w′ ou′ = (d : Described) → n < length (nodesOf d) → Beside f w ou left w′ ou′ (silent left) d (only one-diagnostic) Always (λ T. Check.report (d .schema) (nodesOf d) n (errorOf T err))
 
 -- `rollback`, to lengths of the undo log and of the environment
-abbrev pub RollsTo : List ℕ → List ℕ → ℕ → ℕ → List ℕ → Type 0
-RollsTo f w undo env w′ = (d : Described) (left : ℕ) (at : Check.Mark) → at .state .undo ≡ undo → at .env ≡ env
-    → Beside f w left w′ (silent left) d (only no-thing) (λ T c. env ≤ length (c .env)) (λ T. Check.rollback at)
+abbrev pub RollsTo : List ℕ → List ℕ → List ℕ → ℕ → ℕ → List ℕ → List ℕ → Type 0
+RollsTo f w ou undo env w′ ou′ = (d : Described) (left : ℕ) (at : Check.Mark) → at .state .undo ≡ undo → at .env ≡ env
+    → Beside f w ou left w′ ou′ (silent left) d (only no-thing) (λ T c. env ≤ length (c .env)) (λ T. Check.rollback at)
 
 -- `unify_at`
-pub record UnifiesAt (f w : List ℕ) (n : ℕ) (got expected : Ty) (left : ℕ) (w′ : List ℕ) (r : Done) : Type 0 where
+pub record UnifiesAt (f w ou : List ℕ) (n : ℕ) (got expected : Ty) (left : ℕ) (w′ ou′ : List ℕ) (r : Done) : Type 0 where
   pub is : (d : Described) → n < length (nodesOf d)
-      → Beside f w left w′ (done r) d (only one-diagnostic) (λ T c. Fine w got T c × Fine w expected T c) (λ T. Check.unifyAt (d .schema) (nodesOf d) n (tree T got) (tree T expected))
+      → Beside f w ou left w′ ou′ (done r) d (only one-diagnostic) (λ T c. Fine w got T c × Fine w expected T c) (λ T. Check.unifyAt (d .schema) (nodesOf d) n (tree T got) (tree T expected))
 
 -- `introduce_side`
-abbrev pub BringsSide : List ℕ → List ℕ → ℕ → ℕ → List ℕ → Type 0
-BringsSide f w n left w′ = (d : Described) → n < length (nodesOf d)
-    → Beside f w left w′ (silent left) d (only (introducing (form (d .schema) (nodesOf d) n))) Always (λ T. Check.introduceSide (d .schema) (nodesOf d) (form (d .schema) (nodesOf d) n))
+abbrev pub BringsSide : List ℕ → List ℕ → List ℕ → ℕ → ℕ → List ℕ → List ℕ → Type 0
+BringsSide f w ou n left w′ ou′ = (d : Described) → n < length (nodesOf d)
+    → Beside f w ou left w′ ou′ (silent left) d (only (introducing (form (d .schema) (nodesOf d) n))) Always (λ T. Check.introduceSide (d .schema) (nodesOf d) (form (d .schema) (nodesOf d) n))
 
 -- `compare_types`: the right side's type unified with the left's, which must then have an order.
 unfoldable pub compareTypes : Described → ℕ → ℕ → Tree.Ty → Tree.Ty → Does (Unit {0})
@@ -131,9 +130,9 @@ compareTypes d lhs rhs left right = do
   failed ← Check.unify right left
   elim failed [ some err ↦ Check.report (d .schema) (nodesOf d) rhs err | none ↦ Check.compareOrder (d .schema) (nodesOf d) lhs left ]
 
-pub record ComparesTypes (f w : List ℕ) (lhs rhs : ℕ) (a b : Ty) (left : ℕ) (w′ : List ℕ) (r : Done) : Type 0 where
+pub record ComparesTypes (f w ou : List ℕ) (lhs rhs : ℕ) (a b : Ty) (left : ℕ) (w′ ou′ : List ℕ) (r : Done) : Type 0 where
   pub is : (d : Described) → lhs < length (nodesOf d) → rhs < length (nodesOf d)
-      → Beside f w left w′ (done r) d (only one-diagnostic) (λ T c. Fine w a T c × Fine w b T c) (λ T. compareTypes d lhs rhs (tree T a) (tree T b))
+      → Beside f w ou left w′ ou′ (done r) d (only one-diagnostic) (λ T c. Fine w a T c × Fine w b T c) (λ T. compareTypes d lhs rhs (tree T a) (tree T b))
 
 -- `key_ty`
 pub record KeyIs (f w : List ℕ) (p : ℕ) (r : Bound) : Type 0 where
@@ -141,8 +140,8 @@ pub record KeyIs (f w : List ℕ) (p : ℕ) (r : Bound) : Type 0 where
   pub ok : (T : Rows) (d : Described) (c : Checker) → Runs f w T d c → OkBound w r
 
 -- `key_of`, `value_of`, `select_of`: m is the definition's step on the head.
-pub record OnType (m : Described → Tree.Ty → Does Tree.Ty) (f w : List ℕ) (n : ℕ) (t : Ty) (left : ℕ) (w′ : List ℕ) (r : Typed) : Type 0 where
-  pub is : (d : Described) → n < length (nodesOf d) → Beside f w left w′ (typed w′ r) d (only one-diagnostic) (Fine w t) (λ T. m d (tree T t))
+pub record OnType (m : Described → Tree.Ty → Does Tree.Ty) (f w ou : List ℕ) (n : ℕ) (t : Ty) (left : ℕ) (w′ ou′ : List ℕ) (r : Typed) : Type 0 where
+  pub is : (d : Described) → n < length (nodesOf d) → Beside f w ou left w′ ou′ (typed w′ r) d (only one-diagnostic) (Fine w t) (λ T. m d (tree T t))
 
 -- ---- The end of a type, without the type
 abbrev pub onlyW : Typed → Done
@@ -152,14 +151,15 @@ onlyW Typed.Out = Done.Out
 -- `begin`: nothing is made yet.
 pub record Starts (f w : List ℕ) (w′ : List ℕ) : Type 0 where
   pub is : (T : Rows) (d : Described) (ceiling : ℕ) → Sound d → Stands f w T d → Runs f w′ T d (Check.begin ceiling (length (nodesOf d)))
+  pub lines : (ou : List ℕ) (d : Described) (ceiling : ℕ) → Told w′ ou (Check.begin ceiling (length (nodesOf d)))
   pub records : getD w′ RECORD-COUNT 0 ≡ 0
   pub fields : getD w′ RECORD-FIELD-COUNT 0 ≡ 0
   pub keeps : Keeps RECORD-COUNT END w w′
 
 -- A wildcard head is rejected.
-abbrev pub Heads : List ℕ → List ℕ → ℕ → ℕ → List ℕ → Type 0
-Heads f w head left w′ = (d : Described) → head < length (nodesOf d)
-    → Beside f w left w′ (silent left) d (only one-diagnostic) Always (λ T. Check.headForm (d .schema) (nodesOf d) head (form (d .schema) (nodesOf d) head))
+abbrev pub Heads : List ℕ → List ℕ → List ℕ → ℕ → ℕ → List ℕ → List ℕ → Type 0
+Heads f w ou head left w′ ou′ = (d : Described) → head < length (nodesOf d)
+    → Beside f w ou left w′ ou′ (silent left) d (only one-diagnostic) Always (λ T. Check.headForm (d .schema) (nodesOf d) head (form (d .schema) (nodesOf d) head))
 
 -- `destructurable`
 pub record Asks (f w : List ℕ) (n : ℕ) (r : Bool) : Type 0 where

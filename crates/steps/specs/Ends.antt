@@ -16,6 +16,7 @@ use Rattle.meaning.specs.File.{Described}
 use Rattle.meaning.specs.Check.{Checker, Step, goes, out}
 use Rattle.cells.specs.Inferred.{More}
 use Rattle.state.specs.Runs.{Runs, Grew}
+use Rattle.state.specs.Lines.{Told}
 use Rattle.steps.specs.declared.Typed.{Typed}
 use Rattle.steps.specs.declared.Typed.the-variants as Typed
 use Rattle.steps.specs.declared.Done.{Done}
@@ -64,13 +65,19 @@ unified r = record { Is = λ T e left. IsUnified r T e left; Out = r ≡ Unified
 -- ---- The end
 
 -- At most n records and m fields of records were made.
-pub record Gone {A : Type 0} (f w w′ : List ℕ) (T : Rows) (d : Described) (n m : ℕ) (E : Result A) (a : A) (c : Checker) : Type 0 where
+pub record Gone {A : Type 0} (f w ou w′ ou′ : List ℕ) (T : Rows) (d : Described) (n m : ℕ) (E : Result A) (a : A) (c : Checker) : Type 0 where
   pub T′ : Rows
   pub more : More w T T′
   pub runs : Runs f w′ T′ d c
+  pub lines : Told w′ ou′ c
   pub grew : Grew w w′ n m
   pub is : E .Is T′ a (c .state .left)
 
-pub data Ends {A : Type 0} (f w w′ : List ℕ) (T : Rows) (d : Described) (n m : ℕ) (E : Result A) : Step A → Type 0 where
-  went : {a : A} {c : Checker} → Gone f w w′ T d n m E a c → Ends f w w′ T d n m E (goes a c)
-  spent : {c : Checker} → E .Out → Ends f w w′ T d n m E (out c)
+-- The visits ran out: no value comes back, and the code says so.
+abbrev pub stopped : {A : Type 0} → Result A → Result (Unit {0})
+stopped E = record { Is = λ T u left. E .Out; Out = ⊥ }
+
+-- Also where the visits ran out, the words stand for the checker in which the step stopped.
+pub data Ends {A : Type 0} (f w ou w′ ou′ : List ℕ) (T : Rows) (d : Described) (n m : ℕ) (E : Result A) : Step A → Type 0 where
+  went : {a : A} {c : Checker} → Gone f w ou w′ ou′ T d n m E a c → Ends f w ou w′ ou′ T d n m E (goes a c)
+  spent : {c : Checker} → Gone f w ou w′ ou′ T d n m (stopped E) tt c → Ends f w ou w′ ou′ T d n m E (out c)

@@ -11,10 +11,10 @@ use Rattle.meaning.specs.References.{exprNodes}
 use Rattle.meaning.specs.File.{Described}
 use Rattle.meaning.specs.Sound.{Sound}
 use Rattle.meaning.specs.Check.{Checker, Does}
-use Rattle.meaning.specs.Run.{sumOf, recordsOf, records, fieldsOf, recordFields}
-use Rattle.meaning.proofs.Meets.{Grade, unknowns, Orderly, Ready, Fits, plus}
-use Rattle.meaning.proofs.Visits.{inferring, finding, checking, visiting, within}
+use Rattle.meaning.specs.Weights.{sumOf, recordsOf, records, fieldsOf, recordFields}
+use Rattle.meaning.specs.Grades.{Grade, unknowns, Orderly, Ready, Fits, plus, inferring, finding, checking, visiting, within}
 use Rattle.state.specs.Runs.{Runs}
+use Rattle.state.specs.Lines.{Told}
 use Rattle.steps.specs.Ends.{Result, Ends}
 
 -- ---- Loads
@@ -66,14 +66,15 @@ pub record Free (L : Load) (w : List ℕ) (c : Checker) : Type 0 where
   pub records : getD w RECORD-COUNT 0 + L .records ≤ 512
   pub fields : getD w RECORD-FIELD-COUNT 0 + L .fields ≤ 512
 
-pub record Begins (f w : List ℕ) (T : Rows) (d : Described) (L : Load) (left : ℕ) (c : Checker) : Type 0 where
+pub record Begins (f w ou : List ℕ) (T : Rows) (d : Described) (L : Load) (left : ℕ) (c : Checker) : Type 0 where
   pub sound : Sound d
   pub runs : Runs f w T d c
+  pub lines : Told w ou c
   pub orderly : Orderly c
   pub visits : c .state .left ≡ left
   pub free : Free L w c
 
 -- A step of the code beside one of the definition: from words that stand for a checker of which P holds, to words that stand for
 -- what the definition gives.
-pub record Beside {A : Type 0} (f w : List ℕ) (left : ℕ) (w′ : List ℕ) (E : Result A) (d : Described) (L : Load) (P : Rows → Checker → Type 0) (m : Rows → Does A) : Type 0 where
-  pub is : (T : Rows) (c : Checker) → Begins f w T d L left c → P T c → Ends f w w′ T d (L .records) (L .fields) E (m T c)
+pub record Beside {A : Type 0} (f w ou : List ℕ) (left : ℕ) (w′ ou′ : List ℕ) (E : Result A) (d : Described) (L : Load) (P : Rows → Checker → Type 0) (m : Rows → Does A) : Type 0 where
+  pub is : (T : Rows) (c : Checker) → Begins f w ou T d L left c → P T c → Ends f w ou w′ ou′ T d (L .records) (L .fields) E (m T c)

@@ -1,12 +1,11 @@
 -- What the steps outside of the cycle promise (src/steps.rt): those that read or write words say which; the others go beside their
 -- namesakes of meaning/specs/Check.antt.
-use mathlib.Core.Bool.{Bool}
+use mathlib.Core.Bool.{Bool, true, false}
 use mathlib.Core.List.{List}
 use mathlib.Core.Path.{_≡_}
 use Prim.Native.Nat.{ℕ, _+_, _*_, _/_, _%_, _<_}
 use lib.Dec.{eqb, ltb}
 use lib.ListN.{length, getD, set}
-use Rattle.unification.specs.Ty as Tree
 use Rattle.work.specs.Layout.{PREDICATE-COUNT, MAX-DISTANCE, MAX-TERM, NAMES, PREDICATES, RECORD-COUNT, RECORD-FIELD-COUNT, ENV-LEN, DIAGNOSTIC-COUNT, UNKNOWNS, TYS, UNDO-LEN}
 use Rattle.cells.specs.declared.Ty.{Ty}
 use Rattle.cells.specs.declared.Bound.{Bound}
@@ -19,17 +18,17 @@ use Rattle.cells.specs.Contracts.{RollsBack}
 use Rattle.meaning.specs.Schema.{fieldOf}
 use Rattle.meaning.specs.File.{Described}
 use Rattle.meaning.specs.Check as Check
-use Rattle.meaning.specs.Check.{Checker, Does}
-use Rattle.meaning.proofs.Steps.{one-diagnostic}
+use Rattle.meaning.specs.Check.{Checker}
+use Rattle.meaning.specs.Grades.{one-diagnostic}
 use Rattle.state.specs.declared.Code.{Code}
 use Rattle.state.specs.declared.Code.the-variants as Code
-use Rattle.state.specs.Words.{rejectW}
+use Rattle.state.specs.Lines.{Rejected}
 use Rattle.state.specs.Runs.{Runs}
 use Rattle.steps.specs.declared.Typed.{Typed}
 use Rattle.steps.specs.declared.Done.{Done}
 use Rattle.steps.specs.Ends.{done}
 use Rattle.steps.specs.Loads.{only, Beside}
-use Rattle.steps.specs.Contracts.{nodesOf, Fine, OnType, UnifiesAt, ComparesTypes, BringsSide, Heads, Starts}
+use Rattle.steps.specs.Contracts.{nodesOf, Fine, OnType, BringsSide, Heads, Starts}
 
 -- ---- Words
 abbrev pub reportCode : TyError → Code
@@ -48,15 +47,16 @@ valueTyW w p =
     pick (ltb p (getD w PREDICATE-COUNT 0))
     (pick (eqb (getD w (PREDICATES + p) 0 % 2) 1) (To (declaredW w (getD w (PREDICATES + p) 0 / 2 % 256))) Free) Free
 
-unfoldable pub fuzzyDistanceW : List ℕ → ℕ → ℕ → List ℕ
-unfolding rejectW
-fuzzyDistanceW w n distance =
-    pick (eqb distance 0) (rejectW w n Code.RejectFuzzyDistance)
-    (pick (ltb (getD w MAX-DISTANCE 0) distance) (rejectW w n Code.RejectFuzzyDistance) w)
+-- A diagnostic by a test.
+pub data RejectedIf (f w ou : List ℕ) (n : ℕ) (code : Code) (w′ ou′ : List ℕ) : Bool → Type 0 where
+  reported : Rejected f w ou n code w′ ou′ → RejectedIf f w ou n code w′ ou′ true
+  stayed : w′ ≡ w → ou′ ≡ ou → RejectedIf f w ou n code w′ ou′ false
 
-unfoldable pub fuzzyTermW : List ℕ → ℕ → ℕ → List ℕ
-unfolding rejectW
-fuzzyTermW w n term = pick (ltb (getD w MAX-TERM 0) (getD w (NAMES + term) 0 % 512)) (rejectW w n Code.RejectFuzzyTerm) w
+abbrev pub farW : List ℕ → ℕ → Bool
+farW w distance = pick (eqb distance 0) true (ltb (getD w MAX-DISTANCE 0) distance)
+
+abbrev pub longW : List ℕ → ℕ → Bool
+longW w term = ltb (getD w MAX-TERM 0) (getD w (NAMES + term) 0 % 512)
 
 -- The state goes back, and the environment is cut.
 pub record Rewinds (w : List ℕ) (undo env : ℕ) (w′ : List ℕ) : Type 0 where
@@ -73,37 +73,32 @@ pub record Shadows (w : List ℕ) (p : ℕ) (r : Bool) : Type 0 where
   pub is : (f : List ℕ) (T : Rows) (d : Described) (c : Checker) → Runs f w T d c → r ≡ Check.keyShadowsValue (d .schema) (nodesOf d) p
 
 -- ---- Steps on the head of a type
-pub record OnHead (m : Described → Tree.Ty → Does Tree.Ty) (w : List ℕ) (n : ℕ) (t : Ty) (left : ℕ) (w′ : List ℕ) (r : Typed) : Type 0 where
-  pub is : (f : List ℕ) → OnType m f w n t left w′ r
+abbrev pub ValueOf : List ℕ → List ℕ → List ℕ → ℕ → Ty → ℕ → List ℕ → List ℕ → Typed → Type 0
+ValueOf f w ou n t left w′ ou′ r = OnType (λ d ty. Check.valueOf (d .schema) (nodesOf d) n ty) f w ou n t left w′ ou′ r
 
-abbrev pub ValueOf : List ℕ → ℕ → Ty → ℕ → List ℕ → Typed → Type 0
-ValueOf w n t left w′ r = OnHead (λ d ty. Check.valueOf (d .schema) (nodesOf d) n ty) w n t left w′ r
+abbrev pub FieldAt : List ℕ → List ℕ → List ℕ → ℕ → ℕ → Ty → ℕ → List ℕ → List ℕ → Typed → Type 0
+FieldAt f w ou n name t left w′ ou′ r = OnType (λ d ty. Check.fieldAt (d .schema) (nodesOf d) n name ty) f w ou n t left w′ ou′ r
 
-abbrev pub FieldAt : List ℕ → ℕ → ℕ → Ty → ℕ → List ℕ → Typed → Type 0
-FieldAt w n name t left w′ r = OnHead (λ d ty. Check.fieldAt (d .schema) (nodesOf d) n name ty) w n t left w′ r
+abbrev pub KeyOf : List ℕ → List ℕ → List ℕ → ℕ → ℕ → Ty → ℕ → List ℕ → List ℕ → Typed → Type 0
+KeyOf f w ou n name t left w′ ou′ r = OnType (λ d ty. Check.keyOf (d .schema) (nodesOf d) n name ty) f w ou n t left w′ ou′ r
 
-abbrev pub KeyOf : List ℕ → ℕ → ℕ → Ty → ℕ → List ℕ → Typed → Type 0
-KeyOf w n name t left w′ r = OnHead (λ d ty. Check.keyOf (d .schema) (nodesOf d) n name ty) w n t left w′ r
-
-abbrev pub SelectOf : List ℕ → ℕ → ℕ → Ty → ℕ → List ℕ → Typed → Type 0
-SelectOf w n name t left w′ r = OnHead (λ d ty. Check.selectOf (d .schema) (nodesOf d) n name ty) w n t left w′ r
+abbrev pub SelectOf : List ℕ → List ℕ → List ℕ → ℕ → ℕ → Ty → ℕ → List ℕ → List ℕ → Typed → Type 0
+SelectOf f w ou n name t left w′ ou′ r = OnType (λ d ty. Check.selectOf (d .schema) (nodesOf d) n name ty) f w ou n t left w′ ou′ r
 
 -- ---- Steps that spend visits
-pub record Unites (w : List ℕ) (n : ℕ) (got expected : Ty) (left : ℕ) (w′ : List ℕ) (r : Done) : Type 0 where
-  pub is : (f : List ℕ) → UnifiesAt f w n got expected left w′ r
-
-pub record ComparesOrder (w : List ℕ) (lhs : ℕ) (t : Ty) (left : ℕ) (w′ : List ℕ) (r : Done) : Type 0 where
-  pub is : (f : List ℕ) (d : Described) → lhs < length (nodesOf d) → Beside f w left w′ (done r) d (only one-diagnostic) (Fine w t) (λ T. Check.compareOrder (d .schema) (nodesOf d) lhs (tree T t))
-
-pub record ComparesBoth (w : List ℕ) (lhs rhs : ℕ) (a b : Ty) (left : ℕ) (w′ : List ℕ) (r : Done) : Type 0 where
-  pub is : (f : List ℕ) → ComparesTypes f w lhs rhs a b left w′ r
+pub record ComparesOrder (f w ou : List ℕ) (lhs : ℕ) (t : Ty) (left : ℕ) (w′ ou′ : List ℕ) (r : Done) : Type 0 where
+  pub is : (d : Described) → lhs < length (nodesOf d) → Beside f w ou left w′ ou′ (done r) d (only one-diagnostic) (Fine w t) (λ T. Check.compareOrder (d .schema) (nodesOf d) lhs (tree T t))
 
 -- ---- Steps on a node, which spend none
-pub record IntroducesSide (f w : List ℕ) (n : ℕ) (w′ : List ℕ) : Type 0 where
-  pub is : (left : ℕ) → BringsSide f w n left w′
+pub record IntroducesSide (f w ou : List ℕ) (n : ℕ) (w′ ou′ : List ℕ) : Type 0 where
+  pub is : (left : ℕ) → BringsSide f w ou n left w′ ou′
 
-pub record ChecksHead (f w : List ℕ) (n : ℕ) (w′ : List ℕ) : Type 0 where
-  pub is : (left : ℕ) → Heads f w n left w′
+-- The answer slice is not lent.
+pub record IntroducesSides (f w : List ℕ) (n : ℕ) (w′ : List ℕ) : Type 0 where
+  pub is : (ou : List ℕ) → IntroducesSide f w ou n w′ ou
+
+pub record ChecksHead (f w ou : List ℕ) (n : ℕ) (w′ ou′ : List ℕ) : Type 0 where
+  pub is : (left : ℕ) → Heads f w ou n left w′ ou′
 
 -- ---- The start
 unfoldable pub countersW : List ℕ → List ℕ

@@ -3,10 +3,11 @@ ghost use mathlib.Core.Path.{_≡_};
 ghost use lib.ListN.{getD};
 ghost use Rattle.cells.specs.declared.Ty.the-variants as Ty;
 ghost use Rattle.tree.specs.Nodes.{LowerItems};
-ghost use Rattle.state.specs.Words.{rejectW};
+ghost use Rattle.state.specs.Lines.{Rejected};
+ghost use Rattle.state.specs.declared.Code.the-variants as Code;
 ghost use Rattle.steps.specs.declared.Typed.the-variants as Typed;
-ghost use Rattle.steps.specs.Outside.{reportCode, keyTyW, valueTyW, fuzzyDistanceW, fuzzyTermW, Rewinds, FieldIs, Shadows, ValueOf, FieldAt, KeyOf, SelectOf, Unites, ComparesOrder, ComparesBoth, IntroducesSide, ChecksHead, countersW, Untypes, StartsRun};
-ghost use Rattle.steps.specs.Contracts.{Asks, AsksAll};
+ghost use Rattle.steps.specs.Outside.{reportCode, keyTyW, valueTyW, RejectedIf, farW, longW, Rewinds, FieldIs, Shadows, ValueOf, FieldAt, KeyOf, SelectOf, ComparesOrder, IntroducesSides, ChecksHead, countersW, Untypes, StartsRun};
+ghost use Rattle.steps.specs.Contracts.{UnifiesAt, ComparesTypes, Asks, AsksAll};
 use cells::Asked;
 use cells::Bound;
 use cells::Found;
@@ -37,21 +38,21 @@ pub enum Done {
 
 // ---- State
 
-pub fn reject_ty(w: &mut [u32], n: u32, code: Code, left: u32) -> Typed
-    ensures { λ r. ⌜ (r ≡ Typed.Got Ty.Error left) × (now (w .exit) ≡ rejectW (now (w .entry)) n code) ⌝ }
+pub fn reject_ty(f: &[u8], w: &mut [u32], n: u32, code: Code, left: u32, out: &mut [u8]) -> Typed
+    ensures { λ r. ⌜ (r ≡ Typed.Got Ty.Error left) × Rejected (now (f .entry)) (now (w .entry)) (now (out .entry)) n code (now (w .exit)) (now (out .exit)) ⌝ }
 {
-    reject(w, n, code);
+    reject(f, w, n, code, out);
     Typed::Got(Ty::Error, left)
 }
 
-pub fn report(w: &mut [u32], n: u32, err: TyError)
-    ensures { λ _. ⌜ now (w .exit) ≡ rejectW (now (w .entry)) n (reportCode err) ⌝ }
+pub fn report(f: &[u8], w: &mut [u32], n: u32, err: TyError, out: &mut [u8])
+    ensures { λ _. ⌜ Rejected (now (f .entry)) (now (w .entry)) (now (out .entry)) n (reportCode err) (now (w .exit)) (now (out .exit)) ⌝ }
 {
     match err {
-        TyError::Mismatch(_, _) => reject(w, n, Code::RejectTypeMismatch),
-        TyError::UnionMismatch(_, _, _) => reject(w, n, Code::RejectTypeMismatch),
-        TyError::UnknownField(_) => reject(w, n, Code::RejectUnknownField),
-        TyError::Infinite => reject(w, n, Code::RejectInfiniteType),
+        TyError::Mismatch(_, _) => reject(f, w, n, Code::RejectTypeMismatch, out),
+        TyError::UnionMismatch(_, _, _) => reject(f, w, n, Code::RejectTypeMismatch, out),
+        TyError::UnknownField(_) => reject(f, w, n, Code::RejectUnknownField, out),
+        TyError::Infinite => reject(f, w, n, Code::RejectInfiniteType, out),
     }
 }
 
@@ -63,14 +64,22 @@ pub fn rollback(w: &mut [u32], undo: u32, env: u32)
 }
 
 // Unifies, and reports a failure at a node.
-pub fn unify_at(w: &mut [u32], n: u32, got: Ty, expected: Ty, left: u32) -> Done
-    ensures { λ r. ⌜ Unites (now (w .entry)) n got expected left (now (w .exit)) r ⌝ }
+pub fn unify_at(
+    f: &[u8],
+    w: &mut [u32],
+    n: u32,
+    got: Ty,
+    expected: Ty,
+    left: u32,
+    out: &mut [u8],
+) -> Done
+    ensures { λ r. ⌜ UnifiesAt (now (f .entry)) (now (w .entry)) (now (out .entry)) n got expected left (now (w .exit)) (now (out .exit)) r ⌝ }
 {
-    let r = cells::unify(w, got, expected, left);
+    let r = unify::unify(w, got, expected, left);
     match r {
         Unified::Good(l) => Done::On(l),
         Unified::Bad(err, l) => {
-            report(w, n, err);
+            report(f, w, n, err, out);
             Done::On(l)
         }
         Unified::Spent => Done::Out,
@@ -78,28 +87,37 @@ pub fn unify_at(w: &mut [u32], n: u32, got: Ty, expected: Ty, left: u32) -> Done
 }
 
 // The two sides of a comparison agree: the type must have an order.
-pub fn compare_order(w: &mut [u32], lhs: u32, t: Ty, left: u32) -> Done
-    ensures { λ r. ⌜ ComparesOrder (now (w .entry)) lhs t left (now (w .exit)) r ⌝ }
+pub fn compare_order(f: &[u8], w: &mut [u32], lhs: u32, t: Ty, left: u32, out: &mut [u8]) -> Done
+    ensures { λ r. ⌜ ComparesOrder (now (f .entry)) (now (w .entry)) (now (out .entry)) lhs t left (now (w .exit)) (now (out .exit)) r ⌝ }
 {
-    let o = cells::orderable(w, t, left);
+    let o = unify::orderable(w, t, left);
     match o {
         Asked::Yes(l) => Done::On(l),
         Asked::No(l) => {
-            reject(w, lhs, Code::RejectTypeMismatch);
+            reject(f, w, lhs, Code::RejectTypeMismatch, out);
             Done::On(l)
         }
         Asked::Spent => Done::Out,
     }
 }
 
-pub fn compare_types(w: &mut [u32], lhs: u32, rhs: u32, a: Ty, b: Ty, left: u32) -> Done
-    ensures { λ r. ⌜ ComparesBoth (now (w .entry)) lhs rhs a b left (now (w .exit)) r ⌝ }
+pub fn compare_types(
+    f: &[u8],
+    w: &mut [u32],
+    lhs: u32,
+    rhs: u32,
+    a: Ty,
+    b: Ty,
+    left: u32,
+    out: &mut [u8],
+) -> Done
+    ensures { λ r. ⌜ ComparesTypes (now (f .entry)) (now (w .entry)) (now (out .entry)) lhs rhs a b left (now (w .exit)) (now (out .exit)) r ⌝ }
 {
-    let u = cells::unify(w, b, a, left);
+    let u = unify::unify(w, b, a, left);
     match u {
-        Unified::Good(l) => compare_order(w, lhs, a, l),
+        Unified::Good(l) => compare_order(f, w, lhs, a, l, out),
         Unified::Bad(err, l) => {
-            report(w, rhs, err);
+            report(f, w, rhs, err, out);
             Done::On(l)
         }
         Unified::Spent => Done::Out,
@@ -172,57 +190,81 @@ pub fn key_shadows_value(w: &[u32], p: u32) -> bool
 
 // ---- Access and select, on the resolved base
 
-pub fn value_of(w: &mut [u32], n: u32, base: Ty, left: u32) -> Typed
-    ensures { λ r. ⌜ ValueOf (now (w .entry)) n base left (now (w .exit)) r ⌝ }
+pub fn value_of(f: &[u8], w: &mut [u32], n: u32, base: Ty, left: u32, out: &mut [u8]) -> Typed
+    ensures { λ r. ⌜ ValueOf (now (f .entry)) (now (w .entry)) (now (out .entry)) n base left (now (w .exit)) (now (out .exit)) r ⌝ }
 {
     match base {
         Ty::Error => Typed::Got(Ty::Error, left),
         Ty::Fact(p) => {
             if key_shadows_value(w, p) {
-                return reject_ty(w, n, Code::RejectValueShadowed, left);
+                return reject_ty(f, w, n, Code::RejectValueShadowed, left, out);
             }
             let value = value_ty(w, p);
             match value {
                 Bound::To(t) => Typed::Got(t, left),
-                Bound::Free => reject_ty(w, n, Code::RejectNoValue, left),
+                Bound::Free => reject_ty(f, w, n, Code::RejectNoValue, left, out),
             }
         }
-        Ty::Var(_) => reject_ty(w, n, Code::RejectUnresolvedAccess, left),
-        _ => reject_ty(w, n, Code::RejectTypeMismatch, left),
+        Ty::Var(_) => reject_ty(f, w, n, Code::RejectUnresolvedAccess, left, out),
+        _ => reject_ty(f, w, n, Code::RejectTypeMismatch, left, out),
     }
 }
 
-pub fn field_at(w: &mut [u32], n: u32, name: u32, t: Ty, left: u32) -> Typed
-    ensures { λ r. ⌜ FieldAt (now (w .entry)) n name t left (now (w .exit)) r ⌝ }
+pub fn field_at(
+    f: &[u8],
+    w: &mut [u32],
+    n: u32,
+    name: u32,
+    t: Ty,
+    left: u32,
+    out: &mut [u8],
+) -> Typed
+    ensures { λ r. ⌜ FieldAt (now (f .entry)) (now (w .entry)) (now (out .entry)) n name t left (now (w .exit)) (now (out .exit)) r ⌝ }
 {
     let found = field_of(w, t, name);
     match found {
         Bound::To(u) => Typed::Got(u, left),
-        Bound::Free => reject_ty(w, n, Code::RejectUnknownField, left),
+        Bound::Free => reject_ty(f, w, n, Code::RejectUnknownField, left, out),
     }
 }
 
 // On a fact it is the key's field, and a fact of an absent predicate is an error without a diagnostic.
-pub fn key_of(w: &mut [u32], n: u32, name: u32, base: Ty, left: u32) -> Typed
-    ensures { λ r. ⌜ KeyOf (now (w .entry)) n name base left (now (w .exit)) r ⌝ }
+pub fn key_of(
+    f: &[u8],
+    w: &mut [u32],
+    n: u32,
+    name: u32,
+    base: Ty,
+    left: u32,
+    out: &mut [u8],
+) -> Typed
+    ensures { λ r. ⌜ KeyOf (now (f .entry)) (now (w .entry)) (now (out .entry)) n name base left (now (w .exit)) (now (out .exit)) r ⌝ }
 {
     match base {
         Ty::Error => Typed::Got(Ty::Error, left),
         Ty::Fact(p) => {
             let key = key_ty(w, p);
             match key {
-                Bound::To(t) => field_at(w, n, name, t, left),
+                Bound::To(t) => field_at(f, w, n, name, t, left, out),
                 Bound::Free => Typed::Got(Ty::Error, left),
             }
         }
-        Ty::Record(_) => field_at(w, n, name, base, left),
-        Ty::Var(_) => reject_ty(w, n, Code::RejectUnresolvedAccess, left),
-        _ => reject_ty(w, n, Code::RejectTypeMismatch, left),
+        Ty::Record(_) => field_at(f, w, n, name, base, left, out),
+        Ty::Var(_) => reject_ty(f, w, n, Code::RejectUnresolvedAccess, left, out),
+        _ => reject_ty(f, w, n, Code::RejectTypeMismatch, left, out),
     }
 }
 
-pub fn select_of(w: &mut [u32], n: u32, name: u32, base: Ty, left: u32) -> Typed
-    ensures { λ r. ⌜ SelectOf (now (w .entry)) n name base left (now (w .exit)) r ⌝ }
+pub fn select_of(
+    f: &[u8],
+    w: &mut [u32],
+    n: u32,
+    name: u32,
+    base: Ty,
+    left: u32,
+    out: &mut [u8],
+) -> Typed
+    ensures { λ r. ⌜ SelectOf (now (f .entry)) (now (w .entry)) (now (out .entry)) n name base left (now (w .exit)) (now (out .exit)) r ⌝ }
 {
     match base {
         Ty::Error => Typed::Got(Ty::Error, left),
@@ -233,31 +275,31 @@ pub fn select_of(w: &mut [u32], n: u32, name: u32, base: Ty, left: u32) -> Typed
                     let t = p.ty;
                     Typed::Got(t, left)
                 }
-                Found::Nothing => reject_ty(w, n, Code::RejectUnknownAlternative, left),
+                Found::Nothing => reject_ty(f, w, n, Code::RejectUnknownAlternative, left, out),
             }
         }
-        Ty::Var(_) => reject_ty(w, n, Code::RejectUnresolvedAccess, left),
-        _ => reject_ty(w, n, Code::RejectNotAUnion, left),
+        Ty::Var(_) => reject_ty(f, w, n, Code::RejectUnresolvedAccess, left, out),
+        _ => reject_ty(f, w, n, Code::RejectNotAUnion, left, out),
     }
 }
 
 // ---- Both bounds of a fuzzy pattern
 
-pub fn fuzzy_distance(w: &mut [u32], n: u32, distance: u32)
-    ensures { λ _. ⌜ now (w .exit) ≡ fuzzyDistanceW (now (w .entry)) n distance ⌝ }
+pub fn fuzzy_distance(f: &[u8], w: &mut [u32], n: u32, distance: u32, out: &mut [u8])
+    ensures { λ _. ⌜ RejectedIf (now (f .entry)) (now (w .entry)) (now (out .entry)) n Code.RejectFuzzyDistance (now (w .exit)) (now (out .exit)) (farW (now (w .entry)) distance) ⌝ }
 {
     if distance == 0 {
-        reject(w, n, Code::RejectFuzzyDistance);
+        reject(f, w, n, Code::RejectFuzzyDistance, out);
     } else if word(w, work::MAX_DISTANCE) < distance {
-        reject(w, n, Code::RejectFuzzyDistance);
+        reject(f, w, n, Code::RejectFuzzyDistance, out);
     }
 }
 
-pub fn fuzzy_term(w: &mut [u32], n: u32, term: u32)
-    ensures { λ _. ⌜ now (w .exit) ≡ fuzzyTermW (now (w .entry)) n term ⌝ }
+pub fn fuzzy_term(f: &[u8], w: &mut [u32], n: u32, term: u32, out: &mut [u8])
+    ensures { λ _. ⌜ RejectedIf (now (f .entry)) (now (w .entry)) (now (out .entry)) n Code.RejectFuzzyTerm (now (w .exit)) (now (out .exit)) (longW (now (w .entry)) term) ⌝ }
 {
     if word(w, work::MAX_TERM) < word(w, work::NAMES + wide(term)) % 512 {
-        reject(w, n, Code::RejectFuzzyTerm);
+        reject(f, w, n, Code::RejectFuzzyTerm, out);
     }
 }
 
@@ -265,7 +307,7 @@ pub fn fuzzy_term(w: &mut [u32], n: u32, term: u32)
 
 // A side that is a variable is introduced before either side is inferred.
 pub fn introduce_side(f: &[u8], w: &mut [u32], n: u32)
-    ensures { λ _. ⌜ IntroducesSide (now (f .entry)) (now (w .entry)) n (now (w .exit)) ⌝ }
+    ensures { λ _. ⌜ IntroducesSides (now (f .entry)) (now (w .entry)) n (now (w .exit)) ⌝ }
 {
     let e = tree::node_at(f, w, n);
     match e {
@@ -277,12 +319,12 @@ pub fn introduce_side(f: &[u8], w: &mut [u32], n: u32)
 }
 
 // A wildcard has no type of its own that the head could have.
-pub fn check_head(f: &[u8], w: &mut [u32], n: u32)
-    ensures { λ _. ⌜ ChecksHead (now (f .entry)) (now (w .entry)) n (now (w .exit)) ⌝ }
+pub fn check_head(f: &[u8], w: &mut [u32], n: u32, out: &mut [u8])
+    ensures { λ _. ⌜ ChecksHead (now (f .entry)) (now (w .entry)) (now (out .entry)) n (now (w .exit)) (now (out .exit)) ⌝ }
 {
     let e = tree::node_at(f, w, n);
     match e {
-        Node::Wildcard => reject(w, n, Code::RejectWildcardInHead),
+        Node::Wildcard => reject(f, w, n, Code::RejectWildcardInHead, out),
         _ => {}
     }
 }
@@ -345,4 +387,5 @@ pub fn begin(w: &mut [u32])
 {
     begin_counters(w);
     begin_types(w);
+    state::begin_lines(w);
 }

@@ -1,7 +1,7 @@
 -- The machine's tables beside the grammar: each rule is one test that antt computes over all entries.
 use Prim.Native.Nat.{ℕ, zero, suc, _^_, _≤_, _<_}
 use native.Mathlib.Omega.{arith}
-use mathlib.Core.Bool.{Bool, true, false}
+use mathlib.Core.Bool.{Bool, true, false, true≢false}
 use mathlib.Core.Path.{_≡_, refl, ap, sym, _∙_}
 use mathlib.Core.List.{List, [], _∷_}
 use mathlib.Core.Option.{Option, none, some}
@@ -11,7 +11,6 @@ use borrow.Author.Tests.{eqb-true, leb-true}
 use Rattle.text.specs.Utf8.{Range, _to_, both, inside, following}
 use Rattle.text.specs.Machine.{firstAbove, classOf, wanted, after, Steps}
 use Rattle.text.proofs.Every.{both-left, both-right, below, every}
-use Rattle.text.proofs.Surrogates.{mismatch}
 
 -- ---- Classes
 unfoldable pub classes : List ℕ
@@ -70,8 +69,8 @@ same-range r q l h = ap (λ x. x to r .high) l ∙ ap (λ x. q .low to x) h
 
 ranges-eq : (rs qs : List Range) → sameRanges rs qs ≡ true → rs ≡ qs
 ranges-eq [] [] h = refl
-ranges-eq [] (q ∷ qs) h = mismatch (sym h)
-ranges-eq (r ∷ rs) [] h = mismatch (sym h)
+ranges-eq [] (q ∷ qs) h = absurd (true≢false (sym h))
+ranges-eq (r ∷ rs) [] h = absurd (true≢false (sym h))
 ranges-eq (r ∷ rs) (q ∷ qs) h =
     let more = both-right (eqb (r .low) (q .low)) _ h in
     let first = same-range r q (eqb-true _ _ (both-left _ _ h)) (eqb-true _ _ (both-left _ _ more)) in
@@ -80,8 +79,8 @@ ranges-eq (r ∷ rs) (q ∷ qs) h =
 
 wanted-eq : (o p : Option (List Range)) → sameWanted o p ≡ true → o ≡ p
 wanted-eq none none h = refl
-wanted-eq none (some qs) h = mismatch (sym h)
-wanted-eq (some rs) none h = mismatch (sym h)
+wanted-eq none (some qs) h = absurd (true≢false (sym h))
+wanted-eq (some rs) none h = absurd (true≢false (sym h))
 wanted-eq (some rs) (some qs) h = ap some (ranges-eq rs qs h)
 
 unfoldable pub next : List (List ℕ)

@@ -1,7 +1,7 @@
 -- Card 2: a text with a value from d800 to dfff is none any more, and every other one is what it was.
 use Prim.Native.Nat.{ℕ, suc, _≤_, _<_}
 use native.Mathlib.Omega.{arith}
-use mathlib.Core.Bool.{Bool, true, false}
+use mathlib.Core.Bool.{Bool, true, false, true≢false}
 use mathlib.Core.Logic.{_↔_}
 use mathlib.Core.Path.{_≡_, refl, ap, sym, _∙_}
 use mathlib.Core.List.{List, [], _∷_, _++_}
@@ -9,13 +9,18 @@ use mathlib.Core.Option.{Option, none, some}
 use native.Mathlib.Decide.{decLe}
 use lib.Dec.{eqb, leb, ltb}
 use borrow.Author.Tests.{eqb-true, eqb-false, lt-leb, ltb-true}
-use Rattle.text.specs.Utf8.{Range, _to_, only, tail, In, utf8-1, utf8-2, utf8-3, utf8-4, utf8-char, both, inside, following, oneMore, count, characters}
+use Rattle.text.specs.Utf8.{Range, _to_, only, tail, In, Text, utf8-1, utf8-2, utf8-3, utf8-4, utf8-char, both, inside, following, oneMore, count, characters}
+use Rattle.text.specs.Rule.{onesOf, ones, head, value}
 use Rattle.text.specs.Surrogates.{utf8-char-open, charactersOpen, HasSurrogate, here, later}
 use Rattle.text.proofs.Every.{both-left, both-right, both-false}
-use Rattle.text.proofs.Grammar.{clash, range, inside-in, in-inside}
+use Rattle.text.proofs.Grammar.{clash, range, inside-in, in-inside, counts}
 
-pub mismatch : {X : Type 0} → true ≡ false → X
-mismatch e = let z : _≡_ {A = ℕ} 0 1 = cc in absurd (omega arith)
+-- ---- Which bytes they are
+
+-- Of the characters of three bytes that begin with ed, those whose value is from d800 to dfff have a0 to bf next.
+pub surrogate-values : (x y : ℕ) → In tail x → In tail y → In (0xa0 to 0xbf) x ↔ In (0xd800 to 0xdfff) (value (head 0xed) (x ∷ y ∷ []))
+unfolding value head ones onesOf
+surrogate-values x y i j = (λ h. range 0xd800 0xdfff _ (omega (arith, h, i, j)) (omega (arith, h, i, j)), λ v. range 0xa0 0xbf x (omega (arith, v, i, j)) (i .high))
 
 -- ---- What is kept
 -- two grammars that differ in one alternative, at a byte that does not choose it
@@ -42,7 +47,7 @@ same-following b n =
 above-9f : (x : ℕ) → inside (0x80 to 0x9f) x ≡ false → In (0x80 to 0xbf) x → In (0xa0 to 0xbf) x
 above-9f x e i =
     elim (decLe x 0x9f) [
-      | yes h ↦ mismatch (sym (in-inside (0x80 to 0x9f) x (range 0x80 0x9f x (i .low) h)) ∙ e)
+      | yes h ↦ absurd (true≢false (sym (in-inside (0x80 to 0x9f) x (range 0x80 0x9f x (i .low) h)) ∙ e))
       | no h ↦ range 0xa0 0xbf x (omega arith) (i .high)
     ]
 
@@ -85,7 +90,7 @@ module _ (b : ℕ) (s : List ℕ) (ih : Same s) where
       go true p true q = rw (p, q, count) (ih .owing (λ h. n (later (later h))) (tail ∷ []))
       go true p false q =
           let i = inside-in (0x80 to 0x9f) b p in
-          mismatch (sym (in-inside (0x80 to 0xbf) b (range 0x80 0xbf b (i .low) (omega (arith, i)))) ∙ q)
+          absurd (true≢false (sym (in-inside (0x80 to 0xbf) b (range 0x80 0xbf b (i .low) (omega (arith, i)))) ∙ q))
       go false p true q = rw (p, q, count) (third s n (above-9f b p (inside-in (0x80 to 0xbf) b q)))
       go false p false q = rw (p, q, count)
 
@@ -149,6 +154,10 @@ none-counted (later {b = b} {s = s} h) [] l = go (λ rs k. none-counted h rs k) 
 pub turned-down : (s : List ℕ) → HasSurrogate s → characters s ≡ none
 unfolding characters
 turned-down s h = none-counted h [] refl
+
+-- Such a text is not in RFC 3629's grammar.
+pub surrogate-no-text : (s : List ℕ) → HasSurrogate s → (n : ℕ) → Text s n → ⊥
+surrogate-no-text s h n t = clash (sym (turned-down s h) ∙ counts s n .0 t)
 
 -- What the card changes, in one sentence: the texts are those of before that have no such value, with the same number of characters.
 pub exactly : (s : List ℕ) (n : ℕ) → (characters s ≡ some n) ↔ ((charactersOpen s ≡ some n) × (HasSurrogate s → ⊥))

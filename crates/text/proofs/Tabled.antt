@@ -2,7 +2,7 @@
 use Prim.Native.Nat.{ℕ, suc, _+_, _^_, _≤_, _<_}
 use native.Mathlib.Omega.{arith}
 use native.Mathlib.Numerals.{add-one}
-use mathlib.Core.Bool.{Bool, true, false}
+use mathlib.Core.Bool.{Bool, true, false, true≢false}
 use mathlib.Core.Logic.{_⊎_, inl, inr}
 use mathlib.Core.Path.{_≡_, refl, ap, sym, _∙_}
 use mathlib.Core.List.{List, [], _∷_}
@@ -14,7 +14,6 @@ use borrow.Author.Tests.{eqb-true, eqb-false, ne-eqb}
 use Rattle.text.specs.Utf8.{Range, inside, following, oneMore, count, utf8-char, characters}
 use Rattle.text.specs.Machine.{wanted, after, Steps}
 use Rattle.text.proofs.Every.{same, same-eq, below, every}
-use Rattle.text.proofs.Surrogates.{mismatch}
 use Rattle.text.proofs.Walk.{plus, plus-zero, plus-more}
 
 -- the count of what is left, where this is wanted first
@@ -39,7 +38,7 @@ first b t = go (following utf8-char b) refl
 later : (o : Option (List Range)) (b : ℕ) (t : List ℕ) → starts o ≡ false → rest o (b ∷ t) ≡ rest (after o b) t
 unfolding count after
 later none b t h = refl
-later (some []) b t h = mismatch h
+later (some []) b t h = absurd (true≢false h)
 later (some (r ∷ rs)) b t h = go (inside r b) refl
   where
     go : (i : Bool) → inside r b ≡ i → rest (some (r ∷ rs)) (b ∷ t) ≡ rest (after (some (r ∷ rs)) b) t
@@ -49,7 +48,7 @@ later (some (r ∷ rs)) b t h = go (inside r b) refl
 cut : (o : Option (List Range)) → starts o ≡ false → rest o [] ≡ none
 unfolding count
 cut none h = refl
-cut (some []) h = mismatch h
+cut (some []) h = absurd (true≢false h)
 cut (some (r ∷ rs)) h = refl
 
 only-0 : ℕ → Bool

@@ -5,22 +5,23 @@ use mathlib.Core.List.{List, [], _∷_, _++_, append-assoc}
 use mathlib.Core.Option.{Option, none}
 use mathlib.Core.Path.{_≡_, refl, _∙_, ap}
 use mathlib.Core.WellFounded.{Acc·intro}
-use Prim.Native.Nat.{ℕ, _+_, _-_}
+use Prim.Native.Nat.{ℕ, _+_, _-_, _≤_}
 use native.Mathlib.Omega.{arith}
-use lib.ListN.{length, replicate, replicate-append-replicate}
+use lib.ListN.{length, replicate, length-append, length-replicate, replicate-append-replicate}
 use Rattle.unification.specs.Ty.{Ty}
 use Rattle.unification.specs.Bindings.{Subst, bound, History, start, ended, rolled, State, withLeft, withHistory, fresh, annotate, snapshot, rollback}
 use Rattle.unification.specs.Unify.{Unified, Ok, Err, Spent, unify}
-use Rattle.unification.specs.Calls.{Side, Admitted, Respects, Assignment, Taken, Machine, begin, take-snapshot, Call, unknown, unification, failure, snapping, rollingBack, spending, annotation, Calls, none-yet, then-call, live, EntryClaim, BindingsClaim, AtEveryMoment, Claim, GivesBack, AllGiveBack, Demand3}
+use Rattle.unification.specs.Calls.{Side, Admitted, Respects, Assignment, Taken, Machine, begin, take-snapshot, Call, unknown, unification, failure, snapping, rollingBack, spending, annotation, Calls, none-yet, then-call, live, EntryClaim, BindingsClaim, BackTo, bindingsAt, Noted, AtEveryMoment, Claim, GivesBack, AllGiveBack, Demand3}
 use Rattle.unification.proofs.Tests.{clash}
 use Rattle.unification.specs.Acyclic.{Behind, Acyclic}
 use Rattle.unification.proofs.Acyclic.{no-loop}
 use Rattle.unification.proofs.Respects.{respects-among}
-use Rattle.unification.proofs.Sides.{Wf, bound-pad, pad-among, wf-pad}
+use Rattle.unification.specs.Log.{Wf}
+use Rattle.unification.proofs.Sides.{bound-pad, pad-among, wf-pad}
 use Rattle.unification.proofs.Undo.{unbind, unannotate, Since, since-refl, since-trans, since-length, since-fresh, since-left, since-annotate, rollback-subst, rollback-tys, rollback-undo, rollback-left}
 use Rattle.unification.proofs.Kept.{After, Kept, unify-kept}
-use Rattle.unification.proofs.Post.{Any, Known, Post}
-use Rattle.unification.proofs.Sound.{unify-post}
+use Rattle.unification.proofs.Post.{Any, Moments, Here, Known, Post}
+use Rattle.unification.proofs.Sound.{noted-end, unify-post}
 
 -- ---- What holds of a state
 pub record Sound (st : State) : Type 0 where
@@ -33,34 +34,75 @@ claim-pad s n h c m σ any =
     let e = c m σ tt in
     (λ R. e .0 (respects-among σ s (s ++ replicate n none) (λ x t q. bound-pad s n x ∙ q) R), λ q. respects-among σ (s ++ replicate n none) s (pad-among s n) (e .1 q))
 
+-- Free unknowns after free unknowns.
+pad-pad : (then s : Subst) (k n : ℕ) → s ≡ then ++ replicate k none → s ++ replicate n none ≡ then ++ replicate (k + n) none
+pad-pad then s k n e =
+    ap {B = Subst} (λ r. r ++ replicate n none) e ∙ append-assoc then (replicate k none) (replicate n none)
+    ∙ ap {B = Subst} (λ r. then ++ r) (replicate-append-replicate k n none)
+
+pad-length : (s : Subst) (n : ℕ) → length (s ++ replicate n none) ≡ length s + n
+pad-length s n = omega (arith, length-append s (replicate n none), length-replicate {A = Option Ty} n none)
+
+noted-long : (s : Subst) (h : History) → Noted s h → length (bindingsAt h) ≤ length s
+unfolding Noted
+noted-long s h e = omega (arith, ap length e, pad-length (bindingsAt h) (length s - length (bindingsAt h)))
+
+noted-pad : (s : Subst) (n : ℕ) (h : History) → Noted s h → Noted (s ++ replicate n none) h
+unfolding Noted
+noted-pad s n h e =
+    let b = bindingsAt h in
+    let more : length s - length b + n ≡ length (s ++ replicate n none) - length b = omega (arith, pad-length s n, noted-long s h e) in
+    pad-pad b s (length s - length b) n e ∙ ap {B = Subst} (λ k. b ++ replicate k none) more
+
 sound-after : (st : State) (A : Type 0) (C : (ℕ → Ty) → Type 0) (res : Unified) → Sound st → Post (st .subst) (st .history) A C res → After Sound res
-sound-after st A C (Ok b) h p = record { wf = p .step .wf; known = (p .step .moments (h .known), p .bindings (h .known)) }
-sound-after st A C (Err e b) h p = record { wf = p .step .wf; known = (p .step .moments (h .known), p .bindings (h .known)) }
-sound-after st A C (Spent b) h p = record { wf = p .step .wf; known = (p .step .moments (h .known), p .bindings (h .known)) }
+sound-after st A C (Ok b) h p = record { wf = p .step .wf; known = record { moments = p .step .moments (h .known); here = p .here (h .known) } }
+sound-after st A C (Err e b) h p = record { wf = p .step .wf; known = record { moments = p .step .moments (h .known); here = p .here (h .known) } }
+sound-after st A C (Spent b) h p = record { wf = p .step .wf; known = record { moments = p .step .moments (h .known); here = p .here (h .known) } }
 
 pub unify-sound : (st : State) (a b : Ty) → Sound st → Side (length (st .subst)) a → Side (length (st .subst)) b → After Sound (unify st a b)
 unify-sound st a b h i j =
     sound-after st _ _ (unify st a b) h (unify-post (Admitted (st .subst) a × Admitted (st .subst) b) st a b (h .wf) i j (λ p. p))
 
 begin-sound : (v : ℕ) (tys : List (Option Ty)) → Sound (begin v tys .state)
-unfolding begin BindingsClaim Respects live Acyclic Behind bound
+unfolding begin BindingsClaim Respects live Acyclic Behind bound Noted
 begin-sound v tys = record {
   wf = record { acyclic = λ x. Acc·intro x (λ y b. clash (cc (b .1))); sides = λ x t e. clash (cc) };
-  known = (tt, λ m σ any. (λ R. tt, λ q x t e. clash (cc)));
+  known = record { moments = tt; here = record { noted = refl; claim = λ m σ any. (λ R. tt, λ q x t e. clash (cc)) } };
 }
 
 fresh-sound : (st : State) → Sound st → Sound (fresh st)
 unfolding fresh
-fresh-sound st h = record { wf = wf-pad (st .subst) 1 (h .wf); known = (h .known .0, claim-pad (st .subst) 1 (st .history) (h .known .1)) }
+fresh-sound st h =
+    let here = h .known .here in
+    record {
+      wf = wf-pad (st .subst) 1 (h .wf);
+      known = record {
+        moments = h .known .moments;
+        here = record { noted = noted-pad (st .subst) 1 (st .history) (here .noted); claim = claim-pad (st .subst) 1 (st .history) (here .claim) };
+      };
+    }
 
 -- ---- A rollback
 module _ (n : ℕ) (then st : State) (p : Since n then st) where
+  -- The bindings of then, with those that were made since free.
+  back-to : Sound then → BackTo (bindingsAt (then .history)) (st .subst) (rollback st (snapshot then) .subst)
+  unfolding BackTo Noted
+  back-to h =
+      let s = then .subst in
+      let b = bindingsAt (then .history) in
+      let e = h .known .here .noted in
+      let more : length s - length b + n ≡ length (st .subst) - length b = omega (arith, since-length p, noted-long s (then .history) e) in
+      rollback-subst p ∙ pad-pad b s (length s - length b) n e ∙ ap {B = Subst} (λ k. b ++ replicate k none) more
+
   rolled-sound : Sound then → Sound st → Sound (rollback st (snapshot then))
-  unfolding rollback snapshot withHistory BindingsClaim live
+  unfolding rollback snapshot withHistory BindingsClaim live Noted
   rolled-sound h now =
       let w = rw (← rollback-subst p) at (wf-pad (then .subst) n (h .wf)) in
-      let c = rw (← rollback-subst p) at (claim-pad (then .subst) n (then .history) (h .known .1)) in
-      record { wf = w; known = ((c, no-loop _ (w .acyclic), now .known .0), c) }
+      let c = rw (← rollback-subst p) at (claim-pad (then .subst) n (then .history) (h .known .here .claim)) in
+      record {
+        wf = w;
+        known = record { moments = (back-to h, now .known .here .noted, c, w .acyclic, now .known .moments); here = record { noted = noted-end _; claim = c } };
+      }
 
   pub rolled-since : Since n then (rollback st (snapshot then))
   unfolding unbind unannotate
@@ -139,27 +181,21 @@ module _ (P : (ℕ → Ty) → Type 0) where
   unfolding BindingsClaim
   bindings-claim s h c m σ p = c m σ tt
 
-  every-moment : (h : History) → AtEveryMoment Any h → AtEveryMoment P h
+  every-moment : (h : History) → Moments h → AtEveryMoment P h
   every-moment start c = tt
-  every-moment (ended s a b ok s′ h) c = (entry-claim s a b ok s′ (c .0), bindings-claim s′ _ (c .1), c .2, every-moment h (c .3))
-  every-moment (rolled past s h) c = (bindings-claim s _ (c .0), c .1, every-moment h (c .2))
+  every-moment (ended s a b ok s′ h) c = (entry-claim s a b ok s′ (c .0), bindings-claim s′ _ (c .1), no-loop s′ (c .2), every-moment h (c .3))
+  every-moment (rolled past s s′ h) c = (c .0, c .1, bindings-claim s′ _ (c .2), no-loop s′ (c .3), every-moment h (c .4))
 
   sound-claim : (st : State) → Sound st → Claim P st
   sound-claim st h = record {
-    moments = every-moment (st .history) (h .known .0);
-    bindings = bindings-claim (st .subst) (st .history) (h .known .1);
+    moments = every-moment (st .history) (h .known .moments);
+    noted = h .known .here .noted;
+    bindings = bindings-claim (st .subst) (st .history) (h .known .here .claim);
     no-loop = no-loop (st .subst) (h .wf .acyclic);
   }
 
-pub claim-general : (v : ℕ) (tys : List (Option Ty)) (m : Machine) → Calls v tys m → Claim Any (m .state)
-claim-general v tys m cs = sound-claim Any (m .state) (calls-inv v tys m cs .sound)
-
-pub limit-general : (v : ℕ) (tys : List (Option Ty)) (m : Machine) → Calls v tys m → (a b : Ty) (st : State)
-    → Side (length (m .state .subst)) a → Side (length (m .state .subst)) b → unify (m .state) a b ≡ Spent st → Claim Any st
-limit-general v tys m cs a b st i j e = sound-claim Any st (rw e at (unify-sound (m .state) a b (calls-inv v tys m cs .sound) i j))
-
 gives-back : (st : State) (ts : List Taken) → Stack st ts → AllGiveBack st ts
-unfolding GivesBack take-snapshot
+unfolding GivesBack BackTo take-snapshot
 gives-back st [] h = tt
 gives-back st (to ∷ ts) h =
     let then = h .0 in

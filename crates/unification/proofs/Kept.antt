@@ -11,7 +11,7 @@ use native.Mathlib.Omega.{arith}
 use lib.Dec.{eqb}
 use lib.ListN.{length}
 use Rattle.unification.specs.Ty.{Leaf-discrete, Kind, Record, Union, Ty, leaf, node, Var, Error, Row, ε, cell, rowLen}
-use Rattle.unification.specs.Bindings.{Subst, repr, Answer, yes-left, no-left, spent, occurs, ended, State, withLeft, withHistory, setVar}
+use Rattle.unification.specs.Bindings.{Subst, repr, Answer, yes-left, no-left, spent, occurs, History, ended, State, withLeft, withHistory, setVar}
 use Rattle.unification.specs.Unify.{UnionDiff, TyError, Unified, Ok, Err, Spent, andThen, mapErr, bindVar, findKey, unifyField, unifyFields, unifyRecord, discriminants, unifyAlternative, unifyAlternatives, unifyUnion, unifyNodes, unifyHeads, note, unifyIn, unify}
 use Rattle.unification.proofs.Occurs.{Fewer, occurs-fewer}
 use Rattle.unification.proofs.Undo.{Since, since-refl, since-trans, since-length, since-history, since-setVar, since-left}
@@ -167,6 +167,26 @@ unifyIn-kept (suc d) st a b = go (st .left) refl (λ st′ a′ b′. unifyIn-ke
         rw (unifyIn-visit d st v a b e) (kept-note st (st .subst) a b (heads-in d st v a b)
         (after-trans st (withLeft st v) (heads-in d st v a b) (kept-left st v (omega arith))
         (kept-heads (λ st′ a′ b′. unifyIn d st′ a′ b′) ih d (withLeft st v) (repr (st .subst) a) (repr (st .subst) b))))
+
+-- ---- An entry that ended is the last of the history
+abbrev pub Notes : Subst → Ty → Ty → Unified → Type 0
+Notes s a b (Ok st) = (h : History) × (st .history ≡ ended s a b true (st .subst) h)
+Notes s a b (Err e st) = (h : History) × (st .history ≡ ended s a b false (st .subst) h)
+Notes s a b (Spent st) = Unit {0}
+
+notes : (s : Subst) (a b : Ty) (res : Unified) → Notes s a b (note s a b res)
+unfolding note
+notes s a b (Ok st) = (st .history, refl)
+notes s a b (Err e st) = (st .history, refl)
+notes s a b (Spent st) = tt
+
+pub unify-notes : (st : State) (a b : Ty) → Notes (st .subst) a b (unify st a b)
+unfolding unify unifyIn
+unify-notes st a b = go (st .left) refl
+  where
+    go : (v : ℕ) → st .left ≡ v → Notes (st .subst) a b (unifyIn v st a b)
+    go zero e = tt
+    go (suc v) e = rw (unifyIn-visit v st v a b e) (notes (st .subst) a b (heads-in v st v a b))
 
 -- ---- The parts of it, for a unification
 pub unify-kept : (st : State) (a b : Ty) → After (Kept st) (unify st a b)

@@ -16,14 +16,11 @@ use Rattle.unification.specs.Calls.{Side, Reaches}
 use Rattle.unification.proofs.Tests.{clash}
 use Rattle.unification.proofs.Chain.{error-reaches, repr-resolved}
 use Rattle.unification.proofs.Occurs.{occurs-no}
-use Rattle.unification.proofs.Sides.{Parts, Part, find-part, parts-map, Field, Alternative, fields, alternatives, Wf, side-follow, wf-bind}
+use Rattle.unification.specs.Log.{Wf, taken, Log}
+use Rattle.unification.proofs.Sides.{Parts, Part, find-part, parts-map, Field, Alternative, fields, alternatives, side-follow, wf-bind}
 use Rattle.unification.proofs.Kept.{After, heads-in, unifyIn-spent, unifyIn-visit}
 
 -- ---- How many places of a list are taken
-unfoldable pub taken : List (Option Ty) → ℕ
-taken [] = 0
-taken (none ∷ s) = taken s
-taken (some t ∷ s) = suc (taken s)
 
 pub taken-set : (s : List (Option Ty)) (x : ℕ) (t : Ty) → x < length s → getD s x none ≡ none → taken (set s x (some t)) ≡ suc (taken s)
 unfolding taken
@@ -51,20 +48,6 @@ pub taken-free : (s : List (Option Ty)) (x : ℕ) → x < length s → getD s x 
 taken-free s x h e = omega (arith, taken-set s x Error h e, taken-length (set s x (some Error)), length-set s x (some Error))
 
 -- ---- The log
-
--- Nothing stood there before.
-abbrev pub Blank : Undo → Type 0
-Blank (Binding x prev) = prev ≡ none
-Blank (Annotation n prev) = prev ≡ none
-
-abbrev pub AllBlank : List Undo → Type 0
-AllBlank [] = Unit {0}
-AllBlank (u ∷ us) = Blank u × AllBlank us
-
-pub record Log (st : State) : Type 0 where
-  pub wf : Wf (st .subst)
-  pub blank : AllBlank (st .undo)
-  pub exact : length (st .undo) ≡ taken (st .subst) + taken (st .tys)
 
 -- So it never outgrows the unknowns and the nodes.
 pub log-room : (st : State) → Log st → length (st .undo) ≤ length (st .subst) + length (st .tys)

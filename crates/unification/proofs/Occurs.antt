@@ -127,7 +127,7 @@ fewer-trans v w (yes-left u) le h = omega arith
 fewer-trans v w (no-left u) le h = omega arith
 fewer-trans v w spent le h = tt
 
-any-fewer : (ask : ℕ → Ty → Answer) → ((v : ℕ) (t : Ty) → Fewer v (ask v t)) → (v : ℕ) (r : Row) → Fewer v (anyRow ask v r)
+pub any-fewer : (ask : ℕ → Ty → Answer) → ((v : ℕ) (t : Ty) → Fewer v (ask v t)) → (v : ℕ) (r : Row) → Fewer v (anyRow ask v r)
 unfolding anyRow
 any-fewer ask h v ε = omega arith
 any-fewer ask h v (cell k l t r) = go (ask v t) refl (h v t) (λ w. any-fewer ask h w r)
@@ -137,7 +137,7 @@ any-fewer ask h v (cell k l t r) = go (ask v t) refl (h v t) (λ w. any-fewer as
     go (no-left w) q f ih = rw (q, anyRow) (fewer-trans v w (anyRow ask w r) f (ih w))
     go spent q f ih = rw (q, anyRow) tt
 
-occursIn-fewer : (ask : ℕ → Ty → Answer) → ((v : ℕ) (t : Ty) → Fewer v (ask v t)) → (x v : ℕ) (t : Ty) → Fewer v (occursIn ask x v t)
+pub occursIn-fewer : (ask : ℕ → Ty → Answer) → ((v : ℕ) (t : Ty) → Fewer v (ask v t)) → (x v : ℕ) (t : Ty) → Fewer v (occursIn ask x v t)
 unfolding occursIn
 occursIn-fewer ask h x v (leaf p) = omega arith
 occursIn-fewer ask h x v (node k r) = any-fewer ask h v r
@@ -193,7 +193,7 @@ unfolding visited
 visited-fewer zero ask h = tt
 visited-fewer (suc v) ask h = fewer-trans (suc v) v (ask v) (omega arith) (h v)
 
-leaf-fewer : (p : Leaf) (v : ℕ) → Fewer v (leafOrderable p v)
+pub leaf-fewer : (p : Leaf) (v : ℕ) → Fewer v (leafOrderable p v)
 unfolding leafOrderable
 leaf-fewer Int v = omega arith
 leaf-fewer String v = omega arith
@@ -223,6 +223,6 @@ mutual
   orderable-fewer (Var x) v = visited-fewer v (λ w. yes-left w) (λ w. omega arith)
   orderable-fewer Error v = visited-fewer v (λ w. yes-left w) (λ w. omega arith)
 
-  allOrderable-fewer : (r : Row) (v : ℕ) → Fewer v (allOrderable r v)
+  pub allOrderable-fewer : (r : Row) (v : ℕ) → Fewer v (allOrderable r v)
   allOrderable-fewer ε v = omega arith
   allOrderable-fewer (cell k l t r) v = rw (first-cell k l t r v) (goes-on-fewer r v (orderable t v) (orderable-fewer t v) (λ w. allOrderable-fewer r w))

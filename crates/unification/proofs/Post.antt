@@ -10,45 +10,59 @@ use lib.Dec.{eqb}
 use lib.ListN.{length}
 use Rattle.unification.specs.Ty.{Kind, Record, Union, Ty, node, Row, ε, cell, rowLen, app, appRow}
 use Rattle.unification.specs.Order.{Same, SameRow}
-use Rattle.unification.specs.Bindings.{Subst, History, State}
+use Rattle.unification.specs.Bindings.{Subst, History, start, ended, rolled, State}
 use Rattle.unification.specs.Unify.{UnionDiff, TyError, Unified, Ok, Err, Spent, andThen, mapErr, findKey, unifyField, unifyFields, unifyRecord, discriminants, unifyAlternative, unifyAlternatives, unifyUnion, unifyNodes}
-use Rattle.unification.specs.Calls.{Distinct, Side, itself, Admitted, Respects, live, AllAdmitted, MakesEqual, BindingsClaim, AtEveryMoment}
+use Rattle.unification.specs.Calls.{Distinct, Side, itself, Admitted, Respects, live, AllAdmitted, MakesEqual, EntryClaim, BindingsClaim, BackTo, bindingsAt, Noted}
+use Rattle.unification.specs.Acyclic.{Acyclic}
 use Rattle.unification.proofs.Tests.{clash, eqb-true, eqb-false}
 use Rattle.unification.proofs.Rows.{Both, Match, AgreeAt, match-same, same-match, same-len, agree-same, same-agree, agree-discriminants, appCell, find-app, distinct-app, rowLen-app, discriminants-app}
-use Rattle.unification.proofs.Sides.{Parts, Part, find-part, parts-map, Field, Alternative, fields, alternatives, Permits, admitted-parts, Wf}
+use Rattle.unification.specs.Log.{Wf}
+use Rattle.unification.proofs.Sides.{Parts, Part, find-part, parts-map, Field, Alternative, fields, alternatives, Permits, admitted-parts}
 
 -- Every substitution.
 abbrev pub Any : (ℕ → Ty) → Type 0
 Any σ = Unit {0}
 
--- What is known when a stretch begins: clauses (a), (b) and (c) of the moments so far, and (b) of this one.
-abbrev pub Known : Subst → History → Type 0
-Known s h = AtEveryMoment Any h × BindingsClaim Any s h
+-- The clauses at every moment, over all substitutions and with acyclic bindings.
+abbrev pub Moments : History → Type 0
+Moments start = Unit {0}
+Moments (ended s a b ok s′ h) = EntryClaim Any s a b ok s′ × BindingsClaim Any s′ (ended s a b ok s′ h) × Acyclic s′ × Moments h
+Moments (rolled past s s′ h) = BackTo (bindingsAt past) s s′ × Noted s h × BindingsClaim Any s′ (rolled past s s′ h) × Acyclic s′ × Moments h
+
+-- Between two entries: the bindings are those of the last moment, and as (b) says.
+pub record Here (s : Subst) (h : History) : Type 0 where
+  pub noted : Noted s h
+  pub claim : BindingsClaim Any s h
+
+-- What is known when a stretch begins.
+pub record Known (s : Subst) (h : History) : Type 0 where
+  pub moments : Moments h
+  pub here : Here s h
 
 -- However a stretch ends: from the bindings s and the history h to the state st.
 pub record Step (s : Subst) (h : History) (st : State) : Type 0 where
   pub wf : Wf (st .subst)
   pub len : length (st .subst) ≡ length s
-  pub moments : Known s h → AtEveryMoment Any (st .history)
+  pub moments : Known s h → Moments (st .history)
   pub older : AllAdmitted (live (st .history)) → AllAdmitted (live h)
   pub held : (σ : ℕ → Ty) → MakesEqual σ (live (st .history)) → MakesEqual σ (live h)
 
 -- Success, where C is what it demands of a substitution.
 pub record Done (s : Subst) (h : History) (A : Type 0) (C : (ℕ → Ty) → Type 0) (st : State) : Type 0 where
   pub step : Step s h st
-  pub bindings : Known s h → BindingsClaim Any (st .subst) (st .history)
+  pub here : Known s h → Here (st .subst) (st .history)
   pub keeps : A → (u : Ty) → Admitted s u → Admitted (st .subst) u
   pub same : A → (σ : ℕ → Ty) → Respects σ (st .subst) ↔ (Respects σ s × C σ)
 
 pub record Failed (s : Subst) (h : History) (A : Type 0) (C : (ℕ → Ty) → Type 0) (st : State) : Type 0 where
   pub step : Step s h st
-  pub bindings : Known s h → BindingsClaim Any (st .subst) (st .history)
+  pub here : Known s h → Here (st .subst) (st .history)
   pub never : A → (σ : ℕ → Ty) → Respects σ s → ¬ C σ
 
 -- The visits ran out.
 pub record Stopped (s : Subst) (h : History) (st : State) : Type 0 where
   pub step : Step s h st
-  pub bindings : Known s h → BindingsClaim Any (st .subst) (st .history)
+  pub here : Known s h → Here (st .subst) (st .history)
 
 -- Success of an entry that has not been noted yet: its own binding stands in no entry of the history.
 pub record Closing (s : Subst) (h : History) (A : Type 0) (C : (ℕ → Ty) → Type 0) (st : State) : Type 0 where
@@ -69,20 +83,20 @@ Inside s h A C (Spent st) = Stopped s h st
 
 -- ---- No step
 pub step-refl : (st : State) → Wf (st .subst) → Step (st .subst) (st .history) st
-step-refl st w = record { wf = w; len = refl; moments = λ k. k .0; older = λ a. a; held = λ σ m. m }
+step-refl st w = record { wf = w; len = refl; moments = λ k. k .moments; older = λ a. a; held = λ σ m. m }
 
 pub stay : (st : State) (A : Type 0) (C : (ℕ → Ty) → Type 0) → Wf (st .subst) → (A → (σ : ℕ → Ty) → C σ) → Done (st .subst) (st .history) A C st
-stay st A C w c = record { step = step-refl st w; bindings = λ k. k .1; keeps = λ a u g. g; same = λ a σ. (λ R. (R, c a σ), λ R. R .0) }
+stay st A C w c = record { step = step-refl st w; here = λ k. k .here; keeps = λ a u g. g; same = λ a σ. (λ R. (R, c a σ), λ R. R .0) }
 
 pub stop : (st : State) (A : Type 0) (C : (ℕ → Ty) → Type 0) → Wf (st .subst) → (A → (σ : ℕ → Ty) → ¬ C σ) → Failed (st .subst) (st .history) A C st
-stop st A C w c = record { step = step-refl st w; bindings = λ k. k .1; never = λ a σ R. c a σ }
+stop st A C w c = record { step = step-refl st w; here = λ k. k .here; never = λ a σ R. c a σ }
 
 -- ---- One stretch after another
-step-trans : (s : Subst) (h : History) (b c : State) → (Known s h → BindingsClaim Any (b .subst) (b .history)) → Step s h b → Step (b .subst) (b .history) c → Step s h c
+step-trans : (s : Subst) (h : History) (b c : State) → (Known s h → Here (b .subst) (b .history)) → Step s h b → Step (b .subst) (b .history) c → Step s h c
 step-trans s h b c i p q = record {
   wf = q .wf;
   len = q .len ∙ p .len;
-  moments = λ k. q .moments (p .moments k, i k);
+  moments = λ k. q .moments (record { moments = p .moments k; here = i k });
   older = λ a. p .older (q .older a);
   held = λ σ m. p .held σ (q .held σ m);
 }
@@ -90,8 +104,8 @@ step-trans s h b c i p q = record {
 module _ (s : Subst) (h : History) (A : Type 0) (C D : (ℕ → Ty) → Type 0) where
   joined : (b : State) → Done s h A C b → (res : Unified) → Post (b .subst) (b .history) A D res → Post s h A (λ σ. C σ × D σ) res
   joined b p (Ok c) q = record {
-    step = step-trans s h b c (p .bindings) (p .step) (q .step);
-    bindings = λ k. q .bindings (p .step .moments k, p .bindings k);
+    step = step-trans s h b c (p .here) (p .step) (q .step);
+    here = λ k. q .here (record { moments = p .step .moments k; here = p .here k });
     keeps = λ a u g. q .keeps a u (p .keeps a u g);
     same = λ a σ. (
       λ R. let y = q .same a σ .0 R in let x = p .same a σ .0 (y .0) in (x .0, (x .1, y .1)),
@@ -99,13 +113,13 @@ module _ (s : Subst) (h : History) (A : Type 0) (C D : (ℕ → Ty) → Type 0) 
     );
   }
   joined b p (Err e c) q = record {
-    step = step-trans s h b c (p .bindings) (p .step) (q .step);
-    bindings = λ k. q .bindings (p .step .moments k, p .bindings k);
+    step = step-trans s h b c (p .here) (p .step) (q .step);
+    here = λ k. q .here (record { moments = p .step .moments k; here = p .here k });
     never = λ a σ R x. q .never a σ (p .same a σ .1 (R, x .0)) (x .1);
   }
   joined b p (Spent c) q = record {
-    step = step-trans s h b c (p .bindings) (p .step) (q .step);
-    bindings = λ k. q .bindings (p .step .moments k, p .bindings k);
+    step = step-trans s h b c (p .here) (p .step) (q .step);
+    here = λ k. q .here (record { moments = p .step .moments k; here = p .here k });
   }
 
   pub seq : (res : Unified) (f : State → Unified) → Post s h A C res
@@ -113,24 +127,24 @@ module _ (s : Subst) (h : History) (A : Type 0) (C D : (ℕ → Ty) → Type 0) 
       → Post s h A (λ σ. C σ × D σ) (andThen res f)
   unfolding andThen
   seq (Ok b) f p q = joined b p (f b) (q b (p .step .wf) (p .step .len) (p .keeps))
-  seq (Err e b) f p q = record { step = p .step; bindings = p .bindings; never = λ a σ R x. p .never a σ R (x .0) }
+  seq (Err e b) f p q = record { step = p .step; here = p .here; never = λ a σ R x. p .never a σ R (x .0) }
   seq (Spent b) f p q = p
 
   -- Another demand that the proviso makes the same.
   pub change : (res : Unified) → (A → (σ : ℕ → Ty) → Respects σ s → C σ ↔ D σ) → Post s h A C res → Post s h A D res
   change (Ok b) i p = record {
     step = p .step;
-    bindings = p .bindings;
+    here = p .here;
     keeps = p .keeps;
     same = λ a σ. (λ R. let x = p .same a σ .0 R in (x .0, i a σ (x .0) .0 (x .1)), λ R. p .same a σ .1 (R .0, i a σ (R .0) .1 (R .1)));
   }
-  change (Err e b) i p = record { step = p .step; bindings = p .bindings; never = λ a σ R d. p .never a σ R (i a σ R .1 d) }
+  change (Err e b) i p = record { step = p .step; here = p .here; never = λ a σ R d. p .never a σ R (i a σ R .1 d) }
   change (Spent b) i p = p
 
 -- A stronger proviso.
 pub under : (s : Subst) (h : History) (A B : Type 0) (C : (ℕ → Ty) → Type 0) (res : Unified) → (B → A) → Post s h A C res → Post s h B C res
-under s h A B C (Ok b) f p = record { step = p .step; bindings = p .bindings; keeps = λ a. p .keeps (f a); same = λ a. p .same (f a) }
-under s h A B C (Err e b) f p = record { step = p .step; bindings = p .bindings; never = λ a. p .never (f a) }
+under s h A B C (Ok b) f p = record { step = p .step; here = p .here; keeps = λ a. p .keeps (f a); same = λ a. p .same (f a) }
+under s h A B C (Err e b) f p = record { step = p .step; here = p .here; never = λ a. p .never (f a) }
 under s h A B C (Spent b) f p = p
 
 post-mapErr : (s : Subst) (h : History) (A : Type 0) (C : (ℕ → Ty) → Type 0) (e : TyError) (res : Unified) → Post s h A C res → Post s h A C (mapErr e res)
@@ -146,7 +160,7 @@ loosen s h A C (Ok b) p = record {
   step = p .step;
   keeps = p .keeps;
   same = p .same;
-  bindings = λ k m a σ. let e = p .bindings k m σ tt in (λ R. (p .same a σ .0 R .1, e .0 R), λ x. e .1 (x .1));
+  bindings = λ k m a σ. let e = p .here k .claim m σ tt in (λ R. (p .same a σ .0 R .1, e .0 R), λ x. e .1 (x .1));
 }
 loosen s h A C (Err e b) p = p
 loosen s h A C (Spent b) p = p

@@ -1,5 +1,6 @@
 -- A substitution unifies the bindings as equations exactly where it respects them. Resolved through acyclic bindings, the
 -- unknowns respect them; and any substitution that respects them is the same after resolving, so it is an instance.
+use mathlib.Core.Bool.{Bool, true, false}
 use mathlib.Core.List.{List, [], _∷_}
 use mathlib.Core.Logic.{_↔_}
 use mathlib.Core.Option.{Option, none, some}
@@ -11,17 +12,16 @@ use lib.ListN.{length, getD}
 use Rattle.unification.specs.Ty.{Ty, Var, app}
 use Rattle.unification.specs.Order.{Same}
 use Rattle.unification.specs.Robinson.{Substitution, _then_, Equation, Unifies, MostGeneral}
-use Rattle.unification.specs.Bindings.{Subst, bound, zonkIn, zonk, State}
-use Rattle.unification.specs.Unify.{Unified, Ok, Err, Spent, unify}
-use Rattle.unification.specs.Calls.{Side, Admitted, Respects, Machine, Calls}
-use Rattle.unification.specs.Tie.{equationsFrom, equations, solution, Together, AsRobinson, Ends, Succeeds}
+use Rattle.unification.specs.Bindings.{Subst, bound, zonkIn, zonk, History, start, ended, rolled, State}
+use Rattle.unification.specs.Unify.{Spent, unify}
+use Rattle.unification.specs.Calls.{Side, Admitted, Respects, Machine, Calls, EntryClaim}
+use Rattle.unification.specs.Tie.{equationsFrom, equations, solution, Together, AsRobinson, AllAsRobinson}
 use Rattle.unification.proofs.Tests.{clash}
 use Rattle.unification.proofs.Order.{same-refl, same-trans, same-app, app-same, app-app}
 use Rattle.unification.specs.Acyclic.{Acyclic}
 use Rattle.unification.proofs.Zonk.{zonk-none, zonk-bound, zonk-app, zonk-var, zonk-more, zonk-is}
-use Rattle.unification.proofs.Post.{Post}
-use Rattle.unification.proofs.Sound.{unify-post}
-use Rattle.unification.proofs.Demand3.{calls-inv}
+use Rattle.unification.proofs.Post.{Any, Moments}
+use Rattle.unification.proofs.Demand3.{Sound, unify-sound, calls-inv}
 
 -- ---- An instance of a unifier is a unifier
 pub unifies-then : (θ μ : Substitution) (es : List Equation) → Unifies θ es → Unifies (_then_ θ μ) es
@@ -77,27 +77,33 @@ solution-general s A es h = record {
   general = λ η u. (η, λ x. zonk-same (length s) η s (Var x) (h η .0 u));
 }
 
-as-robinson : (s : Subst) (a b : Ty) (A : Type 0) (st : State) (res : Unified) → A → Post s (st .history) A (λ σ. Same (app σ a) (app σ b)) res → AsRobinson s a b res
-as-robinson s a b A st (Ok c) p q = solution-general (c .subst) (q .step .wf .acyclic) (Together s a b) (λ η.
+-- A unification that ended, by what it demands of substitutions.
+as-robinson : (s : Subst) (a b : Ty) (ok : Bool) (s′ : Subst) → Acyclic s′ → EntryClaim Any s a b ok s′ → Admitted s a → Admitted s b → AsRobinson s a b ok s′
+unfolding EntryClaim
+as-robinson s a b true s′ A claim f g = solution-general s′ A (Together s a b) (λ η.
     let e = unifies-respects η s in
-    let i = q .same p η in
+    let i = claim f g η tt in
     (λ u. i .1 (e .0 (u .1), u .0), λ R. let x = i .0 R in (x .1, e .1 (x .0))))
-as-robinson s a b A st (Err c c′) p q = λ θ u. q .never p θ (unifies-respects θ s .0 (u .1)) (u .0)
-as-robinson s a b A st (Spent c) p q = tt
+as-robinson s a b false s′ A claim f g = λ θ u. claim f g θ tt (unifies-respects θ s .0 (u .1)) (u .0)
 
--- On permitted sides that meet the proviso, whatever calls led here: success exactly where a unifier of the sides and the
--- bindings exists, and then the bindings are a most general one.
-pub robinson : (v : ℕ) (tys : List (Option Ty)) (m : Machine) → Calls v tys m → (a b : Ty) → Side (length (m .state .subst)) a → Side (length (m .state .subst)) b
-    → Admitted (m .state .subst) a → Admitted (m .state .subst) b → AsRobinson (m .state .subst) a b (unify (m .state) a b)
-robinson v tys m cs a b i j f g =
-    as-robinson (m .state .subst) a b (Admitted (m .state .subst) a × Admitted (m .state .subst) b) (m .state) (unify (m .state) a b) (f, g)
-    (unify-post (Admitted (m .state .subst) a × Admitted (m .state .subst) b) (m .state) a b (calls-inv v tys m cs .sound .wf) i j (λ p. p))
+all-as-robinson : (h : History) → Moments h → AllAsRobinson h
+all-as-robinson start c = tt
+all-as-robinson (ended s a b ok s′ h) c = ((λ f g. as-robinson s a b ok s′ (c .2) (c .0) f g), all-as-robinson h (c .3))
+all-as-robinson (rolled past s s′ h) c = all-as-robinson h (c .4)
 
-exactly : (s : Subst) (a b : Ty) (res : Unified) → Ends res → AsRobinson s a b res → Succeeds res ↔ ((θ : Substitution) × Unifies θ (Together s a b))
-exactly s a b (Ok st) e r = (λ u. (solution (st .subst), r .unifies), λ u. tt)
-exactly s a b (Err c st) e r = (λ u. absurd u, λ u. r (u .0) (u .1))
-exactly s a b (Spent st) e r = absurd e
+-- Whatever calls led here: every unification so far, inner ones included, found a most general unifier or there is none. The same
+-- where the visits ran out.
+pub robinson : (v : ℕ) (tys : List (Option Ty)) (m : Machine) → Calls v tys m → AllAsRobinson (m .state .history)
+robinson v tys m cs = all-as-robinson (m .state .history) (calls-inv v tys m cs .sound .known .moments)
 
-pub succeeds-exactly : (v : ℕ) (tys : List (Option Ty)) (m : Machine) → Calls v tys m → (a b : Ty) → Side (length (m .state .subst)) a → Side (length (m .state .subst)) b
-    → Admitted (m .state .subst) a → Admitted (m .state .subst) b → Ends (unify (m .state) a b) → Succeeds (unify (m .state) a b) ↔ ((θ : Substitution) × Unifies θ (Together (m .state .subst) a b))
-succeeds-exactly v tys m cs a b i j f g e = exactly (m .state .subst) a b (unify (m .state) a b) e (robinson v tys m cs a b i j f g)
+pub robinson-at-the-limit : (v : ℕ) (tys : List (Option Ty)) (m : Machine) → Calls v tys m → (a b : Ty) (st : State)
+    → Side (length (m .state .subst)) a → Side (length (m .state .subst)) b → unify (m .state) a b ≡ Spent st → AllAsRobinson (st .history)
+robinson-at-the-limit v tys m cs a b st i j e =
+    let h : Sound st = rw e at (unify-sound (m .state) a b (calls-inv v tys m cs .sound) i j) in
+    all-as-robinson (st .history) (h .known .moments)
+
+-- So a unification succeeds exactly where there is a unifier.
+pub succeeds-exactly : (s : Subst) (a b : Ty) (ok : Bool) (s′ : Subst) → AsRobinson s a b ok s′
+    → (ok ≡ true) ↔ ((θ : Substitution) × Unifies θ (Together s a b))
+succeeds-exactly s a b true s′ r = (λ e. (solution s′, r .unifies), λ u. refl)
+succeeds-exactly s a b false s′ r = (λ e. clash (cc), λ u. absurd (r (u .0) (u .1)))

@@ -16,6 +16,7 @@ use Rattle.unification.specs.Unify.{findKey}
 use Rattle.unification.specs.Calls.{Declared, DeclaredRow, Side, SideRow, Reaches, inside, ReachesRow, first, later, Allowed, Admitted}
 use Rattle.unification.proofs.Reach.{bound-same, bound-other}
 use Rattle.unification.specs.Acyclic.{Acyclic}
+use Rattle.unification.specs.Log.{Wf}
 use Rattle.unification.proofs.Acyclic.{acyclic-bind, Among, acyclic-among}
 
 -- ---- More unknowns, and the schema's types
@@ -93,10 +94,6 @@ admitted-parts s k r h = go r (λ u i. h u (inside i))
     go (cell k l t r) h = ((λ u i. h u (first i)), go r (λ u i. h u (later i)))
 
 -- ---- Well-formed bindings
-pub record Wf (s : Subst) : Type 0 where
-  pub acyclic : Acyclic s
-  pub sides : (x : ℕ) (t : Ty) → bound s x ≡ some t → Side (length s) t
-
 pub side-follow : (k : ℕ) (s : Subst) (t : Ty) → Wf s → Side (length s) t → Side (length s) (follow k s t)
 unfolding follow
 side-follow zero s t w h = h

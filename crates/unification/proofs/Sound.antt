@@ -2,26 +2,28 @@
 -- without it that no unknown leads back to itself. A binding is made only of a free unknown, so its success is one equation
 -- more; its failure is the occurs check's.
 use mathlib.Core.Bool.{Bool, true, false}
+use mathlib.Core.List.{_++_, append-nil}
 use mathlib.Core.Logic.{_↔_}
 use mathlib.Core.Option.{none, some}
-use mathlib.Core.Path.{_≡_, refl, subst}
-use Prim.Native.Nat.{ℕ, zero, suc, _<_}
+use mathlib.Core.Path.{_≡_, refl, sym, subst}
+use Prim.Native.Nat.{ℕ, zero, suc, _-_, _<_}
 use native.Mathlib.Decide.{ℕ-discrete}
+use native.Mathlib.Omega.{arith}
 use lib.Dec.{eqb}
-use lib.ListN.{length, length-set}
+use lib.ListN.{length, replicate, length-set}
 use Rattle.unification.specs.Ty.{Leaf-discrete, Ty, leaf, node, Var, Error, app}
 use Rattle.unification.specs.Order.{Same}
 use Rattle.unification.specs.Bindings.{Subst, bound, repr, Answer, yes-left, no-left, spent, occurs, History, ended, State, withLeft, setVar, Resolved}
 use Rattle.unification.specs.Unify.{Unified, Ok, Err, Spent, bindVar, unifyNodes, unifyHeads, note, unifyIn, unify}
-use Rattle.unification.specs.Calls.{Side, Reaches, itself, Admitted, Respects, live, EntryClaim, BindingsClaim}
+use Rattle.unification.specs.Calls.{Side, Reaches, itself, Admitted, Respects, live, EntryClaim, BindingsClaim, Noted}
 use Rattle.unification.proofs.Tests.{clash, eqb-true, eqb-false}
 use Rattle.unification.proofs.Order.{same-refl, same-sym, same-both}
 use Rattle.unification.proofs.Reach.{admitted-bind, admitted-follow}
-use Rattle.unification.proofs.Acyclic.{no-loop}
 use Rattle.unification.proofs.Chain.{error-reaches, repr-resolved}
 use Rattle.unification.proofs.Respects.{respects-bind, repr-same}
 use Rattle.unification.proofs.Occurs.{occurs-never, occurs-no}
-use Rattle.unification.proofs.Sides.{Wf, side-follow, wf-bind}
+use Rattle.unification.specs.Log.{Wf}
+use Rattle.unification.proofs.Sides.{side-follow, wf-bind}
 use Rattle.unification.proofs.Kept.{After, heads-in, unifyIn-spent, unifyIn-visit}
 use Rattle.unification.proofs.Post.{Any, Known, Step, Closing, Post, Inside, step-refl, stay, stop, under, loosen, Entry, nodes-post}
 
@@ -31,7 +33,7 @@ unfolding setVar
 setVar-step st x t w lt side off = record {
   wf = wf-bind (st .subst) x t lt side off w;
   len = length-set (st .subst) x (some t);
-  moments = λ k. k .0;
+  moments = λ k. k .moments;
   older = λ a. a;
   held = λ σ m. m;
 }
@@ -44,19 +46,19 @@ bindVar-post d A st x t w free res n lt side a = go (occurs d (st .subst) x (st 
     go : (o : Answer) → occurs d (st .subst) x (st .left) t ≡ o → Inside (st .subst) (st .history) A (λ σ. Same (σ x) (app σ t)) (bindVar d st x t)
     go (yes-left v) e = rw (e, bindVar) (record {
       step = step-refl (withLeft st v) w;
-      bindings = λ k. k .1;
+      here = λ k. k .here;
       never = λ p σ R. occurs-never σ (st .subst) x d (st .left) t v res n R e;
     })
     go (no-left v) e = rw (e, bindVar) (record {
       step = setVar-step (withLeft st v) x t w lt side (occurs-no (st .subst) x free (w .acyclic) d (st .left) t v e);
       bindings = λ k m p σ.
           let b = respects-bind σ (st .subst) x t lt free in
-          let i = k .1 m σ tt in
+          let i = k .here .claim m σ tt in
           (λ R. let y = b .0 R in (y .1, i .0 (y .0)), λ y. b .1 (i .1 (y .1), y .0));
       keeps = λ p u g. admitted-bind (st .subst) x t lt u (a p) g;
       same = λ p σ. respects-bind σ (st .subst) x t lt free;
     })
-    go spent e = rw (e, bindVar) (record { step = step-refl (withLeft st zero) w; bindings = λ k. k .1 })
+    go spent e = rw (e, bindVar) (record { step = step-refl (withLeft st zero) w; here = λ k. k .here })
 
 -- The same demand the other way round.
 turn : (s : Subst) (h : History) (A : Type 0) (C D : (ℕ → Ty) → Type 0) (res : Unified) → ((σ : ℕ → Ty) → C σ ↔ D σ) → Inside s h A C res → Inside s h A D res
@@ -66,7 +68,7 @@ turn s h A C D (Ok b) i p = record {
   bindings = λ k m a σ. let e = p .bindings k m a σ in (λ R. let x = e .0 R in (i σ .0 (x .0), x .1), λ x. e .1 (i σ .1 (x .0), x .1));
   same = λ a σ. let e = p .same a σ in (λ R. let x = e .0 R in (x .0, i σ .0 (x .1)), λ R. e .1 (R .0, i σ .1 (R .1)));
 }
-turn s h A C D (Err e b) i p = record { step = p .step; bindings = p .bindings; never = λ a σ R d. p .never a σ R (i σ .1 d) }
+turn s h A C D (Err e b) i p = record { step = p .step; here = p .here; never = λ a σ R d. p .never a σ R (i σ .1 d) }
 turn s h A C D (Spent b) i p = p
 
 -- Beside Error the proviso does not hold.
@@ -114,6 +116,9 @@ module _ (d : ℕ) (u : State → Ty → Ty → Unified) (rec : Entry u) (A : Ty
   heads-post (node k r) (node k′ r′) e f i j p = loosen _ _ A _ (unifyNodes u st k r k′ r′) (nodes-post u rec A st k r k′ r′ w i j p)
 
 -- ---- An entry ends and is noted
+pub noted-end : (s : Subst) → s ≡ s ++ replicate (length s - length s) none
+noted-end s = let e : length s - length s ≡ 0 = omega arith in rw e (sym (append-nil s))
+
 module _ (s : Subst) (h : History) (a b : Ty) where
   at-repr : (σ : ℕ → Ty) → Respects σ s → Same (app σ (repr s a)) (app σ (repr s b)) ↔ Same (app σ a) (app σ b)
   at-repr σ R =
@@ -125,16 +130,16 @@ module _ (s : Subst) (h : History) (a b : Ty) where
 
   note-post : (res : Unified) → Inside s h (Admitted s a × Admitted s b) (λ σ. Same (app σ (repr s a)) (app σ (repr s b))) res
       → Post s h (Admitted s a × Admitted s b) (λ σ. Same (app σ a) (app σ b)) (note s a b res)
-  unfolding note EntryClaim BindingsClaim live
+  unfolding note EntryClaim BindingsClaim live Noted
   note-post (Ok st) p = record {
     step = record {
       wf = p .step .wf;
       len = p .step .len;
-      moments = λ k. ((λ f g σ any. sem (f, g) σ), noted k, no-loop (st .subst) (p .step .wf .acyclic), p .step .moments k);
+      moments = λ k. ((λ f g σ any. sem (f, g) σ), equal k, p .step .wf .acyclic, p .step .moments k);
       older = λ m. p .step .older (m .2);
       held = λ σ m. p .step .held σ (m .1);
     };
-    bindings = noted;
+    here = λ k. record { noted = noted-end (st .subst); claim = equal k };
     keeps = p .keeps;
     same = sem;
   }
@@ -144,21 +149,21 @@ module _ (s : Subst) (h : History) (a b : Ty) where
           let e = p .same g σ in
           (λ R. let x = e .0 R in (x .0, at-repr σ (x .0) .0 (x .1)), λ R. e .1 (R .0, at-repr σ (R .0) .1 (R .1)))
 
-      noted : Known s h → BindingsClaim Any (st .subst) (ended s a b true (st .subst) (st .history))
-      noted k m σ any =
+      equal : Known s h → BindingsClaim Any (st .subst) (ended s a b true (st .subst) (st .history))
+      equal k m σ any =
           let e = p .bindings k (m .2) (m .0, m .1) σ in (
             λ R. (sem (m .0, m .1) σ .0 R .1, e .0 R .1),
-            λ x. let R = k .1 (p .step .older (m .2)) σ tt .1 (p .step .held σ (x .1)) in e .1 (at-repr σ R .1 (x .0), x .1),
+            λ x. let R = k .here .claim (p .step .older (m .2)) σ tt .1 (p .step .held σ (x .1)) in e .1 (at-repr σ R .1 (x .0), x .1),
           )
   note-post (Err e st) p = record {
     step = record {
       wf = p .step .wf;
       len = p .step .len;
-      moments = λ k. ((λ f g σ any. sem (f, g) σ), p .bindings k, no-loop (st .subst) (p .step .wf .acyclic), p .step .moments k);
+      moments = λ k. ((λ f g σ any. sem (f, g) σ), p .here k .claim, p .step .wf .acyclic, p .step .moments k);
       older = p .step .older;
       held = p .step .held;
     };
-    bindings = p .bindings;
+    here = λ k. record { noted = noted-end (st .subst); claim = p .here k .claim };
     never = sem;
   }
     where
@@ -177,11 +182,11 @@ inner-post d ih st v a b w i j =
 
 pub unifyIn-post : (d : ℕ) → Entry (unifyIn d)
 unfolding unifyIn
-unifyIn-post zero A st a b w i j p = record { step = step-refl st w; bindings = λ k. k .1 }
+unifyIn-post zero A st a b w i j p = record { step = step-refl st w; here = λ k. k .here }
 unifyIn-post (suc d) A st a b w i j p = go (st .left) refl (λ A′ st′ a′ b′. unifyIn-post d A′ st′ a′ b′)
   where
     go : (v : ℕ) → st .left ≡ v → Entry (λ st′ a′ b′. unifyIn d st′ a′ b′) → Post (st .subst) (st .history) A (λ σ. Same (app σ a) (app σ b)) (unifyIn (suc d) st a b)
-    go zero e ih = rw (unifyIn-spent d st a b e) (record { step = step-refl st w; bindings = λ k. k .1 })
+    go zero e ih = rw (unifyIn-spent d st a b e) (record { step = step-refl st w; here = λ k. k .here })
     go (suc v) e ih =
         rw (unifyIn-visit d st v a b e)
         (under (st .subst) (st .history) (Admitted (st .subst) a × Admitted (st .subst) b) A _ (note (st .subst) a b (heads-in d st v a b)) p

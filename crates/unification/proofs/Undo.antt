@@ -70,6 +70,13 @@ rewind-left (suc k) [] st = refl
 rewind-left (suc k) (Binding x prev ∷ us) st = rewind-left k us (revert (Binding x prev) st)
 rewind-left (suc k) (Annotation n prev ∷ us) st = rewind-left k us (revert (Annotation n prev) st)
 
+pub rewind-nodes : (k : ℕ) (us : List Undo) (st : State) → length (rewind k us st .tys) ≡ length (st .tys)
+unfolding rewind revert
+rewind-nodes zero us st = refl
+rewind-nodes (suc k) [] st = refl
+rewind-nodes (suc k) (Binding x prev ∷ us) st = rewind-nodes k us (revert (Binding x prev) st)
+rewind-nodes (suc k) (Annotation n prev ∷ us) st = rewind-nodes k us (revert (Annotation n prev) st) ∙ length-set (st .tys) n prev
+
 -- ---- Stretches of a run
 
 -- From the first state to the second, in which n unknowns were made: the log has grown by `new`, and taking that back gives

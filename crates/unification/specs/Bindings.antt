@@ -82,8 +82,8 @@ pub data History : Type 0 where
   start : History
   -- an entry to `unify` has ended: the bindings before it, its sides, whether it succeeded, the bindings after it
   ended : Subst → Ty → Ty → Bool → Subst → History → History
-  -- a rollback: the history at its snapshot, the bindings after it
-  rolled : History → Subst → History → History
+  -- a rollback: the history at its snapshot, the bindings before it, the bindings after it
+  rolled : History → Subst → Subst → History → History
 
 -- The part of `Checker` that bindings and annotations are in, with the visits left.
 pub record State : Type 0 where
@@ -152,4 +152,4 @@ unfoldable pub rollback : State → Snapshot → State
 unfolding rewind withHistory
 rollback st at =
     let back = rewind (length (st .undo) - at .undo) (st .undo) st in
-    withHistory back (rolled (at .past) (back .subst) (st .history))
+    withHistory back (rolled (at .past) (st .subst) (back .subst) (st .history))

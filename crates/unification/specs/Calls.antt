@@ -141,7 +141,7 @@ unfoldable pub live : History → List Entry
 live start = []
 live (ended s a b true s′ h) = record { before = s; got = a; expected = b } ∷ live h
 live (ended s a b false s′ h) = live h
-live (rolled past s h) = live past
+live (rolled past s s′ h) = live past
 
 abbrev pub AllAdmitted : List Entry → Type 0
 AllAdmitted [] = Unit {0}
@@ -165,21 +165,38 @@ BindingsClaim P s h = AllAdmitted (live h) → (σ : ℕ → Ty) → P σ → Re
 unfoldable pub NoLoop : Subst → Type 0
 NoLoop s = (x : ℕ) → ¬ LeadsBack s x
 
--- At every moment of a history, also inside an outer unification: (a) of the unification that ended there, (b) and (c).
+-- (d) A rollback from the bindings s leaves s′: each unknown of its snapshot has its binding of then, the later ones are there and free.
+unfoldable pub BackTo : Subst → Subst → Subst → Type 0
+BackTo then s s′ = s′ ≡ then ++ replicate (length s - length then) none
+
+-- The bindings that a moment left.
+unfoldable pub bindingsAt : History → Subst
+bindingsAt start = []
+bindingsAt (ended s a b ok s′ h) = s′
+bindingsAt (rolled past s s′ h) = s′
+
+-- Nobody else writes bindings: they are those of the last moment, and the unknowns made since are free.
+unfoldable pub Noted : Subst → History → Type 0
+unfolding bindingsAt
+Noted s h = s ≡ bindingsAt h ++ replicate (length s - length (bindingsAt h)) none
+
+-- At every moment of a history, also inside an outer unification: (a) of the unification that ended there, (d) of the rollback, (b) and (c).
 abbrev pub AtEveryMoment : ((ℕ → Ty) → Type 0) → History → Type 0
 AtEveryMoment P start = Unit {0}
 AtEveryMoment P (ended s a b ok s′ h) = EntryClaim P s a b ok s′ × BindingsClaim P s′ (ended s a b ok s′ h) × NoLoop s′ × AtEveryMoment P h
-AtEveryMoment P (rolled past s h) = BindingsClaim P s (rolled past s h) × NoLoop s × AtEveryMoment P h
+AtEveryMoment P (rolled past s s′ h) = BackTo (bindingsAt past) s s′ × Noted s h × BindingsClaim P s′ (rolled past s s′ h) × NoLoop s′ × AtEveryMoment P h
 
--- Clauses (a), (b) and (c) of a state, over the assignments that P picks.
+-- The clauses of a state, over the assignments that P picks: all four at every moment of its history, (b) and (c) of it.
 pub record Claim (P : (ℕ → Ty) → Type 0) (st : State) : Type 0 where
   pub moments : AtEveryMoment P (st .history)
+  pub noted : Noted (st .subst) (st .history)
   pub bindings : BindingsClaim P (st .subst) (st .history)
   pub no-loop : NoLoop (st .subst)
 
--- (d) A rollback gives each unknown of the snapshot its binding of then and leaves later ones free.
+-- (d) of the rollbacks that can come next.
 unfoldable pub GivesBack : State → Taken → Type 0
-GivesBack st to = rollback st (to .at) .subst ≡ to .subst ++ replicate (length (st .subst) - length (to .subst)) none
+unfolding BackTo
+GivesBack st to = BackTo (to .subst) (st .subst) (rollback st (to .at) .subst)
 
 abbrev pub AllGiveBack : State → List Taken → Type 0
 AllGiveBack st [] = Unit {0}

@@ -6,3 +6,4 @@ pub mod Unify
 pub mod Calls
 pub mod Acyclic
 pub mod Tie
+pub mod Log

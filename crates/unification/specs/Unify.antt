@@ -31,6 +31,12 @@ pub data Unified : Type 0 where
   Err : TyError → State → Unified
   Spent : State → Unified
 
+-- The state in which it ended.
+abbrev pub endOf : Unified → State
+endOf (Ok st) = st
+endOf (Err e st) = st
+endOf (Spent st) = st
+
 -- `?`
 unfoldable pub andThen : Unified → (State → Unified) → Unified
 andThen (Ok st) f = f st

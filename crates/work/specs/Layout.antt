@@ -1,5 +1,5 @@
 -- Where the regions of the work slice stand: the numbers of the constants in src/lib.rt. Each region starts where the one
--- before it ends; the last ends at 15,521 of 16,384 words.
+-- before it ends, but 768 words before the node types are free; the last ends at 15,521 of 16,384 words.
 use Prim.Native.Nat.{ℕ}
 
 -- ---- What a file said, written once by the reading
@@ -68,6 +68,16 @@ DIAGNOSTIC-COUNT = 9619
 abbrev pub UNKNOWNS : ℕ
 UNKNOWNS = 9620
 
+-- where the next line of a diagnostic goes in the answer slice, low half and high half; and 1 where one had no room
+abbrev pub PLACE : ℕ
+PLACE = 9621
+
+abbrev pub PLACE-HIGH : ℕ
+PLACE-HIGH = 9622
+
+abbrev pub FULL : ℕ
+FULL = 9623
+
 -- 512 inferred records, a word each: where the fields start times 1,024, and their number
 abbrev pub RECORDS : ℕ
 RECORDS = 9632
@@ -76,13 +86,9 @@ RECORDS = 9632
 abbrev pub RECORD-FIELDS : ℕ
 RECORD-FIELDS = 10144
 
--- 512 entries, a word each: the variable times 65,536 and the unknown
+-- 512 entries, a word each: the variable times 65,536 and the unknown; the words from 11,680 on are free
 abbrev pub ENV : ℕ
 ENV = 11168
-
--- 1,536 diagnostics, two to a word, the first in the low half: the node times 16 and the code
-abbrev pub DIAGNOSTICS : ℕ
-DIAGNOSTICS = 11680
 
 -- 512 node types, two words each: the tag, 0 for none, and the payload
 abbrev pub TYS : ℕ

@@ -4,6 +4,72 @@ ghost use Prim.Native.Nat.{_<_};
 ghost use lib.ListN.{length, getD, set, take, replicate};
 ghost use mathlib.Core.List.{_++_};
 ghost use Prim.Native.Nat.{_-_};
+ghost use Rattle.work.specs.Counted.{noCounters};
+
+// The run's counters, and its limits. `fields` counts the words of schema types' parts; `value` is one more than the number
+// of the name `value`, or 0.
+pub struct Counters {
+    pub names: u32,
+    pub types: u32,
+    pub predicates: u32,
+    pub nodes: u32,
+    pub fields: u32,
+    pub value: u32,
+    pub queries: u32,
+}
+
+impl Counters {
+    pub const FILE: usize = 65536;
+
+    pub const ANSWER: usize = 65536;
+
+    pub const WORDS: usize = 16384;
+
+    // bytes of a line
+    pub const LINE: usize = 512;
+
+    pub const VISITS: u32 = 1_048_576;
+
+    pub const NAMES: u32 = 256;
+
+    pub const TYPES: u32 = 256;
+
+    pub const PREDICATES: u32 = 128;
+
+    pub const NODES: u32 = 512;
+
+    pub const QUERIES: u32 = 64;
+
+    pub const FIELDS: u32 = 8192;
+
+    pub const UNKNOWNS: u32 = 512;
+
+    pub const RECORDS: u32 = 512;
+
+    pub const RECORD_FIELDS: u32 = 512;
+
+    pub const ENTRIES: u32 = 512;
+
+    // A visit of a node reports at most three.
+    pub const DIAGNOSTICS: u32 = 3 * Self::NODES;
+
+    // Each unknown is bound once and each node annotated once.
+    pub const UNDO: u32 = Self::UNKNOWNS + Self::NODES;
+
+    pub fn new() -> Self
+        ensures { λ r. ⌜ r ≡ noCounters ⌝ }
+    {
+        Self {
+            names: 0,
+            types: 0,
+            predicates: 0,
+            nodes: 0,
+            fields: 0,
+            value: 0,
+            queries: 0,
+        }
+    }
+}
 
 // ---- What a file said, written once by the reading.
 pub const NAME_COUNT: usize = 0;
@@ -24,42 +90,59 @@ pub const QUERY: usize = 7;
 
 pub const NAMES: usize = 16;
 
-pub const TYPES: usize = 272;
+pub const TYPES: usize = NAMES + Counters::NAMES as usize;
 
-pub const PREDICATES: usize = 784;
+pub const PREDICATES: usize = TYPES + 2 * Counters::TYPES as usize;
 
-pub const NODES: usize = 912;
+pub const NODES: usize = PREDICATES + Counters::PREDICATES as usize;
 
-pub const FIELDS: usize = 1424;
+pub const FIELDS: usize = NODES + Counters::NODES as usize;
 
-// ---- What a run makes.
-pub const RECORD_COUNT: usize = 9616;
+// ---- What a run makes: sixteen counters first.
+pub const RECORD_COUNT: usize = FIELDS + Counters::FIELDS as usize;
 
-pub const RECORD_FIELD_COUNT: usize = 9617;
+pub const RECORD_FIELD_COUNT: usize = RECORD_COUNT + 1;
 
-pub const ENV_LEN: usize = 9618;
+pub const ENV_LEN: usize = RECORD_COUNT + 2;
 
-pub const DIAGNOSTIC_COUNT: usize = 9619;
+pub const DIAGNOSTIC_COUNT: usize = RECORD_COUNT + 3;
 
-pub const UNKNOWNS: usize = 9620;
+pub const UNKNOWNS: usize = RECORD_COUNT + 4;
+// Where the next line of a diagnostic goes in the answer slice, in two words; and 1 where one had no room.
+pub const PLACE: usize = RECORD_COUNT + 5;
 
-pub const RECORDS: usize = 9632;
+pub const PLACE_HIGH: usize = RECORD_COUNT + 6;
 
-pub const RECORD_FIELDS: usize = 10144;
+pub const FULL: usize = RECORD_COUNT + 7;
 
-pub const ENV: usize = 11168;
+pub const RECORDS: usize = RECORD_COUNT + 16;
 
-pub const DIAGNOSTICS: usize = 11680;
+pub const RECORD_FIELDS: usize = RECORDS + Counters::RECORDS as usize;
 
-pub const TYS: usize = 12448;
+pub const ENV: usize = RECORD_FIELDS + 2 * Counters::RECORD_FIELDS as usize;
 
-pub const UNDO_LEN: usize = 13472;
+// The words between the environment and the node types are free.
+pub const TYS: usize = ENV + Counters::ENTRIES as usize + 768;
 
-pub const BINDINGS: usize = 13473;
+pub const UNDO_LEN: usize = TYS + 2 * Counters::NODES as usize;
 
-pub const UNDO: usize = 14497;
+pub const BINDINGS: usize = UNDO_LEN + 1;
 
-pub const END: usize = 15521;
+pub const UNDO: usize = BINDINGS + 2 * Counters::UNKNOWNS as usize;
+
+pub const END: usize = UNDO + Counters::UNDO as usize;
+
+mod packed;
+
+pub use packed::above_tag;
+pub use packed::part;
+pub use packed::part_name;
+pub use packed::part_type;
+pub use packed::run_first;
+pub use packed::run_of;
+pub use packed::run_size;
+pub use packed::tag_in;
+pub use packed::with_tag;
 
 pub fn wide(x: u32) -> usize
     ensures { λ r. ⌜ (r ≡ x) × (r < 4294967296) ⌝ }

@@ -1,8 +1,9 @@
 //! Links the port's static libraries where they are there, and tells which of their calls exist.
 //!
-//! `SIGLA_LIB` names the checker's library and `CALLS_LIB` the one of the calls on the substitution;
-//! without them libsigla_lib.a and libcalls.a in target/staticlib at the repository's top are taken, if
-//! they are there.
+//! `SIGLA_LIB` names the checker's library, `READING_LIB` the one of the reading, `CALLS_LIB` the one of the
+//! calls on the substitution and `TEXT_LIB` the one of the two text tests; without them libsigla_lib.a,
+//! libreading_calls.a, libcalls.a and libtext_calls.a in target/staticlib at the repository's top are
+//! taken, if they are there.
 
 use std::env;
 use std::fs;
@@ -12,7 +13,8 @@ use std::path::{Path, PathBuf};
 const WHOLE: [&str; 2] = ["sigla_check", "sigla_read"];
 
 /// These go together: the cfg `sigla_calls` is for all.
-const CALLS: [&str; 7] = [
+const CALLS: [&str; 8] = [
+    "sigla_begin",
     "sigla_fresh",
     "sigla_reserve",
     "sigla_put_field",
@@ -22,17 +24,28 @@ const CALLS: [&str; 7] = [
     "sigla_unify",
 ];
 
+/// These too, by the cfg `sigla_texts`.
+const TEXTS: [&str; 2] = ["sigla_characters", "sigla_characters_by_table"];
+
 fn main() {
-    for cfg in WHOLE.iter().chain(&["sigla_calls"]) {
+    for cfg in WHOLE.iter().chain(&["sigla_calls", "sigla_texts"]) {
         println!("cargo::rustc-check-cfg=cfg({cfg})");
     }
     let whole = Library::find("SIGLA_LIB", "libsigla_lib.a");
+    let reading = Library::find("READING_LIB", "libreading_calls.a");
     let calls = Library::find("CALLS_LIB", "libcalls.a");
-    if let Some(whole) = &whole {
-        for call in WHOLE.iter().filter(|call| whole.has(call)) {
+    for library in [&whole, &reading].into_iter().flatten() {
+        for call in WHOLE.iter().filter(|call| library.has(call)) {
             println!("cargo::rustc-cfg={call}");
         }
-        whole.link();
+        library.link();
+    }
+
+    if let Some(texts) = Library::find("TEXT_LIB", "libtext_calls.a")
+        && TEXTS.iter().all(|call| texts.has(call))
+    {
+        println!("cargo::rustc-cfg=sigla_texts");
+        texts.link();
     }
 
     // Of two libraries with the same call one alone is linked, so that no symbol is there twice. What

@@ -1,4 +1,4 @@
--- Made from Proof.ans by tools/answers, ac0a79906f04bb5d.
+-- Made from Proof.ans by tools/answers, 5e3f22237b47cfbf ead7c99961b74ea7.
 -- What stands before the parts is written first, so the room left falls. To write the parts from j on is to write them all.
 use Prim.Native.Nat.{ℕ, _<_, _-_}
 use borrow.Fn.Kinds.{In}
@@ -18,7 +18,7 @@ use native.Mathlib.Omega.{arith}
 use mathlib.Core.Path.{refl}
 use denote.Ref.{now}
 use lib.ListN.{length}
-use Rattle.answer.proofs.Writing.{writes-moves}
+use Rattle.writer.proofs.Writing.{writes-moves}
 use Rattle.answer.proofs.Resolving.{head-moves, Typing, typing-start, typing-next, typing-full, typing-done, typing-stops, typing-ends}
 
 abbrev μ-ty : Measures 2 ty-kinds.ps ℕ

@@ -1,4 +1,4 @@
--- Made from Proof.ans by tools/answers, ebdf4788d84c81c2.
+-- Made from Proof.ans by tools/answers, ebdf4788d84c81c2 8d37aab464b1b32f.
 -- The number, then what the node was found to be.
 use borrow.Author.Needs.{needs}
 use Rattle.answer.proofs.node.Statement.{statement}
@@ -6,7 +6,7 @@ use Rattle.answer.proofs.node.Tie as tie
 use Rattle.answer.proofs.node.Reads as reads
 use Rattle.answer.proofs.node.Lts as lts
 use Rattle.answer.proofs.slot.Reads as slot-reads
-use Rattle.answer.proofs.tagged.Reads as tagged-reads
+use Rattle.writer.proofs.tagged.Reads as tagged-reads
 use native.Mathlib.Omega.{arith}
 use Rattle.answer.proofs.Noding.{node-then, node-full}
 

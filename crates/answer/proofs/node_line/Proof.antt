@@ -1,11 +1,11 @@
--- Made from Proof.ans by tools/answers, 4c04e11bfd27763f.
+-- Made from Proof.ans by tools/answers, 4c04e11bfd27763f b270a8ebab0831be.
 -- The digits, then LF.
 use borrow.Author.Needs.{needs}
 use Rattle.answer.proofs.node_line.Statement.{statement}
 use Rattle.answer.proofs.node_line.Tie as tie
 use Rattle.answer.proofs.node_line.Reads as reads
 use Rattle.answer.proofs.node_line.Lts as lts
-use Rattle.answer.proofs.close.Reads as close-reads
+use Rattle.writer.proofs.close.Reads as close-reads
 use Rattle.answer.proofs.node.Reads as node-reads
 use native.Mathlib.Omega.{arith}
 use Rattle.answer.proofs.Noding.{line-then, line-full}

@@ -1,18 +1,18 @@
--- Made from Proof.ans by tools/answers, 22640cb87999862e.
+-- Made from Proof.ans by tools/answers, 0d1c18e67bd123c8 6faf9f1f834b55ce.
 -- In a record the name stands before the type, in a union the name and then the discriminant.
 use borrow.Author.Needs.{needs}
 use Rattle.answer.proofs.part_head.Statement.{statement}
 use Rattle.answer.proofs.part_head.Tie as tie
 use Rattle.answer.proofs.part_head.Reads as reads
 use Rattle.answer.proofs.part_head.Lts as lts
-use Rattle.answer.proofs.full.Reads as full-reads
-use Rattle.answer.proofs.half.Reads as half-reads
+use Rattle.writer.proofs.full.Reads as full-reads
+use Rattle.writer.proofs.half.Reads as half-reads
 use native.Mathlib.Omega.{arith}
 use mathlib.Core.Path.{ap}
 use Rattle.meaning.specs.Answer.{cellHead, bytes₂, bytes₄}
-use Rattle.answer.specs.Writes.{hexOf}
-use Rattle.answer.proofs.Writing.{writes-as}
-use Rattle.answer.proofs.Digits.{hex-then, hex-full}
+use Rattle.writer.specs.Writes.{hexOf}
+use Rattle.writer.proofs.Writing.{writes-as}
+use Rattle.writer.proofs.Digits.{hex-then, hex-full}
 use Rattle.answer.proofs.Resolving.{plain-head}
 
 returns : tie.Need-returns

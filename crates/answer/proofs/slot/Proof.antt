@@ -1,11 +1,11 @@
--- Made from Proof.ans by tools/answers, df526387f6d5fda9.
+-- Made from Proof.ans by tools/answers, df526387f6d5fda9 3af62eded5bf7fc7.
 -- The node's two words stand for none or for a type.
 use borrow.Author.Needs.{needs}
 use Rattle.answer.proofs.slot.Statement.{statement}
 use Rattle.answer.proofs.slot.Tie as tie
 use Rattle.answer.proofs.slot.Reads as reads
 use Rattle.answer.proofs.slot.Lts as lts
-use Rattle.answer.proofs.byte.Reads as byte-reads
+use Rattle.writer.proofs.byte.Reads as byte-reads
 use Rattle.answer.proofs.ty.Reads as ty-reads
 use Rattle.cells.proofs.ty_of.Reads as ty-of-reads
 use Rattle.work.proofs.wide.Reads as wide-reads

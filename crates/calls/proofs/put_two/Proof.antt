@@ -1,4 +1,4 @@
--- Made from Proof.ans by tools/answers, 1c74a10ebaf0d5ed.
+-- Made from Proof.ans by tools/answers, 1c74a10ebaf0d5ed 3f5c979f2d0840c9.
 -- One word after the other.
 use borrow.Author.Needs.{needs}
 use Rattle.calls.proofs.put_two.Statement.{statement}

@@ -1,4 +1,4 @@
--- Made from Proof.ans by tools/answers, 78c19b35ad34c21c.
+-- Made from Proof.ans by tools/answers, 78c19b35ad34c21c d6edbf129416aa3e.
 -- The cell is the payload of the record.
 use borrow.Author.Needs.{needs}
 use Rattle.calls.proofs.sigla_new_record.Statement.{statement}

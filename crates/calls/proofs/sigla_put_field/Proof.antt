@@ -1,4 +1,4 @@
--- Made from Proof.ans by tools/answers, 06494ebc654df708.
+-- Made from Proof.ans by tools/answers, 06494ebc654df708 88f02892ad34b2f6.
 -- The type is what its tag and payload say.
 use borrow.Author.Needs.{needs}
 use Rattle.calls.proofs.sigla_put_field.Statement.{statement}

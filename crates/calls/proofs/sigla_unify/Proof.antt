@@ -1,4 +1,4 @@
--- Made from Proof.ans by tools/answers, 85d40b900976e6f0.
+-- Made from Proof.ans by tools/answers, 85d40b900976e6f0 b93289fe8c367293.
 -- The answer is that of `unify`, told by its case.
 use borrow.Author.Needs.{needs}
 use Rattle.calls.proofs.sigla_unify.Statement.{statement}
@@ -9,7 +9,7 @@ use Rattle.calls.proofs.field.Reads as field-reads
 use Rattle.calls.proofs.put_two.Reads as put-two-reads
 use Rattle.calls.proofs.reason.Reads as reason-reads
 use Rattle.cells.proofs.ty_of.Reads as ty-of-reads
-use Rattle.cells.proofs.unify.Reads as unify-reads
+use Rattle.unify.proofs.unify.Reads as unify-reads
 use native.Mathlib.Omega.{arith}
 use mathlib.Core.Path.{_∙_, ap, sym}
 

@@ -1,4 +1,4 @@
--- Made from Proof.ans by tools/answers, ad72d81e9a5da851.
+-- Made from Proof.ans by tools/answers, 7f29ce522627d6fe 261e992563397ba4.
 -- A call costs a visit, so the visits left fall. The answer for the row is the answer for the rest from j on.
 use Prim.Native.Nat.{ℕ, _<_, _-_}
 use borrow.Fn.Kinds.{In}
@@ -8,14 +8,14 @@ use Rattle.cells.proofs.occurs.Kinds as occurs-kinds
 use Rattle.cells.proofs.+occurs.Lts-occurs as occurs-lts
 use Rattle.cells.proofs.is_unknown.Reads as is-unknown-reads
 use Rattle.cells.proofs.part_count.Reads as part-count-reads
-use Rattle.cells.proofs.part_of.Reads as part-of-reads
+use Rattle.cells.proofs.part_ty.Reads as part-ty-reads
 use Rattle.cells.proofs.repr.Reads as repr-reads
 use Rattle.cells.proofs.+occurs.{statement}
 use Rattle.cells.proofs.+occurs.Tie.{close}
 use borrow.Author.Needs.{needs}
 use native.Mathlib.Omega.{arith}
 use mathlib.Core.Path.{sym, _∙_}
-use Rattle.cells.proofs.Asking.{no-visit, Occurring, occurring-start, occurring-next, occurring-yes, occurring-ends, occurring-none}
+use Rattle.cells.proofs.Asking.{no-visit, Any, asks, Asking, asking-start, occurring-next, occurring-yes, occurring-ends, occurring-none}
 
 abbrev μ-occurs : Measures 1 occurs-kinds.ps ℕ
 μ-occurs κs a = a .1 .1 .1 .0
@@ -27,7 +27,7 @@ abbrev occurs-below : ℕ → In 1 occurs-kinds.ps
 occurs-below t = and 1 occurs-kinds.ps (falls 1 occurs-kinds.ps _<_ μ-occurs t) occurs.Pre
 
 abbrev occurs-Inv-loop : occurs-lts.InvT-loop
-occurs-Inv-loop w x left u rest₀ n j₀ rest j = Occurring w x u (left - 1) n j rest
+occurs-Inv-loop w x left u rest₀ n j₀ rest j = Asking Any (asks x) w u (left - 1) n j rest
 
 abbrev occurs-μ-loop : occurs-lts.MeasureT-loop
 occurs-μ-loop w x left u rest₀ n j₀ rest j = n - j
@@ -40,8 +40,8 @@ pub +occurs-spec : {M : Type 1} → statement M
   is-unknown-reads.Learnt,
   part-count-reads.Asked,
   part-count-reads.Learnt,
-  part-of-reads.Asked,
-  part-of-reads.Learnt,
+  part-ty-reads.Asked,
+  part-ty-reads.Learnt,
   occurs-below t,
   occurs.Post,
 )
@@ -53,14 +53,14 @@ pub +occurs-spec : {M : Type 1} → statement M
     (λ c κs. search needs)
     (λ c. search needs)
     (λ c κs. search needs)
-    (λ c. occurring-yes (c .before .before .before .if1 .left) _ (c .before .before .repr .ensures) (sym (c .if2 .taken) ∙ c .before .is-unknown .ensures))
+    (λ c. occurring-yes (c .before .before .before .if1 .left) (c .before .before .repr .ensures) (sym (c .if2 .taken) ∙ c .before .is-unknown .ensures))
     (λ c κs. search needs)
-    (λ c. occurring-start _ _ _ _ _ (c .part-count .ensures))
+    (λ c. asking-start _ _ _ _ _ _ (c .part-count .ensures))
     (λ c κs. search needs)
     (λ c κs. omega (arith, c .before .before .loop .inv .fewer))
     (λ c. search needs)
-    (λ c. occurring-ends (c .before .before .before .before .before .before .before .before .before .if1 .left) _ (c .before .before .before .before .before .before .before .before .repr .ensures) (c .before .before .before .before .loop .inv) (c .before .before .part-of .result) (c .before .before .before .loop-test .taken) (c .before .before .part-of .ensures) (c .before .occurs .ensures) (c .match .keys2))
+    (λ c. occurring-ends (c .before .before .before .before .before .before .before .before .before .if1 .left) (c .before .before .before .before .before .before .before .before .repr .ensures) (c .before .before .before .before .loop .inv) (c .before .before .part-ty .result) (c .before .before .before .loop-test .taken) (c .before .before .part-ty .ensures) (c .before .occurs .ensures) (c .match .keys2))
     (λ c. search needs)
     (λ c. omega arith)
-    (λ c. occurring-next _ (c .before .before .before .before .before .before .loop .inv) (c .before .before .before .before .part-of .result) (c .before .before .before .before .before .loop-test .taken) (c .before .before .before .before .part-of .ensures) (c .before .before .before .occurs .ensures) (c .before .r .given .0 .0) (c .before .r .given .1))
-    (λ c. occurring-none (c .before .before .before .before .before .before .if1 .left) _ (c .before .before .before .before .before .repr .ensures) (sym (c .before .before .before .if2 .left) ∙ c .before .before .before .before .is-unknown .ensures) (c .before .loop .inv) (c .loop-test .left))
+    (λ c. occurring-next (c .before .before .before .before .before .before .loop .inv) (c .before .before .before .before .part-ty .result) (c .before .before .before .before .before .loop-test .taken) (c .before .before .before .before .part-ty .ensures) (c .before .before .before .occurs .ensures) (c .before .r .given .0 .0) (c .before .r .given .1))
+    (λ c. occurring-none (c .before .before .before .before .before .before .if1 .left) (c .before .before .before .before .before .repr .ensures) (c .before .loop .inv) (sym (c .before .before .before .if2 .left) ∙ c .before .before .before .before .is-unknown .ensures) (c .loop-test .left))

@@ -1,4 +1,4 @@
--- Made from Proof.ans by tools/answers, b4ecfbcc2f1266de.
+-- Made from Proof.ans by tools/answers, b4ecfbcc2f1266de 872e349996f6d7e3.
 -- The test is the one of `annotateW`; the writes one after another are `putTy` and `pushUndoW`.
 use borrow.Author.Needs.{needs}
 use Rattle.cells.proofs.annotate.Statement.{statement}

@@ -1,4 +1,4 @@
--- Made from Proof.ans by tools/answers, 242ffca9da1f8318.
+-- Made from Proof.ans by tools/answers, 242ffca9da1f8318 ab0f2c4a5388cbc0.
 -- What is sought in the row is what is sought in the rest from j on; the measure is what is left of the parts.
 use Rattle.cells.proofs.find_name.Statement.{statement}
 use Rattle.cells.proofs.find_name.Tie as tie

@@ -1,4 +1,4 @@
--- Made from Proof.ans by tools/answers, 17765c3575b808df.
+-- Made from Proof.ans by tools/answers, 17765c3575b808df e1a0e5e17697db1e.
 -- What is left to follow from `at` is what the whole would follow; the measure is the number of steps left.
 use Rattle.cells.proofs.follow_any.Statement.{statement}
 use Rattle.cells.proofs.follow_any.Tie as tie

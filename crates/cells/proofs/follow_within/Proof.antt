@@ -1,4 +1,4 @@
--- Made from Proof.ans by tools/answers, 6a5c2b09f9d07065.
+-- Made from Proof.ans by tools/answers, 6a5c2b09f9d07065 517c2d2f5a317484.
 -- What is left to follow from x is what the whole would follow; the measure is the number of steps left. The bindings of the
 -- unknowns end where the undo log starts.
 use Rattle.cells.proofs.follow_within.Statement.{statement}

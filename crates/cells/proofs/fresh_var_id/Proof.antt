@@ -1,4 +1,4 @@
--- Made from Proof.ans by tools/answers, 5589fdafd7ea02dc.
+-- Made from Proof.ans by tools/answers, 5589fdafd7ea02dc 1830b2aca4cef689.
 -- The word read is the number of unknowns, and the test the one of `freshW`.
 use borrow.Author.Needs.{needs}
 use Rattle.cells.proofs.fresh_var_id.Statement.{statement}

@@ -1,4 +1,4 @@
--- Made from Proof.ans by tools/answers, 8911a10c076af636.
+-- Made from Proof.ans by tools/answers, 8911a10c076af636 6e3ea8b9900e38e6.
 -- By the match.
 use borrow.Author.Needs.{needs}
 use Rattle.cells.proofs.is_unknown.Statement.{statement}

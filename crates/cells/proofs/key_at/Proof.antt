@@ -1,4 +1,4 @@
--- Made from Proof.ans by tools/answers, 520ef7e0cd0713a1.
+-- Made from Proof.ans by tools/answers, 0120f14f92f433ba 6198ece6e946129c.
 -- The words are those that `fieldW` and `alternativeW` read the key from.
 use borrow.Author.Needs.{needs}
 use Rattle.cells.proofs.key_at.Statement.{statement}
@@ -6,6 +6,8 @@ use Rattle.cells.proofs.key_at.Tie as tie
 use Rattle.cells.proofs.key_at.Reads as reads
 use Rattle.cells.proofs.key_at.Lts as lts
 use Rattle.cells.proofs.first.Reads as first-reads
+use Rattle.work.proofs.above_tag.Reads as above-tag-reads
+use Rattle.work.proofs.part_name.Reads as part-name-reads
 use Rattle.work.proofs.wide.Reads as wide-reads
 use Rattle.work.proofs.word.Reads as word-reads
 use native.Mathlib.Omega.{arith}
@@ -14,11 +16,11 @@ use Rattle.cells.specs.Words.{partW, fieldW, declaredField, madeField, a
 
 returns : tie.Need-returns
 unfolding fieldW declaredField
-returns c = rw (c .before .before .before .before .enum-told .given .1) (simp (lt-ltb _ _ (c .before .before .before .if1 .taken), c .word .ensures, c .before .before .first .ensures .0, c .before .wide .ensures .0))
+returns c = rw (c .before .before .before .before .before .enum-told .given .1) (simp (lt-ltb _ _ (c .before .before .before .before .if1 .taken), c .part-name .ensures, c .before .word .ensures, c .before .before .before .first .ensures .0, c .before .before .wide .ensures .0))
 
 returns-2 : tie.Need-returns-2
 unfolding fieldW madeField
-returns-2 c = rw (c .before .before .before .before .enum-told .given .1) (simp (le-ltb _ _ (c .before .before .before .if1 .left), c .word2 .ensures, c .before .before .first2 .ensures .0, c .before .wide2 .ensures .0))
+returns-2 c = rw (c .before .before .before .before .before .enum-told .given .1) (simp (le-ltb _ _ (c .before .before .before .before .if1 .left), c .above-tag .ensures, c .before .word2 .ensures, c .before .before .before .first2 .ensures .0, c .before .before .wide2 .ensures .0))
 
 returns-3 : tie.Need-returns-3
 unfolding alternativeW
@@ -36,9 +38,11 @@ key-at-spec =
     (λ c κs. search needs)
     (λ c κs. search needs)
     (λ c κs. search needs)
+    (λ c κs. search needs)
     (λ c. search needs)
     (λ c. search needs)
     (λ c. search needs)
+    (λ c κs. search needs)
     (λ c κs. search needs)
     (λ c. search needs)
     (λ c κs. search needs)

@@ -1,4 +1,4 @@
--- Made from Proof.ans by tools/answers, 6979e5694f90c682.
+-- Made from Proof.ans by tools/answers, 6979e5694f90c682 4fe816baad09433b.
 -- `partW` goes by the kind, as the match does.
 use borrow.Author.Needs.{needs}
 use Rattle.cells.proofs.part_at.Statement.{statement}

@@ -1,4 +1,4 @@
--- Made from Proof.ans by tools/answers, ec9e5ea433a518a3.
+-- Made from Proof.ans by tools/answers, ec9e5ea433a518a3 397c7f5dd82471de.
 -- By the match.
 use borrow.Author.Needs.{needs}
 use Rattle.cells.proofs.part_count.Statement.{statement}

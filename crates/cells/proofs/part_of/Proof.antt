@@ -1,4 +1,4 @@
--- Made from Proof.ans by tools/answers, 3020cf3a65b0ac08.
+-- Made from Proof.ans by tools/answers, 3020cf3a65b0ac08 798caaf667a4a1d2.
 -- By the match.
 use borrow.Author.Needs.{needs}
 use Rattle.cells.proofs.part_of.Statement.{statement}

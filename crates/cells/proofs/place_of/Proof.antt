@@ -1,4 +1,4 @@
--- Made from Proof.ans by tools/answers, d25adcb156f12c25.
+-- Made from Proof.ans by tools/answers, 513ab68a270f96ea 2eebcca6b77e8f6f.
 -- What is sought in the row is what is sought in the rest from j on; the measure is what is left of the parts.
 use Rattle.cells.proofs.place_of.Statement.{statement}
 use Rattle.cells.proofs.place_of.Tie as tie
@@ -27,7 +27,7 @@ place-of-spec =
     (λ c κs. search needs)
     (λ c. seek-start _ _ _ _ _ (c .count .ensures))
     (λ c κs. search needs)
-    (λ c. key-here (c .before .before .before .loop .inv) (c .before .key-at .result) (c .before .key-at .ensures) (c .if1 .taken))
+    (λ c. key-here (c .before .before .before .loop .inv) (c .before .key-at .result) (c .before .before .loop-test .taken) (c .before .key-at .ensures) (c .if1 .taken))
     (λ c. search needs)
     (λ c. search needs)
     (λ c. key-past (c .before .before .before .loop .inv) (c .before .key-at .result) (c .before .before .loop-test .taken) (c .before .key-at .ensures) (c .if1 .left))

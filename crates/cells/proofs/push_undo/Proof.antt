@@ -1,4 +1,4 @@
--- Made from Proof.ans by tools/answers, 9b64a1e802967cc9.
+-- Made from Proof.ans by tools/answers, 9b64a1e802967cc9 135a4c30aa7e8208.
 -- The word read is the length of the log, and the test the one of `pushUndoW`.
 use borrow.Author.Needs.{needs}
 use Rattle.cells.proofs.push_undo.Statement.{statement}

@@ -1,4 +1,4 @@
--- Made from Proof.ans by tools/answers, 425e224ef1986a90.
+-- Made from Proof.ans by tools/answers, 425e224ef1986a90 aa75014b770b2ae3.
 -- No unknown, a free one, or one bound to no unknown is told at once; else the chain is followed.
 use borrow.Author.Needs.{needs}
 use Rattle.cells.proofs.repr.Statement.{statement}

@@ -1,4 +1,5 @@
--- Made from Proof.ans by tools/answers, 8e3006cd7f03e8fc.
+-- Made from Proof.ans by tools/answers, 99ce2af284c981cf 38f02c1b27841947.
+-- Each turn takes the newest entry back; the measure is the log's length.
 use Rattle.cells.proofs.rollback.Statement.{statement}
 use Rattle.cells.proofs.rollback.Tie as tie
 use Rattle.cells.proofs.rollback.Reads as reads
@@ -34,6 +35,6 @@ rollback-spec =
     (λ c κs. search needs)
     (λ c κs. search needs)
     (λ c. omega arith)
-    (λ c. (roll-next (c .before .before .before .before .before .before .before .before .before .before .before .before .loop .inv .0) (c .before .before .put .last .0) (c .before .before .before .before .before .before .before .before .before .before .before .before .loop .n - 1) (omega arith) (c .before .before .before .before .before .before .before .before .before .before .before .loop-test .taken) (c .before .before .put .ensures ∙ rw (c .before .before .before .before .before .before .revert .ensures, c .before .before .before .before .before .before .before .before .word2 .ensures, c .before .before .before .before .before .before .before .before .before .wide .ensures .0)) (c .before .before .put .kept .0 ∙ c .before .before .before .before .before .before .revert .kept .0), omega arith))
-    (λ c. c .before .loop .inv .0 .long)
+    (λ c. (roll-next (c .before .before .before .before .before .before .before .before .before .before .before .before .loop .inv .0) (c .before .before .put .last .0) (c .before .before .before .before .before .before .before .before .before .before .before .before .loop .n - 1) (omega arith) (c .before .before .before .before .before .before .before .before .before .before .before .loop-test .taken) (c .before .before .put .ensures ∙ rw (c .before .before .before .before .before .before .revert .ensures, c .before .before .before .before .before .before .before .before .word2 .ensures, c .before .before .before .before .before .before .before .before .before .wide .ensures .0)), omega arith))
+    (λ c. c .before .loop .inv .0 .keeps .long)
     (λ c. roll-end (c .before .loop .inv .0) (c .loop-test .left)))

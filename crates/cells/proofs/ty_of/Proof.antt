@@ -1,4 +1,4 @@
--- Made from Proof.ans by tools/answers, 2b85d137806fe67f.
+-- Made from Proof.ans by tools/answers, 2b85d137806fe67f 5729fa6b9b57694e.
 -- The arms of the match are the cases of `tyW`; in the last each test of a tag is false.
 use Rattle.cells.proofs.ty_of.Statement.{statement}
 use Rattle.cells.proofs.ty_of.Tie as tie

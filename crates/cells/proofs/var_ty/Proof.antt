@@ -1,4 +1,4 @@
--- Made from Proof.ans by tools/answers, 8bcd0121dc6abe20.
+-- Made from Proof.ans by tools/answers, 8bcd0121dc6abe20 373c15e848a3359e.
 -- The tests are those of `boundW` and `slotW`.
 use borrow.Author.Needs.{needs}
 use Rattle.cells.proofs.var_ty.Statement.{statement}

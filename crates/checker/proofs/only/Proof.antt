@@ -1,4 +1,4 @@
--- Made from Proof.ans by tools/answers, bd01a120fb8223a8.
+-- Made from Proof.ans by tools/answers, bd01a120fb8223a8 ed88c0e6803109ee.
 -- `checker::only` meets its contract: an arm for each variant.
 use borrow.Author.Needs.{needs}
 use Rattle.checker.proofs.only.Statement.{statement}

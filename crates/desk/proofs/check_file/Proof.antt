@@ -1,4 +1,4 @@
--- Made from Proof.ans by tools/answers, db88ef9d299b21c0.
+-- Made from Proof.ans by tools/answers, db88ef9d299b21c0 2d4dfa5d77e11fb1.
 -- `desk::check_file` meets its contract: what `run` left, cleared.
 use borrow.Author.Needs.{needs}
 use Rattle.desk.proofs.check_file.Statement.{statement}

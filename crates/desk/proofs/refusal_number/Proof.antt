@@ -1,4 +1,4 @@
--- Made from Proof.ans by tools/answers, 2f2e8da86ef73c81.
+-- Made from Proof.ans by tools/answers, ae297eebac95663d dd95541158ed32df.
 -- `desk::refusal_number` meets its contract: each arm is one row of the table.
 use borrow.Author.Needs.{needs}
 use Rattle.desk.proofs.refusal_number.Statement.{statement}
@@ -58,10 +58,15 @@ returns-12 : tie.Need-returns-12
 unfolding Refused.number
 returns-12 c = sym (ap (λ e. Refused.number (refusal e)) (c .enum-told12 .given .1))
 
+returns-13 : tie.Need-returns-13
+unfolding Refused.number
+returns-13 c = sym (ap (λ e. Refused.number (refusal e)) (c .enum-told13 .given .1))
+
 pub refusal-number-spec : {M : Type 1} → statement M
 refusal-number-spec =
     tie.close
     (tie.spec
+    (λ c. search needs)
     (λ c. search needs)
     (λ c. search needs)
     (λ c. search needs)
@@ -85,4 +90,5 @@ refusal-number-spec =
     returns-9
     returns-10
     returns-11
-    returns-12)
+    returns-12
+    returns-13)

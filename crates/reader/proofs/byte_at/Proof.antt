@@ -1,4 +1,4 @@
--- Made from Proof.ans by tools/answers, 23ab96a32b3e87da.
+-- Made from Proof.ans by tools/answers, 23ab96a32b3e87da 290c6c62f492b7cb.
 -- `reader::byte_at` meets its contract: the index moves where the line goes on.
 use borrow.Author.Needs.{needs}
 use Rattle.reader.proofs.byte_at.Statement.{statement}

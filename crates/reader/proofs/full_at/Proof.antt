@@ -1,4 +1,4 @@
--- Made from Proof.ans by tools/answers, c3c83d677672b9da.
+-- Made from Proof.ans by tools/answers, c3c83d677672b9da b10d0f185ddf1fc2.
 -- `reader::full_at` meets its contract: the index moves where the line goes on.
 use borrow.Author.Needs.{needs}
 use Rattle.reader.proofs.full_at.Statement.{statement}

@@ -1,4 +1,4 @@
--- Made from Proof.ans by tools/answers, 01f9da56463f8b96.
+-- Made from Proof.ans by tools/answers, 728dc5761a077049 5fb553775aeacd31.
 -- `reader::half_at` meets its contract: the index moves where the line goes on.
 use borrow.Author.Needs.{needs}
 use Rattle.reader.proofs.half_at.Statement.{statement}
@@ -10,4 +10,4 @@ use native.Mathlib.Omega.{arith}
 use Rattle.reader.proofs.Moving.{taken-within, taken-past}
 
 pub half-at-spec : {M : Type 1} → statement M
-half-at-spec = tie.close (tie.spec (λ c κs. search needs) (λ c. search needs) (λ c. taken-within (c .before .before .before .args .line .now) (c .before .before .before .args .at) 2 (c .before .half .ensures .0) (c .if1 .taken)) (λ c. taken-past (c .before .before .before .args .line .now) (c .before .before .before .args .at) 2 (c .before .half .ensures .0) (c .if1 .left)))
+half-at-spec = tie.close (tie.spec (λ c κs. search needs) (λ c. search needs) (λ c. (taken-within (c .before .before .before .args .line .now) (c .before .before .before .args .at) 2 (c .before .half .ensures .0) (c .if1 .taken), search needs)) (λ c. (taken-past (c .before .before .before .args .line .now) (c .before .before .before .args .at) 2 (c .before .half .ensures .0) (c .if1 .left), search needs)))

@@ -1,4 +1,4 @@
--- Made from Proof.ans by tools/answers, 8213fdb6ebb56c49.
+-- Made from Proof.ans by tools/answers, 8213fdb6ebb56c49 7726102d1aef5ea0.
 -- `reading::is_full` meets its contract: each arm is one test of the list that the kind picks from.
 use Rattle.reading.proofs.is_full.Statement.{statement}
 use Rattle.reading.proofs.is_full.Tie as tie

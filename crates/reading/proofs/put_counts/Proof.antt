@@ -1,4 +1,4 @@
--- Made from Proof.ans by tools/answers, ab55816bed660394.
+-- Made from Proof.ans by tools/answers, ab55816bed660394 90824446d0f2770c.
 -- `reading::put_counts` meets its contract: one write after the other.
 use borrow.Author.Needs.{needs}
 use Rattle.reading.proofs.put_counts.Statement.{statement}

@@ -1,4 +1,4 @@
--- Made from Proof.ans by tools/answers, 9e3be27ccd612bb0.
+-- Made from Proof.ans by tools/answers, 9e3be27ccd612bb0 a3ee2d36662cc887.
 -- `reading::read_file` meets its contract: the two lengths come first, then the lines.
 use borrow.Author.Needs.{needs}
 use Rattle.reading.proofs.read_file.Statement.{statement}

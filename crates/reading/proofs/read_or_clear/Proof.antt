@@ -1,4 +1,4 @@
--- Made from Proof.ans by tools/answers, 63e4f3fe634dc84a.
+-- Made from Proof.ans by tools/answers, 63e4f3fe634dc84a 57ed872b4e79a919.
 -- `reading::read_or_clear` meets its contract: a refusal says nothing of the slice, so it may be cleared.
 use borrow.Author.Needs.{needs}
 use Rattle.reading.proofs.read_or_clear.Statement.{statement}

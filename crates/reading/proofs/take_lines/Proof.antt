@@ -1,4 +1,4 @@
--- Made from Proof.ans by tools/answers, 7dab0df5b6c82792.
+-- Made from Proof.ans by tools/answers, efef4bcf90a7ea45 0c9890625d5132ec.
 -- `reading::take_lines` meets its contract. The invariant: what was read so far is held, and reading what is left is reading the file. The
 -- measure is what is left of the file.
 use Rattle.reading.proofs.take_lines.Statement.{statement}
@@ -7,7 +7,7 @@ use Rattle.reading.proofs.take_lines.Reads as reads
 use Rattle.reading.proofs.take_lines.Lts as lts
 use Rattle.frames.proofs.kind_of.Reads as kind-of-reads
 use Rattle.frames.proofs.decode.Reads as decode-reads
-use Rattle.reading.proofs.Counters.new.Reads as new-reads
+use Rattle.work.proofs.Counters.new.Reads as new-reads
 use Rattle.reading.proofs.put_counts.Reads as put-counts-reads
 use Rattle.reading.proofs.take_line.Reads as take-line-reads
 use borrow.Author.Needs.{needs}
@@ -39,7 +39,7 @@ same-length : tie.Need-same-length Inv-loop μ-loop
 same-length c = search needs
 
 returns : tie.Need-returns Inv-loop μ-loop
-returns c = record { ends = midway-bad (c .before .before .before .before .before .loop .inv .2) (c .before .before .decode .ensures .fails (c .enum-told .given .1)) }
+returns c = record { ends = midway-bad (c .before .before .before .before .before .loop .inv .2) (c .before .before .decode .ensures .fails (c .enum-told .given .1) (c .before .before .before .before .loop-test .taken)) }
 
 enum-known-got : tie.Need-enum-known-got Inv-loop μ-loop
 enum-known-got c = search needs

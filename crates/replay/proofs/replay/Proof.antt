@@ -1,4 +1,4 @@
--- Made from Proof.ans by tools/answers, 0d5886f67999b739.
+-- Made from Proof.ans by tools/answers, 308db7029c85a987 c742a47832b2bba6.
 -- The replay ends: a sample has at most 65,536 cases. The slices keep their lengths.
 use Rattle.replay.proofs.replay.Statement.{statement}
 use Rattle.replay.proofs.replay.Tie as tie
@@ -10,11 +10,11 @@ use Rattle.std.proofs.num.wrapping_add_u64.Reads as wrapping-add-u64-reads
 use borrow.Author.Needs.{needs}
 use native.Mathlib.Omega.{arith}
 use Prim.Native.Nat.{_-_, _≤_}
-use mathlib.Core.Path.{_≡_, _∙_}
+use mathlib.Core.Path.{_≡_}
 use lib.ListN.{length}
 
 abbrev Inv-loop : tie.InvT-loop
-Inv-loop file₀ printed₀ work₀ out₀ cases₀ otherwise₀ file printed work out cases otherwise = (cases ≤ 65536) × (length file ≡ length file₀) × (length printed ≡ length printed₀) × (length work ≡ length work₀) × (length out ≡ length out₀)
+Inv-loop file₀ printed₀ work₀ out₀ cases₀ otherwise₀ file printed work out cases otherwise = (cases ≤ 65536) × (length file ≡ length file₀) × (length printed ≡ length printed₀)
 
 abbrev μ-loop : tie.MeasureT-loop
 μ-loop file₀ printed₀ work₀ out₀ cases₀ otherwise₀ file printed work out cases otherwise = 65536 - cases
@@ -32,17 +32,13 @@ replay-spec =
     (λ c κs. search needs)
     (λ c. search needs)
     (λ c κs. search needs)
-    (λ c. c .before .before .before .before .before .before .before .before .before .before .before .next-case .kept .0 ∙ c .before .before .before .before .before .before .before .before .before .before .before .before .before .before .before .before .before .loop .inv .1)
-    (λ c. c .before .before .before .before .before .before .before .before .before .before .before .next-case .kept .1 .0 ∙ c .before .before .before .before .before .before .before .before .before .before .before .before .before .before .before .before .before .loop .inv .2)
-    (λ c. c .before .before .before .before .before .before .before .before .before .before .before .next-case .kept .1 .1 .0 ∙ c .before .before .before .before .before .before .before .before .before .before .before .before .before .before .before .before .before .loop .inv .3)
-    (λ c. c .before .before .before .before .before .before .before .before .before .before .before .next-case .kept .1 .1 .1 .0 ∙ c .before .before .before .before .before .before .before .before .before .before .before .before .before .before .before .before .before .loop .inv .4)
     (λ c. search needs)
     (λ c. search needs)
     (λ c. search needs)
-    (λ c. (omega (arith, c .before .before .before .before .before .before .before .before .before .before .before .before .before .before .loop-test .taken), c .before .before .before .before .before .before .before .before .before .next-case .kept .0 ∙ c .before .before .before .before .before .before .before .before .before .before .before .before .before .before .before .loop .inv .1, c .before .before .before .before .before .before .before .before .before .next-case .kept .1 .0 ∙ c .before .before .before .before .before .before .before .before .before .before .before .before .before .before .before .loop .inv .2, c .before .before .before .before .before .before .before .before .before .next-case .kept .1 .1 .0 ∙ c .before .before .before .before .before .before .before .before .before .before .before .before .before .before .before .loop .inv .3, c .before .before .before .before .before .before .before .before .before .next-case .kept .1 .1 .1 .0 ∙ c .before .before .before .before .before .before .before .before .before .before .before .before .before .before .before .loop .inv .4))
+    (λ c. search needs)
+    (λ c. search needs)
+    (λ c. search needs)
     (λ c κs. search needs)
-    (λ c. c .before .before .loop .inv .1)
-    (λ c. c .before .before .loop .inv .2)
-    (λ c. c .before .before .loop .inv .3)
-    (λ c. c .before .before .loop .inv .4)
+    (λ c. search needs)
+    (λ c. search needs)
     (λ c. search needs))

@@ -1,4 +1,4 @@
--- Made from Proof.ans by tools/answers, abe4e6557b2a9d01.
+-- Made from Proof.ans by tools/answers, abe4e6557b2a9d01 3686e74ace722e9e.
 -- The outcome is that of `check_file`, told by its case.
 use borrow.Author.Needs.{needs}
 use Rattle.sigla_lib.proofs.sigla_check.Statement.{statement}

@@ -1,4 +1,4 @@
--- Made from Proof.ans by tools/answers, 5148b260cd9f9206.
+-- Made from Proof.ans by tools/answers, 5148b260cd9f9206 ae74329c698e4fcb.
 use borrow.Author.Needs.{needs}
 use Rattle.state.proofs.introduce.Statement.{statement}
 use Rattle.state.proofs.introduce.Tie as tie

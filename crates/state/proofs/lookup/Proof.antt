@@ -1,4 +1,4 @@
--- Made from Proof.ans by tools/answers, b7860208f97ae4e9.
+-- Made from Proof.ans by tools/answers, b7860208f97ae4e9 d7370541c2bc8ec8.
 use Rattle.state.proofs.lookup.Statement.{statement}
 use Rattle.state.proofs.lookup.Tie as tie
 use Rattle.state.proofs.lookup.Reads as reads

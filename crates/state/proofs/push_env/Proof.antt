@@ -1,4 +1,4 @@
--- Made from Proof.ans by tools/answers, a21a524ff6ea749c.
+-- Made from Proof.ans by tools/answers, a21a524ff6ea749c 087d0466541d894c.
 use borrow.Author.Needs.{needs}
 use Rattle.state.proofs.push_env.Statement.{statement}
 use Rattle.state.proofs.push_env.Tie as tie

@@ -1,4 +1,4 @@
--- Made from Proof.ans by tools/answers, cc789426006bc521.
+-- Made from Proof.ans by tools/answers, cc789426006bc521 8d573372e896cd9a.
 -- A record's fields are lower nodes, so the node number falls; the walk over the fields stands below the record. The answer for all
 -- fields is that for the fields from i on.
 use Prim.Native.Nat.{ℕ, _<_, _+_, _-_, _*_}

@@ -1,4 +1,4 @@
--- Made from Proof.ans by tools/answers, 434592421830da9b.
+-- Made from Proof.ans by tools/answers, 434592421830da9b fede6d0211193f1d.
 -- Six zeros, in the order of `countersW`.
 use borrow.Author.Needs.{needs}
 use Rattle.steps.proofs.begin_counters.Statement.{statement}

@@ -1,4 +1,4 @@
--- Made from Proof.ans by tools/answers, 8c7ea742f7647fbd.
+-- Made from Proof.ans by tools/answers, 8c7ea742f7647fbd a396160fb0ec26bf.
 -- The nodes before n have no type; the measure is the nodes left.
 use Rattle.steps.proofs.begin_types.Statement.{statement}
 use Rattle.steps.proofs.begin_types.Tie as tie

@@ -1,4 +1,4 @@
--- Made from Proof.ans by tools/answers, 582d94936c4704ee.
+-- Made from Proof.ans by tools/answers, 582d94936c4704ee 521ff09a333b88b7.
 -- Only a wildcard is rejected.
 use borrow.Author.Needs.{needs}
 use Rattle.steps.proofs.check_head.Statement.{statement}
@@ -18,6 +18,7 @@ check-head-spec =
     (λ c. search needs)
     (λ c κs. search needs)
     (λ c. search needs)
-    (λ c. head-wildcard (c .before .before .before .before .before .before .node-at .ensures) (c .before .before .before .before .enum-told .given .1) (c .before .before .reject .ensures))
+    (λ c. search needs)
+    (λ c. head-wildcard (c .before .before .before .before .before .before .before .before .before .node-at .ensures) (c .before .before .before .before .before .before .before .enum-told .given .1) (c .before .before .before .before .reject .ensures))
     (λ c. search needs)
     (λ c. head-other (c .before .node-at .ensures) (c .match .keys2)))

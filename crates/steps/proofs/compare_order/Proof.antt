@@ -1,11 +1,11 @@
--- Made from Proof.ans by tools/answers, 9d2de5a1a5b445fc.
+-- Made from Proof.ans by tools/answers, 9d2de5a1a5b445fc d2ad347d645dc37d.
 -- The definition's question for an order, and where there is none one diagnostic.
 use borrow.Author.Needs.{needs}
 use Rattle.steps.proofs.compare_order.Statement.{statement}
 use Rattle.steps.proofs.compare_order.Tie as tie
 use Rattle.steps.proofs.compare_order.Reads as reads
 use Rattle.steps.proofs.compare_order.Lts as lts
-use Rattle.cells.proofs.orderable.Reads as orderable-reads
+use Rattle.unify.proofs.orderable.Reads as orderable-reads
 use Rattle.state.proofs.reject.Reads as reject-reads
 use native.Mathlib.Omega.{arith}
 use Rattle.steps.proofs.Uniting.{order-yes, order-no, order-spent}
@@ -22,6 +22,7 @@ compare-order-spec =
     (λ c. search needs)
     (λ c. order-yes _ (c .before .before .before .orderable .ensures) (c .before .o .given .1))
     (λ c. search needs)
-    (λ c. order-no _ (c .before .before .before .before .before .before .before .orderable .ensures) (c .before .before .before .before .before .o2 .given .1) (c .before .before .reject .ensures))
+    (λ c. search needs)
+    (λ c. order-no _ (c .before .before .before .before .before .before .before .before .before .before .orderable .ensures) (c .before .before .before .before .before .before .before .before .o2 .given .1) (c .before .before .before .before .reject .ensures))
     (λ c. search needs)
     (λ c. order-spent _ (c .before .before .orderable .ensures) (c .enum-told .given .1)))

@@ -1,11 +1,11 @@
--- Made from Proof.ans by tools/answers, f66dd1d7eb0b1b2d.
+-- Made from Proof.ans by tools/answers, f66dd1d7eb0b1b2d da4b93e06d43b24e.
 -- The definition's unification, and then the order; where it fails one diagnostic.
 use borrow.Author.Needs.{needs}
 use Rattle.steps.proofs.compare_types.Statement.{statement}
 use Rattle.steps.proofs.compare_types.Tie as tie
 use Rattle.steps.proofs.compare_types.Reads as reads
 use Rattle.steps.proofs.compare_types.Lts as lts
-use Rattle.cells.proofs.unify.Reads as unify-reads
+use Rattle.unify.proofs.unify.Reads as unify-reads
 use Rattle.steps.proofs.compare_order.Reads as compare-order-reads
 use Rattle.steps.proofs.report.Reads as report-reads
 use native.Mathlib.Omega.{arith}
@@ -22,8 +22,10 @@ compare-types-spec =
     (λ c κs. search needs)
     (λ c. search needs)
     (λ c. search needs)
-    (λ c. compare-good _ _ (c .before .before .before .before .before .before .before .before .before .unify .ensures) (c .before .before .before .before .before .u .given .1) (c .before .before .compare-order .ensures))
     (λ c. search needs)
-    (λ c. compare-bad _ _ (c .before .before .before .before .before .before .before .before .before .unify .ensures) (c .before .before .before .before .before .u2 .given .1) (c .before .before .report .ensures))
+    (λ c. compare-good _ _ (c .before .before .before .before .before .before .before .before .before .before .before .before .unify .ensures) (c .before .before .before .before .before .before .before .before .u .given .1) (c .before .before .before .before .compare-order .ensures))
+    (λ c. search needs)
+    (λ c. search needs)
+    (λ c. compare-bad _ _ (c .before .before .before .before .before .before .before .before .before .before .before .before .unify .ensures) (c .before .before .before .before .before .before .before .before .u2 .given .1) (c .before .before .before .before .report .ensures))
     (λ c. search needs)
     (λ c. compare-spent _ _ (c .before .before .before .before .unify .ensures) (c .enum-told .given .1)))

@@ -1,4 +1,5 @@
--- Made from Proof.ans by tools/answers, fb2f8371e919fdea.
+-- Made from Proof.ans by tools/answers, fb2f8371e919fdea aa5341c3f83fd585.
+-- The field found is the definition's; where there is none, that is reported.
 use borrow.Author.Needs.{needs}
 use Rattle.steps.proofs.field_at.Statement.{statement}
 use Rattle.steps.proofs.field_at.Tie as tie
@@ -20,4 +21,5 @@ field-at-spec =
     (λ c. search needs)
     (λ c. field-at-found (c .before .before .before .field-of .ensures) _ (c .before .found .given .1))
     (λ c. search needs)
-    (λ c. field-at-none (c .before .before .before .before .before .before .field-of .ensures) (c .before .before .before .before .enum-told .given .1) (c .before .before .reject-ty .ensures)))
+    (λ c. search needs)
+    (λ c. field-at-none (c .before .before .before .before .before .before .before .before .before .field-of .ensures) (c .before .before .before .before .before .before .before .enum-told .given .1) (c .before .before .before .before .reject-ty .ensures)))

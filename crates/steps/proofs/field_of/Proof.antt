@@ -1,4 +1,4 @@
--- Made from Proof.ans by tools/answers, 061f3c27c3b21560.
+-- Made from Proof.ans by tools/answers, 061f3c27c3b21560 c13bea0952d1cc07.
 use borrow.Author.Needs.{needs}
 use Rattle.steps.proofs.field_of.Statement.{statement}
 use Rattle.steps.proofs.field_of.Tie as tie

@@ -1,4 +1,5 @@
--- Made from Proof.ans by tools/answers, 93933a417ae40684.
+-- Made from Proof.ans by tools/answers, 0225337091972327 5d7aaf3f481cfad9.
+-- The test is the one of `longW`.
 use borrow.Author.Needs.{needs}
 use Rattle.steps.proofs.fuzzy_term.Statement.{statement}
 use Rattle.steps.proofs.fuzzy_term.Tie as tie
@@ -8,16 +9,9 @@ use Rattle.state.proofs.reject.Reads as reject-reads
 use Rattle.work.proofs.wide.Reads as wide-reads
 use Rattle.work.proofs.word.Reads as word-reads
 use native.Mathlib.Omega.{arith}
+use mathlib.Core.Path.{refl}
 use borrow.Author.Tests.{lt-ltb, le-ltb}
-use Rattle.steps.specs.Outside.{fuzzyTermW}
-
-returns : tie.Need-returns
-unfolding fuzzyTermW
-returns c = simp (c .before .before .reject .ensures, lt-ltb _ _ (rw (c .before .before .before .before .before .before .before .before .word .ensures, c .before .before .before .before .before .word2 .ensures, c .before .before .before .before .before .before .wide .ensures .0) at (c .before .before .before .before .if1 .taken)))
-
-returns-2 : tie.Need-returns-2
-unfolding fuzzyTermW
-returns-2 c = simp (le-ltb _ _ (rw (c .before .before .before .before .word .ensures, c .before .word2 .ensures, c .before .before .wide .ensures .0) at (c .if1 .left)))
+use Rattle.steps.specs.Outside.{reported, stayed}
 
 pub fuzzy-term-spec : {M : Type 1} → statement M
 fuzzy-term-spec =
@@ -29,6 +23,7 @@ fuzzy-term-spec =
     (λ c κs. search needs)
     (λ c κs. search needs)
     (λ c. search needs)
-    returns
     (λ c. search needs)
-    returns-2)
+    (λ c. rw (lt-ltb _ _ (rw (c .before .before .before .before .before .before .before .before .before .before .before .word .ensures, c .before .before .before .before .before .before .before .before .word2 .ensures, c .before .before .before .before .before .before .before .before .before .wide .ensures .0) at (c .before .before .before .before .before .before .before .if1 .taken))) (reported (c .before .before .before .before .reject .ensures)))
+    (λ c. search needs)
+    (λ c. rw (le-ltb _ _ (rw (c .before .before .before .before .word .ensures, c .before .word2 .ensures, c .before .before .wide .ensures .0) at (c .if1 .left))) (stayed refl refl)))

@@ -1,4 +1,4 @@
--- Made from Proof.ans by tools/answers, 0e83f83b0276e078.
+-- Made from Proof.ans by tools/answers, bc28f68b992cde3b 6883e96f2c9ac197.
 -- Only a variable is introduced.
 use borrow.Author.Needs.{needs}
 use Rattle.steps.proofs.introduce_side.Statement.{statement}
@@ -18,6 +18,6 @@ introduce-side-spec =
     (λ c. search needs)
     (λ c κs. search needs)
     (λ c. search needs)
-    (λ c. side-variable (c .before .before .before .before .before .before .before .node-at .ensures) (c .before .before .before .before .before .e .given .1) (c .before .before .introduce .ensures))
+    (λ c. record { is = λ ou. side-variable (c .before .before .before .before .before .before .before .node-at .ensures) (c .before .before .before .before .before .e .given .1) (c .before .before .introduce .ensures) })
     (λ c. search needs)
-    (λ c. side-other (c .before .node-at .ensures) (c .match .keys2)))
+    (λ c. record { is = λ ou. side-other (c .before .node-at .ensures) (c .match .keys2) }))

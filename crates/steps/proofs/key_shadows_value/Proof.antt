@@ -1,4 +1,4 @@
--- Made from Proof.ans by tools/answers, b3dc053c5c9ca2f3.
+-- Made from Proof.ans by tools/answers, b3dc053c5c9ca2f3 0380b3105e073c36.
 use borrow.Author.Needs.{needs}
 use Rattle.steps.proofs.key_shadows_value.Statement.{statement}
 use Rattle.steps.proofs.key_shadows_value.Tie as tie

@@ -1,4 +1,4 @@
--- Made from Proof.ans by tools/answers, ba477044a8aad6b9.
+-- Made from Proof.ans by tools/answers, ba477044a8aad6b9 2968479dfb26456c.
 use borrow.Author.Needs.{needs}
 use Rattle.steps.proofs.key_ty.Statement.{statement}
 use Rattle.steps.proofs.key_ty.Tie as tie

@@ -1,4 +1,5 @@
--- Made from Proof.ans by tools/answers, 95e2ee398ff94703.
+-- Made from Proof.ans by tools/answers, 5a449dd4a7ceba68 22b0a2f7bd5a8c6d.
+-- The code of each failure is the one of `reportCode`.
 use borrow.Author.Needs.{needs}
 use Rattle.steps.proofs.report.Statement.{statement}
 use Rattle.steps.proofs.report.Tie as tie
@@ -20,10 +21,14 @@ report-spec =
     (λ c. search needs)
     (λ c κs. search needs)
     (λ c. search needs)
-    (λ c. simp (c .before .before .reject .ensures, c .before .before .before .before .enum-told .given .1))
     (λ c. search needs)
-    (λ c. simp (c .before .before .reject2 .ensures, c .before .before .before .before .enum-told2 .given .1))
+    (λ c. rw (c .before .before .before .before .before .before .before .enum-told .given .1) (c .before .before .before .before .reject .ensures))
     (λ c. search needs)
-    (λ c. simp (c .before .before .reject3 .ensures, c .before .before .before .before .enum-told3 .given .1))
     (λ c. search needs)
-    (λ c. simp (c .before .before .reject4 .ensures, c .before .before .before .before .enum-told4 .given .1)))
+    (λ c. rw (c .before .before .before .before .before .before .before .enum-told2 .given .1) (c .before .before .before .before .reject2 .ensures))
+    (λ c. search needs)
+    (λ c. search needs)
+    (λ c. rw (c .before .before .before .before .before .before .before .enum-told3 .given .1) (c .before .before .before .before .reject3 .ensures))
+    (λ c. search needs)
+    (λ c. search needs)
+    (λ c. rw (c .before .before .before .before .before .before .before .enum-told4 .given .1) (c .before .before .before .before .reject4 .ensures)))

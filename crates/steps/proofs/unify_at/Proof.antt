@@ -1,11 +1,11 @@
--- Made from Proof.ans by tools/answers, ab23edd861b3a2d6.
+-- Made from Proof.ans by tools/answers, ab23edd861b3a2d6 0ec07b6eed512f01.
 -- The definition's unification, and where it fails one diagnostic.
 use borrow.Author.Needs.{needs}
 use Rattle.steps.proofs.unify_at.Statement.{statement}
 use Rattle.steps.proofs.unify_at.Tie as tie
 use Rattle.steps.proofs.unify_at.Reads as reads
 use Rattle.steps.proofs.unify_at.Lts as lts
-use Rattle.cells.proofs.unify.Reads as unify-reads
+use Rattle.unify.proofs.unify.Reads as unify-reads
 use Rattle.steps.proofs.report.Reads as report-reads
 use native.Mathlib.Omega.{arith}
 use Rattle.steps.proofs.Uniting.{unite-good, unite-bad, unite-spent}
@@ -22,6 +22,7 @@ unify-at-spec =
     (λ c. search needs)
     (λ c. unite-good _ (c .before .before .before .before .before .unify .ensures) (c .before .r .given .1))
     (λ c. search needs)
-    (λ c. unite-bad _ (c .before .before .before .before .before .before .before .before .before .unify .ensures) (c .before .before .before .before .before .r2 .given .1) (c .before .before .report .ensures))
+    (λ c. search needs)
+    (λ c. unite-bad _ (c .before .before .before .before .before .before .before .before .before .before .before .before .unify .ensures) (c .before .before .before .before .before .before .before .before .r2 .given .1) (c .before .before .before .before .report .ensures))
     (λ c. search needs)
     (λ c. unite-spent _ (c .before .before .before .before .unify .ensures) (c .enum-told .given .1)))

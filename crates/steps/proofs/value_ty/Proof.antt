@@ -1,4 +1,4 @@
--- Made from Proof.ans by tools/answers, 3d97159719e796c3.
+-- Made from Proof.ans by tools/answers, 3d97159719e796c3 b29a7603d9c650d6.
 use borrow.Author.Needs.{needs}
 use Rattle.steps.proofs.value_ty.Statement.{statement}
 use Rattle.steps.proofs.value_ty.Tie as tie

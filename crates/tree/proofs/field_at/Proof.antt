@@ -1,4 +1,4 @@
--- Made from Proof.ans by tools/answers, 342c3acbdef3c5fe.
+-- Made from Proof.ans by tools/answers, 342c3acbdef3c5fe 07f6c17ec7bde83b.
 -- `tree::field_at` meets its contract: the calls give `fieldW`'s parts.
 use borrow.Author.Needs.{needs}
 use Rattle.tree.proofs.field_at.Statement.{statement}

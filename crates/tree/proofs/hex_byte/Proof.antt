@@ -1,4 +1,4 @@
--- Made from Proof.ans by tools/answers, 74de29b93490667b.
+-- Made from Proof.ans by tools/answers, 74de29b93490667b a0e36d6dca8910ef.
 -- `tree::hex_byte` meets its contract: the test is `digitsW`'s own, and each digit is below 17.
 use borrow.Author.Needs.{needs}
 use Rattle.tree.proofs.hex_byte.Statement.{statement}

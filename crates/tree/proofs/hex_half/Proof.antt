@@ -1,4 +1,4 @@
--- Made from Proof.ans by tools/answers, 946958ae94054933.
+-- Made from Proof.ans by tools/answers, 946958ae94054933 9f4a9eb11a4a911e.
 -- `tree::hex_half` meets its contract: two bytes, as `halfAt` joins them.
 use borrow.Author.Needs.{needs}
 use Rattle.tree.proofs.hex_half.Statement.{statement}

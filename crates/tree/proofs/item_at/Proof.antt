@@ -1,4 +1,4 @@
--- Made from Proof.ans by tools/answers, f18357276c134f84.
+-- Made from Proof.ans by tools/answers, f18357276c134f84 cadc4603934e3084.
 -- `tree::item_at` meets its contract: the calls give `itemW`'s parts.
 use borrow.Author.Needs.{needs}
 use Rattle.tree.proofs.item_at.Statement.{statement}

@@ -1,4 +1,4 @@
--- Made from Proof.ans by tools/answers, 91492912e616e410.
+-- Made from Proof.ans by tools/answers, 91492912e616e410 ac08d64d58a679d7.
 -- `tree::items_of` meets its contract: the tests are `itemsW`'s own, in its order.
 use borrow.Author.Needs.{needs}
 use Rattle.tree.proofs.items_of.Statement.{statement}

@@ -1,4 +1,4 @@
--- Made from Proof.ans by tools/answers, 0fff2f50cf7c7659.
+-- Made from Proof.ans by tools/answers, 0fff2f50cf7c7659 87e7f504c457dd04.
 -- `tree::line_start` meets its contract: the word's upper bits.
 use borrow.Author.Needs.{needs}
 use Rattle.tree.proofs.line_start.Statement.{statement}

@@ -1,4 +1,4 @@
--- Made from Proof.ans by tools/answers, 6104a3c74129184c.
+-- Made from Proof.ans by tools/answers, 6104a3c74129184c 8bb348c0269adf4a.
 -- `tree::lower` meets its contract by the test that it makes.
 use Rattle.tree.proofs.lower.Statement.{statement}
 use Rattle.tree.proofs.lower.Tie as tie

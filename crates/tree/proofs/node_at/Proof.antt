@@ -1,4 +1,4 @@
--- Made from Proof.ans by tools/answers, 9fe8ac0189d585d0.
+-- Made from Proof.ans by tools/answers, 9fe8ac0189d585d0 1f2476fd5602a7a8.
 -- `tree::node_at` meets its contract: each arm is a law of NodeArms at the node's line, whose place, length and shape byte the calls before the match read.
 use borrow.Author.Needs.{needs}
 use Rattle.tree.proofs.node_at.Statement.{statement}

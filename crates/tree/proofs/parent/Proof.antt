@@ -1,4 +1,4 @@
--- Made from Proof.ans by tools/answers, 90f1a901cd1d91bd.
+-- Made from Proof.ans by tools/answers, 90f1a901cd1d91bd aba6b32e37080f72.
 -- `tree::parent` meets its contract: the shape picks the arm as `parentW` picks, after the test for node 0.
 use borrow.Author.Needs.{needs}
 use Rattle.tree.proofs.parent.Statement.{statement}

@@ -1,4 +1,4 @@
--- Made from Proof.ans by tools/answers, 3b5ada265c769147.
+-- Made from Proof.ans by tools/answers, 3b5ada265c769147 ae030f37600db802.
 -- `tree::query_body` meets its contract: the word's two parts; a word is below 2^32, so the end is near.
 use borrow.Author.Needs.{needs}
 use Rattle.tree.proofs.query_body.Statement.{statement}

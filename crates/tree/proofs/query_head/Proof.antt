@@ -1,4 +1,4 @@
--- Made from Proof.ans by tools/answers, 4f27ef4dd1be61e9.
+-- Made from Proof.ans by tools/answers, 4f27ef4dd1be61e9 3eed9b83dda64958.
 -- `tree::query_head` meets its contract: the number after the line's first byte.
 use borrow.Author.Needs.{needs}
 use Rattle.tree.proofs.query_head.Statement.{statement}

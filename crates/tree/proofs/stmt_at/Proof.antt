@@ -1,4 +1,4 @@
--- Made from Proof.ans by tools/answers, 8e99b6716612bec8.
+-- Made from Proof.ans by tools/answers, 8e99b6716612bec8 26423707fb826b8d.
 -- `tree::stmt_at` meets its contract: the tag byte picks the arm as `stmtOf` picks.
 use borrow.Author.Needs.{needs}
 use Rattle.tree.proofs.stmt_at.Statement.{statement}

@@ -1,4 +1,4 @@
--- Made from Proof.ans by tools/answers, 9190db239aadb1c9.
+-- Made from Proof.ans by tools/answers, 9190db239aadb1c9 04c5a9fa0a78fe1f.
 -- `tree::stmt_size` meets its contract: the tag byte picks the size as `stmtSizeW` picks.
 use borrow.Author.Needs.{needs}
 use Rattle.tree.proofs.stmt_size.Statement.{statement}

@@ -44,6 +44,9 @@ pub struct Draft {
     pub names: Vec<Vec<u8>>,
     pub types: Vec<Shape>,
     pub predicates: Vec<(u16, u16, Option<u16>)>,
+    /// The frames of the queries that are closed; their schema is this draft's.
+    pub closed: Vec<Vec<Vec<u8>>>,
+    /// The query being drafted.
     pub nodes: Vec<(u32, u32, Expr)>,
     pub head: u16,
     pub body: Vec<Stmt>,
@@ -57,6 +60,7 @@ impl Draft {
             names: Vec::new(),
             types: Vec::new(),
             predicates: Vec::new(),
+            closed: Vec::new(),
             nodes: Vec::new(),
             head: 0,
             body: Vec::new(),
@@ -103,17 +107,47 @@ impl Draft {
         self.bind(left, right);
     }
 
-    pub fn frames(&self) -> Vec<Vec<u8>> {
+    /// Ends the query; the next one over the same schema begins.
+    pub fn close(&mut self) {
+        let frames = self.query_frames();
+        self.closed.push(frames);
+        self.nodes.clear();
+        self.head = 0;
+        self.body.clear();
+    }
+
+    /// Limits, names, types and predicates.
+    pub fn schema_frames(&self) -> Vec<Vec<u8>> {
         let mut frames = vec![limits(self.distance, self.term)];
         frames.extend(self.names.iter().map(|text| name(text)));
         frames.extend(self.types.iter().map(ty));
         for &(name, key, value) in &self.predicates {
             frames.push(predicate(name, key, value));
         }
+        frames
+    }
+
+    /// The nodes of the query being drafted, and the query.
+    fn query_frames(&self) -> Vec<Vec<u8>> {
+        let mut frames = Vec::new();
         for (start, end, expr) in &self.nodes {
             frames.push(node(*start, *end, expr));
         }
         frames.push(query(self.head, &self.body));
+        frames
+    }
+
+    pub fn frames(&self) -> Vec<Vec<u8>> {
+        let mut frames = self.schema_frames();
+        frames.extend(self.closed.iter().flatten().cloned());
+        frames.extend(self.query_frames());
+        frames
+    }
+
+    /// The frames of the closed queries alone, after the schema's.
+    pub fn form_frames(&self) -> Vec<Vec<u8>> {
+        let mut frames = self.schema_frames();
+        frames.extend(self.closed.iter().flatten().cloned());
         frames
     }
 

@@ -31,7 +31,12 @@ fn minimal(kind: u8, before: &[Vec<u8>]) -> Vec<u8> {
         2 => draft::name(format!("{}", count(2)).as_bytes()),
         4 => draft::predicate(0, 0, None),
         5 => draft::node(0, 3, &Expr::Int),
-        6 => draft::query(count(5).saturating_sub(1) as u16, &[]),
+        6 => {
+            // Nodes are counted from the query before.
+            let own = before.iter().rev().take_while(|f| f[0] != 6);
+            let nodes = own.filter(|f| f[0] == 5).count();
+            draft::query(nodes.saturating_sub(1) as u16, &[])
+        }
         other => vec![other, 0],
     }
 }
@@ -181,7 +186,7 @@ fn spoil_length(rng: &mut Rng, mut frame: Vec<u8>, spoil: bool) -> Vec<u8> {
 }
 
 /// A line that is no line: refusal 3 in one of its forms.
-fn spoil_line(rng: &mut Rng, mut line: Vec<u8>) -> Vec<u8> {
+pub fn spoil_line(rng: &mut Rng, mut line: Vec<u8>) -> Vec<u8> {
     let last = line.len() - 1;
     let at = rng.below(last);
     match rng.below(6) {

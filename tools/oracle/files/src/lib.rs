@@ -6,18 +6,21 @@ mod draft;
 mod edge;
 mod faults;
 mod filled;
+mod forms;
 mod grow;
 mod limits;
 mod nested;
 mod noise;
 mod references;
 mod rng;
+mod shapes;
 mod texts;
 mod valid;
 
 pub use filled::{GROWING, filled};
-pub use nested::nested;
+pub use nested::{nested, stacked};
 use rng::Rng;
+pub use shapes::{form, shapes};
 
 type Make = fn(&mut Rng) -> Vec<u8>;
 
@@ -62,6 +65,13 @@ const TABLE: &[(&str, usize, Make)] = &[
     ("edge", 12, edge::edge),
     ("visits", 1, limits::visits),
     ("deepest", 4, deep::deepest),
+    ("forms", 900, forms::forms),
+    ("form-faults", 600, forms::faults),
+    ("form-few-visits", 120, forms::few_visits),
+    ("full-forms", 60, forms::full),
+    ("form-nodes", 25, forms::nodes),
+    ("form-answers", 6, forms::answers),
+    ("form-visits", 2, forms::visits),
 ];
 
 const fn styles() -> [&'static str; TABLE.len()] {

@@ -288,15 +288,23 @@ pub fn long_answer(rng: &mut Rng) -> Vec<u8> {
 
 /// An answer of exactly that many bytes: wide records first (788 for a fact and its
 /// wildcard), then variables (13) and literals (9).
-fn answer_of(size: usize) -> Draft {
-    const FIELDS: u16 = 127;
+pub fn answer_of(size: usize) -> Draft {
     let mut draft = Draft::new();
+    answer_over(&mut draft, size);
+    draft
+}
+
+/// The same over a draft without a schema, or one that was given it here.
+pub fn answer_over(draft: &mut Draft, size: usize) {
+    const FIELDS: u16 = 127;
     for n in 0..FIELDS {
         draft.name(&format!("{n}"));
     }
-    draft.ty(Shape::Int);
-    let key = draft.ty(Shape::Record((0..FIELDS).map(|n| (n, 0)).collect()));
-    draft.predicate(0, key, None);
+    if draft.types.is_empty() {
+        draft.ty(Shape::Int);
+        let key = draft.ty(Shape::Record((0..FIELDS).map(|n| (n, 0)).collect()));
+        draft.predicate(0, key, None);
+    }
     let mut left = size - 9;
     while left >= 788 + 104 {
         let key = draft.node(Expr::Wildcard);
@@ -313,7 +321,6 @@ fn answer_of(size: usize) -> Draft {
         draft.node(Expr::Str);
     }
     draft.head = draft.node(Expr::Int);
-    draft
 }
 
 /// Chains of doubled types, long enough for 11 or for an answer past any slice.

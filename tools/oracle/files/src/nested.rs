@@ -37,6 +37,85 @@ pub fn nested() -> Vec<(String, Vec<u8>)> {
     files
 }
 
+/// Files for the stack: shapes of nodes within each other, alone and in turn, as deep as the nodes go, and at
+/// the bottom two variables of the deepest type that meet.
+pub fn stacked() -> Vec<(String, Vec<u8>)> {
+    let mut files = nested();
+    for first in 0..AROUND {
+        for second in first..AROUND {
+            for kind in 0..3 {
+                for end in 0..4 {
+                    let file = stack(first, second, kind, end);
+                    files.push((format!("stack-{first}-{second}-{kind}-{end}"), file));
+                }
+            }
+        }
+    }
+    files
+}
+
+/// The ways that `around` knows.
+const AROUND: usize = 12;
+
+/// A node around another.
+fn around(draft: &mut Draft, way: usize, at: u16) -> u16 {
+    let expr = match way {
+        0 => Expr::Record(vec![(0, at)]),
+        1 => Expr::Disjunction(vec![at]),
+        2 => Expr::Arith(vec![at]),
+        3 => Expr::Key(0, at),
+        4 => Expr::Value(at),
+        5 => Expr::Select(0, at),
+        6 => Expr::Fact(2, at),
+        7 => Expr::Subquery(at, vec![]),
+        _ => {
+            let head = draft.node(Expr::Int);
+            let stmt = match way {
+                8 => Stmt::Implicit(at),
+                9 => Stmt::Bind(draft.var(3), at),
+                10 => Stmt::Deny(draft.var(3), at),
+                _ => Stmt::Compare(draft.var(3), at),
+            };
+            Expr::Subquery(head, vec![stmt])
+        }
+    };
+    draft.node(expr)
+}
+
+fn stack(first: usize, second: usize, kind: usize, end: usize) -> Vec<u8> {
+    let mut draft = draft();
+    // One fewer than there can be: the key of predicate 2 is a fact of it.
+    let ty = nest(&mut draft, kind, DEPTH - 1);
+    let fact = draft.ty(Shape::Fact(2));
+    for key in [ty, ty, fact] {
+        draft.predicate(0, key, Some(key));
+    }
+    holds(&mut draft, 0, 1);
+    holds(&mut draft, 1, 2);
+    let (left, right) = (draft.var(1), draft.var(2));
+    let stmt = match end {
+        0 => Stmt::Bind(left, right),
+        1 => Stmt::Compare(left, right),
+        2 => Stmt::Deny(left, right),
+        _ => {
+            let meet = draft.node(Expr::Disjunction(vec![left, right]));
+            Stmt::Bind(draft.var(4), meet)
+        }
+    };
+    let mut body = std::mem::take(&mut draft.body);
+    body.push(stmt);
+    let head = draft.node(Expr::Int);
+    let mut at = draft.node(Expr::Subquery(head, body));
+    let mut turn = 0;
+    while draft.nodes.len() + 3 <= NODES {
+        let way = if turn % 2 == 0 { first } else { second };
+        at = around(&mut draft, way, at);
+        turn += 1;
+    }
+    draft.head = at;
+    draft.bytes()
+}
+
 fn draft() -> Draft {
     let mut draft = Draft::new();
     for name in ["a", "x", "y", "z", "w"] {
@@ -124,8 +203,12 @@ fn statements(stmt: usize, left: usize, fact: bool) -> Vec<u8> {
 
 /// The deepest type: records, unions, or both in turn.
 fn deepest(draft: &mut Draft, kind: usize) -> u16 {
+    nest(draft, kind, DEPTH)
+}
+
+fn nest(draft: &mut Draft, kind: usize, depth: usize) -> u16 {
     let mut ty = 0;
-    for at in 0..DEPTH {
+    for at in 0..depth {
         ty = if kind == 1 || kind == 2 && at % 2 == 1 {
             draft.ty(Shape::Union(vec![(0, at as u32, ty)]))
         } else {

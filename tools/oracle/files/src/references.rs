@@ -6,7 +6,7 @@ use crate::rng::Rng;
 use crate::valid;
 
 /// Where a frame holds references, each with the kind of frame that it names.
-fn places(frame: &[u8]) -> Vec<(usize, u8)> {
+pub fn places(frame: &[u8]) -> Vec<(usize, u8)> {
     let every = |from: usize, width: usize, of: &[(usize, u8)]| {
         (from..frame.len())
             .step_by(width)

@@ -29,8 +29,10 @@ const SOUND: &[&[u8]] = &[
     b"\xf4\x8f\xbf\xbf",
 ];
 
-/// Values d800 to dfff, which pass in this edition.
-const SURROGATES: &[&[u8]] = &[
+/// Values d800 to dfff: halves of UTF-16 pairs, alone and as pairs, and what stands beside them.
+const HALVES: &[&[u8]] = &[
+    b"\xed\x9f\xbf",
+    b"\xee\x80\x80",
     b"\xed\xa0\x80",
     b"\xed\xad\xbf",
     b"\xed\xae\x80",
@@ -38,6 +40,10 @@ const SURROGATES: &[&[u8]] = &[
     b"\xed\xb0\x80",
     b"\xed\xbf\xbf",
     b"\xed\xa1\x8c\xed\xbe\xb4",
+    b"\xed\xa0\xbd\xed\xb8\x80",
+    b"\xed\xb8\x80\xed\xa0\xbd",
+    b"\xed\x9f\xbf\xed\xb8\x80",
+    b"\xed\xa0\xbd\xee\x80\x80",
 ];
 
 const BROKEN: &[&[u8]] = &[
@@ -109,9 +115,9 @@ fn text(rng: &mut Rng) -> Vec<u8> {
     }
     let mut text = Vec::new();
     for _ in 0..rng.weighted(&[2, 40, 20, 5]) {
-        match rng.weighted(&[75, 8, 12, 5]) {
+        match rng.weighted(&[72, 12, 11, 5]) {
             0 => text.extend(rng.pick(SOUND)),
-            1 => text.extend(rng.pick(SURROGATES)),
+            1 => text.extend(rng.pick(HALVES)),
             2 => text.extend(rng.pick(BROKEN)),
             _ => text.push(rng.pick(b"aA~\x7f\x80")),
         }

@@ -65,9 +65,15 @@ pub fn tiny(rng: &mut Rng) -> Draft {
 pub fn wild_tree(rng: &mut Rng, nodes: usize) -> Draft {
     let mut draft = Draft::new();
     grow::schema(rng, &mut draft);
+    wild_query(rng, &mut draft, nodes);
+    draft
+}
+
+/// The same over the schema that a draft already has.
+pub fn wild_query(rng: &mut Rng, draft: &mut Draft, nodes: usize) {
     let mut free = Vec::new();
     for _ in 0..nodes {
-        let expr = wild_expr(rng, &draft, &mut free);
+        let expr = wild_expr(rng, draft, &mut free);
         free.push(draft.node(expr));
     }
     draft.head = take(rng, &mut free).unwrap_or(0);
@@ -77,7 +83,6 @@ pub fn wild_tree(rng: &mut Rng, nodes: usize) -> Draft {
             break;
         }
     }
-    draft
 }
 
 fn take(rng: &mut Rng, free: &mut Vec<u16>) -> Option<u16> {
@@ -154,30 +159,41 @@ fn wild_expr(rng: &mut Rng, draft: &Draft, free: &mut Vec<u16>) -> Expr {
 /// Equations between terms of unknowns and records: chains, sharing, infinite types.
 pub fn unknowns(rng: &mut Rng) -> Draft {
     let mut draft = Draft::new();
+    equation_names(&mut draft);
+    equations(rng, &mut draft, 9);
+    draft
+}
+
+/// The names that equations are over.
+pub fn equation_names(draft: &mut Draft) {
     for word in ["x", "y", "z", "u", "v", "w", "a", "b"] {
         draft.name(word);
     }
-    for _ in 0..rng.between(2, 9) {
+}
+
+/// A query of at least two equations over these names, which are the draft's first.
+pub fn equations(rng: &mut Rng, draft: &mut Draft, most: usize) {
+    for _ in 0..rng.between(2, most) {
         let stmt = match rng.below(10) {
             0..6 => {
                 let left = draft.var(rng.below(6) as u16);
-                Stmt::Bind(left, term(rng, &mut draft, 2))
+                Stmt::Bind(left, term(rng, draft, 2))
             }
             6 => {
-                let left = pattern(rng, &mut draft, 2);
-                Stmt::Bind(left, term(rng, &mut draft, 2))
+                let left = pattern(rng, draft, 2);
+                Stmt::Bind(left, term(rng, draft, 2))
             }
             7 => {
                 let left = draft.var(rng.below(6) as u16);
-                Stmt::Deny(left, term(rng, &mut draft, 2))
+                Stmt::Deny(left, term(rng, draft, 2))
             }
             8 => {
-                let left = term(rng, &mut draft, 2);
-                Stmt::Compare(left, term(rng, &mut draft, 2))
+                let left = term(rng, draft, 2);
+                Stmt::Compare(left, term(rng, draft, 2))
             }
             _ => {
                 let branches = (0..rng.between(1, 3))
-                    .map(|_| term(rng, &mut draft, 1))
+                    .map(|_| term(rng, draft, 1))
                     .collect();
                 let right = draft.node(Expr::Disjunction(branches));
                 let left = draft.var(rng.below(6) as u16);
@@ -186,8 +202,7 @@ pub fn unknowns(rng: &mut Rng) -> Draft {
         };
         draft.body.push(stmt);
     }
-    draft.head = term(rng, &mut draft, 1);
-    draft
+    draft.head = term(rng, draft, 1);
 }
 
 fn term(rng: &mut Rng, draft: &mut Draft, depth: usize) -> u16 {

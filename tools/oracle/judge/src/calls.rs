@@ -6,7 +6,7 @@
 use crate::diag::Diagnostics;
 use crate::file::{File, Type};
 use crate::syntax::Ty;
-use crate::tree::{self, Tree};
+use crate::tree::{self, Base};
 use crate::visits::{self, Stop};
 use crate::write::Lines;
 
@@ -84,13 +84,13 @@ pub trait Other {
 
 /// The steps that the Rust makes, or why it can't hold the file.
 pub fn run(file: &File, visits: u64, calls: &[Call]) -> Result<Vec<Step>, &'static str> {
-    let tree = tree::build(file).ok_or(crate::SURROGATE)?;
+    let base = tree::base(file);
     let (mut first, mut second) = (Diagnostics::new(), Diagnostics::new());
-    let mut counted = crate::counted::probe::Bench::new(&tree.schema, &tree.interner, &mut first);
-    let mut plain = crate::probed::probe::Bench::new(&tree.schema, &tree.interner, &mut second);
+    let mut counted = crate::counted::probe::Bench::new(&base.schema, &base.interner, &mut first);
+    let mut plain = crate::probed::probe::Bench::new(&base.schema, &base.interner, &mut second);
 
     let mut sides = Sides {
-        tree: &tree,
+        base: &base,
         sizes: sizes(&file.types),
         unknowns: vec![],
         records: vec![],
@@ -162,7 +162,7 @@ pub fn run(file: &File, visits: u64, calls: &[Call]) -> Result<Vec<Step>, &'stat
             bindings: counted
                 .bindings()
                 .iter()
-                .map(|binding| binding.as_ref().map(|ty| written(ty, &tree)))
+                .map(|binding| binding.as_ref().map(|ty| written(ty, &base)))
                 .collect(),
         });
         if outcome == Outcome::OutOfVisits {
@@ -174,7 +174,7 @@ pub fn run(file: &File, visits: u64, calls: &[Call]) -> Result<Vec<Step>, &'stat
 
 /// What the calls so far have made.
 struct Sides<'a> {
-    tree: &'a Tree,
+    base: &'a Base,
     /// Of each schema type, the nodes it has when written out.
     sizes: Vec<u64>,
     unknowns: Vec<Ty>,
@@ -195,7 +195,7 @@ impl Sides<'_> {
                 if self.sizes[usize::from(number)] > MOST_NODES {
                     return Err(crate::TOO_LARGE);
                 }
-                crate::probed::probe::declared(&self.tree.types[usize::from(number)])
+                crate::probed::probe::declared(&self.base.types[usize::from(number)])
             }
             Side::Unknown(number) => self.unknowns[usize::from(number)].clone(),
             Side::Record(number) => self.records[usize::from(number)].clone(),
@@ -205,7 +205,7 @@ impl Sides<'_> {
     fn record(&self, fields: &[(u16, Side)]) -> Result<Ty, &'static str> {
         let fields = fields
             .iter()
-            .map(|(name, side)| Ok((self.tree.symbols[usize::from(*name)], self.ty(*side)?)))
+            .map(|(name, side)| Ok((self.base.symbols[usize::from(*name)], self.ty(*side)?)))
             .collect::<Result<Vec<_>, &'static str>>()?;
         Ok(Ty::Record(fields.into()))
     }
@@ -215,7 +215,7 @@ impl Sides<'_> {
         match failure {
             Failure::Mismatch => Reason::Mismatch,
             Failure::UnionMismatch => Reason::UnionMismatch,
-            Failure::UnknownField(name) => Reason::UnknownField(self.tree.numbers[&name]),
+            Failure::UnknownField(name) => Reason::UnknownField(self.base.numbers[&name]),
             Failure::Infinite => Reason::Infinite,
         }
     }
@@ -239,8 +239,8 @@ fn sizes(types: &[Type]) -> Vec<u64> {
     sizes
 }
 
-fn written(ty: &Ty, tree: &Tree) -> Vec<u8> {
+fn written(ty: &Ty, base: &Base) -> Vec<u8> {
     let mut lines = Lines::new(usize::MAX);
-    lines.put_type(ty, &tree.numbers);
+    lines.put_type(ty, &base.numbers);
     lines.into_bytes().expect("room for all")
 }

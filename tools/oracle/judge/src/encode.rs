@@ -25,14 +25,16 @@ pub fn encode(file: &File) -> Vec<u8> {
             lines.two(value);
         }
     }
-    for node in &file.nodes {
-        lines.start(5);
-        lines.four(node.start);
-        lines.four(node.end);
-        lines.shape(&node.shape);
+    for tree in &file.trees {
+        for node in &tree.nodes {
+            lines.start(5);
+            lines.four(node.start);
+            lines.four(node.end);
+            lines.shape(&node.shape);
+        }
+        lines.start(6);
+        lines.query(&tree.query);
     }
-    lines.start(6);
-    lines.query(&file.query);
     lines.finish()
 }
 

@@ -1,6 +1,6 @@
 //! What a file describes, as plain data. References are numbers within the file.
 
-/// A file past refusals 1 to 10.
+/// A file past refusals 1 to 10 and 13.
 #[derive(Debug, Clone, PartialEq)]
 pub struct File {
     pub max_distance: u8,
@@ -8,6 +8,13 @@ pub struct File {
     pub names: Vec<Vec<u8>>,
     pub types: Vec<Type>,
     pub predicates: Vec<Predicate>,
+    /// The queries in file order, at least one; each has nodes of its own.
+    pub trees: Vec<Tree>,
+}
+
+/// One query with its nodes.
+#[derive(Debug, Clone, PartialEq)]
+pub struct Tree {
     pub nodes: Vec<Node>,
     pub query: Query,
 }
@@ -81,6 +88,16 @@ pub enum Stmt {
     Negation(u16),
     Deny(u16, u16),
     Compare(u16, u16),
+}
+
+impl File {
+    /// The file with one of its queries alone.
+    pub fn alone(&self, query: usize) -> File {
+        File {
+            trees: vec![self.trees[query].clone()],
+            ..self.clone()
+        }
+    }
 }
 
 impl Shape {

@@ -21,7 +21,7 @@ include!(concat!(env!("OUT_DIR"), "/modules.rs"));
 
 use diag::{Code, Diagnostics};
 pub use encode::encode;
-pub use file::{File, Node, Predicate, Query, Shape, Stmt, Type};
+pub use file::{File, Node, Predicate, Query, Shape, Stmt, Tree, Type};
 use measure::Measure;
 pub use read::read;
 pub use stack::{answer, on_large_stack};
@@ -36,7 +36,7 @@ pub struct Limits {
     pub words: usize,
     /// Length of the answer slice in bytes.
     pub bytes: usize,
-    /// The most visits a run may make.
+    /// The most visits that a query may make.
     pub visits: u64,
 }
 
@@ -55,7 +55,7 @@ impl Default for Limits {
 pub enum Answer {
     /// The answer's lines, each closed by LF.
     Lines(Vec<u8>),
-    /// The refusal's number, 1 to 12.
+    /// The refusal's number, 1 to 13.
     Refused(u8),
     /// The Rust can't hold what the file describes; the words say why.
     LeftOut(&'static str),
@@ -65,14 +65,13 @@ pub enum Answer {
 #[derive(Debug, Clone, PartialEq)]
 pub struct Ran {
     pub answer: Answer,
-    /// Visits made: 0 after refusals 1 to 10, all that were allowed after 11.
-    pub visits: u64,
-    /// The code of each diagnostic, in order; none after refusals 1 to 11.
+    /// Visits made by each query that ran: none after refusals 1 to 10 and 13; after 11 the last ran out
+    /// of them and the others did not run.
+    pub visits: Vec<u64>,
+    /// The code of each diagnostic, in order; none after refusals 1 to 11 and 13.
     pub codes: Vec<&'static str>,
 }
 
-/// A name has a value from d800 to dfff, which no Rust text holds.
-pub const SURROGATE: &str = "surrogate";
 /// The Rust would write out types too large to hold.
 pub const TOO_LARGE: &str = "types too large";
 
@@ -89,26 +88,34 @@ fn answer_here(file: &[u8], limits: &Limits) -> Ran {
     };
     let file = match read(file, limits) {
         Ok(file) => file,
-        Err(number) => return stopped(Answer::Refused(number), 0),
+        Err(number) => return stopped(Answer::Refused(number), vec![]),
     };
-    let Some(tree) = tree::build(&file) else {
-        // The text rule lets pass nothing else that the Rust does not.
-        assert!(file.names.iter().any(|name| has_surrogate(name)));
-        return stopped(Answer::LeftOut(SURROGATE), 0);
-    };
+    let base = tree::base(&file);
     levenshtein::set(file.max_distance, file.max_term);
 
-    let mut counted = Diagnostics::new();
-    let (left, visits) = visits::counted(limits.visits, || {
-        counted::probe::walk(&tree.ast, &tree.schema, &tree.interner, &mut counted)
-    });
-    let left = match left {
-        Ok(left) => left,
-        Err(Stop::Visits) => return stopped(Answer::Refused(11), visits),
-        Err(Stop::Size) => return stopped(Answer::LeftOut(TOO_LARGE), visits),
-    };
-    let codes = codes(&counted);
-    let length = length(&left, &codes);
+    // All queries run before anything is written: 11 of any one comes before 12.
+    let mut visits = vec![];
+    let mut length = 0_u64;
+    let mut counted = vec![];
+    for tree in &file.trees {
+        let tree = tree::build(tree, &base);
+        let mut diagnostics = Diagnostics::new();
+        let (left, made) = visits::counted(limits.visits, || {
+            counted::probe::walk(&tree.ast, &base.schema, &base.interner, &mut diagnostics)
+        });
+        visits.push(made);
+        let left = match left {
+            Ok(left) => left,
+            Err(Stop::Visits) => return stopped(Answer::Refused(11), visits),
+            Err(Stop::Size) => return stopped(Answer::LeftOut(TOO_LARGE), visits),
+        };
+        if file.trees.len() > 1 {
+            length = length.saturating_add(NUMBER_LINE);
+        }
+        length = length.saturating_add(self::length(&left, &diagnostics));
+        counted.push((tree, diagnostics));
+    }
+    let codes: Vec<&str> = counted.iter().flat_map(|(_, found)| codes(found)).collect();
     if length > MOST_WRITTEN.max(limits.bytes as u64) {
         return Ran {
             answer: Answer::Refused(12),
@@ -117,17 +124,22 @@ fn answer_here(file: &[u8], limits: &Limits) -> Ran {
         };
     }
 
-    let mut diagnostics = Diagnostics::new();
-    let typed = ty::check(&tree.ast, &tree.schema, &tree.interner, &mut diagnostics);
     let mut lines = Lines::new(limits.bytes);
-    put_types(&mut lines, &typed, &tree);
-    put_diagnostics(&mut lines, &diagnostics);
-
-    // The counted copy is ty.rs and the measure is what the Rust writes: shown on every file.
-    assert!(
-        diagnostics.iter().eq(counted.iter()),
-        "the counted copy reports otherwise than ty.rs"
-    );
+    for (number, (tree, counted)) in counted.iter().enumerate() {
+        let mut diagnostics = Diagnostics::new();
+        let typed = ty::check(&tree.ast, &base.schema, &base.interner, &mut diagnostics);
+        if file.trees.len() > 1 {
+            put_number(&mut lines, number);
+        }
+        put_types(&mut lines, &typed, tree, &base);
+        put_diagnostics(&mut lines, &diagnostics);
+        // The counted copy is ty.rs: shown on every file.
+        assert!(
+            diagnostics.iter().eq(counted.iter()),
+            "the counted copy reports otherwise than ty.rs"
+        );
+    }
+    // The measure is what the Rust writes.
     assert_eq!(
         lines.length(),
         length,
@@ -144,19 +156,23 @@ fn answer_here(file: &[u8], limits: &Limits) -> Ran {
     }
 }
 
-/// Whether a text that passed the reading has a value from d800 to dfff.
-fn has_surrogate(text: &[u8]) -> bool {
-    text.windows(2)
-        .any(|pair| pair[0] == 0xed && pair[1] >= 0xa0)
+/// The characters of an 0b line.
+const NUMBER_LINE: u64 = 7;
+
+/// The 0b line before a query's lines, where a file has more than one.
+fn put_number(lines: &mut Lines, query: usize) {
+    lines.put(&[0x0b]);
+    lines.put(&write::two(query));
+    lines.end_line();
 }
 
 /// The 07 lines.
-fn put_types(lines: &mut Lines, typed: &ty::Typed, tree: &tree::Tree) {
+fn put_types(lines: &mut Lines, typed: &ty::Typed, tree: &tree::Tree, base: &tree::Base) {
     for (number, node) in tree.nodes.iter().enumerate() {
         lines.put(&[0x07]);
         lines.put(&write::two(number));
         match typed.ty(*node) {
-            Some(ty) => lines.put_type(ty, &tree.numbers),
+            Some(ty) => lines.put_type(ty, &base.numbers),
             None => lines.put(&[0xff]),
         }
         lines.end_line();
@@ -184,15 +200,15 @@ fn codes(diagnostics: &Diagnostics) -> Vec<&'static str> {
         .collect()
 }
 
-/// The length of the whole answer, measured on what the counted copy left.
-fn length(left: &counted::probe::Left, codes: &[&str]) -> u64 {
+/// The length of a query's lines, measured on what the counted copy left.
+fn length(left: &counted::probe::Left, diagnostics: &Diagnostics) -> u64 {
     let mut measure = Measure::new(&left.subst);
     let mut length = 0_u64;
     for ty in &left.tys {
         let ty = ty.as_ref().map_or(2, |ty| measure.length(ty));
         length = length.saturating_add(7).saturating_add(ty);
     }
-    for code in codes {
+    for code in codes(diagnostics) {
         length = length.saturating_add(19 + 2 * code.len() as u64);
     }
     length

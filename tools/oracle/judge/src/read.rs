@@ -1,11 +1,11 @@
 //! The first reader: from bytes to a refusal's number or what the file describes.
 //!
-//! Written from document 01's "Frame lines" and "When a file is turned down". On one line the
-//! conditions are asked in the order of their numbers, each over the whole frame before the next,
-//! so the lowest number that holds is the one given.
+//! Written from document 01's "Frame lines" and "When a file is turned down" and from cards 2 and 3.
+//! On one line the conditions are asked in the order 3, 4, 5, 13, 6 to 10, each over the whole frame
+//! before the next, so the first that holds is the one given.
 
 use crate::Limits;
-use crate::file::{File, Node, Predicate, Query, Shape, Stmt, Type};
+use crate::file::{File, Node, Predicate, Query, Shape, Stmt, Tree, Type};
 
 const WORK_WORDS: usize = 16_384;
 const FILE_BYTES: usize = 65_536;
@@ -15,8 +15,9 @@ const MAX_NAMES: usize = 256;
 const MAX_TYPES: usize = 256;
 const MAX_PREDICATES: usize = 128;
 const MAX_NODES: usize = 512;
+const MAX_QUERIES: usize = 64;
 
-/// The file that the bytes describe, or the refusal, 1 to 10.
+/// The file that the bytes describe, or the refusal, 1 to 10 or 13.
 pub fn read(file: &[u8], limits: &Limits) -> Result<File, u8> {
     if limits.words < WORK_WORDS {
         return Err(1);
@@ -44,10 +45,12 @@ struct Reader {
     names: Vec<Vec<u8>>,
     types: Vec<Type>,
     predicates: Vec<Predicate>,
+    /// The queries that are closed.
+    trees: Vec<Tree>,
+    /// The nodes since the last of them.
     nodes: Vec<Node>,
-    /// For each node, whether a frame has named it.
+    /// For each of these nodes, whether a frame has named it.
     named: Vec<bool>,
-    query: Option<Query>,
 }
 
 impl Reader {
@@ -66,6 +69,9 @@ impl Reader {
         };
         if full {
             return Err(5);
+        }
+        if kind == 6 && self.trees.len() == MAX_QUERIES {
+            return Err(13);
         }
         self.kind = kind;
         let frame = Frame { rest: &bytes[1..] };
@@ -188,7 +194,9 @@ impl Reader {
         let query = frame.query()?;
         frame.end()?;
         self.name_nodes(&query.nodes())?;
-        self.query = Some(query);
+        let nodes = std::mem::take(&mut self.nodes);
+        self.named.clear();
+        self.trees.push(Tree { nodes, query });
         Ok(())
     }
 
@@ -214,14 +222,16 @@ impl Reader {
     }
 
     fn finish(self) -> Result<File, u8> {
+        if self.kind != 6 {
+            return Err(4);
+        }
         Ok(File {
             max_distance: self.limits.0,
             max_term: self.limits.1,
             names: self.names,
             types: self.types,
             predicates: self.predicates,
-            nodes: self.nodes,
-            query: self.query.ok_or(4)?,
+            trees: self.trees,
         })
     }
 }
@@ -249,42 +259,15 @@ fn digit(character: u8) -> Option<u8> {
 fn may_follow(previous: u8, present: u8) -> bool {
     match (previous, present) {
         (0, _) => present == 1,
-        (6, _) => false,
+        (6, _) => present == 5,
         (_, 2..=6) => previous <= present,
         _ => false,
     }
 }
 
-/// The text rule of document 01. Values d800 to dfff pass in this edition.
+/// The text rule: RFC 3629's, as the Rust's own test has it.
 fn is_text(bytes: &[u8]) -> bool {
-    let mut at = 0;
-    while at < bytes.len() {
-        let first = bytes[at];
-        let length = match first.leading_ones() {
-            0 => 1,
-            ones @ 2..=4 => ones as usize,
-            _ => return false,
-        };
-        if length > bytes.len() - at {
-            return false;
-        }
-        let mut value = match length {
-            1 => u32::from(first),
-            _ => u32::from(first & (0x7f >> length)),
-        };
-        for later in &bytes[at + 1..at + length] {
-            if !(0x80..=0xbf).contains(later) {
-                return false;
-            }
-            value = value * 64 + u32::from(later & 0x3f);
-        }
-        let least = [0, 0x80, 0x800, 0x10000][length - 1];
-        if value < least || value > 0x10ffff {
-            return false;
-        }
-        at += length;
-    }
-    true
+    std::str::from_utf8(bytes).is_ok()
 }
 
 fn exists(there: bool) -> Result<(), u8> {

@@ -12,7 +12,7 @@ use crate::{Limits, levenshtein, read, tree, ty};
 pub struct Parts {
     /// From bytes to what the file describes, or a refusal.
     pub read: Duration,
-    /// The schema and the tree that `check` takes.
+    /// The schema, and for each query the tree that `check` takes.
     pub build: Duration,
     /// `check` of ty.rs.
     pub check: Duration,
@@ -50,22 +50,29 @@ pub fn timed(file: &[u8], limits: &Limits) -> Parts {
         return parts;
     };
     parts.read = lap();
-    let Some(tree) = black_box(tree::build(&file)) else {
-        parts.build = lap();
-        return parts;
-    };
+    let base = black_box(tree::base(&file));
     levenshtein::set(file.max_distance, file.max_term);
     parts.build = lap();
-    let mut diagnostics = Diagnostics::new();
-    let typed = ty::check(&tree.ast, &tree.schema, &tree.interner, &mut diagnostics);
-    black_box((&typed, &diagnostics));
-    parts.check = lap();
     let mut lines = Lines::new(limits.bytes);
-    crate::put_types(&mut lines, &typed, &tree);
-    crate::put_diagnostics(&mut lines, &diagnostics);
+    for (number, tree) in file.trees.iter().enumerate() {
+        let tree = black_box(tree::build(tree, &base));
+        parts.build += lap();
+        let mut diagnostics = Diagnostics::new();
+        let typed = ty::check(&tree.ast, &base.schema, &base.interner, &mut diagnostics);
+        black_box((&typed, &diagnostics));
+        parts.check += lap();
+        if file.trees.len() > 1 {
+            crate::put_number(&mut lines, number);
+        }
+        crate::put_types(&mut lines, &typed, &tree, &base);
+        crate::put_diagnostics(&mut lines, &diagnostics);
+        parts.write += lap();
+        drop((tree, diagnostics, typed));
+        parts.free += lap();
+    }
     black_box(lines.into_bytes());
-    parts.write = lap();
-    drop((file, tree, diagnostics, typed));
-    parts.free = lap();
+    parts.write += lap();
+    drop((file, base));
+    parts.free += lap();
     parts
 }

@@ -14,28 +14,34 @@ use crate::syntax::{
     ArithOp, Ast, CompareOp, ExprKind, FieldRef, Literal, NodeId, Query, QueryStmt, SyntaxTree,
 };
 
-/// A file as the Rust holds it.
-pub struct Tree {
+/// A file's names and schema as the Rust holds them, for all of its queries.
+pub struct Base {
     pub schema: Schema,
     pub interner: LocalInterner,
-    pub ast: Ast,
     /// The schema's types, by number in the file.
     pub types: Vec<PredicateTy>,
-    /// The Rust's id of each node, by number in the file.
-    pub nodes: Vec<NodeId>,
     /// The Rust's symbol of each name, by number in the file.
     pub symbols: Vec<Symbol>,
     /// The number in the file of each symbol.
     pub numbers: HashMap<Symbol, u16>,
+    /// What stands in for a string literal's text: the file has none, and the check reads none.
+    literal: Symbol,
 }
 
-/// The Rust's values, or none where a name's text is one that the Rust can't hold.
-pub fn build(file: &File) -> Option<Tree> {
-    let texts = file
+/// One query as the Rust holds it.
+pub struct Tree {
+    pub ast: Ast,
+    /// The Rust's id of each node, by number in the query.
+    pub nodes: Vec<NodeId>,
+}
+
+/// The names and the schema.
+pub fn base(file: &File) -> Base {
+    let texts: Vec<&str> = file
         .names
         .iter()
-        .map(|name| std::str::from_utf8(name).ok())
-        .collect::<Option<Vec<&str>>>()?;
+        .map(|name| std::str::from_utf8(name).expect("a text past refusal 7"))
+        .collect();
 
     // As in the original, names that the schema mentions live in its own interner and the query's
     // other names in a second one over it.
@@ -73,25 +79,27 @@ pub fn build(file: &File) -> Option<Tree> {
         .map(|(number, symbol)| (*symbol, number as u16))
         .collect();
 
-    // The file has no text for a string literal, and the check reads none.
     let literal = interner.get_or_intern("");
-    let mut store = SyntaxTree::new();
-    let mut nodes: Vec<NodeId> = vec![];
-    for node in &file.nodes {
-        let kind = kind(&node.shape, &symbols, &nodes, literal);
-        nodes.push(store.push(kind, node.start..node.end));
-    }
-    let ast = Ast::new(query(&file.query, &nodes), store);
-
-    Some(Tree {
+    Base {
         schema,
         interner,
-        ast,
         types,
-        nodes,
         symbols,
         numbers,
-    })
+        literal,
+    }
+}
+
+/// A query's tree over names and schema.
+pub fn build(tree: &file::Tree, base: &Base) -> Tree {
+    let mut store = SyntaxTree::new();
+    let mut nodes: Vec<NodeId> = vec![];
+    for node in &tree.nodes {
+        let kind = kind(&node.shape, &base.symbols, &nodes, base.literal);
+        nodes.push(store.push(kind, node.start..node.end));
+    }
+    let ast = Ast::new(query(&tree.query, &nodes), store);
+    Tree { ast, nodes }
 }
 
 /// For each name, whether a type or a predicate mentions it.

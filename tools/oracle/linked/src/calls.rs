@@ -3,6 +3,7 @@
 //! The C signatures, agreed with the port:
 //!
 //! ```c
+//! void sigla_begin(uint32_t *work, size_t work_len);
 //! uint32_t sigla_fresh(uint32_t *work, size_t work_len);
 //! uint32_t sigla_reserve(uint32_t *work, size_t work_len, uint32_t fields);
 //! void sigla_put_field(uint32_t *work, size_t work_len, uint32_t at, uint32_t name, uint32_t tag,
@@ -35,6 +36,7 @@ macro_rules! port {
 }
 
 port! {
+    fn sigla_begin(work: *mut u32, work_len: usize);
     fn sigla_fresh(work: *mut u32, work_len: usize) -> u32;
     fn sigla_reserve(work: *mut u32, work_len: usize, fields: u32) -> u32;
     fn sigla_put_field(
@@ -71,6 +73,11 @@ pub struct Unified {
     pub left: u32,
     /// The field's name where there is one, else 0.
     pub name: u32,
+}
+
+/// A list starts here.
+pub fn begin(work: &mut [u32]) {
+    unsafe { sigla_begin(work.as_mut_ptr(), work.len()) }
 }
 
 /// A new unknown: its number.

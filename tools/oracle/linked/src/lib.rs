@@ -7,11 +7,14 @@
 //! // zero byte; else the refusal's number.
 //! uint8_t sigla_check(const uint8_t *file, size_t file_len, uint32_t *work, size_t work_len,
 //!                     uint8_t *answer, size_t answer_len);
-//! // 0 where the file passes refusals 1 to 10, else the refusal's number.
+//! // For the comparison alone, of a library of its own: 0 where the file passes refusals 1 to 10, what it
+//! // says then standing in `work`; else the refusal's number, and `work` is zero throughout.
 //! uint8_t sigla_read(const uint8_t *file, size_t file_len, uint32_t *work, size_t work_len);
 //! ```
 
 pub mod calls;
+pub mod stack;
+pub mod texts;
 
 #[cfg(any(sigla_check, sigla_read))]
 unsafe extern "C" {

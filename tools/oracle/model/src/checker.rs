@@ -2,7 +2,7 @@
 
 use crate::ENDLESS;
 use crate::mutation::{Switch, Wrong};
-use crate::reader::{NodeRow, Stmt, Tree};
+use crate::reader::{NodeRow, Rows, Stmt, Tree};
 use crate::types::{Cells, Part, Ty};
 
 /// Why a run ended early.
@@ -70,6 +70,7 @@ struct Snapshot {
 
 pub struct State<'a> {
     tree: &'a Tree,
+    pub rows: &'a Rows,
     pub cells: Cells,
     pub subst: Vec<Option<Ty>>,
     env: Vec<(u16, usize)>,
@@ -83,15 +84,23 @@ pub struct State<'a> {
     pub wrong: Switch,
 }
 
-/// Checks a tree; the second part is the refusal, if the visits did not suffice.
-pub fn run(tree: &Tree, most_visits: u64, wrong: Switch) -> (State<'_>, Option<u8>) {
+/// Checks a query; the second part is the refusal, if the visits did not suffice. `before`
+/// is what the query before left, which only a wrong checker looks at.
+pub fn run<'a>(
+    tree: &'a Tree,
+    rows: &'a Rows,
+    before: Option<&State<'a>>,
+    most_visits: u64,
+    wrong: Switch,
+) -> (State<'a>, Option<u8>) {
     let value = tree.texts.iter().position(|text| text == b"value");
     let mut state = State {
         tree,
+        rows,
         cells: tree.cells.clone(),
         subst: Vec::new(),
         env: Vec::new(),
-        tys: vec![None; tree.nodes.len()],
+        tys: vec![None; rows.nodes.len()],
         undo: Vec::new(),
         reports: Vec::new(),
         visits: 0,
@@ -100,17 +109,39 @@ pub fn run(tree: &Tree, most_visits: u64, wrong: Switch) -> (State<'_>, Option<u
         value: value.map(|at| at as u16),
         wrong,
     };
+    if let Some(before) = before {
+        if wrong.on(Wrong::VisitsOverAll) {
+            state.visits = before.visits;
+        }
+        if wrong.on(Wrong::UnknownsOverAll) {
+            state.subst = vec![None; before.subst.len()];
+        }
+        if wrong.on(Wrong::NamesOfBefore) {
+            state.cells = before.cells.clone();
+            state.subst = before.subst.clone();
+            state.env = before.env.clone();
+        }
+    }
     let stopped = match state.query() {
         Ok(()) => None,
         Err(Stop::Visits) => Some(11),
         Err(Stop::Endless) => Some(ENDLESS),
     };
+    if let Some(before) = before
+        && wrong.on(Wrong::TypesOfBefore)
+    {
+        // A type that the earlier query made itself is not there any more.
+        let stands = |ty: &Ty| !matches!(ty, Ty::Var(_) | Ty::Record(_) | Ty::Union(_));
+        for (ty, old) in state.tys.iter_mut().zip(&before.tys) {
+            *ty = ty.or(old.filter(stands));
+        }
+    }
     (state, stopped)
 }
 
 impl<'a> State<'a> {
     fn node(&self, id: u16) -> &'a NodeRow {
-        &self.tree.nodes[id as usize]
+        &self.rows.nodes[id as usize]
     }
 
     fn report(&mut self, id: u16, code: Code) {
@@ -130,12 +161,12 @@ impl<'a> State<'a> {
     }
 
     fn query(&mut self) -> Run<()> {
-        let head = self.tree.head;
+        let head = self.rows.head;
         let first = self.wrong.on(Wrong::HeadFirst);
         if first {
             self.head(head)?;
         }
-        for stmt in &self.tree.body {
+        for stmt in &self.rows.body {
             self.stmt(*stmt)?;
             if self.wrong.on(Wrong::FirstStatementOnly) {
                 break;
@@ -429,7 +460,7 @@ impl<'a> State<'a> {
     }
 
     fn destructurable(&self, id: u16) -> bool {
-        self.names_only(id, self.tree.nodes.len())
+        self.names_only(id, self.rows.nodes.len())
     }
 
     /// `fuel` ends the walk where a wrong reader let a node name itself.

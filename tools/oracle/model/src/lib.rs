@@ -13,8 +13,10 @@ mod types;
 mod unify;
 mod writer;
 
+use checker::State;
 pub use mutation::MUTATIONS;
 use mutation::{Switch, Wrong};
+use reader::Tree;
 
 /// What a caller lends: words of the work slice, bytes of the answer slice, visits.
 #[derive(Clone, Copy, Debug, PartialEq, Eq)]
@@ -48,15 +50,15 @@ pub enum Answer {
 /// one gives it.
 pub const ENDLESS: u8 = 255;
 
-/// An answer, and the visits that were made for it (0 where reading already failed).
+/// An answer, and the visits of each query that ran (none where reading already failed).
 #[derive(Clone, Debug, PartialEq, Eq)]
 pub struct Ran {
     pub answer: Answer,
-    pub visits: u64,
+    pub visits: Vec<u64>,
 }
 
 impl Ran {
-    fn refused(number: u8, visits: u64) -> Ran {
+    fn refused(number: u8, visits: Vec<u64>) -> Ran {
         Ran {
             answer: Answer::Refused(number),
             visits,
@@ -68,23 +70,52 @@ impl Ran {
 pub fn answer(file: &[u8], limits: &Limits, mutation: Option<usize>) -> Ran {
     let wrong = Switch::new(mutation);
     if let Some(number) = sizes(file, limits, wrong) {
-        return Ran::refused(number, 0);
+        return Ran::refused(number, Vec::new());
     }
-    let tree = match reader::read(file, wrong) {
-        Ok(tree) => tree,
-        Err(number) => return Ran::refused(number, 0),
+    let (tree, refused) = reader::read(file, wrong);
+    if let Some(number) = refused {
+        if wrong.on(Wrong::RunWhileRead)
+            && let Err(ran) = run(&tree, limits, wrong)
+        {
+            return ran;
+        }
+        return Ran::refused(number, Vec::new());
+    }
+    let states = match run(&tree, limits, wrong) {
+        Ok(states) => states,
+        Err(ran) => return ran,
     };
-    let (state, stopped) = checker::run(&tree, limits.visits, wrong);
-    if let Some(number) = stopped {
-        return Ran::refused(number, state.visits);
-    }
-    match writer::write(&tree, &state, limits.bytes, wrong) {
+    let visits = states.iter().map(|state| state.visits).collect();
+    match writer::write(&states, limits.bytes, wrong) {
         Ok(lines) => Ran {
             answer: Answer::Lines(lines),
-            visits: state.visits,
+            visits,
         },
-        Err(number) => Ran::refused(number, state.visits),
+        Err(number) => Ran::refused(number, visits),
     }
+}
+
+/// Runs all queries; the first that does not end decides.
+fn run<'a>(tree: &'a Tree, limits: &Limits, wrong: Switch) -> Result<Vec<State<'a>>, Ran> {
+    let mut states: Vec<State> = Vec::new();
+    for rows in &tree.queries {
+        let (state, stopped) = checker::run(tree, rows, states.last(), limits.visits, wrong);
+        match stopped {
+            Some(11) if wrong.on(Wrong::OneRunsOut) && !states.is_empty() => continue,
+            Some(number) => {
+                let mut visits: Vec<u64> = states.iter().map(|state| state.visits).collect();
+                visits.push(state.visits);
+                return Err(Ran::refused(number, visits));
+            }
+            None => states.push(state),
+        }
+        if wrong.on(Wrong::TwelveBeforeEleven)
+            && let Err(number) = writer::write(&states, limits.bytes, wrong)
+        {
+            return Err(Ran::refused(number, Vec::new()));
+        }
+    }
+    Ok(states)
 }
 
 /// Refusals 1 and 2, which come before any line is looked at.

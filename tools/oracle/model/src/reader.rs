@@ -1,5 +1,6 @@
 //! The second reader. A frame becomes a row of slots by the tables below, and each
-//! refusal is a question to the whole row: 6 while it is cut, then 9, then 10.
+//! refusal is a question to the whole row: 6 while it is cut, then 9, then 10. A query's
+//! line closes the rows before it, and the next query begins with none.
 
 use crate::mutation::{Switch, Wrong};
 use crate::text;
@@ -129,6 +130,17 @@ pub struct PredicateRow {
     pub value: Option<Ty>,
 }
 
+/// The most queries.
+const MOST_QUERIES: usize = 64;
+
+/// One query: its nodes, its head and its statements.
+#[derive(Clone, Debug, Default)]
+pub struct Rows {
+    pub nodes: Vec<NodeRow>,
+    pub head: u16,
+    pub body: Vec<Stmt>,
+}
+
 /// All that a file describes.
 #[derive(Clone, Debug, Default)]
 pub struct Tree {
@@ -139,54 +151,31 @@ pub struct Tree {
     pub cells: Cells,
     pub types: Vec<Ty>,
     pub predicates: Vec<PredicateRow>,
-    pub nodes: Vec<NodeRow>,
-    pub head: u16,
-    pub body: Vec<Stmt>,
+    pub queries: Vec<Rows>,
 }
 
 struct Reader {
     tree: Tree,
+    /// The query that is not closed yet.
+    rows: Rows,
     named: Vec<bool>,
     previous: u8,
     predicate_names: Vec<u32>,
     wrong: Switch,
 }
 
-/// Reads the lines in order; the first refusal ends it.
-pub fn read(file: &[u8], wrong: Switch) -> Result<Tree, u8> {
+/// Reads the lines in order; the first refusal ends it. The tree is what came before that.
+pub fn read(file: &[u8], wrong: Switch) -> (Tree, Option<u8>) {
     let mut reader = Reader {
         tree: Tree::default(),
+        rows: Rows::default(),
         named: Vec::new(),
         previous: 0,
         predicate_names: Vec::new(),
         wrong,
     };
-    if wrong.on(Wrong::LinesDecodedFirst) {
-        for line in file.split_inclusive(|&b| b == b'\n') {
-            decode(line, wrong)?;
-        }
-    }
-    for line in file.split_inclusive(|&b| b == b'\n') {
-        if line == b"\n" && wrong.on(Wrong::EmptyLineSkipped) {
-            continue;
-        }
-        if line == b"\n" && wrong.on(Wrong::LastLfSkipped) && reader.previous == 6 {
-            continue;
-        }
-        if wrong.on(Wrong::KindBeforeLine) {
-            reader.early_kind(line)?;
-        }
-        let frame = decode(line, wrong)?;
-        reader.frame(&frame)?;
-    }
-    if reader.previous != 6 {
-        return Err(match () {
-            _ if wrong.on(Wrong::MissingQueryIsThree) => 3,
-            _ if wrong.on(Wrong::EmptyFileIsThree) && file.is_empty() => 3,
-            _ => 4,
-        });
-    }
-    Ok(reader.tree)
+    let refused = reader.lines(file).err();
+    (reader.tree, refused)
 }
 
 /// Refusal 3, and the line's bytes where it does not apply.
@@ -235,6 +224,37 @@ fn digit(byte: u8, wrong: Switch) -> Option<u8> {
 }
 
 impl Reader {
+    fn lines(&mut self, file: &[u8]) -> Result<(), u8> {
+        let wrong = self.wrong;
+        if wrong.on(Wrong::LinesDecodedFirst) {
+            for line in file.split_inclusive(|&b| b == b'\n') {
+                decode(line, wrong)?;
+            }
+        }
+        for line in file.split_inclusive(|&b| b == b'\n') {
+            if line == b"\n" && wrong.on(Wrong::EmptyLineSkipped) {
+                continue;
+            }
+            if line == b"\n" && wrong.on(Wrong::LastLfSkipped) && self.previous == 6 {
+                continue;
+            }
+            if wrong.on(Wrong::KindBeforeLine) {
+                self.early_kind(line)?;
+            }
+            let frame = decode(line, wrong)?;
+            self.frame(&frame)?;
+        }
+        if self.previous == 6 {
+            return Ok(());
+        }
+        Err(match () {
+            _ if wrong.on(Wrong::NodesLast) && !self.tree.queries.is_empty() => return Ok(()),
+            _ if wrong.on(Wrong::MissingQueryIsThree) => 3,
+            _ if wrong.on(Wrong::EmptyFileIsThree) && file.is_empty() => 3,
+            _ => 4,
+        })
+    }
+
     fn frame(&mut self, frame: &[u8]) -> Result<(), u8> {
         let kind = frame[0];
         if self.previous == 6 && self.wrong.on(Wrong::AfterQueryIgnored) {
@@ -244,12 +264,19 @@ impl Reader {
         if self.wrong.on(Wrong::FiveBeforeFour) && self.full(kind) {
             return Err(5);
         }
+        let many = self.many(kind);
+        if self.wrong.on(Wrong::ThirteenBeforeFour) {
+            many?;
+        }
         if !placed {
             return Err(4);
         }
         let over = self.full(kind);
         if over && !self.wrong.on(Wrong::FiveAfterContent) {
             return Err(5);
+        }
+        if !self.wrong.on(Wrong::ThirteenAfterContent) {
+            many?;
         }
         if kind == 2 {
             self.name(&frame[1..], over)?;
@@ -276,6 +303,7 @@ impl Reader {
             if over {
                 return Err(5);
             }
+            many?;
             self.keep(kind, &row);
         }
         self.previous = kind;
@@ -293,7 +321,7 @@ impl Reader {
         Ok(())
     }
 
-    /// Refusal 4: 01 once and first, never falling, nothing after 06.
+    /// Refusal 4: 01 once and first, never falling, 05 alone after 06.
     fn may_follow(&self, kind: u8) -> bool {
         if !(1..=6).contains(&kind) {
             return false;
@@ -301,7 +329,12 @@ impl Reader {
         match self.previous {
             0 => kind == 1 || self.wrong.on(Wrong::AnyFirstKind),
             1 => kind != 1 || self.wrong.on(Wrong::LimitsTwice),
-            6 => kind == 6 && self.wrong.on(Wrong::QueryTwice),
+            6 => match kind {
+                5 => !self.wrong.on(Wrong::NothingAfterQuery),
+                6 => self.wrong.on(Wrong::QueryTwice),
+                1 => self.wrong.on(Wrong::LimitsAfterQuery),
+                _ => self.wrong.on(Wrong::SchemaAfterQuery),
+            },
             _ if self.wrong.on(Wrong::StrictlyRising) => kind > self.previous,
             4 if kind == 3 && self.wrong.on(Wrong::TypeAfterPredicate) => true,
             3 if kind == 2 && self.wrong.on(Wrong::NameAfterType) => true,
@@ -309,14 +342,39 @@ impl Reader {
         }
     }
 
-    /// Refusal 5 goes by the kind alone.
+    /// Refusal 13 goes by the kind alone.
+    fn many(&self, kind: u8) -> Result<(), u8> {
+        let most = match () {
+            _ if self.wrong.on(Wrong::QueriesOneMore) => MOST_QUERIES + 1,
+            _ if self.wrong.on(Wrong::QueriesOneLess) => MOST_QUERIES - 1,
+            _ => MOST_QUERIES,
+        };
+        let of = match () {
+            _ if self.wrong.on(Wrong::ThirteenAtNode) => 5,
+            _ => 6,
+        };
+        if kind < of || self.tree.queries.len() < most {
+            return Ok(());
+        }
+        Err(match () {
+            _ if self.wrong.on(Wrong::ThirteenIsFive) => 5,
+            _ => 13,
+        })
+    }
+
+    /// Refusal 5 goes by the kind alone; nodes are counted for each query.
     fn full(&self, kind: u8) -> bool {
         let tree = &self.tree;
+        let before: usize = tree.queries.iter().map(|rows| rows.nodes.len()).sum();
+        let nodes = match () {
+            _ if self.wrong.on(Wrong::NodesOverAll) => before + self.rows.nodes.len(),
+            _ => self.rows.nodes.len(),
+        };
         let have = [
             tree.texts.len(),
             tree.types.len(),
             tree.predicates.len(),
-            tree.nodes.len(),
+            nodes,
         ];
         let more = [
             Wrong::NamesOneMore,
@@ -476,8 +534,10 @@ impl Reader {
                     value < tree.predicates.len()
                 }
                 Node => {
-                    let count = tree.nodes.len();
+                    let count = self.rows.nodes.len();
+                    let before = tree.queries.last().map_or(0, |rows| rows.nodes.len());
                     let earlier = match () {
+                        _ if wrong.on(Wrong::OtherQuerysNode) => value < count.max(before),
                         _ if kind == 5 && wrong.on(Wrong::NodeMayNameItself) => value <= count,
                         _ if kind == 6 && wrong.on(Wrong::LastNodeUnnamed) => value + 1 < count,
                         _ => value < count,
@@ -577,10 +637,28 @@ impl Reader {
             }
             5 => self.keep_node(row),
             _ => {
-                self.tree.head = values[0] as u16;
-                self.tree.body = statements(&row[1..]);
+                self.rows.head = values[0] as u16;
+                self.rows.body = statements(&row[1..]);
+                if self.names_beyond(row) {
+                    self.rows.head = 0;
+                    self.rows.body.clear();
+                }
+                self.tree.queries.push(std::mem::take(&mut self.rows));
+                if !self.wrong.on(Wrong::NamedOverAll) {
+                    self.named.clear();
+                }
             }
         }
+    }
+
+    /// Only a wrong reader lets a frame name a node that this query has not.
+    fn names_beyond(&self, row: &[(Slot, u32)]) -> bool {
+        let count = self.rows.nodes.len();
+        let mistaken = self.wrong.on(Wrong::OtherQuerysNode);
+        mistaken
+            && row
+                .iter()
+                .any(|&(slot, at)| slot == Node && at as usize >= count)
     }
 
     fn keep_type(&mut self, values: &[u32]) {
@@ -636,7 +714,11 @@ impl Reader {
             }
             node.name = name;
         }
-        self.tree.nodes.push(node);
+        if self.names_beyond(row) {
+            // It reads as a literal.
+            node = NodeRow::default();
+        }
+        self.rows.nodes.push(node);
     }
 }
 

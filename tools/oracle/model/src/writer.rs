@@ -4,10 +4,10 @@
 use crate::ENDLESS;
 use crate::checker::State;
 use crate::mutation::{Switch, Wrong};
-use crate::reader::Tree;
 use crate::types::{Cells, Ty};
 
 struct Writer<'a> {
+    /// The query whose lines are being written.
     state: &'a State<'a>,
     out: Vec<u8>,
     most: usize,
@@ -18,57 +18,135 @@ struct Writer<'a> {
 type Written = Result<(), u8>;
 
 /// The lines of the answer, or refusal 12.
-pub fn write(tree: &Tree, state: &State, most: usize, wrong: Switch) -> Result<Vec<u8>, u8> {
+pub fn write(states: &[State], most: usize, wrong: Switch) -> Result<Vec<u8>, u8> {
+    let lines = |state: &State| state.tys.len() + state.reports.len();
+    let numbered = match () {
+        _ if wrong.on(Wrong::NumberedAlone) => true,
+        _ if wrong.on(Wrong::Unnumbered) => false,
+        _ => states.len() > 1,
+    };
     let most = match () {
         _ if wrong.on(Wrong::AnswerOneMore) => most + 1,
         _ if wrong.on(Wrong::AnswerOneLess) => most.saturating_sub(1),
-        _ if wrong.on(Wrong::LfsUncounted) => most + state.tys.len() + state.reports.len(),
+        _ if wrong.on(Wrong::LfsUncounted) => most + states.iter().map(lines).sum::<usize>(),
+        _ if wrong.on(Wrong::NumbersUncounted) && numbered => most + 7 * states.len(),
         _ => most,
     };
-    let mut writer = Writer {
-        state,
-        out: Vec::new(),
-        most,
-        wrong,
-    };
-    for (node, ty) in state.tys.iter().enumerate() {
-        writer.bytes(&[7])?;
-        writer.short(node as u16)?;
-        match ty {
-            None => writer.bytes(&[0xff])?,
-            Some(ty) => writer.ty(*ty, 0)?,
-        }
-        writer.end()?;
+    let mut order: Vec<usize> = (0..states.len()).collect();
+    match () {
+        _ if wrong.on(Wrong::FirstQueryOnly) => order.truncate(1),
+        _ if wrong.on(Wrong::LastQueryOnly) => drop(order.drain(..states.len() - 1)),
+        _ if wrong.on(Wrong::QueriesBackwards) => order.reverse(),
+        _ => {}
     }
-    let mut reports = state.reports.clone();
-    if wrong.on(Wrong::ReportsBySpan) {
-        reports.sort_by_key(|report| tree.nodes[report.0 as usize].start);
-    }
-    if wrong.on(Wrong::ReportsOnce) {
-        let mut seen = Vec::new();
-        reports.retain(|report| {
-            let new = !seen.contains(&report.0);
-            seen.push(report.0);
-            new
-        });
-    }
-    for (node, code) in reports {
-        let row = &tree.nodes[node as usize];
-        let (start, end) = match () {
-            _ if wrong.on(Wrong::SpanSwapped) => (row.end, row.start),
-            _ if wrong.on(Wrong::SpanLength) => (row.start, row.end.wrapping_sub(row.start)),
-            _ => (row.start, row.end),
+    let mut whole = Vec::new();
+    for &number in &order {
+        let mut writer = Writer {
+            state: &states[number],
+            out: std::mem::take(&mut whole),
+            most,
+            wrong,
         };
-        writer.bytes(&[8])?;
-        writer.bytes(&start.to_be_bytes())?;
-        writer.bytes(&end.to_be_bytes())?;
-        writer.bytes(code.as_str().as_bytes())?;
-        writer.end()?;
+        if wrong.on(Wrong::LengthByQuery) {
+            writer.most = most + writer.out.len();
+        }
+        let first = number == 0 && wrong.on(Wrong::FirstUnnumbered);
+        let late = wrong.on(Wrong::NumberAfter);
+        if numbered && !first && !late {
+            writer.number(number)?;
+        }
+        writer.types()?;
+        if !wrong.on(Wrong::ReportsLast) {
+            let from = if wrong.on(Wrong::ReportsOfBefore) {
+                0
+            } else {
+                number
+            };
+            for state in &states[from..=number] {
+                writer.reports(state)?;
+            }
+        }
+        if numbered && late {
+            writer.number(number)?;
+        }
+        whole = writer.out;
     }
-    Ok(writer.out)
+    if wrong.on(Wrong::ReportsLast) {
+        for state in states {
+            let mut writer = Writer {
+                state,
+                out: std::mem::take(&mut whole),
+                most,
+                wrong,
+            };
+            writer.reports(state)?;
+            whole = writer.out;
+        }
+    }
+    Ok(whole)
 }
 
 impl Writer<'_> {
+    /// The line before a query's own.
+    fn number(&mut self, query: usize) -> Written {
+        let number = match () {
+            _ if self.wrong.on(Wrong::NumbersFromOne) => query + 1,
+            _ => query,
+        };
+        self.bytes(&[0x0b])?;
+        if self.wrong.on(Wrong::NumberOneByte) {
+            self.bytes(&[number as u8])?;
+        } else {
+            self.short(number as u16)?;
+        }
+        self.end()
+    }
+
+    fn types(&mut self) -> Written {
+        let state = self.state;
+        for (node, ty) in state.tys.iter().enumerate() {
+            self.bytes(&[7])?;
+            self.short(node as u16)?;
+            match ty {
+                None => self.bytes(&[0xff])?,
+                Some(ty) => self.ty(*ty, 0)?,
+            }
+            self.end()?;
+        }
+        Ok(())
+    }
+
+    fn reports(&mut self, of: &State) -> Written {
+        let wrong = self.wrong;
+        let nodes = &of.rows.nodes;
+        let mut reports = of.reports.clone();
+        if wrong.on(Wrong::ReportsBySpan) {
+            reports.sort_by_key(|report| nodes[report.0 as usize].start);
+        }
+        if wrong.on(Wrong::ReportsOnce) {
+            let mut seen = Vec::new();
+            reports.retain(|report| {
+                let new = !seen.contains(&report.0);
+                seen.push(report.0);
+                new
+            });
+        }
+        for (node, code) in reports {
+            let row = &nodes[node as usize];
+            let (start, end) = match () {
+                _ if wrong.on(Wrong::SpanSwapped) => (row.end, row.start),
+                _ if wrong.on(Wrong::SpanLength) => (row.start, row.end.wrapping_sub(row.start)),
+                _ => (row.start, row.end),
+            };
+            self.bytes(&[8])?;
+            self.bytes(&start.to_be_bytes())?;
+            self.bytes(&end.to_be_bytes())?;
+            self.bytes(code.as_str().as_bytes())?;
+            self.end()?;
+        }
+        Ok(())
+    }
+
     fn bytes(&mut self, bytes: &[u8]) -> Written {
         const DIGITS: &[u8; 16] = b"0123456789abcdef";
         for &byte in bytes {

@@ -19,12 +19,18 @@ pub fn run(given: &[String]) -> Done {
     match &options.words[..] {
         [what] if what == "answers" && linked::HAS_CHECK => answers(&options, rounds),
         [what] if what == "reading" && linked::HAS_READ => reading(&options, rounds),
-        [what] if what == "answers" || what == "reading" => {
+        [what] if what == "shapes" && linked::HAS_CHECK => shapes(rounds),
+        [what] if what == "forms" && linked::HAS_CHECK => forms(rounds),
+        [what] if what == "texts" => crate::texts::bench(rounds.max(20)),
+        [what] if ["answers", "reading", "shapes", "forms"].contains(&what.as_str()) => {
             Err(format!("nothing to time: {}", crate::compare::NO_LIBRARY))
         }
-        _ => Err("bench what? one of answers, reading".to_owned()),
+        _ => Err("bench what? one of answers, reading, shapes, forms, texts".to_owned()),
     }
 }
+
+/// How both sides were built; the workspace's Cargo.toml has it.
+const BEST: &str = "the Rust: opt-level 3, fat link-time optimization, one codegen unit, no debug assertions; the port: rt staticlib";
 
 /// One file's times: the quickest of all rounds.
 struct Timed {
@@ -83,6 +89,7 @@ fn answers(options: &Options, rounds: u32) -> Done {
     let limits = Limits::default();
     let mut slices = Slices::new(&limits);
     let mut all = vec![];
+    println!("{BEST}");
     println!(
         "the port's call / the Rust's reading, tree and check; [the answer's lines counted too]"
     );
@@ -93,15 +100,13 @@ fn answers(options: &Options, rounds: u32) -> Done {
         for number in 0..count {
             let file = files::generate(style, trial::nth(seed, number));
             // The Rust has no limit of visits and none for types' size.
-            let ends = !matches!(
-                judge::answer(&file, &limits).answer,
-                Answer::LeftOut(_) | Answer::Refused(11 | 12)
-            );
-            if ends {
-                timed.push(answer_times(&file, &limits, rounds, &mut slices));
-            } else {
+            let answer = judge::answer(&file, &limits).answer;
+            if matches!(answer, Answer::LeftOut(_) | Answer::Refused(11 | 12)) {
                 left_out += 1;
+                continue;
             }
+            right(&format!("{style} {number}"), &file, &answer, &limits)?;
+            timed.push(answer_times(&file, &limits, rounds, &mut slices));
         }
         line(style, &timed, left_out);
         all.append(&mut timed);
@@ -281,4 +286,162 @@ fn grown(mut time: impl FnMut(&[u8]) -> Timed, limits: &Limits) -> Result<(), St
         }
     }
     Ok(())
+}
+
+/// Files of one shape each, with where the time goes on both sides, and a million visits.
+fn shapes(rounds: u32) -> Done {
+    let limits = Limits::default();
+    let mut slices = Slices::new(&limits);
+    let mut all = files::shapes();
+    for (what, most) in files::GROWING {
+        let file = files::filled(what, most).expect("it is listed");
+        all.push((format!("{what}-{most}"), file));
+    }
+    for (name, file) in files::nested() {
+        if ["everything-0-true", "everything-2-true"].contains(&name.as_str()) {
+            all.push((name, file));
+        }
+    }
+    let mut visits = 0;
+    for seed in 0..40 {
+        let file = files::generate("visits", seed);
+        if matches!(judge::answer(&file, &limits).answer, Answer::Lines(_)) && visits < 4 {
+            visits += 1;
+            all.push((format!("visits-{seed}"), file));
+        }
+    }
+    println!("{BEST}");
+    println!(
+        "times in us; a ratio below 1 is the port's call quicker than the Rust; [with its lines]"
+    );
+    println!(
+        "{:22} {:>6} {:>9} | {:>9} {:>6} {:>8} {:>9} | {:>9} {:>8} {:>8} {:>9} {:>8} {:>8} | {:>6} {:>7}",
+        "file",
+        "bytes",
+        "visits",
+        "port",
+        "clear",
+        "read",
+        "rest",
+        "Rust",
+        "read",
+        "build",
+        "check",
+        "free",
+        "lines",
+        "ratio",
+        "[lines]"
+    );
+    for (name, file) in &all {
+        let ran = judge::answer(file, &limits);
+        let Answer::Lines(_) = ran.answer else {
+            return Err(format!("{name} is not accepted: {:?}", ran.answer));
+        };
+        right(name, file, &ran.answer, &limits)?;
+        let mut port = [Duration::MAX; 3];
+        let mut rust: Option<Parts> = None;
+        for _ in 0..rounds {
+            port[0] = port[0].min(slices.check(file));
+            port[1] = port[1].min(slices.check(b""));
+            if linked::HAS_READ {
+                port[2] = port[2].min(slices.read(file));
+            }
+            let parts = judge::timed(file, &limits);
+            if rust.is_none_or(|best| parts.answered() < best.answered()) {
+                rust = Some(parts);
+            }
+        }
+        let [whole, clear, read] = port;
+        let rust = rust.expect("one round at least");
+        println!(
+            "{name:22} {:6} {:9} | {:9.2} {:6.2} {:8.2} {:9.2} | {:9.2} {:8.2} {:8.2} {:9.2} {:8.2} {:8.2} | {:6.2} {:>7}",
+            file.len(),
+            ran.visits.iter().sum::<u64>(),
+            micros(whole),
+            micros(clear),
+            micros(read),
+            micros(whole.saturating_sub(clear).saturating_sub(read)),
+            micros(rust.checked()),
+            micros(rust.read),
+            micros(rust.build),
+            micros(rust.check),
+            micros(rust.free),
+            micros(rust.write),
+            whole.as_secs_f64() / rust.checked().as_secs_f64(),
+            format!(
+                "[{:.2}]",
+                whole.as_secs_f64() / rust.answered().as_secs_f64()
+            ),
+        );
+    }
+    Ok(true)
+}
+
+/// Whether the port's answer is the Rust's: a wrong one is not worth timing.
+fn right(name: &str, file: &[u8], expected: &Answer, limits: &Limits) -> Result<(), String> {
+    let (found, expected) = crate::port::Port::Library.ask(file, limits, expected)?;
+    if found == expected {
+        return Ok(());
+    }
+    let first = String::from_utf8_lossy(found.split(|byte| *byte == b'\n').next().unwrap_or(b""))
+        .into_owned();
+    Err(format!("{name}: the port's answer is another ({first})"))
+}
+
+/// A form beside the Rust that reads the schema once, and beside a call of the port for each query alone.
+fn forms(rounds: u32) -> Done {
+    let limits = Limits::default();
+    let mut slices = Slices::new(&limits);
+    println!("{BEST}");
+    println!(
+        "times in us: the port's call on a form, the Rust (one reading, one schema, a tree and a check for each query),"
+    );
+    println!("and the port's calls on files of one query each; ratios of the first to the others");
+    println!(
+        "{:>7} {:>6} {:>9} {:>9} {:>9} {:>9} | {:>6} {:>7} {:>6}",
+        "queries", "bytes", "port", "Rust", "[lines]", "alone", "Rust", "[lines]", "alone"
+    );
+    for queries in [1, 2, 4, 8, 15, 30, 60, 64] {
+        let mut sums = [Duration::ZERO; 4];
+        let mut bytes = 0;
+        for seed in 1..=5 {
+            let file = files::form(queries, seed);
+            let ran = judge::answer(&file, &limits);
+            let Answer::Lines(lines) = &ran.answer else {
+                return Err(format!(
+                    "a form of {queries} is not accepted: {:?}",
+                    ran.answer
+                ));
+            };
+            right(&format!("a form of {queries}"), &file, &ran.answer, &limits)?;
+            let alone: Vec<Vec<u8>> = match queries {
+                1 => vec![file.clone()],
+                _ => {
+                    let parts = crate::compare::alone(&file, lines);
+                    parts.into_iter().map(|(file, _)| file).collect()
+                }
+            };
+            let mut best = [Duration::MAX; 4];
+            for _ in 0..rounds {
+                best[0] = best[0].min(slices.check(&file));
+                let parts = judge::timed(&file, &limits);
+                best[1] = best[1].min(parts.checked());
+                best[2] = best[2].min(parts.answered());
+                let each = alone.iter().map(|file| slices.check(file)).sum();
+                best[3] = best[3].min(each);
+            }
+            bytes += file.len() / 5;
+            for (sum, best) in sums.iter_mut().zip(best) {
+                *sum += best / 5;
+            }
+        }
+        let [port, rust, lines, alone] = sums.map(|time| time.as_secs_f64() * 1e6);
+        println!(
+            "{queries:7} {bytes:6} {port:9.2} {rust:9.2} {lines:9.2} {alone:9.2} | {:6.2} {:>7} {:6.2}",
+            port / rust,
+            format!("[{:.2}]", port / lines),
+            port / alone
+        );
+    }
+    Ok(true)
 }

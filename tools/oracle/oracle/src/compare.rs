@@ -9,6 +9,7 @@ use crate::mismatch::Mismatches;
 use crate::options::Options;
 use crate::port::Port;
 use crate::tally::{Progress, Tally};
+use crate::texts;
 
 /// The most files tried to make one that shows a mismatch smaller.
 const TRIES: usize = 20_000;
@@ -31,7 +32,8 @@ pub fn run(given: &[String]) -> Done {
         [what] if what == "answers" => answers(&options),
         [what] if what == "reading" => reading(&options),
         [what] if what == "calls" => calls::run(&options),
-        _ => Err("compare what? one of answers, reading, calls".to_owned()),
+        [what] if what == "texts" => texts::compare(),
+        _ => Err("compare what? one of answers, reading, calls, texts".to_owned()),
     }
 }
 
@@ -73,6 +75,7 @@ fn answers(options: &Options) -> Done {
     let mut tally = Tally::default();
     let mut progress = Progress::new(corpus.count());
     let mut asked = 0;
+    let mut alone = 0;
 
     for number in 0..corpus.count() {
         let item = corpus.item(number);
@@ -91,6 +94,7 @@ fn answers(options: &Options) -> Done {
                 compare(port, &item, &other_limits(&ran, number), &mut mismatches)?;
             }
         }
+        alone += each_alone(&ports, &item, &ran, &mut mismatches)?;
         if mismatches.too_many() {
             println!("stopped after {} mismatches", mismatches.count);
             break;
@@ -99,12 +103,79 @@ fn answers(options: &Options) -> Done {
     }
     tally.print();
     println!(
-        "compare answers: {} files, {} left out, {asked} comparisons, {} mismatches",
+        "compare answers: {} files, {} left out, {asked} comparisons, {alone} of a query's lines with the \
+         answer to it alone, {} mismatches",
         tally.files,
         tally.left_out(),
         mismatches.count
     );
     Ok(mismatches.count == 0)
+}
+
+/// Of an accepted form, each query's lines beside what the ports answer to the file of the lines 01 to 04
+/// and that query's own. Tells how many were compared.
+fn each_alone(
+    ports: &[Port],
+    item: &Item,
+    ran: &Ran,
+    mismatches: &mut Mismatches,
+) -> Result<u64, String> {
+    let Answer::Lines(answer) = &ran.answer else {
+        return Ok(0);
+    };
+    if !answer.starts_with(b"0b") {
+        return Ok(0);
+    }
+    let mut compared = 0;
+    let limits = Limits::default();
+    for (query, (file, lines)) in alone(&item.file, answer).into_iter().enumerate() {
+        let expected = Answer::Lines(lines);
+        for port in ports {
+            compared += 1;
+            let (found, expected) = port.ask(&file, &limits, &expected)?;
+            if found != expected {
+                mismatches.keep(
+                    &format!("{}-{}-query-{query}", port.name(), item.name),
+                    &[
+                        ("file", &item.file),
+                        ("alone", &file),
+                        ("expected", &expected),
+                        ("found", &found),
+                    ],
+                )?;
+            }
+        }
+    }
+    Ok(compared)
+}
+
+/// For each query of a form the file with it alone, cut from the form's own lines, and the lines of the
+/// answer that stand between its 0b line and the next.
+pub fn alone(form: &[u8], answer: &[u8]) -> Vec<(Vec<u8>, Vec<u8>)> {
+    let mut schema = vec![];
+    let mut files = vec![];
+    let mut own = vec![];
+    for line in form.split_inclusive(|byte| *byte == b'\n') {
+        match &line[..2] {
+            b"05" => own.extend_from_slice(line),
+            b"06" => {
+                own.extend_from_slice(line);
+                files.push([&schema[..], &std::mem::take(&mut own)].concat());
+            }
+            _ => schema.extend_from_slice(line),
+        }
+    }
+    let mut parts: Vec<Vec<u8>> = vec![];
+    for line in answer.split_inclusive(|byte| *byte == b'\n') {
+        if line.starts_with(b"0b") {
+            parts.push(vec![]);
+        } else {
+            let part = parts.last_mut().expect("a form's answer begins with 0b");
+            part.extend_from_slice(line);
+        }
+    }
+    assert_eq!(files.len(), parts.len(), "a 0b line for each query");
+    files.into_iter().zip(parts).collect()
 }
 
 /// Lengths around each boundary, and the answer's own.
@@ -175,10 +246,12 @@ fn compare(
     )
 }
 
-/// The reading alone: refusals 1 to 10, or none.
+/// The reading alone: refusals 1 to 10 and 13, or none.
 fn reading(options: &Options) -> Done {
     if !linked::HAS_READ {
-        return Err(format!("nothing to compare the reading with: {NO_LIBRARY}"));
+        return Err("nothing to compare the reading with: libreading_calls.a was not there when oracle was \
+            built (READING_LIB, or target/staticlib at the repository's top)"
+            .to_owned());
     }
     let corpus = Corpus::from(options)?;
     let mut mismatches = Mismatches::new(options.text("out"));
@@ -203,7 +276,7 @@ fn reading(options: &Options) -> Done {
         };
         let ran = Ran {
             answer,
-            visits: 0,
+            visits: vec![],
             codes: vec![],
         };
         tally.add(&ran, read.ok().as_ref());

@@ -10,7 +10,9 @@ mod port;
 mod printed;
 mod record;
 mod selftest;
+mod stack;
 mod tally;
+mod texts;
 mod trials;
 
 use std::io::{Read, Write};
@@ -23,7 +25,7 @@ const HELP: &str = "\
 oracle answer [--words N] [--bytes N] [--visits]
     Reads a file on standard input and prints its answer: the lines, or 0f and the refusal's number.
     --words and --bytes are the lengths of the two slices (16384 and 65536).
-    --visits prints the line `visits N` on standard error as well.
+    --visits prints the line `visits` and each query's number of them on standard error as well.
     A file that the Rust can't hold prints nothing, says why on standard error and ends with status 2.
 
 oracle generate --seed S --count N [--style NAME] [--out DIR]
@@ -44,11 +46,13 @@ oracle mutants [--seed S] [--count N] [--usual]
 oracle compare answers --seed S --count N [--style NAME] [--program P] [--out DIR]
 oracle compare reading --seed S --count N [--style NAME] [--out DIR]
 oracle compare calls   --seed S --count N [--style NAME] [--out DIR]
+oracle compare texts
     Holds the port against the Rust on generated files: the program P (with arguments, if it needs
     some), from standard input to standard output, and the static library in process where it was
     there when oracle was built, with both slices full of ff before each call. Each mismatch is kept
     with both outputs and a smaller file that shows it too, in target/mismatch or DIR. Counts files
-    by refusal, code, node shape and statement. Ends with status 1 where there is a mismatch.
+    by refusal, code, node shape and statement. Of an accepted form each query's lines are also held
+    against what the port answers to that query alone. Ends with status 1 where there is a mismatch.
     In place of --seed and --count: `--bytes-exhaustive FILE` takes each prefix of FILE, FILE without
     each byte, and FILE with each byte changed to each other value; `--short` takes every file of up
     to two bytes, and every line of up to two bytes after a right first line; `--nested` takes a file for
@@ -56,23 +60,36 @@ oracle compare calls   --seed S --count N [--style NAME] [--out DIR]
     `--model` holds the model against the Rust, as `agree` does, on these files too.
     Calls are compared in process alone: random lists of unifications, snapshots and rollbacks over a
     generated schema, with the outcome, the visits left and every binding after each call.
+    Texts: every string of up to three bytes, and many of four, through both text tests of the port and the
+    Rust's own.
 
 oracle bench answers [--seed S] [--count N] [--rounds R] [--style NAME]
 oracle bench reading [--seed S] [--count N] [--rounds R] [--style NAME]
+oracle bench shapes [--rounds R]
+oracle bench forms [--rounds R]
+oracle bench texts [--rounds R]
     Times the port's call in process beside the Rust's reading, tree building and `check`, or the port's
     reading beside the judge's reader: N files of each style, the quickest of R rounds of each, as ratios
     (below 1 the port is quicker), by style, by length, and for files that grow in one respect; with
     --style that style alone. Files that the Rust can't hold, and those of refusals 11 and 12, which it
     does not know, are left out. Where the port's time goes: valgrind --tool=callgrind
     --toggle-collect=sigla_check target/release/oracle bench answers --style large --rounds 1, then
-    callgrind_annotate.
+    callgrind_annotate (it counts `rep stosb`, with which slices are cleared, by bytes).
+    Shapes: files with wide, nested and many types, long chains and a million visits, and where the time goes
+    on both sides. Forms: a file of up to 64 queries beside the Rust that reads the schema once, and beside as
+    many calls with one query each. Texts: both text tests on names of 511 bytes beside the Rust's own.
 
 oracle record [--check]
     Writes crates/replay/stdin, the recorded sample of answers; with --check holds it against the
     generator and the Rust instead.
 
+oracle stack [--most BYTES] [--out FILE]
+    The greatest use of stack by the port's call, in process, on a thread whose stack is painted: over the
+    files of `--nested`, others that nest shapes of nodes over the deepest types, and the deep styles. Prints
+    the files that use most; --out writes the first of them. Ends with status 1 where it is more than --most.
+
 oracle selftest
-    Every example of document 01, and the text examples of RFC 3629.
+    Every example of document 01, the text examples of RFC 3629, and what card 3 says of several queries.
 
 oracle help
     This text.
@@ -110,6 +127,7 @@ fn run(given: &[String]) -> Done {
         "mutants" => trials::mutants(rest),
         "record" => record::run(rest),
         "selftest" => selftest::run(rest),
+        "stack" => stack::run(rest),
         "help" | "--help" => {
             print!("{HELP}");
             Ok(true)
@@ -131,7 +149,8 @@ fn answer(given: &[String]) -> Done {
         .map_err(|why| format!("standard input: {why}"))?;
     let ran = judge::answer(&file, &limits);
     if options.flag("visits") {
-        eprintln!("visits {}", ran.visits);
+        let visits: Vec<String> = ran.visits.iter().map(u64::to_string).collect();
+        eprintln!("visits {}", visits.join(" "));
     }
     let text = printed::printed(&ran.answer)
         .map_err(|why| format!("the Rust can't hold this file: {why}"))?;

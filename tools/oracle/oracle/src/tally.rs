@@ -14,7 +14,11 @@ pub struct Tally {
     codes: BTreeMap<&'static str, u64>,
     shapes: [u64; Shape::NAMES.len()],
     stmts: [u64; Stmt::NAMES.len()],
+    /// Files past the reading by their number of queries, from each of `QUERIES` on.
+    queries: [u64; QUERIES.len()],
 }
+
+const QUERIES: [usize; 6] = [1, 2, 5, 30, 63, 64];
 
 impl Tally {
     /// One file: `read` is what it describes, where it passed the reading.
@@ -32,14 +36,19 @@ impl Tally {
         let Some(file) = read else {
             return;
         };
-        let mut stmts: BTreeSet<u8> = file.query.body.iter().map(Stmt::byte).collect();
+        let mut stmts: BTreeSet<u8> = BTreeSet::new();
         let mut shapes = BTreeSet::new();
-        for node in &file.nodes {
-            shapes.insert(node.shape.byte());
-            if let Shape::Subquery(query) = &node.shape {
-                stmts.extend(query.body.iter().map(Stmt::byte));
+        for tree in &file.trees {
+            stmts.extend(tree.query.body.iter().map(Stmt::byte));
+            for node in &tree.nodes {
+                shapes.insert(node.shape.byte());
+                if let Shape::Subquery(query) = &node.shape {
+                    stmts.extend(query.body.iter().map(Stmt::byte));
+                }
             }
         }
+        let size = QUERIES.iter().rposition(|from| *from <= file.trees.len());
+        self.queries[size.expect("a file past the reading has a query")] += 1;
         for shape in shapes {
             self.shapes[usize::from(shape)] += 1;
         }
@@ -66,6 +75,11 @@ impl Tally {
         print_counts(
             "with a node",
             shapes.map(|(name, count)| ((*name).to_owned(), count)),
+        );
+        let queries = QUERIES.iter().zip(self.queries);
+        print_counts(
+            "read, by the queries from",
+            queries.map(|(from, count)| (from.to_string(), count)),
         );
         let stmts = Stmt::NAMES.iter().zip(self.stmts);
         print_counts(

@@ -16,7 +16,7 @@ fn main() {
                 bytes += file.len();
                 longest = longest.max(file.len());
                 let ran = model::answer(&file, &model::Limits::default(), None);
-                visits = visits.max(ran.visits);
+                visits = visits.max(ran.visits.iter().copied().max().unwrap_or(0));
                 let outcome = match ran.answer {
                     model::Answer::Refused(number) => format!("{number}"),
                     model::Answer::Lines(lines) => {

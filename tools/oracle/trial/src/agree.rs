@@ -91,9 +91,13 @@ fn report(style: &str, bytes: &[u8], limits: &Limits, save: &Path, number: u64) 
     let modelled = model::answer(&small, &as_model(limits), None);
     println!("mismatch {number}, style {style}, {limits:?}");
     println!("{}", String::from_utf8_lossy(&small));
-    println!("judge: {}, {} visits", judged_text(&judged), judged.visits);
     println!(
-        "model: {}, {} visits",
+        "judge: {}, {:?} visits",
+        judged_text(&judged),
+        judged.visits
+    );
+    println!(
+        "model: {}, {:?} visits",
         modelled_text(&modelled),
         modelled.visits
     );

@@ -1,6 +1,6 @@
 //! Makes a file smaller while something holds of it.
 
-use judge::{File, Query, Shape, Stmt, Type};
+use judge::{File, Query, Shape, Stmt, Tree, Type};
 
 /// A small file of which `holds` is still true, found by taking parts away.
 pub fn shrink(file: &[u8], holds: &mut dyn FnMut(&[u8]) -> bool) -> Vec<u8> {
@@ -76,18 +76,20 @@ fn by_tree(best: &mut Vec<u8>, holds: &mut dyn FnMut(&[u8]) -> bool) {
 }
 
 enum Change {
-    /// A statement of the query, or of a subquery node, by its place.
-    Statement(Option<usize>, usize),
+    /// A whole query with its nodes.
+    Query(usize),
+    /// A statement of a query, or of a subquery node of it, by its place.
+    Statement(usize, Option<usize>, usize),
     /// A part of a node's list.
-    Part(usize, usize),
+    Part(usize, usize, usize),
     /// A field or an alternative.
     Field(usize, usize),
     /// A node becomes a plain literal.
-    Plain(usize),
+    Plain(usize, usize),
     /// A node becomes what stands under it.
-    Hoist(usize),
+    Hoist(usize, usize),
     /// A number that nobody names goes.
-    Node(usize),
+    Node(usize, usize),
     Name(usize),
     Type(usize),
     Predicate(usize),
@@ -95,18 +97,27 @@ enum Change {
 
 fn changes(file: &File) -> Vec<Change> {
     let mut all = Vec::new();
-    all.extend((0..file.query.body.len()).map(|at| Change::Statement(None, at)));
-    for (number, node) in file.nodes.iter().enumerate() {
-        match &node.shape {
-            Shape::Subquery(query) => {
-                all.extend((0..query.body.len()).map(|at| Change::Statement(Some(number), at)));
+    if file.trees.len() > 1 {
+        all.extend((0..file.trees.len()).map(Change::Query));
+    }
+    for (of, tree) in file.trees.iter().enumerate() {
+        all.extend((0..tree.query.body.len()).map(|at| Change::Statement(of, None, at)));
+        for (number, node) in tree.nodes.iter().enumerate() {
+            match &node.shape {
+                Shape::Subquery(query) => {
+                    let statements = 0..query.body.len();
+                    all.extend(statements.map(|at| Change::Statement(of, Some(number), at)));
+                }
+                shape => {
+                    let parts = 0..shape.nodes().len();
+                    all.extend(parts.map(|at| Change::Part(of, number, at)));
+                }
             }
-            shape => all.extend((0..shape.nodes().len()).map(|at| Change::Part(number, at))),
+            if node.shape != Shape::Int {
+                all.extend([Change::Hoist(of, number), Change::Plain(of, number)]);
+            }
+            all.push(Change::Node(of, number));
         }
-        if node.shape != Shape::Int {
-            all.extend([Change::Hoist(number), Change::Plain(number)]);
-        }
-        all.push(Change::Node(number));
     }
     for (number, ty) in file.types.iter().enumerate() {
         let parts = match ty {
@@ -126,14 +137,15 @@ impl Change {
     fn made(&self, file: &File) -> Option<File> {
         let mut next = file.clone();
         match *self {
-            Change::Statement(None, at) => drop(next.query.body.remove(at)),
-            Change::Statement(Some(node), at) => {
-                let Shape::Subquery(query) = &mut next.nodes[node].shape else {
+            Change::Query(of) => drop(next.trees.remove(of)),
+            Change::Statement(of, None, at) => drop(next.trees[of].query.body.remove(at)),
+            Change::Statement(of, Some(node), at) => {
+                let Shape::Subquery(query) = &mut next.trees[of].nodes[node].shape else {
                     return None;
                 };
                 query.body.remove(at);
             }
-            Change::Part(node, at) => match &mut next.nodes[node].shape {
+            Change::Part(of, node, at) => match &mut next.trees[of].nodes[node].shape {
                 Shape::Record(parts) => drop(parts.remove(at)),
                 Shape::Disjunction(nodes) | Shape::Arith(nodes) => drop(nodes.remove(at)),
                 _ => return None,
@@ -143,13 +155,14 @@ impl Change {
                 Type::Union(alternatives) => drop(alternatives.remove(at)),
                 _ => return None,
             },
-            Change::Plain(node) => next.nodes[node].shape = Shape::Int,
-            Change::Hoist(node) => {
-                let under = *next.nodes[node].shape.nodes().first()?;
-                let shape = std::mem::replace(&mut next.nodes[under as usize].shape, Shape::Int);
-                next.nodes[node].shape = shape;
+            Change::Plain(of, node) => next.trees[of].nodes[node].shape = Shape::Int,
+            Change::Hoist(of, node) => {
+                let nodes = &mut next.trees[of].nodes;
+                let under = *nodes[node].shape.nodes().first()?;
+                let shape = std::mem::replace(&mut nodes[under as usize].shape, Shape::Int);
+                nodes[node].shape = shape;
             }
-            Change::Node(node) => remove_node(&mut next, node as u16)?,
+            Change::Node(of, node) => remove_node(&mut next.trees[of], node as u16)?,
             Change::Name(name) => remove_name(&mut next, name as u16)?,
             Change::Type(ty) => remove_type(&mut next, ty as u16)?,
             Change::Predicate(predicate) => remove_predicate(&mut next, predicate as u16)?,
@@ -168,9 +181,9 @@ fn past(number: &mut u16, gone: u16) -> Option<()> {
     Some(())
 }
 
-fn remove_node(file: &mut File, gone: u16) -> Option<()> {
-    file.nodes.remove(gone as usize);
-    for node in &mut file.nodes {
+fn remove_node(tree: &mut Tree, gone: u16) -> Option<()> {
+    tree.nodes.remove(gone as usize);
+    for node in &mut tree.nodes {
         match &mut node.shape {
             Shape::Key(_, at) | Shape::Value(at) | Shape::Fact(_, at) | Shape::Select(_, at) => {
                 past(at, gone)?;
@@ -185,7 +198,7 @@ fn remove_node(file: &mut File, gone: u16) -> Option<()> {
             _ => {}
         }
     }
-    remove_from(&mut file.query, gone)
+    remove_from(&mut tree.query, gone)
 }
 
 fn remove_from(query: &mut Query, gone: u16) -> Option<()> {
@@ -202,9 +215,14 @@ fn remove_from(query: &mut Query, gone: u16) -> Option<()> {
     Some(())
 }
 
+/// The nodes of all queries.
+fn nodes(file: &mut File) -> impl Iterator<Item = &mut judge::Node> {
+    file.trees.iter_mut().flat_map(|tree| &mut tree.nodes)
+}
+
 fn remove_name(file: &mut File, gone: u16) -> Option<()> {
     file.names.remove(gone as usize);
-    for node in &mut file.nodes {
+    for node in nodes(file) {
         match &mut node.shape {
             Shape::Var(name)
             | Shape::Prefix(name)
@@ -272,7 +290,7 @@ fn remove_predicate(file: &mut File, gone: u16) -> Option<()> {
             past(predicate, gone)?;
         }
     }
-    for node in &mut file.nodes {
+    for node in nodes(file) {
         if let Shape::Fact(predicate, _) = &mut node.shape {
             past(predicate, gone)?;
         }

@@ -9,7 +9,7 @@ fn visits_of(style: &str, seed: u64) -> u64 {
         visits: 1 << 30,
         ..Limits::default()
     };
-    answer(&files::generate(style, seed), &limits, None).visits
+    answer(&files::generate(style, seed), &limits, None).visits[0]
 }
 
 #[test]
@@ -26,7 +26,7 @@ fn visits_by_the_judge() {
         let ran = judge::answer(&file, &judge::Limits::default());
         let wanted = visits_of("visits", seed).min(1_048_576);
         if !matches!(ran.answer, judge::Answer::LeftOut(_)) {
-            assert_eq!(ran.visits, wanted);
+            assert_eq!(ran.visits, [wanted]);
         }
     }
 }
@@ -57,7 +57,7 @@ fn each_refusal_comes_up() {
             }
         }
     }
-    assert_eq!(seen, (1..=12).collect());
+    assert_eq!(seen, (1..=13).collect());
 }
 
 #[test]

@@ -1,4 +1,4 @@
--- Made from Proof.ans by tools/answers, 79d54ca790cfdac8.
+-- Made from Proof.ans by tools/answers, 79d54ca790cfdac8 58044f5ee022f9a0.
 use borrow.Author.Needs.{needs}
 use Rattle.cells.proofs.inferred.reserve.Statement.{statement}
 use Rattle.cells.proofs.inferred.reserve.Tie as tie

@@ -1,4 +1,4 @@
--- Made from Proof.ans by tools/answers, c759641a12cfbdfd.
+-- Made from Proof.ans by tools/answers, c759641a12cfbdfd 7d2bfb9d70910d39.
 -- `frames::byte` meets its contract: a byte of the slice is below 256, and past its end 0 is read.
 use borrow.Author.Needs.{needs}
 use Rattle.frames.proofs.forms.byte.Statement.{statement}

@@ -1,4 +1,4 @@
--- Made from Proof.ans by tools/answers, 8aeea83347895a4f.
+-- Made from Proof.ans by tools/answers, 8aeea83347895a4f 62947c514dfb97b3.
 -- `frames::full` meets its contract: two halves, or past the end 0.
 use borrow.Author.Needs.{needs}
 use Rattle.frames.proofs.forms.full.Statement.{statement}

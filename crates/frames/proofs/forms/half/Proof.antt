@@ -1,4 +1,4 @@
--- Made from Proof.ans by tools/answers, 91fca64245837ef8.
+-- Made from Proof.ans by tools/answers, 91fca64245837ef8 ffbebe7338f8caf6.
 -- `frames::half` meets its contract: two bytes, or past the end 0.
 use borrow.Author.Needs.{needs}
 use Rattle.frames.proofs.forms.half.Statement.{statement}

@@ -1,4 +1,4 @@
--- Made from Proof.ans by tools/answers, 21416b42bdc6e600.
+-- Made from Proof.ans by tools/answers, 21416b42bdc6e600 d3406021498a5187.
 -- `frames::is_frame` meets its contract: each arm is one kind.
 use borrow.Author.Needs.{needs}
 use Rattle.frames.proofs.forms.is_frame.Statement.{statement}

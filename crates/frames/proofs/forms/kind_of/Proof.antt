@@ -1,4 +1,4 @@
--- Made from Proof.ans by tools/answers, fd593b333379c12b.
+-- Made from Proof.ans by tools/answers, fd593b333379c12b aa8595aaac469dc3.
 -- `frames::kind_of` meets its contract: 00 and what is past 06 are no kind, and the others are computed.
 use borrow.Author.Needs.{needs}
 use Rattle.frames.proofs.forms.kind_of.Statement.{statement}

@@ -1,4 +1,4 @@
--- Made from Proof.ans by tools/answers, 8734f4b414ac0e84.
+-- Made from Proof.ans by tools/answers, 8734f4b414ac0e84 ae71ad9b4cd3bf16.
 -- `frames::may_stand` meets its contract: the table's rule is computed at each of its entries.
 use borrow.Author.Needs.{needs}
 use Rattle.frames.proofs.forms.may_stand.Statement.{statement}

@@ -1,4 +1,4 @@
--- Made from Proof.ans by tools/answers, 293b51597ab07280.
+-- Made from Proof.ans by tools/answers, 293b51597ab07280 1e8dd273968f6164.
 -- `frames::node_frame` meets its contract: each arm is one test of the list that the shape byte picks from.
 use borrow.Author.Needs.{needs}
 use Rattle.frames.proofs.forms.node_frame.Statement.{statement}

@@ -1,4 +1,4 @@
--- Made from Proof.ans by tools/answers, a4dc4bb9fcc4f42a.
+-- Made from Proof.ans by tools/answers, a4dc4bb9fcc4f42a 9cc29b1977fd9673.
 -- `frames::predicate_frame` meets its contract: each arm is one test of the list that the flag picks from.
 use borrow.Author.Needs.{needs}
 use Rattle.frames.proofs.forms.predicate_frame.Statement.{statement}

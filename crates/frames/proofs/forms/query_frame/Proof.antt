@@ -1,4 +1,4 @@
--- Made from Proof.ans by tools/answers, 567356366ff9097b.
+-- Made from Proof.ans by tools/answers, 567356366ff9097b 618f1e6040bcb86f.
 -- `frames::query_frame` meets its contract: a head, and statements after it.
 use borrow.Author.Needs.{needs}
 use Rattle.frames.proofs.forms.query_frame.Statement.{statement}

@@ -1,4 +1,4 @@
--- Made from Proof.ans by tools/answers, 898ef6f6e55b4c8a.
+-- Made from Proof.ans by tools/answers, 898ef6f6e55b4c8a edf8ff5e3ef4a590.
 -- `frames::statement_size` meets its contract: a tag is a place in the list of sizes.
 use borrow.Author.Needs.{needs}
 use Rattle.frames.proofs.forms.statement_size.Statement.{statement}

@@ -1,4 +1,4 @@
--- Made from Proof.ans by tools/answers, d54105cabcd58bed.
+-- Made from Proof.ans by tools/answers, d54105cabcd58bed 425f8abaffc6f62f.
 -- `frames::statements_fill` meets its contract. The invariant: statements fill the frame from here on exactly where they did from the
 -- start. The measure is what is left of the frame.
 use Rattle.frames.proofs.forms.statements_fill.Statement.{statement}

@@ -1,4 +1,4 @@
--- Made from Proof.ans by tools/answers, e195f7df23a86821.
+-- Made from Proof.ans by tools/answers, e195f7df23a86821 663b6b0a2f115a0e.
 -- `frames::type_frame` meets its contract: each arm is one test of the list that the shape byte picks from.
 use borrow.Author.Needs.{needs}
 use Rattle.frames.proofs.forms.type_frame.Statement.{statement}

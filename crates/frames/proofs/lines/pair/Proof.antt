@@ -1,4 +1,4 @@
--- Made from Proof.ans by tools/answers, 82435c92871eb367.
+-- Made from Proof.ans by tools/answers, 82435c92871eb367 6be354f8f08da84f.
 -- `frames::pair` meets its contract: each return is one law of the two digits at a place.
 use borrow.Author.Needs.{needs}
 use Rattle.frames.proofs.lines.pair.Statement.{statement}

@@ -1,4 +1,4 @@
--- Made from Proof.ans by tools/answers, 731909bd3bc96e92.
+-- Made from Proof.ans by tools/answers, 731909bd3bc96e92 b52ecf568e890b32.
 -- `reading::add_name` meets its contract.
 use borrow.Author.Needs.{needs}
 use Rattle.reading.proofs.names.add_name.Statement.{statement}

@@ -1,4 +1,4 @@
--- Made from Proof.ans by tools/answers, 154ee3e2a58a4cf3.
+-- Made from Proof.ans by tools/answers, 154ee3e2a58a4cf3 64fe325bf1a7250f.
 -- `reading::differ` meets its contract: where eight digits differ, the lines do. The measure is the digits left.
 use Rattle.reading.proofs.names.differ.Statement.{statement}
 use Rattle.reading.proofs.names.differ.Tie as tie

@@ -1,4 +1,4 @@
--- Made from Proof.ans by tools/answers, 497cfe14ca118f77.
+-- Made from Proof.ans by tools/answers, 497cfe14ca118f77 78f218e3705c718b.
 -- `reading::eight` meets its contract.
 use borrow.Author.Needs.{needs}
 use Rattle.reading.proofs.names.eight.Statement.{statement}

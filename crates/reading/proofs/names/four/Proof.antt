@@ -1,4 +1,4 @@
--- Made from Proof.ans by tools/answers, ab3d8656a20c4515.
+-- Made from Proof.ans by tools/answers, ab3d8656a20c4515 4ca8db5abb9049ab.
 -- `reading::four` meets its contract.
 use borrow.Author.Needs.{needs}
 use Rattle.reading.proofs.names.four.Statement.{statement}

@@ -1,4 +1,4 @@
--- Made from Proof.ans by tools/answers, 39da27f95a4f4300.
+-- Made from Proof.ans by tools/answers, 39da27f95a4f4300 6419d71b40b742ea.
 -- `reading::given_before` meets its contract. The invariant: the text was given before exactly where it is among the names from j on.
 -- The measure is the names left.
 use Rattle.reading.proofs.names.given_before.Statement.{statement}

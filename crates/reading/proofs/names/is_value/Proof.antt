@@ -1,4 +1,4 @@
--- Made from Proof.ans by tools/answers, 6e62347000a8cc5b.
+-- Made from Proof.ans by tools/answers, 6e62347000a8cc5b a51073d0c2072dd4.
 -- `reading::is_value` meets its contract. The invariant: the bytes passed are those of the text. The measure is the bytes left.
 use Rattle.reading.proofs.names.is_value.Statement.{statement}
 use Rattle.reading.proofs.names.is_value.Tie as tie

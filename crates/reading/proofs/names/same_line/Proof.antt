@@ -1,4 +1,4 @@
--- Made from Proof.ans by tools/answers, 0be6a98fdd8d73e0.
+-- Made from Proof.ans by tools/answers, 0be6a98fdd8d73e0 ed07c13ee5f33aaa.
 -- `reading::same_line` meets its contract. The invariant: the digits passed are the same in both lines, and none is LF. The measure
 -- is what is left of the file after the first.
 use Rattle.reading.proofs.names.same_line.Statement.{statement}

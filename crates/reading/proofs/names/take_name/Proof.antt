@@ -1,4 +1,4 @@
--- Made from Proof.ans by tools/answers, c527a287d2221266.
+-- Made from Proof.ans by tools/answers, c527a287d2221266 997ce137032a7f6d.
 -- `reading::take_name` meets its contract: each end is one of a name line's.
 use borrow.Author.Needs.{needs}
 use Rattle.reading.proofs.names.take_name.Statement.{statement}

@@ -1,4 +1,4 @@
--- Made from Proof.ans by tools/answers, dc4993b7e872b786.
+-- Made from Proof.ans by tools/answers, dc4993b7e872b786 5525f29bcaa74a63.
 -- `reading::name_all` meets its contract: each arm is one shape's, or some shapes' that refer alike.
 use borrow.Author.Needs.{needs}
 use Rattle.reading.proofs.nodes.name_all.Statement.{statement}

@@ -1,4 +1,4 @@
--- Made from Proof.ans by tools/answers, dee43ac961023987.
+-- Made from Proof.ans by tools/answers, dee43ac961023987 1f9f1af28a4c15cf.
 -- `reading::name_fields` meets its contract. The invariant: what the fields passed refer to is there, and their nodes are marked. The measure is
 -- what is left of the line.
 use Rattle.reading.proofs.nodes.name_fields.Statement.{statement}

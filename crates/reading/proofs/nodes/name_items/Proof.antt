@@ -1,4 +1,4 @@
--- Made from Proof.ans by tools/answers, 69bcea287d502d3b.
+-- Made from Proof.ans by tools/answers, 69bcea287d502d3b 112f557f50b63a14.
 -- `reading::name_items` meets its contract. The invariant: the nodes that the items passed name are there, and marked. The measure is what is
 -- left of the line.
 use Rattle.reading.proofs.nodes.name_items.Statement.{statement}

@@ -1,4 +1,4 @@
--- Made from Proof.ans by tools/answers, 18e17031848f2434.
+-- Made from Proof.ans by tools/answers, 18e17031848f2434 897b4d808ba9f5a1.
 -- `reading::name_node` meets its contract.
 use borrow.Author.Needs.{needs}
 use Rattle.reading.proofs.nodes.name_node.Statement.{statement}

@@ -1,4 +1,4 @@
--- Made from Proof.ans by tools/answers, f77084ebf8160879.
+-- Made from Proof.ans by tools/answers, f77084ebf8160879 9518a214aebeb747.
 -- `reading::name_statements` meets its contract. The invariant: the nodes of the statements passed are there and marked, and the statements
 -- left fill the line. The measure is what is left of the line.
 use Rattle.reading.proofs.nodes.name_statements.Statement.{statement}

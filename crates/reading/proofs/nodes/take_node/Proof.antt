@@ -1,4 +1,4 @@
--- Made from Proof.ans by tools/answers, a3a6525650046304.
+-- Made from Proof.ans by tools/answers, a3a6525650046304 f97237c3e02c2d51.
 -- `reading::take_node` meets its contract: what the frame refers to is not all there, or one more node is held.
 use borrow.Author.Needs.{needs}
 use Rattle.reading.proofs.nodes.take_node.Statement.{statement}

@@ -1,4 +1,4 @@
--- Made from Proof.ans by tools/answers, 3a8459aab6a1eb6a.
+-- Made from Proof.ans by tools/answers, 90bb4c69c4791c8c 9dc653a43e6bb4fc.
 -- `reading::take_query` meets its contract: the head or a statement's node is not there, or the query is held.
 use borrow.Author.Needs.{needs}
 use Rattle.reading.proofs.nodes.take_query.Statement.{statement}
@@ -8,7 +8,6 @@ use Rattle.reading.proofs.nodes.take_query.Lts as lts
 use Rattle.frames.proofs.half.Reads as half-reads
 use Rattle.reading.proofs.nodes.name_node.Reads as name-node-reads
 use Rattle.reading.proofs.nodes.name_statements.Reads as name-statements-reads
-use Rattle.work.proofs.put.Reads as put-reads
 use native.Mathlib.Omega.{arith}
 use mathlib.Core.Path.{sym, ap, _∙_}
 use borrow.Author.Tests.{not-true, not-false}
@@ -27,7 +26,4 @@ take-query-spec =
     (λ c. query-no-body _ (c .before .before .before .before .before .before .before .before .before .before .before .before .before .args .s .now) _ (c .before .before .before .before .before .before .before .before .before .before .before .before .before .args .c) _ _ (rw (not-false (c .before .before .before .before .before .before .before .before .name-node .result) (c .before .before .before .before .before .if1 .left), c .before .before .before .before .before .before .before .before .before .half .ensures .0) at (c .before .before .before .before .before .before .before .before .name-node .ensures)) (rw (not-true (c .before .before .before .name-statements .result) (c .if2 .taken)) at (c .before .before .before .name-statements .ensures)))
     (λ c. search needs)
     (λ c. search needs)
-    (λ c. search needs)
-    (λ c κs. search needs)
-    (λ c. search needs)
-    (λ c. query-takes _ (c .before .before .before .before .before .before .before .before .before .before .before .before .before .before .before .before .before .args .s .now) _ (c .before .before .before .before .before .before .before .before .before .before .before .before .before .before .before .before .before .args .c) _ _ (rw (not-false (c .before .before .before .before .before .before .before .before .before .before .before .before .name-node .result) (c .before .before .before .before .before .before .before .before .before .if1 .left), c .before .before .before .before .before .before .before .before .before .before .before .before .before .half .ensures .0) at (c .before .before .before .before .before .before .before .before .before .before .before .before .name-node .ensures)) (rw (not-false (c .before .before .before .before .before .before .before .name-statements .result) (c .before .before .before .before .if2 .left)) at (c .before .before .before .before .before .before .before .name-statements .ensures)) _ (search needs)))
+    (λ c. query-takes _ (c .before .before .before .before .before .before .before .before .before .before .before .before .before .before .args .s .now) _ (c .before .before .before .before .before .before .before .before .before .before .before .before .before .before .args .c) _ _ (rw (not-false (c .before .before .before .before .before .before .before .before .before .name-node .result) (c .before .before .before .before .before .before .if1 .left), c .before .before .before .before .before .before .before .before .before .before .half .ensures .0) at (c .before .before .before .before .before .before .before .before .before .name-node .ensures)) (rw (not-false (c .before .before .before .before .name-statements .result) (c .before .if2 .left)) at (c .before .before .before .before .name-statements .ensures))))

@@ -1,4 +1,4 @@
--- Made from Proof.ans by tools/answers, 77873e7572eb29f1.
+-- Made from Proof.ans by tools/answers, 77873e7572eb29f1 6d2084f913f80826.
 -- `reading::add_predicate` meets its contract.
 use borrow.Author.Needs.{needs}
 use Rattle.reading.proofs.types.add_predicate.Statement.{statement}

@@ -1,4 +1,4 @@
--- Made from Proof.ans by tools/answers, f9c56101375ee684.
+-- Made from Proof.ans by tools/answers, f9c56101375ee684 5e15b0667202e978.
 -- `reading::add_type` meets its contract.
 use borrow.Author.Needs.{needs}
 use Rattle.reading.proofs.types.add_type.Statement.{statement}

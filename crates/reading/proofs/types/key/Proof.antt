@@ -1,4 +1,4 @@
--- Made from Proof.ans by tools/answers, 6be3d0e1e30a4ca6.
+-- Made from Proof.ans by tools/answers, 6be3d0e1e30a4ca6 981c41b9b14fc389.
 -- `reading::key` meets its contract.
 use borrow.Author.Needs.{needs}
 use Rattle.reading.proofs.types.key.Statement.{statement}

@@ -1,4 +1,4 @@
--- Made from Proof.ans by tools/answers, 80ec058cfbfa698a.
+-- Made from Proof.ans by tools/answers, 1f86ff38e0df5ec1 872f6c58068b82a5.
 -- `reading::key_before` meets its contract. The invariant: the key is among those before i exactly where it is among those from j up to i.
 -- The measure is what is left up to i.
 use Rattle.reading.proofs.types.key_before.Statement.{statement}
@@ -11,7 +11,7 @@ use native.Mathlib.Omega.{arith}
 use Prim.Native.Nat.{_+_, _-_, _≤_}
 use mathlib.Core.Path.{sym, ap, _∙_}
 use Rattle.meaning.specs.Conditions.{anyOf, among}
-use Rattle.frames.proofs.Readers.{itemsAt}
+use Rattle.frames.specs.Items.{itemsAt}
 use Rattle.reading.specs.Parts.{keyW}
 use Rattle.reading.proofs.Walks.{Walking, walk-start, walk-next, walk-stop, walk-end, keys, among-here, among-next}
 

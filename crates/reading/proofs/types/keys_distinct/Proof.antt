@@ -1,4 +1,4 @@
--- Made from Proof.ans by tools/answers, e37bf66b771361d0.
+-- Made from Proof.ans by tools/answers, e37bf66b771361d0 1f5ff1b5c630d986.
 -- `reading::keys_distinct` meets its contract. The invariant: no key passed repeats, and the keys repeat exactly where one of those left
 -- is among the passed ones or repeats. The measure is what is left of the line.
 use Rattle.reading.proofs.types.keys_distinct.Statement.{statement}

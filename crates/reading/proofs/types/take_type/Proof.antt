@@ -1,4 +1,4 @@
--- Made from Proof.ans by tools/answers, 6595fc7b449567dc.
+-- Made from Proof.ans by tools/answers, 6595fc7b449567dc f3439f84216458de.
 -- `reading::take_type` meets its contract: each arm is one shape.
 use borrow.Author.Needs.{needs}
 use Rattle.reading.proofs.types.take_type.Statement.{statement}

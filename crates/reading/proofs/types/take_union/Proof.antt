@@ -1,4 +1,4 @@
--- Made from Proof.ans by tools/answers, 36b55cbf44585795.
+-- Made from Proof.ans by tools/answers, 05bc907bc439be59 ffaa1834041578cf.
 -- `reading::take_union` meets its contract: each end is one of such a line's.
 use borrow.Author.Needs.{needs}
 use Rattle.reading.proofs.types.take_union.Statement.{statement}
@@ -9,6 +9,7 @@ use Rattle.reading.proofs.types.add_type.Reads as add-type-reads
 use Rattle.reading.proofs.types.keys_distinct.Reads as keys-distinct-reads
 use Rattle.reading.proofs.types.parts_earlier.Reads as parts-earlier-reads
 use Rattle.reading.proofs.types.put_alternatives.Reads as put-alternatives-reads
+use Rattle.work.proofs.with_tag.Reads as with-tag-reads
 use native.Mathlib.Omega.{arith}
 use borrow.Author.Tests.{not-true, not-false}
 use Rattle.reading.proofs.Typing.{union-bad, union-repeats, union-takes}
@@ -24,9 +25,8 @@ take-union-spec =
     (λ c. search needs)
     (λ c. search needs)
     (λ c κs. search needs)
-    (λ c. search needs)
-    (λ c. search needs)
+    (λ c κs. search needs)
     (λ c. search needs)
     (λ c κs. search needs)
     (λ c. search needs)
-    (λ c. union-takes _ _ _ (c .before .before .before .before .before .before .before .before .before .before .before .before .before .before .pre .0) _ _ _ _ (search needs) (rw (not-false (c .before .before .before .before .before .before .before .before .before .before .before .parts-earlier .result) (c .before .before .before .before .before .before .before .before .before .before .if1 .left)) at (c .before .before .before .before .before .before .before .before .before .before .before .parts-earlier .ensures)) (rw (not-false (c .before .before .before .before .before .before .before .before .before .keys-distinct .result) (c .before .before .before .before .before .before .before .before .if2 .left)) at (c .before .before .before .before .before .before .before .before .before .keys-distinct .ensures)) (c .before .before .before .before .before .before .put-alternatives .ensures) (c .before .before .add-type .ensures)))
+    (λ c. union-takes _ _ _ (c .before .before .before .before .before .before .before .before .before .before .before .before .before .before .before .pre .0) _ _ _ _ (search needs) (rw (not-false (c .before .before .before .before .before .before .before .before .before .before .before .before .parts-earlier .result) (c .before .before .before .before .before .before .before .before .before .before .before .if1 .left)) at (c .before .before .before .before .before .before .before .before .before .before .before .before .parts-earlier .ensures)) (rw (not-false (c .before .before .before .before .before .before .before .before .before .before .keys-distinct .result) (c .before .before .before .before .before .before .before .before .before .if2 .left)) at (c .before .before .before .before .before .before .before .before .before .before .keys-distinct .ensures)) (c .before .before .before .before .before .before .before .put-alternatives .ensures) (rw (c .before .before .before .with-tag .ensures) at (c .before .before .add-type .ensures))))

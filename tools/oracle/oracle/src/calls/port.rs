@@ -286,8 +286,7 @@ fn work(file: &File) -> Vec<u32> {
         }
     }
     work[FIELDS..RECORD_COUNT][..parts.len()].copy_from_slice(&parts);
-    work[RECORD_COUNT..=UNKNOWNS].fill(0);
-    work[UNDO_LEN] = 0;
+    calls::begin(&mut work);
     work
 }
 

@@ -35,7 +35,7 @@ fn m() -> Vec<u8> {
 pub fn whole(group: &mut Group) {
     let ran = group.answer(&m());
     group.same("M", ran.answer, Answer::Lines(lines("07000000")));
-    group.same("M's visits", ran.visits, 0);
+    group.same("M's visits", ran.visits, vec![0]);
 
     let ran = group.answer(&lines(WHOLE));
     group.same(
@@ -44,7 +44,7 @@ pub fn whole(group: &mut Group) {
         Answer::Lines(lines(WHOLE_PRINTS)),
     );
     // unify at the bind; occurs at the record and at the unknown in it.
-    group.same("its visits", ran.visits, 3);
+    group.same("its visits", ran.visits, vec![3]);
     group.same("its codes", ran.codes, vec!["reject/infinite-type"]);
 }
 
@@ -65,7 +65,7 @@ pub fn table(group: &mut Group) {
         }
         let ran = group.answer(&lines(row.file));
         group.same(row.case, ran.answer, Answer::Lines(expected));
-        group.same(row.case, ran.visits, row.visits);
+        group.same(row.case, ran.visits, vec![row.visits]);
         let codes: Vec<&str> = row.reports.iter().map(|(_, _, code)| *code).collect();
         group.same(row.case, ran.codes, codes);
     }

@@ -1,6 +1,6 @@
 //! Types larger than the Rust can hold: what is left out, and what is still answered.
 
-use judge::{Answer, File, Limits, Node, Predicate, Query, Shape, Stmt, Type};
+use judge::{Answer, File, Limits, Node, Predicate, Query, Shape, Stmt, Tree, Type};
 
 use super::{Group, refusals};
 
@@ -12,7 +12,7 @@ pub fn run(group: &mut Group) {
     group.same("a key of 2^60 parts", ran.answer, left_out.clone());
     let ran = group.answer(&judge::encode(&doubled_key(12)));
     group.same("a key of 2^12 parts", ran.answer, Answer::Refused(12));
-    group.same("its visits", ran.visits, 0);
+    group.same("its visits", ran.visits, vec![0]);
     let ran = group.answer(&judge::encode(&doubled_key(8)));
     let fits = matches!(ran.answer, Answer::Lines(_));
     group.same("a key of 2^8 parts fits", fits, true);
@@ -25,7 +25,7 @@ pub fn run(group: &mut Group) {
 
     // The same schema, not used: nothing is copied.
     let mut unused = doubled_key(60);
-    unused.nodes[1].shape = Shape::Error;
+    unused.trees[0].nodes[1].shape = Shape::Error;
     let ran = group.answer(&judge::encode(&unused));
     group.same(
         "a key of 2^60 parts, not used",
@@ -40,11 +40,11 @@ pub fn run(group: &mut Group) {
     let ran = group.answer(&judge::encode(&compared(10, Shape::Error)));
     group.same("2^10 parts compared", ran.answer, Answer::Refused(12));
     // The binds, four visits each; unify; orderable at each part of the full tree.
-    group.same("its visits", ran.visits, 10 * 4 + 1 + 2047);
+    group.same("its visits", ran.visits, vec![10 * 4 + 1 + 2047]);
 
     // With x0 < x0 unify walks both sides, part by part.
     let ran = group.answer(&judge::encode(&compared(10, Shape::Var(0))));
-    group.same("its visits", ran.visits, 10 * 4 + 2047 + 2047);
+    group.same("its visits", ran.visits, vec![10 * 4 + 2047 + 2047]);
     let ran = group.answer(&judge::encode(&compared(60, Shape::Var(0))));
     group.same("2^60 parts unified", ran.answer, Answer::Refused(11));
 }
@@ -52,7 +52,7 @@ pub fn run(group: &mut Group) {
 /// The visits and the length that the small files were made for.
 fn at_the_limits(group: &mut Group) {
     let ran = group.answer(&judge::encode(&exact(MOST_VISITS)));
-    group.same("as many visits as allowed", ran.visits, MOST_VISITS);
+    group.same("as many visits as allowed", ran.visits, vec![MOST_VISITS]);
     let with = |bytes| {
         let limits = Limits {
             bytes,
@@ -67,7 +67,7 @@ fn at_the_limits(group: &mut Group) {
 /// Small files and the numbers that they get: 12 and 11, far past the limits and exactly at them.
 pub fn files() -> Vec<(Vec<u8>, u8)> {
     let mut walked = doubled_key(20);
-    walked.nodes[0].shape = Shape::Var(0);
+    walked.trees[0].nodes[0].shape = Shape::Var(0);
     [
         (doubled_key(12), 12),
         (walked, 11),
@@ -96,11 +96,11 @@ fn exact(visits: u64) -> File {
     const STATEMENTS: u64 = (2 + 2 + 1) + 3 + (3 + 2) + 2 + 2 + 2;
     // One for unify at p x and two for occurs at the union, the others at each other part.
     let mut file = key_of(&depths(visits - STATEMENTS - 3));
-    file.nodes[0].shape = Shape::Var(0);
+    file.trees[0].nodes[0].shape = Shape::Var(0);
     let [a, b, w, y, z] = [0, 1, 2, 3, 4];
     let unions = add_unions(&mut file);
 
-    let mut nodes = Nodes(file.nodes);
+    let mut nodes = Nodes(std::mem::take(&mut file.trees[0].nodes));
     let mut body = vec![];
     let (left, right) = (nodes.push(Shape::Var(z)), nodes.push(Shape::Var(y)));
     body.push(Stmt::Bind(left, right));
@@ -130,8 +130,8 @@ fn exact(visits: u64) -> File {
     let sum = nodes.push(Shape::Arith(operands.to_vec()));
     body.push(Stmt::Implicit(sum));
 
-    file.nodes = nodes.0;
-    file.query.body = body;
+    file.trees[0].nodes = nodes.0;
+    file.trees[0].query.body = body;
     file
 }
 
@@ -174,9 +174,9 @@ fn add_unions(file: &mut File) -> [u16; 4] {
 fn one_byte_longer() -> File {
     let mut nodes = Nodes(vec![]);
     let mut file = key_of(&[11, 10, 9, 9, 0]);
-    std::mem::swap(&mut file.nodes, &mut nodes.0);
+    std::mem::swap(&mut file.trees[0].nodes, &mut nodes.0);
     nodes.push(Shape::Int);
-    file.nodes = nodes.0;
+    file.trees[0].nodes = nodes.0;
     file
 }
 
@@ -212,7 +212,7 @@ impl Nodes {
 }
 
 /// p _, where p's key is a record of full binary trees of these depths.
-fn key_of(depths: &[u16]) -> File {
+pub fn key_of(depths: &[u16]) -> File {
     let deepest = *depths.iter().max().expect("one at least");
     let mut file = doubled_key(deepest);
     let names = (0..depths.len().max(5)).map(|name| vec![b'a' + name as u8]);
@@ -224,7 +224,7 @@ fn key_of(depths: &[u16]) -> File {
 }
 
 /// p _, where p's key is a record of two of a record of two and so on.
-fn doubled_key(depth: u16) -> File {
+pub fn doubled_key(depth: u16) -> File {
     let mut types = vec![Type::Int];
     for below in 0..depth {
         types.push(Type::Record(vec![(0, below), (1, below)]));
@@ -244,25 +244,27 @@ fn doubled_key(depth: u16) -> File {
             key: depth,
             value: None,
         }],
-        nodes: vec![node(Shape::Wildcard), node(Shape::Fact(0, 0))],
-        query: Query {
-            head: 1,
-            body: vec![],
-        },
+        trees: vec![Tree {
+            nodes: vec![node(Shape::Wildcard), node(Shape::Fact(0, 0))],
+            query: Query {
+                head: 1,
+                body: vec![],
+            },
+        }],
     }
 }
 
 /// A chain that doubles, and its first unknown compared with another node.
 fn compared(count: u16, other: Shape) -> File {
     let mut file = refusals::shrinking(count);
-    let at = file.nodes.len() as u16;
+    let at = file.trees[0].nodes.len() as u16;
     for shape in [Shape::Var(0), other] {
-        file.nodes.push(Node {
+        file.trees[0].nodes.push(Node {
             start: 0,
             end: 0,
             shape,
         });
     }
-    file.query.body.push(Stmt::Compare(at, at + 1));
+    file.trees[0].query.body.push(Stmt::Compare(at, at + 1));
     file
 }

@@ -1,8 +1,9 @@
-//! `oracle selftest`: what document 01 says outright, held against the judge.
+//! `oracle selftest`: what document 01 and cards 2 and 3 say outright, held against the judge.
 //!
-//! The expected answers and visits were worked out from document 01 by hand and not by running.
+//! The expected answers and visits were worked out from these papers by hand and not by running.
 
 mod examples;
+mod forms;
 mod large;
 mod reading;
 mod refusals;
@@ -17,13 +18,14 @@ use crate::options::Options;
 type Cases = fn(&mut Group);
 
 /// The groups by name.
-const GROUPS: [(&str, Cases); 6] = [
+const GROUPS: [(&str, Cases); 7] = [
     ("the examples of document 01", examples::whole),
     ("the table of refusals", refusals::run),
     ("the list of the computed table", examples::table),
     ("the examples of RFC 3629", texts::run),
     ("the rules of reading", reading::run),
     ("types too large", large::run),
+    ("several queries in a file", forms::run),
 ];
 
 /// One group of cases: counts, and the files that were asked about.

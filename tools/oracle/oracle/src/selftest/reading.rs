@@ -27,7 +27,11 @@ fn kinds(group: &mut Group) {
         for present in 1..=6_usize {
             let mut text = before(previous);
             text.push_str(&alone(present));
-            let allowed = previous < 6 && present > 1 && previous <= present;
+            // After a query only nodes, before it never a lower kind.
+            let allowed = match previous {
+                6 => present == 5,
+                _ => present > 1 && previous <= present,
+            };
             let expected = match (allowed, present) {
                 (false, _) => 4,
                 // A second empty name is a repeated one, a first is followed by no 06.

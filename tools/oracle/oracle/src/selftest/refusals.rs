@@ -1,6 +1,6 @@
 //! Each row of document 01's table of refusals, with its example.
 
-use judge::{Answer, File, Limits, Node, Query, Shape, Stmt};
+use judge::{Answer, File, Limits, Node, Query, Shape, Stmt, Tree};
 
 use super::examples::M;
 use super::{Group, lines};
@@ -54,7 +54,7 @@ pub fn run(group: &mut Group) {
 
     let ran = group.answer(&judge::encode(&doubling(24)));
     group.same("11: x0 to x24", ran.answer, Answer::Refused(11));
-    group.same("11: its visits", ran.visits, 1_048_576);
+    group.same("11: its visits", ran.visits, vec![1_048_576]);
     visits_exact(group);
 
     group.same("12: M with 8 bytes", with(16_384, 8), Answer::Refused(12));
@@ -66,7 +66,7 @@ pub fn run(group: &mut Group) {
         ran.answer,
         Answer::Refused(12),
     );
-    group.same("12: its visits", ran.visits, 80 * 4);
+    group.same("12: its visits", ran.visits, vec![80 * 4]);
 }
 
 /// A run stops instead of making the visit after the last one allowed.
@@ -82,7 +82,7 @@ fn visits_exact(group: &mut Group) {
         judge::answer(&file, &limits)
     };
     let exact = with(visits);
-    group.same("11: visits counted", exact.visits, visits);
+    group.same("11: visits counted", exact.visits, vec![visits]);
     group.same(
         "11: exactly as many as allowed",
         matches!(exact.answer, Answer::Lines(_)),
@@ -90,7 +90,7 @@ fn visits_exact(group: &mut Group) {
     );
     let over = with(visits - 1);
     group.same("11: one more", over.answer, Answer::Refused(11));
-    group.same("11: ended before it", over.visits, visits - 1);
+    group.same("11: ended before it", over.visits, vec![visits - 1]);
 }
 
 /// The limits and so many different names.
@@ -109,7 +109,7 @@ fn digits(number: usize) -> u32 {
 }
 
 /// x1 = {a = x0, b = x0} and so on, head x0. Each later statement walks twice as far.
-fn doubling(count: u16) -> File {
+pub fn doubling(count: u16) -> File {
     chain((1..=count).map(|k| (k, k - 1)), count)
 }
 
@@ -148,7 +148,9 @@ fn chain(pairs: impl Iterator<Item = (u16, u16)>, last: u16) -> File {
         names,
         types: vec![],
         predicates: vec![],
-        nodes,
-        query: Query { head, body },
+        trees: vec![Tree {
+            nodes,
+            query: Query { head, body },
+        }],
     }
 }

@@ -1,6 +1,6 @@
 //! The octet sequences that RFC 3629 gives as examples, as names.
 
-use judge::{Answer, File, Limits, Node, Query, Shape};
+use judge::{Answer, File, Limits, Node, Query, Shape, Tree};
 
 use super::Group;
 
@@ -15,8 +15,17 @@ const WELL_FORMED: [(&[u8], u16); 4] = [
 /// Sections 3 and 10: overlong forms.
 const ILL_FORMED: [&[u8]; 2] = [b"\xc0\x80", b"\x2f\xc0\xae\x2e\x2f"];
 
-/// Section 3: a surrogate pair. It passes the reading in this edition and the Rust can't hold it.
-const PAIR: &[u8] = b"\xed\xa1\x8c\xed\xbe\xb4";
+/// Section 3: halves of UTF-16 pairs, alone, as pairs and beside sound characters.
+const HALVES: [&[u8]; 8] = [
+    b"\xed\xa1\x8c\xed\xbe\xb4",
+    b"\xed\xa0\xbd\xed\xb8\x80",
+    b"\xed\xa0\x80",
+    b"\xed\xad\xbf",
+    b"\xed\xaf\xbf",
+    b"\xed\xb0\x80",
+    b"\x41\xed\xa0\xbd\x41",
+    b"\xed\x9f\xbf\xed\xbf\xbf\xee\x80\x80",
+];
 
 /// Each boundary of the rule: the text, and whether it passes.
 const BOUNDARIES: [(&[u8], bool); 33] = [
@@ -35,8 +44,8 @@ const BOUNDARIES: [(&[u8], bool); 33] = [
     (b"\xe0\xa0\x80", true),
     (b"\xe0\xa0", false),
     (b"\xed\x9f\xbf", true),
-    (b"\xed\xa0\x80", true),
-    (b"\xed\xbf\xbf", true),
+    (b"\xed\xa0\x80", false),
+    (b"\xed\xbf\xbf", false),
     (b"\xee\x80\x80", true),
     (b"\xef\xbf\xbf", true),
     (b"\xf0\x8f\xbf\xbf", false),
@@ -66,12 +75,9 @@ pub fn run(group: &mut Group) {
     for text in ILL_FORMED {
         group.refused(&format!("{text:02x?}"), &term(text, 32), 7);
     }
-    let pair = group.answer(&term(PAIR, 32));
-    group.same(
-        "a surrogate pair",
-        pair.answer,
-        Answer::LeftOut(judge::SURROGATE),
-    );
+    for text in HALVES {
+        group.refused(&format!("{text:02x?}"), &term(text, 32), 7);
+    }
     for (text, passes) in BOUNDARIES {
         let case = format!("{text:02x?}");
         if passes {
@@ -84,7 +90,7 @@ pub fn run(group: &mut Group) {
 }
 
 /// Every text of up to two bytes, and every one of three and four bytes that stand at a boundary:
-/// the rule passes what the Rust's own test passes, with d800 to dfff open.
+/// the reader passes what the grammar of RFC 3629 passes, read here value by value.
 fn all_short(group: &mut Group) {
     let mut differing = vec![];
     let mut number = 0;
@@ -120,15 +126,33 @@ const BYTES: [u8; 26] = [
     0xee, 0xef, 0xf0, 0xf1, 0xf3, 0xf4, 0xf5, 0xf7, 0xf8, 0xff,
 ];
 
-/// The Rust's own test, each value from d800 to dfff replaced by one just above them.
+/// The rule by values: the length by the first byte's leading ones, later bytes 80 to bf, and a value that
+/// needs that length, is at most 10ffff and no half of a UTF-16 pair.
 fn passes(text: &[u8]) -> bool {
-    let mut text = text.to_vec();
-    for at in 2..text.len() {
-        if let [0xed, 0xa0..=0xbf, 0x80..=0xbf] = text[at - 2..=at] {
-            text[at - 2..=at].copy_from_slice(b"\xee\x80\x80");
+    let mut rest = text;
+    while let [first, after @ ..] = rest {
+        let length = match first.leading_ones() {
+            0 => 1,
+            ones @ 2..=4 => ones as usize,
+            _ => return false,
+        };
+        let Some((later, next)) = after.split_at_checked(length - 1) else {
+            return false;
+        };
+        if !later.iter().all(|byte| byte & 0xc0 == 0x80) {
+            return false;
         }
+        let start = u32::from(first & (0xff_u16 >> (length + usize::from(length > 1))) as u8);
+        let value = later
+            .iter()
+            .fold(start, |value, byte| value << 6 | u32::from(byte & 0x3f));
+        let least = [0, 0x80, 0x800, 0x1_0000][length - 1];
+        if !(least..=0x10_ffff).contains(&value) || (0xd800..=0xdfff).contains(&value) {
+            return false;
+        }
+        rest = next;
     }
-    std::str::from_utf8(&text).is_ok()
+    true
 }
 
 /// A file whose one node is a fuzzy pattern of that term, so that its characters are counted.
@@ -139,14 +163,16 @@ fn term(text: &[u8], max_term: u16) -> Vec<u8> {
         names: vec![text.to_vec()],
         types: vec![],
         predicates: vec![],
-        nodes: vec![Node {
-            start: 0,
-            end: 0,
-            shape: Shape::Fuzzy(0, 1),
+        trees: vec![Tree {
+            nodes: vec![Node {
+                start: 0,
+                end: 0,
+                shape: Shape::Fuzzy(0, 1),
+            }],
+            query: Query {
+                head: 0,
+                body: vec![],
+            },
         }],
-        query: Query {
-            head: 0,
-            body: vec![],
-        },
     })
 }

@@ -1,16 +1,53 @@
 //! Stand-in for the crate `lasso`: texts with numbers, as much of it as schema.rs uses.
 //!
-//! A text has one number, numbers count from 0 in the order of interning. Look-up is a plain
-//! scan: a file has at most 256 names.
+//! A text has one number, numbers count from 0 in the order of interning. A few texts are looked up by a plain
+//! scan, more of them by a hash table, so that the Rust's times beside it are not made worse than they would be.
+
+use std::collections::HashMap;
 
 /// The number of a text.
 #[derive(Debug, Clone, Copy, PartialEq, Eq, PartialOrd, Ord, Hash)]
 pub struct Spur(u32);
 
+/// So many texts are scanned.
+const SCANNED: usize = 16;
+
+#[derive(Debug, Default)]
+struct Texts {
+    all: Vec<Box<str>>,
+    /// Empty up to `SCANNED`, then of all.
+    numbers: HashMap<Box<str>, Spur>,
+}
+
+impl Texts {
+    fn get(&self, text: &str) -> Option<Spur> {
+        if self.all.len() > SCANNED {
+            return self.numbers.get(text).copied();
+        }
+        let at = self.all.iter().position(|known| **known == *text)?;
+        Some(Spur(at as u32))
+    }
+
+    fn push(&mut self, text: &str) -> Spur {
+        self.all.push(text.into());
+        if self.all.len() > SCANNED {
+            let from = self.numbers.len();
+            let more = (from..).zip(&self.all[from..]);
+            self.numbers
+                .extend(more.map(|(at, text)| (text.clone(), Spur(at as u32))));
+        }
+        Spur(self.all.len() as u32 - 1)
+    }
+
+    fn resolve(&self, spur: &Spur) -> Option<&str> {
+        self.all.get(spur.0 as usize).map(|text| &**text)
+    }
+}
+
 /// A table that still grows.
 #[derive(Debug, Default)]
 pub struct Rodeo {
-    texts: Vec<Box<str>>,
+    texts: Texts,
 }
 
 impl Rodeo {
@@ -19,19 +56,18 @@ impl Rodeo {
     }
 
     pub fn get(&self, text: &str) -> Option<Spur> {
-        position(&self.texts, text)
+        self.texts.get(text)
     }
 
     pub fn get_or_intern(&mut self, text: &str) -> Spur {
-        if let Some(spur) = self.get(text) {
-            return spur;
+        match self.get(text) {
+            Some(spur) => spur,
+            None => self.texts.push(text),
         }
-        self.texts.push(text.into());
-        Spur(self.texts.len() as u32 - 1)
     }
 
     pub fn try_resolve(&self, spur: &Spur) -> Option<&str> {
-        resolve(&self.texts, spur)
+        self.texts.resolve(spur)
     }
 
     pub fn into_reader(self) -> RodeoReader {
@@ -42,24 +78,15 @@ impl Rodeo {
 /// A table that grows no more.
 #[derive(Debug)]
 pub struct RodeoReader {
-    texts: Vec<Box<str>>,
+    texts: Texts,
 }
 
 impl RodeoReader {
     pub fn get(&self, text: &str) -> Option<Spur> {
-        position(&self.texts, text)
+        self.texts.get(text)
     }
 
     pub fn try_resolve(&self, spur: &Spur) -> Option<&str> {
-        resolve(&self.texts, spur)
+        self.texts.resolve(spur)
     }
-}
-
-fn position(texts: &[Box<str>], text: &str) -> Option<Spur> {
-    let at = texts.iter().position(|known| **known == *text)?;
-    Some(Spur(at as u32))
-}
-
-fn resolve<'a>(texts: &'a [Box<str>], spur: &Spur) -> Option<&'a str> {
-    texts.get(spur.0 as usize).map(|text| &**text)
 }

@@ -1,0 +1,39 @@
+-- Card 10: "Two files that differ only in name texts", where "the same name number is `value` in both or in neither and each fuzzy
+-- term has the same number of characters".
+use mathlib.Core.List.{List, []}
+use mathlib.Core.Path.{_≡_}
+use Prim.Native.Nat.{ℕ}
+use lib.ListN.{getD}
+use Rattle.text.specs.Utf8.{characters}
+use Rattle.meaning.specs.All.{All}
+use Rattle.meaning.specs.Syntax.{ExprKind}
+use Rattle.meaning.specs.Lines.{position}
+use Rattle.meaning.specs.Conditions.{sameText}
+use Rattle.meaning.specs.File.{valueText}
+use Rattle.meaning.specs.Content.{Content}
+
+-- The content with these names instead.
+abbrev pub withNames : Content → List (List ℕ) → Content
+withNames c names = record { maxDistance = c .maxDistance; maxTermChars = c .maxTermChars; names = names; types = c .types; predicates = c .predicates; queries = c .queries }
+
+abbrev pub TermKept : List (List ℕ) → List (List ℕ) → ExprKind → Type 0
+TermKept a b (ExprKind.Fuzzy x d) = characters (getD a x []) ≡ characters (getD b x [])
+TermKept a b (ExprKind.Fact p e) = Unit {0}
+TermKept a b (ExprKind.Lit l) = Unit {0}
+TermKept a b (ExprKind.Var x) = Unit {0}
+TermKept a b ExprKind.Wildcard = Unit {0}
+TermKept a b ExprKind.Never = Unit {0}
+TermKept a b (ExprKind.Prefix x) = Unit {0}
+TermKept a b (ExprKind.Record fs) = Unit {0}
+TermKept a b (ExprKind.Access f e) = Unit {0}
+TermKept a b (ExprKind.Disjunction es) = Unit {0}
+TermKept a b (ExprKind.Subquery q) = Unit {0}
+TermKept a b (ExprKind.Arith es) = Unit {0}
+TermKept a b ExprKind.Error = Unit {0}
+TermKept a b (ExprKind.Select x e) = Unit {0}
+
+-- That there are as many names is not asked: a lawful file refers to none that is missing.
+pub record Renamed (c c′ : Content) : Type 0 where
+  pub only-names : c′ ≡ withNames c (c′ .names)
+  pub value : position (sameText valueText) (c .names) ≡ position (sameText valueText) (c′ .names)
+  pub terms : All (λ a. All (λ n. TermKept (c .names) (c′ .names) (n .kind)) (a .nodes)) (c .queries)

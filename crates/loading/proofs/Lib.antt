@@ -1,0 +1,2 @@
+pub mod Lines
+mod Loading

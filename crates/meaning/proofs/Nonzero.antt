@@ -1,0 +1,58 @@
+-- No byte of an answer is zero: it is digits and LF. So an answer ends at the first zero of its slice, by which the bindings for C and Rust find
+-- its length.
+use mathlib.Core.Bool.{true, false}
+use mathlib.Core.List.{List, [], _∷_, _++_}
+use mathlib.Core.Option.{Option}
+use mathlib.Core.Path.{_≡_}
+use Prim.Native.Nat.{ℕ, suc, _/_, _%_, _<_}
+use native.Mathlib.Omega.{arith}
+use lib.Dec.{ltb}
+use Rattle.unification.specs.Ty.{Ty}
+use Rattle.meaning.specs.All.{All}
+use Rattle.meaning.specs.Diag.{Diagnostic}
+use Rattle.meaning.specs.Check.{Typed}
+use Rattle.meaning.specs.Answer.{bytes₂, hexDigit, hexLine, slotBytes, nodeLines, diagnosticBytes, diagnosticLines, answerLines, numbered, formLines}
+use Rattle.meaning.proofs.Lists.{all-append}
+use Rattle.meaning.proofs.Tests.{cases}
+
+abbrev Nonzero : List ℕ → Type 0
+Nonzero s = All (λ b. 0 < b) s
+
+join : (s t : List ℕ) → Nonzero s → Nonzero t → Nonzero (s ++ t)
+join s t a b = all-append (λ b. 0 < b) s t a b
+
+digit-nonzero : (n : ℕ) → 0 < hexDigit n
+unfolding hexDigit
+digit-nonzero n = cases (ltb n 10) (λ q. rw (q, hexDigit) (omega arith)) (λ q. rw (q, hexDigit) (omega arith))
+
+line-nonzero : (s : List ℕ) → Nonzero (hexLine s)
+unfolding hexLine
+line-nonzero [] = (omega arith, tt)
+line-nonzero (b ∷ s) = (digit-nonzero (b / 16), (digit-nonzero (b % 16), line-nonzero s))
+
+nodes-nonzero : (n : ℕ) (slots : List (Option Ty)) → Nonzero (nodeLines n slots)
+unfolding nodeLines
+nodes-nonzero n [] = tt
+nodes-nonzero n (slot ∷ slots) = join (hexLine (7 ∷ bytes₂ n ++ slotBytes slot)) (nodeLines (suc n) slots) (line-nonzero (7 ∷ bytes₂ n ++ slotBytes slot)) (nodes-nonzero (suc n) slots)
+
+diagnostics-nonzero : (ds : List Diagnostic) → Nonzero (diagnosticLines ds)
+unfolding diagnosticLines
+diagnostics-nonzero [] = tt
+diagnostics-nonzero (d ∷ ds) = join (hexLine (diagnosticBytes d)) (diagnosticLines ds) (line-nonzero (diagnosticBytes d)) (diagnostics-nonzero ds)
+
+answer-nonzero : (t : Typed) → Nonzero (answerLines t)
+unfolding answerLines
+answer-nonzero t = join (nodeLines 0 (t .tys)) (diagnosticLines (t .diagnostics)) (nodes-nonzero 0 (t .tys)) (diagnostics-nonzero (t .diagnostics))
+
+numbered-nonzero : (k : ℕ) (ts : List Typed) → Nonzero (numbered k ts)
+unfolding numbered
+numbered-nonzero k [] = tt
+numbered-nonzero k (t ∷ ts) =
+    join (hexLine (0x0b ∷ bytes₂ k)) (answerLines t ++ numbered (suc k) ts) (line-nonzero (0x0b ∷ bytes₂ k))
+    (join (answerLines t) (numbered (suc k) ts) (answer-nonzero t) (numbered-nonzero (suc k) ts))
+
+pub form-nonzero : (ts : List Typed) → All (λ b. 0 < b) (formLines ts)
+unfolding formLines
+form-nonzero [] = tt
+form-nonzero (t ∷ []) = answer-nonzero t
+form-nonzero (t ∷ u ∷ ts) = numbered-nonzero 0 (t ∷ u ∷ ts)

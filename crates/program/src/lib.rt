@@ -1,0 +1,71 @@
+// The program but for its `main`: what is printed for a file, and the reading and writing around it.
+ghost use Prim.Native.Nat.{_≤_};
+ghost use lib.ListN.{length};
+ghost use Rattle.program.specs.Contracts.{Within, Prints};
+use desk::Outcome;
+
+// How many bytes of the input stand at the start of a slice; or a read failed, and the slice holds anything.
+pub enum Input {
+    Bytes(usize),
+    Failed,
+}
+
+// Standard input to its end, or as much of it as the slice holds.
+fn read_input(into: &mut [u8]) -> Input
+    ensures { λ r. ⌜ Within (length (now (into .exit))) r ⌝ }
+{
+    let mut n: usize = 0;
+    while n < into.len() {
+        let got = libc::read(libc::STDIN_FILENO, &mut into[n..]);
+        let more = io::count(got, &into[n..]);
+        if more == 0 {
+            return if got < 0 {
+                Input::Failed
+            } else {
+                Input::Bytes(n)
+            };
+        }
+        n += more;
+    }
+    Input::Bytes(n)
+}
+
+// What is to be printed for the file stands at the start of `out`, and how long it is comes back.
+pub fn printed(file: &[u8], work: &mut [u32; 16384], out: &mut [u8; 65536]) -> usize
+    ensures { λ r. ⌜ Prints (now (file .entry)) (now (work .exit)) (now (out .exit)) r ⌝ }
+    ensures { λ r. ⌜ r ≤ length (now (out .exit)) ⌝ }
+{
+    let r = desk::check_file(file, work, out);
+    match r {
+        Outcome::Accepted(n) => n,
+        Outcome::Refused(e) => {
+            let line = desk::refusal_line(e);
+            bytes::copy(&line, out)
+        }
+    }
+}
+
+// One byte more is read than a file may have, so that a longer input is refused.
+pub fn run() {
+    let mut input = [0u8; 65537];
+    let mut work = [0u32; 16384];
+    let mut out = [0u8; 65536];
+    let r = read_input(&mut input);
+    match r {
+        Input::Failed => {
+            io::write_all(
+                libc::STDERR_FILENO,
+                b"sigla: reading standard input failed\n",
+            );
+        }
+        Input::Bytes(n) => {
+            let m = printed(&input[0..n], &mut work, &mut out);
+            if !io::write_all(libc::STDOUT_FILENO, &out[0..m]) {
+                io::write_all(
+                    libc::STDERR_FILENO,
+                    b"sigla: writing standard output failed\n",
+                );
+            }
+        }
+    }
+}

@@ -1,0 +1,302 @@
+// `unify` and `orderable` over the cells, as ty.rs has them. A visit is counted at each entry.
+ghost use mathlib.Core.Path.{_≡_};
+ghost use Rattle.cells.specs.Words.{sameLeafW};
+ghost use Rattle.cells.specs.Contracts.{IsOrderable, Lowers, LeastFrom, NextFrom, Unifies, BindsVar, UnifiesHeads, UnifiesRecord, UnifiesFields, UnifiesUnion, UnifiesAlternative, UnifiesPayload};
+ghost use Rattle.cells.specs.declared.Ty.the-variants as Ty;
+ghost use Rattle.cells.specs.declared.TyError.the-variants as TyError;
+ghost use Rattle.cells.specs.declared.Unified.the-variants as Unified;
+use cells::Asked;
+use cells::Kind;
+use cells::Next;
+use cells::Place;
+use cells::Ty;
+use cells::TyError;
+use cells::Unified;
+use cells::UnionDiff;
+use cells::alternative;
+use cells::count;
+use cells::field;
+use cells::key_at;
+use cells::occurs;
+use cells::part_count;
+use cells::part_ty;
+use cells::payload_of;
+use cells::place_of;
+use cells::repr;
+use cells::set_var;
+use cells::tag_of;
+
+fn bind_var(w: &mut [u32], x: u32, t: Ty, left: u32) -> Unified
+    ensures { λ r. ⌜ BindsVar (now (w .entry)) x t left (now (w .exit)) r ⌝ }
+{
+    let o = occurs(w, x, t, left);
+    match o {
+        Asked::Yes(l) => Unified::Bad(TyError::Infinite, l),
+        Asked::No(l) => {
+            set_var(w, x, t);
+            Unified::Good(l)
+        }
+        Asked::Spent => Unified::Spent,
+    }
+}
+
+// Are two types that are no unknown, no cell and no error the same?
+fn same_leaf(a: Ty, b: Ty) -> bool
+    ensures { λ r. ⌜ r ≡ sameLeafW a b ⌝ }
+{
+    tag_of(a) == tag_of(b) && payload_of(a) == payload_of(b)
+}
+
+// `got` is the type of the node that the caller reports at.
+pub fn unify(w: &mut [u32], got: Ty, expected: Ty, left: u32) -> Unified
+    ensures { λ r. ⌜ Unifies (now (w .entry)) got expected left (now (w .exit)) r ⌝ }
+{
+    if left == 0 {
+        return Unified::Spent;
+    }
+    let a = repr(w, got);
+    let b = repr(w, expected);
+    unify_heads(w, a, b, left - 1)
+}
+
+fn unify_heads(w: &mut [u32], a: Ty, b: Ty, left: u32) -> Unified
+    ensures { λ r. ⌜ UnifiesHeads (now (w .entry)) a b left (now (w .exit)) r ⌝ }
+{
+    match a {
+        Ty::Error => match b {
+            Ty::Var(y) => {
+                set_var(w, y, Ty::Error);
+                Unified::Good(left)
+            }
+            _ => Unified::Good(left),
+        },
+        Ty::Var(x) => match b {
+            Ty::Error => {
+                set_var(w, x, Ty::Error);
+                Unified::Good(left)
+            }
+            Ty::Var(y) => {
+                if x == y {
+                    Unified::Good(left)
+                } else {
+                    bind_var(w, x, b, left)
+                }
+            }
+            _ => bind_var(w, x, b, left),
+        },
+        Ty::Record(c) => match b {
+            Ty::Error => Unified::Good(left),
+            Ty::Var(y) => bind_var(w, y, a, left),
+            Ty::Record(d) => unify_record(w, c, d, left),
+            _ => Unified::Bad(TyError::Mismatch(b, a), left),
+        },
+        Ty::Union(c) => match b {
+            Ty::Error => Unified::Good(left),
+            Ty::Var(y) => bind_var(w, y, a, left),
+            Ty::Union(d) => unify_union(w, c, d, left),
+            _ => Unified::Bad(TyError::Mismatch(b, a), left),
+        },
+        _ => match b {
+            Ty::Error => Unified::Good(left),
+            Ty::Var(y) => bind_var(w, y, a, left),
+            _ => {
+                if same_leaf(a, b) {
+                    Unified::Good(left)
+                } else {
+                    Unified::Bad(TyError::Mismatch(b, a), left)
+                }
+            }
+        },
+    }
+}
+
+fn unify_record(w: &mut [u32], c: u32, d: u32, left: u32) -> Unified
+    ensures { λ r. ⌜ UnifiesRecord (now (w .entry)) c d left (now (w .exit)) r ⌝ }
+{
+    let n = count(w, c);
+    if n == count(w, d) {
+        unify_fields(w, c, d, n, left)
+    } else {
+        Unified::Bad(TyError::Mismatch(Ty::Record(d), Ty::Record(c)), left)
+    }
+}
+
+// Each name of the found side is sought in the expected.
+fn unify_fields(w: &mut [u32], c: u32, d: u32, n: u32, left: u32) -> Unified
+    ensures { λ r. ⌜ UnifiesFields (now (w .entry)) c d n left (now (w .exit)) r ⌝ }
+{
+    let mut j: u32 = 0;
+    let mut rest = left;
+    while j < n {
+        let p = field(w, c, j);
+        let place = place_of(w, Kind::Fields, d, p.key);
+        let i = match place {
+            Place::At(i) => i,
+            Place::Nowhere => {
+                return Unified::Bad(TyError::UnknownField(p.key), rest);
+            }
+        };
+        let q = field(w, d, i);
+        let x = p.ty;
+        let y = q.ty;
+        let r = unify(w, x, y, rest);
+        match r {
+            Unified::Good(l) => {
+                rest = l;
+            }
+            _ => {
+                return r;
+            }
+        }
+        j += 1;
+    }
+    Unified::Good(rest)
+}
+
+// The least discriminant of one union that is not below `from`, or `best` where that is less.
+fn least_from(w: &[u32], c: u32, from: u64, best: Next) -> Next
+    ensures { λ r. ⌜ LeastFrom (now (w .entry)) c from best r ⌝ }
+{
+    let n = count(w, c);
+    let mut j: u32 = 0;
+    let mut least = best;
+    while j < n {
+        let key = key_at(w, Kind::Alternatives, c, j);
+        least = lower(key, from, least);
+        j += 1;
+    }
+    least
+}
+
+fn lower(key: u32, from: u64, best: Next) -> Next
+    ensures { λ r. ⌜ Lowers key from best r ⌝ }
+{
+    if (key as u64) < from {
+        return best;
+    }
+    match best {
+        Next::Nothing => Next::Is(key),
+        Next::Is(b) => { if key < b { Next::Is(key) } else { best } }
+    }
+}
+
+// The least discriminant of either that is not below `from`.
+fn next_discriminant(w: &[u32], c: u32, d: u32, from: u64) -> Next
+    ensures { λ r. ⌜ NextFrom (now (w .entry)) c d from r ⌝ }
+{
+    least_from(w, d, from, least_from(w, c, from, Next::Nothing))
+}
+
+// Discriminants ascending; each is compared whole before the next.
+fn unify_union(w: &mut [u32], c: u32, d: u32, left: u32) -> Unified
+    ensures { λ r. ⌜ UnifiesUnion (now (w .entry)) c d left (now (w .exit)) r ⌝ }
+{
+    let mut from: u64 = 0;
+    let mut rest = left;
+    while from < 4294967296 {
+        let next = next_discriminant(w, c, d, from);
+        let k = match next {
+            Next::Is(k) => k,
+            Next::Nothing => {
+                return Unified::Good(rest);
+            }
+        };
+        let r = unify_alternative(w, c, d, k, rest);
+        match r {
+            Unified::Good(l) => {
+                rest = l;
+            }
+            _ => {
+                return r;
+            }
+        }
+        from = (k as u64) + 1;
+    }
+    Unified::Good(rest)
+}
+
+fn differ(c: u32, d: u32, diff: UnionDiff, left: u32) -> Unified
+    ensures { λ r. ⌜ r ≡ Unified.Bad (TyError.UnionMismatch diff (Ty.Union d) (Ty.Union c)) left ⌝ }
+{
+    Unified::Bad(
+        TyError::UnionMismatch(diff, Ty::Union(d), Ty::Union(c)),
+        left,
+    )
+}
+
+// Presence on both sides, then the name, then the payload.
+fn unify_alternative(w: &mut [u32], c: u32, d: u32, k: u32, left: u32) -> Unified
+    ensures { λ r. ⌜ UnifiesAlternative (now (w .entry)) c d k left (now (w .exit)) r ⌝ }
+{
+    let found = place_of(w, Kind::Alternatives, c, k);
+    let expected = place_of(w, Kind::Alternatives, d, k);
+    match found {
+        Place::At(i) => {
+            let p = alternative(w, c, i);
+            match expected {
+                Place::At(j) => {
+                    let q = alternative(w, d, j);
+                    if p.label == q.label {
+                        let a = p.ty;
+                        let b = q.ty;
+                        unify_payload(w, c, d, UnionDiff::Payload(p.label, k), a, b, left)
+                    } else {
+                        differ(c, d, UnionDiff::Renamed(q.label, p.label, k), left)
+                    }
+                }
+                Place::Nowhere => differ(c, d, UnionDiff::Absent(p.label, k), left),
+            }
+        }
+        Place::Nowhere => match expected {
+            Place::At(j) => {
+                let q = alternative(w, d, j);
+                differ(c, d, UnionDiff::Absent(q.label, k), left)
+            }
+            Place::Nowhere => Unified::Good(left),
+        },
+    }
+}
+
+// A failure inside becomes a difference of the payload.
+fn unify_payload(w: &mut [u32], c: u32, d: u32, diff: UnionDiff, a: Ty, b: Ty, left: u32) -> Unified
+    ensures { λ r. ⌜ UnifiesPayload (now (w .entry)) c d diff a b left (now (w .exit)) r ⌝ }
+{
+    let r = unify(w, a, b, left);
+    match r {
+        Unified::Bad(_, l) => differ(c, d, diff, l),
+        _ => r,
+    }
+}
+
+// `orderable` of the resolved type: unknowns are looked up on the way; to the first no.
+pub fn orderable(w: &[u32], t: Ty, left: u32) -> Asked
+    ensures { λ r. ⌜ IsOrderable (now (w .entry)) t left r ⌝ }
+{
+    if left == 0 {
+        return Asked::Spent;
+    }
+    let u = repr(w, t);
+    let mut rest = left - 1;
+    match u {
+        Ty::Fact(_) => {
+            return Asked::No(rest);
+        }
+        _ => {}
+    }
+    let n = part_count(w, u);
+    let mut j: u32 = 0;
+    while j < n {
+        let q = part_ty(w, u, j);
+        let r = orderable(w, q, rest);
+        match r {
+            Asked::Yes(l) => {
+                rest = l;
+            }
+            _ => {
+                return r;
+            }
+        }
+        j += 1;
+    }
+    Asked::Yes(rest)
+}

@@ -1,0 +1,169 @@
+//! Files of one shape each, for questions of time: where types are wide, deep or long chains.
+
+use crate::draft::{Draft, Expr, Shape, Stmt};
+use crate::forms;
+use crate::rng::Rng;
+
+/// The shapes, each with its name.
+pub fn shapes() -> Vec<(String, Vec<u8>)> {
+    let mut all = vec![("M".to_owned(), smallest())];
+    for width in [32, 63] {
+        all.push((format!("unions-{width}"), unions(width, 1, 50, false)));
+    }
+    all.push(("unions-63-reversed".to_owned(), unions(63, 1, 50, true)));
+    all.push(("unions-63-in-63".to_owned(), unions(63, 2, 50, false)));
+    all.push(("unions-63-three".to_owned(), unions(63, 3, 1, false)));
+    all.push(("records-120".to_owned(), declared(120, 50, false)));
+    all.push(("records-120-reversed".to_owned(), declared(120, 50, true)));
+    all.push(("inferred-110".to_owned(), inferred(110, 80, false)));
+    all.push(("inferred-110-reversed".to_owned(), inferred(110, 80, true)));
+    for length in [50, 100, 200, 400] {
+        all.push((format!("chain-{length}"), chain(length)));
+    }
+    all.push(("named-chain-50".to_owned(), named_chain(50)));
+    all
+}
+
+/// A form of so many queries that mean something, over one schema; the same for the same numbers.
+pub fn form(queries: usize, seed: u64) -> Vec<u8> {
+    forms::grown(&mut Rng::new(seed), queries)
+}
+
+fn smallest() -> Vec<u8> {
+    let mut draft = Draft::new();
+    draft.head = draft.node(Expr::Int);
+    draft.bytes()
+}
+
+/// Two predicates whose keys are these types, a variable for each key, and the variables made equal so
+/// often.
+fn compared(mut draft: Draft, keys: [u16; 2], times: usize) -> Vec<u8> {
+    let names = [draft.name("x"), draft.name("y")];
+    for (key, name) in keys.into_iter().zip(names) {
+        let predicate = draft.predicate(name, key, None);
+        let node = draft.var(name);
+        let fact = draft.node(Expr::Fact(predicate, node));
+        draft.body.push(Stmt::Implicit(fact));
+    }
+    for _ in 0..times {
+        draft.equate(names[0], names[1]);
+    }
+    hidden(draft)
+}
+
+/// The query under a fact that it does not fit: all is rolled back and the answer stays short.
+fn hidden(mut draft: Draft) -> Vec<u8> {
+    let int = draft.ty(Shape::Int);
+    let predicate = draft.predicate(0, int, None);
+    let head = draft.node(Expr::Str);
+    let body = std::mem::take(&mut draft.body);
+    let subquery = draft.node(Expr::Subquery(head, body));
+    let fact = draft.node(Expr::Fact(predicate, subquery));
+    draft.body.push(Stmt::Implicit(fact));
+    draft.head = draft.node(Expr::Int);
+    draft.bytes()
+}
+
+/// Two unions of so many alternatives, in so many levels of each other.
+fn unions(width: usize, levels: usize, times: usize, reversed: bool) -> Vec<u8> {
+    let mut draft = Draft::new();
+    let name = draft.name("a");
+    let int = draft.ty(Shape::Int);
+    let keys = [false, reversed].map(|reversed| {
+        let mut ty = int;
+        for _ in 0..levels {
+            let mut alternatives: Vec<_> = (0..width).map(|n| (name, n as u32, ty)).collect();
+            if reversed {
+                alternatives.reverse();
+            }
+            ty = draft.ty(Shape::Union(alternatives));
+        }
+        ty
+    });
+    compared(draft, keys, times)
+}
+
+/// Two declared records of so many fields.
+fn declared(width: usize, times: usize, reversed: bool) -> Vec<u8> {
+    let mut draft = Draft::new();
+    let names: Vec<u16> = (0..width).map(|n| draft.name(&format!("f{n}"))).collect();
+    let int = draft.ty(Shape::Int);
+    let keys = [false, reversed].map(|reversed| {
+        let mut fields: Vec<_> = names.iter().map(|name| (*name, int)).collect();
+        if reversed {
+            fields.reverse();
+        }
+        draft.ty(Shape::Record(fields))
+    });
+    compared(draft, keys, times)
+}
+
+/// Two variables bound to records of so many literals, and made equal so often.
+fn inferred(width: usize, times: usize, reversed: bool) -> Vec<u8> {
+    let mut draft = Draft::new();
+    let sides = [draft.name("x"), draft.name("y")];
+    let names: Vec<u16> = (0..width).map(|n| draft.name(&format!("f{n}"))).collect();
+    for (side, reversed) in sides.into_iter().zip([false, reversed]) {
+        let mut parts: Vec<_> = names
+            .iter()
+            .map(|name| (*name, draft.node(Expr::Int)))
+            .collect();
+        if reversed {
+            parts.reverse();
+        }
+        let left = draft.var(side);
+        let right = draft.node(Expr::Record(parts));
+        draft.bind(left, right);
+    }
+    for _ in 0..times {
+        draft.equate(sides[0], sides[1]);
+    }
+    hidden(draft)
+}
+
+/// `y = ((..x..))`: choices of one branch around a variable, each an unknown that the inner one is bound
+/// to; then the variable is followed again and again.
+fn chain(length: usize) -> Vec<u8> {
+    let mut draft = Draft::new();
+    let [x, y] = ["x", "y"].map(|name| draft.name(name));
+    let left = draft.var(y);
+    let mut at = draft.var(x);
+    for _ in 0..length {
+        at = draft.node(Expr::Disjunction(vec![at]));
+    }
+    draft.bind(left, at);
+    for _ in 0..50 {
+        draft.equate(x, y);
+    }
+    draft.head = draft.var(x);
+    draft.bytes()
+}
+
+/// `v1 = v0`, `v2 = v1` and so on, and the first followed again and again.
+fn named_chain(length: usize) -> Vec<u8> {
+    let mut draft = Draft::new();
+    let names: Vec<u16> = (0..=length).map(|n| draft.name(&format!("v{n}"))).collect();
+    for pair in names.windows(2) {
+        draft.equate(pair[1], pair[0]);
+    }
+    for _ in 0..40 {
+        draft.equate(names[length], names[0]);
+    }
+    draft.head = draft.var(names[0]);
+    draft.bytes()
+}
+
+#[cfg(test)]
+mod tests {
+    use super::*;
+
+    #[test]
+    fn all_fit_in_a_file() {
+        for (name, file) in shapes() {
+            assert!(file.len() <= 65_536, "{name}: {}", file.len());
+        }
+        for queries in [1, 30, 64] {
+            assert!(form(queries, 1).len() <= 65_536);
+        }
+    }
+}
