@@ -11,7 +11,7 @@
 #define SIGLA_WORDS 16384       /* the words that must be lent */
 #define SIGLA_BYTES 65536       /* the answer bytes that the program lends */
 #define SIGLA_QUERIES 64        /* the most queries of a file */
-#define SIGLA_STACK 655360      /* bytes of stack that suffice for every file tried (562,160 were used, on samples/deepest.hex) */
+#define SIGLA_STACK 786432      /* bytes of stack that suffice for every file tried (702,760 were used, on samples/deepest.hex) */
 
 #ifdef __cplusplus
 extern "C" {

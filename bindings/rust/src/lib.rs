@@ -10,8 +10,8 @@
 /// The words that must be lent.
 pub const WORDS: usize = 16384;
 
-/// Bytes of stack that suffice for every file tried; 562,160 were used, on samples/deepest.hex.
-pub const STACK: usize = 655_360;
+/// Bytes of stack that suffice for every file tried; 702,760 were used, on samples/deepest.hex.
+pub const STACK: usize = 786_432;
 
 /// Why a file is turned down; the numbers are those of the refusals.
 #[derive(Clone, Copy, Debug, PartialEq, Eq)]
