@@ -1,4 +1,4 @@
--- Made from Proof.ans by tools/answers, eb7c672540048d0a 18125d55195935cf.
+-- Made from Proof.ans by tools/answers, 9550e870a54deb12 fdcae2235affcac7.
 -- The digits, then LF.
 use borrow.Author.Needs.{needs}
 use Rattle.answer.proofs.number_line.Statement.{statement}
