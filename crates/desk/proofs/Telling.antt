@@ -1,5 +1,5 @@
 -- The queries one after the other: those that had their turn stand on the page, and the others lie ahead.
-use mathlib.Core.Bool.{Bool, true, false}
+use mathlib.Core.Bool.{Bool, true}
 use mathlib.Core.List.{List, [], _∷_, _++_, append-nil, append-assoc}
 use mathlib.Core.Logic.{inl, inr}
 use mathlib.Core.Option.{none, some}
@@ -7,17 +7,16 @@ use mathlib.Core.Path.{_≡_, refl, sym, ap, subst, _∙_}
 use Prim.Native.Nat.{ℕ, suc, _+_, _≤_, _<_}
 use native.Mathlib.Omega.{arith}
 use lib.Dec.{ltb}
-use lib.ListN.{length, take, length-append}
+use lib.ListN.{length, length-append}
 use borrow.Author.Tests.{lt-ltb}
 use Rattle.cells.specs.Stands.{Rows}
 use Rattle.meaning.specs.Syntax.{Ast}
-use Rattle.meaning.specs.Schema.{Schema}
 use Rattle.meaning.specs.File.{Form, viewOf, described, reading, maxFile}
 use Rattle.meaning.specs.All.{All, Any, Each}
 use Rattle.meaning.specs.Sound.{Sound}
 use Rattle.meaning.specs.Check.{Typed, Checked, typed, exhausted, check}
 use Rattle.meaning.specs.Answer.{bytes₂, hexLine, answerLines, numbered, formLines}
-use Rattle.meaning.specs.Outcome.{turnedDown, answered, minWords, maxVisits, runAll, decideRun}
+use Rattle.meaning.specs.Outcome.{answered, minWords, maxVisits, runAll, decideRun}
 use Rattle.meaning.proofs.Forms.{Ran, RanOut, each-ran, any-out}
 use Rattle.meaning.proofs.Sound.{sound}
 use Rattle.tree.specs.Stands.{SchemaStands}

@@ -11,7 +11,7 @@ use Rattle.cells.specs.Stands.{Rows}
 use Rattle.meaning.specs.Syntax.{Ast}
 use Rattle.meaning.specs.File.{Described}
 use Rattle.meaning.specs.Sound.{Sound}
-use Rattle.meaning.specs.Check.{Step, Typed, Checked, typed, exhausted, checked, check}
+use Rattle.meaning.specs.Check.{Step, Checked, typed, exhausted, checked, check}
 use Rattle.meaning.specs.Run.{run}
 use Rattle.meaning.specs.Answer.{bytes₂, hexLine, answerLines}
 use Rattle.meaning.specs.Outcome.{minWords, maxVisits}

@@ -9,7 +9,7 @@ use Rattle.cells.specs.Stands.{Rows}
 use Rattle.meaning.specs.Syntax.{Ast}
 use Rattle.meaning.specs.File.{Described}
 use Rattle.meaning.specs.Sound.{Sound}
-use Rattle.meaning.specs.Check.{Typed, Checked, typed, exhausted, check}
+use Rattle.meaning.specs.Check.{Checked, typed, exhausted, check}
 use Rattle.meaning.specs.Answer.{bytes₂, hexLine, answerLines}
 use Rattle.meaning.specs.Outcome.{minWords, maxVisits}
 use Rattle.tree.specs.Stands.{SchemaStands, Stands}

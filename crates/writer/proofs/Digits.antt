@@ -49,11 +49,3 @@ module _ {out : List ℕ} {at : ℕ} (a : List ℕ) {mid : List ℕ} {r : Wrote}
 
   pub line-full : r ≡ Full → Writes out at (hexLine a) mid Full
   line-full e = writes-as (sym (line-is a)) (writes-full f e (10 ∷ []))
-
--- A line is its digits and LF.
-module _ {out : List ℕ} {at : ℕ} (a : List ℕ) {mid : List ℕ} {r : Wrote} (f : Writes out at (hexOf a) mid r) where
-  pub closed-then : {n : ℕ} {out′ : List ℕ} {r′ : Wrote} → r ≡ To n → Writes mid n (10 ∷ []) out′ r′ → Writes out at (hexLine a) out′ r′
-  closed-then e g = writes-as (sym (line-is a)) (writes-then f e g)
-
-  pub closed-full : r ≡ Full → Writes out at (hexLine a) mid Full
-  closed-full e = writes-as (sym (line-is a)) (writes-full f e (10 ∷ []))

@@ -6,8 +6,8 @@ use Prim.Native.Nat.{ℕ, suc, _+_, _-_, _≤_, _<_}
 use native.Mathlib.Decide.{decLe}
 use native.Mathlib.Numerals.{add-one}
 use native.Mathlib.Omega.{arith}
-use lib.ListN.{length, take, drop, set, length-append, length-take, length-drop, length-set, take-append-drop, drop-of-length-le}
-use lib.Seq.{length-take-le, take-all, take-at, drop-append-add, drop-drop, set-split, append-snoc}
+use lib.ListN.{length, take, drop, set, length-append, length-take, length-drop, length-set, take-append-drop}
+use lib.Seq.{length-take-le, take-at, drop-append-add, drop-drop, set-split, append-snoc}
 use Rattle.writer.specs.declared.Wrote.{Wrote}
 use Rattle.writer.specs.declared.Wrote.the-variants.{To, Full}
 use Rattle.writer.specs.Writes.{placed, Writes, Moves}
@@ -188,28 +188,3 @@ module _ {out₀ : List ℕ} {at : ℕ} {whole out : List ℕ} {to : ℕ} {rest 
 abbrev pub shifted : ℕ → Wrote → Wrote
 shifted n (To m) = To (n + m)
 shifted n Full = Full
-
--- A text at the start of the part from n on is a text at n of the whole; the part comes back in its place (`putMid`).
-module _ (out : List ℕ) (n : ℕ) (inside : n ≤ length out) where
-  all-left : take (length out - n) (drop n out) ≡ drop n out
-  all-left = take-all (length out - n) (drop n out) (omega (arith, length-drop n out))
-
-  none-after : drop (length out - n) (drop n out) ≡ []
-  none-after = let past : length (drop n out) ≤ length out - n = omega (arith, length-drop n out) in drop-of-length-le (drop n out) past
-
-  in-place : (a : List ℕ) → take n out ++ (placed 0 a (drop n out) ++ []) ≡ placed n a out
-  unfolding placed
-  in-place a =
-      let zero-on : 0 + length a ≡ length a = omega arith in
-      rw (append-nil (a ++ drop (0 + length a) (drop n out)), zero-on, drop-drop (length a) n out) (sym (append-assoc (take n out) a (drop (n + length a) out)))
-
-  pub part-writes : {a part : List ℕ} {r : Wrote} → Writes (take (length out - n) (drop n out)) 0 a part r → Writes out n a (take n out ++ (part ++ drop (length out - n) (drop n out))) (shifted n r)
-  part-writes {a} {part} {r} f =
-      let g : Writes (drop n out) 0 a part r = rw all-left at f in
-      let size : length (drop n out) ≡ length out - n = length-drop n out in
-      let sum : n + (0 + length a) ≡ n + length a = omega arith in
-      rw none-after record {
-        fits = λ h. let p = g .fits (omega (arith, size)) in (ap (shifted n) (p .0) ∙ ap To sum, ap (λ l. take n out ++ (l ++ [])) (p .1) ∙ in-place a);
-        over = λ h. ap (shifted n) (g .over (omega (arith, size)));
-        long = rw (append-nil part, length-append (take n out) part, g .long, length-take-le n out inside) (omega (arith, size));
-      }
