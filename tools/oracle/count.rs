@@ -4,21 +4,31 @@
 /// Every inserted line ends so, and no line of ty.rs does.
 const MARK: &str = "// counted";
 
-/// The function headers after which a line is inserted, and the line.
+/// The function headers after which a line is inserted, and what it calls.
 ///
 /// A visit is an entry to one of the first three (document 01). The others are where the Rust
-/// writes types out in full; they are watched so that a file whose types it can't hold is stopped
-/// before the machine is.
-const ENTRIES: [(&str, &str); 6] = [
+/// writes types and their texts out in full; they are watched so that a file whose types or
+/// messages it can't hold is stopped before the machine is.
+const ENTRIES: [(&str, &str); 7] = [
     (
         "fn unify(&mut self, got: &Ty, expected: &Ty) -> Result<(), TyError> {",
-        "visit",
+        "visit()",
     ),
-    ("fn occurs(&self, var: TyVarId, ty: &Ty) -> bool {", "visit"),
-    ("fn orderable(ty: &Ty) -> bool {", "visit"),
-    ("fn zonk(&self, ty: &Ty) -> Ty {", "write_out"),
-    ("fn schema_ty(ty: &PredicateTy) -> Ty {", "write_out"),
-    ("fn render(&self, ty: &Ty) -> String {", "write_out"),
+    (
+        "fn occurs(&self, var: TyVarId, ty: &Ty) -> bool {",
+        "visit()",
+    ),
+    ("fn orderable(ty: &Ty) -> bool {", "visit()"),
+    ("fn zonk(&self, ty: &Ty) -> Ty {", "write_out()"),
+    ("fn schema_ty(ty: &PredicateTy) -> Ty {", "write_out()"),
+    (
+        "fn render(&self, ty: &Ty) -> String {",
+        "render(if let Ty::Fact(p) = ty { self.schema.get(*p).and_then(|p| p.name()) } else { None })",
+    ),
+    (
+        "fn name_of(&self, symbol: Symbol) -> &str {",
+        "write_name(self.interner.try_resolve(symbol))",
+    ),
 ];
 
 /// ty.rs with the counting lines, or why it could not be made.
@@ -33,7 +43,7 @@ pub fn counted(text: &str) -> Result<String, String> {
         for (entry, (header, call)) in ENTRIES.iter().enumerate() {
             if line.trim() == *header {
                 found[entry] += 1;
-                copy.push_str(&format!("crate::visits::{call}(); {MARK}\n"));
+                copy.push_str(&format!("crate::visits::{call}; {MARK}\n"));
             }
         }
     }

@@ -7,49 +7,29 @@
 //! assert_eq!(sigla::check(b"", &mut work, &mut answer), Err(sigla::Refusal::MisplacedKind));
 //! ```
 
+mod answer;
+mod file;
+mod form;
+mod refusal;
+mod ty;
+
+pub use answer::{Answer, Diagnostic, NoAnswer, Typed};
+pub use file::{Asked, File, NoFile, NodeFrame, PredicateFrame, QueryFrames, Shape, StatementFrame, TypeFrame};
+pub use form::{Form, Limit, Node, Predicate, Query, Span, Statement, Type};
+pub use refusal::Refusal;
+pub use ty::{Alternative, Field, Names, Shown, Tree, Ty};
+
 /// The words that must be lent.
 pub const WORDS: usize = 16384;
 
-/// Bytes of stack that suffice for every file tried; 702,760 were used, on samples/deepest.hex.
-pub const STACK: usize = 786_432;
+/// The answer bytes that the program lends.
+pub const BYTES: usize = 65536;
 
-/// Why a file is turned down; the numbers are those of the refusals.
-#[derive(Clone, Copy, Debug, PartialEq, Eq)]
-#[repr(u8)]
-pub enum Refusal {
-    WorkTooShort = 1,
-    FileTooLong = 2,
-    MalformedLine = 3,
-    MisplacedKind = 4,
-    TooMany = 5,
-    MalformedFrame = 6,
-    BrokenText = 7,
-    NameGivenBefore = 8,
-    BadReference = 9,
-    RepeatedKey = 10,
-    TooManyVisits = 11,
-    AnswerTooLong = 12,
-    TooManyQueries = 13,
-}
+/// Bytes of stack that suffice for every file tried; 755,256 were used, on samples/deepest.hex.
+pub const STACK: usize = 1_048_576;
 
 /// The most queries of a file.
 pub const QUERIES: usize = 64;
-
-const REFUSALS: [Refusal; 13] = [
-    Refusal::WorkTooShort,
-    Refusal::FileTooLong,
-    Refusal::MalformedLine,
-    Refusal::MisplacedKind,
-    Refusal::TooMany,
-    Refusal::MalformedFrame,
-    Refusal::BrokenText,
-    Refusal::NameGivenBefore,
-    Refusal::BadReference,
-    Refusal::RepeatedKey,
-    Refusal::TooManyVisits,
-    Refusal::AnswerTooLong,
-    Refusal::TooManyQueries,
-];
 
 unsafe extern "C" {
     fn sigla_check(file: *const u8, file_len: usize, work: *mut u32, work_len: usize, answer: *mut u8, answer_len: usize) -> u8;
@@ -62,10 +42,24 @@ pub fn check(file: &[u8], work: &mut [u32], answer: &mut [u8]) -> Result<usize, 
     // SAFETY: each pointer goes with the length of the slice that it comes from; two of the slices are borrowed for writing, so none
     // overlaps another; the library keeps no pointer.
     let number = unsafe { sigla_check(file.as_ptr(), file.len(), work.as_mut_ptr(), work.len(), answer.as_mut_ptr(), answer.len()) };
-    match number {
-        0 => Ok(answer.iter().position(|&byte| byte == 0).unwrap_or(answer.len())),
-        n => Err(REFUSALS[usize::from(n) - 1]),
+    match Refusal::from_number(number) {
+        None => Ok(answer.iter().position(|&byte| byte == 0).unwrap_or(answer.len())),
+        Some(refusal) => Err(refusal),
     }
+}
+
+/// Types the queries of a file with slices of its own, and parses the answer.
+///
+/// ```
+/// let answer = sigla::answer(b"01020020\n05000000000000000000\n060000\n")?;
+/// assert_eq!(answer.queries[0].types, [Some(sigla::Ty::Integer)]);
+/// # Ok::<(), sigla::Refusal>(())
+/// ```
+pub fn answer(file: &[u8]) -> Result<Answer, Refusal> {
+    let mut work = vec![0u32; WORDS];
+    let mut answer = vec![0u8; BYTES];
+    let n = check(file, &mut work, &mut answer)?;
+    Ok(Answer::parse(&answer[..n]).expect("the library writes answers alone"))
 }
 
 /// The lines of each query of an answer, in the file's order, without the lines 0b.

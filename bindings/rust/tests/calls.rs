@@ -15,11 +15,27 @@ fn the_sample_is_answered() {
     let (mut work, mut answer) = lent();
     let n = check(SAMPLE, &mut work, &mut answer).expect("the sample is accepted");
     let text: String = answer[..n].iter().map(|&byte| char::from(byte)).collect();
-    let last = text.lines().last().expect("there are lines");
-    let ends: String = "reject/infinite-type".bytes().map(|byte| format!("{byte:02x}")).collect();
-    assert!(last.starts_with("08") && last.ends_with(&ends), "{last}");
+    let hex = |text: &str| -> String { text.bytes().map(|byte| format!("{byte:02x}")).collect() };
+    let mut last = text.lines().rev();
+    assert_eq!(last.next(), Some(format!("0a{}", hex("this pattern would have to contain itself")).as_str()));
+    let code = last.next().expect("there are lines");
+    assert!(code.starts_with("08") && code.ends_with(&hex("reject/infinite-type")), "{code}");
     assert!(answer[n..].iter().all(|&byte| byte == 0));
     assert!(work.iter().all(|&word| word == 0));
+}
+
+#[test]
+fn an_answer_is_parsed() {
+    let answer = sigla::answer(FORM).expect("the form is accepted");
+    let shown: Vec<String> = answer.queries[1].diagnostics.iter().map(ToString::to_string).collect();
+    assert_eq!(shown, ["35..41: reject/type-mismatch: expected an integer, found a string"]);
+    let file = sigla::File::parse(FORM).expect("it is a file");
+    assert_eq!(file.write(), FORM);
+    let ty = answer.queries[0].types[1].as_ref().expect("it was looked at");
+    assert_eq!(ty.shown(&file.texts()).to_string(), "{pen = a string, pressure = an integer}");
+    for lines in [&b"0e\n"[..], b"0a61\n", b"07000100\n", b"070000\n", b"0700000000\n", b"07000000", b"0b0001\n"] {
+        assert!(sigla::Answer::parse(lines).is_err(), "{lines:?}");
+    }
 }
 
 #[test]

@@ -12,6 +12,7 @@ use Rattle.cells.specs.Stands.{Rows}
 use Rattle.bytes.specs.Bytes.{slice}
 use Rattle.meaning.specs.File.{Described}
 use Rattle.meaning.specs.Check.{Checker, Typed, goes, typed, checked, reversed, zonked}
+use Rattle.meaning.specs.Messages.{messageText}
 use Rattle.meaning.specs.Answer.{nodeLines, diagnosticLines, answerLines}
 use Rattle.state.specs.Runs.{Runs}
 use Rattle.state.specs.Lines.{placeW, Lines, within, beyond}
@@ -64,42 +65,42 @@ typed-is ceiling ty c t q = let p : typed (answered ceiling c) ≡ typed t = q i
 abbrev nodes : Checker → List ℕ
 nodes c = nodeLines 0 (map (zonked (c .state)) (c .state .tys))
 
-abbrev reports : Checker → List ℕ
-reports c = diagnosticLines (reversed (c .diagnostics) [])
+abbrev reports : Described → Checker → List ℕ
+reports d c = diagnosticLines (messageText (d .names) (d .schema)) (reversed (c .diagnostics) [])
 
 answers : {w out out′ : List ℕ} {r : Wrote} → length out′ ≡ length out
-    → ((f : List ℕ) (T : Rows) (d : Described) (c : Checker) → Runs f w T d c → Lines w out (reports c)
-    → Writes out 0 (nodes c ++ reports c) out′ r) → WritesAnswer w out out′ r
+    → ((f : List ℕ) (T : Rows) (d : Described) (c : Checker) → Runs f w T d c → Lines w out (reports d c)
+    → Writes out 0 (nodes c ++ reports d c) out′ r) → WritesAnswer w out out′ r
 unfolding answerLines
-answers long go = record { is = λ f T d c R L ceiling ty t q. writes-as (ap answerLines (typed-is ceiling ty c t q)) (go f T d c R L); long = long }
+answers long go = record { is = λ f T d c R L ceiling ty t q. writes-as (ap (answerLines (messageText (d .names) (d .schema))) (typed-is ceiling ty c t q)) (go f T d c R L); long = long }
 
 module _ {w out : List ℕ} {full : ℕ} (p : full ≡ getD w FULL 0) where
   pub answer-over : ¬ (full ≡ 0) → WritesAnswer w out out Full
-  answer-over some = answers refl (λ f T d c R L. go c L)
+  answer-over some = answers refl (λ f T d c R L. go d c L)
     where
-      go : (c : Checker) → Lines w out (reports c) → Writes out 0 (nodes c ++ reports c) out Full
-      go c (within q e l t) = absurd (some (p ∙ q))
-      go c (beyond q l) = full-writes (reports c) (nodes c) (omega arith) refl
+      go : (d : Described) (c : Checker) → Lines w out (reports d c) → Writes out 0 (nodes c ++ reports d c) out Full
+      go d c (within q e l t) = absurd (some (p ∙ q))
+      go d c (beyond q l) = full-writes (reports d c) (nodes c) (omega arith) refl
 
   module _ (free : full ≡ 0) {at : ℕ} (place : at ≡ placeW w) where
     pub answer-past : length out < at → WritesAnswer w out out Full
-    answer-past h = answers refl (λ f T d c R L. go c L)
+    answer-past h = answers refl (λ f T d c R L. go d c L)
       where
-        go : (c : Checker) → Lines w out (reports c) → Writes out 0 (nodes c ++ reports c) out Full
-        go c (within q e l t) = absurd (omega (arith, place, e))
-        go c (beyond q l) = absurd (omega (arith, p, free, q))
+        go : (d : Described) (c : Checker) → Lines w out (reports d c) → Writes out 0 (nodes c ++ reports d c) out Full
+        go d c (within q e l t) = absurd (omega (arith, place, e))
+        go d c (beyond q l) = absurd (omega (arith, p, free, q))
 
     module _ {mid : List ℕ} {r : Wrote} (g : WritesNodeLines w out at mid r) where
       module _ {f : List ℕ} {T : Rows} {d : Described} (c : Checker) (R : Runs f w T d c)
-          (e : placeW w ≡ length (reports c)) (l : length (reports c) ≤ length out) where
-        written : Writes out (length (reports c)) (nodes c) mid r
+          (e : placeW w ≡ length (reports d c)) (l : length (reports d c) ≤ length out) where
+        written : Writes out (length (reports d c)) (nodes c) mid r
         written = rw (place ∙ e) at (g .is T (c .state) (R .holds) (R .stands .nodes ∙ sym (R .nodes)) (omega (arith, place, e)))
 
       pub answer-full : r ≡ Full → WritesAnswer w out mid Full
       answer-full z = answers (g .moves .long) (λ f T d c R L. go c R L)
         where
-          go : {f : List ℕ} {T : Rows} {d : Described} (c : Checker) → Runs f w T d c → Lines w out (reports c) → Writes out 0 (nodes c ++ reports c) mid Full
-          go c R (within q e l t) = full-writes (reports c) (nodes c) (writes-over (written c R e l) z) (g .moves .long)
+          go : {f : List ℕ} {T : Rows} {d : Described} (c : Checker) → Runs f w T d c → Lines w out (reports d c) → Writes out 0 (nodes c ++ reports d c) mid Full
+          go {d = d} c R (within q e l t) = full-writes (reports d c) (nodes c) (writes-over (written c R e l) z) (g .moves .long)
           go c R (beyond q l) = absurd (omega (arith, p, free, q))
 
       module _ {end : ℕ} (z : r ≡ To end) where
@@ -107,8 +108,8 @@ module _ {w out : List ℕ} {full : ℕ} (p : full ≡ getD w FULL 0) where
             → WritesAnswer w out out′ (To end)
         answer-exchanged {out′} long s = answers long (λ f T d c R L. go c R L)
           where
-            go : {f : List ℕ} {T : Rows} {d : Described} (c : Checker) → Runs f w T d c → Lines w out (reports c)
-                → Writes out 0 (nodes c ++ reports c) out′ (To end)
+            go : {f : List ℕ} {T : Rows} {d : Described} (c : Checker) → Runs f w T d c → Lines w out (reports d c)
+                → Writes out 0 (nodes c ++ reports d c) out′ (To end)
             go c R (within q e l t) = exchanged-writes t l (rw z at (written c R e l)) long (rw (place ∙ e) at s)
             go c R (beyond q l) = absurd (omega (arith, p, free, q))
 

@@ -11,6 +11,7 @@ use Rattle.work.specs.Layout.{NODE-COUNT}
 use Rattle.cells.specs.Stands.{Rows, Holds}
 use Rattle.meaning.specs.File.{Described}
 use Rattle.meaning.specs.Check.{Checker, Typed, goes, typed, checked, zonked}
+use Rattle.meaning.specs.Messages.{messageText}
 use Rattle.meaning.specs.Answer.{bytes₂, slotBytes, hexLine, nodeLines, answerLines}
 use Rattle.writer.specs.declared.Wrote.{Wrote}
 use Rattle.writer.specs.Writes.{Writes, Moves, hexOf}
@@ -44,6 +45,6 @@ pub record WritesNodeLines (w out : List ℕ) (at : ℕ) (out′ : List ℕ) (r 
 -- After a run that ended, with the lines of its diagnostics in the slice: the slice is full exactly where the answer is longer than
 -- it (`whole-over` in writer/proofs/Writing.antt), and else begins with the answer, which ends where it is said (`whole-there`).
 pub record WritesAnswer (w out out′ : List ℕ) (r : Wrote) : Type 0 where
-  pub is : (f : List ℕ) (T : Rows) (d : Described) (c : Checker) → Runs f w T d c → Told w out c
-      → (ceiling : ℕ) (ty : Tree.Ty) (t : Typed) → checked ceiling (goes ty c) ≡ typed t → Writes out 0 (answerLines t) out′ r
+  pub is : (f : List ℕ) (T : Rows) (d : Described) (c : Checker) → Runs f w T d c → Told d w out c
+      → (ceiling : ℕ) (ty : Tree.Ty) (t : Typed) → checked ceiling (goes ty c) ≡ typed t → Writes out 0 (answerLines (messageText (d .names) (d .schema)) t) out′ r
   pub long : length out′ ≡ length out

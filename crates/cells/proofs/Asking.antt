@@ -6,7 +6,7 @@ use mathlib.Core.Path.{_≡_, refl, sym, _∙_, ap}
 use native.Mathlib.Omega.{arith}
 use Prim.Native.Nat.{ℕ, zero, suc, _+_, _-_, _<_, _≤_}
 use borrow.Author.Tests.{eq-eqb, ne-eqb}
-use types.Run.{OneOf, miss}
+use types.Run.{OneOf, hit, miss}
 use denote.Enum.Declared.{tagOf}
 use Rattle.unification.specs.Ty as Tree
 use Rattle.unification.specs.Ty.{Row, ε, cell, app, appRow}
@@ -15,6 +15,8 @@ use Rattle.unification.specs.Bindings.{Subst, Answer, yes-left, no-left, spent,
 use Rattle.unification.specs.Unify as Unify
 use Rattle.unification.specs.Acyclic.{Acyclic}
 use Rattle.unification.proofs.Chain.{repr-resolved}
+use Rattle.unification.proofs.Occurs.{occurs-depth}
+use Rattle.unification.proofs.Visits.{occurs-longer, orderable-longer, again, again-stopped}
 use Rattle.unification.proofs.Zonk.{zonk-repr, zonk-leaf, zonk-error, zonk-node, zonk-unbound, zonk-replaces}
 use Rattle.cells.specs.declared.Ty.{Ty}
 use Rattle.cells.specs.declared.Ty.the-variants.{Int, Str, Bytes, Fact, Record, Union, Var, Error}
@@ -139,6 +141,11 @@ module _ {P : Subst → Type 0} {f : ℕ → Subst → ℕ → Row → Answer} {
     };
   }
 
+-- A part that did not end the walk: as often as it is asked it costs the same, and where fewer visits are left they run out.
+pub record Costs (asked : ℕ → Asked → Type 0) (goes : ℕ → Asked) (cost : ℕ) : Type 0 where
+  pub enough : (v : ℕ) → cost ≤ v → asked v (goes (v - cost))
+  pub short : (v : ℕ) → v < cost → asked v Spent
+
 -- ---- `occurs`
 abbrev pub Any : Subst → Type 0
 Any s = Unit {0}
@@ -261,6 +268,49 @@ module _ {w : List ℕ} {x : ℕ} {t u : Ty} {left : ℕ} (some : ¬ (left ≡ 0
         (λ none. rw (g .unmoved (omega (arith, g .all, g .within, none-of w u none)))
         (visit some rep (No (left - 1)) (omega arith) (λ T s C B o d b. not-inside x T _ (left - 1) u f none)))
 
+abbrev pub Outside : List ℕ → ℕ → Ty → ℕ → Type 0
+Outside w x t cost = Costs (λ v r. Occurs w x t v r) No cost
+
+pub error-outside : (w : List ℕ) (x : ℕ) → Outside w x Error 1
+unfolding Bindings.occurs Bindings.repr Bindings.follow occursIn
+error-outside w x = record { enough = λ v h. record { is = λ T s C B o d b. one s d v h b; fewer = omega arith }; short = λ v h. no-visit (omega arith) }
+  where
+    one : (s : Subst) (d v : ℕ) → 1 ≤ v → v ≤ d → no-left (v - 1) ≡ Bindings.occurs d s x v Tree.Error
+    one s zero v h b = absurd (omega arith)
+    one s (suc d) zero h b = absurd (omega arith)
+    one s (suc d) (suc v) h b = let less : suc v - 1 ≡ v = omega arith in rw less
+
+pub outside : {w : List ℕ} {x : ℕ} {t : Ty} {left l : ℕ} → Occurs w x t left (No l) → Outside w x t (left - l)
+outside {w} {x} {t} {left} {l} o = record {
+  enough = λ v h. record {
+    is = λ T s C B i d b. sym (at d s (tree T t) v b
+        ∙ again (λ z. Bindings.occurs (d + left) s x z (tree T t)) (λ k z. occurs-longer k (d + left) s x z (tree T t)) false left l (o .fewer) (sym (o .is T s C B i (d + left) (omega arith))) v h);
+    fewer = omega arith;
+  };
+  short = λ v h. record {
+    is = λ T s C B i d b. sym (at d s (tree T t) v b
+        ∙ again-stopped (λ z. Bindings.occurs (d + left) s x z (tree T t)) (λ k z. occurs-longer k (d + left) s x z (tree T t)) false left l (o .fewer) (sym (o .is T s C B i (d + left) (omega arith))) v h);
+    fewer = omega arith;
+  };
+}
+  where
+    -- a depth that serves before and now
+    at : (d : ℕ) (s : Subst) (t : Tree.Ty) (v : ℕ) → v ≤ d → Bindings.occurs d s x v t ≡ Bindings.occurs (d + left) s x v t
+    at d s t v b = occurs-depth d (d + left) s x v t b (omega arith)
+
+-- The walk with what the last part cost.
+module _ {w : List ℕ} {x : ℕ} {u : Ty} {left n j v : ℕ} {last : Ty} {cost : ℕ} (g : Asking Any (asks x) w u left n j v × Outside w x last cost)
+    (q : Ty) (h : j < n) (e : q ≡ partOfW w u j .ty) {v′ cost′ : ℕ} {last′ : Ty} where
+  pub occurring-again : q ≡ last → cost ≤ v → v′ ≡ v - cost → last′ ≡ last → cost′ ≡ cost → Asking Any (asks x) w u left n (j + 1) v′ × Outside w x last′ cost′
+  occurring-again s m a b c = rw (a, b, c) (occurring-next (g .0) q h e (rw s (g .1 .enough v m)) (v - cost) refl, g .1)
+
+  pub occurring-new : {a : Asked} → Occurs w x q v a → (l : ℕ) → a ≡ No l → v′ ≡ l → last′ ≡ q → cost′ ≡ v - l → Asking Any (asks x) w u left n (j + 1) v′ × Outside w x last′ cost′
+  occurring-new o l z a b c = rw (a, b, c) (occurring-next (g .0) q h e o l z, outside (rw z at o))
+
+pub occurring-short : {w : List ℕ} {x : ℕ} {t u : Ty} {left : ℕ} → ¬ (left ≡ 0) → Reprs w t u → {n j v : ℕ} {last : Ty} {cost : ℕ} → Asking Any (asks x) w u (left - 1) n j v × Outside w x last cost
+    → (q : Ty) → j < n → q ≡ partOfW w u j .ty → q ≡ last → v < cost → Occurs w x t left Spent
+occurring-short some rep g q h e s m = occurring-ends some rep (g .0) q h e (rw s (g .1 .short _ m)) (hit (0 ∷ 2 ∷ []) 2 tt)
+
 -- ---- `orderable`
 abbrev pub orders : ℕ → Subst → ℕ → Row → Answer
 orders d s v r = Unify.allOrderable (appRow (λ x. Bindings.zonk s (Tree.Var x)) r) v
@@ -354,3 +404,31 @@ module _ {w : List ℕ} {t u : Ty} {left : ℕ} (some : ¬ (left ≡ 0)) (rep : 
       yes-at T s (Union c) h o f = absurd o
       yes-at T s (Var y) h o f = rw (zonk-unbound s y f) (visited-some left _ some)
       yes-at T s Error h o f = rw (zonk-error s) (visited-some left _ some)
+
+abbrev pub Ordered : List ℕ → Ty → ℕ → Type 0
+Ordered w t cost = Costs (λ v r. IsOrderable w t v r) Yes cost
+
+pub error-ordered : (w : List ℕ) → Ordered w Error 1
+unfolding Unify.orderable
+error-ordered w = record {
+  enough = λ v h. record { is = λ T s C B A o. rw (zonk-error s) (sym (visited-some v _ (λ z. absurd (omega arith)))); fewer = omega arith };
+  short = λ v h. order-no-visit (omega arith);
+}
+
+pub ordered : {w : List ℕ} {t : Ty} {left l : ℕ} → IsOrderable w t left (Yes l) → Ordered w t (left - l)
+ordered {w} {t} {left} {l} o = record {
+  enough = λ v h. record { is = λ T s C B A i. sym (again (λ z. Unify.orderable (Bindings.zonk s (tree T t)) z) (λ k z. orderable-longer k (Bindings.zonk s (tree T t)) z) true left l (o .fewer) (sym (o .is T s C B A i)) v h); fewer = omega arith };
+  short = λ v h. record { is = λ T s C B A i. sym (again-stopped (λ z. Unify.orderable (Bindings.zonk s (tree T t)) z) (λ k z. orderable-longer k (Bindings.zonk s (tree T t)) z) true left l (o .fewer) (sym (o .is T s C B A i)) v h); fewer = omega arith };
+}
+
+module _ {w : List ℕ} {u : Ty} {left n j v : ℕ} {last : Ty} {cost : ℕ} (g : Asking Acyclic orders w u left n j v × Ordered w last cost)
+    (q : Ty) (h : j < n) (e : q ≡ partOfW w u j .ty) {v′ cost′ : ℕ} {last′ : Ty} where
+  pub ordering-again : q ≡ last → cost ≤ v → v′ ≡ v - cost → last′ ≡ last → cost′ ≡ cost → Asking Acyclic orders w u left n (j + 1) v′ × Ordered w last′ cost′
+  ordering-again s m a b c = rw (a, b, c) (ordering-next (g .0) q h e (rw s (g .1 .enough v m)) (v - cost) refl, g .1)
+
+  pub ordering-new : {a : Asked} → IsOrderable w q v a → (l : ℕ) → a ≡ Yes l → v′ ≡ l → last′ ≡ q → cost′ ≡ v - l → Asking Acyclic orders w u left n (j + 1) v′ × Ordered w last′ cost′
+  ordering-new o l z a b c = rw (a, b, c) (ordering-next (g .0) q h e o l z, ordered (rw z at o))
+
+pub ordering-short : {w : List ℕ} {t u : Ty} {left : ℕ} → ¬ (left ≡ 0) → Reprs w t u → {n j v : ℕ} {last : Ty} {cost : ℕ} → Asking Acyclic orders w u (left - 1) n j v × Ordered w last cost
+    → (q : Ty) → j < n → q ≡ partOfW w u j .ty → q ≡ last → v < cost → IsOrderable w t left Spent
+ordering-short some rep g q h e s m = ordering-ends some rep (g .0) q h e (rw s (g .1 .short _ m)) (hit (1 ∷ 2 ∷ []) 2 tt)

@@ -7,7 +7,7 @@ use Prim.Native.Nat.{ℕ, zero, suc, _-_, _<_, _≤_}
 use native.Mathlib.Decide.{ℕ-discrete}
 use native.Mathlib.Omega.{arith}
 use lib.Dec.{eqb}
-use lib.ListN.{length}
+use lib.ListN.{length, getD}
 use borrow.Author.Tests.{eq-eqb, ne-eqb, eqb-true}
 use types.Run.{OneOf, miss}
 use denote.Enum.Declared.{tagOf}
@@ -21,6 +21,7 @@ use Rattle.unification.proofs.Tests.{clash}
 use Rattle.unification.proofs.Chain.{repr-resolved, error-reaches}
 use Rattle.unification.proofs.Occurs.{occurs-no}
 use Rattle.unification.proofs.Kept.{heads-in, unifyIn-spent, unifyIn-visit}
+use Rattle.work.specs.Layout.{UNDO-LEN}
 use Rattle.cells.specs.declared.Ty.{Ty}
 use Rattle.cells.specs.declared.Ty.the-variants.{Int, Str, Bytes, Fact, Record, Union, Var, Error}
 use Rattle.cells.specs.declared.Asked.{Asked}
@@ -29,7 +30,7 @@ use Rattle.cells.specs.declared.Asked.the-variants as Asked
 use Rattle.cells.specs.declared.TyError.the-variants.{Mismatch, Infinite}
 use Rattle.cells.specs.declared.Unified.{Unified}
 use Rattle.cells.specs.declared.Unified.the-variants.{Good, Bad, Spent}
-use Rattle.cells.specs.Words.{pick, tagW, payloadW, sameLeafW, setVarW}
+use Rattle.cells.specs.Words.{pick, tagW, payloadW, sameTyW, againW, setVarW}
 use Rattle.cells.specs.Stands.{Rows, tree, Ok, Holds}
 use Rattle.cells.specs.Contracts.{Reprs, answerOf, Occurs, Ends, unifier, BindsVar, UnifiesHeads, UnifiesRecord, UnifiesUnion, Unifies}
 use Rattle.cells.proofs.Ty.{the-type}
@@ -112,16 +113,26 @@ leaf Error o = absurd (miss (0 ∷ 1 ∷ 2 ∷ 3 ∷ []) 7 tt o)
 leaf-is : (T : Rows) (t : Ty) (o : IsLeaf t) → tree T t ≡ Tree.leaf (leaf t o .0)
 leaf-is T t o = ap (tree T) (leaf t o .1) ∙ leaf-tree T (leaf t o .0)
 
-same-true : (a b : Ty) → sameLeafW a b ≡ true → a ≡ b
-unfolding sameLeafW
+pub same-true : (a b : Ty) → sameTyW a b ≡ true → a ≡ b
+unfolding sameTyW
 same-true a b e = go (eqb (tagW a) (tagW b)) refl e
   where
     go : (c : Bool) → eqb (tagW a) (tagW b) ≡ c → pick c (eqb (payloadW a) (payloadW b)) false ≡ true → a ≡ b
     go true q h = cc (read-back a, read-back b, eqb-true (tagW a) (tagW b) q, eqb-true (payloadW a) (payloadW b) h)
     go false q h = clash (cc)
 
-same-false : (a b : Ty) → sameLeafW a b ≡ false → ¬ (a ≡ b)
-unfolding sameLeafW
+pub again-true : (w : List ℕ) (x y got expected : Ty) (log : ℕ) → againW w x y got expected log ≡ true → (x ≡ got) × (y ≡ expected) × (getD w UNDO-LEN 0 ≡ log)
+unfolding againW
+again-true w x y got expected log e = go (sameTyW x got) refl (sameTyW y expected) refl e
+  where
+    go : (b : Bool) → sameTyW x got ≡ b → (c : Bool) → sameTyW y expected ≡ c → pick b (pick c (eqb (getD w UNDO-LEN 0) log) false) false ≡ true
+        → (x ≡ got) × (y ≡ expected) × (getD w UNDO-LEN 0 ≡ log)
+    go true p true q h = (same-true x got p, same-true y expected q, eqb-true (getD w UNDO-LEN 0) log h)
+    go true p false q h = clash (cc)
+    go false p c q h = clash (cc)
+
+same-false : (a b : Ty) → sameTyW a b ≡ false → ¬ (a ≡ b)
+unfolding sameTyW
 same-false a b e q =
     let x : eqb (tagW a) (tagW b) ≡ true = eq-eqb (tagW a) (tagW b) (ap tagW q) in
     let y : eqb (payloadW a) (payloadW b) ≡ true = eq-eqb (payloadW a) (payloadW b) (ap payloadW q) in
@@ -275,10 +286,10 @@ module _ {w : List ℕ} {a b : Ty} {left : ℕ} where
   unfolding unifyHeads
   leaf-var y o q B = record { step = is-other (λ T st k. (rw q at (k .3), rw q at (k .1), k .0)) (λ T st d H k. rw (leaf-is T a o, q)) (B .step) }
 
-  pub leaf-same : IsLeaf a → sameLeafW a b ≡ true → UnifiesHeads w a b left w (Good left)
+  pub leaf-same : IsLeaf a → sameTyW a b ≡ true → UnifiesHeads w a b left w (Good left)
   leaf-same o e = record { step = goes-on (λ T st d k. rw (← same-true a b e, leaf-is T a o) (leaves-same d (unifier d) st (leaf a o .0))) }
 
-  pub leaf-else : IsLeaf a → OneOf (0 ∷ 1 ∷ 2 ∷ 3 ∷ 4 ∷ 5 ∷ []) (tagOf the-type b) → sameLeafW a b ≡ false → UnifiesHeads w a b left w (Bad (Mismatch b a) left)
+  pub leaf-else : IsLeaf a → OneOf (0 ∷ 1 ∷ 2 ∷ 3 ∷ 4 ∷ 5 ∷ []) (tagOf the-type b) → sameTyW a b ≡ false → UnifiesHeads w a b left w (Bad (Mismatch b a) left)
   leaf-else o o′ e = record {
     step = fails (Mismatch b a) (λ T st k. (k .1, k .0)) (λ T st d H k. rw (leaf-is T a o)
         (leaf-differs d (unifier d) st T (leaf a o .0) b o′ (λ q. same-false a b e (leaf a o .1 ∙ q))));

@@ -3,9 +3,9 @@
 use mathlib.Core.List.{List}
 use mathlib.Core.Option.{none, some}
 use mathlib.Core.Path.{_≡_, refl, sym, _∙_, ap}
-use Prim.Native.Nat.{ℕ, zero, suc, _+_, _<_, _≤_}
+use Prim.Native.Nat.{ℕ, zero, suc, _+_, _-_, _<_, _≤_}
 use native.Mathlib.Omega.{arith}
-use lib.ListN.{length}
+use lib.ListN.{length, getD}
 use borrow.Author.Tests.{eq-eqb, ne-eqb}
 use Rattle.unification.specs.Ty as Tree
 use Rattle.unification.specs.Ty.{Row, cell, rowLen}
@@ -14,7 +14,7 @@ use Rattle.unification.specs.Unify as Unify
 use Rattle.unification.specs.Unify.{andThen, findKey, unifyField, unifyFields, unifyRecord}
 use Rattle.work.specs.Layout.{UNDO-LEN, END}
 use Rattle.cells.specs.declared.Ty.{Ty}
-use Rattle.cells.specs.declared.Ty.the-variants.{Record}
+use Rattle.cells.specs.declared.Ty.the-variants.{Record, Error}
 use Rattle.cells.specs.declared.Kind.{Kind}
 use Rattle.cells.specs.declared.Kind.the-variants.{Fields}
 use Rattle.cells.specs.declared.Part.{Part}
@@ -22,13 +22,13 @@ use Rattle.cells.specs.declared.Found.{Found}
 use Rattle.cells.specs.declared.Found.the-variants.{At, Nothing}
 use Rattle.cells.specs.declared.TyError.the-variants.{Mismatch, UnknownField}
 use Rattle.cells.specs.declared.Unified.{Unified}
-use Rattle.cells.specs.declared.Unified.the-variants.{Good, Bad}
+use Rattle.cells.specs.declared.Unified.the-variants.{Good, Bad, Spent}
 use Rattle.cells.specs.Words.{countW, partW, fieldW}
 use Rattle.cells.specs.Stands.{Rows, tree, rowFrom, rowW, IsCell, Ok, Cells, Holds, Keeps}
 use Rattle.cells.specs.Contracts.{foundPart, FindsKey, Step, unifier, UnifiesRecord, UnifiesFields, Unifies}
 use Rattle.cells.proofs.Frame.{keeps-cells, cell-same, part-same, ok-same}
 use Rattle.cells.proofs.Parts.{rest, rest-whole, rest-cell, rest-none, part-ok}
-use Rattle.cells.proofs.Steps.{fails, is-other, Going, go-start, go-end, go-fail, go-next, go-stop, NotGood}
+use Rattle.cells.proofs.Steps.{fails, is-other, Going, go-start, Here, go-end, go-fail, go-next, go-stop, NotGood, Settled, settled-errors, settled, go-again, go-short}
 
 -- ---- `unify_record`
 row-length : (T : Rows) (w : List ℕ) (k : Kind) (c n j : ℕ) → rowLen (rowFrom T w k c j n) ≡ n
@@ -63,12 +63,16 @@ module _ {w : List ℕ} {c e n m left : ℕ} (nc : n ≡ countW w c) (ne : m ≡
 abbrev pub fieldsFrom : List ℕ → ℕ → ℕ → ℕ → ℕ → ℕ → Rows → State → Unify.Unified
 fieldsFrom w₀ c e n j d T st = unifyFields (unifier d) st (rest T w₀ Fields c n j) (T e)
 
-pub record FieldsGoing (w₀ : List ℕ) (c e n left : ℕ) (w : List ℕ) (j left′ : ℕ) : Type 0 where
+-- got and expected are the last two that were unified, with what they cost and the log's length before it.
+pub record FieldsGoing (w₀ : List ℕ) (c e n left : ℕ) (w : List ℕ) (j left′ : ℕ) (got expected : Ty) (cost log : ℕ) : Type 0 where
   pub within : j ≤ n
-  pub going : Going (λ T st. IsCell w₀ Fields c × IsCell w₀ Fields e × (n ≡ countW w₀ c)) (λ d T st. unifyFields (unifier d) st (T c) (T e)) w₀ left w left′ (λ d T st. fieldsFrom w₀ c e n j d T st)
+  pub going : Going (λ T st. IsCell w₀ Fields c × IsCell w₀ Fields e × (n ≡ countW w₀ c)) (λ d T st. unifyFields (unifier d) st (T c) (T e)) w₀ left w left′ (λ d T st. fieldsFrom w₀ c e n j d T st) (Settled got expected cost log)
 
-pub fields-start : (w : List ℕ) (c e n left : ℕ) → FieldsGoing w c e n left w 0 left
-fields-start w c e n left = record { within = omega arith; going = go-start (λ T st d H k. ap (λ (r : Row). unifyFields (unifier d) st r (T e)) (rest-whole T w Fields c n (k .2) (H .cells) (k .0))) }
+pub fields-start : (w : List ℕ) (c e n left log : ℕ) → FieldsGoing w c e n left w 0 left Error Error 1 log
+fields-start w c e n left log = record {
+  within = omega arith;
+  going = go-start (λ T st d H k. ap (λ (r : Row). unifyFields (unifier d) st r (T e)) (rest-whole T w Fields c n (k .2) (H .cells) (k .0))) (λ T st d. settled-errors log d T st);
+}
 
 -- a field whose name the other side lacks, and one that it has
 lacks : (u : State → Tree.Ty → Tree.Ty → Unify.Unified) (st : State) (k l : ℕ) (x : Tree.Ty) (r ys : Row) → findKey k ys ≡ none → unifyFields u st (cell k l x r) ys ≡ Unify.Err (Unify.UnknownField k) st
@@ -80,7 +84,7 @@ has : (u : State → Tree.Ty → Tree.Ty → Unify.Unified) (st : State) (k l m 
 unfolding unifyFields unifyField
 has u st k l m x y r ys e = rw (e, unifyFields)
 
-module _ {w₀ : List ℕ} {c e n left : ℕ} {w : List ℕ} {j left′ : ℕ} (g : FieldsGoing w₀ c e n left w j left′) where
+module _ {w₀ : List ℕ} {c e n left : ℕ} {w : List ℕ} {j left′ : ℕ} {got expected : Ty} {cost log : ℕ} (g : FieldsGoing w₀ c e n left w j left′ got expected cost log) where
   pub fields-end : n ≤ j → UnifiesFields w₀ c e n left w (Good left′)
   unfolding unifyFields
   fields-end h = record { step = go-end (g .going) (λ T st H k K s S d. rw (rest-none T w₀ Fields c n j h)) }
@@ -100,10 +104,7 @@ module _ {w₀ : List ℕ} {c e n left : ℕ} {w : List ℕ} {j left′ : ℕ} (
             rw (rest-cell T w₀ Fields c n j p lt (was (H .cells) (k .0) (k .2) K)) (lacks (unifier d) s (p .key) (p .label) (tree T (p .ty)) _ (T e) (found S (k .1) K ∙ ap (foundPart T) q)));
       }
 
-      module _ {o : Part} {w′ : List ℕ} {r : Unified} (q : f ≡ At o) (U : Unifies w (p .ty) (o .ty) left′ w′ r) where
-        step : Step (λ T st. Ok w (p .ty) × Ok w (o .ty)) (λ d T st. Unify.unifyIn d st (tree T (p .ty)) (tree T (o .ty))) w left′ w′ r
-        step = record { is = λ T st H l k d h. U .is T st H l (k .0) (k .1) d h; fewer = U .fewer; keeps = U .keeps }
-
+      module _ {o : Part} (q : f ≡ At o) where
         oks : {T : Rows} {s : State} → Cells w₀ T → Holds w T s → IsCell w₀ Fields c → IsCell w₀ Fields e → n ≡ countW w₀ c → Keeps UNDO-LEN END w₀ w → Ok w (p .ty) × Ok w (o .ty)
         oks {T} C S i i′ z K =
             let same = keeps-cells (omega arith) K in
@@ -114,17 +115,35 @@ module _ {w₀ : List ℕ} {c e n left : ℕ} {w : List ℕ} {j left′ : ℕ} (
         turn T d {s} C S i i′ z K =
             rw (rest-cell T w₀ Fields c n j p lt (was C i z K)) (has (unifier d) s (p .key) (p .label) (o .label) (tree T (p .ty)) (tree T (o .ty)) _ (T e) (found S i′ K ∙ ap (foundPart T) q))
 
-        pub fields-next : (l : ℕ) → r ≡ Good l → FieldsGoing w₀ c e n left w′ (j + 1) l
-        fields-next l x = record {
-          within = omega arith;
-          going = go-next (g .going) (λ d T st. fieldsFrom w₀ c e n (j + 1) d T st) step
-              (λ T st H k K s S d. oks (H .cells) S (k .0) (k .1) (k .2) K)
-              (λ T st H k K s S d. turn T d (H .cells) S (k .0) (k .1) (k .2) K) l x;
-        }
+        module _ (same-got : p .ty ≡ got) (same-expected : o .ty ≡ expected) (same-log : getD w UNDO-LEN 0 ≡ log) where
+          -- the turn, of the two that are known
+          turn-known : Here (g .going) (λ T s d. fieldsFrom w₀ c e n j d T s ≡ andThen (Unify.unifyIn d s (tree T got) (tree T expected)) (λ s′. fieldsFrom w₀ c e n (j + 1) d T s′))
+          turn-known T st H k K s S d = rw (← same-got, ← same-expected) (turn T d (H .cells) S (k .0) (k .1) (k .2) K)
 
-        pub fields-stop : NotGood r → UnifiesFields w₀ c e n left w′ r
-        fields-stop x = record {
-          step = go-stop (g .going) (λ d T st. fieldsFrom w₀ c e n (j + 1) d T st) step
-              (λ T st H k K s S d. oks (H .cells) S (k .0) (k .1) (k .2) K)
-              (λ T st H k K s S d. turn T d (H .cells) S (k .0) (k .1) (k .2) K) x;
-        }
+          pub fields-again : cost ≤ left′ → {w″ : List ℕ} {left″ cost′ log′ : ℕ} {got′ expected′ : Ty} → w″ ≡ w → left″ ≡ left′ - cost → got′ ≡ got → expected′ ≡ expected → cost′ ≡ cost → log′ ≡ log
+              → FieldsGoing w₀ c e n left w″ (j + 1) left″ got′ expected′ cost′ log′
+          fields-again m x₀ x₁ x₂ x₃ x₄ x₅ = rw (x₀, x₁, x₂, x₃, x₄, x₅) (record { within = omega arith; going = go-again (g .going) same-log (λ T o. o) (λ T s. refl) (λ T s. refl) (λ d T st. fieldsFrom w₀ c e n (j + 1) d T st) turn-known m })
+
+          pub fields-short : left′ < cost → UnifiesFields w₀ c e n left w Spent
+          fields-short m = record { step = go-short (g .going) same-log (λ T o. o) (λ T s. refl) (λ T s. refl) (λ d T st. fieldsFrom w₀ c e n (j + 1) d T st) turn-known m }
+
+        module _ {w′ : List ℕ} {r : Unified} (U : Unifies w (p .ty) (o .ty) left′ w′ r) where
+          step : Step (λ T st. Ok w (p .ty) × Ok w (o .ty)) (λ d T st. Unify.unifyIn d st (tree T (p .ty)) (tree T (o .ty))) w left′ w′ r
+          step = record { is = λ T st H l k d h. U .is T st H l (k .0) (k .1) d h; fewer = U .fewer; keeps = U .keeps }
+
+          pub fields-next : (l : ℕ) → r ≡ Good l → {w″ : List ℕ} {left″ cost′ log′ : ℕ} {got′ expected′ : Ty} → w″ ≡ w′ → left″ ≡ l → got′ ≡ p .ty → expected′ ≡ o .ty → cost′ ≡ left′ - l → log′ ≡ getD w UNDO-LEN 0
+              → FieldsGoing w₀ c e n left w″ (j + 1) left″ got′ expected′ cost′ log′
+          fields-next l x x₀ x₁ x₂ x₃ x₄ x₅ = rw (x₀, x₁, x₂, x₃) (record {
+            within = omega arith;
+            going = go-next (g .going) (λ d T st. fieldsFrom w₀ c e n (j + 1) d T st) step
+                (λ T st H k K s S d. oks (H .cells) S (k .0) (k .1) (k .2) K)
+                (λ T st H k K s S d. turn T d (H .cells) S (k .0) (k .1) (k .2) K) l x
+                (λ T s s′ d H v i H′ v′. settled (p .ty) (o .ty) x₅ x₄ T s s′ d H v i v′);
+          })
+
+          pub fields-stop : NotGood r → UnifiesFields w₀ c e n left w′ r
+          fields-stop x = record {
+            step = go-stop (g .going) (λ d T st. fieldsFrom w₀ c e n (j + 1) d T st) step
+                (λ T st H k K s S d. oks (H .cells) S (k .0) (k .1) (k .2) K)
+                (λ T st H k K s S d. turn T d (H .cells) S (k .0) (k .1) (k .2) K) x;
+          }

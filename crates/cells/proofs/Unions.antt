@@ -78,7 +78,7 @@ module _ {w : List ℕ} {c e k : ℕ} {x y : Found} (X : FindsKey w Alternatives
 
   pub in-neither : {left : ℕ} → x ≡ Nothing → y ≡ Nothing → UnifiesAlternative w c e k left w (Good left)
   unfolding unifyAlternative
-  in-neither p q = record { step = go-end (go-start (λ T st d H i. sides T st d H i p q)) (λ T st H i K s S d. refl) }
+  in-neither p q = record { step = go-end (go-start {K = λ d T st. Unit {0}} (λ T st d H i. sides T st d H i p q) (λ T st d. tt)) (λ T st H i K s S d. refl) }
 
   pub in-expected : (o : Part) {left : ℕ} {r : Unified} → x ≡ Nothing → y ≡ At o → r ≡ Bad (UnionMismatch (Absent (o .label) k) (Union e) (Union c)) left → UnifiesAlternative w c e k left w r
   unfolding unifyAlternative
@@ -112,13 +112,13 @@ abbrev pub alternativesFrom : ℕ → ℕ → ℕ → ℕ → Rows → State →
 alternativesFrom c e from d T st = unifyAlternatives (unifier d) st (differs T c e) (remaining from (T c) (T e)) (T c) (T e)
 
 pub record UnionGoing (w₀ : List ℕ) (c e left : ℕ) (w : List ℕ) (from left′ : ℕ) : Type 0 where
-  pub going : Going (λ T st. IsCell w₀ Alternatives c × IsCell w₀ Alternatives e) (λ d T st. unifyUnion (unifier d) st (T c) (T e)) w₀ left w left′ (λ d T st. alternativesFrom c e from d T st)
+  pub going : Going (λ T st. IsCell w₀ Alternatives c × IsCell w₀ Alternatives e) (λ d T st. unifyUnion (unifier d) st (T c) (T e)) w₀ left w left′ (λ d T st. alternativesFrom c e from d T st) (λ d T st. Unit {0})
 
 pub union-start : (w : List ℕ) (c e left : ℕ) → UnionGoing w c e left w 0 left
 unfolding unifyUnion
 union-start w c e left = record {
   going = go-start (λ T st d H k.
-      ap (λ (ks : List ℕ). unifyAlternatives (unifier d) st (differs T c e) ks (T c) (T e)) (sym (remaining-all (T c) (T e))));
+      ap (λ (ks : List ℕ). unifyAlternatives (unifier d) st (differs T c e) ks (T c) (T e)) (sym (remaining-all (T c) (T e)))) (λ T st d. tt);
 }
 
 module _ {w₀ : List ℕ} {c e left : ℕ} {w : List ℕ} {from left′ : ℕ} (g : UnionGoing w₀ c e left w from left′) where
@@ -149,7 +149,7 @@ module _ {w₀ : List ℕ} {c e left : ℕ} {w : List ℕ} {from left′ : ℕ} 
       union-next l x = record {
         going = go-next (g .going) (λ d T st. alternativesFrom c e (k + 1) d T st) (A .step)
             (λ T st H i K s S d. let same = keeps-cells (omega arith) K in (cell-same same (i .0), cell-same same (i .1)))
-            (λ T st H i K s S d. turn T d S (i .0) (i .1) K) l x;
+            (λ T st H i K s S d. turn T d S (i .0) (i .1) K) l x (λ T s s′ d H v i H′ v′. tt);
       }
 
       pub union-stop : NotGood r → UnifiesUnion w₀ c e left w′ r

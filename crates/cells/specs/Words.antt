@@ -43,9 +43,14 @@ payloadW (Union c) = c
 payloadW (Var x) = x
 payloadW Error = 0
 
--- Two types that are no unknown, no cell and no error.
-unfoldable pub sameLeafW : Ty → Ty → Bool
-sameLeafW a b = pick (eqb (tagW a) (tagW b)) (eqb (payloadW a) (payloadW b)) false
+-- Whether two types in hand are the same.
+unfoldable pub sameTyW : Ty → Ty → Bool
+sameTyW a b = pick (eqb (tagW a) (tagW b)) (eqb (payloadW a) (payloadW b)) false
+
+-- Whether two types are the last two in hand, and the log is as long as it was.
+unfoldable pub againW : List ℕ → Ty → Ty → Ty → Ty → ℕ → Bool
+unfolding sameTyW
+againW w x y got expected log = pick (sameTyW x got) (pick (sameTyW y expected) (eqb (getD w UNDO-LEN 0) log) false) false
 
 -- ---- Cells: below 256 the schema type of that number, from 256 on an inferred record.
 

@@ -4,7 +4,7 @@ ghost use mathlib.Core.Path.{_≡_};
 ghost use Prim.Native.Nat.{ℕ, _+_, _*_, _<_, _≤_};
 ghost use lib.ListN.{length, getD, set};
 ghost use Rattle.work.specs.Layout.{UNKNOWNS, UNDO, UNDO-LEN};
-ghost use Rattle.cells.specs.Words.{tyW, tagW, payloadW, declaredW, countW, firstW, fieldW, alternativeW, partW, boundW, pushUndoW, setVarW, annotateW, freshW, revertW, isUnknownW, partsW, partOfW};
+ghost use Rattle.cells.specs.Words.{tyW, tagW, payloadW, declaredW, countW, firstW, fieldW, alternativeW, partW, boundW, sameTyW, pushUndoW, setVarW, annotateW, freshW, revertW, isUnknownW, partsW, partOfW};
 ghost use Rattle.cells.specs.Contracts.{partAt, FindsKey, FindsName, Reprs, Occurs, RollsBack};
 ghost use Rattle.cells.specs.declared.Ty.the-variants as Ty;
 
@@ -449,7 +449,15 @@ pub fn part_ty(w: &[u32], t: Ty, j: u32) -> Ty
     }
 }
 
-// `occurs`: to the first yes.
+// Whether two types in hand are the same.
+pub fn same_ty(a: Ty, b: Ty) -> bool
+    ensures { λ r. ⌜ r ≡ sameTyW a b ⌝ }
+{
+    tag_of(a) == tag_of(b) && payload_of(a) == payload_of(b)
+}
+
+// `occurs`: to the first yes. A part of the same type as the last one that was asked costs what that cost, and is not
+// walked again.
 pub fn occurs(w: &[u32], x: u32, t: Ty, left: u32) -> Asked
     ensures { λ r. ⌜ Occurs (now (w .entry)) x t left r ⌝ }
 {
@@ -463,15 +471,26 @@ pub fn occurs(w: &[u32], x: u32, t: Ty, left: u32) -> Asked
     }
     let n = part_count(w, u);
     let mut j: u32 = 0;
+    let mut last = Ty::Error;
+    let mut cost: u32 = 1;
     while j < n {
         let q = part_ty(w, u, j);
-        let r = occurs(w, x, q, rest);
-        match r {
-            Asked::No(l) => {
-                rest = l;
+        if same_ty(q, last) {
+            if rest < cost {
+                return Asked::Spent;
             }
-            _ => {
-                return r;
+            rest -= cost;
+        } else {
+            let r = occurs(w, x, q, rest);
+            match r {
+                Asked::No(l) => {
+                    last = q;
+                    cost = rest - l;
+                    rest = l;
+                }
+                _ => {
+                    return r;
+                }
             }
         }
         j += 1;

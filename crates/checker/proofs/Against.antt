@@ -20,13 +20,16 @@ use Rattle.cells.specs.declared.Found.the-variants as Found
 use Rattle.cells.specs.Contracts.{foundTy, FindsName, Reprs}
 use Rattle.meaning.specs.Syntax.{Field, ExprKind, nodeAt}
 use Rattle.meaning.specs.References.{fieldValues, exprNodes}
-use Rattle.meaning.specs.Diag.{Code}
+use Rattle.meaning.specs.Diag as Diag
 use Rattle.meaning.specs.File.{Described}
 use Rattle.meaning.specs.Check.{Checker, Walk, walk, Form, aWildcard, aVariable, aConstant, aRecord, aDisjunction, anError, another, form, formOf, repr, annotate, reject, inferThenUnify, checkFields, checkAlternative, checkUnion, checkRecord, checkForm, checkAgainst, checkAt}
 use Rattle.meaning.specs.Weights.{same, sumOf, weight}
 use Rattle.meaning.specs.Grades.{unknowns, one-diagnostic, one-node}
 use Rattle.meaning.proofs.Steps.{Nothing}
 use Rattle.meaning.proofs.Visits.{size-pos, own-weight, payload-side, checkFields-meets}
+use Rattle.messages.specs.declared.Message.{Message}
+use Rattle.messages.specs.declared.Message.the-variants as Message
+use Rattle.messages.specs.Said.{said, OkMessage}
 use Rattle.tree.specs.declared.Items.{Items}
 use Rattle.tree.specs.declared.Node.{Node}
 use Rattle.tree.specs.declared.Node.the-variants as Node
@@ -197,13 +200,13 @@ record-other {n = n} {t = t} h U = record { is = λ d k fs z at q. record { is =
 reject-fits : (d : Described) (k n : ℕ) → Holds (only one-diagnostic) (checks (nodesOf d) k n)
 reject-fits d k n = record { grade = omega (arith, size-pos (nodesOf d) k n); records = omega arith; fields = omega arith }
 
-pub rejected : {f w ou w′ ou′ : List ℕ} {n left : ℕ} {T : Rows} {d : Described} {c : Checker} (k : ℕ) (code : Code) → Rejects f w ou n code left w′ ou′ → n < length (nodesOf d) → Begins f w ou T d (checks (nodesOf d) k n) left c
-    → Ends f w ou w′ ou′ T d (checks (nodesOf d) k n .records) (checks (nodesOf d) k n .fields) (done (Done.On left)) (reject (d .schema) (nodesOf d) n code c)
-rejected {n = n} {T = T} {d = d} {c = c} k code R there s =
-    ends-wider (omega arith) (omega arith) (silent-on (R d there .is T c (begins-part (only one-diagnostic) (checks (nodesOf d) k n) (reject-fits d k n) s) tt))
+pub rejected : {f w ou w′ ou′ : List ℕ} {n left : ℕ} {T : Rows} {d : Described} {c : Checker} (k : ℕ) (m : Message) → OkMessage w m → Rejects f w ou n m left w′ ou′ → n < length (nodesOf d) → Begins f w ou T d (checks (nodesOf d) k n) left c
+    → Ends f w ou w′ ou′ T d (checks (nodesOf d) k n .records) (checks (nodesOf d) k n .fields) (done (Done.On left)) (reject (d .schema) (nodesOf d) n (said T (c .state .subst) m) c)
+rejected {n = n} {T = T} {d = d} {c = c} k m ok R there s =
+    ends-wider (omega arith) (omega arith) (silent-on (R d there .is T c (begins-part (only one-diagnostic) (checks (nodesOf d) k n) (reject-fits d k n) s) ok))
 
 -- not one field
-arity : (d : Described) (b : Walk) (n : ℕ) (fs : List Field) (row : Tree.Row) (c : Checker) → length fs ≢ 1 → checkUnion (d .schema) (nodesOf d) b n fs row c ≡ reject (d .schema) (nodesOf d) n Code.RejectUnionArity c
+arity : (d : Described) (b : Walk) (n : ℕ) (fs : List Field) (row : Tree.Row) (c : Checker) → length fs ≢ 1 → checkUnion (d .schema) (nodesOf d) b n fs row c ≡ reject (d .schema) (nodesOf d) n (Diag.notOneAlternative (length fs)) c
 unfolding checkUnion
 arity d b n [] row c h = refl
 arity d b n (x ∷ []) row c h = absurd (h refl)
@@ -214,11 +217,12 @@ unfolding fieldsFrom
 fields-length f l i zero = refl
 fields-length f l i (suc n) = ap suc (fields-length f l (i + 1) n)
 
-pub union-arity : {f w ou w′ ou′ : List ℕ} {n e left : ℕ} {l : Items} → l .n ≢ 1 → Rejects f w ou n Code.RejectUnionArity left w′ ou′ → ChecksUnion f w ou n l e left w′ ou′ (Done.On left)
+pub union-arity : {f w ou w′ ou′ : List ℕ} {n e left : ℕ} {l : Items} → l .n ≢ 1 → Rejects f w ou n (Message.NotOneAlternative (l .n)) left w′ ou′ → ChecksUnion f w ou n l e left w′ ou′ (Done.On left)
 union-arity {f = f} {n = n} {e = e} {l = l} h R = record {
   is = λ d k fs z at q. record {
     is = λ T c s fine.
-        rw (arity d (below d k) n fs (T e) c (λ p. h (sym (ap length z ∙ fields-length f l 0 (l .n)) ∙ p))) (rejected (suc k) Code.RejectUnionArity R (at .there) s);
+        let long : length fs ≡ l .n = ap length z ∙ fields-length f l 0 (l .n) in
+        rw (arity d (below d k) n fs (T e) c (λ p. h (sym long ∙ p)), long) (rejected (suc k) (Message.NotOneAlternative (l .n)) tt R (at .there) s);
   };
 }
 
@@ -244,13 +248,13 @@ unfolding fieldValues
 one-named x h = h .0
 
 module _ {f w ou : List ℕ} {n e left : ℕ} {l : Items} (one : l .n ≡ 1) {found : Found} (F : FindsName w e (fieldW f l 0 .name) found) where
-  pub union-unknown : {w′ ou′ : List ℕ} → found ≡ Found.Nothing → Rejects f w ou n Code.RejectUnknownAlternative left w′ ou′ → ChecksUnion f w ou n l e left w′ ou′ (Done.On left)
+  pub union-unknown : {w′ ou′ : List ℕ} → found ≡ Found.Nothing → Rejects f w ou n (Message.NoAlternative (fieldW f l 0 .name)) left w′ ou′ → ChecksUnion f w ou n l e left w′ ou′ (Done.On left)
   unfolding checkUnion checkAlternative fieldOf
   union-unknown g R = record {
     is = λ d k fs z at q. record {
       is = λ T c s fine.
           let none-found : findLabel (fieldW f l 0 .name) (T e) ≡ none = sym (F .is T (s .runs .holds .cells) (fine .cell)) ∙ ap (foundTy T) g in
-          rw (first-field f l one fs z, none-found, checkAlternative) (rejected (suc k) Code.RejectUnknownAlternative R (at .there) s);
+          rw (first-field f l one fs z, none-found, checkAlternative) (rejected (suc k) (Message.NoAlternative (fieldW f l 0 .name)) tt R (at .there) s);
     };
   }
 

@@ -16,6 +16,7 @@ use Rattle.cells.specs.Stands.{Rows}
 use Rattle.meaning.specs.Syntax.{QueryStmt, Query, ExprKind, isDestructurable}
 use Rattle.meaning.specs.References.{stmtNodes, queryNodes, exprNodes}
 use Rattle.meaning.specs.All.{All}
+use Rattle.meaning.specs.Diag as Diag
 use Rattle.meaning.specs.File.{Described}
 use Rattle.meaning.specs.Check as Check
 use Rattle.meaning.specs.Check.{Checker, Step, goes, out, Does, andThen, Walk, Form, aWildcard, aVariable, aConstant, aRecord, aDisjunction, anError, another, formOf, bindForm, denyForm, generate, stmt, stmts, badTarget, onlyRight, notYet, bindWildcard, envLen, truncateEnv, subquery}
@@ -28,6 +29,7 @@ use Rattle.meaning.proofs.Visits.{stmts-meets}
 use Rattle.work.specs.Layout.{ENV-LEN}
 use Rattle.state.proofs.Scoping.{runs-env-length}
 use Rattle.hex.specs.Digits.{digitsW}
+use Rattle.messages.specs.declared.Message.the-variants as Message
 use Rattle.tree.specs.declared.Items.{Items}
 use Rattle.tree.specs.declared.Stmts.{Stmts}
 use Rattle.tree.specs.declared.Node.{Node}
@@ -43,7 +45,7 @@ use Rattle.steps.specs.Ends.{typed, done, Ends}
 use Rattle.steps.specs.Loads.{Load, only, both, Holds, infers, visits, parts, Begins}
 use Rattle.steps.specs.Contracts.{nodesOf, onlyW, Cuts, Named, AllNamed, Asks}
 use Rattle.checker.specs.Contracts.{below, Infers, Generates, Sides, Binds, Denies, Compares, NotYets, Destructures, BindsVariable, States, StatesAll, Subqueries}
-use Rattle.checker.proofs.Within.{BadTargets}
+use Rattle.checker.proofs.Within.{BadTargets, plainly}
 use Rattle.steps.proofs.Sequel.{begins-part, ends-wider}
 use Rattle.steps.proofs.Results.{on-here, then-typed, stop-typed, then-done, stop-done, only-ends, silent-typed}
 use Rattle.checker.proofs.Looping.{Midway, mid-start, mid-ends, mid-led, mid-after}
@@ -79,7 +81,7 @@ DeniedLater (aVariable x) = ⊥
 DeniedLater aConstant = ⊥
 DeniedLater anError = ⊥
 
-later-bind : (q : Form) → Later q → (d : Described) (b : Walk) (x y : ℕ) (c : Checker) → bindForm (d .schema) (nodesOf d) b q x y c ≡ notYet (d .schema) (nodesOf d) b x y c
+later-bind : (q : Form) → Later q → (d : Described) (b : Walk) (x y : ℕ) (c : Checker) → bindForm (d .schema) (nodesOf d) b q x y c ≡ notYet (d .schema) (nodesOf d) b Diag.matchedPatterns x y c
 unfolding bindForm
 later-bind (aDisjunction es) h d b x y c = refl
 later-bind another h d b x y c = refl
@@ -89,7 +91,7 @@ later-bind (aVariable v) h d b x y c = absurd h
 later-bind aConstant h d b x y c = absurd h
 later-bind anError h d b x y c = absurd h
 
-later-deny : (q : Form) → DeniedLater q → (d : Described) (b : Walk) (x y : ℕ) (c : Checker) → denyForm (d .schema) (nodesOf d) b q x y c ≡ notYet (d .schema) (nodesOf d) b x y c
+later-deny : (q : Form) → DeniedLater q → (d : Described) (b : Walk) (x y : ℕ) (c : Checker) → denyForm (d .schema) (nodesOf d) b q x y c ≡ notYet (d .schema) (nodesOf d) b Diag.deniedPattern x y c
 unfolding denyForm
 later-deny (aRecord fs) h d b x y c = refl
 later-deny (aDisjunction es) h d b x y c = refl
@@ -104,31 +106,25 @@ module _ {f w ou w′ ou′ : List ℕ} {lhs rhs left : ℕ} {r : Done} {nd : No
   unfolding bindForm
   bind-wildcard q S = bind-as i (λ d b x y. bindWildcard (d .schema) (nodesOf d) b x y) (λ d b c. rw q refl) S
 
-  pub bind-constant : formOf (kindW f nd) ≡ aConstant → BadTargets f w ou lhs rhs left w′ ou′ r → Binds f w ou lhs rhs left w′ ou′ r
+  pub bind-constant : formOf (kindW f nd) ≡ aConstant → BadTargets Message.BoundConstant f w ou lhs rhs left w′ ou′ r → Binds f w ou lhs rhs left w′ ou′ r
   unfolding bindForm
-  bind-constant q S = bind-as i (λ d b x y. badTarget (d .schema) (nodesOf d) b x y) (λ d b c. rw q refl) S
+  bind-constant q S = bind-as i (λ d b x y. badTarget (d .schema) (nodesOf d) b Diag.boundConstant x y) (λ d b c. rw q refl) (plainly Diag.boundConstant (λ T s. refl) tt S)
 
   pub bind-error : formOf (kindW f nd) ≡ anError → OnlyRights f w ou lhs rhs left w′ ou′ r → Binds f w ou lhs rhs left w′ ou′ r
   unfolding bindForm
   bind-error q S = bind-as i (λ d b x y. onlyRight (d .schema) (nodesOf d) b y) (λ d b c. rw q refl) S
 
-  pub bind-later : Later (formOf (kindW f nd)) → NotYets f w ou lhs rhs left w′ ou′ r → Binds f w ou lhs rhs left w′ ou′ r
-  bind-later h S = bind-as i (λ d b x y. notYet (d .schema) (nodesOf d) b x y) (λ d b c. later-bind (formOf (kindW f nd)) h d b lhs rhs c) S
-
-  pub deny-constant : formOf (kindW f nd) ≡ aConstant → BadTargets f w ou lhs rhs left w′ ou′ r → Denies f w ou lhs rhs left w′ ou′ r
-  unfolding denyForm
-  deny-constant q S = deny-as i (λ d b x y. badTarget (d .schema) (nodesOf d) b x y) (λ d b c. rw q refl) S
-
-  pub deny-wildcard : formOf (kindW f nd) ≡ aWildcard → BadTargets f w ou lhs rhs left w′ ou′ r → Denies f w ou lhs rhs left w′ ou′ r
-  unfolding denyForm
-  deny-wildcard q S = deny-as i (λ d b x y. badTarget (d .schema) (nodesOf d) b x y) (λ d b c. rw q refl) S
+  pub bind-later : Later (formOf (kindW f nd)) → NotYets Message.MatchedPatterns f w ou lhs rhs left w′ ou′ r → Binds f w ou lhs rhs left w′ ou′ r
+  bind-later h S = bind-as i (λ d b x y. notYet (d .schema) (nodesOf d) b Diag.matchedPatterns x y) (λ d b c. later-bind (formOf (kindW f nd)) h d b lhs rhs c)
+      (plainly Diag.matchedPatterns (λ T s. refl) tt S)
 
   pub deny-error : formOf (kindW f nd) ≡ anError → OnlyRights f w ou lhs rhs left w′ ou′ r → Denies f w ou lhs rhs left w′ ou′ r
   unfolding denyForm
   deny-error q S = deny-as i (λ d b x y. onlyRight (d .schema) (nodesOf d) b y) (λ d b c. rw q refl) S
 
-  pub deny-later : DeniedLater (formOf (kindW f nd)) → NotYets f w ou lhs rhs left w′ ou′ r → Denies f w ou lhs rhs left w′ ou′ r
-  deny-later h S = deny-as i (λ d b x y. notYet (d .schema) (nodesOf d) b x y) (λ d b c. later-deny (formOf (kindW f nd)) h d b lhs rhs c) S
+  pub deny-later : DeniedLater (formOf (kindW f nd)) → NotYets Message.DeniedPattern f w ou lhs rhs left w′ ou′ r → Denies f w ou lhs rhs left w′ ou′ r
+  deny-later h S = deny-as i (λ d b x y. notYet (d .schema) (nodesOf d) b Diag.deniedPattern x y) (λ d b c. later-deny (formOf (kindW f nd)) h d b lhs rhs c)
+      (plainly Diag.deniedPattern (λ T s. refl) tt S)
 
 -- A record is taken apart where that can be done.
 module _ {f w ou w′ ou′ : List ℕ} {lhs rhs left : ℕ} {r : Done} {l : Items} (i : IsNode f w lhs (Node.Record l)) {b : Bool} (D : Asks f w lhs b) where
@@ -141,7 +137,7 @@ module _ {f w ou w′ ou′ : List ℕ} {lhs rhs left : ℕ} {r : Done} {l : Ite
     };
   }
 
-  pub bind-whole : b ≡ false → NotYets f w ou lhs rhs left w′ ou′ r → Binds f w ou lhs rhs left w′ ou′ r
+  pub bind-whole : b ≡ false → NotYets Message.MatchedPatterns f w ou lhs rhs left w′ ou′ r → Binds f w ou lhs rhs left w′ ou′ r
   unfolding kindW formOf bindForm
   bind-whole e S = record {
     is = λ d k nl nr. record {

@@ -20,10 +20,12 @@ use Rattle.cells.specs.declared.TyError.the-variants as TyError
 use Rattle.cells.specs.declared.Unified.{Unified}
 use Rattle.cells.specs.declared.Unified.the-variants as Unified
 use Rattle.cells.specs.Stands.{Rows, tree}
-use Rattle.cells.specs.Contracts.{errorOf}
+use Rattle.cells.specs.Contracts.{errorOf, IsError}
+use Rattle.cells.specs.Inferred.{More, Adds}
+use Rattle.cells.proofs.Frame.{tree-more}
 use Rattle.cells.proofs.Holding.{holds-log}
 use Rattle.meaning.specs.File.{Described}
-use Rattle.meaning.specs.Check.{Checker, Step, goes, out, Does, andThen, walk, Mark, codeOf, report, unify, rollback, snapshot, diagnosticsLen, inferAt, inferThenUnify, checkField}
+use Rattle.meaning.specs.Check.{Checker, Step, goes, out, Does, andThen, walk, Mark, report, unify, rollback, snapshot, diagnosticsLen, inferAt, inferThenUnify, checkField}
 use Rattle.meaning.proofs.Meets.{Went, made-trans, reached-trans}
 use Rattle.meaning.specs.Grades.{no-thing, one-diagnostic}
 use Rattle.meaning.proofs.Steps.{Nothing, IsSide, unify-meets, rolled-meets}
@@ -35,13 +37,14 @@ use Rattle.steps.specs.declared.Typed.{Typed}
 use Rattle.steps.specs.declared.Typed.the-variants as Typed
 use Rattle.steps.specs.declared.Done.{Done}
 use Rattle.steps.specs.declared.Done.the-variants as Done
-use Rattle.steps.specs.Ends.{Result, typed, done, silent, unified, IsUnified, Gone, Ends, went}
+use Rattle.steps.specs.Ends.{Result, typed, done, silent, unified, IsUnified, Gone, Ends, went, spent}
 use Rattle.steps.specs.Loads.{Load, only, both, Holds, infers, checks, Begins}
 use Rattle.steps.specs.Contracts.{nodesOf, Fine, UnifiesTo, Reports, RollsTo, Named, Node-at}
 use Rattle.checker.specs.Contracts.{below, Infers, InfersThenUnifies, Checks}
 use Rattle.checker.proofs.Within.{ChecksField}
+use Rattle.steps.proofs.Growing.{ok-kept}
 use Rattle.steps.proofs.Sequel.{begins-part, begins-after, gone-trans, gone-on, holds-left, Led, led, then-ends, stop-ends}
-use Rattle.steps.proofs.Results.{After, with-visits, fine-after, tree-after, got-same, on-here, then-typed, stop-typed, then-done, stop-done, then-silent, silent-on}
+use Rattle.steps.proofs.Results.{After, with-visits, fine-after, tree-after, got-same, on-here, then-typed, stop-typed, then-done, stop-done, silent-on}
 use Rattle.checker.proofs.Inferring.{good}
 use Rattle.checker.proofs.Bodies.{made-env}
 
@@ -55,11 +58,29 @@ same-load G = record { grade = omega arith; records = omega arith; fields = omeg
 module _ {f w ou w₂ ou₂ w₃ ou₃ : List ℕ} {T : Rows} {d : Described} {left v : ℕ} {c b : Checker} (G : Load) {A : Type 0} {E : Result A} {a : A} (P : A → Checker → Type 0)
     (s : Begins f w ou T d G left c) (g : Gone f w ou w₂ ou₂ T d (G .records) (G .fields) E a b) (x : Went P (G .grade) c a b) (e : b .state .left ≡ v)
     (R : RollsTo f w₂ ou₂ (getD w UNDO-LEN 0) (getD w ENV-LEN 0) w₃ ou₃) where
-  -- The code's rollback, from the start of the stretch.
-  rolled-ends : Ends f w ou w₃ ou₃ T d (G .records) (G .fields) (silent v) (rollback (markOf c) b)
+  -- The code's rollback, from the end of the stretch.
+  rolled-back : Ends f w₂ ou₂ w₃ ou₃ (g .T′) d 0 0 (silent v) (rollback (markOf c) b)
   unfolding Bindings.snapshot
-  rolled-ends = gone-on G (only no-thing) G (same-load G) g
-      (R d v (markOf c) (sym (holds-log (s .runs .holds))) (runs-env-length (s .runs)) .is (g .T′) b (with-visits e (begins-after G (only no-thing) G P (same-load G) g x s)) (omega (arith, runs-env-length (s .runs), made-env (G .grade) c b (x .made))))
+  rolled-back =
+      R d v (markOf c) (sym (holds-log (s .runs .holds))) (runs-env-length (s .runs)) .is (g .T′) b (with-visits e (begins-after G (only no-thing) G P (same-load G) g x s)) (omega (arith, runs-env-length (s .runs), made-env (G .grade) c b (x .made)))
+
+  -- From its start.
+  rolled-ends : Ends f w ou w₃ ou₃ T d (G .records) (G .fields) (silent v) (rollback (markOf c) b)
+  rolled-ends = gone-on G (only no-thing) G (same-load G) g rolled-back
+
+-- An error in hand outlives a rollback.
+error-kept : {w w′ : List ℕ} {T T′ : Rows} → Adds w w′ → More w T T′ → (x : TyError) {e : Unify.TyError} → IsError w T x e → IsError w′ T′ x e
+error-kept a M (TyError.Mismatch p q) i = record { is = rw (tree-more M p (i .ok .0), tree-more M q (i .ok .1)) (i .is); ok = (ok-kept a p (i .ok .0), ok-kept a q (i .ok .1)) }
+error-kept a M (TyError.UnionMismatch u p q) i = record { is = rw (tree-more M p (i .ok .0), tree-more M q (i .ok .1)) (i .is); ok = (ok-kept a p (i .ok .0), ok-kept a q (i .ok .1)) }
+error-kept a M (TyError.UnknownField n) i = record { is = i .is; ok = tt }
+error-kept a M TyError.Infinite i = record { is = i .is; ok = tt }
+
+abbrev carrying : List ℕ → ℕ → TyError → Unify.TyError → Result (Unit {0})
+carrying w v x e = record { Is = λ R u l. (l ≡ v) × IsError w R x e; Out = ⊥ }
+
+carried : {f w ou w′ ou′ : List ℕ} {T : Rows} {d : Described} {n m v : ℕ} {s : Step (Unit {0})} (x : TyError) {e : Unify.TyError} → IsError w T x e → Ends f w ou w′ ou′ T d n m (silent v) s → Ends f w ou w′ ou′ T d n m (carrying w′ v x e) s
+carried x i (went g) = went (record { T′ = g .T′; more = g .more; runs = g .runs; lines = g .lines; grew = g .grew; is = (g .is, error-kept (g .grew .adds) (g .more) x i) })
+carried x i (spent g) = absurd (g .is)
 
 -- ---- `infer_then_unify`
 checks-fits : (d : Described) (k n : ℕ) → Holds (both (infers (nodesOf d) k n) (only one-diagnostic)) (checks (nodesOf d) k n)
@@ -67,18 +88,6 @@ checks-fits d k n = record { grade = omega (arith, size-pos (nodesOf d) k n); re
 
 unify-fits : Holds (both (only no-thing) (only one-diagnostic)) (only one-diagnostic)
 unify-fits = record { grade = omega arith; records = omega arith; fields = omega arith }
-
--- What is reported does not depend on the rows.
-code-same : (T T′ : Rows) (x : TyError) → codeOf (errorOf T x) ≡ codeOf (errorOf T′ x)
-unfolding codeOf
-code-same T T′ (TyError.Mismatch a b) = refl
-code-same T T′ (TyError.UnionMismatch u a b) = refl
-code-same T T′ (TyError.UnknownField n) = refl
-code-same T T′ TyError.Infinite = refl
-
-report-same : (T T′ : Rows) (x : TyError) (d : Described) (n : ℕ) (c : Checker) → report (d .schema) (nodesOf d) n (errorOf T x) c ≡ report (d .schema) (nodesOf d) n (errorOf T′ x) c
-unfolding report
-report-same T T′ x d n c = rw (code-same T T′ x)
 
 -- What follows a unification.
 abbrev following : Described → ℕ → Mark → Option Unify.TyError → Does (Unit {0})
@@ -115,7 +124,7 @@ module _ {f w ou w₁ ou₁ : List ℕ} {n left : ℕ} {t : Ty} {r : Typed} (I :
   module _ {u : Ty} {l : ℕ} (g : r ≡ Typed.Got u l) {w₂ ou₂ : List ℕ} {x : Unified} (U : UnifiesTo f w₁ ou₁ u t l w₂ ou₂ x) where
     -- The unification, after the visit.
     unify-ends : {T : Rows} {d : Described} {G H : Load} {c : Checker} {T₁ : Rows} {b : Checker} (a : After f w ou w₁ ou₁ T d G H l c T₁ b) → Fine w t T c → Fine w₁ u T₁ b → Begins f w₁ ou₁ T₁ d (only no-thing) l b
-        → Ends f w₁ ou₁ w₂ ou₂ T₁ d 0 0 (unified x) (unify (tree T₁ u) (tree T t) b)
+        → Ends f w₁ ou₁ w₂ ou₂ T₁ d 0 0 (unified w₂ x) (unify (tree T₁ u) (tree T t) b)
     unify-ends {d = d} {T₁ = T₁} {b = b} a fine fine₁ s = rw (← tree-after a t (fine .ok)) (U d .is T₁ b s (fine₁, fine-after a t fine))
 
     pub unify-good : {v : ℕ} → x ≡ Unified.Good v → InfersThenUnifies f w ou n t left w₂ ou₂ (Done.On v)
@@ -131,7 +140,7 @@ module _ {f w ou w₁ ou₁ : List ℕ} {n left : ℕ} {t : Ty} {r : Typed} (I :
       };
     }
       where
-        succeeded : {T₂ : Rows} (d : Described) (n : ℕ) (m : Mark) (o : Option Unify.TyError) (e : Checker) → IsUnified x T₂ o (e .state .left) → Runs f w₂ T₂ d e → Told w₂ ou₂ e → Ends f w₂ ou₂ w₂ ou₂ T₂ d 0 0 (done (Done.On v)) (following d n m o e)
+        succeeded : {T₂ : Rows} (d : Described) (n : ℕ) (m : Mark) (o : Option Unify.TyError) (e : Checker) → IsUnified w₂ x T₂ o (e .state .left) → Runs f w₂ T₂ d e → Told d w₂ ou₂ e → Ends f w₂ ou₂ w₂ ou₂ T₂ d 0 0 (done (Done.On v)) (following d n m o e)
         succeeded d n m none e i runs told = on-here runs told (cc (z, i))
         succeeded d n m (some err) e i runs told = clash (cc (z, i .1))
 
@@ -145,26 +154,27 @@ module _ {f w ou w₁ ou₁ : List ℕ} {n left : ℕ} {t : Ty} {r : Typed} (I :
       };
     }
       where
-        unsucceeded : (R : Rows) (o : Option Unify.TyError) (v : ℕ) → ¬ (IsUnified x R o v)
+        unsucceeded : (R : Rows) (o : Option Unify.TyError) (v : ℕ) → ¬ (IsUnified w₂ x R o v)
         unsucceeded R none v i = clash (cc (z, i))
         unsucceeded R (some err) v i = clash (cc (z, i .1))
 
     -- The failure, rolled back and reported.
     module _ {w₃ ou₃ w₄ ou₄ : List ℕ} {err : TyError} {v : ℕ} (z : x ≡ Unified.Bad err v) (R : RollsTo f w₂ ou₂ (getD w UNDO-LEN 0) (getD w ENV-LEN 0) w₃ ou₃) (O : Reports f w₃ ou₃ n err v w₄ ou₄) where
       failed : {T : Rows} {d : Described} {c b : Checker} (k : ℕ) (o : Option Unify.TyError) → Node-at d k n → Begins f w ou T d (checks (nodesOf d) (suc k) n) left c
-          → (g : Gone f w ou w₂ ou₂ T d (infers (nodesOf d) (suc k) n .records) (infers (nodesOf d) (suc k) n .fields) (unified x) o b) → Went Nothing (infers (nodesOf d) (suc k) n .grade) c o b
+          → (g : Gone f w ou w₂ ou₂ T d (infers (nodesOf d) (suc k) n .records) (infers (nodesOf d) (suc k) n .fields) (unified w₂ x) o b) → Went Nothing (infers (nodesOf d) (suc k) n .grade) c o b
           → Ends f w ou w₄ ou₄ T d (checks (nodesOf d) (suc k) n .records) (checks (nodesOf d) (suc k) n .fields) (done (Done.On v)) (following d n (markOf c) o b)
       failed k none at s q h = clash (cc (z, q .is))
       failed {T} {d} {c} {b} k (some e) at s q h =
           let G = infers (nodesOf d) (suc k) n in
-          let same : errorOf (q .T′) err ≡ e = (let p : q .is .0 ≡ err = cc (z, q .is .1) in ap (errorOf (q .T′)) (sym p) ∙ q .is .2) in
+          let i : IsError w₂ (q .T′) err e = (let p : q .is .0 ≡ err = cc (z, q .is .1) in rw p at (q .is .2)) in
           let visits : b .state .left ≡ v = cc (z, q .is .1) in
-          then-silent G (only one-diagnostic) (checks (nodesOf d) (suc k) n) (checks-fits d (suc k) n) Nothing (rollback (markOf c) b) (λ u. report (d .schema) (nodesOf d) n e) s
-          (λ y. rolled-meets (G .grade) c b (s .orderly) (h .made) (h .reached)) (λ s₁. rolled-ends G Nothing s₁ q h visits R)
-          (λ T₃ b₃ a₃ u. rw (← same, report-same (q .T′) T₃ err d n b₃) (silent-on (O d (at .there) .is T₃ b₃ (a₃ .begins) tt)))
+          then-ends G (only one-diagnostic) (checks (nodesOf d) (suc k) n) (checks-fits d (suc k) n) Nothing (rollback (markOf c) b) (λ u. report (d .schema) (nodesOf d) n e) (λ o. o) s
+          (λ y. rolled-meets (G .grade) c b (s .orderly) (h .made) (h .reached))
+          (λ s₁. gone-on G (only no-thing) G (same-load G) q (carried err i (rolled-back G Nothing s₁ q h visits R)))
+          (λ u b₃ g₃ h₃ s₃. rw (← g₃ .is .1 .is) (silent-on (O d (at .there) .is (g₃ .T′) b₃ (with-visits (g₃ .is .0) s₃) (g₃ .is .1 .ok))))
 
       failing : {T : Rows} {d : Described} {c : Checker} (k : ℕ) → Node-at d k n → Begins f w ou T d (checks (nodesOf d) (suc k) n) left c → Fine w t T c → (L : Led f w ou w₁ ou₁ T d (infers (nodesOf d) (suc k) n) (typed w₁ r) IsSide c (below d (suc k) .infer n c))
-          → Led f w₁ ou₁ w₂ ou₂ (L .gone .T′) d (only no-thing) (unified x) Nothing (L .b) (unify (L .a) (tree T t) (L .b))
+          → Led f w₁ ou₁ w₂ ou₂ (L .gone .T′) d (only no-thing) (unified w₂ x) Nothing (L .b) (unify (L .a) (tree T t) (L .b))
           → Ends f w ou w₄ ou₄ T d (checks (nodesOf d) (suc k) n .records) (checks (nodesOf d) (suc k) n .fields) (done (Done.On v)) (inferThenUnify (d .schema) (nodesOf d) (below d k) n (tree T t) c)
       unfolding andThen
       failing {T} {d} {c} k at s fine L M =

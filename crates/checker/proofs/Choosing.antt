@@ -7,7 +7,9 @@ use denote.Enum.Declared.{tagOf}
 use Rattle.cells.specs.declared.Ty.{Ty}
 use Rattle.cells.specs.declared.Ty.the-variants.{Int, Str, Bytes, Fact, Record, Union, Var, Error}
 use Rattle.cells.proofs.Ty as ty
+use Rattle.meaning.specs.Diag as Diag
 use Rattle.meaning.specs.Check.{formOf, denyForm, badTarget}
+use Rattle.messages.specs.declared.Message.the-variants as Message
 use Rattle.tree.specs.declared.Node.{Node}
 use Rattle.tree.specs.declared.Node.the-variants as Node
 use Rattle.tree.specs.declared.Items.{Items}
@@ -17,7 +19,7 @@ use Rattle.steps.specs.declared.Done.{Done}
 use Rattle.steps.specs.Contracts.{nodesOf}
 use Rattle.steps.proofs.Forms.{by-form}
 use Rattle.checker.specs.Contracts.{Denies, InfersThenUnifies}
-use Rattle.checker.proofs.Within.{BadTargets, ChecksRecord}
+use Rattle.checker.proofs.Within.{BadTargets, plainly, ChecksRecord}
 use Rattle.checker.proofs.Bodies.{Later, DeniedLater, deny-as}
 use Rattle.checker.proofs.Against.{Inferred, NoCell, record-other}
 
@@ -55,11 +57,11 @@ inferred f nd x = by-form f (0 ∷ 1 ∷ 2 ∷ 3 ∷ 5 ∷ 6 ∷ 7 ∷ 9 ∷ 10 
 }) nd x
 
 -- A wildcard or a constant cannot be denied.
-pub deny-target : {f w ou w′ ou′ : List ℕ} {lhs rhs left : ℕ} {r : Done} {nd : Node} → OneOf (4 ∷ 0 ∷ 1 ∷ 2 ∷ 6 ∷ []) (tagOf the-type nd) → IsNode f w lhs nd → BadTargets f w ou lhs rhs left w′ ou′ r
+pub deny-target : {f w ou w′ ou′ : List ℕ} {lhs rhs left : ℕ} {r : Done} {nd : Node} → OneOf (4 ∷ 0 ∷ 1 ∷ 2 ∷ 6 ∷ []) (tagOf the-type nd) → IsNode f w lhs nd → BadTargets Message.DeniedConstant f w ou lhs rhs left w′ ou′ r
     → Denies f w ou lhs rhs left w′ ou′ r
 unfolding denyForm
-deny-target {f} {lhs = lhs} {rhs = rhs} {nd = nd} x i S = deny-as i (λ d b x y. badTarget (d .schema) (nodesOf d) b x y)
-    (λ d b c. by-form f (4 ∷ 0 ∷ 1 ∷ 2 ∷ 6 ∷ []) (λ q. denyForm (d .schema) (nodesOf d) b q lhs rhs c ≡ badTarget (d .schema) (nodesOf d) b lhs rhs c) (record {
+deny-target {f} {lhs = lhs} {rhs = rhs} {nd = nd} x i S = deny-as i (λ d b x y. badTarget (d .schema) (nodesOf d) b Diag.deniedConstant x y)
+    (λ d b c. by-form f (4 ∷ 0 ∷ 1 ∷ 2 ∷ 6 ∷ []) (λ q. denyForm (d .schema) (nodesOf d) b q lhs rhs c ≡ badTarget (d .schema) (nodesOf d) b Diag.deniedConstant lhs rhs c) (record {
       wildcard = λ h. refl;
       variable = λ v h. absurd h;
       constant = λ h. refl;
@@ -67,7 +69,7 @@ deny-target {f} {lhs = lhs} {rhs = rhs} {nd = nd} x i S = deny-as i (λ d b x y.
       branches = λ es h. absurd h;
       failed = λ h. absurd h;
       other = λ h. absurd h;
-    }) nd x) S
+    }) nd x) (plainly Diag.deniedConstant (λ T s. refl) tt S)
 
 pub no-disjunction : {nd : Node} → OneOf (0 ∷ 1 ∷ 2 ∷ 3 ∷ 4 ∷ 5 ∷ 6 ∷ 7 ∷ 8 ∷ 9 ∷ 10 ∷ 12 ∷ 13 ∷ 14 ∷ 15 ∷ 16 ∷ []) (tagOf the-type nd) → (l : Items) → ¬ (nd ≡ Node.Disjunction l)
 no-disjunction x l e = miss (0 ∷ 1 ∷ 2 ∷ 3 ∷ 4 ∷ 5 ∷ 6 ∷ 7 ∷ 8 ∷ 9 ∷ 10 ∷ 12 ∷ 13 ∷ 14 ∷ 15 ∷ 16 ∷ []) 11 tt (rw e at x)

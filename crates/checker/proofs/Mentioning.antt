@@ -18,7 +18,6 @@ use Rattle.cells.specs.declared.Found.the-variants as Found
 use Rattle.cells.specs.Stands.{Rows, tree}
 use Rattle.cells.specs.Contracts.{foundPart, FindsKey}
 use Rattle.meaning.specs.Syntax as Syntax
-use Rattle.meaning.specs.Diag.{Code}
 use Rattle.meaning.specs.References.{fieldValues}
 use Rattle.meaning.specs.File.{Described}
 use Rattle.meaning.specs.Check.{Checker, Step, Does, checkMentioned, checkFields}
@@ -27,6 +26,7 @@ use Rattle.meaning.specs.Grades.{unknowns, Ready, one-diagnostic, checking}
 use Rattle.meaning.proofs.Meets.{Meets, meets-fits}
 use Rattle.meaning.proofs.Steps.{Nothing, reject-meets}
 use Rattle.meaning.proofs.Visits.{size-pos, checkField-meets}
+use Rattle.messages.specs.declared.Message.the-variants as Message
 use Rattle.tree.specs.declared.Items.{Items}
 use Rattle.tree.specs.Nodes.{fieldW, fieldOf, fieldsFrom}
 use Rattle.steps.specs.declared.Done.{Done}
@@ -59,13 +59,13 @@ module _ {f w ou w′ ou′ : List ℕ} {name value e left : ℕ} {found : Found
     };
   }
 
-  pub mentions-none : found ≡ Found.Nothing → Rejects f w ou value Code.RejectUnknownField left w′ ou′ → Mentions f w ou name value e left w′ ou′ (Done.On left)
+  pub mentions-none : found ≡ Found.Nothing → Rejects f w ou value (Message.NoField name) left w′ ou′ → Mentions f w ou name value e left w′ ou′ (Done.On left)
   unfolding checkMentioned
   mentions-none g R = record {
     is = λ d k named. record {
       is = λ T c s fine.
           let q : findKey name (T e) ≡ none = sym (F .is T (s .runs .holds .cells) (fine .cell)) ∙ ap (foundPart T) g in
-          rw q (rejected k Code.RejectUnknownField R (named .there) s);
+          rw q (rejected k (Message.NoField name) tt R (named .there) s);
     };
   }
 

@@ -7,7 +7,6 @@ use Rattle.unification.specs.Ty as Tree
 use Rattle.cells.specs.declared.Ty.{Ty}
 use Rattle.cells.specs.declared.Ty.the-variants.{Var}
 use Rattle.cells.specs.Stands.{Rows, tree}
-use Rattle.meaning.specs.Diag.{Code}
 use Rattle.meaning.specs.File.{Described}
 use Rattle.meaning.specs.Check as Check
 use Rattle.meaning.specs.Check.{Checker, andThen, introduce, annotate, reject, unifyAt, bindVariable, badTarget, onlyRight, notYet, destructure, bindWildcard}
@@ -15,6 +14,8 @@ use Rattle.meaning.specs.Weights.{same, sumOf}
 use Rattle.meaning.specs.Grades.{one-diagnostic, one-unknown, one-node}
 use Rattle.meaning.proofs.Steps.{Nothing, IsUnknown, reject-meets, introduce-meets, annotate-meets}
 use Rattle.meaning.proofs.Visits.{size-pos, own-weight}
+use Rattle.messages.specs.declared.Message.{Message}
+use Rattle.messages.specs.Said.{said}
 use Rattle.steps.specs.declared.Typed.{Typed}
 use Rattle.steps.specs.declared.Typed.the-variants as Typed
 use Rattle.steps.specs.declared.Done.{Done}
@@ -51,14 +52,14 @@ only-right {lhs = lhs} {rhs = rhs} I = record {
 }
 
 -- ---- A target that can't be
-pub bad-target : {f w ou w₁ ou₁ w₂ ou₂ : List ℕ} {lhs rhs left : ℕ} {r : Typed} → Rejects f w ou lhs Code.RejectBindLhs left w₁ ou₁ → Infers f w₁ ou₁ rhs left w₂ ou₂ r → BadTargets f w ou lhs rhs left w₂ ou₂ (onlyW r)
+pub bad-target : {f w ou w₁ ou₁ w₂ ou₂ : List ℕ} {lhs rhs left : ℕ} {m : Message} {r : Typed} → Rejects f w ou lhs m left w₁ ou₁ → Infers f w₁ ou₁ rhs left w₂ ou₂ r → BadTargets m f w ou lhs rhs left w₂ ou₂ (onlyW r)
 unfolding badTarget onlyRight
-bad-target {lhs = lhs} {rhs = rhs} R I = record {
+bad-target {lhs = lhs} {rhs = rhs} {m = m} R I = record {
   is = λ d k nl nr. record {
-    is = λ T c s u.
-        then-silent (only one-diagnostic) (infers (nodesOf d) k rhs) (visits (nodesOf d) k (lhs ∷ rhs ∷ [])) (right-fits d k lhs rhs) Nothing (reject (d .schema) (nodesOf d) lhs Code.RejectBindLhs c)
+    is = λ T c s ok.
+        then-silent (only one-diagnostic) (infers (nodesOf d) k rhs) (visits (nodesOf d) k (lhs ∷ rhs ∷ [])) (right-fits d k lhs rhs) Nothing (reject (d .schema) (nodesOf d) lhs (said T (c .state .subst) m) c)
         (λ u. onlyRight (d .schema) (nodesOf d) (below d k) rhs) s
-        (λ y. reject-meets (d .schema) (nodesOf d) lhs Code.RejectBindLhs c (s .orderly)) (λ s₁. R d (nl .there) .is T c s₁ tt) (λ T₁ b a h. right-ends I nr (a .begins));
+        (λ y. reject-meets (d .schema) (nodesOf d) lhs (said T (c .state .subst) m) c (s .orderly)) (λ s₁. R d (nl .there) .is T c s₁ ok) (λ T₁ b a h. right-ends I nr (a .begins));
   };
 }
 
@@ -70,29 +71,29 @@ both-fits : (d : Described) (k lhs rhs : ℕ) → Holds (both (only one-diagnost
 unfolding sumOf
 both-fits d k lhs rhs = record { grade = omega (arith, size-pos (nodesOf d) k lhs); records = omega arith; fields = omega arith }
 
-module _ {f w ou w₁ ou₁ w₂ ou₂ : List ℕ} {lhs rhs left : ℕ} {r : Typed} (R : Rejects f w ou lhs Code.NyiBindUnification left w₁ ou₁) (I : Infers f w₁ ou₁ lhs left w₂ ou₂ r) where
-  pub not-yet : {w₃ ou₃ : List ℕ} {t : Ty} {l : ℕ} {x : Typed} → r ≡ Typed.Got t l → Infers f w₂ ou₂ rhs l w₃ ou₃ x → NotYets f w ou lhs rhs left w₃ ou₃ (onlyW x)
+module _ {f w ou w₁ ou₁ w₂ ou₂ : List ℕ} {lhs rhs left : ℕ} {m : Message} {r : Typed} (R : Rejects f w ou lhs m left w₁ ou₁) (I : Infers f w₁ ou₁ lhs left w₂ ou₂ r) where
+  pub not-yet : {w₃ ou₃ : List ℕ} {t : Ty} {l : ℕ} {x : Typed} → r ≡ Typed.Got t l → Infers f w₂ ou₂ rhs l w₃ ou₃ x → NotYets m f w ou lhs rhs left w₃ ou₃ (onlyW x)
   unfolding notYet onlyRight
   not-yet g J = record {
     is = λ d k nl nr. record {
-      is = λ T c s u.
-          then-silent (only one-diagnostic) (two d k lhs rhs) (visits (nodesOf d) k (lhs ∷ rhs ∷ [])) (both-fits d k lhs rhs) Nothing (reject (d .schema) (nodesOf d) lhs Code.NyiBindUnification c)
+      is = λ T c s ok.
+          then-silent (only one-diagnostic) (two d k lhs rhs) (visits (nodesOf d) k (lhs ∷ rhs ∷ [])) (both-fits d k lhs rhs) Nothing (reject (d .schema) (nodesOf d) lhs (said T (c .state .subst) m) c)
           (λ u b. andThen (below d k .infer lhs b) (λ ty. onlyRight (d .schema) (nodesOf d) (below d k) rhs)) s
-          (λ y. reject-meets (d .schema) (nodesOf d) lhs Code.NyiBindUnification c (s .orderly)) (λ s₁. R d (nl .there) .is T c s₁ tt)
+          (λ y. reject-meets (d .schema) (nodesOf d) lhs (said T (c .state .subst) m) c (s .orderly)) (λ s₁. R d (nl .there) .is T c s₁ ok)
           (λ T₁ b a h. then-typed (infers (nodesOf d) k lhs) (infers (nodesOf d) k rhs) (two d k lhs rhs) (record { grade = omega arith; records = omega arith; fields = omega arith }) (below d k .infer lhs b)
           (λ ty. onlyRight (d .schema) (nodesOf d) (below d k) rhs) g (a .begins)
           (λ y. good s k .infer lhs b (a .begins .orderly) y) (λ s₂. I .is d k nl .is T₁ b s₂ tt) (λ T₂ b₂ a₂ fine. right-ends J nr (a₂ .begins)));
     };
   }
 
-  pub not-yet-out : r ≡ Typed.Out → NotYets f w ou lhs rhs left w₂ ou₂ Done.Out
+  pub not-yet-out : r ≡ Typed.Out → NotYets m f w ou lhs rhs left w₂ ou₂ Done.Out
   unfolding notYet onlyRight
   not-yet-out g = record {
     is = λ d k nl nr. record {
-      is = λ T c s u.
-          then-silent (only one-diagnostic) (two d k lhs rhs) (visits (nodesOf d) k (lhs ∷ rhs ∷ [])) (both-fits d k lhs rhs) Nothing (reject (d .schema) (nodesOf d) lhs Code.NyiBindUnification c)
+      is = λ T c s ok.
+          then-silent (only one-diagnostic) (two d k lhs rhs) (visits (nodesOf d) k (lhs ∷ rhs ∷ [])) (both-fits d k lhs rhs) Nothing (reject (d .schema) (nodesOf d) lhs (said T (c .state .subst) m) c)
           (λ u b. andThen (below d k .infer lhs b) (λ ty. onlyRight (d .schema) (nodesOf d) (below d k) rhs)) s
-          (λ y. reject-meets (d .schema) (nodesOf d) lhs Code.NyiBindUnification c (s .orderly)) (λ s₁. R d (nl .there) .is T c s₁ tt)
+          (λ y. reject-meets (d .schema) (nodesOf d) lhs (said T (c .state .subst) m) c (s .orderly)) (λ s₁. R d (nl .there) .is T c s₁ ok)
           (λ T₁ b a h. stop-typed (infers (nodesOf d) k lhs) (infers (nodesOf d) k rhs) (two d k lhs rhs) (record { grade = omega arith; records = omega arith; fields = omega arith }) (below d k .infer lhs b)
           (λ ty. onlyRight (d .schema) (nodesOf d) (below d k) rhs) g refl (a .begins) (λ s₂. I .is d k nl .is T₁ b s₂ tt));
     };

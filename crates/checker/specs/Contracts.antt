@@ -18,6 +18,7 @@ use Rattle.cells.specs.Stands.{Rows, tree}
 use Rattle.meaning.specs.Syntax.{Field, Query, QueryStmt, ExprKind, nodeAt}
 use Rattle.meaning.specs.References.{fieldNames, fieldValues, stmtNodes, queryNodes}
 use Rattle.meaning.specs.All.{Below}
+use Rattle.meaning.specs.Diag as Diag
 use Rattle.meaning.specs.File.{Described}
 use Rattle.meaning.specs.Sound.{Sound}
 use Rattle.meaning.specs.Run.{run}
@@ -25,6 +26,8 @@ use Rattle.tree.specs.Stands.{Stands}
 use Rattle.meaning.specs.Check as Check
 use Rattle.meaning.specs.Check.{Checker, Step, Does, goes, out, andThen, Walk, walk, form}
 use Rattle.meaning.specs.Grades.{no-thing, Known}
+use Rattle.messages.specs.declared.Message.{Message}
+use Rattle.messages.specs.Said.{said, OkMessage}
 use Rattle.state.specs.Runs.{Runs}
 use Rattle.state.specs.Lines.{Told}
 use Rattle.tree.specs.declared.Items.{Items}
@@ -123,8 +126,13 @@ Denies f w ou lhs rhs left w′ ou′ r = Sides (λ d b x y. Check.denyForm (d .
 abbrev pub Compares : List ℕ → List ℕ → List ℕ → ℕ → ℕ → ℕ → List ℕ → List ℕ → Done → Type 0
 Compares f w ou lhs rhs left w′ ou′ r = Sides (λ d b x y. Check.compare (d .schema) (nodesOf d) b x y) f w ou lhs rhs left w′ ou′ r
 
-abbrev pub NotYets : List ℕ → List ℕ → List ℕ → ℕ → ℕ → ℕ → List ℕ → List ℕ → Done → Type 0
-NotYets f w ou lhs rhs left w′ ou′ r = Sides (λ d b x y. Check.notYet (d .schema) (nodesOf d) b x y) f w ou lhs rhs left w′ ou′ r
+-- The same of a step that reports a message, of which the types exist.
+pub record SidesSaying (m : Described → Walk → Diag.Message → ℕ → ℕ → Does (Unit {0})) (x : Message) (f w ou : List ℕ) (lhs rhs left : ℕ) (w′ ou′ : List ℕ) (r : Done) : Type 0 where
+  pub is : (d : Described) (k : ℕ) → Named d k lhs → Named d k rhs
+      → Beside f w ou left w′ ou′ (done r) d (visits (nodesOf d) k (lhs ∷ rhs ∷ [])) (λ T c. OkMessage w x) (λ T c. m d (below d k) (said T (c .state .subst) x) lhs rhs c)
+
+abbrev pub NotYets : Message → List ℕ → List ℕ → List ℕ → ℕ → ℕ → ℕ → List ℕ → List ℕ → Done → Type 0
+NotYets x f w ou lhs rhs left w′ ou′ r = SidesSaying (λ d b. Check.notYet (d .schema) (nodesOf d) b) x f w ou lhs rhs left w′ ou′ r
 
 abbrev pub Destructures : List ℕ → List ℕ → List ℕ → ℕ → ℕ → ℕ → List ℕ → List ℕ → Done → Type 0
 Destructures f w ou lhs rhs left w′ ou′ r = Sides (λ d b x y. Check.destructure (d .schema) (nodesOf d) b x y) f w ou lhs rhs left w′ ou′ r
@@ -145,8 +153,8 @@ pub record StatesAll (f w ou : List ℕ) (body : Stmts) (left : ℕ) (w′ ou′
 
 -- `query`, from words that a file was read into: the words after stand for where the run ends, or for where its visits ran out.
 pub data Ran (f w′ ou′ : List ℕ) (d : Described) (r : Done) : Step Tree.Ty → Type 0 where
-  to-the-end : {ty : Tree.Ty} {c : Checker} (T : Rows) → Runs f w′ T d c → Told w′ ou′ c → r ≡ Done.On (c .state .left) → Ran f w′ ou′ d r (goes ty c)
-  out-of-visits : {c : Checker} (T : Rows) → Runs f w′ T d c → Told w′ ou′ c → r ≡ Done.Out → Ran f w′ ou′ d r (out c)
+  to-the-end : {ty : Tree.Ty} {c : Checker} (T : Rows) → Runs f w′ T d c → Told d w′ ou′ c → r ≡ Done.On (c .state .left) → Ran f w′ ou′ d r (goes ty c)
+  out-of-visits : {c : Checker} (T : Rows) → Runs f w′ T d c → Told d w′ ou′ c → r ≡ Done.Out → Ran f w′ ou′ d r (out c)
 
 pub record Queries (f w ou : List ℕ) (ceiling : ℕ) (w′ ou′ : List ℕ) (r : Done) : Type 0 where
   pub is : (T : Rows) (d : Described) → Sound d → Stands f w T d → Ran f w′ ou′ d r (run (d .schema) (d .ast) ceiling)

@@ -10,7 +10,7 @@ use cells::Found;
 use cells::Kind;
 use cells::Ty;
 use cells::Unified;
-use state::Code;
+use messages::Message;
 use state::introduce;
 use state::reject;
 use steps::Done;
@@ -247,7 +247,7 @@ fn check_field(
             }
         }
         Found::Nothing => {
-            reject(f, w, value, Code::RejectUnknownField, out);
+            reject(f, w, value, Message::NoField(name), out);
             Done::On(left)
         }
     }
@@ -289,7 +289,7 @@ fn check_union(
     ensures { λ r. ⌜ ChecksUnion (now (f .entry)) (now (w .entry)) (now (out .entry)) n items c left (now (w .exit)) (now (out .exit)) r ⌝ }
 {
     if items.n != 1 {
-        reject(f, w, n, Code::RejectUnionArity, out);
+        reject(f, w, n, Message::NotOneAlternative(items.n), out);
         return Done::On(left);
     }
     let e = tree::field_at(f, items, 0);
@@ -307,7 +307,7 @@ fn check_union(
             }
         }
         Found::Nothing => {
-            reject(f, w, n, Code::RejectUnknownAlternative, out);
+            reject(f, w, n, Message::NoAlternative(e.name), out);
             Done::On(left)
         }
     }
@@ -420,10 +420,18 @@ fn bind_name(
     }
 }
 
-fn not_yet(f: &[u8], w: &mut [u32], lhs: u32, rhs: u32, left: u32, out: &mut [u8]) -> Done
-    ensures { λ r. ⌜ NotYets (now (f .entry)) (now (w .entry)) (now (out .entry)) lhs rhs left (now (w .exit)) (now (out .exit)) r ⌝ }
+fn not_yet(
+    f: &[u8],
+    w: &mut [u32],
+    lhs: u32,
+    rhs: u32,
+    left: u32,
+    m: Message,
+    out: &mut [u8],
+) -> Done
+    ensures { λ r. ⌜ NotYets m (now (f .entry)) (now (w .entry)) (now (out .entry)) lhs rhs left (now (w .exit)) (now (out .exit)) r ⌝ }
 {
-    reject(f, w, lhs, Code::NyiBindUnification, out);
+    reject(f, w, lhs, m, out);
     let r = infer(f, w, lhs, left, out);
     match r {
         Typed::Got(_, l) => only(infer(f, w, rhs, l, out)),
@@ -467,15 +475,15 @@ fn bind(f: &[u8], w: &mut [u32], lhs: u32, rhs: u32, left: u32, out: &mut [u8]) 
             if steps::destructurable(f, w, lhs) {
                 destructure(f, w, lhs, rhs, left, out)
             } else {
-                not_yet(f, w, lhs, rhs, left, out)
+                not_yet(f, w, lhs, rhs, left, Message::MatchedPatterns, out)
             }
         }
         Node::Int | Node::Str | Node::Bytes | Node::Prefix(_) => {
-            reject(f, w, lhs, Code::RejectBindLhs, out);
+            reject(f, w, lhs, Message::BoundConstant, out);
             only(infer(f, w, rhs, left, out))
         }
         Node::Error => only(infer(f, w, rhs, left, out)),
-        _ => not_yet(f, w, lhs, rhs, left, out),
+        _ => not_yet(f, w, lhs, rhs, left, Message::MatchedPatterns, out),
     }
 }
 
@@ -486,11 +494,11 @@ fn deny(f: &[u8], w: &mut [u32], lhs: u32, rhs: u32, left: u32, out: &mut [u8]) 
     match e {
         Node::Var(symbol) => bind_name(f, w, symbol, lhs, rhs, left, out),
         Node::Wildcard | Node::Int | Node::Str | Node::Bytes | Node::Prefix(_) => {
-            reject(f, w, lhs, Code::RejectBindLhs, out);
+            reject(f, w, lhs, Message::DeniedConstant, out);
             only(infer(f, w, rhs, left, out))
         }
         Node::Error => only(infer(f, w, rhs, left, out)),
-        _ => not_yet(f, w, lhs, rhs, left, out),
+        _ => not_yet(f, w, lhs, rhs, left, Message::DeniedPattern, out),
     }
 }
 

@@ -8,6 +8,7 @@ use lib.ListN.{length, take, replicate, length-append, length-take, length-repli
 use lib.Seq.{length-take-le}
 use borrow.Author.Tests.{lt-ltb, le-ltb}
 use Rattle.meaning.specs.Refusal.{Refusal, number}
+use Rattle.meaning.specs.Messages.{textIn}
 use Rattle.meaning.specs.Answer.{formLines, hexLine}
 use Rattle.meaning.specs.Outcome.{answered, minWords, decideRun, decide, printedLines, printed}
 use Rattle.meaning.specs.Demands.{RefusedWhen, for-work, for-file, for-visits, for-answer}
@@ -36,20 +37,31 @@ module _ {f w buf w′ buf′ : List ℕ} where
       let x = demand-2 f (length w) (length buf) (sym (h .result)) in
       let a = x .when in
       let told = h .ends n refl in
-      let same : answered (take n buf′) ≡ answered (formLines (x .ts)) = sym (told .1) ∙ reads-decides f (length w) (x .f) (some (x .ts)) (a .enough) (a .reads) (each-ran (x .f .schema) (x .f .queries) (x .ts) (a .checks)) in
-      let there : take n buf′ ≡ formLines (x .ts) = cc in
-      let all : buf′ ≡ formLines (x .ts) ++ replicate (length buf - length (formLines (x .ts))) 0 = h .answer ∙ x .answer in
-      let size : length buf′ ≡ length (formLines (x .ts)) + (length buf - length (formLines (x .ts))) =
-      ap length all ∙ length-append (formLines (x .ts)) (replicate (length buf - length (formLines (x .ts))) 0) ∙ ap (λ m. length (formLines (x .ts)) + m) (length-replicate {A = ℕ} (length buf - length (formLines (x .ts))) 0) in
-      let long : n ≡ length (formLines (x .ts)) = sym (length-take-le n buf′ (omega (arith, size, a .fits, told .0))) ∙ ap length there in
-      record { form = x .f; ts = x .ts; when = a; work = h .work ∙ demand-1 f (length w) (length buf) .work-zeros; long = long; answer = all ∙ ap (λ m. formLines (x .ts) ++ replicate (length buf - m) 0) (sym long) }
+      let lines = formLines (textIn (x .f)) (x .ts) in
+      let decides = reads-decides f (length w) (x .f) (some (x .ts)) (a .enough) (a .reads) (each-ran (x .f .schema) (x .f .queries) (x .ts) (a .checks)) in
+      let same : answered (take n buf′) ≡ answered lines = sym (told .1) ∙ decides in
+      let there : take n buf′ ≡ lines = cc in
+      let rest = length buf - length lines in
+      let all : buf′ ≡ lines ++ replicate rest 0 = h .answer ∙ x .answer in
+      let size : length buf′ ≡ length lines + rest =
+      ap length all ∙ length-append lines (replicate rest 0) ∙ ap (λ m. length lines + m) (length-replicate {A = ℕ} rest 0) in
+      let long : n ≡ length lines = sym (length-take-le n buf′ (omega (arith, size, a .fits, told .0))) ∙ ap length there in
+      record {
+        form = x .f;
+        ts = x .ts;
+        when = a;
+        work = h .work ∙ demand-1 f (length w) (length buf) .work-zeros;
+        long = long;
+        answer = all ∙ ap (λ m. lines ++ replicate (length buf - m) 0) (sym long);
+      }
 
 prints-refused : (f : List ℕ) (words bytes : ℕ) (i : Refusal) → RefusedWhen f words bytes i → printedLines (decide f words) bytes ≡ hexLine (0x0f ∷ number i ∷ [])
 unfolding printedLines decideRun
 prints-refused f words bytes i (for-work h) = ap (λ x. printedLines x bytes) (short-decides f words h)
 prints-refused f words bytes i (for-file h r) = ap (λ x. printedLines x bytes) (unread-decides f words i h r)
 prints-refused f words bytes i (for-visits d h s c) = ap (λ x. printedLines x bytes) (reads-decides f words d none h s (any-out (d .schema) (d .queries) c))
-prints-refused f words bytes i (for-answer d t h s c l) = ap (λ x. printedLines x bytes) (reads-decides f words d (some t) h s (each-ran (d .schema) (d .queries) t c)) ∙ rw (lt-ltb bytes (length (formLines t)) l, printedLines)
+prints-refused f words bytes i (for-answer d t h s c l) = ap (λ x. printedLines x bytes) (reads-decides f words d (some t) h s (each-ran (d .schema) (d .queries) t c))
+    ∙ rw (lt-ltb bytes (length (formLines (textIn d) t)) l, printedLines)
 
 prints-accepted : (f : List ℕ) (words bytes : ℕ) (ls : List ℕ) → decide f words ≡ answered ls → length ls ≤ bytes → printedLines (decide f words) bytes ≡ ls
 unfolding printedLines

@@ -15,6 +15,8 @@ use Rattle.meaning.specs.File.{Form, viewOf, described, reading, maxFile}
 use Rattle.meaning.specs.All.{All, Any, Each}
 use Rattle.meaning.specs.Sound.{Sound}
 use Rattle.meaning.specs.Check.{Typed, Checked, typed, exhausted, check}
+use Rattle.meaning.specs.Diag.{Message}
+use Rattle.meaning.specs.Messages.{textIn}
 use Rattle.meaning.specs.Answer.{bytes₂, hexLine, answerLines, numbered, formLines}
 use Rattle.meaning.specs.Outcome.{answered, minWords, maxVisits, runAll, decideRun}
 use Rattle.meaning.proofs.Forms.{Ran, RanOut, each-ran, any-out}
@@ -35,30 +37,31 @@ use Rattle.desk.specs.Contracts.{Told, RunsQueries}
 
 -- ---- The lines of queries, from number k on
 
-unfoldable linesOf : Bool → ℕ → List Typed → List ℕ
-linesOf m k [] = []
-linesOf m k (t ∷ ts) = (headLine m k ++ answerLines t) ++ linesOf m (suc k) ts
+module _ (text : Message → List ℕ) where
+  unfoldable linesOf : Bool → ℕ → List Typed → List ℕ
+  linesOf m k [] = []
+  linesOf m k (t ∷ ts) = (headLine m k ++ answerLines text t) ++ linesOf m (suc k) ts
 
-lines-snoc : (m : Bool) (k : ℕ) (ts : List Typed) (t : Typed) → linesOf m k (ts ++ t ∷ []) ≡ linesOf m k ts ++ (headLine m (k + length ts) ++ answerLines t)
-unfolding linesOf
-lines-snoc m k [] t = let none-on : k ≡ k + 0 = omega arith in append-nil (headLine m k ++ answerLines t) ∙ ap (λ i. headLine m i ++ answerLines t) none-on
-lines-snoc m k (u ∷ ts) t =
-    let on : suc k + length ts ≡ k + suc (length ts) = omega arith in
-    ap (λ l. (headLine m k ++ answerLines u) ++ l) (lines-snoc m (suc k) ts t ∙ ap (λ i. linesOf m (suc k) ts ++ (headLine m i ++ answerLines t)) on)
-    ∙ sym (append-assoc (headLine m k ++ answerLines u) (linesOf m (suc k) ts) (headLine m (k + suc (length ts)) ++ answerLines t))
+  lines-snoc : (m : Bool) (k : ℕ) (ts : List Typed) (t : Typed) → linesOf m k (ts ++ t ∷ []) ≡ linesOf m k ts ++ (headLine m (k + length ts) ++ answerLines text t)
+  unfolding linesOf
+  lines-snoc m k [] t = let none-on : k ≡ k + 0 = omega arith in append-nil (headLine m k ++ answerLines text t) ∙ ap (λ i. headLine m i ++ answerLines text t) none-on
+  lines-snoc m k (u ∷ ts) t =
+      let on : suc k + length ts ≡ k + suc (length ts) = omega arith in
+      ap (λ l. (headLine m k ++ answerLines text u) ++ l) (lines-snoc m (suc k) ts t ∙ ap (λ i. linesOf m (suc k) ts ++ (headLine m i ++ answerLines text t)) on)
+      ∙ sym (append-assoc (headLine m k ++ answerLines text u) (linesOf m (suc k) ts) (headLine m (k + suc (length ts)) ++ answerLines text t))
 
-lines-numbered : (k : ℕ) (ts : List Typed) → numbered k ts ≡ linesOf true k ts
-unfolding numbered linesOf
-lines-numbered k [] = refl
-lines-numbered k (t ∷ ts) =
-    ap (λ l. hexLine (0x0b ∷ bytes₂ k) ++ (answerLines t ++ l)) (lines-numbered (suc k) ts)
-    ∙ sym (append-assoc (hexLine (0x0b ∷ bytes₂ k)) (answerLines t) (linesOf true (suc k) ts))
+  lines-numbered : (k : ℕ) (ts : List Typed) → numbered text k ts ≡ linesOf true k ts
+  unfolding numbered linesOf
+  lines-numbered k [] = refl
+  lines-numbered k (t ∷ ts) =
+      ap (λ l. hexLine (0x0b ∷ bytes₂ k) ++ (answerLines text t ++ l)) (lines-numbered (suc k) ts)
+      ∙ sym (append-assoc (hexLine (0x0b ∷ bytes₂ k)) (answerLines text t) (linesOf true (suc k) ts))
 
-form-lines : (ts : List Typed) → formLines ts ≡ linesOf (ltb 1 (length ts)) 0 ts
-unfolding formLines linesOf
-form-lines [] = refl
-form-lines (t ∷ []) = sym (append-nil (answerLines t))
-form-lines (t ∷ u ∷ ts) = lines-numbered 0 (t ∷ u ∷ ts) ∙ ap (λ m. linesOf m 0 (t ∷ u ∷ ts)) (sym (lt-ltb 1 (length (t ∷ u ∷ ts)) (omega arith)))
+  form-lines : (ts : List Typed) → formLines text ts ≡ linesOf (ltb 1 (length ts)) 0 ts
+  unfolding formLines linesOf
+  form-lines [] = refl
+  form-lines (t ∷ []) = sym (append-nil (answerLines text t))
+  form-lines (t ∷ u ∷ ts) = lines-numbered 0 (t ∷ u ∷ ts) ∙ ap (λ m. linesOf m 0 (t ∷ u ∷ ts)) (sym (lt-ltb 1 (length (t ∷ u ∷ ts)) (omega arith)))
 
 -- There are several, seen from each of them.
 several-whole : (before : List Ast) (a : Ast) (qs : List Ast) → several (length before) qs ≡ ltb 1 (length (before ++ a ∷ qs))
@@ -96,15 +99,15 @@ record Telling (f : List ℕ) (form : Form) (w out₀ out : List ℕ) (at k : �
   ahead : Ahead f at left
   sound : All (λ a. Sound (viewOf form a)) left
   rows : Rows
-  stands : SchemaStands w rows (form .schema)
-  written : Continues out₀ 0 (linesOf (ltb 1 (length (form .queries))) 0 ts) out page
+  stands : SchemaStands f w rows (form .names) (form .schema)
+  written : Continues out₀ 0 (linesOf (textIn form) (ltb 1 (length (form .queries))) 0 ts) out page
 
 pub record Midway (f w₀ out₀ w out : List ℕ) (at k : ℕ) (page : Wrote) : Type 0 where
   pub words : length w ≡ length w₀
   pub few : k ≤ at
   pub within : at ≤ length f
   pub small : length f ≤ 65536
-  is : (T : Rows) (form : Form) → reading f ≡ described form → minWords ≤ length w₀ → SchemaStands w₀ T (form .schema) → Telling f form w out₀ out at k page
+  is : (T : Rows) (form : Form) → reading f ≡ described form → minWords ≤ length w₀ → SchemaStands f w₀ T (form .names) (form .schema) → Telling f form w out₀ out at k page
 
 pub midway-start : (f w out : List ℕ) → length f ≤ 65536 → Midway f w out w out 0 0 (To 0)
 unfolding linesOf maxFile
@@ -179,7 +182,8 @@ module _ {f w₀ out₀ w out : List ℕ} {at k : ℕ} {page : Wrote} (m : Midwa
               let same : Turn.On (z .0) (z .1) ≡ Turn.On next p = sym (z .2) ∙ e in
               let place : z .0 ≡ next = cc in
               let to : z .1 ≡ p = cc in
-              let follows : Follows out page (headLine m₀ (0 + length (x .ts)) ++ answerLines u) out′ (z .1) = subst (λ l. Follows out page (l ++ answerLines u) out′ (z .1)) number-is (z .5) in
+              let lines = answerLines (textIn form) u in
+              let follows : Follows out page (headLine m₀ (0 + length (x .ts)) ++ lines) out′ (z .1) = subst (λ l. Follows out page (l ++ lines) out′ (z .1)) number-is (z .5) in
               record {
                 before = x .before ++ y .a ∷ [];
                 left = y .qs;
@@ -191,7 +195,8 @@ module _ {f w₀ out₀ w out : List ℕ} {at k : ℕ} {page : Wrote} (m : Midwa
                 sound = y .later;
                 rows = z .4 .0;
                 stands = z .4 .1;
-                written = subst (Continues out₀ 0 (linesOf m₀ 0 (x .ts ++ u ∷ [])) out′) to (continues-as (sym (lines-snoc m₀ 0 (x .ts) u)) (goes-on (x .written) follows));
+                written = subst (Continues out₀ 0 (linesOf (textIn form) m₀ 0 (x .ts ++ u ∷ [])) out′) to
+                    (continues-as (sym (lines-snoc (textIn form) m₀ 0 (x .ts) u)) (goes-on (x .written) follows));
               }
 
       one-out : r ≡ Turn.Out → runAll (form .schema) (form .queries) ≡ none
@@ -216,29 +221,29 @@ module _ {f w₀ out₀ w out : List ℕ} {at k : ℕ} {page : Wrote} (m : Midwa
     pub midway-out : r ≡ Turn.Out → RunsQueries f w₀ out₀ out′ (Outcome.Refused Refusal.TooManyVisits)
     unfolding Told decideRun
     midway-out e = record {
-      told = λ T form q l S. subst (λ o. Told out₀ out′ (Outcome.Refused Refusal.TooManyVisits) (decideRun o)) (sym (one-out form l (m .is T form q l S) e)) (Refusal.TooManyVisits, refl, refl);
+      told = λ T form q l S. subst (λ o. Told out₀ out′ (Outcome.Refused Refusal.TooManyVisits) (decideRun (textIn form) o)) (sym (one-out form l (m .is T form q l S) e)) (Refusal.TooManyVisits, refl, refl);
     }
 
   -- ---- No query is left
   module _ (end : length f ≤ at) where
     -- what is decided stands on the page
-    at-end : (T : Rows) (form : Form) → reading f ≡ described form → minWords ≤ length w₀ → SchemaStands w₀ T (form .schema)
-        → (ts : List Typed) × (runAll (form .schema) (form .queries) ≡ some ts) × Continues out₀ 0 (formLines ts) out page
+    at-end : (T : Rows) (form : Form) → reading f ≡ described form → minWords ≤ length w₀ → SchemaStands f w₀ T (form .names) (form .schema)
+        → (ts : List Typed) × (runAll (form .schema) (form .queries) ≡ some ts) × Continues out₀ 0 (formLines (textIn form) ts) out page
     at-end T form q l S = let x = m .is T form q l S in go x (x .left) (x .are) (x .ahead)
       where
         go : (x : Telling f form w out₀ out at k page) (left : List Ast) → x .before ++ left ≡ form .queries → Ahead f at left
-            → (ts : List Typed) × (runAll (form .schema) (form .queries) ≡ some ts) × Continues out₀ 0 (formLines ts) out page
+            → (ts : List Typed) × (runAll (form .schema) (form .queries) ≡ some ts) × Continues out₀ 0 (formLines (textIn form) ts) out page
         go x (a ∷ qs) e A = absurd (omega (arith, query-ahead A))
         go x [] e A =
             let whole : x .before ≡ form .queries = sym (append-nil (x .before)) ∙ e in
             let ran : Each (Ran (form .schema)) (form .queries) (x .ts) = subst (λ qs. Each (Ran (form .schema)) qs (x .ts)) whole (x .ran) in
             let count : length (form .queries) ≡ length (x .ts) = sym (each-long (Ran (form .schema)) (form .queries) (x .ts) ran) in
-            (x .ts, each-ran (form .schema) (form .queries) (x .ts) ran, continues-as (ap (λ n. linesOf (ltb 1 n) 0 (x .ts)) count ∙ sym (form-lines (x .ts))) (x .written))
+            (x .ts, each-ran (form .schema) (form .queries) (x .ts) ran, continues-as (ap (λ n. linesOf (textIn form) (ltb 1 n) 0 (x .ts)) count ∙ sym (form-lines (textIn form) (x .ts))) (x .written))
 
     module _ (o : Outcome) (tell : (ls : List ℕ) → Continues out₀ 0 ls out page → Told out₀ out o (answered ls)) where
       by-page : RunsQueries f w₀ out₀ out o
       unfolding decideRun
-      by-page = record { told = λ T form q l S. let y = at-end T form q l S in subst (λ x. Told out₀ out o (decideRun x)) (sym (y .1)) (tell (formLines (y .0)) (y .2)) }
+      by-page = record { told = λ T form q l S. let y = at-end T form q l S in subst (λ x. Told out₀ out o (decideRun (textIn form) x)) (sym (y .1)) (tell (formLines (textIn form) (y .0)) (y .2)) }
 
     pub midway-fits : (n : ℕ) → page ≡ To n → RunsQueries f w₀ out₀ out (Outcome.Accepted n)
     unfolding Told

@@ -13,6 +13,7 @@ use Rattle.meaning.specs.File.{Described}
 use Rattle.meaning.specs.Sound.{Sound}
 use Rattle.meaning.specs.Check.{Step, Checked, typed, exhausted, checked, check}
 use Rattle.meaning.specs.Run.{run}
+use Rattle.meaning.specs.Messages.{messageText}
 use Rattle.meaning.specs.Answer.{bytes₂, hexLine, answerLines}
 use Rattle.meaning.specs.Outcome.{minWords, maxVisits}
 use Rattle.tree.specs.Stands.{SchemaStands}
@@ -108,29 +109,29 @@ checks-run d = refl
 module _ {f w out w₁ out₁ : List ℕ} {q : Done} (ran : Queries f w out maxVisits w₁ out₁ q) where
   pub run-out : q ≡ Done.Out → Answers f w out w₁ out₁ Ended.Out
   unfolding Answered checked
-  run-out e = record { is = λ T d s S. subst (Answered out w₁ out₁ Ended.Out d) (sym (checks-run d)) (go d (ran .is T d s S)); words = ran .words; bytes = ran .slice }
+  run-out e = record { is = λ T d s S. subst (Answered f out w₁ out₁ Ended.Out d) (sym (checks-run d)) (go d (ran .is T d s S)); words = ran .words; bytes = ran .slice }
     where
-      go : (d : Described) {x : Step Tree.Ty} → Ran f w₁ out₁ d q x → Answered out w₁ out₁ Ended.Out d (checked maxVisits x)
+      go : (d : Described) {x : Step Tree.Ty} → Ran f w₁ out₁ d q x → Answered f out w₁ out₁ Ended.Out d (checked maxVisits x)
       go d (to-the-end T R t p) = let z : _≡_ {A = ℕ} 0 1 = cc in absurd (omega arith)
       go d (out-of-visits T R t p) = refl
 
   pub run-on : (left : ℕ) → q ≡ Done.On left → {out₂ : List ℕ} {a : Wrote} → WritesAnswer w₁ out₁ out₂ a → Answers f w out w₁ out₂ (Ended.Lines a)
   unfolding Answered checked
   run-on left e {out₂} {a} wrote = record {
-    is = λ T d s S. subst (Answered out w₁ out₂ (Ended.Lines a) d) (sym (checks-run d)) (go d (ran .is T d s S));
+    is = λ T d s S. subst (Answered f out w₁ out₂ (Ended.Lines a) d) (sym (checks-run d)) (go d (ran .is T d s S));
     words = ran .words;
     bytes = wrote .long ∙ ran .slice;
   }
     where
-      go : (d : Described) {x : Step Tree.Ty} → Ran f w₁ out₁ d q x → Answered out w₁ out₂ (Ended.Lines a) d (checked maxVisits x)
+      go : (d : Described) {x : Step Tree.Ty} → Ran f w₁ out₁ d q x → Answered f out w₁ out₂ (Ended.Lines a) d (checked maxVisits x)
       go d (to-the-end {ty = ty} {c = c} T R t p) = (a, refl, (T, R .stands .schema), continues-start (ran .slice) (continues (wrote .is f T d c R t maxVisits ty _ refl)))
       go d (out-of-visits T R t p) = let z : _≡_ {A = ℕ} 0 1 = cc in absurd (omega arith)
 
 -- ---- The turn
 
 module _ {f : List ℕ} {at : ℕ} {w w₁ : List ℕ} {next : ℕ} (loads : Loads f at w w₁ next) {lent w₂ part : List ℕ} {q : Ended} (answers : Answers f w₁ lent w₂ part q) where
-  module _ (T : Rows) (d : Described) (qs : List Ast) (sound : Sound d) (long : minWords ≤ length w) (S : SchemaStands w T (d .schema)) (A : Ahead f at (d .ast ∷ qs)) where
-    has-answered : Answered lent w₂ part q d (check maxVisits (d .schema) (d .ast))
+  module _ (T : Rows) (d : Described) (qs : List Ast) (sound : Sound d) (long : minWords ≤ length w) (S : SchemaStands f w T (d .names) (d .schema)) (A : Ahead f at (d .ast ∷ qs)) where
+    has-answered : Answered f lent w₂ part q d (check maxVisits (d .schema) (d .ast))
     has-answered = answers .is T d sound (loads .stands T d qs sound long S A)
 
   pub turn-out : (k : ℕ) (out out₁ : List ℕ) (page : Wrote) → q ≡ Ended.Out → Turns f at k w out page w₂ out₁ Turn.Out
@@ -140,7 +141,7 @@ module _ {f : List ℕ} {at : ℕ} {w w₁ : List ℕ} {next : ℕ} (loads : Loa
     is = λ T d qs s l S A. go d qs (check maxVisits (d .schema) (d .ast)) (has-answered T d qs s l S A);
   }
     where
-      go : (d : Described) (qs : List Ast) (x : Checked) → Answered lent w₂ part q d x → Turned f k out page w₂ out₁ Turn.Out d qs x
+      go : (d : Described) (qs : List Ast) (x : Checked) → Answered f lent w₂ part q d x → Turned f k out page w₂ out₁ Turn.Out d qs x
       go d qs exhausted h = refl
       go d qs (typed t) h = let p = h .1 in let z : _≡_ {A = ℕ} 0 1 = cc in absurd (omega arith)
 
@@ -153,10 +154,11 @@ module _ {f : List ℕ} {at : ℕ} {w w₁ : List ℕ} {next : ℕ} (loads : Loa
       is = λ T d qs sd l S A. go d qs (loads .ahead d qs sd l A) (check maxVisits (d .schema) (d .ast)) (has-answered T d qs sd l S A);
     }
       where
-        go : (d : Described) (qs : List Ast) → Ahead f next qs → (x : Checked) → Answered lent w₂ part q d x → Turned f k out page w₂ out′ (Turn.On next written) d qs x
+        go : (d : Described) (qs : List Ast) → Ahead f next qs → (x : Checked) → Answered f lent w₂ part q d x → Turned f k out page w₂ out′ (Turn.On next written) d qs x
         go d qs A exhausted h = let z : _≡_ {A = ℕ} 0 1 = cc in absurd (omega arith)
         go d qs A (typed t) h =
             let p = h .1 in
             let same : h .0 ≡ a = cc in
-            let g : Continues lent 0 (answerLines t) part a = subst (Continues lent 0 (answerLines t) part) same (h .3) in
-            (next, written, refl, A, h .2, subst (λ m. Follows out page (headLine m k ++ answerLines t) out′ written) (several-is s A) (follows (answerLines t) g))
+            let lines = answerLines (messageText (d .names) (d .schema)) t in
+            let g : Continues lent 0 lines part a = subst (Continues lent 0 lines part) same (h .3) in
+            (next, written, refl, A, h .2, subst (λ m. Follows out page (headLine m k ++ lines) out′ written) (several-is s A) (follows lines g))

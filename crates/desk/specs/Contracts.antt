@@ -5,6 +5,7 @@ use Prim.Native.Nat.{ℕ, _<_, _≤_}
 use lib.ListN.{length, take}
 use Rattle.cells.specs.Stands.{Rows}
 use Rattle.meaning.specs.File.{Form, described, reading}
+use Rattle.meaning.specs.Messages.{textIn}
 use Rattle.meaning.specs.Outcome as Defined
 use Rattle.meaning.specs.Outcome.{Decided, turnedDown, answered, Result, minWords, runAll, decideRun, decide, outcome}
 use Rattle.tree.specs.Stands.{SchemaStands}
@@ -27,9 +28,10 @@ Told out out′ r (answered ls) =
     (length ls ≤ length out → (r ≡ Outcome.Accepted (length ls)) × (take (length ls) out′ ≡ ls))
     × (length out < length ls → r ≡ Outcome.Refused Refusal.AnswerTooLong)
 
--- The queries of a described form whose schema stands in the words.
+-- The queries of a described form whose schema and names stand in the words.
 pub record RunsQueries (f w out out′ : List ℕ) (r : Outcome) : Type 0 where
-  pub told : (T : Rows) (form : Form) → reading f ≡ described form → minWords ≤ length w → SchemaStands w T (form .schema) → Told out out′ r (decideRun (runAll (form .schema) (form .queries)))
+  pub told : (T : Rows) (form : Form) → reading f ≡ described form → minWords ≤ length w → SchemaStands f w T (form .names) (form .schema)
+      → Told out out′ r (decideRun (textIn form) (runAll (form .schema) (form .queries)))
 
 pub record RunsFile (f w out w′ out′ : List ℕ) (r : Outcome) : Type 0 where
   pub told : Told out out′ r (decide f (length w))

@@ -7,6 +7,7 @@ use lib.ListN.{length, take, replicate}
 use Rattle.meaning.specs.Refusal.{Refusal, number}
 use Rattle.meaning.specs.File.{Form}
 use Rattle.meaning.specs.Check.{Typed}
+use Rattle.meaning.specs.Messages.{textIn}
 use Rattle.meaning.specs.Answer.{formLines, hexLine}
 use Rattle.meaning.specs.Demands.{RefusedWhen, AcceptedWhen, Zeros}
 use Rattle.reading.specs.Contracts.{refusal}
@@ -23,8 +24,8 @@ pub record CallAccepted (f w out w′ out′ : List ℕ) (n : ℕ) : Type 0 wher
   pub ts : List Typed
   pub when : AcceptedWhen f (length w) (length out) form ts
   pub work : Zeros (length w) w′
-  pub long : n ≡ length (formLines ts)
-  pub answer : out′ ≡ formLines ts ++ replicate (length out - n) 0
+  pub long : n ≡ length (formLines (textIn form) ts)
+  pub answer : out′ ≡ formLines (textIn form) ts ++ replicate (length out - n) 0
 
 -- What the program prints of a call: the answer's bytes, or the refusal's line.
 unfoldable pub shown : Called.Outcome → List ℕ → List ℕ

@@ -10,6 +10,7 @@ use Rattle.meaning.specs.Syntax.{Ast}
 use Rattle.meaning.specs.File.{Described}
 use Rattle.meaning.specs.Sound.{Sound}
 use Rattle.meaning.specs.Check.{Checked, typed, exhausted, check}
+use Rattle.meaning.specs.Messages.{messageText}
 use Rattle.meaning.specs.Answer.{bytes₂, hexLine, answerLines}
 use Rattle.meaning.specs.Outcome.{minWords, maxVisits}
 use Rattle.tree.specs.Stands.{SchemaStands, Stands}
@@ -63,12 +64,14 @@ Follows out page text out′ r = (length out′ ≡ length out) × ((n : ℕ) �
 -- ---- The run and its lines
 
 -- The visits ran out; or the answer's lines stand at the start of the slice, and the schema stands as before.
-unfoldable pub Answered : List ℕ → List ℕ → List ℕ → Ended → Described → Checked → Type 0
-Answered out w′ out′ r d exhausted = r ≡ Ended.Out
-Answered out w′ out′ r d (typed t) = (a : Wrote) × (r ≡ Ended.Lines a) × ((T : Rows) × SchemaStands w′ T (d .schema)) × Continues out 0 (answerLines t) out′ a
+unfoldable pub Answered : List ℕ → List ℕ → List ℕ → List ℕ → Ended → Described → Checked → Type 0
+Answered f out w′ out′ r d exhausted = r ≡ Ended.Out
+Answered f out w′ out′ r d (typed t) =
+    (a : Wrote) × (r ≡ Ended.Lines a) × ((T : Rows) × SchemaStands f w′ T (d .names) (d .schema))
+    × Continues out 0 (answerLines (messageText (d .names) (d .schema)) t) out′ a
 
 pub record Answers (f w out w′ out′ : List ℕ) (r : Ended) : Type 0 where
-  pub is : (T : Rows) (d : Described) → Sound d → Stands f w T d → Answered out w′ out′ r d (check maxVisits (d .schema) (d .ast))
+  pub is : (T : Rows) (d : Described) → Sound d → Stands f w T d → Answered f out w′ out′ r d (check maxVisits (d .schema) (d .ast))
   pub words : length w′ ≡ length w
   pub bytes : length out′ ≡ length out
 
@@ -78,11 +81,11 @@ pub record Answers (f w out w′ out′ : List ℕ) (r : Ended) : Type 0 where
 unfoldable pub Turned : List ℕ → ℕ → List ℕ → Wrote → List ℕ → List ℕ → Turn → Described → List Ast → Checked → Type 0
 Turned f k out page w′ out′ r d qs exhausted = r ≡ Turn.Out
 Turned f k out page w′ out′ r d qs (typed t) =
-    (next : ℕ) × (written : Wrote) × (r ≡ Turn.On next written) × Ahead f next qs × ((T : Rows) × SchemaStands w′ T (d .schema))
-    × Follows out page (headLine (several k qs) k ++ answerLines t) out′ written
+    (next : ℕ) × (written : Wrote) × (r ≡ Turn.On next written) × Ahead f next qs × ((T : Rows) × SchemaStands f w′ T (d .names) (d .schema))
+    × Follows out page (headLine (several k qs) k ++ answerLines (messageText (d .names) (d .schema)) t) out′ written
 
 -- For every input the place goes forward within the file; and where the query lies ahead, its run is the definition's.
 pub record Turns (f : List ℕ) (at k : ℕ) (w out : List ℕ) (page : Wrote) (w′ out′ : List ℕ) (r : Turn) : Type 0 where
   pub onward : at < length f → (next : ℕ) (written : Wrote) → r ≡ Turn.On next written → (at < next) × (next ≤ length f)
-  pub is : (T : Rows) (d : Described) (qs : List Ast) → Sound d → minWords ≤ length w → SchemaStands w T (d .schema) → Ahead f at (d .ast ∷ qs)
+  pub is : (T : Rows) (d : Described) (qs : List Ast) → Sound d → minWords ≤ length w → SchemaStands f w T (d .names) (d .schema) → Ahead f at (d .ast ∷ qs)
       → Turned f k out page w′ out′ r d qs (check maxVisits (d .schema) (d .ast))

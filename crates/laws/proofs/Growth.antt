@@ -14,25 +14,27 @@ use Rattle.text.specs.Utf8.{characters, oneMore}
 use Rattle.unification.specs.Ty.{Record, Union, Ty, leaf, node, Var, Error, Row, ε, cell}
 use Rattle.unification.specs.Unify.{findKey}
 use Rattle.meaning.specs.All.{All, Below}
-use Rattle.meaning.specs.Syntax.{Field, ExprKind, Node, Ast}
-use Rattle.meaning.specs.Schema.{Predicate, Schema, get, fieldOf}
-use Rattle.meaning.specs.Frame.{Alternative, TypeShape, aLeaf, aRecord, aUnion}
-use Rattle.meaning.specs.References.{fieldNames, shapeNames, optional, exprNames}
+use Rattle.meaning.specs.Syntax.{ExprKind, Node, Ast}
+use Rattle.meaning.specs.Schema.{Predicate, get, fieldOf}
+use Rattle.meaning.specs.Frame.{TypeShape}
+use Rattle.meaning.specs.References.{shapeNames, optional, exprNames}
+use Rattle.meaning.specs.Diag.{Message}
+use Rattle.meaning.specs.Messages.{textIn}
 use Rattle.meaning.specs.Lines.{position}
 use Rattle.meaning.specs.Conditions.{sameText}
-use Rattle.meaning.specs.SoFar.{typeAt, fieldRow, alternativeRow, tyOf, valueTy, predicateOf}
-use Rattle.meaning.specs.File.{countOf, valueText}
+use Rattle.meaning.specs.SoFar.{typeAt, tyOf, valueTy, predicateOf}
+use Rattle.meaning.specs.File.{Form, countOf, valueText}
 use Rattle.meaning.specs.Content.{PredicateFrame, Content, Lawful, typesFrom, predicateWith, describes}
 use Rattle.meaning.specs.Check.{keyShadowsValue, isSome, check}
 use Rattle.meaning.specs.Sound.{LawfulQuery}
-use Rattle.laws.specs.Facts.{Facts, RowFacts, OptionFacts}
-use Rattle.laws.specs.Same.{Asks, PredicateFacts, Same}
-use Rattle.laws.specs.Growth.{grow, Grown, ShapeFacts, NodeFacts, There, NoAbsent}
-use Rattle.laws.proofs.Facts.{all-getD}
+use Rattle.laws.specs.Over.{languageOf, Over, RowOver, PredicateOver, MessageOver, CheckedOver}
+use Rattle.laws.specs.Same.{Asks, Same}
+use Rattle.laws.specs.Growth.{grow, NodeFacts, There, spoken, NoAbsent}
+use Rattle.laws.proofs.Described.{content-over, content-named}
+use Rattle.laws.proofs.Texts.{at-append, fact-append, text-same}
 use Rattle.laws.proofs.Shadows.{shadowing, shadows-is}
-use Rattle.laws.proofs.Run.{same-run}
+use Rattle.laws.proofs.Run.{same-run, told-over}
 use Rattle.laws.proofs.Names.{answers, count-at}
-use Rattle.meaning.proofs.Lists.{all-snoc}
 use Rattle.meaning.proofs.Lawful.{types-length}
 
 -- ---- Types
@@ -47,64 +49,19 @@ unfolding typesFrom
 types-begin ts [] = ([], sym (append-nil ts))
 types-begin ts (s ∷ a) = let h = types-begin (ts ++ tyOf ts s ∷ []) a in (tyOf ts s ∷ h .0, h .1 ∙ append-assoc ts (tyOf ts s ∷ []) (h .0))
 
--- What holds of every type, if it holds of each as it is made from those before it.
-types-all : (Q : Ty → Type 0) (R : TypeShape → Type 0) → ((ts : List Ty) (s : TypeShape) → All Q ts → R s → Q (tyOf ts s)) → (ts : List Ty) (a : List TypeShape) → All Q ts → All R a → All Q (typesFrom ts a)
-unfolding typesFrom
-types-all Q R f ts [] h i = h
-types-all Q R f ts (s ∷ a) h i = types-all Q R f (ts ++ tyOf ts s ∷ []) a (all-snoc Q ts (tyOf ts s) h (f ts s h (i .0))) (i .1)
-
--- ---- Their facts
-fields-facts : (P : ℕ → Type 0) (ts : List Ty) (fs : List Field) → All (Facts P) ts → RowFacts P (fieldRow ts fs)
-unfolding fieldRow typeAt
-fields-facts P ts [] h = tt
-fields-facts P ts (f ∷ fs) h = (all-getD (Facts P) ts (f .value) Error h tt, fields-facts P ts fs h)
-
-alternatives-facts : (P : ℕ → Type 0) (ts : List Ty) (alts : List Alternative) → All (Facts P) ts → RowFacts P (alternativeRow ts alts)
-unfolding alternativeRow typeAt
-alternatives-facts P ts [] h = tt
-alternatives-facts P ts (a ∷ alts) h = (all-getD (Facts P) ts (a .type) Error h tt, alternatives-facts P ts alts h)
-
-tyOf-facts : (P : ℕ → Type 0) (ts : List Ty) (s : TypeShape) → All (Facts P) ts → ShapeFacts P s → Facts P (tyOf ts s)
-unfolding tyOf
-tyOf-facts P ts (aLeaf l) h i = i
-tyOf-facts P ts (aRecord fs) h i = fields-facts P ts fs h
-tyOf-facts P ts (aUnion alts) h i = alternatives-facts P ts alts h
-
--- ---- Their fields' names
-abbrev KeysBelow : ℕ → Row → Type 0
-KeysBelow n ε = Unit {0}
-KeysBelow n (cell k l t r) = (k < n) × KeysBelow n r
-
-abbrev NamesBelow : ℕ → Ty → Type 0
-NamesBelow n (leaf l) = Unit {0}
-NamesBelow n (node Record r) = KeysBelow n r
-NamesBelow n (node Union r) = Unit {0}
-NamesBelow n (Var x) = Unit {0}
-NamesBelow n Error = Unit {0}
-
-fields-names : (n : ℕ) (ts : List Ty) (fs : List Field) → Below n (fieldNames fs) → KeysBelow n (fieldRow ts fs)
-unfolding fieldRow fieldNames
-fields-names n ts [] h = tt
-fields-names n ts (f ∷ fs) h = (h .0, fields-names n ts fs (h .1))
-
-tyOf-names : (n : ℕ) (ts : List Ty) (s : TypeShape) → All (NamesBelow n) ts → Below n (shapeNames s) → NamesBelow n (tyOf ts s)
-unfolding tyOf shapeNames
-tyOf-names n ts (aLeaf l) h i = tt
-tyOf-names n ts (aRecord fs) h i = fields-names n ts fs i
-tyOf-names n ts (aUnion alts) h i = tt
-
-not-found : (n j : ℕ) (r : Row) → n ≤ j → KeysBelow n r → findKey j r ≡ none
+-- ---- Names that are new
+not-found : (P : ℕ → Type 0) (n j : ℕ) (r : Row) → n ≤ j → RowOver (languageOf P n) r Record → findKey j r ≡ none
 unfolding findKey
-not-found n j ε le h = refl
-not-found n j (cell k l t r) le h = let e : eqb j k ≡ false = ne-eqb j k (λ q. absurd (omega (arith, h .0))) in rw (e, findKey) (not-found n j r le (h .1))
+not-found P n j ε le h = refl
+not-found P n j (cell k l t r) le h = let e : eqb j k ≡ false = ne-eqb j k (λ q. absurd (omega (arith, h .0))) in rw (e, findKey) (not-found P n j r le (h .1 .1))
 
-no-field : (n j : ℕ) (t : Ty) → n ≤ j → NamesBelow n t → fieldOf t j ≡ none
+no-field : (P : ℕ → Type 0) (n j : ℕ) (t : Ty) → n ≤ j → Over (languageOf P n) t → fieldOf t j ≡ none
 unfolding fieldOf
-no-field n j (leaf l) le h = refl
-no-field n j (node Record r) le h = rw (not-found n j r le h, fieldOf)
-no-field n j (node Union r) le h = refl
-no-field n j (Var x) le h = refl
-no-field n j Error le h = refl
+no-field P n j (leaf l) le h = refl
+no-field P n j (node Record r) le h = rw (not-found P n j r le h, fieldOf)
+no-field P n j (node Union r) le h = refl
+no-field P n j (Var x) le h = refl
+no-field P n j Error le h = refl
 
 -- ---- Predicates
 typeAt-grown : (ts more : List Ty) (n : ℕ) → n < length ts → typeAt ts n ≡ typeAt (ts ++ more) n
@@ -124,26 +81,6 @@ get-grown : (ts more : List Ty) (ps new : List PredicateFrame) (p : ℕ) → p <
 get-grown ts more [] new p l h = absurd (not-suc-le-zero l)
 get-grown ts more (x ∷ ps) new zero l h = ap some (predicate-grown ts more x (h .0))
 get-grown ts more (x ∷ ps) new (suc p) l h = get-grown ts more ps new p (le-of-suc-le-suc l) (h .1)
-
-abbrev KeyIs : (Ty → Type 0) → Option Predicate → Type 0
-KeyIs Q none = Unit {0}
-KeyIs Q (some d) = Q (d .key)
-
-predicate-key : (Q : Ty → Type 0) → Q Error → (ts : List Ty) (ps : List PredicateFrame) (p : ℕ) → All Q ts → KeyIs Q (getElem? (map (predicateWith ts) ps) p)
-unfolding predicateWith predicateOf typeAt
-predicate-key Q e ts [] p h = tt
-predicate-key Q e ts (x ∷ ps) zero h = all-getD Q ts (x .key) Error h e
-predicate-key Q e ts (x ∷ ps) (suc p) h = predicate-key Q e ts ps p h
-
-predicate-facts : (P : ℕ → Type 0) (ts : List Ty) (ps : List PredicateFrame) (p : ℕ) → All (Facts P) ts → PredicateFacts P (getElem? (map (predicateWith ts) ps) p)
-unfolding predicateWith predicateOf typeAt valueTy
-predicate-facts P ts [] p h = tt
-predicate-facts P ts (x ∷ ps) zero h = (all-getD (Facts P) ts (x .key) Error h tt, value (x .value))
-  where
-    value : (o : Option ℕ) → OptionFacts P (valueTy ts o)
-    value none = tt
-    value (some n) = all-getD (Facts P) ts n Error h tt
-predicate-facts P ts (x ∷ ps) (suc p) h = predicate-facts P ts ps p h
 
 -- ---- The name `value`
 
@@ -169,31 +106,33 @@ position-later test (x ∷ a) b = go (test x) refl (position-later test a b)
     go true e h = rw (e, position) (kept (some 0))
     go false e h = rw (e, position) (later-more (length a) (position test a) (position test (a ++ b)) h)
 
-shadowing-later : (n : ℕ) (o : Option Predicate) (v v′ : Option ℕ) → KeyIs (NamesBelow n) o → Later n v v′ → shadowing o v ≡ shadowing o v′
+shadowing-later : (P : ℕ → Type 0) (n : ℕ) (o : Option Predicate) (v v′ : Option ℕ) → PredicateOver (languageOf P n) o → Later n v v′
+    → shadowing o v ≡ shadowing o v′
 unfolding shadowing isSome
-shadowing-later n o v v′ h (kept w) = refl
-shadowing-later n none v v′ h (added j l) = refl
-shadowing-later n (some d) v v′ h (added j l) = rw (no-field n j (d .key) l h)
+shadowing-later P n o v v′ h (kept w) = refl
+shadowing-later P n none v v′ h (added j l) = refl
+shadowing-later P n (some d) v v′ h (added j l) = rw (no-field P n j (d .key) l (h .0))
 
 -- ---- The whole
 
 -- What of a lawful content it rests on: references lead to what is there.
 pub record Refers (c : Content) : Type 0 where
   pub typeNames : All (λ t. Below (length (c .names)) (shapeNames t)) (c .types)
+  pub predicateNames : All (λ p. p .name < length (c .names)) (c .predicates)
   pub predicateTypes : All (λ p. Below (length (c .types)) (p .key ∷ optional (p .value))) (c .predicates)
   pub nodeNames : All (λ a. All (λ n. Below (length (c .names)) (exprNames (n .kind))) (a .nodes)) (c .queries)
 
 module _ (c : Content) (refers : Refers c) (present : NoAbsent c) (names : List (List ℕ)) (types : List TypeShape) (predicates : List PredicateFrame) where
-  abbrev old : Schema
-  old = describes c .schema
+  abbrev old : Form
+  old = describes c
 
-  abbrev new : Schema
-  new = describes (grow c names types predicates) .schema
+  abbrev new : Form
+  new = describes (grow c names types predicates)
 
   abbrev oldTypes : List Ty
   oldTypes = typesFrom [] (c .types)
 
-  get-same : (p : ℕ) → There c p → get old p ≡ get new p
+  get-same : (p : ℕ) → There c p → get (old .schema) p ≡ get (new .schema) p
   unfolding describes get
   get-same p h =
       let more = types-begin oldTypes types in
@@ -201,25 +140,19 @@ module _ (c : Content) (refers : Refers c) (present : NoAbsent c) (names : List 
       let n : length oldTypes ≡ length (c .types) = types-length [] (c .types) ∙ zero-add (length (c .types)) in
       rw e (get-grown oldTypes (more .0) (c .predicates) predicates p h (rw n (refers .predicateTypes)))
 
-  old-names : (p : ℕ) → KeyIs (NamesBelow (length (c .names))) (get old p)
-  unfolding describes get
-  old-names p =
-      let n = length (c .names) in
-      predicate-key (NamesBelow n) tt oldTypes (c .predicates) p (types-all (NamesBelow n) (λ s. Below n (shapeNames s)) (tyOf-names n) [] (c .types) tt (refers .typeNames))
+  old-over : (p : ℕ) → PredicateOver (spoken c) (get (old .schema) p)
+  old-over p = content-over (spoken c) c (present .types) (refers .typeNames) p
 
-  old-facts : (p : ℕ) → PredicateFacts (There c) (get old p)
-  unfolding describes get
-  old-facts p = predicate-facts (There c) oldTypes (c .predicates) p (types-all (Facts (There c)) (ShapeFacts (There c)) (tyOf-facts (There c)) [] (c .types) tt (present .types))
-
-  shadows-same : (ns : List Node) (p : ℕ) → There c p → keyShadowsValue old ns p ≡ keyShadowsValue new ns p
+  shadows-same : (ns : List Node) (p : ℕ) → There c p → keyShadowsValue (old .schema) ns p ≡ keyShadowsValue (new .schema) ns p
   unfolding describes
   shadows-same ns p h =
-      shadows-is old ns p
-      ∙ shadowing-later (length (c .names)) (get old p) (old .valueField) (new .valueField) (old-names p) (position-later (sameText valueText) (c .names) names)
-      ∙ ap (λ (o : Option Predicate). shadowing o (new .valueField)) (get-same p h)
-      ∙ sym (shadows-is new ns p)
+      shadows-is (old .schema) ns p
+      ∙ shadowing-later (There c) (length (c .names)) (get (old .schema) p) (old .schema .valueField) (new .schema .valueField) (old-over p)
+      (position-later (sameText valueText) (c .names) names)
+      ∙ ap (λ (o : Option Predicate). shadowing o (new .schema .valueField)) (get-same p h)
+      ∙ sym (shadows-is (new .schema) ns p)
 
-  asks : (e : ExprKind) → Below (length (c .names)) (exprNames e) → NodeFacts (There c) e → Asks (There c) old new e
+  asks : (e : ExprKind) → Below (length (c .names)) (exprNames e) → NodeFacts (There c) e → Asks (There c) (old .schema) (new .schema) e
   unfolding describes exprNames
   asks (ExprKind.Fuzzy x d) l h = count-at (c .names) x ∙ ap (λ s. countOf (characters s)) (sym (List·getD-append (c .names) names [] x (l .0))) ∙ sym (count-at (c .names ++ names) x)
   asks (ExprKind.Fact p e) l h = h
@@ -236,36 +169,62 @@ module _ (c : Content) (refers : Refers c) (present : NoAbsent c) (names : List 
   asks ExprKind.Error l h = tt
   asks (ExprKind.Select x e) l h = tt
 
-  all-ask : (ns : List Node) → All (λ n. Below (length (c .names)) (exprNames (n .kind))) ns → All (λ n. NodeFacts (There c) (n .kind)) ns → All (λ n. Asks (There c) old new (n .kind)) ns
+  all-ask : (ns : List Node) → All (λ n. Below (length (c .names)) (exprNames (n .kind))) ns → All (λ n. NodeFacts (There c) (n .kind)) ns
+      → All (λ n. Asks (There c) (old .schema) (new .schema) (n .kind)) ns
   all-ask [] l h = tt
   all-ask (n ∷ ns) l h = (asks (n .kind) (l .0) (h .0), all-ask ns (l .1) (h .1))
 
-  grown-same : (a : Ast) → All (λ n. Below (length (c .names)) (exprNames (n .kind))) (a .nodes) → All (λ n. NodeFacts (There c) (n .kind)) (a .nodes) → Same (There c) (a .nodes) old new
+  grown-same : (a : Ast) → All (λ n. Below (length (c .names)) (exprNames (n .kind))) (a .nodes) → All (λ n. NodeFacts (There c) (n .kind)) (a .nodes)
+      → Same (spoken c) (a .nodes) (old .schema) (new .schema)
   unfolding describes
   grown-same a below facts = record {
     maxDistance = refl;
     maxTermChars = refl;
     nodes = all-ask (a .nodes) below facts;
+    names = below;
     predicates = get-same;
     shadows = shadows-same (a .nodes);
-    closed = λ p h. rw (← get-same p h) (old-facts p);
+    closed = λ p h. rw (← get-same p h) (old-over p);
   }
 
   each-grown : (v : ℕ) (qs : List Ast) → All (λ a. All (λ n. Below (length (c .names)) (exprNames (n .kind))) (a .nodes)) qs → All (λ a. All (λ n. NodeFacts (There c) (n .kind)) (a .nodes)) qs
-      → map (λ (a : Ast). check v old a) qs ≡ map (λ (a : Ast). check v new a) qs
+      → map (λ (a : Ast). check v (old .schema) a) qs ≡ map (λ (a : Ast). check v (new .schema) a) qs
   each-grown v [] l h = refl
   each-grown v (a ∷ qs) l h =
-      let first = same-run (There c) old new a (grown-same a (l .0) (h .0)) v in
+      let first = same-run (spoken c) (old .schema) (new .schema) a (grown-same a (l .0) (h .0)) v in
       let more = each-grown v qs (l .1) (h .1) in
       cc
 
+  -- The same types, diagnostics and visits of every query, or it is stopped in both.
   pub grown-answers : (v : ℕ) → answers v c ≡ answers v (grow c names types predicates)
   grown-answers v = each-grown v (c .queries) (refers .nodeNames) (present .nodes)
+
+  -- ---- The messages are the same, and so are their texts.
+  each-over : (v : ℕ) (qs : List Ast) → All (λ a. All (λ n. Below (length (c .names)) (exprNames (n .kind))) (a .nodes)) qs → All (λ a. All (λ n. NodeFacts (There c) (n .kind)) (a .nodes)) qs
+      → All (λ a. CheckedOver (spoken c) (check v (new .schema) a)) qs
+  each-over v [] l h = tt
+  each-over v (a ∷ qs) l h = (told-over (spoken c) (old .schema) (new .schema) a (grown-same a (l .0) (h .0)) v, each-over v qs (l .1) (h .1))
+
+  pub grown-over : (v : ℕ) → All (λ a. CheckedOver (spoken c) (check v (new .schema) a)) (c .queries)
+  grown-over v = each-over v (c .queries) (refers .nodeNames) (present .nodes)
+
+  pub grown-texts : (m : Message) → MessageOver (spoken c) m → textIn old m ≡ textIn new m
+  unfolding describes
+  grown-texts m h = text-same (spoken c) (old .names) (new .names) (old .schema) (new .schema) (record {
+    maxDistance = refl;
+    maxTermChars = refl;
+    texts = λ x i. at-append (c .names) names x i;
+    facts = λ p i. fact-append (c .names) names (old .schema) (new .schema) p (get-same p i) (content-named c (refers .predicateNames) p);
+  }) m h
 
 names-below : (n : ℕ) (qs : List Ast) → All (LawfulQuery n) qs → All (λ a. All (λ m. Below n (exprNames (m .kind))) (a .nodes)) qs
 names-below n [] h = tt
 names-below n (a ∷ qs) h = (h .0 .nodeNames, names-below n qs (h .1))
 
--- The same types, codes, spans and visits of every query, or it is stopped in both.
-pub schema-growth : (c c′ : Content) → Lawful c → NoAbsent c → Grown c c′ → (v : ℕ) → answers v c ≡ answers v c′
-schema-growth c c′ l h g v = grown-answers c (record { typeNames = l .typeNames; predicateTypes = l .predicateTypes; nodeNames = names-below (length (c .names)) (c .queries) (l .queries) }) h (g .names) (g .types) (g .predicates) v ∙ ap (answers v) (sym (g .is))
+pub lawful-refers : (c : Content) → Lawful c → Refers c
+lawful-refers c l = record {
+  typeNames = l .typeNames;
+  predicateNames = l .predicateNames;
+  predicateTypes = l .predicateTypes;
+  nodeNames = names-below (length (c .names)) (c .queries) (l .queries);
+}

@@ -12,10 +12,12 @@ use Rattle.meaning.specs.Conditions.{sameText}
 use Rattle.meaning.specs.File.{countOf, valueText}
 use Rattle.meaning.specs.Content.{Content, describes}
 use Rattle.meaning.specs.Check.{Checked, check}
+use Rattle.laws.specs.Over.{everything}
 use Rattle.laws.specs.Same.{Asks, Same}
 use Rattle.laws.specs.Names.{withNames, TermKept, Renamed}
 use Rattle.laws.proofs.Shadows.{shadowing, shadows-is}
-use Rattle.laws.proofs.Run.{every-predicate, same-run}
+use Rattle.laws.proofs.Over.{predicate-everything, names-everything}
+use Rattle.laws.proofs.Run.{same-run}
 
 -- How many characters each name has; one that is missing has none.
 pub count-at : (names : List (List ℕ)) (x : ℕ) → getD (map (λ s. countOf (characters s)) names) x 0 ≡ countOf (characters (getD names x []))
@@ -27,7 +29,7 @@ abbrev pub answers : ℕ → Content → List Checked
 answers v c = map (λ (a : Ast). check v (describes c .schema) a) (c .queries)
 
 module _ (c : Content) (names : List (List ℕ)) where
-  asks : (e : ExprKind) → TermKept (c .names) names e → Asks (λ p. Unit {0}) (describes c .schema) (describes (withNames c names) .schema) e
+  asks : (e : ExprKind) → TermKept (c .names) names e → Asks (everything .predicate) (describes c .schema) (describes (withNames c names) .schema) e
   unfolding describes
   asks (ExprKind.Fuzzy x d) h = count-at (c .names) x ∙ ap countOf h ∙ sym (count-at names x)
   asks (ExprKind.Fact p e) h = tt
@@ -44,30 +46,31 @@ module _ (c : Content) (names : List (List ℕ)) where
   asks ExprKind.Error h = tt
   asks (ExprKind.Select x e) h = tt
 
-  all-ask : (ns : List Node) → All (λ n. TermKept (c .names) names (n .kind)) ns → All (λ n. Asks (λ p. Unit {0}) (describes c .schema) (describes (withNames c names) .schema) (n .kind)) ns
+  all-ask : (ns : List Node) → All (λ n. TermKept (c .names) names (n .kind)) ns → All (λ n. Asks (everything .predicate) (describes c .schema) (describes (withNames c names) .schema) (n .kind)) ns
   all-ask [] h = tt
   all-ask (n ∷ ns) h = (asks (n .kind) (h .0), all-ask ns (h .1))
 
   renamed-same : position (sameText valueText) (c .names) ≡ position (sameText valueText) names → (ns : List Node) → All (λ n. TermKept (c .names) names (n .kind)) ns
-      → Same (λ p. Unit {0}) ns (describes c .schema) (describes (withNames c names) .schema)
+      → Same everything ns (describes c .schema) (describes (withNames c names) .schema)
   unfolding describes get
   renamed-same value ns terms = record {
     maxDistance = refl;
     maxTermChars = refl;
     nodes = all-ask ns terms;
+    names = names-everything ns;
     predicates = λ p h. refl;
     shadows = λ p h. shadows-is (describes c .schema) ns p ∙ ap (shadowing (get (describes c .schema) p)) value ∙ sym (shadows-is (describes (withNames c names) .schema) ns p);
-    closed = λ p h. every-predicate (get (describes (withNames c names) .schema) p);
+    closed = λ p h. predicate-everything (get (describes (withNames c names) .schema) p);
   }
 
   renamed-answers : position (sameText valueText) (c .names) ≡ position (sameText valueText) names → (v : ℕ) (qs : List Ast) → All (λ a. All (λ n. TermKept (c .names) names (n .kind)) (a .nodes)) qs
       → map (λ (a : Ast). check v (describes c .schema) a) qs ≡ map (λ (a : Ast). check v (describes (withNames c names) .schema) a) qs
   renamed-answers value v [] terms = refl
   renamed-answers value v (a ∷ qs) terms =
-      let first = same-run (λ p. Unit {0}) (describes c .schema) (describes (withNames c names) .schema) a (renamed-same value (a .nodes) (terms .0)) v in
+      let first = same-run everything (describes c .schema) (describes (withNames c names) .schema) a (renamed-same value (a .nodes) (terms .0)) v in
       let more = renamed-answers value v qs (terms .1) in
       cc
 
--- The same types, codes, spans and visits of every query, or it is stopped in both.
+-- The same types, diagnostics (in numbers and types) and visits of every query, or it is stopped in both.
 pub names-private : (c c′ : Content) → Renamed c c′ → (v : ℕ) → answers v c ≡ answers v c′
 names-private c c′ h v = renamed-answers c (c′ .names) (h .value) v (c .queries) (h .terms) ∙ ap (answers v) (sym (h .only-names))

@@ -4,7 +4,7 @@ use mathlib.Core.Option.{none, some}
 use Prim.Native.Nat.{ℕ}
 use Rattle.unification.specs.Ty.{Leaf}
 use Rattle.meaning.specs.Syntax.{QueryStmt, FieldRef, Literal, ExprKind, Node, Ast}
-use Rattle.meaning.specs.Diag.{Code}
+use Rattle.meaning.specs.Diag.{Code, Message, codeOf}
 use Rattle.meaning.specs.Frame.{aLeaf, aRecord}
 use Rattle.meaning.specs.Check.{Checked, typed, exhausted}
 use Rattle.meaning.specs.Content.{Content}
@@ -15,7 +15,7 @@ shape k = record { span = record { start = 0; end = 0 }; kind = k }
 
 -- The codes of each query's answer.
 abbrev pub codesOf : Checked → List Code
-codesOf (typed t) = map (λ d. d .code) (t .diagnostics)
+codesOf (typed t) = map (λ d. codeOf (d .message)) (t .diagnostics)
 codesOf exhausted = []
 
 abbrev pub allCodes : List Checked → List (List Code)
@@ -76,3 +76,41 @@ asking p = record {
 -- The same with the name `value`, a record with such a field, and a predicate keyed by it.
 abbrev pub asking-grown : ℕ → Content
 asking-grown p = grow (asking p) (value ∷ []) (aRecord (record { name = 2; value = 0 } ∷ []) ∷ []) (record { name = 2; key = 2; value = none } ∷ [])
+
+-- ---- Messages with names
+
+-- A fact of predicate p against a number, and a field of it that there is not.
+abbrev pub told : ℕ → Ast
+told p = record {
+  nodes =
+      shape ExprKind.Wildcard ∷ shape (ExprKind.Fact p 0) ∷ shape (ExprKind.Lit Literal.Int) ∷ shape ExprKind.Wildcard ∷ shape (ExprKind.Fact p 3)
+      ∷ shape (ExprKind.Access (FieldRef.Key 0) 4) ∷ [];
+  query = record { head = 5; body = QueryStmt.Compare 1 2 ∷ [] };
+}
+
+abbrev pub telling : List (List ℕ) → ℕ → Content
+telling names p = record {
+  maxDistance = 2;
+  maxTermChars = 32;
+  names = names;
+  types = aLeaf Leaf.Int ∷ aRecord (record { name = 1; value = 0 } ∷ []) ∷ [];
+  predicates = record { name = 0; key = 1; value = none } ∷ [];
+  queries = told p ∷ [];
+}
+
+abbrev pub before : ℕ → Content
+before p = telling (ab ∷ short ∷ []) p
+
+abbrev pub grown : ℕ → Content
+grown p = grow (before p) (value ∷ []) (aRecord (record { name = 2; value = 0 } ∷ []) ∷ []) (record { name = 2; key = 2; value = none } ∷ [])
+
+abbrev pub blackened : ℕ → Content
+blackened p = telling (accented ∷ short ∷ []) p
+
+-- The texts of each query's messages.
+abbrev pub messagesOf : (Message → List ℕ) → Checked → List (List ℕ)
+messagesOf text (typed t) = map (λ d. text (d .message)) (t .diagnostics)
+messagesOf text exhausted = []
+
+abbrev pub allTexts : (Message → List ℕ) → List Checked → List (List (List ℕ))
+allTexts text l = map (messagesOf text) l

@@ -8,7 +8,7 @@ use Rattle.meaning.specs.All.{All}
 use Rattle.meaning.specs.Syntax.{ExprKind}
 use Rattle.meaning.specs.Frame.{TypeShape, aLeaf, aRecord, aUnion}
 use Rattle.meaning.specs.Content.{PredicateFrame, Content}
-use Rattle.laws.specs.Facts.{LeafFacts}
+use Rattle.laws.specs.Over.{Language, languageOf, LeafFacts}
 
 abbrev pub grow : Content → List (List ℕ) → List TypeShape → List PredicateFrame → Content
 grow c names types predicates =
@@ -44,6 +44,10 @@ NodeFacts P (ExprKind.Select x e) = Unit {0}
 -- The predicates that there are.
 abbrev pub There : Content → ℕ → Type 0
 There c p = p < length (c .predicates)
+
+-- What there is to speak of.
+abbrev pub spoken : Content → Language
+spoken c = languageOf (There c) (length (c .names))
 
 pub record NoAbsent (c : Content) : Type 0 where
   pub types : All (ShapeFacts (There c)) (c .types)

@@ -144,7 +144,7 @@ module _ {f : List ℕ} {at : ℕ} {w₀ w : List ℕ} {i n : ℕ} (m : Loading 
       unfolding counted Its
       reloaded = reloads-set (reloads-set (m .words) QUERY (i * 1024 + size) (λ i l p q s. q s, omega arith)) NODE-COUNT n (λ i l p q s. p s, omega arith)
 
-      stood : (T : Rows) (d : Described) (qs : List Ast) → Sound d → minWords ≤ length w₀ → SchemaStands w₀ T (d .schema) → Ahead f at (d .ast ∷ qs) → Stands f counted T d
+      stood : (T : Rows) (d : Described) (qs : List Ast) → Sound d → minWords ≤ length w₀ → SchemaStands f w₀ T (d .names) (d .schema) → Ahead f at (d .ast ∷ qs) → Stands f counted T d
       unfolding minWords maxNames maxPredicates maxNodes counted kindByte frameKind
       stood T d qs s l S a =
           let x = m .is d qs s l a in

@@ -36,5 +36,5 @@ pub record Loads (f : List ℕ) (at : ℕ) (w w′ : List ℕ) (next : ℕ) : Ty
   pub words : Reloads w w′
   pub onward : at < length f → at < next
   pub within : next ≤ length f
-  pub stands : (T : Rows) (d : Described) (qs : List Ast) → Sound d → minWords ≤ length w → SchemaStands w T (d .schema) → Ahead f at (d .ast ∷ qs) → Stands f w′ T d
+  pub stands : (T : Rows) (d : Described) (qs : List Ast) → Sound d → minWords ≤ length w → SchemaStands f w T (d .names) (d .schema) → Ahead f at (d .ast ∷ qs) → Stands f w′ T d
   pub ahead : (d : Described) (qs : List Ast) → Sound d → minWords ≤ length w → Ahead f at (d .ast ∷ qs) → Ahead f next qs

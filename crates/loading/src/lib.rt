@@ -2,6 +2,8 @@
 ghost use Rattle.loading.specs.Contracts.{Loads};
 use frames::Decoded;
 use reading::Counters;
+use work::line_word;
+use work::node_word;
 use work::put;
 use work::wide;
 
@@ -25,13 +27,13 @@ pub fn load(file: &[u8], at: usize, w: &mut [u32]) -> usize
             Decoded::Bytes(n, next) => {
                 let kind = frames::kind_of(line[0]);
                 if kind == 5 {
-                    put(w, work::QUERY, (i * 1024 + n) as u32);
+                    put(w, work::QUERY, line_word(i, n));
                     put(w, work::NODE_COUNT, nodes);
                     return next;
                 }
                 if kind == 4 {
                     if nodes < Counters::NODES {
-                        put(w, work::NODES + wide(nodes), ((i * 1024 + n) * 2) as u32);
+                        put(w, work::NODES + wide(nodes), node_word(i, n));
                         nodes += 1;
                     }
                 }

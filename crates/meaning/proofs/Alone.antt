@@ -16,6 +16,8 @@ use Rattle.meaning.specs.Conditions.{maxQueries}
 use Rattle.meaning.specs.File.{Form, described, reading, maxFile}
 use Rattle.meaning.specs.All.{All, Any, Each}
 use Rattle.meaning.specs.Check.{Typed, check}
+use Rattle.meaning.specs.Diag.{Message}
+use Rattle.meaning.specs.Messages.{textIn}
 use Rattle.meaning.specs.Answer.{bytes₂, hexLine, answerLines, numbered, formLines}
 use Rattle.meaning.specs.Writing.{fileOf, written, Writable}
 use Rattle.meaning.specs.Content.{Content, queryFrames, schemaFrames, framesOf, Lawful, describes, Says}
@@ -107,20 +109,23 @@ module _ (c : Content) (words : ℕ) (enough : ltb words minWords ≡ false) whe
   schema : Schema
   schema = describes c .schema
 
+  text : Message → List ℕ
+  text = textIn (describes c)
+
   -- the file alone is decided by its query's run
-  one-decided : (a : Ast) → reading (fileAlone c a) ≡ described (describes (alone c a)) → decide (fileAlone c a) words ≡ decideRun (withChecked (check maxVisits schema a) (some []))
-  unfolding decide schema describes alone runAll
+  one-decided : (a : Ast) → reading (fileAlone c a) ≡ described (describes (alone c a)) → decide (fileAlone c a) words ≡ decideRun text (withChecked (check maxVisits schema a) (some []))
+  unfolding decide schema text describes alone runAll
   one-decided a p = rw (enough, decide, p)
 
-  one-answered : (a : Ast) (t : Typed) → reading (fileAlone c a) ≡ described (describes (alone c a)) → Ran schema a t → decide (fileAlone c a) words ≡ answered (answerLines t)
+  one-answered : (a : Ast) (t : Typed) → reading (fileAlone c a) ≡ described (describes (alone c a)) → Ran schema a t → decide (fileAlone c a) words ≡ answered (answerLines text t)
   unfolding withChecked decideRun formLines
-  one-answered a t p q = one-decided a p ∙ ap (λ x. decideRun (withChecked x (some []))) q
+  one-answered a t p q = one-decided a p ∙ ap (λ x. decideRun text (withChecked x (some []))) q
 
   one-ran-out : (a : Ast) → reading (fileAlone c a) ≡ described (describes (alone c a)) → RanOut schema a → decide (fileAlone c a) words ≡ turnedDown tooManyVisits
   unfolding withChecked decideRun
-  one-ran-out a p q = one-decided a p ∙ ap (λ x. decideRun (withChecked x (some []))) q
+  one-ran-out a p q = one-decided a p ∙ ap (λ x. decideRun text (withChecked x (some []))) q
 
-  each-answered : (qs : List Ast) (ts : List Typed) → All (λ a. reading (fileAlone c a) ≡ described (describes (alone c a))) qs → Each (Ran schema) qs ts → Each (λ a l. decide (fileAlone c a) words ≡ answered l) qs (map answerLines ts)
+  each-answered : (qs : List Ast) (ts : List Typed) → All (λ a. reading (fileAlone c a) ≡ described (describes (alone c a))) qs → Each (Ran schema) qs ts → Each (λ a l. decide (fileAlone c a) words ≡ answered l) qs (map (answerLines text) ts)
   each-answered [] [] p e = tt
   each-answered [] (t ∷ ts) p e = e
   each-answered (a ∷ qs) [] p e = e
@@ -141,18 +146,19 @@ not-both R (q ∷ qs) [] e a = e
 not-both R (q ∷ qs) (l ∷ ls) e (inl x) = clashing (sym (e .0) ∙ x)
 not-both R (q ∷ qs) (l ∷ ls) e (inr a) = not-both R qs ls (e .1) a
 
-numbered-joined : (k : ℕ) (ts : List Typed) → numbered k ts ≡ joined k (map answerLines ts)
-unfolding numbered joined
-numbered-joined k [] = refl
-numbered-joined k (t ∷ ts) = ap (λ s. hexLine (0x0b ∷ bytes₂ k) ++ (answerLines t ++ s)) (numbered-joined (suc k) ts)
+module _ (text : Message → List ℕ) where
+  numbered-joined : (k : ℕ) (ts : List Typed) → numbered text k ts ≡ joined k (map (answerLines text) ts)
+  unfolding numbered joined
+  numbered-joined k [] = refl
+  numbered-joined k (t ∷ ts) = ap (λ s. hexLine (0x0b ∷ bytes₂ k) ++ (answerLines text t ++ s)) (numbered-joined (suc k) ts)
 
-form-joined : (schema : Schema) (qs : List Ast) (ts : List Typed) → 2 ≤ length qs → Each (Ran schema) qs ts → formLines ts ≡ joined 0 (map answerLines ts)
-unfolding formLines
-form-joined schema [] ts h e = absurd (omega arith)
-form-joined schema (a ∷ []) ts h e = absurd (omega arith)
-form-joined schema (a ∷ b ∷ qs) [] h e = absurd e
-form-joined schema (a ∷ b ∷ qs) (t ∷ []) h e = absurd (e .1)
-form-joined schema (a ∷ b ∷ qs) (t ∷ u ∷ ts) h e = numbered-joined 0 (t ∷ u ∷ ts)
+  form-joined : (schema : Schema) (qs : List Ast) (ts : List Typed) → 2 ≤ length qs → Each (Ran schema) qs ts → formLines text ts ≡ joined 0 (map (answerLines text) ts)
+  unfolding formLines
+  form-joined schema [] ts h e = absurd (omega arith)
+  form-joined schema (a ∷ []) ts h e = absurd (omega arith)
+  form-joined schema (a ∷ b ∷ qs) [] h e = absurd e
+  form-joined schema (a ∷ b ∷ qs) (t ∷ []) h e = absurd (e .1)
+  form-joined schema (a ∷ b ∷ qs) (t ∷ u ∷ ts) h e = numbered-joined 0 (t ∷ u ∷ ts)
 
 -- ---- The theorems, of a lawful content and the file that it is written as
 
@@ -160,7 +166,7 @@ module _ (c : Content) (lawful : Lawful c) (size : length (fileOf (framesOf c)) 
   is-read : reading (fileOf (framesOf c)) ≡ described (describes c)
   is-read = says-exactly (fileOf (framesOf c)) (describes c) .1 (record { content = c; is = refl; size = size; lawful = lawful; tree = refl })
 
-  is-decided : ltb words minWords ≡ false → decide (fileOf (framesOf c)) words ≡ decideRun (runAll (describes c .schema) (c .queries))
+  is-decided : ltb words minWords ≡ false → decide (fileOf (framesOf c)) words ≡ decideRun (textIn (describes c)) (runAll (describes c .schema) (c .queries))
   unfolding decide decideRead describes
   is-decided q = rw (q, decide) (ap decideRead is-read)
 
@@ -170,25 +176,25 @@ module _ (c : Content) (lawful : Lawful c) (size : length (fileOf (framesOf c)) 
 
   -- "the lines after it equal the answer of a file with that query alone"
   pub apart : (whole : List ℕ) → 2 ≤ length (c .queries) → decide (fileOf (framesOf c)) words ≡ answered whole → Apart c words whole
-  unfolding decideRun schema
+  unfolding decideRun schema text
   apart whole h e = go (runs (describes c .schema) (c .queries)) (sym (is-decided enough) ∙ e)
     where
       enough : ltb words minWords ≡ false
       enough = lent (answered whole) e clashing
 
-      go : {o : Option (List Typed)} → Runs (describes c .schema) (c .queries) o → decideRun o ≡ answered whole → Apart c words whole
+      go : {o : Option (List Typed)} → Runs (describes c .schema) (c .queries) o → decideRun (textIn (describes c)) o ≡ answered whole → Apart c words whole
       go (one-out x) q = absurd (clashing (sym q))
       go (all-ran ts x) q =
-          let same : whole ≡ formLines ts = cc in
+          let same : whole ≡ formLines (textIn (describes c)) ts = cc in
           record {
-            answers = map answerLines ts;
+            answers = map (answerLines (textIn (describes c))) ts;
             each = each-answered c words enough (c .queries) ts (alone-passes c lawful size) x;
-            is = same ∙ form-joined (describes c .schema) (c .queries) ts h x;
+            is = same ∙ form-joined (textIn (describes c)) (describes c .schema) (c .queries) ts h x;
           }
 
   -- 11 exactly where one of the files alone gets 11
   pub ran-out : (decide (fileOf (framesOf c)) words ≡ turnedDown tooManyVisits) ↔ Any (λ a. decide (fileAlone c a) words ≡ turnedDown tooManyVisits) (c .queries)
-  unfolding decide decideRun schema
+  unfolding decide decideRun schema text
   ran-out = (λ e. forth e, λ a. back a)
     where
       not-short : turnedDown tooManyVisits ≢ turnedDown workTooShort
@@ -197,7 +203,7 @@ module _ (c : Content) (lawful : Lawful c) (size : length (fileOf (framesOf c)) 
       forth : decide (fileOf (framesOf c)) words ≡ turnedDown tooManyVisits → Any (λ a. decide (fileAlone c a) words ≡ turnedDown tooManyVisits) (c .queries)
       forth e = go (lent _ e not-short) (runs (describes c .schema) (c .queries)) (sym (is-decided (lent _ e not-short)) ∙ e)
         where
-          go : ltb words minWords ≡ false → {o : Option (List Typed)} → Runs (describes c .schema) (c .queries) o → decideRun o ≡ turnedDown tooManyVisits → Any (λ a. decide (fileAlone c a) words ≡ turnedDown tooManyVisits) (c .queries)
+          go : ltb words minWords ≡ false → {o : Option (List Typed)} → Runs (describes c .schema) (c .queries) o → decideRun (textIn (describes c)) o ≡ turnedDown tooManyVisits → Any (λ a. decide (fileAlone c a) words ≡ turnedDown tooManyVisits) (c .queries)
           go n (one-out x) q = any-ran-out c words n (c .queries) (alone-passes c lawful size) x
           go n (all-ran ts x) q = absurd (clashing q)
 
@@ -212,6 +218,6 @@ module _ (c : Content) (lawful : Lawful c) (size : length (fileOf (framesOf c)) 
           short-all q (b ∷ qs) (inl x) = not-short (sym x ∙ short-one q (fileAlone c b))
           short-all q (b ∷ qs) (inr x) = short-all q qs x
 
-          go : ltb words minWords ≡ false → {o : Option (List Typed)} → Runs (describes c .schema) (c .queries) o → decideRun o ≡ turnedDown tooManyVisits
+          go : ltb words minWords ≡ false → {o : Option (List Typed)} → Runs (describes c .schema) (c .queries) o → decideRun (textIn (describes c)) o ≡ turnedDown tooManyVisits
           go n (one-out x) = refl
-          go n (all-ran ts x) = absurd (not-both (λ b. decide (fileAlone c b) words) (c .queries) (map answerLines ts) (each-answered c words n (c .queries) ts (alone-passes c lawful size) x) a)
+          go n (all-ran ts x) = absurd (not-both (λ b. decide (fileAlone c b) words) (c .queries) (map (answerLines (textIn (describes c))) ts) (each-answered c words n (c .queries) ts (alone-passes c lawful size) x) a)

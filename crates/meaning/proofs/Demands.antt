@@ -16,6 +16,7 @@ use Rattle.meaning.specs.File.{Form, viewOf, Reading, refused, described
 use Rattle.meaning.specs.Sound.{Sound}
 use Rattle.meaning.specs.Check.{Typed}
 use Rattle.meaning.specs.Answer.{formLines}
+use Rattle.meaning.specs.Messages.{textIn}
 use Rattle.meaning.specs.Outcome.{Decided, turnedDown, answered, Outcome, Accepted, Refused, minWords, maxVisits, runAll, decideRun, decideRead, decide, refuse, accept, finish, outcome}
 use Rattle.meaning.specs.Demands.{RefusedWhen, for-work, for-file, for-visits, for-answer, AcceptedWhen, Demand1, Demand2}
 use Rattle.meaning.specs.Run.{RunDemand3, RunAsRobinson}
@@ -42,7 +43,7 @@ module _ (file : List ℕ) (words : ℕ) where
     short : words < minWords → Decides (turnedDown workTooShort)
     unread : {i : Refusal} → minWords ≤ words → Lines.Refused file i → Decides (turnedDown i)
     spent : (f : Form) → minWords ≤ words → reading file ≡ described f → Any (RanOut (f .schema)) (f .queries) → Decides (turnedDown tooManyVisits)
-    answers : (f : Form) (ts : List Typed) → minWords ≤ words → reading file ≡ described f → Each (Ran (f .schema)) (f .queries) ts → Decides (answered (formLines ts))
+    answers : (f : Form) (ts : List Typed) → minWords ≤ words → reading file ≡ described f → Each (Ran (f .schema)) (f .queries) ts → Decides (answered (formLines (textIn f) ts))
 
   pub short-decides : words < minWords → decide file words ≡ turnedDown workTooShort
   unfolding decide
@@ -56,9 +57,9 @@ module _ (file : List ℕ) (words : ℕ) where
   unfolding decideRead
   unread-decides i h r = enough-decides h ∙ ap decideRead (refused-when file i .1 r)
 
-  pub reads-decides : (f : Form) (x : Option (List Typed)) → minWords ≤ words → reading file ≡ described f → runAll (f .schema) (f .queries) ≡ x → decide file words ≡ decideRun x
+  pub reads-decides : (f : Form) (x : Option (List Typed)) → minWords ≤ words → reading file ≡ described f → runAll (f .schema) (f .queries) ≡ x → decide file words ≡ decideRun (textIn f) x
   unfolding decideRead
-  reads-decides f x h s e = enough-decides h ∙ ap decideRead s ∙ ap decideRun e
+  reads-decides f x h s e = enough-decides h ∙ ap decideRead s ∙ ap (decideRun (textIn f)) e
 
   decides : Decides (decide file words)
   unfolding decideRun
@@ -92,7 +93,7 @@ module _ (file : List ℕ) (words : ℕ) where
     -- The two ways of a call.
     data Ends : Outcome → Type 0 where
       refused-so : (i : Refusal) → RefusedWhen file words bytes i → Ends (refuse i words bytes)
-      accepted-so : (f : Form) (ts : List Typed) → AcceptedWhen file words bytes f ts → Ends (accept (formLines ts) words bytes)
+      accepted-so : (f : Form) (ts : List Typed) → AcceptedWhen file words bytes f ts → Ends (accept (formLines (textIn f) ts) words bytes)
 
     ends : Ends (outcome file words bytes)
     ends = go decides refl
@@ -101,20 +102,20 @@ module _ (file : List ℕ) (words : ℕ) where
         go (short h) e = subst Ends (sym (down _ e)) (refused-so _ (for-work h))
         go (unread h r) e = subst Ends (sym (down _ e)) (refused-so _ (for-file h r))
         go (spent d h s c) e = subst Ends (sym (down _ e)) (refused-so _ (for-visits d h s c))
-        go (answers d t h s c) e = cases (ltb bytes (length (formLines t)))
-            (λ b. let l = ltb-true bytes (length (formLines t)) b in subst Ends (sym (over _ e l)) (refused-so _ (for-answer d t h s c l)))
-            (λ b. let l = ltb-false bytes (length (formLines t)) b in subst Ends (sym (fitting _ e l)) (accepted-so d t (record { enough = h; reads = s; checks = c; fits = l })))
+        go (answers d t h s c) e = cases (ltb bytes (length (formLines (textIn d) t)))
+            (λ b. let l = ltb-true bytes (length (formLines (textIn d) t)) b in subst Ends (sym (over _ e l)) (refused-so _ (for-answer d t h s c l)))
+            (λ b. let l = ltb-false bytes (length (formLines (textIn d) t)) b in subst Ends (sym (fitting _ e l)) (accepted-so d t (record { enough = h; reads = s; checks = c; fits = l })))
 
     refuses : (i : Refusal) → RefusedWhen file words bytes i → outcome file words bytes ≡ refuse i words bytes
     unfolding decideRun
     refuses i (for-work h) = down i (short-decides h)
     refuses i (for-file h r) = down i (unread-decides i h r)
     refuses i (for-visits d h s c) = down i (reads-decides d none h s (any-out (d .schema) (d .queries) c))
-    refuses i (for-answer d t h s c l) = over (formLines t) (reads-decides d (some t) h s (each-ran (d .schema) (d .queries) t c)) l
+    refuses i (for-answer d t h s c l) = over (formLines (textIn d) t) (reads-decides d (some t) h s (each-ran (d .schema) (d .queries) t c)) l
 
-    accepts : (d : Form) (t : List Typed) → AcceptedWhen file words bytes d t → outcome file words bytes ≡ accept (formLines t) words bytes
+    accepts : (d : Form) (t : List Typed) → AcceptedWhen file words bytes d t → outcome file words bytes ≡ accept (formLines (textIn d) t) words bytes
     unfolding decideRun
-    accepts d t a = fitting (formLines t) (reads-decides d (some t) (a .enough) (a .reads) (each-ran (d .schema) (d .queries) t (a .checks))) (a .fits)
+    accepts d t a = fitting (formLines (textIn d) t) (reads-decides d (some t) (a .enough) (a .reads) (each-ran (d .schema) (d .queries) t (a .checks))) (a .fits)
 
     -- Every call is accepted or refused for one of the thirteen reasons, each exactly under its condition; zeros as document 01 has them.
     pub demand-1 : Demand1 file words bytes
@@ -154,7 +155,7 @@ module _ (file : List ℕ) (words : ℕ) where
     unfolding accept
     demand-2 e =
         let a = demand-1 .accepted-exactly .0 e in
-        record { f = a .0; ts = a .1; when = a .2; answer = ap Outcome.answer (accepts (a .0) (a .1) (a .2)); nonzero = form-nonzero (a .1); texts = texts-counted file (a .0) (a .2 .reads); robinson = all-robinson file (a .0) (a .2 .reads) }
+        record { f = a .0; ts = a .1; when = a .2; answer = ap Outcome.answer (accepts (a .0) (a .1) (a .2)); nonzero = form-nonzero (textIn (a .0)) (a .1); texts = texts-counted file (a .0) (a .2 .reads); robinson = all-robinson file (a .0) (a .2 .reads) }
 
 -- The run on each query that a file describes is a list of demand 3's calls, and the claim holds of it.
 pub demand-3 : (file : List ℕ) (f : Form) → reading file ≡ described f → All (λ a. RunDemand3 (f .schema) a maxVisits) (f .queries)

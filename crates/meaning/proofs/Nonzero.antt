@@ -9,9 +9,9 @@ use native.Mathlib.Omega.{arith}
 use lib.Dec.{ltb}
 use Rattle.unification.specs.Ty.{Ty}
 use Rattle.meaning.specs.All.{All}
-use Rattle.meaning.specs.Diag.{Diagnostic}
+use Rattle.meaning.specs.Diag.{Message, Diagnostic}
 use Rattle.meaning.specs.Check.{Typed}
-use Rattle.meaning.specs.Answer.{bytes₂, hexDigit, hexLine, slotBytes, nodeLines, diagnosticBytes, diagnosticLines, answerLines, numbered, formLines}
+use Rattle.meaning.specs.Answer.{diagnosticLine, bytes₂, hexDigit, hexLine, slotBytes, nodeLines, diagnosticBytes, diagnosticLines, answerLines, numbered, formLines}
 use Rattle.meaning.proofs.Lists.{all-append}
 use Rattle.meaning.proofs.Tests.{cases}
 
@@ -35,24 +35,30 @@ unfolding nodeLines
 nodes-nonzero n [] = tt
 nodes-nonzero n (slot ∷ slots) = join (hexLine (7 ∷ bytes₂ n ++ slotBytes slot)) (nodeLines (suc n) slots) (line-nonzero (7 ∷ bytes₂ n ++ slotBytes slot)) (nodes-nonzero (suc n) slots)
 
-diagnostics-nonzero : (ds : List Diagnostic) → Nonzero (diagnosticLines ds)
-unfolding diagnosticLines
-diagnostics-nonzero [] = tt
-diagnostics-nonzero (d ∷ ds) = join (hexLine (diagnosticBytes d)) (diagnosticLines ds) (line-nonzero (diagnosticBytes d)) (diagnostics-nonzero ds)
+module _ (text : Message → List ℕ) where
+  diagnostic-nonzero : (d : Diagnostic) → Nonzero (diagnosticLine text d)
+  unfolding diagnosticLine
+  diagnostic-nonzero d =
+      join (hexLine (diagnosticBytes d)) (hexLine (0x0a ∷ text (d .message))) (line-nonzero (diagnosticBytes d)) (line-nonzero (0x0a ∷ text (d .message)))
 
-answer-nonzero : (t : Typed) → Nonzero (answerLines t)
-unfolding answerLines
-answer-nonzero t = join (nodeLines 0 (t .tys)) (diagnosticLines (t .diagnostics)) (nodes-nonzero 0 (t .tys)) (diagnostics-nonzero (t .diagnostics))
+  diagnostics-nonzero : (ds : List Diagnostic) → Nonzero (diagnosticLines text ds)
+  unfolding diagnosticLines
+  diagnostics-nonzero [] = tt
+  diagnostics-nonzero (d ∷ ds) = join (diagnosticLine text d) (diagnosticLines text ds) (diagnostic-nonzero d) (diagnostics-nonzero ds)
 
-numbered-nonzero : (k : ℕ) (ts : List Typed) → Nonzero (numbered k ts)
-unfolding numbered
-numbered-nonzero k [] = tt
-numbered-nonzero k (t ∷ ts) =
-    join (hexLine (0x0b ∷ bytes₂ k)) (answerLines t ++ numbered (suc k) ts) (line-nonzero (0x0b ∷ bytes₂ k))
-    (join (answerLines t) (numbered (suc k) ts) (answer-nonzero t) (numbered-nonzero (suc k) ts))
+  answer-nonzero : (t : Typed) → Nonzero (answerLines text t)
+  unfolding answerLines
+  answer-nonzero t = join (nodeLines 0 (t .tys)) (diagnosticLines text (t .diagnostics)) (nodes-nonzero 0 (t .tys)) (diagnostics-nonzero (t .diagnostics))
 
-pub form-nonzero : (ts : List Typed) → All (λ b. 0 < b) (formLines ts)
-unfolding formLines
-form-nonzero [] = tt
-form-nonzero (t ∷ []) = answer-nonzero t
-form-nonzero (t ∷ u ∷ ts) = numbered-nonzero 0 (t ∷ u ∷ ts)
+  numbered-nonzero : (k : ℕ) (ts : List Typed) → Nonzero (numbered text k ts)
+  unfolding numbered
+  numbered-nonzero k [] = tt
+  numbered-nonzero k (t ∷ ts) =
+      join (hexLine (0x0b ∷ bytes₂ k)) (answerLines text t ++ numbered text (suc k) ts) (line-nonzero (0x0b ∷ bytes₂ k))
+      (join (answerLines text t) (numbered text (suc k) ts) (answer-nonzero t) (numbered-nonzero (suc k) ts))
+
+  pub form-nonzero : (ts : List Typed) → All (λ b. 0 < b) (formLines text ts)
+  unfolding formLines
+  form-nonzero [] = tt
+  form-nonzero (t ∷ []) = answer-nonzero t
+  form-nonzero (t ∷ u ∷ ts) = numbered-nonzero 0 (t ∷ u ∷ ts)

@@ -17,6 +17,7 @@ use Rattle.meaning.specs.SoFar.{Said, malformed, unknownKind, noFrame, f
 use Rattle.meaning.specs.Conditions.{isMisplaced, isLastQueryPast, isQueryTooMany, maxQueries, Condition, conditions, firstOf}
 use Rattle.meaning.specs.File.{schemaOf, describe, Reading, refused, described, atEnd, readFrom, isTooLong, reading}
 use Rattle.meaning.specs.Check.{Checked, typed, exhausted, check}
+use Rattle.meaning.specs.Messages.{messageText}
 use Rattle.meaning.specs.Answer.{formLines}
 use Rattle.meaning.specs.Outcome.{Decided, withChecked, runAll, decideRun, decideRead, decide, finish, outcome, minWords, maxVisits}
 use Rattle.meaning.specs.OneQuery.{SoFarBefore, startBefore, addBefore, afterBefore, asNow, mayStandBefore, isMisplacedBefore, conditionsBefore, ReadingBefore, refusedBefore, describedBefore, describeBefore, atEndBefore, readFromBefore, readingBefore, decideCheckedBefore, decideReadBefore, decideBefore, outcomeBefore, kindIn, QueryLast}
@@ -118,7 +119,8 @@ open-after b (frames (theQuery q)) h o = absurd (h refl)
 -- Where no query was read, 4; where one was, its tree with the schema.
 data Alike : Reading → ReadingBefore → Type 0 where
   both-refused : (i : Refusal) → Alike (refused i) (refusedBefore i)
-  both-described : (schema : Schema) (ast : Ast) → Alike (described (record { schema = schema; queries = ast ∷ [] })) (describedBefore (record { schema = schema; ast = ast }))
+  both-described : (names : List (List ℕ)) (schema : Schema) (ast : Ast)
+      → Alike (described (record { names = names; schema = schema; queries = ast ∷ [] })) (describedBefore (record { names = names; schema = schema; ast = ast }))
 
 not-ended : (b : SoFarBefore) → Open b → Alike (atEnd (asNow b) (b .previous)) (atEndBefore b (b .query))
 unfolding atEnd atEndBefore
@@ -143,7 +145,7 @@ last-line b (frames (aName s)) o = rw (o .query) (both-refused _)
 last-line b (frames (aType t)) o = rw (o .query) (both-refused _)
 last-line b (frames (aPredicate n k v)) o = rw (o .query) (both-refused _)
 last-line b (frames (aNode n)) o = rw (o .query) (both-refused _)
-last-line b (frames (theQuery q)) o = both-described (schemaOf (asNow b)) (record { nodes = b .nodes; query = q })
+last-line b (frames (theQuery q)) o = both-described (b .names) (schemaOf (asNow b)) (record { nodes = b .nodes; query = q })
 
 next-before : (b : SoFarBefore) (l : Said) (ls : List Said) → firstOf conditionsBefore (asNow b) l ≡ none → readFromBefore b (l ∷ ls) ≡ readFromBefore (afterBefore b l) ls
 unfolding readFromBefore
@@ -174,9 +176,9 @@ alike b (l ∷ m ∷ ls) o h = go (alike (afterBefore b l) (m ∷ ls) (open-afte
 alike-decided : {r : Reading} {s : ReadingBefore} → Alike r s → decideRead r ≡ decideReadBefore s
 unfolding decideRead decideReadBefore decideRun withChecked runAll formLines decideCheckedBefore
 alike-decided (both-refused i) = refl
-alike-decided (both-described schema ast) = go (check maxVisits schema ast)
+alike-decided (both-described names schema ast) = go (check maxVisits schema ast)
   where
-    go : (c : Checked) → decideRun (withChecked c (runAll schema [])) ≡ decideCheckedBefore c
+    go : (c : Checked) → decideRun (messageText names schema) (withChecked c (runAll schema [])) ≡ decideCheckedBefore (messageText names schema) c
     go exhausted = refl
     go (typed t) = refl
 

@@ -27,7 +27,7 @@ use Rattle.unification.proofs.Log.{taken-pad, log-annotate, Logged, unify-logge
 use Rattle.unification.proofs.Demand3.{rolled-since}
 use Rattle.meaning.specs.Syntax.{Node, nodeAt}
 use Rattle.meaning.specs.Schema.{Schema}
-use Rattle.meaning.specs.Diag.{Code}
+use Rattle.meaning.specs.Diag.{Message}
 use Rattle.meaning.specs.Check.{Checker, goes, Does, andThen, withState, freshVarId, lookupIn, lookup, pushEnv, introduce, annotate, unified, unify, ordered, orderable, snapshot, truncateEnv, rollback, reject, report, unifyAt}
 use Rattle.meaning.specs.All.{All}
 use Rattle.meaning.specs.Run.{between-calls, at-the-limit}
@@ -57,9 +57,9 @@ IsUnknown x v c = (v < unknowns c) × Known x c
 
 -- ---- A diagnostic
 module _ (schema : Schema) (nodes : List Node) where
-  pub reject-meets : (n : ℕ) (code : Code) (c : Checker) → Orderly c → Meets Nothing one-diagnostic c (reject schema nodes n code c)
+  pub reject-meets : (n : ℕ) (m : Message) (c : Checker) → Orderly c → Meets Nothing one-diagnostic c (reject schema nodes n m c)
   unfolding reject Reached
-  reject-meets n code c o = meets (reject schema nodes n code c) (record {
+  reject-meets n m c o = meets (reject schema nodes n m c) (record {
     orderly = record { log = o .log; env = o .env; few = o .few; sides = o .sides };
     made = record {
       new = 0;
@@ -67,7 +67,7 @@ module _ (schema : Schema) (nodes : List Node) where
       unknowns = omega arith;
       pushed = [];
       env = refl;
-      reported = record { code = code; span = nodeAt nodes n .span } ∷ [];
+      reported = record { message = m; span = nodeAt nodes n .span } ∷ [];
       diagnostics = refl;
       few = omega arith;
       elsewhere = λ x e. refl;
@@ -78,14 +78,14 @@ module _ (schema : Schema) (nodes : List Node) where
   })
 
   -- By a test.
-  module _ (n : ℕ) (code : Code) (c : Checker) (o : Orderly c) where
-    pub reject-if : (b : Bool) → Meets Nothing one-diagnostic c ((elim b as (λ b. Does (Unit {0})) [ true ↦ reject schema nodes n code | false ↦ (λ c. goes tt c) ]) c)
-    reject-if true = reject-meets n code c o
+  module _ (n : ℕ) (m : Message) (c : Checker) (o : Orderly c) where
+    pub reject-if : (b : Bool) → Meets Nothing one-diagnostic c ((elim b as (λ b. Does (Unit {0})) [ true ↦ reject schema nodes n m | false ↦ (λ c. goes tt c) ]) c)
+    reject-if true = reject-meets n m c o
     reject-if false = stays Nothing one-diagnostic c tt o tt
 
-    pub reject-unless : (b : Bool) → Meets Nothing one-diagnostic c ((elim b as (λ b. Does (Unit {0})) [ true ↦ (λ c. goes tt c) | false ↦ reject schema nodes n code ]) c)
+    pub reject-unless : (b : Bool) → Meets Nothing one-diagnostic c ((elim b as (λ b. Does (Unit {0})) [ true ↦ (λ c. goes tt c) | false ↦ reject schema nodes n m ]) c)
     reject-unless true = stays Nothing one-diagnostic c tt o tt
-    reject-unless false = reject-meets n code c o
+    reject-unless false = reject-meets n m c o
 
 -- ---- A new unknown
 fresh-more : (c : Checker) → length (Bindings.fresh (c .state) .subst) ≡ unknowns c + 1

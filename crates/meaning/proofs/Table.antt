@@ -7,7 +7,7 @@ use Rattle.unification.specs.Ty.{Int, Record, Union, leaf, node, ε, cell}
 use Rattle.unification.specs.Bindings as Bindings
 use Rattle.unification.specs.Unify as Unify
 use Rattle.meaning.specs.File.{typesOf}
-use Rattle.meaning.specs.Table.{text, examples, ownExamples, forms, refusals, limitsOf, holds, Rows, end, _then_, wholes, ends}
+use Rattle.meaning.specs.Table.{text, examples, ownExamples, messageExamples, forms, refusals, limitsOf, holds, Rows, end, _then_, wholes, ends}
 
 -- Document 01's list.
 pub table : Rows holds examples
@@ -59,11 +59,33 @@ own-examples =
     refl then
     end
 
+-- The text of each message.
+pub message-examples : Rows holds messageExamples
+unfolding messageExamples holds ℕ-discrete Bindings.fresh Bindings.freshId Bindings.annotate Bindings.snapshot Bindings.rollback Bindings.zonk Unify.unify Unify.orderable
+message-examples =
+    -- left sides and the head
+    refl then
+    -- two messages at one node
+    refl then
+    -- what is read
+    refl then
+    -- unions that differ
+    refl then
+    -- the outer union, the inner union of a record
+    refl then
+    -- no binding is followed
+    refl then
+    -- resolved at its moment
+    refl then
+    end
+
 -- Forms of several queries.
 pub form-examples : Rows holds forms
 unfolding forms holds ℕ-discrete Bindings.fresh Bindings.freshId Bindings.annotate Bindings.snapshot Bindings.rollback Bindings.zonk Unify.unify Unify.orderable
 form-examples =
     -- two queries
+    refl then
+    -- two queries with messages
     refl then
     -- 06 after 06
     refl then
@@ -184,6 +206,10 @@ whole-outcomes =
     -- no line
     refl then
     -- two queries
+    refl then
+    -- a message last that just fits
+    refl then
+    -- one byte less
     refl then
     end
 

@@ -17,7 +17,7 @@ use Rattle.unification.proofs.Sides.{side-more, declared-side, Part, find-part,
 use Rattle.meaning.specs.Syntax.{QueryStmt, Query, FieldRef, Literal, ExprKind, Node, nodeAt, isDestructurable}
 use Rattle.meaning.specs.Syntax as Syntax
 use Rattle.meaning.specs.Schema.{Predicate, Schema, get, fieldOf}
-use Rattle.meaning.specs.Diag.{Code}
+use Rattle.meaning.specs.Diag.{Message}
 use Rattle.meaning.specs.References.{fieldValues, stmtNodes, queryNodes, exprNodes}
 use Rattle.meaning.specs.All.{All}
 use Rattle.meaning.specs.Sound.{DeclaredOption, DeclaredPredicate}
@@ -105,7 +105,7 @@ row-more n m r le h = side-more n m le (Ty.node Kind.Record r) h
 
 -- ---- Access and selection
 module _ (schema : Schema) (nodes : List Node) (declared : All DeclaredPredicate (schema .predicates)) (id : ℕ) (c : Checker) (o : Orderly c) where
-  rejectTy-meets : (code : Code) → Meets IsSide one-diagnostic c (rejectTy schema nodes id code c)
+  rejectTy-meets : (m : Message) → Meets IsSide one-diagnostic c (rejectTy schema nodes id m c)
   unfolding rejectTy reject
   rejectTy-meets code = went-with IsSide Ty.Error (going (reject-meets schema nodes id code c o)) tt
 
@@ -318,21 +318,21 @@ module _ (schema : Schema) (nodes : List Node) (declared : All DeclaredPredicate
       bind-fits : (l r : ℕ) → Fits (plus one-unknown (plus (one-node l) (plus (inferring nodes d r) one-diagnostic))) (visiting nodes d (l ∷ r ∷ []))
       bind-fits l r = record { nodes = λ x. omega (arith, own-weight nodes (λ m. same x m) d l); unknowns = omega (arith, size-pos nodes d l); diagnostics = omega (arith, size-pos nodes d r) }
 
-  pub badTarget-meets : (l r : ℕ) (c : Checker) → Orderly c → Ready (visiting nodes d (l ∷ r ∷ [])) c → Meets Nothing (visiting nodes d (l ∷ r ∷ [])) c (badTarget schema nodes below l r c)
+  pub badTarget-meets : (m : Message) (l r : ℕ) (c : Checker) → Orderly c → Ready (visiting nodes d (l ∷ r ∷ [])) c → Meets Nothing (visiting nodes d (l ∷ r ∷ [])) c (badTarget schema nodes below m l r c)
   unfolding badTarget reject onlyRight sumOf
-  badTarget-meets l r c o y =
-      meets-after Nothing Nothing one-diagnostic (inferring nodes d r) (visiting nodes d (l ∷ r ∷ [])) c (omega (arith, size-pos nodes d l)) y (λ y′. reject-meets schema nodes l Code.RejectBindLhs c o)
+  badTarget-meets m l r c o y =
+      meets-after Nothing Nothing one-diagnostic (inferring nodes d r) (visiting nodes d (l ∷ r ∷ [])) c (omega (arith, size-pos nodes d l)) y (λ y′. reject-meets schema nodes l m c o)
       (λ w y′. right-meets (inferring nodes d r) r _ (omega arith) (w .orderly) y′)
 
   onlyRight-meets : (l r : ℕ) (c : Checker) → Orderly c → Ready (visiting nodes d (l ∷ r ∷ [])) c → Meets Nothing (visiting nodes d (l ∷ r ∷ [])) c (onlyRight schema nodes below r c)
   unfolding sumOf
   onlyRight-meets l r c o y = right-meets (visiting nodes d (l ∷ r ∷ [])) r c (omega arith) o y
 
-  pub notYet-meets : (l r : ℕ) (c : Checker) → Orderly c → Ready (visiting nodes d (l ∷ r ∷ [])) c → Meets Nothing (visiting nodes d (l ∷ r ∷ [])) c (notYet schema nodes below l r c)
+  pub notYet-meets : (m : Message) (l r : ℕ) (c : Checker) → Orderly c → Ready (visiting nodes d (l ∷ r ∷ [])) c → Meets Nothing (visiting nodes d (l ∷ r ∷ [])) c (notYet schema nodes below m l r c)
   unfolding notYet reject onlyRight sumOf
-  notYet-meets l r c o y =
+  notYet-meets m l r c o y =
       let rest = plus (inferring nodes d l) (inferring nodes d r) in
-      meets-after Nothing Nothing one-diagnostic rest (visiting nodes d (l ∷ r ∷ [])) c (omega (arith, size-pos nodes d l)) y (λ y′. reject-meets schema nodes l Code.NyiBindUnification c o)
+      meets-after Nothing Nothing one-diagnostic rest (visiting nodes d (l ∷ r ∷ [])) c (omega (arith, size-pos nodes d l)) y (λ y′. reject-meets schema nodes l m c o)
       (λ w y′. meets-then IsSide Nothing (inferring nodes d l) (inferring nodes d r) rest _ (omega arith) (below .infer l _) _ y′ (good .infer l _ (w .orderly))
       (λ t b′ w′ y″. right-meets (inferring nodes d r) r b′ (omega arith) (w′ .orderly) y″))
 
@@ -355,25 +355,25 @@ module _ (schema : Schema) (nodes : List Node) (declared : All DeclaredPredicate
   unfolding bindForm
   bindForm-meets aWildcard l r c o y = bindWildcard-meets l r c o y
   bindForm-meets (aVariable x) l r c o y = bindVariable-meets x l r c o y
-  bindForm-meets aConstant l r c o y = badTarget-meets l r c o y
+  bindForm-meets aConstant l r c o y = badTarget-meets _ l r c o y
   bindForm-meets (aRecord fs) l r c o y = go (isDestructurable nodes l) refl
     where
       go : (b : Bool) → isDestructurable nodes l ≡ b → Meets Nothing (visiting nodes d (l ∷ r ∷ [])) c (bindForm schema nodes below (aRecord fs) l r c)
       go true e = rw (e, bindForm) (destructure-meets l r c o y)
-      go false e = rw (e, bindForm) (notYet-meets l r c o y)
-  bindForm-meets (aDisjunction es) l r c o y = notYet-meets l r c o y
+      go false e = rw (e, bindForm) (notYet-meets _ l r c o y)
+  bindForm-meets (aDisjunction es) l r c o y = notYet-meets _ l r c o y
   bindForm-meets anError l r c o y = onlyRight-meets l r c o y
-  bindForm-meets another l r c o y = notYet-meets l r c o y
+  bindForm-meets another l r c o y = notYet-meets _ l r c o y
 
   pub denyForm-meets : (f : Form) (l r : ℕ) (c : Checker) → Orderly c → Ready (visiting nodes d (l ∷ r ∷ [])) c → Meets Nothing (visiting nodes d (l ∷ r ∷ [])) c (denyForm schema nodes below f l r c)
   unfolding denyForm
-  denyForm-meets aWildcard l r c o y = badTarget-meets l r c o y
+  denyForm-meets aWildcard l r c o y = badTarget-meets _ l r c o y
   denyForm-meets (aVariable x) l r c o y = bindVariable-meets x l r c o y
-  denyForm-meets aConstant l r c o y = badTarget-meets l r c o y
-  denyForm-meets (aRecord fs) l r c o y = notYet-meets l r c o y
-  denyForm-meets (aDisjunction es) l r c o y = notYet-meets l r c o y
+  denyForm-meets aConstant l r c o y = badTarget-meets _ l r c o y
+  denyForm-meets (aRecord fs) l r c o y = notYet-meets _ l r c o y
+  denyForm-meets (aDisjunction es) l r c o y = notYet-meets _ l r c o y
   denyForm-meets anError l r c o y = onlyRight-meets l r c o y
-  denyForm-meets another l r c o y = notYet-meets l r c o y
+  denyForm-meets another l r c o y = notYet-meets _ l r c o y
 
   pub infer-late : (n : ℕ) (f : Form) (c : Checker) → form schema nodes n ≡ f → Orderly c → Ready (inferring-late nodes d n f) c → Introduced f c → Meets IsSide (inferring-late nodes d n f) c (below .infer n c)
   unfolding form kind late
@@ -389,7 +389,7 @@ module _ (schema : Schema) (nodes : List Node) (declared : All DeclaredPredicate
   unfolding compareOrder
   compareOrder-meets l t c o y =
       meets-then Nothing Nothing no-thing one-diagnostic one-diagnostic c (omega arith) (orderable t c) _ y (λ y′. orderable-meets t c o)
-      (λ has b w y′. reject-unless schema nodes l Code.RejectTypeMismatch b (w .orderly) has)
+      (λ has b w y′. reject-unless schema nodes l _ b (w .orderly) has)
 
   pub compare-meets : (l r : ℕ) (c : Checker) → Orderly c → Ready (visiting nodes d (l ∷ r ∷ [])) c → Meets Nothing (visiting nodes d (l ∷ r ∷ [])) c (compare schema nodes below l r c)
   unfolding compare sumOf

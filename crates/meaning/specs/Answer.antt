@@ -1,12 +1,12 @@
 -- The bytes of the answer (document 01, "Frame lines", "The answer"): for each node a line 07, for each diagnostic a line
--- 08, in lower-case hexadecimal, each closed by LF.
+-- 08 and one 0a with the text of its message, in lower-case hexadecimal, each closed by LF.
 use mathlib.Core.Bool.{true, false}
 use mathlib.Core.List.{List, [], _∷_, _++_}
 use mathlib.Core.Option.{Option, none, some}
 use Prim.Native.Nat.{ℕ, suc, _+_, _/_, _%_}
 use lib.Dec.{ltb}
 use Rattle.unification.specs.Ty.{Leaf, Kind, Ty, Row, rowLen}
-use Rattle.meaning.specs.Diag.{Diagnostic, ascii, asStr}
+use Rattle.meaning.specs.Diag.{Message, Diagnostic, ascii, asStr, codeOf}
 use Rattle.meaning.specs.Check.{Typed}
 
 -- Big-endian numbers.
@@ -71,29 +71,35 @@ nodeLines n [] = []
 nodeLines n (slot ∷ slots) = hexLine (7 ∷ bytes₂ n ++ slotBytes slot) ++ nodeLines (suc n) slots
 
 unfoldable pub diagnosticBytes : Diagnostic → List ℕ
-unfolding bytes₄ ascii asStr
-diagnosticBytes d = 8 ∷ bytes₄ (d .span .start) ++ bytes₄ (d .span .end) ++ ascii (asStr (d .code))
+unfolding bytes₄ ascii asStr codeOf
+diagnosticBytes d = 8 ∷ bytes₄ (d .span .start) ++ bytes₄ (d .span .end) ++ ascii (asStr (codeOf (d .message)))
 
-unfoldable pub diagnosticLines : List Diagnostic → List ℕ
-unfolding hexLine diagnosticBytes
-diagnosticLines [] = []
-diagnosticLines (d ∷ ds) = hexLine (diagnosticBytes d) ++ diagnosticLines ds
+-- How a message is written is asked for, so that laws can speak of answers without their texts.
+module _ (text : Message → List ℕ) where
+  unfoldable pub diagnosticLine : Diagnostic → List ℕ
+  unfolding hexLine diagnosticBytes
+  diagnosticLine d = hexLine (diagnosticBytes d) ++ hexLine (0x0a ∷ text (d .message))
 
-unfoldable pub answerLines : Typed → List ℕ
-unfolding nodeLines diagnosticLines
-answerLines t = nodeLines 0 (t .tys) ++ diagnosticLines (t .diagnostics)
+  unfoldable pub diagnosticLines : List Diagnostic → List ℕ
+  unfolding diagnosticLine
+  diagnosticLines [] = []
+  diagnosticLines (d ∷ ds) = diagnosticLine d ++ diagnosticLines ds
 
--- ---- A form (card 3)
+  unfoldable pub answerLines : Typed → List ℕ
+  unfolding nodeLines diagnosticLines
+  answerLines t = nodeLines 0 (t .tys) ++ diagnosticLines (t .diagnostics)
 
--- "each query has a line 0b with its number (2 bytes)", from number k on
-unfoldable pub numbered : ℕ → List Typed → List ℕ
-unfolding hexLine bytes₂ answerLines
-numbered k [] = []
-numbered k (t ∷ ts) = hexLine (0x0b ∷ bytes₂ k) ++ (answerLines t ++ numbered (suc k) ts)
+  -- ---- A form (card 3)
 
--- one query alone has no such line
-unfoldable pub formLines : List Typed → List ℕ
-unfolding answerLines numbered
-formLines [] = []
-formLines (t ∷ []) = answerLines t
-formLines (t ∷ u ∷ ts) = numbered 0 (t ∷ u ∷ ts)
+  -- "each query has a line 0b with its number (2 bytes)", from number k on
+  unfoldable pub numbered : ℕ → List Typed → List ℕ
+  unfolding hexLine bytes₂ answerLines
+  numbered k [] = []
+  numbered k (t ∷ ts) = hexLine (0x0b ∷ bytes₂ k) ++ (answerLines t ++ numbered (suc k) ts)
+
+  -- one query alone has no such line
+  unfoldable pub formLines : List Typed → List ℕ
+  unfolding answerLines numbered
+  formLines [] = []
+  formLines (t ∷ []) = answerLines t
+  formLines (t ∷ u ∷ ts) = numbered 0 (t ∷ u ∷ ts)

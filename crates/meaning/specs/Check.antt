@@ -1,4 +1,5 @@
--- `check` of ty.rs, function by function, over the tree. Message texts are left out (card 1 brings them).
+-- `check` of ty.rs, function by function, over the tree. A diagnostic has its message in numbers and types; the texts are those of
+-- Messages.antt.
 use mathlib.Core.Bool.{Bool, true, false}
 use mathlib.Core.List.{List, [], _∷_, map}
 use mathlib.Core.Option.{Option, none, some}
@@ -12,7 +13,7 @@ use Rattle.unification.specs.Unify as Unify
 use Rattle.unification.specs.Unify.{TyError, Unified, findKey, findLabel}
 use Rattle.meaning.specs.Syntax.{Field, QueryStmt, Query, FieldRef, Literal, ExprKind, Node, Ast, nodeAt, isDestructurable}
 use Rattle.meaning.specs.Schema.{Schema, get, fieldOf}
-use Rattle.meaning.specs.Diag.{Code, Diagnostic}
+use Rattle.meaning.specs.Diag.{Message, Diagnostic}
 
 -- ---- The state, and steps over it
 
@@ -108,6 +109,10 @@ unfoldable pub unify : Ty → Ty → Does (Option TyError)
 unfolding unified
 unify got expected c = unified c (Unify.unify (c .state) got expected)
 
+-- `zonk`
+unfoldable pub zonk : Ty → Does Ty
+zonk ty c = goes (Bindings.zonk (c .state .subst) ty) c
+
 -- `orderable` of the resolved type
 unfoldable pub ordered : Checker → Answer → Step Bool
 unfolding withState
@@ -173,12 +178,12 @@ formOf (ExprKind.Fact p e) = Form.another
 formOf (ExprKind.Arith es) = Form.another
 formOf (ExprKind.Select x e) = Form.another
 
--- The code under which `report` reports
-unfoldable pub codeOf : TyError → Code
-codeOf (TyError.Mismatch expected got) = Code.RejectTypeMismatch
-codeOf (TyError.UnionMismatch diff expected got) = Code.RejectTypeMismatch
-codeOf (TyError.UnknownField name) = Code.RejectUnknownField
-codeOf TyError.Infinite = Code.RejectInfiniteType
+-- What `report` says of an error
+unfoldable pub messageOf : TyError → Message
+messageOf (TyError.Mismatch expected got) = Message.mismatch expected got
+messageOf (TyError.UnionMismatch diff expected got) = Message.unionMismatch diff expected got
+messageOf (TyError.UnknownField name) = Message.noField name
+messageOf TyError.Infinite = Message.infinite
 
 unfoldable pub isSome : {A : Type 0} → Option A → Bool
 isSome none = false
@@ -202,25 +207,25 @@ module _ (schema : Schema) (nodes : List Node) where
   -- ---- Diagnostics
 
   -- `reject`, `nyi`
-  unfoldable pub reject : ℕ → Code → Does (Unit {0})
+  unfoldable pub reject : ℕ → Message → Does (Unit {0})
   unfolding nodeAt
-  reject node code c = goes tt (record {
+  reject node message c = goes tt (record {
     state = c .state;
     env = c .env;
-    diagnostics = record { code = code; span = nodeAt nodes node .span } ∷ c .diagnostics;
+    diagnostics = record { message = message; span = nodeAt nodes node .span } ∷ c .diagnostics;
   })
 
   -- `reject_ty`
-  unfoldable pub rejectTy : ℕ → Code → Does Ty
+  unfoldable pub rejectTy : ℕ → Message → Does Ty
   unfolding reject andThen
-  rejectTy node code = do
-    reject node code
+  rejectTy node message = do
+    reject node message
     return Ty.Error
 
   -- `report`
   unfoldable pub report : ℕ → TyError → Does (Unit {0})
-  unfolding reject codeOf
-  report node err = reject node (codeOf err)
+  unfolding reject messageOf
+  report node err = reject node (messageOf err)
 
   -- `if let Err(err) = self.unify(got, expected) { self.report(node, err) }`
   unfoldable pub unifyAt : ℕ → Ty → Ty → Does (Unit {0})
@@ -232,7 +237,7 @@ module _ (schema : Schema) (nodes : List Node) where
   -- `unresolved`
   unfoldable pub unresolved : ℕ → Does Ty
   unfolding rejectTy
-  unresolved node = rejectTy node Code.RejectUnresolvedAccess
+  unresolved node = rejectTy node Message.unknownType
 
   -- ---- Schema and names
 
@@ -259,38 +264,38 @@ module _ (schema : Schema) (nodes : List Node) where
   unfolding keyShadowsValue valueTy rejectTy unresolved
   valueOf id Ty.Error = return Ty.Error
   valueOf id (Ty.leaf (Leaf.Fact p)) = elim (keyShadowsValue p) [
-    | true ↦ rejectTy id Code.RejectValueShadowed
-    | false ↦ elim (valueTy p) [ some ty ↦ return ty | none ↦ rejectTy id Code.RejectNoValue ]
+    | true ↦ rejectTy id Message.valueShadowed
+    | false ↦ elim (valueTy p) [ some ty ↦ return ty | none ↦ rejectTy id Message.noValue ]
   ]
-  valueOf id (Ty.leaf Leaf.Int) = rejectTy id Code.RejectTypeMismatch
-  valueOf id (Ty.leaf Leaf.String) = rejectTy id Code.RejectTypeMismatch
-  valueOf id (Ty.leaf Leaf.Bytes) = rejectTy id Code.RejectTypeMismatch
-  valueOf id (Ty.node k r) = rejectTy id Code.RejectTypeMismatch
+  valueOf id (Ty.leaf Leaf.Int) = rejectTy id (Message.notAFact (Ty.leaf Leaf.Int))
+  valueOf id (Ty.leaf Leaf.String) = rejectTy id (Message.notAFact (Ty.leaf Leaf.String))
+  valueOf id (Ty.leaf Leaf.Bytes) = rejectTy id (Message.notAFact (Ty.leaf Leaf.Bytes))
+  valueOf id (Ty.node k r) = rejectTy id (Message.notAFact (Ty.node k r))
   valueOf id (Ty.Var x) = unresolved id
 
   unfoldable pub fieldAt : ℕ → ℕ → Ty → Does Ty
   unfolding fieldOf rejectTy
-  fieldAt id name ty = elim (fieldOf ty name) [ some field ↦ return field | none ↦ rejectTy id Code.RejectUnknownField ]
+  fieldAt id name ty = elim (fieldOf ty name) [ some field ↦ return field | none ↦ rejectTy id (Message.noField name) ]
 
   -- `.field`; on a fact it is the key's field, and a fact of an absent predicate is Error without a diagnostic
   unfoldable pub keyOf : ℕ → ℕ → Ty → Does Ty
   unfolding keyTy fieldAt rejectTy unresolved
   keyOf id name Ty.Error = return Ty.Error
   keyOf id name (Ty.leaf (Leaf.Fact p)) = elim (keyTy p) [ some key ↦ fieldAt id name key | none ↦ return Ty.Error ]
-  keyOf id name (Ty.leaf Leaf.Int) = rejectTy id Code.RejectTypeMismatch
-  keyOf id name (Ty.leaf Leaf.String) = rejectTy id Code.RejectTypeMismatch
-  keyOf id name (Ty.leaf Leaf.Bytes) = rejectTy id Code.RejectTypeMismatch
+  keyOf id name (Ty.leaf Leaf.Int) = rejectTy id (Message.noFields (Ty.leaf Leaf.Int))
+  keyOf id name (Ty.leaf Leaf.String) = rejectTy id (Message.noFields (Ty.leaf Leaf.String))
+  keyOf id name (Ty.leaf Leaf.Bytes) = rejectTy id (Message.noFields (Ty.leaf Leaf.Bytes))
   keyOf id name (Ty.node Kind.Record r) = fieldAt id name (Ty.node Kind.Record r)
-  keyOf id name (Ty.node Kind.Union r) = rejectTy id Code.RejectTypeMismatch
+  keyOf id name (Ty.node Kind.Union r) = rejectTy id (Message.noFields (Ty.node Kind.Union r))
   keyOf id name (Ty.Var x) = unresolved id
 
   -- The `Select` arm of `infer`, on the resolved base
   unfoldable pub selectOf : ℕ → ℕ → Ty → Does Ty
   unfolding findLabel rejectTy unresolved
   selectOf id name Ty.Error = return Ty.Error
-  selectOf id name (Ty.node Kind.Union r) = elim (findLabel name r) [ some payload ↦ return payload | none ↦ rejectTy id Code.RejectUnknownAlternative ]
-  selectOf id name (Ty.node Kind.Record r) = rejectTy id Code.RejectNotAUnion
-  selectOf id name (Ty.leaf p) = rejectTy id Code.RejectNotAUnion
+  selectOf id name (Ty.node Kind.Union r) = elim (findLabel name r) [ some payload ↦ return payload | none ↦ rejectTy id (Message.noAlternative name) ]
+  selectOf id name (Ty.node Kind.Record r) = rejectTy id (Message.notAUnion (Ty.node Kind.Record r))
+  selectOf id name (Ty.leaf p) = rejectTy id (Message.notAUnion (Ty.leaf p))
   selectOf id name (Ty.Var x) = unresolved id
 
   -- ---- The parts of a node or a statement; `below` visits the nodes that it names
@@ -317,12 +322,12 @@ module _ (schema : Schema) (nodes : List Node) where
   -- Both bounds of a fuzzy pattern, the distance first
   unfoldable pub fuzzyDistance : ℕ → ℕ → Does (Unit {0})
   unfolding reject
-  fuzzyDistance id zero = reject id Code.RejectFuzzyDistance
-  fuzzyDistance id (suc d) = elim (ltb (schema .maxDistance) (suc d)) [ true ↦ reject id Code.RejectFuzzyDistance | false ↦ return tt ]
+  fuzzyDistance id zero = reject id (Message.distanceOutside zero)
+  fuzzyDistance id (suc d) = elim (ltb (schema .maxDistance) (suc d)) [ true ↦ reject id (Message.distanceOutside (suc d)) | false ↦ return tt ]
 
   unfoldable pub fuzzyTerm : ℕ → ℕ → Does (Unit {0})
   unfolding reject
-  fuzzyTerm id text = elim (ltb (schema .maxTermChars) (getD (schema .characters) text 0)) [ true ↦ reject id Code.RejectFuzzyTerm | false ↦ return tt ]
+  fuzzyTerm id text = elim (ltb (schema .maxTermChars) (getD (schema .characters) text 0)) [ true ↦ reject id (Message.termTooLong (getD (schema .characters) text 0)) | false ↦ return tt ]
 
   -- A record's fields, in order
   unfoldable pub inferFields : Walk → List Field → Does Row
@@ -368,10 +373,10 @@ module _ (schema : Schema) (nodes : List Node) where
     unifyAt rhs ty (Ty.Var var)
 
   -- A left side that can't be a target: the right side is inferred all the same.
-  unfoldable pub badTarget : Walk → ℕ → ℕ → Does (Unit {0})
+  unfoldable pub badTarget : Walk → Message → ℕ → ℕ → Does (Unit {0})
   unfolding reject andThen
-  badTarget below lhs rhs = do
-    reject lhs Code.RejectBindLhs
+  badTarget below message lhs rhs = do
+    reject lhs message
     below .infer rhs
     return tt
 
@@ -381,10 +386,10 @@ module _ (schema : Schema) (nodes : List Node) where
     below .infer rhs
     return tt
 
-  unfoldable pub notYet : Walk → ℕ → ℕ → Does (Unit {0})
+  unfoldable pub notYet : Walk → Message → ℕ → ℕ → Does (Unit {0})
   unfolding reject andThen
-  notYet below lhs rhs = do
-    reject lhs Code.NyiBindUnification
+  notYet below message lhs rhs = do
+    reject lhs message
     below .infer lhs
     below .infer rhs
     return tt
@@ -408,22 +413,22 @@ module _ (schema : Schema) (nodes : List Node) where
   unfolding bindVariable badTarget onlyRight notYet destructure bindWildcard isDestructurable
   bindForm below Form.aWildcard lhs rhs = bindWildcard below lhs rhs
   bindForm below (Form.aVariable symbol) lhs rhs = bindVariable below symbol lhs rhs
-  bindForm below (Form.aRecord fs) lhs rhs = elim (isDestructurable nodes lhs) [ true ↦ destructure below lhs rhs | false ↦ notYet below lhs rhs ]
-  bindForm below Form.aConstant lhs rhs = badTarget below lhs rhs
+  bindForm below (Form.aRecord fs) lhs rhs = elim (isDestructurable nodes lhs) [ true ↦ destructure below lhs rhs | false ↦ notYet below Message.matchedPatterns lhs rhs ]
+  bindForm below Form.aConstant lhs rhs = badTarget below Message.boundConstant lhs rhs
   bindForm below Form.anError lhs rhs = onlyRight below rhs
-  bindForm below (Form.aDisjunction es) lhs rhs = notYet below lhs rhs
-  bindForm below Form.another lhs rhs = notYet below lhs rhs
+  bindForm below (Form.aDisjunction es) lhs rhs = notYet below Message.matchedPatterns lhs rhs
+  bindForm below Form.another lhs rhs = notYet below Message.matchedPatterns lhs rhs
 
   -- `deny`
   unfoldable pub denyForm : Walk → Form → ℕ → ℕ → Does (Unit {0})
   unfolding bindVariable badTarget onlyRight notYet
   denyForm below (Form.aVariable symbol) lhs rhs = bindVariable below symbol lhs rhs
-  denyForm below Form.aWildcard lhs rhs = badTarget below lhs rhs
-  denyForm below Form.aConstant lhs rhs = badTarget below lhs rhs
+  denyForm below Form.aWildcard lhs rhs = badTarget below Message.deniedConstant lhs rhs
+  denyForm below Form.aConstant lhs rhs = badTarget below Message.deniedConstant lhs rhs
   denyForm below Form.anError lhs rhs = onlyRight below rhs
-  denyForm below (Form.aRecord fs) lhs rhs = notYet below lhs rhs
-  denyForm below (Form.aDisjunction es) lhs rhs = notYet below lhs rhs
-  denyForm below Form.another lhs rhs = notYet below lhs rhs
+  denyForm below (Form.aRecord fs) lhs rhs = notYet below Message.deniedPattern lhs rhs
+  denyForm below (Form.aDisjunction es) lhs rhs = notYet below Message.deniedPattern lhs rhs
+  denyForm below Form.another lhs rhs = notYet below Message.deniedPattern lhs rhs
 
   -- A side of a comparison that is a variable is introduced before anything is inferred.
   unfoldable pub introduceSide : Form → Does (Unit {0})
@@ -440,10 +445,11 @@ module _ (schema : Schema) (nodes : List Node) where
 
   -- The two sides agree: the type must have an order.
   unfoldable pub compareOrder : ℕ → Ty → Does (Unit {0})
-  unfolding orderable reject andThen
+  unfolding orderable zonk reject andThen
   compareOrder lhs left = do
     hasOrder ← orderable left
-    elim hasOrder [ true ↦ return tt | false ↦ reject lhs Code.RejectTypeMismatch ]
+    resolved ← zonk left
+    elim hasOrder [ true ↦ return tt | false ↦ reject lhs (Message.noOrder resolved) ]
 
   -- `compare`
   unfoldable pub compare : Walk → ℕ → ℕ → Does (Unit {0})
@@ -555,7 +561,7 @@ module _ (schema : Schema) (nodes : List Node) where
   unfoldable pub checkMentioned : Walk → Field → Option (ℕ × Ty) → Does (Unit {0})
   unfolding checkField reject
   checkMentioned below f (some field) = checkField below (f .value) (field .1)
-  checkMentioned below f none = reject (f .value) Code.RejectUnknownField
+  checkMentioned below f none = reject (f .value) (Message.noField (f .name))
 
   -- Only the fields that the pattern mentions are checked.
   unfoldable pub checkFields : Walk → List Field → Row → Does (Unit {0})
@@ -572,14 +578,14 @@ module _ (schema : Schema) (nodes : List Node) where
     | some payload ↦ do
       below .check (f .value) payload
       annotate id (Ty.node Kind.Union row)
-    | none ↦ reject id Code.RejectUnknownAlternative
+    | none ↦ reject id (Message.noAlternative (f .name))
   ]
 
   unfoldable pub checkUnion : Walk → ℕ → List Field → Row → Does (Unit {0})
   unfolding checkAlternative reject
-  checkUnion below id [] row = reject id Code.RejectUnionArity
+  checkUnion below id [] row = reject id (Message.notOneAlternative 0)
   checkUnion below id (f ∷ []) row = checkAlternative below id f row
-  checkUnion below id (f ∷ g ∷ fs) row = reject id Code.RejectUnionArity
+  checkUnion below id (f ∷ g ∷ fs) row = reject id (Message.notOneAlternative (length (f ∷ g ∷ fs)))
 
   unfoldable pub checkRecord : Walk → ℕ → List Field → Ty → Does (Unit {0})
   unfolding checkFields checkUnion annotate inferThenUnify andThen
@@ -656,7 +662,7 @@ module _ (schema : Schema) (nodes : List Node) where
   -- A wildcard head is rejected, and inferred all the same.
   unfoldable pub headForm : ℕ → Form → Does (Unit {0})
   unfolding reject
-  headForm head Form.aWildcard = reject head Code.RejectWildcardInHead
+  headForm head Form.aWildcard = reject head Message.wildcardHead
   headForm head (Form.aVariable x) = return tt
   headForm head Form.aConstant = return tt
   headForm head Form.anError = return tt

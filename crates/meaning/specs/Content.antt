@@ -89,6 +89,7 @@ predicateWith ts p = predicateOf ts (p .name) (p .key) (p .value)
 unfoldable pub describes : Content → Form
 unfolding typesFrom predicateWith position sameText valueText countOf characters
 describes c = record {
+  names = c .names;
   schema = record {
     predicates = map (predicateWith (typesFrom [] (c .types))) (c .predicates);
     valueField = position (sameText valueText) (c .names);

@@ -14,6 +14,7 @@ use Rattle.meaning.specs.SoFar.{textsIn}
 use Rattle.meaning.specs.File.{Form, described, reading}
 use Rattle.meaning.specs.Check.{Typed, typed, exhausted, check}
 use Rattle.meaning.specs.Run.{RunAsRobinson}
+use Rattle.meaning.specs.Messages.{textIn}
 use Rattle.meaning.specs.Answer.{formLines}
 use Rattle.meaning.specs.Outcome.{Outcome, Accepted, Refused, minWords, maxVisits, outcome}
 
@@ -27,14 +28,14 @@ pub data RefusedWhen (file : List ℕ) (words bytes : ℕ) : Refusal → Type 0 
   for-file : {i : Refusal} → minWords ≤ words → Lines.Refused file i → RefusedWhen file words bytes i
   for-visits : (f : Form) → minWords ≤ words → reading file ≡ described f → Any (λ a. check maxVisits (f .schema) a ≡ exhausted) (f .queries) → RefusedWhen file words bytes tooManyVisits
   for-answer : (f : Form) (ts : List Typed) → minWords ≤ words → reading file ≡ described f → Each (λ a t. check maxVisits (f .schema) a ≡ typed t) (f .queries) ts
-      → bytes < length (formLines ts) → RefusedWhen file words bytes answerTooLong
+      → bytes < length (formLines (textIn f) ts) → RefusedWhen file words bytes answerTooLong
 
 -- When a call is accepted: ts is what `check` finds of each query that the file describes, each within the visits, and the answer fits.
 pub record AcceptedWhen (file : List ℕ) (words bytes : ℕ) (f : Form) (ts : List Typed) : Type 0 where
   pub enough : minWords ≤ words
   pub reads : reading file ≡ described f
   pub checks : Each (λ a t. check maxVisits (f .schema) a ≡ typed t) (f .queries) ts
-  pub fits : length (formLines ts) ≤ bytes
+  pub fits : length (formLines (textIn f) ts) ≤ bytes
 
 abbrev pub Zeros : ℕ → List ℕ → Type 0
 Zeros n l = l ≡ replicate n 0
@@ -57,7 +58,7 @@ pub record Demand2 (file : List ℕ) (words bytes : ℕ) : Type 0 where
   pub f : Form
   pub ts : List Typed
   pub when : AcceptedWhen file words bytes f ts
-  pub answer : outcome file words bytes .answer ≡ formLines ts ++ replicate (bytes - length (formLines ts)) 0
-  pub nonzero : All (λ b. 0 < b) (formLines ts)
+  pub answer : outcome file words bytes .answer ≡ formLines (textIn f) ts ++ replicate (bytes - length (formLines (textIn f) ts)) 0
+  pub nonzero : All (λ b. 0 < b) (formLines (textIn f) ts)
   pub texts : Each Text (textsIn file) (f .schema .characters)
   pub robinson : All (λ a. RunAsRobinson (f .schema) a maxVisits) (f .queries)

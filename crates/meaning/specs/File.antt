@@ -17,19 +17,21 @@ use Rattle.meaning.specs.Frame.{Kind, limits, name, schemaType, predicat
 use Rattle.meaning.specs.SoFar.{Said, said, SoFar, start, after}
 use Rattle.meaning.specs.Conditions.{sameText, conditions, firstOf}
 
--- A schema and one tree: what a run is of.
+-- A schema and one tree: what a run is of. The names' texts are for messages; no step of a run looks at them.
 pub record Described : Type 0 where
+  pub names : List (List ℕ)
   pub schema : Schema
   pub ast : Ast
 
--- What a file describes: the schema, and a tree for each query.
+-- What a file describes: the names, the schema, and a tree for each query.
 pub record Form : Type 0 where
+  pub names : List (List ℕ)
   pub schema : Schema
   pub queries : List Ast
 
 -- One of its queries, with the schema.
 unfoldable pub viewOf : Form → Ast → Described
-viewOf f a = record { schema = f .schema; ast = a }
+viewOf f a = record { names = f .names; schema = f .schema; ast = a }
 
 -- stands for no query and is never reached
 unfoldable pub noAst : Ast
@@ -61,7 +63,7 @@ schemaOf so = record {
 
 unfoldable pub describe : SoFar → Form
 unfolding schemaOf
-describe so = record { schema = schemaOf so; queries = so .queries }
+describe so = record { names = so .names; schema = schemaOf so; queries = so .queries }
 
 pub data Reading : Type 0 where
   refused : Refusal → Reading

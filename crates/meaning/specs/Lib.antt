@@ -12,6 +12,7 @@ pub mod All
 pub mod Refused
 pub mod Sound
 pub mod Check
+pub mod Messages
 pub mod Answer
 pub mod Writing
 pub mod Content

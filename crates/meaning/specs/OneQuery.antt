@@ -17,6 +17,8 @@ use Rattle.meaning.specs.SoFar.{Said, malformed, unknownKind, noFrame, f
 use Rattle.meaning.specs.Conditions.{isMalformed, isOneTooMany, isNoFrame, isBrokenText, isNameGivenBefore, isBadReference, isRepeatedKey, Condition, firstOf}
 use Rattle.meaning.specs.File.{Described, schemaOf, isTooLong}
 use Rattle.meaning.specs.Check.{Checked, typed, exhausted, check}
+use Rattle.meaning.specs.Diag.{Message}
+use Rattle.meaning.specs.Messages.{messageText}
 use Rattle.meaning.specs.Answer.{answerLines}
 use Rattle.meaning.specs.Outcome.{Decided, turnedDown, answered, Outcome, finish, minWords, maxVisits}
 
@@ -86,7 +88,7 @@ pub data ReadingBefore : Type 0 where
 
 unfoldable pub describeBefore : SoFarBefore → Query → Described
 unfolding schemaOf asNow
-describeBefore so q = record { schema = schemaOf (asNow so); ast = record { nodes = so .nodes; query = q } }
+describeBefore so q = record { names = so .names; schema = schemaOf (asNow so); ast = record { nodes = so .nodes; query = q } }
 
 unfoldable pub atEndBefore : SoFarBefore → Option Query → ReadingBefore
 unfolding describeBefore
@@ -102,15 +104,15 @@ unfoldable pub readingBefore : List ℕ → ReadingBefore
 unfolding isTooLong readFromBefore startBefore said lines
 readingBefore file = elim (isTooLong file) [ true ↦ refusedBefore fileTooLong | false ↦ readFromBefore startBefore (map said (lines file)) ]
 
-unfoldable pub decideCheckedBefore : Checked → Decided
+unfoldable pub decideCheckedBefore : (Message → List ℕ) → Checked → Decided
 unfolding answerLines
-decideCheckedBefore exhausted = turnedDown tooManyVisits
-decideCheckedBefore (typed t) = answered (answerLines t)
+decideCheckedBefore text exhausted = turnedDown tooManyVisits
+decideCheckedBefore text (typed t) = answered (answerLines text t)
 
 unfoldable pub decideReadBefore : ReadingBefore → Decided
-unfolding decideCheckedBefore check maxVisits
+unfolding decideCheckedBefore check maxVisits messageText
 decideReadBefore (refusedBefore r) = turnedDown r
-decideReadBefore (describedBefore d) = decideCheckedBefore (check maxVisits (d .schema) (d .ast))
+decideReadBefore (describedBefore d) = decideCheckedBefore (messageText (d .names) (d .schema)) (check maxVisits (d .schema) (d .ast))
 
 unfoldable pub decideBefore : List ℕ → ℕ → Decided
 unfolding decideReadBefore readingBefore minWords

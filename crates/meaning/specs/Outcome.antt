@@ -12,6 +12,8 @@ use Rattle.meaning.specs.Schema.{Schema}
 use Rattle.meaning.specs.Refusal.{Refusal, workTooShort, tooManyVisits, answerTooLong, number}
 use Rattle.meaning.specs.File.{Reading, refused, described, reading}
 use Rattle.meaning.specs.Check.{Typed, Checked, typed, exhausted, check}
+use Rattle.meaning.specs.Diag.{Message}
+use Rattle.meaning.specs.Messages.{messageText, textIn}
 use Rattle.meaning.specs.Answer.{formLines, hexLine}
 
 -- The words that must be lent, and the visits that a query of a form may make.
@@ -37,16 +39,16 @@ unfolding withChecked check maxVisits
 runAll schema [] = some []
 runAll schema (a ∷ more) = withChecked (check maxVisits schema a) (runAll schema more)
 
-unfoldable pub decideRun : Option (List Typed) → Decided
+unfoldable pub decideRun : (Message → List ℕ) → Option (List Typed) → Decided
 unfolding formLines
-decideRun none = turnedDown tooManyVisits
-decideRun (some ts) = answered (formLines ts)
+decideRun text none = turnedDown tooManyVisits
+decideRun text (some ts) = answered (formLines text ts)
 
 -- "All lines are read before the first query runs, and one refusal turns down the whole file."
 unfoldable pub decideRead : Reading → Decided
-unfolding decideRun runAll
+unfolding decideRun runAll messageText
 decideRead (refused r) = turnedDown r
-decideRead (described f) = decideRun (runAll (f .schema) (f .queries))
+decideRead (described f) = decideRun (textIn f) (runAll (f .schema) (f .queries))
 
 unfoldable pub decide : List ℕ → ℕ → Decided
 unfolding decideRead reading minWords

@@ -52,7 +52,7 @@ schemaOpen so = record {
 
 unfoldable pub describeOpen : SoFar → Form
 unfolding schemaOpen
-describeOpen so = record { schema = schemaOpen so; queries = so .queries }
+describeOpen so = record { names = so .names; schema = schemaOpen so; queries = so .queries }
 
 unfoldable pub atEndOpen : SoFar → Option Kind → Reading
 unfolding describeOpen

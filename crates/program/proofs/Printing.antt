@@ -7,6 +7,7 @@ use native.Mathlib.Omega.{arith}
 use lib.ListN.{length, take, drop, replicate, length-replicate, replicate-append-replicate}
 use lib.Seq.{take-at, drop-at, take-length}
 use Rattle.meaning.specs.Refusal.{number}
+use Rattle.meaning.specs.Messages.{textIn}
 use Rattle.meaning.specs.Answer.{formLines, hexLine}
 use Rattle.meaning.specs.Outcome.{minWords, printed}
 use Rattle.reading.specs.Contracts.{refusal}
@@ -31,7 +32,7 @@ module _ {f w out w′ out₁ : List ℕ} (words : length w ≡ 16384) (bytes : 
   unfolding shown minWords
   answer-printed n h =
       let a = call-accepted n h in
-      let lines = formLines (a .ts) in
+      let lines = formLines (textIn (a .form)) (a .ts) in
       let there : take n out₁ ≡ lines = ap (take n) (a .answer) ∙ take-at lines (zeros (length out - n)) n (sym (a .long)) in
       let is : printed f ≡ lines = sym (call-prints (Outcome.Accepted n) words bytes h) ∙ there in
       record {

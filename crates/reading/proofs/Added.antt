@@ -24,10 +24,10 @@ use Rattle.meaning.specs.Conditions.{anyOf, sameText, given}
 use Rattle.meaning.specs.File.{valueText, countOf}
 use Rattle.meaning.proofs.Tests.{cases, clash, same-text}
 use Rattle.hex.specs.Digits.{lineAt}
-use Rattle.tree.specs.Stands.{NodeIs, QueryIs, PredicateIs, noPredicate, numbered}
-use Rattle.reading.specs.Held.{NameIs, NamesHeld, TypesHeld, PredicatesHeld, NodesHeld}
+use Rattle.tree.specs.Stands.{NameIs, NodeIs, QueryIs, PredicateIs, noPredicate, numbered}
+use Rattle.reading.specs.Held.{NamesHeld, TypesHeld, PredicatesHeld, NodesHeld}
 use Rattle.reading.proofs.Regions.{snoc}
-use Rattle.reading.proofs.Kept.{name-kept, node-kept}
+use Rattle.reading.proofs.Kept.{node-kept}
 
 length-snoc : {A : Type 0} (l : List A) (a : A) → length (l ++ a ∷ []) ≡ length l + 1
 length-snoc l a = length-append l (a ∷ [])
@@ -60,13 +60,19 @@ module _ {f w : List ℕ} {n v : ℕ} {names : List (List ℕ)} (h : NamesHeld f
     count = rw (length-snoc names s) (omega (arith, h .count));
     few = rw (length-snoc names s) (omega arith);
     name = snoc (λ i t. NameIs f (set w (NAMES + n) x) i t) [] names s
-        (λ i l. name-kept (keeps-set {a = NAMES + n} {e = TYPES} w (NAMES + n) x (omega arith) (omega (arith, h .count)) .below (NAMES + i) (omega (arith, h .count))) (h .name i l))
-        (subst (λ i. NameIs f (set w (NAMES + n) x) i s) (h .count) (record { line = rw (here, place) line; characters = rw (here, text) (omega arith) }));
+        (λ i l. rw (older i l) (h .name i l))
+        (subst (λ i. NameIs f (set w (NAMES + n) x) i s) (h .count) (rw (here, place) line));
+    characters = snoc (λ i t. getD (set w (NAMES + n) x) (NAMES + i) 0 % 512 ≡ countOf (characters t)) [] names s
+        (λ i l. ap (λ y. y % 512) (older i l) ∙ h .characters i l)
+        (subst (λ i. getD (set w (NAMES + n) x) (NAMES + i) 0 % 512 ≡ countOf (characters s)) (h .count) (rw (here, text) (omega arith)));
     valued = value-added g;
   }
     where
       x : ℕ
       x = at * 512 + chars
+
+      older : (i : ℕ) → i < length names → getD (set w (NAMES + n) x) (NAMES + i) 0 ≡ getD w (NAMES + i) 0
+      older i l = keeps-set {a = NAMES + n} {e = TYPES} w (NAMES + n) x (omega arith) (omega (arith, h .count)) .below (NAMES + i) (omega (arith, h .count))
 
       here : getD (set w (NAMES + n) x) (NAMES + n) 0 ≡ x
       here = getD-set-same w (NAMES + n) x 0 (omega (arith, h .count))
@@ -122,14 +128,14 @@ module _ {w : List ℕ} {T : Rows} {m fields : ℕ} {types : List Tree.Ty} (h : 
   predicate-is p name key none x k v =
       let e : getD w (PREDICATES + p) 0 / 512 % 256 ≡ key = omega (arith, h .few) in
       let z : getD w (PREDICATES + p) 0 % 2 ≡ 0 = omega arith in
-      record { key = rw e (h .type key k); value = rw z; key-there = rw e k; value-there = rw z (λ q. omega arith) }
+      record { name = omega (arith, h .few); key = rw e (h .type key k); value = rw z; key-there = rw e k; value-there = rw z (λ q. omega arith) }
   predicate-is p name key (some t) x k v =
       let e : getD w (PREDICATES + p) 0 / 512 % 256 ≡ key = omega (arith, h .few, v .0) in
       let q : getD w (PREDICATES + p) 0 / 2 ≡ name * 65536 + key * 256 + t = omega arith in
       let o : getD w (PREDICATES + p) 0 % 2 ≡ 1 = omega arith in
       let r : getD w (PREDICATES + p) 0 / 2 / 256 ≡ name * 256 + key = omega (arith, h .few, v .0) in
       let u : getD w (PREDICATES + p) 0 / 2 % 256 ≡ t = omega arith in
-      record { key = rw e (h .type key k); value = rw (o, u) (ap some (h .type t (v .0))); key-there = rw e k; value-there = λ q. rw u (v .0) }
+      record { name = omega (arith, h .few, v .0); key = rw e (h .type key k); value = rw (o, u) (ap some (h .type t (v .0))); key-there = rw e k; value-there = λ q. rw u (v .0) }
 
   -- The older predicates as they stand after the word was written.
   pub predicate-added : {n : ℕ} {ps : List Predicate} (name key : ℕ) (value : Option ℕ) → PredicatesHeld w T (length types) n ps → length ps < 128

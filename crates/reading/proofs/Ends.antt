@@ -44,7 +44,7 @@ nothing-held f w small long = record {
   kind = refl;
   room = omega arith;
   limits = tt;
-  names = record { count = refl; few = omega arith; name = λ i l. absurd (omega arith); valued = refl };
+  names = record { count = refl; few = omega arith; name = λ i l. absurd (omega arith); characters = λ i l. absurd (omega arith); valued = refl };
   types = record { count = refl; few = omega arith; type = λ t l. absurd (omega arith); row = λ k t l i. absurd (omega arith); earlier = λ k t j l i b. absurd (omega arith); within = λ k t l i. absurd (omega arith); tags = λ t l. absurd (omega arith) };
   predicates = record { count = refl; few = omega arith; predicate = λ p l. absurd (omega arith) };
   nodes = record { count = refl; few = omega arith; node = λ i l. absurd (omega arith) };
@@ -80,7 +80,7 @@ module _ {f : List ℕ} {at : ℕ} {w : List ℕ} {T : Rows} {c : Counters} {pre
   there : WordsAt (counted w c) NAME-COUNT (counts c)
   there = sets-words w NAME-COUNT (counts c) (omega (arith, h .long))
 
-  pub schema-held : (k : Frame.Kind) → so .previous ≡ some k → SchemaStands (counted w c) T (describe so .schema)
+  pub schema-held : (k : Frame.Kind) → so .previous ≡ some k → SchemaStands f (counted w c) T (describe so .names) (describe so .schema)
   unfolding describe schemaOf countOf
   schema-held k begun =
       let types : getD (counted w c) TYPE-COUNT 0 ≡ length (so .types) = there .at 1 (omega arith) ∙ h .types .count in
@@ -93,9 +93,11 @@ module _ {f : List ℕ} {at : ℕ} {w : List ℕ} {T : Rows} {c : Counters} {pre
         predicate = rw types (predicates-same h (over kept (omega arith)) (over kept (omega arith)) (over kept (omega arith)) .predicate);
         value = there .at 4 (omega arith) ∙ h .names .valued;
         names = there .at 0 (omega arith) ∙ h .names .count ∙ sym (length-map (so .names) (λ s. countOf (characters s)));
+        texts = sym (length-map (so .names) (λ s. countOf (characters s)));
+        name = λ n l. rw (kept .above (NAMES + n) (omega arith)) (h .names .name n l);
         characters = λ n l.
             ap (λ x. x % 512) (kept .above (NAMES + n) (omega arith))
-            ∙ h .names .name n (rw (length-map (so .names) (λ s. countOf (characters s))) at l) .characters
+            ∙ h .names .characters n (rw (length-map (so .names) (λ s. countOf (characters s))) at l)
             ∙ sym (subst (λ d. getD (map (λ s. countOf (characters s)) (so .names)) n d ≡ countOf (characters (getD (so .names) n []))) no-characters (List·getD-map (λ s. countOf (characters s)) (so .names) n []));
         distance = kept .above MAX-DISTANCE (omega arith) ∙ l .0;
         term = kept .above MAX-TERM (omega arith) ∙ l .1;

@@ -25,7 +25,7 @@ use Rattle.meaning.specs.Frame as Frame
 use Rattle.meaning.specs.Conditions.{among}
 use Rattle.tree.specs.Stands.{NodeIs, QueryIs, PredicateIs, noPredicate, valueOf}
 use Rattle.meaning.proofs.Tests.{clash}
-use Rattle.reading.specs.Held.{LimitsHeld, NameIs, NamesHeld, wordsOf, partType, IsOf, TypesHeld, PredicatesHeld, NodesHeld, flag, Marked}
+use Rattle.reading.specs.Held.{LimitsHeld, NamesHeld, wordsOf, partType, IsOf, TypesHeld, PredicatesHeld, NodesHeld, flag, Marked}
 use Rattle.reading.proofs.Regions.{Same}
 
 -- ---- Limits, names, nodes and the query
@@ -35,14 +35,12 @@ limits-kept s none d t h = tt
 limits-kept s (some k) d t h = (s .at MAX-DISTANCE (omega arith) (omega arith) ∙ h .0, s .at MAX-TERM (omega arith) (omega arith) ∙ h .1)
 
 module _ {f w w′ : List ℕ} where
-  pub name-kept : {n : ℕ} {text : List ℕ} → getD w′ (NAMES + n) 0 ≡ getD w (NAMES + n) 0 → NameIs f w n text → NameIs f w′ n text
-  name-kept e h = record { line = rw e (h .line); characters = rw e (h .characters) }
-
   pub names-kept : {n v : ℕ} {names : List (List ℕ)} → Same NAMES TYPES w w′ → NamesHeld f w n v names → NamesHeld f w′ n v names
   names-kept s h = record {
     count = h .count;
     few = h .few;
-    name = λ i l. name-kept (s .at (NAMES + i) (omega arith) (omega (arith, h .few))) (h .name i l);
+    name = λ i l. rw (s .at (NAMES + i) (omega arith) (omega (arith, h .few))) (h .name i l);
+    characters = λ i l. ap (λ x. x % 512) (s .at (NAMES + i) (omega arith) (omega (arith, h .few))) ∙ h .characters i l;
     valued = h .valued;
   }
 
@@ -190,6 +188,7 @@ module _ (n fields : ℕ) (w w′ : List ℕ) (T T′ : Rows) (words : Same TYPE
 
   predicate-kept : (m p : ℕ) (d : Predicate) → n ≤ m → getD w′ (PREDICATES + p) 0 ≡ getD w (PREDICATES + p) 0 → PredicateIs w T n p d → PredicateIs w′ T′ m p d
   predicate-kept m p d e x h = record {
+    name = rw x (h .name);
     key = rw x (h .key ∙ sym (type-kept (getD w (PREDICATES + p) 0 / 512 % 256) (h .key-there)));
     value = rw x (h .value ∙ sym (value-kept (getD w (PREDICATES + p) 0) (h .value-there)));
     key-there = rw x (omega (arith, h .key-there));

@@ -151,7 +151,7 @@ module _ {f w : List ℕ} {n at chars digits j : ℕ} (g : Looking f w n at char
     at-name v names s h l =
         let b : j < length names = omega (arith, h .count) in
         let e : drop j names ≡ getD names j [] ∷ drop (j + 1) names = rw add-one (drop-cons names j [] b) in
-        let q : r ≡ sameText (getD names j []) s = same .is (getD names j []) s (h .name j b .line) (h .name j b .characters) l in
+        let q : r ≡ sameText (getD names j []) s = same .is (getD names j []) s (h .name j b) (h .characters j b) l in
         g .to v names s h l ∙ ap (anyOf (sameText s)) e ∙ ap (λ t. elim t [ true ↦ true | false ↦ anyOf (sameText s) (drop (j + 1) names) ]) (same-swapped s (getD names j []) ∙ sym q)
 
     pub look-found : r ≡ true → GivenBefore f w n at chars digits true

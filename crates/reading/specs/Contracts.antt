@@ -170,11 +170,11 @@ counts c = c .names ∷ c .types ∷ c .predicates ∷ c .nodes ∷ c .value ∷
 abbrev pub counted : List ℕ → Counters → List ℕ
 counted w c = sets w NAME-COUNT (counts c)
 
--- Refused exactly as the definition says, or the schema that the definition describes stands in the slice, and every type of the file by
--- its number.
+-- Refused exactly as the definition says, or the schema and the names that the definition describes stand in the slice, and every type of
+-- the file by its number.
 unfoldable pub Ends : List ℕ → List ℕ → Read → Reading → Type 0
 Ends f w′ r (refused e) = (e′ : Refusal) × (r ≡ Read.Refused e′) × (refusal e′ ≡ e)
-Ends f w′ r (described d) = (r ≡ Read.Accepted) × (16384 ≤ length w′) × ((T : Rows) × SchemaStands w′ T (d .schema) × Declares w′ T (typesOf f))
+Ends f w′ r (described d) = (r ≡ Read.Accepted) × (16384 ≤ length w′) × ((T : Rows) × SchemaStands f w′ T (d .names) (d .schema) × Declares w′ T (typesOf f))
 
 pub record TakesLines (f w w′ : List ℕ) (r : Read) : Type 0 where
   pub ends : Ends f w′ r (reading f)

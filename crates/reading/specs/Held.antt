@@ -20,9 +20,8 @@ use Rattle.meaning.specs.SoFar.{SoFar}
 use Rattle.meaning.specs.Conditions.{among, sameText}
 use Rattle.meaning.specs.File.{valueText, countOf}
 use Rattle.text.specs.Utf8.{characters}
-use Rattle.hex.specs.Digits.{lineAt}
 use Rattle.frames.specs.Contracts.{numberOf}
-use Rattle.tree.specs.Stands.{NodeIs, PredicateIs, noPredicate, numbered}
+use Rattle.tree.specs.Stands.{NameIs, NodeIs, PredicateIs, noPredicate, numbered}
 use Rattle.work.specs.declared.Counters.{Counters}
 
 -- ---- Limits
@@ -34,14 +33,11 @@ LimitsHeld w (some k) d t = (getD w MAX-DISTANCE 0 ≡ d) × (getD w MAX-TERM 0 
 -- ---- Names
 
 -- A name's word: where its line starts times 512, and the number of its characters.
-pub record NameIs (f w : List ℕ) (n : ℕ) (text : List ℕ) : Type 0 where
-  pub line : lineAt f (getD w (NAMES + n) 0 / 512) ≡ some (0x02 ∷ text)
-  pub characters : getD w (NAMES + n) 0 % 512 ≡ countOf (characters text)
-
 pub record NamesHeld (f w : List ℕ) (n value : ℕ) (names : List (List ℕ)) : Type 0 where
   pub count : n ≡ length names
   pub few : length names ≤ 256
   pub name : (i : ℕ) → i < length names → NameIs f w i (getD names i [])
+  pub characters : (i : ℕ) → i < length names → getD w (NAMES + i) 0 % 512 ≡ countOf (characters (getD names i []))
   pub valued : value ≡ numbered (position (sameText valueText) names)
 
 -- ---- Types

@@ -10,6 +10,9 @@ ghost use Rattle.reading.specs.Contracts.{fourAt, eightAt, Differ, SameL
 use crate::Counters;
 use crate::Refusal;
 use crate::Step;
+use work::name_chars;
+use work::name_place;
+use work::name_word;
 use work::put;
 use work::wide;
 use work::word;
@@ -97,8 +100,8 @@ fn given_before(file: &[u8], w: &[u32], names: u32, at: usize, chars: usize, n: 
     let mut j: u32 = 0;
     while j < names {
         let x = word(w, work::NAMES + wide(j));
-        if wide(x % 512) == chars {
-            let a = wide(x / 512);
+        if wide(name_chars(x)) == chars {
+            let a = wide(name_place(x));
             place = differ(file, a, at, n, place);
             if n <= place {
                 if same_line(file, a, at) {
@@ -135,7 +138,7 @@ fn add_name(at: usize, chars: usize, value: bool, w: &mut [u32], c: Counters) ->
     ensures { λ r. ⌜ AddsName at chars value (now (w .entry)) c (now (w .exit)) r ⌝ }
 {
     let n = c.names;
-    put(w, work::NAMES + wide(n), (at * 512 + chars) as u32);
+    put(w, work::NAMES + wide(n), name_word(at, chars));
     let mut next = c;
     next.names = n + 1;
     if value {

@@ -10,6 +10,8 @@ use crate::Refusal;
 use crate::Step;
 use frames::byte;
 use frames::half;
+use work::is_named;
+use work::node_word;
 use work::put;
 use work::wide;
 use work::word;
@@ -24,7 +26,7 @@ fn name_node(w: &mut [u32], m: u32, nodes: u32) -> bool
     }
     let at = work::NODES + wide(m);
     let x = word(w, at);
-    if x % 2 == 1 {
+    if is_named(x) {
         return false;
     }
     put(w, at, x + 1);
@@ -128,7 +130,7 @@ pub fn take_node(at: usize, s: &[u8], w: &mut [u32], c: Counters) -> Step
         return Step::Off(Refusal::BadReference);
     }
     let n = c.nodes;
-    put(w, work::NODES + wide(n), ((at * 1024 + s.len()) * 2) as u32);
+    put(w, work::NODES + wide(n), node_word(at, s.len()));
     let mut next = c;
     next.nodes = n + 1;
     Step::On(next)

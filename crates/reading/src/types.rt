@@ -13,9 +13,11 @@ use frames::byte;
 use frames::full;
 use frames::half;
 use work::part;
+use work::predicate_word;
 use work::put;
 use work::wide;
 use work::with_tag;
+use work::with_value;
 
 // A part of a record or union type.
 struct Part {
@@ -238,11 +240,12 @@ pub fn take_predicate(s: &[u8], w: &mut [u32], c: Counters) -> Step
     if c.types <= key {
         return Step::Off(Refusal::BadReference);
     }
+    let entry = predicate_word(name, key);
     if p.flag == 0 {
-        return add_predicate(w, c, name * 131072 + key * 512);
+        return add_predicate(w, c, entry);
     }
     if c.types <= value {
         return Step::Off(Refusal::BadReference);
     }
-    add_predicate(w, c, name * 131072 + key * 512 + value * 2 + 1)
+    add_predicate(w, c, with_value(entry, value))
 }

@@ -10,11 +10,11 @@ use Rattle.meaning.specs.File.{Form, typesOf}
 use Rattle.meaning.specs.Outcome.{minWords}
 use Rattle.tree.specs.Stands.{SchemaStands}
 
--- What an accepted reading leaves: the schema, and the file's types by number.
+-- What an accepted reading leaves: the schema and the names, and the file's types by number.
 pub record AfterReading (f w : List ℕ) (form : Form) : Type 0 where
   pub long : minWords ≤ length w
   pub rows : Rows
-  pub schema : SchemaStands w rows (form .schema)
+  pub schema : SchemaStands f w rows (form .names) (form .schema)
   pub types : Declares w rows (typesOf f)
 
 -- The words of the schema are in the second as in the first; those of nodes and of a query may be others.

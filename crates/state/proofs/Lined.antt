@@ -9,12 +9,15 @@ use Rattle.cells.specs.Stands.{Rows, Keeps}
 use Rattle.cells.proofs.Frame.{keeps-wider}
 use Rattle.cells.proofs.Elsewhere.{SameState}
 use Rattle.meaning.specs.Syntax.{nodeAt}
+use Rattle.meaning.specs.Diag as Diag
 use Rattle.meaning.specs.Diag.{Diagnostic}
 use Rattle.meaning.specs.Sound.{Sound}
 use Rattle.meaning.specs.File.{Described}
 use Rattle.meaning.specs.Check.{Checker, reversed}
-use Rattle.meaning.specs.Answer.{hexLine, diagnosticBytes, diagnosticLines}
-use Rattle.state.specs.declared.Code.{Code}
+use Rattle.meaning.specs.Messages.{messageText}
+use Rattle.meaning.specs.Answer.{diagnosticLine, diagnosticLines}
+use Rattle.messages.specs.declared.Message.{Message}
+use Rattle.messages.specs.Said.{OkMessage}
 use Rattle.state.specs.Runs.{Runs, Grew}
 use Rattle.state.specs.Lines.{AFTER-FULL, diagnosed, Lines, within, Told, Rejected}
 use Rattle.state.proofs.Running.{env-same, grew-trans, same-grew, runs-aside}
@@ -56,42 +59,49 @@ reversed-onto [] ys = refl
 reversed-onto {A} (x ∷ xs) ys = reversed-onto xs (x ∷ ys) ∙ sym (append-assoc (reversed xs []) (x ∷ []) ys)
     ∙ ap (λ (l : List A). l ++ ys) (sym (reversed-onto xs (x ∷ [])))
 
-lines-append : (ds es : List Diagnostic) → diagnosticLines (ds ++ es) ≡ diagnosticLines ds ++ diagnosticLines es
-unfolding diagnosticLines
-lines-append [] es = refl
-lines-append (d ∷ ds) es = ap (λ (l : List ℕ). hexLine (diagnosticBytes d) ++ l) (lines-append ds es)
-    ∙ sym (append-assoc (hexLine (diagnosticBytes d)) (diagnosticLines ds) (diagnosticLines es))
+module _ (text : Diag.Message → List ℕ) where
+  lines-append : (ds es : List Diagnostic) → diagnosticLines text (ds ++ es) ≡ diagnosticLines text ds ++ diagnosticLines text es
+  unfolding diagnosticLines
+  lines-append [] es = refl
+  lines-append (d ∷ ds) es = ap (λ (l : List ℕ). diagnosticLine text d ++ l) (lines-append ds es)
+      ∙ sym (append-assoc (diagnosticLine text d) (diagnosticLines text ds) (diagnosticLines text es))
 
-line-last : (d : Diagnostic) (ds : List Diagnostic) → diagnosticLines (reversed (d ∷ ds) []) ≡ diagnosticLines (reversed ds []) ++ hexLine (diagnosticBytes d)
-unfolding reversed diagnosticLines
-line-last d ds =
-    ap diagnosticLines (reversed-onto ds (d ∷ [])) ∙ lines-append (reversed ds []) (d ∷ [])
-    ∙ ap (λ (l : List ℕ). diagnosticLines (reversed ds []) ++ l) (append-nil (hexLine (diagnosticBytes d)))
+  line-last : (d : Diagnostic) (ds : List Diagnostic)
+      → diagnosticLines text (reversed (d ∷ ds) []) ≡ diagnosticLines text (reversed ds []) ++ diagnosticLine text d
+  unfolding reversed diagnosticLines
+  line-last d ds =
+      ap (diagnosticLines text) (reversed-onto ds (d ∷ [])) ∙ lines-append (reversed ds []) (d ∷ [])
+      ∙ ap (λ (l : List ℕ). diagnosticLines text (reversed ds []) ++ l) (append-nil (diagnosticLine text d))
 
 -- ---- `reject`
 module _ {f w o w′ o′ : List ℕ} {T : Rows} {d : Described} {c : Checker} (sound : Sound d) (R : Runs f w T d c)
-    {n : ℕ} {code : Code} (X : Rejected f w o n code w′ o′) (room : getD w DIAGNOSTIC-COUNT 0 < 1536) where
+    {n : ℕ} {m : Message} (X : Rejected f w o n m w′ o′) (room : getD w DIAGNOSTIC-COUNT 0 < 1536) where
+  newest : Diagnostic
+  newest = diagnosed T (c .state .subst) m (nodeAt (d .ast .nodes) n .span)
+
   mid : Runs f (X .between) T d c
   mid = place-runs sound R (X .tells .keeps)
 
   mid-room : getD (X .between) DIAGNOSTIC-COUNT 0 < 1536
   mid-room = omega (arith, X .tells .keeps .below DIAGNOSTIC-COUNT (omega arith))
 
-  pub rejected-runs : Runs f w′ T d (record { state = c .state; env = c .env; diagnostics = diagnosed code (nodeAt (d .ast .nodes) n .span) ∷ c .diagnostics })
-  rejected-runs = rw (X .words) (count-runs sound mid (diagnosed code (nodeAt (d .ast .nodes) n .span)) mid-room)
+  pub rejected-runs : Runs f w′ T d (record { state = c .state; env = c .env; diagnostics = diagnosed T (c .state .subst) m (nodeAt (d .ast .nodes) n .span) ∷ c .diagnostics })
+  unfolding newest
+  rejected-runs = rw (X .words) (count-runs sound mid newest mid-room)
 
   pub rejected-grew : Grew w w′ 0 0
-  rejected-grew = rw (X .words)
-      (grew-trans (place-grew sound R (X .tells .keeps)) (count-grew sound mid (diagnosed code (nodeAt (d .ast .nodes) n .span)) mid-room))
+  rejected-grew = rw (X .words) (grew-trans (place-grew sound R (X .tells .keeps)) (count-grew sound mid newest mid-room))
 
-  pub rejected-lines : n < length (d .ast .nodes) → Told w o c
-      → Lines w′ o′ (diagnosticLines (reversed (diagnosed code (nodeAt (d .ast .nodes) n .span) ∷ c .diagnostics) []))
-  rejected-lines there L = rw (X .words, line-last (diagnosed code (nodeAt (d .ast .nodes) n .span)) (c .diagnostics)) (lines-same
+  pub rejected-lines : n < length (d .ast .nodes) → OkMessage w m → Told d w o c
+      → Told d w′ o′ (record { state = c .state; env = c .env; diagnostics = diagnosed T (c .state .subst) m (nodeAt (d .ast .nodes) n .span) ∷ c .diagnostics })
+  unfolding newest
+  rejected-lines there ok L = rw (X .words, line-last (messageText (d .names) (d .schema)) newest (c .diagnostics)) (lines-same
       (record { at = λ i l h. count-other (X .between) mid-room i (λ q. omega arith) })
-      (X .tells .lines (diagnosticLines (reversed (c .diagnostics) [])) (nodeAt (d .ast .nodes) n .span) (R .holds .long)
-      (span-at f w n (nodeAt (d .ast .nodes) n) (R .stands .node n there)) L))
+      (X .tells .lines T d (c .state) (diagnosticLines (messageText (d .names) (d .schema)) (reversed (c .diagnostics) [])) (nodeAt (d .ast .nodes) n .span)
+      (R .stands) (R .holds) ok (span-at f w n (nodeAt (d .ast .nodes) n) (R .stands .node n there)) L))
 
 -- ---- No line yet
-pub no-lines : {w o : List ℕ} → getD w PLACE 0 ≡ 0 → getD w PLACE-HIGH 0 ≡ 0 → getD w FULL 0 ≡ 0 → Lines w o (diagnosticLines (reversed [] []))
+pub no-lines : {w o : List ℕ} (text : Diag.Message → List ℕ) → getD w PLACE 0 ≡ 0 → getD w PLACE-HIGH 0 ≡ 0 → getD w FULL 0 ≡ 0
+    → Lines w o (diagnosticLines text (reversed [] []))
 unfolding diagnosticLines reversed
-no-lines p q r = within r (omega (arith, p, q)) (omega arith) refl
+no-lines text p q r = within r (omega (arith, p, q)) (omega arith) refl

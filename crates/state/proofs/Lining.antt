@@ -6,17 +6,20 @@ use Prim.Native.Nat.{ℕ, _+_, _/_, _%_, _<_, _≤_}
 use lib.ListN.{length, getD, set, take, drop, length-append, length-set}
 use lib.Seq.{getD-set-same, getD-set-other, take-at}
 use Rattle.work.specs.Layout.{PLACE, PLACE-HIGH, FULL, END}
-use Rattle.cells.specs.Stands.{Keeps}
+use Rattle.unification.specs.Bindings.{State}
+use Rattle.cells.specs.Stands.{Rows, Holds, Keeps}
 use Rattle.cells.proofs.Frame.{keeps-refl, keeps-trans, keeps-set}
 use Rattle.meaning.specs.Syntax.{Span}
-use Rattle.meaning.specs.Answer.{hexLine, diagnosticBytes}
+use Rattle.meaning.specs.File.{Described}
 use Rattle.writer.specs.declared.Wrote.{Wrote}
 use Rattle.writer.specs.declared.Wrote.the-variants.{To, Full}
 use Rattle.writer.specs.Writes.{placed, Writes}
 use Rattle.writer.proofs.Writing.{writes-to, writes-over}
 use Rattle.tree.specs.Nodes.{lineStartW}
-use Rattle.state.specs.declared.Code.{Code}
-use Rattle.state.specs.Lines.{AFTER-FULL, placeW, setPlaceW, SpanAt, diagnosed, WritesLine, Lines, within, beyond, Tells}
+use Rattle.tree.specs.Stands.{Stands}
+use Rattle.messages.specs.declared.Message.{Message}
+use Rattle.messages.specs.Said.{OkMessage}
+use Rattle.state.specs.Lines.{AFTER-FULL, placeW, setPlaceW, SpanAt, diagnosed, lineOf, WritesLine, Lines, within, beyond, Tells}
 
 -- ---- The words of the place are as they were
 pub record Unlined (w w′ : List ℕ) : Type 0 where
@@ -75,20 +78,25 @@ lines-full x some (within q p l t) = absurd (some q)
 lines-full {s = s} x some (beyond q l) = let n : length (s ++ x) ≡ length s + length x = length-append s x in beyond q (omega (arith, n))
 
 -- ---- `tell`
-module _ {f w o : List ℕ} {n : ℕ} {c : Code} {full : ℕ} (p : full ≡ getD w FULL 0) where
-  module _ (free : full ≡ 0) {at : ℕ} (q : at ≡ placeW w) {o′ : List ℕ} {r : Wrote} (g : WritesLine f w o at n c o′ r) where
-    text : (s : Span) → SpanAt f (lineStartW w n) s → Writes o (placeW w) (hexLine (diagnosticBytes (diagnosed c s))) o′ r
-    text s t = rw q at (g .is s t)
+module _ {f w o : List ℕ} {n : ℕ} {m : Message} {full : ℕ} (p : full ≡ getD w FULL 0) where
+  module _ (free : full ≡ 0) {at : ℕ} (q : at ≡ placeW w) {o′ : List ℕ} {r : Wrote} (g : WritesLine f w o at n m o′ r) where
+    text : (T : Rows) (d : Described) (st : State) (x : Span) → Stands f w T d → Holds w T st → OkMessage w m → SpanAt f (lineStartW w n) x
+        → Writes o (placeW w) (lineOf d (diagnosed T (st .subst) m x)) o′ r
+    text T d st x S H ok t = rw q at (g .is T d st x S H ok t)
 
-    pub told : {m : ℕ} {w′ : List ℕ} → r ≡ To m → w′ ≡ setPlaceW w m → Tells f w o n c w′ o′
-    told {m} e k = rw k record { lines = λ s b long t L. lines-behind (sym p ∙ free) (text b t) long e L; keeps = place-keeps w m; long = g .long }
+    pub told : {e : ℕ} {w′ : List ℕ} → r ≡ To e → w′ ≡ setPlaceW w e → Tells f w o n m w′ o′
+    told {e} is k = rw k record {
+      lines = λ T d st s x S H ok t L. lines-behind (sym p ∙ free) (text T d st x S H ok t) (S .long) is L;
+      keeps = place-keeps w e;
+      long = g .long;
+    }
 
-    pub no-room : {w′ : List ℕ} → r ≡ Full → w′ ≡ set w FULL 1 → Tells f w o n c w′ o′
-    no-room e k = rw k record {
-      lines = λ s b long t L. lines-over (sym p ∙ free) (text b t) long e L;
+    pub no-room : {w′ : List ℕ} → r ≡ Full → w′ ≡ set w FULL 1 → Tells f w o n m w′ o′
+    no-room is k = rw k record {
+      lines = λ T d st s x S H ok t L. lines-over (sym p ∙ free) (text T d st x S H ok t) (S .long) is L;
       keeps = keeps-set w FULL 1 (omega arith) (omega arith);
       long = g .long;
     }
 
-  pub was-full : ¬ (full ≡ 0) → Tells f w o n c w o
-  was-full some = record { lines = λ s b long t L. lines-full _ (λ z. some (p ∙ z)) L; keeps = keeps-refl; long = refl }
+  pub was-full : ¬ (full ≡ 0) → Tells f w o n m w o
+  was-full some = record { lines = λ T d st s x S H ok t L. lines-full _ (λ z. some (p ∙ z)) L; keeps = keeps-refl; long = refl }

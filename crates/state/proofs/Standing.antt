@@ -1,7 +1,7 @@
 -- What a file said stands in the words below the run's: a change above them, over rows that hold those of before, leaves it as it
 -- was. A schema type is no unknown, so it exists whatever the run made; where the run made nothing, the schema types are all cells.
 use mathlib.Core.Bool.{Bool, true, false}
-use mathlib.Core.List.{List}
+use mathlib.Core.List.{List, []}
 use mathlib.Core.Option.{none, some}
 use mathlib.Core.Path.{_≡_, refl, sym, _∙_, ap}
 use native.Mathlib.Omega.{arith}
@@ -52,8 +52,8 @@ declared-ok w t lt many small = five (eqb (tagAt w t) 5) refl
     five false q = six (eqb (tagAt w t) 6) q refl
 
 -- A part of a schema type exists.
-part-ok : {w : List ℕ} {T : Rows} {s : Schema} → SchemaStands w T s → (k : Kind) (c j : ℕ) → c < getD w TYPE-COUNT 0 → getD w (TYPES + 2 * c) 0 % 16 ≡ tagOf k → j < countW w c → Ok w (partW w k c j .ty)
-part-ok {w} S k c j h tag lt =
+part-ok : {f w : List ℕ} {T : Rows} {ts : List (List ℕ)} {s : Schema} → SchemaStands f w T ts s → (k : Kind) (c j : ℕ) → c < getD w TYPE-COUNT 0 → getD w (TYPES + 2 * c) 0 % 16 ≡ tagOf k → j < countW w c → Ok w (partW w k c j .ty)
+part-ok {w = w} S k c j h tag lt =
     let e = S .cells .earlier k c j h tag lt in
     let there : e .0 < getD w TYPE-COUNT 0 = omega (arith, e .1) in
     rw (e .2) (declared-ok w (e .0) (omega (arith, S .types)) there (S .cells .tags (e .0) there))
@@ -63,8 +63,8 @@ made-none : (w : List ℕ) → getD w RECORD-COUNT 0 ≡ 0 → {k : Kind} {c : �
 made-none w empty (declared {k} {c} lt many tag) = (many, tag)
 made-none w empty (made {c} le many) = absurd (omega arith)
 
-pub cells-start : {w : List ℕ} {T : Rows} {s : Schema} → SchemaStands w T s → getD w RECORD-COUNT 0 ≡ 0 → getD w RECORD-FIELD-COUNT 0 ≡ 0 → Cells w T
-cells-start {w} S records fields = record {
+pub cells-start : {f w : List ℕ} {T : Rows} {ts : List (List ℕ)} {s : Schema} → SchemaStands f w T ts s → getD w RECORD-COUNT 0 ≡ 0 → getD w RECORD-FIELD-COUNT 0 ≡ 0 → Cells w T
+cells-start {w = w} S records fields = record {
   row = λ k c i. let h = made-none w records i in S .cells .row k c (h .0) (h .1);
   ok = λ k c j i lt. let h = made-none w records i in part-ok S k c j (h .0) (h .1) lt;
   declared-fits = λ k c i lt. let h = made-none w records i in S .cells .fits k c (h .0) (h .1);
@@ -98,7 +98,7 @@ module _ (w w′ : List ℕ) (said : (i : ℕ) → i < NODES → (i ≡ NODE-COU
       rw (first-said c lt, parts at (omega (arith, fits)) (omega (arith, fits)), parts (at + 1) (omega (arith, fits)) (omega (arith, fits)), declared-said (getD w (at + 1) 0 % 256) (omega arith))
 
   module _ {T T′ : Rows} (M : More w T T′) where
-    module _ {s : Schema} (S : SchemaStands w T s) where
+    module _ {f : List ℕ} {ts : List (List ℕ)} {s : Schema} (S : SchemaStands f w T ts s) where
       -- a schema type gives the same tree
       declared-stands : (t : ℕ) → t < getD w TYPE-COUNT 0 → tree T′ (declaredW w′ t) ≡ tree T (declaredW w t)
       declared-stands t h =
@@ -156,13 +156,14 @@ module _ (w w′ : List ℕ) (said : (i : ℕ) → i < NODES → (i ≡ NODE-COU
       predicate-stands p d h P =
           let x = said (PREDICATES + p) (omega arith) (λ e. omega arith) (λ e. omega arith) in
           record {
+            name = rw x (P .name);
             key = rw x (P .key ∙ sym (declared-stands (getD w (PREDICATES + p) 0 / 512 % 256) (P .key-there)));
             value = rw x (P .value ∙ value-stands (getD w (PREDICATES + p) 0) (P .value-there));
             key-there = rw x (P .key-there);
             value-there = rw x (P .value-there);
           }
 
-      pub schema-stands : length (s .predicates) ≤ 128 → length (s .characters) ≤ 256 → SchemaStands w′ T′ s
+      pub schema-stands : length (s .predicates) ≤ 128 → length (s .characters) ≤ 256 → SchemaStands f w′ T′ ts s
       schema-stands few-predicates few-names = record {
         types = omega (arith, said TYPE-COUNT (omega arith) (λ e. omega arith) (λ e. omega arith), S .types);
         cells = rw (said TYPE-COUNT (omega arith) (λ e. omega arith) (λ e. omega arith)) types-stand;
@@ -170,6 +171,8 @@ module _ (w w′ : List ℕ) (said : (i : ℕ) → i < NODES → (i ≡ NODE-COU
         predicate = λ p h. rw (said TYPE-COUNT (omega arith) (λ e. omega arith) (λ e. omega arith)) (predicate-stands p _ (omega arith) (S .predicate p h));
         value = said VALUE-NAME (omega arith) (λ e. omega arith) (λ e. omega arith) ∙ S .value;
         names = said NAME-COUNT (omega arith) (λ e. omega arith) (λ e. omega arith) ∙ S .names;
+        texts = S .texts;
+        name = λ n h. rw (said (NAMES + n) (omega (arith, S .texts)) (λ e. omega (arith, S .texts)) (λ e. omega (arith, S .texts))) (S .name n h);
         characters = λ n h. rw (said (NAMES + n) (omega arith) (λ e. omega arith) (λ e. omega arith)) (S .characters n h);
         distance = said MAX-DISTANCE (omega arith) (λ e. omega arith) (λ e. omega arith) ∙ S .distance;
         term = said MAX-TERM (omega arith) (λ e. omega arith) (λ e. omega arith) ∙ S .term;

@@ -1,25 +1,26 @@
 -- The digits of a span are copied one by one: to copy the rest from i on is to copy all. A diagnostic's line is its kind and span,
--- then its code, then LF.
+-- then its code, then LF; the line with its text follows.
 use mathlib.Core.List.{List, [], _∷_, _++_}
 use mathlib.Core.Path.{_≡_, refl, sym, ap, _∙_}
 use Prim.Native.Nat.{ℕ, suc, _+_, _-_, _≤_, _<_}
 use native.Mathlib.Omega.{arith}
 use lib.ListN.{length, getD, take, drop, length-drop}
 use lib.Seq.{length-take-le, take-at, drop-cons}
+use Rattle.unification.specs.Ty.{Row}
 use Rattle.meaning.specs.Syntax.{Node}
-use Rattle.meaning.specs.Diag.{ascii, asStr}
-use Rattle.meaning.specs.Answer.{bytes₂, bytes₄, hexLine, diagnosticBytes}
+use Rattle.meaning.specs.Messages.{messageText}
+use Rattle.meaning.specs.Answer.{bytes₂, bytes₄, hexLine, diagnosticBytes, diagnosticLine}
 use Rattle.writer.specs.declared.Wrote.{Wrote}
 use Rattle.writer.specs.declared.Wrote.the-variants.{To, Full}
-use Rattle.writer.specs.Writes.{Writes, WritesText, hexOf}
+use Rattle.writer.specs.Writes.{Writes, hexOf}
 use Rattle.writer.proofs.Writing.{writes-as, writes-to, writes-then, writes-full, Goes, goes-start, goes-next, goes-full, goes-done}
-use Rattle.writer.proofs.Digits.{hex-then, hex-full, line-is}
+use Rattle.writer.proofs.Digits.{hex-then, hex-full, line-then, line-full}
 use Rattle.tree.specs.Nodes.{lineStartW}
 use Rattle.tree.specs.Stands.{NodeIs}
 use Rattle.tree.proofs.Spans.{span-written, span-there}
-use Rattle.state.specs.declared.Code.{Code}
-use Rattle.state.specs.Words.{codeOf}
-use Rattle.state.specs.Lines.{SpanAt, diagnosed, WritesSpan, WritesHead, WritesDiagnostic, WritesLine}
+use Rattle.messages.specs.declared.Message.{Message}
+use Rattle.messages.specs.Said.{said, WritesCode, WritesMessage}
+use Rattle.state.specs.Lines.{SpanAt, WritesSpan, WritesHead, WritesDiagnostic, WritesCodeLine, saidBytes, WritesSaid, WritesMessageLine, WritesLine}
 
 -- ---- A span
 pub record Spanning (f out₀ : List ℕ) (at from : ℕ) (out : List ℕ) (i to : ℕ) : Type 0 where
@@ -78,29 +79,50 @@ module _ {f out : List ℕ} {at line : ℕ} {mid : List ℕ} {h : Wrote} (p : Wr
   pub head-full : h ≡ Full → WritesHead f out at line mid Full
   head-full e = record { is = λ s t. hex-full (8 ∷ []) (bytes₄ (s .start) ++ bytes₄ (s .end)) p e; long = p .long }
 
-module _ {f w out : List ℕ} {at n : ℕ} {c : Code} {mid : List ℕ} {h : Wrote} where
-  module _ (line : ℕ) (q : line ≡ lineStartW w n) (p : WritesHead f out at line mid h) where
-    pub diagnostic-then : {m : ℕ} → h ≡ To m → {out′ : List ℕ} {r : Wrote} → WritesText mid m (ascii (asStr (codeOf c))) out′ r
-        → WritesDiagnostic f w out at n c out′ r
-    unfolding diagnosticBytes
-    diagnostic-then e g = record {
-      is = λ s t. let b = p .is s (rw q t) in hex-then _ _ b e (g .is (omega (arith, writes-to b e .1, b .long)));
+module _ {f w out : List ℕ} {at : ℕ} {m : Message} {mid : List ℕ} {h : Wrote} where
+  module _ (p : Writes out at (hexOf (10 ∷ [])) mid h) where
+    pub said-then : {e : ℕ} → h ≡ To e → {out′ : List ℕ} {r : Wrote} → WritesMessage f w mid e m out′ r → WritesSaid f w out at m out′ r
+    said-then e g = record {
+      is = λ T d st S H o. hex-then (10 ∷ []) (messageText (d .names) (d .schema) (said T (st .subst) m)) p e (g .is T d st S H o (omega (arith, writes-to p e .1, p .long)));
       long = g .moves .long ∙ p .long;
     }
 
-    pub diagnostic-full : h ≡ Full → WritesDiagnostic f w out at n c mid Full
+    pub said-full : h ≡ Full → WritesSaid f w out at m mid Full
+    said-full e = record { is = λ T d st S H o. hex-full (10 ∷ []) (messageText (d .names) (d .schema) (said T (st .subst) m)) p e; long = p .long }
+
+  module _ (p : WritesSaid f w out at m mid h) where
+    pub message-then : {e : ℕ} → h ≡ To e → {out′ : List ℕ} {r : Wrote} → Writes mid e (10 ∷ []) out′ r → WritesMessageLine f w out at m out′ r
+    message-then e g = record { is = λ T d st S H o. line-then _ (p .is T d st S H o) e g; long = g .long ∙ p .long }
+
+    pub message-full : h ≡ Full → WritesMessageLine f w out at m mid Full
+    message-full e = record { is = λ T d st S H o. line-full _ (p .is T d st S H o) e; long = p .long }
+
+module _ {f w out : List ℕ} {at n : ℕ} {m : Message} {mid : List ℕ} {h : Wrote} where
+  module _ (line : ℕ) (q : line ≡ lineStartW w n) (p : WritesHead f out at line mid h) where
+    pub diagnostic-then : {e : ℕ} → h ≡ To e → {out′ : List ℕ} {r : Wrote} → WritesCode mid e m out′ r
+        → WritesDiagnostic f w out at n m out′ r
     unfolding diagnosticBytes
-    diagnostic-full e = record { is = λ s t. hex-full _ _ (p .is s (rw q t)) e; long = p .long }
+    diagnostic-then e g = record {
+      is = λ T s x t. let b = p .is x (rw q t) in hex-then _ _ b e (g .is T s .is (omega (arith, writes-to b e .1, b .long)));
+      long = g .is (λ n. Row.ε) [] .moves .long ∙ p .long;
+    }
 
-  pub closed-then : WritesDiagnostic f w out at n c mid h → {m : ℕ} → h ≡ To m → {out′ : List ℕ} {r : Wrote} → Writes mid m (10 ∷ []) out′ r
-      → WritesLine f w out at n c out′ r
-  closed-then p e g = record {
-    is = λ s t. writes-as (sym (line-is (diagnosticBytes (diagnosed c s)))) (writes-then (p .is s t) e g);
-    long = g .long ∙ p .long;
-  }
+    pub diagnostic-full : h ≡ Full → WritesDiagnostic f w out at n m mid Full
+    unfolding diagnosticBytes
+    diagnostic-full e = record { is = λ T s x t. hex-full _ _ (p .is x (rw q t)) e; long = p .long }
 
-  pub closed-full : WritesDiagnostic f w out at n c mid h → h ≡ Full → WritesLine f w out at n c mid Full
-  closed-full p e = record {
-    is = λ s t. writes-as (sym (line-is (diagnosticBytes (diagnosed c s)))) (writes-full (p .is s t) e (10 ∷ []));
-    long = p .long;
-  }
+  module _ (p : WritesDiagnostic f w out at n m mid h) where
+    pub code-then : {e : ℕ} → h ≡ To e → {out′ : List ℕ} {r : Wrote} → Writes mid e (10 ∷ []) out′ r → WritesCodeLine f w out at n m out′ r
+    code-then e g = record { is = λ T s x t. line-then _ (p .is T s x t) e g; long = g .long ∙ p .long }
+
+    pub code-full : h ≡ Full → WritesCodeLine f w out at n m mid Full
+    code-full e = record { is = λ T s x t. line-full _ (p .is T s x t) e; long = p .long }
+
+  module _ (p : WritesCodeLine f w out at n m mid h) where
+    pub both-then : {e : ℕ} → h ≡ To e → {out′ : List ℕ} {r : Wrote} → WritesMessageLine f w mid e m out′ r → WritesLine f w out at n m out′ r
+    unfolding diagnosticLine
+    both-then e g = record { is = λ T d st x S H o t. writes-then (p .is T (st .subst) x t) e (g .is T d st S H o); long = g .long ∙ p .long }
+
+    pub both-full : h ≡ Full → WritesLine f w out at n m mid Full
+    unfolding diagnosticLine
+    both-full e = record { is = λ T d st x S H o t. writes-full (p .is T (st .subst) x t) e (hexLine (saidBytes d (said T (st .subst) m))); long = p .long }

@@ -4,17 +4,23 @@ use mathlib.Core.List.{List, [], _∷_, _++_}
 use mathlib.Core.Path.{_≡_}
 use Prim.Native.Nat.{ℕ, _+_, _*_, _/_, _%_, _<_, _≤_}
 use lib.ListN.{length, getD, set, take, drop}
-use Rattle.work.specs.Layout.{PLACE, PLACE-HIGH, FULL, END}
-use Rattle.cells.specs.Stands.{Keeps}
+use Rattle.work.specs.Layout.{PLACE, PLACE-HIGH, FULL}
+use Rattle.unification.specs.Bindings.{Subst, State}
+use Rattle.cells.specs.Stands.{Rows, Holds, Keeps}
 use Rattle.meaning.specs.Syntax.{Span}
+use Rattle.meaning.specs.Diag as Diag
 use Rattle.meaning.specs.Diag.{Diagnostic}
+use Rattle.meaning.specs.File.{Described}
 use Rattle.meaning.specs.Check.{Checker, reversed}
-use Rattle.meaning.specs.Answer.{bytes₄, hexLine, diagnosticBytes, diagnosticLines}
+use Rattle.meaning.specs.Messages.{messageText}
+use Rattle.meaning.specs.Answer.{bytes₄, hexLine, diagnosticBytes, diagnosticLine, diagnosticLines}
 use Rattle.writer.specs.declared.Wrote.{Wrote}
 use Rattle.writer.specs.Writes.{Writes, hexOf}
 use Rattle.tree.specs.Nodes.{lineStartW}
-use Rattle.state.specs.declared.Code.{Code}
-use Rattle.state.specs.Words.{codeOf, countedW}
+use Rattle.tree.specs.Stands.{Stands}
+use Rattle.messages.specs.declared.Message.{Message}
+use Rattle.messages.specs.Said.{said, OkMessage}
+use Rattle.state.specs.Words.{countedW}
 
 abbrev pub AFTER-FULL : ℕ
 AFTER-FULL = 9624
@@ -32,8 +38,12 @@ pub record SpanAt (f : List ℕ) (line : ℕ) (s : Span) : Type 0 where
   pub there : line + 18 ≤ length f
   pub digits : take 16 (drop (line + 2) f) ≡ hexOf (bytes₄ (s .start) ++ bytes₄ (s .end))
 
-abbrev pub diagnosed : Code → Span → Diagnostic
-diagnosed c s = record { code = codeOf c; span = s }
+abbrev pub diagnosed : Rows → Subst → Message → Span → Diagnostic
+diagnosed T s m p = record { message = said T s m; span = p }
+
+-- Its lines, with the names and the schema of a file.
+abbrev pub lineOf : Described → Diagnostic → List ℕ
+lineOf d x = diagnosticLine (messageText (d .names) (d .schema)) x
 
 pub record WritesSpan (f out : List ℕ) (at line : ℕ) (out′ : List ℕ) (r : Wrote) : Type 0 where
   pub is : line + 18 ≤ length f → at ≤ length out → Writes out at (take 16 (drop (line + 2) f)) out′ r
@@ -44,13 +54,31 @@ pub record WritesHead (f out : List ℕ) (at line : ℕ) (out′ : List ℕ) (r 
   pub is : (s : Span) → SpanAt f line s → Writes out at (hexOf (8 ∷ bytes₄ (s .start) ++ bytes₄ (s .end))) out′ r
   pub long : length out′ ≡ length out
 
--- At the node n, whose span is s.
-pub record WritesDiagnostic (f w out : List ℕ) (at n : ℕ) (c : Code) (out′ : List ℕ) (r : Wrote) : Type 0 where
-  pub is : (s : Span) → SpanAt f (lineStartW w n) s → Writes out at (hexOf (diagnosticBytes (diagnosed c s))) out′ r
+-- At the node n, whose span is p.
+pub record WritesDiagnostic (f w out : List ℕ) (at n : ℕ) (m : Message) (out′ : List ℕ) (r : Wrote) : Type 0 where
+  pub is : (T : Rows) (s : Subst) (p : Span) → SpanAt f (lineStartW w n) p → Writes out at (hexOf (diagnosticBytes (diagnosed T s m p))) out′ r
   pub long : length out′ ≡ length out
 
-pub record WritesLine (f w out : List ℕ) (at n : ℕ) (c : Code) (out′ : List ℕ) (r : Wrote) : Type 0 where
-  pub is : (s : Span) → SpanAt f (lineStartW w n) s → Writes out at (hexLine (diagnosticBytes (diagnosed c s))) out′ r
+pub record WritesCodeLine (f w out : List ℕ) (at n : ℕ) (m : Message) (out′ : List ℕ) (r : Wrote) : Type 0 where
+  pub is : (T : Rows) (s : Subst) (p : Span) → SpanAt f (lineStartW w n) p → Writes out at (hexLine (diagnosticBytes (diagnosed T s m p))) out′ r
+  pub long : length out′ ≡ length out
+
+-- The bytes of the line with the text.
+abbrev pub saidBytes : Described → Diag.Message → List ℕ
+saidBytes d x = 0x0a ∷ messageText (d .names) (d .schema) x
+
+pub record WritesSaid (f w out : List ℕ) (at : ℕ) (m : Message) (out′ : List ℕ) (r : Wrote) : Type 0 where
+  pub is : (T : Rows) (d : Described) (st : State) → Stands f w T d → Holds w T st → OkMessage w m → Writes out at (hexOf (saidBytes d (said T (st .subst) m))) out′ r
+  pub long : length out′ ≡ length out
+
+pub record WritesMessageLine (f w out : List ℕ) (at : ℕ) (m : Message) (out′ : List ℕ) (r : Wrote) : Type 0 where
+  pub is : (T : Rows) (d : Described) (st : State) → Stands f w T d → Holds w T st → OkMessage w m → Writes out at (hexLine (saidBytes d (said T (st .subst) m))) out′ r
+  pub long : length out′ ≡ length out
+
+-- Both.
+pub record WritesLine (f w out : List ℕ) (at n : ℕ) (m : Message) (out′ : List ℕ) (r : Wrote) : Type 0 where
+  pub is : (T : Rows) (d : Described) (st : State) (p : Span) → Stands f w T d → Holds w T st → OkMessage w m → SpanAt f (lineStartW w n) p
+      → Writes out at (lineOf d (diagnosed T (st .subst) m p)) out′ r
   pub long : length out′ ≡ length out
 
 -- ---- The lines so far
@@ -61,17 +89,17 @@ pub data Lines (w o s : List ℕ) : Type 0 where
   beyond : getD w FULL 0 ≡ 1 → length o < length s → Lines w o s
 
 -- The lines of a checker's diagnostics stand in the slice, the oldest first.
-abbrev pub Told : List ℕ → List ℕ → Checker → Type 0
-Told w o c = Lines w o (diagnosticLines (reversed (c .diagnostics) []))
+abbrev pub Told : Described → List ℕ → List ℕ → Checker → Type 0
+Told d w o c = Lines w o (diagnosticLines (messageText (d .names) (d .schema)) (reversed (c .diagnostics) []))
 
--- A line behind those before it, whatever they were.
-pub record Tells (f w o : List ℕ) (n : ℕ) (c : Code) (w′ o′ : List ℕ) : Type 0 where
-  pub lines : (s : List ℕ) (p : Span) → END ≤ length w → SpanAt f (lineStartW w n) p → Lines w o s
-      → Lines w′ o′ (s ++ hexLine (diagnosticBytes (diagnosed c p)))
+-- A diagnostic's lines behind those before it, whatever they were.
+pub record Tells (f w o : List ℕ) (n : ℕ) (m : Message) (w′ o′ : List ℕ) : Type 0 where
+  pub lines : (T : Rows) (d : Described) (st : State) (s : List ℕ) (p : Span) → Stands f w T d → Holds w T st → OkMessage w m
+      → SpanAt f (lineStartW w n) p → Lines w o s → Lines w′ o′ (s ++ lineOf d (diagnosed T (st .subst) m p))
   pub keeps : Keeps PLACE AFTER-FULL w w′
   pub long : length o′ ≡ length o
 
-pub record Rejected (f w o : List ℕ) (n : ℕ) (c : Code) (w′ o′ : List ℕ) : Type 0 where
+pub record Rejected (f w o : List ℕ) (n : ℕ) (m : Message) (w′ o′ : List ℕ) : Type 0 where
   pub between : List ℕ
-  pub tells : Tells f w o n c between o′
+  pub tells : Tells f w o n m between o′
   pub words : w′ ≡ countedW between

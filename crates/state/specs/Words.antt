@@ -8,29 +8,9 @@ use lib.Dec.{ltb}
 use lib.ListN.{getD, set}
 use Rattle.work.specs.Layout.{ENV-LEN, DIAGNOSTIC-COUNT, UNKNOWNS, ENV}
 use Rattle.cells.specs.Words.{pick, freshW}
-use Rattle.meaning.specs.Diag as Diag
 use Rattle.meaning.specs.Check.{lookupIn}
-use Rattle.state.specs.declared.Code.{Code}
-use Rattle.state.specs.declared.Code.the-variants as Code
 use Rattle.state.specs.declared.Known.{Known}
 use Rattle.state.specs.declared.Known.the-variants as Known
-
--- ---- Codes
-abbrev pub codeOf : Code → Diag.Code
-codeOf Code.NyiBindUnification = Diag.NyiBindUnification
-codeOf Code.RejectBindLhs = Diag.RejectBindLhs
-codeOf Code.RejectFuzzyDistance = Diag.RejectFuzzyDistance
-codeOf Code.RejectFuzzyTerm = Diag.RejectFuzzyTerm
-codeOf Code.RejectInfiniteType = Diag.RejectInfiniteType
-codeOf Code.RejectNoValue = Diag.RejectNoValue
-codeOf Code.RejectNotAUnion = Diag.RejectNotAUnion
-codeOf Code.RejectTypeMismatch = Diag.RejectTypeMismatch
-codeOf Code.RejectUnionArity = Diag.RejectUnionArity
-codeOf Code.RejectUnknownAlternative = Diag.RejectUnknownAlternative
-codeOf Code.RejectUnknownField = Diag.RejectUnknownField
-codeOf Code.RejectUnresolvedAccess = Diag.RejectUnresolvedAccess
-codeOf Code.RejectValueShadowed = Diag.RejectValueShadowed
-codeOf Code.RejectWildcardInHead = Diag.RejectWildcardInHead
 
 -- ---- The number of diagnostics
 unfoldable pub countedW : List ℕ → List ℕ

@@ -2,32 +2,14 @@
 ghost use mathlib.Core.Path.{_≡_};
 ghost use lib.ListN.{getD, set};
 ghost use Rattle.work.specs.Layout.{ENV-LEN};
-ghost use Rattle.meaning.specs.Diag.{ascii, asStr};
 ghost use Rattle.meaning.specs.Check.{lookupIn};
-ghost use Rattle.writer.specs.Writes.{WritesText};
-ghost use Rattle.state.specs.Words.{codeOf, countedW, envOf, knownAs, pushEnvW, Introduces};
-ghost use Rattle.state.specs.Lines.{placeW, setPlaceW, WritesSpan, WritesHead, WritesDiagnostic, WritesLine, Tells, Rejected};
+ghost use Rattle.state.specs.Words.{countedW, envOf, knownAs, pushEnvW, Introduces};
+ghost use Rattle.state.specs.Lines.{placeW, setPlaceW, WritesSpan, WritesHead, WritesDiagnostic, WritesCodeLine, WritesSaid, WritesMessageLine, WritesLine, Tells, Rejected};
+use messages::Message;
 use work::put;
 use work::wide;
 use work::word;
 use writer::Wrote;
-
-pub enum Code {
-    NyiBindUnification,
-    RejectBindLhs,
-    RejectFuzzyDistance,
-    RejectFuzzyTerm,
-    RejectInfiniteType,
-    RejectNoValue,
-    RejectNotAUnion,
-    RejectTypeMismatch,
-    RejectUnionArity,
-    RejectUnknownAlternative,
-    RejectUnknownField,
-    RejectUnresolvedAccess,
-    RejectValueShadowed,
-    RejectWildcardInHead,
-}
 
 pub enum Known {
     As(u32),
@@ -57,27 +39,6 @@ pub fn begin_lines(w: &mut [u32])
     put(w, work::PLACE, 0);
     put(w, work::PLACE_HIGH, 0);
     put(w, work::FULL, 0);
-}
-
-fn code_text(out: &mut [u8], at: usize, c: Code) -> Wrote
-    ensures { λ r. ⌜ WritesText (now (out .entry)) at (ascii (asStr (codeOf c))) (now (out .exit)) r ⌝ }
-{
-    match c {
-        Code::NyiBindUnification => writer::text(out, at, b"nyi/bind-unification"),
-        Code::RejectBindLhs => writer::text(out, at, b"reject/bind-lhs"),
-        Code::RejectFuzzyDistance => writer::text(out, at, b"reject/fuzzy-distance"),
-        Code::RejectFuzzyTerm => writer::text(out, at, b"reject/fuzzy-term"),
-        Code::RejectInfiniteType => writer::text(out, at, b"reject/infinite-type"),
-        Code::RejectNoValue => writer::text(out, at, b"reject/no-value"),
-        Code::RejectNotAUnion => writer::text(out, at, b"reject/not-a-union"),
-        Code::RejectTypeMismatch => writer::text(out, at, b"reject/type-mismatch"),
-        Code::RejectUnionArity => writer::text(out, at, b"reject/union-arity"),
-        Code::RejectUnknownAlternative => writer::text(out, at, b"reject/unknown-alternative"),
-        Code::RejectUnknownField => writer::text(out, at, b"reject/unknown-field"),
-        Code::RejectUnresolvedAccess => writer::text(out, at, b"reject/unresolved-access"),
-        Code::RejectValueShadowed => writer::text(out, at, b"reject/value-shadowed"),
-        Code::RejectWildcardInHead => writer::text(out, at, b"reject/wildcard-in-head"),
-    }
 }
 
 // The span stands in the node's line as the answer has it: sixteen digits, after the two of the line's kind.
@@ -118,34 +79,65 @@ fn head(f: &[u8], out: &mut [u8], at: usize, line: usize) -> Wrote
     }
 }
 
-fn diagnostic(f: &[u8], w: &[u32], out: &mut [u8], at: usize, n: u32, c: Code) -> Wrote
-    ensures { λ r. ⌜ WritesDiagnostic (now (f .entry)) (now (w .entry)) (now (out .entry)) at n c (now (out .exit)) r ⌝ }
+fn diagnostic(f: &[u8], w: &[u32], out: &mut [u8], at: usize, n: u32, m: Message) -> Wrote
+    ensures { λ r. ⌜ WritesDiagnostic (now (f .entry)) (now (w .entry)) (now (out .entry)) at n m (now (out .exit)) r ⌝ }
 {
     let r = head(f, out, at, tree::line_start(w, n));
     match r {
-        Wrote::To(m) => code_text(out, m, c),
+        Wrote::To(e) => messages::code_text(out, e, m),
         Wrote::Full => Wrote::Full,
     }
 }
 
-fn line(f: &[u8], w: &[u32], out: &mut [u8], at: usize, n: u32, c: Code) -> Wrote
-    ensures { λ r. ⌜ WritesLine (now (f .entry)) (now (w .entry)) (now (out .entry)) at n c (now (out .exit)) r ⌝ }
+fn code_line(f: &[u8], w: &[u32], out: &mut [u8], at: usize, n: u32, m: Message) -> Wrote
+    ensures { λ r. ⌜ WritesCodeLine (now (f .entry)) (now (w .entry)) (now (out .entry)) at n m (now (out .exit)) r ⌝ }
 {
-    let r = diagnostic(f, w, out, at, n, c);
+    let r = diagnostic(f, w, out, at, n, m);
     match r {
-        Wrote::To(m) => writer::close(out, m),
+        Wrote::To(e) => writer::close(out, e),
         Wrote::Full => Wrote::Full,
     }
 }
 
-// A line behind the lines before it; where there is no room, that is noted and no line is written from then on.
-fn tell(f: &[u8], w: &mut [u32], n: u32, c: Code, out: &mut [u8])
-    ensures { λ _. ⌜ Tells (now (f .entry)) (now (w .entry)) (now (out .entry)) n c (now (w .exit)) (now (out .exit)) ⌝ }
+fn message(f: &[u8], w: &[u32], out: &mut [u8], at: usize, m: Message) -> Wrote
+    ensures { λ r. ⌜ WritesSaid (now (f .entry)) (now (w .entry)) (now (out .entry)) at m (now (out .exit)) r ⌝ }
+{
+    let r = writer::byte(out, at, 10);
+    match r {
+        Wrote::To(e) => messages::text(f, w, out, e, m),
+        Wrote::Full => Wrote::Full,
+    }
+}
+
+fn message_line(f: &[u8], w: &[u32], out: &mut [u8], at: usize, m: Message) -> Wrote
+    ensures { λ r. ⌜ WritesMessageLine (now (f .entry)) (now (w .entry)) (now (out .entry)) at m (now (out .exit)) r ⌝ }
+{
+    let r = message(f, w, out, at, m);
+    match r {
+        Wrote::To(e) => writer::close(out, e),
+        Wrote::Full => Wrote::Full,
+    }
+}
+
+// Both lines: the code with the span, and the text.
+fn line(f: &[u8], w: &[u32], out: &mut [u8], at: usize, n: u32, m: Message) -> Wrote
+    ensures { λ r. ⌜ WritesLine (now (f .entry)) (now (w .entry)) (now (out .entry)) at n m (now (out .exit)) r ⌝ }
+{
+    let r = code_line(f, w, out, at, n, m);
+    match r {
+        Wrote::To(e) => message_line(f, w, out, e, m),
+        Wrote::Full => Wrote::Full,
+    }
+}
+
+// Its lines behind the lines before it; where there is no room, that is noted and no line is written from then on.
+fn tell(f: &[u8], w: &mut [u32], n: u32, m: Message, out: &mut [u8])
+    ensures { λ _. ⌜ Tells (now (f .entry)) (now (w .entry)) (now (out .entry)) n m (now (w .exit)) (now (out .exit)) ⌝ }
 {
     if word(w, work::FULL) == 0 {
-        let r = line(f, w, out, place(w), n, c);
+        let r = line(f, w, out, place(w), n, m);
         match r {
-            Wrote::To(m) => set_place(w, m),
+            Wrote::To(e) => set_place(w, e),
             Wrote::Full => put(w, work::FULL, 1),
         }
     }
@@ -161,10 +153,10 @@ fn count(w: &mut [u32])
 }
 
 // A diagnostic at a node.
-pub fn reject(f: &[u8], w: &mut [u32], n: u32, c: Code, out: &mut [u8])
-    ensures { λ _. ⌜ Rejected (now (f .entry)) (now (w .entry)) (now (out .entry)) n c (now (w .exit)) (now (out .exit)) ⌝ }
+pub fn reject(f: &[u8], w: &mut [u32], n: u32, m: Message, out: &mut [u8])
+    ensures { λ _. ⌜ Rejected (now (f .entry)) (now (w .entry)) (now (out .entry)) n m (now (w .exit)) (now (out .exit)) ⌝ }
 {
-    tell(f, w, n, c, out);
+    tell(f, w, n, m, out);
     count(w);
 }
 

@@ -22,7 +22,7 @@ use Rattle.cells.specs.declared.Unified.{Unified}
 use Rattle.cells.specs.Words.{pick}
 use Rattle.cells.specs.Stands.{Rows, tree, Keeps}
 use Rattle.cells.specs.Contracts as Cells
-use Rattle.cells.specs.Contracts.{errorOf, Unifies}
+use Rattle.cells.specs.Contracts.{errorOf, OkError, Unifies}
 use Rattle.cells.proofs.Frame.{more-refl, keeps-wider}
 use Rattle.meaning.specs.File.{Described}
 use Rattle.meaning.specs.Check as Check
@@ -30,9 +30,10 @@ use Rattle.meaning.specs.Check.{Checker, Does, goes}
 use Rattle.meaning.specs.Grades.{Orderly, no-thing, one-diagnostic}
 use Rattle.meaning.proofs.Meets.{Meets}
 use Rattle.meaning.proofs.Steps.{Nothing, reject-meets, reject-if}
-use Rattle.state.specs.declared.Code.{Code}
-use Rattle.state.specs.declared.Code.the-variants as Code
-use Rattle.state.specs.Words.{codeOf}
+use Rattle.unification.specs.Bindings.{Subst}
+use Rattle.messages.specs.declared.Message.{Message}
+use Rattle.messages.specs.declared.Message.the-variants as Message
+use Rattle.messages.specs.Said.{said, OkMessage}
 use Rattle.state.specs.Lines.{Rejected}
 use Rattle.state.proofs.Running.{runs-slots, grew-slots}
 use Rattle.state.proofs.Scoping.{runs-env-length, cut-runs, cut-unlined, cut-grew, rollback-runs, rollback-unlined, rollback-grew}
@@ -41,22 +42,28 @@ use Rattle.state.proofs.Lined.{keeps-unlined}
 use Rattle.steps.specs.Ends.{silent, unified, Ends, went, spent}
 use Rattle.steps.specs.Loads.{Load, only, Begins, Beside}
 use Rattle.steps.specs.Contracts.{nodesOf, Reports, RollsTo, Cuts, Fuzzes, UnifiesTo}
-use Rattle.steps.specs.Outside.{reportCode, RejectedIf, reported, stayed, farW, longW, Rewinds}
+use Rattle.steps.specs.Outside.{reportMessage, RejectedIf, reported, stayed, farW, charactersW, longW, Rewinds}
 use Rattle.steps.proofs.Ending.{reject-ends}
 use Rattle.steps.proofs.Sequel.{ends-here}
 use Rattle.steps.proofs.Results.{then-silent}
 
 -- ---- `report`
-report-code : (T : Rows) (err : TyError) → Check.codeOf (errorOf T err) ≡ codeOf (reportCode err)
-unfolding Check.codeOf
-report-code T (TyError.Mismatch e g) = refl
-report-code T (TyError.UnionMismatch d e g) = refl
-report-code T (TyError.UnknownField n) = refl
-report-code T TyError.Infinite = refl
+report-said : (T : Rows) (s : Subst) (err : TyError) → Check.messageOf (errorOf T err) ≡ said T s (reportMessage err)
+unfolding Check.messageOf
+report-said T s (TyError.Mismatch e g) = refl
+report-said T s (TyError.UnionMismatch d e g) = refl
+report-said T s (TyError.UnknownField n) = refl
+report-said T s TyError.Infinite = refl
 
-pub reports : (f w : List ℕ) {ou w′ ou′ : List ℕ} (n : ℕ) (err : TyError) (left : ℕ) → Rejected f w ou n (reportCode err) w′ ou′ → Reports f w ou n err left w′ ou′
+report-ok : (w : List ℕ) (err : TyError) → OkError w err → OkMessage w (reportMessage err)
+report-ok w (TyError.Mismatch e g) ok = ok
+report-ok w (TyError.UnionMismatch d e g) ok = ok
+report-ok w (TyError.UnknownField n) ok = tt
+report-ok w TyError.Infinite ok = tt
+
+pub reports : (f w : List ℕ) {ou w′ ou′ : List ℕ} (n : ℕ) (err : TyError) (left : ℕ) → Rejected f w ou n (reportMessage err) w′ ou′ → Reports f w ou n err left w′ ou′
 unfolding Check.report
-reports f w n err left x d there = record { is = λ T c B u. rw (report-code T err) (reject-ends B n there (reportCode err) x) }
+reports f w n err left x d there = record { is = λ T c B ok. rw (report-said T (c .state .subst) err) (reject-ends B n there (reportMessage err) (report-ok w err ok) x) }
 
 -- ---- The environment cut back
 pub cuts : (f w : List ℕ) {ou : List ℕ} (scope : ℕ) → Cuts f w ou scope (set w ENV-LEN scope) ou
@@ -93,26 +100,26 @@ rolls f w {ou} {w′ = w′} X d left at p q = rw (← q) (back (rw (← p, ← 
 -- ---- Both bounds of a fuzzy pattern
 module _ {f w ou : List ℕ} {T : Rows} {d : Described} {left : ℕ} {c : Checker} (B : Begins f w ou T d (only one-diagnostic) left c) (n : ℕ) (there : n < length (nodesOf d)) where
   -- By a test.
-  reject-if-ends : (code : Code) {w′ ou′ : List ℕ} (b : Bool) → RejectedIf f w ou n code w′ ou′ b
-      → Ends f w ou w′ ou′ T d 0 0 (silent left) ((elim b as (λ b. Does (Unit {0})) [ true ↦ Check.reject (d .schema) (nodesOf d) n (codeOf code) | false ↦ (λ c. goes tt c) ]) c)
-  reject-if-ends code true (reported x) = reject-ends B n there code x
-  reject-if-ends code false (stayed p q) = rw (p, q) (ends-here tt c (B .runs) (B .lines) (B .visits))
+  reject-if-ends : (m : Message) → OkMessage w m → {w′ ou′ : List ℕ} (b : Bool) → RejectedIf f w ou n m w′ ou′ b
+      → Ends f w ou w′ ou′ T d 0 0 (silent left) ((elim b as (λ b. Does (Unit {0})) [ true ↦ Check.reject (d .schema) (nodesOf d) n (said T (c .state .subst) m) | false ↦ (λ c. goes tt c) ]) c)
+  reject-if-ends m ok true (reported x) = reject-ends B n there m ok x
+  reject-if-ends m ok false (stayed p q) = rw (p, q) (ends-here tt c (B .runs) (B .lines) (B .visits))
 
-  distance-ends : (distance : ℕ) {w′ ou′ : List ℕ} → RejectedIf f w ou n Code.RejectFuzzyDistance w′ ou′ (farW w distance) → Ends f w ou w′ ou′ T d 0 0 (silent left) (Check.fuzzyDistance (d .schema) (nodesOf d) n distance c)
+  distance-ends : (distance : ℕ) {w′ ou′ : List ℕ} → RejectedIf f w ou n (Message.DistanceOutside distance) w′ ou′ (farW w distance) → Ends f w ou w′ ou′ T d 0 0 (silent left) (Check.fuzzyDistance (d .schema) (nodesOf d) n distance c)
   unfolding Check.fuzzyDistance
-  distance-ends zero (reported x) = reject-ends B n there Code.RejectFuzzyDistance x
-  distance-ends (suc e) x = reject-if-ends Code.RejectFuzzyDistance (ltb (d .schema .maxDistance) (suc e)) (rw (ne-eqb (suc e) 0 (λ q. omega arith), B .runs .stands .schema .distance) at x)
+  distance-ends zero (reported x) = reject-ends B n there (Message.DistanceOutside zero) tt x
+  distance-ends (suc e) x = reject-if-ends (Message.DistanceOutside (suc e)) tt (ltb (d .schema .maxDistance) (suc e)) (rw (ne-eqb (suc e) 0 (λ q. omega arith), B .runs .stands .schema .distance) at x)
 
-  term-ends : (term : ℕ) → term < length (d .schema .characters) → {w′ ou′ : List ℕ} → RejectedIf f w ou n Code.RejectFuzzyTerm w′ ou′ (longW w term) → Ends f w ou w′ ou′ T d 0 0 (silent left) (Check.fuzzyTerm (d .schema) (nodesOf d) n term c)
+  term-ends : (term : ℕ) → term < length (d .schema .characters) → {w′ ou′ : List ℕ} → RejectedIf f w ou n (Message.TermTooLong (charactersW w term)) w′ ou′ (longW w term) → Ends f w ou w′ ou′ T d 0 0 (silent left) (Check.fuzzyTerm (d .schema) (nodesOf d) n term c)
   unfolding Check.fuzzyTerm
-  term-ends term name x = reject-if-ends Code.RejectFuzzyTerm (ltb (d .schema .maxTermChars) (getD (d .schema .characters) term 0)) (rw (B .runs .stands .schema .term, B .runs .stands .schema .characters term name) at x)
+  term-ends term name x = reject-if-ends (Message.TermTooLong (getD (d .schema .characters) term 0)) tt (ltb (d .schema .maxTermChars) (getD (d .schema .characters) term 0)) (rw (B .runs .stands .schema .term, B .runs .stands .schema .characters term name) at x)
 
 distance-meets : (d : Described) (n distance : ℕ) (c : Checker) → Orderly c → Meets Nothing one-diagnostic c (Check.fuzzyDistance (d .schema) (nodesOf d) n distance c)
 unfolding Check.fuzzyDistance
 distance-meets d n zero c o = reject-meets (d .schema) (nodesOf d) n _ c o
 distance-meets d n (suc e) c o = reject-if (d .schema) (nodesOf d) n _ c o (ltb (d .schema .maxDistance) (suc e))
 
-pub fuzzes : (f w : List ℕ) {ou w₁ ou₁ w₂ ou₂ : List ℕ} (n term distance left : ℕ) → RejectedIf f w ou n Code.RejectFuzzyDistance w₁ ou₁ (farW w distance) → RejectedIf f w₁ ou₁ n Code.RejectFuzzyTerm w₂ ou₂ (longW w₁ term) → Fuzzes f w ou n term distance left w₂ ou₂
+pub fuzzes : (f w : List ℕ) {ou w₁ ou₁ w₂ ou₂ : List ℕ} (n term distance left : ℕ) → RejectedIf f w ou n (Message.DistanceOutside distance) w₁ ou₁ (farW w distance) → RejectedIf f w₁ ou₁ n (Message.TermTooLong (charactersW w₁ term)) w₂ ou₂ (longW w₁ term) → Fuzzes f w ou n term distance left w₂ ou₂
 fuzzes f w n term distance left X Y d there name = record {
   is = λ T c B u.
       then-silent one one (only (record { nodes = λ x. 0; unknowns = 0; diagnostics = 2 })) (record { grade = record { nodes = λ x. omega arith; unknowns = omega arith; diagnostics = omega arith }; records = omega arith; fields = omega arith })
@@ -125,14 +132,14 @@ fuzzes f w n term distance left X Y d there name = record {
 
 -- ---- `unify`
 module _ {f w ou w′ : List ℕ} {T : Rows} {d : Described} {left : ℕ} {c : Checker} {r : Unified} (B : Begins f w ou T d (only no-thing) left c) where
-  unified-ends : (res : Unify.Unified) → Cells.Ends w w′ T r res → Kept.After (Kept.Kept (c .state)) res → Ends f w ou w′ ou T d 0 0 (unified r) (Check.unified c res)
+  unified-ends : (res : Unify.Unified) → Cells.Ends w w′ T r res → Kept.After (Kept.Kept (c .state)) res → Ends f w ou w′ ou T d 0 0 (unified w′ r) (Check.unified c res)
   unfolding Check.unified Check.withState Cells.Ends
   unified-ends (Unify.Ok st) e k =
       let K : Keeps TYS END w w′ = keeps-wider (omega arith) (omega arith) (e .1 .keeps) in
       went (record { T′ = T; more = more-refl; runs = runs-slots (B .sound) (B .runs) K (e .1 .holds) (ap length (k .tys)); lines = lines-same (keeps-unlined (omega arith) K) (B .lines); grew = grew-slots (B .sound) (B .runs) K; is = e .0 })
   unified-ends (Unify.Err x st) e k =
       let K : Keeps TYS END w w′ = keeps-wider (omega arith) (omega arith) (e .3 .keeps) in
-      went {a = some x} (record { T′ = T; more = more-refl; runs = runs-slots (B .sound) (B .runs) K (e .3 .holds) (ap length (k .tys)); lines = lines-same (keeps-unlined (omega arith) K) (B .lines); grew = grew-slots (B .sound) (B .runs) K; is = (e .0, e .1, e .2 .is) })
+      went {a = some x} (record { T′ = T; more = more-refl; runs = runs-slots (B .sound) (B .runs) K (e .3 .holds) (ap length (k .tys)); lines = lines-same (keeps-unlined (omega arith) K) (B .lines); grew = grew-slots (B .sound) (B .runs) K; is = (e .0, e .1, e .2) })
   unified-ends (Unify.Spent st) e k =
       let K : Keeps TYS END w w′ = keeps-wider (omega arith) (omega arith) (e .2 .keeps) in
       spent (record { T′ = T; more = more-refl; runs = runs-slots (B .sound) (B .runs) K (e .2 .holds) (ap length (k .tys)); lines = lines-same (keeps-unlined (omega arith) K) (B .lines); grew = grew-slots (B .sound) (B .runs) K; is = e .0 })

@@ -19,11 +19,13 @@ use Rattle.meaning.specs.Diag.{Diagnostic}
 use Rattle.meaning.specs.File.{Described}
 use Rattle.meaning.specs.Check as Check
 use Rattle.meaning.specs.Check.{Checker, Step, goes, andThen, lookupIn, reversed}
+use Rattle.meaning.specs.Messages.{messageText}
 use Rattle.meaning.specs.Answer.{diagnosticLines}
 use Rattle.meaning.specs.Grades.{one-diagnostic}
 use Rattle.meaning.proofs.Steps.{same-self}
-use Rattle.state.specs.declared.Code.{Code}
-use Rattle.state.specs.Words.{codeOf, Introduces}
+use Rattle.messages.specs.declared.Message.{Message}
+use Rattle.messages.specs.Said.{said, OkMessage}
+use Rattle.state.specs.Words.{Introduces}
 use Rattle.state.specs.Lines.{Lines, Told, Rejected}
 use Rattle.state.proofs.Running.{grew-refl, annotate-runs, grew-slots, fresh-word, fresh-runs, fresh-grew}
 use Rattle.state.proofs.Scoping.{runs-env-length, Gives, introduce-runs}
@@ -40,28 +42,28 @@ module _ {f w ou : List ℕ} {T : Rows} {d : Described} {left : ℕ} {c : Checke
   pub ends-with : (t : Ty) (ty : Tree.Ty) → Ok w t → tree T t ≡ ty → Ends f w ou w ou T d 0 0 (typed w (Typed.Got t left)) (goes ty c)
   ends-with t ty o e = went (record { T′ = T; more = more-refl; runs = B .runs; lines = B .lines; grew = grew-refl; is = record { t = t; res = ap (Typed.Got t) (sym (B .visits)); ok = o; is = e } })
 
-  module _ (n : ℕ) (there : n < length (nodesOf d)) (code : Code) where
+  module _ (n : ℕ) (there : n < length (nodesOf d)) (m : Message) (ok : OkMessage w m) where
     room : getD w DIAGNOSTIC-COUNT 0 < 1536
     room = omega (arith, B .runs .diagnostics, B .free .diagnostics)
 
-    pub reject-ends : {w′ ou′ : List ℕ} → Rejected f w ou n code w′ ou′ → Ends f w ou w′ ou′ T d 0 0 (silent left) (Check.reject (d .schema) (nodesOf d) n (codeOf code) c)
+    pub reject-ends : {w′ ou′ : List ℕ} → Rejected f w ou n m w′ ou′ → Ends f w ou w′ ou′ T d 0 0 (silent left) (Check.reject (d .schema) (nodesOf d) n (said T (c .state .subst) m) c)
     unfolding Check.reject
-    reject-ends x = went (record { T′ = T; more = more-refl; runs = rejected-runs (B .sound) (B .runs) x room; lines = rejected-lines (B .sound) (B .runs) x room there (B .lines); grew = rejected-grew (B .sound) (B .runs) x room; is = B .visits })
+    reject-ends x = went (record { T′ = T; more = more-refl; runs = rejected-runs (B .sound) (B .runs) x room; lines = rejected-lines (B .sound) (B .runs) x room there ok (B .lines); grew = rejected-grew (B .sound) (B .runs) x room; is = B .visits })
 
     -- `reject_ty`
-    pub reject-ty-ends : {w′ ou′ : List ℕ} {r : Typed} → (r ≡ Typed.Got Error left) × (Rejected f w ou n code w′ ou′) → Ends f w ou w′ ou′ T d 0 0 (typed w′ r) (Check.rejectTy (d .schema) (nodesOf d) n (codeOf code) c)
+    pub reject-ty-ends : {w′ ou′ : List ℕ} {r : Typed} → (r ≡ Typed.Got Error left) × (Rejected f w ou n m w′ ou′) → Ends f w ou w′ ou′ T d 0 0 (typed w′ r) (Check.rejectTy (d .schema) (nodesOf d) n (said T (c .state .subst) m) c)
     unfolding Check.rejectTy Check.reject andThen
     reject-ty-ends e = rw (e .0) (went (record {
       T′ = T;
       more = more-refl;
       runs = rejected-runs (B .sound) (B .runs) (e .1) room;
-      lines = rejected-lines (B .sound) (B .runs) (e .1) room there (B .lines);
+      lines = rejected-lines (B .sound) (B .runs) (e .1) room there ok (B .lines);
       grew = rejected-grew (B .sound) (B .runs) (e .1) room;
       is = record { t = Error; res = ap (Typed.Got Error) (sym (B .visits)); ok = tt; is = refl };
     }))
 
-pub rejects : (f w : List ℕ) {ou w′ ou′ : List ℕ} (n : ℕ) (code : Code) (left : ℕ) → Rejected f w ou n code w′ ou′ → Rejects f w ou n (codeOf code) left w′ ou′
-rejects f w n code left x d there = record { is = λ T c B u. reject-ends B n there code x }
+pub rejects : (f w : List ℕ) {ou w′ ou′ : List ℕ} (n : ℕ) (m : Message) (left : ℕ) → Rejected f w ou n m w′ ou′ → Rejects f w ou n m left w′ ou′
+rejects f w n m left x d there = record { is = λ T c B ok. reject-ends B n there m ok x }
 
 -- ---- A node's type, and a new unknown
 pub notes : (f w : List ℕ) {ou : List ℕ} (n : ℕ) (t : Ty) (left : ℕ) → Notes f w ou n t left (annotateW w n t) ou
@@ -83,8 +85,8 @@ freshens f w left d = record {
 }
 
 -- ---- A variable's unknown
-given : {f w ou w′ : List ℕ} {T : Rows} {d : Described} {left x : ℕ} (c : Checker) (s : Step ℕ) → c .state .left ≡ left → Told w ou c → Gives f w w′ T d c s x → ((b : Checker) → s ≡ goes x b → b .state .left ≡ c .state .left) → Ends f w ou w′ ou T d 0 0 (numbered x left) s
-given {w = w} {ou} {w′} c s v t G same = rw (G .step) (went (record { T′ = _; more = more-refl; runs = G .runs; lines = subst (λ (ds : List Diagnostic). Lines w′ ou (diagnosticLines (reversed ds []))) (sym (G .reported)) (lines-same (G .unlined) t); grew = G .grew; is = (refl, same (G .after) (G .step) ∙ v) }))
+given : {f w ou w′ : List ℕ} {T : Rows} {d : Described} {left x : ℕ} (c : Checker) (s : Step ℕ) → c .state .left ≡ left → Told d w ou c → Gives f w w′ T d c s x → ((b : Checker) → s ≡ goes x b → b .state .left ≡ c .state .left) → Ends f w ou w′ ou T d 0 0 (numbered x left) s
+given {w = w} {ou} {w′} {d = d} c s v t G same = rw (G .step) (went (record { T′ = _; more = more-refl; runs = G .runs; lines = subst (λ (ds : List Diagnostic). Lines w′ ou (diagnosticLines (messageText (d .names) (d .schema)) (reversed ds []))) (sym (G .reported)) (lines-same (G .unlined) t); grew = G .grew; is = (refl, same (G .after) (G .step) ∙ v) }))
 
 introduce-left : (symbol x : ℕ) (c b : Checker) → Check.introduce symbol c ≡ goes x b → b .state .left ≡ c .state .left
 unfolding Check.introduce Check.lookup Check.freshVarId Check.pushEnv Check.withState andThen Bindings.fresh

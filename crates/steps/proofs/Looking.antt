@@ -80,7 +80,7 @@ module _ {f w : List ℕ} {T : Rows} {d : Described} {c : Checker} (R : Runs f w
   abbrev schema : Schema
   schema = d .schema
 
-  S : SchemaStands w T (d .schema)
+  S : SchemaStands f w T (d .names) (d .schema)
   S = R .stands .schema
 
   predicate : p < getD w PREDICATE-COUNT 0 → PredicateIs w T (getD w TYPE-COUNT 0) p (getD (d .schema .predicates) p noPredicate)

@@ -27,10 +27,10 @@ use Rattle.steps.proofs.Growing.{ok-kept}
 use Rattle.steps.proofs.Sequel.{then-ends, stop-ends, ends-here, gone-as}
 
 -- ---- What comes back at once
-pub type-here : {f w ou : List ℕ} {T : Rows} {d : Described} {n m left : ℕ} {c : Checker} (t : Ty) → Runs f w T d c → Told w ou c → c .state .left ≡ left → Ok w t → Ends f w ou w ou T d n m (typed w (Typed.Got t left)) (goes (tree T t) c)
+pub type-here : {f w ou : List ℕ} {T : Rows} {d : Described} {n m left : ℕ} {c : Checker} (t : Ty) → Runs f w T d c → Told d w ou c → c .state .left ≡ left → Ok w t → Ends f w ou w ou T d n m (typed w (Typed.Got t left)) (goes (tree T t) c)
 type-here {T = T} {c = c} t r k v o = ends-here (tree T t) c r k (record { t = t; res = ap (Typed.Got t) (sym v); ok = o; is = refl })
 
-pub on-here : {f w ou : List ℕ} {T : Rows} {d : Described} {n m left : ℕ} {c : Checker} → Runs f w T d c → Told w ou c → c .state .left ≡ left → Ends f w ou w ou T d n m (done (Done.On left)) (goes tt c)
+pub on-here : {f w ou : List ℕ} {T : Rows} {d : Described} {n m left : ℕ} {c : Checker} → Runs f w T d c → Told d w ou c → c .state .left ≡ left → Ends f w ou w ou T d n m (done (Done.On left)) (goes tt c)
 on-here {c = c} r k v = ends-here tt c r k (ap Done.On (sym v))
 
 pub with-visits : {f w ou : List ℕ} {T : Rows} {d : Described} {L : Load} {v l : ℕ} {c : Checker} → c .state .left ≡ l → Begins f w ou T d L v c → Begins f w ou T d L l c

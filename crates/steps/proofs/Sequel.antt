@@ -68,7 +68,7 @@ pub begins-part : (G K : Load) {f w ou : List ℕ} {T : Rows} {d : Described} {l
 begins-part G K h b = record { sound = b .sound; runs = b .runs; lines = b .lines; orderly = b .orderly; visits = b .visits; free = free-part G K h (b .free) }
 
 -- ---- Ends
-pub ends-here : {A : Type 0} {f w ou : List ℕ} {T : Rows} {d : Described} {n m : ℕ} {E : Result A} (a : A) (c : Checker) → Runs f w T d c → Told w ou c → E .Is T a (c .state .left) → Ends f w ou w ou T d n m E (goes a c)
+pub ends-here : {A : Type 0} {f w ou : List ℕ} {T : Rows} {d : Described} {n m : ℕ} {E : Result A} (a : A) (c : Checker) → Runs f w T d c → Told d w ou c → E .Is T a (c .state .left) → Ends f w ou w ou T d n m E (goes a c)
 ends-here {T = T} a c r t i = went (record { T′ = T; more = more-refl; runs = r; lines = t; grew = grew-refl; is = i })
 
 -- More may have been made than was; and another result by the same words.

@@ -86,7 +86,7 @@ starts-run w {v} {u} {w′} e U z =
     record {
       is = λ f. record {
         is = λ T d ceiling sound S. place-runs sound (start-runs ceiling sound S B) K;
-        lines = λ ou d ceiling. no-lines low high full;
+        lines = λ ou d ceiling. no-lines _ low high full;
         records = K .below RECORD-COUNT (omega arith) ∙ B .records;
         fields = K .below RECORD-FIELD-COUNT (omega arith) ∙ B .fields;
         keeps = keeps-trans (B .keeps) (keeps-wider (omega arith) (omega arith) K);

@@ -21,7 +21,7 @@ use Rattle.tree.specs.declared.Node.the-variants as Node
 use Rattle.tree.specs.Nodes.{fieldW, fieldOf, fieldsFrom, kindW, LowerItems, IsNode}
 use Rattle.tree.proofs.Node.{the-type}
 use Rattle.tree.proofs.Lowering.{lower-below}
-use Rattle.state.specs.declared.Code.the-variants as Code
+use Rattle.messages.specs.declared.Message.the-variants as Message
 use Rattle.state.specs.Words.{Introduces}
 use Rattle.state.specs.Lines.{Rejected}
 use Rattle.state.specs.Runs.{Runs}
@@ -105,11 +105,11 @@ module _ {f w ou : List ℕ} {n : ℕ} {nd : Node} (i : IsNode f w n nd) where
     };
   }
 
-  pub head-wildcard : nd ≡ Node.Wildcard → {w′ ou′ : List ℕ} → Rejected f w ou n Code.RejectWildcardInHead w′ ou′ → ChecksHead f w ou n w′ ou′
+  pub head-wildcard : nd ≡ Node.Wildcard → {w′ ou′ : List ℕ} → Rejected f w ou n Message.WildcardHead w′ ou′ → ChecksHead f w ou n w′ ou′
   unfolding kindW formOf headForm
   head-wildcard e x = record {
     is = λ left d there. record {
-      is = λ T c s u. let q : formAt d n ≡ aWildcard = form-read s there (rw e at i) in rw q (reject-ends s n there Code.RejectWildcardInHead x);
+      is = λ T c s u. let q : formAt d n ≡ aWildcard = form-read s there (rw e at i) in rw q (reject-ends s n there Message.WildcardHead tt x);
     };
   }
 

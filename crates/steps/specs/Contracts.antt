@@ -20,13 +20,14 @@ use Rattle.tree.specs.Stands.{Stands}
 use Rattle.meaning.specs.Check as Check
 use Rattle.meaning.specs.Check.{Checker, Does, _>>=_, andThen, form}
 use Rattle.meaning.specs.Grades.{unknowns, no-thing, one-diagnostic, one-unknown, one-node, Known, introducing}
-use Rattle.meaning.specs.Diag.{Code}
+use Rattle.messages.specs.declared.Message.{Message}
+use Rattle.messages.specs.Said.{said, OkMessage}
 use Rattle.state.specs.Runs.{Runs}
 use Rattle.state.specs.Lines.{Told}
 use Rattle.cells.specs.declared.Bound.{Bound}
 use Rattle.cells.specs.declared.TyError.{TyError}
 use Rattle.cells.specs.declared.Unified.{Unified}
-use Rattle.cells.specs.Contracts.{errorOf}
+use Rattle.cells.specs.Contracts.{errorOf, OkError}
 use Rattle.tree.specs.declared.Items.{Items}
 use Rattle.tree.specs.Nodes.{fieldsFrom}
 use Rattle.steps.specs.declared.Typed.{Typed}
@@ -77,9 +78,10 @@ pub record FineUnion (w : List ℕ) (e : ℕ) (T : Rows) (c : Checker) : Type 0 
 abbrev pub Notes : List ℕ → List ℕ → List ℕ → ℕ → Ty → ℕ → List ℕ → List ℕ → Type 0
 Notes f w ou n t left w′ ou′ = (d : Described) → n < length (nodesOf d) → Beside f w ou left w′ ou′ (silent left) d (only (one-node n)) (Fine w t) (λ T. Check.annotate n (tree T t))
 
--- `reject`
-abbrev pub Rejects : List ℕ → List ℕ → List ℕ → ℕ → Code → ℕ → List ℕ → List ℕ → Type 0
-Rejects f w ou n code left w′ ou′ = (d : Described) → n < length (nodesOf d) → Beside f w ou left w′ ou′ (silent left) d (only one-diagnostic) Always (λ T. Check.reject (d .schema) (nodesOf d) n code)
+-- `reject`; the types that the message shows exist
+abbrev pub Rejects : List ℕ → List ℕ → List ℕ → ℕ → Message → ℕ → List ℕ → List ℕ → Type 0
+Rejects f w ou n m left w′ ou′ = (d : Described) → n < length (nodesOf d)
+    → Beside f w ou left w′ ou′ (silent left) d (only one-diagnostic) (λ T c. OkMessage w m) (λ T c. Check.reject (d .schema) (nodesOf d) n (said T (c .state .subst) m) c)
 
 -- `fresh_var_id`
 abbrev pub Freshens : List ℕ → List ℕ → List ℕ → ℕ → List ℕ → List ℕ → ℕ → Type 0
@@ -102,11 +104,11 @@ Fuzzes f w ou n term distance left w′ ou′ = (d : Described) → n < length (
 
 -- `unify`
 abbrev pub UnifiesTo : List ℕ → List ℕ → List ℕ → Ty → Ty → ℕ → List ℕ → List ℕ → Unified → Type 0
-UnifiesTo f w ou got expected left w′ ou′ r = (d : Described) → Beside f w ou left w′ ou′ (unified r) d (only no-thing) (λ T c. Fine w got T c × Fine w expected T c) (λ T. Check.unify (tree T got) (tree T expected))
+UnifiesTo f w ou got expected left w′ ou′ r = (d : Described) → Beside f w ou left w′ ou′ (unified w′ r) d (only no-thing) (λ T c. Fine w got T c × Fine w expected T c) (λ T. Check.unify (tree T got) (tree T expected))
 
--- `report`
+-- `report`; the types that the error shows exist
 abbrev pub Reports : List ℕ → List ℕ → List ℕ → ℕ → TyError → ℕ → List ℕ → List ℕ → Type 0
-Reports f w ou n err left w′ ou′ = (d : Described) → n < length (nodesOf d) → Beside f w ou left w′ ou′ (silent left) d (only one-diagnostic) Always (λ T. Check.report (d .schema) (nodesOf d) n (errorOf T err))
+Reports f w ou n err left w′ ou′ = (d : Described) → n < length (nodesOf d) → Beside f w ou left w′ ou′ (silent left) d (only one-diagnostic) (λ T c. OkError w err) (λ T. Check.report (d .schema) (nodesOf d) n (errorOf T err))
 
 -- `rollback`, to lengths of the undo log and of the environment
 abbrev pub RollsTo : List ℕ → List ℕ → List ℕ → ℕ → ℕ → List ℕ → List ℕ → Type 0
@@ -151,7 +153,7 @@ onlyW Typed.Out = Done.Out
 -- `begin`: nothing is made yet.
 pub record Starts (f w : List ℕ) (w′ : List ℕ) : Type 0 where
   pub is : (T : Rows) (d : Described) (ceiling : ℕ) → Sound d → Stands f w T d → Runs f w′ T d (Check.begin ceiling (length (nodesOf d)))
-  pub lines : (ou : List ℕ) (d : Described) (ceiling : ℕ) → Told w′ ou (Check.begin ceiling (length (nodesOf d)))
+  pub lines : (ou : List ℕ) (d : Described) (ceiling : ℕ) → Told d w′ ou (Check.begin ceiling (length (nodesOf d)))
   pub records : getD w′ RECORD-COUNT 0 ≡ 0
   pub fields : getD w′ RECORD-FIELD-COUNT 0 ≡ 0
   pub keeps : Keeps RECORD-COUNT END w w′

@@ -11,7 +11,7 @@ use Rattle.cells.specs.declared.TyError.{TyError}
 use Rattle.cells.specs.declared.Unified.{Unified}
 use Rattle.cells.specs.declared.Unified.the-variants as Unified
 use Rattle.cells.specs.Stands.{Rows, tree, Ok}
-use Rattle.cells.specs.Contracts.{errorOf}
+use Rattle.cells.specs.Contracts.{IsError}
 use Rattle.meaning.specs.File.{Described}
 use Rattle.meaning.specs.Check.{Checker, Step, goes, out}
 use Rattle.cells.specs.Inferred.{More}
@@ -55,12 +55,12 @@ abbrev pub numbered : ℕ → ℕ → Result ℕ
 numbered x left = record { Is = λ T v l. (x ≡ v) × (l ≡ left); Out = ⊥ }
 
 -- A unification succeeds, or the error in hand stands for the definition's.
-abbrev pub IsUnified : Unified → Rows → Option Unify.TyError → ℕ → Type 0
-IsUnified r T none left = r ≡ Unified.Good left
-IsUnified r T (some e) left = (x : TyError) × (r ≡ Unified.Bad x left) × (errorOf T x ≡ e)
+abbrev pub IsUnified : List ℕ → Unified → Rows → Option Unify.TyError → ℕ → Type 0
+IsUnified w r T none left = r ≡ Unified.Good left
+IsUnified w r T (some e) left = (x : TyError) × (r ≡ Unified.Bad x left) × IsError w T x e
 
-abbrev pub unified : Unified → Result (Option Unify.TyError)
-unified r = record { Is = λ T e left. IsUnified r T e left; Out = r ≡ Unified.Spent }
+abbrev pub unified : List ℕ → Unified → Result (Option Unify.TyError)
+unified w r = record { Is = λ T e left. IsUnified w r T e left; Out = r ≡ Unified.Spent }
 
 -- ---- The end
 
@@ -69,7 +69,7 @@ pub record Gone {A : Type 0} (f w ou w′ ou′ : List ℕ) (T : Rows) (d : Desc
   pub T′ : Rows
   pub more : More w T T′
   pub runs : Runs f w′ T′ d c
-  pub lines : Told w′ ou′ c
+  pub lines : Told d w′ ou′ c
   pub grew : Grew w w′ n m
   pub is : E .Is T′ a (c .state .left)
 

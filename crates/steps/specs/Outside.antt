@@ -20,8 +20,8 @@ use Rattle.meaning.specs.File.{Described}
 use Rattle.meaning.specs.Check as Check
 use Rattle.meaning.specs.Check.{Checker}
 use Rattle.meaning.specs.Grades.{one-diagnostic}
-use Rattle.state.specs.declared.Code.{Code}
-use Rattle.state.specs.declared.Code.the-variants as Code
+use Rattle.messages.specs.declared.Message.{Message}
+use Rattle.messages.specs.declared.Message.the-variants as Message
 use Rattle.state.specs.Lines.{Rejected}
 use Rattle.state.specs.Runs.{Runs}
 use Rattle.steps.specs.declared.Typed.{Typed}
@@ -31,11 +31,11 @@ use Rattle.steps.specs.Loads.{only, Beside}
 use Rattle.steps.specs.Contracts.{nodesOf, Fine, OnType, BringsSide, Heads, Starts}
 
 -- ---- Words
-abbrev pub reportCode : TyError → Code
-reportCode (TyError.Mismatch e g) = Code.RejectTypeMismatch
-reportCode (TyError.UnionMismatch d e g) = Code.RejectTypeMismatch
-reportCode (TyError.UnknownField n) = Code.RejectUnknownField
-reportCode TyError.Infinite = Code.RejectInfiniteType
+abbrev pub reportMessage : TyError → Message
+reportMessage (TyError.Mismatch e g) = Message.Mismatch e g
+reportMessage (TyError.UnionMismatch d e g) = Message.UnionMismatch d e g
+reportMessage (TyError.UnknownField n) = Message.NoField n
+reportMessage TyError.Infinite = Message.Infinite
 
 unfoldable pub keyTyW : List ℕ → ℕ → Bound
 unfolding declaredW
@@ -48,15 +48,18 @@ valueTyW w p =
     (pick (eqb (getD w (PREDICATES + p) 0 % 2) 1) (To (declaredW w (getD w (PREDICATES + p) 0 / 2 % 256))) Free) Free
 
 -- A diagnostic by a test.
-pub data RejectedIf (f w ou : List ℕ) (n : ℕ) (code : Code) (w′ ou′ : List ℕ) : Bool → Type 0 where
-  reported : Rejected f w ou n code w′ ou′ → RejectedIf f w ou n code w′ ou′ true
-  stayed : w′ ≡ w → ou′ ≡ ou → RejectedIf f w ou n code w′ ou′ false
+pub data RejectedIf (f w ou : List ℕ) (n : ℕ) (m : Message) (w′ ou′ : List ℕ) : Bool → Type 0 where
+  reported : Rejected f w ou n m w′ ou′ → RejectedIf f w ou n m w′ ou′ true
+  stayed : w′ ≡ w → ou′ ≡ ou → RejectedIf f w ou n m w′ ou′ false
 
 abbrev pub farW : List ℕ → ℕ → Bool
 farW w distance = pick (eqb distance 0) true (ltb (getD w MAX-DISTANCE 0) distance)
 
+abbrev pub charactersW : List ℕ → ℕ → ℕ
+charactersW w term = getD w (NAMES + term) 0 % 512
+
 abbrev pub longW : List ℕ → ℕ → Bool
-longW w term = ltb (getD w MAX-TERM 0) (getD w (NAMES + term) 0 % 512)
+longW w term = ltb (getD w MAX-TERM 0) (charactersW w term)
 
 -- The state goes back, and the environment is cut.
 pub record Rewinds (w : List ℕ) (undo env : ℕ) (w′ : List ℕ) : Type 0 where

@@ -4,9 +4,9 @@ ghost use lib.ListN.{getD};
 ghost use Rattle.cells.specs.declared.Ty.the-variants as Ty;
 ghost use Rattle.tree.specs.Nodes.{LowerItems};
 ghost use Rattle.state.specs.Lines.{Rejected};
-ghost use Rattle.state.specs.declared.Code.the-variants as Code;
+ghost use Rattle.messages.specs.declared.Message.the-variants as Message;
 ghost use Rattle.steps.specs.declared.Typed.the-variants as Typed;
-ghost use Rattle.steps.specs.Outside.{reportCode, keyTyW, valueTyW, RejectedIf, farW, longW, Rewinds, FieldIs, Shadows, ValueOf, FieldAt, KeyOf, SelectOf, ComparesOrder, IntroducesSides, ChecksHead, countersW, Untypes, StartsRun};
+ghost use Rattle.steps.specs.Outside.{reportMessage, keyTyW, valueTyW, RejectedIf, farW, charactersW, longW, Rewinds, FieldIs, Shadows, ValueOf, FieldAt, KeyOf, SelectOf, ComparesOrder, IntroducesSides, ChecksHead, countersW, Untypes, StartsRun};
 ghost use Rattle.steps.specs.Contracts.{UnifiesAt, ComparesTypes, Asks, AsksAll};
 use cells::Asked;
 use cells::Bound;
@@ -15,7 +15,7 @@ use cells::Kind;
 use cells::Ty;
 use cells::TyError;
 use cells::Unified;
-use state::Code;
+use messages::Message;
 use state::introduce;
 use state::reject;
 use tree::Items;
@@ -38,21 +38,21 @@ pub enum Done {
 
 // ---- State
 
-pub fn reject_ty(f: &[u8], w: &mut [u32], n: u32, code: Code, left: u32, out: &mut [u8]) -> Typed
-    ensures { λ r. ⌜ (r ≡ Typed.Got Ty.Error left) × Rejected (now (f .entry)) (now (w .entry)) (now (out .entry)) n code (now (w .exit)) (now (out .exit)) ⌝ }
+pub fn reject_ty(f: &[u8], w: &mut [u32], n: u32, m: Message, left: u32, out: &mut [u8]) -> Typed
+    ensures { λ r. ⌜ (r ≡ Typed.Got Ty.Error left) × Rejected (now (f .entry)) (now (w .entry)) (now (out .entry)) n m (now (w .exit)) (now (out .exit)) ⌝ }
 {
-    reject(f, w, n, code, out);
+    reject(f, w, n, m, out);
     Typed::Got(Ty::Error, left)
 }
 
 pub fn report(f: &[u8], w: &mut [u32], n: u32, err: TyError, out: &mut [u8])
-    ensures { λ _. ⌜ Rejected (now (f .entry)) (now (w .entry)) (now (out .entry)) n (reportCode err) (now (w .exit)) (now (out .exit)) ⌝ }
+    ensures { λ _. ⌜ Rejected (now (f .entry)) (now (w .entry)) (now (out .entry)) n (reportMessage err) (now (w .exit)) (now (out .exit)) ⌝ }
 {
     match err {
-        TyError::Mismatch(_, _) => reject(f, w, n, Code::RejectTypeMismatch, out),
-        TyError::UnionMismatch(_, _, _) => reject(f, w, n, Code::RejectTypeMismatch, out),
-        TyError::UnknownField(_) => reject(f, w, n, Code::RejectUnknownField, out),
-        TyError::Infinite => reject(f, w, n, Code::RejectInfiniteType, out),
+        TyError::Mismatch(e, g) => reject(f, w, n, Message::Mismatch(e, g), out),
+        TyError::UnionMismatch(d, e, g) => reject(f, w, n, Message::UnionMismatch(d, e, g), out),
+        TyError::UnknownField(name) => reject(f, w, n, Message::NoField(name), out),
+        TyError::Infinite => reject(f, w, n, Message::Infinite, out),
     }
 }
 
@@ -94,7 +94,7 @@ pub fn compare_order(f: &[u8], w: &mut [u32], lhs: u32, t: Ty, left: u32, out: &
     match o {
         Asked::Yes(l) => Done::On(l),
         Asked::No(l) => {
-            reject(f, w, lhs, Code::RejectTypeMismatch, out);
+            reject(f, w, lhs, Message::NoOrder(t), out);
             Done::On(l)
         }
         Asked::Spent => Done::Out,
@@ -197,16 +197,16 @@ pub fn value_of(f: &[u8], w: &mut [u32], n: u32, base: Ty, left: u32, out: &mut 
         Ty::Error => Typed::Got(Ty::Error, left),
         Ty::Fact(p) => {
             if key_shadows_value(w, p) {
-                return reject_ty(f, w, n, Code::RejectValueShadowed, left, out);
+                return reject_ty(f, w, n, Message::ValueShadowed, left, out);
             }
             let value = value_ty(w, p);
             match value {
                 Bound::To(t) => Typed::Got(t, left),
-                Bound::Free => reject_ty(f, w, n, Code::RejectNoValue, left, out),
+                Bound::Free => reject_ty(f, w, n, Message::NoValue, left, out),
             }
         }
-        Ty::Var(_) => reject_ty(f, w, n, Code::RejectUnresolvedAccess, left, out),
-        _ => reject_ty(f, w, n, Code::RejectTypeMismatch, left, out),
+        Ty::Var(_) => reject_ty(f, w, n, Message::UnknownType, left, out),
+        _ => reject_ty(f, w, n, Message::NotAFact(base), left, out),
     }
 }
 
@@ -224,7 +224,7 @@ pub fn field_at(
     let found = field_of(w, t, name);
     match found {
         Bound::To(u) => Typed::Got(u, left),
-        Bound::Free => reject_ty(f, w, n, Code::RejectUnknownField, left, out),
+        Bound::Free => reject_ty(f, w, n, Message::NoField(name), left, out),
     }
 }
 
@@ -250,8 +250,8 @@ pub fn key_of(
             }
         }
         Ty::Record(_) => field_at(f, w, n, name, base, left, out),
-        Ty::Var(_) => reject_ty(f, w, n, Code::RejectUnresolvedAccess, left, out),
-        _ => reject_ty(f, w, n, Code::RejectTypeMismatch, left, out),
+        Ty::Var(_) => reject_ty(f, w, n, Message::UnknownType, left, out),
+        _ => reject_ty(f, w, n, Message::NoFields(base), left, out),
     }
 }
 
@@ -275,31 +275,32 @@ pub fn select_of(
                     let t = p.ty;
                     Typed::Got(t, left)
                 }
-                Found::Nothing => reject_ty(f, w, n, Code::RejectUnknownAlternative, left, out),
+                Found::Nothing => reject_ty(f, w, n, Message::NoAlternative(name), left, out),
             }
         }
-        Ty::Var(_) => reject_ty(f, w, n, Code::RejectUnresolvedAccess, left, out),
-        _ => reject_ty(f, w, n, Code::RejectNotAUnion, left, out),
+        Ty::Var(_) => reject_ty(f, w, n, Message::UnknownType, left, out),
+        _ => reject_ty(f, w, n, Message::NotAUnion(base), left, out),
     }
 }
 
 // ---- Both bounds of a fuzzy pattern
 
 pub fn fuzzy_distance(f: &[u8], w: &mut [u32], n: u32, distance: u32, out: &mut [u8])
-    ensures { λ _. ⌜ RejectedIf (now (f .entry)) (now (w .entry)) (now (out .entry)) n Code.RejectFuzzyDistance (now (w .exit)) (now (out .exit)) (farW (now (w .entry)) distance) ⌝ }
+    ensures { λ _. ⌜ RejectedIf (now (f .entry)) (now (w .entry)) (now (out .entry)) n (Message.DistanceOutside distance) (now (w .exit)) (now (out .exit)) (farW (now (w .entry)) distance) ⌝ }
 {
     if distance == 0 {
-        reject(f, w, n, Code::RejectFuzzyDistance, out);
+        reject(f, w, n, Message::DistanceOutside(distance), out);
     } else if word(w, work::MAX_DISTANCE) < distance {
-        reject(f, w, n, Code::RejectFuzzyDistance, out);
+        reject(f, w, n, Message::DistanceOutside(distance), out);
     }
 }
 
 pub fn fuzzy_term(f: &[u8], w: &mut [u32], n: u32, term: u32, out: &mut [u8])
-    ensures { λ _. ⌜ RejectedIf (now (f .entry)) (now (w .entry)) (now (out .entry)) n Code.RejectFuzzyTerm (now (w .exit)) (now (out .exit)) (longW (now (w .entry)) term) ⌝ }
+    ensures { λ _. ⌜ RejectedIf (now (f .entry)) (now (w .entry)) (now (out .entry)) n (Message.TermTooLong (charactersW (now (w .entry)) term)) (now (w .exit)) (now (out .exit)) (longW (now (w .entry)) term) ⌝ }
 {
-    if word(w, work::MAX_TERM) < word(w, work::NAMES + wide(term)) % 512 {
-        reject(f, w, n, Code::RejectFuzzyTerm, out);
+    let characters = word(w, work::NAMES + wide(term)) % 512;
+    if word(w, work::MAX_TERM) < characters {
+        reject(f, w, n, Message::TermTooLong(characters), out);
     }
 }
 
@@ -324,7 +325,7 @@ pub fn check_head(f: &[u8], w: &mut [u32], n: u32, out: &mut [u8])
 {
     let e = tree::node_at(f, w, n);
     match e {
-        Node::Wildcard => reject(f, w, n, Code::RejectWildcardInHead, out),
+        Node::Wildcard => reject(f, w, n, Message::WildcardHead, out),
         _ => {}
     }
 }

@@ -1,6 +1,6 @@
 -- What the work slice holds after a file was read, together with the file's text: the schema and the tree that it describes.
 -- The checker builds on this.
-use mathlib.Core.List.{List, _∷_}
+use mathlib.Core.List.{List, [], _∷_}
 use mathlib.Core.Option.{Option, none, some}
 use mathlib.Core.Path.{_≡_}
 use Prim.Native.Nat.{ℕ, suc, _+_, _-_, _*_, _/_, _%_, _≤_, _<_}
@@ -48,6 +48,7 @@ abbrev pub valueOf : Rows → List ℕ → ℕ → Option Tree.Ty
 valueOf T w x = pick (eqb (x % 2) 1) (some (tree T (declaredW w (x / 2 % 256)))) none
 
 pub record PredicateIs (w : List ℕ) (T : Rows) (n : ℕ) (p : ℕ) (d : Predicate) : Type 0 where
+  pub name : d .name ≡ getD w (PREDICATES + p) 0 / 131072
   pub key : d .key ≡ tree T (declaredW w (getD w (PREDICATES + p) 0 / 512 % 256))
   pub value : d .value ≡ valueOf T w (getD w (PREDICATES + p) 0)
   pub key-there : getD w (PREDICATES + p) 0 / 512 % 256 < n
@@ -61,13 +62,20 @@ abbrev pub numbered : Option ℕ → ℕ
 numbered none = 0
 numbered (some n) = suc n
 
-pub record SchemaStands (w : List ℕ) (T : Rows) (s : Schema) : Type 0 where
+-- A name's word has the place of its line, which has its text.
+abbrev pub NameIs : List ℕ → List ℕ → ℕ → List ℕ → Type 0
+NameIs f w n text = lineAt f (getD w (NAMES + n) 0 / 512) ≡ some (0x02 ∷ text)
+
+-- The schema and the names' texts.
+pub record SchemaStands (f w : List ℕ) (T : Rows) (ts : List (List ℕ)) (s : Schema) : Type 0 where
   pub types : getD w TYPE-COUNT 0 ≤ 256
   pub cells : TypeCells w T (getD w TYPE-COUNT 0)
   pub predicates : getD w PREDICATE-COUNT 0 ≡ length (s .predicates)
   pub predicate : (p : ℕ) → p < length (s .predicates) → PredicateIs w T (getD w TYPE-COUNT 0) p (getD (s .predicates) p noPredicate)
   pub value : getD w VALUE-NAME 0 ≡ numbered (s .valueField)
   pub names : getD w NAME-COUNT 0 ≡ length (s .characters)
+  pub texts : length ts ≡ length (s .characters)
+  pub name : (n : ℕ) → n < length ts → NameIs f w n (getD ts n [])
   pub characters : (n : ℕ) → n < length (s .characters) → getD w (NAMES + n) 0 % 512 ≡ getD (s .characters) n 0
   pub distance : getD w MAX-DISTANCE 0 ≡ s .maxDistance
   pub term : getD w MAX-TERM 0 ≡ s .maxTermChars
@@ -75,7 +83,7 @@ pub record SchemaStands (w : List ℕ) (T : Rows) (s : Schema) : Type 0 where
 -- ---- The whole
 pub record Stands (f w : List ℕ) (T : Rows) (d : Described) : Type 0 where
   pub long : END ≤ length w
-  pub schema : SchemaStands w T (d .schema)
+  pub schema : SchemaStands f w T (d .names) (d .schema)
   pub nodes : getD w NODE-COUNT 0 ≡ length (d .ast .nodes)
   pub few : length (d .ast .nodes) ≤ 512
   pub node : (n : ℕ) → n < length (d .ast .nodes) → NodeIs f w n (nodeAt (d .ast .nodes) n)

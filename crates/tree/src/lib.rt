@@ -3,6 +3,9 @@ ghost use mathlib.Core.Path.{_≡_};
 ghost use Prim.Native.Nat.{ℕ, _+_, _*_, _<_, _≤_};
 ghost use Rattle.hex.specs.Digits.{digitsW, halfAt};
 ghost use Rattle.tree.specs.Nodes.{lowerW, fieldW, itemW, stmtW, stmtSizeW, lineStartW, itemsW, parentW, IsNode, headW, bodyW};
+use work::line_place;
+use work::line_size;
+use work::node_line;
 use work::wide;
 use work::word;
 
@@ -135,15 +138,15 @@ pub fn stmt_size(f: &[u8], at: usize) -> usize
 pub fn line_start(w: &[u32], n: u32) -> usize
     ensures { λ r. ⌜ r ≡ lineStartW (now (w .entry)) n ⌝ }
 {
-    wide(word(w, work::NODES + wide(n)) / 2048)
+    wide(line_place(node_line(word(w, work::NODES + wide(n)))))
 }
 
 pub fn node_at(f: &[u8], w: &[u32], n: u32) -> Node
     ensures { λ r. ⌜ IsNode (now (f .entry)) (now (w .entry)) n r ⌝ }
 {
-    let x = word(w, work::NODES + wide(n)) / 2;
-    let start = wide(x / 1024);
-    let size = x % 1024;
+    let x = node_line(word(w, work::NODES + wide(n)));
+    let start = wide(line_place(x));
+    let size = line_size(x);
     let shape = hex_byte(f, start + 18);
     let at = start + 20;
     let a = hex_half(f, at);
@@ -212,17 +215,17 @@ fn parent(f: &[u8], start: usize, size: u32, shape: u32, n: u32) -> Node
 pub fn query_head(f: &[u8], w: &[u32]) -> u32
     ensures { λ r. ⌜ r ≡ headW (now (f .entry)) (now (w .entry)) ⌝ }
 {
-    hex_half(f, wide(word(w, work::QUERY) / 1024) + 2)
+    hex_half(f, wide(line_place(word(w, work::QUERY))) + 2)
 }
 
 pub fn query_body(w: &[u32]) -> Stmts
     ensures { λ r. ⌜ (r ≡ bodyW (now (w .entry))) × (r .end < 2147483648) ⌝ }
 {
     let x = word(w, work::QUERY);
-    let start = wide(x / 1024);
+    let start = wide(line_place(x));
     Stmts {
         at: start + 6,
-        end: start + 2 * wide(x % 1024),
+        end: start + 2 * wide(line_size(x)),
         below: 512,
     }
 }

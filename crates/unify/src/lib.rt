@@ -1,6 +1,6 @@
 // `unify` and `orderable` over the cells, as ty.rs has them. A visit is counted at each entry.
 ghost use mathlib.Core.Path.{_≡_};
-ghost use Rattle.cells.specs.Words.{sameLeafW};
+ghost use Rattle.cells.specs.Words.{againW};
 ghost use Rattle.cells.specs.Contracts.{IsOrderable, Lowers, LeastFrom, NextFrom, Unifies, BindsVar, UnifiesHeads, UnifiesRecord, UnifiesFields, UnifiesUnion, UnifiesAlternative, UnifiesPayload};
 ghost use Rattle.cells.specs.declared.Ty.the-variants as Ty;
 ghost use Rattle.cells.specs.declared.TyError.the-variants as TyError;
@@ -20,11 +20,11 @@ use cells::key_at;
 use cells::occurs;
 use cells::part_count;
 use cells::part_ty;
-use cells::payload_of;
 use cells::place_of;
 use cells::repr;
+use cells::same_ty;
 use cells::set_var;
-use cells::tag_of;
+use cells::snapshot;
 
 fn bind_var(w: &mut [u32], x: u32, t: Ty, left: u32) -> Unified
     ensures { λ r. ⌜ BindsVar (now (w .entry)) x t left (now (w .exit)) r ⌝ }
@@ -38,13 +38,6 @@ fn bind_var(w: &mut [u32], x: u32, t: Ty, left: u32) -> Unified
         }
         Asked::Spent => Unified::Spent,
     }
-}
-
-// Are two types that are no unknown, no cell and no error the same?
-fn same_leaf(a: Ty, b: Ty) -> bool
-    ensures { λ r. ⌜ r ≡ sameLeafW a b ⌝ }
-{
-    tag_of(a) == tag_of(b) && payload_of(a) == payload_of(b)
 }
 
 // `got` is the type of the node that the caller reports at.
@@ -100,7 +93,7 @@ fn unify_heads(w: &mut [u32], a: Ty, b: Ty, left: u32) -> Unified
             Ty::Error => Unified::Good(left),
             Ty::Var(y) => bind_var(w, y, a, left),
             _ => {
-                if same_leaf(a, b) {
+                if same_ty(a, b) {
                     Unified::Good(left)
                 } else {
                     Unified::Bad(TyError::Mismatch(b, a), left)
@@ -121,12 +114,32 @@ fn unify_record(w: &mut [u32], c: u32, d: u32, left: u32) -> Unified
     }
 }
 
-// Each name of the found side is sought in the expected.
+// Whether these two are the last two that were unified, and nothing was bound since before that.
+fn again(w: &[u32], x: Ty, y: Ty, got: Ty, expected: Ty, log: u32) -> bool
+    ensures { λ r. ⌜ r ≡ againW (now (w .entry)) x y got expected log ⌝ }
+{
+    if same_ty(x, got) {
+        if same_ty(y, expected) {
+            snapshot(w) == log
+        } else {
+            false
+        }
+    } else {
+        false
+    }
+}
+
+// Each name of the found side is sought in the expected. Two types that were just unified, and nothing was bound in it, cost
+// the same again, and are not walked.
 fn unify_fields(w: &mut [u32], c: u32, d: u32, n: u32, left: u32) -> Unified
     ensures { λ r. ⌜ UnifiesFields (now (w .entry)) c d n left (now (w .exit)) r ⌝ }
 {
     let mut j: u32 = 0;
     let mut rest = left;
+    let mut got = Ty::Error;
+    let mut expected = Ty::Error;
+    let mut cost: u32 = 1;
+    let mut log: u32 = 0;
     while j < n {
         let p = field(w, c, j);
         let place = place_of(w, Kind::Fields, d, p.key);
@@ -139,13 +152,24 @@ fn unify_fields(w: &mut [u32], c: u32, d: u32, n: u32, left: u32) -> Unified
         let q = field(w, d, i);
         let x = p.ty;
         let y = q.ty;
-        let r = unify(w, x, y, rest);
-        match r {
-            Unified::Good(l) => {
-                rest = l;
+        if again(w, x, y, got, expected, log) {
+            if rest < cost {
+                return Unified::Spent;
             }
-            _ => {
-                return r;
+            rest -= cost;
+        } else {
+            log = snapshot(w);
+            let r = unify(w, x, y, rest);
+            match r {
+                Unified::Good(l) => {
+                    got = x;
+                    expected = y;
+                    cost = rest - l;
+                    rest = l;
+                }
+                _ => {
+                    return r;
+                }
             }
         }
         j += 1;
@@ -268,7 +292,8 @@ fn unify_payload(w: &mut [u32], c: u32, d: u32, diff: UnionDiff, a: Ty, b: Ty, l
     }
 }
 
-// `orderable` of the resolved type: unknowns are looked up on the way; to the first no.
+// `orderable` of the resolved type: unknowns are looked up on the way; to the first no. As in `occurs`, a part of the same
+// type as the last one costs what that cost.
 pub fn orderable(w: &[u32], t: Ty, left: u32) -> Asked
     ensures { λ r. ⌜ IsOrderable (now (w .entry)) t left r ⌝ }
 {
@@ -285,15 +310,26 @@ pub fn orderable(w: &[u32], t: Ty, left: u32) -> Asked
     }
     let n = part_count(w, u);
     let mut j: u32 = 0;
+    let mut last = Ty::Error;
+    let mut cost: u32 = 1;
     while j < n {
         let q = part_ty(w, u, j);
-        let r = orderable(w, q, rest);
-        match r {
-            Asked::Yes(l) => {
-                rest = l;
+        if same_ty(q, last) {
+            if rest < cost {
+                return Asked::Spent;
             }
-            _ => {
-                return r;
+            rest -= cost;
+        } else {
+            let r = orderable(w, q, rest);
+            match r {
+                Asked::Yes(l) => {
+                    last = q;
+                    cost = rest - l;
+                    rest = l;
+                }
+                _ => {
+                    return r;
+                }
             }
         }
         j += 1;

@@ -135,14 +135,29 @@ pub const END: usize = UNDO + Counters::UNDO as usize;
 mod packed;
 
 pub use packed::above_tag;
+pub use packed::has_value;
+pub use packed::is_named;
+pub use packed::line_place;
+pub use packed::line_size;
+pub use packed::line_word;
+pub use packed::name_chars;
+pub use packed::name_place;
+pub use packed::name_word;
+pub use packed::node_line;
+pub use packed::node_word;
 pub use packed::part;
 pub use packed::part_name;
 pub use packed::part_type;
+pub use packed::predicate_key;
+pub use packed::predicate_name;
+pub use packed::predicate_value;
+pub use packed::predicate_word;
 pub use packed::run_first;
 pub use packed::run_of;
 pub use packed::run_size;
 pub use packed::tag_in;
 pub use packed::with_tag;
+pub use packed::with_value;
 
 pub fn wide(x: u32) -> usize
     ensures { λ r. ⌜ (r ≡ x) × (r < 4294967296) ⌝ }

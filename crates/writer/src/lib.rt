@@ -83,23 +83,25 @@ pub fn tagged(out: &mut [u8], at: usize, tag: u32, x: u32) -> Wrote
     }
 }
 
-// The bytes of a text.
+// The bytes of a text. The room is looked for once, so that nothing is asked for each byte.
 pub fn text(out: &mut [u8], at: usize, s: &[u8]) -> Wrote
     ensures { λ r. ⌜ WritesText (now (out .entry)) at (now (s .entry)) (now (out .exit)) r ⌝ }
 {
+    let n = s.len();
+    if out.len() < at {
+        return Wrote::Full;
+    }
+    if (out.len() - at) / 2 < n {
+        return Wrote::Full;
+    }
     let mut i: usize = 0;
     let mut to = at;
-    while i < s.len() {
-        let r = byte(out, to, s[i] as u32);
-        match r {
-            Wrote::To(m) => {
-                to = m;
-            }
-            Wrote::Full => {
-                return Wrote::Full;
-            }
-        }
+    while i < n {
+        let b = s[i] as u32;
+        out[to] = hex_digit(b / 16);
+        out[to + 1] = hex_digit(b % 16);
         i += 1;
+        to += 2;
     }
     Wrote::To(to)
 }

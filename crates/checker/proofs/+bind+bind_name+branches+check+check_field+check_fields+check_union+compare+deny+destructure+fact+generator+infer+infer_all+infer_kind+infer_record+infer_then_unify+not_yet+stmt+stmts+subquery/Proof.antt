@@ -1,4 +1,4 @@
--- Made from Proof.ans by tools/answers, 828e349875860226 83b059194fdcd8a3.
+-- Made from Proof.ans by tools/answers, ecac372fa6c2c6d6 72d5cc20b78c4325.
 -- What a node names is lower, so the node falls, and on one node the rank of specs/Contracts.antt. Each arm is a law of its own.
 use Prim.Native.Nat.{ℕ, _<_, _+_, _-_, _*_, _≤_}
 use borrow.Fn.Kinds.{In}
@@ -76,7 +76,6 @@ use Rattle.cells.proofs.reserve.Reads as reserve-reads
 use Rattle.cells.proofs.repr.Reads as repr-reads
 use Rattle.cells.proofs.snapshot.Reads as snapshot-reads
 use Rattle.cells.proofs.tag_of.Reads as tag-of-reads
-use Rattle.unify.proofs.unify.Reads as unify-reads
 use Rattle.checker.proofs.only.Reads as only-reads
 use Rattle.state.proofs.introduce.Reads as introduce-reads
 use Rattle.state.proofs.reject.Reads as reject-reads
@@ -97,6 +96,7 @@ use Rattle.tree.proofs.item_at.Reads as item-at-reads
 use Rattle.tree.proofs.node_at.Reads as node-at-reads
 use Rattle.tree.proofs.stmt_at.Reads as stmt-at-reads
 use Rattle.tree.proofs.stmt_size.Reads as stmt-size-reads
+use Rattle.unify.proofs.unify.Reads as unify-reads
 use Rattle.work.proofs.put.Reads as put-reads
 use Rattle.work.proofs.word.Reads as word-reads
 use Rattle.checker.proofs.+bind+bind_name+branches+check+check_field+check_fields+check_union+compare+deny+destructure+fact+generator+infer+infer_all+infer_kind+infer_record+infer_then_unify+not_yet+stmt+stmts+subquery.{statement}
@@ -105,13 +105,12 @@ use borrow.Author.Needs.{needs}
 use native.Mathlib.Omega.{arith}
 use mathlib.Core.Path.{_≡_, refl, sym, ap, _∙_}
 use lib.ListN.{length}
-use Rattle.state.specs.declared.Code.the-variants as Code
 use Rattle.meaning.specs.Check.{formOf}
 use Rattle.tree.specs.Nodes.{kindW}
 use Rattle.steps.proofs.Ending.{brings}
 use Rattle.steps.proofs.Forms.{constant-form}
 use Rattle.steps.proofs.Besides.{unifies}
-use Rattle.checker.proofs.Callees.{as-node, rejects-by, notes-by, freshens-by, reports-by, rolls-by, cuts-by, fuzzes-by, key-by, key-on, value-on, item-falls, field-falls, stmt-falls, size-small, turn-at, generates-at, mentions-at, checks-at, finds-at}
+use Rattle.checker.proofs.Callees.{as-node, rejects-by, notes-by, freshens-by, reports-by, rolls-by, cuts-by, fuzzes-by, key-by, key-on, value-on, item-falls, field-falls, stmt-falls, size-small, turn-at, generates-at, mentions-at, checks-at, finds-at, unknown-at}
 use Rattle.checker.proofs.Choosing.{later, denied-later, inferred, deny-target, no-disjunction, record-whole}
 use Rattle.checker.proofs.Inferring.{infer-typed, infer-out, int-arm, bytes-arm, str-arm, prefix-arm, error-arm, wildcard-arm, never-arm, variable-arm}
 use Rattle.checker.proofs.Arms.{head-arm, head-out, key-head, value-head, select-head, fact-free, fact-on, fact-out, fact-arm, record-arm, subquery-arm, arith-arm, disjunction-arm, fuzzy-arm}
@@ -1195,7 +1194,7 @@ bind-returns-6 : (t : ℕ) → bind-lts.Need-returns-6 (
   only-reads.Asked,
   only-reads.Learnt,
 ) (bind-at t) bind.Post
-bind-returns-6 t c = rw (c .only .ensures) (bind-constant (c .before .before .before .before .before .before .before .before .before .before .before .before .before .before .before .before .node-at .ensures) (constant-form _ _ (c .before .before .before .before .before .before .before .before .before .before .before .before .before .before .before .match .keys4)) (bad-target (rejects-by Code.RejectBindLhs (c .before .before .before .before .before .before .before .before .before .before .before .before .reject .ensures)) (c .before .before .before .before .before .infer2 .ensures)))
+bind-returns-6 t c = rw (c .only .ensures) (bind-constant (c .before .before .before .before .before .before .before .before .before .before .before .before .before .before .before .before .node-at .ensures) (constant-form _ _ (c .before .before .before .before .before .before .before .before .before .before .before .before .before .before .before .match .keys4)) (bad-target (rejects-by (c .before .before .before .before .before .before .before .before .before .before .before .before .reject .ensures)) (c .before .before .before .before .before .infer2 .ensures)))
 
 bind-same-length-13 : (t : ℕ) → bind-lts.Need-same-length-13 (
   node-at-reads.Asked,
@@ -2580,7 +2579,7 @@ check-field-returns-4 : (t : ℕ) → check-field-lts.Need-returns-4 (
   reject-reads.Asked,
   reject-reads.Learnt,
 ) (check-field-at t) check-field.Post
-check-field-returns-4 t c = mentions-none (c .before .before .before .before .before .before .before .before .before .find-key .ensures) (c .before .before .before .before .before .before .before .enum-told2 .given .1) (rejects-by Code.RejectUnknownField (c .before .before .before .before .reject .ensures))
+check-field-returns-4 t c = mentions-none (c .before .before .before .before .before .before .before .before .before .find-key .ensures) (c .before .before .before .before .before .before .before .enum-told2 .given .1) (rejects-by (c .before .before .before .before .reject .ensures))
 
 check-fields-loop-holds : (t : ℕ) → check-fields-lts.Need-loop-holds (
   field-at-reads.Asked,
@@ -2748,7 +2747,7 @@ check-union-returns : (t : ℕ) → check-union-lts.Need-returns (
   annotate-reads.Asked,
   annotate-reads.Learnt,
 ) (check-union-at t) check-union.Post
-check-union-returns t c = union-arity (c .before .before .before .before .before .before .before .if1 .taken) (rejects-by Code.RejectUnionArity (c .before .before .before .before .reject .ensures))
+check-union-returns t c = union-arity (c .before .before .before .before .before .before .before .if1 .taken) (rejects-by (c .before .before .before .before .reject .ensures))
 
 check-union-field-at-requires : (t : ℕ) → check-union-lts.Need-field-at-requires (
   reject-reads.Asked,
@@ -3000,7 +2999,7 @@ check-union-returns-4 : (t : ℕ) → check-union-lts.Need-returns-4 (
   annotate-reads.Asked,
   annotate-reads.Learnt,
 ) (check-union-at t) check-union.Post
-check-union-returns-4 t c = union-unknown (c .before .before .before .before .before .before .before .before .before .before .before .before .if1 .left) (finds-at (c .before .before .before .before .before .before .before .before .before .before .before .field-at .ensures) (c .before .before .before .before .before .before .before .before .before .find-name .ensures)) (c .before .before .before .before .before .before .before .enum-told2 .given .1) (rejects-by Code.RejectUnknownAlternative (c .before .before .before .before .reject2 .ensures))
+check-union-returns-4 t c = union-unknown (c .before .before .before .before .before .before .before .before .before .before .before .before .if1 .left) (finds-at (c .before .before .before .before .before .before .before .before .before .before .before .field-at .ensures) (c .before .before .before .before .before .before .before .before .before .find-name .ensures)) (c .before .before .before .before .before .before .before .enum-told2 .given .1) (unknown-at (c .before .before .before .before .before .before .before .before .before .before .before .field-at .ensures) (c .before .before .before .before .reject2 .ensures))
 
 compare-introduce-side-requires : (t : ℕ) → compare-lts.Need-introduce-side-requires (
   introduce-side-reads.Asked,
@@ -3436,7 +3435,7 @@ deny-returns-2 : (t : ℕ) → deny-lts.Need-returns-2 (
   not-yet-below t,
   not-yet.Post,
 ) (deny-at t) deny.Post
-deny-returns-2 t c = rw (c .only .ensures) (deny-target (c .before .before .before .before .before .before .before .before .before .before .before .before .before .before .before .match .keys2) (c .before .before .before .before .before .before .before .before .before .before .before .before .before .before .before .before .node-at .ensures) (bad-target (rejects-by Code.RejectBindLhs (c .before .before .before .before .before .before .before .before .before .before .before .before .reject .ensures)) (c .before .before .before .before .before .infer .ensures)))
+deny-returns-2 t c = rw (c .only .ensures) (deny-target (c .before .before .before .before .before .before .before .before .before .before .before .before .before .before .before .match .keys2) (c .before .before .before .before .before .before .before .before .before .before .before .before .before .before .before .before .node-at .ensures) (bad-target (rejects-by (c .before .before .before .before .before .before .before .before .before .before .before .before .reject .ensures)) (c .before .before .before .before .before .infer .ensures)))
 
 deny-same-length-5 : (t : ℕ) → deny-lts.Need-same-length-5 (
   node-at-reads.Asked,
@@ -8083,7 +8082,7 @@ not-yet-returns : (t : ℕ) → not-yet-lts.Need-returns (
   only-reads.Asked,
   only-reads.Learnt,
 ) (not-yet-at t) not-yet.Post
-not-yet-returns t c = rw (c .only .ensures) (not-yet (rejects-by Code.NyiBindUnification (c .before .before .before .before .before .before .before .before .before .before .before .before .before .before .before .before .before .before .before .before .before .before .reject .ensures)) (c .before .before .before .before .before .before .before .before .before .before .before .before .before .before .before .infer .ensures) (c .before .before .before .before .before .before .before .before .before .r .given .1) (c .before .before .before .before .before .infer2 .ensures))
+not-yet-returns t c = rw (c .only .ensures) (not-yet (rejects-by (c .before .before .before .before .before .before .before .before .before .before .before .before .before .before .before .before .before .before .before .before .before .before .reject .ensures)) (c .before .before .before .before .before .before .before .before .before .before .before .before .before .before .before .infer .ensures) (c .before .before .before .before .before .before .before .before .before .r .given .1) (c .before .before .before .before .before .infer2 .ensures))
 
 not-yet-same-length-3 : (t : ℕ) → not-yet-lts.Need-same-length-3 (
   reject-reads.Asked,
@@ -8113,7 +8112,7 @@ not-yet-returns-2 : (t : ℕ) → not-yet-lts.Need-returns-2 (
   only-reads.Asked,
   only-reads.Learnt,
 ) (not-yet-at t) not-yet.Post
-not-yet-returns-2 t c = not-yet-out (rejects-by Code.NyiBindUnification (c .before .before .before .before .before .before .before .before .before .before .before .before .before .reject .ensures)) (c .before .before .before .before .before .before .infer .ensures) (c .enum-told .given .1)
+not-yet-returns-2 t c = not-yet-out (rejects-by (c .before .before .before .before .before .before .before .before .before .before .before .before .before .reject .ensures)) (c .before .before .before .before .before .before .infer .ensures) (c .enum-told .given .1)
 
 stmt-stmt-at-requires : (t : ℕ) → stmt-lts.Need-stmt-at-requires (
   stmt-at-reads.Asked,

@@ -1,4 +1,4 @@
--- Made from Proof.ans by tools/answers, 3c5876ca298dc7cb de9c0b7945fed1c4.
+-- Made from Proof.ans by tools/answers, 1dbdae95444f315e 988fffb78a5dddcd.
 -- `loading::load` meets its contract, line by line (Loading.antt). The measure is what is left of the file.
 use Rattle.loading.proofs.load.Statement.{statement}
 use Rattle.loading.proofs.load.Tie as tie
@@ -6,6 +6,8 @@ use Rattle.loading.proofs.load.Reads as reads
 use Rattle.loading.proofs.load.Lts as lts
 use Rattle.frames.proofs.kind_of.Reads as kind-of-reads
 use Rattle.frames.proofs.decode.Reads as decode-reads
+use Rattle.work.proofs.line_word.Reads as line-word-reads
+use Rattle.work.proofs.node_word.Reads as node-word-reads
 use Rattle.work.proofs.put.Reads as put-reads
 use Rattle.work.proofs.wide.Reads as wide-reads
 use borrow.Author.Needs.{needs}
@@ -36,23 +38,18 @@ load-spec =
     (λ c. search needs)
     (λ c. search needs)
     (λ c κs. search needs)
-    (λ c. search needs)
-    (λ c. search (needs, c .before .before .before .before .before .before .decode .ensures .holds _ _ (c .before .before .before .before .got .given .1) .most))
-    (λ c. search (needs, c .before .before .before .before .before .before .decode .ensures .holds _ _ (c .before .before .before .before .got .given .1) .most))
+    (λ c κs. search (needs, c .before .before .before .before .before .before .decode .ensures .holds _ _ (c .before .before .before .before .got .given .1) .most))
     (λ c κs. search needs)
     (λ c κs. search needs)
     (λ c. search needs)
-    (λ c. rw (c .before .before .put2 .ensures, c .before .before .before .before .before .before .put .ensures) (loading-query (c .before .before .before .before .before .before .before .before .before .before .before .before .before .before .before .before .loop .inv .1) (c .before .before .before .before .before .before .before .before .before .before .before .before .before .decode .ensures .holds _ _ (c .before .before .before .before .before .before .before .before .before .before .before .got .given .1)) _ (c .before .before .before .before .before .before .before .before .before .kind-of .ensures) (c .before .before .before .before .before .before .before .before .if2 .taken)))
+    (λ c. rw (c .before .before .put2 .ensures, c .before .before .before .before .before .before .put .ensures, c .before .before .before .before .before .before .before .line-word .ensures) (loading-query (c .before .before .before .before .before .before .before .before .before .before .before .before .before .before .before .before .before .loop .inv .1) (c .before .before .before .before .before .before .before .before .before .before .before .before .before .before .decode .ensures .holds _ _ (c .before .before .before .before .before .before .before .before .before .before .before .before .got .given .1)) _ (c .before .before .before .before .before .before .before .before .before .before .kind-of .ensures) (c .before .before .before .before .before .before .before .before .before .if2 .taken)))
     (λ c κs. search needs)
     (λ c. search needs)
-    (λ c. search needs)
-    (λ c. search (needs, c .before .before .before .before .before .before .before .before .before .decode .ensures .holds _ _ (c .before .before .before .before .before .before .before .got .given .1) .most))
-    (λ c. search (needs, c .before .before .before .before .before .before .before .before .before .decode .ensures .holds _ _ (c .before .before .before .before .before .before .before .got .given .1) .most))
-    (λ c. search (needs, c .before .before .before .before .before .before .before .before .before .decode .ensures .holds _ _ (c .before .before .before .before .before .before .before .got .given .1) .most))
+    (λ c κs. search (needs, c .before .before .before .before .before .before .before .before .before .decode .ensures .holds _ _ (c .before .before .before .before .before .before .before .got .given .1) .most))
     (λ c κs. search needs)
     (λ c. search needs)
-    (λ c. let h = c .before .before .before .before .before .before .before .before .before .before .before .before .decode .ensures .holds _ _ (c .before .before .before .before .before .before .before .before .before .before .got .given .1) in omega (arith, h .on, h .within))
-    (λ c. (c .before .before .before .before .before .before .before .before .before .before .before .before .decode .ensures .room, rw (c .before .before .put3 .ensures, c .before .before .before .wide .ensures .0) (loading-node (c .before .before .before .before .before .before .before .before .before .before .before .before .before .before .before .loop .inv .1) (c .before .before .before .before .before .before .before .before .before .before .before .before .decode .ensures .holds _ _ (c .before .before .before .before .before .before .before .before .before .before .got .given .1)) _ (c .before .before .before .before .before .before .before .before .kind-of .ensures) (c .before .before .before .before .before .before .if3 .taken) (c .before .before .before .before .before .if4 .taken))))
+    (λ c. let h = c .before .before .before .before .before .before .before .before .before .before .before .before .before .decode .ensures .holds _ _ (c .before .before .before .before .before .before .before .before .before .before .before .got .given .1) in omega (arith, h .on, h .within))
+    (λ c. (c .before .before .before .before .before .before .before .before .before .before .before .before .before .decode .ensures .room, rw (c .before .before .put3 .ensures, c .before .before .before .before .wide .ensures .0, c .before .before .before .node-word .ensures) (loading-node (c .before .before .before .before .before .before .before .before .before .before .before .before .before .before .before .before .loop .inv .1) (c .before .before .before .before .before .before .before .before .before .before .before .before .before .decode .ensures .holds _ _ (c .before .before .before .before .before .before .before .before .before .before .before .got .given .1)) _ (c .before .before .before .before .before .before .before .before .before .kind-of .ensures) (c .before .before .before .before .before .before .before .if3 .taken) (c .before .before .before .before .before .before .if4 .taken))))
     (λ c. let h = c .before .before .before .before .before .before .before .decode .ensures .holds _ _ (c .before .before .before .before .before .got .given .1) in omega (arith, h .on, h .within))
     (λ c. (c .before .before .before .before .before .before .before .decode .ensures .room, loading-full (c .before .before .before .before .before .before .before .before .before .before .loop .inv .1) (c .before .before .before .before .before .before .before .decode .ensures .holds _ _ (c .before .before .before .before .before .got .given .1)) _ (c .before .before .before .kind-of .ensures) (c .before .if3 .taken) (c .if4 .left)))
     (λ c. let h = c .before .before .before .before .before .before .decode .ensures .holds _ _ (c .before .before .before .before .got .given .1) in omega (arith, h .on, h .within))

@@ -1,11 +1,11 @@
--- Made from Proof.ans by tools/answers, d312a159e08ff5bf d7da1f19577df100.
+-- Made from Proof.ans by tools/answers, d312a159e08ff5bf d76fb11e77636ad1.
 -- Where the node stands, then the code.
 use borrow.Author.Needs.{needs}
 use Rattle.state.proofs.diagnostic.Statement.{statement}
 use Rattle.state.proofs.diagnostic.Tie as tie
 use Rattle.state.proofs.diagnostic.Reads as reads
 use Rattle.state.proofs.diagnostic.Lts as lts
-use Rattle.state.proofs.code_text.Reads as code-text-reads
+use Rattle.messages.proofs.code_text.Reads as code-text-reads
 use Rattle.state.proofs.head.Reads as head-reads
 use Rattle.tree.proofs.line_start.Reads as line-start-reads
 use native.Mathlib.Omega.{arith}

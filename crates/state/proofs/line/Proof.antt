@@ -1,14 +1,14 @@
--- Made from Proof.ans by tools/answers, 7c81db019010227e 214004754b2fa554.
--- The digits, then LF.
+-- Made from Proof.ans by tools/answers, 63d86a79a21d94a3 4ebc5da5523fee08.
+-- The line with the code, then the one with the text.
 use borrow.Author.Needs.{needs}
 use Rattle.state.proofs.line.Statement.{statement}
 use Rattle.state.proofs.line.Tie as tie
 use Rattle.state.proofs.line.Reads as reads
 use Rattle.state.proofs.line.Lts as lts
-use Rattle.writer.proofs.close.Reads as close-reads
-use Rattle.state.proofs.diagnostic.Reads as diagnostic-reads
+use Rattle.state.proofs.code_line.Reads as code-line-reads
+use Rattle.state.proofs.message_line.Reads as message-line-reads
 use native.Mathlib.Omega.{arith}
-use Rattle.state.proofs.Telling.{closed-then, closed-full}
+use Rattle.state.proofs.Telling.{both-then, both-full}
 
 pub line-spec : {M : Type 1} → statement M
 line-spec =
@@ -19,6 +19,6 @@ line-spec =
     (λ c κs. search needs)
     (λ c. search needs)
     (λ c. search needs)
-    (λ c. closed-then (c .before .before .before .before .before .before .before .before .before .diagnostic .ensures) (c .before .before .before .before .before .r .given .1) (c .before .before .close .ensures))
+    (λ c. both-then (c .before .before .before .before .before .before .before .before .before .code-line .ensures) (c .before .before .before .before .before .r .given .1) (c .before .before .message-line .ensures))
     (λ c. search needs)
-    (λ c. closed-full (c .before .before .before .before .diagnostic .ensures) (c .enum-told .given .1)))
+    (λ c. both-full (c .before .before .before .before .code-line .ensures) (c .enum-told .given .1)))

@@ -1,4 +1,4 @@
--- Made from Proof.ans by tools/answers, 0225337091972327 5d7aaf3f481cfad9.
+-- Made from Proof.ans by tools/answers, 37a18703a29cf16e 02f1d003465442c0.
 -- The test is the one of `longW`.
 use borrow.Author.Needs.{needs}
 use Rattle.steps.proofs.fuzzy_term.Statement.{statement}
@@ -18,12 +18,12 @@ fuzzy-term-spec =
     tie.close
     (tie.spec
     (λ c κs. search needs)
-    (λ c κs. search needs)
     (λ c. search needs)
     (λ c κs. search needs)
     (λ c κs. search needs)
+    (λ c κs. search needs)
     (λ c. search needs)
     (λ c. search needs)
-    (λ c. rw (lt-ltb _ _ (rw (c .before .before .before .before .before .before .before .before .before .before .before .word .ensures, c .before .before .before .before .before .before .before .before .word2 .ensures, c .before .before .before .before .before .before .before .before .before .wide .ensures .0) at (c .before .before .before .before .before .before .before .if1 .taken))) (reported (c .before .before .before .before .reject .ensures)))
+    (λ c. rw (lt-ltb _ _ (rw (c .before .before .before .before .before .before .before .before .word2 .ensures, c .before .before .before .before .before .before .before .before .before .before .word .ensures, c .before .before .before .before .before .before .before .before .before .before .before .wide .ensures .0) at (c .before .before .before .before .before .before .before .if1 .taken))) (reported (rw (c .before .before .before .before .before .before .before .before .before .before .word .ensures, c .before .before .before .before .before .before .before .before .before .before .before .wide .ensures .0) at (c .before .before .before .before .reject .ensures))))
     (λ c. search needs)
-    (λ c. rw (le-ltb _ _ (rw (c .before .before .before .before .word .ensures, c .before .word2 .ensures, c .before .before .wide .ensures .0) at (c .if1 .left))) (stayed refl refl)))
+    (λ c. rw (le-ltb _ _ (rw (c .before .word2 .ensures, c .before .before .before .word .ensures, c .before .before .before .before .wide .ensures .0) at (c .if1 .left))) (stayed refl refl)))

@@ -1,5 +1,5 @@
--- Made from Proof.ans by tools/answers, 5a449dd4a7ceba68 22b0a2f7bd5a8c6d.
--- The code of each failure is the one of `reportCode`.
+-- Made from Proof.ans by tools/answers, 9603c0a026a61d13 a96d36c18e4491bc.
+-- The message of each failure is the one of `reportMessage`.
 use borrow.Author.Needs.{needs}
 use Rattle.steps.proofs.report.Statement.{statement}
 use Rattle.steps.proofs.report.Tie as tie
@@ -22,13 +22,13 @@ report-spec =
     (λ c κs. search needs)
     (λ c. search needs)
     (λ c. search needs)
-    (λ c. rw (c .before .before .before .before .before .before .before .enum-told .given .1) (c .before .before .before .before .reject .ensures))
+    (λ c. rw (c .before .before .before .before .before .before .before .before .err .given .1) (c .before .before .before .before .reject .ensures))
     (λ c. search needs)
     (λ c. search needs)
-    (λ c. rw (c .before .before .before .before .before .before .before .enum-told2 .given .1) (c .before .before .before .before .reject2 .ensures))
+    (λ c. rw (c .before .before .before .before .before .before .before .before .err2 .given .1) (c .before .before .before .before .reject2 .ensures))
     (λ c. search needs)
     (λ c. search needs)
-    (λ c. rw (c .before .before .before .before .before .before .before .enum-told3 .given .1) (c .before .before .before .before .reject3 .ensures))
+    (λ c. rw (c .before .before .before .before .before .before .before .before .err3 .given .1) (c .before .before .before .before .reject3 .ensures))
     (λ c. search needs)
     (λ c. search needs)
-    (λ c. rw (c .before .before .before .before .before .before .before .enum-told4 .given .1) (c .before .before .before .before .reject4 .ensures)))
+    (λ c. rw (c .before .before .before .before .before .before .before .enum-told .given .1) (c .before .before .before .before .reject4 .ensures)))

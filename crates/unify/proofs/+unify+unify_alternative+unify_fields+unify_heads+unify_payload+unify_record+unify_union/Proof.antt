@@ -1,4 +1,4 @@
--- Made from Proof.ans by tools/answers, ebf4dbb08b8f11d6 177cc214ab86a0f8.
+-- Made from Proof.ans by tools/answers, 74f79ad3e299182a d772b7d6eba502ac.
 -- An entry costs a visit, and the visits left never grow: the measure is the visits left, and among calls with as many left
 -- the place of a function on the way down from `unify_heads` to the next `unify`. Each arm is a law of its own.
 use Prim.Native.Nat.{ℕ, _<_, _+_, _-_, _*_, _≤_}
@@ -30,19 +30,22 @@ use Rattle.cells.proofs.count.Reads as count-reads
 use Rattle.cells.proofs.field.Reads as field-reads
 use Rattle.cells.proofs.place_of.Reads as place-of-reads
 use Rattle.cells.proofs.repr.Reads as repr-reads
+use Rattle.cells.proofs.same_ty.Reads as same-ty-reads
 use Rattle.cells.proofs.set_var.Reads as set-var-reads
+use Rattle.cells.proofs.snapshot.Reads as snapshot-reads
+use Rattle.unify.proofs.again.Reads as again-reads
 use Rattle.unify.proofs.bind_var.Reads as bind-var-reads
 use Rattle.unify.proofs.differ.Reads as differ-reads
 use Rattle.unify.proofs.next_discriminant.Reads as next-discriminant-reads
-use Rattle.unify.proofs.same_leaf.Reads as same-leaf-reads
 use Rattle.unify.proofs.+unify+unify_alternative+unify_fields+unify_heads+unify_payload+unify_record+unify_union.{statement}
 use Rattle.unify.proofs.+unify+unify_alternative+unify_fields+unify_heads+unify_payload+unify_record+unify_union.Tie.{close}
 use borrow.Author.Needs.{needs}
 use native.Mathlib.Omega.{arith}
 use mathlib.Core.Path.{_≡_, refl, sym, ap, _∙_}
-use Rattle.cells.proofs.Heads.{error-var, error-else, var-error, var-same, var-var, var-else, record-error, record-var, record-record, record-else, union-error, union-var, union-union, union-else, leaf-error, leaf-var, leaf-same, leaf-else, unify-none, unify-enter}
+use mathlib.Core.Logic.{⊎-elim}
+use Rattle.cells.proofs.Heads.{error-var, error-else, var-error, var-same, var-var, var-else, record-error, record-var, record-record, record-else, union-error, union-var, union-union, union-else, leaf-error, leaf-var, leaf-same, leaf-else, again-true, unify-none, unify-enter}
 use Rattle.cells.proofs.Parts.{place-here, place-none}
-use Rattle.cells.proofs.Records.{record-same, record-differs, FieldsGoing, fields-start, fields-unknown, fields-next, fields-stop, fields-end}
+use Rattle.cells.proofs.Records.{record-same, record-differs, FieldsGoing, fields-start, fields-unknown, fields-again, fields-short, fields-next, fields-stop, fields-end}
 use Rattle.cells.proofs.Unions.{payload-fails, payload-else, in-neither, in-expected, in-found, renamed, in-both, UnionGoing, union-start, union-next, union-stop, union-end, union-past}
 
 abbrev μ-unify : Measures 1 unify-kinds.ps ℕ
@@ -141,10 +144,12 @@ unify-union-below t =
     and 1 unify-union-kinds.ps (falls 1 unify-union-kinds.ps _<_ μ-unify-union t) unify-union.Pre
 
 abbrev unify-fields-Inv-loop : unify-fields-lts.InvT-loop
-unify-fields-Inv-loop w₀ c d n left j₀ rest₀ w j rest = FieldsGoing w₀ c d n left w j rest
+unify-fields-Inv-loop w₀ c d n left j₀ rest₀ got₀ expected₀ cost₀ log₀ w j rest got expected cost log =
+    FieldsGoing w₀ c d n left w j rest got expected cost log
 
 abbrev unify-fields-μ-loop : unify-fields-lts.MeasureT-loop
-unify-fields-μ-loop w₀ c d n left j₀ rest₀ w j rest = n - j
+unify-fields-μ-loop w₀ c d n left j₀ rest₀ got₀ expected₀ cost₀ log₀ w j rest got expected cost log =
+    n - j
 
 abbrev unify-union-Inv-loop : unify-union-lts.InvT-loop
 unify-union-Inv-loop w₀ c d left from₀ rest₀ w from rest = UnionGoing w₀ c d left w from rest × (from ≤ 4294967296)
@@ -220,6 +225,10 @@ pub +unify+unify-alternative+unify-fields+unify-heads+unify-payload+unify-record
       field-reads.Learnt,
       place-of-reads.Asked,
       place-of-reads.Learnt,
+      again-reads.Asked,
+      again-reads.Learnt,
+      snapshot-reads.Asked,
+      snapshot-reads.Learnt,
       unify-below t,
       unify.Post,
     )
@@ -227,7 +236,7 @@ pub +unify+unify-alternative+unify-fields+unify-heads+unify-payload+unify-record
     unify-fields.Post
     unify-fields-Inv-loop
     unify-fields-μ-loop
-    (λ c. fields-start _ _ _ _ _)
+    (λ c. fields-start _ _ _ _ _ _)
     (λ c κs. search needs)
     (λ c κs. search needs)
     (λ c. search needs)
@@ -235,13 +244,21 @@ pub +unify+unify-alternative+unify-fields+unify-heads+unify-payload+unify-record
     (λ c. c .before .before .before .before .before .before .before .loop .inv .going .keeps .long)
     (λ c. fields-unknown (c .before .before .before .before .before .before .before .loop .inv) (c .before .before .before .before .before .before .loop-test .taken) (c .before .before .before .before .field .ensures) (place-none (c .before .before .place-of .ensures) (c .enum-told .given .1)) refl)
     (λ c κs. search needs)
-    (λ c κs. omega (arith, c .before .before .before .before .before .before .before .before .before .before .before .loop .inv .going .fewer))
+    (λ c κs. search needs)
+    (λ c. c .before .before .before .before .before .before .before .before .before .before .before .before .before .before .loop .inv .going .keeps .long)
+    (λ c. let same = again-true _ _ _ _ _ _ (sym (c .before .before .again .ensures) ∙ c .before .if1 .taken) in fields-short (c .before .before .before .before .before .before .before .before .before .before .before .before .before .before .loop .inv) (c .before .before .before .before .before .before .before .before .before .before .before .before .before .loop-test .taken) (c .before .before .before .before .before .before .before .before .before .before .before .field .ensures) (place-here (c .before .before .before .before .before .before .before .before .before .place-of .ensures) (c .before .before .before .before .before .before .before .place .given .0 .0) (c .before .before .before .before .field2 .result) (c .before .before .before .before .before .before .before .place .given .1) (c .before .before .before .before .field2 .ensures)) refl (same .0) (same .1) (same .2) (c .if2 .taken))
+    (λ c κs. search needs)
+    (λ c κs. omega (arith, c .before .before .before .before .before .before .before .before .before .before .before .before .before .before .before .before .loop .inv .going .fewer))
     (λ c. search needs)
-    (λ c. c .before .before .before .unify .kept .0 ∙ c .before .before .before .before .before .before .before .before .before .before .before .before .before .before .before .loop .inv .going .keeps .long)
-    (λ c. fields-stop (c .before .before .before .before .before .before .before .before .before .before .before .before .before .before .before .loop .inv) (c .before .before .before .before .before .before .before .before .before .before .before .before .before .before .loop-test .taken) (c .before .before .before .before .before .before .before .before .before .before .before .before .field .ensures) (place-here (c .before .before .before .before .before .before .before .before .before .before .place-of .ensures) (c .before .before .before .before .before .before .before .before .place .given .0 .0) (c .before .before .before .before .before .field2 .result) (c .before .before .before .before .before .before .before .before .place .given .1) (c .before .before .before .before .before .field2 .ensures)) refl (c .before .before .before .unify .ensures) (c .match2 .keys2))
+    (λ c. omega (arith, rw (c .before .r .given .1) at (c .before .before .before .before .before .unify .ensures .fewer)))
+    (λ c. c .before .before .before .unify .kept .0 ∙ c .before .before .before .before .before .before .before .before .before .before .before .before .before .before .before .before .before .before .before .before .loop .inv .going .keeps .long)
+    (λ c. fields-stop (c .before .before .before .before .before .before .before .before .before .before .before .before .before .before .before .before .before .before .before .before .loop .inv) (c .before .before .before .before .before .before .before .before .before .before .before .before .before .before .before .before .before .before .before .loop-test .taken) (c .before .before .before .before .before .before .before .before .before .before .before .before .before .before .before .before .before .field .ensures) (place-here (c .before .before .before .before .before .before .before .before .before .before .before .before .before .before .before .place-of .ensures) (c .before .before .before .before .before .before .before .before .before .before .before .before .before .place .given .0 .0) (c .before .before .before .before .before .before .before .before .before .before .field2 .result) (c .before .before .before .before .before .before .before .before .before .before .before .before .before .place .given .1) (c .before .before .before .before .before .before .before .before .before .before .field2 .ensures)) refl (c .before .before .before .unify .ensures) (c .match2 .keys2))
     (λ c. search needs)
     (λ c. omega arith)
-    (λ c. fields-next (c .before .before .before .before .before .before .before .before .before .before .before .before .before .before .before .before .before .loop .inv) (c .before .before .before .before .before .before .before .before .before .before .before .before .before .before .before .before .loop-test .taken) (c .before .before .before .before .before .before .before .before .before .before .before .before .before .before .field .ensures) (place-here (c .before .before .before .before .before .before .before .before .before .before .before .before .place-of .ensures) (c .before .before .before .before .before .before .before .before .before .before .place .given .0 .0) (c .before .before .before .before .before .before .before .field2 .result) (c .before .before .before .before .before .before .before .before .before .before .place .given .1) (c .before .before .before .before .before .before .before .field2 .ensures)) refl (c .before .before .before .before .before .unify .ensures) (c .before .r .given .0 .0) (c .before .r .given .1))
+    (λ c. ⊎-elim
+    (λ z. let same = again-true _ _ _ _ _ _ (sym (c .before .again .ensures) ∙ z .0 .taken) in fields-again (c .before .before .before .before .before .before .before .before .before .before .before .before .before .loop .inv) (c .before .before .before .before .before .before .before .before .before .before .before .before .loop-test .taken) (c .before .before .before .before .before .before .before .before .before .before .field .ensures) (place-here (c .before .before .before .before .before .before .before .before .place-of .ensures) (c .before .before .before .before .before .before .place .given .0 .0) (c .before .before .before .field2 .result) (c .before .before .before .before .before .before .place .given .1) (c .before .before .before .field2 .ensures)) refl (same .0) (same .1) (same .2) (z .1 .left) (z .2) (z .3) (z .4) (z .5) (z .6) (z .7))
+    (λ z. fields-next (c .before .before .before .before .before .before .before .before .before .before .before .before .before .loop .inv) (c .before .before .before .before .before .before .before .before .before .before .before .before .loop-test .taken) (c .before .before .before .before .before .before .before .before .before .before .field .ensures) (place-here (c .before .before .before .before .before .before .before .before .place-of .ensures) (c .before .before .before .before .before .before .place .given .0 .0) (c .before .before .before .field2 .result) (c .before .before .before .before .before .before .place .given .1) (c .before .before .before .field2 .ensures)) refl (z .4 .ensures) (z .8 .given .0 .0) (z .8 .given .1) (z .10) (z .11) (z .12) (z .13) (z .14) (z .15 ∙ z .2 .ensures))
+    (c .if1 .came))
     (λ c. c .before .loop .inv .going .keeps .long)
     (λ c. fields-end (c .before .loop .inv) (c .loop-test .left)))
     (λ t. unify-heads-lts.spec (
@@ -253,8 +270,8 @@ pub +unify+unify-alternative+unify-fields+unify-heads+unify-payload+unify-record
       unify-record.Post,
       unify-union-below t,
       unify-union.Post,
-      same-leaf-reads.Asked,
-      same-leaf-reads.Learnt,
+      same-ty-reads.Asked,
+      same-ty-reads.Learnt,
     )
     (unify-heads-at t)
     unify-heads.Post
@@ -308,8 +325,8 @@ pub +unify+unify-alternative+unify-fields+unify-heads+unify-payload+unify-record
     (λ c. leaf-error (c .before .before .match .keys5) (c .enum-told5 .given .1))
     (λ c. search needs)
     (λ c. leaf-var (c .before .before .before .before .before .b7 .given .0 .0) (c .before .before .before .before .before .before .before .match .keys5) (c .before .before .before .before .before .b7 .given .1) (c .before .before .bind-var5 .ensures))
-    (λ c. leaf-same (c .before .before .before .match .keys5) (sym (c .before .same-leaf .ensures) ∙ c .if2 .taken))
-    (λ c. leaf-else (c .before .before .before .match .keys5) (c .before .before .match6 .keys3) (sym (c .before .same-leaf .ensures) ∙ c .if2 .left)))
+    (λ c. leaf-same (c .before .before .before .match .keys5) (sym (c .before .same-ty .ensures) ∙ c .if2 .taken))
+    (λ c. leaf-else (c .before .before .before .match .keys5) (c .before .before .match6 .keys3) (sym (c .before .same-ty .ensures) ∙ c .if2 .left)))
     (λ t. unify-payload-lts.spec (
       unify-below t,
       unify.Post,

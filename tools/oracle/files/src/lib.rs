@@ -9,6 +9,7 @@ mod filled;
 mod forms;
 mod grow;
 mod limits;
+mod messages;
 mod nested;
 mod noise;
 mod references;
@@ -20,7 +21,7 @@ mod valid;
 pub use filled::{GROWING, filled};
 pub use nested::{nested, stacked};
 use rng::Rng;
-pub use shapes::{form, shapes};
+pub use shapes::{form, shapes, speaking};
 
 type Make = fn(&mut Rng) -> Vec<u8>;
 
@@ -72,6 +73,11 @@ const TABLE: &[(&str, usize, Make)] = &[
     ("form-nodes", 25, forms::nodes),
     ("form-answers", 6, forms::answers),
     ("form-visits", 2, forms::visits),
+    ("messages", 900, |rng| messages::messages(rng).bytes()),
+    ("no-order", 500, |rng| messages::no_order(rng).bytes()),
+    ("differences", 500, |rng| messages::differences(rng).bytes()),
+    ("message-last", 6, messages::message_last),
+    ("renderings", 20, messages::renderings),
 ];
 
 const fn styles() -> [&'static str; TABLE.len()] {

@@ -28,8 +28,10 @@ pub fn nested() -> Vec<(String, Vec<u8>)> {
     for kind in 0..3 {
         files.push((format!("types-{kind}"), types(kind)));
         for hidden in [false, true] {
-            let file = everything(kind, hidden);
+            let file = everything(kind, hidden, false);
             files.push((format!("everything-{kind}-{hidden}"), file));
+            let file = everything(kind, hidden, true);
+            files.push((format!("unordered-{kind}-{hidden}"), file));
         }
         files.push((format!("two-{kind}"), two(kind)));
     }
@@ -38,13 +40,13 @@ pub fn nested() -> Vec<(String, Vec<u8>)> {
 }
 
 /// Files for the stack: shapes of nodes within each other, alone and in turn, as deep as the nodes go, and at
-/// the bottom two variables of the deepest type that meet.
+/// the bottom two variables of the deepest type that meet, or one that a message shows.
 pub fn stacked() -> Vec<(String, Vec<u8>)> {
     let mut files = nested();
     for first in 0..AROUND {
         for second in first..AROUND {
             for kind in 0..3 {
-                for end in 0..4 {
+                for end in 0..6 {
                     let file = stack(first, second, kind, end);
                     files.push((format!("stack-{first}-{second}-{kind}-{end}"), file));
                 }
@@ -85,8 +87,13 @@ fn around(draft: &mut Draft, way: usize, at: u16) -> u16 {
 fn stack(first: usize, second: usize, kind: usize, end: usize) -> Vec<u8> {
     let mut draft = draft();
     // One fewer than there can be: the key of predicate 2 is a fact of it.
-    let ty = nest(&mut draft, kind, DEPTH - 1);
-    let fact = draft.ty(Shape::Fact(2));
+    let (ty, fact) = if end == 5 {
+        let fact = draft.ty(Shape::Fact(2));
+        (nest(&mut draft, kind, fact, DEPTH - 1), fact)
+    } else {
+        let ty = nest(&mut draft, kind, 0, DEPTH - 1);
+        (ty, draft.ty(Shape::Fact(2)))
+    };
     for key in [ty, ty, fact] {
         draft.predicate(0, key, Some(key));
     }
@@ -97,6 +104,9 @@ fn stack(first: usize, second: usize, kind: usize, end: usize) -> Vec<u8> {
         0 => Stmt::Bind(left, right),
         1 => Stmt::Compare(left, right),
         2 => Stmt::Deny(left, right),
+        // Not an integer; and without an order, as it holds a fact.
+        4 => Stmt::Implicit(draft.node(Expr::Arith(vec![left]))),
+        5 => Stmt::Compare(left, right),
         _ => {
             let meet = draft.node(Expr::Disjunction(vec![left, right]));
             Stmt::Bind(draft.var(4), meet)
@@ -203,11 +213,11 @@ fn statements(stmt: usize, left: usize, fact: bool) -> Vec<u8> {
 
 /// The deepest type: records, unions, or both in turn.
 fn deepest(draft: &mut Draft, kind: usize) -> u16 {
-    nest(draft, kind, DEPTH)
+    nest(draft, kind, 0, DEPTH)
 }
 
-fn nest(draft: &mut Draft, kind: usize, depth: usize) -> u16 {
-    let mut ty = 0;
+fn nest(draft: &mut Draft, kind: usize, leaf: u16, depth: usize) -> u16 {
+    let mut ty = leaf;
     for at in 0..depth {
         ty = if kind == 1 || kind == 2 && at % 2 == 1 {
             draft.ty(Shape::Union(vec![(0, at as u32, ty)]))
@@ -238,10 +248,16 @@ fn types(kind: usize) -> Vec<u8> {
     draft.bytes()
 }
 
-/// As many records as there are nodes around an unknown that is bound to the deepest type.
-fn everything(kind: usize, hidden: bool) -> Vec<u8> {
+/// As many records as there are nodes around an unknown that is bound to the deepest type; where that
+/// holds a fact, a message shows all of it.
+fn everything(kind: usize, hidden: bool, fact: bool) -> Vec<u8> {
     let mut draft = draft();
-    let ty = deepest(&mut draft, kind);
+    let ty = if fact {
+        let leaf = draft.ty(Shape::Fact(0));
+        nest(&mut draft, kind, leaf, DEPTH - 1)
+    } else {
+        deepest(&mut draft, kind)
+    };
     draft.predicate(0, 0, None);
     draft.predicate(0, ty, None);
     holds(&mut draft, 1, 3);

@@ -1,4 +1,5 @@
-//! Files of one shape each, for questions of time: where types are wide, deep or long chains.
+//! Files of one shape each, for questions of time: where types are wide, deep or long chains, and where
+//! messages are many or long.
 
 use crate::draft::{Draft, Expr, Shape, Stmt};
 use crate::forms;
@@ -22,6 +23,114 @@ pub fn shapes() -> Vec<(String, Vec<u8>)> {
     }
     all.push(("named-chain-50".to_owned(), named_chain(50)));
     all
+}
+
+/// Files of many messages and of long ones, each with its name.
+pub fn speaking() -> Vec<(String, Vec<u8>)> {
+    let mut all = vec![];
+    for count in [10, 100, 500] {
+        all.push((format!("diagnostics-{count}"), diagnostics(count)));
+    }
+    for levels in [6, 8, 10] {
+        all.push((format!("declared-2^{levels}"), declared_doubling(levels)));
+        all.push((format!("resolved-2^{levels}"), resolved_doubling(levels)));
+    }
+    for times in [1, 7] {
+        all.push((format!("unions-63-differ-{times}"), differing(63, times)));
+    }
+    for times in [1, 10] {
+        all.push((format!("record-120-found-{times}"), found(120, times)));
+    }
+    all
+}
+
+/// So many fields that a key does not have.
+fn diagnostics(count: usize) -> Vec<u8> {
+    let mut draft = Draft::new();
+    let [a, f] = ["a", "f"].map(|name| draft.name(name));
+    let int = draft.ty(Shape::Int);
+    let key = draft.ty(Shape::Record(vec![(a, int)]));
+    let predicate = draft.predicate(a, key, None);
+    let mut left = count;
+    while left > 0 {
+        let parts: Vec<_> = (0..left.min(125))
+            .map(|_| (f, draft.node(Expr::Int)))
+            .collect();
+        left -= parts.len();
+        let record = draft.node(Expr::Record(parts));
+        let fact = draft.node(Expr::Fact(predicate, record));
+        draft.body.push(Stmt::Implicit(fact));
+    }
+    draft.head = draft.node(Expr::Int);
+    draft.bytes()
+}
+
+/// A literal in the place of a key that doubles: the message shows the key.
+fn declared_doubling(levels: usize) -> Vec<u8> {
+    let mut draft = Draft::new();
+    let names = ["a", "b"].map(|name| draft.name(name));
+    let mut ty = draft.ty(Shape::Int);
+    for _ in 0..levels {
+        ty = draft.ty(Shape::Record(names.map(|name| (name, ty)).to_vec()));
+    }
+    let predicate = draft.predicate(names[0], ty, None);
+    let key = draft.node(Expr::Int);
+    let fact = draft.node(Expr::Fact(predicate, key));
+    draft.body.push(Stmt::Implicit(fact));
+    draft.head = draft.node(Expr::Int);
+    draft.bytes()
+}
+
+/// Unknowns that each stand for a record of the next one twice, the last for a fact: the first has no
+/// order, and the message shows it resolved.
+fn resolved_doubling(levels: usize) -> Vec<u8> {
+    let mut draft = Draft::new();
+    let fields = ["a", "b"].map(|name| draft.name(name));
+    let names: Vec<u16> = (0..=levels).map(|n| draft.name(&format!("x{n}"))).collect();
+    for pair in names.windows(2) {
+        let left = draft.var(pair[0]);
+        let parts = fields.map(|field| (field, draft.var(pair[1])));
+        let right = draft.node(Expr::Record(parts.to_vec()));
+        draft.bind(left, right);
+    }
+    let key = draft.node(Expr::Wildcard);
+    let fact = draft.node(Expr::Fact(0, key));
+    let left = draft.var(names[levels]);
+    draft.bind(left, fact);
+    let (left, right) = (draft.var(names[0]), draft.node(Expr::Error));
+    draft.body.push(Stmt::Compare(left, right));
+    hidden(draft)
+}
+
+/// Two unions that differ in the payload of their last alternative, shown so often.
+fn differing(width: usize, times: usize) -> Vec<u8> {
+    let mut draft = Draft::new();
+    let name = draft.name("a");
+    let scalars = [Shape::Int, Shape::Str].map(|shape| draft.ty(shape));
+    let keys = scalars.map(|last| {
+        let mut alternatives: Vec<_> = (0..width).map(|n| (name, n as u32, scalars[0])).collect();
+        alternatives[width - 1].2 = last;
+        draft.ty(Shape::Union(alternatives))
+    });
+    compared(draft, keys, times)
+}
+
+/// A declared record of so many fields where an integer is wanted, so often.
+fn found(width: usize, times: usize) -> Vec<u8> {
+    let mut draft = Draft::new();
+    let fields: Vec<u16> = (0..width).map(|n| draft.name(&format!("f{n}"))).collect();
+    let int = draft.ty(Shape::Int);
+    let fields = fields.into_iter().map(|name| (name, int)).collect();
+    let record = draft.ty(Shape::Record(fields));
+    let predicate = draft.predicate(0, int, Some(record));
+    for _ in 0..times {
+        let key = draft.node(Expr::Wildcard);
+        let fact = draft.node(Expr::Fact(predicate, key));
+        let value = draft.node(Expr::Value(fact));
+        let sum = draft.node(Expr::Arith(vec![value]));
+        draft.body.push(Stmt::Implicit(sum));
+    }
+    hidden(draft)
 }
 
 /// A form of so many queries that mean something, over one schema; the same for the same numbers.
@@ -159,7 +268,7 @@ mod tests {
 
     #[test]
     fn all_fit_in_a_file() {
-        for (name, file) in shapes() {
+        for (name, file) in shapes().into_iter().chain(speaking()) {
             assert!(file.len() <= 65_536, "{name}: {}", file.len());
         }
         for queries in [1, 30, 64] {

@@ -333,7 +333,7 @@ fn payload(rng: &mut Rng, draft: &mut Draft) -> u16 {
     draft.ty(Shape::Record(vec![(first, a), (second, b)]))
 }
 
-fn twist_union(rng: &mut Rng, draft: &mut Draft, alternatives: &mut Vec<(u16, u32, u16)>) {
+pub fn twist_union(rng: &mut Rng, draft: &mut Draft, alternatives: &mut Vec<(u16, u32, u16)>) {
     let at = rng.below(alternatives.len());
     match rng.below(11) {
         0..3 => rng.shuffle(alternatives),

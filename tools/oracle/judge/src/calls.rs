@@ -138,7 +138,7 @@ pub fn run(file: &File, visits: u64, calls: &[Call]) -> Result<Vec<Step>, &'stat
         let outcome = match outcome {
             Ok(outcome) => outcome?,
             Err(Stop::Visits) => Outcome::OutOfVisits,
-            Err(Stop::Size) => return Err(crate::TOO_LARGE),
+            Err(Stop::Size | Stop::Text) => return Err(crate::TOO_LARGE),
         };
         if outcome != Outcome::OutOfVisits {
             if let Call::Unify(found, expected) = call {

@@ -11,6 +11,7 @@ pub mod levenshtein;
 pub mod lower;
 mod measure;
 mod read;
+mod said;
 mod stack;
 mod timing;
 mod tree;
@@ -24,6 +25,7 @@ pub use encode::encode;
 pub use file::{File, Node, Predicate, Query, Shape, Stmt, Tree, Type};
 use measure::Measure;
 pub use read::read;
+pub use said::TEXTS;
 pub use stack::{answer, on_large_stack};
 pub use timing::{Parts, timed};
 use visits::Stop;
@@ -70,10 +72,15 @@ pub struct Ran {
     pub visits: Vec<u64>,
     /// The code of each diagnostic, in order; none after refusals 1 to 11 and 13.
     pub codes: Vec<&'static str>,
+    /// Of each diagnostic, which of `TEXTS` its message is.
+    pub texts: Vec<&'static str>,
 }
 
 /// The Rust would write out types too large to hold.
 pub const TOO_LARGE: &str = "types too large";
+
+/// The Rust would build messages too long to hold.
+pub const TOO_LONG: &str = "messages too long";
 
 /// Answers measured longer than this many characters are refused by the measured length alone: the
 /// Rust would need some twenty bytes for each.
@@ -85,6 +92,7 @@ fn answer_here(file: &[u8], limits: &Limits) -> Ran {
         answer,
         visits,
         codes: vec![],
+        texts: vec![],
     };
     let file = match read(file, limits) {
         Ok(file) => file,
@@ -93,6 +101,7 @@ fn answer_here(file: &[u8], limits: &Limits) -> Ran {
     let base = tree::base(&file);
     levenshtein::set(file.max_distance, file.max_term);
 
+    visits::begin();
     // All queries run before anything is written: 11 of any one comes before 12.
     let mut visits = vec![];
     let mut length = 0_u64;
@@ -108,6 +117,7 @@ fn answer_here(file: &[u8], limits: &Limits) -> Ran {
             Ok(left) => left,
             Err(Stop::Visits) => return stopped(Answer::Refused(11), visits),
             Err(Stop::Size) => return stopped(Answer::LeftOut(TOO_LARGE), visits),
+            Err(Stop::Text) => return stopped(Answer::LeftOut(TOO_LONG), visits),
         };
         if file.trees.len() > 1 {
             length = length.saturating_add(NUMBER_LINE);
@@ -116,11 +126,18 @@ fn answer_here(file: &[u8], limits: &Limits) -> Ran {
         counted.push((tree, diagnostics));
     }
     let codes: Vec<&str> = counted.iter().flat_map(|(_, found)| codes(found)).collect();
+    let messages = counted.iter().flat_map(|(_, found)| found.iter());
+    let texts = codes
+        .iter()
+        .zip(messages)
+        .map(|(code, diagnostic)| said::text(code, &diagnostic.message))
+        .collect();
     if length > MOST_WRITTEN.max(limits.bytes as u64) {
         return Ran {
             answer: Answer::Refused(12),
             visits,
             codes,
+            texts,
         };
     }
 
@@ -153,6 +170,7 @@ fn answer_here(file: &[u8], limits: &Limits) -> Ran {
         answer,
         visits,
         codes,
+        texts,
     }
 }
 
@@ -179,7 +197,7 @@ fn put_types(lines: &mut Lines, typed: &ty::Typed, tree: &tree::Tree, base: &tre
     }
 }
 
-/// The 08 lines.
+/// The 08 lines, each with its 0a line.
 fn put_diagnostics(lines: &mut Lines, diagnostics: &Diagnostics) {
     for diagnostic in diagnostics {
         let span = &diagnostic.labels[0].range;
@@ -189,6 +207,9 @@ fn put_diagnostics(lines: &mut Lines, diagnostics: &Diagnostics) {
             lines.put(&end.to_be_bytes());
         }
         lines.put(diagnostic.code.as_deref().expect("a code").as_bytes());
+        lines.end_line();
+        lines.put(&[0x0a]);
+        lines.put(diagnostic.message.as_bytes());
         lines.end_line();
     }
 }
@@ -208,8 +229,9 @@ fn length(left: &counted::probe::Left, diagnostics: &Diagnostics) -> u64 {
         let ty = ty.as_ref().map_or(2, |ty| measure.length(ty));
         length = length.saturating_add(7).saturating_add(ty);
     }
-    for code in codes(diagnostics) {
+    for (code, diagnostic) in codes(diagnostics).iter().zip(diagnostics) {
         length = length.saturating_add(19 + 2 * code.len() as u64);
+        length = length.saturating_add(3 + 2 * diagnostic.message.len() as u64);
     }
     length
 }

@@ -1,9 +1,10 @@
 //! The walk of ty.rs over node rows: the same questions in the same order.
 
-use crate::ENDLESS;
+use crate::message::{self, Message};
 use crate::mutation::{Switch, Wrong};
 use crate::reader::{NodeRow, Rows, Stmt, Tree};
 use crate::types::{Cells, Part, Ty};
+use crate::{ENDLESS, Limits};
 
 /// Why a run ended early.
 #[derive(Clone, Copy, Debug, PartialEq, Eq)]
@@ -61,6 +62,14 @@ pub enum Undo {
     Annotation(u16, Option<Ty>),
 }
 
+/// A diagnostic: the node, what it says, and its text as of then.
+#[derive(Clone, Debug)]
+pub struct Report {
+    pub node: u16,
+    pub message: Message,
+    pub text: Vec<u8>,
+}
+
 struct Snapshot {
     undo: usize,
     env: usize,
@@ -69,14 +78,16 @@ struct Snapshot {
 }
 
 pub struct State<'a> {
-    tree: &'a Tree,
+    pub tree: &'a Tree,
     pub rows: &'a Rows,
     pub cells: Cells,
     pub subst: Vec<Option<Ty>>,
     env: Vec<(u16, usize)>,
     pub tys: Vec<Option<Ty>>,
     pub undo: Vec<Undo>,
-    pub reports: Vec<(u16, Code)>,
+    pub reports: Vec<Report>,
+    /// The bytes of text that an answer may still hold.
+    pub text_left: usize,
     pub visits: u64,
     pub most_visits: u64,
     pub depth: usize,
@@ -84,13 +95,16 @@ pub struct State<'a> {
     pub wrong: Switch,
 }
 
+/// More than a wrong writer leaves uncounted of an answer, so that it too finds whole texts.
+const MISCOUNTED: usize = 4_096;
+
 /// Checks a query; the second part is the refusal, if the visits did not suffice. `before`
 /// is what the query before left, which only a wrong checker looks at.
 pub fn run<'a>(
     tree: &'a Tree,
     rows: &'a Rows,
     before: Option<&State<'a>>,
-    most_visits: u64,
+    limits: &Limits,
     wrong: Switch,
 ) -> (State<'a>, Option<u8>) {
     let value = tree.texts.iter().position(|text| text == b"value");
@@ -103,8 +117,9 @@ pub fn run<'a>(
         tys: vec![None; rows.nodes.len()],
         undo: Vec::new(),
         reports: Vec::new(),
+        text_left: limits.bytes + MISCOUNTED,
         visits: 0,
-        most_visits,
+        most_visits: limits.visits,
         depth: 0,
         value: value.map(|at| at as u16),
         wrong,
@@ -144,12 +159,18 @@ impl<'a> State<'a> {
         &self.rows.nodes[id as usize]
     }
 
-    fn report(&mut self, id: u16, code: Code) {
-        self.reports.push((id, code));
+    fn report(&mut self, id: u16, message: Message) {
+        let text = message::text(self, message, self.text_left);
+        self.text_left = self.text_left.saturating_sub(text.len());
+        self.reports.push(Report {
+            node: id,
+            message,
+            text,
+        });
     }
 
-    fn reject(&mut self, id: u16, code: Code) -> Ty {
-        self.report(id, code);
+    fn reject(&mut self, id: u16, message: Message) -> Ty {
+        self.report(id, message);
         if self.wrong.on(Wrong::RejectedIsUnknown) {
             return self.fresh();
         }
@@ -180,7 +201,7 @@ impl<'a> State<'a> {
 
     fn head(&mut self, head: u16) -> Run<()> {
         if self.node(head).shape == 0x04 {
-            self.report(head, Code::WildcardInHead);
+            self.report(head, Message::WildcardHead);
             if self.wrong.on(Wrong::WildcardHeadUntyped) {
                 return Ok(());
             }
@@ -253,7 +274,7 @@ impl<'a> State<'a> {
         } else {
             self.unify(r, l)?
         };
-        if let Some(code) = failed {
+        if let Some(message) = failed {
             if self.wrong.on(Wrong::FailedCompareUndone) {
                 self.rollback(snapshot);
             }
@@ -262,7 +283,7 @@ impl<'a> State<'a> {
             } else {
                 right
             };
-            self.report(at, code);
+            self.report(at, message);
             if !self.wrong.on(Wrong::OrderAskedAfterMismatch) {
                 return Ok(());
             }
@@ -278,7 +299,7 @@ impl<'a> State<'a> {
             } else {
                 left
             };
-            self.report(at, Code::TypeMismatch);
+            self.report(at, Message::NoOrder(asked));
         }
         Ok(())
     }
@@ -345,7 +366,7 @@ impl<'a> State<'a> {
                 } else {
                     self.unify(value, pattern)?
                 };
-                if let Some(code) = failed {
+                if let Some(message) = failed {
                     if self.wrong.on(Wrong::FailedPatternUndone) {
                         self.rollback(snapshot);
                     }
@@ -354,12 +375,12 @@ impl<'a> State<'a> {
                     } else {
                         right
                     };
-                    self.report(at, code);
+                    self.report(at, message);
                 }
                 Ok(())
             }
             0x00 | 0x01 | 0x02 | 0x06 => {
-                self.report(left, Code::BindLhs);
+                self.report(left, Message::BoundLiteral);
                 if self.wrong.on(Wrong::LiteralLeftTyped) {
                     self.infer(left)?;
                 }
@@ -371,9 +392,9 @@ impl<'a> State<'a> {
             0x0f => self.error_left(left, right),
             _ => {
                 if node.shape == 0x07 && self.wrong.on(Wrong::FuzzyIsLiteral) {
-                    self.report(left, Code::BindLhs);
+                    self.report(left, Message::BoundLiteral);
                 } else {
-                    self.report(left, Code::BindUnification);
+                    self.report(left, Message::MatchedPatterns);
                     self.infer(left)?;
                 }
                 self.right_side(right).map(|_| ())
@@ -384,7 +405,7 @@ impl<'a> State<'a> {
     /// An error node on the left is silent and stays untyped.
     fn error_left(&mut self, left: u16, right: u16) -> Run<()> {
         if self.wrong.on(Wrong::ErrorLeftReported) {
-            self.report(left, Code::BindUnification);
+            self.report(left, Message::MatchedPatterns);
         }
         if self.wrong.on(Wrong::ErrorLeftTyped) {
             self.infer(left)?;
@@ -400,8 +421,8 @@ impl<'a> State<'a> {
             let ty = self.infer(right)?;
             let var = self.introduce(name);
             self.annotate(left, Ty::Var(var));
-            if let Some(code) = self.unify(ty, Ty::Var(var))? {
-                self.report(right, code);
+            if let Some(message) = self.unify(ty, Ty::Var(var))? {
+                self.report(right, message);
             }
             return Ok(());
         }
@@ -421,7 +442,7 @@ impl<'a> State<'a> {
         } else {
             self.unify(ty, Ty::Var(var))?
         };
-        if let Some(code) = failed {
+        if let Some(message) = failed {
             if self.wrong.on(undone) {
                 self.rollback(snapshot);
             }
@@ -430,7 +451,7 @@ impl<'a> State<'a> {
             } else {
                 right
             };
-            self.report(at, code);
+            self.report(at, message);
         }
         Ok(())
     }
@@ -444,13 +465,13 @@ impl<'a> State<'a> {
                 Ok(())
             }
             0x04 | 0x00 | 0x01 | 0x02 | 0x06 => {
-                self.report(left, Code::BindLhs);
+                self.report(left, Message::DeniedLiteral);
                 self.infer(right).map(|_| ())
             }
             0x0f => self.error_left(left, right),
             0x08 if self.wrong.on(Wrong::DenyDestructures) => self.bind(left, right),
             _ => {
-                self.report(left, Code::BindUnification);
+                self.report(left, Message::DeniedPattern);
                 if !self.wrong.on(Wrong::DeniedLeftSkipped) {
                     self.infer(left)?;
                 }
@@ -560,7 +581,7 @@ impl<'a> State<'a> {
                 }
                 let head = node.under[0].1;
                 if self.node(head).shape == 0x04 && wrong.on(Wrong::WildcardInSubquery) {
-                    self.report(head, Code::WildcardInHead);
+                    self.report(head, Message::WildcardHead);
                 }
                 let ty = if wrong.on(Wrong::SubqueryHeadOutside) {
                     self.env.truncate(scope);
@@ -600,13 +621,13 @@ impl<'a> State<'a> {
                     } else {
                         self.unify(ty, Ty::Int)?
                     };
-                    if let Some(code) = failed {
+                    if let Some(message) = failed {
                         let at = if wrong.on(Wrong::ArithBlamed) {
                             id
                         } else {
                             operand
                         };
-                        self.report(at, code);
+                        self.report(at, message);
                         if wrong.on(Wrong::ArithStops) {
                             return Ok(Ty::Error);
                         }
@@ -629,13 +650,13 @@ impl<'a> State<'a> {
         } else {
             self.unify(ty, result)?
         };
-        if let Some(code) = failed {
+        if let Some(message) = failed {
             let at = if self.wrong.on(Wrong::DisjunctionBlamed) {
                 id
             } else {
                 branch
             };
-            self.report(at, code);
+            self.report(at, message);
         }
         Ok(())
     }
@@ -655,13 +676,13 @@ impl<'a> State<'a> {
             _ => length > Some(self.tree.most_characters),
         };
         if long && wrong.on(Wrong::TermFirst) {
-            self.report(id, Code::FuzzyTerm);
+            self.report(id, Message::Term(node.name));
         }
         if far {
-            self.report(id, Code::FuzzyDistance);
+            self.report(id, Message::Distance(node.distance));
         }
         if long && !wrong.on(Wrong::TermFirst) && !(far && wrong.on(Wrong::OneFuzzyFault)) {
-            self.report(id, Code::FuzzyTerm);
+            self.report(id, Message::Term(node.name));
         }
         Ty::String
     }
@@ -703,20 +724,20 @@ impl<'a> State<'a> {
                         if wrong.on(Wrong::ShadowTypesKey) {
                             return self.field_of(id, predicate);
                         }
-                        return Ok(self.reject(id, Code::ValueShadowed));
+                        return Ok(self.reject(id, Message::Shadowed));
                     }
                     let row = self.tree.predicates.get(predicate as usize);
                     match row.and_then(|row| row.value) {
                         Some(ty) => ty,
                         None if row.is_none() && wrong.on(Wrong::AbsentValueSilent) => Ty::Error,
-                        None => self.reject(id, Code::NoValue),
+                        None => self.reject(id, Message::NoValue),
                     }
                 }
                 Ty::Var(_) => self.unresolved(id),
                 Ty::Record(_) if wrong.on(Wrong::ValueOfRecordUnknown) => {
-                    self.reject(id, Code::UnknownField)
+                    self.reject(id, Message::Mistaken(Code::UnknownField))
                 }
-                _ => self.reject(id, Code::TypeMismatch),
+                _ => self.reject(id, Message::NotAFact(base)),
             });
         }
         let record = match base {
@@ -724,14 +745,14 @@ impl<'a> State<'a> {
             Ty::Fact(predicate) => match self.key(predicate) {
                 Some(ty) => ty,
                 None if wrong.on(Wrong::AbsentKeyReported) => {
-                    return Ok(self.reject(id, Code::UnknownField));
+                    return Ok(self.reject(id, Message::NoField(node.name)));
                 }
                 None => return Ok(Ty::Error),
             },
             Ty::Record(_) => base,
             Ty::Var(_) => return Ok(self.unresolved(id)),
             Ty::Union(_) if wrong.on(Wrong::UnionsHaveFields) => base,
-            _ => return Ok(self.reject(id, Code::TypeMismatch)),
+            _ => return Ok(self.reject(id, Message::NoFields(base))),
         };
         let part = match record {
             Ty::Record(cell) if wrong.on(Wrong::LastFieldRead) => {
@@ -747,9 +768,9 @@ impl<'a> State<'a> {
         Ok(match part {
             Some(part) => part.ty,
             None if wrong.on(Wrong::KeyNoRecordMismatch) && !matches!(record, Ty::Record(_)) => {
-                self.reject(id, Code::TypeMismatch)
+                self.reject(id, Message::Mistaken(Code::TypeMismatch))
             }
-            None => self.reject(id, Code::UnknownField),
+            None => self.reject(id, Message::NoField(node.name)),
         })
     }
 
@@ -761,12 +782,12 @@ impl<'a> State<'a> {
         };
         Ok(match part {
             Some(part) => part.ty,
-            None => self.reject(id, Code::ValueShadowed),
+            None => self.reject(id, Message::Shadowed),
         })
     }
 
     fn unresolved(&mut self, id: u16) -> Ty {
-        let ty = self.reject(id, Code::UnresolvedAccess);
+        let ty = self.reject(id, Message::Unresolved);
         if self.wrong.on(Wrong::UnresolvedIsUnknown) {
             return self.fresh();
         }
@@ -793,14 +814,16 @@ impl<'a> State<'a> {
                 match part {
                     Some(part) => part.ty,
                     None if wrong.on(Wrong::SelectUnknownField) => {
-                        self.reject(id, Code::UnknownField)
+                        self.reject(id, Message::Mistaken(Code::UnknownField))
                     }
-                    None => self.reject(id, Code::UnknownAlternative),
+                    None => self.reject(id, Message::NoAlternative(node.name)),
                 }
             }
-            Ty::Var(_) if wrong.on(Wrong::OpenSelectNoUnion) => self.reject(id, Code::NotAUnion),
+            Ty::Var(_) if wrong.on(Wrong::OpenSelectNoUnion) => {
+                self.reject(id, Message::NotAUnion(base))
+            }
             Ty::Var(_) => self.unresolved(id),
-            _ => self.reject(id, Code::NotAUnion),
+            _ => self.reject(id, Message::NotAUnion(base)),
         })
     }
 
@@ -845,7 +868,7 @@ impl<'a> State<'a> {
         let wrong = self.wrong;
         let outside = self.reports.len();
         if wrong.on(Wrong::AllFieldsWanted) && node.under.len() != self.cells.count(cell) {
-            self.report(id, Code::TypeMismatch);
+            self.report(id, Message::Mistaken(Code::TypeMismatch));
             return Ok(());
         }
         for &(name, value) in &node.under {
@@ -855,7 +878,7 @@ impl<'a> State<'a> {
                 } else {
                     value
                 };
-                self.report(at, Code::UnknownField);
+                self.report(at, Message::NoField(name));
                 if wrong.on(Wrong::UnknownFieldInferred) {
                     self.infer(value)?;
                 }
@@ -884,12 +907,12 @@ impl<'a> State<'a> {
                 self.annotate(id, expected);
                 return Ok(());
             }
-            let code = if wrong.on(Wrong::ArityMismatch) {
-                Code::TypeMismatch
+            let message = if wrong.on(Wrong::ArityMismatch) {
+                Message::Mistaken(Code::TypeMismatch)
             } else {
-                Code::UnionArity
+                Message::Arity(node.under.len())
             };
-            self.report(id, code);
+            self.report(id, message);
             if wrong.on(Wrong::ArityVisits) {
                 for &(_, value) in &node.under {
                     self.infer(value)?;
@@ -908,10 +931,12 @@ impl<'a> State<'a> {
         let Some(part) = part else {
             match () {
                 _ if wrong.on(Wrong::AlternativeAtValue) => {
-                    self.report(value, Code::UnknownAlternative);
+                    self.report(value, Message::NoAlternative(name));
                 }
-                _ if wrong.on(Wrong::AlternativeIsField) => self.report(id, Code::UnknownField),
-                _ => self.report(id, Code::UnknownAlternative),
+                _ if wrong.on(Wrong::AlternativeIsField) => {
+                    self.report(id, Message::Mistaken(Code::UnknownField))
+                }
+                _ => self.report(id, Message::NoAlternative(name)),
             }
             if wrong.on(Wrong::UnknownAlternativeTyped) {
                 self.annotate(id, expected);
@@ -941,13 +966,13 @@ impl<'a> State<'a> {
         } else {
             self.unify(inferred, expected)?
         };
-        let Some(code) = failed else {
+        let Some(message) = failed else {
             return Ok(());
         };
         // Equal in behaviour: a rollback leaves the reports alone, and a report
         // changes nothing that a rollback restores.
         if wrong.on(Wrong::ReportedBeforeRollback) {
-            self.report(id, code);
+            self.report(id, message);
             self.rollback(snapshot);
             return Ok(());
         }
@@ -956,7 +981,7 @@ impl<'a> State<'a> {
             _ if wrong.on(Wrong::OnlyUnifyUndone) => self.rollback(after),
             _ => self.rollback(snapshot),
         }
-        self.report(id, code);
+        self.report(id, message);
         Ok(())
     }
 

@@ -6,6 +6,7 @@
 //! so that the files can be asked whether they would notice it.
 
 mod checker;
+mod message;
 mod mutation;
 mod reader;
 mod text;
@@ -99,7 +100,7 @@ pub fn answer(file: &[u8], limits: &Limits, mutation: Option<usize>) -> Ran {
 fn run<'a>(tree: &'a Tree, limits: &Limits, wrong: Switch) -> Result<Vec<State<'a>>, Ran> {
     let mut states: Vec<State> = Vec::new();
     for rows in &tree.queries {
-        let (state, stopped) = checker::run(tree, rows, states.last(), limits.visits, wrong);
+        let (state, stopped) = checker::run(tree, rows, states.last(), limits, wrong);
         match stopped {
             Some(11) if wrong.on(Wrong::OneRunsOut) && !states.is_empty() => continue,
             Some(number) => {

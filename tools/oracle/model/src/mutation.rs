@@ -283,8 +283,7 @@ mutations! {
     AbsentKeyInferred, "the key of an absent predicate's fact is inferred", false;
     AbsentFactIsError, "a fact of an absent predicate is Error", false;
     OperandsFree, "operands need not be integers", false;
-    // Neither side of a scalar can bind or fail otherwise.
-    IntIsFound, "an operand is unified as expected", true;
+    IntIsFound, "an operand is unified as expected", false;
     ArithBlamed, "an operand's mismatch is reported at the sum", false;
     ArithStops, "a sum ends at its first mismatch", false;
     DistanceBelow, "a fuzzy distance must be below the limit", false;
@@ -338,6 +337,38 @@ mutations! {
     ReportedBeforeRollback, "a check reports before it rolls back", true;
     InferredKept, "a failed check is not rolled back", false;
     OnlyUnifyUndone, "a failed check takes back the unification alone", false;
+    // Messages.
+    MismatchResolved, "a mismatch shows its types resolved", false;
+    SidesExchanged, "expected and found are exchanged in the text", false;
+    OuterRecordShown, "a mismatch inside a record shows the records", false;
+    NoOrderUnresolved, "a missing order shows its type unresolved", false;
+    NoOrderOutermost, "a missing order shows its type with the outermost binding alone", false;
+    NoOrderAtEnd, "a missing order shows its type with the last bindings", false;
+    DifferenceDropped, "the difference of two unions is not shown", false;
+    GreatestDifference, "the greatest discriminant that differs is shown", false;
+    InnerUnionShown, "a payload's difference shows the inner unions", false;
+    RenamedExchanged, "the names of a renamed alternative are exchanged", false;
+    FieldOfExpected, "an unknown field is named as the expected side has it", false;
+    SignedShown, "discriminants are shown as signed numbers", false;
+    UnionsShownSorted, "a message shows a union by discriminant", false;
+    CommaBetween, "a message separates alternatives by commas", false;
+    FactsUnnamed, "a message shows no predicate's name", false;
+    FactsByNumber, "a message shows the name that has the predicate's number", false;
+    FactsUnquoted, "a message shows a predicate's name without quotes", false;
+    AbsentFactMark, "a message shows a fact of an absent predicate as ?", false;
+    ErrorShownUnknown, "a message shows Error as an unknown type", false;
+    UnknownsNumbered, "a message shows an unknown's number", false;
+    NamesEscaped, "a message shows names escaped", false;
+    UsualLimits, "a message shows the fuzzy limits 2 and 32 for all files", false;
+    TermInBytes, "a message counts a fuzzy term's bytes", false;
+    DashIsHyphen, "the long dash is a hyphen", false;
+    DashIsByte, "the long dash is one byte", false;
+    DeniedAsBound, "a denied literal has the text of a bound one", false;
+    DeniedAsMatched, "a denied pattern has the text of a matched one", false;
+    MessagesAfter, "the messages follow all diagnostics of their query", false;
+    FirstMessageOnly, "only a query's first diagnostic has a message", false;
+    MessagesUncounted, "the messages are not counted to the answer", false;
+    MessageCut, "a message is cut at 511 bytes", false;
     // The answer.
     AnswerOneMore, "an answer one byte longer than the slice passes", false;
     AnswerOneLess, "an answer as long as the slice is too long", false;

@@ -126,6 +126,7 @@ pub struct NodeRow {
 
 #[derive(Clone, Copy, Debug)]
 pub struct PredicateRow {
+    pub name: u16,
     pub key: Ty,
     pub value: Option<Ty>,
 }
@@ -631,9 +632,10 @@ impl Reader {
             3 => self.keep_type(&values),
             4 => {
                 self.predicate_names.push(values[0]);
+                let name = values[0] as u16;
                 let key = self.tree.types[values[1] as usize];
                 let value = values.get(3).map(|&at| self.tree.types[at as usize]);
-                self.tree.predicates.push(PredicateRow { key, value });
+                self.tree.predicates.push(PredicateRow { name, key, value });
             }
             5 => self.keep_node(row),
             _ => {

@@ -3,6 +3,7 @@
 //! Each entry to one of the three is a visit, and the visit past the limit is not made.
 
 use crate::checker::{Code, Run, State, Stop, Undo};
+use crate::message::{Difference, Message};
 use crate::mutation::Wrong;
 use crate::types::Ty;
 
@@ -56,15 +57,15 @@ impl State<'_> {
         self.subst.get(var).copied().flatten()
     }
 
-    /// Makes two types equal; the answer is the code to report, if they are not.
-    pub fn unify(&mut self, found: Ty, expected: Ty) -> Run<Option<Code>> {
+    /// Makes two types equal; the answer is what to report, if they are not.
+    pub fn unify(&mut self, found: Ty, expected: Ty) -> Run<Option<Message>> {
         if !self.wrong.on(Wrong::UnifyUncounted) {
             self.visit()?;
         }
         self.deeper(|s| s.unify_resolved(found, expected))
     }
 
-    fn unify_resolved(&mut self, found: Ty, expected: Ty) -> Run<Option<Code>> {
+    fn unify_resolved(&mut self, found: Ty, expected: Ty) -> Run<Option<Message>> {
         let a = self.repr(found)?;
         let b = self.repr(expected)?;
         if self.wrong.on(Wrong::PoisonAnywhere) && (self.poisoned(a)? || self.poisoned(b)?) {
@@ -80,7 +81,7 @@ impl State<'_> {
                 }
                 Ok(match other {
                     Ty::Int | Ty::String | Ty::Bytes if self.wrong.on(Wrong::ErrorMismatches) => {
-                        Some(Code::TypeMismatch)
+                        Some(Message::Mistaken(Code::TypeMismatch))
                     }
                     _ => None,
                 })
@@ -118,7 +119,8 @@ impl State<'_> {
         })
     }
 
-    fn unify_shapes(&mut self, found: Ty, expected: Ty) -> Run<Option<Code>> {
+    fn unify_shapes(&mut self, found: Ty, expected: Ty) -> Run<Option<Message>> {
+        let mismatch = Message::Mismatch { expected, found };
         match (found, expected) {
             (Ty::Int, Ty::Int) | (Ty::String, Ty::String) | (Ty::Bytes, Ty::Bytes) => Ok(None),
             (Ty::String, Ty::Bytes) | (Ty::Bytes, Ty::String)
@@ -128,7 +130,7 @@ impl State<'_> {
             }
             (Ty::Fact(p), Ty::Fact(q)) => {
                 let same = p == q || self.wrong.on(Wrong::FactsAlike);
-                Ok((!same).then_some(Code::TypeMismatch))
+                Ok((!same).then_some(mismatch))
             }
             (Ty::Record(xs), Ty::Record(ys)) => {
                 let undo = self.undo.len();
@@ -140,29 +142,34 @@ impl State<'_> {
             }
             (Ty::Union(xs), Ty::Union(ys)) => {
                 let got = self.unify_unions(xs, ys)?;
-                if self.wrong.on(Wrong::UnionCodePasses) {
-                    return Ok(got);
+                match got {
+                    Some(Message::Unions { at, .. })
+                        if self.wrong.on(Wrong::GreatestDifference) =>
+                    {
+                        Ok(Some(self.greatest(xs, ys, at)))
+                    }
+                    _ => Ok(got),
                 }
-                // Whatever failed inside, the union differs.
-                Ok(got.map(|_| Code::TypeMismatch))
             }
-            _ => Ok(Some(Code::TypeMismatch)),
+            _ => Ok(Some(mismatch)),
         }
     }
 
-    fn unify_records(&mut self, xs: usize, ys: usize) -> Run<Option<Code>> {
+    fn unify_records(&mut self, xs: usize, ys: usize) -> Run<Option<Message>> {
         let (found, expected) = (self.cells.count(xs), self.cells.count(ys));
         if found != expected && !self.wrong.on(Wrong::CountsIgnored) {
             return Ok(Some(match () {
-                _ if self.wrong.on(Wrong::CountIsUnknownField) => Code::UnknownField,
-                _ => Code::TypeMismatch,
+                _ if self.wrong.on(Wrong::CountIsUnknownField) => {
+                    Message::Mistaken(Code::UnknownField)
+                }
+                _ => records(xs, ys),
             }));
         }
         if self.wrong.on(Wrong::NamesFirst) {
             for place in 0..found {
                 let name = self.cells.part(xs, place).name;
                 if self.cells.named(ys, name).is_none() {
-                    return Ok(Some(Code::UnknownField));
+                    return Ok(Some(Message::NoField(name)));
                 }
             }
         }
@@ -177,8 +184,11 @@ impl State<'_> {
             };
             let Some(y) = y else {
                 return Ok(Some(match () {
-                    _ if self.wrong.on(Wrong::AbsentFieldMismatch) => Code::TypeMismatch,
-                    _ => Code::UnknownField,
+                    _ if self.wrong.on(Wrong::AbsentFieldMismatch) => records(xs, ys),
+                    _ if self.wrong.on(Wrong::FieldOfExpected) && place < expected => {
+                        Message::NoField(self.cells.part(ys, place).name)
+                    }
+                    _ => Message::NoField(x.name),
                 }));
             };
             let got = if self.wrong.on(Wrong::FieldSidesSwapped) {
@@ -186,22 +196,26 @@ impl State<'_> {
             } else {
                 self.unify(x.ty, y.ty)?
             };
-            if got.is_some() {
-                return Ok(got);
+            match got {
+                None => {}
+                Some(Message::Mismatch { .. }) if self.wrong.on(Wrong::OuterRecordShown) => {
+                    return Ok(Some(records(xs, ys)));
+                }
+                _ => return Ok(got),
             }
         }
         if self.wrong.on(Wrong::SoughtFromBoth) {
             for place in 0..expected {
                 let name = self.cells.part(ys, place).name;
                 if self.cells.named(xs, name).is_none() {
-                    return Ok(Some(Code::UnknownField));
+                    return Ok(Some(Message::NoField(name)));
                 }
             }
         }
         Ok(None)
     }
 
-    fn unify_unions(&mut self, xs: usize, ys: usize) -> Run<Option<Code>> {
+    fn unify_unions(&mut self, xs: usize, ys: usize) -> Run<Option<Message>> {
         if self.wrong.on(Wrong::UnionsZipped) {
             return self.unify_zipped(xs, ys);
         }
@@ -217,8 +231,13 @@ impl State<'_> {
             _ if self.wrong.on(Wrong::FallingDiscriminants) => discs.sort_by_key(|&d| !d),
             _ => discs.sort(),
         }
+        let differ = |at| Message::Unions {
+            expected: ys,
+            found: xs,
+            at,
+        };
         if self.wrong.on(Wrong::PresenceFirst) && discs.iter().any(|&d| !self.on_both(xs, ys, d)) {
-            return Ok(Some(Code::TypeMismatch));
+            return Ok(Some(Message::Mistaken(Code::TypeMismatch)));
         }
         for disc in discs {
             let (x, y) = (self.cells.numbered(xs, disc), self.cells.numbered(ys, disc));
@@ -226,16 +245,58 @@ impl State<'_> {
                 if self.wrong.on(Wrong::ExtraAlternativePasses) {
                     continue;
                 }
-                return Ok(Some(Code::TypeMismatch));
+                return Ok(x
+                    .or(y)
+                    .map(|part| differ(Difference::Absent(part.name, disc))));
             };
             if x.name != y.name && !self.wrong.on(Wrong::UnionNamesFree) {
-                return Ok(Some(Code::TypeMismatch));
+                return Ok(Some(differ(Difference::Renamed {
+                    expected: y.name,
+                    found: x.name,
+                    disc,
+                })));
             }
-            if let Some(code) = self.unify(x.ty, y.ty)? {
-                return Ok(Some(code));
+            // Whatever failed inside, this union differs.
+            match self.unify(x.ty, y.ty)? {
+                None => {}
+                inner if self.wrong.on(Wrong::UnionCodePasses) => return Ok(inner),
+                inner @ Some(Message::Unions { .. }) if self.wrong.on(Wrong::InnerUnionShown) => {
+                    return Ok(inner);
+                }
+                Some(_) => return Ok(Some(differ(Difference::Payload(x.name, disc)))),
             }
         }
         Ok(None)
+    }
+
+    /// Mistake: the greatest discriminant that is absent or renamed is shown.
+    fn greatest(&self, xs: usize, ys: usize, least: Difference) -> Message {
+        let mut at = least;
+        let mut discs: Vec<u32> = Vec::new();
+        for part in self.cells.parts(xs).iter().chain(self.cells.parts(ys)) {
+            discs.push(part.disc);
+        }
+        discs.sort();
+        for disc in discs {
+            match (self.cells.numbered(xs, disc), self.cells.numbered(ys, disc)) {
+                (Some(x), Some(y)) if x.name != y.name => {
+                    at = Difference::Renamed {
+                        expected: y.name,
+                        found: x.name,
+                        disc,
+                    };
+                }
+                (Some(part), None) | (None, Some(part)) => {
+                    at = Difference::Absent(part.name, disc);
+                }
+                _ => {}
+            }
+        }
+        Message::Unions {
+            expected: ys,
+            found: xs,
+            at,
+        }
     }
 
     fn on_both(&self, xs: usize, ys: usize, disc: u32) -> bool {
@@ -243,25 +304,22 @@ impl State<'_> {
     }
 
     /// Mistake: alternatives are compared by their place.
-    fn unify_zipped(&mut self, xs: usize, ys: usize) -> Run<Option<Code>> {
+    fn unify_zipped(&mut self, xs: usize, ys: usize) -> Run<Option<Message>> {
         if self.cells.count(xs) != self.cells.count(ys) {
-            return Ok(Some(Code::TypeMismatch));
+            return Ok(Some(Message::Mistaken(Code::TypeMismatch)));
         }
         for place in 0..self.cells.count(xs) {
             let (x, y) = (self.cells.part(xs, place), self.cells.part(ys, place));
-            if (x.disc, x.name) != (y.disc, y.name) {
-                return Ok(Some(Code::TypeMismatch));
-            }
-            if let Some(code) = self.unify(x.ty, y.ty)? {
-                return Ok(Some(code));
+            if (x.disc, x.name) != (y.disc, y.name) || self.unify(x.ty, y.ty)?.is_some() {
+                return Ok(Some(Message::Mistaken(Code::TypeMismatch)));
             }
         }
         Ok(None)
     }
 
-    fn bind_var(&mut self, var: usize, ty: Ty) -> Run<Option<Code>> {
+    fn bind_var(&mut self, var: usize, ty: Ty) -> Run<Option<Message>> {
         if !self.wrong.on(Wrong::NoOccurs) && self.occurs(var, ty)? {
-            return Ok(Some(Code::InfiniteType));
+            return Ok(Some(Message::Infinite));
         }
         self.set_var(var, ty);
         Ok(None)
@@ -380,5 +438,13 @@ impl State<'_> {
                 _ => {}
             }
         }
+    }
+}
+
+/// Two records by their cells, the found one first.
+fn records(xs: usize, ys: usize) -> Message {
+    Message::Mismatch {
+        expected: Ty::Record(ys),
+        found: Ty::Record(xs),
     }
 }

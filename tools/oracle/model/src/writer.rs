@@ -2,7 +2,8 @@
 //! that a type of exponential length costs no more than the slice.
 
 use crate::ENDLESS;
-use crate::checker::State;
+use crate::checker::{Report, State};
+use crate::message::{self, Message};
 use crate::mutation::{Switch, Wrong};
 use crate::types::{Cells, Ty};
 
@@ -19,7 +20,11 @@ type Written = Result<(), u8>;
 
 /// The lines of the answer, or refusal 12.
 pub fn write(states: &[State], most: usize, wrong: Switch) -> Result<Vec<u8>, u8> {
-    let lines = |state: &State| state.tys.len() + state.reports.len();
+    let lines = |state: &State| state.tys.len() + 2 * state.reports.len();
+    let messages = |state: &State| {
+        let lines = state.reports.iter().map(|of| 3 + 2 * of.text.len());
+        lines.sum::<usize>()
+    };
     let numbered = match () {
         _ if wrong.on(Wrong::NumberedAlone) => true,
         _ if wrong.on(Wrong::Unnumbered) => false,
@@ -29,6 +34,9 @@ pub fn write(states: &[State], most: usize, wrong: Switch) -> Result<Vec<u8>, u8
         _ if wrong.on(Wrong::AnswerOneMore) => most + 1,
         _ if wrong.on(Wrong::AnswerOneLess) => most.saturating_sub(1),
         _ if wrong.on(Wrong::LfsUncounted) => most + states.iter().map(lines).sum::<usize>(),
+        _ if wrong.on(Wrong::MessagesUncounted) => {
+            most + states.iter().map(messages).sum::<usize>()
+        }
         _ if wrong.on(Wrong::NumbersUncounted) && numbered => most + 7 * states.len(),
         _ => most,
     };
@@ -121,18 +129,18 @@ impl Writer<'_> {
         let nodes = &of.rows.nodes;
         let mut reports = of.reports.clone();
         if wrong.on(Wrong::ReportsBySpan) {
-            reports.sort_by_key(|report| nodes[report.0 as usize].start);
+            reports.sort_by_key(|report| nodes[report.node as usize].start);
         }
         if wrong.on(Wrong::ReportsOnce) {
             let mut seen = Vec::new();
             reports.retain(|report| {
-                let new = !seen.contains(&report.0);
-                seen.push(report.0);
+                let new = !seen.contains(&report.node);
+                seen.push(report.node);
                 new
             });
         }
-        for (node, code) in reports {
-            let row = &nodes[node as usize];
+        for (place, report) in reports.iter().enumerate() {
+            let row = &nodes[report.node as usize];
             let (start, end) = match () {
                 _ if wrong.on(Wrong::SpanSwapped) => (row.end, row.start),
                 _ if wrong.on(Wrong::SpanLength) => (row.start, row.end.wrapping_sub(row.start)),
@@ -141,10 +149,32 @@ impl Writer<'_> {
             self.bytes(&[8])?;
             self.bytes(&start.to_be_bytes())?;
             self.bytes(&end.to_be_bytes())?;
-            self.bytes(code.as_str().as_bytes())?;
+            self.bytes(report.message.code().as_str().as_bytes())?;
             self.end()?;
+            match () {
+                _ if wrong.on(Wrong::MessagesAfter) => {}
+                _ if wrong.on(Wrong::FirstMessageOnly) && place > 0 => {}
+                _ => self.message(of, report)?,
+            }
+        }
+        if wrong.on(Wrong::MessagesAfter) {
+            for report in &reports {
+                self.message(of, report)?;
+            }
         }
         Ok(())
+    }
+
+    fn message(&mut self, of: &State, report: &Report) -> Written {
+        self.bytes(&[0x0a])?;
+        match report.message {
+            Message::NoOrder(_) if self.wrong.on(Wrong::NoOrderAtEnd) => {
+                let text = message::text(of, report.message, self.most);
+                self.bytes(&text)?;
+            }
+            _ => self.bytes(&report.text)?,
+        }
+        self.end()
     }
 
     fn bytes(&mut self, bytes: &[u8]) -> Written {

@@ -20,12 +20,15 @@ pub fn run(given: &[String]) -> Done {
         [what] if what == "answers" && linked::HAS_CHECK => answers(&options, rounds),
         [what] if what == "reading" && linked::HAS_READ => reading(&options, rounds),
         [what] if what == "shapes" && linked::HAS_CHECK => shapes(rounds),
+        [what] if what == "messages" && linked::HAS_CHECK => parts(&files::speaking(), rounds),
         [what] if what == "forms" && linked::HAS_CHECK => forms(rounds),
         [what] if what == "texts" => crate::texts::bench(rounds.max(20)),
-        [what] if ["answers", "reading", "shapes", "forms"].contains(&what.as_str()) => {
+        [what]
+            if ["answers", "reading", "shapes", "messages", "forms"].contains(&what.as_str()) =>
+        {
             Err(format!("nothing to time: {}", crate::compare::NO_LIBRARY))
         }
-        _ => Err("bench what? one of answers, reading, shapes, forms, texts".to_owned()),
+        _ => Err("bench what? one of answers, reading, shapes, messages, forms, texts".to_owned()),
     }
 }
 
@@ -291,7 +294,6 @@ fn grown(mut time: impl FnMut(&[u8]) -> Timed, limits: &Limits) -> Result<(), St
 /// Files of one shape each, with where the time goes on both sides, and a million visits.
 fn shapes(rounds: u32) -> Done {
     let limits = Limits::default();
-    let mut slices = Slices::new(&limits);
     let mut all = files::shapes();
     for (what, most) in files::GROWING {
         let file = files::filled(what, most).expect("it is listed");
@@ -310,6 +312,13 @@ fn shapes(rounds: u32) -> Done {
             all.push((format!("visits-{seed}"), file));
         }
     }
+    parts(&all, rounds)
+}
+
+/// Each file's time and where it goes, on both sides.
+fn parts(all: &[(String, Vec<u8>)], rounds: u32) -> Done {
+    let limits = Limits::default();
+    let mut slices = Slices::new(&limits);
     println!("{BEST}");
     println!(
         "times in us; a ratio below 1 is the port's call quicker than the Rust; [with its lines]"
@@ -332,7 +341,7 @@ fn shapes(rounds: u32) -> Done {
         "ratio",
         "[lines]"
     );
-    for (name, file) in &all {
+    for (name, file) in all {
         let ran = judge::answer(file, &limits);
         let Answer::Lines(_) = ran.answer else {
             return Err(format!("{name} is not accepted: {:?}", ran.answer));

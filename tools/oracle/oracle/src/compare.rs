@@ -278,6 +278,7 @@ fn reading(options: &Options) -> Done {
             answer,
             visits: vec![],
             codes: vec![],
+            texts: vec![],
         };
         tally.add(&ran, read.ok().as_ref());
         if let Some((found, expected)) = differs(&item.file) {

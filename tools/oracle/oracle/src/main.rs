@@ -51,7 +51,7 @@ oracle compare texts
     some), from standard input to standard output, and the static library in process where it was
     there when oracle was built, with both slices full of ff before each call. Each mismatch is kept
     with both outputs and a smaller file that shows it too, in target/mismatch or DIR. Counts files
-    by refusal, code, node shape and statement. Of an accepted form each query's lines are also held
+    by refusal, code, message text, node shape and statement. Of an accepted form each query's lines are also held
     against what the port answers to that query alone. Ends with status 1 where there is a mismatch.
     In place of --seed and --count: `--bytes-exhaustive FILE` takes each prefix of FILE, FILE without
     each byte, and FILE with each byte changed to each other value; `--short` takes every file of up
@@ -66,6 +66,7 @@ oracle compare texts
 oracle bench answers [--seed S] [--count N] [--rounds R] [--style NAME]
 oracle bench reading [--seed S] [--count N] [--rounds R] [--style NAME]
 oracle bench shapes [--rounds R]
+oracle bench messages [--rounds R]
 oracle bench forms [--rounds R]
 oracle bench texts [--rounds R]
     Times the port's call in process beside the Rust's reading, tree building and `check`, or the port's
@@ -76,8 +77,9 @@ oracle bench texts [--rounds R]
     --toggle-collect=sigla_check target/release/oracle bench answers --style large --rounds 1, then
     callgrind_annotate (it counts `rep stosb`, with which slices are cleared, by bytes).
     Shapes: files with wide, nested and many types, long chains and a million visits, and where the time goes
-    on both sides. Forms: a file of up to 64 queries beside the Rust that reads the schema once, and beside as
-    many calls with one query each. Texts: both text tests on names of 511 bytes beside the Rust's own.
+    on both sides. Messages: the same for files of 10, 100 and 500 diagnostics and of long messages. Forms: a
+    file of up to 64 queries beside the Rust that reads the schema once, and beside as many calls with one
+    query each. Texts: both text tests on names of 511 bytes beside the Rust's own.
 
 oracle record [--check]
     Writes crates/replay/stdin, the recorded sample of answers; with --check holds it against the
@@ -89,7 +91,8 @@ oracle stack [--most BYTES] [--out FILE]
     the files that use most; --out writes the first of them. Ends with status 1 where it is more than --most.
 
 oracle selftest
-    Every example of document 01, the text examples of RFC 3629, and what card 3 says of several queries.
+    Every example of document 01, the text examples of RFC 3629, what card 3 says of several queries, and
+    each message.
 
 oracle help
     This text.

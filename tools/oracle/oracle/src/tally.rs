@@ -1,4 +1,4 @@
-//! Counts of what a run has seen: files by answer, code, node shape and statement kind.
+//! Counts of what a run has seen: files by answer, code, message text, node shape and statement kind.
 
 use std::collections::{BTreeMap, BTreeSet};
 use std::time::{Duration, Instant};
@@ -12,6 +12,9 @@ pub struct Tally {
     refused: BTreeMap<u8, u64>,
     left_out: BTreeMap<&'static str, u64>,
     codes: BTreeMap<&'static str, u64>,
+    texts: BTreeMap<&'static str, u64>,
+    /// Files whose answer just fits and ends in a message.
+    full: u64,
     shapes: [u64; Shape::NAMES.len()],
     stmts: [u64; Stmt::NAMES.len()],
     /// Files past the reading by their number of queries, from each of `QUERIES` on.
@@ -29,9 +32,13 @@ impl Tally {
             Answer::Refused(number) => *self.refused.entry(*number).or_default() += 1,
             Answer::LeftOut(why) => *self.left_out.entry(why).or_default() += 1,
         }
-        // A file counts once for each code, shape and statement that it has, however often.
+        self.full += u64::from(trial::full(&ran.answer));
+        // A file counts once for each code, text, shape and statement that it has, however often.
         for code in ran.codes.iter().collect::<BTreeSet<_>>() {
             *self.codes.entry(code).or_default() += 1;
+        }
+        for text in ran.texts.iter().collect::<BTreeSet<_>>() {
+            *self.texts.entry(text).or_default() += 1;
         }
         let Some(file) = read else {
             return;
@@ -71,6 +78,18 @@ impl Tally {
         print_counts("refused", refused);
         print_counts("left out", named(&self.left_out));
         print_counts("with a diagnostic", named(&self.codes));
+        let texts = judge::TEXTS.iter();
+        print_counts(
+            "with a message",
+            texts.map(|text| {
+                let count = self.texts.get(text).copied();
+                ((*text).to_owned(), count.unwrap_or(0))
+            }),
+        );
+        println!(
+            "  answers of 65,536 bytes that end in a message: {}",
+            self.full
+        );
         let shapes = Shape::NAMES.iter().zip(self.shapes);
         print_counts(
             "with a node",

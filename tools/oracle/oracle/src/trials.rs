@@ -46,6 +46,14 @@ pub fn agree(given: &[String]) -> Done {
     for (outcome, count) in agreed.outcomes.iter().chain(&agreed.codes) {
         println!("  {outcome}: {count}");
     }
+    for text in judge::TEXTS {
+        let count = agreed.texts.get(text).unwrap_or(&0);
+        println!("  message \"{text}\": {count}");
+    }
+    println!(
+        "  as long as the slice, with a message last: {}",
+        agreed.full
+    );
     println!(
         "agree: {} files, {} runs, {} of them left out, {} mismatches",
         agreed.files, agreed.runs, agreed.left_out, agreed.mismatches

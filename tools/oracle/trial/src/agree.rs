@@ -20,6 +20,9 @@ pub struct Agreed {
     pub outcomes: BTreeMap<String, u64>,
     /// Diagnostics by code.
     pub codes: BTreeMap<String, u64>,
+    /// Messages by text, and answers as long as the program's slice that end in one.
+    pub texts: BTreeMap<&'static str, u64>,
+    pub full: u64,
 }
 
 /// Runs so many files through both; each mismatch is made smaller and saved.
@@ -37,6 +40,10 @@ pub fn agree(seed: u64, count: u64, save: &Path) -> Agreed {
                 for code in &judged.codes {
                     *agreed.codes.entry((*code).to_owned()).or_default() += 1;
                 }
+                for text in &judged.texts {
+                    *agreed.texts.entry(text).or_default() += 1;
+                }
+                agreed.full += u64::from(full(&judged.answer));
             }
             if matches!(judged.answer, judge::Answer::LeftOut(_)) {
                 agreed.left_out += 1;
@@ -59,6 +66,15 @@ pub fn agree(seed: u64, count: u64, save: &Path) -> Agreed {
         }
     }
     agreed
+}
+
+/// Whether an answer just fits the program's slice and its last line is a message.
+pub fn full(answer: &judge::Answer) -> bool {
+    let judge::Answer::Lines(lines) = answer else {
+        return false;
+    };
+    let last = lines.split_inclusive(|byte| *byte == b'\n').next_back();
+    lines.len() == Limits::default().bytes && last.is_some_and(|line| line.starts_with(b"0a"))
 }
 
 fn outcome(answer: &judge::Answer) -> String {

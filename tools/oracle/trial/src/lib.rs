@@ -9,7 +9,7 @@ mod mutants;
 mod shrink;
 mod telling;
 
-pub use agree::{Agreed, agree};
+pub use agree::{Agreed, agree, full};
 pub use lend::lent;
 pub use mutants::{Lent, Told, mutants};
 pub use shrink::shrink;

@@ -46,6 +46,54 @@ fn answers() {
 }
 
 #[test]
+fn answers_that_end_in_a_message() {
+    let limits = judge::Limits {
+        bytes: 100_000,
+        ..judge::Limits::default()
+    };
+    let length = |seed| {
+        let file = files::generate("message-last", seed);
+        let judge::Answer::Lines(lines) = judge::answer(&file, &limits).answer else {
+            panic!("refused");
+        };
+        let last = lines.split_inclusive(|byte| *byte == b'\n').next_back();
+        assert!(last.is_some_and(|line| line.starts_with(b"0a")));
+        lines.len()
+    };
+    let seen: BTreeSet<usize> = (0..30).map(length).collect();
+    assert_eq!(seen, (65_535..=65_537).collect());
+}
+
+#[test]
+fn files_for_the_time_of_messages() {
+    for (name, file) in files::speaking() {
+        let ran = judge::answer(&file, &judge::Limits::default());
+        let judge::Answer::Lines(lines) = &ran.answer else {
+            panic!("{name}: {:?}", ran.answer);
+        };
+        println!(
+            "{name}: {} diagnostics, {} bytes",
+            ran.codes.len(),
+            lines.len()
+        );
+        if let Some(count) = name.strip_prefix("diagnostics-") {
+            assert_eq!(ran.codes.len().to_string(), count);
+        }
+        assert!(!ran.codes.is_empty(), "{name}");
+    }
+}
+
+#[test]
+fn each_text_comes_up() {
+    let mut seen = BTreeSet::new();
+    for n in 0..3_000 {
+        let (_, file) = trial::file(5, n);
+        seen.extend(judge::answer(&file, &judge::Limits::default()).texts);
+    }
+    assert_eq!(seen, judge::TEXTS.into());
+}
+
+#[test]
 fn each_refusal_comes_up() {
     let mut seen = BTreeSet::new();
     for n in 0..60_000 {

@@ -1,10 +1,11 @@
--- Made from Proof.ans by tools/answers, 731909bd3bc96e92 b52ecf568e890b32.
+-- Made from Proof.ans by tools/answers, e075fbe35bb4281f 27db635da5bd4718.
 -- `reading::add_name` meets its contract.
 use borrow.Author.Needs.{needs}
 use Rattle.reading.proofs.names.add_name.Statement.{statement}
 use Rattle.reading.proofs.names.add_name.Tie as tie
 use Rattle.reading.proofs.names.add_name.Reads as reads
 use Rattle.reading.proofs.names.add_name.Lts as lts
+use Rattle.work.proofs.name_word.Reads as name-word-reads
 use Rattle.work.proofs.put.Reads as put-reads
 use Rattle.work.proofs.wide.Reads as wide-reads
 use native.Mathlib.Omega.{arith}
@@ -17,13 +18,11 @@ add-name-spec =
     (tie.spec
     (λ c κs. search needs)
     (λ c. search needs)
-    (λ c. search needs)
-    (λ c. search needs)
-    (λ c. search needs)
+    (λ c κs. search needs)
     (λ c κs. search needs)
     (λ c. search needs)
     (λ c. search needs)
     (λ c. search needs)
-    (λ c. record { words = rw (c .before .before .before .before .wide .ensures .0) at (c .before .before .before .put .ensures); step = rw (c .if1 .taken) })
+    (λ c. record { words = rw (c .before .before .before .before .before .wide .ensures .0, c .before .before .before .before .name-word .ensures) at (c .before .before .before .put .ensures); step = rw (c .if1 .taken) })
     (λ c. search needs)
-    (λ c. record { words = rw (c .before .before .before .before .wide .ensures .0) at (c .before .before .before .put .ensures); step = rw (c .if1 .left) }))
+    (λ c. record { words = rw (c .before .before .before .before .before .wide .ensures .0, c .before .before .before .before .name-word .ensures) at (c .before .before .before .put .ensures); step = rw (c .if1 .left) }))

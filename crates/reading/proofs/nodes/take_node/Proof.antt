@@ -1,4 +1,4 @@
--- Made from Proof.ans by tools/answers, a3a6525650046304 f97237c3e02c2d51.
+-- Made from Proof.ans by tools/answers, f0cf6cd803c098f5 6fa220eac820eb8c.
 -- `reading::take_node` meets its contract: what the frame refers to is not all there, or one more node is held.
 use borrow.Author.Needs.{needs}
 use Rattle.reading.proofs.nodes.take_node.Statement.{statement}
@@ -6,6 +6,7 @@ use Rattle.reading.proofs.nodes.take_node.Tie as tie
 use Rattle.reading.proofs.nodes.take_node.Reads as reads
 use Rattle.reading.proofs.nodes.take_node.Lts as lts
 use Rattle.reading.proofs.nodes.name_all.Reads as name-all-reads
+use Rattle.work.proofs.node_word.Reads as node-word-reads
 use Rattle.work.proofs.put.Reads as put-reads
 use Rattle.work.proofs.wide.Reads as wide-reads
 use native.Mathlib.Omega.{arith}
@@ -22,11 +23,8 @@ take-node-spec =
     (λ c. node-bad _ (c .before .before .before .before .before .before .before .args .s .now) _ (c .before .before .before .before .before .before .before .args .c) _ (rw (not-true (c .before .before .before .name-all .result) (c .if1 .taken)) at (c .before .before .before .name-all .ensures)))
     (λ c κs. search needs)
     (λ c. search needs)
-    (λ c. search needs)
-    (λ c. search needs)
-    (λ c. search needs)
-    (λ c. search needs)
+    (λ c κs. search needs)
     (λ c κs. search needs)
     (λ c. search needs)
     (λ c. search needs)
-    (λ c. node-takes _ (c .before .before .before .before .before .before .before .before .before .before .before .before .args .s .now) _ (c .before .before .before .before .before .before .before .before .before .before .before .before .args .c) _ (rw (not-false (c .before .before .before .before .before .before .before .before .name-all .result) (c .before .before .before .before .before .if1 .left)) at (c .before .before .before .before .before .before .before .before .name-all .ensures)) _ (rw (c .before .before .before .wide .ensures .0) at (c .before .before .put .ensures))))
+    (λ c. node-takes _ (c .before .before .before .before .before .before .before .before .before .before .before .before .before .args .s .now) _ (c .before .before .before .before .before .before .before .before .before .before .before .before .before .args .c) _ (rw (not-false (c .before .before .before .before .before .before .before .before .before .name-all .result) (c .before .before .before .before .before .before .if1 .left)) at (c .before .before .before .before .before .before .before .before .before .name-all .ensures)) _ (rw (c .before .before .before .before .wide .ensures .0, c .before .before .before .node-word .ensures) at (c .before .before .put .ensures))))

@@ -25,7 +25,8 @@ const WHOLE_PRINTS: &str = "
     070001060000
     0700020400010001060000
     070003060000
-    08000000040000000b72656a6563742f696e66696e6974652d74797065";
+    08000000040000000b72656a6563742f696e66696e6974652d74797065
+    0a74686973207061747465726e20776f756c64206861766520746f20636f6e7461696e20697473656c66";
 
 /// M read as document 01 writes it: its node line has ten bytes.
 fn m() -> Vec<u8> {
@@ -53,20 +54,20 @@ struct Row {
     case: &'static str,
     file: &'static str,
     types: &'static str,
-    reports: &'static [(u32, u32, &'static str)],
+    reports: &'static [(u32, u32, &'static str, &'static str)],
     visits: u64,
 }
 
 pub fn table(group: &mut Group) {
     for row in ROWS {
         let mut expected = lines(row.types);
-        for (start, end, code) in row.reports {
-            expected.extend_from_slice(report(*start, *end, code).as_bytes());
+        for (start, end, code, message) in row.reports {
+            expected.extend_from_slice(report(*start, *end, code, message).as_bytes());
         }
         let ran = group.answer(&lines(row.file));
         group.same(row.case, ran.answer, Answer::Lines(expected));
         group.same(row.case, ran.visits, vec![row.visits]);
-        let codes: Vec<&str> = row.reports.iter().map(|(_, _, code)| *code).collect();
+        let codes: Vec<&str> = row.reports.iter().map(|(_, _, code, _)| *code).collect();
         group.same(row.case, ran.codes, codes);
     }
 }
@@ -88,7 +89,12 @@ const ROWS: &[Row] = &[
             07 0001 060000
             07 0002 04 0001 0001 060000
             07 0003 060000",
-        reports: &[(4, 11, "reject/infinite-type")],
+        reports: &[(
+            4,
+            11,
+            "reject/infinite-type",
+            "this pattern would have to contain itself",
+        )],
         visits: 3,
     },
     // x = error, head x: the unknown becomes Error.
@@ -199,7 +205,7 @@ const ROWS: &[Row] = &[
             07 0006 01
             07 0007 04 0002 0001 00 0002 01
             07 0008 04 0002 0001 00 0001 00",
-        reports: &[(14, 15, "reject/unknown-field")],
+        reports: &[(14, 15, "reject/unknown-field", "`b` is not a field here")],
         // First bind as before, 4. Second: unify and the one for a; b is not found.
         visits: 6,
     },
@@ -221,7 +227,12 @@ const ROWS: &[Row] = &[
             07 0000 ff
             07 0001 03 0000
             07 0002 00",
-        reports: &[(0, 1, "reject/union-arity")],
+        reports: &[(
+            0,
+            1,
+            "reject/union-arity",
+            "a union value is one alternative, and this names 0",
+        )],
         visits: 0,
     },
     // p {a = 1, a = 1} over the same schema.
@@ -246,7 +257,12 @@ const ROWS: &[Row] = &[
             07 0002 ff
             07 0003 03 0000
             07 0004 00",
-        reports: &[(4, 5, "reject/union-arity")],
+        reports: &[(
+            4,
+            5,
+            "reject/union-arity",
+            "a union value is one alternative, and this names 2",
+        )],
         visits: 0,
     },
     // p _ < p _ where p's key is Int.
@@ -269,7 +285,12 @@ const ROWS: &[Row] = &[
             07 0002 00
             07 0003 03 0000
             07 0004 00",
-        reports: &[(2, 3, "reject/type-mismatch")],
+        reports: &[(
+            2,
+            3,
+            "reject/type-mismatch",
+            "`p` has no order — it holds a reference, and a reference compares by which fact was written first",
+        )],
         visits: 2,
     },
     // {} < {}.
@@ -312,7 +333,12 @@ const ROWS: &[Row] = &[
             07 0002 04 0001 0001 00
             07 0003 03 0000
             07 0004 06 0001",
-        reports: &[(2, 3, "reject/type-mismatch")],
+        reports: &[(
+            2,
+            3,
+            "reject/type-mismatch",
+            "expected an integer, found {g = an unknown type}",
+        )],
         visits: 1,
     },
     // (absent 7 _).f, and its key node is not visited.
@@ -345,7 +371,7 @@ const ROWS: &[Row] = &[
             07 0000 ff
             07 0001 03 0007
             07 0002 07",
-        reports: &[(4, 5, "reject/no-value")],
+        reports: &[(4, 5, "reject/no-value", "this predicate has no value")],
         visits: 0,
     },
     // Three fuzzy patterns as statements, head an integer.
@@ -365,8 +391,18 @@ const ROWS: &[Row] = &[
             07 0002 01
             07 0003 00",
         reports: &[
-            (0, 1, "reject/fuzzy-distance"),
-            (4, 5, "reject/fuzzy-distance"),
+            (
+                0,
+                1,
+                "reject/fuzzy-distance",
+                "an edit distance of 0 is outside 1..=2",
+            ),
+            (
+                4,
+                5,
+                "reject/fuzzy-distance",
+                "an edit distance of 3 is outside 1..=2",
+            ),
         ],
         visits: 0,
     },

@@ -49,7 +49,12 @@ pub fn run(group: &mut Group) {
 
 /// Two queries in both orders, one alone, and one twice.
 fn two(group: &mut Group) {
-    let infinite = report(4, 11, "reject/infinite-type");
+    let infinite = report(
+        4,
+        11,
+        "reject/infinite-type",
+        "this pattern would have to contain itself",
+    );
     let second = format!("{SECOND_PRINTS}\n{infinite}");
     let accepted = |text: &str| Answer::Lines(lines(text));
     for (case, file, prints, visits) in [

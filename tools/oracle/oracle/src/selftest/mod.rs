@@ -1,10 +1,12 @@
-//! `oracle selftest`: what document 01 and cards 2 and 3 say outright, held against the judge.
+//! `oracle selftest`: what document 01 and cards 1, 2 and 3 say outright, held against the judge.
 //!
-//! The expected answers and visits were worked out from these papers by hand and not by running.
+//! The expected answers and visits were worked out from these papers by hand and not by running; the
+//! messages are what ty.rs says, read beside it.
 
 mod examples;
 mod forms;
 mod large;
+mod messages;
 mod reading;
 mod refusals;
 mod texts;
@@ -18,7 +20,7 @@ use crate::options::Options;
 type Cases = fn(&mut Group);
 
 /// The groups by name.
-const GROUPS: [(&str, Cases); 7] = [
+const GROUPS: [(&str, Cases); 8] = [
     ("the examples of document 01", examples::whole),
     ("the table of refusals", refusals::run),
     ("the list of the computed table", examples::table),
@@ -26,6 +28,7 @@ const GROUPS: [(&str, Cases); 7] = [
     ("the rules of reading", reading::run),
     ("types too large", large::run),
     ("several queries in a file", forms::run),
+    ("each message", messages::run),
 ];
 
 /// One group of cases: counts, and the files that were asked about.
@@ -93,10 +96,12 @@ pub fn lines(text: &str) -> Vec<u8> {
     file
 }
 
-/// The diagnostic line at a span.
-pub fn report(start: u32, end: u32, code: &str) -> String {
-    let digits: String = code.bytes().map(|byte| format!("{byte:02x}")).collect();
-    format!("08{start:08x}{end:08x}{digits}\n")
+/// The diagnostic line at a span, and the line of its message.
+pub fn report(start: u32, end: u32, code: &str, message: &str) -> String {
+    let digits =
+        |text: &str| -> String { text.bytes().map(|byte| format!("{byte:02x}")).collect() };
+    let (code, message) = (digits(code), digits(message));
+    format!("08{start:08x}{end:08x}{code}\n0a{message}\n")
 }
 
 /// Every file that the self-test asks about with the program's slices.

@@ -1,0 +1,170 @@
+"""The type checker of Sigla queries for Python: one file, the standard library alone.
+
+    import sigla
+    answer = sigla.answer(open("samples/infinite.hex", "rb").read())
+    for query in answer:
+        for diagnostic in query.diagnostics:
+            print(diagnostic.span, diagnostic.code, diagnostic.message)
+
+It loads libsigla.so: where the environment's SIGLA_SO says, else by the loader's own rules. `make_library` makes one from the static
+library. docs/FORMAT.md has files, answers and refusals.
+"""
+
+import ctypes
+import os
+import subprocess
+from dataclasses import dataclass, field
+
+WORDS = 16384
+BYTES = 65536
+QUERIES = 64
+PREDICATE_BYTES = 2
+
+REASONS = {
+    1: "the work slice has fewer than 16,384 words",
+    2: "the file has more than 65,536 bytes",
+    3: "a line is empty, odd, has another character, more than 512 bytes, or no LF",
+    4: "a kind is unknown or stands where it may not, or the last line is no query",
+    5: "there are over 256 names, 256 types, 128 predicates, or 512 nodes of a query",
+    6: "a frame does not have its kind's form",
+    7: "a text is not UTF-8",
+    8: "a name was given before",
+    9: "a reference is to nothing earlier, or to a node that was named before",
+    10: "a record type repeats a name, or a union type a discriminant",
+    11: "a query needs more than 1,048,576 visits",
+    12: "the answer is longer than the answer slice",
+    13: "there are more than 64 queries",
+}
+
+
+class Refused(Exception):
+    """A file that is turned down, by number."""
+
+    def __init__(self, number):
+        self.number = number
+        super().__init__(f"refused ({number}): {REASONS.get(number, 'for a reason that this version does not know')}")
+
+
+@dataclass(frozen=True)
+class Diagnostic:
+    span: tuple
+    code: str
+    message: str | None = None
+
+
+@dataclass
+class Typed:
+    """What was found of a query. A type is a tuple: ("integer",), ("fact", 3), ("record", ((name, type), ..)),
+    ("union", ((name, discriminant, type), ..)), ("open", 0), ("error",); None where a node was not looked at."""
+
+    types: list = field(default_factory=list)
+    diagnostics: list = field(default_factory=list)
+    once: list = field(default_factory=list)
+    visits: int | None = None
+
+
+def make_library(static, shared):
+    """Makes libsigla.so at `shared` from libsigla_lib.a at `static`, with the C compiler."""
+    subprocess.run(["cc", "-shared", "-o", shared, "-Wl,--whole-archive", static, "-Wl,--no-whole-archive"], check=True)
+
+
+_library = None
+
+
+def _load():
+    global _library
+    if _library is None:
+        _library = ctypes.CDLL(os.environ.get("SIGLA_SO", "libsigla.so"))
+        _library.sigla_check.restype = ctypes.c_uint8
+        _library.sigla_check.argtypes = [
+            ctypes.c_char_p, ctypes.c_size_t, ctypes.POINTER(ctypes.c_uint32), ctypes.c_size_t, ctypes.POINTER(ctypes.c_uint8),
+            ctypes.c_size_t,
+        ]
+    return _library
+
+
+def check(file, words=WORDS, length=BYTES):
+    """The answer's bytes; raises Refused. The slices are this call's own."""
+    work = (ctypes.c_uint32 * words)()
+    answer = (ctypes.c_uint8 * length)()
+    number = _load().sigla_check(bytes(file), len(file), work, words, answer, length)
+    if number:
+        raise Refused(number)
+    return bytes(answer).split(b"\0", 1)[0]
+
+
+def answer(file):
+    """What was found of each query of a file; raises Refused."""
+    return parse(check(file))
+
+
+class _Reader:
+    def __init__(self, data):
+        self.data = data
+
+    def number(self, n):
+        if len(self.data) < n:
+            raise ValueError("a line that is too short")
+        first, self.data = self.data[:n], self.data[n:]
+        return int.from_bytes(first, "big")
+
+    def text(self):
+        text, self.data = self.data.decode(), b""
+        return text
+
+    def span(self):
+        return (self.number(4), self.number(4))
+
+    def type(self):
+        tag = self.number(1)
+        if tag in (0, 1, 2):
+            return (("integer", "string", "bytes")[tag],)
+        if tag == 3:
+            return ("fact", self.number(PREDICATE_BYTES))
+        if tag == 4:
+            return ("record", tuple((self.number(2), self.type()) for _ in range(self.number(2))))
+        if tag == 5:
+            return ("union", tuple((self.number(2), self.number(4), self.type()) for _ in range(self.number(2))))
+        if tag == 6:
+            return ("open", self.number(2))
+        if tag == 7:
+            return ("error",)
+        raise ValueError("no type")
+
+
+def parse(lines):
+    """The queries of an answer; raises ValueError where it is none."""
+    queries = []
+    for line in lines.splitlines():
+        rest = _Reader(bytes.fromhex(line.decode()))
+        kind = rest.number(1)
+        if kind == 0x0B:
+            if rest.number(2) != len(queries):
+                raise ValueError("another query's number")
+            queries.append(Typed())
+            continue
+        if not queries:
+            queries.append(Typed())
+        query = queries[-1]
+        if kind == 0x07:
+            if rest.number(2) != len(query.types):
+                raise ValueError("another node's number")
+            if rest.data == b"\xff":
+                rest.number(1)
+                query.types.append(None)
+            else:
+                query.types.append(rest.type())
+        elif kind == 0x08:
+            query.diagnostics.append(Diagnostic(rest.span(), rest.text()))
+        elif kind == 0x0A:
+            last = query.diagnostics.pop()
+            query.diagnostics.append(Diagnostic(last.span, last.code, rest.text()))
+        elif kind == 0x0C:
+            query.once.append(rest.span())
+        elif kind == 0x09:
+            query.visits = rest.number(4)
+        else:
+            raise ValueError("not a line of an answer")
+        if rest.data:
+            raise ValueError("a line that is too long")
+    return queries

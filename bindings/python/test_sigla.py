@@ -1,0 +1,39 @@
+"""The binding beside the samples."""
+
+import pathlib
+import unittest
+
+import sigla
+
+SAMPLES = pathlib.Path(__file__).parent / "../../samples"
+
+
+class Calls(unittest.TestCase):
+    def test_the_samples(self):
+        (query,) = sigla.answer((SAMPLES / "infinite.hex").read_bytes())
+        self.assertEqual([d.code for d in query.diagnostics], ["reject/infinite-type"])
+        self.assertEqual(query.diagnostics[0].span, (4, 11))
+        self.assertEqual(query.diagnostics[0].message, "this pattern would have to contain itself")
+        self.assertEqual(query.types[2], ("record", ((1, ("open", 0)),)))
+        form = sigla.answer((SAMPLES / "form.hex").read_bytes())
+        self.assertEqual([[d.code for d in query.diagnostics] for query in form], [[], ["reject/type-mismatch"]])
+        self.assertEqual([query.types[0] for query in form], [("string",), ("integer",)])
+
+    def test_refusals(self):
+        for file, number in [(b"", 4), (b"\n", 3), (b"0" * 65537, 2)]:
+            with self.assertRaises(sigla.Refused) as refused:
+                sigla.answer(file)
+            self.assertEqual(refused.exception.number, number)
+        with self.assertRaises(sigla.Refused) as refused:
+            sigla.check((SAMPLES / "form.hex").read_bytes(), length=3)
+        self.assertEqual(refused.exception.number, 12)
+        self.assertIn("does not know", str(sigla.Refused(99)))
+
+    def test_what_is_no_answer(self):
+        for lines in [b"0e\n", b"07000100\n", b"070000\n", b"0700000000\n"]:
+            with self.assertRaises(ValueError):
+                sigla.parse(lines)
+
+
+if __name__ == "__main__":
+    unittest.main()

@@ -1,0 +1,4 @@
+pub mod Cabinet
+pub mod Contracts
+pub mod Accounts
+pub mod Days

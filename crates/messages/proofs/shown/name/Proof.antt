@@ -1,0 +1,30 @@
+-- Made from Proof.ans by tools/answers, ca38922b942c3662 c728ff24925ef1ed.
+-- The word has where the line starts.
+use Rattle.messages.proofs.shown.name.Statement.{statement}
+use Rattle.messages.proofs.shown.name.Tie as tie
+use Rattle.messages.proofs.shown.name.Reads as reads
+use Rattle.messages.proofs.shown.name.Lts as lts
+use Rattle.messages.proofs.pieces.piece.Reads as piece-reads
+use Rattle.messages.proofs.shown.digits.Reads as digits-reads
+use Rattle.work.proofs.wide.Reads as wide-reads
+use Rattle.work.proofs.word.Reads as word-reads
+use borrow.Author.Needs.{needs}
+use native.Mathlib.Omega.{arith}
+use Rattle.messages.proofs.Names.{name-shown, name-marked}
+
+pub name-spec : {M : Type 1} → statement M
+name-spec =
+    tie.close
+    (tie.spec
+    (λ c κs. search needs)
+    (λ c κs. search needs)
+    (λ c. search needs)
+    (λ c κs. search needs)
+    (λ c κs. search needs)
+    (λ c. search needs)
+    (λ c κs. search needs)
+    (λ c. search needs)
+    (λ c. name-shown (c .before .before .before .before .before .before .before .before .word .ensures) (c .before .before .before .before .before .before .before .if1 .taken) (rw (c .before .before .before .before .wide2 .ensures .0, c .before .before .before .before .before .word2 .ensures, c .before .before .before .before .before .before .wide .ensures .0)) (c .before .before .digits .ensures))
+    (λ c κs. search needs)
+    (λ c. search needs)
+    (λ c. name-marked (c .before .before .before .before .before .word .ensures) (c .before .before .before .before .if1 .left) (c .before .before .piece .ensures)))
