@@ -5,7 +5,7 @@ use Prim.Native.Nat.{ℕ, _+_, _*_}
 use lib.ListN.{getD}
 use Rattle.cabinet.specs.declared.Desk.{Desk}
 use Rattle.cabinet.specs.declared.Group.{Group}
-use Rattle.cabinet.specs.Cabinet.{places}
+use Rattle.cabinet.specs.Cabinet.{desk, places}
 use Rattle.tariff.specs.declared.Tally.{Tally}
 
 -- The count, the pool, and three words for each of sixteen desks: share, cap, use.
@@ -20,7 +20,7 @@ deskWords [] = []
 deskWords (d ∷ ds) = d .share ∷ d .cap ∷ d .used ∷ deskWords ds
 
 abbrev pub groupWords : Group → List ℕ
-groupWords g = g .count ∷ g .pool ∷ deskWords (g .desks)
+groupWords g = g .count ∷ g .pool ∷ deskWords (places (desk g) 16)
 
 abbrev pub tallyOf : List ℕ → Tally
 tallyOf ws = record { units = getD ws 0 0; cents = getD ws 1 0; remainder = getD ws 2 0 }

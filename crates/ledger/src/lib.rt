@@ -34,17 +34,19 @@ pub fn group(words: &[u32; 50]) -> Group
 pub fn put_group(words: &mut [u32; 50], g: Group)
     ensures { λ _. ⌜ now (words .exit) ≡ groupWords g ⌝ }
 {
-    words[0] = g.count;
-    words[1] = g.pool;
     let ds = g.desks;
+    let mut all = [0u32; 50];
+    all[0] = g.count;
+    all[1] = g.pool;
     let mut i: usize = 0;
     while i < 16 {
         let d = ds[i];
-        words[2 + 3 * i] = d.share;
-        words[3 + 3 * i] = d.cap;
-        words[4 + 3 * i] = d.used;
+        all[2 + 3 * i] = d.share;
+        all[3 + 3 * i] = d.cap;
+        all[4 + 3 * i] = d.used;
         i += 1;
     }
+    *words = all;
 }
 
 pub fn tally(words: &[u32; 3]) -> Tally
@@ -60,7 +62,5 @@ pub fn tally(words: &[u32; 3]) -> Tally
 pub fn put_tally(words: &mut [u32; 3], t: Tally)
     ensures { λ _. ⌜ now (words .exit) ≡ tallyWords t ⌝ }
 {
-    words[0] = t.units;
-    words[1] = t.cents;
-    words[2] = t.remainder;
+    *words = [t.units, t.cents, t.remainder];
 }
