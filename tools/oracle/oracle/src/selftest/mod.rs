@@ -1,4 +1,4 @@
-//! `oracle selftest`: what document 01 and cards 1, 2 and 3 say outright, held against the judge.
+//! `oracle selftest`: what document 01 and cards 1 to 3, 6 and 7 say outright, held against the judge.
 //!
 //! The expected answers and visits were worked out from these papers by hand and not by running; the
 //! messages are what ty.rs says, read beside it.
@@ -102,6 +102,11 @@ pub fn report(start: u32, end: u32, code: &str, message: &str) -> String {
         |text: &str| -> String { text.bytes().map(|byte| format!("{byte:02x}")).collect() };
     let (code, message) = (digits(code), digits(message));
     format!("08{start:08x}{end:08x}{code}\n0a{message}\n")
+}
+
+/// The line of a query's visits, its last.
+pub fn visits(made: u64) -> String {
+    format!("09{made:08x}\n")
 }
 
 /// Every file that the self-test asks about with the program's slices.
