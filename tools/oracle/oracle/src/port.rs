@@ -67,7 +67,7 @@ impl Port {
 }
 
 /// Runs the program on a file and takes what it prints.
-fn program(command: &[String], file: &[u8]) -> Result<Vec<u8>, String> {
+pub fn program(command: &[String], file: &[u8]) -> Result<Vec<u8>, String> {
     let fault = |why: std::io::Error| format!("{}: {why}", command[0]);
     let mut child = Command::new(&command[0])
         .args(&command[1..])
@@ -103,7 +103,7 @@ fn library(file: &[u8], limits: &Limits) -> (u8, Vec<u32>, Vec<u8>) {
 }
 
 /// The outcome and both slices as text: zeros at the end are told by their count.
-fn describe(number: u8, work: &[u32], answer: &[u8]) -> Vec<u8> {
+pub fn describe(number: u8, work: &[u32], answer: &[u8]) -> Vec<u8> {
     let used = answer
         .iter()
         .rposition(|byte| *byte != 0)
