@@ -280,7 +280,15 @@ impl Grower<'_> {
                 .rng
                 .chance(self.taste.misfits * self.taste.poison / 100)
         {
-            let absent = [count as u32, 200, 0xffff, 0x1_0000, 0x1_0001, 0x82_0000, u32::MAX];
+            let absent = [
+                count as u32,
+                200,
+                0xffff,
+                0x1_0000,
+                0x1_0001,
+                0x82_0000,
+                u32::MAX,
+            ];
             return self.rng.pick(&absent);
         }
         self.rng.below(count) as u32

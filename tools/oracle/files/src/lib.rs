@@ -22,7 +22,7 @@ mod valid;
 pub use filled::{GROWING, filled};
 pub use nested::{nested, stacked};
 pub use predicates::narrowed;
-use rng::Rng;
+pub use rng::Rng;
 pub use shapes::{form, shapes, speaking};
 
 type Make = fn(&mut Rng) -> Vec<u8>;

@@ -75,11 +75,17 @@ fn facts(rng: &mut Rng) -> Draft {
     let record = draft.ty(Shape::Record(vec![(0, 1)]));
     for _ in 0..rng.between(1, 3) {
         let key = rng.below(record as usize + 1) as u16;
-        let value = rng.chance(50).then(|| rng.below(record as usize + 1) as u16);
+        let value = rng
+            .chance(50)
+            .then(|| rng.below(record as usize + 1) as u16);
         draft.predicate(0, key, value);
     }
     let fact = |rng: &mut Rng, draft: &mut Draft| {
-        let number = if rng.chance(50) { rng.pick(&of) } else { rng.pick(&NUMBERS) };
+        let number = if rng.chance(50) {
+            rng.pick(&of)
+        } else {
+            rng.pick(&NUMBERS)
+        };
         let key = match rng.below(4) {
             0 => draft.var(1),
             1 => {
@@ -120,7 +126,11 @@ fn facts(rng: &mut Rng) -> Draft {
 pub fn many_facts(rng: &mut Rng) -> Vec<u8> {
     let size = 65_535 + rng.below(3);
     // Of a fact's node the line has 33 characters here and 29 there.
-    let (line, there) = if rng.chance(50) { (33, false) } else { (29, true) };
+    let (line, there) = if rng.chance(50) {
+        (33, false)
+    } else {
+        (29, true)
+    };
     let mut draft = Draft::new();
     draft.ty(Shape::Int);
     let key = draft.ty(Shape::Fact(rng.pick(&[0, 1, 0xffff])));

@@ -110,7 +110,10 @@ impl Day {
 
     fn least(self, group: &Group, at: usize) -> u32 {
         let desk = group.desks[at];
-        let others = Day::desks(group).iter().enumerate().filter(|(n, _)| *n != at);
+        let others = Day::desks(group)
+            .iter()
+            .enumerate()
+            .filter(|(n, _)| *n != at);
         let kept = others.map(|(_, other)| match () {
             _ if self.on("the others' use is subtracted, not the larger of use and share")
                 || self.on("the pool less all use") =>

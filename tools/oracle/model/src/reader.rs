@@ -500,7 +500,12 @@ impl Reader {
         if !layout.each.is_empty() {
             while cursor.left() > 0 {
                 if wrong.on(Wrong::ListTailIgnored)
-                    && cursor.left() < layout.each.iter().map(|slot| slot.width(cursor.predicate)).sum()
+                    && cursor.left()
+                        < layout
+                            .each
+                            .iter()
+                            .map(|slot| slot.width(cursor.predicate))
+                            .sum()
                 {
                     return Some(());
                 }

@@ -31,7 +31,11 @@ pub fn tally(before: Tally, visits: u32, price: u16, mistake: Option<usize>) -> 
     if remainder > most {
         return (before, true);
     }
-    let thousand = if on("a thousand is 1,024") { 1_024 } else { 1_000 };
+    let thousand = if on("a thousand is 1,024") {
+        1_024
+    } else {
+        1_000
+    };
     let mut waiting = u64::from(visits);
     if !on("the remainder does not join the visits") {
         waiting += u64::from(remainder);

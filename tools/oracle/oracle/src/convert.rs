@@ -8,7 +8,7 @@ use judge::{Answer, Edition, Limits};
 
 use crate::Done;
 use crate::compare::NO_LIBRARY;
-use crate::corpus::{Corpus, Item};
+use crate::corpus::Corpus;
 use crate::mismatch::Mismatches;
 use crate::options::Options;
 use crate::port::{self, Given};
@@ -86,7 +86,8 @@ pub fn as_judged(answer: model::Answer) -> Answer {
 }
 
 fn converters(options: &Options) -> Result<Vec<Converter>, String> {
-    let words = |text: &str| -> Vec<String> { text.split_whitespace().map(str::to_owned).collect() };
+    let words =
+        |text: &str| -> Vec<String> { text.split_whitespace().map(str::to_owned).collect() };
     let mut all = vec![];
     if let (Some(widen), Some(narrow)) = (options.text("widen"), options.text("narrow")) {
         all.push(Converter::Programs(words(widen), words(narrow)));
@@ -105,9 +106,10 @@ fn converters(options: &Options) -> Result<Vec<Converter>, String> {
     Ok(all)
 }
 
-/// A run's counts.
-#[derive(Default)]
-struct Counts {
+/// A run: what is compared, and the counts.
+struct Run {
+    converters: Vec<Converter>,
+    mismatches: Mismatches,
     asked: u64,
     /// Outcomes out and back, by number; 0 is a converted file.
     outcomes: [BTreeMap<u8, u64>; 2],
@@ -121,24 +123,28 @@ pub fn compare(options: &Options) -> Done {
     if let Some(path) = options.text("recorded") {
         return recorded(path);
     }
-    let converters = converters(options)?;
+    let mut run = Run {
+        converters: converters(options)?,
+        mismatches: Mismatches::new(options.text("out")),
+        asked: 0,
+        outcomes: Default::default(),
+        returned: [0; 2],
+        outgrown: 0,
+    };
     let corpus = Corpus::from(options)?;
-    let mut mismatches = Mismatches::new(options.text("out"));
     let mut progress = Progress::new(corpus.count());
-    let mut counts = Counts::default();
     for number in 0..corpus.count() {
         let item = corpus.item(number);
         let narrow = files::narrowed(&item.file);
-        for (from, file) in [(Edition::Narrow, &narrow), (Edition::Wide, &item.file)] {
-            one(&converters, &item, file, from, number, &mut counts, &mut mismatches)?;
-        }
-        if mismatches.too_many() {
-            println!("stopped after {} mismatches", mismatches.count);
+        run.one(&item.name, &narrow, Edition::Narrow, number)?;
+        run.one(&item.name, &item.file, Edition::Wide, number)?;
+        if run.mismatches.too_many() {
+            println!("stopped after {} mismatches", run.mismatches.count);
             break;
         }
-        progress.at(number + 1, mismatches.count);
+        progress.at(number + 1, run.mismatches.count);
     }
-    for (way, outcomes) in ["out", "back"].iter().zip(&counts.outcomes) {
+    for (way, outcomes) in ["out", "back"].iter().zip(&run.outcomes) {
         let counts: Vec<String> = outcomes
             .iter()
             .map(|(number, count)| match number {
@@ -150,59 +156,94 @@ pub fn compare(options: &Options) -> Done {
     }
     println!(
         "  narrow files past 1 to 10 and 13 whose wide file has over 65,536 bytes: {}",
-        counts.outgrown
+        run.outgrown
     );
     println!(
         "compare convert: {} files of each edition, {} comparisons; out and back the first file again {}, \
          back and out {}; {} mismatches",
         corpus.count(),
-        counts.asked,
-        counts.returned[0],
-        counts.returned[1],
-        mismatches.count
+        run.asked,
+        run.returned[0],
+        run.returned[1],
+        run.mismatches.count
     );
-    Ok(mismatches.count == 0)
+    Ok(run.mismatches.count == 0)
 }
 
-/// One file of one edition: converted with the program's slices and with others, and turned back.
-fn one(
-    converters: &[Converter],
-    item: &Item,
-    file: &[u8],
-    from: Edition,
-    number: u64,
-    counts: &mut Counts,
-    mismatches: &mut Mismatches,
-) -> Result<(), String> {
-    let usual = Limits::default();
-    let way = usize::from(from == Edition::Wide);
-    let answer = judge::convert(file, from, &usual);
-    let outcome = match &answer {
-        Answer::Refused(number) => *number,
-        _ => 0,
-    };
-    *counts.outcomes[way].entry(outcome).or_default() += 1;
-    let ample = Limits {
-        bytes: usize::MAX,
-        ..usual
-    };
-    let whole = judge::convert(file, from, &ample);
-    let mut ask = |file: &[u8], from: Edition, limits: &Limits| -> Result<bool, String> {
+impl Run {
+    /// One file of one edition: converted with the program's slices and with others, and turned back.
+    fn one(&mut self, name: &str, file: &[u8], from: Edition, number: u64) -> Result<(), String> {
+        let usual = Limits::default();
+        let way = usize::from(from == Edition::Wide);
+        let outcome = match judge::convert(file, from, &usual) {
+            Answer::Refused(number) => number,
+            _ => 0,
+        };
+        *self.outcomes[way].entry(outcome).or_default() += 1;
+        let ample = Limits {
+            bytes: usize::MAX,
+            ..usual
+        };
+        let whole = judge::convert(file, from, &ample);
+        self.ask(name, file, from, &usual)?;
+        self.ask(name, file, from, &other_limits(&whole, number))?;
+        let Answer::Lines(converted) = whole else {
+            return Ok(());
+        };
+        let other = match from {
+            Edition::Narrow => Edition::Wide,
+            Edition::Wide => Edition::Narrow,
+        };
+        if converted.len() > usual.bytes {
+            self.outgrown += 1;
+            // It can be made; nobody can read it.
+            let room = Limits {
+                bytes: converted.len(),
+                ..usual
+            };
+            self.ask(name, file, from, &room)?;
+            self.ask(name, &converted, other, &room)?;
+            return Ok(());
+        }
+        // What it says is the same in both editions.
+        let same = judge::read_in(file, &usual, from) == judge::read_in(&converted, &usual, other);
+        let back = judge::convert(&converted, other, &usual) == Answer::Lines(file.to_vec());
+        if !same || !back {
+            self.mismatches.keep(
+                &format!("definition-{name}-{from:?}"),
+                &[("file", file), ("converted", &converted)],
+            )?;
+        }
+        // The file that the converters made is this one, by the comparison above.
+        if self.ask(name, &converted, other, &usual)? && back {
+            self.returned[way] += 1;
+        }
+        Ok(())
+    }
+
+    /// Holds each converter against the definition; tells whether all are as they should be.
+    fn ask(
+        &mut self,
+        name: &str,
+        file: &[u8],
+        from: Edition,
+        limits: &Limits,
+    ) -> Result<bool, String> {
         let answer = judge::convert(file, from, limits);
         let mut same = true;
-        for converter in converters {
+        for converter in &self.converters {
             let usual_alone = matches!(converter, Converter::Programs(..));
-            if usual_alone && *limits != usual {
+            if usual_alone && *limits != Limits::default() {
                 continue;
             }
-            counts.asked += 1;
+            self.asked += 1;
             let found = converter.given(file, from, limits)?;
             let expected = converter.wanted(&answer, limits)?;
             if found != expected {
                 same = false;
                 let lent = format!("{from:?}, {} words, {} bytes\n", limits.words, limits.bytes);
-                mismatches.keep(
-                    &format!("convert-{}-{}-{from:?}", converter.name(), item.name),
+                self.mismatches.keep(
+                    &format!("convert-{}-{name}-{from:?}", converter.name()),
                     &[
                         ("lent", lent.as_bytes()),
                         ("file", file),
@@ -213,41 +254,7 @@ fn one(
             }
         }
         Ok(same)
-    };
-    ask(file, from, &usual)?;
-    ask(file, from, &other_limits(&whole, number))?;
-    let Answer::Lines(converted) = whole else {
-        return Ok(());
-    };
-    // What it says is the same in both editions.
-    let other = match from {
-        Edition::Narrow => Edition::Wide,
-        Edition::Wide => Edition::Narrow,
-    };
-    if converted.len() > usual.bytes {
-        counts.outgrown += 1;
-        // It can be made; nobody can read it.
-        let room = Limits {
-            bytes: converted.len(),
-            ..usual
-        };
-        ask(file, from, &room)?;
-        ask(&converted, other, &room)?;
-        return Ok(());
     }
-    let same = judge::read_in(file, &usual, from) == judge::read_in(&converted, &usual, other);
-    let back = judge::convert(&converted, other, &usual) == Answer::Lines(file.to_vec());
-    if !same || !back {
-        mismatches.keep(
-            &format!("definition-{}-{from:?}", item.name),
-            &[("file", file), ("converted", &converted)],
-        )?;
-    }
-    // The converter's own file is this one, by the comparison above.
-    if ask(&converted, other, &usual)? && back {
-        counts.returned[way] += 1;
-    }
-    Ok(())
 }
 
 /// Lengths around each boundary, and the converted file's own.
@@ -309,11 +316,7 @@ pub fn mistakes(seed: u64, count: u64) -> Vec<&'static str> {
 }
 
 /// Says of each mistake which item told it, and gives those that none told.
-pub fn print_told(
-    what: &str,
-    names: &[&'static str],
-    told: &[Option<u64>],
-) -> Vec<&'static str> {
+pub fn print_told(what: &str, names: &[&'static str], told: &[Option<u64>]) -> Vec<&'static str> {
     let mut open = vec![];
     for (name, told) in names.iter().zip(told) {
         match told {
@@ -431,7 +434,9 @@ fn widened_type(line: &[u8], at: usize, wide: &mut Vec<u8>, count: &mut u64) -> 
 /// Times of a conversion beside the reading alone and beside a copy of the file.
 pub fn bench(rounds: u32) -> Done {
     if !linked::convert::HAS || !linked::HAS_READ {
-        return Err(format!("nothing to time: {NO_LIBRARY} or has no converters, or libreading_calls.a"));
+        return Err(format!(
+            "nothing to time: {NO_LIBRARY} or has no converters, or libreading_calls.a"
+        ));
     }
     let limits = Limits {
         bytes: 80_000,
@@ -439,7 +444,9 @@ pub fn bench(rounds: u32) -> Done {
     };
     let mut work = vec![0; limits.words];
     let mut out = vec![0; limits.bytes];
-    println!("us for a file: out, back, the port's reading of the wide file, the definition's out, a copy");
+    println!(
+        "us for a file: out, back, the port's reading of the wide file, the definition's out, a copy"
+    );
     for (name, wide) in sizes() {
         let Answer::Lines(narrow) = judge::convert(&wide, Edition::Wide, &limits) else {
             return Err(format!("{name} can't be converted"));
@@ -452,10 +459,18 @@ pub fn bench(rounds: u32) -> Done {
                 best[place] = best[place].min(started.elapsed());
             };
             lap(0, &mut || {
-                black_box(linked::convert::widen(black_box(&narrow), &mut work, &mut out));
+                black_box(linked::convert::widen(
+                    black_box(&narrow),
+                    &mut work,
+                    &mut out,
+                ));
             });
             lap(1, &mut || {
-                black_box(linked::convert::narrow(black_box(&wide), &mut work, &mut out));
+                black_box(linked::convert::narrow(
+                    black_box(&wide),
+                    &mut work,
+                    &mut out,
+                ));
             });
             lap(2, &mut || {
                 black_box(linked::read(black_box(&wide), &mut work));
@@ -482,10 +497,12 @@ pub fn bench(rounds: u32) -> Done {
 fn sizes() -> Vec<(String, Vec<u8>)> {
     let mut all = vec![];
     for (name, seed) in [("grown", 3), ("forms", 5), ("large", 1), ("many-facts", 4)] {
-        let file = (seed..).map(|seed| files::generate(name, seed)).find(|file| {
-            let read = judge::read(file, &Limits::default());
-            read.is_ok_and(|read| judge::references(&read).all(|number| number <= 65_535))
-        });
+        let file = (seed..)
+            .map(|seed| files::generate(name, seed))
+            .find(|file| {
+                let read = judge::read(file, &Limits::default());
+                read.is_ok_and(|read| judge::references(&read).all(|number| number <= 65_535))
+            });
         all.push((name.to_owned(), file.expect("such files are made")));
     }
     all

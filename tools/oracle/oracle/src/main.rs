@@ -3,7 +3,9 @@
 mod bench;
 mod calls;
 mod compare;
+mod convert;
 mod corpus;
+mod desks;
 mod mismatch;
 mod options;
 mod port;
@@ -14,6 +16,7 @@ mod stack;
 mod tally;
 mod texts;
 mod trials;
+mod visits;
 
 use std::io::{Read, Write};
 use std::process::ExitCode;

@@ -95,8 +95,7 @@ fn long(group: &mut Group) {
     for level in 0..17 {
         text += &format!("03 04 0000 {level:04x} 0001 {level:04x}\n");
     }
-    text +=
-        "04 0000 0011 00\n05 00000000 00000001 00\n05 00000002 00000003 0d 00000000 0000\n06 0001\n";
+    text += "04 0000 0011 00\n05 00000000 00000001 00\n05 00000002 00000003 0d 00000000 0000\n06 0001\n";
     let ran = group.answer(&lines(&text));
     let left_out = Answer::LeftOut(judge::TOO_LONG);
     group.same("a text of 2^17 long names", ran.answer, left_out);
