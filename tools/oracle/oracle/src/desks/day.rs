@@ -101,7 +101,7 @@ fn pool_of_files(seed: u64) -> Vec<Vec<u8>> {
         "form-answers",
         "long-answer",
     ] {
-        files.extend((0..3).map(|n| files::generate(style, trial::nth(seed, n))));
+        files.extend((0..8).map(|n| files::generate(style, trial::nth(seed, n))));
     }
     files
 }
@@ -176,6 +176,12 @@ fn broken_set_up(rng: &mut Rng) -> (u32, Vec<u32>, Vec<u32>) {
 /// The group with one word or two changed: most break a rule.
 fn changed(rng: &mut Rng, group: &Words) -> Words {
     let mut words = *group;
+    if rng.chance(25) {
+        // A use one past its cap, or at it.
+        let desk = 2 + 3 * rng.below(words[0].clamp(1, 16) as usize);
+        words[desk + 2] = words[desk + 1].wrapping_add(rng.below(2) as u32);
+        return words;
+    }
     for _ in 0..rng.between(1, 2) {
         let at = match rng.below(5) {
             0 => 0,

@@ -364,6 +364,65 @@ const ROWS: &[Row] = &[
         reports: &[],
         visits: 0,
     },
+    // x = p _; x = (absent 65536 _): 65,536 is not predicate 0.
+    Row {
+        case: "facts of two predicates whose low halves are alike",
+        file: "
+            01 02 0020
+            02 70
+            02 78
+            03 00
+            04 0000 0000 00
+            05 00000000 00000001 03 0001
+            05 00000002 00000003 04
+            05 00000004 00000005 0d 00000000 0001
+            05 00000006 00000007 03 0001
+            05 00000008 00000009 04
+            05 0000000a 0000000b 0d 00010000 0004
+            05 0000000c 0000000d 03 0001
+            06 0006 00 0000 0002 00 0003 0005",
+        types: "
+            07 0000 03 00000000
+            07 0001 00
+            07 0002 03 00000000
+            07 0003 03 00000000
+            07 0004 ff
+            07 0005 03 00010000
+            07 0006 03 00000000",
+        reports: &[(10, 11, "reject/type-mismatch", "expected `p`, found a fact")],
+        // First bind: unify and occurs at the fact. Second: unify.
+        visits: 3,
+    },
+    // p's key is a fact of 4,294,967,295: q of 65,535 does not fit it, and r of it does.
+    Row {
+        case: "the greatest predicate number",
+        file: "
+            01 02 0020
+            02 70
+            03 03 ffffffff
+            04 0000 0000 00
+            05 00000000 00000001 04
+            05 00000002 00000003 0d 0000ffff 0000
+            05 00000004 00000005 0d 00000000 0001
+            05 00000006 00000007 04
+            05 00000008 00000009 0d ffffffff 0003
+            05 0000000a 0000000b 0d 00000000 0004
+            06 0002 01 0005",
+        types: "
+            07 0000 ff
+            07 0001 ff
+            07 0002 03 00000000
+            07 0003 ff
+            07 0004 03 ffffffff
+            07 0005 03 00000000",
+        reports: &[(
+            2,
+            3,
+            "reject/type-mismatch",
+            "expected a fact, found a fact",
+        )],
+        visits: 2,
+    },
     // (absent 7 _).value.
     Row {
         case: "value access on an absent predicate",

@@ -11,10 +11,10 @@ use super::{Group, lines, report, visits};
 const ONE: &str = "05 00000000 00000000 00\n06 0000\n";
 
 /// The schema of `two`: the names x and f.
-const NAMES: &str = "01 02 0020\n02 78\n02 66\n";
+pub const NAMES: &str = "01 02 0020\n02 78\n02 66\n";
 
 /// x = 1, head x.
-const FIRST: &str = "
+pub const FIRST: &str = "
     05 00000000 00000001 03 0000
     05 00000004 00000005 00
     05 00000008 00000009 03 0000
