@@ -18,7 +18,6 @@ from dataclasses import dataclass, field
 WORDS = 16384
 BYTES = 65536
 QUERIES = 64
-PREDICATE_BYTES = 2
 
 REASONS = {
     1: "the work slice has fewer than 16,384 words",
@@ -34,6 +33,7 @@ REASONS = {
     11: "a query needs more than 1,048,576 visits",
     12: "the answer is longer than the answer slice",
     13: "there are more than 64 queries",
+    14: "a predicate's number is above 65,535, and the narrow edition has no room for it",
 }
 
 
@@ -75,22 +75,37 @@ def _load():
     global _library
     if _library is None:
         _library = ctypes.CDLL(os.environ.get("SIGLA_SO", "libsigla.so"))
-        _library.sigla_check.restype = ctypes.c_uint8
-        _library.sigla_check.argtypes = [
-            ctypes.c_char_p, ctypes.c_size_t, ctypes.POINTER(ctypes.c_uint32), ctypes.c_size_t, ctypes.POINTER(ctypes.c_uint8),
-            ctypes.c_size_t,
-        ]
+        for call in (_library.sigla_check, _library.sigla_widen, _library.sigla_narrow):
+            call.restype = ctypes.c_uint8
+            call.argtypes = [
+                ctypes.c_char_p, ctypes.c_size_t, ctypes.POINTER(ctypes.c_uint32), ctypes.c_size_t, ctypes.POINTER(ctypes.c_uint8),
+                ctypes.c_size_t,
+            ]
     return _library
+
+
+def _call(name, file, words, length):
+    work = (ctypes.c_uint32 * words)()
+    out = (ctypes.c_uint8 * length)()
+    number = getattr(_load(), name)(bytes(file), len(file), work, words, out, length)
+    if number:
+        raise Refused(number)
+    return bytes(out).split(b"\0", 1)[0]
 
 
 def check(file, words=WORDS, length=BYTES):
     """The answer's bytes; raises Refused. The slices are this call's own."""
-    work = (ctypes.c_uint32 * words)()
-    answer = (ctypes.c_uint8 * length)()
-    number = _load().sigla_check(bytes(file), len(file), work, words, answer, length)
-    if number:
-        raise Refused(number)
-    return bytes(answer).split(b"\0", 1)[0]
+    return _call("sigla_check", file, words, length)
+
+
+def widen(file, words=WORDS, length=BYTES):
+    """A file with two bytes for a predicate's number, with four; raises Refused."""
+    return _call("sigla_widen", file, words, length)
+
+
+def narrow(file, words=WORDS, length=BYTES):
+    """A file with four bytes for a predicate's number, with two; raises Refused, by 14 where a number is above 65,535."""
+    return _call("sigla_narrow", file, words, length)
 
 
 def answer(file):
@@ -120,7 +135,7 @@ class _Reader:
         if tag in (0, 1, 2):
             return (("integer", "string", "bytes")[tag],)
         if tag == 3:
-            return ("fact", self.number(PREDICATE_BYTES))
+            return ("fact", self.number(4))
         if tag == 4:
             return ("record", tuple((self.number(2), self.type()) for _ in range(self.number(2))))
         if tag == 5:

@@ -18,6 +18,16 @@ class Calls(unittest.TestCase):
         form = sigla.answer((SAMPLES / "form.hex").read_bytes())
         self.assertEqual([[d.code for d in query.diagnostics] for query in form], [[], ["reject/type-mismatch"]])
         self.assertEqual([query.types[0] for query in form], [("string",), ("integer",)])
+        self.assertEqual([query.types[2] for query in form], [("fact", 0)] * 2)
+        self.assertEqual([query.visits for query in form], [2, 3])
+
+    def test_out_and_back(self):
+        form = (SAMPLES / "form.hex").read_bytes()
+        narrow = sigla.narrow(form)
+        self.assertEqual(sigla.widen(narrow), form)
+        with self.assertRaises(sigla.Refused) as refused:
+            sigla.narrow(form.replace(b"0d00000000", b"0d00010000"))
+        self.assertEqual(refused.exception.number, 14)
 
     def test_refusals(self):
         for file, number in [(b"", 4), (b"\n", 3), (b"0" * 65537, 2)]:

@@ -8,12 +8,16 @@
 //! ```
 
 mod answer;
+mod desks;
+mod editions;
 mod file;
 mod form;
 mod refusal;
 mod ty;
 
 pub use answer::{Answer, Diagnostic, NoAnswer, Typed};
+pub use desks::{Desk, Group, Tally};
+pub use editions::{narrow, widen};
 pub use file::{Asked, File, NoFile, NodeFrame, PredicateFrame, QueryFrames, Shape, StatementFrame, TypeFrame};
 pub use form::{Form, Limit, Node, Predicate, Query, Span, Statement, Type};
 pub use refusal::Refusal;
@@ -31,6 +35,9 @@ pub const STACK: usize = 1_048_576;
 /// The most queries of a file.
 pub const QUERIES: usize = 64;
 
+/// The most visits of a query.
+pub const VISITS: u32 = 1_048_576;
+
 unsafe extern "C" {
     fn sigla_check(file: *const u8, file_len: usize, work: *mut u32, work_len: usize, answer: *mut u8, answer_len: usize) -> u8;
 }
@@ -42,8 +49,13 @@ pub fn check(file: &[u8], work: &mut [u32], answer: &mut [u8]) -> Result<usize, 
     // SAFETY: each pointer goes with the length of the slice that it comes from; two of the slices are borrowed for writing, so none
     // overlaps another; the library keeps no pointer.
     let number = unsafe { sigla_check(file.as_ptr(), file.len(), work.as_mut_ptr(), work.len(), answer.as_mut_ptr(), answer.len()) };
+    length(number, answer)
+}
+
+/// The length of what stands in `out` up to the first zero byte, or the refusal.
+fn length(number: u8, out: &[u8]) -> Result<usize, Refusal> {
     match Refusal::from_number(number) {
-        None => Ok(answer.iter().position(|&byte| byte == 0).unwrap_or(answer.len())),
+        None => Ok(out.iter().position(|&byte| byte == 0).unwrap_or(out.len())),
         Some(refusal) => Err(refusal),
     }
 }
@@ -65,8 +77,10 @@ pub fn answer(file: &[u8]) -> Result<Answer, Refusal> {
 /// The lines of each query of an answer, in the file's order, without the lines 0b.
 ///
 /// ```
-/// assert_eq!(sigla::by_query(b"07000000\n"), [b"07000000\n"]);
-/// assert_eq!(sigla::by_query(b"0b0000\n07000000\n0b0001\n07000001\n"), [b"07000000\n", b"07000001\n"]);
+/// let one = b"07000000\n0900000000\n";
+/// let two = b"07000001\n0900000000\n";
+/// assert_eq!(sigla::by_query(one), [one]);
+/// assert_eq!(sigla::by_query(&[b"0b0000\n", &one[..], b"0b0001\n", two].concat()), [one, two]);
 /// ```
 pub fn by_query(answer: &[u8]) -> Vec<&[u8]> {
     let mut parts = Vec::new();

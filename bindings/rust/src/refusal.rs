@@ -20,12 +20,20 @@ pub enum Refusal {
     TooManyVisits,
     AnswerTooLong,
     TooManyQueries,
+    /// [`narrow`](crate::narrow) alone.
+    NumberTooWide,
+    /// [`Tally::add`](crate::Tally::add) alone.
+    TallyTooLarge,
+    /// [`Group::check`](crate::Group::check) alone, in the place of `TooManyVisits`.
+    CeilingPassed,
+    /// The calls on a [`Group`](crate::Group) alone.
+    OutsideTheRules,
     /// A number that this version of the crate has no name for.
     Other(u8),
 }
 
 /// Each number with its refusal and what it says.
-const REFUSALS: [(u8, Refusal, &str); 13] = [
+const REFUSALS: [(u8, Refusal, &str); 17] = [
     (1, Refusal::WorkTooShort, "the work slice has fewer than 16,384 words"),
     (2, Refusal::FileTooLong, "the file has more than 65,536 bytes"),
     (3, Refusal::MalformedLine, "a line is empty, odd, has another character, more than 512 bytes, or no LF"),
@@ -39,6 +47,10 @@ const REFUSALS: [(u8, Refusal, &str); 13] = [
     (11, Refusal::TooManyVisits, "a query needs more than 1,048,576 visits"),
     (12, Refusal::AnswerTooLong, "the answer is longer than the answer slice"),
     (13, Refusal::TooManyQueries, "there are more than 64 queries"),
+    (14, Refusal::NumberTooWide, "a predicate's number is above 65,535, and the narrow edition has no room for it"),
+    (15, Refusal::TallyTooLarge, "a total of the tally would pass 32 bits, or its remainder is over 999"),
+    (16, Refusal::CeilingPassed, "a query needs more visits than its desk may use now"),
+    (17, Refusal::OutsideTheRules, "there is no such desk, or the group breaks the rules"),
 ];
 
 impl Refusal {
