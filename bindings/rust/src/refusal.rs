@@ -20,13 +20,9 @@ pub enum Refusal {
     TooManyVisits,
     AnswerTooLong,
     TooManyQueries,
-    /// [`narrow`](crate::narrow) alone.
     NumberTooWide,
-    /// [`Tally::add`](crate::Tally::add) alone.
     TallyTooLarge,
-    /// [`Group::check`](crate::Group::check) alone, in the place of `TooManyVisits`.
     CeilingPassed,
-    /// The calls on a [`Group`](crate::Group) alone.
     OutsideTheRules,
     /// A number that this version of the crate has no name for.
     Other(u8),
@@ -47,10 +43,10 @@ const REFUSALS: [(u8, Refusal, &str); 17] = [
     (11, Refusal::TooManyVisits, "a query needs more than 1,048,576 visits"),
     (12, Refusal::AnswerTooLong, "the answer is longer than the answer slice"),
     (13, Refusal::TooManyQueries, "there are more than 64 queries"),
-    (14, Refusal::NumberTooWide, "a predicate's number is above 65,535, and the narrow edition has no room for it"),
+    (14, Refusal::NumberTooWide, "a predicate's number above 65,535 does not fit in the narrow edition"),
     (15, Refusal::TallyTooLarge, "a total of the tally would pass 32 bits, or its remainder is over 999"),
-    (16, Refusal::CeilingPassed, "a query needs more visits than its desk may use now"),
-    (17, Refusal::OutsideTheRules, "there is no such desk, or the group breaks the rules"),
+    (16, Refusal::CeilingPassed, "a query needs more visits than the desk's ceiling"),
+    (17, Refusal::OutsideTheRules, "the desk number or the group of desks is outside the rules"),
 ];
 
 impl Refusal {

@@ -152,25 +152,29 @@ fn a_file_goes_out_and_comes_back() {
 
 #[test]
 fn visits_are_tallied() {
-    let tally = sigla::Tally::default().add(999, 5).and_then(|tally| tally.add(1_001, 7)).expect("it is small");
+    let mut tally = sigla::Tally::default();
+    tally.add(999, 5).expect("it is small");
+    tally.add(1_001, 7).expect("it is small");
     assert_eq!(tally, sigla::Tally { units: 2, cents: 14, remainder: 0 });
     let full = sigla::Tally { units: u32::MAX, cents: 0, remainder: 999 };
-    assert_eq!(full.add(1, 0), Err(Refusal::TallyTooLarge));
+    let mut same = full;
+    assert_eq!(same.add(1, 0), Err(Refusal::TallyTooLarge));
+    assert_eq!(same, full);
 }
 
 #[test]
 fn desks_share_a_pool() {
-    let mut group = sigla::Group::set_up(1_000, &[(400, 500), (200, 1_000), (100, 100)]).expect("it obeys the rules");
+    let mut group = sigla::Group::set_up(1_000, &[400, 200, 100], &[500, 1_000, 100]).expect("it obeys the rules");
     assert_eq!((0..3).map(|desk| group.ceiling(desk)).collect::<Vec<_>>(), [Ok(500), Ok(500), Ok(100)]);
     assert_eq!(group.ceiling(3), Err(Refusal::OutsideTheRules));
     let (mut work, mut answer) = lent();
     group.check(1, SAMPLE, &mut work, &mut answer).expect("three visits are there");
-    assert_eq!(group.desks()[1].used, 3);
-    let mut poor = sigla::Group::set_up(2, &[(2, 2)]).expect("it obeys the rules");
+    assert_eq!(group.desks[1].used, 3);
+    let mut poor = sigla::Group::set_up(2, &[2], &[2]).expect("it obeys the rules");
     assert_eq!(poor.check(0, SAMPLE, &mut work, &mut answer), Err(Refusal::CeilingPassed));
-    assert_eq!((poor.desks()[0].used, poor.ceiling(0)), (2, Ok(0)));
+    assert_eq!((poor.desks[0].used, poor.ceiling(0)), (2, Ok(0)));
     poor.new_day().expect("it obeys the rules");
     assert_eq!(poor.ceiling(0), Ok(2));
-    assert_eq!(sigla::Group::set_up(1, &[(1, 0)]), Err(Refusal::OutsideTheRules));
-    assert_eq!(sigla::Group::set_up(0, &[(1 << 28, 1 << 28); 16]), Err(Refusal::OutsideTheRules));
+    assert_eq!(sigla::Group::set_up(1, &[1], &[0]), Err(Refusal::OutsideTheRules));
+    assert_eq!(sigla::Group::set_up(0, &[1 << 28; 16], &[1 << 28; 16]), Err(Refusal::OutsideTheRules));
 }

@@ -175,11 +175,17 @@ module _ {f : List ℕ} {at : ℕ} (c : Seeking f at) where
   module _ {line : List ℕ} {n next : ℕ} (d : Holds f at line n next) {r : Bool} (w : Above (take (n - 0) line) r) where
     pub seeking-next : r ≡ false → Seeking f next
     unfolding someAbove flatMap
-    seeking-next q = record { left = λ fs a. let k = c .left fs a in let i = step wide d (k .0) (k .1) in (
-        i .rest, i .later,
-        k .2 ∙ ap someAbove (i .are) ∙ any-later (predicates (i .first)) (flatMap predicates (i .rest)) (sym (w .is (i .first) (cut line n ∙ i .bytes) (i .writable .fits)) ∙ q)) }
+    seeking-next q = record {
+      left = λ fs a. let k = c .left fs a in let i = step wide d (k .0) (k .1) in (
+        i .rest,
+        i .later,
+        k .2 ∙ ap someAbove (i .are) ∙ any-later (predicates (i .first)) (flatMap predicates (i .rest)) (sym (w .is (i .first) (cut line n ∙ i .bytes) (i .writable .fits)) ∙ q),
+      );
+    }
 
     pub seeking-found : r ≡ true → SomeAbove f true
     unfolding someAbove flatMap
-    seeking-found q = record { is = λ fs a. let k = c .left fs a in let i = step wide d (k .0) (k .1) in
-        sym (k .2 ∙ ap someAbove (i .are) ∙ any-first (predicates (i .first)) (flatMap predicates (i .rest)) (sym (w .is (i .first) (cut line n ∙ i .bytes) (i .writable .fits)) ∙ q)) }
+    seeking-found q = record {
+      is = λ fs a. let k = c .left fs a in let i = step wide d (k .0) (k .1) in
+          sym (k .2 ∙ ap someAbove (i .are) ∙ any-first (predicates (i .first)) (flatMap predicates (i .rest)) (sym (w .is (i .first) (cut line n ∙ i .bytes) (i .writable .fits)) ∙ q));
+    }
