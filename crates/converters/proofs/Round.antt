@@ -27,6 +27,7 @@ given {x} {w} {out} {w′} {out′} r ls e l h = go r (h .result ∙ ap (λ o. o
   where
     done : finish x (length w) (length out) ≡ accept ls (length w) (length out)
     done = ap (λ y. finish y (length w) (length out)) e ∙ rw (le-ltb (length out) (length ls) l, finish)
+
     go : (r : Outcome) → resultOf r ≡ Defined.Accepted → ((n : ℕ) → r ≡ Outcome.Accepted n → (n ≤ length out) × (x ≡ answered (take n out′))) → Gives out′ ls r
     go (Outcome.Accepted n) q ends =
         let t = ends n refl in
