@@ -9,7 +9,7 @@ use Rattle.meaning.specs.Run.{run}
 use Rattle.meaning.specs.Sound.{Sound}
 use Rattle.meaning.proofs.Run.{sound-wellFormed, run-demand-3, run-robinson}
 use Rattle.tree.specs.Stands.{Stands}
-use Rattle.steps.specs.declared.Done.{Done}
+use Rattle.state.specs.declared.Done.{Done}
 use Rattle.checker.specs.Contracts.{Ran, to-the-end, out-of-visits, Queries}
 use Rattle.runs.specs.CodeRan.{StandsAt, CodeRan}
 
