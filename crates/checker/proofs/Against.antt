@@ -217,7 +217,7 @@ unfolding fieldsFrom
 fields-length f l i zero = refl
 fields-length f l i (suc n) = ap suc (fields-length f l (i + 1) n)
 
-pub union-arity : {f w ou w′ ou′ : List ℕ} {n e left : ℕ} {l : Items} → l .n ≢ 1 → Rejects f w ou n (Message.NotOneAlternative (l .n)) left w′ ou′ → ChecksUnion f w ou n l e left w′ ou′ (Done.On left)
+pub union-arity : {f w ou w′ ou′ : List ℕ} {n e left : ℕ} {l : Items} {r : Done} → l .n ≢ 1 → Rejects f w ou n (Message.NotOneAlternative (l .n)) left w′ ou′ r → ChecksUnion f w ou n l e left w′ ou′ r
 union-arity {f = f} {n = n} {e = e} {l = l} h R = record {
   is = λ d k fs z at q. record {
     is = λ T c s fine.
@@ -248,7 +248,7 @@ unfolding fieldValues
 one-named x h = h .0
 
 module _ {f w ou : List ℕ} {n e left : ℕ} {l : Items} (one : l .n ≡ 1) {found : Found} (F : FindsName w e (fieldW f l 0 .name) found) where
-  pub union-unknown : {w′ ou′ : List ℕ} → found ≡ Found.Nothing → Rejects f w ou n (Message.NoAlternative (fieldW f l 0 .name)) left w′ ou′ → ChecksUnion f w ou n l e left w′ ou′ (Done.On left)
+  pub union-unknown : {w′ ou′ : List ℕ} {r : Done} → found ≡ Found.Nothing → Rejects f w ou n (Message.NoAlternative (fieldW f l 0 .name)) left w′ ou′ r → ChecksUnion f w ou n l e left w′ ou′ r
   unfolding checkUnion checkAlternative fieldOf
   union-unknown g R = record {
     is = λ d k fs z at q. record {

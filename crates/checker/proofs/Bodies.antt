@@ -47,7 +47,7 @@ use Rattle.steps.specs.Contracts.{nodesOf, onlyW, Cuts, Named, AllNamed, Asks}
 use Rattle.checker.specs.Contracts.{below, Infers, Generates, Sides, Binds, Denies, Compares, NotYets, Destructures, BindsVariable, States, StatesAll, Subqueries}
 use Rattle.checker.proofs.Within.{BadTargets, plainly}
 use Rattle.steps.proofs.Sequel.{begins-part, ends-wider}
-use Rattle.steps.proofs.Results.{on-here, then-typed, stop-typed, then-done, stop-done, only-ends, done-typed}
+use Rattle.steps.proofs.Results.{on-here, then-typed, stop-typed, then-done, stop-done, only-ends, silent-on, done-typed}
 use Rattle.checker.proofs.Looping.{Midway, mid-start, mid-ends, mid-led, mid-after}
 use Rattle.steps.proofs.Reading.{kind-read, form-read, name-small}
 use Rattle.checker.proofs.Inferring.{good}

@@ -63,7 +63,7 @@ module _ {f w ou w₁ ou₁ : List ℕ} {body : Stmts} {left : ℕ} {x : Done} (
     -- The head, after the statements.
     query-head : {w₃ ou₃ : List ℕ} {z : Done}
         → ((T₁ : Rows) (b : Checker) → Begins f w₁ ou₁ T₁ d (both (only one-diagnostic) (infers (nodesOf d) (depth d) (q .head))) l b
-        → Ends f w₁ ou₁ w₃ ou₃ T₁ d (infers (nodesOf d) (depth d) (q .head) .records) (infers (nodesOf d) (depth d) (q .head) .fields) (counted z)
+        → Ends f w₁ ou₁ w₃ ou₃ T₁ d (both (only one-diagnostic) (infers (nodesOf d) (depth d) (q .head)) .records) (both (only one-diagnostic) (infers (nodesOf d) (depth d) (q .head)) .fields) (counted z)
         (andThen (headForm (d .schema) (nodesOf d) (q .head) (form (d .schema) (nodesOf d) (q .head)) b) (λ u. below d (depth d) .infer (q .head))))
         → Ends f w ou w₃ ou₃ T d (visits (nodesOf d) (depth d) (queryNodes q) .records) (visits (nodesOf d) (depth d) (queryNodes q) .fields) (counted z) (query (d .schema) (nodesOf d) q c)
     unfolding query queryNodes
@@ -79,6 +79,7 @@ module _ {f w ou w₁ ou₁ : List ℕ} {body : Stmts} {left : ℕ} {x : Done} (
 
     pub query-on : {w₃ ou₃ : List ℕ} {v : ℕ} {r : Typed} → y ≡ Done.On v → Infers f w₂ ou₂ (q .head) v w₃ ou₃ r
         → Ends f w ou w₃ ou₃ T d (visits (nodesOf d) (depth d) (queryNodes q) .records) (visits (nodesOf d) (depth d) (queryNodes q) .fields) (counted (onlyW r)) (query (d .schema) (nodesOf d) q c)
+    unfolding queryNodes
     query-on h I = query-head (λ T₁ b s₁.
         then-done (only one-diagnostic) (infers (nodesOf d) (depth d) (q .head)) (both (only one-diagnostic) (infers (nodesOf d) (depth d) (q .head))) head-fits Nothing
         (headForm (d .schema) (nodesOf d) (q .head) (form (d .schema) (nodesOf d) (q .head)) b) (λ u. below d (depth d) .infer (q .head)) h s₁
@@ -87,6 +88,7 @@ module _ {f w ou w₁ ou₁ : List ℕ} {body : Stmts} {left : ℕ} {x : Done} (
 
     pub query-head-out : y ≡ Done.Out
         → Ends f w ou w₂ ou₂ T d (visits (nodesOf d) (depth d) (queryNodes q) .records) (visits (nodesOf d) (depth d) (queryNodes q) .fields) (counted Done.Out) (query (d .schema) (nodesOf d) q c)
+    unfolding queryNodes
     query-head-out h = query-head (λ T₁ b s₁.
         stop-done (only one-diagnostic) (infers (nodesOf d) (depth d) (q .head)) (both (only one-diagnostic) (infers (nodesOf d) (depth d) (q .head))) head-fits Nothing
         (headForm (d .schema) (nodesOf d) (q .head) (form (d .schema) (nodesOf d) (q .head)) b) (λ u. below d (depth d) .infer (q .head)) h refl s₁ (λ s₂. H d (named .0 .there) .is T₁ b s₂ tt))
@@ -101,7 +103,7 @@ module _ (u : Until) (ceiling : ℕ) where
 
   until-ready : (g : Grade) (n : ℕ) → Ready g (begin ceiling n) → Ready g (beginUntil u ceiling n)
   unfolding begin beginUntil
-  until-ready g n y = record { once = y .once; bare = y .bare }
+  until-ready g n y = record { once = y .once; there = y .there; bare = y .bare }
 
 pub query-begins : {f w w₁ ou₁ : List ℕ} (u : Code.Until) (T : Rows) (d : Described) (ceiling : ℕ) → Starts f w u w₁ → Sound d → Stands f w T d
     → Begins f w₁ ou₁ T d (visits (nodesOf d) (depth d) (queryNodes (d .ast .query))) ceiling (beginUntil (untilOf u) ceiling (depth d))

@@ -17,8 +17,8 @@ use Rattle.meaning.specs.Messages.{messageText}
 use Rattle.meaning.specs.Answer.{bytes₂, hexLine, answerLines}
 use Rattle.meaning.specs.Outcome.{minWords, maxVisits}
 use Rattle.tree.specs.Stands.{SchemaStands}
-use Rattle.state.specs.declared.Done.{Done}
-use Rattle.state.specs.declared.Done.the-variants as Done
+use Rattle.steps.specs.declared.Done.{Done}
+use Rattle.steps.specs.declared.Done.the-variants as Done
 use Rattle.checker.specs.Contracts.{Ran, to-the-end, out-of-visits, Queries}
 use Rattle.loading.specs.Contracts.{Ahead, Loads}
 use Rattle.loading.proofs.Lines.{query-ahead}
