@@ -1,6 +1,6 @@
 -- The run left the lines of the diagnostics at the slice's start. The lines of the nodes are written behind them, and the two blocks
 -- change places: what then stands at the start is the answer.
-use mathlib.Core.List.{List, [], _++_, map, append-assoc}
+use mathlib.Core.List.{List, [], _∷_, _++_, map, append-assoc}
 use mathlib.Core.Path.{_≡_, refl, sym, ap, _∙_}
 use Prim.Native.Nat.{ℕ, _+_, _-_, _≤_, _<_}
 use native.Mathlib.Omega.{arith}
@@ -13,14 +13,14 @@ use Rattle.bytes.specs.Bytes.{slice}
 use Rattle.meaning.specs.File.{Described}
 use Rattle.meaning.specs.Check.{Checker, Typed, goes, typed, checked, reversed, zonked}
 use Rattle.meaning.specs.Messages.{messageText}
-use Rattle.meaning.specs.Answer.{nodeLines, diagnosticLines, answerLines}
+use Rattle.meaning.specs.Answer.{bytes₄, hexLine, nodeLines, diagnosticLines, answerLines}
 use Rattle.state.specs.Runs.{Runs}
 use Rattle.state.specs.Lines.{placeW, Lines, within, beyond}
 use Rattle.writer.specs.declared.Wrote.{Wrote}
 use Rattle.writer.specs.declared.Wrote.the-variants.{To, Full}
 use Rattle.writer.specs.Writes.{placed, Writes}
-use Rattle.writer.proofs.Writing.{writes-as, writes-to, writes-over}
-use Rattle.answer.specs.Lines.{WritesNodeLines, WritesAnswer}
+use Rattle.writer.proofs.Writing.{writes-as, writes-then, writes-full, writes-to, writes-over}
+use Rattle.answer.specs.Lines.{WritesNodeLines, WritesLines, WritesAnswer}
 
 -- ---- Two blocks, a before b, and b before a
 module _ {out a b mid : List ℕ} {end : ℕ} (there : take (length a) out ≡ a) (room : length a ≤ length out) (f : Writes out (length a) b mid (To end)) where
@@ -62,6 +62,9 @@ typed-is : (ceiling : ℕ) (ty : Tree.Ty) (c : Checker) (t : Typed) → checked 
 unfolding checked
 typed-is ceiling ty c t q = let p : typed (answered ceiling c) ≡ typed t = q in cc
 
+abbrev linesOf : Described → Typed → List ℕ
+linesOf d t = nodeLines 0 (t .tys) ++ diagnosticLines (messageText (d .names) (d .schema)) (t .diagnostics)
+
 abbrev nodes : Checker → List ℕ
 nodes c = nodeLines 0 (map (zonked (c .state)) (c .state .tys))
 
@@ -70,12 +73,11 @@ reports d c = diagnosticLines (messageText (d .names) (d .schema)) (reversed (c 
 
 answers : {w out out′ : List ℕ} {r : Wrote} → length out′ ≡ length out
     → ((f : List ℕ) (T : Rows) (d : Described) (c : Checker) → Runs f w T d c → Lines w out (reports d c)
-    → Writes out 0 (nodes c ++ reports d c) out′ r) → WritesAnswer w out out′ r
-unfolding answerLines
-answers long go = record { is = λ f T d c R L ceiling ty t q. writes-as (ap (answerLines (messageText (d .names) (d .schema))) (typed-is ceiling ty c t q)) (go f T d c R L); long = long }
+    → Writes out 0 (nodes c ++ reports d c) out′ r) → WritesLines w out out′ r
+answers long go = record { is = λ f T d c R L ceiling ty t q. writes-as (ap (linesOf d) (typed-is ceiling ty c t q)) (go f T d c R L); long = long }
 
 module _ {w out : List ℕ} {full : ℕ} (p : full ≡ getD w FULL 0) where
-  pub answer-over : ¬ (full ≡ 0) → WritesAnswer w out out Full
+  pub answer-over : ¬ (full ≡ 0) → WritesLines w out out Full
   answer-over some = answers refl (λ f T d c R L. go d c L)
     where
       go : (d : Described) (c : Checker) → Lines w out (reports d c) → Writes out 0 (nodes c ++ reports d c) out Full
@@ -83,7 +85,7 @@ module _ {w out : List ℕ} {full : ℕ} (p : full ≡ getD w FULL 0) where
       go d c (beyond q l) = full-writes (reports d c) (nodes c) (omega arith) refl
 
   module _ (free : full ≡ 0) {at : ℕ} (place : at ≡ placeW w) where
-    pub answer-past : length out < at → WritesAnswer w out out Full
+    pub answer-past : length out < at → WritesLines w out out Full
     answer-past h = answers refl (λ f T d c R L. go d c L)
       where
         go : (d : Described) (c : Checker) → Lines w out (reports d c) → Writes out 0 (nodes c ++ reports d c) out Full
@@ -96,7 +98,7 @@ module _ {w out : List ℕ} {full : ℕ} (p : full ≡ getD w FULL 0) where
         written : Writes out (length (reports d c)) (nodes c) mid r
         written = rw (place ∙ e) at (g .is T (c .state) (R .holds) (R .stands .nodes ∙ sym (R .nodes)) (omega (arith, place, e)))
 
-      pub answer-full : r ≡ Full → WritesAnswer w out mid Full
+      pub answer-full : r ≡ Full → WritesLines w out mid Full
       answer-full z = answers (g .moves .long) (λ f T d c R L. go c R L)
         where
           go : {f : List ℕ} {T : Rows} {d : Described} (c : Checker) → Runs f w T d c → Lines w out (reports d c) → Writes out 0 (nodes c ++ reports d c) mid Full
@@ -105,7 +107,7 @@ module _ {w out : List ℕ} {full : ℕ} (p : full ≡ getD w FULL 0) where
 
       module _ {end : ℕ} (z : r ≡ To end) where
         pub answer-exchanged : {out′ : List ℕ} → length out′ ≡ length out → out′ ≡ slice at end mid ++ (take at mid ++ drop end mid)
-            → WritesAnswer w out out′ (To end)
+            → WritesLines w out out′ (To end)
         answer-exchanged {out′} long s = answers long (λ f T d c R L. go c R L)
           where
             go : {f : List ℕ} {T : Rows} {d : Described} (c : Checker) → Runs f w T d c → Lines w out (reports d c)
@@ -114,7 +116,7 @@ module _ {w out : List ℕ} {full : ℕ} (p : full ≡ getD w FULL 0) where
             go c R (beyond q l) = absurd (omega (arith, p, free, q))
 
         -- no diagnostic: the lines of the nodes stand at the start
-        pub answer-alone : at ≤ 0 → WritesAnswer w out mid (To end)
+        pub answer-alone : at ≤ 0 → WritesLines w out mid (To end)
         unfolding slice
         answer-alone none =
             let o : at ≡ 0 = omega arith in
@@ -123,3 +125,16 @@ module _ {w out : List ℕ} {full : ℕ} (p : full ≡ getD w FULL 0) where
       -- the blocks are in the slice
       pub answer-blocks : at ≤ length out → {end : ℕ} → r ≡ To end → (at ≤ end) × (end ≤ length mid)
       answer-blocks b {end} z = (g .moves .onward end z, omega (arith, g .moves .inside end z b, g .moves .long))
+
+-- ---- The line of the visits after them
+module _ {w out mid : List ℕ} {r : Wrote} (g : WritesLines w out mid r) (visits : ℕ) where
+  pub answer-visits : {n : ℕ} {out′ : List ℕ} {r′ : Wrote} → r ≡ To n → Writes mid n (hexLine (9 ∷ bytes₄ visits)) out′ r′ → WritesAnswer w out visits out′ r′
+  unfolding answerLines
+  answer-visits e h = record {
+    is = λ f T d c R L ceiling ty t q v. writes-as (ap (λ n. linesOf d t ++ hexLine (9 ∷ bytes₄ n)) v) (writes-then (g .is f T d c R L ceiling ty t q) e h);
+    long = h .long ∙ g .long;
+  }
+
+  pub answer-none : r ≡ Full → WritesAnswer w out visits mid Full
+  unfolding answerLines
+  answer-none e = record { is = λ f T d c R L ceiling ty t q v. writes-full (g .is f T d c R L ceiling ty t q) e (hexLine (9 ∷ bytes₄ (t .visits))); long = g .long }

@@ -12,7 +12,7 @@ use Rattle.cells.specs.Stands.{Rows, Holds}
 use Rattle.meaning.specs.File.{Described}
 use Rattle.meaning.specs.Check.{Checker, Typed, goes, typed, checked, zonked}
 use Rattle.meaning.specs.Messages.{messageText}
-use Rattle.meaning.specs.Answer.{bytes₂, slotBytes, hexLine, nodeLines, answerLines}
+use Rattle.meaning.specs.Answer.{bytes₂, slotBytes, hexLine, nodeLines, diagnosticLines, answerLines}
 use Rattle.writer.specs.declared.Wrote.{Wrote}
 use Rattle.writer.specs.Writes.{Writes, Moves, hexOf}
 use Rattle.state.specs.Runs.{Runs}
@@ -42,9 +42,17 @@ pub record WritesNodeLines (w out : List ℕ) (at : ℕ) (out′ : List ℕ) (r 
       → Writes out at (nodeLines 0 (map (zonked st) (st .tys))) out′ r
   pub moves : Moves out at out′ r
 
--- After a run that ended, with the lines of its diagnostics in the slice: the slice is full exactly where the answer is longer than
--- it (`whole-over` in writer/proofs/Writing.antt), and else begins with the answer, which ends where it is said (`whole-there`).
-pub record WritesAnswer (w out out′ : List ℕ) (r : Wrote) : Type 0 where
+-- After a run that ended, with the lines of its diagnostics in the slice: the slice is full exactly where what is to be written is longer
+-- than it (`whole-over` in writer/proofs/Writing.antt), and else begins with it, and it ends where it is said (`whole-there`). The lines of
+-- the nodes and of the diagnostics:
+pub record WritesLines (w out out′ : List ℕ) (r : Wrote) : Type 0 where
   pub is : (f : List ℕ) (T : Rows) (d : Described) (c : Checker) → Runs f w T d c → Told d w out c
-      → (ceiling : ℕ) (ty : Tree.Ty) (t : Typed) → checked ceiling (goes ty c) ≡ typed t → Writes out 0 (answerLines (messageText (d .names) (d .schema)) t) out′ r
+      → (ceiling : ℕ) (ty : Tree.Ty) (t : Typed) → checked ceiling (goes ty c) ≡ typed t → Writes out 0 (nodeLines 0 (t .tys) ++ diagnosticLines (messageText (d .names) (d .schema)) (t .diagnostics)) out′ r
+  pub long : length out′ ≡ length out
+
+-- The whole answer, where the visits are those of the run.
+pub record WritesAnswer (w out : List ℕ) (visits : ℕ) (out′ : List ℕ) (r : Wrote) : Type 0 where
+  pub is : (f : List ℕ) (T : Rows) (d : Described) (c : Checker) → Runs f w T d c → Told d w out c
+      → (ceiling : ℕ) (ty : Tree.Ty) (t : Typed) → checked ceiling (goes ty c) ≡ typed t
+      → visits ≡ t .visits → Writes out 0 (answerLines (messageText (d .names) (d .schema)) t) out′ r
   pub long : length out′ ≡ length out

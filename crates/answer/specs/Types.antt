@@ -13,7 +13,7 @@ use Rattle.cells.specs.declared.Kind.{Kind}
 use Rattle.cells.specs.declared.Kind.the-variants.{Fields, Alternatives}
 use Rattle.cells.specs.declared.Part.{Part}
 use Rattle.cells.specs.Stands.{Rows, tree, IsCell, Ok, Cells, Binds}
-use Rattle.meaning.specs.Answer.{bytes₂, tyBytes, rowBytes, cellHead}
+use Rattle.meaning.specs.Answer.{bytes₂, bytes₄, tyBytes, rowBytes, cellHead}
 use Rattle.writer.specs.declared.Wrote.{Wrote}
 use Rattle.writer.specs.Writes.{Writes, Moves, hexOf}
 
@@ -26,7 +26,7 @@ abbrev pub headOf : List ℕ → Ty → List ℕ
 headOf w Int = 0 ∷ []
 headOf w Str = 1 ∷ []
 headOf w Bytes = 2 ∷ []
-headOf w (Fact p) = 3 ∷ bytes₂ p
+headOf w (Fact p) = 3 ∷ bytes₄ p
 headOf w (Record c) = 4 ∷ bytes₂ (countW w c)
 headOf w (Union c) = 5 ∷ bytes₂ (countW w c)
 headOf w (Var x) = 6 ∷ bytes₂ x

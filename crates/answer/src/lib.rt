@@ -4,10 +4,10 @@ ghost use mathlib.Core.Path.{_≡_};
 ghost use Prim.Native.Nat.{_≤_};
 ghost use lib.ListN.{length, take, drop};
 ghost use Rattle.bytes.specs.Bytes.{slice};
-ghost use Rattle.meaning.specs.Answer.{hexLine, bytes₂};
+ghost use Rattle.meaning.specs.Answer.{hexLine, bytes₂, bytes₄};
 ghost use Rattle.writer.specs.Writes.{Writes, hexOf};
 ghost use Rattle.answer.specs.Types.{headOf, partHeadOf, WritesTy};
-ghost use Rattle.answer.specs.Lines.{WritesSlot, WritesNode, WritesNodeLine, WritesNodeLines, WritesAnswer};
+ghost use Rattle.answer.specs.Lines.{WritesSlot, WritesNode, WritesNodeLine, WritesNodeLines, WritesLines, WritesAnswer};
 use cells::Ty;
 use work::wide;
 use work::word;
@@ -18,6 +18,17 @@ use writer::full;
 use writer::half;
 use writer::tagged;
 
+// A fact: its shape and its predicate's number, four bytes (card 6).
+fn fact(out: &mut [u8], at: usize, p: u32) -> Wrote
+    ensures { λ r. ⌜ Writes (now (out .entry)) at (hexOf (3 ∷ bytes₄ p)) (now (out .exit)) r ⌝ }
+{
+    let r = byte(out, at, 3);
+    match r {
+        Wrote::To(n) => full(out, n, p),
+        Wrote::Full => Wrote::Full,
+    }
+}
+
 // What stands before the parts of a resolved type: its shape, with a number or with how many parts there are.
 fn head(w: &[u32], out: &mut [u8], at: usize, u: Ty) -> Wrote
     ensures { λ r. ⌜ Writes (now (out .entry)) at (hexOf (headOf (now (w .entry)) u)) (now (out .exit)) r ⌝ }
@@ -26,7 +37,7 @@ fn head(w: &[u32], out: &mut [u8], at: usize, u: Ty) -> Wrote
         Ty::Int => byte(out, at, 0),
         Ty::Str => byte(out, at, 1),
         Ty::Bytes => byte(out, at, 2),
-        Ty::Fact(p) => tagged(out, at, 3, p),
+        Ty::Fact(p) => fact(out, at, p),
         Ty::Record(c) => tagged(out, at, 4, cells::count(w, c)),
         Ty::Union(c) => tagged(out, at, 5, cells::count(w, c)),
         Ty::Var(x) => tagged(out, at, 6, x),
@@ -164,9 +175,9 @@ fn exchange(out: &mut [u8], mid: usize, end: usize)
 }
 
 // The lines of the nodes go behind those of the diagnostics, which the run left in the slice; then the two blocks change places.
-// Where the answer ends.
-pub fn write(w: &[u32], out: &mut [u8]) -> Wrote
-    ensures { λ r. ⌜ WritesAnswer (now (w .entry)) (now (out .entry)) (now (out .exit)) r ⌝ }
+// Where they end.
+fn lines(w: &[u32], out: &mut [u8]) -> Wrote
+    ensures { λ r. ⌜ WritesLines (now (w .entry)) (now (out .entry)) (now (out .exit)) r ⌝ }
 {
     if word(w, work::FULL) != 0 {
         return Wrote::Full;
@@ -183,6 +194,38 @@ pub fn write(w: &[u32], out: &mut [u8]) -> Wrote
             }
             Wrote::To(end)
         }
+        Wrote::Full => Wrote::Full,
+    }
+}
+
+fn visits_bytes(out: &mut [u8], at: usize, visits: u32) -> Wrote
+    ensures { λ r. ⌜ Writes (now (out .entry)) at (hexOf (0x09 ∷ bytes₄ visits)) (now (out .exit)) r ⌝ }
+{
+    let r = byte(out, at, 9);
+    match r {
+        Wrote::To(n) => full(out, n, visits),
+        Wrote::Full => Wrote::Full,
+    }
+}
+
+// The last line of a query's own lines.
+fn visits_line(out: &mut [u8], at: usize, visits: u32) -> Wrote
+    ensures { λ r. ⌜ Writes (now (out .entry)) at (hexLine (0x09 ∷ bytes₄ visits)) (now (out .exit)) r ⌝ }
+{
+    let r = visits_bytes(out, at, visits);
+    match r {
+        Wrote::To(m) => close(out, m),
+        Wrote::Full => Wrote::Full,
+    }
+}
+
+// A query's own lines. Where the answer ends.
+pub fn write(w: &[u32], out: &mut [u8], visits: u32) -> Wrote
+    ensures { λ r. ⌜ WritesAnswer (now (w .entry)) (now (out .entry)) visits (now (out .exit)) r ⌝ }
+{
+    let r = lines(w, out);
+    match r {
+        Wrote::To(n) => visits_line(out, n, visits),
         Wrote::Full => Wrote::Full,
     }
 }

@@ -1,6 +1,8 @@
 mod Continuing
 mod Turning
 mod Telling
-mod Deciding
+pub mod Opening
+pub mod Deciding
 mod Lining
 pub mod Demands
+pub mod Days

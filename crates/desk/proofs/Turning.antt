@@ -15,7 +15,7 @@ use Rattle.meaning.specs.Check.{Step, Checked, typed, exhausted, checked, check
 use Rattle.meaning.specs.Run.{run}
 use Rattle.meaning.specs.Messages.{messageText}
 use Rattle.meaning.specs.Answer.{bytes₂, hexLine, answerLines}
-use Rattle.meaning.specs.Outcome.{minWords, maxVisits}
+use Rattle.meaning.specs.Outcome.{minWords}
 use Rattle.tree.specs.Stands.{SchemaStands}
 use Rattle.steps.specs.declared.Done.{Done}
 use Rattle.steps.specs.declared.Done.the-variants as Done
@@ -102,63 +102,76 @@ module _ {out out₁ : List ℕ} {page head : Wrote} {line : List ℕ} (f : Foll
 
 -- ---- The run and its lines
 
-checks-run : (d : Described) → check maxVisits (d .schema) (d .ast) ≡ checked maxVisits (run (d .schema) (d .ast) maxVisits)
+checks-run : (ceiling : ℕ) (d : Described) → check ceiling (d .schema) (d .ast) ≡ checked ceiling (run (d .schema) (d .ast) ceiling)
 unfolding check run
-checks-run d = refl
+checks-run ceiling d = refl
 
-module _ {f w out w₁ out₁ : List ℕ} {q : Done} (ran : Queries f w out maxVisits w₁ out₁ q) where
-  pub run-out : q ≡ Done.Out → Answers f w out w₁ out₁ Ended.Out
+module _ {f w : List ℕ} {ceiling : ℕ} {out w₁ out₁ : List ℕ} {q : Done} (ran : Queries f w out ceiling w₁ out₁ q) where
+  pub run-out : q ≡ Done.Out → Answers f w ceiling out w₁ out₁ Ended.Out
   unfolding Answered checked
-  run-out e = record { is = λ T d s S. subst (Answered f out w₁ out₁ Ended.Out d) (sym (checks-run d)) (go d (ran .is T d s S)); words = ran .words; bytes = ran .slice }
+  run-out e = record {
+    is = λ T d s S. subst (Answered f out w₁ out₁ Ended.Out d) (sym (checks-run ceiling d)) (go d (ran .is T d s S));
+    few = λ a v p. let z : _≡_ {A = ℕ} 0 1 = cc in absurd (omega arith);
+    words = ran .words;
+    bytes = ran .slice;
+  }
     where
-      go : (d : Described) {x : Step Tree.Ty} → Ran f w₁ out₁ d q x → Answered f out w₁ out₁ Ended.Out d (checked maxVisits x)
+      go : (d : Described) {x : Step Tree.Ty} → Ran f w₁ out₁ d q x → Answered f out w₁ out₁ Ended.Out d (checked ceiling x)
       go d (to-the-end T R t p) = let z : _≡_ {A = ℕ} 0 1 = cc in absurd (omega arith)
       go d (out-of-visits T R t p) = refl
 
-  pub run-on : (left : ℕ) → q ≡ Done.On left → {out₂ : List ℕ} {a : Wrote} → WritesAnswer w₁ out₁ out₂ a → Answers f w out w₁ out₂ (Ended.Lines a)
+  pub run-on : (left : ℕ) → q ≡ Done.On left → (visits : ℕ) → visits ≡ ceiling - left → {out₂ : List ℕ} {a : Wrote} → WritesAnswer w₁ out₁ visits out₂ a
+      → Answers f w ceiling out w₁ out₂ (Ended.Lines a visits)
   unfolding Answered checked
-  run-on left e {out₂} {a} wrote = record {
-    is = λ T d s S. subst (Answered f out w₁ out₂ (Ended.Lines a) d) (sym (checks-run d)) (go d (ran .is T d s S));
+  run-on left e visits v {out₂} {a} wrote = record {
+    is = λ T d s S. subst (Answered f out w₁ out₂ (Ended.Lines a visits) d) (sym (checks-run ceiling d)) (go d (ran .is T d s S));
+    few = λ b n p. let same : n ≡ visits = cc in omega arith;
     words = ran .words;
     bytes = wrote .long ∙ ran .slice;
   }
     where
-      go : (d : Described) {x : Step Tree.Ty} → Ran f w₁ out₁ d q x → Answered f out w₁ out₂ (Ended.Lines a) d (checked maxVisits x)
-      go d (to-the-end {ty = ty} {c = c} T R t p) = (a, refl, (T, R .stands .schema), continues-start (ran .slice) (continues (wrote .is f T d c R t maxVisits ty _ refl)))
+      go : (d : Described) {x : Step Tree.Ty} → Ran f w₁ out₁ d q x → Answered f out w₁ out₂ (Ended.Lines a visits) d (checked ceiling x)
+      go d (to-the-end {ty = ty} {c = c} T R t p) =
+          let same : left ≡ c .state .left = cc in
+          let made : visits ≡ ceiling - c .state .left = v ∙ ap (λ n. ceiling - n) same in
+          (a, ap (Ended.Lines a) made, (T, R .stands .schema), continues-start (ran .slice) (continues (wrote .is f T d c R t ceiling ty _ refl made)))
       go d (out-of-visits T R t p) = let z : _≡_ {A = ℕ} 0 1 = cc in absurd (omega arith)
 
 -- ---- The turn
 
-module _ {f : List ℕ} {at : ℕ} {w w₁ : List ℕ} {next : ℕ} (loads : Loads f at w w₁ next) {lent w₂ part : List ℕ} {q : Ended} (answers : Answers f w₁ lent w₂ part q) where
+module _ {f : List ℕ} {at : ℕ} {w w₁ : List ℕ} {next : ℕ} (loads : Loads f at w w₁ next) {ceiling : ℕ} {lent w₂ part : List ℕ} {q : Ended} (answers : Answers f w₁ ceiling lent w₂ part q) where
   module _ (T : Rows) (d : Described) (qs : List Ast) (sound : Sound d) (long : minWords ≤ length w) (S : SchemaStands f w T (d .names) (d .schema)) (A : Ahead f at (d .ast ∷ qs)) where
-    has-answered : Answered f lent w₂ part q d (check maxVisits (d .schema) (d .ast))
+    has-answered : Answered f lent w₂ part q d (check ceiling (d .schema) (d .ast))
     has-answered = answers .is T d sound (loads .stands T d qs sound long S A)
 
-  pub turn-out : (k : ℕ) (out out₁ : List ℕ) (page : Wrote) → q ≡ Ended.Out → Turns f at k w out page w₂ out₁ Turn.Out
+  pub turn-out : (k : ℕ) (out out₁ : List ℕ) (page : Wrote) → q ≡ Ended.Out → Turns f at k ceiling w out page w₂ out₁ Turn.Out
   unfolding Turned Answered
   turn-out k out out₁ page e = record {
-    onward = λ l n v c. let z : _≡_ {A = ℕ} 0 1 = cc in absurd (omega arith);
-    is = λ T d qs s l S A. go d qs (check maxVisits (d .schema) (d .ast)) (has-answered T d qs s l S A);
+    onward = λ l n v m c. let z : _≡_ {A = ℕ} 0 1 = cc in absurd (omega arith);
+    few = λ n v m c. let z : _≡_ {A = ℕ} 0 1 = cc in absurd (omega arith);
+    is = λ T d qs s l S A. go d qs (check ceiling (d .schema) (d .ast)) (has-answered T d qs s l S A);
   }
     where
       go : (d : Described) (qs : List Ast) (x : Checked) → Answered f lent w₂ part q d x → Turned f k out page w₂ out₁ Turn.Out d qs x
       go d qs exhausted h = refl
       go d qs (typed t) h = let p = h .1 in let z : _≡_ {A = ℕ} 0 1 = cc in absurd (omega arith)
 
-  module _ (a : Wrote) (e : q ≡ Ended.Lines a) {k : ℕ} {b : Bool} (s : OneOfSeveral k next (length f) b) where
+  module _ (a : Wrote) (visits : ℕ) (e : q ≡ Ended.Lines a visits) {k : ℕ} {b : Bool} (s : OneOfSeveral k next (length f) b) where
     pub turn-on : (out out′ : List ℕ) (page written : Wrote) → ((text : List ℕ) → Continues lent 0 text part a → Follows out page (headLine b k ++ text) out′ written)
-        → Turns f at k w out page w₂ out′ (Turn.On next written)
+        → Turns f at k ceiling w out page w₂ out′ (Turn.On next written visits)
     unfolding Turned Answered
     turn-on out out′ page written follows = record {
-      onward = λ l n v c. let same : n ≡ next = cc in (omega (arith, loads .onward l), omega (arith, loads .within));
-      is = λ T d qs sd l S A. go d qs (loads .ahead d qs sd l A) (check maxVisits (d .schema) (d .ast)) (has-answered T d qs sd l S A);
+      onward = λ l n v m c. let same : n ≡ next = cc in (omega (arith, loads .onward l), omega (arith, loads .within));
+      few = λ n v m c. let same : m ≡ visits = cc in omega (arith, answers .few a visits e);
+      is = λ T d qs sd l S A. go d qs (loads .ahead d qs sd l A) (check ceiling (d .schema) (d .ast)) (has-answered T d qs sd l S A);
     }
       where
-        go : (d : Described) (qs : List Ast) → Ahead f next qs → (x : Checked) → Answered f lent w₂ part q d x → Turned f k out page w₂ out′ (Turn.On next written) d qs x
+        go : (d : Described) (qs : List Ast) → Ahead f next qs → (x : Checked) → Answered f lent w₂ part q d x → Turned f k out page w₂ out′ (Turn.On next written visits) d qs x
         go d qs A exhausted h = let z : _≡_ {A = ℕ} 0 1 = cc in absurd (omega arith)
         go d qs A (typed t) h =
             let p = h .1 in
             let same : h .0 ≡ a = cc in
             let lines = answerLines (messageText (d .names) (d .schema)) t in
+            let made : visits ≡ t .visits = cc in
             let g : Continues lent 0 lines part a = subst (Continues lent 0 lines part) same (h .3) in
-            (next, written, refl, A, h .2, subst (λ m. Follows out page (headLine m k ++ lines) out′ written) (several-is s A) (follows lines g))
+            (next, written, ap (Turn.On next written) made, A, h .2, subst (λ m. Follows out page (headLine m k ++ lines) out′ written) (several-is s A) (follows lines g))

@@ -1,3 +1,5 @@
+pub mod At
 pub mod Turns
 pub mod Contracts
 pub mod Demands
+pub mod Days

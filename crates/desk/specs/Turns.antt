@@ -12,7 +12,7 @@ use Rattle.meaning.specs.Sound.{Sound}
 use Rattle.meaning.specs.Check.{Checked, typed, exhausted, check}
 use Rattle.meaning.specs.Messages.{messageText}
 use Rattle.meaning.specs.Answer.{bytes₂, hexLine, answerLines}
-use Rattle.meaning.specs.Outcome.{minWords, maxVisits}
+use Rattle.meaning.specs.Outcome.{minWords}
 use Rattle.tree.specs.Stands.{SchemaStands, Stands}
 use Rattle.loading.specs.Contracts.{Ahead}
 use Rattle.writer.specs.declared.Wrote.{Wrote}
@@ -66,12 +66,11 @@ Follows out page text out′ r = (length out′ ≡ length out) × ((n : ℕ) �
 -- The visits ran out; or the answer's lines stand at the start of the slice, and the schema stands as before.
 unfoldable pub Answered : List ℕ → List ℕ → List ℕ → List ℕ → Ended → Described → Checked → Type 0
 Answered f out w′ out′ r d exhausted = r ≡ Ended.Out
-Answered f out w′ out′ r d (typed t) =
-    (a : Wrote) × (r ≡ Ended.Lines a) × ((T : Rows) × SchemaStands f w′ T (d .names) (d .schema))
-    × Continues out 0 (answerLines (messageText (d .names) (d .schema)) t) out′ a
+Answered f out w′ out′ r d (typed t) = (a : Wrote) × (r ≡ Ended.Lines a (t .visits)) × ((T : Rows) × SchemaStands f w′ T (d .names) (d .schema)) × Continues out 0 (answerLines (messageText (d .names) (d .schema)) t) out′ a
 
-pub record Answers (f w out w′ out′ : List ℕ) (r : Ended) : Type 0 where
-  pub is : (T : Rows) (d : Described) → Sound d → Stands f w T d → Answered f out w′ out′ r d (check maxVisits (d .schema) (d .ast))
+pub record Answers (f w : List ℕ) (ceiling : ℕ) (out w′ out′ : List ℕ) (r : Ended) : Type 0 where
+  pub is : (T : Rows) (d : Described) → Sound d → Stands f w T d → Answered f out w′ out′ r d (check ceiling (d .schema) (d .ast))
+  pub few : (a : Wrote) (visits : ℕ) → r ≡ Ended.Lines a visits → visits ≤ ceiling
   pub words : length w′ ≡ length w
   pub bytes : length out′ ≡ length out
 
@@ -81,11 +80,12 @@ pub record Answers (f w out w′ out′ : List ℕ) (r : Ended) : Type 0 where
 unfoldable pub Turned : List ℕ → ℕ → List ℕ → Wrote → List ℕ → List ℕ → Turn → Described → List Ast → Checked → Type 0
 Turned f k out page w′ out′ r d qs exhausted = r ≡ Turn.Out
 Turned f k out page w′ out′ r d qs (typed t) =
-    (next : ℕ) × (written : Wrote) × (r ≡ Turn.On next written) × Ahead f next qs × ((T : Rows) × SchemaStands f w′ T (d .names) (d .schema))
+    (next : ℕ) × (written : Wrote) × (r ≡ Turn.On next written (t .visits)) × Ahead f next qs × ((T : Rows) × SchemaStands f w′ T (d .names) (d .schema))
     × Follows out page (headLine (several k qs) k ++ answerLines (messageText (d .names) (d .schema)) t) out′ written
 
 -- For every input the place goes forward within the file; and where the query lies ahead, its run is the definition's.
-pub record Turns (f : List ℕ) (at k : ℕ) (w out : List ℕ) (page : Wrote) (w′ out′ : List ℕ) (r : Turn) : Type 0 where
-  pub onward : at < length f → (next : ℕ) (written : Wrote) → r ≡ Turn.On next written → (at < next) × (next ≤ length f)
+pub record Turns (f : List ℕ) (at k ceiling : ℕ) (w out : List ℕ) (page : Wrote) (w′ out′ : List ℕ) (r : Turn) : Type 0 where
+  pub onward : at < length f → (next : ℕ) (written : Wrote) (visits : ℕ) → r ≡ Turn.On next written visits → (at < next) × (next ≤ length f)
+  pub few : (next : ℕ) (written : Wrote) (visits : ℕ) → r ≡ Turn.On next written visits → visits ≤ ceiling
   pub is : (T : Rows) (d : Described) (qs : List Ast) → Sound d → minWords ≤ length w → SchemaStands f w T (d .names) (d .schema) → Ahead f at (d .ast ∷ qs)
-      → Turned f k out page w′ out′ r d qs (check maxVisits (d .schema) (d .ast))
+      → Turned f k out page w′ out′ r d qs (check ceiling (d .schema) (d .ast))

@@ -11,8 +11,8 @@ use lib.ListN.{length, drop, length-drop, drop-of-length-le}
 use borrow.Author.Tests.{eq-eqb, ne-eqb, ltb-true, ltb-false}
 use Rattle.hex.proofs.Line.{from-here}
 use Rattle.meaning.specs.Syntax.{Field}
-use Rattle.meaning.specs.Frame.{Alternative, Got, got, fails, Reader, andThen, nothing, one, pair, triple, byte, two, four, manyIn, many, field, alternative, whole}
-use Rattle.frames.specs.Contracts.{byteW, halfW, fullW, wholly}
+use Rattle.meaning.specs.Frame.{Edition, narrow, wide, Alternative, Got, got, fails, Reader, andThen, nothing, one, pair, triple, byte, two, four, manyIn, many, field, alternative, reference, whole}
+use Rattle.frames.specs.Contracts.{byteW, halfW, fullW, referenceSize, referenceW, wholly}
 use Rattle.frames.specs.Items.{fieldAt, alternativeAt, itemsAt}
 
 -- ---- Readers of one size
@@ -75,6 +75,11 @@ sized-two = sized-pair (λ high low. high * 0x100 + low) sized-byte sized-byte
 pub sized-four : Sized four 4 fullW
 unfolding four fullW
 sized-four = sized-pair (λ high low. high * 0x10000 + low) sized-two sized-two
+
+pub sized-reference : (e : Edition) → Sized (reference e) (referenceSize e) (referenceW e)
+unfolding reference
+sized-reference narrow = sized-two
+sized-reference wide = sized-four
 
 pub sized-field : Sized field 4 fieldAt
 unfolding field

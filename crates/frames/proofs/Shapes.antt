@@ -11,10 +11,10 @@ use lib.ListN.{length, getD, getElem?, drop, drop-of-length-le, List·getD-eq-de
 use borrow.Author.Tests.{ne-eqb, eqb-true, eqb-false, ltb-true, ltb-false, le-leb, lt-leb}
 use Rattle.text.specs.Utf8.{both}
 use Rattle.hex.proofs.Line.{from-here}
-use Rattle.meaning.specs.Frame.{limits, name, schemaType, predicate, node, query, theLimits, aType, aPredicate, aNode, theQuery, Got, got, fails, Reader, andThen, nothing, one, pair, triple, byte, two, many, entry, choice, typeShapes, valueTypes, headAndBody, exprKinds, spanAndKind, rest, frame, whole, frameOf}
-use Rattle.frames.specs.Contracts.{kindAt, byteW, halfW, wholly, isFrame, sizeW, typeShape, valueType, statement, exprKind}
+use Rattle.meaning.specs.Frame.{Edition, limits, name, schemaType, predicate, node, query, theLimits, aType, aPredicate, aNode, theQuery, Got, got, fails, Reader, andThen, nothing, one, pair, triple, byte, two, many, entry, choice, reference, typeShapes, valueTypes, headAndBody, exprKinds, spanAndKind, rest, frame, whole, frameOf}
+use Rattle.frames.specs.Contracts.{kindAt, byteW, halfW, referenceSize, wholly, isFrame, sizeW, typeShape, valueType, statement, exprKind}
 use Rattle.frames.proofs.Following.{no-kind}
-use Rattle.frames.proofs.Readers.{Sized, sized-nothing, sized-byte, sized-two, sized-four, sized-one, sized-pair, sized-field, sized-alternative, many-end, many-stop, items-test}
+use Rattle.frames.proofs.Readers.{Sized, sized-nothing, sized-byte, sized-two, sized-four, sized-reference, sized-one, sized-pair, sized-field, sized-alternative, many-end, many-stop, items-test}
 use Rattle.frames.specs.Items.{statementAt}
 use Rattle.frames.proofs.Statements.{choice-at, choice-past, statement-none, statement-lacks, statements-step}
 
@@ -127,35 +127,38 @@ up k h n = omega arith
 
 -- ---- Each kind, by the length of the line, its kind byte first
 
-pub limits-test : (s : List ℕ) → isFrame (some limits) (drop 1 s) ≡ eqb (length s) 4
+pub limits-test : (ed : Edition) (s : List ℕ) → isFrame ed (some limits) (drop 1 s) ≡ eqb (length s) 4
 unfolding frameOf frame pair byte andThen whole
-limits-test [] = refl
-limits-test (b ∷ s) = sized-test (sized-pair theLimits sized-byte sized-two) (b ∷ s) 1 (omega arith)
+limits-test ed [] = refl
+limits-test ed (b ∷ s) = sized-test (sized-pair theLimits sized-byte sized-two) (b ∷ s) 1 (omega arith)
 
-module _ (s : List ℕ) where
-  pub name-test : isFrame (some name) (drop 1 s) ≡ true
+module _ (ed : Edition) (s : List ℕ) where
+  pub name-test : isFrame ed (some name) (drop 1 s) ≡ true
   unfolding frameOf frame rest one andThen whole
   name-test = refl
 
   -- 00 to 05
   abbrev pub typeTests : List Bool
-  typeTests = eqb (length s) 2 ∷ eqb (length s) 2 ∷ eqb (length s) 2 ∷ eqb (length s) 4 ∷ eqb ((length s - 2) % 4) 0 ∷ eqb ((length s - 2) % 8) 0 ∷ []
+  typeTests = eqb (length s) 2 ∷ eqb (length s) 2 ∷ eqb (length s) 2 ∷ eqb (length s) (2 + referenceSize ed) ∷ eqb ((length s - 2) % 4) 0 ∷ eqb ((length s - 2) % 8) 0 ∷ []
 
-  pub type-test : 2 ≤ length s → isFrame (some schemaType) (drop 1 s) ≡ getD typeTests (byteW s 1) false
+  pub type-test : 2 ≤ length s → isFrame ed (some schemaType) (drop 1 s) ≡ getD typeTests (byteW s 1) false
   unfolding frameOf frame typeShapes
   type-test h =
-      one-test aType typeShape (drop 1 s)
+      one-test aType (typeShape ed) (drop 1 s)
       ∙ choice-test
       typeTests
       s
       1
       h
-      (plain s 2 h _ (plain s 2 h _ (plain s 2 h _ (number s 2 h _ (listed s 2 h sized-field _ (listed s 2 h sized-alternative _ done))))))
+      (plain s 2 h _ (plain s 2 h _ (plain s 2 h _ (row (sized-test (sized-one _ (sized-reference ed)) s 2 h) (listed s 2 h sized-field _ (listed s 2 h sized-alternative _ done))))))
 
-  pub type-at : 2 ≤ length s → (k : ℕ) → byteW s 1 ≡ k → getD typeTests k false ≡ isFrame (some schemaType) (drop 1 s)
+  pub type-at : 2 ≤ length s → (k : ℕ) → byteW s 1 ≡ k → getD typeTests k false ≡ isFrame ed (some schemaType) (drop 1 s)
   type-at h k e = sym (type-test h ∙ ap (λ b. getD typeTests b false) e)
 
-  pub type-leaf : 2 ≤ length s → byteW s 1 < 3 → eqb (length s) 2 ≡ isFrame (some schemaType) (drop 1 s)
+  pub type-fact : 2 ≤ length s → byteW s 1 ≡ 3 → (n : ℕ) → n ≡ referenceSize ed → eqb (length s) (2 + n) ≡ isFrame ed (some schemaType) (drop 1 s)
+  type-fact h e n q = ap (λ k. eqb (length s) (2 + k)) q ∙ type-at h 3 e
+
+  pub type-leaf : 2 ≤ length s → byteW s 1 < 3 → eqb (length s) 2 ≡ isFrame ed (some schemaType) (drop 1 s)
   type-leaf h l = first-three (byteW s 1) l ∙ sym (type-test h)
     where
       first-three : (b : ℕ) → b < 3 → eqb (length s) 2 ≡ getD typeTests b false
@@ -164,12 +167,12 @@ module _ (s : List ℕ) where
       first-three (suc (suc zero)) l = refl
       first-three (suc (suc (suc b))) l = absurd (omega arith)
 
-  pub type-past : 2 ≤ length s → 6 ≤ byteW s 1 → false ≡ isFrame (some schemaType) (drop 1 s)
+  pub type-past : 2 ≤ length s → 6 ≤ byteW s 1 → false ≡ isFrame ed (some schemaType) (drop 1 s)
   type-past h l = sym (type-test h ∙ List·getD-eq-default typeTests false l)
 
-  pub type-short : length s < 2 → isFrame (some schemaType) (drop 1 s) ≡ false
+  pub type-short : length s < 2 → isFrame ed (some schemaType) (drop 1 s) ≡ false
   unfolding frameOf frame typeShapes
-  type-short h = one-test aType typeShape (drop 1 s) ∙ fails-test (typeShape (drop 1 s)) (choice-past _ s 1 (omega arith))
+  type-short h = one-test aType (typeShape ed) (drop 1 s) ∙ fails-test (typeShape ed (drop 1 s)) (choice-past _ s 1 (omega arith))
 
   -- 00 and 01
   abbrev pub valueTests : List Bool
@@ -179,7 +182,7 @@ module _ (s : List ℕ) where
   unfolding valueTypes
   value-short h = fails-test (valueType (drop 5 s)) (choice-past _ s 5 h)
 
-  predicate-value : isFrame (some predicate) (drop 1 s) ≡ wholly (valueType (drop 5 s))
+  predicate-value : isFrame ed (some predicate) (drop 1 s) ≡ wholly (valueType (drop 5 s))
   unfolding frameOf frame triple pair
   predicate-value =
       after-test
@@ -191,17 +194,17 @@ module _ (s : List ℕ) where
       (λ h. after-test sized-two s 3 (λ k. one (aPredicate (halfW s 1) k) valueType) (wholly (valueType (drop 5 s))) (λ l. one-test (aPredicate (halfW s 1) (halfW s 3)) valueType (drop 5 s)) (λ l. value-short (omega arith)))
       (λ h. value-short (omega arith))
 
-  pub predicate-test : 6 ≤ length s → isFrame (some predicate) (drop 1 s) ≡ getD valueTests (byteW s 5) false
+  pub predicate-test : 6 ≤ length s → isFrame ed (some predicate) (drop 1 s) ≡ getD valueTests (byteW s 5) false
   unfolding valueTypes
   predicate-test h = predicate-value ∙ choice-test valueTests s 5 h (plain s 6 h _ (number s 6 h _ done))
 
-  pub predicate-at : 6 ≤ length s → (k : ℕ) → byteW s 5 ≡ k → getD valueTests k false ≡ isFrame (some predicate) (drop 1 s)
+  pub predicate-at : 6 ≤ length s → (k : ℕ) → byteW s 5 ≡ k → getD valueTests k false ≡ isFrame ed (some predicate) (drop 1 s)
   predicate-at h k e = sym (predicate-test h ∙ ap (λ b. getD valueTests b false) e)
 
-  pub predicate-past : 6 ≤ length s → 2 ≤ byteW s 5 → false ≡ isFrame (some predicate) (drop 1 s)
+  pub predicate-past : 6 ≤ length s → 2 ≤ byteW s 5 → false ≡ isFrame ed (some predicate) (drop 1 s)
   predicate-past h l = sym (predicate-test h ∙ List·getD-eq-default valueTests false l)
 
-  pub predicate-short : length s < 6 → isFrame (some predicate) (drop 1 s) ≡ false
+  pub predicate-short : length s < 6 → isFrame ed (some predicate) (drop 1 s) ≡ false
   predicate-short h = predicate-value ∙ value-short (omega arith)
 
   pub body-test : (i : ℕ) → wholly (headAndBody (drop i s)) ≡ both (leb (i + 2) (length s)) (wholly (many statement (drop (i + 2) s)))
@@ -216,14 +219,14 @@ module _ (s : List ℕ) where
       (λ h. one-test _ (many statement) (drop (i + 2) s) ∙ ap (λ t. both t (wholly (many statement (drop (i + 2) s)))) (sym (le-leb (i + 2) (length s) h)))
       (λ h. ap (λ t. both t (wholly (many statement (drop (i + 2) s)))) (lt-leb (i + 2) (length s) h))
 
-  pub query-test : isFrame (some query) (drop 1 s) ≡ both (leb 3 (length s)) (wholly (many statement (drop 3 s)))
+  pub query-test : isFrame ed (some query) (drop 1 s) ≡ both (leb 3 (length s)) (wholly (many statement (drop 3 s)))
   unfolding frameOf frame
   query-test = one-test theQuery headAndBody (drop 1 s) ∙ body-test 1
 
-  pub query-body : 3 ≤ length s → wholly (many statement (drop 3 s)) ≡ isFrame (some query) (drop 1 s)
+  pub query-body : 3 ≤ length s → wholly (many statement (drop 3 s)) ≡ isFrame ed (some query) (drop 1 s)
   query-body h = sym (query-test ∙ ap (λ t. both t (wholly (many statement (drop 3 s)))) (le-leb 3 (length s) h))
 
-  pub query-short : length s < 3 → false ≡ isFrame (some query) (drop 1 s)
+  pub query-short : length s < 3 → false ≡ isFrame ed (some query) (drop 1 s)
   query-short h = sym (query-test ∙ ap (λ t. both t (wholly (many statement (drop 3 s)))) (lt-leb 3 (length s) h))
 
   -- 00 to 10
@@ -232,27 +235,27 @@ module _ (s : List ℕ) where
       eqb (length s) 10 ∷ eqb (length s) 10 ∷ eqb (length s) 10 ∷ eqb (length s) 12 ∷
       eqb (length s) 10 ∷ eqb (length s) 10 ∷ eqb (length s) 12 ∷ eqb (length s) 13 ∷
       eqb ((length s - 10) % 4) 0 ∷ eqb (length s) 14 ∷ eqb (length s) 12 ∷ eqb ((length s - 10) % 2) 0 ∷
-      both (leb 12 (length s)) (wholly (many statement (drop 12 s))) ∷ eqb (length s) 14 ∷ eqb ((length s - 10) % 2) 0 ∷ eqb (length s) 10 ∷
+      both (leb 12 (length s)) (wholly (many statement (drop 12 s))) ∷ eqb (length s) (10 + (referenceSize ed + 2)) ∷ eqb ((length s - 10) % 2) 0 ∷ eqb (length s) 10 ∷
       eqb (length s) 14 ∷ []
 
-  kind-short : length s ≤ 9 → wholly (exprKind (drop 9 s)) ≡ false
+  kind-short : length s ≤ 9 → wholly (exprKind ed (drop 9 s)) ≡ false
   unfolding exprKinds
-  kind-short h = fails-test (exprKind (drop 9 s)) (choice-past _ s 9 h)
+  kind-short h = fails-test (exprKind ed (drop 9 s)) (choice-past _ s 9 h)
 
-  node-kind : isFrame (some node) (drop 1 s) ≡ wholly (exprKind (drop 9 s))
+  node-kind : isFrame ed (some node) (drop 1 s) ≡ wholly (exprKind ed (drop 9 s))
   unfolding frameOf frame spanAndKind triple pair
   node-kind =
-      one-test aNode spanAndKind (drop 1 s)
+      one-test aNode (spanAndKind ed) (drop 1 s)
       ∙ after-test
       sized-four
       s
       1
       _
-      (wholly (exprKind (drop 9 s)))
-      (λ h. after-test sized-four s 5 _ (wholly (exprKind (drop 9 s))) (λ l. one-test _ exprKind (drop 9 s)) (λ l. kind-short (omega arith)))
+      (wholly (exprKind ed (drop 9 s)))
+      (λ h. after-test sized-four s 5 _ (wholly (exprKind ed (drop 9 s))) (λ l. one-test _ (exprKind ed) (drop 9 s)) (λ l. kind-short (omega arith)))
       (λ h. kind-short (omega arith))
 
-  pub node-test : 10 ≤ length s → isFrame (some node) (drop 1 s) ≡ getD nodeTests (byteW s 9) false
+  pub node-test : 10 ≤ length s → isFrame ed (some node) (drop 1 s) ≡ getD nodeTests (byteW s 9) false
   unfolding exprKinds
   node-test h =
       node-kind
@@ -264,13 +267,16 @@ module _ (s : List ℕ) where
       (plain s 10 h _ (plain s 10 h _ (plain s 10 h _ (number s 10 h _
       (plain s 10 h _ (plain s 10 h _ (number s 10 h _ (row (sized-test (sized-pair _ sized-two sized-byte) s 10 h)
       (listed s 10 h sized-field _ (numbers s 10 h _ (number s 10 h _ (listed s 10 h sized-two _
-      (row (one-test _ headAndBody (drop 10 s) ∙ body-test 10) (numbers s 10 h _ (listed s 10 h sized-two _ (plain s 10 h _
+      (row (one-test _ headAndBody (drop 10 s) ∙ body-test 10) (row (sized-test (sized-pair _ (sized-reference ed) sized-two) s 10 h) (listed s 10 h sized-two _ (plain s 10 h _
       (numbers s 10 h _ done)))))))))))))))))
 
-  pub node-at : 10 ≤ length s → (k : ℕ) → byteW s 9 ≡ k → getD nodeTests k false ≡ isFrame (some node) (drop 1 s)
+  pub node-at : 10 ≤ length s → (k : ℕ) → byteW s 9 ≡ k → getD nodeTests k false ≡ isFrame ed (some node) (drop 1 s)
   node-at h k e = sym (node-test h ∙ ap (λ b. getD nodeTests b false) e)
 
-  pub node-plain : 10 ≤ length s → byteW s 9 < 6 → (byteW s 9 ≡ 3 → ⊥) → eqb (length s) 10 ≡ isFrame (some node) (drop 1 s)
+  pub node-fact : 10 ≤ length s → byteW s 9 ≡ 13 → (n : ℕ) → n ≡ referenceSize ed → eqb (length s) (12 + n) ≡ isFrame ed (some node) (drop 1 s)
+  node-fact h e n q = let p : 12 + n ≡ 10 + (referenceSize ed + 2) = omega (arith, q) in ap (λ k. eqb (length s) k) p ∙ node-at h 13 e
+
+  pub node-plain : 10 ≤ length s → byteW s 9 < 6 → (byteW s 9 ≡ 3 → ⊥) → eqb (length s) 10 ≡ isFrame ed (some node) (drop 1 s)
   node-plain h l n = first-six (byteW s 9) l n ∙ sym (node-test h)
     where
       first-six : (b : ℕ) → b < 6 → (b ≡ 3 → ⊥) → eqb (length s) 10 ≡ getD nodeTests b false
@@ -282,20 +288,20 @@ module _ (s : List ℕ) where
       first-six (suc (suc (suc (suc (suc zero))))) l n = refl
       first-six (suc (suc (suc (suc (suc (suc b)))))) l n = absurd (omega arith)
 
-  pub node-past : 10 ≤ length s → 17 ≤ byteW s 9 → false ≡ isFrame (some node) (drop 1 s)
+  pub node-past : 10 ≤ length s → 17 ≤ byteW s 9 → false ≡ isFrame ed (some node) (drop 1 s)
   node-past h l = sym (node-test h ∙ List·getD-eq-default nodeTests false l)
 
-  pub node-body : 12 ≤ length s → byteW s 9 ≡ 12 → wholly (many statement (drop 12 s)) ≡ isFrame (some node) (drop 1 s)
+  pub node-body : 12 ≤ length s → byteW s 9 ≡ 12 → wholly (many statement (drop 12 s)) ≡ isFrame ed (some node) (drop 1 s)
   node-body h e = sym (ap (λ t. both t (wholly (many statement (drop 12 s)))) (le-leb 12 (length s) h)) ∙ node-at (omega arith) 12 e
 
-  pub node-headless : 10 ≤ length s → length s < 12 → byteW s 9 ≡ 12 → false ≡ isFrame (some node) (drop 1 s)
+  pub node-headless : 10 ≤ length s → length s < 12 → byteW s 9 ≡ 12 → false ≡ isFrame ed (some node) (drop 1 s)
   node-headless h l e = sym (ap (λ t. both t (wholly (many statement (drop 12 s)))) (lt-leb 12 (length s) l)) ∙ node-at h 12 e
 
-  pub node-short : length s < 10 → isFrame (some node) (drop 1 s) ≡ false
+  pub node-short : length s < 10 → isFrame ed (some node) (drop 1 s) ≡ false
   node-short h = node-kind ∙ kind-short (omega arith)
 
-pub kind-test : (kind k : ℕ) (s : List ℕ) → kind ≡ k → isFrame (kindAt k) s ≡ isFrame (kindAt kind) s
-kind-test kind k s e = sym (ap (λ n. isFrame (kindAt n) s) e)
+pub kind-test : (ed : Edition) (kind k : ℕ) (s : List ℕ) → kind ≡ k → isFrame ed (kindAt k) s ≡ isFrame ed (kindAt kind) s
+kind-test ed kind k s e = sym (ap (λ n. isFrame ed (kindAt n) s) e)
 
-pub unknown-test : (kind : ℕ) (s : List ℕ) → 6 ≤ kind → false ≡ isFrame (kindAt kind) s
-unknown-test kind s h = sym (ap (λ k. isFrame k s) (no-kind (suc kind) (omega arith)))
+pub unknown-test : (ed : Edition) (kind : ℕ) (s : List ℕ) → 6 ≤ kind → false ≡ isFrame ed (kindAt kind) s
+unknown-test ed kind s h = sym (ap (λ k. isFrame ed k s) (no-kind (suc kind) (omega arith)))

@@ -7,7 +7,7 @@ use Prim.Native.Nat.{ℕ, suc, _+_, _-_, _*_, _<_, _≤_}
 use lib.ListN.{length, getD, take, drop}
 use Rattle.meaning.specs.Lines.{Line, lines, bytesOf}
 use Rattle.meaning.specs.Syntax.{QueryStmt, ExprKind}
-use Rattle.meaning.specs.Frame.{Kind, kindByte, kindOf, mayStand, Got, Reader, choice, TypeShape, typeShapes, valueTypes, statements, exprKinds, whole, frameOf}
+use Rattle.meaning.specs.Frame.{Edition, narrow, wide, Kind, kindByte, kindOf, mayStand, Got, Reader, choice, TypeShape, typeShapes, valueTypes, statements, exprKinds, whole, frameOf}
 use Rattle.frames.specs.declared.lines.Decoded.{Decoded}
 use Rattle.frames.specs.declared.lines.Decoded.the-variants.{Bytes, Bad}
 
@@ -63,11 +63,27 @@ unfoldable pub fullW : List ℕ → ℕ → ℕ
 unfolding halfW
 fullW s i = halfW s i * 65536 + halfW s (i + 2)
 
+-- ---- Editions (card 6)
+
+-- The code says whether it is the wide one.
+abbrev pub edition : Bool → Edition
+edition true = wide
+edition false = narrow
+
+-- how many bytes a predicate reference has, and the one at a place
+abbrev pub referenceSize : Edition → ℕ
+referenceSize narrow = 2
+referenceSize wide = 4
+
+abbrev pub referenceW : Edition → List ℕ → ℕ → ℕ
+referenceW narrow s i = halfW s i
+referenceW wide s i = fullW s i
+
 -- ---- Frames
 
 -- What a first byte says how to read.
-abbrev pub typeShape : Reader TypeShape
-typeShape = choice typeShapes
+abbrev pub typeShape : Edition → Reader TypeShape
+typeShape e = choice (typeShapes e)
 
 abbrev pub valueType : Reader (Option ℕ)
 valueType = choice valueTypes
@@ -75,8 +91,8 @@ valueType = choice valueTypes
 abbrev pub statement : Reader QueryStmt
 statement = choice statements
 
-abbrev pub exprKind : Reader ExprKind
-exprKind = choice exprKinds
+abbrev pub exprKind : Edition → Reader ExprKind
+exprKind e = choice (exprKinds e)
 
 abbrev pub isSome : {A : Type 0} → Option A → Bool
 isSome none = false
@@ -87,9 +103,13 @@ abbrev pub wholly : {A : Type 0} → Got A → Bool
 wholly g = isSome (whole g)
 
 -- The content is a frame of the kind; an unknown kind has none.
-abbrev pub isFrame : Option Kind → List ℕ → Bool
-isFrame none content = false
-isFrame (some k) content = isSome (frameOf k content)
+abbrev pub isFrame : Edition → Option Kind → List ℕ → Bool
+isFrame e none content = false
+isFrame e (some k) content = isSome (frameOf e k content)
+
+-- The test of a kind whose frames are the same in both editions.
+pub record Formed (k : Kind) (content : List ℕ) (r : Bool) : Type 0 where
+  pub is : (e : Edition) → r ≡ isFrame e (some k) content
 
 -- how many bytes a statement takes by its first; 0 for a byte that starts none
 abbrev pub sizeW : ℕ → ℕ

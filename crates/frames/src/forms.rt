@@ -4,7 +4,7 @@ ghost use mathlib.Core.Option.{some};
 ghost use Prim.Native.Nat.{_<_, _≤_};
 ghost use lib.ListN.{length, drop};
 ghost use Rattle.meaning.specs.Frame.{kindOf, schemaType, predicate, node, query, many};
-ghost use Rattle.frames.specs.Contracts.{numberOf, kindAt, stands, byteW, halfW, fullW, wholly, isFrame, sizeW, statement};
+ghost use Rattle.frames.specs.Contracts.{numberOf, kindAt, stands, byteW, halfW, fullW, edition, referenceSize, referenceW, wholly, isFrame, Formed, sizeW, statement};
 
 // A row for each kind that came before, a column for each that comes.
 const FOLLOWS: [[bool; 6]; 6] = [
@@ -66,6 +66,19 @@ pub fn full(s: &[u8], i: usize) -> u32
     half(s, i) * 65536 + half(s, i + 2)
 }
 
+// How many bytes a predicate reference has, in the wide edition or the narrow one.
+pub fn reference_size(wide: bool) -> usize
+    ensures { λ r. ⌜ (r ≡ referenceSize (edition wide)) × (r ≤ 4) ⌝ }
+{
+    if wide { 4 } else { 2 }
+}
+
+pub fn reference(s: &[u8], i: usize, wide: bool) -> u32
+    ensures { λ r. ⌜ r ≡ referenceW (edition wide) (now (s .entry)) i ⌝ }
+{
+    if wide { full(s, i) } else { half(s, i) }
+}
+
 // How many bytes a statement takes by its first, and 0 for a byte that starts none.
 fn statement_size(tag: u8) -> usize
     ensures { λ r. ⌜ (r ≡ sizeW tag) × (r ≤ 5) ⌝ }
@@ -96,8 +109,8 @@ fn statements_fill(s: &[u8], from: usize) -> bool
     true
 }
 
-fn type_frame(s: &[u8]) -> bool
-    ensures { λ r. ⌜ r ≡ isFrame (some schemaType) (drop 1 (now (s .entry))) ⌝ }
+fn type_frame(s: &[u8], wide: bool) -> bool
+    ensures { λ r. ⌜ r ≡ isFrame (edition wide) (some schemaType) (drop 1 (now (s .entry))) ⌝ }
 {
     let n = s.len();
     if n < 2 {
@@ -106,7 +119,7 @@ fn type_frame(s: &[u8]) -> bool
     let shape = s[1];
     match shape {
         0 | 1 | 2 => n == 2,
-        3 => n == 4,
+        3 => n == 2 + reference_size(wide),
         4 => (n - 2) % 4 == 0,
         5 => (n - 2) % 8 == 0,
         _ => false,
@@ -114,7 +127,7 @@ fn type_frame(s: &[u8]) -> bool
 }
 
 fn predicate_frame(s: &[u8]) -> bool
-    ensures { λ r. ⌜ r ≡ isFrame (some predicate) (drop 1 (now (s .entry))) ⌝ }
+    ensures { λ r. ⌜ Formed predicate (drop 1 (now (s .entry))) r ⌝ }
 {
     let n = s.len();
     if n < 6 {
@@ -128,8 +141,8 @@ fn predicate_frame(s: &[u8]) -> bool
     }
 }
 
-fn node_frame(s: &[u8]) -> bool
-    ensures { λ r. ⌜ r ≡ isFrame (some node) (drop 1 (now (s .entry))) ⌝ }
+fn node_frame(s: &[u8], wide: bool) -> bool
+    ensures { λ r. ⌜ r ≡ isFrame (edition wide) (some node) (drop 1 (now (s .entry))) ⌝ }
 {
     let n = s.len();
     if n < 10 {
@@ -140,7 +153,8 @@ fn node_frame(s: &[u8]) -> bool
         0 | 1 | 2 | 4 | 5 | 15 => n == 10,
         3 | 6 | 10 => n == 12,
         7 => n == 13,
-        9 | 13 | 16 => n == 14,
+        9 | 16 => n == 14,
+        13 => n == 12 + reference_size(wide),
         8 => (n - 10) % 4 == 0,
         11 | 14 => (n - 10) % 2 == 0,
         12 => {
@@ -154,7 +168,7 @@ fn node_frame(s: &[u8]) -> bool
 }
 
 fn query_frame(s: &[u8]) -> bool
-    ensures { λ r. ⌜ r ≡ isFrame (some query) (drop 1 (now (s .entry))) ⌝ }
+    ensures { λ r. ⌜ Formed query (drop 1 (now (s .entry))) r ⌝ }
 {
     if s.len() < 3 {
         return false;
@@ -163,15 +177,15 @@ fn query_frame(s: &[u8]) -> bool
 }
 
 // Whether the line, its kind byte first, has its kind's form.
-pub fn is_frame(s: &[u8], kind: usize) -> bool
-    ensures { λ r. ⌜ r ≡ isFrame (kindAt kind) (drop 1 (now (s .entry))) ⌝ }
+pub fn is_frame(s: &[u8], kind: usize, wide: bool) -> bool
+    ensures { λ r. ⌜ r ≡ isFrame (edition wide) (kindAt kind) (drop 1 (now (s .entry))) ⌝ }
 {
     match kind {
         0 => s.len() == 4,
         1 => true,
-        2 => type_frame(s),
+        2 => type_frame(s, wide),
         3 => predicate_frame(s),
-        4 => node_frame(s),
+        4 => node_frame(s, wide),
         5 => query_frame(s),
         _ => false,
     }

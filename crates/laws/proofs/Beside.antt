@@ -13,7 +13,7 @@ use Rattle.meaning.specs.Diag.{Message, Diagnostic, ascii}
 use Rattle.meaning.specs.Lines.{closed, unclosed, LF, inFront, lines}
 use Rattle.meaning.specs.Conditions.{sameText}
 use Rattle.meaning.specs.Check.{Typed}
-use Rattle.meaning.specs.Answer.{bytes₂, hexDigit, hexLine, slotBytes, nodeLines, diagnosticLine, diagnosticLines, answerLines, numbered, formLines}
+use Rattle.meaning.specs.Answer.{bytes₂, bytes₄, hexDigit, hexLine, slotBytes, nodeLines, diagnosticLine, diagnosticLines, answerLines, numbered, formLines}
 use Rattle.meaning.proofs.Tests.{cases}
 use Rattle.meaning.proofs.Hex.{hexes, line-hexes}
 use Rattle.meaning.proofs.Lines.{lines-closed}
@@ -87,7 +87,7 @@ module _ (text text′ : Message → List ℕ) where
 
   same-answer : (t : Typed) → SamePiece (answerLines text t) (answerLines text′ t)
   unfolding answerLines
-  same-answer t = same-then (same-nodes 0 (t .tys)) (same-diagnostics (t .diagnostics))
+  same-answer t = same-then (same-then (same-nodes 0 (t .tys)) (same-diagnostics (t .diagnostics))) (same-line (9 ∷ bytes₄ (t .visits)))
 
   same-numbered : (k : ℕ) (ts : List Typed) → SamePiece (numbered text k ts) (numbered text′ k ts)
   unfolding numbered

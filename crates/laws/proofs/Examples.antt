@@ -17,9 +17,10 @@ use Rattle.unification.specs.Ty.{leaf, Int}
 use Rattle.unification.specs.Bindings as Bindings
 use Rattle.unification.specs.Unify as Unify
 use Rattle.meaning.specs.Diag.{ascii, codeOf, RejectFuzzyTerm, RejectValueShadowed, RejectNoValue}
+use Rattle.meaning.specs.Frame.{wide}
 use Rattle.meaning.specs.Lines.{position, lines}
 use Rattle.meaning.specs.Conditions.{sameText, maxNames, maxTypes, maxPredicates, maxNodes, maxQueries}
-use Rattle.meaning.specs.File.{described, reading, valueText, maxFile}
+use Rattle.meaning.specs.File.{described, readingOf, reading, valueText, maxFile}
 use Rattle.meaning.specs.Writing.{fileOf, Writable}
 use Rattle.meaning.specs.Content.{Content, framesOf, describes, Says}
 use Rattle.meaning.specs.References.{shapeNames, shapeTypes, shapeKeys, optional, exprNames, exprNodes, queryNodes}
@@ -112,16 +113,16 @@ unfolding check codeOf describes ℕ-discrete Bindings.fresh Bindings.freshId Bi
 there-after = refl
 
 -- ---- The files that hold these contents pass 2 to 10
-old-file : reading (fileOf (framesOf (asking 0))) ≡ described (describes (asking 0))
-unfolding reading fileOf framesOf describes
+old-file : reading (fileOf wide (framesOf (asking 0))) ≡ described (describes (asking 0))
+unfolding readingOf fileOf framesOf describes
 old-file = refl
 
-named-file : reading (fileOf (framesOf (named (ab ∷ value ∷ [])))) ≡ described (describes (named (ab ∷ value ∷ [])))
-unfolding reading fileOf framesOf describes
+named-file : reading (fileOf wide (framesOf (named (ab ∷ value ∷ [])))) ≡ described (describes (named (ab ∷ value ∷ [])))
+unfolding readingOf fileOf framesOf describes
 named-file = refl
 
-new-file : reading (fileOf (framesOf (asking-grown 0))) ≡ described (describes (asking-grown 0))
-unfolding reading fileOf framesOf describes
+new-file : reading (fileOf wide (framesOf (asking-grown 0))) ≡ described (describes (asking-grown 0))
+unfolding readingOf fileOf framesOf describes
 new-file = refl
 
 -- ---- Messages with names
@@ -131,7 +132,7 @@ abbrev both-texts : List ℕ → List ℕ → List (List (List ℕ))
 both-texts fact field = ((ascii "expected " ++ (fact ++ ascii ", found an integer")) ∷ (field ++ ascii " is not a field here") ∷ []) ∷ []
 
 abbrev file : Content → List ℕ
-file c = fileOf (framesOf c)
+file c = fileOf wide (framesOf c)
 
 -- "`ab`" twice
 with-names : allTexts (textIn (describes (before 0))) (answers 9 (before 0)) ≡ both-texts (quoted ab) (quoted ab)
@@ -182,8 +183,8 @@ told-lawful n h = record {
 text-of : (s : List ℕ) (n : ℕ) → characters s ≡ some n → (m : ℕ) × Text s m
 text-of s n e = (n, counts s n .1 e)
 
-says-telling : (t : List ℕ) (n : ℕ) → characters t ≡ some n → t ≢ short → All Writable (framesOf (telling (t ∷ short ∷ []) 0))
-    → length (file (telling (t ∷ short ∷ []) 0)) ≤ maxFile → Says (file (telling (t ∷ short ∷ []) 0)) (describes (telling (t ∷ short ∷ []) 0))
+says-telling : (t : List ℕ) (n : ℕ) → characters t ≡ some n → t ≢ short → All (Writable wide) (framesOf (telling (t ∷ short ∷ []) 0))
+    → length (file (telling (t ∷ short ∷ []) 0)) ≤ maxFile → Says wide (file (telling (t ∷ short ∷ []) 0)) (describes (telling (t ∷ short ∷ []) 0))
 unfolding characters maxNames maxTypes maxPredicates maxQueries shapeNames shapeTypes shapeKeys optional
 says-telling t n count new writable size = record {
   content = telling (t ∷ short ∷ []) 0;
@@ -208,15 +209,15 @@ says-telling t n count new writable size = record {
   tree = refl;
 }
 
-says-old : Says (file (before 0)) (describes (before 0))
+says-old : Says wide (file (before 0)) (describes (before 0))
 unfolding characters maxFile fileOf framesOf lines said
-says-old = says-telling ab 2 refl (other-length-of refl) (are-lines (lines (file (before 0))) (framesOf (before 0)) refl .writable) (omega arith)
+says-old = says-telling ab 2 refl (other-length-of refl) (are-lines wide (lines (file (before 0))) (framesOf (before 0)) refl .writable) (omega arith)
 
-says-renamed : Says (file (blackened 0)) (describes (blackened 0))
+says-renamed : Says wide (file (blackened 0)) (describes (blackened 0))
 unfolding characters maxFile fileOf framesOf lines said
-says-renamed = says-telling accented 2 refl (other-length-of refl) (are-lines (lines (file (blackened 0))) (framesOf (blackened 0)) refl .writable) (omega arith)
+says-renamed = says-telling accented 2 refl (other-length-of refl) (are-lines wide (lines (file (blackened 0))) (framesOf (blackened 0)) refl .writable) (omega arith)
 
-says-grown : Says (file (grown 0)) (describes (grown 0))
+says-grown : Says wide (file (grown 0)) (describes (grown 0))
 unfolding characters maxNames maxTypes maxPredicates maxQueries shapeNames shapeTypes shapeKeys optional maxFile fileOf framesOf lines said
 says-grown = record {
   content = grown 0;
@@ -236,14 +237,14 @@ says-grown = record {
     queries = (told-lawful 3 (omega arith), tt);
     queriesMin = omega arith;
     queriesMax = omega arith;
-    writable = are-lines (lines (file (grown 0))) (framesOf (grown 0)) refl .writable;
+    writable = are-lines wide (lines (file (grown 0))) (framesOf (grown 0)) refl .writable;
   };
   tree = refl;
 }
 
 -- None of this file's messages (`with-names`) has a mark.
 pub told-without-mark : All (λ a. NoMark (describes (before 0)) (check maxVisits (describes (before 0) .schema) a)) (describes (before 0) .queries)
-told-without-mark = no-mark (file (before 0)) (describes (before 0)) (says-exactly _ _ .1 says-old)
+told-without-mark = no-mark (file (before 0)) (describes (before 0)) (says-exactly wide _ _ .1 says-old)
 
 -- Both messages, before and after.
 pub grown-outcome : (words bytes : ℕ) → outcome (file (before 0)) words bytes ≡ outcome (file (grown 0)) words bytes

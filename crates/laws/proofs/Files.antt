@@ -10,6 +10,7 @@ use Rattle.meaning.specs.All.{All, Each}
 use Rattle.meaning.specs.Syntax.{Ast}
 use Rattle.meaning.specs.Schema.{Schema}
 use Rattle.meaning.specs.Refusal.{workTooShort}
+use Rattle.meaning.specs.Frame.{wide}
 use Rattle.meaning.specs.File.{Form, described, reading}
 use Rattle.meaning.specs.Frame.{TypeShape}
 use Rattle.meaning.specs.Diag.{Message}
@@ -42,7 +43,7 @@ runs-together schema [] = refl
 runs-together schema (a ∷ qs) = ap (withChecked (check maxVisits schema a)) (runs-together schema qs)
 
 -- A file's runs are those of its content.
-runs-of : (file : List ℕ) (f : Form) (says : Says file f) → runAll (f .schema) (f .queries) ≡ together (answers maxVisits (says .content))
+runs-of : (file : List ℕ) (f : Form) (says : Says wide file f) → runAll (f .schema) (f .queries) ≡ together (answers maxVisits (says .content))
 unfolding describes
 runs-of file f says =
     ap (λ (x : Form). runAll (x .schema) (x .queries)) (says .tree)
@@ -66,9 +67,9 @@ lower-ceiling file f read ts h words enough =
     rw (enough, decide) (ap decideRead read ∙ ap (decideRun (textIn f)) (each-ran (f .schema) (f .queries) ts (each-within (f .schema) (f .queries) ts h)))
 
 -- ---- The call, on a file past 2 to 10 and 13
-long-enough : (file : List ℕ) (f : Form) → Says file f → (words : ℕ) → ltb words minWords ≡ false → decide file words ≡ decideRead (described f)
+long-enough : (file : List ℕ) (f : Form) → Says wide file f → (words : ℕ) → ltb words minWords ≡ false → decide file words ≡ decideRead (described f)
 unfolding decide
-long-enough file f says words e = rw (e, decide) (ap decideRead (says-exactly file f .1 says))
+long-enough file f says words e = rw (e, decide) (ap decideRead (says-exactly wide file f .1 says))
 
 too-short : (file : List ℕ) (words : ℕ) → ltb words minWords ≡ true → decide file words ≡ turnedDown workTooShort
 unfolding decide
@@ -77,12 +78,12 @@ too-short file words e = rw (e, decide)
 -- ---- Card 10
 
 -- The same types, diagnostics (in numbers and types) and visits of every query, or both get 11.
-pub private-runs : (f g : List ℕ) (d e : Form) (p : Says f d) (q : Says g e) → Renamed (p .content) (q .content)
+pub private-runs : (f g : List ℕ) (d e : Form) (p : Says wide f d) (q : Says wide g e) → Renamed (p .content) (q .content)
     → runAll (d .schema) (d .queries) ≡ runAll (e .schema) (e .queries)
 private-runs f g d e p q h = runs-of f d p ∙ ap together (names-private (p .content) (q .content) h maxVisits) ∙ sym (runs-of g e q)
 
 -- So the same is decided, in whatever way messages are written.
-pub private-decisions : (f g : List ℕ) (d e : Form) (p : Says f d) (q : Says g e) → Renamed (p .content) (q .content)
+pub private-decisions : (f g : List ℕ) (d e : Form) (p : Says wide f d) (q : Says wide g e) → Renamed (p .content) (q .content)
     → (text : Message → List ℕ) → decideRun text (runAll (d .schema) (d .queries)) ≡ decideRun text (runAll (e .schema) (e .queries))
 private-decisions f g d e p q h text = ap (decideRun text) (private-runs f g d e p q h)
 
@@ -114,7 +115,7 @@ module _ (text text′ : Message → List ℕ) (words bytes : ℕ) where
   decided-beside (some ts) h i = both-fit ts _ _ refl refl h i
 
 -- The same result and the same lines but for message lines, where the answer slice is large enough for both.
-pub private-files : (f g : List ℕ) (d e : Form) (p : Says f d) (q : Says g e) → Renamed (p .content) (q .content)
+pub private-files : (f g : List ℕ) (d e : Form) (p : Says wide f d) (q : Says wide g e) → Renamed (p .content) (q .content)
     → (words bytes : ℕ) → Fits (outcome f words bytes) → Fits (outcome g words bytes) → SameBeside (outcome f words bytes) (outcome g words bytes)
 unfolding outcome decideRead
 private-files f g d e p q r words bytes h i = cases (ltb words minWords) short long
@@ -143,7 +144,7 @@ runs-alike L text text′ same schema (a ∷ qs) h = go (check maxVisits schema 
     go (typed t) i none j = tt
     go (typed t) i (some ts) j = (all-map (λ d. MessageOver L (d .message)) _ (t .diagnostics) (λ d k. same (d .message) k) i, j)
 
-module _ (c : Content) (l : Lawful c) (n : NoAbsent c) (names : List (List ℕ)) (types : List TypeShape) (predicates : List PredicateFrame) where
+module _ (c : Content) (l : Lawful wide c) (n : NoAbsent c) (names : List (List ℕ)) (types : List TypeShape) (predicates : List PredicateFrame) where
   decided-grown : decideRead (described (describes c)) ≡ decideRead (described (describes (grow c names types predicates)))
   unfolding decideRead describes
   decided-grown =
@@ -157,7 +158,7 @@ module _ (c : Content) (l : Lawful c) (n : NoAbsent c) (names : List (List ℕ))
       ∙ decide-same (textIn old) (textIn new) (runAll (new .schema) (c .queries)) (runs-alike (spoken c) (textIn old) (textIn new) texts (new .schema) (c .queries) over)
 
 -- The same answer, byte for byte, message lines too; or the same refusal.
-pub grown-files : (f g : List ℕ) (d e : Form) (p : Says f d) (q : Says g e) → NoAbsent (p .content) → Grown (p .content) (q .content)
+pub grown-files : (f g : List ℕ) (d e : Form) (p : Says wide f d) (q : Says wide g e) → NoAbsent (p .content) → Grown (p .content) (q .content)
     → (words bytes : ℕ) → outcome f words bytes ≡ outcome g words bytes
 unfolding outcome
 grown-files f g d e p q n h words bytes = ap (λ x. finish x words bytes) (cases (ltb words minWords) short long)

@@ -16,7 +16,7 @@ use Rattle.unification.specs.Unify.{findKey}
 use Rattle.meaning.specs.All.{All, Below}
 use Rattle.meaning.specs.Syntax.{ExprKind, Node, Ast}
 use Rattle.meaning.specs.Schema.{Predicate, get, fieldOf}
-use Rattle.meaning.specs.Frame.{TypeShape}
+use Rattle.meaning.specs.Frame.{Edition, TypeShape}
 use Rattle.meaning.specs.References.{shapeNames, optional, exprNames}
 use Rattle.meaning.specs.Diag.{Message}
 use Rattle.meaning.specs.Messages.{textIn}
@@ -221,7 +221,7 @@ names-below : (n : ℕ) (qs : List Ast) → All (LawfulQuery n) qs → All (λ a
 names-below n [] h = tt
 names-below n (a ∷ qs) h = (h .0 .nodeNames, names-below n qs (h .1))
 
-pub lawful-refers : (c : Content) → Lawful c → Refers c
+pub lawful-refers : {e : Edition} (c : Content) → Lawful e c → Refers c
 lawful-refers c l = record {
   typeNames = l .typeNames;
   predicateNames = l .predicateNames;

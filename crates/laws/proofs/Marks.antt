@@ -12,6 +12,7 @@ use Rattle.meaning.specs.Diag.{Message}
 use Rattle.meaning.specs.Messages.{messageText, textIn}
 use Rattle.meaning.specs.Check.{Checked, typed, exhausted, check}
 use Rattle.meaning.specs.File.{Form, described, reading}
+use Rattle.meaning.specs.Frame.{wide}
 use Rattle.meaning.specs.Sound.{LawfulQuery}
 use Rattle.meaning.specs.Content.{Content, Lawful, describes}
 use Rattle.meaning.specs.Outcome.{maxVisits}
@@ -33,7 +34,7 @@ every-shape P h (aLeaf (Fact p)) = h p
 every-shape P h (aRecord fs) = tt
 every-shape P h (aUnion alts) = tt
 
-module _ (c : Content) (l : Lawful c) where
+module _ (c : Content) (l : Lawful wide c) where
   content-query : (a : Ast) → LawfulQuery (length (c .names)) a → CheckedOver (ofFile (describes c)) (check maxVisits (describes c .schema) a)
   unfolding describes
   content-query a q =
@@ -50,7 +51,7 @@ module _ (c : Content) (l : Lawful c) where
 -- Every name number in a message of a run is one of the file's, and every predicate there is absent or has one of the file's names.
 pub over-names : (file : List ℕ) (f : Form) → reading file ≡ described f → All (λ a. CheckedOver (ofFile f) (check maxVisits (f .schema) a)) (f .queries)
 over-names file f read =
-    let says = says-exactly file f .0 read in
+    let says = says-exactly wide file f .0 read in
     subst (λ (x : Form). All (λ a. CheckedOver (ofFile x) (check maxVisits (x .schema) a)) (x .queries)) (sym (says .tree))
     (content-over-names (says .content) (says .lawful))
 

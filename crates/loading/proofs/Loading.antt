@@ -10,6 +10,7 @@ use lib.Seq.{getD-set-same, getD-set-other}
 use Rattle.work.specs.Layout.{NODE-COUNT, QUERY, NODES, FIELDS, RECORD-COUNT, END}
 use Rattle.cells.specs.Stands.{Rows}
 use Rattle.cells.proofs.Frame.{more-refl}
+use Rattle.meaning.specs.Frame as Frame
 use Rattle.meaning.specs.Syntax.{Node, Query, Ast, nodeAt}
 use Rattle.meaning.specs.Lines.{lines}
 use Rattle.meaning.specs.Frame.{node, kindByte, kindOf, Frame, aNode, theQuery, frameKind}
@@ -56,9 +57,9 @@ record Midst (f w : List ℕ) (i n : ℕ) (a : Ast) (qs : List Ast) : Type 0 whe
   left : List Node
   schema : List Frame
   nodes : done ++ left ≡ a .nodes
-  held : NodesHeld f w n done
+  held : NodesHeld Frame.wide f w n done
   early : All (λ g. kindByte (frameKind g) < kindByte node) schema
-  are : map said (lines (drop i f)) ≡ map frames (Rest (a .query) qs left schema)
+  are : map (said Frame.wide) (lines (drop i f)) ≡ map frames (Rest (a .query) qs left schema)
 
 pub record Loading (f : List ℕ) (at : ℕ) (w₀ w : List ℕ) (i n : ℕ) : Type 0 where
   pub words : Reloads w₀ w
@@ -109,14 +110,14 @@ module _ {f : List ℕ} {at : ℕ} {w₀ w : List ℕ} {i n : ℕ} (m : Loading 
   unfolding said saidBy
   loading-bad b = nothing (λ d qs x.
       let g = some-frame (d .ast .query) qs (x .left) (x .schema) in
-      let e : malformed ∷ map said (b .rest) ≡ frames (g .0) ∷ map frames (g .1) = ap (λ o. saidBy o ∷ map said (b .rest)) (sym (b .bytes)) ∙ sym (ap (map said) (b .splits)) ∙ x .are ∙ ap (map frames) (g .2) in
+      let e : malformed ∷ map (said Frame.wide) (b .rest) ≡ frames (g .0) ∷ map frames (g .1) = ap (λ o. saidBy Frame.wide o ∷ map (said Frame.wide) (b .rest)) (sym (b .bytes)) ∙ sym (ap (map (said Frame.wide)) (b .splits)) ∙ x .are ∙ ap (map frames) (g .2) in
       let z : _≡_ {A = ℕ} 0 1 = cc in
       omega arith)
 
   -- ---- A line
   module _ {line : List ℕ} {size next : ℕ} (h : Holds f i line size next) (kind : ℕ) (e : kind ≡ numberOf (kindOf (getD line 0 0))) where
     number : {g : Frame} → IsFrame (take size line) g → kind ≡ kindByte (frameKind g) - 1
-    number x = e ∙ ap (λ b. numberOf (kindOf b)) (sym (first-taken h)) ∙ ap numberOf (x .kind)
+    number x = e ∙ ap (λ b. numberOf (kindOf b)) (sym (first-taken Frame.wide h)) ∙ ap numberOf (x .kind)
 
     is-size : size ≡ length (take size line)
     is-size = sym (h .count)
@@ -126,9 +127,9 @@ module _ {f : List ℕ} {at : ℕ} {w₀ w : List ℕ} {i n : ℕ} (m : Loading 
       record AtQuery (q : Query) (qs : List Ast) (left : List Node) : Type 0 where
         none-left : left ≡ []
         frame : IsFrame (take size line) (theQuery q)
-        later : map said (lines (drop next f)) ≡ map frames (flatMap queryFrames qs)
+        later : map (said Frame.wide) (lines (drop next f)) ≡ map frames (flatMap queryFrames qs)
 
-      at-query : (q : Query) (qs : List Ast) (left : List Node) (schema : List Frame) → All (λ g. kindByte (frameKind g) < kindByte node) schema → map said (lines (drop i f)) ≡ map frames (Rest q qs left schema) → AtQuery q qs left
+      at-query : (q : Query) (qs : List Ast) (left : List Node) (schema : List Frame) → All (λ g. kindByte (frameKind g) < kindByte node) schema → map (said Frame.wide) (lines (drop i f)) ≡ map frames (Rest q qs left schema) → AtQuery q qs left
       unfolding kindByte frameKind
       at-query q qs left (g ∷ schema) early are = absurd (omega (arith, number (first-frame h g (Rest q qs left schema) are), early .0))
       at-query q qs (nd ∷ left) [] early are = absurd (omega (arith, number (first-frame h (aNode nd) (Rest q qs left []) are)))
@@ -184,9 +185,9 @@ module _ {f : List ℕ} {at : ℕ} {w₀ w : List ℕ} {i n : ℕ} (m : Loading 
         more : List Node
         first-left : left ≡ nd ∷ more
         frame : IsFrame (take size line) (aNode nd)
-        later : map said (lines (drop next f)) ≡ map frames (Rest q qs more [])
+        later : map (said Frame.wide) (lines (drop next f)) ≡ map frames (Rest q qs more [])
 
-      at-node : (q : Query) (qs : List Ast) (left : List Node) (schema : List Frame) → All (λ g. kindByte (frameKind g) < kindByte node) schema → map said (lines (drop i f)) ≡ map frames (Rest q qs left schema) → AtNode q qs left
+      at-node : (q : Query) (qs : List Ast) (left : List Node) (schema : List Frame) → All (λ g. kindByte (frameKind g) < kindByte node) schema → map (said Frame.wide) (lines (drop i f)) ≡ map frames (Rest q qs left schema) → AtNode q qs left
       unfolding kindByte frameKind
       at-node q qs left (g ∷ schema) early are = absurd (omega (arith, number (first-frame h g (Rest q qs left schema) are), early .0))
       at-node q qs (nd ∷ left) [] early are = record { nd = nd; more = left; first-left = refl; frame = first-frame h (aNode nd) (Rest q qs left []) are; later = later-frames h (aNode nd) (Rest q qs left []) are }
@@ -241,9 +242,9 @@ module _ {f : List ℕ} {at : ℕ} {w₀ w : List ℕ} {i n : ℕ} (m : Loading 
       record AtSchema (q : Query) (qs : List Ast) (left : List Node) : Type 0 where
         more : List Frame
         early : All (λ g. kindByte (frameKind g) < kindByte node) more
-        later : map said (lines (drop next f)) ≡ map frames (Rest q qs left more)
+        later : map (said Frame.wide) (lines (drop next f)) ≡ map frames (Rest q qs left more)
 
-      at-schema : (q : Query) (qs : List Ast) (left : List Node) (schema : List Frame) → All (λ g. kindByte (frameKind g) < kindByte node) schema → map said (lines (drop i f)) ≡ map frames (Rest q qs left schema) → AtSchema q qs left
+      at-schema : (q : Query) (qs : List Ast) (left : List Node) (schema : List Frame) → All (λ g. kindByte (frameKind g) < kindByte node) schema → map (said Frame.wide) (lines (drop i f)) ≡ map frames (Rest q qs left schema) → AtSchema q qs left
       unfolding kindByte frameKind
       at-schema q qs left (g ∷ schema) early are = record { more = schema; early = early .1; later = later-frames h g (Rest q qs left schema) are }
       at-schema q qs (nd ∷ left) [] early are = absurd (j (number (first-frame h (aNode nd) (Rest q qs left []) are)))

@@ -8,7 +8,7 @@ use Rattle.work.specs.Layout.{NODE-COUNT, QUERY, NODES, FIELDS}
 use Rattle.cells.specs.Stands.{Rows}
 use Rattle.meaning.specs.Syntax.{Ast}
 use Rattle.meaning.specs.Lines.{lines}
-use Rattle.meaning.specs.Frame.{node, kindByte, Frame, frameKind}
+use Rattle.meaning.specs.Frame.{wide, node, kindByte, Frame, frameKind}
 use Rattle.meaning.specs.SoFar.{frames, said}
 use Rattle.meaning.specs.File.{Described, maxFile}
 use Rattle.meaning.specs.All.{All}
@@ -23,7 +23,7 @@ pub record Ahead (f : List ℕ) (at : ℕ) (qs : List Ast) : Type 0 where
   pub small : length f ≤ maxFile
   pub schema : List Frame
   pub early : All (λ g. kindByte (frameKind g) < kindByte node) schema
-  pub are : map said (lines (drop at f)) ≡ map frames (schema ++ flatMap queryFrames qs)
+  pub are : map (said wide) (lines (drop at f)) ≡ map frames (schema ++ flatMap queryFrames qs)
   pub ended : qs ≡ [] → length f ≤ at
 
 -- Of all words those of the nodes and the query alone may be others.

@@ -11,7 +11,7 @@ use lib.ListN.{length, length-append}
 use Rattle.meaning.specs.Syntax.{Ast}
 use Rattle.meaning.specs.Schema.{Schema}
 use Rattle.meaning.specs.Refusal.{Refusal, workTooShort, tooManyVisits}
-use Rattle.meaning.specs.Frame.{Frame}
+use Rattle.meaning.specs.Frame.{Edition, wide, Frame}
 use Rattle.meaning.specs.Conditions.{maxQueries}
 use Rattle.meaning.specs.File.{Form, described, reading, maxFile}
 use Rattle.meaning.specs.All.{All, Any, Each}
@@ -31,36 +31,36 @@ use Rattle.meaning.proofs.Content.{says-exactly}
 
 -- ---- The file of one query alone passes
 
-pub file-append : (fs gs : List Frame) → fileOf (fs ++ gs) ≡ fileOf fs ++ fileOf gs
+pub file-append : (e : Edition) (fs gs : List Frame) → fileOf e (fs ++ gs) ≡ fileOf e fs ++ fileOf e gs
 unfolding fileOf flatMap
-file-append [] gs = refl
-file-append (f ∷ fs) gs = ap (λ s. hexLine (written f) ++ s) (file-append fs gs) ∙ sym (append-assoc (hexLine (written f)) (fileOf fs) (fileOf gs))
+file-append e [] gs = refl
+file-append e (f ∷ fs) gs = ap (λ s. hexLine (written e f) ++ s) (file-append e fs gs) ∙ sym (append-assoc (hexLine (written e f)) (fileOf e fs) (fileOf e gs))
 
 -- The lines of a form are those of its schema and then those of each query; the file of one alone has the first and its own.
-pub form-lines : (c : Content) → fileOf (framesOf c) ≡ fileOf (schemaFrames c) ++ fileOf (flatMap queryFrames (c .queries))
+pub form-lines : (c : Content) → fileOf wide (framesOf c) ≡ fileOf wide (schemaFrames c) ++ fileOf wide (flatMap queryFrames (c .queries))
 unfolding framesOf
-form-lines c = file-append (schemaFrames c) (flatMap queryFrames (c .queries))
+form-lines c = file-append wide (schemaFrames c) (flatMap queryFrames (c .queries))
 
-pub alone-lines : (c : Content) (a : Ast) → fileAlone c a ≡ fileOf (schemaFrames c) ++ fileOf (queryFrames a)
+pub alone-lines : (c : Content) (a : Ast) → fileAlone c a ≡ fileOf wide (schemaFrames c) ++ fileOf wide (queryFrames a)
 unfolding fileAlone alone framesOf schemaFrames flatMap
-alone-lines c a = ap (λ l. fileOf (schemaFrames c ++ l)) (append-nil (queryFrames a)) ∙ file-append (schemaFrames c) (queryFrames a)
+alone-lines c a = ap (λ l. fileOf wide (schemaFrames c ++ l)) (append-nil (queryFrames a)) ∙ file-append wide (schemaFrames c) (queryFrames a)
 
 abbrev Short : ℕ → Ast → Type 0
-Short n a = length (fileOf (queryFrames a)) ≤ n
+Short n a = length (fileOf wide (queryFrames a)) ≤ n
 
-short-queries : (qs : List Ast) → All (Short (length (fileOf (flatMap queryFrames qs)))) qs
+short-queries : (qs : List Ast) → All (Short (length (fileOf wide (flatMap queryFrames qs)))) qs
 unfolding flatMap
 short-queries [] = tt
 short-queries (a ∷ qs) =
-    let whole : length (fileOf (queryFrames a ++ flatMap queryFrames qs)) ≡ length (fileOf (queryFrames a)) + length (fileOf (flatMap queryFrames qs)) = ap length (file-append (queryFrames a) (flatMap queryFrames qs)) ∙ length-append (fileOf (queryFrames a)) (fileOf (flatMap queryFrames qs)) in
-    (omega (arith, whole), all-map (Short (length (fileOf (flatMap queryFrames qs)))) (Short (length (fileOf (queryFrames a ++ flatMap queryFrames qs)))) qs (λ b h. omega (arith, whole, h)) (short-queries qs))
+    let whole : length (fileOf wide (queryFrames a ++ flatMap queryFrames qs)) ≡ length (fileOf wide (queryFrames a)) + length (fileOf wide (flatMap queryFrames qs)) = ap length (file-append wide (queryFrames a) (flatMap queryFrames qs)) ∙ length-append (fileOf wide (queryFrames a)) (fileOf wide (flatMap queryFrames qs)) in
+    (omega (arith, whole), all-map (Short (length (fileOf wide (flatMap queryFrames qs)))) (Short (length (fileOf wide (queryFrames a ++ flatMap queryFrames qs)))) qs (λ b h. omega (arith, whole, h)) (short-queries qs))
 
-writable-queries : (qs : List Ast) → All Writable (flatMap queryFrames qs) → All (λ a. All Writable (queryFrames a)) qs
+writable-queries : (qs : List Ast) → All (Writable wide) (flatMap queryFrames qs) → All (λ a. All (Writable wide) (queryFrames a)) qs
 unfolding flatMap
 writable-queries [] w = tt
-writable-queries (a ∷ qs) w = (all-left Writable (queryFrames a) (flatMap queryFrames qs) w, writable-queries qs (all-right Writable (queryFrames a) (flatMap queryFrames qs) w))
+writable-queries (a ∷ qs) w = (all-left (Writable wide) (queryFrames a) (flatMap queryFrames qs) w, writable-queries qs (all-right (Writable wide) (queryFrames a) (flatMap queryFrames qs) w))
 
-lawful-alone : (c : Content) (a : Ast) → Lawful c → LawfulQuery (length (c .names)) a → All Writable (queryFrames a) → Lawful (alone c a)
+lawful-alone : (c : Content) (a : Ast) → Lawful wide c → LawfulQuery (length (c .names)) a → All (Writable wide) (queryFrames a) → Lawful wide (alone c a)
 unfolding alone framesOf schemaFrames flatMap maxQueries
 lawful-alone c a h q w =
     record {
@@ -77,29 +77,29 @@ lawful-alone c a h q w =
       queries = (q, tt);
       queriesMin = omega arith;
       queriesMax = omega arith;
-      writable = all-append Writable (schemaFrames c) (queryFrames a ++ []) (all-left Writable (schemaFrames c) (flatMap queryFrames (c .queries)) (h .writable)) (rw append-nil w);
+      writable = all-append (Writable wide) (schemaFrames c) (queryFrames a ++ []) (all-left (Writable wide) (schemaFrames c) (flatMap queryFrames (c .queries)) (h .writable)) (rw append-nil w);
     }
 
 -- "the answer of a file with that query alone": that file passes 1 to 10 and 13
-pub alone-passes : (c : Content) → Lawful c → length (fileOf (framesOf c)) ≤ maxFile → All (λ a. reading (fileAlone c a) ≡ described (describes (alone c a))) (c .queries)
+pub alone-passes : (c : Content) → Lawful wide c → length (fileOf wide (framesOf c)) ≤ maxFile → All (λ a. reading (fileAlone c a) ≡ described (describes (alone c a))) (c .queries)
 unfolding framesOf fileAlone
-alone-passes c h size = go (c .queries) (h .queries) (writable-queries (c .queries) (all-right Writable (schemaFrames c) (flatMap queryFrames (c .queries)) frames)) (short-queries (c .queries))
+alone-passes c h size = go (c .queries) (h .queries) (writable-queries (c .queries) (all-right (Writable wide) (schemaFrames c) (flatMap queryFrames (c .queries)) frames)) (short-queries (c .queries))
   where
-    frames : All Writable (schemaFrames c ++ flatMap queryFrames (c .queries))
+    frames : All (Writable wide) (schemaFrames c ++ flatMap queryFrames (c .queries))
     frames = h .writable
 
     n : ℕ
-    n = length (fileOf (flatMap queryFrames (c .queries)))
+    n = length (fileOf wide (flatMap queryFrames (c .queries)))
 
-    whole : length (fileOf (framesOf c)) ≡ length (fileOf (schemaFrames c)) + n
-    whole = ap length (form-lines c) ∙ length-append (fileOf (schemaFrames c)) (fileOf (flatMap queryFrames (c .queries)))
+    whole : length (fileOf wide (framesOf c)) ≡ length (fileOf wide (schemaFrames c)) + n
+    whole = ap length (form-lines c) ∙ length-append (fileOf wide (schemaFrames c)) (fileOf wide (flatMap queryFrames (c .queries)))
 
-    one : (a : Ast) → LawfulQuery (length (c .names)) a → All Writable (queryFrames a) → Short n a → reading (fileAlone c a) ≡ described (describes (alone c a))
+    one : (a : Ast) → LawfulQuery (length (c .names)) a → All (Writable wide) (queryFrames a) → Short n a → reading (fileAlone c a) ≡ described (describes (alone c a))
     one a q w s =
-        let part : length (fileAlone c a) ≡ length (fileOf (schemaFrames c)) + length (fileOf (queryFrames a)) = ap length (alone-lines c a) ∙ length-append (fileOf (schemaFrames c)) (fileOf (queryFrames a)) in
-        says-exactly (fileAlone c a) (describes (alone c a)) .1 (record { content = alone c a; is = refl; size = omega (arith, part, whole, s, size); lawful = lawful-alone c a h q w; tree = refl })
+        let part : length (fileAlone c a) ≡ length (fileOf wide (schemaFrames c)) + length (fileOf wide (queryFrames a)) = ap length (alone-lines c a) ∙ length-append (fileOf wide (schemaFrames c)) (fileOf wide (queryFrames a)) in
+        says-exactly wide (fileAlone c a) (describes (alone c a)) .1 (record { content = alone c a; is = refl; size = omega (arith, part, whole, s, size); lawful = lawful-alone c a h q w; tree = refl })
 
-    go : (qs : List Ast) → All (LawfulQuery (length (c .names))) qs → All (λ a. All Writable (queryFrames a)) qs → All (Short n) qs → All (λ a. reading (fileAlone c a) ≡ described (describes (alone c a))) qs
+    go : (qs : List Ast) → All (LawfulQuery (length (c .names))) qs → All (λ a. All (Writable wide) (queryFrames a)) qs → All (Short n) qs → All (λ a. reading (fileAlone c a) ≡ described (describes (alone c a))) qs
     go [] l w s = tt
     go (a ∷ qs) l w s = (one a (l .0) (w .0) (s .0), go qs (l .1) (w .1) (s .1))
 
@@ -162,20 +162,20 @@ module _ (text : Message → List ℕ) where
 
 -- ---- The theorems, of a lawful content and the file that it is written as
 
-module _ (c : Content) (lawful : Lawful c) (size : length (fileOf (framesOf c)) ≤ maxFile) (words : ℕ) where
-  is-read : reading (fileOf (framesOf c)) ≡ described (describes c)
-  is-read = says-exactly (fileOf (framesOf c)) (describes c) .1 (record { content = c; is = refl; size = size; lawful = lawful; tree = refl })
+module _ (c : Content) (lawful : Lawful wide c) (size : length (fileOf wide (framesOf c)) ≤ maxFile) (words : ℕ) where
+  is-read : reading (fileOf wide (framesOf c)) ≡ described (describes c)
+  is-read = says-exactly wide (fileOf wide (framesOf c)) (describes c) .1 (record { content = c; is = refl; size = size; lawful = lawful; tree = refl })
 
-  is-decided : ltb words minWords ≡ false → decide (fileOf (framesOf c)) words ≡ decideRun (textIn (describes c)) (runAll (describes c .schema) (c .queries))
+  is-decided : ltb words minWords ≡ false → decide (fileOf wide (framesOf c)) words ≡ decideRun (textIn (describes c)) (runAll (describes c .schema) (c .queries))
   unfolding decide decideRead describes
   is-decided q = rw (q, decide) (ap decideRead is-read)
 
-  lent : (d : Decided) → decide (fileOf (framesOf c)) words ≡ d → d ≢ turnedDown workTooShort → ltb words minWords ≡ false
+  lent : (d : Decided) → decide (fileOf wide (framesOf c)) words ≡ d → d ≢ turnedDown workTooShort → ltb words minWords ≡ false
   unfolding decide
   lent d e n = cases (ltb words minWords) (λ q. absurd (n (sym e ∙ rw (q, decide)))) (λ q. q)
 
   -- "the lines after it equal the answer of a file with that query alone"
-  pub apart : (whole : List ℕ) → 2 ≤ length (c .queries) → decide (fileOf (framesOf c)) words ≡ answered whole → Apart c words whole
+  pub apart : (whole : List ℕ) → 2 ≤ length (c .queries) → decide (fileOf wide (framesOf c)) words ≡ answered whole → Apart c words whole
   unfolding decideRun schema text
   apart whole h e = go (runs (describes c .schema) (c .queries)) (sym (is-decided enough) ∙ e)
     where
@@ -193,21 +193,21 @@ module _ (c : Content) (lawful : Lawful c) (size : length (fileOf (framesOf c)) 
           }
 
   -- 11 exactly where one of the files alone gets 11
-  pub ran-out : (decide (fileOf (framesOf c)) words ≡ turnedDown tooManyVisits) ↔ Any (λ a. decide (fileAlone c a) words ≡ turnedDown tooManyVisits) (c .queries)
+  pub ran-out : (decide (fileOf wide (framesOf c)) words ≡ turnedDown tooManyVisits) ↔ Any (λ a. decide (fileAlone c a) words ≡ turnedDown tooManyVisits) (c .queries)
   unfolding decide decideRun schema text
   ran-out = (λ e. forth e, λ a. back a)
     where
       not-short : turnedDown tooManyVisits ≢ turnedDown workTooShort
       not-short e = let z : _≡_ {A = ℕ} 0 1 = cc in omega arith
 
-      forth : decide (fileOf (framesOf c)) words ≡ turnedDown tooManyVisits → Any (λ a. decide (fileAlone c a) words ≡ turnedDown tooManyVisits) (c .queries)
+      forth : decide (fileOf wide (framesOf c)) words ≡ turnedDown tooManyVisits → Any (λ a. decide (fileAlone c a) words ≡ turnedDown tooManyVisits) (c .queries)
       forth e = go (lent _ e not-short) (runs (describes c .schema) (c .queries)) (sym (is-decided (lent _ e not-short)) ∙ e)
         where
           go : ltb words minWords ≡ false → {o : Option (List Typed)} → Runs (describes c .schema) (c .queries) o → decideRun (textIn (describes c)) o ≡ turnedDown tooManyVisits → Any (λ a. decide (fileAlone c a) words ≡ turnedDown tooManyVisits) (c .queries)
           go n (one-out x) q = any-ran-out c words n (c .queries) (alone-passes c lawful size) x
           go n (all-ran ts x) q = absurd (clashing q)
 
-      back : Any (λ a. decide (fileAlone c a) words ≡ turnedDown tooManyVisits) (c .queries) → decide (fileOf (framesOf c)) words ≡ turnedDown tooManyVisits
+      back : Any (λ a. decide (fileAlone c a) words ≡ turnedDown tooManyVisits) (c .queries) → decide (fileOf wide (framesOf c)) words ≡ turnedDown tooManyVisits
       back a = cases (ltb words minWords) (λ q. absurd (short-all q (c .queries) a)) (λ q. is-decided q ∙ go q (runs (describes c .schema) (c .queries)))
         where
           short-one : ltb words minWords ≡ true → (file : List ℕ) → decide file words ≡ turnedDown workTooShort

@@ -5,9 +5,9 @@ use Prim.Native.Nat.{ℕ, _/_}
 use native.Mathlib.Omega.{arith}
 use Rattle.unification.specs.Ty.{Int, String, Bytes, Fact}
 use Rattle.meaning.specs.Syntax.{Field, QueryStmt, Query, FieldRef, Literal, ExprKind, Node}
-use Rattle.meaning.specs.Frame.{Kind, kindByte, Alternative, TypeShape, aLeaf, aRecord, aUnion, Frame, theLimits, aName, aType, aPredicate, aNode, theQuery, frameKind}
+use Rattle.meaning.specs.Frame.{Edition, narrow, wide, Kind, kindByte, Alternative, TypeShape, aLeaf, aRecord, aUnion, Frame, theLimits, aName, aType, aPredicate, aNode, theQuery, frameKind}
 use Rattle.meaning.specs.All.{All}
-use Rattle.meaning.specs.Writing.{Byte, InTwo, asField, asAlternative, asShape, asValueType, asStatement, asQuery, asExpr, asNode, asContent, written, FieldFits, AlternativeFits, ShapeFits, ValueTypeFits, StatementFits, QueryFits, ExprFits, NodeFits, Fits}
+use Rattle.meaning.specs.Writing.{Byte, InTwo, asField, asAlternative, asReference, asShape, asValueType, asStatement, asQuery, asExpr, asNode, asContent, written, FieldFits, AlternativeFits, ReferenceFits, ShapeFits, ValueTypeFits, StatementFits, QueryFits, ExprFits, NodeFits, Fits}
 use Rattle.meaning.specs.Answer.{bytes₂, bytes₄}
 use Rattle.meaning.proofs.Lists.{all-append}
 
@@ -38,14 +38,19 @@ alternative : (a : Alternative) → AlternativeFits a → All Byte (asAlternativ
 unfolding asAlternative
 alternative a h = join (bytes₂ (a .name) ++ bytes₄ (a .discriminant)) (bytes₂ (a .type)) (join (bytes₂ (a .name)) (bytes₄ (a .discriminant)) (two (a .name)) (four (a .discriminant))) (two (a .type))
 
-shape : (t : TypeShape) → ShapeFits t → All Byte (asShape t)
+reference : (e : Edition) (p : ℕ) → All Byte (asReference e p)
+unfolding asReference
+reference narrow p = two p
+reference wide p = four p
+
+shape : (e : Edition) (t : TypeShape) → ShapeFits e t → All Byte (asShape e t)
 unfolding asShape
-shape (aLeaf Int) h = (omega arith, tt)
-shape (aLeaf String) h = (omega arith, tt)
-shape (aLeaf Bytes) h = (omega arith, tt)
-shape (aLeaf (Fact p)) h = (omega arith, two p)
-shape (aRecord fs) h = (omega arith, each asField FieldFits field fs h)
-shape (aUnion alts) h = (omega arith, each asAlternative AlternativeFits alternative alts h)
+shape e (aLeaf Int) h = (omega arith, tt)
+shape e (aLeaf String) h = (omega arith, tt)
+shape e (aLeaf Bytes) h = (omega arith, tt)
+shape e (aLeaf (Fact p)) h = (omega arith, reference e p)
+shape e (aRecord fs) h = (omega arith, each asField FieldFits field fs h)
+shape e (aUnion alts) h = (omega arith, each asAlternative AlternativeFits alternative alts h)
 
 value : (v : Option ℕ) → ValueTypeFits v → All Byte (asValueType v)
 unfolding asValueType
@@ -64,38 +69,38 @@ query : (q : Query) → QueryFits q → All Byte (asQuery q)
 unfolding asQuery
 query q h = join (bytes₂ (q .head)) (flatMap asStatement (q .body)) (two (q .head)) (each asStatement StatementFits statement (q .body) (h .1))
 
-expr : (x : ExprKind) → ExprFits x → All Byte (asExpr x)
+expr : (e : Edition) (x : ExprKind) → ExprFits e x → All Byte (asExpr e x)
 unfolding asExpr
-expr (ExprKind.Lit Literal.Int) h = (omega arith, tt)
-expr (ExprKind.Lit Literal.Str) h = (omega arith, tt)
-expr (ExprKind.Lit Literal.Bytes) h = (omega arith, tt)
-expr (ExprKind.Var x) h = (omega arith, two x)
-expr ExprKind.Wildcard h = (omega arith, tt)
-expr ExprKind.Never h = (omega arith, tt)
-expr (ExprKind.Prefix x) h = (omega arith, two x)
-expr (ExprKind.Fuzzy x d) h = (omega arith, join (bytes₂ x) (d ∷ []) (two x) (h .1, tt))
-expr (ExprKind.Record fs) h = (omega arith, each asField FieldFits field fs h)
-expr (ExprKind.Access (FieldRef.Key x) e) h = (omega arith, twos x e)
-expr (ExprKind.Access FieldRef.Value e) h = (omega arith, two e)
-expr (ExprKind.Disjunction es) h = (omega arith, each bytes₂ InTwo (λ n b. two n) es h)
-expr (ExprKind.Subquery q) h = (omega arith, query q h)
-expr (ExprKind.Fact p e) h = (omega arith, twos p e)
-expr (ExprKind.Arith es) h = (omega arith, each bytes₂ InTwo (λ n b. two n) es h)
-expr ExprKind.Error h = (omega arith, tt)
-expr (ExprKind.Select x e) h = (omega arith, twos x e)
+expr e (ExprKind.Lit Literal.Int) h = (omega arith, tt)
+expr e (ExprKind.Lit Literal.Str) h = (omega arith, tt)
+expr e (ExprKind.Lit Literal.Bytes) h = (omega arith, tt)
+expr e (ExprKind.Var x) h = (omega arith, two x)
+expr e ExprKind.Wildcard h = (omega arith, tt)
+expr e ExprKind.Never h = (omega arith, tt)
+expr e (ExprKind.Prefix x) h = (omega arith, two x)
+expr e (ExprKind.Fuzzy x d) h = (omega arith, join (bytes₂ x) (d ∷ []) (two x) (h .1, tt))
+expr e (ExprKind.Record fs) h = (omega arith, each asField FieldFits field fs h)
+expr e (ExprKind.Access (FieldRef.Key n) x) h = (omega arith, twos n x)
+expr e (ExprKind.Access FieldRef.Value x) h = (omega arith, two x)
+expr e (ExprKind.Disjunction es) h = (omega arith, each bytes₂ InTwo (λ n b. two n) es h)
+expr e (ExprKind.Subquery q) h = (omega arith, query q h)
+expr e (ExprKind.Fact p x) h = (omega arith, join (asReference e p) (bytes₂ x) (reference e p) (two x))
+expr e (ExprKind.Arith es) h = (omega arith, each bytes₂ InTwo (λ n b. two n) es h)
+expr e ExprKind.Error h = (omega arith, tt)
+expr e (ExprKind.Select n x) h = (omega arith, twos n x)
 
-node : (n : Node) → NodeFits n → All Byte (asNode n)
+node : (e : Edition) (n : Node) → NodeFits e n → All Byte (asNode e n)
 unfolding asNode
-node n h = join (bytes₄ (n .span .start) ++ bytes₄ (n .span .end)) (asExpr (n .kind)) (join (bytes₄ (n .span .start)) (bytes₄ (n .span .end)) (four (n .span .start)) (four (n .span .end))) (expr (n .kind) (h .2))
+node e n h = join (bytes₄ (n .span .start) ++ bytes₄ (n .span .end)) (asExpr e (n .kind)) (join (bytes₄ (n .span .start)) (bytes₄ (n .span .end)) (four (n .span .start)) (four (n .span .end))) (expr e (n .kind) (h .2))
 
-content : (f : Frame) → Fits f → All Byte (asContent f)
+content : (e : Edition) (f : Frame) → Fits e f → All Byte (asContent e f)
 unfolding asContent
-content (theLimits d t) h = (h .0, two t)
-content (aName s) h = h
-content (aType t) h = shape t h
-content (aPredicate n k v) h = join (bytes₂ n ++ bytes₂ k) (asValueType v) (twos n k) (value v (h .2))
-content (aNode n) h = node n h
-content (theQuery q) h = query q h
+content e (theLimits d t) h = (h .0, two t)
+content e (aName s) h = h
+content e (aType t) h = shape e t h
+content e (aPredicate n k v) h = join (bytes₂ n ++ bytes₂ k) (asValueType v) (twos n k) (value v (h .2))
+content e (aNode n) h = node e n h
+content e (theQuery q) h = query q h
 
 kind : (k : Kind) → Byte (kindByte k)
 unfolding kindByte
@@ -106,6 +111,6 @@ kind Kind.predicate = omega arith
 kind Kind.node = omega arith
 kind Kind.query = omega arith
 
-pub written-bytes : (f : Frame) → Fits f → All Byte (written f)
+pub written-bytes : (e : Edition) (f : Frame) → Fits e f → All Byte (written e f)
 unfolding written
-written-bytes f h = (kind (frameKind f), content f h)
+written-bytes e f h = (kind (frameKind f), content e f h)

@@ -8,9 +8,9 @@ use mathlib.Core.Path.{_≡_, refl, sym, ap, subst, _∙_}
 use Prim.Native.Nat.{ℕ}
 use native.Mathlib.Omega.{arith}
 use lib.ListN.{length, length-map}
-use Rattle.meaning.specs.Frame.{Kind, limits, mayStand, kindByte, Frame, theLimits, aName, aType, aPredicate, aNode, theQuery, frameKind}
+use Rattle.meaning.specs.Frame.{Edition, Kind, limits, mayStand, kindByte, Frame, theLimits, aName, aType, aPredicate, aNode, theQuery, frameKind}
 use Rattle.meaning.specs.SoFar.{SoFar, start, add}
-use Rattle.meaning.specs.File.{Form, schemaOf, describe, described, reading}
+use Rattle.meaning.specs.File.{Form, schemaOf, describe, described, readingOf}
 use Rattle.meaning.specs.All.{All}
 use Rattle.meaning.specs.Writing.{fileOf, Writable}
 use Rattle.meaning.proofs.Obeys.{Obeys, Rules, done, next, Written}
@@ -32,7 +32,7 @@ record Held (fs : List Frame) (end : SoFar) : Type 0 where
   queries : end .queries ≡ content .queries
   distance : end .maxDistance ≡ content .maxDistance
   termChars : end .maxTermChars ≡ content .maxTermChars
-  lawful : All Writable fs → Lawful content
+  lawful : (ed : Edition) → All (Writable ed) fs → Lawful ed content
 
 -- the frames after the limits
 after-limits : (d t : ℕ) (fs : List Frame) (end : SoFar) → end .previous ≡ some Kind.query → Kept end → Grouped limits (add start (theLimits d t)) fs end → Held (theLimits d t ∷ fs) end
@@ -54,7 +54,7 @@ after-limits d t fs end e k g =
       queries = queries;
       distance = g .endDistance;
       termChars = g .endTermChars;
-      lawful = λ w. record {
+      lawful = λ ed w. record {
         namesMax = rw (g .endNames) at (k .namesMax);
         typesMax = rw types at (k .typesMax);
         predicatesMax = rw predicates at (k .predicatesMax);
@@ -68,7 +68,7 @@ after-limits d t fs end e k g =
         queries = rw (g .endNames, queries) at (k .queries);
         queriesMin = rw queries at (k .oneEnded e);
         queriesMax = rw queries at (k .queriesMax);
-        writable = subst (All Writable) are w;
+        writable = subst (All (Writable ed)) are w;
       };
     }
   where
@@ -106,20 +106,20 @@ held-tree {end = end} h =
 
 -- ---- The theorem
 
-passes : (file : List ℕ) (d : Form) → Written file d → Says file d
-passes file d w =
+passes : (ed : Edition) (file : List ℕ) (d : Form) → Written ed file d → Says ed file d
+passes ed file d w =
     let h = held (w .these) (w .end) (w .last) (w .rules) in
     record {
       content = h .content;
-      is = w .is ∙ ap fileOf (h .are);
+      is = w .is ∙ ap (fileOf ed) (h .are);
       size = w .size;
-      lawful = h .lawful (w .writable);
+      lawful = h .lawful ed (w .writable);
       tree = w .describes ∙ held-tree h;
     }
 
-accepts : (file : List ℕ) (d : Form) → Says file d → Written file d
+accepts : (ed : Edition) (file : List ℕ) (d : Form) → Says ed file d → Written ed file d
 unfolding endOf
-accepts file d s =
+accepts ed file d s =
     record {
       these = framesOf (s .content);
       is = s .is;
@@ -132,5 +132,5 @@ accepts file d s =
     }
 
 -- A file passes 2 to 10 and 13 and describes d exactly where it is the writing of a lawful content that describes d.
-pub says-exactly : (file : List ℕ) (d : Form) → (reading file ≡ described d) ↔ Says file d
-says-exactly file d = (λ e. passes file d (described-exactly file d .0 e), λ s. described-exactly file d .1 (accepts file d s))
+pub says-exactly : (ed : Edition) (file : List ℕ) (d : Form) → (readingOf ed file ≡ described d) ↔ Says ed file d
+says-exactly ed file d = (λ e. passes ed file d (described-exactly ed file d .0 e), λ s. described-exactly ed file d .1 (accepts ed file d s))

@@ -9,6 +9,7 @@ use lib.Dec.{ltb}
 use lib.ListN.{length, replicate}
 use borrow.Author.Tests.{ltb-true, ltb-false, lt-ltb, le-ltb}
 use Rattle.meaning.specs.Refusal.{Refusal, workTooShort, brokenText, tooManyVisits, answerTooLong}
+use Rattle.meaning.specs.Frame.{wide}
 use Rattle.meaning.specs.Refused as Lines
 use Rattle.meaning.specs.Syntax.{Ast}
 use Rattle.meaning.specs.All.{All, Any, Each}
@@ -41,7 +42,7 @@ module _ (file : List ℕ) (words : ℕ) where
 
   data Decides : Decided → Type 0 where
     short : words < minWords → Decides (turnedDown workTooShort)
-    unread : {i : Refusal} → minWords ≤ words → Lines.Refused file i → Decides (turnedDown i)
+    unread : {i : Refusal} → minWords ≤ words → Lines.Refused wide file i → Decides (turnedDown i)
     spent : (f : Form) → minWords ≤ words → reading file ≡ described f → Any (RanOut (f .schema)) (f .queries) → Decides (turnedDown tooManyVisits)
     answers : (f : Form) (ts : List Typed) → minWords ≤ words → reading file ≡ described f → Each (Ran (f .schema)) (f .queries) ts → Decides (answered (formLines (textIn f) ts))
 
@@ -53,9 +54,9 @@ module _ (file : List ℕ) (words : ℕ) where
   unfolding decide
   enough-decides h = rw (le-ltb words minWords h, decide)
 
-  pub unread-decides : (i : Refusal) → minWords ≤ words → Lines.Refused file i → decide file words ≡ turnedDown i
+  pub unread-decides : (i : Refusal) → minWords ≤ words → Lines.Refused wide file i → decide file words ≡ turnedDown i
   unfolding decideRead
-  unread-decides i h r = enough-decides h ∙ ap decideRead (refused-when file i .1 r)
+  unread-decides i h r = enough-decides h ∙ ap decideRead (refused-when wide file i .1 r)
 
   pub reads-decides : (f : Form) (x : Option (List Typed)) → minWords ≤ words → reading file ≡ described f → runAll (f .schema) (f .queries) ≡ x → decide file words ≡ decideRun (textIn f) x
   unfolding decideRead
@@ -72,7 +73,7 @@ module _ (file : List ℕ) (words : ℕ) where
       checks h f s (one-out r) e = subst Decides (sym (reads-decides f none h s e)) (spent f h s r)
 
       read : minWords ≤ words → (r : Reading) → reading file ≡ r → Decides (decide file words)
-      read h (refused i) e = let r = refused-when file i .0 e in subst Decides (sym (unread-decides i h r)) (unread h r)
+      read h (refused i) e = let r = refused-when wide file i .0 e in subst Decides (sym (unread-decides i h r)) (unread h r)
       read h (described f) e = checks h f e (runs (f .schema) (f .queries)) refl
 
   module _ (bytes : ℕ) where
@@ -125,16 +126,16 @@ module _ (file : List ℕ) (words : ℕ) where
       accepted-exactly = (λ e. passed ends e, λ h. ap Outcome.result (accepts (h .0) (h .1) (h .2)));
       refused-zeros = λ i e. blank i ends e;
       work-zeros = cleared ends;
-      text-refused = (λ e. broken-when (why brokenText ends e) refl, λ h. ap Outcome.result (refuses brokenText (for-file (h .0) (broken-exactly file .1 (h .1)))));
+      text-refused = (λ e. broken-when (why brokenText ends e) refl, λ h. ap Outcome.result (refuses brokenText (for-file (h .0) (broken-exactly wide file .1 (h .1)))));
     }
       where
         why : (i : Refusal) {o : Outcome} → Ends o → o .result ≡ Refused i → RefusedWhen file words bytes i
         why i (refused-so j h) e = let same : i ≡ j = cc in rw same h
         why i (accepted-so d t h) e = let z : _≡_ {A = ℕ} 0 1 = cc in absurd (omega arith)
 
-        broken-when : {i : Refusal} → RefusedWhen file words bytes i → i ≡ brokenText → (minWords ≤ words) × Lines.BrokenText file
+        broken-when : {i : Refusal} → RefusedWhen file words bytes i → i ≡ brokenText → (minWords ≤ words) × Lines.BrokenText wide file
         broken-when (for-work h) e = let z : _≡_ {A = ℕ} 0 1 = cc in absurd (omega arith)
-        broken-when (for-file h r) e = (h, broken-exactly file .0 (subst (Lines.Refused file) e r))
+        broken-when (for-file h r) e = (h, broken-exactly wide file .0 (subst (Lines.Refused wide file) e r))
         broken-when (for-visits f h s c) e = let z : _≡_ {A = ℕ} 0 1 = cc in absurd (omega arith)
         broken-when (for-answer f ts h s c l) e = let z : _≡_ {A = ℕ} 0 1 = cc in absurd (omega arith)
 

@@ -1,15 +1,15 @@
 -- A frame is read from its bytes and from no others: production by production.
-use mathlib.Core.List.{List, [], _++_, flatMap, append-nil}
+use mathlib.Core.List.{List, [], _++_, flatMap, append-nil, append-assoc}
 use mathlib.Core.Option.{Option, none, some}
-use mathlib.Core.Path.{_≡_, refl}
+use mathlib.Core.Path.{_≡_, refl, ap, _∙_}
 use Prim.Native.Nat.{ℕ, _<_}
 use native.Mathlib.Omega.{arith}
 use lib.ListN.{length}
 use Rattle.unification.specs.Ty.{Int, String, Bytes, Fact}
 use Rattle.meaning.specs.Syntax.{Field, QueryStmt, FieldRef, Literal, ExprKind}
-use Rattle.meaning.specs.Frame.{Kind, Alternative, TypeShape, aLeaf, aRecord, aUnion, Frame, theLimits, aName, aType, aPredicate, aNode, theQuery, frameKind, got, nothing, two, many, entry, choice, field, alternative, typeShapes, valueTypes, statements, headAndBody, exprKinds, spanAndKind, rest, frame}
+use Rattle.meaning.specs.Frame.{Edition, narrow, wide, Kind, Alternative, TypeShape, aLeaf, aRecord, aUnion, Frame, theLimits, aName, aType, aPredicate, aNode, theQuery, frameKind, got, nothing, pair, two, many, entry, choice, field, alternative, reference, typeShapes, valueTypes, statements, headAndBody, exprKinds, spanAndKind, rest, frame}
 use Rattle.meaning.specs.All.{All}
-use Rattle.meaning.specs.Writing.{Byte, InTwo, asField, asAlternative, asShape, asValueType, asStatement, asQuery, asExpr, asNode, asContent, FieldFits, AlternativeFits, ShapeFits, ValueTypeFits, StatementFits, QueryFits, ExprFits, NodeFits, Fits}
+use Rattle.meaning.specs.Writing.{Byte, InTwo, asField, asAlternative, asReference, asShape, asValueType, asStatement, asQuery, asExpr, asNode, asContent, FieldFits, AlternativeFits, ReferenceFits, ShapeFits, ValueTypeFits, StatementFits, QueryFits, ExprFits, NodeFits, Fits}
 use Rattle.meaning.specs.Answer.{bytes₂}
 use Rattle.meaning.proofs.Inverse.{Took, Inverse, Anything, Nothing, one-back, one-forth, pair-back, pair-forth, triple-back, triple-forth, pair-inverse, triple-inverse, byte-inverse, two-inverse, four-inverse, many-inverse, Entries, end, _then_, choice-forth, entry-nothing, entry-one, entry-pair}
 
@@ -77,24 +77,29 @@ query-inverse : Inverse Nothing headAndBody asQuery QueryFits
 unfolding headAndBody asQuery
 query-inverse = pair-inverse (λ head body. record { head = head; body = body }) two-inverse statements-inverse asQuery QueryFits (λ q. q .head) (λ q. q .body) (λ q. refl) (λ q. refl) (λ a b. refl) (λ q h. h) (λ a b x y. (x, y))
 
-shape-inverse : Inverse Nothing (choice typeShapes) asShape ShapeFits
+reference-inverse : (e : Edition) → Inverse Anything (reference e) (asReference e) (ReferenceFits e)
+unfolding reference asReference
+reference-inverse narrow = two-inverse
+reference-inverse wide = four-inverse
+
+shape-inverse : (e : Edition) → Inverse Nothing (choice (typeShapes e)) (asShape e) (ShapeFits e)
 unfolding typeShapes asShape choice entry nothing
-shape-inverse = record { back = back; forth = choice-forth asShape ShapeFits typeShapes entries }
+shape-inverse ed = record { back = back; forth = choice-forth (asShape ed) (ShapeFits ed) (typeShapes ed) entries }
   where
-    back : (s : TypeShape) (t : List ℕ) → ShapeFits s → t ≡ [] → choice typeShapes (asShape s ++ t) ≡ got s t
+    back : (s : TypeShape) (t : List ℕ) → ShapeFits ed s → t ≡ [] → choice (typeShapes ed) (asShape ed s ++ t) ≡ got s t
     back (aLeaf Int) t f e = refl
     back (aLeaf String) t f e = refl
     back (aLeaf Bytes) t f e = refl
-    back (aLeaf (Fact p)) t f e = one-back (λ x. aLeaf (Fact x)) two-inverse p t f tt
+    back (aLeaf (Fact p)) t f e = one-back (λ x. aLeaf (Fact x)) (reference-inverse ed) p t f tt
     back (aRecord fs) t f e = one-back aRecord fields-inverse fs t f e
     back (aUnion alts) t f e = one-back aUnion alternatives-inverse alts t f e
 
-    entries : Entries asShape ShapeFits 0 typeShapes
+    entries : Entries (asShape ed) (ShapeFits ed) 0 (typeShapes ed)
     entries =
         entry-nothing _ _ 0x00 (aLeaf Int) refl tt then
         entry-nothing _ _ 0x01 (aLeaf String) refl tt then
         entry-nothing _ _ 0x02 (aLeaf Bytes) refl tt then
-        entry-one _ _ 0x03 (λ x. aLeaf (Fact x)) two-inverse (λ a. refl) (λ a x. x) then
+        entry-one _ _ 0x03 (λ x. aLeaf (Fact x)) (reference-inverse ed) (λ a. refl) (λ a x. x) then
         entry-one _ _ 0x04 aRecord fields-inverse (λ a. refl) (λ a x. x) then
         entry-one _ _ 0x05 aUnion alternatives-inverse (λ a. refl) (λ a x. x) then
         end
@@ -113,11 +118,11 @@ value-inverse = record { back = back; forth = choice-forth asValueType ValueType
         entry-one _ _ 0x01 some two-inverse (λ a. refl) (λ a x. x) then
         end
 
-expr-inverse : Inverse Nothing (choice exprKinds) asExpr ExprFits
+expr-inverse : (e : Edition) → Inverse Nothing (choice (exprKinds e)) (asExpr e) (ExprFits e)
 unfolding exprKinds asExpr choice entry nothing
-expr-inverse = record { back = back; forth = choice-forth asExpr ExprFits exprKinds entries }
+expr-inverse ed = record { back = back; forth = choice-forth (asExpr ed) (ExprFits ed) (exprKinds ed) entries }
   where
-    back : (x : ExprKind) (t : List ℕ) → ExprFits x → t ≡ [] → choice exprKinds (asExpr x ++ t) ≡ got x t
+    back : (x : ExprKind) (t : List ℕ) → ExprFits ed x → t ≡ [] → choice (exprKinds ed) (asExpr ed x ++ t) ≡ got x t
     back (ExprKind.Lit Literal.Int) t f e = refl
     back (ExprKind.Lit Literal.Str) t f e = refl
     back (ExprKind.Lit Literal.Bytes) t f e = refl
@@ -131,12 +136,14 @@ expr-inverse = record { back = back; forth = choice-forth asExpr ExprFits exprKi
     back (ExprKind.Access FieldRef.Value y) t f e = one-back (ExprKind.Access FieldRef.Value) two-inverse y t f tt
     back (ExprKind.Disjunction es) t f e = one-back ExprKind.Disjunction twos-inverse es t f e
     back (ExprKind.Subquery q) t f e = one-back ExprKind.Subquery query-inverse q t f e
-    back (ExprKind.Fact p y) t f e = pair-back ExprKind.Fact two-inverse two-inverse p y t (f .0) (f .1) tt
+    back (ExprKind.Fact p y) t f e =
+        ap (λ s. pair ExprKind.Fact (reference ed) two s) (append-assoc (asReference ed p) (bytes₂ y) t)
+        ∙ pair-back ExprKind.Fact (reference-inverse ed) two-inverse p y t (f .0) (f .1) tt
     back (ExprKind.Arith es) t f e = one-back ExprKind.Arith twos-inverse es t f e
     back ExprKind.Error t f e = refl
     back (ExprKind.Select x y) t f e = pair-back ExprKind.Select two-inverse two-inverse x y t (f .0) (f .1) tt
 
-    entries : Entries asExpr ExprFits 0 exprKinds
+    entries : Entries (asExpr ed) (ExprFits ed) 0 (exprKinds ed)
     entries =
         entry-nothing _ _ 0x00 (ExprKind.Lit Literal.Int) refl tt then
         entry-nothing _ _ 0x01 (ExprKind.Lit Literal.Str) refl tt then
@@ -151,15 +158,15 @@ expr-inverse = record { back = back; forth = choice-forth asExpr ExprFits exprKi
         entry-one _ _ 0x0a (ExprKind.Access FieldRef.Value) two-inverse (λ a. refl) (λ a x. x) then
         entry-one _ _ 0x0b ExprKind.Disjunction twos-inverse (λ a. refl) (λ a x. x) then
         entry-one _ _ 0x0c ExprKind.Subquery query-inverse (λ a. refl) (λ a x. x) then
-        entry-pair _ _ 0x0d ExprKind.Fact two-inverse two-inverse (λ a b. refl) (λ a b x y. (x, y)) then
+        entry-pair _ _ 0x0d ExprKind.Fact (reference-inverse ed) two-inverse (λ a b. refl) (λ a b x y. (x, y)) then
         entry-one _ _ 0x0e ExprKind.Arith twos-inverse (λ a. refl) (λ a x. x) then
         entry-nothing _ _ 0x0f ExprKind.Error refl tt then
         entry-pair _ _ 0x10 ExprKind.Select two-inverse two-inverse (λ a b. refl) (λ a b x y. (x, y)) then
         end
 
-node-inverse : Inverse Nothing spanAndKind asNode NodeFits
+node-inverse : (e : Edition) → Inverse Nothing (spanAndKind e) (asNode e) (NodeFits e)
 unfolding spanAndKind asNode
-node-inverse = triple-inverse (λ start end kind. record { span = record { start = start; end = end }; kind = kind }) four-inverse four-inverse expr-inverse asNode NodeFits (λ n. n .span .start) (λ n. n .span .end) (λ n. n .kind) (λ n. refl) (λ n. refl) (λ a b c. refl) (λ n h. h) (λ a b c x y z. (x, y, z))
+node-inverse e = triple-inverse (λ start end kind. record { span = record { start = start; end = end }; kind = kind }) four-inverse four-inverse (expr-inverse e) (asNode e) (NodeFits e) (λ n. n .span .start) (λ n. n .span .end) (λ n. n .kind) (λ n. refl) (λ n. refl) (λ a b c. refl) (λ n h. h) (λ a b c x y z. (x, y, z))
 
 text-inverse : Inverse Nothing rest (λ s. s) (All Byte)
 unfolding rest
@@ -173,25 +180,25 @@ text-inverse = record { back = λ s t f e. rw (e, append-nil); forth = forth }
 
 -- ---- Frames
 
-pub content-back : (f : Frame) → Fits f → frame (frameKind f) (asContent f ++ []) ≡ got f []
+pub content-back : (e : Edition) (f : Frame) → Fits e f → frame e (frameKind f) (asContent e f ++ []) ≡ got f []
 unfolding frame frameKind asContent
-content-back (theLimits d t) h = pair-back theLimits byte-inverse two-inverse d t [] (h .0) (h .1) tt
-content-back (aName s) h = one-back aName text-inverse s [] h refl
-content-back (aType t) h = one-back aType shape-inverse t [] h refl
-content-back (aPredicate n k v) h = triple-back aPredicate two-inverse two-inverse value-inverse n k v [] (h .0) (h .1) (h .2) tt
-content-back (aNode n) h = one-back aNode node-inverse n [] h refl
-content-back (theQuery q) h = one-back theQuery query-inverse q [] h refl
+content-back e (theLimits d t) h = pair-back theLimits byte-inverse two-inverse d t [] (h .0) (h .1) tt
+content-back e (aName s) h = one-back aName text-inverse s [] h refl
+content-back e (aType t) h = one-back aType (shape-inverse e) t [] h refl
+content-back e (aPredicate n k v) h = triple-back aPredicate two-inverse two-inverse value-inverse n k v [] (h .0) (h .1) (h .2) tt
+content-back e (aNode n) h = one-back aNode (node-inverse e) n [] h refl
+content-back e (theQuery q) h = one-back theQuery query-inverse q [] h refl
 
-pub record FrameTook (k : Kind) (s : List ℕ) (f : Frame) (t : List ℕ) : Type 0 where
+pub record FrameTook (e : Edition) (k : Kind) (s : List ℕ) (f : Frame) (t : List ℕ) : Type 0 where
   pub kind : frameKind f ≡ k
-  pub bytes : s ≡ asContent f ++ t
-  pub fits : Fits f
+  pub bytes : s ≡ asContent e f ++ t
+  pub fits : Fits e f
 
-pub content-forth : (k : Kind) (s : List ℕ) (f : Frame) (t : List ℕ) → All Byte s → frame k s ≡ got f t → FrameTook k s f t
+pub content-forth : (e : Edition) (k : Kind) (s : List ℕ) (f : Frame) (t : List ℕ) → All Byte s → frame e k s ≡ got f t → FrameTook e k s f t
 unfolding frame frameKind asContent
-content-forth Kind.limits s f t h e = let k = pair-forth theLimits byte-inverse two-inverse s f t h e in record { kind = rw (k .is); bytes = rw (k .is) (k .bytes); fits = rw (k .is) (k .fits, k .fits′) }
-content-forth Kind.name s f t h e = let k = one-forth aName text-inverse s f t h e in record { kind = rw (k .is); bytes = rw (k .is) (k .took .bytes); fits = rw (k .is) (k .took .fits) }
-content-forth Kind.schemaType s f t h e = let k = one-forth aType shape-inverse s f t h e in record { kind = rw (k .is); bytes = rw (k .is) (k .took .bytes); fits = rw (k .is) (k .took .fits) }
-content-forth Kind.predicate s f t h e = let k = triple-forth aPredicate two-inverse two-inverse value-inverse s f t h e in record { kind = rw (k .is); bytes = rw (k .is) (k .bytes); fits = rw (k .is) (k .fits, k .fits′, k .fits″) }
-content-forth Kind.node s f t h e = let k = one-forth aNode node-inverse s f t h e in record { kind = rw (k .is); bytes = rw (k .is) (k .took .bytes); fits = rw (k .is) (k .took .fits) }
-content-forth Kind.query s f t h e = let k = one-forth theQuery query-inverse s f t h e in record { kind = rw (k .is); bytes = rw (k .is) (k .took .bytes); fits = rw (k .is) (k .took .fits) }
+content-forth e Kind.limits s f t h q = let k = pair-forth theLimits byte-inverse two-inverse s f t h q in record { kind = rw (k .is); bytes = rw (k .is) (k .bytes); fits = rw (k .is) (k .fits, k .fits′) }
+content-forth e Kind.name s f t h q = let k = one-forth aName text-inverse s f t h q in record { kind = rw (k .is); bytes = rw (k .is) (k .took .bytes); fits = rw (k .is) (k .took .fits) }
+content-forth e Kind.schemaType s f t h q = let k = one-forth aType (shape-inverse e) s f t h q in record { kind = rw (k .is); bytes = rw (k .is) (k .took .bytes); fits = rw (k .is) (k .took .fits) }
+content-forth e Kind.predicate s f t h q = let k = triple-forth aPredicate two-inverse two-inverse value-inverse s f t h q in record { kind = rw (k .is); bytes = rw (k .is) (k .bytes); fits = rw (k .is) (k .fits, k .fits′, k .fits″) }
+content-forth e Kind.node s f t h q = let k = one-forth aNode (node-inverse e) s f t h q in record { kind = rw (k .is); bytes = rw (k .is) (k .took .bytes); fits = rw (k .is) (k .took .fits) }
+content-forth e Kind.query s f t h q = let k = one-forth theQuery query-inverse s f t h q in record { kind = rw (k .is); bytes = rw (k .is) (k .took .bytes); fits = rw (k .is) (k .took .fits) }

@@ -11,7 +11,7 @@ use Rattle.text.specs.Utf8.{Text}
 use Rattle.unification.specs.Ty.{Ty}
 use Rattle.meaning.specs.Syntax.{Query, Node, Ast}
 use Rattle.meaning.specs.Schema.{Predicate}
-use Rattle.meaning.specs.Frame.{Kind, limits, name, schemaType, predicate, node, query, kindByte, repeatable, rises, follows, mayStand, TypeShape, Frame, theLimits, aName, aType, aNode, theQuery, frameKind}
+use Rattle.meaning.specs.Frame.{Edition, Kind, limits, name, schemaType, predicate, node, query, kindByte, repeatable, rises, follows, mayStand, TypeShape, Frame, theLimits, aName, aType, aNode, theQuery, frameKind}
 use Rattle.meaning.specs.References.{shapeNames, shapeKeys, optional, exprNames, exprNodes, queryNodes, nameRefs, typeRefs, nodeRefs, textsOf, keysOf}
 use Rattle.meaning.specs.SoFar.{SoFar, start, tyOf, add}
 use Rattle.meaning.specs.Conditions.{maxNames, maxTypes, maxPredicates, maxNodes, maxQueries}
@@ -214,7 +214,7 @@ limits-obey : (d t : ℕ) → Obeys start (theLimits d t)
 unfolding start mayStand kindByte frameKind textsOf nameRefs typeRefs nodeRefs keysOf
 limits-obey d t = record { placed = refl; room = tt; text = tt; new = tt; names = tt; types = tt; nodes = tt; unnamed = tt; once = tt; keys = tt }
 
-pub lawful-rules : (c : Content) → Lawful c → Rules start (framesOf c) (endOf c)
+pub lawful-rules : {ed : Edition} (c : Content) → Lawful ed c → Rules start (framesOf c) (endOf c)
 unfolding framesOf schemaFrames endOf start add state Ready
 lawful-rules c h =
     let d = c .maxDistance in

@@ -12,7 +12,7 @@ use lib.ListN.{length}
 use borrow.Author.Tests.{eqb-false, ne-eqb, leb-true, leb-false, lt-leb, le-leb}
 use Rattle.text.specs.Utf8.{oneMore}
 use Rattle.meaning.specs.Lines.{Line, closed, unclosed, LF, lines, position, digits, digit, pair, decoded, maxBytes, atMost, someBytes, bytesOf}
-use Rattle.meaning.specs.Frame.{Kind, kindByte, kindOf, Frame, frameKind, frameOf}
+use Rattle.meaning.specs.Frame.{Edition, Kind, kindByte, kindOf, Frame, frameKind, frameOf}
 use Rattle.meaning.specs.SoFar.{Said, malformed, unknownKind, noFrame, frames, saidOf, saidIn, saidBy, said}
 use Rattle.meaning.specs.All.{All, Any, Absent}
 use Rattle.meaning.specs.Answer.{hexLine}
@@ -111,104 +111,105 @@ holds-line s h = head-eq-of-cons-eq (sym (h .is) ∙ one-line s (h .each))
 holds : (s t : List ℕ) → Hex s t → length t ≤ maxBytes → Holds (closed s) t
 holds s t x n = record { is = one-line t (x .bytes) ∙ ap (λ z. closed z ∷ []) (sym (x .is)); each = x .bytes; short = n }
 
-holds-said : {l : Line} (b : ℕ) (t : List ℕ) → Holds l (b ∷ t) → said l ≡ saidIn (kindOf b) t
-unfolding said saidBy bytesOf someBytes
-holds-said b t h =
-    ap said (holds-line (b ∷ t) h)
-    ∙ ap (λ o. saidBy (someBytes o)) (decoded-hex (b ∷ t) (h .each))
-    ∙ ap saidBy (at-most maxBytes (b ∷ t) (h .short))
+module _ (ed : Edition) where
+  holds-said : {l : Line} (b : ℕ) (t : List ℕ) → Holds l (b ∷ t) → said ed l ≡ saidIn ed (kindOf b) t
+  unfolding said saidBy bytesOf someBytes
+  holds-said b t h =
+      ap (said ed) (holds-line (b ∷ t) h)
+      ∙ ap (λ o. saidBy ed (someBytes o)) (decoded-hex (b ∷ t) (h .each))
+      ∙ ap (saidBy ed) (at-most maxBytes (b ∷ t) (h .short))
 
--- ---- From what is said to what it means
+  -- ---- From what is said to what it means
 
-same-kind : (k : Kind) (f : Frame) → kindByte (frameKind f) ≡ kindByte k → frameKind f ≡ k
-same-kind k f e = let h : some (frameKind f) ≡ some k = sym (byte-kind (frameKind f)) ∙ ap kindOf e ∙ byte-kind k in cc
+  same-kind : (k : Kind) (f : Frame) → kindByte (frameKind f) ≡ kindByte k → frameKind f ≡ k
+  same-kind k f e = let h : some (frameKind f) ≡ some k = sym (byte-kind (frameKind f)) ∙ ap kindOf e ∙ byte-kind k in cc
 
-read-back : (k : Kind) (t : List ℕ) (f : Frame) → Writable f → written f ≡ kindByte k ∷ t → frameOf k t ≡ some f
-unfolding written
-read-back k t f w e =
-    let kind = same-kind k f (head-eq-of-cons-eq e) in
-    ap (λ x. frameOf x t) (sym kind) ∙ ap (frameOf (frameKind f)) (sym (tail-eq-of-cons-eq e)) ∙ frame-back f w
+  read-back : (k : Kind) (t : List ℕ) (f : Frame) → Writable ed f → written ed f ≡ kindByte k ∷ t → frameOf ed k t ≡ some f
+  unfolding written
+  read-back k t f w e =
+      let kind = same-kind k f (head-eq-of-cons-eq e) in
+      ap (λ x. frameOf ed x t) (sym kind) ∙ ap (frameOf ed (frameKind f)) (sym (tail-eq-of-cons-eq e)) ∙ frame-back ed f w
 
-written-all : (f : Frame) → Writable f → All Byte (written f)
-written-all f w = written-bytes f (w .fits)
+  written-all : (f : Frame) → Writable ed f → All Byte (written ed f)
+  written-all f w = written-bytes ed f (w .fits)
 
-meant : (l : Line) → Means l (said l)
-unfolding said saidBy bytesOf someBytes saidIn saidOf hexes
-meant (unclosed s) = is-malformed withoutLF
-meant (closed s) = go (decoded s) refl
-  where
-    a-frame : (f : Frame) → said (closed s) ≡ frames f → Means (closed s) (frames f)
-    a-frame f e =
-        let i = said-line (closed s) f e in
-        is-frame f (i .writable .fits) (record { is = one-line (written f) (written-all f (i .writable)) ∙ ap (λ z. z ∷ []) (sym (i .is)); each = written-all f (i .writable); short = i .writable .short })
+  meant : (l : Line) → Means ed l (said ed l)
+  unfolding said saidBy bytesOf someBytes saidIn saidOf hexes
+  meant (unclosed s) = is-malformed withoutLF
+  meant (closed s) = go (decoded s) refl
+    where
+      a-frame : (f : Frame) → said ed (closed s) ≡ frames f → Means ed (closed s) (frames f)
+      a-frame f e =
+          let i = said-line ed (closed s) f e in
+          is-frame f (i .writable .fits) (record { is = one-line (written ed f) (written-all f (i .writable)) ∙ ap (λ z. z ∷ []) (sym (i .is)); each = written-all f (i .writable); short = i .writable .short })
 
-    of-kind : (b : ℕ) (t : List ℕ) → Holds (closed s) (b ∷ t) → (o : Option Kind) → kindOf b ≡ o → Means (closed s) (saidIn o t)
-    of-kind b t h none q = is-unknown b t h (λ k e. let z : some k ≡ none = sym (byte-kind k) ∙ ap kindOf e ∙ q in let o : _≡_ {A = ℕ} 0 1 = cc in omega arith)
-    of-kind b t h (some k) q = content (frameOf k t) refl
-      where
-        here : Holds (closed s) (kindByte k ∷ t)
-        here = subst (λ x. Holds (closed s) (x ∷ t)) (kind-byte b k q) h
+      of-kind : (b : ℕ) (t : List ℕ) → Holds (closed s) (b ∷ t) → (o : Option Kind) → kindOf b ≡ o → Means ed (closed s) (saidIn ed o t)
+      of-kind b t h none q = is-unknown b t h (λ k e. let z : some k ≡ none = sym (byte-kind k) ∙ ap kindOf e ∙ q in let o : _≡_ {A = ℕ} 0 1 = cc in omega arith)
+      of-kind b t h (some k) q = content (frameOf ed k t) refl
+        where
+          here : Holds (closed s) (kindByte k ∷ t)
+          here = subst (λ x. Holds (closed s) (x ∷ t)) (kind-byte b k q) h
 
-        content : (o : Option Frame) → frameOf k t ≡ o → Means (closed s) (saidOf k o)
-        content none r = is-no-frame k t here (λ f fits e. let w : Writable f = record { fits = fits; short = subst (λ x. length x ≤ maxBytes) (sym e) (here .short) } in let z : none ≡ some f = sym r ∙ read-back k t f w e in let o : _≡_ {A = ℕ} 0 1 = cc in omega arith)
-        content (some f) r = a-frame f (holds-said b t h ∙ ap (λ x. saidIn x t) q ∙ ap (saidOf k) r)
+          content : (o : Option Frame) → frameOf ed k t ≡ o → Means ed (closed s) (saidOf k o)
+          content none r = is-no-frame k t here (λ f fits e. let w : Writable ed f = record { fits = fits; short = subst (λ x. length x ≤ maxBytes) (sym e) (here .short) } in let z : none ≡ some f = sym r ∙ read-back k t f w e in let o : _≡_ {A = ℕ} 0 1 = cc in omega arith)
+          content (some f) r = a-frame f (holds-said b t h ∙ ap (λ x. saidIn ed x t) q ∙ ap (saidOf k) r)
 
-    go : (o : Option (List ℕ)) → decoded s ≡ o → Means (closed s) (saidBy (someBytes o))
-    go none q = is-malformed (bad (undecoded s q))
-      where
-        bad : (length s % 2 ≡ 1) ⊎ Other s → Malformed (closed s)
-        bad (inl o) = odd o
-        bad (inr o) = otherCharacter o
-    go (some []) q = rw (hex-decoded s [] q .is) (is-malformed empty)
-    go (some (b ∷ t)) q = cases (leb (length (b ∷ t)) maxBytes)
-        (λ r. rw (r, atMost) (of-kind b t (holds s (b ∷ t) (hex-decoded s (b ∷ t) q) (leb-true (length (b ∷ t)) maxBytes r)) (kindOf b) refl))
-        (λ r. rw (r, atMost) (is-malformed (over (long (leb-false (length (b ∷ t)) maxBytes r)))))
-      where
-        long : maxBytes < length (b ∷ t) → 2 * maxBytes < length s
-        long m = let n = ap length (hex-decoded s (b ∷ t) q .is) ∙ hexes-length (b ∷ t) in omega (arith, n, m)
+      go : (o : Option (List ℕ)) → decoded s ≡ o → Means ed (closed s) (saidBy ed (someBytes o))
+      go none q = is-malformed (bad (undecoded s q))
+        where
+          bad : (length s % 2 ≡ 1) ⊎ Other s → Malformed (closed s)
+          bad (inl o) = odd o
+          bad (inr o) = otherCharacter o
+      go (some []) q = rw (hex-decoded s [] q .is) (is-malformed empty)
+      go (some (b ∷ t)) q = cases (leb (length (b ∷ t)) maxBytes)
+          (λ r. rw (r, atMost) (of-kind b t (holds s (b ∷ t) (hex-decoded s (b ∷ t) q) (leb-true (length (b ∷ t)) maxBytes r)) (kindOf b) refl))
+          (λ r. rw (r, atMost) (is-malformed (over (long (leb-false (length (b ∷ t)) maxBytes r)))))
+        where
+          long : maxBytes < length (b ∷ t) → 2 * maxBytes < length s
+          long m = let n = ap length (hex-decoded s (b ∷ t) q .is) ∙ hexes-length (b ∷ t) in omega (arith, n, m)
 
--- ---- And back
+  -- ---- And back
 
-took : (k : Kind) (t : List ℕ) (f : Frame) → frameKind f ≡ k → t ≡ asContent f ++ [] → written f ≡ kindByte k ∷ t
-unfolding written
-took k t f p q =
-    let first : kindByte (frameKind f) ≡ kindByte k = ap kindByte p in
-    let later : t ≡ asContent f = q ∙ append-nil (asContent f) in
-    cc
+  took : (k : Kind) (t : List ℕ) (f : Frame) → frameKind f ≡ k → t ≡ asContent ed f ++ [] → written ed f ≡ kindByte k ∷ t
+  unfolding written
+  took k t f p q =
+      let first : kindByte (frameKind f) ≡ kindByte k = ap kindByte p in
+      let later : t ≡ asContent ed f = q ∙ append-nil (asContent ed f) in
+      cc
 
-malformed-said : {l : Line} → Malformed l → said l ≡ malformed
-unfolding said saidBy bytesOf someBytes decoded
-malformed-said empty = refl
-malformed-said (odd {s = s} e) = ap (λ o. saidBy (someBytes o)) (odd-undecoded s e)
-malformed-said (otherCharacter {s = s} o) = ap (λ o. saidBy (someBytes o)) (other-undecoded s o)
-malformed-said (over {s = s} m) = go (decoded s) refl
-  where
-    go : (o : Option (List ℕ)) → decoded s ≡ o → saidBy (someBytes o) ≡ malformed
-    go none q = refl
-    go (some []) q = refl
-    go (some (b ∷ t)) q =
-        let n = ap length (hex-decoded s (b ∷ t) q .is) ∙ hexes-length (b ∷ t) in
-        rw (lt-leb (length (b ∷ t)) maxBytes (omega (arith, n, m)), atMost)
-malformed-said withoutLF = refl
+  malformed-said : {l : Line} → Malformed l → said ed l ≡ malformed
+  unfolding said saidBy bytesOf someBytes decoded
+  malformed-said empty = refl
+  malformed-said (odd {s = s} e) = ap (λ o. saidBy ed (someBytes o)) (odd-undecoded s e)
+  malformed-said (otherCharacter {s = s} o) = ap (λ o. saidBy ed (someBytes o)) (other-undecoded s o)
+  malformed-said (over {s = s} m) = go (decoded s) refl
+    where
+      go : (o : Option (List ℕ)) → decoded s ≡ o → saidBy ed (someBytes o) ≡ malformed
+      go none q = refl
+      go (some []) q = refl
+      go (some (b ∷ t)) q =
+          let n = ap length (hex-decoded s (b ∷ t) q .is) ∙ hexes-length (b ∷ t) in
+          rw (lt-leb (length (b ∷ t)) maxBytes (omega (arith, n, m)), atMost)
+  malformed-said withoutLF = refl
 
-says-so : {l : Line} {x : Said} → Means l x → said l ≡ x
-unfolding saidIn saidOf
-says-so (is-malformed m) = malformed-said m
-says-so (is-unknown b t h n) = holds-said b t h ∙ go (kindOf b) refl
-  where
-    go : (o : Option Kind) → kindOf b ≡ o → saidIn o t ≡ unknownKind
-    go none q = refl
-    go (some k) q = absurd (n k (sym (kind-byte b k q)))
-says-so (is-no-frame k t h n) = holds-said (kindByte k) t h ∙ ap (λ x. saidIn x t) (byte-kind k) ∙ go (frameOf k t) refl
-  where
-    go : (o : Option Frame) → frameOf k t ≡ o → saidOf k o ≡ noFrame k
-    go none q = refl
-    go (some f) q =
-        let r = frame-forth k t f (h .each .1) q in
-        let same : written f ≡ kindByte k ∷ t = took k t f (r .kind) (r .bytes) in
-        absurd (n f (r .fits) same)
-says-so (is-frame f fits h) = ap said (holds-line (written f) h) ∙ says f (record { fits = fits; short = h .short })
+  says-so : {l : Line} {x : Said} → Means ed l x → said ed l ≡ x
+  unfolding saidIn saidOf
+  says-so (is-malformed m) = malformed-said m
+  says-so (is-unknown b t h n) = holds-said b t h ∙ go (kindOf b) refl
+    where
+      go : (o : Option Kind) → kindOf b ≡ o → saidIn ed o t ≡ unknownKind
+      go none q = refl
+      go (some k) q = absurd (n k (sym (kind-byte b k q)))
+  says-so (is-no-frame k t h n) = holds-said (kindByte k) t h ∙ ap (λ x. saidIn ed x t) (byte-kind k) ∙ go (frameOf ed k t) refl
+    where
+      go : (o : Option Frame) → frameOf ed k t ≡ o → saidOf k o ≡ noFrame k
+      go none q = refl
+      go (some f) q =
+          let r = frame-forth ed k t f (h .each .1) q in
+          let same : written ed f ≡ kindByte k ∷ t = took k t f (r .kind) (r .bytes) in
+          absurd (n f (r .fits) same)
+  says-so (is-frame f fits h) = ap (said ed) (holds-line (written ed f) h) ∙ says ed f (record { fits = fits; short = h .short })
 
--- A line says this exactly where this is what it means.
-pub means : (l : Line) (x : Said) → (said l ≡ x) ↔ Means l x
-means l x = (λ e. subst (Means l) e (meant l), says-so)
+  -- A line says this exactly where this is what it means.
+  pub means : (l : Line) (x : Said) → (said ed l ≡ x) ↔ Means ed l x
+  means l x = (λ e. subst (Means ed l) e (meant l), says-so)

@@ -11,7 +11,7 @@ use Rattle.unification.specs.Ty.{Ty}
 use Rattle.meaning.specs.All.{All}
 use Rattle.meaning.specs.Diag.{Message, Diagnostic}
 use Rattle.meaning.specs.Check.{Typed}
-use Rattle.meaning.specs.Answer.{diagnosticLine, bytes₂, hexDigit, hexLine, slotBytes, nodeLines, diagnosticBytes, diagnosticLines, answerLines, numbered, formLines}
+use Rattle.meaning.specs.Answer.{diagnosticLine, bytes₂, bytes₄, hexDigit, hexLine, slotBytes, nodeLines, diagnosticBytes, diagnosticLines, answerLines, numbered, formLines}
 use Rattle.meaning.proofs.Lists.{all-append}
 use Rattle.meaning.proofs.Tests.{cases}
 
@@ -48,7 +48,9 @@ module _ (text : Message → List ℕ) where
 
   answer-nonzero : (t : Typed) → Nonzero (answerLines text t)
   unfolding answerLines
-  answer-nonzero t = join (nodeLines 0 (t .tys)) (diagnosticLines text (t .diagnostics)) (nodes-nonzero 0 (t .tys)) (diagnostics-nonzero (t .diagnostics))
+  answer-nonzero t =
+      join (nodeLines 0 (t .tys) ++ diagnosticLines text (t .diagnostics)) (hexLine (9 ∷ bytes₄ (t .visits)))
+      (join (nodeLines 0 (t .tys)) (diagnosticLines text (t .diagnostics)) (nodes-nonzero 0 (t .tys)) (diagnostics-nonzero (t .diagnostics))) (line-nonzero (9 ∷ bytes₄ (t .visits)))
 
   numbered-nonzero : (k : ℕ) (ts : List Typed) → Nonzero (numbered text k ts)
   unfolding numbered

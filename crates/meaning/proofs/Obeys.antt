@@ -6,7 +6,7 @@ use mathlib.Core.Path.{_≡_}
 use Prim.Native.Nat.{ℕ, _<_, _≤_}
 use lib.ListN.{length}
 use Rattle.text.specs.Utf8.{Text}
-use Rattle.meaning.specs.Frame.{Kind, limits, name, schemaType, predicate, node, query, mayStand, Frame, frameKind}
+use Rattle.meaning.specs.Frame.{Edition, Kind, limits, name, schemaType, predicate, node, query, mayStand, Frame, frameKind}
 use Rattle.meaning.specs.References.{nameRefs, typeRefs, nodeRefs, textsOf, keysOf}
 use Rattle.meaning.specs.SoFar.{SoFar, add, start}
 use Rattle.meaning.specs.Conditions.{maxNames, maxTypes, maxPredicates, maxNodes, maxQueries}
@@ -42,11 +42,11 @@ pub data Rules : SoFar → List Frame → SoFar → Type 0 where
   next : {so end : SoFar} {f : Frame} {fs : List Frame} → Obeys so f → Rules (add so f) fs end → Rules so (f ∷ fs) end
 
 -- The file is what frames that obey the rules are written as, and d is what they describe.
-pub record Written (file : List ℕ) (d : Form) : Type 0 where
+pub record Written (e : Edition) (file : List ℕ) (d : Form) : Type 0 where
   pub these : List Frame
-  pub is : file ≡ fileOf these
+  pub is : file ≡ fileOf e these
   pub size : length file ≤ maxFile
-  pub writable : All Writable these
+  pub writable : All (Writable e) these
   pub end : SoFar
   pub rules : Rules start these end
   pub last : end .previous ≡ some Kind.query

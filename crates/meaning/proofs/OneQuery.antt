@@ -12,10 +12,10 @@ use Rattle.meaning.specs.Syntax.{Query, Ast}
 use Rattle.meaning.specs.Schema.{Schema}
 use Rattle.meaning.specs.Refusal.{Refusal}
 use Rattle.meaning.specs.Lines.{lines}
-use Rattle.meaning.specs.Frame.{Kind, limits, name, schemaType, predicate, node, query, kindByte, rises, follows, mayStand, Frame, theLimits, aName, aType, aPredicate, aNode, theQuery, frameKind}
+use Rattle.meaning.specs.Frame.{wide, Kind, limits, name, schemaType, predicate, node, query, kindByte, rises, follows, mayStand, Frame, theLimits, aName, aType, aPredicate, aNode, theQuery, frameKind}
 use Rattle.meaning.specs.SoFar.{Said, malformed, unknownKind, noFrame, frames, said, SoFar, start, add, after}
 use Rattle.meaning.specs.Conditions.{isMisplaced, isLastQueryPast, isQueryTooMany, maxQueries, Condition, conditions, firstOf}
-use Rattle.meaning.specs.File.{schemaOf, describe, Reading, refused, described, atEnd, readFrom, isTooLong, reading}
+use Rattle.meaning.specs.File.{schemaOf, describe, Reading, refused, described, atEnd, readFrom, isTooLong, readingOf, reading}
 use Rattle.meaning.specs.Check.{Checked, typed, exhausted, check}
 use Rattle.meaning.specs.Messages.{messageText}
 use Rattle.meaning.specs.Answer.{formLines}
@@ -182,22 +182,22 @@ alike-decided (both-described names schema ast) = go (check maxVisits schema ast
     go exhausted = refl
     go (typed t) = refl
 
-alike-files : (file : List ℕ) → QueryLast (map said (lines file)) → Alike (reading file) (readingBefore file)
-unfolding reading readingBefore start startBefore asNow
+alike-files : (file : List ℕ) → QueryLast (map (said wide) (lines file)) → Alike (reading file) (readingBefore file)
+unfolding readingOf readingBefore start startBefore asNow
 alike-files file h = cases (isTooLong file)
-    (λ q. rw (q, reading, readingBefore) (both-refused _))
-    (λ q. rw (q, reading, readingBefore) (alike startBefore (map said (lines file)) (record { query = refl; previous = no-kind }) h))
+    (λ q. rw (q, readingOf, readingBefore) (both-refused _))
+    (λ q. rw (q, readingOf, readingBefore) (alike startBefore (map (said wide) (lines file)) (record { query = refl; previous = no-kind }) h))
   where
     no-kind : none ≢ some Kind.query
     no-kind e = let z : _≡_ {A = ℕ} 0 1 = cc in omega arith
 
-pub decided-as-before : (file : List ℕ) (words : ℕ) → QueryLast (map said (lines file)) → decide file words ≡ decideBefore file words
+pub decided-as-before : (file : List ℕ) (words : ℕ) → QueryLast (map (said wide) (lines file)) → decide file words ≡ decideBefore file words
 unfolding decide decideBefore
 decided-as-before file words h = cases (ltb words minWords)
     (λ q. rw (q, decide, decideBefore))
     (λ q. rw (q, decide, decideBefore) (alike-decided (alike-files file h)))
 
 -- "A file with one 06, its last line, prints as before": both slices and the result, whatever is lent.
-pub as-before : (file : List ℕ) (words bytes : ℕ) → QueryLast (map said (lines file)) → outcome file words bytes ≡ outcomeBefore file words bytes
+pub as-before : (file : List ℕ) (words bytes : ℕ) → QueryLast (map (said wide) (lines file)) → outcome file words bytes ≡ outcomeBefore file words bytes
 unfolding outcome outcomeBefore
 as-before file words bytes h = ap (λ d. finish d words bytes) (decided-as-before file words h)

@@ -5,7 +5,7 @@ use mathlib.Core.Path.{_≡_, refl, sym, ap, _∙_}
 use Prim.Native.Nat.{ℕ, _<_}
 use native.Mathlib.Omega.{arith}
 use Rattle.meaning.specs.Lines.{lines}
-use Rattle.meaning.specs.Frame.{node, kindByte, Frame, aName, aType, frameKind}
+use Rattle.meaning.specs.Frame.{wide, node, kindByte, Frame, aName, aType, frameKind}
 use Rattle.meaning.specs.SoFar.{frames, said}
 use Rattle.meaning.specs.File.{Form, described, reading}
 use Rattle.meaning.specs.All.{All}
@@ -22,7 +22,7 @@ Early g = kindByte (frameKind g) < kindByte node
 pub record Lined (file : List ℕ) (f : Form) : Type 0 where
   pub schema : List Frame
   pub early : All Early schema
-  pub are : map said (lines file) ≡ map frames (schema ++ flatMap queryFrames (f .queries))
+  pub are : map (said wide) (lines file) ≡ map frames (schema ++ flatMap queryFrames (f .queries))
 
 all-made : {A : Type 0} (make : A → Frame) → ((a : A) → Early (make a)) → (l : List A) → All Early (map make l)
 all-made make e [] = tt
@@ -39,10 +39,10 @@ schema-early c = (
 pub lined : (file : List ℕ) (f : Form) → reading file ≡ described f → Lined file f
 unfolding framesOf describes
 lined file f e =
-    let s = says-exactly file f .0 e in
+    let s = says-exactly wide file f .0 e in
     let c = s .content in
     record {
       schema = schemaFrames c;
       early = schema-early c;
-      are = ap (λ x. map said (lines x)) (s .is) ∙ file-lines (framesOf c) (s .lawful .writable) ∙ ap (λ x. map frames (schemaFrames c ++ flatMap queryFrames (x .queries))) (sym (s .tree));
+      are = ap (λ x. map (said wide) (lines x)) (s .is) ∙ file-lines wide (framesOf c) (s .lawful .writable) ∙ ap (λ x. map frames (schemaFrames c ++ flatMap queryFrames (x .queries))) (sym (s .tree));
     }

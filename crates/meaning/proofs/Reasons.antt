@@ -8,9 +8,9 @@ use Prim.Native.Nat.{ℕ, _≤_}
 use native.Mathlib.Omega.{arith}
 use lib.ListN.{length}
 use borrow.Author.Tests.{not-false}
-use Rattle.meaning.specs.Refusal.{Refusal, workTooShort, fileTooLong, malformedLine, misplacedKind, tooMany, malformedFrame, brokenText, nameGivenBefore, badReference, repeatedKey, tooManyVisits, answerTooLong, tooManyQueries}
+use Rattle.meaning.specs.Refusal.{Refusal, workTooShort, fileTooLong, malformedLine, misplacedKind, tooMany, malformedFrame, brokenText, nameGivenBefore, badReference, repeatedKey, tooManyVisits, answerTooLong, tooManyQueries, numberTooWide, tallyTooLarge, ceilingPassed, outsideTheRules}
 use Rattle.meaning.specs.Lines.{Line, lines}
-use Rattle.meaning.specs.Frame.{Kind, kindByte, mayStand, Frame}
+use Rattle.meaning.specs.Frame.{wide, Kind, kindByte, mayStand, Frame}
 use Rattle.meaning.specs.SoFar.{SoFar, Said, malformed, unknownKind, noFrame, frames, said, start}
 use Rattle.meaning.specs.Conditions.{isMalformed, isMisplaced, isFull, isOneTooMany, isLastQueryPast, isQueryTooMany, isNoFrame, conditions}
 use Rattle.meaning.specs.File.{maxFile}
@@ -32,10 +32,10 @@ record Split (ls : List Line) (a : List Said) (b : Said) : Type 0 where
   line : Line
   rest : List Line
   is : ls ≡ before ++ line ∷ rest
-  first : map said before ≡ a
-  second : said line ≡ b
+  first : map (said wide) before ≡ a
+  second : said wide line ≡ b
 
-split : (ls : List Line) (a : List Said) (b : Said) (c : List Said) → map said ls ≡ a ++ b ∷ c → Split ls a b
+split : (ls : List Line) (a : List Said) (b : Said) (c : List Said) → map (said wide) ls ≡ a ++ b ∷ c → Split ls a b
 split [] [] b c e = let z : _≡_ {A = ℕ} 0 1 = cc in absurd (omega arith)
 split [] (x ∷ a) b c e = let z : _≡_ {A = ℕ} 0 1 = cc in absurd (omega arith)
 split (l ∷ ls) [] b c e = record { before = []; line = l; rest = ls; is = refl; first = refl; second = head-eq-of-cons-eq e }
@@ -43,16 +43,16 @@ split (l ∷ ls) (x ∷ a) b c e = more (split ls a b c (tail-eq-of-cons-eq e))
   where
     more : Split ls a b → Split (l ∷ ls) (x ∷ a) b
     more s =
-        let same : said l ≡ x = head-eq-of-cons-eq e in
+        let same : said wide l ≡ x = head-eq-of-cons-eq e in
         let later = s .first in
         record { before = l ∷ s .before; line = s .line; rest = s .rest; is = ap (λ t. l ∷ t) (s .is); first = cc; second = s .second }
 
-said-append : (a b : List Line) → map said (a ++ b) ≡ map said a ++ map said b
+said-append : (a b : List Line) → map (said wide) (a ++ b) ≡ map (said wide) a ++ map (said wide) b
 said-append [] b = refl
-said-append (l ∷ a) b = ap (λ t. said l ∷ t) (said-append a b)
+said-append (l ∷ a) b = ap (λ t. said wide l ∷ t) (said-append a b)
 
 module _ (file : List ℕ) (i : Refusal) (P : SoFar → Line → Type 0) where
-  reaches : length file ≤ maxFile → ((so : SoFar) (l : Line) → First conditions so (said l) i → P so l) → AtLine start (map said (lines file)) i → Reaches file P
+  reaches : length file ≤ maxFile → ((so : SoFar) (l : Line) → First conditions so (said wide l) i → P so l) → AtLine start (map (said wide) (lines file)) i → Reaches file P
   reaches h f s =
       let x = split (lines file) (s .before) (s .line) (s .rest) (s .split) in
       record {
@@ -66,15 +66,15 @@ module _ (file : List ℕ) (i : Refusal) (P : SoFar → Line → Type 0) where
         here = f (s .read) (x .line) (rw (x .second) (s .first));
       }
 
-  reached : ((so : SoFar) (l : Line) → P so l → First conditions so (said l) i) → Reaches file P → Lines.Refused file i
+  reached : ((so : SoFar) (l : Line) → P so l → First conditions so (said wide l) i) → Reaches file P → Lines.Refused wide file i
   reached f r =
       atLine (r .size)
       (record {
-        before = map said (r .before);
-        line = said (r .line);
-        rest = map said (r .rest);
+        before = map (said wide) (r .before);
+        line = said wide (r .line);
+        rest = map (said wide) (r .rest);
         read = r .read;
-        split = ap (map said) (r .split) ∙ said-append (r .before) (r .line ∷ r .rest);
+        split = ap (map (said wide)) (r .split) ∙ said-append (r .before) (r .line ∷ r .rest);
         pass = r .pass;
         first = f (r .read) (r .line) (r .here);
       })
@@ -112,7 +112,7 @@ before-6 (later q (later r (later s (later t (later u (later v (here w))))))) e 
 before-6 (later q (later r (later s (later t (later u (later v (later w (here x)))))))) e = let z : _≡_ {A = ℕ} 0 1 = cc in absurd (omega arith)
 before-6 (later q (later r (later s (later t (later u (later v (later w (later x (here y))))))))) e = let z : _≡_ {A = ℕ} 0 1 = cc in absurd (omega arith)
 
-only-malformed : {l : Line} {x : Said} → Means l x → x ≡ malformed → Malformed l
+only-malformed : {l : Line} {x : Said} → Means wide l x → x ≡ malformed → Malformed l
 only-malformed (is-malformed m) e = m
 only-malformed (is-unknown b t h n) e = let z : _≡_ {A = ℕ} 0 1 = cc in absurd (omega arith)
 only-malformed (is-no-frame k t h n) e = let z : _≡_ {A = ℕ} 0 1 = cc in absurd (omega arith)
@@ -125,12 +125,12 @@ malformed-first so unknownKind f = clash (sym (first-holds f refl))
 malformed-first so (noFrame k) f = clash (sym (first-holds f refl))
 malformed-first so (frames g) f = clash (sym (first-holds f refl))
 
-at-malformed : (so : SoFar) (l : Line) → First conditions so (said l) malformedLine → Malformed l
-at-malformed so l f = only-malformed (means l (said l) .0 refl) (malformed-first so (said l) f)
+at-malformed : (so : SoFar) (l : Line) → First conditions so (said wide l) malformedLine → Malformed l
+at-malformed so l f = only-malformed (means wide l (said wide l) .0 refl) (malformed-first so (said wide l) f)
 
-malformed-at : (so : SoFar) (l : Line) → Malformed l → First conditions so (said l) malformedLine
+malformed-at : (so : SoFar) (l : Line) → Malformed l → First conditions so (said wide l) malformedLine
 unfolding conditions isMalformed
-malformed-at so l m = subst (λ x. First conditions so x malformedLine) (sym (means l malformed .1 (is-malformed m))) (here refl)
+malformed-at so l m = subst (λ x. First conditions so x malformedLine) (sym (means wide l malformed .1 (is-malformed m))) (here refl)
 
 -- ---- 6
 
@@ -151,7 +151,7 @@ no-frame-first so (noFrame k) f =
     record { kind = k; is = refl; placed = not-false (mayStand (so .previous) k) (b .placed); few = b .few; fewQueries = b .fewQueries }
 no-frame-first so (frames g) f = clash (sym (before-6 f refl .frame))
 
-no-frame : {so : SoFar} {l : Line} {x : Said} → Means l x → AtKind so x → NoFrame so l
+no-frame : {so : SoFar} {l : Line} {x : Said} → Means wide l x → AtKind so x → NoFrame so l
 no-frame (is-malformed m) a = let e = a .is in let z : _≡_ {A = ℕ} 0 1 = cc in absurd (omega arith)
 no-frame (is-unknown b t h n) a = let e = a .is in let z : _≡_ {A = ℕ} 0 1 = cc in absurd (omega arith)
 no-frame {l = l} (is-no-frame k t h n) a =
@@ -164,17 +164,17 @@ no-frame {l = l} (is-no-frame k t h n) a =
       placed = a .placed;
       few = a .few;
       fewQueries = a .fewQueries;
-      none-written = subst (λ z. (f : Frame) → Fits f → written f ≢ kindByte z ∷ t) same n;
+      none-written = subst (λ z. (f : Frame) → Fits wide f → written wide f ≢ kindByte z ∷ t) same n;
     }
 no-frame (is-frame f b h) a = let e = a .is in let z : _≡_ {A = ℕ} 0 1 = cc in absurd (omega arith)
 
-at-no-frame : (so : SoFar) (l : Line) → First conditions so (said l) malformedFrame → NoFrame so l
-at-no-frame so l f = no-frame (means l (said l) .0 refl) (no-frame-first so (said l) f)
+at-no-frame : (so : SoFar) (l : Line) → First conditions so (said wide l) malformedFrame → NoFrame so l
+at-no-frame so l f = no-frame (means wide l (said wide l) .0 refl) (no-frame-first so (said wide l) f)
 
-no-frame-at : (so : SoFar) (l : Line) → NoFrame so l → First conditions so (said l) malformedFrame
+no-frame-at : (so : SoFar) (l : Line) → NoFrame so l → First conditions so (said wide l) malformedFrame
 unfolding conditions isMalformed isMisplaced isOneTooMany isQueryTooMany isNoFrame
 no-frame-at so l n =
-    subst (λ x. First conditions so x malformedFrame) (sym (means l (noFrame (n .kind)) .1 (is-no-frame (n .kind) (n .content) (n .bytes) (n .none-written))))
+    subst (λ x. First conditions so x malformedFrame) (sym (means wide l (noFrame (n .kind)) .1 (is-no-frame (n .kind) (n .content) (n .bytes) (n .none-written))))
     (later refl (later (ap not (n .placed)) (later (n .few) (later (n .fewQueries) (here refl)))))
 
 -- ---- The call
@@ -194,9 +194,13 @@ OfLine repeatedKey = Unit {0}
 OfLine tooManyVisits = ⊥
 OfLine answerTooLong = ⊥
 OfLine tooManyQueries = Unit {0}
+OfLine numberTooWide = ⊥
+OfLine tallyTooLarge = ⊥
+OfLine ceilingPassed = ⊥
+OfLine outsideTheRules = ⊥
 
 module _ (file : List ℕ) (words bytes : ℕ) where
-  at-line : {i : Refusal} → RefusedWhen file words bytes i → OfLine i → (minWords ≤ words) × (length file ≤ maxFile) × AtLine start (map said (lines file)) i
+  at-line : {i : Refusal} → RefusedWhen file words bytes i → OfLine i → (minWords ≤ words) × (length file ≤ maxFile) × AtLine start (map (said wide) (lines file)) i
   at-line (for-work h) o = absurd o
   at-line (for-file h (tooLong x)) o = absurd o
   at-line (for-file h (atLine x s)) o = (h, x, s)
@@ -205,8 +209,8 @@ module _ (file : List ℕ) (words bytes : ℕ) where
   at-line (for-answer f ts h r c l) o = absurd o
 
   -- refused for a reason that is told of a line, exactly where the file reaches such a line
-  exactly : (i : Refusal) → OfLine i → (P : SoFar → Line → Type 0) → ((so : SoFar) (l : Line) → First conditions so (said l) i → P so l)
-      → ((so : SoFar) (l : Line) → P so l → First conditions so (said l) i) → (outcome file words bytes .result ≡ Refused i) ↔ ((minWords ≤ words) × Reaches file P)
+  exactly : (i : Refusal) → OfLine i → (P : SoFar → Line → Type 0) → ((so : SoFar) (l : Line) → First conditions so (said wide l) i → P so l)
+      → ((so : SoFar) (l : Line) → P so l → First conditions so (said wide l) i) → (outcome file words bytes .result ≡ Refused i) ↔ ((minWords ≤ words) × Reaches file P)
   exactly i o P to from =
       let d = demand-1 file words bytes .refused-exactly i in
       (λ e. let a = at-line (d .0 e) o in (a .0, reaches file i P (a .1) to (a .2)), λ r. d .1 (for-file (r .0) (reached file i P from (r .1))))

@@ -12,10 +12,10 @@ use lib.ListN.{length}
 use borrow.Author.Tests.{ltb-true, ltb-false, lt-ltb, le-ltb}
 use Rattle.meaning.specs.Refusal.{Refusal, misplacedKind}
 use Rattle.meaning.specs.Lines.{lines}
-use Rattle.meaning.specs.Frame.{Kind, limits, name, schemaType, predicate, node, query}
+use Rattle.meaning.specs.Frame.{Edition, Kind, limits, name, schemaType, predicate, node, query}
 use Rattle.meaning.specs.SoFar.{SoFar, Said, said, start, after}
 use Rattle.meaning.specs.Conditions.{Condition, conditions, firstOf}
-use Rattle.meaning.specs.File.{maxFile, Form, describe, Reading, refused, described, atEnd, readFrom, reading}
+use Rattle.meaning.specs.File.{maxFile, Form, describe, Reading, refused, described, atEnd, readFrom, readingOf}
 use Rattle.meaning.specs.All.{All}
 use Rattle.meaning.specs.Refused.{First, here, later, Pass, none-left, more, AtLine, Refused, tooLong, atLine, missingQuery}
 use Rattle.meaning.proofs.Tests.{cases}
@@ -83,38 +83,6 @@ Other (some query) = ⊥
 other-kind : {o : Option Kind} → o ≡ some Kind.query → Other o → ⊥
 other-kind e h = subst Other e h
 
-pub within : (file : List ℕ) → length file ≤ maxFile → reading file ≡ readFrom start (map said (lines file))
-unfolding reading
-within file h = rw (le-ltb maxFile (length file) h, reading)
-
--- The ways a file can be read.
-pub data Read (file : List ℕ) : Reading → Type 0 where
-  turnedDown : {i : Refusal} → Refused file i → Read file (refused i)
-  passed : (end : SoFar) → length file ≤ maxFile → Pass start (map said (lines file)) end → end .previous ≡ some Kind.query → Read file (described (describe end))
-
-pub read : (file : List ℕ) → Read file (reading file)
-unfolding reading atEnd
-read file = cases (ltb maxFile (length file))
-    (λ q. rw (q, reading) (turnedDown (tooLong (ltb-true maxFile (length file) q))))
-    (λ q. rw (q, reading) (go (ltb-false maxFile (length file) q) (ends start (map said (lines file)))))
-  where
-    end-of : length file ≤ maxFile → (end : SoFar) → Pass start (map said (lines file)) end → (o : Option Kind) → end .previous ≡ o → Read file (atEnd end o)
-    end-of h end p none q = turnedDown (missingQuery end h p (λ e. other-kind (sym q ∙ e) tt))
-    end-of h end p (some limits) q = turnedDown (missingQuery end h p (λ e. other-kind (sym q ∙ e) tt))
-    end-of h end p (some name) q = turnedDown (missingQuery end h p (λ e. other-kind (sym q ∙ e) tt))
-    end-of h end p (some schemaType) q = turnedDown (missingQuery end h p (λ e. other-kind (sym q ∙ e) tt))
-    end-of h end p (some predicate) q = turnedDown (missingQuery end h p (λ e. other-kind (sym q ∙ e) tt))
-    end-of h end p (some node) q = turnedDown (missingQuery end h p (λ e. other-kind (sym q ∙ e) tt))
-    end-of h end p (some query) q = passed end h p q
-
-    go : length file ≤ maxFile → {r : Reading} → Ends start (map said (lines file)) r → Read file r
-    go h (stopped s) = turnedDown (atLine h s)
-    go h (through end p) = end-of h end p (end .previous) refl
-
-why : {file : List ℕ} {r : Reading} (i : Refusal) → Read file r → r ≡ refused i → Refused file i
-why i (turnedDown {i = j} h) e = let same : i ≡ j = cc in rw same h
-why i (passed end h p s) e = let z : _≡_ {A = ℕ} 0 1 = cc in absurd (omega arith)
-
 stops : {so : SoFar} {ls : List Said} {i : Refusal} → AtLine so ls i → readFrom so ls ≡ refused i
 stops {so = so} {i = i} s = ap (readFrom so) (s .split) ∙ past (s .line ∷ s .rest) (s .pass) ∙ read-refused (s .read) (s .line) (s .rest) i (first-some (s .first))
 
@@ -133,32 +101,65 @@ not-ended end (some predicate) h = refl
 not-ended end (some node) h = refl
 not-ended end (some query) h = absurd (h refl)
 
-turned-down : (file : List ℕ) {i : Refusal} → Refused file i → reading file ≡ refused i
-unfolding reading atEnd
-turned-down file (tooLong h) = rw (lt-ltb maxFile (length file) h, reading)
-turned-down file (atLine h s) = within file h ∙ stops s
-turned-down file (missingQuery end h p q) = within file h ∙ to-the-end p ∙ not-ended end (end .previous) q
+module _ (ed : Edition) where
+  pub within : (file : List ℕ) → length file ≤ maxFile → readingOf ed file ≡ readFrom start (map (said ed) (lines file))
+  unfolding readingOf
+  within file h = rw (le-ltb maxFile (length file) h, readingOf)
 
--- Refused for a reason exactly under its condition.
-pub refused-when : (file : List ℕ) (i : Refusal) → (reading file ≡ refused i) ↔ Refused file i
-refused-when file i = (λ e. why i (read file) e, λ h. turned-down file h)
+  -- The ways a file can be read.
+  pub data Read (file : List ℕ) : Reading → Type 0 where
+    turnedDown : {i : Refusal} → Refused ed file i → Read file (refused i)
+    passed : (end : SoFar) → length file ≤ maxFile → Pass start (map (said ed) (lines file)) end → end .previous ≡ some Kind.query → Read file (described (describe end))
 
--- Described exactly where all lines pass and the last is a query.
-pub accepted : (file : List ℕ) (end : SoFar) → length file ≤ maxFile → Pass start (map said (lines file)) end → end .previous ≡ some Kind.query → reading file ≡ described (describe end)
-unfolding atEnd
-accepted file end h p e = within file h ∙ to-the-end p ∙ ap (atEnd end) e
+  pub read : (file : List ℕ) → Read file (readingOf ed file)
+  unfolding readingOf atEnd
+  read file = cases (ltb maxFile (length file))
+      (λ q. rw (q, readingOf) (turnedDown (tooLong (ltb-true maxFile (length file) q))))
+      (λ q. rw (q, readingOf) (go (ltb-false maxFile (length file) q) (ends start (map (said ed) (lines file)))))
+    where
+      end-of : length file ≤ maxFile → (end : SoFar) → Pass start (map (said ed) (lines file)) end → (o : Option Kind) → end .previous ≡ o → Read file (atEnd end o)
+      end-of h end p none q = turnedDown (missingQuery end h p (λ e. other-kind (sym q ∙ e) tt))
+      end-of h end p (some limits) q = turnedDown (missingQuery end h p (λ e. other-kind (sym q ∙ e) tt))
+      end-of h end p (some name) q = turnedDown (missingQuery end h p (λ e. other-kind (sym q ∙ e) tt))
+      end-of h end p (some schemaType) q = turnedDown (missingQuery end h p (λ e. other-kind (sym q ∙ e) tt))
+      end-of h end p (some predicate) q = turnedDown (missingQuery end h p (λ e. other-kind (sym q ∙ e) tt))
+      end-of h end p (some node) q = turnedDown (missingQuery end h p (λ e. other-kind (sym q ∙ e) tt))
+      end-of h end p (some query) q = passed end h p q
 
--- What the lines of a described file come to.
-pub record Accepted (file : List ℕ) (d : Form) : Type 0 where
-  pub end : SoFar
-  pub size : length file ≤ maxFile
-  pub pass : Pass start (map said (lines file)) end
-  pub last : end .previous ≡ some Kind.query
-  pub is : d ≡ describe end
+      go : length file ≤ maxFile → {r : Reading} → Ends start (map (said ed) (lines file)) r → Read file r
+      go h (stopped s) = turnedDown (atLine h s)
+      go h (through end p) = end-of h end p (end .previous) refl
 
-pub described-when : (file : List ℕ) (d : Form) → reading file ≡ described d → Accepted file d
-described-when file d e = go (read file) e
-  where
-    go : {r : Reading} → Read file r → r ≡ described d → Accepted file d
-    go (turnedDown h) s = let z : _≡_ {A = ℕ} 0 1 = cc in absurd (omega arith)
-    go (passed end h p s) t = record { end = end; size = h; pass = p; last = s; is = cc }
+  why : {file : List ℕ} {r : Reading} (i : Refusal) → Read file r → r ≡ refused i → Refused ed file i
+  why i (turnedDown {i = j} h) e = let same : i ≡ j = cc in rw same h
+  why i (passed end h p s) e = let z : _≡_ {A = ℕ} 0 1 = cc in absurd (omega arith)
+
+  turned-down : (file : List ℕ) {i : Refusal} → Refused ed file i → readingOf ed file ≡ refused i
+  unfolding readingOf atEnd
+  turned-down file (tooLong h) = rw (lt-ltb maxFile (length file) h, readingOf)
+  turned-down file (atLine h s) = within file h ∙ stops s
+  turned-down file (missingQuery end h p q) = within file h ∙ to-the-end p ∙ not-ended end (end .previous) q
+
+  -- Refused for a reason exactly under its condition.
+  pub refused-when : (file : List ℕ) (i : Refusal) → (readingOf ed file ≡ refused i) ↔ Refused ed file i
+  refused-when file i = (λ e. why i (read file) e, λ h. turned-down file h)
+
+  -- Described exactly where all lines pass and the last is a query.
+  pub accepted : (file : List ℕ) (end : SoFar) → length file ≤ maxFile → Pass start (map (said ed) (lines file)) end → end .previous ≡ some Kind.query → readingOf ed file ≡ described (describe end)
+  unfolding atEnd
+  accepted file end h p e = within file h ∙ to-the-end p ∙ ap (atEnd end) e
+
+  -- What the lines of a described file come to.
+  pub record Accepted (file : List ℕ) (d : Form) : Type 0 where
+    pub end : SoFar
+    pub size : length file ≤ maxFile
+    pub pass : Pass start (map (said ed) (lines file)) end
+    pub last : end .previous ≡ some Kind.query
+    pub is : d ≡ describe end
+
+  pub described-when : (file : List ℕ) (d : Form) → readingOf ed file ≡ described d → Accepted file d
+  described-when file d e = go (read file) e
+    where
+      go : {r : Reading} → Read file r → r ≡ described d → Accepted file d
+      go (turnedDown h) s = let z : _≡_ {A = ℕ} 0 1 = cc in absurd (omega arith)
+      go (passed end h p s) t = record { end = end; size = h; pass = p; last = s; is = cc }

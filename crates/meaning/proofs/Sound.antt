@@ -8,6 +8,7 @@ use Rattle.text.specs.Utf8.{characters}
 use Rattle.meaning.specs.Syntax.{Node, Ast, noNode, nodeAt}
 use Rattle.meaning.specs.References.{exprNodes}
 use Rattle.meaning.specs.SoFar.{SoFar, Said, start}
+use Rattle.meaning.specs.Frame.{wide}
 use Rattle.meaning.specs.File.{Form, viewOf, noAst, viewAt, countOf, schemaOf, describe, described, reading}
 use Rattle.meaning.specs.Conditions.{maxQueries}
 use Rattle.meaning.specs.All.{All}
@@ -46,7 +47,7 @@ sound-end end k = all-map (LawfulQuery (length (end .names))) (λ a. Sound (view
 -- Each query of a described file, with the schema.
 pub sound : (file : List ℕ) (f : Form) → reading file ≡ described f → All (λ a. Sound (viewOf f a)) (f .queries)
 sound file f e =
-    let a = described-when file f e in
+    let a = described-when wide file f e in
     rw (a .is) (sound-end (a .end) (pass-kept (a .pass)))
 
 pub sound-at : (file : List ℕ) (f : Form) → reading file ≡ described f → (k : ℕ) → k < length (f .queries) → Sound (viewAt f k)
@@ -57,7 +58,7 @@ sound-at file f e k h = all-at (λ a. Sound (viewOf f a)) (f .queries) k noAst (
 pub some-queries : (file : List ℕ) (f : Form) → reading file ≡ described f → (1 ≤ length (f .queries)) × (length (f .queries) ≤ maxQueries)
 unfolding describe
 some-queries file f e =
-    let a = described-when file f e in
+    let a = described-when wide file f e in
     let k = pass-kept (a .pass) in
     rw (a .is) (k .oneEnded (a .last), k .queriesMax)
 

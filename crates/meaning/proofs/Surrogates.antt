@@ -12,12 +12,12 @@ use Rattle.text.specs.Surrogates.{HasSurrogate, charactersOpen}
 use Rattle.text.proofs.Surrogates.{kept, surrogate-no-text}
 use Rattle.meaning.specs.All.{All}
 use Rattle.meaning.specs.Refusal.{Refusal, malformedLine, misplacedKind, tooMany, malformedFrame, brokenText, nameGivenBefore, badReference, repeatedKey, tooManyQueries}
-use Rattle.meaning.specs.Frame.{Kind, limits, name, schemaType, predicate, node, query, mayStand, Frame, theLimits, aName, aType, aPredicate, aNode, theQuery}
+use Rattle.meaning.specs.Frame.{wide, Kind, limits, name, schemaType, predicate, node, query, mayStand, Frame, theLimits, aName, aType, aPredicate, aNode, theQuery}
 use Rattle.meaning.specs.References.{textsOf}
 use Rattle.meaning.specs.Lines.{lines}
 use Rattle.meaning.specs.SoFar.{Said, malformed, unknownKind, noFrame, frames, said, SoFar, start, add, after}
 use Rattle.meaning.specs.Conditions.{anyOf, ofFrame, broken, maxNames, Condition, conditions, firstOf, isMalformed, isMisplaced, isOneTooMany, isQueryTooMany, isNoFrame, isBrokenText, isNameGivenBefore, isBadReference, isRepeatedKey}
-use Rattle.meaning.specs.File.{maxFile, Reading, refused, described, countOf, schemaOf, describe, atEnd, readFrom, isTooLong, reading}
+use Rattle.meaning.specs.File.{maxFile, Reading, refused, described, countOf, schemaOf, describe, atEnd, readFrom, isTooLong, readingOf, reading}
 use Rattle.meaning.specs.Outcome.{Decided, turnedDown, Refused, decideRead, decide, minWords, finish, outcome}
 use Rattle.meaning.specs.Surrogates.{brokenOpen, isBrokenOpen, conditionsOpen, schemaOpen, describeOpen, atEndOpen, readFromOpen, readingOpen, decideOpen, outcomeOpen, NoSurrogate, NoSurrogateOn, NoSurrogateIn}
 use Rattle.meaning.specs.Refused.{Pass}
@@ -118,12 +118,12 @@ same-from so (l ∷ ls) h w = go (same-from (after so l) ls (names-after so l h 
     go ih (some r) q = rw (same-first so l (w .0) ∙ q, q, readFrom, readFromOpen)
 
 pub reads-as-before : (file : List ℕ) → NoSurrogateIn file → reading file ≡ readingOpen file
-unfolding reading readingOpen start
+unfolding readingOf readingOpen start
 reads-as-before file w = go (isTooLong file) refl
   where
     go : (b : Bool) → isTooLong file ≡ b → reading file ≡ readingOpen file
-    go true q = rw (q, reading, readingOpen)
-    go false q = rw (q, reading, readingOpen) (same-from start (map said (lines file)) tt w)
+    go true q = rw (q, readingOf, readingOpen)
+    go false q = rw (q, readingOf, readingOpen) (same-from start (map (said wide) (lines file)) tt w)
 
 -- "Every file that has no such value answers as before": the outcome and both slices, for slices of any length.
 pub answers-as-before : (file : List ℕ) (words bytes : ℕ) → NoSurrogateIn file → outcome file words bytes ≡ outcomeOpen file words bytes
@@ -136,7 +136,7 @@ answers-as-before file words bytes w = go (ltb words minWords) refl
 
 -- "Such a text gets 7": lines that pass, and then a name that may stand there, with such a value in its text.
 pub surrogate-gets-7 : (file : List ℕ) (words bytes : ℕ) → minWords ≤ words → length file ≤ maxFile
-    → (before rest : List Said) (s : List ℕ) (so : SoFar) → map said (lines file) ≡ before ++ frames (aName s) ∷ rest → Pass start before so
+    → (before rest : List Said) (s : List ℕ) (so : SoFar) → map (said wide) (lines file) ≡ before ++ frames (aName s) ∷ rest → Pass start before so
     → mayStand (so .previous) Kind.name ≡ true → length (so .names) < maxNames → HasSurrogate s → outcome file words bytes .result ≡ Refused brokenText
 surrogate-gets-7 file words bytes enough size before rest s so split pass placed room h =
     demand-1 file words bytes .text-refused .1

@@ -6,6 +6,7 @@ use native.Mathlib.Decide.{ℕ-discrete}
 use Rattle.unification.specs.Ty.{Int, Record, Union, leaf, node, ε, cell}
 use Rattle.unification.specs.Bindings as Bindings
 use Rattle.unification.specs.Unify as Unify
+use Rattle.meaning.specs.Frame.{wide}
 use Rattle.meaning.specs.File.{typesOf}
 use Rattle.meaning.specs.Table.{text, examples, ownExamples, messageExamples, forms, refusals, limitsOf, holds, Rows, end, _then_, wholes, ends}
 
@@ -57,6 +58,10 @@ own-examples =
     refl then
     -- a subquery's variables
     refl then
+    -- 65,536 is not predicate 0
+    refl then
+    -- all 32 bits of a type's number
+    refl then
     end
 
 -- The text of each message.
@@ -85,6 +90,8 @@ unfolding forms holds ℕ-discrete Bindings.fresh Bindings.freshId Bindings.anno
 form-examples =
     -- two queries
     refl then
+    -- two queries with visits
+    refl then
     -- two queries with messages
     refl then
     -- 06 after 06
@@ -97,9 +104,9 @@ form-examples =
     refl then
     -- a node of the query before
     refl then
-    -- an answer of 32 bytes in 32
+    -- an answer of 54 bytes in 54
     refl then
-    -- in 31
+    -- in 53
     refl then
     -- a 65th query
     refl then
@@ -179,6 +186,14 @@ limit-examples =
     refl then
     -- statement 05
     refl then
+    -- a fact as a type: narrow, a byte too few, one too many
+    refl then
+    refl then
+    refl then
+    -- as a node
+    refl then
+    refl then
+    refl then
     -- 257 types
     refl then
     -- 129 predicates
@@ -218,6 +233,6 @@ whole-outcomes =
 unfoldable three : List String
 three = "01020020" ∷ "0261" ∷ "0262" ∷ "0300" ∷ "030400000000" ∷ "030500000000000500000001000000070001" ∷ "05000000000000000300" ∷ "060000" ∷ []
 
-types : typesOf (text three) ≡ leaf Int ∷ node Record (cell 0 0 (leaf Int) ε) ∷ node Union (cell 5 0 (leaf Int) (cell 7 1 (node Record (cell 0 0 (leaf Int) ε)) ε)) ∷ []
+types : typesOf wide (text three) ≡ leaf Int ∷ node Record (cell 0 0 (leaf Int) ε) ∷ node Union (cell 5 0 (leaf Int) (cell 7 1 (node Record (cell 0 0 (leaf Int) ε)) ε)) ∷ []
 unfolding typesOf text three
 types = refl

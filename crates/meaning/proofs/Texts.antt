@@ -12,7 +12,7 @@ use borrow.Author.Tests.{leb-false, lt-leb, not-false}
 use Rattle.text.specs.Utf8.{Text, characters}
 use Rattle.text.proofs.Grammar.{counts}
 use Rattle.meaning.specs.Refusal.{Refusal, brokenText}
-use Rattle.meaning.specs.Frame.{Kind, mayStand, Frame, theLimits, aName, aType, aPredicate, aNode, theQuery, frameKind}
+use Rattle.meaning.specs.Frame.{Edition, wide, Kind, mayStand, Frame, theLimits, aName, aType, aPredicate, aNode, theQuery, frameKind}
 use Rattle.meaning.specs.References.{textsOf}
 use Rattle.meaning.specs.SoFar.{SoFar, Said, malformed, unknownKind, noFrame, frames, add, after, textsOn, textsIn, start}
 use Rattle.meaning.specs.Conditions.{anyOf, ofFrame, broken, maxNames, isMalformed, isMisplaced, isFull, isOneTooMany, isLastQueryPast, isQueryTooMany, isNoFrame, isBrokenText, conditions}
@@ -49,10 +49,10 @@ unfolding countOf
 counted [] h = tt
 counted (s ∷ ts) h = (rw (counts s (h .0 .0) .0 (h .0 .1)) (h .0 .1), counted ts (h .1))
 
-pub texts-counted : (file : List ℕ) (f : Form) → reading file ≡ described f → Each Text (textsIn file) (f .schema .characters)
+pub texts-counted : (file : List ℕ) (f : Form) → reading file ≡ described f → Each Text (textsIn wide file) (f .schema .characters)
 unfolding describe schemaOf textsIn start
 texts-counted file f e =
-    let a = described-when file f e in
+    let a = described-when wide file f e in
     rw (a .is, ← pass-names (a .pass)) (counted (a .end .names) (pass-kept (a .pass) .texts))
 
 -- ---- 7
@@ -105,7 +105,7 @@ name-line so (frames (aPredicate n k v)) a = clash (sym (a .text))
 name-line so (frames (aNode n)) a = clash (sym (a .text))
 name-line so (frames (theQuery q)) a = clash (sym (a .text))
 
-broken-at : {file : List ℕ} {i : Refusal} → Refused file i → i ≡ brokenText → BrokenText file
+broken-at : {ed : Edition} {file : List ℕ} {i : Refusal} → Refused ed file i → i ≡ brokenText → BrokenText ed file
 broken-at (tooLong h) e = let z : _≡_ {A = ℕ} 0 1 = cc in absurd (omega arith)
 broken-at (missingQuery end h p q) e = let z : _≡_ {A = ℕ} 0 1 = cc in absurd (omega arith)
 broken-at (atLine h s) e =
@@ -130,5 +130,5 @@ text-first so s p r b = later refl (later (ap not p) (later (lt-leb maxNames (le
     found : isBrokenText so (frames (aName s)) ≡ true
     found = rw (text-none s b, anyOf)
 
-pub broken-exactly : (file : List ℕ) → Refused file brokenText ↔ BrokenText file
-broken-exactly file = (λ r. broken-at r refl, λ b. atLine (b .size) (record { before = b .before; line = frames (aName (b .text)); rest = b .rest; read = b .read; split = b .split; pass = b .pass; first = text-first (b .read) (b .text) (b .placed) (b .room) (b .broken) }))
+pub broken-exactly : (ed : Edition) (file : List ℕ) → Refused ed file brokenText ↔ BrokenText ed file
+broken-exactly ed file = (λ r. broken-at r refl, λ b. atLine (b .size) (record { before = b .before; line = frames (aName (b .text)); rest = b .rest; read = b .read; split = b .split; pass = b .pass; first = text-first (b .read) (b .text) (b .placed) (b .room) (b .broken) }))

@@ -7,6 +7,7 @@ use Prim.Native.Nat.{ℕ, suc}
 use Rattle.meaning.specs.Syntax.{Ast}
 use Rattle.meaning.specs.All.{Each}
 use Rattle.meaning.specs.Answer.{bytes₂, hexLine}
+use Rattle.meaning.specs.Frame.{wide}
 use Rattle.meaning.specs.Writing.{fileOf}
 use Rattle.meaning.specs.Content.{Content, framesOf}
 use Rattle.meaning.specs.Outcome.{answered, decide}
@@ -17,7 +18,7 @@ alone c a = record { maxDistance = c .maxDistance; maxTermChars = c .maxTermChar
 
 unfoldable pub fileAlone : Content → Ast → List ℕ
 unfolding fileOf framesOf alone
-fileAlone c a = fileOf (framesOf (alone c a))
+fileAlone c a = fileOf wide (framesOf (alone c a))
 
 -- Answers, each after its line 0b, the first with this number.
 unfoldable pub joined : ℕ → List (List ℕ) → List ℕ

@@ -21,11 +21,11 @@ bytes₄ n = bytes₂ (n / 0x1_0000) ++ bytes₂ n
 -- stand in place of references. In a record a cell's key is its name; in a union the key is the discriminant and the
 -- label is the name.
 unfoldable pub leafBytes : Leaf → List ℕ
-unfolding bytes₂
+unfolding bytes₄
 leafBytes Leaf.Int = 0 ∷ []
 leafBytes Leaf.String = 1 ∷ []
 leafBytes Leaf.Bytes = 2 ∷ []
-leafBytes (Leaf.Fact p) = 3 ∷ bytes₂ p
+leafBytes (Leaf.Fact p) = 3 ∷ bytes₄ p
 
 unfoldable pub kindByte : Kind → ℕ
 kindByte Kind.Record = 4
@@ -85,9 +85,10 @@ module _ (text : Message → List ℕ) where
   diagnosticLines [] = []
   diagnosticLines (d ∷ ds) = diagnosticLine d ++ diagnosticLines ds
 
+  -- Card 7: "ends with a line 09 and the visits of that query (4 bytes)"
   unfoldable pub answerLines : Typed → List ℕ
-  unfolding nodeLines diagnosticLines
-  answerLines t = nodeLines 0 (t .tys) ++ diagnosticLines (t .diagnostics)
+  unfolding nodeLines diagnosticLines hexLine bytes₄
+  answerLines t = (nodeLines 0 (t .tys) ++ diagnosticLines (t .diagnostics)) ++ hexLine (9 ∷ bytes₄ (t .visits))
 
   -- ---- A form (card 3)
 

@@ -10,7 +10,7 @@ use Rattle.unification.specs.Ty.{Ty}
 use Rattle.meaning.specs.Syntax.{Ast}
 use Rattle.meaning.specs.Schema.{Predicate}
 use Rattle.meaning.specs.Lines.{position}
-use Rattle.meaning.specs.Frame.{TypeShape, Frame, theLimits, aName, aType, aPredicate, aNode, theQuery}
+use Rattle.meaning.specs.Frame.{Edition, TypeShape, Frame, theLimits, aName, aType, aPredicate, aNode, theQuery}
 use Rattle.meaning.specs.References.{shapeNames, shapeTypes, shapeKeys, optional}
 use Rattle.meaning.specs.SoFar.{tyOf, predicateOf}
 use Rattle.meaning.specs.Conditions.{sameText, maxNames, maxTypes, maxPredicates, maxQueries}
@@ -57,7 +57,7 @@ abbrev pub TypesBefore : ℕ → List TypeShape → Type 0
 TypesBefore i [] = Unit {0}
 TypesBefore i (t ∷ ts) = Below i (shapeTypes t) × TypesBefore (suc i) ts
 
-pub record Lawful (c : Content) : Type 0 where
+pub record Lawful (e : Edition) (c : Content) : Type 0 where
   pub namesMax : length (c .names) ≤ maxNames
   pub typesMax : length (c .types) ≤ maxTypes
   pub predicatesMax : length (c .predicates) ≤ maxPredicates
@@ -72,7 +72,7 @@ pub record Lawful (c : Content) : Type 0 where
   -- "up to 64 queries"
   pub queriesMin : 1 ≤ length (c .queries)
   pub queriesMax : length (c .queries) ≤ maxQueries
-  pub writable : All Writable (framesOf c)
+  pub writable : All (Writable e) (framesOf c)
 
 -- ---- What it describes
 
@@ -101,9 +101,9 @@ describes c = record {
 }
 
 -- The file holds this, and so describes d.
-pub record Says (file : List ℕ) (d : Form) : Type 0 where
+pub record Says (e : Edition) (file : List ℕ) (d : Form) : Type 0 where
   pub content : Content
-  pub is : file ≡ fileOf (framesOf content)
+  pub is : file ≡ fileOf e (framesOf content)
   pub size : length file ≤ maxFile
-  pub lawful : Lawful content
+  pub lawful : Lawful e content
   pub tree : d ≡ describes content

@@ -8,6 +8,7 @@ use Prim.Native.Nat.{ℕ, _-_, _<_, _≤_}
 use lib.ListN.{length, replicate}
 use Rattle.text.specs.Utf8.{Text}
 use Rattle.meaning.specs.Refusal.{Refusal, workTooShort, brokenText, tooManyVisits, answerTooLong}
+use Rattle.meaning.specs.Frame.{wide}
 use Rattle.meaning.specs.Refused as Lines
 use Rattle.meaning.specs.All.{All, Any, Each}
 use Rattle.meaning.specs.SoFar.{textsIn}
@@ -25,7 +26,7 @@ use Rattle.meaning.specs.Outcome.{Outcome, Accepted, Refused, minWords, 
 -- and 12 of the whole answer.
 pub data RefusedWhen (file : List ℕ) (words bytes : ℕ) : Refusal → Type 0 where
   for-work : words < minWords → RefusedWhen file words bytes workTooShort
-  for-file : {i : Refusal} → minWords ≤ words → Lines.Refused file i → RefusedWhen file words bytes i
+  for-file : {i : Refusal} → minWords ≤ words → Lines.Refused wide file i → RefusedWhen file words bytes i
   for-visits : (f : Form) → minWords ≤ words → reading file ≡ described f → Any (λ a. check maxVisits (f .schema) a ≡ exhausted) (f .queries) → RefusedWhen file words bytes tooManyVisits
   for-answer : (f : Form) (ts : List Typed) → minWords ≤ words → reading file ≡ described f → Each (λ a t. check maxVisits (f .schema) a ≡ typed t) (f .queries) ts
       → bytes < length (formLines (textIn f) ts) → RefusedWhen file words bytes answerTooLong
@@ -46,7 +47,7 @@ pub record Demand1 (file : List ℕ) (words bytes : ℕ) : Type 0 where
   pub accepted-exactly : (outcome file words bytes .result ≡ Accepted) ↔ ((f : Form) × (ts : List Typed) × AcceptedWhen file words bytes f ts)
   pub refused-zeros : (i : Refusal) → outcome file words bytes .result ≡ Refused i → Zeros bytes (outcome file words bytes .answer)
   pub work-zeros : Zeros words (outcome file words bytes .work)
-  pub text-refused : (outcome file words bytes .result ≡ Refused brokenText) ↔ ((minWords ≤ words) × Lines.BrokenText file)
+  pub text-refused : (outcome file words bytes .result ≡ Refused brokenText) ↔ ((minWords ≤ words) × Lines.BrokenText wide file)
 
 -- ---- Demand 2
 
@@ -60,5 +61,5 @@ pub record Demand2 (file : List ℕ) (words bytes : ℕ) : Type 0 where
   pub when : AcceptedWhen file words bytes f ts
   pub answer : outcome file words bytes .answer ≡ formLines (textIn f) ts ++ replicate (bytes - length (formLines (textIn f) ts)) 0
   pub nonzero : All (λ b. 0 < b) (formLines (textIn f) ts)
-  pub texts : Each Text (textsIn file) (f .schema .characters)
+  pub texts : Each Text (textsIn wide file) (f .schema .characters)
   pub robinson : All (λ a. RunAsRobinson (f .schema) a maxVisits) (f .queries)

@@ -13,7 +13,7 @@ use Rattle.meaning.specs.Schema.{Schema}
 use Rattle.meaning.specs.Diag.{ascii}
 use Rattle.meaning.specs.Refusal.{Refusal, fileTooLong, misplacedKind}
 use Rattle.meaning.specs.Lines.{position, lines}
-use Rattle.meaning.specs.Frame.{Kind, limits, name, schemaType, predicate, node, query}
+use Rattle.meaning.specs.Frame.{Edition, wide, Kind, limits, name, schemaType, predicate, node, query}
 use Rattle.meaning.specs.SoFar.{Said, said, SoFar, start, after}
 use Rattle.meaning.specs.Conditions.{sameText, conditions, firstOf}
 
@@ -94,9 +94,13 @@ unfoldable pub isTooLong : List ℕ → Bool
 unfolding maxFile
 isTooLong file = ltb maxFile (length file)
 
-unfoldable pub reading : List ℕ → Reading
+unfoldable pub readingOf : Edition → List ℕ → Reading
 unfolding isTooLong readFrom start said lines
-reading file = elim (isTooLong file) [ true ↦ refused fileTooLong | false ↦ readFrom start (map said (lines file)) ]
+readingOf e file = elim (isTooLong file) [ true ↦ refused fileTooLong | false ↦ readFrom start (map (said e) (lines file)) ]
+
+-- Card 6: "the checker reads only this edition".
+abbrev pub reading : List ℕ → Reading
+reading file = readingOf wide file
 
 -- What has been read when the last line has passed.
 unfoldable pub lastOf : SoFar → List Said → SoFar
@@ -105,6 +109,6 @@ lastOf so [] = so
 lastOf so (l ∷ ls) = lastOf (after so l) ls
 
 -- The types that the 03 lines of a file declare, by number, named by a predicate or not.
-unfoldable pub typesOf : List ℕ → List Ty
+unfoldable pub typesOf : Edition → List ℕ → List Ty
 unfolding lastOf start said lines
-typesOf file = lastOf start (map said (lines file)) .types
+typesOf e file = lastOf start (map (said e) (lines file)) .types

@@ -1,5 +1,5 @@
--- Document 01, "Frame lines": the six kinds, which may follow which, and what each kind holds. A reference is a number here, whatever it
--- refers to. What is no frame meets condition 6: "unknown shape, flag or statement byte, or frame length wrong for it".
+-- Document 01, "Frame lines": the six kinds, which may follow which, and what each kind holds, in either edition of card 6. A reference is a
+-- number here, whatever it refers to. What is no frame meets condition 6: "unknown shape, flag or statement byte, or frame length wrong for it".
 use mathlib.Core.Bool.{Bool, true, false}
 use mathlib.Core.List.{List, [], _∷_}
 use mathlib.Core.Option.{Option, none, some}
@@ -8,6 +8,10 @@ use lib.Dec.{eqb, ltb}
 use lib.ListN.{length, getD, getElem?}
 use Rattle.unification.specs.Ty.{Leaf, Int, String, Bytes, Fact}
 use Rattle.meaning.specs.Syntax.{Field, QueryStmt, Query, FieldRef, Literal, ExprKind, Node}
+
+-- Card 6: a predicate reference has two bytes in the narrow edition and four in the wide one. Nothing else differs.
+pub data Edition : Type 0 where
+  narrow wide : Edition
 
 -- ---- Kinds
 
@@ -150,6 +154,12 @@ choice table (b ∷ s) = entry (getElem? table b) s
 
 -- ---- The grammar
 
+-- to a predicate
+unfoldable pub reference : Edition → Reader ℕ
+unfolding two four
+reference narrow = two
+reference wide = four
+
 unfoldable pub field : Reader Field
 unfolding pair two
 field = pair (λ n value. record { name = n; value = value }) two two
@@ -158,15 +168,15 @@ unfoldable pub alternative : Reader Alternative
 unfolding triple two four
 alternative = triple (λ n discriminant type. record { name = n; discriminant = discriminant; type = type }) two four two
 
-unfoldable pub typeShapes : List (Reader TypeShape)
-unfolding nothing one two many field alternative
-typeShapes =
+unfoldable pub typeShapes : Edition → List (Reader TypeShape)
+unfolding nothing one reference many field alternative
+typeShapes e =
     -- 00 Int, 01 String, 02 Bytes
     nothing (aLeaf Int) ∷
     nothing (aLeaf String) ∷
     nothing (aLeaf Bytes) ∷
     -- 03 Fact, 04 Record, 05 Union
-    one (λ p. aLeaf (Fact p)) two ∷
+    one (λ p. aLeaf (Fact p)) (reference e) ∷
     one aRecord (many field) ∷
     one aUnion (many alternative) ∷
     []
@@ -191,9 +201,9 @@ unfoldable pub headAndBody : Reader Query
 unfolding pair two many choice statements
 headAndBody = pair (λ head body. record { head = head; body = body }) two (many (choice statements))
 
-unfoldable pub exprKinds : List (Reader ExprKind)
-unfolding nothing one pair two byte many field headAndBody
-exprKinds =
+unfoldable pub exprKinds : Edition → List (Reader ExprKind)
+unfolding nothing one pair two byte many field headAndBody reference
+exprKinds e =
     -- 00, 01, 02 integer, string, bytes literal
     nothing (ExprKind.Lit Literal.Int) ∷
     nothing (ExprKind.Lit Literal.Str) ∷
@@ -211,27 +221,27 @@ exprKinds =
     one ExprKind.Disjunction (many two) ∷
     -- 0c Subquery, 0d Fact, 0e Arith, 0f Error, 10 Select
     one ExprKind.Subquery headAndBody ∷
-    pair ExprKind.Fact two two ∷
+    pair ExprKind.Fact (reference e) two ∷
     one ExprKind.Arith (many two) ∷
     nothing ExprKind.Error ∷
     pair ExprKind.Select two two ∷
     []
 
-unfoldable pub spanAndKind : Reader Node
+unfoldable pub spanAndKind : Edition → Reader Node
 unfolding triple four choice exprKinds
-spanAndKind = triple (λ start end kind. record { span = record { start = start; end = end }; kind = kind }) four four (choice exprKinds)
+spanAndKind e = triple (λ start end kind. record { span = record { start = start; end = end }; kind = kind }) four four (choice (exprKinds e))
 
 unfoldable pub rest : Reader (List ℕ)
 rest s = got s []
 
-unfoldable pub frame : Kind → Reader Frame
+unfoldable pub frame : Edition → Kind → Reader Frame
 unfolding one pair triple byte two rest choice typeShapes valueTypes spanAndKind headAndBody
-frame limits = pair theLimits byte two
-frame name = one aName rest
-frame schemaType = one aType (choice typeShapes)
-frame predicate = triple aPredicate two two (choice valueTypes)
-frame node = one aNode spanAndKind
-frame query = one theQuery headAndBody
+frame e limits = pair theLimits byte two
+frame e name = one aName rest
+frame e schemaType = one aType (choice (typeShapes e))
+frame e predicate = triple aPredicate two two (choice valueTypes)
+frame e node = one aNode (spanAndKind e)
+frame e query = one theQuery headAndBody
 
 -- a frame has no byte left over
 unfoldable pub whole : {A : Type 0} → Got A → Option A
@@ -240,6 +250,6 @@ whole (got a (b ∷ s)) = none
 whole fails = none
 
 -- The frame that a kind's content is; none where condition 6 is met.
-unfoldable pub frameOf : Kind → List ℕ → Option Frame
+unfoldable pub frameOf : Edition → Kind → List ℕ → Option Frame
 unfolding frame whole
-frameOf k s = whole (frame k s)
+frameOf e k s = whole (frame e k s)

@@ -7,7 +7,7 @@ use mathlib.Core.Path.{_≡_}
 use Prim.Native.Nat.{ℕ, _*_, _%_, _<_, _≤_}
 use lib.ListN.{length}
 use Rattle.meaning.specs.Lines.{Line, closed, unclosed, lines, digits, maxBytes}
-use Rattle.meaning.specs.Frame.{Kind, kindByte, Frame}
+use Rattle.meaning.specs.Frame.{Edition, Kind, kindByte, Frame}
 use Rattle.meaning.specs.SoFar.{Said, malformed, unknownKind, noFrame, frames}
 use Rattle.meaning.specs.All.{All, Any, Absent}
 use Rattle.meaning.specs.Answer.{hexLine}
@@ -28,8 +28,8 @@ pub record Holds (l : Line) (bytes : List ℕ) : Type 0 where
   pub short : length bytes ≤ maxBytes
 
 -- Condition 6, "unknown shape, flag or statement byte, or frame length wrong for it": no frame of the kind is written so.
-pub data Means (l : Line) : Said → Type 0 where
-  is-malformed : Malformed l → Means l malformed
-  is-unknown : (b : ℕ) (content : List ℕ) → Holds l (b ∷ content) → ((k : Kind) → kindByte k ≢ b) → Means l unknownKind
-  is-no-frame : (k : Kind) (content : List ℕ) → Holds l (kindByte k ∷ content) → ((f : Frame) → Fits f → written f ≢ kindByte k ∷ content) → Means l (noFrame k)
-  is-frame : (f : Frame) → Fits f → Holds l (written f) → Means l (frames f)
+pub data Means (e : Edition) (l : Line) : Said → Type 0 where
+  is-malformed : Malformed l → Means e l malformed
+  is-unknown : (b : ℕ) (content : List ℕ) → Holds l (b ∷ content) → ((k : Kind) → kindByte k ≢ b) → Means e l unknownKind
+  is-no-frame : (k : Kind) (content : List ℕ) → Holds l (kindByte k ∷ content) → ((f : Frame) → Fits e f → written e f ≢ kindByte k ∷ content) → Means e l (noFrame k)
+  is-frame : (f : Frame) → Fits e f → Holds l (written e f) → Means e l (frames f)

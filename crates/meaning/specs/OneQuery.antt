@@ -11,7 +11,7 @@ use Rattle.meaning.specs.Syntax.{Query, Node}
 use Rattle.meaning.specs.Schema.{Predicate}
 use Rattle.meaning.specs.Refusal.{Refusal, workTooShort, fileTooLong, malformedLine, misplacedKind, tooMany, malformedFrame, brokenText, nameGivenBefore, badReference, repeatedKey, tooManyVisits}
 use Rattle.meaning.specs.Lines.{lines}
-use Rattle.meaning.specs.Frame.{Kind, limits, name, schemaType, predicate, node, query, kindByte, rises, Frame, theLimits, aName, aType, aPredicate, aNode, theQuery, frameKind}
+use Rattle.meaning.specs.Frame.{wide, Kind, limits, name, schemaType, predicate, node, query, kindByte, rises, Frame, theLimits, aName, aType, aPredicate, aNode, theQuery, frameKind}
 use Rattle.meaning.specs.References.{exprNodes, queryNodes}
 use Rattle.meaning.specs.SoFar.{Said, malformed, unknownKind, noFrame, frames, said, SoFar, tyOf, predicateOf}
 use Rattle.meaning.specs.Conditions.{isMalformed, isOneTooMany, isNoFrame, isBrokenText, isNameGivenBefore, isBadReference, isRepeatedKey, Condition, firstOf}
@@ -102,7 +102,7 @@ readFromBefore so (l ∷ ls) = elim (firstOf conditionsBefore (asNow so) l) [ so
 
 unfoldable pub readingBefore : List ℕ → ReadingBefore
 unfolding isTooLong readFromBefore startBefore said lines
-readingBefore file = elim (isTooLong file) [ true ↦ refusedBefore fileTooLong | false ↦ readFromBefore startBefore (map said (lines file)) ]
+readingBefore file = elim (isTooLong file) [ true ↦ refusedBefore fileTooLong | false ↦ readFromBefore startBefore (map (said wide) (lines file)) ]
 
 unfoldable pub decideCheckedBefore : (Message → List ℕ) → Checked → Decided
 unfolding answerLines

@@ -10,7 +10,7 @@ use lib.ListN.{length, replicate}
 use Rattle.meaning.specs.Syntax.{Ast}
 use Rattle.meaning.specs.Schema.{Schema}
 use Rattle.meaning.specs.Refusal.{Refusal, workTooShort, tooManyVisits, answerTooLong, number}
-use Rattle.meaning.specs.File.{Reading, refused, described, reading}
+use Rattle.meaning.specs.File.{Reading, refused, described, readingOf, reading}
 use Rattle.meaning.specs.Check.{Typed, Checked, typed, exhausted, check}
 use Rattle.meaning.specs.Diag.{Message}
 use Rattle.meaning.specs.Messages.{messageText, textIn}
@@ -51,7 +51,7 @@ decideRead (refused r) = turnedDown r
 decideRead (described f) = decideRun (textIn f) (runAll (f .schema) (f .queries))
 
 unfoldable pub decide : List ℕ → ℕ → Decided
-unfolding decideRead reading minWords
+unfolding decideRead readingOf minWords
 decide file words = elim (ltb words minWords) [ true ↦ turnedDown workTooShort | false ↦ decideRead (reading file) ]
 
 pub data Result : Type 0 where

@@ -7,7 +7,7 @@ use mathlib.Core.Path.{_≡_}
 use Prim.Native.Nat.{ℕ, _≤_}
 use lib.ListN.{length}
 use Rattle.meaning.specs.Lines.{Line, lines}
-use Rattle.meaning.specs.Frame.{Kind, kindByte, mayStand, Frame}
+use Rattle.meaning.specs.Frame.{wide, Kind, kindByte, mayStand, Frame}
 use Rattle.meaning.specs.SoFar.{SoFar, said, start}
 use Rattle.meaning.specs.Conditions.{isFull, isLastQueryPast}
 use Rattle.meaning.specs.File.{maxFile}
@@ -22,7 +22,7 @@ pub record Reaches (file : List ℕ) (P : SoFar → Line → Type 0) : Type 0 wh
   pub rest : List Line
   pub read : SoFar
   pub split : lines file ≡ before ++ line ∷ rest
-  pub pass : Pass start (map said before) read
+  pub pass : Pass start (map (said wide) before) read
   pub here : P read line
 
 -- 6: the line is of a kind that may stand there and is not one too many, and no frame is written so.
@@ -33,4 +33,4 @@ pub record NoFrame (so : SoFar) (l : Line) : Type 0 where
   pub placed : mayStand (so .previous) kind ≡ true
   pub few : isFull so kind ≡ false
   pub fewQueries : isLastQueryPast so kind ≡ false
-  pub none-written : (f : Frame) → Fits f → written f ≢ kindByte kind ∷ content
+  pub none-written : (f : Frame) → Fits wide f → written wide f ≢ kindByte kind ∷ content

@@ -6,6 +6,10 @@ pub data Refusal : Type 0 where
   brokenText nameGivenBefore badReference repeatedKey tooManyVisits answerTooLong : Refusal
   -- card 3
   tooManyQueries : Refusal
+  -- card 6, by a converter alone
+  numberTooWide : Refusal
+  -- cards 7 and 8
+  tallyTooLarge ceilingPassed outsideTheRules : Refusal
 
 unfoldable pub number : Refusal → ℕ
 number workTooShort = 1
@@ -21,3 +25,7 @@ number repeatedKey = 10
 number tooManyVisits = 11
 number answerTooLong = 12
 number tooManyQueries = 13
+number numberTooWide = 14
+number tallyTooLarge = 15
+number ceilingPassed = 16
+number outsideTheRules = 17

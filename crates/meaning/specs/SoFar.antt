@@ -8,10 +8,10 @@ use Rattle.unification.specs.Ty.{Record, Union, Ty, leaf, Error, Row, ε, cell}
 use Rattle.meaning.specs.Syntax.{Field, Node, Ast}
 use Rattle.meaning.specs.Schema.{Predicate}
 use Rattle.meaning.specs.Lines.{Line, bytesOf, lines}
-use Rattle.meaning.specs.Frame.{Kind, limits, name, schemaType, predicate, node, query, kindOf, Alternative, TypeShape, aLeaf, aRecord, aUnion, Frame, theLimits, aName, aType, aPredicate, aNode, theQuery, frameOf}
+use Rattle.meaning.specs.Frame.{Edition, Kind, limits, name, schemaType, predicate, node, query, kindOf, Alternative, TypeShape, aLeaf, aRecord, aUnion, Frame, theLimits, aName, aType, aPredicate, aNode, theQuery, frameOf}
 use Rattle.meaning.specs.References.{exprNodes, textsOf}
 
--- ---- What a line says, taken alone
+-- ---- What a line says in an edition, taken alone
 
 pub data Said : Type 0 where
   -- condition 3
@@ -25,20 +25,20 @@ unfoldable pub saidOf : Kind → Option Frame → Said
 saidOf k none = noFrame k
 saidOf k (some f) = frames f
 
-unfoldable pub saidIn : Option Kind → List ℕ → Said
+unfoldable pub saidIn : Edition → Option Kind → List ℕ → Said
 unfolding saidOf frameOf
-saidIn none content = unknownKind
-saidIn (some k) content = saidOf k (frameOf k content)
+saidIn e none content = unknownKind
+saidIn e (some k) content = saidOf k (frameOf e k content)
 
-unfoldable pub saidBy : Option (List ℕ) → Said
+unfoldable pub saidBy : Edition → Option (List ℕ) → Said
 unfolding saidIn kindOf
-saidBy none = malformed
-saidBy (some []) = malformed
-saidBy (some (k ∷ content)) = saidIn (kindOf k) content
+saidBy e none = malformed
+saidBy e (some []) = malformed
+saidBy e (some (k ∷ content)) = saidIn e (kindOf k) content
 
-unfoldable pub said : Line → Said
+unfoldable pub said : Edition → Line → Said
 unfolding saidBy bytesOf
-said l = saidBy (bytesOf l)
+said e l = saidBy e (bytesOf l)
 
 -- the text that a line gives, if it is a name's
 unfoldable pub textsOn : Said → List (List ℕ)
@@ -49,9 +49,9 @@ textsOn (noFrame k) = []
 textsOn (frames f) = textsOf f
 
 -- the texts of a file's name lines, in file order
-unfoldable pub textsIn : List ℕ → List (List ℕ)
+unfoldable pub textsIn : Edition → List ℕ → List (List ℕ)
 unfolding textsOn said lines flatMap
-textsIn file = flatMap textsOn (map said (lines file))
+textsIn e file = flatMap textsOn (map (said e) (lines file))
 
 -- ---- What has been read so far, in file order
 

@@ -10,7 +10,7 @@ use Rattle.text.specs.Surrogates.{HasSurrogate, charactersOpen}
 use Rattle.meaning.specs.All.{All}
 use Rattle.meaning.specs.Schema.{Schema}
 use Rattle.meaning.specs.Refusal.{workTooShort, fileTooLong, malformedLine, misplacedKind, tooMany, malformedFrame, brokenText, nameGivenBefore, badReference, repeatedKey, tooManyQueries}
-use Rattle.meaning.specs.Frame.{Kind, limits, name, schemaType, predicate, node, query, Frame}
+use Rattle.meaning.specs.Frame.{wide, Kind, limits, name, schemaType, predicate, node, query, Frame}
 use Rattle.meaning.specs.References.{textsOf}
 use Rattle.meaning.specs.Lines.{position, lines}
 use Rattle.meaning.specs.SoFar.{Said, malformed, unknownKind, noFrame, frames, said, SoFar, start, after}
@@ -71,7 +71,7 @@ readFromOpen so (l ∷ ls) = elim (firstOf conditionsOpen so l) [ some r ↦ ref
 
 unfoldable pub readingOpen : List ℕ → Reading
 unfolding isTooLong readFromOpen start said lines
-readingOpen file = elim (isTooLong file) [ true ↦ refused fileTooLong | false ↦ readFromOpen start (map said (lines file)) ]
+readingOpen file = elim (isTooLong file) [ true ↦ refused fileTooLong | false ↦ readFromOpen start (map (said wide) (lines file)) ]
 
 unfoldable pub decideOpen : List ℕ → ℕ → Decided
 unfolding decideRead readingOpen minWords
@@ -94,4 +94,4 @@ NoSurrogateOn (noFrame k) = Unit {0}
 NoSurrogateOn (frames f) = All NoSurrogate (textsOf f)
 
 abbrev pub NoSurrogateIn : List ℕ → Type 0
-NoSurrogateIn file = All NoSurrogateOn (map said (lines file))
+NoSurrogateIn file = All NoSurrogateOn (map (said wide) (lines file))

@@ -1,4 +1,5 @@
--- Document 01, "Frame lines", from the writer's side: the bytes of a frame, the line that it is written as, and which frames can be written.
+-- Document 01, "Frame lines", from the writer's side: the bytes of a frame in an edition, the line that it is written as, and
+-- which frames can be written.
 use mathlib.Core.List.{List, [], _∷_, _++_, flatMap}
 use mathlib.Core.Option.{Option, none, some}
 use Prim.Native.Nat.{ℕ, _<_, _≤_}
@@ -6,7 +7,7 @@ use lib.ListN.{length}
 use Rattle.unification.specs.Ty.{Int, String, Bytes, Fact}
 use Rattle.meaning.specs.Syntax.{Field, QueryStmt, Query, FieldRef, Literal, ExprKind, Node}
 use Rattle.meaning.specs.Lines.{maxBytes}
-use Rattle.meaning.specs.Frame.{kindByte, Alternative, TypeShape, aLeaf, aRecord, aUnion, Frame, theLimits, aName, aType, aPredicate, aNode, theQuery, frameKind}
+use Rattle.meaning.specs.Frame.{Edition, narrow, wide, kindByte, Alternative, TypeShape, aLeaf, aRecord, aUnion, Frame, theLimits, aName, aType, aPredicate, aNode, theQuery, frameKind}
 use Rattle.meaning.specs.All.{All}
 use Rattle.meaning.specs.Answer.{bytes₂, bytes₄, hexLine}
 
@@ -20,14 +21,20 @@ unfoldable pub asAlternative : Alternative → List ℕ
 unfolding bytes₂ bytes₄
 asAlternative a = bytes₂ (a .name) ++ bytes₄ (a .discriminant) ++ bytes₂ (a .type)
 
-unfoldable pub asShape : TypeShape → List ℕ
-unfolding bytes₂ asField asAlternative flatMap
-asShape (aLeaf Int) = 0x00 ∷ []
-asShape (aLeaf String) = 0x01 ∷ []
-asShape (aLeaf Bytes) = 0x02 ∷ []
-asShape (aLeaf (Fact p)) = 0x03 ∷ bytes₂ p
-asShape (aRecord fs) = 0x04 ∷ flatMap asField fs
-asShape (aUnion alts) = 0x05 ∷ flatMap asAlternative alts
+-- a reference to a predicate
+unfoldable pub asReference : Edition → ℕ → List ℕ
+unfolding bytes₂ bytes₄
+asReference narrow p = bytes₂ p
+asReference wide p = bytes₄ p
+
+unfoldable pub asShape : Edition → TypeShape → List ℕ
+unfolding asReference asField asAlternative flatMap
+asShape e (aLeaf Int) = 0x00 ∷ []
+asShape e (aLeaf String) = 0x01 ∷ []
+asShape e (aLeaf Bytes) = 0x02 ∷ []
+asShape e (aLeaf (Fact p)) = 0x03 ∷ asReference e p
+asShape e (aRecord fs) = 0x04 ∷ flatMap asField fs
+asShape e (aUnion alts) = 0x05 ∷ flatMap asAlternative alts
 
 unfoldable pub asValueType : Option ℕ → List ℕ
 unfolding bytes₂
@@ -46,46 +53,46 @@ unfoldable pub asQuery : Query → List ℕ
 unfolding bytes₂ asStatement flatMap
 asQuery q = bytes₂ (q .head) ++ flatMap asStatement (q .body)
 
-unfoldable pub asExpr : ExprKind → List ℕ
-unfolding bytes₂ asField asQuery flatMap
-asExpr (ExprKind.Lit Literal.Int) = 0x00 ∷ []
-asExpr (ExprKind.Lit Literal.Str) = 0x01 ∷ []
-asExpr (ExprKind.Lit Literal.Bytes) = 0x02 ∷ []
-asExpr (ExprKind.Var x) = 0x03 ∷ bytes₂ x
-asExpr ExprKind.Wildcard = 0x04 ∷ []
-asExpr ExprKind.Never = 0x05 ∷ []
-asExpr (ExprKind.Prefix x) = 0x06 ∷ bytes₂ x
-asExpr (ExprKind.Fuzzy x d) = 0x07 ∷ bytes₂ x ++ d ∷ []
-asExpr (ExprKind.Record fs) = 0x08 ∷ flatMap asField fs
-asExpr (ExprKind.Access (FieldRef.Key x) e) = 0x09 ∷ bytes₂ x ++ bytes₂ e
-asExpr (ExprKind.Access FieldRef.Value e) = 0x0a ∷ bytes₂ e
-asExpr (ExprKind.Disjunction es) = 0x0b ∷ flatMap bytes₂ es
-asExpr (ExprKind.Subquery q) = 0x0c ∷ asQuery q
-asExpr (ExprKind.Fact p e) = 0x0d ∷ bytes₂ p ++ bytes₂ e
-asExpr (ExprKind.Arith es) = 0x0e ∷ flatMap bytes₂ es
-asExpr ExprKind.Error = 0x0f ∷ []
-asExpr (ExprKind.Select x e) = 0x10 ∷ bytes₂ x ++ bytes₂ e
+unfoldable pub asExpr : Edition → ExprKind → List ℕ
+unfolding bytes₂ asReference asField asQuery flatMap
+asExpr e (ExprKind.Lit Literal.Int) = 0x00 ∷ []
+asExpr e (ExprKind.Lit Literal.Str) = 0x01 ∷ []
+asExpr e (ExprKind.Lit Literal.Bytes) = 0x02 ∷ []
+asExpr e (ExprKind.Var x) = 0x03 ∷ bytes₂ x
+asExpr e ExprKind.Wildcard = 0x04 ∷ []
+asExpr e ExprKind.Never = 0x05 ∷ []
+asExpr e (ExprKind.Prefix x) = 0x06 ∷ bytes₂ x
+asExpr e (ExprKind.Fuzzy x d) = 0x07 ∷ bytes₂ x ++ d ∷ []
+asExpr e (ExprKind.Record fs) = 0x08 ∷ flatMap asField fs
+asExpr e (ExprKind.Access (FieldRef.Key n) x) = 0x09 ∷ bytes₂ n ++ bytes₂ x
+asExpr e (ExprKind.Access FieldRef.Value x) = 0x0a ∷ bytes₂ x
+asExpr e (ExprKind.Disjunction es) = 0x0b ∷ flatMap bytes₂ es
+asExpr e (ExprKind.Subquery q) = 0x0c ∷ asQuery q
+asExpr e (ExprKind.Fact p x) = 0x0d ∷ asReference e p ++ bytes₂ x
+asExpr e (ExprKind.Arith es) = 0x0e ∷ flatMap bytes₂ es
+asExpr e ExprKind.Error = 0x0f ∷ []
+asExpr e (ExprKind.Select n x) = 0x10 ∷ bytes₂ n ++ bytes₂ x
 
-unfoldable pub asNode : Node → List ℕ
+unfoldable pub asNode : Edition → Node → List ℕ
 unfolding bytes₄ asExpr
-asNode n = bytes₄ (n .span .start) ++ bytes₄ (n .span .end) ++ asExpr (n .kind)
+asNode e n = bytes₄ (n .span .start) ++ bytes₄ (n .span .end) ++ asExpr e (n .kind)
 
-unfoldable pub asContent : Frame → List ℕ
+unfoldable pub asContent : Edition → Frame → List ℕ
 unfolding bytes₂ asShape asValueType asNode asQuery
-asContent (theLimits d t) = d ∷ bytes₂ t
-asContent (aName s) = s
-asContent (aType t) = asShape t
-asContent (aPredicate n k v) = bytes₂ n ++ bytes₂ k ++ asValueType v
-asContent (aNode n) = asNode n
-asContent (theQuery q) = asQuery q
+asContent e (theLimits d t) = d ∷ bytes₂ t
+asContent e (aName s) = s
+asContent e (aType t) = asShape e t
+asContent e (aPredicate n k v) = bytes₂ n ++ bytes₂ k ++ asValueType v
+asContent e (aNode n) = asNode e n
+asContent e (theQuery q) = asQuery q
 
-unfoldable pub written : Frame → List ℕ
+unfoldable pub written : Edition → Frame → List ℕ
 unfolding asContent kindByte frameKind
-written f = kindByte (frameKind f) ∷ asContent f
+written e f = kindByte (frameKind f) ∷ asContent e f
 
-unfoldable pub fileOf : List Frame → List ℕ
+unfoldable pub fileOf : Edition → List Frame → List ℕ
 unfolding hexLine written flatMap
-fileOf fs = flatMap (λ f. hexLine (written f)) fs
+fileOf e fs = flatMap (λ f. hexLine (written e f)) fs
 
 -- ---- Numbers that fit in their bytes
 
@@ -104,13 +111,17 @@ FieldFits f = InTwo (f .name) × InTwo (f .value)
 abbrev pub AlternativeFits : Alternative → Type 0
 AlternativeFits a = InTwo (a .name) × InFour (a .discriminant) × InTwo (a .type)
 
-abbrev pub ShapeFits : TypeShape → Type 0
-ShapeFits (aLeaf Int) = Unit {0}
-ShapeFits (aLeaf String) = Unit {0}
-ShapeFits (aLeaf Bytes) = Unit {0}
-ShapeFits (aLeaf (Fact p)) = InTwo p
-ShapeFits (aRecord fs) = All FieldFits fs
-ShapeFits (aUnion alts) = All AlternativeFits alts
+abbrev pub ReferenceFits : Edition → ℕ → Type 0
+ReferenceFits narrow p = InTwo p
+ReferenceFits wide p = InFour p
+
+abbrev pub ShapeFits : Edition → TypeShape → Type 0
+ShapeFits e (aLeaf Int) = Unit {0}
+ShapeFits e (aLeaf String) = Unit {0}
+ShapeFits e (aLeaf Bytes) = Unit {0}
+ShapeFits e (aLeaf (Fact p)) = ReferenceFits e p
+ShapeFits e (aRecord fs) = All FieldFits fs
+ShapeFits e (aUnion alts) = All AlternativeFits alts
 
 abbrev pub ValueTypeFits : Option ℕ → Type 0
 ValueTypeFits none = Unit {0}
@@ -126,35 +137,35 @@ StatementFits (QueryStmt.Compare l r) = InTwo l × InTwo r
 abbrev pub QueryFits : Query → Type 0
 QueryFits q = InTwo (q .head) × All StatementFits (q .body)
 
-abbrev pub ExprFits : ExprKind → Type 0
-ExprFits (ExprKind.Lit l) = Unit {0}
-ExprFits (ExprKind.Var x) = InTwo x
-ExprFits ExprKind.Wildcard = Unit {0}
-ExprFits ExprKind.Never = Unit {0}
-ExprFits (ExprKind.Prefix x) = InTwo x
-ExprFits (ExprKind.Fuzzy x d) = InTwo x × Byte d
-ExprFits (ExprKind.Record fs) = All FieldFits fs
-ExprFits (ExprKind.Access (FieldRef.Key x) e) = InTwo x × InTwo e
-ExprFits (ExprKind.Access FieldRef.Value e) = InTwo e
-ExprFits (ExprKind.Disjunction es) = All InTwo es
-ExprFits (ExprKind.Subquery q) = QueryFits q
-ExprFits (ExprKind.Fact p e) = InTwo p × InTwo e
-ExprFits (ExprKind.Arith es) = All InTwo es
-ExprFits ExprKind.Error = Unit {0}
-ExprFits (ExprKind.Select x e) = InTwo x × InTwo e
+abbrev pub ExprFits : Edition → ExprKind → Type 0
+ExprFits e (ExprKind.Lit l) = Unit {0}
+ExprFits e (ExprKind.Var x) = InTwo x
+ExprFits e ExprKind.Wildcard = Unit {0}
+ExprFits e ExprKind.Never = Unit {0}
+ExprFits e (ExprKind.Prefix x) = InTwo x
+ExprFits e (ExprKind.Fuzzy x d) = InTwo x × Byte d
+ExprFits e (ExprKind.Record fs) = All FieldFits fs
+ExprFits e (ExprKind.Access (FieldRef.Key n) x) = InTwo n × InTwo x
+ExprFits e (ExprKind.Access FieldRef.Value x) = InTwo x
+ExprFits e (ExprKind.Disjunction es) = All InTwo es
+ExprFits e (ExprKind.Subquery q) = QueryFits q
+ExprFits e (ExprKind.Fact p x) = ReferenceFits e p × InTwo x
+ExprFits e (ExprKind.Arith es) = All InTwo es
+ExprFits e ExprKind.Error = Unit {0}
+ExprFits e (ExprKind.Select n x) = InTwo n × InTwo x
 
-abbrev pub NodeFits : Node → Type 0
-NodeFits n = InFour (n .span .start) × InFour (n .span .end) × ExprFits (n .kind)
+abbrev pub NodeFits : Edition → Node → Type 0
+NodeFits e n = InFour (n .span .start) × InFour (n .span .end) × ExprFits e (n .kind)
 
-abbrev pub Fits : Frame → Type 0
-Fits (theLimits d t) = Byte d × InTwo t
-Fits (aName s) = All Byte s
-Fits (aType t) = ShapeFits t
-Fits (aPredicate n k v) = InTwo n × InTwo k × ValueTypeFits v
-Fits (aNode n) = NodeFits n
-Fits (theQuery q) = QueryFits q
+abbrev pub Fits : Edition → Frame → Type 0
+Fits e (theLimits d t) = Byte d × InTwo t
+Fits e (aName s) = All Byte s
+Fits e (aType t) = ShapeFits e t
+Fits e (aPredicate n k v) = InTwo n × InTwo k × ValueTypeFits v
+Fits e (aNode n) = NodeFits e n
+Fits e (theQuery q) = QueryFits q
 
 -- Its numbers fit in their bytes and it fits in a line.
-pub record Writable (f : Frame) : Type 0 where
-  pub fits : Fits f
-  pub short : length (written f) ≤ maxBytes
+pub record Writable (e : Edition) (f : Frame) : Type 0 where
+  pub fits : Fits e f
+  pub short : length (written e f) ≤ maxBytes

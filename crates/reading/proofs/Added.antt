@@ -16,7 +16,8 @@ use Rattle.cells.proofs.Frame.{keeps-set}
 use Rattle.meaning.specs.Syntax.{Node, Query, noNode, nodeAt}
 use Rattle.meaning.specs.Schema.{Predicate}
 use Rattle.meaning.specs.References.{optional}
-use Rattle.meaning.specs.Frame.{node, query, aNode, theQuery, frameOf}
+use Rattle.meaning.specs.Frame.{Edition, node, query, aNode, theQuery, frameOf}
+use Rattle.meaning.specs.Frame as Frame
 use Rattle.meaning.specs.SoFar.{typeAt, valueTy, predicateOf}
 use Rattle.meaning.specs.All.{Below}
 use Rattle.meaning.specs.Lines.{position}
@@ -24,7 +25,7 @@ use Rattle.meaning.specs.Conditions.{anyOf, sameText, given}
 use Rattle.meaning.specs.File.{valueText, countOf}
 use Rattle.meaning.proofs.Tests.{cases, clash, same-text}
 use Rattle.hex.specs.Digits.{lineAt}
-use Rattle.tree.specs.Stands.{NameIs, NodeIs, QueryIs, PredicateIs, noPredicate, numbered}
+use Rattle.tree.specs.Stands.{NameIs, NodeIn, QueryIs, PredicateIs, noPredicate, numbered}
 use Rattle.reading.specs.Held.{NamesHeld, TypesHeld, PredicatesHeld, NodesHeld}
 use Rattle.reading.proofs.Regions.{snoc}
 use Rattle.reading.proofs.Kept.{node-kept}
@@ -83,15 +84,15 @@ module _ {f w : List ℕ} {n v : ℕ} {names : List (List ℕ)} (h : NamesHeld f
 -- ---- Nodes and the query
 
 module _ (at size kind : ℕ) (content : List ℕ) {f : List ℕ} (line : lineAt f at ≡ some (kind ∷ content)) (long : size ≡ length (kind ∷ content)) (small : size ≤ 512) where
-  pub node-added : {w : List ℕ} {n : ℕ} {nodes : List Node} (nd : Node) → NodesHeld f w n nodes → 16384 ≤ length w → length nodes < 512 → kind ≡ 0x05 → frameOf node content ≡ some (aNode nd)
-      → NodesHeld f (set w (NODES + n) ((at * 1024 + size) * 2)) (n + 1) (nodes ++ nd ∷ [])
+  pub node-added : {e : Edition} {w : List ℕ} {n : ℕ} {nodes : List Node} (nd : Node) → NodesHeld e f w n nodes → 16384 ≤ length w → length nodes < 512 → kind ≡ 0x05 → frameOf e node content ≡ some (aNode nd)
+      → NodesHeld e f (set w (NODES + n) ((at * 1024 + size) * 2)) (n + 1) (nodes ++ nd ∷ [])
   unfolding nodeAt
-  node-added {w} {n} {nodes} nd h wide room k frame = record {
+  node-added {e} {w} {n} {nodes} nd h wide room k frame = record {
     count = rw (length-snoc nodes nd) (omega (arith, h .count));
     few = rw (length-snoc nodes nd) (omega arith);
-    node = snoc (λ i t. NodeIs f (set w (NODES + n) x) i t) noNode nodes nd
+    node = snoc (λ i t. NodeIn e f (set w (NODES + n) x) i t) noNode nodes nd
         (λ i l. node-kept (ap (λ y. y / 2) (keeps-set {a = NODES + n} {e = FIELDS} w (NODES + n) x (omega arith) (omega (arith, h .count)) .below (NODES + i) (omega (arith, h .count)))) (h .node i l))
-        (subst (λ i. NodeIs f (set w (NODES + n) x) i nd) (h .count) (record { content = content; line = record { line = rw (here, place) (line ∙ ap (λ b. some (b ∷ content)) k); long = rw here (omega arith) }; frame = frame }));
+        (subst (λ i. NodeIn e f (set w (NODES + n) x) i nd) (h .count) (record { content = content; line = record { line = rw (here, place) (line ∙ ap (λ b. some (b ∷ content)) k); long = rw here (omega arith) }; frame = frame }));
   }
     where
       x : ℕ
@@ -103,7 +104,7 @@ module _ (at size kind : ℕ) (content : List ℕ) {f : List ℕ} (line : lineAt
       place : x / 2048 ≡ at
       place = omega arith
 
-  pub query-added : (w : List ℕ) (q : Query) → 16384 ≤ length w → kind ≡ 0x06 → frameOf query content ≡ some (theQuery q) → QueryIs f (set w QUERY (at * 1024 + size)) q
+  pub query-added : (w : List ℕ) (q : Query) → 16384 ≤ length w → kind ≡ 0x06 → frameOf Frame.wide query content ≡ some (theQuery q) → QueryIs f (set w QUERY (at * 1024 + size)) q
   query-added w q wide k frame = record { content = content; line = record { line = rw (here, place) (line ∙ ap (λ b. some (b ∷ content)) k); long = rw here (omega arith) }; frame = frame }
     where
       x : ℕ

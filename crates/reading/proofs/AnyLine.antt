@@ -33,22 +33,23 @@ use Rattle.reading.proofs.Lines.{limits-held}
 use Rattle.reading.proofs.Order.{first-unknown, first-misplaced, first-too-many, first-too-many-queries, first-no-frame, first-none}
 use Rattle.reading.proofs.Stepping.{refuses, goes-on}
 use Rattle.reading.proofs.Typing.{whole-made, sized-got}
+use Rattle.meaning.specs.Frame.{Edition}
 
 -- ---- The limits
 
-limits-frame : (s : List ℕ) (fr : Frame) → 0 < length s → frameOf Frame.limits (drop 1 s) ≡ some fr → fr ≡ theLimits (byteW s 1) (halfW s 2)
+limits-frame : (ed : Edition) (s : List ℕ) (fr : Frame) → 0 < length s → frameOf ed Frame.limits (drop 1 s) ≡ some fr → fr ≡ theLimits (byteW s 1) (halfW s 2)
 unfolding frameOf frame
-limits-frame s fr l e = sized-got (sized-pair theLimits sized-byte sized-two) s 1 fr [] l (whole-made (pair theLimits byte two (drop 1 s)) fr e)
+limits-frame ed s fr l e = sized-got (sized-pair theLimits sized-byte sized-two) s 1 fr [] l (whole-made (pair theLimits byte two (drop 1 s)) fr e)
 
-pub limits-takes : (s w w′ : List ℕ) (c : Counters) (d t : ℕ) → d ≡ byteW s 1 → t ≡ halfW s 2 → w′ ≡ set (set w MAX-DISTANCE d) MAX-TERM t → TakesAnywhere Frame.limits s w c w′ (On c)
+pub limits-takes : (ed : Edition) (s w w′ : List ℕ) (c : Counters) (d t : ℕ) → d ≡ byteW s 1 → t ≡ halfW s 2 → w′ ≡ set (set w MAX-DISTANCE d) MAX-TERM t → TakesAnywhere ed Frame.limits s w c w′ (On c)
 unfolding frameKind textsOf anyOf kindByte keysOf again refersBadly refersEarlier nameRefs typeRefs nodeRefs allBelow
-limits-takes s w w′ c d t p q e = record {
+limits-takes ed s w w′ c d t p q e = record {
   is = λ f at. record {
     is = λ next T previous so fr h l k.
-        rw (e, p, q, limits-frame s fr (l .some) (k .is))
-        (goes-on f next (set (set w MAX-DISTANCE (byteW s 1)) MAX-TERM (halfW s 2)) 0 (add so (theLimits (byteW s 1) (halfW s 2))) c T _
+        rw (e, p, q, limits-frame ed s fr (l .some) (k .is))
+        (goes-on ed f next (set (set w MAX-DISTANCE (byteW s 1)) MAX-TERM (halfW s 2)) 0 (add so (theLimits (byteW s 1) (halfW s 2))) c T _
         (first-none so (theLimits (byteW s 1) (halfW s 2)) (k .placed) (k .room) (k .turn) refl refl refl refl)
-        (limits-held h next (omega (arith, l .on)) (l .within) (byteW s 1) (halfW s 2) (k .placed)));
+        (limits-held ed h next (omega (arith, l .on)) (l .within) (byteW s 1) (halfW s 2) (k .placed)));
   };
 }
 
@@ -70,18 +71,18 @@ made-one : {A : Type 0} (k : Kind) (make : A → Frame) (r : Reader A) (s : List
 unfolding one
 made-one k make r s h = made-then k (r s) (λ a. got (make a)) (λ a t. made k (make a) t (h a))
 
-frame-made : (k : Kind) (s : List ℕ) → Made k (frame k s)
+frame-made : (ed : Edition) (k : Kind) (s : List ℕ) → Made k (frame ed k s)
 unfolding frame pair triple frameKind
-frame-made Frame.limits s = made-then _ (byte s) _ (λ a t. made-one _ _ two t (λ b. refl))
-frame-made Frame.name s = made-one _ aName rest s (λ a. refl)
-frame-made Frame.schemaType s = made-one _ aType (choice typeShapes) s (λ a. refl)
-frame-made Frame.predicate s = made-then _ (two s) _ (λ a t. made-then _ (two t) _ (λ b u. made-one _ (aPredicate a b) (choice valueTypes) u (λ v. refl)))
-frame-made Frame.node s = made-one _ aNode spanAndKind s (λ a. refl)
-frame-made Frame.query s = made-one _ theQuery headAndBody s (λ a. refl)
+frame-made ed Frame.limits s = made-then _ (byte s) _ (λ a t. made-one _ _ two t (λ b. refl))
+frame-made ed Frame.name s = made-one _ aName rest s (λ a. refl)
+frame-made ed Frame.schemaType s = made-one _ aType (choice (typeShapes ed)) s (λ a. refl)
+frame-made ed Frame.predicate s = made-then _ (two s) _ (λ a t. made-then _ (two t) _ (λ b u. made-one _ (aPredicate a b) (choice valueTypes) u (λ v. refl)))
+frame-made ed Frame.node s = made-one _ aNode (spanAndKind ed) s (λ a. refl)
+frame-made ed Frame.query s = made-one _ theQuery headAndBody s (λ a. refl)
 
-pub frame-kind : (k : Kind) (s : List ℕ) (fr : Frame) → frameOf k s ≡ some fr → frameKind fr ≡ k
+pub frame-kind : (ed : Edition) (k : Kind) (s : List ℕ) (fr : Frame) → frameOf ed k s ≡ some fr → frameKind fr ≡ k
 unfolding frameOf Made
-frame-kind k s fr e = frame-made k s fr [] (whole-made (frame k s) fr e)
+frame-kind ed k s fr e = frame-made ed k s fr [] (whole-made (frame ed k s) fr e)
 
 -- ---- What a line says, by its first byte
 
@@ -89,10 +90,10 @@ first-byte : (s : List ℕ) → 0 < length s → s ≡ byteW s 0 ∷ drop 1 s
 first-byte [] l = absurd (omega arith)
 first-byte (b ∷ s) l = refl
 
-said-as : (s : List ℕ) → 0 < length s → saidBy (some s) ≡ saidIn (kindOf (byteW s 0)) (drop 1 s)
+said-as : (ed : Edition) (s : List ℕ) → 0 < length s → saidBy ed (some s) ≡ saidIn ed (kindOf (byteW s 0)) (drop 1 s)
 unfolding saidBy
-said-as [] l = absurd (omega arith)
-said-as (b ∷ s) l = refl
+said-as ed [] l = absurd (omega arith)
+said-as ed (b ∷ s) l = refl
 
 kind-there : (p o : Option Kind) → stands p o ≡ true → (k : Kind) × (o ≡ some k)
 kind-there p none e = clash (sym e)
@@ -106,16 +107,16 @@ frame-none : (o : Option Frame) → isSome o ≡ false → o ≡ none
 frame-none none e = refl
 frame-none (some fr) e = clash e
 
-module _ (s : List ℕ) {f : List ℕ} {at : ℕ} {w : List ℕ} {T : Rows} {c : Counters} {previous : ℕ} {so : SoFar} (h : Held f at w T c previous so) (long : 0 < length s) (kind : ℕ) (e : kind ≡ numberOf (kindOf (byteW s 0))) where
+module _ (ed : Edition) (s : List ℕ) {f : List ℕ} {at : ℕ} {w : List ℕ} {T : Rows} {c : Counters} {previous : ℕ} {so : SoFar} (h : Held ed f at w T c previous so) (long : 0 < length s) (kind : ℕ) (e : kind ≡ numberOf (kindOf (byteW s 0))) where
   kind-is : kindAt kind ≡ kindOf (byteW s 0)
   kind-is = ap kindAt e ∙ kind-of-number (kindOf (byteW s 0))
 
   previous-is : kindAt previous ≡ so .previous
   previous-is = ap kindAt (h .kind) ∙ kind-of-number (so .previous)
 
-  says : (k : Kind) → kindAt kind ≡ some k → saidBy (some s) ≡ saidOf k (frameOf k (drop 1 s))
+  says : (k : Kind) → kindAt kind ≡ some k → saidBy ed (some s) ≡ saidOf k (frameOf ed k (drop 1 s))
   unfolding saidIn
-  says k q = said-as s long ∙ ap (λ o. saidIn o (drop 1 s)) (sym kind-is ∙ q)
+  says k q = said-as ed s long ∙ ap (λ o. saidIn ed o (drop 1 s)) (sym kind-is ∙ q)
 
   places : (k : Kind) (b : Bool) → kindAt kind ≡ some k → stands (kindAt previous) (kindAt kind) ≡ b → mayStand (so .previous) k ≡ b
   places k b q t = rw (previous-is, q) at t
@@ -144,32 +145,32 @@ module _ (s : List ℕ) {f : List ℕ} {at : ℕ} {w : List ℕ} {T : Rows} {c :
       go Frame.node = refl
       go Frame.query = ap (leb 64) (h .queries)
 
-  misplaces : stands (kindAt previous) (kindAt kind) ≡ false → firstOf conditions so (saidBy (some s)) ≡ some Refused.misplacedKind
+  misplaces : stands (kindAt previous) (kindAt kind) ≡ false → firstOf conditions so (saidBy ed (some s)) ≡ some Refused.misplacedKind
   unfolding saidIn
   misplaces t = go (kindAt kind) refl
     where
-      go : (o : Option Kind) → kindAt kind ≡ o → firstOf conditions so (saidBy (some s)) ≡ some Refused.misplacedKind
-      go none q = ap (firstOf conditions so) (said-as s long ∙ ap (λ o. saidIn o (drop 1 s)) (sym kind-is ∙ q)) ∙ first-unknown so
-      go (some k) q = ap (firstOf conditions so) (says k q) ∙ first-misplaced so k (frameOf k (drop 1 s)) (frame-kind k (drop 1 s)) (places k false q t)
+      go : (o : Option Kind) → kindAt kind ≡ o → firstOf conditions so (saidBy ed (some s)) ≡ some Refused.misplacedKind
+      go none q = ap (firstOf conditions so) (said-as ed s long ∙ ap (λ o. saidIn ed o (drop 1 s)) (sym kind-is ∙ q)) ∙ first-unknown so
+      go (some k) q = ap (firstOf conditions so) (says k q) ∙ first-misplaced so k (frameOf ed k (drop 1 s)) (frame-kind ed k (drop 1 s)) (places k false q t)
 
   module _ (t : stands (kindAt previous) (kindAt kind) ≡ true) where
-    overfills : fullOf c kind ≡ true → firstOf conditions so (saidBy (some s)) ≡ some Refused.tooMany
+    overfills : fullOf c kind ≡ true → firstOf conditions so (saidBy ed (some s)) ≡ some Refused.tooMany
     overfills u =
         let k = kind-there (kindAt previous) (kindAt kind) t in
-        ap (firstOf conditions so) (says (k .0) (k .1)) ∙ first-too-many so (k .0) (frameOf (k .0) (drop 1 s)) (frame-kind (k .0) (drop 1 s)) (places (k .0) true (k .1) t) (sym (fills (k .0) (k .1)) ∙ u)
+        ap (firstOf conditions so) (says (k .0) (k .1)) ∙ first-too-many so (k .0) (frameOf ed (k .0) (drop 1 s)) (frame-kind ed (k .0) (drop 1 s)) (places (k .0) true (k .1) t) (sym (fills (k .0) (k .1)) ∙ u)
 
-    overturns : fullOf c kind ≡ false → pastOf c kind ≡ true → firstOf conditions so (saidBy (some s)) ≡ some Refused.tooManyQueries
+    overturns : fullOf c kind ≡ false → pastOf c kind ≡ true → firstOf conditions so (saidBy ed (some s)) ≡ some Refused.tooManyQueries
     overturns u p =
         let k = kind-there (kindAt previous) (kindAt kind) t in
-        ap (firstOf conditions so) (says (k .0) (k .1)) ∙ first-too-many-queries so (k .0) (frameOf (k .0) (drop 1 s)) (frame-kind (k .0) (drop 1 s)) (places (k .0) true (k .1) t) (sym (fills (k .0) (k .1)) ∙ u) (sym (turns (k .0) (k .1)) ∙ p)
+        ap (firstOf conditions so) (says (k .0) (k .1)) ∙ first-too-many-queries so (k .0) (frameOf ed (k .0) (drop 1 s)) (frame-kind ed (k .0) (drop 1 s)) (places (k .0) true (k .1) t) (sym (fills (k .0) (k .1)) ∙ u) (sym (turns (k .0) (k .1)) ∙ p)
 
-    misforms : fullOf c kind ≡ false → pastOf c kind ≡ false → isFrame (kindAt kind) (drop 1 s) ≡ false → firstOf conditions so (saidBy (some s)) ≡ some Refused.malformedFrame
+    misforms : fullOf c kind ≡ false → pastOf c kind ≡ false → isFrame ed (kindAt kind) (drop 1 s) ≡ false → firstOf conditions so (saidBy ed (some s)) ≡ some Refused.malformedFrame
     misforms u p v =
         let k = kind-there (kindAt previous) (kindAt kind) t in
-        let x : isSome (frameOf (k .0) (drop 1 s)) ≡ false = rw (k .1) at v in
-        ap (firstOf conditions so) (says (k .0) (k .1)) ∙ first-no-frame so (k .0) (frameOf (k .0) (drop 1 s)) (frame-kind (k .0) (drop 1 s)) (places (k .0) true (k .1) t) (sym (fills (k .0) (k .1)) ∙ u) (sym (turns (k .0) (k .1)) ∙ p) (frame-none (frameOf (k .0) (drop 1 s)) x)
+        let x : isSome (frameOf ed (k .0) (drop 1 s)) ≡ false = rw (k .1) at v in
+        ap (firstOf conditions so) (says (k .0) (k .1)) ∙ first-no-frame so (k .0) (frameOf ed (k .0) (drop 1 s)) (frame-kind ed (k .0) (drop 1 s)) (places (k .0) true (k .1) t) (sym (fills (k .0) (k .1)) ∙ u) (sym (turns (k .0) (k .1)) ∙ p) (frame-none (frameOf ed (k .0) (drop 1 s)) x)
 
-    comes : (k : Kind) (fr : Frame) → kindAt kind ≡ some k → fullOf c kind ≡ false → pastOf c kind ≡ false → frameOf k (drop 1 s) ≡ some fr → Comes so k s fr
+    comes : (k : Kind) (fr : Frame) → kindAt kind ≡ some k → fullOf c kind ≡ false → pastOf c kind ≡ false → frameOf ed k (drop 1 s) ≡ some fr → Comes ed so k s fr
     comes k fr q u p x = record {
       placed = places k true q t;
       room = sym (fills k q) ∙ u;
@@ -180,32 +181,32 @@ module _ (s : List ℕ) {f : List ℕ} {at : ℕ} {w : List ℕ} {T : Rows} {c :
 
 -- ---- The ends of a line
 
-module _ (f : List ℕ) (at : ℕ) (s w : List ℕ) (c : Counters) (previous kind : ℕ) where
-  pub line-misplaced : stands (kindAt previous) (kindAt kind) ≡ false → TakesLine f at s w c previous kind w (Off Refusal.MisplacedKind)
-  line-misplaced t = record { is = λ next T so h l e. refuses f next w kind (after so (saidBy (some s))) Refusal.MisplacedKind _ (misplaces s h (l .some) kind e t) }
+module _ (ed : Edition) (f : List ℕ) (at : ℕ) (s w : List ℕ) (c : Counters) (previous kind : ℕ) where
+  pub line-misplaced : stands (kindAt previous) (kindAt kind) ≡ false → TakesLine ed f at s w c previous kind w (Off Refusal.MisplacedKind)
+  line-misplaced t = record { is = λ next T so h l e. refuses ed f next w kind (after so (saidBy ed (some s))) Refusal.MisplacedKind _ (misplaces ed s h (l .some) kind e t) }
 
   module _ (t : stands (kindAt previous) (kindAt kind) ≡ true) where
-    pub line-too-many : fullOf c kind ≡ true → TakesLine f at s w c previous kind w (Off Refusal.TooMany)
-    line-too-many u = record { is = λ next T so h l e. refuses f next w kind (after so (saidBy (some s))) Refusal.TooMany _ (overfills s h (l .some) kind e t u) }
+    pub line-too-many : fullOf c kind ≡ true → TakesLine ed f at s w c previous kind w (Off Refusal.TooMany)
+    line-too-many u = record { is = λ next T so h l e. refuses ed f next w kind (after so (saidBy ed (some s))) Refusal.TooMany _ (overfills ed s h (l .some) kind e t u) }
 
-    pub line-too-many-queries : fullOf c kind ≡ false → pastOf c kind ≡ true → TakesLine f at s w c previous kind w (Off Refusal.TooManyQueries)
-    line-too-many-queries u p = record { is = λ next T so h l e. refuses f next w kind (after so (saidBy (some s))) Refusal.TooManyQueries _ (overturns s h (l .some) kind e t u p) }
+    pub line-too-many-queries : fullOf c kind ≡ false → pastOf c kind ≡ true → TakesLine ed f at s w c previous kind w (Off Refusal.TooManyQueries)
+    line-too-many-queries u p = record { is = λ next T so h l e. refuses ed f next w kind (after so (saidBy ed (some s))) Refusal.TooManyQueries _ (overturns ed s h (l .some) kind e t u p) }
 
     module _ (u : fullOf c kind ≡ false) (p : pastOf c kind ≡ false) where
-      pub line-no-frame : isFrame (kindAt kind) (drop 1 s) ≡ false → TakesLine f at s w c previous kind w (Off Refusal.MalformedFrame)
-      line-no-frame v = record { is = λ next T so h l e. refuses f next w kind (after so (saidBy (some s))) Refusal.MalformedFrame _ (misforms s h (l .some) kind e t u p v) }
+      pub line-no-frame : isFrame ed (kindAt kind) (drop 1 s) ≡ false → TakesLine ed f at s w c previous kind w (Off Refusal.MalformedFrame)
+      line-no-frame v = record { is = λ next T so h l e. refuses ed f next w kind (after so (saidBy ed (some s))) Refusal.MalformedFrame _ (misforms ed s h (l .some) kind e t u p v) }
 
-      pub line-takes : isFrame (kindAt kind) (drop 1 s) ≡ true → (k : Kind) → kind ≡ numberOf (some k) → (w′ : List ℕ) (r : Step) → Takes f at k s w c w′ r → TakesLine f at s w c previous kind w′ r
+      pub line-takes : isFrame ed (kindAt kind) (drop 1 s) ≡ true → (k : Kind) → kind ≡ numberOf (some k) → (w′ : List ℕ) (r : Step) → Takes ed f at k s w c w′ r → TakesLine ed f at s w c previous kind w′ r
       unfolding after saidOf
       line-takes v k n w′ r a =
           let q : kindAt kind ≡ some k = ap kindAt n ∙ kind-of-number (some k) in
-          let x : isSome (frameOf k (drop 1 s)) ≡ true = rw q at v in
-          let y = frame-there (frameOf k (drop 1 s)) x in
+          let x : isSome (frameOf ed k (drop 1 s)) ≡ true = rw q at v in
+          let y = frame-there (frameOf ed k (drop 1 s)) x in
           record {
             is = λ next T so h l e.
-                let z : saidBy (some s) ≡ frames (y .0) = says s h (l .some) kind e k q ∙ ap (saidOf k) (y .1) in
-                subst (λ x. Steps f next w′ kind (after so x) r (firstOf conditions so x)) (sym z)
-                (subst (λ m. Steps f next w′ m (add so (y .0)) r (firstOf conditions so (frames (y .0)))) (sym n) (a .is next T previous so (y .0) h l (comes s h (l .some) kind e t k (y .0) q u p (y .1))));
+                let z : saidBy ed (some s) ≡ frames (y .0) = says ed s h (l .some) kind e k q ∙ ap (saidOf k) (y .1) in
+                subst (λ x. Steps ed f next w′ kind (after so x) r (firstOf conditions so x)) (sym z)
+                (subst (λ m. Steps ed f next w′ m (add so (y .0)) r (firstOf conditions so (frames (y .0)))) (sym n) (a .is next T previous so (y .0) h l (comes ed s h (l .some) kind e t k (y .0) q u p (y .1))));
           }
 
 -- ---- What the functions for each kind ask
@@ -235,23 +236,23 @@ past-other c (suc (suc (suc (suc zero)))) n = refl
 past-other c (suc (suc (suc (suc (suc zero))))) n = absurd (n refl)
 past-other c (suc (suc (suc (suc (suc (suc kind)))))) n = refl
 
-module _ (s : List ℕ) (kind : ℕ) (v : isFrame (kindAt kind) (drop 1 s) ≡ true) where
-  long-by : (k : Kind) (n : ℕ) → kind ≡ numberOf (some k) → (length s < n → isFrame (some k) (drop 1 s) ≡ false) → n ≤ length s
+module _ (ed : Edition) (s : List ℕ) (kind : ℕ) (v : isFrame ed (kindAt kind) (drop 1 s) ≡ true) where
+  long-by : (k : Kind) (n : ℕ) → kind ≡ numberOf (some k) → (length s < n → isFrame ed (some k) (drop 1 s) ≡ false) → n ≤ length s
   long-by k n e short = cases (ltb (length s) n)
-      (λ q. clash (sym (ap (λ o. isFrame o (drop 1 s)) (sym (kind-of-number (some k)) ∙ ap kindAt (sym e)) ∙ v) ∙ short (ltb-true (length s) n q)))
+      (λ q. clash (sym (ap (λ o. isFrame ed o (drop 1 s)) (sym (kind-of-number (some k)) ∙ ap kindAt (sym e)) ∙ v) ∙ short (ltb-true (length s) n q)))
       (λ q. ltb-false (length s) n q)
 
   pub long-type : kind ≡ 2 → 2 ≤ length s
   unfolding kindByte
-  long-type e = long-by Frame.schemaType 2 e (type-short s)
+  long-type e = long-by Frame.schemaType 2 e (type-short ed s)
 
   pub long-predicate : kind ≡ 3 → 6 ≤ length s
   unfolding kindByte
-  long-predicate e = long-by Frame.predicate 6 e (predicate-short s)
+  long-predicate e = long-by Frame.predicate 6 e (predicate-short ed s)
 
   pub long-node : kind ≡ 4 → 10 ≤ length s
   unfolding kindByte
-  long-node e = long-by Frame.node 10 e (node-short s)
+  long-node e = long-by Frame.node 10 e (node-short ed s)
 
 -- the kind that is none of the others
 pub last-kind : (previous kind : ℕ) → stands (kindAt previous) (kindAt kind) ≡ true → (kind ≡ 0 → ⊥) → (kind ≡ 1 → ⊥) → (kind ≡ 2 → ⊥) → (kind ≡ 3 → ⊥) → (kind ≡ 4 → ⊥) → kind ≡ 5

@@ -32,12 +32,13 @@ use Rattle.reading.specs.Held.{LimitsHeld, partType, IsOf, TypesHeld, He
 use Rattle.reading.proofs.Regions.{over, keeps-sets, WordsAt, sets-words}
 use Rattle.reading.proofs.Lines.{types-same, predicates-same}
 use Rattle.reading.proofs.Kept.{field-is}
+use Rattle.meaning.specs.Frame.{Edition}
 
 -- ---- Before the first line
 
-pub nothing-held : (f w : List ℕ) → length f ≤ 65536 → 16384 ≤ length w → Held f 0 w (λ t. ε) noCounters 6 start
+pub nothing-held : (ed : Edition) (f w : List ℕ) → length f ≤ 65536 → 16384 ≤ length w → Held ed f 0 w (λ t. ε) noCounters 6 start
 unfolding start position among anyOf
-nothing-held f w small long = record {
+nothing-held ed f w small long = record {
   long = long;
   place = omega arith;
   small = small;
@@ -73,7 +74,7 @@ no-characters : countOf (characters []) ≡ 0
 unfolding countOf characters count
 no-characters = refl
 
-module _ {f : List ℕ} {at : ℕ} {w : List ℕ} {T : Rows} {c : Counters} {previous : ℕ} {so : SoFar} (h : Held f at w T c previous so) where
+module _ (ed : Edition) {f : List ℕ} {at : ℕ} {w : List ℕ} {T : Rows} {c : Counters} {previous : ℕ} {so : SoFar} (h : Held ed f at w T c previous so) where
   kept : Keeps NAME-COUNT MAX-DISTANCE w (counted w c)
   kept = keeps-sets w NAME-COUNT (counts c) (omega arith) (omega arith)
 
@@ -88,9 +89,9 @@ module _ {f : List ℕ} {at : ℕ} {w : List ℕ} {T : Rows} {c : Counters} {pre
       let l : LimitsHeld w (some k) (so .maxDistance) (so .maxTermChars) = rw begun at (h .limits) in
       record {
         types = rw types (h .types .few);
-        cells = rw types (cells-held (omega (arith, h .room, h .place, h .small)) (types-same h (over kept (omega arith)) (over kept (omega arith))));
+        cells = rw types (cells-held (omega (arith, h .room, h .place, h .small)) (types-same ed h (over kept (omega arith)) (over kept (omega arith))));
         predicates = e;
-        predicate = rw types (predicates-same h (over kept (omega arith)) (over kept (omega arith)) (over kept (omega arith)) .predicate);
+        predicate = rw types (predicates-same ed h (over kept (omega arith)) (over kept (omega arith)) (over kept (omega arith)) .predicate);
         value = there .at 4 (omega arith) ∙ h .names .valued;
         names = there .at 0 (omega arith) ∙ h .names .count ∙ sym (length-map (so .names) (λ s. countOf (characters s)));
         texts = sym (length-map (so .names) (λ s. countOf (characters s)));
@@ -109,7 +110,7 @@ module _ {f : List ℕ} {at : ℕ} {w : List ℕ} {T : Rows} {c : Counters} {pre
   -- Every schema type that was read is there by its number, and declared.
   pub all-declared : Kept so → Declares (counted w c) T (so .types)
   all-declared k =
-      let held = types-same h (over kept (omega arith)) (over kept (omega arith)) in
+      let held = types-same ed h (over kept (omega arith)) (over kept (omega arith)) in
       record {
         count = there .at 1 (omega arith) ∙ h .types .count;
         type = λ t lt. sym (held .type t lt);

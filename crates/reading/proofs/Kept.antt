@@ -23,7 +23,8 @@ use Rattle.meaning.specs.Syntax.{Node, Query}
 use Rattle.meaning.specs.Schema.{Predicate}
 use Rattle.meaning.specs.Frame as Frame
 use Rattle.meaning.specs.Conditions.{among}
-use Rattle.tree.specs.Stands.{NodeIs, QueryIs, PredicateIs, noPredicate, valueOf}
+use Rattle.meaning.specs.Frame.{Edition}
+use Rattle.tree.specs.Stands.{NodeIn, QueryIs, PredicateIs, noPredicate, valueOf}
 use Rattle.meaning.proofs.Tests.{clash}
 use Rattle.reading.specs.Held.{LimitsHeld, NamesHeld, wordsOf, partType, IsOf, TypesHeld, PredicatesHeld, NodesHeld, flag, Marked}
 use Rattle.reading.proofs.Regions.{Same}
@@ -45,12 +46,12 @@ module _ {f w w′ : List ℕ} where
   }
 
   -- a mark does not matter to where a node's line is
-  pub node-kept : {n : ℕ} {nd : Node} → getD w′ (NODES + n) 0 / 2 ≡ getD w (NODES + n) 0 / 2 → NodeIs f w n nd → NodeIs f w′ n nd
-  node-kept {n} {nd} e h =
+  pub node-kept : {e : Edition} {n : ℕ} {nd : Node} → getD w′ (NODES + n) 0 / 2 ≡ getD w (NODES + n) 0 / 2 → NodeIn e f w n nd → NodeIn e f w′ n nd
+  node-kept {n = n} e h =
       let p : getD w′ (NODES + n) 0 / 2048 ≡ getD w (NODES + n) 0 / 2048 = omega arith in
       record { content = h .content; line = rw (p, e) (h .line); frame = h .frame }
 
-  pub nodes-kept : {n : ℕ} {nodes : List Node} → ((i : ℕ) → i < length nodes → getD w′ (NODES + i) 0 / 2 ≡ getD w (NODES + i) 0 / 2) → NodesHeld f w n nodes → NodesHeld f w′ n nodes
+  pub nodes-kept : {e : Edition} {n : ℕ} {nodes : List Node} → ((i : ℕ) → i < length nodes → getD w′ (NODES + i) 0 / 2 ≡ getD w (NODES + i) 0 / 2) → NodesHeld e f w n nodes → NodesHeld e f w′ n nodes
   nodes-kept s h = record { count = h .count; few = h .few; node = λ i l. node-kept (s i l) (h .node i l) }
 
   pub query-kept : getD w′ QUERY 0 ≡ getD w QUERY 0 → {q : Query} → QueryIs f w q → QueryIs f w′ q

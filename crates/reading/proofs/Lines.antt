@@ -31,8 +31,9 @@ use Rattle.reading.proofs.Regions.{Same, same-part, under, over, same-t
 use Rattle.reading.proofs.Kept.{limits-kept, names-kept, marked-kept, marked-more, nodes-kept, types-kept, predicates-kept}
 use Rattle.reading.proofs.Added.{name-added, valueWord, predicate-added, node-added}
 use Rattle.reading.proofs.Shapes.{shapeWords, shapeHead, shapeSecond, shapeRow, withRow, older-row, new-row, shape-added}
+use Rattle.meaning.specs.Frame.{Edition}
 
-module _ {f : List ℕ} {at : ℕ} {w : List ℕ} {T : Rows} {c : Counters} {previous : ℕ} {so : SoFar} (h : Held f at w T c previous so) where
+module _ (ed : Edition) {f : List ℕ} {at : ℕ} {w : List ℕ} {T : Rows} {c : Counters} {previous : ℕ} {so : SoFar} (h : Held ed f at w T c previous so) where
   -- ---- What is held of the kinds that a line is not of
   module _ {w′ : List ℕ} where
     pub types-same : Same TYPES PREDICATES w w′ → Same FIELDS (FIELDS + c .fields) w w′ → TypesHeld w′ T (c .types) (c .fields) (so .types)
@@ -42,7 +43,7 @@ module _ {f : List ℕ} {at : ℕ} {w : List ℕ} {T : Rows} {c : Counters} {pre
     predicates-same s p q =
         predicates-kept (length (so .types)) (c .fields) w w′ T T (same-part s (omega arith) (omega (arith, h .types .few))) p (λ t l. refl) (h .types .few) (length (so .types)) (c .predicates) (so .predicates) (omega arith) q (h .predicates)
 
-    pub nodes-same : Same NODES FIELDS w w′ → NodesHeld f w′ (c .nodes) (so .nodes)
+    pub nodes-same : Same NODES FIELDS w w′ → NodesHeld ed f w′ (c .nodes) (so .nodes)
     nodes-same s = nodes-kept (λ i l. ap (λ x. x / 2) (s .at (NODES + i) (omega arith) (omega (arith, h .nodes .few)))) (h .nodes)
 
     named-same : Same NODES FIELDS w w′ → Marked w′ (length (so .nodes)) (so .named)
@@ -56,7 +57,7 @@ module _ {f : List ℕ} {at : ℕ} {w : List ℕ} {T : Rows} {c : Counters} {pre
 
   module _ (next : ℕ) (on : at ≤ next) (within : next ≤ length f) where
     -- ---- Limits
-    pub limits-held : (d t : ℕ) → mayStand (so .previous) Frame.limits ≡ true → Held f next (set (set w MAX-DISTANCE d) MAX-TERM t) T c 0 (add so (theLimits d t))
+    pub limits-held : (d t : ℕ) → mayStand (so .previous) Frame.limits ≡ true → Held ed f next (set (set w MAX-DISTANCE d) MAX-TERM t) T c 0 (add so (theLimits d t))
     unfolding add Frame.kindByte
     limits-held d t stands =
         let one : Keeps MAX-DISTANCE MAX-TERM w (set w MAX-DISTANCE d) = keeps-set w MAX-DISTANCE d (omega arith) (omega arith) in
@@ -81,7 +82,7 @@ module _ {f : List ℕ} {at : ℕ} {w : List ℕ} {T : Rows} {c : Counters} {pre
     -- ---- A name
     pub name-held : (s : List ℕ) (chars : ℕ) (j : Frame.Kind) → mayStand (so .previous) Frame.name ≡ true → so .previous ≡ some j → length (so .names) < 256
         → lineAt f at ≡ some (0x02 ∷ s) → characters s ≡ some chars → chars < 512 → given (so .names) s ≡ false
-        → Held f next (set w (NAMES + c .names) (at * 512 + chars)) T (withName c (pick (sameText valueText s) (c .names + 1) (c .value))) 1 (add so (aName s))
+        → Held ed f next (set w (NAMES + c .names) (at * 512 + chars)) T (withName c (pick (sameText valueText s) (c .names + 1) (c .value))) 1 (add so (aName s))
     unfolding add Frame.kindByte
     name-held s chars j stands begun room line text small new =
         let k : Keeps NAMES TYPES w (set w (NAMES + c .names) (at * 512 + chars)) = keeps-set w (NAMES + c .names) (at * 512 + chars) (omega arith) (omega (arith, h .names .count)) in
@@ -104,7 +105,7 @@ module _ {f : List ℕ} {at : ℕ} {w : List ℕ} {T : Rows} {c : Counters} {pre
     -- ---- A type
     pub type-held : (s : TypeShape) (j : Frame.Kind) → mayStand (so .previous) Frame.schemaType ≡ true → so .previous ≡ some j → length (so .types) < 256
         → Below (length (so .types)) (shapeTypes s) → 8 * (c .fields + length (shapeWords s)) ≤ next
-        → Held f next (set (set (sets w (FIELDS + c .fields) (shapeWords s)) (TYPES + 2 * c .types) (shapeHead s)) (TYPES + 2 * c .types + 1) (shapeSecond (c .fields) s))
+        → Held ed f next (set (set (sets w (FIELDS + c .fields) (shapeWords s)) (TYPES + 2 * c .types) (shapeHead s)) (TYPES + 2 * c .types + 1) (shapeSecond (c .fields) s))
         (withRow T (length (so .types)) (shapeRow (so .types) s)) (withType c (length (shapeWords s))) 2 (add so (aType s))
     unfolding add Frame.kindByte
     type-held s j stands begun room below fits = record {
@@ -175,7 +176,7 @@ module _ {f : List ℕ} {at : ℕ} {w : List ℕ} {T : Rows} {c : Counters} {pre
     -- ---- A predicate
     pub predicate-held : (name key : ℕ) (value : Option ℕ) (j : Frame.Kind) → mayStand (so .previous) Frame.predicate ≡ true → so .previous ≡ some j → length (so .predicates) < 128
         → key < length (so .types) → Below (length (so .types)) (optional value)
-        → Held f next (set w (PREDICATES + c .predicates) (name * 131072 + key * 512 + valueWord value)) T (withPredicate c) 3 (add so (aPredicate name key value))
+        → Held ed f next (set w (PREDICATES + c .predicates) (name * 131072 + key * 512 + valueWord value)) T (withPredicate c) 3 (add so (aPredicate name key value))
     unfolding add Frame.kindByte
     predicate-held name key value j stands begun room kt vt =
         let x = name * 131072 + key * 512 + valueWord value in
@@ -201,8 +202,8 @@ module _ {f : List ℕ} {at : ℕ} {w : List ℕ} {T : Rows} {c : Counters} {pre
     -- ---- A node and the query, whose line has size bytes; v are the words after the nodes that it names were marked.
     module _ (size : ℕ) (content : List ℕ) (small : size ≤ 512) (v : List ℕ) (marks : Marks w v) where
       pub node-held : (nd : Node) (j : Frame.Kind) → mayStand (so .previous) Frame.node ≡ true → so .previous ≡ some j → length (so .nodes) < 512
-          → lineAt f at ≡ some (0x05 ∷ content) → size ≡ length (0x05 ∷ content) → frameOf Frame.node content ≡ some (aNode nd) → Marked v (length (so .nodes)) (so .named ++ exprNodes (nd .kind))
-          → Held f next (set v (NODES + c .nodes) ((at * 1024 + size) * 2)) T (withNode c) 4 (add so (aNode nd))
+          → lineAt f at ≡ some (0x05 ∷ content) → size ≡ length (0x05 ∷ content) → frameOf ed Frame.node content ≡ some (aNode nd) → Marked v (length (so .nodes)) (so .named ++ exprNodes (nd .kind))
+          → Held ed f next (set v (NODES + c .nodes) ((at * 1024 + size) * 2)) T (withNode c) 4 (add so (aNode nd))
       unfolding add Frame.kindByte
       node-held nd j stands begun room line sized frame marked =
           let x = (at * 1024 + size) * 2 in
@@ -227,7 +228,7 @@ module _ {f : List ℕ} {at : ℕ} {w : List ℕ} {T : Rows} {c : Counters} {pre
           }
 
       pub query-held : (q : Query) (j : Frame.Kind) → so .previous ≡ some j → length (so .queries) < 64
-          → Held f next v T (withQuery c) 5 (add so (theQuery q))
+          → Held ed f next v T (withQuery c) 5 (add so (theQuery q))
       unfolding add Frame.kindByte among anyOf
       query-held q j begun turn =
           let k = marks .keeps in

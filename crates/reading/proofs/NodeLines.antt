@@ -29,6 +29,7 @@ use Rattle.reading.proofs.Stepping.{refuses, goes-on, begun, nodes-room
 use Rattle.reading.proofs.Typing.{one-made, whole-made}
 use Rattle.reading.proofs.Marking.{refers-then, refers-stop}
 use Rattle.reading.proofs.Refs.{HeadIs, head-is}
+use Rattle.meaning.specs.Frame.{Edition}
 
 -- ---- What a frame without types refers to
 
@@ -47,7 +48,7 @@ unfolding refersBadly refersEarlier nameRefs typeRefs nodeRefs allBelow
 query-refers so q = de-morgan true (allBelow (length (so .nodes)) (queryNodes q)) (again (so .named) (queryNodes q))
 
 -- the loops' answer is that test
-module _ {f : List ℕ} {at : ℕ} {w : List ℕ} {T : Rows} {c : Counters} {previous : ℕ} {so : SoFar} (h : Held f at w T c previous so) {xs ns v : List ℕ} {r : Bool} (a : Refers w (c .names) xs (c .nodes) ns v r) where
+module _ (ed : Edition) {f : List ℕ} {at : ℕ} {w : List ℕ} {T : Rows} {c : Counters} {previous : ℕ} {so : SoFar} (h : Held ed f at w T c previous so) {xs ns v : List ℕ} {r : Bool} (a : Refers w (c .names) xs (c .nodes) ns v r) where
   answered : r ≡ both (allBelow (length (so .names)) xs) (both (allBelow (length (so .nodes)) ns) (not (again (so .named) ns)))
   answered = rw (← h .names .count, ← h .nodes .count) (a .is (so .named) (subst (λ n. Marked w n (so .named)) (sym (h .nodes .count)) (h .named)))
 
@@ -56,43 +57,43 @@ module _ {f : List ℕ} {at : ℕ} {w : List ℕ} {T : Rows} {c : Counters} {pre
 
 -- ---- A node
 
-node-frame : (s : List ℕ) (fr : Frame) → frameOf Frame.node (drop 1 s) ≡ some fr → (nd : Node) × (fr ≡ aNode nd)
+node-frame : (ed : Edition) (s : List ℕ) (fr : Frame) → frameOf ed Frame.node (drop 1 s) ≡ some fr → (nd : Node) × (fr ≡ aNode nd)
 unfolding frameOf frame one
-node-frame s fr e = let o = one-made aNode (spanAndKind (drop 1 s)) fr [] (whole-made (andThen (spanAndKind (drop 1 s)) (λ n. got (aNode n))) fr e) in (o .0, o .2)
+node-frame ed s fr e = let o = one-made aNode (spanAndKind ed (drop 1 s)) fr [] (whole-made (andThen (spanAndKind ed (drop 1 s)) (λ n. got (aNode n))) fr e) in (o .0, o .2)
 
-module _ (at : ℕ) (s w : List ℕ) (c : Counters) (v : List ℕ) where
-  pub node-bad : NamesAll s w (c .names) (c .nodes) v false → TakesThere at Frame.node s w c v (Off Refusal.BadReference)
+module _ (ed : Edition) (at : ℕ) (s w : List ℕ) (c : Counters) (v : List ℕ) where
+  pub node-bad : NamesAll ed s w (c .names) (c .nodes) v false → TakesThere ed at Frame.node s w c v (Off Refusal.BadReference)
   unfolding frameKind textsOf anyOf kindByte
   node-bad a = record {
     is = λ f. record {
       is = λ next T previous so fr h l k.
-          let n = node-frame s fr (k .is) in
+          let n = node-frame ed s fr (k .is) in
           let r = a .is (n .0) (k .is ∙ ap some (n .1)) in
-          refuses f next v 4 (add so fr) Refusal.BadReference _ (subst (λ y. firstOf conditions so (frames y) ≡ some Refused.badReference) (sym (n .1)) (first-bad so (aNode (n .0)) (k .placed) (k .room) (k .turn) refl refl (node-refers so (n .0) ∙ ap not (sym (answered h r)))));
+          refuses ed f next v 4 (add so fr) Refusal.BadReference _ (subst (λ y. firstOf conditions so (frames y) ≡ some Refused.badReference) (sym (n .1)) (first-bad so (aNode (n .0)) (k .placed) (k .room) (k .turn) refl refl (node-refers so (n .0) ∙ ap not (sym (answered ed h r)))));
     };
   }
 
-  pub node-takes : NamesAll s w (c .names) (c .nodes) v true → (w′ : List ℕ) → w′ ≡ set v (NODES + c .nodes) ((at * 1024 + length s) * 2) → TakesThere at Frame.node s w c w′ (On (withNode c))
+  pub node-takes : NamesAll ed s w (c .names) (c .nodes) v true → (w′ : List ℕ) → w′ ≡ set v (NODES + c .nodes) ((at * 1024 + length s) * 2) → TakesThere ed at Frame.node s w c w′ (On (withNode c))
   unfolding frameKind textsOf anyOf kindByte keysOf again mayStand
   node-takes a w′ e = record {
     is = λ f. record {
       is = λ next T previous so fr h l k.
-          let n = node-frame s fr (k .is) in
+          let n = node-frame ed s fr (k .is) in
           let is = k .is ∙ ap some (n .1) in
           let r = a .is (n .0) is in
           let b = begun (so .previous) Frame.node (k .placed) refl in
           rw (e, n .1)
-          (goes-on f next (set v (NODES + c .nodes) ((at * 1024 + length s) * 2)) 4 (add so (aNode (n .0))) (withNode c) T _
-          (first-none so (aNode (n .0)) (k .placed) (k .room) (k .turn) refl refl (node-refers so (n .0) ∙ ap not (sym (answered h r))) refl)
-          (node-held h next (omega (arith, l .on)) (l .within) (length s) (drop 1 s) (l .most) v (r .marks refl) (n .0) (b .0) (k .placed) (b .1) (nodes-room so (k .room)) (l .is ∙ ap some (k .first)) (ap length (k .first)) is (marked-after h r refl)));
+          (goes-on ed f next (set v (NODES + c .nodes) ((at * 1024 + length s) * 2)) 4 (add so (aNode (n .0))) (withNode c) T _
+          (first-none so (aNode (n .0)) (k .placed) (k .room) (k .turn) refl refl (node-refers so (n .0) ∙ ap not (sym (answered ed h r))) refl)
+          (node-held ed h next (omega (arith, l .on)) (l .within) (length s) (drop 1 s) (l .most) v (r .marks refl) (n .0) (b .0) (k .placed) (b .1) (nodes-room so (k .room)) (l .is ∙ ap some (k .first)) (ap length (k .first)) is (marked-after ed h r refl)));
     };
   }
 
 -- ---- The query
 
-query-frame : (s : List ℕ) (fr : Frame) → 0 < length s → frameOf Frame.query (drop 1 s) ≡ some fr → (q : Query) × (fr ≡ theQuery q) × HeadIs s 1 q
+query-frame : (ed : Edition) (s : List ℕ) (fr : Frame) → 0 < length s → frameOf ed Frame.query (drop 1 s) ≡ some fr → (q : Query) × (fr ≡ theQuery q) × HeadIs s 1 q
 unfolding frameOf frame one
-query-frame s fr l e =
+query-frame ed s fr l e =
     let o = one-made theQuery (headAndBody (drop 1 s)) fr [] (whole-made (andThen (headAndBody (drop 1 s)) (λ q. got (theQuery q))) fr e) in
     (o .0, o .2, head-is s 1 (o .0) l (o .1))
 
@@ -100,41 +101,41 @@ query-nodes : (s : List ℕ) (q : Query) → HeadIs s 1 q → queryNodes q ≡ h
 unfolding queryNodes
 query-nodes s q h = ap (λ n. n ∷ stmtNodes (q .body)) (h .head)
 
-module _ (at : ℕ) (s w : List ℕ) (c : Counters) where
+module _ (ed : Edition) (at : ℕ) (s w : List ℕ) (c : Counters) where
   no-head : (v : List ℕ) → NamesNode w (halfW s 1) (c .nodes) v false → (q : Query) → HeadIs s 1 q → Refers w (c .names) [] (c .nodes) (queryNodes q) v false
   no-head v n q h = rw (query-nodes s q h) (refers-stop (c .names) (c .nodes) (n .is (c .names)) [] (stmtNodes (q .body)))
 
   with-head : (v u : List ℕ) (r : Bool) → NamesNode w (halfW s 1) (c .nodes) v true → NamesStatements s v 3 (c .nodes) u r → (q : Query) → HeadIs s 1 q → Refers w (c .names) [] (c .nodes) (queryNodes q) u r
   with-head v u r n m q h = rw (query-nodes s q h) (refers-then (c .names) (c .nodes) (n .is (c .names)) (m .is (c .names) (q .body) (h .body)))
 
-  query-bad : (v : List ℕ) → ((q : Query) → HeadIs s 1 q → Refers w (c .names) [] (c .nodes) (queryNodes q) v false) → TakesThere at Frame.query s w c v (Off Refusal.BadReference)
+  query-bad : (v : List ℕ) → ((q : Query) → HeadIs s 1 q → Refers w (c .names) [] (c .nodes) (queryNodes q) v false) → TakesThere ed at Frame.query s w c v (Off Refusal.BadReference)
   unfolding frameKind textsOf anyOf kindByte
   query-bad v a = record {
     is = λ f. record {
       is = λ next T previous so fr h l k.
-          let n = query-frame s fr (l .some) (k .is) in
+          let n = query-frame ed s fr (l .some) (k .is) in
           let r = a (n .0) (n .2) in
-          refuses f next v 5 (add so fr) Refusal.BadReference _ (subst (λ y. firstOf conditions so (frames y) ≡ some Refused.badReference) (sym (n .1)) (first-bad so (theQuery (n .0)) (k .placed) (k .room) (k .turn) refl refl (query-refers so (n .0) ∙ ap not (sym (answered h r)))));
+          refuses ed f next v 5 (add so fr) Refusal.BadReference _ (subst (λ y. firstOf conditions so (frames y) ≡ some Refused.badReference) (sym (n .1)) (first-bad so (theQuery (n .0)) (k .placed) (k .room) (k .turn) refl refl (query-refers so (n .0) ∙ ap not (sym (answered ed h r)))));
     };
   }
 
-  pub query-no-head : (v : List ℕ) → NamesNode w (halfW s 1) (c .nodes) v false → TakesThere at Frame.query s w c v (Off Refusal.BadReference)
+  pub query-no-head : (v : List ℕ) → NamesNode w (halfW s 1) (c .nodes) v false → TakesThere ed at Frame.query s w c v (Off Refusal.BadReference)
   query-no-head v n = query-bad v (no-head v n)
 
-  pub query-no-body : (v u : List ℕ) → NamesNode w (halfW s 1) (c .nodes) v true → NamesStatements s v 3 (c .nodes) u false → TakesThere at Frame.query s w c u (Off Refusal.BadReference)
+  pub query-no-body : (v u : List ℕ) → NamesNode w (halfW s 1) (c .nodes) v true → NamesStatements s v 3 (c .nodes) u false → TakesThere ed at Frame.query s w c u (Off Refusal.BadReference)
   query-no-body v u n m = query-bad u (with-head v u false n m)
 
-  pub query-takes : (v u : List ℕ) → NamesNode w (halfW s 1) (c .nodes) v true → NamesStatements s v 3 (c .nodes) u true → TakesThere at Frame.query s w c u (On (withQuery c))
+  pub query-takes : (v u : List ℕ) → NamesNode w (halfW s 1) (c .nodes) v true → NamesStatements s v 3 (c .nodes) u true → TakesThere ed at Frame.query s w c u (On (withQuery c))
   unfolding frameKind textsOf anyOf kindByte keysOf again mayStand
   query-takes v u n m = record {
     is = λ f. record {
       is = λ next T previous so fr h l k.
-          let x = query-frame s fr (l .some) (k .is) in
+          let x = query-frame ed s fr (l .some) (k .is) in
           let r = with-head v u true n m (x .0) (x .2) in
           let b = begun (so .previous) Frame.query (k .placed) refl in
           rw (x .1)
-          (goes-on f next u 5 (add so (theQuery (x .0))) (withQuery c) T _
-          (first-none so (theQuery (x .0)) (k .placed) (k .room) (k .turn) refl refl (query-refers so (x .0) ∙ ap not (sym (answered h r))) refl)
-          (query-held h next (omega (arith, l .on)) (l .within) (length s) (drop 1 s) (l .most) u (r .marks refl) (x .0) (b .0) (b .1) (queries-room so (k .turn))));
+          (goes-on ed f next u 5 (add so (theQuery (x .0))) (withQuery c) T _
+          (first-none so (theQuery (x .0)) (k .placed) (k .room) (k .turn) refl refl (query-refers so (x .0) ∙ ap not (sym (answered ed h r))) refl)
+          (query-held ed h next (omega (arith, l .on)) (l .within) (length s) (drop 1 s) (l .most) u (r .marks refl) (x .0) (b .0) (b .1) (queries-room so (k .turn))));
     };
   }

@@ -35,13 +35,14 @@ use Rattle.reading.proofs.Order.{first-bad, first-none}
 use Rattle.reading.proofs.Stepping.{refuses, goes-on, begun, predicates-room}
 use Rattle.reading.proofs.Typing.{one-made, whole-made, sized-got, both-all, or-none}
 use Rattle.reading.proofs.Walks.{both-none}
+use Rattle.meaning.specs.Frame.{Edition}
 
 -- What the bytes from 5 on say of the value type.
 pub data ValueAt (s : List ℕ) : Option ℕ → Type 0 where
   absent : byteW s 5 ≡ 0 → ValueAt s none
   present : byteW s 5 ≡ 1 → ValueAt s (some (halfW s 6))
 
-module _ (so : SoFar) (s : List ℕ) (fr : Frame) (long : 6 ≤ length s) (k : Comes so Frame.predicate s fr) where
+module _ (ed : Edition) (so : SoFar) (s : List ℕ) (fr : Frame) (long : 6 ≤ length s) (k : Comes ed so Frame.predicate s fr) where
   chosen : (v : Option ℕ) × (entry (getElem? valueTypes (byteW s 5)) (drop 6 s) ≡ got v []) × (fr ≡ aPredicate (halfW s 1) (halfW s 3) v)
   unfolding frameOf frame triple pair one andThen
   chosen =
@@ -88,41 +89,41 @@ value-some s n (some t) (present a) = refl
 
 -- ---- The ends of a predicate line
 
-module _ (s w : List ℕ) (c : Counters) (long : 6 ≤ length s) where
+module _ (ed : Edition) (s w : List ℕ) (c : Counters) (long : 6 ≤ length s) where
   -- what is there, by the counters
   abbrev there : Option ℕ → Bool
   there v = both (ltb (halfW s 1) (c .names)) (both (ltb (halfW s 3) (c .types)) (allBelow (c .types) (optional v)))
 
-  refers : {f : List ℕ} {at : ℕ} {T : Rows} {previous : ℕ} {so : SoFar} → Held f at w T c previous so → (v : Option ℕ) (b : Bool) → there v ≡ b → refersBadly so (aPredicate (halfW s 1) (halfW s 3) v) ≡ not b
+  refers : {f : List ℕ} {at : ℕ} {T : Rows} {previous : ℕ} {so : SoFar} → Held ed f at w T c previous so → (v : Option ℕ) (b : Bool) → there v ≡ b → refersBadly so (aPredicate (halfW s 1) (halfW s 3) v) ≡ not b
   refers {so = so} h v b e =
       let q : both (ltb (halfW s 1) (length (so .names))) (both (ltb (halfW s 3) (length (so .types))) (allBelow (length (so .types)) (optional v))) ≡ b = rw (← h .names .count, ← h .types .count) e in
       predicate-refers so (halfW s 1) (halfW s 3) v ∙ ap not q
 
-  pub predicate-bad : ((v : Option ℕ) → ValueAt s v → there v ≡ false) → TakesAnywhere Frame.predicate s w c w (Off Refusal.BadReference)
+  pub predicate-bad : ((v : Option ℕ) → ValueAt s v → there v ≡ false) → TakesAnywhere ed Frame.predicate s w c w (Off Refusal.BadReference)
   unfolding frameKind textsOf anyOf kindByte
   predicate-bad e = record {
     is = λ f at. record {
       is = λ next T previous so fr h l k.
-          let x = value-at so s fr long k in
-          refuses f next w 3 (add so fr) Refusal.BadReference _ (subst (λ y. firstOf conditions so (frames y) ≡ some Refused.badReference) (sym (x .1)) (first-bad so (aPredicate (halfW s 1) (halfW s 3) (x .0)) (k .placed) (k .room) (k .turn) refl refl (refers h (x .0) false (e (x .0) (x .2)))));
+          let x = value-at ed so s fr long k in
+          refuses ed f next w 3 (add so fr) Refusal.BadReference _ (subst (λ y. firstOf conditions so (frames y) ≡ some Refused.badReference) (sym (x .1)) (first-bad so (aPredicate (halfW s 1) (halfW s 3) (x .0)) (k .placed) (k .room) (k .turn) refl refl (refers h (x .0) false (e (x .0) (x .2)))));
     };
   }
 
-  pub predicate-takes : (v : Option ℕ) → ((u : Option ℕ) → ValueAt s u → u ≡ v) → there v ≡ true → (w′ : List ℕ) (r : Step) (x : ℕ) → x ≡ halfW s 1 * 131072 + halfW s 3 * 512 + valueWord v → AddsPredicate w c x w′ r → TakesAnywhere Frame.predicate s w c w′ r
+  pub predicate-takes : (v : Option ℕ) → ((u : Option ℕ) → ValueAt s u → u ≡ v) → there v ≡ true → (w′ : List ℕ) (r : Step) (x : ℕ) → x ≡ halfW s 1 * 131072 + halfW s 3 * 512 + valueWord v → AddsPredicate w c x w′ r → TakesAnywhere ed Frame.predicate s w c w′ r
   unfolding frameKind textsOf anyOf kindByte keysOf again mayStand
   predicate-takes v va e w′ r y z a = record {
     is = λ f at. record {
       is = λ next T previous so fr h l k.
-          let x = value-at so s fr long k in
+          let x = value-at ed so s fr long k in
           let same : fr ≡ aPredicate (halfW s 1) (halfW s 3) v = x .1 ∙ ap (aPredicate (halfW s 1) (halfW s 3)) (va (x .0) (x .2)) in
           let b = begun (so .previous) Frame.predicate (k .placed) refl in
           let types = both-right (ltb (halfW s 1) (c .names)) (both (ltb (halfW s 3) (c .types)) (allBelow (c .types) (optional v))) e in
           let key = ltb-true (halfW s 3) (c .types) (both-left (ltb (halfW s 3) (c .types)) (allBelow (c .types) (optional v)) types) in
           let value = below-all (c .types) (optional v) (both-right (ltb (halfW s 3) (c .types)) (allBelow (c .types) (optional v)) types) in
           rw (a .step, a .words, z, same)
-          (goes-on f next (set w (PREDICATES + c .predicates) (halfW s 1 * 131072 + halfW s 3 * 512 + valueWord v)) 3 (add so (aPredicate (halfW s 1) (halfW s 3) v)) (withPredicate c) T _
+          (goes-on ed f next (set w (PREDICATES + c .predicates) (halfW s 1 * 131072 + halfW s 3 * 512 + valueWord v)) 3 (add so (aPredicate (halfW s 1) (halfW s 3) v)) (withPredicate c) T _
           (first-none so (aPredicate (halfW s 1) (halfW s 3) v) (k .placed) (k .room) (k .turn) refl refl (refers h v true e) refl)
-          (predicate-held h next (omega (arith, l .on)) (l .within) (halfW s 1) (halfW s 3) v (b .0) (k .placed) (b .1) (predicates-room so (k .room)) (omega (arith, h .types .count)) (subst (λ n. Below n (optional v)) (h .types .count) value)));
+          (predicate-held ed h next (omega (arith, l .on)) (l .within) (halfW s 1) (halfW s 3) v (b .0) (k .placed) (b .1) (predicates-room so (k .room)) (omega (arith, h .types .count)) (subst (λ n. Below n (optional v)) (h .types .count) value)));
     };
   }
 

@@ -13,11 +13,12 @@ use Rattle.meaning.specs.Syntax.{QueryStmt, Query, FieldRef, Literal, ExprKind,
 use Rattle.meaning.specs.Frame as Frame
 use Rattle.meaning.specs.Frame.{Frame, aNode, got, fails, Reader, andThen, nothing, one, pair, triple, two, many, field, headAndBody, entry, exprKinds, spanAndKind, frame, frameOf}
 use Rattle.meaning.specs.References.{fieldNames, fieldValues, stmtNodes, queryNodes, exprNames, exprNodes}
-use Rattle.frames.specs.Contracts.{byteW, halfW, fullW, exprKind, statement}
+use Rattle.frames.specs.Contracts.{referenceSize, referenceW, byteW, halfW, fullW, exprKind, statement}
 use Rattle.frames.specs.Items.{itemsAt, fieldAt, Fill}
-use Rattle.frames.proofs.Readers.{Sized, sized-one, sized-pair, sized-two, sized-four, sized-byte, fields-are, numbers-are}
+use Rattle.frames.proofs.Readers.{sized-reference, Sized, sized-one, sized-pair, sized-two, sized-four, sized-byte, fields-are, numbers-are}
 use Rattle.frames.proofs.Statements.{choice-at, statements-are}
 use Rattle.reading.proofs.Typing.{one-made, whole-made, sized-got, map-items, past-end}
+use Rattle.meaning.specs.Frame.{Edition}
 
 -- The names and the nodes that a kind refers to are these.
 pub record RefsAre (k : ExprKind) (xs ns : List ℕ) : Type 0 where
@@ -27,14 +28,14 @@ pub record RefsAre (k : ExprKind) (xs ns : List ℕ) : Type 0 where
 abbrev made : ℕ → ℕ → ExprKind → Node
 made start end kind = record { span = record { start = start; end = end }; kind = kind }
 
-span-kind : (s : List ℕ) → 10 ≤ length s → (n : Node) → spanAndKind (drop 1 s) ≡ got n [] → entry (getElem? exprKinds (byteW s 9)) (drop 10 s) ≡ got (n .kind) []
+span-kind : (ed : Edition) (s : List ℕ) → 10 ≤ length s → (n : Node) → spanAndKind ed (drop 1 s) ≡ got n [] → entry (getElem? (exprKinds ed) (byteW s 9)) (drop 10 s) ≡ got (n .kind) []
 unfolding spanAndKind triple pair one andThen
-span-kind s long n e =
+span-kind ed s long n e =
     let a = sized-four .reads s 1 (omega arith) in
     let b = sized-four .reads s 5 (omega arith) in
-    let f : andThen (exprKind (drop 9 s)) (λ k. got (made (fullW s 1) (fullW s 5) k)) ≡ got n [] = rw (a, b) at e in
-    let o = one-made (made (fullW s 1) (fullW s 5)) (exprKind (drop 9 s)) n [] f in
-    sym (choice-at exprKinds s 9 (omega arith)) ∙ o .1 ∙ ap (λ k. got k []) (sym (ap (λ m. m .kind) (o .2)))
+    let f : andThen (exprKind ed (drop 9 s)) (λ k. got (made (fullW s 1) (fullW s 5) k)) ≡ got n [] = rw (a, b) at e in
+    let o = one-made (made (fullW s 1) (fullW s 5)) (exprKind ed (drop 9 s)) n [] f in
+    sym (choice-at (exprKinds ed) s 9 (omega arith)) ∙ o .1 ∙ ap (λ k. got k []) (sym (ap (λ m. m .kind) (o .2)))
 
 -- ---- A head and statements
 
@@ -66,14 +67,14 @@ head-is s i q l e = cases (ltb (length s) (i + 2)) short whole-head
           body = subst (Fill s (i + 2)) (sym (ap (λ y. y .body) (o .2))) (statements-are s (i + 2) room (o .0) [] (o .1) .0);
         }
 
-module _ (s : List ℕ) (nd : Node) (long : 10 ≤ length s) (is : frameOf Frame.node (drop 1 s) ≡ some (aNode nd)) where
+module _ (ed : Edition) (s : List ℕ) (nd : Node) (long : 10 ≤ length s) (is : frameOf ed Frame.node (drop 1 s) ≡ some (aNode nd)) where
   -- the reader that the byte chooses made the kind
-  chosen : entry (getElem? exprKinds (byteW s 9)) (drop 10 s) ≡ got (nd .kind) []
+  chosen : entry (getElem? (exprKinds ed) (byteW s 9)) (drop 10 s) ≡ got (nd .kind) []
   unfolding frameOf frame one
   chosen =
-      let m = one-made aNode (spanAndKind (drop 1 s)) (aNode nd) [] (whole-made (andThen (spanAndKind (drop 1 s)) (λ n. got (aNode n))) (aNode nd) is) in
+      let m = one-made aNode (spanAndKind ed (drop 1 s)) (aNode nd) [] (whole-made (andThen (spanAndKind ed (drop 1 s)) (λ n. got (aNode n))) (aNode nd) is) in
       let same : m .0 ≡ nd = cc (m .2) in
-      span-kind s long nd (m .1 ∙ ap (λ n. got n []) same)
+      span-kind ed s long nd (m .1 ∙ ap (λ n. got n []) same)
 
   -- the shapes that hold nothing but themselves
   nothing-refs : (k : ExprKind) → entry (some (nothing k)) (drop 10 s) ≡ got (nd .kind) [] → exprNames k ≡ [] → exprNodes k ≡ [] → RefsAre (nd .kind) [] []
@@ -84,14 +85,14 @@ module _ (s : List ℕ) (nd : Node) (long : 10 ≤ length s) (is : frameOf Frame
   unfolding entry exprKinds exprNames exprNodes
   plain-refs h = go (byteW s 9) refl h chosen
     where
-      go : (b : ℕ) → byteW s 9 ≡ b → b < 3 → entry (getElem? exprKinds (byteW s 9)) (drop 10 s) ≡ got (nd .kind) [] → RefsAre (nd .kind) [] []
+      go : (b : ℕ) → byteW s 9 ≡ b → b < 3 → entry (getElem? (exprKinds ed) (byteW s 9)) (drop 10 s) ≡ got (nd .kind) [] → RefsAre (nd .kind) [] []
       go zero e l c = nothing-refs (ExprKind.Lit Literal.Int) (rw e at c) refl refl
       go (suc zero) e l c = nothing-refs (ExprKind.Lit Literal.Str) (rw e at c) refl refl
       go (suc (suc zero)) e l c = nothing-refs (ExprKind.Lit Literal.Bytes) (rw e at c) refl refl
       go (suc (suc (suc n))) e l c = absurd (omega arith)
 
   -- a reader of one size made the kind
-  sized-kind : {r : Reader ExprKind} {n : ℕ} {v : List ℕ → ℕ → ExprKind} (b : ℕ) → Sized r n v → byteW s 9 ≡ b → getElem? exprKinds b ≡ some r → nd .kind ≡ v s 10
+  sized-kind : {r : Reader ExprKind} {n : ℕ} {v : List ℕ → ℕ → ExprKind} (b : ℕ) → Sized r n v → byteW s 9 ≡ b → getElem? (exprKinds ed) b ≡ some r → nd .kind ≡ v s 10
   unfolding entry
   sized-kind {r} b p e q =
       let x : r (drop 10 s) ≡ got (nd .kind) [] = rw (e, q) at chosen in
@@ -120,9 +121,9 @@ module _ (s : List ℕ) (nd : Node) (long : 10 ≤ length s) (is : frameOf Frame
   unfolding exprKinds exprNames exprNodes
   value-refs e = refs-of (ExprKind.Access FieldRef.Value (halfW s 10)) (sized-kind 10 (sized-one (ExprKind.Access FieldRef.Value) sized-two) e refl)
 
-  pub fact-refs : byteW s 9 ≡ 13 → RefsAre (nd .kind) [] (halfW s 12 ∷ [])
+  pub fact-refs : byteW s 9 ≡ 13 → RefsAre (nd .kind) [] (halfW s (10 + referenceSize ed) ∷ [])
   unfolding exprKinds exprNames exprNodes
-  fact-refs e = refs-of (ExprKind.Fact (halfW s 10) (halfW s 12)) (sized-kind 13 (sized-pair ExprKind.Fact sized-two sized-two) e refl)
+  fact-refs e = refs-of (ExprKind.Fact (referenceW ed s 10) (halfW s (10 + referenceSize ed))) (sized-kind 13 (sized-pair ExprKind.Fact (sized-reference ed) sized-two) e refl)
 
   pub select-refs : byteW s 9 ≡ 16 → RefsAre (nd .kind) (halfW s 10 ∷ []) (halfW s 12 ∷ [])
   unfolding exprKinds exprNames exprNodes
@@ -143,7 +144,7 @@ module _ (s : List ℕ) (nd : Node) (long : 10 ≤ length s) (is : frameOf Frame
   pub no-refs : 17 ≤ byteW s 9 → ⊥
   unfolding entry exprKinds
   no-refs h =
-      let x : fails ≡ got (nd .kind) [] = rw (past-end exprKinds (byteW s 9) h, entry) at chosen in
+      let x : fails ≡ got (nd .kind) [] = rw (past-end (exprKinds ed) (byteW s 9) h, entry) at chosen in
       let z : _≡_ {A = ℕ} 0 1 = cc in
       omega arith
 

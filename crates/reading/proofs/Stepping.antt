@@ -17,13 +17,14 @@ use Rattle.work.specs.declared.Counters.{Counters}
 use Rattle.reading.specs.declared.Step.the-variants.{On, Off}
 use Rattle.reading.specs.Held.{Held}
 use Rattle.reading.specs.Contracts.{refusal, Steps}
+use Rattle.meaning.specs.Frame.{Edition}
 
-module _ (f : List ℕ) (next : ℕ) (w : List ℕ) (kind : ℕ) (so : SoFar) where
-  pub refuses : (e : Refusal) (o : Option Refused.Refusal) → o ≡ some (refusal e) → Steps f next w kind so (Off e) o
-  refuses e o q = subst (Steps f next w kind so (Off e)) (sym q) (e, refl, refl)
+module _ (ed : Edition) (f : List ℕ) (next : ℕ) (w : List ℕ) (kind : ℕ) (so : SoFar) where
+  pub refuses : (e : Refusal) (o : Option Refused.Refusal) → o ≡ some (refusal e) → Steps ed f next w kind so (Off e) o
+  refuses e o q = subst (Steps ed f next w kind so (Off e)) (sym q) (e, refl, refl)
 
-  pub goes-on : (c : Counters) (T : Rows) (o : Option Refused.Refusal) → o ≡ none → Held f next w T c kind so → Steps f next w kind so (On c) o
-  goes-on c T o q h = subst (Steps f next w kind so (On c)) (sym q) (c, refl, (T, h))
+  pub goes-on : (c : Counters) (T : Rows) (o : Option Refused.Refusal) → o ≡ none → Held ed f next w T c kind so → Steps ed f next w kind so (On c) o
+  goes-on c T o q h = subst (Steps ed f next w kind so (On c)) (sym q) (c, refl, (T, h))
 
 -- A kind that may not come first comes after another.
 pub begun : (p : Option Kind) (k : Kind) → mayStand p k ≡ true → mayStand none k ≡ false → (j : Kind) × (p ≡ some j)

@@ -10,10 +10,10 @@ use lib.Seq.{sets}
 use Rattle.work.specs.Layout.{NAME-COUNT, NAMES, TYPES, PREDICATES}
 use Rattle.meaning.specs.Refusal as Refused
 use Rattle.meaning.specs.Frame as Frame
-use Rattle.meaning.specs.Frame.{mayStand, kindByte, kindOf, frameOf}
+use Rattle.meaning.specs.Frame.{Edition, mayStand, kindByte, kindOf, frameOf}
 use Rattle.meaning.specs.SoFar.{SoFar, frames, saidBy, add, after}
 use Rattle.meaning.specs.Conditions.{sameText, given, isFull, isLastQueryPast, conditions, firstOf}
-use Rattle.meaning.specs.File.{Reading, refused, described, reading, typesOf, countOf}
+use Rattle.meaning.specs.File.{Reading, refused, described, readingOf, typesOf, countOf}
 use Rattle.meaning.specs.Outcome.{minWords}
 use Rattle.text.specs.Utf8.{characters}
 use Rattle.hex.specs.Digits.{lineAt}
@@ -46,6 +46,10 @@ refusal Refusal.RepeatedKey = Refused.repeatedKey
 refusal Refusal.TooManyVisits = Refused.tooManyVisits
 refusal Refusal.AnswerTooLong = Refused.answerTooLong
 refusal Refusal.TooManyQueries = Refused.tooManyQueries
+refusal Refusal.NumberTooWide = Refused.numberTooWide
+refusal Refusal.TallyTooLarge = Refused.tallyTooLarge
+refusal Refusal.CeilingPassed = Refused.ceilingPassed
+refusal Refusal.OutsideTheRules = Refused.outsideTheRules
 
 -- ---- The counters after a line of each kind
 
@@ -75,30 +79,34 @@ pub record Line (f : List ℕ) (at next : ℕ) (s : List ℕ) : Type 0 where
   pub some : 0 < length s
   pub most : length s ≤ 512
 
+-- Said of both editions: the lines that it is about are the same in them.
+pub record InEither (P : Edition → Type 0) : Type 0 where
+  pub is : (e : Edition) → P e
+
 -- A line of a kind that may come and is not one too many is this frame.
-pub record Comes (so : SoFar) (k : Frame.Kind) (s : List ℕ) (frame : Frame.Frame) : Type 0 where
+pub record Comes (e : Edition) (so : SoFar) (k : Frame.Kind) (s : List ℕ) (frame : Frame.Frame) : Type 0 where
   pub placed : mayStand (so .previous) k ≡ true
   pub room : isFull so k ≡ false
   pub turn : isLastQueryPast so k ≡ false
   pub first : s ≡ kindByte k ∷ drop 1 s
-  pub is : frameOf k (drop 1 s) ≡ some frame
+  pub is : frameOf e k (drop 1 s) ≡ some frame
 
 -- How a line ends by the first condition that holds of it, if any.
-abbrev pub Steps : (f : List ℕ) (next : ℕ) (w′ : List ℕ) (kind : ℕ) → SoFar → Step → Option Refused.Refusal → Type 0
-Steps f next w′ kind so r (some e) = (e′ : Refusal) × (r ≡ Step.Off e′) × (refusal e′ ≡ e)
-Steps f next w′ kind so r none = (c′ : Counters) × (r ≡ Step.On c′) × ((T′ : Rows) × Held f next w′ T′ c′ kind so)
+abbrev pub Steps : (e : Edition) (f : List ℕ) (next : ℕ) (w′ : List ℕ) (kind : ℕ) → SoFar → Step → Option Refused.Refusal → Type 0
+Steps e f next w′ kind so r (some i) = (i′ : Refusal) × (r ≡ Step.Off i′) × (refusal i′ ≡ i)
+Steps e f next w′ kind so r none = (c′ : Counters) × (r ≡ Step.On c′) × ((T′ : Rows) × Held e f next w′ T′ c′ kind so)
 
-pub record Takes (f : List ℕ) (at : ℕ) (k : Frame.Kind) (s w : List ℕ) (c : Counters) (w′ : List ℕ) (r : Step) : Type 0 where
-  pub is : (next : ℕ) (T : Rows) (previous : ℕ) (so : SoFar) (frame : Frame.Frame) → Held f at w T c previous so → Line f at next s → Comes so k s frame
-      → Steps f next w′ (numberOf (some k)) (add so frame) r (firstOf conditions so (frames frame))
+pub record Takes (e : Edition) (f : List ℕ) (at : ℕ) (k : Frame.Kind) (s w : List ℕ) (c : Counters) (w′ : List ℕ) (r : Step) : Type 0 where
+  pub is : (next : ℕ) (T : Rows) (previous : ℕ) (so : SoFar) (frame : Frame.Frame) → Held e f at w T c previous so → Line f at next s → Comes e so k s frame
+      → Steps e f next w′ (numberOf (some k)) (add so frame) r (firstOf conditions so (frames frame))
 
 -- Wherever the line stands.
-pub record TakesAnywhere (k : Frame.Kind) (s w : List ℕ) (c : Counters) (w′ : List ℕ) (r : Step) : Type 0 where
-  pub is : (f : List ℕ) (at : ℕ) → Takes f at k s w c w′ r
+pub record TakesAnywhere (e : Edition) (k : Frame.Kind) (s w : List ℕ) (c : Counters) (w′ : List ℕ) (r : Step) : Type 0 where
+  pub is : (f : List ℕ) (at : ℕ) → Takes e f at k s w c w′ r
 
 -- At this place of whatever file.
-pub record TakesThere (at : ℕ) (k : Frame.Kind) (s w : List ℕ) (c : Counters) (w′ : List ℕ) (r : Step) : Type 0 where
-  pub is : (f : List ℕ) → Takes f at k s w c w′ r
+pub record TakesThere (e : Edition) (at : ℕ) (k : Frame.Kind) (s w : List ℕ) (c : Counters) (w′ : List ℕ) (r : Step) : Type 0 where
+  pub is : (f : List ℕ) → Takes e f at k s w c w′ r
 
 -- ---- Names
 
@@ -139,8 +147,8 @@ pub record AddsType (w : List ℕ) (c : Counters) (head payload n : ℕ) (w′ :
   pub step : r ≡ Step.On (withType c n)
 
 -- A type line whose shape byte is this.
-pub record TakesType (shape : ℕ) (s w : List ℕ) (c : Counters) (w′ : List ℕ) (r : Step) : Type 0 where
-  pub is : (f : List ℕ) (at : ℕ) → getD s 1 0 ≡ shape → Takes f at Frame.schemaType s w c w′ r
+pub record TakesType (e : Edition) (shape : ℕ) (s w : List ℕ) (c : Counters) (w′ : List ℕ) (r : Step) : Type 0 where
+  pub is : (f : List ℕ) (at : ℕ) → getD s 1 0 ≡ shape → Takes e f at Frame.schemaType s w c w′ r
 
 pub record AddsPredicate (w : List ℕ) (c : Counters) (entry : ℕ) (w′ : List ℕ) (r : Step) : Type 0 where
   pub words : w′ ≡ set w (PREDICATES + c .predicates) entry
@@ -157,9 +165,9 @@ abbrev pub pastOf : Counters → ℕ → Bool
 pastOf c kind = getD (false ∷ false ∷ false ∷ false ∷ false ∷ leb 64 (c .queries) ∷ []) kind false
 
 -- The line is refused by the first condition that holds of what it says, or that is added to what was read.
-pub record TakesLine (f : List ℕ) (at : ℕ) (s w : List ℕ) (c : Counters) (previous kind : ℕ) (w′ : List ℕ) (r : Step) : Type 0 where
-  pub is : (next : ℕ) (T : Rows) (so : SoFar) → Held f at w T c previous so → Line f at next s → kind ≡ numberOf (kindOf (getD s 0 0))
-      → Steps f next w′ kind (after so (saidBy (some s))) r (firstOf conditions so (saidBy (some s)))
+pub record TakesLine (e : Edition) (f : List ℕ) (at : ℕ) (s w : List ℕ) (c : Counters) (previous kind : ℕ) (w′ : List ℕ) (r : Step) : Type 0 where
+  pub is : (next : ℕ) (T : Rows) (so : SoFar) → Held e f at w T c previous so → Line f at next s → kind ≡ numberOf (kindOf (getD s 0 0))
+      → Steps e f next w′ kind (after so (saidBy e (some s))) r (firstOf conditions so (saidBy e (some s)))
 
 -- ---- All lines
 
@@ -172,26 +180,26 @@ counted w c = sets w NAME-COUNT (counts c)
 
 -- Refused exactly as the definition says, or the schema and the names that the definition describes stand in the slice, and every type of
 -- the file by its number.
-unfoldable pub Ends : List ℕ → List ℕ → Read → Reading → Type 0
-Ends f w′ r (refused e) = (e′ : Refusal) × (r ≡ Read.Refused e′) × (refusal e′ ≡ e)
-Ends f w′ r (described d) = (r ≡ Read.Accepted) × (16384 ≤ length w′) × ((T : Rows) × SchemaStands f w′ T (d .names) (d .schema) × Declares w′ T (typesOf f))
+unfoldable pub Ends : Edition → List ℕ → List ℕ → Read → Reading → Type 0
+Ends e f w′ r (refused i) = (i′ : Refusal) × (r ≡ Read.Refused i′) × (refusal i′ ≡ i)
+Ends e f w′ r (described d) = (r ≡ Read.Accepted) × (16384 ≤ length w′) × ((T : Rows) × SchemaStands f w′ T (d .names) (d .schema) × Declares w′ T (typesOf e f))
 
-pub record TakesLines (f w w′ : List ℕ) (r : Read) : Type 0 where
-  pub ends : Ends f w′ r (reading f)
+pub record TakesLines (e : Edition) (f w w′ : List ℕ) (r : Read) : Type 0 where
+  pub ends : Ends e f w′ r (readingOf e f)
 
 -- ---- The file
 
 -- Refusals 1 to 10 in document 01's order, with so many words lent: the part of `decide` (meaning/specs/Outcome.antt) before the check.
-unfoldable pub readingIn : List ℕ → ℕ → Reading
-unfolding reading minWords
-readingIn f words = elim (ltb words minWords) [ true ↦ refused Refused.workTooShort | false ↦ reading f ]
+unfoldable pub readingIn : Edition → List ℕ → ℕ → Reading
+unfolding readingOf minWords
+readingIn e f words = elim (ltb words minWords) [ true ↦ refused Refused.workTooShort | false ↦ readingOf e f ]
 
-pub record ReadsFile (f w w′ : List ℕ) (r : Read) : Type 0 where
-  pub ends : Ends f w′ r (readingIn f (length w))
+pub record ReadsFile (e : Edition) (f w w′ : List ℕ) (r : Read) : Type 0 where
+  pub ends : Ends e f w′ r (readingIn e f (length w))
   pub long : length w′ ≡ length w
 
 -- The same, with zeros throughout after a refusal.
-pub record Reads (f w w′ : List ℕ) (r : Read) : Type 0 where
-  pub ends : Ends f w′ r (readingIn f (length w))
+pub record Reads (e : Edition) (f w w′ : List ℕ) (r : Read) : Type 0 where
+  pub ends : Ends e f w′ r (readingIn e f (length w))
   pub long : length w′ ≡ length w
-  pub cleared : (e : Refusal) → r ≡ Read.Refused e → w′ ≡ replicate (length w) 0
+  pub cleared : (i : Refusal) → r ≡ Read.Refused i → w′ ≡ replicate (length w) 0

@@ -15,13 +15,14 @@ use Rattle.cells.specs.Stands.{Rows, tree, tagOf, rowW, partWords}
 use Rattle.meaning.specs.Syntax.{Node, nodeAt}
 use Rattle.meaning.specs.Schema.{Predicate}
 use Rattle.meaning.specs.Frame as Frame
+use Rattle.meaning.specs.Frame.{Edition}
 use Rattle.meaning.specs.Lines.{position}
 use Rattle.meaning.specs.SoFar.{SoFar}
 use Rattle.meaning.specs.Conditions.{among, sameText}
 use Rattle.meaning.specs.File.{valueText, countOf}
 use Rattle.text.specs.Utf8.{characters}
 use Rattle.frames.specs.Contracts.{numberOf}
-use Rattle.tree.specs.Stands.{NameIs, NodeIs, PredicateIs, noPredicate, numbered}
+use Rattle.tree.specs.Stands.{NameIs, NodeIn, PredicateIs, noPredicate, numbered}
 use Rattle.work.specs.declared.Counters.{Counters}
 
 -- ---- Limits
@@ -75,10 +76,10 @@ pub record PredicatesHeld (w : List ℕ) (T : Rows) (m n : ℕ) (predicates : Li
 
 -- ---- Nodes
 
-pub record NodesHeld (f w : List ℕ) (n : ℕ) (nodes : List Node) : Type 0 where
+pub record NodesHeld (e : Edition) (f w : List ℕ) (n : ℕ) (nodes : List Node) : Type 0 where
   pub count : n ≡ length nodes
   pub few : length nodes ≤ 512
-  pub node : (i : ℕ) → i < length nodes → NodeIs f w i (nodeAt nodes i)
+  pub node : (i : ℕ) → i < length nodes → NodeIn e f w i (nodeAt nodes i)
 
 abbrev pub flag : Bool → ℕ
 flag true = 1
@@ -90,7 +91,7 @@ pub record Marked (w : List ℕ) (m : ℕ) (named : List ℕ) : Type 0 where
   pub later : (i : ℕ) → m ≤ i → among i named ≡ false
 
 -- ---- The whole
-pub record Held (f : List ℕ) (at : ℕ) (w : List ℕ) (T : Rows) (c : Counters) (previous : ℕ) (so : SoFar) : Type 0 where
+pub record Held (e : Edition) (f : List ℕ) (at : ℕ) (w : List ℕ) (T : Rows) (c : Counters) (previous : ℕ) (so : SoFar) : Type 0 where
   pub long : 16384 ≤ length w
   pub place : at ≤ length f
   pub small : length f ≤ 65536
@@ -101,7 +102,7 @@ pub record Held (f : List ℕ) (at : ℕ) (w : List ℕ) (T : Rows) (c : Counter
   pub names : NamesHeld f w (c .names) (c .value) (so .names)
   pub types : TypesHeld w T (c .types) (c .fields) (so .types)
   pub predicates : PredicatesHeld w T (length (so .types)) (c .predicates) (so .predicates)
-  pub nodes : NodesHeld f w (c .nodes) (so .nodes)
+  pub nodes : NodesHeld e f w (c .nodes) (so .nodes)
   pub named : Marked w (length (so .nodes)) (so .named)
   pub queries : c .queries ≡ length (so .queries)
   pub turns : length (so .queries) ≤ 64

@@ -10,7 +10,7 @@ use Rattle.cells.specs.Stands.{Keeps}
 use mathlib.Core.Option.{some}
 use Rattle.meaning.specs.Syntax.{QueryStmt, Node}
 use Rattle.meaning.specs.Frame as Frame
-use Rattle.meaning.specs.Frame.{frameOf}
+use Rattle.meaning.specs.Frame.{Edition, frameOf}
 use Rattle.meaning.specs.References.{stmtNodes, exprNames, exprNodes}
 use Rattle.meaning.specs.Conditions.{allBelow, again}
 use Rattle.frames.specs.Contracts.{halfW}
@@ -42,5 +42,5 @@ pub record NamesStatements (s w : List ℕ) (from nodes : ℕ) (w′ : List ℕ)
   pub is : (names : ℕ) (stmts : List QueryStmt) → Fill s from stmts → Refers w names [] nodes (stmtNodes stmts) w′ r
 
 -- All that a node's frame refers to.
-pub record NamesAll (s w : List ℕ) (names nodes : ℕ) (w′ : List ℕ) (r : Bool) : Type 0 where
-  pub is : (nd : Node) → frameOf Frame.node (drop 1 s) ≡ some (Frame.aNode nd) → Refers w names (exprNames (nd .kind)) nodes (exprNodes (nd .kind)) w′ r
+pub record NamesAll (e : Edition) (s w : List ℕ) (names nodes : ℕ) (w′ : List ℕ) (r : Bool) : Type 0 where
+  pub is : (nd : Node) → frameOf e Frame.node (drop 1 s) ≡ some (Frame.aNode nd) → Refers w names (exprNames (nd .kind)) nodes (exprNodes (nd .kind)) w′ r

@@ -3,7 +3,8 @@ ghost use mathlib.Core.Path.{_≡_};
 ghost use Prim.Native.Nat.{ℕ, _+_, _<_, _≤_};
 ghost use lib.ListN.{length};
 ghost use Rattle.meaning.specs.Frame.{limits};
-ghost use Rattle.reading.specs.Contracts.{TakesAnywhere, fullOf, pastOf, TakesLine, counted, TakesLines, ReadsFile, Reads};
+ghost use Rattle.frames.specs.Contracts.{edition};
+ghost use Rattle.reading.specs.Contracts.{InEither, TakesAnywhere, fullOf, pastOf, TakesLine, counted, TakesLines, ReadsFile, Reads};
 
 mod names;
 mod nodes;
@@ -28,6 +29,10 @@ pub enum Refusal {
     TooManyVisits,
     AnswerTooLong,
     TooManyQueries,
+    NumberTooWide,
+    TallyTooLarge,
+    CeilingPassed,
+    OutsideTheRules,
 }
 
 // What a line did: the counters after it, or the refusal.
@@ -65,7 +70,7 @@ fn is_past(c: Counters, kind: usize) -> bool
 }
 
 fn take_limits(s: &[u8], w: &mut [u32], c: Counters) -> Step
-    ensures { λ r. ⌜ TakesAnywhere limits (now (s .entry)) (now (w .entry)) c (now (w .exit)) r ⌝ }
+    ensures { λ r. ⌜ InEither (λ e. TakesAnywhere e limits (now (s .entry)) (now (w .entry)) c (now (w .exit)) r) ⌝ }
 {
     let limits = reader::read_limits(s, 1);
     put(w, work::MAX_DISTANCE, limits.distance);
@@ -83,9 +88,10 @@ fn take_line(
     c: Counters,
     previous: usize,
     kind: usize,
+    wide: bool,
 ) -> Step
     requires { ⌜ (at < 65536) × (0 < length (now s)) × (length (now s) ≤ 512) × (16384 ≤ length (now w)) × (c .names ≤ 256) × (c .types ≤ 256) × (c .fields ≤ 8192) × (c .nodes ≤ 512) × (c .queries ≤ 64) ⌝ }
-    ensures { λ r. ⌜ TakesLine (now (file .entry)) at (now (s .entry)) (now (w .entry)) c previous kind (now (w .exit)) r ⌝ }
+    ensures { λ r. ⌜ TakesLine (edition wide) (now (file .entry)) at (now (s .entry)) (now (w .entry)) c previous kind (now (w .exit)) r ⌝ }
 {
     if !frames::may_stand(previous, kind) {
         return Step::Off(Refusal::MisplacedKind);
@@ -96,15 +102,15 @@ fn take_line(
     if is_past(c, kind) {
         return Step::Off(Refusal::TooManyQueries);
     }
-    if !frames::is_frame(s, kind) {
+    if !frames::is_frame(s, kind, wide) {
         return Step::Off(Refusal::MalformedFrame);
     }
     match kind {
         0 => take_limits(s, w, c),
         1 => names::take_name(file, at, s, w, c),
-        2 => types::take_type(s, w, c),
+        2 => types::take_type(s, w, c, wide),
         3 => types::take_predicate(s, w, c),
-        4 => nodes::take_node(at, s, w, c),
+        4 => nodes::take_node(at, s, w, c, wide),
         _ => nodes::take_query(at, s, w, c),
     }
 }
@@ -120,9 +126,9 @@ fn put_counts(w: &mut [u32], c: Counters)
 }
 
 // The lines in file order, then the missing query. After each query the nodes start anew: `load` finds them again.
-fn take_lines(file: &[u8], w: &mut [u32]) -> Read
+fn take_lines(file: &[u8], w: &mut [u32], wide: bool) -> Read
     requires { ⌜ (length (now file) ≤ 65536) × (16384 ≤ length (now w)) ⌝ }
-    ensures { λ r. ⌜ TakesLines (now (file .entry)) (now (w .entry)) (now (w .exit)) r ⌝ }
+    ensures { λ r. ⌜ TakesLines (edition wide) (now (file .entry)) (now (w .entry)) (now (w .exit)) r ⌝ }
 {
     let mut line = [0u8; Counters::LINE];
     let mut c = Counters::new();
@@ -136,7 +142,7 @@ fn take_lines(file: &[u8], w: &mut [u32]) -> Read
             }
             Decoded::Bytes(n, next) => {
                 let kind = frames::kind_of(line[0]);
-                let r = take_line(file, at, &line[0..n], w, c, previous, kind);
+                let r = take_line(file, at, &line[0..n], w, c, previous, kind, wide);
                 match r {
                     Step::On(d) => {
                         c = d;
@@ -157,10 +163,10 @@ fn take_lines(file: &[u8], w: &mut [u32]) -> Read
     Read::Refused(Refusal::MisplacedKind)
 }
 
-// A file past refusals 1 to 10 stands in the work slice afterwards. After a refusal the slice holds anything: whoever lends it
+// A file of this edition past refusals 1 to 10 stands in the work slice afterwards. After a refusal the slice holds anything: whoever lends it
 // clears it.
-pub fn read_file(file: &[u8], w: &mut [u32]) -> Read
-    ensures { λ r. ⌜ ReadsFile (now (file .entry)) (now (w .entry)) (now (w .exit)) r ⌝ }
+pub fn read_file(file: &[u8], w: &mut [u32], wide: bool) -> Read
+    ensures { λ r. ⌜ ReadsFile (edition wide) (now (file .entry)) (now (w .entry)) (now (w .exit)) r ⌝ }
 {
     if w.len() < Counters::WORDS {
         return Read::Refused(Refusal::WorkTooShort);
@@ -168,14 +174,14 @@ pub fn read_file(file: &[u8], w: &mut [u32]) -> Read
     if Counters::FILE < file.len() {
         return Read::Refused(Refusal::FileTooLong);
     }
-    take_lines(file, w)
+    take_lines(file, w, wide)
 }
 
 // The same, with zeros throughout after a refusal.
-pub fn read_or_clear(file: &[u8], w: &mut [u32]) -> Read
-    ensures { λ r. ⌜ Reads (now (file .entry)) (now (w .entry)) (now (w .exit)) r ⌝ }
+pub fn read_or_clear(file: &[u8], w: &mut [u32], wide: bool) -> Read
+    ensures { λ r. ⌜ Reads (edition wide) (now (file .entry)) (now (w .entry)) (now (w .exit)) r ⌝ }
 {
-    let r = read_file(file, w);
+    let r = read_file(file, w, wide);
     match r {
         Read::Accepted => {}
         Read::Refused(_) => {

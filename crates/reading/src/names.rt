@@ -6,7 +6,7 @@ ghost use lib.ListN.{length, drop};
 ghost use Rattle.meaning.specs.Conditions.{sameText};
 ghost use Rattle.meaning.specs.File.{valueText};
 ghost use Rattle.meaning.specs.Frame.{name};
-ghost use Rattle.reading.specs.Contracts.{fourAt, eightAt, Differ, SameLine, GivenBefore, AddsName, Takes};
+ghost use Rattle.reading.specs.Contracts.{fourAt, eightAt, Differ, SameLine, GivenBefore, AddsName, InEither, Takes};
 use crate::Counters;
 use crate::Refusal;
 use crate::Step;
@@ -149,7 +149,7 @@ fn add_name(at: usize, chars: usize, value: bool, w: &mut [u32], c: Counters) ->
 
 pub fn take_name(file: &[u8], at: usize, s: &[u8], w: &mut [u32], c: Counters) -> Step
     requires { ⌜ (at < 65536) × (c .names < 256) × (0 < length (now s)) × (length (now s) ≤ 512) ⌝ }
-    ensures { λ r. ⌜ Takes (now (file .entry)) at name (now (s .entry)) (now (w .entry)) c (now (w .exit)) r ⌝ }
+    ensures { λ r. ⌜ InEither (λ e. Takes e (now (file .entry)) at name (now (s .entry)) (now (w .entry)) c (now (w .exit)) r) ⌝ }
 {
     let got = text::characters(&s[1..]);
     match got {

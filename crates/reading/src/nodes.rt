@@ -3,13 +3,15 @@ ghost use mathlib.Core.Path.{_≡_};
 ghost use Prim.Native.Nat.{ℕ, _+_, _<_, _≤_};
 ghost use lib.ListN.{length};
 ghost use Rattle.meaning.specs.Frame.{node, query};
-ghost use Rattle.reading.specs.Contracts.{TakesThere};
+ghost use Rattle.reading.specs.Contracts.{InEither, TakesThere};
+ghost use Rattle.frames.specs.Contracts.{edition};
 ghost use Rattle.reading.specs.Marks.{NamesNode, NamesFields, NamesItems, NamesStatements, NamesAll};
 use crate::Counters;
 use crate::Refusal;
 use crate::Step;
 use frames::byte;
 use frames::half;
+use frames::reference_size;
 use work::is_named;
 use work::node_word;
 use work::put;
@@ -93,9 +95,9 @@ fn name_statements(s: &[u8], w: &mut [u32], from: usize, nodes: u32) -> bool
     true
 }
 
-fn name_all(s: &[u8], w: &mut [u32], c: Counters) -> bool
+fn name_all(s: &[u8], w: &mut [u32], c: Counters, wide: bool) -> bool
     requires { ⌜ (10 ≤ length (now s)) × (length (now s) ≤ 512) × (c .nodes ≤ 512) × (16384 ≤ length (now w)) ⌝ }
-    ensures { λ r. ⌜ NamesAll (now (s .entry)) (now (w .entry)) (c .names) (c .nodes) (now (w .exit)) r ⌝ }
+    ensures { λ r. ⌜ NamesAll (edition wide) (now (s .entry)) (now (w .entry)) (c .names) (c .nodes) (now (w .exit)) r ⌝ }
 {
     let shape = byte(s, 9);
     let names = c.names;
@@ -117,20 +119,20 @@ fn name_all(s: &[u8], w: &mut [u32], c: Counters) -> bool
             }
             name_statements(s, w, 12, nodes)
         }
-        13 => name_node(w, half(s, 12), nodes),
+        13 => name_node(w, half(s, 10 + reference_size(wide)), nodes),
         _ => true,
     }
 }
 
-pub fn take_node(at: usize, s: &[u8], w: &mut [u32], c: Counters) -> Step
+pub fn take_node(at: usize, s: &[u8], w: &mut [u32], c: Counters, wide: bool) -> Step
     requires { ⌜ (at < 65536) × (10 ≤ length (now s)) × (length (now s) ≤ 512) × (c .nodes < 512) × (16384 ≤ length (now w)) ⌝ }
-    ensures { λ r. ⌜ TakesThere at node (now (s .entry)) (now (w .entry)) c (now (w .exit)) r ⌝ }
+    ensures { λ r. ⌜ TakesThere (edition wide) at node (now (s .entry)) (now (w .entry)) c (now (w .exit)) r ⌝ }
 {
-    if !name_all(s, w, c) {
+    if !name_all(s, w, c, wide) {
         return Step::Off(Refusal::BadReference);
     }
     let n = c.nodes;
-    put(w, work::NODES + wide(n), node_word(at, s.len()));
+    put(w, work::NODES + work::wide(n), node_word(at, s.len()));
     let mut next = c;
     next.nodes = n + 1;
     Step::On(next)
@@ -138,7 +140,7 @@ pub fn take_node(at: usize, s: &[u8], w: &mut [u32], c: Counters) -> Step
 
 pub fn take_query(at: usize, s: &[u8], w: &mut [u32], c: Counters) -> Step
     requires { ⌜ (at < 65536) × (length (now s) ≤ 512) × (c .nodes ≤ 512) × (16384 ≤ length (now w)) × (c .queries < 64) ⌝ }
-    ensures { λ r. ⌜ TakesThere at query (now (s .entry)) (now (w .entry)) c (now (w .exit)) r ⌝ }
+    ensures { λ r. ⌜ InEither (λ e. TakesThere e at query (now (s .entry)) (now (w .entry)) c (now (w .exit)) r) ⌝ }
 {
     if !name_node(w, half(s, 1), c.nodes) {
         return Step::Off(Refusal::BadReference);

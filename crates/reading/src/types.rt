@@ -4,14 +4,16 @@ ghost use mathlib.Core.Logic.{_⊎_};
 ghost use Prim.Native.Nat.{ℕ, _+_, _<_, _≤_};
 ghost use lib.ListN.{length};
 ghost use Rattle.reading.specs.Parts.{keyW, ReadsPart, PartsEarlier, KeyBefore, KeysDistinct, PutsFields, PutsAlternatives};
-ghost use Rattle.reading.specs.Contracts.{TakesAnywhere, AddsType, TakesType, AddsPredicate};
+ghost use Rattle.reading.specs.Contracts.{InEither, TakesAnywhere, AddsType, TakesType, AddsPredicate};
 ghost use Rattle.meaning.specs.Frame.{schemaType, predicate};
+ghost use Rattle.frames.specs.Contracts.{edition};
 use crate::Counters;
 use crate::Refusal;
 use crate::Step;
 use frames::byte;
 use frames::full;
 use frames::half;
+use frames::reference;
 use work::part;
 use work::predicate_word;
 use work::put;
@@ -170,7 +172,7 @@ fn add_type(w: &mut [u32], c: Counters, head: u32, payload: u32, words: u32) -> 
 
 fn take_record(s: &[u8], w: &mut [u32], c: Counters) -> Step
     requires { ⌜ (2 ≤ length (now s)) × (length (now s) ≤ 512) × (c .types < 256) × (c .fields ≤ 8192) ⌝ }
-    ensures { λ r. ⌜ TakesType 4 (now (s .entry)) (now (w .entry)) c (now (w .exit)) r ⌝ }
+    ensures { λ r. ⌜ InEither (λ e. TakesType e 4 (now (s .entry)) (now (w .entry)) c (now (w .exit)) r) ⌝ }
 {
     if !parts_earlier(s, 4, c.names, c.types) {
         return Step::Off(Refusal::BadReference);
@@ -186,7 +188,7 @@ fn take_record(s: &[u8], w: &mut [u32], c: Counters) -> Step
 
 fn take_union(s: &[u8], w: &mut [u32], c: Counters) -> Step
     requires { ⌜ (2 ≤ length (now s)) × (length (now s) ≤ 512) × (c .types < 256) × (c .fields ≤ 8192) ⌝ }
-    ensures { λ r. ⌜ TakesType 5 (now (s .entry)) (now (w .entry)) c (now (w .exit)) r ⌝ }
+    ensures { λ r. ⌜ InEither (λ e. TakesType e 5 (now (s .entry)) (now (w .entry)) c (now (w .exit)) r) ⌝ }
 {
     if !parts_earlier(s, 8, c.names, c.types) {
         return Step::Off(Refusal::BadReference);
@@ -200,16 +202,16 @@ fn take_union(s: &[u8], w: &mut [u32], c: Counters) -> Step
     add_type(w, c, with_tag(n, 6), from, n * 2)
 }
 
-pub fn take_type(s: &[u8], w: &mut [u32], c: Counters) -> Step
+pub fn take_type(s: &[u8], w: &mut [u32], c: Counters, wide: bool) -> Step
     requires { ⌜ (2 ≤ length (now s)) × (length (now s) ≤ 512) × (c .types < 256) × (c .fields ≤ 8192) ⌝ }
-    ensures { λ r. ⌜ TakesAnywhere schemaType (now (s .entry)) (now (w .entry)) c (now (w .exit)) r ⌝ }
+    ensures { λ r. ⌜ TakesAnywhere (edition wide) schemaType (now (s .entry)) (now (w .entry)) c (now (w .exit)) r ⌝ }
 {
     let shape = byte(s, 1);
     match shape {
         0 => add_type(w, c, 1, 0, 0),
         1 => add_type(w, c, 2, 0, 0),
         2 => add_type(w, c, 3, 0, 0),
-        3 => add_type(w, c, 4, half(s, 2), 0),
+        3 => add_type(w, c, 4, reference(s, 2, wide), 0),
         4 => take_record(s, w, c),
         _ => take_union(s, w, c),
     }
@@ -228,7 +230,7 @@ fn add_predicate(w: &mut [u32], c: Counters, entry: u32) -> Step
 
 pub fn take_predicate(s: &[u8], w: &mut [u32], c: Counters) -> Step
     requires { ⌜ (6 ≤ length (now s)) × (c .names ≤ 256) × (c .types ≤ 256) × (c .predicates < 128) ⌝ }
-    ensures { λ r. ⌜ TakesAnywhere predicate (now (s .entry)) (now (w .entry)) c (now (w .exit)) r ⌝ }
+    ensures { λ r. ⌜ InEither (λ e. TakesAnywhere e predicate (now (s .entry)) (now (w .entry)) c (now (w .exit)) r) ⌝ }
 {
     let p = reader::read_predicate(s, 1);
     let name = p.name;

@@ -8,7 +8,7 @@ use reading::Read;
 pub extern "C" fn sigla_read(file: &[u8], work: &mut [u32]) -> u8
     ensures { λ r. ⌜ CallsRead (now (file .entry)) (now (work .entry)) (now (work .exit)) r ⌝ }
 {
-    let r = reading::read_or_clear(file, work);
+    let r = reading::read_or_clear(file, work, true);
     match r {
         Read::Accepted => 0,
         Read::Refused(e) => desk::refusal_number(e),

@@ -11,6 +11,7 @@ use Rattle.work.specs.Layout.{END}
 use Rattle.cells.specs.CodeCalls.{untyped, CodeCalls, none-yet}
 use Rattle.cells.proofs.Frame.{more-refl}
 use Rattle.cells.proofs.CodeCalls.{declared-permitted}
+use Rattle.meaning.specs.Frame.{wide}
 use Rattle.meaning.specs.File.{Described, Form, viewOf, viewAt, described, reading, typesOf}
 use Rattle.meaning.specs.Conditions.{maxNames, maxPredicates}
 use Rattle.meaning.specs.Check as Check
@@ -28,17 +29,17 @@ use Rattle.reading.specs.Contracts.{Ends, readingIn, ReadsFile}
 use Rattle.runs.specs.Beginning.{SameSchema, AfterReading}
 
 -- `read_file` leaves it, where it accepts.
-pub accepted : {f w₀ w : List ℕ} {form : Form} → minWords ≤ length w₀ → reading f ≡ described form → ReadsFile f w₀ w Read.Accepted
+pub accepted : {f w₀ w : List ℕ} {form : Form} → minWords ≤ length w₀ → reading f ≡ described form → ReadsFile wide f w₀ w Read.Accepted
     → AfterReading f w form
 unfolding Ends readingIn minWords
 accepted {f} {w₀} {w} {form} enough is R =
-    let x : Ends f w Read.Accepted (described form) = subst (Ends f w Read.Accepted) (past ∙ is) (R .ends) in
+    let x : Ends wide f w Read.Accepted (described form) = subst (Ends wide f w Read.Accepted) (past ∙ is) (R .ends) in
     record { long = x .1; rows = x .2 .0; schema = x .2 .1; types = x .2 .2 }
   where
-    past : readingIn f (length w₀) ≡ reading f
+    past : readingIn wide f (length w₀) ≡ reading f
     past = rw (le-ltb (length w₀) 16384 enough, readingIn)
 
-few-types : {f w : List ℕ} {form : Form} (A : AfterReading f w form) → length (typesOf f) ≤ 256
+few-types : {f w : List ℕ} {form : Form} (A : AfterReading f w form) → length (typesOf wide f) ≤ 256
 few-types A = omega (arith, A .types .count, A .schema .types)
 
 -- A run: a query's nodes are put into the words, and `begin` is called.

@@ -6,6 +6,7 @@ use lib.ListN.{length, getD}
 use Rattle.work.specs.Layout.{NODE-COUNT, QUERY, NODES}
 use Rattle.cells.specs.Stands.{Rows}
 use Rattle.cells.specs.CodeCalls.{Declares}
+use Rattle.meaning.specs.Frame.{wide}
 use Rattle.meaning.specs.File.{Form, typesOf}
 use Rattle.meaning.specs.Outcome.{minWords}
 use Rattle.tree.specs.Stands.{SchemaStands}
@@ -15,7 +16,7 @@ pub record AfterReading (f w : List ℕ) (form : Form) : Type 0 where
   pub long : minWords ≤ length w
   pub rows : Rows
   pub schema : SchemaStands f w rows (form .names) (form .schema)
-  pub types : Declares w rows (typesOf f)
+  pub types : Declares w rows (typesOf wide f)
 
 -- The words of the schema are in the second as in the first; those of nodes and of a query may be others.
 abbrev pub SameSchema : List ℕ → List ℕ → Type 0

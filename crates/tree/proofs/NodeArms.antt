@@ -1,7 +1,7 @@
 -- Each arm of `node_at`: where the shape byte is this, the node made of the digits after it is the one that the line says.
 use mathlib.Core.Bool.{Bool, true, false}
 use mathlib.Core.List.{List, [], _∷_}
-use mathlib.Core.Path.{_≡_, refl, sym, _∙_, ap}
+use mathlib.Core.Path.{_≡_, refl, sym, _∙_, ap, ap₂}
 use Prim.Native.Nat.{ℕ, zero, suc, _+_, _-_, _*_, _/_, _%_, _≤_, _<_}
 use native.Mathlib.Omega.{arith}
 use lib.Dec.{T, eqb}
@@ -11,7 +11,7 @@ use Rattle.cells.specs.Words.{pick}
 use Rattle.work.specs.Layout.{NODES}
 use Rattle.meaning.specs.Syntax as Syntax
 use Rattle.meaning.specs.Syntax.{ExprKind, Literal, FieldRef, Query}
-use Rattle.meaning.specs.Frame.{got, fails, Reader, one, pair, two, many, field, headAndBody, choice, entry, exprKinds}
+use Rattle.meaning.specs.Frame.{wide, got, fails, Reader, one, pair, two, four, many, field, headAndBody, choice, entry, exprKinds}
 use Rattle.frames.specs.Contracts.{exprKind}
 use Rattle.meaning.specs.References.{fieldValues, queryNodes, exprNodes}
 use Rattle.meaning.specs.Conditions.{allBelow}
@@ -20,12 +20,12 @@ use Rattle.tree.specs.declared.Items.{Items}
 use Rattle.tree.specs.declared.Node.{Node}
 use Rattle.tree.specs.declared.Node.the-variants as Node
 use Rattle.tree.specs.Stands.{NodeIs}
-use Rattle.tree.specs.Nodes.{lowerW, itemsW, parentW, fieldsFrom, itemsFrom, stmtsW, kindW, LowerItems, Lower, IsNode}
+use Rattle.tree.specs.Nodes.{lowerW, fullAt, itemsW, parentW, fieldsFrom, itemsFrom, stmtsW, kindW, LowerItems, Lower, IsNode}
 use Rattle.tree.proofs.Lowering.{lower-stays, lower-below}
 use Rattle.tree.proofs.Readers.{Reads, no-got, went, reads-nothing, reads-byte, reads-one, reads-pair, reads-two, Listed, listed, listed-length}
 use Rattle.tree.proofs.Below.{first-below, items-are, fieldAt, reads-field, fields-are}
 use Rattle.tree.proofs.ItemsOf.{items-at, items-below, items-some, items-count}
-use Rattle.tree.proofs.LineParts.{KindAt, kind-at, QueryAt, query-at, head-is, body-is}
+use Rattle.tree.proofs.LineParts.{KindAt, fourAt, reads-four, kind-at, QueryAt, query-at, head-is, body-is}
 
 -- x is none of them
 abbrev pub Others : List ℕ → ℕ → Type 0
@@ -42,7 +42,7 @@ beyond zero x o = omega arith
 beyond (suc n) x o = let l = beyond n x (o .0) in let e = o .1 in omega arith
 
 -- A shape byte past the table says nothing.
-shape-past : (m : ℕ) (s : List ℕ) → exprKind (suc (suc (suc (suc (suc (suc (suc (suc (suc (suc (suc (suc (suc (suc (suc (suc (suc m)))))))))))))))) ∷ s) ≡ fails
+shape-past : (m : ℕ) (s : List ℕ) → exprKind wide (suc (suc (suc (suc (suc (suc (suc (suc (suc (suc (suc (suc (suc (suc (suc (suc (suc m)))))))))))))))) ∷ s) ≡ fails
 unfolding exprKinds choice entry
 shape-past m s = refl
 
@@ -59,13 +59,13 @@ module _ (f w : List ℕ) (n start size shape : ℕ) (p : At f w n start size sh
     line : KindAt f start size k
     ran : r (line .rest) ≡ got k []
 
-  after : (m : ℕ) (r : Reader ExprKind) → ((s : List ℕ) → exprKind (m ∷ s) ≡ r s) → shape ≡ m → (nd : Syntax.Node) → NodeIs f w n nd → Arm m r (nd .kind)
+  after : (m : ℕ) (r : Reader ExprKind) → ((s : List ℕ) → exprKind wide (m ∷ s) ≡ r s) → shape ≡ m → (nd : Syntax.Node) → NodeIs f w n nd → Arm m r (nd .kind)
   after m r same e nd h =
       let k = rw (← p .begins, ← p .long) at (kind-at f w n nd h) in
       let z : digitsW f (start + 18) ≡ m = sym (p .says) ∙ e in
       record { line = k; ran = sym (same (k .rest)) ∙ (rw z at (k .kind)) }
 
-  module _ (m : ℕ) {r : Reader ExprKind} {c : ℕ → ℕ} {v : ℕ → ExprKind} (same : (s : List ℕ) → exprKind (m ∷ s) ≡ r s) (R : Reads f r c v) (e : shape ≡ m) where
+  module _ (m : ℕ) {r : Reader ExprKind} {c : ℕ → ℕ} {v : ℕ → ExprKind} (same : (s : List ℕ) → exprKind wide (m ∷ s) ≡ r s) (R : Reads f r c v) (e : shape ≡ m) where
     says : (nd : Syntax.Node) → NodeIs f w n nd → v (start + 20) ≡ nd .kind
     says nd h =
         let a = after m r same e nd h in
@@ -118,7 +118,7 @@ module _ (f w : List ℕ) (n start size shape : ℕ) (p : At f w n start size sh
   module _ {A : Type 0} (m each : ℕ) (make : List A → ExprKind) (r : Reader A) (v : ℕ → A) (refs : List A → List ℕ) (from : Items → ℕ → ℕ → List A) where
     record List-of : Type 0 where
       some-bytes : 0 < each
-      same : (s : List ℕ) → exprKind (m ∷ s) ≡ one make (many r) s
+      same : (s : List ℕ) → exprKind wide (m ∷ s) ≡ one make (many r) s
       reads : Reads f r (λ _. 2 * each) v
       nodes : (l : List A) → exprNodes (make l) ≡ refs l
       lengths : (l : List A) → length (refs l) ≡ length l
@@ -147,7 +147,7 @@ module _ (f w : List ℕ) (n start size shape : ℕ) (p : At f w n start size sh
   fields e = record { is = list-is 8 4 ExprKind.Record field (fieldAt f) fieldValues (fieldsFrom f) (record { some-bytes = omega arith; same = λ s. refl; reads = reads-field f; nodes = λ l. refl; lengths = λ l. length-map l (λ e. e .value); are = fields-are f }) e; lower = items-lower 4 }
 
   -- nodes alone
-  nodes-are : (m : ℕ) (make : List ℕ → ExprKind) → ((s : List ℕ) → exprKind (m ∷ s) ≡ one make (many two) s) → ((l : List ℕ) → exprNodes (make l) ≡ l) → List-of m 2 make two (halfAt f) (λ l. l) (itemsFrom f)
+  nodes-are : (m : ℕ) (make : List ℕ → ExprKind) → ((s : List ℕ) → exprKind wide (m ∷ s) ≡ one make (many two) s) → ((l : List ℕ) → exprNodes (make l) ≡ l) → List-of m 2 make two (halfAt f) (λ l. l) (itemsFrom f)
   nodes-are m make same nodes = record { some-bytes = omega arith; same = same; reads = reads-two f; nodes = nodes; lengths = λ l. refl; are = items-are f }
 
   pub disjunction : shape ≡ 11 → IsNode f w n (Node.Disjunction (itemsW (start + 20) size 2 n))
@@ -174,25 +174,28 @@ module _ (f w : List ℕ) (n start size shape : ℕ) (p : At f w n start size sh
       b : ℕ
       b = lowerW (halfAt f (start + 24)) n
 
-      go : (first : Bool) → eqb n 0 ≡ first → (p q r s t : Bool) → Lower n (pick first Node.Error (pick p (Node.Key (halfAt f (start + 20)) b) (pick q (Node.Value a) (pick r (Node.Subquery a (record { at = start + 24; end = start + 2 * size; below = n })) (pick s (Node.Fact (halfAt f (start + 20)) b) (pick t (Node.Select (halfAt f (start + 20)) b) Node.Error))))))
+      c : ℕ
+      c = lowerW (halfAt f (start + 28)) n
+
+      go : (first : Bool) → eqb n 0 ≡ first → (p q r s t : Bool) → Lower n (pick first Node.Error (pick p (Node.Key (halfAt f (start + 20)) b) (pick q (Node.Value a) (pick r (Node.Subquery a (record { at = start + 24; end = start + 2 * size; below = n })) (pick s (Node.Fact (fullAt f (start + 20)) c) (pick t (Node.Select (halfAt f (start + 20)) b) Node.Error))))))
       go true e p q r s t = tt
       go false e true q r s t = lower-below (halfAt f (start + 24)) n (eqb-false n 0 e)
       go false e false true r s t = lower-below (halfAt f (start + 20)) n (eqb-false n 0 e)
       go false e false false true s t = (lower-below (halfAt f (start + 20)) n (eqb-false n 0 e), refl, omega (arith, p .long, p .near))
-      go false e false false false true t = lower-below (halfAt f (start + 24)) n (eqb-false n 0 e)
+      go false e false false false true t = lower-below (halfAt f (start + 28)) n (eqb-false n 0 e)
       go false e false false false false true = lower-below (halfAt f (start + 24)) n (eqb-false n 0 e)
       go false e false false false false false = tt
 
   -- What the node names is lower, so it is not node 0.
   module _ (m : ℕ) (e : shape ≡ m) where
-    pair-is : (make : ℕ → ℕ → ExprKind) → ((s : List ℕ) → exprKind (m ∷ s) ≡ pair make two two s) → ((a b : ℕ) → exprNodes (make a b) ≡ b ∷ []) → ((n ≡ 0 → ⊥) → kindW f (parentW f start size shape n) ≡ make (halfAt f (start + 20)) (lowerW (halfAt f (start + 24)) n)) → Is
+    pair-is : (make : ℕ → ℕ → ExprKind) → ((s : List ℕ) → exprKind wide (m ∷ s) ≡ pair make two two s) → ((a b : ℕ) → exprNodes (make a b) ≡ b ∷ []) → ((n ≡ 0 → ⊥) → kindW f (parentW f start size shape n) ≡ make (halfAt f (start + 20)) (lowerW (halfAt f (start + 24)) n)) → Is
     pair-is make same nodes made nd h b =
         let z : start + 20 + 4 ≡ start + 24 = omega arith in
         let k = rw z at (says m same (reads-pair f make (reads-two f) (reads-two f)) e nd h) in
         let low = first-below n (halfAt f (start + 24)) [] (rw (← k, nodes (halfAt f (start + 20)) (halfAt f (start + 24))) at b) in
         made (λ q. omega (arith, low)) ∙ ap (make (halfAt f (start + 20))) (lower-stays (halfAt f (start + 24)) n low) ∙ k
 
-    one-is : (make : ℕ → ExprKind) → ((s : List ℕ) → exprKind (m ∷ s) ≡ one make two s) → ((a : ℕ) → exprNodes (make a) ≡ a ∷ []) → ((n ≡ 0 → ⊥) → kindW f (parentW f start size shape n) ≡ make (lowerW (halfAt f (start + 20)) n)) → Is
+    one-is : (make : ℕ → ExprKind) → ((s : List ℕ) → exprKind wide (m ∷ s) ≡ one make two s) → ((a : ℕ) → exprNodes (make a) ≡ a ∷ []) → ((n ≡ 0 → ⊥) → kindW f (parentW f start size shape n) ≡ make (lowerW (halfAt f (start + 20)) n)) → Is
     one-is make same nodes made nd h b =
         let k = says m same (reads-one f make (reads-two f)) e nd h in
         let low = first-below n (halfAt f (start + 20)) [] (rw (← k, nodes (halfAt f (start + 20))) at b) in
@@ -220,6 +223,26 @@ module _ (f w : List ℕ) (n start size shape : ℕ) (p : At f w n start size sh
       let low : T (allBelow n (queryNodes (x .a))) = rw (← k) at b in
       made (λ q. omega (arith, first-below n (x .a .head) _ low)) ∙ ap ExprKind.Subquery (asked-is (x .a) q low) ∙ k
 
+  -- no half of it passes 16 bits
+  fact-whole : 14 ≤ size → ((i : ℕ) → i < size → digitsW f (start + 2 * i) < 256) → fullAt f (start + 20) ≡ fourAt f (start + 20)
+  unfolding fullAt fourAt halfAt
+  fact-whole l small =
+      let p : start + 20 + 2 ≡ start + 2 * 11 = omega arith in
+      let q : start + 20 + 4 ≡ start + 2 * 12 = omega arith in
+      let r : start + 2 * 12 + 2 ≡ start + 2 * 13 = omega arith in
+      let o : start + 20 ≡ start + 2 * 10 = omega arith in
+      rw (p, q, r, o) (omega (arith, small 10 (omega arith), small 11 (omega arith), small 12 (omega arith), small 13 (omega arith)))
+
+  fact-is : shape ≡ 13 → ((n ≡ 0 → ⊥) → kindW f (parentW f start size shape n) ≡ ExprKind.Fact (fullAt f (start + 20)) (lowerW (halfAt f (start + 28)) n)) → Is
+  unfolding exprKinds choice entry exprNodes
+  fact-is e made nd h b =
+      let a = after 13 (pair ExprKind.Fact four two) (λ s. refl) e nd h in
+      let ran = reads-pair f ExprKind.Fact (reads-four f) (reads-two f) .run (start + 20) (a .line .rest) (nd .kind) [] (a .line .stands) (a .ran) in
+      let z : start + 20 + 8 ≡ start + 28 = omega arith in
+      let k : ExprKind.Fact (fourAt f (start + 20)) (halfAt f (start + 28)) ≡ nd .kind = rw z at (ran .value) in
+      let low = first-below n (halfAt f (start + 28)) [] (rw (← k) at b) in
+      made (λ q. omega (arith, low)) ∙ ap₂ ExprKind.Fact (fact-whole (omega (arith, ran .long, a .line .long)) (a .line .small)) (lower-stays (halfAt f (start + 28)) n low) ∙ k
+
   error-is : shape ≡ 15 → Is
   unfolding exprKinds choice entry kindW parentW
   error-is e nd h b = rw e (go (eqb n 0)) ∙ says 15 (λ s. refl) (reads-nothing f ExprKind.Error) e nd h
@@ -239,7 +262,7 @@ module _ (f w : List ℕ) (n start size shape : ℕ) (p : At f w n start size sh
       go true e q e₁ r e₂ s e₃ t e₄ u e₅ = let e = eqb-true shape 9 e in pair-is 9 e (λ x e. ExprKind.Access (FieldRef.Key x) e) (λ s. refl) (λ a b. refl) (λ h. rw (e, ne-eqb n 0 h))
       go false e₀ true e r e₂ s e₃ t e₄ u e₅ = let e = eqb-true shape 10 e in one-is 10 e (ExprKind.Access FieldRef.Value) (λ s. refl) (λ a. refl) (λ h. rw (e, ne-eqb n 0 h))
       go false e₀ false e₁ true e s e₃ t e₄ u e₅ = let e = eqb-true shape 12 e in subquery-is e (λ h. rw (e, ne-eqb n 0 h))
-      go false e₀ false e₁ false e₂ true e t e₄ u e₅ = let e = eqb-true shape 13 e in pair-is 13 e ExprKind.Fact (λ s. refl) (λ a b. refl) (λ h. rw (e, ne-eqb n 0 h))
+      go false e₀ false e₁ false e₂ true e t e₄ u e₅ = let e = eqb-true shape 13 e in fact-is e (λ h. rw (e, ne-eqb n 0 h))
       go false e₀ false e₁ false e₂ false e₃ true e u e₅ = error-is (eqb-true shape 15 e)
       go false e₀ false e₁ false e₂ false e₃ false e₄ true e = let e = eqb-true shape 16 e in pair-is 16 e ExprKind.Select (λ s. refl) (λ a b. refl) (λ h. rw (e, ne-eqb n 0 h))
       go false e₀ false e₁ false e₂ false e₃ false e₄ false e₅ =

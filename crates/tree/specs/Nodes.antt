@@ -24,6 +24,12 @@ use Rattle.tree.specs.Stands.{NodeIs}
 unfoldable pub lowerW : ℕ → ℕ → ℕ
 lowerW x below = pick (ltb x below) x 0
 
+-- The number of the eight digits at i, a predicate's. A character that is no digit counts 16, so each half is kept below 65,536; in a line that was
+-- read it is.
+unfoldable pub fullAt : List ℕ → ℕ → ℕ
+unfolding halfAt
+fullAt f i = halfAt f i % 65536 * 65536 + halfAt f (i + 4) % 65536
+
 unfoldable pub fieldW : List ℕ → Items → ℕ → Field
 unfolding halfAt lowerW
 fieldW f l i = record { name = halfAt f (l .at + 8 * i); value = lowerW (halfAt f (l .at + 8 * i + 4)) (l .below) }
@@ -50,13 +56,13 @@ unfoldable pub itemsW : ℕ → ℕ → ℕ → ℕ → Items
 itemsW at size each below = pick (ltb size 10) (record { at = at; n = 0; below = below }) (pick (eqb below 0) (record { at = at; n = 0; below = below }) (record { at = at; n = (size - 10) / each; below = below }))
 
 unfoldable pub parentW : List ℕ → ℕ → ℕ → ℕ → ℕ → Node
-unfolding halfAt lowerW
+unfolding halfAt fullAt lowerW
 parentW f start size shape n =
     pick (eqb n 0) Node.Error
     (pick (eqb shape 9) (Node.Key (halfAt f (start + 20)) (lowerW (halfAt f (start + 24)) n))
     (pick (eqb shape 10) (Node.Value (lowerW (halfAt f (start + 20)) n))
     (pick (eqb shape 12) (Node.Subquery (lowerW (halfAt f (start + 20)) n) (record { at = start + 24; end = start + 2 * size; below = n }))
-    (pick (eqb shape 13) (Node.Fact (halfAt f (start + 20)) (lowerW (halfAt f (start + 24)) n))
+    (pick (eqb shape 13) (Node.Fact (fullAt f (start + 20)) (lowerW (halfAt f (start + 28)) n))
     (pick (eqb shape 16) (Node.Select (halfAt f (start + 20)) (lowerW (halfAt f (start + 24)) n))
     Node.Error)))))
 

@@ -13,7 +13,7 @@ use Rattle.cells.specs.Words.{pick, declaredW, countW, firstW, partW}
 use Rattle.cells.specs.Stands.{Rows, tree, tagOf, rowW, partWords}
 use Rattle.meaning.specs.Syntax.{Node, Query, nodeAt}
 use Rattle.meaning.specs.Schema.{Predicate, Schema}
-use Rattle.meaning.specs.Frame.{aNode, theQuery, node, query, frameOf}
+use Rattle.meaning.specs.Frame.{Edition, wide, aNode, theQuery, node, query, frameOf}
 use Rattle.meaning.specs.File.{Described}
 use Rattle.hex.specs.Digits.{lineAt}
 
@@ -24,15 +24,19 @@ pub record LineIs (f : List ℕ) (at size kind : ℕ) (content : List ℕ) : Typ
   pub line : lineAt f at ≡ some (kind ∷ content)
   pub long : size ≡ length (kind ∷ content)
 
-pub record NodeIs (f w : List ℕ) (n : ℕ) (nd : Node) : Type 0 where
+-- in a file of this edition
+pub record NodeIn (e : Edition) (f w : List ℕ) (n : ℕ) (nd : Node) : Type 0 where
   pub content : List ℕ
   pub line : LineIs f (getD w (NODES + n) 0 / 2048) (getD w (NODES + n) 0 / 2 % 1024) 0x05 content
-  pub frame : frameOf node content ≡ some (aNode nd)
+  pub frame : frameOf e node content ≡ some (aNode nd)
+
+abbrev pub NodeIs : List ℕ → List ℕ → ℕ → Node → Type 0
+NodeIs f w n nd = NodeIn wide f w n nd
 
 pub record QueryIs (f w : List ℕ) (q : Query) : Type 0 where
   pub content : List ℕ
   pub line : LineIs f (getD w QUERY 0 / 1024) (getD w QUERY 0 % 1024) 0x06 content
-  pub frame : frameOf query content ≡ some (theQuery q)
+  pub frame : frameOf wide query content ≡ some (theQuery q)
 
 -- ---- The schema
 

@@ -2,7 +2,7 @@
 ghost use mathlib.Core.Path.{_≡_};
 ghost use Prim.Native.Nat.{ℕ, _+_, _*_, _<_, _≤_};
 ghost use Rattle.hex.specs.Digits.{digitsW, halfAt};
-ghost use Rattle.tree.specs.Nodes.{lowerW, fieldW, itemW, stmtW, stmtSizeW, lineStartW, itemsW, parentW, IsNode, headW, bodyW};
+ghost use Rattle.tree.specs.Nodes.{lowerW, fullAt, fieldW, itemW, stmtW, stmtSizeW, lineStartW, itemsW, parentW, IsNode, headW, bodyW};
 use work::line_place;
 use work::line_size;
 use work::node_line;
@@ -26,6 +26,14 @@ fn hex_half(f: &[u8], i: usize) -> u32
     ensures { λ r. ⌜ (r ≡ halfAt (now (f .entry)) i) × (r < 262144) ⌝ }
 {
     hex_byte(f, i) * 256 + hex_byte(f, i + 2)
+}
+
+// A predicate's number; in a line that was read each half is below 65,536 anyway.
+fn hex_full(f: &[u8], i: usize) -> u32
+    requires { ⌜ i < 1099511627770 ⌝ }
+    ensures { λ r. ⌜ r ≡ fullAt (now (f .entry)) i ⌝ }
+{
+    hex_half(f, i) % 65536 * 65536 + hex_half(f, i + 4) % 65536
 }
 
 // So many items from a place in the file on; each names a node below `below`.
@@ -206,7 +214,7 @@ fn parent(f: &[u8], start: usize, size: u32, shape: u32, n: u32) -> Node
                 below: n,
             },
         ),
-        13 => Node::Fact(a, b),
+        13 => Node::Fact(hex_full(f, start + 20), lower(hex_half(f, start + 28), n)),
         16 => Node::Select(a, b),
         _ => Node::Error,
     }

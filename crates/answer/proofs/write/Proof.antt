@@ -1,32 +1,24 @@
--- Made from Proof.ans by tools/answers, 14c0cac031d62b51 10aaea6b1fd1d074.
--- The lines of the nodes behind those of the diagnostics; then the blocks change places, where there are two.
+-- Made from Proof.ans by tools/answers, de0311811148de2e 1e0fa680f5a17445.
+-- The query's other lines, then the line of its visits.
 use borrow.Author.Needs.{needs}
 use Rattle.answer.proofs.write.Statement.{statement}
 use Rattle.answer.proofs.write.Tie as tie
 use Rattle.answer.proofs.write.Reads as reads
 use Rattle.answer.proofs.write.Lts as lts
-use Rattle.answer.proofs.exchange.Reads as exchange-reads
-use Rattle.answer.proofs.node_lines.Reads as node-lines-reads
-use Rattle.state.proofs.place.Reads as place-reads
-use Rattle.work.proofs.word.Reads as word-reads
+use Rattle.answer.proofs.lines.Reads as lines-reads
+use Rattle.answer.proofs.visits_line.Reads as visits-line-reads
 use native.Mathlib.Omega.{arith}
-use Rattle.answer.proofs.Answering.{answer-over, answer-past, answer-full, answer-exchanged, answer-alone, answer-blocks}
+use Rattle.answer.proofs.Answering.{answer-visits, answer-none}
 
 pub write-spec : {M : Type 1} → statement M
 write-spec =
     tie.close
     (tie.spec
     (λ c κs. search needs)
-    (λ c. answer-over (c .before .word .ensures) (c .if1 .taken))
-    (λ c κs. search needs)
-    (λ c. answer-past (c .before .before .before .word .ensures) (c .before .before .if1 .left) (c .before .place .ensures) (c .if2 .taken))
+    (λ c. search needs)
     (λ c κs. search needs)
     (λ c. search needs)
-    (λ c κs. answer-blocks (c .before .before .before .before .before .before .before .before .before .before .before .before .word .ensures) (c .before .before .before .before .before .before .before .before .before .before .before .if1 .left) (c .before .before .before .before .before .before .before .before .before .before .place .ensures) (c .before .before .before .before .before .before .before .node-lines .ensures) (c .before .before .before .before .before .before .before .before .before .if2 .left) (c .before .before .before .r .given .1))
     (λ c. search needs)
+    (λ c. answer-visits (c .before .before .before .before .before .before .before .before .before .lines .ensures) (c .before .before .before .before .before .before .before .before .before .before .before .before .before .args .visits) (c .before .before .before .before .before .r .given .1) (c .before .before .visits-line .ensures))
     (λ c. search needs)
-    (λ c. answer-exchanged (c .before .before .before .before .before .before .before .before .before .before .before .before .before .before .before .word .ensures) (c .before .before .before .before .before .before .before .before .before .before .before .before .before .before .if1 .left) (c .before .before .before .before .before .before .before .before .before .before .before .before .before .place .ensures) (c .before .before .before .before .before .before .before .before .before .before .node-lines .ensures) (c .before .before .before .before .before .before .r .given .1) (search needs) (c .before .before .exchange .ensures))
-    (λ c. search needs)
-    (λ c. answer-alone (c .before .before .before .before .before .before .before .before .before .before .before .word .ensures) (c .before .before .before .before .before .before .before .before .before .before .if1 .left) (c .before .before .before .before .before .before .before .before .before .place .ensures) (c .before .before .before .before .before .before .node-lines .ensures) (c .before .before .r .given .1) (c .if3 .left))
-    (λ c. search needs)
-    (λ c. answer-full (c .before .before .before .before .before .before .before .before .before .word .ensures) (c .before .before .before .before .before .before .before .before .if1 .left) (c .before .before .before .before .before .before .before .place .ensures) (c .before .before .before .before .node-lines .ensures) (c .enum-told .given .1)))
+    (λ c. answer-none (c .before .before .before .before .lines .ensures) (c .before .before .before .before .before .before .before .before .args .visits) (c .enum-told .given .1)))

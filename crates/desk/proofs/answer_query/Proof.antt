@@ -1,4 +1,4 @@
--- Made from Proof.ans by tools/answers, 5af04b47a2858390 3291d4c034d78e9c.
+-- Made from Proof.ans by tools/answers, 43e656e81553f41c 098c5c0115035b96.
 -- `desk::answer_query` meets its contract: the run, and its lines where it ended.
 use borrow.Author.Needs.{needs}
 use Rattle.desk.proofs.answer_query.Statement.{statement}
@@ -7,17 +7,9 @@ use Rattle.desk.proofs.answer_query.Reads as reads
 use Rattle.desk.proofs.answer_query.Lts as lts
 use Rattle.answer.proofs.write.Reads as write-reads
 use Rattle.checker.proofs.query.Reads as query-reads
+use Rattle.desk.proofs.made.Reads as made-reads
 use native.Mathlib.Omega.{arith}
-use Rattle.meaning.specs.Outcome.{maxVisits}
 use Rattle.desk.proofs.Turning.{run-out, run-on}
-
-returns : tie.Need-returns
-unfolding maxVisits
-returns c = run-out (c .before .before .before .before .before .before .query .ensures) (c .enum-told .given .1)
-
-returns-2 : tie.Need-returns-2
-unfolding maxVisits
-returns-2 c = run-on (c .before .before .before .before .before .before .before .before .before .before .before .query .ensures) _ (c .before .before .before .before .before .enum-told2 .given .1) (c .before .before .write .ensures)
 
 pub answer-query-spec : {M : Type 1} → statement M
 answer-query-spec =
@@ -27,9 +19,10 @@ answer-query-spec =
     (λ c. search needs)
     (λ c. search needs)
     (λ c κs. search needs)
+    (λ c κs. search needs)
     (λ c. search needs)
     (λ c. search needs)
-    returns
+    (λ c. run-out (c .before .before .before .before .before .before .query .ensures) (c .enum-told .given .1))
     (λ c. search needs)
     (λ c. search needs)
-    returns-2)
+    (λ c. run-on (c .before .before .before .before .before .before .before .before .before .before .before .before .before .query .ensures) _ (c .before .before .before .before .before .before .before .d .given .1) _ (c .before .before .before .before .before .made .ensures) (c .before .before .write .ensures)))

@@ -1,4 +1,4 @@
--- Made from Proof.ans by tools/answers, ae297eebac95663d dd95541158ed32df.
+-- Made from Proof.ans by tools/answers, 01f3598b7e082e0a e19d132579cc4082.
 -- `desk::refusal_number` meets its contract: each arm is one row of the table.
 use borrow.Author.Needs.{needs}
 use Rattle.desk.proofs.refusal_number.Statement.{statement}
@@ -62,10 +62,30 @@ returns-13 : tie.Need-returns-13
 unfolding Refused.number
 returns-13 c = sym (ap (λ e. Refused.number (refusal e)) (c .enum-told13 .given .1))
 
+returns-14 : tie.Need-returns-14
+unfolding Refused.number
+returns-14 c = sym (ap (λ e. Refused.number (refusal e)) (c .enum-told14 .given .1))
+
+returns-15 : tie.Need-returns-15
+unfolding Refused.number
+returns-15 c = sym (ap (λ e. Refused.number (refusal e)) (c .enum-told15 .given .1))
+
+returns-16 : tie.Need-returns-16
+unfolding Refused.number
+returns-16 c = sym (ap (λ e. Refused.number (refusal e)) (c .enum-told16 .given .1))
+
+returns-17 : tie.Need-returns-17
+unfolding Refused.number
+returns-17 c = sym (ap (λ e. Refused.number (refusal e)) (c .enum-told17 .given .1))
+
 pub refusal-number-spec : {M : Type 1} → statement M
 refusal-number-spec =
     tie.close
     (tie.spec
+    (λ c. search needs)
+    (λ c. search needs)
+    (λ c. search needs)
+    (λ c. search needs)
     (λ c. search needs)
     (λ c. search needs)
     (λ c. search needs)
@@ -91,4 +111,8 @@ refusal-number-spec =
     returns-10
     returns-11
     returns-12
-    returns-13)
+    returns-13
+    returns-14
+    returns-15
+    returns-16
+    returns-17)

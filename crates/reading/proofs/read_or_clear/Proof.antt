@@ -1,4 +1,4 @@
--- Made from Proof.ans by tools/answers, 63e4f3fe634dc84a 57ed872b4e79a919.
+-- Made from Proof.ans by tools/answers, 2a6cd78d76ed15c2 56768251b3181d30.
 -- `reading::read_or_clear` meets its contract: a refusal says nothing of the slice, so it may be cleared.
 use borrow.Author.Needs.{needs}
 use Rattle.reading.proofs.read_or_clear.Statement.{statement}
@@ -23,4 +23,4 @@ read-or-clear-spec =
     (λ c. search needs)
     (λ c. record { ends = c .before .before .before .before .read-file .ensures .ends; long = c .before .before .before .before .read-file .ensures .long; cleared = λ e q. never-refused e (sym (c .enum-told .given .1) ∙ q) })
     (λ c. search needs)
-    (λ c. record { ends = ends-cleared _ _ _ _ _ _ (c .before .before .before .before .enum-told2 .given .1) (c .before .before .before .before .before .before .before .before .read-file .ensures .ends); long = search needs; cleared = λ e q. c .before .before .clear .ensures ∙ ap (λ n. replicate n 0) (c .before .before .before .before .before .before .before .before .read-file .ensures .long) }))
+    (λ c. record { ends = ends-cleared _ _ _ _ _ _ _ (c .before .before .before .before .enum-told2 .given .1) (c .before .before .before .before .before .before .before .before .read-file .ensures .ends); long = search needs; cleared = λ e q. c .before .before .clear .ensures ∙ ap (λ n. replicate n 0) (c .before .before .before .before .before .before .before .before .read-file .ensures .long) }))

@@ -1,10 +1,11 @@
--- Made from Proof.ans by tools/answers, 90f1a901cd1d91bd aba6b32e37080f72.
+-- Made from Proof.ans by tools/answers, 4720255467d34064 faef76d1bd174d9f.
 -- `tree::parent` meets its contract: the shape picks the arm as `parentW` picks, after the test for node 0.
 use borrow.Author.Needs.{needs}
 use Rattle.tree.proofs.parent.Statement.{statement}
 use Rattle.tree.proofs.parent.Tie as tie
 use Rattle.tree.proofs.parent.Reads as reads
 use Rattle.tree.proofs.parent.Lts as lts
+use Rattle.tree.proofs.hex_full.Reads as hex-full-reads
 use Rattle.tree.proofs.hex_half.Reads as hex-half-reads
 use Rattle.tree.proofs.lower.Reads as lower-reads
 use Rattle.work.proofs.wide.Reads as wide-reads
@@ -15,39 +16,6 @@ use Rattle.tree.specs.Nodes.{parentW}
 returns : tie.Need-returns
 unfolding parentW
 returns c = rw (eq-eqb _ _ (c .if1 .taken))
-
-add-hex-half : tie.Need-add-hex-half
-add-hex-half c = search needs
-
-hex-half-requires : tie.Need-hex-half-requires
-hex-half-requires c κs = search needs
-
-add-hex-half-2 : tie.Need-add-hex-half-2
-add-hex-half-2 c = search needs
-
-hex-half-requires-2 : tie.Need-hex-half-requires-2
-hex-half-requires-2 c κs = search needs
-
-lower-requires : tie.Need-lower-requires
-lower-requires c κs = search needs
-
-lower-requires-2 : tie.Need-lower-requires-2
-lower-requires-2 c κs = search needs
-
-lower-requires-3 : tie.Need-lower-requires-3
-lower-requires-3 c κs = search needs
-
-add-t14 : tie.Need-add-t14
-add-t14 c = search needs
-
-wide-requires : tie.Need-wide-requires
-wide-requires c κs = search needs
-
-mul-t16 : tie.Need-mul-t16
-mul-t16 c = search needs
-
-add-t17 : tie.Need-add-t17
-add-t17 c = search needs
 
 returns-2 : tie.Need-returns-2
 unfolding parentW
@@ -63,7 +31,7 @@ returns-4 c = rw (c .before .before .match .keys3, ne-eqb _ _ (c .before .before
 
 returns-5 : tie.Need-returns-5
 unfolding parentW
-returns-5 c = rw (c .match .keys4, ne-eqb _ _ (c .before .before .before .before .if1 .left)) (cc (c .before .before .before .hex-half .ensures .0, c .before .before .hex-half2 .ensures .0, c .before .lower .ensures))
+returns-5 c = rw (c .before .before .before .match .keys4, ne-eqb _ _ (c .before .before .before .before .before .before .before .if1 .left)) (cc (c .before .before .hex-full .ensures, c .before .hex-half3 .ensures .0, c .lower4 .ensures))
 
 returns-6 : tie.Need-returns-6
 unfolding parentW
@@ -78,17 +46,22 @@ parent-spec =
     tie.close
     (tie.spec
     returns
-    add-hex-half
-    hex-half-requires
-    add-hex-half-2
-    hex-half-requires-2
-    lower-requires
-    lower-requires-2
-    lower-requires-3
-    add-t14
-    wide-requires
-    mul-t16
-    add-t17
+    (λ c. search needs)
+    (λ c κs. search needs)
+    (λ c. search needs)
+    (λ c κs. search needs)
+    (λ c κs. search needs)
+    (λ c κs. search needs)
+    (λ c κs. search needs)
+    (λ c. search needs)
+    (λ c κs. search needs)
+    (λ c. search needs)
+    (λ c. search needs)
+    (λ c. search needs)
+    (λ c κs. search needs)
+    (λ c. search needs)
+    (λ c κs. search needs)
+    (λ c κs. search needs)
     returns-2
     returns-3
     returns-4

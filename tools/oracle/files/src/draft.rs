@@ -162,6 +162,18 @@ pub fn limits(distance: u8, term: u16) -> Vec<u8> {
     frame
 }
 
+/// The predicate that a draft names: with the highest bit set one above 65,535, whose low half may be
+/// another's number.
+pub const ABOVE: u16 = 0x8000;
+
+pub fn predicate_number(predicate: u16) -> u32 {
+    match predicate {
+        0xffff => u32::MAX,
+        _ if predicate & ABOVE == 0 => u32::from(predicate),
+        _ => 0x1_0000 * u32::from(1 + (predicate >> 7 & 0xff)) + u32::from(predicate & 0x7f),
+    }
+}
+
 pub fn name(text: &[u8]) -> Vec<u8> {
     [&[2], text].concat()
 }
@@ -174,7 +186,7 @@ pub fn ty(shape: &Shape) -> Vec<u8> {
         Shape::Bytes => frame.push(2),
         Shape::Fact(predicate) => {
             frame.push(3);
-            short(&mut frame, *predicate);
+            frame.extend_from_slice(&predicate_number(*predicate).to_be_bytes());
         }
         Shape::Record(fields) => {
             frame.push(4);
@@ -233,8 +245,12 @@ pub fn node(start: u32, end: u32, expr: &Expr) -> Vec<u8> {
             frame.push(*distance);
         }
         Expr::Record(fields) => pairs(&mut frame, fields),
-        Expr::Key(name, base) | Expr::Fact(name, base) | Expr::Select(name, base) => {
+        Expr::Key(name, base) | Expr::Select(name, base) => {
             pairs(&mut frame, &[(*name, *base)]);
+        }
+        Expr::Fact(predicate, base) => {
+            frame.extend_from_slice(&predicate_number(*predicate).to_be_bytes());
+            short(&mut frame, *base);
         }
         Expr::Value(base) => short(&mut frame, *base),
         Expr::Disjunction(nodes) | Expr::Arith(nodes) => {

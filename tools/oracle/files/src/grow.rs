@@ -2,7 +2,7 @@
 //! wants, variables are used again where their type fits, and now and then something
 //! else is put there.
 
-use crate::draft::{Draft, Expr, Shape, Stmt};
+use crate::draft::{ABOVE, Draft, Expr, Shape, Stmt};
 use crate::rng::Rng;
 
 /// How a style wants its queries, in parts of a hundred.
@@ -83,7 +83,8 @@ pub fn schema(rng: &mut Rng, draft: &mut Draft) {
         let shape = match rng.weighted(&[25, 50, 25]) {
             0 => {
                 let absent = rng.chance(8) as usize;
-                Shape::Fact(rng.below(predicates + absent) as u16)
+                let above = if rng.chance(6) { ABOVE } else { 0 };
+                Shape::Fact(above | rng.below(predicates + absent) as u16)
             }
             1 => Shape::Record(fields(rng, names, draft.types.len(), 3)),
             _ => Shape::Union(alternatives(rng, names, draft.types.len(), 3)),
@@ -278,7 +279,7 @@ impl Grower<'_> {
                 .rng
                 .chance(self.taste.misfits * self.taste.poison / 100)
         {
-            return self.rng.pick(&[count as u16, 200, 0xffff]);
+            return self.rng.pick(&[count as u16, 200, 0xffff, ABOVE, ABOVE | 1, ABOVE | 0x4080]);
         }
         self.rng.below(count) as u16
     }

@@ -24,7 +24,7 @@ pub fn places(frame: &[u8]) -> Vec<(usize, u8)> {
         (5, _, Some(0x0a)) => vec![(10, 5)],
         (5, _, Some(0x0b | 0x0e)) => every(10, 2, &[(0, 5)]),
         (5, _, Some(0x0c)) => statements(frame, 10),
-        (5, _, Some(0x0d)) => vec![(12, 5)],
+        (5, _, Some(0x0d)) => vec![(14, 5)],
         (6, ..) => statements(frame, 1),
         _ => Vec::new(),
     }

@@ -82,7 +82,7 @@ impl Lines {
             Type::Bytes => self.frame.push(2),
             Type::Fact(predicate) => {
                 self.frame.push(3);
-                self.two(*predicate);
+                self.four(*predicate);
             }
             Type::Record(fields) => {
                 self.frame.push(4);
@@ -122,8 +122,12 @@ impl Lines {
                     self.two(*node);
                 }
             }
-            Shape::Key(first, node) | Shape::Fact(first, node) | Shape::Select(first, node) => {
+            Shape::Key(first, node) | Shape::Select(first, node) => {
                 self.two(*first);
+                self.two(*node);
+            }
+            Shape::Fact(predicate, node) => {
+                self.four(*predicate);
                 self.two(*node);
             }
             Shape::Disjunction(nodes) | Shape::Arith(nodes) => {

@@ -26,7 +26,7 @@ pub enum Type {
     String,
     Bytes,
     /// A predicate number, which need not exist.
-    Fact(u16),
+    Fact(u32),
     /// Name and type of each field.
     Record(Vec<(u16, u16)>),
     /// Name, discriminant and type of each alternative.
@@ -67,7 +67,7 @@ pub enum Shape {
     Disjunction(Vec<u16>),
     Subquery(Query),
     /// Predicate number, which need not exist, and key node.
-    Fact(u16, u16),
+    Fact(u32, u16),
     Arith(Vec<u16>),
     Error,
     /// Name, node.

@@ -123,6 +123,7 @@ fn answer_here(file: &[u8], limits: &Limits) -> Ran {
             length = length.saturating_add(NUMBER_LINE);
         }
         length = length.saturating_add(self::length(&left, &diagnostics));
+        length = length.saturating_add(VISITS_LINE);
         counted.push((tree, diagnostics));
     }
     let codes: Vec<&str> = counted.iter().flat_map(|(_, found)| codes(found)).collect();
@@ -150,6 +151,7 @@ fn answer_here(file: &[u8], limits: &Limits) -> Ran {
         }
         put_types(&mut lines, &typed, tree, &base);
         put_diagnostics(&mut lines, &diagnostics);
+        put_visits(&mut lines, visits[number]);
         // The counted copy is ty.rs: shown on every file.
         assert!(
             diagnostics.iter().eq(counted.iter()),
@@ -181,6 +183,17 @@ const NUMBER_LINE: u64 = 7;
 fn put_number(lines: &mut Lines, query: usize) {
     lines.put(&[0x0b]);
     lines.put(&write::two(query));
+    lines.end_line();
+}
+
+/// The characters of an 09 line.
+const VISITS_LINE: u64 = 11;
+
+/// The 09 line after a query's others (card 7). The Rust counts no visits: these are the counted copy's.
+fn put_visits(lines: &mut Lines, visits: u64) {
+    let visits = u32::try_from(visits).expect("a query has at most 1,048,576 visits");
+    lines.put(&[0x09]);
+    lines.put(&visits.to_be_bytes());
     lines.end_line();
 }
 

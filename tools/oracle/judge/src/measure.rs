@@ -32,7 +32,7 @@ impl<'a> Measure<'a> {
     pub fn length(&mut self, ty: &Ty) -> u64 {
         match ty {
             Ty::Int | Ty::String | Ty::Bytes | Ty::Error => 2,
-            Ty::Fact(_) => 6,
+            Ty::Fact(_) => 10,
             Ty::Var(var) => {
                 let index = var.index();
                 if let Some(length) = self.unknowns[index] {

@@ -134,7 +134,7 @@ fn schema_types(file: &File, spur: impl Fn(u16) -> lasso::Spur) -> Vec<Predicate
             Type::Int => PredicateTy::Int,
             Type::String => PredicateTy::Str,
             Type::Bytes => PredicateTy::Bytes,
-            Type::Fact(predicate) => PredicateTy::Fact(PredicateId(u32::from(*predicate))),
+            Type::Fact(predicate) => PredicateTy::Fact(PredicateId(*predicate)),
             Type::Record(fields) => PredicateTy::Record(
                 fields
                     .iter()
@@ -185,7 +185,7 @@ fn kind(shape: &Shape, symbols: &[Symbol], nodes: &[NodeId], literal: Symbol) ->
         Shape::Disjunction(branches) => ExprKind::Disjunction(list(branches)),
         Shape::Subquery(inner) => ExprKind::Subquery(query(inner, nodes)),
         Shape::Fact(predicate, key) => {
-            ExprKind::Fact(PredicateId(u32::from(*predicate)), node(*key))
+            ExprKind::Fact(PredicateId(*predicate), node(*key))
         }
         Shape::Arith(operands) => {
             let operators = operands.len().saturating_sub(1);

@@ -61,7 +61,7 @@ impl Lines {
             Ty::Bytes => self.put(&[2]),
             Ty::Fact(predicate) => {
                 self.put(&[3]);
-                self.put(&two(predicate.0 as usize));
+                self.put(&predicate.0.to_be_bytes());
             }
             Ty::Record(fields) => {
                 self.put(&[4]);

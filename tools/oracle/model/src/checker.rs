@@ -687,12 +687,12 @@ impl<'a> State<'a> {
         Ty::String
     }
 
-    fn key(&self, predicate: u16) -> Option<Ty> {
+    fn key(&self, predicate: u32) -> Option<Ty> {
         Some(self.tree.predicates.get(predicate as usize)?.key)
     }
 
     /// Whether a key field is called `value`. Only a key that is itself a record counts.
-    fn shadows(&self, predicate: u16) -> bool {
+    fn shadows(&self, predicate: u32) -> bool {
         let Some(name) = self.value else {
             return false;
         };
@@ -775,7 +775,7 @@ impl<'a> State<'a> {
     }
 
     /// Mistake: a shadowed `.value` reads the key's field.
-    fn field_of(&mut self, id: u16, predicate: u16) -> Run<Ty> {
+    fn field_of(&mut self, id: u16, predicate: u32) -> Run<Ty> {
         let part = match (self.key(predicate), self.value) {
             (Some(Ty::Record(cell)), Some(name)) => self.cells.named(cell, name),
             _ => None,

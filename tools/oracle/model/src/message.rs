@@ -347,7 +347,7 @@ impl Text<'_> {
                 let row = self.state.tree.predicates.get(predicate as usize);
                 match row {
                     Some(_) if self.on(Wrong::FactsUnnamed) => self.say("a fact"),
-                    Some(_) if self.on(Wrong::FactsByNumber) => self.quoted(predicate),
+                    Some(_) if self.on(Wrong::FactsByNumber) => self.quoted(predicate as u16),
                     Some(row) if self.on(Wrong::FactsUnquoted) => self.name(row.name),
                     Some(row) => self.quoted(row.name),
                     None if self.on(Wrong::AbsentFactMark) => self.say("?"),

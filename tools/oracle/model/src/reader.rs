@@ -25,8 +25,8 @@ impl Slot {
     fn width(self) -> usize {
         match self {
             Byte | Tag => 1,
-            Long => 4,
-            Short | Name | Type | Predicate | Node => 2,
+            Long | Predicate => 4,
+            Short | Name | Type | Node => 2,
         }
     }
 }
@@ -118,7 +118,7 @@ pub struct NodeRow {
     pub shape: u8,
     pub name: u16,
     pub distance: u8,
-    pub predicate: u16,
+    pub predicate: u32,
     /// Nodes in frame order, with their names where the shape is a record.
     pub under: Vec<(u16, u16)>,
     pub body: Vec<Stmt>,
@@ -686,7 +686,7 @@ impl Reader {
             0 => Ty::Int,
             1 => Ty::String,
             2 => Ty::Bytes,
-            3 => Ty::Fact(values[1] as u16),
+            3 => Ty::Fact(values[1]),
             4 => Ty::Record(self.tree.cells.push(&parts)),
             _ => Ty::Union(self.tree.cells.push(&parts)),
         };
@@ -709,7 +709,7 @@ impl Reader {
             for &(slot, value) in rest {
                 match slot {
                     Name => name = value as u16,
-                    Predicate => node.predicate = value as u16,
+                    Predicate => node.predicate = value,
                     Node => node.under.push((name, value as u16)),
                     _ => node.distance = value as u8,
                 }

@@ -6,7 +6,7 @@ pub enum Ty {
     Int,
     String,
     Bytes,
-    Fact(u16),
+    Fact(u32),
     Record(usize),
     Union(usize),
     Var(usize),

@@ -74,6 +74,7 @@ pub fn write(states: &[State], most: usize, wrong: Switch) -> Result<Vec<u8>, u8
                 writer.reports(state)?;
             }
         }
+        writer.visits(states[number].visits)?;
         if numbered && late {
             writer.number(number)?;
         }
@@ -107,6 +108,13 @@ impl Writer<'_> {
         } else {
             self.short(number as u16)?;
         }
+        self.end()
+    }
+
+    /// The line after a query's others.
+    fn visits(&mut self, visits: u64) -> Written {
+        self.bytes(&[9])?;
+        self.bytes(&(visits as u32).to_be_bytes())?;
         self.end()
     }
 
@@ -230,7 +238,7 @@ impl Writer<'_> {
             Ty::Bytes => self.bytes(&[2]),
             Ty::Fact(predicate) => {
                 self.bytes(&[3])?;
-                self.short(predicate)
+                self.bytes(&predicate.to_be_bytes())
             }
             Ty::Record(cell) => {
                 self.bytes(&[4])?;

@@ -172,11 +172,11 @@ impl Change {
 }
 
 /// The number after one below it is gone; nothing if it is that one.
-fn past(number: &mut u16, gone: u16) -> Option<()> {
+fn past<T: Copy + Ord + std::ops::SubAssign + From<u8>>(number: &mut T, gone: T) -> Option<()> {
     match (*number).cmp(&gone) {
         std::cmp::Ordering::Less => {}
         std::cmp::Ordering::Equal => return None,
-        std::cmp::Ordering::Greater => *number -= 1,
+        std::cmp::Ordering::Greater => *number -= T::from(1),
     }
     Some(())
 }
@@ -287,12 +287,12 @@ fn remove_predicate(file: &mut File, gone: u16) -> Option<()> {
     file.predicates.remove(gone as usize);
     for ty in &mut file.types {
         if let Type::Fact(predicate) = ty {
-            past(predicate, gone)?;
+            past(predicate, u32::from(gone))?;
         }
     }
     for node in nodes(file) {
         if let Shape::Fact(predicate, _) = &mut node.shape {
-            past(predicate, gone)?;
+            past(predicate, u32::from(gone))?;
         }
     }
     Some(())

@@ -1,4 +1,4 @@
--- Made from Proof.ans by tools/answers, c527a287d2221266 997ce137032a7f6d.
+-- Made from Proof.ans by tools/answers, 7b1343ac26a57e15 02dd71aacaa409ec.
 -- `reading::take_name` meets its contract: each end is one of a name line's.
 use borrow.Author.Needs.{needs}
 use Rattle.reading.proofs.names.take_name.Statement.{statement}
@@ -25,12 +25,11 @@ take-name-spec =
     (λ c. search needs)
     (λ c κs. search needs)
     (λ c. search needs)
-    (λ c. name-given _ _ (c .before .before .before .before .before .before .before .before .before .before .before .args .s .now) _ _ _ (text-whole (c .before .before .before .before .before .before .before .before .before .before .before .args .s .now) _ (c .before .before .before .before .before .before .characters .ensures) _ (c .before .before .before .before .got .given .1)) (rw (c .if1 .taken) at (c .before .given-before .ensures)))
+    (λ c. record { is = λ e. name-given e _ _ (c .before .before .before .before .before .before .before .before .before .before .before .args .s .now) _ _ _ (text-whole (c .before .before .before .before .before .before .before .before .before .before .before .args .s .now) _ (c .before .before .before .before .before .before .characters .ensures) _ (c .before .before .before .before .got .given .1)) (rw (c .if1 .taken) at (c .before .given-before .ensures)) })
     (λ c κs. search needs)
     (λ c κs.
     let few = few-characters (c .before .before .before .before .before .before .before .before .before .before .before .before .before .args .s .now) _ (text-whole (c .before .before .before .before .before .before .before .before .before .before .before .before .before .args .s .now) _ (c .before .before .before .before .before .before .before .before .characters .ensures) _ (c .before .before .before .before .before .before .got .given .1)) (c .before .before .before .before .before .before .before .before .before .before .before .before .before .pre .2) (c .before .before .before .before .before .before .before .before .before .before .before .before .before .pre .3) in
     (c .before .before .before .before .before .before .before .before .before .before .before .before .before .pre .0, few, c .before .before .before .before .before .before .before .before .before .before .before .before .before .pre .1))
-    (λ c. name-broken _ _ (c .before .before .before .before .before .before .before .args .s .now) _ _ (text-broken (c .before .before .before .before .before .before .before .args .s .now) _ (c .before .before .characters .ensures) (c .enum-told .given .1)))
+    (λ c. record { is = λ e. name-broken e _ _ (c .before .before .before .before .before .before .before .args .s .now) _ _ (text-broken (c .before .before .before .before .before .before .before .args .s .now) _ (c .before .before .characters .ensures) (c .enum-told .given .1)) })
     (λ c. search needs)
-    (λ c.
-    name-adds _ _ (c .before .before .before .before .before .before .before .before .before .before .before .before .before .before .before .before .args .s .now) _ _ _ (text-whole (c .before .before .before .before .before .before .before .before .before .before .before .before .before .before .before .before .args .s .now) _ (c .before .before .before .before .before .before .before .before .before .before .before .characters .ensures) _ (c .before .before .before .before .before .before .before .before .before .got .given .1)) _ _ _ (rw (c .before .before .before .before .before .if1 .left) at (c .before .before .before .before .before .before .given-before .ensures)) (c .before .before .before .before .is-value .ensures (c .before .before .before .before .before .before .before .before .before .before .before .before .before .before .before .before .pre .2)) (c .before .before .add-name .ensures)))
+    (λ c. record { is = λ e. name-adds e _ _ (c .before .before .before .before .before .before .before .before .before .before .before .before .before .before .before .before .args .s .now) _ _ _ (text-whole (c .before .before .before .before .before .before .before .before .before .before .before .before .before .before .before .before .args .s .now) _ (c .before .before .before .before .before .before .before .before .before .before .before .characters .ensures) _ (c .before .before .before .before .before .before .before .before .before .got .given .1)) _ _ _ (rw (c .before .before .before .before .before .if1 .left) at (c .before .before .before .before .before .before .given-before .ensures)) (c .before .before .before .before .is-value .ensures (c .before .before .before .before .before .before .before .before .before .before .before .before .before .before .before .before .pre .2)) (c .before .before .add-name .ensures) }))

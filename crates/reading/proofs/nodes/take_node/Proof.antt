@@ -1,4 +1,4 @@
--- Made from Proof.ans by tools/answers, f0cf6cd803c098f5 6fa220eac820eb8c.
+-- Made from Proof.ans by tools/answers, 767da2451930c1b3 92733cd719a9d790.
 -- `reading::take_node` meets its contract: what the frame refers to is not all there, or one more node is held.
 use borrow.Author.Needs.{needs}
 use Rattle.reading.proofs.nodes.take_node.Statement.{statement}
@@ -20,11 +20,11 @@ take-node-spec =
     (tie.spec
     (λ c κs. search needs)
     (λ c. search needs)
-    (λ c. node-bad _ (c .before .before .before .before .before .before .before .args .s .now) _ (c .before .before .before .before .before .before .before .args .c) _ (rw (not-true (c .before .before .before .name-all .result) (c .if1 .taken)) at (c .before .before .before .name-all .ensures)))
+    (λ c. node-bad _ _ (c .before .before .before .before .before .before .before .args .s .now) _ (c .before .before .before .before .before .before .before .args .c) _ (rw (not-true (c .before .before .before .name-all .result) (c .if1 .taken)) at (c .before .before .before .name-all .ensures)))
     (λ c κs. search needs)
     (λ c. search needs)
     (λ c κs. search needs)
     (λ c κs. search needs)
     (λ c. search needs)
     (λ c. search needs)
-    (λ c. node-takes _ (c .before .before .before .before .before .before .before .before .before .before .before .before .before .args .s .now) _ (c .before .before .before .before .before .before .before .before .before .before .before .before .before .args .c) _ (rw (not-false (c .before .before .before .before .before .before .before .before .before .name-all .result) (c .before .before .before .before .before .before .if1 .left)) at (c .before .before .before .before .before .before .before .before .before .name-all .ensures)) _ (rw (c .before .before .before .before .wide .ensures .0, c .before .before .before .node-word .ensures) at (c .before .before .put .ensures))))
+    (λ c. node-takes _ _ (c .before .before .before .before .before .before .before .before .before .before .before .before .before .args .s .now) _ (c .before .before .before .before .before .before .before .before .before .before .before .before .before .args .c) _ (rw (not-false (c .before .before .before .before .before .before .before .before .before .name-all .result) (c .before .before .before .before .before .before .if1 .left)) at (c .before .before .before .before .before .before .before .before .before .name-all .ensures)) _ (rw (c .before .before .before .before .wide .ensures .0, c .before .before .before .node-word .ensures) at (c .before .before .put .ensures))))

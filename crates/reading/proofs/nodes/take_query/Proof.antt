@@ -1,4 +1,4 @@
--- Made from Proof.ans by tools/answers, 90bb4c69c4791c8c 9dc653a43e6bb4fc.
+-- Made from Proof.ans by tools/answers, f49fc9d564e7ba86 ec6b5969b63ae697.
 -- `reading::take_query` meets its contract: the head or a statement's node is not there, or the query is held.
 use borrow.Author.Needs.{needs}
 use Rattle.reading.proofs.nodes.take_query.Statement.{statement}
@@ -20,10 +20,10 @@ take-query-spec =
     (λ c κs. search needs)
     (λ c κs. search needs)
     (λ c. search needs)
-    (λ c. query-no-head _ (c .before .before .before .before .before .before .before .before .args .s .now) _ (c .before .before .before .before .before .before .before .before .args .c) _ (rw (not-true (c .before .before .before .name-node .result) (c .if1 .taken), c .before .before .before .before .half .ensures .0) at (c .before .before .before .name-node .ensures)))
+    (λ c. record { is = λ e. query-no-head e _ (c .before .before .before .before .before .before .before .before .args .s .now) _ (c .before .before .before .before .before .before .before .before .args .c) _ (rw (not-true (c .before .before .before .name-node .result) (c .if1 .taken), c .before .before .before .before .half .ensures .0) at (c .before .before .before .name-node .ensures)) })
     (λ c κs. search needs)
     (λ c. search needs)
-    (λ c. query-no-body _ (c .before .before .before .before .before .before .before .before .before .before .before .before .before .args .s .now) _ (c .before .before .before .before .before .before .before .before .before .before .before .before .before .args .c) _ _ (rw (not-false (c .before .before .before .before .before .before .before .before .name-node .result) (c .before .before .before .before .before .if1 .left), c .before .before .before .before .before .before .before .before .before .half .ensures .0) at (c .before .before .before .before .before .before .before .before .name-node .ensures)) (rw (not-true (c .before .before .before .name-statements .result) (c .if2 .taken)) at (c .before .before .before .name-statements .ensures)))
+    (λ c. record { is = λ e. query-no-body e _ (c .before .before .before .before .before .before .before .before .before .before .before .before .before .args .s .now) _ (c .before .before .before .before .before .before .before .before .before .before .before .before .before .args .c) _ _ (rw (not-false (c .before .before .before .before .before .before .before .before .name-node .result) (c .before .before .before .before .before .if1 .left), c .before .before .before .before .before .before .before .before .before .half .ensures .0) at (c .before .before .before .before .before .before .before .before .name-node .ensures)) (rw (not-true (c .before .before .before .name-statements .result) (c .if2 .taken)) at (c .before .before .before .name-statements .ensures)) })
     (λ c. search needs)
     (λ c. search needs)
-    (λ c. query-takes _ (c .before .before .before .before .before .before .before .before .before .before .before .before .before .before .args .s .now) _ (c .before .before .before .before .before .before .before .before .before .before .before .before .before .before .args .c) _ _ (rw (not-false (c .before .before .before .before .before .before .before .before .before .name-node .result) (c .before .before .before .before .before .before .if1 .left), c .before .before .before .before .before .before .before .before .before .before .half .ensures .0) at (c .before .before .before .before .before .before .before .before .before .name-node .ensures)) (rw (not-false (c .before .before .before .before .name-statements .result) (c .before .if2 .left)) at (c .before .before .before .before .name-statements .ensures))))
+    (λ c. record { is = λ e. query-takes e _ (c .before .before .before .before .before .before .before .before .before .before .before .before .before .before .args .s .now) _ (c .before .before .before .before .before .before .before .before .before .before .before .before .before .before .args .c) _ _ (rw (not-false (c .before .before .before .before .before .before .before .before .before .name-node .result) (c .before .before .before .before .before .before .if1 .left), c .before .before .before .before .before .before .before .before .before .before .half .ensures .0) at (c .before .before .before .before .before .before .before .before .before .name-node .ensures)) (rw (not-false (c .before .before .before .before .name-statements .result) (c .before .if2 .left)) at (c .before .before .before .before .name-statements .ensures)) }))

@@ -1,4 +1,4 @@
--- Made from Proof.ans by tools/answers, 684f33de2be95d31 da9f18b39b64ffdc.
+-- Made from Proof.ans by tools/answers, e49e2987a711e14d 0409aa363789831d.
 -- `reading::take_record` meets its contract: each end is one of such a line's.
 use borrow.Author.Needs.{needs}
 use Rattle.reading.proofs.types.take_record.Statement.{statement}
@@ -19,13 +19,13 @@ take-record-spec =
     tie.close
     (tie.spec
     (λ c κs. search needs)
-    (λ c. record-bad _ _ _ (c .before .before .before .before .pre .0) (rw (not-true (c .before .parts-earlier .result) (c .if1 .taken)) at (c .before .parts-earlier .ensures)))
+    (λ c. record { is = λ e. record-bad e _ _ _ (c .before .before .before .before .pre .0) (rw (not-true (c .before .parts-earlier .result) (c .if1 .taken)) at (c .before .parts-earlier .ensures)) })
     (λ c κs. search needs)
-    (λ c. record-repeats _ _ _ (c .before .before .before .before .before .before .pre .0) (rw (not-false (c .before .before .before .parts-earlier .result) (c .before .before .if1 .left)) at (c .before .before .before .parts-earlier .ensures)) (rw (not-true (c .before .names-distinct .result) (c .if2 .taken)) at (c .before .names-distinct .ensures)))
+    (λ c. record { is = λ e. record-repeats e _ _ _ (c .before .before .before .before .before .before .pre .0) (rw (not-false (c .before .before .before .parts-earlier .result) (c .before .before .if1 .left)) at (c .before .before .before .parts-earlier .ensures)) (rw (not-true (c .before .names-distinct .result) (c .if2 .taken)) at (c .before .names-distinct .ensures)) })
     (λ c. search needs)
     (λ c. search needs)
     (λ c κs. search needs)
     (λ c κs. search needs)
     (λ c κs. search needs)
     (λ c. search needs)
-    (λ c. record-takes _ _ _ (c .before .before .before .before .before .before .before .before .before .before .before .before .before .before .before .pre .0) _ _ _ _ (search needs) (rw (not-false (c .before .before .before .before .before .before .before .before .before .before .before .before .parts-earlier .result) (c .before .before .before .before .before .before .before .before .before .before .before .if1 .left)) at (c .before .before .before .before .before .before .before .before .before .before .before .before .parts-earlier .ensures)) (rw (not-false (c .before .before .before .before .before .before .before .before .before .before .names-distinct .result) (c .before .before .before .before .before .before .before .before .before .if2 .left)) at (c .before .before .before .before .before .before .before .before .before .before .names-distinct .ensures)) (c .before .before .before .before .before .before .before .put-fields .ensures) (rw (c .before .before .before .with-tag .ensures) at (c .before .before .add-type .ensures))))
+    (λ c. record { is = λ e. record-takes e _ _ _ (c .before .before .before .before .before .before .before .before .before .before .before .before .before .before .before .pre .0) _ _ _ _ (search needs) (rw (not-false (c .before .before .before .before .before .before .before .before .before .before .before .before .parts-earlier .result) (c .before .before .before .before .before .before .before .before .before .before .before .if1 .left)) at (c .before .before .before .before .before .before .before .before .before .before .before .before .parts-earlier .ensures)) (rw (not-false (c .before .before .before .before .before .before .before .before .before .before .names-distinct .result) (c .before .before .before .before .before .before .before .before .before .if2 .left)) at (c .before .before .before .before .before .before .before .before .before .before .names-distinct .ensures)) (c .before .before .before .before .before .before .before .put-fields .ensures) (rw (c .before .before .before .with-tag .ensures) at (c .before .before .add-type .ensures)) }))

@@ -1,4 +1,4 @@
--- Made from Proof.ans by tools/answers, 05bc907bc439be59 ffaa1834041578cf.
+-- Made from Proof.ans by tools/answers, 55acf9f5768d77df 0643bfd6832b68f9.
 -- `reading::take_union` meets its contract: each end is one of such a line's.
 use borrow.Author.Needs.{needs}
 use Rattle.reading.proofs.types.take_union.Statement.{statement}
@@ -19,9 +19,9 @@ take-union-spec =
     tie.close
     (tie.spec
     (λ c κs. search needs)
-    (λ c. union-bad _ _ _ (c .before .before .before .before .pre .0) (rw (not-true (c .before .parts-earlier .result) (c .if1 .taken)) at (c .before .parts-earlier .ensures)))
+    (λ c. record { is = λ e. union-bad e _ _ _ (c .before .before .before .before .pre .0) (rw (not-true (c .before .parts-earlier .result) (c .if1 .taken)) at (c .before .parts-earlier .ensures)) })
     (λ c κs. search needs)
-    (λ c. union-repeats _ _ _ (c .before .before .before .before .before .before .pre .0) (rw (not-false (c .before .before .before .parts-earlier .result) (c .before .before .if1 .left)) at (c .before .before .before .parts-earlier .ensures)) (rw (not-true (c .before .keys-distinct .result) (c .if2 .taken)) at (c .before .keys-distinct .ensures)))
+    (λ c. record { is = λ e. union-repeats e _ _ _ (c .before .before .before .before .before .before .pre .0) (rw (not-false (c .before .before .before .parts-earlier .result) (c .before .before .if1 .left)) at (c .before .before .before .parts-earlier .ensures)) (rw (not-true (c .before .keys-distinct .result) (c .if2 .taken)) at (c .before .keys-distinct .ensures)) })
     (λ c. search needs)
     (λ c. search needs)
     (λ c κs. search needs)
@@ -29,4 +29,4 @@ take-union-spec =
     (λ c. search needs)
     (λ c κs. search needs)
     (λ c. search needs)
-    (λ c. union-takes _ _ _ (c .before .before .before .before .before .before .before .before .before .before .before .before .before .before .before .pre .0) _ _ _ _ (search needs) (rw (not-false (c .before .before .before .before .before .before .before .before .before .before .before .before .parts-earlier .result) (c .before .before .before .before .before .before .before .before .before .before .before .if1 .left)) at (c .before .before .before .before .before .before .before .before .before .before .before .before .parts-earlier .ensures)) (rw (not-false (c .before .before .before .before .before .before .before .before .before .before .keys-distinct .result) (c .before .before .before .before .before .before .before .before .before .if2 .left)) at (c .before .before .before .before .before .before .before .before .before .before .keys-distinct .ensures)) (c .before .before .before .before .before .before .before .put-alternatives .ensures) (rw (c .before .before .before .with-tag .ensures) at (c .before .before .add-type .ensures))))
+    (λ c. record { is = λ e. union-takes e _ _ _ (c .before .before .before .before .before .before .before .before .before .before .before .before .before .before .before .pre .0) _ _ _ _ (search needs) (rw (not-false (c .before .before .before .before .before .before .before .before .before .before .before .before .parts-earlier .result) (c .before .before .before .before .before .before .before .before .before .before .before .if1 .left)) at (c .before .before .before .before .before .before .before .before .before .before .before .before .parts-earlier .ensures)) (rw (not-false (c .before .before .before .before .before .before .before .before .before .before .keys-distinct .result) (c .before .before .before .before .before .before .before .before .before .if2 .left)) at (c .before .before .before .before .before .before .before .before .before .before .keys-distinct .ensures)) (c .before .before .before .before .before .before .before .put-alternatives .ensures) (rw (c .before .before .before .with-tag .ensures) at (c .before .before .add-type .ensures)) }))

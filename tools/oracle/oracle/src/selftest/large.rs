@@ -121,7 +121,7 @@ fn exact(visits: u64) -> File {
     for pair in unions.chunks(2) {
         let values = [pair[0], pair[1]].map(|predicate| {
             let key = nodes.push(Shape::Wildcard);
-            let fact = nodes.push(Shape::Fact(predicate, key));
+            let fact = nodes.push(Shape::Fact(u32::from(predicate), key));
             nodes.push(Shape::Value(fact))
         });
         body.push(Stmt::Compare(values[0], values[1]));
