@@ -17,7 +17,7 @@ use Rattle.meaning.specs.Diag.{Message, Diagnostic}
 use Rattle.meaning.specs.Refusal.{Refusal, workTooShort, tooManyVisits}
 use Rattle.meaning.specs.All.{All, Any, Each}
 use Rattle.meaning.specs.Lines.{closed, LF, lines}
-use Rattle.meaning.specs.Answer.{bytes₂, hexDigit, hexLine, slotBytes, nodeLines, diagnosticBytes, diagnosticLine, diagnosticLines, answerLines, numbered, formLines}
+use Rattle.meaning.specs.Answer.{bytes₂, bytes₄, hexDigit, hexLine, slotBytes, nodeLines, diagnosticBytes, diagnosticLine, diagnosticLines, answerLines, numbered, formLines}
 use Rattle.meaning.specs.Check.{Checker, Step, goes, out, Until, theEnd, begin, beginUntil, lighted, query, Typed, typed, reversed, checked, check}
 use Rattle.meaning.specs.Run.{ending, run}
 use Rattle.meaning.specs.Outcome.{minWords, maxVisits, turnedDown, answered, decideRun, decideRead, decide}
@@ -122,6 +122,10 @@ number-skips : (k : ℕ) → Skips (hexLine (0x0b ∷ bytes₂ k))
 unfolding hexDigit
 number-skips k = line-skips (0x0b ∷ bytes₂ k) (λ x. let z : 98 ≡ 56 = second 0x0b (bytes₂ k) (omega arith) x in omega arith)
 
+visits-skip : (v : ℕ) → Skips (hexLine (9 ∷ bytes₄ v))
+unfolding hexDigit
+visits-skip v = line-skips (9 ∷ bytes₄ v) (λ x. let z : 57 ≡ 56 = second 9 (bytes₄ v) (omega arith) x in omega arith)
+
 -- some have none, then one has one
 abbrev Told : List Typed → Type 0
 Told ts = First (λ t. t .diagnostics ≡ []) (λ t. t .diagnostics ≢ []) ts
@@ -138,11 +142,13 @@ module _ (text : Message → List ℕ) where
 
   answer-begins : (t : Typed) → t .diagnostics ≢ [] → Begins (answerLines text t)
   unfolding answerLines
-  answer-begins t n = after-then (nodeLines 0 (t .tys)) (diagnosticLines text (t .diagnostics)) (nodes-skip 0 (t .tys)) (diagnostics-begin (t .diagnostics) n)
+  answer-begins t n = begins-then (nodeLines 0 (t .tys) ++ diagnosticLines text (t .diagnostics)) (hexLine (9 ∷ bytes₄ (t .visits)))
+      (after-then (nodeLines 0 (t .tys)) (diagnosticLines text (t .diagnostics)) (nodes-skip 0 (t .tys)) (diagnostics-begin (t .diagnostics) n))
 
   answer-skips : (t : Typed) → t .diagnostics ≡ [] → Skips (answerLines text t)
   unfolding answerLines diagnosticLines
-  answer-skips t e = skips-then (nodeLines 0 (t .tys)) (diagnosticLines text (t .diagnostics)) (nodes-skip 0 (t .tys)) (rw e skips-nothing)
+  answer-skips t e = skips-then (nodeLines 0 (t .tys) ++ diagnosticLines text (t .diagnostics)) (hexLine (9 ∷ bytes₄ (t .visits)))
+      (skips-then (nodeLines 0 (t .tys)) (diagnosticLines text (t .diagnostics)) (nodes-skip 0 (t .tys)) (rw e skips-nothing)) (visits-skip (t .visits))
 
   numbered-skips : (k : ℕ) (ts : List Typed) → All (λ t. t .diagnostics ≡ []) ts → Skips (numbered text k ts)
   unfolding numbered

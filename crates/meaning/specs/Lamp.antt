@@ -5,7 +5,7 @@ use mathlib.Core.Bool.{true, false}
 use mathlib.Core.List.{List, [], _∷_}
 use mathlib.Core.Logic.{_≢_}
 use mathlib.Core.Path.{_≡_}
-use Prim.Native.Nat.{ℕ}
+use Prim.Native.Nat.{ℕ, _+_, _-_}
 use lib.Dec.{ltb}
 use lib.ListN.{length}
 use Rattle.unification.specs.Ty.{Ty}
@@ -15,7 +15,7 @@ use Rattle.meaning.specs.Diag.{Diagnostic}
 use Rattle.meaning.specs.Refusal.{Refusal, workTooShort, tooManyVisits}
 use Rattle.meaning.specs.Lines.{Line, closed, lines}
 use Rattle.meaning.specs.All.{All, Any}
-use Rattle.meaning.specs.File.{Reading, refused, described, reading}
+use Rattle.meaning.specs.File.{Reading, refused, described, readingOf, reading}
 use Rattle.meaning.specs.Check.{Checker, Step, goes, out, firstDiagnostic, beginUntil, query}
 use Rattle.meaning.specs.Run.{ending, run}
 use Rattle.meaning.specs.Outcome.{minWords, maxVisits}
@@ -52,8 +52,29 @@ lampRead (described f) = lampAll (f .schema) (f .queries)
 
 -- No answer slice is lent, and the work slice is zero throughout after each.
 unfoldable pub lamp : List ℕ → ℕ → Lamp
-unfolding lampRead reading minWords
+unfolding lampRead readingOf minWords
 lamp file words = elim (ltb words minWords) [ true ↦ Refused workTooShort | false ↦ lampRead (reading file) ]
+
+-- ---- The visits
+
+-- Those of the queries that are asked, each run's until it ends: a call that went on after the first diagnostic would make others.
+unfoldable pub visitsAfter : Step Ty → ℕ → ℕ
+visitsAfter (goes ty c) rest = maxVisits - c .state .left + rest
+visitsAfter (out c) rest = maxVisits - c .state .left
+
+unfoldable pub visitsAll : Schema → List Ast → ℕ
+unfolding visitsAfter litRun maxVisits
+visitsAll schema [] = 0
+visitsAll schema (a ∷ more) = visitsAfter (litRun schema a maxVisits) (visitsAll schema more)
+
+unfoldable pub visitsRead : Reading → ℕ
+unfolding visitsAll
+visitsRead (refused r) = 0
+visitsRead (described f) = visitsAll (f .schema) (f .queries)
+
+unfoldable pub lampVisits : List ℕ → ℕ → ℕ
+unfolding visitsRead readingOf minWords
+lampVisits file words = elim (ltb words minWords) [ true ↦ 0 | false ↦ visitsRead (reading file) ]
 
 -- ---- Of whole runs
 
