@@ -7,6 +7,8 @@ use lib.ListN.{length, replicate}
 use Rattle.unification.specs.Ty as Tree
 use Rattle.cells.specs.Stands.{Rows}
 use Rattle.meaning.specs.Diag.{Diagnostic}
+use Rattle.meaning.specs.Refusal.{number}
+use Rattle.meaning.specs.Answer.{hexLine}
 use Rattle.meaning.specs.File.{Described, Form, described, reading}
 use Rattle.meaning.specs.Sound.{Sound}
 use Rattle.meaning.specs.Check.{Step, goes, out}
@@ -25,6 +27,13 @@ abbrev pub lampOf : Lamp → Defined.Lamp
 lampOf Lamp.Yes = Defined.Yes
 lampOf Lamp.No = Defined.No
 lampOf (Lamp.Refused e) = Defined.Refused (refusal e)
+
+-- What the program prints for it.
+unfoldable pub lampLine : Defined.Lamp → List ℕ
+unfolding hexLine
+lampLine Defined.Yes = hexLine (0x0d ∷ 1 ∷ [])
+lampLine Defined.No = hexLine (0x0d ∷ 0 ∷ [])
+lampLine (Defined.Refused i) = hexLine (0x0f ∷ number i ∷ [])
 
 -- ---- A query
 

@@ -1,7 +1,8 @@
 // Card 4's call: whether a query of a file has a diagnostic. Each query runs until its first one, and no answer is written.
+ghost use mathlib.Core.Path.{_≡_};
 ghost use Prim.Native.Nat.{_≤_};
 ghost use lib.ListN.{length};
-ghost use Rattle.lamp.specs.Contracts.{Glows, Asks, Looks, Lights};
+ghost use Rattle.lamp.specs.Contracts.{lampOf, lampLine, Glows, Asks, Looks, Lights};
 use desk::made;
 use reading::Counters;
 use reading::Read;
@@ -104,4 +105,15 @@ pub fn lamp(file: &[u8], work: &mut [u32]) -> Lit
     let r = look(file, work);
     work::clear(work);
     r
+}
+
+// The line that the program prints: 0d with 01 or 00, or the refusal's.
+pub fn line(l: Lamp) -> [u8; 5]
+    ensures { λ r. ⌜ r ≡ lampLine (lampOf l) ⌝ }
+{
+    match l {
+        Lamp::Yes => [48, 100, 48, 49, 10],
+        Lamp::No => [48, 100, 48, 48, 10],
+        Lamp::Refused(e) => desk::refusal_line(e),
+    }
 }

@@ -133,7 +133,8 @@ Told ts = First (λ t. t .diagnostics ≡ []) (λ t. t .diagnostics ≢ []) ts
 module _ (text : Message → List ℕ) where
   diagnostic-begins : (d : Diagnostic) → Begins (diagnosticLine text d)
   unfolding diagnosticLine diagnosticBytes hexes hexDigit
-  diagnostic-begins d = record { here08 = λ rest. subst (Any Is08) (sym (line-first (diagnosticBytes d) rest)) (inl (record { rest = hexes (drop 1 (diagnosticBytes d)); is = refl })) }
+  diagnostic-begins d = begins-then (hexLine (diagnosticBytes d)) (hexLine (0x0a ∷ text (d .message)))
+      (record { here08 = λ rest. subst (Any Is08) (sym (line-first (diagnosticBytes d) rest)) (inl (record { rest = hexes (drop 1 (diagnosticBytes d)); is = refl })) })
 
   diagnostics-begin : (ds : List Diagnostic) → ds ≢ [] → Begins (diagnosticLines text ds)
   unfolding diagnosticLines

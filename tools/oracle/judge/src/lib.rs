@@ -7,6 +7,7 @@
 pub mod calls;
 mod encode;
 mod file;
+mod lamp;
 pub mod levenshtein;
 pub mod lower;
 mod measure;
@@ -22,6 +23,7 @@ include!(concat!(env!("OUT_DIR"), "/modules.rs"));
 
 use diag::{Code, Diagnostics};
 pub use encode::encode;
+pub use lamp::{Lamp, lamp};
 pub use file::{File, Node, Predicate, Query, Shape, Stmt, Tree, Type};
 use measure::Measure;
 pub use read::read;

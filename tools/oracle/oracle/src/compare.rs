@@ -5,6 +5,7 @@ use judge::{Answer, Limits, Ran};
 use crate::Done;
 use crate::calls;
 use crate::corpus::{self, Corpus, Item};
+use crate::lamp;
 use crate::mismatch::Mismatches;
 use crate::options::Options;
 use crate::port::Port;
@@ -32,8 +33,9 @@ pub fn run(given: &[String]) -> Done {
         [what] if what == "answers" => answers(&options),
         [what] if what == "reading" => reading(&options),
         [what] if what == "calls" => calls::run(&options),
+        [what] if what == "lamp" => lamp::compare(&options),
         [what] if what == "texts" => texts::compare(),
-        _ => Err("compare what? one of answers, reading, calls, texts".to_owned()),
+        _ => Err("compare what? one of answers, reading, calls, lamp, texts".to_owned()),
     }
 }
 
