@@ -11,7 +11,7 @@ use Rattle.work.specs.Layout.{DIAGNOSTIC-COUNT, LEFT}
 use Rattle.cells.specs.Stands.{Rows}
 use Rattle.meaning.specs.Syntax.{Ast}
 use Rattle.meaning.specs.Diag.{Diagnostic}
-use Rattle.meaning.specs.File.{Described, Form, viewOf, described, reading}
+use Rattle.meaning.specs.File.{Described, Form, viewOf, described, reading, maxFile}
 use Rattle.meaning.specs.All.{All}
 use Rattle.meaning.specs.Sound.{Sound}
 use Rattle.meaning.specs.Refusal.{tooManyVisits}
@@ -30,7 +30,7 @@ use Rattle.loading.proofs.Lines.{query-ahead, all-ahead}
 use Rattle.reading.specs.declared.Refusal.the-variants as Refusal
 use Rattle.lamp.specs.declared.Glow.{Glow}
 use Rattle.lamp.specs.declared.Glow.the-variants as Glow
-use Rattle.lamp.specs.declared.Lamp.the-variants as Lamp
+use Rattle.lamp.specs.declared.Signal.the-variants as Signal
 use Rattle.lamp.specs.Contracts.{glowOf, Glowed, Glows, Asks}
 
 -- ---- A query
@@ -40,25 +40,25 @@ unfolding litRun runUntil maxVisits
 lit-is d = refl
 
 module _ {f w o w′ o′ : List ℕ} {x : Done} (Q : Queries f w o Until.FirstDiagnostic 1048576 w′ o′ x) where
-  module _ (g : Glow) (ends : (d : Described) {s : Step Tree.Ty} → Ran f w′ o′ d x s → Glowed f w′ d g s) where
+  module _ (g : Glow) (ends : (d : Described) (s : Step Tree.Ty) → Ran f w′ o′ d x s → Glowed f w′ d g s) where
     glowed : (T : Rows) (d : Described) → Sound d → Stands f w T d → Glowed f w′ d g (litRun (d .schema) (d .ast) maxVisits)
-    glowed T d s S = rw (lit-is d) (ends d (Q .is T d s S))
+    glowed T d s S = rw (lit-is d) (ends d (runUntil firstDiagnostic d 1048576) (Q .is T d s S))
 
   -- It went through.
   pub glow-dark : {left v : ℕ} → x ≡ Done.On left → v ≡ 1048576 - left → Glows f w w′ (Glow.Dark v)
   unfolding Glowed maxVisits
   glow-dark {left} {v} e m = record { is = glowed (Glow.Dark v) go; few = omega arith; words = Q .words }
     where
-      go : (d : Described) {s : Step Tree.Ty} → Ran f w′ o′ d x s → Glowed f w′ d (Glow.Dark v) s
-      go d (to-the-end {c = c} T R t p) = let same : left ≡ c .state .left = cc (e, p) in (ap Glow.Dark (m ∙ ap (λ n. 1048576 - n) same), (T, R .stands .schema))
-      go d (ended-early T R t p) = clash (cc (e, p))
+      go : (d : Described) (s : Step Tree.Ty) → Ran f w′ o′ d x s → Glowed f w′ d (Glow.Dark v) s
+      go d (goes ty c) (to-the-end T R t p) = let same : left ≡ c .state .left = cc (e, p) in (ap Glow.Dark (m ∙ ap (λ n. 1048576 - n) same), (T, R .stands .schema))
+      go d (out c) (ended-early T R t p) = clash (cc (e, p))
 
   module _ (e : x ≡ Done.Out) {left count v : ℕ} (l : left ≡ getD w′ LEFT 0) (m : v ≡ 1048576 - left) (n : count ≡ getD w′ DIAGNOSTIC-COUNT 0) where
     module _ (g : Glow) (by : (ds : List Diagnostic) → length ds ≡ count → g ≡ glowOf ds v) where
-      ended : (d : Described) {s : Step Tree.Ty} → Ran f w′ o′ d x s → Glowed f w′ d g s
+      ended : (d : Described) (s : Step Tree.Ty) → Ran f w′ o′ d x s → Glowed f w′ d g s
       unfolding Glowed maxVisits
-      ended d (to-the-end T R t p) = clash (cc (e, p))
-      ended d (ended-early {c = c} T R t p) =
+      ended d (goes ty c) (to-the-end T R t p) = clash (cc (e, p))
+      ended d (out c) (ended-early T R t p) =
           by (c .diagnostics) (R .diagnostics ∙ sym n) ∙ ap (glowOf (c .diagnostics)) (m ∙ ap (λ k. 1048576 - k) (l ∙ t .left))
 
     pub glow-out : count ≡ 0 → Glows f w w′ (Glow.Out v)
@@ -75,9 +75,9 @@ module _ {f w o w′ o′ : List ℕ} {x : Done} (Q : Queries f w o Until.FirstD
         by [] h = absurd (z (sym h))
         by (d ∷ ds) h = refl
 
-not-dark : (ds : List Diagnostic) {g : Glow} {u v : ℕ} → g ≡ glowOf ds u → g ≡ Glow.Dark v → ⊥
-not-dark [] h e = clash (cc (h, e))
-not-dark (d ∷ ds) h e = clash (cc (h, e))
+not-dark : (ds : List Diagnostic) (u : ℕ) {g : Glow} {v : ℕ} → g ≡ glowOf ds u → g ≡ Glow.Dark v → ⊥
+not-dark [] u h e = clash (cc (h, e))
+not-dark (d ∷ ds) u h e = clash (cc (h, e))
 
 -- ---- Between two queries
 
@@ -98,17 +98,18 @@ pub record Asking (f w₀ w : List ℕ) (at visits : ℕ) : Type 0 where
   is : (T : Rows) (form : Form) → reading f ≡ described form → minWords ≤ length w₀ → SchemaStands f w₀ T (form .names) (form .schema) → Between f form w at visits
 
 pub ask-start : (f w : List ℕ) → length f ≤ 65536 → Asking f w w 0 0
+unfolding maxFile
 ask-start f w small = record {
   words = refl;
   few = omega arith;
   within = omega arith;
   small = small;
-  is = λ T form e l S. record { left = form .queries; ahead = all-ahead f form small e; sound = sound f form e; rows = T; stands = S; lamp = refl; made = refl };
+  is = λ T form e l S. record { left = form .queries; ahead = all-ahead f form small e; sound = sound f form e; rows = T; stands = S; lamp = refl; made = omega arith };
 }
 
 module _ {f w₀ w : List ℕ} {at visits : ℕ} (A : Asking f w₀ w at visits) where
   -- None is left.
-  pub ask-end : length f ≤ at → Asks f w₀ (record { lamp = Lamp.No; visits = visits })
+  pub ask-end : length f ≤ at → Asks f w₀ (record { signal = Signal.No; visits = visits })
   unfolding lampAll visitsAll
   ask-end end = record { is = λ T form e l S. let b = A .is T form e l S in go b (b .left) (b .ahead) (b .lamp) (b .made) }
     where
@@ -149,7 +150,7 @@ module _ {f w₀ w : List ℕ} {at visits : ℕ} (A : Asking f w₀ w at visits)
 
     -- It had no diagnostic.
     pub ask-next : {v : ℕ} → g ≡ Glow.Dark v → length w₂ ≡ length w₁ → Asking f w₀ w₂ next (visits + v)
-    unfolding Glowed lampAfter visitsAfter
+    unfolding Glowed lampAfter visitsAfter viewOf
     ask-next {v} e long = record {
       words = long ∙ L .words .long ∙ A .words;
       few = let h : v ≤ 1048576 = rw e at (G .few) in omega (arith, h, A .few, L .onward here);
@@ -163,10 +164,10 @@ module _ {f w₀ w : List ℕ} {at visits : ℕ} (A : Asking f w₀ w at visits)
         go t (goes ty c) p q h =
             let same : maxVisits - c .state .left ≡ v = cc (e, h .0) in
             record { left = t .qs; ahead = t .ahead; sound = t .sound; rows = h .1 .0; stands = h .1 .1; lamp = p; made = omega (arith, q, same) }
-        go t (out c) p q h = absurd (not-dark (c .diagnostics) h e)
+        go t (out c) p q h = absurd (not-dark (c .diagnostics) (maxVisits - c .state .left) h e)
 
     -- It stopped.
-    module _ {k : Defined.Lamp} {total : ℕ} (by : (ds : List Diagnostic) {u : ℕ} → g ≡ glowOf ds u → (k ≡ stopped ds) × (total ≡ visits + u)) (light : (u : ℕ) → ¬ (g ≡ Glow.Dark u)) where
+    module _ {k : Defined.Lamp} {total : ℕ} (by : (ds : List Diagnostic) (u : ℕ) → g ≡ glowOf ds u → (k ≡ stopped ds) × (total ≡ visits + u)) (light : (u : ℕ) → ¬ (g ≡ Glow.Dark u)) where
       asked : (T : Rows) (form : Form) → reading f ≡ described form → minWords ≤ length w₀ → SchemaStands f w₀ T (form .names) (form .schema)
           → (k ≡ lampAll (form .schema) (form .queries)) × (total ≡ visitsAll (form .schema) (form .queries))
       unfolding Glowed lampAfter visitsAfter
@@ -176,20 +177,20 @@ module _ {f w₀ w : List ℕ} {at visits : ℕ} (A : Asking f w₀ w at visits)
               → visitsAll (form .schema) (form .queries) ≡ visits + visitsAfter s (visitsAll (form .schema) (t .qs)) → Glowed f w₂ (viewOf form (t .a)) g s
               → (k ≡ lampAll (form .schema) (form .queries)) × (total ≡ visitsAll (form .schema) (form .queries))
           go t (goes ty c) p q h = absurd (light (maxVisits - c .state .left) (h .0))
-          go t (out c) p q h = let x = by (c .diagnostics) h in (x .0 ∙ sym p, x .1 ∙ sym q)
+          go t (out c) p q h = let x = by (c .diagnostics) (maxVisits - c .state .left) h in (x .0 ∙ sym p, x .1 ∙ sym q)
 
-    pub ask-shown : {v total : ℕ} → g ≡ Glow.Shown v → total ≡ visits + v → Asks f w₀ (record { lamp = Lamp.Yes; visits = total })
+    pub ask-shown : {v total : ℕ} → g ≡ Glow.Shown v → total ≡ visits + v → Asks f w₀ (record { signal = Signal.Yes; visits = total })
     unfolding stopped
     ask-shown {v} {total} e t = record { is = asked by (λ u h. clash (cc (e, h))) }
       where
-        by : (ds : List Diagnostic) {u : ℕ} → g ≡ glowOf ds u → (Defined.Yes ≡ stopped ds) × (total ≡ visits + u)
-        by [] h = clash (cc (e, h))
-        by (d ∷ ds) {u} h = let same : u ≡ v = cc (e, h) in (refl, omega (arith, t, same))
+        by : (ds : List Diagnostic) (u : ℕ) → g ≡ glowOf ds u → (Defined.Yes ≡ stopped ds) × (total ≡ visits + u)
+        by [] u h = clash (cc (e, h))
+        by (d ∷ ds) u h = let same : u ≡ v = cc (e, h) in (refl, omega (arith, t, same))
 
-    pub ask-out : {v total : ℕ} → g ≡ Glow.Out v → total ≡ visits + v → Asks f w₀ (record { lamp = Lamp.Refused Refusal.TooManyVisits; visits = total })
+    pub ask-out : {v total : ℕ} → g ≡ Glow.Out v → total ≡ visits + v → Asks f w₀ (record { signal = Signal.Refused Refusal.TooManyVisits; visits = total })
     unfolding stopped
     ask-out {v} {total} e t = record { is = asked by (λ u h. clash (cc (e, h))) }
       where
-        by : (ds : List Diagnostic) {u : ℕ} → g ≡ glowOf ds u → (Defined.Refused tooManyVisits ≡ stopped ds) × (total ≡ visits + u)
-        by [] {u} h = let same : u ≡ v = cc (e, h) in (refl, omega (arith, t, same))
-        by (d ∷ ds) h = clash (cc (e, h))
+        by : (ds : List Diagnostic) (u : ℕ) → g ≡ glowOf ds u → (Defined.Refused tooManyVisits ≡ stopped ds) × (total ≡ visits + u)
+        by [] u h = let same : u ≡ v = cc (e, h) in (refl, omega (arith, t, same))
+        by (d ∷ ds) u h = clash (cc (e, h))

@@ -16,9 +16,9 @@ use Rattle.reading.specs.declared.Refusal.{Refusal}
 use Rattle.reading.specs.declared.Read.{Read}
 use Rattle.reading.specs.declared.Read.the-variants as Read
 use Rattle.desk.proofs.Deciding.{enough-words}
-use Rattle.lamp.specs.declared.Lamp.the-variants as Lamp
+use Rattle.lamp.specs.declared.Signal.the-variants as Signal
 use Rattle.lamp.specs.declared.Lit.{Lit}
-use Rattle.lamp.specs.Contracts.{lampOf, Asks, Looks, Lights}
+use Rattle.lamp.specs.Contracts.{signalOf, Asks, Looks, Lights}
 
 module _ (f : List ℕ) (words : ℕ) where
   lamp-by : lamp f words ≡ lampRead (readingIn wide f words)
@@ -30,7 +30,7 @@ module _ (f : List ℕ) (words : ℕ) where
   visits-by = cases (ltb words minWords) (λ q. rw (q, lampVisits, readingIn)) (λ q. rw (q, lampVisits, readingIn))
 
 module _ {f w w₁ : List ℕ} {r : Read} (h : ReadsFile wide f w w₁ r) where
-  pub not-read : {e : Refusal} → r ≡ Read.Refused e → Looks f w w₁ (record { lamp = Lamp.Refused e; visits = 0 })
+  pub not-read : {e : Refusal} → r ≡ Read.Refused e → Looks f w w₁ (record { signal = Signal.Refused e; visits = 0 })
   unfolding Ends lampRead visitsRead
   not-read {e} q =
       let x = go (readingIn wide f (length w)) (h .ends) in
@@ -46,7 +46,7 @@ module _ {f w w₁ : List ℕ} {r : Read} (h : ReadsFile wide f w w₁ r) where
       let x = go (readingIn wide f (length w)) refl (h .ends) in
       record { lamp = x .0 ∙ sym (lamp-by f (length w)); visits = x .1 ∙ sym (visits-by f (length w)); words = long ∙ h .long }
     where
-      go : (x : Reading) → readingIn wide f (length w) ≡ x → Ends wide f w₁ r x → (lampOf (o .lamp) ≡ lampRead x) × (o .visits ≡ visitsRead x)
+      go : (x : Reading) → readingIn wide f (length w) ≡ x → Ends wide f w₁ r x → (signalOf (o .signal) ≡ lampRead x) × (o .visits ≡ visitsRead x)
       go (refused i) e g = clash (cc (q, g .1))
       go (described d) e g = A .is (g .2 .0) d (enough-words wide f (length w) d e) (g .1) (g .2 .1)
 

@@ -19,14 +19,14 @@ use Rattle.tree.specs.Stands.{SchemaStands, Stands}
 use Rattle.reading.specs.Contracts.{refusal}
 use Rattle.lamp.specs.declared.Glow.{Glow}
 use Rattle.lamp.specs.declared.Glow.the-variants as Glow
-use Rattle.lamp.specs.declared.Lamp.{Lamp}
-use Rattle.lamp.specs.declared.Lamp.the-variants as Lamp
+use Rattle.lamp.specs.declared.Signal.{Signal}
+use Rattle.lamp.specs.declared.Signal.the-variants as Signal
 use Rattle.lamp.specs.declared.Lit.{Lit}
 
-abbrev pub lampOf : Lamp → Defined.Lamp
-lampOf Lamp.Yes = Defined.Yes
-lampOf Lamp.No = Defined.No
-lampOf (Lamp.Refused e) = Defined.Refused (refusal e)
+abbrev pub signalOf : Signal → Defined.Lamp
+signalOf Signal.Yes = Defined.Yes
+signalOf Signal.No = Defined.No
+signalOf (Signal.Refused e) = Defined.Refused (refusal e)
 
 -- What the program prints for it.
 unfoldable pub lampLine : Defined.Lamp → List ℕ
@@ -62,15 +62,15 @@ pub record Glows (f w w′ : List ℕ) (g : Glow) : Type 0 where
 -- The queries of a described form whose schema and names stand in the words.
 pub record Asks (f w : List ℕ) (r : Lit) : Type 0 where
   pub is : (T : Rows) (form : Form) → reading f ≡ described form → minWords ≤ length w → SchemaStands f w T (form .names) (form .schema)
-      → (lampOf (r .lamp) ≡ lampAll (form .schema) (form .queries)) × (r .visits ≡ visitsAll (form .schema) (form .queries))
+      → (signalOf (r .signal) ≡ lampAll (form .schema) (form .queries)) × (r .visits ≡ visitsAll (form .schema) (form .queries))
 
 pub record Looks (f w w′ : List ℕ) (r : Lit) : Type 0 where
-  pub lamp : lampOf (r .lamp) ≡ lamp f (length w)
+  pub lamp : signalOf (r .signal) ≡ lamp f (length w)
   pub visits : r .visits ≡ lampVisits f (length w)
   pub words : length w′ ≡ length w
 
 -- The lamp and the visits are the definition's, and the work slice is zero throughout.
 pub record Lights (f w w′ : List ℕ) (r : Lit) : Type 0 where
-  pub lamp : lampOf (r .lamp) ≡ lamp f (length w)
+  pub lamp : signalOf (r .signal) ≡ lamp f (length w)
   pub visits : r .visits ≡ lampVisits f (length w)
   pub work : w′ ≡ replicate (length w) 0

@@ -2,7 +2,7 @@
 ghost use mathlib.Core.Path.{_≡_};
 ghost use Prim.Native.Nat.{_≤_};
 ghost use lib.ListN.{length};
-ghost use Rattle.lamp.specs.Contracts.{lampOf, lampLine, Glows, Asks, Looks, Lights};
+ghost use Rattle.lamp.specs.Contracts.{signalOf, lampLine, Glows, Asks, Looks, Lights};
 use desk::made;
 use reading::Counters;
 use reading::Read;
@@ -19,20 +19,20 @@ pub enum Glow {
     Out(u32),
 }
 
-pub enum Lamp {
+pub enum Signal {
     Yes,
     No,
     Refused(Refusal),
 }
 
-// The lamp, and the visits of the queries that were asked.
+// What the lamp shows, and the visits of the queries that were asked.
 pub struct Lit {
-    pub lamp: Lamp,
+    pub signal: Signal,
     pub visits: usize,
 }
 
 // The run of the query that is loaded. The answer slice that is lent to it is empty.
-fn glow(file: &[u8], work: &mut [u32]) -> Glow
+fn one_query(file: &[u8], work: &mut [u32]) -> Glow
     ensures { λ r. ⌜ Glows (now (file .entry)) (now (work .entry)) (now (work .exit)) r ⌝ }
 {
     let mut none = [0u8; 1];
@@ -59,20 +59,20 @@ fn ask(file: &[u8], work: &mut [u32]) -> Lit
     let mut visits: usize = 0;
     while at < file.len() {
         let next = loading::load(file, at, work);
-        let g = glow(file, work);
+        let g = one_query(file, work);
         match g {
             Glow::Dark(v) => {
                 visits += wide(v);
             }
             Glow::Shown(v) => {
                 return Lit {
-                    lamp: Lamp::Yes,
+                    signal: Signal::Yes,
                     visits: visits + wide(v),
                 };
             }
             Glow::Out(v) => {
                 return Lit {
-                    lamp: Lamp::Refused(Refusal::TooManyVisits),
+                    signal: Signal::Refused(Refusal::TooManyVisits),
                     visits: visits + wide(v),
                 };
             }
@@ -80,7 +80,7 @@ fn ask(file: &[u8], work: &mut [u32]) -> Lit
         at = next;
     }
     Lit {
-        lamp: Lamp::No,
+        signal: Signal::No,
         visits: visits,
     }
 }
@@ -92,7 +92,7 @@ fn look(file: &[u8], work: &mut [u32]) -> Lit
     let r = reading::read_file(file, work, true);
     match r {
         Read::Refused(e) => Lit {
-            lamp: Lamp::Refused(e),
+            signal: Signal::Refused(e),
             visits: 0,
         },
         Read::Accepted => ask(file, work),
@@ -108,12 +108,12 @@ pub fn lamp(file: &[u8], work: &mut [u32]) -> Lit
 }
 
 // The line that the program prints: 0d with 01 or 00, or the refusal's.
-pub fn line(l: Lamp) -> [u8; 5]
-    ensures { λ r. ⌜ r ≡ lampLine (lampOf l) ⌝ }
+pub fn line(l: Signal) -> [u8; 5]
+    ensures { λ r. ⌜ r ≡ lampLine (signalOf l) ⌝ }
 {
     match l {
-        Lamp::Yes => [48, 100, 48, 49, 10],
-        Lamp::No => [48, 100, 48, 48, 10],
-        Lamp::Refused(e) => desk::refusal_line(e),
+        Signal::Yes => [48, 100, 48, 49, 10],
+        Signal::No => [48, 100, 48, 48, 10],
+        Signal::Refused(e) => desk::refusal_line(e),
     }
 }

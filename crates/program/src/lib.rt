@@ -69,7 +69,7 @@ pub fn lamp_line(file: &[u8], work: &mut [u32; 16384]) -> [u8; 5]
     ensures { λ r. ⌜ PrintsLamp (now (file .entry)) (now (work .exit)) r ⌝ }
 {
     let l = lamp::lamp(file, work);
-    lamp::line(l.lamp)
+    lamp::line(l.signal)
 }
 
 // One byte more is read than a file may have, so that a longer input is refused.

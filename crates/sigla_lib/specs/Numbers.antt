@@ -9,8 +9,8 @@ use Rattle.desk.specs.declared.Outcome.{Outcome}
 use Rattle.desk.specs.declared.Outcome.the-variants as Outcome
 use Rattle.desk.specs.declared.Desked.{Desked}
 use Rattle.desk.specs.Contracts.{ChecksFile, ChecksAt}
-use Rattle.lamp.specs.declared.Lamp.{Lamp}
-use Rattle.lamp.specs.declared.Lamp.the-variants as Lamp
+use Rattle.lamp.specs.declared.Signal.{Signal}
+use Rattle.lamp.specs.declared.Signal.the-variants as Signal
 use Rattle.lamp.specs.declared.Lit.{Lit}
 use Rattle.lamp.specs.Contracts.{Lights}
 use Rattle.converters.specs.Contracts.{Widens, Narrows}
@@ -31,21 +31,21 @@ pub record CallsCheck (f w out w′ out′ : List ℕ) (r : ℕ) : Type 0 where
   pub checks : ChecksFile f w out w′ out′ outcome
   pub number : r ≡ outcomeNumber outcome
 
-abbrev pub litBit : Lamp → ℕ
-litBit Lamp.Yes = 1
-litBit Lamp.No = 0
-litBit (Lamp.Refused e) = 0
+abbrev pub litBit : Signal → ℕ
+litBit Signal.Yes = 1
+litBit Signal.No = 0
+litBit (Signal.Refused e) = 0
 
-abbrev pub lampNumber : Lamp → ℕ
-lampNumber Lamp.Yes = 0
-lampNumber Lamp.No = 0
-lampNumber (Lamp.Refused e) = number (refusal e)
+abbrev pub lampNumber : Signal → ℕ
+lampNumber Signal.Yes = 0
+lampNumber Signal.No = 0
+lampNumber (Signal.Refused e) = number (refusal e)
 
 pub record CallsLamp (f w w′ : List ℕ) (bit r : ℕ) : Type 0 where
   pub lit : Lit
   pub lights : Lights f w w′ lit
-  pub shown : bit ≡ litBit (lit .lamp)
-  pub number : r ≡ lampNumber (lit .lamp)
+  pub shown : bit ≡ litBit (lit .signal)
+  pub number : r ≡ lampNumber (lit .signal)
 
 pub record CallsWiden (f w out w′ out′ : List ℕ) (r : ℕ) : Type 0 where
   pub outcome : Outcome

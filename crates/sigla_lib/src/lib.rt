@@ -4,7 +4,7 @@ ghost use Rattle.sigla_lib.specs.Numbers.{CallsCheck, CallsLamp, CallsWi
 ghost use mathlib.Core.Path.{_≡_};
 use cabinet::Allowance;
 use desk::Outcome;
-use lamp::Lamp;
+use lamp::Signal;
 use reading::Refusal;
 
 fn number(r: Outcome) -> u8
@@ -32,17 +32,17 @@ pub extern "C" fn sigla_lamp(file: &[u8], work: &mut [u32], lit: &mut u32) -> u8
     ensures { λ r. ⌜ CallsLamp (now (file .entry)) (now (work .entry)) (now (work .exit)) (now (lit .exit)) r ⌝ }
 {
     let l = lamp::lamp(file, work);
-    let shown = l.lamp;
+    let shown = l.signal;
     match shown {
-        Lamp::Yes => {
+        Signal::Yes => {
             *lit = 1;
             0
         }
-        Lamp::No => {
+        Signal::No => {
             *lit = 0;
             0
         }
-        Lamp::Refused(e) => {
+        Signal::Refused(e) => {
             *lit = 0;
             desk::refusal_number(e)
         }
