@@ -51,6 +51,11 @@ extern "C" {
  * (docs/FORMAT.md has the files, the answers and the refusals). */
 uint8_t sigla_check(const uint8_t *file, size_t file_len, uint32_t *work, size_t work_len, uint8_t *answer, size_t answer_len);
 
+/* Whether a query of the file has a diagnostic: `lit` is 1 or 0. Each query runs until its first one, in the file's order, and no answer is
+ * written. Else the refusal's number, 1 to 11 or 13, and `lit` is 0; 11 only where no diagnostic came first. The work slice is zero
+ * throughout after each. */
+uint8_t sigla_lamp(const uint8_t *file, size_t file_len, uint32_t *work, size_t work_len, uint32_t *lit);
+
 /* The two editions of files: predicate references of 2 bytes (narrow) and of 4 (wide), which alone the check reads. 0: the file stands
  * in `out` in the other edition, zeros after it. Else 1 to 10 and 13 of the edition that is read, 12, and 14 for a number above
  * 65,535 on the way back. */

@@ -124,6 +124,14 @@ def _sliced(call, first, file, words, length):
     return bytes(out).split(b"\0", 1)[0]
 
 
+def lamp(file, words=WORDS):
+    """Whether a query of a file has a diagnostic, each asked until its first; raises Refused."""
+    work = (ctypes.c_uint32 * words)()
+    lit = ctypes.c_uint32()
+    _told(_load().sigla_lamp(bytes(file), ctypes.c_size_t(len(file)), work, ctypes.c_size_t(words), ctypes.byref(lit)))
+    return lit.value == 1
+
+
 def widen(file, words=WORDS, length=BYTES):
     """A file of the narrow edition in the wide one; raises Refused."""
     return _sliced(_load().sigla_widen, [], file, words, length)
@@ -141,7 +149,7 @@ def _load():
     global _library
     if _library is None:
         _library = ctypes.CDLL(os.environ.get("SIGLA_SO", "libsigla.so"))
-        for name in ("check", "widen", "narrow", "tally", "set_up", "ceiling", "new_day", "check_at"):
+        for name in ("check", "lamp", "widen", "narrow", "tally", "set_up", "ceiling", "new_day", "check_at"):
             getattr(_library, f"sigla_{name}").restype = ctypes.c_uint8
     return _library
 

@@ -43,6 +43,14 @@ class Calls(unittest.TestCase):
         tally.add(2_500, 7)
         self.assertEqual((tally.units, tally.cents, tally.remainder), (2, 14, 500))
 
+    def test_the_lamp(self):
+        for name, lit in [("infinite.hex", True), ("form.hex", True)]:
+            self.assertEqual(sigla.lamp((SAMPLES / name).read_bytes()), lit)
+        self.assertFalse(sigla.lamp(b"01020020\n05000000000000000000\n060000\n"))
+        with self.assertRaises(sigla.Refused) as refused:
+            sigla.lamp(b"", words=3)
+        self.assertEqual(refused.exception.number, 1)
+
     def test_refusals(self):
         for file, number in [(b"", 4), (b"\n", 3), (b"0" * 65537, 2)]:
             with self.assertRaises(sigla.Refused) as refused:

@@ -35,6 +35,7 @@ pub const QUERIES: usize = 64;
 
 unsafe extern "C" {
     fn sigla_check(file: *const u8, file_len: usize, work: *mut u32, work_len: usize, answer: *mut u8, answer_len: usize) -> u8;
+    fn sigla_lamp(file: *const u8, file_len: usize, work: *mut u32, work_len: usize, lit: *mut u32) -> u8;
     fn sigla_widen(file: *const u8, file_len: usize, work: *mut u32, work_len: usize, out: *mut u8, out_len: usize) -> u8;
     fn sigla_narrow(file: *const u8, file_len: usize, work: *mut u32, work_len: usize, out: *mut u8, out_len: usize) -> u8;
 }
@@ -70,6 +71,15 @@ pub fn check(file: &[u8], work: &mut [u32], answer: &mut [u8]) -> Result<usize, 
         None => Ok(length(answer)),
         Some(refusal) => Err(refusal),
     }
+}
+
+/// Whether a query of a file has a diagnostic. Each query runs until its first one, in the file's order, so this is quicker than
+/// [`check`] where there is one; [`Refusal::TooManyVisits`] only where none came first. The work slice is zero throughout afterwards.
+pub fn lamp(file: &[u8], work: &mut [u32]) -> Result<bool, Refusal> {
+    let mut lit = 0u32;
+    // SAFETY: as of `check`.
+    let number = unsafe { sigla_lamp(file.as_ptr(), file.len(), work.as_mut_ptr(), work.len(), &mut lit) };
+    Refusal::from_number(number).map_or(Ok(lit == 1), Err)
 }
 
 /// Types the queries of a file with slices of its own, and parses the answer.

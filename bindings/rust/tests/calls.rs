@@ -1,6 +1,6 @@
 //! The call on the sample query and the sample form, on refusals, and on slices of other lengths.
 
-use sigla::{QUERIES, Refusal, STACK, WORDS, by_query, check};
+use sigla::{QUERIES, Refusal, STACK, WORDS, by_query, check, lamp};
 
 const SAMPLE: &[u8] = include_bytes!("../../../samples/infinite.hex");
 const FORM: &[u8] = include_bytes!("../../../samples/form.hex");
@@ -177,4 +177,21 @@ fn desks_share_a_pool() {
     assert_eq!(poor.ceiling(0), Ok(2));
     assert_eq!(sigla::Group::set_up(1, &[1], &[0]), Err(Refusal::OutsideTheRules));
     assert_eq!(sigla::Group::set_up(0, &[1 << 28; 16], &[1 << 28; 16]), Err(Refusal::OutsideTheRules));
+}
+
+#[test]
+fn the_lamp_shows_whether_there_is_a_diagnostic() {
+    let (mut work, mut answer) = lent();
+    for (file, lit) in [(DEEPEST, None), (FORM, Some(true)), (&b"01020020\n05000000000000000000\n060000\n"[..], Some(false))] {
+        let n = check(file, &mut work, &mut answer).expect("the file is accepted");
+        let has = answer[..n].split(|&byte| byte == b'\n').any(|line| line.starts_with(b"08"));
+        work.fill(u32::MAX);
+        assert_eq!(lamp(file, &mut work), Ok(has));
+        assert!(work.iter().all(|&word| word == 0));
+        assert!(lit.is_none_or(|lit| lit == has));
+    }
+    work.fill(u32::MAX);
+    assert_eq!(lamp(FORM, &mut work[..WORDS - 1]), Err(Refusal::WorkTooShort));
+    assert!(work[..WORDS - 1].iter().all(|&word| word == 0));
+    assert_eq!(lamp(b"", &mut work), Err(Refusal::MisplacedKind));
 }

@@ -74,7 +74,7 @@ reports d c = diagnosticLines (messageText (d .names) (d .schema)) (reversed (c 
 answers : {w out out′ : List ℕ} {r : Wrote} → length out′ ≡ length out
     → ((f : List ℕ) (T : Rows) (d : Described) (c : Checker) → Runs f w T d c → Lines w out (reports d c)
     → Writes out 0 (nodes c ++ reports d c) out′ r) → WritesLines w out out′ r
-answers long go = record { is = λ f T d c R L ceiling ty t q. writes-as (ap (linesOf d) (typed-is ceiling ty c t q)) (go f T d c R L); long = long }
+answers long go = record { is = λ f T d c R L ceiling ty t q. writes-as (ap (linesOf d) (typed-is ceiling ty c t q)) (go f T d c R (L .lines)); long = long }
 
 module _ {w out : List ℕ} {full : ℕ} (p : full ≡ getD w FULL 0) where
   pub answer-over : ¬ (full ≡ 0) → WritesLines w out out Full

@@ -46,13 +46,13 @@ pub record WritesNodeLines (w out : List ℕ) (at : ℕ) (out′ : List ℕ) (r 
 -- than it (`whole-over` in writer/proofs/Writing.antt), and else begins with it, and it ends where it is said (`whole-there`). The lines of
 -- the nodes and of the diagnostics:
 pub record WritesLines (w out out′ : List ℕ) (r : Wrote) : Type 0 where
-  pub is : (f : List ℕ) (T : Rows) (d : Described) (c : Checker) → Runs f w T d c → Told d w out c
+  pub is : (f : List ℕ) (T : Rows) (d : Described) (c : Checker) → Runs f w T d c → Told d w out c 0
       → (ceiling : ℕ) (ty : Tree.Ty) (t : Typed) → checked ceiling (goes ty c) ≡ typed t → Writes out 0 (nodeLines 0 (t .tys) ++ diagnosticLines (messageText (d .names) (d .schema)) (t .diagnostics)) out′ r
   pub long : length out′ ≡ length out
 
 -- The whole answer, where the visits are those of the run.
 pub record WritesAnswer (w out : List ℕ) (visits : ℕ) (out′ : List ℕ) (r : Wrote) : Type 0 where
-  pub is : (f : List ℕ) (T : Rows) (d : Described) (c : Checker) → Runs f w T d c → Told d w out c
+  pub is : (f : List ℕ) (T : Rows) (d : Described) (c : Checker) → Runs f w T d c → Told d w out c 0
       → (ceiling : ℕ) (ty : Tree.Ty) (t : Typed) → checked ceiling (goes ty c) ≡ typed t
       → visits ≡ t .visits → Writes out 0 (answerLines (messageText (d .names) (d .schema)) t) out′ r
   pub long : length out′ ≡ length out

@@ -34,8 +34,8 @@ use Rattle.tree.specs.declared.Items.{Items}
 use Rattle.tree.specs.declared.Node.{Node}
 use Rattle.tree.specs.declared.Node.the-variants as Node
 use Rattle.tree.specs.Nodes.{fieldW, fieldOf, fieldsFrom, kindW, IsNode}
-use Rattle.steps.specs.declared.Done.{Done}
-use Rattle.steps.specs.declared.Done.the-variants as Done
+use Rattle.state.specs.declared.Done.{Done}
+use Rattle.state.specs.declared.Done.the-variants as Done
 use Rattle.steps.specs.Ends.{done, Ends}
 use Rattle.steps.specs.Loads.{Load, only, both, Holds, checks, visits, Begins, Beside}
 use Rattle.steps.specs.Contracts.{nodesOf, Fine, FineRecord, FineUnion, Notes, Rejects, Named, AllNamed, Node-at}
@@ -200,10 +200,10 @@ record-other {n = n} {t = t} h U = record { is = λ d k fs z at q. record { is =
 reject-fits : (d : Described) (k n : ℕ) → Holds (only one-diagnostic) (checks (nodesOf d) k n)
 reject-fits d k n = record { grade = omega (arith, size-pos (nodesOf d) k n); records = omega arith; fields = omega arith }
 
-pub rejected : {f w ou w′ ou′ : List ℕ} {n left : ℕ} {T : Rows} {d : Described} {c : Checker} (k : ℕ) (m : Message) → OkMessage w m → Rejects f w ou n m left w′ ou′ → n < length (nodesOf d) → Begins f w ou T d (checks (nodesOf d) k n) left c
-    → Ends f w ou w′ ou′ T d (checks (nodesOf d) k n .records) (checks (nodesOf d) k n .fields) (done (Done.On left)) (reject (d .schema) (nodesOf d) n (said T (c .state .subst) m) c)
+pub rejected : {f w ou w′ ou′ : List ℕ} {n left : ℕ} {T : Rows} {d : Described} {c : Checker} {r : Done} (k : ℕ) (m : Message) → OkMessage w m → Rejects f w ou n m left w′ ou′ r → n < length (nodesOf d) → Begins f w ou T d (checks (nodesOf d) k n) left c
+    → Ends f w ou w′ ou′ T d (checks (nodesOf d) k n .records) (checks (nodesOf d) k n .fields) (done r) (reject (d .schema) (nodesOf d) n (said T (c .state .subst) m) c)
 rejected {n = n} {T = T} {d = d} {c = c} k m ok R there s =
-    ends-wider (omega arith) (omega arith) (silent-on (R d there .is T c (begins-part (only one-diagnostic) (checks (nodesOf d) k n) (reject-fits d k n) s) ok))
+    ends-wider (omega arith) (omega arith) (R d there .is T c (begins-part (only one-diagnostic) (checks (nodesOf d) k n) (reject-fits d k n) s) ok)
 
 -- not one field
 arity : (d : Described) (b : Walk) (n : ℕ) (fs : List Field) (row : Tree.Row) (c : Checker) → length fs ≢ 1 → checkUnion (d .schema) (nodesOf d) b n fs row c ≡ reject (d .schema) (nodesOf d) n (Diag.notOneAlternative (length fs)) c
@@ -217,7 +217,7 @@ unfolding fieldsFrom
 fields-length f l i zero = refl
 fields-length f l i (suc n) = ap suc (fields-length f l (i + 1) n)
 
-pub union-arity : {f w ou w′ ou′ : List ℕ} {n e left : ℕ} {l : Items} → l .n ≢ 1 → Rejects f w ou n (Message.NotOneAlternative (l .n)) left w′ ou′ → ChecksUnion f w ou n l e left w′ ou′ (Done.On left)
+pub union-arity : {f w ou w′ ou′ : List ℕ} {n e left : ℕ} {l : Items} {r : Done} → l .n ≢ 1 → Rejects f w ou n (Message.NotOneAlternative (l .n)) left w′ ou′ r → ChecksUnion f w ou n l e left w′ ou′ r
 union-arity {f = f} {n = n} {e = e} {l = l} h R = record {
   is = λ d k fs z at q. record {
     is = λ T c s fine.
@@ -248,7 +248,7 @@ unfolding fieldValues
 one-named x h = h .0
 
 module _ {f w ou : List ℕ} {n e left : ℕ} {l : Items} (one : l .n ≡ 1) {found : Found} (F : FindsName w e (fieldW f l 0 .name) found) where
-  pub union-unknown : {w′ ou′ : List ℕ} → found ≡ Found.Nothing → Rejects f w ou n (Message.NoAlternative (fieldW f l 0 .name)) left w′ ou′ → ChecksUnion f w ou n l e left w′ ou′ (Done.On left)
+  pub union-unknown : {w′ ou′ : List ℕ} {r : Done} → found ≡ Found.Nothing → Rejects f w ou n (Message.NoAlternative (fieldW f l 0 .name)) left w′ ou′ r → ChecksUnion f w ou n l e left w′ ou′ r
   unfolding checkUnion checkAlternative fieldOf
   union-unknown g R = record {
     is = λ d k fs z at q. record {

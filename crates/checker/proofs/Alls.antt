@@ -19,8 +19,8 @@ use Rattle.tree.specs.declared.Items.{Items}
 use Rattle.tree.specs.Nodes.{itemW, itemsFrom}
 use Rattle.steps.specs.declared.Typed.{Typed}
 use Rattle.steps.specs.declared.Typed.the-variants as Typed
-use Rattle.steps.specs.declared.Done.{Done}
-use Rattle.steps.specs.declared.Done.the-variants as Done
+use Rattle.state.specs.declared.Done.{Done}
+use Rattle.state.specs.declared.Done.the-variants as Done
 use Rattle.steps.specs.Ends.{typed, done, Ends}
 use Rattle.steps.specs.Loads.{Load, only, both, Holds, infers, visits, Begins, Beside}
 use Rattle.steps.specs.Contracts.{nodesOf, Fine, UnifiesAt, Named, AllNamed}

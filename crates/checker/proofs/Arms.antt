@@ -11,7 +11,7 @@ use Rattle.unification.specs.Bindings as Bindings
 use Rattle.unification.proofs.Tests.{clash}
 use Rattle.unification.proofs.Sides.{declared-side}
 use Rattle.cells.specs.declared.Ty.{Ty}
-use Rattle.cells.specs.declared.Ty.the-variants.{Int, Str, Fact, Var}
+use Rattle.cells.specs.declared.Ty.the-variants.{Int, Fact, Var}
 use Rattle.cells.specs.declared.Bound.{Bound}
 use Rattle.cells.specs.declared.Bound.the-variants.{To, Free}
 use Rattle.cells.specs.Stands.{Rows, tree, boundTree}
@@ -23,7 +23,7 @@ use Rattle.meaning.specs.Conditions.{maxNames}
 use Rattle.meaning.specs.Sound.{Sound}
 use Rattle.meaning.proofs.Lists.{all-at, all-map}
 use Rattle.meaning.specs.File.{Described}
-use Rattle.meaning.specs.Check.{Checker, goes, Does, andThen, repr, Walk, keyTy, accessOf, access, selectOf, select, fact, inferKind, disjunction, freshVarId, fuzzyDistance, fuzzyTerm}
+use Rattle.meaning.specs.Check.{Checker, goes, Does, andThen, repr, Walk, keyTy, accessOf, access, selectOf, select, fact, inferKind, disjunction, freshVarId}
 use Rattle.meaning.specs.Weights.{sumOf, recordsOf, fieldsOf}
 use Rattle.meaning.specs.Grades.{unknowns, no-thing, one-diagnostic, one-unknown}
 use Rattle.meaning.proofs.Steps.{Nothing, freshVarId-meets}
@@ -35,14 +35,14 @@ use Rattle.tree.specs.declared.Stmts.{Stmts}
 use Rattle.tree.specs.Nodes.{fieldsFrom, itemsFrom, stmtsW, kindW, IsNode}
 use Rattle.steps.specs.declared.Typed.{Typed}
 use Rattle.steps.specs.declared.Typed.the-variants as Typed
-use Rattle.steps.specs.declared.Done.{Done}
-use Rattle.steps.specs.declared.Done.the-variants as Done
+use Rattle.state.specs.declared.Done.{Done}
+use Rattle.state.specs.declared.Done.the-variants as Done
 use Rattle.steps.specs.Loads.{Load, only, both, Holds, infers, checks, visits, parts, Begins}
-use Rattle.steps.specs.Contracts.{nodesOf, Fine, Freshens, Fuzzes, KeyIs, OnType}
+use Rattle.steps.specs.Contracts.{nodesOf, Fine, Freshens, fuzzy, Fuzzes, KeyIs, OnType}
 use Rattle.checker.specs.Contracts.{below, Infers, InfersKind, InfersRecord, InfersAll, Subqueries, Facts, allWith, Checks}
-use Rattle.steps.proofs.Sequel.{andThen-assoc, begins-part, ends-wider}
+use Rattle.steps.proofs.Sequel.{begins-part, ends-wider}
 use Rattle.steps.proofs.Reading.{kind-read}
-use Rattle.steps.proofs.Results.{type-here, then-typed, stop-typed, then-done, stop-done, then-numbered, silent-typed}
+use Rattle.steps.proofs.Results.{type-here, then-typed, stop-typed, then-done, stop-done, then-numbered}
 use Rattle.checker.proofs.Inferring.{good, arm, ok-unknown}
 
 -- ---- A type in hand followed to its head
@@ -174,10 +174,9 @@ pub term-there : {d : Described} {n x y : ℕ} → Sound d → n < length (nodes
 unfolding nodeAt exprNames
 term-there {d} {n} s there e = (rw e at (all-at (λ m. Below (length (d .schema .characters)) (exprNames (m .kind))) (nodesOf d) n noNode (s .namesBelow) there)) .0
 
-pub fuzzy-arm : {f w ou w′ ou′ : List ℕ} {n left x y : ℕ} → IsNode f w n (Node.Fuzzy x y) → Fuzzes f w ou n x y left w′ ou′ → InfersKind f w ou n left w′ ou′ (Typed.Got Str left)
-unfolding kindW inferKind exprNodes recordsOf fieldsOf sumOf
+pub fuzzy-arm : {f w ou w′ ou′ : List ℕ} {n left x y : ℕ} {r : Typed} → IsNode f w n (Node.Fuzzy x y) → Fuzzes f w ou n x y left w′ ou′ r → InfersKind f w ou n left w′ ou′ r
+unfolding kindW inferKind exprNodes recordsOf fieldsOf sumOf fuzzy
 fuzzy-arm {n = n} {x = x} {y = y} i F = arm i (λ z e. clash (cc e)) (λ d k T c at named s.
     let two = only (record { nodes = λ z. 0; unknowns = 0; diagnostics = 2 }) in
     let s₁ = begins-part two (parts (nodesOf d) k (ExprKind.Fuzzy x y)) (record { grade = omega arith; records = omega arith; fields = omega arith }) s in
-    rw (← andThen-assoc (fuzzyDistance (d .schema) (nodesOf d) n y c) (λ u. fuzzyTerm (d .schema) (nodesOf d) n x) (λ u b. goes (Tree.leaf Tree.String) b))
-    (silent-typed Str tt (F d (at .there) (term-there (s .sound) (at .there) (kind-read s (at .there) i)) .is T c s₁ tt)))
+    F .is d (at .there) (term-there (s .sound) (at .there) (kind-read s (at .there) i)) .is T c s₁ tt)

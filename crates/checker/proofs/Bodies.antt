@@ -39,15 +39,15 @@ use Rattle.tree.specs.declared.Stmt.the-variants as Stmt
 use Rattle.tree.specs.Nodes.{kindW, IsNode, statement, stmtW, stmtSizeW, stmtsFrom, stmtsW}
 use Rattle.steps.specs.declared.Typed.{Typed}
 use Rattle.steps.specs.declared.Typed.the-variants as Typed
-use Rattle.steps.specs.declared.Done.{Done}
-use Rattle.steps.specs.declared.Done.the-variants as Done
+use Rattle.state.specs.declared.Done.{Done}
+use Rattle.state.specs.declared.Done.the-variants as Done
 use Rattle.steps.specs.Ends.{typed, done, Ends}
 use Rattle.steps.specs.Loads.{Load, only, both, Holds, infers, visits, parts, Begins}
 use Rattle.steps.specs.Contracts.{nodesOf, onlyW, Cuts, Named, AllNamed, Asks}
 use Rattle.checker.specs.Contracts.{below, Infers, Generates, Sides, Binds, Denies, Compares, NotYets, Destructures, BindsVariable, States, StatesAll, Subqueries}
 use Rattle.checker.proofs.Within.{BadTargets, plainly}
 use Rattle.steps.proofs.Sequel.{begins-part, ends-wider}
-use Rattle.steps.proofs.Results.{on-here, then-typed, stop-typed, then-done, stop-done, only-ends, silent-typed}
+use Rattle.steps.proofs.Results.{on-here, then-typed, stop-typed, then-done, stop-done, only-ends, silent-on, done-typed}
 use Rattle.checker.proofs.Looping.{Midway, mid-start, mid-ends, mid-led, mid-after}
 use Rattle.steps.proofs.Reading.{kind-read, form-read, name-small}
 use Rattle.checker.proofs.Inferring.{good}
@@ -378,7 +378,7 @@ module _ {f w ou w₁ ou₁ : List ℕ} {head left : ℕ} {body : Stmts} {x : Do
     subquery-ends {t = t} {v} I got z C = subquery-then (λ d k nh T₁ c b len up s₁.
         then-typed (infers (nodesOf d) k head) (only no-thing) (infers (nodesOf d) k head) (record { grade = omega arith; records = omega arith; fields = omega arith }) (below d k .infer head b)
         (λ ty e. andThen (truncateEnv (length (c .env)) e) (λ u z. goes ty z)) got s₁ (λ y. good s₁ k .infer head b (s₁ .orderly) y) (λ s₂. I .is d k nh .is T₁ b s₂ tt)
-        (λ T₂ e a fine. silent-typed t (fine .ok) (rw (len ∙ sym z) (C d v .is T₂ e (a .begins) (omega (arith, len, z, up, made-env _ b e (a .made)))))))
+        (λ T₂ e a fine. done-typed t (fine .ok) (silent-on (rw (len ∙ sym z) (C d v .is T₂ e (a .begins) (omega (arith, len, z, up, made-env _ b e (a .made))))))))
 
     pub subquery-head-out : {w₂ ou₂ : List ℕ} {r : Typed} → Infers f w₁ ou₁ head l w₂ ou₂ r → r ≡ Typed.Out → Subqueries f w ou head body left w₂ ou₂ Typed.Out
     subquery-head-out I none = subquery-then (λ d k nh T₁ c b len up s₁.

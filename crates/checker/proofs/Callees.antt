@@ -24,19 +24,19 @@ use Rattle.tree.specs.Nodes.{IsNode, itemW, fieldW, stmtW, stmtSizeW}
 use Rattle.tree.proofs.Below.{stmt-size}
 use Rattle.tree.proofs.Steps.{field-lower, item-lower, LowerStmt, stmt-lower}
 use Rattle.steps.specs.declared.Typed.{Typed}
-use Rattle.steps.specs.declared.Done.{Done}
-use Rattle.steps.specs.Contracts.{nodesOf, Rejects, Notes, Freshens, Reports, RollsTo, Cuts, Fuzzes, KeyIs, OnType}
-use Rattle.steps.specs.Outside.{reportMessage, keyTyW, RejectedIf, farW, charactersW, longW, Rewinds, KeyOf, ValueOf}
+use Rattle.state.specs.declared.Done.{Done}
+use Rattle.steps.specs.Contracts.{nodesOf, Rejects, Notes, Freshens, Reports, RollsTo, Cuts, KeyIs, OnType}
+use Rattle.steps.specs.Outside.{reportMessage, keyTyW, Rewinds, KeyOf, ValueOf}
 use Rattle.steps.proofs.Ending.{rejects, notes, freshens}
 use Rattle.steps.proofs.Looking.{key-is}
-use Rattle.steps.proofs.Besides.{reports, rolls, cuts, fuzzes}
+use Rattle.steps.proofs.Besides.{reports, rolls, cuts}
 use Rattle.checker.specs.Contracts.{Infers, Checks, Generates, Mentions}
 use Rattle.checker.proofs.Alls.{Turn}
 
 pub as-node : {f w : List ℕ} {n : ℕ} {r nd : Node} → r ≡ nd → IsNode f w n r → IsNode f w n nd
 as-node {f} {w} {n} e i = subst (λ (x : Node). IsNode f w n x) e i
 
-pub rejects-by : {f w ou w′ ou′ : List ℕ} {n left : ℕ} {m : Message} → Rejected f w ou n m w′ ou′ → Rejects f w ou n m left w′ ou′
+pub rejects-by : {f w ou w′ ou′ : List ℕ} {n left : ℕ} {m : Message} {r : Done} → Rejected f w ou n m left w′ ou′ r → Rejects f w ou n m left w′ ou′ r
 rejects-by {f} {w} {n = n} {left = left} {m = m} x = rejects f w n m left x
 
 pub notes-by : {f w ou w′ : List ℕ} {n left : ℕ} {t : Ty} → w′ ≡ annotateW w n t → Notes f w ou n t left w′ ou
@@ -46,7 +46,7 @@ pub freshens-by : {f w ou w′ : List ℕ} {left x : ℕ} → (x ≡ getD w UNKN
 freshens-by {f} {w} {ou} {w′} {left} {x} e =
     subst (λ (v : List ℕ). Freshens f w ou left v ou x) (sym (e .1)) (subst (λ (y : ℕ). Freshens f w ou left (freshW w) ou y) (sym (e .0)) (freshens f w left))
 
-pub reports-by : {f w ou w′ ou′ : List ℕ} {n left : ℕ} (err : TyError) → Rejected f w ou n (reportMessage err) w′ ou′ → Reports f w ou n err left w′ ou′
+pub reports-by : {f w ou w′ ou′ : List ℕ} {n left : ℕ} {r : Done} (err : TyError) → Rejected f w ou n (reportMessage err) left w′ ou′ r → Reports f w ou n err left w′ ou′ r
 reports-by {f} {w} {n = n} {left = left} err x = reports f w n err left x
 
 pub rolls-by : {f w ou w′ : List ℕ} {undo env u e : ℕ} → undo ≡ u → env ≡ e → Rewinds w undo env w′ → RollsTo f w ou u e w′ ou
@@ -55,9 +55,6 @@ rolls-by {f} {w} {ou} {w′} {undo} {env} {u} {e} p q r =
 
 pub cuts-by : {f w ou w′ : List ℕ} {scope : ℕ} → w′ ≡ set w ENV-LEN scope → Cuts f w ou scope w′ ou
 cuts-by {f} {w} {ou} {w′} {scope} e = subst (λ (v : List ℕ). Cuts f w ou scope v ou) (sym e) (cuts f w scope)
-
-pub fuzzes-by : {f w ou w₁ ou₁ w₂ ou₂ : List ℕ} {n left : ℕ} (term distance : ℕ) → RejectedIf f w ou n (Message.DistanceOutside distance) w₁ ou₁ (farW w distance) → RejectedIf f w₁ ou₁ n (Message.TermTooLong (charactersW w₁ term)) w₂ ou₂ (longW w₁ term) → Fuzzes f w ou n term distance left w₂ ou₂
-fuzzes-by {f} {w} {n = n} {left = left} term distance p q = fuzzes f w n term distance left p q
 
 pub key-by : {f w : List ℕ} {p : ℕ} {r : Bound} → r ≡ keyTyW w p → KeyIs f w p r
 key-by {f} {w} {p} e = subst (λ (b : Bound). KeyIs f w p b) (sym e) (key-is f w p)
@@ -101,8 +98,8 @@ pub finds-at : {w : List ℕ} {c : ℕ} {x y : Field} {found : Found} → x ≡ 
 finds-at {w} {c} {found = found} q u = subst (λ (z : Field). FindsName w c (z .name) found) q u
 
 -- the alternative that the field names
-pub unknown-at : {f w ou w′ ou′ : List ℕ} {n left : ℕ} {x y : Field} → x ≡ y → Rejected f w ou n (Message.NoAlternative (x .name)) w′ ou′ → Rejects f w ou n (Message.NoAlternative (y .name)) left w′ ou′
-unknown-at {f} {w} {ou} {w′} {ou′} {n} {left} q u = rejects-by (subst (λ (z : Field). Rejected f w ou n (Message.NoAlternative (z .name)) w′ ou′) q u)
+pub unknown-at : {f w ou w′ ou′ : List ℕ} {n left : ℕ} {r : Done} {x y : Field} → x ≡ y → Rejected f w ou n (Message.NoAlternative (x .name)) left w′ ou′ r → Rejects f w ou n (Message.NoAlternative (y .name)) left w′ ou′ r
+unknown-at {f} {w} {ou} {w′} {ou′} {n} {left} {r} q u = rejects-by (subst (λ (z : Field). Rejected f w ou n (Message.NoAlternative (z .name)) left w′ ou′ r) q u)
 
 pub size-small : (f : List ℕ) (at : ℕ) {s : ℕ} → s ≡ stmtSizeW f at → (6 ≤ s) × (s ≤ 10)
 size-small f at q = rw q (stmt-size f at)

@@ -35,8 +35,8 @@ use Rattle.state.specs.Runs.{Runs}
 use Rattle.state.proofs.Scoping.{runs-env-length}
 use Rattle.steps.specs.declared.Typed.{Typed}
 use Rattle.steps.specs.declared.Typed.the-variants as Typed
-use Rattle.steps.specs.declared.Done.{Done}
-use Rattle.steps.specs.declared.Done.the-variants as Done
+use Rattle.state.specs.declared.Done.{Done}
+use Rattle.state.specs.declared.Done.the-variants as Done
 use Rattle.steps.specs.Ends.{Result, typed, done, silent, unified, IsUnified, Gone, Ends, went, spent}
 use Rattle.steps.specs.Loads.{Load, only, both, Holds, infers, checks, Begins}
 use Rattle.steps.specs.Contracts.{nodesOf, Fine, UnifiesTo, Reports, RollsTo, Named, Node-at}
@@ -56,7 +56,7 @@ same-load : (G : Load) → Holds (both G (only no-thing)) G
 same-load G = record { grade = omega arith; records = omega arith; fields = omega arith }
 
 module _ {f w ou w₂ ou₂ w₃ ou₃ : List ℕ} {T : Rows} {d : Described} {left v : ℕ} {c b : Checker} (G : Load) {A : Type 0} {E : Result A} {a : A} (P : A → Checker → Type 0)
-    (s : Begins f w ou T d G left c) (g : Gone f w ou w₂ ou₂ T d (G .records) (G .fields) E a b) (x : Went P (G .grade) c a b) (e : b .state .left ≡ v)
+    (s : Begins f w ou T d G left c) (g : Gone f w ou w₂ ou₂ T d (G .records) (G .fields) E a b 0) (x : Went P (G .grade) c a b) (e : b .state .left ≡ v)
     (R : RollsTo f w₂ ou₂ (getD w UNDO-LEN 0) (getD w ENV-LEN 0) w₃ ou₃) where
   -- The code's rollback, from the end of the stretch.
   rolled-back : Ends f w₂ ou₂ w₃ ou₃ (g .T′) d 0 0 (silent v) (rollback (markOf c) b)
@@ -140,7 +140,7 @@ module _ {f w ou w₁ ou₁ : List ℕ} {n left : ℕ} {t : Ty} {r : Typed} (I :
       };
     }
       where
-        succeeded : {T₂ : Rows} (d : Described) (n : ℕ) (m : Mark) (o : Option Unify.TyError) (e : Checker) → IsUnified w₂ x T₂ o (e .state .left) → Runs f w₂ T₂ d e → Told d w₂ ou₂ e → Ends f w₂ ou₂ w₂ ou₂ T₂ d 0 0 (done (Done.On v)) (following d n m o e)
+        succeeded : {T₂ : Rows} (d : Described) (n : ℕ) (m : Mark) (o : Option Unify.TyError) (e : Checker) → IsUnified w₂ x T₂ o (e .state .left) → Runs f w₂ T₂ d e → Told d w₂ ou₂ e 0 → Ends f w₂ ou₂ w₂ ou₂ T₂ d 0 0 (done (Done.On v)) (following d n m o e)
         succeeded d n m none e i runs told = on-here runs told (cc (z, i))
         succeeded d n m (some err) e i runs told = clash (cc (z, i .1))
 
@@ -159,10 +159,10 @@ module _ {f w ou w₁ ou₁ : List ℕ} {n left : ℕ} {t : Ty} {r : Typed} (I :
         unsucceeded R (some err) v i = clash (cc (z, i .1))
 
     -- The failure, rolled back and reported.
-    module _ {w₃ ou₃ w₄ ou₄ : List ℕ} {err : TyError} {v : ℕ} (z : x ≡ Unified.Bad err v) (R : RollsTo f w₂ ou₂ (getD w UNDO-LEN 0) (getD w ENV-LEN 0) w₃ ou₃) (O : Reports f w₃ ou₃ n err v w₄ ou₄) where
+    module _ {w₃ ou₃ w₄ ou₄ : List ℕ} {err : TyError} {v : ℕ} {y : Done} (z : x ≡ Unified.Bad err v) (R : RollsTo f w₂ ou₂ (getD w UNDO-LEN 0) (getD w ENV-LEN 0) w₃ ou₃) (O : Reports f w₃ ou₃ n err v w₄ ou₄ y) where
       failed : {T : Rows} {d : Described} {c b : Checker} (k : ℕ) (o : Option Unify.TyError) → Node-at d k n → Begins f w ou T d (checks (nodesOf d) (suc k) n) left c
-          → (g : Gone f w ou w₂ ou₂ T d (infers (nodesOf d) (suc k) n .records) (infers (nodesOf d) (suc k) n .fields) (unified w₂ x) o b) → Went Nothing (infers (nodesOf d) (suc k) n .grade) c o b
-          → Ends f w ou w₄ ou₄ T d (checks (nodesOf d) (suc k) n .records) (checks (nodesOf d) (suc k) n .fields) (done (Done.On v)) (following d n (markOf c) o b)
+          → (g : Gone f w ou w₂ ou₂ T d (infers (nodesOf d) (suc k) n .records) (infers (nodesOf d) (suc k) n .fields) (unified w₂ x) o b 0) → Went Nothing (infers (nodesOf d) (suc k) n .grade) c o b
+          → Ends f w ou w₄ ou₄ T d (checks (nodesOf d) (suc k) n .records) (checks (nodesOf d) (suc k) n .fields) (done y) (following d n (markOf c) o b)
       failed k none at s q h = clash (cc (z, q .is))
       failed {T} {d} {c} {b} k (some e) at s q h =
           let G = infers (nodesOf d) (suc k) n in
@@ -171,11 +171,11 @@ module _ {f w ou w₁ ou₁ : List ℕ} {n left : ℕ} {t : Ty} {r : Typed} (I :
           then-ends G (only one-diagnostic) (checks (nodesOf d) (suc k) n) (checks-fits d (suc k) n) Nothing (rollback (markOf c) b) (λ u. report (d .schema) (nodesOf d) n e) (λ o. o) s
           (λ y. rolled-meets (G .grade) c b (s .orderly) (h .made) (h .reached))
           (λ s₁. gone-on G (only no-thing) G (same-load G) q (carried err i (rolled-back G Nothing s₁ q h visits R)))
-          (λ u b₃ g₃ h₃ s₃. rw (← g₃ .is .1 .is) (silent-on (O d (at .there) .is (g₃ .T′) b₃ (with-visits (g₃ .is .0) s₃) (g₃ .is .1 .ok))))
+          (λ u b₃ g₃ h₃ s₃. rw (← g₃ .is .1 .is) (O d (at .there) .is (g₃ .T′) b₃ (with-visits (g₃ .is .0) s₃) (g₃ .is .1 .ok)))
 
       failing : {T : Rows} {d : Described} {c : Checker} (k : ℕ) → Node-at d k n → Begins f w ou T d (checks (nodesOf d) (suc k) n) left c → Fine w t T c → (L : Led f w ou w₁ ou₁ T d (infers (nodesOf d) (suc k) n) (typed w₁ r) IsSide c (below d (suc k) .infer n c))
           → Led f w₁ ou₁ w₂ ou₂ (L .gone .T′) d (only no-thing) (unified w₂ x) Nothing (L .b) (unify (L .a) (tree T t) (L .b))
-          → Ends f w ou w₄ ou₄ T d (checks (nodesOf d) (suc k) n .records) (checks (nodesOf d) (suc k) n .fields) (done (Done.On v)) (inferThenUnify (d .schema) (nodesOf d) (below d k) n (tree T t) c)
+          → Ends f w ou w₄ ou₄ T d (checks (nodesOf d) (suc k) n .records) (checks (nodesOf d) (suc k) n .fields) (done y) (inferThenUnify (d .schema) (nodesOf d) (below d k) n (tree T t) c)
       unfolding andThen
       failing {T} {d} {c} k at s fine L M =
           let G = infers (nodesOf d) (suc k) n in
@@ -186,7 +186,7 @@ module _ {f w ou w₁ ou₁ : List ℕ} {n left : ℕ} {t : Ty} {r : Typed} (I :
             holds = tt;
           }))
 
-      pub unify-bad : InfersThenUnifies f w ou n t left w₄ ou₄ (Done.On v)
+      pub unify-bad : InfersThenUnifies f w ou n t left w₄ ou₄ y
       unify-bad = record {
         is = λ d k at. record {
           is = λ T c s fine.
@@ -197,7 +197,7 @@ module _ {f w ou w₁ ou₁ : List ℕ} {n left : ℕ} {t : Ty} {r : Typed} (I :
       }
         where
           unified-after : {T : Rows} {d : Described} {c : Checker} (k : ℕ) → Node-at d k n → Begins f w ou T d (checks (nodesOf d) (suc k) n) left c → Fine w t T c → Led f w ou w₁ ou₁ T d (infers (nodesOf d) (suc k) n) (typed w₁ r) IsSide c (below d (suc k) .infer n c)
-              → Ends f w ou w₄ ou₄ T d (checks (nodesOf d) (suc k) n .records) (checks (nodesOf d) (suc k) n .fields) (done (Done.On v)) (inferThenUnify (d .schema) (nodesOf d) (below d k) n (tree T t) c)
+              → Ends f w ou w₄ ou₄ T d (checks (nodesOf d) (suc k) n .records) (checks (nodesOf d) (suc k) n .fields) (done y) (inferThenUnify (d .schema) (nodesOf d) (below d k) n (tree T t) c)
           unified-after {T} {d} {c} k at s fine L =
               let G = infers (nodesOf d) (suc k) n in
               let K = checks (nodesOf d) (suc k) n in

@@ -15,7 +15,7 @@ use Rattle.tree.specs.declared.Node.the-variants as Node
 use Rattle.tree.specs.declared.Items.{Items}
 use Rattle.tree.specs.Nodes.{IsNode, kindW}
 use Rattle.tree.proofs.Node.{the-type}
-use Rattle.steps.specs.declared.Done.{Done}
+use Rattle.state.specs.declared.Done.{Done}
 use Rattle.steps.specs.Contracts.{nodesOf}
 use Rattle.steps.proofs.Forms.{by-form}
 use Rattle.checker.specs.Contracts.{Denies, InfersThenUnifies}

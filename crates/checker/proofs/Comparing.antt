@@ -15,8 +15,8 @@ use Rattle.meaning.specs.Grades.{one-diagnostic, introducing}
 use Rattle.meaning.proofs.Visits.{size-pos, late, early-late, inferring-late, Introduced, made-introduced, introduceSide-meets, infer-late, variable-kind}
 use Rattle.steps.specs.declared.Typed.{Typed}
 use Rattle.steps.specs.declared.Typed.the-variants as Typed
-use Rattle.steps.specs.declared.Done.{Done}
-use Rattle.steps.specs.declared.Done.the-variants as Done
+use Rattle.state.specs.declared.Done.{Done}
+use Rattle.state.specs.declared.Done.the-variants as Done
 use Rattle.steps.specs.Ends.{typed, done, Ends}
 use Rattle.steps.specs.Loads.{Load, only, both, Holds, visits, Begins}
 use Rattle.steps.specs.Contracts.{nodesOf, BringsSide, compareTypes, ComparesTypes, Named}

@@ -67,7 +67,7 @@ module _ {A : Type 0} {f w₀ ou₀ w ou : List ℕ} {T : Rows} {d : Described} 
   pub mid-ends : {w₂ ou₂ : List ℕ} {E : Result A} → Ends f w ou w₂ ou₂ (M .T₁) d (H .records) (H .fields) E (rest (M .b)) → Ends f w₀ ou₀ w₂ ou₂ T d (K .records) (K .fields) E whole
   mid-ends {w₂} {ou₂} {E} h = rw (M .same) (go h)
     where
-      on : {B : Type 0} {F : Result B} {a : B} {b : Checker} → Gone f w ou w₂ ou₂ (M .T₁) d (H .records) (H .fields) F a b → Gone f w₀ ou₀ w₂ ou₂ T d (K .records) (K .fields) F a b
+      on : {B : Type 0} {F : Result B} {a : B} {b : Checker} {v : ℕ} → Gone f w ou w₂ ou₂ (M .T₁) d (H .records) (H .fields) F a b v → Gone f w₀ ou₀ w₂ ou₂ T d (K .records) (K .fields) F a b v
       on g = record {
         T′ = g .T′;
         more = more-trans (M .grew .adds) (M .more) (g .more);

@@ -29,8 +29,8 @@ use Rattle.meaning.proofs.Visits.{size-pos, checkField-meets}
 use Rattle.messages.specs.declared.Message.the-variants as Message
 use Rattle.tree.specs.declared.Items.{Items}
 use Rattle.tree.specs.Nodes.{fieldW, fieldOf, fieldsFrom}
-use Rattle.steps.specs.declared.Done.{Done}
-use Rattle.steps.specs.declared.Done.the-variants as Done
+use Rattle.state.specs.declared.Done.{Done}
+use Rattle.state.specs.declared.Done.the-variants as Done
 use Rattle.steps.specs.Ends.{done, Ends}
 use Rattle.steps.specs.Loads.{Load, both, Holds, checks, visits, Begins}
 use Rattle.steps.specs.Contracts.{nodesOf, FineRecord, Rejects, Named, AllNamed}
@@ -59,7 +59,7 @@ module _ {f w ou w′ ou′ : List ℕ} {name value e left : ℕ} {found : Found
     };
   }
 
-  pub mentions-none : found ≡ Found.Nothing → Rejects f w ou value (Message.NoField name) left w′ ou′ → Mentions f w ou name value e left w′ ou′ (Done.On left)
+  pub mentions-none : {r : Done} → found ≡ Found.Nothing → Rejects f w ou value (Message.NoField name) left w′ ou′ r → Mentions f w ou name value e left w′ ou′ r
   unfolding checkMentioned
   mentions-none g R = record {
     is = λ d k named. record {

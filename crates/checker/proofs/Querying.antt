@@ -9,14 +9,13 @@ use Rattle.cells.specs.Stands.{Rows}
 use Rattle.meaning.specs.Syntax.{Query}
 use Rattle.meaning.specs.References.{stmtNodes, queryNodes}
 use Rattle.meaning.specs.File.{Described}
-use Rattle.meaning.specs.Check.{Checker, Step, andThen, form, headForm, query, begin}
-use Rattle.meaning.specs.Run.{run}
+use Rattle.meaning.specs.Check.{Until, Checker, Step, andThen, form, headForm, query, begin, beginUntil}
 use Rattle.meaning.specs.Weights.{sumOf}
 use Rattle.meaning.specs.Conditions.{maxNodes}
 use Rattle.meaning.specs.Sound.{Sound}
 use Rattle.meaning.proofs.Run.{begin-orderly, begin-ready, query-size, query-records, query-fields, sound-wellFormed}
 use Rattle.tree.specs.Stands.{Stands}
-use Rattle.meaning.specs.Grades.{one-diagnostic}
+use Rattle.meaning.specs.Grades.{Grade, Orderly, Ready, one-diagnostic}
 use Rattle.meaning.proofs.Steps.{Nothing}
 use Rattle.meaning.proofs.Visits.{size-pos, stmts-meets, headForm-meets}
 use Rattle.tree.specs.declared.Stmts.{Stmts}
@@ -26,15 +25,17 @@ use Rattle.meaning.proofs.Lists.{all-map}
 use Rattle.meaning.proofs.Tests.{all-below}
 use Rattle.steps.specs.declared.Typed.{Typed}
 use Rattle.steps.specs.declared.Typed.the-variants as Typed
-use Rattle.steps.specs.declared.Done.{Done}
-use Rattle.steps.specs.declared.Done.the-variants as Done
+use Rattle.state.specs.declared.Until as Code
+use Rattle.state.specs.Lines.{untilOf}
+use Rattle.state.specs.declared.Done.{Done}
+use Rattle.state.specs.declared.Done.the-variants as Done
 use Rattle.steps.specs.Ends.{typed, counted, Ends, went, spent}
 use Rattle.steps.specs.Loads.{only, both, Holds, infers, visits, Begins}
 use Rattle.steps.specs.Contracts.{nodesOf, onlyW, Starts, Named, AllNamed, Heads}
 use Rattle.steps.specs.Outside.{ChecksHead, StartsRun}
-use Rattle.checker.specs.Contracts.{below, Infers, StatesAll, Ran, to-the-end, out-of-visits, Queries}
+use Rattle.checker.specs.Contracts.{below, Infers, StatesAll, Ran, to-the-end, ended-early, runUntil, Queries}
 use Rattle.steps.proofs.Sequel.{gone-as}
-use Rattle.steps.proofs.Results.{then-done, stop-done, then-silent}
+use Rattle.steps.proofs.Results.{then-done, stop-done}
 use Rattle.checker.proofs.Inferring.{good}
 use Rattle.checker.proofs.Bodies.{sayingAll}
 
@@ -58,33 +59,65 @@ module _ {f w ou w₁ ou₁ : List ℕ} {body : Stmts} {left : ℕ} {x : Done} (
       (λ u b. andThen (headForm (d .schema) (nodesOf d) (q .head) (form (d .schema) (nodesOf d) (q .head)) b) (λ u. below d (depth d) .infer (q .head))) g refl s
       (λ s₁. S .is d (depth d) (q .body) e (named .1) .is T c s₁ tt)
 
-  pub query-on : {w₂ ou₂ w₃ ou₃ : List ℕ} {l : ℕ} {r : Typed} → x ≡ Done.On l → Heads f w₁ ou₁ (q .head) l w₂ ou₂ → Infers f w₂ ou₂ (q .head) l w₃ ou₃ r
-      → Ends f w ou w₃ ou₃ T d (visits (nodesOf d) (depth d) (queryNodes q) .records) (visits (nodesOf d) (depth d) (queryNodes q) .fields) (counted (onlyW r)) (query (d .schema) (nodesOf d) q c)
-  unfolding query queryNodes
-  query-on g H I =
-      let k = depth d in
-      then-done (visits (nodesOf d) k (stmtNodes (q .body))) (both (only one-diagnostic) (infers (nodesOf d) k (q .head))) (visits (nodesOf d) k (queryNodes q)) (query-fits d q) Nothing (sayingAll d k (q .body) c)
-      (λ u b. andThen (headForm (d .schema) (nodesOf d) (q .head) (form (d .schema) (nodesOf d) (q .head)) b) (λ u. below d k .infer (q .head))) g s
-      (λ y. stmts-meets (d .schema) (nodesOf d) (s .sound .predicates) k (below d k) (good s k) (q .body) c (s .orderly) y) (λ s₁. S .is d k (q .body) e (named .1) .is T c s₁ tt)
-      (λ T₁ b a. then-silent (only one-diagnostic) (infers (nodesOf d) k (q .head)) (both (only one-diagnostic) (infers (nodesOf d) k (q .head))) (record { grade = omega arith; records = omega arith; fields = omega arith }) Nothing
-      (headForm (d .schema) (nodesOf d) (q .head) (form (d .schema) (nodesOf d) (q .head)) b) (λ u. below d k .infer (q .head)) (a .begins)
-      (λ y. headForm-meets (d .schema) (nodesOf d) (s .sound .predicates) (q .head) (form (d .schema) (nodesOf d) (q .head)) b (a .begins .orderly)) (λ s₂. H d (named .0 .there) .is T₁ b s₂ tt)
-      (λ T₂ b₂ a₂ h. counted-ends (I .is d k (named .0) .is T₂ b₂ (a₂ .begins) tt)))
+  module _ {l : ℕ} (g : x ≡ Done.On l) {w₂ ou₂ : List ℕ} {y : Done} (H : Heads f w₁ ou₁ (q .head) l w₂ ou₂ y) where
+    -- The head, after the statements.
+    query-head : {w₃ ou₃ : List ℕ} {z : Done}
+        → ((T₁ : Rows) (b : Checker) → Begins f w₁ ou₁ T₁ d (both (only one-diagnostic) (infers (nodesOf d) (depth d) (q .head))) l b
+        → Ends f w₁ ou₁ w₃ ou₃ T₁ d (both (only one-diagnostic) (infers (nodesOf d) (depth d) (q .head)) .records) (both (only one-diagnostic) (infers (nodesOf d) (depth d) (q .head)) .fields) (counted z)
+        (andThen (headForm (d .schema) (nodesOf d) (q .head) (form (d .schema) (nodesOf d) (q .head)) b) (λ u. below d (depth d) .infer (q .head))))
+        → Ends f w ou w₃ ou₃ T d (visits (nodesOf d) (depth d) (queryNodes q) .records) (visits (nodesOf d) (depth d) (queryNodes q) .fields) (counted z) (query (d .schema) (nodesOf d) q c)
+    unfolding query queryNodes
+    query-head rest =
+        let k = depth d in
+        then-done (visits (nodesOf d) k (stmtNodes (q .body))) (both (only one-diagnostic) (infers (nodesOf d) k (q .head))) (visits (nodesOf d) k (queryNodes q)) (query-fits d q) Nothing (sayingAll d k (q .body) c)
+        (λ u b. andThen (headForm (d .schema) (nodesOf d) (q .head) (form (d .schema) (nodesOf d) (q .head)) b) (λ u. below d k .infer (q .head))) g s
+        (λ y. stmts-meets (d .schema) (nodesOf d) (s .sound .predicates) k (below d k) (good s k) (q .body) c (s .orderly) y) (λ s₁. S .is d k (q .body) e (named .1) .is T c s₁ tt)
+        (λ T₁ b a. rest T₁ b (a .begins))
+
+    abbrev head-fits : Holds (both (only one-diagnostic) (infers (nodesOf d) (depth d) (q .head))) (both (only one-diagnostic) (infers (nodesOf d) (depth d) (q .head)))
+    head-fits = record { grade = omega arith; records = omega arith; fields = omega arith }
+
+    pub query-on : {w₃ ou₃ : List ℕ} {v : ℕ} {r : Typed} → y ≡ Done.On v → Infers f w₂ ou₂ (q .head) v w₃ ou₃ r
+        → Ends f w ou w₃ ou₃ T d (visits (nodesOf d) (depth d) (queryNodes q) .records) (visits (nodesOf d) (depth d) (queryNodes q) .fields) (counted (onlyW r)) (query (d .schema) (nodesOf d) q c)
+    unfolding queryNodes
+    query-on h I = query-head (λ T₁ b s₁.
+        then-done (only one-diagnostic) (infers (nodesOf d) (depth d) (q .head)) (both (only one-diagnostic) (infers (nodesOf d) (depth d) (q .head))) head-fits Nothing
+        (headForm (d .schema) (nodesOf d) (q .head) (form (d .schema) (nodesOf d) (q .head)) b) (λ u. below d (depth d) .infer (q .head)) h s₁
+        (λ y. headForm-meets (d .schema) (nodesOf d) (s .sound .predicates) (q .head) (form (d .schema) (nodesOf d) (q .head)) b (s₁ .orderly)) (λ s₂. H d (named .0 .there) .is T₁ b s₂ tt)
+        (λ T₂ b₂ a₂. counted-ends (I .is d (depth d) (named .0) .is T₂ b₂ (a₂ .begins) tt)))
+
+    pub query-head-out : y ≡ Done.Out
+        → Ends f w ou w₂ ou₂ T d (visits (nodesOf d) (depth d) (queryNodes q) .records) (visits (nodesOf d) (depth d) (queryNodes q) .fields) (counted Done.Out) (query (d .schema) (nodesOf d) q c)
+    unfolding queryNodes
+    query-head-out h = query-head (λ T₁ b s₁.
+        stop-done (only one-diagnostic) (infers (nodesOf d) (depth d) (q .head)) (both (only one-diagnostic) (infers (nodesOf d) (depth d) (q .head))) head-fits Nothing
+        (headForm (d .schema) (nodesOf d) (q .head) (form (d .schema) (nodesOf d) (q .head)) b) (λ u. below d (depth d) .infer (q .head)) h refl s₁ (λ s₂. H d (named .0 .there) .is T₁ b s₂ tt))
 
 -- ---- The start: no node has a type, and all that the query's nodes make fits
-pub query-begins : {f w w₁ ou₁ : List ℕ} (T : Rows) (d : Described) (ceiling : ℕ) → Starts f w w₁ → Sound d → Stands f w T d
-    → Begins f w₁ ou₁ T d (visits (nodesOf d) (depth d) (queryNodes (d .ast .query))) ceiling (begin ceiling (depth d))
-unfolding begin maxNodes
-query-begins T d ceiling S sound stands =
+
+-- What the run is to last until is asked nowhere but at a diagnostic.
+module _ (u : Until) (ceiling : ℕ) where
+  until-orderly : (n : ℕ) → Orderly (beginUntil u ceiling n)
+  unfolding begin beginUntil
+  until-orderly n = let o = begin-orderly ceiling n in record { log = o .log; env = o .env; few = o .few; sides = o .sides }
+
+  until-ready : (g : Grade) (n : ℕ) → Ready g (begin ceiling n) → Ready g (beginUntil u ceiling n)
+  unfolding begin beginUntil
+  until-ready g n y = record { once = y .once; there = y .there; bare = y .bare }
+
+pub query-begins : {f w w₁ ou₁ : List ℕ} (u : Code.Until) (T : Rows) (d : Described) (ceiling : ℕ) → Starts f w u w₁ → Sound d → Stands f w T d
+    → Begins f w₁ ou₁ T d (visits (nodesOf d) (depth d) (queryNodes (d .ast .query))) ceiling (beginUntil (untilOf u) ceiling (depth d))
+unfolding beginUntil maxNodes
+query-begins u T d ceiling S sound stands =
     let wf = sound-wellFormed d sound in
     record {
       sound = sound;
       runs = S .is T d ceiling sound stands;
-      lines = S .lines _ d ceiling;
-      orderly = begin-orderly ceiling (depth d);
+      lines = S .lines _ d ceiling (stands .long);
+      orderly = until-orderly (untilOf u) ceiling (depth d);
       visits = refl;
       free = record {
-        ready = begin-ready (d .schema) (d .ast) wf ceiling;
+        ready = until-ready (untilOf u) ceiling _ (depth d) (begin-ready (d .schema) (d .ast) wf ceiling);
         unknowns = omega (arith, query-size (d .schema) (d .ast) wf, sound .nodesMax);
         diagnostics = omega (arith, query-size (d .schema) (d .ast) wf, sound .nodesMax);
         records = omega (arith, S .records, query-records (d .schema) (d .ast) wf, sound .nodesMax);
@@ -95,7 +128,7 @@ query-begins T d ceiling S sound stands =
 -- ---- The whole
 ran : {f w ou w′ ou′ : List ℕ} {T : Rows} {d : Described} {n m : ℕ} {r : Done} {s : Step Tree.Ty} → Ends f w ou w′ ou′ T d n m (counted r) s → Ran f w′ ou′ d r s
 ran (went g) = to-the-end (g .T′) (g .runs) (g .lines) (g .is)
-ran (spent g) = out-of-visits (g .T′) (g .runs) (g .lines) (g .is)
+ran (spent g) = ended-early (g .T′) (g .runs) (g .lines) (g .is)
 
 query-named : (d : Described) → Sound d → AllNamed d (depth d) (queryNodes (d .ast .query))
 query-named d sound = all-map (λ m. m < depth d) (Named d (depth d)) (queryNodes (d .ast .query)) (λ m l. record { there = l; under = l }) (sound .query)
@@ -104,10 +137,10 @@ pub body-lower : (w : List ℕ) {b : Stmts} → b ≡ bodyW w → 0 < b .below
 unfolding bodyW
 body-lower w q = rw q (omega arith)
 
-module _ {f w w₁ : List ℕ} (ceiling : ℕ) {head : ℕ} {b : Stmts} (S : StartsRun w w₁) (hd : head ≡ headW f w₁) (bd : b ≡ bodyW w₁) where
+module _ {f w w₁ : List ℕ} {u : Code.Until} (ceiling : ℕ) {head : ℕ} {b : Stmts} (S : StartsRun w u w₁) (hd : head ≡ headW f w₁) (bd : b ≡ bodyW w₁) where
   module _ (ou : List ℕ) (T : Rows) (d : Described) (sound : Sound d) (stands : Stands f w T d) where
-    starts : Begins f w₁ ou T d (visits (nodesOf d) (depth d) (queryNodes (d .ast .query))) ceiling (begin ceiling (depth d))
-    starts = query-begins T d ceiling (S .is f) sound stands
+    starts : Begins f w₁ ou T d (visits (nodesOf d) (depth d) (queryNodes (d .ast .query))) ceiling (beginUntil (untilOf u) ceiling (depth d))
+    starts = query-begins u T d ceiling (S .is f) sound stands
 
     head-is : head ≡ d .ast .query .head
     head-is = hd ∙ query-head-is f w₁ (d .ast .query) (starts .runs .stands .query)
@@ -116,22 +149,33 @@ module _ {f w w₁ : List ℕ} (ceiling : ℕ) {head : ℕ} {b : Stmts} (S : Sta
     body-says = sym (ap (stmtsW f) bd ∙ query-body-is f w₁ (d .ast .query) (starts .runs .stands .query) (depth d) (starts .runs .stands .few) (rw (all-below (depth d) (queryNodes (d .ast .query)) (sound .query)) tt))
 
   module _ {ou w₂ ou₂ : List ℕ} {x : Done} (D : StatesAll f w₁ ou b ceiling w₂ ou₂ x) where
-    pub queried-out : x ≡ Done.Out → length w₂ ≡ length w → length ou₂ ≡ length ou → Queries f w ou ceiling w₂ ou₂ Done.Out
-    unfolding run
+    pub queried-out : x ≡ Done.Out → length w₂ ≡ length w → length ou₂ ≡ length ou → Queries f w ou u ceiling w₂ ou₂ Done.Out
+    unfolding runUntil
     queried-out e words slice = record {
-      is = λ T d sound stands. ran (query-out D T d (begin ceiling (depth d)) (d .ast .query) (body-says ou T d sound stands) (query-named d sound) (starts ou T d sound stands) e);
+      is = λ T d sound stands. ran (query-out D T d (beginUntil (untilOf u) ceiling (depth d)) (d .ast .query) (body-says ou T d sound stands) (query-named d sound) (starts ou T d sound stands) e);
       words = words;
       slice = slice;
     }
 
-    pub queried-on : {w₃ ou₃ w₄ ou₄ : List ℕ} {l : ℕ} {r : Typed} → x ≡ Done.On l → ChecksHead f w₂ ou₂ head w₃ ou₃ → Infers f w₃ ou₃ head l w₄ ou₄ r
-        → length w₄ ≡ length w → length ou₄ ≡ length ou → Queries f w ou ceiling w₄ ou₄ (onlyW r)
-    unfolding run
-    queried-on {w₃} {ou₃} {w₄} {ou₄} {l} {r} e H I words slice = record {
-      is = λ T d sound stands.
-          let at = head-is ou T d sound stands in
-          ran (query-on D T d (begin ceiling (depth d)) (d .ast .query) (body-says ou T d sound stands) (query-named d sound) (starts ou T d sound stands) e
-          (subst (λ (n : ℕ). Heads f w₂ ou₂ n l w₃ ou₃) at (H .is l)) (subst (λ (n : ℕ). Infers f w₃ ou₃ n l w₄ ou₄ r) at I));
-      words = words;
-      slice = slice;
-    }
+    module _ {w₃ ou₃ : List ℕ} {l : ℕ} {y : Done} (e : x ≡ Done.On l) (H : ChecksHead f w₂ ou₂ head l w₃ ou₃ y) where
+      head-at : (T : Rows) (d : Described) → Sound d → Stands f w T d → Heads f w₂ ou₂ (d .ast .query .head) l w₃ ou₃ y
+      head-at T d sound stands = subst (λ (n : ℕ). Heads f w₂ ou₂ n l w₃ ou₃ y) (head-is ou T d sound stands) (H .is)
+
+      pub queried-head-out : y ≡ Done.Out → length w₃ ≡ length w → length ou₃ ≡ length ou → Queries f w ou u ceiling w₃ ou₃ Done.Out
+      unfolding runUntil
+      queried-head-out h words slice = record {
+        is = λ T d sound stands.
+            ran (query-head-out D T d (beginUntil (untilOf u) ceiling (depth d)) (d .ast .query) (body-says ou T d sound stands) (query-named d sound) (starts ou T d sound stands) e (head-at T d sound stands) h);
+        words = words;
+        slice = slice;
+      }
+
+      pub queried-on : {w₄ ou₄ : List ℕ} {v : ℕ} {r : Typed} → y ≡ Done.On v → Infers f w₃ ou₃ head v w₄ ou₄ r → length w₄ ≡ length w → length ou₄ ≡ length ou → Queries f w ou u ceiling w₄ ou₄ (onlyW r)
+      unfolding runUntil
+      queried-on {w₄} {ou₄} {v} {r} h I words slice = record {
+        is = λ T d sound stands.
+            ran (query-on D T d (beginUntil (untilOf u) ceiling (depth d)) (d .ast .query) (body-says ou T d sound stands) (query-named d sound) (starts ou T d sound stands) e (head-at T d sound stands) h
+            (subst (λ (n : ℕ). Infers f w₃ ou₃ n v w₄ ou₄ r) (head-is ou T d sound stands) I));
+        words = words;
+        slice = slice;
+      }

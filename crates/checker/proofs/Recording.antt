@@ -30,7 +30,7 @@ use Rattle.tree.specs.declared.Items.{Items}
 use Rattle.tree.specs.declared.Field.{Field}
 use Rattle.tree.specs.Nodes.{fieldW, fieldOf, fieldsFrom}
 use Rattle.tree.proofs.Steps.{fields-next, fields-end, fields-length, field-lower}
-use Rattle.state.proofs.Lining.{lines-same}
+use Rattle.state.proofs.Lining.{told-same}
 use Rattle.state.proofs.Recording.{reserve-runs, reserve-grew, put-field-runs, new-record-runs, within}
 use Rattle.steps.specs.declared.Typed.{Typed}
 use Rattle.steps.specs.declared.Typed.the-variants as Typed
@@ -115,7 +115,7 @@ module _ {f w ou : List ℕ} {T : Rows} {d : Described} {left : ℕ} {c : Checke
           begins = record {
             sound = s .sound;
             runs = reserve-runs (s .sound) (s .runs) n given-room;
-            lines = lines-same (record { at = λ i l h. reserve-other w n given-room i (λ q. omega arith) }) (s .lines);
+            lines = told-same (record { at = λ i l h. reserve-other w n given-room i (λ q. omega arith) }) (s .lines);
             orderly = s .orderly;
             visits = s .visits;
             free = free-after given (builds d k fs) (parts (nodesOf d) k (ExprKind.Record fs)) given-fits (made-refl (given .grade) c) grew (s .free);
@@ -158,7 +158,7 @@ module _ {f w₀ ou₀ w ou : List ℕ} {T : Rows} {d : Described} {K H : Load} 
     begins = record {
       sound = M .begins .sound;
       runs = put-field-runs (M .begins .sound) (M .begins .runs) R i name t le lt small;
-      lines = lines-same (record { at = λ j l h. put-count j (omega arith) }) (M .begins .lines);
+      lines = told-same (record { at = λ j l h. put-count j (omega arith) }) (M .begins .lines);
       orderly = M .begins .orderly;
       visits = M .begins .visits;
       free = record {
@@ -264,7 +264,7 @@ module _ {f w₀ ou₀ w ou : List ℕ} {T : Rows} {d : Described} {k from n lef
         T′ = rowsWith w from n (M .mid .T₁);
         more = more-trans (M .mid .grew .adds) (M .mid .more) (new-record-more w from n record-room given long (M .mid .T₁));
         runs = new-record-runs (M .mid .begins .sound) R from n record-room filled;
-        lines = lines-same (record { at = λ i l h. new-record-other w from n record-room given i (λ q. omega arith) (λ q. omega arith) }) (M .mid .begins .lines);
+        lines = told-same (record { at = λ i l h. new-record-other w from n record-room given i (λ q. omega arith) (λ q. omega arith) }) (M .mid .begins .lines);
         grew = record {
           adds = new-record-adds w from n record-room given long (M .low) (M .mid .grew .adds);
           keeps = keeps-trans (M .mid .grew .keeps) (new-record-keeps w from n record-room given);

@@ -18,15 +18,15 @@ use Rattle.messages.specs.declared.Message.{Message}
 use Rattle.messages.specs.Said.{said}
 use Rattle.steps.specs.declared.Typed.{Typed}
 use Rattle.steps.specs.declared.Typed.the-variants as Typed
-use Rattle.steps.specs.declared.Done.{Done}
-use Rattle.steps.specs.declared.Done.the-variants as Done
+use Rattle.state.specs.declared.Done.{Done}
+use Rattle.state.specs.declared.Done.the-variants as Done
 use Rattle.steps.specs.Ends.{done, Ends}
 use Rattle.steps.specs.Loads.{Load, only, both, Holds, infers, visits, Begins}
 use Rattle.steps.specs.Contracts.{nodesOf, Fine, Notes, Rejects, Brings, UnifiesAt, onlyW, Named}
 use Rattle.checker.specs.Contracts.{below, Infers, Sides, NotYets, Destructures, BindsVariable}
 use Rattle.checker.proofs.Within.{BadTargets}
 use Rattle.steps.proofs.Sequel.{begins-part, ends-wider}
-use Rattle.steps.proofs.Results.{fine-after, tree-after, then-typed, stop-typed, then-silent, then-numbered, only-ends, silent-on}
+use Rattle.steps.proofs.Results.{fine-after, tree-after, then-typed, stop-typed, then-done, stop-done, then-silent, then-numbered, only-ends, silent-on}
 use Rattle.checker.proofs.Inferring.{good, ok-unknown}
 
 -- ---- The right side alone
@@ -52,16 +52,27 @@ only-right {lhs = lhs} {rhs = rhs} I = record {
 }
 
 -- ---- A target that can't be
-pub bad-target : {f w ou w₁ ou₁ w₂ ou₂ : List ℕ} {lhs rhs left : ℕ} {m : Message} {r : Typed} → Rejects f w ou lhs m left w₁ ou₁ → Infers f w₁ ou₁ rhs left w₂ ou₂ r → BadTargets m f w ou lhs rhs left w₂ ou₂ (onlyW r)
-unfolding badTarget onlyRight
-bad-target {lhs = lhs} {rhs = rhs} {m = m} R I = record {
-  is = λ d k nl nr. record {
-    is = λ T c s ok.
-        then-silent (only one-diagnostic) (infers (nodesOf d) k rhs) (visits (nodesOf d) k (lhs ∷ rhs ∷ [])) (right-fits d k lhs rhs) Nothing (reject (d .schema) (nodesOf d) lhs (said T (c .state .subst) m) c)
-        (λ u. onlyRight (d .schema) (nodesOf d) (below d k) rhs) s
-        (λ y. reject-meets (d .schema) (nodesOf d) lhs (said T (c .state .subst) m) c (s .orderly)) (λ s₁. R d (nl .there) .is T c s₁ ok) (λ T₁ b a h. right-ends I nr (a .begins));
-  };
-}
+module _ {f w ou w₁ ou₁ : List ℕ} {lhs rhs left : ℕ} {m : Message} {x : Done} (R : Rejects f w ou lhs m left w₁ ou₁ x) where
+  pub bad-target : {w₂ ou₂ : List ℕ} {l : ℕ} {r : Typed} → x ≡ Done.On l → Infers f w₁ ou₁ rhs l w₂ ou₂ r → BadTargets m f w ou lhs rhs left w₂ ou₂ (onlyW r)
+  unfolding badTarget onlyRight
+  bad-target g I = record {
+    is = λ d k nl nr. record {
+      is = λ T c s ok.
+          then-done (only one-diagnostic) (infers (nodesOf d) k rhs) (visits (nodesOf d) k (lhs ∷ rhs ∷ [])) (right-fits d k lhs rhs) Nothing (reject (d .schema) (nodesOf d) lhs (said T (c .state .subst) m) c)
+          (λ u. onlyRight (d .schema) (nodesOf d) (below d k) rhs) g s
+          (λ y. reject-meets (d .schema) (nodesOf d) lhs (said T (c .state .subst) m) c (s .orderly)) (λ s₁. R d (nl .there) .is T c s₁ ok) (λ T₁ b a. right-ends I nr (a .begins));
+    };
+  }
+
+  pub bad-target-out : x ≡ Done.Out → BadTargets m f w ou lhs rhs left w₁ ou₁ Done.Out
+  unfolding badTarget onlyRight
+  bad-target-out g = record {
+    is = λ d k nl nr. record {
+      is = λ T c s ok.
+          stop-done (only one-diagnostic) (infers (nodesOf d) k rhs) (visits (nodesOf d) k (lhs ∷ rhs ∷ [])) (right-fits d k lhs rhs) Nothing (reject (d .schema) (nodesOf d) lhs (said T (c .state .subst) m) c)
+          (λ u. onlyRight (d .schema) (nodesOf d) (below d k) rhs) g refl s (λ s₁. R d (nl .there) .is T c s₁ ok);
+    };
+  }
 
 -- ---- Not yet
 abbrev two : Described → ℕ → ℕ → ℕ → Load
@@ -71,16 +82,26 @@ both-fits : (d : Described) (k lhs rhs : ℕ) → Holds (both (only one-diagnost
 unfolding sumOf
 both-fits d k lhs rhs = record { grade = omega (arith, size-pos (nodesOf d) k lhs); records = omega arith; fields = omega arith }
 
-module _ {f w ou w₁ ou₁ w₂ ou₂ : List ℕ} {lhs rhs left : ℕ} {m : Message} {r : Typed} (R : Rejects f w ou lhs m left w₁ ou₁) (I : Infers f w₁ ou₁ lhs left w₂ ou₂ r) where
-  pub not-yet : {w₃ ou₃ : List ℕ} {t : Ty} {l : ℕ} {x : Typed} → r ≡ Typed.Got t l → Infers f w₂ ou₂ rhs l w₃ ou₃ x → NotYets m f w ou lhs rhs left w₃ ou₃ (onlyW x)
+pub not-yet-stops : {f w ou w₁ ou₁ : List ℕ} {lhs rhs left : ℕ} {m : Message} {x : Done} → Rejects f w ou lhs m left w₁ ou₁ x → x ≡ Done.Out → NotYets m f w ou lhs rhs left w₁ ou₁ Done.Out
+unfolding notYet onlyRight
+not-yet-stops {lhs = lhs} {rhs = rhs} {m = m} R h = record {
+  is = λ d k nl nr. record {
+    is = λ T c s ok.
+        stop-done (only one-diagnostic) (two d k lhs rhs) (visits (nodesOf d) k (lhs ∷ rhs ∷ [])) (both-fits d k lhs rhs) Nothing (reject (d .schema) (nodesOf d) lhs (said T (c .state .subst) m) c)
+        (λ u b. andThen (below d k .infer lhs b) (λ ty. onlyRight (d .schema) (nodesOf d) (below d k) rhs)) h refl s (λ s₁. R d (nl .there) .is T c s₁ ok);
+  };
+}
+
+module _ {f w ou w₁ ou₁ w₂ ou₂ : List ℕ} {lhs rhs left v : ℕ} {m : Message} {x : Done} {r : Typed} (R : Rejects f w ou lhs m left w₁ ou₁ x) (h : x ≡ Done.On v) (I : Infers f w₁ ou₁ lhs v w₂ ou₂ r) where
+  pub not-yet : {w₃ ou₃ : List ℕ} {t : Ty} {l : ℕ} {y : Typed} → r ≡ Typed.Got t l → Infers f w₂ ou₂ rhs l w₃ ou₃ y → NotYets m f w ou lhs rhs left w₃ ou₃ (onlyW y)
   unfolding notYet onlyRight
   not-yet g J = record {
     is = λ d k nl nr. record {
       is = λ T c s ok.
-          then-silent (only one-diagnostic) (two d k lhs rhs) (visits (nodesOf d) k (lhs ∷ rhs ∷ [])) (both-fits d k lhs rhs) Nothing (reject (d .schema) (nodesOf d) lhs (said T (c .state .subst) m) c)
-          (λ u b. andThen (below d k .infer lhs b) (λ ty. onlyRight (d .schema) (nodesOf d) (below d k) rhs)) s
+          then-done (only one-diagnostic) (two d k lhs rhs) (visits (nodesOf d) k (lhs ∷ rhs ∷ [])) (both-fits d k lhs rhs) Nothing (reject (d .schema) (nodesOf d) lhs (said T (c .state .subst) m) c)
+          (λ u b. andThen (below d k .infer lhs b) (λ ty. onlyRight (d .schema) (nodesOf d) (below d k) rhs)) h s
           (λ y. reject-meets (d .schema) (nodesOf d) lhs (said T (c .state .subst) m) c (s .orderly)) (λ s₁. R d (nl .there) .is T c s₁ ok)
-          (λ T₁ b a h. then-typed (infers (nodesOf d) k lhs) (infers (nodesOf d) k rhs) (two d k lhs rhs) (record { grade = omega arith; records = omega arith; fields = omega arith }) (below d k .infer lhs b)
+          (λ T₁ b a. then-typed (infers (nodesOf d) k lhs) (infers (nodesOf d) k rhs) (two d k lhs rhs) (record { grade = omega arith; records = omega arith; fields = omega arith }) (below d k .infer lhs b)
           (λ ty. onlyRight (d .schema) (nodesOf d) (below d k) rhs) g (a .begins)
           (λ y. good s k .infer lhs b (a .begins .orderly) y) (λ s₂. I .is d k nl .is T₁ b s₂ tt) (λ T₂ b₂ a₂ fine. right-ends J nr (a₂ .begins)));
     };
@@ -91,10 +112,10 @@ module _ {f w ou w₁ ou₁ w₂ ou₂ : List ℕ} {lhs rhs left : ℕ} {m : Mes
   not-yet-out g = record {
     is = λ d k nl nr. record {
       is = λ T c s ok.
-          then-silent (only one-diagnostic) (two d k lhs rhs) (visits (nodesOf d) k (lhs ∷ rhs ∷ [])) (both-fits d k lhs rhs) Nothing (reject (d .schema) (nodesOf d) lhs (said T (c .state .subst) m) c)
-          (λ u b. andThen (below d k .infer lhs b) (λ ty. onlyRight (d .schema) (nodesOf d) (below d k) rhs)) s
+          then-done (only one-diagnostic) (two d k lhs rhs) (visits (nodesOf d) k (lhs ∷ rhs ∷ [])) (both-fits d k lhs rhs) Nothing (reject (d .schema) (nodesOf d) lhs (said T (c .state .subst) m) c)
+          (λ u b. andThen (below d k .infer lhs b) (λ ty. onlyRight (d .schema) (nodesOf d) (below d k) rhs)) h s
           (λ y. reject-meets (d .schema) (nodesOf d) lhs (said T (c .state .subst) m) c (s .orderly)) (λ s₁. R d (nl .there) .is T c s₁ ok)
-          (λ T₁ b a h. stop-typed (infers (nodesOf d) k lhs) (infers (nodesOf d) k rhs) (two d k lhs rhs) (record { grade = omega arith; records = omega arith; fields = omega arith }) (below d k .infer lhs b)
+          (λ T₁ b a. stop-typed (infers (nodesOf d) k lhs) (infers (nodesOf d) k rhs) (two d k lhs rhs) (record { grade = omega arith; records = omega arith; fields = omega arith }) (below d k .infer lhs b)
           (λ ty. onlyRight (d .schema) (nodesOf d) (below d k) rhs) g refl (a .begins) (λ s₂. I .is d k nl .is T₁ b s₂ tt));
     };
   }

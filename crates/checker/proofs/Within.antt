@@ -15,7 +15,7 @@ use Rattle.messages.specs.declared.Message.{Message}
 use Rattle.messages.specs.Said.{said, OkMessage}
 use Rattle.tree.specs.declared.Items.{Items}
 use Rattle.tree.specs.Nodes.{fieldsFrom}
-use Rattle.steps.specs.declared.Done.{Done}
+use Rattle.state.specs.declared.Done.{Done}
 use Rattle.steps.specs.Ends.{done}
 use Rattle.steps.specs.Loads.{checks, Beside}
 use Rattle.steps.specs.Contracts.{Fine, nodesOf, Named, Node-at}

@@ -21,7 +21,6 @@ use Rattle.meaning.specs.All.{Below}
 use Rattle.meaning.specs.Diag as Diag
 use Rattle.meaning.specs.File.{Described}
 use Rattle.meaning.specs.Sound.{Sound}
-use Rattle.meaning.specs.Run.{run}
 use Rattle.tree.specs.Stands.{Stands}
 use Rattle.meaning.specs.Check as Check
 use Rattle.meaning.specs.Check.{Checker, Step, Does, goes, out, andThen, Walk, walk, form}
@@ -29,14 +28,15 @@ use Rattle.meaning.specs.Grades.{no-thing, Known}
 use Rattle.messages.specs.declared.Message.{Message}
 use Rattle.messages.specs.Said.{said, OkMessage}
 use Rattle.state.specs.Runs.{Runs}
-use Rattle.state.specs.Lines.{Told}
+use Rattle.state.specs.Lines.{Told, untilOf}
+use Rattle.state.specs.declared.Until.{Until}
 use Rattle.tree.specs.declared.Items.{Items}
 use Rattle.tree.specs.declared.Stmts.{Stmts}
 use Rattle.tree.specs.Nodes.{fieldsFrom, itemsFrom, statement, stmtW, stmtsW}
 use Rattle.steps.specs.declared.Typed.{Typed}
 use Rattle.steps.specs.declared.Typed.the-variants as Typed
-use Rattle.steps.specs.declared.Done.{Done}
-use Rattle.steps.specs.declared.Done.the-variants as Done
+use Rattle.state.specs.declared.Done.{Done}
+use Rattle.state.specs.declared.Done.the-variants as Done
 use Rattle.steps.specs.Ends.{typed, done}
 use Rattle.steps.specs.Loads.{only, infers, finds, checks, visits, parts, Beside}
 use Rattle.steps.specs.Contracts.{Always, Fine, FineRecord, FineUnion, nodesOf, AllNamed, Named, Node-at}
@@ -151,13 +151,19 @@ pub record StatesAll (f w ou : List ℕ) (body : Stmts) (left : ℕ) (w′ ou′
 
 -- ---- The whole
 
--- `query`, from words that a file was read into: the words after stand for where the run ends, or for where its visits ran out.
+-- `query`, from words that a file was read into: the words after stand for where the run ends, or for where it ended early, and then the
+-- visits left are kept.
 pub data Ran (f w′ ou′ : List ℕ) (d : Described) (r : Done) : Step Tree.Ty → Type 0 where
-  to-the-end : {ty : Tree.Ty} {c : Checker} (T : Rows) → Runs f w′ T d c → Told d w′ ou′ c → r ≡ Done.On (c .state .left) → Ran f w′ ou′ d r (goes ty c)
-  out-of-visits : {c : Checker} (T : Rows) → Runs f w′ T d c → Told d w′ ou′ c → r ≡ Done.Out → Ran f w′ ou′ d r (out c)
+  to-the-end : {ty : Tree.Ty} {c : Checker} (T : Rows) → Runs f w′ T d c → Told d w′ ou′ c 0 → r ≡ Done.On (c .state .left) → Ran f w′ ou′ d r (goes ty c)
+  ended-early : {c : Checker} (T : Rows) → Runs f w′ T d c → Told d w′ ou′ c (c .state .left) → r ≡ Done.Out → Ran f w′ ou′ d r (out c)
 
-pub record Queries (f w ou : List ℕ) (ceiling : ℕ) (w′ ou′ : List ℕ) (r : Done) : Type 0 where
-  pub is : (T : Rows) (d : Described) → Sound d → Stands f w T d → Ran f w′ ou′ d r (run (d .schema) (d .ast) ceiling)
+-- The definition's run of a query, until its end or its first diagnostic.
+unfoldable pub runUntil : Check.Until → Described → ℕ → Step Tree.Ty
+unfolding Check.query Check.beginUntil
+runUntil u d ceiling = Check.query (d .schema) (nodesOf d) (d .ast .query) (Check.beginUntil u ceiling (length (nodesOf d)))
+
+pub record Queries (f w ou : List ℕ) (u : Until) (ceiling : ℕ) (w′ ou′ : List ℕ) (r : Done) : Type 0 where
+  pub is : (T : Rows) (d : Described) → Sound d → Stands f w T d → Ran f w′ ou′ d r (runUntil (untilOf u) d ceiling)
   -- whatever stands in the slices
   pub words : length w′ ≡ length w
   pub slice : length ou′ ≡ length ou

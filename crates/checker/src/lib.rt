@@ -11,9 +11,10 @@ use cells::Kind;
 use cells::Ty;
 use cells::Unified;
 use messages::Message;
+use state::Done;
+use state::Until;
 use state::introduce;
 use state::reject;
-use steps::Done;
 use steps::Typed;
 use tree::Items;
 use tree::Node;
@@ -133,9 +134,7 @@ fn infer_kind(f: &[u8], w: &mut [u32], n: u32, left: u32, out: &mut [u8]) -> Typ
         Node::Str => Typed::Got(Ty::Str, left),
         Node::Prefix(_) => Typed::Got(Ty::Str, left),
         Node::Fuzzy(term, distance) => {
-            steps::fuzzy_distance(f, w, n, distance, out);
-            steps::fuzzy_term(f, w, n, term, out);
-            Typed::Got(Ty::Str, left)
+            steps::fuzzy(f, w, n, term, distance, left, out)
         }
         Node::Wildcard => Typed::Got(Ty::Var(cells::fresh_var_id(w)), left),
         Node::Never => Typed::Got(Ty::Var(cells::fresh_var_id(w)), left),
@@ -206,8 +205,7 @@ fn infer_then_unify(
                 Unified::Good(m) => Done::On(m),
                 Unified::Bad(err, m) => {
                     steps::rollback(w, undo, env);
-                    steps::report(f, w, n, err, out);
-                    Done::On(m)
+                    steps::report(f, w, n, err, m, out)
                 }
                 Unified::Spent => Done::Out,
             }
@@ -246,10 +244,7 @@ fn check_field(
                 Done::Out => Done::Out,
             }
         }
-        Found::Nothing => {
-            reject(f, w, value, Message::NoField(name), out);
-            Done::On(left)
-        }
+        Found::Nothing => reject(f, w, value, Message::NoField(name), left, out),
     }
 }
 
@@ -289,8 +284,7 @@ fn check_union(
     ensures { λ r. ⌜ ChecksUnion (now (f .entry)) (now (w .entry)) (now (out .entry)) n items c left (now (w .exit)) (now (out .exit)) r ⌝ }
 {
     if items.n != 1 {
-        reject(f, w, n, Message::NotOneAlternative(items.n), out);
-        return Done::On(left);
+        return reject(f, w, n, Message::NotOneAlternative(items.n), left, out);
     }
     let e = tree::field_at(f, items, 0);
     let found = cells::find_name(w, c, e.name);
@@ -306,10 +300,7 @@ fn check_union(
                 Done::Out => Done::Out,
             }
         }
-        Found::Nothing => {
-            reject(f, w, n, Message::NoAlternative(e.name), out);
-            Done::On(left)
-        }
+        Found::Nothing => reject(f, w, n, Message::NoAlternative(e.name), left, out),
     }
 }
 
@@ -431,11 +422,16 @@ fn not_yet(
 ) -> Done
     ensures { λ r. ⌜ NotYets m (now (f .entry)) (now (w .entry)) (now (out .entry)) lhs rhs left (now (w .exit)) (now (out .exit)) r ⌝ }
 {
-    reject(f, w, lhs, m, out);
-    let r = infer(f, w, lhs, left, out);
-    match r {
-        Typed::Got(_, l) => only(infer(f, w, rhs, l, out)),
-        Typed::Out => Done::Out,
+    let d = reject(f, w, lhs, m, left, out);
+    match d {
+        Done::On(v) => {
+            let r = infer(f, w, lhs, v, out);
+            match r {
+                Typed::Got(_, l) => only(infer(f, w, rhs, l, out)),
+                Typed::Out => Done::Out,
+            }
+        }
+        Done::Out => Done::Out,
     }
 }
 
@@ -479,8 +475,11 @@ fn bind(f: &[u8], w: &mut [u32], lhs: u32, rhs: u32, left: u32, out: &mut [u8]) 
             }
         }
         Node::Int | Node::Str | Node::Bytes | Node::Prefix(_) => {
-            reject(f, w, lhs, Message::BoundConstant, out);
-            only(infer(f, w, rhs, left, out))
+            let d = reject(f, w, lhs, Message::BoundConstant, left, out);
+            match d {
+                Done::On(l) => only(infer(f, w, rhs, l, out)),
+                Done::Out => Done::Out,
+            }
         }
         Node::Error => only(infer(f, w, rhs, left, out)),
         _ => not_yet(f, w, lhs, rhs, left, Message::MatchedPatterns, out),
@@ -494,8 +493,11 @@ fn deny(f: &[u8], w: &mut [u32], lhs: u32, rhs: u32, left: u32, out: &mut [u8]) 
     match e {
         Node::Var(symbol) => bind_name(f, w, symbol, lhs, rhs, left, out),
         Node::Wildcard | Node::Int | Node::Str | Node::Bytes | Node::Prefix(_) => {
-            reject(f, w, lhs, Message::DeniedConstant, out);
-            only(infer(f, w, rhs, left, out))
+            let d = reject(f, w, lhs, Message::DeniedConstant, left, out);
+            match d {
+                Done::On(l) => only(infer(f, w, rhs, l, out)),
+                Done::Out => Done::Out,
+            }
         }
         Node::Error => only(infer(f, w, rhs, left, out)),
         _ => not_yet(f, w, lhs, rhs, left, Message::DeniedPattern, out),
@@ -558,16 +560,19 @@ fn stmts(f: &[u8], w: &mut [u32], body: Stmts, left: u32, out: &mut [u8]) -> Don
 }
 
 // The query of the file that was read: every type and diagnostic is then in the slice. The head is inferred last.
-pub fn query(f: &[u8], w: &mut [u32], ceiling: u32, out: &mut [u8]) -> Done
-    ensures { λ r. ⌜ Queries (now (f .entry)) (now (w .entry)) (now (out .entry)) ceiling (now (w .exit)) (now (out .exit)) r ⌝ }
+pub fn query(f: &[u8], w: &mut [u32], until: Until, ceiling: u32, out: &mut [u8]) -> Done
+    ensures { λ r. ⌜ Queries (now (f .entry)) (now (w .entry)) (now (out .entry)) until ceiling (now (w .exit)) (now (out .exit)) r ⌝ }
 {
-    steps::begin(w);
+    steps::begin(w, until);
     let head = tree::query_head(f, w);
     let d = stmts(f, w, tree::query_body(w), ceiling, out);
     match d {
         Done::On(l) => {
-            steps::check_head(f, w, head, out);
-            only(infer(f, w, head, l, out))
+            let e = steps::check_head(f, w, head, l, out);
+            match e {
+                Done::On(m) => only(infer(f, w, head, m, out)),
+                Done::Out => Done::Out,
+            }
         }
         Done::Out => Done::Out,
     }

@@ -11,15 +11,15 @@ use Rattle.cells.specs.Stands.{Rows}
 use Rattle.meaning.specs.Syntax.{Ast}
 use Rattle.meaning.specs.File.{Described}
 use Rattle.meaning.specs.Sound.{Sound}
-use Rattle.meaning.specs.Check.{Step, Checked, typed, exhausted, checked, check}
-use Rattle.meaning.specs.Run.{run}
+use Rattle.meaning.specs.Check.{theEnd, Step, Checked, typed, exhausted, checked, begin, check}
 use Rattle.meaning.specs.Messages.{messageText}
 use Rattle.meaning.specs.Answer.{bytes₂, hexLine, answerLines}
 use Rattle.meaning.specs.Outcome.{minWords}
 use Rattle.tree.specs.Stands.{SchemaStands}
-use Rattle.steps.specs.declared.Done.{Done}
-use Rattle.steps.specs.declared.Done.the-variants as Done
-use Rattle.checker.specs.Contracts.{Ran, to-the-end, out-of-visits, Queries}
+use Rattle.state.specs.declared.Done.{Done}
+use Rattle.state.specs.declared.Done.the-variants as Done
+use Rattle.state.specs.declared.Until.the-variants as Until
+use Rattle.checker.specs.Contracts.{Ran, to-the-end, ended-early, runUntil, Queries}
 use Rattle.loading.specs.Contracts.{Ahead, Loads}
 use Rattle.loading.proofs.Lines.{query-ahead}
 use Rattle.writer.specs.declared.Wrote.{Wrote}
@@ -102,11 +102,11 @@ module _ {out out₁ : List ℕ} {page head : Wrote} {line : List ℕ} (f : Foll
 
 -- ---- The run and its lines
 
-checks-run : (ceiling : ℕ) (d : Described) → check ceiling (d .schema) (d .ast) ≡ checked ceiling (run (d .schema) (d .ast) ceiling)
-unfolding check run
+checks-run : (ceiling : ℕ) (d : Described) → check ceiling (d .schema) (d .ast) ≡ checked ceiling (runUntil theEnd d ceiling)
+unfolding check runUntil begin
 checks-run ceiling d = refl
 
-module _ {f w : List ℕ} {ceiling : ℕ} {out w₁ out₁ : List ℕ} {q : Done} (ran : Queries f w out ceiling w₁ out₁ q) where
+module _ {f w : List ℕ} {ceiling : ℕ} {out w₁ out₁ : List ℕ} {q : Done} (ran : Queries f w out Until.TheEnd ceiling w₁ out₁ q) where
   pub run-out : q ≡ Done.Out → Answers f w ceiling out w₁ out₁ Ended.Out
   unfolding Answered checked
   run-out e = record {
@@ -118,7 +118,7 @@ module _ {f w : List ℕ} {ceiling : ℕ} {out w₁ out₁ : List ℕ} {q : Done
     where
       go : (d : Described) {x : Step Tree.Ty} → Ran f w₁ out₁ d q x → Answered f out w₁ out₁ Ended.Out d (checked ceiling x)
       go d (to-the-end T R t p) = let z : _≡_ {A = ℕ} 0 1 = cc in absurd (omega arith)
-      go d (out-of-visits T R t p) = refl
+      go d (ended-early T R t p) = refl
 
   pub run-on : (left : ℕ) → q ≡ Done.On left → (visits : ℕ) → visits ≡ ceiling - left → {out₂ : List ℕ} {a : Wrote} → WritesAnswer w₁ out₁ visits out₂ a
       → Answers f w ceiling out w₁ out₂ (Ended.Lines a visits)
@@ -135,7 +135,7 @@ module _ {f w : List ℕ} {ceiling : ℕ} {out w₁ out₁ : List ℕ} {q : Done
           let same : left ≡ c .state .left = cc in
           let made : visits ≡ ceiling - c .state .left = v ∙ ap (λ n. ceiling - n) same in
           (a, ap (Ended.Lines a) made, (T, R .stands .schema), continues-start (ran .slice) (continues (wrote .is f T d c R t ceiling ty _ refl made)))
-      go d (out-of-visits T R t p) = let z : _≡_ {A = ℕ} 0 1 = cc in absurd (omega arith)
+      go d (ended-early T R t p) = let z : _≡_ {A = ℕ} 0 1 = cc in absurd (omega arith)
 
 -- ---- The turn
 

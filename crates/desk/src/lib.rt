@@ -15,7 +15,8 @@ use cabinet::Group;
 use reading::Counters;
 use reading::Read;
 use reading::Refusal;
-use steps::Done;
+use state::Done;
+use state::Until;
 use writer::Wrote;
 
 pub enum Outcome {
@@ -88,7 +89,7 @@ fn heading(out: &mut [u8], page: Wrote, k: u32, several: bool) -> Wrote
 }
 
 // The visits that a run made, by those that it was given and those that it left.
-fn made(ceiling: u32, left: u32) -> u32
+pub fn made(ceiling: u32, left: u32) -> u32
     ensures { λ r. ⌜ r ≡ ceiling - left ⌝ }
 {
     if left < ceiling { ceiling - left } else { 0 }
@@ -98,7 +99,7 @@ fn made(ceiling: u32, left: u32) -> u32
 fn answer_query(file: &[u8], work: &mut [u32], ceiling: u32, out: &mut [u8]) -> Ended
     ensures { λ r. ⌜ Answers (now (file .entry)) (now (work .entry)) ceiling (now (out .entry)) (now (work .exit)) (now (out .exit)) r ⌝ }
 {
-    let d = checker::query(file, work, ceiling, out);
+    let d = checker::query(file, work, Until::TheEnd, ceiling, out);
     match d {
         Done::Out => Ended::Out,
         Done::On(left) => {

@@ -27,7 +27,7 @@ digit-no-LF n e = cases (ltb n 10)
     (λ q. let i : LF ≡ 87 + n = rw (q, hexDigit) at e in absurd (omega arith))
 
 -- whatever the numbers are
-hexes-no-LF : (s : List ℕ) → Absent LF (hexes s)
+pub hexes-no-LF : (s : List ℕ) → Absent LF (hexes s)
 unfolding hexes
 hexes-no-LF [] = tt
 hexes-no-LF (b ∷ s) = (digit-no-LF (b / 16), (digit-no-LF (b % 16), hexes-no-LF s))

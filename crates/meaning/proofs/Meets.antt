@@ -30,13 +30,14 @@ pub record Made (g : Grade) (c c′ : Checker) : Type 0 where
   pub few : length reported ≤ g .diagnostics
   pub elsewhere : (x : ℕ) → g .nodes x ≡ 0 → getD (c′ .state .tys) x none ≡ getD (c .state .tys) x none
   pub nodes : length (c′ .state .tys) ≡ length (c .state .tys)
+  pub until : c′ .until ≡ c .until
 
 -- A list of calls that led to the first leads on to the second, with the same snapshots at hand.
 unfoldable pub Reached : Checker → Checker → Type 0
 Reached c c′ = (v : ℕ) (tys : List (Option Ty)) (ts : List Taken) → Calls v tys (record { state = c .state; taken = ts })
     → (newer : List Taken) × Calls v tys (record { state = c′ .state; taken = newer ++ ts })
 
--- The same where the visits ran out.
+-- The same where the run ended.
 unfoldable pub Stopped : Checker → Checker → Type 0
 Stopped c c′ = (v : ℕ) (tys : List (Option Ty)) (ts : List Taken) → Calls v tys (record { state = c .state; taken = ts }) → Led v tys (c′ .state)
 
@@ -88,6 +89,7 @@ made-refl g c = record {
   few = omega arith;
   elsewhere = λ x e. refl;
   nodes = refl;
+  until = refl;
 }
 
 pub reached-refl : (c : Checker) → Reached c c
@@ -109,6 +111,7 @@ made-trans g h k a b c f p q = record {
   few = omega (arith, f .diagnostics, p .few, q .few, length-append (q .reported) (p .reported));
   elsewhere = λ x e. q .elsewhere x (omega (arith, f .nodes x)) ∙ p .elsewhere x (omega (arith, f .nodes x));
   nodes = q .nodes ∙ p .nodes;
+  until = q .until ∙ p .until;
 }
 
 pub made-fits : (g k : Grade) (a b : Checker) → Fits g k → Made g a b → Made k a b
@@ -123,6 +126,7 @@ made-fits g k a b f p = record {
   few = omega (arith, f .diagnostics, p .few);
   elsewhere = λ x e. p .elsewhere x (omega (arith, f .nodes x));
   nodes = p .nodes;
+  until = p .until;
 }
 
 pub reached-trans : (a b c : Checker) → Reached a b → Reached b c → Reached a c

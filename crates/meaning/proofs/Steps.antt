@@ -28,7 +28,7 @@ use Rattle.unification.proofs.Demand3.{rolled-since}
 use Rattle.meaning.specs.Syntax.{Node, nodeAt}
 use Rattle.meaning.specs.Schema.{Schema}
 use Rattle.meaning.specs.Diag.{Message}
-use Rattle.meaning.specs.Check.{Checker, goes, Does, andThen, withState, freshVarId, lookupIn, lookup, pushEnv, introduce, annotate, unified, unify, ordered, orderable, snapshot, truncateEnv, rollback, reject, report, unifyAt}
+use Rattle.meaning.specs.Check.{Until, theEnd, firstDiagnostic, Checker, goes, Does, andThen, withState, withEnv, withDiagnostics, diagnosed, reported, freshVarId, lookupIn, lookup, pushEnv, introduce, annotate, unified, unify, ordered, orderable, snapshot, truncateEnv, rollback, reject, report, unifyAt}
 use Rattle.meaning.specs.All.{All}
 use Rattle.meaning.specs.Run.{between-calls, at-the-limit}
 use Rattle.meaning.specs.Weights.{same}
@@ -56,26 +56,41 @@ abbrev pub IsUnknown : ℕ → ℕ → Checker → Type 0
 IsUnknown x v c = (v < unknowns c) × Known x c
 
 -- ---- A diagnostic
+
+-- The run goes on, or it was to last until here.
+reported-meets : (g : Grade) (c c′ : Checker) → Orderly c′ → Made g c c′ → Reached c c′ → Stopped c c′ → Meets Nothing g c (reported c′)
+unfolding reported
+reported-meets g c c′ o m r s = go (c′ .until) refl
+  where
+    go : (u : Until) → c′ .until ≡ u → Meets Nothing g c (reported c′)
+    go theEnd e = rw (e, reported) (went (record { orderly = o; made = m; reached = r; holds = tt }))
+    go firstDiagnostic e = rw (e, reported) (ended (record { orderly = o; made = m; stopped = s }))
+
 module _ (schema : Schema) (nodes : List Node) where
+  diagnosed-orderly : (n : ℕ) (m : Message) (c : Checker) → Orderly c → Orderly (diagnosed schema nodes n m c)
+  unfolding diagnosed withDiagnostics
+  diagnosed-orderly n m c o = record { log = o .log; env = o .env; few = o .few; sides = o .sides }
+
+  diagnosed-made : (n : ℕ) (m : Message) (c : Checker) → Made one-diagnostic c (diagnosed schema nodes n m c)
+  unfolding diagnosed withDiagnostics
+  diagnosed-made n m c = record {
+    new = 0;
+    since = since-refl (c .state);
+    unknowns = omega arith;
+    pushed = [];
+    env = refl;
+    reported = record { message = m; span = nodeAt nodes n .span } ∷ [];
+    diagnostics = refl;
+    few = omega arith;
+    elsewhere = λ x e. refl;
+    nodes = refl;
+    until = refl;
+  }
+
   pub reject-meets : (n : ℕ) (m : Message) (c : Checker) → Orderly c → Meets Nothing one-diagnostic c (reject schema nodes n m c)
-  unfolding reject Reached
-  reject-meets n m c o = meets (reject schema nodes n m c) (record {
-    orderly = record { log = o .log; env = o .env; few = o .few; sides = o .sides };
-    made = record {
-      new = 0;
-      since = since-refl (c .state);
-      unknowns = omega arith;
-      pushed = [];
-      env = refl;
-      reported = record { message = m; span = nodeAt nodes n .span } ∷ [];
-      diagnostics = refl;
-      few = omega arith;
-      elsewhere = λ x e. refl;
-      nodes = refl;
-    };
-    reached = λ v tys ts cs. ([], cs);
-    holds = tt;
-  })
+  unfolding reject diagnosed withDiagnostics Reached Stopped
+  reject-meets n m c o =
+      reported-meets one-diagnostic c (diagnosed schema nodes n m c) (diagnosed-orderly n m c o) (diagnosed-made n m c) (λ v tys ts cs. ([], cs)) (λ v tys ts cs. between-calls cs)
 
   -- By a test.
   module _ (n : ℕ) (m : Message) (c : Checker) (o : Orderly c) where
@@ -93,8 +108,8 @@ fresh-more c = since-length (since-fresh (c .state))
 
 -- With an entry of the environment, or without.
 fresh-orderly : (c : Checker) (es : List (ℕ × ℕ)) → Orderly c → All (λ e. e .1 < unknowns c + 1) es → length es ≤ unknowns c + 1
-    → Orderly (record { state = Bindings.fresh (c .state); env = es; diagnostics = c .diagnostics })
-unfolding Bindings.fresh
+    → Orderly (withEnv (withState c (Bindings.fresh (c .state))) es)
+unfolding Bindings.fresh withEnv withState
 fresh-orderly c es o below few = record {
   log = record { wf = wf-pad (c .state .subst) 1 (o .log .wf); blank = o .log .blank; exact = omega (arith, o .log .exact, taken-pad (c .state .subst) 1) };
   env = rw (fresh-more c) below;
@@ -102,8 +117,8 @@ fresh-orderly c es o below few = record {
   sides = λ n t e. side-more (unknowns c) _ (omega (arith, fresh-more c)) t (o .sides n t e);
 }
 
-fresh-made : (c : Checker) (es : List (ℕ × ℕ)) → Made one-unknown c (record { state = Bindings.fresh (c .state); env = es ++ c .env; diagnostics = c .diagnostics })
-unfolding Bindings.fresh
+fresh-made : (c : Checker) (es : List (ℕ × ℕ)) → Made one-unknown c (withEnv (withState c (Bindings.fresh (c .state))) (es ++ c .env))
+unfolding Bindings.fresh withEnv withState
 fresh-made c es = record {
   new = 1;
   since = since-fresh (c .state);
@@ -115,17 +130,18 @@ fresh-made c es = record {
   few = omega arith;
   elsewhere = λ x e. refl;
   nodes = refl;
+  until = refl;
 }
 
-fresh-reached : (c : Checker) (es : List (ℕ × ℕ)) → Reached c (record { state = Bindings.fresh (c .state); env = es; diagnostics = c .diagnostics })
-unfolding Reached
+fresh-reached : (c : Checker) (es : List (ℕ × ℕ)) → Reached c (withEnv (withState c (Bindings.fresh (c .state))) es)
+unfolding Reached withEnv withState
 fresh-reached c es v tys ts cs = ([], then-call cs unknown)
 
 env-more : (c : Checker) → Orderly c → All (λ e. e .1 < unknowns c + 1) (c .env)
 env-more c o = all-map (λ e. e .1 < unknowns c) (λ e. e .1 < unknowns c + 1) (c .env) (λ e h. omega arith) (o .env)
 
 pub freshVarId-meets : (c : Checker) → Orderly c → Meets (λ v b. v < unknowns b) one-unknown c (freshVarId c)
-unfolding freshVarId withState Bindings.freshId
+unfolding freshVarId withState withEnv Bindings.freshId
 freshVarId-meets c o = meets (freshVarId c) (record {
   orderly = fresh-orderly c (c .env) o (env-more c o) (omega (arith, o .few));
   made = fresh-made c [];
@@ -161,12 +177,12 @@ unfolding introduce lookup
 introduce-known x c o k = rw (k .1, introduce) (stays (IsUnknown x) no-thing c (k .0) o (lookup-below (unknowns c) (c .env) x (k .0) (o .env) (k .1), k))
 
 pub introduce-meets : (x : ℕ) (c : Checker) → Orderly c → Meets (IsUnknown x) one-unknown c (introduce x c)
-unfolding introduce lookup pushEnv freshVarId withState andThen Bindings.freshId lookupIn
+unfolding introduce lookup pushEnv freshVarId withState withEnv andThen Bindings.freshId lookupIn
 introduce-meets x c o = go (lookupIn (c .env) x) refl
   where
     go : (k : Option ℕ) → lookupIn (c .env) x ≡ k → Meets (IsUnknown x) one-unknown c (introduce x c)
     go (some v) e = rw (e, introduce) (stays (IsUnknown x) one-unknown c v o (lookup-below (unknowns c) (c .env) x v (o .env) e, (v, e)))
-    go none e = rw (e, introduce) (meets (goes (unknowns c) (record { state = Bindings.fresh (c .state); env = (x, unknowns c) ∷ c .env; diagnostics = c .diagnostics })) (record {
+    go none e = rw (e, introduce) (meets (goes (unknowns c) (withEnv (withState c (Bindings.fresh (c .state))) ((x, unknowns c) ∷ c .env))) (record {
       orderly = fresh-orderly c ((x, unknowns c) ∷ c .env) o (omega arith, env-more c o) (omega (arith, o .few));
       made = fresh-made c ((x, unknowns c) ∷ []);
       reached = fresh-reached c ((x, unknowns c) ∷ c .env);
@@ -198,6 +214,7 @@ annotate-meets n t c o r h =
         few = omega arith;
         elsewhere = λ x e. getD-set-other (c .state .tys) n x (some t) none (λ p. let z : same n n ≡ 0 = rw p at e in omega (arith, same-self n));
         nodes = length-set (c .state .tys) n (some t);
+        until = refl;
       };
       reached = λ v tys ts cs. ([], then-call cs (annotation n t));
       holds = tt;
@@ -223,6 +240,7 @@ still-made c st p tys = record {
   few = omega arith;
   elsewhere = λ x e. rw tys;
   nodes = rw tys;
+  until = refl;
 }
 
 module _ (a b : Ty) (c : Checker) (o : Orderly c) (i : Side (unknowns c) a) (j : Side (unknowns c) b) where
@@ -297,7 +315,7 @@ module _ (g : Grade) (c c′ : Checker) (o : Orderly c) (m : Made g c c′) wher
   back-more = since-length (rolled-since (m .new) (c .state) (c′ .state) (m .since))
 
   pub rolled-meets : Reached c c′ → Meets Nothing g c (rollback (record { state = Bindings.snapshot (c .state); env = length (c .env) }) c′)
-  unfolding rollback truncateEnv withState take-snapshot Reached
+  unfolding rollback truncateEnv withState withEnv take-snapshot Reached
   rolled-meets r = meets (rollback (record { state = Bindings.snapshot (c .state); env = length (c .env) }) c′) (record {
     orderly = record {
       log = record {
@@ -320,18 +338,19 @@ module _ (g : Grade) (c c′ : Checker) (o : Orderly c) (m : Made g c c′) wher
       few = m .few;
       elsewhere = λ x e. rw (rollback-tys (m .since));
       nodes = rw (rollback-tys (m .since));
+      until = m .until;
     };
     reached = λ v tys ts cs. let x = r v tys (take-snapshot (c .state) ∷ ts) (then-call cs snapping) in (take-snapshot (c .state) ∷ [], then-call (x .1) (rollingBack (x .0) ts (take-snapshot (c .state)) refl));
     holds = tt;
   })
 
 -- ---- The environment cut back to where the stretch began
-pub cut-meets : (g : Grade) (c b : Checker) (t : Ty) → Orderly c → Went IsSide g c t b → Meets IsSide g c (goes t (record { state = b .state; env = drop (length (b .env) - length (c .env)) (b .env); diagnostics = b .diagnostics }))
-unfolding Reached
+pub cut-meets : (g : Grade) (c b : Checker) (t : Ty) → Orderly c → Went IsSide g c t b → Meets IsSide g c (goes t (withEnv b (drop (length (b .env) - length (c .env)) (b .env))))
+unfolding Reached withEnv
 cut-meets g c b t o w =
     let m = w .made in
     let e = gone g c b o m in
-    meets (goes t (record { state = b .state; env = drop (length (b .env) - length (c .env)) (b .env); diagnostics = b .diagnostics })) (record {
+    meets (goes t (withEnv b (drop (length (b .env) - length (c .env)) (b .env)))) (record {
       orderly = record {
         log = w .orderly .log;
         env = rw e (all-map (λ e. e .1 < unknowns c) (λ e. e .1 < unknowns b) (c .env) (λ e h. omega (arith, made-more g c b m)) (o .env));
@@ -349,10 +368,11 @@ cut-meets g c b t o w =
         few = m .few;
         elsewhere = m .elsewhere;
         nodes = m .nodes;
+        until = m .until;
       };
       reached = same-state c b (w .reached);
       holds = w .holds;
     })
   where
-    same-state : (c b : Checker) → Reached c b → Reached c (record { state = b .state; env = drop (length (b .env) - length (c .env)) (b .env); diagnostics = b .diagnostics })
+    same-state : (c b : Checker) → Reached c b → Reached c (withEnv b (drop (length (b .env) - length (c .env)) (b .env)))
     same-state c b r = r

@@ -106,8 +106,8 @@ row-more n m r le h = side-more n m le (Ty.node Kind.Record r) h
 -- ---- Access and selection
 module _ (schema : Schema) (nodes : List Node) (declared : All DeclaredPredicate (schema .predicates)) (id : ℕ) (c : Checker) (o : Orderly c) where
   rejectTy-meets : (m : Message) → Meets IsSide one-diagnostic c (rejectTy schema nodes id m c)
-  unfolding rejectTy reject
-  rejectTy-meets code = went-with IsSide Ty.Error (going (reject-meets schema nodes id code c o)) tt
+  unfolding rejectTy
+  rejectTy-meets m = meets-from Nothing IsSide one-diagnostic one-diagnostic c (reject schema nodes id m c) _ (omega arith) (reject-meets schema nodes id m c o) (λ u b w. went-with IsSide Ty.Error w tt)
 
   fieldAt-meets : (name : ℕ) (t : Ty) → Side (unknowns c) t → Meets IsSide one-diagnostic c (fieldAt schema nodes id name t c)
   unfolding fieldAt
@@ -319,21 +319,21 @@ module _ (schema : Schema) (nodes : List Node) (declared : All DeclaredPredicate
       bind-fits l r = record { nodes = λ x. omega (arith, own-weight nodes (λ m. same x m) d l); unknowns = omega (arith, size-pos nodes d l); diagnostics = omega (arith, size-pos nodes d r) }
 
   pub badTarget-meets : (m : Message) (l r : ℕ) (c : Checker) → Orderly c → Ready (visiting nodes d (l ∷ r ∷ [])) c → Meets Nothing (visiting nodes d (l ∷ r ∷ [])) c (badTarget schema nodes below m l r c)
-  unfolding badTarget reject onlyRight sumOf
+  unfolding badTarget onlyRight sumOf
   badTarget-meets m l r c o y =
-      meets-after Nothing Nothing one-diagnostic (inferring nodes d r) (visiting nodes d (l ∷ r ∷ [])) c (omega (arith, size-pos nodes d l)) y (λ y′. reject-meets schema nodes l m c o)
-      (λ w y′. right-meets (inferring nodes d r) r _ (omega arith) (w .orderly) y′)
+      meets-then Nothing Nothing one-diagnostic (inferring nodes d r) (visiting nodes d (l ∷ r ∷ [])) c (omega (arith, size-pos nodes d l)) (reject schema nodes l m c) _ y (λ y′. reject-meets schema nodes l m c o)
+      (λ u b w y′. right-meets (inferring nodes d r) r b (omega arith) (w .orderly) y′)
 
   onlyRight-meets : (l r : ℕ) (c : Checker) → Orderly c → Ready (visiting nodes d (l ∷ r ∷ [])) c → Meets Nothing (visiting nodes d (l ∷ r ∷ [])) c (onlyRight schema nodes below r c)
   unfolding sumOf
   onlyRight-meets l r c o y = right-meets (visiting nodes d (l ∷ r ∷ [])) r c (omega arith) o y
 
   pub notYet-meets : (m : Message) (l r : ℕ) (c : Checker) → Orderly c → Ready (visiting nodes d (l ∷ r ∷ [])) c → Meets Nothing (visiting nodes d (l ∷ r ∷ [])) c (notYet schema nodes below m l r c)
-  unfolding notYet reject onlyRight sumOf
+  unfolding notYet onlyRight sumOf
   notYet-meets m l r c o y =
       let rest = plus (inferring nodes d l) (inferring nodes d r) in
-      meets-after Nothing Nothing one-diagnostic rest (visiting nodes d (l ∷ r ∷ [])) c (omega (arith, size-pos nodes d l)) y (λ y′. reject-meets schema nodes l m c o)
-      (λ w y′. meets-then IsSide Nothing (inferring nodes d l) (inferring nodes d r) rest _ (omega arith) (below .infer l _) _ y′ (good .infer l _ (w .orderly))
+      meets-then Nothing Nothing one-diagnostic rest (visiting nodes d (l ∷ r ∷ [])) c (omega (arith, size-pos nodes d l)) (reject schema nodes l m c) _ y (λ y′. reject-meets schema nodes l m c o)
+      (λ u b w y′. meets-then IsSide Nothing (inferring nodes d l) (inferring nodes d r) rest _ (omega arith) (below .infer l _) _ y′ (good .infer l _ (w .orderly))
       (λ t b′ w′ y″. right-meets (inferring nodes d r) r b′ (omega arith) (w′ .orderly) y″))
 
   pub destructure-meets : (l r : ℕ) (c : Checker) → Orderly c → Ready (visiting nodes d (l ∷ r ∷ [])) c → Meets Nothing (visiting nodes d (l ∷ r ∷ [])) c (destructure schema nodes below l r c)

@@ -17,13 +17,18 @@ use Rattle.meaning.specs.Diag.{Message, Diagnostic}
 
 -- ---- The state, and steps over it
 
+-- What ends a run early besides the visits: nothing, or its first diagnostic (card 4).
+pub data Until : Type 0 where
+  theEnd firstDiagnostic : Until
+
 -- `Checker`. The environment (variable, unknown) and the diagnostics are newest first.
 pub record Checker : Type 0 where
   pub state : State
   pub env : List (ℕ × ℕ)
   pub diagnostics : List Diagnostic
+  pub until : Until
 
--- A step goes on with a value, or the visits ran out in it.
+-- A step goes on with a value, or the run ends in it: the visits ran out, or what it was to last until has come.
 pub data Step (A : Type 0) : Type 0 where
   goes : A → Checker → Step A
   out : Checker → Step A
@@ -49,7 +54,17 @@ return a c = goes a c
 -- ---- State (ty.rs, "state")
 
 unfoldable pub withState : Checker → State → Checker
-withState c st = record { state = st; env = c .env; diagnostics = c .diagnostics }
+withState c st = record { state = st; env = c .env; diagnostics = c .diagnostics; until = c .until }
+
+unfoldable pub withEnv : Checker → List (ℕ × ℕ) → Checker
+withEnv c es = record { state = c .state; env = es; diagnostics = c .diagnostics; until = c .until }
+
+-- The same, to last until its first diagnostic.
+unfoldable pub lighted : Checker → Checker
+lighted c = record { state = c .state; env = c .env; diagnostics = c .diagnostics; until = firstDiagnostic }
+
+unfoldable pub withDiagnostics : Checker → List Diagnostic → Checker
+withDiagnostics c ds = record { state = c .state; env = c .env; diagnostics = ds; until = c .until }
 
 -- `fresh_var_id`
 unfoldable pub freshVarId : Does ℕ
@@ -74,7 +89,8 @@ lookup symbol c = goes (lookupIn (c .env) symbol) c
 
 -- `env.push`
 unfoldable pub pushEnv : ℕ → ℕ → Does (Unit {0})
-pushEnv symbol var c = goes tt (record { state = c .state; env = (symbol, var) ∷ c .env; diagnostics = c .diagnostics })
+unfolding withEnv
+pushEnv symbol var c = goes tt (withEnv c ((symbol, var) ∷ c .env))
 
 -- The unknown of a variable; one that is new is introduced.
 unfoldable pub introduce : ℕ → Does ℕ
@@ -135,7 +151,8 @@ snapshot c = goes (record { state = Bindings.snapshot (c .state); env = length (
 
 -- `env.truncate`
 unfoldable pub truncateEnv : ℕ → Does (Unit {0})
-truncateEnv n c = goes tt (record { state = c .state; env = drop (length (c .env) - n) (c .env); diagnostics = c .diagnostics })
+unfolding withEnv
+truncateEnv n c = goes tt (withEnv c (drop (length (c .env) - n) (c .env)))
 
 -- `rollback`
 unfoldable pub rollback : Mark → Does (Unit {0})
@@ -185,6 +202,10 @@ messageOf (TyError.UnionMismatch diff expected got) = Message.unionMismatch diff
 messageOf (TyError.UnknownField name) = Message.noField name
 messageOf TyError.Infinite = Message.infinite
 
+-- A diagnostic was made.
+unfoldable pub reported : Does (Unit {0})
+reported c = elim (c .until) [ theEnd ↦ goes tt c | firstDiagnostic ↦ out c ]
+
 unfoldable pub isSome : {A : Type 0} → Option A → Bool
 isSome none = false
 isSome (some a) = true
@@ -206,14 +227,14 @@ module _ (schema : Schema) (nodes : List Node) where
 
   -- ---- Diagnostics
 
+  unfoldable pub diagnosed : ℕ → Message → Checker → Checker
+  unfolding nodeAt withDiagnostics
+  diagnosed node message c = withDiagnostics c (record { message = message; span = nodeAt nodes node .span } ∷ c .diagnostics)
+
   -- `reject`, `nyi`
   unfoldable pub reject : ℕ → Message → Does (Unit {0})
-  unfolding nodeAt
-  reject node message c = goes tt (record {
-    state = c .state;
-    env = c .env;
-    diagnostics = record { message = message; span = nodeAt nodes node .span } ∷ c .diagnostics;
-  })
+  unfolding diagnosed reported
+  reject node message c = reported (diagnosed node message c)
 
   -- `reject_ty`
   unfoldable pub rejectTy : ℕ → Message → Does Ty
@@ -688,12 +709,18 @@ pub data Checked : Type 0 where
   typed : Typed → Checked
   exhausted : Checked
 
-unfoldable pub begin : ℕ → ℕ → Checker
-begin ceiling n = record {
+-- No unknown, no diagnostic, and so many visits.
+unfoldable pub beginUntil : Until → ℕ → ℕ → Checker
+beginUntil until ceiling n = record {
   state = record { subst = []; tys = replicate n none; undo = []; left = ceiling; history = History.start };
   env = [];
   diagnostics = [];
+  until = until;
 }
+
+unfoldable pub begin : ℕ → ℕ → Checker
+unfolding beginUntil
+begin ceiling n = beginUntil theEnd ceiling n
 
 unfoldable pub zonked : State → Option Ty → Option Ty
 zonked st none = none

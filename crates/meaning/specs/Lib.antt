@@ -20,6 +20,7 @@ pub mod Means
 pub mod Outcome
 pub mod Table
 pub mod Run
+pub mod Lamp
 pub mod Weights
 pub mod Alone
 pub mod OneQuery

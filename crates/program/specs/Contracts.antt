@@ -4,6 +4,8 @@ use mathlib.Core.Path.{_≡_}
 use Prim.Native.Nat.{ℕ, _-_, _≤_}
 use lib.ListN.{length, replicate}
 use Rattle.meaning.specs.Outcome.{Decided, minWords, decide, printedLines}
+use Rattle.meaning.specs.Lamp.{lamp}
+use Rattle.lamp.specs.Contracts.{lampLine}
 use Rattle.editions.specs.Converted.{decideWiden, decideNarrow}
 use Rattle.program.specs.declared.Job.{Job}
 use Rattle.program.specs.declared.Job.the-variants as Job
@@ -26,4 +28,9 @@ decidedBy Job.Narrow f words = decideNarrow f words
 pub record Prints (x : Decided) (w′ out′ : List ℕ) (r : ℕ) : Type 0 where
   pub long : r ≡ length (printedLines x 65536)
   pub out : out′ ≡ printedLines x 65536 ++ replicate (65536 - r) 0
+  pub work : w′ ≡ replicate minWords 0
+
+-- The lamp's line, by the definition, and the work slice is zero throughout.
+pub record PrintsLamp (f w′ r : List ℕ) : Type 0 where
+  pub line : r ≡ lampLine (lamp f minWords)
   pub work : w′ ≡ replicate minWords 0

@@ -4,7 +4,7 @@ ghost use Prim.Native.Nat.{_≤_};
 ghost use lib.ListN.{length};
 ghost use Rattle.meaning.specs.Outcome.{minWords};
 ghost use Rattle.desk.specs.Contracts.{Finishes};
-ghost use Rattle.program.specs.Contracts.{Within, decidedBy, Prints};
+ghost use Rattle.program.specs.Contracts.{Within, decidedBy, Prints, PrintsLamp};
 use desk::Outcome;
 
 // What a program does with its file.
@@ -65,6 +65,14 @@ pub fn printed(job: Job, file: &[u8], work: &mut [u32; 16384], out: &mut [u8; 65
     }
 }
 
+// The lamp's line for the file.
+pub fn lamp_line(file: &[u8], work: &mut [u32; 16384]) -> [u8; 5]
+    ensures { λ r. ⌜ PrintsLamp (now (file .entry)) (now (work .exit)) r ⌝ }
+{
+    let l = lamp::lamp(file, work);
+    lamp::line(l.signal)
+}
+
 // One byte more is read than a file may have, so that a longer input is refused.
 pub fn run(job: Job) {
     let mut input = [0u8; 65537];
@@ -79,6 +87,30 @@ pub fn run(job: Job) {
             let m = printed(job, &input[0..n], &mut work, &mut out);
             if !io::write_all(libc::STDOUT_FILENO, &out[0..m]) {
                 io::write_all(libc::STDERR_FILENO, b"writing standard output failed\n");
+            }
+        }
+    }
+}
+
+// The lamp of standard input.
+pub fn run_lamp() {
+    let mut input = [0u8; 65537];
+    let mut work = [0u32; 16384];
+    let r = read_input(&mut input);
+    match r {
+        Input::Failed => {
+            io::write_all(
+                libc::STDERR_FILENO,
+                b"reading standard input failed\n",
+            );
+        }
+        Input::Bytes(n) => {
+            let line = lamp_line(&input[0..n], &mut work);
+            if !io::write_all(libc::STDOUT_FILENO, &line) {
+                io::write_all(
+                    libc::STDERR_FILENO,
+                    b"writing standard output failed\n",
+                );
             }
         }
     }

@@ -19,6 +19,7 @@ use Rattle.meaning.specs.Outcome.{minWords}
 use Rattle.meaning.specs.Sound.{Sound}
 use Rattle.meaning.proofs.Sound.{sound-at}
 use Rattle.tree.specs.Stands.{Stands}
+use Rattle.state.specs.declared.Until.{Until}
 use Rattle.state.proofs.Standing.{cells-start, schema-stands}
 use Rattle.steps.specs.Outside.{StartsRun}
 use Rattle.calls.specs.Beginning.{begunW}
@@ -43,12 +44,12 @@ few-types A = omega (arith, A .types .count, A .schema .types)
 
 -- A run: a query's nodes are put into the words, and `begin` is called.
 module _ {f w w₁ w₂ : List ℕ} {form : Form} {d : Described} (A : AfterReading f w form) (sound : Sound d)
-    (same : SameSchema w w₁) (S : Stands f w₁ (A .rows) d) (B : StartsRun w₁ w₂) where
+    (same : SameSchema w w₁) (S : Stands f w₁ (A .rows) d) {u : Until} (B : StartsRun w₁ u w₂) where
   abbrev nodes : ℕ
   nodes = length (d .ast .nodes)
 
   pub run-begins : (v : ℕ) → CodeCalls v nodes w₂ (A .rows) v [] (Calls.begin v (untyped nodes))
-  unfolding Calls.begin Check.begin
+  unfolding Calls.begin Check.beginUntil
   run-begins v =
       let D = declares-kept {w = w} {w′ = w₁} same (few-types A) (A .types) in
       none-yet (B .is f .is (A .rows) d v sound S .holds)

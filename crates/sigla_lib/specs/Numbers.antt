@@ -9,6 +9,10 @@ use Rattle.desk.specs.declared.Outcome.{Outcome}
 use Rattle.desk.specs.declared.Outcome.the-variants as Outcome
 use Rattle.desk.specs.declared.Desked.{Desked}
 use Rattle.desk.specs.Contracts.{ChecksFile, ChecksAt}
+use Rattle.lamp.specs.declared.Signal.{Signal}
+use Rattle.lamp.specs.declared.Signal.the-variants as Signal
+use Rattle.lamp.specs.declared.Lit.{Lit}
+use Rattle.lamp.specs.Contracts.{Lights}
 use Rattle.converters.specs.Contracts.{Widens, Narrows}
 use Rattle.tariff.specs.declared.Tallied.{Tallied}
 use Rattle.tariff.specs.Tariff.{Adds}
@@ -26,6 +30,22 @@ pub record CallsCheck (f w out w′ out′ : List ℕ) (r : ℕ) : Type 0 where
   pub outcome : Outcome
   pub checks : ChecksFile f w out w′ out′ outcome
   pub number : r ≡ outcomeNumber outcome
+
+abbrev pub litBit : Signal → ℕ
+litBit Signal.Yes = 1
+litBit Signal.No = 0
+litBit (Signal.Refused e) = 0
+
+abbrev pub lampNumber : Signal → ℕ
+lampNumber Signal.Yes = 0
+lampNumber Signal.No = 0
+lampNumber (Signal.Refused e) = number (refusal e)
+
+pub record CallsLamp (f w w′ : List ℕ) (bit r : ℕ) : Type 0 where
+  pub lit : Lit
+  pub lights : Lights f w w′ lit
+  pub shown : bit ≡ litBit (lit .signal)
+  pub number : r ≡ lampNumber (lit .signal)
 
 pub record CallsWiden (f w out w′ out′ : List ℕ) (r : ℕ) : Type 0 where
   pub outcome : Outcome

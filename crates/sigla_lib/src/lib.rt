@@ -1,9 +1,10 @@
 // The calls for programs in other languages: every slice goes as a pointer and a length, an array as a pointer. Each gives back 0, or the
 // number of the refusal.
-ghost use Rattle.sigla_lib.specs.Numbers.{CallsCheck, CallsWiden, CallsNarrow, CallsTally, CallsSetUp, CallsCeiling, CallsNewDay, CallsCheckAt, outcomeNumber};
+ghost use Rattle.sigla_lib.specs.Numbers.{CallsCheck, CallsLamp, CallsWiden, CallsNarrow, CallsTally, CallsSetUp, CallsCeiling, CallsNewDay, CallsCheckAt, outcomeNumber};
 ghost use mathlib.Core.Path.{_≡_};
 use cabinet::Allowance;
 use desk::Outcome;
+use lamp::Signal;
 use reading::Refusal;
 
 fn number(r: Outcome) -> u8
@@ -21,6 +22,31 @@ pub extern "C" fn sigla_check(file: &[u8], work: &mut [u32], out: &mut [u8]) -> 
     ensures { λ r. ⌜ CallsCheck (now (file .entry)) (now (work .entry)) (now (out .entry)) (now (work .exit)) (now (out .exit)) r ⌝ }
 {
     number(desk::check_file(file, work, out))
+}
+
+// ---- The lamp
+
+// Whether a query of the file has a diagnostic: then `lit` is 1, and else 0. Each query runs until its first one.
+#[no_mangle]
+pub extern "C" fn sigla_lamp(file: &[u8], work: &mut [u32], lit: &mut u32) -> u8
+    ensures { λ r. ⌜ CallsLamp (now (file .entry)) (now (work .entry)) (now (work .exit)) (now (lit .exit)) r ⌝ }
+{
+    let l = lamp::lamp(file, work);
+    let shown = l.signal;
+    match shown {
+        Signal::Yes => {
+            *lit = 1;
+            0
+        }
+        Signal::No => {
+            *lit = 0;
+            0
+        }
+        Signal::Refused(e) => {
+            *lit = 0;
+            desk::refusal_number(e)
+        }
+    }
 }
 
 // ---- The two editions

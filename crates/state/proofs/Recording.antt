@@ -12,13 +12,14 @@ use Rattle.cells.proofs.Frame.{more-refl}
 use Rattle.cells.proofs.Making.{adds-old, reserve-other, reserve-keeps, reserve-count, reserve-adds, reserve-holds, put-field-keeps, put-field-old, put-field-holds, new-record-other, new-record-keeps, new-record-old, new-record-more, new-record-holds}
 use Rattle.meaning.specs.Sound.{Sound}
 use Rattle.meaning.specs.File.{Described}
-use Rattle.meaning.specs.Check.{Checker}
+use Rattle.meaning.specs.Check.{Checker, withState}
 use Rattle.state.specs.Runs.{Runs, Grew}
 use Rattle.state.proofs.Running.{runs-state}
 
 module _ {f w : List ℕ} {T : Rows} {d : Described} {c : Checker} (sound : Sound d) (R : Runs f w T d c) where
   module _ (n : ℕ) (room : getD w RECORD-FIELD-COUNT 0 + n ≤ 512) where
     pub reserve-runs : Runs f (reserveW w n) T d c
+    unfolding withState
     reserve-runs = runs-state sound R (adds-old (R .holds .cells) (reserve-adds w n room (R .holds .long))) more-refl
         (record { env = reserve-other w n room ENV-LEN (λ q. omega arith); diagnostics = reserve-other w n room DIAGNOSTIC-COUNT (λ q. omega arith); at = λ i l h. reserve-other w n room i (λ q. omega arith); long = reserve-keeps w n room .long })
         (reserve-holds w n room (R .holds)) refl
@@ -36,6 +37,7 @@ module _ {f w : List ℕ} {T : Rows} {d : Described} {c : Checker} (sound : Soun
     fits = omega (arith, S .given, R .holds .cells .few-fields)
 
     pub put-field-runs : Runs f (putFieldW w i name t) T d c
+    unfolding withState
     put-field-runs =
         let K = put-field-keeps w i name t fits small in
         runs-state sound R (put-field-old w i name t fits small S low high (R .holds .cells .few-records)) more-refl
@@ -47,6 +49,7 @@ module _ {f w : List ℕ} {T : Rows} {d : Described} {c : Checker} (sound : Soun
     within = omega (arith, F .given, R .holds .cells .few-fields)
 
     pub new-record-runs : Runs f (newRecordW w from n) (rowsWith w from n T) d c
+    unfolding withState
     new-record-runs =
         let other = new-record-other w from n room within in
         runs-state sound R (new-record-old w from n room within (R .holds .long)) (new-record-more w from n room within (R .holds .long) T)

@@ -14,7 +14,7 @@ use Rattle.cells.proofs.Elsewhere.{SameState}
 use Rattle.meaning.specs.Diag.{Diagnostic}
 use Rattle.meaning.specs.Sound.{Sound}
 use Rattle.meaning.specs.File.{Described}
-use Rattle.meaning.specs.Check.{Checker}
+use Rattle.meaning.specs.Check.{Checker, withDiagnostics}
 use Rattle.state.specs.Words.{countedW}
 use Rattle.state.specs.Runs.{Runs, Grew}
 use Rattle.state.proofs.Running.{env-same, same-grew, runs-aside}
@@ -45,7 +45,8 @@ module _ (w : List ℕ) (room : getD w DIAGNOSTIC-COUNT 0 < 1536) where
 -- ---- The run after
 module _ {f w : List ℕ} {T : Rows} {d : Described} {c : Checker} (sound : Sound d) (R : Runs f w T d c)
     (x : Diagnostic) (room : getD w DIAGNOSTIC-COUNT 0 < 1536) where
-  pub count-runs : Runs f (countedW w) T d (record { state = c .state; env = c .env; diagnostics = x ∷ c .diagnostics })
+  pub count-runs : Runs f (countedW w) T d (withDiagnostics c (x ∷ c .diagnostics))
+  unfolding withDiagnostics
   count-runs =
       let len = count-other w room ENV-LEN (λ q. omega arith) in
       let more = counted w room (R .holds .long) in

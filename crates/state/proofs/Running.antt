@@ -20,7 +20,7 @@ use Rattle.cells.proofs.Holding.{annotate-keeps, annotate-holds, fresh-other, f
 use Rattle.cells.proofs.Making.{adds-refl, adds-trans, same-adds}
 use Rattle.meaning.specs.Sound.{Sound}
 use Rattle.meaning.specs.File.{Described}
-use Rattle.meaning.specs.Check.{Checker}
+use Rattle.meaning.specs.Check.{Checker, withState}
 use Rattle.state.specs.Words.{envOf}
 use Rattle.state.specs.Runs.{Runs, Grew}
 use Rattle.state.proofs.Standing.{stands-more}
@@ -68,7 +68,8 @@ pub keeps-quiet : {a e : ℕ} {w w′ : List ℕ} → TYS ≤ a → Keeps a e w 
 keeps-quiet lo k = record { env = k .below ENV-LEN (omega arith); diagnostics = k .below DIAGNOSTIC-COUNT (omega arith); at = λ i l h. k .below i (omega arith); long = k .long }
 
 pub runs-state : {f w w′ : List ℕ} {T T′ : Rows} {d : Described} {c : Checker} {st : State} → Sound d → Runs f w T d c → OldCells w w′ → More w T T′ → Quiet w w′
-    → Holds w′ T′ st → length (st .tys) ≡ length (c .state .tys) → Runs f w′ T′ d (record { state = st; env = c .env; diagnostics = c .diagnostics })
+    → Holds w′ T′ st → length (st .tys) ≡ length (c .state .tys) → Runs f w′ T′ d (withState c st)
+unfolding withState
 runs-state {f} {w} {w′} {T} {T′} {d} {c} sound R O M Q H nodes = record {
   stands = stands-more w w′ (O .said) M sound (Q .long) (R .stands);
   holds = H;
@@ -81,14 +82,14 @@ runs-state {f} {w} {w′} {T} {T′} {d} {c} sound R O M Q H nodes = record {
 
 module _ {f w : List ℕ} {T : Rows} {d : Described} {c : Checker} (sound : Sound d) (R : Runs f w T d c) where
   -- Node types, bindings and the undo log are the only words that changed: `annotate`, `unify`, `rollback`.
-  pub runs-slots : {w′ : List ℕ} {st : State} → Keeps TYS END w w′ → Holds w′ T st → length (st .tys) ≡ length (c .state .tys) → Runs f w′ T d (record { state = st; env = c .env; diagnostics = c .diagnostics })
+  pub runs-slots : {w′ : List ℕ} {st : State} → Keeps TYS END w w′ → Holds w′ T st → length (st .tys) ≡ length (c .state .tys) → Runs f w′ T d (withState c st)
   runs-slots K H nodes = runs-state sound R (same-old (keeps-cells (omega arith) K) (R .holds .cells)) more-refl (keeps-quiet (omega arith) K) H nodes
 
   pub grew-slots : {w′ : List ℕ} → Keeps TYS END w w′ → Grew w w′ 0 0
   grew-slots K = same-grew (R .holds) (keeps-cells (omega arith) K) (keeps-wider (omega arith) (omega arith) K)
 
   pub annotate-runs : (n : ℕ) (t : Ty) → n < length (c .state .tys) → getD (c .state .tys) n none ≡ none → Ok w t
-      → Runs f (annotateW w n t) T d (record { state = Bindings.annotate (c .state) n (tree T t); env = c .env; diagnostics = c .diagnostics })
+      → Runs f (annotateW w n t) T d (withState c (Bindings.annotate (c .state) n (tree T t)))
   unfolding Bindings.annotate
   annotate-runs n t lt free o = runs-slots (annotate-keeps w n t) (annotate-holds (R .holds) n t lt free o) (length-set (c .state .tys) n (some (tree T t)))
 
@@ -104,7 +105,7 @@ module _ {f w : List ℕ} {T : Rows} {d : Described} {c : Checker} (sound : Soun
       long = fresh-length (R .holds) few;
     }
 
-    pub fresh-runs : Runs f (freshW w) T d (record { state = Bindings.fresh (c .state); env = c .env; diagnostics = c .diagnostics })
+    pub fresh-runs : Runs f (freshW w) T d (withState c (Bindings.fresh (c .state)))
     unfolding Bindings.fresh
     fresh-runs = runs-state sound R (same-old (fresh-cells (R .holds) few) (R .holds .cells)) more-refl
         (record { env = fresh-word ENV-LEN (λ q. omega arith) (omega arith); diagnostics = fresh-word DIAGNOSTIC-COUNT (λ q. omega arith) (omega arith); at = λ i l h. fresh-word i (λ q. omega arith) (omega arith); long = fresh-length (R .holds) few })

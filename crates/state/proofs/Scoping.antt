@@ -22,7 +22,7 @@ use Rattle.cells.proofs.Elsewhere.{SameState, keeps-counts}
 use Rattle.meaning.specs.Sound.{Sound}
 use Rattle.meaning.specs.File.{Described}
 use Rattle.meaning.specs.Check as Check
-use Rattle.meaning.specs.Check.{Checker, Step, goes, andThen, lookupIn, withState}
+use Rattle.meaning.specs.Check.{Checker, Step, goes, andThen, lookupIn, withState, withEnv}
 use Rattle.state.specs.Words.{envOf, pushEnvW, Introduces}
 use Rattle.state.specs.Runs.{Runs, Grew}
 use Rattle.state.proofs.Lining.{Unlined, unlined-trans}
@@ -39,7 +39,8 @@ runs-env-length {f} {w} R = ap (λ (es : List (ℕ × ℕ)). length es) (R .env)
 -- ---- Words of the environment alone changed
 module _ {f w w′ : List ℕ} {T : Rows} {d : Described} {c : Checker} (sound : Sound d) (R : Runs f w T d c) (S : SameState w w′)
     (count : getD w′ DIAGNOSTIC-COUNT 0 ≡ getD w DIAGNOSTIC-COUNT 0) where
-  runs-env : (es : List (ℕ × ℕ)) → es ≡ envOf w′ (getD w′ ENV-LEN 0) → getD w′ ENV-LEN 0 ≤ 512 → Runs f w′ T d (record { state = c .state; env = es; diagnostics = c .diagnostics })
+  runs-env : (es : List (ℕ × ℕ)) → es ≡ envOf w′ (getD w′ ENV-LEN 0) → getD w′ ENV-LEN 0 ≤ 512 → Runs f w′ T d (withEnv c es)
+  unfolding withEnv
   runs-env es e few = runs-aside sound R S refl e few (R .diagnostics ∙ sym count) (omega (arith, count, R .few-diagnostics))
 
 -- ---- `push_env`
@@ -79,7 +80,7 @@ module _ (w : List ℕ) (symbol var : ℕ) (room : getD w ENV-LEN 0 < 512) (name
 
 module _ {f w : List ℕ} {T : Rows} {d : Described} {c : Checker} (sound : Sound d) (R : Runs f w T d c) where
   module _ (symbol var : ℕ) (room : getD w ENV-LEN 0 < 512) (name : symbol < 65536) (unknown : var < 65536) where
-    pub push-env-runs : Runs f (pushEnvW w symbol var) T d (record { state = c .state; env = (symbol, var) ∷ c .env; diagnostics = c .diagnostics })
+    pub push-env-runs : Runs f (pushEnvW w symbol var) T d (withEnv c ((symbol, var) ∷ c .env))
     push-env-runs =
         let other = push-other w symbol var room name unknown in
         runs-env sound R (push-aside w symbol var room name unknown) (other DIAGNOSTIC-COUNT (λ q. omega arith) (λ q. omega arith)) ((symbol, var) ∷ c .env)
@@ -118,7 +119,7 @@ module _ {f w : List ℕ} {T : Rows} {d : Described} {c : Checker} (sound : Soun
       rw (runs-env-length R, R .env, cut-length, env-same w now n (λ i h. cut-keeps .above (ENV + i) (omega arith)))
       (ap (λ (m : ℕ). drop k (envOf w m)) (sym all) ∙ env-drop w k n)
 
-  pub cut-runs : Runs f now T d (record { state = c .state; env = drop (length (c .env) - n) (c .env); diagnostics = c .diagnostics })
+  pub cut-runs : Runs f now T d (withEnv c (drop (length (c .env) - n) (c .env)))
   cut-runs = runs-env sound R cut-aside (cut-keeps .above DIAGNOSTIC-COUNT (omega arith)) _ cut-env (omega (arith, cut-length, R .few-env))
 
   pub cut-unlined : Unlined w now
@@ -129,7 +130,7 @@ module _ {f w : List ℕ} {T : Rows} {d : Described} {c : Checker} (sound : Soun
 
 -- ---- `rollback`
 module _ {f w w′ : List ℕ} {T : Rows} {d : Described} {c : Checker} {mark : ℕ} (sound : Sound d) (R : Runs f w T d c) (B : RollsBack w mark w′) (past : History) where
-  rolled-runs : Runs f w′ T d (record { state = Bindings.rollback (c .state) (record { undo = mark; past = past }); env = c .env; diagnostics = c .diagnostics })
+  rolled-runs : Runs f w′ T d (withState c (Bindings.rollback (c .state) (record { undo = mark; past = past })))
   unfolding Bindings.rollback withHistory
   rolled-runs = runs-slots sound R (B .keeps) (B .is T (c .state) (R .holds) past) (rewind-nodes (length (c .state .undo) - mark) (c .state .undo) (c .state))
 
@@ -137,7 +138,8 @@ module _ {f w w′ : List ℕ} {T : Rows} {d : Described} {c : Checker} {mark : 
     still : n ≤ getD w′ ENV-LEN 0
     still = omega (arith, B .keeps .below ENV-LEN (omega arith))
 
-    pub rollback-runs : Runs f (set w′ ENV-LEN n) T d (record { state = Bindings.rollback (c .state) (record { undo = mark; past = past }); env = drop (length (c .env) - n) (c .env); diagnostics = c .diagnostics })
+    pub rollback-runs : Runs f (set w′ ENV-LEN n) T d (withEnv (withState c (Bindings.rollback (c .state) (record { undo = mark; past = past }))) (drop (length (c .env) - n) (c .env)))
+    unfolding withState
     rollback-runs = cut-runs sound rolled-runs n still
 
     pub rollback-unlined : Unlined w (set w′ ENV-LEN n)
@@ -155,11 +157,12 @@ pub record Gives {A : Type 0} (f w w′ : List ℕ) (T : Rows) (d : Described) (
   pub runs : Runs f w′ T d after
   pub unlined : Unlined w w′
   pub reported : after .diagnostics ≡ before .diagnostics
+  pub until : after .until ≡ before .until
   pub grew : Grew w w′ 0 0
 
 pub introduce-runs : {f w w′ : List ℕ} {T : Rows} {d : Described} {c : Checker} {symbol r : ℕ} → Sound d → Runs f w T d c → symbol < 65536
     → (lookupIn (c .env) symbol ≡ none → (length (c .state .subst) < 512) × (getD w ENV-LEN 0 < 512)) → Introduces w symbol w′ r → Gives f w w′ T d c (Check.introduce symbol c) r
-unfolding Check.introduce Check.lookup Check.freshVarId Check.pushEnv withState andThen Bindings.freshId
+unfolding Check.introduce Check.lookup Check.freshVarId Check.pushEnv withState withEnv andThen Bindings.freshId
 introduce-runs {f} {w} {w′} {T} {d} {c} {symbol} {r} sound R name room I = go (lookupIn (c .env) symbol) refl
   where
     sought : lookupIn (envOf w (getD w ENV-LEN 0)) symbol ≡ lookupIn (c .env) symbol
@@ -169,7 +172,7 @@ introduce-runs {f} {w} {w′} {T} {d} {c} {symbol} {r} sound R name room I = go 
     go (some v) q =
         let is : r ≡ v = rw (sought, q) at (I .is) in
         let words : w′ ≡ w = rw (sought, q) at (I .words) in
-        rw (is, words) record { after = c; step = rw (q, Check.introduce); runs = R; unlined = record { at = λ i l h. refl }; reported = refl; grew = grew-refl }
+        rw (is, words) record { after = c; step = rw (q, Check.introduce); runs = R; unlined = record { at = λ i l h. refl }; reported = refl; until = refl; grew = grew-refl }
     go none q =
         let is : r ≡ getD w UNKNOWNS 0 = rw (sought, q) at (I .is) in
         let words : w′ ≡ pushEnvW (freshW w) symbol (getD w UNKNOWNS 0) = rw (sought, q) at (I .words) in
@@ -179,10 +182,11 @@ introduce-runs {f} {w} {w′} {T} {d} {c} {symbol} {r} sound R name room I = go 
         let space : getD (freshW w) ENV-LEN 0 < 512 = omega (arith, runs-env-length F, runs-env-length R, room q .1) in
         let small : getD w UNKNOWNS 0 < 65536 = omega arith in
         rw (is, words) record {
-          after = record { state = Bindings.fresh (c .state); env = (symbol, getD w UNKNOWNS 0) ∷ c .env; diagnostics = c .diagnostics };
+          after = withEnv (withState c (Bindings.fresh (c .state))) ((symbol, getD w UNKNOWNS 0) ∷ c .env);
           step = rw (q, Check.introduce, new);
           runs = push-env-runs sound F symbol (getD w UNKNOWNS 0) space name small;
           unlined = unlined-trans (record { at = λ i l h. fresh-word sound R few i (λ q. omega arith) (omega arith) }) (push-env-unlined sound F symbol (getD w UNKNOWNS 0) space name small);
           reported = refl;
+          until = refl;
           grew = grew-trans (fresh-grew sound R few) (push-env-grew sound F symbol (getD w UNKNOWNS 0) space name small);
         }

@@ -1,4 +1,4 @@
--- The start of a run: all counters are 0 and no node has a type. The words stand for the run that `begin` of
+-- The start of a run: all counters are 0 and no node has a type. The words stand for the run that `beginUntil` of
 -- meaning/specs/Check.antt gives, over the file that was read.
 use mathlib.Core.List.{List}
 use mathlib.Core.Option.{Option, none}
@@ -14,7 +14,7 @@ use Rattle.cells.proofs.Frame.{more-refl}
 use Rattle.cells.proofs.Starting.{start-holds}
 use Rattle.meaning.specs.Sound.{Sound}
 use Rattle.meaning.specs.File.{Described}
-use Rattle.meaning.specs.Check.{begin}
+use Rattle.meaning.specs.Check.{Until, beginUntil}
 use Rattle.tree.specs.Stands.{Stands}
 use Rattle.state.specs.Words.{envOf}
 use Rattle.state.specs.Runs.{Runs}
@@ -31,9 +31,9 @@ pub record Started (w w′ : List ℕ) : Type 0 where
   pub undo : getD w′ UNDO-LEN 0 ≡ 0
   pub untyped : (i : ℕ) → i < 512 → getD w′ (TYS + 2 * i) 0 ≡ 0
 
-pub start-runs : {f w w′ : List ℕ} {T : Rows} {d : Described} (ceiling : ℕ) → Sound d → Stands f w T d → Started w w′ → Runs f w′ T d (begin ceiling (length (d .ast .nodes)))
-unfolding begin envOf
-start-runs {f} {w} {w′} {T} {d} ceiling sound before B =
+pub start-runs : {f w w′ : List ℕ} {T : Rows} {d : Described} (u : Until) (ceiling : ℕ) → Sound d → Stands f w T d → Started w w′ → Runs f w′ T d (beginUntil u ceiling (length (d .ast .nodes)))
+unfolding beginUntil envOf
+start-runs {f} {w} {w′} {T} {d} u ceiling sound before B =
     let n = length (d .ast .nodes) in
     let S : Stands f w′ T d = stands-more w w′ (B .keeps .below) more-refl sound (B .keeps .long) before in
     record {

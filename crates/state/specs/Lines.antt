@@ -1,16 +1,17 @@
 -- The lines of the diagnostics so far, in the answer slice: they stand from its start to the place that two words keep, or they are
--- longer than the slice, and a word says so.
+-- longer than the slice, and a word says so. Two more words have what ends the run early and, where that came, the visits left.
 use mathlib.Core.List.{List, [], _∷_, _++_}
 use mathlib.Core.Path.{_≡_}
 use Prim.Native.Nat.{ℕ, _+_, _*_, _/_, _%_, _<_, _≤_}
 use lib.ListN.{length, getD, set, take, drop}
-use Rattle.work.specs.Layout.{PLACE, PLACE-HIGH, FULL}
+use Rattle.work.specs.Layout.{PLACE, PLACE-HIGH, FULL, UNTIL, LEFT}
 use Rattle.unification.specs.Bindings.{Subst, State}
 use Rattle.cells.specs.Stands.{Rows, Holds, Keeps}
 use Rattle.meaning.specs.Syntax.{Span}
 use Rattle.meaning.specs.Diag as Diag
 use Rattle.meaning.specs.Diag.{Diagnostic}
 use Rattle.meaning.specs.File.{Described}
+use Rattle.meaning.specs.Check as Check
 use Rattle.meaning.specs.Check.{Checker, reversed}
 use Rattle.meaning.specs.Messages.{messageText}
 use Rattle.meaning.specs.Answer.{bytes₄, hexLine, diagnosticBytes, diagnosticLine, diagnosticLines}
@@ -20,10 +21,17 @@ use Rattle.tree.specs.Nodes.{lineStartW}
 use Rattle.tree.specs.Stands.{Stands}
 use Rattle.messages.specs.declared.Message.{Message}
 use Rattle.messages.specs.Said.{said, OkMessage}
+use Rattle.state.specs.declared.Done.{Done}
+use Rattle.state.specs.declared.Done.the-variants as Done
+use Rattle.state.specs.declared.Until.{Until}
+use Rattle.state.specs.declared.Until.the-variants as Until
 use Rattle.state.specs.Words.{countedW}
 
 abbrev pub AFTER-FULL : ℕ
 AFTER-FULL = 9624
+
+abbrev pub AFTER-LEFT : ℕ
+AFTER-LEFT = 9626
 
 abbrev pub placeW : List ℕ → ℕ
 placeW w = getD w PLACE 0 + getD w PLACE-HIGH 0 * 4294967296
@@ -88,9 +96,24 @@ pub data Lines (w o s : List ℕ) : Type 0 where
   within : getD w FULL 0 ≡ 0 → placeW w ≡ length s → length s ≤ length o → take (length s) o ≡ s → Lines w o s
   beyond : getD w FULL 0 ≡ 1 → length o < length s → Lines w o s
 
--- The lines of a checker's diagnostics stand in the slice, the oldest first.
-abbrev pub Told : Described → List ℕ → List ℕ → Checker → Type 0
-Told d w o c = Lines w o (diagnosticLines (messageText (d .names) (d .schema)) (reversed (c .diagnostics) []))
+-- What ends a run early besides its visits, as it is named and as a word.
+abbrev pub untilOf : Until → Check.Until
+untilOf Until.TheEnd = Check.theEnd
+untilOf Until.FirstDiagnostic = Check.firstDiagnostic
+
+abbrev pub untilW : Check.Until → ℕ
+untilW Check.theEnd = 0
+untilW Check.firstDiagnostic = 1
+
+pub record Keeping (w o s : List ℕ) (u : Check.Until) (l : ℕ) : Type 0 where
+  pub lines : Lines w o s
+  pub until : getD w UNTIL 0 ≡ untilW u
+  pub left : getD w LEFT 0 ≡ l
+
+-- The lines of a checker's diagnostics stand in the slice, the oldest first. While the run goes on the word of the visits left is 0;
+-- where it ended early, by its visits or by a diagnostic, those that were left stand there.
+abbrev pub Told : Described → List ℕ → List ℕ → Checker → ℕ → Type 0
+Told d w o c l = Keeping w o (diagnosticLines (messageText (d .names) (d .schema)) (reversed (c .diagnostics) [])) (c .until) l
 
 -- A diagnostic's lines behind those before it, whatever they were.
 pub record Tells (f w o : List ℕ) (n : ℕ) (m : Message) (w′ o′ : List ℕ) : Type 0 where
@@ -99,7 +122,12 @@ pub record Tells (f w o : List ℕ) (n : ℕ) (m : Message) (w′ o′ : List �
   pub keeps : Keeps PLACE AFTER-FULL w w′
   pub long : length o′ ≡ length o
 
-pub record Rejected (f w o : List ℕ) (n : ℕ) (m : Message) (w′ o′ : List ℕ) : Type 0 where
+-- The run goes on; or it was to last until here, and the visits left are kept.
+pub data Halts (w : List ℕ) (left : ℕ) : List ℕ → Done → Type 0 where
+  goes-on : getD w UNTIL 0 ≡ 0 → Halts w left w (Done.On left)
+  ends-here : ¬ (getD w UNTIL 0 ≡ 0) → Halts w left (set w LEFT left) Done.Out
+
+pub record Rejected (f w o : List ℕ) (n : ℕ) (m : Message) (left : ℕ) (w′ o′ : List ℕ) (r : Done) : Type 0 where
   pub between : List ℕ
   pub tells : Tells f w o n m between o′
-  pub words : w′ ≡ countedW between
+  pub halts : Halts (countedW between) left w′ r

@@ -1,10 +1,11 @@
-// What a run keeps in the slice besides types: the environment, and where the lines of its diagnostics end in the answer slice.
+// What a run keeps in the slice besides types: the environment, where the lines of its diagnostics end in the answer slice, and what
+// ends it early.
 ghost use mathlib.Core.Path.{_≡_};
 ghost use lib.ListN.{getD, set};
 ghost use Rattle.work.specs.Layout.{ENV-LEN};
 ghost use Rattle.meaning.specs.Check.{lookupIn};
 ghost use Rattle.state.specs.Words.{countedW, envOf, knownAs, pushEnvW, Introduces};
-ghost use Rattle.state.specs.Lines.{placeW, setPlaceW, WritesSpan, WritesHead, WritesDiagnostic, WritesCodeLine, WritesSaid, WritesMessageLine, WritesLine, Tells, Rejected};
+ghost use Rattle.state.specs.Lines.{placeW, setPlaceW, WritesSpan, WritesHead, WritesDiagnostic, WritesCodeLine, WritesSaid, WritesMessageLine, WritesLine, untilOf, untilW, Tells, Halts, Rejected};
 use messages::Message;
 use work::put;
 use work::wide;
@@ -14,6 +15,18 @@ use writer::Wrote;
 pub enum Known {
     As(u32),
     Nothing,
+}
+
+// The visits left; or the run ended, since they ran out or since what it was to last until has come.
+pub enum Done {
+    On(u32),
+    Out,
+}
+
+// What ends a run early besides its visits: nothing, or its first diagnostic.
+pub enum Until {
+    TheEnd,
+    FirstDiagnostic,
 }
 
 // ---- The lines of the diagnostics, in the answer slice
@@ -32,13 +45,24 @@ fn set_place(w: &mut [u32], at: usize)
     put(w, work::PLACE_HIGH, (at / 4294967296) as u32);
 }
 
+fn until_word(until: Until) -> u32
+    ensures { λ r. ⌜ r ≡ untilW (untilOf until) ⌝ }
+{
+    match until {
+        Until::TheEnd => 0,
+        Until::FirstDiagnostic => 1,
+    }
+}
+
 // No line yet.
-pub fn begin_lines(w: &mut [u32])
-    ensures { λ _. ⌜ now (w .exit) ≡ set (set (set (now (w .entry)) 9621 0) 9622 0) 9623 0 ⌝ }
+pub fn begin_lines(w: &mut [u32], until: Until)
+    ensures { λ _. ⌜ now (w .exit) ≡ set (set (set (set (set (now (w .entry)) 9621 0) 9622 0) 9623 0) 9624 (untilW (untilOf until))) 9625 0 ⌝ }
 {
     put(w, work::PLACE, 0);
     put(w, work::PLACE_HIGH, 0);
     put(w, work::FULL, 0);
+    put(w, work::UNTIL, until_word(until));
+    put(w, work::LEFT, 0);
 }
 
 // The span stands in the node's line as the answer has it: sixteen digits, after the two of the line's kind.
@@ -152,12 +176,23 @@ fn count(w: &mut [u32])
     }
 }
 
-// A diagnostic at a node.
-pub fn reject(f: &[u8], w: &mut [u32], n: u32, m: Message, out: &mut [u8])
-    ensures { λ _. ⌜ Rejected (now (f .entry)) (now (w .entry)) (now (out .entry)) n m (now (w .exit)) (now (out .exit)) ⌝ }
+fn halt(w: &mut [u32], left: u32) -> Done
+    ensures { λ r. ⌜ Halts (now (w .entry)) left (now (w .exit)) r ⌝ }
+{
+    if word(w, work::UNTIL) == 0 {
+        return Done::On(left);
+    }
+    put(w, work::LEFT, left);
+    Done::Out
+}
+
+// A diagnostic at a node, and whether the run goes on.
+pub fn reject(f: &[u8], w: &mut [u32], n: u32, m: Message, left: u32, out: &mut [u8]) -> Done
+    ensures { λ r. ⌜ Rejected (now (f .entry)) (now (w .entry)) (now (out .entry)) n m left (now (w .exit)) (now (out .exit)) r ⌝ }
 {
     tell(f, w, n, m, out);
     count(w);
+    halt(w, left)
 }
 
 // Newest first.

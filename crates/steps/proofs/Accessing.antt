@@ -28,12 +28,11 @@ use Rattle.meaning.proofs.Visits.{key-declared}
 use Rattle.messages.specs.declared.Message.{Message}
 use Rattle.messages.specs.declared.Message.the-variants as Message
 use Rattle.messages.specs.Said.{said, OkMessage}
-use Rattle.state.specs.Lines.{Rejected}
 use Rattle.state.specs.Runs.{Runs}
 use Rattle.steps.specs.declared.Typed.{Typed}
 use Rattle.steps.specs.declared.Typed.the-variants as Typed
 use Rattle.steps.specs.Contracts.{nodesOf, Fine, OnType}
-use Rattle.steps.specs.Outside.{keyTyW, valueTyW, FieldIs, Shadows, ValueOf, FieldAt, KeyOf, SelectOf}
+use Rattle.steps.specs.Outside.{keyTyW, valueTyW, RejectsTy, FieldIs, Shadows, ValueOf, FieldAt, KeyOf, SelectOf}
 use Rattle.steps.proofs.Looking.{key-stands, key-ok, value-stands, value-ok}
 use Rattle.steps.proofs.Ending.{ends-with, reject-ty-ends}
 
@@ -50,7 +49,7 @@ module _ {f w ou : List ℕ} {n name left : ℕ} {t : Ty} {b : Bound} (F : Field
     };
   }
 
-  pub field-at-none : b ≡ Free → {w′ ou′ : List ℕ} {r : Typed} → (r ≡ Typed.Got Error left) × (Rejected f w ou n (Message.NoField name) w′ ou′) → FieldAt f w ou n name t left w′ ou′ r
+  pub field-at-none : b ≡ Free → {w′ ou′ : List ℕ} {r : Typed} → RejectsTy f w ou n (Message.NoField name) left w′ ou′ r → FieldAt f w ou n name t left w′ ou′ r
   unfolding fieldAt
   field-at-none q x = record {
     is = λ d there. record {
@@ -70,7 +69,7 @@ module _ (m : Described → Tree.Ty → Does Tree.Ty) {f w ou : List ℕ} {n lef
 
   -- One diagnostic.
   pub head-rejects : (x : Message) → (Ok w t → OkMessage w x) → ((T : Rows) (d : Described) (c : Checker) → Runs f w T d c → Ok w t → m d (tree T t) c ≡ rejectTy (d .schema) (nodesOf d) n (said T (c .state .subst) x) c)
-      → {w′ ou′ : List ℕ} {r : Typed} → (r ≡ Typed.Got Error left) × (Rejected f w ou n x w′ ou′) → OnType m f w ou n t left w′ ou′ r
+      → {w′ ou′ : List ℕ} {r : Typed} → RejectsTy f w ou n x left w′ ou′ r → OnType m f w ou n t left w′ ou′ r
   head-rejects x ok h q = record {
     is = λ d there. record { is = λ T c B fine. rw (h T d c (B .runs) (fine .ok)) (reject-ty-ends B n there x (ok (fine .ok)) q) };
   }
@@ -84,7 +83,7 @@ module _ {f w ou : List ℕ} (n name : ℕ) {left : ℕ} {t : Ty} where
   unfolding selectOf
   select-error e = head-gives (selects n name) Error (λ T d c R o. (tt, rw e))
 
-  pub select-unknown : (x : ℕ) → t ≡ Var x → {w′ ou′ : List ℕ} {r : Typed} → (r ≡ Typed.Got Error left) × (Rejected f w ou n Message.UnknownType w′ ou′) → SelectOf f w ou n name t left w′ ou′ r
+  pub select-unknown : (x : ℕ) → t ≡ Var x → {w′ ou′ : List ℕ} {r : Typed} → RejectsTy f w ou n Message.UnknownType left w′ ou′ r → SelectOf f w ou n name t left w′ ou′ r
   unfolding selectOf unresolved
   select-unknown x e q = head-rejects (selects n name) Message.UnknownType (λ o. tt) (λ T d c R o. rw e) q
 
@@ -95,12 +94,12 @@ module _ {f w ou : List ℕ} (n name : ℕ) {left : ℕ} {t : Ty} where
         let z : some (tree T (p .ty)) ≡ findLabel name (T k) = rw q at (F .is T (R .holds .cells) (rw e at o)) in
         (rw q at (F .ok T (R .holds .cells) (rw e at o)), rw (e, ← z, selectOf)))
 
-    pub select-none : b ≡ Nothing → {w′ ou′ : List ℕ} {r : Typed} → (r ≡ Typed.Got Error left) × (Rejected f w ou n (Message.NoAlternative name) w′ ou′) → SelectOf f w ou n name t left w′ ou′ r
+    pub select-none : b ≡ Nothing → {w′ ou′ : List ℕ} {r : Typed} → RejectsTy f w ou n (Message.NoAlternative name) left w′ ou′ r → SelectOf f w ou n name t left w′ ou′ r
     unfolding selectOf
     select-none q x = head-rejects (selects n name) (Message.NoAlternative name) (λ o. tt) (λ T d c R o.
         let z : none ≡ findLabel name (T k) = rw q at (F .is T (R .holds .cells) (rw e at o)) in rw (e, ← z, selectOf)) x
 
-  pub select-other : OneOf (0 ∷ 1 ∷ 2 ∷ 3 ∷ 4 ∷ []) (tagOf the-type t) → {w′ ou′ : List ℕ} {r : Typed} → (r ≡ Typed.Got Error left) × (Rejected f w ou n (Message.NotAUnion t) w′ ou′) → SelectOf f w ou n name t left w′ ou′ r
+  pub select-other : OneOf (0 ∷ 1 ∷ 2 ∷ 3 ∷ 4 ∷ []) (tagOf the-type t) → {w′ ou′ : List ℕ} {r : Typed} → RejectsTy f w ou n (Message.NotAUnion t) left w′ ou′ r → SelectOf f w ou n name t left w′ ou′ r
   unfolding selectOf
   select-other x q = head-rejects (selects n name) (Message.NotAUnion t) (λ o. o) (λ T d c R o. go d T c t x) q
     where
@@ -129,7 +128,7 @@ module _ {f w ou : List ℕ} (n name : ℕ) {left : ℕ} {t : Ty} where
   unfolding keyOf
   key-error e = head-gives (keys n name) Error (λ T d c R o. (tt, rw e))
 
-  pub key-unknown : (x : ℕ) → t ≡ Var x → {w′ ou′ : List ℕ} {r : Typed} → (r ≡ Typed.Got Error left) × (Rejected f w ou n Message.UnknownType w′ ou′) → KeyOf f w ou n name t left w′ ou′ r
+  pub key-unknown : (x : ℕ) → t ≡ Var x → {w′ ou′ : List ℕ} {r : Typed} → RejectsTy f w ou n Message.UnknownType left w′ ou′ r → KeyOf f w ou n name t left w′ ou′ r
   unfolding keyOf unresolved
   key-unknown x e q = head-rejects (keys n name) Message.UnknownType (λ o. tt) (λ T d c R o. rw e) q
 
@@ -153,7 +152,7 @@ module _ {f w ou : List ℕ} (n name : ℕ) {left : ℕ} {t : Ty} where
     key-absent q = head-gives (keys n name) Error (λ T d c R o.
         let z : none ≡ keyTy (d .schema) (nodesOf d) p = rw (← k, q) at (key-stands R p) in (tt, rw (e, ← z, keyOf)))
 
-  pub key-other : OneOf (0 ∷ 1 ∷ 2 ∷ 5 ∷ []) (tagOf the-type t) → {w′ ou′ : List ℕ} {r : Typed} → (r ≡ Typed.Got Error left) × (Rejected f w ou n (Message.NoFields t) w′ ou′) → KeyOf f w ou n name t left w′ ou′ r
+  pub key-other : OneOf (0 ∷ 1 ∷ 2 ∷ 5 ∷ []) (tagOf the-type t) → {w′ ou′ : List ℕ} {r : Typed} → RejectsTy f w ou n (Message.NoFields t) left w′ ou′ r → KeyOf f w ou n name t left w′ ou′ r
   unfolding keyOf
   key-other x q = head-rejects (keys n name) (Message.NoFields t) (λ o. o) (λ T d c R o. go d T c t x) q
     where
@@ -176,12 +175,12 @@ module _ {f w ou : List ℕ} (n : ℕ) {left : ℕ} {t : Ty} where
   unfolding valueOf
   value-error e = head-gives (values n) Error (λ T d c R o. (tt, rw e))
 
-  pub value-unknown : (x : ℕ) → t ≡ Var x → {w′ ou′ : List ℕ} {r : Typed} → (r ≡ Typed.Got Error left) × (Rejected f w ou n Message.UnknownType w′ ou′) → ValueOf f w ou n t left w′ ou′ r
+  pub value-unknown : (x : ℕ) → t ≡ Var x → {w′ ou′ : List ℕ} {r : Typed} → RejectsTy f w ou n Message.UnknownType left w′ ou′ r → ValueOf f w ou n t left w′ ou′ r
   unfolding valueOf unresolved
   value-unknown x e q = head-rejects (values n) Message.UnknownType (λ o. tt) (λ T d c R o. rw e) q
 
   module _ {p : ℕ} (e : t ≡ Fact p) {b : Bool} (S : Shadows w p b) where
-    pub value-shadowed : b ≡ true → {w′ ou′ : List ℕ} {r : Typed} → (r ≡ Typed.Got Error left) × (Rejected f w ou n Message.ValueShadowed w′ ou′) → ValueOf f w ou n t left w′ ou′ r
+    pub value-shadowed : b ≡ true → {w′ ou′ : List ℕ} {r : Typed} → RejectsTy f w ou n Message.ValueShadowed left w′ ou′ r → ValueOf f w ou n t left w′ ou′ r
     unfolding valueOf
     value-shadowed q x = head-rejects (values n) Message.ValueShadowed (λ o. tt) (λ T d c R o. rw (e, ← (S .is f T d c R), q, valueOf)) x
 
@@ -192,12 +191,12 @@ module _ {f w ou : List ℕ} (n : ℕ) {left : ℕ} {t : Ty} where
           let y : some (tree T u) ≡ valueTy (d .schema) (nodesOf d) p = rw (← v, z) at (value-stands R p) in
           (rw (← v, z) at (value-ok R p), rw (e, ← (S .is f T d c R), q, ← y, valueOf)))
 
-      pub value-absent : value ≡ Free → {w′ ou′ : List ℕ} {r : Typed} → (r ≡ Typed.Got Error left) × (Rejected f w ou n Message.NoValue w′ ou′) → ValueOf f w ou n t left w′ ou′ r
+      pub value-absent : value ≡ Free → {w′ ou′ : List ℕ} {r : Typed} → RejectsTy f w ou n Message.NoValue left w′ ou′ r → ValueOf f w ou n t left w′ ou′ r
       unfolding valueOf
       value-absent z x = head-rejects (values n) Message.NoValue (λ o. tt) (λ T d c R o.
           let y : none ≡ valueTy (d .schema) (nodesOf d) p = rw (← v, z) at (value-stands R p) in rw (e, ← (S .is f T d c R), q, ← y, valueOf)) x
 
-  pub value-other : OneOf (0 ∷ 1 ∷ 2 ∷ 4 ∷ 5 ∷ []) (tagOf the-type t) → {w′ ou′ : List ℕ} {r : Typed} → (r ≡ Typed.Got Error left) × (Rejected f w ou n (Message.NotAFact t) w′ ou′) → ValueOf f w ou n t left w′ ou′ r
+  pub value-other : OneOf (0 ∷ 1 ∷ 2 ∷ 4 ∷ 5 ∷ []) (tagOf the-type t) → {w′ ou′ : List ℕ} {r : Typed} → RejectsTy f w ou n (Message.NotAFact t) left w′ ou′ r → ValueOf f w ou n t left w′ ou′ r
   unfolding valueOf
   value-other x q = head-rejects (values n) (Message.NotAFact t) (λ o. o) (λ T d c R o. go d T c t x) q
     where

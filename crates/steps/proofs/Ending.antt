@@ -15,27 +15,28 @@ use Rattle.cells.specs.Words.{annotateW, freshW}
 use Rattle.cells.specs.Stands.{Rows, tree, Ok}
 use Rattle.cells.proofs.Holding.{annotate-keeps}
 use Rattle.cells.proofs.Frame.{more-refl}
-use Rattle.meaning.specs.Diag.{Diagnostic}
 use Rattle.meaning.specs.File.{Described}
 use Rattle.meaning.specs.Check as Check
-use Rattle.meaning.specs.Check.{Checker, Step, goes, andThen, lookupIn, reversed}
-use Rattle.meaning.specs.Messages.{messageText}
-use Rattle.meaning.specs.Answer.{diagnosticLines}
+use Rattle.meaning.specs.Check.{Checker, Step, goes, andThen, lookupIn}
 use Rattle.meaning.specs.Grades.{one-diagnostic}
 use Rattle.meaning.proofs.Steps.{same-self}
 use Rattle.messages.specs.declared.Message.{Message}
 use Rattle.messages.specs.Said.{said, OkMessage}
 use Rattle.state.specs.Words.{Introduces}
-use Rattle.state.specs.Lines.{Lines, Told, Rejected}
+use Rattle.state.specs.declared.Done.{Done}
+use Rattle.state.specs.declared.Done.the-variants as Done
+use Rattle.state.specs.Lines.{Told, Rejected}
 use Rattle.state.proofs.Running.{grew-refl, annotate-runs, grew-slots, fresh-word, fresh-runs, fresh-grew}
 use Rattle.state.proofs.Scoping.{runs-env-length, Gives, introduce-runs}
-use Rattle.state.proofs.Lining.{lines-same}
-use Rattle.state.proofs.Lined.{rejected-runs, rejected-grew, rejected-lines}
+use Rattle.state.proofs.Lining.{told-same}
+use Rattle.state.proofs.Lined.{rejected-runs, rejected-grew, rejected-on, rejected-out}
 use Rattle.steps.specs.declared.Typed.{Typed}
 use Rattle.steps.specs.declared.Typed.the-variants as Typed
-use Rattle.steps.specs.Ends.{typed, silent, numbered, Ends, went}
+use Rattle.steps.specs.Ends.{typed, done, silent, numbered, Ends, went, spent}
 use Rattle.steps.specs.Loads.{only, Begins}
 use Rattle.steps.specs.Contracts.{nodesOf, Rejects, Notes, Freshens, Brings}
+use Rattle.steps.specs.Outside.{RejectsTy}
+use Rattle.steps.proofs.Results.{done-typed}
 
 module _ {f w ou : List ℕ} {T : Rows} {d : Described} {left : ℕ} {c : Checker} (B : Begins f w ou T d (only one-diagnostic) left c) where
   -- A type in hand comes back.
@@ -46,23 +47,25 @@ module _ {f w ou : List ℕ} {T : Rows} {d : Described} {left : ℕ} {c : Checke
     room : getD w DIAGNOSTIC-COUNT 0 < 1536
     room = omega (arith, B .runs .diagnostics, B .free .diagnostics)
 
-    pub reject-ends : {w′ ou′ : List ℕ} → Rejected f w ou n m w′ ou′ → Ends f w ou w′ ou′ T d 0 0 (silent left) (Check.reject (d .schema) (nodesOf d) n (said T (c .state .subst) m) c)
-    unfolding Check.reject
-    reject-ends x = went (record { T′ = T; more = more-refl; runs = rejected-runs (B .sound) (B .runs) x room; lines = rejected-lines (B .sound) (B .runs) x room there ok (B .lines); grew = rejected-grew (B .sound) (B .runs) x room; is = B .visits })
+    -- By what the run is to last until.
+    pub reject-ends : {w′ ou′ : List ℕ} {r : Done} → Rejected f w ou n m left w′ ou′ r → Ends f w ou w′ ou′ T d 0 0 (done r) (Check.reject (d .schema) (nodesOf d) n (said T (c .state .subst) m) c)
+    unfolding Check.reject Check.diagnosed Check.withDiagnostics Check.reported
+    reject-ends {w′} {ou′} {r} x = go (c .until) refl
+      where
+        go : (u : Check.Until) → c .until ≡ u → Ends f w ou w′ ou′ T d 0 0 (done r) (Check.reject (d .schema) (nodesOf d) n (said T (c .state .subst) m) c)
+        go Check.theEnd q =
+            let h = rejected-on (B .sound) (B .runs) x room there ok (B .lines) q in
+            rw (q, Check.reported) (went (record { T′ = T; more = more-refl; runs = rejected-runs (B .sound) (B .runs) x room; lines = h .1; grew = rejected-grew (B .sound) (B .runs) x room; is = h .0 ∙ ap Done.On (sym (B .visits)) }))
+        go Check.firstDiagnostic q =
+            let h = rejected-out (B .sound) (B .runs) x room there ok (B .lines) q in
+            rw (q, Check.reported) (spent (record { T′ = T; more = more-refl; runs = rejected-runs (B .sound) (B .runs) x room; lines = rw (B .visits) (h .1); grew = rejected-grew (B .sound) (B .runs) x room; is = h .0 }))
 
     -- `reject_ty`
-    pub reject-ty-ends : {w′ ou′ : List ℕ} {r : Typed} → (r ≡ Typed.Got Error left) × (Rejected f w ou n m w′ ou′) → Ends f w ou w′ ou′ T d 0 0 (typed w′ r) (Check.rejectTy (d .schema) (nodesOf d) n (said T (c .state .subst) m) c)
-    unfolding Check.rejectTy Check.reject andThen
-    reject-ty-ends e = rw (e .0) (went (record {
-      T′ = T;
-      more = more-refl;
-      runs = rejected-runs (B .sound) (B .runs) (e .1) room;
-      lines = rejected-lines (B .sound) (B .runs) (e .1) room there ok (B .lines);
-      grew = rejected-grew (B .sound) (B .runs) (e .1) room;
-      is = record { t = Error; res = ap (Typed.Got Error) (sym (B .visits)); ok = tt; is = refl };
-    }))
+    pub reject-ty-ends : {w′ ou′ : List ℕ} {r : Typed} → RejectsTy f w ou n m left w′ ou′ r → Ends f w ou w′ ou′ T d 0 0 (typed w′ r) (Check.rejectTy (d .schema) (nodesOf d) n (said T (c .state .subst) m) c)
+    unfolding Check.rejectTy
+    reject-ty-ends x = rw (x .is) (done-typed Error tt (reject-ends (x .rejected)))
 
-pub rejects : (f w : List ℕ) {ou w′ ou′ : List ℕ} (n : ℕ) (m : Message) (left : ℕ) → Rejected f w ou n m w′ ou′ → Rejects f w ou n m left w′ ou′
+pub rejects : (f w : List ℕ) {ou w′ ou′ : List ℕ} (n : ℕ) (m : Message) (left : ℕ) {r : Done} → Rejected f w ou n m left w′ ou′ r → Rejects f w ou n m left w′ ou′ r
 rejects f w n m left x d there = record { is = λ T c B ok. reject-ends B n there m ok x }
 
 -- ---- A node's type, and a new unknown
@@ -72,7 +75,7 @@ notes f w n t left d there = record {
   is = λ T c B fine.
       let R = B .runs in
       let free = B .free .ready .bare n (omega (arith, same-self n)) in
-      went (record { T′ = T; more = more-refl; runs = annotate-runs (B .sound) R n t (omega (arith, R .nodes)) free (fine .ok); lines = lines-same (record { at = λ i l h. annotate-keeps w n t .below i (omega arith) }) (B .lines); grew = grew-slots (B .sound) R (annotate-keeps w n t); is = B .visits });
+      went (record { T′ = T; more = more-refl; runs = annotate-runs (B .sound) R n t (omega (arith, R .nodes)) free (fine .ok); lines = told-same (record { at = λ i l h. annotate-keeps w n t .below i (omega arith) }) (B .lines); grew = grew-slots (B .sound) R (annotate-keeps w n t); is = B .visits });
 }
 
 pub freshens : (f w : List ℕ) {ou : List ℕ} (left : ℕ) → Freshens f w ou left (freshW w) ou (getD w UNKNOWNS 0)
@@ -81,21 +84,21 @@ freshens f w left d = record {
   is = λ T c B u.
       let R = B .runs in
       let few : length (c .state .subst) < 512 = omega (arith, B .free .unknowns) in
-      went (record { T′ = T; more = more-refl; runs = fresh-runs (B .sound) R few; lines = lines-same (record { at = λ i l h. fresh-word (B .sound) R few i (λ q. omega arith) (omega arith) }) (B .lines); grew = fresh-grew (B .sound) R few; is = (sym (R .holds .binds .unknowns), B .visits) });
+      went (record { T′ = T; more = more-refl; runs = fresh-runs (B .sound) R few; lines = told-same (record { at = λ i l h. fresh-word (B .sound) R few i (λ q. omega arith) (omega arith) }) (B .lines); grew = fresh-grew (B .sound) R few; is = (sym (R .holds .binds .unknowns), B .visits) });
 }
 
 -- ---- A variable's unknown
-given : {f w ou w′ : List ℕ} {T : Rows} {d : Described} {left x : ℕ} (c : Checker) (s : Step ℕ) → c .state .left ≡ left → Told d w ou c → Gives f w w′ T d c s x → ((b : Checker) → s ≡ goes x b → b .state .left ≡ c .state .left) → Ends f w ou w′ ou T d 0 0 (numbered x left) s
-given {w = w} {ou} {w′} {d = d} c s v t G same = rw (G .step) (went (record { T′ = _; more = more-refl; runs = G .runs; lines = subst (λ (ds : List Diagnostic). Lines w′ ou (diagnosticLines (messageText (d .names) (d .schema)) (reversed ds []))) (sym (G .reported)) (lines-same (G .unlined) t); grew = G .grew; is = (refl, same (G .after) (G .step) ∙ v) }))
+given : {f w ou w′ : List ℕ} {T : Rows} {d : Described} {left x : ℕ} (c : Checker) (s : Step ℕ) → c .state .left ≡ left → Told d w ou c 0 → Gives f w w′ T d c s x → ((b : Checker) → s ≡ goes x b → b .state .left ≡ c .state .left) → Ends f w ou w′ ou T d 0 0 (numbered x left) s
+given {w = w} {ou} {w′} {d = d} c s v t G same = rw (G .step) (went (record { T′ = _; more = more-refl; runs = G .runs; lines = rw (G .reported, G .until) (told-same (G .unlined) t); grew = G .grew; is = (refl, same (G .after) (G .step) ∙ v) }))
 
 introduce-left : (symbol x : ℕ) (c b : Checker) → Check.introduce symbol c ≡ goes x b → b .state .left ≡ c .state .left
-unfolding Check.introduce Check.lookup Check.freshVarId Check.pushEnv Check.withState andThen Bindings.fresh
+unfolding Check.introduce Check.lookup Check.freshVarId Check.pushEnv Check.withState Check.withEnv andThen Bindings.fresh
 introduce-left symbol x c b e = go (lookupIn (c .env) symbol) refl
   where
     go : (o : Option ℕ) → lookupIn (c .env) symbol ≡ o → b .state .left ≡ c .state .left
     go (some v) q = let z : goes v c ≡ goes x b = rw (q, Check.introduce) at e in let k : c ≡ b = cc z in ap (λ (k : Checker). k .state .left) (sym k)
     go none q = let z = rw (q, Check.introduce) at e in
-        let k : record { state = Bindings.fresh (c .state); env = (symbol, Bindings.freshId (c .state)) ∷ c .env; diagnostics = c .diagnostics } ≡ b = cc z in
+        let k : Check.withEnv (Check.withState c (Bindings.fresh (c .state))) ((symbol, Bindings.freshId (c .state)) ∷ c .env) ≡ b = cc z in
         ap (λ (k : Checker). k .state .left) (sym k)
 
 pub brings : (f w : List ℕ) {ou : List ℕ} (symbol left : ℕ) (w′ : List ℕ) (x : ℕ) → Introduces w symbol w′ x → Brings f w ou symbol left w′ ou x

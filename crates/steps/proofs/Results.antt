@@ -17,20 +17,20 @@ use Rattle.state.specs.Lines.{Told}
 use Rattle.state.specs.Runs.{Runs, Grew}
 use Rattle.steps.specs.declared.Typed.{Typed}
 use Rattle.steps.specs.declared.Typed.the-variants as Typed
-use Rattle.steps.specs.declared.Done.{Done}
-use Rattle.steps.specs.declared.Done.the-variants as Done
+use Rattle.state.specs.declared.Done.{Done}
+use Rattle.state.specs.declared.Done.the-variants as Done
 use Rattle.steps.specs.Ends.{Result, IsTyped, typed, done, silent, numbered, Gone, Ends, went, spent}
 use Rattle.steps.specs.Loads.{Load, both, Holds, Begins}
-use Rattle.steps.specs.Contracts.{Fine, onlyW}
+use Rattle.steps.specs.Contracts.{Fine, onlyW, typedAfter}
 use Rattle.cells.proofs.Frame.{tree-more}
 use Rattle.steps.proofs.Growing.{ok-kept}
 use Rattle.steps.proofs.Sequel.{then-ends, stop-ends, ends-here, gone-as}
 
 -- ---- What comes back at once
-pub type-here : {f w ou : List ℕ} {T : Rows} {d : Described} {n m left : ℕ} {c : Checker} (t : Ty) → Runs f w T d c → Told d w ou c → c .state .left ≡ left → Ok w t → Ends f w ou w ou T d n m (typed w (Typed.Got t left)) (goes (tree T t) c)
+pub type-here : {f w ou : List ℕ} {T : Rows} {d : Described} {n m left : ℕ} {c : Checker} (t : Ty) → Runs f w T d c → Told d w ou c 0 → c .state .left ≡ left → Ok w t → Ends f w ou w ou T d n m (typed w (Typed.Got t left)) (goes (tree T t) c)
 type-here {T = T} {c = c} t r k v o = ends-here (tree T t) c r k (record { t = t; res = ap (Typed.Got t) (sym v); ok = o; is = refl })
 
-pub on-here : {f w ou : List ℕ} {T : Rows} {d : Described} {n m left : ℕ} {c : Checker} → Runs f w T d c → Told d w ou c → c .state .left ≡ left → Ends f w ou w ou T d n m (done (Done.On left)) (goes tt c)
+pub on-here : {f w ou : List ℕ} {T : Rows} {d : Described} {n m left : ℕ} {c : Checker} → Runs f w T d c → Told d w ou c 0 → c .state .left ≡ left → Ends f w ou w ou T d n m (done (Done.On left)) (goes tt c)
 on-here {c = c} r k v = ends-here tt c r k (ap Done.On (sym v))
 
 pub with-visits : {f w ou : List ℕ} {T : Rows} {d : Described} {L : Load} {v l : ℕ} {c : Checker} → c .state .left ≡ l → Begins f w ou T d L v c → Begins f w ou T d L l c
@@ -62,7 +62,7 @@ module _ {B : Type 0} {f w ou w₁ ou₁ : List ℕ} {T : Rows} {d : Described} 
       → Ends f w ou w₂ ou₂ T d (K .records) (K .fields) E (andThen m next)
   then-typed {w₂} {ou₂} {t} {l} m next e s meets first rest = then-ends G H K fits IsSide m next (λ o. clash (cc (e, o))) s meets first on
     where
-      on : (a : Tree.Ty) (b : Checker) (g : Gone f w ou w₁ ou₁ T d (G .records) (G .fields) (typed w₁ r) a b) → Went IsSide (G .grade) c a b → Begins f w₁ ou₁ (g .T′) d H (b .state .left) b → Ends f w₁ ou₁ w₂ ou₂ (g .T′) d (H .records) (H .fields) E (next a b)
+      on : (a : Tree.Ty) (b : Checker) (g : Gone f w ou w₁ ou₁ T d (G .records) (G .fields) (typed w₁ r) a b 0) → Went IsSide (G .grade) c a b → Begins f w₁ ou₁ (g .T′) d H (b .state .left) b → Ends f w₁ ou₁ w₂ ou₂ (g .T′) d (H .records) (H .fields) E (next a b)
       on a b g v s₁ =
           let i = got-same e (g .is) in
           rw (← i .1) (rest (g .T′) b (record { more = g .more; grew = g .grew; made = v .made; begins = with-visits (i .2) s₁ }) (record { ok = i .0; side = rw (i .1) (v .holds) }))
@@ -78,7 +78,7 @@ module _ {B : Type 0} {f w ou w₁ ou₁ : List ℕ} {T : Rows} {d : Described} 
       → Ends f w ou w₂ ou₂ T d (K .records) (K .fields) E (andThen m next)
   then-done {w₂} {ou₂} {l} m next e s meets first rest = then-ends G H K fits P m next (λ o. clash (cc (e, o))) s meets first on
     where
-      on : (a : Unit {0}) (b : Checker) (g : Gone f w ou w₁ ou₁ T d (G .records) (G .fields) (done r) a b) → Went P (G .grade) c a b → Begins f w₁ ou₁ (g .T′) d H (b .state .left) b → Ends f w₁ ou₁ w₂ ou₂ (g .T′) d (H .records) (H .fields) E (next a b)
+      on : (a : Unit {0}) (b : Checker) (g : Gone f w ou w₁ ou₁ T d (G .records) (G .fields) (done r) a b 0) → Went P (G .grade) c a b → Begins f w₁ ou₁ (g .T′) d H (b .state .left) b → Ends f w₁ ou₁ w₂ ou₂ (g .T′) d (H .records) (H .fields) E (next a b)
       on a b g v s₁ =
           let q : b .state .left ≡ l = cc (e, g .is) in
           rest (g .T′) b (record { more = g .more; grew = g .grew; made = v .made; begins = with-visits q s₁ })
@@ -114,16 +114,16 @@ pub silent-on : {f w ou w′ ou′ : List ℕ} {T : Rows} {d : Described} {n m l
 silent-on (went g) = went (gone-as (omega arith) (omega arith) (λ R x. ap Done.On (sym x)) g)
 silent-on (spent g) = absurd (g .is)
 
--- A type in hand outlives it.
-pub silent-typed : {f w ou w′ ou′ : List ℕ} {T : Rows} {d : Described} {n m left : ℕ} {s : Step (Unit {0})} (t : Ty) → Ok w t → Ends f w ou w′ ou′ T d n m (silent left) s
-    → Ends f w ou w′ ou′ T d n m (typed w′ (Typed.Got t left)) (andThen s (λ u b. goes (tree T t) b))
+-- A type in hand outlives a step.
+pub done-typed : {f w ou w′ ou′ : List ℕ} {T : Rows} {d : Described} {n m : ℕ} {x : Done} {s : Step (Unit {0})} (t : Ty) → Ok w t → Ends f w ou w′ ou′ T d n m (done x) s
+    → Ends f w ou w′ ou′ T d n m (typed w′ (typedAfter t x)) (andThen s (λ u b. goes (tree T t) b))
 unfolding andThen
-silent-typed t o (went g) = went (record {
+done-typed t o (went g) = went (record {
   T′ = g .T′;
   more = g .more;
   runs = g .runs;
   lines = g .lines;
   grew = g .grew;
-  is = record { t = t; res = ap (Typed.Got t) (sym (g .is)); ok = ok-kept (g .grew .adds) t o; is = tree-more (g .more) t o };
+  is = record { t = t; res = ap (typedAfter t) (g .is); ok = ok-kept (g .grew .adds) t o; is = tree-more (g .more) t o };
 })
-silent-typed t o (spent g) = absurd (g .is)
+done-typed t o (spent g) = spent (gone-as (omega arith) (omega arith) (λ R x. ap (typedAfter t) x) g)

@@ -5,12 +5,14 @@ use mathlib.Core.Path.{_≡_, refl, _∙_}
 use native.Mathlib.Decide.{ℕ-discrete}
 use native.Mathlib.Omega.{arith}
 use Prim.Native.Nat.{ℕ, zero, suc, _+_, _*_, _≤_, _<_}
-use lib.ListN.{getD, set}
-use Rattle.work.specs.Layout.{RECORD-COUNT, RECORD-FIELD-COUNT, ENV-LEN, DIAGNOSTIC-COUNT, UNKNOWNS, PLACE, PLACE-HIGH, FULL, TYS, UNDO-LEN, END}
+use lib.ListN.{length, getD, set, length-set}
+use lib.Seq.{getD-set-same, getD-set-other}
+use Rattle.work.specs.Layout.{RECORD-COUNT, RECORD-FIELD-COUNT, ENV-LEN, DIAGNOSTIC-COUNT, UNKNOWNS, PLACE, PLACE-HIGH, FULL, UNTIL, LEFT, TYS, UNDO-LEN, END}
 use Rattle.cells.specs.Stands.{Keeps}
 use Rattle.cells.proofs.Frame.{keeps-refl, keeps-trans, keeps-wider, keeps-set}
-use Rattle.state.specs.Lines.{AFTER-FULL}
-use Rattle.meaning.specs.Check.{begin}
+use Rattle.state.specs.declared.Until.{Until}
+use Rattle.state.specs.Lines.{AFTER-LEFT, untilOf, untilW}
+use Rattle.meaning.specs.Check.{beginUntil}
 use Rattle.state.proofs.Starting.{Started, start-runs}
 use Rattle.state.proofs.Lined.{place-runs, no-lines}
 use Rattle.steps.specs.Outside.{countersW, Untypes, StartsRun}
@@ -73,22 +75,48 @@ pub untypes-end : {w w′ : List ℕ} {n : ℕ} → 512 ≤ n → Untypes w n w�
 untypes-end h U = record { keeps = U .keeps; untyped = λ i lt. U .untyped i (omega arith) }
 
 -- ---- `begin`
-pub starts-run : (w : List ℕ) {v u w′ : List ℕ} → v ≡ countersW w → Untypes v 512 u → w′ ≡ set (set (set u PLACE 0) PLACE-HIGH 0) FULL 0 → StartsRun w w′
-unfolding begin
-starts-run w {v} {u} {w′} e U z =
-    let a = set u PLACE 0 in
-    let b = set a PLACE-HIGH 0 in
-    let B : Started w u = started w u (rw e at U) in
-    let K : Keeps PLACE AFTER-FULL u w′ = rw z (keeps-trans (keeps-set u PLACE 0 (omega arith) (omega arith)) (keeps-trans (keeps-set a PLACE-HIGH 0 (omega arith) (omega arith)) (keeps-set b FULL 0 (omega arith) (omega arith)))) in
-    let low : getD w′ PLACE 0 ≡ 0 = rw z (zero-stays b FULL PLACE (zero-stays a PLACE-HIGH PLACE (zero-at u PLACE))) in
-    let high : getD w′ PLACE-HIGH 0 ≡ 0 = rw z (zero-stays b FULL PLACE-HIGH (zero-at a PLACE-HIGH)) in
-    let full : getD w′ FULL 0 ≡ 0 = rw z (zero-at b FULL) in
-    record {
-      is = λ f. record {
-        is = λ T d ceiling sound S. place-runs sound (start-runs ceiling sound S B) K;
-        lines = λ ou d ceiling. no-lines _ low high full;
-        records = K .below RECORD-COUNT (omega arith) ∙ B .records;
-        fields = K .below RECORD-FIELD-COUNT (omega arith) ∙ B .fields;
-        keeps = keeps-trans (B .keeps) (keeps-wider (omega arith) (omega arith) K);
-      };
-    }
+module _ (w : List ℕ) (u : Until) {v x w′ : List ℕ} (e : v ≡ countersW w) (U : Untypes v 512 x)
+    (z : w′ ≡ set (set (set (set (set x PLACE 0) PLACE-HIGH 0) FULL 0) UNTIL (untilW (untilOf u))) LEFT 0) where
+  begun : Started w x
+  begun = started w x (rw e at U)
+
+  lined : Keeps PLACE AFTER-LEFT x w′
+  lined =
+      let a = set x PLACE 0 in
+      let b = set a PLACE-HIGH 0 in
+      let c = set b FULL 0 in
+      let d = set c UNTIL (untilW (untilOf u)) in
+      rw z (keeps-trans (keeps-set x PLACE 0 (omega arith) (omega arith)) (keeps-trans (keeps-set a PLACE-HIGH 0 (omega arith) (omega arith)) (keeps-trans (keeps-set b FULL 0 (omega arith) (omega arith))
+      (keeps-trans (keeps-set c UNTIL (untilW (untilOf u)) (omega arith) (omega arith)) (keeps-set d LEFT 0 (omega arith) (omega arith))))))
+
+  until-set : END ≤ length w → getD w′ UNTIL 0 ≡ untilW (untilOf u)
+  until-set long =
+      let c = set (set (set x PLACE 0) PLACE-HIGH 0) FULL 0 in
+      let d = set c UNTIL (untilW (untilOf u)) in
+      let same : length c ≡ length w = length-set (set (set x PLACE 0) PLACE-HIGH 0) FULL 0 ∙ length-set (set x PLACE 0) PLACE-HIGH 0 ∙ length-set x PLACE 0 ∙ begun .keeps .long in
+      rw z (getD-set-other d LEFT UNTIL 0 0 (λ q. omega arith) ∙ getD-set-same c UNTIL (untilW (untilOf u)) 0 (omega (arith, same)))
+
+  -- a zero of the first three
+  stays : (j : ℕ) → j < UNTIL → getD (set (set (set x PLACE 0) PLACE-HIGH 0) FULL 0) j 0 ≡ 0 → getD w′ j 0 ≡ 0
+  stays j lt h =
+      let c = set (set (set x PLACE 0) PLACE-HIGH 0) FULL 0 in
+      let d = set c UNTIL (untilW (untilOf u)) in
+      rw z (getD-set-other d LEFT j 0 0 (λ q. omega arith) ∙ getD-set-other c UNTIL j (untilW (untilOf u)) 0 (λ q. omega arith) ∙ h)
+
+  pub starts-run : StartsRun w u w′
+  unfolding beginUntil
+  starts-run =
+      let a = set x PLACE 0 in
+      let b = set a PLACE-HIGH 0 in
+      let low : getD w′ PLACE 0 ≡ 0 = stays PLACE (omega arith) (zero-stays b FULL PLACE (zero-stays a PLACE-HIGH PLACE (zero-at x PLACE))) in
+      let high : getD w′ PLACE-HIGH 0 ≡ 0 = stays PLACE-HIGH (omega arith) (zero-stays b FULL PLACE-HIGH (zero-at a PLACE-HIGH)) in
+      let full : getD w′ FULL 0 ≡ 0 = stays FULL (omega arith) (zero-at b FULL) in
+      record {
+        is = λ f. record {
+          is = λ T d ceiling sound S. place-runs sound (start-runs (untilOf u) ceiling sound S begun) lined;
+          lines = λ ou d ceiling long. record { lines = no-lines _ low high full; until = until-set long; left = rw z (zero-at (set (set b FULL 0) UNTIL (untilW (untilOf u))) LEFT) };
+          records = lined .below RECORD-COUNT (omega arith) ∙ begun .records;
+          fields = lined .below RECORD-FIELD-COUNT (omega arith) ∙ begun .fields;
+          keeps = keeps-trans (begun .keeps) (keeps-wider (omega arith) (omega arith) lined);
+        };
+      }

@@ -29,15 +29,15 @@ use Rattle.messages.specs.declared.Message.the-variants as Message
 use Rattle.state.specs.Lines.{Rejected}
 use Rattle.state.specs.Runs.{Runs}
 use Rattle.state.proofs.Running.{runs-slots}
-use Rattle.steps.specs.declared.Done.{Done}
-use Rattle.steps.specs.declared.Done.the-variants as Done
+use Rattle.state.specs.declared.Done.{Done}
+use Rattle.state.specs.declared.Done.the-variants as Done
 use Rattle.steps.specs.Ends.{IsUnified, unified, done, silent, Gone, Ends, spent}
 use Rattle.steps.specs.Loads.{only, both, Holds, Begins}
 use Rattle.steps.specs.Contracts.{Fine, UnifiesTo, compareTypes, UnifiesAt, ComparesTypes}
 use Rattle.steps.specs.Outside.{reportMessage, ComparesOrder}
 use Rattle.steps.proofs.Growing.{grew-refl}
 use Rattle.steps.proofs.Sequel.{then-ends, stop-ends, ends-here, begins-after}
-use Rattle.steps.proofs.Results.{After, tree-after, fine-after, with-visits, on-here, silent-on}
+use Rattle.steps.proofs.Results.{After, tree-after, fine-after, with-visits, on-here}
 use Rattle.steps.proofs.Ending.{reject-ends}
 use Rattle.steps.proofs.Besides.{reports, unifies}
 
@@ -57,7 +57,7 @@ module _ {f w ou w₁ ou₁ : List ℕ} {got expected : Ty} {left : ℕ} {r : Un
   then-good : {w₂ ou₂ : List ℕ} {x : Done} (next : Option Unify.TyError → Does (Unit {0})) {l : ℕ} → r ≡ Unified.Good l → ((T₁ : Rows) (b : Checker) → After f w ou w₁ ou₁ T d (only no-thing) (only one-diagnostic) l c T₁ b → Ends f w₁ ou₁ w₂ ou₂ T₁ d 0 0 (done x) (next none b)) → Ends f w ou w₂ ou₂ T d 0 0 (done x) (andThen first next)
   then-good {w₂} {ou₂} {x} next {l} e rest = then-ends (only no-thing) (only one-diagnostic) (only one-diagnostic) then-one Nothing first next (λ o. clash (cc (e, o))) B (λ y. meets) (λ s. U d .is T c s fine) on
     where
-      on : (a : Option Unify.TyError) (b : Checker) (g : Gone f w ou w₁ ou₁ T d 0 0 (unified w₁ r) a b) → Went Nothing no-thing c a b → Begins f w₁ ou₁ (g .T′) d (only one-diagnostic) (b .state .left) b → Ends f w₁ ou₁ w₂ ou₂ (g .T′) d 0 0 (done x) (next a b)
+      on : (a : Option Unify.TyError) (b : Checker) (g : Gone f w ou w₁ ou₁ T d 0 0 (unified w₁ r) a b 0) → Went Nothing no-thing c a b → Begins f w₁ ou₁ (g .T′) d (only one-diagnostic) (b .state .left) b → Ends f w₁ ou₁ w₂ ou₂ (g .T′) d 0 0 (done x) (next a b)
       on none b g v s = let q : b .state .left ≡ l = cc (e, g .is) in rest (g .T′) b (record { more = g .more; grew = g .grew; made = v .made; begins = with-visits q s })
       on (some y) b g v s = clash (cc (e, g .is .1))
 
@@ -65,7 +65,7 @@ module _ {f w ou w₁ ou₁ : List ℕ} {got expected : Ty} {left : ℕ} {r : Un
       → ((T₁ : Rows) (b : Checker) → After f w ou w₁ ou₁ T d (only no-thing) (only one-diagnostic) l c T₁ b → OkError w₁ err → Ends f w₁ ou₁ w₂ ou₂ T₁ d 0 0 (done x) (next (some (errorOf T₁ err)) b)) → Ends f w ou w₂ ou₂ T d 0 0 (done x) (andThen first next)
   then-bad {w₂} {ou₂} {x} next {err} {l} e rest = then-ends (only no-thing) (only one-diagnostic) (only one-diagnostic) then-one Nothing first next (λ o. clash (cc (e, o))) B (λ y. meets) (λ s. U d .is T c s fine) on
     where
-      on : (a : Option Unify.TyError) (b : Checker) (g : Gone f w ou w₁ ou₁ T d 0 0 (unified w₁ r) a b) → Went Nothing no-thing c a b → Begins f w₁ ou₁ (g .T′) d (only one-diagnostic) (b .state .left) b → Ends f w₁ ou₁ w₂ ou₂ (g .T′) d 0 0 (done x) (next a b)
+      on : (a : Option Unify.TyError) (b : Checker) (g : Gone f w ou w₁ ou₁ T d 0 0 (unified w₁ r) a b 0) → Went Nothing no-thing c a b → Begins f w₁ ou₁ (g .T′) d (only one-diagnostic) (b .state .left) b → Ends f w₁ ou₁ w₂ ou₂ (g .T′) d 0 0 (done x) (next a b)
       on none b g v s = clash (cc (e, g .is))
       on (some y) b g v s =
           let q : b .state .left ≡ l = cc (e, g .is .1) in
@@ -87,10 +87,10 @@ module _ {f w ou w₁ : List ℕ} (n : ℕ) {got expected : Ty} {left : ℕ} {r 
   unfolding Check.unifyAt
   unite-good e = record { is = λ d there. record { is = λ T c B fine. then-good (unifies f w U) B fine _ e (λ T₁ b a. on-here (a .begins .runs) (a .begins .lines) (a .begins .visits)) } }
 
-  pub unite-bad : {err : TyError} {l : ℕ} → r ≡ Unified.Bad err l → {w₂ ou₂ : List ℕ} → Rejected f w₁ ou n (reportMessage err) w₂ ou₂ → UnifiesAt f w ou n got expected left w₂ ou₂ (Done.On l)
+  pub unite-bad : {err : TyError} {l : ℕ} → r ≡ Unified.Bad err l → {w₂ ou₂ : List ℕ} {x : Done} → Rejected f w₁ ou n (reportMessage err) l w₂ ou₂ x → UnifiesAt f w ou n got expected left w₂ ou₂ x
   unfolding Check.unifyAt
   unite-bad {err} {l} e q = (record {
-    is = λ d there. record { is = λ T c B fine. then-bad (unifies f w U) B fine _ e (λ T₁ b a ok. silent-on (reports f w₁ n err l q d there .is T₁ b (a .begins) ok)) };
+    is = λ d there. record { is = λ T c B fine. then-bad (unifies f w U) B fine _ e (λ T₁ b a ok. reports f w₁ n err l q d there .is T₁ b (a .begins) ok) };
   })
 
   pub unite-spent : r ≡ Unified.Spent → UnifiesAt f w ou n got expected left w₁ ou Done.Out
@@ -113,7 +113,7 @@ module _ {f w ou : List ℕ} (lhs : ℕ) {t : Ty} {left : ℕ} {r : Asked} (O : 
   answered {T = T} {c = c} B fine = rw (B .visits) (O .is T (c .state .subst) (B .runs .holds .cells) (B .runs .holds .binds) (B .runs .holds .acyclic) (fine .ok))
 
   pub order-yes : {l : ℕ} → r ≡ Asked.Yes l → ComparesOrder f w ou lhs t left w ou (Done.On l)
-  unfolding Check.compareOrder Check.orderable Check.ordered Check.zonk andThen Bindings.withLeft
+  unfolding Check.compareOrder Check.orderable Check.ordered Check.zonk Check.withState andThen Bindings.withLeft
   order-yes {l} e = record {
     is = λ d there. record {
       is = λ T c B fine.
@@ -122,23 +122,23 @@ module _ {f w ou : List ℕ} (lhs : ℕ) {t : Ty} {left : ℕ} {r : Asked} (O : 
     };
   }
 
-  pub order-no : {l : ℕ} → r ≡ Asked.No l → {w′ ou′ : List ℕ} → Rejected f w ou lhs (Message.NoOrder t) w′ ou′ → ComparesOrder f w ou lhs t left w′ ou′ (Done.On l)
-  unfolding Check.compareOrder Check.orderable Check.ordered Check.zonk andThen Bindings.withLeft
+  pub order-no : {l : ℕ} → r ≡ Asked.No l → {w′ ou′ : List ℕ} {x : Done} → Rejected f w ou lhs (Message.NoOrder t) l w′ ou′ x → ComparesOrder f w ou lhs t left w′ ou′ x
+  unfolding Check.compareOrder Check.orderable Check.ordered Check.zonk Check.withState andThen Bindings.withLeft
   order-no {l} e p = (record {
     is = λ d there. record {
       is = λ T c B fine.
           let q : no-left l ≡ Unify.orderable (Bindings.zonk (c .state .subst) (tree T t)) (c .state .left) = rw e at (answered B fine) in
           let m : Meets Nothing no-thing c (goes false (leaving c l)) = rw (← q) at (orderable-meets (tree T t) c (B .orderly)) in
-          let g : Gone f w ou w ou T d 0 0 (silent l) tt (leaving c l) = record { T′ = T; more = more-refl; runs = leaving-runs B l; lines = B .lines; grew = grew-refl; is = refl } in
-          rw (← q) (silent-on (reject-ends (begun B g (going m)) lhs there (Message.NoOrder t) (fine .ok) p));
+          let g : Gone f w ou w ou T d 0 0 (silent l) tt (leaving c l) 0 = record { T′ = T; more = more-refl; runs = leaving-runs B l; lines = B .lines; grew = grew-refl; is = refl } in
+          rw (← q) (reject-ends (begun B g (going m)) lhs there (Message.NoOrder t) (fine .ok) p);
     };
   })
     where
-      begun : {T : Rows} {d : Described} {c b : Checker} → Begins f w ou T d (only one-diagnostic) left c → (g : Gone f w ou w ou T d 0 0 (silent (b .state .left)) tt b) → Went Nothing no-thing c false b → Begins f w ou (g .T′) d (only one-diagnostic) (b .state .left) b
+      begun : {T : Rows} {d : Described} {c b : Checker} → Begins f w ou T d (only one-diagnostic) left c → (g : Gone f w ou w ou T d 0 0 (silent (b .state .left)) tt b 0) → Went Nothing no-thing c false b → Begins f w ou (g .T′) d (only one-diagnostic) (b .state .left) b
       begun B g v = begins-after (only no-thing) (only one-diagnostic) (only one-diagnostic) Nothing then-one g (record { orderly = v .orderly; made = v .made; reached = v .reached; holds = tt }) B
 
   pub order-spent : r ≡ Asked.Spent → ComparesOrder f w ou lhs t left w ou Done.Out
-  unfolding Check.compareOrder Check.orderable Check.ordered Check.zonk andThen Bindings.withLeft
+  unfolding Check.compareOrder Check.orderable Check.ordered Check.zonk Check.withState andThen Bindings.withLeft
   order-spent e = record {
     is = λ d there. record {
       is = λ T c B fine.
@@ -157,10 +157,10 @@ module _ {f w ou w₁ : List ℕ} (lhs rhs : ℕ) {a b : Ty} {left : ℕ} {r : U
     };
   }
 
-  pub compare-bad : {err : TyError} {l : ℕ} → r ≡ Unified.Bad err l → {w₂ ou₂ : List ℕ} → Rejected f w₁ ou rhs (reportMessage err) w₂ ou₂ → ComparesTypes f w ou lhs rhs a b left w₂ ou₂ (Done.On l)
+  pub compare-bad : {err : TyError} {l : ℕ} → r ≡ Unified.Bad err l → {w₂ ou₂ : List ℕ} {x : Done} → Rejected f w₁ ou rhs (reportMessage err) l w₂ ou₂ x → ComparesTypes f w ou lhs rhs a b left w₂ ou₂ x
   unfolding compareTypes
   compare-bad {err} {l} e q = (record {
-    is = λ d here there. record { is = λ T c B fine. then-bad (unifies f w U) B (fine .1, fine .0) _ e (λ T₁ b₁ s ok. silent-on (reports f w₁ rhs err l q d there .is T₁ b₁ (s .begins) ok)) };
+    is = λ d here there. record { is = λ T c B fine. then-bad (unifies f w U) B (fine .1, fine .0) _ e (λ T₁ b₁ s ok. reports f w₁ rhs err l q d there .is T₁ b₁ (s .begins) ok) };
   })
 
   pub compare-spent : r ≡ Unified.Spent → ComparesTypes f w ou lhs rhs a b left w₁ ou Done.Out

@@ -23,6 +23,8 @@ use Rattle.tree.proofs.Node.{the-type}
 use Rattle.tree.proofs.Lowering.{lower-below}
 use Rattle.messages.specs.declared.Message.the-variants as Message
 use Rattle.state.specs.Words.{Introduces}
+use Rattle.state.specs.declared.Done.{Done}
+use Rattle.state.specs.declared.Done.the-variants as Done
 use Rattle.state.specs.Lines.{Rejected}
 use Rattle.state.specs.Runs.{Runs}
 use Rattle.steps.specs.Ends.{silent, numbered, Ends, went, spent}
@@ -30,6 +32,7 @@ use Rattle.steps.specs.Contracts.{nodesOf, Asks, allApart, AsksAll}
 use Rattle.steps.specs.Outside.{IntroducesSide, ChecksHead}
 use Rattle.steps.proofs.Ending.{reject-ends, brings}
 use Rattle.steps.proofs.Sequel.{ends-here}
+use Rattle.steps.proofs.Results.{on-here}
 use Rattle.steps.proofs.Reading.{kind-is, kind-read, form-read, name-small, fields-some, fields-none}
 use Rattle.steps.proofs.Forms.{ByForm, by-form, whole-kind}
 
@@ -96,19 +99,19 @@ head-stays d n c = record {
   other = λ h. refl;
 }
 
-module _ {f w ou : List ℕ} {n : ℕ} {nd : Node} (i : IsNode f w n nd) where
-  pub head-other : OneOf no-wildcard (tagOf the-type nd) → ChecksHead f w ou n w ou
+module _ {f w ou : List ℕ} {n left : ℕ} {nd : Node} (i : IsNode f w n nd) where
+  pub head-other : OneOf no-wildcard (tagOf the-type nd) → ChecksHead f w ou n left w ou (Done.On left)
   head-other x = record {
-    is = λ left d there. record {
+    is = λ d there. record {
       is = λ T c s u.
-          rw (form-read s there i, by-form f no-wildcard (λ q. headForm (d .schema) (nodesOf d) n q c ≡ goes tt c) (head-stays d n c) nd x) (ends-here tt c (s .runs) (s .lines) (s .visits));
+          rw (form-read s there i, by-form f no-wildcard (λ q. headForm (d .schema) (nodesOf d) n q c ≡ goes tt c) (head-stays d n c) nd x) (on-here (s .runs) (s .lines) (s .visits));
     };
   }
 
-  pub head-wildcard : nd ≡ Node.Wildcard → {w′ ou′ : List ℕ} → Rejected f w ou n Message.WildcardHead w′ ou′ → ChecksHead f w ou n w′ ou′
+  pub head-wildcard : nd ≡ Node.Wildcard → {w′ ou′ : List ℕ} {r : Done} → Rejected f w ou n Message.WildcardHead left w′ ou′ r → ChecksHead f w ou n left w′ ou′ r
   unfolding kindW formOf headForm
   head-wildcard e x = record {
-    is = λ left d there. record {
+    is = λ d there. record {
       is = λ T c s u. let q : formAt d n ≡ aWildcard = form-read s there (rw e at i) in rw q (reject-ends s n there Message.WildcardHead tt x);
     };
   }

@@ -18,12 +18,13 @@ use Rattle.meaning.specs.Sound.{Sound}
 use Rattle.work.specs.Layout.{RECORD-COUNT, RECORD-FIELD-COUNT, END}
 use Rattle.tree.specs.Stands.{Stands}
 use Rattle.meaning.specs.Check as Check
-use Rattle.meaning.specs.Check.{Checker, Does, _>>=_, andThen, form}
+use Rattle.meaning.specs.Check.{Checker, Does, _>>=_, _>>_, andThen, form}
 use Rattle.meaning.specs.Grades.{unknowns, no-thing, one-diagnostic, one-unknown, one-node, Known, introducing}
 use Rattle.messages.specs.declared.Message.{Message}
 use Rattle.messages.specs.Said.{said, OkMessage}
 use Rattle.state.specs.Runs.{Runs}
-use Rattle.state.specs.Lines.{Told}
+use Rattle.state.specs.Lines.{Told, untilOf}
+use Rattle.state.specs.declared.Until.{Until}
 use Rattle.cells.specs.declared.Bound.{Bound}
 use Rattle.cells.specs.declared.TyError.{TyError}
 use Rattle.cells.specs.declared.Unified.{Unified}
@@ -32,8 +33,8 @@ use Rattle.tree.specs.declared.Items.{Items}
 use Rattle.tree.specs.Nodes.{fieldsFrom}
 use Rattle.steps.specs.declared.Typed.{Typed}
 use Rattle.steps.specs.declared.Typed.the-variants as Typed
-use Rattle.steps.specs.declared.Done.{Done}
-use Rattle.steps.specs.declared.Done.the-variants as Done
+use Rattle.state.specs.declared.Done.{Done}
+use Rattle.state.specs.declared.Done.the-variants as Done
 use Rattle.steps.specs.Ends.{typed, done, silent, numbered, unified}
 use Rattle.steps.specs.Loads.{only, Beside}
 
@@ -79,9 +80,9 @@ abbrev pub Notes : List ℕ → List ℕ → List ℕ → ℕ → Ty → ℕ →
 Notes f w ou n t left w′ ou′ = (d : Described) → n < length (nodesOf d) → Beside f w ou left w′ ou′ (silent left) d (only (one-node n)) (Fine w t) (λ T. Check.annotate n (tree T t))
 
 -- `reject`; the types that the message shows exist
-abbrev pub Rejects : List ℕ → List ℕ → List ℕ → ℕ → Message → ℕ → List ℕ → List ℕ → Type 0
-Rejects f w ou n m left w′ ou′ = (d : Described) → n < length (nodesOf d)
-    → Beside f w ou left w′ ou′ (silent left) d (only one-diagnostic) (λ T c. OkMessage w m) (λ T c. Check.reject (d .schema) (nodesOf d) n (said T (c .state .subst) m) c)
+abbrev pub Rejects : List ℕ → List ℕ → List ℕ → ℕ → Message → ℕ → List ℕ → List ℕ → Done → Type 0
+Rejects f w ou n m left w′ ou′ r = (d : Described) → n < length (nodesOf d)
+    → Beside f w ou left w′ ou′ (done r) d (only one-diagnostic) (λ T c. OkMessage w m) (λ T c. Check.reject (d .schema) (nodesOf d) n (said T (c .state .subst) m) c)
 
 -- `fresh_var_id`
 abbrev pub Freshens : List ℕ → List ℕ → List ℕ → ℕ → List ℕ → List ℕ → ℕ → Type 0
@@ -96,19 +97,25 @@ pub record Brings (f w ou : List ℕ) (symbol left : ℕ) (w′ ou′ : List ℕ
 abbrev pub Cuts : List ℕ → List ℕ → List ℕ → ℕ → List ℕ → List ℕ → Type 0
 Cuts f w ou scope w′ ou′ = (d : Described) (left : ℕ) → Beside f w ou left w′ ou′ (silent left) d (only no-thing) (λ T c. scope ≤ length (c .env)) (λ T. Check.truncateEnv scope)
 
--- `fuzzy`; the term is a name
-abbrev pub Fuzzes : List ℕ → List ℕ → List ℕ → ℕ → ℕ → ℕ → ℕ → List ℕ → List ℕ → Type 0
-Fuzzes f w ou n term distance left w′ ou′ = (d : Described) → n < length (nodesOf d) → term < length (d .schema .characters)
-    → Beside f w ou left w′ ou′ (silent left) d (only (record { nodes = λ x. 0; unknowns = 0; diagnostics = 2 })) Always
-    (λ T c. andThen (Check.fuzzyDistance (d .schema) (nodesOf d) n distance c) (λ u. Check.fuzzyTerm (d .schema) (nodesOf d) n term))
+-- `fuzzy`: both bounds of the pattern, which is a string; the term is a name
+unfoldable pub fuzzy : Described → ℕ → ℕ → ℕ → Does Tree.Ty
+unfolding andThen
+fuzzy d n term distance = do
+  Check.fuzzyDistance (d .schema) (nodesOf d) n distance
+  Check.fuzzyTerm (d .schema) (nodesOf d) n term
+  Check.return (Tree.leaf Tree.String)
+
+pub record Fuzzes (f w ou : List ℕ) (n term distance left : ℕ) (w′ ou′ : List ℕ) (r : Typed) : Type 0 where
+  pub is : (d : Described) → n < length (nodesOf d) → term < length (d .schema .characters)
+      → Beside f w ou left w′ ou′ (typed w′ r) d (only (record { nodes = λ x. 0; unknowns = 0; diagnostics = 2 })) Always (λ T. fuzzy d n term distance)
 
 -- `unify`
 abbrev pub UnifiesTo : List ℕ → List ℕ → List ℕ → Ty → Ty → ℕ → List ℕ → List ℕ → Unified → Type 0
 UnifiesTo f w ou got expected left w′ ou′ r = (d : Described) → Beside f w ou left w′ ou′ (unified w′ r) d (only no-thing) (λ T c. Fine w got T c × Fine w expected T c) (λ T. Check.unify (tree T got) (tree T expected))
 
 -- `report`; the types that the error shows exist
-abbrev pub Reports : List ℕ → List ℕ → List ℕ → ℕ → TyError → ℕ → List ℕ → List ℕ → Type 0
-Reports f w ou n err left w′ ou′ = (d : Described) → n < length (nodesOf d) → Beside f w ou left w′ ou′ (silent left) d (only one-diagnostic) (λ T c. OkError w err) (λ T. Check.report (d .schema) (nodesOf d) n (errorOf T err))
+abbrev pub Reports : List ℕ → List ℕ → List ℕ → ℕ → TyError → ℕ → List ℕ → List ℕ → Done → Type 0
+Reports f w ou n err left w′ ou′ r = (d : Described) → n < length (nodesOf d) → Beside f w ou left w′ ou′ (done r) d (only one-diagnostic) (λ T c. OkError w err) (λ T. Check.report (d .schema) (nodesOf d) n (errorOf T err))
 
 -- `rollback`, to lengths of the undo log and of the environment
 abbrev pub RollsTo : List ℕ → List ℕ → List ℕ → ℕ → ℕ → List ℕ → List ℕ → Type 0
@@ -150,18 +157,23 @@ abbrev pub onlyW : Typed → Done
 onlyW (Typed.Got t left) = Done.On left
 onlyW Typed.Out = Done.Out
 
+-- The type that follows a step, or that the run ended in it.
+abbrev pub typedAfter : Ty → Done → Typed
+typedAfter t (Done.On left) = Typed.Got t left
+typedAfter t Done.Out = Typed.Out
+
 -- `begin`: nothing is made yet.
-pub record Starts (f w : List ℕ) (w′ : List ℕ) : Type 0 where
-  pub is : (T : Rows) (d : Described) (ceiling : ℕ) → Sound d → Stands f w T d → Runs f w′ T d (Check.begin ceiling (length (nodesOf d)))
-  pub lines : (ou : List ℕ) (d : Described) (ceiling : ℕ) → Told d w′ ou (Check.begin ceiling (length (nodesOf d)))
+pub record Starts (f w : List ℕ) (u : Until) (w′ : List ℕ) : Type 0 where
+  pub is : (T : Rows) (d : Described) (ceiling : ℕ) → Sound d → Stands f w T d → Runs f w′ T d (Check.beginUntil (untilOf u) ceiling (length (nodesOf d)))
+  pub lines : (ou : List ℕ) (d : Described) (ceiling : ℕ) → END ≤ length w → Told d w′ ou (Check.beginUntil (untilOf u) ceiling (length (nodesOf d))) 0
   pub records : getD w′ RECORD-COUNT 0 ≡ 0
   pub fields : getD w′ RECORD-FIELD-COUNT 0 ≡ 0
   pub keeps : Keeps RECORD-COUNT END w w′
 
 -- A wildcard head is rejected.
-abbrev pub Heads : List ℕ → List ℕ → List ℕ → ℕ → ℕ → List ℕ → List ℕ → Type 0
-Heads f w ou head left w′ ou′ = (d : Described) → head < length (nodesOf d)
-    → Beside f w ou left w′ ou′ (silent left) d (only one-diagnostic) Always (λ T. Check.headForm (d .schema) (nodesOf d) head (form (d .schema) (nodesOf d) head))
+abbrev pub Heads : List ℕ → List ℕ → List ℕ → ℕ → ℕ → List ℕ → List ℕ → Done → Type 0
+Heads f w ou head left w′ ou′ r = (d : Described) → head < length (nodesOf d)
+    → Beside f w ou left w′ ou′ (done r) d (only one-diagnostic) Always (λ T. Check.headForm (d .schema) (nodesOf d) head (form (d .schema) (nodesOf d) head))
 
 -- `destructurable`
 pub record Asks (f w : List ℕ) (n : ℕ) (r : Bool) : Type 0 where

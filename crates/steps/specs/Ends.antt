@@ -19,12 +19,12 @@ use Rattle.state.specs.Runs.{Runs, Grew}
 use Rattle.state.specs.Lines.{Told}
 use Rattle.steps.specs.declared.Typed.{Typed}
 use Rattle.steps.specs.declared.Typed.the-variants as Typed
-use Rattle.steps.specs.declared.Done.{Done}
-use Rattle.steps.specs.declared.Done.the-variants as Done
+use Rattle.state.specs.declared.Done.{Done}
+use Rattle.state.specs.declared.Done.the-variants as Done
 
 -- ---- What the code gives back
 
--- For a value of the definition, with the visits left; and where the visits ran out.
+-- For a value of the definition, with the visits left; and where the run ended.
 pub record Result (A : Type 0) : Type 1 where
   pub Is : Rows → A → ℕ → Type 0
   pub Out : Type 0
@@ -64,20 +64,21 @@ unified w r = record { Is = λ T e left. IsUnified w r T e left; Out = r ≡ Uni
 
 -- ---- The end
 
--- At most n records and m fields of records were made.
-pub record Gone {A : Type 0} (f w ou w′ ou′ : List ℕ) (T : Rows) (d : Described) (n m : ℕ) (E : Result A) (a : A) (c : Checker) : Type 0 where
+-- At most n records and m fields of records were made; h is what the word of the visits left at an early end holds.
+pub record Gone {A : Type 0} (f w ou w′ ou′ : List ℕ) (T : Rows) (d : Described) (n m : ℕ) (E : Result A) (a : A) (c : Checker) (h : ℕ) : Type 0 where
   pub T′ : Rows
   pub more : More w T T′
   pub runs : Runs f w′ T′ d c
-  pub lines : Told d w′ ou′ c
+  pub lines : Told d w′ ou′ c h
   pub grew : Grew w w′ n m
   pub is : E .Is T′ a (c .state .left)
 
--- The visits ran out: no value comes back, and the code says so.
+-- The run ended: no value comes back, and the code says so.
 abbrev pub stopped : {A : Type 0} → Result A → Result (Unit {0})
 stopped E = record { Is = λ T u left. E .Out; Out = ⊥ }
 
--- Also where the visits ran out, the words stand for the checker in which the step stopped.
+-- Also where the run ended, by its visits or by a diagnostic, the words stand for the checker in which the step stopped, and the visits
+-- that it had left are kept.
 pub data Ends {A : Type 0} (f w ou w′ ou′ : List ℕ) (T : Rows) (d : Described) (n m : ℕ) (E : Result A) : Step A → Type 0 where
-  went : {a : A} {c : Checker} → Gone f w ou w′ ou′ T d n m E a c → Ends f w ou w′ ou′ T d n m E (goes a c)
-  spent : {c : Checker} → Gone f w ou w′ ou′ T d n m (stopped E) tt c → Ends f w ou w′ ou′ T d n m E (out c)
+  went : {a : A} {c : Checker} → Gone f w ou w′ ou′ T d n m E a c 0 → Ends f w ou w′ ou′ T d n m E (goes a c)
+  spent : {c : Checker} → Gone f w ou w′ ou′ T d n m (stopped E) tt c (c .state .left) → Ends f w ou w′ ou′ T d n m E (out c)

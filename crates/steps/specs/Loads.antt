@@ -69,7 +69,7 @@ pub record Free (L : Load) (w : List ℕ) (c : Checker) : Type 0 where
 pub record Begins (f w ou : List ℕ) (T : Rows) (d : Described) (L : Load) (left : ℕ) (c : Checker) : Type 0 where
   pub sound : Sound d
   pub runs : Runs f w T d c
-  pub lines : Told d w ou c
+  pub lines : Told d w ou c 0
   pub orderly : Orderly c
   pub visits : c .state .left ≡ left
   pub free : Free L w c

@@ -8,6 +8,7 @@ use lib.Dec.{eqb, ltb}
 use lib.ListN.{length, getD, set}
 use Rattle.work.specs.Layout.{PREDICATE-COUNT, MAX-DISTANCE, MAX-TERM, NAMES, PREDICATES, RECORD-COUNT, RECORD-FIELD-COUNT, ENV-LEN, DIAGNOSTIC-COUNT, UNKNOWNS, TYS, UNDO-LEN}
 use Rattle.cells.specs.declared.Ty.{Ty}
+use Rattle.cells.specs.declared.Ty.the-variants as Ty
 use Rattle.cells.specs.declared.Bound.{Bound}
 use Rattle.cells.specs.declared.Bound.the-variants.{To, Free}
 use Rattle.cells.specs.declared.TyError.{TyError}
@@ -25,10 +26,12 @@ use Rattle.messages.specs.declared.Message.the-variants as Message
 use Rattle.state.specs.Lines.{Rejected}
 use Rattle.state.specs.Runs.{Runs}
 use Rattle.steps.specs.declared.Typed.{Typed}
-use Rattle.steps.specs.declared.Done.{Done}
+use Rattle.state.specs.declared.Done.{Done}
+use Rattle.state.specs.declared.Done.the-variants as Done
+use Rattle.state.specs.declared.Until.{Until}
 use Rattle.steps.specs.Ends.{done}
 use Rattle.steps.specs.Loads.{only, Beside}
-use Rattle.steps.specs.Contracts.{nodesOf, Fine, OnType, BringsSide, Heads, Starts}
+use Rattle.steps.specs.Contracts.{nodesOf, Fine, OnType, BringsSide, typedAfter, Heads, Starts}
 
 -- ---- Words
 abbrev pub reportMessage : TyError → Message
@@ -47,10 +50,16 @@ valueTyW w p =
     pick (ltb p (getD w PREDICATE-COUNT 0))
     (pick (eqb (getD w (PREDICATES + p) 0 % 2) 1) (To (declaredW w (getD w (PREDICATES + p) 0 / 2 % 256))) Free) Free
 
+-- `reject_ty`
+pub record RejectsTy (f w ou : List ℕ) (n : ℕ) (m : Message) (left : ℕ) (w′ ou′ : List ℕ) (r : Typed) : Type 0 where
+  pub end : Done
+  pub rejected : Rejected f w ou n m left w′ ou′ end
+  pub is : r ≡ typedAfter Ty.Error end
+
 -- A diagnostic by a test.
-pub data RejectedIf (f w ou : List ℕ) (n : ℕ) (m : Message) (w′ ou′ : List ℕ) : Bool → Type 0 where
-  reported : Rejected f w ou n m w′ ou′ → RejectedIf f w ou n m w′ ou′ true
-  stayed : w′ ≡ w → ou′ ≡ ou → RejectedIf f w ou n m w′ ou′ false
+pub data RejectedIf (f w ou : List ℕ) (n : ℕ) (m : Message) (left : ℕ) (w′ ou′ : List ℕ) (r : Done) : Bool → Type 0 where
+  reported : Rejected f w ou n m left w′ ou′ r → RejectedIf f w ou n m left w′ ou′ r true
+  stayed : w′ ≡ w → ou′ ≡ ou → r ≡ Done.On left → RejectedIf f w ou n m left w′ ou′ r false
 
 abbrev pub farW : List ℕ → ℕ → Bool
 farW w distance = pick (eqb distance 0) true (ltb (getD w MAX-DISTANCE 0) distance)
@@ -100,8 +109,8 @@ pub record IntroducesSide (f w ou : List ℕ) (n : ℕ) (w′ ou′ : List ℕ) 
 pub record IntroducesSides (f w : List ℕ) (n : ℕ) (w′ : List ℕ) : Type 0 where
   pub is : (ou : List ℕ) → IntroducesSide f w ou n w′ ou
 
-pub record ChecksHead (f w ou : List ℕ) (n : ℕ) (w′ ou′ : List ℕ) : Type 0 where
-  pub is : (left : ℕ) → Heads f w ou n left w′ ou′
+pub record ChecksHead (f w ou : List ℕ) (n left : ℕ) (w′ ou′ : List ℕ) (r : Done) : Type 0 where
+  pub is : Heads f w ou n left w′ ou′ r
 
 -- ---- The start
 unfoldable pub countersW : List ℕ → List ℕ
@@ -112,5 +121,5 @@ pub record Untypes (w : List ℕ) (n : ℕ) (w′ : List ℕ) : Type 0 where
   pub keeps : Keeps TYS UNDO-LEN w w′
   pub untyped : (i : ℕ) → i < n → getD w′ (TYS + 2 * i) 0 ≡ 0
 
-pub record StartsRun (w w′ : List ℕ) : Type 0 where
-  pub is : (f : List ℕ) → Starts f w w′
+pub record StartsRun (w : List ℕ) (u : Until) (w′ : List ℕ) : Type 0 where
+  pub is : (f : List ℕ) → Starts f w u w′

@@ -1,13 +1,11 @@
 // The steps of `check` outside of its cycle: they visit no node.
 ghost use mathlib.Core.Path.{_≡_};
 ghost use lib.ListN.{getD};
-ghost use Rattle.cells.specs.declared.Ty.the-variants as Ty;
 ghost use Rattle.tree.specs.Nodes.{LowerItems};
 ghost use Rattle.state.specs.Lines.{Rejected};
 ghost use Rattle.messages.specs.declared.Message.the-variants as Message;
-ghost use Rattle.steps.specs.declared.Typed.the-variants as Typed;
-ghost use Rattle.steps.specs.Outside.{reportMessage, keyTyW, valueTyW, RejectedIf, farW, charactersW, longW, Rewinds, FieldIs, Shadows, ValueOf, FieldAt, KeyOf, SelectOf, ComparesOrder, IntroducesSides, ChecksHead, countersW, Untypes, StartsRun};
-ghost use Rattle.steps.specs.Contracts.{UnifiesAt, ComparesTypes, Asks, AsksAll};
+ghost use Rattle.steps.specs.Outside.{reportMessage, keyTyW, valueTyW, RejectsTy, RejectedIf, farW, charactersW, longW, Rewinds, FieldIs, Shadows, ValueOf, FieldAt, KeyOf, SelectOf, ComparesOrder, IntroducesSides, ChecksHead, countersW, Untypes, StartsRun};
+ghost use Rattle.steps.specs.Contracts.{Fuzzes, UnifiesAt, ComparesTypes, typedAfter, Asks, AsksAll};
 use cells::Asked;
 use cells::Bound;
 use cells::Found;
@@ -16,6 +14,8 @@ use cells::Ty;
 use cells::TyError;
 use cells::Unified;
 use messages::Message;
+use state::Done;
+use state::Until;
 use state::introduce;
 use state::reject;
 use tree::Items;
@@ -24,35 +24,40 @@ use work::put;
 use work::wide;
 use work::word;
 
-// A type with the visits left, or the visits ran out.
+// A type with the visits left, or the run ended.
 pub enum Typed {
     Got(Ty, u32),
     Out,
 }
 
-// The visits left, or the visits ran out.
-pub enum Done {
-    On(u32),
-    Out,
+// A type in hand, after a step.
+fn typed_after(t: Ty, d: Done) -> Typed
+    ensures { λ r. ⌜ r ≡ typedAfter t d ⌝ }
+{
+    match d {
+        Done::On(left) => Typed::Got(t, left),
+        Done::Out => Typed::Out,
+    }
 }
 
 // ---- State
 
 pub fn reject_ty(f: &[u8], w: &mut [u32], n: u32, m: Message, left: u32, out: &mut [u8]) -> Typed
-    ensures { λ r. ⌜ (r ≡ Typed.Got Ty.Error left) × Rejected (now (f .entry)) (now (w .entry)) (now (out .entry)) n m (now (w .exit)) (now (out .exit)) ⌝ }
+    ensures { λ r. ⌜ RejectsTy (now (f .entry)) (now (w .entry)) (now (out .entry)) n m left (now (w .exit)) (now (out .exit)) r ⌝ }
 {
-    reject(f, w, n, m, out);
-    Typed::Got(Ty::Error, left)
+    typed_after(Ty::Error, reject(f, w, n, m, left, out))
 }
 
-pub fn report(f: &[u8], w: &mut [u32], n: u32, err: TyError, out: &mut [u8])
-    ensures { λ _. ⌜ Rejected (now (f .entry)) (now (w .entry)) (now (out .entry)) n (reportMessage err) (now (w .exit)) (now (out .exit)) ⌝ }
+pub fn report(f: &[u8], w: &mut [u32], n: u32, err: TyError, left: u32, out: &mut [u8]) -> Done
+    ensures { λ r. ⌜ Rejected (now (f .entry)) (now (w .entry)) (now (out .entry)) n (reportMessage err) left (now (w .exit)) (now (out .exit)) r ⌝ }
 {
     match err {
-        TyError::Mismatch(e, g) => reject(f, w, n, Message::Mismatch(e, g), out),
-        TyError::UnionMismatch(d, e, g) => reject(f, w, n, Message::UnionMismatch(d, e, g), out),
-        TyError::UnknownField(name) => reject(f, w, n, Message::NoField(name), out),
-        TyError::Infinite => reject(f, w, n, Message::Infinite, out),
+        TyError::Mismatch(e, g) => reject(f, w, n, Message::Mismatch(e, g), left, out),
+        TyError::UnionMismatch(d, e, g) => {
+            reject(f, w, n, Message::UnionMismatch(d, e, g), left, out)
+        }
+        TyError::UnknownField(name) => reject(f, w, n, Message::NoField(name), left, out),
+        TyError::Infinite => reject(f, w, n, Message::Infinite, left, out),
     }
 }
 
@@ -78,10 +83,7 @@ pub fn unify_at(
     let r = unify::unify(w, got, expected, left);
     match r {
         Unified::Good(l) => Done::On(l),
-        Unified::Bad(err, l) => {
-            report(f, w, n, err, out);
-            Done::On(l)
-        }
+        Unified::Bad(err, l) => report(f, w, n, err, l, out),
         Unified::Spent => Done::Out,
     }
 }
@@ -93,10 +95,7 @@ pub fn compare_order(f: &[u8], w: &mut [u32], lhs: u32, t: Ty, left: u32, out: &
     let o = unify::orderable(w, t, left);
     match o {
         Asked::Yes(l) => Done::On(l),
-        Asked::No(l) => {
-            reject(f, w, lhs, Message::NoOrder(t), out);
-            Done::On(l)
-        }
+        Asked::No(l) => reject(f, w, lhs, Message::NoOrder(t), l, out),
         Asked::Spent => Done::Out,
     }
 }
@@ -116,10 +115,7 @@ pub fn compare_types(
     let u = unify::unify(w, b, a, left);
     match u {
         Unified::Good(l) => compare_order(f, w, lhs, a, l, out),
-        Unified::Bad(err, l) => {
-            report(f, w, rhs, err, out);
-            Done::On(l)
-        }
+        Unified::Bad(err, l) => report(f, w, rhs, err, l, out),
         Unified::Spent => Done::Out,
     }
 }
@@ -285,22 +281,44 @@ pub fn select_of(
 
 // ---- Both bounds of a fuzzy pattern
 
-pub fn fuzzy_distance(f: &[u8], w: &mut [u32], n: u32, distance: u32, out: &mut [u8])
-    ensures { λ _. ⌜ RejectedIf (now (f .entry)) (now (w .entry)) (now (out .entry)) n (Message.DistanceOutside distance) (now (w .exit)) (now (out .exit)) (farW (now (w .entry)) distance) ⌝ }
+fn fuzzy_distance(f: &[u8], w: &mut [u32], n: u32, distance: u32, left: u32, out: &mut [u8]) -> Done
+    ensures { λ r. ⌜ RejectedIf (now (f .entry)) (now (w .entry)) (now (out .entry)) n (Message.DistanceOutside distance) left (now (w .exit)) (now (out .exit)) r (farW (now (w .entry)) distance) ⌝ }
 {
     if distance == 0 {
-        reject(f, w, n, Message::DistanceOutside(distance), out);
-    } else if word(w, work::MAX_DISTANCE) < distance {
-        reject(f, w, n, Message::DistanceOutside(distance), out);
+        return reject(f, w, n, Message::DistanceOutside(distance), left, out);
     }
+    if word(w, work::MAX_DISTANCE) < distance {
+        return reject(f, w, n, Message::DistanceOutside(distance), left, out);
+    }
+    Done::On(left)
 }
 
-pub fn fuzzy_term(f: &[u8], w: &mut [u32], n: u32, term: u32, out: &mut [u8])
-    ensures { λ _. ⌜ RejectedIf (now (f .entry)) (now (w .entry)) (now (out .entry)) n (Message.TermTooLong (charactersW (now (w .entry)) term)) (now (w .exit)) (now (out .exit)) (longW (now (w .entry)) term) ⌝ }
+fn fuzzy_term(f: &[u8], w: &mut [u32], n: u32, term: u32, left: u32, out: &mut [u8]) -> Done
+    ensures { λ r. ⌜ RejectedIf (now (f .entry)) (now (w .entry)) (now (out .entry)) n (Message.TermTooLong (charactersW (now (w .entry)) term)) left (now (w .exit)) (now (out .exit)) r (longW (now (w .entry)) term) ⌝ }
 {
     let characters = word(w, work::NAMES + wide(term)) % 512;
     if word(w, work::MAX_TERM) < characters {
-        reject(f, w, n, Message::TermTooLong(characters), out);
+        return reject(f, w, n, Message::TermTooLong(characters), left, out);
+    }
+    Done::On(left)
+}
+
+// The distance first.
+pub fn fuzzy(
+    f: &[u8],
+    w: &mut [u32],
+    n: u32,
+    term: u32,
+    distance: u32,
+    left: u32,
+    out: &mut [u8],
+) -> Typed
+    ensures { λ r. ⌜ Fuzzes (now (f .entry)) (now (w .entry)) (now (out .entry)) n term distance left (now (w .exit)) (now (out .exit)) r ⌝ }
+{
+    let d = fuzzy_distance(f, w, n, distance, left, out);
+    match d {
+        Done::On(l) => typed_after(Ty::Str, fuzzy_term(f, w, n, term, l, out)),
+        Done::Out => Typed::Out,
     }
 }
 
@@ -320,13 +338,13 @@ pub fn introduce_side(f: &[u8], w: &mut [u32], n: u32)
 }
 
 // A wildcard has no type of its own that the head could have.
-pub fn check_head(f: &[u8], w: &mut [u32], n: u32, out: &mut [u8])
-    ensures { λ _. ⌜ ChecksHead (now (f .entry)) (now (w .entry)) (now (out .entry)) n (now (w .exit)) (now (out .exit)) ⌝ }
+pub fn check_head(f: &[u8], w: &mut [u32], n: u32, left: u32, out: &mut [u8]) -> Done
+    ensures { λ r. ⌜ ChecksHead (now (f .entry)) (now (w .entry)) (now (out .entry)) n left (now (w .exit)) (now (out .exit)) r ⌝ }
 {
     let e = tree::node_at(f, w, n);
     match e {
-        Node::Wildcard => reject(f, w, n, Message::WildcardHead, out),
-        _ => {}
+        Node::Wildcard => reject(f, w, n, Message::WildcardHead, left, out),
+        _ => Done::On(left),
     }
 }
 
@@ -383,10 +401,10 @@ fn begin_types(w: &mut [u32])
 }
 
 // The counters of a run are 0, and no node has a type.
-pub fn begin(w: &mut [u32])
-    ensures { λ _. ⌜ StartsRun (now (w .entry)) (now (w .exit)) ⌝ }
+pub fn begin(w: &mut [u32], until: Until)
+    ensures { λ _. ⌜ StartsRun (now (w .entry)) until (now (w .exit)) ⌝ }
 {
     begin_counters(w);
     begin_types(w);
-    state::begin_lines(w);
+    state::begin_lines(w, until);
 }

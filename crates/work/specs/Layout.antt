@@ -78,6 +78,13 @@ PLACE-HIGH = 9622
 abbrev pub FULL : ℕ
 FULL = 9623
 
+-- what ends the run early besides its visits: 0 nothing, 1 its first diagnostic; and where it ended so, the visits left
+abbrev pub UNTIL : ℕ
+UNTIL = 9624
+
+abbrev pub LEFT : ℕ
+LEFT = 9625
+
 -- 512 inferred records, a word each: where the fields start times 1,024, and their number
 abbrev pub RECORDS : ℕ
 RECORDS = 9632

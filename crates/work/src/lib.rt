@@ -114,6 +114,10 @@ pub const PLACE: usize = RECORD_COUNT + 5;
 pub const PLACE_HIGH: usize = RECORD_COUNT + 6;
 
 pub const FULL: usize = RECORD_COUNT + 7;
+// What ends the run early besides its visits: 0 nothing, 1 its first diagnostic; and where it ended so, the visits left.
+pub const UNTIL: usize = RECORD_COUNT + 8;
+
+pub const LEFT: usize = RECORD_COUNT + 9;
 
 pub const RECORDS: usize = RECORD_COUNT + 16;
 

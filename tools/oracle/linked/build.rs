@@ -10,7 +10,7 @@ use std::fs;
 use std::path::{Path, PathBuf};
 
 /// Each has a cfg of its own.
-const WHOLE: [&str; 2] = ["sigla_check", "sigla_read"];
+const WHOLE: [&str; 3] = ["sigla_check", "sigla_lamp", "sigla_read"];
 
 /// These go together: the cfg `sigla_calls` is for all.
 const CALLS: [&str; 8] = [

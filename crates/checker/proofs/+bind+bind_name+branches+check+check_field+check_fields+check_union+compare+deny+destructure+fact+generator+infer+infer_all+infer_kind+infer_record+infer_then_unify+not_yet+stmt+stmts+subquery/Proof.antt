@@ -1,4 +1,4 @@
--- Made from Proof.ans by tools/answers, ecac372fa6c2c6d6 72d5cc20b78c4325.
+-- Made from Proof.ans by tools/answers, b5d0beb90d2aaa32 dd1fa1b2fcbe0cce.
 -- What a node names is lower, so the node falls, and on one node the rank of specs/Contracts.antt. Each arm is a law of its own.
 use Prim.Native.Nat.{ℕ, _<_, _+_, _-_, _*_, _≤_}
 use borrow.Fn.Kinds.{In}
@@ -81,8 +81,7 @@ use Rattle.state.proofs.introduce.Reads as introduce-reads
 use Rattle.state.proofs.reject.Reads as reject-reads
 use Rattle.steps.proofs.compare_types.Reads as compare-types-reads
 use Rattle.steps.proofs.destructurable.Reads as destructurable-reads
-use Rattle.steps.proofs.fuzzy_distance.Reads as fuzzy-distance-reads
-use Rattle.steps.proofs.fuzzy_term.Reads as fuzzy-term-reads
+use Rattle.steps.proofs.fuzzy.Reads as fuzzy-reads
 use Rattle.steps.proofs.introduce_side.Reads as introduce-side-reads
 use Rattle.steps.proofs.key_of.Reads as key-of-reads
 use Rattle.steps.proofs.key_ty.Reads as key-ty-reads
@@ -110,13 +109,13 @@ use Rattle.tree.specs.Nodes.{kindW}
 use Rattle.steps.proofs.Ending.{brings}
 use Rattle.steps.proofs.Forms.{constant-form}
 use Rattle.steps.proofs.Besides.{unifies}
-use Rattle.checker.proofs.Callees.{as-node, rejects-by, notes-by, freshens-by, reports-by, rolls-by, cuts-by, fuzzes-by, key-by, key-on, value-on, item-falls, field-falls, stmt-falls, size-small, turn-at, generates-at, mentions-at, checks-at, finds-at, unknown-at}
+use Rattle.checker.proofs.Callees.{as-node, rejects-by, notes-by, freshens-by, reports-by, rolls-by, cuts-by, key-by, key-on, value-on, item-falls, field-falls, stmt-falls, size-small, turn-at, generates-at, mentions-at, checks-at, finds-at, unknown-at}
 use Rattle.checker.proofs.Choosing.{later, denied-later, inferred, deny-target, no-disjunction, record-whole}
 use Rattle.checker.proofs.Inferring.{infer-typed, infer-out, int-arm, bytes-arm, str-arm, prefix-arm, error-arm, wildcard-arm, never-arm, variable-arm}
 use Rattle.checker.proofs.Arms.{head-arm, head-out, key-head, value-head, select-head, fact-free, fact-on, fact-out, fact-arm, record-arm, subquery-arm, arith-arm, disjunction-arm, fuzzy-arm}
 use Rattle.checker.proofs.Alls.{turn-unified, turn-out, AllGoing, all-start, all-next, all-out, all-end}
 use Rattle.checker.proofs.Generating.{BranchesGoing, branches-start, branches-next, branches-out, branches-end, generator-inferred, generator-branched, generator-out}
-use Rattle.checker.proofs.Stating.{only-right, bad-target, not-yet, not-yet-out, destructure-out, destructure-unified, destructure-right-out, wildcard-noted, wildcard-out, variable-unified, variable-out}
+use Rattle.checker.proofs.Stating.{only-right, bad-target, bad-target-out, not-yet, not-yet-out, not-yet-stops, destructure-out, destructure-unified, destructure-right-out, wildcard-noted, wildcard-out, variable-unified, variable-out}
 use Rattle.checker.proofs.Bodies.{bind-wildcard, bind-constant, bind-error, bind-later, deny-error, deny-later, bind-apart, bind-whole, bind-variable, deny-variable, stmt-implicit, stmt-negation, stmt-bind, stmt-deny, stmt-compare, StmtsGoing, stmts-start, stmts-next, stmts-out, stmts-end, subquery-out, subquery-head-out, subquery-ends}
 use Rattle.checker.proofs.Checking.{unify-out, unify-good, unify-spent, unify-bad, field-out, field-kept, field-rolled}
 use Rattle.checker.proofs.Against.{check-nothing, check-wildcard, check-record, check-inferred, record-noted, record-out, record-union, union-arity, union-unknown, union-noted, union-out}
@@ -666,6 +665,28 @@ bind-reject-requires : (t : ℕ) → bind-lts.Need-reject-requires (
 ) (bind-at t) bind.Post
 bind-reject-requires t c κs = search needs
 
+bind-enum-known-d : (t : ℕ) → bind-lts.Need-enum-known-d (
+  node-at-reads.Asked,
+  node-at-reads.Learnt,
+  infer-below t,
+  infer.Post,
+  annotate-reads.Asked,
+  annotate-reads.Learnt,
+  bind-name-below t,
+  bind-name.Post,
+  destructurable-reads.Asked,
+  destructurable-reads.Learnt,
+  destructure-below t,
+  destructure.Post,
+  not-yet-below t,
+  not-yet.Post,
+  reject-reads.Asked,
+  reject-reads.Learnt,
+  only-reads.Asked,
+  only-reads.Learnt,
+) (bind-at t) bind.Post
+bind-enum-known-d t c = search needs
+
 bind-infer-requires-2 : (t : ℕ) → bind-lts.Need-infer-requires-2 (
   node-at-reads.Asked,
   node-at-reads.Learnt,
@@ -731,6 +752,28 @@ bind-enum-told-4 : (t : ℕ) → bind-lts.Need-enum-told-4 (
   only-reads.Learnt,
 ) (bind-at t) bind.Post
 bind-enum-told-4 t c = search needs
+
+bind-enum-told-5 : (t : ℕ) → bind-lts.Need-enum-told-5 (
+  node-at-reads.Asked,
+  node-at-reads.Learnt,
+  infer-below t,
+  infer.Post,
+  annotate-reads.Asked,
+  annotate-reads.Learnt,
+  bind-name-below t,
+  bind-name.Post,
+  destructurable-reads.Asked,
+  destructurable-reads.Learnt,
+  destructure-below t,
+  destructure.Post,
+  not-yet-below t,
+  not-yet.Post,
+  reject-reads.Asked,
+  reject-reads.Learnt,
+  only-reads.Asked,
+  only-reads.Learnt,
+) (bind-at t) bind.Post
+bind-enum-told-5 t c = search needs
 
 bind-infer-requires-3 : (t : ℕ) → bind-lts.Need-infer-requires-3 (
   node-at-reads.Asked,
@@ -1194,7 +1237,7 @@ bind-returns-6 : (t : ℕ) → bind-lts.Need-returns-6 (
   only-reads.Asked,
   only-reads.Learnt,
 ) (bind-at t) bind.Post
-bind-returns-6 t c = rw (c .only .ensures) (bind-constant (c .before .before .before .before .before .before .before .before .before .before .before .before .before .before .before .before .node-at .ensures) (constant-form _ _ (c .before .before .before .before .before .before .before .before .before .before .before .before .before .before .before .match .keys4)) (bad-target (rejects-by (c .before .before .before .before .before .before .before .before .before .before .before .before .reject .ensures)) (c .before .before .before .before .before .infer2 .ensures)))
+bind-returns-6 t c = rw (c .only .ensures) (bind-constant (c .before .before .before .before .before .before .before .before .before .before .before .before .before .before .before .before .before .before .before .node-at .ensures) (constant-form _ _ (c .before .before .before .before .before .before .before .before .before .before .before .before .before .before .before .before .before .before .match .keys4)) (bad-target (rejects-by (c .before .before .before .before .before .before .before .before .before .before .before .before .before .before .before .reject .ensures)) (c .before .before .before .before .before .before .before .before .before .d .given .1) (c .before .before .before .before .before .infer2 .ensures)))
 
 bind-same-length-13 : (t : ℕ) → bind-lts.Need-same-length-13 (
   node-at-reads.Asked,
@@ -1260,8 +1303,7 @@ bind-returns-7 : (t : ℕ) → bind-lts.Need-returns-7 (
   only-reads.Asked,
   only-reads.Learnt,
 ) (bind-at t) bind.Post
-unfolding kindW formOf
-bind-returns-7 t c = rw (c .only2 .ensures) (bind-error (as-node (c .before .before .before .before .before .before .before .before .enum-told4 .given .1) (c .before .before .before .before .before .before .before .before .before .before .node-at .ensures)) refl (only-right (c .before .before .before .before .before .infer3 .ensures)))
+bind-returns-7 t c = bind-constant (c .before .before .before .before .before .before .before .before .before .before .node-at .ensures) (constant-form _ _ (c .before .before .before .before .before .before .before .before .before .match .keys4)) (bad-target-out (rejects-by (c .before .before .before .before .before .before .reject .ensures)) (c .enum-told4 .given .1))
 
 bind-same-length-15 : (t : ℕ) → bind-lts.Need-same-length-15 (
   node-at-reads.Asked,
@@ -1327,7 +1369,74 @@ bind-returns-8 : (t : ℕ) → bind-lts.Need-returns-8 (
   only-reads.Asked,
   only-reads.Learnt,
 ) (bind-at t) bind.Post
-bind-returns-8 t c = bind-later (c .before .before .before .before .before .before .before .before .node-at .ensures) (later _ _ (c .before .before .before .before .before .before .before .match .keys6)) (c .before .before .before .before .not-yet2 .ensures)
+unfolding kindW formOf
+bind-returns-8 t c = rw (c .only2 .ensures) (bind-error (as-node (c .before .before .before .before .before .before .before .before .enum-told5 .given .1) (c .before .before .before .before .before .before .before .before .before .before .node-at .ensures)) refl (only-right (c .before .before .before .before .before .infer3 .ensures)))
+
+bind-same-length-17 : (t : ℕ) → bind-lts.Need-same-length-17 (
+  node-at-reads.Asked,
+  node-at-reads.Learnt,
+  infer-below t,
+  infer.Post,
+  annotate-reads.Asked,
+  annotate-reads.Learnt,
+  bind-name-below t,
+  bind-name.Post,
+  destructurable-reads.Asked,
+  destructurable-reads.Learnt,
+  destructure-below t,
+  destructure.Post,
+  not-yet-below t,
+  not-yet.Post,
+  reject-reads.Asked,
+  reject-reads.Learnt,
+  only-reads.Asked,
+  only-reads.Learnt,
+) (bind-at t) bind.Post
+bind-same-length-17 t c = search needs
+
+bind-same-length-18 : (t : ℕ) → bind-lts.Need-same-length-18 (
+  node-at-reads.Asked,
+  node-at-reads.Learnt,
+  infer-below t,
+  infer.Post,
+  annotate-reads.Asked,
+  annotate-reads.Learnt,
+  bind-name-below t,
+  bind-name.Post,
+  destructurable-reads.Asked,
+  destructurable-reads.Learnt,
+  destructure-below t,
+  destructure.Post,
+  not-yet-below t,
+  not-yet.Post,
+  reject-reads.Asked,
+  reject-reads.Learnt,
+  only-reads.Asked,
+  only-reads.Learnt,
+) (bind-at t) bind.Post
+bind-same-length-18 t c = search needs
+
+bind-returns-9 : (t : ℕ) → bind-lts.Need-returns-9 (
+  node-at-reads.Asked,
+  node-at-reads.Learnt,
+  infer-below t,
+  infer.Post,
+  annotate-reads.Asked,
+  annotate-reads.Learnt,
+  bind-name-below t,
+  bind-name.Post,
+  destructurable-reads.Asked,
+  destructurable-reads.Learnt,
+  destructure-below t,
+  destructure.Post,
+  not-yet-below t,
+  not-yet.Post,
+  reject-reads.Asked,
+  reject-reads.Learnt,
+  only-reads.Asked,
+  only-reads.Learnt,
+) (bind-at t) bind.Post
+bind-returns-9 t c = bind-later (c .before .before .before .before .before .before .before .before .node-at .ensures) (later _ _ (c .before .before .before .before .before .before .before .match .keys6)) (c .before .before .before .before .not-yet2 .ensures)
 
 bind-name-introduce-requires : (t : ℕ) → bind-name-lts.Need-introduce-requires (
   introduce-reads.Asked,
@@ -3245,6 +3354,22 @@ deny-reject-requires : (t : ℕ) → deny-lts.Need-reject-requires (
 ) (deny-at t) deny.Post
 deny-reject-requires t c κs = search needs
 
+deny-enum-known-d : (t : ℕ) → deny-lts.Need-enum-known-d (
+  node-at-reads.Asked,
+  node-at-reads.Learnt,
+  bind-name-below t,
+  bind-name.Post,
+  reject-reads.Asked,
+  reject-reads.Learnt,
+  infer-below t,
+  infer.Post,
+  only-reads.Asked,
+  only-reads.Learnt,
+  not-yet-below t,
+  not-yet.Post,
+) (deny-at t) deny.Post
+deny-enum-known-d t c = search needs
+
 deny-infer-requires : (t : ℕ) → deny-lts.Need-infer-requires (
   node-at-reads.Asked,
   node-at-reads.Learnt,
@@ -3292,6 +3417,22 @@ deny-enum-told : (t : ℕ) → deny-lts.Need-enum-told (
   not-yet.Post,
 ) (deny-at t) deny.Post
 deny-enum-told t c = search needs
+
+deny-enum-told-2 : (t : ℕ) → deny-lts.Need-enum-told-2 (
+  node-at-reads.Asked,
+  node-at-reads.Learnt,
+  bind-name-below t,
+  bind-name.Post,
+  reject-reads.Asked,
+  reject-reads.Learnt,
+  infer-below t,
+  infer.Post,
+  only-reads.Asked,
+  only-reads.Learnt,
+  not-yet-below t,
+  not-yet.Post,
+) (deny-at t) deny.Post
+deny-enum-told-2 t c = search needs
 
 deny-infer-requires-2 : (t : ℕ) → deny-lts.Need-infer-requires-2 (
   node-at-reads.Asked,
@@ -3435,7 +3576,7 @@ deny-returns-2 : (t : ℕ) → deny-lts.Need-returns-2 (
   not-yet-below t,
   not-yet.Post,
 ) (deny-at t) deny.Post
-deny-returns-2 t c = rw (c .only .ensures) (deny-target (c .before .before .before .before .before .before .before .before .before .before .before .before .before .before .before .match .keys2) (c .before .before .before .before .before .before .before .before .before .before .before .before .before .before .before .before .node-at .ensures) (bad-target (rejects-by (c .before .before .before .before .before .before .before .before .before .before .before .before .reject .ensures)) (c .before .before .before .before .before .infer .ensures)))
+deny-returns-2 t c = rw (c .only .ensures) (deny-target (c .before .before .before .before .before .before .before .before .before .before .before .before .before .before .before .before .before .before .match .keys2) (c .before .before .before .before .before .before .before .before .before .before .before .before .before .before .before .before .before .before .before .node-at .ensures) (bad-target (rejects-by (c .before .before .before .before .before .before .before .before .before .before .before .before .before .before .before .reject .ensures)) (c .before .before .before .before .before .before .before .before .before .d .given .1) (c .before .before .before .before .before .infer .ensures)))
 
 deny-same-length-5 : (t : ℕ) → deny-lts.Need-same-length-5 (
   node-at-reads.Asked,
@@ -3483,8 +3624,7 @@ deny-returns-3 : (t : ℕ) → deny-lts.Need-returns-3 (
   not-yet-below t,
   not-yet.Post,
 ) (deny-at t) deny.Post
-unfolding kindW formOf
-deny-returns-3 t c = rw (c .only2 .ensures) (deny-error (as-node (c .before .before .before .before .before .before .before .before .enum-told .given .1) (c .before .before .before .before .before .before .before .before .before .before .node-at .ensures)) refl (only-right (c .before .before .before .before .before .infer2 .ensures)))
+deny-returns-3 t c = deny-target (c .before .before .before .before .before .before .before .before .before .match .keys2) (c .before .before .before .before .before .before .before .before .before .before .node-at .ensures) (bad-target-out (rejects-by (c .before .before .before .before .before .before .reject .ensures)) (c .enum-told .given .1))
 
 deny-same-length-7 : (t : ℕ) → deny-lts.Need-same-length-7 (
   node-at-reads.Asked,
@@ -3532,7 +3672,56 @@ deny-returns-4 : (t : ℕ) → deny-lts.Need-returns-4 (
   not-yet-below t,
   not-yet.Post,
 ) (deny-at t) deny.Post
-deny-returns-4 t c = deny-later (c .before .before .before .before .before .before .before .before .node-at .ensures) (denied-later _ _ (c .before .before .before .before .before .before .before .match .keys4)) (c .before .before .before .before .not-yet .ensures)
+unfolding kindW formOf
+deny-returns-4 t c = rw (c .only2 .ensures) (deny-error (as-node (c .before .before .before .before .before .before .before .before .enum-told2 .given .1) (c .before .before .before .before .before .before .before .before .before .before .node-at .ensures)) refl (only-right (c .before .before .before .before .before .infer2 .ensures)))
+
+deny-same-length-9 : (t : ℕ) → deny-lts.Need-same-length-9 (
+  node-at-reads.Asked,
+  node-at-reads.Learnt,
+  bind-name-below t,
+  bind-name.Post,
+  reject-reads.Asked,
+  reject-reads.Learnt,
+  infer-below t,
+  infer.Post,
+  only-reads.Asked,
+  only-reads.Learnt,
+  not-yet-below t,
+  not-yet.Post,
+) (deny-at t) deny.Post
+deny-same-length-9 t c = search needs
+
+deny-same-length-10 : (t : ℕ) → deny-lts.Need-same-length-10 (
+  node-at-reads.Asked,
+  node-at-reads.Learnt,
+  bind-name-below t,
+  bind-name.Post,
+  reject-reads.Asked,
+  reject-reads.Learnt,
+  infer-below t,
+  infer.Post,
+  only-reads.Asked,
+  only-reads.Learnt,
+  not-yet-below t,
+  not-yet.Post,
+) (deny-at t) deny.Post
+deny-same-length-10 t c = search needs
+
+deny-returns-5 : (t : ℕ) → deny-lts.Need-returns-5 (
+  node-at-reads.Asked,
+  node-at-reads.Learnt,
+  bind-name-below t,
+  bind-name.Post,
+  reject-reads.Asked,
+  reject-reads.Learnt,
+  infer-below t,
+  infer.Post,
+  only-reads.Asked,
+  only-reads.Learnt,
+  not-yet-below t,
+  not-yet.Post,
+) (deny-at t) deny.Post
+deny-returns-5 t c = deny-later (c .before .before .before .before .before .before .before .before .node-at .ensures) (denied-later _ _ (c .before .before .before .before .before .before .before .match .keys4)) (c .before .before .before .before .not-yet .ensures)
 
 destructure-infer-requires : (t : ℕ) → destructure-lts.Need-infer-requires (
   infer-below t,
@@ -4249,10 +4438,8 @@ infer-all-returns-3 t c = all-end (c .before .loop .inv .0) (c .loop-test .left)
 infer-kind-node-at-requires : (t : ℕ) → infer-kind-lts.Need-node-at-requires (
   node-at-reads.Asked,
   node-at-reads.Learnt,
-  fuzzy-distance-reads.Asked,
-  fuzzy-distance-reads.Learnt,
-  fuzzy-term-reads.Asked,
-  fuzzy-term-reads.Learnt,
+  fuzzy-reads.Asked,
+  fuzzy-reads.Learnt,
   fresh-var-id-reads.Asked,
   fresh-var-id-reads.Learnt,
   introduce-reads.Asked,
@@ -4281,10 +4468,8 @@ infer-kind-node-at-requires t c κs = search needs
 infer-kind-enum-told : (t : ℕ) → infer-kind-lts.Need-enum-told (
   node-at-reads.Asked,
   node-at-reads.Learnt,
-  fuzzy-distance-reads.Asked,
-  fuzzy-distance-reads.Learnt,
-  fuzzy-term-reads.Asked,
-  fuzzy-term-reads.Learnt,
+  fuzzy-reads.Asked,
+  fuzzy-reads.Learnt,
   fresh-var-id-reads.Asked,
   fresh-var-id-reads.Learnt,
   introduce-reads.Asked,
@@ -4313,10 +4498,8 @@ infer-kind-enum-told t c = search needs
 infer-kind-enum-told-2 : (t : ℕ) → infer-kind-lts.Need-enum-told-2 (
   node-at-reads.Asked,
   node-at-reads.Learnt,
-  fuzzy-distance-reads.Asked,
-  fuzzy-distance-reads.Learnt,
-  fuzzy-term-reads.Asked,
-  fuzzy-term-reads.Learnt,
+  fuzzy-reads.Asked,
+  fuzzy-reads.Learnt,
   fresh-var-id-reads.Asked,
   fresh-var-id-reads.Learnt,
   introduce-reads.Asked,
@@ -4345,10 +4528,8 @@ infer-kind-enum-told-2 t c = search needs
 infer-kind-enum-told-3 : (t : ℕ) → infer-kind-lts.Need-enum-told-3 (
   node-at-reads.Asked,
   node-at-reads.Learnt,
-  fuzzy-distance-reads.Asked,
-  fuzzy-distance-reads.Learnt,
-  fuzzy-term-reads.Asked,
-  fuzzy-term-reads.Learnt,
+  fuzzy-reads.Asked,
+  fuzzy-reads.Learnt,
   fresh-var-id-reads.Asked,
   fresh-var-id-reads.Learnt,
   introduce-reads.Asked,
@@ -4377,10 +4558,8 @@ infer-kind-enum-told-3 t c = search needs
 infer-kind-enum-told-4 : (t : ℕ) → infer-kind-lts.Need-enum-told-4 (
   node-at-reads.Asked,
   node-at-reads.Learnt,
-  fuzzy-distance-reads.Asked,
-  fuzzy-distance-reads.Learnt,
-  fuzzy-term-reads.Asked,
-  fuzzy-term-reads.Learnt,
+  fuzzy-reads.Asked,
+  fuzzy-reads.Learnt,
   fresh-var-id-reads.Asked,
   fresh-var-id-reads.Learnt,
   introduce-reads.Asked,
@@ -4409,10 +4588,8 @@ infer-kind-enum-told-4 t c = search needs
 infer-kind-enum-known-e : (t : ℕ) → infer-kind-lts.Need-enum-known-e (
   node-at-reads.Asked,
   node-at-reads.Learnt,
-  fuzzy-distance-reads.Asked,
-  fuzzy-distance-reads.Learnt,
-  fuzzy-term-reads.Asked,
-  fuzzy-term-reads.Learnt,
+  fuzzy-reads.Asked,
+  fuzzy-reads.Learnt,
   fresh-var-id-reads.Asked,
   fresh-var-id-reads.Learnt,
   introduce-reads.Asked,
@@ -4438,13 +4615,11 @@ infer-kind-enum-known-e : (t : ℕ) → infer-kind-lts.Need-enum-known-e (
 ) (infer-kind-at t) infer-kind.Post
 infer-kind-enum-known-e t c = search needs
 
-infer-kind-fuzzy-distance-requires : (t : ℕ) → infer-kind-lts.Need-fuzzy-distance-requires (
+infer-kind-fuzzy-requires : (t : ℕ) → infer-kind-lts.Need-fuzzy-requires (
   node-at-reads.Asked,
   node-at-reads.Learnt,
-  fuzzy-distance-reads.Asked,
-  fuzzy-distance-reads.Learnt,
-  fuzzy-term-reads.Asked,
-  fuzzy-term-reads.Learnt,
+  fuzzy-reads.Asked,
+  fuzzy-reads.Learnt,
   fresh-var-id-reads.Asked,
   fresh-var-id-reads.Learnt,
   introduce-reads.Asked,
@@ -4468,47 +4643,13 @@ infer-kind-fuzzy-distance-requires : (t : ℕ) → infer-kind-lts.Need-fuzzy-dis
   subquery-below t,
   subquery.Post,
 ) (infer-kind-at t) infer-kind.Post
-infer-kind-fuzzy-distance-requires t c κs = search needs
-
-infer-kind-fuzzy-term-requires : (t : ℕ) → infer-kind-lts.Need-fuzzy-term-requires (
-  node-at-reads.Asked,
-  node-at-reads.Learnt,
-  fuzzy-distance-reads.Asked,
-  fuzzy-distance-reads.Learnt,
-  fuzzy-term-reads.Asked,
-  fuzzy-term-reads.Learnt,
-  fresh-var-id-reads.Asked,
-  fresh-var-id-reads.Learnt,
-  introduce-reads.Asked,
-  introduce-reads.Learnt,
-  infer-all-below t,
-  infer-all.Post,
-  infer-record-below t,
-  infer-record.Post,
-  infer-below t,
-  infer.Post,
-  repr-reads.Asked,
-  repr-reads.Learnt,
-  key-of-reads.Asked,
-  key-of-reads.Learnt,
-  value-of-reads.Asked,
-  value-of-reads.Learnt,
-  select-of-reads.Asked,
-  select-of-reads.Learnt,
-  fact-below t,
-  fact.Post,
-  subquery-below t,
-  subquery.Post,
-) (infer-kind-at t) infer-kind.Post
-infer-kind-fuzzy-term-requires t c κs = search needs
+infer-kind-fuzzy-requires t c κs = search needs
 
 infer-kind-enum-told-5 : (t : ℕ) → infer-kind-lts.Need-enum-told-5 (
   node-at-reads.Asked,
   node-at-reads.Learnt,
-  fuzzy-distance-reads.Asked,
-  fuzzy-distance-reads.Learnt,
-  fuzzy-term-reads.Asked,
-  fuzzy-term-reads.Learnt,
+  fuzzy-reads.Asked,
+  fuzzy-reads.Learnt,
   fresh-var-id-reads.Asked,
   fresh-var-id-reads.Learnt,
   introduce-reads.Asked,
@@ -4537,10 +4678,8 @@ infer-kind-enum-told-5 t c = search needs
 infer-kind-fresh-var-id-requires : (t : ℕ) → infer-kind-lts.Need-fresh-var-id-requires (
   node-at-reads.Asked,
   node-at-reads.Learnt,
-  fuzzy-distance-reads.Asked,
-  fuzzy-distance-reads.Learnt,
-  fuzzy-term-reads.Asked,
-  fuzzy-term-reads.Learnt,
+  fuzzy-reads.Asked,
+  fuzzy-reads.Learnt,
   fresh-var-id-reads.Asked,
   fresh-var-id-reads.Learnt,
   introduce-reads.Asked,
@@ -4569,10 +4708,8 @@ infer-kind-fresh-var-id-requires t c κs = search needs
 infer-kind-enum-told-6 : (t : ℕ) → infer-kind-lts.Need-enum-told-6 (
   node-at-reads.Asked,
   node-at-reads.Learnt,
-  fuzzy-distance-reads.Asked,
-  fuzzy-distance-reads.Learnt,
-  fuzzy-term-reads.Asked,
-  fuzzy-term-reads.Learnt,
+  fuzzy-reads.Asked,
+  fuzzy-reads.Learnt,
   fresh-var-id-reads.Asked,
   fresh-var-id-reads.Learnt,
   introduce-reads.Asked,
@@ -4601,10 +4738,8 @@ infer-kind-enum-told-6 t c = search needs
 infer-kind-fresh-var-id-requires-2 : (t : ℕ) → infer-kind-lts.Need-fresh-var-id-requires-2 (
   node-at-reads.Asked,
   node-at-reads.Learnt,
-  fuzzy-distance-reads.Asked,
-  fuzzy-distance-reads.Learnt,
-  fuzzy-term-reads.Asked,
-  fuzzy-term-reads.Learnt,
+  fuzzy-reads.Asked,
+  fuzzy-reads.Learnt,
   fresh-var-id-reads.Asked,
   fresh-var-id-reads.Learnt,
   introduce-reads.Asked,
@@ -4633,10 +4768,8 @@ infer-kind-fresh-var-id-requires-2 t c κs = search needs
 infer-kind-enum-told-7 : (t : ℕ) → infer-kind-lts.Need-enum-told-7 (
   node-at-reads.Asked,
   node-at-reads.Learnt,
-  fuzzy-distance-reads.Asked,
-  fuzzy-distance-reads.Learnt,
-  fuzzy-term-reads.Asked,
-  fuzzy-term-reads.Learnt,
+  fuzzy-reads.Asked,
+  fuzzy-reads.Learnt,
   fresh-var-id-reads.Asked,
   fresh-var-id-reads.Learnt,
   introduce-reads.Asked,
@@ -4665,10 +4798,8 @@ infer-kind-enum-told-7 t c = search needs
 infer-kind-enum-known-e-2 : (t : ℕ) → infer-kind-lts.Need-enum-known-e-2 (
   node-at-reads.Asked,
   node-at-reads.Learnt,
-  fuzzy-distance-reads.Asked,
-  fuzzy-distance-reads.Learnt,
-  fuzzy-term-reads.Asked,
-  fuzzy-term-reads.Learnt,
+  fuzzy-reads.Asked,
+  fuzzy-reads.Learnt,
   fresh-var-id-reads.Asked,
   fresh-var-id-reads.Learnt,
   introduce-reads.Asked,
@@ -4697,10 +4828,8 @@ infer-kind-enum-known-e-2 t c = search needs
 infer-kind-introduce-requires : (t : ℕ) → infer-kind-lts.Need-introduce-requires (
   node-at-reads.Asked,
   node-at-reads.Learnt,
-  fuzzy-distance-reads.Asked,
-  fuzzy-distance-reads.Learnt,
-  fuzzy-term-reads.Asked,
-  fuzzy-term-reads.Learnt,
+  fuzzy-reads.Asked,
+  fuzzy-reads.Learnt,
   fresh-var-id-reads.Asked,
   fresh-var-id-reads.Learnt,
   introduce-reads.Asked,
@@ -4729,10 +4858,8 @@ infer-kind-introduce-requires t c κs = search needs
 infer-kind-enum-known-e-3 : (t : ℕ) → infer-kind-lts.Need-enum-known-e-3 (
   node-at-reads.Asked,
   node-at-reads.Learnt,
-  fuzzy-distance-reads.Asked,
-  fuzzy-distance-reads.Learnt,
-  fuzzy-term-reads.Asked,
-  fuzzy-term-reads.Learnt,
+  fuzzy-reads.Asked,
+  fuzzy-reads.Learnt,
   fresh-var-id-reads.Asked,
   fresh-var-id-reads.Learnt,
   introduce-reads.Asked,
@@ -4761,10 +4888,8 @@ infer-kind-enum-known-e-3 t c = search needs
 infer-kind-infer-all-requires : (t : ℕ) → infer-kind-lts.Need-infer-all-requires (
   node-at-reads.Asked,
   node-at-reads.Learnt,
-  fuzzy-distance-reads.Asked,
-  fuzzy-distance-reads.Learnt,
-  fuzzy-term-reads.Asked,
-  fuzzy-term-reads.Learnt,
+  fuzzy-reads.Asked,
+  fuzzy-reads.Learnt,
   fresh-var-id-reads.Asked,
   fresh-var-id-reads.Learnt,
   introduce-reads.Asked,
@@ -4793,10 +4918,8 @@ infer-kind-infer-all-requires t c κs = let low = as-node (c .before .before .be
 infer-kind-enum-known-e-4 : (t : ℕ) → infer-kind-lts.Need-enum-known-e-4 (
   node-at-reads.Asked,
   node-at-reads.Learnt,
-  fuzzy-distance-reads.Asked,
-  fuzzy-distance-reads.Learnt,
-  fuzzy-term-reads.Asked,
-  fuzzy-term-reads.Learnt,
+  fuzzy-reads.Asked,
+  fuzzy-reads.Learnt,
   fresh-var-id-reads.Asked,
   fresh-var-id-reads.Learnt,
   introduce-reads.Asked,
@@ -4825,10 +4948,8 @@ infer-kind-enum-known-e-4 t c = search needs
 infer-kind-infer-record-requires : (t : ℕ) → infer-kind-lts.Need-infer-record-requires (
   node-at-reads.Asked,
   node-at-reads.Learnt,
-  fuzzy-distance-reads.Asked,
-  fuzzy-distance-reads.Learnt,
-  fuzzy-term-reads.Asked,
-  fuzzy-term-reads.Learnt,
+  fuzzy-reads.Asked,
+  fuzzy-reads.Learnt,
   fresh-var-id-reads.Asked,
   fresh-var-id-reads.Learnt,
   introduce-reads.Asked,
@@ -4857,10 +4978,8 @@ infer-kind-infer-record-requires t c κs = let low = as-node (c .before .before 
 infer-kind-enum-known-e-5 : (t : ℕ) → infer-kind-lts.Need-enum-known-e-5 (
   node-at-reads.Asked,
   node-at-reads.Learnt,
-  fuzzy-distance-reads.Asked,
-  fuzzy-distance-reads.Learnt,
-  fuzzy-term-reads.Asked,
-  fuzzy-term-reads.Learnt,
+  fuzzy-reads.Asked,
+  fuzzy-reads.Learnt,
   fresh-var-id-reads.Asked,
   fresh-var-id-reads.Learnt,
   introduce-reads.Asked,
@@ -4889,10 +5008,8 @@ infer-kind-enum-known-e-5 t c = search needs
 infer-kind-infer-requires : (t : ℕ) → infer-kind-lts.Need-infer-requires (
   node-at-reads.Asked,
   node-at-reads.Learnt,
-  fuzzy-distance-reads.Asked,
-  fuzzy-distance-reads.Learnt,
-  fuzzy-term-reads.Asked,
-  fuzzy-term-reads.Learnt,
+  fuzzy-reads.Asked,
+  fuzzy-reads.Learnt,
   fresh-var-id-reads.Asked,
   fresh-var-id-reads.Learnt,
   introduce-reads.Asked,
@@ -4921,10 +5038,8 @@ infer-kind-infer-requires t c κs = omega (arith, as-node (c .before .before .be
 infer-kind-enum-known-r : (t : ℕ) → infer-kind-lts.Need-enum-known-r (
   node-at-reads.Asked,
   node-at-reads.Learnt,
-  fuzzy-distance-reads.Asked,
-  fuzzy-distance-reads.Learnt,
-  fuzzy-term-reads.Asked,
-  fuzzy-term-reads.Learnt,
+  fuzzy-reads.Asked,
+  fuzzy-reads.Learnt,
   fresh-var-id-reads.Asked,
   fresh-var-id-reads.Learnt,
   introduce-reads.Asked,
@@ -4953,10 +5068,8 @@ infer-kind-enum-known-r t c = search needs
 infer-kind-repr-requires : (t : ℕ) → infer-kind-lts.Need-repr-requires (
   node-at-reads.Asked,
   node-at-reads.Learnt,
-  fuzzy-distance-reads.Asked,
-  fuzzy-distance-reads.Learnt,
-  fuzzy-term-reads.Asked,
-  fuzzy-term-reads.Learnt,
+  fuzzy-reads.Asked,
+  fuzzy-reads.Learnt,
   fresh-var-id-reads.Asked,
   fresh-var-id-reads.Learnt,
   introduce-reads.Asked,
@@ -4985,10 +5098,8 @@ infer-kind-repr-requires t c κs = search needs
 infer-kind-key-of-requires : (t : ℕ) → infer-kind-lts.Need-key-of-requires (
   node-at-reads.Asked,
   node-at-reads.Learnt,
-  fuzzy-distance-reads.Asked,
-  fuzzy-distance-reads.Learnt,
-  fuzzy-term-reads.Asked,
-  fuzzy-term-reads.Learnt,
+  fuzzy-reads.Asked,
+  fuzzy-reads.Learnt,
   fresh-var-id-reads.Asked,
   fresh-var-id-reads.Learnt,
   introduce-reads.Asked,
@@ -5017,10 +5128,8 @@ infer-kind-key-of-requires t c κs = search needs
 infer-kind-enum-told-8 : (t : ℕ) → infer-kind-lts.Need-enum-told-8 (
   node-at-reads.Asked,
   node-at-reads.Learnt,
-  fuzzy-distance-reads.Asked,
-  fuzzy-distance-reads.Learnt,
-  fuzzy-term-reads.Asked,
-  fuzzy-term-reads.Learnt,
+  fuzzy-reads.Asked,
+  fuzzy-reads.Learnt,
   fresh-var-id-reads.Asked,
   fresh-var-id-reads.Learnt,
   introduce-reads.Asked,
@@ -5049,10 +5158,8 @@ infer-kind-enum-told-8 t c = search needs
 infer-kind-enum-known-e-6 : (t : ℕ) → infer-kind-lts.Need-enum-known-e-6 (
   node-at-reads.Asked,
   node-at-reads.Learnt,
-  fuzzy-distance-reads.Asked,
-  fuzzy-distance-reads.Learnt,
-  fuzzy-term-reads.Asked,
-  fuzzy-term-reads.Learnt,
+  fuzzy-reads.Asked,
+  fuzzy-reads.Learnt,
   fresh-var-id-reads.Asked,
   fresh-var-id-reads.Learnt,
   introduce-reads.Asked,
@@ -5081,10 +5188,8 @@ infer-kind-enum-known-e-6 t c = search needs
 infer-kind-infer-requires-2 : (t : ℕ) → infer-kind-lts.Need-infer-requires-2 (
   node-at-reads.Asked,
   node-at-reads.Learnt,
-  fuzzy-distance-reads.Asked,
-  fuzzy-distance-reads.Learnt,
-  fuzzy-term-reads.Asked,
-  fuzzy-term-reads.Learnt,
+  fuzzy-reads.Asked,
+  fuzzy-reads.Learnt,
   fresh-var-id-reads.Asked,
   fresh-var-id-reads.Learnt,
   introduce-reads.Asked,
@@ -5113,10 +5218,8 @@ infer-kind-infer-requires-2 t c κs = omega (arith, as-node (c .before .before .
 infer-kind-enum-known-r-2 : (t : ℕ) → infer-kind-lts.Need-enum-known-r-2 (
   node-at-reads.Asked,
   node-at-reads.Learnt,
-  fuzzy-distance-reads.Asked,
-  fuzzy-distance-reads.Learnt,
-  fuzzy-term-reads.Asked,
-  fuzzy-term-reads.Learnt,
+  fuzzy-reads.Asked,
+  fuzzy-reads.Learnt,
   fresh-var-id-reads.Asked,
   fresh-var-id-reads.Learnt,
   introduce-reads.Asked,
@@ -5145,10 +5248,8 @@ infer-kind-enum-known-r-2 t c = search needs
 infer-kind-repr-requires-2 : (t : ℕ) → infer-kind-lts.Need-repr-requires-2 (
   node-at-reads.Asked,
   node-at-reads.Learnt,
-  fuzzy-distance-reads.Asked,
-  fuzzy-distance-reads.Learnt,
-  fuzzy-term-reads.Asked,
-  fuzzy-term-reads.Learnt,
+  fuzzy-reads.Asked,
+  fuzzy-reads.Learnt,
   fresh-var-id-reads.Asked,
   fresh-var-id-reads.Learnt,
   introduce-reads.Asked,
@@ -5177,10 +5278,8 @@ infer-kind-repr-requires-2 t c κs = search needs
 infer-kind-value-of-requires : (t : ℕ) → infer-kind-lts.Need-value-of-requires (
   node-at-reads.Asked,
   node-at-reads.Learnt,
-  fuzzy-distance-reads.Asked,
-  fuzzy-distance-reads.Learnt,
-  fuzzy-term-reads.Asked,
-  fuzzy-term-reads.Learnt,
+  fuzzy-reads.Asked,
+  fuzzy-reads.Learnt,
   fresh-var-id-reads.Asked,
   fresh-var-id-reads.Learnt,
   introduce-reads.Asked,
@@ -5209,10 +5308,8 @@ infer-kind-value-of-requires t c κs = search needs
 infer-kind-enum-told-9 : (t : ℕ) → infer-kind-lts.Need-enum-told-9 (
   node-at-reads.Asked,
   node-at-reads.Learnt,
-  fuzzy-distance-reads.Asked,
-  fuzzy-distance-reads.Learnt,
-  fuzzy-term-reads.Asked,
-  fuzzy-term-reads.Learnt,
+  fuzzy-reads.Asked,
+  fuzzy-reads.Learnt,
   fresh-var-id-reads.Asked,
   fresh-var-id-reads.Learnt,
   introduce-reads.Asked,
@@ -5241,10 +5338,8 @@ infer-kind-enum-told-9 t c = search needs
 infer-kind-enum-known-e-7 : (t : ℕ) → infer-kind-lts.Need-enum-known-e-7 (
   node-at-reads.Asked,
   node-at-reads.Learnt,
-  fuzzy-distance-reads.Asked,
-  fuzzy-distance-reads.Learnt,
-  fuzzy-term-reads.Asked,
-  fuzzy-term-reads.Learnt,
+  fuzzy-reads.Asked,
+  fuzzy-reads.Learnt,
   fresh-var-id-reads.Asked,
   fresh-var-id-reads.Learnt,
   introduce-reads.Asked,
@@ -5273,10 +5368,8 @@ infer-kind-enum-known-e-7 t c = search needs
 infer-kind-infer-requires-3 : (t : ℕ) → infer-kind-lts.Need-infer-requires-3 (
   node-at-reads.Asked,
   node-at-reads.Learnt,
-  fuzzy-distance-reads.Asked,
-  fuzzy-distance-reads.Learnt,
-  fuzzy-term-reads.Asked,
-  fuzzy-term-reads.Learnt,
+  fuzzy-reads.Asked,
+  fuzzy-reads.Learnt,
   fresh-var-id-reads.Asked,
   fresh-var-id-reads.Learnt,
   introduce-reads.Asked,
@@ -5305,10 +5398,8 @@ infer-kind-infer-requires-3 t c κs = omega (arith, as-node (c .before .before .
 infer-kind-enum-known-r-3 : (t : ℕ) → infer-kind-lts.Need-enum-known-r-3 (
   node-at-reads.Asked,
   node-at-reads.Learnt,
-  fuzzy-distance-reads.Asked,
-  fuzzy-distance-reads.Learnt,
-  fuzzy-term-reads.Asked,
-  fuzzy-term-reads.Learnt,
+  fuzzy-reads.Asked,
+  fuzzy-reads.Learnt,
   fresh-var-id-reads.Asked,
   fresh-var-id-reads.Learnt,
   introduce-reads.Asked,
@@ -5337,10 +5428,8 @@ infer-kind-enum-known-r-3 t c = search needs
 infer-kind-repr-requires-3 : (t : ℕ) → infer-kind-lts.Need-repr-requires-3 (
   node-at-reads.Asked,
   node-at-reads.Learnt,
-  fuzzy-distance-reads.Asked,
-  fuzzy-distance-reads.Learnt,
-  fuzzy-term-reads.Asked,
-  fuzzy-term-reads.Learnt,
+  fuzzy-reads.Asked,
+  fuzzy-reads.Learnt,
   fresh-var-id-reads.Asked,
   fresh-var-id-reads.Learnt,
   introduce-reads.Asked,
@@ -5369,10 +5458,8 @@ infer-kind-repr-requires-3 t c κs = search needs
 infer-kind-select-of-requires : (t : ℕ) → infer-kind-lts.Need-select-of-requires (
   node-at-reads.Asked,
   node-at-reads.Learnt,
-  fuzzy-distance-reads.Asked,
-  fuzzy-distance-reads.Learnt,
-  fuzzy-term-reads.Asked,
-  fuzzy-term-reads.Learnt,
+  fuzzy-reads.Asked,
+  fuzzy-reads.Learnt,
   fresh-var-id-reads.Asked,
   fresh-var-id-reads.Learnt,
   introduce-reads.Asked,
@@ -5401,10 +5488,8 @@ infer-kind-select-of-requires t c κs = search needs
 infer-kind-enum-told-10 : (t : ℕ) → infer-kind-lts.Need-enum-told-10 (
   node-at-reads.Asked,
   node-at-reads.Learnt,
-  fuzzy-distance-reads.Asked,
-  fuzzy-distance-reads.Learnt,
-  fuzzy-term-reads.Asked,
-  fuzzy-term-reads.Learnt,
+  fuzzy-reads.Asked,
+  fuzzy-reads.Learnt,
   fresh-var-id-reads.Asked,
   fresh-var-id-reads.Learnt,
   introduce-reads.Asked,
@@ -5433,10 +5518,8 @@ infer-kind-enum-told-10 t c = search needs
 infer-kind-enum-known-e-8 : (t : ℕ) → infer-kind-lts.Need-enum-known-e-8 (
   node-at-reads.Asked,
   node-at-reads.Learnt,
-  fuzzy-distance-reads.Asked,
-  fuzzy-distance-reads.Learnt,
-  fuzzy-term-reads.Asked,
-  fuzzy-term-reads.Learnt,
+  fuzzy-reads.Asked,
+  fuzzy-reads.Learnt,
   fresh-var-id-reads.Asked,
   fresh-var-id-reads.Learnt,
   introduce-reads.Asked,
@@ -5465,10 +5548,8 @@ infer-kind-enum-known-e-8 t c = search needs
 infer-kind-fact-requires : (t : ℕ) → infer-kind-lts.Need-fact-requires (
   node-at-reads.Asked,
   node-at-reads.Learnt,
-  fuzzy-distance-reads.Asked,
-  fuzzy-distance-reads.Learnt,
-  fuzzy-term-reads.Asked,
-  fuzzy-term-reads.Learnt,
+  fuzzy-reads.Asked,
+  fuzzy-reads.Learnt,
   fresh-var-id-reads.Asked,
   fresh-var-id-reads.Learnt,
   introduce-reads.Asked,
@@ -5497,10 +5578,8 @@ infer-kind-fact-requires t c κs = omega (arith, as-node (c .before .before .bef
 infer-kind-enum-known-e-9 : (t : ℕ) → infer-kind-lts.Need-enum-known-e-9 (
   node-at-reads.Asked,
   node-at-reads.Learnt,
-  fuzzy-distance-reads.Asked,
-  fuzzy-distance-reads.Learnt,
-  fuzzy-term-reads.Asked,
-  fuzzy-term-reads.Learnt,
+  fuzzy-reads.Asked,
+  fuzzy-reads.Learnt,
   fresh-var-id-reads.Asked,
   fresh-var-id-reads.Learnt,
   introduce-reads.Asked,
@@ -5529,10 +5608,8 @@ infer-kind-enum-known-e-9 t c = search needs
 infer-kind-fresh-var-id-requires-3 : (t : ℕ) → infer-kind-lts.Need-fresh-var-id-requires-3 (
   node-at-reads.Asked,
   node-at-reads.Learnt,
-  fuzzy-distance-reads.Asked,
-  fuzzy-distance-reads.Learnt,
-  fuzzy-term-reads.Asked,
-  fuzzy-term-reads.Learnt,
+  fuzzy-reads.Asked,
+  fuzzy-reads.Learnt,
   fresh-var-id-reads.Asked,
   fresh-var-id-reads.Learnt,
   introduce-reads.Asked,
@@ -5561,10 +5638,8 @@ infer-kind-fresh-var-id-requires-3 t c κs = search needs
 infer-kind-infer-all-requires-2 : (t : ℕ) → infer-kind-lts.Need-infer-all-requires-2 (
   node-at-reads.Asked,
   node-at-reads.Learnt,
-  fuzzy-distance-reads.Asked,
-  fuzzy-distance-reads.Learnt,
-  fuzzy-term-reads.Asked,
-  fuzzy-term-reads.Learnt,
+  fuzzy-reads.Asked,
+  fuzzy-reads.Learnt,
   fresh-var-id-reads.Asked,
   fresh-var-id-reads.Learnt,
   introduce-reads.Asked,
@@ -5593,10 +5668,8 @@ infer-kind-infer-all-requires-2 t c κs = let low = as-node (c .before .before .
 infer-kind-enum-known-e-10 : (t : ℕ) → infer-kind-lts.Need-enum-known-e-10 (
   node-at-reads.Asked,
   node-at-reads.Learnt,
-  fuzzy-distance-reads.Asked,
-  fuzzy-distance-reads.Learnt,
-  fuzzy-term-reads.Asked,
-  fuzzy-term-reads.Learnt,
+  fuzzy-reads.Asked,
+  fuzzy-reads.Learnt,
   fresh-var-id-reads.Asked,
   fresh-var-id-reads.Learnt,
   introduce-reads.Asked,
@@ -5625,10 +5698,8 @@ infer-kind-enum-known-e-10 t c = search needs
 infer-kind-subquery-requires : (t : ℕ) → infer-kind-lts.Need-subquery-requires (
   node-at-reads.Asked,
   node-at-reads.Learnt,
-  fuzzy-distance-reads.Asked,
-  fuzzy-distance-reads.Learnt,
-  fuzzy-term-reads.Asked,
-  fuzzy-term-reads.Learnt,
+  fuzzy-reads.Asked,
+  fuzzy-reads.Learnt,
   fresh-var-id-reads.Asked,
   fresh-var-id-reads.Learnt,
   introduce-reads.Asked,
@@ -5657,10 +5728,8 @@ infer-kind-subquery-requires t c κs = let low = as-node (c .before .before .bef
 infer-kind-same-length : (t : ℕ) → infer-kind-lts.Need-same-length (
   node-at-reads.Asked,
   node-at-reads.Learnt,
-  fuzzy-distance-reads.Asked,
-  fuzzy-distance-reads.Learnt,
-  fuzzy-term-reads.Asked,
-  fuzzy-term-reads.Learnt,
+  fuzzy-reads.Asked,
+  fuzzy-reads.Learnt,
   fresh-var-id-reads.Asked,
   fresh-var-id-reads.Learnt,
   introduce-reads.Asked,
@@ -5689,10 +5758,8 @@ infer-kind-same-length t c = search needs
 infer-kind-returns : (t : ℕ) → infer-kind-lts.Need-returns (
   node-at-reads.Asked,
   node-at-reads.Learnt,
-  fuzzy-distance-reads.Asked,
-  fuzzy-distance-reads.Learnt,
-  fuzzy-term-reads.Asked,
-  fuzzy-term-reads.Learnt,
+  fuzzy-reads.Asked,
+  fuzzy-reads.Learnt,
   fresh-var-id-reads.Asked,
   fresh-var-id-reads.Learnt,
   introduce-reads.Asked,
@@ -5721,10 +5788,8 @@ infer-kind-returns t c = int-arm (as-node (c .enum-told .given .1) (c .before .b
 infer-kind-same-length-2 : (t : ℕ) → infer-kind-lts.Need-same-length-2 (
   node-at-reads.Asked,
   node-at-reads.Learnt,
-  fuzzy-distance-reads.Asked,
-  fuzzy-distance-reads.Learnt,
-  fuzzy-term-reads.Asked,
-  fuzzy-term-reads.Learnt,
+  fuzzy-reads.Asked,
+  fuzzy-reads.Learnt,
   fresh-var-id-reads.Asked,
   fresh-var-id-reads.Learnt,
   introduce-reads.Asked,
@@ -5753,10 +5818,8 @@ infer-kind-same-length-2 t c = search needs
 infer-kind-returns-2 : (t : ℕ) → infer-kind-lts.Need-returns-2 (
   node-at-reads.Asked,
   node-at-reads.Learnt,
-  fuzzy-distance-reads.Asked,
-  fuzzy-distance-reads.Learnt,
-  fuzzy-term-reads.Asked,
-  fuzzy-term-reads.Learnt,
+  fuzzy-reads.Asked,
+  fuzzy-reads.Learnt,
   fresh-var-id-reads.Asked,
   fresh-var-id-reads.Learnt,
   introduce-reads.Asked,
@@ -5785,10 +5848,8 @@ infer-kind-returns-2 t c = bytes-arm (as-node (c .enum-told2 .given .1) (c .befo
 infer-kind-same-length-3 : (t : ℕ) → infer-kind-lts.Need-same-length-3 (
   node-at-reads.Asked,
   node-at-reads.Learnt,
-  fuzzy-distance-reads.Asked,
-  fuzzy-distance-reads.Learnt,
-  fuzzy-term-reads.Asked,
-  fuzzy-term-reads.Learnt,
+  fuzzy-reads.Asked,
+  fuzzy-reads.Learnt,
   fresh-var-id-reads.Asked,
   fresh-var-id-reads.Learnt,
   introduce-reads.Asked,
@@ -5817,10 +5878,8 @@ infer-kind-same-length-3 t c = search needs
 infer-kind-returns-3 : (t : ℕ) → infer-kind-lts.Need-returns-3 (
   node-at-reads.Asked,
   node-at-reads.Learnt,
-  fuzzy-distance-reads.Asked,
-  fuzzy-distance-reads.Learnt,
-  fuzzy-term-reads.Asked,
-  fuzzy-term-reads.Learnt,
+  fuzzy-reads.Asked,
+  fuzzy-reads.Learnt,
   fresh-var-id-reads.Asked,
   fresh-var-id-reads.Learnt,
   introduce-reads.Asked,
@@ -5849,10 +5908,8 @@ infer-kind-returns-3 t c = str-arm (as-node (c .enum-told3 .given .1) (c .before
 infer-kind-same-length-4 : (t : ℕ) → infer-kind-lts.Need-same-length-4 (
   node-at-reads.Asked,
   node-at-reads.Learnt,
-  fuzzy-distance-reads.Asked,
-  fuzzy-distance-reads.Learnt,
-  fuzzy-term-reads.Asked,
-  fuzzy-term-reads.Learnt,
+  fuzzy-reads.Asked,
+  fuzzy-reads.Learnt,
   fresh-var-id-reads.Asked,
   fresh-var-id-reads.Learnt,
   introduce-reads.Asked,
@@ -5881,10 +5938,8 @@ infer-kind-same-length-4 t c = search needs
 infer-kind-returns-4 : (t : ℕ) → infer-kind-lts.Need-returns-4 (
   node-at-reads.Asked,
   node-at-reads.Learnt,
-  fuzzy-distance-reads.Asked,
-  fuzzy-distance-reads.Learnt,
-  fuzzy-term-reads.Asked,
-  fuzzy-term-reads.Learnt,
+  fuzzy-reads.Asked,
+  fuzzy-reads.Learnt,
   fresh-var-id-reads.Asked,
   fresh-var-id-reads.Learnt,
   introduce-reads.Asked,
@@ -5913,10 +5968,8 @@ infer-kind-returns-4 t c = prefix-arm (as-node (c .enum-told4 .given .1) (c .bef
 infer-kind-same-length-5 : (t : ℕ) → infer-kind-lts.Need-same-length-5 (
   node-at-reads.Asked,
   node-at-reads.Learnt,
-  fuzzy-distance-reads.Asked,
-  fuzzy-distance-reads.Learnt,
-  fuzzy-term-reads.Asked,
-  fuzzy-term-reads.Learnt,
+  fuzzy-reads.Asked,
+  fuzzy-reads.Learnt,
   fresh-var-id-reads.Asked,
   fresh-var-id-reads.Learnt,
   introduce-reads.Asked,
@@ -5945,10 +5998,8 @@ infer-kind-same-length-5 t c = search needs
 infer-kind-same-length-6 : (t : ℕ) → infer-kind-lts.Need-same-length-6 (
   node-at-reads.Asked,
   node-at-reads.Learnt,
-  fuzzy-distance-reads.Asked,
-  fuzzy-distance-reads.Learnt,
-  fuzzy-term-reads.Asked,
-  fuzzy-term-reads.Learnt,
+  fuzzy-reads.Asked,
+  fuzzy-reads.Learnt,
   fresh-var-id-reads.Asked,
   fresh-var-id-reads.Learnt,
   introduce-reads.Asked,
@@ -5977,10 +6028,8 @@ infer-kind-same-length-6 t c = search needs
 infer-kind-returns-5 : (t : ℕ) → infer-kind-lts.Need-returns-5 (
   node-at-reads.Asked,
   node-at-reads.Learnt,
-  fuzzy-distance-reads.Asked,
-  fuzzy-distance-reads.Learnt,
-  fuzzy-term-reads.Asked,
-  fuzzy-term-reads.Learnt,
+  fuzzy-reads.Asked,
+  fuzzy-reads.Learnt,
   fresh-var-id-reads.Asked,
   fresh-var-id-reads.Learnt,
   introduce-reads.Asked,
@@ -6004,15 +6053,13 @@ infer-kind-returns-5 : (t : ℕ) → infer-kind-lts.Need-returns-5 (
   subquery-below t,
   subquery.Post,
 ) (infer-kind-at t) infer-kind.Post
-infer-kind-returns-5 t c = fuzzy-arm (as-node (c .before .before .before .before .before .before .before .before .before .before .before .before .before .before .before .e .given .1) (c .before .before .before .before .before .before .before .before .before .before .before .before .before .before .before .before .before .node-at .ensures)) (fuzzes-by _ _ (c .before .before .before .before .before .before .before .before .before .before .before .fuzzy-distance .ensures) (c .before .before .before .before .fuzzy-term .ensures))
+infer-kind-returns-5 t c = fuzzy-arm (as-node (c .before .before .before .before .before .before .before .before .e .given .1) (c .before .before .before .before .before .before .before .before .before .before .node-at .ensures)) (c .before .before .before .before .fuzzy .ensures)
 
 infer-kind-same-length-7 : (t : ℕ) → infer-kind-lts.Need-same-length-7 (
   node-at-reads.Asked,
   node-at-reads.Learnt,
-  fuzzy-distance-reads.Asked,
-  fuzzy-distance-reads.Learnt,
-  fuzzy-term-reads.Asked,
-  fuzzy-term-reads.Learnt,
+  fuzzy-reads.Asked,
+  fuzzy-reads.Learnt,
   fresh-var-id-reads.Asked,
   fresh-var-id-reads.Learnt,
   introduce-reads.Asked,
@@ -6041,10 +6088,8 @@ infer-kind-same-length-7 t c = search needs
 infer-kind-returns-6 : (t : ℕ) → infer-kind-lts.Need-returns-6 (
   node-at-reads.Asked,
   node-at-reads.Learnt,
-  fuzzy-distance-reads.Asked,
-  fuzzy-distance-reads.Learnt,
-  fuzzy-term-reads.Asked,
-  fuzzy-term-reads.Learnt,
+  fuzzy-reads.Asked,
+  fuzzy-reads.Learnt,
   fresh-var-id-reads.Asked,
   fresh-var-id-reads.Learnt,
   introduce-reads.Asked,
@@ -6073,10 +6118,8 @@ infer-kind-returns-6 t c = wildcard-arm (freshens-by (c .before .before .fresh-v
 infer-kind-same-length-8 : (t : ℕ) → infer-kind-lts.Need-same-length-8 (
   node-at-reads.Asked,
   node-at-reads.Learnt,
-  fuzzy-distance-reads.Asked,
-  fuzzy-distance-reads.Learnt,
-  fuzzy-term-reads.Asked,
-  fuzzy-term-reads.Learnt,
+  fuzzy-reads.Asked,
+  fuzzy-reads.Learnt,
   fresh-var-id-reads.Asked,
   fresh-var-id-reads.Learnt,
   introduce-reads.Asked,
@@ -6105,10 +6148,8 @@ infer-kind-same-length-8 t c = search needs
 infer-kind-returns-7 : (t : ℕ) → infer-kind-lts.Need-returns-7 (
   node-at-reads.Asked,
   node-at-reads.Learnt,
-  fuzzy-distance-reads.Asked,
-  fuzzy-distance-reads.Learnt,
-  fuzzy-term-reads.Asked,
-  fuzzy-term-reads.Learnt,
+  fuzzy-reads.Asked,
+  fuzzy-reads.Learnt,
   fresh-var-id-reads.Asked,
   fresh-var-id-reads.Learnt,
   introduce-reads.Asked,
@@ -6137,10 +6178,8 @@ infer-kind-returns-7 t c = never-arm (freshens-by (c .before .before .fresh-var-
 infer-kind-same-length-9 : (t : ℕ) → infer-kind-lts.Need-same-length-9 (
   node-at-reads.Asked,
   node-at-reads.Learnt,
-  fuzzy-distance-reads.Asked,
-  fuzzy-distance-reads.Learnt,
-  fuzzy-term-reads.Asked,
-  fuzzy-term-reads.Learnt,
+  fuzzy-reads.Asked,
+  fuzzy-reads.Learnt,
   fresh-var-id-reads.Asked,
   fresh-var-id-reads.Learnt,
   introduce-reads.Asked,
@@ -6169,10 +6208,8 @@ infer-kind-same-length-9 t c = search needs
 infer-kind-returns-8 : (t : ℕ) → infer-kind-lts.Need-returns-8 (
   node-at-reads.Asked,
   node-at-reads.Learnt,
-  fuzzy-distance-reads.Asked,
-  fuzzy-distance-reads.Learnt,
-  fuzzy-term-reads.Asked,
-  fuzzy-term-reads.Learnt,
+  fuzzy-reads.Asked,
+  fuzzy-reads.Learnt,
   fresh-var-id-reads.Asked,
   fresh-var-id-reads.Learnt,
   introduce-reads.Asked,
@@ -6201,10 +6238,8 @@ infer-kind-returns-8 t c = error-arm (as-node (c .enum-told7 .given .1) (c .befo
 infer-kind-same-length-10 : (t : ℕ) → infer-kind-lts.Need-same-length-10 (
   node-at-reads.Asked,
   node-at-reads.Learnt,
-  fuzzy-distance-reads.Asked,
-  fuzzy-distance-reads.Learnt,
-  fuzzy-term-reads.Asked,
-  fuzzy-term-reads.Learnt,
+  fuzzy-reads.Asked,
+  fuzzy-reads.Learnt,
   fresh-var-id-reads.Asked,
   fresh-var-id-reads.Learnt,
   introduce-reads.Asked,
@@ -6233,10 +6268,8 @@ infer-kind-same-length-10 t c = search needs
 infer-kind-returns-9 : (t : ℕ) → infer-kind-lts.Need-returns-9 (
   node-at-reads.Asked,
   node-at-reads.Learnt,
-  fuzzy-distance-reads.Asked,
-  fuzzy-distance-reads.Learnt,
-  fuzzy-term-reads.Asked,
-  fuzzy-term-reads.Learnt,
+  fuzzy-reads.Asked,
+  fuzzy-reads.Learnt,
   fresh-var-id-reads.Asked,
   fresh-var-id-reads.Learnt,
   introduce-reads.Asked,
@@ -6265,10 +6298,8 @@ infer-kind-returns-9 t c = variable-arm (brings _ _ _ _ _ _ (c .before .before .
 infer-kind-same-length-11 : (t : ℕ) → infer-kind-lts.Need-same-length-11 (
   node-at-reads.Asked,
   node-at-reads.Learnt,
-  fuzzy-distance-reads.Asked,
-  fuzzy-distance-reads.Learnt,
-  fuzzy-term-reads.Asked,
-  fuzzy-term-reads.Learnt,
+  fuzzy-reads.Asked,
+  fuzzy-reads.Learnt,
   fresh-var-id-reads.Asked,
   fresh-var-id-reads.Learnt,
   introduce-reads.Asked,
@@ -6297,10 +6328,8 @@ infer-kind-same-length-11 t c = search needs
 infer-kind-same-length-12 : (t : ℕ) → infer-kind-lts.Need-same-length-12 (
   node-at-reads.Asked,
   node-at-reads.Learnt,
-  fuzzy-distance-reads.Asked,
-  fuzzy-distance-reads.Learnt,
-  fuzzy-term-reads.Asked,
-  fuzzy-term-reads.Learnt,
+  fuzzy-reads.Asked,
+  fuzzy-reads.Learnt,
   fresh-var-id-reads.Asked,
   fresh-var-id-reads.Learnt,
   introduce-reads.Asked,
@@ -6329,10 +6358,8 @@ infer-kind-same-length-12 t c = search needs
 infer-kind-returns-10 : (t : ℕ) → infer-kind-lts.Need-returns-10 (
   node-at-reads.Asked,
   node-at-reads.Learnt,
-  fuzzy-distance-reads.Asked,
-  fuzzy-distance-reads.Learnt,
-  fuzzy-term-reads.Asked,
-  fuzzy-term-reads.Learnt,
+  fuzzy-reads.Asked,
+  fuzzy-reads.Learnt,
   fresh-var-id-reads.Asked,
   fresh-var-id-reads.Learnt,
   introduce-reads.Asked,
@@ -6361,10 +6388,8 @@ infer-kind-returns-10 t c = arith-arm (as-node (c .before .before .before .befor
 infer-kind-same-length-13 : (t : ℕ) → infer-kind-lts.Need-same-length-13 (
   node-at-reads.Asked,
   node-at-reads.Learnt,
-  fuzzy-distance-reads.Asked,
-  fuzzy-distance-reads.Learnt,
-  fuzzy-term-reads.Asked,
-  fuzzy-term-reads.Learnt,
+  fuzzy-reads.Asked,
+  fuzzy-reads.Learnt,
   fresh-var-id-reads.Asked,
   fresh-var-id-reads.Learnt,
   introduce-reads.Asked,
@@ -6393,10 +6418,8 @@ infer-kind-same-length-13 t c = search needs
 infer-kind-same-length-14 : (t : ℕ) → infer-kind-lts.Need-same-length-14 (
   node-at-reads.Asked,
   node-at-reads.Learnt,
-  fuzzy-distance-reads.Asked,
-  fuzzy-distance-reads.Learnt,
-  fuzzy-term-reads.Asked,
-  fuzzy-term-reads.Learnt,
+  fuzzy-reads.Asked,
+  fuzzy-reads.Learnt,
   fresh-var-id-reads.Asked,
   fresh-var-id-reads.Learnt,
   introduce-reads.Asked,
@@ -6425,10 +6448,8 @@ infer-kind-same-length-14 t c = search needs
 infer-kind-returns-11 : (t : ℕ) → infer-kind-lts.Need-returns-11 (
   node-at-reads.Asked,
   node-at-reads.Learnt,
-  fuzzy-distance-reads.Asked,
-  fuzzy-distance-reads.Learnt,
-  fuzzy-term-reads.Asked,
-  fuzzy-term-reads.Learnt,
+  fuzzy-reads.Asked,
+  fuzzy-reads.Learnt,
   fresh-var-id-reads.Asked,
   fresh-var-id-reads.Learnt,
   introduce-reads.Asked,
@@ -6457,10 +6478,8 @@ infer-kind-returns-11 t c = record-arm (as-node (c .before .before .before .befo
 infer-kind-same-length-15 : (t : ℕ) → infer-kind-lts.Need-same-length-15 (
   node-at-reads.Asked,
   node-at-reads.Learnt,
-  fuzzy-distance-reads.Asked,
-  fuzzy-distance-reads.Learnt,
-  fuzzy-term-reads.Asked,
-  fuzzy-term-reads.Learnt,
+  fuzzy-reads.Asked,
+  fuzzy-reads.Learnt,
   fresh-var-id-reads.Asked,
   fresh-var-id-reads.Learnt,
   introduce-reads.Asked,
@@ -6489,10 +6508,8 @@ infer-kind-same-length-15 t c = search needs
 infer-kind-same-length-16 : (t : ℕ) → infer-kind-lts.Need-same-length-16 (
   node-at-reads.Asked,
   node-at-reads.Learnt,
-  fuzzy-distance-reads.Asked,
-  fuzzy-distance-reads.Learnt,
-  fuzzy-term-reads.Asked,
-  fuzzy-term-reads.Learnt,
+  fuzzy-reads.Asked,
+  fuzzy-reads.Learnt,
   fresh-var-id-reads.Asked,
   fresh-var-id-reads.Learnt,
   introduce-reads.Asked,
@@ -6521,10 +6538,8 @@ infer-kind-same-length-16 t c = search needs
 infer-kind-returns-12 : (t : ℕ) → infer-kind-lts.Need-returns-12 (
   node-at-reads.Asked,
   node-at-reads.Learnt,
-  fuzzy-distance-reads.Asked,
-  fuzzy-distance-reads.Learnt,
-  fuzzy-term-reads.Asked,
-  fuzzy-term-reads.Learnt,
+  fuzzy-reads.Asked,
+  fuzzy-reads.Learnt,
   fresh-var-id-reads.Asked,
   fresh-var-id-reads.Learnt,
   introduce-reads.Asked,
@@ -6553,10 +6568,8 @@ infer-kind-returns-12 t c = head-arm key-head (as-node (c .before .before .befor
 infer-kind-same-length-17 : (t : ℕ) → infer-kind-lts.Need-same-length-17 (
   node-at-reads.Asked,
   node-at-reads.Learnt,
-  fuzzy-distance-reads.Asked,
-  fuzzy-distance-reads.Learnt,
-  fuzzy-term-reads.Asked,
-  fuzzy-term-reads.Learnt,
+  fuzzy-reads.Asked,
+  fuzzy-reads.Learnt,
   fresh-var-id-reads.Asked,
   fresh-var-id-reads.Learnt,
   introduce-reads.Asked,
@@ -6585,10 +6598,8 @@ infer-kind-same-length-17 t c = search needs
 infer-kind-same-length-18 : (t : ℕ) → infer-kind-lts.Need-same-length-18 (
   node-at-reads.Asked,
   node-at-reads.Learnt,
-  fuzzy-distance-reads.Asked,
-  fuzzy-distance-reads.Learnt,
-  fuzzy-term-reads.Asked,
-  fuzzy-term-reads.Learnt,
+  fuzzy-reads.Asked,
+  fuzzy-reads.Learnt,
   fresh-var-id-reads.Asked,
   fresh-var-id-reads.Learnt,
   introduce-reads.Asked,
@@ -6617,10 +6628,8 @@ infer-kind-same-length-18 t c = search needs
 infer-kind-returns-13 : (t : ℕ) → infer-kind-lts.Need-returns-13 (
   node-at-reads.Asked,
   node-at-reads.Learnt,
-  fuzzy-distance-reads.Asked,
-  fuzzy-distance-reads.Learnt,
-  fuzzy-term-reads.Asked,
-  fuzzy-term-reads.Learnt,
+  fuzzy-reads.Asked,
+  fuzzy-reads.Learnt,
   fresh-var-id-reads.Asked,
   fresh-var-id-reads.Learnt,
   introduce-reads.Asked,
@@ -6649,10 +6658,8 @@ infer-kind-returns-13 t c = head-out key-head (as-node (c .before .before .befor
 infer-kind-same-length-19 : (t : ℕ) → infer-kind-lts.Need-same-length-19 (
   node-at-reads.Asked,
   node-at-reads.Learnt,
-  fuzzy-distance-reads.Asked,
-  fuzzy-distance-reads.Learnt,
-  fuzzy-term-reads.Asked,
-  fuzzy-term-reads.Learnt,
+  fuzzy-reads.Asked,
+  fuzzy-reads.Learnt,
   fresh-var-id-reads.Asked,
   fresh-var-id-reads.Learnt,
   introduce-reads.Asked,
@@ -6681,10 +6688,8 @@ infer-kind-same-length-19 t c = search needs
 infer-kind-same-length-20 : (t : ℕ) → infer-kind-lts.Need-same-length-20 (
   node-at-reads.Asked,
   node-at-reads.Learnt,
-  fuzzy-distance-reads.Asked,
-  fuzzy-distance-reads.Learnt,
-  fuzzy-term-reads.Asked,
-  fuzzy-term-reads.Learnt,
+  fuzzy-reads.Asked,
+  fuzzy-reads.Learnt,
   fresh-var-id-reads.Asked,
   fresh-var-id-reads.Learnt,
   introduce-reads.Asked,
@@ -6713,10 +6718,8 @@ infer-kind-same-length-20 t c = search needs
 infer-kind-returns-14 : (t : ℕ) → infer-kind-lts.Need-returns-14 (
   node-at-reads.Asked,
   node-at-reads.Learnt,
-  fuzzy-distance-reads.Asked,
-  fuzzy-distance-reads.Learnt,
-  fuzzy-term-reads.Asked,
-  fuzzy-term-reads.Learnt,
+  fuzzy-reads.Asked,
+  fuzzy-reads.Learnt,
   fresh-var-id-reads.Asked,
   fresh-var-id-reads.Learnt,
   introduce-reads.Asked,
@@ -6745,10 +6748,8 @@ infer-kind-returns-14 t c = head-arm value-head (as-node (c .before .before .bef
 infer-kind-same-length-21 : (t : ℕ) → infer-kind-lts.Need-same-length-21 (
   node-at-reads.Asked,
   node-at-reads.Learnt,
-  fuzzy-distance-reads.Asked,
-  fuzzy-distance-reads.Learnt,
-  fuzzy-term-reads.Asked,
-  fuzzy-term-reads.Learnt,
+  fuzzy-reads.Asked,
+  fuzzy-reads.Learnt,
   fresh-var-id-reads.Asked,
   fresh-var-id-reads.Learnt,
   introduce-reads.Asked,
@@ -6777,10 +6778,8 @@ infer-kind-same-length-21 t c = search needs
 infer-kind-same-length-22 : (t : ℕ) → infer-kind-lts.Need-same-length-22 (
   node-at-reads.Asked,
   node-at-reads.Learnt,
-  fuzzy-distance-reads.Asked,
-  fuzzy-distance-reads.Learnt,
-  fuzzy-term-reads.Asked,
-  fuzzy-term-reads.Learnt,
+  fuzzy-reads.Asked,
+  fuzzy-reads.Learnt,
   fresh-var-id-reads.Asked,
   fresh-var-id-reads.Learnt,
   introduce-reads.Asked,
@@ -6809,10 +6808,8 @@ infer-kind-same-length-22 t c = search needs
 infer-kind-returns-15 : (t : ℕ) → infer-kind-lts.Need-returns-15 (
   node-at-reads.Asked,
   node-at-reads.Learnt,
-  fuzzy-distance-reads.Asked,
-  fuzzy-distance-reads.Learnt,
-  fuzzy-term-reads.Asked,
-  fuzzy-term-reads.Learnt,
+  fuzzy-reads.Asked,
+  fuzzy-reads.Learnt,
   fresh-var-id-reads.Asked,
   fresh-var-id-reads.Learnt,
   introduce-reads.Asked,
@@ -6841,10 +6838,8 @@ infer-kind-returns-15 t c = head-out value-head (as-node (c .before .before .bef
 infer-kind-same-length-23 : (t : ℕ) → infer-kind-lts.Need-same-length-23 (
   node-at-reads.Asked,
   node-at-reads.Learnt,
-  fuzzy-distance-reads.Asked,
-  fuzzy-distance-reads.Learnt,
-  fuzzy-term-reads.Asked,
-  fuzzy-term-reads.Learnt,
+  fuzzy-reads.Asked,
+  fuzzy-reads.Learnt,
   fresh-var-id-reads.Asked,
   fresh-var-id-reads.Learnt,
   introduce-reads.Asked,
@@ -6873,10 +6868,8 @@ infer-kind-same-length-23 t c = search needs
 infer-kind-same-length-24 : (t : ℕ) → infer-kind-lts.Need-same-length-24 (
   node-at-reads.Asked,
   node-at-reads.Learnt,
-  fuzzy-distance-reads.Asked,
-  fuzzy-distance-reads.Learnt,
-  fuzzy-term-reads.Asked,
-  fuzzy-term-reads.Learnt,
+  fuzzy-reads.Asked,
+  fuzzy-reads.Learnt,
   fresh-var-id-reads.Asked,
   fresh-var-id-reads.Learnt,
   introduce-reads.Asked,
@@ -6905,10 +6898,8 @@ infer-kind-same-length-24 t c = search needs
 infer-kind-returns-16 : (t : ℕ) → infer-kind-lts.Need-returns-16 (
   node-at-reads.Asked,
   node-at-reads.Learnt,
-  fuzzy-distance-reads.Asked,
-  fuzzy-distance-reads.Learnt,
-  fuzzy-term-reads.Asked,
-  fuzzy-term-reads.Learnt,
+  fuzzy-reads.Asked,
+  fuzzy-reads.Learnt,
   fresh-var-id-reads.Asked,
   fresh-var-id-reads.Learnt,
   introduce-reads.Asked,
@@ -6937,10 +6928,8 @@ infer-kind-returns-16 t c = head-arm select-head (as-node (c .before .before .be
 infer-kind-same-length-25 : (t : ℕ) → infer-kind-lts.Need-same-length-25 (
   node-at-reads.Asked,
   node-at-reads.Learnt,
-  fuzzy-distance-reads.Asked,
-  fuzzy-distance-reads.Learnt,
-  fuzzy-term-reads.Asked,
-  fuzzy-term-reads.Learnt,
+  fuzzy-reads.Asked,
+  fuzzy-reads.Learnt,
   fresh-var-id-reads.Asked,
   fresh-var-id-reads.Learnt,
   introduce-reads.Asked,
@@ -6969,10 +6958,8 @@ infer-kind-same-length-25 t c = search needs
 infer-kind-same-length-26 : (t : ℕ) → infer-kind-lts.Need-same-length-26 (
   node-at-reads.Asked,
   node-at-reads.Learnt,
-  fuzzy-distance-reads.Asked,
-  fuzzy-distance-reads.Learnt,
-  fuzzy-term-reads.Asked,
-  fuzzy-term-reads.Learnt,
+  fuzzy-reads.Asked,
+  fuzzy-reads.Learnt,
   fresh-var-id-reads.Asked,
   fresh-var-id-reads.Learnt,
   introduce-reads.Asked,
@@ -7001,10 +6988,8 @@ infer-kind-same-length-26 t c = search needs
 infer-kind-returns-17 : (t : ℕ) → infer-kind-lts.Need-returns-17 (
   node-at-reads.Asked,
   node-at-reads.Learnt,
-  fuzzy-distance-reads.Asked,
-  fuzzy-distance-reads.Learnt,
-  fuzzy-term-reads.Asked,
-  fuzzy-term-reads.Learnt,
+  fuzzy-reads.Asked,
+  fuzzy-reads.Learnt,
   fresh-var-id-reads.Asked,
   fresh-var-id-reads.Learnt,
   introduce-reads.Asked,
@@ -7033,10 +7018,8 @@ infer-kind-returns-17 t c = head-out select-head (as-node (c .before .before .be
 infer-kind-same-length-27 : (t : ℕ) → infer-kind-lts.Need-same-length-27 (
   node-at-reads.Asked,
   node-at-reads.Learnt,
-  fuzzy-distance-reads.Asked,
-  fuzzy-distance-reads.Learnt,
-  fuzzy-term-reads.Asked,
-  fuzzy-term-reads.Learnt,
+  fuzzy-reads.Asked,
+  fuzzy-reads.Learnt,
   fresh-var-id-reads.Asked,
   fresh-var-id-reads.Learnt,
   introduce-reads.Asked,
@@ -7065,10 +7048,8 @@ infer-kind-same-length-27 t c = search needs
 infer-kind-same-length-28 : (t : ℕ) → infer-kind-lts.Need-same-length-28 (
   node-at-reads.Asked,
   node-at-reads.Learnt,
-  fuzzy-distance-reads.Asked,
-  fuzzy-distance-reads.Learnt,
-  fuzzy-term-reads.Asked,
-  fuzzy-term-reads.Learnt,
+  fuzzy-reads.Asked,
+  fuzzy-reads.Learnt,
   fresh-var-id-reads.Asked,
   fresh-var-id-reads.Learnt,
   introduce-reads.Asked,
@@ -7097,10 +7078,8 @@ infer-kind-same-length-28 t c = search needs
 infer-kind-returns-18 : (t : ℕ) → infer-kind-lts.Need-returns-18 (
   node-at-reads.Asked,
   node-at-reads.Learnt,
-  fuzzy-distance-reads.Asked,
-  fuzzy-distance-reads.Learnt,
-  fuzzy-term-reads.Asked,
-  fuzzy-term-reads.Learnt,
+  fuzzy-reads.Asked,
+  fuzzy-reads.Learnt,
   fresh-var-id-reads.Asked,
   fresh-var-id-reads.Learnt,
   introduce-reads.Asked,
@@ -7129,10 +7108,8 @@ infer-kind-returns-18 t c = fact-arm (as-node (c .before .before .before .before
 infer-kind-same-length-29 : (t : ℕ) → infer-kind-lts.Need-same-length-29 (
   node-at-reads.Asked,
   node-at-reads.Learnt,
-  fuzzy-distance-reads.Asked,
-  fuzzy-distance-reads.Learnt,
-  fuzzy-term-reads.Asked,
-  fuzzy-term-reads.Learnt,
+  fuzzy-reads.Asked,
+  fuzzy-reads.Learnt,
   fresh-var-id-reads.Asked,
   fresh-var-id-reads.Learnt,
   introduce-reads.Asked,
@@ -7161,10 +7138,8 @@ infer-kind-same-length-29 t c = search needs
 infer-kind-same-length-30 : (t : ℕ) → infer-kind-lts.Need-same-length-30 (
   node-at-reads.Asked,
   node-at-reads.Learnt,
-  fuzzy-distance-reads.Asked,
-  fuzzy-distance-reads.Learnt,
-  fuzzy-term-reads.Asked,
-  fuzzy-term-reads.Learnt,
+  fuzzy-reads.Asked,
+  fuzzy-reads.Learnt,
   fresh-var-id-reads.Asked,
   fresh-var-id-reads.Learnt,
   introduce-reads.Asked,
@@ -7193,10 +7168,8 @@ infer-kind-same-length-30 t c = search needs
 infer-kind-returns-19 : (t : ℕ) → infer-kind-lts.Need-returns-19 (
   node-at-reads.Asked,
   node-at-reads.Learnt,
-  fuzzy-distance-reads.Asked,
-  fuzzy-distance-reads.Learnt,
-  fuzzy-term-reads.Asked,
-  fuzzy-term-reads.Learnt,
+  fuzzy-reads.Asked,
+  fuzzy-reads.Learnt,
   fresh-var-id-reads.Asked,
   fresh-var-id-reads.Learnt,
   introduce-reads.Asked,
@@ -7225,10 +7198,8 @@ infer-kind-returns-19 t c = disjunction-arm (freshens-by (c .before .before .bef
 infer-kind-same-length-31 : (t : ℕ) → infer-kind-lts.Need-same-length-31 (
   node-at-reads.Asked,
   node-at-reads.Learnt,
-  fuzzy-distance-reads.Asked,
-  fuzzy-distance-reads.Learnt,
-  fuzzy-term-reads.Asked,
-  fuzzy-term-reads.Learnt,
+  fuzzy-reads.Asked,
+  fuzzy-reads.Learnt,
   fresh-var-id-reads.Asked,
   fresh-var-id-reads.Learnt,
   introduce-reads.Asked,
@@ -7257,10 +7228,8 @@ infer-kind-same-length-31 t c = search needs
 infer-kind-same-length-32 : (t : ℕ) → infer-kind-lts.Need-same-length-32 (
   node-at-reads.Asked,
   node-at-reads.Learnt,
-  fuzzy-distance-reads.Asked,
-  fuzzy-distance-reads.Learnt,
-  fuzzy-term-reads.Asked,
-  fuzzy-term-reads.Learnt,
+  fuzzy-reads.Asked,
+  fuzzy-reads.Learnt,
   fresh-var-id-reads.Asked,
   fresh-var-id-reads.Learnt,
   introduce-reads.Asked,
@@ -7289,10 +7258,8 @@ infer-kind-same-length-32 t c = search needs
 infer-kind-returns-20 : (t : ℕ) → infer-kind-lts.Need-returns-20 (
   node-at-reads.Asked,
   node-at-reads.Learnt,
-  fuzzy-distance-reads.Asked,
-  fuzzy-distance-reads.Learnt,
-  fuzzy-term-reads.Asked,
-  fuzzy-term-reads.Learnt,
+  fuzzy-reads.Asked,
+  fuzzy-reads.Learnt,
   fresh-var-id-reads.Asked,
   fresh-var-id-reads.Learnt,
   introduce-reads.Asked,
@@ -8004,6 +7971,16 @@ not-yet-reject-requires : (t : ℕ) → not-yet-lts.Need-reject-requires (
 ) (not-yet-at t) not-yet.Post
 not-yet-reject-requires t c κs = search needs
 
+not-yet-enum-known-d : (t : ℕ) → not-yet-lts.Need-enum-known-d (
+  reject-reads.Asked,
+  reject-reads.Learnt,
+  infer-below t,
+  infer.Post,
+  only-reads.Asked,
+  only-reads.Learnt,
+) (not-yet-at t) not-yet.Post
+not-yet-enum-known-d t c = search needs
+
 not-yet-infer-requires : (t : ℕ) → not-yet-lts.Need-infer-requires (
   reject-reads.Asked,
   reject-reads.Learnt,
@@ -8054,6 +8031,16 @@ not-yet-enum-told : (t : ℕ) → not-yet-lts.Need-enum-told (
 ) (not-yet-at t) not-yet.Post
 not-yet-enum-told t c = search needs
 
+not-yet-enum-told-2 : (t : ℕ) → not-yet-lts.Need-enum-told-2 (
+  reject-reads.Asked,
+  reject-reads.Learnt,
+  infer-below t,
+  infer.Post,
+  only-reads.Asked,
+  only-reads.Learnt,
+) (not-yet-at t) not-yet.Post
+not-yet-enum-told-2 t c = search needs
+
 not-yet-same-length : (t : ℕ) → not-yet-lts.Need-same-length (
   reject-reads.Asked,
   reject-reads.Learnt,
@@ -8082,7 +8069,7 @@ not-yet-returns : (t : ℕ) → not-yet-lts.Need-returns (
   only-reads.Asked,
   only-reads.Learnt,
 ) (not-yet-at t) not-yet.Post
-not-yet-returns t c = rw (c .only .ensures) (not-yet (rejects-by (c .before .before .before .before .before .before .before .before .before .before .before .before .before .before .before .before .before .before .before .before .before .before .reject .ensures)) (c .before .before .before .before .before .before .before .before .before .before .before .before .before .before .before .infer .ensures) (c .before .before .before .before .before .before .before .before .before .r .given .1) (c .before .before .before .before .before .infer2 .ensures))
+not-yet-returns t c = rw (c .only .ensures) (not-yet (rejects-by (c .before .before .before .before .before .before .before .before .before .before .before .before .before .before .before .before .before .before .before .before .before .before .before .before .before .reject .ensures)) (c .before .before .before .before .before .before .before .before .before .before .before .before .before .before .before .before .before .before .before .d .given .1) (c .before .before .before .before .before .before .before .before .before .before .before .before .before .before .before .infer .ensures) (c .before .before .before .before .before .before .before .before .before .r .given .1) (c .before .before .before .before .before .infer2 .ensures))
 
 not-yet-same-length-3 : (t : ℕ) → not-yet-lts.Need-same-length-3 (
   reject-reads.Asked,
@@ -8112,7 +8099,37 @@ not-yet-returns-2 : (t : ℕ) → not-yet-lts.Need-returns-2 (
   only-reads.Asked,
   only-reads.Learnt,
 ) (not-yet-at t) not-yet.Post
-not-yet-returns-2 t c = not-yet-out (rejects-by (c .before .before .before .before .before .before .before .before .before .before .before .before .before .reject .ensures)) (c .before .before .before .before .before .before .infer .ensures) (c .enum-told .given .1)
+not-yet-returns-2 t c = not-yet-out (rejects-by (c .before .before .before .before .before .before .before .before .before .before .before .before .before .before .before .before .reject .ensures)) (c .before .before .before .before .before .before .before .before .before .before .d .given .1) (c .before .before .before .before .before .before .infer .ensures) (c .enum-told .given .1)
+
+not-yet-same-length-5 : (t : ℕ) → not-yet-lts.Need-same-length-5 (
+  reject-reads.Asked,
+  reject-reads.Learnt,
+  infer-below t,
+  infer.Post,
+  only-reads.Asked,
+  only-reads.Learnt,
+) (not-yet-at t) not-yet.Post
+not-yet-same-length-5 t c = search needs
+
+not-yet-same-length-6 : (t : ℕ) → not-yet-lts.Need-same-length-6 (
+  reject-reads.Asked,
+  reject-reads.Learnt,
+  infer-below t,
+  infer.Post,
+  only-reads.Asked,
+  only-reads.Learnt,
+) (not-yet-at t) not-yet.Post
+not-yet-same-length-6 t c = search needs
+
+not-yet-returns-3 : (t : ℕ) → not-yet-lts.Need-returns-3 (
+  reject-reads.Asked,
+  reject-reads.Learnt,
+  infer-below t,
+  infer.Post,
+  only-reads.Asked,
+  only-reads.Learnt,
+) (not-yet-at t) not-yet.Post
+not-yet-returns-3 t c = not-yet-stops (rejects-by (c .before .before .before .before .before .before .reject .ensures)) (c .enum-told2 .given .1)
 
 stmt-stmt-at-requires : (t : ℕ) → stmt-lts.Need-stmt-at-requires (
   stmt-at-reads.Asked,
@@ -8938,9 +8955,11 @@ pub +bind+bind-name+branches+check+check-field+check-fields+check-union+compare+
     (bind-destructure-requires t)
     (bind-not-yet-requires t)
     (bind-reject-requires t)
+    (bind-enum-known-d t)
     (bind-infer-requires-2 t)
     (bind-only-requires t)
     (bind-enum-told-4 t)
+    (bind-enum-told-5 t)
     (bind-infer-requires-3 t)
     (bind-only-requires-2 t)
     (bind-not-yet-requires-2 t)
@@ -8967,7 +8986,10 @@ pub +bind+bind-name+branches+check+check-field+check-fields+check-union+compare+
     (bind-returns-7 t)
     (bind-same-length-15 t)
     (bind-same-length-16 t)
-    (bind-returns-8 t))
+    (bind-returns-8 t)
+    (bind-same-length-17 t)
+    (bind-same-length-18 t)
+    (bind-returns-9 t))
     (λ t. bind-name-lts.spec (
       introduce-reads.Asked,
       introduce-reads.Learnt,
@@ -9216,9 +9238,11 @@ pub +bind+bind-name+branches+check+check-field+check-fields+check-union+compare+
     (deny-enum-known-e t)
     (deny-bind-name-requires t)
     (deny-reject-requires t)
+    (deny-enum-known-d t)
     (deny-infer-requires t)
     (deny-only-requires t)
     (deny-enum-told t)
+    (deny-enum-told-2 t)
     (deny-infer-requires-2 t)
     (deny-only-requires-2 t)
     (deny-not-yet-requires t)
@@ -9233,7 +9257,10 @@ pub +bind+bind-name+branches+check+check-field+check-fields+check-union+compare+
     (deny-returns-3 t)
     (deny-same-length-7 t)
     (deny-same-length-8 t)
-    (deny-returns-4 t))
+    (deny-returns-4 t)
+    (deny-same-length-9 t)
+    (deny-same-length-10 t)
+    (deny-returns-5 t))
     (λ t. destructure-lts.spec (
       infer-below t,
       infer.Post,
@@ -9357,10 +9384,8 @@ pub +bind+bind-name+branches+check+check-field+check-fields+check-union+compare+
     (λ t. infer-kind-lts.spec (
       node-at-reads.Asked,
       node-at-reads.Learnt,
-      fuzzy-distance-reads.Asked,
-      fuzzy-distance-reads.Learnt,
-      fuzzy-term-reads.Asked,
-      fuzzy-term-reads.Learnt,
+      fuzzy-reads.Asked,
+      fuzzy-reads.Learnt,
       fresh-var-id-reads.Asked,
       fresh-var-id-reads.Learnt,
       introduce-reads.Asked,
@@ -9392,8 +9417,7 @@ pub +bind+bind-name+branches+check+check-field+check-fields+check-union+compare+
     (infer-kind-enum-told-3 t)
     (infer-kind-enum-told-4 t)
     (infer-kind-enum-known-e t)
-    (infer-kind-fuzzy-distance-requires t)
-    (infer-kind-fuzzy-term-requires t)
+    (infer-kind-fuzzy-requires t)
     (infer-kind-enum-told-5 t)
     (infer-kind-fresh-var-id-requires t)
     (infer-kind-enum-told-6 t)
@@ -9570,17 +9594,22 @@ pub +bind+bind-name+branches+check+check-field+check-fields+check-union+compare+
     (not-yet-at t)
     not-yet.Post
     (not-yet-reject-requires t)
+    (not-yet-enum-known-d t)
     (not-yet-infer-requires t)
     (not-yet-enum-known-r t)
     (not-yet-infer-requires-2 t)
     (not-yet-only-requires t)
     (not-yet-enum-told t)
+    (not-yet-enum-told-2 t)
     (not-yet-same-length t)
     (not-yet-same-length-2 t)
     (not-yet-returns t)
     (not-yet-same-length-3 t)
     (not-yet-same-length-4 t)
-    (not-yet-returns-2 t))
+    (not-yet-returns-2 t)
+    (not-yet-same-length-5 t)
+    (not-yet-same-length-6 t)
+    (not-yet-returns-3 t))
     (λ t. stmt-lts.spec (
       stmt-at-reads.Asked,
       stmt-at-reads.Learnt,

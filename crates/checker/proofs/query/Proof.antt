@@ -1,4 +1,4 @@
--- Made from Proof.ans by tools/answers, 8b0d15b1736a8217 d7173b52ddc3f87a.
+-- Made from Proof.ans by tools/answers, a131fa874b1557c5 d928f0fe8e3d80de.
 -- `checker::query` meets its contract: the statements from where a run begins, then the head.
 use borrow.Author.Needs.{needs}
 use Rattle.checker.proofs.query.Statement.{statement}
@@ -14,7 +14,7 @@ use Rattle.tree.proofs.query_body.Reads as query-body-reads
 use Rattle.tree.proofs.query_head.Reads as query-head-reads
 use native.Mathlib.Omega.{arith}
 use mathlib.Core.Path.{_∙_}
-use Rattle.checker.proofs.Querying.{body-lower, queried-on, queried-out}
+use Rattle.checker.proofs.Querying.{body-lower, queried-on, queried-head-out, queried-out}
 
 pub query-spec : {M : Type 1} → statement M
 query-spec =
@@ -26,12 +26,17 @@ query-spec =
     (λ c κs. (body-lower _ (c .before .query-body .ensures .0), c .before .query-body .ensures .1))
     (λ c. search needs)
     (λ c κs. search needs)
+    (λ c. search needs)
     (λ c κs. search needs)
     (λ c κs. search needs)
     (λ c. search needs)
-    (λ c. c .before .before .before .before .before .infer .kept .1 .0 ∙ c .before .before .before .before .before .before .before .before .before .before .before .before .check-head .kept .1 .0 ∙ c .before .before .before .before .before .before .before .before .before .before .before .before .before .before .before .before .before .before .before .before .before .before .stmts .kept .1 .0 ∙ c .before .before .before .before .before .before .before .before .before .before .before .before .before .before .before .before .before .before .before .before .before .before .before .before .before .before .before .before .before .before .before .begin .kept .0)
     (λ c. search needs)
-    (λ c. rw (c .only .ensures) (queried-on _ (c .before .before .before .before .before .before .before .before .before .before .before .before .before .before .before .before .before .before .before .before .before .before .before .before .before .before .before .before .before .before .before .begin .ensures) (c .before .before .before .before .before .before .before .before .before .before .before .before .before .before .before .before .before .before .before .before .before .before .before .before .before .before .before .query-head .ensures) (c .before .before .before .before .before .before .before .before .before .before .before .before .before .before .before .before .before .before .before .before .before .before .before .before .query-body .ensures .0) (c .before .before .before .before .before .before .before .before .before .before .before .before .before .before .before .before .before .before .before .before .before .before .stmts .ensures) (c .before .before .before .before .before .before .before .before .before .before .before .before .before .before .before .before .d .given .1) (c .before .before .before .before .before .before .before .before .before .before .before .before .check-head .ensures) (c .before .before .before .before .before .infer .ensures) (c .before .before .before .before .before .infer .kept .1 .0 ∙ c .before .before .before .before .before .before .before .before .before .before .before .before .check-head .kept .1 .0 ∙ c .before .before .before .before .before .before .before .before .before .before .before .before .before .before .before .before .before .before .before .before .before .before .stmts .kept .1 .0 ∙ c .before .before .before .before .before .before .before .before .before .before .before .before .before .before .before .before .before .before .before .before .before .before .before .before .before .before .before .before .before .before .before .begin .kept .0) (search needs)))
+    (λ c. c .before .before .before .before .before .infer .kept .1 .0 ∙ c .before .before .before .before .before .before .before .before .before .before .before .before .before .before .before .check-head .kept .1 .0 ∙ c .before .before .before .before .before .before .before .before .before .before .before .before .before .before .before .before .before .before .before .before .before .before .before .before .before .stmts .kept .1 .0 ∙ c .before .before .before .before .before .before .before .before .before .before .before .before .before .before .before .before .before .before .before .before .before .before .before .before .before .before .before .before .before .before .before .before .before .before .begin .kept .0)
+    (λ c. search needs)
+    (λ c. rw (c .only .ensures) (queried-on _ (c .before .before .before .before .before .before .before .before .before .before .before .before .before .before .before .before .before .before .before .before .before .before .before .before .before .before .before .before .before .before .before .before .before .before .begin .ensures) (c .before .before .before .before .before .before .before .before .before .before .before .before .before .before .before .before .before .before .before .before .before .before .before .before .before .before .before .before .before .before .query-head .ensures) (c .before .before .before .before .before .before .before .before .before .before .before .before .before .before .before .before .before .before .before .before .before .before .before .before .before .before .before .query-body .ensures .0) (c .before .before .before .before .before .before .before .before .before .before .before .before .before .before .before .before .before .before .before .before .before .before .before .before .before .stmts .ensures) (c .before .before .before .before .before .before .before .before .before .before .before .before .before .before .before .before .before .before .before .d .given .1) (c .before .before .before .before .before .before .before .before .before .before .before .before .before .before .before .check-head .ensures) (c .before .before .before .before .before .before .before .before .before .e .given .1) (c .before .before .before .before .before .infer .ensures) (c .before .before .before .before .before .infer .kept .1 .0 ∙ c .before .before .before .before .before .before .before .before .before .before .before .before .before .before .before .check-head .kept .1 .0 ∙ c .before .before .before .before .before .before .before .before .before .before .before .before .before .before .before .before .before .before .before .before .before .before .before .before .before .stmts .kept .1 .0 ∙ c .before .before .before .before .before .before .before .before .before .before .before .before .before .before .before .before .before .before .before .before .before .before .before .before .before .before .before .before .before .before .before .before .before .before .begin .kept .0) (search needs)))
     (λ c. search needs)
     (λ c. search needs)
-    (λ c. queried-out _ (c .before .before .before .before .before .before .before .before .before .before .before .before .before .before .before .begin .ensures) (c .before .before .before .before .before .before .before .before .before .before .before .query-head .ensures) (c .before .before .before .before .before .before .before .before .query-body .ensures .0) (c .before .before .before .before .before .before .stmts .ensures) (c .enum-told .given .1) (search needs) (search needs)))
+    (λ c. queried-head-out _ (c .before .before .before .before .before .before .before .before .before .before .before .before .before .before .before .before .before .before .before .before .before .before .before .before .before .begin .ensures) (c .before .before .before .before .before .before .before .before .before .before .before .before .before .before .before .before .before .before .before .before .before .query-head .ensures) (c .before .before .before .before .before .before .before .before .before .before .before .before .before .before .before .before .before .before .query-body .ensures .0) (c .before .before .before .before .before .before .before .before .before .before .before .before .before .before .before .before .stmts .ensures) (c .before .before .before .before .before .before .before .before .before .before .d .given .1) (c .before .before .before .before .before .before .check-head .ensures) (c .enum-told .given .1) (c .before .before .before .before .before .before .check-head .kept .1 .0 ∙ c .before .before .before .before .before .before .before .before .before .before .before .before .before .before .before .before .stmts .kept .1 .0 ∙ c .before .before .before .before .before .before .before .before .before .before .before .before .before .before .before .before .before .before .before .before .before .before .before .before .before .begin .kept .0) (search needs))
+    (λ c. search needs)
+    (λ c. search needs)
+    (λ c. queried-out _ (c .before .before .before .before .before .before .before .before .before .before .before .before .before .before .before .begin .ensures) (c .before .before .before .before .before .before .before .before .before .before .before .query-head .ensures) (c .before .before .before .before .before .before .before .before .query-body .ensures .0) (c .before .before .before .before .before .before .stmts .ensures) (c .enum-told2 .given .1) (search needs) (search needs)))

@@ -1,4 +1,4 @@
--- Made from Proof.ans by tools/answers, d58f3bd61681f5cd 417e1e032e12993b.
+-- Made from Proof.ans by tools/answers, 58257b5b91af6338 3848c8f750035534.
 -- The counters, then the node types.
 use borrow.Author.Needs.{needs}
 use Rattle.steps.proofs.begin.Statement.{statement}
@@ -19,4 +19,4 @@ begin-spec =
     (λ c κs. search needs)
     (λ c κs. search needs)
     (λ c. search needs)
-    (λ c. starts-run _ (c .before .before .before .before .before .before .before .before .before .before .begin-counters .ensures) (c .before .before .before .before .before .before .begin-types .ensures) (c .before .before .begin-lines .ensures)))
+    (λ c. starts-run _ _ (c .before .before .before .before .before .before .before .before .before .before .begin-counters .ensures) (c .before .before .before .before .before .before .begin-types .ensures) (c .before .before .begin-lines .ensures)))

@@ -1,12 +1,12 @@
--- Made from Proof.ans by tools/answers, 9d2de5a1a5b445fc d2ad347d645dc37d.
+-- Made from Proof.ans by tools/answers, 9d2de5a1a5b445fc e679ca12396c9195.
 -- The definition's question for an order, and where there is none one diagnostic.
 use borrow.Author.Needs.{needs}
 use Rattle.steps.proofs.compare_order.Statement.{statement}
 use Rattle.steps.proofs.compare_order.Tie as tie
 use Rattle.steps.proofs.compare_order.Reads as reads
 use Rattle.steps.proofs.compare_order.Lts as lts
-use Rattle.unify.proofs.orderable.Reads as orderable-reads
 use Rattle.state.proofs.reject.Reads as reject-reads
+use Rattle.unify.proofs.orderable.Reads as orderable-reads
 use native.Mathlib.Omega.{arith}
 use Rattle.steps.proofs.Uniting.{order-yes, order-no, order-spent}
 

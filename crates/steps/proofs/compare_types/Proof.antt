@@ -1,13 +1,13 @@
--- Made from Proof.ans by tools/answers, f66dd1d7eb0b1b2d da4b93e06d43b24e.
+-- Made from Proof.ans by tools/answers, f66dd1d7eb0b1b2d e75c29a7075364dc.
 -- The definition's unification, and then the order; where it fails one diagnostic.
 use borrow.Author.Needs.{needs}
 use Rattle.steps.proofs.compare_types.Statement.{statement}
 use Rattle.steps.proofs.compare_types.Tie as tie
 use Rattle.steps.proofs.compare_types.Reads as reads
 use Rattle.steps.proofs.compare_types.Lts as lts
-use Rattle.unify.proofs.unify.Reads as unify-reads
 use Rattle.steps.proofs.compare_order.Reads as compare-order-reads
 use Rattle.steps.proofs.report.Reads as report-reads
+use Rattle.unify.proofs.unify.Reads as unify-reads
 use native.Mathlib.Omega.{arith}
 use Rattle.steps.proofs.Uniting.{compare-good, compare-bad, compare-spent}
 

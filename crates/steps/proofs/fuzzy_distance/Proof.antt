@@ -1,4 +1,4 @@
--- Made from Proof.ans by tools/answers, 72e379d5056ea08f f85513cba63aa895.
+-- Made from Proof.ans by tools/answers, 56cc541e3aefbc22 66b1941cb9c8fe0b.
 -- The tests are those of `farW`.
 use borrow.Author.Needs.{needs}
 use Rattle.steps.proofs.fuzzy_distance.Statement.{statement}
@@ -17,13 +17,13 @@ fuzzy-distance-spec =
     tie.close
     (tie.spec
     (λ c κs. search needs)
-    (λ c κs. search needs)
-    (λ c κs. search needs)
     (λ c. search needs)
     (λ c. search needs)
     (λ c. rw (eq-eqb _ _ (c .before .before .before .before .before .before .before .if1 .taken)) (reported (c .before .before .before .before .reject .ensures)))
+    (λ c κs. search needs)
+    (λ c κs. search needs)
     (λ c. search needs)
     (λ c. search needs)
     (λ c. rw (ne-eqb _ _ (c .before .before .before .before .before .before .before .before .before .before .if1 .left), lt-ltb _ _ (rw (c .before .before .before .before .before .before .before .before .word .ensures) at (c .before .before .before .before .before .before .before .if2 .taken))) (reported (c .before .before .before .before .reject2 .ensures)))
     (λ c. search needs)
-    (λ c. rw (ne-eqb _ _ (c .before .before .before .if1 .left), le-ltb _ _ (rw (c .before .word .ensures) at (c .if2 .left))) (stayed refl refl)))
+    (λ c. rw (ne-eqb _ _ (c .before .before .before .if1 .left), le-ltb _ _ (rw (c .before .word .ensures) at (c .if2 .left))) (stayed refl refl refl)))

@@ -1,4 +1,4 @@
--- Made from Proof.ans by tools/answers, 37a18703a29cf16e 02f1d003465442c0.
+-- Made from Proof.ans by tools/answers, eea7decb24f38a67 d46796fbeb3fcb2b.
 -- The test is the one of `longW`.
 use borrow.Author.Needs.{needs}
 use Rattle.steps.proofs.fuzzy_term.Statement.{statement}
@@ -26,4 +26,4 @@ fuzzy-term-spec =
     (λ c. search needs)
     (λ c. rw (lt-ltb _ _ (rw (c .before .before .before .before .before .before .before .before .word2 .ensures, c .before .before .before .before .before .before .before .before .before .before .word .ensures, c .before .before .before .before .before .before .before .before .before .before .before .wide .ensures .0) at (c .before .before .before .before .before .before .before .if1 .taken))) (reported (rw (c .before .before .before .before .before .before .before .before .before .before .word .ensures, c .before .before .before .before .before .before .before .before .before .before .before .wide .ensures .0) at (c .before .before .before .before .reject .ensures))))
     (λ c. search needs)
-    (λ c. rw (le-ltb _ _ (rw (c .before .word2 .ensures, c .before .before .before .word .ensures, c .before .before .before .before .wide .ensures .0) at (c .if1 .left))) (stayed refl refl)))
+    (λ c. rw (le-ltb _ _ (rw (c .before .word2 .ensures, c .before .before .before .word .ensures, c .before .before .before .before .wide .ensures .0) at (c .if1 .left))) (stayed refl refl refl)))

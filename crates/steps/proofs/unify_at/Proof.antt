@@ -1,12 +1,12 @@
--- Made from Proof.ans by tools/answers, ab23edd861b3a2d6 0ec07b6eed512f01.
+-- Made from Proof.ans by tools/answers, ab23edd861b3a2d6 58b1a03e96eca0b8.
 -- The definition's unification, and where it fails one diagnostic.
 use borrow.Author.Needs.{needs}
 use Rattle.steps.proofs.unify_at.Statement.{statement}
 use Rattle.steps.proofs.unify_at.Tie as tie
 use Rattle.steps.proofs.unify_at.Reads as reads
 use Rattle.steps.proofs.unify_at.Lts as lts
-use Rattle.unify.proofs.unify.Reads as unify-reads
 use Rattle.steps.proofs.report.Reads as report-reads
+use Rattle.unify.proofs.unify.Reads as unify-reads
 use native.Mathlib.Omega.{arith}
 use Rattle.steps.proofs.Uniting.{unite-good, unite-bad, unite-spent}
 

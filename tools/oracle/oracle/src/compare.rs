@@ -7,6 +7,7 @@ use crate::calls;
 use crate::convert;
 use crate::corpus::{self, Corpus, Item};
 use crate::desks;
+use crate::lamp;
 use crate::mismatch::Mismatches;
 use crate::options::Options;
 use crate::port::Port;
@@ -39,11 +40,12 @@ pub fn run(given: &[String]) -> Done {
         [what] if what == "calls" => calls::run(&options),
         [what] if what == "convert" => convert::compare(&options),
         [what] if what == "days" => desks::compare_days(&options),
+        [what] if what == "lamp" => lamp::compare(&options),
         [what] if what == "tally" => desks::compare_tally(&options),
         [what] if what == "texts" => texts::compare(),
         [what] if what == "visits" => visits::compare(&options),
         _ => Err(
-            "compare what? one of answers, reading, calls, convert, days, tally, texts, visits"
+            "compare what? one of answers, reading, calls, convert, days, lamp, tally, texts, visits"
                 .to_owned(),
         ),
     }

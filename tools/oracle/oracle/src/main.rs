@@ -6,6 +6,7 @@ mod compare;
 mod convert;
 mod corpus;
 mod desks;
+mod lamp;
 mod mismatch;
 mod options;
 mod port;
@@ -55,6 +56,7 @@ oracle compare convert --seed S --count N [--style NAME] [--widen P --narrow P] 
 oracle compare convert --recorded FILE
 oracle compare days    --seed S [--days N] [--events N] [--out DIR]
 oracle compare tally   --seed S [--count N] [--out DIR]
+oracle compare lamp    --seed S --count N [--style NAME] [--out DIR]
 oracle compare texts
     Holds the port against the Rust on generated files: the program P (with arguments, if it needs
     some), from standard input to standard output, and the static library in process where it was
@@ -82,6 +84,8 @@ oracle compare texts
     generated schema, with the outcome, the visits left and every binding after each call.
     Texts: every string of up to three bytes, and many of four, through both text tests of the port and the
     Rust's own.
+    Lamp: the port's lamp beside the Rust's diagnostics, and beside the port's own full check with an answer slice
+    as long as any answer.
 
 oracle bench answers [--seed S] [--count N] [--rounds R] [--style NAME]
 oracle bench reading [--seed S] [--count N] [--rounds R] [--style NAME]
@@ -90,6 +94,7 @@ oracle bench shapes [--rounds R]
 oracle bench messages [--rounds R]
 oracle bench forms [--rounds R]
 oracle bench texts [--rounds R]
+oracle bench lamp [--rounds R]
     Times the port's call in process beside the Rust's reading, tree building and `check`, or the port's
     reading beside the judge's reader: N files of each style, the quickest of R rounds of each, as ratios
     (below 1 the port is quicker), by style, by length, and for files that grow in one respect; with
@@ -100,7 +105,8 @@ oracle bench texts [--rounds R]
     Shapes: files with wide, nested and many types, long chains and a million visits, and where the time goes
     on both sides. Messages: the same for files of 10, 100 and 500 diagnostics and of long messages. Forms: a
     file of up to 64 queries beside the Rust that reads the schema once, and beside as many calls with one
-    query each. Texts: both text tests on names of 511 bytes beside the Rust's own. Convert: both converters
+    query each. Lamp: files whose first diagnostic stands before, amid or after a million visits, beside the
+    full call. Texts: both text tests on names of 511 bytes beside the Rust's own. Convert: both converters
     beside the port's reading alone, the definition, and a copy of the file.
 
 oracle record [--check]
