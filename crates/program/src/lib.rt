@@ -73,18 +73,12 @@ pub fn run(job: Job) {
     let r = read_input(&mut input);
     match r {
         Input::Failed => {
-            io::write_all(
-                libc::STDERR_FILENO,
-                b"reading standard input failed\n",
-            );
+            io::write_all(libc::STDERR_FILENO, b"reading standard input failed\n");
         }
         Input::Bytes(n) => {
             let m = printed(job, &input[0..n], &mut work, &mut out);
             if !io::write_all(libc::STDOUT_FILENO, &out[0..m]) {
-                io::write_all(
-                    libc::STDERR_FILENO,
-                    b"writing standard output failed\n",
-                );
+                io::write_all(libc::STDERR_FILENO, b"writing standard output failed\n");
             }
         }
     }
