@@ -99,13 +99,15 @@ fn answers(options: &Options) -> Done {
         if matches!(ran.answer, Answer::LeftOut(_)) {
             continue;
         }
+        // Slices of other lengths, a different pair for each file.
+        let other = other_limits(&ran, number);
+        let elsewhere = judge::answer(&item.file, &other).answer;
         for port in &ports {
             asked += 1;
-            compare(port, &item, &limits, &mut mismatches)?;
+            compare(port, &item, &limits, &ran.answer, &mut mismatches)?;
             if !matches!(port, Port::Program(_)) {
-                // Slices of other lengths, a different pair for each file.
                 asked += 1;
-                compare(port, &item, &other_limits(&ran, number), &mut mismatches)?;
+                compare(port, &item, &other, &elsewhere, &mut mismatches)?;
             }
         }
         alone += each_alone(&ports, &item, &ran, &mut mismatches)?;
@@ -218,21 +220,22 @@ fn other_limits(ran: &Ran, number: u64) -> Limits {
     }
 }
 
-/// Holds one port against the Rust on one file, and keeps what differs, made smaller.
+/// Holds one port against the Rust's answer to one file, and keeps what differs, made smaller.
 fn compare(
     port: &Port,
     item: &Item,
     limits: &Limits,
+    answer: &Answer,
     mismatches: &mut Mismatches,
 ) -> Result<(), String> {
+    let (found, expected) = port.ask(&item.file, limits, answer)?;
+    if found == expected {
+        return Ok(());
+    }
     let ask = |file: &[u8]| {
         let expected = judge::answer(file, limits).answer;
         port.ask(file, limits, &expected)
     };
-    let (found, expected) = ask(&item.file)?;
-    if found == expected {
-        return Ok(());
-    }
     let small = shrink(&item.file, |file| match ask(file) {
         Ok((found, expected)) => found != expected,
         // A file that the Rust can't hold shows no difference.

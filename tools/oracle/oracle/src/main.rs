@@ -76,8 +76,8 @@ oracle compare texts
     out and back again. `--widen` and `--narrow` name the two programs. `--recorded` takes a recorded sample of that
     edition, from before cards 6 and 7: each file, widened, is answered as recorded, with its predicate numbers
     widened and the lines 09 left out.
-    Days: so many days of so many events at 1 to 16 desks in turn, set-ups, ceilings, checks and new days, with
-    groups that break the rules between, beside the card's sentences; after each event the group obeys the rules,
+    Days: so many days of so many events (4 of 100,000) at cabinets of 1 to 16 desks, set-ups, ceilings, checks and
+    new days, with groups that break the rules between, beside the card's sentences; after each event the group obeys the rules,
     no use passes its cap and no ceiling is under what is left of a share. Tally: as many steps, in runs from zero
     and from other tallies; over each run from zero the sums are held together.
     Calls are compared in process alone: random lists of unifications, snapshots and rollbacks over a
@@ -107,7 +107,7 @@ oracle bench lamp [--rounds R]
     file of up to 64 queries beside the Rust that reads the schema once, and beside as many calls with one
     query each. Lamp: files whose first diagnostic stands before, amid or after a million visits, beside the
     full call. Texts: both text tests on names of 511 bytes beside the Rust's own. Convert: both converters
-    beside the port's reading alone, the definition, and a copy of the file.
+    beside reading alone (the check of the file without its last line), the definition, and a copy of the file.
 
 oracle record [--check]
     Writes crates/replay/stdin, the recorded sample of answers; with --check holds it against the

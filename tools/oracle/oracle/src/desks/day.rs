@@ -101,7 +101,7 @@ fn pool_of_files(seed: u64) -> Vec<Vec<u8>> {
         "form-answers",
         "long-answer",
     ] {
-        files.extend((0..8).map(|n| files::generate(style, trial::nth(seed, n))));
+        files.extend((0..3).map(|n| files::generate(style, trial::nth(seed, n))));
     }
     files
 }
@@ -272,7 +272,9 @@ struct Counts {
     left_out: u64,
     asked: u64,
     numbers: [BTreeMap<u8, u64>; 4],
-    /// Queries that ran, their visits, and the most desks.
+    /// Cabinets by their number of desks.
+    desks: [u64; 16],
+    /// Queries that ran, and their visits.
     queries: u64,
     visits: u64,
     /// Checks that were charged though refused.
@@ -290,9 +292,12 @@ fn kind(event: &Event) -> usize {
     }
 }
 
+/// The events of a cabinet, before the next is set up.
+const CABINET: u64 = 1_000;
+
 pub fn compare(options: &Options, ports: &[Box<dyn Cabinet>]) -> Done {
     let seed: u64 = options.needed("seed")?;
-    let days: u64 = options.number("days")?.unwrap_or(16);
+    let days: u64 = options.number("days")?.unwrap_or(4);
     let events: u64 = options.number("events")?.unwrap_or(100_000);
     let mut mismatches = Mismatches::new(options.text("out"));
     let mut counts = Counts::default();
@@ -301,15 +306,14 @@ pub fn compare(options: &Options, ports: &[Box<dyn Cabinet>]) -> Done {
     for day in 0..days {
         let rng = &mut Rng::new(trial::nth(seed, day));
         rng.next();
-        // Every number of desks in turn.
-        let desks = 1 + (day % 16) as usize;
-        let (pool, shares, caps) = set_up(rng, desks);
-        let mut group = Defined.set_up(pool, &shares, &caps).1;
+        let mut group = [0; GROUP_WORDS];
         for number in 0..events {
-            // Now and then another cabinet, of as many desks.
-            if number % 2_000 == 0 {
+            // Now and then another cabinet.
+            if number % CABINET == 0 {
+                let desks = rng.between(1, 16);
                 let (pool, shares, caps) = set_up(rng, desks);
                 group = Defined.set_up(pool, &shares, &caps).1;
+                counts.desks[desks - 1] += 1;
             }
             let event = event(rng, &group, files.len());
             counts.events += 1;
@@ -351,12 +355,16 @@ pub fn compare(options: &Options, ports: &[Box<dyn Cabinet>]) -> Done {
             }
         }
         eprintln!(
-            "day {} of {days}, {desks} desks, {} mismatches, {} s",
+            "day {} of {days}, {} mismatches, {} s",
             day + 1,
             mismatches.count,
             started.elapsed().as_secs()
         );
     }
+    println!(
+        "  cabinets of 1 to 16 desks: {}",
+        counts.desks.map(|count| count.to_string()).join(", ")
+    );
     for (kind, numbers) in KINDS.iter().zip(&counts.numbers) {
         let numbers: Vec<String> = numbers
             .iter()
@@ -414,7 +422,7 @@ pub fn mistakes(seed: u64, events: u64) -> Vec<&'static str> {
     let rng = &mut Rng::new(seed);
     let mut group = [0; GROUP_WORDS];
     for number in 0..events {
-        if number % 300 == 0 {
+        if number % (CABINET / 4) == 0 {
             let desks = rng.between(1, 16);
             let (pool, shares, caps) = set_up(rng, desks);
             group = Defined.set_up(pool, &shares, &caps).1;
