@@ -1,0 +1,4 @@
+pub mod Additions
+pub mod Absent
+pub mod Walking
+pub mod Telling
