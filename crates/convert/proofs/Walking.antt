@@ -29,7 +29,7 @@ use Rattle.editions.specs.Converted.{predicates, isAbove, someAbove}
 use Rattle.convert.specs.Lines.{other, LinesAre, ConvertsLine, ConvertsLines, NamesFrom, SomeFrom, SomeAbove}
 
 -- the line as the code cuts it
-cut : (line : List ℕ) (n : ℕ) → take (n - 0) line ≡ take n line
+pub cut : (line : List ℕ) (n : ℕ) → take (n - 0) line ≡ take n line
 cut line n = ap (λ k. take k line) (sub-zero n)
 
 -- ---- One line

@@ -188,3 +188,60 @@ grown-adds c c′ some g =
     let names = kind-adds aName (kindByte name) name-kind (omega arith) (omega arith) (from-types c) (from-types d) (after-names c some) (c .names) (g .names) types in
     let all : Adds (limits-frame c ∷ from-names c) (limits-frame d ∷ from-names d) = inl (refl, names) in
     subst (λ l. Adds l (framesOf c′)) (sym (spread c)) (subst (λ l. Adds (limits-frame c ∷ from-names c) l) (sym (ap framesOf (g .is) ∙ spread d)) all)
+
+-- And back.
+abbrev content : ℕ → ℕ → List (List ℕ) → List TypeShape → List PredicateFrame → List Ast → Content
+content d t names types predicates queries = record { maxDistance = d; maxTermChars = t; names = names; types = types; predicates = predicates; queries = queries }
+
+distance-of : Frame → ℕ
+distance-of (theLimits d t) = d
+distance-of (aName s) = 0
+distance-of (aType t) = 0
+distance-of (aPredicate n k v) = 0
+distance-of (aNode n) = 0
+distance-of (theQuery q) = 0
+
+term-of : Frame → ℕ
+term-of (theLimits d t) = t
+term-of (aName s) = 0
+term-of (aType t) = 0
+term-of (aPredicate n k v) = 0
+term-of (aNode n) = 0
+term-of (theQuery q) = 0
+
+same-name : (a b : List ℕ) → aName a ≡ aName b → a ≡ b
+same-name a b e = cc
+
+same-type : (a b : TypeShape) → aType a ≡ aType b → a ≡ b
+same-type a b e = cc
+
+same-predicate : (a b : PredicateFrame) → predicateFrame a ≡ predicateFrame b → a ≡ b
+same-predicate a b e = cc
+
+limits-adds : (f : Frame) (c′ : Content) (fs gs : List Frame) → Adds (f ∷ fs) (limits-frame c′ ∷ gs) → (f ≡ limits-frame c′) × Adds fs gs
+unfolding limits-frame kindByte frameKind
+limits-adds f c′ fs gs (inl h) = h
+limits-adds f c′ fs gs (inr h) = absurd (omega (arith, h .0 .least))
+
+pub adds-grown : (c c′ : Content) → 1 ≤ length (c .queries) → 1 ≤ length (c′ .queries) → Adds (framesOf c) (framesOf c′) → Grown c c′
+unfolding limits-frame from-names from-types from-predicates from-queries kindByte distance-of term-of
+adds-grown c c′ some some′ h =
+    let all : Adds (limits-frame c ∷ from-names c) (limits-frame c′ ∷ from-names c′) = subst (λ l. Adds (limits-frame c ∷ from-names c) l) (spread c′) (subst (λ l. Adds l (framesOf c′)) (spread c) h) in
+    let first = limits-adds (limits-frame c) c′ (from-names c) (from-names c′) all in
+    let names = adds-kind aName (kindByte name) name-kind same-name (c .names) (c′ .names) (from-types c) (from-types c′) (after-names c some) (after-names c′ some′) (first .1) in
+    let types = adds-kind aType (kindByte schemaType) type-kind same-type (c .types) (c′ .types) (from-predicates c) (from-predicates c′) (after-types c some) (after-types c′ some′) (names .rest) in
+    let predicates = adds-kind predicateFrame (kindByte predicate) predicate-kind same-predicate (c .predicates) (c′ .predicates) (from-queries c) (from-queries c′) (after-predicates c some) (after-predicates c′ some′) (types .rest) in
+    let frames : from-queries c ≡ from-queries c′ = no-additions (from-queries c) (from-queries c′) (query-kinds (c′ .queries)) (predicates .rest) in
+    let queries : c .queries ≡ c′ .queries = sym (all-queries (c .queries)) ∙ ap (queriesIn []) frames ∙ all-queries (c′ .queries) in
+    record {
+      names = names .more;
+      types = types .more;
+      predicates = predicates .more;
+      is =
+          ap (λ d. content d (c′ .maxTermChars) (c′ .names) (c′ .types) (c′ .predicates) (c′ .queries)) (sym (ap distance-of (first .0)))
+          ∙ ap (λ t. content (c .maxDistance) t (c′ .names) (c′ .types) (c′ .predicates) (c′ .queries)) (sym (ap term-of (first .0)))
+          ∙ ap (λ l. content (c .maxDistance) (c .maxTermChars) l (c′ .types) (c′ .predicates) (c′ .queries)) (names .are)
+          ∙ ap (λ l. content (c .maxDistance) (c .maxTermChars) (c .names ++ names .more) l (c′ .predicates) (c′ .queries)) (types .are)
+          ∙ ap (λ l. content (c .maxDistance) (c .maxTermChars) (c .names ++ names .more) (c .types ++ types .more) l (c′ .queries)) (predicates .are)
+          ∙ ap (λ l. content (c .maxDistance) (c .maxTermChars) (c .names ++ names .more) (c .types ++ types .more) (c .predicates ++ predicates .more) l) (sym queries);
+    }

@@ -3,7 +3,7 @@ use mathlib.Core.List.{List}
 use mathlib.Core.Path.{_≡_}
 use Prim.Native.Nat.{ℕ}
 use lib.ListN.{length, replicate}
-use Rattle.growth.specs.Premises.{FirstFailing}
+use Rattle.growth.specs.Premises.{premises, FirstFailing}
 use Rattle.growth.specs.declared.Premises.{Premises}
 use Rattle.growth.specs.declared.Premises.the-variants.{Hold, OldRefused, NewRefused, OtherChange, NamesAbsent}
 
@@ -17,9 +17,9 @@ number NamesAbsent = 4
 
 -- before the slice is cleared
 pub record Compares (old new w w′ : List ℕ) (r : Premises) : Type 0 where
-  pub told : FirstFailing (length w) old new (number r)
+  pub told : FirstFailing (premises (length w) old new) (number r)
   pub long : length w′ ≡ length w
 
 pub record ChecksGrowth (old new w w′ : List ℕ) (r : Premises) : Type 0 where
-  pub told : FirstFailing (length w) old new (number r)
+  pub told : FirstFailing (premises (length w) old new) (number r)
   pub work : w′ ≡ replicate (length w) 0

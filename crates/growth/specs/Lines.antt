@@ -1,6 +1,7 @@
 -- What a line of the new file is beside a line of the old one, and what the walk through both promises.
 use mathlib.Core.Bool.{Bool, true, false}
 use mathlib.Core.List.{List, [], _∷_}
+use mathlib.Core.Logic.{_⊎_}
 use mathlib.Core.Path.{_≡_}
 use Prim.Native.Nat.{ℕ, _≤_, _<_}
 use Rattle.meaning.specs.Frame.{wide, kindByte, name, predicate, Frame, frameKind}
@@ -23,10 +24,11 @@ pub record Addition (old new : Frame) : Type 0 where
   pub later : kindOf new < kindOf old
 
 -- The second file's frames are the first's with additions.
-pub data Adds : List Frame → List Frame → Type 0 where
-  at-end : Adds [] []
-  same : {f : Frame} {fs gs : List Frame} → Adds fs gs → Adds (f ∷ fs) (f ∷ gs)
-  added : {f g : Frame} {fs gs : List Frame} → Addition f g → Adds (f ∷ fs) gs → Adds (f ∷ fs) (g ∷ gs)
+abbrev pub Adds : List Frame → List Frame → Type 0
+Adds [] [] = Unit {0}
+Adds [] (g ∷ gs) = ⊥
+Adds (f ∷ fs) [] = ⊥
+Adds (f ∷ fs) (g ∷ gs) = ((f ≡ g) × Adds fs gs) ⊎ (Addition f g × Adds (f ∷ fs) gs)
 
 abbrev pub Beside-is : Frame → Frame → Beside → Type 0
 Beside-is f g Same = f ≡ g

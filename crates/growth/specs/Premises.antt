@@ -2,7 +2,9 @@
 -- its kind, and no predicate number named in the old file was absent there, an old query accepted before gets the same answer, byte for byte. Both
 -- files are past refusals 1 to 10 and 13." What a file holds is `content` of crates/meaning/specs/Content.antt; `Grown` and `NoAbsent` are of
 -- crates/laws/specs/Growth.antt.
-use mathlib.Core.List.{List}
+use mathlib.Core.List.{List, [], _∷_}
+use mathlib.Core.Logic.{_⊎_}
+use mathlib.Core.Path.{_≡_}
 use Prim.Native.Nat.{ℕ, _≤_}
 use Rattle.meaning.specs.Frame.{wide}
 use Rattle.meaning.specs.File.{Form}
@@ -32,9 +34,18 @@ pub record NamesNoAbsent (words : ℕ) (old : List ℕ) : Type 0 where
 
 -- "prints the line 00 if the premises hold, else the first that fails: 01 the old file past those refusals, 02 the new one past them, 03 only such
 -- additions, 04 no absent predicate"
-pub data FirstFailing (words : ℕ) (old new : List ℕ) : ℕ → Type 0 where
-  hold : OnlyAdded words old new → NamesNoAbsent words old → FirstFailing words old new 0
-  old-refused : (Past words old → ⊥) → FirstFailing words old new 1
-  new-refused : Past words old → (Past words new → ⊥) → FirstFailing words old new 2
-  other-change : Past words old → Past words new → (OnlyAdded words old new → ⊥) → FirstFailing words old new 3
-  names-absent : OnlyAdded words old new → (NamesNoAbsent words old → ⊥) → FirstFailing words old new 4
+pub record Premise : Type 1 where
+  pub number : ℕ
+  pub holds : Type 0
+
+abbrev pub premises : ℕ → List ℕ → List ℕ → List Premise
+premises words old new =
+    record { number = 1; holds = Past words old } ∷
+    record { number = 2; holds = Past words new } ∷
+    record { number = 3; holds = OnlyAdded words old new } ∷
+    record { number = 4; holds = NamesNoAbsent words old } ∷
+    []
+
+abbrev pub FirstFailing : List Premise → ℕ → Type 0
+FirstFailing [] n = n ≡ 0
+FirstFailing (p ∷ ps) n = ((p .holds → ⊥) × (n ≡ p .number)) ⊎ (p .holds × FirstFailing ps n)

@@ -31,7 +31,7 @@ use Rattle.meaning.specs.All.{All}
 use Rattle.meaning.specs.SoFar.{said}
 use Rattle.meaning.specs.Refusal.{answerTooLong}
 use Rattle.meaning.specs.Answer.{hexLine}
-use Rattle.meaning.specs.Outcome.{maxVisits, Accepted, Refused, outcome}
+use Rattle.meaning.specs.Outcome.{minWords, maxVisits, Accepted, Refused, outcome}
 use Rattle.laws.specs.Marks.{NoMark}
 use Rattle.laws.specs.Names.{Renamed, linesBeside, SameBeside, Fits}
 use Rattle.laws.specs.Growth.{NoAbsent}
@@ -266,9 +266,9 @@ unfolding outcome check ℕ-discrete fileOf framesOf Bindings.fresh Bindings.fre
 renamed-answered = refl
 
 pub renamed-outcome : SameBeside (outcome (file (before 0)) 16384 999) (outcome (file (blackened 0)) 16384 999)
-unfolding position sameText valueText says-renamed says-telling says-old
+unfolding position sameText valueText minWords says-renamed says-telling says-old
 renamed-outcome =
-    private-files _ _ _ _ says-old says-renamed (record { only-names = refl; value = refl; terms = ((tt, (tt, (tt, (tt, (tt, (tt, tt)))))), tt) }) 16384 999
+    private-files _ _ _ _ says-old says-renamed (record { only-names = refl; value = refl; terms = ((tt, (tt, (tt, (tt, (tt, (tt, tt)))))), tt) }) 16384 999 16384 999 (omega arith) (omega arith)
     (fits ab old-answered) (fits accented renamed-answered)
 
 -- A message line is left out, and what follows the last LF; nothing else is.
