@@ -2,6 +2,7 @@
 -- the old file has frames of a kind left, the new one has the same ones, and where it has none left, those of the new one are additions.
 use mathlib.Core.List.{List, [], _∷_, _++_, map, flatMap, append-nil, append-assoc, map-append, head-eq-of-cons-eq, tail-eq-of-cons-eq}
 use mathlib.Core.Logic.{_⊎_, inl, inr, _↔_}
+use mathlib.Core.Option.{Option}
 use mathlib.Core.Path.{_≡_, refl, sym, ap, subst, _∙_}
 use Prim.Native.Nat.{ℕ, _≤_, _<_}
 use native.Mathlib.Omega.{arith}
@@ -216,7 +217,14 @@ same-type : (a b : TypeShape) → aType a ≡ aType b → a ≡ b
 same-type a b e = cc
 
 same-predicate : (a b : PredicateFrame) → predicateFrame a ≡ predicateFrame b → a ≡ b
-same-predicate a b e = cc
+same-predicate a b e =
+    let n : a .name ≡ b .name = cc in
+    let k : a .key ≡ b .key = cc in
+    let v : a .value ≡ b .value = cc in
+    ap (λ x. of x (a .key) (a .value)) n ∙ ap (λ x. of (b .name) x (a .value)) k ∙ ap (λ x. of (b .name) (b .key) x) v
+  where
+    of : ℕ → ℕ → Option ℕ → PredicateFrame
+    of n k v = record { name = n; key = k; value = v }
 
 limits-adds : (f : Frame) (c′ : Content) (fs gs : List Frame) → Adds (f ∷ fs) (limits-frame c′ ∷ gs) → (f ≡ limits-frame c′) × Adds fs gs
 unfolding limits-frame kindByte frameKind

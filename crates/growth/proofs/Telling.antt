@@ -32,6 +32,7 @@ use Rattle.laws.specs.Growth.{Grown, NoAbsent}
 use Rattle.growth.specs.Premises.{Past, contentOf, OnlyAdded, NamesNoAbsent}
 use Rattle.growth.specs.Lines.{Adds, TellsAdded}
 use Rattle.growth.specs.Contracts.{Compares, ChecksGrowth}
+use Rattle.growth.specs.declared.Premises.{Premises}
 use Rattle.growth.specs.declared.Premises.the-variants.{Hold, OldRefused, NewRefused, OtherChange, NamesAbsent}
 use Rattle.growth.proofs.Additions.{grown-adds, adds-grown}
 use Rattle.growth.proofs.Absent.{none-absent, absent-none}
@@ -83,14 +84,14 @@ module _ {words : ℕ} {old new : List ℕ} {r : Bool} (t : TellsAdded old new r
   was-added p q e = record {
     past-old = p;
     past-new = q;
-    grown = adds-grown (contentOf p) (contentOf q) (p .says .lawful .queriesMin) (q .says .lawful .queriesMin) (t .added _ _ (past-lines p) (past-lines q) e);
+    grown = adds-grown (contentOf p) (contentOf q) (p .says .lawful .queriesMin) (q .says .lawful .queriesMin) (t .added (framesOf (contentOf p)) (framesOf (contentOf q)) (past-lines p) (past-lines q) e);
   }
 
   pub was-other : r ≡ false → OnlyAdded words old new → ⊥
   was-other e o =
       let p = o .past-old in
       let q = o .past-new in
-      t .other _ _ (past-lines p) (past-lines q) e (grown-adds (contentOf p) (contentOf q) (p .says .lawful .queriesMin) (o .grown))
+      t .other (framesOf (contentOf p)) (framesOf (contentOf q)) (past-lines p) (past-lines q) e (grown-adds (contentOf p) (contentOf q) (p .says .lawful .queriesMin) (o .grown))
 
 module _ {words least : ℕ} {old : List ℕ} {r : Bool} (s : SomeFrom old least r) (is : (p : Past words old) → least ≡ length (contentOf p .predicates)) where
   found : (p : Past words old) → r ≡ anyOf (leb (length (contentOf p .predicates))) (flatMap predicates (framesOf (contentOf p)))
@@ -134,3 +135,6 @@ module _ {old new w w₁ : List ℕ} {r : Read} (h : ReadsFile wide old w w₁ r
 
         pub tells-0 : x ≡ false → Compares old new w w₂ Hold
         tells-0 d = record { told = inr (p, inr (p′, inr (was-added t p p′ e, inr (was-present s (λ y. is ∙ counted h y) p d, refl)))); long = kept }
+
+pub cleared : {old new w w₁ w′ : List ℕ} {r : Premises} → Compares old new w w₁ r → w′ ≡ replicate (length w₁) 0 → ChecksGrowth old new w w′ r
+cleared h z = record { told = h .told; work = z ∙ ap (λ n. replicate n 0) (h .long) }

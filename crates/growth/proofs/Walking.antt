@@ -32,11 +32,23 @@ module _ {a b : List ℕ} where
   pub bytes-differ : (i : ℕ) → (getD a i 0 ≡ getD b i 0 → ⊥) → SameBytes a b false
   bytes-differ i d = record { same = λ q. let z : _≡_ {A = ℕ} 0 1 = cc in absurd (omega arith); other = λ q e. d (ap (λ s. getD s i 0) e) }
 
-  pub bytes-agree : (i : ℕ) → length a ≡ length b → length a ≤ i → ((j : ℕ) → j < i → getD a j 0 ≡ getD b j 0) → SameBytes a b true
-  bytes-agree i l m h = record { same = λ q. ext-getD 0 a b l (λ j k. h j (omega arith)); other = λ q e. let z : _≡_ {A = ℕ} 0 1 = cc in absurd (omega arith) }
+-- The bytes below i are the same.
+pub record Agree (a b : List ℕ) (i : ℕ) : Type 0 where
+  pub long : length a ≡ length b
+  pub bytes : (j : ℕ) → j < i → getD a j 0 ≡ getD b j 0
 
-  pub one-more : (i : ℕ) → ((j : ℕ) → j < i → getD a j 0 ≡ getD b j 0) → getD a i 0 ≡ getD b i 0 → (j : ℕ) → j < i + 1 → getD a j 0 ≡ getD b j 0
-  one-more i h e j k = cases (eqb j i) (λ q. rw (eqb-true j i q) e) (λ q. h j (let d = eqb-false j i q in omega (arith, d)))
+module _ {a b : List ℕ} where
+  pub agree-start : length a ≡ length b → Agree a b 0
+  agree-start l = record { long = l; bytes = λ j k. absurd (omega (arith, k)) }
+
+  pub agree-more : {i : ℕ} → Agree a b i → getD a i 0 ≡ getD b i 0 → Agree a b (i + 1)
+  agree-more {i} h e = record {
+    long = h .long;
+    bytes = λ j k. cases (eqb j i) (λ q. rw (eqb-true j i q) e) (λ q. h .bytes j (let d = eqb-false j i q in omega (arith, d)));
+  }
+
+  pub agree-done : {i : ℕ} → Agree a b i → length a ≤ i → SameBytes a b true
+  agree-done h m = record { same = λ q. ext-getD 0 a b (h .long) (λ j k. h .bytes j (omega arith)); other = λ q e. let z : _≡_ {A = ℕ} 0 1 = cc in absurd (omega arith) }
 
 -- ---- Two lines
 

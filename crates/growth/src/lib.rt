@@ -40,7 +40,7 @@ fn same(a: &[u8], b: &[u8]) -> bool
 }
 
 // An added line is a name, a type or a predicate, of a kind that the old file has left behind.
-fn beside(a: &[u8], b: &[u8]) -> Beside
+fn line_beside(a: &[u8], b: &[u8]) -> Beside
     ensures { λ r. ⌜ TellsBeside (now (a .entry)) (now (b .entry)) r ⌝ }
 {
     if same(a, b) {
@@ -83,7 +83,7 @@ fn only_added(old: &[u8], new: &[u8]) -> bool
                         return false;
                     }
                     Decoded::Bytes(n, next) => {
-                        let is = beside(&a[0..n], &b[0..m]);
+                        let is = line_beside(&a[0..n], &b[0..m]);
                         match is {
                             Beside::Same => {
                                 i = next;
@@ -115,13 +115,13 @@ fn compare(old: &[u8], new: &[u8], work: &mut [u32]) -> Premises
             match second {
                 Read::Refused(_) => Premises::NewRefused,
                 Read::Accepted => {
-                    if !only_added(old, new) {
-                        return Premises::OtherChange;
+                    if only_added(old, new) {
+                        if convert::some_from(old, predicates) {
+                            return Premises::NamesAbsent;
+                        }
+                        return Premises::Hold;
                     }
-                    if convert::some_from(old, predicates) {
-                        return Premises::NamesAbsent;
-                    }
-                    Premises::Hold
+                    Premises::OtherChange
                 }
             }
         }
