@@ -3,7 +3,7 @@ use mathlib.Core.Bool.{Bool, true, false}
 use mathlib.Core.List.{List, [], _∷_, map, flatMap}
 use mathlib.Core.Logic.{inl, inr}
 use mathlib.Core.Path.{_≡_, refl, sym, ap, subst, _∙_}
-use Prim.Native.Nat.{ℕ, _≤_, _<_}
+use Prim.Native.Nat.{ℕ, _+_, _≤_}
 use native.Mathlib.Omega.{arith}
 use lib.Dec.{leb, ltb}
 use lib.ListN.{length, getD, replicate, length-map}
@@ -15,6 +15,7 @@ use Rattle.meaning.specs.Conditions.{anyOf}
 use Rattle.meaning.specs.Refusal as Meaning
 use Rattle.meaning.specs.File.{Form, Reading, refused, described, readingOf}
 use Rattle.meaning.specs.Content.{Content, framesOf, describes, Says}
+use Rattle.meaning.specs.Answer.{hexLine}
 use Rattle.meaning.specs.Outcome.{minWords}
 use Rattle.meaning.proofs.Tests.{cases, clash}
 use Rattle.meaning.proofs.Written.{file-lines}
@@ -31,7 +32,7 @@ use Rattle.convert.specs.Lines.{LinesAre, SomeFrom}
 use Rattle.laws.specs.Growth.{Grown, NoAbsent}
 use Rattle.growth.specs.Premises.{Past, contentOf, OnlyAdded, NamesNoAbsent}
 use Rattle.growth.specs.Lines.{Adds, TellsAdded}
-use Rattle.growth.specs.Contracts.{Compares, ChecksGrowth}
+use Rattle.growth.specs.Contracts.{number, Compares, ChecksGrowth}
 use Rattle.growth.specs.declared.Premises.{Premises}
 use Rattle.growth.specs.declared.Premises.the-variants.{Hold, OldRefused, NewRefused, OtherChange, NamesAbsent}
 use Rattle.growth.proofs.Additions.{grown-adds, adds-grown}
@@ -138,3 +139,21 @@ module _ {old new w w₁ : List ℕ} {r : Read} (h : ReadsFile wide old w w₁ r
 
 pub cleared : {old new w w₁ w′ : List ℕ} {r : Premises} → Compares old new w w₁ r → w′ ≡ replicate (length w₁) 0 → ChecksGrowth old new w w′ r
 cleared h z = record { told = h .told; work = z ∙ ap (λ n. replicate n 0) (h .long) }
+
+-- ---- The line
+
+-- its second digit does not overflow a byte
+pub number-low : (p : Premises) (n : ℕ) → n ≡ number p → n ≤ 4
+number-low Hold n e = omega (arith, e)
+number-low OldRefused n e = omega (arith, e)
+number-low NewRefused n e = omega (arith, e)
+number-low OtherChange n e = omega (arith, e)
+number-low NamesAbsent n e = omega (arith, e)
+
+pub line-is : (p : Premises) (n : ℕ) → n ≡ number p → 48 ∷ (48 + n) ∷ 10 ∷ [] ≡ hexLine (number p ∷ [])
+unfolding hexLine
+line-is Hold n e = rw e refl
+line-is OldRefused n e = rw e refl
+line-is NewRefused n e = rw e refl
+line-is OtherChange n e = rw e refl
+line-is NamesAbsent n e = rw e refl

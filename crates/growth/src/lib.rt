@@ -1,5 +1,7 @@
 // Card 14: whether the queries of an old file keep their answers in a new one.
+ghost use mathlib.Core.List.{[], _∷_};
 ghost use mathlib.Core.Path.{_≡_};
+ghost use Rattle.meaning.specs.Answer.{hexLine};
 ghost use Rattle.growth.specs.Contracts.{number, Compares, ChecksGrowth};
 ghost use Rattle.growth.specs.Lines.{SameBytes, TellsBeside, TellsAdded};
 use frames::Decoded;
@@ -146,4 +148,12 @@ pub fn premises_number(p: Premises) -> u8
         Premises::OtherChange => 3,
         Premises::NamesAbsent => 4,
     }
+}
+
+// The line that the program prints.
+pub fn premises_line(p: Premises) -> [u8; 3]
+    ensures { λ r. ⌜ r ≡ hexLine (number p ∷ []) ⌝ }
+{
+    let n = premises_number(p);
+    [48, 48 + n, 10]
 }
