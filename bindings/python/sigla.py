@@ -18,7 +18,7 @@ from dataclasses import dataclass, field
 WORDS = 16384
 BYTES = 65536
 QUERIES = 64
-PREDICATE_BYTES = 2
+PREDICATE_BYTES = 4
 
 REASONS = {
     1: "the work slice has fewer than 16,384 words",
@@ -34,6 +34,10 @@ REASONS = {
     11: "a query needs more than 1,048,576 visits",
     12: "the answer is longer than the answer slice",
     13: "there are more than 64 queries",
+    14: "a predicate's number above 65,535 does not fit in the narrow edition",
+    15: "a total of the tally would pass 32 bits, or its remainder is over 999",
+    16: "a query needs more visits than the desk's ceiling",
+    17: "the desk number or the group of desks is outside the rules",
 }
 
 
@@ -68,6 +72,69 @@ def make_library(static, shared):
     subprocess.run(["cc", "-shared", "-o", shared, "-Wl,--whole-archive", static, "-Wl,--no-whole-archive"], check=True)
 
 
+class Tally(ctypes.Structure):
+    """Units of 1,000 visits, cents, and the visits that fill no unit yet."""
+
+    _fields_ = [("units", ctypes.c_uint32), ("cents", ctypes.c_uint32), ("remainder", ctypes.c_uint32)]
+
+    def add(self, visits, price):
+        """A query's visits at its price; raises Refused (15), and the tally stays."""
+        _told(_load().sigla_tally(ctypes.byref(self), ctypes.c_uint32(visits), ctypes.c_uint16(price)))
+
+
+class Desk(ctypes.Structure):
+    _fields_ = [("share", ctypes.c_uint32), ("cap", ctypes.c_uint32), ("used", ctypes.c_uint32)]
+
+
+class Group(ctypes.Structure):
+    """The desks of a cabinet: `count` of them, from 0, with a daily pool of visits."""
+
+    _fields_ = [("count", ctypes.c_uint32), ("pool", ctypes.c_uint32), ("desks", Desk * 16)]
+
+    @classmethod
+    def set_up(cls, pool, shares, caps):
+        """A desk for each share and cap; raises Refused (17)."""
+        group = cls()
+        a, b = (ctypes.c_uint32 * len(shares))(*shares), (ctypes.c_uint32 * len(caps))(*caps)
+        _told(_load().sigla_set_up(ctypes.byref(group), ctypes.c_uint32(pool), a, ctypes.c_size_t(len(shares)), b, ctypes.c_size_t(len(caps))))
+        return group
+
+    def ceiling(self, desk):
+        """The visits that a desk may make now; raises Refused (17)."""
+        visits = ctypes.c_uint32()
+        _told(_load().sigla_ceiling(ctypes.byref(self), ctypes.c_size_t(desk), ctypes.byref(visits)))
+        return visits.value
+
+    def new_day(self):
+        _told(_load().sigla_new_day(ctypes.byref(self)))
+
+    def check(self, desk, file, words=WORDS, length=BYTES):
+        """As `check`, charged to a desk; raises Refused."""
+        return _sliced(_load().sigla_check_at, [ctypes.byref(self), ctypes.c_size_t(desk)], file, words, length)
+
+
+def _told(number):
+    if number:
+        raise Refused(number)
+
+
+def _sliced(call, first, file, words, length):
+    work = (ctypes.c_uint32 * words)()
+    out = (ctypes.c_uint8 * length)()
+    _told(call(*first, bytes(file), ctypes.c_size_t(len(file)), work, ctypes.c_size_t(words), out, ctypes.c_size_t(length)))
+    return bytes(out).split(b"\0", 1)[0]
+
+
+def widen(file, words=WORDS, length=BYTES):
+    """A file of the narrow edition in the wide one; raises Refused."""
+    return _sliced(_load().sigla_widen, [], file, words, length)
+
+
+def narrow(file, words=WORDS, length=BYTES):
+    """A file of the wide edition in the narrow one; raises Refused."""
+    return _sliced(_load().sigla_narrow, [], file, words, length)
+
+
 _library = None
 
 
@@ -75,22 +142,14 @@ def _load():
     global _library
     if _library is None:
         _library = ctypes.CDLL(os.environ.get("SIGLA_SO", "libsigla.so"))
-        _library.sigla_check.restype = ctypes.c_uint8
-        _library.sigla_check.argtypes = [
-            ctypes.c_char_p, ctypes.c_size_t, ctypes.POINTER(ctypes.c_uint32), ctypes.c_size_t, ctypes.POINTER(ctypes.c_uint8),
-            ctypes.c_size_t,
-        ]
+        for name in ("check", "widen", "narrow", "tally", "set_up", "ceiling", "new_day", "check_at"):
+            getattr(_library, f"sigla_{name}").restype = ctypes.c_uint8
     return _library
 
 
 def check(file, words=WORDS, length=BYTES):
     """The answer's bytes; raises Refused. The slices are this call's own."""
-    work = (ctypes.c_uint32 * words)()
-    answer = (ctypes.c_uint8 * length)()
-    number = _load().sigla_check(bytes(file), len(file), work, words, answer, length)
-    if number:
-        raise Refused(number)
-    return bytes(answer).split(b"\0", 1)[0]
+    return _sliced(_load().sigla_check, [], file, words, length)
 
 
 def answer(file):

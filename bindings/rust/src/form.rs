@@ -32,7 +32,7 @@ use std::fmt;
 use crate::refusal::Refusal;
 
 /// Bytes of a predicate's number in a file.
-pub(crate) const PREDICATE_BYTES: usize = 2;
+pub(crate) const PREDICATE_BYTES: usize = 4;
 
 /// A piece of the query's text, from its start to before its end.
 #[derive(Clone, Copy, Debug, Default, PartialEq, Eq, Hash)]

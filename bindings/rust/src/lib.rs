@@ -8,12 +8,14 @@
 //! ```
 
 mod answer;
+mod desk;
 mod file;
 mod form;
 mod refusal;
 mod ty;
 
 pub use answer::{Answer, Diagnostic, NoAnswer, Typed};
+pub use desk::{Desk, Group, Tally};
 pub use file::{Asked, File, NoFile, NodeFrame, PredicateFrame, QueryFrames, Shape, StatementFrame, TypeFrame};
 pub use form::{Form, Limit, Node, Predicate, Query, Span, Statement, Type};
 pub use refusal::Refusal;
@@ -33,6 +35,28 @@ pub const QUERIES: usize = 64;
 
 unsafe extern "C" {
     fn sigla_check(file: *const u8, file_len: usize, work: *mut u32, work_len: usize, answer: *mut u8, answer_len: usize) -> u8;
+    fn sigla_widen(file: *const u8, file_len: usize, work: *mut u32, work_len: usize, out: *mut u8, out_len: usize) -> u8;
+    fn sigla_narrow(file: *const u8, file_len: usize, work: *mut u32, work_len: usize, out: *mut u8, out_len: usize) -> u8;
+}
+
+/// The bytes before the first zero.
+fn length(out: &[u8]) -> usize {
+    out.iter().position(|&byte| byte == 0).unwrap_or(out.len())
+}
+
+/// A file of the narrow edition (predicate references of 2 bytes) in the wide one, which alone [`check`] reads: it stands at the start of
+/// `out`, and its length comes back.
+pub fn widen(file: &[u8], work: &mut [u32], out: &mut [u8]) -> Result<usize, Refusal> {
+    // SAFETY: as of `check`.
+    let number = unsafe { sigla_widen(file.as_ptr(), file.len(), work.as_mut_ptr(), work.len(), out.as_mut_ptr(), out.len()) };
+    Refusal::from_number(number).map_or_else(|| Ok(length(out)), Err)
+}
+
+/// A file of the wide edition in the narrow one; a number above 65,535 is [`Refusal::NumberTooWide`].
+pub fn narrow(file: &[u8], work: &mut [u32], out: &mut [u8]) -> Result<usize, Refusal> {
+    // SAFETY: as of `check`.
+    let number = unsafe { sigla_narrow(file.as_ptr(), file.len(), work.as_mut_ptr(), work.len(), out.as_mut_ptr(), out.len()) };
+    Refusal::from_number(number).map_or_else(|| Ok(length(out)), Err)
 }
 
 /// Types the queries of a file (docs/FORMAT.md). The answer's lines stand at the start of `answer`, and their length comes back; zeros
@@ -43,7 +67,7 @@ pub fn check(file: &[u8], work: &mut [u32], answer: &mut [u8]) -> Result<usize, 
     // overlaps another; the library keeps no pointer.
     let number = unsafe { sigla_check(file.as_ptr(), file.len(), work.as_mut_ptr(), work.len(), answer.as_mut_ptr(), answer.len()) };
     match Refusal::from_number(number) {
-        None => Ok(answer.iter().position(|&byte| byte == 0).unwrap_or(answer.len())),
+        None => Ok(length(answer)),
         Some(refusal) => Err(refusal),
     }
 }

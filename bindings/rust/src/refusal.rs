@@ -20,12 +20,16 @@ pub enum Refusal {
     TooManyVisits,
     AnswerTooLong,
     TooManyQueries,
+    NumberTooWide,
+    TallyTooLarge,
+    CeilingPassed,
+    OutsideTheRules,
     /// A number that this version of the crate has no name for.
     Other(u8),
 }
 
 /// Each number with its refusal and what it says.
-const REFUSALS: [(u8, Refusal, &str); 13] = [
+const REFUSALS: [(u8, Refusal, &str); 17] = [
     (1, Refusal::WorkTooShort, "the work slice has fewer than 16,384 words"),
     (2, Refusal::FileTooLong, "the file has more than 65,536 bytes"),
     (3, Refusal::MalformedLine, "a line is empty, odd, has another character, more than 512 bytes, or no LF"),
@@ -39,6 +43,10 @@ const REFUSALS: [(u8, Refusal, &str); 13] = [
     (11, Refusal::TooManyVisits, "a query needs more than 1,048,576 visits"),
     (12, Refusal::AnswerTooLong, "the answer is longer than the answer slice"),
     (13, Refusal::TooManyQueries, "there are more than 64 queries"),
+    (14, Refusal::NumberTooWide, "a predicate's number above 65,535 does not fit in the narrow edition"),
+    (15, Refusal::TallyTooLarge, "a total of the tally would pass 32 bits, or its remainder is over 999"),
+    (16, Refusal::CeilingPassed, "a query needs more visits than the desk's ceiling"),
+    (17, Refusal::OutsideTheRules, "the desk number or the group of desks is outside the rules"),
 ];
 
 impl Refusal {

@@ -142,9 +142,9 @@ put-in g h l = go g (view g) h l
     go g (a-node n p x q) h l =
         let k = subst (ExprFits narrow) q (h .2) in
         rw (node-place n p x q) (
-          ap (λ s. take 10 s ++ (0 ∷ 0 ∷ [] ++ drop 10 s)) (node-bytes narrow n p x q)
-          ∙ ap (λ s. 0x05 ∷ bytes₄ (n .span .start) ++ bytes₄ (n .span .end) ++ 0x0d ∷ s ++ bytes₂ x) (sym (low-bytes p (k .0)))
-          ∙ sym (node-bytes wide n p x q))
+        ap (λ s. take 10 s ++ (0 ∷ 0 ∷ [] ++ drop 10 s)) (node-bytes narrow n p x q)
+        ∙ ap (λ s. 0x05 ∷ bytes₄ (n .span .start) ++ bytes₄ (n .span .end) ++ 0x0d ∷ s ++ bytes₂ x) (sym (low-bytes p (k .0)))
+        ∙ sym (node-bytes wide n p x q))
     go g (plain y) h l = absurd (omega (arith, l, nowhere g (y .none)))
 
 pub take-out : (g : Frame) → Fits narrow g → 0 < placeOf g → take (placeOf g) (written wide g) ++ ([] ++ drop (placeOf g + 2) (written wide g)) ≡ written narrow g
@@ -155,8 +155,8 @@ take-out g h l = go g (view g) h l
     go g (a-type p) h l = rw (type-place p) refl
     go g (a-node n p x q) h l =
         rw (node-place n p x q) (
-          ap (λ s. take 10 s ++ ([] ++ drop 12 s)) (node-bytes wide n p x q)
-          ∙ sym (node-bytes narrow n p x q))
+        ap (λ s. take 10 s ++ ([] ++ drop 12 s)) (node-bytes wide n p x q)
+        ∙ sym (node-bytes narrow n p x q))
     go g (plain y) h l = absurd (omega (arith, l, nowhere g (y .none)))
 
 pub left-alone : (g : Frame) → placeOf g ≡ 0 → written wide g ≡ written narrow g

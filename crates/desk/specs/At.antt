@@ -10,7 +10,7 @@ use Rattle.cabinet.specs.Accounts.{ceilingIn, chargedTo}
 use Rattle.meaning.specs.Syntax.{Ast}
 use Rattle.meaning.specs.Schema.{Schema}
 use Rattle.meaning.specs.Refusal.{Refusal, workTooShort, tooManyVisits, ceilingPassed}
-use Rattle.meaning.specs.File.{Reading, refused, described, reading}
+use Rattle.meaning.specs.File.{Reading, refused, described, readingOf, reading}
 use Rattle.meaning.specs.Check.{Typed, Checked, typed, exhausted, check}
 use Rattle.meaning.specs.Diag.{Message}
 use Rattle.meaning.specs.Messages.{textIn}
@@ -61,7 +61,7 @@ decideReadAt (refused i) a = record { account = a; decided = turnedDown i }
 decideReadAt (described f) a = record { account = runAt (f .schema) (f .queries) a .account; decided = decideEnd (textIn f) (runAt (f .schema) (f .queries) a .end) }
 
 unfoldable pub decideAt : List ℕ → ℕ → Account → Settles
-unfolding decideReadAt reading minWords
+unfolding decideReadAt readingOf minWords
 decideAt file words a = elim (ltb words minWords) [ true ↦ record { account = a; decided = turnedDown workTooShort } | false ↦ decideReadAt (reading file) a ]
 
 abbrev pub deskAccount : Group → ℕ → Account

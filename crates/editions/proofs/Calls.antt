@@ -189,8 +189,8 @@ narrow-converts file words bytes = converts words bytes (outcomeNarrow file word
     read h (described d) e = cases (someAbove (framesIn wide file))
         (λ a. let r = NarrowRefused.for-number d h e (in-frames (framesIn wide file) (some-above (flatMap predicates (framesIn wide file)) a)) in refuses numberTooWide r (back numberTooWide r))
         (λ a. cases (ltb bytes (length (narrowed file)))
-            (λ q. let r = NarrowRefused.for-output d h e a (ltb-true bytes (length (narrowed file)) q) in refuses answerTooLong r (back answerTooLong r))
-            (λ q. let l = ltb-false bytes (length (narrowed file)) q in accepts l (so-ends (narrow-answered file words d h e a) (fitting (narrowed file) words bytes l))))
+        (λ q. let r = NarrowRefused.for-output d h e a (ltb-true bytes (length (narrowed file)) q) in refuses answerTooLong r (back answerTooLong r))
+        (λ q. let l = ltb-false bytes (length (narrowed file)) q in accepts l (so-ends (narrow-answered file words d h e a) (fitting (narrowed file) words bytes l))))
 
     ends : Ends words bytes (outcomeNarrow file words bytes) (NarrowRefused file words bytes) (narrowed file)
     ends = cases (ltb words minWords)
@@ -205,8 +205,7 @@ pub calls-out-and-back : (file : List ℕ) (d : Form) (words bytes bytes′ : �
 unfolding outcomeWiden outcomeNarrow
 calls-out-and-back file d words bytes bytes′ h e small fits fits′ =
     let s = widened-says file d (says-exactly narrow file d .0 e) small in
-    let r = says-exactly wide (widened file) d .1 (s .says) in
-    (
+    let r = says-exactly wide (widened file) d .1 (s .says) in (
       ap (λ x. finish x words bytes) (widen-answered file words d h e) ∙ fitting (widened file) words bytes fits,
       ap (λ x. finish x words bytes′) (narrow-answered (widened file) words d h r (widened-low file d e) ∙ ap answered (out-and-back file d e)) ∙ fitting file words bytes′ fits′,
     )
@@ -217,8 +216,7 @@ pub calls-back-and-out : (file : List ℕ) (d : Form) (words bytes bytes′ : �
 unfolding outcomeWiden outcomeNarrow
 calls-back-and-out file d words bytes bytes′ h e low fits fits′ =
     let s = narrowed-says file d (says-exactly wide file d .0 e) low in
-    let r = says-exactly narrow (narrowed file) d .1 (s .says) in
-    (
+    let r = says-exactly narrow (narrowed file) d .1 (s .says) in (
       ap (λ x. finish x words bytes) (narrow-answered file words d h e low) ∙ fitting (narrowed file) words bytes fits,
       ap (λ x. finish x words bytes′) (widen-answered (narrowed file) words d h r ∙ ap answered (back-and-out file d e low)) ∙ fitting file words bytes′ fits′,
     )

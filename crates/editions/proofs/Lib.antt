@@ -1,4 +1,3 @@
 pub mod Views
 pub mod Same
-
 pub mod Calls

@@ -1,9 +1,12 @@
--- What the functions of src/ promise: what is printed for a file is what the definition prints (`printed` of meaning/specs/Outcome.antt).
+-- What the functions of src/ promise: what is printed for a file is what the definition prints (`printedLines` of meaning/specs/Outcome.antt).
 use mathlib.Core.List.{List, _++_}
 use mathlib.Core.Path.{_≡_}
 use Prim.Native.Nat.{ℕ, _-_, _≤_}
 use lib.ListN.{length, replicate}
-use Rattle.meaning.specs.Outcome.{minWords, printed}
+use Rattle.meaning.specs.Outcome.{Decided, minWords, decide, printedLines}
+use Rattle.editions.specs.Converted.{decideWiden, decideNarrow}
+use Rattle.program.specs.declared.Job.{Job}
+use Rattle.program.specs.declared.Job.the-variants as Job
 use Rattle.program.specs.declared.Input.{Input}
 use Rattle.program.specs.declared.Input.the-variants as Input
 
@@ -12,8 +15,16 @@ abbrev pub Within : ℕ → Input → Type 0
 Within most (Input.Bytes n) = n ≤ most
 Within most Input.Failed = Unit {0}
 
--- It stands at the start of the answer slice, and zeros after it; r is its length; the work slice is zero throughout.
-pub record Prints (f w′ out′ : List ℕ) (r : ℕ) : Type 0 where
-  pub long : r ≡ length (printed f)
-  pub out : out′ ≡ printed f ++ replicate (65536 - r) 0
+-- What is decided of a file by the program's job, with the words that it lends.
+unfoldable pub decidedBy : Job → List ℕ → Decided
+unfolding minWords decide decideWiden decideNarrow
+decidedBy Job.Check f = decide f minWords
+decidedBy Job.Widen f = decideWiden f minWords
+decidedBy Job.Narrow f = decideNarrow f minWords
+
+-- What the definition prints of it stands at the start of the answer slice, and zeros after it; r is its length; the work slice is zero
+-- throughout.
+pub record Prints (x : Decided) (w′ out′ : List ℕ) (r : ℕ) : Type 0 where
+  pub long : r ≡ length (printedLines x 65536)
+  pub out : out′ ≡ printedLines x 65536 ++ replicate (65536 - r) 0
   pub work : w′ ≡ replicate minWords 0

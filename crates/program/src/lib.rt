@@ -1,8 +1,17 @@
-// The program but for its `main`: what is printed for a file, and the reading and writing around it.
+// The programs but for their `main`: what is printed for a file, and the reading and writing around it.
+ghost use mathlib.Core.Path.{_≡_};
 ghost use Prim.Native.Nat.{_≤_};
 ghost use lib.ListN.{length};
-ghost use Rattle.program.specs.Contracts.{Within, Prints};
+ghost use Rattle.desk.specs.Contracts.{Finishes};
+ghost use Rattle.program.specs.Contracts.{Within, decidedBy, Prints};
 use desk::Outcome;
+
+// What a program does with its file.
+pub enum Job {
+    Check,
+    Widen,
+    Narrow,
+}
 
 // How many bytes of the input stand at the start of a slice; or a read failed, and the slice holds anything.
 pub enum Input {
@@ -30,12 +39,22 @@ fn read_input(into: &mut [u8]) -> Input
     Input::Bytes(n)
 }
 
+fn done(job: Job, file: &[u8], work: &mut [u32; 16384], out: &mut [u8; 65536]) -> Outcome
+    ensures { λ r. ⌜ Finishes (decidedBy job (now (file .entry))) (now (work .entry)) (now (out .entry)) (now (work .exit)) (now (out .exit)) r ⌝ }
+{
+    match job {
+        Job::Check => desk::check_file(file, work, out),
+        Job::Widen => converters::widen(file, work, out),
+        Job::Narrow => converters::narrow(file, work, out),
+    }
+}
+
 // What is to be printed for the file stands at the start of `out`, and how long it is comes back.
-pub fn printed(file: &[u8], work: &mut [u32; 16384], out: &mut [u8; 65536]) -> usize
-    ensures { λ r. ⌜ Prints (now (file .entry)) (now (work .exit)) (now (out .exit)) r ⌝ }
+pub fn printed(job: Job, file: &[u8], work: &mut [u32; 16384], out: &mut [u8; 65536]) -> usize
+    ensures { λ r. ⌜ Prints (decidedBy job (now (file .entry))) (now (work .exit)) (now (out .exit)) r ⌝ }
     ensures { λ r. ⌜ r ≤ length (now (out .exit)) ⌝ }
 {
-    let r = desk::check_file(file, work, out);
+    let r = done(job, file, work, out);
     match r {
         Outcome::Accepted(n) => n,
         Outcome::Refused(e) => {
@@ -46,7 +65,7 @@ pub fn printed(file: &[u8], work: &mut [u32; 16384], out: &mut [u8; 65536]) -> u
 }
 
 // One byte more is read than a file may have, so that a longer input is refused.
-pub fn run() {
+pub fn run(job: Job) {
     let mut input = [0u8; 65537];
     let mut work = [0u32; 16384];
     let mut out = [0u8; 65536];
@@ -55,15 +74,15 @@ pub fn run() {
         Input::Failed => {
             io::write_all(
                 libc::STDERR_FILENO,
-                b"sigla: reading standard input failed\n",
+                b"reading standard input failed\n",
             );
         }
         Input::Bytes(n) => {
-            let m = printed(&input[0..n], &mut work, &mut out);
+            let m = printed(job, &input[0..n], &mut work, &mut out);
             if !io::write_all(libc::STDOUT_FILENO, &out[0..m]) {
                 io::write_all(
                     libc::STDERR_FILENO,
-                    b"sigla: writing standard output failed\n",
+                    b"writing standard output failed\n",
                 );
             }
         }

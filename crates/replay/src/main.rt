@@ -1,5 +1,7 @@
 // Replays the recorded answers that stand on standard input (README.md has their layout): each file is checked, and
 // what the program prints for it is held against what was recorded.
+use program::Job;
+
 // A part's length, or the input ends here or is no sample: a part is shorter than 2,048 bytes.
 enum Part {
     Bytes(usize),
@@ -24,7 +26,7 @@ fn read_part(into: &mut [u8]) -> Part {
 
 // Whether the program prints this for the file.
 fn answers(file: &[u8], printed: &[u8], work: &mut [u32; 16384], out: &mut [u8; 65536]) -> bool {
-    let n = program::printed(file, work, out);
+    let n = program::printed(Job::Check, file, work, out);
     let all: &[u8] = out;
     check::same(&all[0..n], printed)
 }

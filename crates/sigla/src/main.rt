@@ -1,4 +1,6 @@
 // Reads standard input, and prints the answer or the refusal.
+use program::Job;
+
 fn main() {
-    program::run();
+    program::run(Job::Check);
 }

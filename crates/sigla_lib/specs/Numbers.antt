@@ -1,4 +1,5 @@
--- How an outcome goes as a number: 0, or document 01's number of the refusal.
+-- How an outcome goes as a number: 0, or the number of the refusal. A group goes as fifty words, a tally as three (ledger/specs/Words.antt).
+use mathlib.Core.Bool.{Bool, true, false}
 use mathlib.Core.List.{List}
 use mathlib.Core.Path.{_≡_}
 use Prim.Native.Nat.{ℕ}
@@ -6,7 +7,16 @@ use Rattle.meaning.specs.Refusal.{number}
 use Rattle.reading.specs.Contracts.{refusal}
 use Rattle.desk.specs.declared.Outcome.{Outcome}
 use Rattle.desk.specs.declared.Outcome.the-variants as Outcome
-use Rattle.desk.specs.Contracts.{ChecksFile}
+use Rattle.desk.specs.declared.Desked.{Desked}
+use Rattle.desk.specs.Contracts.{ChecksFile, ChecksAt}
+use Rattle.converters.specs.Contracts.{Widens, Narrows}
+use Rattle.tariff.specs.declared.Tallied.{Tallied}
+use Rattle.tariff.specs.Tariff.{Adds}
+use Rattle.cabinet.specs.declared.Changed.{Changed}
+use Rattle.cabinet.specs.declared.Allowance.{Allowance}
+use Rattle.cabinet.specs.declared.Allowance.the-variants as Allowance
+use Rattle.cabinet.specs.Contracts.{SetsUp, Ceils, Rests}
+use Rattle.ledger.specs.Words.{groupOf, groupWords, tallyOf, tallyWords}
 
 abbrev pub outcomeNumber : Outcome → ℕ
 outcomeNumber (Outcome.Accepted n) = 0
@@ -16,3 +26,56 @@ pub record CallsCheck (f w out w′ out′ : List ℕ) (r : ℕ) : Type 0 where
   pub outcome : Outcome
   pub checks : ChecksFile f w out w′ out′ outcome
   pub number : r ≡ outcomeNumber outcome
+
+pub record CallsWiden (f w out w′ out′ : List ℕ) (r : ℕ) : Type 0 where
+  pub outcome : Outcome
+  pub widens : Widens f w out w′ out′ outcome
+  pub number : r ≡ outcomeNumber outcome
+
+pub record CallsNarrow (f w out w′ out′ : List ℕ) (r : ℕ) : Type 0 where
+  pub outcome : Outcome
+  pub narrows : Narrows f w out w′ out′ outcome
+  pub number : r ≡ outcomeNumber outcome
+
+-- This number where a call was refused.
+abbrev pub orElse : Bool → ℕ → ℕ
+orElse true n = n
+orElse false n = 0
+
+pub record CallsTally (t : List ℕ) (visits price : ℕ) (t′ : List ℕ) (r : ℕ) : Type 0 where
+  pub tallied : Tallied
+  pub adds : Adds (tallyOf t) visits price tallied
+  pub words : t′ ≡ tallyWords (tallied .tally)
+  pub number : r ≡ orElse (tallied .refused) 15
+
+pub record CallsSetUp (pool : ℕ) (shares caps g′ : List ℕ) (r : ℕ) : Type 0 where
+  pub changed : Changed
+  pub sets-up : SetsUp pool shares caps changed
+  pub words : g′ ≡ groupWords (changed .group)
+  pub number : r ≡ orElse (changed .refused) 17
+
+abbrev pub visitsIn : Allowance → ℕ
+visitsIn (Allowance.Visits n) = n
+visitsIn Allowance.Refused = 0
+
+abbrev pub allowanceNumber : Allowance → ℕ
+allowanceNumber (Allowance.Visits n) = 0
+allowanceNumber Allowance.Refused = 17
+
+pub record CallsCeiling (g : List ℕ) (d v′ r : ℕ) : Type 0 where
+  pub allowance : Allowance
+  pub ceils : Ceils (groupOf g) d allowance
+  pub visits : v′ ≡ visitsIn allowance
+  pub number : r ≡ allowanceNumber allowance
+
+pub record CallsNewDay (g g′ : List ℕ) (r : ℕ) : Type 0 where
+  pub changed : Changed
+  pub rests : Rests (groupOf g) changed
+  pub words : g′ ≡ groupWords (changed .group)
+  pub number : r ≡ orElse (changed .refused) 17
+
+pub record CallsCheckAt (g : List ℕ) (d : ℕ) (f w out g′ w′ out′ : List ℕ) (r : ℕ) : Type 0 where
+  pub desked : Desked
+  pub checks : ChecksAt (groupOf g) d f w out w′ out′ desked
+  pub words : g′ ≡ groupWords (desked .group)
+  pub number : r ≡ outcomeNumber (desked .outcome)

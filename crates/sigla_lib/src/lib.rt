@@ -1,15 +1,125 @@
-// The call for programs in other languages: every slice goes as a pointer and a length.
-ghost use Rattle.sigla_lib.specs.Numbers.{CallsCheck};
+// The calls for programs in other languages: every slice goes as a pointer and a length, an array as a pointer. Each gives back 0, or the
+// number of the refusal.
+ghost use Rattle.sigla_lib.specs.Numbers.{CallsCheck, CallsWiden, CallsNarrow, CallsTally, CallsSetUp, CallsCeiling, CallsNewDay, CallsCheckAt, outcomeNumber};
+ghost use mathlib.Core.Path.{_≡_};
+use cabinet::Allowance;
 use desk::Outcome;
+use reading::Refusal;
 
-// 0 where the file is accepted: the answer stands in `out` up to the first zero byte. Else the refusal's number.
-#[no_mangle]
-pub extern "C" fn sigla_check(file: &[u8], work: &mut [u32], out: &mut [u8]) -> u8
-    ensures { λ r. ⌜ CallsCheck (now (file .entry)) (now (work .entry)) (now (out .entry)) (now (work .exit)) (now (out .exit)) r ⌝ }
+fn number(r: Outcome) -> u8
+    ensures { λ n. ⌜ n ≡ outcomeNumber r ⌝ }
 {
-    let r = desk::check_file(file, work, out);
     match r {
         Outcome::Accepted(_) => 0,
         Outcome::Refused(e) => desk::refusal_number(e),
     }
+}
+
+// The answer stands in `out` up to the first zero byte.
+#[no_mangle]
+pub extern "C" fn sigla_check(file: &[u8], work: &mut [u32], out: &mut [u8]) -> u8
+    ensures { λ r. ⌜ CallsCheck (now (file .entry)) (now (work .entry)) (now (out .entry)) (now (work .exit)) (now (out .exit)) r ⌝ }
+{
+    number(desk::check_file(file, work, out))
+}
+
+// ---- The two editions
+
+// A file of the narrow edition into the wide one, which stands in `out` up to the first zero byte.
+#[no_mangle]
+pub extern "C" fn sigla_widen(file: &[u8], work: &mut [u32], out: &mut [u8]) -> u8
+    ensures { λ r. ⌜ CallsWiden (now (file .entry)) (now (work .entry)) (now (out .entry)) (now (work .exit)) (now (out .exit)) r ⌝ }
+{
+    number(converters::widen(file, work, out))
+}
+
+// And back.
+#[no_mangle]
+pub extern "C" fn sigla_narrow(file: &[u8], work: &mut [u32], out: &mut [u8]) -> u8
+    ensures { λ r. ⌜ CallsNarrow (now (file .entry)) (now (work .entry)) (now (out .entry)) (now (work .exit)) (now (out .exit)) r ⌝ }
+{
+    number(converters::narrow(file, work, out))
+}
+
+// ---- The capture tariff
+
+// A query's visits at its price join the tally.
+#[no_mangle]
+pub extern "C" fn sigla_tally(tally: &mut [u32; 3], visits: u32, price: u16) -> u8
+    ensures { λ r. ⌜ CallsTally (now (tally .entry)) visits price (now (tally .exit)) r ⌝ }
+{
+    let t = tariff::add(ledger::tally(tally), visits, price);
+    ledger::put_tally(tally, t.tally);
+    if t.refused {
+        desk::refusal_number(Refusal::TallyTooLarge)
+    } else {
+        0
+    }
+}
+
+// ---- The desks of a cabinet
+
+#[no_mangle]
+pub extern "C" fn sigla_set_up(
+    group: &mut [u32; 50],
+    pool: u32,
+    shares: &[u32],
+    caps: &[u32],
+) -> u8
+    ensures { λ r. ⌜ CallsSetUp pool (now (shares .entry)) (now (caps .entry)) (now (group .exit)) r ⌝ }
+{
+    let c = cabinet::setup(pool, shares, caps);
+    ledger::put_group(group, c.group);
+    if c.refused {
+        desk::refusal_number(Refusal::OutsideTheRules)
+    } else {
+        0
+    }
+}
+
+// The visits that a desk may make now.
+#[no_mangle]
+pub extern "C" fn sigla_ceiling(group: &[u32; 50], desk: usize, visits: &mut u32) -> u8
+    ensures { λ r. ⌜ CallsCeiling (now (group .entry)) desk (now (visits .exit)) r ⌝ }
+{
+    let a = cabinet::ceiling(ledger::group(group), desk);
+    match a {
+        Allowance::Visits(n) => {
+            *visits = n;
+            0
+        }
+        Allowance::Refused => {
+            *visits = 0;
+            desk::refusal_number(Refusal::OutsideTheRules)
+        }
+    }
+}
+
+#[no_mangle]
+pub extern "C" fn sigla_new_day(group: &mut [u32; 50]) -> u8
+    ensures { λ r. ⌜ CallsNewDay (now (group .entry)) (now (group .exit)) r ⌝ }
+{
+    let c = cabinet::new_day(ledger::group(group));
+    ledger::put_group(group, c.group);
+    if c.refused {
+        desk::refusal_number(Refusal::OutsideTheRules)
+    } else {
+        0
+    }
+}
+
+// As `sigla_check`, at a desk, which is charged for the visits.
+#[no_mangle]
+pub extern "C" fn sigla_check_at(
+    group: &mut [u32; 50],
+    desk: usize,
+    file: &[u8],
+    work: &mut [u32],
+    out: &mut [u8],
+) -> u8
+    ensures { λ r. ⌜ CallsCheckAt (now (group .entry)) desk (now (file .entry)) (now (work .entry)) (now (out .entry)) (now (group .exit)) (now (work .exit)) (now (out .exit)) r ⌝ }
+{
+    let d = desk::check_at(ledger::group(group), desk, file, work, out);
+    ledger::put_group(group, d.group);
+    number(d.outcome)
 }

@@ -1,4 +1,4 @@
--- Made from Proof.ans by tools/answers, 2158532314f7a93d b2605cc8283795d1.
+-- Made from Proof.ans by tools/answers, 01f3598b7e082e0a e19d132579cc4082.
 -- `desk::refusal_number` meets its contract: each arm is one row of the table.
 use borrow.Author.Needs.{needs}
 use Rattle.desk.proofs.refusal_number.Statement.{statement}
@@ -74,10 +74,15 @@ returns-16 : tie.Need-returns-16
 unfolding Refused.number
 returns-16 c = sym (ap (λ e. Refused.number (refusal e)) (c .enum-told16 .given .1))
 
+returns-17 : tie.Need-returns-17
+unfolding Refused.number
+returns-17 c = sym (ap (λ e. Refused.number (refusal e)) (c .enum-told17 .given .1))
+
 pub refusal-number-spec : {M : Type 1} → statement M
 refusal-number-spec =
     tie.close
     (tie.spec
+    (λ c. search needs)
     (λ c. search needs)
     (λ c. search needs)
     (λ c. search needs)
@@ -109,4 +114,5 @@ refusal-number-spec =
     returns-13
     returns-14
     returns-15
-    returns-16)
+    returns-16
+    returns-17)

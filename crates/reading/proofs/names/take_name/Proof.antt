@@ -27,7 +27,7 @@ take-name-spec =
     (λ c. search needs)
     (λ c. record { is = λ e. name-given e _ _ (c .before .before .before .before .before .before .before .before .before .before .before .args .s .now) _ _ _ (text-whole (c .before .before .before .before .before .before .before .before .before .before .before .args .s .now) _ (c .before .before .before .before .before .before .characters .ensures) _ (c .before .before .before .before .got .given .1)) (rw (c .if1 .taken) at (c .before .given-before .ensures)) })
     (λ c κs. search needs)
-    (λ c κs. 
+    (λ c κs.
     let few = few-characters (c .before .before .before .before .before .before .before .before .before .before .before .before .before .args .s .now) _ (text-whole (c .before .before .before .before .before .before .before .before .before .before .before .before .before .args .s .now) _ (c .before .before .before .before .before .before .before .before .characters .ensures) _ (c .before .before .before .before .before .before .got .given .1)) (c .before .before .before .before .before .before .before .before .before .before .before .before .before .pre .2) (c .before .before .before .before .before .before .before .before .before .before .before .before .before .pre .3) in
     (c .before .before .before .before .before .before .before .before .before .before .before .before .before .pre .0, few, c .before .before .before .before .before .before .before .before .before .before .before .before .before .pre .1))
     (λ c. record { is = λ e. name-broken e _ _ (c .before .before .before .before .before .before .before .args .s .now) _ _ (text-broken (c .before .before .before .before .before .before .before .args .s .now) _ (c .before .before .characters .ensures) (c .enum-told .given .1)) })

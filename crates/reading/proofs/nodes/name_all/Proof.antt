@@ -54,12 +54,12 @@ name-all-spec =
     (λ c. all-subquery _ (c .before .before .before .before .before .before .before .before .before .before .before .before .before .before .args .s .now) _ _ _ (c .before .before .before .before .before .before .before .before .before .before .before .before .before .before .pre .0) (sym (c .before .before .before .before .before .before .before .before .before .before .before .byte .ensures .0) ∙ c .before .before .before .before .before .before .before .before .before .before .match .keys6) _ (rw (not-false (c .before .before .before .before .before .before .before .name-node3 .result) (c .before .before .before .before .if2 .left), c .before .before .before .before .before .before .before .before .half4 .ensures .0) at (c .before .before .before .before .before .before .before .name-node3 .ensures)) _ _ (c .before .before .name-statements .ensures))
     (λ c. search needs)
     (λ c. all-fact _ (c .before .before .before .before .before .before .before .before .before .before .args .s .now) _ _ _ (c .before .before .before .before .before .before .before .before .before .before .pre .0) (sym (c .before .before .before .before .before .before .before .byte .ensures .0) ∙ c .before .before .before .before .before .before .match .keys7) _ (c .before .before .before .before .reference-size .ensures .0) _ _ (rw (c .before .before .before .half5 .ensures .0) at (c .before .before .name-node4 .ensures)))
-    (λ c. 
+    (λ c.
     let p = rw (c .before .before .byte .ensures .0) at (c .before .match .rest) in
     all-none _ (c .before .before .before .before .before .args .s .now) _ _ _ (c .before .before .before .before .before .pre .0) (p .0 .0 .0 .0 .0 .0 .1) (inl (rw (c .before .before .byte .ensures .0) at (c .if3 .taken))) (p .0 .0 .0 .0 .0 .1) (p .0 .0 .0 .0 .1) (p .0 .0 .0 .1) (p .0 .0 .1) (p .0 .1) (p .1))
-    (λ c. 
+    (λ c.
     let p = rw (c .before .before .before .byte .ensures .0) at (c .before .before .match .rest) in
     all-none _ (c .before .before .before .before .before .before .args .s .now) _ _ _ (c .before .before .before .before .before .before .pre .0) (p .0 .0 .0 .0 .0 .0 .1) (inr (rw (c .before .before .before .byte .ensures .0) at (c .if4 .left))) (p .0 .0 .0 .0 .0 .1) (p .0 .0 .0 .0 .1) (p .0 .0 .0 .1) (p .0 .0 .1) (p .0 .1) (p .1))
-    (λ c. 
+    (λ c.
     all-names _ (c .before .before .before .before .before .args .s .now) _ _ _ (c .before .before .before .before .before .pre .0)
     (⊎-elim (λ w. inl (sym (c .before .before .byte .ensures .0) ∙ w .keys1)) (λ w. inr (six-or-seven _ (rw (c .before .before .byte .ensures .0) at (w .1 .left)) (rw (c .before .before .byte .ensures .0) at (w .2 .taken)))) (c .before .match .came)) _ (ap (λ n. ltb n (c .before .before .before .before .before .args .c .names)) (c .half6 .ensures .0))))

@@ -24,13 +24,17 @@ take-predicate-spec =
     (λ c κs. search needs)
     (λ c κs. search needs)
     (λ c. search needs)
-    (λ c. record { is = λ e. predicate-takes e (c .before .before .before .before .before .before .before .before .before .before .before .before .before .before .args .s .now) _ _ (c .before .before .before .before .before .before .before .before .before .before .before .before .before .before .pre .0) none (value-none (c .before .before .before .before .before .before .before .before .before .before .before .before .before .before .args .s .now) (sym (c .before .before .before .before .before .before .before .before .before .before .before .read-predicate .ensures .flag) ∙ c .before .before .before .before .if3 .taken))
-    (none-there e (c .before .before .before .before .before .before .before .before .before .before .before .before .before .before .args .s .now) (c .before .before .before .before .before .before .before .before .before .before .before .before .before .before .args .w .now) (c .before .before .before .before .before .before .before .before .before .before .before .before .before .before .args .c) (c .before .before .before .before .before .before .before .before .before .before .before .before .before .before .pre .0) (rw (c .before .before .before .before .before .before .before .before .before .before .before .read-predicate .ensures .name) at (c .before .before .before .before .before .before .before .before .before .if1 .left)) (rw (c .before .before .before .before .before .before .before .before .before .before .before .read-predicate .ensures .key) at (c .before .before .before .before .before .before .before .if2 .left))) _ _ _
-    (omega (arith, c .before .before .before .before .before .before .before .before .before .before .before .read-predicate .ensures .name, c .before .before .before .before .before .before .before .before .before .before .before .read-predicate .ensures .key, c .before .before .before .before .before .before .predicate-word .ensures)) (c .before .before .add-predicate .ensures) })
+    (λ c. record {
+      is = λ e. predicate-takes e (c .before .before .before .before .before .before .before .before .before .before .before .before .before .before .args .s .now) _ _ (c .before .before .before .before .before .before .before .before .before .before .before .before .before .before .pre .0) none (value-none (c .before .before .before .before .before .before .before .before .before .before .before .before .before .before .args .s .now) (sym (c .before .before .before .before .before .before .before .before .before .before .before .read-predicate .ensures .flag) ∙ c .before .before .before .before .if3 .taken))
+          (none-there e (c .before .before .before .before .before .before .before .before .before .before .before .before .before .before .args .s .now) (c .before .before .before .before .before .before .before .before .before .before .before .before .before .before .args .w .now) (c .before .before .before .before .before .before .before .before .before .before .before .before .before .before .args .c) (c .before .before .before .before .before .before .before .before .before .before .before .before .before .before .pre .0) (rw (c .before .before .before .before .before .before .before .before .before .before .before .read-predicate .ensures .name) at (c .before .before .before .before .before .before .before .before .before .if1 .left)) (rw (c .before .before .before .before .before .before .before .before .before .before .before .read-predicate .ensures .key) at (c .before .before .before .before .before .before .before .if2 .left))) _ _ _
+          (omega (arith, c .before .before .before .before .before .before .before .before .before .before .before .read-predicate .ensures .name, c .before .before .before .before .before .before .before .before .before .before .before .read-predicate .ensures .key, c .before .before .before .before .before .before .predicate-word .ensures)) (c .before .before .add-predicate .ensures);
+    })
     (λ c. record { is = λ e. predicate-bad e (c .before .before .before .before .before .before .before .before .before .before .before .before .args .s .now) _ _ (c .before .before .before .before .before .before .before .before .before .before .before .before .pre .0) (λ v a. no-value e (c .before .before .before .before .before .before .before .before .before .before .before .before .args .s .now) (c .before .before .before .before .before .before .before .before .before .before .before .before .args .w .now) (c .before .before .before .before .before .before .before .before .before .before .before .before .args .c) (c .before .before .before .before .before .before .before .before .before .before .before .before .pre .0) (λ q. c .before .before .if3 .left (c .before .before .before .before .before .before .before .before .before .read-predicate .ensures .flag ∙ q)) (rw (c .before .before .before .before .before .before .before .before .before .read-predicate .ensures .value) at (c .if4 .taken)) v a) })
     (λ c κs. search needs)
     (λ c κs. search needs)
     (λ c. search needs)
-    (λ c. record { is = λ e. predicate-takes e (c .before .before .before .before .before .before .before .before .before .before .before .before .before .before .before .before .before .args .s .now) _ _ (c .before .before .before .before .before .before .before .before .before .before .before .before .before .before .before .before .before .pre .0) _ (value-some (c .before .before .before .before .before .before .before .before .before .before .before .before .before .before .before .before .before .args .s .now) (λ q. c .before .before .before .before .before .before .before .if3 .left (c .before .before .before .before .before .before .before .before .before .before .before .before .before .before .read-predicate .ensures .flag ∙ q)))
-    (some-there e (c .before .before .before .before .before .before .before .before .before .before .before .before .before .before .before .before .before .args .s .now) (c .before .before .before .before .before .before .before .before .before .before .before .before .before .before .before .before .before .args .w .now) (c .before .before .before .before .before .before .before .before .before .before .before .before .before .before .before .before .before .args .c) (c .before .before .before .before .before .before .before .before .before .before .before .before .before .before .before .before .before .pre .0) (rw (c .before .before .before .before .before .before .before .before .before .before .before .before .before .before .read-predicate .ensures .name) at (c .before .before .before .before .before .before .before .before .before .before .before .before .if1 .left)) (rw (c .before .before .before .before .before .before .before .before .before .before .before .before .before .before .read-predicate .ensures .key) at (c .before .before .before .before .before .before .before .before .before .before .if2 .left)) (rw (c .before .before .before .before .before .before .before .before .before .before .before .before .before .before .read-predicate .ensures .value) at (c .before .before .before .before .before .if4 .left))) _ _ _
-    (omega (arith, c .before .before .before .before .before .before .before .before .before .before .before .before .before .before .read-predicate .ensures .name, c .before .before .before .before .before .before .before .before .before .before .before .before .before .before .read-predicate .ensures .key, c .before .before .before .before .before .before .before .before .before .before .before .before .before .before .read-predicate .ensures .value, c .before .before .before .before .before .before .before .before .before .predicate-word .ensures, c .before .before .before .with-value .ensures)) (c .before .before .add-predicate2 .ensures) }))
+    (λ c. record {
+      is = λ e. predicate-takes e (c .before .before .before .before .before .before .before .before .before .before .before .before .before .before .before .before .before .args .s .now) _ _ (c .before .before .before .before .before .before .before .before .before .before .before .before .before .before .before .before .before .pre .0) _ (value-some (c .before .before .before .before .before .before .before .before .before .before .before .before .before .before .before .before .before .args .s .now) (λ q. c .before .before .before .before .before .before .before .if3 .left (c .before .before .before .before .before .before .before .before .before .before .before .before .before .before .read-predicate .ensures .flag ∙ q)))
+          (some-there e (c .before .before .before .before .before .before .before .before .before .before .before .before .before .before .before .before .before .args .s .now) (c .before .before .before .before .before .before .before .before .before .before .before .before .before .before .before .before .before .args .w .now) (c .before .before .before .before .before .before .before .before .before .before .before .before .before .before .before .before .before .args .c) (c .before .before .before .before .before .before .before .before .before .before .before .before .before .before .before .before .before .pre .0) (rw (c .before .before .before .before .before .before .before .before .before .before .before .before .before .before .read-predicate .ensures .name) at (c .before .before .before .before .before .before .before .before .before .before .before .before .if1 .left)) (rw (c .before .before .before .before .before .before .before .before .before .before .before .before .before .before .read-predicate .ensures .key) at (c .before .before .before .before .before .before .before .before .before .before .if2 .left)) (rw (c .before .before .before .before .before .before .before .before .before .before .before .before .before .before .read-predicate .ensures .value) at (c .before .before .before .before .before .if4 .left))) _ _ _
+          (omega (arith, c .before .before .before .before .before .before .before .before .before .before .before .before .before .before .read-predicate .ensures .name, c .before .before .before .before .before .before .before .before .before .before .before .before .before .before .read-predicate .ensures .key, c .before .before .before .before .before .before .before .before .before .before .before .before .before .before .read-predicate .ensures .value, c .before .before .before .before .before .before .before .before .before .predicate-word .ensures, c .before .before .before .with-value .ensures)) (c .before .before .add-predicate2 .ensures);
+    }))
