@@ -7,3 +7,4 @@ mod Lining
 pub mod Demands
 pub mod Days
 pub mod Calls
+pub mod Desks

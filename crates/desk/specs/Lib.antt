@@ -4,3 +4,4 @@ pub mod Contracts
 pub mod Demands
 pub mod Days
 pub mod Calls
+pub mod Desks

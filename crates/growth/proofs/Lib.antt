@@ -3,3 +3,4 @@ pub mod Absent
 pub mod Walking
 pub mod Telling
 pub mod Promise
+mod Examples

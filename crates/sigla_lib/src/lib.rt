@@ -130,6 +130,8 @@ pub extern "C" fn sigla_check_at(
     ensures { λ r. ⌜ CallsCheckAt (now (group .entry)) desk (now (file .entry)) (now (work .entry)) (now (out .entry)) (now (group .exit)) (now (work .exit)) (now (out .exit)) r ⌝ }
 {
     let d = desk::check_at(ledger::group(group), desk, file, work, out);
-    ledger::put_group(group, d.group);
-    number(d.outcome)
+    let after = d.group;
+    let r = d.outcome;
+    ledger::put_group(group, after);
+    number(r)
 }
