@@ -185,7 +185,11 @@ module _ (least : ℕ) where
       go g (a-type p) h l = rw (type-place p) (ap (leb least) (four-bytes p h) ∙ one-passes (leb least) p)
       go g (a-node n p x q) h l =
           let k = subst (ExprFits wide) q (h .2) in
-          rw (node-place n p x q) (ap (λ s. leb least (fullW s 10)) (node-bytes wide n p x q) ∙ ap (leb least) (four-bytes p (k .0)) ∙ one-passes (leb least) p ∙ ap (λ y. anyOf (leb least) (exprPredicates y)) (sym q))
+          rw (node-place n p x q) (
+          ap (λ s. leb least (fullW s 10)) (node-bytes wide n p x q)
+          ∙ ap (leb least) (four-bytes p (k .0))
+          ∙ one-passes (leb least) p
+          ∙ ap (λ y. anyOf (leb least) (exprPredicates y)) (sym q))
       go g (plain y) h l = absurd (omega (arith, l, nowhere g (y .none)))
 
   pub no-number : (g : Frame) → placeOf g ≡ 0 → false ≡ anyOf (leb least) (predicates g)

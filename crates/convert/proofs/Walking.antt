@@ -181,16 +181,28 @@ module _ {f : List ℕ} {least at : ℕ} (c : Seeking f least at) where
   seeking-done l = record { is = λ fs a. let k = c .left fs a in sym (k .2 ∙ ap found (at-end wide f at l (k .0) (k .1))) }
 
   module _ {line : List ℕ} {n next : ℕ} (d : Holds f at line n next) {r : Bool} (w : NamesFrom (take (n - 0) line) least r) where
+    -- what the line names
+    on-line : {fs : List Frame} (i : First wide f line n next fs) → r ≡ anyOf (leb least) (predicates (i .first))
+    on-line i = w .is (i .first) (cut line n ∙ i .bytes) (i .writable .fits)
+
     pub seeking-next : r ≡ false → Seeking f least next
     unfolding flatMap
-    seeking-next q = record { left = λ fs a. let k = c .left fs a in let i = step wide d (k .0) (k .1) in (
-        i .rest, i .later,
-        k .2 ∙ ap found (i .are) ∙ any-later (leb least) (predicates (i .first)) (flatMap predicates (i .rest)) (sym (w .is (i .first) (cut line n ∙ i .bytes) (i .writable .fits)) ∙ q)) }
+    seeking-next q = record {
+      left = λ fs a.
+          let k = c .left fs a in
+          let i = step wide d (k .0) (k .1) in
+          let later = any-later (leb least) (predicates (i .first)) (flatMap predicates (i .rest)) (sym (on-line i) ∙ q) in
+          (i .rest, i .later, k .2 ∙ ap found (i .are) ∙ later);
+    }
 
     pub seeking-found : r ≡ true → SomeFrom f least true
     unfolding flatMap
-    seeking-found q = record { is = λ fs a. let k = c .left fs a in let i = step wide d (k .0) (k .1) in
-        sym (k .2 ∙ ap found (i .are) ∙ any-first (leb least) (predicates (i .first)) (flatMap predicates (i .rest)) (sym (w .is (i .first) (cut line n ∙ i .bytes) (i .writable .fits)) ∙ q)) }
+    seeking-found q = record {
+      is = λ fs a.
+          let k = c .left fs a in
+          let i = step wide d (k .0) (k .1) in
+          sym (k .2 ∙ ap found (i .are) ∙ any-first (leb least) (predicates (i .first)) (flatMap predicates (i .rest)) (sym (on-line i) ∙ q));
+    }
 
 -- 14
 pub above-by : {f : List ℕ} {r : Bool} → SomeFrom f 65536 r → SomeAbove f r

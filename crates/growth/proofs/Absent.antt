@@ -105,9 +105,10 @@ module _ (n : ℕ) where
   unfolding flatMap queryFrames predicates
   low-queries [] h = tt
   low-queries (a ∷ qs) h =
-      let q = all-left Low (map aNode (a .nodes) ++ theQuery (a .query) ∷ []) (flatMap queryFrames qs) h in
-      (low-kind aNode _ (λ m k. node-facts (m .kind) k) (a .nodes) (all-left Low (map aNode (a .nodes)) (theQuery (a .query) ∷ []) q),
-       low-queries qs (all-right Low (map aNode (a .nodes) ++ theQuery (a .query) ∷ []) (flatMap queryFrames qs) h))
+      let q = all-left Low (map aNode (a .nodes) ++ theQuery (a .query) ∷ []) (flatMap queryFrames qs) h in (
+        low-kind aNode _ (λ m k. node-facts (m .kind) k) (a .nodes) (all-left Low (map aNode (a .nodes)) (theQuery (a .query) ∷ []) q),
+        low-queries qs (all-right Low (map aNode (a .nodes) ++ theQuery (a .query) ∷ []) (flatMap queryFrames qs) h),
+      )
 
   queries-low : (qs : List Ast) → All NodesLow qs → All Low (flatMap queryFrames qs)
   unfolding flatMap queryFrames predicates
@@ -142,9 +143,11 @@ module _ (c : Content) where
       let names = map aName (c .names) in
       let types = map aType (c .types) in
       let named = map predicateFrame (c .predicates) in
-      all-append (Low count) (theLimits (c .maxDistance) (c .maxTermChars) ∷ names ++ (types ++ named)) (flatMap queryFrames (c .queries))
-      (tt, all-append (Low count) names (types ++ named) (kind-low count aName (λ s. Unit {0}) (λ s k. tt) (c .names) (everything (c .names)))
-        (all-append (Low count) types named (kind-low count aType _ (λ t k. facts-shape count t k) (c .types) (h .types)) (kind-low count predicateFrame (λ s. Unit {0}) (λ s k. tt) (c .predicates) (everything (c .predicates)))))
+      all-append (Low count) (theLimits (c .maxDistance) (c .maxTermChars) ∷ names ++ (types ++ named)) (flatMap queryFrames (c .queries)) (
+        tt,
+        all-append (Low count) names (types ++ named) (kind-low count aName (λ s. Unit {0}) (λ s k. tt) (c .names) (everything (c .names)))
+            (all-append (Low count) types named (kind-low count aType _ (λ t k. facts-shape count t k) (c .types) (h .types)) (kind-low count predicateFrame (λ s. Unit {0}) (λ s k. tt) (c .predicates) (everything (c .predicates)))),
+      )
       (queries-low count (c .queries) (h .nodes))
     where
       everything : {A : Type 0} (l : List A) → All (λ a. Unit {0}) l

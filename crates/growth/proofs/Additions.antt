@@ -38,7 +38,8 @@ module _ {A : Type 0} (make : A → Frame) (k : ℕ) (kind : (a : A) → kindOf 
     all-added (f ∷ fs) gs s (m ∷ more) h =
         inr (
           record { least = subst (λ n. kindByte name ≤ n) (sym (kind m)) least; most = subst (λ n. n ≤ kindByte predicate) (sym (kind m)) most; later = omega (arith, kind m, s) },
-          all-added (f ∷ fs) gs s more h)
+          all-added (f ∷ fs) gs s more h,
+        )
 
     kind-adds : (fs gs : List Frame) → Starts k fs → (old more : List A) → Adds fs gs → Adds (map make old ++ fs) (map make (old ++ more) ++ gs)
     kind-adds fs gs s [] more h = all-added fs gs s more h

@@ -48,9 +48,9 @@ module _ {words : ℕ} {old : List ℕ} (p q : Past words old) where
   same-absent h =
       let e = absent-none (contentOf p) h in
       none-absent (contentOf q) (
-        ap (λ n. anyOf (leb n) (flatMap predicates (framesOf (contentOf q)))) (sym same-count)
-        ∙ ap (λ l. anyOf (leb (length (contentOf p .predicates))) (flatMap predicates l)) (sym same-frames)
-        ∙ e)
+      ap (λ n. anyOf (leb n) (flatMap predicates (framesOf (contentOf q)))) (sym same-count)
+      ∙ ap (λ l. anyOf (leb (length (contentOf p .predicates))) (flatMap predicates l)) (sym same-frames)
+      ∙ e)
 
 pub all-hold : (words : ℕ) (old new : List ℕ) → FirstFailing (premises words old new) 0 → Hold words old new
 all-hold words old new (inl h) = let z = h .1 in absurd (omega (arith, z))

@@ -67,17 +67,21 @@ module _ {a b : List ℕ} where
 
   pub beside-added : 2 ≤ byteW b 0 → byteW b 0 ≤ 4 → byteW b 0 < byteW a 0 → TellsBeside a b Added
   unfolding kindByte
-  beside-added l m k = record { is = λ f g v w p o.
-      let x = first-byte f a v in
-      let y = first-byte g b w in
-      record { least = omega (arith, l, y); most = omega (arith, m, y); later = omega (arith, k, x, y) } }
+  beside-added l m k = record {
+    is = λ f g v w p o.
+        let x = first-byte f a v in
+        let y = first-byte g b w in
+        record { least = omega (arith, l, y); most = omega (arith, m, y); later = omega (arith, k, x, y) };
+  }
 
   pub beside-other : {r : Bool} → SameBytes a b r → r ≡ false → (2 ≤ byteW b 0 → byteW b 0 ≤ 4 → byteW b 0 < byteW a 0 → ⊥) → TellsBeside a b Other
   unfolding kindByte
-  beside-other h q n = record { is = λ f g v w p o.
-      let x = first-byte f a v in
-      let y = first-byte g b w in
-      (λ e. h .other q (v ∙ ap (written wide) e ∙ sym w), λ d. n (omega (arith, d .least, y)) (omega (arith, d .most, y)) (omega (arith, d .later, x, y))) }
+  beside-other h q n = record {
+    is = λ f g v w p o.
+        let x = first-byte f a v in
+        let y = first-byte g b w in
+        (λ e. h .other q (v ∙ ap (written wide) e ∙ sym w), λ d. n (omega (arith, d .least, y)) (omega (arith, d .most, y)) (omega (arith, d .later, x, y)));
+  }
 
 -- ---- All lines
 
@@ -190,28 +194,32 @@ module _ {old new : List ℕ} {i j : ℕ} (c : Walking old new i j) where
         }
 
     pub walking-same : TellsBeside (take (n - 0) a) (take (m - 0) b) Same → Walking old new next after
-    walking-same t = record { left = λ fs gs u v. let k = turn Same t fs gs u v in record {
-      olds = k .olds;
-      news = k .news;
-      old-are = k .old-are;
-      new-are = k .new-are;
-      to = λ h. past (k .left) (k .right) (k .is) (k .olds) (k .news) (k .to h);
-      back = λ h. k .back (inl (k .is, h));
-    } }
+    walking-same t = record {
+      left = λ fs gs u v. let k = turn Same t fs gs u v in record {
+        olds = k .olds;
+        news = k .news;
+        old-are = k .old-are;
+        new-are = k .new-are;
+        to = λ h. past (k .left) (k .right) (k .is) (k .olds) (k .news) (k .to h);
+        back = λ h. k .back (inl (k .is, h));
+      };
+    }
       where
         past : (f g : Frame) → f ≡ g → (fs gs : List Frame) → Adds (f ∷ fs) (g ∷ gs) → Adds fs gs
         past f g q fs gs (inl h) = h .1
         past f g q fs gs (inr h) = absurd (omega (arith, h .0 .later, ap kindOf q))
 
     pub walking-added : TellsBeside (take (n - 0) a) (take (m - 0) b) Added → Walking old new i after
-    walking-added t = record { left = λ fs gs u v. let k = turn Added t fs gs u v in record {
-      olds = k .left ∷ k .olds;
-      news = k .news;
-      old-are = k .both-are;
-      new-are = k .new-are;
-      to = λ h. past (k .left) (k .right) (k .is) (k .olds) (k .news) (k .to h);
-      back = λ h. k .back (inr (k .is, h));
-    } }
+    walking-added t = record {
+      left = λ fs gs u v. let k = turn Added t fs gs u v in record {
+        olds = k .left ∷ k .olds;
+        news = k .news;
+        old-are = k .both-are;
+        new-are = k .new-are;
+        to = λ h. past (k .left) (k .right) (k .is) (k .olds) (k .news) (k .to h);
+        back = λ h. k .back (inr (k .is, h));
+      };
+    }
       where
         past : (f g : Frame) → Addition f g → (fs gs : List Frame) → Adds (f ∷ fs) (g ∷ gs) → Adds (f ∷ fs) gs
         past f g q fs gs (inl h) = absurd (omega (arith, q .later, ap kindOf (h .0)))

@@ -279,7 +279,8 @@ renamed-answered = refl
 pub renamed-outcome : SameBeside (outcome (file (before 0)) 16384 999) (outcome (file (blackened 0)) 16384 999)
 unfolding position sameText valueText minWords says-renamed says-telling says-old
 renamed-outcome =
-    private-files _ _ _ _ says-old says-renamed (record { only-names = refl; value = refl; terms = ((tt, (tt, (tt, (tt, (tt, (tt, tt)))))), tt) }) 16384 999 16384 999 (omega arith) (omega arith)
+    private-files _ _ _ _ says-old says-renamed (record { only-names = refl; value = refl; terms = ((tt, (tt, (tt, (tt, (tt, (tt, tt)))))), tt) })
+    16384 999 16384 999 (omega arith) (omega arith)
     (fits ab old-answered) (fits accented renamed-answered)
 
 -- A name that is given twice is no file's: the second file is not past 8.

@@ -19,7 +19,7 @@ use Rattle.meaning.specs.Content.{PredicateFrame, Content, Lawful, Says, descri
 use Rattle.meaning.specs.Messages.{textIn}
 use Rattle.meaning.specs.Answer.{formLines}
 use Rattle.meaning.specs.Check.{Typed, Checked, typed, exhausted, check}
-use Rattle.meaning.specs.Outcome.{minWords, maxVisits, turnedDown, answered, withChecked, runAll, decideRun, decideRead, decide, Outcome, refuse, accept, finish, outcome}
+use Rattle.meaning.specs.Outcome.{minWords, maxVisits, turnedDown, answered, withChecked, runAll, decideRun, decideRead, decide, refuse, accept, finish, outcome}
 use Rattle.meaning.proofs.Lists.{all-map}
 use Rattle.meaning.proofs.Tests.{cases}
 use Rattle.meaning.proofs.Content.{says-exactly}

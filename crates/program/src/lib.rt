@@ -4,40 +4,15 @@ ghost use Prim.Native.Nat.{_≤_};
 ghost use lib.ListN.{length};
 ghost use Rattle.meaning.specs.Outcome.{minWords};
 ghost use Rattle.desk.specs.Contracts.{Finishes};
-ghost use Rattle.program.specs.Contracts.{Within, decidedBy, Prints};
+ghost use Rattle.program.specs.Contracts.{decidedBy, Prints};
 use desk::Outcome;
+use input::Input;
 
 // What a program does with its file.
 pub enum Job {
     Check,
     Widen,
     Narrow,
-}
-
-// How many bytes of the input stand at the start of a slice; or a read failed, and the slice holds anything.
-pub enum Input {
-    Bytes(usize),
-    Failed,
-}
-
-// Standard input to its end, or as much of it as the slice holds.
-fn read_input(into: &mut [u8]) -> Input
-    ensures { λ r. ⌜ Within (length (now (into .exit))) r ⌝ }
-{
-    let mut n: usize = 0;
-    while n < into.len() {
-        let got = libc::read(libc::STDIN_FILENO, &mut into[n..]);
-        let more = io::count(got, &into[n..]);
-        if more == 0 {
-            return if got < 0 {
-                Input::Failed
-            } else {
-                Input::Bytes(n)
-            };
-        }
-        n += more;
-    }
-    Input::Bytes(n)
 }
 
 fn done(job: Job, file: &[u8], work: &mut [u32], out: &mut [u8]) -> Outcome
@@ -67,24 +42,18 @@ pub fn printed(job: Job, file: &[u8], work: &mut [u32; 16384], out: &mut [u8; 65
 
 // One byte more is read than a file may have, so that a longer input is refused.
 pub fn run(job: Job) {
-    let mut input = [0u8; 65537];
+    let mut file = [0u8; 65537];
     let mut work = [0u32; 16384];
     let mut out = [0u8; 65536];
-    let r = read_input(&mut input);
+    let r = input::read_all(libc::STDIN_FILENO, &mut file);
     match r {
         Input::Failed => {
-            io::write_all(
-                libc::STDERR_FILENO,
-                b"reading standard input failed\n",
-            );
+            io::write_all(libc::STDERR_FILENO, b"reading standard input failed\n");
         }
         Input::Bytes(n) => {
-            let m = printed(job, &input[0..n], &mut work, &mut out);
+            let m = printed(job, &file[0..n], &mut work, &mut out);
             if !io::write_all(libc::STDOUT_FILENO, &out[0..m]) {
-                io::write_all(
-                    libc::STDERR_FILENO,
-                    b"writing standard output failed\n",
-                );
+                io::write_all(libc::STDERR_FILENO, b"writing standard output failed\n");
             }
         }
     }

@@ -70,12 +70,7 @@ pub extern "C" fn sigla_tally(tally: &mut [u32; 3], visits: u32, price: u16) -> 
 // ---- The desks of a cabinet
 
 #[no_mangle]
-pub extern "C" fn sigla_set_up(
-    group: &mut [u32; 50],
-    pool: u32,
-    shares: &[u32],
-    caps: &[u32],
-) -> u8
+pub extern "C" fn sigla_set_up(group: &mut [u32; 50], pool: u32, shares: &[u32], caps: &[u32]) -> u8
     ensures { λ r. ⌜ CallsSetUp pool (now (shares .entry)) (now (caps .entry)) (now (group .exit)) r ⌝ }
 {
     let c = cabinet::setup(pool, shares, caps);
