@@ -1,22 +1,21 @@
 -- A file names no absent predicate exactly where no number in its frames is as high as the number of its predicates.
-use mathlib.Core.Bool.{Bool, true, false}
+use mathlib.Core.Bool.{false}
 use mathlib.Core.List.{List, [], _∷_, _++_, map, flatMap}
-use mathlib.Core.Path.{_≡_, refl, sym, ap, subst, _∙_}
-use Prim.Native.Nat.{ℕ, _≤_, _<_}
-use native.Mathlib.Omega.{arith}
+use mathlib.Core.Path.{_≡_}
+use Prim.Native.Nat.{ℕ, _<_}
 use lib.Dec.{leb}
 use lib.ListN.{length}
 use borrow.Author.Tests.{leb-false, lt-leb}
 use Rattle.unification.specs.Ty.{Int, String, Bytes, Fact}
-use Rattle.meaning.specs.Syntax.{ExprKind, Node, Ast}
-use Rattle.meaning.specs.Frame.{TypeShape, aLeaf, aRecord, aUnion, Frame, theLimits, aName, aType, aPredicate, aNode, theQuery}
+use Rattle.meaning.specs.Syntax.{ExprKind, Ast}
+use Rattle.meaning.specs.Frame.{TypeShape, aLeaf, aRecord, aUnion, Frame, theLimits, aName, aType, aNode, theQuery}
 use Rattle.meaning.specs.Conditions.{anyOf}
 use Rattle.meaning.specs.All.{All, Below}
-use Rattle.meaning.specs.Content.{PredicateFrame, Content, predicateFrame, queryFrames, schemaFrames, framesOf}
+use Rattle.meaning.specs.Content.{Content, predicateFrame, queryFrames, schemaFrames, framesOf}
 use Rattle.meaning.proofs.Lists.{all-append, all-left, all-right}
 use Rattle.meaning.proofs.Tests.{none-passes, passes-none}
 use Rattle.editions.specs.Converted.{shapePredicates, exprPredicates, predicates}
-use Rattle.laws.specs.Growth.{ShapeFacts, NodeFacts, There, NoAbsent}
+use Rattle.laws.specs.Growth.{ShapeFacts, NodeFacts, NoAbsent}
 
 module _ (n : ℕ) where
   -- the numbers of a frame are below
@@ -133,7 +132,8 @@ module _ (c : Content) where
       let schema = all-left (Low count) (theLimits (c .maxDistance) (c .maxTermChars) ∷ names ++ (types ++ named)) (flatMap queryFrames (c .queries)) h in
       let queries = all-right (Low count) (theLimits (c .maxDistance) (c .maxTermChars) ∷ names ++ (types ++ named)) (flatMap queryFrames (c .queries)) h in
       record {
-        types = low-kind count aType _ (λ t k. shape-facts count t k) (c .types) (all-left (Low count) types named (all-right (Low count) names (types ++ named) (schema .1)));
+        types = low-kind count aType _ (λ t k. shape-facts count t k) (c .types)
+            (all-left (Low count) types named (all-right (Low count) names (types ++ named) (schema .1)));
         nodes = low-queries count (c .queries) queries;
       }
 
@@ -143,11 +143,11 @@ module _ (c : Content) where
       let names = map aName (c .names) in
       let types = map aType (c .types) in
       let named = map predicateFrame (c .predicates) in
-      all-append (Low count) (theLimits (c .maxDistance) (c .maxTermChars) ∷ names ++ (types ++ named)) (flatMap queryFrames (c .queries)) (
-        tt,
-        all-append (Low count) names (types ++ named) (kind-low count aName (λ s. Unit {0}) (λ s k. tt) (c .names) (everything (c .names)))
-            (all-append (Low count) types named (kind-low count aType _ (λ t k. facts-shape count t k) (c .types) (h .types)) (kind-low count predicateFrame (λ s. Unit {0}) (λ s k. tt) (c .predicates) (everything (c .predicates)))),
-      )
+      let low-types = kind-low count aType _ (λ t k. facts-shape count t k) (c .types) (h .types) in
+      let low-named = kind-low count predicateFrame (λ s. Unit {0}) (λ s k. tt) (c .predicates) (everything (c .predicates)) in
+      let low-names = kind-low count aName (λ s. Unit {0}) (λ s k. tt) (c .names) (everything (c .names)) in
+      all-append (Low count) (theLimits (c .maxDistance) (c .maxTermChars) ∷ names ++ (types ++ named)) (flatMap queryFrames (c .queries))
+      (tt, all-append (Low count) names (types ++ named) low-names (all-append (Low count) types named low-types low-named))
       (queries-low count (c .queries) (h .nodes))
     where
       everything : {A : Type 0} (l : List A) → All (λ a. Unit {0}) l
@@ -155,7 +155,9 @@ module _ (c : Content) where
       everything (a ∷ l) = (tt, everything l)
 
   pub none-absent : anyOf (leb count) (flatMap predicates (framesOf c)) ≡ false → NoAbsent c
-  none-absent h = low-absent (each-low count (framesOf c) (none-passes (leb count) (λ p. p < count) (λ p q. leb-false count p q) (flatMap predicates (framesOf c)) h))
+  none-absent h =
+      low-absent (each-low count (framesOf c) (none-passes (leb count) (λ p. p < count) (λ p q. leb-false count p q) (flatMap predicates (framesOf c)) h))
 
   pub absent-none : NoAbsent c → anyOf (leb count) (flatMap predicates (framesOf c)) ≡ false
-  absent-none h = passes-none (leb count) (λ p. p < count) (λ p q. lt-leb count p q) (flatMap predicates (framesOf c)) (all-low count (framesOf c) (absent-low h))
+  absent-none h =
+      passes-none (leb count) (λ p. p < count) (λ p q. lt-leb count p q) (flatMap predicates (framesOf c)) (all-low count (framesOf c) (absent-low h))

@@ -1,19 +1,19 @@
 -- A content has grown exactly where its frames are the old ones with additions. The frames stand kind by kind, each kind before the later ones; where
 -- the old file has frames of a kind left, the new one has the same ones, and where it has none left, those of the new one are additions.
-use mathlib.Core.List.{List, [], _∷_, _++_, map, flatMap, append-nil, append-assoc, map-append, head-eq-of-cons-eq, tail-eq-of-cons-eq}
-use mathlib.Core.Logic.{_⊎_, inl, inr, _↔_}
+use mathlib.Core.List.{List, [], _∷_, _++_, map, flatMap, append-nil, append-assoc}
+use mathlib.Core.Logic.{inl, inr}
 use mathlib.Core.Option.{Option}
 use mathlib.Core.Path.{_≡_, refl, sym, ap, subst, _∙_}
 use Prim.Native.Nat.{ℕ, _≤_, _<_}
 use native.Mathlib.Omega.{arith}
 use lib.ListN.{length}
 use Rattle.meaning.specs.Syntax.{Node, Query, Ast}
-use Rattle.meaning.specs.Frame.{kindByte, limits, name, schemaType, predicate, node, TypeShape, Frame, theLimits, aName, aType, aPredicate, aNode, theQuery, frameKind}
+use Rattle.meaning.specs.Frame.{kindByte, name, schemaType, predicate, node, TypeShape, Frame, theLimits, aName, aType, aPredicate, aNode, theQuery, frameKind}
 use Rattle.meaning.specs.All.{All}
 use Rattle.meaning.specs.Content.{PredicateFrame, Content, predicateFrame, queryFrames, schemaFrames, framesOf}
 use Rattle.meaning.proofs.Lists.{all-append}
 use Rattle.laws.specs.Growth.{grow, Grown}
-use Rattle.growth.specs.Lines.{kindOf, Addition, Adds}
+use Rattle.growth.specs.Lines.{kindOf, Adds}
 
 -- ---- One kind
 
@@ -37,7 +37,11 @@ module _ {A : Type 0} (make : A → Frame) (k : ℕ) (kind : (a : A) → kindOf 
     all-added [] gs s (m ∷ more) h = absurd s
     all-added (f ∷ fs) gs s (m ∷ more) h =
         inr (
-          record { least = subst (λ n. kindByte name ≤ n) (sym (kind m)) least; most = subst (λ n. n ≤ kindByte predicate) (sym (kind m)) most; later = omega (arith, kind m, s) },
+          record {
+            least = subst (λ n. kindByte name ≤ n) (sym (kind m)) least;
+            most = subst (λ n. n ≤ kindByte predicate) (sym (kind m)) most;
+            later = omega (arith, kind m, s);
+          },
           all-added (f ∷ fs) gs s more h,
         )
 
@@ -63,7 +67,9 @@ module _ {A : Type 0} (make : A → Frame) (k : ℕ) (kind : (a : A) → kindOf 
   module _ (only : (a b : A) → make a ≡ make b → a ≡ b) where
     adds-kind : (old new : List A) (fs gs : List Frame) → Starts k fs → Starts k gs → Adds (map make old ++ fs) (map make new ++ gs) → Grew old new fs gs
     adds-kind [] [] fs gs s t h = record { more = []; are = refl; rest = h }
-    adds-kind [] (b ∷ new) fs gs s t h = let g = adds-kind [] new fs gs s t (no-more b (map make new ++ gs) fs s h) in record { more = b ∷ new; are = refl; rest = g .rest }
+    adds-kind [] (b ∷ new) fs gs s t h =
+        let g = adds-kind [] new fs gs s t (no-more b (map make new ++ gs) fs s h) in
+        record { more = b ∷ new; are = refl; rest = g .rest }
     adds-kind (a ∷ old) [] fs gs s t h = absurd (none-lost a (map make old ++ fs) gs t h)
     adds-kind (a ∷ old) (b ∷ new) fs gs s t (inl h) =
         let g = adds-kind old new fs gs s t (h .1) in
@@ -94,10 +100,13 @@ queriesIn ns (aName s ∷ fs) = []
 queriesIn ns (aType t ∷ fs) = []
 queriesIn ns (aPredicate n k v ∷ fs) = []
 
-one-query : (ns ms : List Node) (q : Query) (fs : List Frame) → queriesIn ns ((map aNode ms ++ theQuery q ∷ []) ++ fs) ≡ record { nodes = ns ++ ms; query = q } ∷ queriesIn [] fs
+one-query : (ns ms : List Node) (q : Query) (fs : List Frame)
+    → queriesIn ns ((map aNode ms ++ theQuery q ∷ []) ++ fs) ≡ record { nodes = ns ++ ms; query = q } ∷ queriesIn [] fs
 unfolding queriesIn
 one-query ns [] q fs = ap (λ (l : List Node). record { nodes = l; query = q } ∷ queriesIn [] fs) (sym (append-nil ns))
-one-query ns (m ∷ ms) q fs = one-query (ns ++ m ∷ []) ms q fs ∙ ap (λ (l : List Node). record { nodes = l; query = q } ∷ queriesIn [] fs) (append-assoc ns (m ∷ []) ms)
+one-query ns (m ∷ ms) q fs =
+    one-query (ns ++ m ∷ []) ms q fs
+    ∙ ap (λ (l : List Node). record { nodes = l; query = q } ∷ queriesIn [] fs) (append-assoc ns (m ∷ []) ms)
 
 all-queries : (qs : List Ast) → queriesIn [] (flatMap queryFrames qs) ≡ qs
 unfolding queriesIn queryFrames flatMap
@@ -153,7 +162,8 @@ module _ (c : Content) where
       let a = map aName (c .names) in
       let b = map aType (c .types) in
       let p = map predicateFrame (c .predicates) in
-      ap (λ l. limits-frame c ∷ l) (append-assoc a (b ++ p) (flatMap queryFrames (c .queries)) ∙ ap (λ l. a ++ l) (append-assoc b p (flatMap queryFrames (c .queries))))
+      let q = flatMap queryFrames (c .queries) in
+      ap (λ l. limits-frame c ∷ l) (append-assoc a (b ++ p) q ∙ ap (λ l. a ++ l) (append-assoc b p q))
 
 name-kind : (s : List ℕ) → kindOf (aName s) ≡ kindByte name
 unfolding frameKind
@@ -174,26 +184,34 @@ module _ (c : Content) (some : 1 ≤ length (c .queries)) where
 
   after-types : Starts (kindByte schemaType) (from-predicates c)
   unfolding from-predicates kindByte
-  after-types = starts predicateFrame (kindByte predicate) predicate-kind (kindByte schemaType) (omega arith) (c .predicates) (from-queries c) (later (kindByte schemaType) (kindByte predicate) (omega arith) (from-queries c) after-predicates)
+  after-types =
+      starts predicateFrame (kindByte predicate) predicate-kind (kindByte schemaType) (omega arith) (c .predicates) (from-queries c)
+      (later (kindByte schemaType) (kindByte predicate) (omega arith) (from-queries c) after-predicates)
 
   after-names : Starts (kindByte name) (from-types c)
   unfolding from-types kindByte
-  after-names = starts aType (kindByte schemaType) type-kind (kindByte name) (omega arith) (c .types) (from-predicates c) (later (kindByte name) (kindByte schemaType) (omega arith) (from-predicates c) after-types)
+  after-names =
+      starts aType (kindByte schemaType) type-kind (kindByte name) (omega arith) (c .types) (from-predicates c)
+      (later (kindByte name) (kindByte schemaType) (omega arith) (from-predicates c) after-types)
 
 -- A content that has grown.
 pub grown-adds : (c c′ : Content) → 1 ≤ length (c .queries) → Grown c c′ → Adds (framesOf c) (framesOf c′)
 unfolding limits-frame from-names from-types from-predicates from-queries kindByte
 grown-adds c c′ some g =
     let d = grow c (g .names) (g .types) (g .predicates) in
-    let predicates = kind-adds predicateFrame (kindByte predicate) predicate-kind (omega arith) (omega arith) (from-queries c) (from-queries d) (after-predicates c some) (c .predicates) (g .predicates) (no-change (from-queries c)) in
-    let types = kind-adds aType (kindByte schemaType) type-kind (omega arith) (omega arith) (from-predicates c) (from-predicates d) (after-types c some) (c .types) (g .types) predicates in
-    let names = kind-adds aName (kindByte name) name-kind (omega arith) (omega arith) (from-types c) (from-types d) (after-names c some) (c .names) (g .names) types in
+    let predicates = kind-adds predicateFrame (kindByte predicate) predicate-kind (omega arith) (omega arith)
+    (from-queries c) (from-queries d) (after-predicates c some) (c .predicates) (g .predicates) (no-change (from-queries c)) in
+    let types = kind-adds aType (kindByte schemaType) type-kind (omega arith) (omega arith)
+    (from-predicates c) (from-predicates d) (after-types c some) (c .types) (g .types) predicates in
+    let names = kind-adds aName (kindByte name) name-kind (omega arith) (omega arith)
+    (from-types c) (from-types d) (after-names c some) (c .names) (g .names) types in
     let all : Adds (limits-frame c ∷ from-names c) (limits-frame d ∷ from-names d) = inl (refl, names) in
     subst (λ l. Adds l (framesOf c′)) (sym (spread c)) (subst (λ l. Adds (limits-frame c ∷ from-names c) l) (sym (ap framesOf (g .is) ∙ spread d)) all)
 
 -- And back.
 abbrev content : ℕ → ℕ → List (List ℕ) → List TypeShape → List PredicateFrame → List Ast → Content
-content d t names types predicates queries = record { maxDistance = d; maxTermChars = t; names = names; types = types; predicates = predicates; queries = queries }
+content d t names types predicates queries =
+    record { maxDistance = d; maxTermChars = t; names = names; types = types; predicates = predicates; queries = queries }
 
 distance-of : Frame → ℕ
 distance-of (theLimits d t) = d
@@ -235,11 +253,15 @@ limits-adds f c′ fs gs (inr h) = absurd (omega (arith, h .0 .least))
 pub adds-grown : (c c′ : Content) → 1 ≤ length (c .queries) → 1 ≤ length (c′ .queries) → Adds (framesOf c) (framesOf c′) → Grown c c′
 unfolding limits-frame from-names from-types from-predicates from-queries kindByte distance-of term-of
 adds-grown c c′ some some′ h =
-    let all : Adds (limits-frame c ∷ from-names c) (limits-frame c′ ∷ from-names c′) = subst (λ l. Adds (limits-frame c ∷ from-names c) l) (spread c′) (subst (λ l. Adds l (framesOf c′)) (spread c) h) in
+    let all : Adds (limits-frame c ∷ from-names c) (limits-frame c′ ∷ from-names c′) =
+    subst (λ l. Adds (limits-frame c ∷ from-names c) l) (spread c′) (subst (λ l. Adds l (framesOf c′)) (spread c) h) in
     let first = limits-adds (limits-frame c) c′ (from-names c) (from-names c′) all in
-    let names = adds-kind aName (kindByte name) name-kind same-name (c .names) (c′ .names) (from-types c) (from-types c′) (after-names c some) (after-names c′ some′) (first .1) in
-    let types = adds-kind aType (kindByte schemaType) type-kind same-type (c .types) (c′ .types) (from-predicates c) (from-predicates c′) (after-types c some) (after-types c′ some′) (names .rest) in
-    let predicates = adds-kind predicateFrame (kindByte predicate) predicate-kind same-predicate (c .predicates) (c′ .predicates) (from-queries c) (from-queries c′) (after-predicates c some) (after-predicates c′ some′) (types .rest) in
+    let names = adds-kind aName (kindByte name) name-kind same-name (c .names) (c′ .names)
+    (from-types c) (from-types c′) (after-names c some) (after-names c′ some′) (first .1) in
+    let types = adds-kind aType (kindByte schemaType) type-kind same-type (c .types) (c′ .types)
+    (from-predicates c) (from-predicates c′) (after-types c some) (after-types c′ some′) (names .rest) in
+    let predicates = adds-kind predicateFrame (kindByte predicate) predicate-kind same-predicate (c .predicates) (c′ .predicates)
+    (from-queries c) (from-queries c′) (after-predicates c some) (after-predicates c′ some′) (types .rest) in
     let frames : from-queries c ≡ from-queries c′ = no-additions (from-queries c) (from-queries c′) (query-kinds (c′ .queries)) (predicates .rest) in
     let queries : c .queries ≡ c′ .queries = sym (all-queries (c .queries)) ∙ ap (queriesIn []) frames ∙ all-queries (c′ .queries) in
     record {
@@ -252,5 +274,6 @@ adds-grown c c′ some some′ h =
           ∙ ap (λ l. content (c .maxDistance) (c .maxTermChars) l (c′ .types) (c′ .predicates) (c′ .queries)) (names .are)
           ∙ ap (λ l. content (c .maxDistance) (c .maxTermChars) (c .names ++ names .more) l (c′ .predicates) (c′ .queries)) (types .are)
           ∙ ap (λ l. content (c .maxDistance) (c .maxTermChars) (c .names ++ names .more) (c .types ++ types .more) l (c′ .queries)) (predicates .are)
-          ∙ ap (λ l. content (c .maxDistance) (c .maxTermChars) (c .names ++ names .more) (c .types ++ types .more) (c .predicates ++ predicates .more) l) (sym queries);
+          ∙ ap (content (c .maxDistance) (c .maxTermChars) (c .names ++ names .more) (c .types ++ types .more) (c .predicates ++ predicates .more))
+          (sym queries);
     }

@@ -1,8 +1,8 @@
 -- Card 14: one number is told of two files, and where it is 00 every call gives the new file the old one's outcome.
 use mathlib.Core.List.{List, [], _∷_, flatMap}
 use mathlib.Core.Logic.{inl, inr}
-use mathlib.Core.Path.{_≡_, refl, sym, ap, subst, _∙_}
-use Prim.Native.Nat.{ℕ, _≤_}
+use mathlib.Core.Path.{_≡_, sym, ap, _∙_}
+use Prim.Native.Nat.{ℕ}
 use native.Mathlib.Omega.{arith}
 use lib.Dec.{leb}
 use lib.ListN.{length, length-map}
@@ -10,13 +10,13 @@ use Rattle.meaning.specs.Frame.{wide}
 use Rattle.meaning.specs.Conditions.{anyOf}
 use Rattle.meaning.specs.File.{Form, described}
 use Rattle.meaning.specs.Content.{framesOf, describes}
-use Rattle.meaning.specs.Outcome.{minWords, decide, outcome}
+use Rattle.meaning.specs.Outcome.{outcome}
 use Rattle.meaning.proofs.Content.{says-exactly}
 use Rattle.editions.specs.Converted.{predicates}
 use Rattle.editions.proofs.Same.{says-frames}
 use Rattle.laws.specs.Growth.{NoAbsent}
-use Rattle.laws.proofs.Files.{grown-decisions, grown-files}
-use Rattle.growth.specs.Premises.{Past, contentOf, OnlyAdded, NamesNoAbsent, Premise, premises, FirstFailing}
+use Rattle.laws.proofs.Files.{grown-files}
+use Rattle.growth.specs.Premises.{Past, contentOf, OnlyAdded, Premise, premises, FirstFailing}
 use Rattle.growth.proofs.Absent.{none-absent, absent-none}
 
 pub told-once : (ps : List Premise) (m n : ℕ) → FirstFailing ps m → FirstFailing ps n → m ≡ n

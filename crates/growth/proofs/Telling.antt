@@ -7,31 +7,28 @@ use Prim.Native.Nat.{ℕ, _+_, _≤_}
 use native.Mathlib.Omega.{arith}
 use lib.Dec.{leb, ltb}
 use lib.ListN.{length, getD, replicate, length-map}
-use borrow.Author.Tests.{ltb-false, lt-ltb, le-ltb}
+use borrow.Author.Tests.{ltb-false, le-ltb}
 use Rattle.meaning.specs.Lines.{lines}
-use Rattle.meaning.specs.Frame.{wide, Frame}
-use Rattle.meaning.specs.SoFar.{said, frames}
+use Rattle.meaning.specs.Frame.{wide}
+use Rattle.meaning.specs.SoFar.{said}
 use Rattle.meaning.specs.Conditions.{anyOf}
 use Rattle.meaning.specs.Refusal as Meaning
-use Rattle.meaning.specs.File.{Form, Reading, refused, described, readingOf}
-use Rattle.meaning.specs.Content.{Content, framesOf, describes, Says}
+use Rattle.meaning.specs.File.{Form, Reading, refused, described}
+use Rattle.meaning.specs.Content.{framesOf, describes}
 use Rattle.meaning.specs.Answer.{hexLine}
 use Rattle.meaning.specs.Outcome.{minWords}
 use Rattle.meaning.proofs.Tests.{cases, clash}
 use Rattle.meaning.proofs.Written.{file-lines}
 use Rattle.meaning.proofs.Content.{says-exactly}
 use Rattle.work.specs.Layout.{PREDICATE-COUNT}
-use Rattle.cells.specs.Stands.{Rows}
-use Rattle.tree.specs.Stands.{SchemaStands}
-use Rattle.reading.specs.Contracts.{refusal, Ends, readingIn, ReadsFile}
+use Rattle.reading.specs.Contracts.{Ends, readingIn, ReadsFile}
 use Rattle.reading.specs.declared.Refusal.{Refusal}
 use Rattle.reading.specs.declared.Read.{Read}
 use Rattle.reading.specs.declared.Read.the-variants as Read
 use Rattle.editions.specs.Converted.{predicates}
 use Rattle.convert.specs.Lines.{LinesAre, SomeFrom}
-use Rattle.laws.specs.Growth.{Grown, NoAbsent}
 use Rattle.growth.specs.Premises.{Past, contentOf, OnlyAdded, NamesNoAbsent}
-use Rattle.growth.specs.Lines.{Adds, TellsAdded}
+use Rattle.growth.specs.Lines.{TellsAdded}
 use Rattle.growth.specs.Contracts.{number, Compares, ChecksGrowth}
 use Rattle.growth.specs.declared.Premises.{Premises}
 use Rattle.growth.specs.declared.Premises.the-variants.{Hold, OldRefused, NewRefused, OtherChange, NamesAbsent}
@@ -85,14 +82,16 @@ module _ {words : ℕ} {old new : List ℕ} {r : Bool} (t : TellsAdded old new r
   was-added p q e = record {
     past-old = p;
     past-new = q;
-    grown = adds-grown (contentOf p) (contentOf q) (p .says .lawful .queriesMin) (q .says .lawful .queriesMin) (t .added (framesOf (contentOf p)) (framesOf (contentOf q)) (past-lines p) (past-lines q) e);
+    grown = adds-grown (contentOf p) (contentOf q) (p .says .lawful .queriesMin) (q .says .lawful .queriesMin)
+        (t .added (framesOf (contentOf p)) (framesOf (contentOf q)) (past-lines p) (past-lines q) e);
   }
 
   pub was-other : r ≡ false → OnlyAdded words old new → ⊥
   was-other e o =
       let p = o .past-old in
       let q = o .past-new in
-      t .other (framesOf (contentOf p)) (framesOf (contentOf q)) (past-lines p) (past-lines q) e (grown-adds (contentOf p) (contentOf q) (p .says .lawful .queriesMin) (o .grown))
+      t .other (framesOf (contentOf p)) (framesOf (contentOf q)) (past-lines p) (past-lines q) e
+      (grown-adds (contentOf p) (contentOf q) (p .says .lawful .queriesMin) (o .grown))
 
 module _ {words least : ℕ} {old : List ℕ} {r : Bool} (s : SomeFrom old least r) (is : (p : Past words old) → least ≡ length (contentOf p .predicates)) where
   found : (p : Past words old) → r ≡ anyOf (leb (length (contentOf p .predicates))) (flatMap predicates (framesOf (contentOf p)))

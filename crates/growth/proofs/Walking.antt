@@ -1,7 +1,7 @@
 -- The walk through both files, a line of each: what is asked of all frames is asked of those that are left.
 use mathlib.Core.Bool.{Bool, true, false}
 use mathlib.Core.List.{List, [], _∷_, map}
-use mathlib.Core.Logic.{_⊎_, inl, inr}
+use mathlib.Core.Logic.{inl, inr}
 use mathlib.Core.Path.{_≡_, refl, sym, ap, subst, _∙_}
 use Prim.Native.Nat.{ℕ, _+_, _-_, _≤_, _<_}
 use native.Mathlib.Omega.{arith}
@@ -18,10 +18,10 @@ use Rattle.meaning.proofs.Hex.{hexes}
 use Rattle.meaning.proofs.Written.{says}
 use Rattle.frames.specs.Contracts.{byteW, Holds, Malformed}
 use Rattle.convert.specs.Lines.{LinesAre}
-use Rattle.convert.proofs.Walking.{First, cut, step, no-bad, at-end}
+use Rattle.convert.proofs.Walking.{cut, step, no-bad, at-end}
 use Rattle.growth.specs.declared.Beside.{Beside}
 use Rattle.growth.specs.declared.Beside.the-variants.{Same, Added, Other}
-use Rattle.growth.specs.Lines.{SameBytes, kindOf, Addition, Adds, Beside-is, TellsBeside, TellsAdded}
+use Rattle.growth.specs.Lines.{SameBytes, kindOf, Addition, Adds, IsBeside, TellsBeside, TellsAdded}
 
 -- ---- Bytes
 
@@ -48,7 +48,10 @@ module _ {a b : List ℕ} where
   }
 
   pub agree-done : {i : ℕ} → Agree a b i → length a ≤ i → SameBytes a b true
-  agree-done h m = record { same = λ q. ext-getD 0 a b (h .long) (λ j k. h .bytes j (omega arith)); other = λ q e. let z : _≡_ {A = ℕ} 0 1 = cc in absurd (omega arith) }
+  agree-done h m = record {
+    same = λ q. ext-getD 0 a b (h .long) (λ j k. h .bytes j (omega arith));
+    other = λ q e. let z : _≡_ {A = ℕ} 0 1 = cc in absurd (omega arith);
+  }
 
 -- ---- Two lines
 
@@ -146,7 +149,10 @@ module _ {old new : List ℕ} {i j : ℕ} (c : Walking old new i j) where
   pub walking-done : length new ≤ j → TellsAdded old new (leb (length old) i)
   walking-done m = cases (leb (length old) i)
       (λ q. subst (TellsAdded old new) (sym q) (record {
-        added = λ fs gs a b r. let k = c .left fs gs a b in k .back (both (k .olds) (k .news) (at-end wide old i (leb-true (length old) i q) (k .olds) (k .old-are)) (at-end wide new j m (k .news) (k .new-are)));
+        added = λ fs gs a b r.
+            let k = c .left fs gs a b in
+            let no-old = at-end wide old i (leb-true (length old) i q) (k .olds) (k .old-are) in
+            k .back (both (k .olds) (k .news) no-old (at-end wide new j m (k .news) (k .new-are)));
         other = λ fs gs a b r h. let z : _≡_ {A = ℕ} 0 1 = cc in omega arith;
       }))
       (λ q. subst (TellsAdded old new) (sym q) (never (λ olds news a b h. shorter olds news (at-end wide new j m news b) (leb-false (length old) i q) a h)))
@@ -166,7 +172,7 @@ module _ {old new : List ℕ} {i j : ℕ} (c : Walking old new i j) where
     record Turn (r : Beside) (fs gs : List Frame) : Type 0 where
       left : Frame
       right : Frame
-      is : Beside-is left right r
+      is : IsBeside left right r
       olds : List Frame
       news : List Frame
       old-are : LinesAre wide (drop next old) olds
@@ -231,6 +237,6 @@ module _ {old new : List ℕ} {i j : ℕ} (c : Walking old new i j) where
       other = λ fs gs u v q h. let k = turn Other t fs gs u v in past (k .left) (k .right) (k .is) (k .olds) (k .news) (k .to h);
     }
       where
-        past : (f g : Frame) → Beside-is f g Other → (fs gs : List Frame) → Adds (f ∷ fs) (g ∷ gs) → ⊥
+        past : (f g : Frame) → IsBeside f g Other → (fs gs : List Frame) → Adds (f ∷ fs) (g ∷ gs) → ⊥
         past f g q fs gs (inl h) = q .0 (h .0)
         past f g q fs gs (inr h) = q .1 (h .0)

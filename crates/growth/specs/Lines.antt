@@ -30,13 +30,13 @@ Adds [] (g ∷ gs) = ⊥
 Adds (f ∷ fs) [] = ⊥
 Adds (f ∷ fs) (g ∷ gs) = ((f ≡ g) × Adds fs gs) ⊎ (Addition f g × Adds (f ∷ fs) gs)
 
-abbrev pub Beside-is : Frame → Frame → Beside → Type 0
-Beside-is f g Same = f ≡ g
-Beside-is f g Added = Addition f g
-Beside-is f g Other = (f ≡ g → ⊥) × (Addition f g → ⊥)
+abbrev pub IsBeside : Frame → Frame → Beside → Type 0
+IsBeside f g Same = f ≡ g
+IsBeside f g Added = Addition f g
+IsBeside f g Other = (f ≡ g → ⊥) × (Addition f g → ⊥)
 
 pub record TellsBeside (a b : List ℕ) (r : Beside) : Type 0 where
-  pub is : (f g : Frame) → a ≡ written wide f → b ≡ written wide g → Writable wide f → Writable wide g → Beside-is f g r
+  pub is : (f g : Frame) → a ≡ written wide f → b ≡ written wide g → Writable wide f → Writable wide g → IsBeside f g r
 
 pub record TellsAdded (old new : List ℕ) (r : Bool) : Type 0 where
   pub added : (fs gs : List Frame) → LinesAre wide old fs → LinesAre wide new gs → r ≡ true → Adds fs gs
