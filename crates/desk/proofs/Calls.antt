@@ -39,7 +39,7 @@ answer-long : {f w out w′ out′ : List ℕ} (n : ℕ) → ChecksFile f w out 
 answer-long {f} {w} {out} {w′} {out′} n h =
     let x = call-accepted n h in
     let ls = formLines (textIn (x .form)) (x .ts) in
-    let zeros = replicate (length out - n) 0 in
+    let zeros = replicate {A = ℕ} (length out - n) 0 in
     let size : length out′ ≡ length ls + (length out - n) =
     ap length (x .answer) ∙ length-append ls zeros ∙ ap (λ m. length ls + m) (length-replicate {A = ℕ} (length out - n) 0) in
     length-take-le n out′ (omega (arith, size, x .long))
