@@ -62,6 +62,17 @@ uint8_t sigla_lamp(const uint8_t *file, size_t file_len, uint32_t *work, size_t 
 uint8_t sigla_widen(const uint8_t *file, size_t file_len, uint32_t *work, size_t work_len, uint8_t *out, size_t out_len);
 uint8_t sigla_narrow(const uint8_t *file, size_t file_len, uint32_t *work, size_t work_len, uint8_t *out, size_t out_len);
 
+/* Whether the queries of the old file keep their answers in the new one, byte for byte: 0, or the first of these premises that fails.
+ * The work slice is zero afterwards; one of fewer than SIGLA_WORDS words turns the old file down. */
+enum sigla_premise {
+    SIGLA_PREMISES_HOLD = 0,
+    SIGLA_OLD_REFUSED = 1,      /* the old file is past refusals 1 to 10 and 13 */
+    SIGLA_NEW_REFUSED = 2,      /* the new file is */
+    SIGLA_OTHER_CHANGE = 3,     /* the new file has more names, types and predicates, each after all old ones of its kind, and no other change */
+    SIGLA_NAMES_ABSENT = 4      /* the old file names no predicate by a number that it has none for, in a type or in a node */
+};
+uint8_t sigla_growth(const uint8_t *old, size_t old_len, const uint8_t *new_file, size_t new_len, uint32_t *work, size_t work_len);
+
 /* A tally: units of 1,000 visits, cents, and the visits that fill no unit yet. Zeros to begin with. */
 struct sigla_tally {
     uint32_t units, cents, remainder;

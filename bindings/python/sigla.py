@@ -142,6 +142,21 @@ def narrow(file, words=WORDS, length=BYTES):
     return _sliced(_load().sigla_narrow, [], file, words, length)
 
 
+PREMISES = {
+    1: "the old file is turned down",
+    2: "the new file is turned down",
+    3: "the new file differs by more than names, types and predicates after the old ones of their kind",
+    4: "the old file names a predicate by a number that it has none for",
+}
+
+
+def growth(old, new, words=WORDS):
+    """0 where the queries of the old file keep their answers in the new one; else the first premise that fails (PREMISES)."""
+    work = (ctypes.c_uint32 * words)()
+    return _load().sigla_growth(
+        bytes(old), ctypes.c_size_t(len(old)), bytes(new), ctypes.c_size_t(len(new)), work, ctypes.c_size_t(words))
+
+
 _library = None
 
 
@@ -149,7 +164,7 @@ def _load():
     global _library
     if _library is None:
         _library = ctypes.CDLL(os.environ.get("SIGLA_SO", "libsigla.so"))
-        for name in ("check", "lamp", "widen", "narrow", "tally", "set_up", "ceiling", "new_day", "check_at"):
+        for name in ("check", "lamp", "widen", "narrow", "growth", "tally", "set_up", "ceiling", "new_day", "check_at"):
             getattr(_library, f"sigla_{name}").restype = ctypes.c_uint8
     return _library
 

@@ -61,6 +61,14 @@ class Calls(unittest.TestCase):
         self.assertEqual(refused.exception.number, 12)
         self.assertIn("does not know", str(sigla.Refused(99)))
 
+    def test_growth(self):
+        old = (SAMPLES / "../crates/sigla_growth/data/old.hex").read_bytes()
+        new = (SAMPLES / "../crates/sigla_growth/data/new.hex").read_bytes()
+        self.assertEqual([sigla.growth(*pair) for pair in [(old, new), (b"", new), (old, b""), (new, old)]], [0, 1, 2, 3])
+        self.assertEqual(sigla.growth(old.replace(b"0d00000000", b"0d00000001"), new.replace(b"0d00000000", b"0d00000001")), 4)
+        self.assertEqual(sigla.growth(old, new, words=16383), 1)
+        self.assertEqual(sigla.check(old), sigla.check(new))
+
     def test_what_is_no_answer(self):
         for lines in [b"0e\n", b"07000100\n", b"070000\n", b"0700000000\n"]:
             with self.assertRaises(ValueError):

@@ -11,6 +11,7 @@ mod answer;
 mod desk;
 mod file;
 mod form;
+mod growth;
 mod refusal;
 mod ty;
 
@@ -18,6 +19,7 @@ pub use answer::{Answer, Diagnostic, NoAnswer, Typed};
 pub use desk::{Desk, Group, Tally};
 pub use file::{Asked, File, NoFile, NodeFrame, PredicateFrame, QueryFrames, Shape, StatementFrame, TypeFrame};
 pub use form::{Form, Limit, Node, Predicate, Query, Span, Statement, Type};
+pub use growth::{Premise, growth};
 pub use refusal::Refusal;
 pub use ty::{Alternative, Field, Names, Shown, Tree, Ty};
 

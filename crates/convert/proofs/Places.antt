@@ -4,11 +4,11 @@ use mathlib.Core.List.{List, [], _∷_, _++_}
 use mathlib.Core.Path.{_≡_, refl, sym, ap, subst, _∙_}
 use Prim.Native.Nat.{ℕ, _+_, _-_, _*_, _/_, _%_, _≤_, _<_}
 use native.Mathlib.Omega.{arith}
-use lib.Dec.{eqb, ltb, leb}
+use lib.Dec.{eqb, leb}
 use lib.ListN.{length, getD, take, drop, length-drop}
 use native.Mathlib.Nat.{sub-zero}
 use lib.Seq.{take-all}
-use borrow.Author.Tests.{eq-eqb, ne-eqb, lt-ltb, le-ltb, leb-true, leb-false}
+use borrow.Author.Tests.{ne-eqb}
 use Rattle.unification.specs.Ty.{Int, String, Bytes, Fact}
 use Rattle.meaning.specs.Syntax.{FieldRef, Literal, ExprKind, Node}
 use Rattle.meaning.specs.Frame.{Edition, narrow, wide, kindByte, aLeaf, aRecord, aUnion, Frame, theLimits, aName, aType, aPredicate, aNode, theQuery, frameKind}
@@ -16,10 +16,10 @@ use Rattle.meaning.specs.Conditions.{anyOf}
 use Rattle.meaning.specs.Answer.{bytes₂, bytes₄}
 use Rattle.meaning.specs.Writing.{asReference, asShape, asExpr, asNode, asContent, written, ExprFits, Fits}
 use Rattle.meaning.proofs.Tests.{cases}
-use Rattle.frames.specs.Contracts.{byteW, halfW}
-use Rattle.editions.specs.Converted.{shapePredicates, exprPredicates, predicates, isAbove}
+use Rattle.frames.specs.Contracts.{byteW, halfW, fullW}
+use Rattle.editions.specs.Converted.{shapePredicates, exprPredicates, predicates}
 use Rattle.editions.proofs.Views.{View, a-type, a-node, plain, view, low-bytes, node-bytes}
-use Rattle.convert.specs.Lines.{other, placeAt, placeOf, Placed, Above}
+use Rattle.convert.specs.Lines.{other, placeAt, placeOf, Placed, NamesFrom}
 
 -- ---- The place
 
@@ -167,33 +167,39 @@ left-alone g h = go g (view g) h
     go g (a-node n p x q) h = absurd (omega (arith, h, node-place n p x q))
     go g (plain y) h = y .same
 
--- ---- A number above 65,535
+-- ---- The number that a line names
 
-high-half : (p : ℕ) → p < 4294967296 → ltb 0 (p / 65536 / 256 % 256 * 256 + p / 65536 % 256) ≡ anyOf isAbove (p ∷ [])
-unfolding anyOf isAbove
-high-half p h = cases (leb 65536 p)
-    (λ q. let l = leb-true 65536 p q in lt-ltb 0 (p / 65536 / 256 % 256 * 256 + p / 65536 % 256) (omega (arith, l)) ∙ sym (rw (q, anyOf)))
-    (λ q. let l = leb-false 65536 p q in le-ltb 0 (p / 65536 / 256 % 256 * 256 + p / 65536 % 256) (omega (arith, l)) ∙ sym (rw (q, anyOf)))
-
-pub above-is : (g : Frame) → Fits wide g → 0 < placeOf g → ltb 0 (halfW (written wide g) (placeOf g)) ≡ anyOf isAbove (predicates g)
-unfolding written asContent asShape asReference bytes₂ bytes₄ kindByte frameKind halfW predicates shapePredicates exprPredicates
-above-is g h l = go g (view g) h l
-  where
-    go : (g : Frame) → View g → Fits wide g → 0 < placeOf g → ltb 0 (halfW (written wide g) (placeOf g)) ≡ anyOf isAbove (predicates g)
-    go g (a-type p) h l = rw (type-place p) (high-half p h)
-    go g (a-node n p x q) h l =
-        let k = subst (ExprFits wide) q (h .2) in
-        rw (node-place n p x q) (ap (λ s. ltb 0 (halfW s 10)) (node-bytes wide n p x q) ∙ high-half p (k .0) ∙ ap (λ y. anyOf isAbove (exprPredicates y)) (sym q))
-    go g (plain y) h l = absurd (omega (arith, l, nowhere g (y .none)))
-
-pub none-above : (g : Frame) → placeOf g ≡ 0 → false ≡ anyOf isAbove (predicates g)
+one-passes : (test : ℕ → Bool) (p : ℕ) → test p ≡ anyOf test (p ∷ [])
 unfolding anyOf
-none-above g h = go g (view g) h
-  where
-    go : (g : Frame) → View g → placeOf g ≡ 0 → false ≡ anyOf isAbove (predicates g)
-    go g (a-type p) h = absurd (omega (arith, h, type-place p))
-    go g (a-node n p x q) h = absurd (omega (arith, h, node-place n p x q))
-    go g (plain y) h = sym (ap (anyOf isAbove) (y .none))
+one-passes test p = cases (test p) (λ q. q ∙ sym (rw (q, anyOf))) (λ q. q ∙ sym (rw (q, anyOf)))
+
+four-bytes : (p : ℕ) → p < 4294967296 → (p / 65536 / 256 % 256 * 256 + p / 65536 % 256) * 65536 + (p / 256 % 256 * 256 + p % 256) ≡ p
+four-bytes p h = omega arith
+
+module _ (least : ℕ) where
+  pub number-is : (g : Frame) → Fits wide g → 0 < placeOf g → leb least (fullW (written wide g) (placeOf g)) ≡ anyOf (leb least) (predicates g)
+  unfolding written asContent asShape asReference bytes₂ bytes₄ kindByte frameKind fullW halfW predicates shapePredicates exprPredicates
+  number-is g h l = go g (view g) h l
+    where
+      go : (g : Frame) → View g → Fits wide g → 0 < placeOf g → leb least (fullW (written wide g) (placeOf g)) ≡ anyOf (leb least) (predicates g)
+      go g (a-type p) h l = rw (type-place p) (ap (leb least) (four-bytes p h) ∙ one-passes (leb least) p)
+      go g (a-node n p x q) h l =
+          let k = subst (ExprFits wide) q (h .2) in
+          rw (node-place n p x q) (
+          ap (λ s. leb least (fullW s 10)) (node-bytes wide n p x q)
+          ∙ ap (leb least) (four-bytes p (k .0))
+          ∙ one-passes (leb least) p
+          ∙ ap (λ y. anyOf (leb least) (exprPredicates y)) (sym q))
+      go g (plain y) h l = absurd (omega (arith, l, nowhere g (y .none)))
+
+  pub no-number : (g : Frame) → placeOf g ≡ 0 → false ≡ anyOf (leb least) (predicates g)
+  unfolding anyOf
+  no-number g h = go g (view g) h
+    where
+      go : (g : Frame) → View g → placeOf g ≡ 0 → false ≡ anyOf (leb least) (predicates g)
+      go g (a-type p) h = absurd (omega (arith, h, type-place p))
+      go g (a-node n p x q) h = absurd (omega (arith, h, node-place n p x q))
+      go g (plain y) h = sym (ap (anyOf (leb least)) (y .none))
 
 -- ---- A line in the other edition
 
@@ -225,8 +231,8 @@ module _ {s : List ℕ} {i : ℕ} (p : Placed s i) where
     pub longer-cut : (g : Frame) → s ≡ written narrow g → Fits narrow g → take (i - 0) s ++ (0 ∷ 0 ∷ [] ++ take (length s - i) (drop i s)) ≡ written wide g
     longer-cut g w f = ap (λ t. take (i - 0) s ++ (0 ∷ 0 ∷ [] ++ t)) (whole-end i) ∙ ap (λ k. take k s ++ (0 ∷ 0 ∷ [] ++ drop i s)) (sub-zero i) ∙ longer-line g w f
 
-    pub above-by : (h : ℕ) → h ≡ halfW s i → Above s (ltb 0 h)
-    above-by h q = record { is = λ g w f. rw (q, p .is wide g w, w) (above-is g f (there wide g w)) }
+    pub from-by : (least h : ℕ) → h ≡ fullW s i → NamesFrom s least (leb least h)
+    from-by least h q = record { is = λ g w f. rw (q, p .is wide g w, w) (number-is least g f (there wide g w)) }
 
-  pub not-above : i ≡ 0 → Above s false
-  not-above z = record { is = λ g w f. none-above g (sym (p .is wide g w) ∙ z) }
+  pub names-none : (least : ℕ) → i ≡ 0 → NamesFrom s least false
+  names-none least z = record { is = λ g w f. no-number least g (sym (p .is wide g w) ∙ z) }

@@ -6,6 +6,7 @@ use mathlib.Core.Path.{_≡_, refl, sym, ap, subst, _∙_}
 use Prim.Native.Nat.{ℕ, _-_, _≤_, _<_}
 use native.Mathlib.Nat.{sub-zero}
 use native.Mathlib.Omega.{arith}
+use lib.Dec.{leb}
 use lib.ListN.{length, take, drop}
 use Rattle.meaning.specs.Lines.{lines, maxBytes, someBytes, bytesOf}
 use Rattle.meaning.specs.Frame.{Edition, narrow, wide, Frame}
@@ -25,10 +26,10 @@ use Rattle.writer.specs.declared.Wrote.the-variants.{To, Full}
 use Rattle.writer.specs.Writes.{Writes}
 use Rattle.writer.proofs.Writing.{Goes, goes-start, goes-next, goes-full, goes-done, writes-to}
 use Rattle.editions.specs.Converted.{predicates, isAbove, someAbove}
-use Rattle.convert.specs.Lines.{other, LinesAre, ConvertsLine, ConvertsLines, Above, SomeAbove}
+use Rattle.convert.specs.Lines.{other, LinesAre, ConvertsLine, ConvertsLines, NamesFrom, SomeFrom, SomeAbove}
 
 -- the line as the code cuts it
-cut : (line : List ℕ) (n : ℕ) → take (n - 0) line ≡ take n line
+pub cut : (line : List ℕ) (n : ℕ) → take (n - 0) line ≡ take n line
 cut line n = ap (λ k. take k line) (sub-zero n)
 
 -- ---- One line
@@ -145,47 +146,65 @@ module _ (e : Edition) {f out₀ : List ℕ} {at : ℕ} {out : List ℕ} {to : �
       long = w .long ∙ c .long;
     }
 
--- ---- 14
+-- ---- Predicates by a number or a higher one
 
--- no number above so far: whether there is one is whether there is one from here on
-pub record Seeking (f : List ℕ) (at : ℕ) : Type 0 where
-  pub left : (fs : List Frame) → LinesAre wide f fs → (rest : List Frame) × LinesAre wide (drop at f) rest × (someAbove fs ≡ someAbove rest)
+module _ (test : ℕ → Bool) where
+  any-first : (ps qs : List ℕ) → anyOf test ps ≡ true → anyOf test (ps ++ qs) ≡ true
+  unfolding anyOf
+  any-first [] qs h = let z : _≡_ {A = ℕ} 0 1 = cc in absurd (omega arith)
+  any-first (p ∷ ps) qs h = cases (test p) (λ q. rw (q, anyOf)) (λ q. rw (q, anyOf) (any-first ps qs (rw (q, anyOf) at h)))
 
-pub seeking-start : (f : List ℕ) → Seeking f 0
-seeking-start f = record { left = λ fs a. (fs, a, refl) }
+  any-later : (ps qs : List ℕ) → anyOf test ps ≡ false → anyOf test (ps ++ qs) ≡ anyOf test qs
+  unfolding anyOf
+  any-later [] qs h = refl
+  any-later (p ∷ ps) qs h = cases (test p)
+      (λ q. let c : true ≡ false = sym (rw (q, anyOf)) ∙ h in let z : _≡_ {A = ℕ} 0 1 = cc in absurd (omega arith))
+      (λ q. rw (q, anyOf) (any-later ps qs (rw (q, anyOf) at h)))
 
-any-first : (ps qs : List ℕ) → anyOf isAbove ps ≡ true → anyOf isAbove (ps ++ qs) ≡ true
-unfolding anyOf
-any-first [] qs h = let z : _≡_ {A = ℕ} 0 1 = cc in absurd (omega arith)
-any-first (p ∷ ps) qs h = cases (isAbove p) (λ q. rw (q, anyOf)) (λ q. rw (q, anyOf) (any-first ps qs (rw (q, anyOf) at h)))
+-- whether there is one is whether there is one from here on
+pub record Seeking (f : List ℕ) (least at : ℕ) : Type 0 where
+  pub left : (fs : List Frame) → LinesAre wide f fs
+      → (rest : List Frame) × LinesAre wide (drop at f) rest × (anyOf (leb least) (flatMap predicates fs) ≡ anyOf (leb least) (flatMap predicates rest))
 
-any-later : (ps qs : List ℕ) → anyOf isAbove ps ≡ false → anyOf isAbove (ps ++ qs) ≡ anyOf isAbove qs
-unfolding anyOf
-any-later [] qs h = refl
-any-later (p ∷ ps) qs h = cases (isAbove p) (λ q. let c : true ≡ false = sym (rw (q, anyOf)) ∙ h in let z : _≡_ {A = ℕ} 0 1 = cc in absurd (omega arith)) (λ q. rw (q, anyOf) (any-later ps qs (rw (q, anyOf) at h)))
+pub seeking-start : (f : List ℕ) (least : ℕ) → Seeking f least 0
+seeking-start f least = record { left = λ fs a. (fs, a, refl) }
 
-module _ {f : List ℕ} {at : ℕ} (c : Seeking f at) where
-  pub seeking-bad : Malformed f at → SomeAbove f false
+module _ {f : List ℕ} {least at : ℕ} (c : Seeking f least at) where
+  abbrev found : List Frame → Bool
+  found fs = anyOf (leb least) (flatMap predicates fs)
+
+  pub seeking-bad : Malformed f at → SomeFrom f least false
   seeking-bad b = record { is = λ fs a. let k = c .left fs a in absurd (no-bad wide b (k .0) (k .1)) }
 
-  pub seeking-done : length f ≤ at → SomeAbove f false
-  unfolding someAbove flatMap anyOf
-  seeking-done l = record { is = λ fs a. let k = c .left fs a in sym (k .2 ∙ ap someAbove (at-end wide f at l (k .0) (k .1))) }
+  pub seeking-done : length f ≤ at → SomeFrom f least false
+  unfolding flatMap anyOf
+  seeking-done l = record { is = λ fs a. let k = c .left fs a in sym (k .2 ∙ ap found (at-end wide f at l (k .0) (k .1))) }
 
-  module _ {line : List ℕ} {n next : ℕ} (d : Holds f at line n next) {r : Bool} (w : Above (take (n - 0) line) r) where
-    pub seeking-next : r ≡ false → Seeking f next
-    unfolding someAbove flatMap
+  module _ {line : List ℕ} {n next : ℕ} (d : Holds f at line n next) {r : Bool} (w : NamesFrom (take (n - 0) line) least r) where
+    -- what the line names
+    on-line : {fs : List Frame} (i : First wide f line n next fs) → r ≡ anyOf (leb least) (predicates (i .first))
+    on-line i = w .is (i .first) (cut line n ∙ i .bytes) (i .writable .fits)
+
+    pub seeking-next : r ≡ false → Seeking f least next
+    unfolding flatMap
     seeking-next q = record {
-      left = λ fs a. let k = c .left fs a in let i = step wide d (k .0) (k .1) in (
-        i .rest,
-        i .later,
-        k .2 ∙ ap someAbove (i .are) ∙ any-later (predicates (i .first)) (flatMap predicates (i .rest)) (sym (w .is (i .first) (cut line n ∙ i .bytes) (i .writable .fits)) ∙ q),
-      );
+      left = λ fs a.
+          let k = c .left fs a in
+          let i = step wide d (k .0) (k .1) in
+          let later = any-later (leb least) (predicates (i .first)) (flatMap predicates (i .rest)) (sym (on-line i) ∙ q) in
+          (i .rest, i .later, k .2 ∙ ap found (i .are) ∙ later);
     }
 
-    pub seeking-found : r ≡ true → SomeAbove f true
-    unfolding someAbove flatMap
+    pub seeking-found : r ≡ true → SomeFrom f least true
+    unfolding flatMap
     seeking-found q = record {
-      is = λ fs a. let k = c .left fs a in let i = step wide d (k .0) (k .1) in
-          sym (k .2 ∙ ap someAbove (i .are) ∙ any-first (predicates (i .first)) (flatMap predicates (i .rest)) (sym (w .is (i .first) (cut line n ∙ i .bytes) (i .writable .fits)) ∙ q));
+      is = λ fs a.
+          let k = c .left fs a in
+          let i = step wide d (k .0) (k .1) in
+          sym (k .2 ∙ ap found (i .are) ∙ any-first (leb least) (predicates (i .first)) (flatMap predicates (i .rest)) (sym (on-line i) ∙ q));
     }
+
+-- 14
+pub above-by : {f : List ℕ} {r : Bool} → SomeFrom f 65536 r → SomeAbove f r
+unfolding someAbove isAbove
+above-by h = record { is = λ fs a. h .is fs a }

@@ -1,8 +1,9 @@
 -- What the functions of src/ promise of a line and of all lines. `e` is the edition that is read; the other one is written.
 use mathlib.Core.Bool.{Bool}
-use mathlib.Core.List.{List, [], _∷_, map}
+use mathlib.Core.List.{List, [], _∷_, map, flatMap}
 use mathlib.Core.Path.{_≡_}
 use Prim.Native.Nat.{ℕ, _+_, _≤_, _<_}
+use lib.Dec.{leb}
 use lib.ListN.{length}
 use Rattle.meaning.specs.Lines.{lines}
 use Rattle.meaning.specs.Frame.{Edition, narrow, wide, Frame, theLimits, aName, aType, aPredicate, aNode, theQuery}
@@ -13,7 +14,7 @@ use Rattle.meaning.specs.Answer.{hexLine}
 use Rattle.meaning.specs.Writing.{written, fileOf, Fits}
 use Rattle.writer.specs.declared.Wrote.{Wrote}
 use Rattle.writer.specs.Writes.{Writes, Moves}
-use Rattle.editions.specs.Converted.{shapePredicates, exprPredicates, predicates, isAbove, someAbove}
+use Rattle.editions.specs.Converted.{shapePredicates, exprPredicates, predicates, someAbove}
 
 abbrev pub other : Edition → Edition
 other narrow = wide
@@ -55,10 +56,14 @@ pub record ConvertsLines (e : Edition) (f out out′ : List ℕ) (r : Wrote) : T
   pub is : (fs : List Frame) → LinesAre e f fs → All (Fits narrow) fs → Writes out 0 (fileOf (other e) fs) out′ r
   pub long : length out′ ≡ length out
 
--- ---- 14
+-- ---- Predicates by this number or a higher one
 
-pub record Above (s : List ℕ) (r : Bool) : Type 0 where
-  pub is : (g : Frame) → s ≡ written wide g → Fits wide g → r ≡ anyOf isAbove (predicates g)
+pub record NamesFrom (s : List ℕ) (least : ℕ) (r : Bool) : Type 0 where
+  pub is : (g : Frame) → s ≡ written wide g → Fits wide g → r ≡ anyOf (leb least) (predicates g)
 
+pub record SomeFrom (f : List ℕ) (least : ℕ) (r : Bool) : Type 0 where
+  pub is : (fs : List Frame) → LinesAre wide f fs → r ≡ anyOf (leb least) (flatMap predicates fs)
+
+-- 14
 pub record SomeAbove (f : List ℕ) (r : Bool) : Type 0 where
   pub is : (fs : List Frame) → LinesAre wide f fs → r ≡ someAbove fs

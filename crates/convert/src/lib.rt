@@ -3,10 +3,10 @@
 ghost use mathlib.Core.List.{_++_};
 ghost use mathlib.Core.Path.{_≡_};
 ghost use Rattle.frames.specs.Contracts.{edition};
-ghost use Rattle.convert.specs.Lines.{Placed, WritesLine, ConvertsLine, ConvertsLines, Above, SomeAbove};
+ghost use Rattle.convert.specs.Lines.{Placed, WritesLine, ConvertsLine, ConvertsLines, NamesFrom, SomeFrom, SomeAbove};
 use frames::Decoded;
 use frames::byte;
-use frames::half;
+use frames::full;
 use work::Counters;
 use writer::Wrote;
 use writer::close;
@@ -103,20 +103,20 @@ pub fn convert(file: &[u8], out: &mut [u8], wide: bool) -> Wrote
     Wrote::To(to)
 }
 
-// Whether the line of a wide file names a predicate above 65,535: whether the upper half of its number is not zero.
-fn above(s: &[u8]) -> bool
-    ensures { λ r. ⌜ Above (now (s .entry)) r ⌝ }
+// Whether the line of a wide file names a predicate by this number or a higher one.
+fn names_from(s: &[u8], least: u32) -> bool
+    ensures { λ r. ⌜ NamesFrom (now (s .entry)) least r ⌝ }
 {
     let i = place(s);
     if i == 0 {
         return false;
     }
-    0 < half(s, i)
+    least <= full(s, i)
 }
 
-// 14: whether a line of a wide file does.
-pub fn some_above(file: &[u8]) -> bool
-    ensures { λ r. ⌜ SomeAbove (now (file .entry)) r ⌝ }
+// Whether a line of a wide file does.
+pub fn some_from(file: &[u8], least: u32) -> bool
+    ensures { λ r. ⌜ SomeFrom (now (file .entry)) least r ⌝ }
 {
     let mut line = [0u8; Counters::LINE];
     let mut at: usize = 0;
@@ -127,7 +127,7 @@ pub fn some_above(file: &[u8]) -> bool
                 return false;
             }
             Decoded::Bytes(n, next) => {
-                if above(&line[0..n]) {
+                if names_from(&line[0..n], least) {
                     return true;
                 }
                 at = next;
@@ -135,4 +135,11 @@ pub fn some_above(file: &[u8]) -> bool
         }
     }
     false
+}
+
+// 14: whether a line of a wide file names a predicate above 65,535.
+pub fn some_above(file: &[u8]) -> bool
+    ensures { λ r. ⌜ SomeAbove (now (file .entry)) r ⌝ }
+{
+    some_from(file, 65536)
 }

@@ -6,4 +6,5 @@ pub mod Deciding
 mod Lining
 pub mod Demands
 pub mod Days
+pub mod Calls
 pub mod Desks

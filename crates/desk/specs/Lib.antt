@@ -3,4 +3,5 @@ pub mod Turns
 pub mod Contracts
 pub mod Demands
 pub mod Days
+pub mod Calls
 pub mod Desks

@@ -20,7 +20,7 @@ use Rattle.meaning.specs.Diag.{ascii, codeOf, RejectFuzzyTerm, RejectValueShado
 use Rattle.meaning.specs.Frame.{wide}
 use Rattle.meaning.specs.Lines.{position, lines}
 use Rattle.meaning.specs.Conditions.{sameText, maxNames, maxTypes, maxPredicates, maxNodes, maxQueries}
-use Rattle.meaning.specs.File.{described, readingOf, reading, valueText, maxFile}
+use Rattle.meaning.specs.File.{refused, described, readingOf, reading, valueText, maxFile}
 use Rattle.meaning.specs.Writing.{fileOf, Writable}
 use Rattle.meaning.specs.Content.{Content, framesOf, describes, Says}
 use Rattle.meaning.specs.References.{shapeNames, shapeTypes, shapeKeys, optional, exprNames, exprNodes, queryNodes}
@@ -29,13 +29,13 @@ use Rattle.meaning.specs.Messages.{quoted, messageText, textIn}
 use Rattle.meaning.specs.Check.{Typed, typed, exhausted, check}
 use Rattle.meaning.specs.All.{All}
 use Rattle.meaning.specs.SoFar.{said}
-use Rattle.meaning.specs.Refusal.{answerTooLong}
+use Rattle.meaning.specs.Refusal.{nameGivenBefore, answerTooLong}
 use Rattle.meaning.specs.Answer.{hexLine}
-use Rattle.meaning.specs.Outcome.{maxVisits, Accepted, Refused, outcome}
+use Rattle.meaning.specs.Outcome.{minWords, maxVisits, Accepted, Refused, outcome}
 use Rattle.laws.specs.Marks.{NoMark}
 use Rattle.laws.specs.Names.{Renamed, linesBeside, SameBeside, Fits}
-use Rattle.laws.specs.Growth.{NoAbsent}
-use Rattle.laws.specs.Examples.{allCodes, allTexts, one-compared, comparing, named, ab, accented, short, value, asking, asking-grown, told, telling, before, grown, blackened}
+use Rattle.laws.specs.Growth.{Grown, NoAbsent}
+use Rattle.laws.specs.Examples.{allCodes, allTexts, one-compared, comparing, named, roomier, ab, accented, short, value, asking, asking-grown, told, telling, before, grown, blackened}
 use Rattle.unification.proofs.Tests.{clash}
 use Rattle.meaning.proofs.Written.{are-lines}
 use Rattle.meaning.proofs.Content.{says-exactly}
@@ -82,6 +82,11 @@ other-length = refl
 other-value : allCodes (answers 9 (named (ab ∷ short ∷ []))) ≡ (RejectFuzzyTerm ∷ []) ∷ []
 unfolding check codeOf describes ℕ-discrete Bindings.fresh Bindings.freshId Bindings.annotate Bindings.snapshot Bindings.rollback Bindings.zonk Unify.unify Unify.orderable
 other-value = refl
+
+-- more than names differ
+other-limit : allCodes (answers 9 (roomier (named (ab ∷ value ∷ [])))) ≡ (RejectValueShadowed ∷ []) ∷ []
+unfolding check codeOf describes ℕ-discrete Bindings.fresh Bindings.freshId Bindings.annotate Bindings.snapshot Bindings.rollback Bindings.zonk Unify.unify Unify.orderable
+other-limit = refl
 
 -- ---- Growth
 refers : Refers (asking 0)
@@ -131,7 +136,7 @@ new-file = refl
 abbrev both-texts : List ℕ → List ℕ → List (List (List ℕ))
 both-texts fact field = ((ascii "expected " ++ (fact ++ ascii ", found an integer")) ∷ (field ++ ascii " is not a field here") ∷ []) ∷ []
 
-abbrev file : Content → List ℕ
+abbrev pub file : Content → List ℕ
 file c = fileOf wide (framesOf c)
 
 -- "`ab`" twice
@@ -209,7 +214,7 @@ says-telling t n count new writable size = record {
   tree = refl;
 }
 
-says-old : Says wide (file (before 0)) (describes (before 0))
+pub says-old : Says wide (file (before 0)) (describes (before 0))
 unfolding characters maxFile fileOf framesOf lines said
 says-old = says-telling ab 2 refl (other-length-of refl) (are-lines wide (lines (file (before 0))) (framesOf (before 0)) refl .writable) (omega arith)
 
@@ -217,7 +222,7 @@ says-renamed : Says wide (file (blackened 0)) (describes (blackened 0))
 unfolding characters maxFile fileOf framesOf lines said
 says-renamed = says-telling accented 2 refl (other-length-of refl) (are-lines wide (lines (file (blackened 0))) (framesOf (blackened 0)) refl .writable) (omega arith)
 
-says-grown : Says wide (file (grown 0)) (describes (grown 0))
+pub says-grown : Says wide (file (grown 0)) (describes (grown 0))
 unfolding characters maxNames maxTypes maxPredicates maxQueries shapeNames shapeTypes shapeKeys optional maxFile fileOf framesOf lines said
 says-grown = record {
   content = grown 0;
@@ -246,12 +251,18 @@ says-grown = record {
 pub told-without-mark : All (λ a. NoMark (describes (before 0)) (check maxVisits (describes (before 0) .schema) a)) (describes (before 0) .queries)
 told-without-mark = no-mark (file (before 0)) (describes (before 0)) (says-exactly wide _ _ .1 says-old)
 
+-- The premises of card 14.
+pub old-present : NoAbsent (says-old .content)
+unfolding says-old says-telling
+old-present = record { types = (tt, (tt, tt)); nodes = ((tt, (omega arith, (tt, (tt, (omega arith, (tt, tt)))))), tt) }
+
+pub new-grown : Grown (says-old .content) (says-grown .content)
+unfolding says-old says-telling says-grown
+new-grown = record { names = _; types = _; predicates = _; is = refl }
+
 -- Both messages, before and after.
 pub grown-outcome : (words bytes : ℕ) → outcome (file (before 0)) words bytes ≡ outcome (file (grown 0)) words bytes
-unfolding says-old says-telling says-grown
-grown-outcome =
-    grown-files _ _ _ _ says-old says-grown (record { types = (tt, (tt, tt)); nodes = ((tt, (omega arith, (tt, (tt, (omega arith, (tt, tt)))))), tt) })
-    (record { names = _; types = _; predicates = _; is = refl })
+grown-outcome = grown-files _ _ _ _ says-old says-grown old-present new-grown
 
 -- Both are answered, and their messages differ (`with-names`, `other-names`).
 fits : (t : List ℕ) → outcome (file (telling (t ∷ short ∷ []) 0)) 16384 999 .result ≡ Accepted → Fits (outcome (file (telling (t ∷ short ∷ []) 0)) 16384 999)
@@ -266,10 +277,25 @@ unfolding outcome check ℕ-discrete fileOf framesOf Bindings.fresh Bindings.fre
 renamed-answered = refl
 
 pub renamed-outcome : SameBeside (outcome (file (before 0)) 16384 999) (outcome (file (blackened 0)) 16384 999)
-unfolding position sameText valueText says-renamed says-telling says-old
+unfolding position sameText valueText minWords says-renamed says-telling says-old
 renamed-outcome =
-    private-files _ _ _ _ says-old says-renamed (record { only-names = refl; value = refl; terms = ((tt, (tt, (tt, (tt, (tt, (tt, tt)))))), tt) }) 16384 999
+    private-files _ _ _ _ says-old says-renamed (record { only-names = refl; value = refl; terms = ((tt, (tt, (tt, (tt, (tt, (tt, tt)))))), tt) })
+    16384 999 16384 999 (omega arith) (omega arith)
     (fits ab old-answered) (fits accented renamed-answered)
+
+-- A name that is given twice is no file's: the second file is not past 8.
+given-twice : reading (file (telling (short ∷ short ∷ []) 0)) ≡ refused nameGivenBefore
+unfolding readingOf fileOf framesOf
+given-twice = refl
+
+-- An answer slice that is large enough for one of the two alone.
+old-just-fits : outcome (file (before 0)) 16384 335 .result ≡ Accepted
+unfolding outcome check ℕ-discrete fileOf framesOf Bindings.fresh Bindings.freshId Bindings.annotate Bindings.snapshot Bindings.rollback Bindings.zonk Unify.unify Unify.orderable
+old-just-fits = refl
+
+renamed-too-long : outcome (file (blackened 0)) 16384 335 .result ≡ Refused answerTooLong
+unfolding outcome check ℕ-discrete fileOf framesOf Bindings.fresh Bindings.freshId Bindings.annotate Bindings.snapshot Bindings.rollback Bindings.zonk Unify.unify Unify.orderable
+renamed-too-long = refl
 
 -- A message line is left out, and what follows the last LF; nothing else is.
 one-left : linesBeside (hexLine (8 ∷ []) ++ (hexLine (0x0a ∷ ab) ++ (hexLine (0x0b ∷ []) ++ 0 ∷ 0 ∷ []))) ≡ ascii "08" ∷ ascii "0b" ∷ []

@@ -6,6 +6,7 @@ use mathlib.Core.Path.{_≡_, refl, sym, _∙_, ap}
 use Prim.Native.Nat.{ℕ, _-_, _≤_}
 use lib.Dec.{ltb}
 use lib.ListN.{length}
+use borrow.Author.Tests.{le-ltb, ltb-false}
 use Rattle.meaning.specs.All.{All, Each}
 use Rattle.meaning.specs.Syntax.{Ast}
 use Rattle.meaning.specs.Schema.{Schema}
@@ -18,7 +19,7 @@ use Rattle.meaning.specs.Content.{PredicateFrame, Content, Lawful, Says, descri
 use Rattle.meaning.specs.Messages.{textIn}
 use Rattle.meaning.specs.Answer.{formLines}
 use Rattle.meaning.specs.Check.{Typed, Checked, typed, exhausted, check}
-use Rattle.meaning.specs.Outcome.{minWords, maxVisits, turnedDown, answered, withChecked, runAll, decideRun, decideRead, decide, Outcome, refuse, accept, finish, outcome}
+use Rattle.meaning.specs.Outcome.{minWords, maxVisits, turnedDown, answered, withChecked, runAll, decideRun, decideRead, decide, refuse, accept, finish, outcome}
 use Rattle.meaning.proofs.Lists.{all-map}
 use Rattle.meaning.proofs.Tests.{cases}
 use Rattle.meaning.proofs.Content.{says-exactly}
@@ -66,10 +67,10 @@ unfolding decide decideRead decideRun
 lower-ceiling file f read ts h words enough =
     rw (enough, decide) (ap decideRead read ∙ ap (decideRun (textIn f)) (each-ran (f .schema) (f .queries) ts (each-within (f .schema) (f .queries) ts h)))
 
--- ---- The call, on a file past 2 to 10 and 13
-long-enough : (file : List ℕ) (f : Form) → Says wide file f → (words : ℕ) → ltb words minWords ≡ false → decide file words ≡ decideRead (described f)
+-- ---- The call, on a file past 1 to 10 and 13
+long-enough : (file : List ℕ) (f : Form) → Says wide file f → (words : ℕ) → minWords ≤ words → decide file words ≡ decideRead (described f)
 unfolding decide
-long-enough file f says words e = rw (e, decide) (ap decideRead (says-exactly wide file f .1 says))
+long-enough file f says words l = rw (le-ltb words minWords l, decide) (ap decideRead (says-exactly wide file f .1 says))
 
 too-short : (file : List ℕ) (words : ℕ) → ltb words minWords ≡ true → decide file words ≡ turnedDown workTooShort
 unfolding decide
@@ -87,49 +88,36 @@ pub private-decisions : (f g : List ℕ) (d e : Form) (p : Says wide f d) (q : S
     → (text : Message → List ℕ) → decideRun text (runAll (d .schema) (d .queries)) ≡ decideRun text (runAll (e .schema) (e .queries))
 private-decisions f g d e p q h text = ap (decideRun text) (private-runs f g d e p q h)
 
-same-outcome : {a b : Outcome} → a ≡ b → SameBeside a b
-same-outcome e = record {
-  result = ap (λ (o : Outcome). o .result) e;
-  work = ap (λ (o : Outcome). o .work) e;
-  answer = ap (λ (o : Outcome). linesBeside (o .answer)) e;
-}
-
-module _ (text text′ : Message → List ℕ) (words bytes : ℕ) where
+module _ (text text′ : Message → List ℕ) (words bytes words′ bytes′ : ℕ) where
   -- Two answers that differ in their texts alone, where both fit.
-  both-fit : (ts : List Typed) (x y : Bool) → ltb bytes (length (formLines text ts)) ≡ x → ltb bytes (length (formLines text′ ts)) ≡ y
-      → Fits (finish (answered (formLines text ts)) words bytes) → Fits (finish (answered (formLines text′ ts)) words bytes)
-      → SameBeside (finish (answered (formLines text ts)) words bytes) (finish (answered (formLines text′ ts)) words bytes)
+  both-fit : (ts : List Typed) (x y : Bool) → ltb bytes (length (formLines text ts)) ≡ x → ltb bytes′ (length (formLines text′ ts)) ≡ y
+      → Fits (finish (answered (formLines text ts)) words bytes) → Fits (finish (answered (formLines text′ ts)) words′ bytes′)
+      → SameBeside (finish (answered (formLines text ts)) words bytes) (finish (answered (formLines text′ ts)) words′ bytes′)
   unfolding finish refuse accept
   both-fit ts true y p q h i = absurd (h (rw (p, finish)))
   both-fit ts false true p q h i = absurd (i (rw (q, finish)))
   both-fit ts false false p q h i = rw (p, q, finish) (record {
     result = refl;
-    work = refl;
-    answer = same-form text text′ ts .before _ _ (no-lines (bytes - length (formLines text ts)) ∙ sym (no-lines (bytes - length (formLines text′ ts))));
+    answer = same-form text text′ ts .before _ _ (no-lines (bytes - length (formLines text ts)) ∙ sym (no-lines (bytes′ - length (formLines text′ ts))));
   })
 
-  decided-beside : (o : Option (List Typed)) → Fits (finish (decideRun text o) words bytes) → Fits (finish (decideRun text′ o) words bytes)
-      → SameBeside (finish (decideRun text o) words bytes) (finish (decideRun text′ o) words bytes)
-  unfolding decideRun
-  decided-beside none h i = same-outcome refl
+  decided-beside : (o : Option (List Typed)) → Fits (finish (decideRun text o) words bytes) → Fits (finish (decideRun text′ o) words′ bytes′)
+      → SameBeside (finish (decideRun text o) words bytes) (finish (decideRun text′ o) words′ bytes′)
+  unfolding decideRun finish refuse linesBeside
+  decided-beside none h i = record { result = refl; answer = no-lines bytes ∙ sym (no-lines bytes′) }
   decided-beside (some ts) h i = both-fit ts _ _ refl refl h i
 
--- The same result and the same lines but for message lines, where the answer slice is large enough for both.
+-- The same result and the same lines but for message lines, where each answer slice is large enough.
 pub private-files : (f g : List ℕ) (d e : Form) (p : Says wide f d) (q : Says wide g e) → Renamed (p .content) (q .content)
-    → (words bytes : ℕ) → Fits (outcome f words bytes) → Fits (outcome g words bytes) → SameBeside (outcome f words bytes) (outcome g words bytes)
+    → (words bytes words′ bytes′ : ℕ) → minWords ≤ words → minWords ≤ words′ → Fits (outcome f words bytes) → Fits (outcome g words′ bytes′)
+    → SameBeside (outcome f words bytes) (outcome g words′ bytes′)
 unfolding outcome decideRead
-private-files f g d e p q r words bytes h i = cases (ltb words minWords) short long
-  where
-    short : ltb words minWords ≡ true → SameBeside (outcome f words bytes) (outcome g words bytes)
-    short z = same-outcome (ap (λ x. finish x words bytes) (too-short f words z ∙ sym (too-short g words z)))
-
-    long : ltb words minWords ≡ false → SameBeside (outcome f words bytes) (outcome g words bytes)
-    long z =
-        let o = runAll (e .schema) (e .queries) in
-        let first : outcome f words bytes ≡ finish (decideRun (textIn d) o) words bytes =
-        ap (λ x. finish x words bytes) (long-enough f d p words z ∙ private-decisions f g d e p q r (textIn d)) in
-        let second : outcome g words bytes ≡ finish (decideRun (textIn e) o) words bytes = ap (λ x. finish x words bytes) (long-enough g e q words z) in
-        rw (first, second) (decided-beside (textIn d) (textIn e) words bytes o (rw first at h) (rw second at i))
+private-files f g d e p q r words bytes words′ bytes′ l l′ h i =
+    let o = runAll (e .schema) (e .queries) in
+    let first : outcome f words bytes ≡ finish (decideRun (textIn d) o) words bytes =
+    ap (λ x. finish x words bytes) (long-enough f d p words l ∙ private-decisions f g d e p q r (textIn d)) in
+    let second : outcome g words′ bytes′ ≡ finish (decideRun (textIn e) o) words′ bytes′ = ap (λ x. finish x words′ bytes′) (long-enough g e q words′ l′) in
+    rw (first, second) (decided-beside (textIn d) (textIn e) words bytes words′ bytes′ o (rw first at h) (rw second at i))
 
 -- ---- Card 14
 
@@ -157,7 +145,18 @@ module _ (c : Content) (l : Lawful wide c) (n : NoAbsent c) (names : List (List 
       ap (decideRun (textIn old)) (runs-together (old .schema) (c .queries) ∙ ap together same ∙ sym (runs-together (new .schema) (c .queries)))
       ∙ decide-same (textIn old) (textIn new) (runAll (new .schema) (c .queries)) (runs-alike (spoken c) (textIn old) (textIn new) texts (new .schema) (c .queries) over)
 
--- The same answer, byte for byte, message lines too; or the same refusal.
+-- The same answer, byte for byte, message lines too, or both get 11.
+pub grown-decisions : (f g : List ℕ) (d e : Form) (p : Says wide f d) (q : Says wide g e) → NoAbsent (p .content) → Grown (p .content) (q .content)
+    → (words words′ : ℕ) → minWords ≤ words → minWords ≤ words′ → decide f words ≡ decide g words′
+grown-decisions f g d e p q n h words words′ l l′ =
+    long-enough f d p words l
+    ∙ ap (λ (x : Form). decideRead (described x)) (p .tree)
+    ∙ decided-grown (p .content) (p .lawful) n (h .names) (h .types) (h .predicates)
+    ∙ ap (λ (x : Content). decideRead (described (describes x))) (sym (h .is))
+    ∙ ap (λ (x : Form). decideRead (described x)) (sym (q .tree))
+    ∙ sym (long-enough g e q words′ l′)
+
+-- So with slices of the same lengths the same outcome, whatever it is.
 pub grown-files : (f g : List ℕ) (d e : Form) (p : Says wide f d) (q : Says wide g e) → NoAbsent (p .content) → Grown (p .content) (q .content)
     → (words bytes : ℕ) → outcome f words bytes ≡ outcome g words bytes
 unfolding outcome
@@ -167,10 +166,4 @@ grown-files f g d e p q n h words bytes = ap (λ x. finish x words bytes) (cases
     short z = too-short f words z ∙ sym (too-short g words z)
 
     long : ltb words minWords ≡ false → decide f words ≡ decide g words
-    long z =
-        long-enough f d p words z
-        ∙ ap (λ (x : Form). decideRead (described x)) (p .tree)
-        ∙ decided-grown (p .content) (p .lawful) n (h .names) (h .types) (h .predicates)
-        ∙ ap (λ (x : Content). decideRead (described (describes x))) (sym (h .is))
-        ∙ ap (λ (x : Form). decideRead (described x)) (sym (q .tree))
-        ∙ sym (long-enough g e q words z)
+    long z = grown-decisions f g d e p q n h words words (ltb-false words minWords z) (ltb-false words minWords z)

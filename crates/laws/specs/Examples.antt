@@ -49,6 +49,10 @@ named texts = record {
   queries = record { nodes = shape (ExprKind.Fuzzy 0 1) ∷ shape ExprKind.Wildcard ∷ shape (ExprKind.Fact 0 1) ∷ shape (ExprKind.Access FieldRef.Value 2) ∷ []; query = record { head = 3; body = QueryStmt.Implicit 0 ∷ [] } } ∷ [];
 }
 
+-- The same with terms of two characters allowed.
+abbrev pub roomier : Content → Content
+roomier c = record { maxDistance = c .maxDistance; maxTermChars = 2; names = c .names; types = c .types; predicates = c .predicates; queries = c .queries }
+
 abbrev pub ab : List ℕ
 ab = 0x61 ∷ 0x62 ∷ []
 

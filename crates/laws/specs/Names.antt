@@ -62,9 +62,9 @@ unfoldable pub linesBeside : List ℕ → List (List ℕ)
 unfolding besideMessages lines
 linesBeside answer = besideMessages (lines answer)
 
+-- Whatever slices were lent; the work slice is zero after both (`work-zeros` of crates/meaning/specs/Demands.antt).
 pub record SameBeside (a b : Outcome) : Type 0 where
   pub result : a .result ≡ b .result
-  pub work : a .work ≡ b .work
   pub answer : linesBeside (a .answer) ≡ linesBeside (b .answer)
 
 -- The answer slice was large enough.

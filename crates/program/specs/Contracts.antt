@@ -1,7 +1,7 @@
 -- What the functions of src/ promise: what is printed for a file is what the definition prints (`printedLines` of meaning/specs/Outcome.antt).
 use mathlib.Core.List.{List, _++_}
 use mathlib.Core.Path.{_≡_}
-use Prim.Native.Nat.{ℕ, _-_, _≤_}
+use Prim.Native.Nat.{ℕ, _-_}
 use lib.ListN.{length, replicate}
 use Rattle.meaning.specs.Outcome.{Decided, minWords, decide, printedLines}
 use Rattle.meaning.specs.Lamp.{lamp}
@@ -9,13 +9,6 @@ use Rattle.lamp.specs.Contracts.{lampLine}
 use Rattle.editions.specs.Converted.{decideWiden, decideNarrow}
 use Rattle.program.specs.declared.Job.{Job}
 use Rattle.program.specs.declared.Job.the-variants as Job
-use Rattle.program.specs.declared.Input.{Input}
-use Rattle.program.specs.declared.Input.the-variants as Input
-
--- What was read lies in a slice of `most` bytes.
-abbrev pub Within : ℕ → Input → Type 0
-Within most (Input.Bytes n) = n ≤ most
-Within most Input.Failed = Unit {0}
 
 -- What is decided of a file by the program's job, with so many words lent.
 abbrev pub decidedBy : Job → List ℕ → ℕ → Decided

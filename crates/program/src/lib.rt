@@ -4,40 +4,15 @@ ghost use Prim.Native.Nat.{_≤_};
 ghost use lib.ListN.{length};
 ghost use Rattle.meaning.specs.Outcome.{minWords};
 ghost use Rattle.desk.specs.Contracts.{Finishes};
-ghost use Rattle.program.specs.Contracts.{Within, decidedBy, Prints, PrintsLamp};
+ghost use Rattle.program.specs.Contracts.{decidedBy, Prints, PrintsLamp};
 use desk::Outcome;
+use input::Input;
 
 // What a program does with its file.
 pub enum Job {
     Check,
     Widen,
     Narrow,
-}
-
-// How many bytes of the input stand at the start of a slice; or a read failed, and the slice holds anything.
-pub enum Input {
-    Bytes(usize),
-    Failed,
-}
-
-// Standard input to its end, or as much of it as the slice holds.
-fn read_input(into: &mut [u8]) -> Input
-    ensures { λ r. ⌜ Within (length (now (into .exit))) r ⌝ }
-{
-    let mut n: usize = 0;
-    while n < into.len() {
-        let got = libc::read(libc::STDIN_FILENO, &mut into[n..]);
-        let more = io::count(got, &into[n..]);
-        if more == 0 {
-            return if got < 0 {
-                Input::Failed
-            } else {
-                Input::Bytes(n)
-            };
-        }
-        n += more;
-    }
-    Input::Bytes(n)
 }
 
 fn done(job: Job, file: &[u8], work: &mut [u32], out: &mut [u8]) -> Outcome
@@ -75,16 +50,16 @@ pub fn lamp_line(file: &[u8], work: &mut [u32; 16384]) -> [u8; 5]
 
 // One byte more is read than a file may have, so that a longer input is refused.
 pub fn run(job: Job) {
-    let mut input = [0u8; 65537];
+    let mut file = [0u8; 65537];
     let mut work = [0u32; 16384];
     let mut out = [0u8; 65536];
-    let r = read_input(&mut input);
+    let r = input::read_all(libc::STDIN_FILENO, &mut file);
     match r {
         Input::Failed => {
             io::write_all(libc::STDERR_FILENO, b"reading standard input failed\n");
         }
         Input::Bytes(n) => {
-            let m = printed(job, &input[0..n], &mut work, &mut out);
+            let m = printed(job, &file[0..n], &mut work, &mut out);
             if !io::write_all(libc::STDOUT_FILENO, &out[0..m]) {
                 io::write_all(libc::STDERR_FILENO, b"writing standard output failed\n");
             }
@@ -94,9 +69,9 @@ pub fn run(job: Job) {
 
 // The lamp of standard input.
 pub fn run_lamp() {
-    let mut input = [0u8; 65537];
+    let mut file = [0u8; 65537];
     let mut work = [0u32; 16384];
-    let r = read_input(&mut input);
+    let r = input::read_all(libc::STDIN_FILENO, &mut file);
     match r {
         Input::Failed => {
             io::write_all(
@@ -105,7 +80,7 @@ pub fn run_lamp() {
             );
         }
         Input::Bytes(n) => {
-            let line = lamp_line(&input[0..n], &mut work);
+            let line = lamp_line(&file[0..n], &mut work);
             if !io::write_all(libc::STDOUT_FILENO, &line) {
                 io::write_all(
                     libc::STDERR_FILENO,

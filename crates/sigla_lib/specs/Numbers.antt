@@ -3,6 +3,7 @@ use mathlib.Core.Bool.{Bool, true, false}
 use mathlib.Core.List.{List}
 use mathlib.Core.Path.{_≡_}
 use Prim.Native.Nat.{ℕ}
+use lib.ListN.{length, replicate}
 use Rattle.meaning.specs.Refusal.{number}
 use Rattle.reading.specs.Contracts.{refusal}
 use Rattle.desk.specs.declared.Outcome.{Outcome}
@@ -14,6 +15,7 @@ use Rattle.lamp.specs.declared.Signal.the-variants as Signal
 use Rattle.lamp.specs.declared.Lit.{Lit}
 use Rattle.lamp.specs.Contracts.{Lights}
 use Rattle.converters.specs.Contracts.{Widens, Narrows}
+use Rattle.growth.specs.Premises.{premises, FirstFailing}
 use Rattle.tariff.specs.declared.Tallied.{Tallied}
 use Rattle.tariff.specs.Tariff.{Adds}
 use Rattle.cabinet.specs.declared.Changed.{Changed}
@@ -56,6 +58,10 @@ pub record CallsNarrow (f w out w′ out′ : List ℕ) (r : ℕ) : Type 0 where
   pub outcome : Outcome
   pub narrows : Narrows f w out w′ out′ outcome
   pub number : r ≡ outcomeNumber outcome
+
+pub record CallsGrowth (old new w w′ : List ℕ) (r : ℕ) : Type 0 where
+  pub told : FirstFailing (premises (length w) old new) r
+  pub work : w′ ≡ replicate (length w) 0
 
 -- This number where a call was refused.
 abbrev pub orElse : Bool → ℕ → ℕ

@@ -1,6 +1,6 @@
 // The calls for programs in other languages: every slice goes as a pointer and a length, an array as a pointer. Each gives back 0, or the
 // number of the refusal.
-ghost use Rattle.sigla_lib.specs.Numbers.{CallsCheck, CallsLamp, CallsWiden, CallsNarrow, CallsTally, CallsSetUp, CallsCeiling, CallsNewDay, CallsCheckAt, outcomeNumber};
+ghost use Rattle.sigla_lib.specs.Numbers.{CallsCheck, CallsLamp, CallsWiden, CallsNarrow, CallsTally, CallsSetUp, CallsCeiling, CallsNewDay, CallsCheckAt, CallsGrowth, outcomeNumber};
 ghost use mathlib.Core.Path.{_≡_};
 use cabinet::Allowance;
 use desk::Outcome;
@@ -65,6 +65,16 @@ pub extern "C" fn sigla_narrow(file: &[u8], work: &mut [u32], out: &mut [u8]) ->
     ensures { λ r. ⌜ CallsNarrow (now (file .entry)) (now (work .entry)) (now (out .entry)) (now (work .exit)) (now (out .exit)) r ⌝ }
 {
     number(converters::narrow(file, work, out))
+}
+
+// ---- Schema growth
+
+// Whether the queries of the old file keep their answers in the new one: 0, or the first of card 14's premises that fails.
+#[no_mangle]
+pub extern "C" fn sigla_growth(old: &[u8], new: &[u8], work: &mut [u32]) -> u8
+    ensures { λ r. ⌜ CallsGrowth (now (old .entry)) (now (new .entry)) (now (work .entry)) (now (work .exit)) r ⌝ }
+{
+    growth::premises_number(growth::check_growth(old, new, work))
 }
 
 // ---- The capture tariff

@@ -36,11 +36,20 @@ const DESKS: [&str; 5] = [
     "sigla_check_at",
 ];
 
+/// That of two files, by its own cfg.
+const GROWTH: [&str; 1] = ["sigla_growth"];
+
 /// These too, by the cfg `sigla_texts`.
 const TEXTS: [&str; 2] = ["sigla_characters", "sigla_characters_by_table"];
 
 fn main() {
-    let groups = ["sigla_calls", "sigla_texts", "sigla_convert", "sigla_desks"];
+    let groups = [
+        "sigla_calls",
+        "sigla_texts",
+        "sigla_convert",
+        "sigla_desks",
+        "sigla_growth",
+    ];
     for cfg in WHOLE.iter().chain(&groups) {
         println!("cargo::rustc-check-cfg=cfg({cfg})");
     }
@@ -55,7 +64,11 @@ fn main() {
     }
 
     if let Some(whole) = &whole {
-        for (cfg, calls) in [("sigla_convert", &CONVERT[..]), ("sigla_desks", &DESKS)] {
+        for (cfg, calls) in [
+            ("sigla_convert", &CONVERT[..]),
+            ("sigla_desks", &DESKS),
+            ("sigla_growth", &GROWTH),
+        ] {
             if calls.iter().all(|call| whole.has(call)) {
                 println!("cargo::rustc-cfg={cfg}");
             }

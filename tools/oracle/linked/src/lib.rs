@@ -17,6 +17,7 @@
 pub mod calls;
 pub mod convert;
 pub mod desks;
+pub mod growth;
 pub mod stack;
 pub mod texts;
 

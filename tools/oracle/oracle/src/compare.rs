@@ -7,8 +7,10 @@ use crate::calls;
 use crate::convert;
 use crate::corpus::{self, Corpus, Item};
 use crate::desks;
+use crate::growth;
 use crate::lamp;
 use crate::mismatch::Mismatches;
+use crate::names;
 use crate::options::Options;
 use crate::port::Port;
 use crate::tally::{Progress, Tally};
@@ -30,7 +32,7 @@ fn shrink(file: &[u8], differs: impl Fn(&[u8]) -> bool) -> Vec<u8> {
 pub fn run(given: &[String]) -> Done {
     let mut known = corpus::OPTIONS.to_vec();
     known.extend([
-        "program", "out", "widen", "narrow", "recorded", "days", "events",
+        "program", "out", "widen", "narrow", "recorded", "days", "events", "growth",
     ]);
     let [short, nested] = corpus::FLAGS;
     let options = Options::parse(given, &known, &["model", short, nested])?;
@@ -40,12 +42,14 @@ pub fn run(given: &[String]) -> Done {
         [what] if what == "calls" => calls::run(&options),
         [what] if what == "convert" => convert::compare(&options),
         [what] if what == "days" => desks::compare_days(&options),
+        [what] if what == "growth" => growth::compare(&options),
+        [what] if what == "names" => names::compare(&options),
         [what] if what == "lamp" => lamp::compare(&options),
         [what] if what == "tally" => desks::compare_tally(&options),
         [what] if what == "texts" => texts::compare(),
         [what] if what == "visits" => visits::compare(&options),
         _ => Err(
-            "compare what? one of answers, reading, calls, convert, days, lamp, tally, texts, visits"
+            "compare what? one of answers, reading, calls, convert, days, growth, lamp, names, tally, texts, visits"
                 .to_owned(),
         ),
     }

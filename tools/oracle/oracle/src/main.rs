@@ -6,8 +6,10 @@ mod compare;
 mod convert;
 mod corpus;
 mod desks;
+mod growth;
 mod lamp;
 mod mismatch;
+mod names;
 mod options;
 mod port;
 mod printed;
@@ -57,6 +59,8 @@ oracle compare convert --recorded FILE
 oracle compare days    --seed S [--days N] [--events N] [--out DIR]
 oracle compare tally   --seed S [--count N] [--out DIR]
 oracle compare lamp    --seed S --count N [--style NAME] [--out DIR]
+oracle compare names   --seed S --count N [--style NAME] [--program P] [--out DIR]
+oracle compare growth  --seed S --count N [--style NAME] [--program P] [--growth P] [--out DIR]
 oracle compare texts
     Holds the port against the Rust on generated files: the program P (with arguments, if it needs
     some), from standard input to standard output, and the static library in process where it was
@@ -80,6 +84,10 @@ oracle compare texts
     new days, with groups that break the rules between, beside the card's sentences; after each event the group obeys the rules,
     no use passes its cap and no ceiling is under what is left of a share. Tally: as many steps, in runs from zero
     and from other tallies; over each run from zero the sums are held together.
+    Names: each file past the reading with all its names renamed at random, but for `value` and the number of
+    characters of fuzzy terms; the lines but for 0a must be the same. Growth: each file and one made of it, grown by
+    names, types and predicates or changed otherwise; the number beside the card's sentences, and where it is 00
+    the same answer of both, by the port and by the Rust. `--growth` names the program of card 14.
     Calls are compared in process alone: random lists of unifications, snapshots and rollbacks over a
     generated schema, with the outcome, the visits left and every binding after each call.
     Texts: every string of up to three bytes, and many of four, through both text tests of the port and the
