@@ -47,8 +47,8 @@ extern "C" {
 
 /* 0 where the file is accepted: the answer's lines stand in `answer`, and zeros after the last LF, so the answer ends at the first zero
  * byte or with the slice. A file may hold up to 64 queries over one schema; with more than one, a line 0b and the query's number stand
- * before each query's lines; the last line of a query is 09 and its visits. Else the refusal's number, 1 to 13, for the whole file (docs/FORMAT.md has the files, the answers and the
- * refusals). */
+ * before each query's lines; the last line of a query is 09 and its visits. Else the refusal's number, 1 to 13, for the whole file
+ * (docs/FORMAT.md has the files, the answers and the refusals). */
 uint8_t sigla_check(const uint8_t *file, size_t file_len, uint32_t *work, size_t work_len, uint8_t *answer, size_t answer_len);
 
 /* Whether a query of the file has a diagnostic: `lit` is 1 or 0. Each query runs until its first one, in the file's order, and no answer is

@@ -18,7 +18,6 @@ from dataclasses import dataclass, field
 WORDS = 16384
 BYTES = 65536
 QUERIES = 64
-PREDICATE_BYTES = 4
 
 REASONS = {
     1: "the work slice has fewer than 16,384 words",
@@ -187,7 +186,7 @@ class _Reader:
         if tag in (0, 1, 2):
             return (("integer", "string", "bytes")[tag],)
         if tag == 3:
-            return ("fact", self.number(PREDICATE_BYTES))
+            return ("fact", self.number(4))
         if tag == 4:
             return ("record", tuple((self.number(2), self.type()) for _ in range(self.number(2))))
         if tag == 5:

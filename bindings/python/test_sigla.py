@@ -18,6 +18,30 @@ class Calls(unittest.TestCase):
         form = sigla.answer((SAMPLES / "form.hex").read_bytes())
         self.assertEqual([[d.code for d in query.diagnostics] for query in form], [[], ["reject/type-mismatch"]])
         self.assertEqual([query.types[0] for query in form], [("string",), ("integer",)])
+        self.assertEqual([query.types[2] for query in form], [("fact", 0)] * 2)
+        self.assertEqual([query.visits for query in form], [2, 3])
+
+    def test_out_and_back(self):
+        form = (SAMPLES / "form.hex").read_bytes()
+        narrow = sigla.narrow(form)
+        self.assertEqual(sigla.widen(narrow), form)
+        with self.assertRaises(sigla.Refused) as refused:
+            sigla.narrow(form.replace(b"0d00000000", b"0d00010000"))
+        self.assertEqual(refused.exception.number, 14)
+
+    def test_a_day(self):
+        sample = (SAMPLES / "infinite.hex").read_bytes()
+        group = sigla.Group.set_up(4, [2, 0], [4, 4])
+        self.assertEqual([group.ceiling(desk) for desk in (0, 1)], [4, 2])
+        self.assertEqual(group.check(0, sample), sigla.check(sample))
+        with self.assertRaises(sigla.Refused) as refused:
+            group.check(1, sample)
+        self.assertEqual((refused.exception.number, group.desks[0].used, group.desks[1].used), (16, 3, 1))
+        group.new_day()
+        self.assertEqual(group.ceiling(0), 4)
+        tally = sigla.Tally()
+        tally.add(2_500, 7)
+        self.assertEqual((tally.units, tally.cents, tally.remainder), (2, 14, 500))
 
     def test_the_lamp(self):
         for name, lit in [("infinite.hex", True), ("form.hex", True)]:

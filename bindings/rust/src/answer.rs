@@ -3,7 +3,7 @@
 use std::error::Error;
 use std::fmt;
 
-use crate::form::{PREDICATE_BYTES, Span};
+use crate::form::Span;
 use crate::ty::{Alternative, Field, Ty};
 
 /// What was found of each query of a file.
@@ -20,7 +20,7 @@ pub struct Typed {
     pub diagnostics: Vec<Diagnostic>,
     /// Where a name is written that is written only once (lines 0c).
     pub once: Vec<Span>,
-    /// The visits that the query made (line 09).
+    /// The visits that the query made (line 09, its last).
     pub visits: Option<u32>,
 }
 
@@ -62,8 +62,9 @@ impl Answer {
     ///
     /// ```
     /// use sigla::{Answer, Ty};
-    /// let answer = Answer::parse(b"07000000\n")?;
+    /// let answer = Answer::parse(b"07000000\n0900000000\n")?;
     /// assert_eq!(answer.queries[0].types, [Some(Ty::Integer)]);
+    /// assert_eq!(answer.queries[0].visits, Some(0));
     /// # Ok::<(), sigla::NoAnswer>(())
     /// ```
     pub fn parse(lines: &[u8]) -> Result<Answer, NoAnswer> {
@@ -164,11 +165,6 @@ impl<'a> Reader<'a> {
         Some(u32::from_be_bytes(self.take(4)?.try_into().ok()?))
     }
 
-    pub(crate) fn predicate(&mut self) -> Option<u32> {
-        let bytes = self.take(PREDICATE_BYTES)?;
-        Some(bytes.iter().fold(0, |number, &byte| number << 8 | u32::from(byte)))
-    }
-
     pub(crate) fn span(&mut self) -> Option<Span> {
         Some(Span { start: self.full()?, end: self.full()? })
     }
@@ -191,7 +187,7 @@ impl<'a> Reader<'a> {
             0 => Ty::Integer,
             1 => Ty::String,
             2 => Ty::Bytes,
-            3 => Ty::Fact(self.predicate()?),
+            3 => Ty::Fact(self.full()?),
             4 => {
                 let n = self.half()?;
                 Ty::Record((0..n).map(|_| Some(Field { name: self.half()?, ty: self.ty()? })).collect::<Option<_>>()?)

@@ -200,7 +200,7 @@ fn type_frame(rest: &mut Reader<'_>) -> Option<TypeFrame> {
         0 => TypeFrame::Integer,
         1 => TypeFrame::String,
         2 => TypeFrame::Bytes,
-        3 => TypeFrame::Fact(rest.predicate()?),
+        3 => TypeFrame::Fact(rest.full()?),
         4 => TypeFrame::Record(all(rest, |r| Some((r.half()?, r.half()?)))?),
         5 => TypeFrame::Union(all(rest, |r| Some((r.half()?, r.full()?, r.half()?)))?),
         _ => return None,
@@ -222,7 +222,7 @@ fn shape(rest: &mut Reader<'_>) -> Option<Shape> {
         0x0a => Shape::Value(rest.half()?),
         0x0b => Shape::Either(all(rest, |r| r.half())?),
         0x0c => Shape::Subquery(asked(rest)?),
-        0x0d => Shape::Fact(rest.predicate()?, rest.half()?),
+        0x0d => Shape::Fact(rest.full()?, rest.half()?),
         0x0e => Shape::Arithmetic(all(rest, |r| r.half())?),
         0x0f => Shape::Unread,
         0x10 => Shape::Alternative(rest.half()?, rest.half()?),
@@ -253,7 +253,7 @@ fn type_bytes(ty: &TypeFrame) -> Vec<u8> {
         TypeFrame::Bytes => frame.push(2),
         TypeFrame::Fact(p) => {
             frame.push(3);
-            frame.extend(crate::form::low_bytes(*p));
+            frame.extend(p.to_be_bytes());
         }
         TypeFrame::Record(fields) => {
             frame.push(4);
@@ -304,7 +304,7 @@ fn node_bytes(node: &NodeFrame) -> Vec<u8> {
         }
         Shape::Fact(p, key) => {
             put(0x0d, &[]);
-            frame.extend(crate::form::low_bytes(*p));
+            frame.extend(p.to_be_bytes());
             frame.extend(key.to_be_bytes());
         }
         Shape::Arithmetic(nodes) => put(0x0e, nodes),

@@ -31,9 +31,6 @@ use std::fmt;
 
 use crate::refusal::Refusal;
 
-/// Bytes of a predicate's number in a file.
-pub(crate) const PREDICATE_BYTES: usize = 4;
-
 /// A piece of the query's text, from its start to before its end.
 #[derive(Clone, Copy, Debug, Default, PartialEq, Eq, Hash)]
 pub struct Span {
@@ -105,8 +102,6 @@ pub enum Limit {
     File,
     RepeatedField(String),
     RepeatedDiscriminant(u32),
-    /// A predicate's number that the file has no room for.
-    PredicateNumber(u32),
     /// A node of another query.
     Node,
     /// There is no query.
@@ -122,7 +117,6 @@ impl Limit {
             Limit::Frame => Refusal::MalformedLine,
             Limit::File => Refusal::FileTooLong,
             Limit::RepeatedField(_) | Limit::RepeatedDiscriminant(_) => Refusal::RepeatedKey,
-            Limit::PredicateNumber(_) => Refusal::MalformedFrame,
             Limit::Node => Refusal::BadReference,
             Limit::NoQuery => Refusal::MisplacedKind,
         }
@@ -141,7 +135,6 @@ impl fmt::Display for Limit {
             Limit::File => write!(f, "a file of more than {} bytes", Form::FILE),
             Limit::RepeatedField(name) => write!(f, "a record type names `{name}` twice"),
             Limit::RepeatedDiscriminant(disc) => write!(f, "a union type has the discriminant {disc} twice"),
-            Limit::PredicateNumber(number) => write!(f, "the predicate number {number} does not fit"),
             Limit::Node => write!(f, "a node of another query"),
             Limit::NoQuery => write!(f, "no query"),
         }
@@ -226,8 +219,7 @@ impl Form {
 
     /// A reference to a stored fact.
     pub fn fact(&mut self, predicate: Predicate) -> Result<Type, Limit> {
-        let number = predicate_bytes(predicate)?;
-        self.add_type([vec![3, 3], number].concat())
+        self.add_type([&[3, 3][..], &predicate.0.to_be_bytes()].concat())
     }
 
     pub fn record(&mut self, fields: &[(&str, Type)]) -> Result<Type, Limit> {
@@ -404,7 +396,7 @@ impl Query<'_> {
     }
 
     pub fn fact(&mut self, span: Span, predicate: Predicate, key: Node) -> Result<Node, Limit> {
-        let content = [predicate_bytes(predicate)?, self.named(&key)?.to_vec()].concat();
+        let content = [&predicate.0.to_be_bytes()[..], &self.named(&key)?].concat();
         self.add(span, 0x0d, &content)
     }
 
@@ -468,18 +460,6 @@ fn add(frames: &mut Vec<Vec<u8>>, most: usize, limit: Limit, frame: Vec<u8>) -> 
     }
     frames.push(frame);
     Ok((frames.len() - 1) as u16)
-}
-
-fn predicate_bytes(predicate: Predicate) -> Result<Vec<u8>, Limit> {
-    if predicate.0.checked_shr(8 * PREDICATE_BYTES as u32).unwrap_or(0) != 0 {
-        return Err(Limit::PredicateNumber(predicate.0));
-    }
-    Ok(low_bytes(predicate.0))
-}
-
-/// The bytes of a predicate's number in a file.
-pub(crate) fn low_bytes(number: u32) -> Vec<u8> {
-    number.to_be_bytes()[4 - PREDICATE_BYTES..].to_vec()
 }
 
 pub(crate) fn write_line(file: &mut Vec<u8>, frame: &[u8]) {

@@ -99,8 +99,10 @@ pub fn answer(file: &[u8]) -> Result<Answer, Refusal> {
 /// The lines of each query of an answer, in the file's order, without the lines 0b.
 ///
 /// ```
-/// assert_eq!(sigla::by_query(b"07000000\n"), [b"07000000\n"]);
-/// assert_eq!(sigla::by_query(b"0b0000\n07000000\n0b0001\n07000001\n"), [b"07000000\n", b"07000001\n"]);
+/// let one = b"07000000\n0900000000\n";
+/// let two = b"07000001\n0900000000\n";
+/// assert_eq!(sigla::by_query(one), [one]);
+/// assert_eq!(sigla::by_query(&[b"0b0000\n", &one[..], b"0b0001\n", two].concat()), [one, two]);
 /// ```
 pub fn by_query(answer: &[u8]) -> Vec<&[u8]> {
     let mut parts = Vec::new();

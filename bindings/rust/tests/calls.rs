@@ -17,6 +17,7 @@ fn the_sample_is_answered() {
     let text: String = answer[..n].iter().map(|&byte| char::from(byte)).collect();
     let hex = |text: &str| -> String { text.bytes().map(|byte| format!("{byte:02x}")).collect() };
     let mut last = text.lines().rev();
+    assert_eq!(last.next(), Some("0900000003"));
     assert_eq!(last.next(), Some(format!("0a{}", hex("this pattern would have to contain itself")).as_str()));
     let code = last.next().expect("there are lines");
     assert!(code.starts_with("08") && code.ends_with(&hex("reject/infinite-type")), "{code}");
@@ -31,6 +32,8 @@ fn an_answer_is_parsed() {
     assert_eq!(shown, ["35..41: reject/type-mismatch: expected an integer, found a string"]);
     let file = sigla::File::parse(FORM).expect("it is a file");
     assert_eq!(file.write(), FORM);
+    assert_eq!(answer.queries[0].types[2], Some(sigla::Ty::Fact(0)));
+    assert_eq!(answer.queries.iter().map(|query| query.visits).collect::<Vec<_>>(), [Some(2), Some(3)]);
     let ty = answer.queries[0].types[1].as_ref().expect("it was looked at");
     assert_eq!(ty.shown(&file.texts()).to_string(), "{pen = a string, pressure = an integer}");
     for lines in [&b"0e\n"[..], b"0a61\n", b"07000100\n", b"070000\n", b"0700000000\n", b"07000000", b"0b0001\n"] {
@@ -93,7 +96,7 @@ fn a_file_has_64_queries_at_most() {
     let form = |queries: usize| [b"01020020\n".to_vec(), b"05000000000000000000\n060000\n".repeat(queries)].concat();
     let (mut work, mut answer) = lent();
     let n = check(&form(QUERIES), &mut work, &mut answer).expect("as many as allowed");
-    assert_eq!(by_query(&answer[..n]), vec![b"07000000\n"; QUERIES]);
+    assert_eq!(by_query(&answer[..n]), vec![b"07000000\n0900000000\n"; QUERIES]);
     let (mut work, mut answer) = lent();
     assert_eq!(check(&form(QUERIES + 1), &mut work, &mut answer), Err(Refusal::TooManyQueries));
     assert!(work.iter().all(|&word| word == 0) && answer.iter().all(|&byte| byte == 0));
@@ -122,4 +125,73 @@ fn the_lamp_shows_whether_there_is_a_diagnostic() {
     assert_eq!(lamp(FORM, &mut work[..WORDS - 1]), Err(Refusal::WorkTooShort));
     assert!(work[..WORDS - 1].iter().all(|&word| word == 0));
     assert_eq!(lamp(b"", &mut work), Err(Refusal::MisplacedKind));
+}
+
+#[test]
+fn a_predicate_number_has_32_bits() {
+    // x = p _; x = a fact of 65,536, which is not predicate 0
+    let mut form = sigla::Form::new(2, 32);
+    let integer = form.integer().expect("there is room");
+    let p = form.predicate("p", integer, None).expect("there is room");
+    let far = sigla::Predicate::absent(65_536 + p.number());
+    let mut query = form.query().expect("there is room");
+    let at = sigla::Span::default();
+    let mut bound = Vec::new();
+    for predicate in [p, far] {
+        let left = query.variable(at, "x").expect("there is room");
+        let any = query.wildcard(at).expect("there is room");
+        let fact = query.fact(at, predicate, any).expect("there is room");
+        bound.push(sigla::Statement::Binds(left, fact));
+    }
+    let head = query.variable(at, "x").expect("there is room");
+    query.ask(head, bound).expect("there is room");
+    let file = form.file().expect("it is a file");
+    let answer = sigla::answer(&file).expect("it is accepted");
+    assert_eq!(answer.queries[0].types[5], Some(sigla::Ty::Fact(65_536)));
+    assert_eq!(answer.queries[0].diagnostics[0].message.as_deref(), Some("expected `p`, found a fact"));
+    assert_eq!(sigla::File::parse(&file).expect("it is a file").write(), file);
+}
+
+#[test]
+fn a_file_goes_out_and_comes_back() {
+    let (mut work, mut narrow) = lent();
+    let n = sigla::narrow(FORM, &mut work, &mut narrow).expect("its numbers are small");
+    assert_eq!(n + 8, FORM.len());
+    assert_eq!(check(&narrow[..n], &mut work, &mut vec![0; 65536]), Err(Refusal::MalformedFrame));
+    let mut wide = vec![0xff; 65536];
+    let m = sigla::widen(&narrow[..n], &mut work, &mut wide).expect("it is a file of the narrow edition");
+    assert_eq!(&wide[..m], FORM);
+    let far = String::from_utf8(FORM.to_vec()).expect("digits").replacen("0d00000000", "0d00010000", 1);
+    assert_eq!(sigla::narrow(far.as_bytes(), &mut work, &mut wide), Err(Refusal::NumberTooWide));
+    assert_eq!(sigla::widen(&narrow[..n], &mut work, &mut wide[..m - 1]), Err(Refusal::AnswerTooLong));
+    assert!(work.iter().all(|&word| word == 0) && wide[..m - 1].iter().all(|&byte| byte == 0));
+}
+
+#[test]
+fn visits_are_tallied() {
+    let mut tally = sigla::Tally::default();
+    tally.add(999, 5).expect("it is small");
+    tally.add(1_001, 7).expect("it is small");
+    assert_eq!(tally, sigla::Tally { units: 2, cents: 14, remainder: 0 });
+    let full = sigla::Tally { units: u32::MAX, cents: 0, remainder: 999 };
+    let mut same = full;
+    assert_eq!(same.add(1, 0), Err(Refusal::TallyTooLarge));
+    assert_eq!(same, full);
+}
+
+#[test]
+fn desks_share_a_pool() {
+    let mut group = sigla::Group::set_up(1_000, &[400, 200, 100], &[500, 1_000, 100]).expect("it obeys the rules");
+    assert_eq!((0..3).map(|desk| group.ceiling(desk)).collect::<Vec<_>>(), [Ok(500), Ok(500), Ok(100)]);
+    assert_eq!(group.ceiling(3), Err(Refusal::OutsideTheRules));
+    let (mut work, mut answer) = lent();
+    group.check(1, SAMPLE, &mut work, &mut answer).expect("three visits are there");
+    assert_eq!(group.desks[1].used, 3);
+    let mut poor = sigla::Group::set_up(2, &[2], &[2]).expect("it obeys the rules");
+    assert_eq!(poor.check(0, SAMPLE, &mut work, &mut answer), Err(Refusal::CeilingPassed));
+    assert_eq!((poor.desks[0].used, poor.ceiling(0)), (2, Ok(0)));
+    poor.new_day().expect("it obeys the rules");
+    assert_eq!(poor.ceiling(0), Ok(2));
+    assert_eq!(sigla::Group::set_up(1, &[1], &[0]), Err(Refusal::OutsideTheRules));
+    assert_eq!(sigla::Group::set_up(0, &[1 << 28; 16], &[1 << 28; 16]), Err(Refusal::OutsideTheRules));
 }

@@ -9,6 +9,7 @@ pub fn explain(what: &str) -> Option<String> {
     if let Some(refusal) = number.and_then(sigla::Refusal::from_number) {
         return match refusal {
             sigla::Refusal::Other(_) => None,
+            known if known.number() > 14 => Some(known.to_string()),
             known => Some(format!("{known}\n\nThe file gets the single line 0f{:02x}; both slices are zero.", known.number())),
         };
     }

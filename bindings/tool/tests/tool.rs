@@ -116,7 +116,7 @@ fn every_command_explains_itself() {
         let done = tool(&["help", command], b"");
         assert!(done.status.success() && done.stdout.starts_with(format!("usage: sigla-tool {command}").as_bytes()));
     }
-    for what in ["1", "13", "0x0d", "infinite-type", "nyi/bind-unification"] {
+    for what in ["1", "13", "0x0d", "14", "17", "infinite-type", "nyi/bind-unification"] {
         assert!(tool(&["explain", what], b"").status.success(), "{what}");
     }
     for what in ["0", "99", "no-such-code"] {

@@ -2,7 +2,7 @@
 use mathlib.Core.List.{List}
 use mathlib.Core.Path.{_≡_}
 use Prim.Native.Nat.{ℕ}
-use lib.ListN.{length}
+use lib.ListN.{length, take}
 use Rattle.meaning.specs.Outcome.{Decided}
 use Rattle.reading.specs.declared.Refusal.the-variants as Refusal
 use Rattle.writer.specs.declared.Wrote.{Wrote}
@@ -27,3 +27,8 @@ Widens f w out w′ out′ r = Finishes (decideWiden f (length w)) w out w′ ou
 
 abbrev pub Narrows : List ℕ → List ℕ → List ℕ → List ℕ → List ℕ → Outcome → Type 0
 Narrows f w out w′ out′ r = Finishes (decideNarrow f (length w)) w out w′ out′ r
+
+-- A call gives these bytes: it is accepted with their number, and they stand at the start of the output.
+pub record Gives (out′ ls : List ℕ) (r : Outcome) : Type 0 where
+  pub accepted : r ≡ Outcome.Accepted (length ls)
+  pub stands : take (length ls) out′ ≡ ls

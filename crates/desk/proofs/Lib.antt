@@ -6,3 +6,4 @@ pub mod Deciding
 mod Lining
 pub mod Demands
 pub mod Days
+pub mod Desks

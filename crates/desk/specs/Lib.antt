@@ -3,3 +3,4 @@ pub mod Turns
 pub mod Contracts
 pub mod Demands
 pub mod Days
+pub mod Desks

@@ -121,7 +121,7 @@ module _ (file : List ℕ) (words : ℕ) where
   unfolding widenRead
   widen-refused i h e = widen-reads h ∙ ap (widenRead file) e
 
-  widen-answered : (d : Form) → minWords ≤ words → readingOf narrow file ≡ described d → decideWiden file words ≡ answered (widened file)
+  pub widen-answered : (d : Form) → minWords ≤ words → readingOf narrow file ≡ described d → decideWiden file words ≡ answered (widened file)
   unfolding widenRead
   widen-answered d h e = widen-reads h ∙ ap (widenRead file) e
 
@@ -167,7 +167,7 @@ module _ (file : List ℕ) (words : ℕ) where
   unfolding narrowRead
   narrow-above d h e a = narrow-reads h ∙ ap (narrowRead file) e ∙ rw (a, narrowRead)
 
-  narrow-answered : (d : Form) → minWords ≤ words → readingOf wide file ≡ described d → someAbove (framesIn wide file) ≡ false → decideNarrow file words ≡ answered (narrowed file)
+  pub narrow-answered : (d : Form) → minWords ≤ words → readingOf wide file ≡ described d → someAbove (framesIn wide file) ≡ false → decideNarrow file words ≡ answered (narrowed file)
   unfolding narrowRead
   narrow-answered d h e a = narrow-reads h ∙ ap (narrowRead file) e ∙ rw (a, narrowRead)
 

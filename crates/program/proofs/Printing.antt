@@ -2,7 +2,7 @@
 -- throughout, and the refusal's line takes the place of its first bytes.
 use mathlib.Core.Bool.{true, false}
 use mathlib.Core.List.{List, [], _∷_, _++_}
-use mathlib.Core.Path.{_≡_, refl, sym, ap, _∙_}
+use mathlib.Core.Path.{_≡_, refl, sym, ap, subst, _∙_}
 use Prim.Native.Nat.{ℕ, _+_, _-_, _≤_}
 use native.Mathlib.Omega.{arith}
 use lib.Dec.{ltb}
@@ -37,19 +37,25 @@ record Refused (x : Decided) (words bytes : ℕ) (i : Meaning.Refusal) : Type 0 
 
 refused : (x : Decided) (words bytes : ℕ) (i : Meaning.Refusal) → finish x words bytes .result ≡ Defined.Refused i → Refused x words bytes i
 unfolding printedLines finish refuse accept
-refused (turnedDown j) words bytes i e = let same : j ≡ i = cc in record { line = rw same; zero = rw same }
+refused (turnedDown j) words bytes i e = let same : j ≡ i = cc in subst (Refused (turnedDown j) words bytes) same (record { line = refl; zero = refl })
 refused (answered ls) words bytes i e =
     cases (ltb bytes (length ls))
-    (λ q. let f : Defined.Refused answerTooLong ≡ Defined.Refused i = rw (q, finish) at e in let same : answerTooLong ≡ i = cc in record { line = rw (q, printedLines, same); zero = rw (q, finish, same) })
+    (λ q. let f : Defined.Refused answerTooLong ≡ Defined.Refused i = rw (q, finish) at e in let same : answerTooLong ≡ i = cc in subst (Refused (answered ls) words bytes) same (record { line = rw (q, printedLines) refl; zero = rw (q, finish) refl }))
     (λ q. let f : Defined.Accepted ≡ Defined.Refused i = rw (q, finish) at e in absurd (apart f))
   where
     apart : Defined.Accepted ≡ Defined.Refused i → ⊥
     apart f = let z : _≡_ {A = ℕ} 0 1 = cc in omega arith
 
-module _ {x : Decided} {w out w′ out₁ : List ℕ} (words : length w ≡ 16384) (bytes : length out ≡ 65536) where
-  pub answer-printed : (n : ℕ) → Finishes x w out w′ out₁ (Outcome.Accepted n) → Prints x w′ out₁ n
+-- What is decided goes by the words that are lent.
+here : (by : ℕ → Decided) {n : ℕ} {w′ out′ : List ℕ} {r : ℕ} → n ≡ 16384 → Prints (by n) w′ out′ r → Prints (by minWords) w′ out′ r
+unfolding minWords
+here by {n} {w′} {out′} {r} words h = subst (λ n. Prints (by n) w′ out′ r) words h
+
+module _ (by : ℕ → Decided) {w out w′ out₁ : List ℕ} (words : length w ≡ 16384) (bytes : length out ≡ 65536) where
+  pub answer-printed : (n : ℕ) → Finishes (by (length w)) w out w′ out₁ (Outcome.Accepted n) → Prints (by minWords) w′ out₁ n
   unfolding minWords finish accept printedLines
   answer-printed n h =
+      let x = by (length w) in
       let e = h .ends n refl in
       let ls = take n out₁ in
       let short : length ls ≤ length out = omega (arith, length-take n out₁, e .0) in
@@ -58,23 +64,24 @@ module _ {x : Decided} {w out w′ out₁ : List ℕ} (words : length w ≡ 1638
       let size : length out₁ ≡ length ls + (length out - length ls) = ap length all ∙ length-append ls (zeros (length out - length ls)) ∙ ap (λ m. length ls + m) (length-replicate {A = ℕ} (length out - length ls) 0) in
       let long : length ls ≡ n = length-take-le n out₁ (omega (arith, size, short, e .0)) in
       let is : printedLines x 65536 ≡ ls = ap (λ y. printedLines y 65536) (e .1) ∙ rw (le-ltb 65536 (length ls) (omega (arith, short, bytes)), printedLines) in
-      record {
+      here by words (record {
         long = sym (ap length is ∙ long);
         out = all ∙ ap (λ l. l ++ zeros (length out - length ls)) (sym is) ∙ ap (λ k. printedLines x 65536 ++ zeros (k - length ls)) bytes ∙ ap (λ k. printedLines x 65536 ++ zeros (65536 - k)) long;
         work = h .work ∙ ap (λ o. o .work) done ∙ ap zeros words;
-      }
+      })
 
-  pub line-printed : (e : Refusal) {line out′ : List ℕ} {r : ℕ} → line ≡ hexLine (0x0f ∷ number (refusal e) ∷ []) → Finishes x w out w′ out₁ (Outcome.Refused e)
-      → length line ≤ length out → r ≡ length line → out′ ≡ take (length line) line ++ drop (length line) out₁ → Prints x w′ out′ r
+  pub line-printed : (e : Refusal) {line out′ : List ℕ} {r : ℕ} → line ≡ hexLine (0x0f ∷ number (refusal e) ∷ []) → Finishes (by (length w)) w out w′ out₁ (Outcome.Refused e)
+      → length line ≤ length out → r ≡ length line → out′ ≡ take (length line) line ++ drop (length line) out₁ → Prints (by minWords) w′ out′ r
   unfolding minWords refuse
   line-printed e {line} {out′} {r} spelt h fits long copied =
+      let x = by (length w) in
       let a = refused x (length w) (length out) (refusal e) (sym (h .result)) in
       let is : line ≡ printedLines x 65536 = spelt ∙ sym (a .line) ∙ ap (printedLines x) bytes in
       let none : out₁ ≡ zeros (length out) = h .answer ∙ ap (λ o. o .answer) (a .zero) in
       let rest : drop (length line) out₁ ≡ zeros (65536 - r) =
       ap (drop (length line)) none ∙ zeros-after (length line) (length out) fits ∙ ap (λ k. zeros (k - length line)) bytes ∙ ap (λ k. zeros (65536 - k)) (sym long) in
-      record {
+      here by words (record {
         long = long ∙ ap length is;
         out = copied ∙ ap (λ l. l ++ drop (length line) out₁) (take-length line ∙ is) ∙ ap (λ l. printedLines x 65536 ++ l) rest;
         work = h .work ∙ ap (λ o. o .work) (a .zero) ∙ ap zeros words;
-      }
+      })

@@ -17,12 +17,11 @@ abbrev pub Within : ℕ → Input → Type 0
 Within most (Input.Bytes n) = n ≤ most
 Within most Input.Failed = Unit {0}
 
--- What is decided of a file by the program's job, with the words that it lends.
-unfoldable pub decidedBy : Job → List ℕ → Decided
-unfolding minWords decide decideWiden decideNarrow
-decidedBy Job.Check f = decide f minWords
-decidedBy Job.Widen f = decideWiden f minWords
-decidedBy Job.Narrow f = decideNarrow f minWords
+-- What is decided of a file by the program's job, with so many words lent.
+abbrev pub decidedBy : Job → List ℕ → ℕ → Decided
+decidedBy Job.Check f words = decide f words
+decidedBy Job.Widen f words = decideWiden f words
+decidedBy Job.Narrow f words = decideNarrow f words
 
 -- What the definition prints of it stands at the start of the answer slice, and zeros after it; r is its length; the work slice is zero
 -- throughout.

@@ -2,6 +2,7 @@
 ghost use mathlib.Core.Path.{_≡_};
 ghost use Prim.Native.Nat.{_≤_};
 ghost use lib.ListN.{length};
+ghost use Rattle.meaning.specs.Outcome.{minWords};
 ghost use Rattle.desk.specs.Contracts.{Finishes};
 ghost use Rattle.program.specs.Contracts.{Within, decidedBy, Prints, PrintsLamp};
 use desk::Outcome;
@@ -39,8 +40,8 @@ fn read_input(into: &mut [u8]) -> Input
     Input::Bytes(n)
 }
 
-fn done(job: Job, file: &[u8], work: &mut [u32; 16384], out: &mut [u8; 65536]) -> Outcome
-    ensures { λ r. ⌜ Finishes (decidedBy job (now (file .entry))) (now (work .entry)) (now (out .entry)) (now (work .exit)) (now (out .exit)) r ⌝ }
+fn done(job: Job, file: &[u8], work: &mut [u32], out: &mut [u8]) -> Outcome
+    ensures { λ r. ⌜ Finishes (decidedBy job (now (file .entry)) (length (now (work .entry)))) (now (work .entry)) (now (out .entry)) (now (work .exit)) (now (out .exit)) r ⌝ }
 {
     match job {
         Job::Check => desk::check_file(file, work, out),
@@ -51,7 +52,7 @@ fn done(job: Job, file: &[u8], work: &mut [u32; 16384], out: &mut [u8; 65536]) -
 
 // What is to be printed for the file stands at the start of `out`, and how long it is comes back.
 pub fn printed(job: Job, file: &[u8], work: &mut [u32; 16384], out: &mut [u8; 65536]) -> usize
-    ensures { λ r. ⌜ Prints (decidedBy job (now (file .entry))) (now (work .exit)) (now (out .exit)) r ⌝ }
+    ensures { λ r. ⌜ Prints (decidedBy job (now (file .entry)) minWords) (now (work .exit)) (now (out .exit)) r ⌝ }
     ensures { λ r. ⌜ r ≤ length (now (out .exit)) ⌝ }
 {
     let r = done(job, file, work, out);
@@ -80,18 +81,12 @@ pub fn run(job: Job) {
     let r = read_input(&mut input);
     match r {
         Input::Failed => {
-            io::write_all(
-                libc::STDERR_FILENO,
-                b"reading standard input failed\n",
-            );
+            io::write_all(libc::STDERR_FILENO, b"reading standard input failed\n");
         }
         Input::Bytes(n) => {
             let m = printed(job, &input[0..n], &mut work, &mut out);
             if !io::write_all(libc::STDOUT_FILENO, &out[0..m]) {
-                io::write_all(
-                    libc::STDERR_FILENO,
-                    b"writing standard output failed\n",
-                );
+                io::write_all(libc::STDERR_FILENO, b"writing standard output failed\n");
             }
         }
     }

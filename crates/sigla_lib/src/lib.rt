@@ -86,12 +86,7 @@ pub extern "C" fn sigla_tally(tally: &mut [u32; 3], visits: u32, price: u16) -> 
 // ---- The desks of a cabinet
 
 #[no_mangle]
-pub extern "C" fn sigla_set_up(
-    group: &mut [u32; 50],
-    pool: u32,
-    shares: &[u32],
-    caps: &[u32],
-) -> u8
+pub extern "C" fn sigla_set_up(group: &mut [u32; 50], pool: u32, shares: &[u32], caps: &[u32]) -> u8
     ensures { λ r. ⌜ CallsSetUp pool (now (shares .entry)) (now (caps .entry)) (now (group .exit)) r ⌝ }
 {
     let c = cabinet::setup(pool, shares, caps);
@@ -146,6 +141,8 @@ pub extern "C" fn sigla_check_at(
     ensures { λ r. ⌜ CallsCheckAt (now (group .entry)) desk (now (file .entry)) (now (work .entry)) (now (out .entry)) (now (group .exit)) (now (work .exit)) (now (out .exit)) r ⌝ }
 {
     let d = desk::check_at(ledger::group(group), desk, file, work, out);
-    ledger::put_group(group, d.group);
-    number(d.outcome)
+    let after = d.group;
+    let r = d.outcome;
+    ledger::put_group(group, after);
+    number(r)
 }

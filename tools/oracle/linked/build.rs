@@ -24,11 +24,24 @@ const CALLS: [&str; 8] = [
     "sigla_unify",
 ];
 
+/// Those of the converters, by the cfg `sigla_convert`.
+const CONVERT: [&str; 2] = ["sigla_widen", "sigla_narrow"];
+
+/// Those of tally and desks, by the cfg `sigla_desks`.
+const DESKS: [&str; 5] = [
+    "sigla_tally",
+    "sigla_set_up",
+    "sigla_ceiling",
+    "sigla_new_day",
+    "sigla_check_at",
+];
+
 /// These too, by the cfg `sigla_texts`.
 const TEXTS: [&str; 2] = ["sigla_characters", "sigla_characters_by_table"];
 
 fn main() {
-    for cfg in WHOLE.iter().chain(&["sigla_calls", "sigla_texts"]) {
+    let groups = ["sigla_calls", "sigla_texts", "sigla_convert", "sigla_desks"];
+    for cfg in WHOLE.iter().chain(&groups) {
         println!("cargo::rustc-check-cfg=cfg({cfg})");
     }
     let whole = Library::find("SIGLA_LIB", "libsigla_lib.a");
@@ -39,6 +52,14 @@ fn main() {
             println!("cargo::rustc-cfg={call}");
         }
         library.link();
+    }
+
+    if let Some(whole) = &whole {
+        for (cfg, calls) in [("sigla_convert", &CONVERT[..]), ("sigla_desks", &DESKS)] {
+            if calls.iter().all(|call| whole.has(call)) {
+                println!("cargo::rustc-cfg={cfg}");
+            }
+        }
     }
 
     if let Some(texts) = Library::find("TEXT_LIB", "libtext_calls.a")

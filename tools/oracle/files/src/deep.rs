@@ -214,7 +214,7 @@ fn unions(rng: &mut Rng, draft: &mut Draft, width: usize) {
     for (predicate, ty) in [(0, first), (1, second)] {
         draft.predicate(0, ty, None);
         let key = draft.var(1 + predicate);
-        let fact = draft.node(Expr::Fact(predicate, key));
+        let fact = draft.node(Expr::Fact(predicate.into(), key));
         draft.body.push(Stmt::Implicit(fact));
     }
     draft.equate(1, 2);

@@ -4,7 +4,8 @@ pub enum Shape {
     Int,
     Str,
     Bytes,
-    Fact(u16),
+    /// A predicate number of 32 bits, which need not exist.
+    Fact(u32),
     Record(Vec<(u16, u16)>),
     Union(Vec<(u16, u32, u16)>),
 }
@@ -23,7 +24,7 @@ pub enum Expr {
     Value(u16),
     Disjunction(Vec<u16>),
     Subquery(u16, Vec<Stmt>),
-    Fact(u16, u16),
+    Fact(u32, u16),
     Arith(Vec<u16>),
     Error,
     Select(u16, u16),
@@ -81,9 +82,9 @@ impl Draft {
         (self.types.len() - 1) as u16
     }
 
-    pub fn predicate(&mut self, name: u16, key: u16, value: Option<u16>) -> u16 {
+    pub fn predicate(&mut self, name: u16, key: u16, value: Option<u16>) -> u32 {
         self.predicates.push((name, key, value));
-        (self.predicates.len() - 1) as u16
+        (self.predicates.len() - 1) as u32
     }
 
     /// Appends a node; its span is its own, so that a diagnostic tells where it stands.
@@ -162,18 +163,6 @@ pub fn limits(distance: u8, term: u16) -> Vec<u8> {
     frame
 }
 
-/// The predicate that a draft names: with the highest bit set one above 65,535, whose low half may be
-/// another's number.
-pub const ABOVE: u16 = 0x8000;
-
-pub fn predicate_number(predicate: u16) -> u32 {
-    match predicate {
-        0xffff => u32::MAX,
-        _ if predicate & ABOVE == 0 => u32::from(predicate),
-        _ => 0x1_0000 * u32::from(1 + (predicate >> 7 & 0xff)) + u32::from(predicate & 0x7f),
-    }
-}
-
 pub fn name(text: &[u8]) -> Vec<u8> {
     [&[2], text].concat()
 }
@@ -186,7 +175,7 @@ pub fn ty(shape: &Shape) -> Vec<u8> {
         Shape::Bytes => frame.push(2),
         Shape::Fact(predicate) => {
             frame.push(3);
-            frame.extend_from_slice(&predicate_number(*predicate).to_be_bytes());
+            frame.extend_from_slice(&predicate.to_be_bytes());
         }
         Shape::Record(fields) => {
             frame.push(4);
@@ -249,7 +238,7 @@ pub fn node(start: u32, end: u32, expr: &Expr) -> Vec<u8> {
             pairs(&mut frame, &[(*name, *base)]);
         }
         Expr::Fact(predicate, base) => {
-            frame.extend_from_slice(&predicate_number(*predicate).to_be_bytes());
+            frame.extend_from_slice(&predicate.to_be_bytes());
             short(&mut frame, *base);
         }
         Expr::Value(base) => short(&mut frame, *base),

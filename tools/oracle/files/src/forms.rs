@@ -228,7 +228,7 @@ fn spent(rng: &mut Rng, draft: &mut Draft, target: u64) {
 pub fn visits(rng: &mut Rng) -> Vec<u8> {
     let mut draft = Draft::new();
     if rng.chance(40) {
-        let size = rng.pick(&[60_000, 65_000, 65_537, 66_000]);
+        let size = rng.pick(&[60_000, 65_000, 65_526, 66_000]);
         limits::answer_over(&mut draft, size);
         draft.close();
     }
@@ -290,7 +290,9 @@ pub fn answers(rng: &mut Rng) -> Vec<u8> {
     // One of them takes what is left.
     let large = rng.below(count);
     sizes[large] = 0;
-    sizes[large] = size - 7 * count - sizes.iter().sum::<usize>();
+    // A line 0b before each query's and one of its visits after them.
+    let around = 7 + limits::VISITS_LINE;
+    sizes[large] = size - around * count - sizes.iter().sum::<usize>();
     let mut draft = Draft::new();
     for size in sizes {
         limits::answer_over(&mut draft, size);

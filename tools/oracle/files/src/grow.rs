@@ -2,7 +2,7 @@
 //! wants, variables are used again where their type fits, and now and then something
 //! else is put there.
 
-use crate::draft::{ABOVE, Draft, Expr, Shape, Stmt};
+use crate::draft::{Draft, Expr, Shape, Stmt};
 use crate::rng::Rng;
 
 /// How a style wants its queries, in parts of a hundred.
@@ -83,8 +83,9 @@ pub fn schema(rng: &mut Rng, draft: &mut Draft) {
         let shape = match rng.weighted(&[25, 50, 25]) {
             0 => {
                 let absent = rng.chance(8) as usize;
-                let above = if rng.chance(6) { ABOVE } else { 0 };
-                Shape::Fact(above | rng.below(predicates + absent) as u16)
+                // Now and then its look-alike above 65,535.
+                let above = if rng.chance(6) { 0x1_0000 } else { 0 };
+                Shape::Fact(above | rng.below(predicates + absent) as u32)
             }
             1 => Shape::Record(fields(rng, names, draft.types.len(), 3)),
             _ => Shape::Union(alternatives(rng, names, draft.types.len(), 3)),
@@ -272,20 +273,29 @@ impl Grower<'_> {
         self.draft.node(Expr::Record(parts))
     }
 
-    fn predicate(&mut self) -> u16 {
+    fn predicate(&mut self) -> u32 {
         let count = self.draft.predicates.len();
         if count == 0
             || self
                 .rng
                 .chance(self.taste.misfits * self.taste.poison / 100)
         {
-            return self.rng.pick(&[count as u16, 200, 0xffff, ABOVE, ABOVE | 1, ABOVE | 0x4080]);
+            let absent = [
+                count as u32,
+                200,
+                0xffff,
+                0x1_0000,
+                0x1_0001,
+                0x82_0000,
+                u32::MAX,
+            ];
+            return self.rng.pick(&absent);
         }
-        self.rng.below(count) as u16
+        self.rng.below(count) as u32
     }
 
     /// The type number of that predicate's facts, if the schema has one.
-    fn fact_type(&self, predicate: u16) -> Option<u16> {
+    fn fact_type(&self, predicate: u32) -> Option<u16> {
         let at = self
             .draft
             .types
@@ -299,7 +309,7 @@ impl Grower<'_> {
         self.fact_of(predicate, depth)
     }
 
-    fn fact_of(&mut self, predicate: u16, depth: usize) -> u16 {
+    fn fact_of(&mut self, predicate: u32, depth: usize) -> u16 {
         let key = self.draft.predicates.get(predicate as usize).map(|p| p.1);
         let key = self.pattern(key, depth);
         self.draft.node(Expr::Fact(predicate, key))

@@ -12,6 +12,7 @@ mod limits;
 mod messages;
 mod nested;
 mod noise;
+mod predicates;
 mod references;
 mod rng;
 mod shapes;
@@ -20,7 +21,8 @@ mod valid;
 
 pub use filled::{GROWING, filled};
 pub use nested::{nested, stacked};
-use rng::Rng;
+pub use predicates::narrowed;
+pub use rng::Rng;
 pub use shapes::{form, shapes, speaking};
 
 type Make = fn(&mut Rng) -> Vec<u8>;
@@ -78,6 +80,8 @@ const TABLE: &[(&str, usize, Make)] = &[
     ("differences", 500, |rng| messages::differences(rng).bytes()),
     ("message-last", 6, messages::message_last),
     ("renderings", 20, messages::renderings),
+    ("look-alikes", 600, predicates::look_alikes),
+    ("many-facts", 6, predicates::many_facts),
 ];
 
 const fn styles() -> [&'static str; TABLE.len()] {

@@ -22,7 +22,7 @@ pub fn counts(rng: &mut Rng) -> Vec<u8> {
                 1 => Shape::Str,
                 _ => Shape::Fact(0),
             }),
-            2 => draft.predicate(0, 0, None),
+            2 => draft.predicate(0, 0, None) as u16,
             _ => draft.node(if n % 2 == 0 { Expr::Int } else { Expr::Var(0) }),
         };
     }
@@ -286,15 +286,18 @@ pub fn long_answer(rng: &mut Rng) -> Vec<u8> {
     answer_of(size).bytes()
 }
 
-/// An answer of exactly that many bytes: wide records first (788 for a fact and its
-/// wildcard), then variables (13) and literals (9).
+/// The characters of the line that ends a query's.
+pub const VISITS_LINE: usize = 11;
+
+/// An answer of exactly that many bytes.
 pub fn answer_of(size: usize) -> Draft {
     let mut draft = Draft::new();
-    answer_over(&mut draft, size);
+    answer_over(&mut draft, size - VISITS_LINE);
     draft
 }
 
-/// The same over a draft without a schema, or one that was given it here.
+/// Node lines of that many bytes, over a draft without a schema or one that was given it here: wide records
+/// first (792 for a fact and its wildcard), then variables (13) and literals (9).
 pub fn answer_over(draft: &mut Draft, size: usize) {
     const FIELDS: u16 = 127;
     for n in 0..FIELDS {
@@ -306,11 +309,11 @@ pub fn answer_over(draft: &mut Draft, size: usize) {
         draft.predicate(0, key, None);
     }
     let mut left = size - 9;
-    while left >= 788 + 104 {
+    while left >= 792 + 104 {
         let key = draft.node(Expr::Wildcard);
         let fact = draft.node(Expr::Fact(0, key));
         draft.body.push(Stmt::Implicit(fact));
-        left -= 788;
+        left -= 792;
     }
     while !left.is_multiple_of(9) && left >= 13 {
         let node = draft.var(0);

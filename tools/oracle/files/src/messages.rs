@@ -95,7 +95,7 @@ fn placed(rng: &mut Rng, draft: &mut Draft, stmt: Stmt) {
             let head = typed(rng, draft, 1);
             let inner = draft.node(Expr::Subquery(head, vec![stmt]));
             let predicates = draft.predicates.len();
-            Stmt::Implicit(draft.node(Expr::Fact(rng.below(predicates + 1) as u16, inner)))
+            Stmt::Implicit(draft.node(Expr::Fact(rng.below(predicates + 1) as u32, inner)))
         }
         1 => {
             let head = typed(rng, draft, 1);
@@ -103,7 +103,7 @@ fn placed(rng: &mut Rng, draft: &mut Draft, stmt: Stmt) {
             let name = rng.below(draft.names.len()) as u16;
             let record = draft.node(Expr::Record(vec![(name, inner)]));
             let predicates = draft.predicates.len();
-            Stmt::Negation(draft.node(Expr::Fact(rng.below(predicates + 1) as u16, record)))
+            Stmt::Negation(draft.node(Expr::Fact(rng.below(predicates + 1) as u32, record)))
         }
         _ => stmt,
     };
@@ -169,7 +169,7 @@ fn fault(rng: &mut Rng, draft: &mut Draft) -> Stmt {
                 })
                 .collect();
             let key = draft.node(Expr::Record(fields));
-            let predicate = rng.below(draft.predicates.len()) as u16;
+            let predicate = rng.below(draft.predicates.len()) as u32;
             Stmt::Implicit(draft.node(Expr::Fact(predicate, key)))
         }
         12 => {
@@ -216,12 +216,12 @@ fn typed(rng: &mut Rng, draft: &mut Draft, depth: usize) -> u16 {
         1 | 2 => draft.var(name),
         3 => {
             let key = draft.node(Expr::Wildcard);
-            let predicate = rng.below(draft.predicates.len() + 1) as u16;
+            let predicate = rng.below(draft.predicates.len() + 1) as u32;
             draft.node(Expr::Fact(predicate, key))
         }
         4 => {
             let key = draft.node(Expr::Wildcard);
-            let predicate = rng.below(draft.predicates.len()) as u16;
+            let predicate = rng.below(draft.predicates.len()) as u32;
             let fact = draft.node(Expr::Fact(predicate, key));
             draft.node(Expr::Value(fact))
         }
@@ -328,7 +328,7 @@ fn part(rng: &mut Rng, draft: &mut Draft, depth: usize) -> u16 {
         }
         5 => {
             let key = draft.node(Expr::Wildcard);
-            let fact = draft.node(Expr::Fact(rng.below(2) as u16, key));
+            let fact = draft.node(Expr::Fact(rng.below(2) as u32, key));
             draft.node(Expr::Value(fact))
         }
         6 => draft.var(rng.below(4) as u16),
@@ -377,7 +377,7 @@ pub fn differences(rng: &mut Rng) -> Draft {
         draft.name(word);
     }
     draft.types.extend([Shape::Int, Shape::Str, Shape::Bytes]);
-    draft.ty(Shape::Fact(rng.below(3) as u16));
+    draft.ty(Shape::Fact(rng.below(3) as u32));
     draft.ty(Shape::Record(vec![]));
     let alternatives = loop {
         let some = grow::alternatives(rng, 4, 5, 5);
@@ -416,7 +416,7 @@ pub fn differences(rng: &mut Rng) -> Draft {
         let stmt = match rng.below(5) {
             0 | 1 => {
                 let key = draft.var(5);
-                Stmt::Implicit(draft.node(Expr::Fact(rng.below(family.len()) as u16, key)))
+                Stmt::Implicit(draft.node(Expr::Fact(rng.below(family.len()) as u32, key)))
             }
             2 => {
                 let (left, right) = (draft.var(5), value(rng, &mut draft, family.len()));
@@ -442,13 +442,13 @@ pub fn differences(rng: &mut Rng) -> Draft {
 /// What a fact of one of so many predicates has for its value.
 fn value(rng: &mut Rng, draft: &mut Draft, predicates: usize) -> u16 {
     let key = draft.node(Expr::Wildcard);
-    let fact = draft.node(Expr::Fact(rng.below(predicates) as u16, key));
+    let fact = draft.node(Expr::Fact(rng.below(predicates) as u32, key));
     draft.node(Expr::Value(fact))
 }
 
-/// An answer around 65,536 bytes that ends in a message, of a long name or of a wide record.
+/// An answer around 65,536 bytes whose last diagnostic is a message, of a long name or of a wide record.
 pub fn message_last(rng: &mut Rng) -> Vec<u8> {
-    let size = 65_535 + rng.below(3);
+    let size = 65_535 + rng.below(3) - limits::VISITS_LINE;
     let mut draft = Draft::new();
     if rng.chance(50) {
         // {}.name: two nodes of 13 and 9 characters, 59 for the diagnostic, 47 around the name.
@@ -458,12 +458,12 @@ pub fn message_last(rng: &mut Rng) -> Vec<u8> {
         let record = draft.node(Expr::Record(vec![]));
         draft.head = draft.node(Expr::Key(name, record));
     } else {
-        // p "" where p's key is a record: two nodes of 9 and 13, the diagnostic, and its message.
+        // p "" where p's key is a record: two nodes of 9 and 17, the diagnostic, and its message.
         let fields: usize = (0..127)
             .map(|n| format!("{n} = an integer").len() + 2)
             .sum();
         let text = "expected {}, found a string".len() + fields - 2;
-        limits::answer_over(&mut draft, size - 9 - 13 - 59 - 3 - 2 * text);
+        limits::answer_over(&mut draft, size - 9 - 17 - 59 - 3 - 2 * text);
         let key = draft.node(Expr::Str);
         draft.head = draft.node(Expr::Fact(0, key));
     }
@@ -510,7 +510,7 @@ pub fn renderings(rng: &mut Rng) -> Vec<u8> {
         draft.predicate(names[1], ty, None);
         for _ in 0..rng.between(1, 4) {
             let key = literal(rng, &mut draft);
-            let predicate = 1 + rng.below(draft.predicates.len() - 1) as u16;
+            let predicate = 1 + rng.below(draft.predicates.len() - 1) as u32;
             let fact = draft.node(Expr::Fact(predicate, key));
             draft.body.push(Stmt::Implicit(fact));
         }

@@ -315,7 +315,7 @@ fn infinite() -> Vec<u8> {
 }
 
 /// A fact whose key is a variable.
-fn holds(draft: &mut Draft, predicate: u16, name: u16) {
+fn holds(draft: &mut Draft, predicate: u32, name: u16) {
     let key = draft.var(name);
     let fact = draft.node(Expr::Fact(predicate, key));
     draft.body.push(Stmt::Implicit(fact));

@@ -111,7 +111,7 @@ fn wild_stmt(rng: &mut Rng, free: &mut Vec<u16>) -> Option<Stmt> {
 
 fn wild_expr(rng: &mut Rng, draft: &Draft, free: &mut Vec<u16>) -> Expr {
     let name = rng.below(draft.names.len()) as u16;
-    let predicate = rng.below(draft.predicates.len() + 1) as u16;
+    let predicate = rng.below(draft.predicates.len() + 1) as u32;
     let leaf = match rng.below(12) {
         0 | 1 => Expr::Int,
         2 => Expr::Str,
@@ -244,7 +244,7 @@ pub fn alike(rng: &mut Rng) -> Draft {
         draft.name(word);
     }
     draft.types.extend([Shape::Int, Shape::Str, Shape::Bytes]);
-    let fact = rng.below(3) as u16;
+    let fact = rng.below(3) as u32;
     draft.ty(Shape::Fact(fact));
     draft.ty(Shape::Record(Vec::new()));
     let unions = rng.chance(60);
@@ -309,9 +309,9 @@ fn crossed(rng: &mut Rng, draft: &mut Draft, family: usize) -> Stmt {
             4 => {
                 let inner = rng.below(4) as u16;
                 let record = draft.node(Expr::Record(vec![(inner, base)]));
-                draft.node(Expr::Fact(rng.below(family) as u16, record))
+                draft.node(Expr::Fact(rng.below(family) as u32, record))
             }
-            5 => draft.node(Expr::Fact(rng.below(family) as u16, base)),
+            5 => draft.node(Expr::Fact(rng.below(family) as u32, base)),
             _ => base,
         }
     };
@@ -391,7 +391,7 @@ pub fn records(rng: &mut Rng) -> Draft {
     for _ in 0..rng.between(2, 6) {
         let left = draft.var(4 + rng.below(3) as u16);
         let stmt = match rng.below(8) {
-            0 | 1 => Stmt::Implicit(draft.node(Expr::Fact(rng.below(2) as u16, left))),
+            0 | 1 => Stmt::Implicit(draft.node(Expr::Fact(rng.below(2) as u32, left))),
             2 => Stmt::Compare(left, draft.var(4 + rng.below(3) as u16)),
             3 => Stmt::Bind(left, draft.var(4 + rng.below(3) as u16)),
             4 => Stmt::Deny(left, inferred(rng, &mut draft, &fields)),
@@ -443,7 +443,7 @@ pub fn accesses(rng: &mut Rng) -> Draft {
     }
     draft.types.extend([Shape::Int, Shape::Str, Shape::Bytes]);
     for fact in 0..rng.between(1, 4) {
-        draft.ty(Shape::Fact(fact as u16));
+        draft.ty(Shape::Fact(fact as u32));
     }
     for _ in 0..rng.between(1, 3) {
         let types = draft.types.len();
@@ -462,7 +462,7 @@ pub fn accesses(rng: &mut Rng) -> Draft {
     }
     let variables = 4;
     for name in 3..3 + variables as u16 {
-        let predicate = rng.below(draft.predicates.len() + 1) as u16;
+        let predicate = rng.below(draft.predicates.len() + 1) as u32;
         let left = draft.var(name);
         match rng.below(5) {
             0 => {
@@ -621,7 +621,7 @@ fn shallow(rng: &mut Rng, draft: &mut Draft, depth: usize) -> u16 {
             let branches = (0..rng.below(3)).map(|_| under(rng)).collect();
             Expr::Disjunction(branches)
         }
-        15 => Expr::Fact(rng.below(3) as u16, under(rng)),
+        15 => Expr::Fact(rng.below(3) as u32, under(rng)),
         16 => {
             let operands = (0..rng.below(3)).map(|_| under(rng)).collect();
             Expr::Arith(operands)
@@ -677,7 +677,7 @@ fn faulty_fact(rng: &mut Rng, draft: &mut Draft, depth: usize) -> u16 {
             draft.node(Expr::Record(parts))
         }
     };
-    draft.node(Expr::Fact(rng.below(2) as u16, key))
+    draft.node(Expr::Fact(rng.below(2) as u32, key))
 }
 
 fn some_term(rng: &mut Rng, draft: &mut Draft, depth: usize) -> u16 {

@@ -1,10 +1,20 @@
 //! From what a file describes back to its bytes.
 
 use crate::file::{File, Query, Shape, Stmt, Type};
+use crate::read::Edition;
 
 /// The file's lines. No limit is looked at, so damaged values give damaged files.
 pub fn encode(file: &File) -> Vec<u8> {
-    let mut lines = Lines::default();
+    encode_in(file, Edition::Wide)
+}
+
+/// The lines in either edition; in the narrow one no number may be above 65,535.
+pub fn encode_in(file: &File, edition: Edition) -> Vec<u8> {
+    let mut lines = Lines {
+        text: vec![],
+        frame: vec![],
+        edition,
+    };
     lines.start(1);
     lines.frame.push(file.max_distance);
     lines.two(file.max_term);
@@ -39,10 +49,10 @@ pub fn encode(file: &File) -> Vec<u8> {
 }
 
 /// Lines closed so far, and the frame of the one being made.
-#[derive(Default)]
 struct Lines {
     text: Vec<u8>,
     frame: Vec<u8>,
+    edition: Edition,
 }
 
 impl Lines {
@@ -75,6 +85,14 @@ impl Lines {
         self.frame.extend_from_slice(&number.to_be_bytes());
     }
 
+    /// A predicate's number.
+    fn predicate(&mut self, number: u32) {
+        match self.edition {
+            Edition::Narrow => self.two(u16::try_from(number).expect("a number of two bytes")),
+            Edition::Wide => self.four(number),
+        }
+    }
+
     fn ty(&mut self, ty: &Type) {
         match ty {
             Type::Int => self.frame.push(0),
@@ -82,7 +100,7 @@ impl Lines {
             Type::Bytes => self.frame.push(2),
             Type::Fact(predicate) => {
                 self.frame.push(3);
-                self.four(*predicate);
+                self.predicate(*predicate);
             }
             Type::Record(fields) => {
                 self.frame.push(4);
@@ -127,7 +145,7 @@ impl Lines {
                 self.two(*node);
             }
             Shape::Fact(predicate, node) => {
-                self.four(*predicate);
+                self.predicate(*predicate);
                 self.two(*node);
             }
             Shape::Disjunction(nodes) | Shape::Arith(nodes) => {

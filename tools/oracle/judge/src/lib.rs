@@ -4,7 +4,9 @@
 //! the unchanged `check` of ty.rs. The Rust counts no visits, so they come from a copy of ty.rs
 //! that the build gives counting lines and checks to be ty.rs without them.
 
+mod cabinet;
 pub mod calls;
+mod convert;
 mod encode;
 mod file;
 mod lamp;
@@ -14,6 +16,7 @@ mod measure;
 mod read;
 mod said;
 mod stack;
+mod tariff;
 mod timing;
 mod tree;
 mod visits;
@@ -21,14 +24,17 @@ mod write;
 
 include!(concat!(env!("OUT_DIR"), "/modules.rs"));
 
+pub use cabinet::{Desk, GROUP_WORDS, Group, MOST_VISITS};
+pub use convert::{convert, references};
 use diag::{Code, Diagnostics};
-pub use encode::encode;
+pub use encode::{encode, encode_in};
 pub use lamp::{Lamp, lamp};
 pub use file::{File, Node, Predicate, Query, Shape, Stmt, Tree, Type};
 use measure::Measure;
-pub use read::read;
+pub use read::{Edition, read, read_in};
 pub use said::TEXTS;
-pub use stack::{answer, on_large_stack};
+pub use stack::{answer, answer_at, on_large_stack};
+pub use tariff::Tally;
 pub use timing::{Parts, timed};
 use visits::Stop;
 use write::Lines;
@@ -59,7 +65,7 @@ impl Default for Limits {
 pub enum Answer {
     /// The answer's lines, each closed by LF.
     Lines(Vec<u8>),
-    /// The refusal's number, 1 to 13.
+    /// The refusal's number, 1 to 17.
     Refused(u8),
     /// The Rust can't hold what the file describes; the words say why.
     LeftOut(&'static str),
@@ -69,10 +75,10 @@ pub enum Answer {
 #[derive(Debug, Clone, PartialEq)]
 pub struct Ran {
     pub answer: Answer,
-    /// Visits made by each query that ran: none after refusals 1 to 10 and 13; after 11 the last ran out
-    /// of them and the others did not run.
+    /// Visits made by each query that ran: none after refusals 1 to 10, 13 and 17; after 11 and 16 the last
+    /// ran out of them and the others did not run.
     pub visits: Vec<u64>,
-    /// The code of each diagnostic, in order; none after refusals 1 to 11 and 13.
+    /// The code of each diagnostic, in order; none where not all queries ran.
     pub codes: Vec<&'static str>,
     /// Of each diagnostic, which of `TEXTS` its message is.
     pub texts: Vec<&'static str>,
@@ -88,8 +94,68 @@ pub const TOO_LONG: &str = "messages too long";
 /// Rust would need some twenty bytes for each.
 const MOST_WRITTEN: u64 = 1 << 23;
 
+/// Who is charged for the visits of a file's queries.
+trait Account {
+    /// The most visits of the next query.
+    fn ceiling(&self) -> u64;
+    /// The visits that it made.
+    fn charge(&mut self, visits: u64);
+}
+
+/// Nobody: each query may make so many.
+struct Free(u64);
+
+impl Account for Free {
+    fn ceiling(&self) -> u64 {
+        self.0
+    }
+
+    fn charge(&mut self, _: u64) {}
+}
+
+/// A desk of a group that obeys the rules.
+struct AtDesk<'a> {
+    group: &'a mut Group,
+    desk: usize,
+}
+
+impl Account for AtDesk<'_> {
+    fn ceiling(&self) -> u64 {
+        self.group.ceiling(self.desk).expect("the rules are kept")
+    }
+
+    fn charge(&mut self, visits: u64) {
+        self.group.charge(self.desk, visits);
+    }
+}
+
 /// The answer to a file, on this thread.
 fn answer_here(file: &[u8], limits: &Limits) -> Ran {
+    charged(file, limits, Free(limits.visits), 11)
+}
+
+/// The answer to a file at a desk, and the group after it (card 8). The limits' own visits are not looked at.
+fn answer_at_here(file: &[u8], limits: &Limits, group: &Group, desk: usize) -> (Ran, Group) {
+    let mut after = group.clone();
+    let Ok(_) = group.ceiling(desk) else {
+        let refused = Ran {
+            answer: Answer::Refused(17),
+            visits: vec![],
+            codes: vec![],
+            texts: vec![],
+        };
+        return (refused, after);
+    };
+    let account = AtDesk {
+        group: &mut after,
+        desk,
+    };
+    (charged(file, limits, account, 16), after)
+}
+
+/// The answer to a file whose queries are charged in turn; `low` is told where a ceiling under 1,048,576 is
+/// passed.
+fn charged(file: &[u8], limits: &Limits, mut account: impl Account, low: u8) -> Ran {
     let stopped = |answer, visits| Ran {
         answer,
         visits,
@@ -111,13 +177,18 @@ fn answer_here(file: &[u8], limits: &Limits) -> Ran {
     for tree in &file.trees {
         let tree = tree::build(tree, &base);
         let mut diagnostics = Diagnostics::new();
-        let (left, made) = visits::counted(limits.visits, || {
+        let ceiling = account.ceiling();
+        let (left, made) = visits::counted(ceiling, || {
             counted::probe::walk(&tree.ast, &base.schema, &base.interner, &mut diagnostics)
         });
         visits.push(made);
+        account.charge(made);
         let left = match left {
             Ok(left) => left,
-            Err(Stop::Visits) => return stopped(Answer::Refused(11), visits),
+            Err(Stop::Visits) => {
+                let number = if ceiling < MOST_VISITS { low } else { 11 };
+                return stopped(Answer::Refused(number), visits);
+            }
             Err(Stop::Size) => return stopped(Answer::LeftOut(TOO_LARGE), visits),
             Err(Stop::Text) => return stopped(Answer::LeftOut(TOO_LONG), visits),
         };

@@ -17,15 +17,27 @@ const MAX_PREDICATES: usize = 128;
 const MAX_NODES: usize = 512;
 const MAX_QUERIES: usize = 64;
 
+/// How many bytes a predicate reference has: 2 up to card 6, 4 since.
+#[derive(Debug, Clone, Copy, PartialEq, Eq)]
+pub enum Edition {
+    Narrow,
+    Wide,
+}
+
 /// The file that the bytes describe, or the refusal, 1 to 10 or 13.
 pub fn read(file: &[u8], limits: &Limits) -> Result<File, u8> {
+    read_in(file, limits, Edition::Wide)
+}
+
+/// The same of a file of either edition.
+pub fn read_in(file: &[u8], limits: &Limits, edition: Edition) -> Result<File, u8> {
     if limits.words < WORK_WORDS {
         return Err(1);
     }
     if file.len() > FILE_BYTES {
         return Err(2);
     }
-    let mut reader = Reader::default();
+    let mut reader = Reader::new(edition);
     let mut rest = file;
     while !rest.is_empty() {
         // A last line without LF is refused by 3 whatever it holds.
@@ -37,8 +49,8 @@ pub fn read(file: &[u8], limits: &Limits) -> Result<File, u8> {
 }
 
 /// What the lines read so far have given.
-#[derive(Default)]
 struct Reader {
+    edition: Edition,
     /// The kind of the last line, 0 before the first.
     kind: u8,
     limits: (u8, u16),
@@ -54,6 +66,20 @@ struct Reader {
 }
 
 impl Reader {
+    fn new(edition: Edition) -> Reader {
+        Reader {
+            edition,
+            kind: 0,
+            limits: (0, 0),
+            names: vec![],
+            types: vec![],
+            predicates: vec![],
+            trees: vec![],
+            nodes: vec![],
+            named: vec![],
+        }
+    }
+
     fn line(&mut self, line: &[u8]) -> Result<(), u8> {
         let bytes = decode(line).ok_or(3)?;
         let kind = bytes[0];
@@ -74,7 +100,10 @@ impl Reader {
             return Err(13);
         }
         self.kind = kind;
-        let frame = Frame { rest: &bytes[1..] };
+        let frame = Frame {
+            rest: &bytes[1..],
+            edition: self.edition,
+        };
         match kind {
             1 => self.limits(frame),
             2 => self.name(frame),
@@ -107,7 +136,7 @@ impl Reader {
             0 => Type::Int,
             1 => Type::String,
             2 => Type::Bytes,
-            3 => Type::Fact(frame.four()?),
+            3 => Type::Fact(frame.predicate()?),
             4 => Type::Record(frame.list(|frame| Ok((frame.two()?, frame.two()?)))?),
             5 => Type::Union(frame.list(|frame| Ok((frame.two()?, frame.four()?, frame.two()?)))?),
             _ => return Err(6),
@@ -173,7 +202,7 @@ impl Reader {
             0x0a => Shape::Value(frame.two()?),
             0x0b => Shape::Disjunction(frame.list(Frame::two)?),
             0x0c => Shape::Subquery(frame.query()?),
-            0x0d => Shape::Fact(frame.four()?, frame.two()?),
+            0x0d => Shape::Fact(frame.predicate()?, frame.two()?),
             0x0e => Shape::Arith(frame.list(Frame::two)?),
             0x0f => Shape::Error,
             0x10 => Shape::Select(frame.two()?, frame.two()?),
@@ -283,6 +312,7 @@ fn repeats<T: Ord>(items: impl Iterator<Item = T>) -> bool {
 /// The bytes of one frame that are still to be read. Running short is refusal 6.
 struct Frame<'a> {
     rest: &'a [u8],
+    edition: Edition,
 }
 
 impl Frame<'_> {
@@ -300,6 +330,14 @@ impl Frame<'_> {
         let [a, b] = self.two()?.to_be_bytes();
         let [c, d] = self.two()?.to_be_bytes();
         Ok(u32::from_be_bytes([a, b, c, d]))
+    }
+
+    /// A predicate's number.
+    fn predicate(&mut self) -> Result<u32, u8> {
+        match self.edition {
+            Edition::Narrow => Ok(u32::from(self.two()?)),
+            Edition::Wide => self.four(),
+        }
     }
 
     /// Items to the frame's end.

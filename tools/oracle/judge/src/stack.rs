@@ -5,7 +5,7 @@ use std::sync::mpsc::{Sender, channel};
 use std::sync::{LazyLock, Mutex};
 use std::thread;
 
-use crate::{Limits, Ran};
+use crate::{Group, Limits, Ran};
 
 /// The stack is reserved and not used up: a page counts once it is touched.
 const STACK: usize = 512 << 20;
@@ -50,6 +50,12 @@ static WORKER: LazyLock<Mutex<Sender<Order>>> = LazyLock::new(|| {
         .expect("a thread can be started");
     Mutex::new(orders)
 });
+
+/// The answer to a file at a desk, and the group after it. Call it on a thread with the large stack.
+pub fn answer_at(file: &[u8], limits: &Limits, group: &Group, desk: usize) -> (Ran, Group) {
+    assert!(DEEP.get(), "call it from within on_large_stack");
+    crate::answer_at_here(file, limits, group, desk)
+}
 
 /// The answer to a file, found on a thread with the large stack: this one if it has it.
 pub fn answer(file: &[u8], limits: &Limits) -> Ran {

@@ -66,6 +66,8 @@ pub fn timed(file: &[u8], limits: &Limits) -> Parts {
         }
         crate::put_types(&mut lines, &typed, &tree, &base);
         crate::put_diagnostics(&mut lines, &diagnostics);
+        // The Rust counts no visits; the line's length is the same for any number.
+        crate::put_visits(&mut lines, 0);
         parts.write += lap();
         drop((tree, diagnostics, typed));
         parts.free += lap();

@@ -184,9 +184,7 @@ fn kind(shape: &Shape, symbols: &[Symbol], nodes: &[NodeId], literal: Symbol) ->
         Shape::Value(base) => ExprKind::Access(FieldRef::Value, node(*base)),
         Shape::Disjunction(branches) => ExprKind::Disjunction(list(branches)),
         Shape::Subquery(inner) => ExprKind::Subquery(query(inner, nodes)),
-        Shape::Fact(predicate, key) => {
-            ExprKind::Fact(PredicateId(*predicate), node(*key))
-        }
+        Shape::Fact(predicate, key) => ExprKind::Fact(PredicateId(*predicate), node(*key)),
         Shape::Arith(operands) => {
             let operators = operands.len().saturating_sub(1);
             ExprKind::Arith(list(operands), vec![ArithOp::Add; operators].into())

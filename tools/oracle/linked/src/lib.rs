@@ -15,6 +15,8 @@
 //! ```
 
 pub mod calls;
+pub mod convert;
+pub mod desks;
 pub mod stack;
 pub mod texts;
 

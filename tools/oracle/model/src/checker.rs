@@ -688,7 +688,11 @@ impl<'a> State<'a> {
     }
 
     fn key(&self, predicate: u32) -> Option<Ty> {
-        Some(self.tree.predicates.get(predicate as usize)?.key)
+        let place = match () {
+            _ if self.wrong.on(Wrong::FoundByLowHalf) => predicate & 0xffff,
+            _ => predicate,
+        };
+        Some(self.tree.predicates.get(place as usize)?.key)
     }
 
     /// Whether a key field is called `value`. Only a key that is itself a record counts.

@@ -6,18 +6,24 @@
 //! so that the files can be asked whether they would notice it.
 
 mod checker;
+mod convert;
+mod desks;
 mod message;
 mod mutation;
 mod reader;
+mod tariff;
 mod text;
 mod types;
 mod unify;
 mod writer;
 
 use checker::State;
+pub use convert::{CONVERSIONS, convert};
+pub use desks::{DESKS, Day, Desk, Group};
 pub use mutation::MUTATIONS;
 use mutation::{Switch, Wrong};
-use reader::Tree;
+use reader::{Tree, WIDE};
+pub use tariff::{TARIFFS, Tally, tally};
 
 /// What a caller lends: words of the work slice, bytes of the answer slice, visits.
 #[derive(Clone, Copy, Debug, PartialEq, Eq)]
@@ -73,7 +79,7 @@ pub fn answer(file: &[u8], limits: &Limits, mutation: Option<usize>) -> Ran {
     if let Some(number) = sizes(file, limits, wrong) {
         return Ran::refused(number, Vec::new());
     }
-    let (tree, refused) = reader::read(file, wrong);
+    let (tree, refused) = reader::read(file, WIDE, wrong);
     if let Some(number) = refused {
         if wrong.on(Wrong::RunWhileRead)
             && let Err(ran) = run(&tree, limits, wrong)
@@ -86,8 +92,13 @@ pub fn answer(file: &[u8], limits: &Limits, mutation: Option<usize>) -> Ran {
         Ok(states) => states,
         Err(ran) => return ran,
     };
+    written(&states, limits, wrong)
+}
+
+/// The lines of queries that all ran, or 12.
+fn written(states: &[State], limits: &Limits, wrong: Switch) -> Ran {
     let visits = states.iter().map(|state| state.visits).collect();
-    match writer::write(&states, limits.bytes, wrong) {
+    match writer::write(states, limits.bytes, wrong) {
         Ok(lines) => Ran {
             answer: Answer::Lines(lines),
             visits,

@@ -114,6 +114,15 @@ mutations! {
     LongFrameAccepted, "bytes after a frame's end are ignored", false;
     LimitsMayBeLonger, "bytes after the limits are ignored", false;
     TermLimitOneByte, "only the low byte of the term limit is kept", false;
+    // Predicate numbers.
+    TypeReferenceShort, "a type's predicate number has two bytes", false;
+    NodeReferenceShort, "a node's predicate number has two bytes", false;
+    TypeNumberCut, "of a type's predicate number the low half is kept", false;
+    NodeNumberCut, "of a node's predicate number the low half is kept", false;
+    FoundByLowHalf, "a predicate is found by the low half of its number", false;
+    FactsEqualByLowHalf, "two facts are of one predicate if their low halves are alike", false;
+    NumberWrittenShort, "an answer writes a predicate's number in two bytes", false;
+    NumberWrittenCut, "an answer writes the low half of a predicate's number", false;
     // Names and texts.
     EmptyNameRefused, "the empty name is refused", false;
     NamesMayRepeat, "a name may be given twice", false;
@@ -369,6 +378,15 @@ mutations! {
     FirstMessageOnly, "only a query's first diagnostic has a message", false;
     MessagesUncounted, "the messages are not counted to the answer", false;
     MessageCut, "a message is cut at 511 bytes", false;
+    // Visits told.
+    VisitsUntold, "no query gets a line 09", false;
+    VisitsToldOnce, "only the last query gets a line 09", false;
+    VisitsToldFirst, "the line 09 stands before the types", false;
+    VisitsBeforeReports, "the line 09 stands before the diagnostics", false;
+    VisitsOfTheFile, "the line 09 has the visits of all queries so far", false;
+    VisitsLeftTold, "the line 09 has the visits left", false;
+    VisitsInTwoBytes, "the line 09 has two bytes of the visits", false;
+    VisitsLineUncounted, "the lines 09 are not counted to the answer", false;
     // The answer.
     AnswerOneMore, "an answer one byte longer than the slice passes", false;
     AnswerOneLess, "an answer as long as the slice is too long", false;

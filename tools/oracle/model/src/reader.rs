@@ -22,10 +22,12 @@ enum Slot {
 use Slot::{Byte, Long, Name, Node, Predicate, Short, Tag, Type};
 
 impl Slot {
-    fn width(self) -> usize {
+    /// A predicate's number has as many bytes as the edition gives it.
+    fn width(self, predicate: usize) -> usize {
         match self {
             Byte | Tag => 1,
-            Long | Predicate => 4,
+            Long => 4,
+            Predicate => predicate,
             Short | Name | Type | Node => 2,
         }
     }
@@ -162,17 +164,24 @@ struct Reader {
     named: Vec<bool>,
     previous: u8,
     predicate_names: Vec<u32>,
+    /// The bytes of a predicate's number.
+    predicate: usize,
     wrong: Switch,
 }
 
+/// The bytes of a predicate's number in the two editions.
+pub const NARROW: usize = 2;
+pub const WIDE: usize = 4;
+
 /// Reads the lines in order; the first refusal ends it. The tree is what came before that.
-pub fn read(file: &[u8], wrong: Switch) -> (Tree, Option<u8>) {
+pub fn read(file: &[u8], predicate: usize, wrong: Switch) -> (Tree, Option<u8>) {
     let mut reader = Reader {
         tree: Tree::default(),
         rows: Rows::default(),
         named: Vec::new(),
         previous: 0,
         predicate_names: Vec::new(),
+        predicate,
         wrong,
     };
     let refused = reader.lines(file).err();
@@ -444,11 +453,20 @@ impl Reader {
             frame,
             at: 1,
             row: Vec::new(),
+            predicate: self.width_in(frame[0]),
         };
         if self.cut_all(&mut cursor).is_some() {
             Ok(cursor.row)
         } else {
             Err(cursor.row)
+        }
+    }
+
+    fn width_in(&self, kind: u8) -> usize {
+        match kind {
+            3 if self.wrong.on(Wrong::TypeReferenceShort) => NARROW,
+            5 if self.wrong.on(Wrong::NodeReferenceShort) => NARROW,
+            _ => self.predicate,
         }
     }
 
@@ -482,7 +500,12 @@ impl Reader {
         if !layout.each.is_empty() {
             while cursor.left() > 0 {
                 if wrong.on(Wrong::ListTailIgnored)
-                    && cursor.left() < layout.each.iter().map(|slot| slot.width()).sum()
+                    && cursor.left()
+                        < layout
+                            .each
+                            .iter()
+                            .map(|slot| slot.width(cursor.predicate))
+                            .sum()
                 {
                     return Some(());
                 }
@@ -686,6 +709,7 @@ impl Reader {
             0 => Ty::Int,
             1 => Ty::String,
             2 => Ty::Bytes,
+            3 if self.wrong.on(Wrong::TypeNumberCut) => Ty::Fact(values[1] & 0xffff),
             3 => Ty::Fact(values[1]),
             4 => Ty::Record(self.tree.cells.push(&parts)),
             _ => Ty::Union(self.tree.cells.push(&parts)),
@@ -709,6 +733,9 @@ impl Reader {
             for &(slot, value) in rest {
                 match slot {
                     Name => name = value as u16,
+                    Predicate if self.wrong.on(Wrong::NodeNumberCut) => {
+                        node.predicate = value & 0xffff;
+                    }
                     Predicate => node.predicate = value,
                     Node => node.under.push((name, value as u16)),
                     _ => node.distance = value as u8,
@@ -761,6 +788,7 @@ struct Cursor<'a> {
     frame: &'a [u8],
     at: usize,
     row: Row,
+    predicate: usize,
 }
 
 impl Cursor<'_> {
@@ -769,9 +797,10 @@ impl Cursor<'_> {
     }
 
     fn take(&mut self, slot: Slot) -> Option<u32> {
-        let bytes = self.frame.get(self.at..self.at + slot.width())?;
+        let width = slot.width(self.predicate);
+        let bytes = self.frame.get(self.at..self.at + width)?;
         let value = bytes.iter().fold(0, |high, &low| high << 8 | low as u32);
-        self.at += slot.width();
+        self.at += width;
         self.row.push((slot, value));
         Some(value)
     }

@@ -129,7 +129,8 @@ impl State<'_> {
                 Ok(None)
             }
             (Ty::Fact(p), Ty::Fact(q)) => {
-                let same = p == q || self.wrong.on(Wrong::FactsAlike);
+                let low = self.wrong.on(Wrong::FactsEqualByLowHalf) && p as u16 == q as u16;
+                let same = p == q || low || self.wrong.on(Wrong::FactsAlike);
                 Ok((!same).then_some(mismatch))
             }
             (Ty::Record(xs), Ty::Record(ys)) => {

@@ -38,6 +38,7 @@ pub fn write(states: &[State], most: usize, wrong: Switch) -> Result<Vec<u8>, u8
             most + states.iter().map(messages).sum::<usize>()
         }
         _ if wrong.on(Wrong::NumbersUncounted) && numbered => most + 7 * states.len(),
+        _ if wrong.on(Wrong::VisitsLineUncounted) => most + 11 * states.len(),
         _ => most,
     };
     let mut order: Vec<usize> = (0..states.len()).collect();
@@ -63,7 +64,28 @@ pub fn write(states: &[State], most: usize, wrong: Switch) -> Result<Vec<u8>, u8
         if numbered && !first && !late {
             writer.number(number)?;
         }
+        let visits = match () {
+            _ if wrong.on(Wrong::VisitsOfTheFile) => {
+                states[..=number].iter().map(|state| state.visits).sum()
+            }
+            _ if wrong.on(Wrong::VisitsLeftTold) => 1_048_576 - states[number].visits,
+            _ => states[number].visits,
+        };
+        let last = number + 1 == states.len();
+        let told = match () {
+            _ if wrong.on(Wrong::VisitsUntold) => Told::Never,
+            _ if wrong.on(Wrong::VisitsToldOnce) && !last => Told::Never,
+            _ if wrong.on(Wrong::VisitsToldFirst) => Told::First,
+            _ if wrong.on(Wrong::VisitsBeforeReports) => Told::BeforeReports,
+            _ => Told::Last,
+        };
+        if told == Told::First {
+            writer.visits(visits)?;
+        }
         writer.types()?;
+        if told == Told::BeforeReports {
+            writer.visits(visits)?;
+        }
         if !wrong.on(Wrong::ReportsLast) {
             let from = if wrong.on(Wrong::ReportsOfBefore) {
                 0
@@ -74,7 +96,9 @@ pub fn write(states: &[State], most: usize, wrong: Switch) -> Result<Vec<u8>, u8
                 writer.reports(state)?;
             }
         }
-        writer.visits(states[number].visits)?;
+        if told == Told::Last {
+            writer.visits(visits)?;
+        }
         if numbered && late {
             writer.number(number)?;
         }
@@ -93,6 +117,15 @@ pub fn write(states: &[State], most: usize, wrong: Switch) -> Result<Vec<u8>, u8
         }
     }
     Ok(whole)
+}
+
+/// Where a query's line of visits stands.
+#[derive(Clone, Copy, PartialEq, Eq)]
+enum Told {
+    Last,
+    First,
+    BeforeReports,
+    Never,
 }
 
 impl Writer<'_> {
@@ -114,7 +147,12 @@ impl Writer<'_> {
     /// The line after a query's others.
     fn visits(&mut self, visits: u64) -> Written {
         self.bytes(&[9])?;
-        self.bytes(&(visits as u32).to_be_bytes())?;
+        let bytes = (visits as u32).to_be_bytes();
+        if self.wrong.on(Wrong::VisitsInTwoBytes) {
+            self.bytes(&bytes[2..])?;
+        } else {
+            self.bytes(&bytes)?;
+        }
         self.end()
     }
 
@@ -238,7 +276,15 @@ impl Writer<'_> {
             Ty::Bytes => self.bytes(&[2]),
             Ty::Fact(predicate) => {
                 self.bytes(&[3])?;
-                self.bytes(&predicate.to_be_bytes())
+                match () {
+                    _ if self.wrong.on(Wrong::NumberWrittenShort) => {
+                        self.bytes(&predicate.to_be_bytes()[2..])
+                    }
+                    _ if self.wrong.on(Wrong::NumberWrittenCut) => {
+                        self.bytes(&(predicate & 0xffff).to_be_bytes())
+                    }
+                    _ => self.bytes(&predicate.to_be_bytes()),
+                }
             }
             Ty::Record(cell) => {
                 self.bytes(&[4])?;

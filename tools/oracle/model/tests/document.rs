@@ -30,10 +30,10 @@ fn m() {
         };
         answer(&m, &limits, None).answer
     };
-    assert_eq!(plain(&m), lines(&["07000000"]));
+    assert_eq!(plain(&m), lines(&["07000000", "0900000000"]));
     assert_eq!(lent(16_383, 65_536), Answer::Refused(1));
-    assert_eq!(lent(16_384, 8), Answer::Refused(12));
-    assert_eq!(lent(16_384, 9), lines(&["07000000"]));
+    assert_eq!(lent(16_384, 19), Answer::Refused(12));
+    assert_eq!(lent(16_384, 20), lines(&["07000000", "0900000000"]));
 }
 
 #[test]
@@ -55,6 +55,7 @@ fn whole_case() {
         "070003060000",
         "08000000040000000b72656a6563742f696e66696e6974652d74797065",
         "0a74686973207061747465726e20776f756c64206861766520746f20636f6e7461696e20697473656c66",
+        "0900000003",
     ];
     assert_eq!(plain(&case), lines(&want));
 }

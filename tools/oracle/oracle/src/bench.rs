@@ -23,13 +23,17 @@ pub fn run(given: &[String]) -> Done {
         [what] if what == "messages" && linked::HAS_CHECK => parts(&files::speaking(), rounds),
         [what] if what == "forms" && linked::HAS_CHECK => forms(rounds),
         [what] if what == "lamp" => crate::lamp::bench(rounds),
+        [what] if what == "convert" => crate::convert::bench(rounds),
         [what] if what == "texts" => crate::texts::bench(rounds.max(20)),
         [what]
             if ["answers", "reading", "shapes", "messages", "forms"].contains(&what.as_str()) =>
         {
             Err(format!("nothing to time: {}", crate::compare::NO_LIBRARY))
         }
-        _ => Err("bench what? one of answers, reading, shapes, messages, forms, lamp, texts".to_owned()),
+        _ => Err(
+            "bench what? one of answers, convert, reading, shapes, messages, forms, lamp, texts"
+                .to_owned(),
+        ),
     }
 }
 

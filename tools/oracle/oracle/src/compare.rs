@@ -4,13 +4,16 @@ use judge::{Answer, Limits, Ran};
 
 use crate::Done;
 use crate::calls;
+use crate::convert;
 use crate::corpus::{self, Corpus, Item};
+use crate::desks;
 use crate::lamp;
 use crate::mismatch::Mismatches;
 use crate::options::Options;
 use crate::port::Port;
 use crate::tally::{Progress, Tally};
 use crate::texts;
+use crate::visits;
 
 /// The most files tried to make one that shows a mismatch smaller.
 const TRIES: usize = 20_000;
@@ -26,21 +29,30 @@ fn shrink(file: &[u8], differs: impl Fn(&[u8]) -> bool) -> Vec<u8> {
 
 pub fn run(given: &[String]) -> Done {
     let mut known = corpus::OPTIONS.to_vec();
-    known.extend(["program", "out"]);
+    known.extend([
+        "program", "out", "widen", "narrow", "recorded", "days", "events",
+    ]);
     let [short, nested] = corpus::FLAGS;
     let options = Options::parse(given, &known, &["model", short, nested])?;
     match &options.words[..] {
         [what] if what == "answers" => answers(&options),
         [what] if what == "reading" => reading(&options),
         [what] if what == "calls" => calls::run(&options),
+        [what] if what == "convert" => convert::compare(&options),
+        [what] if what == "days" => desks::compare_days(&options),
         [what] if what == "lamp" => lamp::compare(&options),
+        [what] if what == "tally" => desks::compare_tally(&options),
         [what] if what == "texts" => texts::compare(),
-        _ => Err("compare what? one of answers, reading, calls, lamp, texts".to_owned()),
+        [what] if what == "visits" => visits::compare(&options),
+        _ => Err(
+            "compare what? one of answers, reading, calls, convert, days, lamp, tally, texts, visits"
+                .to_owned(),
+        ),
     }
 }
 
 /// The ports that are there.
-fn ports(options: &Options) -> Result<Vec<Port>, String> {
+pub fn ports(options: &Options) -> Result<Vec<Port>, String> {
     let mut ports = vec![];
     if let Some(program) = options.text("program") {
         let command: Vec<String> = program.split_whitespace().map(str::to_owned).collect();

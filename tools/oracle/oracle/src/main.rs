@@ -3,7 +3,9 @@
 mod bench;
 mod calls;
 mod compare;
+mod convert;
 mod corpus;
+mod desks;
 mod lamp;
 mod mismatch;
 mod options;
@@ -15,6 +17,7 @@ mod stack;
 mod tally;
 mod texts;
 mod trials;
+mod visits;
 
 use std::io::{Read, Write};
 use std::process::ExitCode;
@@ -42,12 +45,18 @@ oracle mutants [--seed S] [--count N] [--usual]
     Switches on each mistake of a list in the model and says which the files tell from the right
     one. Ends with status 1 unless all that are wrong are told, and none that is equal in behaviour.
     --usual runs the files with the program's own slices alone; other lengths and visits can then
-    tell nothing.
+    tell nothing. Mistakes in a conversion, a tally and the desks' calls are then tried on as many files, steps
+    and events.
 
 oracle compare answers --seed S --count N [--style NAME] [--program P] [--out DIR]
 oracle compare reading --seed S --count N [--style NAME] [--out DIR]
 oracle compare calls   --seed S --count N [--style NAME] [--out DIR]
 oracle compare lamp    --seed S --count N [--style NAME] [--out DIR]
+oracle compare visits  --seed S --count N [--style NAME] [--program P] [--out DIR]
+oracle compare convert --seed S --count N [--style NAME] [--widen P --narrow P] [--out DIR]
+oracle compare convert --recorded FILE
+oracle compare days    --seed S [--days N] [--events N] [--out DIR]
+oracle compare tally   --seed S [--count N] [--out DIR]
 oracle compare texts
     Holds the port against the Rust on generated files: the program P (with arguments, if it needs
     some), from standard input to standard output, and the static library in process where it was
@@ -60,6 +69,17 @@ oracle compare texts
     to two bytes, and every line of up to two bytes after a right first line; `--nested` takes a file for
     each recursion, as deep as the limits let it go.
     `--model` holds the model against the Rust, as `agree` does, on these files too.
+    Answers are compared without their lines 09, which the Rust knows nothing of; visits: the lines 09 alone, beside
+    the counted copy.
+    Convert: each generated file out of the edition of two bytes for a predicate's number and back to it, beside the
+    definition (what the file says, read in one edition and written in the other), with slices of all lengths; and
+    out and back again. `--widen` and `--narrow` name the two programs. `--recorded` takes a recorded sample of that
+    edition, from before cards 6 and 7: each file, widened, is answered as recorded, with its predicate numbers
+    widened and the lines 09 left out.
+    Days: so many days of so many events at 1 to 16 desks in turn, set-ups, ceilings, checks and new days, with
+    groups that break the rules between, beside the card's sentences; after each event the group obeys the rules,
+    no use passes its cap and no ceiling is under what is left of a share. Tally: as many steps, in runs from zero
+    and from other tallies; over each run from zero the sums are held together.
     Calls are compared in process alone: random lists of unifications, snapshots and rollbacks over a
     generated schema, with the outcome, the visits left and every binding after each call.
     Texts: every string of up to three bytes, and many of four, through both text tests of the port and the
@@ -69,6 +89,7 @@ oracle compare texts
 
 oracle bench answers [--seed S] [--count N] [--rounds R] [--style NAME]
 oracle bench reading [--seed S] [--count N] [--rounds R] [--style NAME]
+oracle bench convert [--rounds R]
 oracle bench shapes [--rounds R]
 oracle bench messages [--rounds R]
 oracle bench forms [--rounds R]
@@ -85,7 +106,8 @@ oracle bench lamp [--rounds R]
     on both sides. Messages: the same for files of 10, 100 and 500 diagnostics and of long messages. Forms: a
     file of up to 64 queries beside the Rust that reads the schema once, and beside as many calls with one
     query each. Lamp: files whose first diagnostic stands before, amid or after a million visits, beside the
-    full call. Texts: both text tests on names of 511 bytes beside the Rust's own.
+    full call. Texts: both text tests on names of 511 bytes beside the Rust's own. Convert: both converters
+    beside the port's reading alone, the definition, and a copy of the file.
 
 oracle record [--check]
     Writes crates/replay/stdin, the recorded sample of answers; with --check holds it against the
@@ -97,8 +119,8 @@ oracle stack [--most BYTES] [--out FILE]
     the files that use most; --out writes the first of them. Ends with status 1 where it is more than --most.
 
 oracle selftest
-    Every example of document 01, the text examples of RFC 3629, what card 3 says of several queries, and
-    each message.
+    Every example of document 01, the text examples of RFC 3629, what card 3 says of several queries, each
+    message, and what cards 6, 7 and 8 say of editions, tally and desks.
 
 oracle help
     This text.

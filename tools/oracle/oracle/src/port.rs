@@ -5,6 +5,8 @@ use std::process::{Command, Stdio};
 
 use judge::{Answer, Limits};
 
+use crate::convert::{as_judged, without_visits};
+
 /// How it is asked for a file's answer.
 pub enum Port {
     /// A program from standard input to standard output, with its arguments. It lends the slices
@@ -20,6 +22,23 @@ pub enum Port {
 pub type Given = Vec<u8>;
 
 impl Port {
+    /// What a program would print: the lines, or 0f and the number.
+    pub fn printed(&self, file: &[u8], limits: &Limits) -> Result<Given, String> {
+        match self {
+            Port::Program(command) => program(command, file),
+            Port::Model => Ok(crate::printed::printed(&modelled(file, limits))?),
+            Port::Library => {
+                let (number, _, mut answer) = library(file, limits);
+                if number > 0 {
+                    return Ok(crate::printed::printed(&Answer::Refused(number))?);
+                }
+                let end = answer.iter().position(|byte| *byte == 0);
+                answer.truncate(end.unwrap_or(answer.len()));
+                Ok(answer)
+            }
+        }
+    }
+
     pub fn name(&self) -> &'static str {
         match self {
             Port::Program(_) => "program",
@@ -28,7 +47,8 @@ impl Port {
         }
     }
 
-    /// What the port gives for a file, and what it should give where the answer is `expected`.
+    /// What the port gives for a file, and what it should give where the answer is `expected`; both without the
+    /// lines 09, which the Rust knows nothing of (`compare visits` is for them).
     pub fn ask(
         &self,
         file: &[u8],
@@ -36,17 +56,15 @@ impl Port {
         expected: &Answer,
     ) -> Result<(Given, Given), String> {
         match self {
-            Port::Program(command) => {
-                Ok((program(command, file)?, crate::printed::printed(expected)?))
-            }
+            Port::Program(command) => Ok((
+                without_visits(&program(command, file)?),
+                without_visits(&crate::printed::printed(expected)?),
+            )),
             Port::Model => {
-                let answer = match model::answer(file, &trial::as_model(limits), None).answer {
-                    model::Answer::Lines(lines) => Answer::Lines(lines),
-                    model::Answer::Refused(number) => Answer::Refused(number),
-                };
+                let answer = modelled(file, limits);
                 Ok((
-                    crate::printed::printed(&answer)?,
-                    crate::printed::printed(expected)?,
+                    without_visits(&crate::printed::printed(&answer)?),
+                    without_visits(&crate::printed::printed(expected)?),
                 ))
             }
             Port::Library => {
@@ -60,14 +78,19 @@ impl Port {
                 let mut answer = lines.to_vec();
                 answer.resize(limits.bytes, 0);
                 let work = vec![0; limits.words];
-                Ok((found, describe(number, &work, &answer)))
+                let expected = describe(number, &work, &answer);
+                Ok((without_visits(&found), without_visits(&expected)))
             }
         }
     }
 }
 
+fn modelled(file: &[u8], limits: &Limits) -> Answer {
+    as_judged(model::answer(file, &trial::as_model(limits), None).answer)
+}
+
 /// Runs the program on a file and takes what it prints.
-fn program(command: &[String], file: &[u8]) -> Result<Vec<u8>, String> {
+pub fn program(command: &[String], file: &[u8]) -> Result<Vec<u8>, String> {
     let fault = |why: std::io::Error| format!("{}: {why}", command[0]);
     let mut child = Command::new(&command[0])
         .args(&command[1..])
@@ -103,7 +126,7 @@ fn library(file: &[u8], limits: &Limits) -> (u8, Vec<u32>, Vec<u8>) {
 }
 
 /// The outcome and both slices as text: zeros at the end are told by their count.
-fn describe(number: u8, work: &[u32], answer: &[u8]) -> Vec<u8> {
+pub fn describe(number: u8, work: &[u32], answer: &[u8]) -> Vec<u8> {
     let used = answer
         .iter()
         .rposition(|byte| *byte != 0)

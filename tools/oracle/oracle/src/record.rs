@@ -118,23 +118,31 @@ impl Sample {
 }
 
 /// The cases of a stored sample, and how many the Rust answers otherwise now.
-fn replay(mut stored: &[u8]) -> Result<(usize, usize), String> {
+fn replay(stored: &[u8]) -> Result<(usize, usize), String> {
+    let cases = cases(stored)?;
+    let differs = |(file, answer): &&(&[u8], &[u8])| {
+        let now = printed(&judge::answer(file, &Limits::default()).answer);
+        now.as_deref() != Ok(*answer)
+    };
+    Ok((cases.len(), cases.iter().filter(differs).count()))
+}
+
+/// The cases of a stored sample, each a file and what is printed for it.
+pub fn cases(mut stored: &[u8]) -> Result<Vec<(&[u8], &[u8])>, String> {
     let mut part = || {
         let (length, rest) = stored.split_first_chunk::<4>()?;
         let (part, rest) = rest.split_at_checked(u32::from_be_bytes(*length) as usize)?;
         stored = rest;
         Some((part, rest.is_empty()))
     };
-    let (mut cases, mut differing) = (0, 0);
+    let mut cases = vec![];
     loop {
         let cut = "the sample is cut off";
         let (file, _) = part().ok_or(cut)?;
         let (answer, last) = part().ok_or(cut)?;
-        cases += 1;
-        let now = printed(&judge::answer(file, &Limits::default()).answer);
-        differing += usize::from(now.as_deref() != Ok(answer));
+        cases.push((file, answer));
         if last {
-            return Ok((cases, differing));
+            return Ok(cases);
         }
     }
 }

@@ -3,7 +3,7 @@
 use std::collections::{BTreeMap, BTreeSet};
 use std::time::{Duration, Instant};
 
-use judge::{Answer, File, Ran, Shape, Stmt};
+use judge::{Answer, File, Ran, Shape, Stmt, Type};
 
 #[derive(Default)]
 pub struct Tally {
@@ -13,10 +13,13 @@ pub struct Tally {
     left_out: BTreeMap<&'static str, u64>,
     codes: BTreeMap<&'static str, u64>,
     texts: BTreeMap<&'static str, u64>,
-    /// Files whose answer just fits and ends in a message.
+    /// Files whose answer just fits and ends in a message and its visits.
     full: u64,
     shapes: [u64; Shape::NAMES.len()],
     stmts: [u64; Stmt::NAMES.len()],
+    /// Files past the reading with a predicate above 65,535 in a type, in a node, and with one whose low half is
+    /// the number of a predicate that the file has.
+    above: [u64; 3],
     /// Files past the reading by their number of queries, from each of `QUERIES` on.
     queries: [u64; QUERIES.len()],
 }
@@ -54,6 +57,18 @@ impl Tally {
                 }
             }
         }
+        let types = file.types.iter().filter_map(|ty| match ty {
+            Type::Fact(number) => Some(*number),
+            _ => None,
+        });
+        let in_types = types.filter(|number| *number > 65_535).count();
+        let above: Vec<u32> = judge::references(file)
+            .filter(|number| *number > 65_535)
+            .collect();
+        let alike = |number: &u32| usize::from(*number as u16) < file.predicates.len();
+        self.above[0] += u64::from(in_types > 0);
+        self.above[1] += u64::from(above.len() > in_types);
+        self.above[2] += u64::from(above.iter().any(alike));
         let size = QUERIES.iter().rposition(|from| *from <= file.trees.len());
         self.queries[size.expect("a file past the reading has a query")] += 1;
         for shape in shapes {
@@ -94,6 +109,10 @@ impl Tally {
         print_counts(
             "with a node",
             shapes.map(|(name, count)| ((*name).to_owned(), count)),
+        );
+        let [types, nodes, alike] = self.above;
+        println!(
+            "  with a predicate above 65,535: in a type {types}, in a node {nodes}, its low half one that exists {alike}"
         );
         let queries = QUERIES.iter().zip(self.queries);
         print_counts(

@@ -72,8 +72,12 @@ pub fn mutants(given: &[String]) -> Done {
         trial::Lent::Varied
     };
     let told = trial::mutants(seed, count, with);
-    for surprise in &told.surprises {
+    let mut surprises = told.surprises;
+    surprises.extend(crate::convert::mistakes(seed, count));
+    surprises.extend(crate::desks::tally_mistakes(seed, count));
+    surprises.extend(crate::desks::mistakes(seed, count));
+    for surprise in &surprises {
         println!("SURPRISE {surprise}");
     }
-    Ok(told.surprises.is_empty())
+    Ok(surprises.is_empty())
 }

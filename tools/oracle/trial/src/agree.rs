@@ -68,13 +68,18 @@ pub fn agree(seed: u64, count: u64, save: &Path) -> Agreed {
     agreed
 }
 
-/// Whether an answer just fits the program's slice and its last line is a message.
+/// Whether an answer just fits the program's slice and its last line but that of the visits is a message.
 pub fn full(answer: &judge::Answer) -> bool {
     let judge::Answer::Lines(lines) = answer else {
         return false;
     };
-    let last = lines.split_inclusive(|byte| *byte == b'\n').next_back();
-    lines.len() == Limits::default().bytes && last.is_some_and(|line| line.starts_with(b"0a"))
+    lines.len() == Limits::default().bytes && ends_in_a_message(lines)
+}
+
+/// Whether the last line but that of the visits is a message.
+pub fn ends_in_a_message(lines: &[u8]) -> bool {
+    let last = lines.split_inclusive(|byte| *byte == b'\n').nth_back(1);
+    last.is_some_and(|line| line.starts_with(b"0a"))
 }
 
 fn outcome(answer: &judge::Answer) -> String {

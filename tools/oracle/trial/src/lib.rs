@@ -9,7 +9,7 @@ mod mutants;
 mod shrink;
 mod telling;
 
-pub use agree::{Agreed, agree, full};
+pub use agree::{Agreed, agree, ends_in_a_message, full};
 pub use lend::lent;
 pub use mutants::{Lent, Told, mutants};
 pub use shrink::shrink;

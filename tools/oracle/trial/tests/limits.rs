@@ -56,8 +56,7 @@ fn answers_that_end_in_a_message() {
         let judge::Answer::Lines(lines) = judge::answer(&file, &limits).answer else {
             panic!("refused");
         };
-        let last = lines.split_inclusive(|byte| *byte == b'\n').next_back();
-        assert!(last.is_some_and(|line| line.starts_with(b"0a")));
+        assert!(trial::ends_in_a_message(&lines));
         lines.len()
     };
     let seen: BTreeSet<usize> = (0..30).map(length).collect();

@@ -2,13 +2,17 @@
 
 use judge::Answer;
 
-use super::{Group, lines, report};
+use super::{Group, lines, report, visits};
 
 /// M: the smallest file.
 pub const M: &str = "
     01020020
     05000000000000000300
     060000";
+
+pub const M_PRINTS: &str = "
+    07000000
+    0900000000";
 
 const WHOLE: &str = "
     01020020
@@ -26,7 +30,8 @@ const WHOLE_PRINTS: &str = "
     0700020400010001060000
     070003060000
     08000000040000000b72656a6563742f696e66696e6974652d74797065
-    0a74686973207061747465726e20776f756c64206861766520746f20636f6e7461696e20697473656c66";
+    0a74686973207061747465726e20776f756c64206861766520746f20636f6e7461696e20697473656c66
+    0900000003";
 
 /// M read as document 01 writes it: its node line has ten bytes.
 fn m() -> Vec<u8> {
@@ -35,7 +40,7 @@ fn m() -> Vec<u8> {
 
 pub fn whole(group: &mut Group) {
     let ran = group.answer(&m());
-    group.same("M", ran.answer, Answer::Lines(lines("07000000")));
+    group.same("M", ran.answer, Answer::Lines(lines(M_PRINTS)));
     group.same("M's visits", ran.visits, vec![0]);
 
     let ran = group.answer(&lines(WHOLE));
@@ -64,6 +69,7 @@ pub fn table(group: &mut Group) {
         for (start, end, code, message) in row.reports {
             expected.extend_from_slice(report(*start, *end, code, message).as_bytes());
         }
+        expected.extend_from_slice(visits(row.visits).as_bytes());
         let ran = group.answer(&lines(row.file));
         group.same(row.case, ran.answer, Answer::Lines(expected));
         group.same(row.case, ran.visits, vec![row.visits]);
@@ -220,12 +226,12 @@ const ROWS: &[Row] = &[
             03 05 0001 00000000 0000
             04 0000 0001 00
             05 00000000 00000001 08
-            05 00000002 00000003 0d 0000 0000
+            05 00000002 00000003 0d 00000000 0000
             05 00000004 00000005 00
             06 0002 01 0001",
         types: "
             07 0000 ff
-            07 0001 03 0000
+            07 0001 03 00000000
             07 0002 00",
         reports: &[(
             0,
@@ -248,14 +254,14 @@ const ROWS: &[Row] = &[
             05 00000000 00000001 00
             05 00000002 00000003 00
             05 00000004 00000005 08 0001 0000 0001 0001
-            05 00000006 00000007 0d 0000 0002
+            05 00000006 00000007 0d 00000000 0002
             05 00000008 00000009 00
             06 0004 01 0003",
         types: "
             07 0000 ff
             07 0001 ff
             07 0002 ff
-            07 0003 03 0000
+            07 0003 03 00000000
             07 0004 00",
         reports: &[(
             4,
@@ -274,16 +280,16 @@ const ROWS: &[Row] = &[
             03 00
             04 0000 0000 00
             05 00000000 00000001 04
-            05 00000002 00000003 0d 0000 0000
+            05 00000002 00000003 0d 00000000 0000
             05 00000004 00000005 04
-            05 00000006 00000007 0d 0000 0002
+            05 00000006 00000007 0d 00000000 0002
             05 00000008 00000009 00
             06 0004 04 0001 0003",
         types: "
             07 0000 00
-            07 0001 03 0000
+            07 0001 03 00000000
             07 0002 00
-            07 0003 03 0000
+            07 0003 03 00000000
             07 0004 00",
         reports: &[(
             2,
@@ -324,14 +330,14 @@ const ROWS: &[Row] = &[
             05 00000000 00000001 03 0003
             05 00000002 00000003 08 0002 0000
             05 00000004 00000005 08 0001 0001
-            05 00000006 00000007 0d 0000 0002
+            05 00000006 00000007 0d 00000000 0002
             05 00000008 00000009 03 0003
             06 0004 01 0003",
         types: "
             07 0000 ff
             07 0001 ff
             07 0002 04 0001 0001 00
-            07 0003 03 0000
+            07 0003 03 00000000
             07 0004 06 0001",
         reports: &[(
             2,
@@ -348,15 +354,74 @@ const ROWS: &[Row] = &[
             01 02 0020
             02 66
             05 00000000 00000001 04
-            05 00000002 00000003 0d 0007 0000
+            05 00000002 00000003 0d 00000007 0000
             05 00000004 00000005 09 0000 0001
             06 0002",
         types: "
             07 0000 ff
-            07 0001 03 0007
+            07 0001 03 00000007
             07 0002 07",
         reports: &[],
         visits: 0,
+    },
+    // x = p _; x = (absent 65536 _): 65,536 is not predicate 0.
+    Row {
+        case: "facts of two predicates whose low halves are alike",
+        file: "
+            01 02 0020
+            02 70
+            02 78
+            03 00
+            04 0000 0000 00
+            05 00000000 00000001 03 0001
+            05 00000002 00000003 04
+            05 00000004 00000005 0d 00000000 0001
+            05 00000006 00000007 03 0001
+            05 00000008 00000009 04
+            05 0000000a 0000000b 0d 00010000 0004
+            05 0000000c 0000000d 03 0001
+            06 0006 00 0000 0002 00 0003 0005",
+        types: "
+            07 0000 03 00000000
+            07 0001 00
+            07 0002 03 00000000
+            07 0003 03 00000000
+            07 0004 ff
+            07 0005 03 00010000
+            07 0006 03 00000000",
+        reports: &[(10, 11, "reject/type-mismatch", "expected `p`, found a fact")],
+        // First bind: unify and occurs at the fact. Second: unify.
+        visits: 3,
+    },
+    // p's key is a fact of 4,294,967,295: q of 65,535 does not fit it, and r of it does.
+    Row {
+        case: "the greatest predicate number",
+        file: "
+            01 02 0020
+            02 70
+            03 03 ffffffff
+            04 0000 0000 00
+            05 00000000 00000001 04
+            05 00000002 00000003 0d 0000ffff 0000
+            05 00000004 00000005 0d 00000000 0001
+            05 00000006 00000007 04
+            05 00000008 00000009 0d ffffffff 0003
+            05 0000000a 0000000b 0d 00000000 0004
+            06 0002 01 0005",
+        types: "
+            07 0000 ff
+            07 0001 ff
+            07 0002 03 00000000
+            07 0003 ff
+            07 0004 03 ffffffff
+            07 0005 03 00000000",
+        reports: &[(
+            2,
+            3,
+            "reject/type-mismatch",
+            "expected a fact, found a fact",
+        )],
+        visits: 2,
     },
     // (absent 7 _).value.
     Row {
@@ -364,12 +429,12 @@ const ROWS: &[Row] = &[
         file: "
             01 02 0020
             05 00000000 00000001 04
-            05 00000002 00000003 0d 0007 0000
+            05 00000002 00000003 0d 00000007 0000
             05 00000004 00000005 0a 0001
             06 0002",
         types: "
             07 0000 ff
-            07 0001 03 0007
+            07 0001 03 00000007
             07 0002 07",
         reports: &[(4, 5, "reject/no-value", "this predicate has no value")],
         visits: 0,

@@ -5,16 +5,16 @@ use judge::{Answer, Limits, Node, Predicate, Query, Shape, Tree};
 use super::examples::M;
 use super::large::{doubled_key, key_of};
 use super::refusals::doubling;
-use super::{Group, lines, report};
+use super::{Group, lines, report, visits};
 
 /// A node that is an integer, and the query of it alone.
 const ONE: &str = "05 00000000 00000000 00\n06 0000\n";
 
 /// The schema of `two`: the names x and f.
-const NAMES: &str = "01 02 0020\n02 78\n02 66\n";
+pub const NAMES: &str = "01 02 0020\n02 78\n02 66\n";
 
 /// x = 1, head x.
-const FIRST: &str = "
+pub const FIRST: &str = "
     05 00000000 00000001 03 0000
     05 00000004 00000005 00
     05 00000008 00000009 03 0000
@@ -55,25 +55,26 @@ fn two(group: &mut Group) {
         "reject/infinite-type",
         "this pattern would have to contain itself",
     );
-    let second = format!("{SECOND_PRINTS}\n{infinite}");
+    let first = format!("{FIRST_PRINTS}\n{}", visits(2));
+    let second = format!("{SECOND_PRINTS}\n{infinite}{}", visits(3));
     let accepted = |text: &str| Answer::Lines(lines(text));
     for (case, file, prints, visits) in [
         (
             "a query alone has no 0b",
             format!("{NAMES}{FIRST}"),
-            FIRST_PRINTS.to_owned(),
+            first.clone(),
             vec![2],
         ),
         (
             "two queries",
             format!("{NAMES}{FIRST}\n{SECOND}"),
-            format!("0b0000\n{FIRST_PRINTS}\n0b0001\n{second}"),
+            format!("0b0000\n{first}0b0001\n{second}"),
             vec![2, 3],
         ),
         (
             "the same in the other order",
             format!("{NAMES}{SECOND}\n{FIRST}"),
-            format!("0b0000\n{second}\n0b0001\n{FIRST_PRINTS}"),
+            format!("0b0000\n{second}\n0b0001\n{first}"),
             vec![3, 2],
         ),
         (
@@ -99,7 +100,7 @@ fn counts(group: &mut Group) {
     for queries in [2, 30, 63, 64] {
         let ran = group.answer(&lines(&form(queries)));
         let prints: String = (0..queries)
-            .map(|query| format!("0b{query:04x}\n07000000\n"))
+            .map(|query| format!("0b{query:04x}\n07000000\n0900000000\n"))
             .collect();
         let case = format!("{queries} queries");
         group.same(&case, ran.answer, Answer::Lines(prints.into_bytes()));
@@ -210,7 +211,7 @@ fn limits(group: &mut Group) {
         judge::encode(&file)
     };
     // Statement k takes 2^(k + 1) visits.
-    let visits = |count: u32| (1 << (count + 2)) - 4;
+    let made = |count: u32| (1 << (count + 2)) - 4;
     let with = |file: &[u8], bytes, visits| {
         let limits = Limits {
             bytes,
@@ -224,17 +225,17 @@ fn limits(group: &mut Group) {
     group.same(
         "the visits of each",
         ran.visits,
-        vec![visits(5), visits(3), visits(5)],
+        vec![made(5), made(3), made(5)],
     );
-    let exact = with(&file, 65_536, visits(5));
+    let exact = with(&file, 65_536, made(5));
     let accepted = matches!(exact.answer, Answer::Lines(_));
     group.same("each within its visits", accepted, true);
     let late = form(&[3, 5]);
-    let ran = with(&late, 65_536, visits(5) - 1);
+    let ran = with(&late, 65_536, made(5) - 1);
     group.same("11 in the second", ran.answer, Answer::Refused(11));
-    group.same("its visits", ran.visits, vec![visits(3), visits(5) - 1]);
+    group.same("its visits", ran.visits, vec![made(3), made(5) - 1]);
     for bytes in [0, 7, 8, 100] {
-        let ran = with(&late, bytes, visits(5) - 1);
+        let ran = with(&late, bytes, made(5) - 1);
         group.same("a slice full before it", ran.answer, Answer::Refused(11));
     }
     group.refused("11 in a late query", &form(&[2, 2, 24]), 11);
@@ -243,13 +244,13 @@ fn limits(group: &mut Group) {
 
     small(group);
 
-    // 12 goes by all lines, the 0b lines included.
+    // 12 goes by all lines, the 0b and the 09 lines included.
     let m = lines(&format!("{M}\n{ONE}"));
     for (bytes, fits) in [
-        (32, true),
-        (31, false),
-        (25, false),
-        (16, false),
+        (54, true),
+        (53, false),
+        (43, false),
+        (27, false),
         (0, false),
     ] {
         let found = matches!(with(&m, bytes, 0).answer, Answer::Lines(_));
@@ -301,12 +302,12 @@ fn small(group: &mut Group) {
     let ran = group.answer(&judge::encode(&file));
     group.same("half of the visits each", ran.visits, vec![1 << 19; 3]);
     group.same("not 11", ran.answer, Answer::Refused(12));
-    // Twice 32,774 bytes; and 65,522, 9 and two lines 0b.
+    // Twice 32,789 bytes; and 65,513, 20 and two lines 0b.
     let long = tree(&[Shape::Wildcard, Shape::Fact(0, 0)]);
     let mut file = doubled_key(11);
     file.trees = vec![long.clone(); 2];
     group.refused("too long together", &judge::encode(&file), 12);
-    let mut file = key_of(&[11, 10, 9, 9]);
+    let mut file = key_of(&[11, 10, 9, 8, 7, 6, 6, 0]);
     file.trees = vec![long, int];
     group.refused("too long with the lines 0b", &judge::encode(&file), 12);
 }

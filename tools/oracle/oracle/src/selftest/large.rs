@@ -30,7 +30,7 @@ pub fn run(group: &mut Group) {
     group.same(
         "a key of 2^60 parts, not used",
         ran.answer,
-        Answer::Lines(b"070000ff\n07000107\n".to_vec()),
+        Answer::Lines(b"070000ff\n07000107\n0900000000\n".to_vec()),
     );
 
     // x0 = {a = x1, b = x1} and so on, then x0 < error: one visit, and then `compare` writes the
@@ -169,15 +169,10 @@ fn add_unions(file: &mut File) -> [u16; 4] {
     })
 }
 
-/// p _ and a third node, with an answer of 65,537 bytes: 13 for p's node, 9 for the third, and for
-/// the key's 7 and the 65,508 of a record of five fields, each 16 times 2 to its depth less 10.
+/// p _ with an answer of 65,537 bytes: 17 for p's node, 11 for the visits, and for the key's 7 and the
+/// 65,502 of a record of four fields, each 16 times 2 to its depth less 10.
 fn one_byte_longer() -> File {
-    let mut nodes = Nodes(vec![]);
-    let mut file = key_of(&[11, 10, 9, 9, 0]);
-    std::mem::swap(&mut file.trees[0].nodes, &mut nodes.0);
-    nodes.push(Shape::Int);
-    file.trees[0].nodes = nodes.0;
-    file
+    key_of(&[11, 10, 9, 9])
 }
 
 /// Depths of full binary trees that make up, with a record over them, so many parts.

@@ -1,8 +1,9 @@
-//! `oracle selftest`: what document 01 and cards 1, 2 and 3 say outright, held against the judge.
+//! `oracle selftest`: what document 01 and cards 1 to 3 and 6 to 8 say outright, held against the judge.
 //!
 //! The expected answers and visits were worked out from these papers by hand and not by running; the
 //! messages are what ty.rs says, read beside it.
 
+mod cards;
 mod examples;
 mod forms;
 mod large;
@@ -20,7 +21,7 @@ use crate::options::Options;
 type Cases = fn(&mut Group);
 
 /// The groups by name.
-const GROUPS: [(&str, Cases); 8] = [
+const GROUPS: [(&str, Cases); 11] = [
     ("the examples of document 01", examples::whole),
     ("the table of refusals", refusals::run),
     ("the list of the computed table", examples::table),
@@ -29,6 +30,9 @@ const GROUPS: [(&str, Cases); 8] = [
     ("types too large", large::run),
     ("several queries in a file", forms::run),
     ("each message", messages::run),
+    ("the two editions", cards::editions),
+    ("the tally", cards::tally),
+    ("the cabinet", cards::cabinet),
 ];
 
 /// One group of cases: counts, and the files that were asked about.
@@ -102,6 +106,11 @@ pub fn report(start: u32, end: u32, code: &str, message: &str) -> String {
         |text: &str| -> String { text.bytes().map(|byte| format!("{byte:02x}")).collect() };
     let (code, message) = (digits(code), digits(message));
     format!("08{start:08x}{end:08x}{code}\n0a{message}\n")
+}
+
+/// The line of a query's visits, its last.
+pub fn visits(made: u64) -> String {
+    format!("09{made:08x}\n")
 }
 
 /// Every file that the self-test asks about with the program's slices.

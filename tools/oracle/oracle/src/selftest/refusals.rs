@@ -2,7 +2,7 @@
 
 use judge::{Answer, File, Limits, Node, Query, Shape, Stmt, Tree};
 
-use super::examples::M;
+use super::examples::{M, M_PRINTS};
 use super::{Group, lines};
 
 pub fn run(group: &mut Group) {
@@ -18,7 +18,7 @@ pub fn run(group: &mut Group) {
 
     group.same("1: M with 16,383", with(16_383, 65_536), Answer::Refused(1));
     group.same("1: M with none", with(0, 65_536), Answer::Refused(1));
-    let accepted = Answer::Lines(lines("07000000"));
+    let accepted = Answer::Lines(lines(M_PRINTS));
     group.same("1: M with 16,384", with(16_384, 65_536), accepted.clone());
     group.same("1: M with 16,385", with(16_385, 65_536), accepted.clone());
 
@@ -57,9 +57,11 @@ pub fn run(group: &mut Group) {
     group.same("11: its visits", ran.visits, vec![1_048_576]);
     visits_exact(group);
 
-    group.same("12: M with 8 bytes", with(16_384, 8), Answer::Refused(12));
+    // The node's line takes 9, that of the visits 11.
+    group.same("12: M with 19 bytes", with(16_384, 19), Answer::Refused(12));
+    group.same("12: M with 9 bytes", with(16_384, 9), Answer::Refused(12));
     group.same("12: M with none", with(16_384, 0), Answer::Refused(12));
-    group.same("12: M with 9 bytes", with(16_384, 9), accepted);
+    group.same("12: M with 20 bytes", with(16_384, 20), accepted);
     let ran = group.answer(&judge::encode(&shrinking(80)));
     group.same(
         "12: types too large to write",

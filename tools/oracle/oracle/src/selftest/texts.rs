@@ -68,7 +68,8 @@ pub fn run(group: &mut Group) {
     for (text, characters) in WELL_FORMED {
         let case = format!("{text:02x?}");
         let fits = group.answer(&term(text, characters));
-        group.same(&case, fits.answer, Answer::Lines(b"07000001\n".to_vec()));
+        let typed = Answer::Lines(b"07000001\n0900000000\n".to_vec());
+        group.same(&case, fits.answer, typed);
         let too_long = group.answer(&term(text, characters - 1));
         group.same(&case, too_long.codes, vec!["reject/fuzzy-term"]);
     }
