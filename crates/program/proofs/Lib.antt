@@ -1,2 +1,3 @@
 mod Printing
 mod Jobs
+pub mod Lamps
