@@ -45,7 +45,8 @@ pub fn lamp_line(file: &[u8], work: &mut [u32; 16384]) -> [u8; 5]
     ensures { λ r. ⌜ PrintsLamp (now (file .entry)) (now (work .exit)) r ⌝ }
 {
     let l = lamp::lamp(file, work);
-    lamp::line(l.signal)
+    let s = l.signal;
+    lamp::line(s)
 }
 
 // One byte more is read than a file may have, so that a longer input is refused.
