@@ -133,9 +133,7 @@ fn infer_kind(f: &[u8], w: &mut [u32], n: u32, left: u32, out: &mut [u8]) -> Typ
         Node::Bytes => Typed::Got(Ty::Bytes, left),
         Node::Str => Typed::Got(Ty::Str, left),
         Node::Prefix(_) => Typed::Got(Ty::Str, left),
-        Node::Fuzzy(term, distance) => {
-            steps::fuzzy(f, w, n, term, distance, left, out)
-        }
+        Node::Fuzzy(term, distance) => { steps::fuzzy(f, w, n, term, distance, left, out) }
         Node::Wildcard => Typed::Got(Ty::Var(cells::fresh_var_id(w)), left),
         Node::Never => Typed::Got(Ty::Var(cells::fresh_var_id(w)), left),
         Node::Error => Typed::Got(Ty::Error, left),

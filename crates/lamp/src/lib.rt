@@ -36,7 +36,13 @@ fn one_query(file: &[u8], work: &mut [u32]) -> Glow
     ensures { λ r. ⌜ Glows (now (file .entry)) (now (work .entry)) (now (work .exit)) r ⌝ }
 {
     let mut none = [0u8; 1];
-    let d = checker::query(file, work, Until::FirstDiagnostic, Counters::VISITS, &mut none[0..0]);
+    let d = checker::query(
+        file,
+        work,
+        Until::FirstDiagnostic,
+        Counters::VISITS,
+        &mut none[0..0],
+    );
     match d {
         Done::On(left) => Glow::Dark(made(Counters::VISITS, left)),
         Done::Out => {

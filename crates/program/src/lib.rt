@@ -75,18 +75,12 @@ pub fn run_lamp() {
     let r = input::read_all(libc::STDIN_FILENO, &mut file);
     match r {
         Input::Failed => {
-            io::write_all(
-                libc::STDERR_FILENO,
-                b"reading standard input failed\n",
-            );
+            io::write_all(libc::STDERR_FILENO, b"reading standard input failed\n");
         }
         Input::Bytes(n) => {
             let line = lamp_line(&file[0..n], &mut work);
             if !io::write_all(libc::STDOUT_FILENO, &line) {
-                io::write_all(
-                    libc::STDERR_FILENO,
-                    b"writing standard output failed\n",
-                );
+                io::write_all(libc::STDERR_FILENO, b"writing standard output failed\n");
             }
         }
     }

@@ -141,12 +141,14 @@ module _ {f w o w′ o′ : List ℕ} {T : Rows} {d : Described} {c : Checker} (
         go : {w′ : List ℕ} {r : Done} → Halts (countedW (X .between)) left w′ r → (r ≡ Done.Out) × Told d w′ o′ after left
         go (goes-on z) = absurd (omega (arith, z, one))
         go (ends-here z) =
-            let K : Keeps LEFT AFTER-LEFT (countedW (X .between)) (set (countedW (X .between)) LEFT left) = keeps-set (countedW (X .between)) LEFT left (omega arith) (omega arith) in
-            (refl, record {
-              lines = lines-same (λ i l h. K .below i (omega arith)) (counted-told .lines);
-              until = K .below UNTIL (omega arith) ∙ counted-told .until;
-              left = getD-set-same (countedW (X .between)) LEFT left 0 (omega (arith, counted-runs .holds .long));
-            })
+            let K : Keeps LEFT AFTER-LEFT (countedW (X .between)) (set (countedW (X .between)) LEFT left) = keeps-set (countedW (X .between)) LEFT left (omega arith) (omega arith) in (
+              refl,
+              record {
+                lines = lines-same (λ i l h. K .below i (omega arith)) (counted-told .lines);
+                until = K .below UNTIL (omega arith) ∙ counted-told .until;
+                left = getD-set-same (countedW (X .between)) LEFT left 0 (omega (arith, counted-runs .holds .long));
+              },
+            )
 
 -- ---- No line yet
 pub no-lines : {w o : List ℕ} (text : Diag.Message → List ℕ) → getD w PLACE 0 ≡ 0 → getD w PLACE-HIGH 0 ≡ 0 → getD w FULL 0 ≡ 0
