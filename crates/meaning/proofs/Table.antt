@@ -96,6 +96,10 @@ form-examples =
     refl then
     -- 06 after 06
     refl then
+    -- 01 after 06
+    refl then
+    -- 04 after 06
+    refl then
     -- 03 after 06
     refl then
     -- 02 after 06
@@ -183,6 +187,14 @@ limit-examples =
     -- as a node
     refl then
     refl then
+    refl then
+    -- d800
+    refl then
+    -- dfff
+    refl then
+    -- two halves
+    refl then
+    -- the values beside them
     refl then
     end
 

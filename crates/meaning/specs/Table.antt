@@ -974,8 +974,10 @@ forms =
           []);
       visits = 0;
     } ∷
-    -- 06 after 06, 03 and 02 after 06, and a 05 last
+    -- 06 after 06, 01 to 04 after 06, and a 05 last
     turnedDown (text ("01020020" ∷ "05000000000000000300" ∷ "060000" ∷ "060000" ∷ [])) 16384 65536 "0f04" ∷
+    turnedDown (text ("01020020" ∷ "05000000000000000300" ∷ "060000" ∷ "01020020" ∷ [])) 16384 65536 "0f04" ∷
+    turnedDown (text ("01020020" ∷ "0278" ∷ "0300" ∷ "05000000000000000300" ∷ "060000" ∷ "040000000000" ∷ [])) 16384 65536 "0f04" ∷
     turnedDown (text ("01020020" ∷ "05000000000000000300" ∷ "060000" ∷ "0300" ∷ [])) 16384 65536 "0f04" ∷
     turnedDown (text ("01020020" ∷ "05000000000000000300" ∷ "060000" ∷ "0278" ∷ [])) 16384 65536 "0f04" ∷
     turnedDown (text ("01020020" ∷ "05000000000000000300" ∷ "060000" ∷ "05000000000000000300" ∷ [])) 16384 65536 "0f04" ∷
@@ -1016,7 +1018,7 @@ refusals =
 
 -- Forms that document 01's examples leave open.
 unfoldable pub limitsOf : List Example
-unfolding turnedDown text
+unfolding turnedDown text again
 limitsOf =
     -- 3: an empty line, an odd one, an upper-case digit
     turnedDown (text ("01020020" ∷ "" ∷ [])) 16384 65536 "0f03" ∷
@@ -1038,6 +1040,11 @@ limitsOf =
     turnedDown (text ("01020020" ∷ "05000000000000000104" ∷ "0500000002000000030d00000000" ∷ [])) 16384 65536 "0f06" ∷
     turnedDown (text ("01020020" ∷ "05000000000000000104" ∷ "0500000002000000030d0000000000" ∷ [])) 16384 65536 "0f06" ∷
     turnedDown (text ("01020020" ∷ "05000000000000000104" ∷ "0500000002000000030d00000000000000" ∷ [])) 16384 65536 "0f06" ∷
+    -- 7, card 2: values d800 and dfff, the two halves of one picture; the values beside them pass
+    turnedDown (text ("01020020" ∷ "02eda080" ∷ [])) 16384 65536 "0f07" ∷
+    turnedDown (text ("01020020" ∷ "02edbfbf" ∷ [])) 16384 65536 "0f07" ∷
+    turnedDown (text ("01020020" ∷ "02eda0bdedb880" ∷ [])) 16384 65536 "0f07" ∷
+    record { file = text ("01020020" ∷ "02ed9fbf" ∷ "02ee8080" ∷ []) ++ again 1; words = 16384; bytes = 65536; prints = text ("07000000" ∷ "0900000000" ∷ []); visits = 0 } ∷
     []
 
 -- So many names, each another text of two characters.
