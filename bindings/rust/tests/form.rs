@@ -36,7 +36,8 @@ fn names_types_and_predicates_have_their_limits() {
     assert!(sigla::answer(&asked(form)).is_ok());
 
     let mut form = Form::new(2, 32);
-    let ty = (0..Form::TYPES).map(|_| form.integer().expect("there is room")).next().expect("there are some");
+    let types: Vec<_> = (0..Form::TYPES).map(|_| form.integer().expect("there is room")).collect();
+    let ty = types[Form::TYPES - 1];
     assert_eq!(form.string(), Err(Limit::Types));
     for i in 0..Form::PREDICATES {
         let predicate = form.predicate("p", ty, (i % 2 == 0).then_some(ty)).expect("there is room");

@@ -154,7 +154,7 @@ mod tests {
     fn a_span_is_found_in_its_text() {
         assert_eq!(place("x where y", 8, 9), Some((1, 9, "x where y".to_string(), 1, false)));
         assert_eq!(place("a\nbc d\n", 5, 6), Some((2, 4, "bc d".to_string(), 1, false)));
-        assert_eq!(place("é = ß", 6, 8), Some((1, 5, "é = ß".to_string(), 1, false)));
+        assert_eq!(place("é = ß", 5, 7), Some((1, 5, "é = ß".to_string(), 1, false)));
     }
 
     #[test]
