@@ -1,23 +1,34 @@
-"""The type checker of Sigla queries for Python: one file, the standard library alone.
+"""The type checker of Sigla queries for Python 3.10 or later: one file, the standard library alone.
 
     import sigla
-    answer = sigla.answer(open("samples/infinite.hex", "rb").read())
+    answer = sigla.answer(open("samples/form.hex", "rb").read())
     for query in answer:
         for diagnostic in query.diagnostics:
-            print(diagnostic.span, diagnostic.code, diagnostic.message)
+            print(diagnostic)
 
-It loads libsigla.so: where the environment's SIGLA_SO says, else by the loader's own rules. `make_library` makes one from the static
-library. docs/FORMAT.md has files, answers and refusals.
+It loads libsigla.so: where the environment's SIGLA_SO says, else beside an installed copy of this file (../../lib), else by the loader's
+own rules. `make_library` makes one from the static library. docs/FORMAT.md has files, answers and refusals. As a program,
+
+    python3 sigla.py FILE..
+
+prints each file's nodes with their types, and its diagnostics.
+
+The calls are proved; this file is tested. The plain solver and the test load, two calls still to come, go beside `growth`.
 """
 
 import ctypes
 import os
+import pathlib
 import subprocess
+import sys
 from dataclasses import dataclass, field
+
+__version__ = "0.3.0"
 
 WORDS = 16384
 BYTES = 65536
 QUERIES = 64
+STACK = 1048576
 
 REASONS = {
     1: "the work slice has fewer than 16,384 words",
@@ -41,7 +52,7 @@ REASONS = {
 
 
 class Refused(Exception):
-    """A file that is turned down, by number."""
+    """A file or a call that is turned down, by number."""
 
     def __init__(self, number):
         self.number = number
@@ -50,15 +61,21 @@ class Refused(Exception):
 
 @dataclass(frozen=True)
 class Diagnostic:
+    """What is wrong with a piece of a query: its span, from start to before end, a code, and a message."""
+
     span: tuple
     code: str
     message: str | None = None
 
+    def __str__(self):
+        return f"{self.span[0]}..{self.span[1]}: {self.code}" + ("" if self.message is None else f": {self.message}")
+
 
 @dataclass
 class Typed:
-    """What was found of a query. A type is a tuple: ("integer",), ("fact", 3), ("record", ((name, type), ..)),
-    ("union", ((name, discriminant, type), ..)), ("open", 0), ("error",); None where a node was not looked at."""
+    """What was found of a query. A type is a tuple: ("integer",), ("string",), ("bytes",), ("fact", predicate), ("record", ((name, type),
+    ..)), ("union", ((name, discriminant, type), ..)), ("open", number), ("error",); None where a node was not looked at. `once` has the
+    spans of names that are written only there."""
 
     types: list = field(default_factory=list)
     diagnostics: list = field(default_factory=list)
@@ -66,50 +83,27 @@ class Typed:
     visits: int | None = None
 
 
+# ---- The calls
+
+
 def make_library(static, shared):
     """Makes libsigla.so at `shared` from libsigla_lib.a at `static`, with the C compiler."""
     subprocess.run(["cc", "-shared", "-o", shared, "-Wl,--whole-archive", static, "-Wl,--no-whole-archive"], check=True)
 
 
-class Tally(ctypes.Structure):
-    """Units of 1,000 visits, cents, and the visits that fill no unit yet."""
-
-    _fields_ = [("units", ctypes.c_uint32), ("cents", ctypes.c_uint32), ("remainder", ctypes.c_uint32)]
-
-    def add(self, visits, price):
-        """A query's visits at its price; raises Refused (15), and the tally stays."""
-        _told(_load().sigla_tally(ctypes.byref(self), ctypes.c_uint32(visits), ctypes.c_uint16(price)))
+_library = None
 
 
-class Desk(ctypes.Structure):
-    _fields_ = [("share", ctypes.c_uint32), ("cap", ctypes.c_uint32), ("used", ctypes.c_uint32)]
-
-
-class Group(ctypes.Structure):
-    """The desks of a cabinet: `count` of them, from 0, with a daily pool of visits."""
-
-    _fields_ = [("count", ctypes.c_uint32), ("pool", ctypes.c_uint32), ("desks", Desk * 16)]
-
-    @classmethod
-    def set_up(cls, pool, shares, caps):
-        """A desk for each share and cap; raises Refused (17)."""
-        group = cls()
-        a, b = (ctypes.c_uint32 * len(shares))(*shares), (ctypes.c_uint32 * len(caps))(*caps)
-        _told(_load().sigla_set_up(ctypes.byref(group), ctypes.c_uint32(pool), a, ctypes.c_size_t(len(shares)), b, ctypes.c_size_t(len(caps))))
-        return group
-
-    def ceiling(self, desk):
-        """The visits that a desk may make now; raises Refused (17)."""
-        visits = ctypes.c_uint32()
-        _told(_load().sigla_ceiling(ctypes.byref(self), ctypes.c_size_t(desk), ctypes.byref(visits)))
-        return visits.value
-
-    def new_day(self):
-        _told(_load().sigla_new_day(ctypes.byref(self)))
-
-    def check(self, desk, file, words=WORDS, length=BYTES):
-        """As `check`, charged to a desk; raises Refused."""
-        return _sliced(_load().sigla_check_at, [ctypes.byref(self), ctypes.c_size_t(desk)], file, words, length)
+def _load():
+    global _library
+    if _library is None:
+        beside = pathlib.Path(__file__).resolve().parent / "../../lib/libsigla.so"
+        found = os.environ.get("SIGLA_SO") or (str(beside) if beside.exists() else "libsigla.so")
+        library = ctypes.CDLL(found)
+        for name in ("check", "lamp", "widen", "narrow", "growth", "tally", "set_up", "ceiling", "new_day", "check_at"):
+            getattr(library, f"sigla_{name}").restype = ctypes.c_uint8
+        _library = library
+    return _library
 
 
 def _told(number):
@@ -117,18 +111,42 @@ def _told(number):
         raise Refused(number)
 
 
+def _word(number, bits=32):
+    """A number of so many bits; ctypes alone would cut it."""
+    if not 0 <= number < 1 << bits:
+        raise ValueError(f"{number} is no number of {bits} bits")
+    return number
+
+
+def _file(data):
+    data = bytes(data)
+    return data, ctypes.c_size_t(len(data))
+
+
+def _work(words):
+    return (ctypes.c_uint32 * words)(), ctypes.c_size_t(words)
+
+
 def _sliced(call, first, file, words, length):
-    work = (ctypes.c_uint32 * words)()
     out = (ctypes.c_uint8 * length)()
-    _told(call(*first, bytes(file), ctypes.c_size_t(len(file)), work, ctypes.c_size_t(words), out, ctypes.c_size_t(length)))
+    _told(call(*first, *_file(file), *_work(words), out, ctypes.c_size_t(length)))
     return bytes(out).split(b"\0", 1)[0]
+
+
+def check(file, words=WORDS, length=BYTES):
+    """The answer's bytes; raises Refused. The slices are this call's own."""
+    return _sliced(_load().sigla_check, [], file, words, length)
+
+
+def answer(file):
+    """What was found of each query of a file; raises Refused."""
+    return parse(check(file))
 
 
 def lamp(file, words=WORDS):
     """Whether a query of a file has a diagnostic, each asked until its first; raises Refused."""
-    work = (ctypes.c_uint32 * words)()
     lit = ctypes.c_uint32()
-    _told(_load().sigla_lamp(bytes(file), ctypes.c_size_t(len(file)), work, ctypes.c_size_t(words), ctypes.byref(lit)))
+    _told(_load().sigla_lamp(*_file(file), *_work(words), ctypes.byref(lit)))
     return lit.value == 1
 
 
@@ -152,100 +170,277 @@ PREMISES = {
 
 def growth(old, new, words=WORDS):
     """0 where the queries of the old file keep their answers in the new one; else the first premise that fails (PREMISES)."""
-    work = (ctypes.c_uint32 * words)()
-    return _load().sigla_growth(
-        bytes(old), ctypes.c_size_t(len(old)), bytes(new), ctypes.c_size_t(len(new)), work, ctypes.c_size_t(words))
+    return _load().sigla_growth(*_file(old), *_file(new), *_work(words))
 
 
-_library = None
+class Tally(ctypes.Structure):
+    """Units of 1,000 visits, cents, and the visits that fill no unit yet."""
+
+    _fields_ = [("units", ctypes.c_uint32), ("cents", ctypes.c_uint32), ("remainder", ctypes.c_uint32)]
+
+    def add(self, visits, price):
+        """A query's visits at its price; raises Refused (15), and the tally stays."""
+        _told(_load().sigla_tally(ctypes.byref(self), ctypes.c_uint32(_word(visits)), ctypes.c_uint16(_word(price, 16))))
 
 
-def _load():
-    global _library
-    if _library is None:
-        _library = ctypes.CDLL(os.environ.get("SIGLA_SO", "libsigla.so"))
-        for name in ("check", "lamp", "widen", "narrow", "growth", "tally", "set_up", "ceiling", "new_day", "check_at"):
-            getattr(_library, f"sigla_{name}").restype = ctypes.c_uint8
-    return _library
+class Desk(ctypes.Structure):
+    """What a desk is sure of, what it may use at most, and what it has used today."""
+
+    _fields_ = [("share", ctypes.c_uint32), ("cap", ctypes.c_uint32), ("used", ctypes.c_uint32)]
 
 
-def check(file, words=WORDS, length=BYTES):
-    """The answer's bytes; raises Refused. The slices are this call's own."""
-    return _sliced(_load().sigla_check, [], file, words, length)
+class Group(ctypes.Structure):
+    """The desks of a cabinet: `count` of them, from 0, with a daily pool of visits."""
+
+    _fields_ = [("count", ctypes.c_uint32), ("pool", ctypes.c_uint32), ("desks", Desk * 16)]
+
+    @classmethod
+    def set_up(cls, pool, shares, caps):
+        """A desk for each share and cap; raises Refused (17)."""
+        group = cls()
+        slices = []
+        for numbers in (shares, caps):
+            slices += [(ctypes.c_uint32 * len(numbers))(*map(_word, numbers)), ctypes.c_size_t(len(numbers))]
+        _told(_load().sigla_set_up(ctypes.byref(group), ctypes.c_uint32(_word(pool)), *slices))
+        return group
+
+    def ceiling(self, desk):
+        """The visits that a desk may make now; raises Refused (17)."""
+        visits = ctypes.c_uint32()
+        _told(_load().sigla_ceiling(ctypes.byref(self), ctypes.c_size_t(_word(desk, 64)), ctypes.byref(visits)))
+        return visits.value
+
+    def new_day(self):
+        """Each use is 0 again; raises Refused (17)."""
+        _told(_load().sigla_new_day(ctypes.byref(self)))
+
+    def check(self, desk, file, words=WORDS, length=BYTES):
+        """As `check`, charged to a desk; raises Refused."""
+        return _sliced(_load().sigla_check_at, [ctypes.byref(self), ctypes.c_size_t(_word(desk, 64))], file, words, length)
+
+    def answer(self, desk, file):
+        """As `answer`, charged to a desk; raises Refused."""
+        return parse(self.check(desk, file))
 
 
-def answer(file):
-    """What was found of each query of a file; raises Refused."""
-    return parse(check(file))
+# ---- Lines
 
 
 class _Reader:
-    def __init__(self, data):
-        self.data = data
+    """The bytes of a line still to be read."""
+
+    def __init__(self, digits):
+        if set(digits) - set(b"0123456789abcdef") or len(digits) % 2:
+            raise ValueError("a line that is not hexadecimal")
+        self.data = bytes.fromhex(digits.decode())
+        self.at = 0
+
+    def left(self):
+        return len(self.data) - self.at
 
     def number(self, n):
-        if len(self.data) < n:
+        if self.left() < n:
             raise ValueError("a line that is too short")
-        first, self.data = self.data[:n], self.data[n:]
-        return int.from_bytes(first, "big")
+        self.at += n
+        return int.from_bytes(self.data[self.at - n:self.at], "big")
 
     def text(self):
-        text, self.data = self.data.decode(), b""
-        return text
+        first, self.at = self.at, len(self.data)
+        return self.data[first:].decode()
 
     def span(self):
         return (self.number(4), self.number(4))
 
     def type(self):
-        tag = self.number(1)
-        if tag in (0, 1, 2):
-            return (("integer", "string", "bytes")[tag],)
-        if tag == 3:
-            return ("fact", self.number(4))
-        if tag == 4:
-            return ("record", tuple((self.number(2), self.type()) for _ in range(self.number(2))))
-        if tag == 5:
-            return ("union", tuple((self.number(2), self.number(4), self.type()) for _ in range(self.number(2))))
-        if tag == 6:
-            return ("open", self.number(2))
-        if tag == 7:
-            return ("error",)
-        raise ValueError("no type")
+        """A type, without a call of itself: those of an answer may be nested deeper than Python's calls."""
+        around = []  # what is not whole yet: its word, its parts, how many are missing, and the part that is being read
+        while True:
+            tag = self.number(1)
+            if tag in (0, 1, 2):
+                done = (("integer", "string", "bytes")[tag],)
+            elif tag == 3:
+                done = ("fact", self.number(4))
+            elif tag in (4, 5):
+                around.append([("record", "union")[tag - 4], [], self.number(2), None])
+                done = None
+            elif tag == 6:
+                done = ("open", self.number(2))
+            elif tag == 7:
+                done = ("error",)
+            else:
+                raise ValueError("no type")
+            while around:
+                word, parts, missing, part = around[-1]
+                if done is not None:
+                    parts.append((*part, done))
+                if missing:
+                    head = (self.number(2),) if word == "record" else (self.number(2), self.number(4))
+                    around[-1][2:] = [missing - 1, head]
+                    break
+                around.pop()
+                done = (word, tuple(parts))
+            else:
+                return done
+
+
+def _lines(data):
+    if data and not data.endswith(b"\n"):
+        raise ValueError("a last line without LF")
+    return data.split(b"\n")[:-1]
 
 
 def parse(lines):
     """The queries of an answer; raises ValueError where it is none."""
     queries = []
-    for line in lines.splitlines():
-        rest = _Reader(bytes.fromhex(line.decode()))
+    for line in _lines(lines):
+        rest = _Reader(line)
         kind = rest.number(1)
         if kind == 0x0B:
             if rest.number(2) != len(queries):
                 raise ValueError("another query's number")
             queries.append(Typed())
-            continue
-        if not queries:
-            queries.append(Typed())
-        query = queries[-1]
-        if kind == 0x07:
-            if rest.number(2) != len(query.types):
-                raise ValueError("another node's number")
-            if rest.data == b"\xff":
-                rest.number(1)
-                query.types.append(None)
-            else:
-                query.types.append(rest.type())
-        elif kind == 0x08:
-            query.diagnostics.append(Diagnostic(rest.span(), rest.text()))
-        elif kind == 0x0A:
-            last = query.diagnostics.pop()
-            query.diagnostics.append(Diagnostic(last.span, last.code, rest.text()))
-        elif kind == 0x0C:
-            query.once.append(rest.span())
-        elif kind == 0x09:
-            query.visits = rest.number(4)
         else:
-            raise ValueError("not a line of an answer")
-        if rest.data:
+            if not queries:
+                queries.append(Typed())
+            _add(queries[-1], kind, rest)
+        if rest.left():
             raise ValueError("a line that is too long")
     return queries
+
+
+def _add(query, kind, rest):
+    if kind == 0x07:
+        if rest.number(2) != len(query.types):
+            raise ValueError("another node's number")
+        if rest.data[rest.at:] == b"\xff":
+            rest.number(1)
+            query.types.append(None)
+        else:
+            query.types.append(rest.type())
+    elif kind == 0x08:
+        query.diagnostics.append(Diagnostic(rest.span(), rest.text()))
+    elif kind == 0x0A:
+        if not query.diagnostics or query.diagnostics[-1].message is not None:
+            raise ValueError("a message of nothing")
+        last = query.diagnostics.pop()
+        query.diagnostics.append(Diagnostic(last.span, last.code, rest.text()))
+    elif kind == 0x0C:
+        query.once.append(rest.span())
+    elif kind == 0x09 and query.visits is None:
+        query.visits = rest.number(4)
+    else:
+        raise ValueError("not a line of an answer")
+
+
+# ---- For people
+
+
+@dataclass(frozen=True)
+class Names:
+    """The texts that types are shown with: names by number, and the name number of each predicate."""
+
+    names: tuple = ()
+    predicates: tuple = ()
+
+    @classmethod
+    def of(cls, file):
+        """Those of a file that the check accepts."""
+        names, predicates = [], []
+        for line in _lines(bytes(file)):
+            rest = _Reader(line)
+            kind = rest.number(1)
+            if kind == 2:
+                names.append(rest.text())
+            elif kind == 4:
+                predicates.append(rest.number(2))
+        return cls(tuple(names), tuple(predicates))
+
+    def name(self, number):
+        return self.names[number] if number < len(self.names) else "?"
+
+    def predicate(self, number):
+        return self.name(self.predicates[number]) if number < len(self.predicates) else None
+
+
+_PLAIN = {"integer": "an integer", "string": "a string", "bytes": "bytes", "open": "an unknown type", "error": "(already reported)"}
+
+
+def shown(type, names=Names()):
+    """A type as messages show it."""
+    out, left = [], [type]
+    while left:
+        now = left.pop()
+        if isinstance(now, str):
+            out.append(now)
+        elif now[0] == "fact":
+            name = names.predicate(now[1])
+            out.append("a fact" if name is None else f"`{name}`")
+        elif now[0] in ("record", "union"):
+            left.append("}")
+            for i, part in reversed(list(enumerate(now[1]))):
+                if now[0] == "record":
+                    left += [part[1], ("" if i == 0 else ", ") + f"{names.name(part[0])} = "]
+                else:
+                    left += [f" = {part[1]}", part[2], ("" if i == 0 else " | ") + f"{names.name(part[0])} : "]
+            left.append("{")
+        else:
+            out.append(_PLAIN[now[0]])
+    return "".join(out)
+
+
+def tree(type, names=Names()):
+    """A type as a tree, a line for each part, indented."""
+    out, left = [], [("", 0, type)]
+    while left:
+        first, depth, now = left.pop()
+        word = now[0]
+        if word == "fact":
+            name = names.predicate(now[1])
+            word = f"fact {now[1]} (absent)" if name is None else f"fact {name}"
+        elif word == "open":
+            word = f"open {now[1]}"
+        out.append("  " * depth + first + word)
+        if now[0] in ("record", "union"):
+            for part in reversed(now[1]):
+                label = names.name(part[0]) + (f" = {part[1]}" if len(part) == 3 else "")
+                left.append((f"{label}: ", depth + 1, part[-1]))
+    return "\n".join(out) + "\n"
+
+
+def _print(path):
+    data = pathlib.Path(path).read_bytes()
+    queries = answer(data)
+    names = Names.of(data)
+    for k, query in enumerate(queries):
+        if len(queries) > 1:
+            print(f"query {k}")
+        for i, type in enumerate(query.types):
+            print(f"  n{i:<4} {'(not looked at)' if type is None else shown(type, names)}")
+        for diagnostic in query.diagnostics:
+            print(f"  {diagnostic}")
+        for start, end in query.once:
+            print(f"  {start}..{end}: written once")
+        print(f"  {query.visits} visits")
+    return 1 if any(query.diagnostics for query in queries) else 0
+
+
+def main(paths):
+    """Prints each file's answer; 0 without a diagnostic, 1 with one, 3 where a file is turned down, 2 where one can't be read."""
+    if not paths:
+        print("usage: python3 sigla.py FILE..", file=sys.stderr)
+        return 2
+    statuses = [0]
+    for path in paths:
+        try:
+            statuses.append(_print(path))
+        except Refused as refused:
+            print(f"{path}: {refused}")
+            statuses.append(3)
+        except OSError as fault:
+            print(fault, file=sys.stderr)
+            statuses.append(2)
+    return 2 if 2 in statuses else max(statuses)
+
+
+if __name__ == "__main__":
+    sys.exit(main(sys.argv[1:]))

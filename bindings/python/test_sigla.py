@@ -1,6 +1,10 @@
 """The binding beside the samples."""
 
+import contextlib
+import io
 import pathlib
+import random
+import threading
 import unittest
 
 import sigla
@@ -10,6 +14,7 @@ SAMPLES = pathlib.Path(__file__).parent / "../../samples"
 
 class Calls(unittest.TestCase):
     def test_the_samples(self):
+        self.assertEqual(sigla.__version__, (SAMPLES / "../VERSION").read_text().strip())
         (query,) = sigla.answer((SAMPLES / "infinite.hex").read_bytes())
         self.assertEqual([d.code for d in query.diagnostics], ["reject/infinite-type"])
         self.assertEqual(query.diagnostics[0].span, (4, 11))
@@ -70,9 +75,83 @@ class Calls(unittest.TestCase):
         self.assertEqual(sigla.check(old), sigla.check(new))
 
     def test_what_is_no_answer(self):
-        for lines in [b"0e\n", b"07000100\n", b"070000\n", b"0700000000\n"]:
-            with self.assertRaises(ValueError):
+        for lines in [b"0e\n", b"07000100\n", b"070000\n", b"0700000000\n", b"07000000", b"0a61\n", b"0B0000\n", b"0b0001\n", b"07 000000\n",
+                      b"\n", b"0900000000\n0900000000\n", b"0800000000000000006\n", b"08000000000000000061\n0a61\n0a61\n"]:
+            with self.assertRaises(ValueError, msg=lines):
                 sigla.parse(lines)
+
+    def test_names_written_once(self):
+        (query,) = sigla.parse(b"07000000\n0c0000000100000002\n0900000001\n")
+        self.assertEqual((query.once, query.diagnostics), ([(1, 2)], []))
+
+    def test_types_are_shown(self):
+        form = (SAMPLES / "form.hex").read_bytes()
+        names = sigla.Names.of(form)
+        query = sigla.answer(form)[0]
+        self.assertEqual([sigla.shown(type, names) for type in query.types],
+                         ["a string", "{pen = a string, pressure = an integer}", "`sample`", "a string"])
+        self.assertEqual(sigla.tree(query.types[1], names), "record\n  pen: string\n  pressure: integer\n")
+        union = ("union", ((0, 7, ("fact", 9)), (9, 8, ("record", ()))))
+        self.assertEqual(sigla.shown(union, names), "{sample : a fact = 7 | ? : {} = 8}")
+        self.assertEqual(sigla.tree(union, names), "union\n  sample = 7: fact 9 (absent)\n  ? = 8: record\n")
+        self.assertEqual(str(sigla.answer(form)[1].diagnostics[0]), "35..41: reject/type-mismatch: expected an integer, found a string")
+
+    def test_the_deepest_on_a_thread_of_the_stated_stack(self):
+        deepest = (SAMPLES / "deepest.hex").read_bytes()
+        found = []
+
+        def run():
+            found.append(sigla.check(deepest))
+            found.append(sigla.lamp(deepest))
+            found.append(sigla.widen(sigla.narrow(deepest)) == deepest)
+            found.append(sigla.growth(deepest, deepest))
+
+        before = threading.stack_size(sigla.STACK)
+        thread = threading.Thread(target=run)
+        thread.start()
+        threading.stack_size(before)
+        thread.join()
+        self.assertEqual(found[1:], [b"\n08" in found[0], True, 0])
+        names = sigla.Names.of(deepest)
+        for query in sigla.parse(found[0]):
+            for type in query.types:
+                self.assertEqual(sigla.shown(type, names).count("{"), sigla.tree(type, names).count("record") + sigla.tree(type, names).count("union"))
+        deep = b"070000" + b"0400010000" * 100000 + b"00\n"
+        self.assertEqual(sigla.shown(sigla.parse(deep)[0].types[0]).count("{"), 100000)
+
+    def test_damaged_answers(self):
+        numbers = random.Random(7)
+        lines = sigla.check((SAMPLES / "form.hex").read_bytes())
+        parsed = 0
+        for _ in range(5000):
+            data = bytearray(lines)
+            for _ in range(numbers.randint(1, 3)):
+                at = numbers.randrange(len(data))
+                if numbers.random() < 0.5:
+                    data[at] = numbers.choice(b"0123456789abcdef\n")
+                else:
+                    del data[at:at + numbers.randint(1, 4)]
+            with contextlib.suppress(ValueError):
+                sigla.parse(bytes(data))
+                parsed += 1
+        self.assertGreater(parsed, 100)
+
+    def test_numbers_are_not_cut(self):
+        with self.assertRaises(ValueError):
+            sigla.Tally().add(1 << 32, 1)
+        with self.assertRaises(ValueError):
+            sigla.Group.set_up(1 << 32, [], [])
+        with self.assertRaises(sigla.Refused):
+            sigla.Group.set_up(4, [4], [4]).ceiling(1)
+
+    def test_as_a_program(self):
+        out = io.StringIO()
+        with contextlib.redirect_stdout(out):
+            self.assertEqual(sigla.main([str(SAMPLES / "form.hex")]), 1)
+        self.assertIn("  n1    {pen = a string, pressure = an integer}\n", out.getvalue())
+        self.assertIn("  35..41: reject/type-mismatch: expected an integer, found a string\n", out.getvalue())
+        with contextlib.redirect_stdout(out), contextlib.redirect_stderr(out):
+            self.assertEqual([sigla.main(paths) for paths in ([], ["/nowhere"], [str(SAMPLES / "notation/fact.txt")])], [2, 2, 3])
 
 
 if __name__ == "__main__":

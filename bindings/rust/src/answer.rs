@@ -4,11 +4,13 @@ use std::error::Error;
 use std::fmt;
 
 use crate::form::Span;
+use crate::refusal::Refusal;
 use crate::ty::{Alternative, Field, Ty};
 
 /// What was found of each query of a file.
 #[derive(Clone, Debug, Default, PartialEq, Eq)]
 pub struct Answer {
+    /// In the file's order.
     pub queries: Vec<Typed>,
 }
 
@@ -17,16 +19,20 @@ pub struct Answer {
 pub struct Typed {
     /// By node; none where a node was not looked at.
     pub types: Vec<Option<Ty>>,
+    /// In the order in which they were made.
     pub diagnostics: Vec<Diagnostic>,
-    /// Where a name is written that is written only once (lines 0c).
+    /// Where a variable stands that is written only there, often a slip (lines 0c). None in answers of editions without such lines.
     pub once: Vec<Span>,
     /// The visits that the query made (line 09, its last).
     pub visits: Option<u32>,
 }
 
+/// What is wrong with a piece of a query.
 #[derive(Clone, Debug, Default, PartialEq, Eq)]
 pub struct Diagnostic {
+    /// The piece of the query's text that it is about.
     pub span: Span,
+    /// As `reject/type-mismatch`: docs/FORMAT.md has them all.
     pub code: String,
     /// None where the answer has codes alone.
     pub message: Option<String>,
@@ -45,7 +51,9 @@ impl fmt::Display for Diagnostic {
 /// An answer that is not one: the line, from 1, and what is wrong with it.
 #[derive(Clone, Debug, PartialEq, Eq)]
 pub struct NoAnswer {
+    /// From 1.
     pub line: usize,
+    /// What is wrong with it.
     pub what: &'static str,
 }
 
@@ -57,7 +65,54 @@ impl fmt::Display for NoAnswer {
 
 impl Error for NoAnswer {}
 
+/// Why there is no parsed answer: the file is turned down, or the library writes lines that this version of the crate does not know.
+#[derive(Clone, Debug, PartialEq, Eq)]
+pub enum Failure {
+    /// The file is turned down.
+    Refused(Refusal),
+    /// The answer can't be read; with the library of this version it always can.
+    Unreadable(NoAnswer),
+}
+
+impl fmt::Display for Failure {
+    fn fmt(&self, f: &mut fmt::Formatter<'_>) -> fmt::Result {
+        match self {
+            Failure::Refused(refusal) => refusal.fmt(f),
+            Failure::Unreadable(fault) => write!(f, "an answer that can't be read, {fault}"),
+        }
+    }
+}
+
+impl Error for Failure {
+    fn source(&self) -> Option<&(dyn Error + 'static)> {
+        match self {
+            Failure::Refused(refusal) => Some(refusal),
+            Failure::Unreadable(fault) => Some(fault),
+        }
+    }
+}
+
+impl From<Refusal> for Failure {
+    fn from(refusal: Refusal) -> Failure {
+        Failure::Refused(refusal)
+    }
+}
+
+impl From<NoAnswer> for Failure {
+    fn from(fault: NoAnswer) -> Failure {
+        Failure::Unreadable(fault)
+    }
+}
+
+/// The deepest that a type is nested in any answer: 256 types of the schema within 512 records of a query.
+const DEPTH: usize = 768;
+
 impl Answer {
+    /// Whether no query has a diagnostic, as the lamp tells it.
+    pub fn is_clean(&self) -> bool {
+        self.queries.iter().all(|query| query.diagnostics.is_empty())
+    }
+
     /// Parses the lines of an answer.
     ///
     /// ```
@@ -104,8 +159,7 @@ impl Typed {
                 if usize::from(rest.half()?) != self.types.len() {
                     return None;
                 }
-                let ty = rest.slot()?;
-                self.types.push(ty);
+                self.types.push(rest.slot()?);
             }
             0x08 => {
                 let span = rest.span()?;
@@ -179,10 +233,11 @@ impl<'a> Reader<'a> {
             self.byte()?;
             return Some(None);
         }
-        Some(Some(self.ty()?))
+        Some(Some(self.ty(DEPTH)?))
     }
 
-    fn ty(&mut self) -> Option<Ty> {
+    fn ty(&mut self, depth: usize) -> Option<Ty> {
+        let depth = depth.checked_sub(1)?;
         Some(match self.byte()? {
             0 => Ty::Integer,
             1 => Ty::String,
@@ -190,11 +245,12 @@ impl<'a> Reader<'a> {
             3 => Ty::Fact(self.full()?),
             4 => {
                 let n = self.half()?;
-                Ty::Record((0..n).map(|_| Some(Field { name: self.half()?, ty: self.ty()? })).collect::<Option<_>>()?)
+                let part = |_| Some(Field { name: self.half()?, ty: self.ty(depth)? });
+                Ty::Record((0..n).map(part).collect::<Option<_>>()?)
             }
             5 => {
                 let n = self.half()?;
-                let part = |_| Some(Alternative { name: self.half()?, discriminant: self.full()?, ty: self.ty()? });
+                let part = |_| Some(Alternative { name: self.half()?, discriminant: self.full()?, ty: self.ty(depth)? });
                 Ty::Union((0..n).map(part).collect::<Option<_>>()?)
             }
             6 => Ty::Open(self.half()?),

@@ -1,13 +1,16 @@
 //! The tally of card 7 and the desks of card 8.
 
-use crate::{Refusal, WORDS};
+use crate::{Answer, BYTES, Failure, Refusal, WORDS};
 
 /// Units of 1,000 visits, cents, and the visits that fill no unit yet.
 #[repr(C)]
 #[derive(Clone, Copy, Debug, Default, PartialEq, Eq)]
 pub struct Tally {
+    /// Full thousands of visits.
     pub units: u32,
+    /// What they cost.
     pub cents: u32,
+    /// 0 to 999 visits.
     pub remainder: u32,
 }
 
@@ -15,8 +18,11 @@ pub struct Tally {
 #[repr(C)]
 #[derive(Clone, Copy, Debug, Default, PartialEq, Eq)]
 pub struct Desk {
+    /// Visits that no other desk can take from it.
     pub share: u32,
+    /// The most visits that it may make in a day, no less than its share.
     pub cap: u32,
+    /// The visits that it has made today.
     pub used: u32,
 }
 
@@ -24,8 +30,11 @@ pub struct Desk {
 #[repr(C)]
 #[derive(Clone, Copy, Debug, Default, PartialEq, Eq)]
 pub struct Group {
+    /// How many desks there are, 1 to 16.
     pub count: u32,
+    /// The visits of a day for all of them.
     pub pool: u32,
+    /// Those from `count` on are none.
     pub desks: [Desk; 16],
 }
 
@@ -114,10 +123,17 @@ impl Group {
     }
 
     /// As [`Group::check`], with slices of its own, and the answer parsed.
-    pub fn answer(&mut self, desk: usize, file: &[u8]) -> Result<crate::Answer, Refusal> {
+    ///
+    /// ```
+    /// let mut group = sigla::Group::set_up(100, &[100], &[100])?;
+    /// let answer = group.answer(0, b"01020020\n05000000000000000000\n060000\n")?;
+    /// assert!(answer.is_clean());
+    /// # Ok::<(), sigla::Failure>(())
+    /// ```
+    pub fn answer(&mut self, desk: usize, file: &[u8]) -> Result<Answer, Failure> {
         let mut work = vec![0u32; WORDS];
-        let mut answer = vec![0u8; crate::BYTES];
+        let mut answer = vec![0u8; BYTES];
         let n = self.check(desk, file, &mut work, &mut answer)?;
-        Ok(crate::Answer::parse(&answer[..n]).expect("the library writes answers alone"))
+        Ok(Answer::parse(&answer[..n])?)
     }
 }

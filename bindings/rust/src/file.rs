@@ -10,19 +10,30 @@ use crate::ty::Names;
 /// The frames of a file, kind by kind. Numbers are as the file has them; that they refer to something is not looked at.
 #[derive(Clone, Debug, Default, PartialEq, Eq)]
 pub struct File {
+    /// The largest distance of a fuzzy term.
     pub distance: u8,
+    /// The largest length of a fuzzy term, in characters.
     pub characters: u16,
+    /// The texts of the names.
     pub names: Vec<String>,
+    /// The schema's types.
     pub types: Vec<TypeFrame>,
+    /// Its predicates.
     pub predicates: Vec<PredicateFrame>,
+    /// The queries.
     pub queries: Vec<QueryFrames>,
 }
 
+/// A type of the schema (03).
 #[derive(Clone, Debug, PartialEq, Eq)]
 pub enum TypeFrame {
+    /// Integers.
     Integer,
+    /// Strings.
     String,
+    /// Bytes.
     Bytes,
+    /// The number of a predicate.
     Fact(u32),
     /// Names and types.
     Record(Vec<(u16, u16)>),
@@ -30,66 +41,104 @@ pub enum TypeFrame {
     Union(Vec<(u16, u32, u16)>),
 }
 
+/// A predicate (04).
 #[derive(Clone, Debug, PartialEq, Eq)]
 pub struct PredicateFrame {
+    /// The number of its name.
     pub name: u16,
+    /// The type of its key.
     pub key: u16,
+    /// The type of its value, if it has one.
     pub value: Option<u16>,
 }
 
+/// A query: its nodes (05) and what it asks (06).
 #[derive(Clone, Debug, Default, PartialEq, Eq)]
 pub struct QueryFrames {
+    /// Leaves first.
     pub nodes: Vec<NodeFrame>,
+    /// Its head and statements.
     pub asked: Asked,
 }
 
 /// A head and statements.
 #[derive(Clone, Debug, Default, PartialEq, Eq)]
 pub struct Asked {
+    /// The node that is asked for.
     pub head: u16,
+    /// In their order.
     pub statements: Vec<StatementFrame>,
 }
 
+/// A statement, with its nodes.
 #[derive(Clone, Copy, Debug, PartialEq, Eq)]
 pub enum StatementFrame {
+    /// Left = right.
     Binds(u16, u16),
+    /// A pattern that must hold.
     Holds(u16),
+    /// A pattern that must not hold.
     Denies(u16),
+    /// Left is different from right.
     Differs(u16, u16),
+    /// Left and right are compared by their order.
     Compares(u16, u16),
 }
 
+/// A node (05).
 #[derive(Clone, Debug, PartialEq, Eq)]
 pub struct NodeFrame {
+    /// The piece of text that it stands for.
     pub span: Span,
+    /// What it is.
     pub shape: Shape,
 }
 
+/// What a node is, with the numbers of names and nodes.
 #[derive(Clone, Debug, PartialEq, Eq)]
 pub enum Shape {
+    /// An integer literal.
     Integer,
+    /// A string literal.
     String,
+    /// A bytes literal.
     Bytes,
+    /// A variable's name.
     Variable(u16),
+    /// The wildcard.
     Wildcard,
+    /// What matches nothing.
     Never,
+    /// The name whose text is the prefix.
     Prefix(u16),
+    /// The name whose text is the term, and the distance.
     Fuzzy(u16, u8),
+    /// Names and nodes.
     Record(Vec<(u16, u16)>),
+    /// A field's name, of a node.
     Field(u16, u16),
+    /// The value of a fact.
     Value(u16),
+    /// A choice between patterns.
     Either(Vec<u16>),
+    /// A query in brackets.
     Subquery(Asked),
+    /// A predicate and the node of its key.
     Fact(u32, u16),
+    /// Arithmetic on integers.
     Arithmetic(Vec<u16>),
+    /// A piece of text that could not be read.
     Unread,
+    /// An alternative's name, of a node.
     Alternative(u16, u16),
 }
 
 /// What is no file: the line, from 1, and what is wrong with it.
 #[derive(Clone, Debug, PartialEq, Eq)]
 pub struct NoFile {
+    /// From 1.
     pub line: usize,
+    /// What is wrong with it.
     pub what: &'static str,
 }
 

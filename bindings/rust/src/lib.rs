@@ -1,11 +1,40 @@
 //! The type checker of Sigla queries. The code behind it is proved to answer, for every file and every two slices, what its definition
-//! gives: see docs/PROMISE.md.
+//! gives (docs/PROMISE.md); this crate is the way to it from Rust, and is tested, not proved.
+//!
+//! - [`Form`] builds a file: names, a schema and queries, by handles.
+//! - [`answer`] types the queries of a file and gives the [`Answer`] parsed; [`check`] is the call on your own slices.
+//! - [`lamp`] tells only whether there is a diagnostic.
+//! - [`Group::check`] is the call at a desk of a cabinet with a pool of visits; [`Tally`] sums visits up to a bill.
+//! - [`widen`] and [`narrow`] turn files of the older edition into this one and back.
+//! - [`growth`] tells whether queries keep their answers under a larger schema.
+//!
+//! A file that is turned down is a [`Refusal`], by the numbers of docs/FORMAT.md. Nothing here panics on what a file or an answer holds.
 //!
 //! ```
-//! let mut work = vec![0u32; sigla::WORDS];
-//! let mut answer = vec![0u8; 65536];
-//! assert_eq!(sigla::check(b"", &mut work, &mut answer), Err(sigla::Refusal::MisplacedKind));
+//! use sigla::{Form, Span, Statement};
+//!
+//! // x where sample x; x < 3
+//! let mut form = Form::new(2, 32);
+//! let text = form.string()?;
+//! let sample = form.predicate("sample", text, None)?;
+//! let mut query = form.query()?;
+//! let key = query.variable(Span::new(15, 16), "x")?;
+//! let fact = query.fact(Span::new(8, 16), sample, key)?;
+//! let left = query.variable(Span::new(18, 19), "x")?;
+//! let right = query.integer(Span::new(22, 23))?;
+//! let head = query.variable(Span::new(0, 1), "x")?;
+//! query.ask(head, vec![Statement::Holds(fact), Statement::Compares(left, right)])?;
+//!
+//! let answer = sigla::answer(&form.file()?)?;
+//! let diagnostic = &answer.queries[0].diagnostics[0];
+//! assert_eq!(diagnostic.to_string(), "22..23: reject/type-mismatch: expected a string, found an integer");
+//! # Ok::<(), Box<dyn std::error::Error>>(())
 //! ```
+//!
+//! Two calls of the library are still to come and get a module each beside `growth`: the plain solver, which asks for the n-th unification
+//! of a file's run, and the test load, which makes a file from a seed.
+
+#![deny(missing_docs)]
 
 mod answer;
 mod desk;
@@ -15,13 +44,16 @@ mod growth;
 mod refusal;
 mod ty;
 
-pub use answer::{Answer, Diagnostic, NoAnswer, Typed};
+pub use answer::{Answer, Diagnostic, Failure, NoAnswer, Typed};
 pub use desk::{Desk, Group, Tally};
 pub use file::{Asked, File, NoFile, NodeFrame, PredicateFrame, QueryFrames, Shape, StatementFrame, TypeFrame};
 pub use form::{Form, Limit, Node, Predicate, Query, Span, Statement, Type};
 pub use growth::{Premise, growth};
 pub use refusal::Refusal;
 pub use ty::{Alternative, Field, Names, Shown, Tree, Ty};
+
+/// The version of this crate, that of the file VERSION.
+pub const VERSION: &str = env!("CARGO_PKG_VERSION");
 
 /// The words that must be lent.
 pub const WORDS: usize = 16384;
@@ -48,7 +80,19 @@ fn length(out: &[u8]) -> usize {
 }
 
 /// A file of the narrow edition (predicate references of 2 bytes) in the wide one, which alone [`check`] reads: it stands at the start of
-/// `out`, and its length comes back.
+/// `out`, and its length comes back; zeros follow it. After a refusal both slices are zero throughout.
+///
+/// ```
+/// let old = b"01020020\n05000000000000000004\n050000000000000000 0d00070000\n060001\n".to_vec();
+/// let old: Vec<u8> = old.into_iter().filter(|&byte| byte != b' ').collect();
+/// let (mut work, mut out) = (vec![0; sigla::WORDS], vec![0; sigla::BYTES]);
+/// let n = sigla::widen(&old, &mut work, &mut out)?;
+/// assert!(out[..n].windows(14).any(|digits| digits == b"0d000000070000"));
+/// let wide = out[..n].to_vec();
+/// let n = sigla::narrow(&wide, &mut work, &mut out)?;
+/// assert_eq!(out[..n], old);
+/// # Ok::<(), sigla::Refusal>(())
+/// ```
 pub fn widen(file: &[u8], work: &mut [u32], out: &mut [u8]) -> Result<usize, Refusal> {
     // SAFETY: as of `check`.
     let number = unsafe { sigla_widen(file.as_ptr(), file.len(), work.as_mut_ptr(), work.len(), out.as_mut_ptr(), out.len()) };
@@ -65,6 +109,14 @@ pub fn narrow(file: &[u8], work: &mut [u32], out: &mut [u8]) -> Result<usize, Re
 /// Types the queries of a file (docs/FORMAT.md). The answer's lines stand at the start of `answer`, and their length comes back; zeros
 /// follow them. Where there is more than one query, a line 0b with its number stands before each one's lines: [`by_query`] takes them
 /// apart. A refusal is for the whole file; after it both slices are zero throughout, and after an acceptance the work slice is.
+///
+/// ```
+/// let (mut work, mut answer) = (vec![0; sigla::WORDS], vec![0; sigla::BYTES]);
+/// let n = sigla::check(b"01020020\n05000000000000000000\n060000\n", &mut work, &mut answer)?;
+/// assert_eq!(&answer[..n], b"07000000\n0900000000\n");
+/// assert_eq!(sigla::check(b"", &mut work, &mut answer), Err(sigla::Refusal::MisplacedKind));
+/// # Ok::<(), sigla::Refusal>(())
+/// ```
 pub fn check(file: &[u8], work: &mut [u32], answer: &mut [u8]) -> Result<usize, Refusal> {
     // SAFETY: each pointer goes with the length of the slice that it comes from; two of the slices are borrowed for writing, so none
     // overlaps another; the library keeps no pointer.
@@ -77,6 +129,12 @@ pub fn check(file: &[u8], work: &mut [u32], answer: &mut [u8]) -> Result<usize, 
 
 /// Whether a query of a file has a diagnostic. Each query runs until its first one, in the file's order, so this is quicker than
 /// [`check`] where there is one; [`Refusal::TooManyVisits`] only where none came first. The work slice is zero throughout afterwards.
+///
+/// ```
+/// let mut work = vec![0; sigla::WORDS];
+/// assert_eq!(sigla::lamp(b"01020020\n05000000000000000000\n060000\n", &mut work), Ok(false));
+/// assert_eq!(sigla::lamp(b"01020020\n05000000000000000004\n060000\n", &mut work), Ok(true)); // a wildcard head projects nothing
+/// ```
 pub fn lamp(file: &[u8], work: &mut [u32]) -> Result<bool, Refusal> {
     let mut lit = 0u32;
     // SAFETY: as of `check`.
@@ -89,13 +147,14 @@ pub fn lamp(file: &[u8], work: &mut [u32]) -> Result<bool, Refusal> {
 /// ```
 /// let answer = sigla::answer(b"01020020\n05000000000000000000\n060000\n")?;
 /// assert_eq!(answer.queries[0].types, [Some(sigla::Ty::Integer)]);
-/// # Ok::<(), sigla::Refusal>(())
+/// assert_eq!(sigla::answer(b""), Err(sigla::Failure::Refused(sigla::Refusal::MisplacedKind)));
+/// # Ok::<(), sigla::Failure>(())
 /// ```
-pub fn answer(file: &[u8]) -> Result<Answer, Refusal> {
+pub fn answer(file: &[u8]) -> Result<Answer, Failure> {
     let mut work = vec![0u32; WORDS];
     let mut answer = vec![0u8; BYTES];
     let n = check(file, &mut work, &mut answer)?;
-    Ok(Answer::parse(&answer[..n]).expect("the library writes answers alone"))
+    Ok(Answer::parse(&answer[..n])?)
 }
 
 /// The lines of each query of an answer, in the file's order, without the lines 0b.

@@ -7,22 +7,39 @@ use std::fmt;
 #[derive(Clone, Copy, Debug, PartialEq, Eq, Hash)]
 #[non_exhaustive]
 pub enum Refusal {
+    /// 1: the work slice has fewer than 16,384 words.
     WorkTooShort,
+    /// 2: the file has more than 65,536 bytes.
     FileTooLong,
+    /// 3: a line is empty, odd, has another character, more than 512 bytes, or no LF.
     MalformedLine,
+    /// 4: a kind is unknown or misplaced, or the last line is no query.
     MisplacedKind,
+    /// 5: over 256 names or types, 128 predicates, or 512 nodes of a query.
     TooMany,
+    /// 6: a frame does not have its kind's form.
     MalformedFrame,
+    /// 7: a text is not UTF-8.
     BrokenText,
+    /// 8: a name was given before.
     NameGivenBefore,
+    /// 9: a reference to nothing earlier, or to a node named before.
     BadReference,
+    /// 10: a record type repeats a name, or a union type a discriminant.
     RepeatedKey,
+    /// 11: a query needs more than 1,048,576 visits.
     TooManyVisits,
+    /// 12: the answer is longer than its slice.
     AnswerTooLong,
+    /// 13: over 64 queries.
     TooManyQueries,
+    /// 14: a predicate's number above 65,535, on the way to the narrow edition.
     NumberTooWide,
+    /// 15: a total of the tally would pass 32 bits, or its remainder is over 999.
     TallyTooLarge,
+    /// 16: a query needs more visits than the desk's ceiling.
     CeilingPassed,
+    /// 17: the desk number or the group of desks is outside the rules.
     OutsideTheRules,
     /// A number that this version of the crate has no name for.
     Other(u8),

@@ -5,12 +5,17 @@ use std::fmt;
 /// A type of a node.
 #[derive(Clone, Debug, PartialEq, Eq)]
 pub enum Ty {
+    /// Integers.
     Integer,
+    /// Strings.
     String,
+    /// Bytes.
     Bytes,
     /// The number of the fact's predicate.
     Fact(u32),
+    /// Its fields.
     Record(Vec<Field>),
+    /// Its alternatives.
     Union(Vec<Alternative>),
     /// A type that the query leaves open; the same number is the same type.
     Open(u16),
@@ -18,29 +23,37 @@ pub enum Ty {
     Error,
 }
 
+/// A field of a record.
 #[derive(Clone, Debug, PartialEq, Eq)]
 pub struct Field {
     /// The number of its name.
     pub name: u16,
+    /// Its type.
     pub ty: Ty,
 }
 
+/// An alternative of a union.
 #[derive(Clone, Debug, PartialEq, Eq)]
 pub struct Alternative {
     /// The number of its name.
     pub name: u16,
+    /// What tells it from the others.
     pub discriminant: u32,
+    /// What it carries.
     pub ty: Ty,
 }
 
 /// The texts that types are shown with: names by number, and the name number of each predicate.
 #[derive(Clone, Debug, Default, PartialEq, Eq)]
 pub struct Names {
+    /// The text of each name.
     pub names: Vec<String>,
+    /// The number of each predicate's name.
     pub predicates: Vec<u16>,
 }
 
 impl Names {
+    /// The text of a name, `?` where there is none.
     pub fn name(&self, number: u16) -> &str {
         self.names.get(usize::from(number)).map_or("?", String::as_str)
     }

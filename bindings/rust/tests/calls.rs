@@ -26,22 +26,6 @@ fn the_sample_is_answered() {
 }
 
 #[test]
-fn an_answer_is_parsed() {
-    let answer = sigla::answer(FORM).expect("the form is accepted");
-    let shown: Vec<String> = answer.queries[1].diagnostics.iter().map(ToString::to_string).collect();
-    assert_eq!(shown, ["35..41: reject/type-mismatch: expected an integer, found a string"]);
-    let file = sigla::File::parse(FORM).expect("it is a file");
-    assert_eq!(file.write(), FORM);
-    assert_eq!(answer.queries[0].types[2], Some(sigla::Ty::Fact(0)));
-    assert_eq!(answer.queries.iter().map(|query| query.visits).collect::<Vec<_>>(), [Some(2), Some(3)]);
-    let ty = answer.queries[0].types[1].as_ref().expect("it was looked at");
-    assert_eq!(ty.shown(&file.texts()).to_string(), "{pen = a string, pressure = an integer}");
-    for lines in [&b"0e\n"[..], b"0a61\n", b"07000100\n", b"070000\n", b"0700000000\n", b"07000000", b"0b0001\n"] {
-        assert!(sigla::Answer::parse(lines).is_err(), "{lines:?}");
-    }
-}
-
-#[test]
 fn a_refusal_clears_both_slices() {
     for (file, refusal) in [(&b""[..], Refusal::MisplacedKind), (b"\n", Refusal::MalformedLine), (&[b'0'; 65537], Refusal::FileTooLong)] {
         let (mut work, mut answer) = lent();

@@ -9,76 +9,127 @@ use std::fs;
 use std::io::{self, IsTerminal, Read, Write};
 use std::process::ExitCode;
 
+use sigla::{Answer, Failure, File};
+
 const USAGE: &str = "\
 usage: sigla-tool COMMAND ..
 
-  show FILE [--source TEXT]   nodes with their types, and diagnostics under the query's text
-  assemble FILE               writes the frames of a text in the notation of docs/FORMAT.md
-  disassemble FILE            writes a file's frames as text
-  explain NUMBER|CODE         what a refusal's number or a diagnostic's code means
-  check FILE..                types many files, with a summary
-  help [COMMAND]              this text, or a command's own
-  version
+  show FILE [OPTION..]     nodes with their types, and diagnostics under the query's text
+  assemble FILE            writes the frames of a text in the notation of docs/FORMAT.md
+  disassemble FILE         writes a file's frames as text
+  explain [NUMBER|CODE]    what a refusal's number or a diagnostic's code means
+  check FILE..             types many files, with a summary
+  help [COMMAND]           this text, or a command's own
+  version                  the version
 
-A FILE of `-` is standard input. Exit status: 0 where all is well, 1 where a file has a diagnostic or is turned down, 2 where a command
-can't be carried out.";
+A FILE of `-` is standard input. Exit status: 0 where all is well, 1 where a file has a diagnostic, 3 where a file is turned down, 2 where a
+command can't be carried out.";
 
 const SHOW: &str = "\
-usage: sigla-tool show FILE [--source TEXT]
+usage: sigla-tool show FILE [--source TEXT].. [--answer ANSWER] [--tree]
 
-Types the file and prints, query by query, each node with its shape, its span and its type, then the diagnostics. With --source, the text
-that the spans point into (for a form, one --source for each query), a diagnostic is shown under its line of the text, with carets.";
+Types the file and prints its schema and, query by query, each node with its span, its shape and its type, then the diagnostics and the
+names that are written only once.
+
+  --source TEXT      the text that the spans point into, by bytes; for a form one for each query, in their order. A diagnostic is
+                     then shown under its line of the text, with carets
+  --answer ANSWER    shows this answer, as the program sigla printed it for the file, and types nothing
+  --tree             types as trees, a line for each part; without it a long type is cut
+
+Colours are for terminals, where NO_COLOR is not set. Exit status: 0, 1 with a diagnostic, 3 where the file is turned down, 2 for anything
+else.";
 
 const ASSEMBLE: &str = "\
 usage: sigla-tool assemble FILE
 
-Reads the notation of docs/FORMAT.md, \"A notation for people\", and writes the file of frames. A fault is told with its line and column.";
+Reads the notation of docs/FORMAT.md, \"A notation for people\", and writes the file of frames to standard output. A fault is told with its
+line and column. The file may be one that the check turns down. Exit status: 0, or 2 with a fault.";
 
 const DISASSEMBLE: &str = "\
 usage: sigla-tool disassemble FILE
 
-Writes the frames of a file in the notation; assembled again they are the same file.";
+Writes the frames of a file in the notation; assembled again they are the same file, byte for byte. A file that the notation has no words
+for, as one that refers to what it does not have, is told. Exit status: 0, or 2 with a fault.";
 
 const EXPLAIN: &str = "\
-usage: sigla-tool explain NUMBER|CODE
+usage: sigla-tool explain [NUMBER|CODE]
 
-Says what a refusal's number (as in the line 0f) or a diagnostic's code (as in a line 08) means.";
+Says what a refusal's number (as after 0f, in decimal, or hexadecimal after 0x) or a diagnostic's code (as in a line 08, with or without
+`reject/`) means, and what can be done. Without a word it lists them all. Exit status: 0, or 2 for what is neither.";
 
 const CHECK: &str = "\
 usage: sigla-tool check FILE..
 
-Types each file and prints a line for each that has a diagnostic or is turned down, and a summary. On a terminal a bar shows how far it is.";
+Types each file and prints a line for each that has a diagnostic or is turned down, and a summary. On a terminal a bar shows how far it is.
+Exit status: 0 where every file is clean, 1 where one has a diagnostic, 3 where one is turned down, 2 where one can't be read; the highest
+of 2, 3 and 1, in this order, where several hold.";
+
+const HELP: &str = "\
+usage: sigla-tool help [COMMAND]
+
+Prints what a command does, its options and its exit status; `sigla-tool COMMAND --help` does too.";
+
+const VERSION: &str = "\
+usage: sigla-tool version
+
+Prints the version, that of the library's header and of the bindings.";
+
+const DIAGNOSED: u8 = 1;
+const UNDONE: u8 = 2;
+const REFUSED: u8 = 3;
 
 fn main() -> ExitCode {
     let arguments: Vec<String> = env::args().skip(1).collect();
     let words: Vec<&str> = arguments.iter().map(String::as_str).collect();
     let done = match words[..] {
-        ["show", file] => show(file, &[]),
-        ["show", file, ref options @ ..] => sources(options).and_then(|texts| show(file, &texts)),
+        ["help"] | ["--help"] | ["-h"] => said(USAGE),
+        ["help", command] | [command, "--help"] | [command, "-h"] => {
+            usage(command).ok_or_else(|| format!("no command {command}\n\n{USAGE}")).and_then(said)
+        }
+        ["show", ref arguments @ ..] => Show::of(arguments).and_then(|show| show.run()),
         ["assemble", file] => assemble(file),
         ["disassemble", file] => disassemble(file),
-        ["explain", what] => explain::explain(what).map(|text| said(&text)).ok_or_else(|| format!("{what} is no refusal's number and no code")),
-        ["check", first, ref more @ ..] => Ok(check(&[&[first], more].concat())),
-        ["version"] => Ok(said(&format!("sigla-tool {}", env!("CARGO_PKG_VERSION")))),
-        ["help"] | ["--help"] | ["-h"] => Ok(said(USAGE)),
-        ["help", command] | [command, "--help"] | [command, "-h"] => usage(command).map(said).ok_or_else(|| format!("no command {command}\n{USAGE}")),
-        _ => Err(USAGE.to_string()),
+        ["explain"] => said(&explain::all()),
+        ["explain", what] => explain::explain(what).ok_or_else(|| format!("{what} is no refusal's number and no code")).and_then(|text| said(&text)),
+        ["check", ref files @ ..] if !files.is_empty() => check(files),
+        ["version"] | ["--version"] | ["-V"] => said(&format!("sigla-tool {}", sigla::VERSION)),
+        [command, ..] => Err(usage(command).map_or_else(|| format!("no command {command}\n\n{USAGE}"), str::to_string)),
+        [] => Err(USAGE.to_string()),
     };
-    done.unwrap_or_else(|fault| {
-        eprintln!("{fault}");
-        ExitCode::from(2)
-    })
+    match done {
+        Ok(status) => ExitCode::from(status),
+        Err(fault) => {
+            eprintln!("{fault}");
+            ExitCode::from(UNDONE)
+        }
+    }
 }
 
 fn usage(command: &str) -> Option<&'static str> {
-    let texts = [("show", SHOW), ("assemble", ASSEMBLE), ("disassemble", DISASSEMBLE), ("explain", EXPLAIN), ("check", CHECK)];
+    let texts = [
+        ("show", SHOW),
+        ("assemble", ASSEMBLE),
+        ("disassemble", DISASSEMBLE),
+        ("explain", EXPLAIN),
+        ("check", CHECK),
+        ("help", HELP),
+        ("version", VERSION),
+    ];
     texts.iter().find(|text| text.0 == command).map(|text| text.1)
 }
 
-/// Prints a text; a reader that has gone away is no fault.
-fn said(text: &str) -> ExitCode {
-    let _ = writeln!(io::stdout(), "{}", text.trim_end_matches('\n'));
-    ExitCode::SUCCESS
+/// Prints bytes; a reader that has gone away is no fault.
+fn put(bytes: &[u8]) -> Result<u8, String> {
+    let mut out = io::stdout().lock();
+    match out.write_all(bytes).and_then(|()| out.flush()) {
+        Err(fault) if fault.kind() != io::ErrorKind::BrokenPipe => Err(format!("standard output: {fault}")),
+        _ => Ok(0),
+    }
+}
+
+/// Prints a text as lines.
+fn said(text: &str) -> Result<u8, String> {
+    put(format!("{}\n", text.trim_end_matches('\n')).as_bytes())
 }
 
 fn read(path: &str) -> Result<Vec<u8>, String> {
@@ -87,84 +138,161 @@ fn read(path: &str) -> Result<Vec<u8>, String> {
     got.map_err(|fault| format!("{path}: {fault}"))
 }
 
-fn sources(options: &[&str]) -> Result<Vec<String>, String> {
-    let pairs = options.chunks(2).map(|pair| match pair {
-        ["--source", path] => String::from_utf8(read(path)?).map_err(|_| format!("{path}: not UTF-8")),
-        _ => Err(SHOW.to_string()),
-    });
-    pairs.collect()
+fn read_text(path: &str) -> Result<String, String> {
+    String::from_utf8(read(path)?).map_err(|fault| format!("{path}: not UTF-8 at byte {}", fault.utf8_error().valid_up_to()))
 }
 
-fn show(path: &str, sources: &[String]) -> Result<ExitCode, String> {
-    let bytes = read(path)?;
-    let answer = match sigla::answer(&bytes) {
-        Ok(answer) => answer,
-        Err(refusal) => {
-            println!("{path}: {refusal}");
-            return Ok(ExitCode::FAILURE);
+fn is_coloured() -> bool {
+    io::stdout().is_terminal() && env::var_os("NO_COLOR").is_none_or(|value| value.is_empty())
+}
+
+/// What `show` is asked.
+#[derive(Default)]
+struct Show {
+    file: String,
+    answer: Option<String>,
+    sources: Vec<String>,
+    tree: bool,
+}
+
+impl Show {
+    fn of(arguments: &[&str]) -> Result<Show, String> {
+        let mut show = Show::default();
+        let mut rest = arguments.iter();
+        while let Some(&word) = rest.next() {
+            let mut value = || rest.next().map(|value| value.to_string()).ok_or_else(|| format!("{word} wants a file\n\n{SHOW}"));
+            match word {
+                "--source" => show.sources.push(value()?),
+                "--answer" => show.answer = Some(value()?),
+                "--tree" => show.tree = true,
+                _ if word.starts_with("--") => return Err(format!("no option {word}\n\n{SHOW}")),
+                _ if show.file.is_empty() => show.file = word.to_string(),
+                _ => return Err(SHOW.to_string()),
+            }
         }
-    };
-    let file = sigla::File::parse(&bytes).map_err(|fault| format!("{path}: {fault}"))?;
-    let shown = show::shown(&file, &answer, sources, io::stdout().is_terminal());
-    said(&shown);
-    let clean = answer.queries.iter().all(|query| query.diagnostics.is_empty());
-    Ok(if clean { ExitCode::SUCCESS } else { ExitCode::FAILURE })
+        if show.file.is_empty() { Err(SHOW.to_string()) } else { Ok(show) }
+    }
+
+    fn run(&self) -> Result<u8, String> {
+        let bytes = read(&self.file)?;
+        let sources: Vec<(String, String)> =
+            self.sources.iter().map(|path| Ok((path.clone(), read_text(path)?))).collect::<Result<_, String>>()?;
+        let answer = match &self.answer {
+            Some(path) => given(path)?,
+            None => sigla::answer(&bytes),
+        };
+        let answer = match answer {
+            Ok(answer) => answer,
+            Err(Failure::Refused(refusal)) => {
+                said(&format!("{}: {refusal}", self.file))?;
+                return Ok(REFUSED);
+            }
+            Err(fault) => return Err(format!("{}: {fault}", self.file)),
+        };
+        let file = File::parse(&bytes).map_err(|fault| format!("{}: {fault}", self.file))?;
+        let nodes = file.queries.iter().map(|query| query.nodes.len());
+        if !nodes.eq(answer.queries.iter().map(|query| query.types.len())) {
+            return Err(format!("{}: the answer is another file's", self.file));
+        }
+        if sources.len() > file.queries.len() {
+            return Err(format!("{}: {} texts for {} queries", self.file, sources.len(), file.queries.len()));
+        }
+        said(&show::shown(&file, &answer, &sources, self.tree, is_coloured()))?;
+        Ok(if answer.is_clean() { 0 } else { DIAGNOSED })
+    }
 }
 
-fn assemble(path: &str) -> Result<ExitCode, String> {
-    let text = String::from_utf8(read(path)?).map_err(|_| format!("{path}: not UTF-8"))?;
-    let file = notation::assemble(&text).map_err(|fault| format!("{path}:{fault}"))?;
-    let frames = file.write();
-    io::stdout().write_all(&frames).map_err(|fault| fault.to_string())?;
-    Ok(ExitCode::SUCCESS)
+/// An answer as the program prints it: its lines, or 0f and a refusal's number.
+fn given(path: &str) -> Result<Result<Answer, Failure>, String> {
+    let lines = read(path)?;
+    let number = lines.strip_prefix(b"0f").and_then(|rest| rest.strip_suffix(b"\n")).and_then(|digits| std::str::from_utf8(digits).ok());
+    if let Some(refusal) = number.and_then(|digits| u8::from_str_radix(digits, 16).ok()).and_then(sigla::Refusal::from_number) {
+        return Ok(Err(Failure::Refused(refusal)));
+    }
+    Answer::parse(&lines).map(Ok).map_err(|fault| format!("{path}: not an answer, {fault}"))
 }
 
-fn disassemble(path: &str) -> Result<ExitCode, String> {
-    let file = sigla::File::parse(&read(path)?).map_err(|fault| format!("{path}: {fault}"))?;
-    Ok(said(&notation::disassemble(&file)))
+fn assemble(path: &str) -> Result<u8, String> {
+    let file = notation::assemble(&read_text(path)?).map_err(|fault| format!("{path}:{fault}"))?;
+    put(&file.write())
 }
 
-fn check(paths: &[&str]) -> ExitCode {
-    let bar = io::stderr().is_terminal();
+fn disassemble(path: &str) -> Result<u8, String> {
+    let bytes = read(path)?;
+    let file = File::parse(&bytes).map_err(|fault| format!("{path}: {fault}"))?;
+    let text = notation::disassemble(&file);
+    match notation::assemble(&text) {
+        Ok(again) if again.write() == bytes => said(&text),
+        _ => Err(match sigla::answer(&bytes) {
+            Err(Failure::Refused(refusal)) => format!("{path}: the notation has no words for it; {refusal}"),
+            _ => format!("{path}: the notation has no words for it"),
+        }),
+    }
+}
+
+/// A bar on standard error, if that is a terminal.
+struct Bar {
+    files: usize,
+    shown: bool,
+}
+
+impl Bar {
+    const WIDTH: usize = 30;
+
+    fn at(&self, done: usize) {
+        if self.shown {
+            let full = Bar::WIDTH * done / self.files;
+            eprint!("\r[{}{}] {done} of {}", "=".repeat(full), " ".repeat(Bar::WIDTH - full), self.files);
+        }
+    }
+
+    fn clear(&self) {
+        if self.shown {
+            eprint!("\r{:60}\r", "");
+        }
+    }
+}
+
+/// How many things there are, in words.
+fn counted(n: usize, one: &str) -> String {
+    if n == 1 { format!("1 {one}") } else { format!("{n} {one}s") }
+}
+
+fn check(paths: &[&str]) -> Result<u8, String> {
+    let bar = Bar { files: paths.len(), shown: io::stderr().is_terminal() };
     let (mut clean, mut diagnosed, mut refused, mut unread) = (0, 0, 0, 0);
     for (i, path) in paths.iter().enumerate() {
-        if bar {
-            let full = 30 * (i + 1) / paths.len();
-            eprint!("\r[{}{}] {} of {}", "=".repeat(full), " ".repeat(30 - full), i + 1, paths.len());
-        }
+        bar.at(i);
         let line = match read(path).map(|bytes| sigla::answer(&bytes)) {
             Err(fault) => {
                 unread += 1;
                 fault
             }
-            Ok(Err(refusal)) => {
+            Ok(Err(failure)) => {
                 refused += 1;
-                format!("{path}: {refusal}")
+                format!("{path}: {failure}")
+            }
+            Ok(Ok(answer)) if answer.is_clean() => {
+                clean += 1;
+                continue;
             }
             Ok(Ok(answer)) => {
-                let count: usize = answer.queries.iter().map(|query| query.diagnostics.len()).sum();
-                if count == 0 {
-                    clean += 1;
-                    continue;
-                }
                 diagnosed += 1;
-                format!("{path}: {count} diagnostics")
+                let count = answer.queries.iter().map(|query| query.diagnostics.len()).sum();
+                let first = answer.queries.iter().flat_map(|query| &query.diagnostics).next();
+                format!("{path}: {}, the first {}", counted(count, "diagnostic"), first.map_or(String::new(), ToString::to_string))
             }
         };
-        if bar {
-            eprint!("\r{:60}\r", "");
-        }
-        println!("{line}");
+        bar.clear();
+        said(&line)?;
     }
-    if bar {
-        eprintln!("\r{:60}\r", "");
-    }
-    println!("{} files: {clean} clean, {diagnosed} with diagnostics, {refused} turned down, {unread} not read", paths.len());
-    if unread > 0 {
-        ExitCode::from(2)
-    } else if diagnosed + refused > 0 {
-        ExitCode::FAILURE
-    } else {
-        ExitCode::SUCCESS
-    }
+    bar.at(paths.len());
+    bar.clear();
+    said(&format!("{}: {clean} clean, {diagnosed} with diagnostics, {refused} turned down, {unread} not read", counted(paths.len(), "file")))?;
+    Ok(match (unread, refused, diagnosed) {
+        (0, 0, 0) => 0,
+        (0, 0, _) => DIAGNOSED,
+        (0, _, _) => REFUSED,
+        _ => UNDONE,
+    })
 }

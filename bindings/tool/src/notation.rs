@@ -98,7 +98,7 @@ fn quoted(chars: &[char], from: usize) -> Option<(String, usize)> {
                     't' => ('\t', 2),
                     '"' => ('"', 2),
                     '\\' => ('\\', 2),
-                    'u' => {
+                    'u' if chars.get(i + 2) == Some(&'{') => {
                         let end = i + chars[i..].iter().position(|&c| c == '}')?;
                         let digits: String = chars.get(i + 3..end)?.iter().collect();
                         (char::from_u32(u32::from_str_radix(&digits, 16).ok()?)?, end + 1 - i)
@@ -209,11 +209,26 @@ impl<'a> Line<'a> {
 #[derive(Default)]
 struct Assembler {
     file: File,
+    limited: bool,
     names: HashMap<String, u16>,
     types: HashMap<String, u16>,
     nodes: HashMap<String, u16>,
-    query: Option<QueryFrames>,
-    headed: bool,
+    /// Types of facts whose predicate comes later: the type, the predicate's name, and the fault if there is none.
+    later: Vec<(usize, String, Fault)>,
+    query: Option<Begun>,
+}
+
+/// The query that lines are added to.
+struct Begun {
+    frames: QueryFrames,
+    head: Option<u16>,
+    /// The fault if it gets no head.
+    headless: Fault,
+}
+
+/// The number of the next item of a list; a reference has 2 bytes.
+fn next_number(length: usize, fault: Fault) -> Result<u16, Fault> {
+    u16::try_from(length).map_err(|_| fault)
 }
 
 /// The file of a text.
@@ -229,20 +244,25 @@ pub fn assemble(text: &str) -> Result<File, Fault> {
             line.ended()?;
         }
     }
-    let end = Line { number: last, end: 1, rest: &[] };
-    assembler.end_query(&end)?;
+    assembler.end_query()?;
+    for (place, name, fault) in std::mem::take(&mut assembler.later) {
+        assembler.file.types[place] = TypeFrame::Fact(assembler.predicate_number(&name).ok_or(fault)?);
+    }
+    if !assembler.limited {
+        return Err(Fault { line: last, column: 1, what: "the text has no line `limits`".to_string() });
+    }
     Ok(assembler.file)
 }
 
 impl Assembler {
-    fn name(&mut self, text: &str) -> u16 {
+    fn name(&mut self, text: &str, line: &Line<'_>) -> Result<u16, Fault> {
         if let Some(&number) = self.names.get(text) {
-            return number;
+            return Ok(number);
         }
-        let number = self.file.names.len() as u16;
+        let number = next_number(self.file.names.len(), line.fault("more than 65,536 names"))?;
         self.file.names.push(text.to_string());
         self.names.insert(text.to_string(), number);
-        number
+        Ok(number)
     }
 
     fn line(&mut self, line: &mut Line<'_>) -> Result<(), Fault> {
@@ -250,60 +270,86 @@ impl Assembler {
         if labelled {
             return self.node(line);
         }
-        match line.word("a line's first word")? {
+        let word = match line.peek() {
+            Some(Token::Word(word)) => word.as_str(),
+            _ => "",
+        };
+        match word {
             "limits" => {
+                let twice = line.fault("the limits were given before");
+                line.next();
+                if std::mem::replace(&mut self.limited, true) {
+                    return Err(twice);
+                }
                 self.file.distance = line.number("a distance up to 255")?;
                 self.file.characters = line.number("a number of characters up to 65535")?;
-                Ok(())
             }
             "name" => {
-                let text = line.text()?;
-                self.name(text);
-                Ok(())
+                line.next();
+                self.text_number(line)?;
             }
-            "type" => self.ty(line),
-            "predicate" => self.predicate(line),
+            "type" => {
+                line.next();
+                self.ty(line)?;
+            }
+            "predicate" => {
+                line.next();
+                self.predicate(line)?;
+            }
             "query" => {
-                self.end_query(line)?;
-                self.query = Some(QueryFrames::default());
-                self.headed = false;
-                Ok(())
+                let headless = line.fault("this query has no head");
+                line.next();
+                self.end_query()?;
+                self.query = Some(Begun { frames: QueryFrames::default(), head: None, headless });
             }
             "head" => {
+                let (outside, twice) = (line.fault("a head outside of a query"), line.fault("this query has a head already"));
+                line.next();
+                if self.query.as_ref().ok_or(outside)?.head.is_some() {
+                    return Err(twice);
+                }
                 let head = self.node_named(line)?;
-                let fault = line.fault("a head outside of a query");
-                self.query.as_mut().ok_or(fault)?.asked.head = head;
-                self.headed = true;
-                Ok(())
+                if let Some(query) = &mut self.query {
+                    query.head = Some(head);
+                }
             }
-            word => {
-                let statement = self.statement(word, line)?;
-                let fault = line.fault("a statement outside of a query");
-                self.query.as_mut().ok_or(fault)?.asked.statements.push(statement);
-                Ok(())
+            _ => {
+                let outside = line.fault("a statement outside of a query");
+                let statement = self.statement(line, self.query.is_none().then_some(outside))?;
+                if let Some(query) = &mut self.query {
+                    query.frames.asked.statements.push(statement);
+                }
             }
         }
+        Ok(())
     }
 
-    fn end_query(&mut self, line: &Line<'_>) -> Result<(), Fault> {
-        if let Some(query) = self.query.take() {
-            if !self.headed {
-                return Err(line.fault("the query before has no head"));
-            }
-            self.file.queries.push(query);
+    fn end_query(&mut self) -> Result<(), Fault> {
+        if let Some(Begun { mut frames, head, headless }) = self.query.take() {
+            frames.asked.head = head.ok_or(headless)?;
+            self.file.queries.push(frames);
         }
         self.nodes.clear();
         Ok(())
     }
 
-    fn statement(&mut self, word: &str, line: &mut Line<'_>) -> Result<StatementFrame, Fault> {
+    /// A statement; where none may stand, the fault.
+    fn statement(&mut self, line: &mut Line<'_>, outside: Option<Fault>) -> Result<StatementFrame, Fault> {
+        let here = line.fault("");
+        let word = line.word("a word that begins a line")?;
+        if !["bind", "holds", "deny", "differ", "compare"].contains(&word) {
+            return Err(Fault { what: format!("`{word}` begins no line and no statement"), ..here });
+        }
+        if let Some(fault) = outside {
+            return Err(fault);
+        }
+        let first = self.node_named(line)?;
         Ok(match word {
-            "bind" => StatementFrame::Binds(self.node_named(line)?, self.node_named(line)?),
-            "holds" => StatementFrame::Holds(self.node_named(line)?),
-            "deny" => StatementFrame::Denies(self.node_named(line)?),
-            "differ" => StatementFrame::Differs(self.node_named(line)?, self.node_named(line)?),
-            "compare" => StatementFrame::Compares(self.node_named(line)?, self.node_named(line)?),
-            _ => return Err(line.fault(format!("`{word}` begins no line"))),
+            "bind" => StatementFrame::Binds(first, self.node_named(line)?),
+            "holds" => StatementFrame::Holds(first),
+            "deny" => StatementFrame::Denies(first),
+            "differ" => StatementFrame::Differs(first, self.node_named(line)?),
+            _ => StatementFrame::Compares(first, self.node_named(line)?),
         })
     }
 
@@ -317,6 +363,12 @@ impl Assembler {
         self.nodes.get(line.word("a node's label")?).copied().ok_or(fault)
     }
 
+    /// The first predicate of a name.
+    fn predicate_number(&self, text: &str) -> Option<u32> {
+        let name = self.names.get(text).copied()?;
+        self.file.predicates.iter().position(|predicate| predicate.name == name).map(|place| place as u32)
+    }
+
     /// By name, the first that has it, or by number.
     fn predicate_named(&mut self, line: &mut Line<'_>) -> Result<u32, Fault> {
         if let Some(&Token::Number(_)) = line.peek() {
@@ -324,9 +376,7 @@ impl Assembler {
         }
         let fault = line.fault("a predicate that no line before has; an absent one goes by number");
         let text = line.text()?;
-        let name = self.names.get(text).copied();
-        let place = self.file.predicates.iter().position(|predicate| Some(predicate.name) == name);
-        place.map(|place| place as u32).ok_or(fault)
+        self.predicate_number(text).ok_or(fault)
     }
 
     fn ty(&mut self, line: &mut Line<'_>) -> Result<(), Fault> {
@@ -335,6 +385,7 @@ impl Assembler {
         if self.types.contains_key(&label) {
             return Err(fault);
         }
+        let number = next_number(self.file.types.len(), line.fault("more than 65,536 types"))?;
         line.sign('=')?;
         let what = line.fault("expected integer, string, bytes, fact, record or union");
         let frame = match line.word("a type")? {
@@ -343,17 +394,19 @@ impl Assembler {
             "bytes" => TypeFrame::Bytes,
             "fact" => TypeFrame::Fact(match line.peek() {
                 Some(Token::Number(_)) => line.number("a predicate's number")?,
-                _ => return Err(line.fault("expected a predicate's number: predicates come after types")),
+                _ => {
+                    let fault = line.fault("a predicate that the text does not have; an absent one goes by number");
+                    self.later.push((self.file.types.len(), line.text()?.to_string(), fault));
+                    0
+                }
             }),
             "record" => TypeFrame::Record(line.list(',', |line| {
-                let name = line.text()?;
-                let name = self.name(name);
+                let name = self.text_number(line)?;
                 line.sign(':')?;
                 Ok((name, self.type_named(line)?))
             })?),
             "union" => TypeFrame::Union(line.list(',', |line| {
-                let name = line.text()?;
-                let name = self.name(name);
+                let name = self.text_number(line)?;
                 line.sign('=')?;
                 let disc = line.number("a discriminant")?;
                 line.sign(':')?;
@@ -361,14 +414,13 @@ impl Assembler {
             })?),
             _ => return Err(what),
         };
-        self.types.insert(label, self.file.types.len() as u16);
+        self.types.insert(label, number);
         self.file.types.push(frame);
         Ok(())
     }
 
     fn predicate(&mut self, line: &mut Line<'_>) -> Result<(), Fault> {
-        let name = line.text()?;
-        let name = self.name(name);
+        let name = self.text_number(line)?;
         line.sign(':')?;
         let key = self.type_named(line)?;
         let value = if line.is(&Token::Arrow) { Some(self.type_named(line)?) } else { None };
@@ -378,6 +430,8 @@ impl Assembler {
 
     fn node(&mut self, line: &mut Line<'_>) -> Result<(), Fault> {
         let twice = line.fault("a label that a node before has");
+        let outside = line.fault("a node outside of a query");
+        let many = line.fault("more than 65,536 nodes");
         let label = line.word("a node's label")?.to_string();
         if self.nodes.contains_key(&label) {
             return Err(twice);
@@ -391,10 +445,9 @@ impl Assembler {
         } else {
             Span::default()
         };
-        let fault = line.fault("a node outside of a query");
-        let query = self.query.as_mut().ok_or(fault)?;
-        self.nodes.insert(label, query.nodes.len() as u16);
-        query.nodes.push(NodeFrame { span, shape });
+        let nodes = &mut self.query.as_mut().ok_or(outside)?.frames.nodes;
+        self.nodes.insert(label, next_number(nodes.len(), many)?);
+        nodes.push(NodeFrame { span, shape });
         Ok(())
     }
 
@@ -419,10 +472,7 @@ impl Assembler {
             "either" => Shape::Either(line.list(',', |line| self.node_named(line))?),
             "subquery" => Shape::Subquery(Asked {
                 head: self.node_named(line)?,
-                statements: line.list(';', |line| {
-                    let word = line.word("a statement")?;
-                    self.statement(word, line)
-                })?,
+                statements: line.list(';', |line| self.statement(line, None))?,
             }),
             "fact" => Shape::Fact(self.predicate_named(line)?, self.of(line)?),
             "arithmetic" => Shape::Arithmetic(line.list(',', |line| self.node_named(line))?),
@@ -434,7 +484,7 @@ impl Assembler {
 
     fn text_number(&mut self, line: &mut Line<'_>) -> Result<u16, Fault> {
         let text = line.text()?;
-        Ok(self.name(text))
+        self.name(text, line)
     }
 
     fn of(&mut self, line: &mut Line<'_>) -> Result<u16, Fault> {
@@ -444,7 +494,7 @@ impl Assembler {
 }
 
 /// A name as the notation has it.
-pub fn spelled(text: &str) -> String {
+fn spelled(text: &str) -> String {
     let mut chars = text.chars();
     let word = chars.next().is_some_and(|c| c.is_alphabetic() || c == '_') && chars.all(|c| c.is_alphanumeric() || c == '_');
     if word {
@@ -465,19 +515,9 @@ pub fn spelled(text: &str) -> String {
     spelled
 }
 
-/// The text of a file. Assembled again it is the same file.
+/// The text of a file. Assembled again it is the same file, if its references are to something.
 pub fn disassemble(file: &File) -> String {
-    let mut out = format!("limits {} {}\n", file.distance, file.characters);
-    for name in &file.names {
-        out += &format!("name {}\n", spelled(name));
-    }
-    for (i, ty) in file.types.iter().enumerate() {
-        out += &format!("type t{i} = {}\n", type_text(file, ty));
-    }
-    for predicate in &file.predicates {
-        let value = predicate.value.map_or(String::new(), |value| format!(" -> t{value}"));
-        out += &format!("predicate {}: t{}{value}\n", name(file, predicate.name), predicate.key);
-    }
+    let mut out = schema_text(file);
     for query in &file.queries {
         out += "query\n";
         for (i, node) in query.nodes.iter().enumerate() {
@@ -489,6 +529,32 @@ pub fn disassemble(file: &File) -> String {
         out += &format!("  head n{}\n", query.asked.head);
     }
     out
+}
+
+/// Limits, names, types and predicates.
+pub fn schema_text(file: &File) -> String {
+    let mut out = format!("limits {} {}\n", file.distance, file.characters);
+    for name in &file.names {
+        out += &format!("name {}\n", spelled(name));
+    }
+    for (i, ty) in file.types.iter().enumerate() {
+        out += &format!("type t{i} = {}\n", type_text(file, ty));
+    }
+    for predicate in &file.predicates {
+        let value = predicate.value.map_or(String::new(), |value| format!(" -> t{value}"));
+        out += &format!("predicate {}: t{}{value}\n", name(file, predicate.name), predicate.key);
+    }
+    out
+}
+
+/// A predicate by its name, if it is the first that has it, else by its number.
+fn predicate_text(file: &File, number: u32) -> String {
+    let named = usize::try_from(number).ok().and_then(|place| file.predicates.get(place)).map(|predicate| predicate.name);
+    let first = named.and_then(|name| file.predicates.iter().position(|predicate| predicate.name == name));
+    match named {
+        Some(called) if first.map(|place| place as u32) == Some(number) => name(file, called),
+        _ => number.to_string(),
+    }
 }
 
 fn name(file: &File, number: u16) -> String {
@@ -505,7 +571,7 @@ fn type_text(file: &File, ty: &TypeFrame) -> String {
         TypeFrame::Integer => "integer".to_string(),
         TypeFrame::String => "string".to_string(),
         TypeFrame::Bytes => "bytes".to_string(),
-        TypeFrame::Fact(predicate) => format!("fact {predicate}"),
+        TypeFrame::Fact(predicate) => format!("fact {}", predicate_text(file, *predicate)),
         TypeFrame::Record(fields) => format!("record {}", listed(fields, ", ", |(n, t)| format!("{}: t{t}", name(file, *n)))),
         TypeFrame::Union(parts) => format!("union {}", listed(parts, ", ", |(n, d, t)| format!("{} = {d}: t{t}", name(file, *n)))),
     }
@@ -528,14 +594,15 @@ pub fn shape_text(file: &File, shape: &Shape) -> String {
         Shape::Value(n) => format!("value of n{n}"),
         Shape::Either(n) => format!("either {}", nodes(n)),
         Shape::Subquery(asked) => format!("subquery n{} {}", asked.head, listed(&asked.statements, "; ", statement_text)),
-        Shape::Fact(predicate, n) => format!("fact {predicate} of n{n}"),
+        Shape::Fact(predicate, n) => format!("fact {} of n{n}", predicate_text(file, *predicate)),
         Shape::Arithmetic(n) => format!("arithmetic {}", nodes(n)),
         Shape::Unread => "unread".to_string(),
         Shape::Alternative(x, n) => format!("alternative {} of n{n}", name(file, *x)),
     }
 }
 
-fn statement_text(statement: &StatementFrame) -> String {
+/// A statement as the notation has it.
+pub fn statement_text(statement: &StatementFrame) -> String {
     match statement {
         StatementFrame::Binds(left, right) => format!("bind n{left} n{right}"),
         StatementFrame::Holds(node) => format!("holds n{node}"),
