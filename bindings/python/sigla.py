@@ -366,7 +366,9 @@ _PLAIN = {"integer": "an integer", "string": "a string", "bytes": "bytes", "open
 
 
 def shown(type, names=Names()):
-    """A type as messages show it."""
+    """A type as messages show it; None, a node that was not looked at, too."""
+    if type is None:
+        return "(not looked at)"
     out, left = [], [type]
     while left:
         now = left.pop()
@@ -390,6 +392,8 @@ def shown(type, names=Names()):
 
 def tree(type, names=Names()):
     """A type as a tree, a line for each part, indented."""
+    if type is None:
+        return "(not looked at)\n"
     out, left = [], [("", 0, type)]
     while left:
         first, depth, now = left.pop()
@@ -415,7 +419,7 @@ def _print(path):
         if len(queries) > 1:
             print(f"query {k}")
         for i, type in enumerate(query.types):
-            print(f"  n{i:<4} {'(not looked at)' if type is None else shown(type, names)}")
+            print(f"  n{i:<4} {shown(type, names)}")
         for diagnostic in query.diagnostics:
             print(f"  {diagnostic}")
         for start, end in query.once:

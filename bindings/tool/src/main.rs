@@ -83,7 +83,7 @@ fn main() -> ExitCode {
     let words: Vec<&str> = arguments.iter().map(String::as_str).collect();
     let done = match words[..] {
         ["help"] | ["--help"] | ["-h"] => said(USAGE),
-        ["help", command] | [command, "--help"] | [command, "-h"] => {
+        [command, "--help" | "-h"] | ["help", command] => {
             usage(command).ok_or_else(|| format!("no command {command}\n\n{USAGE}")).and_then(said)
         }
         ["show", ref arguments @ ..] => Show::of(arguments).and_then(|show| show.run()),

@@ -517,7 +517,11 @@ fn spelled(text: &str) -> String {
 
 /// The text of a file. Assembled again it is the same file, if its references are to something.
 pub fn disassemble(file: &File) -> String {
-    let mut out = schema_text(file);
+    let mut out = limits_text(file);
+    for name in &file.names {
+        out += &format!("name {}\n", spelled(name));
+    }
+    out += &schema_text(file);
     for query in &file.queries {
         out += "query\n";
         for (i, node) in query.nodes.iter().enumerate() {
@@ -531,12 +535,14 @@ pub fn disassemble(file: &File) -> String {
     out
 }
 
-/// Limits, names, types and predicates.
+/// The line of the limits.
+pub fn limits_text(file: &File) -> String {
+    format!("limits {} {}\n", file.distance, file.characters)
+}
+
+/// Types and predicates.
 pub fn schema_text(file: &File) -> String {
-    let mut out = format!("limits {} {}\n", file.distance, file.characters);
-    for name in &file.names {
-        out += &format!("name {}\n", spelled(name));
-    }
+    let mut out = String::new();
     for (i, ty) in file.types.iter().enumerate() {
         out += &format!("type t{i} = {}\n", type_text(file, ty));
     }

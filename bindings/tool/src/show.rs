@@ -19,10 +19,10 @@ const WIDTH: usize = 100;
 /// A source is a text with its file's name.
 pub fn shown(file: &File, answer: &Answer, sources: &[(String, String)], tree: bool, colour: bool) -> String {
     let names = file.texts();
-    let mut out = notation::schema_text(file);
+    let mut out = notation::limits_text(file) + &notation::schema_text(file);
     for (k, (query, typed)) in file.queries.iter().zip(&answer.queries).enumerate() {
         let number = if file.queries.len() > 1 { format!(" {k}") } else { String::new() };
-        put(&mut out, format_args!("query{number}\n"));
+        put(&mut out, format_args!("\nquery{number}\n"));
         let spans: Vec<String> = query.nodes.iter().map(|node| format!("{}..{}", node.span.start, node.span.end)).collect();
         let shapes: Vec<String> = query.nodes.iter().map(|node| notation::shape_text(file, &node.shape)).collect();
         let label = query.nodes.len().saturating_sub(1).to_string().len() + 1;
@@ -42,6 +42,9 @@ pub fn shown(file: &File, answer: &Answer, sources: &[(String, String)], tree: b
         }
         put(&mut out, format_args!("  head n{}\n", query.asked.head));
         let source = sources.get(k);
+        if !typed.diagnostics.is_empty() || !typed.once.is_empty() {
+            out.push('\n');
+        }
         for diagnostic in &typed.diagnostics {
             let said = Said { colour: RED, title: &diagnostic.code, message: diagnostic.message.as_deref().unwrap_or(""), span: diagnostic.span };
             out += &said.under(source, colour);
