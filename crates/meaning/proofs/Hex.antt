@@ -11,6 +11,7 @@ use lib.ListN.{length, getD}
 use borrow.Author.Tests.{eqb-true, eqb-false, not-true}
 use Rattle.text.specs.Utf8.{both, oneMore}
 use Rattle.text.proofs.Every.{both-left, both-right, below, every}
+use Rattle.text.proofs.Grammar.{clash as no-some}
 use Rattle.meaning.specs.Diag.{ascii}
 use Rattle.meaning.specs.Lines.{LF, position, digits, digit, pair, decoded}
 use Rattle.meaning.specs.All.{All, Absent}
@@ -59,18 +60,21 @@ next s = record { at = s .at; inside = omega (arith, s .inside) }
 
 stands : (c : ℕ) (l : List ℕ) (v : ℕ) → position (eqb c) l ≡ some v → Stands c l v
 unfolding position
-stands c [] v e = let z : _≡_ {A = ℕ} 0 1 = cc in absurd (omega arith)
+stands c [] v e = no-some e
 stands c (a ∷ l) v e = cases (eqb c a)
     (λ q. let h : some 0 ≡ some v = rw (q, position) at e in let z : v ≡ 0 = cc in rw z (record { at = sym (eqb-true c a q); inside = omega arith }))
     (λ q. go (λ w p. stands c l w p) (position (eqb c) l) refl (rw (q, position) at e))
   where
     go : ((w : ℕ) → position (eqb c) l ≡ some w → Stands c l w) → (o : Option ℕ) → position (eqb c) l ≡ o → oneMore (position (eqb c) l) ≡ some v → Stands c (a ∷ l) v
-    go ih none q h = let k : none ≡ some v = rw q at h in let z : _≡_ {A = ℕ} 0 1 = cc in absurd (omega arith)
+    go ih none q h = no-some {x = v} (rw q at h)
     go ih (some w) q h = let k : some (suc w) ≡ some v = rw q at h in let z : v ≡ suc w = cc in rw z (next (ih w q))
 
 digit-stands : (c v : ℕ) → digit c ≡ some v → (hexDigit v ≡ c) × (v < 16)
 unfolding digit digits ascii
 digit-stands c v e = let s = stands c digits v e in (digit-at v (s .inside) ∙ s .at, s .inside)
+
+same-some : {A : Type 0} {x y : A} → some x ≡ some y → x ≡ y
+same-some e = cc
 
 -- ---- Lines of digits
 
@@ -113,11 +117,11 @@ byte-hex h l v w t s p q r =
 pub hex-decoded : (l s : List ℕ) → decoded l ≡ some s → Hex l s
 unfolding decoded pair hexes
 hex-decoded [] s e = let z : s ≡ [] = cc in rw z (record { is = refl; bytes = tt })
-hex-decoded (h ∷ []) s e = let z : _≡_ {A = ℕ} 0 1 = cc in absurd (omega arith)
+hex-decoded (h ∷ []) s e = no-some e
 hex-decoded (h ∷ l ∷ t) s e = go (λ r q. hex-decoded t r q) (digit h) refl (digit l) refl (decoded t) refl e
   where
     go : ((r : List ℕ) → decoded t ≡ some r → Hex t r) → (x : Option ℕ) → digit h ≡ x → (y : Option ℕ) → digit l ≡ y → (z : Option (List ℕ)) → decoded t ≡ z → pair x y z ≡ some s → Hex (h ∷ l ∷ t) s
-    go ih none p y q z r c = let w : _≡_ {A = ℕ} 0 1 = cc in absurd (omega arith)
-    go ih (some v) p none q z r c = let w : _≡_ {A = ℕ} 0 1 = cc in absurd (omega arith)
-    go ih (some v) p (some w) q none r c = let o : _≡_ {A = ℕ} 0 1 = cc in absurd (omega arith)
-    go ih (some v) p (some w) q (some x) r c = let same : s ≡ (v * 16 + w) ∷ x = cc in rw same (byte-hex h l v w t x p q (ih x r))
+    go ih none p y q z r c = no-some c
+    go ih (some v) p none q z r c = no-some c
+    go ih (some v) p (some w) q none r c = no-some c
+    go ih (some v) p (some w) q (some x) r c = rw (sym (same-some c)) (byte-hex h l v w t x p q (ih x r))
