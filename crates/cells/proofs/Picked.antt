@@ -5,6 +5,7 @@ use mathlib.Core.List.{List, [], _∷_}
 use mathlib.Core.Logic.{_⊎_, inl, inr, ⊎-elim, _↔_}
 use mathlib.Core.Path.{_≡_, refl, sym}
 use Prim.Native.Nat.{ℕ, suc, _<_, _≤_}
+use native.Mathlib.Decide.{decLe}
 use native.Mathlib.Omega.{arith}
 use lib.Dec.{eqb, ltb}
 use borrow.Author.Tests.{eqb-true, ltb-true, ltb-false}
@@ -178,3 +179,11 @@ module _ (j : ℕ) where
         λ h. absurd h,
         λ p. absurd (omega (arith, ltb-false from words q, p .1, ⊎-elim (has-small words xs bx) (has-small words ys by) (p .0))),
       )
+
+  -- So what was compared by then is exactly what is below `from`.
+  pub compared-below : (from : ℕ) (xs ys : Row) → KeysBelow words xs → KeysBelow words ys
+      → (OfEither xs ys j × (In j (remaining from xs ys) → ⊥)) ↔ (OfEither xs ys j × (j < from))
+  compared-below from xs ys bx by = (
+    λ p. (p .0, elim (decLe from j) [ yes h ↦ absurd (p .1 (yet-to-compare from xs ys bx by .1 (p .0, h))) | no h ↦ omega arith ]),
+    λ p. (p .0, λ h. omega (arith, p .1, yet-to-compare from xs ys bx by .0 h .1)),
+  )

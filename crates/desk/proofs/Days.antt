@@ -2,7 +2,6 @@
 -- cabinet's (`Led`); and what ends within a ceiling ends alike within that of document 01.
 use mathlib.Core.Bool.{Bool, true, false}
 use mathlib.Core.List.{List, [], _∷_}
-use mathlib.Core.Logic.{inl, inr}
 use mathlib.Core.Option.{Option, none, some}
 use mathlib.Core.Path.{_≡_, refl, sym, ap, subst, _∙_}
 use Prim.Native.Nat.{ℕ, _<_, _≤_}
@@ -18,7 +17,6 @@ use Rattle.cabinet.specs.Days.{Led, Assured}
 use Rattle.cabinet.specs.Days as Cabinet
 use Rattle.cabinet.proofs.Accounts.{open-ceiling, desk-ceiling, desk-charged, good-charged}
 use Rattle.cabinet.proofs.Days.{always, assured}
-use Rattle.meaning.specs.All.{Any}
 use Rattle.meaning.specs.Refusal.{Refusal, workTooShort}
 use Rattle.meaning.specs.Syntax.{Ast}
 use Rattle.meaning.specs.Schema.{Schema}
@@ -32,7 +30,8 @@ use Rattle.laws.proofs.Run.{more-visits, more-needed, within}
 use Rattle.desk.specs.declared.Desked.{Desked}
 use Rattle.desk.specs.At.{End, all, stopped, stopAt, first, RunAt, after, runAt, decideEnd, decideReadAt, decideAt, deskAccount}
 use Rattle.desk.specs.Contracts.{ChecksAt}
-use Rattle.desk.specs.Days.{Days, set-up, check-at, new-day, NeedsMore}
+use Rattle.desk.specs.Desks.{Stops}
+use Rattle.desk.specs.Days.{Days, set-up, check-at, new-day, ShortOf}
 
 low : (a : Account) → ceilingIn a ≤ maxVisits
 unfolding maxVisits
@@ -92,10 +91,6 @@ first-all : (t : Typed) (x : End) (ts : List Typed) → first t x ≡ all ts →
 first-all t (all us) ts e = let whole : t ∷ us ≡ ts = cc in (us, refl, whole)
 first-all t (stopped i) ts e = let z : _≡_ {A = ℕ} 0 1 = cc in absurd (omega arith)
 
-first-stopped : (t : Typed) (x : End) (i : Refusal) → first t x ≡ stopped i → x ≡ stopped i
-first-stopped t (all us) i e = let z : _≡_ {A = ℕ} 0 1 = cc in absurd (omega arith)
-first-stopped t (stopped j) i e = e
-
 answered-all : (text : Message → List ℕ) (x : End) (ls : List ℕ) → decideEnd text x ≡ answered ls → (ts : List Typed) × (x ≡ all ts)
 answered-all text (all ts) ls e = (ts, refl)
 answered-all text (stopped i) ls e = let z : _≡_ {A = ℕ} 0 1 = cc in absurd (omega arith)
@@ -115,16 +110,10 @@ module _ (schema : Schema) where
           ap (λ c. withChecked c (runAll schema qs)) (more-visits schema q (ceilingIn a) maxVisits t (low a) p) ∙ ap (withChecked (typed t)) (rest (chargedTo a (t .visits)) (y .0) (y .1))
           ∙ ap {B = Option (List Typed)} some (y .2)
 
-  -- One that was stopped needs more visits than its ceiling.
-  pub stopped-short : (qs : List Ast) (a : Account) (i : Refusal) → runAt schema qs a .end ≡ stopped i → Any (NeedsMore schema) qs
-  unfolding runAt
-  stopped-short [] a i e = let z : _≡_ {A = ℕ} 0 1 = cc in absurd (omega arith)
-  stopped-short (q ∷ qs) a i e = go (λ b. stopped-short qs b i) (check (ceilingIn a) schema q) refl e
-    where
-      go : ((b : Account) → runAt schema qs b .end ≡ stopped i → Any (NeedsMore schema) qs) → (x : Checked) → check (ceilingIn a) schema q ≡ x
-          → after a x (λ b. runAt schema qs b) .end ≡ stopped i → Any (NeedsMore schema) (q ∷ qs)
-      go rest exhausted p r = inl (record { ceiling = ceilingIn a; stopped = p; more = λ c t u. more-needed schema q (ceilingIn a) c t p u })
-      go rest (typed t) p r = inr (rest (chargedTo a (t .visits)) (first-stopped t (runAt schema qs (chargedTo a (t .visits)) .end) i r))
+  -- What is stopped at a desk (`refused-exactly` of Desks.antt) needs more visits than its ceiling.
+  pub stopped-short : {qs : List Ast} {a : Account} {i : Refusal} → Stops schema qs a i → ShortOf schema qs a
+  stopped-short (Stops.here {q} {qs} {a} e) = ShortOf.stopped e (λ c t u. more-needed schema q (ceilingIn a) c t e u)
+  stopped-short (Stops.later t e s) = ShortOf.ran t e (stopped-short s)
 
 -- An answer given at a desk is the answer that the full check gives.
 pub same-answer : (f : List ℕ) (words : ℕ) (a : Account) (ls : List ℕ) → decideAt f words a .decided ≡ answered ls → decide f words ≡ answered ls

@@ -1,10 +1,12 @@
 -- Days at the desks: the groups that whole calls lead to, and an answer at a desk beside the answer without one.
 use mathlib.Core.Bool.{false}
-use mathlib.Core.List.{List}
+use mathlib.Core.List.{List, _∷_}
 use mathlib.Core.Path.{_≡_}
 use Prim.Native.Nat.{ℕ, _<_}
 use Rattle.cabinet.specs.declared.Group.{Group}
 use Rattle.cabinet.specs.declared.Changed.{Changed}
+use Rattle.cabinet.specs.declared.Account.{Account}
+use Rattle.cabinet.specs.Accounts.{ceilingIn, chargedTo}
 use Rattle.cabinet.specs.Contracts.{Rests, SetsUp}
 use Rattle.meaning.specs.Syntax.{Ast}
 use Rattle.meaning.specs.Schema.{Schema}
@@ -18,8 +20,9 @@ pub data Days : Group → Type 0 where
   check-at : {g : Group} → Days g → (d : ℕ) (f w out w′ out′ : List ℕ) (r : Desked) → ChecksAt g d f w out w′ out′ r → Days (r .group)
   new-day : {g : Group} → Days g → (r : Changed) → Rests g r → Days (r .group)
 
--- A query that is stopped at a desk: its ceiling of that moment is too low, so wherever it ends it makes more visits.
-pub record NeedsMore (schema : Schema) (q : Ast) : Type 0 where
-  pub ceiling : ℕ
-  pub stopped : check ceiling schema q ≡ exhausted
-  pub more : (c : ℕ) (t : Typed) → check c schema q ≡ typed t → ceiling < t .visits
+-- The first query that passes its ceiling of that moment, those before it having been charged: wherever it ends, it makes more visits.
+pub data ShortOf (schema : Schema) : List Ast → Account → Type 0 where
+  stopped : {q : Ast} {qs : List Ast} {a : Account} → check (ceilingIn a) schema q ≡ exhausted
+      → ((c : ℕ) (t : Typed) → check c schema q ≡ typed t → ceilingIn a < t .visits) → ShortOf schema (q ∷ qs) a
+  ran : {q : Ast} {qs : List Ast} {a : Account} (t : Typed) → check (ceilingIn a) schema q ≡ typed t
+      → ShortOf schema qs (chargedTo a (t .visits)) → ShortOf schema (q ∷ qs) a

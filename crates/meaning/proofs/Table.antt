@@ -8,7 +8,7 @@ use Rattle.unification.specs.Bindings as Bindings
 use Rattle.unification.specs.Unify as Unify
 use Rattle.meaning.specs.Frame.{wide}
 use Rattle.meaning.specs.File.{typesOf}
-use Rattle.meaning.specs.Table.{text, examples, ownExamples, messageExamples, forms, refusals, limitsOf, holds, Rows, end, _then_, wholes, ends}
+use Rattle.meaning.specs.Table.{text, examples, ownExamples, messageExamples, forms, refusals, limitsOf, holds, Rows, end, _then_}
 
 -- Document 01's list.
 pub table : Rows holds examples
@@ -96,6 +96,10 @@ form-examples =
     refl then
     -- 06 after 06
     refl then
+    -- 01 after 06
+    refl then
+    -- 04 after 06
+    refl then
     -- 03 after 06
     refl then
     -- 02 after 06
@@ -126,13 +130,9 @@ unfolding refusals holds ℕ-discrete Bindings.fresh Bindings.freshId Bindings.a
 refusal-examples =
     -- 1
     refl then
-    -- 2
-    refl then
     -- 3
     refl then
     -- 4
-    refl then
-    -- 5
     refl then
     -- 6
     refl then
@@ -152,13 +152,11 @@ refusal-examples =
     refl then
     -- 9 before 10
     refl then
-    -- 1 before 2
-    refl then
     -- no query
     refl then
     end
 
--- The last that passes and the first that does not.
+-- Forms that document 01 leaves open.
 pub limit-examples : Rows holds limitsOf
 unfolding limitsOf holds ℕ-discrete Bindings.fresh Bindings.freshId Bindings.annotate Bindings.snapshot Bindings.rollback Bindings.zonk Unify.unify Unify.orderable
 limit-examples =
@@ -167,10 +165,6 @@ limit-examples =
     -- an odd one
     refl then
     -- an upper-case digit
-    refl then
-    -- a name of 511 bytes
-    refl then
-    -- of 512
     refl then
     -- kind 00
     refl then
@@ -194,37 +188,13 @@ limit-examples =
     refl then
     refl then
     refl then
-    -- 257 types
+    -- d800
     refl then
-    -- 129 predicates
+    -- dfff
     refl then
-    end
-
--- The result and both slices.
-pub whole-outcomes : Rows ends wholes
-unfolding wholes ends ℕ-discrete Bindings.fresh Bindings.freshId Bindings.annotate Bindings.snapshot Bindings.rollback Bindings.zonk Unify.unify Unify.orderable
-whole-outcomes =
-    -- M in 16 bytes
+    -- two halves
     refl then
-    -- in 9
-    refl then
-    -- in 8
-    refl then
-    -- in more words
-    refl then
-    -- in 16,383 words
-    refl then
-    -- in no slices
-    refl then
-    -- an odd line
-    refl then
-    -- no line
-    refl then
-    -- two queries
-    refl then
-    -- a message last that just fits
-    refl then
-    -- one byte less
+    -- the values beside them
     refl then
     end
 

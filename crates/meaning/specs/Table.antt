@@ -1,7 +1,7 @@
--- Evidence for the definitions, computed in proofs/Table.antt. Document 01's examples: M, the whole case, the list of "Contract and case", and
--- the table of refusals but 11, whose row takes more visits than can be computed; our own; each message; forms of several queries. Each row
--- is a file, the lengths of the two slices, what the program prints and, of an accepted file, its visits. Then whole outcomes: the result and
--- both slices.
+-- Evidence for the definitions, computed in proofs/Table.antt and, what takes long, in crate examples. Document 01's examples: M, the whole
+-- case, the list of "Contract and case", and the table of refusals but 11, whose row takes more visits than can be computed; our own; each
+-- message; forms of several queries. Each row is a file, the lengths of the two slices, what the program prints and, of an accepted file, its
+-- visits. Then whole outcomes: the result and both slices.
 use mathlib.Core.Bool.{Bool, true}
 use mathlib.Core.List.{List, [], _∷_, _++_}
 use mathlib.Core.Option.{Option, none, some}
@@ -974,8 +974,10 @@ forms =
           []);
       visits = 0;
     } ∷
-    -- 06 after 06, 03 and 02 after 06, and a 05 last
+    -- 06 after 06, 01 to 04 after 06, and a 05 last
     turnedDown (text ("01020020" ∷ "05000000000000000300" ∷ "060000" ∷ "060000" ∷ [])) 16384 65536 "0f04" ∷
+    turnedDown (text ("01020020" ∷ "05000000000000000300" ∷ "060000" ∷ "01020020" ∷ [])) 16384 65536 "0f04" ∷
+    turnedDown (text ("01020020" ∷ "0278" ∷ "0300" ∷ "05000000000000000300" ∷ "060000" ∷ "040000000000" ∷ [])) 16384 65536 "0f04" ∷
     turnedDown (text ("01020020" ∷ "05000000000000000300" ∷ "060000" ∷ "0300" ∷ [])) 16384 65536 "0f04" ∷
     turnedDown (text ("01020020" ∷ "05000000000000000300" ∷ "060000" ∷ "0278" ∷ [])) 16384 65536 "0f04" ∷
     turnedDown (text ("01020020" ∷ "05000000000000000300" ∷ "060000" ∷ "05000000000000000300" ∷ [])) 16384 65536 "0f04" ∷
@@ -993,20 +995,12 @@ forms =
     turnedDown (text ("01020020" ∷ []) ++ (again 2 ++ text ("05000000000000000300" ∷ "060001" ∷ []))) 16384 65536 "0f09" ∷
     []
 
--- So many names, each another text of two characters.
-unfoldable pub nameLines : ℕ → List ℕ
-unfolding hexLine
-nameLines zero = []
-nameLines (suc n) = hexLine (0x02 ∷ (0x30 + n / 16) ∷ (0x30 + n % 16) ∷ []) ++ nameLines n
-
 unfoldable pub refusals : List Example
-unfolding turnedDown text M ascii nameLines
+unfolding turnedDown text M ascii
 refusals =
     turnedDown (text M) 16383 65536 "0f01" ∷
-    turnedDown (replicate 65537 0) 16384 65536 "0f02" ∷
     turnedDown (ascii "0102002") 16384 65536 "0f03" ∷
     turnedDown [] 16384 65536 "0f04" ∷
-    turnedDown (text ("01020020" ∷ []) ++ nameLines 257) 16384 65536 "0f05" ∷
     turnedDown (text ("0102" ∷ [])) 16384 65536 "0f06" ∷
     turnedDown (text ("01020020" ∷ "02ff" ∷ [])) 16384 65536 "0f07" ∷
     turnedDown (text ("01020020" ∷ "0278" ∷ "0278" ∷ [])) 16384 65536 "0f08" ∷
@@ -1018,28 +1012,18 @@ refusals =
     turnedDown (text ("01020020" ∷ "030400010000" ∷ "0304" ∷ [])) 16384 65536 "0f09" ∷
     turnedDown (text ("01020020" ∷ "03040001000000" ∷ [])) 16384 65536 "0f06" ∷
     turnedDown (text ("01020020" ∷ "0278" ∷ "03040000000000000000" ∷ [])) 16384 65536 "0f09" ∷
-    -- 1 before 2
-    turnedDown (replicate 65537 0) 16383 65536 "0f01" ∷
     -- lines that pass, and no query
     turnedDown (text ("01020020" ∷ [])) 16384 65536 "0f04" ∷
     []
 
--- A line so many times.
-unfoldable pub times : ℕ → String → List ℕ
-unfolding text
-times zero l = []
-times (suc n) l = text (l ∷ []) ++ times n l
-
--- Limits and forms that document 01's examples leave open: the last that passes and the first that does not.
+-- Forms that document 01's examples leave open.
 unfoldable pub limitsOf : List Example
-unfolding turnedDown text ascii times nameLines hexLine again
+unfolding turnedDown text again
 limitsOf =
-    -- 3: an empty line, an odd one, an upper-case digit; a name of 511 bytes and one of 512
+    -- 3: an empty line, an odd one, an upper-case digit
     turnedDown (text ("01020020" ∷ "" ∷ [])) 16384 65536 "0f03" ∷
     turnedDown (text ("0102002" ∷ [])) 16384 65536 "0f03" ∷
     turnedDown (text ("0102002A" ∷ [])) 16384 65536 "0f03" ∷
-    record { file = text ("01020020" ∷ []) ++ hexLine (0x02 ∷ replicate 511 0x61) ++ again 1; words = 16384; bytes = 65536; prints = text ("07000000" ∷ "0900000000" ∷ []); visits = 0 } ∷
-    turnedDown (text ("01020020" ∷ []) ++ hexLine (0x02 ∷ replicate 512 0x61)) 16384 65536 "0f03" ∷
     -- 4: kinds 00 and 07, and the limits twice
     turnedDown (text ("01020020" ∷ "00" ∷ [])) 16384 65536 "0f04" ∷
     turnedDown (text ("01020020" ∷ "07" ∷ [])) 16384 65536 "0f04" ∷
@@ -1056,7 +1040,37 @@ limitsOf =
     turnedDown (text ("01020020" ∷ "05000000000000000104" ∷ "0500000002000000030d00000000" ∷ [])) 16384 65536 "0f06" ∷
     turnedDown (text ("01020020" ∷ "05000000000000000104" ∷ "0500000002000000030d0000000000" ∷ [])) 16384 65536 "0f06" ∷
     turnedDown (text ("01020020" ∷ "05000000000000000104" ∷ "0500000002000000030d00000000000000" ∷ [])) 16384 65536 "0f06" ∷
-    -- 5: the 257th type and the 129th predicate
+    -- 7, card 2: values d800 and dfff, the two halves of one picture; the values beside them pass
+    turnedDown (text ("01020020" ∷ "02eda080" ∷ [])) 16384 65536 "0f07" ∷
+    turnedDown (text ("01020020" ∷ "02edbfbf" ∷ [])) 16384 65536 "0f07" ∷
+    turnedDown (text ("01020020" ∷ "02eda0bdedb880" ∷ [])) 16384 65536 "0f07" ∷
+    record { file = text ("01020020" ∷ "02ed9fbf" ∷ "02ee8080" ∷ []) ++ again 1; words = 16384; bytes = 65536; prints = text ("07000000" ∷ "0900000000" ∷ []); visits = 0 } ∷
+    []
+
+-- So many names, each another text of two characters.
+unfoldable pub nameLines : ℕ → List ℕ
+unfolding hexLine
+nameLines zero = []
+nameLines (suc n) = hexLine (0x02 ∷ (0x30 + n / 16) ∷ (0x30 + n % 16) ∷ []) ++ nameLines n
+
+-- A line so many times.
+unfoldable pub times : ℕ → String → List ℕ
+unfolding text
+times zero l = []
+times (suc n) l = text (l ∷ []) ++ times n l
+
+-- The last that passes and the first that does not: computed in crate examples.
+unfoldable pub atLimits : List Example
+unfolding turnedDown text times nameLines hexLine again
+atLimits =
+    -- 2, and 1 before it
+    turnedDown (replicate 65537 0) 16384 65536 "0f02" ∷
+    turnedDown (replicate 65537 0) 16383 65536 "0f01" ∷
+    -- 3: a name of 511 bytes and one of 512
+    record { file = text ("01020020" ∷ []) ++ hexLine (0x02 ∷ replicate 511 0x61) ++ again 1; words = 16384; bytes = 65536; prints = text ("07000000" ∷ "0900000000" ∷ []); visits = 0 } ∷
+    turnedDown (text ("01020020" ∷ []) ++ hexLine (0x02 ∷ replicate 512 0x61)) 16384 65536 "0f03" ∷
+    -- 5: the 257th name, the 257th type and the 129th predicate
+    turnedDown (text ("01020020" ∷ []) ++ nameLines 257) 16384 65536 "0f05" ∷
     turnedDown (text ("01020020" ∷ "0278" ∷ []) ++ times 257 "0300") 16384 65536 "0f05" ∷
     turnedDown (text ("01020020" ∷ "0278" ∷ "0300" ∷ []) ++ times 129 "040000000000") 16384 65536 "0f05" ∷
     []
@@ -1084,7 +1098,7 @@ pub data Rows {A : Type 0} (test : A → Bool) : List A → Type 0 where
   end : Rows test []
   _then_ : {a : A} {l : List A} → test a ≡ true → Rows test l → Rows test (a ∷ l)
 
--- ---- Whole outcomes
+-- ---- Whole outcomes (computed in crate examples)
 
 -- A file with the lengths of the two slices, the refusal's number or 0, and the answer slice at exit. The work slice is zero in each.
 pub record Whole : Type 0 where

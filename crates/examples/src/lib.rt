@@ -1,0 +1,1 @@
+// Evidence for the definitions of crate meaning that takes long to compute. No code stands here.
