@@ -1,5 +1,5 @@
 -- `unify_union`: the discriminants from `from` on are what is left to do, and the next of them is the least that either side
--- declares. One discriminant is `unify_alternative`, whose payload's failure becomes a difference of the unions.
+-- declares. A payload's failure becomes a difference of the unions.
 use mathlib.Core.Bool.{Bool, true, false}
 use mathlib.Core.List.{List, [], _∷_}
 use mathlib.Core.Logic.{_⊎_, inl, inr, ⊎-elim}
@@ -82,10 +82,6 @@ module _ {w : List ℕ} {c e k : ℕ} {x y : Found} (X : FindsKey w Alternatives
   sides : (T : Rows) (st : State) (d : ℕ) → Holds w T st → IsCell w Alternatives c × IsCell w Alternatives e → {x′ y′ : Found} → x ≡ x′ → y ≡ y′
       → unifyAlternative (unifier d) st (differs T c e) k (findKey k (T c)) (findKey k (T e)) ≡ unifyAlternative (unifier d) st (differs T c e) k (foundPart T x′) (foundPart T y′)
   sides T st d H i p q = rw (← X .is T (H .cells) (i .0), ← Y .is T (H .cells) (i .1), p, q)
-
-  pub in-neither : {left : ℕ} → x ≡ Nothing → y ≡ Nothing → UnifiesAlternative w c e k left w (Good left)
-  unfolding unifyAlternative
-  in-neither p q = record { step = go-end (go-start {K = λ d T st. Unit {0}} (λ T st d H i. sides T st d H i p q) (λ T st d. tt)) (λ T st H i K s S d. refl) }
 
   pub in-expected : (o : Part) {left : ℕ} {r : Unified} → x ≡ Nothing → y ≡ At o → r ≡ Bad (UnionMismatch (Absent (o .label) k) (Union e) (Union c)) left → UnifiesAlternative w c e k left w r
   unfolding unifyAlternative
