@@ -2223,9 +2223,11 @@ unify-union-loop-again t c = let above = rw (c .before .before .before .before .
     let past′ = passed-next (c .before .before .before .before .before .before .before .before .before .before .before .before .before .before .before .before .before .before .before .before .before .before .before .before .before .before .before .before .loop .inv .1 .1) (c .before .before .before .before .before .before .before .before .before .before .before .other2 .given .0 .0) _ above (sym (ap (λ (x : Part). x .key) (c .before .before .before .before .before .before .before .before .alternative3 .ensures)) ∙ Y .has) (c .after2 .ensures) in
     ⊎-elim
     (λ z. let same = again-true _ _ _ _ _ _ (sym (c .before .before .before .again .ensures) ∙ z .0 .taken) in
-        ((union-again (c .before .before .before .before .before .before .before .before .before .before .before .before .before .before .before .before .before .before .before .before .before .before .before .before .before .before .before .before .loop .inv .0 .0) (c .before .before .before .before .before .before .before .before .before .before .before .before .before .before .before .before .before .before .before .before .before .before .before .before .before .before .before .loop-test .taken) (c .before .before .before .before .before .before .before .before .before .before .before .before .before .before .before .before .before .before .before .before .before .before .before .before .before .next-discriminant .ensures) (c .before .before .before .before .before .before .before .before .before .before .before .before .before .before .before .before .before .before .before .before .before .before .before .next .given .1) X Y (c .before .before .before .before .before .if1 .left) (same .0) (same .1) (same .2) (z .1 .left) (z .2) (z .3) (z .4) (z .5) (z .6) (z .7), omega arith), (rw (z .2) past, rw (z .2) past′)))
-    (λ z. ((union-next (c .before .before .before .before .before .before .before .before .before .before .before .before .before .before .before .before .before .before .before .before .before .before .before .before .before .before .before .before .loop .inv .0 .0) (c .before .before .before .before .before .before .before .before .before .before .before .before .before .before .before .before .before .before .before .before .before .before .before .before .before .before .before .loop-test .taken) (c .before .before .before .before .before .before .before .before .before .before .before .before .before .before .before .before .before .before .before .before .before .before .before .before .before .next-discriminant .ensures) (c .before .before .before .before .before .before .before .before .before .before .before .before .before .before .before .before .before .before .before .before .before .before .before .next .given .1) X Y (c .before .before .before .before .before .if1 .left) (z .4 .ensures) (z .8 .given .0 .0) (z .8 .given .1) (z .10) (z .11) (z .12) (z .13) (z .14) (z .15 ∙ z .2 .ensures), omega arith),
-        (rw (z .10) (passed-keeps (z .4 .ensures .step .keeps) past), rw (z .10) (passed-keeps (z .4 .ensures .step .keeps) past′))))
+    ((union-again (c .before .before .before .before .before .before .before .before .before .before .before .before .before .before .before .before .before .before .before .before .before .before .before .before .before .before .before .before .loop .inv .0 .0) (c .before .before .before .before .before .before .before .before .before .before .before .before .before .before .before .before .before .before .before .before .before .before .before .before .before .before .before .loop-test .taken) (c .before .before .before .before .before .before .before .before .before .before .before .before .before .before .before .before .before .before .before .before .before .before .before .before .before .next-discriminant .ensures) (c .before .before .before .before .before .before .before .before .before .before .before .before .before .before .before .before .before .before .before .before .before .before .before .next .given .1) X Y (c .before .before .before .before .before .if1 .left) (same .0) (same .1) (same .2) (z .1 .left) (z .2) (z .3) (z .4) (z .5) (z .6) (z .7), omega arith), (rw (z .2) past, rw (z .2) past′)))
+    (λ z. (
+      (union-next (c .before .before .before .before .before .before .before .before .before .before .before .before .before .before .before .before .before .before .before .before .before .before .before .before .before .before .before .before .loop .inv .0 .0) (c .before .before .before .before .before .before .before .before .before .before .before .before .before .before .before .before .before .before .before .before .before .before .before .before .before .before .before .loop-test .taken) (c .before .before .before .before .before .before .before .before .before .before .before .before .before .before .before .before .before .before .before .before .before .before .before .before .before .next-discriminant .ensures) (c .before .before .before .before .before .before .before .before .before .before .before .before .before .before .before .before .before .before .before .before .before .before .before .next .given .1) X Y (c .before .before .before .before .before .if1 .left) (z .4 .ensures) (z .8 .given .0 .0) (z .8 .given .1) (z .10) (z .11) (z .12) (z .13) (z .14) (z .15 ∙ z .2 .ensures), omega arith),
+      (rw (z .10) (passed-keeps (z .4 .ensures .step .keeps) past), rw (z .10) (passed-keeps (z .4 .ensures .step .keeps) past′)),
+    ))
     (c .before .before .if2 .came)
 
 unify-union-same-length-8 : (t : ℕ) → unify-union-lts.Need-same-length-8 (

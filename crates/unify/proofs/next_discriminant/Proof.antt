@@ -22,12 +22,12 @@ next-discriminant-spec =
     (λ c. record {
       is = λ T C i j. sym (ap (leastFrom _ (T _)) (sym (c .before .before .before .before .least-from .ensures .is T C i) ∙ c .before .before .first .given .1) ∙ least-low _ _ (omega (arith, c .if1 .taken)) (T _));
       small = λ T C i j. (c .before .before .before .before .least-from .ensures .small T C i, all-fit _ (λ x. omega (arith, c .before .before .before .before .before .shared-slice-known .given x)) T _ C j);
-      above = rw (c .before .before .first .given .1) at (c .before .before .before .before .least-from .ensures .above tt)
+      above = rw (c .before .before .first .given .1) at (c .before .before .before .before .least-from .ensures .above tt);
     })
     (λ c. search needs)
     (λ c κs. c .before .before .before .pre .1)
     (λ c. let same = ⊎-elim (λ z. z .4 ∙ sym (z .1 .given .1)) (λ z. z .2) (c .before .match .came) in record {
       is = λ T C i j. c .least-from2 .ensures .is T C j ∙ ap (leastFrom _ (T _)) (same ∙ c .before .before .least-from .ensures .is T C i);
       small = λ T C i j. (c .before .before .least-from .ensures .small T C i, c .least-from2 .ensures .small T C j);
-      above = c .least-from2 .ensures .above (rw same (c .before .before .least-from .ensures .above tt))
+      above = c .least-from2 .ensures .above (rw same (c .before .before .least-from .ensures .above tt));
     }))
