@@ -30,6 +30,9 @@ keeps-refl = record { below = λ i h. refl; above = λ i h. refl; long = refl }
 pub keeps-trans : {a e : ℕ} {u v w : List ℕ} → Keeps a e u v → Keeps a e v w → Keeps a e u w
 keeps-trans p q = record { below = λ i h. q .below i h ∙ p .below i h; above = λ i h. q .above i h ∙ p .above i h; long = q .long ∙ p .long }
 
+pub keeps-sym : {a e : ℕ} {w w′ : List ℕ} → Keeps a e w w′ → Keeps a e w′ w
+keeps-sym k = record { below = λ i h. sym (k .below i h); above = λ i h. sym (k .above i h); long = sym (k .long) }
+
 pub keeps-wider : {a e b f : ℕ} {w w′ : List ℕ} → b ≤ a → e ≤ f → Keeps a e w w′ → Keeps b f w w′
 keeps-wider lo hi k = record { below = λ i h. k .below i (omega arith); above = λ i h. k .above i (omega arith); long = k .long }
 

@@ -138,7 +138,7 @@ module _ {w₀ : List ℕ} {c e n left : ℕ} {w : List ℕ} {j left′ : ℕ} {
             going = go-next (g .going) (λ d T st. fieldsFrom w₀ c e n (j + 1) d T st) step
                 (λ T st H k K s S d. oks (H .cells) S (k .0) (k .1) (k .2) K)
                 (λ T st H k K s S d. turn T d (H .cells) S (k .0) (k .1) (k .2) K) l x
-                (λ T s s′ d H v i H′ v′. settled (p .ty) (o .ty) x₅ x₄ T s s′ d H v i v′);
+                (λ T s s′ d H k v i v′. settled (p .ty) (o .ty) x₅ x₄ T s s′ d H v i v′);
           })
 
           pub fields-stop : NotGood r → UnifiesFields w₀ c e n left w′ r

@@ -134,7 +134,7 @@ module _ {P : Rows → State → Type 0} {f : ℕ → Rows → State → Unify.U
   module _ (g′ : ℕ → Rows → State → Unify.Unified) {Q : Rows → State → Type 0} {u : ℕ → Rows → State → Unify.Unified} {w′ : List ℕ} {r : Unified} (S : Step Q u w rest w′ r)
       (has : Here (λ T s d. Q T s)) (turn : Here (λ T s d. g d T s ≡ andThen (u d T s) (λ s′. g′ d T s′))) where
     pub go-next : (l : ℕ) → r ≡ Good l → {K′ : ℕ → Rows → State → Type 0}
-        → ((T : Rows) (s s′ : State) (d : ℕ) → Holds w T s → s .left ≡ rest → u d T s ≡ Unify.Ok s′ → Holds w′ T s′ → s′ .left ≡ l → K′ d T s′) → Going P f w₀ left w′ l g′ K′
+        → ((T : Rows) (s s′ : State) (d : ℕ) → Holds w T s → Q T s → s .left ≡ rest → u d T s ≡ Unify.Ok s′ → s′ .left ≡ l → K′ d T s′) → Going P f w₀ left w′ l g′ K′
     unfolding andThen
     go-next l e k = record {
       fewer = omega (arith, G .fewer, rw e at (S .fewer));
@@ -148,7 +148,7 @@ module _ {P : Rows → State → Type 0} {f : ℕ → Rows → State → Unify.U
             holds = D .3 .holds;
             visits = D .2;
             same = R .same ∙ turn T st H p (G .keeps) (R .state) (R .holds) d ∙ ap (λ (o : Unify.Unified). andThen o (λ s′. g′ d T s′)) (D .1);
-            known = k T (R .state) (D .0) d (R .holds) (R .visits) (D .1) (D .3 .holds) (D .2);
+            known = k T (R .state) (D .0) d (R .holds) (has T st H p (G .keeps) (R .state) (R .holds) d) (R .visits) (D .1) (D .2);
           };
     }
 

@@ -119,7 +119,7 @@ mapErr-grows e st (Ok b) h = h
 mapErr-grows e st (Err x b) h = h
 mapErr-grows e st (Spent b) h = h
 
-mapErr-ok : (e : TyError) (res : Unified) (b : State) → mapErr e res ≡ Ok b → res ≡ Ok b
+pub mapErr-ok : (e : TyError) (res : Unified) (b : State) → mapErr e res ≡ Ok b → res ≡ Ok b
 unfolding mapErr
 mapErr-ok e (Ok c) b q = q
 mapErr-ok e (Err x c) b q = clash (cc q)
