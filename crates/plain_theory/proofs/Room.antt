@@ -1,5 +1,5 @@
--- Only a binding can need more words than there were: a pair that is dropped or taken apart never does. Each part takes two
--- words of its own, and the heads of its two cells are gone; a key that was sought is not sought again, so no cell of the
+-- Only a binding can need more words than there were: a pair that is dropped or taken apart never does. The heads of
+-- its two cells are gone; a key that was sought is not sought again, so no cell of the
 -- second row is counted twice.
 use mathlib.Core.Bool.{Bool, true, false}
 use mathlib.Core.List.{List, [], _∷_, _++_}
@@ -16,7 +16,7 @@ use Rattle.unification.specs.Calls.{Lacks, Distinct}
 use Rattle.unification.specs.Robinson.{Equation}
 use Rattle.unification.proofs.Tests.{eqb-true}
 use Rattle.unification.proofs.Rows.{find-tail, find-under}
-use Rattle.plain_theory.specs.Plain.{Binding, in?, In, Parts, parts, unlike, with-part, part, matched, rows, Step, drops, fails, splits, binds, bind, split, nodes, step, headWords, words, rowWords, pairWords, sum, needs}
+use Rattle.plain_theory.specs.Plain.{Binding, in?, In, Parts, parts, unlike, with-part, Named, named?, part, matched, rows, Step, drops, fails, splits, binds, bind, split, nodes, step, headWords, words, rowWords, pairWords, sum, needs}
 use Rattle.plain_theory.specs.Claims.{Clean}
 
 -- ---- A row without the cell that was found
@@ -52,10 +52,10 @@ words-remove kind k (cell m l t s) = go (eqb k m) refl (findKey k s) refl (words
         let kept : rowWords (remove k (cell m l t s)) kind ≡ headWords kind + words t + rowWords (remove k s) kind = rw (q, remove) in
         rw (q, findKey, e) (omega (arith, h, kept))
 
-matched-remove : (k : ℕ) (r s : Row) → Lacks k r → matched r (remove k s) ≡ matched r s
+matched-remove : (kind : Kind) (k : ℕ) (r s : Row) → Lacks k r → matched kind r (remove k s) ≡ matched kind r s
 unfolding matched
-matched-remove k ε s h = refl
-matched-remove k (cell m l t r) s h = rw (find-remove m k s (λ e. h .0 (sym e)), matched-remove k r s (h .1))
+matched-remove kind k ε s h = refl
+matched-remove kind k (cell m l t r) s h = rw (find-remove m k s (λ e. h .0 (sym e)), matched-remove kind k r s (h .1))
 
 -- ---- Parts
 
@@ -68,27 +68,27 @@ abbrev PartsRoom : Kind → Row → Row → Parts → Type 0
 PartsRoom kind r s (parts qs) = sum pairWords qs ≤ 2 * (rowWords r kind + rowWords s kind)
 PartsRoom kind r s unlike = Unit {0}
 
-part-room : (kind : Kind) (m l : ℕ) (t : Ty) (r s : Row) (o : Option (ℕ × Ty)) (ps : Parts) → RemoveWords kind m s o → PartsRoom kind r (remove m s) ps → PartsRoom kind (cell m l t r) s (part l t o ps)
+part-room : (kind : Kind) (m l : ℕ) (t : Ty) (r s : Row) (o : Option (ℕ × Ty)) (ps : Parts) → RemoveWords kind m s o → PartsRoom kind r (remove m s) ps → PartsRoom kind (cell m l t r) s (part kind l t o ps)
 unfolding part with-part sum pairWords rowWords
 part-room kind m l t r s none ps e h = tt
-part-room kind m l t r s (some u) ps e h = go (ℕ-discrete l (u .0)) refl ps h
+part-room kind m l t r s (some u) ps e h = go (named? kind l (u .0)) refl ps h
   where
-    go : (d : Dec (l ≡ u .0)) → ℕ-discrete l (u .0) ≡ d → (ps : Parts) → PartsRoom kind r (remove m s) ps → PartsRoom kind (cell m l t r) s (part l t (some u) ps)
+    go : (d : Dec (Named kind l (u .0))) → named? kind l (u .0) ≡ d → (ps : Parts) → PartsRoom kind r (remove m s) ps → PartsRoom kind (cell m l t r) s (part kind l t (some u) ps)
     go (yes i) q (parts qs) h = rw (q, part) (omega (arith, e, h, head-some kind))
     go (yes i) q unlike h = rw (q, part) tt
     go (no n) q ps h = rw (q, part) tt
 
-matched-room : (kind : Kind) (r s : Row) → Distinct r → PartsRoom kind r s (matched r s)
+matched-room : (kind : Kind) (r s : Row) → Distinct r → PartsRoom kind r s (matched kind r s)
 unfolding matched sum
 matched-room kind ε s d = omega arith
 matched-room kind (cell m l t r) s d =
-    part-room kind m l t r s (findKey m s) (matched r s) (words-remove kind m s) (rw (matched-remove m r s (d .0)) at (matched-room kind r (remove m s) (d .1)))
+    part-room kind m l t r s (findKey m s) (matched kind r s) (words-remove kind m s) (rw (matched-remove kind m r s (d .0)) at (matched-room kind r (remove m s) (d .1)))
 
-rows-room : (kind : Kind) (r s : Row) → Distinct r → PartsRoom kind r s (rows r s)
+rows-room : (kind : Kind) (r s : Row) → Distinct r → PartsRoom kind r s (rows kind r s)
 unfolding rows
 rows-room kind r s d = go (ℕ-discrete (rowLen r) (rowLen s)) refl
   where
-    go : (c : Dec (rowLen r ≡ rowLen s)) → ℕ-discrete (rowLen r) (rowLen s) ≡ c → PartsRoom kind r s (rows r s)
+    go : (c : Dec (rowLen r ≡ rowLen s)) → ℕ-discrete (rowLen r) (rowLen s) ≡ c → PartsRoom kind r s (rows kind r s)
     go (yes p) q = rw (q, rows) (matched-room kind r s d)
     go (no n) q = rw (q, rows) tt
 
@@ -134,8 +134,8 @@ step-room (leaf p) (leaf q) c = go (Leaf-discrete ℕ-discrete p q) refl
 step-room (leaf p) (node k r) c = tt
 step-room (leaf p) Error c = tt
 step-room (node k r) (leaf q) c = tt
-step-room (node Record r) (node Record s) c = split-room Record r s (rows r s) (rows-room Record r s (c .0))
-step-room (node Union r) (node Union s) c = split-room Union r s (rows r s) (rows-room Union r s (c .0))
+step-room (node Record r) (node Record s) c = split-room Record r s (rows Record r s) (rows-room Record r s (c .0))
+step-room (node Union r) (node Union s) c = split-room Union r s (rows Union r s) (rows-room Union r s (c .0))
 step-room (node Record r) (node Union s) c = tt
 step-room (node Union r) (node Record s) c = tt
 step-room (node k r) Error c = tt

@@ -105,9 +105,9 @@ mutual
   clean-declared (Var x) h = absurd h
   clean-declared Error h = absurd h
 
-  cleanRow-declared : (k : Kind) (r : Row) → DeclaredRow k r → CleanRow r
+  cleanRow-declared : (k : Kind) (r : Row) → DeclaredRow k r → CleanRow k r
   cleanRow-declared k ε h = tt
-  cleanRow-declared k (cell m l t r) h = (clean-declared t (h .1), cleanRow-declared k r (h .2))
+  cleanRow-declared k (cell m l t r) h = (h .0, clean-declared t (h .1), cleanRow-declared k r (h .2))
 
 mutual
   unfolding Admitted
@@ -119,9 +119,9 @@ mutual
   clean-side n s (Var x) i g = tt
   clean-side n s Error i g = tt
 
-  cleanRow-side : (n : ℕ) (s : Subst) (r : Row) → SideRow n r → ((u : Ty) → ReachesRow s r u → Allowed u) → CleanRow r
+  cleanRow-side : (n : ℕ) (s : Subst) (r : Row) → SideRow n r → ((u : Ty) → ReachesRow s r u → Allowed u) → CleanRow Record r
   cleanRow-side n s ε i g = tt
-  cleanRow-side n s (cell k l t r) i g = (clean-side n s t (i .1) (λ u h. g u (first h)), cleanRow-side n s r (i .2) (λ u h. g u (later h)))
+  cleanRow-side n s (cell k l t r) i g = (i .0, clean-side n s t (i .1) (λ u h. g u (first h)), cleanRow-side n s r (i .2) (λ u h. g u (later h)))
 
 mutual
   pub in-reaches : (s : Subst) (y : ℕ) (t : Ty) → In y t → Reaches s t (Var y)

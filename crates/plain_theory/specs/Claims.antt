@@ -3,11 +3,11 @@ use mathlib.Core.List.{List, [], _∷_}
 use mathlib.Core.Logic.{_↔_, _⊎_}
 use mathlib.Core.Path.{_≡_}
 use Prim.Native.Nat.{ℕ, _<_}
-use Rattle.unification.specs.Ty.{Ty, leaf, node, Var, Error, Row, ε, cell, app}
+use Rattle.unification.specs.Ty.{Kind, Ty, leaf, node, Var, Error, Row, ε, cell, app}
 use Rattle.unification.specs.Order.{Same}
 use Rattle.unification.specs.Bindings.{State}
 use Rattle.unification.specs.Unify.{Unified, Ok, Err, Spent, unify}
-use Rattle.unification.specs.Calls.{Distinct, Admitted, Respects}
+use Rattle.unification.specs.Calls.{Distinct, Labelled, Admitted, Respects}
 use Rattle.unification.specs.Robinson.{Equation, Unifies}
 use Rattle.plain_theory.specs.Plain.{Binding, Stage, In, needs, Along, start}
 use Rattle.plain_theory.specs.Falls.{InPairs}
@@ -20,17 +20,17 @@ Respected σ (b ∷ bs) = Same (σ (b .unknown)) (app σ (b .to)) × Respected �
 abbrev pub Holds : (ℕ → Ty) → Stage → Type 0
 Holds σ g = Unifies σ (g .pairs) × Respected σ (g .bindings)
 
--- No row in it has a key twice.
+-- No row in it has a key twice, and a record's cells have no label.
 abbrev mutual
   pub Clean : Ty → Type 0
   Clean (leaf p) = Unit {0}
-  Clean (node k r) = Distinct r × CleanRow r
+  Clean (node k r) = Distinct r × CleanRow k r
   Clean (Var x) = Unit {0}
   Clean Error = Unit {0}
 
-  pub CleanRow : Row → Type 0
-  CleanRow ε = Unit {0}
-  CleanRow (cell k l t r) = Clean t × CleanRow r
+  pub CleanRow : Kind → Row → Type 0
+  CleanRow kind ε = Unit {0}
+  CleanRow kind (cell k l t r) = Labelled kind l × Clean t × CleanRow kind r
 
 abbrev pub CleanPairs : List Equation → Type 0
 CleanPairs [] = Unit {0}
