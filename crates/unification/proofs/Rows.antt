@@ -24,7 +24,7 @@ find-head k l t r = go (eqb k k) refl
     go true q = rw (q, findKey)
     go false q = absurd (eqb-false k k q refl)
 
-find-tail : (k m l : ℕ) (t : Ty) (r : Row) → k ≢ m → findKey k (cell m l t r) ≡ findKey k r
+pub find-tail : (k m l : ℕ) (t : Ty) (r : Row) → k ≢ m → findKey k (cell m l t r) ≡ findKey k r
 unfolding findKey
 find-tail k m l t r n = go (eqb k m) refl
   where
@@ -41,7 +41,7 @@ find-lacks k ε h = find-nil k
 find-lacks k (cell m l t r) h = find-tail k m l t r (h .0) ∙ find-lacks k r (h .1)
 
 -- Under a cell more, two look-ups that agree still do.
-find-under : (j m n : ℕ) (u : Ty) (r s : Row) → findKey j s ≡ findKey j r → findKey j (cell m n u s) ≡ findKey j (cell m n u r)
+pub find-under : (j m n : ℕ) (u : Ty) (r s : Row) → findKey j s ≡ findKey j r → findKey j (cell m n u s) ≡ findKey j (cell m n u r)
 find-under j m n u r s h = by-cases (ℕ-discrete j m)
     (λ e. rw e (find-head m n u s ∙ sym (find-head m n u r)))
     (λ e. find-tail j m n u s e ∙ h ∙ sym (find-tail j m n u r e))
