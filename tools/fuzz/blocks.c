@@ -83,8 +83,15 @@ void print_blocks(void) {
         size_t end = i, some = 0;
         for (; end < count && strcmp(functions[end], functions[i]) == 0; end++)
             some += reached[end];
-        if (some == 0)
-            fprintf(stderr, "not reached: %s (%zu blocks)\n", functions[i], end - i);
+        if (some < end - i)
+            fprintf(stderr, "left: %zu of %zu in %s\n", end - i - some, end - i, functions[i]);
         i = end;
     }
+    const char *path = getenv("SIGLA_LEFT");
+    FILE *list = path == NULL ? NULL : fopen(path, "w");
+    for (size_t i = 0; list != NULL && i < count; i++)
+        if (!reached[i])
+            fprintf(list, "%lx %s\n", (unsigned long)places[i], functions[i]);
+    if (list != NULL)
+        fclose(list);
 }

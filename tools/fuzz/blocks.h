@@ -7,7 +7,7 @@
 /* Sets the breakpoints that the file named by SIGLA_BLOCKS lists (blocks.py); none where it is not set. */
 void watch_blocks(void);
 
-/* Prints how many were reached, and the functions of which no block was. */
+/* Prints how many were reached and, by function, how many are left; those that are left to the file that SIGLA_LEFT names, if it is set. */
 void print_blocks(void);
 
 #endif

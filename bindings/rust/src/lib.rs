@@ -8,7 +8,7 @@
 //! - [`widen`] and [`narrow`] turn files of the older edition into this one and back.
 //! - [`growth`] tells whether queries keep their answers under a larger schema.
 //!
-//! A file that is turned down is a [`Refusal`], by the numbers of docs/FORMAT.md. Nothing here panics on what a file or an answer holds.
+//! A file that is turned down is a [`Refusal`], by the numbers of docs/FORMAT.md; [`refused_line`] finds the line. Nothing here panics on what a file or an answer holds.
 //!
 //! ```
 //! use sigla::{Form, Span, Statement};
@@ -155,6 +155,38 @@ pub fn answer(file: &[u8]) -> Result<Answer, Failure> {
     let mut answer = vec![0u8; BYTES];
     let n = check(file, &mut work, &mut answer)?;
     Ok(Answer::parse(&answer[..n])?)
+}
+
+/// The line on which a file is turned down, from 1, by one of the refusals 3 to 10 and 13. None where no line is at fault: the file is
+/// accepted, too long, without a last query, or its queries need too much. It asks [`check`] for the beginnings of the file, some ten times.
+///
+/// ```
+/// assert_eq!(sigla::refused_line(b"01020020\n0278\n0278\n05000000000000000000\n060000\n"), Some(3)); // a name was given before
+/// assert_eq!(sigla::refused_line(b"01020020\n0278\n"), None); // no query
+/// ```
+pub fn refused_line(file: &[u8]) -> Option<usize> {
+    let (mut work, mut answer) = (vec![0u32; WORDS], vec![0u8; BYTES]);
+    let mut outcome = |file: &[u8]| check(file, &mut work, &mut answer).err().map_or(0, Refusal::number);
+    let refused = outcome(file);
+    if !matches!(refused, 3..=10 | 13) {
+        return None;
+    }
+    let ends: Vec<usize> = file.split_inclusive(|&byte| byte == b'\n').scan(0, |end, line| { *end += line.len(); Some(*end) }).collect();
+    // The first lines have the fault where they get the refusal. A beginning without a query gets 4 for that, so for 4 an empty line is put
+    // behind it, which gets 3 if nothing before it is at fault.
+    let mut has = |lines: usize| {
+        let first = &file[..ends[lines - 1]];
+        if refused == 4 { outcome(&[first, b"\n"].concat()) == 4 } else { outcome(first) == refused }
+    };
+    if ends.is_empty() || !has(ends.len()) {
+        return None;
+    }
+    let (mut low, mut high) = (1, ends.len());
+    while low < high {
+        let middle = (low + high) / 2;
+        if has(middle) { high = middle } else { low = middle + 1 }
+    }
+    Some(low)
 }
 
 /// The lines of each query of an answer, in the file's order, without the lines 0b.

@@ -179,3 +179,41 @@ fn the_lamp_shows_whether_there_is_a_diagnostic() {
     assert!(work[..WORDS - 1].iter().all(|&word| word == 0));
     assert_eq!(lamp(b"", &mut work), Err(Refusal::MisplacedKind));
 }
+
+#[test]
+fn the_line_at_fault_is_found() {
+    let good = ["01020020", "0278", "0300", "040000000000", "05000000000000000000", "050000000000000000030000", "0600010000"];
+    let file = |lines: &[&str]| lines.iter().map(|line| format!("{line}\n")).collect::<String>().into_bytes();
+    let good = |place: usize, line: &'static str| {
+        let mut lines = good;
+        lines[place - 1] = line;
+        file(&lines)
+    };
+    assert_eq!(sigla::answer(&good(7, "060001")).map(|answer| answer.queries.len()), Ok(1));
+    for (place, line, number) in [
+        (2, "02780", 3),
+        (7, "", 3),
+        (2, "0102", 4),
+        (5, "02", 4),
+        (7, "07", 4),
+        (5, "0511", 6),
+        (2, "02ff", 7),
+        (4, "0278", 4),
+        (3, "0278", 8),
+        (3, "03050000000000000000", 9),
+        (4, "040001000000", 9),
+        (6, "050000000000000000030009", 9),
+        (7, "060007", 9),
+    ] {
+        let file = good(place, line);
+        assert_eq!(check(&file, &mut lent().0, &mut lent().1).map_err(Refusal::number), Err(number), "{line}");
+        assert_eq!(sigla::refused_line(&file), Some(place), "{line}");
+    }
+    assert_eq!(sigla::refused_line(&good(7, "060001")), None);
+    assert_eq!(sigla::refused_line(b""), None);
+    assert_eq!(sigla::refused_line(b"01020020\n0278"), Some(2));
+    assert_eq!(sigla::refused_line(&[b'0'; 65537]), None);
+    let form = |queries: usize| [b"01020020\n".to_vec(), b"05000000000000000000\n060000\n".repeat(queries)].concat();
+    assert_eq!(sigla::refused_line(&form(QUERIES)), None);
+    assert_eq!(sigla::refused_line(&form(QUERIES + 3)), Some(1 + 2 * (QUERIES + 1)));
+}

@@ -60,7 +60,8 @@ Says what a refusal's number (as after 0f, in decimal, or hexadecimal after 0x) 
 const CHECK: &str = "\
 usage: sigla-tool check FILE..
 
-Types each file and prints a line for each that has a diagnostic or is turned down, and a summary. On a terminal a bar shows how far it is.
+Types each file and tells of each that has a diagnostic, with the first one, or is turned down, with the line at fault, and a summary. On a
+terminal a bar shows how far it is.
 Exit status: 0 where every file is clean, 1 where one has a diagnostic, 3 where one is turned down, 2 where one can't be read; the highest
 of 2, 3 and 1, in this order, where several hold.";
 
@@ -184,7 +185,7 @@ impl Show {
         let answer = match answer {
             Ok(answer) => answer,
             Err(Failure::Refused(refusal)) => {
-                said(&format!("{}: {refusal}", self.file))?;
+                said(&turned_down(&self.file, &bytes, refusal))?;
                 return Ok(REFUSED);
             }
             Err(fault) => return Err(format!("{}: {fault}", self.file)),
@@ -200,6 +201,17 @@ impl Show {
         said(&show::shown(&file, &answer, &sources, self.tree, is_coloured()))?;
         Ok(if answer.is_clean() { 0 } else { DIAGNOSED })
     }
+}
+
+/// A refusal, with the line at fault where there is one.
+fn turned_down(path: &str, bytes: &[u8], refusal: sigla::Refusal) -> String {
+    let Some(number) = sigla::refused_line(bytes) else {
+        return format!("{path}: {refusal}");
+    };
+    let line = String::from_utf8_lossy(bytes.split(|&byte| byte == b'\n').nth(number - 1).unwrap_or(b"")).into_owned();
+    let cut: String = line.chars().take(100).map(|c| if c.is_control() { '?' } else { c }).collect();
+    let more = if line.chars().count() > 100 { " .." } else { "" };
+    format!("{path}:{number}: {refusal}\n  {cut}{more}")
 }
 
 /// An answer as the program prints it: its lines, or 0f and a refusal's number.
@@ -263,20 +275,27 @@ fn check(paths: &[&str]) -> Result<u8, String> {
     let (mut clean, mut diagnosed, mut refused, mut unread) = (0, 0, 0, 0);
     for (i, path) in paths.iter().enumerate() {
         bar.at(i);
-        let line = match read(path).map(|bytes| sigla::answer(&bytes)) {
+        let outcome = read(path).map(|bytes| {
+            let answer = sigla::answer(&bytes);
+            (bytes, answer)
+        });
+        let line = match outcome {
             Err(fault) => {
                 unread += 1;
                 fault
             }
-            Ok(Err(failure)) => {
+            Ok((bytes, Err(failure))) => {
                 refused += 1;
-                format!("{path}: {failure}")
+                match failure {
+                    Failure::Refused(refusal) => turned_down(path, &bytes, refusal),
+                    fault => format!("{path}: {fault}"),
+                }
             }
-            Ok(Ok(answer)) if answer.is_clean() => {
+            Ok((_, Ok(answer))) if answer.is_clean() => {
                 clean += 1;
                 continue;
             }
-            Ok(Ok(answer)) => {
+            Ok((_, Ok(answer))) => {
                 diagnosed += 1;
                 let count = answer.queries.iter().map(|query| query.diagnostics.len()).sum();
                 let first = answer.queries.iter().flat_map(|query| &query.diagnostics).next();

@@ -309,6 +309,18 @@ fn many_files_are_summed_up() {
 }
 
 #[test]
+fn the_line_at_fault_is_told() {
+    let done = tool(&["show", "-"], &assembled("refused"));
+    assert_eq!(done.status.code(), Some(3));
+    let text = String::from_utf8_lossy(&done.stdout).to_string();
+    assert_eq!(text, "-:4: refused (10): a record type repeats a name, or a union type a discriminant\n  03040000000000000000\n");
+    let done = tool(&["check", "-"], b"01020020\nfoo\x01\n");
+    assert!(String::from_utf8_lossy(&done.stdout).starts_with("-:2: refused (3): "), "{}", String::from_utf8_lossy(&done.stdout));
+    let done = tool(&["show", "-"], b"01020020\n");
+    assert!(String::from_utf8_lossy(&done.stdout).starts_with("-: refused (4): "));
+}
+
+#[test]
 fn every_command_explains_itself() {
     for command in ["show", "assemble", "disassemble", "explain", "check", "help", "version"] {
         for arguments in [["help", command], [command, "--help"], [command, "-h"]] {

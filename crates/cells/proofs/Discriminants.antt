@@ -4,8 +4,9 @@ use mathlib.Core.Bool.{Bool, true, false}
 use mathlib.Core.List.{List, [], _∷_}
 use mathlib.Core.Path.{_≡_, refl, sym, _∙_, ap}
 use native.Mathlib.Omega.{arith}
-use Prim.Native.Nat.{ℕ, suc, _+_, _-_, _<_, _≤_, min}
+use Prim.Native.Nat.{ℕ, zero, suc, _+_, _-_, _<_, _≤_, min}
 use lib.Dec.{eqb, ltb}
+use lib.ListN.{getD}
 use borrow.Author.Tests.{lt-ltb, le-ltb, ltb-true, ltb-false, eqb-true, eqb-false}
 use Rattle.unification.specs.Ty.{Row, ε, cell}
 use Rattle.unification.specs.Unify.{insertOnce, withKeys, discriminants}
@@ -14,16 +15,14 @@ use Rattle.cells.specs.declared.Kind.the-variants.{Alternatives}
 use Rattle.cells.specs.declared.Part.{Part}
 use Rattle.cells.specs.declared.Next.{Next}
 use Rattle.cells.specs.declared.Next.the-variants as Next
-use Rattle.cells.specs.Words.{pick, countW, partW, lesser, lowerW}
-use Rattle.cells.specs.Stands.{Rows, IsCell, Cells}
-use Rattle.cells.specs.Contracts.{leastFrom, KeysBelow, NotBelow, Lowers, LeastFrom}
+use Rattle.cells.specs.Words.{pick, countW, alternativeW, partW, lesser, lowerW}
+use Rattle.cells.specs.Stands.{Rows, rowFrom, rowW, IsCell, Cells}
+use Rattle.cells.specs.Contracts.{leastFrom, KeysBelow, NotBelow, Lowers, LeastFrom, Passed}
 use Rattle.cells.proofs.Parts.{rest, rest-whole, rest-cell, rest-none}
 
 -- ---- The scan of one union that has come to number j
 pub record Lowering (w : List ℕ) (c from : ℕ) (best : Next) (n j : ℕ) (least : Next) : Type 0 where
-  pub within : j ≤ n
   pub to : (T : Rows) → Cells w T → IsCell w Alternatives c → leastFrom from (T c) best ≡ leastFrom from (rest T w Alternatives c n j) least
-  pub small : (T : Rows) → Cells w T → IsCell w Alternatives c → KeysBelow 4294967296 (rest T w Alternatives c n j) → KeysBelow 4294967296 (T c)
   pub above : NotBelow from best → NotBelow from least
 
 lower-above : (key from : ℕ) (o : Next) → NotBelow from o → NotBelow from (lowerW key from o)
@@ -39,31 +38,89 @@ lower-above key from o h = go (ltb key from) refl o h
         one true = ltb-false key from q
         one false = h
 
-pub scan-start : (w : List ℕ) (c from : ℕ) (best : Next) (n : ℕ) → n ≡ countW w c → Lowering w c from best n 0 best
-scan-start w c from best n e = record {
-  within = omega arith;
-  to = λ T C i. ap (λ (r : Row). leastFrom from r best) (rest-whole T w Alternatives c n e C i);
-  small = λ T C i h. rw (rest-whole T w Alternatives c n e C i) h;
+-- Keys below `from` change nothing.
+below-skips : (w : List ℕ) (c from : ℕ) (best : Next) (T : Rows) (n i : ℕ) → ((j : ℕ) → j < i → j < n → partW w Alternatives c j .key < from)
+    → leastFrom from (rest T w Alternatives c n 0) best ≡ leastFrom from (rest T w Alternatives c n i) best
+unfolding leastFrom lowerW
+below-skips w c from best T n zero h = refl
+below-skips w c from best T n (suc i) h = below-skips w c from best T n i (λ j l. h j (omega arith)) ∙ go (ltb i n) refl
+  where
+    go : (b : Bool) → ltb i n ≡ b → leastFrom from (rest T w Alternatives c n i) best ≡ leastFrom from (rest T w Alternatives c n (suc i)) best
+    go true q =
+        let one : i + 1 ≡ suc i = omega arith in
+        rw (
+          rest-cell T w Alternatives c n i (partW w Alternatives c i) (ltb-true i n q) refl,
+          leastFrom,
+          lt-ltb (partW w Alternatives c i .key) from (h i (omega arith) (ltb-true i n q)),
+          one,
+        )
+    go false q = let le = ltb-false i n q in rw (rest-none T w Alternatives c n i le, rest-none T w Alternatives c n (suc i) (omega arith))
+
+pub scan-start : (w : List ℕ) (c i from : ℕ) (best : Next) (n : ℕ) → Passed w c i from → n ≡ countW w c → Lowering w c from best n i best
+scan-start w c i from best n p e = record {
+  to = λ T C k. ap (λ (r : Row). leastFrom from r best) (rest-whole T w Alternatives c n e C k) ∙ below-skips w c from best T n i
+      (λ j l m. p .past T C k j l (omega arith));
   above = λ h. h;
 }
+
+-- A key is a word.
+keys-fit : (w : List ℕ) → ((i : ℕ) → getD w i 0 < 4294967296) → (T : Rows) (c j n : ℕ) → KeysBelow 4294967296 (rowFrom T w Alternatives c j n)
+unfolding rowFrom alternativeW
+keys-fit w f T c j zero = tt
+keys-fit w f T c j (suc n) = (f _, keys-fit w f T c (j + 1) n)
+
+pub all-fit : (w : List ℕ) → ((i : ℕ) → getD w i 0 < 4294967296) → (T : Rows) (c : ℕ) → Cells w T → IsCell w Alternatives c → KeysBelow 4294967296 (T c)
+unfolding rowW
+all-fit w f T c C i = rw (C .row Alternatives c i) (keys-fit w f T c 0 (countW w c))
+
+-- Nothing that is not below `from` is less than it.
+pub least-low : (from m : ℕ) → m ≤ from → (r : Row) → leastFrom from r (Next.Is m) ≡ Next.Is m
+unfolding leastFrom lowerW
+least-low from m h ε = refl
+least-low from m h (cell k l t r) = ap (leastFrom from r) (go (ltb k from) refl) ∙ least-low from m h r
+  where
+    go : (b : Bool) → ltb k from ≡ b → pick b (Next.Is m) (lesser k (Next.Is m)) ≡ Next.Is m
+    go true q = refl
+    go false q = rw (le-ltb k m (omega (arith, ltb-false k from q)))
+
+low-enough : (from : ℕ) (o : Next) → (m : ℕ) × (lowerW from from o ≡ Next.Is m) × (m ≤ from)
+unfolding lowerW
+low-enough from Next.Nothing = (from, rw (le-ltb from from (omega arith)), omega arith)
+low-enough from (Next.Is b) = go (ltb from b) refl
+  where
+    go : (t : Bool) → ltb from b ≡ t → (m : ℕ) × (lowerW from from (Next.Is b) ≡ Next.Is m) × (m ≤ from)
+    go true q = (from, rw (le-ltb from from (omega arith), q), omega arith)
+    go false q = (b, rw (le-ltb from from (omega arith), q), ltb-false from b q)
 
 module _ {w : List ℕ} {c from : ℕ} {best : Next} {n j : ℕ} {least : Next} (g : Lowering w c from best n j least) where
   pub scan-next : (p : Part) (r : Next) → j < n → p ≡ partW w Alternatives c j → Lowers (p .key) from least r → Lowering w c from best n (j + 1) r
   unfolding leastFrom
   scan-next p r h e l = record {
-    within = omega arith;
     to = λ T C i. g .to T C i ∙ rw (rest-cell T w Alternatives c n j p h e, leastFrom, ← l .is);
-    small = λ T C i b. g .small T C i (rw (rest-cell T w Alternatives c n j p h e) (l .small, b));
     above = λ b. rw (l .is) (lower-above (p .key) from least (g .above b));
   }
 
-  pub scan-end : n ≤ j → LeastFrom w c from best least
-  unfolding leastFrom
-  scan-end h = record {
-    is = λ T C i. sym (g .to T C i ∙ rw (rest-none T w Alternatives c n j h, leastFrom));
-    small = λ T C i. g .small T C i (rw (rest-none T w Alternatives c n j h) tt);
-    above = g .above;
-  }
+  module _ (fits : (i : ℕ) → getD w i 0 < 4294967296) where
+    pub scan-end : n ≤ j → LeastFrom w c from best least
+    unfolding leastFrom
+    scan-end h = record {
+      is = λ T C i. sym (g .to T C i ∙ rw (rest-none T w Alternatives c n j h, leastFrom));
+      small = λ T C i. all-fit w fits T c C i;
+      above = g .above;
+    }
+
+-- A key that is `from` itself ends the scan.
+pub scan-stop : {w : List ℕ} {c from : ℕ} {best : Next} {n j : ℕ} {least : Next} → Lowering w c from best n j least → ((i : ℕ) → getD w i 0 < 4294967296)
+    → (p : Part) (r : Next) → j < n → p ≡ partW w Alternatives c j → Lowers (p .key) from least r → p .key ≡ from → LeastFrom w c from best r
+scan-stop {w} {c} {from} {best} {n} {j} {least} g fits p r h e l q =
+    let G = scan-next g p r h e l in
+    let L = low-enough from least in
+    let is : r ≡ Next.Is (L .0) = l .is ∙ ap (λ (k : ℕ). lowerW k from least) q ∙ L .1 in
+    record {
+      is = λ T C i. sym (G .to T C i ∙ rw is (least-low from (L .0) (L .2) (rest T w Alternatives c n (j + 1))));
+      small = λ T C i. all-fit w fits T c C i;
+      above = G .above;
+    }
 
 -- ---- The ascending list of the discriminants, from a number on
 unfoldable pub onward : ℕ → List ℕ → List ℕ
@@ -186,7 +243,8 @@ first-insert from m k (j ∷ ks) a = go (eqb k j) refl (ltb k j) refl (ltb j fro
     go false p true q true x false y ih = absurd (let l = ltb-true k j q in let g = ltb-true j from x in let h = ltb-false k from y in omega arith)
     go false p true q false x false y ih = rw (p, q, insertOnce, x, y, q)
     go false p false q true x e y ih = rw (p, q, insertOnce, x) ih
-    go false p false q false x true y ih = absurd (let n = eqb-false k j p in let l = ltb-false k j q in let g = ltb-false j from x in let h = ltb-true k from y in omega arith)
+    go false p false q false x true y ih = absurd
+        (let n = eqb-false k j p in let l = ltb-false k j q in let g = ltb-false j from x in let h = ltb-true k from y in omega arith)
     go false p false q false x false y ih = rw (p, q, insertOnce, x, y, q)
 
 first-keys : (from : ℕ) (r : Row) (ks : List ℕ) → Ascending 0 ks → first (onward from (withKeys r ks)) ≡ leastFrom from r (first (onward from ks))

@@ -5,8 +5,10 @@ use mathlib.Core.Option.{none}
 use mathlib.Core.Path.{_≡_, refl, sym, _∙_, ap}
 use native.Mathlib.Nat.{sub-zero}
 use native.Mathlib.Omega.{arith}
-use Prim.Native.Nat.{ℕ, suc, _+_, _-_, _<_, _≤_}
-use borrow.Author.Tests.{eq-eqb, ne-eqb}
+use mathlib.Core.Bool.{Bool, true, false}
+use Prim.Native.Nat.{ℕ, zero, suc, _+_, _-_, _<_, _≤_}
+use lib.Dec.{ltb}
+use borrow.Author.Tests.{eq-eqb, ne-eqb, ltb-true, ltb-false}
 use Rattle.unification.specs.Ty as Tree
 use Rattle.unification.specs.Ty.{Row, ε, cell}
 use Rattle.unification.specs.Unify.{findKey, findLabel}
@@ -18,7 +20,7 @@ use Rattle.cells.specs.declared.Place.{Place}
 use Rattle.cells.specs.declared.Place.the-variants as Place
 use Rattle.cells.specs.Words.{countW, partW}
 use Rattle.cells.specs.Stands.{Rows, tree, rowFrom, rowW, IsCell, Ok, Cells}
-use Rattle.cells.specs.Contracts.{partAt, FindsKey, FindsName}
+use Rattle.cells.specs.Contracts.{partAt, FindsKey, FindsName, Passed}
 
 -- ---- The row of a cell
 module _ (T : Rows) (w : List ℕ) (k : Kind) (c n : ℕ) where
@@ -43,12 +45,11 @@ part-ok C k c n j p e i h q = rw q (C .ok k c j i (omega arith))
 
 -- ---- A search that has come to number j
 pub record Seeking {A : Type 0} (f : Row → A) (w : List ℕ) (k : Kind) (c n j : ℕ) : Type 0 where
-  pub within : j ≤ n
   pub all : n ≡ countW w c
   pub to : (T : Rows) → Cells w T → IsCell w k c → f (T c) ≡ f (rest T w k c n j)
 
 pub seek-start : {A : Type 0} (f : Row → A) (w : List ℕ) (k : Kind) (c n : ℕ) → n ≡ countW w c → Seeking f w k c n 0
-seek-start f w k c n e = record { within = omega arith; all = e; to = λ T C i. ap f (rest-whole T w k c n e C i) }
+seek-start f w k c n e = record { all = e; to = λ T C i. ap f (rest-whole T w k c n e C i) }
 
 module _ {A : Type 0} {f : Row → A} {w : List ℕ} {k : Kind} {c n j : ℕ} (g : Seeking f w k c n j) where
   seek-here : (p : Part) → j < n → p ≡ partW w k c j → (T : Rows) → Cells w T → IsCell w k c
@@ -56,7 +57,7 @@ module _ {A : Type 0} {f : Row → A} {w : List ℕ} {k : Kind} {c n j : ℕ} (g
   seek-here p h e T C i = g .to T C i ∙ ap f (rest-cell T w k c n j p h e)
 
   seek-past : (p : Part) → j < n → p ≡ partW w k c j → ((t : Tree.Ty) (r : Row) → f (cell (p .key) (p .label) t r) ≡ f r) → Seeking f w k c n (j + 1)
-  seek-past p h e q = record { within = omega arith; all = g .all; to = λ T C i. seek-here p h e T C i ∙ q (tree T (p .ty)) (rest T w k c n (j + 1)) }
+  seek-past p h e q = record { all = g .all; to = λ T C i. seek-here p h e T C i ∙ q (tree T (p .ty)) (rest T w k c n (j + 1)) }
 
   seek-none : n ≤ j → (T : Rows) → Cells w T → IsCell w k c → f (T c) ≡ f ε
   seek-none h T C i = g .to T C i ∙ ap f (rest-none T w k c n j h)
@@ -77,6 +78,31 @@ module _ {w : List ℕ} {k : Kind} {c n j key : ℕ} (g : Seeking (findKey key) 
   pub key-none : n ≤ j → FindsKey w k c key Found.Nothing
   unfolding findKey
   key-none h = record { is = λ T C i. sym (seek-none g h T C i); ok = λ T C i. tt; has = tt }
+
+-- What is passed has another key.
+passed-skips : (w : List ℕ) (c key : ℕ) (T : Rows) (n i : ℕ) → ((j : ℕ) → j < i → j < n → partW w Alternatives c j .key < key)
+    → findKey key (rest T w Alternatives c n 0) ≡ findKey key (rest T w Alternatives c n i)
+unfolding findKey
+passed-skips w c key T n zero h = refl
+passed-skips w c key T n (suc i) h = passed-skips w c key T n i (λ j l. h j (omega arith)) ∙ go (ltb i n) refl
+  where
+    go : (b : Bool) → ltb i n ≡ b → findKey key (rest T w Alternatives c n i) ≡ findKey key (rest T w Alternatives c n (suc i))
+    go true q =
+        let one : i + 1 ≡ suc i = omega arith in
+        let less = h i (omega arith) (ltb-true i n q) in
+        rw (
+          rest-cell T w Alternatives c n i (partW w Alternatives c i) (ltb-true i n q) refl,
+          findKey,
+          ne-eqb key (partW w Alternatives c i .key) (λ y. absurd (omega arith)),
+          one,
+        )
+    go false q = let le = ltb-false i n q in rw (rest-none T w Alternatives c n i le, rest-none T w Alternatives c n (suc i) (omega arith))
+
+pub seek-after : {w : List ℕ} {c i key n : ℕ} → Passed w c i key → n ≡ countW w c → Seeking (findKey key) w Alternatives c n i
+seek-after {w} {c} {i} {key} {n} p e = record {
+  all = e;
+  to = λ T C k. ap (findKey key) (rest-whole T w Alternatives c n e C k) ∙ passed-skips w c key T n i (λ j l m. p .past T C k j l (omega arith));
+}
 
 -- ---- From the place to the part
 module _ {w : List ℕ} {k : Kind} {c key : ℕ} {r : Place} (F : FindsKey w k c key (partAt w k c r)) where

@@ -98,6 +98,10 @@ pub record LeastFrom (w : List ℕ) (c from : ℕ) (best r : Next) : Type 0 wher
   pub small : (T : Rows) → Cells w T → IsCell w Alternatives c → KeysBelow 4294967296 (T c)
   pub above : NotBelow from best → NotBelow from r
 
+-- The first i alternatives are below `from`: they need not be looked at again.
+pub record Passed (w : List ℕ) (c i from : ℕ) : Type 0 where
+  pub past : (T : Rows) → Cells w T → IsCell w Alternatives c → (j : ℕ) → j < i → j < countW w c → partW w Alternatives c j .key < from
+
 pub record NextFrom (w : List ℕ) (c d from : ℕ) (r : Next) : Type 0 where
   pub is : (T : Rows) → Cells w T → IsCell w Alternatives c → IsCell w Alternatives d → r ≡ leastFrom from (T d) (leastFrom from (T c) Next.Nothing)
   pub small : (T : Rows) → Cells w T → IsCell w Alternatives c → IsCell w Alternatives d → KeysBelow 4294967296 (T c) × KeysBelow 4294967296 (T d)

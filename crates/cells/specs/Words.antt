@@ -133,6 +133,10 @@ lesser key (Next.Is b) = pick (ltb key b) (Next.Is key) (Next.Is b)
 unfoldable pub lowerW : ℕ → ℕ → Next → Next
 lowerW key from best = pick (ltb key from) best (lesser key best)
 
+-- One alternative more is passed where the one that was compared is the next.
+unfoldable pub afterW : ℕ → ℕ → ℕ
+afterW a i = pick (eqb a i) (pick (ltb i 65536) (i + 1) i) i
+
 -- ---- Bindings and node types: tag 0 stands for none.
 unfoldable pub slotW : List ℕ → ℕ → Bound
 unfolding tyW

@@ -20,6 +20,7 @@ use tree::Items;
 use tree::Node;
 use tree::Stmt;
 use tree::Stmts;
+use work::Counters;
 use work::put;
 use work::word;
 
@@ -30,10 +31,10 @@ fn infer_record(f: &[u8], w: &mut [u32], items: Items, left: u32, out: &mut [u8]
     let n = items.n;
     let from = cells::reserve(w, n);
     // It never comes to that: there is room in every run.
-    if from > 512 {
+    if from > Counters::RECORD_FIELDS {
         return Typed::Out;
     }
-    if n > 512 - from {
+    if n > Counters::RECORD_FIELDS - from {
         return Typed::Out;
     }
     let mut i: u32 = 0;

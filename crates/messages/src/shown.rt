@@ -55,7 +55,8 @@ fn name(f: &[u8], w: &[u32], out: &mut [u8], at: usize, x: u32) -> Wrote
     ensures { λ r. ⌜ Shows (now (f .entry)) (now (w .entry)) (now (out .entry)) at Always (nameText x) (now (out .exit)) r ⌝ }
 {
     if x < word(w, work::NAME_COUNT) {
-        return digits(f, wide(word(w, work::NAMES + wide(x)) / 512) + 2, out, at);
+        let place = work::name_place(word(w, work::NAMES + wide(x)));
+        return digits(f, wide(place) + 2, out, at);
     }
     piece(out, at, 54)
 }
@@ -84,7 +85,7 @@ fn fact(f: &[u8], w: &[u32], out: &mut [u8], at: usize, p: u32) -> Wrote
     if word(w, work::PREDICATE_COUNT) <= p {
         return piece(out, at, 48);
     }
-    let x = word(w, work::PREDICATES + wide(p)) / 131072;
+    let x = work::predicate_name(word(w, work::PREDICATES + wide(p)));
     if x < word(w, work::NAME_COUNT) {
         return quoted(f, w, out, at, x);
     }

@@ -7,6 +7,7 @@ ghost use Rattle.meaning.specs.Check.{lookupIn};
 ghost use Rattle.state.specs.Words.{countedW, envOf, knownAs, pushEnvW, Introduces};
 ghost use Rattle.state.specs.Lines.{placeW, setPlaceW, WritesSpan, WritesHead, WritesDiagnostic, WritesCodeLine, WritesSaid, WritesMessageLine, WritesLine, untilOf, untilW, Tells, Halts, Rejected};
 use messages::Message;
+use work::Counters;
 use work::put;
 use work::wide;
 use work::word;
@@ -171,7 +172,7 @@ fn count(w: &mut [u32])
     ensures { λ _. ⌜ now (w .exit) ≡ countedW (now (w .entry)) ⌝ }
 {
     let i = word(w, work::DIAGNOSTIC_COUNT);
-    if i < 1536 {
+    if i < Counters::DIAGNOSTICS {
         put(w, work::DIAGNOSTIC_COUNT, i + 1);
     }
 }
@@ -214,7 +215,7 @@ pub fn push_env(w: &mut [u32], symbol: u32, var: u32)
     ensures { λ _. ⌜ now (w .exit) ≡ pushEnvW (now (w .entry)) symbol var ⌝ }
 {
     let n = word(w, work::ENV_LEN);
-    if n < 512 {
+    if n < Counters::ENTRIES {
         if symbol < 65536 {
             if var < 65536 {
                 put(w, work::ENV + wide(n), symbol * 65536 + var);

@@ -20,6 +20,7 @@ use state::introduce;
 use state::reject;
 use tree::Items;
 use tree::Node;
+use work::Counters;
 use work::put;
 use work::wide;
 use work::word;
@@ -127,7 +128,7 @@ pub fn key_ty(w: &[u32], p: u32) -> Bound
 {
     if p < word(w, work::PREDICATE_COUNT) {
         let x = word(w, work::PREDICATES + wide(p));
-        return Bound::To(cells::declared(w, x / 512 % 256));
+        return Bound::To(cells::declared(w, work::predicate_key(x)));
     }
     Bound::Free
 }
@@ -137,8 +138,8 @@ pub fn value_ty(w: &[u32], p: u32) -> Bound
 {
     if p < word(w, work::PREDICATE_COUNT) {
         let x = word(w, work::PREDICATES + wide(p));
-        if x % 2 == 1 {
-            return Bound::To(cells::declared(w, x / 2 % 256));
+        if work::has_value(x) {
+            return Bound::To(cells::declared(w, work::predicate_value(x)));
         }
         return Bound::Free;
     }
@@ -296,7 +297,7 @@ fn fuzzy_distance(f: &[u8], w: &mut [u32], n: u32, distance: u32, left: u32, out
 fn fuzzy_term(f: &[u8], w: &mut [u32], n: u32, term: u32, left: u32, out: &mut [u8]) -> Done
     ensures { λ r. ⌜ RejectedIf (now (f .entry)) (now (w .entry)) (now (out .entry)) n (Message.TermTooLong (charactersW (now (w .entry)) term)) left (now (w .exit)) (now (out .exit)) r (longW (now (w .entry)) term) ⌝ }
 {
-    let characters = word(w, work::NAMES + wide(term)) % 512;
+    let characters = work::name_chars(word(w, work::NAMES + wide(term)));
     if word(w, work::MAX_TERM) < characters {
         return reject(f, w, n, Message::TermTooLong(characters), left, out);
     }
@@ -394,7 +395,7 @@ fn begin_types(w: &mut [u32])
     ensures { λ _. ⌜ Untypes (now (w .entry)) 512 (now (w .exit)) ⌝ }
 {
     let mut n: u32 = 0;
-    while n < 512 {
+    while n < Counters::NODES {
         put(w, work::TYS + 2 * wide(n), 0);
         n += 1;
     }

@@ -61,7 +61,7 @@ solution-respects s A x t e =
     rw q (same-refl (app (solution s) t))
 
 -- What respects the bindings does not notice resolving.
-zonk-same : (k : ℕ) (η : Substitution) (s : Subst) (t : Ty) → Respects η s → Same (app η t) (app η (zonkIn k s t))
+pub zonk-same : (k : ℕ) (η : Substitution) (s : Subst) (t : Ty) → Respects η s → Same (app η t) (app η (zonkIn k s t))
 unfolding Respects app
 zonk-same zero η s t R = rw (zonk-none s t) (same-refl (app η t))
 zonk-same (suc k) η s t R =

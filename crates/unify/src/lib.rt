@@ -1,7 +1,9 @@
 // `unify` and `orderable` over the cells, as ty.rs has them. A visit is counted at each entry.
 ghost use mathlib.Core.Path.{_≡_};
-ghost use Rattle.cells.specs.Words.{againW};
-ghost use Rattle.cells.specs.Contracts.{IsOrderable, Lowers, LeastFrom, NextFrom, Unifies, BindsVar, UnifiesHeads, UnifiesRecord, UnifiesFields, UnifiesUnion, UnifiesAlternative, UnifiesPayload};
+ghost use Prim.Native.Nat.{_<_};
+ghost use Rattle.cells.specs.Words.{firstW, partW, afterW, againW};
+ghost use Rattle.cells.specs.Contracts.{IsOrderable, Lowers, LeastFrom, NextFrom, Passed, partAt, FindsKey, Unifies, BindsVar, UnifiesHeads, UnifiesRecord, UnifiesFields, UnifiesUnion, UnifiesPayload};
+ghost use Rattle.cells.specs.declared.Kind.the-variants.{Alternatives};
 ghost use Rattle.cells.specs.declared.Ty.the-variants as Ty;
 ghost use Rattle.cells.specs.declared.TyError.the-variants as TyError;
 ghost use Rattle.cells.specs.declared.Unified.the-variants as Unified;
@@ -16,7 +18,7 @@ use cells::UnionDiff;
 use cells::alternative;
 use cells::count;
 use cells::field;
-use cells::key_at;
+use cells::first;
 use cells::occurs;
 use cells::part_count;
 use cells::part_ty;
@@ -25,6 +27,8 @@ use cells::repr;
 use cells::same_ty;
 use cells::set_var;
 use cells::snapshot;
+use work::wide;
+use work::word;
 
 fn bind_var(w: &mut [u32], x: u32, t: Ty, left: u32) -> Unified
     ensures { λ r. ⌜ BindsVar (now (w .entry)) x t left (now (w .exit)) r ⌝ }
@@ -177,16 +181,30 @@ fn unify_fields(w: &mut [u32], c: u32, d: u32, n: u32, left: u32) -> Unified
     Unified::Good(rest)
 }
 
-// The least discriminant of one union that is not below `from`, or `best` where that is less.
-fn least_from(w: &[u32], c: u32, from: u64, best: Next) -> Next
+// The discriminant of the alternative at j, of a union whose alternatives start at f.
+fn discriminant(w: &[u32], c: u32, f: usize, j: u32) -> u32
+    requires { ⌜ (f ≡ firstW (now w) c) × (f < 4294967296) ⌝ }
+    ensures { λ r. ⌜ r ≡ partW (now (w .entry)) Alternatives c j .key ⌝ }
+{
+    word(w, work::FIELDS + f + 2 * wide(j))
+}
+
+// The least discriminant of one union that is not below `from`, or `best` where that is less. The first i alternatives are
+// below it; none is less than `from` itself.
+fn least_from(w: &[u32], c: u32, i: u32, from: u64, best: Next) -> Next
+    requires { ⌜ Passed (now w) c i from ⌝ }
     ensures { λ r. ⌜ LeastFrom (now (w .entry)) c from best r ⌝ }
 {
     let n = count(w, c);
-    let mut j: u32 = 0;
+    let f = first(w, c);
+    let mut j = i;
     let mut least = best;
     while j < n {
-        let key = key_at(w, Kind::Alternatives, c, j);
+        let key = discriminant(w, c, f, j);
         least = lower(key, from, least);
+        if (key as u64) == from {
+            return least;
+        }
         j += 1;
     }
     least
@@ -204,36 +222,124 @@ fn lower(key: u32, from: u64, best: Next) -> Next
     }
 }
 
-// The least discriminant of either that is not below `from`.
-fn next_discriminant(w: &[u32], c: u32, d: u32, from: u64) -> Next
+// The least discriminant of either that is not below `from`. The first i and j alternatives are below it.
+fn next_discriminant(w: &[u32], c: u32, d: u32, i: u32, j: u32, from: u64) -> Next
+    requires { ⌜ Passed (now w) c i from × Passed (now w) d j from ⌝ }
     ensures { λ r. ⌜ NextFrom (now (w .entry)) c d from r ⌝ }
 {
-    least_from(w, d, from, least_from(w, c, from, Next::Nothing))
+    let first = least_from(w, c, i, from, Next::Nothing);
+    match first {
+        Next::Is(k) => {
+            if (k as u64) == from {
+                return first;
+            }
+        }
+        Next::Nothing => {}
+    }
+    least_from(w, d, j, from, first)
 }
 
-// Discriminants ascending; each is compared whole before the next.
+// Where the first alternative with this discriminant stands: none of the first i has it.
+fn place_after(w: &[u32], c: u32, i: u32, k: u32) -> Place
+    requires { ⌜ Passed (now w) c i k ⌝ }
+    ensures { λ r. ⌜ FindsKey (now (w .entry)) Alternatives c k (partAt (now (w .entry)) Alternatives c r) ⌝ }
+{
+    let n = count(w, c);
+    let f = first(w, c);
+    let mut j = i;
+    while j < n {
+        let x = discriminant(w, c, f, j);
+        if x == k {
+            return Place::At(j);
+        }
+        j += 1;
+    }
+    Place::Nowhere
+}
+
+// One alternative more is passed where the one at a is the next.
+fn after(a: u32, i: u32) -> u32
+    ensures { λ r. ⌜ r ≡ afterW a i ⌝ }
+{
+    if a == i {
+        if i < 65536 { i + 1 } else { i }
+    } else {
+        i
+    }
+}
+
+// Discriminants ascending: presence on both sides, then the name, then the payload; each is compared whole before the next.
+// Two payloads that were just unified, and nothing was bound in it, cost the same again, and are not walked.
 fn unify_union(w: &mut [u32], c: u32, d: u32, left: u32) -> Unified
     ensures { λ r. ⌜ UnifiesUnion (now (w .entry)) c d left (now (w .exit)) r ⌝ }
 {
     let mut from: u64 = 0;
     let mut rest = left;
+    let mut i: u32 = 0;
+    let mut j: u32 = 0;
+    let mut got = Ty::Error;
+    let mut expected = Ty::Error;
+    let mut cost: u32 = 1;
+    let mut log: u32 = 0;
     while from < 4294967296 {
-        let next = next_discriminant(w, c, d, from);
+        let next = next_discriminant(w, c, d, i, j, from);
         let k = match next {
             Next::Is(k) => k,
             Next::Nothing => {
                 return Unified::Good(rest);
             }
         };
-        let r = unify_alternative(w, c, d, k, rest);
-        match r {
-            Unified::Good(l) => {
-                rest = l;
+        let found = place_after(w, c, i, k);
+        let other = place_after(w, d, j, k);
+        let a = match found {
+            Place::At(a) => a,
+            Place::Nowhere => {
+                match other {
+                    Place::At(b) => {
+                        let q = alternative(w, d, b);
+                        return differ(c, d, UnionDiff::Absent(q.label, k), rest);
+                    }
+                    Place::Nowhere => {
+                        return Unified::Good(rest);
+                    }
+                }
             }
-            _ => {
-                return r;
+        };
+        let p = alternative(w, c, a);
+        let b = match other {
+            Place::At(b) => b,
+            Place::Nowhere => {
+                return differ(c, d, UnionDiff::Absent(p.label, k), rest);
+            }
+        };
+        let q = alternative(w, d, b);
+        if p.label != q.label {
+            return differ(c, d, UnionDiff::Renamed(q.label, p.label, k), rest);
+        }
+        let x = p.ty;
+        let y = q.ty;
+        if again(w, x, y, got, expected, log) {
+            if rest < cost {
+                return Unified::Spent;
+            }
+            rest -= cost;
+        } else {
+            log = snapshot(w);
+            let r = unify_payload(w, c, d, UnionDiff::Payload(p.label, k), x, y, rest);
+            match r {
+                Unified::Good(l) => {
+                    got = x;
+                    expected = y;
+                    cost = rest - l;
+                    rest = l;
+                }
+                _ => {
+                    return r;
+                }
             }
         }
+        i = after(a, i);
+        j = after(b, j);
         from = (k as u64) + 1;
     }
     Unified::Good(rest)
@@ -246,39 +352,6 @@ fn differ(c: u32, d: u32, diff: UnionDiff, left: u32) -> Unified
         TyError::UnionMismatch(diff, Ty::Union(d), Ty::Union(c)),
         left,
     )
-}
-
-// Presence on both sides, then the name, then the payload.
-fn unify_alternative(w: &mut [u32], c: u32, d: u32, k: u32, left: u32) -> Unified
-    ensures { λ r. ⌜ UnifiesAlternative (now (w .entry)) c d k left (now (w .exit)) r ⌝ }
-{
-    let found = place_of(w, Kind::Alternatives, c, k);
-    let expected = place_of(w, Kind::Alternatives, d, k);
-    match found {
-        Place::At(i) => {
-            let p = alternative(w, c, i);
-            match expected {
-                Place::At(j) => {
-                    let q = alternative(w, d, j);
-                    if p.label == q.label {
-                        let a = p.ty;
-                        let b = q.ty;
-                        unify_payload(w, c, d, UnionDiff::Payload(p.label, k), a, b, left)
-                    } else {
-                        differ(c, d, UnionDiff::Renamed(q.label, p.label, k), left)
-                    }
-                }
-                Place::Nowhere => differ(c, d, UnionDiff::Absent(p.label, k), left),
-            }
-        }
-        Place::Nowhere => match expected {
-            Place::At(j) => {
-                let q = alternative(w, d, j);
-                differ(c, d, UnionDiff::Absent(q.label, k), left)
-            }
-            Place::Nowhere => Unified::Good(left),
-        },
-    }
 }
 
 // A failure inside becomes a difference of the payload.

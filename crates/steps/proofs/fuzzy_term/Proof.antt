@@ -1,4 +1,4 @@
--- Made from Proof.ans by tools/answers, eea7decb24f38a67 d46796fbeb3fcb2b.
+-- Made from Proof.ans by tools/answers, fb5fe0fbbd68f599 26b62423ddd33e32.
 -- The test is the one of `longW`.
 use borrow.Author.Needs.{needs}
 use Rattle.steps.proofs.fuzzy_term.Statement.{statement}
@@ -6,6 +6,7 @@ use Rattle.steps.proofs.fuzzy_term.Tie as tie
 use Rattle.steps.proofs.fuzzy_term.Reads as reads
 use Rattle.steps.proofs.fuzzy_term.Lts as lts
 use Rattle.state.proofs.reject.Reads as reject-reads
+use Rattle.work.proofs.name_chars.Reads as name-chars-reads
 use Rattle.work.proofs.wide.Reads as wide-reads
 use Rattle.work.proofs.word.Reads as word-reads
 use native.Mathlib.Omega.{arith}
@@ -22,8 +23,9 @@ fuzzy-term-spec =
     (λ c κs. search needs)
     (λ c κs. search needs)
     (λ c κs. search needs)
+    (λ c κs. search needs)
     (λ c. search needs)
     (λ c. search needs)
-    (λ c. rw (lt-ltb _ _ (rw (c .before .before .before .before .before .before .before .before .word2 .ensures, c .before .before .before .before .before .before .before .before .before .before .word .ensures, c .before .before .before .before .before .before .before .before .before .before .before .wide .ensures .0) at (c .before .before .before .before .before .before .before .if1 .taken))) (reported (rw (c .before .before .before .before .before .before .before .before .before .before .word .ensures, c .before .before .before .before .before .before .before .before .before .before .before .wide .ensures .0) at (c .before .before .before .before .reject .ensures))))
+    (λ c. rw (lt-ltb _ _ (rw (c .before .before .before .before .before .before .before .before .word2 .ensures, c .before .before .before .before .before .before .before .before .before .before .name-chars .ensures, c .before .before .before .before .before .before .before .before .before .before .before .word .ensures, c .before .before .before .before .before .before .before .before .before .before .before .before .wide .ensures .0) at (c .before .before .before .before .before .before .before .if1 .taken))) (reported (rw (c .before .before .before .before .before .before .before .before .before .before .name-chars .ensures, c .before .before .before .before .before .before .before .before .before .before .before .word .ensures, c .before .before .before .before .before .before .before .before .before .before .before .before .wide .ensures .0) at (c .before .before .before .before .reject .ensures))))
     (λ c. search needs)
-    (λ c. rw (le-ltb _ _ (rw (c .before .word2 .ensures, c .before .before .before .word .ensures, c .before .before .before .before .wide .ensures .0) at (c .if1 .left))) (stayed refl refl refl)))
+    (λ c. rw (le-ltb _ _ (rw (c .before .word2 .ensures, c .before .before .before .name-chars .ensures, c .before .before .before .before .word .ensures, c .before .before .before .before .before .wide .ensures .0) at (c .if1 .left))) (stayed refl refl refl)))

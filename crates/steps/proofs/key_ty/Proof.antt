@@ -1,10 +1,12 @@
--- Made from Proof.ans by tools/answers, ba477044a8aad6b9 2968479dfb26456c.
+-- Made from Proof.ans by tools/answers, e3b736fc66f443e3 738c8fc28cc58c4a.
+-- The test is the one of `keyTyW`.
 use borrow.Author.Needs.{needs}
 use Rattle.steps.proofs.key_ty.Statement.{statement}
 use Rattle.steps.proofs.key_ty.Tie as tie
 use Rattle.steps.proofs.key_ty.Reads as reads
 use Rattle.steps.proofs.key_ty.Lts as lts
 use Rattle.cells.proofs.declared.Reads as declared-reads
+use Rattle.work.proofs.predicate_key.Reads as predicate-key-reads
 use Rattle.work.proofs.wide.Reads as wide-reads
 use Rattle.work.proofs.word.Reads as word-reads
 use native.Mathlib.Omega.{arith}
@@ -13,7 +15,7 @@ use Rattle.steps.specs.Outside.{keyTyW}
 
 returns : tie.Need-returns
 unfolding keyTyW
-returns c = simp (c .declared .ensures, c .before .word2 .ensures, c .before .before .wide .ensures .0, lt-ltb _ _ (rw (c .before .before .before .before .word .ensures) at (c .before .before .before .if1 .taken)))
+returns c = simp (c .declared .ensures, c .before .predicate-key .ensures, c .before .before .word2 .ensures, c .before .before .before .wide .ensures .0, lt-ltb _ _ (rw (c .before .before .before .before .before .word .ensures) at (c .before .before .before .before .if1 .taken)))
 
 returns-2 : tie.Need-returns-2
 unfolding keyTyW
@@ -26,6 +28,7 @@ key-ty-spec =
     (λ c κs. search needs)
     (λ c κs. search needs)
     (λ c. search needs)
+    (λ c κs. search needs)
     (λ c κs. search needs)
     (λ c κs. search needs)
     returns

@@ -23,7 +23,7 @@ pub use filled::{GROWING, filled};
 pub use nested::{nested, stacked};
 pub use predicates::narrowed;
 pub use rng::Rng;
-pub use shapes::{form, shapes, speaking};
+pub use shapes::{doubling, form, shapes, speaking};
 
 type Make = fn(&mut Rng) -> Vec<u8>;
 

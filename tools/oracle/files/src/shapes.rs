@@ -2,6 +2,7 @@
 //! messages are many or long.
 
 use crate::draft::{Draft, Expr, Shape, Stmt};
+use crate::filled::filled;
 use crate::forms;
 use crate::rng::Rng;
 
@@ -42,6 +43,32 @@ pub fn speaking() -> Vec<(String, Vec<u8>)> {
         all.push((format!("record-120-found-{times}"), found(120, times)));
     }
     all
+}
+
+/// What is doubled, and each file with how many there are: a number of them, twice and four times as many.
+pub fn doubling() -> Vec<(&'static str, Vec<(usize, Vec<u8>)>)> {
+    type Make = fn(usize) -> Vec<u8>;
+    let all: [(&str, usize, Make); 10] = [
+        ("fields read", 7168, |n| full("fields", n)),
+        ("alternatives read", 3584, |n| full("alternatives", n)),
+        ("names", 256, |n| full("names", n)),
+        ("nodes", 512, |n| full("literals", n)),
+        ("unknowns", 248, |n| full("variables", n)),
+        ("unknowns in a chain", 400, chain),
+        ("fields compared", 120, |n| declared(n, 50, false)),
+        ("alternatives compared", 60, |n| unions(n, 1, 50, false)),
+        ("queries", 64, |n| form(n, 1)),
+        ("messages", 500, diagnostics),
+    ];
+    all.map(|(what, most, make)| {
+        let sizes = [most / 4, most / 2, most].map(|count| (count, make(count)));
+        (what, sizes.to_vec())
+    })
+    .to_vec()
+}
+
+fn full(what: &str, count: usize) -> Vec<u8> {
+    filled(what, count).expect("it is listed")
 }
 
 /// So many fields that a key does not have.
@@ -270,6 +297,11 @@ mod tests {
     fn all_fit_in_a_file() {
         for (name, file) in shapes().into_iter().chain(speaking()) {
             assert!(file.len() <= 65_536, "{name}: {}", file.len());
+        }
+        for (what, sizes) in doubling() {
+            for (count, file) in sizes {
+                assert!(file.len() <= 65_536, "{what} {count}: {}", file.len());
+            }
         }
         for queries in [1, 30, 64] {
             assert!(form(queries, 1).len() <= 65_536);

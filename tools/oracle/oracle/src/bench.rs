@@ -22,23 +22,25 @@ pub fn run(given: &[String]) -> Done {
         [what] if what == "shapes" && linked::HAS_CHECK => shapes(rounds),
         [what] if what == "messages" && linked::HAS_CHECK => parts(&files::speaking(), rounds),
         [what] if what == "forms" && linked::HAS_CHECK => forms(rounds),
+        [what] if what == "report" && linked::HAS_CHECK => crate::report::run(rounds),
         [what] if what == "convert" => crate::convert::bench(rounds),
         [what] if what == "lamp" => crate::lamp::bench(rounds),
         [what] if what == "texts" => crate::texts::bench(rounds.max(20)),
         [what]
-            if ["answers", "reading", "shapes", "messages", "forms"].contains(&what.as_str()) =>
+            if ["answers", "reading", "shapes", "messages", "forms", "report"]
+                .contains(&what.as_str()) =>
         {
             Err(format!("nothing to time: {}", crate::compare::NO_LIBRARY))
         }
         _ => Err(
-            "bench what? one of answers, convert, reading, shapes, messages, forms, lamp, texts"
+            "bench what? one of answers, convert, reading, shapes, messages, forms, lamp, report, texts"
                 .to_owned(),
         ),
     }
 }
 
 /// How both sides were built; the workspace's Cargo.toml has it.
-const BEST: &str = "the Rust: opt-level 3, fat link-time optimization, one codegen unit, no debug assertions; the port: rt staticlib";
+pub const BEST: &str = "the Rust: opt-level 3, fat link-time optimization, one codegen unit, no debug assertions; the port: rt staticlib";
 
 /// One file's times: the quickest of all rounds.
 struct Timed {
@@ -50,20 +52,20 @@ struct Timed {
 }
 
 /// The slices that the port is lent, as the program lends them.
-struct Slices {
-    work: Vec<u32>,
+pub struct Slices {
+    pub work: Vec<u32>,
     answer: Vec<u8>,
 }
 
 impl Slices {
-    fn new(limits: &Limits) -> Self {
+    pub fn new(limits: &Limits) -> Self {
         Slices {
             work: vec![0; limits.words],
             answer: vec![0; limits.bytes],
         }
     }
 
-    fn check(&mut self, file: &[u8]) -> Duration {
+    pub fn check(&mut self, file: &[u8]) -> Duration {
         let started = Instant::now();
         black_box(linked::check(
             black_box(file),
@@ -73,7 +75,7 @@ impl Slices {
         started.elapsed()
     }
 
-    fn read(&mut self, file: &[u8]) -> Duration {
+    pub fn read(&mut self, file: &[u8]) -> Duration {
         let started = Instant::now();
         black_box(linked::read(black_box(file), &mut self.work));
         started.elapsed()
@@ -392,7 +394,7 @@ fn parts(all: &[(String, Vec<u8>)], rounds: u32) -> Done {
 }
 
 /// Whether the port's answer is the Rust's: a wrong one is not worth timing.
-fn right(name: &str, file: &[u8], expected: &Answer, limits: &Limits) -> Result<(), String> {
+pub fn right(name: &str, file: &[u8], expected: &Answer, limits: &Limits) -> Result<(), String> {
     let (found, expected) = crate::port::Port::Library.ask(file, limits, expected)?;
     if found == expected {
         return Ok(());

@@ -40,14 +40,30 @@ fn should(file: &[u8], words: usize) -> Option<String> {
     Some(format!("outcome {number}, lit {lit}, work zero: true\n"))
 }
 
+/// The full call's number, and whether its answer has an 08 line. Where the program's slice is too short, a longer
+/// one is lent.
+fn full(file: &[u8], answer: &mut [u8], work: &mut [u32]) -> (u8, bool) {
+    let short = &mut answer[..Limits::default().bytes];
+    let number = linked::check(file, work, short);
+    if number != 12 {
+        return (number, has_08(short));
+    }
+    let number = linked::check(file, work, answer);
+    (number, has_08(answer))
+}
+
+fn has_08(answer: &[u8]) -> bool {
+    let lines = answer.split(|byte| *byte == b'\n');
+    let mut own = lines.take_while(|line| line.first().is_some_and(|byte| *byte != 0));
+    own.any(|line| line.starts_with(b"08"))
+}
+
 /// Whether the full call agrees: it has an 08 line exactly where the lamp is lit, or the same refusal, or it is
 /// out of visits and the lamp is lit all the same.
-fn agrees(file: &[u8], words: usize, found: &str, answer: &mut [u8], work: &mut [u32]) -> bool {
-    match linked::check(file, &mut work[..words], answer) {
+fn agrees(number: u8, has_08: bool, found: &str) -> bool {
+    match number {
         0 => {
-            let lines = answer.split(|byte| *byte == b'\n');
-            let mut own = lines.take_while(|line| line.first().is_some_and(|byte| *byte != 0));
-            let lit = u8::from(own.any(|line| line.starts_with(b"08")));
+            let lit = u8::from(has_08);
             found == format!("outcome 0, lit {lit}, work zero: true\n")
         }
         11 => found.starts_with("outcome 11, lit 0") || found.starts_with("outcome 0, lit 1"),
@@ -72,7 +88,8 @@ pub fn compare(options: &Options) -> Done {
         let item = corpus.item(number);
         let words = [16_384, 16_384, 16_384, 20_000, 16_383][(number % 5) as usize];
         let found = lit(&item.file, words);
-        let beside = agrees(&item.file, words, &found, &mut answer, &mut work);
+        let (number_of_full, has_08) = full(&item.file, &mut answer, &mut work[..words]);
+        let beside = agrees(number_of_full, has_08, &found);
         match should(&item.file, words) {
             None => left_out += 1,
             Some(expected) if found == expected && beside => {}
@@ -85,7 +102,7 @@ pub fn compare(options: &Options) -> Done {
                 ],
             )?,
         }
-        let refused = linked::check(&item.file, &mut work[..words], &mut answer) == 11;
+        let refused = number_of_full == 11;
         let kind = match &found[..16] {
             "outcome 0, lit 1" if refused => 2,
             "outcome 0, lit 1" => 0,

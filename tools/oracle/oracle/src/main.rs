@@ -14,6 +14,7 @@ mod options;
 mod port;
 mod printed;
 mod record;
+mod report;
 mod selftest;
 mod stack;
 mod tally;
@@ -103,6 +104,7 @@ oracle bench messages [--rounds R]
 oracle bench forms [--rounds R]
 oracle bench texts [--rounds R]
 oracle bench lamp [--rounds R]
+oracle bench report [--rounds R]
     Times the port's call in process beside the Rust's reading, tree building and `check`, or the port's
     reading beside the judge's reader: N files of each style, the quickest of R rounds of each, as ratios
     (below 1 the port is quicker), by style, by length, and for files that grow in one respect; with
@@ -116,6 +118,7 @@ oracle bench lamp [--rounds R]
     query each. Lamp: files whose first diagnostic stands before, amid or after a million visits, beside the
     full call. Texts: both text tests on names of 511 bytes beside the Rust's own. Convert: both converters
     beside reading alone (the check of the file without its last line), the definition, and a copy of the file.
+    Report: styles, shapes, messages and growth as one page of ratios; tools/bench keeps it as docs/BENCH.md.
 
 oracle record [--check]
     Writes crates/replay/stdin, the recorded sample of answers; with --check holds it against the
