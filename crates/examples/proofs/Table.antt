@@ -32,8 +32,6 @@ unfolding wholes ends ℕ-discrete Bindings.fresh Bindings.freshId Bindings.anno
 whole-outcomes =
     -- M in 27 bytes
     refl then
-    -- in 20
-    refl then
     -- in 19
     refl then
     -- in more words

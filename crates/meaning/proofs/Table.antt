@@ -8,7 +8,7 @@ use Rattle.unification.specs.Bindings as Bindings
 use Rattle.unification.specs.Unify as Unify
 use Rattle.meaning.specs.Frame.{wide}
 use Rattle.meaning.specs.File.{typesOf}
-use Rattle.meaning.specs.Table.{text, examples, ownExamples, messageExamples, forms, refusals, limitsOf, holds, Rows, end, _then_}
+use Rattle.meaning.specs.Table.{text, examples, ownExamples, messageExamples, forms, refusals, limitsOf, holds, Rows, end, _then_, shortWholes, ends}
 
 -- Document 01's list.
 pub table : Rows holds examples
@@ -195,6 +195,16 @@ limit-examples =
     -- two halves
     refl then
     -- the values beside them
+    refl then
+    end
+
+-- The result and both slices.
+pub outcome-examples : Rows ends shortWholes
+unfolding shortWholes ends ℕ-discrete Bindings.fresh Bindings.freshId Bindings.annotate Bindings.snapshot Bindings.rollback Bindings.zonk Unify.unify Unify.orderable
+outcome-examples =
+    -- M in 20 bytes
+    refl then
+    -- in 3 words
     refl then
     end
 

@@ -1098,7 +1098,7 @@ pub data Rows {A : Type 0} (test : A → Bool) : List A → Type 0 where
   end : Rows test []
   _then_ : {a : A} {l : List A} → test a ≡ true → Rows test l → Rows test (a ∷ l)
 
--- ---- Whole outcomes (computed in crate examples)
+-- ---- Whole outcomes
 
 -- A file with the lengths of the two slices, the refusal's number or 0, and the answer slice at exit. The work slice is zero in each.
 pub record Whole : Type 0 where
@@ -1123,12 +1123,20 @@ wildSays =
     "0900000000" ∷
     []
 
+-- M's answer alone in its slice, and M refused with three words.
+unfoldable pub shortWholes : List Whole
+unfolding text M
+shortWholes =
+    record { file = text M; words = 16384; bytes = 20; result = 0; answer = text ("07000000" ∷ "0900000000" ∷ []) } ∷
+    record { file = text M; words = 3; bytes = 2; result = 1; answer = 0 ∷ 0 ∷ [] } ∷
+    []
+
+-- Computed in crate examples.
 unfoldable pub wholes : List Whole
 unfolding text M two wild wildSays
 wholes =
-    -- M: zeros after the answer, the answer alone, and one byte less
+    -- M: zeros after the answer, and one byte less than it
     record { file = text M; words = 16384; bytes = 27; result = 0; answer = text ("07000000" ∷ "0900000000" ∷ []) ++ replicate 7 0 } ∷
-    record { file = text M; words = 16384; bytes = 20; result = 0; answer = text ("07000000" ∷ "0900000000" ∷ []) } ∷
     record { file = text M; words = 16384; bytes = 19; result = 12; answer = replicate 19 0 } ∷
     -- more words than are asked for, one less, and no slices at all
     record { file = text M; words = 16400; bytes = 21; result = 0; answer = text ("07000000" ∷ "0900000000" ∷ []) ++ 0 ∷ [] } ∷
