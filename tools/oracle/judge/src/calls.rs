@@ -19,7 +19,7 @@ pub enum Side {
     Int,
     String,
     Bytes,
-    Fact(u16),
+    Fact(u32),
     Error,
     /// A type of the file's schema, by number.
     Schema(u16),
@@ -188,7 +188,7 @@ impl Sides<'_> {
             Side::String => Ty::String,
             Side::Bytes => Ty::Bytes,
             Side::Fact(predicate) => {
-                Ty::Fact(fjord_schema::schema::PredicateId(u32::from(predicate)))
+                Ty::Fact(fjord_schema::schema::PredicateId(predicate))
             }
             Side::Error => Ty::Error,
             Side::Schema(number) => {

@@ -172,7 +172,8 @@ impl Made {
                 0 => Side::Int,
                 1 => Side::String,
                 2 => Side::Bytes,
-                3 => Side::Fact(random.below(3) as u16),
+                // 65,536 has the low half of 0
+                3 => Side::Fact([0, 1, 2, 65_536][random.below(4) as usize]),
                 4 => Side::Error,
                 5..8 if !self.long && !file.types.is_empty() => {
                     Side::Schema(random.below(file.types.len() as u64) as u16)

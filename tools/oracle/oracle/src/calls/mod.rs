@@ -191,7 +191,7 @@ fn number(written: &[u8], from: usize, digits: usize) -> usize {
 /// The place after the type at a place, whose unknowns are told on the way.
 fn skip(written: &[u8], at: usize, unknown: &mut dyn FnMut(usize)) -> usize {
     match number(written, at, 2) {
-        3 => at + 6,
+        3 => at + 10,
         6 => {
             unknown(number(written, at + 2, 4));
             at + 6

@@ -150,7 +150,7 @@ impl Run {
             Side::Int => (INT, 0),
             Side::String => (STRING, 0),
             Side::Bytes => (BYTES, 0),
-            Side::Fact(predicate) => (FACT, u32::from(predicate)),
+            Side::Fact(predicate) => (FACT, predicate),
             Side::Error => (ERROR, 0),
             Side::Schema(number) => return self.declared(u32::from(number)),
             Side::Unknown(number) => (VAR, self.unknowns[usize::from(number)]),
@@ -194,7 +194,7 @@ impl Run {
             BYTES => put(written, &[2]),
             FACT => {
                 put(written, &[3]);
-                put(written, &two(ty.payload));
+                put(written, &ty.payload.to_be_bytes());
             }
             RECORD if ty.payload < FIRST_MADE => {
                 let at = TYPES + 2 * ty.payload as usize;
