@@ -101,7 +101,8 @@ module _ {w out : List ℕ} {full : ℕ} (p : full ≡ getD w FULL 0) where
       pub answer-full : r ≡ Full → WritesLines w out mid Full
       answer-full z = answers (g .moves .long) (λ f T d c R L. go c R L)
         where
-          go : {f : List ℕ} {T : Rows} {d : Described} (c : Checker) → Runs f w T d c → Lines w out (reports d c) → Writes out 0 (nodes c ++ reports d c) mid Full
+          go : {f : List ℕ} {T : Rows} {d : Described} (c : Checker) → Runs f w T d c → Lines w out (reports d c)
+              → Writes out 0 (nodes c ++ reports d c) mid Full
           go {d = d} c R (within q e l t) = full-writes (reports d c) (nodes c) (writes-over (written c R e l) z) (g .moves .long)
           go c R (beyond q l) = absurd (omega (arith, p, free, q))
 
@@ -137,4 +138,7 @@ module _ {w out mid : List ℕ} {r : Wrote} (g : WritesLines w out mid r) (visit
 
   pub answer-none : r ≡ Full → WritesAnswer w out visits mid Full
   unfolding answerLines
-  answer-none e = record { is = λ f T d c R L ceiling ty t q v. writes-full (g .is f T d c R L ceiling ty t q) e (hexLine (9 ∷ bytes₄ (t .visits))); long = g .long }
+  answer-none e = record {
+    is = λ f T d c R L ceiling ty t q v. writes-full (g .is f T d c R L ceiling ty t q) e (hexLine (9 ∷ bytes₄ (t .visits)));
+    long = g .long;
+  }

@@ -23,7 +23,8 @@ use Rattle.writer.specs.declared.Wrote.the-variants.{To, Full}
 use Rattle.writer.specs.Writes.{Writes, Moves, hexOf}
 use Rattle.answer.specs.Types.{Resolves, WritesTy}
 use Rattle.answer.specs.Lines.{nodeBytes, WritesSlot, WritesNode, WritesNodeLine, WritesNodeLines}
-use Rattle.writer.proofs.Writing.{writes-as, writes-then, writes-full, writes-moves, full-moves, moves-then, moves-none, moves-next, Goes, goes-start, goes-next, goes-full, goes-done}
+use Rattle.writer.proofs.Writing.{writes-as, writes-then, writes-full, writes-moves, full-moves, moves-then, moves-none, moves-next, Goes, goes-start}
+use Rattle.writer.proofs.Writing.{goes-next, goes-full, goes-done}
 use Rattle.writer.proofs.Digits.{hex-then, hex-full, line-is}
 
 resolves : {w : List ℕ} {T : Rows} {st : State} → Holds w T st → Resolves w T (st .subst)

@@ -27,7 +27,8 @@ use Rattle.writer.specs.declared.Wrote.{Wrote}
 use Rattle.writer.specs.declared.Wrote.the-variants.{To, Full}
 use Rattle.writer.specs.Writes.{Writes, Moves, hexOf}
 use Rattle.answer.specs.Types.{kindOf, headOf, partHeadOf, Resolves, resolved, WritesTy, WritesPart, WritesRow}
-use Rattle.writer.proofs.Writing.{writes-as, writes-to, writes-moves, full-moves, moves-then, moves-none, moves-next, Goes, goes-start, goes-next, goes-full, goes-done}
+use Rattle.writer.proofs.Writing.{writes-as, writes-to, writes-moves, full-moves, moves-then, moves-none, moves-next, Goes, goes-start, goes-next}
+use Rattle.writer.proofs.Writing.{goes-full, goes-done}
 use Rattle.writer.proofs.Digits.{hex-append, hex-then, hex-full}
 
 -- ---- The parts that are counted are those that are written
@@ -70,7 +71,8 @@ module _ {w out : List ℕ} {at : ℕ} {t u : Ty} (rep : Reprs w t u) where
     moves = m;
   }
 
-  pub ty-leaf : (p : Tree.Leaf) → ((T : Rows) → tree T u ≡ Tree.leaf p) → {out′ : List ℕ} {r : Wrote} → Writes out at (hexOf (leafBytes p)) out′ r → WritesTy w out at t out′ r
+  pub ty-leaf : (p : Tree.Leaf) → ((T : Rows) → tree T u ≡ Tree.leaf p) → {out′ : List ℕ} {r : Wrote} → Writes out at (hexOf (leafBytes p)) out′ r
+      → WritesTy w out at t out′ r
   unfolding tyBytes
   ty-leaf p e f = end-of-chain (writes-moves f) (λ T s R o v. rw (e T, zonk-leaf s p) f)
 
@@ -82,8 +84,10 @@ module _ {w out : List ℕ} {at : ℕ} {t u : Ty} (rep : Reprs w t u) where
   unfolding tyBytes
   ty-error e f = end-of-chain (writes-moves f) (λ T s R o v. rw (e, zonk-error s) f)
 
-  module _ (k : Kind) (c : ℕ) (e : u ≡ cellTy k c) (m : ℕ) (q : m ≡ countW w c) {mid : List ℕ} {h : Wrote} (f : Writes out at (hexOf (kindByte (kindOf k) ∷ bytes₂ m)) mid h) where
-    node-bytes : (T : Rows) (s : Subst) → Resolves w T s → Ok w u → tyBytes (zonk s (tree T u)) ≡ (kindByte (kindOf k) ∷ bytes₂ m) ++ rowBytes (resolved s (T c)) (kindOf k)
+  module _ (k : Kind) (c : ℕ) (e : u ≡ cellTy k c) (m : ℕ) (q : m ≡ countW w c) {mid : List ℕ} {h : Wrote}
+      (f : Writes out at (hexOf (kindByte (kindOf k) ∷ bytes₂ m)) mid h) where
+    node-bytes : (T : Rows) (s : Subst) → Resolves w T s → Ok w u
+        → tyBytes (zonk s (tree T u)) ≡ (kindByte (kindOf k) ∷ bytes₂ m) ++ rowBytes (resolved s (T c)) (kindOf k)
     unfolding tyBytes
     node-bytes T s R o = rw (e, cell-tree T k c, zonk-node s (kindOf k) (T c), q, counted R k c (cell-ok w k c (rw e at o)))
 
@@ -95,7 +99,8 @@ module _ {w out : List ℕ} {at : ℕ} {t u : Ty} (rep : Reprs w t u) where
     ty-cell-full p = end-of-chain (full-moves (f .long)) (λ T s R o v. writes-as (ap hexOf (sym (node-bytes T s R o))) (hex-full _ _ f p))
 
 -- ---- A part
-module _ {w out : List ℕ} {at : ℕ} {k : Kind} {p : Part} {mid : List ℕ} {h : Wrote} (f : Writes out at (hexOf (cellHead (kindOf k) (p .key) (p .label))) mid h) where
+module _ {w out : List ℕ} {at : ℕ} {k : Kind} {p : Part} {mid : List ℕ} {h : Wrote}
+    (f : Writes out at (hexOf (cellHead (kindOf k) (p .key) (p .label))) mid h) where
   pub part-then : {n : ℕ} → h ≡ To n → {out′ : List ℕ} {r : Wrote} → WritesTy w mid n (p .ty) out′ r → WritesPart w out at k p out′ r
   part-then e g = record { is = λ T s R o. hex-then _ _ f e (g .is T s R o); moves = moves-then (writes-moves f) e (g .moves) }
 
@@ -121,7 +126,8 @@ row-start w out at k c n e = record {
 module _ {w out₀ : List ℕ} {at : ℕ} {k : Kind} {c n : ℕ} {out : List ℕ} {j to : ℕ} (g : Rowing w out₀ at k c n out j to) where
   module _ (p : Part) (l : j < n) (e : p ≡ partW w k c j) {out′ : List ℕ} {r : Wrote} (f : WritesPart w out to k p out′ r) where
     cell-bytes : (T : Rows) (s : Subst) → hexOf (rowBytes (resolved s (rest T w k c n j)) (kindOf k))
-        ≡ hexOf (cellHead (kindOf k) (p .key) (p .label) ++ tyBytes (zonk s (tree T (p .ty)))) ++ hexOf (rowBytes (resolved s (rest T w k c n (j + 1))) (kindOf k))
+        ≡ hexOf (cellHead (kindOf k) (p .key) (p .label) ++ tyBytes (zonk s (tree T (p .ty)))) ++ hexOf
+        (rowBytes (resolved s (rest T w k c n (j + 1))) (kindOf k))
     unfolding rowBytes appRow
     cell-bytes T s = rw (rest-cell T w k c n j p l e, zonk-replaces s (tree T (p .ty))) (hex-append _ _)
 
@@ -170,7 +176,8 @@ head-digits w (Var x) = omega arith
 head-digits w Error = omega arith
 
 -- Where the parts start there is less room.
-pub head-moves : (w : List ℕ) {out : List ℕ} {at : ℕ} (u : Ty) {mid : List ℕ} {h : Wrote} {n : ℕ} → Writes out at (hexOf (headOf w u)) mid h → h ≡ To n → (at < n) × (n ≤ length out)
+pub head-moves : (w : List ℕ) {out : List ℕ} {at : ℕ} (u : Ty) {mid : List ℕ} {h : Wrote} {n : ℕ} → Writes out at (hexOf (headOf w u)) mid h
+    → h ≡ To n → (at < n) × (n ≤ length out)
 head-moves w u f e = let g = writes-to f e in (omega (arith, g .0, head-digits w u), g .1)
 
 abbrev pub Along : List ℕ → List ℕ → ℕ → Ty → ℕ → List ℕ → ℕ → ℕ → Type 0
@@ -203,11 +210,14 @@ typing-start w mid from u n e = record { moves = moves-none mid from; along = go
 none-there : {A : Type 0} {n j : ℕ} → n ≡ 0 → j < n → A
 none-there e h = absurd (omega arith)
 
-module _ {w mid : List ℕ} {from n : ℕ} {out : List ℕ} {j to : ℕ} (p : Part) (l : j < n) {half : List ℕ} {b : Wrote} {m : ℕ} (q : b ≡ To m) {out′ : List ℕ} {r : Wrote} (x : WritesTy w half m (p .ty) out′ r) where
-  pub typing-next : (u : Ty) → Typing w mid from u n out j to → p ≡ partOfW w u j → Writes out to (hexOf (partHeadOf u (p .key) (p .label))) half b → {k : ℕ} → r ≡ To k → Typing w mid from u n out′ (j + 1) k
+module _ {w mid : List ℕ} {from n : ℕ} {out : List ℕ} {j to : ℕ} (p : Part) (l : j < n) {half : List ℕ} {b : Wrote} {m : ℕ} (q : b ≡ To m)
+    {out′ : List ℕ} {r : Wrote} (x : WritesTy w half m (p .ty) out′ r) where
+  pub typing-next : (u : Ty) → Typing w mid from u n out j to → p ≡ partOfW w u j → Writes out to (hexOf (partHeadOf u (p .key) (p .label))) half b
+      → {k : ℕ} → r ≡ To k → Typing w mid from u n out′ (j + 1) k
   typing-next u g e f {k} z = record { moves = moves-next (g .moves) (moves-then (writes-moves f) q (x .moves)) z; along = go u (g .along) e f }
     where
-      go : (u : Ty) → Along w mid from u n out j to → p ≡ partOfW w u j → Writes out to (hexOf (partHeadOf u (p .key) (p .label))) half b → Along w mid from u n out′ (j + 1) k
+      go : (u : Ty) → Along w mid from u n out j to → p ≡ partOfW w u j → Writes out to (hexOf (partHeadOf u (p .key) (p .label))) half b
+          → Along w mid from u n out′ (j + 1) k
       go Int g e f = none-there (g .0) l
       go Str g e f = none-there (g .0) l
       go Bytes g e f = none-there (g .0) l
@@ -230,7 +240,8 @@ module _ {w out : List ℕ} {at : ℕ} {t : Ty} {mid : List ℕ} {h : Wrote} whe
   typing-full Error rep f e = ty-error rep refl (rw e at f)
 
   module _ {from : ℕ} (z : h ≡ To from) {n : ℕ} {now : List ℕ} {j to : ℕ} where
-    pub typing-done : (u : Ty) → Reprs w t u → Writes out at (hexOf (headOf w u)) mid h → Typing w mid from u n now j to → n ≤ j → WritesTy w out at t now (To to)
+    pub typing-done : (u : Ty) → Reprs w t u → Writes out at (hexOf (headOf w u)) mid h → Typing w mid from u n now j to → n ≤ j
+        → WritesTy w out at t now (To to)
     unfolding leafBytes kindByte
     typing-done Int rep f g l = ty-leaf rep Tree.Int (λ T. refl) (rw (← g .along .1, ← g .along .2) (rw z at f))
     typing-done Str rep f g l = ty-leaf rep Tree.String (λ T. refl) (rw (← g .along .1, ← g .along .2) (rw z at f))
@@ -255,7 +266,8 @@ module _ {w out : List ℕ} {at : ℕ} {t : Ty} {mid : List ℕ} {h : Wrote} whe
       typing-stops Error rep f g e s q = none-there (g .along .0) l
 
       pub typing-ends : (u : Ty) → Reprs w t u → Writes out at (hexOf (headOf w u)) mid h → Typing w mid from u n now j to → p ≡ partOfW w u j
-          → Writes now to (hexOf (partHeadOf u (p .key) (p .label))) half b → {m : ℕ} → b ≡ To m → {out′ : List ℕ} {r : Wrote} → WritesTy w half m (p .ty) out′ r → r ≡ Full → WritesTy w out at t out′ Full
+          → Writes now to (hexOf (partHeadOf u (p .key) (p .label))) half b → {m : ℕ} → b ≡ To m → {out′ : List ℕ} {r : Wrote}
+          → WritesTy w half m (p .ty) out′ r → r ≡ Full → WritesTy w out at t out′ Full
       unfolding kindByte
       typing-ends Int rep f g e s q x y = none-there (g .along .0) l
       typing-ends Str rep f g e s q x y = none-there (g .along .0) l

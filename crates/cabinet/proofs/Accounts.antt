@@ -25,7 +25,8 @@ module _ (a : Account) where
   unfolding ceilingIn
   desk-ceiling e = ap (λ b. pick b (ceilingOf (a .group) (a .desk)) 1048576) e
 
-  pub desk-charged : (visits : ℕ) → a .bounded ≡ true → chargedTo a visits ≡ record { bounded = a .bounded; desk = a .desk; group = charged (a .group) (a .desk) visits }
+  pub desk-charged : (visits : ℕ) → a .bounded ≡ true → chargedTo a visits ≡ record
+      { bounded = a .bounded; desk = a .desk; group = charged (a .group) (a .desk) visits }
   unfolding chargedTo
   desk-charged visits e = ap (λ b. pick b (record { bounded = a .bounded; desk = a .desk; group = charged (a .group) (a .desk) visits }) a) e
 

@@ -51,7 +51,8 @@ rests-not n e = rw e (record { exactly = (λ q. absurd (differ (sym q)), λ v. a
 -- ---- `setup`
 
 module _ {pool : ℕ} {shares caps : List ℕ} {r : Changed} where
-  pub sets-up : length shares ≡ length caps → Valid (setUp pool shares caps) → r ≡ record { group = setUp pool shares caps; refused = false } → SetsUp pool shares caps r
+  pub sets-up : length shares ≡ length caps → Valid (setUp pool shares caps) → r ≡ record { group = setUp pool shares caps; refused = false }
+      → SetsUp pool shares caps r
   sets-up l v e = rw e (record { exactly = (λ _. set-up-allowed pool shares caps l v, λ _. refl); made = λ _. refl; turned-down = λ q. absurd (differ q) })
 
   pub sets-up-not : (Allowed pool shares caps → ⊥) → r ≡ record { group = nobody; refused = true } → SetsUp pool shares caps r

@@ -77,7 +77,8 @@ module _ (g : Group) (held : ℕ) (some : 1 ≤ g .count) (few : g .count ≤ 16
 -- ---- `others`
 
 module _ (ds : List Desk) (d : ℕ) {i sum sum′ : ℕ} (s : Summed (but d (λ j. larger (getD ds j absent))) i sum) where
-  pub other-on : (i ≡ d → ⊥) → (k : ℕ) → k ≡ larger (getD ds i absent) → k < 4294967296 → sum′ ≡ sum + k → Summed (but d (λ j. larger (getD ds j absent))) (i + 1) sum′
+  pub other-on : (i ≡ d → ⊥) → (k : ℕ) → k ≡ larger (getD ds i absent) → k < 4294967296 → sum′ ≡ sum + k
+      → Summed (but d (λ j. larger (getD ds j absent))) (i + 1) sum′
   other-on n k e l q = rw q (summed-on s k (e ∙ sym (but-other d (λ j. larger (getD ds j absent)) i n)) l)
 
   pub other-skip : i ≡ d → sum′ ≡ sum → Summed (but d (λ j. larger (getD ds j absent))) (i + 1) sum′

@@ -31,7 +31,8 @@ rest-of-pool share pool used kept l = omega arith
 third : (m b c visits : ℕ) → visits ≤ min m (min b c) → visits ≤ c
 third m b c visits l = omega arith
 
-still-beside : (share pool used kept visits used′ : ℕ) → kept + max used share ≤ pool → visits ≤ pool - used - kept → used′ ≤ used + visits → kept + max used′ share ≤ pool
+still-beside : (share pool used kept visits used′ : ℕ) → kept + max used share ≤ pool → visits ≤ pool - used - kept → used′ ≤ used + visits
+    → kept + max used′ share ≤ pool
 still-beside share pool used kept visits used′ b l u = omega arith
 
 module _ (g : Group) (v : Valid g) (d : ℕ) (at : d < g .count) where
@@ -64,7 +65,8 @@ module _ (g : Group) (d visits : ℕ) where
       go true e = rw (getD-set-same (g .desks) d _ absent (ltb-true d _ e)) (record { share = refl; cap = refl; used = omega arith })
       go false e = let past = ltb-false d _ e in
           let still : length (charged g d visits .desks) ≤ d = simp length-set past in
-          rw (List·getD-eq-default (charged g d visits .desks) absent still, List·getD-eq-default (g .desks) absent past) (record { share = refl; cap = refl; used = omega arith })
+          rw (List·getD-eq-default (charged g d visits .desks) absent still, List·getD-eq-default (g .desks) absent past)
+          (record { share = refl; cap = refl; used = omega arith })
 
   grown : (i : ℕ) → Grown visits (desk g i) (desk (charged g d visits) i)
   grown i = go (eqb i d) refl
@@ -116,7 +118,8 @@ module _ (g : Group) (share cap : ℕ → ℕ) (unused : (i : ℕ) → i < 16 �
   unused-rules v = record {
     some = v .rules .some;
     few = v .rules .few;
-    shares = rw (total-same share (λ i. desk g i .share) (g .count) (λ i k. sym (ap (λ x. x .share) (unused i (omega (arith, v .rules .few)))))) (v .rules .shares);
+    shares = rw (total-same share (λ i. desk g i .share) (g .count) (λ i k. sym (ap (λ x. x .share) (unused i (omega (arith, v .rules .few))))))
+        (v .rules .shares);
     caps = λ i k. rw (unused i (omega (arith, v .rules .few))) at (v .rules .caps i k);
   }
 

@@ -41,4 +41,5 @@ module _ {f : ℕ → Desk} {ds₀ : List Desk} where
 
   pub filling-end : {n i : ℕ} {ds : List Desk} → Filling f ds₀ i ds → length ds₀ ≡ n → n ≤ i → ds ≡ places f n
   filling-end {n} {i} {ds} h e l =
-      ext-getD absent ds (places f n) (cc (h .long, place-length f n)) (λ j b. let k : j < n = omega (arith, h .long) in rw (h .done j (omega arith)) (sym (place-at f n j k)))
+      ext-getD absent ds (places f n) (cc (h .long, place-length f n))
+      (λ j b. let k : j < n = omega (arith, h .long) in rw (h .done j (omega arith)) (sym (place-at f n j k)))

@@ -127,7 +127,8 @@ module _ {P : Subst → Type 0} {f : ℕ → Subst → ℕ → Row → Answer} {
   here i e = e ∙ ap (λ (p : Part). p .ty) (part-of w j i)
 
   asking-next : (t : Ty) → j < n → t ≡ partOfW w u j .ty → (v′ : ℕ) → v′ ≤ v
-      → ((T : Rows) (s : Subst) → Cells w T → Binds w T s → P s → Ok w t → (d : ℕ) → left ≤ d → (k m : ℕ) (r : Row) → f d s v (cell k m (tree T t) r) ≡ f d s v′ r)
+      → ((T : Rows) (s : Subst) → Cells w T → Binds w T s → P s → Ok w t → (d : ℕ) → left ≤ d → (k m : ℕ) (r : Row)
+      → f d s v (cell k m (tree T t) r) ≡ f d s v′ r)
       → Asking P f w u left n (j + 1) v′
   asking-next t h e v′ l q = record {
     within = omega arith;
@@ -164,12 +165,14 @@ no-visit {w} {x} {t} {left} e = record { is = λ T s C B o d h. one s d (tree T 
 module _ {w : List ℕ} {x : ℕ} {t u : Ty} {left : ℕ} (some : ¬ (left ≡ 0)) (rep : Reprs w t u) where
   -- One visit, and on to the end of the chain.
   visit : (r : Asked) → askedLeft r ≤ left - 1
-      → ((T : Rows) (s : Subst) → Cells w T → Binds w T s → Ok w u → (d : ℕ) → left - 1 ≤ d → answerOf r ≡ occursIn (λ v t. Bindings.occurs d s x v t) x (left - 1) (tree T u))
+      → ((T : Rows) (s : Subst) → Cells w T → Binds w T s → Ok w u → (d : ℕ) → left - 1 ≤ d
+      → answerOf r ≡ occursIn (λ v t. Bindings.occurs d s x v t) x (left - 1) (tree T u))
       → Occurs w x t left r
   unfolding Bindings.occurs
   visit r f a = record { is = λ T s C B o d h. one T s C B o d h (left - 1) (omega arith); fewer = omega arith }
     where
-      one : (T : Rows) (s : Subst) → Cells w T → Binds w T s → Ok w t → (d : ℕ) → left ≤ d → (l : ℕ) → left ≡ suc l → answerOf r ≡ Bindings.occurs d s x left (tree T t)
+      one : (T : Rows) (s : Subst) → Cells w T → Binds w T s → Ok w t → (d : ℕ) → left ≤ d → (l : ℕ) → left ≡ suc l
+          → answerOf r ≡ Bindings.occurs d s x left (tree T t)
       one T s C B o zero h l e = absurd (omega arith)
       one T s C B o (suc d) h l e =
           let m : left - 1 ≡ l = omega arith in
@@ -180,7 +183,8 @@ any-next : (ask : ℕ → Tree.Ty → Answer) (v l k m : ℕ) (t : Tree.Ty) (r :
 unfolding anyRow
 any-next ask v l k m t r e = rw (e, anyRow)
 
-any-ends : (a : Asked) → OneOf (0 ∷ 2 ∷ []) (tagOf asked.the-type a) → (ask : ℕ → Tree.Ty → Answer) (v k m : ℕ) (t : Tree.Ty) (r : Row) → ask v t ≡ answerOf a → anyRow ask v (cell k m t r) ≡ answerOf a
+any-ends : (a : Asked) → OneOf (0 ∷ 2 ∷ []) (tagOf asked.the-type a) → (ask : ℕ → Tree.Ty → Answer) (v k m : ℕ) (t : Tree.Ty) (r : Row)
+    → ask v t ≡ answerOf a → anyRow ask v (cell k m t r) ≡ answerOf a
 unfolding anyRow
 any-ends (Yes l) h ask v k m t r e = rw (e, anyRow)
 any-ends Spent h ask v k m t r e = rw (e, anyRow)
@@ -216,7 +220,8 @@ no-part w (Union c) j o e = absurd (miss (0 ∷ 1 ∷ 2 ∷ 3 ∷ 6 ∷ 7 ∷ []
 no-part w (Var y) j o e = e
 no-part w Error j o e = e
 
-pub no-part-ty : (w : List ℕ) (u : Ty) (j : ℕ) {t : Ty} → OneOf (0 ∷ 1 ∷ 2 ∷ 3 ∷ 6 ∷ 7 ∷ []) (tagOf ty.the-type u) → t ≡ fieldW w 0 j .ty → t ≡ partOfW w u j .ty
+pub no-part-ty : (w : List ℕ) (u : Ty) (j : ℕ) {t : Ty} → OneOf (0 ∷ 1 ∷ 2 ∷ 3 ∷ 6 ∷ 7 ∷ []) (tagOf ty.the-type u) → t ≡ fieldW w 0 j .ty
+    → t ≡ partOfW w u j .ty
 no-part-ty w u j o e = e ∙ ap (λ (p : Part). p .ty) (no-part w u j o refl)
 
 -- A type without parts holds an unknown where it is that unknown.
@@ -252,7 +257,8 @@ module _ {w : List ℕ} {x : ℕ} {t u : Ty} {left : ℕ} (some : ¬ (left ≡ 0
   occurring-yes e = visit some rep (Yes (left - 1)) (omega arith) (λ T s C B o d h. is-inside x T _ (left - 1) u e)
 
   module _ {n j v : ℕ} (g : Asking Any (asks x) w u (left - 1) n j v) where
-    pub occurring-ends : (q : Ty) → j < n → q ≡ partOfW w u j .ty → {a : Asked} → Occurs w x q v a → OneOf (0 ∷ 2 ∷ []) (tagOf asked.the-type a) → Occurs w x t left a
+    pub occurring-ends : (q : Ty) → j < n → q ≡ partOfW w u j .ty → {a : Asked} → Occurs w x q v a → OneOf (0 ∷ 2 ∷ []) (tagOf asked.the-type a)
+        → Occurs w x t left a
     unfolding occursIn
     occurring-ends q h e {a} o z = by-parts u
         (λ k c i. visit some rep a (omega (arith, g .fewer, o .fewer)) (λ T s C B p d b. rw (tree-of T i) (sym
@@ -284,12 +290,14 @@ pub outside : {w : List ℕ} {x : ℕ} {t : Ty} {left l : ℕ} → Occurs w x t 
 outside {w} {x} {t} {left} {l} o = record {
   enough = λ v h. record {
     is = λ T s C B i d b. sym (at d s (tree T t) v b
-        ∙ again (λ z. Bindings.occurs (d + left) s x z (tree T t)) (λ k z. occurs-longer k (d + left) s x z (tree T t)) false left l (o .fewer) (sym (o .is T s C B i (d + left) (omega arith))) v h);
+        ∙ again (λ z. Bindings.occurs (d + left) s x z (tree T t)) (λ k z. occurs-longer k (d + left) s x z (tree T t)) false left l (o .fewer)
+        (sym (o .is T s C B i (d + left) (omega arith))) v h);
     fewer = omega arith;
   };
   short = λ v h. record {
     is = λ T s C B i d b. sym (at d s (tree T t) v b
-        ∙ again-stopped (λ z. Bindings.occurs (d + left) s x z (tree T t)) (λ k z. occurs-longer k (d + left) s x z (tree T t)) false left l (o .fewer) (sym (o .is T s C B i (d + left) (omega arith))) v h);
+        ∙ again-stopped (λ z. Bindings.occurs (d + left) s x z (tree T t)) (λ k z. occurs-longer k (d + left) s x z (tree T t)) false left l
+        (o .fewer) (sym (o .is T s C B i (d + left) (omega arith))) v h);
     fewer = omega arith;
   };
 }
@@ -304,10 +312,12 @@ module _ {w : List ℕ} {x : ℕ} {u : Ty} {left n j v : ℕ} {last : Ty} {cost 
   pub occurring-again : q ≡ last → cost ≤ v → v′ ≡ v - cost → last′ ≡ last → cost′ ≡ cost → Asking Any (asks x) w u left n (j + 1) v′ × Outside w x last′ cost′
   occurring-again s m a b c = rw (a, b, c) (occurring-next (g .0) q h e (rw s (g .1 .enough v m)) (v - cost) refl, g .1)
 
-  pub occurring-new : {a : Asked} → Occurs w x q v a → (l : ℕ) → a ≡ No l → v′ ≡ l → last′ ≡ q → cost′ ≡ v - l → Asking Any (asks x) w u left n (j + 1) v′ × Outside w x last′ cost′
+  pub occurring-new : {a : Asked} → Occurs w x q v a → (l : ℕ) → a ≡ No l → v′ ≡ l → last′ ≡ q → cost′ ≡ v - l
+      → Asking Any (asks x) w u left n (j + 1) v′ × Outside w x last′ cost′
   occurring-new o l z a b c = rw (a, b, c) (occurring-next (g .0) q h e o l z, outside (rw z at o))
 
-pub occurring-short : {w : List ℕ} {x : ℕ} {t u : Ty} {left : ℕ} → ¬ (left ≡ 0) → Reprs w t u → {n j v : ℕ} {last : Ty} {cost : ℕ} → Asking Any (asks x) w u (left - 1) n j v × Outside w x last cost
+pub occurring-short : {w : List ℕ} {x : ℕ} {t u : Ty} {left : ℕ} → ¬ (left ≡ 0) → Reprs w t u → {n j v : ℕ} {last : Ty} {cost : ℕ}
+    → Asking Any (asks x) w u (left - 1) n j v × Outside w x last cost
     → (q : Ty) → j < n → q ≡ partOfW w u j .ty → q ≡ last → v < cost → Occurs w x t left Spent
 occurring-short some rep g q h e s m = occurring-ends some rep (g .0) q h e (rw s (g .1 .short _ m)) (hit (0 ∷ 2 ∷ []) 2 tt)
 
@@ -361,7 +371,8 @@ all-cell : (v k m : ℕ) (t : Tree.Ty) (r : Row) (a : Answer) → Unify.orderabl
 unfolding Unify.allOrderable
 all-cell v k m t r a e = ap (goes-on r) e
 
-all-ends : (a : Asked) → OneOf (1 ∷ 2 ∷ []) (tagOf asked.the-type a) → (v k m : ℕ) (t : Tree.Ty) (r : Row) → Unify.orderable t v ≡ answerOf a → Unify.allOrderable (cell k m t r) v ≡ answerOf a
+all-ends : (a : Asked) → OneOf (1 ∷ 2 ∷ []) (tagOf asked.the-type a) → (v k m : ℕ) (t : Tree.Ty) (r : Row) → Unify.orderable t v ≡ answerOf a
+    → Unify.allOrderable (cell k m t r) v ≡ answerOf a
 all-ends (No l) h v k m t r e = all-cell v k m t r (no-left l) e
 all-ends Spent h v k m t r e = all-cell v k m t r spent e
 all-ends (Yes l) h v k m t r e = absurd (miss (1 ∷ 2 ∷ []) 0 tt h)
@@ -372,13 +383,15 @@ module _ {w : List ℕ} {u : Ty} {left n j v : ℕ} (g : Asking Acyclic orders w
       → Unify.orderable (app (λ x. Bindings.zonk s (Tree.Var x)) (tree T t)) v ≡ answerOf a
   said t o T s C B A i = rw (← zonk-replaces s (tree T t)) (sym (o .is T s C B A i))
 
-  pub ordering-next : (t : Ty) → j < n → t ≡ partOfW w u j .ty → {a : Asked} → IsOrderable w t v a → (l : ℕ) → a ≡ Yes l → Asking Acyclic orders w u left n (j + 1) l
+  pub ordering-next : (t : Ty) → j < n → t ≡ partOfW w u j .ty → {a : Asked} → IsOrderable w t v a → (l : ℕ) → a ≡ Yes l
+      → Asking Acyclic orders w u left n (j + 1) l
   unfolding appRow
   ordering-next t h e o l q = asking-next g t h e l (rw q at (o .fewer))
       (λ T s C B A i d b k m r. all-cell v _ _ _ _ (yes-left l) (rw q at (said t o T s C B A i)))
 
 module _ {w : List ℕ} {t u : Ty} {left : ℕ} (some : ¬ (left ≡ 0)) (rep : Reprs w t u) {n j v : ℕ} (g : Asking Acyclic orders w u (left - 1) n j v) where
-  pub ordering-ends : (q : Ty) → j < n → q ≡ partOfW w u j .ty → {a : Asked} → IsOrderable w q v a → OneOf (1 ∷ 2 ∷ []) (tagOf asked.the-type a) → IsOrderable w t left a
+  pub ordering-ends : (q : Ty) → j < n → q ≡ partOfW w u j .ty → {a : Asked} → IsOrderable w q v a → OneOf (1 ∷ 2 ∷ []) (tagOf asked.the-type a)
+      → IsOrderable w t left a
   unfolding appRow
   ordering-ends q h e {a} o z = by-parts u
       (λ k c i. order some rep a (omega (arith, g .fewer, o .fewer)) (λ T s C B A p. order-node some rep (kindOf k) a T s c (tree-of T i)
@@ -417,8 +430,18 @@ error-ordered w = record {
 
 pub ordered : {w : List ℕ} {t : Ty} {left l : ℕ} → IsOrderable w t left (Yes l) → Ordered w t (left - l)
 ordered {w} {t} {left} {l} o = record {
-  enough = λ v h. record { is = λ T s C B A i. sym (again (λ z. Unify.orderable (Bindings.zonk s (tree T t)) z) (λ k z. orderable-longer k (Bindings.zonk s (tree T t)) z) true left l (o .fewer) (sym (o .is T s C B A i)) v h); fewer = omega arith };
-  short = λ v h. record { is = λ T s C B A i. sym (again-stopped (λ z. Unify.orderable (Bindings.zonk s (tree T t)) z) (λ k z. orderable-longer k (Bindings.zonk s (tree T t)) z) true left l (o .fewer) (sym (o .is T s C B A i)) v h); fewer = omega arith };
+  enough = λ v h. record {
+    is = λ T s C B A i. sym
+        (again (λ z. Unify.orderable (Bindings.zonk s (tree T t)) z) (λ k z. orderable-longer k (Bindings.zonk s (tree T t)) z) true left l (o .fewer)
+        (sym (o .is T s C B A i)) v h);
+    fewer = omega arith;
+  };
+  short = λ v h. record {
+    is = λ T s C B A i. sym
+        (again-stopped (λ z. Unify.orderable (Bindings.zonk s (tree T t)) z) (λ k z. orderable-longer k (Bindings.zonk s (tree T t)) z) true left l
+        (o .fewer) (sym (o .is T s C B A i)) v h);
+    fewer = omega arith;
+  };
 }
 
 module _ {w : List ℕ} {u : Ty} {left n j v : ℕ} {last : Ty} {cost : ℕ} (g : Asking Acyclic orders w u left n j v × Ordered w last cost)
@@ -426,9 +449,11 @@ module _ {w : List ℕ} {u : Ty} {left n j v : ℕ} {last : Ty} {cost : ℕ} (g 
   pub ordering-again : q ≡ last → cost ≤ v → v′ ≡ v - cost → last′ ≡ last → cost′ ≡ cost → Asking Acyclic orders w u left n (j + 1) v′ × Ordered w last′ cost′
   ordering-again s m a b c = rw (a, b, c) (ordering-next (g .0) q h e (rw s (g .1 .enough v m)) (v - cost) refl, g .1)
 
-  pub ordering-new : {a : Asked} → IsOrderable w q v a → (l : ℕ) → a ≡ Yes l → v′ ≡ l → last′ ≡ q → cost′ ≡ v - l → Asking Acyclic orders w u left n (j + 1) v′ × Ordered w last′ cost′
+  pub ordering-new : {a : Asked} → IsOrderable w q v a → (l : ℕ) → a ≡ Yes l → v′ ≡ l → last′ ≡ q → cost′ ≡ v - l
+      → Asking Acyclic orders w u left n (j + 1) v′ × Ordered w last′ cost′
   ordering-new o l z a b c = rw (a, b, c) (ordering-next (g .0) q h e o l z, ordered (rw z at o))
 
-pub ordering-short : {w : List ℕ} {t u : Ty} {left : ℕ} → ¬ (left ≡ 0) → Reprs w t u → {n j v : ℕ} {last : Ty} {cost : ℕ} → Asking Acyclic orders w u (left - 1) n j v × Ordered w last cost
+pub ordering-short : {w : List ℕ} {t u : Ty} {left : ℕ} → ¬ (left ≡ 0) → Reprs w t u → {n j v : ℕ} {last : Ty} {cost : ℕ}
+    → Asking Acyclic orders w u (left - 1) n j v × Ordered w last cost
     → (q : Ty) → j < n → q ≡ partOfW w u j .ty → q ≡ last → v < cost → IsOrderable w t left Spent
 ordering-short some rep g q h e s m = ordering-ends some rep (g .0) q h e (rw s (g .1 .short _ m)) (hit (1 ∷ 2 ∷ []) 2 tt)

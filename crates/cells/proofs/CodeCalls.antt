@@ -33,10 +33,13 @@ use Rattle.cells.specs.Words.{declaredW, madeField, freshW}
 use Rattle.cells.specs.Inferred.{newRecordW, newRecordTy, rowMade, rowsWith, Filled}
 use Rattle.cells.specs.Stands.{Rows, tree, boundTree, tagOf, IsCell, declared, made, Ok, Holds}
 use Rattle.cells.specs.Contracts.{Stays, Ends, Unifies}
-use Rattle.cells.specs.CodeCalls.{kindTree, Declares, Permitted, untyped, with-state, united, CodeCalls, none-yet, unknown, reserving, filling, record-cell, success, failure, snapping, rollingBack, spending, annotation, CodeLed, between-calls, at-the-limit, Returned}
+use Rattle.cells.specs.CodeCalls.{kindTree, Declares, Permitted, untyped, with-state, united, CodeCalls, none-yet, unknown, reserving, filling}
+use Rattle.cells.specs.CodeCalls.{record-cell, success, failure, snapping, rollingBack, spending, annotation, CodeLed, between-calls, at-the-limit}
+use Rattle.cells.specs.CodeCalls.{Returned}
 use Rattle.cells.proofs.Frame.{SameCells, keeps-cells, cell-before, cell-by}
 use Rattle.cells.proofs.Holding.{holds-log, holds-left, annotate-keeps, annotate-holds, fresh-cells, fresh-holds}
-use Rattle.cells.proofs.Making.{reserve-other, reserve-holds, put-field-keeps, put-field-holds, new-record-ty, new-record-other, new-record-count, new-record-more, new-record-row, new-or-old, new-record-holds}
+use Rattle.cells.proofs.Making.{reserve-other, reserve-holds, put-field-keeps, put-field-holds, new-record-ty, new-record-other, new-record-count}
+use Rattle.cells.proofs.Making.{new-record-more, new-record-row, new-or-old, new-record-holds}
 
 -- What a type in hand stands for is a permitted side.
 pub ok-side : {w : List ℕ} {T : Rows} {st : State} → Holds w T st → Permitted w T → (t : Ty) → Ok w t → Side (length (st .subst)) (tree T t)
@@ -50,8 +53,10 @@ ok-side H P (Var x) o = omega (arith, H .binds .unknowns)
 ok-side H P Error o = tt
 
 -- Cells that stay are permitted still.
-permitted-old : {w w′ : List ℕ} {T : Rows} → ((k : Kind) (c : ℕ) → IsCell w′ k c → IsCell w k c) → getD w UNKNOWNS 0 ≤ getD w′ UNKNOWNS 0 → Permitted w T → Permitted w′ T
-permitted-old {w} {w′} {T} old more P = record { cell = λ k c h. side-more (getD w UNKNOWNS 0) (getD w′ UNKNOWNS 0) more (Tree.node (kindTree k) (T c)) (P .cell k c (old k c h)) }
+permitted-old : {w w′ : List ℕ} {T : Rows} → ((k : Kind) (c : ℕ) → IsCell w′ k c → IsCell w k c) → getD w UNKNOWNS 0 ≤ getD w′ UNKNOWNS 0
+    → Permitted w T → Permitted w′ T
+permitted-old {w} {w′} {T} old more P = record
+    { cell = λ k c h. side-more (getD w UNKNOWNS 0) (getD w′ UNKNOWNS 0) more (Tree.node (kindTree k) (T c)) (P .cell k c (old k c h)) }
 
 permitted-same : {w w′ : List ℕ} {T : Rows} → SameCells w w′ → Permitted w T → Permitted w′ T
 permitted-same S P = permitted-old (λ k c h. cell-before S h) (S .unknowns) P
@@ -72,7 +77,8 @@ module _ {w : List ℕ} {T : Rows} {st : State} (H : Holds w T st) (P : Permitte
   permitted-record : (from n : ℕ) → getD w RECORD-COUNT 0 < 512 → Filled w from n → Permitted (newRecordW w from n) (rowsWith w from n T)
   permitted-record from n room F =
       let fits : from + n ≤ 512 = omega (arith, F .given, H .cells .few-fields) in
-      let same : getD (newRecordW w from n) UNKNOWNS 0 ≡ getD w UNKNOWNS 0 = new-record-other w from n room fits UNKNOWNS (λ q. omega arith) (λ q. omega arith) in
+      let same : getD (newRecordW w from n) UNKNOWNS 0 ≡ getD w UNKNOWNS 0 = new-record-other w from n room fits UNKNOWNS (λ q. omega arith)
+      (λ q. omega arith) in
       record {
         cell = λ k c h. rw same (⊎-elim
             (λ o. rw (new-record-more w from n room fits (H .long) T .same k c o) (P .cell k c o))
@@ -222,7 +228,8 @@ module _ {v nodes : ℕ} where
         calls = b .calls;
         holds = reserve-holds w n room (b .holds);
         permitted = permitted-old
-            (λ k c h. cell-by (λ j l. sym (reserve-other w n room j (λ q. omega arith))) (omega (arith, reserve-other w n room RECORD-COUNT (λ q. omega arith))) h)
+            (λ k c h. cell-by (λ j l. sym (reserve-other w n room j (λ q. omega arith)))
+            (omega (arith, reserve-other w n room RECORD-COUNT (λ q. omega arith))) h)
             (omega (arith, reserve-other w n room UNKNOWNS (λ q. omega arith))) (b .permitted);
         visits = b .visits;
         marks-are = b .marks-are;

@@ -48,12 +48,18 @@ below-skips w c from best T n (suc i) h = below-skips w c from best T n i (λ j 
     go : (b : Bool) → ltb i n ≡ b → leastFrom from (rest T w Alternatives c n i) best ≡ leastFrom from (rest T w Alternatives c n (suc i)) best
     go true q =
         let one : i + 1 ≡ suc i = omega arith in
-        rw (rest-cell T w Alternatives c n i (partW w Alternatives c i) (ltb-true i n q) refl, leastFrom, lt-ltb (partW w Alternatives c i .key) from (h i (omega arith) (ltb-true i n q)), one)
+        rw (
+          rest-cell T w Alternatives c n i (partW w Alternatives c i) (ltb-true i n q) refl,
+          leastFrom,
+          lt-ltb (partW w Alternatives c i .key) from (h i (omega arith) (ltb-true i n q)),
+          one,
+        )
     go false q = let le = ltb-false i n q in rw (rest-none T w Alternatives c n i le, rest-none T w Alternatives c n (suc i) (omega arith))
 
 pub scan-start : (w : List ℕ) (c i from : ℕ) (best : Next) (n : ℕ) → Passed w c i from → n ≡ countW w c → Lowering w c from best n i best
 scan-start w c i from best n p e = record {
-  to = λ T C k. ap (λ (r : Row). leastFrom from r best) (rest-whole T w Alternatives c n e C k) ∙ below-skips w c from best T n i (λ j l m. p .past T C k j l (omega arith));
+  to = λ T C k. ap (λ (r : Row). leastFrom from r best) (rest-whole T w Alternatives c n e C k) ∙ below-skips w c from best T n i
+      (λ j l m. p .past T C k j l (omega arith));
   above = λ h. h;
 }
 
@@ -237,7 +243,8 @@ first-insert from m k (j ∷ ks) a = go (eqb k j) refl (ltb k j) refl (ltb j fro
     go false p true q true x false y ih = absurd (let l = ltb-true k j q in let g = ltb-true j from x in let h = ltb-false k from y in omega arith)
     go false p true q false x false y ih = rw (p, q, insertOnce, x, y, q)
     go false p false q true x e y ih = rw (p, q, insertOnce, x) ih
-    go false p false q false x true y ih = absurd (let n = eqb-false k j p in let l = ltb-false k j q in let g = ltb-false j from x in let h = ltb-true k from y in omega arith)
+    go false p false q false x true y ih = absurd
+        (let n = eqb-false k j p in let l = ltb-false k j q in let g = ltb-false j from x in let h = ltb-true k from y in omega arith)
     go false p false q false x false y ih = rw (p, q, insertOnce, x, y, q)
 
 first-keys : (from : ℕ) (r : Row) (ks : List ℕ) → Ascending 0 ks → first (onward from (withKeys r ks)) ≡ leastFrom from r (first (onward from ks))

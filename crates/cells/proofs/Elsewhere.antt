@@ -34,7 +34,8 @@ holds-moved {w} {w′} {T} {T′} {st} O S M C H = record {
     at = λ n h. H .types .at n h ∙ sym (ap (boundTree T′) (type n h) ∙ bound-more M (slotW w (TYS + 2 * n)) (H .types .ok n h));
     ok = λ n h. rw (type n h) (ok-bound-old O (slotW w (TYS + 2 * n)) (H .types .ok n h));
   };
-  undo = H .undo ∙ sym (rw (S .at UNDO-LEN (omega arith) (omega arith)) (undo-same w w′ (getD w UNDO-LEN 0) (λ i h. S .at (UNDO + i) (omega arith) (omega (arith, few)))));
+  undo = H .undo ∙ sym (rw (S .at UNDO-LEN (omega arith) (omega arith))
+      (undo-same w w′ (getD w UNDO-LEN 0) (λ i h. S .at (UNDO + i) (omega arith) (omega (arith, few)))));
   logged = H .logged;
   acyclic = H .acyclic;
   few-unknowns = H .few-unknowns;
@@ -64,12 +65,20 @@ holds-same S H = holds-moved (same-old (S .cells) (H .cells)) (S .slots) more-re
 
 pub keeps-env : {a e : ℕ} {w w′ : List ℕ} → ENV ≤ a → e ≤ TYS → Keeps a e w w′ → SameState w w′
 keeps-env lo hi k = record {
-  cells = record { said = λ i h. k .below i (omega arith); made = λ i l h. k .below i (omega arith); unknowns = omega (arith, k .below UNKNOWNS (omega arith)) };
+  cells = record {
+    said = λ i h. k .below i (omega arith);
+    made = λ i l h. k .below i (omega arith);
+    unknowns = omega (arith, k .below UNKNOWNS (omega arith));
+  };
   slots = record { unknowns = k .below UNKNOWNS (omega arith); at = λ i l h. k .above i (omega arith); long = k .long };
 }
 
 pub keeps-counts : {a e : ℕ} {w w′ : List ℕ} → ENV-LEN ≤ a → e ≤ UNKNOWNS → Keeps a e w w′ → SameState w w′
 keeps-counts lo hi k = record {
-  cells = record { said = λ i h. k .below i (omega arith); made = λ i l h. k .above i (omega arith); unknowns = omega (arith, k .above UNKNOWNS (omega arith)) };
+  cells = record {
+    said = λ i h. k .below i (omega arith);
+    made = λ i l h. k .above i (omega arith);
+    unknowns = omega (arith, k .above UNKNOWNS (omega arith));
+  };
   slots = record { unknowns = k .above UNKNOWNS (omega arith); at = λ i l h. k .above i (omega arith); long = k .long };
 }

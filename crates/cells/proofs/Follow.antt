@@ -105,7 +105,8 @@ follow-all zero T s t h = refl
 follow-all (suc m) T s t h = follow-shape m T s t h
 
 -- the unknown is bound to a shape
-pub ends-bound : {w : List ℕ} {t : Ty} {n k : ℕ} {at : Ty} → Following w t n k at → n ≡ getD w UNKNOWNS 0 → (x : ℕ) → at ≡ Var x → k ≤ n → (u : Ty) → boundW w x ≡ To u → Shape u → Reprs w t u
+pub ends-bound : {w : List ℕ} {t : Ty} {n k : ℕ} {at : Ty} → Following w t n k at → n ≡ getD w UNKNOWNS 0 → (x : ℕ) → at ≡ Var x → k ≤ n → (u : Ty)
+    → boundW w x ≡ To u → Shape u → Reprs w t u
 ends-bound {n = n} {k = k} g e x v h u f o =
     let m = follow-next g e x v h u f in
     record { is = λ T s B. sym (whole m e T s B ∙ follow-all (suc n - (k + 1)) T s u o); ok = m .ok }

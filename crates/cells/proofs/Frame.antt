@@ -179,7 +179,8 @@ module _ {w w′ : List ℕ} (S : OldCells w w′) where
         ok = λ k c j i lt. ⊎-elim
             (λ h. let l : j < countW w c = omega (arith, count-old h) in rw (part-old {k = k} {c = c} h j l) (ok-old (partW w k c j .ty) (C .ok k c j h l)))
             (λ n. n .ok j lt) (which k c i);
-        declared-fits = λ k c i lt. ⊎-elim (λ h. rw (count-old {k = k} {c = c} h, first-old {k = k} {c = c} h) (C .declared-fits k c h lt)) (λ n. absurd (omega (arith, n .made))) (which k c i);
+        declared-fits = λ k c i lt. ⊎-elim (λ h. rw (count-old {k = k} {c = c} h, first-old {k = k} {c = c} h) (C .declared-fits k c h lt))
+            (λ n. absurd (omega (arith, n .made))) (which k c i);
         made-fits = λ c i le. ⊎-elim (λ h. omega (arith, count-old h, first-old h, C .made-fits c h le)) (λ n. n .fits) (which Fields c i);
         few-records = few;
         few-fields = many;
@@ -236,7 +237,8 @@ pub slot-same : (w w′ : List ℕ) (at : ℕ) → getD w′ at 0 ≡ getD w at 
 unfolding slotW
 slot-same w w′ at p q = rw (p, q)
 
-pub bound-same : (w w′ : List ℕ) (x : ℕ) → getD w′ UNKNOWNS 0 ≡ getD w UNKNOWNS 0 → (x < getD w UNKNOWNS 0 → slotW w′ (BINDINGS + 2 * x) ≡ slotW w (BINDINGS + 2 * x)) → boundW w′ x ≡ boundW w x
+pub bound-same : (w w′ : List ℕ) (x : ℕ) → getD w′ UNKNOWNS 0 ≡ getD w UNKNOWNS 0
+    → (x < getD w UNKNOWNS 0 → slotW w′ (BINDINGS + 2 * x) ≡ slotW w (BINDINGS + 2 * x)) → boundW w′ x ≡ boundW w x
 unfolding boundW
 bound-same w w′ x e s = rw e (go (ltb x (getD w UNKNOWNS 0)) refl)
   where

@@ -41,7 +41,8 @@ use Rattle.cells.proofs.Steps.{stay, goes-on, fails, is-other, sets}
 
 -- ---- `bind_var`
 module _ {w : List ℕ} {x : ℕ} {t : Ty} {left : ℕ} {o : Asked} (O : Occurs w x t left o) where
-  answer : (T : Rows) (st : State) → Holds w T st → st .left ≡ left → Ok w t → (d : ℕ) → left ≤ d → Bindings.occurs d (st .subst) x (st .left) (tree T t) ≡ answerOf o
+  answer : (T : Rows) (st : State) → Holds w T st → st .left ≡ left → Ok w t → (d : ℕ) → left ≤ d
+      → Bindings.occurs d (st .subst) x (st .left) (tree T t) ≡ answerOf o
   answer T st H q k d h = rw q (sym (O .is T (st .subst) (H .cells) (H .binds) k d h))
 
   pub bind-occurs : (l : ℕ) → o ≡ Yes l → BindsVar w x t left w (Bad Infinite l)
@@ -152,7 +153,8 @@ module _ (d : ℕ) (u : State → Tree.Ty → Tree.Ty → Unify.Unified) (st : S
   unfolding unifyHeads
   leaves-differ p q n = go (Leaf-discrete ℕ-discrete p q) refl
     where
-      go : (c : Dec (p ≡ q)) → Leaf-discrete ℕ-discrete p q ≡ c → unifyHeads d u st (Tree.leaf p) (Tree.leaf q) ≡ Unify.Err (Unify.Mismatch (Tree.leaf q) (Tree.leaf p)) st
+      go : (c : Dec (p ≡ q)) → Leaf-discrete ℕ-discrete p q ≡ c → unifyHeads d u st (Tree.leaf p) (Tree.leaf q) ≡ Unify.Err
+          (Unify.Mismatch (Tree.leaf q) (Tree.leaf p)) st
       go (yes x) i = absurd (n x)
       go (no x) i = rw (i, unifyHeads)
 
@@ -168,7 +170,8 @@ module _ (d : ℕ) (u : State → Tree.Ty → Tree.Ty → Unify.Unified) (st : S
   error-other T (Var x) o = absurd (miss (0 ∷ 1 ∷ 2 ∷ 3 ∷ 4 ∷ 5 ∷ 7 ∷ []) 6 tt o)
   error-other T Error o = refl
 
-  var-other : (T : Rows) (x : ℕ) (b : Ty) → OneOf (0 ∷ 1 ∷ 2 ∷ 3 ∷ 4 ∷ 5 ∷ []) (tagOf the-type b) → unifyHeads d u st (Tree.Var x) (tree T b) ≡ bindVar d st x (tree T b)
+  var-other : (T : Rows) (x : ℕ) (b : Ty) → OneOf (0 ∷ 1 ∷ 2 ∷ 3 ∷ 4 ∷ 5 ∷ []) (tagOf the-type b)
+      → unifyHeads d u st (Tree.Var x) (tree T b) ≡ bindVar d st x (tree T b)
   unfolding unifyHeads
   var-other T x Int o = refl
   var-other T x Str o = refl
@@ -243,10 +246,17 @@ module _ {w : List ℕ} {a b : Ty} {left : ℕ} where
 
   pub var-var : (x y : ℕ) {w′ : List ℕ} {r : Unified} → a ≡ Var x → b ≡ Var y → ¬ (x ≡ y) → BindsVar w x (Var y) left w′ r → UnifiesHeads w a b left w′ r
   unfolding unifyHeads
-  var-var x y p q n B = record { step = is-other (λ T st k. (rw p at (k .2), rw p at (k .0), rw q at (k .1))) (λ T st d H k. rw (p, q, ne-eqb x y n, unifyHeads)) (B .step) }
+  var-var x y p q n B = record {
+    step = is-other (λ T st k. (rw p at (k .2), rw p at (k .0), rw q at (k .1)))
+        (λ T st d H k. rw (p, q, ne-eqb x y n, unifyHeads)) (B .step);
+  }
 
-  pub var-else : (x : ℕ) {w′ : List ℕ} {r : Unified} → a ≡ Var x → OneOf (0 ∷ 1 ∷ 2 ∷ 3 ∷ 4 ∷ 5 ∷ []) (tagOf the-type b) → BindsVar w x b left w′ r → UnifiesHeads w a b left w′ r
-  var-else x p o B = record { step = is-other (λ T st k. (rw p at (k .2), rw p at (k .0), k .1)) (λ T st d H k. rw p (var-other d (unifier d) st T x b o)) (B .step) }
+  pub var-else : (x : ℕ) {w′ : List ℕ} {r : Unified} → a ≡ Var x → OneOf (0 ∷ 1 ∷ 2 ∷ 3 ∷ 4 ∷ 5 ∷ []) (tagOf the-type b) → BindsVar w x b left w′ r
+      → UnifiesHeads w a b left w′ r
+  var-else x p o B = record {
+    step = is-other (λ T st k. (rw p at (k .2), rw p at (k .0), k .1))
+        (λ T st d H k. rw p (var-other d (unifier d) st T x b o)) (B .step);
+  }
 
   pub record-error : (c : ℕ) → a ≡ Record c → b ≡ Error → UnifiesHeads w a b left w (Good left)
   unfolding unifyHeads
@@ -261,7 +271,10 @@ module _ {w : List ℕ} {a b : Ty} {left : ℕ} where
   record-record c e p q R = record { step = is-other (λ T st k. (rw p at (k .0), rw q at (k .1))) (λ T st d H k. rw (p, q)) (R .step) }
 
   pub record-else : (c : ℕ) → a ≡ Record c → OneOf (0 ∷ 1 ∷ 2 ∷ 3 ∷ 5 ∷ []) (tagOf the-type b) → UnifiesHeads w a b left w (Bad (Mismatch b (Record c)) left)
-  record-else c p o = record { step = fails (Mismatch b (Record c)) (λ T st k. (k .1, rw p at (k .0))) (λ T st d H k. rw p (record-other d (unifier d) st T c b o)) }
+  record-else c p o = record {
+    step = fails (Mismatch b (Record c)) (λ T st k. (k .1, rw p at (k .0)))
+        (λ T st d H k. rw p (record-other d (unifier d) st T c b o));
+  }
 
   pub union-error : (c : ℕ) → a ≡ Union c → b ≡ Error → UnifiesHeads w a b left w (Good left)
   unfolding unifyHeads
@@ -276,7 +289,10 @@ module _ {w : List ℕ} {a b : Ty} {left : ℕ} where
   union-union c e p q R = record { step = is-other (λ T st k. (rw p at (k .0), rw q at (k .1))) (λ T st d H k. rw (p, q)) (R .step) }
 
   pub union-else : (c : ℕ) → a ≡ Union c → OneOf (0 ∷ 1 ∷ 2 ∷ 3 ∷ 4 ∷ []) (tagOf the-type b) → UnifiesHeads w a b left w (Bad (Mismatch b (Union c)) left)
-  union-else c p o = record { step = fails (Mismatch b (Union c)) (λ T st k. (k .1, rw p at (k .0))) (λ T st d H k. rw p (union-other d (unifier d) st T c b o)) }
+  union-else c p o = record {
+    step = fails (Mismatch b (Union c)) (λ T st k. (k .1, rw p at (k .0)))
+        (λ T st d H k. rw p (union-other d (unifier d) st T c b o));
+  }
 
   pub leaf-error : IsLeaf a → b ≡ Error → UnifiesHeads w a b left w (Good left)
   unfolding unifyHeads
@@ -306,22 +322,31 @@ unify-none {w} {a} {b} {left} z = record { is = λ T st H q k m d h. one T st H 
 
 ends-note : (w w′ : List ℕ) (T : Rows) (r : Unified) (s : Subst) (a b : Tree.Ty) (o : Unify.Unified) → Ends w w′ T r o → Ends w w′ T r (note s a b o)
 unfolding Ends note withHistory
-ends-note w w′ T r s a b (Unify.Ok st) e = (e .0, record { holds = holds-history (e .1 .holds) (ended s a b true (st .subst) (st .history)); keeps = e .1 .keeps })
-ends-note w w′ T r s a b (Unify.Err x st) e = (e .0, e .1, e .2, record { holds = holds-history (e .3 .holds) (ended s a b false (st .subst) (st .history)); keeps = e .3 .keeps })
+ends-note w w′ T r s a b (Unify.Ok st) e =
+    (e .0, record { holds = holds-history (e .1 .holds) (ended s a b true (st .subst) (st .history)); keeps = e .1 .keeps })
+ends-note w w′ T r s a b (Unify.Err x st) e =
+    (e .0, e .1, e .2, record { holds = holds-history (e .3 .holds) (ended s a b false (st .subst) (st .history)); keeps = e .3 .keeps })
 ends-note w w′ T r s a b (Unify.Spent st) e = e
 
-pub unify-enter : {w : List ℕ} {got expected a b : Ty} {left : ℕ} {w′ : List ℕ} {r : Unified} → ¬ (left ≡ 0) → Reprs w got a → Reprs w expected b → UnifiesHeads w a b (left - 1) w′ r → Unifies w got expected left w′ r
+pub unify-enter : {w : List ℕ} {got expected a b : Ty} {left : ℕ} {w′ : List ℕ} {r : Unified} → ¬ (left ≡ 0) → Reprs w got a → Reprs w expected b
+    → UnifiesHeads w a b (left - 1) w′ r → Unifies w got expected left w′ r
 unfolding heads-in withLeft
-unify-enter {w} {got} {expected} {a} {b} {left} {w′} {r} z ra rb U = record { is = λ T st H q k m d h. one T st H q k m d h; fewer = omega (arith, U .step .fewer); keeps = U .step .keeps }
+unify-enter {w} {got} {expected} {a} {b} {left} {w′} {r} z ra rb U = record
+    { is = λ T st H q k m d h. one T st H q k m d h; fewer = omega (arith, U .step .fewer); keeps = U .step .keeps }
   where
-    one : (T : Rows) (st : State) → Holds w T st → st .left ≡ left → Ok w got → Ok w expected → (d : ℕ) → left ≤ d → Ends w w′ T r (Unify.unifyIn d st (tree T got) (tree T expected))
+    one : (T : Rows) (st : State) → Holds w T st → st .left ≡ left → Ok w got → Ok w expected → (d : ℕ) → left ≤ d
+        → Ends w w′ T r (Unify.unifyIn d st (tree T got) (tree T expected))
     one T st H q k m zero h = absurd (omega arith)
     one T st H q k m (suc d) h =
         let e : st .left ≡ suc (left - 1) = omega arith in
         let s = st .subst in
         let x : tree T a ≡ Bindings.repr s (tree T got) = ra .is T s (H .binds) in
         let y : tree T b ≡ Bindings.repr s (tree T expected) = rb .is T s (H .binds) in
-        let there = U .step .is T (withLeft st (left - 1)) (holds-left H (left - 1)) refl
-        (ra .ok T s (H .binds) k, rb .ok T s (H .binds) m, rw x (repr-resolved s (H .acyclic) (tree T got)), rw y (repr-resolved s (H .acyclic) (tree T expected))) d (omega arith) in
+        let there = U .step .is T (withLeft st (left - 1)) (holds-left H (left - 1)) refl (
+          ra .ok T s (H .binds) k,
+          rb .ok T s (H .binds) m,
+          rw x (repr-resolved s (H .acyclic) (tree T got)),
+          rw y (repr-resolved s (H .acyclic) (tree T expected)),
+        ) d (omega arith) in
         rw (unifyIn-visit d st (left - 1) (tree T got) (tree T expected) e)
         (ends-note w w′ T r s (tree T got) (tree T expected) (heads-in d st (left - 1) (tree T got) (tree T expected)) (rw (x, y) at there))

@@ -27,17 +27,38 @@ use Rattle.cells.specs.Words.{pick, slotW, boundW, putTy, pushUndoW, set
 use Rattle.cells.specs.Stands.{Rows, tree, boundTree, Ok, OkBound, undoOf, Logged, Holds, Keeps}
 use Rattle.cells.proofs.Frame.{keeps-refl, keeps-trans, keeps-wider, SameCells, ok-bound-same, cells-same, slot-same, undo-same}
 use Rattle.cells.proofs.Logged.{logged-bind, logged-annotate, room-to-bind, room-to-annotate, Unbound, Unannotated, getD-end, logged-fresh}
-use Rattle.cells.proofs.State.{entry-binding, entry-annotation, put-keeps, push-keeps, Change, binding-slot, type-slot, set-change, set-undo, pop-change, pop-undo, slot-free, cells, binds-other, types-other, binds-at, types-at}
+use Rattle.cells.proofs.State.{entry-binding, entry-annotation, put-keeps, push-keeps, Change, binding-slot, type-slot, set-change, set-undo}
+use Rattle.cells.proofs.State.{pop-change, pop-undo, slot-free, cells, binds-other, types-other, binds-at, types-at}
 
 -- ---- Visits and history are in no word
 module _ {w : List ℕ} {T : Rows} {st : State} (H : Holds w T st) where
   pub holds-left : (v : ℕ) → Holds w T (withLeft st v)
   unfolding withLeft
-  holds-left v = record { long = H .long; cells = H .cells; binds = H .binds; types = H .types; undo = H .undo; logged = H .logged; acyclic = H .acyclic; few-unknowns = H .few-unknowns; few-nodes = H .few-nodes }
+  holds-left v = record {
+    long = H .long;
+    cells = H .cells;
+    binds = H .binds;
+    types = H .types;
+    undo = H .undo;
+    logged = H .logged;
+    acyclic = H .acyclic;
+    few-unknowns = H .few-unknowns;
+    few-nodes = H .few-nodes;
+  }
 
   pub holds-history : (h : History) → Holds w T (withHistory st h)
   unfolding withHistory
-  holds-history h = record { long = H .long; cells = H .cells; binds = H .binds; types = H .types; undo = H .undo; logged = H .logged; acyclic = H .acyclic; few-unknowns = H .few-unknowns; few-nodes = H .few-nodes }
+  holds-history h = record {
+    long = H .long;
+    cells = H .cells;
+    binds = H .binds;
+    types = H .types;
+    undo = H .undo;
+    logged = H .logged;
+    acyclic = H .acyclic;
+    few-unknowns = H .few-unknowns;
+    few-nodes = H .few-nodes;
+  }
 
 pub undo-length : (w : List ℕ) (n : ℕ) → length (undoOf w n) ≡ n
 unfolding undoOf
@@ -48,8 +69,10 @@ pub holds-log : {w : List ℕ} {T : Rows} {st : State} → Holds w T st → getD
 holds-log {w} {T} {st} H = sym (ap (λ (us : List Undo). length us) (H .undo) ∙ undo-length w (getD w UNDO-LEN 0))
 
 -- ---- One slot changed
-module _ {w w′ : List ℕ} {T : Rows} {st : State} {b : Bound} (H : Holds w T st) (o : OkBound w b) (us : List Undo) (v : ℕ) (h : History) (undo : us ≡ undoOf w′ (getD w′ UNDO-LEN 0)) where
-  binding-changed : {x : ℕ} → Change w w′ (BINDINGS + 2 * x) b → x < length (st .subst) → Logged us (set (st .subst) x (boundTree T b)) (st .tys) → Acyclic (set (st .subst) x (boundTree T b))
+module _ {w w′ : List ℕ} {T : Rows} {st : State} {b : Bound} (H : Holds w T st) (o : OkBound w b) (us : List Undo) (v : ℕ) (h : History)
+    (undo : us ≡ undoOf w′ (getD w′ UNDO-LEN 0)) where
+  binding-changed : {x : ℕ} → Change w w′ (BINDINGS + 2 * x) b → x < length (st .subst) → Logged us (set (st .subst) x (boundTree T b)) (st .tys)
+      → Acyclic (set (st .subst) x (boundTree T b))
       → Holds w′ T (record { subst = set (st .subst) x (boundTree T b); tys = st .tys; undo = us; left = v; history = h })
   binding-changed {x} c lt l A = record {
     long = omega (arith, c .keeps .long, H .long);
@@ -88,7 +111,8 @@ set-var-keeps w x t = go (ltb x 512) refl
         keeps-trans (put-keeps w (BINDINGS + 2 * x) t (omega arith) (omega arith)) (push-keeps (putTy w (BINDINGS + 2 * x) t) x)
     go false q = keeps-refl
 
-module _ {w : List ℕ} {T : Rows} {st : State} (H : Holds w T st) (x : ℕ) (t : Ty) (lt : x < length (st .subst)) (free : bound (st .subst) x ≡ none) (o : Ok w t) where
+module _ {w : List ℕ} {T : Rows} {st : State} (H : Holds w T st) (x : ℕ) (t : Ty) (lt : x < length (st .subst)) (free : bound (st .subst) x ≡ none)
+    (o : Ok w t) where
   set-var-is : setVarW w x t ≡ pushUndoW (putTy w (BINDINGS + 2 * x) t) x
   unfolding setVarW
   set-var-is = rw (lt-ltb x 512 (omega (arith, H .few-unknowns)))
@@ -115,10 +139,12 @@ annotate-keeps w n t = go (ltb n 512) refl
     go : (b : Bool) → ltb n 512 ≡ b → Keeps TYS END w (pick b (pushUndoW (putTy w (TYS + 2 * n) t) (n + 65536)) w)
     go true q =
         let h = ltb-true n 512 q in
-        keeps-trans (put-keeps w (TYS + 2 * n) t (omega arith) (omega arith)) (keeps-wider (omega arith) (omega arith) (push-keeps (putTy w (TYS + 2 * n) t) (n + 65536)))
+        keeps-trans (put-keeps w (TYS + 2 * n) t (omega arith) (omega arith))
+        (keeps-wider (omega arith) (omega arith) (push-keeps (putTy w (TYS + 2 * n) t) (n + 65536)))
     go false q = keeps-refl
 
-module _ {w : List ℕ} {T : Rows} {st : State} (H : Holds w T st) (n : ℕ) (t : Ty) (lt : n < length (st .tys)) (free : getD (st .tys) n none ≡ none) (o : Ok w t) where
+module _ {w : List ℕ} {T : Rows} {st : State} (H : Holds w T st) (n : ℕ) (t : Ty) (lt : n < length (st .tys)) (free : getD (st .tys) n none ≡ none)
+    (o : Ok w t) where
   annotate-is : annotateW w n t ≡ pushUndoW (putTy w (TYS + 2 * n) t) (n + 65536)
   unfolding annotateW
   annotate-is = rw (lt-ltb n 512 (omega (arith, H .few-nodes)))
@@ -156,7 +182,8 @@ module _ {w : List ℕ} {T : Rows} {st : State} (H : Holds w T st) (few : length
   fresh-length = rw fresh-is (simp length-set)
 
   pub fresh-unknowns : getD (freshW w) UNKNOWNS 0 ≡ next + 1
-  fresh-unknowns = rw fresh-is (getD-set-same (set w (BINDINGS + 2 * next) 0) UNKNOWNS (next + 1) 0 (omega (arith, H .long, length-set w (BINDINGS + 2 * next) 0)))
+  fresh-unknowns = rw fresh-is (getD-set-same (set w (BINDINGS + 2 * next) 0) UNKNOWNS (next + 1) 0
+      (omega (arith, H .long, length-set w (BINDINGS + 2 * next) 0)))
 
   fresh-free : slotW (freshW w) (BINDINGS + 2 * next) ≡ Free
   fresh-free = slot-free (freshW w) (BINDINGS + 2 * next) (rw fresh-is
@@ -173,7 +200,8 @@ module _ {w : List ℕ} {T : Rows} {st : State} (H : Holds w T st) (few : length
   old-bound : (x : ℕ) → x < next → boundW (freshW w) x ≡ boundW w x
   unfolding boundW
   old-bound x h = rw (fresh-unknowns, lt-ltb x (next + 1) (omega arith), lt-ltb x next h)
-      (slot-same w (freshW w) (BINDINGS + 2 * x) (fresh-other (BINDINGS + 2 * x) (λ q. omega arith) (λ q. omega arith)) (fresh-other (BINDINGS + 2 * x + 1) (λ q. omega arith) (λ q. omega arith)))
+      (slot-same w (freshW w) (BINDINGS + 2 * x) (fresh-other (BINDINGS + 2 * x) (λ q. omega arith) (λ q. omega arith))
+      (fresh-other (BINDINGS + 2 * x + 1) (λ q. omega arith) (λ q. omega arith)))
 
   new-bound : (x : ℕ) → next ≤ x → boundW (freshW w) x ≡ Free
   unfolding boundW
@@ -195,7 +223,8 @@ module _ {w : List ℕ} {T : Rows} {st : State} (H : Holds w T st) (few : length
   fresh-type : (n : ℕ) → n < length (st .tys) → slotW (freshW w) (TYS + 2 * n) ≡ slotW w (TYS + 2 * n)
   fresh-type n h =
       let l : n < 512 = omega (arith, H .few-nodes) in
-      slot-same w (freshW w) (TYS + 2 * n) (fresh-other (TYS + 2 * n) (λ q. omega arith) (λ q. omega arith)) (fresh-other (TYS + 2 * n + 1) (λ q. omega arith) (λ q. omega arith))
+      slot-same w (freshW w) (TYS + 2 * n) (fresh-other (TYS + 2 * n) (λ q. omega arith) (λ q. omega arith))
+      (fresh-other (TYS + 2 * n + 1) (λ q. omega arith) (λ q. omega arith))
 
   pub fresh-holds : Holds (freshW w) T (Bindings.fresh st)
   unfolding Bindings.fresh bound
@@ -224,14 +253,16 @@ abbrev pub popW : List ℕ → ℕ → ℕ → List ℕ
 popW w at n = set (set w at 0) UNDO-LEN n
 
 module _ {w : List ℕ} {T : Rows} {st : State} (H : Holds w T st) (us : List Undo) (m : ℕ) (rest : us ≡ undoOf w m) where
-  pub unbind-holds : {x : ℕ} → Unbound x us (st .subst) (st .tys) → Holds (popW w (BINDINGS + 2 * x) m) T (record { subst = set (st .subst) x none; tys = st .tys; undo = us; left = st .left; history = st .history })
+  pub unbind-holds : {x : ℕ} → Unbound x us (st .subst) (st .tys)
+      → Holds (popW w (BINDINGS + 2 * x) m) T (record { subst = set (st .subst) x none; tys = st .tys; undo = us; left = st .left; history = st .history })
   unfolding unset
   unbind-holds {x} u =
       let slot = binding-slot x (omega (arith, u .within, H .few-unknowns)) in
       binding-changed {b = Free} H tt us (st .left) (st .history) (rest ∙ sym (pop-undo w (H .long) (BINDINGS + 2 * x) slot m))
       (pop-change w (H .long) (BINDINGS + 2 * x) slot m) (u .within) (u .rest) (unset-acyclic (st .subst) x (H .acyclic))
 
-  pub unannotate-holds : {n : ℕ} → Unannotated n us (st .subst) (st .tys) → Holds (popW w (TYS + 2 * n) m) T (record { subst = st .subst; tys = set (st .tys) n none; undo = us; left = st .left; history = st .history })
+  pub unannotate-holds : {n : ℕ} → Unannotated n us (st .subst) (st .tys)
+      → Holds (popW w (TYS + 2 * n) m) T (record { subst = st .subst; tys = set (st .tys) n none; undo = us; left = st .left; history = st .history })
   unannotate-holds {n} u =
       let slot = type-slot n (omega (arith, u .within, H .few-nodes)) in
       type-changed {b = Free} H tt us (st .left) (st .history) (rest ∙ sym (pop-undo w (H .long) (TYS + 2 * n) slot m))

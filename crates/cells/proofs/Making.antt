@@ -20,7 +20,8 @@ use Rattle.cells.specs.declared.Kind.the-variants.{Fields}
 use Rattle.cells.specs.Words.{tagW, payloadW, countW, firstW, madeField, fieldW}
 use Rattle.cells.specs.Stands.{Rows, rowFrom, rowW, IsCell, declared, made, Cells, Holds, Keeps}
 use Rattle.cells.specs.Inferred.{reserveW, putFieldW, newRecordW, newRecordTy, More, Adds, Reserved, rowMade, rowsWith, Filled}
-use Rattle.cells.proofs.Frame.{keeps-trans, keeps-set, cell-by, OldCells, SameCells, NewCell, more-refl, ok-old, count-old, first-old, cells-more, tree-more, field-made, made-field-same}
+use Rattle.cells.proofs.Frame.{keeps-trans, keeps-set, cell-by, OldCells, SameCells, NewCell, more-refl, ok-old, count-old, first-old, cells-more}
+use Rattle.cells.proofs.Frame.{tree-more, field-made, made-field-same}
 use Rattle.cells.proofs.Elsewhere.{SameSlots, holds-moved}
 use Rattle.cells.proofs.State.{read-back}
 
@@ -73,7 +74,8 @@ adds-trans {u} {v} {w} p q = record {
   unknowns = omega (arith, p .unknowns, q .unknowns);
 }
   where
-    go : (c : ℕ) → 256 + getD u RECORD-COUNT 0 ≤ c → c < 256 + getD w RECORD-COUNT 0 → (b : Bool) → ltb c (256 + getD v RECORD-COUNT 0) ≡ b → getD u RECORD-FIELD-COUNT 0 ≤ firstW w c
+    go : (c : ℕ) → 256 + getD u RECORD-COUNT 0 ≤ c → c < 256 + getD w RECORD-COUNT 0 → (b : Bool) → ltb c (256 + getD v RECORD-COUNT 0) ≡ b
+        → getD u RECORD-FIELD-COUNT 0 ≤ firstW w c
     go c l h true e =
         let lt = ltb-true c (256 + getD v RECORD-COUNT 0) e in
         omega (arith, p .new c l lt, first-kept v w c (omega arith) (q .places (RECORDS + (c - 256)) (omega arith) (omega arith)))
@@ -105,7 +107,8 @@ reserved-kept {w} {w′} {T} {from} {n} C A R = record {
   apart = λ c i le. go c i le (ltb (c - 256) (getD w RECORD-COUNT 0)) refl;
 }
   where
-    go : (c : ℕ) → IsCell w′ Fields c → 256 ≤ c → (b : Bool) → ltb (c - 256) (getD w RECORD-COUNT 0) ≡ b → (firstW w′ c + countW w′ c ≤ from) ⊎ (from + n ≤ firstW w′ c)
+    go : (c : ℕ) → IsCell w′ Fields c → 256 ≤ c → (b : Bool) → ltb (c - 256) (getD w RECORD-COUNT 0) ≡ b
+        → (firstW w′ c + countW w′ c ≤ from) ⊎ (from + n ≤ firstW w′ c)
     go c i le true e =
         let old : IsCell w Fields c = made le (ltb-true (c - 256) (getD w RECORD-COUNT 0) e) in
         rw (first-old (adds-old C A) old, count-old (adds-old C A) old) (R .apart c old le)
@@ -116,9 +119,11 @@ reserved-kept {w} {w′} {T} {from} {n} C A R = record {
 
 -- No record was made.
 pub holds-old : {w w′ : List ℕ} {T : Rows} {st : State} → OldCells w w′ → SameSlots w w′
-    → getD w′ RECORD-COUNT 0 ≡ getD w RECORD-COUNT 0 → getD w RECORD-FIELD-COUNT 0 ≤ getD w′ RECORD-FIELD-COUNT 0 → getD w′ RECORD-FIELD-COUNT 0 ≤ 512 → Holds w T st → Holds w′ T st
+    → getD w′ RECORD-COUNT 0 ≡ getD w RECORD-COUNT 0 → getD w RECORD-FIELD-COUNT 0 ≤ getD w′ RECORD-FIELD-COUNT 0 → getD w′ RECORD-FIELD-COUNT 0 ≤ 512
+    → Holds w T st → Holds w′ T st
 holds-old O S records more few H =
-    let C = cells-more O (H .cells) more-refl (λ k c i. inl (cell-by (λ j h. sym (O .said j h)) (omega arith) i)) more (omega (arith, H .cells .few-records)) few in
+    let C = cells-more O (H .cells) more-refl (λ k c i. inl (cell-by (λ j h. sym (O .said j h)) (omega arith) i)) more
+    (omega (arith, H .cells .few-records)) few in
     holds-moved O S more-refl C H
 
 -- ---- `reserve`
@@ -159,7 +164,8 @@ module _ (w : List ℕ) (n : ℕ) (room : getD w RECORD-FIELD-COUNT 0 + n ≤ 51
       given = omega (arith, reserve-count (H .long));
       apart = λ c i le.
           let same = reserve-other (RECORDS + (c - 256)) (λ q. omega arith) in
-          let old : IsCell w Fields c = cell-by (λ j h. sym (reserve-other j (λ q. omega arith))) (omega (arith, reserve-other RECORD-COUNT (λ q. omega arith))) i in
+          let old : IsCell w Fields c = cell-by (λ j h. sym (reserve-other j (λ q. omega arith)))
+          (omega (arith, reserve-other RECORD-COUNT (λ q. omega arith))) i in
           inl (omega (arith, H .cells .made-fits c old le, first-kept w (reserveW w n) c le same, count-kept w (reserveW w n) c le same));
     }
 
@@ -171,7 +177,8 @@ module _ (w : List ℕ) (i name : ℕ) (t : Ty) (lt : i < 512) (small : name < 6
 
   pub put-field-other : (j : ℕ) → j ≢ RECORD-FIELDS + 2 * i → j ≢ RECORD-FIELDS + 2 * i + 1 → getD (putFieldW w i name t) j 0 ≡ getD w j 0
   put-field-other j n m = rw put-field-is
-      (getD-set-other (set w (RECORD-FIELDS + 2 * i) (name * 16 + tagW t)) (RECORD-FIELDS + 2 * i + 1) j (payloadW t) 0 m ∙ getD-set-other w (RECORD-FIELDS + 2 * i) j (name * 16 + tagW t) 0 n)
+      (getD-set-other (set w (RECORD-FIELDS + 2 * i) (name * 16 + tagW t)) (RECORD-FIELDS + 2 * i + 1) j (payloadW t) 0 m ∙ getD-set-other w
+      (RECORD-FIELDS + 2 * i) j (name * 16 + tagW t) 0 n)
 
   pub put-field-keeps : Keeps RECORD-FIELDS ENV w (putFieldW w i name t)
   put-field-keeps = rw put-field-is
@@ -194,7 +201,8 @@ module _ (w : List ℕ) (i name : ℕ) (t : Ty) (lt : i < 512) (small : name < 6
 
   pub put-field-apart : (j : ℕ) → j ≢ i → madeField (putFieldW w i name t) (RECORD-FIELDS + 2 * j) ≡ madeField w (RECORD-FIELDS + 2 * j)
   put-field-apart j n = made-field-same w (putFieldW w i name t) (RECORD-FIELDS + 2 * j)
-      (put-field-other (RECORD-FIELDS + 2 * j) (λ q. n (omega arith)) (λ q. omega arith)) (put-field-other (RECORD-FIELDS + 2 * j + 1) (λ q. omega arith) (λ q. n (omega arith)))
+      (put-field-other (RECORD-FIELDS + 2 * j) (λ q. n (omega arith)) (λ q. omega arith))
+      (put-field-other (RECORD-FIELDS + 2 * j + 1) (λ q. omega arith) (λ q. n (omega arith)))
 
   module _ {from n : ℕ} (R : Reserved w from n) (low : from ≤ i) (high : i < from + n) (few : getD w RECORD-COUNT 0 ≤ 512) where
     pub put-field-old : OldCells w (putFieldW w i name t)
@@ -212,7 +220,8 @@ module _ (w : List ℕ) (i name : ℕ) (t : Ty) (lt : i < 512) (small : name < 6
     put-field-holds H =
         let K = put-field-keeps in
         let fields = K .below RECORD-FIELD-COUNT (omega arith) in
-        holds-old put-field-old (record { unknowns = K .below UNKNOWNS (omega arith); at = λ j l h. K .above j (omega arith); long = K .long }) (K .below RECORD-COUNT (omega arith))
+        holds-old put-field-old (record { unknowns = K .below UNKNOWNS (omega arith); at = λ j l h. K .above j (omega arith); long = K .long })
+        (K .below RECORD-COUNT (omega arith))
         (omega (arith, fields)) (omega (arith, fields, H .cells .few-fields)) H
 
     pub put-field-reserved : Reserved (putFieldW w i name t) from n
@@ -221,9 +230,11 @@ module _ (w : List ℕ) (i name : ℕ) (t : Ty) (lt : i < 512) (small : name < 6
       apart = λ c j le. go c j le;
     }
       where
-        go : (c : ℕ) → IsCell (putFieldW w i name t) Fields c → 256 ≤ c → (firstW (putFieldW w i name t) c + countW (putFieldW w i name t) c ≤ from) ⊎ (from + n ≤ firstW (putFieldW w i name t) c)
+        go : (c : ℕ) → IsCell (putFieldW w i name t) Fields c → 256 ≤ c
+            → (firstW (putFieldW w i name t) c + countW (putFieldW w i name t) c ≤ from) ⊎ (from + n ≤ firstW (putFieldW w i name t) c)
         go c j le =
-            let old : IsCell w Fields c = cell-by (λ k h. sym (put-field-keeps .below k (omega arith))) (omega (arith, put-field-keeps .below RECORD-COUNT (omega arith))) j in
+            let old : IsCell w Fields c = cell-by (λ k h. sym (put-field-keeps .below k (omega arith)))
+            (omega (arith, put-field-keeps .below RECORD-COUNT (omega arith))) j in
             rw (first-old put-field-old old, count-old put-field-old old) (R .apart c old le)
 
   -- In a run of which w₀ was the beginning, the field was given away since.
@@ -256,7 +267,8 @@ module _ (w : List ℕ) (from n : ℕ) (room : getD w RECORD-COUNT 0 < 512) (giv
   new-record-ty = rw (lt-ltb count 512 room, le-ltb 512 from (omega arith), le-ltb 512 n (omega arith))
 
   pub new-record-other : (i : ℕ) → i ≢ RECORD-COUNT → i ≢ RECORDS + count → getD (newRecordW w from n) i 0 ≡ getD w i 0
-  new-record-other i p q = rw new-record-is (getD-set-other (set w (RECORDS + count) (from * 1024 + n)) RECORD-COUNT i (count + 1) 0 p ∙ getD-set-other w (RECORDS + count) i (from * 1024 + n) 0 q)
+  new-record-other i p q = rw new-record-is
+      (getD-set-other (set w (RECORDS + count) (from * 1024 + n)) RECORD-COUNT i (count + 1) 0 p ∙ getD-set-other w (RECORDS + count) i (from * 1024 + n) 0 q)
 
   pub new-record-keeps : Keeps RECORD-COUNT END w (newRecordW w from n)
   new-record-keeps = rw new-record-is
@@ -265,13 +277,15 @@ module _ (w : List ℕ) (from n : ℕ) (room : getD w RECORD-COUNT 0 < 512) (giv
 
   module _ (long : END ≤ length w) where
     pub new-record-count : getD (newRecordW w from n) RECORD-COUNT 0 ≡ count + 1
-    new-record-count = rw new-record-is (getD-set-same (set w (RECORDS + count) (from * 1024 + n)) RECORD-COUNT (count + 1) 0 (omega (arith, length-set w (RECORDS + count) (from * 1024 + n))))
+    new-record-count = rw new-record-is (getD-set-same (set w (RECORDS + count) (from * 1024 + n)) RECORD-COUNT (count + 1) 0
+        (omega (arith, length-set w (RECORDS + count) (from * 1024 + n))))
 
     new-record-place : getD (newRecordW w from n) (RECORDS + (count + 256 - 256)) 0 ≡ from * 1024 + n
     new-record-place =
         let at : count + 256 - 256 ≡ count = omega arith in
         rw (at, new-record-is)
-        (getD-set-other (set w (RECORDS + count) (from * 1024 + n)) RECORD-COUNT (RECORDS + count) (count + 1) 0 (λ q. omega arith) ∙ getD-set-same w (RECORDS + count) (from * 1024 + n) 0 (omega arith))
+        (getD-set-other (set w (RECORDS + count) (from * 1024 + n)) RECORD-COUNT (RECORDS + count) (count + 1) 0 (λ q. omega arith) ∙ getD-set-same w
+        (RECORDS + count) (from * 1024 + n) 0 (omega arith))
 
     new-record-first : firstW (newRecordW w from n) (count + 256) ≡ from
     new-record-first =
@@ -303,7 +317,12 @@ module _ (w : List ℕ) (from n : ℕ) (room : getD w RECORD-COUNT 0 < 512) (giv
           (λ e. rw e (omega (arith, new-record-first)))
           (λ ne.
           let lt : c < 256 + count = omega (arith, new-record-count) in
-          omega (arith, A .new c l lt, first-kept w (newRecordW w from n) c (omega arith) (new-record-other (RECORDS + (c - 256)) (λ q. omega arith) (λ q. omega arith))));
+          omega (
+            arith,
+            A .new c l lt,
+            first-kept w (newRecordW w from n) c (omega arith)
+                (new-record-other (RECORDS + (c - 256)) (λ q. omega arith) (λ q. omega arith)),
+          ));
       unknowns = omega (arith, new-record-other UNKNOWNS (λ q. omega arith) (λ q. omega arith), A .unknowns);
     }
 
@@ -323,7 +342,8 @@ module _ (w : List ℕ) (from n : ℕ) (room : getD w RECORD-COUNT 0 < 512) (giv
     -- a cell of now was a cell, or is the new one
     pub new-or-old : {k : Kind} {c : ℕ} → IsCell (newRecordW w from n) k c → IsCell w k c ⊎ ((k ≡ Fields) × (c ≡ count + 256))
     new-or-old (declared {k} {c} lt many tag) =
-        inl (declared {k = k} {c = c} lt (omega (arith, new-record-old .said TYPE-COUNT (omega arith))) (rw (← new-record-old .said (TYPES + 2 * c) (omega arith)) tag))
+        inl (declared {k = k} {c = c} lt (omega (arith, new-record-old .said TYPE-COUNT (omega arith)))
+        (rw (← new-record-old .said (TYPES + 2 * c) (omega arith)) tag))
     new-or-old (made {c} le many) = by-cases (ℕ-discrete c (count + 256)) (λ e. inr (refl, e)) (λ ne. inl (made {c = c} le (omega (arith, new-record-count))))
 
     module _ {T : Rows} {st : State} (H : Holds w T st) (F : Filled w from n) where
@@ -332,14 +352,21 @@ module _ (w : List ℕ) (from n : ℕ) (room : getD w RECORD-COUNT 0 < 512) (giv
 
       new-part : (j : ℕ) → fieldW w′ (count + 256) j ≡ madeField w (RECORD-FIELDS + 2 * (from + j))
       new-part j = rw (field-made w′ (count + 256) j (omega arith), new-record-first)
-          (made-field-same w w′ (RECORD-FIELDS + 2 * (from + j)) (new-record-other (RECORD-FIELDS + 2 * (from + j)) (λ q. omega arith) (λ q. omega arith)) (new-record-other (RECORD-FIELDS + 2 * (from + j) + 1) (λ q. omega arith) (λ q. omega arith)))
+          (made-field-same w w′ (RECORD-FIELDS + 2 * (from + j))
+          (new-record-other (RECORD-FIELDS + 2 * (from + j)) (λ q. omega arith) (λ q. omega arith))
+          (new-record-other (RECORD-FIELDS + 2 * (from + j) + 1) (λ q. omega arith) (λ q. omega arith)))
 
       new-row : (m j : ℕ) → j + m ≤ n → rowMade T w (from + j) m ≡ rowFrom (rowsWith w from n T) w′ Fields (count + 256) j m
       unfolding rowFrom rowMade madeField
       new-row zero j h = refl
       new-row (suc m) j h =
           let next : from + j + 1 ≡ from + (j + 1) = omega arith in
-          rw (new-part j, tree-more (new-record-more T) (madeField w (RECORD-FIELDS + 2 * (from + j)) .ty) (F .ok j (omega arith)), next, new-row m (j + 1) (omega arith))
+          rw (
+            new-part j,
+            tree-more (new-record-more T) (madeField w (RECORD-FIELDS + 2 * (from + j)) .ty) (F .ok j (omega arith)),
+            next,
+            new-row m (j + 1) (omega arith),
+          )
 
       new-cell : NewCell w′ (rowsWith w from n T) Fields (count + 256)
       unfolding rowW
@@ -358,7 +385,12 @@ module _ (w : List ℕ) (from n : ℕ) (room : getD w RECORD-COUNT 0 < 512) (giv
       pub new-record-holds : Holds w′ (rowsWith w from n T) st
       new-record-holds =
           let fields = new-record-other RECORD-FIELD-COUNT (λ q. omega arith) (λ q. omega arith) in
-          let C = cells-more new-record-old (H .cells) (new-record-more T) which (omega (arith, fields)) (omega (arith, new-record-count)) (omega (arith, fields, H .cells .few-fields)) in
+          let C = cells-more new-record-old (H .cells) (new-record-more T) which (omega (arith, fields)) (omega (arith, new-record-count))
+          (omega (arith, fields, H .cells .few-fields)) in
           holds-moved new-record-old
-          (record { unknowns = new-record-other UNKNOWNS (λ q. omega arith) (λ q. omega arith); at = λ i l h. new-record-other i (λ q. omega arith) (λ q. omega arith); long = new-record-keeps .long })
+          (record {
+            unknowns = new-record-other UNKNOWNS (λ q. omega arith) (λ q. omega arith);
+            at = λ i l h. new-record-other i (λ q. omega arith) (λ q. omega arith);
+            long = new-record-keeps .long;
+          })
           (new-record-more T) C H

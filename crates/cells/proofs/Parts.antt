@@ -90,7 +90,12 @@ passed-skips w c key T n (suc i) h = passed-skips w c key T n i (λ j l. h j (om
     go true q =
         let one : i + 1 ≡ suc i = omega arith in
         let less = h i (omega arith) (ltb-true i n q) in
-        rw (rest-cell T w Alternatives c n i (partW w Alternatives c i) (ltb-true i n q) refl, findKey, ne-eqb key (partW w Alternatives c i .key) (λ y. absurd (omega arith)), one)
+        rw (
+          rest-cell T w Alternatives c n i (partW w Alternatives c i) (ltb-true i n q) refl,
+          findKey,
+          ne-eqb key (partW w Alternatives c i .key) (λ y. absurd (omega arith)),
+          one,
+        )
     go false q = let le = ltb-false i n q in rw (rest-none T w Alternatives c n i le, rest-none T w Alternatives c n (suc i) (omega arith))
 
 pub seek-after : {w : List ℕ} {c i key n : ℕ} → Passed w c i key → n ≡ countW w c → Seeking (findKey key) w Alternatives c n i

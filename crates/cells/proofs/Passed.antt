@@ -30,7 +30,8 @@ passed-keeps {w} {w′} {c} K p = record {
 }
 
 -- The one at a was compared, and what follows is above it.
-pub passed-next : {w : List ℕ} {c i from : ℕ} → Passed w c i from → (a k : ℕ) → from ≤ k → partW w Alternatives c a .key ≡ k → {i′ : ℕ} → i′ ≡ afterW a i → Passed w c i′ (k + 1)
+pub passed-next : {w : List ℕ} {c i from : ℕ} → Passed w c i from → (a k : ℕ) → from ≤ k → partW w Alternatives c a .key ≡ k → {i′ : ℕ}
+    → i′ ≡ afterW a i → Passed w c i′ (k + 1)
 unfolding afterW
 passed-next {w} {c} {i} {from} p a k h e {i′} q = rw q (go (eqb a i) refl (ltb i 65536))
   where
@@ -40,7 +41,8 @@ passed-next {w} {c} {i} {from} p a k h e {i′} q = rw q (go (eqb a i) refl (ltb
     one-more : a ≡ i → Passed w c (i + 1) (k + 1)
     one-more s = record { past = λ T C l j m n. more T C l j m n (eqb j i) refl }
       where
-        more : (T : Rows) → Cells w T → IsCell w Alternatives c → (j : ℕ) → j < i + 1 → j < countW w c → (b : Bool) → eqb j i ≡ b → partW w Alternatives c j .key < k + 1
+        more : (T : Rows) → Cells w T → IsCell w Alternatives c → (j : ℕ) → j < i + 1 → j < countW w c → (b : Bool) → eqb j i ≡ b
+            → partW w Alternatives c j .key < k + 1
         more T C l j m n true z = let s′ : j ≡ a = eqb-true j i z ∙ sym s in rw s′ (omega (arith, e))
         more T C l j m n false z = omega (arith, p .past T C l j (let other = eqb-false j i z in omega arith) n)
 

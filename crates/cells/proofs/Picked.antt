@@ -83,7 +83,8 @@ scanned from (cell k l t r) P n p =
 least-of-either : (from : ℕ) (xs ys : Row) → Picks (OfEither xs ys) from (leastFrom from ys (leastFrom from xs Next.Nothing))
 least-of-either from xs ys =
     scanned from ys (λ j. Has j xs) (leastFrom from xs Next.Nothing)
-    (picks-same (λ j. ⊥ ⊎ Has j xs) (λ j. Has j xs) from (λ j. ⊎-elim (λ x. absurd x) (λ x. x)) (λ j. inr) (leastFrom from xs Next.Nothing) (scanned from xs (λ j. ⊥) Next.Nothing (λ j x. absurd x)))
+    (picks-same (λ j. ⊥ ⊎ Has j xs) (λ j. Has j xs) from (λ j. ⊎-elim (λ x. absurd x) (λ x. x)) (λ j. inr) (leastFrom from xs Next.Nothing)
+    (scanned from xs (λ j. ⊥) Next.Nothing (λ j x. absurd x)))
 
 -- What `next_discriminant` promises (`NextFrom`), in the card's words.
 pub next-is-least : {w : List ℕ} {c d from : ℕ} {r : Next} → NextFrom w c d from r

@@ -23,7 +23,8 @@ use Rattle.cells.proofs.Holding.{holds-history, undo-length, holds-log,
 
 -- `rewind` takes the log that it is given, not that of the state.
 rewind-log : (k : ℕ) (us : List Undo) (s : Subst) (tys : List (Option Tree.Ty)) (u v : List Undo) (l : ℕ) (h : History)
-    → rewind k us (record { subst = s; tys = tys; undo = u; left = l; history = h }) ≡ rewind k us (record { subst = s; tys = tys; undo = v; left = l; history = h })
+    → rewind k us (record { subst = s; tys = tys; undo = u; left = l; history = h }) ≡ rewind k us
+    (record { subst = s; tys = tys; undo = v; left = l; history = h })
 unfolding rewind revert
 rewind-log zero us s tys u v l h = refl
 rewind-log (suc k) [] s tys u v l h = refl
@@ -60,14 +61,16 @@ module _ {w : List ℕ} {T : Rows} {st : State} (H : Holds w T st) (n : ℕ) (co
   pop-count v e = getD-set-same v UNDO-LEN n 0 (omega (arith, H .long))
 
   step : (e : ℕ) (b : Bool) → ltb e 65536 ≡ b → st .undo ≡ pick b (Binding e none) (Annotation (e - 65536) none) ∷ undoOf w n
-      → Back (set (pick b (pick (ltb e 512) (set w (BINDINGS + 2 * e) 0) w) (pick (ltb (e - 65536) 512) (set w (TYS + 2 * (e - 65536)) 0) w)) UNDO-LEN n) T st mark n
+      → Back (set (pick b (pick (ltb e 512) (set w (BINDINGS + 2 * e) 0) w) (pick (ltb (e - 65536) 512) (set w (TYS + 2 * (e - 65536)) 0) w)) UNDO-LEN
+      n) T st mark n
   unfolding revert
   step e true q undo =
       let u = logged-unbind (rw undo at (H .logged)) in
       rw (lt-ltb e 512 (omega (arith, u .within, H .few-unknowns))) record {
         reached = record { subst = set (st .subst) e none; tys = st .tys; undo = undoOf w n; left = st .left; history = st .history };
         holds = unbind-holds H (undoOf w n) n refl u;
-        same = rewind-first (Binding e none) undo ∙ rewind-log (length (undoOf w n) - mark) (undoOf w n) (set (st .subst) e none) (st .tys) (st .undo) (undoOf w n) (st .left) (st .history);
+        same = rewind-first (Binding e none) undo ∙ rewind-log (length (undoOf w n) - mark) (undoOf w n) (set (st .subst) e none) (st .tys) (st .undo)
+            (undoOf w n) (st .left) (st .history);
         log = pop-count (set w (BINDINGS + 2 * e) 0) (length-set w (BINDINGS + 2 * e) 0);
       }
   step e false q undo =
@@ -76,7 +79,8 @@ module _ {w : List ℕ} {T : Rows} {st : State} (H : Holds w T st) (n : ℕ) (co
       rw (lt-ltb m 512 (omega (arith, u .within, H .few-nodes))) record {
         reached = record { subst = st .subst; tys = set (st .tys) m none; undo = undoOf w n; left = st .left; history = st .history };
         holds = unannotate-holds H (undoOf w n) n refl u;
-        same = rewind-first (Annotation m none) undo ∙ rewind-log (length (undoOf w n) - mark) (undoOf w n) (st .subst) (set (st .tys) m none) (st .undo) (undoOf w n) (st .left) (st .history);
+        same = rewind-first (Annotation m none) undo ∙ rewind-log (length (undoOf w n) - mark) (undoOf w n) (st .subst) (set (st .tys) m none)
+            (st .undo) (undoOf w n) (st .left) (st .history);
         log = pop-count (set w (TYS + 2 * m) 0) (length-set w (TYS + 2 * m) 0);
       }
 
@@ -92,7 +96,8 @@ back-keeps w n = keeps-trans (one (getD w (UNDO + n) 0)) (keeps-set (revertW w (
     one : (e : ℕ) → Keeps TYS END w (revertW w e)
     one e = go (ltb e 65536) (ltb e 512) (ltb (e - 65536) 512) refl refl
       where
-        go : (a b c : Bool) → ltb e 512 ≡ b → ltb (e - 65536) 512 ≡ c → Keeps TYS END w (pick a (pick b (set w (BINDINGS + 2 * e) 0) w) (pick c (set w (TYS + 2 * (e - 65536)) 0) w))
+        go : (a b c : Bool) → ltb e 512 ≡ b → ltb (e - 65536) 512 ≡ c
+            → Keeps TYS END w (pick a (pick b (set w (BINDINGS + 2 * e) 0) w) (pick c (set w (TYS + 2 * (e - 65536)) 0) w))
         go true true c p q = let h = ltb-true e 512 p in keeps-set w (BINDINGS + 2 * e) 0 (omega arith) (omega arith)
         go true false c p q = keeps-refl
         go false b true p q = let h = ltb-true (e - 65536) 512 q in keeps-set w (TYS + 2 * (e - 65536)) 0 (omega arith) (omega arith)

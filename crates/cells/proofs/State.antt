@@ -65,7 +65,11 @@ module _ (w : List ℕ) (at : ℕ) (t : Ty) where
   put-length = simp length-set
 
   pub put-keeps : {a e : ℕ} → a ≤ at → at + 1 < e → Keeps a e w (putTy w at t)
-  put-keeps lo hi = record { below = λ i h. put-other i (λ q. omega arith) (λ q. omega arith); above = λ i h. put-other i (λ q. omega arith) (λ q. omega arith); long = put-length }
+  put-keeps lo hi = record {
+    below = λ i h. put-other i (λ q. omega arith) (λ q. omega arith);
+    above = λ i h. put-other i (λ q. omega arith) (λ q. omega arith);
+    long = put-length;
+  }
 
   put-tag : at + 1 < length w → getD (putTy w at t) at 0 ≡ tagW t
   unfolding putTy
@@ -91,10 +95,12 @@ module _ (w : List ℕ) (e : ℕ) where
   unfolding pushUndoW
   push-keeps = go (ltb (getD w UNDO-LEN 0) 1024) refl
     where
-      go : (b : Bool) → ltb (getD w UNDO-LEN 0) 1024 ≡ b → Keeps UNDO-LEN END w (pick b (set (set w (UNDO + getD w UNDO-LEN 0) e) UNDO-LEN (getD w UNDO-LEN 0 + 1)) w)
+      go : (b : Bool) → ltb (getD w UNDO-LEN 0) 1024 ≡ b → Keeps UNDO-LEN END w
+          (pick b (set (set w (UNDO + getD w UNDO-LEN 0) e) UNDO-LEN (getD w UNDO-LEN 0 + 1)) w)
       go true q =
           let h = ltb-true (getD w UNDO-LEN 0) 1024 q in
-          keeps-trans (keeps-set w (UNDO + getD w UNDO-LEN 0) e (omega arith) (omega arith)) (keeps-set (set w (UNDO + getD w UNDO-LEN 0) e) UNDO-LEN (getD w UNDO-LEN 0 + 1) (omega arith) (omega arith))
+          keeps-trans (keeps-set w (UNDO + getD w UNDO-LEN 0) e (omega arith) (omega arith))
+          (keeps-set (set w (UNDO + getD w UNDO-LEN 0) e) UNDO-LEN (getD w UNDO-LEN 0 + 1) (omega arith) (omega arith))
       go false q = keeps-refl
 
   module _ (room : getD w UNDO-LEN 0 < 1024) where
@@ -103,7 +109,8 @@ module _ (w : List ℕ) (e : ℕ) where
     push-is = rw (lt-ltb (getD w UNDO-LEN 0) 1024 room)
 
     push-other : (i : ℕ) → i ≢ UNDO-LEN → i ≢ UNDO + getD w UNDO-LEN 0 → getD (pushUndoW w e) i 0 ≡ getD w i 0
-    push-other i n m = rw push-is (getD-set-other (set w (UNDO + getD w UNDO-LEN 0) e) UNDO-LEN i (getD w UNDO-LEN 0 + 1) 0 n ∙ getD-set-other w (UNDO + getD w UNDO-LEN 0) i e 0 m)
+    push-other i n m = rw push-is (getD-set-other (set w (UNDO + getD w UNDO-LEN 0) e) UNDO-LEN i (getD w UNDO-LEN 0 + 1) 0 n ∙ getD-set-other w
+        (UNDO + getD w UNDO-LEN 0) i e 0 m)
 
     module _ (long : END ≤ length w) where
       push-count : getD (pushUndoW w e) UNDO-LEN 0 ≡ suc (getD w UNDO-LEN 0)
@@ -112,11 +119,17 @@ module _ (w : List ℕ) (e : ℕ) where
 
       push-top : getD (pushUndoW w e) (UNDO + getD w UNDO-LEN 0) 0 ≡ e
       push-top = rw push-is
-          (getD-set-other (set w (UNDO + getD w UNDO-LEN 0) e) UNDO-LEN (UNDO + getD w UNDO-LEN 0) (getD w UNDO-LEN 0 + 1) 0 (λ q. omega arith) ∙ getD-set-same w (UNDO + getD w UNDO-LEN 0) e 0 (omega arith))
+          (getD-set-other (set w (UNDO + getD w UNDO-LEN 0) e) UNDO-LEN (UNDO + getD w UNDO-LEN 0) (getD w UNDO-LEN 0 + 1) 0 (λ q. omega arith) ∙
+          getD-set-same w (UNDO + getD w UNDO-LEN 0) e 0 (omega arith))
 
       push-undo : undoOf (pushUndoW w e) (getD (pushUndoW w e) UNDO-LEN 0) ≡ entryOf e ∷ undoOf w (getD w UNDO-LEN 0)
       unfolding undoOf
-      push-undo = rw (push-count, push-top, undo-same w (pushUndoW w e) (getD w UNDO-LEN 0) (λ i h. push-other (UNDO + i) (λ q. omega arith) (λ q. omega arith)))
+      push-undo = rw (
+        push-count,
+        push-top,
+        undo-same w (pushUndoW w e) (getD w UNDO-LEN 0)
+            (λ i h. push-other (UNDO + i) (λ q. omega arith) (λ q. omega arith)),
+      )
 
 -- ---- One slot changed, and the log
 pub record Change (w w′ : List ℕ) (at : ℕ) (b : Bound) : Type 0 where
@@ -146,7 +159,8 @@ module _ (w : List ℕ) (long : END ≤ length w) (at : ℕ) (slot : IsSlot at) 
     set-change =
         let r : getD (putTy w at t) UNDO-LEN 0 < 1024 = omega (arith, put-log) in
         record {
-          keeps = keeps-trans (put-keeps w at t (slot .low) (omega (arith, slot .high))) (keeps-wider (omega arith) (omega arith) (push-keeps (putTy w at t) e));
+          keeps = keeps-trans (put-keeps w at t (slot .low) (omega (arith, slot .high)))
+              (keeps-wider (omega arith) (omega arith) (push-keeps (putTy w at t) e));
           here = slot-set (pushUndoW (putTy w at t) e) at t
               (push-other (putTy w at t) e r at (slot .before) (λ q. omega (arith, slot .high)) ∙ put-tag w at t (omega (arith, slot .high)))
               (push-other (putTy w at t) e r (at + 1) (slot .behind) (λ q. omega (arith, slot .high)) ∙ put-payload w at t (omega (arith, slot .high)));
@@ -156,7 +170,9 @@ module _ (w : List ℕ) (long : END ≤ length w) (at : ℕ) (slot : IsSlot at) 
     pub set-undo : undoOf (pushUndoW (putTy w at t) e) (getD (pushUndoW (putTy w at t) e) UNDO-LEN 0) ≡ entryOf e ∷ undoOf w (getD w UNDO-LEN 0)
     set-undo =
         push-undo (putTy w at t) e (omega (arith, put-log)) (omega (arith, put-length w at t))
-        ∙ rw put-log (ap {B = List Undo} (λ us. entryOf e ∷ us) (undo-same w (putTy w at t) (getD w UNDO-LEN 0) (λ i h. put-other w at t (UNDO + i) (λ q. omega (arith, slot .high)) (λ q. omega (arith, slot .high)))))
+        ∙ rw put-log (ap {B = List Undo} (λ us. entryOf e ∷ us)
+        (undo-same w (putTy w at t) (getD w UNDO-LEN 0)
+        (λ i h. put-other w at t (UNDO + i) (λ q. omega (arith, slot .high)) (λ q. omega (arith, slot .high)))))
 
   module _ (n : ℕ) where
     pop-other : (i : ℕ) → i ≢ UNDO-LEN → i ≢ at → getD (set (set w at 0) UNDO-LEN n) i 0 ≡ getD w i 0
@@ -165,7 +181,8 @@ module _ (w : List ℕ) (long : END ≤ length w) (at : ℕ) (slot : IsSlot at) 
     pub pop-change : Change w (set (set w at 0) UNDO-LEN n) at Free
     pop-change = record {
       keeps = keeps-trans (keeps-set w at 0 (slot .low) (omega (arith, slot .high))) (keeps-set (set w at 0) UNDO-LEN n (omega arith) (omega arith));
-      here = slot-free (set (set w at 0) UNDO-LEN n) at (getD-set-other (set w at 0) UNDO-LEN at n 0 (slot .before) ∙ getD-set-same w at 0 0 (omega (arith, slot .high)));
+      here = slot-free (set (set w at 0) UNDO-LEN n) at
+          (getD-set-other (set w at 0) UNDO-LEN at n 0 (slot .before) ∙ getD-set-same w at 0 0 (omega (arith, slot .high)));
       other = λ i lo hi p q r. pop-other i p q;
     }
 
@@ -174,7 +191,8 @@ module _ (w : List ℕ) (long : END ≤ length w) (at : ℕ) (slot : IsSlot at) 
         (undo-same w (set (set w at 0) UNDO-LEN n) n (λ i h. pop-other (UNDO + i) (λ q. omega arith) (λ q. omega (arith, slot .high))))
 
 -- ---- The parts of the state after a change
-getD-set-at : {A : Type 0} (l : List A) (i j : ℕ) (a d : A) (Q : A → Type 0) → i < length l → (j ≡ i → Q a) → (j ≢ i → Q (getD l j d)) → Q (getD (set l i a) j d)
+getD-set-at : {A : Type 0} (l : List A) (i j : ℕ) (a d : A) (Q : A → Type 0) → i < length l → (j ≡ i → Q a) → (j ≢ i → Q (getD l j d))
+    → Q (getD (set l i a) j d)
 getD-set-at l i j a d Q lt same other = by-cases (ℕ-discrete j i)
     (λ e. rw (e, getD-set-same l i a d lt) (same e))
     (λ n. rw (getD-set-other l i j a d n) (other n))
@@ -185,12 +203,14 @@ module _ {w w′ : List ℕ} {at : ℕ} {b : Bound} (c : Change w w′ at b) whe
   cells = keeps-cells (omega arith) (c .keeps)
 
   other-slot : (i : ℕ) → IsSlot i → i ≢ at → i ≢ at + 1 → i + 1 ≢ at → slotW w′ i ≡ slotW w i
-  other-slot i s n m k = slot-same w w′ i (c .other i (s .low) (omega (arith, s .high)) (s .before) n m) (c .other (i + 1) (omega (arith, s .low)) (s .high) (s .behind) k (λ q. n (omega arith)))
+  other-slot i s n m k = slot-same w w′ i (c .other i (s .low) (omega (arith, s .high)) (s .before) n m)
+      (c .other (i + 1) (omega (arith, s .low)) (s .high) (s .behind) k (λ q. n (omega arith)))
 
   unknowns-same : getD w′ UNKNOWNS 0 ≡ getD w UNKNOWNS 0
   unknowns-same = c .keeps .below UNKNOWNS (omega arith)
 
-  other-bound : (few : getD w UNKNOWNS 0 ≤ 512) (x : ℕ) → (x < 512 → (BINDINGS + 2 * x ≢ at) × (BINDINGS + 2 * x ≢ at + 1) × (BINDINGS + 2 * x + 1 ≢ at)) → boundW w′ x ≡ boundW w x
+  other-bound : (few : getD w UNKNOWNS 0 ≤ 512) (x : ℕ) →
+      (x < 512 → (BINDINGS + 2 * x ≢ at) × (BINDINGS + 2 * x ≢ at + 1) × (BINDINGS + 2 * x + 1 ≢ at)) → boundW w′ x ≡ boundW w x
   other-bound few x apart = bound-same w w′ x unknowns-same (λ h.
       let lt : x < 512 = omega arith in
       let n = apart lt in
@@ -215,7 +235,8 @@ module _ {w w′ : List ℕ} {at : ℕ} {b : Bound} (c : Change w w′ at b) whe
       same : (n : ℕ) → n < length tys → slotW w′ (TYS + 2 * n) ≡ slotW w (TYS + 2 * n)
       same n h = other-slot (TYS + 2 * n) (type-slot n (omega arith)) (λ q. omega arith) (λ q. omega arith) (λ q. omega arith)
 
-pub binds-at : {w w′ : List ℕ} {x : ℕ} {b : Bound} {T : Rows} {s : Subst} → Change w w′ (BINDINGS + 2 * x) b → OkBound w b → x < length s → length s ≤ 512 → Binds w T s → Binds w′ T (set s x (boundTree T b))
+pub binds-at : {w w′ : List ℕ} {x : ℕ} {b : Bound} {T : Rows} {s : Subst} → Change w w′ (BINDINGS + 2 * x) b → OkBound w b → x < length s
+    → length s ≤ 512 → Binds w T s → Binds w′ T (set s x (boundTree T b))
 unfolding bound boundW
 binds-at {w} {w′} {x} {b} {T} {s} c o lt few B = record {
   unknowns = length-set s x (boundTree T b) ∙ B .unknowns ∙ sym (unknowns-same c);
@@ -233,7 +254,8 @@ binds-at {w} {w′} {x} {b} {T} {s} c o lt few B = record {
     same : (y : ℕ) → y ≢ x → boundW w′ y ≡ boundW w y
     same y n = other-bound c (omega (arith, B .unknowns)) y (λ h. (λ q. n (omega arith), λ q. omega arith, λ q. omega arith))
 
-pub types-at : {w w′ : List ℕ} {n : ℕ} {b : Bound} {T : Rows} {tys : List (Option Tree.Ty)} → Change w w′ (TYS + 2 * n) b → OkBound w b → n < length tys → length tys ≤ 512 → Types w T tys → Types w′ T (set tys n (boundTree T b))
+pub types-at : {w w′ : List ℕ} {n : ℕ} {b : Bound} {T : Rows} {tys : List (Option Tree.Ty)} → Change w w′ (TYS + 2 * n) b → OkBound w b
+    → n < length tys → length tys ≤ 512 → Types w T tys → Types w′ T (set tys n (boundTree T b))
 types-at {w} {w′} {n} {b} {T} {tys} c o lt few Y = record {
   at = λ m h. getD-set-at tys n m (boundTree T b) none (λ v. v ≡ boundTree T (slotW w′ (TYS + 2 * m))) lt
       (λ e. rw (e, c .here))

@@ -84,14 +84,20 @@ pub record Reached (w : List ℕ) (T : Rows) (rest : ℕ) (whole : Unify.Unified
   pub same : whole ≡ work state
   pub known : K state
 
-pub record Going (P : Rows → State → Type 0) (f : ℕ → Rows → State → Unify.Unified) (w₀ : List ℕ) (left : ℕ) (w : List ℕ) (rest : ℕ) (g : ℕ → Rows → State → Unify.Unified) (K : ℕ → Rows → State → Type 0) : Type 0 where
+pub record Going (P : Rows → State → Type 0) (f : ℕ → Rows → State → Unify.Unified) (w₀ : List ℕ) (left : ℕ) (w : List ℕ) (rest : ℕ)
+    (g : ℕ → Rows → State → Unify.Unified) (K : ℕ → Rows → State → Type 0) : Type 0 where
   pub fewer : rest ≤ left
   pub keeps : Keeps UNDO-LEN END w₀ w
   pub to : (T : Rows) (st : State) → Holds w₀ T st → st .left ≡ left → P T st → (d : ℕ) → left ≤ d → Reached w T rest (f d T st) (λ s. g d T s) (K d T)
 
 pub go-start : {P : Rows → State → Type 0} {f g : ℕ → Rows → State → Unify.Unified} {w : List ℕ} {left : ℕ} {K : ℕ → Rows → State → Type 0}
-    → ((T : Rows) (st : State) (d : ℕ) → Holds w T st → P T st → f d T st ≡ g d T st) → ((T : Rows) (st : State) (d : ℕ) → K d T st) → Going P f w left w left g K
-go-start e k = record { fewer = omega arith; keeps = keeps-refl; to = λ T st H q p d h. record { state = st; holds = H; visits = q; same = e T st d H p; known = k T st d } }
+    → ((T : Rows) (st : State) (d : ℕ) → Holds w T st → P T st → f d T st ≡ g d T st) → ((T : Rows) (st : State) (d : ℕ) → K d T st)
+    → Going P f w left w left g K
+go-start e k = record {
+  fewer = omega arith;
+  keeps = keeps-refl;
+  to = λ T st H q p d h. record { state = st; holds = H; visits = q; same = e T st d H p; known = k T st d };
+}
 
 -- how a step that was good ended
 good : (w w′ : List ℕ) (T : Rows) (l : ℕ) (o : Unify.Unified) → Ends w w′ T (Good l) o → (st : State) × (o ≡ Unify.Ok st) × (st .left ≡ l) × Stays w w′ T st
@@ -110,14 +116,20 @@ cut w w′ T r x (Unify.Ok st) f e = absurd (miss (1 ∷ 2 ∷ []) 0 tt (rw (e .
 cut w w′ T r x (Unify.Err y st) f e = e
 cut w w′ T r x (Unify.Spent st) f e = e
 
-module _ {P : Rows → State → Type 0} {f : ℕ → Rows → State → Unify.Unified} {w₀ : List ℕ} {left : ℕ} {w : List ℕ} {rest : ℕ} {g : ℕ → Rows → State → Unify.Unified} {K : ℕ → Rows → State → Type 0} (G : Going P f w₀ left w rest g K) where
+module _ {P : Rows → State → Type 0} {f : ℕ → Rows → State → Unify.Unified} {w₀ : List ℕ} {left : ℕ} {w : List ℕ} {rest : ℕ}
+    {g : ℕ → Rows → State → Unify.Unified} {K : ℕ → Rows → State → Type 0} (G : Going P f w₀ left w rest g K) where
   -- What is known of a state reached.
   abbrev pub Here : (Rows → State → ℕ → Type 0) → Type 0
   Here Q = (T : Rows) (st : State) → Holds w₀ T st → P T st → Keeps UNDO-LEN END w₀ w → (s : State) → Holds w T s → (d : ℕ) → Q T s d
 
   pub go-end : Here (λ T s d. g d T s ≡ Unify.Ok s) → Step P f w₀ left w (Good rest)
   unfolding Ends
-  go-end e = record { is = λ T st H q p d h. let R = G .to T st H q p d h in rw (R .same, e T st H p (G .keeps) (R .state) (R .holds) d) (ap Good (sym (R .visits)), record { holds = R .holds; keeps = G .keeps }); fewer = G .fewer; keeps = G .keeps }
+  go-end e = record {
+    is = λ T st H q p d h. let R = G .to T st H q p d h in rw (R .same, e T st H p (G .keeps) (R .state) (R .holds) d)
+        (ap Good (sym (R .visits)), record { holds = R .holds; keeps = G .keeps });
+    fewer = G .fewer;
+    keeps = G .keeps;
+  }
 
   pub go-fail : (x : TyError) → OkError w x → Here (λ T s d. g d T s ≡ Unify.Err (errorOf T x) s) → Step P f w₀ left w (Bad x rest)
   unfolding Ends
@@ -131,10 +143,12 @@ module _ {P : Rows → State → Type 0} {f : ℕ → Rows → State → Unify.U
   }
 
   -- A turn: a step, and then the rest.
-  module _ (g′ : ℕ → Rows → State → Unify.Unified) {Q : Rows → State → Type 0} {u : ℕ → Rows → State → Unify.Unified} {w′ : List ℕ} {r : Unified} (S : Step Q u w rest w′ r)
+  module _ (g′ : ℕ → Rows → State → Unify.Unified) {Q : Rows → State → Type 0} {u : ℕ → Rows → State → Unify.Unified} {w′ : List ℕ} {r : Unified}
+      (S : Step Q u w rest w′ r)
       (has : Here (λ T s d. Q T s)) (turn : Here (λ T s d. g d T s ≡ andThen (u d T s) (λ s′. g′ d T s′))) where
     pub go-next : (l : ℕ) → r ≡ Good l → {K′ : ℕ → Rows → State → Type 0}
-        → ((T : Rows) (s s′ : State) (d : ℕ) → Holds w T s → Q T s → s .left ≡ rest → u d T s ≡ Unify.Ok s′ → s′ .left ≡ l → K′ d T s′) → Going P f w₀ left w′ l g′ K′
+        → ((T : Rows) (s s′ : State) (d : ℕ) → Holds w T s → Q T s → s .left ≡ rest → u d T s ≡ Unify.Ok s′ → s′ .left ≡ l → K′ d T s′)
+        → Going P f w₀ left w′ l g′ K′
     unfolding andThen
     go-next l e k = record {
       fewer = omega (arith, G .fewer, rw e at (S .fewer));
@@ -157,7 +171,8 @@ module _ {P : Rows → State → Type 0} {f : ℕ → Rows → State → Unify.U
       is = λ T st H q p d h.
           let R = G .to T st H q p d h in
           let E = S .is T (R .state) (R .holds) (R .visits) (has T st H p (G .keeps) (R .state) (R .holds) d) d (omega (arith, G .fewer)) in
-          rw (R .same, turn T st H p (G .keeps) (R .state) (R .holds) d) (ends-after w′ T r _ (G .keeps) (cut w w′ T r x (u d T (R .state)) (λ s′. g′ d T s′) E));
+          rw (R .same, turn T st H p (G .keeps) (R .state) (R .holds) d)
+          (ends-after w′ T r _ (G .keeps) (cut w w′ T r x (u d T (R .state)) (λ s′. g′ d T s′) E));
       fewer = omega (arith, G .fewer, S .fewer);
       keeps = keeps-trans (G .keeps) (S .keeps);
     }
@@ -172,7 +187,8 @@ pub settled-errors : (log d : ℕ) (T : Rows) (s : State) → Settled Error Erro
 settled-errors log d T s = record { quiet = λ e st q h. errors-quiet d st h }
 
 -- What they cost when they were unified.
-pub settled : (a b : Ty) {w : List ℕ} {rest l log cost : ℕ} → log ≡ getD w UNDO-LEN 0 → cost ≡ rest - l → (T : Rows) (s s′ : State) (d : ℕ) → Holds w T s → s .left ≡ rest
+pub settled : (a b : Ty) {w : List ℕ} {rest l log cost : ℕ} → log ≡ getD w UNDO-LEN 0 → cost ≡ rest - l → (T : Rows) (s s′ : State) (d : ℕ)
+    → Holds w T s → s .left ≡ rest
     → Unify.unifyIn d s (tree T a) (tree T b) ≡ Unify.Ok s′ → s′ .left ≡ l → Settled a b cost log d T s′
 settled a b {w} {rest} {l} {log} {cost} n c T s s′ d H v e v′ = record {
   quiet = λ same.
@@ -188,9 +204,11 @@ unfolding Bindings.withLeft Bindings.withHistory
 rested H v h = holds-history (holds-left H v) h
 
 -- `m` is what is made of the outcome: a success and the end of the visits stay.
-module _ {P : Rows → State → Type 0} {f : ℕ → Rows → State → Unify.Unified} {w₀ : List ℕ} {left : ℕ} {w : List ℕ} {rest : ℕ} {g : ℕ → Rows → State → Unify.Unified}
+module _ {P : Rows → State → Type 0} {f : ℕ → Rows → State → Unify.Unified} {w₀ : List ℕ} {left : ℕ} {w : List ℕ} {rest : ℕ}
+    {g : ℕ → Rows → State → Unify.Unified}
     {a b : Ty} {cost log : ℕ} (G : Going P f w₀ left w rest g (Settled a b cost log)) (same-log : getD w UNDO-LEN 0 ≡ log)
-    (m : Rows → Unify.Unified → Unify.Unified) (m-ok : (T : Rows) (s : State) → m T (Unify.Ok s) ≡ Unify.Ok s) (m-spent : (T : Rows) (s : State) → m T (Unify.Spent s) ≡ Unify.Spent s)
+    (m : Rows → Unify.Unified → Unify.Unified) (m-ok : (T : Rows) (s : State) → m T (Unify.Ok s) ≡ Unify.Ok s)
+    (m-spent : (T : Rows) (s : State) → m T (Unify.Spent s) ≡ Unify.Spent s)
     (g′ : ℕ → Rows → State → Unify.Unified) (turn : Here G (λ T s d. g d T s ≡ andThen (m T (Unify.unifyIn d s (tree T a) (tree T b))) (λ s′. g′ d T s′))) where
   -- how the two end now
   ended : (T : Rows) (d : ℕ) (whole : Unify.Unified) (R : Reached w T rest whole (λ s. g d T s) (Settled a b cost log d T)) → left ≤ d
@@ -204,17 +222,20 @@ module _ {P : Rows → State → Type 0} {f : ℕ → Rows → State → Unify.U
     keeps = G .keeps;
     to = λ T st H q p d h.
         let R = G .to T st H q p d h in
-        one T d (f d T st) R (turn T st H p (G .keeps) (R .state) (R .holds) d) (Unify.unifyIn d (R .state) (tree T a) (tree T b)) refl (ended T d (f d T st) R h);
+        one T d (f d T st) R (turn T st H p (G .keeps) (R .state) (R .holds) d) (Unify.unifyIn d (R .state) (tree T a) (tree T b)) refl
+        (ended T d (f d T st) R h);
   }
     where
       one : (T : Rows) (d : ℕ) (whole : Unify.Unified) (R : Reached w T rest whole (λ s. g d T s) (Settled a b cost log d T))
           → g d T (R .state) ≡ andThen (m T (Unify.unifyIn d (R .state) (tree T a) (tree T b))) (λ s′. g′ d T s′)
-          → (o : Unify.Unified) → Unify.unifyIn d (R .state) (tree T a) (tree T b) ≡ o → Quiet cost (R .state) o → Reached w T (rest - cost) whole (λ s. g′ d T s) (Settled a b cost log d T)
+          → (o : Unify.Unified) → Unify.unifyIn d (R .state) (tree T a) (tree T b) ≡ o → Quiet cost (R .state) o
+          → Reached w T (rest - cost) whole (λ s. g′ d T s) (Settled a b cost log d T)
       one T d whole R t o e (ends v h l) = record {
         state = resting (R .state) v h;
         holds = rested (R .holds) v h;
         visits = omega (arith, R .visits);
-        same = R .same ∙ t ∙ ap (λ (o : Unify.Unified). andThen (m T o) (λ s′. g′ d T s′)) e ∙ ap (λ (o : Unify.Unified). andThen o (λ s′. g′ d T s′)) (m-ok T (resting (R .state) v h));
+        same = R .same ∙ t ∙ ap (λ (o : Unify.Unified). andThen (m T o) (λ s′. g′ d T s′)) e ∙ ap (λ (o : Unify.Unified). andThen o (λ s′. g′ d T s′))
+            (m-ok T (resting (R .state) v h));
         known = record { quiet = R .known .quiet };
       }
       one T d whole R t o e (stops h l) = absurd (omega (arith, R .visits))
@@ -224,7 +245,8 @@ module _ {P : Rows → State → Type 0} {f : ℕ → Rows → State → Unify.U
   go-short c = record {
     is = λ T st H q p d h.
         let R = G .to T st H q p d h in
-        rw (R .same, turn T st H p (G .keeps) (R .state) (R .holds) d) (one T d (f d T st) R (Unify.unifyIn d (R .state) (tree T a) (tree T b)) (ended T d (f d T st) R h));
+        rw (R .same, turn T st H p (G .keeps) (R .state) (R .holds) d)
+        (one T d (f d T st) R (Unify.unifyIn d (R .state) (tree T a) (tree T b)) (ended T d (f d T st) R h));
     fewer = omega arith;
     keeps = G .keeps;
   }

@@ -34,7 +34,8 @@ use Rattle.cells.specs.declared.TyError.the-variants.{UnionMismatch}
 use Rattle.cells.specs.declared.Unified.{Unified}
 use Rattle.cells.specs.declared.Unified.the-variants.{Good, Bad, Spent}
 use Rattle.cells.specs.Stands.{Rows, tree, IsCell, Ok, Holds, Keeps}
-use Rattle.cells.specs.Contracts.{foundPart, FindsKey, NextFrom, diffOf, Ends, unifier, differs, UnifiesUnion, UnifiesAlternative, UnifiesPayload, Unifies}
+use Rattle.cells.specs.Contracts.{foundPart, FindsKey, NextFrom, diffOf, Ends, unifier, differs, UnifiesUnion, UnifiesAlternative, UnifiesPayload}
+use Rattle.cells.specs.Contracts.{Unifies}
 use Rattle.cells.proofs.Unified.{the-type}
 use Rattle.cells.proofs.Frame.{keeps-cells, cell-same}
 use Rattle.cells.proofs.Picked.{Has, next-is-least}
@@ -53,12 +54,17 @@ module _ {w : List ℕ} {c e : ℕ} {diff : UnionDiff} {a b : Ty} {left : ℕ} {
     };
   }
     where
-      one : (T : Rows) → IsCell w Alternatives c → IsCell w Alternatives e → (o : Unify.Unified) → Ends w w′ T (Bad x l) o → Ends w w′ T (Bad (UnionMismatch diff (Union e) (Union c)) l) (mapErr (differs T c e (diffOf diff)) o)
+      one : (T : Rows) → IsCell w Alternatives c → IsCell w Alternatives e → (o : Unify.Unified) → Ends w w′ T (Bad x l) o
+          → Ends w w′ T (Bad (UnionMismatch diff (Union e) (Union c)) l) (mapErr (differs T c e (diffOf diff)) o)
       one T i j (Unify.Ok st) z = clash (cc (z .0))
       one T i j (Unify.Err y st) z =
           let v : l ≡ st .left = cc (z .1) in
-          let same = keeps-cells (omega arith) (z .3 .keeps) in
-          (UnionMismatch diff (Union e) (Union c), ap (Bad (UnionMismatch diff (Union e) (Union c))) v, record { is = refl; ok = (cell-same same j, cell-same same i) }, z .3)
+          let same = keeps-cells (omega arith) (z .3 .keeps) in (
+            UnionMismatch diff (Union e) (Union c),
+            ap (Bad (UnionMismatch diff (Union e) (Union c))) v,
+            record { is = refl; ok = (cell-same same j, cell-same same i) },
+            z .3,
+          )
       one T i j (Unify.Spent st) z = clash (cc (z .0))
 
   pub payload-else : OneOf (0 ∷ 2 ∷ []) (tagOf the-type r) → UnifiesPayload w c e diff a b left w′ r
@@ -80,26 +86,37 @@ module _ {w : List ℕ} {c e : ℕ} {diff : UnionDiff} {a b : Ty} {left : ℕ} {
 module _ {w : List ℕ} {c e k : ℕ} {x y : Found} (X : FindsKey w Alternatives c k x) (Y : FindsKey w Alternatives e k y) where
   -- over what was found on the two sides
   sides : (T : Rows) (st : State) (d : ℕ) → Holds w T st → IsCell w Alternatives c × IsCell w Alternatives e → {x′ y′ : Found} → x ≡ x′ → y ≡ y′
-      → unifyAlternative (unifier d) st (differs T c e) k (findKey k (T c)) (findKey k (T e)) ≡ unifyAlternative (unifier d) st (differs T c e) k (foundPart T x′) (foundPart T y′)
+      → unifyAlternative (unifier d) st (differs T c e) k (findKey k (T c)) (findKey k (T e)) ≡ unifyAlternative (unifier d) st (differs T c e) k
+      (foundPart T x′) (foundPart T y′)
   sides T st d H i p q = rw (← X .is T (H .cells) (i .0), ← Y .is T (H .cells) (i .1), p, q)
 
-  pub in-expected : (o : Part) {left : ℕ} {r : Unified} → x ≡ Nothing → y ≡ At o → r ≡ Bad (UnionMismatch (Absent (o .label) k) (Union e) (Union c)) left → UnifiesAlternative w c e k left w r
+  pub in-expected : (o : Part) {left : ℕ} {r : Unified} → x ≡ Nothing → y ≡ At o
+      → r ≡ Bad (UnionMismatch (Absent (o .label) k) (Union e) (Union c)) left → UnifiesAlternative w c e k left w r
   unfolding unifyAlternative
-  in-expected o p q z = rw z record { step = fails (UnionMismatch (Absent (o .label) k) (Union e) (Union c)) (λ T st i. (i .1, i .0)) (λ T st d H i. sides T st d H i p q) }
+  in-expected o p q z = rw z record {
+    step = fails (UnionMismatch (Absent (o .label) k) (Union e) (Union c)) (λ T st i. (i .1, i .0))
+        (λ T st d H i. sides T st d H i p q);
+  }
 
-  pub in-found : (o : Part) {left : ℕ} {r : Unified} → x ≡ At o → y ≡ Nothing → r ≡ Bad (UnionMismatch (Absent (o .label) k) (Union e) (Union c)) left → UnifiesAlternative w c e k left w r
+  pub in-found : (o : Part) {left : ℕ} {r : Unified} → x ≡ At o → y ≡ Nothing → r ≡ Bad (UnionMismatch (Absent (o .label) k) (Union e) (Union c)) left
+      → UnifiesAlternative w c e k left w r
   unfolding unifyAlternative
-  in-found o p q z = rw z record { step = fails (UnionMismatch (Absent (o .label) k) (Union e) (Union c)) (λ T st i. (i .1, i .0)) (λ T st d H i. sides T st d H i p q) }
+  in-found o p q z = rw z record {
+    step = fails (UnionMismatch (Absent (o .label) k) (Union e) (Union c)) (λ T st i. (i .1, i .0))
+        (λ T st d H i. sides T st d H i p q);
+  }
 
   module _ (o m : Part) (p : x ≡ At o) (q : y ≡ At m) where
-    pub renamed : {left : ℕ} {r : Unified} → ¬ (o .label ≡ m .label) → r ≡ Bad (UnionMismatch (Renamed (m .label) (o .label) k) (Union e) (Union c)) left → UnifiesAlternative w c e k left w r
+    pub renamed : {left : ℕ} {r : Unified} → ¬ (o .label ≡ m .label)
+        → r ≡ Bad (UnionMismatch (Renamed (m .label) (o .label) k) (Union e) (Union c)) left → UnifiesAlternative w c e k left w r
     unfolding unifyAlternative
     renamed n z = rw z record {
       step = fails (UnionMismatch (Renamed (m .label) (o .label) k) (Union e) (Union c)) (λ T st i. (i .1, i .0))
           (λ T st d H i. sides T st d H i p q ∙ rw (ne-eqb (o .label) (m .label) n, unifyAlternative));
     }
 
-    pub in-both : {left : ℕ} {w′ : List ℕ} {r : Unified} → o .label ≡ m .label → UnifiesPayload w c e (Payload (o .label) k) (o .ty) (m .ty) left w′ r → UnifiesAlternative w c e k left w′ r
+    pub in-both : {left : ℕ} {w′ : List ℕ} {r : Unified} → o .label ≡ m .label → UnifiesPayload w c e (Payload (o .label) k) (o .ty) (m .ty) left w′ r
+        → UnifiesAlternative w c e k left w′ r
     unfolding unifyAlternative
     in-both n P = record {
       step = record {
@@ -116,13 +133,15 @@ alternativesFrom c e from d T st = unifyAlternatives (unifier d) st (differs T c
 
 -- got and expected are the last two payloads that were unified, with what they cost and the log's length before it.
 pub record UnionGoing (w₀ : List ℕ) (c e left : ℕ) (w : List ℕ) (from left′ : ℕ) (got expected : Ty) (cost log : ℕ) : Type 0 where
-  pub going : Going (λ T st. IsCell w₀ Alternatives c × IsCell w₀ Alternatives e) (λ d T st. unifyUnion (unifier d) st (T c) (T e)) w₀ left w left′ (λ d T st. alternativesFrom c e from d T st) (Settled got expected cost log)
+  pub going : Going (λ T st. IsCell w₀ Alternatives c × IsCell w₀ Alternatives e) (λ d T st. unifyUnion (unifier d) st (T c) (T e)) w₀ left w left′
+      (λ d T st. alternativesFrom c e from d T st) (Settled got expected cost log)
 
 pub union-start : (w : List ℕ) (c e left log : ℕ) → UnionGoing w c e left w 0 left Error Error 1 log
 unfolding unifyUnion
 union-start w c e left log = record {
   going = go-start (λ T st d H k.
-      ap (λ (ks : List ℕ). unifyAlternatives (unifier d) st (differs T c e) ks (T c) (T e)) (sym (remaining-all (T c) (T e)))) (λ T st d. settled-errors log d T st);
+      ap (λ (ks : List ℕ). unifyAlternatives (unifier d) st (differs T c e) ks (T c) (T e)) (sym (remaining-all (T c) (T e))))
+      (λ T st d. settled-errors log d T st);
 }
 
 -- What one side has is found there.
@@ -136,7 +155,8 @@ has-found k (cell m l t r) h e = go (eqb k m) refl h (has-found k r)
     go false q (inl i) rec = eqb-false k m q i
     go false q (inr i) rec = rec i (rw (q, findKey) at e)
 
-module _ {w₀ : List ℕ} {c e left : ℕ} {w : List ℕ} {from left′ : ℕ} {got expected : Ty} {cost log : ℕ} (g : UnionGoing w₀ c e left w from left′ got expected cost log) where
+module _ {w₀ : List ℕ} {c e left : ℕ} {w : List ℕ} {from left′ : ℕ} {got expected : Ty} {cost log : ℕ}
+    (g : UnionGoing w₀ c e left w from left′ got expected cost log) where
   pub union-past : 4294967296 ≤ from → UnifiesUnion w₀ c e left w (Good left′)
   unfolding unifyAlternatives
   union-past h = record { step = go-end (g .going) (λ T st H k K s S d. rw (remaining-past from (T c) (T e) h)) }
@@ -152,7 +172,8 @@ module _ {w₀ : List ℕ} {c e left : ℕ} {w : List ℕ} {from left′ : ℕ} 
 
     module _ {k : ℕ} (q : next ≡ Next.Is k) where
       turn : (T : Rows) (d : ℕ) {s : State} → Holds w T s → IsCell w₀ Alternatives c → IsCell w₀ Alternatives e → Keeps UNDO-LEN END w₀ w
-          → alternativesFrom c e from d T s ≡ andThen (unifyAlternative (unifier d) s (differs T c e) k (findKey k (T c)) (findKey k (T e))) (λ s′. alternativesFrom c e (k + 1) d T s′)
+          → alternativesFrom c e from d T s ≡ andThen (unifyAlternative (unifier d) s (differs T c e) k (findKey k (T c)) (findKey k (T e)))
+          (λ s′. alternativesFrom c e (k + 1) d T s′)
       unfolding unifyAlternatives
       turn T d S i i′ K =
           let same = keeps-cells (omega arith) K in
@@ -180,33 +201,40 @@ module _ {w₀ : List ℕ} {c e left : ℕ} {w : List ℕ} {from left′ : ℕ} 
 
       module _ {o m : Part} (X : FindsKey w Alternatives c k (At o)) (Y : FindsKey w Alternatives e k (At m)) (n : o .label ≡ m .label) where
         payload : (T : Rows) (s : State) (d : ℕ) → Holds w T s → IsCell w Alternatives c × IsCell w Alternatives e
-            → unifyAlternative (unifier d) s (differs T c e) k (findKey k (T c)) (findKey k (T e)) ≡ mapErr (differs T c e (Unify.Payload (o .label) k)) (Unify.unifyIn d s (tree T (o .ty)) (tree T (m .ty)))
+            → unifyAlternative (unifier d) s (differs T c e) k (findKey k (T c)) (findKey k (T e)) ≡ mapErr
+            (differs T c e (Unify.Payload (o .label) k)) (Unify.unifyIn d s (tree T (o .ty)) (tree T (m .ty)))
         unfolding unifyAlternative
         payload T s d S i = sides X Y T s d S i refl refl ∙ rw (eq-eqb (o .label) (m .label) n, unifyAlternative)
 
         module _ (same-got : o .ty ≡ got) (same-expected : m .ty ≡ expected) (same-log : getD w UNDO-LEN 0 ≡ log) where
           turn-known : Here (g .going) (λ T s d. alternativesFrom c e from d T s
-              ≡ andThen (mapErr (differs T c e (Unify.Payload (o .label) k)) (Unify.unifyIn d s (tree T got) (tree T expected))) (λ s′. alternativesFrom c e (k + 1) d T s′))
+              ≡ andThen (mapErr (differs T c e (Unify.Payload (o .label) k)) (Unify.unifyIn d s (tree T got) (tree T expected)))
+              (λ s′. alternativesFrom c e (k + 1) d T s′))
           turn-known T st H i K s S d =
               let same = keeps-cells (omega arith) K in
               rw (← same-got, ← same-expected) (turn T d S (i .0) (i .1) K
-              ∙ ap (λ (o : Unify.Unified). andThen o (λ s′. alternativesFrom c e (k + 1) d T s′)) (payload T s d S (cell-same same (i .0), cell-same same (i .1))))
+              ∙ ap (λ (o : Unify.Unified). andThen o (λ s′. alternativesFrom c e (k + 1) d T s′))
+              (payload T s d S (cell-same same (i .0), cell-same same (i .1))))
 
-          pub union-again : cost ≤ left′ → {w″ : List ℕ} {left″ cost′ log′ : ℕ} {got′ expected′ : Ty} → w″ ≡ w → left″ ≡ left′ - cost → got′ ≡ got → expected′ ≡ expected → cost′ ≡ cost → log′ ≡ log
+          pub union-again : cost ≤ left′ → {w″ : List ℕ} {left″ cost′ log′ : ℕ} {got′ expected′ : Ty} → w″ ≡ w → left″ ≡ left′ - cost → got′ ≡ got
+              → expected′ ≡ expected → cost′ ≡ cost → log′ ≡ log
               → UnionGoing w₀ c e left w″ (k + 1) left″ got′ expected′ cost′ log′
           unfolding mapErr
           union-again z x₀ x₁ x₂ x₃ x₄ x₅ = rw (x₀, x₁, x₂, x₃, x₄, x₅) (record {
-            going = go-again (g .going) same-log (λ T r. mapErr (differs T c e (Unify.Payload (o .label) k)) r) (λ T s. refl) (λ T s. refl) (λ d T st. alternativesFrom c e (k + 1) d T st) turn-known z;
+            going = go-again (g .going) same-log (λ T r. mapErr (differs T c e (Unify.Payload (o .label) k)) r) (λ T s. refl) (λ T s. refl)
+                (λ d T st. alternativesFrom c e (k + 1) d T st) turn-known z;
           })
 
           pub union-short : left′ < cost → UnifiesUnion w₀ c e left w Spent
           unfolding mapErr
           union-short z = record {
-            step = go-short (g .going) same-log (λ T r. mapErr (differs T c e (Unify.Payload (o .label) k)) r) (λ T s. refl) (λ T s. refl) (λ d T st. alternativesFrom c e (k + 1) d T st) turn-known z;
+            step = go-short (g .going) same-log (λ T r. mapErr (differs T c e (Unify.Payload (o .label) k)) r) (λ T s. refl) (λ T s. refl)
+                (λ d T st. alternativesFrom c e (k + 1) d T st) turn-known z;
           }
 
         module _ {w′ : List ℕ} {r : Unified} (P : UnifiesPayload w c e (Payload (o .label) k) (o .ty) (m .ty) left′ w′ r) where
-          pub union-next : (l : ℕ) → r ≡ Good l → {w″ : List ℕ} {left″ cost′ log′ : ℕ} {got′ expected′ : Ty} → w″ ≡ w′ → left″ ≡ l → got′ ≡ o .ty → expected′ ≡ m .ty → cost′ ≡ left′ - l → log′ ≡ getD w UNDO-LEN 0
+          pub union-next : (l : ℕ) → r ≡ Good l → {w″ : List ℕ} {left″ cost′ log′ : ℕ} {got′ expected′ : Ty} → w″ ≡ w′ → left″ ≡ l → got′ ≡ o .ty
+              → expected′ ≡ m .ty → cost′ ≡ left′ - l → log′ ≡ getD w UNDO-LEN 0
               → UnionGoing w₀ c e left w″ (k + 1) left″ got′ expected′ cost′ log′
           union-next l x x₀ x₁ x₂ x₃ x₄ x₅ = rw (x₀, x₁, x₂, x₃) (record {
             going = go-next (g .going) (λ d T st. alternativesFrom c e (k + 1) d T st) (in-both X Y o m refl refl n P .step)

@@ -22,7 +22,8 @@ use Rattle.meaning.specs.Syntax.{Field, ExprKind, nodeAt}
 use Rattle.meaning.specs.References.{fieldValues, exprNodes}
 use Rattle.meaning.specs.Diag as Diag
 use Rattle.meaning.specs.File.{Described}
-use Rattle.meaning.specs.Check.{Checker, Walk, walk, Form, aWildcard, aVariable, aConstant, aRecord, aDisjunction, anError, another, form, formOf, repr, annotate, reject, inferThenUnify, checkFields, checkAlternative, checkUnion, checkRecord, checkForm, checkAgainst, checkAt}
+use Rattle.meaning.specs.Check.{Checker, Walk, walk, Form, aWildcard, aVariable, aConstant, aRecord, aDisjunction, anError, another, form, formOf, repr}
+use Rattle.meaning.specs.Check.{annotate, reject, inferThenUnify, checkFields, checkAlternative, checkUnion, checkRecord, checkForm, checkAgainst, checkAt}
 use Rattle.meaning.specs.Weights.{same, sumOf, weight}
 use Rattle.meaning.specs.Grades.{unknowns, one-diagnostic, one-node}
 use Rattle.meaning.proofs.Steps.{Nothing}
@@ -48,7 +49,8 @@ use Rattle.checker.proofs.Inferring.{good}
 use Rattle.checker.proofs.Arms.{fine-head}
 
 -- ---- The head of what is expected
-not-error : (T : Rows) (t : Ty) → tagW t ≢ 8 → (d : Described) (b : Walk) (n : ℕ) (c : Checker) → checkAgainst (d .schema) (nodesOf d) b n (tree T t) c ≡ checkForm (d .schema) (nodesOf d) b n (form (d .schema) (nodesOf d) n) (tree T t) c
+not-error : (T : Rows) (t : Ty) → tagW t ≢ 8 → (d : Described) (b : Walk) (n : ℕ) (c : Checker)
+    → checkAgainst (d .schema) (nodesOf d) b n (tree T t) c ≡ checkForm (d .schema) (nodesOf d) b n (form (d .schema) (nodesOf d) n) (tree T t) c
 unfolding checkAgainst
 not-error T Int h d b n c = refl
 not-error T Str h d b n c = refl
@@ -75,19 +77,26 @@ module _ {f w ou : List ℕ} {n left : ℕ} {e t : Ty} (R : Reprs w e t) where
   unfolding walk checkAt repr checkAgainst
   check-nothing h = record { is = λ d k. at-depth d k }
     where
-      at-depth : (d : Described) (k : ℕ) → Named d k n → Beside f w ou left w ou (done (Done.On left)) d (checks (nodesOf d) k n) (Fine w e) (λ T. below d k .check n (tree T e))
+      at-depth : (d : Described) (k : ℕ) → Named d k n → Beside f w ou left w ou (done (Done.On left)) d (checks (nodesOf d) k n) (Fine w e)
+          (λ T. below d k .check n (tree T e))
       at-depth d zero m = absurd (omega (arith, m .under))
-      at-depth d (suc k) m = record { is = λ T c s fine. rw (sym (R .is T (c .state .subst) (s .runs .holds .binds)) ∙ an-error T t h) (on-here (s .runs) (s .lines) (s .visits)) }
+      at-depth d (suc k) m = record {
+        is = λ T c s fine. rw (sym (R .is T (c .state .subst) (s .runs .holds .binds)) ∙ an-error T t h)
+            (on-here (s .runs) (s .lines) (s .visits));
+      }
 
   -- By the node's form.
   pub check-as : {w′ ou′ : List ℕ} {r : Done} {nd : Node} → tagW t ≢ 8 → IsNode f w n nd
-      → ((d : Described) (k : ℕ) (T : Rows) (c : Checker) → Node-at d k n → nodeAt (nodesOf d) n .kind ≡ kindW f nd → Begins f w ou T d (checks (nodesOf d) (suc k) n) left c → Fine w t T c
-      → Ends f w ou w′ ou′ T d (checks (nodesOf d) (suc k) n .records) (checks (nodesOf d) (suc k) n .fields) (done r) (checkForm (d .schema) (nodesOf d) (below d k) n (formOf (kindW f nd)) (tree T t) c))
+      → ((d : Described) (k : ℕ) (T : Rows) (c : Checker) → Node-at d k n → nodeAt (nodesOf d) n .kind ≡ kindW f nd
+      → Begins f w ou T d (checks (nodesOf d) (suc k) n) left c → Fine w t T c
+      → Ends f w ou w′ ou′ T d (checks (nodesOf d) (suc k) n .records) (checks (nodesOf d) (suc k) n .fields) (done r)
+      (checkForm (d .schema) (nodesOf d) (below d k) n (formOf (kindW f nd)) (tree T t) c))
       → Checks f w ou n e left w′ ou′ r
   unfolding walk checkAt repr
   check-as {w′} {ou′} {r} {nd} h i next = record { is = λ d k. at-depth d k }
     where
-      at-depth : (d : Described) (k : ℕ) → Named d k n → Beside f w ou left w′ ou′ (done r) d (checks (nodesOf d) k n) (Fine w e) (λ T. below d k .check n (tree T e))
+      at-depth : (d : Described) (k : ℕ) → Named d k n → Beside f w ou left w′ ou′ (done r) d (checks (nodesOf d) k n) (Fine w e)
+          (λ T. below d k .check n (tree T e))
       at-depth d zero m = absurd (omega (arith, m .under))
       at-depth d (suc k) m = record {
         is = λ T c s fine.
@@ -97,7 +106,12 @@ module _ {f w ou : List ℕ} {n left : ℕ} {e t : Ty} (R : Reprs w e t) where
 
 -- ---- The forms
 note-fits : (d : Described) (k n : ℕ) → Holds (only (one-node n)) (checks (nodesOf d) k n)
-note-fits d k n = record { grade = record { nodes = λ x. own-weight (nodesOf d) (λ m. same x m) k n; unknowns = omega arith; diagnostics = omega arith }; records = omega arith; fields = omega arith }
+note-fits d k n = record {
+  grade = record
+      { nodes = λ x. own-weight (nodesOf d) (λ m. same x m) k n; unknowns = omega arith; diagnostics = omega arith };
+  records = omega arith;
+  fields = omega arith;
+}
 
 -- Forms that are inferred and unified.
 abbrev pub Inferred : Form → Type 0
@@ -109,7 +123,8 @@ Inferred another = Unit {0}
 Inferred aWildcard = ⊥
 Inferred (aRecord fs) = ⊥
 
-inferred-form : (q : Form) → Inferred q → (d : Described) (b : Walk) (n : ℕ) (t : Tree.Ty) (c : Checker) → checkForm (d .schema) (nodesOf d) b n q t c ≡ inferThenUnify (d .schema) (nodesOf d) b n t c
+inferred-form : (q : Form) → Inferred q → (d : Described) (b : Walk) (n : ℕ) (t : Tree.Ty) (c : Checker)
+    → checkForm (d .schema) (nodesOf d) b n q t c ≡ inferThenUnify (d .schema) (nodesOf d) b n t c
 unfolding checkForm
 inferred-form (aVariable x) h d b n t c = refl
 inferred-form aConstant h d b n t c = refl
@@ -123,35 +138,43 @@ module _ {f w ou w′ ou′ : List ℕ} {n left : ℕ} {e t : Ty} (R : Reprs w e
   pub check-wildcard : IsNode f w n Node.Wildcard → Notes f w ou n t left w′ ou′ → Checks f w ou n e left w′ ou′ (Done.On left)
   unfolding kindW formOf checkForm
   check-wildcard i ann = check-as R h i (λ d k T c at q s fine.
-      ends-wider (omega arith) (omega arith) (silent-on (ann d (at .there) .is T c (begins-part (only (one-node n)) (checks (nodesOf d) (suc k) n) (note-fits d (suc k) n) s) fine)))
+      ends-wider (omega arith) (omega arith) (silent-on
+      (ann d (at .there) .is T c (begins-part (only (one-node n)) (checks (nodesOf d) (suc k) n) (note-fits d (suc k) n) s) fine)))
 
   pub check-record : {l : Items} {r : Done} → IsNode f w n (Node.Record l) → ChecksRecord f w ou n l t left w′ ou′ r → Checks f w ou n e left w′ ou′ r
   unfolding kindW formOf checkForm
   check-record {l} i C = check-as R h i (λ d k T c at q s fine. C .is d k (fieldsFrom f l 0 (l .n)) refl at q .is T c s fine)
 
-  pub check-inferred : {nd : Node} {r : Done} → Inferred (formOf (kindW f nd)) → IsNode f w n nd → InfersThenUnifies f w ou n t left w′ ou′ r → Checks f w ou n e left w′ ou′ r
-  check-inferred {nd} j i U = check-as R h i (λ d k T c at q s fine. rw (inferred-form (formOf (kindW f nd)) j d (below d k) n (tree T t) c) (U .is d k at .is T c s fine))
+  pub check-inferred : {nd : Node} {r : Done} → Inferred (formOf (kindW f nd)) → IsNode f w n nd → InfersThenUnifies f w ou n t left w′ ou′ r
+      → Checks f w ou n e left w′ ou′ r
+  check-inferred {nd} j i U = check-as R h i
+      (λ d k T c at q s fine. rw (inferred-form (formOf (kindW f nd)) j d (below d k) n (tree T t) c) (U .is d k at .is T c s fine))
 
 -- ---- A record against a type
-record-fits : (d : Described) (k n : ℕ) (fs : List Field) → nodeAt (nodesOf d) n .kind ≡ ExprKind.Record fs → Holds (both (visits (nodesOf d) k (fieldValues fs)) (only (one-node n))) (checks (nodesOf d) (suc k) n)
+record-fits : (d : Described) (k n : ℕ) (fs : List Field) → nodeAt (nodesOf d) n .kind ≡ ExprKind.Record fs
+    → Holds (both (visits (nodesOf d) k (fieldValues fs)) (only (one-node n))) (checks (nodesOf d) (suc k) n)
 unfolding weight exprNodes
 record-fits d k n fs e = rw e (record { grade = omega arith; records = omega arith; fields = omega arith })
 
-values-named : {d : Described} {k n : ℕ} {fs : List Field} {f w ou : List ℕ} {T : Rows} {L : Load} {left : ℕ} {c : Checker} → Begins f w ou T d L left c → Node-at d k n → nodeAt (nodesOf d) n .kind ≡ ExprKind.Record fs → AllNamed d k (fieldValues fs)
+values-named : {d : Described} {k n : ℕ} {fs : List Field} {f w ou : List ℕ} {T : Rows} {L : Load} {left : ℕ} {c : Checker}
+    → Begins f w ou T d L left c → Node-at d k n → nodeAt (nodesOf d) n .kind ≡ ExprKind.Record fs → AllNamed d k (fieldValues fs)
 unfolding exprNodes
 values-named {k = k} s at e = rw e at (parts-named (s .sound) (at .there) k (at .above))
 
 module _ {f w ou : List ℕ} {n left : ℕ} {l : Items} where
   module _ {w₁ ou₁ : List ℕ} {e : ℕ} {r : Done} (C : ChecksFields f w ou l e left w₁ ou₁ r) where
-    pub record-noted : {w₂ ou₂ : List ℕ} {v : ℕ} → r ≡ Done.On v → Notes f w₁ ou₁ n (Record e) v w₂ ou₂ → ChecksRecord f w ou n l (Record e) left w₂ ou₂ (Done.On v)
+    pub record-noted : {w₂ ou₂ : List ℕ} {v : ℕ} → r ≡ Done.On v → Notes f w₁ ou₁ n (Record e) v w₂ ou₂
+        → ChecksRecord f w ou n l (Record e) left w₂ ou₂ (Done.On v)
     unfolding checkRecord
     record-noted g ann = record {
       is = λ d k fs z at q. record {
         is = λ T c s fine.
             let inner : FineRecord w e T c = record { cell = fine .ok; side = fine .side } in
-            then-done (visits (nodesOf d) k (fieldValues fs)) (only (one-node n)) (checks (nodesOf d) (suc k) n) (record-fits d k n fs q) Nothing (checkFields (d .schema) (nodesOf d) (below d k) fs (T e) c)
+            then-done (visits (nodesOf d) k (fieldValues fs)) (only (one-node n)) (checks (nodesOf d) (suc k) n) (record-fits d k n fs q) Nothing
+            (checkFields (d .schema) (nodesOf d) (below d k) fs (T e) c)
             (λ u. annotate n (Tree.node Tree.Record (T e))) g s
-            (λ y. checkFields-meets (d .schema) (nodesOf d) (s .sound .predicates) k (below d k) (good s k) fs (T e) c (s .orderly) y (fine .side)) (λ s₁. C .is d k fs z (values-named s at q) .is T c s₁ inner)
+            (λ y. checkFields-meets (d .schema) (nodesOf d) (s .sound .predicates) k (below d k) (good s k) fs (T e) c (s .orderly) y (fine .side))
+            (λ s₁. C .is d k fs z (values-named s at q) .is T c s₁ inner)
             (λ T₁ b a. rw (← tree-after a (Record e) (fine .ok)) (silent-on (ann d (at .there) .is T₁ b (a .begins) (fine-after a (Record e) fine))));
       };
     }
@@ -162,7 +185,8 @@ module _ {f w ou : List ℕ} {n left : ℕ} {l : Items} where
       is = λ d k fs z at q. record {
         is = λ T c s fine.
             let inner : FineRecord w e T c = record { cell = fine .ok; side = fine .side } in
-            stop-done (visits (nodesOf d) k (fieldValues fs)) (only (one-node n)) (checks (nodesOf d) (suc k) n) (record-fits d k n fs q) Nothing (checkFields (d .schema) (nodesOf d) (below d k) fs (T e) c)
+            stop-done (visits (nodesOf d) k (fieldValues fs)) (only (one-node n)) (checks (nodesOf d) (suc k) n) (record-fits d k n fs q) Nothing
+            (checkFields (d .schema) (nodesOf d) (below d k) fs (T e) c)
             (λ u. annotate n (Tree.node Tree.Record (T e))) g refl s (λ s₁. C .is d k fs z (values-named s at q) .is T c s₁ inner);
       };
     }
@@ -182,7 +206,8 @@ NoCell Error = Unit {0}
 NoCell (Record c) = ⊥
 NoCell (Union c) = ⊥
 
-no-cell : (T : Rows) (t : Ty) → NoCell t → (d : Described) (b : Walk) (n : ℕ) (fs : List Field) (c : Checker) → checkRecord (d .schema) (nodesOf d) b n fs (tree T t) c ≡ inferThenUnify (d .schema) (nodesOf d) b n (tree T t) c
+no-cell : (T : Rows) (t : Ty) → NoCell t → (d : Described) (b : Walk) (n : ℕ) (fs : List Field) (c : Checker)
+    → checkRecord (d .schema) (nodesOf d) b n fs (tree T t) c ≡ inferThenUnify (d .schema) (nodesOf d) b n (tree T t) c
 unfolding checkRecord
 no-cell T Int h d b n fs c = refl
 no-cell T Str h d b n fs c = refl
@@ -193,20 +218,25 @@ no-cell T Error h d b n fs c = refl
 no-cell T (Record x) h d b n fs c = absurd h
 no-cell T (Union x) h d b n fs c = absurd h
 
-pub record-other : {f w ou w′ ou′ : List ℕ} {n left : ℕ} {l : Items} {t : Ty} {r : Done} → NoCell t → InfersThenUnifies f w ou n t left w′ ou′ r → ChecksRecord f w ou n l t left w′ ou′ r
-record-other {n = n} {t = t} h U = record { is = λ d k fs z at q. record { is = λ T c s fine. rw (no-cell T t h d (below d k) n fs c) (U .is d k at .is T c s fine) } }
+pub record-other : {f w ou w′ ou′ : List ℕ} {n left : ℕ} {l : Items} {t : Ty} {r : Done} → NoCell t → InfersThenUnifies f w ou n t left w′ ou′ r
+    → ChecksRecord f w ou n l t left w′ ou′ r
+record-other {n = n} {t = t} h U = record
+    { is = λ d k fs z at q. record { is = λ T c s fine. rw (no-cell T t h d (below d k) n fs c) (U .is d k at .is T c s fine) } }
 
 -- ---- One alternative of a union
 reject-fits : (d : Described) (k n : ℕ) → Holds (only one-diagnostic) (checks (nodesOf d) k n)
 reject-fits d k n = record { grade = omega (arith, size-pos (nodesOf d) k n); records = omega arith; fields = omega arith }
 
-pub rejected : {f w ou w′ ou′ : List ℕ} {n left : ℕ} {T : Rows} {d : Described} {c : Checker} {r : Done} (k : ℕ) (m : Message) → OkMessage w m → Rejects f w ou n m left w′ ou′ r → n < length (nodesOf d) → Begins f w ou T d (checks (nodesOf d) k n) left c
-    → Ends f w ou w′ ou′ T d (checks (nodesOf d) k n .records) (checks (nodesOf d) k n .fields) (done r) (reject (d .schema) (nodesOf d) n (said T (c .state .subst) m) c)
+pub rejected : {f w ou w′ ou′ : List ℕ} {n left : ℕ} {T : Rows} {d : Described} {c : Checker} {r : Done} (k : ℕ) (m : Message) → OkMessage w m
+    → Rejects f w ou n m left w′ ou′ r → n < length (nodesOf d) → Begins f w ou T d (checks (nodesOf d) k n) left c
+    → Ends f w ou w′ ou′ T d (checks (nodesOf d) k n .records) (checks (nodesOf d) k n .fields) (done r)
+    (reject (d .schema) (nodesOf d) n (said T (c .state .subst) m) c)
 rejected {n = n} {T = T} {d = d} {c = c} k m ok R there s =
     ends-wider (omega arith) (omega arith) (R d there .is T c (begins-part (only one-diagnostic) (checks (nodesOf d) k n) (reject-fits d k n) s) ok)
 
 -- not one field
-arity : (d : Described) (b : Walk) (n : ℕ) (fs : List Field) (row : Tree.Row) (c : Checker) → length fs ≢ 1 → checkUnion (d .schema) (nodesOf d) b n fs row c ≡ reject (d .schema) (nodesOf d) n (Diag.notOneAlternative (length fs)) c
+arity : (d : Described) (b : Walk) (n : ℕ) (fs : List Field) (row : Tree.Row) (c : Checker) → length fs ≢ 1
+    → checkUnion (d .schema) (nodesOf d) b n fs row c ≡ reject (d .schema) (nodesOf d) n (Diag.notOneAlternative (length fs)) c
 unfolding checkUnion
 arity d b n [] row c h = refl
 arity d b n (x ∷ []) row c h = absurd (h refl)
@@ -217,7 +247,8 @@ unfolding fieldsFrom
 fields-length f l i zero = refl
 fields-length f l i (suc n) = ap suc (fields-length f l (i + 1) n)
 
-pub union-arity : {f w ou w′ ou′ : List ℕ} {n e left : ℕ} {l : Items} {r : Done} → l .n ≢ 1 → Rejects f w ou n (Message.NotOneAlternative (l .n)) left w′ ou′ r → ChecksUnion f w ou n l e left w′ ou′ r
+pub union-arity : {f w ou w′ ou′ : List ℕ} {n e left : ℕ} {l : Items} {r : Done} → l .n ≢ 1
+    → Rejects f w ou n (Message.NotOneAlternative (l .n)) left w′ ou′ r → ChecksUnion f w ou n l e left w′ ou′ r
 union-arity {f = f} {n = n} {e = e} {l = l} h R = record {
   is = λ d k fs z at q. record {
     is = λ T c s fine.
@@ -231,15 +262,20 @@ first-field : (f : List ℕ) (l : Items) → l .n ≡ 1 → (fs : List Field) �
 unfolding fieldsFrom
 first-field f l one fs z = z ∙ ap (fieldsFrom f l 0) one
 
-module _ {f w ou : List ℕ} {e name : ℕ} {found : Found} (F : FindsName w e name found) {p : Part} (g : found ≡ Found.At p) {T : Rows} {d : Described} {L : Load} {left : ℕ} {c : Checker} (s : Begins f w ou T d L left c) (fine : FineUnion w e T c) where
+module _ {f w ou : List ℕ} {e name : ℕ} {found : Found} (F : FindsName w e name found) {p : Part} (g : found ≡ Found.At p) {T : Rows} {d : Described}
+    {L : Load} {left : ℕ} {c : Checker} (s : Begins f w ou T d L left c) (fine : FineUnion w e T c) where
   payload-is : findLabel name (T e) ≡ some (tree T (p .ty))
   payload-is = sym (F .is T (s .runs .holds .cells) (fine .cell)) ∙ ap (foundTy T) g
 
   payload-fine : Fine w (p .ty) T c
-  payload-fine = record { ok = rw g at (F .ok T (s .runs .holds .cells) (fine .cell)); side = rw payload-is at (payload-side (unknowns c) name (T e) (fine .side .1)) }
+  payload-fine = record {
+    ok = rw g at (F .ok T (s .runs .holds .cells) (fine .cell));
+    side = rw payload-is at (payload-side (unknowns c) name (T e) (fine .side .1));
+  }
 
 -- A record of one field, its value's visit and the node itself.
-one-fits : (d : Described) (k n : ℕ) (x : Field) → nodeAt (nodesOf d) n .kind ≡ ExprKind.Record (x ∷ []) → Holds (both (checks (nodesOf d) k (x .value)) (only (one-node n))) (checks (nodesOf d) (suc k) n)
+one-fits : (d : Described) (k n : ℕ) (x : Field) → nodeAt (nodesOf d) n .kind ≡ ExprKind.Record (x ∷ [])
+    → Holds (both (checks (nodesOf d) k (x .value)) (only (one-node n))) (checks (nodesOf d) (suc k) n)
 unfolding weight exprNodes fieldValues sumOf
 one-fits d k n x e = rw e (record { grade = omega arith; records = omega arith; fields = omega arith })
 
@@ -248,7 +284,8 @@ unfolding fieldValues
 one-named x h = h .0
 
 module _ {f w ou : List ℕ} {n e left : ℕ} {l : Items} (one : l .n ≡ 1) {found : Found} (F : FindsName w e (fieldW f l 0 .name) found) where
-  pub union-unknown : {w′ ou′ : List ℕ} {r : Done} → found ≡ Found.Nothing → Rejects f w ou n (Message.NoAlternative (fieldW f l 0 .name)) left w′ ou′ r → ChecksUnion f w ou n l e left w′ ou′ r
+  pub union-unknown : {w′ ou′ : List ℕ} {r : Done} → found ≡ Found.Nothing
+      → Rejects f w ou n (Message.NoAlternative (fieldW f l 0 .name)) left w′ ou′ r → ChecksUnion f w ou n l e left w′ ou′ r
   unfolding checkUnion checkAlternative fieldOf
   union-unknown g R = record {
     is = λ d k fs z at q. record {
@@ -268,9 +305,11 @@ module _ {f w ou : List ℕ} {n e left : ℕ} {l : Items} (one : l .n ≡ 1) {fo
             let q₁ : nodeAt (nodesOf d) n .kind ≡ ExprKind.Record (x ∷ []) = q ∙ ap ExprKind.Record (first-field f l one fs z) in
             let inner = payload-fine F g s fine in
             let outer : Fine w (Union e) T c = record { ok = fine .cell; side = fine .side } in
-            rw (first-field f l one fs z, payload-is F g s fine, checkAlternative) (then-done (checks (nodesOf d) k (x .value)) (only (one-node n)) (checks (nodesOf d) (suc k) n) (one-fits d k n x q₁) Nothing
+            rw (first-field f l one fs z, payload-is F g s fine, checkAlternative)
+            (then-done (checks (nodesOf d) k (x .value)) (only (one-node n)) (checks (nodesOf d) (suc k) n) (one-fits d k n x q₁) Nothing
             (below d k .check (x .value) (tree T (p .ty)) c) (λ u. annotate n (Tree.node Tree.Union (T e))) h s
-            (λ y. good s k .check (x .value) (tree T (p .ty)) c (s .orderly) y (inner .side)) (λ s₁. C .is d k (one-named x (values-named s at q₁)) .is T c s₁ inner)
+            (λ y. good s k .check (x .value) (tree T (p .ty)) c (s .orderly) y (inner .side))
+            (λ s₁. C .is d k (one-named x (values-named s at q₁)) .is T c s₁ inner)
             (λ T₁ b a. rw (← tree-after a (Union e) (fine .cell)) (silent-on (ann d (at .there) .is T₁ b (a .begins) (fine-after a (Union e) outer)))));
       };
     }
@@ -282,7 +321,9 @@ module _ {f w ou : List ℕ} {n e left : ℕ} {l : Items} (one : l .n ≡ 1) {fo
         is = λ T c s fine.
             let x = fieldOf (fieldW f l 0) in
             let q₁ : nodeAt (nodesOf d) n .kind ≡ ExprKind.Record (x ∷ []) = q ∙ ap ExprKind.Record (first-field f l one fs z) in
-            rw (first-field f l one fs z, payload-is F g s fine, checkAlternative) (stop-done (checks (nodesOf d) k (x .value)) (only (one-node n)) (checks (nodesOf d) (suc k) n) (one-fits d k n x q₁) Nothing
-            (below d k .check (x .value) (tree T (p .ty)) c) (λ u. annotate n (Tree.node Tree.Union (T e))) h refl s (λ s₁. C .is d k (one-named x (values-named s at q₁)) .is T c s₁ (payload-fine F g s fine)));
+            rw (first-field f l one fs z, payload-is F g s fine, checkAlternative)
+            (stop-done (checks (nodesOf d) k (x .value)) (only (one-node n)) (checks (nodesOf d) (suc k) n) (one-fits d k n x q₁) Nothing
+            (below d k .check (x .value) (tree T (p .ty)) c) (λ u. annotate n (Tree.node Tree.Union (T e))) h refl s
+            (λ s₁. C .is d k (one-named x (values-named s at q₁)) .is T c s₁ (payload-fine F g s fine)));
       };
     }

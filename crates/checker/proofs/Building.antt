@@ -23,7 +23,8 @@ unfoldable pub built : Described → ℕ → (Tree.Row → Tree.Row) → List Fi
 unfolding andThen
 built d k front fs c = andThen (inferFields (d .schema) (nodesOf d) (below d k) fs c) (λ row b. goes (Tree.node Tree.Record (front row)) b)
 
-pub built-start : (d : Described) (k n : ℕ) (fs : List Field) (c : Checker) → inferKind (d .schema) (nodesOf d) (below d k) n (ExprKind.Record fs) c ≡ built d k (λ row. row) fs c
+pub built-start : (d : Described) (k n : ℕ) (fs : List Field) (c : Checker)
+    → inferKind (d .schema) (nodesOf d) (below d k) n (ExprKind.Record fs) c ≡ built d k (λ row. row) fs c
 unfolding inferKind built
 built-start d k n fs c = refl
 
@@ -38,9 +39,12 @@ unfolding built inferFields
 built-some d k front x fs c = go (below d k .infer (x .value) c)
   where
     go : (m : Step Tree.Ty)
-        → andThen (andThen m (λ ty b. andThen (inferFields (d .schema) (nodesOf d) (below d k) fs b) (λ row e. goes (Tree.cell (x .name) 0 ty row) e))) (λ row b. goes (Tree.node Tree.Record (front row)) b)
-        ≡ andThen m (λ ty b. andThen (inferFields (d .schema) (nodesOf d) (below d k) fs b) (λ row e. goes (Tree.node Tree.Record (front (Tree.cell (x .name) 0 ty row))) e))
-    go (goes ty b) = andThen-assoc (inferFields (d .schema) (nodesOf d) (below d k) fs b) (λ row e. goes (Tree.cell (x .name) 0 ty row) e) (λ row e. goes (Tree.node Tree.Record (front row)) e)
+        → andThen (andThen m (λ ty b. andThen (inferFields (d .schema) (nodesOf d) (below d k) fs b)
+        (λ row e. goes (Tree.cell (x .name) 0 ty row) e))) (λ row b. goes (Tree.node Tree.Record (front row)) b)
+        ≡ andThen m (λ ty b. andThen (inferFields (d .schema) (nodesOf d) (below d k) fs b)
+        (λ row e. goes (Tree.node Tree.Record (front (Tree.cell (x .name) 0 ty row))) e))
+    go (goes ty b) = andThen-assoc (inferFields (d .schema) (nodesOf d) (below d k) fs b) (λ row e. goes (Tree.cell (x .name) 0 ty row) e)
+        (λ row e. goes (Tree.node Tree.Record (front row)) e)
     go (out b) = refl
 
 -- ---- Loads
@@ -54,7 +58,8 @@ builds d k fs = record {
 }
 
 -- `reserve` takes the record's own fields.
-pub reserve-fits : (d : Described) (k : ℕ) (fs : List Field) → Holds (both (record { grade = visiting (nodesOf d) k []; records = 0; fields = length fs }) (builds d k fs)) (parts (nodesOf d) k (ExprKind.Record fs))
+pub reserve-fits : (d : Described) (k : ℕ) (fs : List Field) → Holds
+    (both (record { grade = visiting (nodesOf d) k []; records = 0; fields = length fs }) (builds d k fs)) (parts (nodesOf d) k (ExprKind.Record fs))
 unfolding exprNodes recordsOf fieldsOf sumOf
 reserve-fits d k fs = record { grade = omega arith; records = omega arith; fields = omega arith }
 

@@ -46,7 +46,8 @@ pub freshens-by : {f w ou w′ : List ℕ} {left x : ℕ} → (x ≡ getD w UNKN
 freshens-by {f} {w} {ou} {w′} {left} {x} e =
     subst (λ (v : List ℕ). Freshens f w ou left v ou x) (sym (e .1)) (subst (λ (y : ℕ). Freshens f w ou left (freshW w) ou y) (sym (e .0)) (freshens f w left))
 
-pub reports-by : {f w ou w′ ou′ : List ℕ} {n left : ℕ} {r : Done} (err : TyError) → Rejected f w ou n (reportMessage err) left w′ ou′ r → Reports f w ou n err left w′ ou′ r
+pub reports-by : {f w ou w′ ou′ : List ℕ} {n left : ℕ} {r : Done} (err : TyError) → Rejected f w ou n (reportMessage err) left w′ ou′ r
+    → Reports f w ou n err left w′ ou′ r
 reports-by {f} {w} {n = n} {left = left} err x = reports f w n err left x
 
 pub rolls-by : {f w ou w′ : List ℕ} {undo env u e : ℕ} → undo ≡ u → env ≡ e → Rewinds w undo env w′ → RollsTo f w ou u e w′ ou
@@ -65,7 +66,8 @@ pub key-on : {f w ou w′ ou′ : List ℕ} {n left : ℕ} {t : Ty} {r : Typed} 
 unfolding Check.accessOf
 key-on name k = k
 
-pub value-on : {f w ou w′ ou′ : List ℕ} {n left : ℕ} {t : Ty} {r : Typed} → ValueOf f w ou n t left w′ ou′ r → OnType (λ d ty. Check.accessOf (d .schema) (nodesOf d) n FieldRef.Value ty) f w ou n t left w′ ou′ r
+pub value-on : {f w ou w′ ou′ : List ℕ} {n left : ℕ} {t : Ty} {r : Typed} → ValueOf f w ou n t left w′ ou′ r
+    → OnType (λ d ty. Check.accessOf (d .schema) (nodesOf d) n FieldRef.Value ty) f w ou n t left w′ ou′ r
 unfolding Check.accessOf
 value-on v = v
 
@@ -85,21 +87,26 @@ turn-at {f} {w} {ou} {w′} {ou′} {left = left} {t = t} {r = r} q u = subst (�
 pub generates-at : {f w ou w′ ou′ : List ℕ} {e x left : ℕ} {r : Typed} → e ≡ x → Generates f w ou e left w′ ou′ r → Generates f w ou x left w′ ou′ r
 generates-at {f} {w} {ou} {w′} {ou′} {left = left} {r = r} q u = subst (λ (y : ℕ). Generates f w ou y left w′ ou′ r) q u
 
-pub mentions-at : {f w ou w′ ou′ : List ℕ} {e left : ℕ} {x y : Field} {r : Done} → x ≡ y → Mentions f w ou (x .name) (x .value) e left w′ ou′ r → Mentions f w ou (y .name) (y .value) e left w′ ou′ r
+pub mentions-at : {f w ou w′ ou′ : List ℕ} {e left : ℕ} {x y : Field} {r : Done} → x ≡ y → Mentions f w ou (x .name) (x .value) e left w′ ou′ r
+    → Mentions f w ou (y .name) (y .value) e left w′ ou′ r
 mentions-at {f} {w} {ou} {w′} {ou′} {e} {left} {r = r} q u = subst (λ (z : Field). Mentions f w ou (z .name) (z .value) e left w′ ou′ r) q u
 
-pub infers-at : {f w ou w′ ou′ : List ℕ} {left : ℕ} {x y : Field} {r : Typed} → x ≡ y → Infers f w ou (x .value) left w′ ou′ r → Infers f w ou (y .value) left w′ ou′ r
+pub infers-at : {f w ou w′ ou′ : List ℕ} {left : ℕ} {x y : Field} {r : Typed} → x ≡ y → Infers f w ou (x .value) left w′ ou′ r
+    → Infers f w ou (y .value) left w′ ou′ r
 infers-at {f} {w} {ou} {w′} {ou′} {left} {r = r} q u = subst (λ (z : Field). Infers f w ou (z .value) left w′ ou′ r) q u
 
-pub checks-at : {f w ou w′ ou′ : List ℕ} {left : ℕ} {t : Ty} {x y : Field} {r : Done} → x ≡ y → Checks f w ou (x .value) t left w′ ou′ r → Checks f w ou (y .value) t left w′ ou′ r
+pub checks-at : {f w ou w′ ou′ : List ℕ} {left : ℕ} {t : Ty} {x y : Field} {r : Done} → x ≡ y → Checks f w ou (x .value) t left w′ ou′ r
+    → Checks f w ou (y .value) t left w′ ou′ r
 checks-at {f} {w} {ou} {w′} {ou′} {left} {t} {r = r} q u = subst (λ (z : Field). Checks f w ou (z .value) t left w′ ou′ r) q u
 
 pub finds-at : {w : List ℕ} {c : ℕ} {x y : Field} {found : Found} → x ≡ y → FindsName w c (x .name) found → FindsName w c (y .name) found
 finds-at {w} {c} {found = found} q u = subst (λ (z : Field). FindsName w c (z .name) found) q u
 
 -- the alternative that the field names
-pub unknown-at : {f w ou w′ ou′ : List ℕ} {n left : ℕ} {r : Done} {x y : Field} → x ≡ y → Rejected f w ou n (Message.NoAlternative (x .name)) left w′ ou′ r → Rejects f w ou n (Message.NoAlternative (y .name)) left w′ ou′ r
-unknown-at {f} {w} {ou} {w′} {ou′} {n} {left} {r} q u = rejects-by (subst (λ (z : Field). Rejected f w ou n (Message.NoAlternative (z .name)) left w′ ou′ r) q u)
+pub unknown-at : {f w ou w′ ou′ : List ℕ} {n left : ℕ} {r : Done} {x y : Field} → x ≡ y
+    → Rejected f w ou n (Message.NoAlternative (x .name)) left w′ ou′ r → Rejects f w ou n (Message.NoAlternative (y .name)) left w′ ou′ r
+unknown-at {f} {w} {ou} {w′} {ou′} {n} {left} {r} q u = rejects-by
+    (subst (λ (z : Field). Rejected f w ou n (Message.NoAlternative (z .name)) left w′ ou′ r) q u)
 
 pub size-small : (f : List ℕ) (at : ℕ) {s : ℕ} → s ≡ stmtSizeW f at → (6 ≤ s) × (s ≤ 10)
 size-small f at q = rw q (stmt-size f at)

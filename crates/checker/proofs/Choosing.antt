@@ -45,7 +45,8 @@ denied-later f nd x = by-form f (5 ∷ 7 ∷ 8 ∷ 9 ∷ 10 ∷ 11 ∷ 12 ∷ 13
   other = λ h. tt;
 }) nd x
 
-pub inferred : (f : List ℕ) (nd : Node) → OneOf (0 ∷ 1 ∷ 2 ∷ 3 ∷ 5 ∷ 6 ∷ 7 ∷ 9 ∷ 10 ∷ 11 ∷ 12 ∷ 13 ∷ 14 ∷ 15 ∷ 16 ∷ []) (tagOf the-type nd) → Inferred (formOf (kindW f nd))
+pub inferred : (f : List ℕ) (nd : Node) → OneOf (0 ∷ 1 ∷ 2 ∷ 3 ∷ 5 ∷ 6 ∷ 7 ∷ 9 ∷ 10 ∷ 11 ∷ 12 ∷ 13 ∷ 14 ∷ 15 ∷ 16 ∷ []) (tagOf the-type nd)
+    → Inferred (formOf (kindW f nd))
 inferred f nd x = by-form f (0 ∷ 1 ∷ 2 ∷ 3 ∷ 5 ∷ 6 ∷ 7 ∷ 9 ∷ 10 ∷ 11 ∷ 12 ∷ 13 ∷ 14 ∷ 15 ∷ 16 ∷ []) Inferred (record {
   wildcard = λ h. h;
   variable = λ v h. tt;
@@ -57,11 +58,13 @@ inferred f nd x = by-form f (0 ∷ 1 ∷ 2 ∷ 3 ∷ 5 ∷ 6 ∷ 7 ∷ 9 ∷ 10 
 }) nd x
 
 -- A wildcard or a constant cannot be denied.
-pub deny-target : {f w ou w′ ou′ : List ℕ} {lhs rhs left : ℕ} {r : Done} {nd : Node} → OneOf (4 ∷ 0 ∷ 1 ∷ 2 ∷ 6 ∷ []) (tagOf the-type nd) → IsNode f w lhs nd → BadTargets Message.DeniedConstant f w ou lhs rhs left w′ ou′ r
+pub deny-target : {f w ou w′ ou′ : List ℕ} {lhs rhs left : ℕ} {r : Done} {nd : Node} → OneOf (4 ∷ 0 ∷ 1 ∷ 2 ∷ 6 ∷ []) (tagOf the-type nd)
+    → IsNode f w lhs nd → BadTargets Message.DeniedConstant f w ou lhs rhs left w′ ou′ r
     → Denies f w ou lhs rhs left w′ ou′ r
 unfolding denyForm
 deny-target {f} {lhs = lhs} {rhs = rhs} {nd = nd} x i S = deny-as i (λ d b x y. badTarget (d .schema) (nodesOf d) b Diag.deniedConstant x y)
-    (λ d b c. by-form f (4 ∷ 0 ∷ 1 ∷ 2 ∷ 6 ∷ []) (λ q. denyForm (d .schema) (nodesOf d) b q lhs rhs c ≡ badTarget (d .schema) (nodesOf d) b Diag.deniedConstant lhs rhs c) (record {
+    (λ d b c. by-form f (4 ∷ 0 ∷ 1 ∷ 2 ∷ 6 ∷ [])
+    (λ q. denyForm (d .schema) (nodesOf d) b q lhs rhs c ≡ badTarget (d .schema) (nodesOf d) b Diag.deniedConstant lhs rhs c) (record {
       wildcard = λ h. refl;
       variable = λ v h. absurd h;
       constant = λ h. refl;
@@ -71,7 +74,8 @@ deny-target {f} {lhs = lhs} {rhs = rhs} {nd = nd} x i S = deny-as i (λ d b x y.
       other = λ h. absurd h;
     }) nd x) (plainly Diag.deniedConstant (λ T s. refl) tt S)
 
-pub no-disjunction : {nd : Node} → OneOf (0 ∷ 1 ∷ 2 ∷ 3 ∷ 4 ∷ 5 ∷ 6 ∷ 7 ∷ 8 ∷ 9 ∷ 10 ∷ 12 ∷ 13 ∷ 14 ∷ 15 ∷ 16 ∷ []) (tagOf the-type nd) → (l : Items) → ¬ (nd ≡ Node.Disjunction l)
+pub no-disjunction : {nd : Node} → OneOf (0 ∷ 1 ∷ 2 ∷ 3 ∷ 4 ∷ 5 ∷ 6 ∷ 7 ∷ 8 ∷ 9 ∷ 10 ∷ 12 ∷ 13 ∷ 14 ∷ 15 ∷ 16 ∷ []) (tagOf the-type nd) → (l : Items)
+    → ¬ (nd ≡ Node.Disjunction l)
 no-disjunction x l e = miss (0 ∷ 1 ∷ 2 ∷ 3 ∷ 4 ∷ 5 ∷ 6 ∷ 7 ∷ 8 ∷ 9 ∷ 10 ∷ 12 ∷ 13 ∷ 14 ∷ 15 ∷ 16 ∷ []) 11 tt (rw e at x)
 
 no-cell-by : (t : Ty) → OneOf (0 ∷ 1 ∷ 2 ∷ 3 ∷ 6 ∷ 7 ∷ []) (tagOf ty.the-type t) → NoCell t
@@ -84,6 +88,7 @@ no-cell-by (Union c) x = miss (0 ∷ 1 ∷ 2 ∷ 3 ∷ 6 ∷ 7 ∷ []) 5 tt x
 no-cell-by (Var v) x = tt
 no-cell-by Error x = tt
 
-pub record-whole : {f w ou w′ ou′ : List ℕ} {n left : ℕ} {l : Items} {t : Ty} {r : Done} → InfersThenUnifies f w ou n t left w′ ou′ r → OneOf (0 ∷ 1 ∷ 2 ∷ 3 ∷ 6 ∷ 7 ∷ []) (tagOf ty.the-type t)
+pub record-whole : {f w ou w′ ou′ : List ℕ} {n left : ℕ} {l : Items} {t : Ty} {r : Done} → InfersThenUnifies f w ou n t left w′ ou′ r
+    → OneOf (0 ∷ 1 ∷ 2 ∷ 3 ∷ 6 ∷ 7 ∷ []) (tagOf ty.the-type t)
     → ChecksRecord f w ou n l t left w′ ou′ r
 record-whole {t = t} I x = record-other (no-cell-by t x) I

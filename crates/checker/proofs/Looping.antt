@@ -27,7 +27,8 @@ pub record SameLengths (w w₀ o o₀ : List ℕ) : Type 0 where
   pub out : length o ≡ length o₀
 
 -- Of the load K, H is left for the rest.
-pub record Midway {A : Type 0} (f w₀ ou₀ w ou : List ℕ) (T : Rows) (d : Described) (K H : Load) (left : ℕ) (c : Checker) (whole : Step A) (rest : Does A) : Type 0 where
+pub record Midway {A : Type 0} (f w₀ ou₀ w ou : List ℕ) (T : Rows) (d : Described) (K H : Load) (left : ℕ) (c : Checker) (whole : Step A)
+    (rest : Does A) : Type 0 where
   pub T₁ : Rows
   pub b : Checker
   pub records : ℕ
@@ -40,7 +41,8 @@ pub record Midway {A : Type 0} (f w₀ ou₀ w ou : List ℕ) (T : Rows) (d : De
   pub begins : Begins f w ou T₁ d H left b
   pub same : whole ≡ rest b
 
-pub mid-start : {A : Type 0} {f w ou : List ℕ} {T : Rows} {d : Described} {K : Load} {left : ℕ} {c : Checker} (whole : Step A) (rest : Does A) → Begins f w ou T d K left c → whole ≡ rest c → Midway f w ou w ou T d K K left c whole rest
+pub mid-start : {A : Type 0} {f w ou : List ℕ} {T : Rows} {d : Described} {K : Load} {left : ℕ} {c : Checker} (whole : Step A) (rest : Does A)
+    → Begins f w ou T d K left c → whole ≡ rest c → Midway f w ou w ou T d K K left c whole rest
 mid-start {T = T} {c = c} whole rest s e = record {
   T₁ = T;
   b = c;
@@ -55,19 +57,25 @@ mid-start {T = T} {c = c} whole rest s e = record {
   same = e;
 }
 
-module _ {A : Type 0} {f w₀ ou₀ w ou : List ℕ} {T : Rows} {d : Described} {K H : Load} {left : ℕ} {c : Checker} {whole : Step A} {rest : Does A} (M : Midway f w₀ ou₀ w ou T d K H left c whole rest) where
+module _ {A : Type 0} {f w₀ ou₀ w ou : List ℕ} {T : Rows} {d : Described} {K H : Load} {left : ℕ} {c : Checker} {whole : Step A} {rest : Does A}
+    (M : Midway f w₀ ou₀ w ou T d K H left c whole rest) where
   -- A type in hand from before the loop.
   pub mid-tree : (t : Ty) → Ok w₀ t → tree (M .T₁) t ≡ tree T t
   mid-tree t o = tree-more (M .more) t o
 
   pub mid-fine : (t : Ty) → Fine w₀ t T c → Fine w t (M .T₁) (M .b)
-  mid-fine t x = record { ok = ok-kept (M .grew .adds) t (x .ok); side = rw (mid-tree t (x .ok)) (side-more (unknowns c) (unknowns (M .b)) (M .up) (tree T t) (x .side)) }
+  mid-fine t x = record {
+    ok = ok-kept (M .grew .adds) t (x .ok);
+    side = rw (mid-tree t (x .ok)) (side-more (unknowns c) (unknowns (M .b)) (M .up) (tree T t) (x .side));
+  }
 
   -- How the rest ends, the whole ends.
-  pub mid-ends : {w₂ ou₂ : List ℕ} {E : Result A} → Ends f w ou w₂ ou₂ (M .T₁) d (H .records) (H .fields) E (rest (M .b)) → Ends f w₀ ou₀ w₂ ou₂ T d (K .records) (K .fields) E whole
+  pub mid-ends : {w₂ ou₂ : List ℕ} {E : Result A} → Ends f w ou w₂ ou₂ (M .T₁) d (H .records) (H .fields) E (rest (M .b))
+      → Ends f w₀ ou₀ w₂ ou₂ T d (K .records) (K .fields) E whole
   mid-ends {w₂} {ou₂} {E} h = rw (M .same) (go h)
     where
-      on : {B : Type 0} {F : Result B} {a : B} {b : Checker} {v : ℕ} → Gone f w ou w₂ ou₂ (M .T₁) d (H .records) (H .fields) F a b v → Gone f w₀ ou₀ w₂ ou₂ T d (K .records) (K .fields) F a b v
+      on : {B : Type 0} {F : Result B} {a : B} {b : Checker} {v : ℕ} → Gone f w ou w₂ ou₂ (M .T₁) d (H .records) (H .fields) F a b v
+          → Gone f w₀ ou₀ w₂ ou₂ T d (K .records) (K .fields) F a b v
       on g = record {
         T′ = g .T′;
         more = more-trans (M .grew .adds) (M .more) (g .more);
@@ -83,14 +91,16 @@ module _ {A : Type 0} {f w₀ ou₀ w ou : List ℕ} {T : Rows} {d : Described} 
 
   -- A turn that goes on.
   module _ {B : Type 0} {w₁ ou₁ : List ℕ} (G H′ : Load) (fits : Holds (both G H′) H) {E : Result B} (P : B → Checker → Type 0) (m : Step B) where
-    pub mid-led : ¬ (E .Out) → (Ready (G .grade) (M .b) → Meets P (G .grade) (M .b) m) → (Begins f w ou (M .T₁) d G left (M .b) → Ends f w ou w₁ ou₁ (M .T₁) d (G .records) (G .fields) E m) → Led f w ou w₁ ou₁ (M .T₁) d G E P (M .b) m
+    pub mid-led : ¬ (E .Out) → (Ready (G .grade) (M .b) → Meets P (G .grade) (M .b) m)
+        → (Begins f w ou (M .T₁) d G left (M .b) → Ends f w ou w₁ ou₁ (M .T₁) d (G .records) (G .fields) E m) → Led f w ou w₁ ou₁ (M .T₁) d G E P (M .b) m
     mid-led never meets first = let s = begins-part G H (holds-left G H′ H fits) (M .begins) in led G P never (meets (s .free .ready)) (first s)
 
     pub mid-same : (L : Led f w ou w₁ ou₁ (M .T₁) d G E P (M .b) m) (next : B → Does A) → rest (M .b) ≡ andThen m next → whole ≡ next (L .a) (L .b)
     unfolding andThen
     mid-same L next shape = M .same ∙ shape ∙ ap (λ x. andThen x next) (L .is)
 
-    abbrev pub mid-after : (L : Led f w ou w₁ ou₁ (M .T₁) d G E P (M .b) m) (next : B → Does A) (l : ℕ) → rest (M .b) ≡ andThen m next → L .b .state .left ≡ l → Midway f w₀ ou₀ w₁ ou₁ T d K H′ l c whole (next (L .a))
+    abbrev pub mid-after : (L : Led f w ou w₁ ou₁ (M .T₁) d G E P (M .b) m) (next : B → Does A) (l : ℕ) → rest (M .b) ≡ andThen m next
+        → L .b .state .left ≡ l → Midway f w₀ ou₀ w₁ ou₁ T d K H′ l c whole (next (L .a))
     mid-after L next l shape v = record {
       T₁ = L .gone .T′;
       b = L .b;
@@ -101,6 +111,13 @@ module _ {A : Type 0} {f w₀ ou₀ w ou : List ℕ} {T : Rows} {d : Described} 
       few-records = omega (arith, fits .records, M .few-records);
       few-fields = omega (arith, fits .fields, M .few-fields);
       up = omega (arith, M .up, made-more (G .grade) (M .b) (L .b) (L .went .made));
-      begins = record { sound = M .begins .sound; runs = L .gone .runs; lines = L .gone .lines; orderly = L .went .orderly; visits = v; free = free-after G H′ H fits (L .went .made) (L .gone .grew) (M .begins .free) };
+      begins = record {
+        sound = M .begins .sound;
+        runs = L .gone .runs;
+        lines = L .gone .lines;
+        orderly = L .went .orderly;
+        visits = v;
+        free = free-after G H′ H fits (L .went .made) (L .gone .grew) (M .begins .free);
+      };
       same = mid-same L next shape;
     }

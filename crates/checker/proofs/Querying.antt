@@ -43,55 +43,73 @@ use Rattle.checker.proofs.Bodies.{sayingAll}
 abbrev depth : Described → ℕ
 depth d = length (nodesOf d)
 
-query-fits : (d : Described) (q : Query) → Holds (both (visits (nodesOf d) (depth d) (stmtNodes (q .body))) (both (only one-diagnostic) (infers (nodesOf d) (depth d) (q .head)))) (visits (nodesOf d) (depth d) (queryNodes q))
+query-fits : (d : Described) (q : Query) → Holds
+    (both (visits (nodesOf d) (depth d) (stmtNodes (q .body))) (both (only one-diagnostic) (infers (nodesOf d) (depth d) (q .head))))
+    (visits (nodesOf d) (depth d) (queryNodes q))
 unfolding queryNodes sumOf
 query-fits d q = record { grade = omega (arith, size-pos (nodesOf d) (depth d) (q .head)); records = omega arith; fields = omega arith }
 
-counted-ends : {f w ou w′ ou′ : List ℕ} {T : Rows} {d : Described} {n m : ℕ} {r : Typed} {s : Step Tree.Ty} → Ends f w ou w′ ou′ T d n m (typed w′ r) s → Ends f w ou w′ ou′ T d n m (counted (onlyW r)) s
+counted-ends : {f w ou w′ ou′ : List ℕ} {T : Rows} {d : Described} {n m : ℕ} {r : Typed} {s : Step Tree.Ty}
+    → Ends f w ou w′ ou′ T d n m (typed w′ r) s → Ends f w ou w′ ou′ T d n m (counted (onlyW r)) s
 counted-ends (went g) = went (gone-as (omega arith) (omega arith) (λ R x. ap onlyW (x .res)) g)
 counted-ends (spent g) = spent (gone-as (omega arith) (omega arith) (λ R x. ap onlyW x) g)
 
-module _ {f w ou w₁ ou₁ : List ℕ} {body : Stmts} {left : ℕ} {x : Done} (S : StatesAll f w ou body left w₁ ou₁ x) (T : Rows) (d : Described) (c : Checker) (q : Query) (e : q .body ≡ stmtsW f body)
+module _ {f w ou w₁ ou₁ : List ℕ} {body : Stmts} {left : ℕ} {x : Done} (S : StatesAll f w ou body left w₁ ou₁ x) (T : Rows) (d : Described)
+    (c : Checker) (q : Query) (e : q .body ≡ stmtsW f body)
     (named : AllNamed d (depth d) (queryNodes q)) (s : Begins f w ou T d (visits (nodesOf d) (depth d) (queryNodes q)) left c) where
-  pub query-out : x ≡ Done.Out → Ends f w ou w₁ ou₁ T d (visits (nodesOf d) (depth d) (queryNodes q) .records) (visits (nodesOf d) (depth d) (queryNodes q) .fields) (counted Done.Out) (query (d .schema) (nodesOf d) q c)
+  pub query-out : x ≡ Done.Out → Ends f w ou w₁ ou₁ T d (visits (nodesOf d) (depth d) (queryNodes q) .records)
+      (visits (nodesOf d) (depth d) (queryNodes q) .fields) (counted Done.Out) (query (d .schema) (nodesOf d) q c)
   unfolding query queryNodes
-  query-out g = stop-done (visits (nodesOf d) (depth d) (stmtNodes (q .body))) (both (only one-diagnostic) (infers (nodesOf d) (depth d) (q .head))) (visits (nodesOf d) (depth d) (queryNodes q)) (query-fits d q) Nothing (sayingAll d (depth d) (q .body) c)
-      (λ u b. andThen (headForm (d .schema) (nodesOf d) (q .head) (form (d .schema) (nodesOf d) (q .head)) b) (λ u. below d (depth d) .infer (q .head))) g refl s
+  query-out g = stop-done (visits (nodesOf d) (depth d) (stmtNodes (q .body))) (both (only one-diagnostic) (infers (nodesOf d) (depth d) (q .head)))
+      (visits (nodesOf d) (depth d) (queryNodes q)) (query-fits d q) Nothing (sayingAll d (depth d) (q .body) c)
+      (λ u b. andThen (headForm (d .schema) (nodesOf d) (q .head) (form (d .schema) (nodesOf d) (q .head)) b)
+      (λ u. below d (depth d) .infer (q .head))) g refl s
       (λ s₁. S .is d (depth d) (q .body) e (named .1) .is T c s₁ tt)
 
   module _ {l : ℕ} (g : x ≡ Done.On l) {w₂ ou₂ : List ℕ} {y : Done} (H : Heads f w₁ ou₁ (q .head) l w₂ ou₂ y) where
     -- The head, after the statements.
     query-head : {w₃ ou₃ : List ℕ} {z : Done}
         → ((T₁ : Rows) (b : Checker) → Begins f w₁ ou₁ T₁ d (both (only one-diagnostic) (infers (nodesOf d) (depth d) (q .head))) l b
-        → Ends f w₁ ou₁ w₃ ou₃ T₁ d (both (only one-diagnostic) (infers (nodesOf d) (depth d) (q .head)) .records) (both (only one-diagnostic) (infers (nodesOf d) (depth d) (q .head)) .fields) (counted z)
+        → Ends f w₁ ou₁ w₃ ou₃ T₁ d (both (only one-diagnostic) (infers (nodesOf d) (depth d) (q .head)) .records)
+        (both (only one-diagnostic) (infers (nodesOf d) (depth d) (q .head)) .fields) (counted z)
         (andThen (headForm (d .schema) (nodesOf d) (q .head) (form (d .schema) (nodesOf d) (q .head)) b) (λ u. below d (depth d) .infer (q .head))))
-        → Ends f w ou w₃ ou₃ T d (visits (nodesOf d) (depth d) (queryNodes q) .records) (visits (nodesOf d) (depth d) (queryNodes q) .fields) (counted z) (query (d .schema) (nodesOf d) q c)
+        → Ends f w ou w₃ ou₃ T d (visits (nodesOf d) (depth d) (queryNodes q) .records) (visits (nodesOf d) (depth d) (queryNodes q) .fields)
+        (counted z) (query (d .schema) (nodesOf d) q c)
     unfolding query queryNodes
     query-head rest =
         let k = depth d in
-        then-done (visits (nodesOf d) k (stmtNodes (q .body))) (both (only one-diagnostic) (infers (nodesOf d) k (q .head))) (visits (nodesOf d) k (queryNodes q)) (query-fits d q) Nothing (sayingAll d k (q .body) c)
+        then-done (visits (nodesOf d) k (stmtNodes (q .body))) (both (only one-diagnostic) (infers (nodesOf d) k (q .head)))
+        (visits (nodesOf d) k (queryNodes q)) (query-fits d q) Nothing (sayingAll d k (q .body) c)
         (λ u b. andThen (headForm (d .schema) (nodesOf d) (q .head) (form (d .schema) (nodesOf d) (q .head)) b) (λ u. below d k .infer (q .head))) g s
-        (λ y. stmts-meets (d .schema) (nodesOf d) (s .sound .predicates) k (below d k) (good s k) (q .body) c (s .orderly) y) (λ s₁. S .is d k (q .body) e (named .1) .is T c s₁ tt)
+        (λ y. stmts-meets (d .schema) (nodesOf d) (s .sound .predicates) k (below d k) (good s k) (q .body) c (s .orderly) y)
+        (λ s₁. S .is d k (q .body) e (named .1) .is T c s₁ tt)
         (λ T₁ b a. rest T₁ b (a .begins))
 
-    abbrev head-fits : Holds (both (only one-diagnostic) (infers (nodesOf d) (depth d) (q .head))) (both (only one-diagnostic) (infers (nodesOf d) (depth d) (q .head)))
+    abbrev head-fits : Holds (both (only one-diagnostic) (infers (nodesOf d) (depth d) (q .head)))
+        (both (only one-diagnostic) (infers (nodesOf d) (depth d) (q .head)))
     head-fits = record { grade = omega arith; records = omega arith; fields = omega arith }
 
     pub query-on : {w₃ ou₃ : List ℕ} {v : ℕ} {r : Typed} → y ≡ Done.On v → Infers f w₂ ou₂ (q .head) v w₃ ou₃ r
-        → Ends f w ou w₃ ou₃ T d (visits (nodesOf d) (depth d) (queryNodes q) .records) (visits (nodesOf d) (depth d) (queryNodes q) .fields) (counted (onlyW r)) (query (d .schema) (nodesOf d) q c)
+        → Ends f w ou w₃ ou₃ T d (visits (nodesOf d) (depth d) (queryNodes q) .records) (visits (nodesOf d) (depth d) (queryNodes q) .fields)
+        (counted (onlyW r)) (query (d .schema) (nodesOf d) q c)
     unfolding queryNodes
     query-on h I = query-head (λ T₁ b s₁.
-        then-done (only one-diagnostic) (infers (nodesOf d) (depth d) (q .head)) (both (only one-diagnostic) (infers (nodesOf d) (depth d) (q .head))) head-fits Nothing
+        then-done (only one-diagnostic) (infers (nodesOf d) (depth d) (q .head)) (both (only one-diagnostic) (infers (nodesOf d) (depth d) (q .head)))
+        head-fits Nothing
         (headForm (d .schema) (nodesOf d) (q .head) (form (d .schema) (nodesOf d) (q .head)) b) (λ u. below d (depth d) .infer (q .head)) h s₁
-        (λ y. headForm-meets (d .schema) (nodesOf d) (s .sound .predicates) (q .head) (form (d .schema) (nodesOf d) (q .head)) b (s₁ .orderly)) (λ s₂. H d (named .0 .there) .is T₁ b s₂ tt)
+        (λ y. headForm-meets (d .schema) (nodesOf d) (s .sound .predicates) (q .head) (form (d .schema) (nodesOf d) (q .head)) b (s₁ .orderly))
+        (λ s₂. H d (named .0 .there) .is T₁ b s₂ tt)
         (λ T₂ b₂ a₂. counted-ends (I .is d (depth d) (named .0) .is T₂ b₂ (a₂ .begins) tt)))
 
     pub query-head-out : y ≡ Done.Out
-        → Ends f w ou w₂ ou₂ T d (visits (nodesOf d) (depth d) (queryNodes q) .records) (visits (nodesOf d) (depth d) (queryNodes q) .fields) (counted Done.Out) (query (d .schema) (nodesOf d) q c)
+        → Ends f w ou w₂ ou₂ T d (visits (nodesOf d) (depth d) (queryNodes q) .records) (visits (nodesOf d) (depth d) (queryNodes q) .fields)
+        (counted Done.Out) (query (d .schema) (nodesOf d) q c)
     unfolding queryNodes
     query-head-out h = query-head (λ T₁ b s₁.
-        stop-done (only one-diagnostic) (infers (nodesOf d) (depth d) (q .head)) (both (only one-diagnostic) (infers (nodesOf d) (depth d) (q .head))) head-fits Nothing
-        (headForm (d .schema) (nodesOf d) (q .head) (form (d .schema) (nodesOf d) (q .head)) b) (λ u. below d (depth d) .infer (q .head)) h refl s₁ (λ s₂. H d (named .0 .there) .is T₁ b s₂ tt))
+        stop-done (only one-diagnostic) (infers (nodesOf d) (depth d) (q .head)) (both (only one-diagnostic) (infers (nodesOf d) (depth d) (q .head)))
+        head-fits Nothing
+        (headForm (d .schema) (nodesOf d) (q .head) (form (d .schema) (nodesOf d) (q .head)) b) (λ u. below d (depth d) .infer (q .head)) h refl s₁
+        (λ s₂. H d (named .0 .there) .is T₁ b s₂ tt))
 
 -- ---- The start: no node has a type, and all that the query's nodes make fits
 
@@ -126,7 +144,8 @@ query-begins u T d ceiling S sound stands =
     }
 
 -- ---- The whole
-ran : {f w ou w′ ou′ : List ℕ} {T : Rows} {d : Described} {n m : ℕ} {r : Done} {s : Step Tree.Ty} → Ends f w ou w′ ou′ T d n m (counted r) s → Ran f w′ ou′ d r s
+ran : {f w ou w′ ou′ : List ℕ} {T : Rows} {d : Described} {n m : ℕ} {r : Done} {s : Step Tree.Ty} → Ends f w ou w′ ou′ T d n m (counted r) s
+    → Ran f w′ ou′ d r s
 ran (went g) = to-the-end (g .T′) (g .runs) (g .lines) (g .is)
 ran (spent g) = ended-early (g .T′) (g .runs) (g .lines) (g .is)
 
@@ -146,13 +165,15 @@ module _ {f w w₁ : List ℕ} {u : Code.Until} (ceiling : ℕ) {head : ℕ} {b 
     head-is = hd ∙ query-head-is f w₁ (d .ast .query) (starts .runs .stands .query)
 
     body-says : d .ast .query .body ≡ stmtsW f b
-    body-says = sym (ap (stmtsW f) bd ∙ query-body-is f w₁ (d .ast .query) (starts .runs .stands .query) (depth d) (starts .runs .stands .few) (rw (all-below (depth d) (queryNodes (d .ast .query)) (sound .query)) tt))
+    body-says = sym (ap (stmtsW f) bd ∙ query-body-is f w₁ (d .ast .query) (starts .runs .stands .query) (depth d) (starts .runs .stands .few)
+        (rw (all-below (depth d) (queryNodes (d .ast .query)) (sound .query)) tt))
 
   module _ {ou w₂ ou₂ : List ℕ} {x : Done} (D : StatesAll f w₁ ou b ceiling w₂ ou₂ x) where
     pub queried-out : x ≡ Done.Out → length w₂ ≡ length w → length ou₂ ≡ length ou → Queries f w ou u ceiling w₂ ou₂ Done.Out
     unfolding runUntil
     queried-out e words slice = record {
-      is = λ T d sound stands. ran (query-out D T d (beginUntil (untilOf u) ceiling (depth d)) (d .ast .query) (body-says ou T d sound stands) (query-named d sound) (starts ou T d sound stands) e);
+      is = λ T d sound stands. ran (query-out D T d (beginUntil (untilOf u) ceiling (depth d)) (d .ast .query) (body-says ou T d sound stands)
+          (query-named d sound) (starts ou T d sound stands) e);
       words = words;
       slice = slice;
     }
@@ -165,16 +186,19 @@ module _ {f w w₁ : List ℕ} {u : Code.Until} (ceiling : ℕ) {head : ℕ} {b 
       unfolding runUntil
       queried-head-out h words slice = record {
         is = λ T d sound stands.
-            ran (query-head-out D T d (beginUntil (untilOf u) ceiling (depth d)) (d .ast .query) (body-says ou T d sound stands) (query-named d sound) (starts ou T d sound stands) e (head-at T d sound stands) h);
+            ran (query-head-out D T d (beginUntil (untilOf u) ceiling (depth d)) (d .ast .query) (body-says ou T d sound stands) (query-named d sound)
+            (starts ou T d sound stands) e (head-at T d sound stands) h);
         words = words;
         slice = slice;
       }
 
-      pub queried-on : {w₄ ou₄ : List ℕ} {v : ℕ} {r : Typed} → y ≡ Done.On v → Infers f w₃ ou₃ head v w₄ ou₄ r → length w₄ ≡ length w → length ou₄ ≡ length ou → Queries f w ou u ceiling w₄ ou₄ (onlyW r)
+      pub queried-on : {w₄ ou₄ : List ℕ} {v : ℕ} {r : Typed} → y ≡ Done.On v → Infers f w₃ ou₃ head v w₄ ou₄ r → length w₄ ≡ length w
+          → length ou₄ ≡ length ou → Queries f w ou u ceiling w₄ ou₄ (onlyW r)
       unfolding runUntil
       queried-on {w₄} {ou₄} {v} {r} h I words slice = record {
         is = λ T d sound stands.
-            ran (query-on D T d (beginUntil (untilOf u) ceiling (depth d)) (d .ast .query) (body-says ou T d sound stands) (query-named d sound) (starts ou T d sound stands) e (head-at T d sound stands) h
+            ran (query-on D T d (beginUntil (untilOf u) ceiling (depth d)) (d .ast .query) (body-says ou T d sound stands) (query-named d sound)
+            (starts ou T d sound stands) e (head-at T d sound stands) h
             (subst (λ (n : ℕ). Infers f w₃ ou₃ n v w₄ ou₄ r) (head-is ou T d sound stands) I));
         words = words;
         slice = slice;

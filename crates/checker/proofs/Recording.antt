@@ -16,7 +16,9 @@ use Rattle.cells.specs.Words.{madeField}
 use Rattle.cells.specs.Stands.{Rows, tree, Ok}
 use Rattle.cells.specs.Inferred.{reserveW, putFieldW, newRecordW, newRecordTy, Adds, More, Reserved, Filled, rowMade, rowsWith}
 use Rattle.cells.proofs.Frame.{more-refl, keeps-trans, keeps-wider, tree-more, made-field-same, ok-old}
-use Rattle.cells.proofs.Making.{reserve-other, reserve-reserved, reserved-kept, put-field-keeps, put-field-here, put-field-apart, put-field-old, put-field-reserved, put-field-adds, new-record-ty, new-record-keeps, new-record-count, new-record-other, new-record-adds, new-record-row, new-record-more, new-record-cell}
+use Rattle.cells.proofs.Making.{reserve-other, reserve-reserved, reserved-kept, put-field-keeps, put-field-here, put-field-apart, put-field-old}
+use Rattle.cells.proofs.Making.{put-field-reserved, put-field-adds, new-record-ty, new-record-keeps, new-record-count, new-record-other, new-record-adds}
+use Rattle.cells.proofs.Making.{new-record-row, new-record-more, new-record-cell}
 use Rattle.meaning.specs.Syntax as Syntax
 use Rattle.meaning.specs.Syntax.{ExprKind}
 use Rattle.meaning.specs.References.{fieldNames, fieldValues}
@@ -61,7 +63,8 @@ unfolding onto rowMade
 onto-none T w from zero = refl
 onto-none T w from (suc n) = rw (onto-none T w (from + 1) n)
 
-onto-next : (T : Rows) (w : List ℕ) (from n : ℕ) (row : Tree.Row) → onto T w from n (Tree.cell (made w (from + n) .key) 0 (tree T (made w (from + n) .ty)) row) ≡ onto T w from (suc n) row
+onto-next : (T : Rows) (w : List ℕ) (from n : ℕ) (row : Tree.Row)
+    → onto T w from n (Tree.cell (made w (from + n) .key) 0 (tree T (made w (from + n) .ty)) row) ≡ onto T w from (suc n) row
 unfolding onto
 onto-next T w from zero row = let e : from + 0 ≡ from = omega arith in rw e
 onto-next T w from (suc n) row =
@@ -69,12 +72,17 @@ onto-next T w from (suc n) row =
     rw (e, onto-next T w (from + 1) n row)
 
 -- The same fields with the same trees.
-onto-same : (T T′ : Rows) (w w′ : List ℕ) (from n : ℕ) (row : Tree.Row) → ((j : ℕ) → from ≤ j → j < from + n → made w′ j ≡ made w j) → ((j : ℕ) → from ≤ j → j < from + n → tree T′ (made w j .ty) ≡ tree T (made w j .ty))
+onto-same : (T T′ : Rows) (w w′ : List ℕ) (from n : ℕ) (row : Tree.Row) → ((j : ℕ) → from ≤ j → j < from + n → made w′ j ≡ made w j)
+    → ((j : ℕ) → from ≤ j → j < from + n → tree T′ (made w j .ty) ≡ tree T (made w j .ty))
     → onto T′ w′ from n row ≡ onto T w from n row
 unfolding onto
 onto-same T T′ w w′ from zero row p q = refl
 onto-same T T′ w w′ from (suc n) row p q =
-    rw (p from (omega arith) (omega arith), q from (omega arith) (omega arith), onto-same T T′ w w′ (from + 1) n row (λ j l h. p j (omega arith) (omega arith)) (λ j l h. q j (omega arith) (omega arith)))
+    rw (
+      p from (omega arith) (omega arith),
+      q from (omega arith) (omega arith),
+      onto-same T T′ w w′ (from + 1) n row (λ j l h. p j (omega arith) (omega arith)) (λ j l h. q j (omega arith) (omega arith)),
+    )
 
 -- Of a record whose fields begin at `from`, i of n fields are put, and `fs` are left of `whole`.
 pub record Recorded (f w₀ ou₀ w ou : List ℕ) (T : Rows) (d : Described) (k from n i : ℕ) (whole fs : List Syntax.Field) (left : ℕ) (c : Checker) : Type 0 where
@@ -86,7 +94,8 @@ pub record Recorded (f w₀ ou₀ w ou : List ℕ) (T : Rows) (d : Described) (k
   pub row : (row : Tree.Row) → front row ≡ onto (mid .T₁) w from i row
 
 -- ---- The fields are given away
-module _ {f w ou : List ℕ} {T : Rows} {d : Described} {left : ℕ} {c : Checker} (k n : ℕ) (fs : List Syntax.Field) (many : length fs ≡ n) (s : Begins f w ou T d (parts (nodesOf d) k (ExprKind.Record fs)) left c) where
+module _ {f w ou : List ℕ} {T : Rows} {d : Described} {left : ℕ} {c : Checker} (k n : ℕ) (fs : List Syntax.Field) (many : length fs ≡ n)
+    (s : Begins f w ou T d (parts (nodesOf d) k (ExprKind.Record fs)) left c) where
   abbrev given : Load
   given = record { grade = visiting (nodesOf d) k []; records = 0; fields = n }
 
@@ -131,8 +140,10 @@ module _ {f w ou : List ℕ} {T : Rows} {d : Described} {left : ℕ} {c : Checke
 -- ---- A field is put
 
 -- It changes neither rows nor checker.
-module _ {f w₀ ou₀ w ou : List ℕ} {T : Rows} {d : Described} {K H : Load} {left : ℕ} {c : Checker} {whole : Step Tree.Ty} {rest : Does Tree.Ty} (M : Midway f w₀ ou₀ w ou T d K H left c whole rest)
-    {from n : ℕ} (R : Reserved w from n) (low : getD w₀ RECORD-FIELD-COUNT 0 ≤ from) (i name : ℕ) (t : Ty) (le : from ≤ i) (lt : i < from + n) (small : name < 65536) where
+module _ {f w₀ ou₀ w ou : List ℕ} {T : Rows} {d : Described} {K H : Load} {left : ℕ} {c : Checker} {whole : Step Tree.Ty} {rest : Does Tree.Ty}
+    (M : Midway f w₀ ou₀ w ou T d K H left c whole rest)
+    {from n : ℕ} (R : Reserved w from n) (low : getD w₀ RECORD-FIELD-COUNT 0 ≤ from) (i name : ℕ) (t : Ty) (le : from ≤ i) (lt : i < from + n)
+    (small : name < 65536) where
   put-within : i < 512
   put-within = omega (arith, R .given, M .begins .runs .holds .cells .few-fields)
 
@@ -173,8 +184,10 @@ module _ {f w₀ ou₀ w ou : List ℕ} {T : Rows} {d : Described} {K H : Load} 
   }
 
 -- The fields put before stand in the words after, and the new one is behind them.
-module _ {w w₁ : List ℕ} {T T₁ : Rows} {from n : ℕ} (A : Adds w w₁) (more : More w T T₁) (R : Reserved w from n) (R₁ : Reserved w₁ from n) (long : END ≤ length w₁) (few : getD w₁ RECORD-COUNT 0 ≤ 512)
-    (few-fields : getD w₁ RECORD-FIELD-COUNT 0 ≤ 512) (i name : ℕ) (t : Ty) (lt : i < n) (small : name < 65536) (ok : (j : ℕ) → from ≤ j → j < from + i → Ok w (made w j .ty)) where
+module _ {w w₁ : List ℕ} {T T₁ : Rows} {from n : ℕ} (A : Adds w w₁) (more : More w T T₁) (R : Reserved w from n) (R₁ : Reserved w₁ from n)
+    (long : END ≤ length w₁) (few : getD w₁ RECORD-COUNT 0 ≤ 512)
+    (few-fields : getD w₁ RECORD-FIELD-COUNT 0 ≤ 512) (i name : ℕ) (t : Ty) (lt : i < n) (small : name < 65536)
+    (ok : (j : ℕ) → from ≤ j → j < from + i → Ok w (made w j .ty)) where
   field-within : from + i < 512
   field-within = omega (arith, R₁ .given)
 
@@ -184,7 +197,8 @@ module _ {w w₁ : List ℕ} {T T₁ : Rows} {from n : ℕ} (A : Adds w w₁) (m
   field-before : (j : ℕ) → from ≤ j → j < from + i → made (putFieldW w₁ (from + i) name t) j ≡ made w j
   field-before j l h =
       let at = RECORD-FIELDS + 2 * j in
-      put-field-apart w₁ (from + i) name t field-within small j (λ q. omega arith) ∙ made-field-same w w₁ at (A .given at (omega arith) (omega (arith, R .given))) (A .given (at + 1) (omega arith) (omega (arith, R .given)))
+      put-field-apart w₁ (from + i) name t field-within small j (λ q. omega arith) ∙ made-field-same w w₁ at
+      (A .given at (omega arith) (omega (arith, R .given))) (A .given (at + 1) (omega arith) (omega (arith, R .given)))
 
   fields-ok : Ok w₁ t → (j : ℕ) → from ≤ j → j < from + (i + 1) → Ok (putFieldW w₁ (from + i) name t) (made (putFieldW w₁ (from + i) name t) j .ty)
   fields-ok o j l h =
@@ -197,10 +211,12 @@ module _ {w w₁ : List ℕ} {T T₁ : Rows} {from n : ℕ} (A : Adds w w₁) (m
       let w₂ = putFieldW w₁ (from + i) name t in
       let last : Tree.cell name 0 (tree T₁ t) row ≡ Tree.cell (made w₂ (from + i) .key) 0 (tree T₁ (made w₂ (from + i) .ty)) row = rw field-here refl in
       let one : i + 1 ≡ suc i = omega arith in
-      rw one (sym (onto-same T T₁ w w₂ from i (Tree.cell name 0 (tree T₁ t) row) field-before (λ j l h. tree-more more (made w j .ty) (ok j l h))) ∙ ap (onto T₁ w₂ from i) last ∙ onto-next T₁ w₂ from i row)
+      rw one (sym (onto-same T T₁ w w₂ from i (Tree.cell name 0 (tree T₁ t) row) field-before (λ j l h. tree-more more (made w j .ty) (ok j l h))) ∙
+      ap (onto T₁ w₂ from i) last ∙ onto-next T₁ w₂ from i row)
 
 -- ---- A turn
-module _ {f w₀ ou₀ w ou w₁ ou₁ : List ℕ} {T : Rows} {d : Described} {k from n i left : ℕ} {whole : List Syntax.Field} (x : Syntax.Field) (fs : List Syntax.Field) {c : Checker} {r : Typed}
+module _ {f w₀ ou₀ w ou w₁ ou₁ : List ℕ} {T : Rows} {d : Described} {k from n i left : ℕ} {whole : List Syntax.Field} (x : Syntax.Field)
+    (fs : List Syntax.Field) {c : Checker} {r : Typed}
     (M : Recorded f w₀ ou₀ w ou T d k from n i whole (x ∷ fs) left c) (named : Named d k (x .value)) (I : Infers f w ou (x .value) left w₁ ou₁ r) where
   abbrev inferred : Step Tree.Ty
   inferred = below d k .infer (x .value) (M .mid .b)
@@ -212,17 +228,21 @@ module _ {f w₀ ou₀ w ou w₁ ou₁ : List ℕ} {T : Rows} {d : Described} {k
       → Ends f w ou w₁ ou₁ (M .mid .T₁) d (infers (nodesOf d) k (x .value) .records) (infers (nodesOf d) k (x .value) .fields) (typed w₁ r) inferred
   inferred-ends s = I .is d k named .is (M .mid .T₁) (M .mid .b) s tt
 
-  recorded-stop : r ≡ Typed.Out → Ends f w₀ ou₀ w₁ ou₁ T d (parts (nodesOf d) k (ExprKind.Record whole) .records) (parts (nodesOf d) k (ExprKind.Record whole) .fields) (typed w₁ Typed.Out) (built d k (λ row. row) whole c)
+  recorded-stop : r ≡ Typed.Out → Ends f w₀ ou₀ w₁ ou₁ T d (parts (nodesOf d) k (ExprKind.Record whole) .records)
+      (parts (nodesOf d) k (ExprKind.Record whole) .fields) (typed w₁ Typed.Out) (built d k (λ row. row) whole c)
   recorded-stop g = mid-ends (M .mid) (rw (built-some d k (M .front) x fs (M .mid .b))
-      (stop-typed (infers (nodesOf d) k (x .value)) (builds d k fs) (builds d k (x ∷ fs)) (built-fits d k x fs) inferred next g refl (M .mid .begins) inferred-ends))
+      (stop-typed (infers (nodesOf d) k (x .value)) (builds d k fs) (builds d k (x ∷ fs)) (built-fits d k x fs) inferred next g refl (M .mid .begins)
+      inferred-ends))
 
   module _ {t : Ty} {l : ℕ} (g : r ≡ Typed.Got t l) (below-n : i < n) (small : x .name < 65536) where
     turn-led : Led f w ou w₁ ou₁ (M .mid .T₁) d (infers (nodesOf d) k (x .value)) (typed w₁ r) IsSide (M .mid .b) inferred
     turn-led = mid-led (M .mid) (infers (nodesOf d) k (x .value)) (builds d k fs) (built-fits d k x fs) IsSide inferred (λ o. clash (cc (g, o)))
         (λ y. good (M .mid .begins) k .infer (x .value) (M .mid .b) (M .mid .begins .orderly) y) inferred-ends
 
-    abbrev turn-mid : Midway f w₀ ou₀ w₁ ou₁ T d (parts (nodesOf d) k (ExprKind.Record whole)) (builds d k fs) l c (built d k (λ row. row) whole c) (next (turn-led .a))
-    turn-mid = mid-after (M .mid) (infers (nodesOf d) k (x .value)) (builds d k fs) (built-fits d k x fs) IsSide inferred turn-led next l (built-some d k (M .front) x fs (M .mid .b)) (got-same g (turn-led .gone .is) .2)
+    abbrev turn-mid : Midway f w₀ ou₀ w₁ ou₁ T d (parts (nodesOf d) k (ExprKind.Record whole)) (builds d k fs) l c (built d k (λ row. row) whole c)
+        (next (turn-led .a))
+    turn-mid = mid-after (M .mid) (infers (nodesOf d) k (x .value)) (builds d k fs) (built-fits d k x fs) IsSide inferred turn-led next l
+        (built-some d k (M .front) x fs (M .mid .b)) (got-same g (turn-led .gone .is) .2)
 
     turn-reserved : Reserved w₁ from n
     turn-reserved = reserved-kept (M .mid .begins .runs .holds .cells) (turn-led .gone .grew .adds) (M .reserved)
@@ -234,15 +254,20 @@ module _ {f w₀ ou₀ w ou w₁ ou₁ : List ℕ} {T : Rows} {d : Described} {k
         record {
           front = λ row. M .front (Tree.cell (x .name) 0 (turn-led .a) row);
           mid = mid-put turn-mid turn-reserved (M .low) (from + i) (x .name) t (omega arith) (omega arith) small;
-          reserved = put-field-reserved w₁ (from + i) (x .name) t (put-within turn-mid turn-reserved (M .low) (from + i) (x .name) t (omega arith) (omega arith) small) small turn-reserved (omega arith) (omega arith) (H .cells .few-records);
+          reserved = put-field-reserved w₁ (from + i) (x .name) t
+              (put-within turn-mid turn-reserved (M .low) (from + i) (x .name) t (omega arith) (omega arith) small) small turn-reserved (omega arith)
+              (omega arith) (H .cells .few-records);
           low = M .low;
-          ok = fields-ok (turn-led .gone .grew .adds) (turn-led .gone .more) (M .reserved) turn-reserved (H .long) (H .cells .few-records) (H .cells .few-fields) i (x .name) t below-n small (M .ok) (got .0);
+          ok = fields-ok (turn-led .gone .grew .adds) (turn-led .gone .more) (M .reserved) turn-reserved (H .long) (H .cells .few-records)
+              (H .cells .few-fields) i (x .name) t below-n small (M .ok) (got .0);
           row = λ row. M .row (Tree.cell (x .name) 0 (turn-led .a) row) ∙ ap (λ ty. onto (M .mid .T₁) w from i (Tree.cell (x .name) 0 ty row)) (sym (got .1))
-              ∙ fields-row (turn-led .gone .grew .adds) (turn-led .gone .more) (M .reserved) turn-reserved (H .long) (H .cells .few-records) (H .cells .few-fields) i (x .name) t below-n small (M .ok) row;
+              ∙ fields-row (turn-led .gone .grew .adds) (turn-led .gone .more) (M .reserved) turn-reserved (H .long) (H .cells .few-records)
+              (H .cells .few-fields) i (x .name) t below-n small (M .ok) row;
         }
 
 -- ---- The record is made
-module _ {f w₀ ou₀ w ou : List ℕ} {T : Rows} {d : Described} {k from n left : ℕ} {whole : List Syntax.Field} {c : Checker} (M : Recorded f w₀ ou₀ w ou T d k from n n whole [] left c) where
+module _ {f w₀ ou₀ w ou : List ℕ} {T : Rows} {d : Described} {k from n left : ℕ} {whole : List Syntax.Field} {c : Checker}
+    (M : Recorded f w₀ ou₀ w ou T d k from n n whole [] left c) where
   filled : Filled w from n
   filled = record { given = M .reserved .given; ok = λ j h. M .ok (from + j) (omega arith) (omega arith) }
 
@@ -252,7 +277,8 @@ module _ {f w₀ ou₀ w ou : List ℕ} {T : Rows} {d : Described} {k from n lef
   record-row : (is : Tree.Row) → is ≡ rowMade (M .mid .T₁) w from n → M .front Tree.ε ≡ is
   record-row is e = M .row Tree.ε ∙ onto-none (M .mid .T₁) w from n ∙ sym e
 
-  recorded-end : Ends f w₀ ou₀ (newRecordW w from n) ou T d (parts (nodesOf d) k (ExprKind.Record whole) .records) (parts (nodesOf d) k (ExprKind.Record whole) .fields)
+  recorded-end : Ends f w₀ ou₀ (newRecordW w from n) ou T d (parts (nodesOf d) k (ExprKind.Record whole) .records)
+      (parts (nodesOf d) k (ExprKind.Record whole) .fields)
       (typed (newRecordW w from n) (Typed.Got (newRecordTy w from n) left)) (built d k (λ row. row) whole c)
   recorded-end =
       let R = M .mid .begins .runs in
@@ -264,18 +290,25 @@ module _ {f w₀ ou₀ w ou : List ℕ} {T : Rows} {d : Described} {k from n lef
         T′ = rowsWith w from n (M .mid .T₁);
         more = more-trans (M .mid .grew .adds) (M .mid .more) (new-record-more w from n record-room given long (M .mid .T₁));
         runs = new-record-runs (M .mid .begins .sound) R from n record-room filled;
-        lines = told-same (record { at = λ i l h. new-record-other w from n record-room given i (λ q. omega arith) (λ q. omega arith) }) (M .mid .begins .lines);
+        lines = told-same (record { at = λ i l h. new-record-other w from n record-room given i (λ q. omega arith) (λ q. omega arith) })
+            (M .mid .begins .lines);
         grew = record {
           adds = new-record-adds w from n record-room given long (M .low) (M .mid .grew .adds);
           keeps = keeps-trans (M .mid .grew .keeps) (new-record-keeps w from n record-room given);
           records = omega (arith, new-record-count w from n record-room given long, M .mid .grew .records, M .mid .few-records);
-          fields = omega (arith, new-record-other w from n record-room given RECORD-FIELD-COUNT (λ q. omega arith) (λ q. omega arith), M .mid .grew .fields, M .mid .few-fields);
+          fields = omega (
+            arith,
+            new-record-other w from n record-room given RECORD-FIELD-COUNT (λ q. omega arith) (λ q. omega arith),
+            M .mid .grew .fields,
+            M .mid .few-fields,
+          );
         };
         is = record {
           t = newRecordTy w from n;
           res = ap (Typed.Got (newRecordTy w from n)) (sym (M .mid .begins .visits));
           ok = rw ty (new-record-cell w from n record-room given long);
-          is = rw ty (ap (Tree.node Tree.Record) (sym (record-row (rowsWith w from n (M .mid .T₁) cell) (new-record-row w from n record-room given long (M .mid .T₁)))));
+          is = rw ty (ap (Tree.node Tree.Record) (sym
+              (record-row (rowsWith w from n (M .mid .T₁) cell) (new-record-row w from n record-room given long (M .mid .T₁)))));
         };
       }))
 
@@ -286,11 +319,14 @@ pub record RecordGoing (f w₁ ou₁ : List ℕ) (l : Items) (left from : ℕ) (
   pub named : (d : Described) (k : ℕ) → AllNamed d k (fieldValues (fieldsFrom f l 0 (l .n))) → AllNamed d k (fieldValues (fieldsFrom f l i (l .n - i)))
   pub small : Below 65536 (fieldNames (fieldsFrom f l 0 (l .n))) → Below 65536 (fieldNames (fieldsFrom f l i (l .n - i)))
   pub to : (w₀ : List ℕ) → from ≡ getD w₀ RECORD-FIELD-COUNT 0 → w₁ ≡ reserveW w₀ (l .n)
-      → (d : Described) (k : ℕ) (fs : List Syntax.Field) → fs ≡ fieldsFrom f l 0 (l .n) → AllNamed d k (fieldValues fs) → Below 65536 (fieldNames fs) → (T : Rows) (c : Checker)
-      → Begins f w₀ ou₁ T d (parts (nodesOf d) k (ExprKind.Record fs)) left c → Recorded f w₀ ou₁ w ou T d k from (l .n) i fs (fieldsFrom f l i (l .n - i)) rest c
+      → (d : Described) (k : ℕ) (fs : List Syntax.Field) → fs ≡ fieldsFrom f l 0 (l .n) → AllNamed d k (fieldValues fs) → Below 65536 (fieldNames fs)
+      → (T : Rows) (c : Checker)
+      → Begins f w₀ ou₁ T d (parts (nodesOf d) k (ExprKind.Record fs)) left c
+      → Recorded f w₀ ou₁ w ou T d k from (l .n) i fs (fieldsFrom f l i (l .n - i)) rest c
 
 -- In a run there is room for the fields.
-pub record-full : {f w ou w₁ ou₁ : List ℕ} {l : Items} {left from : ℕ} {r : Typed} → from ≡ getD w RECORD-FIELD-COUNT 0 → 512 < from + l .n → InfersRecord f w ou l left w₁ ou₁ r
+pub record-full : {f w ou w₁ ou₁ : List ℕ} {l : Items} {left from : ℕ} {r : Typed} → from ≡ getD w RECORD-FIELD-COUNT 0 → 512 < from + l .n
+    → InfersRecord f w ou l left w₁ ou₁ r
 record-full {f} {l = l} e h = record {
   is = λ d k id fs q named small. record { is = λ T c s u. absurd (omega (arith, e, h, given-room k (l .n) fs (ap length q ∙ fields-length f l (l .n) 0) s)) };
 }
@@ -321,26 +357,31 @@ module _ {f w₁ ou₁ w ou : List ℕ} {l : Items} {left from i rest : ℕ} (A 
   record-lower h e some = rw e (field-lower f l i (some (omega arith)))
 
   module _ (h : i < l .n) {x : Field} (x-is : x ≡ fieldW f l i) {w₂ ou₂ : List ℕ} {r : Typed} (I : Infers f w ou (x .value) rest w₂ ou₂ r) where
-    turn-named : (d : Described) (k : ℕ) → AllNamed d k (fieldValues (fieldsFrom f l 0 (l .n))) → AllNamed d k (fieldValues (fieldOf (fieldW f l i) ∷ fieldsFrom f l (i + 1) (l .n - (i + 1))))
+    turn-named : (d : Described) (k : ℕ) → AllNamed d k (fieldValues (fieldsFrom f l 0 (l .n)))
+        → AllNamed d k (fieldValues (fieldOf (fieldW f l i) ∷ fieldsFrom f l (i + 1) (l .n - (i + 1))))
     turn-named d k all = rw (fields-next f l i (l .n) h) at (A .named d k all)
 
-    turn-small : Below 65536 (fieldNames (fieldsFrom f l 0 (l .n))) → Below 65536 (fieldNames (fieldOf (fieldW f l i) ∷ fieldsFrom f l (i + 1) (l .n - (i + 1))))
+    turn-small : Below 65536 (fieldNames (fieldsFrom f l 0 (l .n)))
+        → Below 65536 (fieldNames (fieldOf (fieldW f l i) ∷ fieldsFrom f l (i + 1) (l .n - (i + 1))))
     turn-small all = rw (fields-next f l i (l .n) h) at (A .small all)
 
     turn-infers : Infers f w ou (fieldW f l i .value) rest w₂ ou₂ r
     turn-infers = rw x-is at I
 
-    pub record-out : {w₀ : List ℕ} → from ≡ getD w₀ RECORD-FIELD-COUNT 0 → w₁ ≡ reserveW w₀ (l .n) → r ≡ Typed.Out → InfersRecord f w₀ ou₁ l left w₂ ou₂ Typed.Out
+    pub record-out : {w₀ : List ℕ} → from ≡ getD w₀ RECORD-FIELD-COUNT 0 → w₁ ≡ reserveW w₀ (l .n) → r ≡ Typed.Out
+        → InfersRecord f w₀ ou₁ l left w₂ ou₂ Typed.Out
     unfolding fieldValues fieldOf
     record-out {w₀} p q g = record {
       is = λ d k id fs e named small. record {
         is = λ T c s u.
             rw (built-start d k id fs c)
-            (recorded-stop (fieldOf (fieldW f l i)) (fieldsFrom f l (i + 1) (l .n - (i + 1))) (rw (fields-next f l i (l .n) h) at (A .to w₀ p q d k fs e named small T c s)) (turn-named d k (rw e at named) .0) turn-infers g);
+            (recorded-stop (fieldOf (fieldW f l i)) (fieldsFrom f l (i + 1) (l .n - (i + 1)))
+            (rw (fields-next f l i (l .n) h) at (A .to w₀ p q d k fs e named small T c s)) (turn-named d k (rw e at named) .0) turn-infers g);
       };
     }
 
-    pub record-next : {t : Ty} {v : ℕ} → r ≡ Typed.Got t v → {w₃ : List ℕ} → w₃ ≡ putFieldW w₂ (from + i) (x .name) t → RecordGoing f w₁ ou₁ l left from w₃ ou₂ (i + 1) v
+    pub record-next : {t : Ty} {v : ℕ} → r ≡ Typed.Got t v → {w₃ : List ℕ} → w₃ ≡ putFieldW w₂ (from + i) (x .name) t
+        → RecordGoing f w₁ ou₁ l left from w₃ ou₂ (i + 1) v
     unfolding fieldValues fieldNames fieldOf
     record-next g y = record {
       within = omega arith;
@@ -348,5 +389,7 @@ module _ {f w₁ ou₁ w ou : List ℕ} {l : Items} {left from i rest : ℕ} (A 
       small = λ all. turn-small all .1;
       to = λ w₀ p q d k fs e named small T c s.
           rw (y, x-is)
-          (recorded-next (fieldOf (fieldW f l i)) (fieldsFrom f l (i + 1) (l .n - (i + 1))) (rw (fields-next f l i (l .n) h) at (A .to w₀ p q d k fs e named small T c s)) (turn-named d k (rw e at named) .0) turn-infers g h (turn-small (rw e at small) .0));
+          (recorded-next (fieldOf (fieldW f l i)) (fieldsFrom f l (i + 1) (l .n - (i + 1)))
+          (rw (fields-next f l i (l .n) h) at (A .to w₀ p q d k fs e named small T c s)) (turn-named d k (rw e at named) .0) turn-infers g h
+          (turn-small (rw e at small) .0));
     }

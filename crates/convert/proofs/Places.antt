@@ -25,7 +25,8 @@ use Rattle.convert.specs.Lines.{other, placeAt, placeOf, Placed, NamesFr
 
 -- by the kind byte and the shape byte
 abbrev told : ℕ → ℕ → ℕ → ℕ
-told kind shape below = elim (eqb kind 3) [ true ↦ elim (eqb shape 3) [ true ↦ 2 | false ↦ 0 ] | false ↦ elim (eqb kind 5) [ true ↦ elim (eqb below 13) [ true ↦ 10 | false ↦ 0 ] | false ↦ 0 ] ]
+told kind shape below = elim (eqb kind 3)
+    [ true ↦ elim (eqb shape 3) [ true ↦ 2 | false ↦ 0 ] | false ↦ elim (eqb kind 5) [ true ↦ elim (eqb below 13) [ true ↦ 10 | false ↦ 0 ] | false ↦ 0 ] ]
 
 node-told : (e : Edition) (k : ExprKind) → elim (eqb (getD (asExpr e k) 0 0) 13) [ true ↦ 10 | false ↦ 0 ] ≡ placeAt (exprPredicates k) 10
 unfolding asExpr exprPredicates
@@ -101,7 +102,8 @@ module _ (s : List ℕ) where
   }
 
   -- the line is shorter than one that names a predicate there, so it is no frame
-  none-by : (n kind shape below : ℕ) → kind ≡ byteW s 0 → shape ≡ byteW s 1 → below ≡ byteW s 9 → told kind shape below ≡ n → length s < n + 2 → 0 < n → Placed s 0
+  none-by : (n kind shape below : ℕ) → kind ≡ byteW s 0 → shape ≡ byteW s 1 → below ≡ byteW s 9 → told kind shape below ≡ n → length s < n + 2 → 0 < n
+      → Placed s 0
   none-by n kind shape below k h b is short some = record {
     is = λ e g w. absurd (
         let p : placeOf g ≡ n = sym (place-told e g) ∙ (rw (k, h, b, w) at is) in
@@ -129,15 +131,18 @@ module _ (s : List ℕ) where
   place-other-node k h = by 0 5 (byteW s 1) (byteW s 9) (sym k) refl refl (rw (ne-eqb (byteW s 9) 13 h, told)) (λ l. absurd (omega arith))
 
   pub place-none : (byteW s 0 ≡ 3 → ⊥) → (byteW s 0 ≡ 5 → ⊥) → Placed s 0
-  place-none a b = by 0 (byteW s 0) (byteW s 1) (byteW s 9) refl refl refl (rw (ne-eqb (byteW s 0) 3 a, ne-eqb (byteW s 0) 5 b, told)) (λ l. absurd (omega arith))
+  place-none a b = by 0 (byteW s 0) (byteW s 1) (byteW s 9) refl refl refl (rw (ne-eqb (byteW s 0) 3 a, ne-eqb (byteW s 0) 5 b, told))
+      (λ l. absurd (omega arith))
 
 -- ---- Two bytes more, two bytes less
 
-pub put-in : (g : Frame) → Fits narrow g → 0 < placeOf g → take (placeOf g) (written narrow g) ++ (0 ∷ 0 ∷ [] ++ drop (placeOf g) (written narrow g)) ≡ written wide g
+pub put-in : (g : Frame) → Fits narrow g → 0 < placeOf g → take (placeOf g) (written narrow g) ++ (0 ∷ 0 ∷ [] ++ drop (placeOf g) (written narrow g))
+    ≡ written wide g
 unfolding written asContent asShape asReference bytes₂ bytes₄ kindByte frameKind
 put-in g h l = go g (view g) h l
   where
-    go : (g : Frame) → View g → Fits narrow g → 0 < placeOf g → take (placeOf g) (written narrow g) ++ (0 ∷ 0 ∷ [] ++ drop (placeOf g) (written narrow g)) ≡ written wide g
+    go : (g : Frame) → View g → Fits narrow g → 0 < placeOf g → take (placeOf g) (written narrow g) ++
+        (0 ∷ 0 ∷ [] ++ drop (placeOf g) (written narrow g)) ≡ written wide g
     go g (a-type p) h l = rw (type-place p) (ap (λ s. 0x03 ∷ 0x03 ∷ s) (sym (low-bytes p h)))
     go g (a-node n p x q) h l =
         let k = subst (ExprFits narrow) q (h .2) in
@@ -147,11 +152,13 @@ put-in g h l = go g (view g) h l
         ∙ sym (node-bytes wide n p x q))
     go g (plain y) h l = absurd (omega (arith, l, nowhere g (y .none)))
 
-pub take-out : (g : Frame) → Fits narrow g → 0 < placeOf g → take (placeOf g) (written wide g) ++ ([] ++ drop (placeOf g + 2) (written wide g)) ≡ written narrow g
+pub take-out : (g : Frame) → Fits narrow g → 0 < placeOf g → take (placeOf g) (written wide g) ++ ([] ++ drop (placeOf g + 2) (written wide g)) ≡
+    written narrow g
 unfolding written asContent asShape asReference bytes₂ bytes₄ kindByte frameKind
 take-out g h l = go g (view g) h l
   where
-    go : (g : Frame) → View g → Fits narrow g → 0 < placeOf g → take (placeOf g) (written wide g) ++ ([] ++ drop (placeOf g + 2) (written wide g)) ≡ written narrow g
+    go : (g : Frame) → View g → Fits narrow g → 0 < placeOf g → take (placeOf g) (written wide g) ++ ([] ++ drop (placeOf g + 2) (written wide g)) ≡
+        written narrow g
     go g (a-type p) h l = rw (type-place p) refl
     go g (a-node n p x q) h l =
         rw (node-place n p x q) (
@@ -226,10 +233,12 @@ module _ {s : List ℕ} {i : ℕ} (p : Placed s i) where
     whole-end k = take-all (length s - k) (drop k s) (omega (arith, length-drop k s))
 
     pub shorter-cut : (g : Frame) → s ≡ written wide g → Fits narrow g → take (i - 0) s ++ ([] ++ take (length s - (i + 2)) (drop (i + 2) s)) ≡ written narrow g
-    shorter-cut g w f = ap (λ t. take (i - 0) s ++ ([] ++ t)) (whole-end (i + 2)) ∙ ap (λ k. take k s ++ ([] ++ drop (i + 2) s)) (sub-zero i) ∙ shorter-line g w f
+    shorter-cut g w f = ap (λ t. take (i - 0) s ++ ([] ++ t)) (whole-end (i + 2)) ∙ ap (λ k. take k s ++ ([] ++ drop (i + 2) s)) (sub-zero i) ∙
+        shorter-line g w f
 
     pub longer-cut : (g : Frame) → s ≡ written narrow g → Fits narrow g → take (i - 0) s ++ (0 ∷ 0 ∷ [] ++ take (length s - i) (drop i s)) ≡ written wide g
-    longer-cut g w f = ap (λ t. take (i - 0) s ++ (0 ∷ 0 ∷ [] ++ t)) (whole-end i) ∙ ap (λ k. take k s ++ (0 ∷ 0 ∷ [] ++ drop i s)) (sub-zero i) ∙ longer-line g w f
+    longer-cut g w f = ap (λ t. take (i - 0) s ++ (0 ∷ 0 ∷ [] ++ t)) (whole-end i) ∙ ap (λ k. take k s ++ (0 ∷ 0 ∷ [] ++ drop i s)) (sub-zero i) ∙
+        longer-line g w f
 
     pub from-by : (least h : ℕ) → h ≡ fullW s i → NamesFrom s least (leb least h)
     from-by least h q = record { is = λ g w f. rw (q, p .is wide g w, w) (number-is least g f (there wide g w)) }

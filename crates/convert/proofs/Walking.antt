@@ -93,7 +93,11 @@ pub record Converting (e : Edition) (f out₀ : List ℕ) (at : ℕ) (out : List
   pub left : (fs : List Frame) → LinesAre e f fs → All (Fits narrow) fs → Left e f out₀ at out to fs
 
 pub converting-start : (e : Edition) (f out : List ℕ) → Converting e f out 0 out 0
-converting-start e f out = record { long = refl; left = λ fs a h. record { rest = fs; are = a; fit = h; goes = goes-start out 0 (fileOf (other e) fs) (fileOf (other e) fs) (omega arith) refl } }
+converting-start e f out = record {
+  long = refl;
+  left = λ fs a h. record
+      { rest = fs; are = a; fit = h; goes = goes-start out 0 (fileOf (other e) fs) (fileOf (other e) fs) (omega arith) refl };
+}
 
 module _ (e : Edition) {f out₀ : List ℕ} {at : ℕ} {out : List ℕ} {to : ℕ} (c : Converting e f out₀ at out to) where
   pub converting-bad : Malformed f at → ConvertsLines e f out₀ out Full
@@ -137,7 +141,8 @@ module _ (e : Edition) {f out₀ : List ℕ} {at : ℕ} {out : List ℕ} {to : �
     pub converting-next : {m : ℕ} → r ≡ To m → Converting e f out₀ next out′ m
     converting-next q = record {
       long = w .long ∙ c .long;
-      left = λ fs a h. let t = turn fs (c .left fs a h) in record { rest = t .rest; are = t .are; fit = t .fit; goes = goes-next (t .goes) (t .text) (fileOf (other e) (t .rest)) refl (t .writes) q };
+      left = λ fs a h. let t = turn fs (c .left fs a h) in record
+          { rest = t .rest; are = t .are; fit = t .fit; goes = goes-next (t .goes) (t .text) (fileOf (other e) (t .rest)) refl (t .writes) q };
     }
 
     pub converting-full : r ≡ Full → ConvertsLines e f out₀ out′ Full

@@ -21,7 +21,8 @@ use Rattle.editions.proofs.Calls.{widen-answered, narrow-answered}
 use Rattle.converters.specs.Contracts.{Widens, Narrows, Gives}
 
 -- What is decided and has room is given.
-given : {x : Decided} {w out w′ out′ : List ℕ} (r : Outcome) (ls : List ℕ) → x ≡ answered ls → length ls ≤ length out → Finishes x w out w′ out′ r → Gives out′ ls r
+given : {x : Decided} {w out w′ out′ : List ℕ} (r : Outcome) (ls : List ℕ) → x ≡ answered ls → length ls ≤ length out → Finishes x w out w′ out′ r
+    → Gives out′ ls r
 unfolding finish accept
 given {x} {w} {out} {w′} {out′} r ls e l h = go r (h .result ∙ ap (λ o. o .result) done) (h .ends)
   where
@@ -35,7 +36,8 @@ given {x} {w} {out} {w′} {out′} r ls e l h = go r (h .result ∙ ap (λ o. o
         let there : take n out′ ≡ ls = cc in
         let all : out′ ≡ ls ++ replicate (length out - length ls) 0 = h .answer ∙ ap (λ o. o .answer) done in
         let size : length out′ ≡ length ls + (length out - length ls) =
-        ap length all ∙ length-append ls (replicate (length out - length ls) 0) ∙ ap (λ m. length ls + m) (length-replicate {A = ℕ} (length out - length ls) 0) in
+        ap length all ∙ length-append ls (replicate (length out - length ls) 0) ∙ ap (λ m. length ls + m)
+        (length-replicate {A = ℕ} (length out - length ls) 0) in
         let long : n ≡ length ls = sym (length-take-le n out′ (omega (arith, size, l, t .0))) ∙ ap length there in
         record { accepted = ap Outcome.Accepted long; stands = subst (λ m. take m out′ ≡ ls) long there }
     go (Outcome.Refused i) q ends = let z : _≡_ {A = ℕ} 0 1 = cc in absurd (omega arith)
@@ -49,7 +51,8 @@ module _ (f : List ℕ) (d : Form) {w out w′ out′ v buf v′ buf′ : List �
       let s = widened-says f d (says-exactly narrow f d .0 e) small in
       let says = says-exactly wide (widened f) d .1 (s .says) in
       let back : decideNarrow (take (length (widened f)) out′) (length v) ≡ answered f =
-      ap (λ g. decideNarrow g (length v)) (there .stands) ∙ narrow-answered (widened f) (length v) d words′ says (widened-low f d e) ∙ ap answered (out-and-back f d e) in
+      ap (λ g. decideNarrow g (length v)) (there .stands) ∙ narrow-answered (widened f) (length v) d words′ says (widened-low f d e) ∙ ap answered
+      (out-and-back f d e) in
       (there, given q f back fits′ k)
 
   -- of every file of the wide edition past them that names no predicate above 65,535

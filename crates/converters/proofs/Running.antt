@@ -84,21 +84,40 @@ written-told {out} {ls} {out′} (To n) w =
 written-told {out} {ls} {out′} Full w = (λ l. absurd (omega (arith, l, whole-over w refl)), λ l. refl)
 
 module _ {f w w′ out : List ℕ} where
-  pub widen-refused : {r : Read} (e : Refusal) → ReadsFile narrow f w w′ r → r ≡ Read.Refused e → RunsTo (decideWiden f (length w)) w out w′ out (Outcome.Refused e)
+  pub widen-refused : {r : Read} (e : Refusal) → ReadsFile narrow f w w′ r → r ≡ Read.Refused e
+      → RunsTo (decideWiden f (length w)) w out w′ out (Outcome.Refused e)
   unfolding widenRead
-  widen-refused {r} e h q = record { told = subst (Told out out (Outcome.Refused e)) (sym (widen-decided f (length w))) (refused-told narrow (widenRead f) (λ i. refl) f w w′ out r e h q); words = h .long; bytes = refl }
+  widen-refused {r} e h q = record {
+    told = subst (Told out out (Outcome.Refused e)) (sym (widen-decided f (length w)))
+        (refused-told narrow (widenRead f) (λ i. refl) f w w′ out r e h q);
+    words = h .long;
+    bytes = refl;
+  }
 
-  pub narrow-refused : {r : Read} (e : Refusal) → ReadsFile wide f w w′ r → r ≡ Read.Refused e → RunsTo (decideNarrow f (length w)) w out w′ out (Outcome.Refused e)
+  pub narrow-refused : {r : Read} (e : Refusal) → ReadsFile wide f w w′ r → r ≡ Read.Refused e
+      → RunsTo (decideNarrow f (length w)) w out w′ out (Outcome.Refused e)
   unfolding narrowRead
-  narrow-refused {r} e h q = record { told = subst (Told out out (Outcome.Refused e)) (sym (narrow-decided f (length w))) (refused-told wide (narrowRead f) (λ i. refl) f w w′ out r e h q); words = h .long; bytes = refl }
+  narrow-refused {r} e h q = record {
+    told = subst (Told out out (Outcome.Refused e)) (sym (narrow-decided f (length w)))
+        (refused-told wide (narrowRead f) (λ i. refl) f w w′ out r e h q);
+    words = h .long;
+    bytes = refl;
+  }
 
-  pub widen-written : {r : Read} {out′ : List ℕ} (x : Wrote) → ReadsFile narrow f w w′ r → r ≡ Read.Accepted → ConvertsLines narrow f out out′ x → RunsTo (decideWiden f (length w)) w out w′ out′ (outcomeOf x)
+  pub widen-written : {r : Read} {out′ : List ℕ} (x : Wrote) → ReadsFile narrow f w w′ r → r ≡ Read.Accepted → ConvertsLines narrow f out out′ x
+      → RunsTo (decideWiden f (length w)) w out w′ out′ (outcomeOf x)
   unfolding widenRead widened
   widen-written {r} {out′} x h q c =
       let d = described-by narrow h q in
       let s = said-frames narrow f (d .0) (enough-words narrow f (length w) (d .0) (d .1)) in
-      let is : decideWiden f (length w) ≡ answered (fileOf wide (s .these)) = widen-decided f (length w) ∙ ap (widenRead f) (d .1) ∙ ap (λ l. answered (fileOf wide l)) (s .frames) in
-      record { told = subst (Told out out′ (outcomeOf x)) (sym is) (written-told x (c .is (s .these) (s .lines-are) (all-fit (s .these) (s .writable)))); words = h .long; bytes = c .long }
+      let is : decideWiden f (length w) ≡ answered (fileOf wide (s .these)) = widen-decided f (length w) ∙ ap (widenRead f) (d .1) ∙ ap
+      (λ l. answered (fileOf wide l)) (s .frames) in
+      record {
+        told = subst (Told out out′ (outcomeOf x)) (sym is)
+            (written-told x (c .is (s .these) (s .lines-are) (all-fit (s .these) (s .writable))));
+        words = h .long;
+        bytes = c .long;
+      }
 
   module _ {r : Read} {b : Bool} (h : ReadsFile wide f w w′ r) (q : r ≡ Read.Accepted) (a : SomeAbove f b) where
     pub narrow-above : b ≡ true → RunsTo (decideNarrow f (length w)) w out w′ out (Outcome.Refused Refusal.NumberTooWide)
@@ -107,17 +126,29 @@ module _ {f w w′ out : List ℕ} where
         let d = described-by wide h q in
         let s = said-frames wide f (d .0) (enough-words wide f (length w) (d .0) (d .1)) in
         let high : someAbove (framesIn wide f) ≡ true = ap someAbove (s .frames) ∙ sym (a .is (s .these) (s .lines-are)) ∙ t in
-        let is : decideNarrow f (length w) ≡ turnedDown Meaning.numberTooWide = narrow-decided f (length w) ∙ ap (narrowRead f) (d .1) ∙ rw (high, narrowRead) in
-        record { told = subst (Told out out (Outcome.Refused Refusal.NumberTooWide)) (sym is) (Refusal.NumberTooWide, refl, refl); words = h .long; bytes = refl }
+        let is : decideNarrow f (length w) ≡ turnedDown Meaning.numberTooWide = narrow-decided f (length w) ∙ ap (narrowRead f) (d .1) ∙ rw
+        (high, narrowRead) in
+        record {
+          told = subst (Told out out (Outcome.Refused Refusal.NumberTooWide)) (sym is) (Refusal.NumberTooWide, refl, refl);
+          words = h .long;
+          bytes = refl;
+        }
 
-    pub narrow-written : {out′ : List ℕ} (x : Wrote) → b ≡ false → ConvertsLines wide f out out′ x → RunsTo (decideNarrow f (length w)) w out w′ out′ (outcomeOf x)
+    pub narrow-written : {out′ : List ℕ} (x : Wrote) → b ≡ false → ConvertsLines wide f out out′ x
+        → RunsTo (decideNarrow f (length w)) w out w′ out′ (outcomeOf x)
     unfolding narrowRead narrowed
     narrow-written {out′} x t c =
         let d = described-by wide h q in
         let s = said-frames wide f (d .0) (enough-words wide f (length w) (d .0) (d .1)) in
         let low : someAbove (s .these) ≡ false = sym (a .is (s .these) (s .lines-are)) ∙ t in
-        let is : decideNarrow f (length w) ≡ answered (fileOf narrow (s .these)) = narrow-decided f (length w) ∙ ap (narrowRead f) (d .1) ∙ rw (ap someAbove (s .frames) ∙ low, narrowRead) (ap (λ l. answered (fileOf narrow l)) (s .frames)) in
-        record { told = subst (Told out out′ (outcomeOf x)) (sym is) (written-told x (c .is (s .these) (s .lines-are) (all-fit (s .these) (all-narrow (s .these) (s .writable) low)))); words = h .long; bytes = c .long }
+        let is : decideNarrow f (length w) ≡ answered (fileOf narrow (s .these)) = narrow-decided f (length w) ∙ ap (narrowRead f) (d .1) ∙ rw
+        (ap someAbove (s .frames) ∙ low, narrowRead) (ap (λ l. answered (fileOf narrow l)) (s .frames)) in
+        record {
+          told = subst (Told out out′ (outcomeOf x)) (sym is)
+              (written-told x (c .is (s .these) (s .lines-are) (all-fit (s .these) (all-narrow (s .these) (s .writable) low))));
+          words = h .long;
+          bytes = c .long;
+        }
 
 pub cleared : {x : Decided} {w out w₁ out₁ w′ out′ : List ℕ} (r : Outcome) → RunsTo x w out w₁ out₁ r → Clears r w₁ out₁ w′ out′ → Finishes x w out w′ out′ r
 cleared r h c = Deciding.cleared (h .words) (h .bytes) r (h .told) c

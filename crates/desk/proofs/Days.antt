@@ -56,7 +56,8 @@ module _ (schema : Schema) where
   led-run [] a b l g = l
   led-run (q ∷ qs) a b l g = go (λ c. led-run qs c) (check (ceilingIn a) schema q) refl
     where
-      go : ((c : Account) → c .bounded ≡ true → Led (c .group) → Good c → Led (runAt schema qs c .account .group)) → (x : Checked) → check (ceilingIn a) schema q ≡ x
+      go : ((c : Account) → c .bounded ≡ true → Led (c .group) → Good c → Led (runAt schema qs c .account .group)) → (x : Checked)
+          → check (ceilingIn a) schema q ≡ x
           → Led (after a x (λ c. runAt schema qs c) .account .group)
       go rest exhausted e = led-charged a (ceilingIn a) b l g (omega arith)
       go rest (typed t) e =
@@ -107,7 +108,8 @@ module _ (schema : Schema) where
       go rest exhausted p r = let z : _≡_ {A = ℕ} 0 1 = cc in absurd (omega arith)
       go rest (typed t) p r =
           let y = first-all t (runAt schema qs (chargedTo a (t .visits)) .end) ts r in
-          ap (λ c. withChecked c (runAll schema qs)) (more-visits schema q (ceilingIn a) maxVisits t (low a) p) ∙ ap (withChecked (typed t)) (rest (chargedTo a (t .visits)) (y .0) (y .1))
+          ap (λ c. withChecked c (runAll schema qs)) (more-visits schema q (ceilingIn a) maxVisits t (low a) p) ∙ ap (withChecked (typed t))
+          (rest (chargedTo a (t .visits)) (y .0) (y .1))
           ∙ ap {B = Option (List Typed)} some (y .2)
 
   -- What is stopped at a desk (`refused-exactly` of Desks.antt) needs more visits than its ceiling.

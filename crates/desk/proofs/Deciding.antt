@@ -41,13 +41,15 @@ enough-words ed f words d e = cases (ltb words minWords)
     (λ q. rw (q, readingIn) at e)
 
 -- A file that was not read is turned down, by whatever goes on with a reading.
-pub refused-told : (ed : Edition) (k : Reading → Decided) → ((i : Meaning.Refusal) → k (refused i) ≡ turnedDown i) → (f w w′ buf : List ℕ) (r : Read) (e : Refusal) → ReadsFile ed f w w′ r → r ≡ Read.Refused e
+pub refused-told : (ed : Edition) (k : Reading → Decided) → ((i : Meaning.Refusal) → k (refused i) ≡ turnedDown i)
+    → (f w w′ buf : List ℕ) (r : Read) (e : Refusal) → ReadsFile ed f w w′ r → r ≡ Read.Refused e
     → Told buf buf (Outcome.Refused e) (k (readingIn ed f (length w)))
 unfolding Ends Told
 refused-told ed k down f w w′ buf r e h q = go (readingIn ed f (length w)) (h .ends)
   where
     go : (x : Reading) → Ends ed f w′ r x → Told buf buf (Outcome.Refused e) (k x)
-    go (refused i) g = let p = g .1 in let same : g .0 ≡ e = cc in subst (Told buf buf (Outcome.Refused e)) (sym (down i)) (e, refl, sym (ap refusal same) ∙ g .2)
+    go (refused i) g = let p = g .1 in let same : g .0 ≡ e = cc in subst (Told buf buf (Outcome.Refused e)) (sym (down i))
+        (e, refl, sym (ap refusal same) ∙ g .2)
     go (described d) g = let p = g .0 in let z : _≡_ {A = ℕ} 0 1 = cc in absurd (omega arith)
 
 -- What is decided, by what the reading comes to in so many words.
@@ -58,7 +60,8 @@ settled-by f words a = cases (ltb words minWords) (λ q. rw (q, decideAt, readin
 module _ (f w w′ buf : List ℕ) (a : Account) (r : Read) (e : Refusal) (h : ReadsFile wide f w w′ r) (q : r ≡ Read.Refused e) where
   unread : Told buf buf (Outcome.Refused e) (decideAt f (length w) a .decided) × (a ≡ decideAt f (length w) a .account)
   unfolding Ends Told decideReadAt
-  unread = subst (λ x. Told buf buf (Outcome.Refused e) (x .decided) × (a ≡ x .account)) (sym (settled-by f (length w) a)) (go (readingIn wide f (length w)) (h .ends))
+  unread = subst (λ x. Told buf buf (Outcome.Refused e) (x .decided) × (a ≡ x .account)) (sym (settled-by f (length w) a))
+      (go (readingIn wide f (length w)) (h .ends))
     where
       go : (x : Reading) → Ends wide f w′ r x → Told buf buf (Outcome.Refused e) (decideReadAt x a .decided) × (a ≡ decideReadAt x a .account)
       go (refused i) g = let p = g .1 in let same : e ≡ g .0 = cc in ((e, refl, ap refusal same ∙ g .2), refl)
@@ -77,12 +80,15 @@ read-small f w w′ r h q = go (readingIn wide f (length w)) refl (h .ends)
     go (refused i) e g = let p = g .1 in let z : _≡_ {A = ℕ} 0 1 = cc in absurd (omega arith)
     go (described d) e g = says-exactly wide f d .0 (enough-words wide f (length w) d e) .size
 
-module _ (f w w₁ w′ buf buf′ : List ℕ) (a : Account) (r : Read) (o : Settled) (h : ReadsFile wide f w w₁ r) (q : r ≡ Read.Accepted) (runs : RunsQueries f w₁ buf a buf′ o) where
+module _ (f w w₁ w′ buf buf′ : List ℕ) (a : Account) (r : Read) (o : Settled) (h : ReadsFile wide f w w₁ r) (q : r ≡ Read.Accepted)
+    (runs : RunsQueries f w₁ buf a buf′ o) where
   ran : Told buf buf′ (o .outcome) (decideAt f (length w) a .decided) × (o .account ≡ decideAt f (length w) a .account)
   unfolding Ends decideReadAt minWords
-  ran = subst (λ x. Told buf buf′ (o .outcome) (x .decided) × (o .account ≡ x .account)) (sym (settled-by f (length w) a)) (go (readingIn wide f (length w)) refl (h .ends))
+  ran = subst (λ x. Told buf buf′ (o .outcome) (x .decided) × (o .account ≡ x .account)) (sym (settled-by f (length w) a))
+      (go (readingIn wide f (length w)) refl (h .ends))
     where
-      go : (x : Reading) → readingIn wide f (length w) ≡ x → Ends wide f w₁ r x → Told buf buf′ (o .outcome) (decideReadAt x a .decided) × (o .account ≡ decideReadAt x a .account)
+      go : (x : Reading) → readingIn wide f (length w) ≡ x → Ends wide f w₁ r x
+          → Told buf buf′ (o .outcome) (decideReadAt x a .decided) × (o .account ≡ decideReadAt x a .account)
       go (refused i) e g = let p = g .1 in let z : _≡_ {A = ℕ} 0 1 = cc in absurd (omega arith)
       go (described d) e g = runs .told (g .2 .0) d (enough-words wide f (length w) d e) (g .1) (g .2 .1)
 
@@ -110,15 +116,19 @@ module _ (buf buf₁ : List ℕ) (r : Outcome) where
       let m : n ≡ length ls = cc in
       record { text = ls; is = refl; long = m; fits = ltb-false (length buf) (length ls) b; there = rw m (p .1) })
 
-  turned-down : (e : Refusal) → r ≡ Outcome.Refused e → (x : Decided) → Told buf buf₁ r x → (words : ℕ) → finish x words (length buf) ≡ refuse (refusal e) words (length buf)
+  turned-down : (e : Refusal) → r ≡ Outcome.Refused e → (x : Decided) → Told buf buf₁ r x → (words : ℕ)
+      → finish x words (length buf) ≡ refuse (refusal e) words (length buf)
   unfolding Told finish
-  turned-down e q (turnedDown i) t words = let p = t .1 in let same : e ≡ t .0 = cc in ap (λ j. refuse j words (length buf)) (sym (t .2) ∙ sym (ap refusal same))
+  turned-down e q (turnedDown i) t words = let p = t .1 in let same : e ≡ t .0 = cc in ap (λ j. refuse j words (length buf))
+      (sym (t .2) ∙ sym (ap refusal same))
   turned-down e q (answered ls) t words = cases (ltb (length buf) (length ls))
-      (λ b. let p = t .1 (ltb-true (length buf) (length ls) b) in let same : Refusal.AnswerTooLong ≡ e = cc in rw (b, finish) (ap (λ x. refuse (refusal x) words (length buf)) same))
+      (λ b. let p = t .1 (ltb-true (length buf) (length ls) b) in let same : Refusal.AnswerTooLong ≡ e = cc in rw (b, finish)
+      (ap (λ x. refuse (refusal x) words (length buf)) same))
       (λ b. let p = t .0 (ltb-false (length buf) (length ls) b) .0 in let z : _≡_ {A = ℕ} 0 1 = cc in absurd (omega arith))
 
 module _ {x : Decided} {w buf w₁ buf₁ w′ buf′ : List ℕ} (words : length w₁ ≡ length w) (bytes : length buf₁ ≡ length buf) where
-  refused-cleared : (e : Refusal) → Told buf buf₁ (Outcome.Refused e) x → Clears (Outcome.Refused e) w₁ buf₁ w′ buf′ → Finishes x w buf w′ buf′ (Outcome.Refused e)
+  refused-cleared : (e : Refusal) → Told buf buf₁ (Outcome.Refused e) x → Clears (Outcome.Refused e) w₁ buf₁ w′ buf′
+      → Finishes x w buf w′ buf′ (Outcome.Refused e)
   unfolding refuse
   refused-cleared e t c =
       let is = turned-down buf buf₁ (Outcome.Refused e) e refl x t (length w) in
@@ -130,7 +140,8 @@ module _ {x : Decided} {w buf w₁ buf₁ w′ buf′ : List ℕ} (words : lengt
         ends = λ m p. let z : _≡_ {A = ℕ} 0 1 = cc in absurd (omega arith);
       }
 
-  accepted-cleared : (n : ℕ) → Told buf buf₁ (Outcome.Accepted n) x → Clears (Outcome.Accepted n) w₁ buf₁ w′ buf′ → Finishes x w buf w′ buf′ (Outcome.Accepted n)
+  accepted-cleared : (n : ℕ) → Told buf buf₁ (Outcome.Accepted n) x → Clears (Outcome.Accepted n) w₁ buf₁ w′ buf′
+      → Finishes x w buf w′ buf′ (Outcome.Accepted n)
   unfolding finish accept
   accepted-cleared n t c =
       let y = stood buf buf₁ (Outcome.Accepted n) n refl x t in
@@ -144,8 +155,11 @@ module _ {x : Decided} {w buf w₁ buf₁ w′ buf′ : List ℕ} (words : lengt
         work = c .words ∙ ap (λ m. replicate m 0) words ∙ sym (ap Defined.Outcome.work is);
         answer = all ∙ sym (ap Defined.Outcome.answer is);
         ends = λ m p. let same : m ≡ n = cc in
-            let long : length (y .text) ≡ m = omega (arith, same, y .long) in
-            (omega (arith, long, y .fits), y .is ∙ ap answered (sym (ap (take m) all ∙ take-at (y .text) (replicate (length buf - length (y .text)) 0) m long)));
+            let long : length (y .text) ≡ m = omega (arith, same, y .long) in (
+              omega (arith, long, y .fits),
+              y .is ∙ ap answered
+                  (sym (ap (take m) all ∙ take-at (y .text) (replicate (length buf - length (y .text)) 0) m long)),
+            );
       }
 
   pub cleared : (r : Outcome) → Told buf buf₁ r x → Clears r w₁ buf₁ w′ buf′ → Finishes x w buf w′ buf′ r
@@ -159,7 +173,8 @@ pub checks-file : {f w buf w₁ buf₁ w′ buf′ : List ℕ} {a : Account} {s 
     → Clears (s .outcome) w₁ buf₁ w′ buf′ → ChecksFile f w buf w′ buf′ (s .outcome)
 unfolding outcome
 checks-file {f} {w} {buf} {w′ = w′} {buf′ = buf′} {a = a} {s = s} e h c =
-    let y : Finishes (decide f (length w)) w buf w′ buf′ (s .outcome) = cleared (h .words) (h .bytes) (s .outcome) (subst (Told _ _ (s .outcome)) (open-decides f (length w) a (ap (λ x. x .bounded) e)) (h .told)) c in
+    let y : Finishes (decide f (length w)) w buf w′ buf′ (s .outcome) = cleared (h .words) (h .bytes) (s .outcome)
+    (subst (Told _ _ (s .outcome)) (open-decides f (length w) a (ap (λ x. x .bounded) e)) (h .told)) c in
     record { result = y .result; work = y .work; answer = y .answer; ends = y .ends }
 
 pub checks-at : {g : Group} {d : ℕ} {f w buf w₁ buf₁ w′ buf′ : List ℕ} {s : Settled} {r : Desked} → At g d → RunsFile f w buf (deskAccount g d) w₁ buf₁ s

@@ -55,12 +55,14 @@ module _ {f w buf w′ buf′ : List ℕ} where
         answer = all ∙ ap (λ m. lines ++ replicate (length buf - m) 0) (sym long);
       }
 
-prints-refused : (f : List ℕ) (words bytes : ℕ) (i : Refusal) → RefusedWhen f words bytes i → printedLines (decide f words) bytes ≡ hexLine (0x0f ∷ number i ∷ [])
+prints-refused : (f : List ℕ) (words bytes : ℕ) (i : Refusal) → RefusedWhen f words bytes i
+    → printedLines (decide f words) bytes ≡ hexLine (0x0f ∷ number i ∷ [])
 unfolding printedLines decideRun
 prints-refused f words bytes i (for-work h) = ap (λ x. printedLines x bytes) (short-decides f words h)
 prints-refused f words bytes i (for-file h r) = ap (λ x. printedLines x bytes) (unread-decides f words i h r)
 prints-refused f words bytes i (for-visits d h s c) = ap (λ x. printedLines x bytes) (reads-decides f words d none h s (any-out (d .schema) (d .queries) c))
-prints-refused f words bytes i (for-answer d t h s c l) = ap (λ x. printedLines x bytes) (reads-decides f words d (some t) h s (each-ran (d .schema) (d .queries) t c))
+prints-refused f words bytes i (for-answer d t h s c l) = ap (λ x. printedLines x bytes)
+    (reads-decides f words d (some t) h s (each-ran (d .schema) (d .queries) t c))
     ∙ rw (lt-ltb bytes (length (formLines (textIn d) t)) l, printedLines)
 
 prints-accepted : (f : List ℕ) (words bytes : ℕ) (ls : List ℕ) → decide f words ≡ answered ls → length ls ≤ bytes → printedLines (decide f words) bytes ≡ ls
@@ -68,11 +70,14 @@ unfolding printedLines
 prints-accepted f words bytes ls e l = ap (λ x. printedLines x bytes) e ∙ rw (le-ltb bytes (length ls) l, printedLines)
 
 -- What the program prints is what the definition prints.
-pub call-prints : {f w buf w′ buf′ : List ℕ} (r : Called.Outcome) → length w ≡ minWords → length buf ≡ 65536 → ChecksFile f w buf w′ buf′ r → shown r buf′ ≡ printed f
+pub call-prints : {f w buf w′ buf′ : List ℕ} (r : Called.Outcome) → length w ≡ minWords → length buf ≡ 65536 → ChecksFile f w buf w′ buf′ r
+    → shown r buf′ ≡ printed f
 unfolding shown printed
 call-prints {f} {w} {buf} {w′} {buf′} (Call.Accepted n) l m h =
     let told = h .ends n refl in
     let short : length (take n buf′) ≤ length buf = omega (arith, length-take n buf′, told .0) in
-    sym (ap (λ words. printedLines (decide f words) 65536) (sym l) ∙ ap (λ bytes. printedLines (decide f (length w)) bytes) (sym m) ∙ prints-accepted f (length w) (length buf) (take n buf′) (told .1) short)
+    sym (ap (λ words. printedLines (decide f words) 65536) (sym l) ∙ ap (λ bytes. printedLines (decide f (length w)) bytes) (sym m) ∙ prints-accepted
+    f (length w) (length buf) (take n buf′) (told .1) short)
 call-prints {f} {w} {buf} {w′} {buf′} (Call.Refused e) l m h =
-    sym (ap (λ words. printedLines (decide f words) 65536) (sym l) ∙ ap (λ bytes. printedLines (decide f (length w)) bytes) (sym m) ∙ prints-refused f (length w) (length buf) (refusal e) (call-refused e h .when))
+    sym (ap (λ words. printedLines (decide f words) 65536) (sym l) ∙ ap (λ bytes. printedLines (decide f (length w)) bytes) (sym m) ∙ prints-refused f
+    (length w) (length buf) (refusal e) (call-refused e h .when))

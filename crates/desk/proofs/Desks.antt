@@ -94,7 +94,8 @@ module _ (g : Group) (d : ℕ) (f : List ℕ) (words bytes : ℕ) where
   unfolding decideAt
   enough h = rw (le-ltb words minWords h, decideAt)
 
-  reads : (form : Form) → minWords ≤ words → reading f ≡ described form → decideAt f words (deskAccount g d) .decided ≡ decideEnd (textIn form) (runAt (form .schema) (form .queries) (deskAccount g d) .end)
+  reads : (form : Form) → minWords ≤ words → reading f ≡ described form
+      → decideAt f words (deskAccount g d) .decided ≡ decideEnd (textIn form) (runAt (form .schema) (form .queries) (deskAccount g d) .end)
   unfolding decideReadAt
   reads form h e = enough h ∙ ap (λ x. decideReadAt x (deskAccount g d) .decided) e
 
@@ -107,24 +108,32 @@ module _ (g : Group) (d : ℕ) (f : List ℕ) (words bytes : ℕ) where
   unfolding finish refuse decideReadAt
   so i (for-work h) = ap (ending words bytes) (short h)
   so i (for-file h r) = ap (ending words bytes) (enough h ∙ ap (λ x. decideReadAt x (deskAccount g d) .decided) (refused-when wide f i .1 r))
-  so i (for-visits form h e s) = ap (ending words bytes) (reads form h e ∙ ap (decideEnd (textIn form)) (stopped-so (form .schema) (form .queries) (deskAccount g d) i s))
-  so i (for-answer form ts h e s l) = ap (ending words bytes) (reads form h e ∙ ap (decideEnd (textIn form)) (ended-so (form .schema) (form .queries) (deskAccount g d) ts s)) ∙ rw (lt-ltb bytes (length (formLines (textIn form) ts)) l, ending, finish)
+  so i (for-visits form h e s) = ap (ending words bytes)
+      (reads form h e ∙ ap (decideEnd (textIn form)) (stopped-so (form .schema) (form .queries) (deskAccount g d) i s))
+  so i (for-answer form ts h e s l) = ap (ending words bytes)
+      (reads form h e ∙ ap (decideEnd (textIn form)) (ended-so (form .schema) (form .queries) (deskAccount g d) ts s)) ∙ rw
+      (lt-ltb bytes (length (formLines (textIn form) ts)) l, ending, finish)
 
   why : (i : Refusal) → (ending words bytes) (decideAt f words (deskAccount g d) .decided) ≡ Defined.Refused i → RefusedAt g d f words bytes i
   unfolding finish refuse accept decideReadAt
   why i e = cases (ltb words minWords)
-      (λ q. let h = ltb-true words minWords q in subst (RefusedAt g d f words bytes) (turned workTooShort i (sym (ap (ending words bytes) (short h)) ∙ e)) (for-work h))
+      (λ q. let h = ltb-true words minWords q in subst (RefusedAt g d f words bytes)
+      (turned workTooShort i (sym (ap (ending words bytes) (short h)) ∙ e)) (for-work h))
       (λ q. let h = ltb-false words minWords q in read h (reading f) refl (sym (ap (ending words bytes) (enough h)) ∙ e))
     where
-      over : (form : Form) → minWords ≤ words → reading f ≡ described form → (x : End) → runAt (form .schema) (form .queries) (deskAccount g d) .end ≡ x → (ending words bytes) (decideEnd (textIn form) x) ≡ Defined.Refused i
+      over : (form : Form) → minWords ≤ words → reading f ≡ described form → (x : End)
+          → runAt (form .schema) (form .queries) (deskAccount g d) .end ≡ x → (ending words bytes) (decideEnd (textIn form) x) ≡ Defined.Refused i
           → RefusedAt g d f words bytes i
-      over form h p (stopped j) q r = subst (RefusedAt g d f words bytes) (turned j i r) (for-visits form h p (stops (form .schema) (form .queries) (deskAccount g d) j q))
+      over form h p (stopped j) q r = subst (RefusedAt g d f words bytes) (turned j i r)
+          (for-visits form h p (stops (form .schema) (form .queries) (deskAccount g d) j q))
       over form h p (all ts) q r = cases (ltb bytes (length (formLines (textIn form) ts)))
           (λ b. let c : Defined.Refused answerTooLong ≡ Defined.Refused i = rw (b, ending, finish) at r in let same : answerTooLong ≡ i = cc in
-          subst (RefusedAt g d f words bytes) same (for-answer form ts h p (ends (form .schema) (form .queries) (deskAccount g d) ts q) (ltb-true bytes (length (formLines (textIn form) ts)) b)))
+          subst (RefusedAt g d f words bytes) same (for-answer form ts h p (ends (form .schema) (form .queries) (deskAccount g d) ts q)
+          (ltb-true bytes (length (formLines (textIn form) ts)) b)))
           (λ b. let c : Defined.Accepted ≡ Defined.Refused i = rw (b, ending, finish) at r in let z : _≡_ {A = ℕ} 0 1 = cc in absurd (omega arith))
 
-      read : minWords ≤ words → (x : Reading) → reading f ≡ x → (ending words bytes) (decideReadAt x (deskAccount g d) .decided) ≡ Defined.Refused i → RefusedAt g d f words bytes i
+      read : minWords ≤ words → (x : Reading) → reading f ≡ x → (ending words bytes) (decideReadAt x (deskAccount g d) .decided) ≡ Defined.Refused i
+          → RefusedAt g d f words bytes i
       read h (refused j) p r = subst (RefusedAt g d f words bytes) (turned j i r) (for-file h (refused-when wide f j .0 p))
       read h (described form) p r = over form h p (runAt (form .schema) (form .queries) (deskAccount g d) .end) refl r
 
@@ -174,7 +183,8 @@ module _ {g : Group} {d : ℕ} {f w out w′ out′ : List ℕ} {r : Desked} (c 
 -- ---- "Correctness of a query is claimed up to this ceiling"
 
 -- Demand 3 and Robinson's notions of every query's run up to any number of visits.
-pub up-to-a-ceiling : (file : List ℕ) (f : Form) → reading file ≡ described f → (c : ℕ) → All (λ a. RunDemand3 (f .schema) a c × RunAsRobinson (f .schema) a c) (f .queries)
+pub up-to-a-ceiling : (file : List ℕ) (f : Form) → reading file ≡ described f → (c : ℕ)
+    → All (λ a. RunDemand3 (f .schema) a c × RunAsRobinson (f .schema) a c) (f .queries)
 unfolding viewOf
 up-to-a-ceiling file f s c =
     all-map (λ a. Sound (viewOf f a)) (λ a. RunDemand3 (f .schema) a c × RunAsRobinson (f .schema) a c) (f .queries)

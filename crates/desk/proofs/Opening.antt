@@ -57,7 +57,8 @@ module _ (a : Account) (e : a .bounded ≡ false) where
   open-run schema [] = refl
   open-run schema (q ∷ qs) = ap (λ n. after a (check n schema q) (λ b. runAt schema qs b) .end) limit ∙ go (check maxVisits schema q) (open-run schema qs)
     where
-      go : (c : Checked) → runAt schema qs a .end ≡ ended (runAll schema qs) → after a c (λ b. runAt schema qs b) .end ≡ ended (withChecked c (runAll schema qs))
+      go : (c : Checked) → runAt schema qs a .end ≡ ended (runAll schema qs)
+          → after a c (λ b. runAt schema qs b) .end ≡ ended (withChecked c (runAll schema qs))
       go exhausted h = ap (λ n. stopped (stopAt n)) limit ∙ ap stopped stop-open
       go (typed t) h = ap (λ b. first t (runAt schema qs b .end)) (open-charged a (t .visits) e) ∙ ap (first t) h ∙ first-ended t (runAll schema qs)
 

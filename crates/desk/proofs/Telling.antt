@@ -46,12 +46,15 @@ module _ (text : Message → List ℕ) where
   linesOf m k [] = []
   linesOf m k (t ∷ ts) = (headLine m k ++ answerLines text t) ++ linesOf m (suc k) ts
 
-  lines-snoc : (m : Bool) (k : ℕ) (ts : List Typed) (t : Typed) → linesOf m k (ts ++ t ∷ []) ≡ linesOf m k ts ++ (headLine m (k + length ts) ++ answerLines text t)
+  lines-snoc : (m : Bool) (k : ℕ) (ts : List Typed) (t : Typed)
+      → linesOf m k (ts ++ t ∷ []) ≡ linesOf m k ts ++ (headLine m (k + length ts) ++ answerLines text t)
   unfolding linesOf
-  lines-snoc m k [] t = let none-on : k ≡ k + 0 = omega arith in append-nil (headLine m k ++ answerLines text t) ∙ ap (λ i. headLine m i ++ answerLines text t) none-on
+  lines-snoc m k [] t = let none-on : k ≡ k + 0 = omega arith in append-nil (headLine m k ++ answerLines text t) ∙ ap
+      (λ i. headLine m i ++ answerLines text t) none-on
   lines-snoc m k (u ∷ ts) t =
       let on : suc k + length ts ≡ k + suc (length ts) = omega arith in
-      ap (λ l. (headLine m k ++ answerLines text u) ++ l) (lines-snoc m (suc k) ts t ∙ ap (λ i. linesOf m (suc k) ts ++ (headLine m i ++ answerLines text t)) on)
+      ap (λ l. (headLine m k ++ answerLines text u) ++ l)
+      (lines-snoc m (suc k) ts t ∙ ap (λ i. linesOf m (suc k) ts ++ (headLine m i ++ answerLines text t)) on)
       ∙ sym (append-assoc (headLine m k ++ answerLines text u) (linesOf m (suc k) ts) (headLine m (k + suc (length ts)) ++ answerLines text t))
 
   lines-numbered : (k : ℕ) (ts : List Typed) → numbered text k ts ≡ linesOf true k ts
@@ -119,7 +122,8 @@ pub record Midway (f : List ℕ) (a₀ : Account) (w₀ out₀ w out : List ℕ)
   pub within : at ≤ length f
   pub small : length f ≤ 65536
   pub good : Good a
-  is : (T : Rows) (form : Form) → reading f ≡ described form → minWords ≤ length w₀ → SchemaStands f w₀ T (form .names) (form .schema) → Telling f form a₀ w out₀ out at k page a
+  is : (T : Rows) (form : Form) → reading f ≡ described form → minWords ≤ length w₀ → SchemaStands f w₀ T (form .names) (form .schema)
+      → Telling f form a₀ w out₀ out at k page a
 
 pub midway-start : (f w out : List ℕ) (a : Account) → length f ≤ 65536 → Good a → Midway f a w out w out 0 0 (To 0) a
 unfolding linesOf maxFile resumed firsts
@@ -146,7 +150,8 @@ midway-start f w out a small good = record {
 }
 
 -- The page goes on from wherever it stands.
-goes-on : {out₀ a out : List ℕ} {page : Wrote} {b out′ : List ℕ} {r : Wrote} → Continues out₀ 0 a out page → Follows out page b out′ r → Continues out₀ 0 (a ++ b) out′ r
+goes-on : {out₀ a out : List ℕ} {page : Wrote} {b out′ : List ℕ} {r : Wrote} → Continues out₀ 0 a out page → Follows out page b out′ r
+    → Continues out₀ 0 (a ++ b) out′ r
 goes-on {out₀} {a} {out} {page} {b} {out′} {r} f g = go page refl
   where
     go : (p : Wrote) → page ≡ p → Continues out₀ 0 (a ++ b) out′ r
@@ -155,7 +160,8 @@ goes-on {out₀} {a} {out} {page} {b} {out′} {r} f g = go page refl
 
 module _ {f : List ℕ} {a₀ : Account} {w₀ out₀ w out : List ℕ} {at k : ℕ} {page : Wrote} {acc : Account} (m : Midway f a₀ w₀ out₀ w out at k page acc) where
   -- ---- A turn
-  module _ (here : at < length f) {ceiling : ℕ} (its : ceiling ≡ ceilingIn acc) {w′ out′ : List ℕ} {r : Turn} (given : Turns f at k ceiling w out page w′ out′ r)
+  module _ (here : at < length f) {ceiling : ℕ} (its : ceiling ≡ ceilingIn acc) {w′ out′ : List ℕ} {r : Turn}
+      (given : Turns f at k ceiling w out page w′ out′ r)
       (long : length w′ ≡ length w) where
     t : Turns f at k (ceilingIn acc) w out page w′ out′ r
     t = subst (λ n. Turns f at k n w out page w′ out′ r) its given
@@ -200,7 +206,8 @@ module _ {f : List ℕ} {a₀ : Account} {w₀ out₀ w out : List ℕ} {at k : 
           number-is : headLine (several k (y .qs)) k ≡ headLine m₀ (0 + length (x .ts))
           number-is =
               let number : k ≡ 0 + length (x .ts) = omega (arith, x .count, x .ran) in
-              let all : several k (y .qs) ≡ m₀ = ap (λ i. several i (y .qs)) (x .count) ∙ several-whole (x .before) (y .a) (y .qs) ∙ ap (λ l. ltb 1 (length l)) (y .all) in
+              let all : several k (y .qs) ≡ m₀ = ap (λ i. several i (y .qs)) (x .count) ∙ several-whole (x .before) (y .a) (y .qs) ∙ ap
+              (λ l. ltb 1 (length l)) (y .all) in
               ap (λ b. headLine b k) all ∙ ap (headLine m₀) number
 
           ends : (c : Checked) → check (ceilingIn acc) (form .schema) (y .a) ≡ c → Turned f k out page w′ out′ r (viewOf form (y .a)) (y .qs) c
@@ -212,10 +219,12 @@ module _ {f : List ℕ} {a₀ : Account} {w₀ out₀ w out : List ℕ} {at k : 
               let to : z .1 ≡ p = cc in
               let made : u .visits ≡ v = cc in
               let rest : RunAt = runAt (form .schema) (y .qs) (chargedTo acc (u .visits)) in
-              let went : runAt (form .schema) (y .a ∷ y .qs) acc ≡ after acc (typed u) (λ b. runAt (form .schema) (y .qs) b) = ap (λ c. after acc c (λ b. runAt (form .schema) (y .qs) b)) q in
+              let went : runAt (form .schema) (y .a ∷ y .qs) acc ≡ after acc (typed u) (λ b. runAt (form .schema) (y .qs) b) = ap
+              (λ c. after acc c (λ b. runAt (form .schema) (y .qs) b)) q in
               let joined : resumed (x .ts ++ u ∷ []) rest ≡ resumed (x .ts) (after acc (typed u) (λ b. runAt (form .schema) (y .qs) b)) =
               ap {B = RunAt} (λ e. record { account = rest .account; end = e }) (firsts-snoc (x .ts) u (rest .end)) in
-              let follows : Follows out page (headLine m₀ (0 + length (x .ts)) ++ answerLines (textIn form) u) out′ (z .1) = subst (λ l. Follows out page (l ++ answerLines (textIn form) u) out′ (z .1)) number-is (z .5) in
+              let follows : Follows out page (headLine m₀ (0 + length (x .ts)) ++ answerLines (textIn form) u) out′ (z .1) = subst
+              (λ l. Follows out page (l ++ answerLines (textIn form) u) out′ (z .1)) number-is (z .5) in
               record {
                 before = x .before ++ y .a ∷ [];
                 left = y .qs;
@@ -223,7 +232,8 @@ module _ {f : List ℕ} {a₀ : Account} {w₀ out₀ w out : List ℕ} {at k : 
                 are = append-assoc (x .before) (y .a ∷ []) (y .qs) ∙ y .all;
                 count = omega (arith, x .count, length-append (x .before) (y .a ∷ []));
                 ran = omega (arith, x .ran, length-append (x .before) (y .a ∷ []), length-append (x .ts) (u ∷ []));
-                runs = y .runs ∙ ap (resumed (x .ts)) went ∙ sym joined ∙ ap (λ n. resumed (x .ts ++ u ∷ []) (runAt (form .schema) (y .qs) (chargedTo acc n))) made;
+                runs = y .runs ∙ ap (resumed (x .ts)) went ∙ sym joined ∙ ap
+                    (λ n. resumed (x .ts ++ u ∷ []) (runAt (form .schema) (y .qs) (chargedTo acc n))) made;
                 ahead = subst (λ i. Ahead f i (y .qs)) place (z .3);
                 sound = y .later;
                 rows = z .4 .0;
@@ -232,18 +242,22 @@ module _ {f : List ℕ} {a₀ : Account} {w₀ out₀ w out : List ℕ} {at k : 
                     (continues-as (sym (lines-snoc (textIn form) m₀ 0 (x .ts) u)) (goes-on (x .written) follows));
               }
 
-      one-out : r ≡ Turn.Out → runAt (form .schema) (form .queries) a₀ ≡ record { account = chargedTo acc (ceilingIn acc); end = stopped (stopAt (ceilingIn acc)) }
+      one-out : r ≡ Turn.Out → runAt (form .schema) (form .queries) a₀ ≡ record
+          { account = chargedTo acc (ceilingIn acc); end = stopped (stopAt (ceilingIn acc)) }
       unfolding Turned runAt resumed
       one-out e = ends (check (ceilingIn acc) (form .schema) (next-one .a)) refl (next-one .turned)
         where
-          ends : (c : Checked) → check (ceilingIn acc) (form .schema) (next-one .a) ≡ c → Turned f k out page w′ out′ r (viewOf form (next-one .a)) (next-one .qs) c
+          ends : (c : Checked) → check (ceilingIn acc) (form .schema) (next-one .a) ≡ c
+              → Turned f k out page w′ out′ r (viewOf form (next-one .a)) (next-one .qs) c
               → runAt (form .schema) (form .queries) a₀ ≡ record { account = chargedTo acc (ceilingIn acc); end = stopped (stopAt (ceilingIn acc)) }
           ends exhausted q z =
               next-one .runs ∙ ap (λ c. resumed (x .ts) (after acc c (λ b. runAt (form .schema) (next-one .qs) b))) q
               ∙ ap {B = RunAt} (λ e. record { account = chargedTo acc (ceilingIn acc); end = e }) (firsts-stopped (x .ts) (stopAt (ceilingIn acc)))
-          ends (typed u) q z = let same : Turn.On (z .0) (z .1) (u .visits) ≡ Turn.Out = sym (z .2) ∙ e in let clash : _≡_ {A = ℕ} 0 1 = cc in absurd (omega arith)
+          ends (typed u) q z = let same : Turn.On (z .0) (z .1) (u .visits) ≡ Turn.Out = sym (z .2) ∙ e in let clash : _≡_ {A = ℕ} 0 1 = cc in absurd
+              (omega arith)
 
-    pub midway-on : (next : ℕ) (p : Wrote) (v : ℕ) → r ≡ Turn.On next p v → {acc′ : Account} → acc′ ≡ chargedTo acc v → Midway f a₀ w₀ out₀ w′ out′ next (k + 1) p acc′
+    pub midway-on : (next : ℕ) (p : Wrote) (v : ℕ) → r ≡ Turn.On next p v → {acc′ : Account} → acc′ ≡ chargedTo acc v
+        → Midway f a₀ w₀ out₀ w′ out′ next (k + 1) p acc′
     midway-on next p v e paid =
         let on = t .onward here next p v e in
         subst (Midway f a₀ w₀ out₀ w′ out′ next (k + 1) p) (sym paid) (record {
@@ -259,21 +273,25 @@ module _ {f : List ℕ} {a₀ : Account} {w₀ out₀ w out : List ℕ} {at k : 
         → RunsQueries f w₀ out₀ a₀ out′ (record { account = last; outcome = Outcome.Refused e })
     unfolding Told
     midway-out o {last} paid {e} i = record {
-      told = λ T form q l S. let y = one-out form l (m .is T form q l S) o in
-          (subst (λ x. Told out₀ out′ (Outcome.Refused e) (decideEnd (textIn form) (x .end))) (sym y) (e, refl, i ∙ ap stopAt its), paid ∙ ap (chargedTo acc) its ∙ sym (ap RunAt.account y));
+      told = λ T form q l S. let y = one-out form l (m .is T form q l S) o in (
+        subst (λ x. Told out₀ out′ (Outcome.Refused e) (decideEnd (textIn form) (x .end))) (sym y) (e, refl, i ∙ ap stopAt its),
+        paid ∙ ap (chargedTo acc) its ∙ sym (ap RunAt.account y),
+      );
     }
 
   -- ---- No query is left
   module _ (end : length f ≤ at) where
     -- what is decided stands on the page
     at-end : (T : Rows) (form : Form) → reading f ≡ described form → minWords ≤ length w₀ → SchemaStands f w₀ T (form .names) (form .schema)
-        → (ts : List Typed) × (runAt (form .schema) (form .queries) a₀ ≡ record { account = acc; end = all ts }) × Continues out₀ 0 (formLines (textIn form) ts) out page
+        → (ts : List Typed) × (runAt (form .schema) (form .queries) a₀ ≡ record { account = acc; end = all ts }) × Continues out₀ 0
+        (formLines (textIn form) ts) out page
     unfolding runAt resumed
     at-end T form q l S = let x = m .is T form q l S in go x (x .left) (x .are) (x .runs) (x .ahead)
       where
         go : (x : Telling f form a₀ w out₀ out at k page acc) (left : List Ast) → x .before ++ left ≡ form .queries
             → runAt (form .schema) (form .queries) a₀ ≡ resumed (x .ts) (runAt (form .schema) left acc) → Ahead f at left
-            → (ts : List Typed) × (runAt (form .schema) (form .queries) a₀ ≡ record { account = acc; end = all ts }) × Continues out₀ 0 (formLines (textIn form) ts) out page
+            → (ts : List Typed) × (runAt (form .schema) (form .queries) a₀ ≡ record { account = acc; end = all ts }) × Continues out₀ 0
+            (formLines (textIn form) ts) out page
         go x (a ∷ qs) e g A = absurd (omega (arith, query-ahead A))
         go x [] e g A =
             let whole : x .before ≡ form .queries = sym (append-nil (x .before)) ∙ e in
@@ -286,13 +304,16 @@ module _ {f : List ℕ} {a₀ : Account} {w₀ out₀ w out : List ℕ} {at k : 
     module _ (o : Outcome) (tell : (ls : List ℕ) → Continues out₀ 0 ls out page → Told out₀ out o (answered ls)) where
       by-page : RunsQueries f w₀ out₀ a₀ out (record { account = acc; outcome = o })
       by-page = record {
-        told = λ T form q l S. let y = at-end T form q l S in
-            (subst (λ x. Told out₀ out o (decideEnd (textIn form) (x .end))) (sym (y .1)) (tell (formLines (textIn form) (y .0)) (y .2)), sym (ap RunAt.account (y .1)));
+        told = λ T form q l S. let y = at-end T form q l S in (
+          subst (λ x. Told out₀ out o (decideEnd (textIn form) (x .end))) (sym (y .1)) (tell (formLines (textIn form) (y .0)) (y .2)),
+          sym (ap RunAt.account (y .1)),
+        );
       }
 
     pub midway-fits : (n : ℕ) → page ≡ To n → RunsQueries f w₀ out₀ a₀ out (record { account = acc; outcome = Outcome.Accepted n })
     unfolding Told
-    midway-fits n p = by-page (Outcome.Accepted n) (λ ls g. let h = whole-there g p in ((λ l. (ap Outcome.Accepted (h .0), rw (← h .0) (h .2))), λ l. absurd (omega (arith, h .0, h .1))))
+    midway-fits n p = by-page (Outcome.Accepted n)
+        (λ ls g. let h = whole-there g p in ((λ l. (ap Outcome.Accepted (h .0), rw (← h .0) (h .2))), λ l. absurd (omega (arith, h .0, h .1))))
 
     pub midway-full : page ≡ Full → RunsQueries f w₀ out₀ a₀ out (record { account = acc; outcome = Outcome.Refused Variants.AnswerTooLong })
     unfolding Told

@@ -37,10 +37,12 @@ use Rattle.desk.proofs.Continuing.{no-page, continues, continues-none, 
 -- ---- The line before
 
 pub no-heading : (out : List ℕ) (page : Wrote) (k : ℕ) {b : Bool} → b ≡ false → Follows out page (headLine b k) out page
-no-heading out page k none-needed = subst (λ b. Follows out page (headLine b k) out page) (sym none-needed) (refl, (λ n e l. subst (Continues out n [] out) (sym e) (continues-none out n l)), λ e. e)
+no-heading out page k none-needed = subst (λ b. Follows out page (headLine b k) out page) (sym none-needed)
+    (refl, (λ n e l. subst (Continues out n [] out) (sym e) (continues-none out n l)), λ e. e)
 
 module _ (k : ℕ) {b : Bool} (needed : b ≡ true) where
-  pub heading-after : {out out′ : List ℕ} {page r : Wrote} {n : ℕ} → page ≡ To n → Writes out n (hexLine (0x0b ∷ bytes₂ k)) out′ r → Follows out page (headLine b k) out′ r
+  pub heading-after : {out out′ : List ℕ} {page r : Wrote} {n : ℕ} → page ≡ To n → Writes out n (hexLine (0x0b ∷ bytes₂ k)) out′ r
+      → Follows out page (headLine b k) out′ r
   heading-after {out} {out′} {page} {r} {n} q f =
       subst (λ b. Follows out page (headLine b k) out′ r) (sym needed)
       (f .long, (λ m e l. let same : m ≡ n = cc in subst (λ i. Continues out i (headLine true k) out′ r) (sym same) (continues f)), λ e. no-page (sym q ∙ e))
@@ -139,8 +141,10 @@ module _ {f w : List ℕ} {ceiling : ℕ} {out w₁ out₁ : List ℕ} {q : Done
 
 -- ---- The turn
 
-module _ {f : List ℕ} {at : ℕ} {w w₁ : List ℕ} {next : ℕ} (loads : Loads f at w w₁ next) {ceiling : ℕ} {lent w₂ part : List ℕ} {q : Ended} (answers : Answers f w₁ ceiling lent w₂ part q) where
-  module _ (T : Rows) (d : Described) (qs : List Ast) (sound : Sound d) (long : minWords ≤ length w) (S : SchemaStands f w T (d .names) (d .schema)) (A : Ahead f at (d .ast ∷ qs)) where
+module _ {f : List ℕ} {at : ℕ} {w w₁ : List ℕ} {next : ℕ} (loads : Loads f at w w₁ next) {ceiling : ℕ} {lent w₂ part : List ℕ} {q : Ended}
+    (answers : Answers f w₁ ceiling lent w₂ part q) where
+  module _ (T : Rows) (d : Described) (qs : List Ast) (sound : Sound d) (long : minWords ≤ length w) (S : SchemaStands f w T (d .names) (d .schema))
+      (A : Ahead f at (d .ast ∷ qs)) where
     has-answered : Answered f lent w₂ part q d (check ceiling (d .schema) (d .ast))
     has-answered = answers .is T d sound (loads .stands T d qs sound long S A)
 
@@ -157,7 +161,8 @@ module _ {f : List ℕ} {at : ℕ} {w w₁ : List ℕ} {next : ℕ} (loads : Loa
       go d qs (typed t) h = let p = h .1 in let z : _≡_ {A = ℕ} 0 1 = cc in absurd (omega arith)
 
   module _ (a : Wrote) (visits : ℕ) (e : q ≡ Ended.Lines a visits) {k : ℕ} {b : Bool} (s : OneOfSeveral k next (length f) b) where
-    pub turn-on : (out out′ : List ℕ) (page written : Wrote) → ((text : List ℕ) → Continues lent 0 text part a → Follows out page (headLine b k ++ text) out′ written)
+    pub turn-on : (out out′ : List ℕ) (page written : Wrote) →
+        ((text : List ℕ) → Continues lent 0 text part a → Follows out page (headLine b k ++ text) out′ written)
         → Turns f at k ceiling w out page w₂ out′ (Turn.On next written visits)
     unfolding Turned Answered
     turn-on out out′ page written follows = record {
@@ -166,12 +171,20 @@ module _ {f : List ℕ} {at : ℕ} {w w₁ : List ℕ} {next : ℕ} (loads : Loa
       is = λ T d qs sd l S A. go d qs (loads .ahead d qs sd l A) (check ceiling (d .schema) (d .ast)) (has-answered T d qs sd l S A);
     }
       where
-        go : (d : Described) (qs : List Ast) → Ahead f next qs → (x : Checked) → Answered f lent w₂ part q d x → Turned f k out page w₂ out′ (Turn.On next written visits) d qs x
+        go : (d : Described) (qs : List Ast) → Ahead f next qs → (x : Checked) → Answered f lent w₂ part q d x
+            → Turned f k out page w₂ out′ (Turn.On next written visits) d qs x
         go d qs A exhausted h = let z : _≡_ {A = ℕ} 0 1 = cc in absurd (omega arith)
         go d qs A (typed t) h =
             let p = h .1 in
             let same : h .0 ≡ a = cc in
             let lines = answerLines (messageText (d .names) (d .schema)) t in
             let made : visits ≡ t .visits = cc in
-            let g : Continues lent 0 lines part a = subst (Continues lent 0 lines part) same (h .3) in
-            (next, written, ap (Turn.On next written) made, A, h .2, subst (λ m. Follows out page (headLine m k ++ lines) out′ written) (several-is s A) (follows lines g))
+            let g : Continues lent 0 lines part a = subst (Continues lent 0 lines part) same (h .3) in (
+              next,
+              written,
+              ap (Turn.On next written) made,
+              A,
+              h .2,
+              subst (λ m. Follows out page (headLine m k ++ lines) out′ written)
+                  (several-is s A) (follows lines g),
+            )

@@ -18,7 +18,8 @@ use Rattle.meaning.specs.Outcome.{Decided, turnedDown, answered, Outcome, Accep
 use Rattle.meaning.proofs.Tests.{cases, clash}
 use Rattle.meaning.proofs.Refused.{refused-when}
 use Rattle.meaning.proofs.Content.{says-exactly}
-use Rattle.editions.specs.Converted.{framesIn, predicates, isAbove, someAbove, widened, narrowed, widenRead, narrowRead, decideWiden, decideNarrow, outcomeWiden, outcomeNarrow}
+use Rattle.editions.specs.Converted.{framesIn, predicates, isAbove, someAbove, widened, narrowed, widenRead, narrowRead, decideWiden, decideNarrow}
+use Rattle.editions.specs.Converted.{outcomeWiden, outcomeNarrow}
 use Rattle.editions.specs.Demands.{WidenRefused, NarrowRefused, Converts}
 use Rattle.editions.proofs.Same.{widened-says, narrowed-says, out-and-back, back-and-out, widened-low}
 
@@ -59,7 +60,8 @@ unfolding flatMap
 in-frames [] h = absurd h
 in-frames (f ∷ fs) h = go (λ x. in-frames fs x) (any-append (predicates f) (flatMap predicates fs) h)
   where
-    go : (Any (λ p. 65536 ≤ p) (flatMap predicates fs) → AnyAbove fs) → Any (λ p. 65536 ≤ p) (predicates f) ⊎ Any (λ p. 65536 ≤ p) (flatMap predicates fs) → AnyAbove (f ∷ fs)
+    go : (Any (λ p. 65536 ≤ p) (flatMap predicates fs) → AnyAbove fs)
+        → Any (λ p. 65536 ≤ p) (predicates f) ⊎ Any (λ p. 65536 ≤ p) (flatMap predicates fs) → AnyAbove (f ∷ fs)
     go later (inl x) = inl x
     go later (inr x) = inr (later x)
 
@@ -79,7 +81,11 @@ module _ (words bytes : ℕ) (o : Outcome) (R : Refusal → Type 0) (file′ : L
   converts : Ends → ((i : Refusal) → R i → o ≡ refuse i words bytes) → Converts o R file′ words bytes
   unfolding refuse accept
   converts (refuses i h e) back = record {
-    refused-exactly = λ j. (λ q. let p : _≡_ {A = Outcome} o (refuse i words bytes) = e in let same : i ≡ j = refusal-same (sym (ap Outcome.result e) ∙ q) in subst R same h, λ r. ap Outcome.result (back j r));
+    refused-exactly = λ j. (
+      λ q. let p : _≡_ {A = Outcome} o (refuse i words bytes) = e in let same : i ≡ j = refusal-same
+          (sym (ap Outcome.result e) ∙ q) in subst R same h,
+      λ r. ap Outcome.result (back j r),
+    );
     refused-zeros = λ j q. ap Outcome.answer e;
     work-zeros = ap Outcome.work e;
     accepted = λ q. let z : Refused i ≡ Accepted = sym (ap Outcome.result e) ∙ q in let n : _≡_ {A = ℕ} 0 1 = cc in absurd (omega arith);
@@ -88,7 +94,10 @@ module _ (words bytes : ℕ) (o : Outcome) (R : Refusal → Type 0) (file′ : L
       refusal-same : {i j : Refusal} → Refused i ≡ Refused j → i ≡ j
       refusal-same q = cc
   converts (accepts l e) back = record {
-    refused-exactly = λ j. (λ q. let z : Accepted ≡ Refused j = sym (ap Outcome.result e) ∙ q in let n : _≡_ {A = ℕ} 0 1 = cc in absurd (omega arith), λ r. ap Outcome.result (back j r));
+    refused-exactly = λ j. (
+      λ q. let z : Accepted ≡ Refused j = sym (ap Outcome.result e) ∙ q in let n : _≡_ {A = ℕ} 0 1 = cc in absurd (omega arith),
+      λ r. ap Outcome.result (back j r),
+    );
     refused-zeros = λ j q. let z : Accepted ≡ Refused j = sym (ap Outcome.result e) ∙ q in let n : _≡_ {A = ℕ} 0 1 = cc in absurd (omega arith);
     work-zeros = ap Outcome.work e;
     accepted = λ q. (l, ap Outcome.answer e);
@@ -137,7 +146,8 @@ widen-converts file words bytes = converts words bytes (outcomeWiden file words 
     back i (WidenRefused.for-file h r) = so-ends (widen-refused file words i h (refused-when narrow file i .1 r)) (turned i words bytes)
     back i (WidenRefused.for-output d h e l) = so-ends (widen-answered file words d h e) (overflowing (widened file) words bytes l)
 
-    read : minWords ≤ words → (r : Reading) → readingOf narrow file ≡ r → Ends words bytes (outcomeWiden file words bytes) (WidenRefused file words bytes) (widened file)
+    read : minWords ≤ words → (r : Reading) → readingOf narrow file ≡ r
+        → Ends words bytes (outcomeWiden file words bytes) (WidenRefused file words bytes) (widened file)
     read h (refused i) e = let r = WidenRefused.for-file h (refused-when narrow file i .0 e) in refuses i r (back i r)
     read h (described d) e = cases (ltb bytes (length (widened file)))
         (λ q. let r = WidenRefused.for-output d h e (ltb-true bytes (length (widened file)) q) in refuses answerTooLong r (back answerTooLong r))
@@ -163,11 +173,13 @@ module _ (file : List ℕ) (words : ℕ) where
   unfolding narrowRead
   narrow-refused i h e = narrow-reads h ∙ ap (narrowRead file) e
 
-  narrow-above : (d : Form) → minWords ≤ words → readingOf wide file ≡ described d → someAbove (framesIn wide file) ≡ true → decideNarrow file words ≡ turnedDown numberTooWide
+  narrow-above : (d : Form) → minWords ≤ words → readingOf wide file ≡ described d → someAbove (framesIn wide file) ≡ true
+      → decideNarrow file words ≡ turnedDown numberTooWide
   unfolding narrowRead
   narrow-above d h e a = narrow-reads h ∙ ap (narrowRead file) e ∙ rw (a, narrowRead)
 
-  pub narrow-answered : (d : Form) → minWords ≤ words → readingOf wide file ≡ described d → someAbove (framesIn wide file) ≡ false → decideNarrow file words ≡ answered (narrowed file)
+  pub narrow-answered : (d : Form) → minWords ≤ words → readingOf wide file ≡ described d → someAbove (framesIn wide file) ≡ false
+      → decideNarrow file words ≡ answered (narrowed file)
   unfolding narrowRead
   narrow-answered d h e a = narrow-reads h ∙ ap (narrowRead file) e ∙ rw (a, narrowRead)
 
@@ -181,16 +193,21 @@ narrow-converts file words bytes = converts words bytes (outcomeNarrow file word
     back : (i : Refusal) → NarrowRefused file words bytes i → outcomeNarrow file words bytes ≡ refuse i words bytes
     back i (NarrowRefused.for-work h) = so-ends (narrow-short file words h) (turned workTooShort words bytes)
     back i (NarrowRefused.for-file h r) = so-ends (narrow-refused file words i h (refused-when wide file i .1 r)) (turned i words bytes)
-    back i (NarrowRefused.for-number d h e a) = so-ends (narrow-above file words d h e (above-some (flatMap predicates (framesIn wide file)) (frames-in (framesIn wide file) a))) (turned numberTooWide words bytes)
+    back i (NarrowRefused.for-number d h e a) = so-ends
+        (narrow-above file words d h e (above-some (flatMap predicates (framesIn wide file)) (frames-in (framesIn wide file) a)))
+        (turned numberTooWide words bytes)
     back i (NarrowRefused.for-output d h e a l) = so-ends (narrow-answered file words d h e a) (overflowing (narrowed file) words bytes l)
 
-    read : minWords ≤ words → (r : Reading) → readingOf wide file ≡ r → Ends words bytes (outcomeNarrow file words bytes) (NarrowRefused file words bytes) (narrowed file)
+    read : minWords ≤ words → (r : Reading) → readingOf wide file ≡ r
+        → Ends words bytes (outcomeNarrow file words bytes) (NarrowRefused file words bytes) (narrowed file)
     read h (refused i) e = let r = NarrowRefused.for-file h (refused-when wide file i .0 e) in refuses i r (back i r)
     read h (described d) e = cases (someAbove (framesIn wide file))
-        (λ a. let r = NarrowRefused.for-number d h e (in-frames (framesIn wide file) (some-above (flatMap predicates (framesIn wide file)) a)) in refuses numberTooWide r (back numberTooWide r))
+        (λ a. let r = NarrowRefused.for-number d h e (in-frames (framesIn wide file) (some-above (flatMap predicates (framesIn wide file)) a)) in
+        refuses numberTooWide r (back numberTooWide r))
         (λ a. cases (ltb bytes (length (narrowed file)))
         (λ q. let r = NarrowRefused.for-output d h e a (ltb-true bytes (length (narrowed file)) q) in refuses answerTooLong r (back answerTooLong r))
-        (λ q. let l = ltb-false bytes (length (narrowed file)) q in accepts l (so-ends (narrow-answered file words d h e a) (fitting (narrowed file) words bytes l))))
+        (λ q. let l = ltb-false bytes (length (narrowed file)) q in accepts l
+        (so-ends (narrow-answered file words d h e a) (fitting (narrowed file) words bytes l))))
 
     ends : Ends words bytes (outcomeNarrow file words bytes) (NarrowRefused file words bytes) (narrowed file)
     ends = cases (ltb words minWords)
@@ -200,18 +217,21 @@ narrow-converts file words bytes = converts words bytes (outcomeNarrow file word
 -- ---- Out and back
 
 -- "out and back through large enough slices gives the first file again"
-pub calls-out-and-back : (file : List ℕ) (d : Form) (words bytes bytes′ : ℕ) → minWords ≤ words → readingOf narrow file ≡ described d → length (widened file) ≤ maxFile → length (widened file) ≤ bytes → length file ≤ bytes′
+pub calls-out-and-back : (file : List ℕ) (d : Form) (words bytes bytes′ : ℕ) → minWords ≤ words → readingOf narrow file ≡ described d
+    → length (widened file) ≤ maxFile → length (widened file) ≤ bytes → length file ≤ bytes′
     → (outcomeWiden file words bytes ≡ accept (widened file) words bytes) × (outcomeNarrow (widened file) words bytes′ ≡ accept file words bytes′)
 unfolding outcomeWiden outcomeNarrow
 calls-out-and-back file d words bytes bytes′ h e small fits fits′ =
     let s = widened-says file d (says-exactly narrow file d .0 e) small in
     let r = says-exactly wide (widened file) d .1 (s .says) in (
       ap (λ x. finish x words bytes) (widen-answered file words d h e) ∙ fitting (widened file) words bytes fits,
-      ap (λ x. finish x words bytes′) (narrow-answered (widened file) words d h r (widened-low file d e) ∙ ap answered (out-and-back file d e)) ∙ fitting file words bytes′ fits′,
+      ap (λ x. finish x words bytes′) (narrow-answered (widened file) words d h r (widened-low file d e) ∙ ap answered (out-and-back file d e)) ∙
+          fitting file words bytes′ fits′,
     )
 
 -- and the other round, of a wide file that names no predicate above 65,535
-pub calls-back-and-out : (file : List ℕ) (d : Form) (words bytes bytes′ : ℕ) → minWords ≤ words → readingOf wide file ≡ described d → someAbove (framesIn wide file) ≡ false → length (narrowed file) ≤ bytes → length file ≤ bytes′
+pub calls-back-and-out : (file : List ℕ) (d : Form) (words bytes bytes′ : ℕ) → minWords ≤ words → readingOf wide file ≡ described d
+    → someAbove (framesIn wide file) ≡ false → length (narrowed file) ≤ bytes → length file ≤ bytes′
     → (outcomeNarrow file words bytes ≡ accept (narrowed file) words bytes) × (outcomeWiden (narrowed file) words bytes′ ≡ accept file words bytes′)
 unfolding outcomeWiden outcomeNarrow
 calls-back-and-out file d words bytes bytes′ h e low fits fits′ =

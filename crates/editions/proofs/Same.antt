@@ -58,7 +58,10 @@ none-later (p ∷ l) m h = cases (isAbove p) (λ q. clash (sym (rw (q, anyOf)) �
 pub all-narrow : (fs : List Frame) → All (Writable wide) fs → someAbove fs ≡ false → All (Writable narrow) fs
 unfolding someAbove flatMap
 all-narrow [] w h = tt
-all-narrow (f ∷ fs) w h = (narrow-writable f (w .0) (none-first (predicates f) (flatMap predicates fs) h), all-narrow fs (w .1) (none-later (predicates f) (flatMap predicates fs) h))
+all-narrow (f ∷ fs) w h = (
+  narrow-writable f (w .0) (none-first (predicates f) (flatMap predicates fs) h),
+  all-narrow fs (w .1) (none-later (predicates f) (flatMap predicates fs) h),
+)
 
 as-lawful : {from to : Edition} (c : Content) → Lawful from c → All (Writable to) (framesOf c) → Lawful to c
 as-lawful c h w = record {
@@ -116,7 +119,8 @@ narrowed-says file d s low = record {
   says = record {
     content = s .content;
     is = ap (fileOf narrow) fs;
-    size = let a = narrow-short (framesIn wide file) in let b : length (fileOf wide (framesIn wide file)) ≡ length file = ap length (ap (fileOf wide) fs ∙ sym (s .is)) in omega (arith, a, b, s .size);
+    size = let a = narrow-short (framesIn wide file) in let b : length (fileOf wide (framesIn wide file)) ≡ length file = ap length
+        (ap (fileOf wide) fs ∙ sym (s .is)) in omega (arith, a, b, s .size);
     lawful = as-lawful (s .content) (s .lawful) (all-narrow (framesOf (s .content)) (s .lawful .writable) (subst (λ l. someAbove l ≡ false) fs low));
     tree = s .tree;
   };
@@ -143,7 +147,8 @@ back-and-out file d e low =
     let s = says-exactly wide file d .0 e in
     let fs = says-frames wide file d s in
     ap (λ l. fileOf wide (framesIn narrow (fileOf narrow l))) fs
-    ∙ ap (fileOf wide) (frames-of narrow (framesOf (s .content)) (all-narrow (framesOf (s .content)) (s .lawful .writable) (subst (λ l. someAbove l ≡ false) fs low)))
+    ∙ ap (fileOf wide) (frames-of narrow (framesOf (s .content))
+    (all-narrow (framesOf (s .content)) (s .lawful .writable) (subst (λ l. someAbove l ≡ false) fs low)))
     ∙ sym (s .is)
 
 none-both : (l m : List ℕ) → anyOf isAbove l ≡ false → anyOf isAbove m ≡ false → anyOf isAbove (l ++ m) ≡ false

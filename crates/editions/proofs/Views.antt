@@ -28,11 +28,13 @@ pub data View : Frame → Type 0 where
   a-node : (n : Node) (p x : ℕ) → n .kind ≡ ExprKind.Fact p x → View (aNode n)
   plain : {f : Frame} → Plain f → View f
 
-node-plain : (n : Node) (k : ExprKind) → n .kind ≡ k → asExpr wide k ≡ asExpr narrow k → (ExprFits narrow k → ExprFits wide k) → (ExprFits wide k → ExprFits narrow k) → exprPredicates k ≡ [] → View (aNode n)
+node-plain : (n : Node) (k : ExprKind) → n .kind ≡ k → asExpr wide k ≡ asExpr narrow k → (ExprFits narrow k → ExprFits wide k)
+    → (ExprFits wide k → ExprFits narrow k) → exprPredicates k ≡ [] → View (aNode n)
 unfolding written asContent asNode predicates
 node-plain n k q same up down none =
     plain {f = aNode n} (record {
-      same = ap (λ s. kindByte (frameKind (aNode n)) ∷ bytes₄ (n .span .start) ++ bytes₄ (n .span .end) ++ s) (ap (asExpr wide) q ∙ same ∙ ap (asExpr narrow) (sym q));
+      same = ap (λ s. kindByte (frameKind (aNode n)) ∷ bytes₄ (n .span .start) ++ bytes₄ (n .span .end) ++ s)
+          (ap (asExpr wide) q ∙ same ∙ ap (asExpr narrow) (sym q));
       widens = λ h. (h .0, h .1, subst (ExprFits wide) (sym q) (up (subst (ExprFits narrow) q (h .2))));
       narrows = λ h. (h .0, h .1, subst (ExprFits narrow) (sym q) (down (subst (ExprFits wide) q (h .2))));
       none = ap exprPredicates q ∙ none;
@@ -140,7 +142,8 @@ shorter f = go f (view f)
   where
     go : (f : Frame) → View f → length (written narrow f) ≤ length (written wide f)
     go f (a-type p) = omega arith
-    go f (a-node n p x q) = subst (λ s. length s ≤ length (written wide (aNode n))) (sym (node-bytes narrow n p x q)) (subst (λ s. 14 ≤ length s) (sym (node-bytes wide n p x q)) (omega arith))
+    go f (a-node n p x q) = subst (λ s. length s ≤ length (written wide (aNode n))) (sym (node-bytes narrow n p x q))
+        (subst (λ s. 14 ≤ length s) (sym (node-bytes wide n p x q)) (omega arith))
     go f (plain y) = subst (λ s. length (written narrow f) ≤ length s) (sym (y .same)) (omega arith)
 
 pub narrow-writable : (f : Frame) → Writable wide f → anyOf isAbove (predicates f) ≡ false → Writable narrow f

@@ -12,7 +12,8 @@ use lib.Seq.{take-suc-set, length-take-le}
 use borrow.Author.Tests.{ltb-true, ltb-false}
 use Rattle.meaning.specs.Lines.{LF, lines, digit, decoded, someBytes}
 use Rattle.hex.specs.Digits.{orElse, digitW, byteOf, pairAt, firstLine, lineAt}
-use Rattle.hex.proofs.Line.{is-digit, no-digit, pair-within, pair-past, pair-below, headLine, others, decodedLine, decodedAt, othersAt, prefixed, prefixed-nil, prefixed-twice, lines-at-LF, lines-split, decoded-on, others-on}
+use Rattle.hex.proofs.Line.{is-digit, no-digit, pair-within, pair-past, pair-below, headLine, others, decodedLine, decodedAt, othersAt, prefixed}
+use Rattle.hex.proofs.Line.{prefixed-nil, prefixed-twice, lines-at-LF, lines-split, decoded-on, others-on}
 use Rattle.hex.proofs.Bytes.{From, ends, from, bytes-of, bytes-enough, bytes-too-many}
 use Rattle.frames.specs.declared.lines.Decoded.the-variants.{Bytes, Bad}
 use Rattle.frames.specs.Contracts.{Holds, Malformed, Decodes}
@@ -28,12 +29,14 @@ module _ (f : List ℕ) (i : ℕ) where
   no-high h = go (ltb (i + 1) (length f)) refl
     where
       go : (t : Bool) → ltb (i + 1) (length f) ≡ t → 256 ≡ orElse 256 (pairAt f i)
-      go true e = sym (ap (orElse 256) (pair-within f i (ltb-true (i + 1) (length f) e) ∙ ap (λ o. byteOf o (digit (getD f (i + 1) 0))) (no-digit (getD f i 0) h)))
+      go true e = sym (ap (orElse 256) (pair-within f i (ltb-true (i + 1) (length f) e) ∙ ap (λ o. byteOf o (digit (getD f (i + 1) 0)))
+          (no-digit (getD f i 0) h)))
       go false e = past (ltb-false (i + 1) (length f) e)
 
   module _ (room : i + 1 < length f) (high : digitW (getD f i 0) < 16) where
     byte-low : (o : Option ℕ) → digit (getD f (i + 1) 0) ≡ o → pairAt f i ≡ byteOf (some (digitW (getD f i 0))) o
-    byte-low o e = pair-within f i room ∙ ap (λ h. byteOf h (digit (getD f (i + 1) 0))) (is-digit (getD f i 0) high) ∙ ap (byteOf (some (digitW (getD f i 0)))) e
+    byte-low o e = pair-within f i room ∙ ap (λ h. byteOf h (digit (getD f (i + 1) 0))) (is-digit (getD f i 0) high) ∙ ap
+        (byteOf (some (digitW (getD f i 0)))) e
 
     pub no-low : 16 ≤ digitW (getD f (i + 1) 0) → 256 ≡ orElse 256 (pairAt f i)
     unfolding byteOf
@@ -79,13 +82,19 @@ module _ {f : List ℕ} {at : ℕ} {line : List ℕ} {i n : ℕ} (r : SoFar f at
         from = omega (arith, r .from);
         most = omega arith;
         room = length-set line n b ∙ r .room;
-        holds = r .holds ∙ ap (prefixed (take n line)) (decoded-on f i e) ∙ prefixed-twice (take n line) (b ∷ []) (decodedAt f (i + 2)) ∙ ap (λ s. prefixed s (decodedAt f (i + 2))) (sym longer);
+        holds = r .holds ∙ ap (prefixed (take n line)) (decoded-on f i e) ∙ prefixed-twice (take n line) (b ∷ []) (decodedAt f (i + 2)) ∙ ap
+            (λ s. prefixed s (decodedAt f (i + 2))) (sym longer);
         then = r .then ∙ others-on f i e;
       }
 
   module _ (begins : at < length f) where
     malformed : someBytes (decodedAt f at) ≡ none → Malformed f at
-    malformed e = record { first = headLine (lines (drop at f)); rest = othersAt f at; splits = lines-split f at begins; bytes = bytes-of (headLine (lines (drop at f))) ∙ e }
+    malformed e = record {
+      first = headLine (lines (drop at f));
+      rest = othersAt f at;
+      splits = lines-split f at begins;
+      bytes = bytes-of (headLine (lines (drop at f))) ∙ e;
+    }
 
     pub no-bytes : decodedAt f i ≡ none → Malformed f at
     unfolding someBytes
@@ -94,7 +103,8 @@ module _ {f : List ℕ} {at : ℕ} {line : List ℕ} {i n : ℕ} (r : SoFar f at
     module _ (here : i < length f) where
       closed-here : getD f i 0 ≡ LF → decodedAt f at ≡ some (take n line)
       unfolding decoded
-      closed-here e = r .holds ∙ ap (prefixed (take n line)) (ap (λ ls. decodedLine (headLine ls)) (lines-at-LF f i here e)) ∙ ap some (append-nil (take n line))
+      closed-here e = r .holds ∙ ap (prefixed (take n line)) (ap (λ ls. decodedLine (headLine ls)) (lines-at-LF f i here e)) ∙ ap some
+          (append-nil (take n line))
 
       pub empty : getD f i 0 ≡ LF → n ≡ 0 → Malformed f at
       unfolding someBytes
@@ -107,7 +117,8 @@ module _ {f : List ℕ} {at : ℕ} {line : List ℕ} {i n : ℕ} (r : SoFar f at
           record {
             first = headLine (lines (drop at f));
             splits = lines-split f at begins ∙ ap (λ ls. headLine (lines (drop at f)) ∷ ls) (r .then ∙ ap others (lines-at-LF f i here e));
-            bytes = bytes-of (headLine (lines (drop at f))) ∙ ap someBytes (closed-here e) ∙ bytes-enough (take n line) (omega (arith, long)) (omega (arith, long, r .most));
+            bytes = bytes-of (headLine (lines (drop at f))) ∙ ap someBytes (closed-here e) ∙ bytes-enough (take n line) (omega (arith, long))
+                (omega (arith, long, r .most));
             count = long;
             some = some-byte;
             most = r .most;

@@ -11,7 +11,8 @@ use lib.ListN.{length, drop, length-drop, drop-of-length-le}
 use borrow.Author.Tests.{eq-eqb, ne-eqb, ltb-true, ltb-false}
 use Rattle.hex.proofs.Line.{from-here}
 use Rattle.meaning.specs.Syntax.{Field}
-use Rattle.meaning.specs.Frame.{Edition, narrow, wide, Alternative, Got, got, fails, Reader, andThen, nothing, one, pair, triple, byte, two, four, manyIn, many, field, alternative, reference, whole}
+use Rattle.meaning.specs.Frame.{Edition, narrow, wide, Alternative, Got, got, fails, Reader, andThen, nothing, one, pair, triple, byte, two, four, manyIn}
+use Rattle.meaning.specs.Frame.{many, field, alternative, reference, whole}
 use Rattle.frames.specs.Contracts.{byteW, halfW, fullW, referenceSize, referenceW, wholly}
 use Rattle.frames.specs.Items.{fieldAt, alternativeAt, itemsAt}
 
@@ -38,7 +39,8 @@ sized-nothing a = record { reads = λ s i h. let here : i ≡ i + 0 = omega arit
 pub sized-as : {A : Type 0} {r : Reader A} {n : ℕ} {v w : List ℕ → ℕ → A} → ((s : List ℕ) (i : ℕ) → v s i ≡ w s i) → Sized r n v → Sized r n w
 sized-as {n = n} same r = record { reads = λ s i h. r .reads s i h ∙ ap (λ a. got a (drop (i + n) s)) (same s i); lacks = r .lacks }
 
-pub sized-then : {A B : Type 0} {r : Reader A} {m n : ℕ} {v : List ℕ → ℕ → A} {f : A → Reader B} {w : A → List ℕ → ℕ → B} → Sized r m v → ((a : A) → Sized (f a) n (w a)) → Sized (λ s. andThen (r s) f) (m + n) (λ s i. w (v s i) s (i + m))
+pub sized-then : {A B : Type 0} {r : Reader A} {m n : ℕ} {v : List ℕ → ℕ → A} {f : A → Reader B} {w : A → List ℕ → ℕ → B} → Sized r m v
+    → ((a : A) → Sized (f a) n (w a)) → Sized (λ s. andThen (r s) f) (m + n) (λ s i. w (v s i) s (i + m))
 unfolding andThen
 sized-then {r = r} {m = m} {n = n} {v = v} {f = f} {w = w} p q = record { reads = reads; lacks = lacks }
   where
@@ -58,13 +60,19 @@ sized-then {r = r} {m = m} {n = n} {v = v} {f = f} {w = w} p q = record { reads 
 
 pub sized-one : {A B : Type 0} {r : Reader A} {n : ℕ} {v : List ℕ → ℕ → A} (make : A → B) → Sized r n v → Sized (one make r) n (λ s i. make (v s i))
 unfolding one andThen
-sized-one make p = record { reads = λ s i h. ap (λ g. andThen g (λ a. got (make a))) (p .reads s i h); lacks = λ s i l h. ap (λ g. andThen g (λ a. got (make a))) (p .lacks s i l h) }
+sized-one make p = record {
+  reads = λ s i h. ap (λ g. andThen g (λ a. got (make a))) (p .reads s i h);
+  lacks = λ s i l h. ap (λ g. andThen g (λ a. got (make a))) (p .lacks s i l h);
+}
 
-pub sized-pair : {A B C : Type 0} {r : Reader A} {q : Reader B} {m n : ℕ} {v : List ℕ → ℕ → A} {w : List ℕ → ℕ → B} (make : A → B → C) → Sized r m v → Sized q n w → Sized (pair make r q) (m + n) (λ s i. make (v s i) (w s (i + m)))
+pub sized-pair : {A B C : Type 0} {r : Reader A} {q : Reader B} {m n : ℕ} {v : List ℕ → ℕ → A} {w : List ℕ → ℕ → B} (make : A → B → C) → Sized r m v
+    → Sized q n w → Sized (pair make r q) (m + n) (λ s i. make (v s i) (w s (i + m)))
 unfolding pair
 sized-pair make p q = sized-then p (λ a. sized-one (make a) q)
 
-pub sized-triple : {A B C D : Type 0} {r : Reader A} {q : Reader B} {p : Reader C} {l m n : ℕ} {u : List ℕ → ℕ → A} {v : List ℕ → ℕ → B} {w : List ℕ → ℕ → C} (make : A → B → C → D) → Sized r l u → Sized q m v → Sized p n w → Sized (triple make r q p) (l + (m + n)) (λ s i. make (u s i) (v s (i + l)) (w s (i + l + m)))
+pub sized-triple : {A B C D : Type 0} {r : Reader A} {q : Reader B} {p : Reader C} {l m n : ℕ} {u : List ℕ → ℕ → A} {v : List ℕ → ℕ → B}
+    {w : List ℕ → ℕ → C} (make : A → B → C → D) → Sized r l u → Sized q m v → Sized p n w
+    → Sized (triple make r q p) (l + (m + n)) (λ s i. make (u s i) (v s (i + l)) (w s (i + l + m)))
 unfolding triple
 sized-triple make x y z = sized-then x (λ a. sized-pair (make a) y z)
 
@@ -109,7 +117,8 @@ many-bound r c (suc m) zero (b ∷ s) h l = absurd (not-suc-le-zero l)
 many-bound r c (suc m) (suc n) [] h l = refl
 many-bound r c (suc m) (suc n) (b ∷ s) h l = go (r (b ∷ s)) refl (λ t k. many-bound r c m n t (omega arith) (omega arith))
   where
-    go : (g : Got _) → r (b ∷ s) ≡ g → ((t : List ℕ) → length t ≤ length s → manyIn m r t ≡ manyIn n r t) → andThen g (λ a. one (λ more. a ∷ more) (λ t. manyIn m r t)) ≡ andThen g (λ a. one (λ more. a ∷ more) (λ t. manyIn n r t))
+    go : (g : Got _) → r (b ∷ s) ≡ g → ((t : List ℕ) → length t ≤ length s → manyIn m r t ≡ manyIn n r t)
+        → andThen g (λ a. one (λ more. a ∷ more) (λ t. manyIn m r t)) ≡ andThen g (λ a. one (λ more. a ∷ more) (λ t. manyIn n r t))
     go (got a t) e same = ap (λ g. andThen g (λ more. got (a ∷ more))) (same t (c b s a t e))
     go fails e same = refl
 
@@ -121,14 +130,16 @@ module _ {A : Type 0} (r : Reader A) (s : List ℕ) (i : ℕ) where
   module _ (h : i < length s) where
     pub many-stop : r (drop i s) ≡ fails → many r (drop i s) ≡ fails
     unfolding many manyIn andThen
-    many-stop e = ap (many r) (from-here s i h) ∙ ap (λ g. andThen g (λ a. one (λ more. a ∷ more) (λ t. manyIn (length (drop (i + 1) s)) r t))) (ap r (sym (from-here s i h)) ∙ e)
+    many-stop e = ap (many r) (from-here s i h) ∙ ap (λ g. andThen g (λ a. one (λ more. a ∷ more) (λ t. manyIn (length (drop (i + 1) s)) r t)))
+        (ap r (sym (from-here s i h)) ∙ e)
 
     pub many-step : Shrinks r → (a : A) (j : ℕ) → i < j → r (drop i s) ≡ got a (drop j s) → many r (drop i s) ≡ one (λ more. a ∷ more) (many r) (drop j s)
     unfolding many manyIn andThen one
     many-step c a j l e =
         ap (many r) (from-here s i h)
         ∙ ap (λ g. andThen g (λ a. one (λ more. a ∷ more) (λ t. manyIn (length (drop (i + 1) s)) r t))) (ap r (sym (from-here s i h)) ∙ e)
-        ∙ ap (λ g. andThen g (λ more. got (a ∷ more))) (many-bound r c (length (drop (i + 1) s)) (length (drop j s)) (drop j s) (omega (arith, length-drop (i + 1) s, length-drop j s)) (omega arith))
+        ∙ ap (λ g. andThen g (λ more. got (a ∷ more)))
+        (many-bound r c (length (drop (i + 1) s)) (length (drop j s)) (drop j s) (omega (arith, length-drop (i + 1) s, length-drop j s)) (omega arith))
 
 -- ---- Items of one size
 
@@ -242,5 +253,6 @@ numbers-are s i xs t h e = items-are sized-two s i xs t h e
 pub alternatives-of : (s : List ℕ) (i k : ℕ) → i + k * 8 ≡ length s → many alternative (drop i s) ≡ got (itemsAt (alternativeAt s) 8 i k) []
 alternatives-of s i k e = items-of sized-alternative s i k e
 
-pub alternatives-are : (s : List ℕ) (i : ℕ) (xs : List Alternative) (t : List ℕ) → i ≤ length s → many alternative (drop i s) ≡ got xs t → Items (alternativeAt s) 8 s i xs t
+pub alternatives-are : (s : List ℕ) (i : ℕ) (xs : List Alternative) (t : List ℕ) → i ≤ length s → many alternative (drop i s) ≡ got xs t
+    → Items (alternativeAt s) 8 s i xs t
 alternatives-are s i xs t h e = items-are sized-alternative s i xs t h e

@@ -11,10 +11,13 @@ use lib.ListN.{length, getD, getElem?, drop, drop-of-length-le, List·getD-eq-de
 use borrow.Author.Tests.{ne-eqb, eqb-true, eqb-false, ltb-true, ltb-false, le-leb, lt-leb}
 use Rattle.text.specs.Utf8.{both}
 use Rattle.hex.proofs.Line.{from-here}
-use Rattle.meaning.specs.Frame.{Edition, limits, name, schemaType, predicate, node, query, theLimits, aType, aPredicate, aNode, theQuery, Got, got, fails, Reader, andThen, nothing, one, pair, triple, byte, two, many, entry, choice, reference, typeShapes, valueTypes, headAndBody, exprKinds, spanAndKind, rest, frame, whole, frameOf}
+use Rattle.meaning.specs.Frame.{Edition, limits, name, schemaType, predicate, node, query, theLimits, aType, aPredicate, aNode, theQuery, Got, got, fails}
+use Rattle.meaning.specs.Frame.{Reader, andThen, nothing, one, pair, triple, byte, two, many, entry, choice, reference, typeShapes, valueTypes}
+use Rattle.meaning.specs.Frame.{headAndBody, exprKinds, spanAndKind, rest, frame, whole, frameOf}
 use Rattle.frames.specs.Contracts.{kindAt, byteW, halfW, referenceSize, wholly, isFrame, sizeW, typeShape, valueType, statement, exprKind}
 use Rattle.frames.proofs.Following.{no-kind}
-use Rattle.frames.proofs.Readers.{Sized, sized-nothing, sized-byte, sized-two, sized-four, sized-reference, sized-one, sized-pair, sized-field, sized-alternative, many-end, many-stop, items-test}
+use Rattle.frames.proofs.Readers.{Sized, sized-nothing, sized-byte, sized-two, sized-four, sized-reference, sized-one, sized-pair, sized-field}
+use Rattle.frames.proofs.Readers.{sized-alternative, many-end, many-stop, items-test}
 use Rattle.frames.specs.Items.{statementAt}
 use Rattle.frames.proofs.Statements.{choice-at, choice-past, statement-none, statement-lacks, statements-step}
 
@@ -42,7 +45,8 @@ pub one-test : {A B : Type 0} (make : A → B) (r : Reader A) (s : List ℕ) →
 unfolding one
 one-test make r s = made-test make (r s)
 
-pub sized-test : {A : Type 0} {r : Reader A} {n : ℕ} {v : List ℕ → ℕ → A} → Sized r n v → (s : List ℕ) (i : ℕ) → i ≤ length s → wholly (r (drop i s)) ≡ eqb (length s) (i + n)
+pub sized-test : {A : Type 0} {r : Reader A} {n : ℕ} {v : List ℕ → ℕ → A} → Sized r n v → (s : List ℕ) (i : ℕ) → i ≤ length s
+    → wholly (r (drop i s)) ≡ eqb (length s) (i + n)
 sized-test {r = r} {n = n} {v = v} p s i h = go (ltb (length s) (i + n)) refl
   where
     go : (t : Bool) → ltb (length s) (i + n) ≡ t → wholly (r (drop i s)) ≡ eqb (length s) (i + n)
@@ -67,7 +71,8 @@ module _ {A : Type 0} {r : Reader A} {m : ℕ} {v : List ℕ → ℕ → A} (p :
       go false e = p .lacks s i (ltb-false (length s) i e) h
 
   -- t is the test of what follows, false where there is no room for the part before it
-  pub after-test : {B : Type 0} (f : A → Reader B) (t : Bool) → (i + suc m ≤ length s → wholly (f (v s i) (drop (i + suc m) s)) ≡ t) → (length s < i + suc m → t ≡ false) → wholly (andThen (r (drop i s)) f) ≡ t
+  pub after-test : {B : Type 0} (f : A → Reader B) (t : Bool) → (i + suc m ≤ length s → wholly (f (v s i) (drop (i + suc m) s)) ≡ t)
+      → (length s < i + suc m → t ≡ false) → wholly (andThen (r (drop i s)) f) ≡ t
   unfolding andThen
   after-test f t on short = go (ltb (length s) (i + suc m)) refl
     where
@@ -82,13 +87,15 @@ pub data Rows {A : Type 0} (s : List ℕ) (i : ℕ) : List (Reader A) → List B
   done : Rows s i [] []
   row : {r : Reader A} {rs : List (Reader A)} {t : Bool} {ts : List Bool} → wholly (r (drop i s)) ≡ t → Rows s i rs ts → Rows s i (r ∷ rs) (t ∷ ts)
 
-row-test : {A : Type 0} {s : List ℕ} {i : ℕ} {rs : List (Reader A)} {ts : List Bool} → Rows s i rs ts → (b : ℕ) → wholly (entry (getElem? rs b) (drop i s)) ≡ getD ts b false
+row-test : {A : Type 0} {s : List ℕ} {i : ℕ} {rs : List (Reader A)} {ts : List Bool} → Rows s i rs ts → (b : ℕ)
+    → wholly (entry (getElem? rs b) (drop i s)) ≡ getD ts b false
 unfolding entry
 row-test done b = fails-test fails refl
 row-test (row e q) zero = e
 row-test (row e q) (suc b) = row-test q b
 
-pub choice-test : {A : Type 0} {table : List (Reader A)} (ts : List Bool) (s : List ℕ) (i : ℕ) → i < length s → Rows s (i + 1) table ts → wholly (choice table (drop i s)) ≡ getD ts (byteW s i) false
+pub choice-test : {A : Type 0} {table : List (Reader A)} (ts : List Bool) (s : List ℕ) (i : ℕ) → i < length s → Rows s (i + 1) table ts
+    → wholly (choice table (drop i s)) ≡ getD ts (byteW s i) false
 choice-test {table = table} ts s i h q = ap wholly (choice-at table s i h) ∙ row-test q (byteW s i)
 
 -- ---- Statements
@@ -98,7 +105,8 @@ module _ (s : List ℕ) (i : ℕ) where
   unfolding whole
   fill-done h = ap wholly (many-end statement s i h)
 
-  pub fill-on : 0 < sizeW (byteW s i) → i + sizeW (byteW s i) ≤ length s → wholly (many statement (drop i s)) ≡ wholly (many statement (drop (i + sizeW (byteW s i)) s))
+  pub fill-on : 0 < sizeW (byteW s i) → i + sizeW (byteW s i) ≤ length s
+      → wholly (many statement (drop i s)) ≡ wholly (many statement (drop (i + sizeW (byteW s i)) s))
   fill-on p h = ap wholly (statements-step s i p h) ∙ one-test (λ more. statementAt s i ∷ more) (many statement) (drop (i + sizeW (byteW s i)) s)
 
   module _ (here : i < length s) where
@@ -119,7 +127,8 @@ module _ {A : Type 0} (s : List ℕ) (i : ℕ) (h : i ≤ length s) {rs : List (
   numbers : (make : ℕ → ℕ → A) → Rows s i rs ts → Rows s i (pair make two two ∷ rs) (eqb (length s) (i + 4) ∷ ts)
   numbers make q = row (sized-test (sized-pair make sized-two sized-two) s i h) q
 
-  listed : {B : Type 0} {r : Reader B} {m : ℕ} {v : List ℕ → ℕ → B} → Sized r (suc m) v → (make : List B → A) → Rows s i rs ts → Rows s i (one make (many r) ∷ rs) (eqb ((length s - i) % suc m) 0 ∷ ts)
+  listed : {B : Type 0} {r : Reader B} {m : ℕ} {v : List ℕ → ℕ → B} → Sized r (suc m) v → (make : List B → A) → Rows s i rs ts
+      → Rows s i (one make (many r) ∷ rs) (eqb ((length s - i) % suc m) 0 ∷ ts)
   listed {r = r} p make q = row (one-test make (many r) (drop i s) ∙ items-test p s i h) q
 
 pub up : (k : ℕ) {b : ℕ} → k ≤ b → (b ≡ k → ⊥) → suc k ≤ b
@@ -139,7 +148,8 @@ module _ (ed : Edition) (s : List ℕ) where
 
   -- 00 to 05
   abbrev pub typeTests : List Bool
-  typeTests = eqb (length s) 2 ∷ eqb (length s) 2 ∷ eqb (length s) 2 ∷ eqb (length s) (2 + referenceSize ed) ∷ eqb ((length s - 2) % 4) 0 ∷ eqb ((length s - 2) % 8) 0 ∷ []
+  typeTests = eqb (length s) 2 ∷ eqb (length s) 2 ∷ eqb (length s) 2 ∷ eqb (length s) (2 + referenceSize ed) ∷ eqb ((length s - 2) % 4) 0 ∷ eqb
+      ((length s - 2) % 8) 0 ∷ []
 
   pub type-test : 2 ≤ length s → isFrame ed (some schemaType) (drop 1 s) ≡ getD typeTests (byteW s 1) false
   unfolding frameOf frame typeShapes
@@ -150,7 +160,8 @@ module _ (ed : Edition) (s : List ℕ) where
       s
       1
       h
-      (plain s 2 h _ (plain s 2 h _ (plain s 2 h _ (row (sized-test (sized-one _ (sized-reference ed)) s 2 h) (listed s 2 h sized-field _ (listed s 2 h sized-alternative _ done))))))
+      (plain s 2 h _ (plain s 2 h _ (plain s 2 h _
+      (row (sized-test (sized-one _ (sized-reference ed)) s 2 h) (listed s 2 h sized-field _ (listed s 2 h sized-alternative _ done))))))
 
   pub type-at : 2 ≤ length s → (k : ℕ) → byteW s 1 ≡ k → getD typeTests k false ≡ isFrame ed (some schemaType) (drop 1 s)
   type-at h k e = sym (type-test h ∙ ap (λ b. getD typeTests b false) e)
@@ -191,7 +202,8 @@ module _ (ed : Edition) (s : List ℕ) where
       1
       (λ n. pair (aPredicate n) two valueType)
       (wholly (valueType (drop 5 s)))
-      (λ h. after-test sized-two s 3 (λ k. one (aPredicate (halfW s 1) k) valueType) (wholly (valueType (drop 5 s))) (λ l. one-test (aPredicate (halfW s 1) (halfW s 3)) valueType (drop 5 s)) (λ l. value-short (omega arith)))
+      (λ h. after-test sized-two s 3 (λ k. one (aPredicate (halfW s 1) k) valueType) (wholly (valueType (drop 5 s)))
+      (λ l. one-test (aPredicate (halfW s 1) (halfW s 3)) valueType (drop 5 s)) (λ l. value-short (omega arith)))
       (λ h. value-short (omega arith))
 
   pub predicate-test : 6 ≤ length s → isFrame ed (some predicate) (drop 1 s) ≡ getD valueTests (byteW s 5) false
@@ -235,7 +247,8 @@ module _ (ed : Edition) (s : List ℕ) where
       eqb (length s) 10 ∷ eqb (length s) 10 ∷ eqb (length s) 10 ∷ eqb (length s) 12 ∷
       eqb (length s) 10 ∷ eqb (length s) 10 ∷ eqb (length s) 12 ∷ eqb (length s) 13 ∷
       eqb ((length s - 10) % 4) 0 ∷ eqb (length s) 14 ∷ eqb (length s) 12 ∷ eqb ((length s - 10) % 2) 0 ∷
-      both (leb 12 (length s)) (wholly (many statement (drop 12 s))) ∷ eqb (length s) (10 + (referenceSize ed + 2)) ∷ eqb ((length s - 10) % 2) 0 ∷ eqb (length s) 10 ∷
+      both (leb 12 (length s)) (wholly (many statement (drop 12 s))) ∷ eqb (length s) (10 + (referenceSize ed + 2)) ∷ eqb ((length s - 10) % 2) 0 ∷
+      eqb (length s) 10 ∷
       eqb (length s) 14 ∷ []
 
   kind-short : length s ≤ 9 → wholly (exprKind ed (drop 9 s)) ≡ false
@@ -267,7 +280,8 @@ module _ (ed : Edition) (s : List ℕ) where
       (plain s 10 h _ (plain s 10 h _ (plain s 10 h _ (number s 10 h _
       (plain s 10 h _ (plain s 10 h _ (number s 10 h _ (row (sized-test (sized-pair _ sized-two sized-byte) s 10 h)
       (listed s 10 h sized-field _ (numbers s 10 h _ (number s 10 h _ (listed s 10 h sized-two _
-      (row (one-test _ headAndBody (drop 10 s) ∙ body-test 10) (row (sized-test (sized-pair _ (sized-reference ed) sized-two) s 10 h) (listed s 10 h sized-two _ (plain s 10 h _
+      (row (one-test _ headAndBody (drop 10 s) ∙ body-test 10)
+      (row (sized-test (sized-pair _ (sized-reference ed) sized-two) s 10 h) (listed s 10 h sized-two _ (plain s 10 h _
       (numbers s 10 h _ done)))))))))))))))))
 
   pub node-at : 10 ≤ length s → (k : ℕ) → byteW s 9 ≡ k → getD nodeTests k false ≡ isFrame ed (some node) (drop 1 s)

@@ -31,7 +31,8 @@ abbrev rows : List (Reader QueryStmt)
 rows = pair QueryStmt.Bind two two ∷ one QueryStmt.Implicit two ∷ one QueryStmt.Negation two ∷ pair QueryStmt.Deny two two ∷ pair QueryStmt.Compare two two ∷ []
 
 module _ (s : List ℕ) (i : ℕ) where
-  two-nodes : (make : ℕ → ℕ → QueryStmt) → i + 5 ≤ length s → pair make two two (drop (i + 1) s) ≡ got (make (halfW s (i + 1)) (halfW s (i + 3))) (drop (i + 5) s)
+  two-nodes : (make : ℕ → ℕ → QueryStmt) → i + 5 ≤ length s → pair make two two (drop (i + 1) s) ≡ got (make (halfW s (i + 1)) (halfW s (i + 3)))
+      (drop (i + 5) s)
   two-nodes make h =
       let u : i + 1 + 2 ≡ i + 3 = omega arith in
       let v : i + 1 + (2 + 2) ≡ i + 5 = omega arith in
@@ -42,7 +43,8 @@ module _ (s : List ℕ) (i : ℕ) where
       let v : i + 1 + 2 ≡ i + 3 = omega arith in
       rw v at (sized-one make sized-two .reads s (i + 1) (omega arith))
 
-  row-reads : (b : ℕ) → 0 < sizeW b → i + sizeW b ≤ length s → entry (getElem? rows b) (drop (i + 1) s) ≡ got (statementOf b (halfW s (i + 1)) (halfW s (i + 3))) (drop (i + sizeW b) s)
+  row-reads : (b : ℕ) → 0 < sizeW b → i + sizeW b ≤ length s → entry (getElem? rows b) (drop (i + 1) s) ≡ got
+      (statementOf b (halfW s (i + 1)) (halfW s (i + 3))) (drop (i + sizeW b) s)
   unfolding entry
   row-reads zero p h = two-nodes QueryStmt.Bind h
   row-reads (suc zero) p h = one-node QueryStmt.Implicit h
@@ -70,7 +72,8 @@ module _ (s : List ℕ) (i : ℕ) where
   row-none (suc (suc (suc (suc (suc b))))) e = refl
 
   module _ (here : i < length s) where
-    pub statement-reads : 0 < sizeW (byteW s i) → i + sizeW (byteW s i) ≤ length s → statement (drop i s) ≡ got (statementAt s i) (drop (i + sizeW (byteW s i)) s)
+    pub statement-reads : 0 < sizeW (byteW s i) → i + sizeW (byteW s i) ≤ length s
+        → statement (drop i s) ≡ got (statementAt s i) (drop (i + sizeW (byteW s i)) s)
     unfolding statements
     statement-reads p h = choice-at rows s i here ∙ row-reads (byteW s i) p h
 
@@ -112,7 +115,8 @@ statement-shrinks b s a t e = go (next (b ∷ s) 0 (omega arith))
 
 -- ---- Statements to the frame's end
 
-pub statements-step : (s : List ℕ) (i : ℕ) → 0 < sizeW (byteW s i) → i + sizeW (byteW s i) ≤ length s → many statement (drop i s) ≡ one (λ more. statementAt s i ∷ more) (many statement) (drop (i + sizeW (byteW s i)) s)
+pub statements-step : (s : List ℕ) (i : ℕ) → 0 < sizeW (byteW s i) → i + sizeW (byteW s i) ≤ length s
+    → many statement (drop i s) ≡ one (λ more. statementAt s i ∷ more) (many statement) (drop (i + sizeW (byteW s i)) s)
 statements-step s i p h =
     let here : i < length s = omega arith in
     many-step statement s i here statement-shrinks (statementAt s i) (i + sizeW (byteW s i)) (omega arith) (statement-reads s i here p h)
@@ -124,7 +128,8 @@ statements-of s i (x ∷ xs) (then p h f) = statements-step s i p h ∙ ap (λ g
 
 data Opened (s : List ℕ) (i : ℕ) (t : List ℕ) : List QueryStmt → Type 0 where
   nothing-left : i ≡ length s → t ≡ [] → Opened s i t []
-  one-more : {xs : List QueryStmt} → 0 < sizeW (byteW s i) → i + sizeW (byteW s i) ≤ length s → many statement (drop (i + sizeW (byteW s i)) s) ≡ got xs t → Opened s i t (statementAt s i ∷ xs)
+  one-more : {xs : List QueryStmt} → 0 < sizeW (byteW s i) → i + sizeW (byteW s i) ≤ length s
+      → many statement (drop (i + sizeW (byteW s i)) s) ≡ got xs t → Opened s i t (statementAt s i ∷ xs)
 
 -- a list that is read, by its first statement
 opened : (s : List ℕ) (i : ℕ) → i ≤ length s → (xs : List QueryStmt) (t : List ℕ) → many statement (drop i s) ≡ got xs t → Opened s i t xs
@@ -137,7 +142,8 @@ opened s i h xs t e = start (ltb i (length s)) refl
         let v : [] ≡ t = cc in
         subst (λ ys. Opened s i t ys) u (nothing-left q (sym v))
 
-    after : 0 < sizeW (byteW s i) → i + sizeW (byteW s i) ≤ length s → (g : Got (List QueryStmt)) → many statement (drop (i + sizeW (byteW s i)) s) ≡ g → andThen g (λ more. got (statementAt s i ∷ more)) ≡ got xs t → Opened s i t xs
+    after : 0 < sizeW (byteW s i) → i + sizeW (byteW s i) ≤ length s → (g : Got (List QueryStmt))
+        → many statement (drop (i + sizeW (byteW s i)) s) ≡ g → andThen g (λ more. got (statementAt s i ∷ more)) ≡ got xs t → Opened s i t xs
     after p l (got ys r) q m =
         let u : statementAt s i ∷ ys ≡ xs = cc in
         let v : r ≡ t = cc in
@@ -159,5 +165,7 @@ statements-are s i h [] t e = go (opened s i h [] t e)
     go (nothing-left q all) = (end q, all)
 statements-are s i h (x ∷ xs) t e = go x xs (opened s i h (x ∷ xs) t e) (λ l q. statements-are s (i + sizeW (byteW s i)) l xs t q)
   where
-    go : (x : QueryStmt) (xs : List QueryStmt) → Opened s i t (x ∷ xs) → (i + sizeW (byteW s i) ≤ length s → many statement (drop (i + sizeW (byteW s i)) s) ≡ got xs t → Fill s (i + sizeW (byteW s i)) xs × (t ≡ [])) → Fill s i (x ∷ xs) × (t ≡ [])
+    go : (x : QueryStmt) (xs : List QueryStmt) → Opened s i t (x ∷ xs)
+        → (i + sizeW (byteW s i) ≤ length s → many statement (drop (i + sizeW (byteW s i)) s) ≡ got xs t
+        → Fill s (i + sizeW (byteW s i)) xs × (t ≡ [])) → Fill s i (x ∷ xs) × (t ≡ [])
     go x xs (one-more p l q) on = let m = on l q in (then p l (m .0), m .1)

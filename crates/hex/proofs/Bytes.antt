@@ -12,7 +12,8 @@ use lib.Seq.{ext-getD}
 use borrow.Author.Tests.{eqb-true, eqb-false, lt-ltb, le-ltb, le-leb, lt-leb, leb-true, ltb-true, ltb-false}
 use Rattle.meaning.specs.Lines.{Line, closed, unclosed, LF, lines, digit, decoded, maxBytes, atMost, someBytes, bytesOf}
 use Rattle.hex.specs.Digits.{orElse, digitW, digitsW, pairAt, firstLine, lineAt}
-use Rattle.hex.proofs.Line.{no-some, digit-below, digit-same, digit-other, pair-below, headLine, decodedLine, decodedAt, prefixed, pair-digits, lines-at-LF, lines-at-end, decoded-on, decoded-none}
+use Rattle.hex.proofs.Line.{no-some, digit-below, digit-same, digit-other, pair-below, headLine, decodedLine, decodedAt, prefixed, pair-digits}
+use Rattle.hex.proofs.Line.{lines-at-LF, lines-at-end, decoded-on, decoded-none}
 
 -- ---- One place
 
@@ -168,8 +169,10 @@ same-pair f a b c p q =
     let lx = digit-below (getD f (a + 1) 0) (x .l) (x .low) in
     let ly = digit-below (getD f (b + 1) 0) (y .l) (y .low) in
     let h : y .h ≡ x .h = omega (arith, x .is, y .is, lx, ly) in
-    let l : y .l ≡ x .l = omega (arith, x .is, y .is, lx, ly) in
-    (digit-same (getD f a 0) (getD f b 0) (x .h) (x .high) (y .high ∙ ap some h), digit-same (getD f (a + 1) 0) (getD f (b + 1) 0) (x .l) (x .low) (y .low ∙ ap some l))
+    let l : y .l ≡ x .l = omega (arith, x .is, y .is, lx, ly) in (
+      digit-same (getD f a 0) (getD f b 0) (x .h) (x .high) (y .high ∙ ap some h),
+      digit-same (getD f (a + 1) 0) (getD f (b + 1) 0) (x .l) (x .low) (y .low ∙ ap some l),
+    )
 
 -- The same bytes have the same digits, up to LF.
 pub same-digits : (f s : List ℕ) (a b : ℕ) → decodedAt f a ≡ some s → decodedAt f b ≡ some s → (k : ℕ) → k ≤ 2 * length s → getD f (a + k) 0 ≡ getD f (b + k) 0
@@ -178,7 +181,9 @@ same-digits f [] a b p q k h =
     rw z (spells f a [] p .close ∙ sym (spells f b [] q .close))
 same-digits f (c ∷ s) a b p q k h = go (from f a (c ∷ s) p) (from f b (c ∷ s) q) (λ m n j l. same-digits f s (a + 2) (b + 2) m n j l) k h
   where
-    go : From f a (c ∷ s) → From f b (c ∷ s) → (decodedAt f (a + 2) ≡ some s → decodedAt f (b + 2) ≡ some s → (k : ℕ) → k ≤ 2 * length s → getD f (a + 2 + k) 0 ≡ getD f (b + 2 + k) 0) → (k : ℕ) → k ≤ 2 * suc (length s) → getD f (a + k) 0 ≡ getD f (b + k) 0
+    go : From f a (c ∷ s) → From f b (c ∷ s) →
+        (decodedAt f (a + 2) ≡ some s → decodedAt f (b + 2) ≡ some s → (k : ℕ) → k ≤ 2 * length s → getD f (a + 2 + k) 0 ≡ getD f (b + 2 + k) 0)
+        → (k : ℕ) → k ≤ 2 * suc (length s) → getD f (a + k) 0 ≡ getD f (b + k) 0
     go (more m x) (more n y) on zero h = rw (add-zero a, add-zero b) (same-pair f a b c m n .0)
     go (more m x) (more n y) on (suc zero) h = same-pair f a b c m n .1
     go (more m x) (more n y) on (suc (suc k)) h =
@@ -196,7 +201,8 @@ same-byte f a b x y p q u v =
     omega (arith, c .is, d .is)
 
 -- Lines whose digits are the same up to LF have the same bytes.
-module _ (f : List ℕ) (a b n : ℕ) (s t : List ℕ) (p : Spells f a s) (q : Spells f b t) (same : (k : ℕ) → k ≤ n → getD f (a + k) 0 ≡ getD f (b + k) 0) (close : getD f (a + n) 0 ≡ LF) where
+module _ (f : List ℕ) (a b n : ℕ) (s t : List ℕ) (p : Spells f a s) (q : Spells f b t) (same : (k : ℕ) → k ≤ n → getD f (a + k) 0 ≡ getD f (b + k) 0)
+    (close : getD f (a + n) 0 ≡ LF) where
   first-LF : (c m : ℕ) (u : List ℕ) → Spells f c u → getD f (c + m) 0 ≡ LF → 2 * length u ≤ m
   first-LF c m u r e = go (ltb m (2 * length u)) refl
     where

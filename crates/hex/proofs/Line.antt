@@ -40,7 +40,8 @@ unfolding position
 character c [] n e = no-some e
 character c (a ∷ l) n e = go (eqb c a) refl (position (eqb c) l) (λ m q. character c l m q) e
   where
-    go : (b : Bool) → eqb c a ≡ b → (o : Option ℕ) → ((m : ℕ) → o ≡ some m → c ≡ getD l m 0) → elim b [ true ↦ some 0 | false ↦ oneMore o ] ≡ some n → c ≡ getD (a ∷ l) n 0
+    go : (b : Bool) → eqb c a ≡ b → (o : Option ℕ) → ((m : ℕ) → o ≡ some m → c ≡ getD l m 0) → elim b [ true ↦ some 0 | false ↦ oneMore o ] ≡ some n
+        → c ≡ getD (a ∷ l) n 0
     go true t o at e = let z : n ≡ 0 = cc in rw z (eqb-true c a t)
     go false t none at e = no-some e
     go false t (some m) at e = let z : n ≡ suc m = cc in rw z (at m refl)
@@ -86,7 +87,8 @@ pub pair-below : (f : List ℕ) (i n : ℕ) → pairAt f i ≡ some n → n < 25
 unfolding pairAt byteOf
 pair-below f i n e = go (ltb (i + 1) (length f)) (digit (getD f i 0)) (digit (getD f (i + 1) 0)) (digit-below (getD f i 0)) (digit-below (getD f (i + 1) 0)) e
   where
-    go : (b : Bool) (o p : Option ℕ) → ((m : ℕ) → o ≡ some m → m < 16) → ((m : ℕ) → p ≡ some m → m < 16) → elim b [ true ↦ byteOf o p | false ↦ none ] ≡ some n → n < 256
+    go : (b : Bool) (o p : Option ℕ) → ((m : ℕ) → o ≡ some m → m < 16) → ((m : ℕ) → p ≡ some m → m < 16)
+        → elim b [ true ↦ byteOf o p | false ↦ none ] ≡ some n → n < 256
     go false o p h l e = no-some e
     go true none p h l e = no-some e
     go true (some x) none h l e = no-some e
@@ -149,7 +151,8 @@ no-digits none p q e = refl
 no-digits (some h) none q e = refl
 no-digits (some h) (some l) q e = no-some (sym e)
 
-longer-two : (x y h l : ℕ) (ln : Line) → digit x ≡ some h → digit y ≡ some l → decodedLine (longer x (longer y ln)) ≡ prefixed ((h * 16 + l) ∷ []) (decodedLine ln)
+longer-two : (x y h l : ℕ) (ln : Line) → digit x ≡ some h → digit y ≡ some l
+    → decodedLine (longer x (longer y ln)) ≡ prefixed ((h * 16 + l) ∷ []) (decodedLine ln)
 unfolding decoded
 longer-two x y h l (closed s) e q = rw (e, q) (two-digits h l (decoded s))
 longer-two x y h l (unclosed s) e q = refl
@@ -180,7 +183,8 @@ pub pair-digits : (f : List ℕ) (i b : ℕ) → pairAt f i ≡ some b → Digit
 unfolding pairAt byteOf
 pair-digits f i b e = go (ltb (i + 1) (length f)) refl (digit (getD f i 0)) refl (digit (getD f (i + 1) 0)) refl e
   where
-    go : (t : Bool) → ltb (i + 1) (length f) ≡ t → (o : Option ℕ) → digit (getD f i 0) ≡ o → (p : Option ℕ) → digit (getD f (i + 1) 0) ≡ p → elim t [ true ↦ byteOf o p | false ↦ none ] ≡ some b → DigitsAt f i b
+    go : (t : Bool) → ltb (i + 1) (length f) ≡ t → (o : Option ℕ) → digit (getD f i 0) ≡ o → (p : Option ℕ) → digit (getD f (i + 1) 0) ≡ p
+        → elim t [ true ↦ byteOf o p | false ↦ none ] ≡ some b → DigitsAt f i b
     go false t o h p l e = no-some e
     go true t none h p l e = no-some e
     go true t (some x) h none l e = no-some e
@@ -215,7 +219,8 @@ module _ (f : List ℕ) (i : ℕ) where
   two-on = omega arith
 
   -- two characters, neither LF
-  lines-at-two : i + 1 < length f → (getD f i 0 ≡ LF → ⊥) → (getD f (i + 1) 0 ≡ LF → ⊥) → lines (drop i f) ≡ longer (getD f i 0) (longer (getD f (i + 1) 0) (headLine (lines (drop (i + 2) f)))) ∷ othersAt f (i + 2)
+  lines-at-two : i + 1 < length f → (getD f i 0 ≡ LF → ⊥) → (getD f (i + 1) 0 ≡ LF → ⊥)
+      → lines (drop i f) ≡ longer (getD f i 0) (longer (getD f (i + 1) 0) (headLine (lines (drop (i + 2) f)))) ∷ othersAt f (i + 2)
   lines-at-two h x y =
       let first = lines-at-other f i (omega arith) x in
       let second = rw two-on at (lines-at-other f (i + 1) h y) in
@@ -244,10 +249,13 @@ module _ (f : List ℕ) (i : ℕ) where
       odd : lines (drop (i + 1) f) ≡ closed [] ∷ lines (drop (i + 1 + 1) f) → decodedAt f i ≡ none
       odd q = ap (λ ls. decodedLine (headLine ls)) (rw q at (lines-at-other f i h n))
 
-      close : (t : Bool) → eqb (getD f (i + 1) 0) LF ≡ t → i + 1 < length f → byteOf (digit (getD f i 0)) (digit (getD f (i + 1) 0)) ≡ none → decodedAt f i ≡ none
+      close : (t : Bool) → eqb (getD f (i + 1) 0) LF ≡ t → i + 1 < length f → byteOf (digit (getD f i 0)) (digit (getD f (i + 1) 0)) ≡ none
+          → decodedAt f i ≡ none
       close true q l none-here = odd (lines-at-LF f (i + 1) l (eqb-true (getD f (i + 1) 0) LF q))
-      close false q l none-here = ap (λ ls. decodedLine (headLine ls)) (lines-at-two l n (eqb-false (getD f (i + 1) 0) LF q)) ∙ longer-none (getD f i 0) (getD f (i + 1) 0) (headLine (lines (drop (i + 2) f))) none-here
+      close false q l none-here = ap (λ ls. decodedLine (headLine ls)) (lines-at-two l n (eqb-false (getD f (i + 1) 0) LF q)) ∙ longer-none
+          (getD f i 0) (getD f (i + 1) 0) (headLine (lines (drop (i + 2) f))) none-here
 
-      go : (t : Bool) → ltb (i + 1) (length f) ≡ t → _≡_ {A = Option ℕ} (elim t [ true ↦ byteOf (digit (getD f i 0)) (digit (getD f (i + 1) 0)) | false ↦ none ]) none → decodedAt f i ≡ none
+      go : (t : Bool) → ltb (i + 1) (length f) ≡ t → _≡_ {A = Option ℕ}
+          (elim t [ true ↦ byteOf (digit (getD f i 0)) (digit (getD f (i + 1) 0)) | false ↦ none ]) none → decodedAt f i ≡ none
       go true q e = close (eqb (getD f (i + 1) 0) LF) refl (ltb-true (i + 1) (length f) q) e
       go false q e = ap (λ ls. decodedLine (headLine ls)) (rw (lines-at-end f (i + 1) (ltb-false (i + 1) (length f) q)) at (lines-at-other f i h n))

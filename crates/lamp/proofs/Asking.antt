@@ -50,7 +50,8 @@ module _ {f w o w′ o′ : List ℕ} {x : Done} (Q : Queries f w o Until.FirstD
   glow-dark {left} {v} e m = record { is = glowed (Glow.Dark v) go; few = omega arith; words = Q .words }
     where
       go : (d : Described) (s : Step Tree.Ty) → Ran f w′ o′ d x s → Glowed f w′ d (Glow.Dark v) s
-      go d (goes ty c) (to-the-end T R t p) = let same : left ≡ c .state .left = cc (e, p) in (ap Glow.Dark (m ∙ ap (λ n. 1048576 - n) same), (T, R .stands .schema))
+      go d (goes ty c) (to-the-end T R t p) = let same : left ≡ c .state .left = cc (e, p) in
+          (ap Glow.Dark (m ∙ ap (λ n. 1048576 - n) same), (T, R .stands .schema))
       go d (out c) (ended-early T R t p) = clash (cc (e, p))
 
   module _ (e : x ≡ Done.Out) {left count v : ℕ} (l : left ≡ getD w′ LEFT 0) (m : v ≡ 1048576 - left) (n : count ≡ getD w′ DIAGNOSTIC-COUNT 0) where
@@ -95,7 +96,8 @@ pub record Asking (f w₀ w : List ℕ) (at visits : ℕ) : Type 0 where
   pub few : visits ≤ at * 1048576
   pub within : at ≤ length f
   pub small : length f ≤ 65536
-  is : (T : Rows) (form : Form) → reading f ≡ described form → minWords ≤ length w₀ → SchemaStands f w₀ T (form .names) (form .schema) → Between f form w at visits
+  is : (T : Rows) (form : Form) → reading f ≡ described form → minWords ≤ length w₀ → SchemaStands f w₀ T (form .names) (form .schema)
+      → Between f form w at visits
 
 pub ask-start : (f w : List ℕ) → length f ≤ 65536 → Asking f w w 0 0
 unfolding maxFile
@@ -104,7 +106,15 @@ ask-start f w small = record {
   few = omega arith;
   within = omega arith;
   small = small;
-  is = λ T form e l S. record { left = form .queries; ahead = all-ahead f form small e; sound = sound f form e; rows = T; stands = S; lamp = refl; made = omega arith };
+  is = λ T form e l S. record {
+    left = form .queries;
+    ahead = all-ahead f form small e;
+    sound = sound f form e;
+    rows = T;
+    stands = S;
+    lamp = refl;
+    made = omega arith;
+  };
 }
 
 module _ {f w₀ w : List ℕ} {at visits : ℕ} (A : Asking f w₀ w at visits) where
@@ -114,7 +124,8 @@ module _ {f w₀ w : List ℕ} {at visits : ℕ} (A : Asking f w₀ w at visits)
   ask-end end = record { is = λ T form e l S. let b = A .is T form e l S in go b (b .left) (b .ahead) (b .lamp) (b .made) }
     where
       go : {form : Form} → Between f form w at visits → (qs : List Ast) → Ahead f at qs → lampAll (form .schema) (form .queries) ≡ lampAll (form .schema) qs
-          → visitsAll (form .schema) (form .queries) ≡ visits + visitsAll (form .schema) qs → (Defined.No ≡ lampAll (form .schema) (form .queries)) × (visits ≡ visitsAll (form .schema) (form .queries))
+          → visitsAll (form .schema) (form .queries) ≡ visits + visitsAll (form .schema) qs
+          → (Defined.No ≡ lampAll (form .schema) (form .queries)) × (visits ≡ visitsAll (form .schema) (form .queries))
       go b [] a p q = (sym p, omega (arith, q))
       go b (x ∷ qs) a p q = absurd (omega (arith, query-ahead a))
 
@@ -133,7 +144,8 @@ module _ {f w₀ w : List ℕ} {at visits : ℕ} (A : Asking f w₀ w at visits)
     unfolding lampAll visitsAll viewOf
     turn T form e l S = let b = A .is T form e l S in go b (b .left) (b .ahead) (b .sound) (b .lamp) (b .made)
       where
-        go : Between f form w at visits → (qs : List Ast) → Ahead f at qs → All (λ a. Sound (viewOf form a)) qs → lampAll (form .schema) (form .queries) ≡ lampAll (form .schema) qs
+        go : Between f form w at visits → (qs : List Ast) → Ahead f at qs → All (λ a. Sound (viewOf form a)) qs
+            → lampAll (form .schema) (form .queries) ≡ lampAll (form .schema) qs
             → visitsAll (form .schema) (form .queries) ≡ visits + visitsAll (form .schema) qs → Turn form
         go b [] a s p q = absurd (omega (arith, a .ended refl))
         go b (x ∷ qs) a s p q =
@@ -160,14 +172,16 @@ module _ {f w₀ w : List ℕ} {at visits : ℕ} (A : Asking f w₀ w at visits)
     }
       where
         go : {form : Form} (t : Turn form) (s : Step Tree.Ty) → lampAll (form .schema) (form .queries) ≡ lampAfter s (lampAll (form .schema) (t .qs))
-            → visitsAll (form .schema) (form .queries) ≡ visits + visitsAfter s (visitsAll (form .schema) (t .qs)) → Glowed f w₂ (viewOf form (t .a)) g s → Between f form w₂ next (visits + v)
+            → visitsAll (form .schema) (form .queries) ≡ visits + visitsAfter s (visitsAll (form .schema) (t .qs))
+            → Glowed f w₂ (viewOf form (t .a)) g s → Between f form w₂ next (visits + v)
         go t (goes ty c) p q h =
             let same : maxVisits - c .state .left ≡ v = cc (e, h .0) in
             record { left = t .qs; ahead = t .ahead; sound = t .sound; rows = h .1 .0; stands = h .1 .1; lamp = p; made = omega (arith, q, same) }
         go t (out c) p q h = absurd (not-dark (c .diagnostics) (maxVisits - c .state .left) h e)
 
     -- It stopped.
-    module _ {k : Defined.Lamp} {total : ℕ} (by : (ds : List Diagnostic) (u : ℕ) → g ≡ glowOf ds u → (k ≡ stopped ds) × (total ≡ visits + u)) (light : (u : ℕ) → ¬ (g ≡ Glow.Dark u)) where
+    module _ {k : Defined.Lamp} {total : ℕ} (by : (ds : List Diagnostic) (u : ℕ) → g ≡ glowOf ds u → (k ≡ stopped ds) × (total ≡ visits + u))
+        (light : (u : ℕ) → ¬ (g ≡ Glow.Dark u)) where
       asked : (T : Rows) (form : Form) → reading f ≡ described form → minWords ≤ length w₀ → SchemaStands f w₀ T (form .names) (form .schema)
           → (k ≡ lampAll (form .schema) (form .queries)) × (total ≡ visitsAll (form .schema) (form .queries))
       unfolding Glowed lampAfter visitsAfter

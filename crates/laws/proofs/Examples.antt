@@ -35,7 +35,8 @@ use Rattle.meaning.specs.Outcome.{minWords, maxVisits, Accepted, Refused, outco
 use Rattle.laws.specs.Marks.{NoMark}
 use Rattle.laws.specs.Names.{Renamed, linesBeside, SameBeside, Fits}
 use Rattle.laws.specs.Growth.{Grown, NoAbsent}
-use Rattle.laws.specs.Examples.{allCodes, allTexts, one-compared, comparing, named, roomier, ab, accented, short, value, asking, asking-grown, told, telling, before, grown, blackened}
+use Rattle.laws.specs.Examples.{allCodes, allTexts, one-compared, comparing, named, roomier, ab, accented, short, value, asking, asking-grown, told}
+use Rattle.laws.specs.Examples.{telling, before, grown, blackened}
 use Rattle.unification.proofs.Tests.{clash}
 use Rattle.meaning.proofs.Written.{are-lines}
 use Rattle.meaning.proofs.Content.{says-exactly}
@@ -220,7 +221,8 @@ says-old = says-telling ab 2 refl (other-length-of refl) (are-lines wide (lines 
 
 says-renamed : Says wide (file (blackened 0)) (describes (blackened 0))
 unfolding characters maxFile fileOf framesOf lines said
-says-renamed = says-telling accented 2 refl (other-length-of refl) (are-lines wide (lines (file (blackened 0))) (framesOf (blackened 0)) refl .writable) (omega arith)
+says-renamed = says-telling accented 2 refl (other-length-of refl)
+    (are-lines wide (lines (file (blackened 0))) (framesOf (blackened 0)) refl .writable) (omega arith)
 
 pub says-grown : Says wide (file (grown 0)) (describes (grown 0))
 unfolding characters maxNames maxTypes maxPredicates maxQueries shapeNames shapeTypes shapeKeys optional maxFile fileOf framesOf lines said

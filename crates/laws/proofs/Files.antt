@@ -19,7 +19,8 @@ use Rattle.meaning.specs.Content.{PredicateFrame, Content, Lawful, Says, descri
 use Rattle.meaning.specs.Messages.{textIn}
 use Rattle.meaning.specs.Answer.{formLines}
 use Rattle.meaning.specs.Check.{Typed, Checked, typed, exhausted, check}
-use Rattle.meaning.specs.Outcome.{minWords, maxVisits, turnedDown, answered, withChecked, runAll, decideRun, decideRead, decide, refuse, accept, finish, outcome}
+use Rattle.meaning.specs.Outcome.{minWords, maxVisits, turnedDown, answered, withChecked, runAll, decideRun, decideRead, decide, refuse, accept, finish}
+use Rattle.meaning.specs.Outcome.{outcome}
 use Rattle.meaning.proofs.Lists.{all-map}
 use Rattle.meaning.proofs.Tests.{cases}
 use Rattle.meaning.proofs.Content.{says-exactly}
@@ -143,7 +144,8 @@ module _ (c : Content) (l : Lawful wide c) (n : NoAbsent c) (names : List (List 
       let over = grown-over c r n names types predicates maxVisits in
       let texts = grown-texts c r n names types predicates in
       ap (decideRun (textIn old)) (runs-together (old .schema) (c .queries) ∙ ap together same ∙ sym (runs-together (new .schema) (c .queries)))
-      ∙ decide-same (textIn old) (textIn new) (runAll (new .schema) (c .queries)) (runs-alike (spoken c) (textIn old) (textIn new) texts (new .schema) (c .queries) over)
+      ∙ decide-same (textIn old) (textIn new) (runAll (new .schema) (c .queries))
+      (runs-alike (spoken c) (textIn old) (textIn new) texts (new .schema) (c .queries) over)
 
 -- The same answer, byte for byte, message lines too, or both get 11.
 pub grown-decisions : (f g : List ℕ) (d e : Form) (p : Says wide f d) (q : Says wide g e) → NoAbsent (p .content) → Grown (p .content) (q .content)

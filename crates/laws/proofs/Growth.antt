@@ -53,7 +53,8 @@ types-begin ts (s ∷ a) = let h = types-begin (ts ++ tyOf ts s ∷ []) a in (ty
 not-found : (P : ℕ → Type 0) (n j : ℕ) (r : Row) → n ≤ j → RowOver (languageOf P n) r Record → findKey j r ≡ none
 unfolding findKey
 not-found P n j ε le h = refl
-not-found P n j (cell k l t r) le h = let e : eqb j k ≡ false = ne-eqb j k (λ q. absurd (omega (arith, h .0))) in rw (e, findKey) (not-found P n j r le (h .1 .1))
+not-found P n j (cell k l t r) le h = let e : eqb j k ≡ false = ne-eqb j k (λ q. absurd (omega (arith, h .0))) in rw (e, findKey)
+    (not-found P n j r le (h .1 .1))
 
 no-field : (P : ℕ → Type 0) (n j : ℕ) (t : Ty) → n ≤ j → Over (languageOf P n) t → fieldOf t j ≡ none
 unfolding fieldOf
@@ -68,7 +69,8 @@ typeAt-grown : (ts more : List Ty) (n : ℕ) → n < length ts → typeAt ts n �
 unfolding typeAt
 typeAt-grown ts more n h = sym (List·getD-append ts more Error n h)
 
-predicate-grown : (ts more : List Ty) (p : PredicateFrame) → Below (length ts) (p .key ∷ optional (p .value)) → predicateWith ts p ≡ predicateWith (ts ++ more) p
+predicate-grown : (ts more : List Ty) (p : PredicateFrame) → Below (length ts) (p .key ∷ optional (p .value))
+    → predicateWith ts p ≡ predicateWith (ts ++ more) p
 unfolding predicateWith predicateOf optional valueTy
 predicate-grown ts more p h = rw (typeAt-grown ts more (p .key) (h .0), value (p .value) (h .1))
   where
@@ -102,7 +104,8 @@ position-later test [] b = go (position test b) refl
     go (some j) e = rw e (added j (omega arith))
 position-later test (x ∷ a) b = go (test x) refl (position-later test a b)
   where
-    go : (t : Bool) → test x ≡ t → Later (length a) (position test a) (position test (a ++ b)) → Later (length (x ∷ a)) (position test (x ∷ a)) (position test (x ∷ (a ++ b)))
+    go : (t : Bool) → test x ≡ t → Later (length a) (position test a) (position test (a ++ b))
+        → Later (length (x ∷ a)) (position test (x ∷ a)) (position test (x ∷ (a ++ b)))
     go true e h = rw (e, position) (kept (some 0))
     go false e h = rw (e, position) (later-more (length a) (position test a) (position test (a ++ b)) h)
 
@@ -154,7 +157,8 @@ module _ (c : Content) (refers : Refers c) (present : NoAbsent c) (names : List 
 
   asks : (e : ExprKind) → Below (length (c .names)) (exprNames e) → NodeFacts (There c) e → Asks (There c) (old .schema) (new .schema) e
   unfolding describes exprNames
-  asks (ExprKind.Fuzzy x d) l h = count-at (c .names) x ∙ ap (λ s. countOf (characters s)) (sym (List·getD-append (c .names) names [] x (l .0))) ∙ sym (count-at (c .names ++ names) x)
+  asks (ExprKind.Fuzzy x d) l h = count-at (c .names) x ∙ ap (λ s. countOf (characters s)) (sym (List·getD-append (c .names) names [] x (l .0))) ∙ sym
+      (count-at (c .names ++ names) x)
   asks (ExprKind.Fact p e) l h = h
   asks (ExprKind.Lit x) l h = tt
   asks (ExprKind.Var x) l h = tt
@@ -187,7 +191,8 @@ module _ (c : Content) (refers : Refers c) (present : NoAbsent c) (names : List 
     closed = λ p h. rw (← get-same p h) (old-over p);
   }
 
-  each-grown : (v : ℕ) (qs : List Ast) → All (λ a. All (λ n. Below (length (c .names)) (exprNames (n .kind))) (a .nodes)) qs → All (λ a. All (λ n. NodeFacts (There c) (n .kind)) (a .nodes)) qs
+  each-grown : (v : ℕ) (qs : List Ast) → All (λ a. All (λ n. Below (length (c .names)) (exprNames (n .kind))) (a .nodes)) qs
+      → All (λ a. All (λ n. NodeFacts (There c) (n .kind)) (a .nodes)) qs
       → map (λ (a : Ast). check v (old .schema) a) qs ≡ map (λ (a : Ast). check v (new .schema) a) qs
   each-grown v [] l h = refl
   each-grown v (a ∷ qs) l h =
@@ -200,7 +205,8 @@ module _ (c : Content) (refers : Refers c) (present : NoAbsent c) (names : List 
   grown-answers v = each-grown v (c .queries) (refers .nodeNames) (present .nodes)
 
   -- ---- The messages are the same, and so are their texts.
-  each-over : (v : ℕ) (qs : List Ast) → All (λ a. All (λ n. Below (length (c .names)) (exprNames (n .kind))) (a .nodes)) qs → All (λ a. All (λ n. NodeFacts (There c) (n .kind)) (a .nodes)) qs
+  each-over : (v : ℕ) (qs : List Ast) → All (λ a. All (λ n. Below (length (c .names)) (exprNames (n .kind))) (a .nodes)) qs
+      → All (λ a. All (λ n. NodeFacts (There c) (n .kind)) (a .nodes)) qs
       → All (λ a. CheckedOver (spoken c) (check v (new .schema) a)) qs
   each-over v [] l h = tt
   each-over v (a ∷ qs) l h = (told-over (spoken c) (old .schema) (new .schema) a (grown-same a (l .0) (h .0)) v, each-over v qs (l .1) (h .1))

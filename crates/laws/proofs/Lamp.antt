@@ -17,13 +17,15 @@ use Rattle.meaning.specs.Diag.{Message, Diagnostic}
 use Rattle.meaning.specs.Refusal.{Refusal, workTooShort, tooManyVisits}
 use Rattle.meaning.specs.All.{All, Any, Each}
 use Rattle.meaning.specs.Lines.{closed, LF, lines}
-use Rattle.meaning.specs.Answer.{bytes₂, bytes₄, hexDigit, hexLine, slotBytes, nodeLines, diagnosticBytes, diagnosticLine, diagnosticLines, answerLines, numbered, formLines}
+use Rattle.meaning.specs.Answer.{bytes₂, bytes₄, hexDigit, hexLine, slotBytes, nodeLines, diagnosticBytes, diagnosticLine, diagnosticLines, answerLines}
+use Rattle.meaning.specs.Answer.{numbered, formLines}
 use Rattle.meaning.specs.Check.{Checker, Step, goes, out, Until, theEnd, begin, beginUntil, lighted, query, Typed, typed, reversed, checked, check}
 use Rattle.meaning.specs.Run.{ending, run}
 use Rattle.meaning.specs.Outcome.{minWords, maxVisits, turnedDown, answered, decideRun, decideRead, decide}
 use Rattle.meaning.specs.File.{Form, Reading, refused, described, reading}
 use Rattle.meaning.specs.Messages.{textIn}
-use Rattle.meaning.specs.Lamp.{litRun, Lamp, Yes, No, Refused, stopped, lampAfter, lampAll, lampRead, lamp, Clean, Shows, Silent, First, here, later, LampIs, shown, none-shown, ran-out, Is08, Has08}
+use Rattle.meaning.specs.Lamp.{litRun, Lamp, Yes, No, Refused, stopped, lampAfter, lampAll, lampRead, lamp, Clean, Shows, Silent, First, here, later}
+use Rattle.meaning.specs.Lamp.{LampIs, shown, none-shown, ran-out, Is08, Has08}
 use Rattle.laws.specs.Over.{everything}
 use Rattle.laws.specs.Same.{Same}
 use Rattle.laws.proofs.Over.{predicate-everything, names-everything}
@@ -44,7 +46,8 @@ module _ (schema : Schema) (a : Ast) where
 
   run-lit : (c : ℕ) → Lit (run schema a c) (litRun schema a c)
   unfolding run litRun begin beginUntil lighted
-  run-lit c = query-agrees everything 0 schema schema (a .nodes) itself (a .query) .lit (begin c (length (a .nodes))) (begin-fine everything schema schema a itself c) refl refl
+  run-lit c = query-agrees everything 0 schema schema (a .nodes) itself (a .query) .lit (begin c (length (a .nodes)))
+      (begin-fine everything schema schema a itself c) refl refl
 
 not-empty : (later : List Diagnostic) (d : Diagnostic) → later ++ d ∷ [] ≢ []
 not-empty [] d e = let z : _≡_ {A = ℕ} 0 1 = cc in omega arith
@@ -116,7 +119,8 @@ unfolding nodeLines hexDigit
 nodes-skip n [] = skips-nothing
 nodes-skip n (slot ∷ slots) =
     skips-then (hexLine (7 ∷ bytes₂ n ++ slotBytes slot)) (nodeLines (suc n) slots)
-    (line-skips (7 ∷ bytes₂ n ++ slotBytes slot) (λ x. let z : 55 ≡ 56 = second 7 (bytes₂ n ++ slotBytes slot) (omega arith) x in omega arith)) (nodes-skip (suc n) slots)
+    (line-skips (7 ∷ bytes₂ n ++ slotBytes slot) (λ x. let z : 55 ≡ 56 = second 7 (bytes₂ n ++ slotBytes slot) (omega arith) x in omega arith))
+    (nodes-skip (suc n) slots)
 
 number-skips : (k : ℕ) → Skips (hexLine (0x0b ∷ bytes₂ k))
 unfolding hexDigit
@@ -134,7 +138,10 @@ module _ (text : Message → List ℕ) where
   diagnostic-begins : (d : Diagnostic) → Begins (diagnosticLine text d)
   unfolding diagnosticLine diagnosticBytes hexes hexDigit
   diagnostic-begins d = begins-then (hexLine (diagnosticBytes d)) (hexLine (0x0a ∷ text (d .message)))
-      (record { here08 = λ rest. subst (Any Is08) (sym (line-first (diagnosticBytes d) rest)) (inl (record { rest = hexes (drop 1 (diagnosticBytes d)); is = refl })) })
+      (record {
+        here08 = λ rest. subst (Any Is08) (sym (line-first (diagnosticBytes d) rest))
+            (inl (record { rest = hexes (drop 1 (diagnosticBytes d)); is = refl }));
+      })
 
   diagnostics-begin : (ds : List Diagnostic) → ds ≢ [] → Begins (diagnosticLines text ds)
   unfolding diagnosticLines
@@ -251,9 +258,11 @@ module _ (file : List ℕ) (words : ℕ) where
   lamp-read f h e = rw (enough-lamp h ∙ ap lampRead e) (lamp-is (f .schema) (f .queries))
 
   -- "yes exactly when the full answer, however long, has an 08 line"
-  pub lamp-answered : (answer : List ℕ) → decide file words ≡ answered answer → ((lamp file words ≡ Yes) ↔ Has08 answer) × ((lamp file words ≡ No) ↔ (Has08 answer → ⊥))
+  pub lamp-answered : (answer : List ℕ) → decide file words ≡ answered answer
+      → ((lamp file words ≡ Yes) ↔ Has08 answer) × ((lamp file words ≡ No) ↔ (Has08 answer → ⊥))
   unfolding decide decideRead decideRun
-  lamp-answered answer e = cases (ltb words minWords) (λ q. clash-refused (rw (q, decide) at e)) (λ q. read (ltb-false words minWords q) (reading file) refl (rw (q, decide) at e))
+  lamp-answered answer e = cases (ltb words minWords) (λ q. clash-refused (rw (q, decide) at e))
+      (λ q. read (ltb-false words minWords q) (reading file) refl (rw (q, decide) at e))
     where
       Both : Type 0
       Both = ((lamp file words ≡ Yes) ↔ Has08 answer) × ((lamp file words ≡ No) ↔ (Has08 answer → ⊥))
@@ -261,7 +270,8 @@ module _ (file : List ℕ) (words : ℕ) where
       clash-refused : {r : Refusal} → turnedDown r ≡ answered answer → Both
       clash-refused z = let o : _≡_ {A = ℕ} 0 1 = cc in absurd (omega arith)
 
-      by : (f : Form) (ts : List Typed) → Each (Ran (f .schema)) (f .queries) ts → answer ≡ formLines (textIn f) ts → {l : Lamp} → lamp file words ≡ l → LampIs (f .schema) (f .queries) l → Both
+      by : (f : Form) (ts : List Typed) → Each (Ran (f .schema)) (f .queries) ts → answer ≡ formLines (textIn f) ts → {l : Lamp} → lamp file words ≡ l
+          → LampIs (f .schema) (f .queries) l → Both
       by f ts r same is (shown x) =
           let has = subst Has08 (sym same) (form-has (textIn f) ts (one-shows (f .schema) (f .queries) ts r x)) in
           ((λ e. has, λ h. is), (λ e. let o : _≡_ {A = ℕ} 0 1 = cc in absurd (omega arith), λ n. absurd (n has)))
@@ -270,7 +280,8 @@ module _ (file : List ℕ) (words : ℕ) where
           ((λ e. let o : _≡_ {A = ℕ} 0 1 = cc in absurd (omega arith), λ h. absurd (lacks h)), (λ e. lacks, λ n. is))
       by f ts r same is (ran-out x) = absurd (none-silent (f .schema) (f .queries) ts r x)
 
-      runs-by : minWords ≤ words → (f : Form) → reading file ≡ described f → {o : Option (List Typed)} → Runs (f .schema) (f .queries) o → decideRun (textIn f) o ≡ answered answer → Both
+      runs-by : minWords ≤ words → (f : Form) → reading file ≡ described f → {o : Option (List Typed)} → Runs (f .schema) (f .queries) o
+          → decideRun (textIn f) o ≡ answered answer → Both
       runs-by h f p (all-ran ts r) z = let same : answer ≡ formLines (textIn f) ts = cc in by f ts r same refl (lamp-read f h p)
       runs-by h f p (one-out r) z = clash-refused z
 
@@ -293,7 +304,10 @@ module _ (file : List ℕ) (words : ℕ) where
 
       read : (x : Reading) → (decideRead x ≡ turnedDown r) ↔ (lampRead x ≡ Refused r)
       read (refused i) = same
-      read (described f) = (λ e. absurd (n (down (runs (f .schema) (f .queries)) e)), λ e. absurd (n (only-visits (f .schema) (f .queries) (lamp-is (f .schema) (f .queries)) e)))
+      read (described f) = (
+        λ e. absurd (n (down (runs (f .schema) (f .queries)) e)),
+        λ e. absurd (n (only-visits (f .schema) (f .queries) (lamp-is (f .schema) (f .queries)) e)),
+      )
         where
           down : {o : Option (List Typed)} → Runs (f .schema) (f .queries) o → decideRun (textIn f) o ≡ turnedDown r → r ≡ tooManyVisits
           down (all-ran ts x) e = let o : _≡_ {A = ℕ} 0 1 = cc in absurd (omega arith)

@@ -46,11 +46,13 @@ module _ (c : Content) (names : List (List ℕ)) where
   asks ExprKind.Error h = tt
   asks (ExprKind.Select x e) h = tt
 
-  all-ask : (ns : List Node) → All (λ n. TermKept (c .names) names (n .kind)) ns → All (λ n. Asks (everything .predicate) (describes c .schema) (describes (withNames c names) .schema) (n .kind)) ns
+  all-ask : (ns : List Node) → All (λ n. TermKept (c .names) names (n .kind)) ns
+      → All (λ n. Asks (everything .predicate) (describes c .schema) (describes (withNames c names) .schema) (n .kind)) ns
   all-ask [] h = tt
   all-ask (n ∷ ns) h = (asks (n .kind) (h .0), all-ask ns (h .1))
 
-  renamed-same : position (sameText valueText) (c .names) ≡ position (sameText valueText) names → (ns : List Node) → All (λ n. TermKept (c .names) names (n .kind)) ns
+  renamed-same : position (sameText valueText) (c .names) ≡ position (sameText valueText) names → (ns : List Node)
+      → All (λ n. TermKept (c .names) names (n .kind)) ns
       → Same everything ns (describes c .schema) (describes (withNames c names) .schema)
   unfolding describes get
   renamed-same value ns terms = record {
@@ -59,11 +61,13 @@ module _ (c : Content) (names : List (List ℕ)) where
     nodes = all-ask ns terms;
     names = names-everything ns;
     predicates = λ p h. refl;
-    shadows = λ p h. shadows-is (describes c .schema) ns p ∙ ap (shadowing (get (describes c .schema) p)) value ∙ sym (shadows-is (describes (withNames c names) .schema) ns p);
+    shadows = λ p h. shadows-is (describes c .schema) ns p ∙ ap (shadowing (get (describes c .schema) p)) value ∙ sym
+        (shadows-is (describes (withNames c names) .schema) ns p);
     closed = λ p h. predicate-everything (get (describes (withNames c names) .schema) p);
   }
 
-  renamed-answers : position (sameText valueText) (c .names) ≡ position (sameText valueText) names → (v : ℕ) (qs : List Ast) → All (λ a. All (λ n. TermKept (c .names) names (n .kind)) (a .nodes)) qs
+  renamed-answers : position (sameText valueText) (c .names) ≡ position (sameText valueText) names → (v : ℕ) (qs : List Ast)
+      → All (λ a. All (λ n. TermKept (c .names) names (n .kind)) (a .nodes)) qs
       → map (λ (a : Ast). check v (describes c .schema) a) qs ≡ map (λ (a : Ast). check v (describes (withNames c names) .schema) a) qs
   renamed-answers value v [] terms = refl
   renamed-answers value v (a ∷ qs) terms =

@@ -7,7 +7,8 @@ use Prim.Native.Nat.{ℕ, zero, suc, _-_}
 use lib.Dec.{eqb}
 use lib.ListN.{length, getD, set, replicate}
 use Rattle.unification.specs.Ty.{Int, String, Bytes, Fact, Kind, Record, Union, Ty, leaf, node, Var, Error, Row, ε, cell, app, appRow}
-use Rattle.unification.specs.Bindings.{Subst, bound, follow, repr, zonkIn, zonk, State, Undo, Binding, Annotation, revert, rewind, Snapshot, rollback, withHistory}
+use Rattle.unification.specs.Bindings.{Subst, bound, follow, repr, zonkIn, zonk, State, Undo, Binding, Annotation, revert, rewind, Snapshot, rollback}
+use Rattle.unification.specs.Bindings.{withHistory}
 use Rattle.unification.specs.Unify.{findKey, findLabel}
 use Rattle.meaning.specs.All.{All}
 use Rattle.meaning.specs.Syntax.{Node}
@@ -163,4 +164,5 @@ module _ (L : Language) where
 
   pub rollback-fine : (st : State) (at : Snapshot) → FineState L st → FineState L (rollback st at)
   unfolding rollback withHistory
-  rollback-fine st at i = let j = rewind-fine (length (st .undo) - at .undo) (st .undo) st (i .undo) i in record { subst = j .subst; tys = j .tys; undo = j .undo }
+  rollback-fine st at i = let j = rewind-fine (length (st .undo) - at .undo) (st .undo) st (i .undo) i in record
+      { subst = j .subst; tys = j .tys; undo = j .undo }

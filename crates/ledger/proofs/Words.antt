@@ -94,7 +94,8 @@ pub desk-put : (g : Group) (i : ℕ) {ws : List ℕ} → i < 16 → Putting (gro
     → Putting (groupWords g) (2 + 3 * (i + 1)) (set (set (set ws (2 + 3 * i) (desk g i .share)) (3 + 3 * i) (desk g i .cap)) (4 + 3 * i) (desk g i .used))
 desk-put g i {ws} b h =
     let l : length ws ≡ 50 = h .long ∙ group-long g in
-    let one : Putting (groupWords g) (3 + 3 * i) (set ws (2 + 3 * i) (desk g i .share)) = put-on (2 + 3 * i) h (omega arith) (omega (arith, l, b)) (sym (share-word g i b)) in
+    let one : Putting (groupWords g) (3 + 3 * i) (set ws (2 + 3 * i) (desk g i .share)) = put-on (2 + 3 * i) h (omega arith) (omega (arith, l, b))
+    (sym (share-word g i b)) in
     let two : Putting (groupWords g) (4 + 3 * i) (set (set ws (2 + 3 * i) (desk g i .share)) (3 + 3 * i) (desk g i .cap)) =
     put-on (3 + 3 * i) one (omega arith) (simp length-set (omega (arith, l, b))) (sym (cap-word g i b)) in
     put-on (4 + 3 * i) two (omega arith) (simp length-set (omega (arith, l, b))) (sym (used-word g i b))
@@ -121,13 +122,16 @@ words-group ws l = sym (put-end 50 (all 16 (omega arith)) (omega (arith, group-l
         let c : n < 16 = omega (arith, b) in
         let P : ℕ → Type 0 = λ j. getD ws j 0 ≡ getD (groupWords g) j 0 in
         let one : (j : ℕ) → j < 2 + 3 * n + 1 → P j = up-to P (2 + 3 * n) (h .done) (sym (share-word g n c ∙ ap (λ d. d .share) (at n c))) in
-        let two : (j : ℕ) → j < 3 + 3 * n + 1 → P j = up-to P (3 + 3 * n) (λ j k. one j (omega (arith, k))) (sym (cap-word g n c ∙ ap (λ d. d .cap) (at n c))) in
-        let three : (j : ℕ) → j < 4 + 3 * n + 1 → P j = up-to P (4 + 3 * n) (λ j k. two j (omega (arith, k))) (sym (used-word g n c ∙ ap (λ d. d .used) (at n c))) in
+        let two : (j : ℕ) → j < 3 + 3 * n + 1 → P j = up-to P (3 + 3 * n) (λ j k. one j (omega (arith, k)))
+        (sym (cap-word g n c ∙ ap (λ d. d .cap) (at n c))) in
+        let three : (j : ℕ) → j < 4 + 3 * n + 1 → P j = up-to P (4 + 3 * n) (λ j k. two j (omega (arith, k)))
+        (sym (used-word g n c ∙ ap (λ d. d .used) (at n c))) in
         record { long = h .long; done = λ j k. three j (omega (arith, k)) }
 
 -- A call is handed the group that the call before it left.
 pub group-words : (g : Group) → length (g .desks) ≡ 16 → groupOf (groupWords g) ≡ g
-group-words g l = ap (λ ds. record { count = g .count; pool = g .pool; desks = ds }) (ext-getD absent (places (deskAt (groupWords g)) 16) (g .desks) (long ∙ sym l) each)
+group-words g l = ap (λ ds. record { count = g .count; pool = g .pool; desks = ds })
+    (ext-getD absent (places (deskAt (groupWords g)) 16) (g .desks) (long ∙ sym l) each)
   where
     long : length (places (deskAt (groupWords g)) 16) ≡ 16
     long = place-length (deskAt (groupWords g)) 16

@@ -51,7 +51,8 @@ is-frame (b ∷ t) g e = kinds (kindOf b) refl e
     kinds (some k) q c = says k q (frameOf wide k t) refl c
 
 -- The line here is the first of the frames, and the others follow it.
-module _ {f : List ℕ} {at : ℕ} {line : List ℕ} {n next : ℕ} (h : Holds f at line n next) (g : Frame) (gs : List Frame) (e : map (said wide) (lines (drop at f)) ≡ frames g ∷ map frames gs) where
+module _ {f : List ℕ} {at : ℕ} {line : List ℕ} {n next : ℕ} (h : Holds f at line n next) (g : Frame) (gs : List Frame)
+    (e : map (said wide) (lines (drop at f)) ≡ frames g ∷ map frames gs) where
   both : saidBy wide (some (take n line)) ∷ map (said wide) (lines (drop next f)) ≡ frames g ∷ map frames gs
   unfolding said
   both = ap (λ o. saidBy wide o ∷ map (said wide) (lines (drop next f))) (sym (h .bytes)) ∙ sym (ap (map (said wide)) (h .splits)) ∙ e
@@ -69,7 +70,8 @@ not-ended f at g gs e = go (decLe (length f) at)
   where
     go : Dec (length f ≤ at) → at < length f
     go (no l) = omega arith
-    go (yes l) = let none-left : map (said wide) [] ≡ frames g ∷ map frames gs = ap (map (said wide)) (sym (lines-at-end f at l)) ∙ e in let z : _≡_ {A = ℕ} 0 1 = cc in absurd (omega arith)
+    go (yes l) = let none-left : map (said wide) [] ≡ frames g ∷ map frames gs = ap (map (said wide)) (sym (lines-at-end f at l)) ∙ e in let z : _≡_
+        {A = ℕ} 0 1 = cc in absurd (omega arith)
 
 pub is-ended : (f : List ℕ) (at : ℕ) → map (said wide) (lines (drop at f)) ≡ [] → length f ≤ at
 is-ended f at e = go (decLe (length f) at)
@@ -97,7 +99,8 @@ pub query-ahead : {f : List ℕ} {at : ℕ} {a : Ast} {qs : List Ast} → Ahead 
 unfolding queryFrames flatMap
 query-ahead {f} {at} {a} {qs} h = go (h .schema) (a .nodes) (h .are)
   where
-    go : (schema : List Frame) (nodes : List Node) → map (said wide) (lines (drop at f)) ≡ map frames (schema ++ (map aNode nodes ++ theQuery (a .query) ∷ [] ++ flatMap queryFrames qs)) → at < length f
+    go : (schema : List Frame) (nodes : List Node) → map (said wide) (lines (drop at f)) ≡ map frames
+        (schema ++ (map aNode nodes ++ theQuery (a .query) ∷ [] ++ flatMap queryFrames qs)) → at < length f
     go (g ∷ schema) nodes e = not-ended f at g (schema ++ (map aNode nodes ++ theQuery (a .query) ∷ [] ++ flatMap queryFrames qs)) e
     go [] (n ∷ nodes) e = not-ended f at (aNode n) (map aNode nodes ++ theQuery (a .query) ∷ [] ++ flatMap queryFrames qs) e
     go [] [] e = not-ended f at (theQuery (a .query)) (flatMap queryFrames qs) e

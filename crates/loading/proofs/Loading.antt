@@ -104,13 +104,16 @@ module _ {f : List ℕ} {at : ℕ} {w₀ w : List ℕ} {i n : ℕ} (m : Loading 
   }
 
   pub loading-ended : length f ≤ i → Loads f at w₀ w (length f)
-  loading-ended l = nothing (λ d qs x. let g = some-frame (d .ast .query) qs (x .left) (x .schema) in let z : i < length f = not-ended f i (g .0) (g .1) (x .are ∙ ap (map frames) (g .2)) in omega arith)
+  loading-ended l = nothing (λ d qs x. let g = some-frame (d .ast .query) qs (x .left) (x .schema) in let z : i < length f = not-ended f i (g .0)
+      (g .1) (x .are ∙ ap (map frames) (g .2)) in omega arith)
 
   pub loading-bad : Malformed f i → Loads f at w₀ w (length f)
   unfolding said saidBy
   loading-bad b = nothing (λ d qs x.
       let g = some-frame (d .ast .query) qs (x .left) (x .schema) in
-      let e : malformed ∷ map (said Frame.wide) (b .rest) ≡ frames (g .0) ∷ map frames (g .1) = ap (λ o. saidBy Frame.wide o ∷ map (said Frame.wide) (b .rest)) (sym (b .bytes)) ∙ sym (ap (map (said Frame.wide)) (b .splits)) ∙ x .are ∙ ap (map frames) (g .2) in
+      let e : malformed ∷ map (said Frame.wide) (b .rest) ≡ frames (g .0) ∷ map frames (g .1) = ap
+      (λ o. saidBy Frame.wide o ∷ map (said Frame.wide) (b .rest)) (sym (b .bytes)) ∙ sym (ap (map (said Frame.wide)) (b .splits)) ∙ x .are ∙ ap
+      (map frames) (g .2) in
       let z : _≡_ {A = ℕ} 0 1 = cc in
       omega arith)
 
@@ -129,11 +132,16 @@ module _ {f : List ℕ} {at : ℕ} {w₀ w : List ℕ} {i n : ℕ} (m : Loading 
         frame : IsFrame (take size line) (theQuery q)
         later : map (said Frame.wide) (lines (drop next f)) ≡ map frames (flatMap queryFrames qs)
 
-      at-query : (q : Query) (qs : List Ast) (left : List Node) (schema : List Frame) → All (λ g. kindByte (frameKind g) < kindByte node) schema → map (said Frame.wide) (lines (drop i f)) ≡ map frames (Rest q qs left schema) → AtQuery q qs left
+      at-query : (q : Query) (qs : List Ast) (left : List Node) (schema : List Frame) → All (λ g. kindByte (frameKind g) < kindByte node) schema
+          → map (said Frame.wide) (lines (drop i f)) ≡ map frames (Rest q qs left schema) → AtQuery q qs left
       unfolding kindByte frameKind
       at-query q qs left (g ∷ schema) early are = absurd (omega (arith, number (first-frame h g (Rest q qs left schema) are), early .0))
       at-query q qs (nd ∷ left) [] early are = absurd (omega (arith, number (first-frame h (aNode nd) (Rest q qs left []) are)))
-      at-query q qs [] [] early are = record { none-left = refl; frame = first-frame h (theQuery q) (flatMap queryFrames qs) are; later = later-frames h (theQuery q) (flatMap queryFrames qs) are }
+      at-query q qs [] [] early are = record {
+        none-left = refl;
+        frame = first-frame h (theQuery q) (flatMap queryFrames qs) are;
+        later = later-frames h (theQuery q) (flatMap queryFrames qs) are;
+      }
 
       at-end : (a : Ast) (qs : List Ast) (x : Midst f w i n a qs) → AtQuery (a .query) qs (x .left)
       at-end a qs x = at-query (a .query) qs (x .left) (x .schema) (x .early) (x .are)
@@ -145,7 +153,8 @@ module _ {f : List ℕ} {at : ℕ} {w₀ w : List ℕ} {i n : ℕ} (m : Loading 
       unfolding counted Its
       reloaded = reloads-set (reloads-set (m .words) QUERY (i * 1024 + size) (λ i l p q s. q s, omega arith)) NODE-COUNT n (λ i l p q s. p s, omega arith)
 
-      stood : (T : Rows) (d : Described) (qs : List Ast) → Sound d → minWords ≤ length w₀ → SchemaStands f w₀ T (d .names) (d .schema) → Ahead f at (d .ast ∷ qs) → Stands f counted T d
+      stood : (T : Rows) (d : Described) (qs : List Ast) → Sound d → minWords ≤ length w₀ → SchemaStands f w₀ T (d .names) (d .schema)
+          → Ahead f at (d .ast ∷ qs) → Stands f counted T d
       unfolding minWords maxNames maxPredicates maxNodes counted kindByte frameKind
       stood T d qs s l S a =
           let x = m .is d qs s l a in
@@ -162,8 +171,11 @@ module _ {f : List ℕ} {at : ℕ} {w₀ w : List ℕ} {i n : ℕ} (m : Loading 
             schema = schema-stands w₀ counted (reloaded .below) (λ j lo hi. reloaded .above j lo) more-refl S (s .predicatesMax) (s .namesMax);
             nodes = getD-set-same w₁ NODE-COUNT n 0 (omega arith) ∙ x .held .count ∙ ap length nodes;
             few = s .nodesMax;
-            node = λ j lt. rw (← nodes) (node-kept (ap (λ v. v / 2) (getD-set-other w₁ NODE-COUNT (NODES + j) n 0 (λ q. omega arith) ∙ getD-set-other w QUERY (NODES + j) (i * 1024 + size) 0 (λ q. omega arith))) (x .held .node j (omega (arith, ap length nodes))));
-            query = query-kept (getD-set-other w₁ NODE-COUNT QUERY n 0 (λ q. omega arith)) (query-added i size 0x06 (frame .content) line-is long (h .most) w (d .ast .query) wide refl (frame .is));
+            node = λ j lt. rw (← nodes) (node-kept (ap (λ v. v / 2)
+                (getD-set-other w₁ NODE-COUNT (NODES + j) n 0 (λ q. omega arith) ∙ getD-set-other w QUERY (NODES + j) (i * 1024 + size) 0
+                (λ q. omega arith))) (x .held .node j (omega (arith, ap length nodes))));
+            query = query-kept (getD-set-other w₁ NODE-COUNT QUERY n 0 (λ q. omega arith))
+                (query-added i size 0x06 (frame .content) line-is long (h .most) w (d .ast .query) wide refl (frame .is));
           }
 
       pub loading-query : Loads f at w₀ (set (set w QUERY (i * 1024 + size)) NODE-COUNT n) next
@@ -175,7 +187,13 @@ module _ {f : List ℕ} {at : ℕ} {w₀ w : List ℕ} {i n : ℕ} (m : Loading 
         stands = stood;
         ahead = λ d qs s l a.
             let y = at-end (d .ast) qs (m .is d qs s l a) in
-            record { small = a .small; schema = []; early = tt; are = y .later; ended = λ none-left. is-ended f next (y .later ∙ ap (λ t. map frames (flatMap queryFrames t)) none-left) };
+            record {
+              small = a .small;
+              schema = [];
+              early = tt;
+              are = y .later;
+              ended = λ none-left. is-ended f next (y .later ∙ ap (λ t. map frames (flatMap queryFrames t)) none-left);
+            };
       }
 
     -- A 05 line: it is the query's next node.
@@ -187,10 +205,17 @@ module _ {f : List ℕ} {at : ℕ} {w₀ w : List ℕ} {i n : ℕ} (m : Loading 
         frame : IsFrame (take size line) (aNode nd)
         later : map (said Frame.wide) (lines (drop next f)) ≡ map frames (Rest q qs more [])
 
-      at-node : (q : Query) (qs : List Ast) (left : List Node) (schema : List Frame) → All (λ g. kindByte (frameKind g) < kindByte node) schema → map (said Frame.wide) (lines (drop i f)) ≡ map frames (Rest q qs left schema) → AtNode q qs left
+      at-node : (q : Query) (qs : List Ast) (left : List Node) (schema : List Frame) → All (λ g. kindByte (frameKind g) < kindByte node) schema
+          → map (said Frame.wide) (lines (drop i f)) ≡ map frames (Rest q qs left schema) → AtNode q qs left
       unfolding kindByte frameKind
       at-node q qs left (g ∷ schema) early are = absurd (omega (arith, number (first-frame h g (Rest q qs left schema) are), early .0))
-      at-node q qs (nd ∷ left) [] early are = record { nd = nd; more = left; first-left = refl; frame = first-frame h (aNode nd) (Rest q qs left []) are; later = later-frames h (aNode nd) (Rest q qs left []) are }
+      at-node q qs (nd ∷ left) [] early are = record {
+        nd = nd;
+        more = left;
+        first-left = refl;
+        frame = first-frame h (aNode nd) (Rest q qs left []) are;
+        later = later-frames h (aNode nd) (Rest q qs left []) are;
+      }
       at-node q qs [] [] early are = absurd (omega (arith, number (first-frame h (theQuery q) (flatMap queryFrames qs) are)))
 
       -- there is room for it
@@ -203,7 +228,8 @@ module _ {f : List ℕ} {at : ℕ} {w₀ w : List ℕ} {i n : ℕ} (m : Loading 
 
         room : length (x .done) < 512
         unfolding maxNodes
-        room = let whole : length (x .done ++ here-node .nd ∷ here-node .more) ≡ length (x .done) + length (here-node .nd ∷ here-node .more) = length-append (x .done) (here-node .nd ∷ here-node .more) in
+        room = let whole : length (x .done ++ here-node .nd ∷ here-node .more) ≡ length (x .done) + length (here-node .nd ∷ here-node .more) =
+            length-append (x .done) (here-node .nd ∷ here-node .more) in
             omega (arith, whole, ap length one-more, s .nodesMax)
 
       pub loading-full : 512 ≤ n → Loading f at w₀ w next n
@@ -231,7 +257,8 @@ module _ {f : List ℕ} {at : ℕ} {w₀ w : List ℕ} {i n : ℕ} (m : Loading 
               left = y .more;
               schema = [];
               nodes = append-assoc (x .done) (y .nd ∷ []) (y .more) ∙ one-more d qs s x;
-              held = node-added i size 0x05 (frame .content) (holds-line f i line size next h ∙ ap some (frame .first)) (is-size ∙ ap length (frame .first)) (h .most) (y .nd) (x .held) (omega (arith, m .words .long)) (room d qs s x) refl (frame .is);
+              held = node-added i size 0x05 (frame .content) (holds-line f i line size next h ∙ ap some (frame .first))
+                  (is-size ∙ ap length (frame .first)) (h .most) (y .nd) (x .held) (omega (arith, m .words .long)) (room d qs s x) refl (frame .is);
               early = tt;
               are = y .later;
             };
@@ -244,7 +271,8 @@ module _ {f : List ℕ} {at : ℕ} {w₀ w : List ℕ} {i n : ℕ} (m : Loading 
         early : All (λ g. kindByte (frameKind g) < kindByte node) more
         later : map (said Frame.wide) (lines (drop next f)) ≡ map frames (Rest q qs left more)
 
-      at-schema : (q : Query) (qs : List Ast) (left : List Node) (schema : List Frame) → All (λ g. kindByte (frameKind g) < kindByte node) schema → map (said Frame.wide) (lines (drop i f)) ≡ map frames (Rest q qs left schema) → AtSchema q qs left
+      at-schema : (q : Query) (qs : List Ast) (left : List Node) (schema : List Frame) → All (λ g. kindByte (frameKind g) < kindByte node) schema
+          → map (said Frame.wide) (lines (drop i f)) ≡ map frames (Rest q qs left schema) → AtSchema q qs left
       unfolding kindByte frameKind
       at-schema q qs left (g ∷ schema) early are = record { more = schema; early = early .1; later = later-frames h g (Rest q qs left schema) are }
       at-schema q qs (nd ∷ left) [] early are = absurd (j (number (first-frame h (aNode nd) (Rest q qs left []) are)))

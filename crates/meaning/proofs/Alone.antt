@@ -52,13 +52,21 @@ short-queries : (qs : List Ast) → All (Short (length (fileOf wide (flatMap que
 unfolding flatMap
 short-queries [] = tt
 short-queries (a ∷ qs) =
-    let whole : length (fileOf wide (queryFrames a ++ flatMap queryFrames qs)) ≡ length (fileOf wide (queryFrames a)) + length (fileOf wide (flatMap queryFrames qs)) = ap length (file-append wide (queryFrames a) (flatMap queryFrames qs)) ∙ length-append (fileOf wide (queryFrames a)) (fileOf wide (flatMap queryFrames qs)) in
-    (omega (arith, whole), all-map (Short (length (fileOf wide (flatMap queryFrames qs)))) (Short (length (fileOf wide (queryFrames a ++ flatMap queryFrames qs)))) qs (λ b h. omega (arith, whole, h)) (short-queries qs))
+    let whole : length (fileOf wide (queryFrames a ++ flatMap queryFrames qs)) ≡ length (fileOf wide (queryFrames a)) + length
+    (fileOf wide (flatMap queryFrames qs)) = ap length (file-append wide (queryFrames a) (flatMap queryFrames qs)) ∙ length-append
+    (fileOf wide (queryFrames a)) (fileOf wide (flatMap queryFrames qs)) in (
+      omega (arith, whole),
+      all-map (Short (length (fileOf wide (flatMap queryFrames qs))))
+          (Short (length (fileOf wide (queryFrames a ++ flatMap queryFrames qs)))) qs (λ b h. omega (arith, whole, h)) (short-queries qs),
+    )
 
 writable-queries : (qs : List Ast) → All (Writable wide) (flatMap queryFrames qs) → All (λ a. All (Writable wide) (queryFrames a)) qs
 unfolding flatMap
 writable-queries [] w = tt
-writable-queries (a ∷ qs) w = (all-left (Writable wide) (queryFrames a) (flatMap queryFrames qs) w, writable-queries qs (all-right (Writable wide) (queryFrames a) (flatMap queryFrames qs) w))
+writable-queries (a ∷ qs) w = (
+  all-left (Writable wide) (queryFrames a) (flatMap queryFrames qs) w,
+  writable-queries qs (all-right (Writable wide) (queryFrames a) (flatMap queryFrames qs) w),
+)
 
 lawful-alone : (c : Content) (a : Ast) → Lawful wide c → LawfulQuery (length (c .names)) a → All (Writable wide) (queryFrames a) → Lawful wide (alone c a)
 unfolding alone framesOf schemaFrames flatMap maxQueries
@@ -77,13 +85,16 @@ lawful-alone c a h q w =
       queries = (q, tt);
       queriesMin = omega arith;
       queriesMax = omega arith;
-      writable = all-append (Writable wide) (schemaFrames c) (queryFrames a ++ []) (all-left (Writable wide) (schemaFrames c) (flatMap queryFrames (c .queries)) (h .writable)) (rw append-nil w);
+      writable = all-append (Writable wide) (schemaFrames c) (queryFrames a ++ [])
+          (all-left (Writable wide) (schemaFrames c) (flatMap queryFrames (c .queries)) (h .writable)) (rw append-nil w);
     }
 
 -- "the answer of a file with that query alone": that file passes 1 to 10 and 13
-pub alone-passes : (c : Content) → Lawful wide c → length (fileOf wide (framesOf c)) ≤ maxFile → All (λ a. reading (fileAlone c a) ≡ described (describes (alone c a))) (c .queries)
+pub alone-passes : (c : Content) → Lawful wide c → length (fileOf wide (framesOf c)) ≤ maxFile
+    → All (λ a. reading (fileAlone c a) ≡ described (describes (alone c a))) (c .queries)
 unfolding framesOf fileAlone
-alone-passes c h size = go (c .queries) (h .queries) (writable-queries (c .queries) (all-right (Writable wide) (schemaFrames c) (flatMap queryFrames (c .queries)) frames)) (short-queries (c .queries))
+alone-passes c h size = go (c .queries) (h .queries)
+    (writable-queries (c .queries) (all-right (Writable wide) (schemaFrames c) (flatMap queryFrames (c .queries)) frames)) (short-queries (c .queries))
   where
     frames : All (Writable wide) (schemaFrames c ++ flatMap queryFrames (c .queries))
     frames = h .writable
@@ -94,12 +105,16 @@ alone-passes c h size = go (c .queries) (h .queries) (writable-queries (c .queri
     whole : length (fileOf wide (framesOf c)) ≡ length (fileOf wide (schemaFrames c)) + n
     whole = ap length (form-lines c) ∙ length-append (fileOf wide (schemaFrames c)) (fileOf wide (flatMap queryFrames (c .queries)))
 
-    one : (a : Ast) → LawfulQuery (length (c .names)) a → All (Writable wide) (queryFrames a) → Short n a → reading (fileAlone c a) ≡ described (describes (alone c a))
+    one : (a : Ast) → LawfulQuery (length (c .names)) a → All (Writable wide) (queryFrames a) → Short n a
+        → reading (fileAlone c a) ≡ described (describes (alone c a))
     one a q w s =
-        let part : length (fileAlone c a) ≡ length (fileOf wide (schemaFrames c)) + length (fileOf wide (queryFrames a)) = ap length (alone-lines c a) ∙ length-append (fileOf wide (schemaFrames c)) (fileOf wide (queryFrames a)) in
-        says-exactly wide (fileAlone c a) (describes (alone c a)) .1 (record { content = alone c a; is = refl; size = omega (arith, part, whole, s, size); lawful = lawful-alone c a h q w; tree = refl })
+        let part : length (fileAlone c a) ≡ length (fileOf wide (schemaFrames c)) + length (fileOf wide (queryFrames a)) = ap length (alone-lines c a)
+        ∙ length-append (fileOf wide (schemaFrames c)) (fileOf wide (queryFrames a)) in
+        says-exactly wide (fileAlone c a) (describes (alone c a)) .1
+        (record { content = alone c a; is = refl; size = omega (arith, part, whole, s, size); lawful = lawful-alone c a h q w; tree = refl })
 
-    go : (qs : List Ast) → All (LawfulQuery (length (c .names))) qs → All (λ a. All (Writable wide) (queryFrames a)) qs → All (Short n) qs → All (λ a. reading (fileAlone c a) ≡ described (describes (alone c a))) qs
+    go : (qs : List Ast) → All (LawfulQuery (length (c .names))) qs → All (λ a. All (Writable wide) (queryFrames a)) qs → All (Short n) qs
+        → All (λ a. reading (fileAlone c a) ≡ described (describes (alone c a))) qs
     go [] l w s = tt
     go (a ∷ qs) l w s = (one a (l .0) (w .0) (s .0), go qs (l .1) (w .1) (s .1))
 
@@ -113,25 +128,30 @@ module _ (c : Content) (words : ℕ) (enough : ltb words minWords ≡ false) whe
   text = textIn (describes c)
 
   -- the file alone is decided by its query's run
-  one-decided : (a : Ast) → reading (fileAlone c a) ≡ described (describes (alone c a)) → decide (fileAlone c a) words ≡ decideRun text (withChecked (check maxVisits schema a) (some []))
+  one-decided : (a : Ast) → reading (fileAlone c a) ≡ described (describes (alone c a))
+      → decide (fileAlone c a) words ≡ decideRun text (withChecked (check maxVisits schema a) (some []))
   unfolding decide schema text describes alone runAll
   one-decided a p = rw (enough, decide, p)
 
-  one-answered : (a : Ast) (t : Typed) → reading (fileAlone c a) ≡ described (describes (alone c a)) → Ran schema a t → decide (fileAlone c a) words ≡ answered (answerLines text t)
+  one-answered : (a : Ast) (t : Typed) → reading (fileAlone c a) ≡ described (describes (alone c a)) → Ran schema a t
+      → decide (fileAlone c a) words ≡ answered (answerLines text t)
   unfolding withChecked decideRun formLines
   one-answered a t p q = one-decided a p ∙ ap (λ x. decideRun text (withChecked x (some []))) q
 
-  one-ran-out : (a : Ast) → reading (fileAlone c a) ≡ described (describes (alone c a)) → RanOut schema a → decide (fileAlone c a) words ≡ turnedDown tooManyVisits
+  one-ran-out : (a : Ast) → reading (fileAlone c a) ≡ described (describes (alone c a)) → RanOut schema a
+      → decide (fileAlone c a) words ≡ turnedDown tooManyVisits
   unfolding withChecked decideRun
   one-ran-out a p q = one-decided a p ∙ ap (λ x. decideRun text (withChecked x (some []))) q
 
-  each-answered : (qs : List Ast) (ts : List Typed) → All (λ a. reading (fileAlone c a) ≡ described (describes (alone c a))) qs → Each (Ran schema) qs ts → Each (λ a l. decide (fileAlone c a) words ≡ answered l) qs (map (answerLines text) ts)
+  each-answered : (qs : List Ast) (ts : List Typed) → All (λ a. reading (fileAlone c a) ≡ described (describes (alone c a))) qs
+      → Each (Ran schema) qs ts → Each (λ a l. decide (fileAlone c a) words ≡ answered l) qs (map (answerLines text) ts)
   each-answered [] [] p e = tt
   each-answered [] (t ∷ ts) p e = e
   each-answered (a ∷ qs) [] p e = e
   each-answered (a ∷ qs) (t ∷ ts) p e = (one-answered a t (p .0) (e .0), each-answered qs ts (p .1) (e .1))
 
-  any-ran-out : (qs : List Ast) → All (λ a. reading (fileAlone c a) ≡ described (describes (alone c a))) qs → Any (RanOut schema) qs → Any (λ a. decide (fileAlone c a) words ≡ turnedDown tooManyVisits) qs
+  any-ran-out : (qs : List Ast) → All (λ a. reading (fileAlone c a) ≡ described (describes (alone c a))) qs → Any (RanOut schema) qs
+      → Any (λ a. decide (fileAlone c a) words ≡ turnedDown tooManyVisits) qs
   any-ran-out [] p e = e
   any-ran-out (a ∷ qs) p (inl q) = inl (one-ran-out a (p .0) q)
   any-ran-out (a ∷ qs) p (inr e) = inr (any-ran-out qs (p .1) e)
@@ -140,7 +160,8 @@ clashing : {ls : List ℕ} {r : Refusal} → answered ls ≡ turnedDown r → �
 clashing e = let z : _≡_ {A = ℕ} 0 1 = cc in omega arith
 
 -- no file is both answered and turned down
-not-both : {A : Type 0} (R : A → Decided) (qs : List A) (ls : List (List ℕ)) → Each (λ a l. R a ≡ answered l) qs ls → Any (λ a. R a ≡ turnedDown tooManyVisits) qs → ⊥
+not-both : {A : Type 0} (R : A → Decided) (qs : List A) (ls : List (List ℕ)) → Each (λ a l. R a ≡ answered l) qs ls
+    → Any (λ a. R a ≡ turnedDown tooManyVisits) qs → ⊥
 not-both R [] ls e a = a
 not-both R (q ∷ qs) [] e a = e
 not-both R (q ∷ qs) (l ∷ ls) e (inl x) = clashing (sym (e .0) ∙ x)
@@ -152,7 +173,8 @@ module _ (text : Message → List ℕ) where
   numbered-joined k [] = refl
   numbered-joined k (t ∷ ts) = ap (λ s. hexLine (0x0b ∷ bytes₂ k) ++ (answerLines text t ++ s)) (numbered-joined (suc k) ts)
 
-  form-joined : (schema : Schema) (qs : List Ast) (ts : List Typed) → 2 ≤ length qs → Each (Ran schema) qs ts → formLines text ts ≡ joined 0 (map (answerLines text) ts)
+  form-joined : (schema : Schema) (qs : List Ast) (ts : List Typed) → 2 ≤ length qs → Each (Ran schema) qs ts
+      → formLines text ts ≡ joined 0 (map (answerLines text) ts)
   unfolding formLines
   form-joined schema [] ts h e = absurd (omega arith)
   form-joined schema (a ∷ []) ts h e = absurd (omega arith)
@@ -166,7 +188,8 @@ module _ (c : Content) (lawful : Lawful wide c) (size : length (fileOf wide (fra
   is-read : reading (fileOf wide (framesOf c)) ≡ described (describes c)
   is-read = says-exactly wide (fileOf wide (framesOf c)) (describes c) .1 (record { content = c; is = refl; size = size; lawful = lawful; tree = refl })
 
-  is-decided : ltb words minWords ≡ false → decide (fileOf wide (framesOf c)) words ≡ decideRun (textIn (describes c)) (runAll (describes c .schema) (c .queries))
+  is-decided : ltb words minWords ≡ false → decide (fileOf wide (framesOf c)) words ≡ decideRun (textIn (describes c))
+      (runAll (describes c .schema) (c .queries))
   unfolding decide decideRead describes
   is-decided q = rw (q, decide) (ap decideRead is-read)
 
@@ -193,21 +216,25 @@ module _ (c : Content) (lawful : Lawful wide c) (size : length (fileOf wide (fra
           }
 
   -- 11 exactly where one of the files alone gets 11
-  pub ran-out : (decide (fileOf wide (framesOf c)) words ≡ turnedDown tooManyVisits) ↔ Any (λ a. decide (fileAlone c a) words ≡ turnedDown tooManyVisits) (c .queries)
+  pub ran-out : (decide (fileOf wide (framesOf c)) words ≡ turnedDown tooManyVisits) ↔ Any
+      (λ a. decide (fileAlone c a) words ≡ turnedDown tooManyVisits) (c .queries)
   unfolding decide decideRun schema text
   ran-out = (λ e. forth e, λ a. back a)
     where
       not-short : turnedDown tooManyVisits ≢ turnedDown workTooShort
       not-short e = let z : _≡_ {A = ℕ} 0 1 = cc in omega arith
 
-      forth : decide (fileOf wide (framesOf c)) words ≡ turnedDown tooManyVisits → Any (λ a. decide (fileAlone c a) words ≡ turnedDown tooManyVisits) (c .queries)
+      forth : decide (fileOf wide (framesOf c)) words ≡ turnedDown tooManyVisits
+          → Any (λ a. decide (fileAlone c a) words ≡ turnedDown tooManyVisits) (c .queries)
       forth e = go (lent _ e not-short) (runs (describes c .schema) (c .queries)) (sym (is-decided (lent _ e not-short)) ∙ e)
         where
-          go : ltb words minWords ≡ false → {o : Option (List Typed)} → Runs (describes c .schema) (c .queries) o → decideRun (textIn (describes c)) o ≡ turnedDown tooManyVisits → Any (λ a. decide (fileAlone c a) words ≡ turnedDown tooManyVisits) (c .queries)
+          go : ltb words minWords ≡ false → {o : Option (List Typed)} → Runs (describes c .schema) (c .queries) o
+              → decideRun (textIn (describes c)) o ≡ turnedDown tooManyVisits → Any (λ a. decide (fileAlone c a) words ≡ turnedDown tooManyVisits) (c .queries)
           go n (one-out x) q = any-ran-out c words n (c .queries) (alone-passes c lawful size) x
           go n (all-ran ts x) q = absurd (clashing q)
 
-      back : Any (λ a. decide (fileAlone c a) words ≡ turnedDown tooManyVisits) (c .queries) → decide (fileOf wide (framesOf c)) words ≡ turnedDown tooManyVisits
+      back : Any (λ a. decide (fileAlone c a) words ≡ turnedDown tooManyVisits) (c .queries)
+          → decide (fileOf wide (framesOf c)) words ≡ turnedDown tooManyVisits
       back a = cases (ltb words minWords) (λ q. absurd (short-all q (c .queries) a)) (λ q. is-decided q ∙ go q (runs (describes c .schema) (c .queries)))
         where
           short-one : ltb words minWords ≡ true → (file : List ℕ) → decide file words ≡ turnedDown workTooShort
@@ -218,6 +245,8 @@ module _ (c : Content) (lawful : Lawful wide c) (size : length (fileOf wide (fra
           short-all q (b ∷ qs) (inl x) = not-short (sym x ∙ short-one q (fileAlone c b))
           short-all q (b ∷ qs) (inr x) = short-all q qs x
 
-          go : ltb words minWords ≡ false → {o : Option (List Typed)} → Runs (describes c .schema) (c .queries) o → decideRun (textIn (describes c)) o ≡ turnedDown tooManyVisits
+          go : ltb words minWords ≡ false → {o : Option (List Typed)} → Runs (describes c .schema) (c .queries) o
+              → decideRun (textIn (describes c)) o ≡ turnedDown tooManyVisits
           go n (one-out x) = refl
-          go n (all-ran ts x) = absurd (not-both (λ b. decide (fileAlone c b) words) (c .queries) (map (answerLines (textIn (describes c))) ts) (each-answered c words n (c .queries) ts (alone-passes c lawful size) x) a)
+          go n (all-ran ts x) = absurd (not-both (λ b. decide (fileAlone c b) words) (c .queries) (map (answerLines (textIn (describes c))) ts)
+              (each-answered c words n (c .queries) ts (alone-passes c lawful size) x) a)

@@ -5,9 +5,12 @@ use Prim.Native.Nat.{ℕ, _/_}
 use native.Mathlib.Omega.{arith}
 use Rattle.unification.specs.Ty.{Int, String, Bytes, Fact}
 use Rattle.meaning.specs.Syntax.{Field, QueryStmt, Query, FieldRef, Literal, ExprKind, Node}
-use Rattle.meaning.specs.Frame.{Edition, narrow, wide, Kind, kindByte, Alternative, TypeShape, aLeaf, aRecord, aUnion, Frame, theLimits, aName, aType, aPredicate, aNode, theQuery, frameKind}
+use Rattle.meaning.specs.Frame.{Edition, narrow, wide, Kind, kindByte, Alternative, TypeShape, aLeaf, aRecord, aUnion, Frame, theLimits, aName}
+use Rattle.meaning.specs.Frame.{aType, aPredicate, aNode, theQuery, frameKind}
 use Rattle.meaning.specs.All.{All}
-use Rattle.meaning.specs.Writing.{Byte, InTwo, asField, asAlternative, asReference, asShape, asValueType, asStatement, asQuery, asExpr, asNode, asContent, written, FieldFits, AlternativeFits, ReferenceFits, ShapeFits, ValueTypeFits, StatementFits, QueryFits, ExprFits, NodeFits, Fits}
+use Rattle.meaning.specs.Writing.{Byte, InTwo, asField, asAlternative, asReference, asShape, asValueType, asStatement, asQuery, asExpr, asNode}
+use Rattle.meaning.specs.Writing.{asContent, written, FieldFits, AlternativeFits, ReferenceFits, ShapeFits, ValueTypeFits, StatementFits, QueryFits}
+use Rattle.meaning.specs.Writing.{ExprFits, NodeFits, Fits}
 use Rattle.meaning.specs.Answer.{bytes₂, bytes₄}
 use Rattle.meaning.proofs.Lists.{all-append}
 
@@ -36,7 +39,8 @@ field f h = twos (f .name) (f .value)
 
 alternative : (a : Alternative) → AlternativeFits a → All Byte (asAlternative a)
 unfolding asAlternative
-alternative a h = join (bytes₂ (a .name) ++ bytes₄ (a .discriminant)) (bytes₂ (a .type)) (join (bytes₂ (a .name)) (bytes₄ (a .discriminant)) (two (a .name)) (four (a .discriminant))) (two (a .type))
+alternative a h = join (bytes₂ (a .name) ++ bytes₄ (a .discriminant)) (bytes₂ (a .type))
+    (join (bytes₂ (a .name)) (bytes₄ (a .discriminant)) (two (a .name)) (four (a .discriminant))) (two (a .type))
 
 reference : (e : Edition) (p : ℕ) → All Byte (asReference e p)
 unfolding asReference
@@ -91,7 +95,8 @@ expr e (ExprKind.Select n x) h = (omega arith, twos n x)
 
 node : (e : Edition) (n : Node) → NodeFits e n → All Byte (asNode e n)
 unfolding asNode
-node e n h = join (bytes₄ (n .span .start) ++ bytes₄ (n .span .end)) (asExpr e (n .kind)) (join (bytes₄ (n .span .start)) (bytes₄ (n .span .end)) (four (n .span .start)) (four (n .span .end))) (expr e (n .kind) (h .2))
+node e n h = join (bytes₄ (n .span .start) ++ bytes₄ (n .span .end)) (asExpr e (n .kind))
+    (join (bytes₄ (n .span .start)) (bytes₄ (n .span .end)) (four (n .span .start)) (four (n .span .end))) (expr e (n .kind) (h .2))
 
 content : (e : Edition) (f : Frame) → Fits e f → All Byte (asContent e f)
 unfolding asContent

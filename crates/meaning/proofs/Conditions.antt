@@ -13,11 +13,14 @@ use Rattle.text.proofs.Grammar.{counts}
 use Rattle.meaning.specs.Frame.{Kind, limits, name, schemaType, predicate, node, query, mayStand, Frame, frameKind}
 use Rattle.meaning.specs.References.{nameRefs, typeRefs, nodeRefs, textsOf, keysOf}
 use Rattle.meaning.specs.SoFar.{SoFar, Said, frames}
-use Rattle.meaning.specs.Conditions.{allBelow, again, given, maxNames, maxTypes, maxPredicates, maxNodes, maxQueries, isMalformed, isMisplaced, isFull, isOneTooMany, isLastQueryPast, isQueryTooMany, isNoFrame, ofFrame, broken, isBrokenText, isNameGivenBefore, refersEarlier, refersBadly, isBadReference, isRepeatedKey, Condition, conditions, firstOf}
+use Rattle.meaning.specs.Conditions.{allBelow, again, given, maxNames, maxTypes, maxPredicates, maxNodes, maxQueries, isMalformed, isMisplaced}
+use Rattle.meaning.specs.Conditions.{isFull, isOneTooMany, isLastQueryPast, isQueryTooMany, isNoFrame, ofFrame, broken, isBrokenText}
+use Rattle.meaning.specs.Conditions.{isNameGivenBefore, refersEarlier, refersBadly, isBadReference, isRepeatedKey, Condition, conditions, firstOf}
 use Rattle.meaning.specs.All.{All, Absent}
 use Rattle.meaning.proofs.Obeys.{Room, Obeys}
 use Rattle.meaning.proofs.Lists.{empty-absent}
-use Rattle.meaning.proofs.Tests.{cases, clash, both-true, none-passes, passes-none, below-all, all-below, again-new, again-distinct, new-again, given-absent, absent-given}
+use Rattle.meaning.proofs.Tests.{cases, clash, both-true, none-passes, passes-none, below-all, all-below, again-new, again-distinct, new-again}
+use Rattle.meaning.proofs.Tests.{given-absent, absent-given}
 
 -- ---- No condition of a list holds
 
@@ -97,7 +100,8 @@ obeys so f e =
       new = none-passes (given (so .names)) (λ s. Absent s (so .names)) (given-absent (so .names)) (textsOf f) (a .1 .1 .1 .1 .1 .1 .0);
       names = below-all (length (so .names)) (nameRefs f) (both-left _ _ earlier);
       types = below-all (length (so .types)) (typeRefs f) (both-left _ _ (both-right (allBelow (length (so .names)) (nameRefs f)) _ earlier));
-      nodes = below-all (length (so .nodes)) (nodeRefs f) (both-right (allBelow (length (so .types)) (typeRefs f)) _ (both-right (allBelow (length (so .names)) (nameRefs f)) _ earlier));
+      nodes = below-all (length (so .nodes)) (nodeRefs f)
+          (both-right (allBelow (length (so .types)) (typeRefs f)) _ (both-right (allBelow (length (so .names)) (nameRefs f)) _ earlier));
       unnamed = again-new (so .named) (nodeRefs f) once;
       once = again-distinct (so .named) (nodeRefs f) once;
       keys = again-distinct [] (keysOf f) (a .1 .1 .1 .1 .1 .1 .1 .1 .0);
@@ -115,10 +119,14 @@ obeys so f e =
 pub no-condition : (so : SoFar) (f : Frame) → Obeys so f → firstOf conditions so (frames f) ≡ none
 unfolding conditions isMalformed isMisplaced isOneTooMany isQueryTooMany isNoFrame isBrokenText isNameGivenBefore isBadReference isRepeatedKey ofFrame refersEarlier refersBadly
 no-condition so f o =
-    holds-none conditions so (frames f) (refl, (ap not (o .placed), (full so (frameKind f) (o .room), (last-past so (frameKind f) (o .room), (refl, (text, (new, (reference, (keys, tt)))))))))
+    holds-none conditions so (frames f) (
+      refl,
+      (ap not (o .placed), (full so (frameKind f) (o .room), (last-past so (frameKind f) (o .room), (refl, (text, (new, (reference, (keys, tt)))))))),
+    )
   where
     earlier : refersEarlier so f ≡ true
-    earlier = both-true _ _ (all-below (length (so .names)) (nameRefs f) (o .names)) (both-true _ _ (all-below (length (so .types)) (typeRefs f) (o .types)) (all-below (length (so .nodes)) (nodeRefs f) (o .nodes)))
+    earlier = both-true _ _ (all-below (length (so .names)) (nameRefs f) (o .names))
+        (both-true _ _ (all-below (length (so .types)) (typeRefs f) (o .types)) (all-below (length (so .nodes)) (nodeRefs f) (o .nodes)))
 
     text : isBrokenText so (frames f) ≡ false
     text = passes-none broken Readable unbroken (textsOf f) (o .text)

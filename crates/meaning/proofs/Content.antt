@@ -35,16 +35,21 @@ record Held (fs : List Frame) (end : SoFar) : Type 0 where
   lawful : (ed : Edition) → All (Writable ed) fs → Lawful ed content
 
 -- the frames after the limits
-after-limits : (d t : ℕ) (fs : List Frame) (end : SoFar) → end .previous ≡ some Kind.query → Kept end → Grouped limits (add start (theLimits d t)) fs end → Held (theLimits d t ∷ fs) end
+after-limits : (d t : ℕ) (fs : List Frame) (end : SoFar) → end .previous ≡ some Kind.query → Kept end
+    → Grouped limits (add start (theLimits d t)) fs end → Held (theLimits d t ∷ fs) end
 unfolding add start framesOf schemaFrames
 after-limits d t fs end e k g =
     let qs = g .tail .queries in
     let c : Content = record { maxDistance = d; maxTermChars = t; names = g .names; types = g .types; predicates = g .predicates; queries = qs } in
     let types : length (end .types) ≡ length (g .types) = ap length (g .endTypes) ∙ types-length [] (g .types) ∙ omega arith in
-    let predicates : length (end .predicates) ≡ length (g .predicates) = ap length (g .endPredicates) ∙ length-map (g .predicates) (predicateWith (end .types)) in
+    let predicates : length (end .predicates) ≡ length (g .predicates) = ap length (g .endPredicates) ∙ length-map (g .predicates)
+    (predicateWith (end .types)) in
     let queries : end .queries ≡ qs = g .tail .endQueries in
-    let rest : g .rest ≡ flatMap queryFrames qs = g .tail .are ∙ ap (λ l. flatMap queryFrames qs ++ map aNode l) (k .closed e) ∙ append-nil (flatMap queryFrames qs) in
-    let are : theLimits d t ∷ fs ≡ framesOf c = ap (λ l. theLimits d t ∷ l) (g .are ∙ ap (λ l. map aName (g .names) ++ (map aType (g .types) ++ (map predicateFrame (g .predicates) ++ l))) rest ∙ apart (map aName (g .names)) (map aType (g .types)) (map predicateFrame (g .predicates)) (flatMap queryFrames qs)) in
+    let rest : g .rest ≡ flatMap queryFrames qs = g .tail .are ∙ ap (λ l. flatMap queryFrames qs ++ map aNode l) (k .closed e) ∙ append-nil
+    (flatMap queryFrames qs) in
+    let are : theLimits d t ∷ fs ≡ framesOf c = ap (λ l. theLimits d t ∷ l)
+    (g .are ∙ ap (λ l. map aName (g .names) ++ (map aType (g .types) ++ (map predicateFrame (g .predicates) ++ l))) rest ∙ apart
+    (map aName (g .names)) (map aType (g .types)) (map predicateFrame (g .predicates)) (flatMap queryFrames qs)) in
     record {
       content = c;
       are = are;
@@ -90,7 +95,8 @@ held (f ∷ fs) end e (next o r) = go f (kept (next o r)) o r
 
 -- ---- The tree
 
-same-tree : (a b : SoFar) → a .predicates ≡ b .predicates → a .names ≡ b .names → a .maxDistance ≡ b .maxDistance → a .maxTermChars ≡ b .maxTermChars → a .queries ≡ b .queries → describe a ≡ describe b
+same-tree : (a b : SoFar) → a .predicates ≡ b .predicates → a .names ≡ b .names → a .maxDistance ≡ b .maxDistance → a .maxTermChars ≡ b .maxTermChars
+    → a .queries ≡ b .queries → describe a ≡ describe b
 unfolding describe schemaOf
 same-tree a b p n d t x = rw (p, n, d, t, x)
 
@@ -101,7 +107,8 @@ end-tree c = refl
 held-tree : {fs : List Frame} {end : SoFar} (h : Held fs end) → describe end ≡ describes (h .content)
 unfolding endOf
 held-tree {end = end} h =
-    same-tree end (endOf (h .content)) (h .predicates ∙ ap (λ ts. map (predicateWith ts) (h .content .predicates)) (h .types)) (h .names) (h .distance) (h .termChars) (h .queries)
+    same-tree end (endOf (h .content)) (h .predicates ∙ ap (λ ts. map (predicateWith ts) (h .content .predicates)) (h .types)) (h .names)
+    (h .distance) (h .termChars) (h .queries)
     ∙ end-tree (h .content)
 
 -- ---- The theorem

@@ -18,7 +18,8 @@ use Rattle.meaning.specs.Sound.{Sound}
 use Rattle.meaning.specs.Check.{Typed}
 use Rattle.meaning.specs.Answer.{formLines}
 use Rattle.meaning.specs.Messages.{textIn}
-use Rattle.meaning.specs.Outcome.{Decided, turnedDown, answered, Outcome, Accepted, Refused, minWords, maxVisits, runAll, decideRun, decideRead, decide, refuse, accept, finish, outcome}
+use Rattle.meaning.specs.Outcome.{Decided, turnedDown, answered, Outcome, Accepted, Refused, minWords, maxVisits, runAll, decideRun, decideRead}
+use Rattle.meaning.specs.Outcome.{decide, refuse, accept, finish, outcome}
 use Rattle.meaning.specs.Demands.{RefusedWhen, for-work, for-file, for-visits, for-answer, AcceptedWhen, Demand1, Demand2}
 use Rattle.meaning.specs.Run.{RunDemand3, RunAsRobinson}
 use Rattle.meaning.proofs.Tests.{cases}
@@ -44,7 +45,8 @@ module _ (file : List ℕ) (words : ℕ) where
     short : words < minWords → Decides (turnedDown workTooShort)
     unread : {i : Refusal} → minWords ≤ words → Lines.Refused wide file i → Decides (turnedDown i)
     spent : (f : Form) → minWords ≤ words → reading file ≡ described f → Any (RanOut (f .schema)) (f .queries) → Decides (turnedDown tooManyVisits)
-    answers : (f : Form) (ts : List Typed) → minWords ≤ words → reading file ≡ described f → Each (Ran (f .schema)) (f .queries) ts → Decides (answered (formLines (textIn f) ts))
+    answers : (f : Form) (ts : List Typed) → minWords ≤ words → reading file ≡ described f → Each (Ran (f .schema)) (f .queries) ts
+        → Decides (answered (formLines (textIn f) ts))
 
   pub short-decides : words < minWords → decide file words ≡ turnedDown workTooShort
   unfolding decide
@@ -58,7 +60,8 @@ module _ (file : List ℕ) (words : ℕ) where
   unfolding decideRead
   unread-decides i h r = enough-decides h ∙ ap decideRead (refused-when wide file i .1 r)
 
-  pub reads-decides : (f : Form) (x : Option (List Typed)) → minWords ≤ words → reading file ≡ described f → runAll (f .schema) (f .queries) ≡ x → decide file words ≡ decideRun (textIn f) x
+  pub reads-decides : (f : Form) (x : Option (List Typed)) → minWords ≤ words → reading file ≡ described f → runAll (f .schema) (f .queries) ≡ x
+      → decide file words ≡ decideRun (textIn f) x
   unfolding decideRead
   reads-decides f x h s e = enough-decides h ∙ ap decideRead s ∙ ap (decideRun (textIn f)) e
 
@@ -68,7 +71,8 @@ module _ (file : List ℕ) (words : ℕ) where
       (λ b. let h = ltb-true words minWords b in subst Decides (sym (short-decides h)) (short h))
       (λ b. read (ltb-false words minWords b) (reading file) refl)
     where
-      checks : minWords ≤ words → (f : Form) → reading file ≡ described f → {x : Option (List Typed)} → Runs (f .schema) (f .queries) x → runAll (f .schema) (f .queries) ≡ x → Decides (decide file words)
+      checks : minWords ≤ words → (f : Form) → reading file ≡ described f → {x : Option (List Typed)} → Runs (f .schema) (f .queries) x
+          → runAll (f .schema) (f .queries) ≡ x → Decides (decide file words)
       checks h f s (all-ran ts r) e = subst Decides (sym (reads-decides f (some ts) h s e)) (answers f ts h s r)
       checks h f s (one-out r) e = subst Decides (sym (reads-decides f none h s e)) (spent f h s r)
 
@@ -105,7 +109,8 @@ module _ (file : List ℕ) (words : ℕ) where
         go (spent d h s c) e = subst Ends (sym (down _ e)) (refused-so _ (for-visits d h s c))
         go (answers d t h s c) e = cases (ltb bytes (length (formLines (textIn d) t)))
             (λ b. let l = ltb-true bytes (length (formLines (textIn d) t)) b in subst Ends (sym (over _ e l)) (refused-so _ (for-answer d t h s c l)))
-            (λ b. let l = ltb-false bytes (length (formLines (textIn d) t)) b in subst Ends (sym (fitting _ e l)) (accepted-so d t (record { enough = h; reads = s; checks = c; fits = l })))
+            (λ b. let l = ltb-false bytes (length (formLines (textIn d) t)) b in subst Ends (sym (fitting _ e l))
+            (accepted-so d t (record { enough = h; reads = s; checks = c; fits = l })))
 
     refuses : (i : Refusal) → RefusedWhen file words bytes i → outcome file words bytes ≡ refuse i words bytes
     unfolding decideRun
@@ -116,7 +121,8 @@ module _ (file : List ℕ) (words : ℕ) where
 
     accepts : (d : Form) (t : List Typed) → AcceptedWhen file words bytes d t → outcome file words bytes ≡ accept (formLines (textIn d) t) words bytes
     unfolding decideRun
-    accepts d t a = fitting (formLines (textIn d) t) (reads-decides d (some t) (a .enough) (a .reads) (each-ran (d .schema) (d .queries) t (a .checks))) (a .fits)
+    accepts d t a = fitting (formLines (textIn d) t)
+        (reads-decides d (some t) (a .enough) (a .reads) (each-ran (d .schema) (d .queries) t (a .checks))) (a .fits)
 
     -- Every call is accepted or refused for one of the thirteen reasons, each exactly under its condition; zeros as document 01 has them.
     pub demand-1 : Demand1 file words bytes
@@ -126,7 +132,10 @@ module _ (file : List ℕ) (words : ℕ) where
       accepted-exactly = (λ e. passed ends e, λ h. ap Outcome.result (accepts (h .0) (h .1) (h .2)));
       refused-zeros = λ i e. blank i ends e;
       work-zeros = cleared ends;
-      text-refused = (λ e. broken-when (why brokenText ends e) refl, λ h. ap Outcome.result (refuses brokenText (for-file (h .0) (broken-exactly wide file .1 (h .1)))));
+      text-refused = (
+        λ e. broken-when (why brokenText ends e) refl,
+        λ h. ap Outcome.result (refuses brokenText (for-file (h .0) (broken-exactly wide file .1 (h .1)))),
+      );
     }
       where
         why : (i : Refusal) {o : Outcome} → Ends o → o .result ≡ Refused i → RefusedWhen file words bytes i
@@ -156,7 +165,15 @@ module _ (file : List ℕ) (words : ℕ) where
     unfolding accept
     demand-2 e =
         let a = demand-1 .accepted-exactly .0 e in
-        record { f = a .0; ts = a .1; when = a .2; answer = ap Outcome.answer (accepts (a .0) (a .1) (a .2)); nonzero = form-nonzero (textIn (a .0)) (a .1); texts = texts-counted file (a .0) (a .2 .reads); robinson = all-robinson file (a .0) (a .2 .reads) }
+        record {
+          f = a .0;
+          ts = a .1;
+          when = a .2;
+          answer = ap Outcome.answer (accepts (a .0) (a .1) (a .2));
+          nonzero = form-nonzero (textIn (a .0)) (a .1);
+          texts = texts-counted file (a .0) (a .2 .reads);
+          robinson = all-robinson file (a .0) (a .2 .reads);
+        }
 
 -- The run on each query that a file describes is a list of demand 3's calls, and the claim holds of it.
 pub demand-3 : (file : List ℕ) (f : Form) → reading file ≡ described f → All (λ a. RunDemand3 (f .schema) a maxVisits) (f .queries)

@@ -11,14 +11,19 @@ use native.Mathlib.Omega.{arith}
 use lib.ListN.{length, List·getD-eq-default}
 use Rattle.unification.specs.Ty.{Leaf, Kind, Ty, Row}
 use Rattle.unification.specs.Unify.{findKey, findLabel}
-use Rattle.meaning.specs.Syntax.{Field, QueryStmt, Query, FieldRef, Literal, ExprKind, Node, noNode, nodeAt, allFields, destructurableKind, destructurableIn, isDestructurable}
+use Rattle.meaning.specs.Syntax.{Field, QueryStmt, Query, FieldRef, Literal, ExprKind, Node, noNode, nodeAt, allFields, destructurableKind}
+use Rattle.meaning.specs.Syntax.{destructurableIn, isDestructurable}
 use Rattle.meaning.specs.Schema.{Schema}
 use Rattle.meaning.specs.References.{fieldValues, stmtNodes, queryNodes, exprNodes}
 use Rattle.meaning.specs.All.{All}
 use Rattle.meaning.specs.Sound.{Lower}
 use Rattle.meaning.proofs.Lists.{all-map}
 use Rattle.meaning.proofs.Sound.{lower-at}
-use Rattle.meaning.specs.Check.{Form, aWildcard, aVariable, aConstant, aRecord, aDisjunction, anError, another, formOf, Walk, kind, form, keyTy, access, select, inferFields, inferAll, disjunction, fact, bindVariable, badTarget, onlyRight, notYet, destructure, bindWildcard, bindForm, denyForm, compare, generate, stmt, stmts, subquery, inferKind, inferAt, inferThenUnify, checkField, checkMentioned, checkFields, checkAlternative, checkUnion, checkRecord, checkForm, checkAgainst, checkAt, generateBranches, generatorForm, generatorAt, walk}
+use Rattle.meaning.specs.Check.{Form, aWildcard, aVariable, aConstant, aRecord, aDisjunction, anError, another, formOf, Walk, kind, form, keyTy}
+use Rattle.meaning.specs.Check.{access, select, inferFields, inferAll, disjunction, fact, bindVariable, badTarget, onlyRight, notYet, destructure}
+use Rattle.meaning.specs.Check.{bindWildcard, bindForm, denyForm, compare, generate, stmt, stmts, subquery, inferKind, inferAt, inferThenUnify}
+use Rattle.meaning.specs.Check.{checkField, checkMentioned, checkFields, checkAlternative, checkUnion, checkRecord, checkForm, checkAgainst, checkAt}
+use Rattle.meaning.specs.Check.{generateBranches, generatorForm, generatorAt, walk}
 
 -- They visit this node alike.
 pub record Alike (below below′ : Walk) (m : ℕ) : Type 0 where
@@ -128,7 +133,8 @@ module _ (schema : Schema) (nodes : List Node) (below below′ : Walk) where
     inferThenUnify-alike t = rw inferAt-alike
 
     -- ---- `check`
-    checkFields-alike : (fs : List Field) (row : Row) → All (Alike below below′) (fieldValues fs) → checkFields schema nodes below fs row ≡ checkFields schema nodes below′ fs row
+    checkFields-alike : (fs : List Field) (row : Row) → All (Alike below below′) (fieldValues fs)
+        → checkFields schema nodes below fs row ≡ checkFields schema nodes below′ fs row
     unfolding checkFields checkMentioned checkField fieldValues
     checkFields-alike [] row h = refl
     checkFields-alike (f ∷ fs) row h = rw (mentioned (findKey (f .name) row), checkFields-alike fs row (h .1))
@@ -137,7 +143,8 @@ module _ (schema : Schema) (nodes : List Node) (below below′ : Walk) where
         mentioned none = refl
         mentioned (some field) = rw (h .0 .check)
 
-    checkUnion-alike : (fs : List Field) (row : Row) → All (Alike below below′) (fieldValues fs) → checkUnion schema nodes below id fs row ≡ checkUnion schema nodes below′ id fs row
+    checkUnion-alike : (fs : List Field) (row : Row) → All (Alike below below′) (fieldValues fs)
+        → checkUnion schema nodes below id fs row ≡ checkUnion schema nodes below′ id fs row
     unfolding checkUnion checkAlternative fieldValues
     checkUnion-alike [] row h = refl
     checkUnion-alike (f ∷ []) row h = go (findLabel (f .name) row) refl
@@ -147,7 +154,8 @@ module _ (schema : Schema) (nodes : List Node) (below below′ : Walk) where
         go (some t) e = rw (e, checkAlternative, h .0 .check)
     checkUnion-alike (f ∷ g ∷ fs) row h = refl
 
-    checkRecord-alike : (fs : List Field) (t : Ty) → All (Alike below below′) (fieldValues fs) → checkRecord schema nodes below id fs t ≡ checkRecord schema nodes below′ id fs t
+    checkRecord-alike : (fs : List Field) (t : Ty) → All (Alike below below′) (fieldValues fs)
+        → checkRecord schema nodes below id fs t ≡ checkRecord schema nodes below′ id fs t
     unfolding checkRecord
     checkRecord-alike fs (Ty.node Kind.Record row) h = rw (checkFields-alike fs row h)
     checkRecord-alike fs (Ty.node Kind.Union row) h = checkUnion-alike fs row h
@@ -156,7 +164,8 @@ module _ (schema : Schema) (nodes : List Node) (below below′ : Walk) where
     checkRecord-alike fs Ty.Error h = inferThenUnify-alike Ty.Error
 
     -- What a form holds are the parts that the kind names.
-    checkKind-alike : (k : ExprKind) (t : Ty) → All (Alike below below′) (exprNodes k) → checkForm schema nodes below id (formOf k) t ≡ checkForm schema nodes below′ id (formOf k) t
+    checkKind-alike : (k : ExprKind) (t : Ty) → All (Alike below below′) (exprNodes k)
+        → checkForm schema nodes below id (formOf k) t ≡ checkForm schema nodes below′ id (formOf k) t
     unfolding checkForm formOf exprNodes
     checkKind-alike (ExprKind.Lit l) t h = inferThenUnify-alike t
     checkKind-alike (ExprKind.Var x) t h = inferThenUnify-alike t
@@ -185,12 +194,14 @@ module _ (schema : Schema) (nodes : List Node) (below below′ : Walk) where
     checkAt-alike t = simp checkAgainst-alike
 
     -- ---- `generator`
-    generateBranches-alike : (last : Ty) (es : List ℕ) → All (Alike below below′) es → generateBranches schema nodes below last es ≡ generateBranches schema nodes below′ last es
+    generateBranches-alike : (last : Ty) (es : List ℕ) → All (Alike below below′) es
+        → generateBranches schema nodes below last es ≡ generateBranches schema nodes below′ last es
     unfolding generateBranches
     generateBranches-alike last [] h = refl
     generateBranches-alike last (e ∷ es) h = rw (h .0 .generator, fun-ext (λ t. generateBranches-alike t es (h .1)))
 
-    generatorKind-alike : (k : ExprKind) → All (Alike below below′) (exprNodes k) → generatorForm schema nodes below id (formOf k) ≡ generatorForm schema nodes below′ id (formOf k)
+    generatorKind-alike : (k : ExprKind) → All (Alike below below′) (exprNodes k)
+        → generatorForm schema nodes below id (formOf k) ≡ generatorForm schema nodes below′ id (formOf k)
     unfolding generatorForm formOf exprNodes
     generatorKind-alike (ExprKind.Lit l) h = inferAt-alike
     generatorKind-alike (ExprKind.Var x) h = inferAt-alike
@@ -227,7 +238,8 @@ module _ (nodes : List Node) (falls : Falls nodes) where
   walk-depth schema zero e n p q = absurd (omega arith)
   walk-depth schema (suc d) zero n p q = absurd (omega arith)
   walk-depth schema (suc d) (suc e) n p q =
-      let parts = all-map (λ m. m < n) (Alike (walk schema nodes d) (walk schema nodes e)) (exprNodes (nodeAt nodes n .kind)) (λ m l. walk-depth schema d e m (omega arith) (omega arith)) (falls n) in
+      let parts = all-map (λ m. m < n) (Alike (walk schema nodes d) (walk schema nodes e)) (exprNodes (nodeAt nodes n .kind))
+      (λ m l. walk-depth schema d e m (omega arith) (omega arith)) (falls n) in
       record {
         infer = inferAt-alike schema nodes (walk schema nodes d) (walk schema nodes e) n parts;
         check = fun-ext (checkAt-alike schema nodes (walk schema nodes d) (walk schema nodes e) n parts);
@@ -244,7 +256,8 @@ module _ (nodes : List Node) (falls : Falls nodes) where
       go true e ih = rw (h .0 ∙ e, e, allFields) ih
       go false e ih = rw (h .0 ∙ e, e, allFields)
 
-  destructurableKind-alike : (ask ask′ : ℕ → Bool) (k : ExprKind) → All (λ m. ask m ≡ ask′ m) (exprNodes k) → destructurableKind ask k ≡ destructurableKind ask′ k
+  destructurableKind-alike : (ask ask′ : ℕ → Bool) (k : ExprKind) → All (λ m. ask m ≡ ask′ m) (exprNodes k)
+      → destructurableKind ask k ≡ destructurableKind ask′ k
   unfolding destructurableKind exprNodes
   destructurableKind-alike ask ask′ (ExprKind.Lit l) h = refl
   destructurableKind-alike ask ask′ (ExprKind.Var x) h = refl
@@ -267,7 +280,8 @@ module _ (nodes : List Node) (falls : Falls nodes) where
   destructurable-depth (suc d) zero n p q = absurd (omega arith)
   destructurable-depth (suc d) (suc e) n p q =
       destructurableKind-alike (λ m. destructurableIn d nodes m) (λ m. destructurableIn e nodes m) (nodeAt nodes n .kind)
-      (all-map (λ m. m < n) (λ m. destructurableIn d nodes m ≡ destructurableIn e nodes m) (exprNodes (nodeAt nodes n .kind)) (λ m l. destructurable-depth d e m (omega arith) (omega arith)) (falls n))
+      (all-map (λ m. m < n) (λ m. destructurableIn d nodes m ≡ destructurableIn e nodes m) (exprNodes (nodeAt nodes n .kind))
+      (λ m l. destructurable-depth d e m (omega arith) (omega arith)) (falls n))
 
   -- `isDestructurable` takes the least depth that serves.
   pub destructurable-is : (d n : ℕ) → n < d → destructurableIn d nodes n ≡ isDestructurable nodes n

@@ -7,19 +7,28 @@ use native.Mathlib.Omega.{arith}
 use lib.ListN.{length}
 use Rattle.unification.specs.Ty.{Int, String, Bytes, Fact}
 use Rattle.meaning.specs.Syntax.{Field, QueryStmt, FieldRef, Literal, ExprKind}
-use Rattle.meaning.specs.Frame.{Edition, narrow, wide, Kind, Alternative, TypeShape, aLeaf, aRecord, aUnion, Frame, theLimits, aName, aType, aPredicate, aNode, theQuery, frameKind, got, nothing, pair, two, many, entry, choice, field, alternative, reference, typeShapes, valueTypes, statements, headAndBody, exprKinds, spanAndKind, rest, frame}
+use Rattle.meaning.specs.Frame.{Edition, narrow, wide, Kind, Alternative, TypeShape, aLeaf, aRecord, aUnion, Frame, theLimits, aName, aType}
+use Rattle.meaning.specs.Frame.{aPredicate, aNode, theQuery, frameKind, got, nothing, pair, two, many, entry, choice, field, alternative, reference}
+use Rattle.meaning.specs.Frame.{typeShapes, valueTypes, statements, headAndBody, exprKinds, spanAndKind, rest, frame}
 use Rattle.meaning.specs.All.{All}
-use Rattle.meaning.specs.Writing.{Byte, InTwo, asField, asAlternative, asReference, asShape, asValueType, asStatement, asQuery, asExpr, asNode, asContent, FieldFits, AlternativeFits, ReferenceFits, ShapeFits, ValueTypeFits, StatementFits, QueryFits, ExprFits, NodeFits, Fits}
+use Rattle.meaning.specs.Writing.{Byte, InTwo, asField, asAlternative, asReference, asShape, asValueType, asStatement, asQuery, asExpr, asNode}
+use Rattle.meaning.specs.Writing.{asContent, FieldFits, AlternativeFits, ReferenceFits, ShapeFits, ValueTypeFits, StatementFits, QueryFits, ExprFits}
+use Rattle.meaning.specs.Writing.{NodeFits, Fits}
 use Rattle.meaning.specs.Answer.{bytes₂}
-use Rattle.meaning.proofs.Inverse.{Took, Inverse, Anything, Nothing, one-back, one-forth, pair-back, pair-forth, triple-back, triple-forth, pair-inverse, triple-inverse, byte-inverse, two-inverse, four-inverse, many-inverse, Entries, end, _then_, choice-forth, entry-nothing, entry-one, entry-pair}
+use Rattle.meaning.proofs.Inverse.{Took, Inverse, Anything, Nothing, one-back, one-forth, pair-back, pair-forth, triple-back, triple-forth}
+use Rattle.meaning.proofs.Inverse.{pair-inverse, triple-inverse, byte-inverse, two-inverse, four-inverse, many-inverse, Entries, end, _then_}
+use Rattle.meaning.proofs.Inverse.{choice-forth, entry-nothing, entry-one, entry-pair}
 
 field-inverse : Inverse Anything field asField FieldFits
 unfolding field asField
-field-inverse = pair-inverse (λ n value. record { name = n; value = value }) two-inverse two-inverse asField FieldFits (λ f. f .name) (λ f. f .value) (λ f. refl) (λ f. refl) (λ a b. refl) (λ f h. h) (λ a b x y. (x, y))
+field-inverse = pair-inverse (λ n value. record { name = n; value = value }) two-inverse two-inverse asField FieldFits (λ f. f .name) (λ f. f .value)
+    (λ f. refl) (λ f. refl) (λ a b. refl) (λ f h. h) (λ a b x y. (x, y))
 
 alternative-inverse : Inverse Anything alternative asAlternative AlternativeFits
 unfolding alternative asAlternative
-alternative-inverse = triple-inverse (λ n discriminant type. record { name = n; discriminant = discriminant; type = type }) two-inverse four-inverse two-inverse asAlternative AlternativeFits (λ a. a .name) (λ a. a .discriminant) (λ a. a .type) (λ a. refl) (λ a. refl) (λ a b c. refl) (λ a h. h) (λ a b c x y z. (x, y, z))
+alternative-inverse = triple-inverse (λ n discriminant type. record { name = n; discriminant = discriminant; type = type }) two-inverse four-inverse
+    two-inverse asAlternative AlternativeFits (λ a. a .name) (λ a. a .discriminant) (λ a. a .type) (λ a. refl) (λ a. refl) (λ a b c. refl) (λ a h. h)
+    (λ a b c x y z. (x, y, z))
 
 two-filled : (n : ℕ) → 0 < length (bytes₂ n)
 unfolding bytes₂
@@ -75,7 +84,8 @@ twos-inverse = many-inverse two-inverse two-filled
 
 query-inverse : Inverse Nothing headAndBody asQuery QueryFits
 unfolding headAndBody asQuery
-query-inverse = pair-inverse (λ head body. record { head = head; body = body }) two-inverse statements-inverse asQuery QueryFits (λ q. q .head) (λ q. q .body) (λ q. refl) (λ q. refl) (λ a b. refl) (λ q h. h) (λ a b x y. (x, y))
+query-inverse = pair-inverse (λ head body. record { head = head; body = body }) two-inverse statements-inverse asQuery QueryFits (λ q. q .head)
+    (λ q. q .body) (λ q. refl) (λ q. refl) (λ a b. refl) (λ q h. h) (λ a b x y. (x, y))
 
 reference-inverse : (e : Edition) → Inverse Anything (reference e) (asReference e) (ReferenceFits e)
 unfolding reference asReference
@@ -166,7 +176,9 @@ expr-inverse ed = record { back = back; forth = choice-forth (asExpr ed) (ExprFi
 
 node-inverse : (e : Edition) → Inverse Nothing (spanAndKind e) (asNode e) (NodeFits e)
 unfolding spanAndKind asNode
-node-inverse e = triple-inverse (λ start end kind. record { span = record { start = start; end = end }; kind = kind }) four-inverse four-inverse (expr-inverse e) (asNode e) (NodeFits e) (λ n. n .span .start) (λ n. n .span .end) (λ n. n .kind) (λ n. refl) (λ n. refl) (λ a b c. refl) (λ n h. h) (λ a b c x y z. (x, y, z))
+node-inverse e = triple-inverse (λ start end kind. record { span = record { start = start; end = end }; kind = kind }) four-inverse four-inverse
+    (expr-inverse e) (asNode e) (NodeFits e) (λ n. n .span .start) (λ n. n .span .end) (λ n. n .kind) (λ n. refl) (λ n. refl) (λ a b c. refl)
+    (λ n h. h) (λ a b c x y z. (x, y, z))
 
 text-inverse : Inverse Nothing rest (λ s. s) (All Byte)
 unfolding rest
@@ -196,9 +208,15 @@ pub record FrameTook (e : Edition) (k : Kind) (s : List ℕ) (f : Frame) (t : Li
 
 pub content-forth : (e : Edition) (k : Kind) (s : List ℕ) (f : Frame) (t : List ℕ) → All Byte s → frame e k s ≡ got f t → FrameTook e k s f t
 unfolding frame frameKind asContent
-content-forth e Kind.limits s f t h q = let k = pair-forth theLimits byte-inverse two-inverse s f t h q in record { kind = rw (k .is); bytes = rw (k .is) (k .bytes); fits = rw (k .is) (k .fits, k .fits′) }
-content-forth e Kind.name s f t h q = let k = one-forth aName text-inverse s f t h q in record { kind = rw (k .is); bytes = rw (k .is) (k .took .bytes); fits = rw (k .is) (k .took .fits) }
-content-forth e Kind.schemaType s f t h q = let k = one-forth aType (shape-inverse e) s f t h q in record { kind = rw (k .is); bytes = rw (k .is) (k .took .bytes); fits = rw (k .is) (k .took .fits) }
-content-forth e Kind.predicate s f t h q = let k = triple-forth aPredicate two-inverse two-inverse value-inverse s f t h q in record { kind = rw (k .is); bytes = rw (k .is) (k .bytes); fits = rw (k .is) (k .fits, k .fits′, k .fits″) }
-content-forth e Kind.node s f t h q = let k = one-forth aNode (node-inverse e) s f t h q in record { kind = rw (k .is); bytes = rw (k .is) (k .took .bytes); fits = rw (k .is) (k .took .fits) }
-content-forth e Kind.query s f t h q = let k = one-forth theQuery query-inverse s f t h q in record { kind = rw (k .is); bytes = rw (k .is) (k .took .bytes); fits = rw (k .is) (k .took .fits) }
+content-forth e Kind.limits s f t h q = let k = pair-forth theLimits byte-inverse two-inverse s f t h q in record
+    { kind = rw (k .is); bytes = rw (k .is) (k .bytes); fits = rw (k .is) (k .fits, k .fits′) }
+content-forth e Kind.name s f t h q = let k = one-forth aName text-inverse s f t h q in record
+    { kind = rw (k .is); bytes = rw (k .is) (k .took .bytes); fits = rw (k .is) (k .took .fits) }
+content-forth e Kind.schemaType s f t h q = let k = one-forth aType (shape-inverse e) s f t h q in record
+    { kind = rw (k .is); bytes = rw (k .is) (k .took .bytes); fits = rw (k .is) (k .took .fits) }
+content-forth e Kind.predicate s f t h q = let k = triple-forth aPredicate two-inverse two-inverse value-inverse s f t h q in record
+    { kind = rw (k .is); bytes = rw (k .is) (k .bytes); fits = rw (k .is) (k .fits, k .fits′, k .fits″) }
+content-forth e Kind.node s f t h q = let k = one-forth aNode (node-inverse e) s f t h q in record
+    { kind = rw (k .is); bytes = rw (k .is) (k .took .bytes); fits = rw (k .is) (k .took .fits) }
+content-forth e Kind.query s f t h q = let k = one-forth theQuery query-inverse s f t h q in record
+    { kind = rw (k .is); bytes = rw (k .is) (k .took .bytes); fits = rw (k .is) (k .took .fits) }

@@ -10,7 +10,8 @@ use lib.Dec.{ltb, eqb}
 use lib.ListN.{length}
 use borrow.Author.Tests.{ltb-true, eqb-true}
 use Rattle.meaning.specs.Syntax.{Query, Node, Ast}
-use Rattle.meaning.specs.Frame.{Kind, limits, name, schemaType, predicate, node, query, kindByte, repeatable, rises, follows, mayStand, TypeShape, Frame, theLimits, aName, aType, aPredicate, aNode, theQuery, frameKind}
+use Rattle.meaning.specs.Frame.{Kind, limits, name, schemaType, predicate, node, query, kindByte, repeatable, rises, follows, mayStand, TypeShape}
+use Rattle.meaning.specs.Frame.{Frame, theLimits, aName, aType, aPredicate, aNode, theQuery, frameKind}
 use Rattle.meaning.specs.References.{shapeNames, shapeKeys, optional, nameRefs, typeRefs, keysOf}
 use Rattle.meaning.specs.SoFar.{SoFar, tyOf, add}
 use Rattle.meaning.specs.All.{All, Distinct, Below}
@@ -25,7 +26,8 @@ use Rattle.meaning.proofs.Lists.{length-snoc}
 not-falling : (p k : Kind) → kindByte k < kindByte node → follows p k ≡ true → kindByte p ≤ kindByte k
 unfolding follows rises
 not-falling p k h e = cases (eqb (kindByte p) (kindByte query))
-    (λ o. let z : eqb (kindByte k) (kindByte node) ≡ true = rw (o, follows) at e in absurd (let same = eqb-true (kindByte k) (kindByte node) z in omega (arith, same, h)))
+    (λ o. let z : eqb (kindByte k) (kindByte node) ≡ true = rw (o, follows) at e in absurd
+    (let same = eqb-true (kindByte k) (kindByte node) z in omega (arith, same, h)))
     (λ o. let r : rises p k ≡ true = rw (o, follows) at e in rising p k r)
   where
     rising : (p k : Kind) → rises p k ≡ true → kindByte p ≤ kindByte k
@@ -64,13 +66,15 @@ node-tail ns qs n fs end t =
       endQueries = t .endQueries;
     }
 
-query-tail : (ns : List Node) (qs : List Ast) (q : Query) (fs : List Frame) (end : SoFar) → Tail [] (qs ++ record { nodes = ns; query = q } ∷ []) fs end → Tail ns qs (theQuery q ∷ fs) end
+query-tail : (ns : List Node) (qs : List Ast) (q : Query) (fs : List Frame) (end : SoFar)
+    → Tail [] (qs ++ record { nodes = ns; query = q } ∷ []) fs end → Tail ns qs (theQuery q ∷ fs) end
 unfolding queryFrames flatMap
 query-tail ns qs q fs end t =
     let a : Ast = record { nodes = ns; query = q } in
     record {
       queries = a ∷ t .queries;
-      are = sym (append-assoc (map aNode ns) (theQuery q ∷ []) fs) ∙ ap (λ l. queryFrames a ++ l) (t .are) ∙ sym (append-assoc (queryFrames a) (flatMap queryFrames (t .queries)) (map aNode (end .nodes)));
+      are = sym (append-assoc (map aNode ns) (theQuery q ∷ []) fs) ∙ ap (λ l. queryFrames a ++ l) (t .are) ∙ sym
+          (append-assoc (queryFrames a) (flatMap queryFrames (t .queries)) (map aNode (end .nodes)));
       endQueries = t .endQueries ∙ append-assoc qs (a ∷ []) (t .queries);
     }
 
@@ -148,7 +152,8 @@ module _ (p : Kind) (so : SoFar) (end : SoFar) (fs : List Frame) where
         noPredicates = λ h. absurd (omega arith);
       }
 
-  type-first : (t : TypeShape) → follows p schemaType ≡ true → Obeys so (aType t) → Grouped schemaType (add so (aType t)) fs end → Grouped p so (aType t ∷ fs) end
+  type-first : (t : TypeShape) → follows p schemaType ≡ true → Obeys so (aType t) → Grouped schemaType (add so (aType t)) fs end
+      → Grouped p so (aType t ∷ fs) end
   unfolding add kindByte typesFrom nameRefs typeRefs keysOf
   type-first t e o g =
       let low = not-falling p schemaType (omega arith) e in
@@ -176,7 +181,8 @@ module _ (p : Kind) (so : SoFar) (end : SoFar) (fs : List Frame) where
         noPredicates = λ h. absurd (omega arith);
       }
 
-  predicate-first : (x : PredicateFrame) → follows p predicate ≡ true → Obeys so (predicateFrame x) → Grouped predicate (add so (predicateFrame x)) fs end → Grouped p so (predicateFrame x ∷ fs) end
+  predicate-first : (x : PredicateFrame) → follows p predicate ≡ true → Obeys so (predicateFrame x)
+      → Grouped predicate (add so (predicateFrame x)) fs end → Grouped p so (predicateFrame x ∷ fs) end
   unfolding add kindByte typesFrom nameRefs typeRefs predicateWith
   predicate-first x e o g =
       let low = not-falling p predicate (omega arith) e in
@@ -191,13 +197,15 @@ module _ (p : Kind) (so : SoFar) (end : SoFar) (fs : List Frame) where
         predicates = x ∷ g .predicates;
         rest = g .rest;
         tail = g .tail;
-        are = ap (λ l. predicateFrame x ∷ l) (g .are ∙ ap (λ l. map aName l ++ (map aType (g .types) ++ (map predicateFrame (g .predicates) ++ g .rest))) no-names
+        are = ap (λ l. predicateFrame x ∷ l) (g .are ∙ ap
+            (λ l. map aName l ++ (map aType (g .types) ++ (map predicateFrame (g .predicates) ++ g .rest))) no-names
             ∙ ap (λ l. map aType l ++ (map predicateFrame (g .predicates) ++ g .rest)) no-types);
         endDistance = g .endDistance;
         endTermChars = g .endTermChars;
         endNames = names ∙ sym (append-nil (so .names));
         endTypes = types;
-        endPredicates = g .endPredicates ∙ append-assoc (so .predicates) (predicateWith (so .types) x ∷ []) more ∙ ap (λ ts. so .predicates ++ predicateWith ts x ∷ more) (sym types);
+        endPredicates = g .endPredicates ∙ append-assoc (so .predicates) (predicateWith (so .types) x ∷ []) more ∙ ap
+            (λ ts. so .predicates ++ predicateWith ts x ∷ more) (sym types);
         typeNames = tt;
         typeTypes = tt;
         typeKeys = tt;
@@ -273,7 +281,8 @@ unfolding add mayStand frameKind
 grouped {so} p e done = nothing-follows p so
 grouped {so} {end} p e (next {f = f} {fs = fs} o r) = go f o (λ k q. grouped k q r) (rw e at (o .placed))
   where
-    go : (f : Frame) → Obeys so f → ((k : Kind) → add so f .previous ≡ some k → Grouped k (add so f) fs end) → follows p (frameKind f) ≡ true → Grouped p so (f ∷ fs) end
+    go : (f : Frame) → Obeys so f → ((k : Kind) → add so f .previous ≡ some k → Grouped k (add so f) fs end) → follows p (frameKind f) ≡ true
+        → Grouped p so (f ∷ fs) end
     go (theLimits d t) o ih q = absurd (limits-once p q)
     go (aName s) o ih q = name-first p so end fs s q (ih name refl)
     go (aType t) o ih q = type-first p so end fs t q o (ih schemaType refl)

@@ -47,7 +47,8 @@ digit-at v h = eqb-true _ _ (both-right (is (digit (hexDigit v)) v) _ (both-left
 
 digit-no-LF : (v : ℕ) → v < 16 → LF ≡ hexDigit v → ⊥
 unfolding reads-back
-digit-no-LF v h e = eqb-false (hexDigit v) LF (not-true _ (both-right (both (is (digit (hexDigit v)) v) (eqb (hexDigit v) (getD digits v 0))) _ (every reads-back 16 each-reads-back v h))) (sym e)
+digit-no-LF v h e = eqb-false (hexDigit v) LF
+    (not-true _ (both-right (both (is (digit (hexDigit v)) v) (eqb (hexDigit v) (getD digits v 0))) _ (every reads-back 16 each-reads-back v h))) (sym e)
 
 -- where an element stands, it is
 record Stands (c : ℕ) (l : List ℕ) (v : ℕ) : Type 0 where
@@ -64,7 +65,8 @@ stands c (a ∷ l) v e = cases (eqb c a)
     (λ q. let h : some 0 ≡ some v = rw (q, position) at e in let z : v ≡ 0 = cc in rw z (record { at = sym (eqb-true c a q); inside = omega arith }))
     (λ q. go (λ w p. stands c l w p) (position (eqb c) l) refl (rw (q, position) at e))
   where
-    go : ((w : ℕ) → position (eqb c) l ≡ some w → Stands c l w) → (o : Option ℕ) → position (eqb c) l ≡ o → oneMore (position (eqb c) l) ≡ some v → Stands c (a ∷ l) v
+    go : ((w : ℕ) → position (eqb c) l ≡ some w → Stands c l w) → (o : Option ℕ) → position (eqb c) l ≡ o → oneMore (position (eqb c) l) ≡ some v
+        → Stands c (a ∷ l) v
     go ih none q h = let k : none ≡ some v = rw q at h in let z : _≡_ {A = ℕ} 0 1 = cc in absurd (omega arith)
     go ih (some w) q h = let k : some (suc w) ≡ some v = rw q at h in let z : v ≡ suc w = cc in rw z (next (ih w q))
 
@@ -116,7 +118,8 @@ hex-decoded [] s e = let z : s ≡ [] = cc in rw z (record { is = refl; bytes = 
 hex-decoded (h ∷ []) s e = let z : _≡_ {A = ℕ} 0 1 = cc in absurd (omega arith)
 hex-decoded (h ∷ l ∷ t) s e = go (λ r q. hex-decoded t r q) (digit h) refl (digit l) refl (decoded t) refl e
   where
-    go : ((r : List ℕ) → decoded t ≡ some r → Hex t r) → (x : Option ℕ) → digit h ≡ x → (y : Option ℕ) → digit l ≡ y → (z : Option (List ℕ)) → decoded t ≡ z → pair x y z ≡ some s → Hex (h ∷ l ∷ t) s
+    go : ((r : List ℕ) → decoded t ≡ some r → Hex t r) → (x : Option ℕ) → digit h ≡ x → (y : Option ℕ) → digit l ≡ y → (z : Option (List ℕ))
+        → decoded t ≡ z → pair x y z ≡ some s → Hex (h ∷ l ∷ t) s
     go ih none p y q z r c = let w : _≡_ {A = ℕ} 0 1 = cc in absurd (omega arith)
     go ih (some v) p none q z r c = let w : _≡_ {A = ℕ} 0 1 = cc in absurd (omega arith)
     go ih (some v) p (some w) q none r c = let o : _≡_ {A = ℕ} 0 1 = cc in absurd (omega arith)

@@ -151,7 +151,8 @@ module _ {A B C : Type 0} (make : A → B → C) {T : List ℕ → Type 0} {r : 
       forth s c t h e =
           let k = pair-forth make i j s c t h e in
           record {
-            bytes = k .bytes ∙ sym (append-assoc (w (k .first)) (v (k .second)) t) ∙ ap (λ x. x ++ t) (sym (bytes′ (k .first) (k .second)) ∙ ap wC (sym (k .is)));
+            bytes = k .bytes ∙ sym (append-assoc (w (k .first)) (v (k .second)) t) ∙ ap (λ x. x ++ t)
+                (sym (bytes′ (k .first) (k .second)) ∙ ap wC (sym (k .is)));
             fits = rw (k .is) (fits (k .first) (k .second) (k .fits) (k .fits′));
             rest = k .rest;
           }
@@ -178,7 +179,8 @@ module _ {A B C D : Type 0} (make : A → B → C → D) {T : List ℕ → Type 
       forth s d t h e =
           let o = triple-forth make i j k s d t h e in
           record {
-            bytes = o .bytes ∙ sym (regroup (w (o .first)) (v (o .second)) (u (o .third)) t) ∙ ap (λ x. x ++ t) (sym (bytes′ (o .first) (o .second) (o .third)) ∙ ap wD (sym (o .is)));
+            bytes = o .bytes ∙ sym (regroup (w (o .first)) (v (o .second)) (u (o .third)) t) ∙ ap (λ x. x ++ t)
+                (sym (bytes′ (o .first) (o .second) (o .third)) ∙ ap wD (sym (o .is)));
             fits = rw (o .is) (fits (o .first) (o .second) (o .third) (o .fits) (o .fits′) (o .fits″));
             rest = o .rest;
           }
@@ -200,7 +202,8 @@ two-inverse = record { back = back; forth = forth }
     back : (n : ℕ) (t : List ℕ) → InTwo n → Unit {0} → two (bytes₂ n ++ t) ≡ got n t
     back n t f e =
         let is : n / 0x100 % 0x100 * 0x100 + n % 0x100 ≡ n = omega arith in
-        pair-back (λ high low. high * 0x100 + low) byte-inverse byte-inverse (n / 0x100 % 0x100) (n % 0x100) t (omega arith) (omega arith) tt ∙ ap (λ m. got m t) is
+        pair-back (λ high low. high * 0x100 + low) byte-inverse byte-inverse (n / 0x100 % 0x100) (n % 0x100) t (omega arith) (omega arith) tt ∙ ap
+        (λ m. got m t) is
 
     forth : (s : List ℕ) (n : ℕ) (t : List ℕ) → All Byte s → two s ≡ got n t → Took bytes₂ InTwo s n t
     forth s n t h e =
@@ -238,7 +241,8 @@ four-inverse = record { back = back; forth = forth }
         let high : n / 0x10000 ≡ k .first = omega (arith, k .fits′) in
         let low : n % 0x10000 ≡ k .second = omega (arith, k .fits′) in
         record {
-          bytes = k .bytes ∙ ap (λ m. bytes₂ m ++ (bytes₂ (k .second) ++ t)) (sym high) ∙ ap (λ m. bytes₂ (n / 0x10000) ++ (bytes₂ m ++ t)) (sym low) ∙ sym (halves n t);
+          bytes = k .bytes ∙ ap (λ m. bytes₂ m ++ (bytes₂ (k .second) ++ t)) (sym high) ∙ ap (λ m. bytes₂ (n / 0x10000) ++ (bytes₂ m ++ t)) (sym low)
+              ∙ sym (halves n t);
           fits = omega (arith, k .fits, k .fits′);
           rest = k .rest;
         }
@@ -265,7 +269,8 @@ module _ {A : Type 0} {r : Reader A} {w : A → List ℕ} {F : A → Type 0} (i 
   unfolding flatMap
   nothing-took s l t h e = let p = same-got e in record { bytes = rw (← p .0, ← p .1) h; fits = rw (← p .0) tt; rest = rw (← p .1) tt }
 
-  item-took : (s s′ : List ℕ) (a : A) (l′ : List A) (t′ : List ℕ) (l : List A) (t : List ℕ) → s ≡ w a ++ s′ → F a → Took (flatMap w) (All F) s′ l′ t′ → got (a ∷ l′) t′ ≡ got l t → Took (flatMap w) (All F) s l t
+  item-took : (s s′ : List ℕ) (a : A) (l′ : List A) (t′ : List ℕ) (l : List A) (t : List ℕ) → s ≡ w a ++ s′ → F a → Took (flatMap w) (All F) s′ l′ t′
+      → got (a ∷ l′) t′ ≡ got l t → Took (flatMap w) (All F) s l t
   unfolding flatMap
   item-took s s′ a l′ t′ l t q f m e =
       let p = same-got e in
@@ -292,7 +297,10 @@ module _ {A : Type 0} {r : Reader A} {w : A → List ℕ} {F : A → Type 0} (i 
 
   pub many-inverse : Inverse Nothing (many r) (flatMap w) (All F)
   unfolding many
-  many-inverse = record { back = λ l t f e. rw (e, append-nil) (many-back (length (flatMap w l)) l f (omega arith)); forth = λ s l t h e. many-forth (length s) s l t h e }
+  many-inverse = record {
+    back = λ l t f e. rw (e, append-nil) (many-back (length (flatMap w l)) l f (omega arith));
+    forth = λ s l t h e. many-forth (length s) s l t h e;
+  }
 
 -- ---- Tables
 

@@ -11,14 +11,16 @@ use Rattle.text.specs.Utf8.{Text}
 use Rattle.unification.specs.Ty.{Ty}
 use Rattle.meaning.specs.Syntax.{Query, Node, Ast}
 use Rattle.meaning.specs.Schema.{Predicate}
-use Rattle.meaning.specs.Frame.{Edition, Kind, limits, name, schemaType, predicate, node, query, kindByte, repeatable, rises, follows, mayStand, TypeShape, Frame, theLimits, aName, aType, aNode, theQuery, frameKind}
+use Rattle.meaning.specs.Frame.{Edition, Kind, limits, name, schemaType, predicate, node, query, kindByte, repeatable, rises, follows, mayStand}
+use Rattle.meaning.specs.Frame.{TypeShape, Frame, theLimits, aName, aType, aNode, theQuery, frameKind}
 use Rattle.meaning.specs.References.{shapeNames, shapeKeys, optional, exprNames, exprNodes, queryNodes, nameRefs, typeRefs, nodeRefs, textsOf, keysOf}
 use Rattle.meaning.specs.SoFar.{SoFar, start, tyOf, add}
 use Rattle.meaning.specs.Conditions.{maxNames, maxTypes, maxPredicates, maxNodes, maxQueries}
 use Rattle.meaning.specs.All.{All, Absent, Distinct, Below}
 use Rattle.meaning.proofs.Obeys.{Obeys, Rules, done, next}
 use Rattle.meaning.specs.Sound.{Lower, nodesNamed, LawfulQuery}
-use Rattle.meaning.specs.Content.{PredicateFrame, predicateFrame, Content, queryFrames, schemaFrames, framesOf, TypesBefore, Lawful, typesFrom, predicateWith}
+use Rattle.meaning.specs.Content.{PredicateFrame, predicateFrame, Content, queryFrames, schemaFrames, framesOf, TypesBefore, Lawful, typesFrom}
+use Rattle.meaning.specs.Content.{predicateWith}
 use Rattle.meaning.proofs.Lists.{all-left, distinct-left, distinct-right, distinct-across, length-snoc}
 
 pub rules-append : {so mid end : SoFar} {fs gs : List Frame} → Rules so fs mid → Rules mid gs end → Rules so (fs ++ gs) end
@@ -99,65 +101,132 @@ go-on o l = record { previous = l .previous; ready = l .ready; rules = next o (l
 
 module _ (d t : ℕ) where
   state : List (List ℕ) → List Ty → List Predicate → List Node → List ℕ → List Ast → Option Kind → SoFar
-  state ns ts ps xs m qs p = record { previous = p; maxDistance = d; maxTermChars = t; names = ns; types = ts; predicates = ps; nodes = xs; named = m; queries = qs }
+  state ns ts ps xs m qs p = record {
+    previous = p;
+    maxDistance = d;
+    maxTermChars = t;
+    names = ns;
+    types = ts;
+    predicates = ps;
+    nodes = xs;
+    named = m;
+    queries = qs;
+  }
 
-  name-rules : (ns more : List (List ℕ)) (p : Option Kind) → Ready name p → All (λ s. (n : ℕ) × Text s n) more → Distinct (ns ++ more) → length ns + length more ≤ maxNames
+  name-rules : (ns more : List (List ℕ)) (p : Option Kind) → Ready name p → All (λ s. (n : ℕ) × Text s n) more → Distinct (ns ++ more)
+      → length ns + length more ≤ maxNames
       → Leads name (state ns [] [] [] [] [] p) (map aName more) (state (ns ++ more) [] [] [] [] [])
   unfolding Ready state add frameKind textsOf nameRefs typeRefs nodeRefs keysOf
   name-rules ns [] p r a u h = rw append-nil (stay name p (state ns [] [] [] [] []) r)
   name-rules ns (s ∷ more) p r a u h =
       go-on
-      (record { placed = r name (omega arith); room = omega arith; text = (a .0, tt); new = (distinct-across ns (s ∷ more) u .0, tt); names = tt; types = tt; nodes = tt; unnamed = tt; once = tt; keys = tt })
-      (rw (← append-assoc ns (s ∷ []) more) (name-rules (ns ++ s ∷ []) more (some name) ready-name (a .1) (rw append-assoc u) (omega (arith, length-snoc ns s))))
+      (record {
+        placed = r name (omega arith);
+        room = omega arith;
+        text = (a .0, tt);
+        new = (distinct-across ns (s ∷ more) u .0, tt);
+        names = tt;
+        types = tt;
+        nodes = tt;
+        unnamed = tt;
+        once = tt;
+        keys = tt;
+      })
+      (rw (← append-assoc ns (s ∷ []) more) (name-rules (ns ++ s ∷ []) more (some name) ready-name (a .1) (rw append-assoc u)
+      (omega (arith, length-snoc ns s))))
 
-  type-rules : (ns : List (List ℕ)) (ts : List Ty) (more : List TypeShape) (p : Option Kind) → Ready schemaType p → All (λ s. Below (length ns) (shapeNames s)) more → TypesBefore (length ts) more
+  type-rules : (ns : List (List ℕ)) (ts : List Ty) (more : List TypeShape) (p : Option Kind) → Ready schemaType p
+      → All (λ s. Below (length ns) (shapeNames s)) more → TypesBefore (length ts) more
       → All (λ s. Distinct (shapeKeys s)) more → length ts + length more ≤ maxTypes
       → Leads schemaType (state ns ts [] [] [] [] p) (map aType more) (state ns (typesFrom ts more) [] [] [] [])
   unfolding Ready state add frameKind textsOf nameRefs typeRefs nodeRefs keysOf typesFrom
   type-rules ns ts [] p r a b u h = stay schemaType p (state ns ts [] [] [] []) r
   type-rules ns ts (s ∷ more) p r a b u h =
       go-on
-      (record { placed = r schemaType (omega arith); room = omega arith; text = tt; new = tt; names = a .0; types = b .0; nodes = tt; unnamed = tt; once = tt; keys = u .0 })
+      (record {
+        placed = r schemaType (omega arith);
+        room = omega arith;
+        text = tt;
+        new = tt;
+        names = a .0;
+        types = b .0;
+        nodes = tt;
+        unnamed = tt;
+        once = tt;
+        keys = u .0;
+      })
       (type-rules ns (ts ++ tyOf ts s ∷ []) more (some schemaType) ready-type (a .1) (rw length-snoc (b .1)) (u .1) (omega (arith, length-snoc ts (tyOf ts s))))
 
-  predicate-rules : (ns : List (List ℕ)) (ts : List Ty) (ps : List Predicate) (more : List PredicateFrame) (p : Option Kind) → Ready predicate p → All (λ x. x .name < length ns) more
+  predicate-rules : (ns : List (List ℕ)) (ts : List Ty) (ps : List Predicate) (more : List PredicateFrame) (p : Option Kind) → Ready predicate p
+      → All (λ x. x .name < length ns) more
       → All (λ x. Below (length ts) (x .key ∷ optional (x .value))) more → length ps + length more ≤ maxPredicates
       → Leads predicate (state ns ts ps [] [] [] p) (map predicateFrame more) (state ns ts (ps ++ map (predicateWith ts) more) [] [] [])
   unfolding Ready state add frameKind textsOf nameRefs typeRefs nodeRefs keysOf predicateWith
   predicate-rules ns ts ps [] p r a b h = rw append-nil (stay predicate p (state ns ts ps [] [] []) r)
   predicate-rules ns ts ps (x ∷ more) p r a b h =
       go-on
-      (record { placed = r predicate (omega arith); room = omega arith; text = tt; new = tt; names = (a .0, tt); types = b .0; nodes = tt; unnamed = tt; once = tt; keys = tt })
-      (rw (← append-assoc ps (predicateWith ts x ∷ []) (map (predicateWith ts) more)) (predicate-rules ns ts (ps ++ predicateWith ts x ∷ []) more (some predicate) ready-predicate (a .1) (b .1) (omega (arith, length-snoc ps (predicateWith ts x)))))
+      (record {
+        placed = r predicate (omega arith);
+        room = omega arith;
+        text = tt;
+        new = tt;
+        names = (a .0, tt);
+        types = b .0;
+        nodes = tt;
+        unnamed = tt;
+        once = tt;
+        keys = tt;
+      })
+      (rw (← append-assoc ps (predicateWith ts x ∷ []) (map (predicateWith ts) more))
+      (predicate-rules ns ts (ps ++ predicateWith ts x ∷ []) more (some predicate) ready-predicate (a .1) (b .1)
+      (omega (arith, length-snoc ps (predicateWith ts x)))))
 
   module _ (ns : List (List ℕ)) (ts : List Ty) (ps : List Predicate) (qs : List Ast) where
-    node-obeys : (xs : List Node) (n : Node) (m rest : List ℕ) (p : Option Kind) → mayStand p node ≡ true → Below (length ns) (exprNames (n .kind)) → Below (length xs) (exprNodes (n .kind))
+    node-obeys : (xs : List Node) (n : Node) (m rest : List ℕ) (p : Option Kind) → mayStand p node ≡ true → Below (length ns) (exprNames (n .kind))
+        → Below (length xs) (exprNodes (n .kind))
         → Distinct (m ++ (exprNodes (n .kind) ++ rest)) → length xs < maxNodes → Obeys (state ns ts ps xs m qs p) (aNode n)
     unfolding state frameKind textsOf nameRefs typeRefs nodeRefs keysOf
     node-obeys xs n m rest p r a l u h =
         let e = exprNodes (n .kind) in
-        record { placed = r; room = h; text = tt; new = tt; names = a; types = tt; nodes = l; unnamed = all-left (λ y. Absent y m) e rest (distinct-across m (e ++ rest) u); once = distinct-left e rest (distinct-right m (e ++ rest) u); keys = tt }
+        record {
+          placed = r;
+          room = h;
+          text = tt;
+          new = tt;
+          names = a;
+          types = tt;
+          nodes = l;
+          unnamed = all-left (λ y. Absent y m) e rest (distinct-across m (e ++ rest) u);
+          once = distinct-left e rest (distinct-right m (e ++ rest) u);
+          keys = tt;
+        }
 
     -- One node at least; `later`: the nodes that the query names.
     node-rules : (xs : List Node) (n : Node) (more : List Node) (m later : List ℕ) (p : Option Kind) → mayStand p node ≡ true
-        → All (λ n. Below (length ns) (exprNames (n .kind))) (n ∷ more) → Lower (length xs) (n ∷ more) → Distinct (m ++ (nodesNamed (n ∷ more) ++ later)) → length xs + length (n ∷ more) ≤ maxNodes
+        → All (λ n. Below (length ns) (exprNames (n .kind))) (n ∷ more) → Lower (length xs) (n ∷ more)
+        → Distinct (m ++ (nodesNamed (n ∷ more) ++ later)) → length xs + length (n ∷ more) ≤ maxNodes
         → Rules (state ns ts ps xs m qs p) (map aNode (n ∷ more)) (state ns ts ps (xs ++ n ∷ more) (m ++ nodesNamed (n ∷ more)) qs (some node))
     unfolding state add nodesNamed flatMap mayStand follows rises kindByte repeatable
     node-rules xs n [] m later p r a l u h =
         let e = exprNodes (n .kind) in
         let split : Distinct (m ++ (e ++ later)) = rw (append-nil e) at u in
-        let step : Rules (state ns ts ps xs m qs p) (aNode n ∷ []) (state ns ts ps (xs ++ n ∷ []) (m ++ e) qs (some node)) = next (node-obeys xs n m later p r (a .0) (l .0) split (omega arith)) done in
+        let step : Rules (state ns ts ps xs m qs p) (aNode n ∷ []) (state ns ts ps (xs ++ n ∷ []) (m ++ e) qs (some node)) = next
+        (node-obeys xs n m later p r (a .0) (l .0) split (omega arith)) done in
         rw (append-nil e) step
     node-rules xs n (x ∷ more) m later p r a l u h =
         let e = exprNodes (n .kind) in
         let rest = nodesNamed (x ∷ more) ++ later in
         let split : Distinct (m ++ (e ++ rest)) = rw (append-assoc e (nodesNamed (x ∷ more)) later) at u in
         rw (← append-assoc xs (n ∷ []) (x ∷ more), ← append-assoc m e (nodesNamed (x ∷ more)))
-        (next (node-obeys xs n m rest p r (a .0) (l .0) split (omega arith)) (node-rules (xs ++ n ∷ []) x more (m ++ e) later (some node) refl (a .1) (rw length-snoc (l .1)) (rw (append-assoc m e rest) split) (omega (arith, length-snoc xs n))))
+        (next (node-obeys xs n m rest p r (a .0) (l .0) split (omega arith))
+        (node-rules (xs ++ n ∷ []) x more (m ++ e) later (some node) refl (a .1) (rw length-snoc (l .1)) (rw (append-assoc m e rest) split)
+        (omega (arith, length-snoc xs n))))
 
     -- A query has a node at least: its head.
-    query-rules : (xs : List Node) (q : Query) (p : Option Kind) → mayStand p node ≡ true → LawfulQuery (length ns) (record { nodes = xs; query = q }) → length qs < maxQueries
-        → Rules (state ns ts ps [] [] qs p) (queryFrames (record { nodes = xs; query = q })) (state ns ts ps [] [] (qs ++ record { nodes = xs; query = q } ∷ []) (some query))
+    query-rules : (xs : List Node) (q : Query) (p : Option Kind) → mayStand p node ≡ true → LawfulQuery (length ns) (record { nodes = xs; query = q })
+        → length qs < maxQueries
+        → Rules (state ns ts ps [] [] qs p) (queryFrames (record { nodes = xs; query = q }))
+        (state ns ts ps [] [] (qs ++ record { nodes = xs; query = q } ∷ []) (some query))
     unfolding queryFrames queryNodes add mayStand follows rises kindByte repeatable state frameKind textsOf nameRefs typeRefs nodeRefs keysOf
     query-rules [] q p r l h = absurd (not-suc-le-zero (l .queryBelow .0))
     query-rules (n ∷ more) q p r l h =
@@ -181,7 +250,8 @@ module _ (d t : ℕ) where
             }
 
   -- One query at least.
-  queries-rules : (ns : List (List ℕ)) (ts : List Ty) (ps : List Predicate) (qs : List Ast) (a : Ast) (more : List Ast) (p : Option Kind) → mayStand p node ≡ true
+  queries-rules : (ns : List (List ℕ)) (ts : List Ty) (ps : List Predicate) (qs : List Ast) (a : Ast) (more : List Ast) (p : Option Kind)
+      → mayStand p node ≡ true
       → All (LawfulQuery (length ns)) (a ∷ more) → length qs + length (a ∷ more) ≤ maxQueries
       → Rules (state ns ts ps [] [] qs p) (flatMap queryFrames (a ∷ more)) (state ns ts ps [] [] (qs ++ a ∷ more) (some query))
   unfolding flatMap mayStand follows kindByte
@@ -222,11 +292,17 @@ lawful-rules c h =
     let ts = typesFrom [] (c .types) in
     let ps = map (predicateWith ts) (c .predicates) in
     let a = name-rules d t [] (c .names) (some limits) ready-limits (h .texts) (h .distinct) (omega (arith, h .namesMax)) in
-    let b = type-rules d t (c .names) [] (c .types) (a .previous) (ready-later name schemaType (a .previous) types-later (a .ready)) (h .typeNames) (h .typeTypes) (h .typeKeys) (omega (arith, h .typesMax)) in
-    let e = predicate-rules d t (c .names) ts [] (c .predicates) (b .previous) (ready-later schemaType predicate (b .previous) predicates-later (b .ready)) (h .predicateNames) (rw (types-length [] (c .types), zero-add) (h .predicateTypes)) (omega (arith, h .predicatesMax)) in
-    next (limits-obey d t) (rules-append (rules-append (a .rules) (rules-append (b .rules) (e .rules))) (queries (c .queries) ts ps (e .previous) (e .ready node nodes-later) (h .queriesMin) (h .queriesMax) (h .queries)))
+    let b = type-rules d t (c .names) [] (c .types) (a .previous) (ready-later name schemaType (a .previous) types-later (a .ready)) (h .typeNames)
+    (h .typeTypes) (h .typeKeys) (omega (arith, h .typesMax)) in
+    let e = predicate-rules d t (c .names) ts [] (c .predicates) (b .previous)
+    (ready-later schemaType predicate (b .previous) predicates-later (b .ready)) (h .predicateNames)
+    (rw (types-length [] (c .types), zero-add) (h .predicateTypes)) (omega (arith, h .predicatesMax)) in
+    next (limits-obey d t) (rules-append (rules-append (a .rules) (rules-append (b .rules) (e .rules)))
+    (queries (c .queries) ts ps (e .previous) (e .ready node nodes-later) (h .queriesMin) (h .queriesMax) (h .queries)))
   where
-    queries : (qs : List Ast) (ts : List Ty) (ps : List Predicate) (p : Option Kind) → mayStand p node ≡ true → 1 ≤ length qs → length qs ≤ maxQueries → All (LawfulQuery (length (c .names))) qs
-        → Rules (state (c .maxDistance) (c .maxTermChars) (c .names) ts ps [] [] [] p) (flatMap queryFrames qs) (state (c .maxDistance) (c .maxTermChars) (c .names) ts ps [] [] qs (some query))
+    queries : (qs : List Ast) (ts : List Ty) (ps : List Predicate) (p : Option Kind) → mayStand p node ≡ true → 1 ≤ length qs → length qs ≤ maxQueries
+        → All (LawfulQuery (length (c .names))) qs
+        → Rules (state (c .maxDistance) (c .maxTermChars) (c .names) ts ps [] [] [] p) (flatMap queryFrames qs)
+        (state (c .maxDistance) (c .maxTermChars) (c .names) ts ps [] [] qs (some query))
     queries [] ts ps p r i j l = absurd (not-suc-le-zero i)
     queries (a ∷ more) ts ps p r i j l = queries-rules (c .maxDistance) (c .maxTermChars) (c .names) ts ps [] a more p r l (omega (arith, j))

@@ -38,7 +38,10 @@ module _ {A : Type 0} where
 
   pub distinct-append : (s t : List A) → Distinct s → Distinct t → All (λ y. Absent y s) t → Distinct (s ++ t)
   distinct-append [] t d e a = e
-  distinct-append (x ∷ s) t d e a = (all-append (λ b. (x ≡ b) → ⊥) s t (d .0) (not-first x s t a), distinct-append s t (d .1) e (all-map (λ y. Absent y (x ∷ s)) (λ y. Absent y s) t (λ y h. h .1) a))
+  distinct-append (x ∷ s) t d e a = (
+    all-append (λ b. (x ≡ b) → ⊥) s t (d .0) (not-first x s t a),
+    distinct-append s t (d .1) e (all-map (λ y. Absent y (x ∷ s)) (λ y. Absent y s) t (λ y h. h .1) a),
+  )
 
   pub distinct-left : (s t : List A) → Distinct (s ++ t) → Distinct s
   distinct-left [] t d = tt

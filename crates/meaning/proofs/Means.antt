@@ -63,7 +63,8 @@ undecoded (h ∷ l ∷ t) e = go (λ q. undecoded t q) (digit h) refl (digit l) 
     further (inl o) = inl (omega (arith, o))
     further (inr o) = inr (inr (inr o))
 
-    go : (decoded t ≡ none → (length t % 2 ≡ 1) ⊎ Other t) → (x : Option ℕ) → digit h ≡ x → (y : Option ℕ) → digit l ≡ y → (z : Option (List ℕ)) → decoded t ≡ z → pair x y z ≡ none
+    go : (decoded t ≡ none → (length t % 2 ≡ 1) ⊎ Other t) → (x : Option ℕ) → digit h ≡ x → (y : Option ℕ) → digit l ≡ y → (z : Option (List ℕ))
+        → decoded t ≡ z → pair x y z ≡ none
         → (length (h ∷ l ∷ t) % 2 ≡ 1) ⊎ Other (h ∷ l ∷ t)
     go ih none p y q z r c = inr (inl (no-digit h p))
     go ih (some v) p none q z r c = inr (inr (inl (no-digit l q)))
@@ -141,17 +142,24 @@ module _ (ed : Edition) where
       a-frame : (f : Frame) → said ed (closed s) ≡ frames f → Means ed (closed s) (frames f)
       a-frame f e =
           let i = said-line ed (closed s) f e in
-          is-frame f (i .writable .fits) (record { is = one-line (written ed f) (written-all f (i .writable)) ∙ ap (λ z. z ∷ []) (sym (i .is)); each = written-all f (i .writable); short = i .writable .short })
+          is-frame f (i .writable .fits) (record {
+            is = one-line (written ed f) (written-all f (i .writable)) ∙ ap (λ z. z ∷ []) (sym (i .is));
+            each = written-all f (i .writable);
+            short = i .writable .short;
+          })
 
       of-kind : (b : ℕ) (t : List ℕ) → Holds (closed s) (b ∷ t) → (o : Option Kind) → kindOf b ≡ o → Means ed (closed s) (saidIn ed o t)
-      of-kind b t h none q = is-unknown b t h (λ k e. let z : some k ≡ none = sym (byte-kind k) ∙ ap kindOf e ∙ q in let o : _≡_ {A = ℕ} 0 1 = cc in omega arith)
+      of-kind b t h none q = is-unknown b t h (λ k e. let z : some k ≡ none = sym (byte-kind k) ∙ ap kindOf e ∙ q in let o : _≡_ {A = ℕ} 0 1 = cc in
+          omega arith)
       of-kind b t h (some k) q = content (frameOf ed k t) refl
         where
           here : Holds (closed s) (kindByte k ∷ t)
           here = subst (λ x. Holds (closed s) (x ∷ t)) (kind-byte b k q) h
 
           content : (o : Option Frame) → frameOf ed k t ≡ o → Means ed (closed s) (saidOf k o)
-          content none r = is-no-frame k t here (λ f fits e. let w : Writable ed f = record { fits = fits; short = subst (λ x. length x ≤ maxBytes) (sym e) (here .short) } in let z : none ≡ some f = sym r ∙ read-back k t f w e in let o : _≡_ {A = ℕ} 0 1 = cc in omega arith)
+          content none r = is-no-frame k t here (λ f fits e. let w : Writable ed f = record
+              { fits = fits; short = subst (λ x. length x ≤ maxBytes) (sym e) (here .short) } in let z : none ≡ some f = sym r ∙ read-back k t f w e
+              in let o : _≡_ {A = ℕ} 0 1 = cc in omega arith)
           content (some f) r = a-frame f (holds-said b t h ∙ ap (λ x. saidIn ed x t) q ∙ ap (saidOf k) r)
 
       go : (o : Option (List ℕ)) → decoded s ≡ o → Means ed (closed s) (saidBy ed (someBytes o))

@@ -107,7 +107,8 @@ made-trans g h k a b c f p q = record {
   pushed = q .pushed ++ p .pushed;
   env = q .env ∙ ap {B = List (ℕ × ℕ)} (λ es. q .pushed ++ es) (p .env) ∙ sym (append-assoc (q .pushed) (p .pushed) (a .env));
   reported = q .reported ++ p .reported;
-  diagnostics = q .diagnostics ∙ ap {B = List Diagnostic} (λ ds. q .reported ++ ds) (p .diagnostics) ∙ sym (append-assoc (q .reported) (p .reported) (a .diagnostics));
+  diagnostics = q .diagnostics ∙ ap {B = List Diagnostic} (λ ds. q .reported ++ ds) (p .diagnostics) ∙ sym
+      (append-assoc (q .reported) (p .reported) (a .diagnostics));
   few = omega (arith, f .diagnostics, p .few, q .few, length-append (q .reported) (p .reported));
   elsewhere = λ x e. q .elsewhere x (omega (arith, f .nodes x)) ∙ p .elsewhere x (omega (arith, f .nodes x));
   nodes = q .nodes ∙ p .nodes;
@@ -169,22 +170,27 @@ module _ {A B : Type 0} (P : A → Checker → Type 0) (Q : B → Checker → Ty
     reached = reached-trans c b e (p .reached) (q .reached);
     holds = q .holds;
   })
-  went-on {a} {b} p (ended {c′ = e} q) = ended (record { orderly = q .orderly; made = made-trans g h k c b e f (p .made) (q .made); stopped = stopped-trans c b e (p .reached) (q .stopped) })
+  went-on {a} {b} p (ended {c′ = e} q) = ended
+      (record { orderly = q .orderly; made = made-trans g h k c b e f (p .made) (q .made); stopped = stopped-trans c b e (p .reached) (q .stopped) })
 
   -- A step that is known to go on.
-  pub meets-after : {a : A} {b : Checker} {s : Step B} → Ready k c → (Ready g c → Meets P g c (goes a b)) → (Went P g c a b → Ready h b → Meets Q h b s) → Meets Q k c s
+  pub meets-after : {a : A} {b : Checker} {s : Step B} → Ready k c → (Ready g c → Meets P g c (goes a b))
+      → (Went P g c a b → Ready h b → Meets Q h b s) → Meets Q k c s
   meets-after {a} {b} r p q = let w = going (p (ready-fits g k c (fits-left g h k f) r)) in went-on w (q w (ready-after g h k c b f (w .made) r))
 
-  joined : (m : Step A) (next : A → Does B) → Ready k c → Meets P g c m → ((a : A) (b : Checker) → Went P g c a b → Ready h b → Meets Q h b (next a b)) → Meets Q k c (andThen m next)
+  joined : (m : Step A) (next : A → Does B) → Ready k c → Meets P g c m
+      → ((a : A) (b : Checker) → Went P g c a b → Ready h b → Meets Q h b (next a b)) → Meets Q k c (andThen m next)
   unfolding andThen
   joined m next r (went {a} {c′ = b} w) q = went-on w (q a b w (ready-after g h k c b f (w .made) r))
   joined m next r (ended {c′ = b} w) q = ended (record { orderly = w .orderly; made = made-fits g k c b (fits-left g h k f) (w .made); stopped = w .stopped })
 
-  pub meets-then : (m : Step A) (next : A → Does B) → Ready k c → (Ready g c → Meets P g c m) → ((a : A) (b : Checker) → Went P g c a b → Ready h b → Meets Q h b (next a b)) → Meets Q k c (andThen m next)
+  pub meets-then : (m : Step A) (next : A → Does B) → Ready k c → (Ready g c → Meets P g c m)
+      → ((a : A) (b : Checker) → Went P g c a b → Ready h b → Meets Q h b (next a b)) → Meets Q k c (andThen m next)
   meets-then m next r p q = joined m next r (p (ready-fits g k c (fits-left g h k f) r)) q
 
 -- What follows a step, said from before the step.
-pub meets-from : {A B : Type 0} (P : A → Checker → Type 0) (Q : B → Checker → Type 0) (g k : Grade) (c : Checker) (m : Step A) (next : A → Does B) → Fits g k → Meets P g c m
+pub meets-from : {A B : Type 0} (P : A → Checker → Type 0) (Q : B → Checker → Type 0) (g k : Grade) (c : Checker) (m : Step A) (next : A → Does B)
+    → Fits g k → Meets P g c m
     → ((a : A) (b : Checker) → Went P g c a b → Meets Q k c (next a b)) → Meets Q k c (andThen m next)
 unfolding andThen
 meets-from P Q g k c m next f (went {a} {c′ = b} w) q = q a b w
@@ -195,7 +201,8 @@ meets-fits P g k c f (went {c′ = b} w) = went (record { orderly = w .orderly; 
 meets-fits P g k c f (ended {c′ = b} w) = ended (record { orderly = w .orderly; made = made-fits g k c b f (w .made); stopped = w .stopped })
 
 -- Another value, and what holds of it.
-pub went-with : {A B : Type 0} {P : A → Checker → Type 0} {g : Grade} {c b : Checker} {a : A} (Q : B → Checker → Type 0) (x : B) → Went P g c a b → Q x b → Meets Q g c (goes x b)
+pub went-with : {A B : Type 0} {P : A → Checker → Type 0} {g : Grade} {c b : Checker} {a : A} (Q : B → Checker → Type 0) (x : B) → Went P g c a b
+    → Q x b → Meets Q g c (goes x b)
 went-with Q x w p = went (record { orderly = w .orderly; made = w .made; reached = w .reached; holds = p })
 
 -- Two steps taken as one.

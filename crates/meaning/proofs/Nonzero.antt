@@ -11,7 +11,8 @@ use Rattle.unification.specs.Ty.{Ty}
 use Rattle.meaning.specs.All.{All}
 use Rattle.meaning.specs.Diag.{Message, Diagnostic}
 use Rattle.meaning.specs.Check.{Typed}
-use Rattle.meaning.specs.Answer.{diagnosticLine, bytes₂, bytes₄, hexDigit, hexLine, slotBytes, nodeLines, diagnosticBytes, diagnosticLines, answerLines, numbered, formLines}
+use Rattle.meaning.specs.Answer.{diagnosticLine, bytes₂, bytes₄, hexDigit, hexLine, slotBytes, nodeLines, diagnosticBytes, diagnosticLines}
+use Rattle.meaning.specs.Answer.{answerLines, numbered, formLines}
 use Rattle.meaning.proofs.Lists.{all-append}
 use Rattle.meaning.proofs.Tests.{cases}
 
@@ -33,7 +34,8 @@ line-nonzero (b ∷ s) = (digit-nonzero (b / 16), (digit-nonzero (b % 16), line-
 nodes-nonzero : (n : ℕ) (slots : List (Option Ty)) → Nonzero (nodeLines n slots)
 unfolding nodeLines
 nodes-nonzero n [] = tt
-nodes-nonzero n (slot ∷ slots) = join (hexLine (7 ∷ bytes₂ n ++ slotBytes slot)) (nodeLines (suc n) slots) (line-nonzero (7 ∷ bytes₂ n ++ slotBytes slot)) (nodes-nonzero (suc n) slots)
+nodes-nonzero n (slot ∷ slots) = join (hexLine (7 ∷ bytes₂ n ++ slotBytes slot)) (nodeLines (suc n) slots)
+    (line-nonzero (7 ∷ bytes₂ n ++ slotBytes slot)) (nodes-nonzero (suc n) slots)
 
 module _ (text : Message → List ℕ) where
   diagnostic-nonzero : (d : Diagnostic) → Nonzero (diagnosticLine text d)
@@ -50,7 +52,8 @@ module _ (text : Message → List ℕ) where
   unfolding answerLines
   answer-nonzero t =
       join (nodeLines 0 (t .tys) ++ diagnosticLines text (t .diagnostics)) (hexLine (9 ∷ bytes₄ (t .visits)))
-      (join (nodeLines 0 (t .tys)) (diagnosticLines text (t .diagnostics)) (nodes-nonzero 0 (t .tys)) (diagnostics-nonzero (t .diagnostics))) (line-nonzero (9 ∷ bytes₄ (t .visits)))
+      (join (nodeLines 0 (t .tys)) (diagnosticLines text (t .diagnostics)) (nodes-nonzero 0 (t .tys)) (diagnostics-nonzero (t .diagnostics)))
+      (line-nonzero (9 ∷ bytes₄ (t .visits)))
 
   numbered-nonzero : (k : ℕ) (ts : List Typed) → Nonzero (numbered text k ts)
   unfolding numbered

@@ -12,7 +12,8 @@ use Rattle.meaning.specs.Syntax.{Query, Ast}
 use Rattle.meaning.specs.Schema.{Schema}
 use Rattle.meaning.specs.Refusal.{Refusal}
 use Rattle.meaning.specs.Lines.{lines}
-use Rattle.meaning.specs.Frame.{wide, Kind, limits, name, schemaType, predicate, node, query, kindByte, rises, follows, mayStand, Frame, theLimits, aName, aType, aPredicate, aNode, theQuery, frameKind}
+use Rattle.meaning.specs.Frame.{wide, Kind, limits, name, schemaType, predicate, node, query, kindByte, rises, follows, mayStand, Frame, theLimits}
+use Rattle.meaning.specs.Frame.{aName, aType, aPredicate, aNode, theQuery, frameKind}
 use Rattle.meaning.specs.SoFar.{Said, malformed, unknownKind, noFrame, frames, said, SoFar, start, add, after}
 use Rattle.meaning.specs.Conditions.{isMisplaced, isLastQueryPast, isQueryTooMany, maxQueries, Condition, conditions, firstOf}
 use Rattle.meaning.specs.File.{schemaOf, describe, Reading, refused, described, atEnd, readFrom, isTooLong, readingOf, reading}
@@ -20,7 +21,9 @@ use Rattle.meaning.specs.Check.{Checked, typed, exhausted, check}
 use Rattle.meaning.specs.Messages.{messageText}
 use Rattle.meaning.specs.Answer.{formLines}
 use Rattle.meaning.specs.Outcome.{Decided, withChecked, runAll, decideRun, decideRead, decide, finish, outcome, minWords, maxVisits}
-use Rattle.meaning.specs.OneQuery.{SoFarBefore, startBefore, addBefore, afterBefore, asNow, mayStandBefore, isMisplacedBefore, conditionsBefore, ReadingBefore, refusedBefore, describedBefore, describeBefore, atEndBefore, readFromBefore, readingBefore, decideCheckedBefore, decideReadBefore, decideBefore, outcomeBefore, kindIn, QueryLast}
+use Rattle.meaning.specs.OneQuery.{SoFarBefore, startBefore, addBefore, afterBefore, asNow, mayStandBefore, isMisplacedBefore, conditionsBefore}
+use Rattle.meaning.specs.OneQuery.{ReadingBefore, refusedBefore, describedBefore, describeBefore, atEndBefore, readFromBefore, readingBefore}
+use Rattle.meaning.specs.OneQuery.{decideCheckedBefore, decideReadBefore, decideBefore, outcomeBefore, kindIn, QueryLast}
 use Rattle.meaning.proofs.Tests.{cases}
 use Rattle.meaning.proofs.Refused.{read-next}
 
@@ -34,11 +37,13 @@ skip : (c : Condition) (cs : List Condition) (so : SoFar) (l : Said) → c .hold
 unfolding firstOf
 skip c cs so l q = rw (q, firstOf)
 
-swap : (c d : Condition) (cs : List Condition) (so : SoFar) (l : Said) → c .refusal ≡ d .refusal → c .holds so l ≡ d .holds so l → firstOf (c ∷ cs) so l ≡ firstOf (d ∷ cs) so l
+swap : (c d : Condition) (cs : List Condition) (so : SoFar) (l : Said) → c .refusal ≡ d .refusal → c .holds so l ≡ d .holds so l
+    → firstOf (c ∷ cs) so l ≡ firstOf (d ∷ cs) so l
 unfolding firstOf
 swap c d cs so l r h = cases (d .holds so l) (λ q. rw (h ∙ q, q, firstOf) (ap some r)) (λ q. rw (h ∙ q, q, firstOf))
 
-same-conditions : (so : SoFar) (l : Said) → isMisplaced so l ≡ isMisplacedBefore so l → isQueryTooMany so l ≡ false → firstOf conditions so l ≡ firstOf conditionsBefore so l
+same-conditions : (so : SoFar) (l : Said) → isMisplaced so l ≡ isMisplacedBefore so l → isQueryTooMany so l ≡ false
+    → firstOf conditions so l ≡ firstOf conditionsBefore so l
 unfolding conditions conditionsBefore
 same-conditions so l m q =
     keep _ _ _ so l
@@ -120,7 +125,8 @@ open-after b (frames (theQuery q)) h o = absurd (h refl)
 data Alike : Reading → ReadingBefore → Type 0 where
   both-refused : (i : Refusal) → Alike (refused i) (refusedBefore i)
   both-described : (names : List (List ℕ)) (schema : Schema) (ast : Ast)
-      → Alike (described (record { names = names; schema = schema; queries = ast ∷ [] })) (describedBefore (record { names = names; schema = schema; ast = ast }))
+      → Alike (described (record { names = names; schema = schema; queries = ast ∷ [] }))
+      (describedBefore (record { names = names; schema = schema; ast = ast }))
 
 not-ended : (b : SoFarBefore) → Open b → Alike (atEnd (asNow b) (b .previous)) (atEndBefore b (b .query))
 unfolding atEnd atEndBefore
@@ -147,14 +153,17 @@ last-line b (frames (aPredicate n k v)) o = rw (o .query) (both-refused _)
 last-line b (frames (aNode n)) o = rw (o .query) (both-refused _)
 last-line b (frames (theQuery q)) o = both-described (b .names) (schemaOf (asNow b)) (record { nodes = b .nodes; query = q })
 
-next-before : (b : SoFarBefore) (l : Said) (ls : List Said) → firstOf conditionsBefore (asNow b) l ≡ none → readFromBefore b (l ∷ ls) ≡ readFromBefore (afterBefore b l) ls
+next-before : (b : SoFarBefore) (l : Said) (ls : List Said) → firstOf conditionsBefore (asNow b) l ≡ none
+    → readFromBefore b (l ∷ ls) ≡ readFromBefore (afterBefore b l) ls
 unfolding readFromBefore
 next-before b l ls q = rw (q, readFromBefore)
 
-one-more : (b : SoFarBefore) (l : Said) (ls : List Said) → Open b → kindIn l ≢ some Kind.query → firstOf conditionsBefore (asNow b) l ≡ none → Alike (readFrom (asNow (afterBefore b l)) ls) (readFromBefore (afterBefore b l) ls)
+one-more : (b : SoFarBefore) (l : Said) (ls : List Said) → Open b → kindIn l ≢ some Kind.query → firstOf conditionsBefore (asNow b) l ≡ none
+    → Alike (readFrom (asNow (afterBefore b l)) ls) (readFromBefore (afterBefore b l) ls)
     → Alike (readFrom (asNow b) (l ∷ ls)) (readFromBefore b (l ∷ ls))
 one-more b l ls o h q ih =
-    let now : readFrom (asNow b) (l ∷ ls) ≡ readFrom (asNow (afterBefore b l)) ls = read-next (asNow b) l ls (same-first b l o ∙ q) ∙ ap (λ so. readFrom so ls) (same-after b l h) in
+    let now : readFrom (asNow b) (l ∷ ls) ≡ readFrom (asNow (afterBefore b l)) ls = read-next (asNow b) l ls (same-first b l o ∙ q) ∙ ap
+    (λ so. readFrom so ls) (same-after b l h) in
     subst (λ r. Alike r (readFromBefore b (l ∷ ls))) (sym now) (subst (λ r. Alike (readFrom (asNow (afterBefore b l)) ls) r) (sym (next-before b l ls q)) ih)
 
 alike : (b : SoFarBefore) (ls : List Said) → Open b → QueryLast ls → Alike (readFrom (asNow b) ls) (readFromBefore b ls)
@@ -167,7 +176,8 @@ alike b (l ∷ []) o h = go (firstOf conditionsBefore (asNow b) l) refl
     go none q = rw (same-first b l o ∙ q, q, readFrom, readFromBefore) (last-line b l o)
 alike b (l ∷ m ∷ ls) o h = go (alike (afterBefore b l) (m ∷ ls) (open-after b l (h .0) o) (h .1)) (firstOf conditionsBefore (asNow b) l) refl
   where
-    go : Alike (readFrom (asNow (afterBefore b l)) (m ∷ ls)) (readFromBefore (afterBefore b l) (m ∷ ls)) → (r : Option Refusal) → firstOf conditionsBefore (asNow b) l ≡ r → Alike (readFrom (asNow b) (l ∷ m ∷ ls)) (readFromBefore b (l ∷ m ∷ ls))
+    go : Alike (readFrom (asNow (afterBefore b l)) (m ∷ ls)) (readFromBefore (afterBefore b l) (m ∷ ls)) → (r : Option Refusal)
+        → firstOf conditionsBefore (asNow b) l ≡ r → Alike (readFrom (asNow b) (l ∷ m ∷ ls)) (readFromBefore b (l ∷ m ∷ ls))
     go ih (some i) q = rw (same-first b l o ∙ q, q, readFrom, readFromBefore) (both-refused i)
     go ih none q = one-more b l (m ∷ ls) o (h .0) q ih
 

@@ -33,7 +33,8 @@ unfolding schemaFrames kindByte frameKind
 schema-early c = (
   omega arith,
   all-append Early (map aName (c .names)) (map aType (c .types) ++ map predicateFrame (c .predicates)) (all-made aName (λ s. omega arith) (c .names))
-      (all-append Early (map aType (c .types)) (map predicateFrame (c .predicates)) (all-made aType (λ t. omega arith) (c .types)) (all-made predicateFrame (λ p. omega arith) (c .predicates))),
+      (all-append Early (map aType (c .types)) (map predicateFrame (c .predicates)) (all-made aType (λ t. omega arith) (c .types))
+      (all-made predicateFrame (λ p. omega arith) (c .predicates))),
 )
 
 pub lined : (file : List ℕ) (f : Form) → reading file ≡ described f → Lined file f
@@ -44,5 +45,6 @@ lined file f e =
     record {
       schema = schemaFrames c;
       early = schema-early c;
-      are = ap (λ x. map (said wide) (lines x)) (s .is) ∙ file-lines wide (framesOf c) (s .lawful .writable) ∙ ap (λ x. map frames (schemaFrames c ++ flatMap queryFrames (x .queries))) (sym (s .tree));
+      are = ap (λ x. map (said wide) (lines x)) (s .is) ∙ file-lines wide (framesOf c) (s .lawful .writable) ∙ ap
+          (λ x. map frames (schemaFrames c ++ flatMap queryFrames (x .queries))) (sym (s .tree));
     }

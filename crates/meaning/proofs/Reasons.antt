@@ -8,7 +8,9 @@ use Prim.Native.Nat.{ℕ, _≤_}
 use native.Mathlib.Omega.{arith}
 use lib.ListN.{length}
 use borrow.Author.Tests.{not-false}
-use Rattle.meaning.specs.Refusal.{Refusal, workTooShort, fileTooLong, malformedLine, misplacedKind, tooMany, malformedFrame, brokenText, nameGivenBefore, badReference, repeatedKey, tooManyVisits, answerTooLong, tooManyQueries, numberTooWide, tallyTooLarge, ceilingPassed, outsideTheRules}
+use Rattle.meaning.specs.Refusal.{Refusal, workTooShort, fileTooLong, malformedLine, misplacedKind, tooMany, malformedFrame, brokenText}
+use Rattle.meaning.specs.Refusal.{nameGivenBefore, badReference, repeatedKey, tooManyVisits, answerTooLong, tooManyQueries, numberTooWide}
+use Rattle.meaning.specs.Refusal.{tallyTooLarge, ceilingPassed, outsideTheRules}
 use Rattle.meaning.specs.Lines.{Line, lines}
 use Rattle.meaning.specs.Frame.{wide, Kind, kindByte, mayStand, Frame}
 use Rattle.meaning.specs.SoFar.{SoFar, Said, malformed, unknownKind, noFrame, frames, said, start}
@@ -52,7 +54,8 @@ said-append [] b = refl
 said-append (l ∷ a) b = ap (λ t. said wide l ∷ t) (said-append a b)
 
 module _ (file : List ℕ) (i : Refusal) (P : SoFar → Line → Type 0) where
-  reaches : length file ≤ maxFile → ((so : SoFar) (l : Line) → First conditions so (said wide l) i → P so l) → AtLine start (map (said wide) (lines file)) i → Reaches file P
+  reaches : length file ≤ maxFile → ((so : SoFar) (l : Line) → First conditions so (said wide l) i → P so l)
+      → AtLine start (map (said wide) (lines file)) i → Reaches file P
   reaches h f s =
       let x = split (lines file) (s .before) (s .line) (s .rest) (s .split) in
       record {
@@ -174,7 +177,8 @@ at-no-frame so l f = no-frame (means wide l (said wide l) .0 refl) (no-frame-fir
 no-frame-at : (so : SoFar) (l : Line) → NoFrame so l → First conditions so (said wide l) malformedFrame
 unfolding conditions isMalformed isMisplaced isOneTooMany isQueryTooMany isNoFrame
 no-frame-at so l n =
-    subst (λ x. First conditions so x malformedFrame) (sym (means wide l (noFrame (n .kind)) .1 (is-no-frame (n .kind) (n .content) (n .bytes) (n .none-written))))
+    subst (λ x. First conditions so x malformedFrame)
+    (sym (means wide l (noFrame (n .kind)) .1 (is-no-frame (n .kind) (n .content) (n .bytes) (n .none-written))))
     (later refl (later (ap not (n .placed)) (later (n .few) (later (n .fewQueries) (here refl)))))
 
 -- ---- The call
@@ -200,7 +204,8 @@ OfLine ceilingPassed = ⊥
 OfLine outsideTheRules = ⊥
 
 module _ (file : List ℕ) (words bytes : ℕ) where
-  at-line : {i : Refusal} → RefusedWhen file words bytes i → OfLine i → (minWords ≤ words) × (length file ≤ maxFile) × AtLine start (map (said wide) (lines file)) i
+  at-line : {i : Refusal} → RefusedWhen file words bytes i → OfLine i
+      → (minWords ≤ words) × (length file ≤ maxFile) × AtLine start (map (said wide) (lines file)) i
   at-line (for-work h) o = absurd o
   at-line (for-file h (tooLong x)) o = absurd o
   at-line (for-file h (atLine x s)) o = (h, x, s)
@@ -210,7 +215,8 @@ module _ (file : List ℕ) (words bytes : ℕ) where
 
   -- refused for a reason that is told of a line, exactly where the file reaches such a line
   exactly : (i : Refusal) → OfLine i → (P : SoFar → Line → Type 0) → ((so : SoFar) (l : Line) → First conditions so (said wide l) i → P so l)
-      → ((so : SoFar) (l : Line) → P so l → First conditions so (said wide l) i) → (outcome file words bytes .result ≡ Refused i) ↔ ((minWords ≤ words) × Reaches file P)
+      → ((so : SoFar) (l : Line) → P so l → First conditions so (said wide l) i)
+      → (outcome file words bytes .result ≡ Refused i) ↔ ((minWords ≤ words) × Reaches file P)
   exactly i o P to from =
       let d = demand-1 file words bytes .refused-exactly i in
       (λ e. let a = at-line (d .0 e) o in (a .0, reaches file i P (a .1) to (a .2)), λ r. d .1 (for-file (r .0) (reached file i P from (r .1))))

@@ -57,7 +57,8 @@ data Ends (so : SoFar) (ls : List Said) : Reading → Type 0 where
   through : (end : SoFar) → Pass so ls end → Ends so ls (atEnd end (end .previous))
 
 ahead : {so : SoFar} {l : Said} {ls : List Said} {r : Reading} → All (λ c. c .holds so l ≡ false) conditions → Ends (after so l) ls r → Ends so (l ∷ ls) r
-ahead {l = l} a (stopped s) = stopped (record { before = l ∷ s .before; line = s .line; rest = s .rest; read = s .read; split = ap (λ x. l ∷ x) (s .split); pass = more a (s .pass); first = s .first })
+ahead {l = l} a (stopped s) = stopped (record
+    { before = l ∷ s .before; line = s .line; rest = s .rest; read = s .read; split = ap (λ x. l ∷ x) (s .split); pass = more a (s .pass); first = s .first })
 ahead a (through end p) = through end (more a p)
 
 ends : (so : SoFar) (ls : List Said) → Ends so ls (readFrom so ls)
@@ -65,9 +66,11 @@ unfolding readFrom
 ends so [] = through so none-left
 ends so (l ∷ ls) = go (λ h. ends (after so l) ls) (firstOf conditions so l) refl
   where
-    go : (Unit {0} → Ends (after so l) ls (readFrom (after so l) ls)) → (o : Option Refusal) → firstOf conditions so l ≡ o → Ends so (l ∷ ls) (readFrom so (l ∷ ls))
+    go : (Unit {0} → Ends (after so l) ls (readFrom (after so l) ls)) → (o : Option Refusal) → firstOf conditions so l ≡ o
+        → Ends so (l ∷ ls) (readFrom so (l ∷ ls))
     go ih none q = rw (q, readFrom) (ahead (none-holds conditions so l q) (ih tt))
-    go ih (some i) q = rw (q, readFrom) (stopped (record { before = []; line = l; rest = ls; read = so; split = refl; pass = none-left; first = some-first conditions so l i q }))
+    go ih (some i) q = rw (q, readFrom) (stopped
+        (record { before = []; line = l; rest = ls; read = so; split = refl; pass = none-left; first = some-first conditions so l i q }))
 
 -- ---- The file
 
@@ -84,7 +87,8 @@ other-kind : {o : Option Kind} → o ≡ some Kind.query → Other o → ⊥
 other-kind e h = subst Other e h
 
 stops : {so : SoFar} {ls : List Said} {i : Refusal} → AtLine so ls i → readFrom so ls ≡ refused i
-stops {so = so} {i = i} s = ap (readFrom so) (s .split) ∙ past (s .line ∷ s .rest) (s .pass) ∙ read-refused (s .read) (s .line) (s .rest) i (first-some (s .first))
+stops {so = so} {i = i} s = ap (readFrom so) (s .split) ∙ past (s .line ∷ s .rest) (s .pass) ∙ read-refused (s .read) (s .line) (s .rest) i
+    (first-some (s .first))
 
 to-the-end : {so end : SoFar} {ls : List Said} → Pass so ls end → readFrom so ls ≡ atEnd end (end .previous)
 unfolding readFrom
@@ -109,7 +113,8 @@ module _ (ed : Edition) where
   -- The ways a file can be read.
   pub data Read (file : List ℕ) : Reading → Type 0 where
     turnedDown : {i : Refusal} → Refused ed file i → Read file (refused i)
-    passed : (end : SoFar) → length file ≤ maxFile → Pass start (map (said ed) (lines file)) end → end .previous ≡ some Kind.query → Read file (described (describe end))
+    passed : (end : SoFar) → length file ≤ maxFile → Pass start (map (said ed) (lines file)) end → end .previous ≡ some Kind.query
+        → Read file (described (describe end))
 
   pub read : (file : List ℕ) → Read file (readingOf ed file)
   unfolding readingOf atEnd
@@ -117,7 +122,8 @@ module _ (ed : Edition) where
       (λ q. rw (q, readingOf) (turnedDown (tooLong (ltb-true maxFile (length file) q))))
       (λ q. rw (q, readingOf) (go (ltb-false maxFile (length file) q) (ends start (map (said ed) (lines file)))))
     where
-      end-of : length file ≤ maxFile → (end : SoFar) → Pass start (map (said ed) (lines file)) end → (o : Option Kind) → end .previous ≡ o → Read file (atEnd end o)
+      end-of : length file ≤ maxFile → (end : SoFar) → Pass start (map (said ed) (lines file)) end → (o : Option Kind) → end .previous ≡ o
+          → Read file (atEnd end o)
       end-of h end p none q = turnedDown (missingQuery end h p (λ e. other-kind (sym q ∙ e) tt))
       end-of h end p (some limits) q = turnedDown (missingQuery end h p (λ e. other-kind (sym q ∙ e) tt))
       end-of h end p (some name) q = turnedDown (missingQuery end h p (λ e. other-kind (sym q ∙ e) tt))
@@ -145,7 +151,8 @@ module _ (ed : Edition) where
   refused-when file i = (λ e. why i (read file) e, λ h. turned-down file h)
 
   -- Described exactly where all lines pass and the last is a query.
-  pub accepted : (file : List ℕ) (end : SoFar) → length file ≤ maxFile → Pass start (map (said ed) (lines file)) end → end .previous ≡ some Kind.query → readingOf ed file ≡ described (describe end)
+  pub accepted : (file : List ℕ) (end : SoFar) → length file ≤ maxFile → Pass start (map (said ed) (lines file)) end → end .previous ≡ some Kind.query
+      → readingOf ed file ≡ described (describe end)
   unfolding atEnd
   accepted file end h p e = within file h ∙ to-the-end p ∙ ap (atEnd end) e
 

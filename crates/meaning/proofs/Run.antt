@@ -48,7 +48,8 @@ led-robinson v tys st (at-the-limit {m} a b cs i j e) = robinson-at-the-limit v 
 
 -- ---- What a step that meets its grade says
 module _ {A : Type 0} (P : A → Checker → Type 0) (g : Grade) (c : Checker) where
-  pub meets-led : (v : ℕ) (tys : List (Option Ty)) (ts : List Calls.Taken) (s : Step A) → Calls.Calls v tys (record { state = c .state; taken = ts }) → Meets P g c s → Led v tys (ending s .state)
+  pub meets-led : (v : ℕ) (tys : List (Option Ty)) (ts : List Calls.Taken) (s : Step A) → Calls.Calls v tys (record { state = c .state; taken = ts })
+      → Meets P g c s → Led v tys (ending s .state)
   unfolding ending Reached Stopped
   meets-led v tys ts s cs (went w) = between-calls (w .reached v tys ts cs .1)
   meets-led v tys ts s cs (ended w) = w .stopped v tys ts cs
@@ -74,7 +75,8 @@ module _ (schema : Schema) (ast : Ast) (wf : WellFormed schema ast) where
 
   -- What the whole query weighs is at most what its nodes weigh by themselves.
   pub query-weight : (own : ℕ → ℕ) → sumOf (λ n. weight nodes own (length nodes) n) (queryNodes (ast .query)) ≤ total own (length nodes)
-  query-weight own = weight-once nodes (lower-falls nodes (wf .lower)) own (length nodes) (length nodes) (omega arith) (queryNodes (ast .query)) (wf .query) (once-times nodes (queryNodes (ast .query)) (wf .once))
+  query-weight own = weight-once nodes (lower-falls nodes (wf .lower)) own (length nodes) (length nodes) (omega arith) (queryNodes (ast .query))
+      (wf .query) (once-times nodes (queryNodes (ast .query)) (wf .once))
 
   pub query-size : sumOf (λ n. size nodes (length nodes) n) (queryNodes (ast .query)) ≤ length nodes
   query-size = omega (arith, query-weight (λ n. 1), total-ones (length nodes))
@@ -108,12 +110,14 @@ module _ (schema : Schema) (ast : Ast) (wf : WellFormed schema ast) where
   }
     where
       inside : (x : ℕ) → 0 < sumOf (λ n. weight nodes (λ m. same x m) (length nodes) n) (queryNodes (ast .query)) → x < length nodes
-      inside x h = by-cases (decLt x (length nodes)) (λ p. p) (λ p. absurd (omega (arith, query-weight (λ n. same x n), total-past x (length nodes) (omega arith))))
+      inside x h = by-cases (decLt x (length nodes)) (λ p. p)
+          (λ p. absurd (omega (arith, query-weight (λ n. same x n), total-past x (length nodes) (omega arith))))
 
   -- ---- The run
   pub run-meets : (ceiling : ℕ) → Meets IsSide (visiting nodes (length nodes) (queryNodes (ast .query))) (begin ceiling (length nodes)) (run schema ast ceiling)
   unfolding run
-  run-meets ceiling = query-meets schema nodes (wf .declared) (ast .query) (begin ceiling (length nodes)) (begin-orderly ceiling (length nodes)) (begin-ready ceiling)
+  run-meets ceiling = query-meets schema nodes (wf .declared) (ast .query) (begin ceiling (length nodes)) (begin-orderly ceiling (length nodes))
+      (begin-ready ceiling)
 
   -- The run is a list of calls.
   run-led : (ceiling : ℕ) → Led ceiling (replicate (length nodes) none) (ending (run schema ast ceiling) .state)

@@ -28,7 +28,9 @@ use Rattle.unification.proofs.Demand3.{rolled-since}
 use Rattle.meaning.specs.Syntax.{Node, nodeAt}
 use Rattle.meaning.specs.Schema.{Schema}
 use Rattle.meaning.specs.Diag.{Message}
-use Rattle.meaning.specs.Check.{Until, theEnd, firstDiagnostic, Checker, goes, Does, andThen, withState, withEnv, withDiagnostics, diagnosed, reported, freshVarId, lookupIn, lookup, pushEnv, introduce, annotate, unified, unify, ordered, orderable, snapshot, truncateEnv, rollback, reject, report, unifyAt}
+use Rattle.meaning.specs.Check.{Until, theEnd, firstDiagnostic, Checker, goes, Does, andThen, withState, withEnv, withDiagnostics, diagnosed}
+use Rattle.meaning.specs.Check.{reported, freshVarId, lookupIn, lookup, pushEnv, introduce, annotate, unified, unify, ordered, orderable, snapshot}
+use Rattle.meaning.specs.Check.{truncateEnv, rollback, reject, report, unifyAt}
 use Rattle.meaning.specs.All.{All}
 use Rattle.meaning.specs.Run.{between-calls, at-the-limit}
 use Rattle.meaning.specs.Weights.{same}
@@ -90,15 +92,18 @@ module _ (schema : Schema) (nodes : List Node) where
   pub reject-meets : (n : ℕ) (m : Message) (c : Checker) → Orderly c → Meets Nothing one-diagnostic c (reject schema nodes n m c)
   unfolding reject diagnosed withDiagnostics Reached Stopped
   reject-meets n m c o =
-      reported-meets one-diagnostic c (diagnosed schema nodes n m c) (diagnosed-orderly n m c o) (diagnosed-made n m c) (λ v tys ts cs. ([], cs)) (λ v tys ts cs. between-calls cs)
+      reported-meets one-diagnostic c (diagnosed schema nodes n m c) (diagnosed-orderly n m c o) (diagnosed-made n m c) (λ v tys ts cs. ([], cs))
+      (λ v tys ts cs. between-calls cs)
 
   -- By a test.
   module _ (n : ℕ) (m : Message) (c : Checker) (o : Orderly c) where
-    pub reject-if : (b : Bool) → Meets Nothing one-diagnostic c ((elim b as (λ b. Does (Unit {0})) [ true ↦ reject schema nodes n m | false ↦ (λ c. goes tt c) ]) c)
+    pub reject-if : (b : Bool) → Meets Nothing one-diagnostic c
+        ((elim b as (λ b. Does (Unit {0})) [ true ↦ reject schema nodes n m | false ↦ (λ c. goes tt c) ]) c)
     reject-if true = reject-meets n m c o
     reject-if false = stays Nothing one-diagnostic c tt o tt
 
-    pub reject-unless : (b : Bool) → Meets Nothing one-diagnostic c ((elim b as (λ b. Does (Unit {0})) [ true ↦ (λ c. goes tt c) | false ↦ reject schema nodes n m ]) c)
+    pub reject-unless : (b : Bool) → Meets Nothing one-diagnostic c
+        ((elim b as (λ b. Does (Unit {0})) [ true ↦ (λ c. goes tt c) | false ↦ reject schema nodes n m ]) c)
     reject-unless true = stays Nothing one-diagnostic c tt o tt
     reject-unless false = reject-meets n m c o
 
@@ -200,7 +205,8 @@ annotate-meets n t c o r h =
         env = o .env;
         few = o .few;
         sides = λ m u e. by-cases (ℕ-discrete m n)
-            (λ p. let q : t ≡ u = (let i : getD (set (c .state .tys) n (some t)) n none ≡ some u = sym (ap (λ k. getD (set (c .state .tys) n (some t)) k none) p) ∙ e in cc (getD-set-same (c .state .tys) n (some t) none lt)) in rw (← q) h)
+            (λ p. let q : t ≡ u = (let i : getD (set (c .state .tys) n (some t)) n none ≡ some u = sym
+            (ap (λ k. getD (set (c .state .tys) n (some t)) k none) p) ∙ e in cc (getD-set-same (c .state .tys) n (some t) none lt)) in rw (← q) h)
             (λ p. o .sides m u (sym (getD-set-other (c .state .tys) n m (some t) none p) ∙ e));
       };
       made = record {
@@ -244,7 +250,8 @@ still-made c st p tys = record {
 }
 
 module _ (a b : Ty) (c : Checker) (o : Orderly c) (i : Side (unknowns c) a) (j : Side (unknowns c) b) where
-  unified-meets : (res : Unified) → Unify.unify (c .state) a b ≡ res → After (Kept (c .state)) res → After (Logged (unknowns c)) res → Meets Nothing no-thing c (unified c res)
+  unified-meets : (res : Unified) → Unify.unify (c .state) a b ≡ res → After (Kept (c .state)) res → After (Logged (unknowns c)) res
+      → Meets Nothing no-thing c (unified c res)
   unfolding unified withState Reached Stopped
   unified-meets (Ok st) e k l = went (record {
     orderly = still-orderly c st o (l .log) (l .len) (k .tys);
@@ -269,13 +276,16 @@ module _ (a b : Ty) (c : Checker) (o : Orderly c) (i : Side (unknowns c) a) (j :
   unify-meets = unified-meets (Unify.unify (c .state) a b) refl (unify-kept (c .state) a b) (unify-logged (c .state) a b i j (o .log))
 
 -- A unification, and its failure reported.
-pub unifyAt-meets : (schema : Schema) (nodes : List Node) (n : ℕ) (a b : Ty) (c : Checker) → Orderly c → Ready one-diagnostic c → Side (unknowns c) a → Side (unknowns c) b → Meets Nothing one-diagnostic c (unifyAt schema nodes n a b c)
+pub unifyAt-meets : (schema : Schema) (nodes : List Node) (n : ℕ) (a b : Ty) (c : Checker) → Orderly c → Ready one-diagnostic c → Side (unknowns c) a
+    → Side (unknowns c) b → Meets Nothing one-diagnostic c (unifyAt schema nodes n a b c)
 unfolding unifyAt report
 unifyAt-meets schema nodes n a b c o r i j =
-    meets-then Nothing Nothing no-thing one-diagnostic one-diagnostic c (record { nodes = λ x. omega arith; unknowns = omega arith; diagnostics = omega arith }) (unify a b c) _ r
+    meets-then Nothing Nothing no-thing one-diagnostic one-diagnostic c
+    (record { nodes = λ x. omega arith; unknowns = omega arith; diagnostics = omega arith }) (unify a b c) _ r
     (λ r′. unify-meets a b c o i j) (λ f c′ w r′. after f c′ (w .orderly))
   where
-    after : (f : Option TyError) (c′ : Checker) → Orderly c′ → Meets Nothing one-diagnostic c′ ((elim f as (λ f. Does (Unit {0})) [ none ↦ (λ c. goes tt c) | some err ↦ report schema nodes n err ]) c′)
+    after : (f : Option TyError) (c′ : Checker) → Orderly c′ → Meets Nothing one-diagnostic c′
+        ((elim f as (λ f. Does (Unit {0})) [ none ↦ (λ c. goes tt c) | some err ↦ report schema nodes n err ]) c′)
     after none c′ o′ = stays Nothing one-diagnostic c′ tt o′ tt
     after (some err) c′ o′ = reject-meets schema nodes n _ c′ o′
 
@@ -301,7 +311,8 @@ ordered-meets c spent o f = ended (record {
 
 pub orderable-meets : (t : Ty) (c : Checker) → Orderly c → Meets Nothing no-thing c (orderable t c)
 unfolding orderable
-orderable-meets t c o = ordered-meets c (Unify.orderable (Bindings.zonk (c .state .subst) t) (c .state .left)) o (orderable-fewer (Bindings.zonk (c .state .subst) t) (c .state .left))
+orderable-meets t c o = ordered-meets c (Unify.orderable (Bindings.zonk (c .state .subst) t) (c .state .left)) o
+    (orderable-fewer (Bindings.zonk (c .state .subst) t) (c .state .left))
 
 -- ---- A rollback to where the stretch began: what it made but the unknowns and the diagnostics is gone
 module _ (g : Grade) (c c′ : Checker) (o : Orderly c) (m : Made g c c′) where
@@ -340,12 +351,14 @@ module _ (g : Grade) (c c′ : Checker) (o : Orderly c) (m : Made g c c′) wher
       nodes = rw (rollback-tys (m .since));
       until = m .until;
     };
-    reached = λ v tys ts cs. let x = r v tys (take-snapshot (c .state) ∷ ts) (then-call cs snapping) in (take-snapshot (c .state) ∷ [], then-call (x .1) (rollingBack (x .0) ts (take-snapshot (c .state)) refl));
+    reached = λ v tys ts cs. let x = r v tys (take-snapshot (c .state) ∷ ts) (then-call cs snapping) in
+        (take-snapshot (c .state) ∷ [], then-call (x .1) (rollingBack (x .0) ts (take-snapshot (c .state)) refl));
     holds = tt;
   })
 
 -- ---- The environment cut back to where the stretch began
-pub cut-meets : (g : Grade) (c b : Checker) (t : Ty) → Orderly c → Went IsSide g c t b → Meets IsSide g c (goes t (withEnv b (drop (length (b .env) - length (c .env)) (b .env))))
+pub cut-meets : (g : Grade) (c b : Checker) (t : Ty) → Orderly c → Went IsSide g c t b
+    → Meets IsSide g c (goes t (withEnv b (drop (length (b .env) - length (c .env)) (b .env))))
 unfolding Reached withEnv
 cut-meets g c b t o w =
     let m = w .made in

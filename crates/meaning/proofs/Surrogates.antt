@@ -11,15 +11,19 @@ use Rattle.text.specs.Utf8.{characters}
 use Rattle.text.specs.Surrogates.{HasSurrogate, charactersOpen}
 use Rattle.text.proofs.Surrogates.{kept, surrogate-no-text}
 use Rattle.meaning.specs.All.{All}
-use Rattle.meaning.specs.Refusal.{Refusal, malformedLine, misplacedKind, tooMany, malformedFrame, brokenText, nameGivenBefore, badReference, repeatedKey, tooManyQueries}
-use Rattle.meaning.specs.Frame.{wide, Kind, limits, name, schemaType, predicate, node, query, mayStand, Frame, theLimits, aName, aType, aPredicate, aNode, theQuery}
+use Rattle.meaning.specs.Refusal.{Refusal, malformedLine, misplacedKind, tooMany, malformedFrame, brokenText, nameGivenBefore, badReference}
+use Rattle.meaning.specs.Refusal.{repeatedKey, tooManyQueries}
+use Rattle.meaning.specs.Frame.{wide, Kind, limits, name, schemaType, predicate, node, query, mayStand, Frame, theLimits, aName, aType, aPredicate}
+use Rattle.meaning.specs.Frame.{aNode, theQuery}
 use Rattle.meaning.specs.References.{textsOf}
 use Rattle.meaning.specs.Lines.{lines}
 use Rattle.meaning.specs.SoFar.{Said, malformed, unknownKind, noFrame, frames, said, SoFar, start, add, after}
-use Rattle.meaning.specs.Conditions.{anyOf, ofFrame, broken, maxNames, Condition, conditions, firstOf, isMalformed, isMisplaced, isOneTooMany, isQueryTooMany, isNoFrame, isBrokenText, isNameGivenBefore, isBadReference, isRepeatedKey}
+use Rattle.meaning.specs.Conditions.{anyOf, ofFrame, broken, maxNames, Condition, conditions, firstOf, isMalformed, isMisplaced, isOneTooMany}
+use Rattle.meaning.specs.Conditions.{isQueryTooMany, isNoFrame, isBrokenText, isNameGivenBefore, isBadReference, isRepeatedKey}
 use Rattle.meaning.specs.File.{maxFile, Reading, refused, described, countOf, schemaOf, describe, atEnd, readFrom, isTooLong, readingOf, reading}
 use Rattle.meaning.specs.Outcome.{Decided, turnedDown, Refused, decideRead, decide, minWords, finish, outcome}
-use Rattle.meaning.specs.Surrogates.{brokenOpen, isBrokenOpen, conditionsOpen, schemaOpen, describeOpen, atEndOpen, readFromOpen, readingOpen, decideOpen, outcomeOpen, NoSurrogate, NoSurrogateOn, NoSurrogateIn}
+use Rattle.meaning.specs.Surrogates.{brokenOpen, isBrokenOpen, conditionsOpen, schemaOpen, describeOpen, atEndOpen, readFromOpen, readingOpen}
+use Rattle.meaning.specs.Surrogates.{decideOpen, outcomeOpen, NoSurrogate, NoSurrogateOn, NoSurrogateIn}
 use Rattle.meaning.specs.Refused.{Pass}
 use Rattle.meaning.proofs.Lists.{all-snoc}
 use Rattle.meaning.proofs.Demands.{demand-1}
@@ -113,7 +117,8 @@ unfolding readFrom readFromOpen
 same-from so [] h w = same-end so (so .previous) h
 same-from so (l ∷ ls) h w = go (same-from (after so l) ls (names-after so l h (w .0)) (w .1)) (firstOf conditionsOpen so l) refl
   where
-    go : readFrom (after so l) ls ≡ readFromOpen (after so l) ls → (o : Option Refusal) → firstOf conditionsOpen so l ≡ o → readFrom so (l ∷ ls) ≡ readFromOpen so (l ∷ ls)
+    go : readFrom (after so l) ls ≡ readFromOpen (after so l) ls → (o : Option Refusal) → firstOf conditionsOpen so l ≡ o
+        → readFrom so (l ∷ ls) ≡ readFromOpen so (l ∷ ls)
     go ih none q = rw (same-first so l (w .0) ∙ q, q, readFrom, readFromOpen) ih
     go ih (some r) q = rw (same-first so l (w .0) ∙ q, q, readFrom, readFromOpen)
 
@@ -139,5 +144,18 @@ pub surrogate-gets-7 : (file : List ℕ) (words bytes : ℕ) → minWords ≤ wo
     → (before rest : List Said) (s : List ℕ) (so : SoFar) → map (said wide) (lines file) ≡ before ++ frames (aName s) ∷ rest → Pass start before so
     → mayStand (so .previous) Kind.name ≡ true → length (so .names) < maxNames → HasSurrogate s → outcome file words bytes .result ≡ Refused brokenText
 surrogate-gets-7 file words bytes enough size before rest s so split pass placed room h =
-    demand-1 file words bytes .text-refused .1
-    (enough, record { size = size; before = before; text = s; rest = rest; read = so; split = split; pass = pass; placed = placed; room = room; broken = surrogate-no-text s h })
+    demand-1 file words bytes .text-refused .1 (
+      enough,
+      record {
+        size = size;
+        before = before;
+        text = s;
+        rest = rest;
+        read = so;
+        split = split;
+        pass = pass;
+        placed = placed;
+        room = room;
+        broken = surrogate-no-text s h;
+      },
+    )

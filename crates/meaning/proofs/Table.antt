@@ -203,6 +203,7 @@ limit-examples =
 unfoldable three : List String
 three = "01020020" ∷ "0261" ∷ "0262" ∷ "0300" ∷ "030400000000" ∷ "030500000000000500000001000000070001" ∷ "05000000000000000300" ∷ "060000" ∷ []
 
-types : typesOf wide (text three) ≡ leaf Int ∷ node Record (cell 0 0 (leaf Int) ε) ∷ node Union (cell 5 0 (leaf Int) (cell 7 1 (node Record (cell 0 0 (leaf Int) ε)) ε)) ∷ []
+types : typesOf wide (text three) ≡ leaf Int ∷ node Record (cell 0 0 (leaf Int) ε) ∷ node Union
+    (cell 5 0 (leaf Int) (cell 7 1 (node Record (cell 0 0 (leaf Int) ε)) ε)) ∷ []
 unfolding typesOf text three
 types = refl

@@ -61,14 +61,19 @@ unfolding again
 again-new earlier [] h = tt
 again-new earlier (n ∷ ns) h = cases (among n earlier)
     (λ q. clash (rw (q, again) at h))
-    (λ q. (among-absent n earlier q, all-map (λ m. Absent m (n ∷ earlier)) (λ m. Absent m earlier) ns (λ m h. h .1) (again-new (n ∷ earlier) ns (rw (q, again) at h))))
+    (λ q. (
+      among-absent n earlier q,
+      all-map (λ m. Absent m (n ∷ earlier)) (λ m. Absent m earlier) ns (λ m h. h .1)
+          (again-new (n ∷ earlier) ns (rw (q, again) at h)),
+    ))
 
 pub again-distinct : (earlier ns : List ℕ) → again earlier ns ≡ false → Distinct ns
 unfolding again
 again-distinct earlier [] h = tt
 again-distinct earlier (n ∷ ns) h = cases (among n earlier)
     (λ q. clash (rw (q, again) at h))
-    (λ q. let rest : again (n ∷ earlier) ns ≡ false = rw (q, again) at h in (not-first n earlier ns (again-new (n ∷ earlier) ns rest), again-distinct (n ∷ earlier) ns rest))
+    (λ q. let rest : again (n ∷ earlier) ns ≡ false = rw (q, again) at h in
+    (not-first n earlier ns (again-new (n ∷ earlier) ns rest), again-distinct (n ∷ earlier) ns rest))
 
 pub new-again : (earlier ns : List ℕ) → All (λ n. Absent n earlier) ns → Distinct ns → again earlier ns ≡ false
 unfolding again

@@ -15,7 +15,8 @@ use Rattle.meaning.specs.Refusal.{Refusal, brokenText}
 use Rattle.meaning.specs.Frame.{Edition, wide, Kind, mayStand, Frame, theLimits, aName, aType, aPredicate, aNode, theQuery, frameKind}
 use Rattle.meaning.specs.References.{textsOf}
 use Rattle.meaning.specs.SoFar.{SoFar, Said, malformed, unknownKind, noFrame, frames, add, after, textsOn, textsIn, start}
-use Rattle.meaning.specs.Conditions.{anyOf, ofFrame, broken, maxNames, isMalformed, isMisplaced, isFull, isOneTooMany, isLastQueryPast, isQueryTooMany, isNoFrame, isBrokenText, conditions}
+use Rattle.meaning.specs.Conditions.{anyOf, ofFrame, broken, maxNames, isMalformed, isMisplaced, isFull, isOneTooMany, isLastQueryPast}
+use Rattle.meaning.specs.Conditions.{isQueryTooMany, isNoFrame, isBrokenText, conditions}
 use Rattle.meaning.specs.File.{Form, countOf, schemaOf, describe, described, reading}
 use Rattle.meaning.specs.All.{All, Each}
 use Rattle.meaning.specs.Refused.{First, here, later, Pass, none-left, more, AtLine, Refused, tooLong, atLine, missingQuery, BrokenText}
@@ -96,7 +97,13 @@ name-line so unknownKind a = clash (sym (a .text))
 name-line so (noFrame k) a = clash (sym (a .text))
 name-line so (frames (theLimits d t)) a = clash (sym (a .text))
 name-line so (frames (aName s)) a =
-    record { text = s; is = refl; placed = not-false (mayStand (so .previous) Kind.name) (a .placed); room = leb-false maxNames (length (so .names)) (a .room); broken = no-text s found }
+    record {
+      text = s;
+      is = refl;
+      placed = not-false (mayStand (so .previous) Kind.name) (a .placed);
+      room = leb-false maxNames (length (so .names)) (a .room);
+      broken = no-text s found;
+    }
   where
     found : broken s ≡ true
     found = cases (broken s) (λ q. q) (λ q. clash (sym (a .text) ∙ rw (q, anyOf)))
@@ -123,7 +130,8 @@ broken-at (atLine h s) e =
       broken = n .broken;
     }
 
-text-first : (so : SoFar) (s : List ℕ) → mayStand (so .previous) Kind.name ≡ true → length (so .names) < maxNames → ((n : ℕ) → Text s n → ⊥) → First conditions so (frames (aName s)) brokenText
+text-first : (so : SoFar) (s : List ℕ) → mayStand (so .previous) Kind.name ≡ true → length (so .names) < maxNames → ((n : ℕ) → Text s n → ⊥)
+    → First conditions so (frames (aName s)) brokenText
 unfolding conditions isMalformed isMisplaced isOneTooMany isFull isQueryTooMany isLastQueryPast isNoFrame isBrokenText ofFrame anyOf textsOf frameKind
 text-first so s p r b = later refl (later (ap not p) (later (lt-leb maxNames (length (so .names)) r) (later refl (later refl (here found)))))
   where
@@ -131,4 +139,16 @@ text-first so s p r b = later refl (later (ap not p) (later (lt-leb maxNames (le
     found = rw (text-none s b, anyOf)
 
 pub broken-exactly : (ed : Edition) (file : List ℕ) → Refused ed file brokenText ↔ BrokenText ed file
-broken-exactly ed file = (λ r. broken-at r refl, λ b. atLine (b .size) (record { before = b .before; line = frames (aName (b .text)); rest = b .rest; read = b .read; split = b .split; pass = b .pass; first = text-first (b .read) (b .text) (b .placed) (b .room) (b .broken) }))
+broken-exactly ed file = (
+  λ r. broken-at r refl,
+  λ b. atLine (b .size)
+      (record {
+        before = b .before;
+        line = frames (aName (b .text));
+        rest = b .rest;
+        read = b .read;
+        split = b .split;
+        pass = b .pass;
+        first = text-first (b .read) (b .text) (b .placed) (b .room) (b .broken);
+      }),
+)

@@ -40,7 +40,8 @@ module _ (nodes : List Node) (falls : Falls nodes) (own : ℕ → ℕ) where
   weight-depth (suc d) zero n p q = absurd (omega arith)
   weight-depth (suc d) (suc e) n p q =
       ap (λ s. own n + s) (sumOf-alike (λ m. weight nodes own d m) (λ m. weight nodes own e m) (exprNodes (nodeAt nodes n .kind))
-      (all-map (λ m. m < n) (λ m. weight nodes own d m ≡ weight nodes own e m) (exprNodes (nodeAt nodes n .kind)) (λ m l. weight-depth d e m (omega arith) (omega arith)) (falls n)))
+      (all-map (λ m. m < n) (λ m. weight nodes own d m ≡ weight nodes own e m) (exprNodes (nodeAt nodes n .kind))
+      (λ m l. weight-depth d e m (omega arith) (omega arith)) (falls n)))
 
   -- A node weighs its own and what its parts weigh, at any depth above it.
   pub weight-parts : (d n : ℕ) → n < d → weight nodes own d n ≡ own n + sumOf (λ m. weight nodes own d m) (exprNodes (nodeAt nodes n .kind))
@@ -63,7 +64,11 @@ find k (n ∷ s) = by-cases (ℕ-discrete k n)
 below-other : (k : ℕ) (s : List ℕ) → All (λ m. m < suc k) s → times k s ≡ 0 → All (λ m. m < k) s
 unfolding sumOf
 below-other k [] h e = tt
-below-other k (m ∷ s) h e = (by-cases (ℕ-discrete k m) (λ p. let q : same k m ≡ 1 = ap (same k) (sym p) ∙ same-self k in absurd (omega arith)) (λ p. omega (arith, h .0)), below-other k s (h .1) (omega arith))
+below-other k (m ∷ s) h e = (
+  by-cases (ℕ-discrete k m) (λ p. let q : same k m ≡ 1 = ap (same k) (sym p) ∙ same-self k in absurd (omega arith))
+      (λ p. omega (arith, h .0)),
+  below-other k s (h .1) (omega arith),
+)
 
 -- How often the first k nodes name a number.
 abbrev pub namings : List Node → ℕ → ℕ → ℕ
@@ -81,10 +86,18 @@ module _ (nodes : List Node) (falls : Falls nodes) (own : ℕ → ℕ) (d : ℕ)
       let w : ℕ → ℕ = λ m. weight nodes own d m in
       let parts = exprNodes (nodeAt nodes k .kind) in
       let alone : times k a + times k b ≡ 0 = omega (arith, once k, same-self k, sumOf-append (λ n. same k n) a (k ∷ b)) in
-      let below : All (λ m. m < k) (a ++ (parts ++ b)) = all-append (λ m. m < k) a (parts ++ b) (below-other k a (all-left (λ m. m < suc k) a (k ∷ b) h) (omega arith)) (all-append (λ m. m < k) parts b (falls k) (below-other k b (all-right (λ m. m < suc k) a (k ∷ b) h .1) (omega arith))) in
+      let below : All (λ m. m < k) (a ++ (parts ++ b)) = all-append (λ m. m < k) a (parts ++ b)
+      (below-other k a (all-left (λ m. m < suc k) a (k ∷ b) h) (omega arith))
+      (all-append (λ m. m < k) parts b (falls k) (below-other k b (all-right (λ m. m < suc k) a (k ∷ b) h .1) (omega arith))) in
       omega (
         arith,
-        ih (a ++ (parts ++ b)) below (λ x. omega (arith, once x, sumOf-append (λ n. same x n) a (k ∷ b), sumOf-append (λ n. same x n) a (parts ++ b), sumOf-append (λ n. same x n) parts b)),
+        ih (a ++ (parts ++ b)) below (λ x. omega (
+          arith,
+          once x,
+          sumOf-append (λ n. same x n) a (k ∷ b),
+          sumOf-append (λ n. same x n) a (parts ++ b),
+          sumOf-append (λ n. same x n) parts b,
+        )),
         sumOf-append w a (k ∷ b),
         sumOf-append w a (parts ++ b),
         sumOf-append w parts b,
@@ -203,8 +216,10 @@ records-size nodes d n = weight-more nodes (λ m. recordsOf (nodeAt nodes m .kin
 pub fields-size : (nodes : List Node) → Falls nodes → (d n : ℕ) → n < d → recordFields nodes d n + 1 ≤ size nodes d n
 unfolding weight Falls sumOf
 fields-size nodes falls zero n p = absurd (omega arith)
-fields-size nodes falls (suc d) n p = omega (arith, fields-parts (nodeAt nodes n .kind), sums (exprNodes (nodeAt nodes n .kind)) (falls n) (λ m l. fields-size nodes falls d m (omega arith)))
+fields-size nodes falls (suc d) n p = omega
+    (arith, fields-parts (nodeAt nodes n .kind), sums (exprNodes (nodeAt nodes n .kind)) (falls n) (λ m l. fields-size nodes falls d m (omega arith)))
   where
-    sums : (s : List ℕ) → All (λ m. m < n) s → ((m : ℕ) → m < n → recordFields nodes d m + 1 ≤ size nodes d m) → sumOf (λ m. recordFields nodes d m) s + length s ≤ sumOf (λ m. size nodes d m) s
+    sums : (s : List ℕ) → All (λ m. m < n) s → ((m : ℕ) → m < n → recordFields nodes d m + 1 ≤ size nodes d m)
+        → sumOf (λ m. recordFields nodes d m) s + length s ≤ sumOf (λ m. size nodes d m) s
     sums [] h ih = omega arith
     sums (m ∷ s) h ih = omega (arith, ih m (h .0), sums s (h .1) ih)

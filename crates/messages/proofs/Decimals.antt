@@ -16,7 +16,8 @@ enough (suc k) zero n h i = absurd (omega arith)
 enough (suc k) (suc l) n h i = go (ltb n 10) refl (enough k l (n / 10))
   where
     go : (t : Bool) → ltb n 10 ≡ t → (n / 10 < k → n / 10 < l → decimalIn k (n / 10) ≡ decimalIn l (n / 10))
-        → _≡_ {A = List ℕ} (elim t [ true ↦ (48 + n) ∷ [] | false ↦ decimalIn k (n / 10) ++ (48 + n % 10) ∷ [] ]) (elim t [ true ↦ (48 + n) ∷ [] | false ↦ decimalIn l (n / 10) ++ (48 + n % 10) ∷ [] ])
+        → _≡_ {A = List ℕ} (elim t [ true ↦ (48 + n) ∷ [] | false ↦ decimalIn k (n / 10) ++ (48 + n % 10) ∷ [] ])
+        (elim t [ true ↦ (48 + n) ∷ [] | false ↦ decimalIn l (n / 10) ++ (48 + n % 10) ∷ [] ])
     go true e r = refl
     go false e r = let big = ltb-false n 10 e in ap (λ (s : List ℕ). s ++ (48 + n % 10) ∷ []) (r (omega arith) (omega arith))
 

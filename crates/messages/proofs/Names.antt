@@ -84,7 +84,8 @@ to-LF (b ∷ s) t e = test (λ u q. to-LF s u q) (eqb b LF) e
     on (closed u ∷ ls) ih e = let z : b ∷ u ≡ t = cc in rw (ih u refl) z
     on (unclosed u ∷ ls) ih e = no-line e
 
-    test : ((u : List ℕ) → headLine (lines s) ≡ closed u → toLF s ≡ u) → (c : Bool) → headLine (elim c [ true ↦ closed [] ∷ lines s | false ↦ inFront b (lines s) ]) ≡ closed t → elim c [ true ↦ [] | false ↦ b ∷ toLF s ] ≡ t
+    test : ((u : List ℕ) → headLine (lines s) ≡ closed u → toLF s ≡ u) → (c : Bool)
+        → headLine (elim c [ true ↦ closed [] ∷ lines s | false ↦ inFront b (lines s) ]) ≡ closed t → elim c [ true ↦ [] | false ↦ b ∷ toLF s ] ≡ t
     test ih true e = cc
     test ih false e = on (lines s) ih e
 

@@ -32,7 +32,8 @@ three p a q = simp (append-assoc, append-nil)
 two : (p a : List ℕ) → ((p ++ a) ++ []) ++ [] ≡ p ++ a
 two p a = simp append-nil
 
-ten : (p e q g r c s a t b : List ℕ) → ((p ++ e) ++ ((q ++ g) ++ (r ++ c))) ++ ((s ++ a) ++ ((t ++ b) ++ [])) ≡ (p ++ (e ++ (q ++ g))) ++ (r ++ (c ++ (s ++ (a ++ (t ++ b)))))
+ten : (p e q g r c s a t b : List ℕ) → ((p ++ e) ++ ((q ++ g) ++ (r ++ c))) ++ ((s ++ a) ++ ((t ++ b) ++ [])) ≡ (p ++ (e ++ (q ++ g))) ++
+    (r ++ (c ++ (s ++ (a ++ (t ++ b)))))
 ten p e q g r c s a t b = simp (append-assoc, append-nil)
 
 eight : (p e q g r c s a : List ℕ) → ((p ++ e) ++ ((q ++ g) ++ (r ++ c))) ++ ((s ++ a) ++ []) ≡ (p ++ (e ++ (q ++ g))) ++ (r ++ (c ++ (s ++ a)))
@@ -55,7 +56,8 @@ module _ (v : Sight) where
   unfolding pieceOf pieces
   words-two p a q b = four (pieceOf p) (argText a v) (pieceOf q) (argText b v)
 
-  pub words-all : (p : ℕ) (a : Arg) (q : ℕ) (b : Arg) (r : ℕ) → partsText (wordsOf p a q b r) v ≡ pieceOf p ++ (argText a v ++ (pieceOf q ++ (argText b v ++ pieceOf r)))
+  pub words-all : (p : ℕ) (a : Arg) (q : ℕ) (b : Arg) (r : ℕ) → partsText (wordsOf p a q b r) v ≡ pieceOf p ++
+      (argText a v ++ (pieceOf q ++ (argText b v ++ pieceOf r)))
   unfolding pieceOf pieces
   words-all p a q b r = five (pieceOf p) (argText a v) (pieceOf q) (argText b v) (pieceOf r)
 
@@ -66,15 +68,18 @@ module _ (v : Sight) where
     differ-last = eight (pieceOf 35) (renderText false e v) (pieceOf 36) (renderText false g v) (pieceOf r) (argText c v) (pieceOf p) (argText a v)
 
     pub differ-all : (q : ℕ) (b : Arg) → partsText (differOf e g r c p a q b) v
-        ≡ (pieceOf 35 ++ (renderText false e v ++ (pieceOf 36 ++ renderText false g v))) ++ (pieceOf r ++ (argText c v ++ (pieceOf p ++ (argText a v ++ (pieceOf q ++ argText b v)))))
+        ≡ (pieceOf 35 ++ (renderText false e v ++ (pieceOf 36 ++ renderText false g v))) ++
+        (pieceOf r ++ (argText c v ++ (pieceOf p ++ (argText a v ++ (pieceOf q ++ argText b v)))))
     unfolding pieceOf pieces
-    differ-all q b = ten (pieceOf 35) (renderText false e v) (pieceOf 36) (renderText false g v) (pieceOf r) (argText c v) (pieceOf p) (argText a v) (pieceOf q) (argText b v)
+    differ-all q b = ten (pieceOf 35) (renderText false e v) (pieceOf 36) (renderText false g v) (pieceOf r) (argText c v) (pieceOf p) (argText a v)
+        (pieceOf q) (argText b v)
 
 -- The types that the parts show exist.
 pub words-ok : {w : List ℕ} (p : ℕ) (a : Arg) (q : ℕ) (b : Arg) (r : ℕ) → okArg w a → okArg w b → OkParts w (wordsOf p a q b r)
 words-ok p a q b r x y = record { first = record { a = x; b = y; c = tt }; second = record { a = tt; b = tt; c = tt } }
 
-pub differ-ok : {w : List ℕ} (e g : Ty) (r : ℕ) (c : Arg) (p : ℕ) (a : Arg) (q : ℕ) (b : Arg) → okArg w (Arg.Type e) → okArg w (Arg.Type g) → okArg w c → okArg w a → okArg w b
+pub differ-ok : {w : List ℕ} (e g : Ty) (r : ℕ) (c : Arg) (p : ℕ) (a : Arg) (q : ℕ) (b : Arg) → okArg w (Arg.Type e) → okArg w (Arg.Type g)
+    → okArg w c → okArg w a → okArg w b
     → OkParts w (differOf e g r c p a q b)
 differ-ok e g r c p a q b x y z u t = record { first = record { a = x; b = y; c = z }; second = record { a = u; b = t; c = tt } }
 
@@ -120,20 +125,33 @@ pub mismatch : (e : Ty) (g : Ty) → IsParts (Message.Mismatch e g) (wordsOf 35 
 unfolding pieceOf pieces ascii quoted dash expectedFound difference messageText
 mismatch e g = record { is = λ v. words-two v 35 (Arg.Type e) 36 (Arg.Type g); ok = λ w o. words-ok 35 (Arg.Type e) 36 (Arg.Type g) 0 (o .0) (o .1) }
 
-pub absent : (n : ℕ) (k : ℕ) (e : Ty) (g : Ty) → IsParts (Message.UnionMismatch (UnionDiff.Absent n k) e g) (differOf e g 37 (Arg.Name n) 38 (Arg.Number k) 0 Arg.Nothing)
+pub absent : (n : ℕ) (k : ℕ) (e : Ty) (g : Ty) → IsParts (Message.UnionMismatch (UnionDiff.Absent n k) e g)
+    (differOf e g 37 (Arg.Name n) 38 (Arg.Number k) 0 Arg.Nothing)
 unfolding pieceOf pieces ascii quoted dash expectedFound difference messageText
-absent n k e g = record { is = λ v. differ-last v e g 37 (Arg.Name n) 38 (Arg.Number k); ok = λ w o. differ-ok e g 37 (Arg.Name n) 38 (Arg.Number k) 0 Arg.Nothing (o .0) (o .1) tt tt tt }
+absent n k e g = record {
+  is = λ v. differ-last v e g 37 (Arg.Name n) 38 (Arg.Number k);
+  ok = λ w o. differ-ok e g 37 (Arg.Name n) 38 (Arg.Number k) 0 Arg.Nothing (o .0) (o .1) tt tt tt;
+}
 
-pub renamed : (x : ℕ) (y : ℕ) (k : ℕ) (e : Ty) (g : Ty) → IsParts (Message.UnionMismatch (UnionDiff.Renamed x y k) e g) (differOf e g 39 (Arg.Number k) 40 (Arg.Name x) 41 (Arg.Name y))
+pub renamed : (x : ℕ) (y : ℕ) (k : ℕ) (e : Ty) (g : Ty) → IsParts (Message.UnionMismatch (UnionDiff.Renamed x y k) e g)
+    (differOf e g 39 (Arg.Number k) 40 (Arg.Name x) 41 (Arg.Name y))
 unfolding pieceOf pieces ascii quoted dash expectedFound difference messageText
-renamed x y k e g = record { is = λ v. differ-all v e g 39 (Arg.Number k) 40 (Arg.Name x) 41 (Arg.Name y); ok = λ w o. differ-ok e g 39 (Arg.Number k) 40 (Arg.Name x) 41 (Arg.Name y) (o .0) (o .1) tt tt tt }
+renamed x y k e g = record {
+  is = λ v. differ-all v e g 39 (Arg.Number k) 40 (Arg.Name x) 41 (Arg.Name y);
+  ok = λ w o. differ-ok e g 39 (Arg.Number k) 40 (Arg.Name x) 41 (Arg.Name y) (o .0) (o .1) tt tt tt;
+}
 
-pub payload : (n : ℕ) (k : ℕ) (e : Ty) (g : Ty) → IsParts (Message.UnionMismatch (UnionDiff.Payload n k) e g) (differOf e g 42 (Arg.Name n) 38 (Arg.Number k) 43 Arg.Nothing)
+pub payload : (n : ℕ) (k : ℕ) (e : Ty) (g : Ty) → IsParts (Message.UnionMismatch (UnionDiff.Payload n k) e g)
+    (differOf e g 42 (Arg.Name n) 38 (Arg.Number k) 43 Arg.Nothing)
 unfolding pieceOf pieces ascii quoted dash expectedFound difference messageText
-payload n k e g = record { is = λ v. differ-all v e g 42 (Arg.Name n) 38 (Arg.Number k) 43 Arg.Nothing; ok = λ w o. differ-ok e g 42 (Arg.Name n) 38 (Arg.Number k) 43 Arg.Nothing (o .0) (o .1) tt tt tt }
+payload n k e g = record {
+  is = λ v. differ-all v e g 42 (Arg.Name n) 38 (Arg.Number k) 43 Arg.Nothing;
+  ok = λ w o. differ-ok e g 42 (Arg.Name n) 38 (Arg.Number k) 43 Arg.Nothing (o .0) (o .1) tt tt tt;
+}
 
 -- ---- The whole message
-pub message-shown : {f w out : List ℕ} {at : ℕ} {m : Message} {p : Parts} {out′ : List ℕ} {r : Wrote} → IsParts m p → Shows f w out at (OkParts w p) (partsText p) out′ r
+pub message-shown : {f w out : List ℕ} {at : ℕ} {m : Message} {p : Parts} {out′ : List ℕ} {r : Wrote} → IsParts m p
+    → Shows f w out at (OkParts w p) (partsText p) out′ r
     → WritesMessage f w out at m out′ r
 message-shown {w = w} I g = record {
   is = λ T d st stands holds o b. writes-as (ap hexOf (I .is (record { rows = T; subst = st .subst; names = d .names; schema = d .schema })))

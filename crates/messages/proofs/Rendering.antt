@@ -31,8 +31,10 @@ use Rattle.writer.specs.declared.Wrote.the-variants.{To, Full}
 use Rattle.writer.specs.Writes.{Writes, WritesText, hexOf}
 use Rattle.writer.proofs.Writing.{writes-to}
 use Rattle.messages.specs.Pieces.{pieces, pieceOf}
-use Rattle.messages.specs.Shown.{Sight, Seen, Shows, Always, NoCell, kindOf, shown, shownRow, renderText, cellText, beforeText, partedBy, afterText, nameText, Ended, Looks}
-use Rattle.messages.proofs.Showing.{shows-as, shows-where, shows-text, shows-writes, shows-then, shows-full, Showing, showing-start, showing-next, showing-full, showing-last}
+use Rattle.messages.specs.Shown.{Sight, Seen, Shows, Always, NoCell, kindOf, shown, shownRow, renderText, cellText, beforeText, partedBy, afterText}
+use Rattle.messages.specs.Shown.{nameText, Ended, Looks}
+use Rattle.messages.proofs.Showing.{shows-as, shows-where, shows-text, shows-writes, shows-then, shows-full, Showing, showing-start, showing-next}
+use Rattle.messages.proofs.Showing.{showing-full, showing-last}
 
 -- ---- The end of a chain
 
@@ -101,15 +103,19 @@ shown-as : {f w : List ℕ} {t : Ty} {b : Bool} {u : Ty} → Looks w t b u → (
 shown-as L v S x e = ap (render (v .names) (v .schema)) (sym (L .is (v .rows) (v .subst) (S .binds) (S .acyclic) ∙ e))
 
 module _ {f w out : List ℕ} {at : ℕ} {t : Ty} {b : Bool} {u : Ty} (L : Looks w t b u) {out′ : List ℕ} {r : Wrote} where
-  pub render-leaf : OneOf (0 ∷ 1 ∷ 2 ∷ 3 ∷ 6 ∷ 7 ∷ []) (tagOf ty.the-type u) → Shows f w out at (NoCell u) (renderText false u) out′ r → Shows f w out at (Ok w t) (renderText b t) out′ r
+  pub render-leaf : OneOf (0 ∷ 1 ∷ 2 ∷ 3 ∷ 6 ∷ 7 ∷ []) (tagOf ty.the-type u) → Shows f w out at (NoCell u) (renderText false u) out′ r
+      → Shows f w out at (Ok w t) (renderText b t) out′ r
   render-leaf o g =
       let n = no-cell u o in
-      shows-as (λ v S k. shown-as L v S (tree (v .rows) u) (shown-leaf b (v .subst) (v .rows) u n (L .end (v .rows) (v .subst) (S .binds) (S .acyclic)))) (shows-where (λ v S k. n) g)
+      shows-as (λ v S k. shown-as L v S (tree (v .rows) u)
+      (shown-leaf b (v .subst) (v .rows) u n (L .end (v .rows) (v .subst) (S .binds) (S .acyclic)))) (shows-where (λ v S k. n) g)
 
-  pub render-cell : (k : Kind) (c : ℕ) → u ≡ cellTy k c → Shows f w out at (IsCell w k c) (cellText b k c) out′ r → Shows f w out at (Ok w t) (renderText b t) out′ r
+  pub render-cell : (k : Kind) (c : ℕ) → u ≡ cellTy k c → Shows f w out at (IsCell w k c) (cellText b k c) out′ r
+      → Shows f w out at (Ok w t) (renderText b t) out′ r
   render-cell k c e g =
       shows-as
-      (λ v S o. shown-as L v S (Tree.node (kindOf k) (shownRow b (v .subst) (v .rows c))) (ap (λ (x : Ty). shown b (v .subst) (tree (v .rows) x)) e ∙ shown-cell b (v .subst) (v .rows) k c))
+      (λ v S o. shown-as L v S (Tree.node (kindOf k) (shownRow b (v .subst) (v .rows c)))
+      (ap (λ (x : Ty). shown b (v .subst) (tree (v .rows) x)) e ∙ shown-cell b (v .subst) (v .rows) k c))
       (shows-where (λ v S o. cell-ok w k c (rw e at (L .ok (v .rows) (v .subst) (S .binds) o))) g)
 
 -- ---- The parts of a cell
@@ -134,17 +140,20 @@ in-record n e t p r z = simp append-assoc
 in-union : (n e t q d p r z : List ℕ) → ((n ++ (e ++ (t ++ (q ++ d)))) ++ (p ++ r)) ++ z ≡ (n ++ e) ++ (t ++ ((q ++ (d ++ p)) ++ (r ++ z)))
 in-union n e t q d p r z = simp append-assoc
 
-one-part : (b : Bool) (k : Kind) (v : Sight) (key label : ℕ) (t : Tree.Ty) (r : Row) (m : Bool) → separator (v .names) (v .schema) (kindOf k) (shownRow b (v .subst) r) ≡ partedBy k m
+one-part : (b : Bool) (k : Kind) (v : Sight) (key label : ℕ) (t : Tree.Ty) (r : Row) (m : Bool)
+    → separator (v .names) (v .schema) (kindOf k) (shownRow b (v .subst) r) ≡ partedBy k m
     → rowText b k (cell key label t r) v
     ≡ beforeText k key label v ++ (render (v .names) (v .schema) (shown b (v .subst) t) ++ (afterText k key m ++ rowText b k r v))
 unfolding renderRow part
 one-part b Fields v key label t r m e = rw (shown-cons b (v .subst) key label t r, e)
-    (in-record (nameText key v) (ascii " = ") (render (v .names) (v .schema) (shown b (v .subst) t)) (partedBy Fields m) (renderRow (v .names) (v .schema) (shownRow b (v .subst) r) Tree.Record) (125 ∷ []))
+    (in-record (nameText key v) (ascii " = ") (render (v .names) (v .schema) (shown b (v .subst) t)) (partedBy Fields m)
+    (renderRow (v .names) (v .schema) (shownRow b (v .subst) r) Tree.Record) (125 ∷ []))
 one-part b Alternatives v key label t r m e = rw (shown-cons b (v .subst) key label t r, e)
     (in-union (nameText label v) (ascii " : ") (render (v .names) (v .schema) (shown b (v .subst) t)) (ascii " = ") (decimal key) (partedBy Alternatives m)
     (renderRow (v .names) (v .schema) (shownRow b (v .subst) r) Tree.Union) (125 ∷ []))
 
-parted-some : (b : Bool) (k : Kind) (v : Sight) (key label : ℕ) (t : Tree.Ty) (r : Row) → separator (v .names) (v .schema) (kindOf k) (shownRow b (v .subst) (cell key label t r)) ≡ partedBy k true
+parted-some : (b : Bool) (k : Kind) (v : Sight) (key label : ℕ) (t : Tree.Ty) (r : Row)
+    → separator (v .names) (v .schema) (kindOf k) (shownRow b (v .subst) (cell key label t r)) ≡ partedBy k true
 unfolding separator
 parted-some b Fields v key label t r = rw (shown-cons b (v .subst) key label t r)
 parted-some b Alternatives v key label t r = rw (shown-cons b (v .subst) key label t r)
@@ -168,11 +177,13 @@ cell-start f w out at b k c n e = record {
 }
 
 module _ {f w out₀ : List ℕ} {at : ℕ} {b : Bool} {k : Kind} {c n : ℕ} {out : List ℕ} {j to : ℕ} (g : Celling f w out₀ at b k c n out j to) where
-  module _ (p : Part) (l : j < n) (e : p ≡ partW w k c j) {mid : List ℕ} {x : Wrote} (before : Shows f w out to Always (beforeText k (p .key) (p .label)) mid x) where
+  module _ (p : Part) (l : j < n) (e : p ≡ partW w k c j) {mid : List ℕ} {x : Wrote}
+      (before : Shows f w out to Always (beforeText k (p .key) (p .label)) mid x) where
     parted : (v : Sight) → separator (v .names) (v .schema) (kindOf k) (shownRow b (v .subst) (rest (v .rows) w k c n (j + 1))) ≡ partedBy k (ltb (j + 1) n)
     parted v = go (ltb (j + 1) n) refl
       where
-        go : (m : Bool) → ltb (j + 1) n ≡ m → separator (v .names) (v .schema) (kindOf k) (shownRow b (v .subst) (rest (v .rows) w k c n (j + 1))) ≡ partedBy k m
+        go : (m : Bool) → ltb (j + 1) n ≡ m → separator (v .names) (v .schema) (kindOf k) (shownRow b (v .subst) (rest (v .rows) w k c n (j + 1))) ≡
+            partedBy k m
         go true q = rw (rest-cell (v .rows) w k c n (j + 1) (partW w k c (j + 1)) (ltb-true (j + 1) n q) refl) (parted-some b k v _ _ _ _)
         go false q = rw (rest-none (v .rows) w k c n (j + 1) (ltb-false (j + 1) n q)) (parted-none b k v)
 
@@ -180,7 +191,8 @@ module _ {f w out₀ : List ℕ} {at : ℕ} {b : Bool} {k : Kind} {c n : ℕ} {o
     behind v = afterText k (p .key) (ltb (j + 1) n) ++ rowText b k (rest (v .rows) w k c n (j + 1)) v
 
     split : (v : Sight) → rowText b k (rest (v .rows) w k c n j) v ≡ beforeText k (p .key) (p .label) v ++ (renderText b (p .ty) v ++ behind v)
-    split v = ap (λ (r : Row). rowText b k r v) (rest-cell (v .rows) w k c n j p l e) ∙ one-part b k v (p .key) (p .label) (tree (v .rows) (p .ty)) (rest (v .rows) w k c n (j + 1)) (ltb (j + 1) n) (parted v)
+    split v = ap (λ (r : Row). rowText b k r v) (rest-cell (v .rows) w k c n j p l e) ∙ one-part b k v (p .key) (p .label) (tree (v .rows) (p .ty))
+        (rest (v .rows) w k c n (j + 1)) (ltb (j + 1) n) (parted v)
 
     pub before-full : x ≡ Full → Shows f w out₀ at (IsCell w k c) (λ v. rowText b k (v .rows c) v) mid Full
     before-full q = showing-full (g .showing) (shows-where (λ v S o. tt) before) (λ v. renderText b (p .ty) v ++ behind v) (λ v S o. split v) q
@@ -209,7 +221,8 @@ module _ {f w out₀ : List ℕ} {at : ℕ} {b : Bool} {k : Kind} {c n : ℕ} {o
           showing = showing-next to-after (shows-text after) (λ v. rowText b k (rest (v .rows) w k c n (j + 1)) v) (λ v S o. refl) u;
         }
 
-  pub parts-done : n ≤ j → {out′ : List ℕ} {r : Wrote} → Writes out to (hexOf (125 ∷ [])) out′ r → Shows f w out₀ at (IsCell w k c) (λ v. rowText b k (v .rows c) v) out′ r
+  pub parts-done : n ≤ j → {out′ : List ℕ} {r : Wrote} → Writes out to (hexOf (125 ∷ [])) out′ r
+      → Shows f w out₀ at (IsCell w k c) (λ v. rowText b k (v .rows c) v) out′ r
   unfolding renderRow
   parts-done l h = showing-last (g .showing) (shows-as (λ v S o. sym (rw (rest-none (v .rows) w k c n j l, shown-nil b (v .subst)))) (shows-writes h))
 
@@ -225,6 +238,7 @@ module _ (b : Bool) (k : Kind) (c : ℕ) {f w out : List ℕ} {at : ℕ} {mid : 
   unfolding render ascii
   brace-full e = shows-as (λ v S o. refl) (shows-full (shows-writes brace) e (λ v. rowText b k (v .rows c) v))
 
-  pub brace-then : {n : ℕ} → h ≡ To n → {out′ : List ℕ} {r : Wrote} → Shows f w mid n (IsCell w k c) (λ v. rowText b k (v .rows c) v) out′ r → Shows f w out at (IsCell w k c) (cellText b k c) out′ r
+  pub brace-then : {n : ℕ} → h ≡ To n → {out′ : List ℕ} {r : Wrote} → Shows f w mid n (IsCell w k c) (λ v. rowText b k (v .rows c) v) out′ r
+      → Shows f w out at (IsCell w k c) (cellText b k c) out′ r
   unfolding render ascii
   brace-then e g = shows-as (λ v S o. refl) (shows-then (shows-writes brace) e g)

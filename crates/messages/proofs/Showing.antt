@@ -43,7 +43,8 @@ module _ {f w out : List ℕ} {at : ℕ} {ok : Type 0} {out′ : List ℕ} {r : 
   pub shows-as : {a b : Sight → List ℕ} → ((v : Sight) → Seen f w v → ok → a v ≡ b v) → Shows f w out at ok a out′ r → Shows f w out at ok b out′ r
   shows-as e g = record { is = λ v S o b. writes-as (ap hexOf (e v S o)) (g .is v S o b); moves = g .moves }
 
-  pub shows-where : {other : Type 0} {a : Sight → List ℕ} → ((v : Sight) → Seen f w v → other → ok) → Shows f w out at ok a out′ r → Shows f w out at other a out′ r
+  pub shows-where : {other : Type 0} {a : Sight → List ℕ} → ((v : Sight) → Seen f w v → other → ok) → Shows f w out at ok a out′ r
+      → Shows f w out at other a out′ r
   shows-where e g = record { is = λ v S o b. g .is v S (e v S o) b; moves = g .moves }
 
 pub shows-none : {f w out : List ℕ} {at : ℕ} {ok : Type 0} → Shows f w out at ok (λ v. []) out (To at)
@@ -55,7 +56,8 @@ module _ {f w out : List ℕ} {at : ℕ} {ok : Type 0} {a : Sight → List ℕ} 
   pub shows-inside : {n : ℕ} → r ≡ To n → at ≤ length out → n ≤ length mid
   shows-inside {n} e b = omega (arith, g .moves .inside n e b, g .moves .long)
 
-  pub shows-then : {n : ℕ} → r ≡ To n → {b : Sight → List ℕ} {out′ : List ℕ} {r′ : Wrote} → Shows f w mid n ok b out′ r′ → Shows f w out at ok (λ v. a v ++ b v) out′ r′
+  pub shows-then : {n : ℕ} → r ≡ To n → {b : Sight → List ℕ} {out′ : List ℕ} {r′ : Wrote} → Shows f w mid n ok b out′ r′
+      → Shows f w out at ok (λ v. a v ++ b v) out′ r′
   shows-then e {b} h = record {
     is = λ v S o l. hex-then (a v) (b v) (g .is v S o l) e (h .is v S o (shows-inside e l));
     moves = moves-then (g .moves) e (h .moves);
@@ -69,11 +71,14 @@ pub record Showing (f w out₀ : List ℕ) (at : ℕ) (ok : Type 0) (whole : Sig
   pub moves : Moves out₀ at out (To to)
   pub go : (v : Sight) → Seen f w v → ok → at ≤ length out₀ → Goes out₀ at (hexOf (whole v)) out to (hexOf (rest v))
 
-pub showing-start : {f w out : List ℕ} {at : ℕ} {ok : Type 0} (whole rest : Sight → List ℕ) → ((v : Sight) → Seen f w v → ok → rest v ≡ whole v) → Showing f w out at ok whole out at rest
+pub showing-start : {f w out : List ℕ} {at : ℕ} {ok : Type 0} (whole rest : Sight → List ℕ) → ((v : Sight) → Seen f w v → ok → rest v ≡ whole v)
+    → Showing f w out at ok whole out at rest
 showing-start {f} {w} {out} {at} whole rest e = record { moves = moves-none out at; go = λ v S o b. goes-start out at _ _ b (ap hexOf (e v S o)) }
 
-module _ {f w out₀ : List ℕ} {at : ℕ} {ok : Type 0} {whole : Sight → List ℕ} {out : List ℕ} {to : ℕ} {rest : Sight → List ℕ} (g : Showing f w out₀ at ok whole out to rest)
-    {a : Sight → List ℕ} {mid : List ℕ} {r : Wrote} (h : Shows f w out to ok a mid r) (b : Sight → List ℕ) (e : (v : Sight) → Seen f w v → ok → rest v ≡ a v ++ b v) where
+module _ {f w out₀ : List ℕ} {at : ℕ} {ok : Type 0} {whole : Sight → List ℕ} {out : List ℕ} {to : ℕ} {rest : Sight → List ℕ}
+    (g : Showing f w out₀ at ok whole out to rest)
+    {a : Sight → List ℕ} {mid : List ℕ} {r : Wrote} (h : Shows f w out to ok a mid r) (b : Sight → List ℕ)
+    (e : (v : Sight) → Seen f w v → ok → rest v ≡ a v ++ b v) where
   split : (v : Sight) → Seen f w v → ok → hexOf (rest v) ≡ hexOf (a v) ++ hexOf (b v)
   split v S o = ap hexOf (e v S o) ∙ hex-append (a v) (b v)
 
@@ -90,7 +95,8 @@ module _ {f w out₀ : List ℕ} {at : ℕ} {ok : Type 0} {whole : Sight → Lis
   }
 
 -- The rest at once.
-pub showing-last : {f w out₀ : List ℕ} {at : ℕ} {ok : Type 0} {whole : Sight → List ℕ} {out : List ℕ} {to : ℕ} {rest : Sight → List ℕ} → Showing f w out₀ at ok whole out to rest
+pub showing-last : {f w out₀ : List ℕ} {at : ℕ} {ok : Type 0} {whole : Sight → List ℕ} {out : List ℕ} {to : ℕ} {rest : Sight → List ℕ}
+    → Showing f w out₀ at ok whole out to rest
     → {out′ : List ℕ} {r : Wrote} → Shows f w out to ok rest out′ r → Shows f w out₀ at ok whole out′ r
 showing-last g h = record {
   is = λ v S o l. let G = g .go v S o l in G .go _ _ (h .is v S o (G .inside));

@@ -31,8 +31,11 @@ use Rattle.plain_theory.proofs.Start.{resolving, start-holds, start-uni
 -- The same substitution, up to order, unifies the same.
 unifies-like : (θ η : Substitution) → ((x : ℕ) → Same (θ x) (η x)) → (es : List Equation) → Unifies η es → Unifies θ es
 unifies-like θ η h [] u = tt
-unifies-like θ η h (e ∷ es) u =
-    (same-both (app θ (e .left)) (app η (e .left)) (app θ (e .right)) (app η (e .right)) (app-same θ η h (e .left)) (app-same θ η h (e .right)) (u .0), unifies-like θ η h es (u .1))
+unifies-like θ η h (e ∷ es) u = (
+  same-both (app θ (e .left)) (app η (e .left)) (app θ (e .right)) (app η (e .right)) (app-same θ η h (e .left)) (app-same θ η h (e .right))
+      (u .0),
+  unifies-like θ η h es (u .1),
+)
 
 module _ (s : Subst) (A : Acyclic s) (es : List Equation) (M : MostGeneral (solution s) es) (σ : Substitution) where
   respects-unifies : Respects σ s → Unifies σ es
@@ -63,7 +66,8 @@ fails-not (Spent st) h s = h
 
 -- ---- The two beside each other
 
-module _ (v : ℕ) (tys : List (Option Ty)) (m : Machine) (cs : Calls v tys m) (a b : Ty) (i : Side (length (m .state .subst)) a) (j : Side (length (m .state .subst)) b)
+module _ (v : ℕ) (tys : List (Option Ty)) (m : Machine) (cs : Calls v tys m) (a b : Ty) (i : Side (length (m .state .subst)) a)
+    (j : Side (length (m .state .subst)) b)
     (f : Admitted (m .state .subst) a) (g : Admitted (m .state .subst) b) (lent : ℕ) where
   acyclic : Acyclic (m .state .subst)
   acyclic = calls-inv v tys m cs .sound .wf .acyclic
@@ -105,7 +109,8 @@ module _ (v : ℕ) (tys : List (Option Ty)) (m : Machine) (cs : Calls v tys m) (
       (rw q at says) (u .0) (start-holds (m .state .subst) a b acyclic (u .0) .1 (u .1))
 
   -- Unless there are too few words, and if the visits sufficed: it fails exactly where `unify` fails.
-  pub fails-exactly : Ends (unify (m .state) a b) → ¬ (solve lent (start (m .state .subst) a b) ≡ full) → (solve lent (start (m .state .subst) a b) ≡ failed) ↔ Fails (unify (m .state) a b)
+  pub fails-exactly : Ends (unify (m .state) a b) → ¬ (solve lent (start (m .state .subst) a b) ≡ full)
+      → (solve lent (start (m .state .subst) a b) ≡ failed) ↔ Fails (unify (m .state) a b)
   fails-exactly e n = (λ q. failed-fails (unify (m .state) a b) e (failed-never q e), λ h. go (solve lent (start (m .state .subst) a b)) refl h)
     where
       go : (r : Result) → solve lent (start (m .state .subst) a b) ≡ r → Fails (unify (m .state) a b) → solve lent (start (m .state .subst) a b) ≡ failed
@@ -117,7 +122,8 @@ module _ (v : ℕ) (tys : List (Option Ty)) (m : Machine) (cs : Calls v tys m) (
       → ((bs : List Binding) × (solve lent (start (m .state .subst) a b) ≡ solved bs)) ↔ Succeeds (unify (m .state) a b)
   solves-exactly e n = (λ x. solved-succeeds (x .0) (x .1) e, λ h. go (solve lent (start (m .state .subst) a b)) refl h)
     where
-      go : (r : Result) → solve lent (start (m .state .subst) a b) ≡ r → Succeeds (unify (m .state) a b) → (bs : List Binding) × (solve lent (start (m .state .subst) a b) ≡ solved bs)
+      go : (r : Result) → solve lent (start (m .state .subst) a b) ≡ r → Succeeds (unify (m .state) a b)
+          → (bs : List Binding) × (solve lent (start (m .state .subst) a b) ≡ solved bs)
       go (solved bs) q h = (bs, q)
       go failed q h = absurd (failed-never q e h)
       go full q h = absurd (n q)

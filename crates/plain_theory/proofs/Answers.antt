@@ -130,7 +130,8 @@ of-solved failed bs e = clash (cc)
 of-solved full bs e = clash (cc)
 
 module _ (lent : ℕ) (s : Subst) (A : Acyclic s) (a b : Ty) where
-  answer-by : (Q : Answer → Type 0) → (Pure (zonk s a) × Pure (zonk s b) → Q (of (solve lent (start s a b)))) → (¬ (Pure (zonk s a) × Pure (zonk s b)) → Q ShutOut) → Q (answer lent s a b)
+  answer-by : (Q : Answer → Type 0) → (Pure (zonk s a) × Pure (zonk s b) → Q (of (solve lent (start s a b))))
+      → (¬ (Pure (zonk s a) × Pure (zonk s b)) → Q ShutOut) → Q (answer lent s a b)
   unfolding answer
   answer-by Q f g = go (both (pure? (zonk s a)) (pure? (zonk s b))) refl
     where
@@ -145,7 +146,8 @@ module _ (lent : ℕ) (s : Subst) (A : Acyclic s) (a b : Ty) where
       (λ n. (λ e h. n (admitted-exactly s A a .0 (h .0), admitted-exactly s A b .0 (h .1)), λ h. refl))
 
   pub admitted-answer : Admitted s a → Admitted s b → answer lent s a b ≡ of (solve lent (start s a b))
-  admitted-answer f g = answer-by (λ r. r ≡ of (solve lent (start s a b))) (λ h. refl) (λ n. absurd (n (admitted-exactly s A a .0 f, admitted-exactly s A b .0 g)))
+  admitted-answer f g = answer-by (λ r. r ≡ of (solve lent (start s a b))) (λ h. refl)
+      (λ n. absurd (n (admitted-exactly s A a .0 f, admitted-exactly s A b .0 g)))
 
   -- 18, on sides that demand 3 admits: exactly where a stage of the run needs more words than were lent.
   pub too-few-exactly : Admitted s a → Admitted s b → (answer lent s a b ≡ TooFew) ↔ ((h : Stage) × Along (start s a b) h × (lent < needs h))
@@ -155,7 +157,8 @@ module _ (lent : ℕ) (s : Subst) (A : Acyclic s) (a b : Ty) where
       let x = full-exactly lent (start s a b) in
       (λ q. x .0 (o .0 (sym e ∙ q)), λ h. e ∙ o .1 (x .1 h))
 
-pub as-unify : (lent v : ℕ) (tys : List (Option Ty)) (m : Machine) → Calls v tys m → (a b : Ty) → Side (length (m .state .subst)) a → Side (length (m .state .subst)) b
+pub as-unify : (lent v : ℕ) (tys : List (Option Ty)) (m : Machine) → Calls v tys m → (a b : Ty) → Side (length (m .state .subst)) a
+    → Side (length (m .state .subst)) b
     → Ends (unify (m .state) a b) → AsUnify lent (m .state) a b
 as-unify lent v tys m cs a b i j ended =
     let s = m .state .subst in

@@ -16,7 +16,8 @@ use Rattle.unification.specs.Calls.{Lacks, Distinct}
 use Rattle.unification.specs.Robinson.{Equation}
 use Rattle.unification.proofs.Tests.{eqb-true}
 use Rattle.unification.proofs.Rows.{find-tail, find-under}
-use Rattle.plain_theory.specs.Plain.{Binding, in?, In, Parts, parts, unlike, with-part, Named, named?, part, matched, rows, Step, drops, fails, splits, binds, bind, split, nodes, step, headWords, words, rowWords, pairWords, sum, needs}
+use Rattle.plain_theory.specs.Plain.{Binding, in?, In, Parts, parts, unlike, with-part, Named, named?, part, matched, rows, Step, drops, fails}
+use Rattle.plain_theory.specs.Plain.{splits, binds, bind, split, nodes, step, headWords, words, rowWords, pairWords, sum, needs}
 use Rattle.plain_theory.specs.Claims.{Clean}
 
 -- ---- A row without the cell that was found
@@ -43,7 +44,8 @@ unfolding remove findKey rowWords
 words-remove kind k ε = tt
 words-remove kind k (cell m l t s) = go (eqb k m) refl (findKey k s) refl (words-remove kind k s)
   where
-    go : (b : Bool) → eqb k m ≡ b → (o : Option (ℕ × Ty)) → findKey k s ≡ o → RemoveWords kind k s o → RemoveWords kind k (cell m l t s) (findKey k (cell m l t s))
+    go : (b : Bool) → eqb k m ≡ b → (o : Option (ℕ × Ty)) → findKey k s ≡ o → RemoveWords kind k s o
+        → RemoveWords kind k (cell m l t s) (findKey k (cell m l t s))
     go true q o e h =
         let gone : rowWords (remove k (cell m l t s)) kind ≡ rowWords s kind = rw (q, remove) in
         rw (q, findKey) (omega (arith, gone))
@@ -68,12 +70,14 @@ abbrev PartsRoom : Kind → Row → Row → Parts → Type 0
 PartsRoom kind r s (parts qs) = sum pairWords qs ≤ 2 * (rowWords r kind + rowWords s kind)
 PartsRoom kind r s unlike = Unit {0}
 
-part-room : (kind : Kind) (m l : ℕ) (t : Ty) (r s : Row) (o : Option (ℕ × Ty)) (ps : Parts) → RemoveWords kind m s o → PartsRoom kind r (remove m s) ps → PartsRoom kind (cell m l t r) s (part kind l t o ps)
+part-room : (kind : Kind) (m l : ℕ) (t : Ty) (r s : Row) (o : Option (ℕ × Ty)) (ps : Parts) → RemoveWords kind m s o
+    → PartsRoom kind r (remove m s) ps → PartsRoom kind (cell m l t r) s (part kind l t o ps)
 unfolding part with-part sum pairWords rowWords
 part-room kind m l t r s none ps e h = tt
 part-room kind m l t r s (some u) ps e h = go (named? kind l (u .0)) refl ps h
   where
-    go : (d : Dec (Named kind l (u .0))) → named? kind l (u .0) ≡ d → (ps : Parts) → PartsRoom kind r (remove m s) ps → PartsRoom kind (cell m l t r) s (part kind l t (some u) ps)
+    go : (d : Dec (Named kind l (u .0))) → named? kind l (u .0) ≡ d → (ps : Parts) → PartsRoom kind r (remove m s) ps
+        → PartsRoom kind (cell m l t r) s (part kind l t (some u) ps)
     go (yes i) q (parts qs) h = rw (q, part) (omega (arith, e, h, head-some kind))
     go (yes i) q unlike h = rw (q, part) tt
     go (no n) q ps h = rw (q, part) tt
@@ -82,7 +86,8 @@ matched-room : (kind : Kind) (r s : Row) → Distinct r → PartsRoom kind r s (
 unfolding matched sum
 matched-room kind ε s d = omega arith
 matched-room kind (cell m l t r) s d =
-    part-room kind m l t r s (findKey m s) (matched kind r s) (words-remove kind m s) (rw (matched-remove kind m r s (d .0)) at (matched-room kind r (remove m s) (d .1)))
+    part-room kind m l t r s (findKey m s) (matched kind r s) (words-remove kind m s)
+    (rw (matched-remove kind m r s (d .0)) at (matched-room kind r (remove m s) (d .1)))
 
 rows-room : (kind : Kind) (r s : Row) → Distinct r → PartsRoom kind r s (rows kind r s)
 unfolding rows
@@ -149,7 +154,8 @@ sum-append [] ps = omega arith
 sum-append (q ∷ qs) ps = omega (arith, sum-append qs ps)
 
 -- The stages after a pair was dropped, taken apart.
-pub drops-room : (p : Equation) (ps : List Equation) (bs : List Binding) → needs (record { pairs = ps; bindings = bs }) ≤ needs (record { pairs = p ∷ ps; bindings = bs })
+pub drops-room : (p : Equation) (ps : List Equation) (bs : List Binding)
+    → needs (record { pairs = ps; bindings = bs }) ≤ needs (record { pairs = p ∷ ps; bindings = bs })
 unfolding needs sum
 drops-room p ps bs = omega arith
 

@@ -12,7 +12,8 @@ use Rattle.unification.specs.Ty.{Kind, Record, Union, Ty, leaf, node, Var, Erro
 use Rattle.unification.specs.Order.{Same}
 use Rattle.unification.specs.Bindings.{Subst, bound, zonkIn, zonk}
 use Rattle.unification.specs.Robinson.{Substitution, _then_, Unifies}
-use Rattle.unification.specs.Calls.{Declared, DeclaredRow, Side, SideRow, Reaches, itself, inside, through, ReachesRow, first, later, Allowed, Admitted, Respects}
+use Rattle.unification.specs.Calls.{Declared, DeclaredRow, Side, SideRow, Reaches, itself, inside, through, ReachesRow, first, later, Allowed, Admitted}
+use Rattle.unification.specs.Calls.{Respects}
 use Rattle.unification.specs.Tie.{equations, solution, Together}
 use Rattle.unification.specs.Acyclic.{Acyclic}
 use Rattle.unification.proofs.Tests.{clash}
@@ -67,7 +68,8 @@ module _ (σ : ℕ → Ty) (s : Subst) where
   unfolding Respects solution
   resolves-respects A h x t e =
       let q : app σ (zonk s (Var x)) ≡ app (λ y. app σ (zonk s (Var y))) t = rw (zonk-of-bound s A x t e, zonk-is s A t) (app-app (solution s) σ t) in
-      same-trans (σ x) (app σ (zonk s (Var x))) (app σ t) (h x) (rw q (same-sym (app σ t) (app (λ y. app σ (zonk s (Var y))) t) (app-same σ (λ y. app σ (zonk s (Var y))) h t)))
+      same-trans (σ x) (app σ (zonk s (Var x))) (app σ t) (h x)
+      (rw q (same-sym (app σ t) (app (λ y. app σ (zonk s (Var y))) t) (app-same σ (λ y. app σ (zonk s (Var y))) h t)))
 
   pub resolved-respected : Acyclic s → Respected σ (resolvedFrom zero s s) ↔ Respects σ s
   unfolding bound app
@@ -93,8 +95,13 @@ pub start-unifiable : (s : Subst) (a b : Ty) → Acyclic s → Unifiable (start 
 unfolding start
 start-unifiable s a b A u =
     let σ = u .0 in
-    let θ = _then_ (solution s) σ in
-    (θ, (rw (← app-app (solution s) σ a, ← app-app (solution s) σ b, ← zonk-is s A a, ← zonk-is s A b) (u .1 .0), unifies-then (solution s) σ (equations s) (unifies-respects (solution s) s .1 (solution-respects s A))))
+    let θ = _then_ (solution s) σ in (
+      θ,
+      (
+        rw (← app-app (solution s) σ a, ← app-app (solution s) σ b, ← zonk-is s A a, ← zonk-is s A b) (u .1 .0),
+        unifies-then (solution s) σ (equations s) (unifies-respects (solution s) s .1 (solution-respects s A)),
+      ),
+    )
 
 -- ---- Clean
 

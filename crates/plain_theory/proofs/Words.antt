@@ -33,13 +33,27 @@ mutual
   row-words : (r : Row) (k : Kind) → length (rowSpelled r k) ≡ rowWords r k
   row-words ε k = refl
   row-words (cell key label t r) k =
-      omega (arith, head-words k key label, spelled-words t, row-words r k, length-append (headSpelled k key label) (spelled t ++ rowSpelled r k), length-append (spelled t) (rowSpelled r k))
+      omega (
+        arith,
+        head-words k key label,
+        spelled-words t,
+        row-words r k,
+        length-append (headSpelled k key label) (spelled t ++ rowSpelled r k),
+        length-append (spelled t) (rowSpelled r k),
+      )
 
 pairs-words : (ps : List Equation) → 2 * length (pairsSpelled ps) ≡ sum pairWords ps
 unfolding pairsSpelled sum pairWords
 pairs-words [] = refl
 pairs-words (p ∷ ps) =
-    omega (arith, pairs-words ps, spelled-words (p .left), spelled-words (p .right), length-append (spelled (p .left)) (spelled (p .right) ++ pairsSpelled ps), length-append (spelled (p .right)) (pairsSpelled ps))
+    omega (
+      arith,
+      pairs-words ps,
+      spelled-words (p .left),
+      spelled-words (p .right),
+      length-append (spelled (p .left)) (spelled (p .right) ++ pairsSpelled ps),
+      length-append (spelled (p .right)) (pairsSpelled ps),
+    )
 
 bindings-words : (bs : List Binding) → 2 * length (bindingsSpelled bs) ≡ sum bindingWords bs
 unfolding bindingsSpelled sum bindingWords

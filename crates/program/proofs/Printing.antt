@@ -40,7 +40,8 @@ unfolding printedLines finish refuse accept
 refused (turnedDown j) words bytes i e = let same : j ≡ i = cc in subst (Refused (turnedDown j) words bytes) same (record { line = refl; zero = refl })
 refused (answered ls) words bytes i e =
     cases (ltb bytes (length ls))
-    (λ q. let f : Defined.Refused answerTooLong ≡ Defined.Refused i = rw (q, finish) at e in let same : answerTooLong ≡ i = cc in subst (Refused (answered ls) words bytes) same (record { line = rw (q, printedLines) refl; zero = rw (q, finish) refl }))
+    (λ q. let f : Defined.Refused answerTooLong ≡ Defined.Refused i = rw (q, finish) at e in let same : answerTooLong ≡ i = cc in subst
+    (Refused (answered ls) words bytes) same (record { line = rw (q, printedLines) refl; zero = rw (q, finish) refl }))
     (λ q. let f : Defined.Accepted ≡ Defined.Refused i = rw (q, finish) at e in absurd (apart f))
   where
     apart : Defined.Accepted ≡ Defined.Refused i → ⊥
@@ -59,18 +60,22 @@ module _ (by : ℕ → Decided) {w out w′ out₁ : List ℕ} (words : length w
       let e = h .ends n refl in
       let ls = take n out₁ in
       let short : length ls ≤ length out = omega (arith, length-take n out₁, e .0) in
-      let done : finish x (length w) (length out) ≡ accept ls (length w) (length out) = ap (λ y. finish y (length w) (length out)) (e .1) ∙ rw (le-ltb (length out) (length ls) short, finish) in
+      let done : finish x (length w) (length out) ≡ accept ls (length w) (length out) = ap (λ y. finish y (length w) (length out)) (e .1) ∙ rw
+      (le-ltb (length out) (length ls) short, finish) in
       let all : out₁ ≡ ls ++ zeros (length out - length ls) = h .answer ∙ ap (λ o. o .answer) done in
-      let size : length out₁ ≡ length ls + (length out - length ls) = ap length all ∙ length-append ls (zeros (length out - length ls)) ∙ ap (λ m. length ls + m) (length-replicate {A = ℕ} (length out - length ls) 0) in
+      let size : length out₁ ≡ length ls + (length out - length ls) = ap length all ∙ length-append ls (zeros (length out - length ls)) ∙ ap
+      (λ m. length ls + m) (length-replicate {A = ℕ} (length out - length ls) 0) in
       let long : length ls ≡ n = length-take-le n out₁ (omega (arith, size, short, e .0)) in
       let is : printedLines x 65536 ≡ ls = ap (λ y. printedLines y 65536) (e .1) ∙ rw (le-ltb 65536 (length ls) (omega (arith, short, bytes)), printedLines) in
       here by words (record {
         long = sym (ap length is ∙ long);
-        out = all ∙ ap (λ l. l ++ zeros (length out - length ls)) (sym is) ∙ ap (λ k. printedLines x 65536 ++ zeros (k - length ls)) bytes ∙ ap (λ k. printedLines x 65536 ++ zeros (65536 - k)) long;
+        out = all ∙ ap (λ l. l ++ zeros (length out - length ls)) (sym is) ∙ ap (λ k. printedLines x 65536 ++ zeros (k - length ls)) bytes ∙ ap
+            (λ k. printedLines x 65536 ++ zeros (65536 - k)) long;
         work = h .work ∙ ap (λ o. o .work) done ∙ ap zeros words;
       })
 
-  pub line-printed : (e : Refusal) {line out′ : List ℕ} {r : ℕ} → line ≡ hexLine (0x0f ∷ number (refusal e) ∷ []) → Finishes (by (length w)) w out w′ out₁ (Outcome.Refused e)
+  pub line-printed : (e : Refusal) {line out′ : List ℕ} {r : ℕ} → line ≡ hexLine (0x0f ∷ number (refusal e) ∷ [])
+      → Finishes (by (length w)) w out w′ out₁ (Outcome.Refused e)
       → length line ≤ length out → r ≡ length line → out′ ≡ take (length line) line ++ drop (length line) out₁ → Prints (by minWords) w′ out′ r
   unfolding minWords refuse
   line-printed e {line} {out′} {r} spelt h fits long copied =
@@ -79,7 +84,8 @@ module _ (by : ℕ → Decided) {w out w′ out₁ : List ℕ} (words : length w
       let is : line ≡ printedLines x 65536 = spelt ∙ sym (a .line) ∙ ap (printedLines x) bytes in
       let none : out₁ ≡ zeros (length out) = h .answer ∙ ap (λ o. o .answer) (a .zero) in
       let rest : drop (length line) out₁ ≡ zeros (65536 - r) =
-      ap (drop (length line)) none ∙ zeros-after (length line) (length out) fits ∙ ap (λ k. zeros (k - length line)) bytes ∙ ap (λ k. zeros (65536 - k)) (sym long) in
+      ap (drop (length line)) none ∙ zeros-after (length line) (length out) fits ∙ ap (λ k. zeros (k - length line)) bytes ∙ ap
+      (λ k. zeros (65536 - k)) (sym long) in
       here by words (record {
         long = long ∙ ap length is;
         out = copied ∙ ap (λ l. l ++ drop (length line) out₁) (take-length line ∙ is) ∙ ap (λ l. printedLines x 65536 ++ l) rest;

@@ -54,7 +54,8 @@ module _ {f w : List ℕ} {n v : ℕ} {names : List (List ℕ)} (h : NamesHeld f
       (λ q. rw (q, position-newer (sameText valueText) names s (rw (← same-text valueText s q) at g) q) (omega (arith, h .count)))
       (λ q. rw (q, position-older (sameText valueText) names s q) (h .valued))
 
-  pub name-added : (at chars : ℕ) → 16384 ≤ length w → length names < 256 → lineAt f at ≡ some (0x02 ∷ s) → characters s ≡ some chars → chars < 512 → given names s ≡ false
+  pub name-added : (at chars : ℕ) → 16384 ≤ length w → length names < 256 → lineAt f at ≡ some (0x02 ∷ s) → characters s ≡ some chars → chars < 512
+      → given names s ≡ false
       → NamesHeld f (set w (NAMES + n) (at * 512 + chars)) (n + 1) (pick (sameText valueText s) (n + 1) v) (names ++ s ∷ [])
   unfolding countOf
   name-added at chars long room line text small g = record {
@@ -83,16 +84,25 @@ module _ {f w : List ℕ} {n v : ℕ} {names : List (List ℕ)} (h : NamesHeld f
 
 -- ---- Nodes and the query
 
-module _ (at size kind : ℕ) (content : List ℕ) {f : List ℕ} (line : lineAt f at ≡ some (kind ∷ content)) (long : size ≡ length (kind ∷ content)) (small : size ≤ 512) where
-  pub node-added : {e : Edition} {w : List ℕ} {n : ℕ} {nodes : List Node} (nd : Node) → NodesHeld e f w n nodes → 16384 ≤ length w → length nodes < 512 → kind ≡ 0x05 → frameOf e node content ≡ some (aNode nd)
+module _ (at size kind : ℕ) (content : List ℕ) {f : List ℕ} (line : lineAt f at ≡ some (kind ∷ content)) (long : size ≡ length (kind ∷ content))
+    (small : size ≤ 512) where
+  pub node-added : {e : Edition} {w : List ℕ} {n : ℕ} {nodes : List Node} (nd : Node) → NodesHeld e f w n nodes → 16384 ≤ length w
+      → length nodes < 512 → kind ≡ 0x05 → frameOf e node content ≡ some (aNode nd)
       → NodesHeld e f (set w (NODES + n) ((at * 1024 + size) * 2)) (n + 1) (nodes ++ nd ∷ [])
   unfolding nodeAt
   node-added {e} {w} {n} {nodes} nd h wide room k frame = record {
     count = rw (length-snoc nodes nd) (omega (arith, h .count));
     few = rw (length-snoc nodes nd) (omega arith);
     node = snoc (λ i t. NodeIn e f (set w (NODES + n) x) i t) noNode nodes nd
-        (λ i l. node-kept (ap (λ y. y / 2) (keeps-set {a = NODES + n} {e = FIELDS} w (NODES + n) x (omega arith) (omega (arith, h .count)) .below (NODES + i) (omega (arith, h .count)))) (h .node i l))
-        (subst (λ i. NodeIn e f (set w (NODES + n) x) i nd) (h .count) (record { content = content; line = record { line = rw (here, place) (line ∙ ap (λ b. some (b ∷ content)) k); long = rw here (omega arith) }; frame = frame }));
+        (λ i l. node-kept (ap (λ y. y / 2) (keeps-set {a = NODES + n} {e = FIELDS} w (NODES + n) x (omega arith) (omega (arith, h .count)) .below
+        (NODES + i) (omega (arith, h .count)))) (h .node i l))
+        (subst (λ i. NodeIn e f (set w (NODES + n) x) i nd) (h .count)
+        (record {
+          content = content;
+          line = record
+              { line = rw (here, place) (line ∙ ap (λ b. some (b ∷ content)) k); long = rw here (omega arith) };
+          frame = frame;
+        }));
   }
     where
       x : ℕ
@@ -104,8 +114,14 @@ module _ (at size kind : ℕ) (content : List ℕ) {f : List ℕ} (line : lineAt
       place : x / 2048 ≡ at
       place = omega arith
 
-  pub query-added : (w : List ℕ) (q : Query) → 16384 ≤ length w → kind ≡ 0x06 → frameOf Frame.wide query content ≡ some (theQuery q) → QueryIs f (set w QUERY (at * 1024 + size)) q
-  query-added w q wide k frame = record { content = content; line = record { line = rw (here, place) (line ∙ ap (λ b. some (b ∷ content)) k); long = rw here (omega arith) }; frame = frame }
+  pub query-added : (w : List ℕ) (q : Query) → 16384 ≤ length w → kind ≡ 0x06 → frameOf Frame.wide query content ≡ some (theQuery q)
+      → QueryIs f (set w QUERY (at * 1024 + size)) q
+  query-added w q wide k frame = record {
+    content = content;
+    line = record
+        { line = rw (here, place) (line ∙ ap (λ b. some (b ∷ content)) k); long = rw here (omega arith) };
+    frame = frame;
+  }
     where
       x : ℕ
       x = at * 1024 + size
@@ -123,7 +139,8 @@ valueWord none = 0
 valueWord (some t) = t * 2 + 1
 
 module _ {w : List ℕ} {T : Rows} {m fields : ℕ} {types : List Tree.Ty} (h : TypesHeld w T m fields types) where
-  predicate-is : (p name key : ℕ) (value : Option ℕ) → getD w (PREDICATES + p) 0 ≡ name * 131072 + key * 512 + valueWord value → key < length types → Below (length types) (optional value)
+  predicate-is : (p name key : ℕ) (value : Option ℕ) → getD w (PREDICATES + p) 0 ≡ name * 131072 + key * 512 + valueWord value → key < length types
+      → Below (length types) (optional value)
       → PredicateIs w T (length types) p (predicateOf types name key value)
   unfolding predicateOf typeAt valueTy optional
   predicate-is p name key none x k v =
@@ -136,7 +153,13 @@ module _ {w : List ℕ} {T : Rows} {m fields : ℕ} {types : List Tree.Ty} (h : 
       let o : getD w (PREDICATES + p) 0 % 2 ≡ 1 = omega arith in
       let r : getD w (PREDICATES + p) 0 / 2 / 256 ≡ name * 256 + key = omega (arith, h .few, v .0) in
       let u : getD w (PREDICATES + p) 0 / 2 % 256 ≡ t = omega arith in
-      record { name = omega (arith, h .few, v .0); key = rw e (h .type key k); value = rw (o, u) (ap some (h .type t (v .0))); key-there = rw e k; value-there = λ q. rw u (v .0) }
+      record {
+        name = omega (arith, h .few, v .0);
+        key = rw e (h .type key k);
+        value = rw (o, u) (ap some (h .type t (v .0)));
+        key-there = rw e k;
+        value-there = λ q. rw u (v .0);
+      }
 
   -- The older predicates as they stand after the word was written.
   pub predicate-added : {n : ℕ} {ps : List Predicate} (name key : ℕ) (value : Option ℕ) → PredicatesHeld w T (length types) n ps → length ps < 128

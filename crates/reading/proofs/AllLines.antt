@@ -91,10 +91,12 @@ module _ (ed : Edition) {f : List ℕ} {at : ℕ} {line : List ℕ} {n next : �
   unfolding said
   says-next = ap (map (said ed)) (h .splits) ∙ ap (λ o. saidBy ed o ∷ map (said ed) (lines (drop next f))) (h .bytes)
 
-  next-lines : (so : SoFar) → readFrom so (map (said ed) (lines (drop at f))) ≡ readFrom so (saidBy ed (some (take n line)) ∷ map (said ed) (lines (drop next f)))
+  next-lines : (so : SoFar) → readFrom so (map (said ed) (lines (drop at f))) ≡ readFrom so
+      (saidBy ed (some (take n line)) ∷ map (said ed) (lines (drop next f)))
   next-lines so = ap (readFrom so) says-next
 
-  next-last : (so : SoFar) → lastOf so (map (said ed) (lines (drop at f))) ≡ lastOf (after so (saidBy ed (some (take n line)))) (map (said ed) (lines (drop next f)))
+  next-last : (so : SoFar) → lastOf so (map (said ed) (lines (drop at f))) ≡ lastOf (after so (saidBy ed (some (take n line))))
+      (map (said ed) (lines (drop next f)))
   unfolding lastOf
   next-last so = ap (lastOf so) says-next
 
@@ -104,13 +106,16 @@ module _ (ed : Edition) {f w : List ℕ} {c : Counters} {previous at : ℕ} (m :
     says = saidBy ed (some (take n line))
 
     -- The code lends the bytes from 0 to n.
-    steps : (r : Step) → TakesLine ed f at (take (n - 0) line) w c previous kind w′ r → Steps ed f next w′ kind (after (m .so) says) r (firstOf conditions (m .so) says)
-    steps r t = subst (λ j. TakesLine ed f at (take j line) w c previous kind w′ r) (sub-zero n) t .is next (m .rows) (m .so) (m .held) (line-holds ed h) (e ∙ ap (λ b. numberOf (kindOf b)) (sym (first-taken ed h)))
+    steps : (r : Step) → TakesLine ed f at (take (n - 0) line) w c previous kind w′ r
+        → Steps ed f next w′ kind (after (m .so) says) r (firstOf conditions (m .so) says)
+    steps r t = subst (λ j. TakesLine ed f at (take j line) w c previous kind w′ r) (sub-zero n) t .is next (m .rows) (m .so) (m .held)
+        (line-holds ed h) (e ∙ ap (λ b. numberOf (kindOf b)) (sym (first-taken ed h)))
 
     pub midway-on : (d : Counters) → TakesLine ed f at (take (n - 0) line) w c previous kind w′ (On d) → Midway ed f w′ d kind next
     midway-on d t = go (firstOf conditions (m .so) says) refl (steps (On d) t)
       where
-        go : (o : Option Refused.Refusal) → firstOf conditions (m .so) says ≡ o → Steps ed f next w′ kind (after (m .so) says) (On d) o → Midway ed f w′ d kind next
+        go : (o : Option Refused.Refusal) → firstOf conditions (m .so) says ≡ o → Steps ed f next w′ kind (after (m .so) says) (On d) o
+            → Midway ed f w′ d kind next
         go none q s =
             let same : d ≡ s .0 = cc (s .1) in
             record {
@@ -127,20 +132,32 @@ module _ (ed : Edition) {f w : List ℕ} {c : Counters} {previous at : ℕ} (m :
     pub midway-off : (i : Refusal) → TakesLine ed f at (take (n - 0) line) w c previous kind w′ (Off i) → Ends ed f w′ (Read.Refused i) (readingOf ed f)
     midway-off i t = go (firstOf conditions (m .so) says) refl (steps (Off i) t)
       where
-        go : (o : Option Refused.Refusal) → firstOf conditions (m .so) says ≡ o → Steps ed f next w′ kind (after (m .so) says) (Off i) o → Ends ed f w′ (Read.Refused i) (readingOf ed f)
+        go : (o : Option Refused.Refusal) → firstOf conditions (m .so) says ≡ o → Steps ed f next w′ kind (after (m .so) says) (Off i) o
+            → Ends ed f w′ (Read.Refused i) (readingOf ed f)
         go none q s = let x = s .1 in let z : _≡_ {A = ℕ} 0 1 = cc in absurd (omega arith)
         go (some j) q s =
             let same : i ≡ s .0 = cc (s .1) in
-            ends-refused ed f w′ i (readingOf ed f) (m .left ∙ next-lines ed h (m .so) ∙ read-refused (m .so) says (map (said ed) (lines (drop next f))) j q ∙ ap refused (sym (ap refusal same ∙ s .2)))
+            ends-refused ed f w′ i (readingOf ed f) (m .left ∙ next-lines ed h (m .so) ∙ read-refused (m .so) says
+            (map (said ed) (lines (drop next f))) j q ∙ ap refused (sym (ap refusal same ∙ s .2)))
 
   -- what `take_line` asks
   pub midway-asks : {line : List ℕ} {n next : ℕ} → Holds f at line n next → at < length f
-      → (at < 65536) × (0 < length (take (n - 0) line)) × (length (take (n - 0) line) ≤ 512) × (16384 ≤ length w) × (c .names ≤ 256) × (c .types ≤ 256) × (c .fields ≤ 8192) × (c .nodes ≤ 512) × (c .queries ≤ 64)
+      → (at < 65536) × (0 < length (take (n - 0) line)) × (length (take (n - 0) line) ≤ 512) × (16384 ≤ length w) × (c .names ≤ 256) ×
+      (c .types ≤ 256) × (c .fields ≤ 8192) × (c .nodes ≤ 512) × (c .queries ≤ 64)
   midway-asks {n = n} h l =
       let b = line-holds ed h in
       let o = m .held in
-      rw (sub-zero n)
-      (omega (arith, o .small), b .some, b .most, o .long, omega (arith, o .names .count, o .names .few), omega (arith, o .types .count, o .types .few), omega (arith, o .room, o .place, o .small), omega (arith, o .nodes .count, o .nodes .few), omega (arith, o .queries, o .turns))
+      rw (sub-zero n) (
+        omega (arith, o .small),
+        b .some,
+        b .most,
+        o .long,
+        omega (arith, o .names .count, o .names .few),
+        omega (arith, o .types .count, o .types .few),
+        omega (arith, o .room, o .place, o .small),
+        omega (arith, o .nodes .count, o .nodes .few),
+        omega (arith, o .queries, o .turns),
+      )
 
   pub midway-bad : Malformed f at → Ends ed f w (Read.Refused Refusal.MalformedLine) (readingOf ed f)
   unfolding said saidBy
@@ -167,11 +184,13 @@ module _ (ed : Edition) {f w : List ℕ} {c : Counters} {previous at : ℕ} (m :
     midway-whole e =
         let was : m .so .previous ≡ some query = sym previous-was ∙ ap kindAt e in
         let types = subst (Declares (counted w c) (m .rows)) types-were (all-declared ed (m .held) (pass-kept (m .passed))) in
-        subst (Ends ed f (counted w c) Read.Accepted) (sym (at-end ∙ ap (atEnd (m .so)) was)) (refl, long-held ed (m .held), (m .rows, schema-held ed (m .held) query was, types))
+        subst (Ends ed f (counted w c) Read.Accepted) (sym (at-end ∙ ap (atEnd (m .so)) was))
+        (refl, long-held ed (m .held), (m .rows, schema-held ed (m .held) query was, types))
 
     pub midway-missing : (previous ≡ 5 → ⊥) → Ends ed f w (Read.Refused Refusal.MisplacedKind) (readingOf ed f)
     unfolding kindByte
-    midway-missing e = ends-refused ed f w Refusal.MisplacedKind (readingOf ed f) (at-end ∙ not-ended (m .so) (m .so .previous) (λ q. e (m .held .kind ∙ ap numberOf q)))
+    midway-missing e = ends-refused ed f w Refusal.MisplacedKind (readingOf ed f)
+        (at-end ∙ not-ended (m .so) (m .so .previous) (λ q. e (m .held .kind ∙ ap numberOf q)))
 
 -- ---- The file
 

@@ -12,10 +12,13 @@ use Rattle.work.specs.Layout.{MAX-DISTANCE, MAX-TERM}
 use Rattle.cells.specs.Stands.{Rows}
 use Rattle.meaning.specs.Refusal as Refused
 use Rattle.meaning.specs.Frame as Frame
-use Rattle.meaning.specs.Frame.{Kind, Frame, theLimits, aName, aType, aPredicate, aNode, theQuery, Got, got, fails, Reader, andThen, one, pair, triple, byte, two, rest, choice, typeShapes, valueTypes, spanAndKind, headAndBody, mayStand, kindByte, kindOf, frameKind, frame, frameOf}
+use Rattle.meaning.specs.Frame.{Kind, Frame, theLimits, aName, aType, aPredicate, aNode, theQuery, Got, got, fails, Reader, andThen, one, pair, triple}
+use Rattle.meaning.specs.Frame.{byte, two, rest, choice, typeShapes, valueTypes, spanAndKind, headAndBody, mayStand, kindByte, kindOf, frameKind, frame}
+use Rattle.meaning.specs.Frame.{frameOf}
 use Rattle.meaning.specs.References.{textsOf, nameRefs, typeRefs, nodeRefs, keysOf}
 use Rattle.meaning.specs.SoFar.{SoFar, saidOf, saidIn, saidBy, frames, add, after}
-use Rattle.meaning.specs.Conditions.{anyOf, allBelow, again, maxNames, maxTypes, maxPredicates, maxNodes, maxQueries, isFull, isLastQueryPast, refersEarlier, refersBadly, conditions, firstOf}
+use Rattle.meaning.specs.Conditions.{anyOf, allBelow, again, maxNames, maxTypes, maxPredicates, maxNodes, maxQueries, isFull, isLastQueryPast}
+use Rattle.meaning.specs.Conditions.{refersEarlier, refersBadly, conditions, firstOf}
 use Rattle.meaning.proofs.Tests.{cases, clash}
 use Rattle.meaning.proofs.Written.{kind-byte}
 use Rattle.frames.specs.Contracts.{numberOf, kindAt, stands, byteW, halfW, isSome, isFrame}
@@ -41,7 +44,8 @@ limits-frame : (ed : Edition) (s : List ℕ) (fr : Frame) → 0 < length s → f
 unfolding frameOf frame
 limits-frame ed s fr l e = sized-got (sized-pair theLimits sized-byte sized-two) s 1 fr [] l (whole-made (pair theLimits byte two (drop 1 s)) fr e)
 
-pub limits-takes : (ed : Edition) (s w w′ : List ℕ) (c : Counters) (d t : ℕ) → d ≡ byteW s 1 → t ≡ halfW s 2 → w′ ≡ set (set w MAX-DISTANCE d) MAX-TERM t → TakesAnywhere ed Frame.limits s w c w′ (On c)
+pub limits-takes : (ed : Edition) (s w w′ : List ℕ) (c : Counters) (d t : ℕ) → d ≡ byteW s 1 → t ≡ halfW s 2
+    → w′ ≡ set (set w MAX-DISTANCE d) MAX-TERM t → TakesAnywhere ed Frame.limits s w c w′ (On c)
 unfolding frameKind textsOf anyOf kindByte keysOf again refersBadly refersEarlier nameRefs typeRefs nodeRefs allBelow
 limits-takes ed s w w′ c d t p q e = record {
   is = λ f at. record {
@@ -107,7 +111,8 @@ frame-none : (o : Option Frame) → isSome o ≡ false → o ≡ none
 frame-none none e = refl
 frame-none (some fr) e = clash e
 
-module _ (ed : Edition) (s : List ℕ) {f : List ℕ} {at : ℕ} {w : List ℕ} {T : Rows} {c : Counters} {previous : ℕ} {so : SoFar} (h : Held ed f at w T c previous so) (long : 0 < length s) (kind : ℕ) (e : kind ≡ numberOf (kindOf (byteW s 0))) where
+module _ (ed : Edition) (s : List ℕ) {f : List ℕ} {at : ℕ} {w : List ℕ} {T : Rows} {c : Counters} {previous : ℕ} {so : SoFar}
+    (h : Held ed f at w T c previous so) (long : 0 < length s) (kind : ℕ) (e : kind ≡ numberOf (kindOf (byteW s 0))) where
   kind-is : kindAt kind ≡ kindOf (byteW s 0)
   kind-is = ap kindAt e ∙ kind-of-number (kindOf (byteW s 0))
 
@@ -157,20 +162,25 @@ module _ (ed : Edition) (s : List ℕ) {f : List ℕ} {at : ℕ} {w : List ℕ} 
     overfills : fullOf c kind ≡ true → firstOf conditions so (saidBy ed (some s)) ≡ some Refused.tooMany
     overfills u =
         let k = kind-there (kindAt previous) (kindAt kind) t in
-        ap (firstOf conditions so) (says (k .0) (k .1)) ∙ first-too-many so (k .0) (frameOf ed (k .0) (drop 1 s)) (frame-kind ed (k .0) (drop 1 s)) (places (k .0) true (k .1) t) (sym (fills (k .0) (k .1)) ∙ u)
+        ap (firstOf conditions so) (says (k .0) (k .1)) ∙ first-too-many so (k .0) (frameOf ed (k .0) (drop 1 s)) (frame-kind ed (k .0) (drop 1 s))
+        (places (k .0) true (k .1) t) (sym (fills (k .0) (k .1)) ∙ u)
 
     overturns : fullOf c kind ≡ false → pastOf c kind ≡ true → firstOf conditions so (saidBy ed (some s)) ≡ some Refused.tooManyQueries
     overturns u p =
         let k = kind-there (kindAt previous) (kindAt kind) t in
-        ap (firstOf conditions so) (says (k .0) (k .1)) ∙ first-too-many-queries so (k .0) (frameOf ed (k .0) (drop 1 s)) (frame-kind ed (k .0) (drop 1 s)) (places (k .0) true (k .1) t) (sym (fills (k .0) (k .1)) ∙ u) (sym (turns (k .0) (k .1)) ∙ p)
+        ap (firstOf conditions so) (says (k .0) (k .1)) ∙ first-too-many-queries so (k .0) (frameOf ed (k .0) (drop 1 s))
+        (frame-kind ed (k .0) (drop 1 s)) (places (k .0) true (k .1) t) (sym (fills (k .0) (k .1)) ∙ u) (sym (turns (k .0) (k .1)) ∙ p)
 
-    misforms : fullOf c kind ≡ false → pastOf c kind ≡ false → isFrame ed (kindAt kind) (drop 1 s) ≡ false → firstOf conditions so (saidBy ed (some s)) ≡ some Refused.malformedFrame
+    misforms : fullOf c kind ≡ false → pastOf c kind ≡ false → isFrame ed (kindAt kind) (drop 1 s) ≡ false
+        → firstOf conditions so (saidBy ed (some s)) ≡ some Refused.malformedFrame
     misforms u p v =
         let k = kind-there (kindAt previous) (kindAt kind) t in
         let x : isSome (frameOf ed (k .0) (drop 1 s)) ≡ false = rw (k .1) at v in
-        ap (firstOf conditions so) (says (k .0) (k .1)) ∙ first-no-frame so (k .0) (frameOf ed (k .0) (drop 1 s)) (frame-kind ed (k .0) (drop 1 s)) (places (k .0) true (k .1) t) (sym (fills (k .0) (k .1)) ∙ u) (sym (turns (k .0) (k .1)) ∙ p) (frame-none (frameOf ed (k .0) (drop 1 s)) x)
+        ap (firstOf conditions so) (says (k .0) (k .1)) ∙ first-no-frame so (k .0) (frameOf ed (k .0) (drop 1 s)) (frame-kind ed (k .0) (drop 1 s))
+        (places (k .0) true (k .1) t) (sym (fills (k .0) (k .1)) ∙ u) (sym (turns (k .0) (k .1)) ∙ p) (frame-none (frameOf ed (k .0) (drop 1 s)) x)
 
-    comes : (k : Kind) (fr : Frame) → kindAt kind ≡ some k → fullOf c kind ≡ false → pastOf c kind ≡ false → frameOf ed k (drop 1 s) ≡ some fr → Comes ed so k s fr
+    comes : (k : Kind) (fr : Frame) → kindAt kind ≡ some k → fullOf c kind ≡ false → pastOf c kind ≡ false → frameOf ed k (drop 1 s) ≡ some fr
+        → Comes ed so k s fr
     comes k fr q u p x = record {
       placed = places k true q t;
       room = sym (fills k q) ∙ u;
@@ -183,20 +193,33 @@ module _ (ed : Edition) (s : List ℕ) {f : List ℕ} {at : ℕ} {w : List ℕ} 
 
 module _ (ed : Edition) (f : List ℕ) (at : ℕ) (s w : List ℕ) (c : Counters) (previous kind : ℕ) where
   pub line-misplaced : stands (kindAt previous) (kindAt kind) ≡ false → TakesLine ed f at s w c previous kind w (Off Refusal.MisplacedKind)
-  line-misplaced t = record { is = λ next T so h l e. refuses ed f next w kind (after so (saidBy ed (some s))) Refusal.MisplacedKind _ (misplaces ed s h (l .some) kind e t) }
+  line-misplaced t = record {
+    is = λ next T so h l e. refuses ed f next w kind (after so (saidBy ed (some s))) Refusal.MisplacedKind _
+        (misplaces ed s h (l .some) kind e t);
+  }
 
   module _ (t : stands (kindAt previous) (kindAt kind) ≡ true) where
     pub line-too-many : fullOf c kind ≡ true → TakesLine ed f at s w c previous kind w (Off Refusal.TooMany)
-    line-too-many u = record { is = λ next T so h l e. refuses ed f next w kind (after so (saidBy ed (some s))) Refusal.TooMany _ (overfills ed s h (l .some) kind e t u) }
+    line-too-many u = record {
+      is = λ next T so h l e. refuses ed f next w kind (after so (saidBy ed (some s))) Refusal.TooMany _
+          (overfills ed s h (l .some) kind e t u);
+    }
 
     pub line-too-many-queries : fullOf c kind ≡ false → pastOf c kind ≡ true → TakesLine ed f at s w c previous kind w (Off Refusal.TooManyQueries)
-    line-too-many-queries u p = record { is = λ next T so h l e. refuses ed f next w kind (after so (saidBy ed (some s))) Refusal.TooManyQueries _ (overturns ed s h (l .some) kind e t u p) }
+    line-too-many-queries u p = record {
+      is = λ next T so h l e. refuses ed f next w kind (after so (saidBy ed (some s))) Refusal.TooManyQueries _
+          (overturns ed s h (l .some) kind e t u p);
+    }
 
     module _ (u : fullOf c kind ≡ false) (p : pastOf c kind ≡ false) where
       pub line-no-frame : isFrame ed (kindAt kind) (drop 1 s) ≡ false → TakesLine ed f at s w c previous kind w (Off Refusal.MalformedFrame)
-      line-no-frame v = record { is = λ next T so h l e. refuses ed f next w kind (after so (saidBy ed (some s))) Refusal.MalformedFrame _ (misforms ed s h (l .some) kind e t u p v) }
+      line-no-frame v = record {
+        is = λ next T so h l e. refuses ed f next w kind (after so (saidBy ed (some s))) Refusal.MalformedFrame _
+            (misforms ed s h (l .some) kind e t u p v);
+      }
 
-      pub line-takes : isFrame ed (kindAt kind) (drop 1 s) ≡ true → (k : Kind) → kind ≡ numberOf (some k) → (w′ : List ℕ) (r : Step) → Takes ed f at k s w c w′ r → TakesLine ed f at s w c previous kind w′ r
+      pub line-takes : isFrame ed (kindAt kind) (drop 1 s) ≡ true → (k : Kind) → kind ≡ numberOf (some k) → (w′ : List ℕ) (r : Step)
+          → Takes ed f at k s w c w′ r → TakesLine ed f at s w c previous kind w′ r
       unfolding after saidOf
       line-takes v k n w′ r a =
           let q : kindAt kind ≡ some k = ap kindAt n ∙ kind-of-number (some k) in
@@ -206,7 +229,8 @@ module _ (ed : Edition) (f : List ℕ) (at : ℕ) (s w : List ℕ) (c : Counters
             is = λ next T so h l e.
                 let z : saidBy ed (some s) ≡ frames (y .0) = says ed s h (l .some) kind e k q ∙ ap (saidOf k) (y .1) in
                 subst (λ x. Steps ed f next w′ kind (after so x) r (firstOf conditions so x)) (sym z)
-                (subst (λ m. Steps ed f next w′ m (add so (y .0)) r (firstOf conditions so (frames (y .0)))) (sym n) (a .is next T previous so (y .0) h l (comes ed s h (l .some) kind e t k (y .0) q u p (y .1))));
+                (subst (λ m. Steps ed f next w′ m (add so (y .0)) r (firstOf conditions so (frames (y .0)))) (sym n)
+                (a .is next T previous so (y .0) h l (comes ed s h (l .some) kind e t k (y .0) q u p (y .1))));
           }
 
 -- ---- What the functions for each kind ask
@@ -255,7 +279,8 @@ module _ (ed : Edition) (s : List ℕ) (kind : ℕ) (v : isFrame ed (kindAt kind
   long-node e = long-by Frame.node 10 e (node-short ed s)
 
 -- the kind that is none of the others
-pub last-kind : (previous kind : ℕ) → stands (kindAt previous) (kindAt kind) ≡ true → (kind ≡ 0 → ⊥) → (kind ≡ 1 → ⊥) → (kind ≡ 2 → ⊥) → (kind ≡ 3 → ⊥) → (kind ≡ 4 → ⊥) → kind ≡ 5
+pub last-kind : (previous kind : ℕ) → stands (kindAt previous) (kindAt kind) ≡ true → (kind ≡ 0 → ⊥) → (kind ≡ 1 → ⊥) → (kind ≡ 2 → ⊥)
+    → (kind ≡ 3 → ⊥) → (kind ≡ 4 → ⊥) → kind ≡ 5
 last-kind previous kind t a b c d e = cases (ltb kind 6)
     (λ q. let l = up 4 (up 3 (up 2 (up 1 (up 0 (omega arith) a) b) c) d) e in omega (arith, ltb-true kind 6 q))
     (λ q. clash (sym t ∙ sym (stands-unknown previous kind (ltb-false kind 6 q))))

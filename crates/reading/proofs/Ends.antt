@@ -46,7 +46,15 @@ nothing-held ed f w small long = record {
   room = omega arith;
   limits = tt;
   names = record { count = refl; few = omega arith; name = λ i l. absurd (omega arith); characters = λ i l. absurd (omega arith); valued = refl };
-  types = record { count = refl; few = omega arith; type = λ t l. absurd (omega arith); row = λ k t l i. absurd (omega arith); earlier = λ k t j l i b. absurd (omega arith); within = λ k t l i. absurd (omega arith); tags = λ t l. absurd (omega arith) };
+  types = record {
+    count = refl;
+    few = omega arith;
+    type = λ t l. absurd (omega arith);
+    row = λ k t l i. absurd (omega arith);
+    earlier = λ k t j l i b. absurd (omega arith);
+    within = λ k t l i. absurd (omega arith);
+    tags = λ t l. absurd (omega arith);
+  };
   predicates = record { count = refl; few = omega arith; predicate = λ p l. absurd (omega arith) };
   nodes = record { count = refl; few = omega arith; node = λ i l. absurd (omega arith) };
   named = record { mark = λ i l. absurd (omega arith); later = λ i l. refl };
@@ -99,7 +107,8 @@ module _ (ed : Edition) {f : List ℕ} {at : ℕ} {w : List ℕ} {T : Rows} {c :
         characters = λ n l.
             ap (λ x. x % 512) (kept .above (NAMES + n) (omega arith))
             ∙ h .names .characters n (rw (length-map (so .names) (λ s. countOf (characters s))) at l)
-            ∙ sym (subst (λ d. getD (map (λ s. countOf (characters s)) (so .names)) n d ≡ countOf (characters (getD (so .names) n []))) no-characters (List·getD-map (λ s. countOf (characters s)) (so .names) n []));
+            ∙ sym (subst (λ d. getD (map (λ s. countOf (characters s)) (so .names)) n d ≡ countOf (characters (getD (so .names) n []))) no-characters
+            (List·getD-map (λ s. countOf (characters s)) (so .names) n []));
         distance = kept .above MAX-DISTANCE (omega arith) ∙ l .0;
         term = kept .above MAX-TERM (omega arith) ∙ l .1;
       }

@@ -72,10 +72,12 @@ module _ (w₀ : List ℕ) (names nodes size end : ℕ) (gx gn : ℕ → List �
       so-far = rw (← last gx, ← last gn) (refers-then names nodes (g .so-far) r);
     }
 
-    pub go-stop : {v : List ℕ} → i < end → Refers w names (gx i) nodes (gn i) v false → (k : ℕ) → 10 + k * size ≡ end → Refers w₀ names (gather gx size 10 k) nodes (gather gn size 10 k) v false
+    pub go-stop : {v : List ℕ} → i < end → Refers w names (gx i) nodes (gn i) v false → (k : ℕ) → 10 + k * size ≡ end
+        → Refers w₀ names (gather gx size 10 k) nodes (gather gn size 10 k) v false
     go-stop {v} l r k e =
         let m = one-left l k e in
-        let all : Refers w₀ names (gather gx size 10 (suc (g .past))) nodes (gather gn size 10 (suc (g .past))) v false = rw (← last gx, ← last gn) (refers-then names nodes (g .so-far) r) in
+        let all : Refers w₀ names (gather gx size 10 (suc (g .past))) nodes (gather gn size 10 (suc (g .past))) v false = rw (← last gx, ← last gn)
+        (refers-then names nodes (g .so-far) r) in
         rw (m .1, gather-add gx size 10 (suc (g .past)) (m .0), gather-add gn size 10 (suc (g .past)) (m .0)) (refers-stop names nodes all _ _)
 
     pub go-end : end ≤ i → 0 < size → (k : ℕ) → 10 + k * size ≡ end → Refers w₀ names (gather gx size 10 k) nodes (gather gn size 10 k) w true
@@ -93,7 +95,8 @@ module _ (s w₀ : List ℕ) (names nodes : ℕ) where
   pub fields-start : FieldsGoing 10 w₀
   fields-start = go-start w₀ names nodes 4 (length s) (λ j. halfW s j ∷ []) (λ j. halfW s (j + 2) ∷ [])
 
-  fields-are : (v : List ℕ) (r : Bool) → ((k : ℕ) → 10 + k * 4 ≡ length s → Refers w₀ names (gather (λ j. halfW s j ∷ []) 4 10 k) nodes (gather (λ j. halfW s (j + 2) ∷ []) 4 10 k) v r) → NamesFields s w₀ names nodes v r
+  fields-are : (v : List ℕ) (r : Bool) → ((k : ℕ) → 10 + k * 4 ≡ length s
+      → Refers w₀ names (gather (λ j. halfW s j ∷ []) 4 10 k) nodes (gather (λ j. halfW s (j + 2) ∷ []) 4 10 k) v r) → NamesFields s w₀ names nodes v r
   fields-are v r h = record { is = λ k e. rw (← gather-one (halfW s) 4 10 k, ← gather-one (λ j. halfW s (j + 2)) 4 10 k) (h k e) }
 
   module _ {i : ℕ} {w : List ℕ} (g : FieldsGoing i w) where
@@ -105,9 +108,11 @@ module _ (s w₀ : List ℕ) (names nodes : ℕ) where
       stops v r = fields-are v false (go-stop w₀ names nodes 4 (length s) (λ j. halfW s j ∷ []) (λ j. halfW s (j + 2) ∷ []) g l r)
 
       pub fields-no-name : names ≤ halfW s i → NamesFields s w₀ names nodes w false
-      fields-no-name h = stops w (refers-stop names nodes (refers-name names nodes w (halfW s i) false (sym (le-ltb (halfW s i) names h))) [] (halfW s (i + 2) ∷ []))
+      fields-no-name h = stops w (refers-stop names nodes (refers-name names nodes w (halfW s i) false (sym (le-ltb (halfW s i) names h))) []
+          (halfW s (i + 2) ∷ []))
 
-      field-refers : (v : List ℕ) (r : Bool) → halfW s i < names → NamesNode w (halfW s (i + 2)) nodes v r → Refers w names (halfW s i ∷ []) nodes (halfW s (i + 2) ∷ []) v r
+      field-refers : (v : List ℕ) (r : Bool) → halfW s i < names → NamesNode w (halfW s (i + 2)) nodes v r
+          → Refers w names (halfW s i ∷ []) nodes (halfW s (i + 2) ∷ []) v r
       field-refers v r h n = refers-then names nodes (refers-name names nodes w (halfW s i) true (sym (lt-ltb (halfW s i) names h))) (n .is names)
 
       pub fields-no-node : (v : List ℕ) → halfW s i < names → NamesNode w (halfW s (i + 2)) nodes v false → NamesFields s w₀ names nodes v false
@@ -124,7 +129,8 @@ module _ (s w₀ : List ℕ) (nodes : ℕ) where
   pub items-start : ItemsGoing 10 w₀
   items-start names = go-start w₀ names nodes 2 (length s) (λ j. []) (λ j. halfW s j ∷ [])
 
-  items-are : (v : List ℕ) (r : Bool) → ((names k : ℕ) → 10 + k * 2 ≡ length s → Refers w₀ names (gather (λ j. []) 2 10 k) nodes (gather (λ j. halfW s j ∷ []) 2 10 k) v r) → NamesItems s w₀ nodes v r
+  items-are : (v : List ℕ) (r : Bool) → ((names k : ℕ) → 10 + k * 2 ≡ length s
+      → Refers w₀ names (gather (λ j. []) 2 10 k) nodes (gather (λ j. halfW s j ∷ []) 2 10 k) v r) → NamesItems s w₀ nodes v r
   items-are v r h = record { is = λ names k e. rw (gather-none 2 10 k, gather-one (halfW s) 2 10 k) at (h names k e) }
 
   module _ {i : ℕ} {w : List ℕ} (g : ItemsGoing i w) where

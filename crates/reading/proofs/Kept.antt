@@ -51,16 +51,19 @@ module _ {f w w′ : List ℕ} where
       let p : getD w′ (NODES + n) 0 / 2048 ≡ getD w (NODES + n) 0 / 2048 = omega arith in
       record { content = h .content; line = rw (p, e) (h .line); frame = h .frame }
 
-  pub nodes-kept : {e : Edition} {n : ℕ} {nodes : List Node} → ((i : ℕ) → i < length nodes → getD w′ (NODES + i) 0 / 2 ≡ getD w (NODES + i) 0 / 2) → NodesHeld e f w n nodes → NodesHeld e f w′ n nodes
+  pub nodes-kept : {e : Edition} {n : ℕ} {nodes : List Node} → ((i : ℕ) → i < length nodes → getD w′ (NODES + i) 0 / 2 ≡ getD w (NODES + i) 0 / 2)
+      → NodesHeld e f w n nodes → NodesHeld e f w′ n nodes
   nodes-kept s h = record { count = h .count; few = h .few; node = λ i l. node-kept (s i l) (h .node i l) }
 
   pub query-kept : getD w′ QUERY 0 ≡ getD w QUERY 0 → {q : Query} → QueryIs f w q → QueryIs f w′ q
   query-kept e h = record { content = h .content; line = rw e (h .line); frame = h .frame }
 
 -- One more node, not marked yet.
-pub marked-more : {w w′ : List ℕ} {m : ℕ} {named : List ℕ} → Same NODES (NODES + m) w w′ → getD w′ (NODES + m) 0 % 2 ≡ 0 → Marked w m named → Marked w′ (m + 1) named
+pub marked-more : {w w′ : List ℕ} {m : ℕ} {named : List ℕ} → Same NODES (NODES + m) w w′ → getD w′ (NODES + m) 0 % 2 ≡ 0 → Marked w m named
+    → Marked w′ (m + 1) named
 marked-more {w} {w′} {m} {named} s e h = record {
-  mark = below-more (λ i. getD w′ (NODES + i) 0 % 2 ≡ flag (among i named)) m (λ i l. ap (λ x. x % 2) (s .at (NODES + i) (omega arith) (omega arith)) ∙ h .mark i l) (e ∙ sym (ap flag (h .later m (omega arith))));
+  mark = below-more (λ i. getD w′ (NODES + i) 0 % 2 ≡ flag (among i named)) m
+      (λ i l. ap (λ x. x % 2) (s .at (NODES + i) (omega arith) (omega arith)) ∙ h .mark i l) (e ∙ sym (ap flag (h .later m (omega arith))));
   later = λ i l. h .later i (omega arith);
 }
 
@@ -112,7 +115,8 @@ record PartKept (T T′ : Rows) (p p′ : Part) : Type 0 where
   label : p′ .label ≡ p .label
   type : tree T′ (p′ .ty) ≡ tree T (p .ty)
 
-row-kept : (T T′ : Rows) (w w′ : List ℕ) (k : Kind) (c n j : ℕ) → ((i : ℕ) → i < j + n → PartKept T T′ (partW w k c i) (partW w′ k c i)) → rowFrom T′ w′ k c j n ≡ rowFrom T w k c j n
+row-kept : (T T′ : Rows) (w w′ : List ℕ) (k : Kind) (c n j : ℕ) → ((i : ℕ) → i < j + n → PartKept T T′ (partW w k c i) (partW w′ k c i))
+    → rowFrom T′ w′ k c j n ≡ rowFrom T w k c j n
 unfolding rowFrom
 row-kept T T′ w w′ k c zero j h = refl
 row-kept T T′ w w′ k c (suc n) j h =
@@ -120,7 +124,8 @@ row-kept T T′ w w′ k c (suc n) j h =
     let q = row-kept T T′ w w′ k c n (j + 1) (λ i l. h i (omega arith)) in
     rw (p .key, p .label, p .type, q)
 
-module _ (n fields : ℕ) (w w′ : List ℕ) (T T′ : Rows) (words : Same TYPES (TYPES + 2 * n) w w′) (parts : Same FIELDS (FIELDS + fields) w w′) (rows : (t : ℕ) → t < n → T′ t ≡ T t) (few : n ≤ 256) where
+module _ (n fields : ℕ) (w w′ : List ℕ) (T T′ : Rows) (words : Same TYPES (TYPES + 2 * n) w w′) (parts : Same FIELDS (FIELDS + fields) w w′)
+    (rows : (t : ℕ) → t < n → T′ t ≡ T t) (few : n ≤ 256) where
   head-kept : (t : ℕ) → t < n → getD w′ (TYPES + 2 * t) 0 ≡ getD w (TYPES + 2 * t) 0
   head-kept t l = words .at (TYPES + 2 * t) (omega arith) (omega arith)
 
@@ -141,18 +146,21 @@ module _ (n fields : ℕ) (w w′ : List ℕ) (T T′ : Rows) (words : Same TYPE
   first-kept t l = first-is w′ t (omega arith) ∙ second-kept t l ∙ sym (first-is w t (omega arith))
 
   module _ (t : ℕ) (l : t < n) where
-    word-kept : (k : Kind) (i j : ℕ) → firstW w t + wordsOf k (countW w t) ≤ fields → j < wordsOf k (countW w t) → i ≡ FIELDS + firstW w t + j → getD w′ i 0 ≡ getD w i 0
+    word-kept : (k : Kind) (i j : ℕ) → firstW w t + wordsOf k (countW w t) ≤ fields → j < wordsOf k (countW w t) → i ≡ FIELDS + firstW w t + j
+        → getD w′ i 0 ≡ getD w i 0
     word-kept k i j b h e = parts .at i (omega arith) (omega arith)
 
     part-type-kept : (k : Kind) (j : ℕ) → firstW w t + wordsOf k (countW w t) ≤ fields → j < countW w t → partType w′ k t j ≡ partType w k t j
     part-type-kept Fields j b h = rw (first-kept t l, word-kept Fields (FIELDS + firstW w t + j) j b (omega arith) refl)
     part-type-kept Alternatives j b h = rw (first-kept t l, word-kept Alternatives (FIELDS + firstW w t + 2 * j + 1) (2 * j + 1) b (omega arith) (omega arith))
 
-    part-kept : (k : Kind) (j : ℕ) → firstW w t + wordsOf k (countW w t) ≤ fields → j < countW w t → partType w k t j < t → PartKept T T′ (partW w k t j) (partW w′ k t j)
+    part-kept : (k : Kind) (j : ℕ) → firstW w t + wordsOf k (countW w t) ≤ fields → j < countW w t → partType w k t j < t
+        → PartKept T T′ (partW w k t j) (partW w′ k t j)
     unfolding declaredField alternativeW
     part-kept Fields j b h e =
         let x = word-kept Fields (FIELDS + firstW w t + j) j b (omega arith) refl in
-        rw (field-is w t j (omega arith), field-is w′ t j (omega arith), first-kept t l) (record { key = rw x; label = refl; type = rw x (type-kept (partType w Fields t j) (omega arith)) })
+        rw (field-is w t j (omega arith), field-is w′ t j (omega arith), first-kept t l)
+        (record { key = rw x; label = refl; type = rw x (type-kept (partType w Fields t j) (omega arith)) })
     part-kept Alternatives j b h e =
         let x = word-kept Alternatives (FIELDS + firstW w t + 2 * j) (2 * j) b (omega arith) refl in
         let y = word-kept Alternatives (FIELDS + firstW w t + 2 * j + 1) (2 * j + 1) b (omega arith) (omega arith) in
@@ -168,7 +176,8 @@ module _ (n fields : ℕ) (w w′ : List ℕ) (T T′ : Rows) (words : Same TYPE
         let j = is k t l i in
         rows t (omega arith)
         ∙ h .row k t l j
-        ∙ sym (rw (count-kept t (omega arith)) (row-kept T T′ w w′ k t (countW w t) 0 (λ p b. part-kept t (omega arith) k p (h .within k t l j) (omega arith) (h .earlier k t p l j (omega arith)))));
+        ∙ sym (rw (count-kept t (omega arith)) (row-kept T T′ w w′ k t (countW w t) 0
+        (λ p b. part-kept t (omega arith) k p (h .within k t l j) (omega arith) (h .earlier k t p l j (omega arith)))));
     earlier = λ k t j l i b.
         let o = is k t l i in
         let a : j < countW w t = omega (arith, count-kept t (omega arith)) in
@@ -196,7 +205,8 @@ module _ (n fields : ℕ) (w w′ : List ℕ) (T T′ : Rows) (words : Same TYPE
     value-there = rw x (λ q. omega (arith, h .value-there q));
   }
 
-  pub predicates-kept : (m p : ℕ) (ps : List Predicate) → n ≤ m → Same PREDICATES (PREDICATES + length ps) w w′ → PredicatesHeld w T n p ps → PredicatesHeld w′ T′ m p ps
+  pub predicates-kept : (m p : ℕ) (ps : List Predicate) → n ≤ m → Same PREDICATES (PREDICATES + length ps) w w′ → PredicatesHeld w T n p ps
+      → PredicatesHeld w′ T′ m p ps
   predicates-kept m p ps e s h = record {
     count = h .count;
     few = h .few;

@@ -63,7 +63,11 @@ module _ (names nodes : ℕ) where
 
   pub refers-name : (w : List ℕ) (m : ℕ) (r : Bool) → r ≡ ltb m names → Refers w names (m ∷ []) nodes [] w r
   unfolding allBelow again
-  refers-name w m r e = record { is = λ named h. cases (ltb m names) (λ q. e ∙ q ∙ sym (rw q)) (λ q. e ∙ q ∙ sym (rw q)); marks = λ e. marks-none; marked = λ e named h. subst (Marked w nodes) (sym (append-nil named)) h }
+  refers-name w m r e = record {
+    is = λ named h. cases (ltb m names) (λ q. e ∙ q ∙ sym (rw q)) (λ q. e ∙ q ∙ sym (rw q));
+    marks = λ e. marks-none;
+    marked = λ e named h. subst (Marked w nodes) (sym (append-nil named)) h;
+  }
 
   module _ {w v u : List ℕ} {xs ns ys ms : List ℕ} where
     pub refers-then : {r : Bool} → Refers w names xs nodes ns v true → Refers v names ys nodes ms u r → Refers w names (xs ++ ys) nodes (ns ++ ms) u r
@@ -84,7 +88,8 @@ module _ (names nodes : ℕ) where
         not-back false e = refl
 
   module _ {w v xs ns : List ℕ} (p : Refers w names xs nodes ns v false) (ys ms : List ℕ) where
-    fails-on : (named : List ℕ) → Marked w nodes named → false ≡ both (both (allBelow names xs) (allBelow names ys)) (both (both (allBelow nodes ns) (allBelow nodes ms)) (not (again named (ns ++ ms))))
+    fails-on : (named : List ℕ) → Marked w nodes named → false ≡ both (both (allBelow names xs) (allBelow names ys))
+        (both (both (allBelow nodes ns) (allBelow nodes ms)) (not (again named (ns ++ ms))))
     fails-on named h = cases (allBelow names xs)
         (λ a. cases (allBelow nodes ns)
         (λ b. cases (again named ns)
@@ -94,7 +99,11 @@ module _ (names nodes : ℕ) where
         (λ a. rw a)
 
     pub refers-stop : Refers w names (xs ++ ys) nodes (ns ++ ms) v false
-    refers-stop = record { is = λ named h. rw (below-append names xs ys, below-append nodes ns ms) (fails-on named h); marks = λ e. clash (sym e); marked = λ e. clash (sym e) }
+    refers-stop = record {
+      is = λ named h. rw (below-append names xs ys, below-append nodes ns ms) (fails-on named h);
+      marks = λ e. clash (sym e);
+      marked = λ e. clash (sym e);
+    }
 
 -- ---- One node
 

@@ -75,14 +75,17 @@ few-characters s n e l h = omega (arith, characters-le (drop 1 s) n e, length-dr
 
 module _ (ed : Edition) (f : List ℕ) (at : ℕ) (s w : List ℕ) (c : Counters) where
   -- what holds of the name's frame holds of the line's
-  as-name : (so : SoFar) (fr : Frame) (o : Option Refused.Refusal) → Comes ed so Frame.name s fr → firstOf conditions so (frames (aName (drop 1 s))) ≡ o → firstOf conditions so (frames fr) ≡ o
+  as-name : (so : SoFar) (fr : Frame) (o : Option Refused.Refusal) → Comes ed so Frame.name s fr
+      → firstOf conditions so (frames (aName (drop 1 s))) ≡ o → firstOf conditions so (frames fr) ≡ o
   as-name so fr o k e = subst (λ x. firstOf conditions so (frames x) ≡ o) (name-frame ed so s fr k) e
 
   pub name-broken : characters (drop 1 s) ≡ none → Takes ed f at Frame.name s w c w (Off Refusal.BrokenText)
   unfolding frameKind textsOf kindByte
   name-broken e = record {
     is = λ next T previous so fr h l k.
-        refuses ed f next w 1 (add so fr) Refusal.BrokenText _ (as-name so fr _ k (first-broken so (aName (drop 1 s)) (k .placed) (k .room) (k .turn) (any-one broken (drop 1 s) true (broken-text (drop 1 s) e))));
+        refuses ed f next w 1 (add so fr) Refusal.BrokenText _
+        (as-name so fr _ k (first-broken so (aName (drop 1 s)) (k .placed) (k .room) (k .turn)
+        (any-one broken (drop 1 s) true (broken-text (drop 1 s) e))));
   }
 
   module _ (chars : ℕ) (text : characters (drop 1 s) ≡ some chars) where
@@ -94,7 +97,8 @@ module _ (ed : Edition) (f : List ℕ) (at : ℕ) (s w : List ℕ) (c : Counters
     unfolding kindByte
     as-line l k = record { line = l .is ∙ ap some (k .first); characters = text; long = ap (λ t. 2 * length t) (k .first) }
 
-    given-is : {so : SoFar} {fr : Frame} {next : ℕ} {T : Rows} {previous : ℕ} (r : Bool) → GivenBefore f w (c .names) at chars (2 * length s) r → Held ed f at w T c previous so → Line f at next s → Comes ed so Frame.name s fr
+    given-is : {so : SoFar} {fr : Frame} {next : ℕ} {T : Rows} {previous : ℕ} (r : Bool) → GivenBefore f w (c .names) at chars (2 * length s) r
+        → Held ed f at w T c previous so → Line f at next s → Comes ed so Frame.name s fr
         → anyOf (given (so .names)) (textsOf (aName (drop 1 s))) ≡ r
     unfolding textsOf kindByte
     given-is {so} r g h l k = any-one (given (so .names)) (drop 1 s) r (sym (g .is (c .value) (so .names) (drop 1 s) (h .names) (as-line l k)))
@@ -102,10 +106,13 @@ module _ (ed : Edition) (f : List ℕ) (at : ℕ) (s w : List ℕ) (c : Counters
     pub name-given : GivenBefore f w (c .names) at chars (2 * length s) true → Takes ed f at Frame.name s w c w (Off Refusal.NameGivenBefore)
     unfolding frameKind kindByte
     name-given g = record {
-      is = λ next T previous so fr h l k. refuses ed f next w 1 (add so fr) Refusal.NameGivenBefore _ (as-name so fr _ k (first-given so (aName (drop 1 s)) (k .placed) (k .room) (k .turn) read (given-is true g h l k)));
+      is = λ next T previous so fr h l k. refuses ed f next w 1 (add so fr) Refusal.NameGivenBefore _
+          (as-name so fr _ k (first-given so (aName (drop 1 s)) (k .placed) (k .room) (k .turn) read (given-is true g h l k)));
     }
 
-    pub name-taken : GivenBefore f w (c .names) at chars (2 * length s) false → Takes ed f at Frame.name s w c (set w (NAMES + c .names) (at * 512 + chars)) (On (withName c (pick (sameText valueText (drop 1 s)) (c .names + 1) (c .value))))
+    pub name-taken : GivenBefore f w (c .names) at chars (2 * length s) false
+        → Takes ed f at Frame.name s w c (set w (NAMES + c .names) (at * 512 + chars))
+        (On (withName c (pick (sameText valueText (drop 1 s)) (c .names + 1) (c .value))))
     unfolding frameKind kindByte textsOf keysOf again refersBadly refersEarlier allBelow nameRefs typeRefs nodeRefs mayStand
     name-taken g = record {
       is = λ next T previous so fr h l k.
@@ -114,9 +121,12 @@ module _ (ed : Edition) (f : List ℕ) (at : ℕ) (s w : List ℕ) (c : Counters
           let few = few-characters s chars text (l .some) (l .most) in
           goes-on ed f next _ 1 (add so fr) _ T _
           (as-name so fr none k (first-none so (aName (drop 1 s)) (k .placed) (k .room) (k .turn) read (given-is false g h l k) refl refl))
-          (subst (λ x. Held ed f next (set w (NAMES + c .names) (at * 512 + chars)) T (withName c (pick (sameText valueText (drop 1 s)) (c .names + 1) (c .value))) 1 (add so x)) (name-frame ed so s fr k)
-          (name-held ed h next (omega (arith, l .on)) (l .within) (drop 1 s) chars (b .0) (k .placed) (b .1) (names-room so (k .room)) (l .is ∙ ap some (k .first)) text few (sym n)));
+          (subst (λ x. Held ed f next (set w (NAMES + c .names) (at * 512 + chars)) T
+          (withName c (pick (sameText valueText (drop 1 s)) (c .names + 1) (c .value))) 1 (add so x)) (name-frame ed so s fr k)
+          (name-held ed h next (omega (arith, l .on)) (l .within) (drop 1 s) chars (b .0) (k .placed) (b .1) (names-room so (k .room))
+          (l .is ∙ ap some (k .first)) text few (sym n)));
     }
 
-    pub name-adds : (v : Bool) (w′ : List ℕ) (r : Step) → GivenBefore f w (c .names) at chars (2 * length s) false → v ≡ sameText valueText (drop 1 s) → AddsName at chars v w c w′ r → Takes ed f at Frame.name s w c w′ r
+    pub name-adds : (v : Bool) (w′ : List ℕ) (r : Step) → GivenBefore f w (c .names) at chars (2 * length s) false → v ≡ sameText valueText (drop 1 s)
+        → AddsName at chars v w c w′ r → Takes ed f at Frame.name s w c w′ r
     name-adds v w′ r g e a = rw (a .words, a .step, e) (name-taken g)

@@ -9,7 +9,9 @@ use Rattle.meaning.specs.Refusal.{malformedLine, misplacedKind, tooMany, malfor
 use Rattle.meaning.specs.Frame.{Kind, Frame, mayStand, frameKind}
 use Rattle.meaning.specs.References.{textsOf, keysOf}
 use Rattle.meaning.specs.SoFar.{SoFar, Said, malformed, unknownKind, saidOf, frames}
-use Rattle.meaning.specs.Conditions.{anyOf, again, given, isMalformed, isMisplaced, isFull, isOneTooMany, isLastQueryPast, isQueryTooMany, isNoFrame, ofFrame, broken, isBrokenText, isNameGivenBefore, refersBadly, isBadReference, isRepeatedKey, Condition, conditions, firstOf}
+use Rattle.meaning.specs.Conditions.{anyOf, again, given, isMalformed, isMisplaced, isFull, isOneTooMany, isLastQueryPast, isQueryTooMany, isNoFrame}
+use Rattle.meaning.specs.Conditions.{ofFrame, broken, isBrokenText, isNameGivenBefore, refersBadly, isBadReference, isRepeatedKey, Condition, conditions}
+use Rattle.meaning.specs.Conditions.{firstOf}
 
 passed : (c : Condition) (cs : List Condition) (so : SoFar) (l : Said) → c .holds so l ≡ false → firstOf (c ∷ cs) so l ≡ firstOf cs so l
 unfolding firstOf
@@ -99,10 +101,12 @@ module _ (so : SoFar) (k : Kind) (o : Option Frame) (of : (f : Frame) → o ≡ 
 
 -- ---- A frame that may stand where it does and is not one too many
 
-module _ (so : SoFar) (f : Frame) (placed : mayStand (so .previous) (frameKind f) ≡ true) (room : isFull so (frameKind f) ≡ false) (turn : isLastQueryPast so (frameKind f) ≡ false) where
+module _ (so : SoFar) (f : Frame) (placed : mayStand (so .previous) (frameKind f) ≡ true) (room : isFull so (frameKind f) ≡ false)
+    (turn : isLastQueryPast so (frameKind f) ≡ false) where
   past-form : firstOf conditions so (frames f) ≡ firstOf (later 5) so (frames f)
   unfolding conditions isMalformed isMisplaced isOneTooMany isQueryTooMany isNoFrame
-  past-form = passed _ _ so (frames f) refl ∙ passed _ _ so (frames f) (ap not placed) ∙ passed _ _ so (frames f) room ∙ passed _ _ so (frames f) turn ∙ passed _ _ so (frames f) refl
+  past-form = passed _ _ so (frames f) refl ∙ passed _ _ so (frames f) (ap not placed) ∙ passed _ _ so (frames f) room ∙ passed _ _ so (frames f) turn
+      ∙ passed _ _ so (frames f) refl
 
   pub first-broken : anyOf broken (textsOf f) ≡ true → firstOf conditions so (frames f) ≡ some brokenText
   unfolding conditions isBrokenText ofFrame

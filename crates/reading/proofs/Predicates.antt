@@ -14,7 +14,8 @@ use Rattle.work.specs.Layout.{PREDICATES}
 use Rattle.cells.specs.Stands.{Rows}
 use Rattle.meaning.specs.Refusal as Refused
 use Rattle.meaning.specs.Frame as Frame
-use Rattle.meaning.specs.Frame.{Frame, aPredicate, got, fails, andThen, nothing, one, pair, triple, two, entry, valueTypes, mayStand, kindByte, frameKind, frame, frameOf}
+use Rattle.meaning.specs.Frame.{Frame, aPredicate, got, fails, andThen, nothing, one, pair, triple, two, entry, valueTypes, mayStand, kindByte, frameKind}
+use Rattle.meaning.specs.Frame.{frame, frameOf}
 use Rattle.meaning.specs.References.{optional, textsOf, nameRefs, typeRefs, nodeRefs, keysOf}
 use Rattle.meaning.specs.SoFar.{SoFar, add, frames}
 use Rattle.meaning.specs.Conditions.{anyOf, allBelow, again, refersEarlier, refersBadly, conditions, firstOf}
@@ -57,7 +58,8 @@ module _ (ed : Edition) (so : SoFar) (s : List ℕ) (fr : Frame) (long : 6 ≤ l
   unfolding entry valueTypes nothing
   value-at = go (byteW s 5) refl chosen
     where
-      go : (b : ℕ) → byteW s 5 ≡ b → (v : Option ℕ) × (entry (getElem? valueTypes (byteW s 5)) (drop 6 s) ≡ got v []) × (fr ≡ aPredicate (halfW s 1) (halfW s 3) v) → (v : Option ℕ) × (fr ≡ aPredicate (halfW s 1) (halfW s 3) v) × ValueAt s v
+      go : (b : ℕ) → byteW s 5 ≡ b → (v : Option ℕ) × (entry (getElem? valueTypes (byteW s 5)) (drop 6 s) ≡ got v []) ×
+          (fr ≡ aPredicate (halfW s 1) (halfW s 3) v) → (v : Option ℕ) × (fr ≡ aPredicate (halfW s 1) (halfW s 3) v) × ValueAt s v
       go zero e c =
           let x : got none (drop 6 s) ≡ got (c .0) [] = rw (e, entry) at (c .1) in
           let z : c .0 ≡ none = cc in
@@ -73,11 +75,14 @@ module _ (ed : Edition) (so : SoFar) (s : List ℕ) (fr : Frame) (long : 6 ≤ l
 
 -- ---- References
 
-predicate-refers : (so : SoFar) (n key : ℕ) (v : Option ℕ) → refersBadly so (aPredicate n key v) ≡ not (both (ltb n (length (so .names))) (both (ltb key (length (so .types))) (allBelow (length (so .types)) (optional v))))
+predicate-refers : (so : SoFar) (n key : ℕ) (v : Option ℕ) → refersBadly so (aPredicate n key v) ≡ not
+    (both (ltb n (length (so .names))) (both (ltb key (length (so .types))) (allBelow (length (so .types)) (optional v))))
 unfolding refersBadly refersEarlier nameRefs typeRefs nodeRefs allBelow again
 predicate-refers so n key v =
     or-none (not (both (both (ltb n (length (so .names))) true) (both (both (ltb key (length (so .types))) (allBelow (length (so .types)) (optional v))) true)))
-    ∙ ap not (ap (λ b. both b (both (both (ltb key (length (so .types))) (allBelow (length (so .types)) (optional v))) true)) (both-all (ltb n (length (so .names)))) ∙ ap (both (ltb n (length (so .names)))) (both-all (both (ltb key (length (so .types))) (allBelow (length (so .types)) (optional v)))))
+    ∙ ap not (ap (λ b. both b (both (both (ltb key (length (so .types))) (allBelow (length (so .types)) (optional v))) true))
+    (both-all (ltb n (length (so .names)))) ∙ ap (both (ltb n (length (so .names))))
+    (both-all (both (ltb key (length (so .types))) (allBelow (length (so .types)) (optional v)))))
 
 pub value-none : (s : List ℕ) → byteW s 5 ≡ 0 → (u : Option ℕ) → ValueAt s u → u ≡ none
 value-none s e none (absent a) = refl
@@ -94,9 +99,11 @@ module _ (ed : Edition) (s w : List ℕ) (c : Counters) (long : 6 ≤ length s) 
   abbrev there : Option ℕ → Bool
   there v = both (ltb (halfW s 1) (c .names)) (both (ltb (halfW s 3) (c .types)) (allBelow (c .types) (optional v)))
 
-  refers : {f : List ℕ} {at : ℕ} {T : Rows} {previous : ℕ} {so : SoFar} → Held ed f at w T c previous so → (v : Option ℕ) (b : Bool) → there v ≡ b → refersBadly so (aPredicate (halfW s 1) (halfW s 3) v) ≡ not b
+  refers : {f : List ℕ} {at : ℕ} {T : Rows} {previous : ℕ} {so : SoFar} → Held ed f at w T c previous so → (v : Option ℕ) (b : Bool) → there v ≡ b
+      → refersBadly so (aPredicate (halfW s 1) (halfW s 3) v) ≡ not b
   refers {so = so} h v b e =
-      let q : both (ltb (halfW s 1) (length (so .names))) (both (ltb (halfW s 3) (length (so .types))) (allBelow (length (so .types)) (optional v))) ≡ b = rw (← h .names .count, ← h .types .count) e in
+      let q : both (ltb (halfW s 1) (length (so .names))) (both (ltb (halfW s 3) (length (so .types))) (allBelow (length (so .types)) (optional v))) ≡
+      b = rw (← h .names .count, ← h .types .count) e in
       predicate-refers so (halfW s 1) (halfW s 3) v ∙ ap not q
 
   pub predicate-bad : ((v : Option ℕ) → ValueAt s v → there v ≡ false) → TakesAnywhere ed Frame.predicate s w c w (Off Refusal.BadReference)
@@ -105,11 +112,14 @@ module _ (ed : Edition) (s w : List ℕ) (c : Counters) (long : 6 ≤ length s) 
     is = λ f at. record {
       is = λ next T previous so fr h l k.
           let x = value-at ed so s fr long k in
-          refuses ed f next w 3 (add so fr) Refusal.BadReference _ (subst (λ y. firstOf conditions so (frames y) ≡ some Refused.badReference) (sym (x .1)) (first-bad so (aPredicate (halfW s 1) (halfW s 3) (x .0)) (k .placed) (k .room) (k .turn) refl refl (refers h (x .0) false (e (x .0) (x .2)))));
+          refuses ed f next w 3 (add so fr) Refusal.BadReference _
+          (subst (λ y. firstOf conditions so (frames y) ≡ some Refused.badReference) (sym (x .1))
+          (first-bad so (aPredicate (halfW s 1) (halfW s 3) (x .0)) (k .placed) (k .room) (k .turn) refl refl (refers h (x .0) false (e (x .0) (x .2)))));
     };
   }
 
-  pub predicate-takes : (v : Option ℕ) → ((u : Option ℕ) → ValueAt s u → u ≡ v) → there v ≡ true → (w′ : List ℕ) (r : Step) (x : ℕ) → x ≡ halfW s 1 * 131072 + halfW s 3 * 512 + valueWord v → AddsPredicate w c x w′ r → TakesAnywhere ed Frame.predicate s w c w′ r
+  pub predicate-takes : (v : Option ℕ) → ((u : Option ℕ) → ValueAt s u → u ≡ v) → there v ≡ true → (w′ : List ℕ) (r : Step) (x : ℕ)
+      → x ≡ halfW s 1 * 131072 + halfW s 3 * 512 + valueWord v → AddsPredicate w c x w′ r → TakesAnywhere ed Frame.predicate s w c w′ r
   unfolding frameKind textsOf anyOf kindByte keysOf again mayStand
   predicate-takes v va e w′ r y z a = record {
     is = λ f at. record {
@@ -121,9 +131,11 @@ module _ (ed : Edition) (s w : List ℕ) (c : Counters) (long : 6 ≤ length s) 
           let key = ltb-true (halfW s 3) (c .types) (both-left (ltb (halfW s 3) (c .types)) (allBelow (c .types) (optional v)) types) in
           let value = below-all (c .types) (optional v) (both-right (ltb (halfW s 3) (c .types)) (allBelow (c .types) (optional v)) types) in
           rw (a .step, a .words, z, same)
-          (goes-on ed f next (set w (PREDICATES + c .predicates) (halfW s 1 * 131072 + halfW s 3 * 512 + valueWord v)) 3 (add so (aPredicate (halfW s 1) (halfW s 3) v)) (withPredicate c) T _
+          (goes-on ed f next (set w (PREDICATES + c .predicates) (halfW s 1 * 131072 + halfW s 3 * 512 + valueWord v)) 3
+          (add so (aPredicate (halfW s 1) (halfW s 3) v)) (withPredicate c) T _
           (first-none so (aPredicate (halfW s 1) (halfW s 3) v) (k .placed) (k .room) (k .turn) refl refl (refers h v true e) refl)
-          (predicate-held ed h next (omega (arith, l .on)) (l .within) (halfW s 1) (halfW s 3) v (b .0) (k .placed) (b .1) (predicates-room so (k .room)) (omega (arith, h .types .count)) (subst (λ n. Below n (optional v)) (h .types .count) value)));
+          (predicate-held ed h next (omega (arith, l .on)) (l .within) (halfW s 1) (halfW s 3) v (b .0) (k .placed) (b .1)
+          (predicates-room so (k .room)) (omega (arith, h .types .count)) (subst (λ n. Below n (optional v)) (h .types .count) value)));
     };
   }
 
@@ -136,7 +148,8 @@ module _ (ed : Edition) (s w : List ℕ) (c : Counters) (long : 6 ≤ length s) 
   pub no-value : (byteW s 5 ≡ 0 → ⊥) → c .types ≤ halfW s 6 → (v : Option ℕ) → ValueAt s v → there v ≡ false
   unfolding allBelow optional
   no-value n h none (absent a) = absurd (n a)
-  no-value n h (some t) (present a) = rw (le-ltb (halfW s 6) (c .types) h) (ap (both (ltb (halfW s 1) (c .names))) (both-none (ltb (halfW s 3) (c .types))) ∙ both-none (ltb (halfW s 1) (c .names)))
+  no-value n h (some t) (present a) = rw (le-ltb (halfW s 6) (c .types) h)
+      (ap (both (ltb (halfW s 1) (c .names))) (both-none (ltb (halfW s 3) (c .types))) ∙ both-none (ltb (halfW s 1) (c .names)))
 
   all-there : halfW s 1 < c .names → halfW s 3 < c .types → (v : Option ℕ) → allBelow (c .types) (optional v) ≡ true → there v ≡ true
   all-there a b v e = rw (lt-ltb (halfW s 1) (c .names) a, lt-ltb (halfW s 3) (c .types) b) e

@@ -11,7 +11,8 @@ use borrow.Author.Tests.{ltb-true, ltb-false}
 use Rattle.meaning.proofs.Tests.{cases}
 use Rattle.meaning.specs.Syntax.{QueryStmt, Query, FieldRef, Literal, ExprKind, Node}
 use Rattle.meaning.specs.Frame as Frame
-use Rattle.meaning.specs.Frame.{Frame, aNode, got, fails, Reader, andThen, nothing, one, pair, triple, two, many, field, headAndBody, entry, exprKinds, spanAndKind, frame, frameOf}
+use Rattle.meaning.specs.Frame.{Frame, aNode, got, fails, Reader, andThen, nothing, one, pair, triple, two, many, field, headAndBody, entry, exprKinds}
+use Rattle.meaning.specs.Frame.{spanAndKind, frame, frameOf}
 use Rattle.meaning.specs.References.{fieldNames, fieldValues, stmtNodes, queryNodes, exprNames, exprNodes}
 use Rattle.frames.specs.Contracts.{referenceSize, referenceW, byteW, halfW, fullW, exprKind, statement}
 use Rattle.frames.specs.Items.{itemsAt, fieldAt, Fill}
@@ -28,7 +29,8 @@ pub record RefsAre (k : ExprKind) (xs ns : List ℕ) : Type 0 where
 abbrev made : ℕ → ℕ → ExprKind → Node
 made start end kind = record { span = record { start = start; end = end }; kind = kind }
 
-span-kind : (ed : Edition) (s : List ℕ) → 10 ≤ length s → (n : Node) → spanAndKind ed (drop 1 s) ≡ got n [] → entry (getElem? (exprKinds ed) (byteW s 9)) (drop 10 s) ≡ got (n .kind) []
+span-kind : (ed : Edition) (s : List ℕ) → 10 ≤ length s → (n : Node) → spanAndKind ed (drop 1 s) ≡ got n []
+    → entry (getElem? (exprKinds ed) (byteW s 9)) (drop 10 s) ≡ got (n .kind) []
 unfolding spanAndKind triple pair one andThen
 span-kind ed s long n e =
     let a = sized-four .reads s 1 (omega arith) in
@@ -92,7 +94,8 @@ module _ (ed : Edition) (s : List ℕ) (nd : Node) (long : 10 ≤ length s) (is 
       go (suc (suc (suc n))) e l c = absurd (omega arith)
 
   -- a reader of one size made the kind
-  sized-kind : {r : Reader ExprKind} {n : ℕ} {v : List ℕ → ℕ → ExprKind} (b : ℕ) → Sized r n v → byteW s 9 ≡ b → getElem? (exprKinds ed) b ≡ some r → nd .kind ≡ v s 10
+  sized-kind : {r : Reader ExprKind} {n : ℕ} {v : List ℕ → ℕ → ExprKind} (b : ℕ) → Sized r n v → byteW s 9 ≡ b → getElem? (exprKinds ed) b ≡ some r
+      → nd .kind ≡ v s 10
   unfolding entry
   sized-kind {r} b p e q =
       let x : r (drop 10 s) ≡ got (nd .kind) [] = rw (e, q) at chosen in
@@ -115,7 +118,8 @@ module _ (ed : Edition) (s : List ℕ) (nd : Node) (long : 10 ≤ length s) (is 
 
   pub key-refs : byteW s 9 ≡ 9 → RefsAre (nd .kind) (halfW s 10 ∷ []) (halfW s 12 ∷ [])
   unfolding exprKinds exprNames exprNodes
-  key-refs e = refs-of (ExprKind.Access (FieldRef.Key (halfW s 10)) (halfW s 12)) (sized-kind 9 (sized-pair (λ n e. ExprKind.Access (FieldRef.Key n) e) sized-two sized-two) e refl)
+  key-refs e = refs-of (ExprKind.Access (FieldRef.Key (halfW s 10)) (halfW s 12))
+      (sized-kind 9 (sized-pair (λ n e. ExprKind.Access (FieldRef.Key n) e) sized-two sized-two) e refl)
 
   pub value-refs : byteW s 9 ≡ 10 → RefsAre (nd .kind) [] (halfW s 10 ∷ [])
   unfolding exprKinds exprNames exprNodes
@@ -123,7 +127,8 @@ module _ (ed : Edition) (s : List ℕ) (nd : Node) (long : 10 ≤ length s) (is 
 
   pub fact-refs : byteW s 9 ≡ 13 → RefsAre (nd .kind) [] (halfW s (10 + referenceSize ed) ∷ [])
   unfolding exprKinds exprNames exprNodes
-  fact-refs e = refs-of (ExprKind.Fact (referenceW ed s 10) (halfW s (10 + referenceSize ed))) (sized-kind 13 (sized-pair ExprKind.Fact (sized-reference ed) sized-two) e refl)
+  fact-refs e = refs-of (ExprKind.Fact (referenceW ed s 10) (halfW s (10 + referenceSize ed)))
+      (sized-kind 13 (sized-pair ExprKind.Fact (sized-reference ed) sized-two) e refl)
 
   pub select-refs : byteW s 9 ≡ 16 → RefsAre (nd .kind) (halfW s 10 ∷ []) (halfW s 12 ∷ [])
   unfolding exprKinds exprNames exprNodes

@@ -52,7 +52,9 @@ sets-words w a [] h = record { at = λ i l. absurd (omega arith) }
 sets-words w a (x ∷ xs) h = record { at = at (sets-words (set w a x) (suc a) xs (rw length-set (omega arith))) }
   where
     at : WordsAt (sets (set w a x) (suc a) xs) (suc a) xs → (i : ℕ) → i < length (x ∷ xs) → getD (sets (set w a x) (suc a) xs) (a + i) 0 ≡ getD (x ∷ xs) i 0
-    at r zero l = let z : a + 0 ≡ a = omega arith in rw z (keeps-sets {a = suc a} {e = suc a + length xs} (set w a x) (suc a) xs (omega arith) (omega arith) .below a (omega arith) ∙ getD-set-same w a x 0 (omega arith))
+    at r zero l = let z : a + 0 ≡ a = omega arith in rw z
+        (keeps-sets {a = suc a} {e = suc a + length xs} (set w a x) (suc a) xs (omega arith) (omega arith) .below a (omega arith) ∙ getD-set-same w a
+        x 0 (omega arith))
     at r (suc i) l = let z : a + suc i ≡ suc a + i = omega arith in rw z (r .at i (omega arith))
 
 -- ---- One more element

@@ -38,7 +38,8 @@ leafPayload Tree.String = 0
 leafPayload Tree.Bytes = 0
 leafPayload (Tree.Fact p) = p
 
-leaf-tree : (T : Rows) (w : List ℕ) (n : ℕ) (p : Leaf) → getD w (TYPES + 2 * n) 0 ≡ leafTag p → getD w (TYPES + 2 * n + 1) 0 ≡ leafPayload p → Tree.leaf p ≡ tree T (declaredW w n)
+leaf-tree : (T : Rows) (w : List ℕ) (n : ℕ) (p : Leaf) → getD w (TYPES + 2 * n) 0 ≡ leafTag p → getD w (TYPES + 2 * n + 1) 0 ≡ leafPayload p
+    → Tree.leaf p ≡ tree T (declaredW w n)
 unfolding declaredW tyW
 leaf-tree T w n Tree.Int a b = rw a
 leaf-tree T w n Tree.String a b = rw a
@@ -70,25 +71,31 @@ record CellHeld (w : List ℕ) (T : Rows) (n fields : ℕ) (k : Kind) : Type 0 w
   within : firstW w n + wordsOf k (countW w n) ≤ fields
 
 module _ {w : List ℕ} {T : Rows} {m fields : ℕ} {types : List Tree.Ty} (h : TypesHeld w T m fields types) where
-  type-added : (x : Tree.Ty) (more : ℕ) → fields ≤ more → length types < 256 → x ≡ tree T (declaredW w (length types)) → ((k : Kind) → IsOf w k (length types) → CellHeld w T (length types) more k)
+  type-added : (x : Tree.Ty) (more : ℕ) → fields ≤ more → length types < 256 → x ≡ tree T (declaredW w (length types))
+      → ((k : Kind) → IsOf w k (length types) → CellHeld w T (length types) more k)
       → getD w (TYPES + 2 * length types) 0 % 16 < 7 → TypesHeld w T (m + 1) more (types ++ x ∷ [])
   type-added x more l room e c tag = record {
     count = rw (length-append types (x ∷ [])) (omega (arith, h .count));
     few = rw (length-append types (x ∷ [])) (omega arith);
     type = snoc (λ t y. y ≡ tree T (declaredW w t)) Tree.Error types x (h .type) e;
     row = λ k. snoc (λ t y. IsOf w k t → T t ≡ rowW T w k t) Tree.Error types x (h .row k) (λ i. c k i .row);
-    earlier = λ k t j b. snoc (λ t y. IsOf w k t → j < countW w t → partType w k t j < t) Tree.Error types x (λ t b. h .earlier k t j b) (λ i. c k i .earlier j) t b;
-    within = λ k. snoc (λ t y. IsOf w k t → firstW w t + wordsOf k (countW w t) ≤ more) Tree.Error types x (λ t b i. omega (arith, h .within k t b i)) (λ i. c k i .within);
+    earlier = λ k t j b. snoc (λ t y. IsOf w k t → j < countW w t → partType w k t j < t) Tree.Error types x (λ t b. h .earlier k t j b)
+        (λ i. c k i .earlier j) t b;
+    within = λ k. snoc (λ t y. IsOf w k t → firstW w t + wordsOf k (countW w t) ≤ more) Tree.Error types x (λ t b i. omega (arith, h .within k t b i))
+        (λ i. c k i .within);
     tags = snoc (λ t y. getD w (TYPES + 2 * t) 0 % 16 < 7) Tree.Error types x (h .tags) tag;
   }
 
-  pub leaf-added : (p : Leaf) → length types < 256 → getD w (TYPES + 2 * length types) 0 ≡ leafTag p → getD w (TYPES + 2 * length types + 1) 0 ≡ leafPayload p → TypesHeld w T (m + 1) fields (types ++ Tree.leaf p ∷ [])
-  leaf-added p room a b = type-added (Tree.leaf p) fields (omega arith) room (leaf-tree T w (length types) p a b) (λ k i. absurd (no-cell p k (getD w (TYPES + 2 * length types) 0) a i)) (rw a (leaf-small p))
+  pub leaf-added : (p : Leaf) → length types < 256 → getD w (TYPES + 2 * length types) 0 ≡ leafTag p
+      → getD w (TYPES + 2 * length types + 1) 0 ≡ leafPayload p → TypesHeld w T (m + 1) fields (types ++ Tree.leaf p ∷ [])
+  leaf-added p room a b = type-added (Tree.leaf p) fields (omega arith) room (leaf-tree T w (length types) p a b)
+      (λ k i. absurd (no-cell p k (getD w (TYPES + 2 * length types) 0) a i)) (rw a (leaf-small p))
 
 -- ---- The row of a record's or a union's words
 
 module _ {w : List ℕ} {T : Rows} {m fields : ℕ} {types : List Tree.Ty} (h : TypesHeld w T m fields types) (c : ℕ) (small : c < 256) where
-  fields-row : (fs : List Field) (j : ℕ) → Below (length types) (fieldValues fs) → WordsAt w (FIELDS + firstW w c + j) (map fieldWord fs) → rowFrom T w Fields c j (length fs) ≡ fieldRow types fs
+  fields-row : (fs : List Field) (j : ℕ) → Below (length types) (fieldValues fs) → WordsAt w (FIELDS + firstW w c + j) (map fieldWord fs)
+      → rowFrom T w Fields c j (length fs) ≡ fieldRow types fs
   unfolding rowFrom fieldRow typeAt fieldValues declaredField
   fields-row [] j b ws = refl
   fields-row (f ∷ fs) j b ws =
@@ -98,7 +105,8 @@ module _ {w : List ℕ} {T : Rows} {m fields : ℕ} {types : List Tree.Ty} (h : 
       let z : FIELDS + firstW w c + j + 1 ≡ FIELDS + firstW w c + (j + 1) = omega arith in
       rw (field-is w c j small, x, q, r, ← h .type (f .value) (b .0), fields-row fs (j + 1) (b .1) (rw z at (words-tail ws)))
 
-  alternatives-row : (alts : List Alternative) (j : ℕ) → Below (length types) (map (λ a. a .type) alts) → WordsAt w (FIELDS + firstW w c + 2 * j) (alternativeWords alts) → rowFrom T w Alternatives c j (length alts) ≡ alternativeRow types alts
+  alternatives-row : (alts : List Alternative) (j : ℕ) → Below (length types) (map (λ a. a .type) alts)
+      → WordsAt w (FIELDS + firstW w c + 2 * j) (alternativeWords alts) → rowFrom T w Alternatives c j (length alts) ≡ alternativeRow types alts
   unfolding rowFrom alternativeRow typeAt alternativeW
   alternatives-row [] j b ws = refl
   alternatives-row (a ∷ alts) j b ws =
@@ -109,7 +117,8 @@ module _ {w : List ℕ} {T : Rows} {m fields : ℕ} {types : List Tree.Ty} (h : 
       let z : FIELDS + firstW w c + 2 * j + 1 + 1 ≡ FIELDS + firstW w c + 2 * (j + 1) = omega arith in
       rw (x, y, q, r, ← h .type (a .type) (b .0), alternatives-row alts (j + 1) (b .1) (rw z at (words-tail (words-tail ws))))
 
-  fields-earlier : (n : ℕ) (fs : List Field) (j : ℕ) → n ≤ 256 → Below n (fieldValues fs) → WordsAt w (FIELDS + firstW w c + j) (map fieldWord fs) → (i : ℕ) → i < length fs → partType w Fields c (j + i) < n
+  fields-earlier : (n : ℕ) (fs : List Field) (j : ℕ) → n ≤ 256 → Below n (fieldValues fs) → WordsAt w (FIELDS + firstW w c + j) (map fieldWord fs)
+      → (i : ℕ) → i < length fs → partType w Fields c (j + i) < n
   unfolding fieldValues
   fields-earlier n (f ∷ fs) j few b ws zero l =
       let z : j + 0 ≡ j = omega arith in
@@ -120,7 +129,8 @@ module _ {w : List ℕ} {T : Rows} {m fields : ℕ} {types : List Tree.Ty} (h : 
       rw s (fields-earlier n fs (j + 1) few (b .1) (rw z at (words-tail ws)) i (omega arith))
   fields-earlier n [] j few b ws i l = absurd (omega arith)
 
-  alternatives-earlier : (n : ℕ) (alts : List Alternative) (j : ℕ) → n ≤ 256 → Below n (map (λ a. a .type) alts) → WordsAt w (FIELDS + firstW w c + 2 * j) (alternativeWords alts) → (i : ℕ) → i < length alts → partType w Alternatives c (j + i) < n
+  alternatives-earlier : (n : ℕ) (alts : List Alternative) (j : ℕ) → n ≤ 256 → Below n (map (λ a. a .type) alts)
+      → WordsAt w (FIELDS + firstW w c + 2 * j) (alternativeWords alts) → (i : ℕ) → i < length alts → partType w Alternatives c (j + i) < n
   alternatives-earlier n [] j few b ws i l = absurd (omega arith)
   alternatives-earlier n (a ∷ alts) j few b ws zero l =
       let z : j + 0 ≡ j = omega arith in
@@ -151,17 +161,20 @@ tag-says Fields Alternatives e = absurd (omega arith)
 tag-says Alternatives Fields e = absurd (omega arith)
 tag-says Alternatives Alternatives e = refl
 
-module _ {w : List ℕ} {T : Rows} {m fields : ℕ} {types : List Tree.Ty} (h : TypesHeld w T m fields types) (room : length types < 256) (second : getD w (TYPES + 2 * length types + 1) 0 ≡ fields) where
+module _ {w : List ℕ} {T : Rows} {m fields : ℕ} {types : List Tree.Ty} (h : TypesHeld w T m fields types) (room : length types < 256)
+    (second : getD w (TYPES + 2 * length types + 1) 0 ≡ fields) where
   abbrev n : ℕ
   n = length types
 
   first-here : firstW w n ≡ fields
   first-here = first-is w n room ∙ second
 
-  cell-added : (k : Kind) (count : ℕ) → getD w (TYPES + 2 * n) 0 ≡ count * 16 + tagOf k → T n ≡ rowFrom T w k n 0 count → ((j : ℕ) → j < count → partType w k n j < n)
+  cell-added : (k : Kind) (count : ℕ) → getD w (TYPES + 2 * n) 0 ≡ count * 16 + tagOf k → T n ≡ rowFrom T w k n 0 count
+      → ((j : ℕ) → j < count → partType w k n j < n)
       → TypesHeld w T (m + 1) (fields + wordsOf k count) (types ++ Tree.node (treeKind k) (T n) ∷ [])
   unfolding rowW
-  cell-added k count e r below = type-added h (Tree.node (treeKind k) (T n)) (fields + wordsOf k count) (omega arith) room (cell-tree T w n k (is k e)) held (rw (is k e) (cell-small k))
+  cell-added k count e r below = type-added h (Tree.node (treeKind k) (T n)) (fields + wordsOf k count) (omega arith) room
+      (cell-tree T w n k (is k e)) held (rw (is k e) (cell-small k))
     where
       is : (k : Kind) → getD w (TYPES + 2 * n) 0 ≡ count * 16 + tagOf k → IsOf w k n
       is Fields e = omega arith
@@ -179,20 +192,26 @@ module _ {w : List ℕ} {T : Rows} {m fields : ℕ} {types : List Tree.Ty} (h : 
       held : (j : Kind) → IsOf w j n → CellHeld w T n (fields + wordsOf k count) j
       held j i = subst (CellHeld w T n (fields + wordsOf k count)) (sym (tag-says k j (sym i ∙ is k e))) here
 
-  pub record-added : (fs : List Field) → getD w (TYPES + 2 * n) 0 ≡ length fs * 16 + 5 → WordsAt w (FIELDS + fields) (map fieldWord fs) → Below n (fieldValues fs) → T n ≡ fieldRow types fs
+  pub record-added : (fs : List Field) → getD w (TYPES + 2 * n) 0 ≡ length fs * 16 + 5 → WordsAt w (FIELDS + fields) (map fieldWord fs)
+      → Below n (fieldValues fs) → T n ≡ fieldRow types fs
       → TypesHeld w T (m + 1) (fields + length fs) (types ++ tyOf types (aRecord fs) ∷ [])
   unfolding tyOf
   record-added fs e ws b r =
-      let at : WordsAt w (FIELDS + firstW w n + 0) (map fieldWord fs) = let z : FIELDS + fields ≡ FIELDS + firstW w n + 0 = omega (arith, first-here) in rw z at ws in
+      let at : WordsAt w (FIELDS + firstW w n + 0) (map fieldWord fs) = let z : FIELDS + fields ≡ FIELDS + firstW w n + 0 = omega (arith, first-here)
+      in rw z at ws in
       let one : 1 * length fs ≡ length fs = omega arith in
-      rw (r, one) at (cell-added Fields (length fs) e (r ∙ sym (fields-row h n room fs 0 b at)) (λ j l. let z : 0 + j ≡ j = omega arith in rw z at (fields-earlier h n room n fs 0 (omega arith) b at j l)))
+      rw (r, one) at (cell-added Fields (length fs) e (r ∙ sym (fields-row h n room fs 0 b at))
+      (λ j l. let z : 0 + j ≡ j = omega arith in rw z at (fields-earlier h n room n fs 0 (omega arith) b at j l)))
 
-  pub union-added : (alts : List Alternative) → getD w (TYPES + 2 * n) 0 ≡ length alts * 16 + 6 → WordsAt w (FIELDS + fields) (alternativeWords alts) → Below n (map (λ a. a .type) alts) → T n ≡ alternativeRow types alts
+  pub union-added : (alts : List Alternative) → getD w (TYPES + 2 * n) 0 ≡ length alts * 16 + 6 → WordsAt w (FIELDS + fields) (alternativeWords alts)
+      → Below n (map (λ a. a .type) alts) → T n ≡ alternativeRow types alts
       → TypesHeld w T (m + 1) (fields + 2 * length alts) (types ++ tyOf types (aUnion alts) ∷ [])
   unfolding tyOf
   union-added alts e ws b r =
-      let at : WordsAt w (FIELDS + firstW w n + 2 * 0) (alternativeWords alts) = let z : FIELDS + fields ≡ FIELDS + firstW w n + 2 * 0 = omega (arith, first-here) in rw z at ws in
-      rw r at (cell-added Alternatives (length alts) e (r ∙ sym (alternatives-row h n room alts 0 b at)) (λ j l. let z : 0 + j ≡ j = omega arith in rw z at (alternatives-earlier h n room n alts 0 (omega arith) b at j l)))
+      let at : WordsAt w (FIELDS + firstW w n + 2 * 0) (alternativeWords alts) = let z : FIELDS + fields ≡ FIELDS + firstW w n + 2 * 0 = omega
+      (arith, first-here) in rw z at ws in
+      rw r at (cell-added Alternatives (length alts) e (r ∙ sym (alternatives-row h n room alts 0 b at))
+      (λ j l. let z : 0 + j ≡ j = omega arith in rw z at (alternatives-earlier h n room n alts 0 (omega arith) b at j l)))
 
 -- A row for one more cell.
 abbrev pub withRow : Rows → ℕ → Row → Rows
@@ -232,7 +251,8 @@ alternative-words [] = refl
 alternative-words (a ∷ alts) = omega (arith, alternative-words alts)
 
 pub shape-added : {w : List ℕ} {T : Rows} {m fields : ℕ} {types : List Tree.Ty} → TypesHeld w T m fields types → (s : TypeShape) → length types < 256
-    → getD w (TYPES + 2 * length types) 0 ≡ shapeHead s → getD w (TYPES + 2 * length types + 1) 0 ≡ shapeSecond fields s → WordsAt w (FIELDS + fields) (shapeWords s) → Below (length types) (shapeTypes s)
+    → getD w (TYPES + 2 * length types) 0 ≡ shapeHead s → getD w (TYPES + 2 * length types + 1) 0 ≡ shapeSecond fields s
+    → WordsAt w (FIELDS + fields) (shapeWords s) → Below (length types) (shapeTypes s)
     → T (length types) ≡ shapeRow types s → TypesHeld w T (m + 1) (fields + length (shapeWords s)) (types ++ tyOf types s ∷ [])
 unfolding tyOf shapeTypes
 shape-added {fields = fields} h (aLeaf p) room a b ws below r = let z : fields + 0 ≡ fields = omega arith in rw z (leaf-added h p room a b)

@@ -84,7 +84,8 @@ opens s at all done (x ∷ xs) l (then p h f) q = record { more = xs; size = p; 
 module _ {s w₀ : List ℕ} {from nodes at : ℕ} {w : List ℕ} (t : Stating s w₀ from nodes at w) (l : at < length s) where
   -- a failure after some of the next statement's nodes is the failure of all
   fails-with : (ns : List ℕ) (v : List ℕ) → ((names : ℕ) → Refers w names [] nodes ns v false)
-      → ((xs : List QueryStmt) → 0 < sizeW (byteW s at) → (more : List ℕ) × (stmtNodes (statementAt s at ∷ xs) ≡ ns ++ more)) → NamesStatements s w₀ from nodes v false
+      → ((xs : List QueryStmt) → 0 < sizeW (byteW s at) → (more : List ℕ) × (stmtNodes (statementAt s at ∷ xs) ≡ ns ++ more))
+      → NamesStatements s w₀ from nodes v false
   fails-with ns v r first = record {
     is = λ names stmts f.
         let g = t .to names stmts f in
@@ -99,7 +100,8 @@ module _ {s w₀ : List ℕ} {from nodes at : ℕ} {w : List ℕ} (t : Stating s
 
   -- the walk goes on after the statement's nodes
   goes-with : (ns : List ℕ) (v : List ℕ) (step : ℕ) → ((names : ℕ) → Refers w names [] nodes ns v true)
-      → ((xs : List QueryStmt) → 0 < sizeW (byteW s at) → (sizeW (byteW s at) ≡ step) × (stmtNodes (statementAt s at ∷ xs) ≡ ns ++ stmtNodes xs)) → Stating s w₀ from nodes (at + step) v
+      → ((xs : List QueryStmt) → 0 < sizeW (byteW s at) → (sizeW (byteW s at) ≡ step) × (stmtNodes (statementAt s at ∷ xs) ≡ ns ++ stmtNodes xs))
+      → Stating s w₀ from nodes (at + step) v
   goes-with ns v step r all = record {
     to = λ names stmts f.
         let g = t .to names stmts f in
@@ -115,17 +117,20 @@ module _ {s w₀ : List ℕ} {from nodes at : ℕ} {w : List ℕ} (t : Stating s
   }
 
   pub state-one : (v : List ℕ) → 1 ≤ byteW s at → byteW s at < 3 → NamesNode w (halfW s (at + 1)) nodes v true → Stating s w₀ from nodes (at + 3) v
-  state-one v a b n = goes-with (halfW s (at + 1) ∷ []) v 3 (n .is) (λ xs h. (size-one (byteW s at) a b, nodes-one (byteW s at) (halfW s (at + 1)) (halfW s (at + 3)) xs a b))
+  state-one v a b n = goes-with (halfW s (at + 1) ∷ []) v 3 (n .is)
+      (λ xs h. (size-one (byteW s at) a b, nodes-one (byteW s at) (halfW s (at + 1)) (halfW s (at + 3)) xs a b))
 
   module _ (a : byteW s at ≡ 1 → ⊥) (b : byteW s at ≡ 2 → ⊥) (v : List ℕ) (n : NamesNode w (halfW s (at + 1)) nodes v true) (u : List ℕ) where
     both-nodes : (r : Bool) → NamesNode v (halfW s (at + 3)) nodes u r → (names : ℕ) → Refers w names [] nodes (halfW s (at + 1) ∷ halfW s (at + 3) ∷ []) u r
     both-nodes r m names = refers-then names nodes (n .is names) (m .is names)
 
     pub state-no-second : NamesNode v (halfW s (at + 3)) nodes u false → NamesStatements s w₀ from nodes u false
-    state-no-second m = fails-with (halfW s (at + 1) ∷ halfW s (at + 3) ∷ []) u (both-nodes false m) (λ xs h. (stmtNodes xs, nodes-two (byteW s at) (halfW s (at + 1)) (halfW s (at + 3)) xs a b h))
+    state-no-second m = fails-with (halfW s (at + 1) ∷ halfW s (at + 3) ∷ []) u (both-nodes false m)
+        (λ xs h. (stmtNodes xs, nodes-two (byteW s at) (halfW s (at + 1)) (halfW s (at + 3)) xs a b h))
 
     pub state-two : NamesNode v (halfW s (at + 3)) nodes u true → Stating s w₀ from nodes (at + 5) u
-    state-two m = goes-with (halfW s (at + 1) ∷ halfW s (at + 3) ∷ []) u 5 (both-nodes true m) (λ xs h. (size-two (byteW s at) a b h, nodes-two (byteW s at) (halfW s (at + 1)) (halfW s (at + 3)) xs a b h))
+    state-two m = goes-with (halfW s (at + 1) ∷ halfW s (at + 3) ∷ []) u 5 (both-nodes true m)
+        (λ xs h. (size-two (byteW s at) a b h, nodes-two (byteW s at) (halfW s (at + 1)) (halfW s (at + 3)) xs a b h))
 
 pub state-end : {s w₀ : List ℕ} {from nodes at : ℕ} {w : List ℕ} → Stating s w₀ from nodes at w → length s ≤ at → NamesStatements s w₀ from nodes w true
 unfolding stmtNodes

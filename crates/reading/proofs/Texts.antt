@@ -67,7 +67,8 @@ module _ {f : List ℕ} {a b i : ℕ} (m : Matching f a b i) where
   pub match-closes : getD f (a + i) 0 ≡ getD f (b + i) 0 → getD f (a + i) 0 ≡ LF → SameLine f a b true
   match-closes e z = record {
     is = λ s t p q.
-        let same = same-bytes f a b i s t (line-spells f a s p) (line-spells f b t q) (λ k l. below-more (λ k. getD f (a + k) 0 ≡ getD f (b + k) 0) i (m .same) e k (omega arith)) z in
+        let same = same-bytes f a b i s t (line-spells f a s p) (line-spells f b t q)
+        (λ k l. below-more (λ k. getD f (a + k) 0 ≡ getD f (b + k) 0) i (m .same) e k (omega arith)) z in
         sym (subst (λ u. sameText s u ≡ true) same (text-same s));
   }
 
@@ -95,7 +96,8 @@ eight-same f x y h =
 pub eight-differ : (f : List ℕ) (a b n i : ℕ) → i + 8 ≤ n → (eightAt f (a + i) ≡ eightAt f (b + i) → ⊥) → Differ f a b n i
 eight-differ f a b n i h ne = record {
   is = λ e s l p q.
-      ne (eight-same f (a + i) (b + i) (λ k m. rw (plus a i k, plus b i k) (same-digits f s a b (line-takes f a s p .is) (line-takes f b s q .is) (i + k) (omega arith))));
+      ne (eight-same f (a + i) (b + i) (λ k m. rw (plus a i k, plus b i k)
+      (same-digits f s a b (line-takes f a s p .is) (line-takes f b s q .is) (i + k) (omega arith))));
 }
   where
     plus : (x m k : ℕ) → x + m + k ≡ x + (m + k)
@@ -105,7 +107,8 @@ eight-differ f a b n i h ne = record {
 
 module _ (f : List ℕ) (x at chars digits : ℕ) where
   -- no text has both the name's word and the line
-  unlike : ((s : List ℕ) → lineAt f (x / 512) ≡ some (0x02 ∷ s) → x % 512 ≡ countOf (characters s) → NameLine f at chars digits s → ⊥) → SameName f x at chars digits false
+  unlike : ((s : List ℕ) → lineAt f (x / 512) ≡ some (0x02 ∷ s) → x % 512 ≡ countOf (characters s) → NameLine f at chars digits s → ⊥)
+      → SameName f x at chars digits false
   unlike n = record {
     is = λ s t p c l. cases (sameText s t) (λ e. absurd (n s p c (subst (NameLine f at chars digits) (sym (same-text s t e)) l))) (λ e. sym e);
   }
@@ -138,7 +141,8 @@ same-swapped (a ∷ s) (b ∷ t) = rw (eqb-swapped a b, same-swapped s t)
 -- What is left to look at from name j on.
 pub record Looking (f w : List ℕ) (n at chars digits j : ℕ) : Type 0 where
   pub within : j ≤ n
-  pub to : (value : ℕ) (names : List (List ℕ)) (s : List ℕ) → NamesHeld f w n value names → NameLine f at chars digits s → given names s ≡ anyOf (sameText s) (drop j names)
+  pub to : (value : ℕ) (names : List (List ℕ)) (s : List ℕ) → NamesHeld f w n value names → NameLine f at chars digits s
+      → given names s ≡ anyOf (sameText s) (drop j names)
 
 pub look-start : (f w : List ℕ) (n at chars digits : ℕ) → Looking f w n at chars digits 0
 unfolding given
@@ -146,13 +150,15 @@ look-start f w n at chars digits = record { within = omega arith; to = λ v name
 
 module _ {f w : List ℕ} {n at chars digits j : ℕ} (g : Looking f w n at chars digits j) where
   module _ (here : j < n) {r : Bool} (same : SameName f (getD w (NAMES + j) 0) at chars digits r) where
-    at-name : (v : ℕ) (names : List (List ℕ)) (s : List ℕ) → NamesHeld f w n v names → NameLine f at chars digits s → given names s ≡ elim r [ true ↦ true | false ↦ anyOf (sameText s) (drop (j + 1) names) ]
+    at-name : (v : ℕ) (names : List (List ℕ)) (s : List ℕ) → NamesHeld f w n v names → NameLine f at chars digits s
+        → given names s ≡ elim r [ true ↦ true | false ↦ anyOf (sameText s) (drop (j + 1) names) ]
     unfolding anyOf
     at-name v names s h l =
         let b : j < length names = omega (arith, h .count) in
         let e : drop j names ≡ getD names j [] ∷ drop (j + 1) names = rw add-one (drop-cons names j [] b) in
         let q : r ≡ sameText (getD names j []) s = same .is (getD names j []) s (h .name j b) (h .characters j b) l in
-        g .to v names s h l ∙ ap (anyOf (sameText s)) e ∙ ap (λ t. elim t [ true ↦ true | false ↦ anyOf (sameText s) (drop (j + 1) names) ]) (same-swapped s (getD names j []) ∙ sym q)
+        g .to v names s h l ∙ ap (anyOf (sameText s)) e ∙ ap (λ t. elim t [ true ↦ true | false ↦ anyOf (sameText s) (drop (j + 1) names) ])
+        (same-swapped s (getD names j []) ∙ sym q)
 
     pub look-found : r ≡ true → GivenBefore f w n at chars digits true
     look-found e = record { is = λ v names s h l. sym (at-name v names s h l ∙ rw e) }
@@ -162,7 +168,10 @@ module _ {f w : List ℕ} {n at chars digits j : ℕ} (g : Looking f w n at char
 
   pub look-none : n ≤ j → GivenBefore f w n at chars digits false
   unfolding anyOf
-  look-none h = record { is = λ v names s held l. sym (g .to v names s held l ∙ ap (anyOf (sameText s)) (let past : length names ≤ j = omega (arith, held .count) in drop-of-length-le names past)) }
+  look-none h = record {
+    is = λ v names s held l. sym
+        (g .to v names s held l ∙ ap (anyOf (sameText s)) (let past : length names ≤ j = omega (arith, held .count) in drop-of-length-le names past));
+  }
 
 -- ---- The name `value`
 
@@ -184,5 +193,6 @@ value-short s l n = cases (sameText valueText (drop 1 s))
 
 pub value-same : (s : List ℕ) → length s ≡ 6 → ((i : ℕ) → i < 5 → getD s (1 + i) 0 ≡ getD valueText i 0) → true ≡ sameText valueText (drop 1 s)
 value-same s n h =
-    let e : valueText ≡ drop 1 s = ext-getD 0 valueText (drop 1 s) (value-length ∙ omega (arith, length-drop 1 s)) (λ i l. sym (getD-drop 1 s i 0 ∙ h i (omega (arith, value-length)))) in
+    let e : valueText ≡ drop 1 s = ext-getD 0 valueText (drop 1 s) (value-length ∙ omega (arith, length-drop 1 s))
+    (λ i l. sym (getD-drop 1 s i 0 ∙ h i (omega (arith, value-length)))) in
     sym (subst (λ t. sameText valueText t ≡ true) e (text-same valueText))

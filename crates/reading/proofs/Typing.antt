@@ -18,7 +18,8 @@ use Rattle.cells.specs.Stands.{Rows}
 use Rattle.meaning.specs.Syntax.{Field}
 use Rattle.meaning.specs.Refusal as Refused
 use Rattle.meaning.specs.Frame as Frame
-use Rattle.meaning.specs.Frame.{Frame, aType, TypeShape, aLeaf, aRecord, aUnion, Alternative, Got, got, fails, Reader, andThen, nothing, one, two, many, field, alternative, entry, typeShapes, mayStand, kindByte, frameKind, frame, whole, frameOf}
+use Rattle.meaning.specs.Frame.{Frame, aType, TypeShape, aLeaf, aRecord, aUnion, Alternative, Got, got, fails, Reader, andThen, nothing, one, two, many}
+use Rattle.meaning.specs.Frame.{field, alternative, entry, typeShapes, mayStand, kindByte, frameKind, frame, whole, frameOf}
 use Rattle.meaning.specs.References.{fieldNames, fieldValues, shapeNames, shapeTypes, shapeKeys, textsOf, nameRefs, typeRefs, nodeRefs, keysOf}
 use Rattle.meaning.specs.SoFar.{SoFar, add, frames}
 use Rattle.meaning.specs.Conditions.{anyOf, allBelow, again, refersEarlier, refersBadly, conditions, firstOf}
@@ -48,7 +49,8 @@ map-items g v n i zero = refl
 map-items g v n i (suc k) = ap (λ l. g (v i) ∷ l) (map-items g v n (i + n) k)
 
 -- What a reader of one size got is what stands there.
-pub sized-got : {A : Type 0} {r : Reader A} {n : ℕ} {v : List ℕ → ℕ → A} → Sized r n v → (s : List ℕ) (i : ℕ) (a : A) (t : List ℕ) → i ≤ length s → r (drop i s) ≡ got a t → a ≡ v s i
+pub sized-got : {A : Type 0} {r : Reader A} {n : ℕ} {v : List ℕ → ℕ → A} → Sized r n v → (s : List ℕ) (i : ℕ) (a : A) (t : List ℕ) → i ≤ length s
+    → r (drop i s) ≡ got a t → a ≡ v s i
 sized-got {n = n} p s i a t l e = cases (ltb (length s) (i + n))
     (λ q. let x = p .lacks s i l (ltb-true (length s) (i + n) q) in let z : _≡_ {A = ℕ} 0 1 = cc in absurd (omega arith))
     (λ q. let x = p .reads s i (ltb-false (length s) (i + n) q) in cc)
@@ -143,11 +145,14 @@ or-none true = refl
 or-none false = refl
 
 -- A type refers badly exactly where a part's name or type is not there.
-type-refers : (so : SoFar) (t : TypeShape) → refersBadly so (aType t) ≡ not (both (allBelow (length (so .names)) (shapeNames t)) (allBelow (length (so .types)) (shapeTypes t)))
+type-refers : (so : SoFar) (t : TypeShape) → refersBadly so (aType t) ≡ not
+    (both (allBelow (length (so .names)) (shapeNames t)) (allBelow (length (so .types)) (shapeTypes t)))
 unfolding refersBadly refersEarlier nameRefs typeRefs nodeRefs allBelow again
-type-refers so t = or-none (not (both (allBelow (length (so .names)) (shapeNames t)) (both (allBelow (length (so .types)) (shapeTypes t)) true))) ∙ ap (λ b. not (both (allBelow (length (so .names)) (shapeNames t)) b)) (both-all (allBelow (length (so .types)) (shapeTypes t)))
+type-refers so t = or-none (not (both (allBelow (length (so .names)) (shapeNames t)) (both (allBelow (length (so .types)) (shapeTypes t)) true))) ∙ ap
+    (λ b. not (both (allBelow (length (so .names)) (shapeNames t)) b)) (both-all (allBelow (length (so .types)) (shapeTypes t)))
 
-module _ (ed : Edition) {f : List ℕ} {at next : ℕ} {s w : List ℕ} {T : Rows} {c : Counters} {previous : ℕ} {so : SoFar} {fr : Frame} (h : Held ed f at w T c previous so) (l : Line f at next s) (k : Comes ed so Frame.schemaType s fr) (t : TypeShape) (is : fr ≡ aType t) where
+module _ (ed : Edition) {f : List ℕ} {at next : ℕ} {s w : List ℕ} {T : Rows} {c : Counters} {previous : ℕ} {so : SoFar} {fr : Frame}
+    (h : Held ed f at w T c previous so) (l : Line f at next s) (k : Comes ed so Frame.schemaType s fr) (t : TypeShape) (is : fr ≡ aType t) where
   as-type : (o : Option Refused.Refusal) → firstOf conditions so (frames (aType t)) ≡ o → firstOf conditions so (frames fr) ≡ o
   as-type o e = subst (λ x. firstOf conditions so (frames x) ≡ o) (sym is) e
 
@@ -158,15 +163,18 @@ module _ (ed : Edition) {f : List ℕ} {at next : ℕ} {s w : List ℕ} {T : Row
   unfolding frameKind textsOf anyOf keysOf mayStand kindByte
   type-goes w′ r q fits e =
       let b = begun (so .previous) Frame.schemaType (k .placed) refl in
-      let there : allBelow (length (so .types)) (shapeTypes t) ≡ true = both-right (allBelow (length (so .names)) (shapeNames t)) (allBelow (length (so .types)) (shapeTypes t)) (not-false _ (sym (type-refers so t) ∙ r)) in
+      let there : allBelow (length (so .types)) (shapeTypes t) ≡ true = both-right (allBelow (length (so .names)) (shapeNames t))
+      (allBelow (length (so .types)) (shapeTypes t)) (not-false _ (sym (type-refers so t) ∙ r)) in
       goes-on ed f next w′ 2 (add so fr) (withType c (length (shapeWords t))) (withRow T (length (so .types)) (shapeRow (so .types) t)) _
       (as-type none (first-none so (aType t) (k .placed) (k .room) (k .turn) refl refl r q))
-      (rw (is, e) (type-held ed h next (omega (arith, l .on)) (l .within) t (b .0) (k .placed) (b .1) (types-room so (k .room)) (below-all (length (so .types)) (shapeTypes t) there) fits))
+      (rw (is, e) (type-held ed h next (omega (arith, l .on)) (l .within) t (b .0) (k .placed) (b .1) (types-room so (k .room))
+      (below-all (length (so .types)) (shapeTypes t) there) fits))
 
   module _ (size : ℕ) (p : PartsAre s size t) where
     earlier-is : (r : Bool) → PartsEarlier s size (c .names) (c .types) r → refersBadly so (aType t) ≡ not r
     earlier-is r e =
-        let q : both (allBelow (length (so .names)) (shapeNames t)) (allBelow (length (so .types)) (shapeTypes t)) ≡ r = rw (p .names, p .types, ← h .names .count, ← h .types .count) (sym (e .is (p .count) (p .fit))) in
+        let q : both (allBelow (length (so .names)) (shapeNames t)) (allBelow (length (so .types)) (shapeTypes t)) ≡ r = rw
+        (p .names, p .types, ← h .names .count, ← h .types .count) (sym (e .is (p .count) (p .fit))) in
         type-refers so t ∙ ap not q
 
     keys-are : (r : Bool) → KeysDistinct s size r → again [] (shapeKeys t) ≡ not r
@@ -178,17 +186,21 @@ module _ (ed : Edition) {f : List ℕ} {at next : ℕ} {s w : List ℕ} {T : Row
 
     type-bad : PartsEarlier s size (c .names) (c .types) false → Steps ed f next w 2 (add so fr) (Off Refusal.BadReference) (firstOf conditions so (frames fr))
     unfolding frameKind textsOf anyOf
-    type-bad e = refuses ed f next w 2 (add so fr) Refusal.BadReference _ (as-type _ (first-bad so (aType t) (k .placed) (k .room) (k .turn) refl refl (earlier-is false e)))
+    type-bad e = refuses ed f next w 2 (add so fr) Refusal.BadReference _
+        (as-type _ (first-bad so (aType t) (k .placed) (k .room) (k .turn) refl refl (earlier-is false e)))
 
-    type-repeats : PartsEarlier s size (c .names) (c .types) true → KeysDistinct s size false → Steps ed f next w 2 (add so fr) (Off Refusal.RepeatedKey) (firstOf conditions so (frames fr))
+    type-repeats : PartsEarlier s size (c .names) (c .types) true → KeysDistinct s size false
+        → Steps ed f next w 2 (add so fr) (Off Refusal.RepeatedKey) (firstOf conditions so (frames fr))
     unfolding frameKind textsOf anyOf keysOf
-    type-repeats e d = refuses ed f next w 2 (add so fr) Refusal.RepeatedKey _ (as-type _ (first-repeated so (aType t) (k .placed) (k .room) (k .turn) refl refl (earlier-is true e) (keys-are false d)))
+    type-repeats e d = refuses ed f next w 2 (add so fr) Refusal.RepeatedKey _
+        (as-type _ (first-repeated so (aType t) (k .placed) (k .room) (k .turn) refl refl (earlier-is true e) (keys-are false d)))
 
 -- ---- The ends of a type line
 
 -- One more type whose words are these.
 module _ (ed : Edition) (s w : List ℕ) (c : Counters) (w′ : List ℕ) (r : Step) where
-  pub leaf-takes : (p : Leaf) (shape : ℕ) → getElem? (typeShapes ed) shape ≡ some (nothing (aLeaf p)) → 2 ≤ length s → AddsType w c (leafTag p) (leafPayload p) 0 w′ r → TakesType ed shape s w c w′ r
+  pub leaf-takes : (p : Leaf) (shape : ℕ) → getElem? (typeShapes ed) shape ≡ some (nothing (aLeaf p)) → 2 ≤ length s
+      → AddsType w c (leafTag p) (leafPayload p) 0 w′ r → TakesType ed shape s w c w′ r
   unfolding shapeKeys again refersBadly refersEarlier nameRefs typeRefs nodeRefs shapeNames shapeTypes allBelow kindByte
   leaf-takes p shape q long a = record {
     is = λ f at e. record {
@@ -202,20 +214,32 @@ module _ (ed : Edition) (s w : List ℕ) (c : Counters) (w′ : List ℕ) (r : S
   fact-takes n e long a = record {
     is = λ f at b. record {
       is = λ next T previous so fr h l k.
-          rw (a .step) (type-goes ed h l k (aLeaf (Fact (referenceW ed s 2))) (fact-is ed so s fr long k b) w′ refl refl (omega (arith, h .room, l .on)) (rw e at (a .words)));
+          rw (a .step) (type-goes ed h l k (aLeaf (Fact (referenceW ed s 2))) (fact-is ed so s fr long k b) w′ refl refl
+          (omega (arith, h .room, l .on)) (rw e at (a .words)));
     };
   }
 
 module _ (ed : Edition) (s w : List ℕ) (c : Counters) (long : 2 ≤ length s) where
   pub record-bad : PartsEarlier s 4 (c .names) (c .types) false → TakesType ed 4 s w c w (Off Refusal.BadReference)
   unfolding kindByte
-  record-bad e = record { is = λ f at b. record { is = λ next T previous so fr h l k. let x = record-is ed so s fr long k b in type-bad ed h l k (aRecord (x .0)) (x .1) 4 (fields-parts s (x .0) (x .2)) e } }
+  record-bad e = record {
+    is = λ f at b. record {
+      is = λ next T previous so fr h l k. let x = record-is ed so s fr long k b in type-bad ed h l k (aRecord (x .0)) (x .1) 4
+          (fields-parts s (x .0) (x .2)) e;
+    };
+  }
 
   pub record-repeats : PartsEarlier s 4 (c .names) (c .types) true → KeysDistinct s 4 false → TakesType ed 4 s w c w (Off Refusal.RepeatedKey)
   unfolding kindByte
-  record-repeats e d = record { is = λ f at b. record { is = λ next T previous so fr h l k. let x = record-is ed so s fr long k b in type-repeats ed h l k (aRecord (x .0)) (x .1) 4 (fields-parts s (x .0) (x .2)) e d } }
+  record-repeats e d = record {
+    is = λ f at b. record {
+      is = λ next T previous so fr h l k. let x = record-is ed so s fr long k b in type-repeats ed h l k (aRecord (x .0)) (x .1) 4
+          (fields-parts s (x .0) (x .2)) e d;
+    };
+  }
 
-  pub record-takes : (v w′ : List ℕ) (r : Step) (n : ℕ) → n ≡ (length s - 2) / 4 → PartsEarlier s 4 (c .names) (c .types) true → KeysDistinct s 4 true → PutsFields s w (c .fields) v → AddsType v c (n * 16 + 5) (c .fields) n w′ r → TakesType ed 4 s w c w′ r
+  pub record-takes : (v w′ : List ℕ) (r : Step) (n : ℕ) → n ≡ (length s - 2) / 4 → PartsEarlier s 4 (c .names) (c .types) true → KeysDistinct s 4 true
+      → PutsFields s w (c .fields) v → AddsType v c (n * 16 + 5) (c .fields) n w′ r → TakesType ed 4 s w c w′ r
   unfolding kindByte
   record-takes v w′ r n m e d p a = record {
     is = λ f at b. record {
@@ -226,21 +250,34 @@ module _ (ed : Edition) (s w : List ℕ) (c : Counters) (long : 2 ≤ length s) 
           let fit = x .2 .fit in
           let count : n ≡ length fs = omega arith in
           let len : length (map fieldWord fs) ≡ length fs = length-map fs fieldWord in
-          let words : v ≡ sets w (FIELDS + c .fields) (map fieldWord fs) = p .is (length fs) fit ∙ ap (λ t. sets w (FIELDS + c .fields) (map fieldWord t)) (sym (x .2 .are)) in
-          let q = type-goes ed h l k (aRecord fs) (x .1) w′ (earlier-is ed h l k (aRecord fs) (x .1) 4 y true e) (keys-are ed h l k (aRecord fs) (x .1) 4 y true d) (omega (arith, h .room, l .on)) (rw (words, count) at (a .words)) in
+          let words : v ≡ sets w (FIELDS + c .fields) (map fieldWord fs) = p .is (length fs) fit ∙ ap
+          (λ t. sets w (FIELDS + c .fields) (map fieldWord t)) (sym (x .2 .are)) in
+          let q = type-goes ed h l k (aRecord fs) (x .1) w′ (earlier-is ed h l k (aRecord fs) (x .1) 4 y true e)
+          (keys-are ed h l k (aRecord fs) (x .1) 4 y true d) (omega (arith, h .room, l .on)) (rw (words, count) at (a .words)) in
           rw (a .step, count, ← len) q;
     };
   }
 
   pub union-bad : PartsEarlier s 8 (c .names) (c .types) false → TakesType ed 5 s w c w (Off Refusal.BadReference)
   unfolding kindByte
-  union-bad e = record { is = λ f at b. record { is = λ next T previous so fr h l k. let x = union-is ed so s fr long k b in type-bad ed h l k (aUnion (x .0)) (x .1) 8 (alternatives-parts s (x .0) (x .2)) e } }
+  union-bad e = record {
+    is = λ f at b. record {
+      is = λ next T previous so fr h l k. let x = union-is ed so s fr long k b in type-bad ed h l k (aUnion (x .0)) (x .1) 8
+          (alternatives-parts s (x .0) (x .2)) e;
+    };
+  }
 
   pub union-repeats : PartsEarlier s 8 (c .names) (c .types) true → KeysDistinct s 8 false → TakesType ed 5 s w c w (Off Refusal.RepeatedKey)
   unfolding kindByte
-  union-repeats e d = record { is = λ f at b. record { is = λ next T previous so fr h l k. let x = union-is ed so s fr long k b in type-repeats ed h l k (aUnion (x .0)) (x .1) 8 (alternatives-parts s (x .0) (x .2)) e d } }
+  union-repeats e d = record {
+    is = λ f at b. record {
+      is = λ next T previous so fr h l k. let x = union-is ed so s fr long k b in type-repeats ed h l k (aUnion (x .0)) (x .1) 8
+          (alternatives-parts s (x .0) (x .2)) e d;
+    };
+  }
 
-  pub union-takes : (v w′ : List ℕ) (r : Step) (n : ℕ) → n ≡ (length s - 2) / 8 → PartsEarlier s 8 (c .names) (c .types) true → KeysDistinct s 8 true → PutsAlternatives s w (c .fields) v → AddsType v c (n * 16 + 6) (c .fields) (n * 2) w′ r → TakesType ed 5 s w c w′ r
+  pub union-takes : (v w′ : List ℕ) (r : Step) (n : ℕ) → n ≡ (length s - 2) / 8 → PartsEarlier s 8 (c .names) (c .types) true → KeysDistinct s 8 true
+      → PutsAlternatives s w (c .fields) v → AddsType v c (n * 16 + 6) (c .fields) (n * 2) w′ r → TakesType ed 5 s w c w′ r
   unfolding kindByte
   union-takes v w′ r n m e d p a = record {
     is = λ f at b. record {
@@ -252,8 +289,10 @@ module _ (ed : Edition) (s w : List ℕ) (c : Counters) (long : 2 ≤ length s) 
           let count : n ≡ length alts = omega arith in
           let len = alternative-words alts in
           let twice : n * 2 ≡ length (alternativeWords alts) = omega arith in
-          let words : v ≡ sets w (FIELDS + c .fields) (alternativeWords alts) = p .is (length alts) fit ∙ ap (λ t. sets w (FIELDS + c .fields) (alternativeWords t)) (sym (x .2 .are)) in
-          let q = type-goes ed h l k (aUnion alts) (x .1) w′ (earlier-is ed h l k (aUnion alts) (x .1) 8 y true e) (keys-are ed h l k (aUnion alts) (x .1) 8 y true d) (omega (arith, h .room, l .on)) (rw (words, count) at (a .words)) in
+          let words : v ≡ sets w (FIELDS + c .fields) (alternativeWords alts) = p .is (length alts) fit ∙ ap
+          (λ t. sets w (FIELDS + c .fields) (alternativeWords t)) (sym (x .2 .are)) in
+          let q = type-goes ed h l k (aUnion alts) (x .1) w′ (earlier-is ed h l k (aUnion alts) (x .1) 8 y true e)
+          (keys-are ed h l k (aUnion alts) (x .1) 8 y true d) (omega (arith, h .room, l .on)) (rw (words, count) at (a .words)) in
           rw (a .step, twice) q;
     };
   }
@@ -273,14 +312,16 @@ no-shape ed so s fr long k h =
     let z : _≡_ {A = ℕ} 0 1 = cc in
     omega arith
 
-pub other-takes : (ed : Edition) (s w : List ℕ) (c : Counters) (w′ : List ℕ) (r : Step) → 2 ≤ length s → 5 ≤ byteW s 1 → TakesType ed 5 s w c w′ r → TakesAnywhere ed Frame.schemaType s w c w′ r
+pub other-takes : (ed : Edition) (s w : List ℕ) (c : Counters) (w′ : List ℕ) (r : Step) → 2 ≤ length s → 5 ≤ byteW s 1 → TakesType ed 5 s w c w′ r
+    → TakesAnywhere ed Frame.schemaType s w c w′ r
 other-takes ed s w c w′ r long h t = record {
   is = λ f at. cases (ltb 5 (byteW s 1))
       (λ q. record { is = λ next T previous so fr held l k. absurd (no-shape ed so s fr long k (ltb-true 5 (byteW s 1) q)) })
       (λ q. t .is f at (omega (arith, ltb-false 5 (byteW s 1) q)));
 }
 
-pub shape-takes : (ed : Edition) (shape : ℕ) (s w : List ℕ) (c : Counters) (w′ : List ℕ) (r : Step) → byteW s 1 ≡ shape → TakesType ed shape s w c w′ r → TakesAnywhere ed Frame.schemaType s w c w′ r
+pub shape-takes : (ed : Edition) (shape : ℕ) (s w : List ℕ) (c : Counters) (w′ : List ℕ) (r : Step) → byteW s 1 ≡ shape
+    → TakesType ed shape s w c w′ r → TakesAnywhere ed Frame.schemaType s w c w′ r
 shape-takes ed shape s w c w′ r e t = record { is = λ f at. t .is f at e }
 
 pub int-takes : (ed : Edition) (s w : List ℕ) (c : Counters) (w′ : List ℕ) (r : Step) → 2 ≤ length s → AddsType w c 1 0 0 w′ r → TakesType ed 0 s w c w′ r

@@ -127,7 +127,10 @@ module _ {s : List ℕ} {size i : ℕ} (t : Telling s size i) (here : i < length
   tell-next e = record {
     past = suc (t .past);
     at = omega (arith, t .at, suc-mul (t .past) size);
-    walk = walk-next (t .walk) here (λ m. ap not (again-next (keys s size 2 (t .past)) (keyW s size i) (keys s size (i + size) m) (sym (b .is (t .past) (t .at)) ∙ e) ∙ again-same (keyW s size i ∷ keys s size 2 (t .past)) (keys s size 2 (suc (t .past))) (keys s size (i + size) m) (λ n. among-last n (keyW s size i) (keys s size 2 (t .past)) ∙ ap (among n) last)));
+    walk = walk-next (t .walk) here (λ m. ap not
+        (again-next (keys s size 2 (t .past)) (keyW s size i) (keys s size (i + size) m) (sym (b .is (t .past) (t .at)) ∙ e) ∙ again-same
+        (keyW s size i ∷ keys s size 2 (t .past)) (keys s size 2 (suc (t .past))) (keys s size (i + size) m)
+        (λ n. among-last n (keyW s size i) (keys s size 2 (t .past)) ∙ ap (among n) last)));
   }
     where
       last : keys s size 2 (t .past) ++ keyW s size i ∷ [] ≡ keys s size 2 (suc (t .past))
@@ -135,7 +138,11 @@ module _ {s : List ℕ} {size i : ℕ} (t : Telling s size i) (here : i < length
 
   pub tell-repeats : r ≡ true → KeysDistinct s size false
   unfolding itemsAt again
-  tell-repeats e = record { is = λ k q. sym (walk-stop (t .walk) false here (λ m. ap not (again-here (keys s size 2 (t .past)) (keyW s size i) (keys s size (i + size) m) (sym (b .is (t .past) (t .at)) ∙ e))) k q) }
+  tell-repeats e = record {
+    is = λ k q. sym
+        (walk-stop (t .walk) false here (λ m. ap not
+        (again-here (keys s size 2 (t .past)) (keyW s size i) (keys s size (i + size) m) (sym (b .is (t .past) (t .at)) ∙ e))) k q);
+  }
 
 pub tell-end : {s : List ℕ} {size i : ℕ} → Telling s size i → length s ≤ i → 0 < size → KeysDistinct s size true
 unfolding itemsAt again
@@ -186,7 +193,8 @@ module _ {s : List ℕ} {i : ℕ} {seen : List ℕ} (m : Seen s i seen) {x : ℕ
       go (suc n) q y l =
           let at : 2 + n * 4 ≡ i = omega (arith, suc-mul n 4) in
           cases (eqb y x)
-          (λ t. ap (λ b. eqb b 1) (ap (λ j. getD (set seen x 1) j 0) (eqb-true y x t) ∙ getD-set-same seen x 1 0 (omega (arith, m .long))) ∙ sym (last-key n y at ∙ rw (t, anyOf)))
+          (λ t. ap (λ b. eqb b 1) (ap (λ j. getD (set seen x 1) j 0) (eqb-true y x t) ∙ getD-set-same seen x 1 0 (omega (arith, m .long))) ∙ sym
+          (last-key n y at ∙ rw (t, anyOf)))
           (λ f. ap (λ b. eqb b 1) (getD-set-other seen x y 1 0 (eqb-false y x f)) ∙ (m .is n at y l ∙ sym (last-key n y at ∙ rw (f, anyOf))))
 
 -- ---- Words

@@ -39,7 +39,11 @@ same-unlined = record { at = λ i l k. refl }
 module _ {f w w′ : List ℕ} {T : Rows} {d : Described} {c : Checker} (sound : Sound d) (R : Runs f w T d c) (K : Keeps PLACE AFTER-LEFT w w′) where
   place-aside : SameState w w′
   place-aside = record {
-    cells = record { said = λ i h. K .below i (omega arith); made = λ i l h. K .above i (omega arith); unknowns = omega (arith, K .below UNKNOWNS (omega arith)) };
+    cells = record {
+      said = λ i h. K .below i (omega arith);
+      made = λ i l h. K .above i (omega arith);
+      unknowns = omega (arith, K .below UNKNOWNS (omega arith));
+    };
     slots = record { unknowns = K .below UNKNOWNS (omega arith); at = λ i l h. K .above i (omega arith); long = K .long };
   }
 
@@ -141,7 +145,8 @@ module _ {f w o w′ o′ : List ℕ} {T : Rows} {d : Described} {c : Checker} (
         go : {w′ : List ℕ} {r : Done} → Halts (countedW (X .between)) left w′ r → (r ≡ Done.Out) × Told d w′ o′ after left
         go (goes-on z) = absurd (omega (arith, z, one))
         go (ends-here z) =
-            let K : Keeps LEFT AFTER-LEFT (countedW (X .between)) (set (countedW (X .between)) LEFT left) = keeps-set (countedW (X .between)) LEFT left (omega arith) (omega arith) in (
+            let K : Keeps LEFT AFTER-LEFT (countedW (X .between)) (set (countedW (X .between)) LEFT left) = keeps-set (countedW (X .between)) LEFT
+            left (omega arith) (omega arith) in (
               refl,
               record {
                 lines = lines-same (λ i l h. K .below i (omega arith)) (counted-told .lines);

@@ -9,7 +9,8 @@ use Rattle.cells.specs.declared.Ty.{Ty}
 use Rattle.cells.specs.Stands.{Rows}
 use Rattle.cells.specs.Inferred.{reserveW, putFieldW, newRecordW, Reserved, rowsWith, Filled}
 use Rattle.cells.proofs.Frame.{more-refl}
-use Rattle.cells.proofs.Making.{adds-old, reserve-other, reserve-keeps, reserve-count, reserve-adds, reserve-holds, put-field-keeps, put-field-old, put-field-holds, new-record-other, new-record-keeps, new-record-old, new-record-more, new-record-holds}
+use Rattle.cells.proofs.Making.{adds-old, reserve-other, reserve-keeps, reserve-count, reserve-adds, reserve-holds, put-field-keeps, put-field-old}
+use Rattle.cells.proofs.Making.{put-field-holds, new-record-other, new-record-keeps, new-record-old, new-record-more, new-record-holds}
 use Rattle.meaning.specs.Sound.{Sound}
 use Rattle.meaning.specs.File.{Described}
 use Rattle.meaning.specs.Check.{Checker, withState}
@@ -21,7 +22,12 @@ module _ {f w : List ℕ} {T : Rows} {d : Described} {c : Checker} (sound : Soun
     pub reserve-runs : Runs f (reserveW w n) T d c
     unfolding withState
     reserve-runs = runs-state sound R (adds-old (R .holds .cells) (reserve-adds w n room (R .holds .long))) more-refl
-        (record { env = reserve-other w n room ENV-LEN (λ q. omega arith); diagnostics = reserve-other w n room DIAGNOSTIC-COUNT (λ q. omega arith); at = λ i l h. reserve-other w n room i (λ q. omega arith); long = reserve-keeps w n room .long })
+        (record {
+          env = reserve-other w n room ENV-LEN (λ q. omega arith);
+          diagnostics = reserve-other w n room DIAGNOSTIC-COUNT (λ q. omega arith);
+          at = λ i l h. reserve-other w n room i (λ q. omega arith);
+          long = reserve-keeps w n room .long;
+        })
         (reserve-holds w n room (R .holds)) refl
 
     pub reserve-grew : Grew w (reserveW w n) 0 n
@@ -41,7 +47,12 @@ module _ {f w : List ℕ} {T : Rows} {d : Described} {c : Checker} (sound : Soun
     put-field-runs =
         let K = put-field-keeps w i name t fits small in
         runs-state sound R (put-field-old w i name t fits small S low high (R .holds .cells .few-records)) more-refl
-        (record { env = K .below ENV-LEN (omega arith); diagnostics = K .below DIAGNOSTIC-COUNT (omega arith); at = λ j l h. K .above j (omega arith); long = K .long })
+        (record {
+          env = K .below ENV-LEN (omega arith);
+          diagnostics = K .below DIAGNOSTIC-COUNT (omega arith);
+          at = λ j l h. K .above j (omega arith);
+          long = K .long;
+        })
         (put-field-holds w i name t fits small S low high (R .holds .cells .few-records) (R .holds)) refl
 
   module _ (from n : ℕ) (room : getD w RECORD-COUNT 0 < 512) (F : Filled w from n) where
@@ -53,5 +64,10 @@ module _ {f w : List ℕ} {T : Rows} {d : Described} {c : Checker} (sound : Soun
     new-record-runs =
         let other = new-record-other w from n room within in
         runs-state sound R (new-record-old w from n room within (R .holds .long)) (new-record-more w from n room within (R .holds .long) T)
-        (record { env = other ENV-LEN (λ q. omega arith) (λ q. omega arith); diagnostics = other DIAGNOSTIC-COUNT (λ q. omega arith) (λ q. omega arith); at = λ j l h. other j (λ q. omega arith) (λ q. omega arith); long = new-record-keeps w from n room within .long })
+        (record {
+          env = other ENV-LEN (λ q. omega arith) (λ q. omega arith);
+          diagnostics = other DIAGNOSTIC-COUNT (λ q. omega arith) (λ q. omega arith);
+          at = λ j l h. other j (λ q. omega arith) (λ q. omega arith);
+          long = new-record-keeps w from n room within .long;
+        })
         (new-record-holds w from n room within (R .holds .long) (R .holds) F) refl

@@ -35,7 +35,11 @@ module _ (w : List ℕ) (room : getD w DIAGNOSTIC-COUNT 0 < 1536) where
 
   count-aside : SameState w (countedW w)
   count-aside = record {
-    cells = record { said = λ i h. count-other i (λ q. omega arith); made = λ i l h. count-other i (λ q. omega arith); unknowns = omega (arith, count-other UNKNOWNS (λ q. omega arith)) };
+    cells = record {
+      said = λ i h. count-other i (λ q. omega arith);
+      made = λ i l h. count-other i (λ q. omega arith);
+      unknowns = omega (arith, count-other UNKNOWNS (λ q. omega arith));
+    };
     slots = record { unknowns = count-other UNKNOWNS (λ q. omega arith); at = λ i l h. count-other i (λ q. omega arith); long = count-keeps .long };
   }
 

@@ -65,9 +65,15 @@ pub record Quiet (w w′ : List ℕ) : Type 0 where
   pub long : length w′ ≡ length w
 
 pub keeps-quiet : {a e : ℕ} {w w′ : List ℕ} → TYS ≤ a → Keeps a e w w′ → Quiet w w′
-keeps-quiet lo k = record { env = k .below ENV-LEN (omega arith); diagnostics = k .below DIAGNOSTIC-COUNT (omega arith); at = λ i l h. k .below i (omega arith); long = k .long }
+keeps-quiet lo k = record {
+  env = k .below ENV-LEN (omega arith);
+  diagnostics = k .below DIAGNOSTIC-COUNT (omega arith);
+  at = λ i l h. k .below i (omega arith);
+  long = k .long;
+}
 
-pub runs-state : {f w w′ : List ℕ} {T T′ : Rows} {d : Described} {c : Checker} {st : State} → Sound d → Runs f w T d c → OldCells w w′ → More w T T′ → Quiet w w′
+pub runs-state : {f w w′ : List ℕ} {T T′ : Rows} {d : Described} {c : Checker} {st : State} → Sound d → Runs f w T d c → OldCells w w′ → More w T T′
+    → Quiet w w′
     → Holds w′ T′ st → length (st .tys) ≡ length (c .state .tys) → Runs f w′ T′ d (withState c st)
 unfolding withState
 runs-state {f} {w} {w′} {T} {T′} {d} {c} sound R O M Q H nodes = record {
@@ -108,7 +114,12 @@ module _ {f w : List ℕ} {T : Rows} {d : Described} {c : Checker} (sound : Soun
     pub fresh-runs : Runs f (freshW w) T d (withState c (Bindings.fresh (c .state)))
     unfolding Bindings.fresh
     fresh-runs = runs-state sound R (same-old (fresh-cells (R .holds) few) (R .holds .cells)) more-refl
-        (record { env = fresh-word ENV-LEN (λ q. omega arith) (omega arith); diagnostics = fresh-word DIAGNOSTIC-COUNT (λ q. omega arith) (omega arith); at = λ i l h. fresh-word i (λ q. omega arith) (omega arith); long = fresh-length (R .holds) few })
+        (record {
+          env = fresh-word ENV-LEN (λ q. omega arith) (omega arith);
+          diagnostics = fresh-word DIAGNOSTIC-COUNT (λ q. omega arith) (omega arith);
+          at = λ i l h. fresh-word i (λ q. omega arith) (omega arith);
+          long = fresh-length (R .holds) few;
+        })
         (fresh-holds (R .holds) few) refl
 
     pub fresh-grew : Grew w (freshW w) 0 0
@@ -116,7 +127,8 @@ module _ {f w : List ℕ} {T : Rows} {d : Described} {c : Checker} (sound : Soun
 
 -- ---- The environment or the diagnostics alone changed
 pub runs-aside : {f w w′ : List ℕ} {T : Rows} {d : Described} {c c′ : Checker} → Sound d → Runs f w T d c → SameState w w′ → c′ .state ≡ c .state
-    → c′ .env ≡ envOf w′ (getD w′ ENV-LEN 0) → getD w′ ENV-LEN 0 ≤ 512 → length (c′ .diagnostics) ≡ getD w′ DIAGNOSTIC-COUNT 0 → getD w′ DIAGNOSTIC-COUNT 0 ≤ 1536 → Runs f w′ T d c′
+    → c′ .env ≡ envOf w′ (getD w′ ENV-LEN 0) → getD w′ ENV-LEN 0 ≤ 512 → length (c′ .diagnostics) ≡ getD w′ DIAGNOSTIC-COUNT 0
+    → getD w′ DIAGNOSTIC-COUNT 0 ≤ 1536 → Runs f w′ T d c′
 runs-aside {w = w} {w′} sound R S state env few-env diagnostics few-diagnostics = record {
   stands = stands-more w w′ (λ i h. S .cells .said i (omega arith)) more-refl sound (S .slots .long) (R .stands);
   holds = rw state (holds-same S (R .holds));

@@ -53,23 +53,35 @@ module _ (w : List ℕ) (symbol var : ℕ) (room : getD w ENV-LEN 0 < 512) (name
   push-is = rw (lt-ltb many 512 room, lt-ltb symbol 65536 name, lt-ltb var 65536 unknown)
 
   push-other : (j : ℕ) → j ≢ ENV-LEN → j ≢ ENV + many → getD (pushEnvW w symbol var) j 0 ≡ getD w j 0
-  push-other j p q = rw push-is (getD-set-other (set w (ENV + many) (symbol * 65536 + var)) ENV-LEN j (many + 1) 0 p ∙ getD-set-other w (ENV + many) j (symbol * 65536 + var) 0 q)
+  push-other j p q = rw push-is (getD-set-other (set w (ENV + many) (symbol * 65536 + var)) ENV-LEN j (many + 1) 0 p ∙ getD-set-other w (ENV + many) j
+      (symbol * 65536 + var) 0 q)
 
   push-keeps : Keeps RECORD-COUNT END w (pushEnvW w symbol var)
-  push-keeps = rw push-is (keeps-trans (keeps-set w (ENV + many) (symbol * 65536 + var) (omega arith) (omega arith)) (keeps-set (set w (ENV + many) (symbol * 65536 + var)) ENV-LEN (many + 1) (omega arith) (omega arith)))
+  push-keeps = rw push-is (keeps-trans (keeps-set w (ENV + many) (symbol * 65536 + var) (omega arith) (omega arith))
+      (keeps-set (set w (ENV + many) (symbol * 65536 + var)) ENV-LEN (many + 1) (omega arith) (omega arith)))
 
   push-aside : SameState w (pushEnvW w symbol var)
   push-aside = record {
-    cells = record { said = λ i h. push-other i (λ q. omega arith) (λ q. omega arith); made = λ i l h. push-other i (λ q. omega arith) (λ q. omega arith); unknowns = omega (arith, push-other UNKNOWNS (λ q. omega arith) (λ q. omega arith)) };
-    slots = record { unknowns = push-other UNKNOWNS (λ q. omega arith) (λ q. omega arith); at = λ i l h. push-other i (λ q. omega arith) (λ q. omega arith); long = push-keeps .long };
+    cells = record {
+      said = λ i h. push-other i (λ q. omega arith) (λ q. omega arith);
+      made = λ i l h. push-other i (λ q. omega arith) (λ q. omega arith);
+      unknowns = omega (arith, push-other UNKNOWNS (λ q. omega arith) (λ q. omega arith));
+    };
+    slots = record {
+      unknowns = push-other UNKNOWNS (λ q. omega arith) (λ q. omega arith);
+      at = λ i l h. push-other i (λ q. omega arith) (λ q. omega arith);
+      long = push-keeps .long;
+    };
   }
 
   module _ (long : END ≤ length w) where
     push-count : getD (pushEnvW w symbol var) ENV-LEN 0 ≡ suc many
-    push-count = rw (push-is, ← add-one many) (getD-set-same (set w (ENV + many) (symbol * 65536 + var)) ENV-LEN (many + 1) 0 (omega (arith, length-set w (ENV + many) (symbol * 65536 + var))))
+    push-count = rw (push-is, ← add-one many)
+        (getD-set-same (set w (ENV + many) (symbol * 65536 + var)) ENV-LEN (many + 1) 0 (omega (arith, length-set w (ENV + many) (symbol * 65536 + var))))
 
     push-entry : getD (pushEnvW w symbol var) (ENV + many) 0 ≡ symbol * 65536 + var
-    push-entry = rw push-is (getD-set-other (set w (ENV + many) (symbol * 65536 + var)) ENV-LEN (ENV + many) (many + 1) 0 (λ q. omega arith) ∙ getD-set-same w (ENV + many) (symbol * 65536 + var) 0 (omega arith))
+    push-entry = rw push-is (getD-set-other (set w (ENV + many) (symbol * 65536 + var)) ENV-LEN (ENV + many) (many + 1) 0 (λ q. omega arith) ∙
+        getD-set-same w (ENV + many) (symbol * 65536 + var) 0 (omega arith))
 
     push-env : envOf (pushEnvW w symbol var) (getD (pushEnvW w symbol var) ENV-LEN 0) ≡ (symbol, var) ∷ envOf w many
     unfolding envOf
@@ -129,7 +141,8 @@ module _ {f w : List ℕ} {T : Rows} {d : Described} {c : Checker} (sound : Soun
   cut-grew = same-grew (R .holds) (cut-aside .cells) (keeps-set w ENV-LEN n (omega arith) (omega arith))
 
 -- ---- `rollback`
-module _ {f w w′ : List ℕ} {T : Rows} {d : Described} {c : Checker} {mark : ℕ} (sound : Sound d) (R : Runs f w T d c) (B : RollsBack w mark w′) (past : History) where
+module _ {f w w′ : List ℕ} {T : Rows} {d : Described} {c : Checker} {mark : ℕ} (sound : Sound d) (R : Runs f w T d c) (B : RollsBack w mark w′)
+    (past : History) where
   rolled-runs : Runs f w′ T d (withState c (Bindings.rollback (c .state) (record { undo = mark; past = past })))
   unfolding Bindings.rollback withHistory
   rolled-runs = runs-slots sound R (B .keeps) (B .is T (c .state) (R .holds) past) (rewind-nodes (length (c .state .undo) - mark) (c .state .undo) (c .state))
@@ -138,7 +151,8 @@ module _ {f w w′ : List ℕ} {T : Rows} {d : Described} {c : Checker} {mark : 
     still : n ≤ getD w′ ENV-LEN 0
     still = omega (arith, B .keeps .below ENV-LEN (omega arith))
 
-    pub rollback-runs : Runs f (set w′ ENV-LEN n) T d (withEnv (withState c (Bindings.rollback (c .state) (record { undo = mark; past = past }))) (drop (length (c .env) - n) (c .env)))
+    pub rollback-runs : Runs f (set w′ ENV-LEN n) T d
+        (withEnv (withState c (Bindings.rollback (c .state) (record { undo = mark; past = past }))) (drop (length (c .env) - n) (c .env)))
     unfolding withState
     rollback-runs = cut-runs sound rolled-runs n still
 
@@ -161,7 +175,8 @@ pub record Gives {A : Type 0} (f w w′ : List ℕ) (T : Rows) (d : Described) (
   pub grew : Grew w w′ 0 0
 
 pub introduce-runs : {f w w′ : List ℕ} {T : Rows} {d : Described} {c : Checker} {symbol r : ℕ} → Sound d → Runs f w T d c → symbol < 65536
-    → (lookupIn (c .env) symbol ≡ none → (length (c .state .subst) < 512) × (getD w ENV-LEN 0 < 512)) → Introduces w symbol w′ r → Gives f w w′ T d c (Check.introduce symbol c) r
+    → (lookupIn (c .env) symbol ≡ none → (length (c .state .subst) < 512) × (getD w ENV-LEN 0 < 512)) → Introduces w symbol w′ r
+    → Gives f w w′ T d c (Check.introduce symbol c) r
 unfolding Check.introduce Check.lookup Check.freshVarId Check.pushEnv withState withEnv andThen Bindings.freshId
 introduce-runs {f} {w} {w′} {T} {d} {c} {symbol} {r} sound R name room I = go (lookupIn (c .env) symbol) refl
   where
@@ -172,7 +187,15 @@ introduce-runs {f} {w} {w′} {T} {d} {c} {symbol} {r} sound R name room I = go 
     go (some v) q =
         let is : r ≡ v = rw (sought, q) at (I .is) in
         let words : w′ ≡ w = rw (sought, q) at (I .words) in
-        rw (is, words) record { after = c; step = rw (q, Check.introduce); runs = R; unlined = record { at = λ i l h. refl }; reported = refl; until = refl; grew = grew-refl }
+        rw (is, words) record {
+          after = c;
+          step = rw (q, Check.introduce);
+          runs = R;
+          unlined = record { at = λ i l h. refl };
+          reported = refl;
+          until = refl;
+          grew = grew-refl;
+        }
     go none q =
         let is : r ≡ getD w UNKNOWNS 0 = rw (sought, q) at (I .is) in
         let words : w′ ≡ pushEnvW (freshW w) symbol (getD w UNKNOWNS 0) = rw (sought, q) at (I .words) in
@@ -185,7 +208,8 @@ introduce-runs {f} {w} {w′} {T} {d} {c} {symbol} {r} sound R name room I = go 
           after = withEnv (withState c (Bindings.fresh (c .state))) ((symbol, getD w UNKNOWNS 0) ∷ c .env);
           step = rw (q, Check.introduce, new);
           runs = push-env-runs sound F symbol (getD w UNKNOWNS 0) space name small;
-          unlined = unlined-trans (record { at = λ i l h. fresh-word sound R few i (λ q. omega arith) (omega arith) }) (push-env-unlined sound F symbol (getD w UNKNOWNS 0) space name small);
+          unlined = unlined-trans (record { at = λ i l h. fresh-word sound R few i (λ q. omega arith) (omega arith) })
+              (push-env-unlined sound F symbol (getD w UNKNOWNS 0) space name small);
           reported = refl;
           until = refl;
           grew = grew-trans (fresh-grew sound R few) (push-env-grew sound F symbol (getD w UNKNOWNS 0) space name small);

@@ -10,7 +10,8 @@ use lib.Dec.{eqb}
 use lib.ListN.{length, getD}
 use borrow.Author.Tests.{lt-ltb, eqb-true, ne-eqb}
 use Rattle.unification.specs.Ty as Tree
-use Rattle.work.specs.Layout.{NAME-COUNT, TYPE-COUNT, PREDICATE-COUNT, NODE-COUNT, VALUE-NAME, MAX-DISTANCE, MAX-TERM, QUERY, NAMES, TYPES, PREDICATES, NODES, FIELDS, RECORD-COUNT, RECORD-FIELD-COUNT}
+use Rattle.work.specs.Layout.{NAME-COUNT, TYPE-COUNT, PREDICATE-COUNT, NODE-COUNT, VALUE-NAME, MAX-DISTANCE, MAX-TERM, QUERY, NAMES, TYPES, PREDICATES}
+use Rattle.work.specs.Layout.{NODES, FIELDS, RECORD-COUNT, RECORD-FIELD-COUNT}
 use Rattle.cells.specs.declared.Ty.{Ty}
 use Rattle.cells.specs.declared.Ty.the-variants.{Int, Str, Bytes, Fact, Record, Union, Error}
 use Rattle.cells.specs.declared.Kind.{Kind}
@@ -52,7 +53,8 @@ declared-ok w t lt many small = five (eqb (tagAt w t) 5) refl
     five false q = six (eqb (tagAt w t) 6) q refl
 
 -- A part of a schema type exists.
-part-ok : {f w : List ℕ} {T : Rows} {ts : List (List ℕ)} {s : Schema} → SchemaStands f w T ts s → (k : Kind) (c j : ℕ) → c < getD w TYPE-COUNT 0 → getD w (TYPES + 2 * c) 0 % 16 ≡ tagOf k → j < countW w c → Ok w (partW w k c j .ty)
+part-ok : {f w : List ℕ} {T : Rows} {ts : List (List ℕ)} {s : Schema} → SchemaStands f w T ts s → (k : Kind) (c j : ℕ) → c < getD w TYPE-COUNT 0
+    → getD w (TYPES + 2 * c) 0 % 16 ≡ tagOf k → j < countW w c → Ok w (partW w k c j .ty)
 part-ok {w = w} S k c j h tag lt =
     let e = S .cells .earlier k c j h tag lt in
     let there : e .0 < getD w TYPE-COUNT 0 = omega (arith, e .1) in
@@ -63,7 +65,8 @@ made-none : (w : List ℕ) → getD w RECORD-COUNT 0 ≡ 0 → {k : Kind} {c : �
 made-none w empty (declared {k} {c} lt many tag) = (many, tag)
 made-none w empty (made {c} le many) = absurd (omega arith)
 
-pub cells-start : {f w : List ℕ} {T : Rows} {ts : List (List ℕ)} {s : Schema} → SchemaStands f w T ts s → getD w RECORD-COUNT 0 ≡ 0 → getD w RECORD-FIELD-COUNT 0 ≡ 0 → Cells w T
+pub cells-start : {f w : List ℕ} {T : Rows} {ts : List (List ℕ)} {s : Schema} → SchemaStands f w T ts s → getD w RECORD-COUNT 0 ≡ 0
+    → getD w RECORD-FIELD-COUNT 0 ≡ 0 → Cells w T
 cells-start {w = w} S records fields = record {
   row = λ k c i. let h = made-none w records i in S .cells .row k c (h .0) (h .1);
   ok = λ k c j i lt. let h = made-none w records i in part-ok S k c j (h .0) (h .1) lt;
@@ -75,10 +78,14 @@ cells-start {w = w} S records fields = record {
 
 -- ---- What was said stands
 -- The words of the schema are as they were; those of the nodes and the query may be others.
-module _ (w w′ : List ℕ) (said : (i : ℕ) → i < NODES → (i ≡ NODE-COUNT → ⊥) → (i ≡ QUERY → ⊥) → getD w′ i 0 ≡ getD w i 0) (parts : (i : ℕ) → FIELDS ≤ i → i < RECORD-COUNT → getD w′ i 0 ≡ getD w i 0) where
+module _ (w w′ : List ℕ) (said : (i : ℕ) → i < NODES → (i ≡ NODE-COUNT → ⊥) → (i ≡ QUERY → ⊥) → getD w′ i 0 ≡ getD w i 0)
+    (parts : (i : ℕ) → FIELDS ≤ i → i < RECORD-COUNT → getD w′ i 0 ≡ getD w i 0) where
   declared-said : (t : ℕ) → t < 256 → declaredW w′ t ≡ declaredW w t
   unfolding declaredW
-  declared-said t h = rw (said (TYPES + 2 * t) (omega arith) (λ e. omega arith) (λ e. omega arith), said (TYPES + 2 * t + 1) (omega arith) (λ e. omega arith) (λ e. omega arith))
+  declared-said t h = rw (
+    said (TYPES + 2 * t) (omega arith) (λ e. omega arith) (λ e. omega arith),
+    said (TYPES + 2 * t + 1) (omega arith) (λ e. omega arith) (λ e. omega arith),
+  )
 
   count-said : (c : ℕ) → c < 256 → countW w′ c ≡ countW w c
   unfolding countW
@@ -92,10 +99,21 @@ module _ (w w′ : List ℕ) (said : (i : ℕ) → i < NODES → (i ≡ NODE-COU
   unfolding declaredField alternativeW
   part-said Fields c j lt fits h =
       let at = FIELDS + firstW w c + j in
-      rw (field-declared w′ c j lt, field-declared w c j lt, first-said c lt, parts at (omega (arith, fits)) (omega (arith, fits)), declared-said (getD w at 0 % 256) (omega arith))
+      rw (
+        field-declared w′ c j lt,
+        field-declared w c j lt,
+        first-said c lt,
+        parts at (omega (arith, fits)) (omega (arith, fits)),
+        declared-said (getD w at 0 % 256) (omega arith),
+      )
   part-said Alternatives c j lt fits h =
       let at = FIELDS + firstW w c + 2 * j in
-      rw (first-said c lt, parts at (omega (arith, fits)) (omega (arith, fits)), parts (at + 1) (omega (arith, fits)) (omega (arith, fits)), declared-said (getD w (at + 1) 0 % 256) (omega arith))
+      rw (
+        first-said c lt,
+        parts at (omega (arith, fits)) (omega (arith, fits)),
+        parts (at + 1) (omega (arith, fits)) (omega (arith, fits)),
+        declared-said (getD w (at + 1) 0 % 256) (omega arith),
+      )
 
   module _ {T T′ : Rows} (M : More w T T′) where
     module _ {f : List ℕ} {ts : List (List ℕ)} {s : Schema} (S : SchemaStands f w T ts s) where
@@ -148,7 +166,8 @@ module _ (w w′ : List ℕ) (said : (i : ℕ) → i < NODES → (i ≡ NODE-COU
       value-stands : (x : ℕ) → (x % 2 ≡ 1 → x / 2 % 256 < getD w TYPE-COUNT 0) → valueOf T w x ≡ valueOf T′ w′ x
       value-stands x there = go (eqb (x % 2) 1) refl
         where
-          go : (b : Bool) → eqb (x % 2) 1 ≡ b → pick b (some (tree T (declaredW w (x / 2 % 256)))) none ≡ pick b (some (tree T′ (declaredW w′ (x / 2 % 256)))) none
+          go : (b : Bool) → eqb (x % 2) 1 ≡ b → pick b (some (tree T (declaredW w (x / 2 % 256)))) none ≡ pick b
+              (some (tree T′ (declaredW w′ (x / 2 % 256)))) none
           go true q = ap some (sym (declared-stands (x / 2 % 256) (there (eqb-true (x % 2) 1 q))))
           go false q = refl
 

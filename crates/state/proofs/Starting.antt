@@ -31,14 +31,16 @@ pub record Started (w w′ : List ℕ) : Type 0 where
   pub undo : getD w′ UNDO-LEN 0 ≡ 0
   pub untyped : (i : ℕ) → i < 512 → getD w′ (TYS + 2 * i) 0 ≡ 0
 
-pub start-runs : {f w w′ : List ℕ} {T : Rows} {d : Described} (u : Until) (ceiling : ℕ) → Sound d → Stands f w T d → Started w w′ → Runs f w′ T d (beginUntil u ceiling (length (d .ast .nodes)))
+pub start-runs : {f w w′ : List ℕ} {T : Rows} {d : Described} (u : Until) (ceiling : ℕ) → Sound d → Stands f w T d → Started w w′
+    → Runs f w′ T d (beginUntil u ceiling (length (d .ast .nodes)))
 unfolding beginUntil envOf
 start-runs {f} {w} {w′} {T} {d} u ceiling sound before B =
     let n = length (d .ast .nodes) in
     let S : Stands f w′ T d = stands-more w w′ (B .keeps .below) more-refl sound (B .keeps .long) before in
     record {
       stands = S;
-      holds = start-holds n ceiling History.start (S .long) (S .few) (cells-start (S .schema) (B .records) (B .fields)) (B .unknowns) (B .undo) (λ i lt. B .untyped i (omega (arith, S .few)));
+      holds = start-holds n ceiling History.start (S .long) (S .few) (cells-start (S .schema) (B .records) (B .fields)) (B .unknowns) (B .undo)
+          (λ i lt. B .untyped i (omega (arith, S .few)));
       nodes = length-replicate {A = Option Tree.Ty} n none;
       env = rw (B .env);
       few-env = omega (arith, B .env);

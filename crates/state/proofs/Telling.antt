@@ -83,7 +83,8 @@ module _ {f w out : List ℕ} {at : ℕ} {m : Message} {mid : List ℕ} {h : Wro
   module _ (p : Writes out at (hexOf (10 ∷ [])) mid h) where
     pub said-then : {e : ℕ} → h ≡ To e → {out′ : List ℕ} {r : Wrote} → WritesMessage f w mid e m out′ r → WritesSaid f w out at m out′ r
     said-then e g = record {
-      is = λ T d st S H o. hex-then (10 ∷ []) (messageText (d .names) (d .schema) (said T (st .subst) m)) p e (g .is T d st S H o (omega (arith, writes-to p e .1, p .long)));
+      is = λ T d st S H o. hex-then (10 ∷ []) (messageText (d .names) (d .schema) (said T (st .subst) m)) p e
+          (g .is T d st S H o (omega (arith, writes-to p e .1, p .long)));
       long = g .moves .long ∙ p .long;
     }
 

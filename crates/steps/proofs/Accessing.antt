@@ -62,13 +62,16 @@ module _ {f w ou : List ℕ} {n name left : ℕ} {t : Ty} {b : Bound} (F : Field
 -- ---- On a head in general
 module _ (m : Described → Tree.Ty → Does Tree.Ty) {f w ou : List ℕ} {n left : ℕ} {t : Ty} where
   -- A type in hand comes back.
-  pub head-gives : (u : Ty) → ((T : Rows) (d : Described) (c : Checker) → Runs f w T d c → Ok w t → Ok w u × (m d (tree T t) c ≡ goes (tree T u) c)) → OnType m f w ou n t left w ou (Typed.Got u left)
+  pub head-gives : (u : Ty) → ((T : Rows) (d : Described) (c : Checker) → Runs f w T d c → Ok w t → Ok w u × (m d (tree T t) c ≡ goes (tree T u) c))
+      → OnType m f w ou n t left w ou (Typed.Got u left)
   head-gives u h = record {
     is = λ d there. record { is = λ T c B fine. let x = h T d c (B .runs) (fine .ok) in rw (x .1) (ends-with B u (tree T u) (x .0) refl) };
   }
 
   -- One diagnostic.
-  pub head-rejects : (x : Message) → (Ok w t → OkMessage w x) → ((T : Rows) (d : Described) (c : Checker) → Runs f w T d c → Ok w t → m d (tree T t) c ≡ rejectTy (d .schema) (nodesOf d) n (said T (c .state .subst) x) c)
+  pub head-rejects : (x : Message) → (Ok w t → OkMessage w x) →
+      ((T : Rows) (d : Described) (c : Checker) → Runs f w T d c → Ok w t
+      → m d (tree T t) c ≡ rejectTy (d .schema) (nodesOf d) n (said T (c .state .subst) x) c)
       → {w′ ou′ : List ℕ} {r : Typed} → RejectsTy f w ou n x left w′ ou′ r → OnType m f w ou n t left w′ ou′ r
   head-rejects x ok h q = record {
     is = λ d there. record { is = λ T c B fine. rw (h T d c (B .runs) (fine .ok)) (reject-ty-ends B n there x (ok (fine .ok)) q) };
@@ -83,7 +86,8 @@ module _ {f w ou : List ℕ} (n name : ℕ) {left : ℕ} {t : Ty} where
   unfolding selectOf
   select-error e = head-gives (selects n name) Error (λ T d c R o. (tt, rw e))
 
-  pub select-unknown : (x : ℕ) → t ≡ Var x → {w′ ou′ : List ℕ} {r : Typed} → RejectsTy f w ou n Message.UnknownType left w′ ou′ r → SelectOf f w ou n name t left w′ ou′ r
+  pub select-unknown : (x : ℕ) → t ≡ Var x → {w′ ou′ : List ℕ} {r : Typed} → RejectsTy f w ou n Message.UnknownType left w′ ou′ r
+      → SelectOf f w ou n name t left w′ ou′ r
   unfolding selectOf unresolved
   select-unknown x e q = head-rejects (selects n name) Message.UnknownType (λ o. tt) (λ T d c R o. rw e) q
 
@@ -94,16 +98,19 @@ module _ {f w ou : List ℕ} (n name : ℕ) {left : ℕ} {t : Ty} where
         let z : some (tree T (p .ty)) ≡ findLabel name (T k) = rw q at (F .is T (R .holds .cells) (rw e at o)) in
         (rw q at (F .ok T (R .holds .cells) (rw e at o)), rw (e, ← z, selectOf)))
 
-    pub select-none : b ≡ Nothing → {w′ ou′ : List ℕ} {r : Typed} → RejectsTy f w ou n (Message.NoAlternative name) left w′ ou′ r → SelectOf f w ou n name t left w′ ou′ r
+    pub select-none : b ≡ Nothing → {w′ ou′ : List ℕ} {r : Typed} → RejectsTy f w ou n (Message.NoAlternative name) left w′ ou′ r
+        → SelectOf f w ou n name t left w′ ou′ r
     unfolding selectOf
     select-none q x = head-rejects (selects n name) (Message.NoAlternative name) (λ o. tt) (λ T d c R o.
         let z : none ≡ findLabel name (T k) = rw q at (F .is T (R .holds .cells) (rw e at o)) in rw (e, ← z, selectOf)) x
 
-  pub select-other : OneOf (0 ∷ 1 ∷ 2 ∷ 3 ∷ 4 ∷ []) (tagOf the-type t) → {w′ ou′ : List ℕ} {r : Typed} → RejectsTy f w ou n (Message.NotAUnion t) left w′ ou′ r → SelectOf f w ou n name t left w′ ou′ r
+  pub select-other : OneOf (0 ∷ 1 ∷ 2 ∷ 3 ∷ 4 ∷ []) (tagOf the-type t) → {w′ ou′ : List ℕ} {r : Typed}
+      → RejectsTy f w ou n (Message.NotAUnion t) left w′ ou′ r → SelectOf f w ou n name t left w′ ou′ r
   unfolding selectOf
   select-other x q = head-rejects (selects n name) (Message.NotAUnion t) (λ o. o) (λ T d c R o. go d T c t x) q
     where
-      go : (d : Described) (T : Rows) (c : Checker) (t : Ty) → OneOf (0 ∷ 1 ∷ 2 ∷ 3 ∷ 4 ∷ []) (tagOf the-type t) → selectOf (d .schema) (nodesOf d) n name (tree T t) c ≡ rejectTy (d .schema) (nodesOf d) n (said T (c .state .subst) (Message.NotAUnion t)) c
+      go : (d : Described) (T : Rows) (c : Checker) (t : Ty) → OneOf (0 ∷ 1 ∷ 2 ∷ 3 ∷ 4 ∷ []) (tagOf the-type t)
+          → selectOf (d .schema) (nodesOf d) n name (tree T t) c ≡ rejectTy (d .schema) (nodesOf d) n (said T (c .state .subst) (Message.NotAUnion t)) c
       go d T c Int x = refl
       go d T c Str x = refl
       go d T c Bytes x = refl
@@ -121,14 +128,19 @@ keys n name d ty = keyOf (d .schema) (nodesOf d) n name ty
 key-fine : {f w : List ℕ} {T : Rows} {d : Described} {c : Checker} → Sound d → Runs f w T d c → (p : ℕ) {u : Ty} → To u ≡ keyTyW w p → Fine w u T c
 key-fine {f} {w} {T} {d} {c} s R p {u} e =
     let q : some (tree T u) ≡ keyTy (d .schema) (nodesOf d) p = rw (← e) at (key-stands R p) in
-    record { ok = rw (← e) at (key-ok R p); side = declared-side (unknowns c) (tree T u) (rw (← q) at (key-declared (d .schema) (nodesOf d) (s .predicates) p)) }
+    record {
+      ok = rw (← e) at (key-ok R p);
+      side = declared-side (unknowns c) (tree T u)
+          (rw (← q) at (key-declared (d .schema) (nodesOf d) (s .predicates) p));
+    }
 
 module _ {f w ou : List ℕ} (n name : ℕ) {left : ℕ} {t : Ty} where
   pub key-error : t ≡ Error → KeyOf f w ou n name t left w ou (Typed.Got Error left)
   unfolding keyOf
   key-error e = head-gives (keys n name) Error (λ T d c R o. (tt, rw e))
 
-  pub key-unknown : (x : ℕ) → t ≡ Var x → {w′ ou′ : List ℕ} {r : Typed} → RejectsTy f w ou n Message.UnknownType left w′ ou′ r → KeyOf f w ou n name t left w′ ou′ r
+  pub key-unknown : (x : ℕ) → t ≡ Var x → {w′ ou′ : List ℕ} {r : Typed} → RejectsTy f w ou n Message.UnknownType left w′ ou′ r
+      → KeyOf f w ou n name t left w′ ou′ r
   unfolding keyOf unresolved
   key-unknown x e q = head-rejects (keys n name) Message.UnknownType (λ o. tt) (λ T d c R o. rw e) q
 
@@ -152,11 +164,13 @@ module _ {f w ou : List ℕ} (n name : ℕ) {left : ℕ} {t : Ty} where
     key-absent q = head-gives (keys n name) Error (λ T d c R o.
         let z : none ≡ keyTy (d .schema) (nodesOf d) p = rw (← k, q) at (key-stands R p) in (tt, rw (e, ← z, keyOf)))
 
-  pub key-other : OneOf (0 ∷ 1 ∷ 2 ∷ 5 ∷ []) (tagOf the-type t) → {w′ ou′ : List ℕ} {r : Typed} → RejectsTy f w ou n (Message.NoFields t) left w′ ou′ r → KeyOf f w ou n name t left w′ ou′ r
+  pub key-other : OneOf (0 ∷ 1 ∷ 2 ∷ 5 ∷ []) (tagOf the-type t) → {w′ ou′ : List ℕ} {r : Typed}
+      → RejectsTy f w ou n (Message.NoFields t) left w′ ou′ r → KeyOf f w ou n name t left w′ ou′ r
   unfolding keyOf
   key-other x q = head-rejects (keys n name) (Message.NoFields t) (λ o. o) (λ T d c R o. go d T c t x) q
     where
-      go : (d : Described) (T : Rows) (c : Checker) (t : Ty) → OneOf (0 ∷ 1 ∷ 2 ∷ 5 ∷ []) (tagOf the-type t) → keyOf (d .schema) (nodesOf d) n name (tree T t) c ≡ rejectTy (d .schema) (nodesOf d) n (said T (c .state .subst) (Message.NoFields t)) c
+      go : (d : Described) (T : Rows) (c : Checker) (t : Ty) → OneOf (0 ∷ 1 ∷ 2 ∷ 5 ∷ []) (tagOf the-type t)
+          → keyOf (d .schema) (nodesOf d) n name (tree T t) c ≡ rejectTy (d .schema) (nodesOf d) n (said T (c .state .subst) (Message.NoFields t)) c
       go d T c Int x = refl
       go d T c Str x = refl
       go d T c Bytes x = refl
@@ -175,7 +189,8 @@ module _ {f w ou : List ℕ} (n : ℕ) {left : ℕ} {t : Ty} where
   unfolding valueOf
   value-error e = head-gives (values n) Error (λ T d c R o. (tt, rw e))
 
-  pub value-unknown : (x : ℕ) → t ≡ Var x → {w′ ou′ : List ℕ} {r : Typed} → RejectsTy f w ou n Message.UnknownType left w′ ou′ r → ValueOf f w ou n t left w′ ou′ r
+  pub value-unknown : (x : ℕ) → t ≡ Var x → {w′ ou′ : List ℕ} {r : Typed} → RejectsTy f w ou n Message.UnknownType left w′ ou′ r
+      → ValueOf f w ou n t left w′ ou′ r
   unfolding valueOf unresolved
   value-unknown x e q = head-rejects (values n) Message.UnknownType (λ o. tt) (λ T d c R o. rw e) q
 
@@ -196,11 +211,13 @@ module _ {f w ou : List ℕ} (n : ℕ) {left : ℕ} {t : Ty} where
       value-absent z x = head-rejects (values n) Message.NoValue (λ o. tt) (λ T d c R o.
           let y : none ≡ valueTy (d .schema) (nodesOf d) p = rw (← v, z) at (value-stands R p) in rw (e, ← (S .is f T d c R), q, ← y, valueOf)) x
 
-  pub value-other : OneOf (0 ∷ 1 ∷ 2 ∷ 4 ∷ 5 ∷ []) (tagOf the-type t) → {w′ ou′ : List ℕ} {r : Typed} → RejectsTy f w ou n (Message.NotAFact t) left w′ ou′ r → ValueOf f w ou n t left w′ ou′ r
+  pub value-other : OneOf (0 ∷ 1 ∷ 2 ∷ 4 ∷ 5 ∷ []) (tagOf the-type t) → {w′ ou′ : List ℕ} {r : Typed}
+      → RejectsTy f w ou n (Message.NotAFact t) left w′ ou′ r → ValueOf f w ou n t left w′ ou′ r
   unfolding valueOf
   value-other x q = head-rejects (values n) (Message.NotAFact t) (λ o. o) (λ T d c R o. go d T c t x) q
     where
-      go : (d : Described) (T : Rows) (c : Checker) (t : Ty) → OneOf (0 ∷ 1 ∷ 2 ∷ 4 ∷ 5 ∷ []) (tagOf the-type t) → valueOf (d .schema) (nodesOf d) n (tree T t) c ≡ rejectTy (d .schema) (nodesOf d) n (said T (c .state .subst) (Message.NotAFact t)) c
+      go : (d : Described) (T : Rows) (c : Checker) (t : Ty) → OneOf (0 ∷ 1 ∷ 2 ∷ 4 ∷ 5 ∷ []) (tagOf the-type t)
+          → valueOf (d .schema) (nodesOf d) n (tree T t) c ≡ rejectTy (d .schema) (nodesOf d) n (said T (c .state .subst) (Message.NotAFact t)) c
       go d T c Int x = refl
       go d T c Str x = refl
       go d T c Bytes x = refl

@@ -41,31 +41,55 @@ use Rattle.steps.proofs.Results.{done-typed}
 module _ {f w ou : List ℕ} {T : Rows} {d : Described} {left : ℕ} {c : Checker} (B : Begins f w ou T d (only one-diagnostic) left c) where
   -- A type in hand comes back.
   pub ends-with : (t : Ty) (ty : Tree.Ty) → Ok w t → tree T t ≡ ty → Ends f w ou w ou T d 0 0 (typed w (Typed.Got t left)) (goes ty c)
-  ends-with t ty o e = went (record { T′ = T; more = more-refl; runs = B .runs; lines = B .lines; grew = grew-refl; is = record { t = t; res = ap (Typed.Got t) (sym (B .visits)); ok = o; is = e } })
+  ends-with t ty o e = went (record {
+    T′ = T;
+    more = more-refl;
+    runs = B .runs;
+    lines = B .lines;
+    grew = grew-refl;
+    is = record { t = t; res = ap (Typed.Got t) (sym (B .visits)); ok = o; is = e };
+  })
 
   module _ (n : ℕ) (there : n < length (nodesOf d)) (m : Message) (ok : OkMessage w m) where
     room : getD w DIAGNOSTIC-COUNT 0 < 1536
     room = omega (arith, B .runs .diagnostics, B .free .diagnostics)
 
     -- By what the run is to last until.
-    pub reject-ends : {w′ ou′ : List ℕ} {r : Done} → Rejected f w ou n m left w′ ou′ r → Ends f w ou w′ ou′ T d 0 0 (done r) (Check.reject (d .schema) (nodesOf d) n (said T (c .state .subst) m) c)
+    pub reject-ends : {w′ ou′ : List ℕ} {r : Done} → Rejected f w ou n m left w′ ou′ r
+        → Ends f w ou w′ ou′ T d 0 0 (done r) (Check.reject (d .schema) (nodesOf d) n (said T (c .state .subst) m) c)
     unfolding Check.reject Check.diagnosed Check.withDiagnostics Check.reported
     reject-ends {w′} {ou′} {r} x = go (c .until) refl
       where
         go : (u : Check.Until) → c .until ≡ u → Ends f w ou w′ ou′ T d 0 0 (done r) (Check.reject (d .schema) (nodesOf d) n (said T (c .state .subst) m) c)
         go Check.theEnd q =
             let h = rejected-on (B .sound) (B .runs) x room there ok (B .lines) q in
-            rw (q, Check.reported) (went (record { T′ = T; more = more-refl; runs = rejected-runs (B .sound) (B .runs) x room; lines = h .1; grew = rejected-grew (B .sound) (B .runs) x room; is = h .0 ∙ ap Done.On (sym (B .visits)) }))
+            rw (q, Check.reported) (went (record {
+              T′ = T;
+              more = more-refl;
+              runs = rejected-runs (B .sound) (B .runs) x room;
+              lines = h .1;
+              grew = rejected-grew (B .sound) (B .runs) x room;
+              is = h .0 ∙ ap Done.On (sym (B .visits));
+            }))
         go Check.firstDiagnostic q =
             let h = rejected-out (B .sound) (B .runs) x room there ok (B .lines) q in
-            rw (q, Check.reported) (spent (record { T′ = T; more = more-refl; runs = rejected-runs (B .sound) (B .runs) x room; lines = rw (B .visits) (h .1); grew = rejected-grew (B .sound) (B .runs) x room; is = h .0 }))
+            rw (q, Check.reported) (spent (record {
+              T′ = T;
+              more = more-refl;
+              runs = rejected-runs (B .sound) (B .runs) x room;
+              lines = rw (B .visits) (h .1);
+              grew = rejected-grew (B .sound) (B .runs) x room;
+              is = h .0;
+            }))
 
     -- `reject_ty`
-    pub reject-ty-ends : {w′ ou′ : List ℕ} {r : Typed} → RejectsTy f w ou n m left w′ ou′ r → Ends f w ou w′ ou′ T d 0 0 (typed w′ r) (Check.rejectTy (d .schema) (nodesOf d) n (said T (c .state .subst) m) c)
+    pub reject-ty-ends : {w′ ou′ : List ℕ} {r : Typed} → RejectsTy f w ou n m left w′ ou′ r
+        → Ends f w ou w′ ou′ T d 0 0 (typed w′ r) (Check.rejectTy (d .schema) (nodesOf d) n (said T (c .state .subst) m) c)
     unfolding Check.rejectTy
     reject-ty-ends x = rw (x .is) (done-typed Error tt (reject-ends (x .rejected)))
 
-pub rejects : (f w : List ℕ) {ou w′ ou′ : List ℕ} (n : ℕ) (m : Message) (left : ℕ) {r : Done} → Rejected f w ou n m left w′ ou′ r → Rejects f w ou n m left w′ ou′ r
+pub rejects : (f w : List ℕ) {ou w′ ou′ : List ℕ} (n : ℕ) (m : Message) (left : ℕ) {r : Done} → Rejected f w ou n m left w′ ou′ r
+    → Rejects f w ou n m left w′ ou′ r
 rejects f w n m left x d there = record { is = λ T c B ok. reject-ends B n there m ok x }
 
 -- ---- A node's type, and a new unknown
@@ -75,7 +99,14 @@ notes f w n t left d there = record {
   is = λ T c B fine.
       let R = B .runs in
       let free = B .free .ready .bare n (omega (arith, same-self n)) in
-      went (record { T′ = T; more = more-refl; runs = annotate-runs (B .sound) R n t (omega (arith, R .nodes)) free (fine .ok); lines = told-same (record { at = λ i l h. annotate-keeps w n t .below i (omega arith) }) (B .lines); grew = grew-slots (B .sound) R (annotate-keeps w n t); is = B .visits });
+      went (record {
+        T′ = T;
+        more = more-refl;
+        runs = annotate-runs (B .sound) R n t (omega (arith, R .nodes)) free (fine .ok);
+        lines = told-same (record { at = λ i l h. annotate-keeps w n t .below i (omega arith) }) (B .lines);
+        grew = grew-slots (B .sound) R (annotate-keeps w n t);
+        is = B .visits;
+      });
 }
 
 pub freshens : (f w : List ℕ) {ou : List ℕ} (left : ℕ) → Freshens f w ou left (freshW w) ou (getD w UNKNOWNS 0)
@@ -84,12 +115,28 @@ freshens f w left d = record {
   is = λ T c B u.
       let R = B .runs in
       let few : length (c .state .subst) < 512 = omega (arith, B .free .unknowns) in
-      went (record { T′ = T; more = more-refl; runs = fresh-runs (B .sound) R few; lines = told-same (record { at = λ i l h. fresh-word (B .sound) R few i (λ q. omega arith) (omega arith) }) (B .lines); grew = fresh-grew (B .sound) R few; is = (sym (R .holds .binds .unknowns), B .visits) });
+      went (record {
+        T′ = T;
+        more = more-refl;
+        runs = fresh-runs (B .sound) R few;
+        lines = told-same (record { at = λ i l h. fresh-word (B .sound) R few i (λ q. omega arith) (omega arith) }) (B .lines);
+        grew = fresh-grew (B .sound) R few;
+        is = (sym (R .holds .binds .unknowns), B .visits);
+      });
 }
 
 -- ---- A variable's unknown
-given : {f w ou w′ : List ℕ} {T : Rows} {d : Described} {left x : ℕ} (c : Checker) (s : Step ℕ) → c .state .left ≡ left → Told d w ou c 0 → Gives f w w′ T d c s x → ((b : Checker) → s ≡ goes x b → b .state .left ≡ c .state .left) → Ends f w ou w′ ou T d 0 0 (numbered x left) s
-given {w = w} {ou} {w′} {d = d} c s v t G same = rw (G .step) (went (record { T′ = _; more = more-refl; runs = G .runs; lines = rw (G .reported, G .until) (told-same (G .unlined) t); grew = G .grew; is = (refl, same (G .after) (G .step) ∙ v) }))
+given : {f w ou w′ : List ℕ} {T : Rows} {d : Described} {left x : ℕ} (c : Checker) (s : Step ℕ) → c .state .left ≡ left → Told d w ou c 0
+    → Gives f w w′ T d c s x → ((b : Checker) → s ≡ goes x b → b .state .left ≡ c .state .left) → Ends f w ou w′ ou T d 0 0 (numbered x left) s
+given {w = w} {ou} {w′} {d = d} c s v t G same = rw (G .step)
+    (went (record {
+      T′ = _;
+      more = more-refl;
+      runs = G .runs;
+      lines = rw (G .reported, G .until) (told-same (G .unlined) t);
+      grew = G .grew;
+      is = (refl, same (G .after) (G .step) ∙ v);
+    }))
 
 introduce-left : (symbol x : ℕ) (c b : Checker) → Check.introduce symbol c ≡ goes x b → b .state .left ≡ c .state .left
 unfolding Check.introduce Check.lookup Check.freshVarId Check.pushEnv Check.withState Check.withEnv andThen Bindings.fresh
@@ -105,10 +152,12 @@ pub brings : (f w : List ℕ) {ou : List ℕ} (symbol left : ℕ) (w′ : List �
 brings f w symbol left w′ x I = record {
   is = λ d small. record {
     is = λ T c B u.
-        let room : lookupIn (c .env) symbol ≡ none → (length (c .state .subst) < 512) × (getD w ENV-LEN 0 < 512) = λ q. (omega (arith, B .free .unknowns), omega (arith, B .free .unknowns, B .orderly .few, runs-env-length (B .runs))) in
+        let room : lookupIn (c .env) symbol ≡ none → (length (c .state .subst) < 512) × (getD w ENV-LEN 0 < 512) = λ q.
+        (omega (arith, B .free .unknowns), omega (arith, B .free .unknowns, B .orderly .few, runs-env-length (B .runs))) in
         given c (Check.introduce symbol c) (B .visits) (B .lines) (introduce-runs (B .sound) (B .runs) small room I) (introduce-left symbol x c);
   };
   found = λ d small. record {
-    is = λ T c B known. given c (Check.introduce symbol c) (B .visits) (B .lines) (introduce-runs (B .sound) (B .runs) small (λ q. clash (cc (q, known .1))) I) (introduce-left symbol x c);
+    is = λ T c B known. given c (Check.introduce symbol c) (B .visits) (B .lines)
+        (introduce-runs (B .sound) (B .runs) small (λ q. clash (cc (q, known .1))) I) (introduce-left symbol x c);
   };
 }

@@ -77,7 +77,8 @@ constant-form f nd x = by-form f (0 ∷ 1 ∷ 2 ∷ 6 ∷ []) (λ q. q ≡ aCons
 }) nd x
 
 -- Neither a variable nor a wildcard nor a record.
-pub whole-kind : (f : List ℕ) (ask : ℕ → Bool) (nd : Node) → OneOf (0 ∷ 1 ∷ 2 ∷ 5 ∷ 6 ∷ 7 ∷ 9 ∷ 10 ∷ 11 ∷ 12 ∷ 13 ∷ 14 ∷ 15 ∷ 16 ∷ []) (tagOf the-type nd) → destructurableKind ask (kindW f nd) ≡ false
+pub whole-kind : (f : List ℕ) (ask : ℕ → Bool) (nd : Node) → OneOf (0 ∷ 1 ∷ 2 ∷ 5 ∷ 6 ∷ 7 ∷ 9 ∷ 10 ∷ 11 ∷ 12 ∷ 13 ∷ 14 ∷ 15 ∷ 16 ∷ [])
+    (tagOf the-type nd) → destructurableKind ask (kindW f nd) ≡ false
 unfolding kindW destructurableKind
 whole-kind f ask Node.Int x = refl
 whole-kind f ask Node.Str x = refl

@@ -101,7 +101,8 @@ module _ {f w : List ℕ} {T : Rows} {d : Described} {c : Checker} (R : Runs f w
   unfolding keyTyW keyTy
   key-stands = go (ltb p (getD w PREDICATE-COUNT 0)) refl
     where
-      go : (b : Bool) → ltb p (getD w PREDICATE-COUNT 0) ≡ b → boundTree T (pick b (To (declaredW w (getD w (PREDICATES + p) 0 / 512 % 256))) Free) ≡ keyTy (d .schema) (nodesOf d) p
+      go : (b : Bool) → ltb p (getD w PREDICATE-COUNT 0) ≡ b → boundTree T (pick b (To (declaredW w (getD w (PREDICATES + p) 0 / 512 % 256))) Free) ≡
+          keyTy (d .schema) (nodesOf d) p
       go true q = let h = ltb-true p (getD w PREDICATE-COUNT 0) q in rw (there h, keyTy) (ap some (sym (predicate h .key)))
       go false q = rw (past (ltb-false p (getD w PREDICATE-COUNT 0) q), keyTy)
 
@@ -122,21 +123,25 @@ module _ {f w : List ℕ} {T : Rows} {d : Described} {c : Checker} (R : Runs f w
   value-stands = go (ltb p (getD w PREDICATE-COUNT 0)) refl
     where
       go : (b : Bool) → ltb p (getD w PREDICATE-COUNT 0) ≡ b
-          → boundTree T (pick b (pick (eqb (getD w (PREDICATES + p) 0 % 2) 1) (To (declaredW w (getD w (PREDICATES + p) 0 / 2 % 256))) Free) Free) ≡ valueTy (d .schema) (nodesOf d) p
+          → boundTree T (pick b (pick (eqb (getD w (PREDICATES + p) 0 % 2) 1) (To (declaredW w (getD w (PREDICATES + p) 0 / 2 % 256))) Free) Free) ≡
+          valueTy (d .schema) (nodesOf d) p
       go true q =
           let h = ltb-true p (getD w PREDICATE-COUNT 0) q in
-          rw (there h, valueTy) (value-tree (eqb (getD w (PREDICATES + p) 0 % 2) 1) (declaredW w (getD w (PREDICATES + p) 0 / 2 % 256)) ∙ sym (predicate h .value))
+          rw (there h, valueTy) (value-tree (eqb (getD w (PREDICATES + p) 0 % 2) 1) (declaredW w (getD w (PREDICATES + p) 0 / 2 % 256)) ∙ sym
+          (predicate h .value))
       go false q = rw (past (ltb-false p (getD w PREDICATE-COUNT 0) q), valueTy)
 
   pub value-ok : OkBound w (valueTyW w p)
   unfolding valueTyW
   value-ok = go (ltb p (getD w PREDICATE-COUNT 0)) refl
     where
-      of : (b : Bool) → p < getD w PREDICATE-COUNT 0 → eqb (getD w (PREDICATES + p) 0 % 2) 1 ≡ b → OkBound w (pick b (To (declaredW w (getD w (PREDICATES + p) 0 / 2 % 256))) Free)
+      of : (b : Bool) → p < getD w PREDICATE-COUNT 0 → eqb (getD w (PREDICATES + p) 0 % 2) 1 ≡ b
+          → OkBound w (pick b (To (declaredW w (getD w (PREDICATES + p) 0 / 2 % 256))) Free)
       of true h e = type-ok (getD w (PREDICATES + p) 0 / 2 % 256) (predicate h .value-there (eqb-true (getD w (PREDICATES + p) 0 % 2) 1 e))
       of false h e = tt
 
-      go : (b : Bool) → ltb p (getD w PREDICATE-COUNT 0) ≡ b → OkBound w (pick b (pick (eqb (getD w (PREDICATES + p) 0 % 2) 1) (To (declaredW w (getD w (PREDICATES + p) 0 / 2 % 256))) Free) Free)
+      go : (b : Bool) → ltb p (getD w PREDICATE-COUNT 0) ≡ b → OkBound w
+          (pick b (pick (eqb (getD w (PREDICATES + p) 0 % 2) 1) (To (declaredW w (getD w (PREDICATES + p) 0 / 2 % 256))) Free) Free)
       go true q = of (eqb (getD w (PREDICATES + p) 0 % 2) 1) (ltb-true p (getD w PREDICATE-COUNT 0) q) refl
       go false q = tt
 
@@ -162,7 +167,10 @@ some-numbered (some v) n e x = let p : v ≡ n - 1 = omega arith in ap some p
 
 module _ {w : List ℕ} (p : ℕ) {value : ℕ} (v : value ≡ getD w VALUE-NAME 0) where
   pub no-value-name : value ≡ 0 → Shadows w p false
-  no-value-name z = record { is = λ f T d c R. sym (shadows-none (d .schema) (nodesOf d) p (none-numbered (d .schema .valueField) (sym z ∙ v ∙ R .stands .schema .value))) }
+  no-value-name z = record {
+    is = λ f T d c R. sym
+        (shadows-none (d .schema) (nodesOf d) p (none-numbered (d .schema .valueField) (sym z ∙ v ∙ R .stands .schema .value)));
+  }
 
   module _ (x : ¬ (value ≡ 0)) {key : Bound} (k : key ≡ keyTyW w p) where
     pub no-key : key ≡ Free → Shadows w p false

@@ -29,23 +29,32 @@ module _ {d : Described} {n : ℕ} (s : Sound d) (there : n < length (nodesOf d)
   parts-lower = lower-at (nodesOf d) n (s .lower) there
 
   pub parts-named : (k : ℕ) → n ≤ k → AllNamed d k (exprNodes (nodeAt (nodesOf d) n .kind))
-  parts-named k le = all-map (λ m. m < n) (Named d k) (exprNodes (nodeAt (nodesOf d) n .kind)) (λ m l. record { there = omega (arith, there); under = omega arith }) parts-lower
+  parts-named k le = all-map (λ m. m < n) (Named d k) (exprNodes (nodeAt (nodesOf d) n .kind))
+      (λ m l. record { there = omega (arith, there); under = omega arith }) parts-lower
 
 -- The kind that the code read is the node's.
-pub kind-is : {f w : List ℕ} {T : Rows} {d : Described} {c : Checker} {n : ℕ} {r : Node} → Sound d → Runs f w T d c → n < length (nodesOf d) → IsNode f w n r → nodeAt (nodesOf d) n .kind ≡ kindW f r
-kind-is {d = d} {n = n} s R there i = sym (i .is (nodeAt (nodesOf d) n) (R .stands .node n there) (rw (all-below n (exprNodes (nodeAt (nodesOf d) n .kind)) (parts-lower s there)) tt))
+pub kind-is : {f w : List ℕ} {T : Rows} {d : Described} {c : Checker} {n : ℕ} {r : Node} → Sound d → Runs f w T d c → n < length (nodesOf d)
+    → IsNode f w n r → nodeAt (nodesOf d) n .kind ≡ kindW f r
+kind-is {d = d} {n = n} s R there i = sym
+    (i .is (nodeAt (nodesOf d) n) (R .stands .node n there) (rw (all-below n (exprNodes (nodeAt (nodesOf d) n .kind)) (parts-lower s there)) tt))
 
-pub kind-read : {f w ou : List ℕ} {T : Rows} {d : Described} {L : Load} {left : ℕ} {c : Checker} {n : ℕ} {r : Node} → Begins f w ou T d L left c → n < length (nodesOf d) → IsNode f w n r → nodeAt (nodesOf d) n .kind ≡ kindW f r
+pub kind-read : {f w ou : List ℕ} {T : Rows} {d : Described} {L : Load} {left : ℕ} {c : Checker} {n : ℕ} {r : Node} → Begins f w ou T d L left c
+    → n < length (nodesOf d) → IsNode f w n r → nodeAt (nodesOf d) n .kind ≡ kindW f r
 kind-read b there i = kind-is (b .sound) (b .runs) there i
 
-pub form-read : {f w ou : List ℕ} {T : Rows} {d : Described} {L : Load} {left : ℕ} {c : Checker} {n : ℕ} {nd : Node} → Begins f w ou T d L left c → n < length (nodesOf d) → IsNode f w n nd → form (d .schema) (nodesOf d) n ≡ formOf (kindW f nd)
+pub form-read : {f w ou : List ℕ} {T : Rows} {d : Described} {L : Load} {left : ℕ} {c : Checker} {n : ℕ} {nd : Node} → Begins f w ou T d L left c
+    → n < length (nodesOf d) → IsNode f w n nd → form (d .schema) (nodesOf d) n ≡ formOf (kindW f nd)
 unfolding form kind
 form-read s there i = ap formOf (kind-read s there i)
 
 -- A variable is a half word, since it is one of the names.
 pub name-small : {d : Described} {n x : ℕ} → Sound d → n < length (nodesOf d) → nodeAt (nodesOf d) n .kind ≡ ExprKind.Var x → x < 65536
 unfolding nodeAt exprNames maxNames
-name-small {d} {n} {x} s there e = omega (arith, (rw e at (all-at (λ m. Below (length (d .schema .characters)) (exprNames (m .kind))) (nodesOf d) n noNode (s .namesBelow) there)) .0, s .namesMax)
+name-small {d} {n} {x} s there e = omega (
+  arith,
+  (rw e at (all-at (λ m. Below (length (d .schema .characters)) (exprNames (m .kind))) (nodesOf d) n noNode (s .namesBelow) there)) .0,
+  s .namesMax,
+)
 
 -- ---- Lists of fields
 pub fields-some : (f : List ℕ) (l : Items) (i : ℕ) → i < l .n → fieldsFrom f l i (l .n - i) ≡ fieldOf (fieldW f l i) ∷ fieldsFrom f l (i + 1) (l .n - (i + 1))

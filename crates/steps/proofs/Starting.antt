@@ -49,8 +49,10 @@ started w w′ U =
     let after-b : (j : ℕ) → j < TYS → getD b j 0 ≡ 0 → getD w′ j 0 ≡ 0 = λ j lt h. after-c j lt (zero-stays b ENV-LEN j h) in
     record {
       keeps = keeps-trans {v = countersW w}
-          (keeps-zero UNDO-LEN (omega arith) (omega arith) (keeps-zero UNKNOWNS (omega arith) (omega arith) (keeps-zero DIAGNOSTIC-COUNT (omega arith) (omega arith)
-          (keeps-zero ENV-LEN (omega arith) (omega arith) (keeps-zero RECORD-FIELD-COUNT (omega arith) (omega arith) (keeps-zero RECORD-COUNT (omega arith) (omega arith) keeps-refl))))))
+          (keeps-zero UNDO-LEN (omega arith) (omega arith)
+          (keeps-zero UNKNOWNS (omega arith) (omega arith) (keeps-zero DIAGNOSTIC-COUNT (omega arith) (omega arith)
+          (keeps-zero ENV-LEN (omega arith) (omega arith)
+          (keeps-zero RECORD-FIELD-COUNT (omega arith) (omega arith) (keeps-zero RECORD-COUNT (omega arith) (omega arith) keeps-refl))))))
           (keeps-wider (omega arith) (omega arith) (U .keeps));
       records = after-b RECORD-COUNT (omega arith) (zero-stays a RECORD-FIELD-COUNT RECORD-COUNT (zero-at w RECORD-COUNT));
       fields = after-b RECORD-FIELD-COUNT (omega arith) (zero-at a RECORD-FIELD-COUNT);
@@ -68,7 +70,8 @@ untypes-start w = record { keeps = keeps-refl; untyped = λ i h. absurd (omega a
 pub untypes-next : {w w′ : List ℕ} {n : ℕ} → n < 512 → Untypes w n w′ → Untypes w (n + 1) (set w′ (TYS + 2 * n) 0)
 untypes-next {w} {w′} {n} h U = record {
   keeps = keeps-trans (U .keeps) (keeps-set w′ (TYS + 2 * n) 0 (omega arith) (omega arith));
-  untyped = λ i lt. by-cases (ℕ-discrete i n) (λ e. rw e (zero-at w′ (TYS + 2 * n))) (λ ne. zero-stays w′ (TYS + 2 * n) (TYS + 2 * i) (U .untyped i (omega arith)));
+  untyped = λ i lt. by-cases (ℕ-discrete i n) (λ e. rw e (zero-at w′ (TYS + 2 * n)))
+      (λ ne. zero-stays w′ (TYS + 2 * n) (TYS + 2 * i) (U .untyped i (omega arith)));
 }
 
 pub untypes-end : {w w′ : List ℕ} {n : ℕ} → 512 ≤ n → Untypes w n w′ → Untypes w 512 w′
@@ -86,14 +89,16 @@ module _ (w : List ℕ) (u : Until) {v x w′ : List ℕ} (e : v ≡ countersW w
       let b = set a PLACE-HIGH 0 in
       let c = set b FULL 0 in
       let d = set c UNTIL (untilW (untilOf u)) in
-      rw z (keeps-trans (keeps-set x PLACE 0 (omega arith) (omega arith)) (keeps-trans (keeps-set a PLACE-HIGH 0 (omega arith) (omega arith)) (keeps-trans (keeps-set b FULL 0 (omega arith) (omega arith))
+      rw z (keeps-trans (keeps-set x PLACE 0 (omega arith) (omega arith))
+      (keeps-trans (keeps-set a PLACE-HIGH 0 (omega arith) (omega arith)) (keeps-trans (keeps-set b FULL 0 (omega arith) (omega arith))
       (keeps-trans (keeps-set c UNTIL (untilW (untilOf u)) (omega arith) (omega arith)) (keeps-set d LEFT 0 (omega arith) (omega arith))))))
 
   until-set : END ≤ length w → getD w′ UNTIL 0 ≡ untilW (untilOf u)
   until-set long =
       let c = set (set (set x PLACE 0) PLACE-HIGH 0) FULL 0 in
       let d = set c UNTIL (untilW (untilOf u)) in
-      let same : length c ≡ length w = length-set (set (set x PLACE 0) PLACE-HIGH 0) FULL 0 ∙ length-set (set x PLACE 0) PLACE-HIGH 0 ∙ length-set x PLACE 0 ∙ begun .keeps .long in
+      let same : length c ≡ length w = length-set (set (set x PLACE 0) PLACE-HIGH 0) FULL 0 ∙ length-set (set x PLACE 0) PLACE-HIGH 0 ∙ length-set x
+      PLACE 0 ∙ begun .keeps .long in
       rw z (getD-set-other d LEFT UNTIL 0 0 (λ q. omega arith) ∙ getD-set-same c UNTIL (untilW (untilOf u)) 0 (omega (arith, same)))
 
   -- a zero of the first three
@@ -114,7 +119,11 @@ module _ (w : List ℕ) (u : Until) {v x w′ : List ℕ} (e : v ≡ countersW w
       record {
         is = λ f. record {
           is = λ T d ceiling sound S. place-runs sound (start-runs (untilOf u) ceiling sound S begun) lined;
-          lines = λ ou d ceiling long. record { lines = no-lines _ low high full; until = until-set long; left = rw z (zero-at (set (set b FULL 0) UNTIL (untilW (untilOf u))) LEFT) };
+          lines = λ ou d ceiling long. record {
+            lines = no-lines _ low high full;
+            until = until-set long;
+            left = rw z (zero-at (set (set b FULL 0) UNTIL (untilW (untilOf u))) LEFT);
+          };
           records = lined .below RECORD-COUNT (omega arith) ∙ begun .records;
           fields = lined .below RECORD-FIELD-COUNT (omega arith) ∙ begun .fields;
           keeps = keeps-trans (begun .keeps) (keeps-wider (omega arith) (omega arith) lined);

@@ -61,11 +61,13 @@ module _ {f w ou : List ℕ} {n : ℕ} {nd : Node} (i : IsNode f w n nd) where
   side-other x = record {
     is = λ left d there. record {
       is = λ T c s u.
-          rw (form-read s there i, by-form f no-variable (λ q. introduceSide (d .schema) (nodesOf d) q c ≡ goes tt c) (side-stays d c) nd x) (ends-here tt c (s .runs) (s .lines) (s .visits));
+          rw (form-read s there i, by-form f no-variable (λ q. introduceSide (d .schema) (nodesOf d) q c ≡ goes tt c) (side-stays d c) nd x)
+          (ends-here tt c (s .runs) (s .lines) (s .visits));
     };
   }
 
-brought : {f w ou w′ ou′ : List ℕ} {T : Rows} {d : Described} {a b left v : ℕ} (m : Step ℕ) → Ends f w ou w′ ou′ T d a b (numbered v left) m → Ends f w ou w′ ou′ T d a b (silent left) (andThen m (λ y e. goes tt e))
+brought : {f w ou w′ ou′ : List ℕ} {T : Rows} {d : Described} {a b left v : ℕ} (m : Step ℕ) → Ends f w ou w′ ou′ T d a b (numbered v left) m
+    → Ends f w ou w′ ou′ T d a b (silent left) (andThen m (λ y e. goes tt e))
 unfolding andThen
 brought m (went g) = went (record { T′ = g .T′; more = g .more; runs = g .runs; lines = g .lines; grew = g .grew; is = g .is .1 })
 brought m (spent g) = absurd (g .is)
@@ -104,11 +106,13 @@ module _ {f w ou : List ℕ} {n left : ℕ} {nd : Node} (i : IsNode f w n nd) wh
   head-other x = record {
     is = λ d there. record {
       is = λ T c s u.
-          rw (form-read s there i, by-form f no-wildcard (λ q. headForm (d .schema) (nodesOf d) n q c ≡ goes tt c) (head-stays d n c) nd x) (on-here (s .runs) (s .lines) (s .visits));
+          rw (form-read s there i, by-form f no-wildcard (λ q. headForm (d .schema) (nodesOf d) n q c ≡ goes tt c) (head-stays d n c) nd x)
+          (on-here (s .runs) (s .lines) (s .visits));
     };
   }
 
-  pub head-wildcard : nd ≡ Node.Wildcard → {w′ ou′ : List ℕ} {r : Done} → Rejected f w ou n Message.WildcardHead left w′ ou′ r → ChecksHead f w ou n left w′ ou′ r
+  pub head-wildcard : nd ≡ Node.Wildcard → {w′ ou′ : List ℕ} {r : Done} → Rejected f w ou n Message.WildcardHead left w′ ou′ r
+      → ChecksHead f w ou n left w′ ou′ r
   unfolding kindW formOf headForm
   head-wildcard e x = record {
     is = λ d there. record {
@@ -135,7 +139,8 @@ module _ {f w : List ℕ} {n : ℕ} {nd : Node} (i : IsNode f w n nd) where
   }
 
   pub items-lower : (l : Items) → nd ≡ Node.Record l → LowerItems (l .below) l
-  items-lower l e = let low : LowerItems n l = rw e at (i .lower) in record { below = refl; some = λ h. omega (arith, low .some h, low .below); place = low .place }
+  items-lower l e = let low : LowerItems n l = rw e at (i .lower) in record
+      { below = refl; some = λ h. omega (arith, low .some h, low .below); place = low .place }
 
   pub items-below : (l : Items) → nd ≡ Node.Record l → l .below ≡ n
   items-below l e = let low : LowerItems n l = rw e at (i .lower) in low .below
@@ -149,7 +154,8 @@ module _ {f w : List ℕ} {n : ℕ} {nd : Node} (i : IsNode f w n nd) where
 -- The answer for all fields is that for the fields from number i on.
 pub record Asking (f w : List ℕ) (l : Items) (i : ℕ) : Type 0 where
   pub within : i ≤ l .n
-  pub is : (T : Rows) (d : Described) (c : Checker) → Sound d → Runs f w T d c → l .below ≤ length (nodesOf d) → (k : ℕ) → l .below ≤ k → allApart d k (fieldsFrom f l 0 (l .n)) ≡ allApart d k (fieldsFrom f l i (l .n - i))
+  pub is : (T : Rows) (d : Described) (c : Checker) → Sound d → Runs f w T d c → l .below ≤ length (nodesOf d) → (k : ℕ) → l .below ≤ k
+      → allApart d k (fieldsFrom f l 0 (l .n)) ≡ allApart d k (fieldsFrom f l i (l .n - i))
 
 pub asking-start : (f w : List ℕ) (l : Items) → Asking f w l 0
 asking-start f w l = let z : l .n - 0 ≡ l .n = omega arith in record { within = omega arith; is = λ T d c s R few k above. rw z refl }
@@ -167,21 +173,25 @@ module _ {f w : List ℕ} {l : Items} {i : ℕ} (A : Asking f w l i) where
   field-falls low h q = rw q (field-lower f l i low h)
 
   module _ (low : LowerItems (l .below) l) (h : i < l .n) {e : Field} (q : e ≡ fieldW f l i) {b : Bool} (D : Asks f w (e .value) b) where
-    asked : {T : Rows} {d : Described} {c : Checker} → Sound d → Runs f w T d c → l .below ≤ length (nodesOf d) → (k : ℕ) → l .below ≤ k → destructurableIn k (nodesOf d) (fieldW f l i .value) ≡ b
+    asked : {T : Rows} {d : Described} {c : Checker} → Sound d → Runs f w T d c → l .below ≤ length (nodesOf d) → (k : ℕ) → l .below ≤ k
+        → destructurableIn k (nodesOf d) (fieldW f l i .value) ≡ b
     asked {T} {d} {c} s R few k above =
         let v = field-lower f l i low h in
         let D′ : Asks f w (fieldW f l i .value) b = rw q at D in
-        destructurable-is (nodesOf d) (lower-falls (nodesOf d) (s .lower)) k (fieldW f l i .value) (omega (arith, v)) ∙ sym (D′ .is T d c s R (omega (arith, v)))
+        destructurable-is (nodesOf d) (lower-falls (nodesOf d) (s .lower)) k (fieldW f l i .value) (omega (arith, v)) ∙ sym
+        (D′ .is T d c s R (omega (arith, v)))
 
     pub asking-next : not b ≡ false → Asking f w l (i + 1)
     unfolding allFields fieldOf
     asking-next z = record {
       within = omega arith;
-      is = λ T d c s R few k above. let y : b ≡ true = sym (Bool·not-not b) ∙ ap not z in A .is T d c s R few k above ∙ rw (fields-some f l i h, asked s R few k above ∙ y, allFields) refl;
+      is = λ T d c s R few k above. let y : b ≡ true = sym (Bool·not-not b) ∙ ap not z in A .is T d c s R few k above ∙ rw
+          (fields-some f l i h, asked s R few k above ∙ y, allFields) refl;
     }
 
     pub asking-stops : not b ≡ true → AsksAll f w l false
     unfolding allFields fieldOf
     asking-stops z = record {
-      is = λ T d c s R few k above. let y : b ≡ false = sym (Bool·not-not b) ∙ ap not z in sym (A .is T d c s R few k above ∙ rw (fields-some f l i h, asked s R few k above ∙ y, allFields) refl);
+      is = λ T d c s R few k above. let y : b ≡ false = sym (Bool·not-not b) ∙ ap not z in sym
+          (A .is T d c s R few k above ∙ rw (fields-some f l i h, asked s R few k above ∙ y, allFields) refl);
     }

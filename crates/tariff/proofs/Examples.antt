@@ -11,7 +11,8 @@ use Rattle.tariff.proofs.Sums.{sums}
 pub two-and-one : Run (record { visits = 600; price = 9 } ∷ record { visits = 1500; price = 7 } ∷ []) (record { units = 2; cents = 16; remainder = 100 })
 two-and-one =
     refuses 4294967295 65535 (record { tally = record { units = 2; cents = 16; remainder = 100 }; refused = true })
-    (counts 600 9 _ (counts 1500 7 _ start (taken refl (omega arith) (omega arith) (omega arith)) refl) (taken refl (omega arith) (omega arith) (omega arith)) refl)
+    (counts 600 9 _ (counts 1500 7 _ start (taken refl (omega arith) (omega arith) (omega arith)) refl)
+    (taken refl (omega arith) (omega arith) (omega arith)) refl)
     (turned-down (refl, refl) (cents-over (omega arith)))
     refl
 

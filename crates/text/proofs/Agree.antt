@@ -56,7 +56,8 @@ unfolding lead onesOf ones head
 four = leads 4 0xf0 0xf7 refl
 
 module _ {n low high : ℕ} (lead : Lead n low high) (b : ℕ) (byte : b < 256) (t : List ℕ) where
-  make : 2 ≤ n → n ≤ 4 → In (low to high) b → 1 + length t ≡ n → Each Later t → least n ≤ value (b - low) t → value (b - low) t ≤ 0x10ffff → Scalar (value (b - low) t) → Sequence b t
+  make : 2 ≤ n → n ≤ 4 → In (low to high) b → 1 + length t ≡ n → Each Later t → least n ≤ value (b - low) t → value (b - low) t ≤ 0x10ffff
+      → Scalar (value (b - low) t) → Sequence b t
   make h₂ h₄ i long tail l h whole =
       let e = lead .given b byte i in
       let v = lead .holds b byte e in
@@ -104,7 +105,8 @@ in-grammar b (x ∷ y ∷ []) l q =
             | yes h ↦ alternative 3 tt (then (range 0xe1 0xec b (omega arith) h) (then (tail i) rest))
             | no h₂ ↦
                 elim (decLe b 0xed) [
-                  | yes h ↦ alternative 4 tt (then (range 0xed 0xed b (omega arith) h) (then (range 0x80 0x9f x (i .low) (below-half b x y (omega arith) i (q .tail .1 .0) (p .3))) rest))
+                  | yes h ↦ alternative 4 tt (then (range 0xed 0xed b (omega arith) h)
+                      (then (range 0x80 0x9f x (i .low) (below-half b x y (omega arith) i (q .tail .1 .0) (p .3))) rest))
                   | no h₃ ↦ alternative 5 tt (then (range 0xee 0xef b (omega arith) (p .0 .high)) (then (tail i) rest))
                 ]
           ]
@@ -118,7 +120,8 @@ in-grammar b (x ∷ y ∷ z ∷ []) l q =
       | no h₁ ↦
           elim (decLe b 0xf3) [
             | yes h ↦ alternative 7 tt (then (range 0xf1 0xf3 b (omega arith) h) (then (tail i) rest))
-            | no h₂ ↦ alternative 8 tt (then (range 0xf4 0xf4 b (omega arith) (omega (arith, p, i))) (then (range 0x80 0x8f x (i .low) (omega (arith, p, i))) rest))
+            | no h₂ ↦ alternative 8 tt (then (range 0xf4 0xf4 b (omega arith) (omega (arith, p, i)))
+                (then (range 0x80 0x8f x (i .low) (omega (arith, p, i))) rest))
           ]
     ]
 in-grammar b (x ∷ y ∷ z ∷ u ∷ t) l q = absurd (omega (arith, q .four, q .long))
@@ -135,7 +138,8 @@ follows {b = b} i l h =
 
 of-two : (b x : ℕ) → In (0xc0 to 0xdf) b → Later x → 0x80 ≤ (b - 0xc0) * 64 + x % 64 → rule.Character (b ∷ x ∷ [])
 unfolding value
-of-two b x i j low = several (make two b (omega (arith, i)) (x ∷ []) (omega arith) (omega arith) i refl (j, tt) low (omega (arith, i, j)) (λ h. omega (arith, i, j)))
+of-two b x i j low = several (make two b (omega (arith, i)) (x ∷ []) (omega arith) (omega arith) i refl (j, tt) low (omega (arith, i, j))
+    (λ h. omega (arith, i, j)))
 
 of-three : (b x y : ℕ) → In (0xe0 to 0xef) b → Later x → Later y → 0x800 ≤ ((b - 0xe0) * 64 + x % 64) * 64 + y % 64
     → Scalar (((b - 0xe0) * 64 + x % 64) * 64 + y % 64)

@@ -11,7 +11,8 @@ use lib.Dec.{leb, lit≤}
 use borrow.Author.Tests.{leb-true, le-leb, lt-leb}
 use Rattle.text.proofs.Every.{both-left, both-right, both-false}
 use Rattle.text.specs.Star.{none as nil, more}
-use Rattle.text.specs.Utf8.{Range, _to_, In, Fits, end, then, OneOf, this, later, inside, following, oneMore, count, utf8-char, Character, Text, characters}
+use Rattle.text.specs.Utf8.{Range, _to_, In, Fits, end, then, OneOf, this, later, inside, following, oneMore, count, utf8-char, Character, Text}
+use Rattle.text.specs.Utf8.{characters}
 
 pub clash : {A X : Type 0} {x : A} → none ≡ some x → X
 clash e = let z : _≡_ {A = ℕ} 0 1 = cc in absurd (omega arith)

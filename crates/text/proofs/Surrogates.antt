@@ -9,7 +9,8 @@ use mathlib.Core.Option.{Option, none, some}
 use native.Mathlib.Decide.{decLe}
 use lib.Dec.{eqb, leb, ltb}
 use borrow.Author.Tests.{eqb-true, eqb-false, lt-leb, ltb-true}
-use Rattle.text.specs.Utf8.{Range, _to_, only, tail, In, Text, utf8-1, utf8-2, utf8-3, utf8-4, utf8-char, both, inside, following, oneMore, count, characters}
+use Rattle.text.specs.Utf8.{Range, _to_, only, tail, In, Text, utf8-1, utf8-2, utf8-3, utf8-4, utf8-char, both, inside, following, oneMore, count}
+use Rattle.text.specs.Utf8.{characters}
 use Rattle.text.specs.Rule.{onesOf, ones, head, value}
 use Rattle.text.specs.Surrogates.{utf8-char-open, charactersOpen, HasSurrogate, here, later}
 use Rattle.text.proofs.Every.{both-left, both-right, both-false}
@@ -20,11 +21,15 @@ use Rattle.text.proofs.Grammar.{clash, range, inside-in, in-inside, cou
 -- Of the characters of three bytes that begin with ed, those whose value is from d800 to dfff have a0 to bf next.
 pub surrogate-values : (x y : ℕ) → In tail x → In tail y → In (0xa0 to 0xbf) x ↔ In (0xd800 to 0xdfff) (value (head 0xed) (x ∷ y ∷ []))
 unfolding value head ones onesOf
-surrogate-values x y i j = (λ h. range 0xd800 0xdfff _ (omega (arith, h, i, j)) (omega (arith, h, i, j)), λ v. range 0xa0 0xbf x (omega (arith, v, i, j)) (i .high))
+surrogate-values x y i j = (
+  λ h. range 0xd800 0xdfff _ (omega (arith, h, i, j)) (omega (arith, h, i, j)),
+  λ v. range 0xa0 0xbf x (omega (arith, v, i, j)) (i .high),
+)
 
 -- ---- What is kept
 -- two grammars that differ in one alternative, at a byte that does not choose it
-elsewhere : (g h : List (List Range)) (r : Range) (rs rs′ : List Range) (b : ℕ) → inside r b ≡ false → following (g ++ (r ∷ rs) ∷ h) b ≡ following (g ++ (r ∷ rs′) ∷ h) b
+elsewhere : (g h : List (List Range)) (r : Range) (rs rs′ : List Range) (b : ℕ) → inside r b ≡ false
+    → following (g ++ (r ∷ rs) ∷ h) b ≡ following (g ++ (r ∷ rs′) ∷ h) b
 unfolding following
 elsewhere [] h r rs rs′ b e = rw (e, following)
 elsewhere ([] ∷ g) h r rs rs′ b e = elsewhere g h r rs rs′ b e
@@ -65,7 +70,8 @@ module _ (b : ℕ) (s : List ℕ) (ih : Same s) where
   owing-more n (r ∷ rs) = ap (λ o. elim (inside r b) [ true ↦ o | false ↦ none ]) (ih .owing (λ h. n (later h)) rs)
   owing-more n [] = first (eqb b 0xed) refl
     where
-      chosen : (o : Option (List Range)) → following utf8-char b ≡ o → following utf8-char-open b ≡ o → count utf8-char [] (b ∷ s) ≡ count utf8-char-open [] (b ∷ s)
+      chosen : (o : Option (List Range)) → following utf8-char b ≡ o → following utf8-char-open b ≡ o
+          → count utf8-char [] (b ∷ s) ≡ count utf8-char-open [] (b ∷ s)
       chosen none p q = rw (p, q, count)
       chosen (some rs) p q = rw (p, q, count) (ap oneMore (ih .owing (λ h. n (later h)) rs))
 
@@ -73,7 +79,8 @@ module _ (b : ℕ) (s : List ℕ) (ih : Same s) where
       first true q = rw (eqb-true b 0xed q) (ap oneMore (ih .after-ed (rw (eqb-true b 0xed q) at n)))
       first false q = chosen (following utf8-char-open b) (same-following b (eqb-false b 0xed q)) refl
 
-  after-ed-more : (HasSurrogate (0xed ∷ b ∷ s) → ⊥) → count utf8-char (0x80 to 0x9f ∷ tail ∷ []) (b ∷ s) ≡ count utf8-char-open (0x80 to 0xbf ∷ tail ∷ []) (b ∷ s)
+  after-ed-more : (HasSurrogate (0xed ∷ b ∷ s) → ⊥) → count utf8-char (0x80 to 0x9f ∷ tail ∷ []) (b ∷ s) ≡ count utf8-char-open
+      (0x80 to 0xbf ∷ tail ∷ []) (b ∷ s)
   unfolding count
   after-ed-more n = go (inside (0x80 to 0x9f) b) refl (inside (0x80 to 0xbf) b) refl
     where
@@ -146,7 +153,8 @@ none-counted (later {b = b} {s = s} h) (r ∷ rs) l = go (none-counted h rs (bot
     go ih false q = rw (q, count)
 none-counted (later {b = b} {s = s} h) [] l = go (λ rs k. none-counted h rs k) (following utf8-char b) refl
   where
-    go : ((rs : List Range) → low rs ≡ true → count utf8-char rs s ≡ none) → (o : Option (List Range)) → following utf8-char b ≡ o → count utf8-char [] (b ∷ s) ≡ none
+    go : ((rs : List Range) → low rs ≡ true → count utf8-char rs s ≡ none) → (o : Option (List Range)) → following utf8-char b ≡ o
+        → count utf8-char [] (b ∷ s) ≡ none
     go ih none q = rw (q, count)
     go ih (some rs) q = rw (q, count) (ap oneMore (ih rs (low-following utf8-char b rs refl q)))
 

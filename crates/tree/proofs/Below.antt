@@ -52,7 +52,8 @@ lower-is {x} {a} n e h = ap (λ y. lowerW y n) e ∙ lower-stays a n h
 
 -- ---- Items and fields
 
-pub items-are : (f : List ℕ) (it : Items) (i end : ℕ) (l : List ℕ) → Listed (λ _. 4) (halfAt f) (it .at + 4 * i) end l → T (allBelow (it .below) l) → itemsFrom f it i (length l) ≡ l
+pub items-are : (f : List ℕ) (it : Items) (i end : ℕ) (l : List ℕ) → Listed (λ _. 4) (halfAt f) (it .at + 4 * i) end l → T (allBelow (it .below) l)
+    → itemsFrom f it i (length l) ≡ l
 unfolding itemsFrom itemW
 items-are f it i end [] h b = refl
 items-are f it i end (a ∷ l) h b =
@@ -68,7 +69,8 @@ pub reads-field : (f : List ℕ) → Reads f field (λ _. 8) (fieldAt f)
 unfolding field fieldAt
 reads-field f = reads-pair f (λ n value. record { name = n; value = value }) (reads-two f) (reads-two f)
 
-pub fields-are : (f : List ℕ) (it : Items) (i end : ℕ) (l : List Syntax.Field) → Listed (λ _. 8) (fieldAt f) (it .at + 8 * i) end l → T (allBelow (it .below) (fieldValues l)) → fieldsFrom f it i (length l) ≡ l
+pub fields-are : (f : List ℕ) (it : Items) (i end : ℕ) (l : List Syntax.Field) → Listed (λ _. 8) (fieldAt f) (it .at + 8 * i) end l
+    → T (allBelow (it .below) (fieldValues l)) → fieldsFrom f it i (length l) ≡ l
 unfolding fieldsFrom fieldOf fieldW fieldAt fieldValues
 fields-are f it i end [] h b = refl
 fields-are f it i end (a ∷ l) h b =
@@ -86,26 +88,30 @@ stmtAt f at = statement (stmtOf (digitsW f at) (halfAt f (at + 2)) (halfAt f (at
 
 module _ (f : List ℕ) (at b : ℕ) (s : List ℕ) (e : digitsW f at ≡ b) (a : QueryStmt) (t : List ℕ) where
   -- what comes after the statement's first byte, and how it is joined to it
-  tagged : (c : ℕ) (v : ℕ → QueryStmt) → stmtSizeW f at ≡ 2 + c → stmtAt f at ≡ v (at + 2) → Ran f (λ _. c) v (at + 2) s a t → Ran f (stmtSizeW f) (stmtAt f) at (b ∷ s) a t
+  tagged : (c : ℕ) (v : ℕ → QueryStmt) → stmtSizeW f at ≡ 2 + c → stmtAt f at ≡ v (at + 2) → Ran f (λ _. c) v (at + 2) s a t
+      → Ran f (stmtSizeW f) (stmtAt f) at (b ∷ s) a t
   tagged c v size same ran =
       let z : at + 2 + c ≡ at + stmtSizeW f at = omega (arith, size) in
       record { value = same ∙ ran .value; rest = rw z at (ran .rest); long = omega (arith, size, ran .long) }
 
   module _ (make : ℕ → ℕ → QueryStmt) (st : Stand f (at + 2) s) where
-    tagged-pair : stmtSizeW f at ≡ 10 → stmtAt f at ≡ make (halfAt f (at + 2)) (halfAt f (at + 6)) → Frame.pair make Frame.two Frame.two s ≡ got a t → Ran f (stmtSizeW f) (stmtAt f) at (b ∷ s) a t
+    tagged-pair : stmtSizeW f at ≡ 10 → stmtAt f at ≡ make (halfAt f (at + 2)) (halfAt f (at + 6)) → Frame.pair make Frame.two Frame.two s ≡ got a t
+        → Ran f (stmtSizeW f) (stmtAt f) at (b ∷ s) a t
     tagged-pair size same q =
         let z : at + 6 ≡ at + 2 + 4 = omega arith in
         tagged 8 (λ at. make (halfAt f at) (halfAt f (at + 4))) size (rw z at same) (reads-pair f make (reads-two f) (reads-two f) .run (at + 2) s a t st q)
 
   module _ (make : ℕ → QueryStmt) (st : Stand f (at + 2) s) where
-    tagged-one : stmtSizeW f at ≡ 6 → stmtAt f at ≡ make (halfAt f (at + 2)) → Frame.one make Frame.two s ≡ got a t → Ran f (stmtSizeW f) (stmtAt f) at (b ∷ s) a t
+    tagged-one : stmtSizeW f at ≡ 6 → stmtAt f at ≡ make (halfAt f (at + 2)) → Frame.one make Frame.two s ≡ got a t
+        → Ran f (stmtSizeW f) (stmtAt f) at (b ∷ s) a t
     tagged-one size same q = tagged 4 (λ at. make (halfAt f at)) size same (reads-one f make (reads-two f) .run (at + 2) s a t st q)
 
 pub reads-statement : (f : List ℕ) → Reads f (Frame.choice Frame.statements) (stmtSizeW f) (stmtAt f)
 unfolding Frame.statements choice entry stmtSizeW stmtAt stmtOf
 reads-statement f = record { run = run }
   where
-    by-tag : (at b : ℕ) (s : List ℕ) (a : QueryStmt) (t : List ℕ) → digitsW f at ≡ b → Stand f (at + 2) s → (Frame.choice Frame.statements) (b ∷ s) ≡ got a t → Ran f (stmtSizeW f) (stmtAt f) at (b ∷ s) a t
+    by-tag : (at b : ℕ) (s : List ℕ) (a : QueryStmt) (t : List ℕ) → digitsW f at ≡ b → Stand f (at + 2) s
+        → (Frame.choice Frame.statements) (b ∷ s) ≡ got a t → Ran f (stmtSizeW f) (stmtAt f) at (b ∷ s) a t
     by-tag at zero s a t e st q = tagged-pair f at 0 s e a t QueryStmt.Bind st (rw e) (rw e) q
     by-tag at (suc zero) s a t e st q = tagged-one f at 1 s e a t QueryStmt.Implicit st (rw e) (rw e) q
     by-tag at (suc (suc zero)) s a t e st q = tagged-one f at 2 s e a t QueryStmt.Negation st (rw e) (rw e) q
@@ -113,7 +119,8 @@ reads-statement f = record { run = run }
     by-tag at (suc (suc (suc (suc zero)))) s a t e st q = tagged-pair f at 4 s e a t QueryStmt.Compare st (rw e) (rw e) q
     by-tag at (suc (suc (suc (suc (suc b))))) s a t e st q = no-got q
 
-    run : (at : ℕ) (s : List ℕ) (a : QueryStmt) (t : List ℕ) → Stand f at s → (Frame.choice Frame.statements) s ≡ got a t → Ran f (stmtSizeW f) (stmtAt f) at s a t
+    run : (at : ℕ) (s : List ℕ) (a : QueryStmt) (t : List ℕ) → Stand f at s → (Frame.choice Frame.statements) s ≡ got a t
+        → Ran f (stmtSizeW f) (stmtAt f) at s a t
     run at [] a t st q = no-got q
     run at (b ∷ s) a t st q = by-tag at b s a t (st .0) (st .1) q
 
@@ -137,7 +144,8 @@ lower-stmt n tag x y ss b = let p = go (eqb tag 0) (eqb tag 1) (eqb tag 2) (eqb 
     of : Bool → Bool → Bool → Bool → ℕ → ℕ → QueryStmt
     of p q r s x y = statement (pick p (Stmt.Bind x y) (pick q (Stmt.Implicit x) (pick r (Stmt.Negation x) (pick s (Stmt.Deny x y) (Stmt.Compare x y)))))
 
-    both-lower : (make : ℕ → ℕ → QueryStmt) → T (allBelow n (x ∷ y ∷ stmtNodes ss)) → (make (lowerW x n) (lowerW y n) ≡ make x y) × T (allBelow n (stmtNodes ss))
+    both-lower : (make : ℕ → ℕ → QueryStmt) → T (allBelow n (x ∷ y ∷ stmtNodes ss))
+        → (make (lowerW x n) (lowerW y n) ≡ make x y) × T (allBelow n (stmtNodes ss))
     both-lower make b =
         let more = others-below n x (y ∷ stmtNodes ss) b in
         let p = lower-stays x n (first-below n x (y ∷ stmtNodes ss) b) in
@@ -147,7 +155,8 @@ lower-stmt n tag x y ss b = let p = go (eqb tag 0) (eqb tag 1) (eqb tag 2) (eqb 
     one-lower : (make : ℕ → QueryStmt) → T (allBelow n (x ∷ stmtNodes ss)) → (make (lowerW x n) ≡ make x) × T (allBelow n (stmtNodes ss))
     one-lower make b = (ap make (lower-stays x n (first-below n x (stmtNodes ss) b)), others-below n x (stmtNodes ss) b)
 
-    go : (p q r s : Bool) → T (allBelow n (stmtNodes (of p q r s x y ∷ ss))) → (of p q r s (lowerW x n) (lowerW y n) ≡ of p q r s x y) × T (allBelow n (stmtNodes ss))
+    go : (p q r s : Bool) → T (allBelow n (stmtNodes (of p q r s x y ∷ ss)))
+        → (of p q r s (lowerW x n) (lowerW y n) ≡ of p q r s x y) × T (allBelow n (stmtNodes ss))
     go true q r s b = both-lower QueryStmt.Bind b
     go false true r s b = one-lower QueryStmt.Implicit b
     go false false true s b = one-lower QueryStmt.Negation b
@@ -166,7 +175,8 @@ module _ (f : List ℕ) (end below : ℕ) where
   unfolding stmtsFrom
   stmts-next k at h = rw (lt-ltb at end h, stmtsFrom)
 
-  pub stmts-are : (k at : ℕ) (l : List QueryStmt) → Listed (stmtSizeW f) (stmtAt f) at end l → end ≤ at + k → T (allBelow below (stmtNodes l)) → stmtsFrom k f at end below ≡ l
+  pub stmts-are : (k at : ℕ) (l : List QueryStmt) → Listed (stmtSizeW f) (stmtAt f) at end l → end ≤ at + k → T (allBelow below (stmtNodes l))
+      → stmtsFrom k f at end below ≡ l
   unfolding stmtW stmtAt
   stmts-are k at [] h e b = stmts-done k at (omega (arith, h))
   stmts-are zero at (a ∷ l) h e b = absurd (omega (arith, h .1))

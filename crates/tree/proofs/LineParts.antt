@@ -10,7 +10,8 @@ use lib.ListN.{length, getD}
 use Rattle.work.specs.Layout.{NODES, QUERY}
 use Rattle.meaning.specs.Syntax as Syntax
 use Rattle.meaning.specs.Syntax.{ExprKind, Query}
-use Rattle.meaning.specs.Frame.{wide, Got, got, fails, one, pair, triple, four, two, many, spanAndKind, headAndBody, frame, frameOf, whole, Frame, aNode, theQuery, node, query, exprKinds, choice}
+use Rattle.meaning.specs.Frame.{wide, Got, got, fails, one, pair, triple, four, two, many, spanAndKind, headAndBody, frame, frameOf, whole, Frame, aNode}
+use Rattle.meaning.specs.Frame.{theQuery, node, query, exprKinds, choice}
 use Rattle.frames.specs.Contracts.{exprKind}
 use Rattle.meaning.specs.Frame as Frame
 use Rattle.meaning.specs.References.{queryNodes}
@@ -73,7 +74,16 @@ parts-of nd s e =
     let m : record { span = record { start = u .a; end = v .a }; kind = x .a } ≡ nd = cc (x .after) in
     let y : x .s ≡ [] = cc (x .after) in
     let k : x .a ≡ nd .kind = ap (λ (n : Syntax.Node). n .kind) m in
-    record { start = u .a; end = v .a; s₁ = u .s; s₂ = v .s; first = u .first; second = v .first; third = rw (k, y) at (x .first); span = sym (ap (λ (n : Syntax.Node). n .span) m) }
+    record {
+      start = u .a;
+      end = v .a;
+      s₁ = u .s;
+      s₂ = v .s;
+      first = u .first;
+      second = v .first;
+      third = rw (k, y) at (x .first);
+      span = sym (ap (λ (n : Syntax.Node). n .span) m);
+    }
 
 pub parts : (nd : Syntax.Node) (s : List ℕ) → frameOf wide node s ≡ some (aNode nd) → Parts nd s
 unfolding frameOf frame one
@@ -90,9 +100,11 @@ kind-at f w n nd h =
     let st = line-stands f (getD w (NODES + n) 0 / 2048) (getD w (NODES + n) 0 / 2 % 1024) 0x05 (h .content) (h .line) in
     let a = reads-four f .run (getD w (NODES + n) 0 / 2048 + 2) (h .content) (p .start) (p .s₁) st (p .first) in
     let b = reads-four f .run (getD w (NODES + n) 0 / 2048 + 2 + 8) (p .s₁) (p .end) (p .s₂) (a .rest) (p .second) in
-    go (getD w (NODES + n) 0 / 2048) (getD w (NODES + n) 0 / 2 % 1024) (p .s₂) (b .rest) (p .third) (omega (arith, h .line .long, a .long, b .long)) (λ i l. line-small f _ (0x05 ∷ h .content) (h .line .line) i (rw (h .line .long) at l))
+    go (getD w (NODES + n) 0 / 2048) (getD w (NODES + n) 0 / 2 % 1024) (p .s₂) (b .rest) (p .third) (omega (arith, h .line .long, a .long, b .long))
+    (λ i l. line-small f _ (0x05 ∷ h .content) (h .line .line) i (rw (h .line .long) at l))
   where
-    go : (start size : ℕ) (s : List ℕ) → Stand f (start + 2 + 8 + 8) s → exprKind wide s ≡ got (nd .kind) [] → size ≡ 9 + length s → ((i : ℕ) → i < size → digitsW f (start + 2 * i) < 256) → KindAt f start size (nd .kind)
+    go : (start size : ℕ) (s : List ℕ) → Stand f (start + 2 + 8 + 8) s → exprKind wide s ≡ got (nd .kind) [] → size ≡ 9 + length s
+        → ((i : ℕ) → i < size → digitsW f (start + 2 * i) < 256) → KindAt f start size (nd .kind)
     go start size [] st e l m = no-got e
     go start size (b ∷ s) st e l m =
         let p : start + 2 + 8 + 8 ≡ start + 18 = omega arith in
@@ -107,7 +119,8 @@ pub record QueryAt (f : List ℕ) (at end : ℕ) (q : Query) : Type 0 where
   pub head : halfAt f at ≡ q .head
   pub body : Listed (stmtSizeW f) (stmtAt f) (at + 4) end (q .body)
 
-pub query-at : (f : List ℕ) (at end : ℕ) (s : List ℕ) (q : Query) (t : List ℕ) → Stand f at s → end ≡ at + 2 * length s → headAndBody s ≡ got q t → QueryAt f at end q
+pub query-at : (f : List ℕ) (at end : ℕ) (s : List ℕ) (q : Query) (t : List ℕ) → Stand f at s → end ≡ at + 2 * length s → headAndBody s ≡ got q t
+    → QueryAt f at end q
 unfolding headAndBody pair one
 query-at f at end s q t st l e =
     let w = went (two s) (λ head. one (λ body. record { head = head; body = body }) (many (Frame.choice Frame.statements))) q t e in
@@ -135,4 +148,5 @@ unfolding frameOf frame one
 query-line f w q h =
     let x = went (headAndBody (h .content)) (λ a. got (theQuery a)) (theQuery q) [] (whole-got (frame wide query (h .content)) (theQuery q) (h .frame)) in
     let m : x .a ≡ q = cc (x .after) in
-    query-at f (getD w QUERY 0 / 1024 + 2) (getD w QUERY 0 / 1024 + 2 * (getD w QUERY 0 % 1024)) (h .content) q (x .s) (line-stands f (getD w QUERY 0 / 1024) (getD w QUERY 0 % 1024) 0x06 (h .content) (h .line)) (omega (arith, h .line .long)) (rw m at (x .first))
+    query-at f (getD w QUERY 0 / 1024 + 2) (getD w QUERY 0 / 1024 + 2 * (getD w QUERY 0 % 1024)) (h .content) q (x .s)
+    (line-stands f (getD w QUERY 0 / 1024) (getD w QUERY 0 % 1024) 0x06 (h .content) (h .line)) (omega (arith, h .line .long)) (rw m at (x .first))

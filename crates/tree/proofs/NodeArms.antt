@@ -42,7 +42,8 @@ beyond zero x o = omega arith
 beyond (suc n) x o = let l = beyond n x (o .0) in let e = o .1 in omega arith
 
 -- A shape byte past the table says nothing.
-shape-past : (m : ℕ) (s : List ℕ) → exprKind wide (suc (suc (suc (suc (suc (suc (suc (suc (suc (suc (suc (suc (suc (suc (suc (suc (suc m)))))))))))))))) ∷ s) ≡ fails
+shape-past : (m : ℕ) (s : List ℕ) → exprKind wide
+    (suc (suc (suc (suc (suc (suc (suc (suc (suc (suc (suc (suc (suc (suc (suc (suc (suc m)))))))))))))))) ∷ s) ≡ fails
 unfolding exprKinds choice entry
 shape-past m s = refl
 
@@ -65,7 +66,8 @@ module _ (f w : List ℕ) (n start size shape : ℕ) (p : At f w n start size sh
       let z : digitsW f (start + 18) ≡ m = sym (p .says) ∙ e in
       record { line = k; ran = sym (same (k .rest)) ∙ (rw z at (k .kind)) }
 
-  module _ (m : ℕ) {r : Reader ExprKind} {c : ℕ → ℕ} {v : ℕ → ExprKind} (same : (s : List ℕ) → exprKind wide (m ∷ s) ≡ r s) (R : Reads f r c v) (e : shape ≡ m) where
+  module _ (m : ℕ) {r : Reader ExprKind} {c : ℕ → ℕ} {v : ℕ → ExprKind} (same : (s : List ℕ) → exprKind wide (m ∷ s) ≡ r s) (R : Reads f r c v)
+      (e : shape ≡ m) where
     says : (nd : Syntax.Node) → NodeIs f w n nd → v (start + 20) ≡ nd .kind
     says nd h =
         let a = after m r same e nd h in
@@ -108,7 +110,11 @@ module _ (f w : List ℕ) (n start size shape : ℕ) (p : At f w n start size sh
   -- ---- Lists of nodes
 
   items-lower : (each : ℕ) → LowerItems n (itemsW (start + 20) size each n)
-  items-lower each = record { below = items-below (start + 20) size each n; some = items-some (start + 20) size each n; place = rw (items-at (start + 20) size each n) (omega (arith, p .near)) }
+  items-lower each = record {
+    below = items-below (start + 20) size each n;
+    some = items-some (start + 20) size each n;
+    place = rw (items-at (start + 20) size each n) (omega (arith, p .near));
+  }
 
   some-below : (l : List ℕ) → T (allBelow n l) → 0 < length l → 0 < n
   some-below [] b h = absurd (omega arith)
@@ -122,41 +128,66 @@ module _ (f w : List ℕ) (n start size shape : ℕ) (p : At f w n start size sh
       reads : Reads f r (λ _. 2 * each) v
       nodes : (l : List A) → exprNodes (make l) ≡ refs l
       lengths : (l : List A) → length (refs l) ≡ length l
-      are : (it : Items) (i end : ℕ) (l : List A) → Listed (λ _. 2 * each) v (it .at + 2 * each * i) end l → T (allBelow (it .below) (refs l)) → from it i (length l) ≡ l
+      are : (it : Items) (i end : ℕ) (l : List A) → Listed (λ _. 2 * each) v (it .at + 2 * each * i) end l → T (allBelow (it .below) (refs l))
+          → from it i (length l) ≡ l
 
-    list-is : List-of → shape ≡ m → (nd : Syntax.Node) → NodeIs f w n nd → T (allBelow n (exprNodes (nd .kind))) → make (from (itemsW (start + 20) size each n) 0 (itemsW (start + 20) size each n .n)) ≡ nd .kind
+    list-is : List-of → shape ≡ m → (nd : Syntax.Node) → NodeIs f w n nd → T (allBelow n (exprNodes (nd .kind)))
+        → make (from (itemsW (start + 20) size each n) 0 (itemsW (start + 20) size each n .n)) ≡ nd .kind
     unfolding one
     list-is L e nd h b =
         let a = after m (one make (many r)) (L .same) e nd h in
         let x = went (many r (a .line .rest)) (λ l. got (make l)) (nd .kind) [] (a .ran) in
         let k : make (x .a) ≡ nd .kind = cc (x .after) in
-        go (a .line .rest) (x .a) (a .line .long) k (rw (← k, L .nodes (x .a)) at b) (listed f (L .reads) (start + 20) (a .line .rest) (x .a) (x .s) (a .line .stands) (x .first))
+        go (a .line .rest) (x .a) (a .line .long) k (rw (← k, L .nodes (x .a)) at b)
+        (listed f (L .reads) (start + 20) (a .line .rest) (x .a) (x .s) (a .line .stands) (x .first))
       where
         it : Items
         it = itemsW (start + 20) size each n
 
-        go : (rest : List ℕ) (l : List A) → size ≡ 10 + length rest → make l ≡ nd .kind → T (allBelow n (refs l)) → Listed (λ _. 2 * each) v (start + 20) (start + 20 + 2 * length rest) l → make (from it 0 (it .n)) ≡ nd .kind
+        go : (rest : List ℕ) (l : List A) → size ≡ 10 + length rest → make l ≡ nd .kind → T (allBelow n (refs l))
+            → Listed (λ _. 2 * each) v (start + 20) (start + 20 + 2 * length rest) l → make (from it 0 (it .n)) ≡ nd .kind
         go rest l long k low ls =
             let taken = listed-length (2 * each) v (start + 20) (start + 20 + 2 * length rest) l ls in
-            let count = items-count (start + 20) size each n (length l) (L .some-bytes) (omega (arith, taken)) (λ h. some-below (refs l) low (rw (L .lengths l) h)) in
+            let count = items-count (start + 20) size each n (length l) (L .some-bytes) (omega (arith, taken))
+            (λ h. some-below (refs l) low (rw (L .lengths l) h)) in
             let z : start + 20 ≡ it .at + 2 * each * 0 = omega (arith, items-at (start + 20) size each n) in
             ap make (ap (from it 0) count ∙ L .are it 0 _ l (rw z at ls) (rw (items-below (start + 20) size each n) low)) ∙ k
 
   pub fields : shape ≡ 8 → IsNode f w n (Node.Record (itemsW (start + 20) size 4 n))
   unfolding exprKinds choice entry kindW exprNodes fieldValues
-  fields e = record { is = list-is 8 4 ExprKind.Record field (fieldAt f) fieldValues (fieldsFrom f) (record { some-bytes = omega arith; same = λ s. refl; reads = reads-field f; nodes = λ l. refl; lengths = λ l. length-map l (λ e. e .value); are = fields-are f }) e; lower = items-lower 4 }
+  fields e = record {
+    is = list-is 8 4 ExprKind.Record field (fieldAt f) fieldValues (fieldsFrom f)
+        (record {
+          some-bytes = omega arith;
+          same = λ s. refl;
+          reads = reads-field f;
+          nodes = λ l. refl;
+          lengths = λ l. length-map l (λ e. e .value);
+          are = fields-are f;
+        }) e;
+    lower = items-lower 4;
+  }
 
   -- nodes alone
-  nodes-are : (m : ℕ) (make : List ℕ → ExprKind) → ((s : List ℕ) → exprKind wide (m ∷ s) ≡ one make (many two) s) → ((l : List ℕ) → exprNodes (make l) ≡ l) → List-of m 2 make two (halfAt f) (λ l. l) (itemsFrom f)
+  nodes-are : (m : ℕ) (make : List ℕ → ExprKind) → ((s : List ℕ) → exprKind wide (m ∷ s) ≡ one make (many two) s)
+      → ((l : List ℕ) → exprNodes (make l) ≡ l) → List-of m 2 make two (halfAt f) (λ l. l) (itemsFrom f)
   nodes-are m make same nodes = record { some-bytes = omega arith; same = same; reads = reads-two f; nodes = nodes; lengths = λ l. refl; are = items-are f }
 
   pub disjunction : shape ≡ 11 → IsNode f w n (Node.Disjunction (itemsW (start + 20) size 2 n))
   unfolding exprKinds choice entry kindW exprNodes
-  disjunction e = record { is = list-is 11 2 ExprKind.Disjunction two (halfAt f) (λ l. l) (itemsFrom f) (nodes-are 11 ExprKind.Disjunction (λ s. refl) (λ l. refl)) e; lower = items-lower 2 }
+  disjunction e = record {
+    is = list-is 11 2 ExprKind.Disjunction two (halfAt f) (λ l. l) (itemsFrom f)
+        (nodes-are 11 ExprKind.Disjunction (λ s. refl) (λ l. refl)) e;
+    lower = items-lower 2;
+  }
 
   pub arithmetic : shape ≡ 14 → IsNode f w n (Node.Arith (itemsW (start + 20) size 2 n))
   unfolding exprKinds choice entry kindW exprNodes
-  arithmetic e = record { is = list-is 14 2 ExprKind.Arith two (halfAt f) (λ l. l) (itemsFrom f) (nodes-are 14 ExprKind.Arith (λ s. refl) (λ l. refl)) e; lower = items-lower 2 }
+  arithmetic e = record {
+    is = list-is 14 2 ExprKind.Arith two (halfAt f) (λ l. l) (itemsFrom f) (nodes-are 14 ExprKind.Arith (λ s. refl) (λ l. refl))
+        e;
+    lower = items-lower 2;
+  }
 
   -- ---- Nodes with one node right below them, and subqueries
 
@@ -177,7 +208,10 @@ module _ (f w : List ℕ) (n start size shape : ℕ) (p : At f w n start size sh
       c : ℕ
       c = lowerW (halfAt f (start + 28)) n
 
-      go : (first : Bool) → eqb n 0 ≡ first → (p q r s t : Bool) → Lower n (pick first Node.Error (pick p (Node.Key (halfAt f (start + 20)) b) (pick q (Node.Value a) (pick r (Node.Subquery a (record { at = start + 24; end = start + 2 * size; below = n })) (pick s (Node.Fact (fullAt f (start + 20)) c) (pick t (Node.Select (halfAt f (start + 20)) b) Node.Error))))))
+      go : (first : Bool) → eqb n 0 ≡ first → (p q r s t : Bool) → Lower n
+          (pick first Node.Error (pick p (Node.Key (halfAt f (start + 20)) b)
+          (pick q (Node.Value a) (pick r (Node.Subquery a (record { at = start + 24; end = start + 2 * size; below = n }))
+          (pick s (Node.Fact (fullAt f (start + 20)) c) (pick t (Node.Select (halfAt f (start + 20)) b) Node.Error))))))
       go true e p q r s t = tt
       go false e true q r s t = lower-below (halfAt f (start + 24)) n (eqb-false n 0 e)
       go false e false true r s t = lower-below (halfAt f (start + 20)) n (eqb-false n 0 e)
@@ -188,14 +222,16 @@ module _ (f w : List ℕ) (n start size shape : ℕ) (p : At f w n start size sh
 
   -- What the node names is lower, so it is not node 0.
   module _ (m : ℕ) (e : shape ≡ m) where
-    pair-is : (make : ℕ → ℕ → ExprKind) → ((s : List ℕ) → exprKind wide (m ∷ s) ≡ pair make two two s) → ((a b : ℕ) → exprNodes (make a b) ≡ b ∷ []) → ((n ≡ 0 → ⊥) → kindW f (parentW f start size shape n) ≡ make (halfAt f (start + 20)) (lowerW (halfAt f (start + 24)) n)) → Is
+    pair-is : (make : ℕ → ℕ → ExprKind) → ((s : List ℕ) → exprKind wide (m ∷ s) ≡ pair make two two s) → ((a b : ℕ) → exprNodes (make a b) ≡ b ∷ [])
+        → ((n ≡ 0 → ⊥) → kindW f (parentW f start size shape n) ≡ make (halfAt f (start + 20)) (lowerW (halfAt f (start + 24)) n)) → Is
     pair-is make same nodes made nd h b =
         let z : start + 20 + 4 ≡ start + 24 = omega arith in
         let k = rw z at (says m same (reads-pair f make (reads-two f) (reads-two f)) e nd h) in
         let low = first-below n (halfAt f (start + 24)) [] (rw (← k, nodes (halfAt f (start + 20)) (halfAt f (start + 24))) at b) in
         made (λ q. omega (arith, low)) ∙ ap (make (halfAt f (start + 20))) (lower-stays (halfAt f (start + 24)) n low) ∙ k
 
-    one-is : (make : ℕ → ExprKind) → ((s : List ℕ) → exprKind wide (m ∷ s) ≡ one make two s) → ((a : ℕ) → exprNodes (make a) ≡ a ∷ []) → ((n ≡ 0 → ⊥) → kindW f (parentW f start size shape n) ≡ make (lowerW (halfAt f (start + 20)) n)) → Is
+    one-is : (make : ℕ → ExprKind) → ((s : List ℕ) → exprKind wide (m ∷ s) ≡ one make two s) → ((a : ℕ) → exprNodes (make a) ≡ a ∷ [])
+        → ((n ≡ 0 → ⊥) → kindW f (parentW f start size shape n) ≡ make (lowerW (halfAt f (start + 20)) n)) → Is
     one-is make same nodes made nd h b =
         let k = says m same (reads-one f make (reads-two f)) e nd h in
         let low = first-below n (halfAt f (start + 20)) [] (rw (← k, nodes (halfAt f (start + 20))) at b) in
@@ -241,7 +277,8 @@ module _ (f w : List ℕ) (n start size shape : ℕ) (p : At f w n start size sh
       let z : start + 20 + 8 ≡ start + 28 = omega arith in
       let k : ExprKind.Fact (fourAt f (start + 20)) (halfAt f (start + 28)) ≡ nd .kind = rw z at (ran .value) in
       let low = first-below n (halfAt f (start + 28)) [] (rw (← k) at b) in
-      made (λ q. omega (arith, low)) ∙ ap₂ ExprKind.Fact (fact-whole (omega (arith, ran .long, a .line .long)) (a .line .small)) (lower-stays (halfAt f (start + 28)) n low) ∙ k
+      made (λ q. omega (arith, low)) ∙ ap₂ ExprKind.Fact (fact-whole (omega (arith, ran .long, a .line .long)) (a .line .small))
+      (lower-stays (halfAt f (start + 28)) n low) ∙ k
 
   error-is : shape ≡ 15 → Is
   unfolding exprKinds choice entry kindW parentW
@@ -256,14 +293,33 @@ module _ (f w : List ℕ) (n start size shape : ℕ) (p : At f w n start size sh
 
   pub parents : Others (14 ∷ 11 ∷ down 9) shape → IsNode f w n (parentW f start size shape n)
   unfolding exprKinds choice entry kindW parentW exprNodes asked
-  parents o = record { is = go (eqb shape 9) refl (eqb shape 10) refl (eqb shape 12) refl (eqb shape 13) refl (eqb shape 15) refl (eqb shape 16) refl; lower = parent-lower }
+  parents o = record {
+    is = go (eqb shape 9) refl (eqb shape 10) refl (eqb shape 12) refl (eqb shape 13) refl (eqb shape 15) refl (eqb shape 16) refl;
+    lower = parent-lower;
+  }
     where
-      go : (p : Bool) → eqb shape 9 ≡ p → (q : Bool) → eqb shape 10 ≡ q → (r : Bool) → eqb shape 12 ≡ r → (s : Bool) → eqb shape 13 ≡ s → (t : Bool) → eqb shape 15 ≡ t → (u : Bool) → eqb shape 16 ≡ u → Is
-      go true e q e₁ r e₂ s e₃ t e₄ u e₅ = let e = eqb-true shape 9 e in pair-is 9 e (λ x e. ExprKind.Access (FieldRef.Key x) e) (λ s. refl) (λ a b. refl) (λ h. rw (e, ne-eqb n 0 h))
-      go false e₀ true e r e₂ s e₃ t e₄ u e₅ = let e = eqb-true shape 10 e in one-is 10 e (ExprKind.Access FieldRef.Value) (λ s. refl) (λ a. refl) (λ h. rw (e, ne-eqb n 0 h))
+      go : (p : Bool) → eqb shape 9 ≡ p → (q : Bool) → eqb shape 10 ≡ q → (r : Bool) → eqb shape 12 ≡ r → (s : Bool) → eqb shape 13 ≡ s → (t : Bool)
+          → eqb shape 15 ≡ t → (u : Bool) → eqb shape 16 ≡ u → Is
+      go true e q e₁ r e₂ s e₃ t e₄ u e₅ = let e = eqb-true shape 9 e in pair-is 9 e (λ x e. ExprKind.Access (FieldRef.Key x) e) (λ s. refl)
+          (λ a b. refl) (λ h. rw (e, ne-eqb n 0 h))
+      go false e₀ true e r e₂ s e₃ t e₄ u e₅ = let e = eqb-true shape 10 e in one-is 10 e (ExprKind.Access FieldRef.Value) (λ s. refl) (λ a. refl)
+          (λ h. rw (e, ne-eqb n 0 h))
       go false e₀ false e₁ true e s e₃ t e₄ u e₅ = let e = eqb-true shape 12 e in subquery-is e (λ h. rw (e, ne-eqb n 0 h))
       go false e₀ false e₁ false e₂ true e t e₄ u e₅ = let e = eqb-true shape 13 e in fact-is e (λ h. rw (e, ne-eqb n 0 h))
       go false e₀ false e₁ false e₂ false e₃ true e u e₅ = error-is (eqb-true shape 15 e)
-      go false e₀ false e₁ false e₂ false e₃ false e₄ true e = let e = eqb-true shape 16 e in pair-is 16 e ExprKind.Select (λ s. refl) (λ a b. refl) (λ h. rw (e, ne-eqb n 0 h))
+      go false e₀ false e₁ false e₂ false e₃ false e₄ true e = let e = eqb-true shape 16 e in pair-is 16 e ExprKind.Select (λ s. refl) (λ a b. refl)
+          (λ h. rw (e, ne-eqb n 0 h))
       go false e₀ false e₁ false e₂ false e₃ false e₄ false e₅ =
-          none-is (beyond 17 shape ((((((((o .0 .0, eqb-false shape 9 e₀), eqb-false shape 10 e₁), o .0 .1), eqb-false shape 12 e₂), eqb-false shape 13 e₃), o .1), eqb-false shape 15 e₄), eqb-false shape 16 e₅))
+          none-is (beyond 17 shape (
+            (
+              (
+                (
+                  ((((o .0 .0, eqb-false shape 9 e₀), eqb-false shape 10 e₁), o .0 .1), eqb-false shape 12 e₂),
+                  eqb-false shape 13 e₃,
+                ),
+                o .1,
+              ),
+              eqb-false shape 15 e₄,
+            ),
+            eqb-false shape 16 e₅,
+          ))

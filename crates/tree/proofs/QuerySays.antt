@@ -23,4 +23,5 @@ module _ (f w : List ℕ) (q : Query) (h : QueryIs f w q) where
   unfolding bodyW
   query-body-is n few b =
       let z : getD w QUERY 0 / 1024 + 2 + 4 ≡ getD w QUERY 0 / 1024 + 6 = omega arith in
-      rw z at (body-is f (getD w QUERY 0 / 1024 + 2) (getD w QUERY 0 / 1024 + 2 * (getD w QUERY 0 % 1024)) 512 q (query-line f w q h) (below-more n 512 few (queryNodes q) b))
+      rw z at (body-is f (getD w QUERY 0 / 1024 + 2) (getD w QUERY 0 / 1024 + 2 * (getD w QUERY 0 % 1024)) 512 q (query-line f w q h)
+      (below-more n 512 few (queryNodes q) b))

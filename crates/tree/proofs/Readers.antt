@@ -18,8 +18,11 @@ Stand f at (b ∷ s) = (digitsW f at ≡ b) × Stand f (at + 2) s
 pub stand : (f : List ℕ) (at : ℕ) (s : List ℕ) → ((k : ℕ) → k < length s → digitsW f (at + 2 * k) ≡ getD s k 0) → Stand f at s
 stand f at [] h = tt
 stand f at (b ∷ s) h =
-    let z : at + 2 * 0 ≡ at = omega arith in
-    (rw z at (h 0 (zero-lt-suc (length s))), stand f (at + 2) s (λ k l. let z : at + 2 * suc k ≡ at + 2 + 2 * k = omega arith in rw z at (h (suc k) (omega arith))))
+    let z : at + 2 * 0 ≡ at = omega arith in (
+      rw z at (h 0 (zero-lt-suc (length s))),
+      stand f (at + 2) s
+          (λ k l. let z : at + 2 * suc k ≡ at + 2 + 2 * k = omega arith in rw z at (h (suc k) (omega arith))),
+    )
 
 -- ---- Readers
 
@@ -82,12 +85,14 @@ module _ (f : List ℕ) where
             let q : make (w .a) ≡ b = cc (w .after) in
             record { value = ap make (ran .value) ∙ q; rest = rw p at (ran .rest); long = rw p at (ran .long) }
 
-  module _ {A B C : Type 0} (make : A → B → C) {r : Reader A} {m : ℕ → ℕ} {v : ℕ → A} {q : Reader B} {n : ℕ → ℕ} {u : ℕ → B} (R : Reads f r m v) (Q : Reads f q n u) where
+  module _ {A B C : Type 0} (make : A → B → C) {r : Reader A} {m : ℕ → ℕ} {v : ℕ → A} {q : Reader B} {n : ℕ → ℕ} {u : ℕ → B} (R : Reads f r m v)
+      (Q : Reads f q n u) where
     pub reads-pair : Reads f (pair make r q) (λ at. m at + n (at + m at)) (λ at. make (v at) (u (at + m at)))
     unfolding pair
     reads-pair = record { run = run }
       where
-        run : (at : ℕ) (s : List ℕ) (c : C) (t : List ℕ) → Stand f at s → pair make r q s ≡ got c t → Ran f (λ at. m at + n (at + m at)) (λ at. make (v at) (u (at + m at))) at s c t
+        run : (at : ℕ) (s : List ℕ) (c : C) (t : List ℕ) → Stand f at s → pair make r q s ≡ got c t
+            → Ran f (λ at. m at + n (at + m at)) (λ at. make (v at) (u (at + m at))) at s c t
         run at s c t st e =
             let w = went (r s) (λ a. one (make a) q) c t e in
             let ran = R .run at s (w .a) (w .s) st (w .first) in
@@ -117,7 +122,9 @@ module _ (f : List ℕ) {A : Type 0} {r : Reader A} {m : ℕ → ℕ} {v : ℕ �
       let ran = R .run at (b ∷ s) (w .a) (w .s) st (w .first) in
       step w ran (λ more u q. listed-in n (at + m at) (w .s) more u (ran .rest) q)
     where
-      step : (w : Went (r (b ∷ s)) (λ a. one (λ more. a ∷ more) (λ t. manyIn n r t)) l t) → Ran f m v at (b ∷ s) (w .a) (w .s) → ((more : List A) (u : List ℕ) → manyIn n r (w .s) ≡ got more u → Listed m v (at + m at) (at + m at + 2 * length (w .s)) more) → Listed m v at (at + 2 * length (b ∷ s)) l
+      step : (w : Went (r (b ∷ s)) (λ a. one (λ more. a ∷ more) (λ t. manyIn n r t)) l t) → Ran f m v at (b ∷ s) (w .a) (w .s)
+          → ((more : List A) (u : List ℕ) → manyIn n r (w .s) ≡ got more u → Listed m v (at + m at) (at + m at + 2 * length (w .s)) more)
+          → Listed m v at (at + 2 * length (b ∷ s)) l
       step w ran on =
           let x = went (manyIn n r (w .s)) (λ more. got (w .a ∷ more)) l t (w .after) in
           let p : w .a ∷ x .a ≡ l = cc (x .after) in

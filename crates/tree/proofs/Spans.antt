@@ -75,7 +75,8 @@ written f at [] t rest h = refl
 written f at (b ∷ s) t rest h =
     let z : 2 * suc (length s) ≡ suc (suc (2 * length s)) = omega arith in
     let y : at + 2 * 0 ≡ at = omega arith in
-    rw (z, pair-written f at b (rw y at (h 0 (zero-lt-suc (length (s ++ t)))))) (ap (λ m. hexDigit (b / 16) ∷ hexDigit (b % 16) ∷ m) (written f (at + 2) s t rest (others f at b (s ++ t) h)))
+    rw (z, pair-written f at b (rw y at (h 0 (zero-lt-suc (length (s ++ t))))))
+    (ap (λ m. hexDigit (b / 16) ∷ hexDigit (b % 16) ∷ m) (written f (at + 2) s t rest (others f at b (s ++ t) h)))
 
 -- ---- Four bytes
 
@@ -118,7 +119,8 @@ content-is a b s s₁ s₂ h p q =
 
 module _ (f w : List ℕ) (n : ℕ) (nd : Node) (h : NodeIs f w n nd) where
   -- The sixteen digits after the first two of the node's line.
-  pub span-written : (rest : List ℕ) → hexLine (bytes₄ (nd .span .start) ++ bytes₄ (nd .span .end) ++ rest) ≡ take 16 (drop (lineStartW w n + 2) f) ++ hexLine rest
+  pub span-written : (rest : List ℕ) → hexLine (bytes₄ (nd .span .start) ++ bytes₄ (nd .span .end) ++ rest) ≡ take 16 (drop (lineStartW w n + 2) f) ++
+      hexLine rest
   unfolding lineStartW bytes₄ bytes₂
   span-written rest =
       let start = getD w (NODES + n) 0 / 2048 in

@@ -60,11 +60,14 @@ module _ (f : List ℕ) (l : Items) where
 stmts-enough : (f : List ℕ) (end below j k at : ℕ) → end ≤ at + j → end ≤ at + k → stmtsFrom j f at end below ≡ stmtsFrom k f at end below
 stmts-enough f end below zero k at p q = stmts-done f end below zero at (omega arith) ∙ sym (stmts-done f end below k at (omega arith))
 stmts-enough f end below (suc j) zero at p q = stmts-done f end below (suc j) at (omega arith) ∙ sym (stmts-done f end below zero at (omega arith))
-stmts-enough f end below (suc j) (suc k) at p q = go (ltb at end) refl (stmts-enough f end below j k (at + stmtSizeW f at) (omega (arith, stmt-size f at .0)) (omega (arith, stmt-size f at .0)))
+stmts-enough f end below (suc j) (suc k) at p q = go (ltb at end) refl
+    (stmts-enough f end below j k (at + stmtSizeW f at) (omega (arith, stmt-size f at .0)) (omega (arith, stmt-size f at .0)))
   where
-    go : (t : Bool) → ltb at end ≡ t → stmtsFrom j f (at + stmtSizeW f at) end below ≡ stmtsFrom k f (at + stmtSizeW f at) end below → stmtsFrom (suc j) f at end below ≡ stmtsFrom (suc k) f at end below
+    go : (t : Bool) → ltb at end ≡ t → stmtsFrom j f (at + stmtSizeW f at) end below ≡ stmtsFrom k f (at + stmtSizeW f at) end below
+        → stmtsFrom (suc j) f at end below ≡ stmtsFrom (suc k) f at end below
     go false e on = stmts-done f end below (suc j) at (ltb-false at end e) ∙ sym (stmts-done f end below (suc k) at (ltb-false at end e))
-    go true e on = stmts-next f end below j at (ltb-true at end e) ∙ ap (λ m. statement (stmtW f at below) ∷ m) on ∙ sym (stmts-next f end below k at (ltb-true at end e))
+    go true e on = stmts-next f end below j at (ltb-true at end e) ∙ ap (λ m. statement (stmtW f at below) ∷ m) on ∙ sym
+        (stmts-next f end below k at (ltb-true at end e))
 
 -- the statements after the first
 abbrev pub laterStmts : List ℕ → Stmts → Stmts
@@ -91,9 +94,11 @@ LowerStmt n (Stmt.Compare a b) = (a < n) × (b < n)
 
 pub stmt-lower : (f : List ℕ) (at n : ℕ) → 0 < n → LowerStmt n (stmtW f at n)
 unfolding stmtW stmtOf
-stmt-lower f at n h = go (eqb (digitsW f at) 0) (eqb (digitsW f at) 1) (eqb (digitsW f at) 2) (eqb (digitsW f at) 3) (lower-below (halfAt f (at + 2)) n (λ e. omega arith)) (lower-below (halfAt f (at + 6)) n (λ e. omega arith))
+stmt-lower f at n h = go (eqb (digitsW f at) 0) (eqb (digitsW f at) 1) (eqb (digitsW f at) 2) (eqb (digitsW f at) 3)
+    (lower-below (halfAt f (at + 2)) n (λ e. omega arith)) (lower-below (halfAt f (at + 6)) n (λ e. omega arith))
   where
-    go : (p q r s : Bool) {a b : ℕ} → a < n → b < n → LowerStmt n (pick p (Stmt.Bind a b) (pick q (Stmt.Implicit a) (pick r (Stmt.Negation a) (pick s (Stmt.Deny a b) (Stmt.Compare a b)))))
+    go : (p q r s : Bool) {a b : ℕ} → a < n → b < n → LowerStmt n
+        (pick p (Stmt.Bind a b) (pick q (Stmt.Implicit a) (pick r (Stmt.Negation a) (pick s (Stmt.Deny a b) (Stmt.Compare a b)))))
     go true q r s x y = (x, y)
     go false true r s x y = x
     go false false true s x y = x

@@ -119,7 +119,8 @@ follow-unset (suc k) s x (Var y) off = go (bound s y) refl (λ t. follow-unset k
     same : bound (unset s x) y ≡ bound s y
     same = unset-other s x y (λ p. off (rw p itself))
 
-    go : (o : Option Ty) → bound s y ≡ o → ((t : Ty) → ¬ Reaches s t (Var x) → follow k (unset s x) t ≡ follow k s t) → follow (suc k) (unset s x) (Var y) ≡ follow (suc k) s (Var y)
+    go : (o : Option Ty) → bound s y ≡ o → ((t : Ty) → ¬ Reaches s t (Var x) → follow k (unset s x) t ≡ follow k s t)
+        → follow (suc k) (unset s x) (Var y) ≡ follow (suc k) s (Var y)
     go none e ih = rw (same, e, follow)
     go (some t) e ih = rw (same, e, follow) (ih t (λ h. off (through e h)))
 
@@ -145,7 +146,8 @@ follow-resolved (suc c) s le A (node k r) = tt
 follow-resolved (suc c) s le A Error = tt
 follow-resolved (suc c) s le A (Var x) = go (bound s x) refl (λ s′ l A′ t. follow-resolved c s′ l A′ t)
   where
-    go : (o : Option Ty) → bound s x ≡ o → ((s′ : Subst) → count s′ ≤ c → Acyclic s′ → (t : Ty) → Resolved s′ (follow (suc c) s′ t)) → Resolved s (follow (suc (suc c)) s (Var x))
+    go : (o : Option Ty) → bound s x ≡ o → ((s′ : Subst) → count s′ ≤ c → Acyclic s′ → (t : Ty) → Resolved s′ (follow (suc c) s′ t))
+        → Resolved s (follow (suc (suc c)) s (Var x))
     go none e ih = rw (follow-free (suc (suc c)) s x e) e
     go (some t) e ih =
         let off = not-behind s A x t e in
@@ -171,6 +173,7 @@ follow-settled (suc k) (suc j) s (node c r) le h = refl
 follow-settled (suc k) (suc j) s Error le h = refl
 follow-settled (suc k) (suc j) s (Var x) le h = go (bound s x) refl (λ t. follow-settled k j s t (omega arith))
   where
-    go : (o : Option Ty) → bound s x ≡ o → ((t : Ty) → Resolved s (follow k s t) → follow j s t ≡ follow k s t) → follow (suc j) s (Var x) ≡ follow (suc k) s (Var x)
+    go : (o : Option Ty) → bound s x ≡ o → ((t : Ty) → Resolved s (follow k s t) → follow j s t ≡ follow k s t)
+        → follow (suc j) s (Var x) ≡ follow (suc k) s (Var x)
     go none e ih = follow-free (suc j) s x e ∙ sym (follow-free (suc k) s x e)
     go (some t) e ih = follow-bound j s x t e ∙ ih t (rw (follow-bound k s x t e) at h) ∙ sym (follow-bound k s x t e)

@@ -11,14 +11,17 @@ use lib.ListN.{length, replicate, length-append, length-replicate, replicate-app
 use Rattle.unification.specs.Ty.{Ty}
 use Rattle.unification.specs.Bindings.{Subst, bound, History, start, ended, rolled, State, withLeft, withHistory, fresh, annotate, snapshot, rollback}
 use Rattle.unification.specs.Unify.{Unified, Ok, Err, Spent, unify}
-use Rattle.unification.specs.Calls.{Side, Admitted, Respects, Assignment, Taken, Machine, begin, take-snapshot, Call, unknown, unification, failure, snapping, rollingBack, spending, annotation, Calls, none-yet, then-call, live, EntryClaim, BindingsClaim, BackTo, bindingsAt, Noted, AtEveryMoment, Claim, GivesBack, AllGiveBack, Demand3}
+use Rattle.unification.specs.Calls.{Side, Admitted, Respects, Assignment, Taken, Machine, begin, take-snapshot, Call, unknown, unification, failure}
+use Rattle.unification.specs.Calls.{snapping, rollingBack, spending, annotation, Calls, none-yet, then-call, live, EntryClaim, BindingsClaim, BackTo}
+use Rattle.unification.specs.Calls.{bindingsAt, Noted, AtEveryMoment, Claim, GivesBack, AllGiveBack, Demand3}
 use Rattle.unification.proofs.Tests.{clash}
 use Rattle.unification.specs.Acyclic.{Behind, Acyclic}
 use Rattle.unification.proofs.Acyclic.{no-loop}
 use Rattle.unification.proofs.Respects.{respects-among}
 use Rattle.unification.specs.Log.{Wf}
 use Rattle.unification.proofs.Sides.{bound-pad, pad-among, wf-pad}
-use Rattle.unification.proofs.Undo.{unbind, unannotate, Since, since-refl, since-trans, since-length, since-fresh, since-left, since-annotate, rollback-subst, rollback-tys, rollback-undo, rollback-left}
+use Rattle.unification.proofs.Undo.{unbind, unannotate, Since, since-refl, since-trans, since-length, since-fresh, since-left, since-annotate}
+use Rattle.unification.proofs.Undo.{rollback-subst, rollback-tys, rollback-undo, rollback-left}
 use Rattle.unification.proofs.Kept.{After, Kept, unify-kept}
 use Rattle.unification.proofs.Post.{Any, Moments, Here, Known, Post}
 use Rattle.unification.proofs.Sound.{noted-end, unify-post}
@@ -31,8 +34,10 @@ pub record Sound (st : State) : Type 0 where
 claim-pad : (s : Subst) (n : ℕ) (h : History) → BindingsClaim Any s h → BindingsClaim Any (s ++ replicate n none) h
 unfolding BindingsClaim
 claim-pad s n h c m σ any =
-    let e = c m σ tt in
-    (λ R. e .0 (respects-among σ s (s ++ replicate n none) (λ x t q. bound-pad s n x ∙ q) R), λ q. respects-among σ (s ++ replicate n none) s (pad-among s n) (e .1 q))
+    let e = c m σ tt in (
+      λ R. e .0 (respects-among σ s (s ++ replicate n none) (λ x t q. bound-pad s n x ∙ q) R),
+      λ q. respects-among σ (s ++ replicate n none) s (pad-among s n) (e .1 q),
+    )
 
 -- Free unknowns after free unknowns.
 pad-pad : (then s : Subst) (k n : ℕ) → s ≡ then ++ replicate k none → s ++ replicate n none ≡ then ++ replicate (k + n) none
@@ -109,7 +114,8 @@ module _ (n : ℕ) (then st : State) (p : Since n then st) where
   rolled-since = record {
     new = [];
     undo = rollback-undo p;
-    subst = λ k. rw (rollback-subst p) (append-assoc (then .subst) (replicate n none) (replicate k none) ∙ ap {B = Subst} (λ r. then .subst ++ r) (replicate-append-replicate n k none));
+    subst = λ k. rw (rollback-subst p) (append-assoc (then .subst) (replicate n none) (replicate k none) ∙ ap {B = Subst} (λ r. then .subst ++ r)
+        (replicate-append-replicate n k none));
     tys = rollback-tys p;
     left = omega (arith, rollback-left p, p .left);
   }
@@ -133,7 +139,8 @@ pub record Inv (m : Machine) : Type 0 where
   pub sound : Sound (m .state)
   pub stack : Stack (m .state) (m .taken)
 
-rolled-inv : (st : State) (to : Taken) (older : List Taken) → Sound st → Stack st (to ∷ older) → Inv (record { state = rollback st (to .at); taken = to ∷ older })
+rolled-inv : (st : State) (to : Taken) (older : List Taken) → Sound st → Stack st (to ∷ older)
+    → Inv (record { state = rollback st (to .at); taken = to ∷ older })
 unfolding take-snapshot
 rolled-inv st to older now h =
     rw (h .2) (record {
@@ -147,7 +154,10 @@ united-inv st st′ ts h now k = record { sound = now; stack = stack-on st st′
 
 call-inv : (m m′ : Machine) → Call m m′ → Inv m → Inv m′
 unfolding withLeft annotate
-call-inv m m′ unknown h = record { sound = fresh-sound (m .state) (h .sound); stack = stack-on (m .state) (fresh (m .state)) (m .taken) (since-fresh (m .state)) (h .stack) }
+call-inv m m′ unknown h = record {
+  sound = fresh-sound (m .state) (h .sound);
+  stack = stack-on (m .state) (fresh (m .state)) (m .taken) (since-fresh (m .state)) (h .stack);
+}
 call-inv m m′ (unification a b {st} i j e) h =
     united-inv (m .state) st (m .taken) (h .stack) (rw e at (unify-sound (m .state) a b (h .sound) i j)) (rw e at (unify-kept (m .state) a b))
 call-inv m m′ (failure a b c {st} i j e) h =

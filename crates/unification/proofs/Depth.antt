@@ -8,7 +8,8 @@ use native.Mathlib.Omega.{arith}
 use lib.Dec.{eqb}
 use Rattle.unification.specs.Ty.{Kind, Record, Union, Ty, leaf, node, Var, Error, Row, ε, cell, rowLen}
 use Rattle.unification.specs.Bindings.{repr, State, withLeft}
-use Rattle.unification.specs.Unify.{UnionDiff, TyError, Unified, Ok, Err, Spent, andThen, bindVar, findKey, unifyField, unifyFields, unifyRecord, discriminants, unifyAlternative, unifyAlternatives, unifyUnion, unifyNodes, unifyHeads, note, unifyIn, unify}
+use Rattle.unification.specs.Unify.{UnionDiff, TyError, Unified, Ok, Err, Spent, andThen, bindVar, findKey, unifyField, unifyFields, unifyRecord}
+use Rattle.unification.specs.Unify.{discriminants, unifyAlternative, unifyAlternatives, unifyUnion, unifyNodes, unifyHeads, note, unifyIn, unify}
 use Rattle.unification.proofs.Occurs.{occurs-depth}
 use Rattle.unification.proofs.Kept.{After, Kept, heads-in, unifyIn-spent, unifyIn-visit, unifyIn-kept, kept-field, kept-alternative}
 
@@ -28,7 +29,8 @@ then-depth m st res res′ f g le e k h = rw (← e) (go res k)
     go (Spent b) p = refl
 
 -- Two unifiers that agree where at most m visits are left.
-module _ (u u′ : State → Ty → Ty → Unified) (m : ℕ) (rec : (st : State) (a b : Ty) → After (Kept st) (u st a b)) (agree : (st : State) (a b : Ty) → st .left ≤ m → u st a b ≡ u′ st a b) where
+module _ (u u′ : State → Ty → Ty → Unified) (m : ℕ) (rec : (st : State) (a b : Ty) → After (Kept st) (u st a b))
+    (agree : (st : State) (a b : Ty) → st .left ≤ m → u st a b ≡ u′ st a b) where
   field-depth : (st : State) (k : ℕ) (x : Ty) (o : Option (ℕ × Ty)) → st .left ≤ m → unifyField u st k x o ≡ unifyField u′ st k x o
   unfolding unifyField
   field-depth st k x none le = refl
@@ -48,7 +50,8 @@ module _ (u u′ : State → Ty → Ty → Unified) (m : ℕ) (rec : (st : State
       go true q = rw (q, unifyRecord) (fields-depth st xs ys le)
       go false q = rw (q, unifyRecord)
 
-  alternative-depth : (st : State) (differ : UnionDiff → TyError) (k : ℕ) (o o′ : Option (ℕ × Ty)) → st .left ≤ m → unifyAlternative u st differ k o o′ ≡ unifyAlternative u′ st differ k o o′
+  alternative-depth : (st : State) (differ : UnionDiff → TyError) (k : ℕ) (o o′ : Option (ℕ × Ty)) → st .left ≤ m
+      → unifyAlternative u st differ k o o′ ≡ unifyAlternative u′ st differ k o o′
   unfolding unifyAlternative
   alternative-depth st differ k none none le = refl
   alternative-depth st differ k none (some y) le = refl
@@ -59,11 +62,13 @@ module _ (u u′ : State → Ty → Ty → Unified) (m : ℕ) (rec : (st : State
       go true q = rw (q, unifyAlternative, agree st (x .1) (y .1) le)
       go false q = rw (q, unifyAlternative)
 
-  alternatives-depth : (st : State) (differ : UnionDiff → TyError) (ks : List ℕ) (xs ys : Row) → st .left ≤ m → unifyAlternatives u st differ ks xs ys ≡ unifyAlternatives u′ st differ ks xs ys
+  alternatives-depth : (st : State) (differ : UnionDiff → TyError) (ks : List ℕ) (xs ys : Row) → st .left ≤ m
+      → unifyAlternatives u st differ ks xs ys ≡ unifyAlternatives u′ st differ ks xs ys
   unfolding unifyAlternatives
   alternatives-depth st differ [] xs ys le = refl
   alternatives-depth st differ (k ∷ ks) xs ys le =
-      then-depth m st _ _ _ _ le (alternative-depth st differ k (findKey k xs) (findKey k ys) le) (kept-alternative u rec st differ k (findKey k xs) (findKey k ys)) (λ b p. alternatives-depth b differ ks xs ys p)
+      then-depth m st _ _ _ _ le (alternative-depth st differ k (findKey k xs) (findKey k ys) le)
+      (kept-alternative u rec st differ k (findKey k xs) (findKey k ys)) (λ b p. alternatives-depth b differ ks xs ys p)
 
   nodes-depth : (st : State) (k : Kind) (xs : Row) (k′ : Kind) (ys : Row) → st .left ≤ m → unifyNodes u st k xs k′ ys ≡ unifyNodes u′ st k xs k′ ys
   unfolding unifyNodes unifyUnion
@@ -102,11 +107,13 @@ unifyIn-depth zero (suc e) st a b p q = sym (unifyIn-spent e st a b (omega arith
 unifyIn-depth (suc d) zero st a b p q = unifyIn-spent d st a b (omega arith)
 unifyIn-depth (suc d) (suc e) st a b p q = go (st .left) refl (λ st′ a′ b′ p′ q′. unifyIn-depth d e st′ a′ b′ p′ q′)
   where
-    go : (v : ℕ) → st .left ≡ v → ((st′ : State) (a′ b′ : Ty) → st′ .left ≤ d → st′ .left ≤ e → unifyIn d st′ a′ b′ ≡ unifyIn e st′ a′ b′) → unifyIn (suc d) st a b ≡ unifyIn (suc e) st a b
+    go : (v : ℕ) → st .left ≡ v → ((st′ : State) (a′ b′ : Ty) → st′ .left ≤ d → st′ .left ≤ e → unifyIn d st′ a′ b′ ≡ unifyIn e st′ a′ b′)
+        → unifyIn (suc d) st a b ≡ unifyIn (suc e) st a b
     go zero i ih = unifyIn-spent d st a b i ∙ sym (unifyIn-spent e st a b i)
     go (suc v) i ih =
         unifyIn-visit d st v a b i
-        ∙ ap (note (st .subst) a b) (heads-depth (λ st′ a′ b′. unifyIn d st′ a′ b′) (λ st′ a′ b′. unifyIn e st′ a′ b′) v (λ st′ a′ b′. unifyIn-kept d st′ a′ b′) (λ st′ a′ b′ l. ih st′ a′ b′ (omega arith) (omega arith))
+        ∙ ap (note (st .subst) a b) (heads-depth (λ st′ a′ b′. unifyIn d st′ a′ b′) (λ st′ a′ b′. unifyIn e st′ a′ b′) v
+        (λ st′ a′ b′. unifyIn-kept d st′ a′ b′) (λ st′ a′ b′ l. ih st′ a′ b′ (omega arith) (omega arith))
         d e (withLeft st v) (repr (st .subst) a) (repr (st .subst) b) (omega arith) (omega arith) (omega arith))
         ∙ sym (unifyIn-visit e st v a b i)
 

@@ -12,7 +12,9 @@ use lib.Dec.{eqb}
 use lib.ListN.{length}
 use Rattle.unification.specs.Ty.{Leaf-discrete, Kind, Record, Union, Ty, leaf, node, Var, Error, Row, ε, cell, rowLen}
 use Rattle.unification.specs.Bindings.{Subst, repr, Answer, yes-left, no-left, spent, occurs, History, ended, State, withLeft, withHistory, setVar}
-use Rattle.unification.specs.Unify.{UnionDiff, TyError, Unified, Ok, Err, Spent, andThen, mapErr, bindVar, findKey, unifyField, unifyFields, unifyRecord, discriminants, unifyAlternative, unifyAlternatives, unifyUnion, unifyNodes, unifyHeads, note, unifyIn, unify}
+use Rattle.unification.specs.Unify.{UnionDiff, TyError, Unified, Ok, Err, Spent, andThen, mapErr, bindVar, findKey, unifyField, unifyFields}
+use Rattle.unification.specs.Unify.{unifyRecord, discriminants, unifyAlternative, unifyAlternatives, unifyUnion, unifyNodes, unifyHeads, note}
+use Rattle.unification.specs.Unify.{unifyIn, unify}
 use Rattle.unification.proofs.Occurs.{Fewer, occurs-fewer}
 use Rattle.unification.proofs.Undo.{Since, since-refl, since-trans, since-length, since-history, since-setVar, since-left}
 

@@ -9,10 +9,13 @@ use Prim.Native.Nat.{ℕ, suc, _-_}
 use native.Mathlib.Omega.{arith}
 use lib.ListN.{length, set, take}
 use Rattle.unification.specs.Ty.{Int, String, Record, Union, Ty, leaf, node, Var, Error, ε, cell, app}
-use Rattle.unification.specs.Bindings.{Subst, bound, zonk, start, ended, State, withLeft, withHistory, freshId, fresh, setVar, annotate, Snapshot, snapshot, rollback, Resolved}
-use Rattle.unification.specs.Unify.{Absent, Renamed, Payload, TyError, Mismatch, UnionMismatch, UnknownField, Infinite, Unified, Ok, Err, Spent, unifyHeads, note, unifyIn, unify}
+use Rattle.unification.specs.Bindings.{Subst, bound, zonk, start, ended, State, withLeft, withHistory, freshId, fresh, setVar, annotate, Snapshot}
+use Rattle.unification.specs.Bindings.{snapshot, rollback, Resolved}
+use Rattle.unification.specs.Unify.{Absent, Renamed, Payload, TyError, Mismatch, UnionMismatch, UnknownField, Infinite, Unified, Ok, Err, Spent}
+use Rattle.unification.specs.Unify.{unifyHeads, note, unifyIn, unify}
 use Rattle.unification.specs.Order.{Same}
-use Rattle.unification.specs.Calls.{itself, through, Admitted, Assignment, Respects, Machine, begin, unknown, unification, Calls, none-yet, then-call, live, BindingsClaim}
+use Rattle.unification.specs.Calls.{itself, through, Admitted, Assignment, Respects, Machine, begin, unknown, unification, Calls, none-yet}
+use Rattle.unification.specs.Calls.{then-call, live, BindingsClaim}
 use Rattle.unification.proofs.Tests.{clash}
 use Rattle.unification.proofs.Chain.{repr-resolved-is}
 use Rattle.unification.proofs.Undo.{rewind-subst, unbind-length}
@@ -42,11 +45,13 @@ unify-resolved st v a b e p q =
     ∙ rw (repr-resolved-is (st .subst) a p, repr-resolved-is (st .subst) b q)
 
 -- An unbound unknown beside Error becomes Error, on either side, with no occurs check.
-pub var-beside-error : (st : State) (x v : ℕ) → st .left ≡ suc v → bound (st .subst) x ≡ none → seen (unify st (Var x) Error) ≡ succeeds (set (st .subst) x (some Error)) v
+pub var-beside-error : (st : State) (x v : ℕ) → st .left ≡ suc v → bound (st .subst) x ≡ none
+    → seen (unify st (Var x) Error) ≡ succeeds (set (st .subst) x (some Error)) v
 unfolding seen note unifyHeads withLeft setVar
 var-beside-error st x v e free = ap seen (unify-resolved st v (Var x) Error e free tt)
 
-pub error-beside-var : (st : State) (x v : ℕ) → st .left ≡ suc v → bound (st .subst) x ≡ none → seen (unify st Error (Var x)) ≡ succeeds (set (st .subst) x (some Error)) v
+pub error-beside-var : (st : State) (x v : ℕ) → st .left ≡ suc v → bound (st .subst) x ≡ none
+    → seen (unify st Error (Var x)) ≡ succeeds (set (st .subst) x (some Error)) v
 unfolding seen note unifyHeads withLeft setVar
 error-beside-var st x v e free = ap seen (unify-resolved st v Error (Var x) e tt free)
 

@@ -10,8 +10,11 @@ use native.Mathlib.Omega.{arith}
 use lib.Dec.{eqb}
 use lib.ListN.{length, getD, set, replicate, length-set}
 use Rattle.unification.specs.Ty.{Leaf-discrete, Kind, Record, Union, Ty, leaf, node, Var, Error, Row, ε, cell, rowLen}
-use Rattle.unification.specs.Bindings.{Subst, bound, repr, Answer, yes-left, no-left, spent, occurs, Undo, Binding, Annotation, State, withLeft, setVar, annotate, Resolved}
-use Rattle.unification.specs.Unify.{UnionDiff, TyError, Unified, Ok, Err, Spent, andThen, mapErr, bindVar, findKey, unifyField, unifyFields, unifyRecord, discriminants, unifyAlternative, unifyAlternatives, unifyUnion, unifyNodes, unifyHeads, note, unifyIn, unify}
+use Rattle.unification.specs.Bindings.{Subst, bound, repr, Answer, yes-left, no-left, spent, occurs, Undo, Binding, Annotation, State, withLeft}
+use Rattle.unification.specs.Bindings.{setVar, annotate, Resolved}
+use Rattle.unification.specs.Unify.{UnionDiff, TyError, Unified, Ok, Err, Spent, andThen, mapErr, bindVar, findKey, unifyField, unifyFields}
+use Rattle.unification.specs.Unify.{unifyRecord, discriminants, unifyAlternative, unifyAlternatives, unifyUnion, unifyNodes, unifyHeads, note}
+use Rattle.unification.specs.Unify.{unifyIn, unify}
 use Rattle.unification.specs.Calls.{Side, Reaches}
 use Rattle.unification.proofs.Tests.{clash}
 use Rattle.unification.proofs.Chain.{error-reaches, repr-resolved}
@@ -54,11 +57,13 @@ pub log-room : (st : State) → Log st → length (st .undo) ≤ length (st .sub
 log-room st h = omega (arith, h .exact, taken-length (st .subst), taken-length (st .tys))
 
 -- Before a free unknown is bound, or a node without a type annotated, there is room for the entry.
-pub log-room-unknown : (st : State) (x : ℕ) → x < length (st .subst) → bound (st .subst) x ≡ none → Log st → length (st .undo) < length (st .subst) + length (st .tys)
+pub log-room-unknown : (st : State) (x : ℕ) → x < length (st .subst) → bound (st .subst) x ≡ none → Log st
+    → length (st .undo) < length (st .subst) + length (st .tys)
 unfolding bound
 log-room-unknown st x h free l = omega (arith, l .exact, taken-free (st .subst) x h free, taken-length (st .tys))
 
-pub log-room-node : (st : State) (n : ℕ) → n < length (st .tys) → getD (st .tys) n none ≡ none → Log st → length (st .undo) < length (st .subst) + length (st .tys)
+pub log-room-node : (st : State) (n : ℕ) → n < length (st .tys) → getD (st .tys) n none ≡ none → Log st
+    → length (st .undo) < length (st .subst) + length (st .tys)
 log-room-node st n h free l = omega (arith, l .exact, taken-free (st .tys) n h free, taken-length (st .subst))
 
 pub log-annotate : (st : State) (n : ℕ) (t : Ty) → n < length (st .tys) → getD (st .tys) n none ≡ none → Log st → Log (annotate st n t)
@@ -76,7 +81,8 @@ pub logged-left : (n : ℕ) (st : State) (v : ℕ) → Logged n st → Logged n 
 unfolding withLeft
 logged-left n st v h = record { log = record { wf = h .log .wf; blank = h .log .blank; exact = h .log .exact }; len = h .len }
 
-pub logged-setVar : (n : ℕ) (st : State) (x : ℕ) (t : Ty) → bound (st .subst) x ≡ none → x < n → Side n t → ¬ Reaches (st .subst) t (Var x) → Logged n st → Logged n (setVar st x t)
+pub logged-setVar : (n : ℕ) (st : State) (x : ℕ) (t : Ty) → bound (st .subst) x ≡ none → x < n → Side n t → ¬ Reaches (st .subst) t (Var x)
+    → Logged n st → Logged n (setVar st x t)
 unfolding setVar bound
 logged-setVar n st x t free lt side off h =
     let side′ : Side (length (st .subst)) t = rw (h .len) side in
@@ -91,7 +97,8 @@ logged-setVar n st x t free lt side off h =
     }
 
 module _ (n : ℕ) where
-  pub logged-then : (res : Unified) (f : State → Unified) → After (Logged n) res → ((b : State) → Logged n b → After (Logged n) (f b)) → After (Logged n) (andThen res f)
+  pub logged-then : (res : Unified) (f : State → Unified) → After (Logged n) res → ((b : State) → Logged n b → After (Logged n) (f b))
+      → After (Logged n) (andThen res f)
   unfolding andThen
   logged-then (Ok b) f p q = q b p
   logged-then (Err e b) f p q = p
@@ -115,23 +122,27 @@ module _ (n : ℕ) where
     where
       go : (o : Answer) → occurs d (st .subst) x (st .left) t ≡ o → After (Logged n) (bindVar d st x t)
       go (yes-left v) e = rw (e, bindVar) (logged-left n st v h)
-      go (no-left v) e = rw (e, bindVar) (logged-setVar n (withLeft st v) x t free lt side (occurs-no (st .subst) x free (h .log .wf .acyclic) d (st .left) t v e) (logged-left n st v h))
+      go (no-left v) e = rw (e, bindVar) (logged-setVar n (withLeft st v) x t free lt side
+          (occurs-no (st .subst) x free (h .log .wf .acyclic) d (st .left) t v e) (logged-left n st v h))
       go spent e = rw (e, bindVar) (logged-left n st zero h)
 
   abbrev pub Keeping : (State → Ty → Ty → Unified) → Type 0
   Keeping u = (st : State) (a b : Ty) → Side n a → Side n b → Logged n st → After (Logged n) (u st a b)
 
   module _ (u : State → Ty → Ty → Unified) (rec : Keeping u) where
-    pub logged-fields : (st : State) (xs ys : Row) → Parts (Alternative n) xs → Parts (Alternative n) ys → Logged n st → After (Logged n) (unifyFields u st xs ys)
+    pub logged-fields : (st : State) (xs ys : Row) → Parts (Alternative n) xs → Parts (Alternative n) ys → Logged n st
+        → After (Logged n) (unifyFields u st xs ys)
     unfolding unifyFields unifyField
     logged-fields st ε ys f g h = h
-    logged-fields st (cell k l x xs) ys f g h = logged-then (unifyField u st k x (findKey k ys)) _ (field (findKey k ys) (find-part (Alternative n) k ys g)) (λ b i. logged-fields b xs ys (f .1) g i)
+    logged-fields st (cell k l x xs) ys f g h = logged-then (unifyField u st k x (findKey k ys)) _
+        (field (findKey k ys) (find-part (Alternative n) k ys g)) (λ b i. logged-fields b xs ys (f .1) g i)
       where
         field : (o : Option (ℕ × Ty)) → Part (Alternative n) o → After (Logged n) (unifyField u st k x o)
         field none p = h
         field (some y) p = rec st x (y .1) (f .0) p h
 
-    pub logged-record : (st : State) (xs ys : Row) → Parts (Alternative n) xs → Parts (Alternative n) ys → Logged n st → After (Logged n) (unifyRecord u st xs ys)
+    pub logged-record : (st : State) (xs ys : Row) → Parts (Alternative n) xs → Parts (Alternative n) ys → Logged n st
+        → After (Logged n) (unifyRecord u st xs ys)
     unfolding unifyRecord
     logged-record st xs ys f g h = go (eqb (rowLen xs) (rowLen ys)) refl
       where
@@ -139,7 +150,8 @@ module _ (n : ℕ) where
         go true q = rw (q, unifyRecord) (logged-fields st xs ys f g h)
         go false q = rw (q, unifyRecord) h
 
-    pub logged-alternative : (st : State) (differ : UnionDiff → TyError) (k : ℕ) (o o′ : Option (ℕ × Ty)) → Part (Alternative n) o → Part (Alternative n) o′ → Logged n st → After (Logged n) (unifyAlternative u st differ k o o′)
+    pub logged-alternative : (st : State) (differ : UnionDiff → TyError) (k : ℕ) (o o′ : Option (ℕ × Ty)) → Part (Alternative n) o
+        → Part (Alternative n) o′ → Logged n st → After (Logged n) (unifyAlternative u st differ k o o′)
     unfolding unifyAlternative
     logged-alternative st differ k none none f g h = h
     logged-alternative st differ k none (some y) f g h = h
@@ -150,7 +162,8 @@ module _ (n : ℕ) where
         go true q = rw (q, unifyAlternative) (logged-mapErr _ (u st (x .1) (y .1)) (rec st (x .1) (y .1) f g h))
         go false q = rw (q, unifyAlternative) h
 
-    pub logged-alternatives : (st : State) (differ : UnionDiff → TyError) (ks : List ℕ) (xs ys : Row) → Parts (Alternative n) xs → Parts (Alternative n) ys → Logged n st → After (Logged n) (unifyAlternatives u st differ ks xs ys)
+    pub logged-alternatives : (st : State) (differ : UnionDiff → TyError) (ks : List ℕ) (xs ys : Row) → Parts (Alternative n) xs
+        → Parts (Alternative n) ys → Logged n st → After (Logged n) (unifyAlternatives u st differ ks xs ys)
     unfolding unifyAlternatives
     logged-alternatives st differ [] xs ys f g h = h
     logged-alternatives st differ (k ∷ ks) xs ys f g h =
@@ -158,7 +171,8 @@ module _ (n : ℕ) where
         (logged-alternative st differ k (findKey k xs) (findKey k ys) (find-part (Alternative n) k xs f) (find-part (Alternative n) k ys g) h)
         (λ b i. logged-alternatives b differ ks xs ys f g i)
 
-    pub logged-nodes : (st : State) (k : Kind) (xs : Row) (k′ : Kind) (ys : Row) → Side n (node k xs) → Side n (node k′ ys) → Logged n st → After (Logged n) (unifyNodes u st k xs k′ ys)
+    pub logged-nodes : (st : State) (k : Kind) (xs : Row) (k′ : Kind) (ys : Row) → Side n (node k xs) → Side n (node k′ ys) → Logged n st
+        → After (Logged n) (unifyNodes u st k xs k′ ys)
     unfolding unifyNodes unifyUnion
     logged-nodes st Record xs Record ys f g h =
         let part = parts-map (Field n) (Alternative n) (λ l t p. p .1) in
@@ -167,7 +181,8 @@ module _ (n : ℕ) where
     logged-nodes st Union xs Record ys f g h = h
     logged-nodes st Union xs Union ys f g h = logged-alternatives st _ (discriminants xs ys) xs ys (alternatives n xs (f .1)) (alternatives n ys (g .1)) h
 
-    pub logged-heads : (d : ℕ) (st : State) (a b : Ty) → Resolved (st .subst) a → Resolved (st .subst) b → Side n a → Side n b → Logged n st → After (Logged n) (unifyHeads d u st a b)
+    pub logged-heads : (d : ℕ) (st : State) (a b : Ty) → Resolved (st .subst) a → Resolved (st .subst) b → Side n a → Side n b → Logged n st
+        → After (Logged n) (unifyHeads d u st a b)
     unfolding unifyHeads
     logged-heads d st Error Error e f i j h = h
     logged-heads d st Error (leaf q) e f i j h = h
@@ -209,8 +224,10 @@ module _ (n : ℕ) where
       go (suc v) e ih =
           rw (unifyIn-visit d st v a b e) (logged-note (st .subst) a b (heads-in d st v a b)
           (logged-heads (λ st′ a′ b′. unifyIn d st′ a′ b′) ih d (withLeft st v) (repr (st .subst) a) (repr (st .subst) b)
-          (repr-resolved (st .subst) (h .log .wf .acyclic) a) (repr-resolved (st .subst) (h .log .wf .acyclic) b) (side-repr st a h i) (side-repr st b h j) (logged-left n st v h)))
+          (repr-resolved (st .subst) (h .log .wf .acyclic) a) (repr-resolved (st .subst) (h .log .wf .acyclic) b) (side-repr st a h i)
+          (side-repr st b h j) (logged-left n st v h)))
 
-pub unify-logged : (st : State) (a b : Ty) → Side (length (st .subst)) a → Side (length (st .subst)) b → Log st → After (Logged (length (st .subst))) (unify st a b)
+pub unify-logged : (st : State) (a b : Ty) → Side (length (st .subst)) a → Side (length (st .subst)) b → Log st
+    → After (Logged (length (st .subst))) (unify st a b)
 unfolding unify
 unify-logged st a b i j l = unifyIn-logged (length (st .subst)) (st .left) st a b i j (record { log = l; len = refl })

@@ -10,7 +10,8 @@ use Rattle.unification.specs.Order.{Same, SameRow, Inserted, here, there
 use Rattle.unification.specs.Robinson.{Substitution, Unifies, MostGeneral}
 use Rattle.unification.specs.Bindings.{Subst, bound, start, State, fresh, rollback, snapshot}
 use Rattle.unification.specs.Unify.{endOf, unify}
-use Rattle.unification.specs.Calls.{Reaches, itself, through, Allowed, Admitted, Machine, begin, take-snapshot, Calls, none-yet, then-call, unknown, unification, failure, snapping, rollingBack, live, BackTo, bindingsAt}
+use Rattle.unification.specs.Calls.{Reaches, itself, through, Allowed, Admitted, Machine, begin, take-snapshot, Calls, none-yet, then-call, unknown}
+use Rattle.unification.specs.Calls.{unification, failure, snapping, rollingBack, live, BackTo, bindingsAt}
 use Rattle.unification.specs.Tie.{solution, Together}
 use Rattle.unification.proofs.Tests.{clash}
 use Rattle.unification.proofs.Demand3.{demand-3}

@@ -80,7 +80,8 @@ never-same σ s x d v (Var y) w R n e q = n (ap {B = Ty} Var (sym (occursIn-var 
 never-same σ s x d v Error w R n e q = clash (cc)
 
 -- No substitution that respects the bindings makes an unknown the same as another type in which it occurs.
-pub occurs-never : (σ : ℕ → Ty) (s : Subst) (x d v : ℕ) (t : Ty) (w : ℕ) → Resolved s t → ¬ (t ≡ Var x) → Respects σ s → occurs d s x v t ≡ yes-left w → ¬ Same (σ x) (app σ t)
+pub occurs-never : (σ : ℕ → Ty) (s : Subst) (x d v : ℕ) (t : Ty) (w : ℕ) → Resolved s t → ¬ (t ≡ Var x) → Respects σ s → occurs d s x v t ≡ yes-left w
+    → ¬ Same (σ x) (app σ t)
 unfolding occurs
 occurs-never σ s x zero v t w c n R e = clash (cc)
 occurs-never σ s x (suc d) zero t w c n R e = clash (cc)
@@ -112,7 +113,8 @@ unfolding occurs repr
 occurs-no s x free A zero v t w e = clash (cc)
 occurs-no s x free A (suc d) zero t w e = clash (cc)
 occurs-no s x free A (suc d) (suc v) t w e = λ h.
-    occursIn-no (λ u t′. occurs d s x u t′) s x (λ u t′ w′. occurs-no s x free A d u t′ w′) v (repr s t) w (repr-resolved s A t) e (reaches-follow (suc (length s)) s x free t h)
+    occursIn-no (λ u t′. occurs d s x u t′) s x (λ u t′ w′. occurs-no s x free A d u t′ w′) v (repr s t) w (repr-resolved s A t) e
+    (reaches-follow (suc (length s)) s x free t h)
 
 -- ---- Visits
 
@@ -163,7 +165,8 @@ unfolding anyRow
 any-depth ask ask′ m f h v ε le = refl
 any-depth ask ask′ m f h v (cell k l t r) le = go (ask v t) refl (f v t) (λ w p. any-depth ask ask′ m f h w r p)
   where
-    go : (a : Answer) → ask v t ≡ a → Fewer v a → ((w : ℕ) → w ≤ m → anyRow ask w r ≡ anyRow ask′ w r) → anyRow ask v (cell k l t r) ≡ anyRow ask′ v (cell k l t r)
+    go : (a : Answer) → ask v t ≡ a → Fewer v a → ((w : ℕ) → w ≤ m → anyRow ask w r ≡ anyRow ask′ w r)
+        → anyRow ask v (cell k l t r) ≡ anyRow ask′ v (cell k l t r)
     go (yes-left w) q i ih = rw (← h v t le, q, anyRow)
     go (no-left w) q i ih = rw (← h v t le, q, anyRow) (ih w (omega arith))
     go spent q i ih = rw (← h v t le, q, anyRow)
@@ -185,7 +188,8 @@ occurs-depth (suc d) zero s x zero t p q = refl
 occurs-depth (suc d) zero s x (suc v) t p q = absurd (omega arith)
 occurs-depth (suc d) (suc e) s x zero t p q = refl
 occurs-depth (suc d) (suc e) s x (suc v) t p q =
-    occursIn-depth (λ u t′. occurs d s x u t′) (λ u t′. occurs e s x u t′) x v (λ u t′. occurs-fewer d s x u t′) (λ u t′ le. occurs-depth d e s x u t′ (omega arith) (omega arith)) (repr s t)
+    occursIn-depth (λ u t′. occurs d s x u t′) (λ u t′. occurs e s x u t′) x v (λ u t′. occurs-fewer d s x u t′)
+    (λ u t′ le. occurs-depth d e s x u t′ (omega arith) (omega arith)) (repr s t)
 
 -- ---- `orderable` makes the visits left fewer too
 visited-fewer : (v : ℕ) (ask : ℕ → Answer) → ((w : ℕ) → Fewer w (ask w)) → Fewer v (visited v ask)

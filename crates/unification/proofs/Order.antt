@@ -26,7 +26,8 @@ inserted-swap here (there j) = (_, j, here)
 inserted-swap (there i) (there j) = let x = inserted-swap i j in (_, there (x .1), there (x .2))
 
 -- A cell of the left side has its partner on the right.
-sameRow-pick : {k l : ℕ} {t : Ty} {s₀ s : Row} → Inserted k l t s₀ s → (u : Row) → SameRow s u → (t′ : Ty) × (u₀ : Row) × Same t t′ × SameRow s₀ u₀ × Inserted k l t′ u₀ u
+sameRow-pick : {k l : ℕ} {t : Ty} {s₀ s : Row} → Inserted k l t s₀ s → (u : Row) → SameRow s u
+    → (t′ : Ty) × (u₀ : Row) × Same t t′ × SameRow s₀ u₀ × Inserted k l t′ u₀ u
 sameRow-pick here u e = e
 sameRow-pick (there i) u e =
     let h = sameRow-pick i (e .1) (e .3) in

@@ -11,11 +11,14 @@ use lib.ListN.{length}
 use Rattle.unification.specs.Ty.{Kind, Record, Union, Ty, node, Row, ε, cell, rowLen, app, appRow}
 use Rattle.unification.specs.Order.{Same, SameRow}
 use Rattle.unification.specs.Bindings.{Subst, History, start, ended, rolled, State}
-use Rattle.unification.specs.Unify.{UnionDiff, TyError, Unified, Ok, Err, Spent, andThen, mapErr, findKey, unifyField, unifyFields, unifyRecord, discriminants, unifyAlternative, unifyAlternatives, unifyUnion, unifyNodes}
-use Rattle.unification.specs.Calls.{Distinct, Side, itself, Admitted, Respects, live, AllAdmitted, MakesEqual, EntryClaim, BindingsClaim, BackTo, bindingsAt, Noted}
+use Rattle.unification.specs.Unify.{UnionDiff, TyError, Unified, Ok, Err, Spent, andThen, mapErr, findKey, unifyField, unifyFields, unifyRecord}
+use Rattle.unification.specs.Unify.{discriminants, unifyAlternative, unifyAlternatives, unifyUnion, unifyNodes}
+use Rattle.unification.specs.Calls.{Distinct, Side, itself, Admitted, Respects, live, AllAdmitted, MakesEqual, EntryClaim, BindingsClaim, BackTo}
+use Rattle.unification.specs.Calls.{bindingsAt, Noted}
 use Rattle.unification.specs.Acyclic.{Acyclic}
 use Rattle.unification.proofs.Tests.{clash, eqb-true, eqb-false}
-use Rattle.unification.proofs.Rows.{Both, Match, AgreeAt, match-same, same-match, same-len, agree-same, same-agree, agree-discriminants, appCell, find-app, distinct-app, rowLen-app, discriminants-app}
+use Rattle.unification.proofs.Rows.{Both, Match, AgreeAt, match-same, same-match, same-len, agree-same, same-agree, agree-discriminants, appCell}
+use Rattle.unification.proofs.Rows.{find-app, distinct-app, rowLen-app, discriminants-app}
 use Rattle.unification.specs.Log.{Wf}
 use Rattle.unification.proofs.Sides.{Parts, Part, find-part, parts-map, Field, Alternative, fields, alternatives, Permits, admitted-parts}
 
@@ -123,7 +126,8 @@ module _ (s : Subst) (h : History) (A : Type 0) (C D : (ℕ → Ty) → Type 0) 
   }
 
   pub seq : (res : Unified) (f : State → Unified) → Post s h A C res
-      → ((b : State) → Wf (b .subst) → length (b .subst) ≡ length s → (A → (u : Ty) → Admitted s u → Admitted (b .subst) u) → Post (b .subst) (b .history) A D (f b))
+      → ((b : State) → Wf (b .subst) → length (b .subst) ≡ length s → (A → (u : Ty) → Admitted s u → Admitted (b .subst) u)
+      → Post (b .subst) (b .history) A D (f b))
       → Post s h A (λ σ. C σ × D σ) (andThen res f)
   unfolding andThen
   seq (Ok b) f p q = joined b p (f b) (q b (p .step .wf) (p .step .len) (p .keeps))
@@ -169,7 +173,8 @@ loosen s h A C (Spent b) p = p
 
 -- What an entry does, of any unifier in its place.
 abbrev pub Entry : (State → Ty → Ty → Unified) → Type 1
-Entry u = (A : Type 0) (st : State) (a b : Ty) → Wf (st .subst) → Side (length (st .subst)) a → Side (length (st .subst)) b → (A → Admitted (st .subst) a × Admitted (st .subst) b)
+Entry u = (A : Type 0) (st : State) (a b : Ty) → Wf (st .subst) → Side (length (st .subst)) a → Side (length (st .subst)) b
+    → (A → Admitted (st .subst) a × Admitted (st .subst) b)
     → Post (st .subst) (st .history) A (λ σ. Same (app σ a) (app σ b)) (u st a b)
 
 record-union : ¬ (Record ≡ Union)
@@ -180,25 +185,31 @@ permits-map s s′ f r h = parts-map (Permits s) (Permits s′) (λ l t g. f t g
 
 module _ (u : State → Ty → Ty → Unified) (rec : Entry u) (A : Type 0) where
   field-post : (st : State) (k l : ℕ) (t : Ty) (o : Option (ℕ × Ty)) → Wf (st .subst) → Field (length (st .subst)) l t → Part (Field (length (st .subst))) o
-      → (A → Admitted (st .subst) t × Part (Permits (st .subst)) o) → Post (st .subst) (st .history) A (λ σ. Both (some (l, app σ t)) (appCell σ o)) (unifyField u st k t o)
+      → (A → Admitted (st .subst) t × Part (Permits (st .subst)) o)
+      → Post (st .subst) (st .history) A (λ σ. Both (some (l, app σ t)) (appCell σ o)) (unifyField u st k t o)
   unfolding unifyField
   field-post st k l t none w f g a = stop st A _ w (λ p σ c. c)
   field-post st k l t (some y) w f g a =
       change (st .subst) (st .history) A _ _ (u st t (y .1)) (λ p σ R. (λ e. (f .0 ∙ sym (g .0), e), λ e. e .1)) (rec A st t (y .1) w (f .1) (g .1) a)
 
   fields-post : (st : State) (xs ys : Row) → Wf (st .subst) → Parts (Field (length (st .subst))) xs → Parts (Field (length (st .subst))) ys
-      → (A → Parts (Permits (st .subst)) xs × Parts (Permits (st .subst)) ys) → Post (st .subst) (st .history) A (λ σ. Match (appRow σ xs) (appRow σ ys)) (unifyFields u st xs ys)
+      → (A → Parts (Permits (st .subst)) xs × Parts (Permits (st .subst)) ys)
+      → Post (st .subst) (st .history) A (λ σ. Match (appRow σ xs) (appRow σ ys)) (unifyFields u st xs ys)
   unfolding unifyFields appRow
   fields-post st ε ys w f g a = stay st A _ w (λ p σ. tt)
   fields-post st (cell k l t r) ys w f g a =
-      seq (st .subst) (st .history) A (λ σ. Both (some (l, app σ t)) (findKey k (appRow σ ys))) (λ σ. Match (appRow σ r) (appRow σ ys)) (unifyField u st k t (findKey k ys)) (λ b. unifyFields u b r ys)
+      seq (st .subst) (st .history) A (λ σ. Both (some (l, app σ t)) (findKey k (appRow σ ys))) (λ σ. Match (appRow σ r) (appRow σ ys))
+      (unifyField u st k t (findKey k ys)) (λ b. unifyFields u b r ys)
       (change (st .subst) (st .history) A (λ σ. Both (some (l, app σ t)) (appCell σ (findKey k ys))) _ (unifyField u st k t (findKey k ys))
       (λ p σ R. (λ c. rw (find-app σ k ys) c, λ c. rw (find-app σ k ys) at c))
-      (field-post st k l t (findKey k ys) w (f .0) (find-part (Field (length (st .subst))) k ys g) (λ p. let x = a p in (x .0 .0, find-part (Permits (st .subst)) k ys (x .1)))))
-      (λ b w′ e n. fields-post b r ys w′ (rw e (f .1)) (rw e g) (λ p. let x = a p in (permits-map (st .subst) (b .subst) (n p) r (x .0 .1), permits-map (st .subst) (b .subst) (n p) ys (x .1))))
+      (field-post st k l t (findKey k ys) w (f .0) (find-part (Field (length (st .subst))) k ys g)
+      (λ p. let x = a p in (x .0 .0, find-part (Permits (st .subst)) k ys (x .1)))))
+      (λ b w′ e n. fields-post b r ys w′ (rw e (f .1)) (rw e g)
+      (λ p. let x = a p in (permits-map (st .subst) (b .subst) (n p) r (x .0 .1), permits-map (st .subst) (b .subst) (n p) ys (x .1))))
 
   record-post : (st : State) (xs ys : Row) → Wf (st .subst) → Parts (Field (length (st .subst))) xs → Parts (Field (length (st .subst))) ys
-      → (A → Parts (Permits (st .subst)) xs × Parts (Permits (st .subst)) ys) → (A → Distinct xs × Distinct ys) → Post (st .subst) (st .history) A (λ σ. SameRow (appRow σ xs) (appRow σ ys)) (unifyRecord u st xs ys)
+      → (A → Parts (Permits (st .subst)) xs × Parts (Permits (st .subst)) ys) → (A → Distinct xs × Distinct ys)
+      → Post (st .subst) (st .history) A (λ σ. SameRow (appRow σ xs) (appRow σ ys)) (unifyRecord u st xs ys)
   unfolding unifyRecord
   record-post st xs ys w f g a d = go (eqb (rowLen xs) (rowLen ys)) refl
     where
@@ -209,35 +220,47 @@ module _ (u : State → Ty → Ty → Unified) (rec : Entry u) (A : Type 0) wher
             same-match (appRow σ xs) (appRow σ ys) (distinct-app σ xs (d p .0)) (distinct-app σ ys (d p .1)),
           ))
           (fields-post st xs ys w f g a))
-      go false q = rw (q, unifyRecord) (stop st A _ w (λ p σ c. eqb-false (rowLen xs) (rowLen ys) q (sym (rowLen-app σ xs) ∙ same-len (appRow σ xs) (appRow σ ys) c ∙ rowLen-app σ ys)))
+      go false q = rw (q, unifyRecord) (stop st A _ w
+          (λ p σ c. eqb-false (rowLen xs) (rowLen ys) q (sym (rowLen-app σ xs) ∙ same-len (appRow σ xs) (appRow σ ys) c ∙ rowLen-app σ ys)))
 
-  alternative-post : (st : State) (differ : UnionDiff → TyError) (k : ℕ) (o o′ : Option (ℕ × Ty)) → Wf (st .subst) → Part (Alternative (length (st .subst))) o → Part (Alternative (length (st .subst))) o′
-      → (A → Part (Permits (st .subst)) o × Part (Permits (st .subst)) o′) → Post (st .subst) (st .history) A (λ σ. Both (appCell σ o) (appCell σ o′)) (unifyAlternative u st differ k o o′)
+  alternative-post : (st : State) (differ : UnionDiff → TyError) (k : ℕ) (o o′ : Option (ℕ × Ty)) → Wf (st .subst)
+      → Part (Alternative (length (st .subst))) o → Part (Alternative (length (st .subst))) o′
+      → (A → Part (Permits (st .subst)) o × Part (Permits (st .subst)) o′)
+      → Post (st .subst) (st .history) A (λ σ. Both (appCell σ o) (appCell σ o′)) (unifyAlternative u st differ k o o′)
   unfolding unifyAlternative
   alternative-post st differ k none none w f g a = stay st A _ w (λ p σ. tt)
   alternative-post st differ k none (some y) w f g a = stop st A _ w (λ p σ c. c)
   alternative-post st differ k (some x) none w f g a = stop st A _ w (λ p σ c. c)
   alternative-post st differ k (some x) (some y) w f g a = go (eqb (x .0) (y .0)) refl
     where
-      go : (b : Bool) → eqb (x .0) (y .0) ≡ b → Post (st .subst) (st .history) A (λ σ. Both (appCell σ (some x)) (appCell σ (some y))) (unifyAlternative u st differ k (some x) (some y))
+      go : (b : Bool) → eqb (x .0) (y .0) ≡ b → Post (st .subst) (st .history) A (λ σ. Both (appCell σ (some x)) (appCell σ (some y)))
+          (unifyAlternative u st differ k (some x) (some y))
       go true q = rw (q, unifyAlternative) (post-mapErr (st .subst) (st .history) A _ _ (u st (x .1) (y .1))
-          (change (st .subst) (st .history) A _ _ (u st (x .1) (y .1)) (λ p σ R. (λ e. (eqb-true (x .0) (y .0) q, e), λ e. e .1)) (rec A st (x .1) (y .1) w f g a)))
+          (change (st .subst) (st .history) A _ _ (u st (x .1) (y .1)) (λ p σ R. (λ e. (eqb-true (x .0) (y .0) q, e), λ e. e .1))
+          (rec A st (x .1) (y .1) w f g a)))
       go false q = rw (q, unifyAlternative) (stop st A _ w (λ p σ c. eqb-false (x .0) (y .0) q (c .0)))
 
-  alternatives-post : (st : State) (differ : UnionDiff → TyError) (ks : List ℕ) (xs ys : Row) → Wf (st .subst) → Parts (Alternative (length (st .subst))) xs → Parts (Alternative (length (st .subst))) ys
-      → (A → Parts (Permits (st .subst)) xs × Parts (Permits (st .subst)) ys) → Post (st .subst) (st .history) A (λ σ. AgreeAt ks (appRow σ xs) (appRow σ ys)) (unifyAlternatives u st differ ks xs ys)
+  alternatives-post : (st : State) (differ : UnionDiff → TyError) (ks : List ℕ) (xs ys : Row) → Wf (st .subst)
+      → Parts (Alternative (length (st .subst))) xs → Parts (Alternative (length (st .subst))) ys
+      → (A → Parts (Permits (st .subst)) xs × Parts (Permits (st .subst)) ys)
+      → Post (st .subst) (st .history) A (λ σ. AgreeAt ks (appRow σ xs) (appRow σ ys)) (unifyAlternatives u st differ ks xs ys)
   unfolding unifyAlternatives
   alternatives-post st differ [] xs ys w f g a = stay st A _ w (λ p σ. tt)
   alternatives-post st differ (k ∷ ks) xs ys w f g a =
-      seq (st .subst) (st .history) A (λ σ. Both (findKey k (appRow σ xs)) (findKey k (appRow σ ys))) (λ σ. AgreeAt ks (appRow σ xs) (appRow σ ys)) (unifyAlternative u st differ k (findKey k xs) (findKey k ys)) (λ b. unifyAlternatives u b differ ks xs ys)
-      (change (st .subst) (st .history) A (λ σ. Both (appCell σ (findKey k xs)) (appCell σ (findKey k ys))) _ (unifyAlternative u st differ k (findKey k xs) (findKey k ys))
+      seq (st .subst) (st .history) A (λ σ. Both (findKey k (appRow σ xs)) (findKey k (appRow σ ys))) (λ σ. AgreeAt ks (appRow σ xs) (appRow σ ys))
+      (unifyAlternative u st differ k (findKey k xs) (findKey k ys)) (λ b. unifyAlternatives u b differ ks xs ys)
+      (change (st .subst) (st .history) A (λ σ. Both (appCell σ (findKey k xs)) (appCell σ (findKey k ys))) _
+      (unifyAlternative u st differ k (findKey k xs) (findKey k ys))
       (λ p σ R. (λ c. rw (find-app σ k xs, find-app σ k ys) c, λ c. rw (find-app σ k xs, find-app σ k ys) at c))
-      (alternative-post st differ k (findKey k xs) (findKey k ys) w (find-part (Alternative (length (st .subst))) k xs f) (find-part (Alternative (length (st .subst))) k ys g)
+      (alternative-post st differ k (findKey k xs) (findKey k ys) w (find-part (Alternative (length (st .subst))) k xs f)
+      (find-part (Alternative (length (st .subst))) k ys g)
       (λ p. let x = a p in (find-part (Permits (st .subst)) k xs (x .0), find-part (Permits (st .subst)) k ys (x .1)))))
-      (λ b w′ e n. alternatives-post b differ ks xs ys w′ (rw e f) (rw e g) (λ p. let x = a p in (permits-map (st .subst) (b .subst) (n p) xs (x .0), permits-map (st .subst) (b .subst) (n p) ys (x .1))))
+      (λ b w′ e n. alternatives-post b differ ks xs ys w′ (rw e f) (rw e g)
+      (λ p. let x = a p in (permits-map (st .subst) (b .subst) (n p) xs (x .0), permits-map (st .subst) (b .subst) (n p) ys (x .1))))
 
   union-post : (st : State) (xs ys : Row) → Wf (st .subst) → Parts (Alternative (length (st .subst))) xs → Parts (Alternative (length (st .subst))) ys
-      → (A → Parts (Permits (st .subst)) xs × Parts (Permits (st .subst)) ys) → Distinct xs → Distinct ys → Post (st .subst) (st .history) A (λ σ. SameRow (appRow σ xs) (appRow σ ys)) (unifyUnion u st xs ys)
+      → (A → Parts (Permits (st .subst)) xs × Parts (Permits (st .subst)) ys) → Distinct xs → Distinct ys
+      → Post (st .subst) (st .history) A (λ σ. SameRow (appRow σ xs) (appRow σ ys)) (unifyUnion u st xs ys)
   unfolding unifyUnion
   union-post st xs ys w f g a d e =
       change (st .subst) (st .history) A (λ σ. AgreeAt (discriminants xs ys) (appRow σ xs) (appRow σ ys)) _ (unifyUnion u st xs ys)
@@ -247,14 +270,18 @@ module _ (u : State → Ty → Ty → Unified) (rec : Entry u) (A : Type 0) wher
       ))
       (alternatives-post st _ (discriminants xs ys) xs ys w f g a)
 
-  pub nodes-post : (st : State) (k : Kind) (xs : Row) (k′ : Kind) (ys : Row) → Wf (st .subst) → Side (length (st .subst)) (node k xs) → Side (length (st .subst)) (node k′ ys)
-      → (A → Admitted (st .subst) (node k xs) × Admitted (st .subst) (node k′ ys)) → Post (st .subst) (st .history) A (λ σ. Same (app σ (node k xs)) (app σ (node k′ ys))) (unifyNodes u st k xs k′ ys)
+  pub nodes-post : (st : State) (k : Kind) (xs : Row) (k′ : Kind) (ys : Row) → Wf (st .subst) → Side (length (st .subst)) (node k xs)
+      → Side (length (st .subst)) (node k′ ys)
+      → (A → Admitted (st .subst) (node k xs) × Admitted (st .subst) (node k′ ys))
+      → Post (st .subst) (st .history) A (λ σ. Same (app σ (node k xs)) (app σ (node k′ ys))) (unifyNodes u st k xs k′ ys)
   unfolding unifyNodes app Admitted
   nodes-post st Record xs Record ys w f g a =
       change (st .subst) (st .history) A _ _ (unifyRecord u st xs ys) (λ p σ R. (λ c. (refl, c), λ c. c .1))
-      (record-post st xs ys w (fields (length (st .subst)) xs f) (fields (length (st .subst)) ys g) (λ p. (admitted-parts (st .subst) Record xs (a p .0), admitted-parts (st .subst) Record ys (a p .1))) (λ p. (a p .0 _ itself, a p .1 _ itself)))
+      (record-post st xs ys w (fields (length (st .subst)) xs f) (fields (length (st .subst)) ys g)
+      (λ p. (admitted-parts (st .subst) Record xs (a p .0), admitted-parts (st .subst) Record ys (a p .1))) (λ p. (a p .0 _ itself, a p .1 _ itself)))
   nodes-post st Record xs Union ys w f g a = stop st A _ w (λ p σ c. record-union (c .0))
   nodes-post st Union xs Record ys w f g a = stop st A _ w (λ p σ c. record-union (sym (c .0)))
   nodes-post st Union xs Union ys w f g a =
       change (st .subst) (st .history) A _ _ (unifyUnion u st xs ys) (λ p σ R. (λ c. (refl, c), λ c. c .1))
-      (union-post st xs ys w (alternatives (length (st .subst)) xs (f .1)) (alternatives (length (st .subst)) ys (g .1)) (λ p. (admitted-parts (st .subst) Union xs (a p .0), admitted-parts (st .subst) Union ys (a p .1))) (f .0) (g .0))
+      (union-post st xs ys w (alternatives (length (st .subst)) xs (f .1)) (alternatives (length (st .subst)) ys (g .1))
+      (λ p. (admitted-parts (st .subst) Union xs (a p .0), admitted-parts (st .subst) Union ys (a p .1))) (f .0) (g .0))

@@ -11,7 +11,9 @@ use lib.Dec.{eqb}
 use lib.ListN.{length}
 use Rattle.unification.specs.Ty.{Leaf-discrete, Kind, Record, Union, Ty, leaf, node, Var, Error, Row, ε, cell, rowLen}
 use Rattle.unification.specs.Bindings.{Subst, follow, repr, Answer, yes-left, no-left, spent, occurs, History, ended, State, withLeft, setVar}
-use Rattle.unification.specs.Unify.{UnionDiff, TyError, Unified, Ok, Err, Spent, andThen, mapErr, bindVar, findKey, unifyField, unifyFields, unifyRecord, discriminants, unifyAlternative, unifyAlternatives, unifyUnion, unifyNodes, unifyHeads, note, unifyIn}
+use Rattle.unification.specs.Unify.{UnionDiff, TyError, Unified, Ok, Err, Spent, andThen, mapErr, bindVar, findKey, unifyField, unifyFields}
+use Rattle.unification.specs.Unify.{unifyRecord, discriminants, unifyAlternative, unifyAlternatives, unifyUnion, unifyNodes, unifyHeads, note}
+use Rattle.unification.specs.Unify.{unifyIn}
 use Rattle.unification.proofs.Tests.{clash}
 use Rattle.unification.proofs.Kept.{After, heads-in, unifyIn-spent, unifyIn-visit}
 
@@ -72,7 +74,8 @@ grown-trans st b (Ok c) p q = omega arith
 grown-trans st b (Err e c) p q = omega arith
 grown-trans st b (Spent c) p q = omega arith
 
-then-grows : (st : State) (res : Unified) (g : State → Unified) → After (Grown st) res → ((b : State) → After (Grown b) (g b)) → After (Grown st) (andThen res g)
+then-grows : (st : State) (res : Unified) (g : State → Unified) → After (Grown st) res → ((b : State) → After (Grown b) (g b))
+    → After (Grown st) (andThen res g)
 unfolding andThen
 then-grows st (Ok b) g p q = grown-trans st b (g b) p (q b)
 then-grows st (Err e b) g p q = p
@@ -142,7 +145,8 @@ note-grows s a b st (Ok c) h = h
 note-grows s a b st (Err e c) h = h
 note-grows s a b st (Spent c) h = h
 
-note-quiet : (s : Subst) (a b : Ty) (k : ℕ) (st : State) (v : ℕ) → st .left ≡ suc v → (res : Unified) → Quiet k (withLeft st v) res → Quiet (suc k) st (note s a b res)
+note-quiet : (s : Subst) (a b : Ty) (k : ℕ) (st : State) (v : ℕ) → st .left ≡ suc v → (res : Unified) → Quiet k (withLeft st v) res
+    → Quiet (suc k) st (note s a b res)
 unfolding note withLeft
 note-quiet s a b k st v e res (ends v′ h l) = ends v′ _ (omega arith)
 note-quiet s a b k st v e res (stops h l) = stops h (omega arith)
@@ -157,7 +161,8 @@ module _ (s : Subst) (u : State → Ty → Ty → Unified) (rec : (a b : Ty) →
   calm-fields : (xs ys : Row) → Calm s (λ st. unifyFields u st xs ys)
   unfolding unifyFields
   calm-fields ε ys = calm-ok s
-  calm-fields (cell m l x xs) ys = calm-then s (λ st. unifyField u st m x (findKey m ys)) (λ st. unifyFields u st xs ys) (calm-field m x (findKey m ys)) (calm-fields xs ys)
+  calm-fields (cell m l x xs) ys = calm-then s (λ st. unifyField u st m x (findKey m ys)) (λ st. unifyFields u st xs ys)
+      (calm-field m x (findKey m ys)) (calm-fields xs ys)
 
   calm-record : (xs ys : Row) → Calm s (λ st. unifyRecord u st xs ys)
   unfolding unifyRecord
@@ -251,7 +256,8 @@ module _ (d : ℕ) (rec : (s : Subst) (a b : Ty) → Calm s (λ st. unifyIn d st
         go zero e = rw (unifyIn-spent d st a b e, ap (λ (v : ℕ). Spent (resting st v (st .history))) e) (stops (st .history) (omega arith))
         go (suc v) e = rw (unifyIn-visit d st v a b e, inside st i v) (note-quiet (st .subst) a b k st v e (inner s (withLeft st v)) (p (withLeft st v) i))
 
-    ended-ok : (st st′ : State) (v : ℕ) → st .subst ≡ s → st .left ≡ suc v → (res : Unified) → inner s (withLeft st v) ≡ res → note (st .subst) a b res ≡ Ok st′ → length (st′ .undo) ≤ length (st .undo)
+    ended-ok : (st st′ : State) (v : ℕ) → st .subst ≡ s → st .left ≡ suc v → (res : Unified) → inner s (withLeft st v) ≡ res
+        → note (st .subst) a b res ≡ Ok st′ → length (st′ .undo) ≤ length (st .undo)
         → (k : ℕ) × (st .left ≡ st′ .left + k) × Quiets s k (λ z. unifyIn (suc d) z a b)
     unfolding note withLeft
     ended-ok st st′ v i e (Ok c) q z h =
@@ -279,7 +285,8 @@ unify-calm (suc d) s a b = calm-entry d (λ s′ a′ b′. unify-calm d s′ a�
 -- Two errors cost one visit.
 pub errors-quiet : (d : ℕ) (st : State) → st .left ≤ d → Quiet 1 st (unifyIn d st Error Error)
 unfolding unifyIn heads-in unifyHeads repr follow note withLeft
-errors-quiet zero st h = let none : st .left ≡ zero = omega arith in rw (ap (λ (v : ℕ). Spent (resting st v (st .history))) none) (stops (st .history) (omega arith))
+errors-quiet zero st h = let none : st .left ≡ zero = omega arith in rw (ap (λ (v : ℕ). Spent (resting st v (st .history))) none)
+    (stops (st .history) (omega arith))
 errors-quiet (suc d) st h = go (st .left) refl
   where
     go : (v : ℕ) → st .left ≡ v → Quiet 1 st (unifyIn (suc d) st Error Error)

@@ -57,14 +57,16 @@ reaches-follow (suc k) s x free (node c r) h = h
 reaches-follow (suc k) s x free Error h = h
 reaches-follow (suc k) s x free (Var y) h = go (bound s y) refl (reaches-var s y (Var x) h) (λ t. reaches-follow k s x free t)
   where
-    go : (o : Option Ty) → bound s y ≡ o → (Var y ≡ Var x) ⊎ ((t : Ty) × (bound s y ≡ some t) × Reaches s t (Var x)) → ((t : Ty) → Reaches s t (Var x) → Reaches s (follow k s t) (Var x)) → Reaches s (follow (suc k) s (Var y)) (Var x)
+    go : (o : Option Ty) → bound s y ≡ o → (Var y ≡ Var x) ⊎ ((t : Ty) × (bound s y ≡ some t) × Reaches s t (Var x))
+        → ((t : Ty) → Reaches s t (Var x) → Reaches s (follow k s t) (Var x)) → Reaches s (follow (suc k) s (Var y)) (Var x)
     go none e c ih = rw (e, follow) h
     go (some t) e (inl q) ih = let p : y ≡ x = cc in clash (cc)
     go (some t) e (inr c) ih = let q : c .0 ≡ t = cc (c .1) in rw (e, follow) (ih t (rw q at (c .2)))
 
 -- ---- Binding x to t
 module _ (s : Subst) (x : ℕ) (t : Ty) (lt : x < length s) where
-  through-bound : (y : ℕ) (w u : Ty) → bound (set s x (some t)) y ≡ some w → Reaches s w u ⊎ (Reaches s w (Var x) × Reaches s t u) → Reaches s (Var y) u ⊎ (Reaches s (Var y) (Var x) × Reaches s t u)
+  through-bound : (y : ℕ) (w u : Ty) → bound (set s x (some t)) y ≡ some w → Reaches s w u ⊎ (Reaches s w (Var x) × Reaches s t u)
+      → Reaches s (Var y) u ⊎ (Reaches s (Var y) (Var x) × Reaches s t u)
   through-bound y w u e (inl h) = by-cases (ℕ-discrete y x)
       (λ p. let q : w ≡ t = cc (bound-same s x (some t) lt) in inr (rw p itself, rw q at h))
       (λ n. inl (through (sym (bound-other s x y (some t) n) ∙ e) h))

@@ -88,7 +88,8 @@ unfolding findKey
 both-pick k l t ε b = absurd b
 both-pick k l t (cell m n u s) b = go (eqb k m) refl (λ b′. both-pick k l t s b′)
   where
-    go : (c : Bool) → eqb k m ≡ c → (Both (some (l, t)) (findKey k s) → (t′ : Ty) × (s′ : Row) × Same t t′ × Inserted k l t′ s′ s) → (t′ : Ty) × (s′ : Row) × Same t t′ × Inserted k l t′ s′ (cell m n u s)
+    go : (c : Bool) → eqb k m ≡ c → (Both (some (l, t)) (findKey k s) → (t′ : Ty) × (s′ : Row) × Same t t′ × Inserted k l t′ s′ s)
+        → (t′ : Ty) × (s′ : Row) × Same t t′ × Inserted k l t′ s′ (cell m n u s)
     go true q ih =
         let c : (l ≡ n) × Same t u = rw (q, findKey) at b in
         (u, s, c .1, rw (eqb-true k m q, c .0) here)
@@ -209,7 +210,8 @@ pub agree-discriminants : (r s : Row) → AgreeAt (discriminants r s) r s ↔ Ag
 unfolding discriminants
 agree-discriminants r s = (λ h k. go h k (keys-all k r (withKeys s [])) (keys-all k s []), agree-only (discriminants r s) r s)
   where
-    go : AgreeAt (discriminants r s) r s → (k : ℕ) → Mem k (discriminants r s) ⊎ (findKey k r ≡ none) → Mem k (withKeys s []) ⊎ (findKey k s ≡ none) → Both (findKey k r) (findKey k s)
+    go : AgreeAt (discriminants r s) r s → (k : ℕ) → Mem k (discriminants r s) ⊎ (findKey k r ≡ none) → Mem k (withKeys s []) ⊎ (findKey k s ≡ none)
+        → Both (findKey k r) (findKey k s)
     go h k (inl m) q = agree-at (discriminants r s) r s h k m
     go h k (inr p) (inl m) = agree-at (discriminants r s) r s h k (keys-old k r (withKeys s []) m)
     go h k (inr p) (inr q) = rw (p, q) tt
@@ -224,7 +226,8 @@ unfolding findKey appRow
 find-app σ k ε = refl
 find-app σ k (cell m l t r) = go (eqb k m) refl (find-app σ k r)
   where
-    go : (b : Bool) → eqb k m ≡ b → findKey k (appRow σ r) ≡ appCell σ (findKey k r) → findKey k (appRow σ (cell m l t r)) ≡ appCell σ (findKey k (cell m l t r))
+    go : (b : Bool) → eqb k m ≡ b → findKey k (appRow σ r) ≡ appCell σ (findKey k r)
+        → findKey k (appRow σ (cell m l t r)) ≡ appCell σ (findKey k (cell m l t r))
     go true q h = rw (q, findKey)
     go false q h = rw (q, findKey) h
 

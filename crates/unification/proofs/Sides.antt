@@ -129,5 +129,6 @@ pad-among s n x t e = sym (bound-pad s n x) ∙ e
 pub wf-pad : (s : Subst) (n : ℕ) → Wf s → Wf (s ++ replicate n none)
 wf-pad s n w = record {
   acyclic = acyclic-among (s ++ replicate n none) s (pad-among s n) (w .acyclic);
-  sides = λ x t e. side-more (length s) (length (s ++ replicate n none)) (omega (arith, length-append s (replicate n none))) t (w .sides x t (pad-among s n x t e));
+  sides = λ x t e. side-more (length s) (length (s ++ replicate n none)) (omega (arith, length-append s (replicate n none))) t
+      (w .sides x t (pad-among s n x t e));
 }

@@ -28,7 +28,8 @@ use Rattle.unification.proofs.Kept.{After, heads-in, unifyIn-spent, uni
 use Rattle.unification.proofs.Post.{Any, Known, Step, Closing, Post, Inside, step-refl, stay, stop, under, loosen, Entry, nodes-post}
 
 -- ---- Binding
-setVar-step : (st : State) (x : ℕ) (t : Ty) → Wf (st .subst) → x < length (st .subst) → Side (length (st .subst)) t → ¬ Reaches (st .subst) t (Var x) → Step (st .subst) (st .history) (setVar st x t)
+setVar-step : (st : State) (x : ℕ) (t : Ty) → Wf (st .subst) → x < length (st .subst) → Side (length (st .subst)) t → ¬ Reaches (st .subst) t (Var x)
+    → Step (st .subst) (st .history) (setVar st x t)
 unfolding setVar
 setVar-step st x t w lt side off = record {
   wf = wf-bind (st .subst) x t lt side off w;
@@ -39,7 +40,8 @@ setVar-step st x t w lt side off = record {
 }
 
 bindVar-post : (d : ℕ) (A : Type 0) (st : State) (x : ℕ) (t : Ty) → Wf (st .subst) → bound (st .subst) x ≡ none → Resolved (st .subst) t → ¬ (t ≡ Var x)
-    → x < length (st .subst) → Side (length (st .subst)) t → (A → Admitted (st .subst) t) → Inside (st .subst) (st .history) A (λ σ. Same (σ x) (app σ t)) (bindVar d st x t)
+    → x < length (st .subst) → Side (length (st .subst)) t → (A → Admitted (st .subst) t)
+    → Inside (st .subst) (st .history) A (λ σ. Same (σ x) (app σ t)) (bindVar d st x t)
 unfolding bindVar setVar withLeft BindingsClaim
 bindVar-post d A st x t w free res n lt side a = go (occurs d (st .subst) x (st .left) t) refl
   where
@@ -82,21 +84,26 @@ module _ (d : ℕ) (u : State → Ty → Ty → Unified) (rec : Entry u) (A : Ty
   no-error g = g Error itself
 
   -- The unknown on the right takes what is on the left.
-  right-var : (a : Ty) (y : ℕ) → bound (st .subst) y ≡ none → Resolved (st .subst) a → ¬ (a ≡ Var y) → y < length (st .subst) → Side (length (st .subst)) a → (A → Admitted (st .subst) a)
+  right-var : (a : Ty) (y : ℕ) → bound (st .subst) y ≡ none → Resolved (st .subst) a → ¬ (a ≡ Var y) → y < length (st .subst)
+      → Side (length (st .subst)) a → (A → Admitted (st .subst) a)
       → Inside (st .subst) (st .history) A (λ σ. Same (app σ a) (σ y)) (bindVar d st y a)
   right-var a y free res n lt side p =
-      turn (st .subst) (st .history) A (λ σ. Same (σ y) (app σ a)) _ (bindVar d st y a) (λ σ. (same-sym (σ y) (app σ a), same-sym (app σ a) (σ y))) (bindVar-post d A st y a w free res n lt side p)
+      turn (st .subst) (st .history) A (λ σ. Same (σ y) (app σ a)) _ (bindVar d st y a) (λ σ. (same-sym (σ y) (app σ a), same-sym (app σ a) (σ y)))
+      (bindVar-post d A st y a w free res n lt side p)
 
-  heads-post : (a b : Ty) → Resolved (st .subst) a → Resolved (st .subst) b → Side (length (st .subst)) a → Side (length (st .subst)) b → (A → Admitted (st .subst) a × Admitted (st .subst) b)
+  heads-post : (a b : Ty) → Resolved (st .subst) a → Resolved (st .subst) b → Side (length (st .subst)) a → Side (length (st .subst)) b
+      → (A → Admitted (st .subst) a × Admitted (st .subst) b)
       → Inside (st .subst) (st .history) A (λ σ. Same (app σ a) (app σ b)) (unifyHeads d u st a b)
   unfolding unifyHeads app
   heads-post Error Error e f i j p = beside-error _ _ A _ st (λ q. no-error (p q .0)) (step-refl st w)
   heads-post Error (leaf y) e f i j p = beside-error _ _ A _ st (λ q. no-error (p q .0)) (step-refl st w)
   heads-post Error (node k r) e f i j p = beside-error _ _ A _ st (λ q. no-error (p q .0)) (step-refl st w)
-  heads-post Error (Var y) e f i j p = beside-error _ _ A _ (setVar st y Error) (λ q. no-error (p q .0)) (setVar-step st y Error w j tt (error-reaches (st .subst) y))
+  heads-post Error (Var y) e f i j p = beside-error _ _ A _ (setVar st y Error) (λ q. no-error (p q .0))
+      (setVar-step st y Error w j tt (error-reaches (st .subst) y))
   heads-post (leaf x) Error e f i j p = beside-error _ _ A _ st (λ q. no-error (p q .1)) (step-refl st w)
   heads-post (node k r) Error e f i j p = beside-error _ _ A _ st (λ q. no-error (p q .1)) (step-refl st w)
-  heads-post (Var x) Error e f i j p = beside-error _ _ A _ (setVar st x Error) (λ q. no-error (p q .1)) (setVar-step st x Error w i tt (error-reaches (st .subst) x))
+  heads-post (Var x) Error e f i j p = beside-error _ _ A _ (setVar st x Error) (λ q. no-error (p q .1))
+      (setVar-step st x Error w i tt (error-reaches (st .subst) x))
   heads-post (Var x) (Var y) e f i j p = go (eqb x y) refl
     where
       go : (b : Bool) → eqb x y ≡ b → Inside (st .subst) (st .history) A (λ σ. Same (σ x) (σ y)) (unifyHeads d u st (Var x) (Var y))
@@ -171,21 +178,25 @@ module _ (s : Subst) (h : History) (a b : Ty) where
       sem g σ R c = p .never g σ R (at-repr σ R .1 c)
   note-post (Spent st) p = p
 
-inner-post : (d : ℕ) → Entry (λ st a b. unifyIn d st a b) → (st : State) (v : ℕ) (a b : Ty) → Wf (st .subst) → Side (length (st .subst)) a → Side (length (st .subst)) b
-    → Inside (st .subst) (st .history) (Admitted (st .subst) a × Admitted (st .subst) b) (λ σ. Same (app σ (repr (st .subst) a)) (app σ (repr (st .subst) b))) (heads-in d st v a b)
+inner-post : (d : ℕ) → Entry (λ st a b. unifyIn d st a b) → (st : State) (v : ℕ) (a b : Ty) → Wf (st .subst) → Side (length (st .subst)) a
+    → Side (length (st .subst)) b
+    → Inside (st .subst) (st .history) (Admitted (st .subst) a × Admitted (st .subst) b)
+    (λ σ. Same (app σ (repr (st .subst) a)) (app σ (repr (st .subst) b))) (heads-in d st v a b)
 unfolding heads-in withLeft repr
 inner-post d ih st v a b w i j =
     let s = st .subst in
     let k = suc (length s) in
     heads-post d (λ st′ a′ b′. unifyIn d st′ a′ b′) ih (Admitted s a × Admitted s b) (withLeft st v) w (repr s a) (repr s b)
-    (repr-resolved s (w .acyclic) a) (repr-resolved s (w .acyclic) b) (side-follow k s a w i) (side-follow k s b w j) (λ g. (admitted-follow k s a (g .0), admitted-follow k s b (g .1)))
+    (repr-resolved s (w .acyclic) a) (repr-resolved s (w .acyclic) b) (side-follow k s a w i) (side-follow k s b w j)
+    (λ g. (admitted-follow k s a (g .0), admitted-follow k s b (g .1)))
 
 pub unifyIn-post : (d : ℕ) → Entry (unifyIn d)
 unfolding unifyIn
 unifyIn-post zero A st a b w i j p = record { step = step-refl st w; here = λ k. k .here }
 unifyIn-post (suc d) A st a b w i j p = go (st .left) refl (λ A′ st′ a′ b′. unifyIn-post d A′ st′ a′ b′)
   where
-    go : (v : ℕ) → st .left ≡ v → Entry (λ st′ a′ b′. unifyIn d st′ a′ b′) → Post (st .subst) (st .history) A (λ σ. Same (app σ a) (app σ b)) (unifyIn (suc d) st a b)
+    go : (v : ℕ) → st .left ≡ v → Entry (λ st′ a′ b′. unifyIn d st′ a′ b′)
+        → Post (st .subst) (st .history) A (λ σ. Same (app σ a) (app σ b)) (unifyIn (suc d) st a b)
     go zero e ih = rw (unifyIn-spent d st a b e) (record { step = step-refl st w; here = λ k. k .here })
     go (suc v) e ih =
         rw (unifyIn-visit d st v a b e)
@@ -202,5 +213,6 @@ wf-after s h A C (Ok st) p = p .step .wf
 wf-after s h A C (Err e st) p = p .step .wf
 wf-after s h A C (Spent st) p = p .step .wf
 
-pub unify-wf : (st : State) (a b : Ty) → Wf (st .subst) → Side (length (st .subst)) a → Side (length (st .subst)) b → After (λ st′. Wf (st′ .subst)) (unify st a b)
+pub unify-wf : (st : State) (a b : Ty) → Wf (st .subst) → Side (length (st .subst)) a → Side (length (st .subst)) b
+    → After (λ st′. Wf (st′ .subst)) (unify st a b)
 unify-wf st a b w i j = wf-after _ _ _ _ (unify st a b) (unify-post (Admitted (st .subst) a × Admitted (st .subst) b) st a b w i j (λ p. p))

@@ -10,7 +10,8 @@ use native.Mathlib.Omega.{arith}
 use lib.ListN.{length, getD, take, drop, set, replicate, length-append, length-set, length-replicate, replicate-append-replicate}
 use lib.Seq.{set-set, set-getD, take-at, drop-at}
 use Rattle.unification.specs.Ty.{Ty}
-use Rattle.unification.specs.Bindings.{Subst, bound, Undo, Binding, Annotation, History, State, withLeft, withHistory, fresh, setVar, annotate, snapshot, revert, rewind, rollback}
+use Rattle.unification.specs.Bindings.{Subst, bound, Undo, Binding, Annotation, History, State, withLeft, withHistory, fresh, setVar, annotate}
+use Rattle.unification.specs.Bindings.{snapshot, revert, rewind, rollback}
 
 -- Changes of bindings taken back, newest first, and those of annotations.
 unfoldable pub unbind : List Undo → Subst → Subst
@@ -96,7 +97,8 @@ pub since-trans : {n m : ℕ} {a b c : State} → Since n a b → Since m b c �
 since-trans {n} {m} {a} {b} {c} p q = record {
   new = q .new ++ p .new;
   undo = q .undo ∙ ap {B = List Undo} (λ us. q .new ++ us) (p .undo) ∙ sym (append-assoc (q .new) (p .new) (a .undo));
-  subst = λ k. unbind-append (q .new) (p .new) (c .subst ++ replicate k none) ∙ ap (unbind (p .new)) (q .subst k) ∙ p .subst (m + k) ∙ ap {B = Subst} (λ j. a .subst ++ replicate j none) (sym (add-assoc n m k));
+  subst = λ k. unbind-append (q .new) (p .new) (c .subst ++ replicate k none) ∙ ap (unbind (p .new)) (q .subst k) ∙ p .subst (m + k) ∙ ap {B = Subst}
+      (λ j. a .subst ++ replicate j none) (sym (add-assoc n m k));
   tys = unannotate-append (q .new) (p .new) (c .tys) ∙ ap (unannotate (p .new)) (q .tys) ∙ p .tys;
   left = omega (arith, p .left, q .left);
 }
@@ -104,7 +106,12 @@ since-trans {n} {m} {a} {b} {c} p q = record {
 pub since-length : {n : ℕ} {st₀ st : State} → Since n st₀ st → length (st .subst) ≡ length (st₀ .subst) + n
 since-length {n} {st₀} {st} p =
     let e : length (st .subst ++ replicate 0 none) ≡ length (st₀ .subst ++ replicate (n + 0) none) = sym (unbind-length (p .new) _) ∙ ap length (p .subst 0) in
-    omega (arith, length-append (st .subst) (replicate 0 none), length-append (st₀ .subst) (replicate (n + 0) none), length-replicate {A = Option Ty} (n + 0) none)
+    omega (
+      arith,
+      length-append (st .subst) (replicate 0 none),
+      length-append (st₀ .subst) (replicate (n + 0) none),
+      length-replicate {A = Option Ty} (n + 0) none,
+    )
 
 pub since-history : {n : ℕ} {st₀ st : State} (h : History) → Since n st₀ st → Since n st₀ (withHistory st h)
 unfolding withHistory

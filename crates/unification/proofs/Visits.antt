@@ -26,7 +26,8 @@ module _ (k : ℕ) where
   late w spent l f = still
 
   -- A question that costs a visit before it is asked.
-  visited-longer : (v : ℕ) (ask : ℕ → Answer) → ((w : ℕ) → Fewer w (ask w)) → ((w : ℕ) → Longer k (ask w) (ask (w + k))) → Longer k (visited v ask) (visited (v + k) ask)
+  visited-longer : (v : ℕ) (ask : ℕ → Answer) → ((w : ℕ) → Fewer w (ask w)) → ((w : ℕ) → Longer k (ask w) (ask (w + k)))
+      → Longer k (visited v ask) (visited (v + k) ask)
   unfolding visited
   visited-longer (suc v) ask f h = rw (suc-add v k) (h v)
   visited-longer zero ask f h = rw (zero-add k) (go k refl)
@@ -40,7 +41,8 @@ module _ (k : ℕ) where
   after-cell ask r a = elim a [ yes-left w ↦ yes-left w | no-left w ↦ anyRow ask w r | spent ↦ spent ]
 
   module _ (ask : ℕ → Ty → Answer) (fewer : (v : ℕ) (t : Ty) → Fewer v (ask v t)) (longer : (v : ℕ) (t : Ty) → Longer k (ask v t) (ask (v + k) t)) where
-    after-longer : (r : Row) (a b : Answer) → ((v : ℕ) → Longer k (anyRow ask v r) (anyRow ask (v + k) r)) → Longer k a b → Longer k (after-cell ask r a) (after-cell ask r b)
+    after-longer : (r : Row) (a b : Answer) → ((v : ℕ) → Longer k (anyRow ask v r) (anyRow ask (v + k) r)) → Longer k a b
+        → Longer k (after-cell ask r a) (after-cell ask r b)
     unfolding after-cell
     after-longer r a b ih (same-yes w) = same-yes w
     after-longer r a b ih (same-no w) = ih w
@@ -73,7 +75,8 @@ module _ (k : ℕ) where
   unfolding occurs
   occurs-longer zero s x v t = still
   occurs-longer (suc d) s x v t =
-      rw (occurs-visit d s x v t, occurs-visit d s x (v + k) t) (visited-longer v _ (λ w. occursIn-fewer (λ u t′. occurs d s x u t′) (λ u t′. occurs-fewer d s x u t′) x w (repr s t))
+      rw (occurs-visit d s x v t, occurs-visit d s x (v + k) t)
+      (visited-longer v _ (λ w. occursIn-fewer (λ u t′. occurs d s x u t′) (λ u t′. occurs-fewer d s x u t′) x w (repr s t))
       (λ w. occursIn-longer (λ u t′. occurs d s x u t′) (λ u t′. occurs-fewer d s x u t′) (λ u t′. occurs-longer d s x u t′) x w (repr s t)))
 
   -- ---- `orderable`
@@ -87,7 +90,8 @@ module _ (k : ℕ) where
   unfoldable after-part : Row → Answer → Answer
   after-part r a = elim a [ yes-left w ↦ allOrderable r w | no-left w ↦ no-left w | spent ↦ spent ]
 
-  part-longer : (r : Row) (a b : Answer) → ((v : ℕ) → Longer k (allOrderable r v) (allOrderable r (v + k))) → Longer k a b → Longer k (after-part r a) (after-part r b)
+  part-longer : (r : Row) (a b : Answer) → ((v : ℕ) → Longer k (allOrderable r v) (allOrderable r (v + k))) → Longer k a b
+      → Longer k (after-part r a) (after-part r b)
   unfolding after-part
   part-longer r a b ih (same-yes w) = ih w
   part-longer r a b ih (same-no w) = same-no w
@@ -110,7 +114,8 @@ module _ (k : ℕ) where
 
     allOrderable-longer : (r : Row) (v : ℕ) → Longer k (allOrderable r v) (allOrderable r (v + k))
     allOrderable-longer ε v = same-yes v
-    allOrderable-longer (cell m l t r) v = rw (first-part m l t r v, first-part m l t r (v + k)) (part-longer r (orderable t v) (orderable t (v + k)) (λ w. allOrderable-longer r w) (orderable-longer t v))
+    allOrderable-longer (cell m l t r) v = rw (first-part m l t r v, first-part m l t r (v + k))
+        (part-longer r (orderable t v) (orderable t (v + k)) (λ w. allOrderable-longer r w) (orderable-longer t v))
 
 -- ---- The same question again. What it cost when it was answered it costs each time; with fewer visits it is stopped.
 abbrev pub said : Bool → ℕ → Answer

@@ -15,7 +15,8 @@ use Rattle.unification.proofs.Tests.{clash}
 use Rattle.unification.proofs.Order.{app-app, app-id, size, rowSize}
 use Rattle.unification.proofs.Reach.{reaches-trans, reaches-var}
 use Rattle.unification.specs.Acyclic.{Acyclic}
-use Rattle.unification.proofs.Chain.{leaf-reaches, error-reaches, node-reaches, nil-reaches, cell-reaches, not-behind, count, count-le, unset, count-unset, unset-other, unset-acyclic, unset-reaches}
+use Rattle.unification.proofs.Chain.{leaf-reaches, error-reaches, node-reaches, nil-reaches, cell-reaches, not-behind, count, count-le, unset}
+use Rattle.unification.proofs.Chain.{count-unset, unset-other, unset-acyclic, unset-reaches}
 
 -- All unknowns in it are free.
 unfoldable pub Solved : Subst → Ty → Type 0
@@ -70,7 +71,8 @@ mutual
   appRow-ext s f g (cell k l t r) h = rw (app-ext s f g t (λ x i. h x (first i)), appRow-ext s f g r (λ x i. h x (later i)))
 
 -- `zonk` at an unknown, by its binding.
-pub zonk-var : (k : ℕ) (s : Subst) (x : ℕ) (Q : Ty → Type 0) → (bound s x ≡ none → Q (Var x)) → ((t : Ty) → bound s x ≡ some t → Q (zonkIn k s t)) → Q (zonkIn (suc k) s (Var x))
+pub zonk-var : (k : ℕ) (s : Subst) (x : ℕ) (Q : Ty → Type 0) → (bound s x ≡ none → Q (Var x)) → ((t : Ty) → bound s x ≡ some t → Q (zonkIn k s t))
+    → Q (zonkIn (suc k) s (Var x))
 zonk-var k s x Q f g = go (bound s x) refl
   where
     go : (o : Option Ty) → bound s x ≡ o → Q (zonkIn (suc k) s (Var x))
@@ -82,7 +84,8 @@ unfolding zonkIn
 zonk-reaches zero s t z h = h
 zonk-reaches (suc k) s t z h =
     let x = app-reaches s (λ y. zonkIn (suc k) s (Var y)) t z (rw (zonk-app k s t) at h) in
-    reaches-trans s (x .1) (zonk-var k s (x .0) (λ u. Reaches s u (Var z) → Reaches s (Var (x .0)) (Var z)) (λ e i. i) (λ u e i. through e (zonk-reaches k s u z i)) (x .2))
+    reaches-trans s (x .1) (zonk-var k s (x .0) (λ u. Reaches s u (Var z) → Reaches s (Var (x .0)) (Var z)) (λ e i. i)
+    (λ u e i. through e (zonk-reaches k s u z i)) (x .2))
 
 -- What does not reach x resolves without the binding of x.
 zonk-unset : (k : ℕ) (s : Subst) (x : ℕ) (t : Ty) → ¬ Reaches s t (Var x) → zonkIn k (unset s x) t ≡ zonkIn k s t
@@ -90,7 +93,8 @@ unfolding zonkIn
 zonk-unset zero s x t off = refl
 zonk-unset (suc k) s x t off = zonk-app k (unset s x) t ∙ app-ext s _ _ t (each (λ u. zonk-unset k s x u)) ∙ sym (zonk-app k s t)
   where
-    each : ((u : Ty) → ¬ Reaches s u (Var x) → zonkIn k (unset s x) u ≡ zonkIn k s u) → (y : ℕ) → Reaches s t (Var y) → zonkIn (suc k) (unset s x) (Var y) ≡ zonkIn (suc k) s (Var y)
+    each : ((u : Ty) → ¬ Reaches s u (Var x) → zonkIn k (unset s x) u ≡ zonkIn k s u) → (y : ℕ) → Reaches s t (Var y)
+        → zonkIn (suc k) (unset s x) (Var y) ≡ zonkIn (suc k) s (Var y)
     each ih y i =
         let same : bound (unset s x) y ≡ bound s y = unset-other s x y (λ p. off (rw (← p) i)) in
         zonk-var k s y (λ u. zonkIn (suc k) (unset s x) (Var y) ≡ u)
@@ -106,7 +110,8 @@ unfolding Solved
 solved-free s x e z i = ⊎-elim (λ q. let p : x ≡ z = cc (q) in rw (← p) e) (λ c. clash (cc (c .1))) (reaches-var s x (Var z) i)
 
 -- At an unknown, if it is so behind its binding without that binding.
-solved-var : (k : ℕ) (s : Subst) (x : ℕ) → Acyclic s → ((t : Ty) → bound s x ≡ some t → Solved (unset s x) (zonkIn k (unset s x) t)) → Solved s (zonkIn (suc k) s (Var x))
+solved-var : (k : ℕ) (s : Subst) (x : ℕ) → Acyclic s → ((t : Ty) → bound s x ≡ some t → Solved (unset s x) (zonkIn k (unset s x) t))
+    → Solved s (zonkIn (suc k) s (Var x))
 solved-var k s x A ih = zonk-var k s x (Solved s) (solved-free s x) behind
   where
     behind : (t : Ty) → bound s x ≡ some t → Solved s (zonkIn k s t)
@@ -139,8 +144,10 @@ zonk-last : (k : ℕ) (s : Subst) (t : Ty) → zonkIn (suc k) s t ≡ zonkIn 1 s
 zonk-last zero s t = ap (zonkIn 1 s) (sym (zonk-none s t))
 zonk-last (suc k) s t =
     zonk-app (suc k) s t
-    ∙ app-ext s _ (λ y. app (λ z. zonkIn 1 s (Var z)) (zonkIn (suc k) s (Var y))) t (λ y i. each y (λ u. zonk-last k s u) ∙ zonk-app 0 s (zonkIn (suc k) s (Var y)))
-    ∙ sym (zonk-app 0 s (zonkIn (suc k) s t) ∙ ap (app (λ z. zonkIn 1 s (Var z))) (zonk-app k s t) ∙ app-app (λ y. zonkIn (suc k) s (Var y)) (λ z. zonkIn 1 s (Var z)) t)
+    ∙ app-ext s _ (λ y. app (λ z. zonkIn 1 s (Var z)) (zonkIn (suc k) s (Var y))) t
+    (λ y i. each y (λ u. zonk-last k s u) ∙ zonk-app 0 s (zonkIn (suc k) s (Var y)))
+    ∙ sym (zonk-app 0 s (zonkIn (suc k) s t) ∙ ap (app (λ z. zonkIn 1 s (Var z))) (zonk-app k s t) ∙ app-app (λ y. zonkIn (suc k) s (Var y))
+    (λ z. zonkIn 1 s (Var z)) t)
   where
     each : (y : ℕ) → ((u : Ty) → zonkIn (suc k) s u ≡ zonkIn 1 s (zonkIn k s u)) → zonkIn (suc (suc k)) s (Var y) ≡ zonkIn 1 s (zonkIn (suc k) s (Var y))
     each y ih = go (bound s y) refl

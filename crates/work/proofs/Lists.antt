@@ -32,7 +32,8 @@ zeroing-next {from} {i} {l₀} {l} z h =
       low = omega arith;
       high = omega arith;
       long = simp length-set (z .long);
-      is = rw (more, ← replicate-append-replicate {A = ℕ} (i - from) 1 0, add-one i, take-suc-set l i 0, z .is) (append-assoc (take from l₀) (replicate (i - from) 0) (0 ∷ []));
+      is = rw (more, ← replicate-append-replicate {A = ℕ} (i - from) 1 0, add-one i, take-suc-set l i 0, z .is)
+          (append-assoc (take from l₀) (replicate (i - from) 0) (0 ∷ []));
     }
 
 pub zeroing-end : {from i : ℕ} {l₀ l : List ℕ} → Zeroing from l₀ i l → length l ≤ i → l ≡ take from l₀ ++ replicate (length l₀ - from) 0

@@ -34,11 +34,13 @@ pub hex-then : {out : List ℕ} {at : ℕ} (a b : List ℕ) {mid : List ℕ} {r 
     → Writes out at (hexOf a) mid r → r ≡ To n → Writes mid n (hexOf b) out′ r′ → Writes out at (hexOf (a ++ b)) out′ r′
 hex-then a b f e g = writes-as (sym (hex-append a b)) (writes-then f e g)
 
-pub hex-full : {out : List ℕ} {at : ℕ} (a b : List ℕ) {mid : List ℕ} {r : Wrote} → Writes out at (hexOf a) mid r → r ≡ Full → Writes out at (hexOf (a ++ b)) mid Full
+pub hex-full : {out : List ℕ} {at : ℕ} (a b : List ℕ) {mid : List ℕ} {r : Wrote} → Writes out at (hexOf a) mid r → r ≡ Full
+    → Writes out at (hexOf (a ++ b)) mid Full
 hex-full a b f e = writes-as (sym (hex-append a b)) (writes-full f e (hexOf b))
 
 -- A byte and a number take six digits.
-pub tagged-to : {out : List ℕ} {at : ℕ} (tag x : ℕ) {mid : List ℕ} {r : Wrote} {n : ℕ} → Writes out at (hexOf (tag ∷ bytes₂ x)) mid r → r ≡ To n → (n ≡ at + 6) × (n ≤ length mid)
+pub tagged-to : {out : List ℕ} {at : ℕ} (tag x : ℕ) {mid : List ℕ} {r : Wrote} {n : ℕ} → Writes out at (hexOf (tag ∷ bytes₂ x)) mid r → r ≡ To n
+    → (n ≡ at + 6) × (n ≤ length mid)
 unfolding hexOf bytes₂
 tagged-to tag x f e = let h = writes-to f e in (h .0, omega (arith, h .1, f .long))
 

@@ -9,7 +9,8 @@ use lib.Seq.{drop-cons}
 use Rattle.writer.specs.declared.Wrote.{Wrote}
 use Rattle.writer.specs.declared.Wrote.the-variants.{To, Full}
 use Rattle.writer.specs.Writes.{Writes, Moves, WritesText, hexOf}
-use Rattle.writer.proofs.Writing.{writes-one, writes-then, writes-as, writes-moves, full-moves, moves-none, moves-next, Goes, goes-start, goes-next, goes-done}
+use Rattle.writer.proofs.Writing.{writes-one, writes-then, writes-as, writes-moves, full-moves, moves-none, moves-next, Goes, goes-start, goes-next}
+use Rattle.writer.proofs.Writing.{goes-done}
 use Rattle.meaning.specs.Answer.{hexDigit}
 use Rattle.writer.proofs.Digits.{hex-append}
 
@@ -55,7 +56,8 @@ pub fill-start : (s out : List ℕ) (at : ℕ) → at ≤ length out → length 
 fill-start s out at l room = record { texting = text-start s out at; place = omega arith; room = omega arith }
 
 module _ {s out₀ : List ℕ} {at : ℕ} {out : List ℕ} {i to : ℕ} (g : Filling s out₀ at out i to) where
-  pub fill-next : i < length s → {h l : ℕ} → h ≡ hexDigit (getD s i 0 / 16) → l ≡ hexDigit (getD s i 0 % 16) → Filling s out₀ at (set (set out to h) (to + 1) l) (i + 1) (to + 2)
+  pub fill-next : i < length s → {h l : ℕ} → h ≡ hexDigit (getD s i 0 / 16) → l ≡ hexDigit (getD s i 0 % 16)
+      → Filling s out₀ at (set (set out to h) (to + 1) l) (i + 1) (to + 2)
   fill-next lt {h} {l} p q =
       let inside : to + 1 < length out = omega (arith, g .place, g .room) in
       let f = byte-writes out to (getD s i 0) h l inside p q in

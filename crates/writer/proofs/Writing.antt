@@ -63,7 +63,8 @@ pub full-one : (out : List ℕ) (at b : ℕ) → length out ≤ at → Writes ou
 full-one out at b h = record { fits = λ l. absurd (omega arith); over = λ o. refl; long = refl }
 
 -- What follows a text that did not fit does not fit.
-pub writes-full : {out : List ℕ} {at : ℕ} {a : List ℕ} {mid : List ℕ} {r : Wrote} → Writes out at a mid r → r ≡ Full → (b : List ℕ) → Writes out at (a ++ b) mid Full
+pub writes-full : {out : List ℕ} {at : ℕ} {a : List ℕ} {mid : List ℕ} {r : Wrote} → Writes out at a mid r → r ≡ Full → (b : List ℕ)
+    → Writes out at (a ++ b) mid Full
 writes-full {out} {at} {a} {mid} {r} f e b = record {
   fits = λ h. let l : length (a ++ b) ≡ length a + length b = length-append a b in
       let g : r ≡ To (at + length a) = f .fits (omega arith) .0 in
@@ -104,7 +105,8 @@ writes-as e f = rw (← e) f
 
 -- ---- Where a writer has come to
 
-pub writes-to : {out : List ℕ} {at : ℕ} {a : List ℕ} {out′ : List ℕ} {r : Wrote} {n : ℕ} → Writes out at a out′ r → r ≡ To n → (n ≡ at + length a) × (n ≤ length out)
+pub writes-to : {out : List ℕ} {at : ℕ} {a : List ℕ} {out′ : List ℕ} {r : Wrote} {n : ℕ} → Writes out at a out′ r → r ≡ To n
+    → (n ≡ at + length a) × (n ≤ length out)
 writes-to {out} {at} {a} {out′} {r} {n} f e = at-end (decLe (at + length a) (length out))
   where
     at-end : Dec (at + length a ≤ length out) → (n ≡ at + length a) × (n ≤ length out)
@@ -144,7 +146,8 @@ full-moves l = record {
   long = l;
 }
 
-pub moves-then : {out : List ℕ} {at : ℕ} {mid : List ℕ} {r : Wrote} {n : ℕ} {out′ : List ℕ} {r′ : Wrote} → Moves out at mid r → r ≡ To n → Moves mid n out′ r′ → Moves out at out′ r′
+pub moves-then : {out : List ℕ} {at : ℕ} {mid : List ℕ} {r : Wrote} {n : ℕ} {out′ : List ℕ} {r′ : Wrote} → Moves out at mid r → r ≡ To n
+    → Moves mid n out′ r′ → Moves out at out′ r′
 moves-then {out} {at} {mid} {r} {n} f e g = record {
   onward = λ m p. omega (arith, f .onward n e, g .onward m p);
   inside = λ m p l. let h : n ≤ length mid = omega (arith, f .inside n e l, f .long) in omega (arith, g .inside m p h, f .long);
@@ -161,7 +164,8 @@ moves-none out at = record {
   long = refl;
 }
 
-pub moves-next : {out₀ : List ℕ} {at : ℕ} {out : List ℕ} {to : ℕ} {out′ : List ℕ} {r : Wrote} {n : ℕ} → Moves out₀ at out (To to) → Moves out to out′ r → r ≡ To n → Moves out₀ at out′ (To n)
+pub moves-next : {out₀ : List ℕ} {at : ℕ} {out : List ℕ} {to : ℕ} {out′ : List ℕ} {r : Wrote} {n : ℕ} → Moves out₀ at out (To to)
+    → Moves out to out′ r → r ≡ To n → Moves out₀ at out′ (To n)
 moves-next c f e = rw e at (moves-then c refl f)
 
 -- What is left: to write the rest from here is to write the whole from the start.
