@@ -29,7 +29,7 @@ const SHOW: &str = "\
 usage: sigla-tool show FILE [--source TEXT].. [--answer ANSWER] [--tree]
 
 Types the file and prints its schema and, query by query, each node with its span, its shape and its type, then the diagnostics and the
-names that are written only once.
+names that are written only once. Of a file that is turned down it tells the line at fault.
 
   --source TEXT      the text that the spans point into, by bytes; for a form one for each query, in their order. A diagnostic is
                      then shown under its line of the text, with carets
