@@ -9,6 +9,7 @@ mod filled;
 mod forms;
 mod grow;
 mod limits;
+mod load;
 mod messages;
 mod nested;
 mod noise;
@@ -20,6 +21,7 @@ mod texts;
 mod valid;
 
 pub use filled::{GROWING, filled};
+pub use load::load;
 pub use nested::{nested, stacked};
 pub use predicates::narrowed;
 pub use rng::Rng;
@@ -97,8 +99,14 @@ const fn styles() -> [&'static str; TABLE.len()] {
 /// The styles by name.
 pub const STYLES: &[&str] = &styles();
 
+/// Card 11's test load, by name alone: its files are those of the low 32 bits of the seed.
+pub const LOAD: &str = "load";
+
 /// A file of that style; an unknown style has no files but the empty one.
 pub fn generate(style: &str, seed: u64) -> Vec<u8> {
+    if style == LOAD {
+        return load(seed as u32);
+    }
     let Some(place) = STYLES.iter().position(|name| *name == style) else {
         return Vec::new();
     };

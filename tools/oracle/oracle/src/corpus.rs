@@ -87,7 +87,10 @@ pub fn style(options: &Options) -> Result<Option<&'static str>, String> {
     let Some(named) = options.text("style") else {
         return Ok(None);
     };
-    let known = files::STYLES.iter().find(|style| **style == named);
+    let known = files::STYLES
+        .iter()
+        .chain([&files::LOAD])
+        .find(|style| **style == named);
     match known {
         Some(style) => Ok(Some(style)),
         None => Err(format!(

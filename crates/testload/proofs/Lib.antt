@@ -1,0 +1,4 @@
+pub mod Words
+pub mod Tables
+pub mod Lawful
+pub mod Promise
