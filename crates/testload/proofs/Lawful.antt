@@ -19,8 +19,10 @@ use Rattle.meaning.specs.Content.{PredicateFrame, predicateFrame, Content, quer
 use Rattle.meaning.specs.Sound.{Lower, nodesNamed, LawfulQuery}
 use Rattle.meaning.specs.Writing.{asValueType, asContent, asNode, written, fileOf, Fits, Writable}
 use Rattle.meaning.proofs.Lists.{all-append, all-map, all-at}
-use Rattle.testload.specs.Rule.{Limits, limit, limits, names, base, simple, compound, predicates, predicate, Plan, queries, counts, from, choice, exprAt, nodeOf, noPlan, planOf, queryOf, limitsOf, simpleOf, compoundOf, predicateOf, countOf, contentOf}
-use Rattle.testload.proofs.Tables.{TypeRow, PredicateRow, LimitsRow, NameRow, ExprRow, PlanRow, base-rows, simple-rows, compound-rows, limits-rows, predicates-rows, names-rows, names-distinct, namedAt, namedIn, expr-at, queries-rows, counts-rows, named-lower}
+use Rattle.testload.specs.Rule.{Limits, limit, limits, names, base, simple, compound, predicates, predicate, Plan, queries, counts, from, choice}
+use Rattle.testload.specs.Rule.{exprAt, nodeOf, noPlan, planOf, queryOf, limitsOf, simpleOf, compoundOf, predicateOf, countOf, contentOf}
+use Rattle.testload.proofs.Tables.{TypeRow, PredicateRow, LimitsRow, NameRow, ExprRow, PlanRow, base-rows, simple-rows, compound-rows, limits-rows}
+use Rattle.testload.proofs.Tables.{predicates-rows, names-rows, names-distinct, namedAt, namedIn, expr-at, queries-rows, counts-rows, named-lower}
 
 -- ---- Lists
 
@@ -100,7 +102,8 @@ unfolding fileOf flatMap
 file-most [] a = omega arith
 file-most (f ∷ fs) a =
     let l : length (hexLine (written wide f)) ≡ 2 * length (written wide f) + 1 = line-length (written wide f) in
-    let s : length (hexLine (written wide f) ++ fileOf wide fs) ≡ length (hexLine (written wide f)) + length (fileOf wide fs) = length-append (hexLine (written wide f)) (fileOf wide fs) in
+    let s : length (hexLine (written wide f) ++ fileOf wide fs) ≡ length (hexLine (written wide f)) + length (fileOf wide fs) = length-append
+    (hexLine (written wide f)) (fileOf wide fs) in
     omega (arith, a .0 .short, file-most fs (a .1), l, s)
 
 -- ---- The content
@@ -142,17 +145,53 @@ module _ (ws : List ℕ) (small : (n : ℕ) → getD ws n 0 < 0x1_0000_0000) whe
   -- what holds of a row, whatever it may refer to
   all-types : (P : TypeShape → Type 0) → ((n : ℕ) (t : TypeShape) → TypeRow n t → P t) → All P (contentOf ws .types)
   unfolding contentOf base from
-  all-types P f =
-      (f 0 _ (base-rows .0), (f 0 _ (base-rows .1 .0), (f 0 _ (base-rows .1 .1 .0),
-      (f 3 _ (simple-of 17), (f 3 _ (simple-of 18), (f 3 _ (simple-of 19),
-      (f 6 _ (compound-of 20), (f 6 _ (compound-of 21), (f 6 _ (compound-of 22), tt)))))))))
+  all-types P f = (
+    f 0 _ (base-rows .0),
+    (
+      f 0 _ (base-rows .1 .0),
+      (
+        f 0 _ (base-rows .1 .1 .0),
+        (
+          f 3 _ (simple-of 17),
+          (
+            f 3 _ (simple-of 18),
+            (
+              f 3 _ (simple-of 19),
+              (f 6 _ (compound-of 20), (f 6 _ (compound-of 21), (f 6 _ (compound-of 22), tt))),
+            ),
+          ),
+        ),
+      ),
+    ),
+  )
 
   types-before : TypesBefore 0 (contentOf ws .types)
   unfolding contentOf base from shapeTypes
-  types-before =
-      (tt, (tt, (tt,
-      (simple-of 17 .types, (below-more 3 4 (omega arith) (shapeTypes (simpleOf ws 18)) (simple-of 18 .types), (below-more 3 5 (omega arith) (shapeTypes (simpleOf ws 19)) (simple-of 19 .types),
-      (compound-of 20 .types, (below-more 6 7 (omega arith) (shapeTypes (compoundOf ws 21)) (compound-of 21 .types), (below-more 6 8 (omega arith) (shapeTypes (compoundOf ws 22)) (compound-of 22 .types), tt)))))))))
+  types-before = (
+    tt,
+    (
+      tt,
+      (
+        tt,
+        (
+          simple-of 17 .types,
+          (
+            below-more 3 4 (omega arith) (shapeTypes (simpleOf ws 18)) (simple-of 18 .types),
+            (
+              below-more 3 5 (omega arith) (shapeTypes (simpleOf ws 19)) (simple-of 19 .types),
+              (
+                compound-of 20 .types,
+                (
+                  below-more 6 7 (omega arith) (shapeTypes (compoundOf ws 21)) (compound-of 21 .types),
+                  (below-more 6 8 (omega arith) (shapeTypes (compoundOf ws 22)) (compound-of 22 .types), tt),
+                ),
+              ),
+            ),
+          ),
+        ),
+      ),
+    ),
+  )
 
   -- ---- Queries
 
@@ -204,7 +243,8 @@ module _ (ws : List ℕ) (small : (n : ℕ) → getD ws n 0 < 0x1_0000_0000) whe
     query-most =
         let n = 8 * planOf ws q .blocks in
         let nodes = map (nodeOf ws q) (from 0 n) in
-        let a : length (map aNode nodes ++ theQuery (planOf ws q .query) ∷ []) ≡ length (map aNode nodes) + 1 = length-append (map aNode nodes) (theQuery (planOf ws q .query) ∷ []) in
+        let a : length (map aNode nodes ++ theQuery (planOf ws q .query) ∷ []) ≡ length (map aNode nodes) + 1 = length-append (map aNode nodes)
+        (theQuery (planOf ws q .query) ∷ []) in
         let b : length (map aNode nodes) ≡ n = length-map nodes aNode ∙ length-map (from 0 n) (nodeOf ws q) ∙ length-from 0 n in
         omega (arith, a, b, plan-of q .blocks)
 
@@ -220,18 +260,25 @@ module _ (ws : List ℕ) (small : (n : ℕ) → getD ws n 0 < 0x1_0000_0000) whe
   schema-lines : All Short (schemaFrames (contentOf ws))
   unfolding schemaFrames contentOf from
   schema-lines =
-      let ps : All Short (map predicateFrame (contentOf ws .predicates)) =
-          (predicate-short _ (predicate-of 23), (predicate-short _ (predicate-of 24), (predicate-short _ (predicate-of 25), (predicate-short _ (predicate-of 26), tt)))) in
+      let ps : All Short (map predicateFrame (contentOf ws .predicates)) = (
+        predicate-short _ (predicate-of 23),
+        (
+          predicate-short _ (predicate-of 24),
+          (predicate-short _ (predicate-of 25), (predicate-short _ (predicate-of 26), tt)),
+        ),
+      ) in
       let ts : All Short (map aType (contentOf ws .types)) =
-          all-mapped aType (λ t. Short (aType t)) Short (λ t s. s) (contentOf ws .types) (all-types (λ t. Short (aType t)) type-short) in
-      (limits-short (limitsOf ws) limits-of,
-      all-append Short (map aName names) (map aType (contentOf ws .types) ++ map predicateFrame (contentOf ws .predicates))
-      (all-mapped aName NameRow Short name-short names names-rows)
-      (all-append Short (map aType (contentOf ws .types)) (map predicateFrame (contentOf ws .predicates)) ts ps))
+      all-mapped aType (λ t. Short (aType t)) Short (λ t s. s) (contentOf ws .types) (all-types (λ t. Short (aType t)) type-short) in (
+        limits-short (limitsOf ws) limits-of,
+        all-append Short (map aName names) (map aType (contentOf ws .types) ++ map predicateFrame (contentOf ws .predicates))
+            (all-mapped aName NameRow Short name-short names names-rows)
+            (all-append Short (map aType (contentOf ws .types)) (map predicateFrame (contentOf ws .predicates)) ts ps),
+      )
 
   query-frames : All Short (flatMap queryFrames (contentOf ws .queries))
   unfolding contentOf
-  query-frames = all-flat queryFrames Short (map (queryOf ws) (from 0 (countOf ws))) (all-from (queryOf ws) (λ a. All Short (queryFrames a)) 0 (countOf ws) (λ q h. query-lines q))
+  query-frames = all-flat queryFrames Short (map (queryOf ws) (from 0 (countOf ws)))
+      (all-from (queryOf ws) (λ a. All Short (queryFrames a)) 0 (countOf ws) (λ q h. query-lines q))
 
   all-short : All Short (framesOf (contentOf ws))
   unfolding framesOf

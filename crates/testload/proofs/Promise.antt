@@ -75,7 +75,8 @@ early-words : (seed : ℕ) → seed < 0x1_0000_0000 → (n : ℕ) → n ≤ 54 �
 early-words seed h zero l = omega (arith, first-word seed)
 early-words seed h (suc n) l =
     let e : suc n - 1 ≡ n = omega arith in
-    let step : wordAt seed (suc n) ≡ (wordAt seed n + 2654435769) % 2 ^ 32 = next-54 seed (suc n) (omega arith) l ∙ ap (λ m. (wordAt seed m + 2654435769) % 2 ^ 32) e in
+    let step : wordAt seed (suc n) ≡ (wordAt seed n + 2654435769) % 2 ^ 32 = next-54 seed (suc n) (omega arith) l ∙ ap
+    (λ m. (wordAt seed m + 2654435769) % 2 ^ 32) e in
     omega (arith, step, early-words seed h n (omega arith))
 
 word-56 : (seed : ℕ) → seed < 0x1_0000_0000 → wordAt seed 55 ≡ ((seed + 31 * 2654435769) % 0x1_0000_0000 + seed) % 0x1_0000_0000

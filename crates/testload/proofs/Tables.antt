@@ -21,10 +21,12 @@ use Rattle.meaning.specs.Conditions.{anyOf, allBelow, among, again, sameText, g
 use Rattle.meaning.specs.All.{All, Distinct, Below, Each}
 use Rattle.meaning.specs.Answer.{bytes₂, bytes₄}
 use Rattle.meaning.specs.Content.{PredicateFrame}
-use Rattle.meaning.specs.Writing.{asField, asAlternative, asReference, asShape, asValueType, asStatement, asQuery, asExpr, Byte, InTwo, ShapeFits, ValueTypeFits, QueryFits, ExprFits}
+use Rattle.meaning.specs.Writing.{asField, asAlternative, asReference, asShape, asValueType, asStatement, asQuery, asExpr, Byte, InTwo, ShapeFits}
+use Rattle.meaning.specs.Writing.{ValueTypeFits, QueryFits, ExprFits}
 use Rattle.meaning.proofs.Lists.{all-at}
 use Rattle.meaning.proofs.Tests.{cases, clash, none-passes, below-all, again-distinct, given-absent}
-use Rattle.testload.specs.Rule.{Limits, limits, names, base, simple, compound, predicates, leaves, pairs, singles, exprs, exprAt, Plan, queries, counts, from}
+use Rattle.testload.specs.Rule.{Limits, limits, names, base, simple, compound, predicates, leaves, pairs, singles, exprs, exprAt, Plan, queries}
+use Rattle.testload.specs.Rule.{counts, from}
 
 -- ---- What is asked of a row
 
@@ -143,7 +145,11 @@ name-row s u h =
     let b = leb (length s) 23 in
     let c = isText (characters s) in
     let h₁ = both-right a (both b c) h in
-    record { text = go (characters s) refl (both-right b c h₁); bytes = below-all 0x100 s (both-left a (both b c) h); short = leb-true (length s) 23 (both-left b c h₁) }
+    record {
+      text = go (characters s) refl (both-right b c h₁);
+      bytes = below-all 0x100 s (both-left a (both b c) h);
+      short = leb-true (length s) 23 (both-left b c h₁);
+    }
   where
     go : (o : Option ℕ) → characters s ≡ o → isText o ≡ true → (n : ℕ) × Text s n
     go none e t = clash (sym t)
@@ -186,67 +192,155 @@ both-all P Q (x ∷ l) a b = ((a .0, b .0), both-all P Q l (a .1) (b .1))
 
 expr-rows : (named : List ℕ) (l : List ExprKind) → All (ExprFits wide) l → All (λ e. exprNodes e ≡ named) l → allOf exprTest l ≡ true → All (ExprRow named) l
 expr-rows named l a b h =
-    rows (λ e. ExprFits wide e × (exprNodes e ≡ named)) (ExprRow named) exprTest (expr-row named) l (both-all (ExprFits wide) (λ e. exprNodes e ≡ named) l a b) h
+    rows (λ e. ExprFits wide e × (exprNodes e ≡ named)) (ExprRow named) exprTest (expr-row named) l
+    (both-all (ExprFits wide) (λ e. exprNodes e ≡ named) l a b) h
 
 leaves-fit : All (ExprFits wide) leaves
 unfolding leaves
-leaves-fit =
-    (tt,
-    (tt,
-    (tt,
-    (omega arith,
-    (omega arith,
-    (omega arith,
-    (omega arith,
-    (omega arith,
-    (omega arith,
-    (tt,
-    (tt,
-    (tt,
-    (omega arith,
-    ((omega arith, omega arith),
-    (tt,
-    (tt, tt))))))))))))))))
+leaves-fit = (
+  tt,
+  (
+    tt,
+    (
+      tt,
+      (
+        omega arith,
+        (
+          omega arith,
+          (
+            omega arith,
+            (
+              omega arith,
+              (
+                omega arith,
+                (
+                  omega arith,
+                  (
+                    tt,
+                    (
+                      tt,
+                      (
+                        tt,
+                        (
+                          omega arith,
+                          (
+                            (omega arith, omega arith),
+                            (
+                              tt,
+                              (tt, tt),
+                            ),
+                          ),
+                        ),
+                      ),
+                    ),
+                  ),
+                ),
+              ),
+            ),
+          ),
+        ),
+      ),
+    ),
+  ),
+)
 
 pairs-fit : (l r : ℕ) → InTwo l → InTwo r → All (ExprFits wide) (pairs l r)
 unfolding pairs
-pairs-fit l r p q =
-    (((omega arith, p), ((omega arith, q), tt)),
-    (((omega arith, p), ((omega arith, q), tt)),
-    (((omega arith, p), ((omega arith, q), tt)),
-    (((omega arith, p), ((omega arith, q), tt)),
-    (((omega arith, p), ((omega arith, q), tt)),
-    (((omega arith, p), ((omega arith, q), tt)),
-    (((omega arith, p), ((omega arith, q), tt)),
-    (((omega arith, p), ((omega arith, q), tt)),
-    ((p, (q, tt)),
-    ((p, (q, tt)),
-    ((p, (q, tt)),
-    ((p, (q, tt)),
-    ((p, (q, tt)),
-    ((p, (q, tt)),
-    ((p, (q, tt)),
-    ((p, (q, tt)), tt))))))))))))))))
+pairs-fit l r p q = (
+  ((omega arith, p), ((omega arith, q), tt)),
+  (
+    ((omega arith, p), ((omega arith, q), tt)),
+    (
+      ((omega arith, p), ((omega arith, q), tt)),
+      (
+        ((omega arith, p), ((omega arith, q), tt)),
+        (
+          ((omega arith, p), ((omega arith, q), tt)),
+          (
+            ((omega arith, p), ((omega arith, q), tt)),
+            (
+              ((omega arith, p), ((omega arith, q), tt)),
+              (
+                ((omega arith, p), ((omega arith, q), tt)),
+                (
+                  (p, (q, tt)),
+                  (
+                    (p, (q, tt)),
+                    (
+                      (p, (q, tt)),
+                      (
+                        (p, (q, tt)),
+                        (
+                          (p, (q, tt)),
+                          (
+                            (p, (q, tt)),
+                            (
+                              (p, (q, tt)),
+                              ((p, (q, tt)), tt),
+                            ),
+                          ),
+                        ),
+                      ),
+                    ),
+                  ),
+                ),
+              ),
+            ),
+          ),
+        ),
+      ),
+    ),
+  ),
+)
 
 singles-fit : (e : ℕ) → InTwo e → All (ExprFits wide) (singles e)
 unfolding singles
-singles-fit e p =
-    ((omega arith, p),
-    ((omega arith, p),
-    ((omega arith, p),
-    ((omega arith, p),
-    ((omega arith, p),
-    ((omega arith, p),
-    ((omega arith, p),
-    ((omega arith, p),
-    ((omega arith, p),
-    (p,
-    ((omega arith, p),
-    ((omega arith, p),
-    (((omega arith, p), tt),
-    (((omega arith, p), tt),
-    ((p, tt),
-    ((p, tt), tt))))))))))))))))
+singles-fit e p = (
+  (omega arith, p),
+  (
+    (omega arith, p),
+    (
+      (omega arith, p),
+      (
+        (omega arith, p),
+        (
+          (omega arith, p),
+          (
+            (omega arith, p),
+            (
+              (omega arith, p),
+              (
+                (omega arith, p),
+                (
+                  (omega arith, p),
+                  (
+                    p,
+                    (
+                      (omega arith, p),
+                      (
+                        (omega arith, p),
+                        (
+                          ((omega arith, p), tt),
+                          (
+                            ((omega arith, p), tt),
+                            (
+                              (p, tt),
+                              ((p, tt), tt),
+                            ),
+                          ),
+                        ),
+                      ),
+                    ),
+                  ),
+                ),
+              ),
+            ),
+          ),
+        ),
+      ),
+    ),
+  ),
+)
 
 leaves-name : All (λ e. exprNodes e ≡ []) leaves
 unfolding leaves exprNodes fieldValues
@@ -308,8 +402,8 @@ unfolding exprAt exprs namedAt namedBy
 expr-at ws i v h l =
     let s = singles-sixteen (i - 1) (omega arith) in
     let t = each-at Sixteen (exprs ws i) (namedBy i)
-        (leaves-sixteen, (leaves-sixteen, (pairs-sixteen (i - 2) (i - 1) (omega arith) (omega arith), (s, (leaves-sixteen, (s, (s, (leaves-sixteen, tt))))))))
-        (i % 8) [] [] (omega arith) in
+    (leaves-sixteen, (leaves-sixteen, (pairs-sixteen (i - 2) (i - 1) (omega arith) (omega arith), (s, (leaves-sixteen, (s, (s, (leaves-sixteen, tt))))))))
+    (i % 8) [] [] (omega arith) in
     all-at (ExprRow (namedAt i)) (getD (exprs ws i) (i % 8) []) v ExprKind.Error (t .all) (omega (arith, t .sixteen))
 
 -- ---- Queries
@@ -327,7 +421,9 @@ pub record PlanRow (p : Plan) : Type 0 where
   pub short : length (asQuery (p .query)) ≤ 23
 
 planTest : Plan → Bool
-planTest p = both (both (leb 1 (p .blocks)) (leb (p .blocks) 3)) (both (allBelow (8 * p .blocks) (queryNodes (p .query))) (both (not (again [] (namedIn (8 * p .blocks) ++ queryNodes (p .query)))) (leb (length (asQuery (p .query))) 23)))
+planTest p = both (both (leb 1 (p .blocks)) (leb (p .blocks) 3))
+    (both (allBelow (8 * p .blocks) (queryNodes (p .query)))
+    (both (not (again [] (namedIn (8 * p .blocks) ++ queryNodes (p .query)))) (leb (length (asQuery (p .query))) 23)))
 
 plan-row : (p : Plan) → QueryFits (p .query) → planTest p ≡ true → PlanRow p
 unfolding planTest
@@ -350,23 +446,52 @@ plan-row p f h =
 
 queries-fit : All (λ p. QueryFits (p .query)) queries
 unfolding queries
-queries-fit =
-    ((omega arith, tt),
-    ((omega arith, (omega arith, tt)),
-    ((omega arith, tt),
-    ((omega arith, (omega arith, tt)),
-    ((omega arith, ((omega arith, omega arith), tt)),
-    ((omega arith, ((omega arith, omega arith), tt)),
-    ((omega arith, ((omega arith, omega arith), tt)),
-    ((omega arith, (omega arith, (omega arith, tt))),
-    ((omega arith, ((omega arith, omega arith), ((omega arith, omega arith), (omega arith, tt)))),
-    ((omega arith, ((omega arith, omega arith), ((omega arith, omega arith), (omega arith, tt)))),
-    ((omega arith, (omega arith, (omega arith, ((omega arith, omega arith), tt)))),
-    ((omega arith, ((omega arith, omega arith), ((omega arith, omega arith), (omega arith, tt)))),
-    ((omega arith, (omega arith, (omega arith, ((omega arith, omega arith), tt)))),
-    ((omega arith, ((omega arith, omega arith), ((omega arith, omega arith), (omega arith, (omega arith, tt))))),
-    ((omega arith, ((omega arith, omega arith), ((omega arith, omega arith), ((omega arith, omega arith), tt)))),
-    ((omega arith, ((omega arith, omega arith), ((omega arith, omega arith), (omega arith, tt)))), tt))))))))))))))))
+queries-fit = (
+  (omega arith, tt),
+  (
+    (omega arith, (omega arith, tt)),
+    (
+      (omega arith, tt),
+      (
+        (omega arith, (omega arith, tt)),
+        (
+          (omega arith, ((omega arith, omega arith), tt)),
+          (
+            (omega arith, ((omega arith, omega arith), tt)),
+            (
+              (omega arith, ((omega arith, omega arith), tt)),
+              (
+                (omega arith, (omega arith, (omega arith, tt))),
+                (
+                  (omega arith, ((omega arith, omega arith), ((omega arith, omega arith), (omega arith, tt)))),
+                  (
+                    (omega arith, ((omega arith, omega arith), ((omega arith, omega arith), (omega arith, tt)))),
+                    (
+                      (omega arith, (omega arith, (omega arith, ((omega arith, omega arith), tt)))),
+                      (
+                        (omega arith, ((omega arith, omega arith), ((omega arith, omega arith), (omega arith, tt)))),
+                        (
+                          (omega arith, (omega arith, (omega arith, ((omega arith, omega arith), tt)))),
+                          (
+                            (omega arith, ((omega arith, omega arith), ((omega arith, omega arith), (omega arith, (omega arith, tt))))),
+                            (
+                              (omega arith, ((omega arith, omega arith), ((omega arith, omega arith), ((omega arith, omega arith), tt)))),
+                              ((omega arith, ((omega arith, omega arith), ((omega arith, omega arith), (omega arith, tt)))), tt),
+                            ),
+                          ),
+                        ),
+                      ),
+                    ),
+                  ),
+                ),
+              ),
+            ),
+          ),
+        ),
+      ),
+    ),
+  ),
+)
 
 pub queries-rows : All PlanRow queries
 unfolding queries allOf planTest allBelow again among anyOf namedIn namedAt namedBy from queryNodes stmtNodes asQuery asStatement bytes₂ flatMap
