@@ -142,17 +142,47 @@ module _ (ws : List ℕ) (small : (n : ℕ) → getD ws n 0 < 0x1_0000_0000) whe
   -- what holds of a row, whatever it may refer to
   all-types : (P : TypeShape → Type 0) → ((n : ℕ) (t : TypeShape) → TypeRow n t → P t) → All P (contentOf ws .types)
   unfolding contentOf base from
-  all-types P f =
-      (f 0 _ (base-rows .0), (f 0 _ (base-rows .1 .0), (f 0 _ (base-rows .1 .1 .0),
-      (f 3 _ (simple-of 17), (f 3 _ (simple-of 18), (f 3 _ (simple-of 19),
-      (f 6 _ (compound-of 20), (f 6 _ (compound-of 21), (f 6 _ (compound-of 22), tt)))))))))
+  all-types P f = (
+    f 0 _ (base-rows .0),
+    (
+      f 0 _ (base-rows .1 .0),
+      (
+        f 0 _ (base-rows .1 .1 .0),
+        (
+          f 3 _ (simple-of 17),
+          (
+            f 3 _ (simple-of 18),
+            (
+              f 3 _ (simple-of 19),
+              (f 6 _ (compound-of 20), (f 6 _ (compound-of 21), (f 6 _ (compound-of 22), tt))),
+            ),
+          ),
+        ),
+      ),
+    ),
+  )
 
   types-before : TypesBefore 0 (contentOf ws .types)
   unfolding contentOf base from shapeTypes
-  types-before =
-      (tt, (tt, (tt,
-      (simple-of 17 .types, (below-more 3 4 (omega arith) (shapeTypes (simpleOf ws 18)) (simple-of 18 .types), (below-more 3 5 (omega arith) (shapeTypes (simpleOf ws 19)) (simple-of 19 .types),
-      (compound-of 20 .types, (below-more 6 7 (omega arith) (shapeTypes (compoundOf ws 21)) (compound-of 21 .types), (below-more 6 8 (omega arith) (shapeTypes (compoundOf ws 22)) (compound-of 22 .types), tt)))))))))
+  types-before = (
+    tt,
+    (
+      tt,
+      (
+        tt,
+        (
+          simple-of 17 .types,
+          (
+            below-more 3 4 (omega arith) (shapeTypes (simpleOf ws 18)) (simple-of 18 .types),
+            (
+              below-more 3 5 (omega arith) (shapeTypes (simpleOf ws 19)) (simple-of 19 .types),
+              (compound-of 20 .types, (below-more 6 7 (omega arith) (shapeTypes (compoundOf ws 21)) (compound-of 21 .types), (below-more 6 8 (omega arith) (shapeTypes (compoundOf ws 22)) (compound-of 22 .types), tt))),
+            ),
+          ),
+        ),
+      ),
+    ),
+  )
 
   -- ---- Queries
 
@@ -221,13 +251,14 @@ module _ (ws : List ℕ) (small : (n : ℕ) → getD ws n 0 < 0x1_0000_0000) whe
   unfolding schemaFrames contentOf from
   schema-lines =
       let ps : All Short (map predicateFrame (contentOf ws .predicates)) =
-          (predicate-short _ (predicate-of 23), (predicate-short _ (predicate-of 24), (predicate-short _ (predicate-of 25), (predicate-short _ (predicate-of 26), tt)))) in
+      (predicate-short _ (predicate-of 23), (predicate-short _ (predicate-of 24), (predicate-short _ (predicate-of 25), (predicate-short _ (predicate-of 26), tt)))) in
       let ts : All Short (map aType (contentOf ws .types)) =
-          all-mapped aType (λ t. Short (aType t)) Short (λ t s. s) (contentOf ws .types) (all-types (λ t. Short (aType t)) type-short) in
-      (limits-short (limitsOf ws) limits-of,
-      all-append Short (map aName names) (map aType (contentOf ws .types) ++ map predicateFrame (contentOf ws .predicates))
-      (all-mapped aName NameRow Short name-short names names-rows)
-      (all-append Short (map aType (contentOf ws .types)) (map predicateFrame (contentOf ws .predicates)) ts ps))
+      all-mapped aType (λ t. Short (aType t)) Short (λ t s. s) (contentOf ws .types) (all-types (λ t. Short (aType t)) type-short) in (
+        limits-short (limitsOf ws) limits-of,
+        all-append Short (map aName names) (map aType (contentOf ws .types) ++ map predicateFrame (contentOf ws .predicates))
+            (all-mapped aName NameRow Short name-short names names-rows)
+            (all-append Short (map aType (contentOf ws .types)) (map predicateFrame (contentOf ws .predicates)) ts ps),
+      )
 
   query-frames : All Short (flatMap queryFrames (contentOf ws .queries))
   unfolding contentOf

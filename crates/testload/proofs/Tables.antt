@@ -190,63 +190,150 @@ expr-rows named l a b h =
 
 leaves-fit : All (ExprFits wide) leaves
 unfolding leaves
-leaves-fit =
-    (tt,
-    (tt,
-    (tt,
-    (omega arith,
-    (omega arith,
-    (omega arith,
-    (omega arith,
-    (omega arith,
-    (omega arith,
-    (tt,
-    (tt,
-    (tt,
-    (omega arith,
-    ((omega arith, omega arith),
-    (tt,
-    (tt, tt))))))))))))))))
+leaves-fit = (
+  tt,
+  (
+    tt,
+    (
+      tt,
+      (
+        omega arith,
+        (
+          omega arith,
+          (
+            omega arith,
+            (
+              omega arith,
+              (
+                omega arith,
+                (
+                  omega arith,
+                  (
+                    tt,
+                    (
+                      tt,
+                      (
+                        tt,
+                        (
+                          omega arith,
+                          (
+                            (omega arith, omega arith),
+                            (
+                              tt,
+                              (tt, tt),
+                            ),
+                          ),
+                        ),
+                      ),
+                    ),
+                  ),
+                ),
+              ),
+            ),
+          ),
+        ),
+      ),
+    ),
+  ),
+)
 
 pairs-fit : (l r : ℕ) → InTwo l → InTwo r → All (ExprFits wide) (pairs l r)
 unfolding pairs
-pairs-fit l r p q =
-    (((omega arith, p), ((omega arith, q), tt)),
-    (((omega arith, p), ((omega arith, q), tt)),
-    (((omega arith, p), ((omega arith, q), tt)),
-    (((omega arith, p), ((omega arith, q), tt)),
-    (((omega arith, p), ((omega arith, q), tt)),
-    (((omega arith, p), ((omega arith, q), tt)),
-    (((omega arith, p), ((omega arith, q), tt)),
-    (((omega arith, p), ((omega arith, q), tt)),
-    ((p, (q, tt)),
-    ((p, (q, tt)),
-    ((p, (q, tt)),
-    ((p, (q, tt)),
-    ((p, (q, tt)),
-    ((p, (q, tt)),
-    ((p, (q, tt)),
-    ((p, (q, tt)), tt))))))))))))))))
+pairs-fit l r p q = (
+  ((omega arith, p), ((omega arith, q), tt)),
+  (
+    ((omega arith, p), ((omega arith, q), tt)),
+    (
+      ((omega arith, p), ((omega arith, q), tt)),
+      (
+        ((omega arith, p), ((omega arith, q), tt)),
+        (
+          ((omega arith, p), ((omega arith, q), tt)),
+          (
+            ((omega arith, p), ((omega arith, q), tt)),
+            (
+              ((omega arith, p), ((omega arith, q), tt)),
+              (
+                ((omega arith, p), ((omega arith, q), tt)),
+                (
+                  (p, (q, tt)),
+                  (
+                    (p, (q, tt)),
+                    (
+                      (p, (q, tt)),
+                      (
+                        (p, (q, tt)),
+                        (
+                          (p, (q, tt)),
+                          (
+                            (p, (q, tt)),
+                            (
+                              (p, (q, tt)),
+                              ((p, (q, tt)), tt),
+                            ),
+                          ),
+                        ),
+                      ),
+                    ),
+                  ),
+                ),
+              ),
+            ),
+          ),
+        ),
+      ),
+    ),
+  ),
+)
 
 singles-fit : (e : ℕ) → InTwo e → All (ExprFits wide) (singles e)
 unfolding singles
-singles-fit e p =
-    ((omega arith, p),
-    ((omega arith, p),
-    ((omega arith, p),
-    ((omega arith, p),
-    ((omega arith, p),
-    ((omega arith, p),
-    ((omega arith, p),
-    ((omega arith, p),
-    ((omega arith, p),
-    (p,
-    ((omega arith, p),
-    ((omega arith, p),
-    (((omega arith, p), tt),
-    (((omega arith, p), tt),
-    ((p, tt),
-    ((p, tt), tt))))))))))))))))
+singles-fit e p = (
+  (omega arith, p),
+  (
+    (omega arith, p),
+    (
+      (omega arith, p),
+      (
+        (omega arith, p),
+        (
+          (omega arith, p),
+          (
+            (omega arith, p),
+            (
+              (omega arith, p),
+              (
+                (omega arith, p),
+                (
+                  (omega arith, p),
+                  (
+                    p,
+                    (
+                      (omega arith, p),
+                      (
+                        (omega arith, p),
+                        (
+                          ((omega arith, p), tt),
+                          (
+                            ((omega arith, p), tt),
+                            (
+                              (p, tt),
+                              ((p, tt), tt),
+                            ),
+                          ),
+                        ),
+                      ),
+                    ),
+                  ),
+                ),
+              ),
+            ),
+          ),
+        ),
+      ),
+    ),
+  ),
+)
 
 leaves-name : All (λ e. exprNodes e ≡ []) leaves
 unfolding leaves exprNodes fieldValues
@@ -308,8 +395,8 @@ unfolding exprAt exprs namedAt namedBy
 expr-at ws i v h l =
     let s = singles-sixteen (i - 1) (omega arith) in
     let t = each-at Sixteen (exprs ws i) (namedBy i)
-        (leaves-sixteen, (leaves-sixteen, (pairs-sixteen (i - 2) (i - 1) (omega arith) (omega arith), (s, (leaves-sixteen, (s, (s, (leaves-sixteen, tt))))))))
-        (i % 8) [] [] (omega arith) in
+    (leaves-sixteen, (leaves-sixteen, (pairs-sixteen (i - 2) (i - 1) (omega arith) (omega arith), (s, (leaves-sixteen, (s, (s, (leaves-sixteen, tt))))))))
+    (i % 8) [] [] (omega arith) in
     all-at (ExprRow (namedAt i)) (getD (exprs ws i) (i % 8) []) v ExprKind.Error (t .all) (omega (arith, t .sixteen))
 
 -- ---- Queries
@@ -350,23 +437,52 @@ plan-row p f h =
 
 queries-fit : All (λ p. QueryFits (p .query)) queries
 unfolding queries
-queries-fit =
-    ((omega arith, tt),
-    ((omega arith, (omega arith, tt)),
-    ((omega arith, tt),
-    ((omega arith, (omega arith, tt)),
-    ((omega arith, ((omega arith, omega arith), tt)),
-    ((omega arith, ((omega arith, omega arith), tt)),
-    ((omega arith, ((omega arith, omega arith), tt)),
-    ((omega arith, (omega arith, (omega arith, tt))),
-    ((omega arith, ((omega arith, omega arith), ((omega arith, omega arith), (omega arith, tt)))),
-    ((omega arith, ((omega arith, omega arith), ((omega arith, omega arith), (omega arith, tt)))),
-    ((omega arith, (omega arith, (omega arith, ((omega arith, omega arith), tt)))),
-    ((omega arith, ((omega arith, omega arith), ((omega arith, omega arith), (omega arith, tt)))),
-    ((omega arith, (omega arith, (omega arith, ((omega arith, omega arith), tt)))),
-    ((omega arith, ((omega arith, omega arith), ((omega arith, omega arith), (omega arith, (omega arith, tt))))),
-    ((omega arith, ((omega arith, omega arith), ((omega arith, omega arith), ((omega arith, omega arith), tt)))),
-    ((omega arith, ((omega arith, omega arith), ((omega arith, omega arith), (omega arith, tt)))), tt))))))))))))))))
+queries-fit = (
+  (omega arith, tt),
+  (
+    (omega arith, (omega arith, tt)),
+    (
+      (omega arith, tt),
+      (
+        (omega arith, (omega arith, tt)),
+        (
+          (omega arith, ((omega arith, omega arith), tt)),
+          (
+            (omega arith, ((omega arith, omega arith), tt)),
+            (
+              (omega arith, ((omega arith, omega arith), tt)),
+              (
+                (omega arith, (omega arith, (omega arith, tt))),
+                (
+                  (omega arith, ((omega arith, omega arith), ((omega arith, omega arith), (omega arith, tt)))),
+                  (
+                    (omega arith, ((omega arith, omega arith), ((omega arith, omega arith), (omega arith, tt)))),
+                    (
+                      (omega arith, (omega arith, (omega arith, ((omega arith, omega arith), tt)))),
+                      (
+                        (omega arith, ((omega arith, omega arith), ((omega arith, omega arith), (omega arith, tt)))),
+                        (
+                          (omega arith, (omega arith, (omega arith, ((omega arith, omega arith), tt)))),
+                          (
+                            (omega arith, ((omega arith, omega arith), ((omega arith, omega arith), (omega arith, (omega arith, tt))))),
+                            (
+                              (omega arith, ((omega arith, omega arith), ((omega arith, omega arith), ((omega arith, omega arith), tt)))),
+                              ((omega arith, ((omega arith, omega arith), ((omega arith, omega arith), (omega arith, tt)))), tt),
+                            ),
+                          ),
+                        ),
+                      ),
+                    ),
+                  ),
+                ),
+              ),
+            ),
+          ),
+        ),
+      ),
+    ),
+  ),
+)
 
 pub queries-rows : All PlanRow queries
 unfolding queries allOf planTest allBelow again among anyOf namedIn namedAt namedBy from queryNodes stmtNodes asQuery asStatement bytes₂ flatMap
