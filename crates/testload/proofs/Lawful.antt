@@ -218,7 +218,7 @@ module _ (ws : List ℕ) (small : (n : ℕ) → getD ws n 0 < 0x1_0000_0000) whe
 
     node-line : (i : ℕ) → i < 24 → Short (aNode (nodeOf ws q i))
     unfolding nodeOf
-    node-line i h = node-short (nodeOf ws q i) (namedAt i) (small (55 + 64 * q + 2 * i)) (small (56 + 64 * q + 2 * i)) (node-row i h)
+    node-line i h = node-short (nodeOf ws q i) (namedAt i) (small _) (small _) (node-row i h)
 
     query-lines : All Short (queryFrames (queryOf ws q))
     unfolding queryFrames queryOf
