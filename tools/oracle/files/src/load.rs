@@ -1,4 +1,5 @@
-//! Card 11's test load, written from docs/FORMAT.md ("Test load") alone: the file of a seed.
+//! Card 11's test load: the file of a seed. Its tables have the same source as those of crates/testload/specs/Rule.antt, so it is no
+//! second reading of docs/FORMAT.md ("Test load").
 
 use std::fmt::Write;
 
