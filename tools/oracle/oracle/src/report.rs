@@ -17,7 +17,8 @@ pub fn run(rounds: u32) -> Done {
     println!("# The bench\n");
     println!("Printed by `tools/bench`, not written by hand. Machine: {}.", machine());
     println!("Ratios are the port's call (reading, check, answer, both slices cleared) to the Rust on the same file, each");
-    println!("the quickest of {rounds} rounds in turn, in one process; below 1 the port is quicker. {}.", bench::BEST);
+    println!("the quickest of {rounds} rounds in turn, in one process; below 1 the port is quicker. How both were built:");
+    println!("{}.", bench::BEST);
     styles(rounds)?;
     parts("Shapes", &files::shapes(), rounds)?;
     parts("Messages", &files::speaking(), rounds)?;
