@@ -1,5 +1,5 @@
-// Making the counted copy of ty.rs: the same text with counting lines, shown to be the same text
-// without them. Used by the judge's build script.
+// Making the counted copy of ty.rs: the same text with lines that count visits and mark entries, shown
+// to be the same text without them. Used by the judge's build script.
 
 /// Every inserted line ends so, and no line of ty.rs does.
 const MARK: &str = "// counted";
@@ -31,6 +31,72 @@ const ENTRIES: [(&str, &str); 7] = [
     ),
 ];
 
+/// Card 9: the lines of ty.rs around which one is inserted, before it or after it, how often each stands in
+/// ty.rs, and what the inserted line says. Which entry a look-up finds is told by its unknown; the entry that
+/// is pushed next was made by the node that looked last.
+const MARKS: [(&str, Place, usize, &str); 9] = [
+    (
+        "if let ExprKind::Var(symbol) = ast.store().kind(side)",
+        Place::Before,
+        1,
+        "if let ExprKind::Var(symbol) = ast.store().kind(side) { crate::marks::look(self.lookup(*symbol), side); }",
+    ),
+    (
+        "let var = match self.lookup(symbol) {",
+        Place::Before,
+        2,
+        "crate::marks::look(self.lookup(symbol), lhs);",
+    ),
+    (
+        "match self.lookup(symbol) {",
+        Place::Before,
+        1,
+        "crate::marks::look(self.lookup(symbol), id);",
+    ),
+    (
+        "self.env.push((*symbol, var));",
+        Place::After,
+        1,
+        "crate::marks::made(var);",
+    ),
+    (
+        "self.env.push((symbol, var));",
+        Place::After,
+        3,
+        "crate::marks::made(var);",
+    ),
+    (
+        "let snapshot = self.snapshot();",
+        Place::After,
+        2,
+        "let marks = crate::marks::count();",
+    ),
+    (
+        "self.rollback(snapshot);",
+        Place::After,
+        2,
+        "crate::marks::back(marks);",
+    ),
+    (
+        "self.env.truncate(scope);",
+        Place::Before,
+        1,
+        "crate::marks::leave(self.env[scope..].iter().map(|entry| entry.1));",
+    ),
+    (
+        "self.infer(ast, head);",
+        Place::After,
+        1,
+        "crate::marks::leave(self.env.iter().map(|entry| entry.1));",
+    ),
+];
+
+#[derive(PartialEq)]
+enum Place {
+    Before,
+    After,
+}
+
 /// ty.rs with the counting lines, or why it could not be made.
 pub fn counted(text: &str) -> Result<String, String> {
     if text.lines().any(|line| line.ends_with(MARK)) {
@@ -38,8 +104,21 @@ pub fn counted(text: &str) -> Result<String, String> {
     }
     let mut copy = String::new();
     let mut found = [0; ENTRIES.len()];
+    let mut marked = [0; MARKS.len()];
     for line in text.split_inclusive('\n') {
+        let at = MARKS.iter().position(|mark| mark.0 == line.trim());
+        if let Some(at) = at {
+            marked[at] += 1;
+            if MARKS[at].1 == Place::Before {
+                copy.push_str(&format!("{} {MARK}\n", MARKS[at].3));
+            }
+        }
         copy.push_str(line);
+        if let Some(at) = at
+            && MARKS[at].1 == Place::After
+        {
+            copy.push_str(&format!("{} {MARK}\n", MARKS[at].3));
+        }
         for (entry, (header, call)) in ENTRIES.iter().enumerate() {
             if line.trim() == *header {
                 found[entry] += 1;
@@ -50,6 +129,11 @@ pub fn counted(text: &str) -> Result<String, String> {
     for (times, (header, _)) in found.iter().zip(ENTRIES) {
         if *times != 1 {
             return Err(format!("ty.rs has {times} times, and not once, {header}"));
+        }
+    }
+    for (times, (line, _, expected, _)) in marked.iter().zip(&MARKS) {
+        if times != expected {
+            return Err(format!("ty.rs has {times} times, and not {expected}, {line}"));
         }
     }
     if without(&copy) != text {

@@ -13,14 +13,14 @@ use Rattle.bytes.specs.Bytes.{slice}
 use Rattle.meaning.specs.File.{Described}
 use Rattle.meaning.specs.Check.{Checker, Typed, goes, typed, checked, reversed, zonked}
 use Rattle.meaning.specs.Messages.{messageText}
-use Rattle.meaning.specs.Answer.{bytes₄, hexLine, nodeLines, diagnosticLines, answerLines}
+use Rattle.meaning.specs.Answer.{bytes₄, hexLine, nodeLines, diagnosticLines, unusedLines, answerLines}
 use Rattle.state.specs.Runs.{Runs}
-use Rattle.state.specs.Lines.{placeW, Lines, within, beyond}
+use Rattle.state.specs.Lines.{placeW, Lines, within, beyond, Told}
 use Rattle.writer.specs.declared.Wrote.{Wrote}
 use Rattle.writer.specs.declared.Wrote.the-variants.{To, Full}
 use Rattle.writer.specs.Writes.{placed, Writes}
 use Rattle.writer.proofs.Writing.{writes-as, writes-then, writes-full, writes-to, writes-over}
-use Rattle.answer.specs.Lines.{WritesNodeLines, WritesLines, WritesAnswer}
+use Rattle.answer.specs.Lines.{WritesNodeLines, WritesLines, WritesUnusedLines, WritesAnswer}
 
 -- ---- Two blocks, a before b, and b before a
 module _ {out a b mid : List ℕ} {end : ℕ} (there : take (length a) out ≡ a) (room : length a ≤ length out) (f : Writes out (length a) b mid (To end)) where
@@ -56,7 +56,12 @@ full-writes a b h long = let n : length (b ++ a) ≡ length b + length a = lengt
 
 -- ---- The whole
 abbrev answered : ℕ → Checker → Typed
-answered ceiling c = record { tys = map (zonked (c .state)) (c .state .tys); diagnostics = reversed (c .diagnostics) []; visits = ceiling - c .state .left }
+answered ceiling c = record {
+  tys = map (zonked (c .state)) (c .state .tys);
+  diagnostics = reversed (c .diagnostics) [];
+  unused = reversed (c .unused) [];
+  visits = ceiling - c .state .left;
+}
 
 typed-is : (ceiling : ℕ) (ty : Tree.Ty) (c : Checker) (t : Typed) → checked ceiling (goes ty c) ≡ typed t → answered ceiling c ≡ t
 unfolding checked
@@ -127,18 +132,37 @@ module _ {w out : List ℕ} {full : ℕ} (p : full ≡ getD w FULL 0) where
       pub answer-blocks : at ≤ length out → {end : ℕ} → r ≡ To end → (at ≤ end) × (end ≤ length mid)
       answer-blocks b {end} z = (g .moves .onward end z, omega (arith, g .moves .inside end z b, g .moves .long))
 
--- ---- The line of the visits after them
-module _ {w out mid : List ℕ} {r : Wrote} (g : WritesLines w out mid r) (visits : ℕ) where
-  pub answer-visits : {n : ℕ} {out′ : List ℕ} {r′ : Wrote} → r ≡ To n → Writes mid n (hexLine (9 ∷ bytes₄ visits)) out′ r′ → WritesAnswer w out visits out′ r′
-  unfolding answerLines
-  answer-visits e h = record {
-    is = λ f T d c R L ceiling ty t q v. writes-as (ap (λ n. linesOf d t ++ hexLine (9 ∷ bytes₄ n)) v) (writes-then (g .is f T d c R L ceiling ty t q) e h);
-    long = h .long ∙ g .long;
-  }
+-- ---- After them the lines of the entries that left unmarked, and the line of the visits
+module _ {f w out mid : List ℕ} {r : Wrote} (g : WritesLines w out mid r) (visits : ℕ) where
+  module _ {n : ℕ} {out₁ : List ℕ} {r₁ : Wrote} (e : r ≡ To n) (u : WritesUnusedLines f w mid n out₁ r₁) where
+    with-unused : (T : Rows) (d : Described) (c : Checker) → Runs f w T d c → Told d w out c 0 → (ceiling : ℕ) (ty : Tree.Ty) (t : Typed)
+        → checked ceiling (goes ty c) ≡ typed t
+        → Writes out 0 (linesOf d t ++ unusedLines (t .unused)) out₁ r₁
+    with-unused T d c R L ceiling ty t q =
+        let a = g .is f T d c R L ceiling ty t q in
+        let same : reversed (c .unused) [] ≡ t .unused = ap (λ (x : Typed). x .unused) (typed-is ceiling ty c t q) in
+        writes-then a e (writes-as (ap unusedLines same) (u .is T d c R (omega (arith, writes-to a e .1, a .long))))
 
-  pub answer-none : r ≡ Full → WritesAnswer w out visits mid Full
+    pub answer-visits : {m : ℕ} {out′ : List ℕ} {r′ : Wrote} → r₁ ≡ To m → Writes out₁ m (hexLine (9 ∷ bytes₄ visits)) out′ r′
+        → WritesAnswer f w out visits out′ r′
+    unfolding answerLines
+    answer-visits z h = record {
+      is = λ T d c R L ceiling ty t q v. writes-as (ap (λ n. (linesOf d t ++ unusedLines (t .unused)) ++ hexLine (9 ∷ bytes₄ n)) v)
+          (writes-then (with-unused T d c R L ceiling ty t q) z h);
+      long = h .long ∙ u .long ∙ g .long;
+    }
+
+    pub answer-unused-none : r₁ ≡ Full → WritesAnswer f w out visits out₁ Full
+    unfolding answerLines
+    answer-unused-none z = record {
+      is = λ T d c R L ceiling ty t q v. writes-full (with-unused T d c R L ceiling ty t q) z (hexLine (9 ∷ bytes₄ (t .visits)));
+      long = u .long ∙ g .long;
+    }
+
+  pub answer-none : r ≡ Full → WritesAnswer f w out visits mid Full
   unfolding answerLines
   answer-none e = record {
-    is = λ f T d c R L ceiling ty t q v. writes-full (g .is f T d c R L ceiling ty t q) e (hexLine (9 ∷ bytes₄ (t .visits)));
+    is = λ T d c R L ceiling ty t q v. writes-full (writes-full (g .is f T d c R L ceiling ty t q) e (unusedLines (t .unused))) refl
+        (hexLine (9 ∷ bytes₄ (t .visits)));
     long = g .long;
   }

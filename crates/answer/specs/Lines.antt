@@ -1,6 +1,6 @@
 -- What is written of a node: its number and what it was found to be, as a line of meaning/specs/Answer.antt; and the whole answer,
 -- which is the one of the run that the work slice stands for.
-use mathlib.Core.List.{List, _∷_, _++_, map}
+use mathlib.Core.List.{List, [], _∷_, _++_, map}
 use mathlib.Core.Option.{Option, none}
 use mathlib.Core.Path.{_≡_}
 use Prim.Native.Nat.{ℕ, _≤_, _<_}
@@ -10,9 +10,9 @@ use Rattle.unification.specs.Bindings.{State}
 use Rattle.work.specs.Layout.{NODE-COUNT}
 use Rattle.cells.specs.Stands.{Rows, Holds}
 use Rattle.meaning.specs.File.{Described}
-use Rattle.meaning.specs.Check.{Checker, Typed, goes, typed, checked, zonked}
+use Rattle.meaning.specs.Check.{Checker, Typed, goes, typed, checked, reversed, zonked}
 use Rattle.meaning.specs.Messages.{messageText}
-use Rattle.meaning.specs.Answer.{bytes₂, slotBytes, hexLine, nodeLines, diagnosticLines, answerLines}
+use Rattle.meaning.specs.Answer.{bytes₂, slotBytes, hexLine, nodeLines, diagnosticLines, unusedLines, answerLines}
 use Rattle.writer.specs.declared.Wrote.{Wrote}
 use Rattle.writer.specs.Writes.{Writes, Moves, hexOf}
 use Rattle.state.specs.Runs.{Runs}
@@ -50,9 +50,14 @@ pub record WritesLines (w out out′ : List ℕ) (r : Wrote) : Type 0 where
       → (ceiling : ℕ) (ty : Tree.Ty) (t : Typed) → checked ceiling (goes ty c) ≡ typed t → Writes out 0 (nodeLines 0 (t .tys) ++ diagnosticLines (messageText (d .names) (d .schema)) (t .diagnostics)) out′ r
   pub long : length out′ ≡ length out
 
+-- The lines of the entries that left unmarked, in order of leaving:
+pub record WritesUnusedLines (f w out : List ℕ) (at : ℕ) (out′ : List ℕ) (r : Wrote) : Type 0 where
+  pub is : (T : Rows) (d : Described) (c : Checker) → Runs f w T d c → at ≤ length out → Writes out at (unusedLines (reversed (c .unused) [])) out′ r
+  pub long : length out′ ≡ length out
+
 -- The whole answer, where the visits are those of the run.
-pub record WritesAnswer (w out : List ℕ) (visits : ℕ) (out′ : List ℕ) (r : Wrote) : Type 0 where
-  pub is : (f : List ℕ) (T : Rows) (d : Described) (c : Checker) → Runs f w T d c → Told d w out c 0
+pub record WritesAnswer (f w out : List ℕ) (visits : ℕ) (out′ : List ℕ) (r : Wrote) : Type 0 where
+  pub is : (T : Rows) (d : Described) (c : Checker) → Runs f w T d c → Told d w out c 0
       → (ceiling : ℕ) (ty : Tree.Ty) (t : Typed) → checked ceiling (goes ty c) ≡ typed t
       → visits ≡ t .visits → Writes out 0 (answerLines (messageText (d .names) (d .schema)) t) out′ r
   pub long : length out′ ≡ length out

@@ -7,7 +7,7 @@ ghost use Rattle.bytes.specs.Bytes.{slice};
 ghost use Rattle.meaning.specs.Answer.{hexLine, bytes₂, bytes₄};
 ghost use Rattle.writer.specs.Writes.{Writes, hexOf};
 ghost use Rattle.answer.specs.Types.{headOf, partHeadOf, WritesTy};
-ghost use Rattle.answer.specs.Lines.{WritesSlot, WritesNode, WritesNodeLine, WritesNodeLines, WritesLines, WritesAnswer};
+ghost use Rattle.answer.specs.Lines.{WritesSlot, WritesNode, WritesNodeLine, WritesNodeLines, WritesLines, WritesUnusedLines, WritesAnswer};
 use cells::Ty;
 use work::wide;
 use work::word;
@@ -198,6 +198,29 @@ fn lines(w: &[u32], out: &mut [u8]) -> Wrote
     }
 }
 
+// The lines of the entries that left unmarked, in order of leaving.
+fn unused_lines(f: &[u8], w: &[u32], out: &mut [u8], at: usize) -> Wrote
+    ensures { λ r. ⌜ WritesUnusedLines (now (f .entry)) (now (w .entry)) (now (out .entry)) at (now (out .exit)) r ⌝ }
+{
+    let n = word(w, work::UNUSED_COUNT);
+    let mut i: u32 = 0;
+    let mut to = at;
+    while i < n {
+        let node = word(w, work::UNUSED + wide(i));
+        let r = state::unused_line(f, w, out, to, node);
+        match r {
+            Wrote::To(m) => {
+                to = m;
+            }
+            Wrote::Full => {
+                return Wrote::Full;
+            }
+        }
+        i += 1;
+    }
+    Wrote::To(to)
+}
+
 fn visits_bytes(out: &mut [u8], at: usize, visits: u32) -> Wrote
     ensures { λ r. ⌜ Writes (now (out .entry)) at (hexOf (0x09 ∷ bytes₄ visits)) (now (out .exit)) r ⌝ }
 {
@@ -220,12 +243,18 @@ fn visits_line(out: &mut [u8], at: usize, visits: u32) -> Wrote
 }
 
 // A query's own lines. Where the answer ends.
-pub fn write(w: &[u32], out: &mut [u8], visits: u32) -> Wrote
-    ensures { λ r. ⌜ WritesAnswer (now (w .entry)) (now (out .entry)) visits (now (out .exit)) r ⌝ }
+pub fn write(f: &[u8], w: &[u32], out: &mut [u8], visits: u32) -> Wrote
+    ensures { λ r. ⌜ WritesAnswer (now (f .entry)) (now (w .entry)) (now (out .entry)) visits (now (out .exit)) r ⌝ }
 {
     let r = lines(w, out);
     match r {
-        Wrote::To(n) => visits_line(out, n, visits),
+        Wrote::To(n) => {
+            let u = unused_lines(f, w, out, n);
+            match u {
+                Wrote::To(m) => visits_line(out, m, visits),
+                Wrote::Full => Wrote::Full,
+            }
+        }
         Wrote::Full => Wrote::Full,
     }
 }

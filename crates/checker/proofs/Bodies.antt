@@ -20,8 +20,8 @@ use Rattle.meaning.specs.Diag as Diag
 use Rattle.meaning.specs.File.{Described}
 use Rattle.meaning.specs.Check as Check
 use Rattle.meaning.specs.Check.{Checker, Step, goes, out, Does, andThen, Walk, Form, aWildcard, aVariable, aConstant, aRecord, aDisjunction, anError}
-use Rattle.meaning.specs.Check.{another, formOf, bindForm, denyForm, generate, stmt, stmts, badTarget, onlyRight, notYet, bindWildcard, envLen}
-use Rattle.meaning.specs.Check.{truncateEnv, subquery}
+use Rattle.meaning.specs.Check.{another, formOf, bindForm, denyForm, generate, stmt, stmts, badTarget, onlyRight, notYet, bindWildcard, envLen, leave}
+use Rattle.meaning.specs.Check.{subquery}
 use Rattle.meaning.specs.Weights as Weights
 use Rattle.meaning.specs.Weights.{sumOf}
 use Rattle.meaning.specs.Grades.{Grade, Ready, no-thing, visiting}
@@ -45,7 +45,7 @@ use Rattle.state.specs.declared.Done.{Done}
 use Rattle.state.specs.declared.Done.the-variants as Done
 use Rattle.steps.specs.Ends.{typed, done, Ends}
 use Rattle.steps.specs.Loads.{Load, only, both, Holds, infers, visits, parts, Begins}
-use Rattle.steps.specs.Contracts.{nodesOf, onlyW, Cuts, Named, AllNamed, Asks}
+use Rattle.steps.specs.Contracts.{nodesOf, onlyW, Leaves, Named, AllNamed, Asks}
 use Rattle.checker.specs.Contracts.{below, Infers, Generates, Sides, Binds, Denies, Compares, NotYets, Destructures, BindsVariable, States}
 use Rattle.checker.specs.Contracts.{StatesAll, Subqueries}
 use Rattle.checker.proofs.Within.{BadTargets, plainly}
@@ -387,6 +387,9 @@ subquery-fits : (d : Described) (k : ℕ) (q : Query) → Holds (both (visits (n
 unfolding exprNodes queryNodes sumOf
 subquery-fits d k q = record { grade = omega arith; records = omega arith; fields = omega arith }
 
+pub made-marks : (g : Grade) (c c′ : Checker) → Made g c c′ → length (c .marks) ≤ length (c′ .marks)
+made-marks g c c′ m = omega (arith, ap length (m .marks) ∙ length-append (m .marked) (c .marks))
+
 pub made-env : (g : Grade) (c c′ : Checker) → Made g c c′ → length (c .env) ≤ length (c′ .env)
 made-env g c c′ m = omega (arith, ap length (m .env) ∙ length-append (m .pushed) (c .env))
 
@@ -398,7 +401,7 @@ module _ {f w ou w₁ ou₁ : List ℕ} {head left : ℕ} {body : Stmts} {x : Do
       is = λ T c s u.
           stop-done (visits (nodesOf d) k (stmtNodes (q .body))) (infers (nodesOf d) k (q .head)) (parts (nodesOf d) k (ExprKind.Subquery q))
           (subquery-fits d k q) Nothing (sayingAll d k (q .body) c)
-          (λ u b. andThen (below d k .infer (q .head) b) (λ ty e. andThen (truncateEnv (length (c .env)) e) (λ u z. goes ty z))) g refl s
+          (λ u b. andThen (below d k .infer (q .head) b) (λ ty e. andThen (leave (d .schema) (nodesOf d) (length (c .env)) e) (λ u z. goes ty z))) g refl s
           (λ s₁. D .is d k (q .body) (ap (λ z. z .body) e) (named .1) .is T c s₁ tt);
     };
   }
@@ -408,7 +411,7 @@ module _ {f w ou w₁ ou₁ : List ℕ} {head left : ℕ} {body : Stmts} {x : Do
         → ((d : Described) (k : ℕ) → Named d k head → (T₁ : Rows) (c b : Checker) → length (c .env) ≡ getD w ENV-LEN 0
         → length (c .env) ≤ length (b .env) → Begins f w₁ ou₁ T₁ d (infers (nodesOf d) k head) l b
         → Ends f w₁ ou₁ w₃ ou₃ T₁ d (infers (nodesOf d) k head .records) (infers (nodesOf d) k head .fields) (typed w₃ r)
-        (andThen (below d k .infer head b) (λ ty e. andThen (truncateEnv (length (c .env)) e) (λ u z. goes ty z))))
+        (andThen (below d k .infer head b) (λ ty e. andThen (leave (d .schema) (nodesOf d) (length (c .env)) e) (λ u z. goes ty z))))
         → Subqueries f w ou head body left w₃ ou₃ r
     unfolding subquery envLen exprNodes queryNodes
     subquery-then next = record {
@@ -417,7 +420,7 @@ module _ {f w ou w₁ ou₁ : List ℕ} {head left : ℕ} {body : Stmts} {x : Do
             let h : q .head ≡ head = ap (λ z. z .head) e in
             then-done (visits (nodesOf d) k (stmtNodes (q .body))) (infers (nodesOf d) k (q .head)) (parts (nodesOf d) k (ExprKind.Subquery q))
             (subquery-fits d k q) Nothing (sayingAll d k (q .body) c)
-            (λ u b. andThen (below d k .infer (q .head) b) (λ ty e. andThen (truncateEnv (length (c .env)) e) (λ u z. goes ty z))) g s
+            (λ u b. andThen (below d k .infer (q .head) b) (λ ty e. andThen (leave (d .schema) (nodesOf d) (length (c .env)) e) (λ u z. goes ty z))) g s
             (λ y. stmts-meets (d .schema) (nodesOf d) (s .sound .predicates) k (below d k) (good s k) (q .body) c (s .orderly) y)
             (λ s₁. D .is d k (q .body) (ap (λ z. z .body) e) (named .1) .is T c s₁ tt)
             (λ T₁ b a. rw h (next d k (rw h at (named .0)) T₁ c b (runs-env-length (s .runs)) (made-env _ c b (a .made)) (rw h at (a .begins))));
@@ -425,12 +428,12 @@ module _ {f w ou w₁ ou₁ : List ℕ} {head left : ℕ} {body : Stmts} {x : Do
     }
 
     pub subquery-ends : {scope : ℕ} {w₂ ou₂ w₃ ou₃ : List ℕ} {r : Typed} {t : Ty} {v : ℕ} → Infers f w₁ ou₁ head l w₂ ou₂ r → r ≡ Typed.Got t v
-        → scope ≡ getD w ENV-LEN 0 → Cuts f w₂ ou₂ scope w₃ ou₃
+        → scope ≡ getD w ENV-LEN 0 → Leaves f w₂ ou₂ scope w₃ ou₃
         → Subqueries f w ou head body left w₃ ou₃ (Typed.Got t v)
     subquery-ends {t = t} {v} I got z C = subquery-then (λ d k nh T₁ c b len up s₁.
         then-typed (infers (nodesOf d) k head) (only no-thing) (infers (nodesOf d) k head)
         (record { grade = omega arith; records = omega arith; fields = omega arith }) (below d k .infer head b)
-        (λ ty e. andThen (truncateEnv (length (c .env)) e) (λ u z. goes ty z)) got s₁ (λ y. good s₁ k .infer head b (s₁ .orderly) y)
+        (λ ty e. andThen (leave (d .schema) (nodesOf d) (length (c .env)) e) (λ u z. goes ty z)) got s₁ (λ y. good s₁ k .infer head b (s₁ .orderly) y)
         (λ s₂. I .is d k nh .is T₁ b s₂ tt)
         (λ T₂ e a fine. done-typed t (fine .ok) (silent-on
         (rw (len ∙ sym z) (C d v .is T₂ e (a .begins) (omega (arith, len, z, up, made-env _ b e (a .made))))))))
@@ -439,4 +442,4 @@ module _ {f w ou w₁ ou₁ : List ℕ} {head left : ℕ} {body : Stmts} {x : Do
     subquery-head-out I none = subquery-then (λ d k nh T₁ c b len up s₁.
         stop-typed (infers (nodesOf d) k head) (only no-thing) (infers (nodesOf d) k head)
         (record { grade = omega arith; records = omega arith; fields = omega arith }) (below d k .infer head b)
-        (λ ty e. andThen (truncateEnv (length (c .env)) e) (λ u z. goes ty z)) none refl s₁ (λ s₂. I .is d k nh .is T₁ b s₂ tt))
+        (λ ty e. andThen (leave (d .schema) (nodesOf d) (length (c .env)) e) (λ u z. goes ty z)) none refl s₁ (λ s₂. I .is d k nh .is T₁ b s₂ tt))

@@ -3,8 +3,8 @@ use mathlib.Core.List.{List}
 use mathlib.Core.Path.{_≡_, sym, subst, _∙_}
 use Prim.Native.Nat.{ℕ, _<_, _≤_}
 use native.Mathlib.Omega.{arith}
-use lib.ListN.{getD, set}
-use Rattle.work.specs.Layout.{ENV-LEN, UNKNOWNS}
+use lib.ListN.{getD}
+use Rattle.work.specs.Layout.{UNKNOWNS}
 use Rattle.cells.specs.declared.Ty.{Ty}
 use Rattle.cells.specs.declared.Bound.{Bound}
 use Rattle.cells.specs.declared.TyError.{TyError}
@@ -15,6 +15,7 @@ use Rattle.meaning.specs.Syntax.{FieldRef}
 use Rattle.meaning.specs.Check as Check
 use Rattle.messages.specs.declared.Message.{Message}
 use Rattle.messages.specs.declared.Message.the-variants as Message
+use Rattle.state.specs.Words.{leaveW}
 use Rattle.state.specs.Lines.{Rejected}
 use Rattle.tree.specs.declared.Node.{Node}
 use Rattle.tree.specs.declared.Items.{Items}
@@ -25,11 +26,11 @@ use Rattle.tree.proofs.Below.{stmt-size}
 use Rattle.tree.proofs.Steps.{field-lower, item-lower, LowerStmt, stmt-lower}
 use Rattle.steps.specs.declared.Typed.{Typed}
 use Rattle.state.specs.declared.Done.{Done}
-use Rattle.steps.specs.Contracts.{nodesOf, Rejects, Notes, Freshens, Reports, RollsTo, Cuts, KeyIs, OnType}
+use Rattle.steps.specs.Contracts.{nodesOf, Rejects, Notes, Freshens, Reports, RollsTo, Leaves, KeyIs, OnType}
 use Rattle.steps.specs.Outside.{reportMessage, keyTyW, Rewinds, KeyOf, ValueOf}
 use Rattle.steps.proofs.Ending.{rejects, notes, freshens}
 use Rattle.steps.proofs.Looking.{key-is}
-use Rattle.steps.proofs.Besides.{reports, rolls, cuts}
+use Rattle.steps.proofs.Besides.{reports, rolls, leaves}
 use Rattle.checker.specs.Contracts.{Infers, Checks, Generates, Mentions}
 use Rattle.checker.proofs.Alls.{Turn}
 
@@ -50,12 +51,13 @@ pub reports-by : {f w ou w′ ou′ : List ℕ} {n left : ℕ} {r : Done} (err :
     → Reports f w ou n err left w′ ou′ r
 reports-by {f} {w} {n = n} {left = left} err x = reports f w n err left x
 
-pub rolls-by : {f w ou w′ : List ℕ} {undo env u e : ℕ} → undo ≡ u → env ≡ e → Rewinds w undo env w′ → RollsTo f w ou u e w′ ou
-rolls-by {f} {w} {ou} {w′} {undo} {env} {u} {e} p q r =
-    subst (λ (x : ℕ). RollsTo f w ou x e w′ ou) p (subst (λ (x : ℕ). RollsTo f w ou undo x w′ ou) q (rolls f w r))
+pub rolls-by : {f w ou w′ : List ℕ} {undo env marks u e m : ℕ} → undo ≡ u → env ≡ e → marks ≡ m → Rewinds w undo env marks w′ → RollsTo f w ou u e m w′ ou
+rolls-by {f} {w} {ou} {w′} {undo} {env} {marks} {u} {e} {m} p q z r =
+    subst (λ (x : ℕ). RollsTo f w ou x e m w′ ou) p
+    (subst (λ (x : ℕ). RollsTo f w ou undo x m w′ ou) q (subst (λ (x : ℕ). RollsTo f w ou undo env x w′ ou) z (rolls f w r)))
 
-pub cuts-by : {f w ou w′ : List ℕ} {scope : ℕ} → w′ ≡ set w ENV-LEN scope → Cuts f w ou scope w′ ou
-cuts-by {f} {w} {ou} {w′} {scope} e = subst (λ (v : List ℕ). Cuts f w ou scope v ou) (sym e) (cuts f w scope)
+pub leaves-by : {f w ou w′ : List ℕ} {scope : ℕ} → w′ ≡ leaveW w scope → Leaves f w ou scope w′ ou
+leaves-by {f} {w} {ou} {w′} {scope} e = subst (λ (v : List ℕ). Leaves f w ou scope v ou) (sym e) (leaves f w scope)
 
 pub key-by : {f w : List ℕ} {p : ℕ} {r : Bound} → r ≡ keyTyW w p → KeyIs f w p r
 key-by {f} {w} {p} e = subst (λ (b : Bound). KeyIs f w p b) (sym e) (key-is f w p)

@@ -1,5 +1,5 @@
 -- `check`: what is inferred is unified with what is expected. Where that fails, and where a diagnostic arose inside a field, the stretch
--- is rolled back to where it began: only its unknowns and its diagnostics stay.
+-- is rolled back to where it began: only its unknowns, its diagnostics and what left it stay.
 use mathlib.Core.Bool.{Bool, true, false}
 use mathlib.Core.List.{List}
 use mathlib.Core.Option.{Option, none, some}
@@ -13,7 +13,7 @@ use Rattle.unification.specs.Ty as Tree
 use Rattle.unification.specs.Bindings as Bindings
 use Rattle.unification.specs.Unify as Unify
 use Rattle.unification.proofs.Tests.{clash}
-use Rattle.work.specs.Layout.{ENV-LEN, DIAGNOSTIC-COUNT, UNDO-LEN}
+use Rattle.work.specs.Layout.{ENV-LEN, DIAGNOSTIC-COUNT, MARK-COUNT, UNDO-LEN}
 use Rattle.cells.specs.declared.Ty.{Ty}
 use Rattle.cells.specs.declared.TyError.{TyError}
 use Rattle.cells.specs.declared.TyError.the-variants as TyError
@@ -33,7 +33,7 @@ use Rattle.meaning.proofs.Steps.{Nothing, IsSide, unify-meets, rolled-meets}
 use Rattle.meaning.proofs.Visits.{Good, size-pos}
 use Rattle.state.specs.Lines.{Told}
 use Rattle.state.specs.Runs.{Runs}
-use Rattle.state.proofs.Scoping.{runs-env-length}
+use Rattle.state.proofs.Scoping.{runs-env-length, runs-marks-length}
 use Rattle.steps.specs.declared.Typed.{Typed}
 use Rattle.steps.specs.declared.Typed.the-variants as Typed
 use Rattle.state.specs.declared.Done.{Done}
@@ -47,11 +47,11 @@ use Rattle.steps.proofs.Growing.{ok-kept}
 use Rattle.steps.proofs.Sequel.{begins-part, begins-after, gone-trans, gone-on, holds-left, Led, led, then-ends, stop-ends}
 use Rattle.steps.proofs.Results.{After, with-visits, fine-after, tree-after, got-same, on-here, then-typed, stop-typed, then-done, stop-done, silent-on}
 use Rattle.checker.proofs.Inferring.{good}
-use Rattle.checker.proofs.Bodies.{made-env}
+use Rattle.checker.proofs.Bodies.{made-env, made-marks}
 
 -- ---- Back to where the stretch began
 abbrev pub markOf : Checker → Mark
-markOf c = record { state = Bindings.snapshot (c .state); env = length (c .env) }
+markOf c = record { state = Bindings.snapshot (c .state); env = length (c .env); marks = length (c .marks) }
 
 same-load : (G : Load) → Holds (both G (only no-thing)) G
 same-load G = record { grade = omega arith; records = omega arith; fields = omega arith }
@@ -59,13 +59,16 @@ same-load G = record { grade = omega arith; records = omega arith; fields = omeg
 module _ {f w ou w₂ ou₂ w₃ ou₃ : List ℕ} {T : Rows} {d : Described} {left v : ℕ} {c b : Checker} (G : Load) {A : Type 0} {E : Result A} {a : A}
     (P : A → Checker → Type 0)
     (s : Begins f w ou T d G left c) (g : Gone f w ou w₂ ou₂ T d (G .records) (G .fields) E a b 0) (x : Went P (G .grade) c a b) (e : b .state .left ≡ v)
-    (R : RollsTo f w₂ ou₂ (getD w UNDO-LEN 0) (getD w ENV-LEN 0) w₃ ou₃) where
+    (R : RollsTo f w₂ ou₂ (getD w UNDO-LEN 0) (getD w ENV-LEN 0) (getD w MARK-COUNT 0) w₃ ou₃) where
   -- The code's rollback, from the end of the stretch.
   rolled-back : Ends f w₂ ou₂ w₃ ou₃ (g .T′) d 0 0 (silent v) (rollback (markOf c) b)
   unfolding Bindings.snapshot
   rolled-back =
-      R d v (markOf c) (sym (holds-log (s .runs .holds))) (runs-env-length (s .runs)) .is (g .T′) b
-      (with-visits e (begins-after G (only no-thing) G P (same-load G) g x s)) (omega (arith, runs-env-length (s .runs), made-env (G .grade) c b (x .made)))
+      R d v (markOf c) (sym (holds-log (s .runs .holds))) (runs-env-length (s .runs)) (runs-marks-length (s .runs)) .is (g .T′) b
+      (with-visits e (begins-after G (only no-thing) G P (same-load G) g x s)) (
+        omega (arith, runs-env-length (s .runs), made-env (G .grade) c b (x .made)),
+        omega (arith, runs-marks-length (s .runs), made-marks (G .grade) c b (x .made)),
+      )
 
   -- From its start.
   rolled-ends : Ends f w ou w₃ ou₃ T d (G .records) (G .fields) (silent v) (rollback (markOf c) b)
@@ -93,7 +96,7 @@ carried x i (went g) = went (record {
   grew = g .grew;
   is = (g .is, error-kept (g .grew .adds) (g .more) x i);
 })
-carried x i (spent g) = absurd (g .is)
+carried x i (spent g) = absurd (g .is .0)
 
 -- ---- `infer_then_unify`
 checks-fits : (d : Described) (k n : ℕ) → Holds (both (infers (nodesOf d) k n) (only one-diagnostic)) (checks (nodesOf d) k n)
@@ -190,7 +193,7 @@ module _ {f w ou w₁ ou₁ : List ℕ} {n left : ℕ} {t : Ty} {r : Typed} (I :
 
     -- The failure, rolled back and reported.
     module _ {w₃ ou₃ w₄ ou₄ : List ℕ} {err : TyError} {v : ℕ} {y : Done} (z : x ≡ Unified.Bad err v)
-        (R : RollsTo f w₂ ou₂ (getD w UNDO-LEN 0) (getD w ENV-LEN 0) w₃ ou₃) (O : Reports f w₃ ou₃ n err v w₄ ou₄ y) where
+        (R : RollsTo f w₂ ou₂ (getD w UNDO-LEN 0) (getD w ENV-LEN 0) (getD w MARK-COUNT 0) w₃ ou₃) (O : Reports f w₃ ou₃ n err v w₄ ou₄ y) where
       failed : {T : Rows} {d : Described} {c b : Checker} (k : ℕ) (o : Option Unify.TyError) → Node-at d k n
           → Begins f w ou T d (checks (nodesOf d) (suc k) n) left c
           → (g : Gone f w ou w₂ ou₂ T d (infers (nodesOf d) (suc k) n .records) (infers (nodesOf d) (suc k) n .fields) (unified w₂ x) o b 0)
@@ -203,7 +206,7 @@ module _ {f w ou w₁ ou₁ : List ℕ} {n left : ℕ} {t : Ty} {r : Typed} (I :
           let visits : b .state .left ≡ v = cc (z, q .is .1) in
           then-ends G (only one-diagnostic) (checks (nodesOf d) (suc k) n) (checks-fits d (suc k) n) Nothing (rollback (markOf c) b)
           (λ u. report (d .schema) (nodesOf d) n e) (λ o. o) s
-          (λ y. rolled-meets (G .grade) c b (s .orderly) (h .made) (h .reached))
+          (λ y. rolled-meets (G .grade) c b (s .orderly) (h .orderly) (h .made) (h .reached))
           (λ s₁. gone-on G (only no-thing) G (same-load G) q (carried err i (rolled-back G Nothing s₁ q h visits R)))
           (λ u b₃ g₃ h₃ s₃. rw (← g₃ .is .1 .is) (O d (at .there) .is (g₃ .T′) b₃ (with-visits (g₃ .is .0) s₃) (g₃ .is .1 .ok)))
 
@@ -302,7 +305,7 @@ module _ {f w ou w₁ ou₁ : List ℕ} {n left : ℕ} {t : Ty} {r : Done} (C : 
     }
 
     pub field-rolled : {w₂ ou₂ : List ℕ} → getD w DIAGNOSTIC-COUNT 0 < getD w₁ DIAGNOSTIC-COUNT 0
-        → RollsTo f w₁ ou₁ (getD w UNDO-LEN 0) (getD w ENV-LEN 0) w₂ ou₂ → ChecksField f w ou n t left w₂ ou₂ (Done.On l)
+        → RollsTo f w₁ ou₁ (getD w UNDO-LEN 0) (getD w ENV-LEN 0) (getD w MARK-COUNT 0) w₂ ou₂ → ChecksField f w ou n t left w₂ ou₂ (Done.On l)
     unfolding andThen
     field-rolled {w₂} {ou₂} h R = record {
       is = λ d k named. record {

@@ -83,16 +83,16 @@ module _ {f w ou w₁ ou₁ w₂ ou₂ w₃ ou₃ : List ℕ} {lhs rhs left : �
       is = λ T c s u.
           then-silent (only (introducing (formAt d lhs))) (both (only (introducing (formAt d rhs))) (sides d k lhs rhs))
           (visits (nodesOf d) k (lhs ∷ rhs ∷ [])) (all-fits d k lhs rhs) (λ u b. Introduced (formAt d lhs) b)
-          (introduceSide (d .schema) (nodesOf d) (formAt d lhs) c)
-          (λ u b. andThen (introduceSide (d .schema) (nodesOf d) (formAt d rhs) b)
+          (introduceSide (d .schema) (nodesOf d) lhs (formAt d lhs) c)
+          (λ u b. andThen (introduceSide (d .schema) (nodesOf d) rhs (formAt d rhs) b)
           (λ u e. andThen (below d k .infer lhs e) (λ a g. andThen (below d k .infer rhs g) (λ y. compareTypes d lhs rhs a y)))) s
-          (λ y. introduceSide-meets (d .schema) (nodesOf d) (formAt d lhs) c (s .orderly)) (λ s₁. A d (nl .there) .is T c s₁ tt)
+          (λ y. introduceSide-meets (d .schema) (nodesOf d) lhs (formAt d lhs) c (s .orderly)) (λ s₁. A d (nl .there) .is T c s₁ tt)
           (λ T₁ b a h. then-silent (only (introducing (formAt d rhs))) (sides d k lhs rhs)
           (both (only (introducing (formAt d rhs))) (sides d k lhs rhs)) (as-it-is (only (introducing (formAt d rhs))) (sides d k lhs rhs))
           (λ u e. Introduced (formAt d rhs) e)
-          (introduceSide (d .schema) (nodesOf d) (formAt d rhs) b)
+          (introduceSide (d .schema) (nodesOf d) rhs (formAt d rhs) b)
           (λ u e. andThen (below d k .infer lhs e) (λ a g. andThen (below d k .infer rhs g) (λ y. compareTypes d lhs rhs a y))) (a .begins)
-          (λ y. introduceSide-meets (d .schema) (nodesOf d) (formAt d rhs) b (a .begins .orderly)) (λ s₂. B d (nr .there) .is T₁ b s₂ tt)
+          (λ y. introduceSide-meets (d .schema) (nodesOf d) rhs (formAt d rhs) b (a .begins .orderly)) (λ s₂. B d (nr .there) .is T₁ b s₂ tt)
           (λ T₂ e a₂ h₂. next d k nl nr T₂ e (a₂ .begins) (made-introduced _ b e (formAt d lhs) (a₂ .made) h) h₂));
     };
   }

@@ -68,7 +68,7 @@ module _ {f w ou w₁ ou₁ : List ℕ} {n left : ℕ} {r : Typed} (i : InfersKi
   found-meets : (d : Described) (k x : ℕ) (c : Checker) → nodeAt (nodesOf d) n .kind ≡ ExprKind.Var x → Orderly c → Known x c
       → Meets IsSide no-thing c (inferKind (d .schema) (nodesOf d) (below d k) n (nodeAt (nodesOf d) n .kind) c)
   unfolding inferKind
-  found-meets d k x c e o h = rw e (meets-from (IsUnknown x) IsSide no-thing no-thing c (introduce x c) _ (omega arith) (introduce-known x c o h)
+  found-meets d k x c e o h = rw e (meets-from (IsUnknown x) IsSide no-thing no-thing c (introduce n x c) _ (omega arith) (introduce-known n x c o h)
       (λ v b w. went-with IsSide (Tree.Var v) w (w .holds .0)))
 
   pub infer-typed : {w₂ ou₂ : List ℕ} {t : Ty} {l : ℕ} → r ≡ Typed.Got t l → Notes f w₁ ou₁ n t l w₂ ou₂ → Infers f w ou n left w₂ ou₂ (Typed.Got t l)
@@ -195,16 +195,16 @@ module _ {f w ou w′ ou′ : List ℕ} {n left x : ℕ} (new : Freshens f w ou 
       (λ d k T c at named s. fresh-ends new (begins-part (only one-unknown) (parts (nodesOf d) k ExprKind.Never) (fresh-fits d k ExprKind.Never) s))
 
 -- ---- A variable
-introduced-ends : {f w ou w′ ou′ : List ℕ} {T : Rows} {d : Described} {left v : ℕ} {c : Checker} (x : ℕ) (G : Load) → Begins f w ou T d G left c
-    → Meets (IsUnknown x) (G .grade) c (introduce x c)
-    → (Begins f w ou T d G left c → Ends f w ou w′ ou′ T d (G .records) (G .fields) (numbered v left) (introduce x c))
-    → Ends f w ou w′ ou′ T d (G .records) (G .fields) (typed w′ (Typed.Got (Var v) left)) (andThen (introduce x c) (λ v b. goes (Tree.Var v) b))
-introduced-ends {v = v} {c = c} x G s meets first =
-    then-numbered G (only no-thing) G (record { grade = omega arith; records = omega arith; fields = omega arith }) (IsUnknown x) (introduce x c)
+introduced-ends : {f w ou w′ ou′ : List ℕ} {T : Rows} {d : Described} {left v : ℕ} {c : Checker} (n x : ℕ) (G : Load) → Begins f w ou T d G left c
+    → Meets (IsUnknown x) (G .grade) c (introduce n x c)
+    → (Begins f w ou T d G left c → Ends f w ou w′ ou′ T d (G .records) (G .fields) (numbered v left) (introduce n x c))
+    → Ends f w ou w′ ou′ T d (G .records) (G .fields) (typed w′ (Typed.Got (Var v) left)) (andThen (introduce n x c) (λ v b. goes (Tree.Var v) b))
+introduced-ends {v = v} {c = c} n x G s meets first =
+    then-numbered G (only no-thing) G (record { grade = omega arith; records = omega arith; fields = omega arith }) (IsUnknown x) (introduce n x c)
     (λ v b. goes (Tree.Var v) b) s (λ y. meets) first
     (λ T₁ b a h. type-here (Var v) (a .begins .runs) (a .begins .lines) (a .begins .visits) (ok-unknown (a .begins .runs) (h .0)))
 
-pub variable-arm : {f w ou w′ ou′ : List ℕ} {n left x v : ℕ} → Brings f w ou x left w′ ou′ v → IsNode f w n (Node.Var x)
+pub variable-arm : {f w ou w′ ou′ : List ℕ} {n left x v : ℕ} → Brings f w ou n x left w′ ou′ v → IsNode f w n (Node.Var x)
     → InfersKind f w ou n left w′ ou′ (Typed.Got (Var v) left)
 unfolding kindW inferKind exprNodes recordsOf fieldsOf sumOf
 variable-arm {f} {w} {ou} {w′} {ou′} {n} {left} {x} {v} new i = record {
@@ -212,14 +212,15 @@ variable-arm {f} {w} {ou} {w′} {ou′} {n} {left} {x} {v} new i = record {
     is = λ T c s u.
         let q = kind-read s (at .there) i in
         let s₁ = begins-part (only one-unknown) (parts (nodesOf d) k (ExprKind.Var x)) (fresh-fits d k (ExprKind.Var x)) (rw q at s) in
-        rw q (introduced-ends x (only one-unknown) s₁ (introduce-meets x c (s .orderly)) (λ s₂. new .is d (name-small (s .sound) (at .there) q) .is T c s₂ tt));
+        rw q (introduced-ends n x (only one-unknown) s₁ (introduce-meets n x c (s .orderly))
+        (λ s₂. new .is d (name-small (s .sound) (at .there) q) (at .there) .is T c s₂ tt));
   };
   found = λ d k y at e. record {
     is = λ T c s known.
         let q = kind-read s (at .there) i in
         let same : x ≡ y = cc (q, e) in
         let known′ : Known x c = rw same known in
-        rw q (introduced-ends x (only no-thing) s (introduce-known x c (s .orderly) known′)
-        (λ s₂. new .found d (name-small (s .sound) (at .there) q) .is T c s₂ known′));
+        rw q (introduced-ends n x (only no-thing) s (introduce-known n x c (s .orderly) known′)
+        (λ s₂. new .found d (name-small (s .sound) (at .there) q) (at .there) .is T c s₂ known′));
   };
 }

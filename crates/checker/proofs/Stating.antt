@@ -256,7 +256,7 @@ noted-fits d k lhs rhs = record {
   fields = omega arith;
 }
 
-module _ {f w ou w₁ ou₁ w₂ ou₂ w₃ ou₃ : List ℕ} {symbol lhs rhs left v : ℕ} {r : Typed} (B : Brings f w ou symbol left w₁ ou₁ v)
+module _ {f w ou w₁ ou₁ w₂ ou₂ w₃ ou₃ : List ℕ} {symbol lhs rhs left v : ℕ} {r : Typed} (B : Brings f w ou lhs symbol left w₁ ou₁ v)
     (ann : Notes f w₁ ou₁ lhs (Var v) left w₂ ou₂) (I : Infers f w₂ ou₂ rhs left w₃ ou₃ r) where
   variable-then : {w₄ ou₄ : List ℕ} {x : Done}
       → ((d : Described) (k : ℕ) → Named d k rhs → (T : Rows) (c : Checker) → Fine w₂ (Var v) T c
@@ -272,10 +272,10 @@ module _ {f w ou w₁ ou₁ w₂ ou₂ w₃ ou₃ : List ℕ} {symbol lhs rhs le
         is = λ T c s u.
             let right = both (infers (nodesOf d) k rhs) (only one-diagnostic) in
             then-numbered (only one-unknown) (both (only (one-node lhs)) right) (visits (nodesOf d) k (lhs ∷ rhs ∷ [])) (noted-fits d k lhs rhs)
-            (IsUnknown symbol) (introduce symbol c)
+            (IsUnknown symbol) (introduce lhs symbol c)
             (λ x b. andThen (annotate lhs (Tree.Var x) b)
             (λ u e. andThen (below d k .infer rhs e) (λ ty. unifyAt (d .schema) (nodesOf d) rhs ty (Tree.Var x)))) s
-            (λ y. introduce-meets symbol c (s .orderly)) (λ s₁. B .is d small .is T c s₁ tt)
+            (λ y. introduce-meets lhs symbol c (s .orderly)) (λ s₁. B .is d small (nl .there) .is T c s₁ tt)
             (λ T₁ b a h. let fine : Fine w₁ (Var v) T₁ b = record { ok = ok-unknown (a .begins .runs) (h .0); side = h .0 } in
             then-silent (only (one-node lhs)) right (both (only (one-node lhs)) right)
             (record { grade = omega arith; records = omega arith; fields = omega arith }) Nothing (annotate lhs (Tree.Var v) b)

@@ -28,7 +28,7 @@ use Rattle.meaning.specs.Grades.{no-thing, Known}
 use Rattle.messages.specs.declared.Message.{Message}
 use Rattle.messages.specs.Said.{said, OkMessage}
 use Rattle.state.specs.Runs.{Runs}
-use Rattle.state.specs.Lines.{Told, untilOf}
+use Rattle.state.specs.Lines.{Told, AtEntry, untilOf}
 use Rattle.state.specs.declared.Until.{Until}
 use Rattle.tree.specs.declared.Items.{Items}
 use Rattle.tree.specs.declared.Stmts.{Stmts}
@@ -137,9 +137,9 @@ NotYets x f w ou lhs rhs left w′ ou′ r = SidesSaying (λ d b. Check.notYet (
 abbrev pub Destructures : List ℕ → List ℕ → List ℕ → ℕ → ℕ → ℕ → List ℕ → List ℕ → Done → Type 0
 Destructures f w ou lhs rhs left w′ ou′ r = Sides (λ d b x y. Check.destructure (d .schema) (nodesOf d) b x y) f w ou lhs rhs left w′ ou′ r
 
--- A name is a half word.
+-- It is one of the names.
 pub record BindsVariable (f w ou : List ℕ) (symbol lhs rhs left : ℕ) (w′ ou′ : List ℕ) (r : Done) : Type 0 where
-  pub is : symbol < 65536 → Sides (λ d b x y. Check.bindVariable (d .schema) (nodesOf d) b symbol x y) f w ou lhs rhs left w′ ou′ r
+  pub is : symbol < 256 → Sides (λ d b x y. Check.bindVariable (d .schema) (nodesOf d) b symbol x y) f w ou lhs rhs left w′ ou′ r
 
 pub record States (f w ou : List ℕ) (at under left : ℕ) (w′ ou′ : List ℕ) (r : Done) : Type 0 where
   pub is : (d : Described) (k : ℕ) (s : QueryStmt) → s ≡ statement (stmtW f at under) → AllNamed d k (stmtNodes (s ∷ []))
@@ -152,12 +152,12 @@ pub record StatesAll (f w ou : List ℕ) (body : Stmts) (left : ℕ) (w′ ou′
 -- ---- The whole
 
 -- `query`, from words that a file was read into: the words after stand for where the run ends, or for where it ended early, and then the
--- visits left are kept.
+-- visits left are kept; where it was to last until an entry to `unify` that came, so are the entry's sides.
 pub data Ran (f w′ ou′ : List ℕ) (d : Described) (r : Done) : Step Tree.Ty → Type 0 where
   to-the-end : {ty : Tree.Ty} {c : Checker} (T : Rows) → Runs f w′ T d c → Told d w′ ou′ c 0 → r ≡ Done.On (c .state .left) → Ran f w′ ou′ d r (goes ty c)
-  ended-early : {c : Checker} (T : Rows) → Runs f w′ T d c → Told d w′ ou′ c (c .state .left) → r ≡ Done.Out → Ran f w′ ou′ d r (out c)
+  ended-early : {c : Checker} (T : Rows) → Runs f w′ T d c → Told d w′ ou′ c (c .state .left) → AtEntry w′ T (c .until) (c .entries) → r ≡ Done.Out → Ran f w′ ou′ d r (out c)
 
--- The definition's run of a query, until its end or its first diagnostic.
+-- The definition's run of a query, until its end or what it is to last until.
 unfoldable pub runUntil : Check.Until → Described → ℕ → Step Tree.Ty
 unfolding Check.query Check.beginUntil
 runUntil u d ceiling = Check.query (d .schema) (nodesOf d) (d .ast .query) (Check.beginUntil u ceiling (length (nodesOf d)))

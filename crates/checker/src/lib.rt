@@ -21,7 +21,6 @@ use tree::Node;
 use tree::Stmt;
 use tree::Stmts;
 use work::Counters;
-use work::put;
 use work::word;
 
 fn infer_record(f: &[u8], w: &mut [u32], items: Items, left: u32, out: &mut [u8]) -> Typed
@@ -99,7 +98,7 @@ fn subquery(f: &[u8], w: &mut [u32], head: u32, body: Stmts, left: u32, out: &mu
             let r = infer(f, w, head, l, out);
             match r {
                 Typed::Got(t, m) => {
-                    put(w, work::ENV_LEN, scope);
+                    state::leave(w, scope);
                     Typed::Got(t, m)
                 }
                 Typed::Out => Typed::Out,
@@ -138,7 +137,7 @@ fn infer_kind(f: &[u8], w: &mut [u32], n: u32, left: u32, out: &mut [u8]) -> Typ
         Node::Wildcard => Typed::Got(Ty::Var(cells::fresh_var_id(w)), left),
         Node::Never => Typed::Got(Ty::Var(cells::fresh_var_id(w)), left),
         Node::Error => Typed::Got(Ty::Error, left),
-        Node::Var(symbol) => Typed::Got(Ty::Var(introduce(w, symbol)), left),
+        Node::Var(symbol) => Typed::Got(Ty::Var(introduce(w, n, symbol)), left),
         Node::Arith(items) => infer_all(f, w, items, Ty::Int, left, out),
         Node::Record(items) => infer_record(f, w, items, left, out),
         Node::Key(name, base) => {
@@ -196,14 +195,15 @@ fn infer_then_unify(
 {
     let undo = cells::snapshot(w);
     let env = word(w, work::ENV_LEN);
+    let marks = word(w, work::MARK_COUNT);
     let r = infer(f, w, n, left, out);
     match r {
         Typed::Got(t, l) => {
-            let u = unify::unify(w, t, expected, l);
+            let u = steps::unify_outside(w, t, expected, l);
             match u {
                 Unified::Good(m) => Done::On(m),
                 Unified::Bad(err, m) => {
-                    steps::rollback(w, undo, env);
+                    steps::rollback(w, undo, env, marks);
                     steps::report(f, w, n, err, m, out)
                 }
                 Unified::Spent => Done::Out,
@@ -232,11 +232,12 @@ fn check_field(
             let before = word(w, work::DIAGNOSTIC_COUNT);
             let undo = cells::snapshot(w);
             let scope = word(w, work::ENV_LEN);
+            let marks = word(w, work::MARK_COUNT);
             let d = check(f, w, value, t, left, out);
             match d {
                 Done::On(l) => {
                     if before < word(w, work::DIAGNOSTIC_COUNT) {
-                        steps::rollback(w, undo, scope);
+                        steps::rollback(w, undo, scope, marks);
                     }
                     Done::On(l)
                 }
@@ -401,7 +402,7 @@ fn bind_name(
 ) -> Done
     ensures { λ r. ⌜ BindsVariable (now (f .entry)) (now (w .entry)) (now (out .entry)) symbol lhs rhs left (now (w .exit)) (now (out .exit)) r ⌝ }
 {
-    let var = introduce(w, symbol);
+    let var = introduce(w, lhs, symbol);
     cells::annotate(w, lhs, Ty::Var(var));
     let r = infer(f, w, rhs, left, out);
     match r {
@@ -558,7 +559,8 @@ fn stmts(f: &[u8], w: &mut [u32], body: Stmts, left: u32, out: &mut [u8]) -> Don
     Done::On(rest)
 }
 
-// The query of the file that was read: every type and diagnostic is then in the slice. The head is inferred last.
+// The query of the file that was read: every type and diagnostic is then in the slice. The head is inferred last, and then every entry
+// leaves.
 pub fn query(f: &[u8], w: &mut [u32], until: Until, ceiling: u32, out: &mut [u8]) -> Done
     ensures { λ r. ⌜ Queries (now (f .entry)) (now (w .entry)) (now (out .entry)) until ceiling (now (w .exit)) (now (out .exit)) r ⌝ }
 {
@@ -569,7 +571,16 @@ pub fn query(f: &[u8], w: &mut [u32], until: Until, ceiling: u32, out: &mut [u8]
         Done::On(l) => {
             let e = steps::check_head(f, w, head, l, out);
             match e {
-                Done::On(m) => only(infer(f, w, head, m, out)),
+                Done::On(m) => {
+                    let r = infer(f, w, head, m, out);
+                    match r {
+                        Typed::Got(_, v) => {
+                            state::leave(w, 0);
+                            Done::On(v)
+                        }
+                        Typed::Out => Done::Out,
+                    }
+                }
                 Done::Out => Done::Out,
             }
         }

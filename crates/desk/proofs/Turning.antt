@@ -120,9 +120,9 @@ module _ {f w : List ℕ} {ceiling : ℕ} {out w₁ out₁ : List ℕ} {q : Done
     where
       go : (d : Described) {x : Step Tree.Ty} → Ran f w₁ out₁ d q x → Answered f out w₁ out₁ Ended.Out d (checked ceiling x)
       go d (to-the-end T R t p) = let z : _≡_ {A = ℕ} 0 1 = cc in absurd (omega arith)
-      go d (ended-early T R t p) = refl
+      go d (ended-early T R t k p) = refl
 
-  pub run-on : (left : ℕ) → q ≡ Done.On left → (visits : ℕ) → visits ≡ ceiling - left → {out₂ : List ℕ} {a : Wrote} → WritesAnswer w₁ out₁ visits out₂ a
+  pub run-on : (left : ℕ) → q ≡ Done.On left → (visits : ℕ) → visits ≡ ceiling - left → {out₂ : List ℕ} {a : Wrote} → WritesAnswer f w₁ out₁ visits out₂ a
       → Answers f w ceiling out w₁ out₂ (Ended.Lines a visits)
   unfolding Answered checked
   run-on left e visits v {out₂} {a} wrote = record {
@@ -136,8 +136,8 @@ module _ {f w : List ℕ} {ceiling : ℕ} {out w₁ out₁ : List ℕ} {q : Done
       go d (to-the-end {ty = ty} {c = c} T R t p) =
           let same : left ≡ c .state .left = cc in
           let made : visits ≡ ceiling - c .state .left = v ∙ ap (λ n. ceiling - n) same in
-          (a, ap (Ended.Lines a) made, (T, R .stands .schema), continues-start (ran .slice) (continues (wrote .is f T d c R t ceiling ty _ refl made)))
-      go d (ended-early T R t p) = let z : _≡_ {A = ℕ} 0 1 = cc in absurd (omega arith)
+          (a, ap (Ended.Lines a) made, (T, R .stands .schema), continues-start (ran .slice) (continues (wrote .is T d c R t ceiling ty _ refl made)))
+      go d (ended-early T R t k p) = let z : _≡_ {A = ℕ} 0 1 = cc in absurd (omega arith)
 
 -- ---- The turn
 

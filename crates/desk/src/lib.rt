@@ -104,7 +104,7 @@ fn answer_query(file: &[u8], work: &mut [u32], ceiling: u32, out: &mut [u8]) -> 
         Done::Out => Ended::Out,
         Done::On(left) => {
             let visits = made(ceiling, left);
-            Ended::Lines(answer::write(work, out, visits), visits)
+            Ended::Lines(answer::write(file, work, out, visits), visits)
         }
     }
 }

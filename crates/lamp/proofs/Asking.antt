@@ -52,14 +52,14 @@ module _ {f w o w′ o′ : List ℕ} {x : Done} (Q : Queries f w o Until.FirstD
       go : (d : Described) (s : Step Tree.Ty) → Ran f w′ o′ d x s → Glowed f w′ d (Glow.Dark v) s
       go d (goes ty c) (to-the-end T R t p) = let same : left ≡ c .state .left = cc (e, p) in
           (ap Glow.Dark (m ∙ ap (λ n. 1048576 - n) same), (T, R .stands .schema))
-      go d (out c) (ended-early T R t p) = clash (cc (e, p))
+      go d (out c) (ended-early T R t k p) = clash (cc (e, p))
 
   module _ (e : x ≡ Done.Out) {left count v : ℕ} (l : left ≡ getD w′ LEFT 0) (m : v ≡ 1048576 - left) (n : count ≡ getD w′ DIAGNOSTIC-COUNT 0) where
     module _ (g : Glow) (by : (ds : List Diagnostic) → length ds ≡ count → g ≡ glowOf ds v) where
       ended : (d : Described) (s : Step Tree.Ty) → Ran f w′ o′ d x s → Glowed f w′ d g s
       unfolding Glowed maxVisits
       ended d (goes ty c) (to-the-end T R t p) = clash (cc (e, p))
-      ended d (out c) (ended-early T R t p) =
+      ended d (out c) (ended-early T R t k p) =
           by (c .diagnostics) (R .diagnostics ∙ sym n) ∙ ap (glowOf (c .diagnostics)) (m ∙ ap (λ k. 1048576 - k) (l ∙ t .left))
 
     pub glow-out : count ≡ 0 → Glows f w w′ (Glow.Out v)

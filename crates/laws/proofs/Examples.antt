@@ -33,7 +33,7 @@ use Rattle.meaning.specs.Refusal.{nameGivenBefore, answerTooLong}
 use Rattle.meaning.specs.Answer.{hexLine}
 use Rattle.meaning.specs.Outcome.{minWords, maxVisits, Accepted, Refused, outcome}
 use Rattle.laws.specs.Marks.{NoMark}
-use Rattle.laws.specs.Names.{Renamed, linesBeside, SameBeside, Fits}
+use Rattle.laws.specs.Names.{Renamed, linesBut, linesBeside, SameBeside, Fits}
 use Rattle.laws.specs.Growth.{Grown, NoAbsent}
 use Rattle.laws.specs.Examples.{allCodes, allTexts, one-compared, comparing, named, roomier, ab, accented, short, value, asking, asking-grown, told}
 use Rattle.laws.specs.Examples.{telling, before, grown, blackened}
@@ -48,7 +48,7 @@ use Rattle.laws.proofs.Files.{private-files, grown-files}
 
 -- ---- Ceilings
 abbrev three-ints : Typed
-three-ints = record { tys = some (leaf Int) ∷ some (leaf Int) ∷ some (leaf Int) ∷ []; diagnostics = []; visits = 2 }
+three-ints = record { tys = some (leaf Int) ∷ some (leaf Int) ∷ some (leaf Int) ∷ []; diagnostics = []; unused = []; visits = 2 }
 
 two-suffice : check 2 (describes comparing .schema) one-compared ≡ typed three-ints
 unfolding check codeOf describes ℕ-discrete Bindings.fresh Bindings.freshId Bindings.annotate Bindings.snapshot Bindings.rollback Bindings.zonk Unify.unify Unify.orderable
@@ -301,5 +301,5 @@ renamed-too-long = refl
 
 -- A message line is left out, and what follows the last LF; nothing else is.
 one-left : linesBeside (hexLine (8 ∷ []) ++ (hexLine (0x0a ∷ ab) ++ (hexLine (0x0b ∷ []) ++ 0 ∷ 0 ∷ []))) ≡ ascii "08" ∷ ascii "0b" ∷ []
-unfolding linesBeside hexLine
+unfolding linesBut hexLine ascii
 one-left = refl

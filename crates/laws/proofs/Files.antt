@@ -26,7 +26,7 @@ use Rattle.meaning.proofs.Tests.{cases}
 use Rattle.meaning.proofs.Content.{says-exactly}
 use Rattle.meaning.proofs.Forms.{Ran, each-ran}
 use Rattle.laws.specs.Over.{Language, MessageOver, CheckedOver}
-use Rattle.laws.specs.Names.{Renamed, linesBeside, SameBeside, Fits}
+use Rattle.laws.specs.Names.{Renamed, linesBut, SameBeside, Fits}
 use Rattle.laws.specs.Growth.{grow, Grown, spoken, NoAbsent}
 use Rattle.laws.proofs.Run.{more-visits}
 use Rattle.laws.proofs.Names.{answers, names-private}
@@ -104,7 +104,7 @@ module _ (text text′ : Message → List ℕ) (words bytes words′ bytes′ : 
 
   decided-beside : (o : Option (List Typed)) → Fits (finish (decideRun text o) words bytes) → Fits (finish (decideRun text′ o) words′ bytes′)
       → SameBeside (finish (decideRun text o) words bytes) (finish (decideRun text′ o) words′ bytes′)
-  unfolding decideRun finish refuse linesBeside
+  unfolding decideRun finish refuse linesBut
   decided-beside none h i = record { result = refl; answer = no-lines bytes ∙ sym (no-lines bytes′) }
   decided-beside (some ts) h i = both-fit ts _ _ refl refl h i
 

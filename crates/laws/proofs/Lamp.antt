@@ -11,43 +11,29 @@ use lib.Dec.{ltb}
 use borrow.Author.Tests.{ltb-false, lt-ltb, le-ltb}
 use lib.ListN.{length, drop}
 use Rattle.unification.specs.Ty.{Ty}
-use Rattle.meaning.specs.Syntax.{Ast}
+use Rattle.meaning.specs.Syntax.{Span, Ast}
 use Rattle.meaning.specs.Schema.{Schema, get}
 use Rattle.meaning.specs.Diag.{Message, Diagnostic}
 use Rattle.meaning.specs.Refusal.{Refusal, workTooShort, tooManyVisits}
 use Rattle.meaning.specs.All.{All, Any, Each}
 use Rattle.meaning.specs.Lines.{closed, LF, lines}
-use Rattle.meaning.specs.Answer.{bytes₂, bytes₄, hexDigit, hexLine, slotBytes, nodeLines, diagnosticBytes, diagnosticLine, diagnosticLines, answerLines}
-use Rattle.meaning.specs.Answer.{numbered, formLines}
-use Rattle.meaning.specs.Check.{Checker, Step, goes, out, Until, theEnd, begin, beginUntil, lighted, query, Typed, typed, reversed, checked, check}
+use Rattle.meaning.specs.Answer.{bytes₂, bytes₄, hexDigit, hexLine, slotBytes, nodeLines, diagnosticBytes, diagnosticLine, diagnosticLines, unusedLine}
+use Rattle.meaning.specs.Answer.{unusedLines, answerLines, numbered, formLines}
+use Rattle.meaning.specs.Check.{Checker, Step, goes, out, Until, theEnd, firstDiagnostic, begin, beginUntil, lasting, query, Typed, typed, reversed}
+use Rattle.meaning.specs.Check.{checked, check}
 use Rattle.meaning.specs.Run.{ending, run}
 use Rattle.meaning.specs.Outcome.{minWords, maxVisits, turnedDown, answered, decideRun, decideRead, decide}
 use Rattle.meaning.specs.File.{Form, Reading, refused, described, reading}
 use Rattle.meaning.specs.Messages.{textIn}
 use Rattle.meaning.specs.Lamp.{litRun, Lamp, Yes, No, Refused, stopped, lampAfter, lampAll, lampRead, lamp, Clean, Shows, Silent, First, here, later}
 use Rattle.meaning.specs.Lamp.{LampIs, shown, none-shown, ran-out, Is08, Has08}
-use Rattle.laws.specs.Over.{everything}
-use Rattle.laws.specs.Same.{Same}
-use Rattle.laws.proofs.Over.{predicate-everything, names-everything}
 use Rattle.meaning.proofs.Tests.{cases}
 use Rattle.meaning.proofs.Forms.{Ran, Runs, all-ran, one-out, runs}
 use Rattle.meaning.proofs.Hex.{hexes, line-hexes}
 use Rattle.meaning.proofs.Lines.{lines-closed}
 use Rattle.laws.proofs.Beside.{hexes-no-LF}
 use Rattle.laws.proofs.Agree.{Lit, dark-goes, dark-out, shines}
-use Rattle.laws.proofs.Walk.{query-agrees}
-use Rattle.laws.proofs.Run.{begin-fine, same-self}
-
--- ---- Each query
-
-module _ (schema : Schema) (a : Ast) where
-  itself : Same everything (a .nodes) schema schema
-  itself = same-self everything schema (a .nodes) (λ p. tt) (names-everything (a .nodes)) (λ p. predicate-everything (get schema p))
-
-  run-lit : (c : ℕ) → Lit (run schema a c) (litRun schema a c)
-  unfolding run litRun begin beginUntil lighted
-  run-lit c = query-agrees everything 0 schema schema (a .nodes) itself (a .query) .lit (begin c (length (a .nodes)))
-      (begin-fine everything schema schema a itself c) refl refl
+use Rattle.laws.proofs.Until.{run-until}
 
 not-empty : (later : List Diagnostic) (d : Diagnostic) → later ++ d ∷ [] ≢ []
 not-empty [] d e = let z : _≡_ {A = ℕ} 0 1 = cc in omega arith
@@ -62,14 +48,16 @@ module _ (schema : Schema) where
   clean-first a qs p (ran-out f) = ran-out (later p f)
 
   pub lamp-is : (qs : List Ast) → LampIs schema qs (lampAll schema qs)
-  unfolding lampAll lampAfter stopped lighted ending
+  unfolding lampAll lampAfter litRun stopped lasting ending
   lamp-is [] = none-shown tt
-  lamp-is (a ∷ qs) = go (run schema a maxVisits) (litRun schema a maxVisits) refl (run-lit schema a maxVisits) (lamp-is qs)
+  lamp-is (a ∷ qs) = go (run schema a maxVisits) (litRun schema a maxVisits) refl (run-until schema a firstDiagnostic maxVisits) (lamp-is qs)
     where
-      go : (s s′ : Step Ty) → run schema a maxVisits ≡ s → Lit s s′ → {l : Lamp} → LampIs schema qs l → LampIs schema (a ∷ qs) (lampAfter s′ l)
+      go : (s s′ : Step Ty) → run schema a maxVisits ≡ s → Lit firstDiagnostic s s′ → {l : Lamp} → LampIs schema qs l → LampIs schema (a ∷ qs) (lampAfter s′ l)
       go s s′ e (dark-goes ty c n) l = clean-first a qs (ty, c, e, n) l
       go s s′ e (dark-out c n) l = rw n (ran-out (here (c, e, n)))
-      go s s′ e (shines _ c d more p q) l = rw q (shown (here (λ z. not-empty more d (sym p ∙ ap (λ (x : Step Ty). ending x .diagnostics) (sym e) ∙ z))))
+      go s s′ e (shines _ c (d, q) p) l =
+          let all : ending s .diagnostics ≡ p .reported ++ d ∷ [] = p .diagnostics ∙ ap {B = List Diagnostic} (λ ds. p .reported ++ ds) q in
+          rw q (shown (here (λ z. not-empty (p .reported) d (sym all ∙ ap (λ (x : Step Ty). ending x .diagnostics) (sym e) ∙ z))))
 
 -- ---- Lines of an answer
 
@@ -130,6 +118,14 @@ visits-skip : (v : ℕ) → Skips (hexLine (9 ∷ bytes₄ v))
 unfolding hexDigit
 visits-skip v = line-skips (9 ∷ bytes₄ v) (λ x. let z : 57 ≡ 56 = second 9 (bytes₄ v) (omega arith) x in omega arith)
 
+unused-skip : (ss : List Span) → Skips (unusedLines ss)
+unfolding unusedLines unusedLine hexDigit
+unused-skip [] = skips-nothing
+unused-skip (s ∷ ss) =
+    skips-then (unusedLine s) (unusedLines ss)
+    (line-skips (0x0c ∷ bytes₄ (s .start) ++ bytes₄ (s .end))
+    (λ x. let z : 99 ≡ 56 = second 0x0c (bytes₄ (s .start) ++ bytes₄ (s .end)) (omega arith) x in omega arith)) (unused-skip ss)
+
 -- some have none, then one has one
 abbrev Told : List Typed → Type 0
 Told ts = First (λ t. t .diagnostics ≡ []) (λ t. t .diagnostics ≢ []) ts
@@ -150,13 +146,17 @@ module _ (text : Message → List ℕ) where
 
   answer-begins : (t : Typed) → t .diagnostics ≢ [] → Begins (answerLines text t)
   unfolding answerLines
-  answer-begins t n = begins-then (nodeLines 0 (t .tys) ++ diagnosticLines text (t .diagnostics)) (hexLine (9 ∷ bytes₄ (t .visits)))
-      (after-then (nodeLines 0 (t .tys)) (diagnosticLines text (t .diagnostics)) (nodes-skip 0 (t .tys)) (diagnostics-begin (t .diagnostics) n))
+  answer-begins t n = begins-then ((nodeLines 0 (t .tys) ++ diagnosticLines text (t .diagnostics)) ++ unusedLines (t .unused))
+      (hexLine (9 ∷ bytes₄ (t .visits)))
+      (begins-then (nodeLines 0 (t .tys) ++ diagnosticLines text (t .diagnostics)) (unusedLines (t .unused))
+      (after-then (nodeLines 0 (t .tys)) (diagnosticLines text (t .diagnostics)) (nodes-skip 0 (t .tys)) (diagnostics-begin (t .diagnostics) n)))
 
   answer-skips : (t : Typed) → t .diagnostics ≡ [] → Skips (answerLines text t)
   unfolding answerLines diagnosticLines
-  answer-skips t e = skips-then (nodeLines 0 (t .tys) ++ diagnosticLines text (t .diagnostics)) (hexLine (9 ∷ bytes₄ (t .visits)))
-      (skips-then (nodeLines 0 (t .tys)) (diagnosticLines text (t .diagnostics)) (nodes-skip 0 (t .tys)) (rw e skips-nothing)) (visits-skip (t .visits))
+  answer-skips t e = skips-then ((nodeLines 0 (t .tys) ++ diagnosticLines text (t .diagnostics)) ++ unusedLines (t .unused)) (hexLine (9 ∷ bytes₄ (t .visits)))
+      (skips-then (nodeLines 0 (t .tys) ++ diagnosticLines text (t .diagnostics)) (unusedLines (t .unused))
+      (skips-then (nodeLines 0 (t .tys)) (diagnosticLines text (t .diagnostics)) (nodes-skip 0 (t .tys)) (rw e skips-nothing))
+      (unused-skip (t .unused))) (visits-skip (t .visits))
 
   numbered-skips : (k : ℕ) (ts : List Typed) → All (λ t. t .diagnostics ≡ []) ts → Skips (numbered text k ts)
   unfolding numbered

@@ -13,7 +13,7 @@ use Rattle.meaning.specs.Diag.{Message, Diagnostic}
 use Rattle.meaning.specs.Schema.{Predicate, Schema, get}
 use Rattle.meaning.specs.Check.{Typed}
 use Rattle.meaning.specs.Messages.{orMark, orFact, nameOf, factName, renderLeaf, separator, part, render, renderRow, difference, expectedFound, messageText}
-use Rattle.meaning.specs.Answer.{diagnosticLine, diagnosticLines, nodeLines, answerLines, numbered, formLines, bytes₄, hexLine}
+use Rattle.meaning.specs.Answer.{diagnosticLine, diagnosticLines, unusedLines, nodeLines, answerLines, numbered, formLines, bytes₄, hexLine}
 use Rattle.meaning.specs.Outcome.{decideRun}
 use Rattle.laws.specs.Over.{Language, LeafFacts, cellName, Over, RowOver, DiffOver, MessageOver}
 use Rattle.laws.specs.Marks.{NamedBelow}
@@ -132,7 +132,7 @@ module _ (text text′ : Message → List ℕ) where
 
   answer-same : (t : Typed) → Alike (t .diagnostics) → answerLines text t ≡ answerLines text′ t
   unfolding answerLines
-  answer-same t h = ap (λ l. (nodeLines 0 (t .tys) ++ l) ++ hexLine (9 ∷ bytes₄ (t .visits))) (lines-same (t .diagnostics) h)
+  answer-same t h = ap (λ l. ((nodeLines 0 (t .tys) ++ l) ++ unusedLines (t .unused)) ++ hexLine (9 ∷ bytes₄ (t .visits))) (lines-same (t .diagnostics) h)
 
   numbered-same : (k : ℕ) (ts : List Typed) → All (λ t. Alike (t .diagnostics)) ts → numbered text k ts ≡ numbered text′ k ts
   unfolding numbered

@@ -45,22 +45,26 @@ pub record Renamed (c c′ : Content) : Type 0 where
 
 -- ---- "Message lines are excepted, and an answer slice large enough for both is assumed."
 
--- a message line, without its LF
-unfoldable pub isMessage : List ℕ → Bool
-unfolding sameText ascii
-isMessage s = sameText (ascii "0a") (take 2 s)
+-- a line of this kind, without its LF
+unfoldable pub ofKind : List ℕ → List ℕ → Bool
+unfolding sameText
+ofKind kind s = sameText kind (take 2 s)
 
-unfoldable pub besideMessages : List Line → List (List ℕ)
-unfolding isMessage
-besideMessages [] = []
-besideMessages (closed s ∷ ls) = elim (isMessage s) [ true ↦ besideMessages ls | false ↦ s ∷ besideMessages ls ]
+unfoldable pub besideKind : List ℕ → List Line → List (List ℕ)
+unfolding ofKind
+besideKind kind [] = []
+besideKind kind (closed s ∷ ls) = elim (ofKind kind s) [ true ↦ besideKind kind ls | false ↦ s ∷ besideKind kind ls ]
 -- what stands after the last LF is no line
-besideMessages (unclosed s ∷ ls) = besideMessages ls
+besideKind kind (unclosed s ∷ ls) = besideKind kind ls
 
--- The lines of an answer slice but for its message lines.
-unfoldable pub linesBeside : List ℕ → List (List ℕ)
-unfolding besideMessages lines
-linesBeside answer = besideMessages (lines answer)
+-- The lines of an answer slice but for those of a kind.
+unfoldable pub linesBut : List ℕ → List ℕ → List (List ℕ)
+unfolding besideKind lines
+linesBut kind answer = besideKind kind (lines answer)
+
+-- But for its message lines.
+abbrev pub linesBeside : List ℕ → List (List ℕ)
+linesBeside answer = linesBut (ascii "0a") answer
 
 -- Whatever slices were lent; the work slice is zero after both (`work-zeros` of crates/meaning/specs/Demands.antt).
 pub record SameBeside (a b : Outcome) : Type 0 where

@@ -13,9 +13,9 @@ use Rattle.unification.proofs.Sides.{side-more}
 use Rattle.unification.proofs.Undo.{Since, since-refl, since-trans, since-length}
 use Rattle.unification.specs.Log.{Log}
 use Rattle.meaning.specs.Diag.{Diagnostic}
-use Rattle.meaning.specs.Check.{Checker, Step, goes, out, Does, andThen}
+use Rattle.meaning.specs.Check.{Checker, Entry, Step, goes, out, Does, andThen}
 use Rattle.meaning.specs.All.{All}
-use Rattle.meaning.specs.Run.{Led}
+use Rattle.meaning.specs.Run.{Led, EntryLed}
 use Rattle.meaning.specs.Grades.{Grade, plus, Fits, unknowns, Orderly, Ready}
 
 -- From the first checker to the second no more was made than the grade allows.
@@ -23,8 +23,10 @@ pub record Made (g : Grade) (c c′ : Checker) : Type 0 where
   pub new : ℕ
   pub since : Since new (c .state) (c′ .state)
   pub unknowns : new ≤ g .unknowns
-  pub pushed : List (ℕ × ℕ)
+  pub pushed : List Entry
   pub env : c′ .env ≡ pushed ++ c .env
+  pub marked : List ℕ
+  pub marks : c′ .marks ≡ marked ++ c .marks
   pub reported : List Diagnostic
   pub diagnostics : c′ .diagnostics ≡ reported ++ c .diagnostics
   pub few : length reported ≤ g .diagnostics
@@ -32,10 +34,11 @@ pub record Made (g : Grade) (c c′ : Checker) : Type 0 where
   pub nodes : length (c′ .state .tys) ≡ length (c .state .tys)
   pub until : c′ .until ≡ c .until
 
--- A list of calls that led to the first leads on to the second, with the same snapshots at hand.
+-- A list of calls that led to the first leads on to the second, with the same snapshots at hand, and to each entry between them.
 unfoldable pub Reached : Checker → Checker → Type 0
 Reached c c′ = (v : ℕ) (tys : List (Option Ty)) (ts : List Taken) → Calls v tys (record { state = c .state; taken = ts })
-    → (newer : List Taken) × Calls v tys (record { state = c′ .state; taken = newer ++ ts })
+    → (newer : List Taken) × Calls v tys (record { state = c′ .state; taken = newer ++ ts }) ×
+    (All (EntryLed v tys) (c .entries) → All (EntryLed v tys) (c′ .entries))
 
 -- The same where the run ended.
 unfoldable pub Stopped : Checker → Checker → Type 0
@@ -48,7 +51,6 @@ pub record Went {A : Type 0} (P : A → Checker → Type 0) (g : Grade) (c : Che
   pub holds : P a c′
 
 pub record Ended (g : Grade) (c c′ : Checker) : Type 0 where
-  pub orderly : Orderly c′
   pub made : Made g c c′
   pub stopped : Stopped c c′
 
@@ -84,6 +86,8 @@ made-refl g c = record {
   unknowns = omega arith;
   pushed = [];
   env = refl;
+  marked = [];
+  marks = refl;
   reported = [];
   diagnostics = refl;
   few = omega arith;
@@ -94,7 +98,7 @@ made-refl g c = record {
 
 pub reached-refl : (c : Checker) → Reached c c
 unfolding Reached
-reached-refl c v tys ts cs = ([], cs)
+reached-refl c v tys ts cs = ([], cs, λ h. h)
 
 pub stays : {A : Type 0} (P : A → Checker → Type 0) (g : Grade) (c : Checker) (a : A) → Orderly c → P a c → Meets P g c (goes a c)
 stays P g c a o p = went (record { orderly = o; made = made-refl g c; reached = reached-refl c; holds = p })
@@ -105,7 +109,9 @@ made-trans g h k a b c f p q = record {
   since = since-trans (p .since) (q .since);
   unknowns = omega (arith, f .unknowns, p .unknowns, q .unknowns);
   pushed = q .pushed ++ p .pushed;
-  env = q .env ∙ ap {B = List (ℕ × ℕ)} (λ es. q .pushed ++ es) (p .env) ∙ sym (append-assoc (q .pushed) (p .pushed) (a .env));
+  env = q .env ∙ ap {B = List Entry} (λ es. q .pushed ++ es) (p .env) ∙ sym (append-assoc (q .pushed) (p .pushed) (a .env));
+  marked = q .marked ++ p .marked;
+  marks = q .marks ∙ ap {B = List ℕ} (λ ms. q .marked ++ ms) (p .marks) ∙ sym (append-assoc (q .marked) (p .marked) (a .marks));
   reported = q .reported ++ p .reported;
   diagnostics = q .diagnostics ∙ ap {B = List Diagnostic} (λ ds. q .reported ++ ds) (p .diagnostics) ∙ sym
       (append-assoc (q .reported) (p .reported) (a .diagnostics));
@@ -122,6 +128,8 @@ made-fits g k a b f p = record {
   unknowns = omega (arith, f .unknowns, p .unknowns);
   pushed = p .pushed;
   env = p .env;
+  marked = p .marked;
+  marks = p .marks;
   reported = p .reported;
   diagnostics = p .diagnostics;
   few = omega (arith, f .diagnostics, p .few);
@@ -135,7 +143,7 @@ unfolding Reached
 reached-trans a b c p q v tys ts cs =
     let x = p v tys ts cs in
     let y = q v tys (x .0 ++ ts) (x .1) in
-    (y .0 ++ x .0, rw (append-assoc (y .0) (x .0) ts) (y .1))
+    (y .0 ++ x .0, rw (append-assoc (y .0) (x .0) ts) (y .1), λ h. y .2 (x .2 h))
 
 stopped-trans : (a b c : Checker) → Reached a b → Stopped b c → Stopped a c
 unfolding Reached Stopped
@@ -171,7 +179,7 @@ module _ {A B : Type 0} (P : A → Checker → Type 0) (Q : B → Checker → Ty
     holds = q .holds;
   })
   went-on {a} {b} p (ended {c′ = e} q) = ended
-      (record { orderly = q .orderly; made = made-trans g h k c b e f (p .made) (q .made); stopped = stopped-trans c b e (p .reached) (q .stopped) })
+      (record { made = made-trans g h k c b e f (p .made) (q .made); stopped = stopped-trans c b e (p .reached) (q .stopped) })
 
   -- A step that is known to go on.
   pub meets-after : {a : A} {b : Checker} {s : Step B} → Ready k c → (Ready g c → Meets P g c (goes a b))
@@ -182,7 +190,7 @@ module _ {A B : Type 0} (P : A → Checker → Type 0) (Q : B → Checker → Ty
       → ((a : A) (b : Checker) → Went P g c a b → Ready h b → Meets Q h b (next a b)) → Meets Q k c (andThen m next)
   unfolding andThen
   joined m next r (went {a} {c′ = b} w) q = went-on w (q a b w (ready-after g h k c b f (w .made) r))
-  joined m next r (ended {c′ = b} w) q = ended (record { orderly = w .orderly; made = made-fits g k c b (fits-left g h k f) (w .made); stopped = w .stopped })
+  joined m next r (ended {c′ = b} w) q = ended (record { made = made-fits g k c b (fits-left g h k f) (w .made); stopped = w .stopped })
 
   pub meets-then : (m : Step A) (next : A → Does B) → Ready k c → (Ready g c → Meets P g c m)
       → ((a : A) (b : Checker) → Went P g c a b → Ready h b → Meets Q h b (next a b)) → Meets Q k c (andThen m next)
@@ -194,11 +202,11 @@ pub meets-from : {A B : Type 0} (P : A → Checker → Type 0) (Q : B → Checke
     → ((a : A) (b : Checker) → Went P g c a b → Meets Q k c (next a b)) → Meets Q k c (andThen m next)
 unfolding andThen
 meets-from P Q g k c m next f (went {a} {c′ = b} w) q = q a b w
-meets-from P Q g k c m next f (ended {c′ = b} w) q = ended (record { orderly = w .orderly; made = made-fits g k c b f (w .made); stopped = w .stopped })
+meets-from P Q g k c m next f (ended {c′ = b} w) q = ended (record { made = made-fits g k c b f (w .made); stopped = w .stopped })
 
 pub meets-fits : {A : Type 0} (P : A → Checker → Type 0) (g k : Grade) (c : Checker) {m : Step A} → Fits g k → Meets P g c m → Meets P k c m
 meets-fits P g k c f (went {c′ = b} w) = went (record { orderly = w .orderly; made = made-fits g k c b f (w .made); reached = w .reached; holds = w .holds })
-meets-fits P g k c f (ended {c′ = b} w) = ended (record { orderly = w .orderly; made = made-fits g k c b f (w .made); stopped = w .stopped })
+meets-fits P g k c f (ended {c′ = b} w) = ended (record { made = made-fits g k c b f (w .made); stopped = w .stopped })
 
 -- Another value, and what holds of it.
 pub went-with : {A B : Type 0} {P : A → Checker → Type 0} {g : Grade} {c b : Checker} {a : A} (Q : B → Checker → Type 0) (x : B) → Went P g c a b

@@ -9,10 +9,11 @@ use native.Mathlib.Omega.{arith}
 use lib.Dec.{ltb}
 use Rattle.unification.specs.Ty.{Ty}
 use Rattle.meaning.specs.All.{All}
+use Rattle.meaning.specs.Syntax.{Span}
 use Rattle.meaning.specs.Diag.{Message, Diagnostic}
 use Rattle.meaning.specs.Check.{Typed}
 use Rattle.meaning.specs.Answer.{diagnosticLine, bytes₂, bytes₄, hexDigit, hexLine, slotBytes, nodeLines, diagnosticBytes, diagnosticLines}
-use Rattle.meaning.specs.Answer.{answerLines, numbered, formLines}
+use Rattle.meaning.specs.Answer.{unusedLine, unusedLines, answerLines, numbered, formLines}
 use Rattle.meaning.proofs.Lists.{all-append}
 use Rattle.meaning.proofs.Tests.{cases}
 
@@ -37,6 +38,11 @@ nodes-nonzero n [] = tt
 nodes-nonzero n (slot ∷ slots) = join (hexLine (7 ∷ bytes₂ n ++ slotBytes slot)) (nodeLines (suc n) slots)
     (line-nonzero (7 ∷ bytes₂ n ++ slotBytes slot)) (nodes-nonzero (suc n) slots)
 
+unused-nonzero : (ss : List Span) → Nonzero (unusedLines ss)
+unfolding unusedLines unusedLine
+unused-nonzero [] = tt
+unused-nonzero (s ∷ ss) = join (unusedLine s) (unusedLines ss) (line-nonzero (0x0c ∷ bytes₄ (s .start) ++ bytes₄ (s .end))) (unused-nonzero ss)
+
 module _ (text : Message → List ℕ) where
   diagnostic-nonzero : (d : Diagnostic) → Nonzero (diagnosticLine text d)
   unfolding diagnosticLine
@@ -51,8 +57,10 @@ module _ (text : Message → List ℕ) where
   answer-nonzero : (t : Typed) → Nonzero (answerLines text t)
   unfolding answerLines
   answer-nonzero t =
-      join (nodeLines 0 (t .tys) ++ diagnosticLines text (t .diagnostics)) (hexLine (9 ∷ bytes₄ (t .visits)))
+      join ((nodeLines 0 (t .tys) ++ diagnosticLines text (t .diagnostics)) ++ unusedLines (t .unused)) (hexLine (9 ∷ bytes₄ (t .visits)))
+      (join (nodeLines 0 (t .tys) ++ diagnosticLines text (t .diagnostics)) (unusedLines (t .unused))
       (join (nodeLines 0 (t .tys)) (diagnosticLines text (t .diagnostics)) (nodes-nonzero 0 (t .tys)) (diagnostics-nonzero (t .diagnostics)))
+      (unused-nonzero (t .unused)))
       (line-nonzero (9 ∷ bytes₄ (t .visits)))
 
   numbered-nonzero : (k : ℕ) (ts : List Typed) → Nonzero (numbered text k ts)

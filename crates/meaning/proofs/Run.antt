@@ -27,12 +27,12 @@ use Rattle.meaning.specs.References.{stmtNodes, queryNodes}
 use Rattle.meaning.specs.File.{Described}
 use Rattle.meaning.specs.All.{All}
 use Rattle.meaning.specs.Sound.{Sound}
-use Rattle.meaning.specs.Check.{Checker, Step, query, begin}
-use Rattle.meaning.specs.Run.{Led, between-calls, at-the-limit, ending, run, RunDemand3, RunAsRobinson}
+use Rattle.meaning.specs.Check.{Checker, Step, goes, query, begin}
+use Rattle.meaning.specs.Run.{Led, EntryLed, between-calls, at-the-limit, ending, run, RunDemand3, RunAsRobinson}
 use Rattle.meaning.specs.Weights.{WellFormed, same, sumOf, total, weight, size, records, recordFields}
 use Rattle.meaning.proofs.Depth.{lower-falls}
 use Rattle.meaning.specs.Grades.{Grade, Orderly, Ready, visiting}
-use Rattle.meaning.proofs.Meets.{Reached, Stopped, Meets, went, ended}
+use Rattle.meaning.proofs.Meets.{Reached, Stopped, Meets, went, ended, going}
 use Rattle.meaning.proofs.Steps.{IsSide}
 use Rattle.meaning.proofs.Visits.{query-meets}
 use Rattle.meaning.proofs.Weights.{weight-once, once-times, total-ones, total-past, total-same, records-size, fields-size}
@@ -61,7 +61,9 @@ begin-orderly ceiling n = record {
   log = record { wf = calls-inv ceiling [] (Calls.begin ceiling []) none-yet .sound .wf; blank = tt; exact = omega (arith, taken-pad [] n) };
   env = tt;
   few = omega arith;
+  marks = omega arith;
   sides = λ m t e. clash (cc (empty n m));
+  awaits = tt;
 }
   where
     empty : (n m : ℕ) → getD (replicate {A = Option Ty} n none) m none ≡ none
@@ -116,13 +118,19 @@ module _ (schema : Schema) (ast : Ast) (wf : WellFormed schema ast) where
   -- ---- The run
   pub run-meets : (ceiling : ℕ) → Meets IsSide (visiting nodes (length nodes) (queryNodes (ast .query))) (begin ceiling (length nodes)) (run schema ast ceiling)
   unfolding run
-  run-meets ceiling = query-meets schema nodes (wf .declared) (ast .query) (begin ceiling (length nodes)) (begin-orderly ceiling (length nodes))
-      (begin-ready ceiling)
+  run-meets ceiling = query-meets schema nodes (wf .declared) (ast .query) (begin ceiling (length nodes)) (unfold begin in refl)
+      (begin-orderly ceiling (length nodes)) (begin-ready ceiling)
 
   -- The run is a list of calls.
   run-led : (ceiling : ℕ) → Led ceiling (replicate (length nodes) none) (ending (run schema ast ceiling) .state)
   unfolding begin Calls.begin
   run-led ceiling = meets-led IsSide _ _ ceiling (replicate (length nodes) none) [] (run schema ast ceiling) none-yet (run-meets ceiling)
+
+  -- Each entry of a run that went to its end.
+  pub run-entries : (ceiling : ℕ) (ty : Ty) (c : Checker) → run schema ast ceiling ≡ goes ty c
+      → All (EntryLed ceiling (replicate (length nodes) none)) (c .entries)
+  unfolding begin Calls.begin Reached
+  run-entries ceiling ty c e = going (rw e at (run-meets ceiling)) .reached ceiling (replicate (length nodes) none) [] none-yet .2 tt
 
   pub run-demand-3 : (ceiling : ℕ) → RunDemand3 schema ast ceiling
   run-demand-3 ceiling = record {

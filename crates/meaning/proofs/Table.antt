@@ -8,7 +8,7 @@ use Rattle.unification.specs.Bindings as Bindings
 use Rattle.unification.specs.Unify as Unify
 use Rattle.meaning.specs.Frame.{wide}
 use Rattle.meaning.specs.File.{typesOf}
-use Rattle.meaning.specs.Table.{text, examples, ownExamples, messageExamples, forms, refusals, limitsOf, holds, Rows, end, _then_, shortWholes, ends}
+use Rattle.meaning.specs.Table.{text, examples, ownExamples, messageExamples, unusedExamples, forms, refusals, limitsOf, holds, Rows, end, _then_, shortWholes, ends}
 
 -- Document 01's list.
 pub table : Rows holds examples
@@ -81,6 +81,26 @@ message-examples =
     -- no binding is followed
     refl then
     -- resolved at its moment
+    refl then
+    end
+
+-- Card 9's.
+pub unused-examples : Rows holds unusedExamples
+unfolding unusedExamples holds ℕ-discrete Bindings.fresh Bindings.freshId Bindings.annotate Bindings.snapshot Bindings.rollback Bindings.zonk Unify.unify Unify.orderable
+unused-examples =
+    -- x < x
+    refl then
+    -- x < 3
+    refl then
+    -- a mark taken back with a field
+    refl then
+    -- a mark of a field that is fine
+    refl then
+    -- a subquery's line in a field that is rolled back
+    refl then
+    -- an entry that a rollback removes
+    refl then
+    -- three entries, in order of leaving
     refl then
     end
 

@@ -3,7 +3,7 @@
 use mathlib.Core.Bool.{Bool, true, false}
 use mathlib.Core.List.{List, [], _∷_}
 use mathlib.Core.Option.{Option, none, some}
-use mathlib.Core.Path.{_≡_, refl}
+use mathlib.Core.Path.{_≡_, refl, ap}
 use Prim.Native.Nat.{ℕ, zero, suc, _+_, _-_, _*_, _≤_}
 use native.Mathlib.Omega.{arith}
 use lib.Dec.{eqb, ltb}
@@ -28,14 +28,14 @@ use Rattle.meaning.specs.Check.{selectOf, accessOf, access, select, fuzz
 use Rattle.meaning.specs.Check.{badTarget, onlyRight, notYet, destructure, bindWildcard, bindForm, denyForm, introduceSide, compareOrder, compare}
 use Rattle.meaning.specs.Check.{generate, stmt, stmts, subquery, inferKind, inferAt, inferThenUnify, checkField, checkMentioned, checkFields}
 use Rattle.meaning.specs.Check.{checkAlternative, checkUnion, checkRecord, checkForm, checkAgainst, checkAt, generateBranches, generatorForm}
-use Rattle.meaning.specs.Check.{generatorAt, walk, headForm, query}
+use Rattle.meaning.specs.Check.{generatorAt, walk, headForm, inferQuery, query}
 use Rattle.meaning.specs.Weights.{same, sumOf, weight, size}
 use Rattle.meaning.specs.Grades.{Grade, plus, Fits, unknowns, Orderly, Ready, no-thing, one-diagnostic, one-unknown, one-node, Known, inferring}
 use Rattle.meaning.specs.Grades.{finding, checking, visiting, within, early, introducing}
 use Rattle.meaning.proofs.Meets.{Made, Went, Meets, going, made-more, made-side, stays, ready-fits, meets-after, meets-then, meets-from, meets-fits}
 use Rattle.meaning.proofs.Meets.{went-with, meets-nest}
 use Rattle.meaning.proofs.Steps.{Nothing, IsSide, IsUnknown, reject-meets, reject-if, reject-unless, freshVarId-meets, made-known, introduce-known}
-use Rattle.meaning.proofs.Steps.{introduce-meets, annotate-meets, unify-meets, unifyAt-meets, orderable-meets, rolled-meets, cut-meets}
+use Rattle.meaning.proofs.Steps.{introduce-meets, annotate-meets, unify-meets, unifyAt-meets, orderable-meets, rolled-meets, leave-meets}
 
 pub size-pos : (nodes : List Node) (d n : ℕ) → 1 ≤ size nodes d n
 unfolding weight
@@ -221,18 +221,18 @@ made-introduced g c c′ (aDisjunction es) m k = tt
 made-introduced g c c′ anError m k = tt
 made-introduced g c c′ another m k = tt
 
-pub introduceSide-meets : (schema : Schema) (nodes : List Node) (f : Form) (c : Checker) → Orderly c
-    → Meets (λ u b. Introduced f b) (introducing f) c (introduceSide schema nodes f c)
+pub introduceSide-meets : (schema : Schema) (nodes : List Node) (n : ℕ) (f : Form) (c : Checker) → Orderly c
+    → Meets (λ u b. Introduced f b) (introducing f) c (introduceSide schema nodes n f c)
 unfolding introduceSide early
-introduceSide-meets schema nodes (aVariable x) c o =
-    meets-from (IsUnknown x) _ one-unknown (introducing (aVariable x)) c (introduce x c) _ (omega arith) (introduce-meets x c o)
+introduceSide-meets schema nodes n (aVariable x) c o =
+    meets-from (IsUnknown x) _ one-unknown (introducing (aVariable x)) c (introduce n x c) _ (omega arith) (introduce-meets n x c o)
     (λ v b w. went-with _ tt w (w .holds .1))
-introduceSide-meets schema nodes aWildcard c o = stays _ (introducing aWildcard) c tt o tt
-introduceSide-meets schema nodes aConstant c o = stays _ (introducing aConstant) c tt o tt
-introduceSide-meets schema nodes (aRecord fs) c o = stays _ (introducing (aRecord fs)) c tt o tt
-introduceSide-meets schema nodes (aDisjunction es) c o = stays _ (introducing (aDisjunction es)) c tt o tt
-introduceSide-meets schema nodes anError c o = stays _ (introducing anError) c tt o tt
-introduceSide-meets schema nodes another c o = stays _ (introducing another) c tt o tt
+introduceSide-meets schema nodes n aWildcard c o = stays _ (introducing aWildcard) c tt o tt
+introduceSide-meets schema nodes n aConstant c o = stays _ (introducing aConstant) c tt o tt
+introduceSide-meets schema nodes n (aRecord fs) c o = stays _ (introducing (aRecord fs)) c tt o tt
+introduceSide-meets schema nodes n (aDisjunction es) c o = stays _ (introducing (aDisjunction es)) c tt o tt
+introduceSide-meets schema nodes n anError c o = stays _ (introducing anError) c tt o tt
+introduceSide-meets schema nodes n another c o = stays _ (introducing another) c tt o tt
 
 -- Only a variable has the form of one.
 pub variable-kind : (k : ExprKind) (x : ℕ) → formOf k ≡ aVariable x → k ≡ ExprKind.Var x
@@ -346,8 +346,8 @@ module _ (schema : Schema) (nodes : List Node) (declared : All DeclaredPredicate
   unfolding bindVariable annotate sumOf
   bindVariable-meets x l r c o y =
       let rest = plus (inferring nodes d r) one-diagnostic in
-      meets-then (IsUnknown x) Nothing one-unknown (plus (one-node l) rest) (visiting nodes d (l ∷ r ∷ [])) c (bind-fits l r) (introduce x c) _ y
-      (λ y′. introduce-meets x c o)
+      meets-then (IsUnknown x) Nothing one-unknown (plus (one-node l) rest) (visiting nodes d (l ∷ r ∷ [])) c (bind-fits l r) (introduce l x c) _ y
+      (λ y′. introduce-meets l x c o)
       (λ v b w y′. meets-after Nothing Nothing (one-node l) rest (plus (one-node l) rest) b (omega arith) y′
       (λ y″. annotate-meets l (Ty.Var v) b (w .orderly) y″ (w .holds .0))
       (λ w′ z. meets-then IsSide Nothing (inferring nodes d r) one-diagnostic rest _ (omega arith) (below .infer r _) _ z (good .infer r _ (w′ .orderly))
@@ -464,9 +464,9 @@ module _ (schema : Schema) (nodes : List Node) (declared : All DeclaredPredicate
         early-late f (size nodes d l) (size-pos nodes d l),
         early-late h (size nodes d r) (size-pos nodes d r),
       ))
-      (introduceSide schema nodes f c) _ y (λ y₁. introduceSide-meets schema nodes f c o)
+      (introduceSide schema nodes l f c) _ y (λ y₁. introduceSide-meets schema nodes l f c o)
       (λ u₁ c₁ w₁ y₁. meets-then (λ u b. Introduced h b) Nothing (introducing h) sides (plus (introducing h) sides) c₁ (omega arith)
-      (introduceSide schema nodes h c₁) _ y₁ (λ y₂. introduceSide-meets schema nodes h c₁ (w₁ .orderly))
+      (introduceSide schema nodes r h c₁) _ y₁ (λ y₂. introduceSide-meets schema nodes r h c₁ (w₁ .orderly))
       (λ u₂ c₂ w₂ y₂. meets-then IsSide Nothing (inferring-late nodes d l f) last sides c₂ (omega arith) (below .infer l c₂) _ y₂
       (λ y₃. infer-late l f c₂ refl (w₂ .orderly) y₃ (made-introduced _ c₁ c₂ f (w₂ .made) (w₁ .holds)))
       (λ t c₃ w₃ y₃. meets-then IsSide Nothing (inferring-late nodes d r h) one-diagnostic last c₃ (omega arith) (below .infer r c₃) _ y₃
@@ -521,7 +521,7 @@ module _ (schema : Schema) (nodes : List Node) (declared : All DeclaredPredicate
       (meets-then Nothing IsSide (visiting nodes d (stmtNodes (q .body))) (inferring nodes d (q .head)) (within nodes d (queryNodes q)) c
       (omega arith) (stmts schema nodes below (q .body) c) _ y
       (stmts-meets (q .body) c o) (λ u b w y′. good .infer (q .head) b (w .orderly) y′))
-      (λ t b w. cut-meets (within nodes d (queryNodes q)) c b t o w))
+      (λ t b w. leave-meets schema nodes (within nodes d (queryNodes q)) c b t o w))
 
   -- ---- `infer`
   pub inferKind-meets : (id : ℕ) (k : ExprKind) (c : Checker) → Orderly c → Ready (within nodes d (exprNodes k)) c
@@ -531,8 +531,8 @@ module _ (schema : Schema) (nodes : List Node) (declared : All DeclaredPredicate
   inferKind-meets id (ExprKind.Lit Literal.Str) c o y = stays IsSide _ c _ o tt
   inferKind-meets id (ExprKind.Lit Literal.Bytes) c o y = stays IsSide _ c _ o tt
   inferKind-meets id (ExprKind.Var x) c o y =
-      meets-from (IsUnknown x) IsSide (within nodes d []) (within nodes d []) c (introduce x c) _ (omega arith)
-      (meets-fits (IsUnknown x) one-unknown (within nodes d []) c (omega arith) (introduce-meets x c o))
+      meets-from (IsUnknown x) IsSide (within nodes d []) (within nodes d []) c (introduce id x c) _ (omega arith)
+      (meets-fits (IsUnknown x) one-unknown (within nodes d []) c (omega arith) (introduce-meets id x c o))
       (λ v b w. went-with IsSide (Ty.Var v) w (w .holds .0))
   inferKind-meets id ExprKind.Wildcard c o y = meets-fits IsSide one-unknown (within nodes d []) c (omega arith) (freshVar-meets c o)
   inferKind-meets id ExprKind.Never c o y = meets-fits IsSide one-unknown (within nodes d []) c (omega arith) (freshVar-meets c o)
@@ -575,7 +575,7 @@ module _ (schema : Schema) (nodes : List Node) (declared : All DeclaredPredicate
       meets-then IsSide IsSide no-thing (one-node id) (finding nodes (suc d) id) c
       (record { nodes = λ z. omega (arith, own-weight nodes (λ m. same z m) (suc d) id); unknowns = omega arith; diagnostics = omega arith })
       (inferKind schema nodes below id (nodeAt nodes id .kind) c) _ y
-      (λ y′. rw e (meets-from (IsUnknown x) IsSide no-thing no-thing c (introduce x c) _ (omega arith) (introduce-known x c o k)
+      (λ y′. rw e (meets-from (IsUnknown x) IsSide no-thing no-thing c (introduce id x c) _ (omega arith) (introduce-known id x c o k)
       (λ v b w. went-with IsSide (Ty.Var v) w (w .holds .0))))
       (λ t b w y′. annotated id t b (w .orderly) y′ (w .holds))
 
@@ -596,14 +596,16 @@ module _ (schema : Schema) (nodes : List Node) (declared : All DeclaredPredicate
           ((elim failed as (λ f. Does (Unit {0})) [
             | none ↦ (λ c. goes tt c)
             | some err ↦
-                (λ b. andThen (rollback (record { state = Bindings.snapshot (c .state); env = length (c .env) }) b) (λ u. report schema nodes id err))
+                (λ b. andThen (rollback (record { state = Bindings.snapshot (c .state); env = length (c .env); marks = length (c .marks) }) b)
+                (λ u. report schema nodes id err))
           ]) b)
       after none b w = meets-fits Nothing (inferring nodes (suc d) id) (checking nodes (suc d) id) c (omega arith) (went-with Nothing tt w tt)
       after (some err) b w =
           meets-then Nothing Nothing (inferring nodes (suc d) id) one-diagnostic (checking nodes (suc d) id) c
-          (omega (arith, size-pos nodes (suc d) id)) (rollback (record { state = Bindings.snapshot (c .state); env = length (c .env) }) b)
+          (omega (arith, size-pos nodes (suc d) id))
+          (rollback (record { state = Bindings.snapshot (c .state); env = length (c .env); marks = length (c .marks) }) b)
           (λ u. report schema nodes id err) y
-          (λ y′. rolled-meets (inferring nodes (suc d) id) c b o (w .made) (w .reached))
+          (λ y′. rolled-meets (inferring nodes (suc d) id) c b o (w .orderly) (w .made) (w .reached))
           (λ u b′ w′ y′. unfold report in reject-meets schema nodes id _ b′ (w′ .orderly))
 
   pub checkField-meets : (n : ℕ) (t : Ty) (c : Checker) → Orderly c → Ready (checking nodes d n) c → Side (unknowns c) t
@@ -614,9 +616,12 @@ module _ (schema : Schema) (nodes : List Node) (declared : All DeclaredPredicate
       (λ u b w. after (ltb (length (c .diagnostics)) (length (b .diagnostics))) u b w)
     where
       after : (grew : Bool) (u : Unit {0}) (b : Checker) → Went Nothing (checking nodes d n) c u b
-          → Meets Nothing (checking nodes d n) c ((elim grew as (λ g. Does (Unit {0}))
-          [ true ↦ rollback (record { state = Bindings.snapshot (c .state); env = length (c .env) }) | false ↦ (λ c. goes tt c) ]) b)
-      after true u b w = rolled-meets (checking nodes d n) c b o (w .made) (w .reached)
+          → Meets Nothing (checking nodes d n) c ((elim grew as (λ g. Does (Unit {0})) [
+            | true ↦ rollback (record { state = Bindings.snapshot (c .state); env = length (c .env); marks = length (c .marks) })
+            | false ↦
+                (λ c. goes tt c)
+          ]) b)
+      after true u b w = rolled-meets (checking nodes d n) c b o (w .orderly) (w .made) (w .reached)
       after false u b w = went-with Nothing tt w tt
 
   pub checkFields-meets : (fs : List Syntax.Field) (row : Row) (c : Checker) → Orderly c → Ready (visiting nodes d (fieldValues fs)) c
@@ -788,10 +793,10 @@ module _ (schema : Schema) (nodes : List Node) (declared : All DeclaredPredicate
   headForm-meets n (aDisjunction es) c o = stays Nothing one-diagnostic c tt o tt
   headForm-meets n another c o = stays Nothing one-diagnostic c tt o tt
 
-  pub query-meets : (q : Query) (c : Checker) → Orderly c → Ready (visiting nodes (length nodes) (queryNodes q)) c
-      → Meets IsSide (visiting nodes (length nodes) (queryNodes q)) c (query schema nodes q c)
-  unfolding query queryNodes sumOf
-  query-meets q c o y =
+  pub inferQuery-meets : (q : Query) (c : Checker) → Orderly c → Ready (visiting nodes (length nodes) (queryNodes q)) c
+      → Meets IsSide (visiting nodes (length nodes) (queryNodes q)) c (inferQuery schema nodes q c)
+  unfolding inferQuery queryNodes sumOf
+  inferQuery-meets q c o y =
       let d = length nodes in
       let good = walk-good d in
       let head = plus one-diagnostic (inferring nodes d (q .head)) in
@@ -801,3 +806,12 @@ module _ (schema : Schema) (nodes : List Node) (declared : All DeclaredPredicate
       (λ u b w y′. meets-then Nothing IsSide one-diagnostic (inferring nodes d (q .head)) head b (omega arith)
       (headForm schema nodes (q .head) (form schema nodes (q .head)) b) _ y′ (λ y″. headForm-meets (q .head) (form schema nodes (q .head)) b (w .orderly))
       (λ u′ b′ w′ y″. good .infer (q .head) b′ (w′ .orderly) y″))
+
+  -- From an environment without an entry.
+  pub query-meets : (q : Query) (c : Checker) → c .env ≡ [] → Orderly c → Ready (visiting nodes (length nodes) (queryNodes q)) c
+      → Meets IsSide (visiting nodes (length nodes) (queryNodes q)) c (query schema nodes q c)
+  unfolding query
+  query-meets q c e o y =
+      let g = visiting nodes (length nodes) (queryNodes q) in
+      meets-from IsSide IsSide g g c (inferQuery schema nodes q c) _ (omega arith) (inferQuery-meets q c o y)
+      (λ t b w. rw (ap length e) at (leave-meets schema nodes g c b t o w))

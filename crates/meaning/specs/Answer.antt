@@ -1,11 +1,12 @@
 -- The bytes of the answer (document 01, "Frame lines", "The answer"): for each node a line 07, for each diagnostic a line
--- 08 and one 0a with the text of its message, in lower-case hexadecimal, each closed by LF.
+-- 08 and one 0a with the text of its message, in lower-case hexadecimal, each closed by LF. Then card 9's lines 0c and card 7's 09.
 use mathlib.Core.Bool.{true, false}
 use mathlib.Core.List.{List, [], _∷_, _++_}
 use mathlib.Core.Option.{Option, none, some}
 use Prim.Native.Nat.{ℕ, suc, _+_, _/_, _%_}
 use lib.Dec.{ltb}
 use Rattle.unification.specs.Ty.{Leaf, Kind, Ty, Row, rowLen}
+use Rattle.meaning.specs.Syntax.{Span}
 use Rattle.meaning.specs.Diag.{Message, Diagnostic, ascii, asStr, codeOf}
 use Rattle.meaning.specs.Check.{Typed}
 
@@ -74,6 +75,16 @@ unfoldable pub diagnosticBytes : Diagnostic → List ℕ
 unfolding bytes₄ ascii asStr codeOf
 diagnosticBytes d = 8 ∷ bytes₄ (d .span .start) ++ bytes₄ (d .span .end) ++ ascii (asStr (codeOf (d .message)))
 
+-- Card 9: "a line 0c with the span of the node that made it"
+unfoldable pub unusedLine : Span → List ℕ
+unfolding hexLine bytes₄
+unusedLine s = hexLine (0x0c ∷ bytes₄ (s .start) ++ bytes₄ (s .end))
+
+unfoldable pub unusedLines : List Span → List ℕ
+unfolding unusedLine
+unusedLines [] = []
+unusedLines (s ∷ ss) = unusedLine s ++ unusedLines ss
+
 -- How a message is written is asked for, so that laws can speak of answers without their texts.
 module _ (text : Message → List ℕ) where
   unfoldable pub diagnosticLine : Diagnostic → List ℕ
@@ -87,8 +98,8 @@ module _ (text : Message → List ℕ) where
 
   -- Card 7: "ends with a line 09 and the visits of that query (4 bytes)"
   unfoldable pub answerLines : Typed → List ℕ
-  unfolding nodeLines diagnosticLines hexLine bytes₄
-  answerLines t = (nodeLines 0 (t .tys) ++ diagnosticLines (t .diagnostics)) ++ hexLine (9 ∷ bytes₄ (t .visits))
+  unfolding nodeLines diagnosticLines unusedLines hexLine bytes₄
+  answerLines t = ((nodeLines 0 (t .tys) ++ diagnosticLines (t .diagnostics)) ++ unusedLines (t .unused)) ++ hexLine (9 ∷ bytes₄ (t .visits))
 
   -- ---- A form (card 3)
 

@@ -5,28 +5,40 @@ use mathlib.Core.List.{List, [], _∷_, map}
 use mathlib.Core.Option.{Option, none, some}
 use Prim.Native.Nat.{ℕ, zero, suc, _-_}
 use lib.Dec.{eqb, ltb}
-use lib.ListN.{length, getD, drop, replicate}
+use lib.ListN.{length, getD, take, drop, replicate}
 use Rattle.unification.specs.Ty.{Leaf, Kind, Ty, Row}
 use Rattle.unification.specs.Bindings as Bindings
 use Rattle.unification.specs.Bindings.{Answer, State, Snapshot, History}
 use Rattle.unification.specs.Unify as Unify
 use Rattle.unification.specs.Unify.{TyError, Unified, findKey, findLabel}
-use Rattle.meaning.specs.Syntax.{Field, QueryStmt, Query, FieldRef, Literal, ExprKind, Node, Ast, nodeAt, isDestructurable}
+use Rattle.unification.specs.Calls as Calls
+use Rattle.meaning.specs.Syntax.{Span, Field, QueryStmt, Query, FieldRef, Literal, ExprKind, Node, Ast, nodeAt, isDestructurable}
 use Rattle.meaning.specs.Schema.{Schema, get, fieldOf}
 use Rattle.meaning.specs.Diag.{Message, Diagnostic}
 
 -- ---- The state, and steps over it
 
--- What ends a run early besides the visits: nothing, or its first diagnostic (card 4).
+-- What ends a run early besides the visits: nothing, its first diagnostic (card 4), or its n-th entry to `unify`, counted from 0 (card 12).
 pub data Until : Type 0 where
   theEnd firstDiagnostic : Until
+  entry : ℕ → Until
 
--- `Checker`. The environment (variable, unknown) and the diagnostics are newest first.
+-- An entry of the environment: the variable, its unknown, and the node that made the entry (card 9). No unknown has two entries.
+pub record Entry : Type 0 where
+  pub symbol : ℕ
+  pub unknown : ℕ
+  pub maker : ℕ
+
+-- `Checker`. Every list is newest first. For card 12: the entries to `unify` from outside it. For card 9: the marks, by the unknowns of
+-- the entries of the environment that are marked as used, and the spans of the nodes whose entries left unmarked.
 pub record Checker : Type 0 where
   pub state : State
-  pub env : List (ℕ × ℕ)
+  pub env : List Entry
   pub diagnostics : List Diagnostic
+  pub entries : List Calls.Entry
   pub until : Until
+  pub marks : List ℕ
+  pub unused : List Span
 
 -- A step goes on with a value, or the run ends in it: the visits ran out, or what it was to last until has come.
 pub data Step (A : Type 0) : Type 0 where
@@ -54,17 +66,26 @@ return a c = goes a c
 -- ---- State (ty.rs, "state")
 
 unfoldable pub withState : Checker → State → Checker
-withState c st = record { state = st; env = c .env; diagnostics = c .diagnostics; until = c .until }
+withState c st = record { state = st; env = c .env; diagnostics = c .diagnostics; entries = c .entries; until = c .until; marks = c .marks; unused = c .unused }
 
-unfoldable pub withEnv : Checker → List (ℕ × ℕ) → Checker
-withEnv c es = record { state = c .state; env = es; diagnostics = c .diagnostics; until = c .until }
+unfoldable pub withEnv : Checker → List Entry → Checker
+withEnv c es = record { state = c .state; env = es; diagnostics = c .diagnostics; entries = c .entries; until = c .until; marks = c .marks; unused = c .unused }
 
--- The same, to last until its first diagnostic.
-unfoldable pub lighted : Checker → Checker
-lighted c = record { state = c .state; env = c .env; diagnostics = c .diagnostics; until = firstDiagnostic }
+unfoldable pub withMarks : Checker → List ℕ → Checker
+withMarks c ms = record { state = c .state; env = c .env; diagnostics = c .diagnostics; entries = c .entries; until = c .until; marks = ms; unused = c .unused }
+
+unfoldable pub withUnused : Checker → List Span → Checker
+withUnused c ss = record { state = c .state; env = c .env; diagnostics = c .diagnostics; entries = c .entries; until = c .until; marks = c .marks; unused = ss }
+
+-- The same, to last until something else.
+unfoldable pub lasting : Until → Checker → Checker
+lasting u c = record { state = c .state; env = c .env; diagnostics = c .diagnostics; entries = c .entries; until = u; marks = c .marks; unused = c .unused }
 
 unfoldable pub withDiagnostics : Checker → List Diagnostic → Checker
-withDiagnostics c ds = record { state = c .state; env = c .env; diagnostics = ds; until = c .until }
+withDiagnostics c ds = record { state = c .state; env = c .env; diagnostics = ds; entries = c .entries; until = c .until; marks = c .marks; unused = c .unused }
+
+unfoldable pub withEntries : Checker → List Calls.Entry → Checker
+withEntries c es = record { state = c .state; env = c .env; diagnostics = c .diagnostics; entries = es; until = c .until; marks = c .marks; unused = c .unused }
 
 -- `fresh_var_id`
 unfoldable pub freshVarId : Does ℕ
@@ -78,30 +99,45 @@ freshVar = do
   var ← freshVarId
   return (Ty.Var var)
 
--- `lookup`, newest first
-unfoldable pub lookupIn : List (ℕ × ℕ) → ℕ → Option ℕ
+-- `lookup`, newest first; it tells which entry was found
+unfoldable pub lookupIn : List Entry → ℕ → Option Entry
 lookupIn [] symbol = none
-lookupIn (e ∷ es) symbol = elim (eqb (e .0) symbol) [ true ↦ some (e .1) | false ↦ lookupIn es symbol ]
+lookupIn (e ∷ es) symbol = elim (eqb (e .symbol) symbol) [ true ↦ some e | false ↦ lookupIn es symbol ]
 
-unfoldable pub lookup : ℕ → Does (Option ℕ)
+unfoldable pub lookup : ℕ → Does (Option Entry)
 unfolding lookupIn
 lookup symbol c = goes (lookupIn (c .env) symbol) c
 
 -- `env.push`
-unfoldable pub pushEnv : ℕ → ℕ → Does (Unit {0})
+unfoldable pub pushEnv : ℕ → ℕ → ℕ → Does (Unit {0})
 unfolding withEnv
-pushEnv symbol var c = goes tt (withEnv c ((symbol, var) ∷ c .env))
+pushEnv node symbol var c = goes tt (withEnv c (record { symbol = symbol; unknown = var; maker = node } ∷ c .env))
 
--- The unknown of a variable; one that is new is introduced.
-unfoldable pub introduce : ℕ → Does ℕ
-unfolding lookup freshVarId pushEnv andThen
-introduce symbol = do
+unfoldable pub isIn : ℕ → List ℕ → Bool
+isIn x [] = false
+isIn x (y ∷ ys) = elim (eqb y x) [ true ↦ true | false ↦ isIn x ys ]
+
+-- Card 9: an entry that a node finds is marked, once, "unless the node that made it is the one looking".
+unfoldable pub marked : ℕ → Entry → List ℕ → List ℕ
+unfolding isIn
+marked node e ms = elim (eqb (e .maker) node) [ true ↦ ms | false ↦ elim (isIn (e .unknown) ms) [ true ↦ ms | false ↦ e .unknown ∷ ms ] ]
+
+unfoldable pub mark : ℕ → Entry → Does (Unit {0})
+unfolding marked withMarks
+mark node e c = goes tt (withMarks c (marked node e (c .marks)))
+
+-- The unknown of a variable that a node names; one that is new is introduced. Every look-up is one of these.
+unfoldable pub introduce : ℕ → ℕ → Does ℕ
+unfolding lookup mark freshVarId pushEnv andThen
+introduce node symbol = do
   known ← lookup symbol
   elim known [
-    | some var ↦ return var
+    | some e ↦ do
+      mark node e
+      return (e .unknown)
     | none ↦ do
       var ← freshVarId
-      pushEnv symbol var
+      pushEnv node symbol var
       return var
   ]
 
@@ -121,9 +157,30 @@ unified c (Unified.Ok st) = goes none (withState c st)
 unified c (Unified.Err e st) = goes (some e) (withState c st)
 unified c (Unified.Spent st) = out (withState c st)
 
-unfoldable pub unify : Ty → Ty → Does (Option TyError)
+unfoldable pub united : Ty → Ty → Does (Option TyError)
 unfolding unified
-unify got expected c = unified c (Unify.unify (c .state) got expected)
+united got expected c = unified c (Unify.unify (c .state) got expected)
+
+-- The entry is noted before it is made; nothing but a run that is to last until it reads what was noted.
+unfoldable pub entered : Ty → Ty → Checker → Checker
+unfolding withEntries
+entered got expected c = withEntries c (record { before = c .state .subst; got = got; expected = expected } ∷ c .entries)
+
+unfoldable pub arrived : Until → Does (Unit {0})
+arrived theEnd c = goes tt c
+arrived firstDiagnostic c = goes tt c
+arrived (entry n) c = elim (ltb n (length (c .entries))) [ true ↦ out c | false ↦ goes tt c ]
+
+unfoldable pub enter : Ty → Ty → Does (Unit {0})
+unfolding entered arrived
+enter got expected c = arrived (c .until) (entered got expected c)
+
+-- From outside: the only place of this file that calls `unify`.
+unfoldable pub unify : Ty → Ty → Does (Option TyError)
+unfolding enter united andThen
+unify got expected = do
+  enter got expected
+  united got expected
 
 -- `zonk`
 unfoldable pub zonk : Ty → Does Ty
@@ -140,24 +197,30 @@ unfoldable pub orderable : Ty → Does Bool
 unfolding ordered
 orderable ty c = ordered c (Unify.orderable (Bindings.zonk (c .state .subst) ty) (c .state .left))
 
--- `Snapshot`, with the environment's length
+-- `Snapshot`, with the lengths of the environment and of the marks
 pub record Mark : Type 0 where
   pub state : Snapshot
   pub env : ℕ
+  pub marks : ℕ
 
 -- `snapshot`
 unfoldable pub snapshot : Does Mark
-snapshot c = goes (record { state = Bindings.snapshot (c .state); env = length (c .env) }) c
+snapshot c = goes (record { state = Bindings.snapshot (c .state); env = length (c .env); marks = length (c .marks) }) c
 
 -- `env.truncate`
 unfoldable pub truncateEnv : ℕ → Does (Unit {0})
 unfolding withEnv
 truncateEnv n c = goes tt (withEnv c (drop (length (c .env) - n) (c .env)))
 
--- `rollback`
+-- Marks are taken back.
+unfoldable pub truncateMarks : ℕ → Does (Unit {0})
+unfolding withMarks
+truncateMarks n c = goes tt (withMarks c (drop (length (c .marks) - n) (c .marks)))
+
+-- `rollback`; what left before it stays so
 unfoldable pub rollback : Mark → Does (Unit {0})
-unfolding truncateEnv withState
-rollback at c = truncateEnv (at .env) (withState c (Bindings.rollback (c .state) (at .state)))
+unfolding truncateEnv truncateMarks withState andThen
+rollback at c = andThen (truncateEnv (at .env) (withState c (Bindings.rollback (c .state) (at .state)))) (λ _. truncateMarks (at .marks))
 
 -- `env.len()`, `diagnostics.len()`
 unfoldable pub envLen : Does ℕ
@@ -204,7 +267,7 @@ messageOf TyError.Infinite = Message.infinite
 
 -- A diagnostic was made.
 unfoldable pub reported : Does (Unit {0})
-reported c = elim (c .until) [ theEnd ↦ goes tt c | firstDiagnostic ↦ out c ]
+reported c = elim (c .until) [ theEnd ↦ goes tt c | firstDiagnostic ↦ out c | entry n ↦ goes tt c ]
 
 unfoldable pub isSome : {A : Type 0} → Option A → Bool
 isSome none = false
@@ -224,6 +287,19 @@ module _ (schema : Schema) (nodes : List Node) where
   unfoldable pub form : ℕ → Form
   unfolding kind formOf
   form n = formOf (kind n)
+
+  -- ---- Entries that leave (card 9)
+
+  -- The spans of the makers of those that are unmarked, "oldest entry first", after the spans that there were.
+  unfoldable pub leaving : List ℕ → List Entry → List Span → List Span
+  unfolding isIn nodeAt
+  leaving marks [] spans = spans
+  leaving marks (e ∷ es) spans = elim (isIn (e .unknown) marks) [ true ↦ leaving marks es spans | false ↦ nodeAt nodes (e .maker) .span ∷ leaving marks es spans ]
+
+  -- `env.truncate` at the end of a subquery, and the end of the query
+  unfoldable pub leave : ℕ → Does (Unit {0})
+  unfolding leaving withEnv withUnused
+  leave n c = goes tt (withUnused (withEnv c (drop (length (c .env) - n) (c .env))) (leaving (c .marks) (take (length (c .env) - n) (c .env)) (c .unused)))
 
   -- ---- Diagnostics
 
@@ -388,7 +464,7 @@ module _ (schema : Schema) (nodes : List Node) where
   unfoldable pub bindVariable : Walk → ℕ → ℕ → ℕ → Does (Unit {0})
   unfolding introduce annotate unifyAt andThen
   bindVariable below symbol lhs rhs = do
-    var ← introduce symbol
+    var ← introduce lhs symbol
     annotate lhs (Ty.Var var)
     ty ← below .infer rhs
     unifyAt rhs ty (Ty.Var var)
@@ -452,17 +528,17 @@ module _ (schema : Schema) (nodes : List Node) where
   denyForm below Form.another lhs rhs = notYet below Message.deniedPattern lhs rhs
 
   -- A side of a comparison that is a variable is introduced before anything is inferred.
-  unfoldable pub introduceSide : Form → Does (Unit {0})
+  unfoldable pub introduceSide : ℕ → Form → Does (Unit {0})
   unfolding introduce andThen
-  introduceSide (Form.aVariable symbol) = do
-    introduce symbol
+  introduceSide node (Form.aVariable symbol) = do
+    introduce node symbol
     return tt
-  introduceSide Form.aWildcard = return tt
-  introduceSide Form.aConstant = return tt
-  introduceSide Form.anError = return tt
-  introduceSide (Form.aRecord fs) = return tt
-  introduceSide (Form.aDisjunction es) = return tt
-  introduceSide Form.another = return tt
+  introduceSide node Form.aWildcard = return tt
+  introduceSide node Form.aConstant = return tt
+  introduceSide node Form.anError = return tt
+  introduceSide node (Form.aRecord fs) = return tt
+  introduceSide node (Form.aDisjunction es) = return tt
+  introduceSide node Form.another = return tt
 
   -- The two sides agree: the type must have an order.
   unfoldable pub compareOrder : ℕ → Ty → Does (Unit {0})
@@ -476,8 +552,8 @@ module _ (schema : Schema) (nodes : List Node) where
   unfoldable pub compare : Walk → ℕ → ℕ → Does (Unit {0})
   unfolding introduceSide form unify report compareOrder andThen
   compare below lhs rhs = do
-    introduceSide (form lhs)
-    introduceSide (form rhs)
+    introduceSide lhs (form lhs)
+    introduceSide rhs (form rhs)
     left ← below .infer lhs
     right ← below .infer rhs
     failed ← unify right left
@@ -507,12 +583,12 @@ module _ (schema : Schema) (nodes : List Node) where
 
   -- A subquery's variables are its own: the environment is cut back, and only that.
   unfoldable pub subquery : Walk → Query → Does Ty
-  unfolding envLen stmts truncateEnv andThen
+  unfolding envLen stmts leave andThen
   subquery below q = do
     scope ← envLen
     stmts below (q .body)
     ty ← below .infer (q .head)
-    truncateEnv scope
+    leave scope
     return ty
 
   -- ---- `infer`
@@ -530,7 +606,7 @@ module _ (schema : Schema) (nodes : List Node) where
   inferKind below id ExprKind.Wildcard = freshVar
   inferKind below id ExprKind.Error = return Ty.Error
   inferKind below id (ExprKind.Var symbol) = do
-    var ← introduce symbol
+    var ← introduce id symbol
     return (Ty.Var var)
   inferKind below id (ExprKind.Arith operands) = do
     inferAll below (Ty.leaf Leaf.Int) operands
@@ -692,17 +768,27 @@ module _ (schema : Schema) (nodes : List Node) where
   headForm head Form.another = return tt
 
   -- `query`: the head is inferred last, since it reads variables that the body binds.
-  unfoldable pub query : Query → Does Ty
+  unfoldable pub inferQuery : Query → Does Ty
   unfolding walk stmts headForm form andThen
-  query q = do
+  inferQuery q = do
     stmts (walk (length nodes)) (q .body)
     headForm (q .head) (form (q .head))
     walk (length nodes) .infer (q .head)
 
--- `check`: what each node's type is, resolved, and the diagnostics in order; or the visits ran out.
+  -- At its end every entry leaves.
+  unfoldable pub query : Query → Does Ty
+  unfolding inferQuery leave andThen
+  query q = do
+    ty ← inferQuery q
+    leave 0
+    return ty
+
+-- `check`: what each node's type is, resolved, the diagnostics in order, and the spans of entries that left unmarked, in order of
+-- leaving; or the visits ran out.
 pub record Typed : Type 0 where
   pub tys : List (Option Ty)
   pub diagnostics : List Diagnostic
+  pub unused : List Span
   pub visits : ℕ
 
 pub data Checked : Type 0 where
@@ -715,7 +801,10 @@ beginUntil until ceiling n = record {
   state = record { subst = []; tys = replicate n none; undo = []; left = ceiling; history = History.start };
   env = [];
   diagnostics = [];
+  entries = [];
   until = until;
+  marks = [];
+  unused = [];
 }
 
 unfoldable pub begin : ℕ → ℕ → Checker
@@ -735,6 +824,7 @@ unfolding zonked reversed
 checked ceiling (goes ty c) = typed (record {
   tys = map (zonked (c .state)) (c .state .tys);
   diagnostics = reversed (c .diagnostics) [];
+  unused = reversed (c .unused) [];
   visits = ceiling - c .state .left;
 })
 checked ceiling (out c) = exhausted

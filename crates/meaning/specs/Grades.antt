@@ -1,5 +1,6 @@
 -- What a step of the checker may make. A grade says how often each node may be annotated, how many unknowns and how many diagnostics a step may
 -- make; the grades of steps add up.
+use mathlib.Core.Bool.{true, false}
 use mathlib.Core.List.{List}
 use mathlib.Core.Option.{none, some}
 use mathlib.Core.Path.{_≡_}
@@ -9,9 +10,10 @@ use Rattle.unification.specs.Ty.{Ty}
 use Rattle.unification.specs.Calls.{Side}
 use Rattle.unification.specs.Log.{Log}
 use Rattle.meaning.specs.Syntax.{Node}
-use Rattle.meaning.specs.Check.{Checker, lookupIn, Form, aWildcard, aVariable, aConstant, aRecord, aDisjunction, anError, another}
+use Rattle.meaning.specs.Check.{Checker, Entry, lookupIn, isIn, Form, aWildcard, aVariable, aConstant, aRecord, aDisjunction, anError, another}
 use Rattle.meaning.specs.All.{All}
-use Rattle.meaning.specs.Weights.{same, sumOf, weight, size}
+use Rattle.meaning.specs.Run.{NotYet}
+use Rattle.meaning.specs.Weights.{same, sumOf, total, weight, size}
 
 -- ---- Grades
 pub record Grade : Type 0 where
@@ -33,13 +35,23 @@ pub record Fits (g h : Grade) : Type 0 where
 abbrev pub unknowns : Checker → ℕ
 unknowns c = length (c .state .subst)
 
--- Every type of the state is over its unknowns, the environment holds no more entries than there are unknowns, and the undo
--- log is in order.
+-- How many of the first n unknowns are marked.
+unfoldable pub present : List ℕ → ℕ → ℕ
+unfolding isIn
+present marks x = elim (isIn x marks) [ true ↦ 1 | false ↦ 0 ]
+
+abbrev pub marksBelow : List ℕ → ℕ → ℕ
+marksBelow marks n = total (present marks) n
+
+-- Every type of the state is over its unknowns, entries of the environment and those that left unmarked are together no more than there
+-- are unknowns, none is marked twice, the undo log is in order, and what the run is to last until has not come.
 pub record Orderly (c : Checker) : Type 0 where
   pub log : Log (c .state)
-  pub env : All (λ e. e .1 < unknowns c) (c .env)
-  pub few : length (c .env) ≤ unknowns c
+  pub env : All (λ e. e .unknown < unknowns c) (c .env)
+  pub few : length (c .env) + length (c .unused) ≤ unknowns c
+  pub marks : length (c .marks) ≤ marksBelow (c .marks) (unknowns c)
   pub sides : (n : ℕ) (t : Ty) → getD (c .state .tys) n none ≡ some t → Side (unknowns c) t
+  pub awaits : NotYet (c .until) (c .diagnostics) (c .entries)
 
 -- The nodes of a grade exist, have no type yet, and are each annotated at most once.
 pub record Ready (g : Grade) (c : Checker) : Type 0 where
@@ -62,7 +74,7 @@ one-node n = record { nodes = λ x. same x n; unknowns = 0; diagnostics = 0 }
 
 -- The environment has this variable.
 abbrev pub Known : ℕ → Checker → Type 0
-Known x c = (v : ℕ) × (lookupIn (c .env) x ≡ some v)
+Known x c = (e : Entry) × (lookupIn (c .env) x ≡ some e)
 
 -- ---- Grades of visits
 

@@ -16,7 +16,7 @@ use Rattle.runs.specs.CodeRan.{StandsAt, CodeRan}
 
 stands-at : {f w buf : List ℕ} {d : Described} {r : Done} (s : Step Tree.Ty) → Ran f w buf d r s → StandsAt w r s
 stands-at (goes ty c) (to-the-end T R t e) = (e, (T, R .holds))
-stands-at (out c) (ended-early T R t e) = (e, (T, R .holds))
+stands-at (out c) (ended-early T R t k e) = (e, (T, R .holds))
 
 pub code-ran : {f w buf w′ buf′ : List ℕ} {T : Rows} {d : Described} {ceiling : ℕ} {r : Done}
     → Sound d → Stands f w T d → Queries f w buf Until.TheEnd ceiling w′ buf′ r → CodeRan w′ d ceiling r

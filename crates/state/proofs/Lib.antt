@@ -5,6 +5,8 @@ pub mod Reporting
 pub mod Telling
 pub mod Lining
 pub mod Scoping
+pub mod Leaving
 pub mod Recording
 pub mod Starting
 pub mod Lined
+pub mod Arriving

@@ -5,7 +5,7 @@ use native.Mathlib.Omega.{arith}
 use Prim.Native.Nat.{ℕ, _+_, _<_, _≤_}
 use lib.ListN.{length, getD, set}
 use lib.Seq.{getD-set-same}
-use Rattle.work.specs.Layout.{ENV-LEN, DIAGNOSTIC-COUNT, UNKNOWNS, PLACE, PLACE-HIGH, FULL, UNTIL, LEFT, ENV}
+use Rattle.work.specs.Layout.{ENV-LEN, DIAGNOSTIC-COUNT, UNKNOWNS, PLACE, PLACE-HIGH, FULL, UNTIL, LEFT, STOP, ENTERED, MARK-COUNT, UNUSED-COUNT, ENV}
 use Rattle.cells.specs.Stands.{Rows, Keeps}
 use Rattle.cells.proofs.Frame.{keeps-refl, keeps-wider, keeps-set}
 use Rattle.cells.proofs.Elsewhere.{SameState}
@@ -14,7 +14,7 @@ use Rattle.meaning.specs.Diag as Diag
 use Rattle.meaning.specs.Diag.{Diagnostic}
 use Rattle.meaning.specs.Sound.{Sound}
 use Rattle.meaning.specs.File.{Described}
-use Rattle.meaning.specs.Check.{Checker, theEnd, firstDiagnostic, withDiagnostics, reversed}
+use Rattle.meaning.specs.Check.{Checker, firstDiagnostic, withDiagnostics, reversed}
 use Rattle.meaning.specs.Messages.{messageText}
 use Rattle.meaning.specs.Answer.{diagnosticLine, diagnosticLines}
 use Rattle.messages.specs.declared.Message.{Message}
@@ -23,20 +23,20 @@ use Rattle.state.specs.declared.Done.{Done}
 use Rattle.state.specs.declared.Done.the-variants as Done
 use Rattle.state.specs.Words.{countedW}
 use Rattle.state.specs.Runs.{Runs, Grew}
-use Rattle.state.specs.Lines.{AFTER-LEFT, diagnosed, Lines, within, Told, Halts, goes-on, ends-here, Rejected}
-use Rattle.state.proofs.Running.{env-same, grew-trans, same-grew, runs-aside}
+use Rattle.state.specs.Lines.{AFTER-SIDES, diagnosed, Lines, within, untilW, Told, Halts, goes-on, ends-here, Rejected}
+use Rattle.state.proofs.Running.{grew-trans, same-grew, Unscoped, scopes-same, runs-aside}
 use Rattle.state.proofs.Reporting.{count-other, count-runs, count-grew}
 use Rattle.state.proofs.Telling.{span-at}
 use Rattle.state.proofs.Lining.{Unlined, lines-same, told-same}
 
-pub keeps-unlined : {a e : ℕ} {w w′ : List ℕ} → AFTER-LEFT ≤ a → Keeps a e w w′ → Unlined w w′
+pub keeps-unlined : {a e : ℕ} {w w′ : List ℕ} → AFTER-SIDES ≤ a → Keeps a e w w′ → Unlined w w′
 keeps-unlined h K = record { at = λ i l k. K .below i (omega arith) }
 
 pub same-unlined : {w : List ℕ} → Unlined w w
 same-unlined = record { at = λ i l k. refl }
 
 -- ---- Words of the lines alone changed
-module _ {f w w′ : List ℕ} {T : Rows} {d : Described} {c : Checker} (sound : Sound d) (R : Runs f w T d c) (K : Keeps PLACE AFTER-LEFT w w′) where
+module _ {f w w′ : List ℕ} {T : Rows} {d : Described} {c : Checker} (sound : Sound d) (R : Runs f w T d c) (K : Keeps PLACE AFTER-SIDES w w′) where
   place-aside : SameState w w′
   place-aside = record {
     cells = record {
@@ -50,10 +50,13 @@ module _ {f w w′ : List ℕ} {T : Rows} {d : Described} {c : Checker} (sound :
   pub place-runs : Runs f w′ T d c
   place-runs =
       let count = K .below DIAGNOSTIC-COUNT (omega arith) in
-      let len = K .below ENV-LEN (omega arith) in
-      runs-aside sound R place-aside refl
-      (R .env ∙ sym (rw len (env-same w w′ (getD w ENV-LEN 0) (λ i h. K .above (ENV + i) (omega arith)))))
-      (omega (arith, len, R .few-env))
+      let quiet : Unscoped w w′ = record {
+        env = K .below ENV-LEN (omega arith);
+        marks = K .above MARK-COUNT (omega arith);
+        unused = K .above UNUSED-COUNT (omega arith);
+        at = λ i l h. K .above i (omega arith);
+      } in
+      runs-aside sound R place-aside refl (scopes-same quiet refl refl refl (R .scopes))
       (R .diagnostics ∙ sym count)
       (omega (arith, count, R .few-diagnostics))
 
@@ -82,7 +85,7 @@ module _ (text : Diag.Message → List ℕ) where
       ∙ ap (λ (l : List ℕ). diagnosticLines text (reversed ds []) ++ l) (append-nil (diagnosticLine text d))
 
 -- ---- `reject`
-halts-keeps : {w w′ : List ℕ} {left : ℕ} {r : Done} → Halts w left w′ r → Keeps PLACE AFTER-LEFT w w′
+halts-keeps : {w w′ : List ℕ} {left : ℕ} {r : Done} → Halts w left w′ r → Keeps PLACE AFTER-SIDES w w′
 halts-keeps (goes-on q) = keeps-refl
 halts-keeps {w} {left = left} (ends-here q) = keeps-set w LEFT left (omega arith) (omega arith)
 
@@ -94,7 +97,7 @@ module _ {f w o w′ o′ : List ℕ} {T : Rows} {d : Described} {c : Checker} (
   abbrev after : Checker
   after = withDiagnostics c (diagnosed T (c .state .subst) m (nodeAt (d .ast .nodes) n .span) ∷ c .diagnostics)
 
-  told-keeps : Keeps PLACE AFTER-LEFT w (X .between)
+  told-keeps : Keeps PLACE AFTER-SIDES w (X .between)
   told-keeps = keeps-wider (omega arith) (omega arith) (X .tells .keeps)
 
   mid : Runs f (X .between) T d c
@@ -122,17 +125,19 @@ module _ {f w o w′ o′ : List ℕ} {T : Rows} {d : Described} {c : Checker} (
           (X .tells .lines T d (c .state) (diagnosticLines (messageText (d .names) (d .schema)) (reversed (c .diagnostics) [])) (nodeAt (d .ast .nodes) n .span)
           (R .stands) (R .holds) ok (span-at f w n (nodeAt (d .ast .nodes) n) (R .stands .node n there)) (L .lines));
       until = X .tells .keeps .above UNTIL (omega arith) ∙ L .until;
+      stop = X .tells .keeps .above STOP (omega arith) ∙ L .stop;
+      entered = X .tells .keeps .above ENTERED (omega arith) ∙ L .entered;
       left = X .tells .keeps .above LEFT (omega arith) ∙ L .left;
     })
 
     -- The run goes on.
-    pub rejected-on : c .until ≡ theEnd → (r ≡ Done.On left) × Told d w′ o′ after 0
+    pub rejected-on : ¬ (untilW (c .until) ≡ 1) → (r ≡ Done.On left) × Told d w′ o′ after 0
     unfolding withDiagnostics
     rejected-on q = go (X .halts)
       where
         go : {w′ : List ℕ} {r : Done} → Halts (countedW (X .between)) left w′ r → (r ≡ Done.On left) × Told d w′ o′ after 0
         go (goes-on z) = (refl, counted-told)
-        go (ends-here z) = absurd (z (rw q at (counted-told .until)))
+        go (ends-here z) = absurd (q (sym (counted-told .until) ∙ z))
 
     -- It was to last until here.
     pub rejected-out : c .until ≡ firstDiagnostic → (r ≡ Done.Out) × Told d w′ o′ after left
@@ -143,14 +148,16 @@ module _ {f w o w′ o′ : List ℕ} {T : Rows} {d : Described} {c : Checker} (
         one = rw q at (counted-told .until)
 
         go : {w′ : List ℕ} {r : Done} → Halts (countedW (X .between)) left w′ r → (r ≡ Done.Out) × Told d w′ o′ after left
-        go (goes-on z) = absurd (omega (arith, z, one))
+        go (goes-on z) = absurd (z one)
         go (ends-here z) =
-            let K : Keeps LEFT AFTER-LEFT (countedW (X .between)) (set (countedW (X .between)) LEFT left) = keeps-set (countedW (X .between)) LEFT
-            left (omega arith) (omega arith) in (
+            let K : Keeps LEFT STOP (countedW (X .between)) (set (countedW (X .between)) LEFT left) = keeps-set (countedW (X .between)) LEFT left
+            (omega arith) (omega arith) in (
               refl,
               record {
                 lines = lines-same (λ i l h. K .below i (omega arith)) (counted-told .lines);
                 until = K .below UNTIL (omega arith) ∙ counted-told .until;
+                stop = K .above STOP (omega arith) ∙ counted-told .stop;
+                entered = K .above ENTERED (omega arith) ∙ counted-told .entered;
                 left = getD-set-same (countedW (X .between)) LEFT left 0 (omega (arith, counted-runs .holds .long));
               },
             )

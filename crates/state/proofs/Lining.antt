@@ -5,7 +5,7 @@ use native.Mathlib.Omega.{arith}
 use Prim.Native.Nat.{ℕ, _+_, _/_, _%_, _<_, _≤_}
 use lib.ListN.{length, getD, set, take, drop, length-append, length-set}
 use lib.Seq.{getD-set-same, getD-set-other, take-at}
-use Rattle.work.specs.Layout.{PLACE, PLACE-HIGH, FULL, UNTIL, LEFT, END}
+use Rattle.work.specs.Layout.{PLACE, PLACE-HIGH, FULL, UNTIL, LEFT, STOP, ENTERED, END}
 use Rattle.unification.specs.Bindings.{State}
 use Rattle.cells.specs.Stands.{Rows, Holds, Keeps}
 use Rattle.cells.proofs.Frame.{keeps-refl, keeps-trans, keeps-set}
@@ -20,11 +20,11 @@ use Rattle.tree.specs.Nodes.{lineStartW}
 use Rattle.tree.specs.Stands.{Stands}
 use Rattle.messages.specs.declared.Message.{Message}
 use Rattle.messages.specs.Said.{OkMessage}
-use Rattle.state.specs.Lines.{AFTER-FULL, placeW, setPlaceW, SpanAt, diagnosed, lineOf, WritesLine, Lines, within, beyond, Keeping, Tells, AFTER-LEFT}
+use Rattle.state.specs.Lines.{AFTER-FULL, placeW, setPlaceW, SpanAt, diagnosed, lineOf, WritesLine, Lines, within, beyond, Keeping, Tells, AFTER-SIDES}
 
 -- ---- The words of the lines are as they were
 pub record Unlined (w w′ : List ℕ) : Type 0 where
-  pub at : (i : ℕ) → PLACE ≤ i → i < AFTER-LEFT → getD w′ i 0 ≡ getD w i 0
+  pub at : (i : ℕ) → PLACE ≤ i → i < AFTER-SIDES → getD w′ i 0 ≡ getD w i 0
 
 pub unlined-trans : {u v w : List ℕ} → Unlined u v → Unlined v w → Unlined u w
 unlined-trans p q = record { at = λ i l h. q .at i l h ∙ p .at i l h }
@@ -34,10 +34,12 @@ lines-same at (within f p l t) =
     within (at FULL (omega arith) (omega arith) ∙ f) (omega (arith, p, at PLACE (omega arith) (omega arith), at PLACE-HIGH (omega arith) (omega arith))) l t
 lines-same at (beyond f l) = beyond (at FULL (omega arith) (omega arith) ∙ f) l
 
-pub told-same : {w w′ o s : List ℕ} {u : Until} {l : ℕ} → Unlined w w′ → Keeping w o s u l → Keeping w′ o s u l
+pub told-same : {w w′ o s : List ℕ} {u : Until} {m l : ℕ} → Unlined w w′ → Keeping w o s u m l → Keeping w′ o s u m l
 told-same U t = record {
   lines = lines-same (λ i l h. U .at i l (omega arith)) (t .lines);
   until = U .at UNTIL (omega arith) (omega arith) ∙ t .until;
+  stop = U .at STOP (omega arith) (omega arith) ∙ t .stop;
+  entered = U .at ENTERED (omega arith) (omega arith) ∙ t .entered;
   left = U .at LEFT (omega arith) (omega arith) ∙ t .left;
 }
 

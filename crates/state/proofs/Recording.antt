@@ -4,7 +4,7 @@ use mathlib.Core.Path.{refl}
 use native.Mathlib.Omega.{arith}
 use Prim.Native.Nat.{ℕ, _+_, _<_, _≤_}
 use lib.ListN.{getD}
-use Rattle.work.specs.Layout.{RECORD-COUNT, RECORD-FIELD-COUNT, ENV-LEN, DIAGNOSTIC-COUNT}
+use Rattle.work.specs.Layout.{RECORD-COUNT, RECORD-FIELD-COUNT, ENV-LEN, DIAGNOSTIC-COUNT, MARK-COUNT, UNUSED-COUNT}
 use Rattle.cells.specs.declared.Ty.{Ty}
 use Rattle.cells.specs.Stands.{Rows}
 use Rattle.cells.specs.Inferred.{reserveW, putFieldW, newRecordW, Reserved, rowsWith, Filled}
@@ -23,9 +23,13 @@ module _ {f w : List ℕ} {T : Rows} {d : Described} {c : Checker} (sound : Soun
     unfolding withState
     reserve-runs = runs-state sound R (adds-old (R .holds .cells) (reserve-adds w n room (R .holds .long))) more-refl
         (record {
-          env = reserve-other w n room ENV-LEN (λ q. omega arith);
+          scopes = record {
+            env = reserve-other w n room ENV-LEN (λ q. omega arith);
+            marks = reserve-other w n room MARK-COUNT (λ q. omega arith);
+            unused = reserve-other w n room UNUSED-COUNT (λ q. omega arith);
+            at = λ i l h. reserve-other w n room i (λ q. omega arith);
+          };
           diagnostics = reserve-other w n room DIAGNOSTIC-COUNT (λ q. omega arith);
-          at = λ i l h. reserve-other w n room i (λ q. omega arith);
           long = reserve-keeps w n room .long;
         })
         (reserve-holds w n room (R .holds)) refl
@@ -48,9 +52,13 @@ module _ {f w : List ℕ} {T : Rows} {d : Described} {c : Checker} (sound : Soun
         let K = put-field-keeps w i name t fits small in
         runs-state sound R (put-field-old w i name t fits small S low high (R .holds .cells .few-records)) more-refl
         (record {
-          env = K .below ENV-LEN (omega arith);
+          scopes = record {
+            env = K .below ENV-LEN (omega arith);
+            marks = K .below MARK-COUNT (omega arith);
+            unused = K .below UNUSED-COUNT (omega arith);
+            at = λ j l h. K .above j (omega arith);
+          };
           diagnostics = K .below DIAGNOSTIC-COUNT (omega arith);
-          at = λ j l h. K .above j (omega arith);
           long = K .long;
         })
         (put-field-holds w i name t fits small S low high (R .holds .cells .few-records) (R .holds)) refl
@@ -65,9 +73,13 @@ module _ {f w : List ℕ} {T : Rows} {d : Described} {c : Checker} (sound : Soun
         let other = new-record-other w from n room within in
         runs-state sound R (new-record-old w from n room within (R .holds .long)) (new-record-more w from n room within (R .holds .long) T)
         (record {
-          env = other ENV-LEN (λ q. omega arith) (λ q. omega arith);
+          scopes = record {
+            env = other ENV-LEN (λ q. omega arith) (λ q. omega arith);
+            marks = other MARK-COUNT (λ q. omega arith) (λ q. omega arith);
+            unused = other UNUSED-COUNT (λ q. omega arith) (λ q. omega arith);
+            at = λ j l h. other j (λ q. omega arith) (λ q. omega arith);
+          };
           diagnostics = other DIAGNOSTIC-COUNT (λ q. omega arith) (λ q. omega arith);
-          at = λ j l h. other j (λ q. omega arith) (λ q. omega arith);
           long = new-record-keeps w from n room within .long;
         })
         (new-record-holds w from n room within (R .holds .long) (R .holds) F) refl

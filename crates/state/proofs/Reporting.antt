@@ -7,7 +7,7 @@ use Prim.Native.Nat.{ℕ, suc, _+_, _<_, _≤_}
 use lib.ListN.{length, getD, set}
 use lib.Seq.{getD-set-same, getD-set-other}
 use borrow.Author.Tests.{lt-ltb}
-use Rattle.work.specs.Layout.{RECORD-COUNT, ENV-LEN, DIAGNOSTIC-COUNT, UNKNOWNS, ENV, END}
+use Rattle.work.specs.Layout.{RECORD-COUNT, ENV-LEN, DIAGNOSTIC-COUNT, UNKNOWNS, MARK-COUNT, UNUSED-COUNT, END}
 use Rattle.cells.specs.Stands.{Rows, Keeps}
 use Rattle.cells.proofs.Frame.{keeps-set}
 use Rattle.cells.proofs.Elsewhere.{SameState}
@@ -17,7 +17,7 @@ use Rattle.meaning.specs.File.{Described}
 use Rattle.meaning.specs.Check.{Checker, withDiagnostics}
 use Rattle.state.specs.Words.{countedW}
 use Rattle.state.specs.Runs.{Runs, Grew}
-use Rattle.state.proofs.Running.{env-same, same-grew, runs-aside}
+use Rattle.state.proofs.Running.{same-grew, Unscoped, scopes-same, runs-aside}
 
 module _ (w : List ℕ) (room : getD w DIAGNOSTIC-COUNT 0 < 1536) where
   abbrev count : ℕ
@@ -52,11 +52,15 @@ module _ {f w : List ℕ} {T : Rows} {d : Described} {c : Checker} (sound : Soun
   pub count-runs : Runs f (countedW w) T d (withDiagnostics c (x ∷ c .diagnostics))
   unfolding withDiagnostics
   count-runs =
-      let len = count-other w room ENV-LEN (λ q. omega arith) in
       let more = counted w room (R .holds .long) in
-      runs-aside sound R (count-aside w room) refl
-      (R .env ∙ sym (rw len (env-same w (countedW w) (getD w ENV-LEN 0) (λ i h. count-other w room (ENV + i) (λ q. omega arith)))))
-      (omega (arith, len, R .few-env))
+      let other = count-other w room in
+      let quiet : Unscoped w (countedW w) = record {
+        env = other ENV-LEN (λ q. omega arith);
+        marks = other MARK-COUNT (λ q. omega arith);
+        unused = other UNUSED-COUNT (λ q. omega arith);
+        at = λ i l h. other i (λ q. omega arith);
+      } in
+      runs-aside sound R (count-aside w room) refl (scopes-same quiet refl refl refl (R .scopes))
       (ap suc (R .diagnostics) ∙ omega (arith, more))
       (omega (arith, more))
 

@@ -9,7 +9,7 @@ use lib.Seq.{length-take-le, take-at, drop-cons}
 use Rattle.unification.specs.Ty.{Row}
 use Rattle.meaning.specs.Syntax.{Node}
 use Rattle.meaning.specs.Messages.{messageText}
-use Rattle.meaning.specs.Answer.{bytes₂, bytes₄, hexLine, diagnosticBytes, diagnosticLine}
+use Rattle.meaning.specs.Answer.{bytes₂, bytes₄, hexLine, diagnosticBytes, unusedLine, diagnosticLine}
 use Rattle.writer.specs.declared.Wrote.{Wrote}
 use Rattle.writer.specs.declared.Wrote.the-variants.{To, Full}
 use Rattle.writer.specs.Writes.{Writes, hexOf}
@@ -20,7 +20,8 @@ use Rattle.tree.specs.Stands.{NodeIs}
 use Rattle.tree.proofs.Spans.{span-written, span-there}
 use Rattle.messages.specs.declared.Message.{Message}
 use Rattle.messages.specs.Said.{said, WritesCode, WritesMessage}
-use Rattle.state.specs.Lines.{SpanAt, WritesSpan, WritesHead, WritesDiagnostic, WritesCodeLine, saidBytes, WritesSaid, WritesMessageLine, WritesLine}
+use Rattle.state.specs.Lines.{SpanAt, WritesSpan, WritesHead, WritesUnusedHead, WritesUnusedLine, WritesDiagnostic, WritesCodeLine, saidBytes}
+use Rattle.state.specs.Lines.{WritesSaid, WritesMessageLine, WritesLine}
 
 -- ---- A span
 pub record Spanning (f out₀ : List ℕ) (at from : ℕ) (out : List ℕ) (i to : ℕ) : Type 0 where
@@ -68,16 +69,30 @@ span-at f w n nd h = record {
 }
 
 -- ---- A line
-module _ {f out : List ℕ} {at line : ℕ} {mid : List ℕ} {h : Wrote} (p : Writes out at (hexOf (8 ∷ [])) mid h) where
-  pub head-then : {n : ℕ} → h ≡ To n → {out′ : List ℕ} {r : Wrote} → WritesSpan f mid n line out′ r → WritesHead f out at line out′ r
+module _ {f out : List ℕ} {at kind line : ℕ} {mid : List ℕ} {h : Wrote} (p : Writes out at (hexOf (kind ∷ [])) mid h) where
+  pub head-then : {n : ℕ} → h ≡ To n → {out′ : List ℕ} {r : Wrote} → WritesSpan f mid n line out′ r → WritesHead f out at kind line out′ r
   head-then e g = record {
-    is = λ s t. hex-then (8 ∷ []) (bytes₄ (s .start) ++ bytes₄ (s .end)) p e
+    is = λ s t. hex-then (kind ∷ []) (bytes₄ (s .start) ++ bytes₄ (s .end)) p e
         (writes-as (t .digits) (g .is (t .there) (omega (arith, writes-to p e .1, p .long))));
     long = g .long ∙ p .long;
   }
 
-  pub head-full : h ≡ Full → WritesHead f out at line mid Full
-  head-full e = record { is = λ s t. hex-full (8 ∷ []) (bytes₄ (s .start) ++ bytes₄ (s .end)) p e; long = p .long }
+  pub head-full : h ≡ Full → WritesHead f out at kind line mid Full
+  head-full e = record { is = λ s t. hex-full (kind ∷ []) (bytes₄ (s .start) ++ bytes₄ (s .end)) p e; long = p .long }
+
+-- ---- The line of an entry that left unmarked
+pub unused-head : {f w out : List ℕ} {at n : ℕ} {mid : List ℕ} {h : Wrote} (line : ℕ) → line ≡ lineStartW w n → WritesHead f out at 12 line mid h
+    → WritesUnusedHead f w out at n mid h
+unused-head line q p = record { is = λ s t. p .is s (rw q t); long = p .long }
+
+module _ {f w out : List ℕ} {at n : ℕ} {mid : List ℕ} {h : Wrote} (p : WritesUnusedHead f w out at n mid h) where
+  pub unused-then : {e : ℕ} → h ≡ To e → {out′ : List ℕ} {r : Wrote} → Writes mid e (10 ∷ []) out′ r → WritesUnusedLine f w out at n out′ r
+  unfolding unusedLine
+  unused-then e g = record { is = λ s t. line-then _ (p .is s t) e g; long = g .long ∙ p .long }
+
+  pub unused-full : h ≡ Full → WritesUnusedLine f w out at n mid Full
+  unfolding unusedLine
+  unused-full e = record { is = λ s t. line-full _ (p .is s t) e; long = p .long }
 
 module _ {f w out : List ℕ} {at : ℕ} {m : Message} {mid : List ℕ} {h : Wrote} where
   module _ (p : Writes out at (hexOf (10 ∷ [])) mid h) where
@@ -99,7 +114,7 @@ module _ {f w out : List ℕ} {at : ℕ} {m : Message} {mid : List ℕ} {h : Wro
     message-full e = record { is = λ T d st S H o. line-full _ (p .is T d st S H o) e; long = p .long }
 
 module _ {f w out : List ℕ} {at n : ℕ} {m : Message} {mid : List ℕ} {h : Wrote} where
-  module _ (line : ℕ) (q : line ≡ lineStartW w n) (p : WritesHead f out at line mid h) where
+  module _ (line : ℕ) (q : line ≡ lineStartW w n) (p : WritesHead f out at 8 line mid h) where
     pub diagnostic-then : {e : ℕ} → h ≡ To e → {out′ : List ℕ} {r : Wrote} → WritesCode mid e m out′ r
         → WritesDiagnostic f w out at n m out′ r
     unfolding diagnosticBytes

@@ -1,11 +1,14 @@
-// What a run keeps in the slice besides types: the environment, where the lines of its diagnostics end in the answer slice, and what
-// ends it early.
+// What a run keeps in the slice besides types: the environment, which entries are marked as used and which left unmarked, where the lines
+// of its diagnostics end in the answer slice, and what ends it early.
 ghost use mathlib.Core.Path.{_≡_};
 ghost use lib.ListN.{getD, set};
-ghost use Rattle.work.specs.Layout.{ENV-LEN};
-ghost use Rattle.meaning.specs.Check.{lookupIn};
-ghost use Rattle.state.specs.Words.{countedW, envOf, knownAs, pushEnvW, Introduces};
-ghost use Rattle.state.specs.Lines.{placeW, setPlaceW, WritesSpan, WritesHead, WritesDiagnostic, WritesCodeLine, WritesSaid, WritesMessageLine, WritesLine, untilOf, untilW, Tells, Halts, Rejected};
+ghost use Prim.Native.Nat.{_<_};
+ghost use Rattle.cells.specs.Words.{putTy};
+ghost use Rattle.work.specs.Layout.{ENV-LEN, MARK-COUNT};
+ghost use Rattle.meaning.specs.Check.{lookupIn, isIn};
+ghost use Rattle.state.specs.Words.{countedW, envOf, knownAs, pushW, pushEnvW, marksOf, markW, leaveEntryW, leaveW, Introduces};
+ghost use Rattle.state.specs.Lines.{placeW, setPlaceW, WritesSpan, WritesHead, WritesUnusedHead, WritesUnusedLine, WritesDiagnostic, WritesCodeLine, WritesSaid, WritesMessageLine, WritesLine, untilOf, untilW, stopW, Tells, Halts, Rejected, enteredW, sidesW, Enters};
+use cells::Ty;
 use messages::Message;
 use work::Counters;
 use work::put;
@@ -13,6 +16,7 @@ use work::wide;
 use work::word;
 use writer::Wrote;
 
+// The word of the entry that was found.
 pub enum Known {
     As(u32),
     Nothing,
@@ -24,10 +28,11 @@ pub enum Done {
     Out,
 }
 
-// What ends a run early besides its visits: nothing, or its first diagnostic.
+// What ends a run early besides its visits: nothing, its first diagnostic, or its n-th entry to `unify` from outside, counted from 0.
 pub enum Until {
     TheEnd,
     FirstDiagnostic,
+    Entry(u32),
 }
 
 // ---- The lines of the diagnostics, in the answer slice
@@ -52,6 +57,17 @@ fn until_word(until: Until) -> u32
     match until {
         Until::TheEnd => 0,
         Until::FirstDiagnostic => 1,
+        Until::Entry(_) => 2,
+    }
+}
+
+fn stop_word(until: Until) -> u32
+    ensures { λ r. ⌜ r ≡ stopW (untilOf until) ⌝ }
+{
+    match until {
+        Until::TheEnd => 0,
+        Until::FirstDiagnostic => 0,
+        Until::Entry(n) => n,
     }
 }
 
@@ -64,6 +80,14 @@ pub fn begin_lines(w: &mut [u32], until: Until)
     put(w, work::FULL, 0);
     put(w, work::UNTIL, until_word(until));
     put(w, work::LEFT, 0);
+}
+
+// No entry yet.
+pub fn begin_entries(w: &mut [u32], until: Until)
+    ensures { λ _. ⌜ now (w .exit) ≡ set (set (now (w .entry)) 9626 (stopW (untilOf until))) 9627 0 ⌝ }
+{
+    put(w, work::STOP, stop_word(until));
+    put(w, work::ENTERED, 0);
 }
 
 // The span stands in the node's line as the answer has it: sixteen digits, after the two of the line's kind.
@@ -94,10 +118,12 @@ fn span(f: &[u8], out: &mut [u8], at: usize, line: usize) -> Wrote
     Wrote::To(to)
 }
 
-fn head(f: &[u8], out: &mut [u8], at: usize, line: usize) -> Wrote
-    ensures { λ r. ⌜ WritesHead (now (f .entry)) (now (out .entry)) at line (now (out .exit)) r ⌝ }
+// A line's kind, and the span.
+fn head(f: &[u8], out: &mut [u8], at: usize, kind: u32, line: usize) -> Wrote
+    requires { ⌜ kind < 256 ⌝ }
+    ensures { λ r. ⌜ WritesHead (now (f .entry)) (now (out .entry)) at kind line (now (out .exit)) r ⌝ }
 {
-    let r = writer::byte(out, at, 8);
+    let r = writer::byte(out, at, kind);
     match r {
         Wrote::To(m) => span(f, out, m, line),
         Wrote::Full => Wrote::Full,
@@ -107,9 +133,26 @@ fn head(f: &[u8], out: &mut [u8], at: usize, line: usize) -> Wrote
 fn diagnostic(f: &[u8], w: &[u32], out: &mut [u8], at: usize, n: u32, m: Message) -> Wrote
     ensures { λ r. ⌜ WritesDiagnostic (now (f .entry)) (now (w .entry)) (now (out .entry)) at n m (now (out .exit)) r ⌝ }
 {
-    let r = head(f, out, at, tree::line_start(w, n));
+    let r = head(f, out, at, 8, tree::line_start(w, n));
     match r {
         Wrote::To(e) => messages::code_text(out, e, m),
+        Wrote::Full => Wrote::Full,
+    }
+}
+
+fn unused_head(f: &[u8], w: &[u32], out: &mut [u8], at: usize, n: u32) -> Wrote
+    ensures { λ r. ⌜ WritesUnusedHead (now (f .entry)) (now (w .entry)) (now (out .entry)) at n (now (out .exit)) r ⌝ }
+{
+    head(f, out, at, 12, tree::line_start(w, n))
+}
+
+// The line of a node whose entry left unmarked.
+pub fn unused_line(f: &[u8], w: &[u32], out: &mut [u8], at: usize, n: u32) -> Wrote
+    ensures { λ r. ⌜ WritesUnusedLine (now (f .entry)) (now (w .entry)) (now (out .entry)) at n (now (out .exit)) r ⌝ }
+{
+    let r = unused_head(f, w, out, at, n);
+    match r {
+        Wrote::To(e) => writer::close(out, e),
         Wrote::Full => Wrote::Full,
     }
 }
@@ -180,7 +223,7 @@ fn count(w: &mut [u32])
 fn halt(w: &mut [u32], left: u32) -> Done
     ensures { λ r. ⌜ Halts (now (w .entry)) left (now (w .exit)) r ⌝ }
 {
-    if word(w, work::UNTIL) == 0 {
+    if word(w, work::UNTIL) != 1 {
         return Done::On(left);
     }
     put(w, work::LEFT, left);
@@ -196,6 +239,53 @@ pub fn reject(f: &[u8], w: &mut [u32], n: u32, m: Message, left: u32, out: &mut 
     halt(w, left)
 }
 
+// ---- Entries to `unify`
+
+fn count_entry(w: &mut [u32])
+    ensures { λ _. ⌜ now (w .exit) ≡ enteredW (now (w .entry)) ⌝ }
+{
+    let n = word(w, work::ENTERED);
+    if n < 4294967295 {
+        put(w, work::ENTERED, n + 1);
+    }
+}
+
+fn put_ty(w: &mut [u32], at: usize, t: Ty)
+    requires { ⌜ at < 16384 ⌝ }
+    ensures { λ _. ⌜ now (w .exit) ≡ putTy (now (w .entry)) at t ⌝ }
+{
+    put(w, at, cells::tag_of(t));
+    put(w, at + 1, cells::payload_of(t));
+}
+
+fn keep_sides(w: &mut [u32], got: Ty, expected: Ty, left: u32)
+    ensures { λ _. ⌜ now (w .exit) ≡ sidesW (now (w .entry)) got expected left ⌝ }
+{
+    put_ty(w, work::GOT, got);
+    put_ty(w, work::EXPECTED, expected);
+    put(w, work::LEFT, left);
+}
+
+// An entry from outside is about to be made: it is counted, and the run goes on, or it was to last until here.
+pub fn enter(w: &mut [u32], got: Ty, expected: Ty, left: u32) -> Done
+    ensures { λ r. ⌜ Enters (now (w .entry)) got expected left (now (w .exit)) r ⌝ }
+{
+    let until = word(w, work::UNTIL);
+    let stop = wide(word(w, work::STOP));
+    let n = wide(word(w, work::ENTERED));
+    count_entry(w);
+    if until != 2 {
+        return Done::On(left);
+    }
+    if n < stop {
+        return Done::On(left);
+    }
+    keep_sides(w, got, expected, left);
+    Done::Out
+}
+
+// ---- Variables
+
 // Newest first.
 pub fn lookup(w: &[u32], symbol: u32) -> Known
     ensures { λ r. ⌜ knownAs r ≡ lookupIn (envOf (now (w .entry)) (getD (now (w .entry)) ENV-LEN 0)) symbol ⌝ }
@@ -204,38 +294,102 @@ pub fn lookup(w: &[u32], symbol: u32) -> Known
     while 0 < i {
         i -= 1;
         let e = word(w, work::ENV + wide(i));
-        if e / 65536 == symbol {
-            return Known::As(e % 65536);
+        if e / 262144 == symbol {
+            return Known::As(e);
         }
     }
     Known::Nothing
 }
 
-pub fn push_env(w: &mut [u32], symbol: u32, var: u32)
-    ensures { λ _. ⌜ now (w .exit) ≡ pushEnvW (now (w .entry)) symbol var ⌝ }
+// One more number, in a region with this counter.
+fn push(w: &mut [u32], from: usize, count: usize, x: u32)
+    requires { ⌜ from < 65536 ⌝ }
+    ensures { λ _. ⌜ now (w .exit) ≡ pushW from count (now (w .entry)) x ⌝ }
 {
-    let n = word(w, work::ENV_LEN);
+    let n = word(w, count);
     if n < Counters::ENTRIES {
-        if symbol < 65536 {
-            if var < 65536 {
-                put(w, work::ENV + wide(n), symbol * 65536 + var);
-                put(w, work::ENV_LEN, n + 1);
+        put(w, from + wide(n), x);
+        put(w, count, n + 1);
+    }
+}
+
+fn push_env(w: &mut [u32], node: u32, symbol: u32, var: u32)
+    ensures { λ _. ⌜ now (w .exit) ≡ pushEnvW (now (w .entry)) node symbol var ⌝ }
+{
+    if symbol < 16384 {
+        if node < 512 {
+            if var < 512 {
+                push(
+                    w,
+                    work::ENV,
+                    work::ENV_LEN,
+                    symbol * 262144 + (node * 512 + var),
+                );
             }
         }
     }
 }
 
-// The unknown of a variable; one that is new is introduced.
-pub fn introduce(w: &mut [u32], symbol: u32) -> u32
-    ensures { λ r. ⌜ Introduces (now (w .entry)) symbol (now (w .exit)) r ⌝ }
+fn is_marked(w: &[u32], var: u32) -> bool
+    ensures { λ r. ⌜ r ≡ isIn var (marksOf (now (w .entry)) (getD (now (w .entry)) MARK-COUNT 0)) ⌝ }
+{
+    let mut i = word(w, work::MARK_COUNT);
+    while 0 < i {
+        i -= 1;
+        if word(w, work::MARKS + wide(i)) == var {
+            return true;
+        }
+    }
+    false
+}
+
+// An entry that a node finds is marked, once, unless the node made it.
+fn mark(w: &mut [u32], node: u32, e: u32)
+    ensures { λ _. ⌜ now (w .exit) ≡ markW (now (w .entry)) node e ⌝ }
+{
+    if e / 512 % 512 != node {
+        if !is_marked(w, e % 512) {
+            push(w, work::MARKS, work::MARK_COUNT, e % 512);
+        }
+    }
+}
+
+// The unknown of a variable that a node names; one that is new is introduced.
+pub fn introduce(w: &mut [u32], node: u32, symbol: u32) -> u32
+    ensures { λ r. ⌜ Introduces (now (w .entry)) node symbol (now (w .exit)) r ⌝ }
 {
     let known = lookup(w, symbol);
     match known {
-        Known::As(var) => var,
+        Known::As(e) => {
+            mark(w, node, e);
+            e % 512
+        }
         Known::Nothing => {
             let var = cells::fresh_var_id(w);
-            push_env(w, symbol, var);
+            push_env(w, node, symbol, var);
             var
         }
     }
+}
+
+fn leave_entry(w: &mut [u32], e: u32)
+    ensures { λ _. ⌜ now (w .exit) ≡ leaveEntryW (now (w .entry)) e ⌝ }
+{
+    if !is_marked(w, e % 512) {
+        push(w, work::UNUSED, work::UNUSED_COUNT, e / 512 % 512);
+    }
+}
+
+// The entries from a number on leave, the oldest first; of those that are unmarked the makers are kept.
+pub fn leave(w: &mut [u32], scope: u32)
+    ensures { λ _. ⌜ now (w .exit) ≡ leaveW (now (w .entry)) scope ⌝ }
+{
+    let n = word(w, work::ENV_LEN);
+    let mut i = scope;
+    while i < n {
+        let e = word(w, work::ENV + wide(i));
+        leave_entry(w, e);
+        i += 1;
+    }
+    put(w, work::ENV_LEN, scope);
 }

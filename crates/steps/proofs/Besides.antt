@@ -1,11 +1,11 @@
--- The steps that the cycle asks for besides those on the head of a type: a report, a rollback, the environment cut back, both bounds of
+-- The steps that the cycle asks for besides those on the head of a type: a report, a rollback, entries that leave, both bounds of
 -- a fuzzy pattern, a unification. Each goes beside its namesake of meaning/specs/Check.antt.
 use mathlib.Core.Bool.{Bool, true, false}
 use mathlib.Core.List.{List}
 use mathlib.Core.Option.{some}
-use mathlib.Core.Path.{_≡_, refl, _∙_, ap}
+use mathlib.Core.Path.{_≡_, refl, sym, _∙_, ap, subst}
 use native.Mathlib.Omega.{arith}
-use Prim.Native.Nat.{ℕ, zero, suc, _-_, _<_, _≤_}
+use Prim.Native.Nat.{ℕ, zero, suc, _+_, _-_, _<_, _≤_}
 use lib.Dec.{ltb}
 use lib.ListN.{length, getD, set}
 use borrow.Author.Tests.{ne-eqb}
@@ -15,39 +15,50 @@ use Rattle.unification.specs.Bindings.{State, withHistory}
 use Rattle.unification.specs.Unify as Unify
 use Rattle.unification.proofs.Undo.{rewind-left}
 use Rattle.unification.proofs.Kept as Kept
-use Rattle.work.specs.Layout.{ENV-LEN, TYS, END}
+use Rattle.work.specs.Layout.{RECORD-COUNT, RECORD-FIELD-COUNT, ENV-LEN, MARK-COUNT, TYS, END}
 use Rattle.cells.specs.declared.Ty.{Ty}
 use Rattle.cells.specs.declared.Ty.the-variants.{Str}
 use Rattle.cells.specs.declared.TyError.{TyError}
 use Rattle.cells.specs.declared.TyError.the-variants as TyError
 use Rattle.cells.specs.declared.Unified.{Unified}
+use Rattle.cells.specs.declared.Unified.the-variants as Unified
 use Rattle.cells.specs.Words.{pick}
-use Rattle.cells.specs.Stands.{Rows, tree, Keeps}
+use Rattle.cells.specs.Stands.{Rows, tree, Ok, Keeps}
 use Rattle.cells.specs.Contracts as Cells
 use Rattle.cells.specs.Contracts.{errorOf, OkError, Unifies}
 use Rattle.cells.proofs.Frame.{more-refl, keeps-wider}
 use Rattle.meaning.specs.File.{Described}
 use Rattle.meaning.specs.Check as Check
-use Rattle.meaning.specs.Check.{Checker, Does, goes, andThen}
+use Rattle.meaning.specs.Diag.{Diagnostic}
+use Rattle.meaning.specs.Check.{Checker, Step, Does, goes, andThen}
+use Rattle.meaning.specs.Run.{NotYet}
 use Rattle.meaning.specs.Grades.{Orderly, no-thing, one-diagnostic}
 use Rattle.meaning.proofs.Meets.{Meets}
 use Rattle.meaning.proofs.Steps.{Nothing, reject-meets, reject-if}
+use Rattle.unification.specs.Calls.{Entry}
+use Rattle.unification.proofs.Tests.{clash}
 use Rattle.unification.specs.Bindings.{Subst}
 use Rattle.messages.specs.declared.Message.{Message}
 use Rattle.messages.specs.declared.Message.the-variants as Message
 use Rattle.messages.specs.Said.{said, OkMessage}
-use Rattle.state.specs.Lines.{Rejected}
+use Rattle.state.specs.Lines.{Rejected, enteredW, sidesW, Sides, AtEntry, Enters, enters, enters-before, stops-here}
+use Rattle.state.proofs.Arriving.{goes-past, still-not, stops-there, entered-keeps, entered-runs, entered-grew, entered-told, stopped-runs, stopped-grew}
+use Rattle.state.proofs.Arriving.{stopped-told, got-side, expected-side}
 use Rattle.state.proofs.Running.{runs-slots, grew-slots}
-use Rattle.state.proofs.Scoping.{runs-env-length, cut-runs, cut-unlined, cut-grew, rollback-runs, rollback-unlined, rollback-grew}
+use Rattle.state.proofs.Scoping.{runs-env-length, runs-marks-length, rollback-runs, rollback-unlined, rollback-grew}
+use Rattle.state.proofs.Leaving.{leave-runs, leave-unlined, leave-grew}
+use Rattle.state.specs.Words.{leaveW}
 use Rattle.state.proofs.Lining.{told-same}
 use Rattle.state.proofs.Lined.{keeps-unlined}
 use Rattle.state.specs.declared.Done.{Done}
 use Rattle.state.specs.declared.Done.the-variants as Done
 use Rattle.steps.specs.declared.Typed.the-variants as Typed
-use Rattle.steps.specs.Ends.{done, silent, unified, Ends, went, spent}
+use Rattle.steps.specs.Ends.{done, silent, unified, Gone, Ends, went, spent}
 use Rattle.steps.specs.Loads.{Load, only, both, Holds, Begins, Beside}
-use Rattle.steps.specs.Contracts.{nodesOf, Reports, RollsTo, Cuts, fuzzy, Fuzzes, UnifiesTo, typedAfter}
+use Rattle.steps.specs.Contracts.{nodesOf, Reports, RollsTo, Leaves, fuzzy, Fuzzes, UnifiesOutside, typedAfter}
 use Rattle.steps.specs.Outside.{reportMessage, RejectedIf, reported, stayed, farW, charactersW, longW, Rewinds}
+use Rattle.steps.proofs.Growing.{ok-kept}
+use Rattle.steps.proofs.Sequel.{gone-on}
 use Rattle.steps.proofs.Ending.{reject-ends}
 use Rattle.steps.proofs.Results.{on-here, then-done, stop-done, done-typed}
 
@@ -71,18 +82,19 @@ unfolding Check.report
 reports f w n err left x d there = record
     { is = λ T c B ok. rw (report-said T (c .state .subst) err) (reject-ends B n there (reportMessage err) (report-ok w err ok) x) }
 
--- ---- The environment cut back
-pub cuts : (f w : List ℕ) {ou : List ℕ} (scope : ℕ) → Cuts f w ou scope (set w ENV-LEN scope) ou
-unfolding Check.truncateEnv Check.withEnv
-cuts f w scope d left = record {
+-- ---- Entries leave
+pub leaves : (f w : List ℕ) {ou : List ℕ} (scope : ℕ) → Leaves f w ou scope (leaveW w scope) ou
+unfolding Check.leave Check.withEnv Check.withUnused
+leaves f w scope d left = record {
   is = λ T c B within.
       let h : scope ≤ getD w ENV-LEN 0 = omega (arith, runs-env-length (B .runs)) in
+      let few : length (c .env) + length (c .unused) ≤ 512 = omega (arith, B .orderly .few, B .free .unknowns) in
       went (record {
         T′ = T;
         more = more-refl;
-        runs = cut-runs (B .sound) (B .runs) scope h;
-        lines = told-same (cut-unlined (B .sound) (B .runs) scope h) (B .lines);
-        grew = cut-grew (B .sound) (B .runs) scope h;
+        runs = leave-runs (B .sound) (B .runs) scope few h;
+        lines = told-same (leave-unlined (B .sound) (B .runs) scope few h) (B .lines);
+        grew = leave-grew (B .sound) (B .runs) scope few h;
         is = B .visits;
       });
 }
@@ -92,21 +104,23 @@ rollback-visits : (st : State) (at : Bindings.Snapshot) → Bindings.rollback st
 unfolding Bindings.rollback withHistory
 rollback-visits st at = rewind-left (length (st .undo) - at .undo) (st .undo) st
 
-pub rolls : (f w : List ℕ) {ou : List ℕ} {undo env : ℕ} {w′ : List ℕ} → Rewinds w undo env w′ → RollsTo f w ou undo env w′ ou
-unfolding Check.rollback Check.truncateEnv Check.withState Check.withEnv
-rolls f w {ou} {w′ = w′} X d left at p q = rw (← q) (back (rw (← p, ← q) at X))
+pub rolls : (f w : List ℕ) {ou : List ℕ} {undo env marks : ℕ} {w′ : List ℕ} → Rewinds w undo env marks w′ → RollsTo f w ou undo env marks w′ ou
+unfolding Check.rollback Check.truncateEnv Check.truncateMarks Check.withState Check.withEnv Check.withMarks andThen
+rolls f w {ou} {w′ = w′} X d left at p q r = rw (← q, ← r) (back (rw (← p, ← q, ← r) at X))
   where
-    back : Rewinds w (at .state .undo) (at .env) w′ → Beside f w ou left w′ ou (silent left) d (only no-thing) (λ T c. at .env ≤ length (c .env))
+    back : Rewinds w (at .state .undo) (at .env) (at .marks) w′
+        → Beside f w ou left w′ ou (silent left) d (only no-thing) (λ T c. (at .env ≤ length (c .env)) × (at .marks ≤ length (c .marks)))
         (λ T. Check.rollback at)
     back X = record {
       is = λ T c B within.
-          let h : at .env ≤ getD w ENV-LEN 0 = omega (arith, runs-env-length (B .runs)) in
+          let h : at .env ≤ getD w ENV-LEN 0 = omega (arith, within .0, runs-env-length (B .runs)) in
+          let m : at .marks ≤ getD w MARK-COUNT 0 = omega (arith, within .1, runs-marks-length (B .runs)) in
           rw (X .cut) (went (record {
             T′ = T;
             more = more-refl;
-            lines = told-same (rollback-unlined (B .sound) (B .runs) (X .back) (at .state .past) (at .env) h) (B .lines);
-            runs = rollback-runs (B .sound) (B .runs) (X .back) (at .state .past) (at .env) h;
-            grew = rollback-grew (B .sound) (B .runs) (X .back) (at .state .past) (at .env) h;
+            lines = told-same (rollback-unlined (B .sound) (B .runs) (X .back) (at .state .past) (at .env) (at .marks) h m) (B .lines);
+            runs = rollback-runs (B .sound) (B .runs) (X .back) (at .state .past) (at .env) (at .marks) h m;
+            grew = rollback-grew (B .sound) (B .runs) (X .back) (at .state .past) (at .env) (at .marks) h m;
             is = rollback-visits (c .state) (at .state) ∙ B .visits;
           }));
     }
@@ -183,6 +197,13 @@ module _ {f w ou w₁ ou₁ : List ℕ} (n term distance : ℕ) {left : ℕ} {r 
   }
 
 -- ---- `unify`
+
+-- What the run is to last until has not come, so no sides are kept.
+pub not-come : (u : Check.Until) (w : List ℕ) (T : Rows) (ds : List Diagnostic) (es : List Entry) → NotYet u ds es → AtEntry w T u es
+not-come Check.theEnd w T ds es h = tt
+not-come Check.firstDiagnostic w T ds es h = tt
+not-come (Check.entry n) w T ds es h = λ l. absurd (omega arith)
+
 module _ {f w ou w′ : List ℕ} {T : Rows} {d : Described} {left : ℕ} {c : Checker} {r : Unified} (B : Begins f w ou T d (only no-thing) left c) where
   unified-ends : (res : Unify.Unified) → Cells.Ends w w′ T r res → Kept.After (Kept.Kept (c .state)) res
       → Ends f w ou w′ ou T d 0 0 (unified w′ r) (Check.unified c res)
@@ -215,15 +236,122 @@ module _ {f w ou w′ : List ℕ} {T : Rows} {d : Described} {left : ℕ} {c : C
         runs = runs-slots (B .sound) (B .runs) K (e .2 .holds) (ap length (k .tys));
         lines = rw (e .1) (told-same (keeps-unlined (omega arith) K) (B .lines));
         grew = grew-slots (B .sound) (B .runs) K;
-        is = e .0;
+        is = (e .0, not-come (c .until) w′ T (c .diagnostics) (c .entries) (B .orderly .awaits));
       })
 
-pub unifies : (f w : List ℕ) {ou : List ℕ} {got expected : Ty} {left : ℕ} {w′ : List ℕ} {r : Unified} → Unifies w got expected left w′ r
-    → UnifiesTo f w ou got expected left w′ ou r
-unfolding Check.unify Unify.unify
-unifies f w {ou} {got} {expected} U d = record {
-  is = λ T c B fine.
-      unified-ends B (Unify.unify (c .state) (tree T got) (tree T expected))
-      (U .is T (c .state) (B .runs .holds) (B .visits) (fine .0 .ok) (fine .1 .ok) (c .state .left) (omega (arith, B .visits)))
-      (Kept.unify-kept (c .state) (tree T got) (tree T expected));
-}
+  united-ends : {got expected : Ty} → Unifies w got expected left w′ r → Ok w got → Ok w expected
+      → Ends f w ou w′ ou T d 0 0 (unified w′ r) (Check.united (tree T got) (tree T expected) c)
+  unfolding Check.united Unify.unify
+  united-ends {got} {expected} U p q = unified-ends (Unify.unify (c .state) (tree T got) (tree T expected))
+      (U .is T (c .state) (B .runs .holds) (B .visits) p q (c .state .left) (omega (arith, B .visits)))
+      (Kept.unify-kept (c .state) (tree T got) (tree T expected))
+
+-- An entry from outside: noted, and made or not.
+module _ {f w ou : List ℕ} {T : Rows} {d : Described} {left : ℕ} {c : Checker} (B : Begins f w ou T d (only no-thing) left c) (a b : Tree.Ty) where
+  one-more : length (Check.entered a b c .entries) ≡ suc (length (c .entries))
+  unfolding Check.entered Check.withEntries
+  one-more = refl
+
+  noted : {got expected : Ty} {l : ℕ} {w′ : List ℕ} → Enters w got expected left w′ (Done.On l)
+      → Begins f (enteredW w) ou T d (only no-thing) left (Check.entered a b c)
+  unfolding Check.entered Check.withEntries
+  noted E = record {
+    sound = B .sound;
+    runs = entered-runs (B .sound) (B .runs) (B .lines) a b;
+    lines = entered-told (B .sound) (B .runs) (B .lines) a b;
+    orderly = record {
+      log = B .orderly .log;
+      env = B .orderly .env;
+      few = B .orderly .few;
+      sides = B .orderly .sides;
+      awaits = still-not (B .lines) (Check.entered a b c) one-more (c .diagnostics) (c .entries) (B .orderly .awaits) E;
+    };
+    visits = B .visits;
+    free = record {
+      ready = record { once = B .free .ready .once; there = B .free .ready .there; bare = B .free .ready .bare };
+      unknowns = B .free .unknowns;
+      diagnostics = B .free .diagnostics;
+      records = omega (arith, B .free .records, entered-keeps w .below RECORD-COUNT (omega arith));
+      fields = omega (arith, B .free .fields, entered-keeps w .below RECORD-FIELD-COUNT (omega arith));
+    };
+  }
+
+  no-more : Holds (both (only no-thing) (only no-thing)) (only no-thing)
+  no-more = record {
+    grade = record { nodes = λ x. omega arith; unknowns = omega arith; diagnostics = omega arith };
+    records = omega arith;
+    fields = omega arith;
+  }
+
+  made : {got expected : Ty} {l : ℕ} {w₁ w′ : List ℕ} {r : Unified} → Enters w got expected left w₁ (Done.On l)
+      → Ends f (enteredW w) ou w′ ou T d 0 0 (unified w′ r) (Check.united a b (Check.entered a b c))
+      → Ends f w ou w′ ou T d 0 0 (unified w′ r) (Check.unify a b c)
+  unfolding Check.unify Check.enter andThen
+  made {w′ = w′} {r} E h =
+      let g : Gone f w ou (enteredW w) ou T d 0 0 (silent left) tt (Check.entered a b c) 0 = record {
+        T′ = T;
+        more = more-refl;
+        runs = entered-runs (B .sound) (B .runs) (B .lines) a b;
+        lines = entered-told (B .sound) (B .runs) (B .lines) a b;
+        grew = entered-grew (B .sound) (B .runs) (B .lines) a b;
+        is = B .visits;
+      } in
+      subst (λ (s : Step (Unit {0})). Ends f w ou w′ ou T d 0 0 (unified w′ r) (andThen s (λ _. Check.united a b)))
+      (sym (goes-past (B .lines) (Check.entered a b c) one-more E))
+      (gone-on (only no-thing) (only no-thing) (only no-thing) no-more g h)
+
+  unmade : {got expected : Ty} {w′ : List ℕ} → Enters w got expected left w′ Done.Out → tree T got ≡ a → tree T expected ≡ b → Ok w got
+      → Ok w expected → Ends f w ou w′ ou T d 0 0 (unified w′ Unified.Spent) (Check.unify a b c)
+  unfolding Check.unify Check.enter andThen
+  unmade {got} {expected} (stops-here z l) p q i j =
+      let S = sidesW (enteredW w) got expected left in
+      let E : Enters w got expected left (sidesW (enteredW w) got expected left) Done.Out = stops-here z l in
+      let G = stopped-grew (B .sound) (B .runs) (B .lines) a b got expected left in
+      let s = got-side (B .sound) (B .runs) (B .lines) a b got expected left in
+      let t = expected-side (B .sound) (B .runs) (B .lines) a b got expected left in
+      subst (λ (s : Step (Unit {0})). Ends f w ou S ou T d 0 0 (unified S Unified.Spent) (andThen s (λ _. Check.united a b)))
+      (sym (stops-there (B .lines) (Check.entered a b c) one-more E))
+      (spent (record {
+        T′ = T;
+        more = more-refl;
+        runs = stopped-runs (B .sound) (B .runs) (B .lines) a b got expected left;
+        lines = rw (B .visits) (stopped-told (B .sound) (B .runs) (B .lines) a b got expected left);
+        grew = G;
+        is = (refl, there (c .until) (rw s (ok-kept (G .adds) got i), rw s p, rw t (ok-kept (G .adds) expected j), rw t q));
+      }))
+    where
+      there : (u : Check.Until) → Sides (sidesW (enteredW w) got expected left) T (Check.entered a b c .entries)
+          → AtEntry (sidesW (enteredW w) got expected left) T u (Check.entered a b c .entries)
+      there Check.theEnd h = tt
+      there Check.firstDiagnostic h = tt
+      there (Check.entry n) h = λ l. h
+
+-- `unify_outside`
+module _ (w : List ℕ) {got expected : Ty} {left : ℕ} where
+  counted-on : {w₁ : List ℕ} {l : ℕ} {x : Done} → Enters w got expected left w₁ x → x ≡ Done.On l
+      → (w₁ ≡ enteredW w) × (left ≡ l) × Enters w got expected left (enteredW w) (Done.On left)
+  counted-on (enters z) e = (refl, cc e, enters z)
+  counted-on (enters-before z s) e = (refl, cc e, enters-before z s)
+  counted-on (stops-here z l) e = clash (cc e)
+
+  pub outside-made : {w₁ w′ : List ℕ} {l : ℕ} {x : Done} {r : Unified} → Enters w got expected left w₁ x → x ≡ Done.On l
+      → Unifies w₁ got expected l w′ r → UnifiesOutside w got expected left w′ r
+  outside-made {w′ = w′} {l} {r = r} F e U =
+      let h = counted-on F e in
+      let past : Unifies (enteredW w) got expected left w′ r = rw (h .0, ← h .1) at U in
+      record {
+        is = λ f ou d. record {
+          is = λ T c B fine.
+              let A = entered-grew (B .sound) (B .runs) (B .lines) (tree T got) (tree T expected) .adds in
+              made B (tree T got) (tree T expected) (h .2)
+              (united-ends (noted B (tree T got) (tree T expected) (h .2)) past (ok-kept A got (fine .0 .ok)) (ok-kept A expected (fine .1 .ok)));
+        };
+      }
+
+  pub outside-out : {w′ : List ℕ} {x : Done} → Enters w got expected left w′ x → x ≡ Done.Out → UnifiesOutside w got expected left w′ Unified.Spent
+  outside-out (enters z) e = clash (cc e)
+  outside-out (enters-before z s) e = clash (cc e)
+  outside-out (stops-here z l) e = record {
+    is = λ f ou d. record
+        { is = λ T c B fine. unmade B (tree T got) (tree T expected) (stops-here z l) refl refl (fine .0 .ok) (fine .1 .ok) };
+  }

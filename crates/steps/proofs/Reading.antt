@@ -47,8 +47,8 @@ pub form-read : {f w ou : List ℕ} {T : Rows} {d : Described} {L : Load} {left 
 unfolding form kind
 form-read s there i = ap formOf (kind-read s there i)
 
--- A variable is a half word, since it is one of the names.
-pub name-small : {d : Described} {n x : ℕ} → Sound d → n < length (nodesOf d) → nodeAt (nodesOf d) n .kind ≡ ExprKind.Var x → x < 65536
+-- A variable is one of at most 256 names.
+pub name-small : {d : Described} {n x : ℕ} → Sound d → n < length (nodesOf d) → nodeAt (nodesOf d) n .kind ≡ ExprKind.Var x → x < 256
 unfolding nodeAt exprNames maxNames
 name-small {d} {n} {x} s there e = omega (
   arith,

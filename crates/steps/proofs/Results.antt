@@ -127,13 +127,13 @@ pub only-ends : {f w ou w′ ou′ : List ℕ} {T : Rows} {d : Described} {n m :
     → Ends f w ou w′ ou′ T d n m (typed w′ r) s → Ends f w ou w′ ou′ T d n m (done (onlyW r)) (andThen s (λ ty b. goes tt b))
 unfolding andThen
 only-ends s (went g) = went (gone-as (omega arith) (omega arith) (λ R x. ap onlyW (x .res)) g)
-only-ends s (spent g) = spent (gone-as (omega arith) (omega arith) (λ R x. ap onlyW x) g)
+only-ends s (spent g) = spent (gone-as (omega arith) (omega arith) (λ R x. (ap onlyW (x .0), x .1)) g)
 
 -- ---- A silent step is one that goes on
 pub silent-on : {f w ou w′ ou′ : List ℕ} {T : Rows} {d : Described} {n m left : ℕ} {s : Step (Unit {0})} → Ends f w ou w′ ou′ T d n m (silent left) s
     → Ends f w ou w′ ou′ T d n m (done (Done.On left)) s
 silent-on (went g) = went (gone-as (omega arith) (omega arith) (λ R x. ap Done.On (sym x)) g)
-silent-on (spent g) = absurd (g .is)
+silent-on (spent g) = absurd (g .is .0)
 
 -- A type in hand outlives a step.
 pub done-typed : {f w ou w′ ou′ : List ℕ} {T : Rows} {d : Described} {n m : ℕ} {x : Done} {s : Step (Unit {0})} (t : Ty) → Ok w t
@@ -148,4 +148,4 @@ done-typed t o (went g) = went (record {
   grew = g .grew;
   is = record { t = t; res = ap (typedAfter t) (g .is); ok = ok-kept (g .grew .adds) t o; is = tree-more (g .more) t o };
 })
-done-typed t o (spent g) = spent (gone-as (omega arith) (omega arith) (λ R x. ap (typedAfter t) x) g)
+done-typed t o (spent g) = spent (gone-as (omega arith) (omega arith) (λ R x. (ap (typedAfter t) (x .0), x .1)) g)

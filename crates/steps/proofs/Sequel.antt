@@ -104,7 +104,7 @@ pub led : {A : Type 0} {f w ou w′ ou′ : List ℕ} {T : Rows} {d : Described}
     {m : Step A} → ¬ (E .Out) → Meets P (G .grade) c m → Ends f w ou w′ ou′ T d (G .records) (G .fields) E m
     → Led f w ou w′ ou′ T d G E P c m
 led G P never meets (went {a} {c = b} g) = record { a = a; b = b; is = refl; gone = g; went = going meets }
-led G P never meets (spent g) = absurd (never (g .is))
+led G P never meets (spent g) = absurd (never (g .is .0))
 
 -- ---- One after another
 pub gone-trans : {A B : Type 0} {f w ou w₁ ou₁ w₂ ou₂ : List ℕ} {T : Rows} {d : Described} (G H K : Load) {E : Result A} {E′ : Result B} {a : A}
@@ -145,7 +145,7 @@ ends-there : {A B : Type 0} {f w ou w₁ ou₁ : List ℕ} {T : Rows} {d : Descr
     → ((R : Rows) (a : A) (v : ℕ) → ¬ (E .Is R a v)) → (E .Out → E′ .Out) → Ends f w ou w₁ ou₁ T d n m E s → Ends f w ou w₁ ou₁ T d k l E′ (andThen s next)
 unfolding andThen
 ends-there i j s next never so (went {a} {c = b} g) = absurd (never (g .T′) a (b .state .left) (g .is))
-ends-there i j s next never so (spent g) = spent (gone-as i j (λ R x. so x) g)
+ends-there i j s next never so (spent g) = spent (gone-as i j (λ R x. (so (x .0), x .1)) g)
 
 module _ {A B : Type 0} {f w ou w₁ ou₁ : List ℕ} {T : Rows} {d : Described} {left : ℕ} {c : Checker} (G H K : Load) (fits : Holds (both G H) K)
     {E : Result A} {E′ : Result B} where
@@ -156,7 +156,7 @@ module _ {A B : Type 0} {f w ou w₁ ou₁ : List ℕ} {T : Rows} {d : Described
       → Ends f w ou w₂ ou₂ T d (K .records) (K .fields) E′ (andThen m next)
   unfolding andThen
   after P m next go s meets (went {a} {c = b} g) rest = gone-on G H K fits g (rest a b g (going meets) (begins-after G H K P fits g (going meets) s))
-  after P m next go s meets (spent g) rest = absurd (go (g .is))
+  after P m next go s meets (spent g) rest = absurd (go (g .is .0))
 
   -- The first step goes on.
   pub then-ends : {w₂ ou₂ : List ℕ} (P : A → Checker → Type 0) (m : Step A) (next : A → Does B) → ¬ (E .Out) → Begins f w ou T d K left c

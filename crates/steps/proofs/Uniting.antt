@@ -16,7 +16,7 @@ use Rattle.cells.specs.declared.Asked.the-variants as Asked
 use Rattle.cells.specs.declared.Unified.{Unified}
 use Rattle.cells.specs.declared.Unified.the-variants as Unified
 use Rattle.cells.specs.Stands.{Rows, tree}
-use Rattle.cells.specs.Contracts.{errorOf, OkError, answerOf, IsOrderable, Unifies}
+use Rattle.cells.specs.Contracts.{errorOf, OkError, answerOf, IsOrderable}
 use Rattle.cells.proofs.Frame.{more-refl, keeps-refl}
 use Rattle.cells.proofs.Holding.{holds-left}
 use Rattle.meaning.specs.File.{Described}
@@ -33,13 +33,13 @@ use Rattle.state.specs.declared.Done.{Done}
 use Rattle.state.specs.declared.Done.the-variants as Done
 use Rattle.steps.specs.Ends.{IsUnified, unified, done, silent, Gone, Ends, spent}
 use Rattle.steps.specs.Loads.{only, both, Holds, Begins}
-use Rattle.steps.specs.Contracts.{Fine, UnifiesTo, compareTypes, UnifiesAt, ComparesTypes}
+use Rattle.steps.specs.Contracts.{Fine, UnifiesTo, UnifiesOutside, compareTypes, UnifiesAt, ComparesTypes}
 use Rattle.steps.specs.Outside.{reportMessage, ComparesOrder}
 use Rattle.steps.proofs.Growing.{grew-refl}
 use Rattle.steps.proofs.Sequel.{then-ends, stop-ends, ends-here, begins-after}
 use Rattle.steps.proofs.Results.{After, tree-after, fine-after, with-visits, on-here}
 use Rattle.steps.proofs.Ending.{reject-ends}
-use Rattle.steps.proofs.Besides.{reports, unifies}
+use Rattle.steps.proofs.Besides.{reports, not-come}
 
 -- A step that makes nothing, and then one diagnostic at most.
 then-one : Holds (both (only no-thing) (only one-diagnostic)) (only one-diagnostic)
@@ -96,24 +96,24 @@ module _ {f w ou w₁ ou₁ : List ℕ} {got expected : Ty} {left : ℕ} {r : Un
       never R (some y) v i = clash (cc (e, i .1))
 
 -- ---- `unify_at`
-module _ {f w ou w₁ : List ℕ} (n : ℕ) {got expected : Ty} {left : ℕ} {r : Unified} (U : Unifies w got expected left w₁ r) where
+module _ {f w ou w₁ : List ℕ} (n : ℕ) {got expected : Ty} {left : ℕ} {r : Unified} (U : UnifiesOutside w got expected left w₁ r) where
   pub unite-good : {l : ℕ} → r ≡ Unified.Good l → UnifiesAt f w ou n got expected left w₁ ou (Done.On l)
   unfolding Check.unifyAt
   unite-good e = record {
     is = λ d there. record
-        { is = λ T c B fine. then-good (unifies f w U) B fine _ e (λ T₁ b a. on-here (a .begins .runs) (a .begins .lines) (a .begins .visits)) };
+        { is = λ T c B fine. then-good (U .is f ou) B fine _ e (λ T₁ b a. on-here (a .begins .runs) (a .begins .lines) (a .begins .visits)) };
   }
 
   pub unite-bad : {err : TyError} {l : ℕ} → r ≡ Unified.Bad err l → {w₂ ou₂ : List ℕ} {x : Done} → Rejected f w₁ ou n (reportMessage err) l w₂ ou₂ x
       → UnifiesAt f w ou n got expected left w₂ ou₂ x
   unfolding Check.unifyAt
   unite-bad {err} {l} e q = (record {
-    is = λ d there. record { is = λ T c B fine. then-bad (unifies f w U) B fine _ e (λ T₁ b a ok. reports f w₁ n err l q d there .is T₁ b (a .begins) ok) };
+    is = λ d there. record { is = λ T c B fine. then-bad (U .is f ou) B fine _ e (λ T₁ b a ok. reports f w₁ n err l q d there .is T₁ b (a .begins) ok) };
   })
 
   pub unite-spent : r ≡ Unified.Spent → UnifiesAt f w ou n got expected left w₁ ou Done.Out
   unfolding Check.unifyAt
-  unite-spent e = record { is = λ d there. record { is = λ T c B fine. then-spent (unifies f w U) B fine _ e refl } }
+  unite-spent e = record { is = λ d there. record { is = λ T c B fine. then-spent (U .is f ou) B fine _ e refl } }
 
 -- ---- `compare_order`
 
@@ -168,18 +168,25 @@ module _ {f w ou : List ℕ} (lhs : ℕ) {t : Ty} {left : ℕ} {r : Asked} (O : 
     is = λ d there. record {
       is = λ T c B fine.
           let q : Bindings.spent ≡ Unify.orderable (Bindings.zonk (c .state .subst) (tree T t)) (c .state .left) = rw e at (answered B fine) in
-          rw (← q) (spent (record { T′ = T; more = more-refl; runs = leaving-runs B 0; lines = B .lines; grew = grew-refl; is = refl }));
+          rw (← q) (spent (record {
+            T′ = T;
+            more = more-refl;
+            runs = leaving-runs B 0;
+            lines = B .lines;
+            grew = grew-refl;
+            is = (refl, not-come (c .until) w T (c .diagnostics) (c .entries) (B .orderly .awaits));
+          }));
     };
   }
 
 -- ---- `compare_types`
-module _ {f w ou w₁ : List ℕ} (lhs rhs : ℕ) {a b : Ty} {left : ℕ} {r : Unified} (U : Unifies w b a left w₁ r) where
+module _ {f w ou w₁ : List ℕ} (lhs rhs : ℕ) {a b : Ty} {left : ℕ} {r : Unified} (U : UnifiesOutside w b a left w₁ r) where
   pub compare-good : {l : ℕ} → r ≡ Unified.Good l → {w₂ ou₂ : List ℕ} {x : Done} → ComparesOrder f w₁ ou lhs a l w₂ ou₂ x
       → ComparesTypes f w ou lhs rhs a b left w₂ ou₂ x
   unfolding compareTypes
   compare-good e O = record {
     is = λ d here there. record {
-      is = λ T c B fine. then-good (unifies f w U) B (fine .1, fine .0) _ e
+      is = λ T c B fine. then-good (U .is f ou) B (fine .1, fine .0) _ e
           (λ T₁ b₁ s. rw (← tree-after s a (fine .0 .ok)) (O .is d here .is T₁ b₁ (s .begins) (fine-after s a (fine .0))));
     };
   }
@@ -189,11 +196,11 @@ module _ {f w ou w₁ : List ℕ} (lhs rhs : ℕ) {a b : Ty} {left : ℕ} {r : U
   unfolding compareTypes
   compare-bad {err} {l} e q = (record {
     is = λ d here there. record {
-      is = λ T c B fine. then-bad (unifies f w U) B (fine .1, fine .0) _ e
+      is = λ T c B fine. then-bad (U .is f ou) B (fine .1, fine .0) _ e
           (λ T₁ b₁ s ok. reports f w₁ rhs err l q d there .is T₁ b₁ (s .begins) ok);
     };
   })
 
   pub compare-spent : r ≡ Unified.Spent → ComparesTypes f w ou lhs rhs a b left w₁ ou Done.Out
   unfolding compareTypes
-  compare-spent e = record { is = λ d here there. record { is = λ T c B fine. then-spent (unifies f w U) B (fine .1, fine .0) _ e refl } }
+  compare-spent e = record { is = λ d here there. record { is = λ T c B fine. then-spent (U .is f ou) B (fine .1, fine .0) _ e refl } }

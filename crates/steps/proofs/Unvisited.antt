@@ -44,9 +44,9 @@ formAt d n = form (d .schema) (nodesOf d) n
 abbrev no-variable : List ℕ
 no-variable = 0 ∷ 1 ∷ 2 ∷ 4 ∷ 5 ∷ 6 ∷ 7 ∷ 8 ∷ 9 ∷ 10 ∷ 11 ∷ 12 ∷ 13 ∷ 14 ∷ 15 ∷ 16 ∷ []
 
-side-stays : (d : Described) (c : Checker) → ByForm no-variable (λ q. introduceSide (d .schema) (nodesOf d) q c ≡ goes tt c)
+side-stays : (d : Described) (n : ℕ) (c : Checker) → ByForm no-variable (λ q. introduceSide (d .schema) (nodesOf d) n q c ≡ goes tt c)
 unfolding introduceSide
-side-stays d c = record {
+side-stays d n c = record {
   wildcard = λ h. refl;
   variable = λ v h. absurd h;
   constant = λ h. refl;
@@ -61,7 +61,7 @@ module _ {f w ou : List ℕ} {n : ℕ} {nd : Node} (i : IsNode f w n nd) where
   side-other x = record {
     is = λ left d there. record {
       is = λ T c s u.
-          rw (form-read s there i, by-form f no-variable (λ q. introduceSide (d .schema) (nodesOf d) q c ≡ goes tt c) (side-stays d c) nd x)
+          rw (form-read s there i, by-form f no-variable (λ q. introduceSide (d .schema) (nodesOf d) n q c ≡ goes tt c) (side-stays d n c) nd x)
           (ends-here tt c (s .runs) (s .lines) (s .visits));
     };
   }
@@ -70,16 +70,16 @@ brought : {f w ou w′ ou′ : List ℕ} {T : Rows} {d : Described} {a b left v 
     → Ends f w ou w′ ou′ T d a b (silent left) (andThen m (λ y e. goes tt e))
 unfolding andThen
 brought m (went g) = went (record { T′ = g .T′; more = g .more; runs = g .runs; lines = g .lines; grew = g .grew; is = g .is .1 })
-brought m (spent g) = absurd (g .is)
+brought m (spent g) = absurd (g .is .0)
 
-pub side-variable : {f w ou w′ : List ℕ} {n x v : ℕ} {nd : Node} → IsNode f w n nd → nd ≡ Node.Var x → Introduces w x w′ v → IntroducesSide f w ou n w′ ou
+pub side-variable : {f w ou w′ : List ℕ} {n x v : ℕ} {nd : Node} → IsNode f w n nd → nd ≡ Node.Var x → Introduces w n x w′ v → IntroducesSide f w ou n w′ ou
 unfolding kindW formOf introduceSide early
 side-variable {f} {w} {ou} {w′} {n} {x} {v} i e I = record {
   is = λ left d there. record {
     is = λ T c s u.
         let k = kind-read s there (rw e at i) in
         let q : formAt d n ≡ aVariable x = form-read s there (rw e at i) in
-        rw q (brought (introduce x c) (brings f w x left w′ v I .is d (name-small (s .sound) there k) .is T c (rw q at s) tt));
+        rw q (brought (introduce n x c) (brings f w n x left w′ v I .is d (name-small (s .sound) there k) there .is T c (rw q at s) tt));
   };
 }
 

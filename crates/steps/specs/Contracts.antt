@@ -89,13 +89,15 @@ abbrev pub Freshens : List ℕ → List ℕ → List ℕ → ℕ → List ℕ �
 Freshens f w ou left w′ ou′ x = (d : Described) → Beside f w ou left w′ ou′ (numbered x left) d (only one-unknown) Always (λ T. Check.freshVarId)
 
 -- `introduce`; a variable that the environment has makes no unknown
-pub record Brings (f w ou : List ℕ) (symbol left : ℕ) (w′ ou′ : List ℕ) (x : ℕ) : Type 0 where
-  pub is : (d : Described) → symbol < 65536 → Beside f w ou left w′ ou′ (numbered x left) d (only one-unknown) Always (λ T. Check.introduce symbol)
-  pub found : (d : Described) → symbol < 65536 → Beside f w ou left w′ ou′ (numbered x left) d (only no-thing) (λ T c. Known symbol c) (λ T. Check.introduce symbol)
+pub record Brings (f w ou : List ℕ) (n symbol left : ℕ) (w′ ou′ : List ℕ) (x : ℕ) : Type 0 where
+  pub is : (d : Described) → symbol < 256 → n < length (nodesOf d) → Beside f w ou left w′ ou′ (numbered x left) d (only one-unknown) Always (λ T. Check.introduce n symbol)
+  pub found : (d : Described) → symbol < 256 → n < length (nodesOf d)
+      → Beside f w ou left w′ ou′ (numbered x left) d (only no-thing) (λ T c. Known symbol c) (λ T. Check.introduce n symbol)
 
--- The environment cut back to a length.
-abbrev pub Cuts : List ℕ → List ℕ → List ℕ → ℕ → List ℕ → List ℕ → Type 0
-Cuts f w ou scope w′ ou′ = (d : Described) (left : ℕ) → Beside f w ou left w′ ou′ (silent left) d (only no-thing) (λ T c. scope ≤ length (c .env)) (λ T. Check.truncateEnv scope)
+-- `leave`: the entries from a number on leave.
+abbrev pub Leaves : List ℕ → List ℕ → List ℕ → ℕ → List ℕ → List ℕ → Type 0
+Leaves f w ou scope w′ ou′ = (d : Described) (left : ℕ)
+    → Beside f w ou left w′ ou′ (silent left) d (only no-thing) (λ T c. scope ≤ length (c .env)) (λ T. Check.leave (d .schema) (nodesOf d) scope)
 
 -- `fuzzy`: both bounds of the pattern, which is a string; the term is a name
 unfoldable pub fuzzy : Described → ℕ → ℕ → ℕ → Does Tree.Ty
@@ -113,14 +115,18 @@ pub record Fuzzes (f w ou : List ℕ) (n term distance left : ℕ) (w′ ou′ :
 abbrev pub UnifiesTo : List ℕ → List ℕ → List ℕ → Ty → Ty → ℕ → List ℕ → List ℕ → Unified → Type 0
 UnifiesTo f w ou got expected left w′ ou′ r = (d : Described) → Beside f w ou left w′ ou′ (unified w′ r) d (only no-thing) (λ T c. Fine w got T c × Fine w expected T c) (λ T. Check.unify (tree T got) (tree T expected))
 
+-- The answer slice is not lent.
+pub record UnifiesOutside (w : List ℕ) (got expected : Ty) (left : ℕ) (w′ : List ℕ) (r : Unified) : Type 0 where
+  pub is : (f ou : List ℕ) → UnifiesTo f w ou got expected left w′ ou r
+
 -- `report`; the types that the error shows exist
 abbrev pub Reports : List ℕ → List ℕ → List ℕ → ℕ → TyError → ℕ → List ℕ → List ℕ → Done → Type 0
 Reports f w ou n err left w′ ou′ r = (d : Described) → n < length (nodesOf d) → Beside f w ou left w′ ou′ (done r) d (only one-diagnostic) (λ T c. OkError w err) (λ T. Check.report (d .schema) (nodesOf d) n (errorOf T err))
 
--- `rollback`, to lengths of the undo log and of the environment
-abbrev pub RollsTo : List ℕ → List ℕ → List ℕ → ℕ → ℕ → List ℕ → List ℕ → Type 0
-RollsTo f w ou undo env w′ ou′ = (d : Described) (left : ℕ) (at : Check.Mark) → at .state .undo ≡ undo → at .env ≡ env
-    → Beside f w ou left w′ ou′ (silent left) d (only no-thing) (λ T c. env ≤ length (c .env)) (λ T. Check.rollback at)
+-- `rollback`, to lengths of the undo log, of the environment and of the marks
+abbrev pub RollsTo : List ℕ → List ℕ → List ℕ → ℕ → ℕ → ℕ → List ℕ → List ℕ → Type 0
+RollsTo f w ou undo env marks w′ ou′ = (d : Described) (left : ℕ) (at : Check.Mark) → at .state .undo ≡ undo → at .env ≡ env → at .marks ≡ marks
+    → Beside f w ou left w′ ou′ (silent left) d (only no-thing) (λ T c. (env ≤ length (c .env)) × (marks ≤ length (c .marks))) (λ T. Check.rollback at)
 
 -- `unify_at`
 pub record UnifiesAt (f w ou : List ℕ) (n : ℕ) (got expected : Ty) (left : ℕ) (w′ ou′ : List ℕ) (r : Done) : Type 0 where
@@ -130,7 +136,7 @@ pub record UnifiesAt (f w ou : List ℕ) (n : ℕ) (got expected : Ty) (left : �
 -- `introduce_side`
 abbrev pub BringsSide : List ℕ → List ℕ → List ℕ → ℕ → ℕ → List ℕ → List ℕ → Type 0
 BringsSide f w ou n left w′ ou′ = (d : Described) → n < length (nodesOf d)
-    → Beside f w ou left w′ ou′ (silent left) d (only (introducing (form (d .schema) (nodesOf d) n))) Always (λ T. Check.introduceSide (d .schema) (nodesOf d) (form (d .schema) (nodesOf d) n))
+    → Beside f w ou left w′ ou′ (silent left) d (only (introducing (form (d .schema) (nodesOf d) n))) Always (λ T. Check.introduceSide (d .schema) (nodesOf d) n (form (d .schema) (nodesOf d) n))
 
 -- `compare_types`: the right side's type unified with the left's, which must then have an order.
 unfoldable pub compareTypes : Described → ℕ → ℕ → Tree.Ty → Tree.Ty → Does (Unit {0})

@@ -16,7 +16,7 @@ use Rattle.meaning.specs.File.{Described}
 use Rattle.meaning.specs.Check.{Checker, Step, goes, out}
 use Rattle.cells.specs.Inferred.{More}
 use Rattle.state.specs.Runs.{Runs, Grew}
-use Rattle.state.specs.Lines.{Told}
+use Rattle.state.specs.Lines.{Told, AtEntry}
 use Rattle.steps.specs.declared.Typed.{Typed}
 use Rattle.steps.specs.declared.Typed.the-variants as Typed
 use Rattle.state.specs.declared.Done.{Done}
@@ -73,12 +73,13 @@ pub record Gone {A : Type 0} (f w ou w′ ou′ : List ℕ) (T : Rows) (d : Desc
   pub grew : Grew w w′ n m
   pub is : E .Is T′ a (c .state .left)
 
--- The run ended: no value comes back, and the code says so.
-abbrev pub stopped : {A : Type 0} → Result A → Result (Unit {0})
-stopped E = record { Is = λ T u left. E .Out; Out = ⊥ }
+-- The run ended in this checker: no value comes back, and the code says so; where it was to last until an entry that came, its sides stand
+-- in the words.
+abbrev pub stopped : {A : Type 0} → List ℕ → Checker → Result A → Result (Unit {0})
+stopped w c E = record { Is = λ T u left. E .Out × AtEntry w T (c .until) (c .entries); Out = ⊥ }
 
--- Also where the run ended, by its visits or by a diagnostic, the words stand for the checker in which the step stopped, and the visits
--- that it had left are kept.
+-- Also where the run ended, by its visits or by what it was to last until, the words stand for the checker in which the step stopped, and
+-- the visits that it had left are kept.
 pub data Ends {A : Type 0} (f w ou w′ ou′ : List ℕ) (T : Rows) (d : Described) (n m : ℕ) (E : Result A) : Step A → Type 0 where
   went : {a : A} {c : Checker} → Gone f w ou w′ ou′ T d n m E a c 0 → Ends f w ou w′ ou′ T d n m E (goes a c)
-  spent : {c : Checker} → Gone f w ou w′ ou′ T d n m (stopped E) tt c (c .state .left) → Ends f w ou w′ ou′ T d n m E (out c)
+  spent : {c : Checker} → Gone f w ou w′ ou′ T d n m (stopped w′ c E) tt c (c .state .left) → Ends f w ou w′ ou′ T d n m E (out c)

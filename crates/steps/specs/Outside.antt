@@ -6,7 +6,7 @@ use mathlib.Core.Path.{_≡_}
 use Prim.Native.Nat.{ℕ, _+_, _*_, _/_, _%_, _<_}
 use lib.Dec.{eqb, ltb}
 use lib.ListN.{length, getD, set}
-use Rattle.work.specs.Layout.{PREDICATE-COUNT, MAX-DISTANCE, MAX-TERM, NAMES, PREDICATES, RECORD-COUNT, RECORD-FIELD-COUNT, ENV-LEN, DIAGNOSTIC-COUNT, UNKNOWNS, TYS, UNDO-LEN}
+use Rattle.work.specs.Layout.{PREDICATE-COUNT, MAX-DISTANCE, MAX-TERM, NAMES, PREDICATES, RECORD-COUNT, RECORD-FIELD-COUNT, ENV-LEN, DIAGNOSTIC-COUNT, UNKNOWNS, MARK-COUNT, UNUSED-COUNT, TYS, UNDO-LEN}
 use Rattle.cells.specs.declared.Ty.{Ty}
 use Rattle.cells.specs.declared.Ty.the-variants as Ty
 use Rattle.cells.specs.declared.Bound.{Bound}
@@ -71,10 +71,10 @@ abbrev pub longW : List ℕ → ℕ → Bool
 longW w term = ltb (getD w MAX-TERM 0) (charactersW w term)
 
 -- The state goes back, and the environment is cut.
-pub record Rewinds (w : List ℕ) (undo env : ℕ) (w′ : List ℕ) : Type 0 where
+pub record Rewinds (w : List ℕ) (undo env marks : ℕ) (w′ : List ℕ) : Type 0 where
   pub between : List ℕ
   pub back : RollsBack w undo between
-  pub cut : w′ ≡ set between ENV-LEN env
+  pub cut : w′ ≡ set (set between ENV-LEN env) MARK-COUNT marks
 
 -- ---- Look-up
 pub record FieldIs (w : List ℕ) (t : Ty) (name : ℕ) (r : Bound) : Type 0 where
@@ -114,7 +114,8 @@ pub record ChecksHead (f w ou : List ℕ) (n left : ℕ) (w′ ou′ : List ℕ)
 
 -- ---- The start
 unfoldable pub countersW : List ℕ → List ℕ
-countersW w = set (set (set (set (set (set w RECORD-COUNT 0) RECORD-FIELD-COUNT 0) ENV-LEN 0) DIAGNOSTIC-COUNT 0) UNKNOWNS 0) UNDO-LEN 0
+countersW w =
+    set (set (set (set (set (set (set (set w RECORD-COUNT 0) RECORD-FIELD-COUNT 0) ENV-LEN 0) DIAGNOSTIC-COUNT 0) UNKNOWNS 0) MARK-COUNT 0) UNUSED-COUNT 0) UNDO-LEN 0
 
 -- The first n nodes have no type, and only words of node types changed.
 pub record Untypes (w : List ℕ) (n : ℕ) (w′ : List ℕ) : Type 0 where

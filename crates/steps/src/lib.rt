@@ -5,7 +5,7 @@ ghost use Rattle.tree.specs.Nodes.{LowerItems};
 ghost use Rattle.state.specs.Lines.{Rejected};
 ghost use Rattle.messages.specs.declared.Message.the-variants as Message;
 ghost use Rattle.steps.specs.Outside.{reportMessage, keyTyW, valueTyW, RejectsTy, RejectedIf, farW, charactersW, longW, Rewinds, FieldIs, Shadows, ValueOf, FieldAt, KeyOf, SelectOf, ComparesOrder, IntroducesSides, ChecksHead, countersW, Untypes, StartsRun};
-ghost use Rattle.steps.specs.Contracts.{Fuzzes, UnifiesAt, ComparesTypes, typedAfter, Asks, AsksAll};
+ghost use Rattle.steps.specs.Contracts.{Fuzzes, UnifiesOutside, UnifiesAt, ComparesTypes, typedAfter, Asks, AsksAll};
 use cells::Asked;
 use cells::Bound;
 use cells::Found;
@@ -62,11 +62,23 @@ pub fn report(f: &[u8], w: &mut [u32], n: u32, err: TyError, left: u32, out: &mu
     }
 }
 
-pub fn rollback(w: &mut [u32], undo: u32, env: u32)
-    ensures { λ _. ⌜ Rewinds (now (w .entry)) undo env (now (w .exit)) ⌝ }
+pub fn rollback(w: &mut [u32], undo: u32, env: u32, marks: u32)
+    ensures { λ _. ⌜ Rewinds (now (w .entry)) undo env marks (now (w .exit)) ⌝ }
 {
     cells::rollback(w, undo);
     put(w, work::ENV_LEN, env);
+    put(w, work::MARK_COUNT, marks);
+}
+
+// `unify` from outside it; an entry that the run was to last until is not made.
+pub fn unify_outside(w: &mut [u32], got: Ty, expected: Ty, left: u32) -> Unified
+    ensures { λ r. ⌜ UnifiesOutside (now (w .entry)) got expected left (now (w .exit)) r ⌝ }
+{
+    let d = state::enter(w, got, expected, left);
+    match d {
+        Done::On(l) => unify::unify(w, got, expected, l),
+        Done::Out => Unified::Spent,
+    }
 }
 
 // Unifies, and reports a failure at a node.
@@ -81,7 +93,7 @@ pub fn unify_at(
 ) -> Done
     ensures { λ r. ⌜ UnifiesAt (now (f .entry)) (now (w .entry)) (now (out .entry)) n got expected left (now (w .exit)) (now (out .exit)) r ⌝ }
 {
-    let r = unify::unify(w, got, expected, left);
+    let r = unify_outside(w, got, expected, left);
     match r {
         Unified::Good(l) => Done::On(l),
         Unified::Bad(err, l) => report(f, w, n, err, l, out),
@@ -113,7 +125,7 @@ pub fn compare_types(
 ) -> Done
     ensures { λ r. ⌜ ComparesTypes (now (f .entry)) (now (w .entry)) (now (out .entry)) lhs rhs a b left (now (w .exit)) (now (out .exit)) r ⌝ }
 {
-    let u = unify::unify(w, b, a, left);
+    let u = unify_outside(w, b, a, left);
     match u {
         Unified::Good(l) => compare_order(f, w, lhs, a, l, out),
         Unified::Bad(err, l) => report(f, w, rhs, err, l, out),
@@ -332,7 +344,7 @@ pub fn introduce_side(f: &[u8], w: &mut [u32], n: u32)
     let e = tree::node_at(f, w, n);
     match e {
         Node::Var(symbol) => {
-            introduce(w, symbol);
+            introduce(w, n, symbol);
         }
         _ => {}
     }
@@ -388,6 +400,8 @@ fn begin_counters(w: &mut [u32])
     put(w, work::ENV_LEN, 0);
     put(w, work::DIAGNOSTIC_COUNT, 0);
     put(w, work::UNKNOWNS, 0);
+    put(w, work::MARK_COUNT, 0);
+    put(w, work::UNUSED_COUNT, 0);
     put(w, work::UNDO_LEN, 0);
 }
 
@@ -408,4 +422,5 @@ pub fn begin(w: &mut [u32], until: Until)
     begin_counters(w);
     begin_types(w);
     state::begin_lines(w, until);
+    state::begin_entries(w, until);
 }

@@ -1,5 +1,5 @@
 -- Where the regions of the work slice stand: the numbers of the constants in src/lib.rt. Each region starts where the one
--- before it ends, but 768 words before the node types are free; the last ends at 15,521 of 16,384 words.
+-- before it ends; the last ends at 15,777 of 16,384 words.
 use Prim.Native.Nat.{ℕ}
 
 -- ---- What a file said, written once by the reading
@@ -78,39 +78,67 @@ PLACE-HIGH = 9622
 abbrev pub FULL : ℕ
 FULL = 9623
 
--- what ends the run early besides its visits: 0 nothing, 1 its first diagnostic; and where it ended so, the visits left
+-- what ends the run early besides its visits: 0 nothing, 1 its first diagnostic, 2 an entry to `unify`; and where it ended so, the visits left
 abbrev pub UNTIL : ℕ
 UNTIL = 9624
 
 abbrev pub LEFT : ℕ
 LEFT = 9625
 
+-- before which entry it is to end, how many there were, and where it ended so the entry's two sides, two words each: the tag and the payload
+abbrev pub STOP : ℕ
+STOP = 9626
+
+abbrev pub ENTERED : ℕ
+ENTERED = 9627
+
+abbrev pub GOT : ℕ
+GOT = 9628
+
+abbrev pub EXPECTED : ℕ
+EXPECTED = 9630
+
+-- how many marks there are, and how many entries left unmarked
+abbrev pub MARK-COUNT : ℕ
+MARK-COUNT = 9632
+
+abbrev pub UNUSED-COUNT : ℕ
+UNUSED-COUNT = 9633
+
 -- 512 inferred records, a word each: where the fields start times 1,024, and their number
 abbrev pub RECORDS : ℕ
-RECORDS = 9632
+RECORDS = 9648
 
 -- 512 fields, two words each: the name times 16 and the tag; the payload
 abbrev pub RECORD-FIELDS : ℕ
-RECORD-FIELDS = 10144
+RECORD-FIELDS = 10160
 
--- 512 entries, a word each: the variable times 65,536 and the unknown; the words from 11,680 on are free
+-- 512 entries, a word each: the variable times 262,144, the node that made it times 512, and the unknown
 abbrev pub ENV : ℕ
-ENV = 11168
+ENV = 11184
+
+-- 512 marks, a word each: the unknown of an entry
+abbrev pub MARKS : ℕ
+MARKS = 11696
+
+-- 512 nodes whose entries left unmarked, a word each
+abbrev pub UNUSED : ℕ
+UNUSED = 12208
 
 -- 512 node types, two words each: the tag, 0 for none, and the payload
 abbrev pub TYS : ℕ
-TYS = 12448
+TYS = 12720
 
 abbrev pub UNDO-LEN : ℕ
-UNDO-LEN = 13472
+UNDO-LEN = 13744
 
 -- 512 bindings, two words each: the tag, 0 for free, and the payload
 abbrev pub BINDINGS : ℕ
-BINDINGS = 13473
+BINDINGS = 13745
 
 -- 1,024 entries: an unknown's number, or 65,536 and a node's
 abbrev pub UNDO : ℕ
-UNDO = 14497
+UNDO = 14769
 
 abbrev pub END : ℕ
-END = 15521
+END = 15793

@@ -48,6 +48,7 @@ impl Counters {
 
     pub const RECORD_FIELDS: u32 = 512;
 
+    // each with an unknown of its own; so many marks, and so many that leave unmarked
     pub const ENTRIES: u32 = 512;
 
     // A visit of a node reports at most three.
@@ -114,19 +115,36 @@ pub const PLACE: usize = RECORD_COUNT + 5;
 pub const PLACE_HIGH: usize = RECORD_COUNT + 6;
 
 pub const FULL: usize = RECORD_COUNT + 7;
-// What ends the run early besides its visits: 0 nothing, 1 its first diagnostic; and where it ended so, the visits left.
+// What ends the run early besides its visits: 0 nothing, 1 its first diagnostic, 2 an entry to `unify`; and where it ended so, the
+// visits left.
 pub const UNTIL: usize = RECORD_COUNT + 8;
 
 pub const LEFT: usize = RECORD_COUNT + 9;
+// Before which entry it is to end, how many there were, and where it ended so the entry's two sides, two words each.
+pub const STOP: usize = RECORD_COUNT + 10;
 
-pub const RECORDS: usize = RECORD_COUNT + 16;
+pub const ENTERED: usize = RECORD_COUNT + 11;
+
+pub const GOT: usize = RECORD_COUNT + 12;
+
+pub const EXPECTED: usize = RECORD_COUNT + 14;
+
+pub const MARK_COUNT: usize = RECORD_COUNT + 16;
+
+pub const UNUSED_COUNT: usize = RECORD_COUNT + 17;
+
+pub const RECORDS: usize = RECORD_COUNT + 32;
 
 pub const RECORD_FIELDS: usize = RECORDS + Counters::RECORDS as usize;
 
 pub const ENV: usize = RECORD_FIELDS + 2 * Counters::RECORD_FIELDS as usize;
 
-// The words between the environment and the node types are free.
-pub const TYS: usize = ENV + Counters::ENTRIES as usize + 768;
+// The marks of entries that are used, by their unknowns; and the nodes whose entries left unmarked.
+pub const MARKS: usize = ENV + Counters::ENTRIES as usize;
+
+pub const UNUSED: usize = MARKS + Counters::ENTRIES as usize;
+
+pub const TYS: usize = UNUSED + Counters::ENTRIES as usize;
 
 pub const UNDO_LEN: usize = TYS + 2 * Counters::NODES as usize;
 

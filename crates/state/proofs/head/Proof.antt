@@ -1,12 +1,12 @@
--- Made from Proof.ans by tools/answers, ae49852159c51ca6 1425062b4781b1b7.
+-- Made from Proof.ans by tools/answers, ae49852159c51ca6 f543d56b567f49aa.
 -- The line's kind, then the span.
+use borrow.Author.Needs.{needs}
 use Rattle.state.proofs.head.Statement.{statement}
 use Rattle.state.proofs.head.Tie as tie
 use Rattle.state.proofs.head.Reads as reads
 use Rattle.state.proofs.head.Lts as lts
-use Rattle.writer.proofs.byte.Reads as byte-reads
 use Rattle.state.proofs.span.Reads as span-reads
-use borrow.Author.Needs.{needs}
+use Rattle.writer.proofs.byte.Reads as byte-reads
 use native.Mathlib.Omega.{arith}
 use Rattle.state.proofs.Telling.{head-then, head-full}
 

@@ -1,4 +1,5 @@
--- Made from Proof.ans by tools/answers, b7860208f97ae4e9 d7370541c2bc8ec8.
+-- Made from Proof.ans by tools/answers, b7860208f97ae4e9 01fe4271fd921e77.
+-- What is sought in the whole environment is sought in what is older than the entries seen.
 use Rattle.state.proofs.lookup.Statement.{statement}
 use Rattle.state.proofs.lookup.Tie as tie
 use Rattle.state.proofs.lookup.Reads as reads

@@ -12,6 +12,7 @@ mod file;
 mod lamp;
 pub mod levenshtein;
 pub mod lower;
+mod marks;
 mod measure;
 mod read;
 mod said;
@@ -178,6 +179,7 @@ fn charged(file: &[u8], limits: &Limits, mut account: impl Account, low: u8) -> 
         let tree = tree::build(tree, &base);
         let mut diagnostics = Diagnostics::new();
         let ceiling = account.ceiling();
+        marks::begin();
         let (left, made) = visits::counted(ceiling, || {
             counted::probe::walk(&tree.ast, &base.schema, &base.interner, &mut diagnostics)
         });
@@ -196,11 +198,13 @@ fn charged(file: &[u8], limits: &Limits, mut account: impl Account, low: u8) -> 
             length = length.saturating_add(NUMBER_LINE);
         }
         length = length.saturating_add(self::length(&left, &diagnostics));
+        let unused = marks::left();
+        length = length.saturating_add(UNUSED_LINE * unused.len() as u64);
         length = length.saturating_add(VISITS_LINE);
-        counted.push((tree, diagnostics));
+        counted.push((tree, diagnostics, unused));
     }
-    let codes: Vec<&str> = counted.iter().flat_map(|(_, found)| codes(found)).collect();
-    let messages = counted.iter().flat_map(|(_, found)| found.iter());
+    let codes: Vec<&str> = counted.iter().flat_map(|(_, found, _)| codes(found)).collect();
+    let messages = counted.iter().flat_map(|(_, found, _)| found.iter());
     let texts = codes
         .iter()
         .zip(messages)
@@ -216,7 +220,7 @@ fn charged(file: &[u8], limits: &Limits, mut account: impl Account, low: u8) -> 
     }
 
     let mut lines = Lines::new(limits.bytes);
-    for (number, (tree, counted)) in counted.iter().enumerate() {
+    for (number, (tree, counted, unused)) in counted.iter().enumerate() {
         let mut diagnostics = Diagnostics::new();
         let typed = ty::check(&tree.ast, &base.schema, &base.interner, &mut diagnostics);
         if file.trees.len() > 1 {
@@ -224,6 +228,7 @@ fn charged(file: &[u8], limits: &Limits, mut account: impl Account, low: u8) -> 
         }
         put_types(&mut lines, &typed, tree, &base);
         put_diagnostics(&mut lines, &diagnostics);
+        put_unused(&mut lines, unused, tree, &file.trees[number]);
         put_visits(&mut lines, visits[number]);
         // The counted copy is ty.rs: shown on every file.
         assert!(
@@ -257,6 +262,21 @@ fn put_number(lines: &mut Lines, query: usize) {
     lines.put(&[0x0b]);
     lines.put(&write::two(query));
     lines.end_line();
+}
+
+/// The characters of an 0c line.
+const UNUSED_LINE: u64 = 19;
+
+/// The 0c lines (card 9). The Rust has no such: these are the copy's with marks.
+fn put_unused(lines: &mut Lines, unused: &[syntax::NodeId], tree: &tree::Tree, of: &Tree) {
+    for maker in unused {
+        let number = tree.nodes.iter().position(|node| node == maker);
+        let node = &of.nodes[number.expect("a node of this query")];
+        lines.put(&[0x0c]);
+        lines.put(&node.start.to_be_bytes());
+        lines.put(&node.end.to_be_bytes());
+        lines.end_line();
+    }
 }
 
 /// The characters of an 09 line.

@@ -70,9 +70,21 @@ pub struct Report {
     pub text: Vec<u8>,
 }
 
+/// A name in scope: its unknown, the node that made the entry, and whether another has found it.
+#[derive(Clone, Copy, Debug)]
+struct Entry {
+    name: u16,
+    var: usize,
+    maker: u16,
+    used: bool,
+}
+
 struct Snapshot {
     undo: usize,
     env: usize,
+    /// Whether each entry was used.
+    used: Vec<bool>,
+    unused: usize,
     subst: usize,
     reports: usize,
 }
@@ -82,7 +94,9 @@ pub struct State<'a> {
     pub rows: &'a Rows,
     pub cells: Cells,
     pub subst: Vec<Option<Ty>>,
-    env: Vec<(u16, usize)>,
+    env: Vec<Entry>,
+    /// The nodes whose entries left unused, in order of leaving.
+    pub unused: Vec<u16>,
     pub tys: Vec<Option<Ty>>,
     pub undo: Vec<Undo>,
     pub reports: Vec<Report>,
@@ -114,6 +128,7 @@ pub fn run<'a>(
         cells: tree.cells.clone(),
         subst: Vec::new(),
         env: Vec::new(),
+        unused: Vec::new(),
         tys: vec![None; rows.nodes.len()],
         undo: Vec::new(),
         reports: Vec::new(),
@@ -196,6 +211,7 @@ impl<'a> State<'a> {
         if !first {
             self.head(head)?;
         }
+        self.leave(0);
         Ok(())
     }
 
@@ -227,26 +243,59 @@ impl<'a> State<'a> {
         }
     }
 
+    /// Which entry a name has.
     fn lookup(&self, name: u16) -> Option<usize> {
-        let of = |entry: &&(u16, usize)| entry.0 == name;
+        let of = |entry: &Entry| entry.name == name;
         // Equal in behaviour: a name is introduced only where it is not found, so it
         // never stands twice in the environment.
-        let found = if self.wrong.on(Wrong::OldestFirst) {
-            self.env.iter().find(of)
+        if self.wrong.on(Wrong::OldestFirst) {
+            self.env.iter().position(of)
         } else {
-            self.env.iter().rfind(of)
-        };
-        found.map(|entry| entry.1)
+            self.env.iter().rposition(of)
+        }
     }
 
-    /// The unknown of a name, made where there is none.
-    fn introduce(&mut self, name: u16) -> usize {
-        if let Some(var) = self.lookup(name) {
-            return var;
+    /// The unknown of the name at a node, made where there is none.
+    fn introduce(&mut self, node: u16) -> usize {
+        let name = self.node(node).name;
+        if let Some(at) = self.lookup(name) {
+            let entry = &mut self.env[at];
+            if entry.maker != node || self.wrong.on(Wrong::OwnLookMarks) {
+                entry.used = true;
+            }
+            return entry.var;
         }
+        self.push(name, node)
+    }
+
+    fn push(&mut self, name: u16, maker: u16) -> usize {
         let var = self.fresh_var_id();
-        self.env.push((name, var));
+        self.env.push(Entry {
+            name,
+            var,
+            maker,
+            used: false,
+        });
         var
+    }
+
+    /// The entries from a number on leave, and those that are unused are noted.
+    fn leave(&mut self, from: usize) {
+        let unused = self.env[from..].iter().filter(|entry| !entry.used);
+        let mut makers: Vec<u16> = unused.map(|entry| entry.maker).collect();
+        if self.wrong.on(Wrong::NewestLeavesFirst) {
+            makers.reverse();
+        }
+        self.unused.extend(makers);
+        self.env.truncate(from);
+    }
+
+    /// What a field's rollback is decided by.
+    fn reported(&self) -> usize {
+        if self.wrong.on(Wrong::UnusedIsReported) {
+            return self.reports.len() + self.unused.len();
+        }
+        self.reports.len()
     }
 
     fn compare(&mut self, left: u16, right: u16) -> Run<()> {
@@ -259,7 +308,7 @@ impl<'a> State<'a> {
         }
         for side in sides {
             if self.node(side).shape == 0x03 && !self.wrong.on(Wrong::NoSideIntroduced) {
-                self.introduce(self.node(side).name);
+                self.introduce(side);
             }
         }
         let snapshot = self.snapshot();
@@ -419,7 +468,7 @@ impl<'a> State<'a> {
         let snapshot = self.snapshot();
         if self.wrong.on(Wrong::RightBeforeVariable) {
             let ty = self.infer(right)?;
-            let var = self.introduce(name);
+            let var = self.introduce(left);
             self.annotate(left, Ty::Var(var));
             if let Some(message) = self.unify(ty, Ty::Var(var))? {
                 self.report(right, message);
@@ -427,11 +476,9 @@ impl<'a> State<'a> {
             return Ok(());
         }
         let var = if self.wrong.on(Wrong::AlwaysNewVariable) {
-            let var = self.fresh_var_id();
-            self.env.push((name, var));
-            var
+            self.push(name, left)
         } else {
-            self.introduce(name)
+            self.introduce(left)
         };
         if !self.wrong.on(Wrong::LeftVariableUntyped) {
             self.annotate(left, Ty::Var(var));
@@ -523,7 +570,7 @@ impl<'a> State<'a> {
             0x04 => self.fresh(),
             0x05 if wrong.on(Wrong::NeverIsError) => Ty::Error,
             0x05 => self.fresh(),
-            0x03 => Ty::Var(self.introduce(node.name)),
+            0x03 => Ty::Var(self.introduce(id)),
             0x08 => {
                 let mut parts = Vec::new();
                 for &(name, value) in &node.under {
@@ -592,7 +639,7 @@ impl<'a> State<'a> {
                 match () {
                     _ if wrong.on(Wrong::SubqueryKept) => {}
                     _ if wrong.on(Wrong::SubqueryStartsEmpty) => self.env = outer,
-                    _ => self.env.truncate(scope),
+                    _ => self.leave(scope),
                 }
                 ty
             }
@@ -888,10 +935,10 @@ impl<'a> State<'a> {
                 }
                 continue;
             };
-            let before = self.reports.len();
+            let before = self.reported();
             let snapshot = self.snapshot();
             self.check(value, part.ty)?;
-            if self.reports.len() > before && !wrong.on(Wrong::FieldsNotUndone) {
+            if self.reported() > before && !wrong.on(Wrong::FieldsNotUndone) {
                 self.rollback(snapshot);
             }
         }
@@ -993,6 +1040,8 @@ impl<'a> State<'a> {
         Snapshot {
             undo: self.undo.len(),
             env: self.env.len(),
+            used: self.env.iter().map(|entry| entry.used).collect(),
+            unused: self.unused.len(),
             subst: self.subst.len(),
             reports: self.reports.len(),
         }
@@ -1006,8 +1055,19 @@ impl<'a> State<'a> {
         if self.wrong.on(Wrong::ReportsUndone) {
             self.reports.truncate(at.reports);
         }
+        if self.wrong.on(Wrong::RolledBackLeave) {
+            self.leave(at.env.min(self.env.len()));
+        }
+        if self.wrong.on(Wrong::UnusedUndone) {
+            self.unused.truncate(at.unused);
+        }
         if !self.wrong.on(Wrong::EnvironmentKept) {
             self.env.truncate(at.env);
+        }
+        if !self.wrong.on(Wrong::MarksKept) {
+            for (entry, used) in self.env.iter_mut().zip(at.used) {
+                entry.used = used;
+            }
         }
     }
 }

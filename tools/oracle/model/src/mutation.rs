@@ -27,6 +27,15 @@ macro_rules! mutations {
 }
 
 mutations! {
+    // Names written once.
+    MarksKept, "marks stay over a rollback", false;
+    OwnLookMarks, "the maker's own look marks its entry", false;
+    NewestLeavesFirst, "of entries that leave the newest comes first", false;
+    RolledBackLeave, "an entry that a rollback removes gives a line", false;
+    UnusedUndone, "a rollback takes lines 0c back", false;
+    UnusedIsReported, "a line 0c counts as a diagnostic of its field", false;
+    UnusedUntold, "no line 0c", false;
+    UnusedBeforeReports, "the lines 0c stand before the diagnostics", false;
     // Sizes and slices.
     WordsOneLess, "a work slice of 16,383 words suffices", false;
     WordsOneMore, "a work slice of 16,384 words is too small", false;

@@ -86,6 +86,9 @@ pub fn write(states: &[State], most: usize, wrong: Switch) -> Result<Vec<u8>, u8
         if told == Told::BeforeReports {
             writer.visits(visits)?;
         }
+        if wrong.on(Wrong::UnusedBeforeReports) {
+            writer.unused()?;
+        }
         if !wrong.on(Wrong::ReportsLast) {
             let from = if wrong.on(Wrong::ReportsOfBefore) {
                 0
@@ -95,6 +98,9 @@ pub fn write(states: &[State], most: usize, wrong: Switch) -> Result<Vec<u8>, u8
             for state in &states[from..=number] {
                 writer.reports(state)?;
             }
+        }
+        if !wrong.on(Wrong::UnusedUntold) && !wrong.on(Wrong::UnusedBeforeReports) {
+            writer.unused()?;
         }
         if told == Told::Last {
             writer.visits(visits)?;
@@ -142,6 +148,19 @@ impl Writer<'_> {
             self.short(number as u16)?;
         }
         self.end()
+    }
+
+    /// The lines of entries that left unused.
+    fn unused(&mut self) -> Written {
+        let state = self.state;
+        for maker in &state.unused {
+            let node = &state.rows.nodes[*maker as usize];
+            self.bytes(&[0x0c])?;
+            self.bytes(&node.start.to_be_bytes())?;
+            self.bytes(&node.end.to_be_bytes())?;
+            self.end()?;
+        }
+        Ok(())
     }
 
     /// The line after a query's others.

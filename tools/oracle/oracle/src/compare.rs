@@ -15,6 +15,7 @@ use crate::options::Options;
 use crate::port::Port;
 use crate::tally::{Progress, Tally};
 use crate::texts;
+use crate::unused;
 use crate::visits;
 
 /// The most files tried to make one that shows a mismatch smaller.
@@ -47,9 +48,10 @@ pub fn run(given: &[String]) -> Done {
         [what] if what == "lamp" => lamp::compare(&options),
         [what] if what == "tally" => desks::compare_tally(&options),
         [what] if what == "texts" => texts::compare(),
+        [what] if what == "unused" => unused::compare(&options),
         [what] if what == "visits" => visits::compare(&options),
         _ => Err(
-            "compare what? one of answers, reading, calls, convert, days, growth, lamp, names, tally, texts, visits"
+            "compare what? one of answers, reading, calls, convert, days, growth, lamp, names, tally, texts, unused, visits"
                 .to_owned(),
         ),
     }

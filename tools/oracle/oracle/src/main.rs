@@ -20,6 +20,7 @@ mod stack;
 mod tally;
 mod texts;
 mod trials;
+mod unused;
 mod visits;
 
 use std::io::{Read, Write};
@@ -63,6 +64,7 @@ oracle compare lamp    --seed S --count N [--style NAME] [--out DIR]
 oracle compare names   --seed S --count N [--style NAME] [--program P] [--out DIR]
 oracle compare growth  --seed S --count N [--style NAME] [--program P] [--growth P] [--out DIR]
 oracle compare texts
+oracle compare unused  --seed S --count N [--style NAME] [--program P] [--out DIR]
     Holds the port against the Rust on generated files: the program P (with arguments, if it needs
     some), from standard input to standard output, and the static library in process where it was
     there when oracle was built, with both slices full of ff before each call. Each mismatch is kept
@@ -74,8 +76,8 @@ oracle compare texts
     to two bytes, and every line of up to two bytes after a right first line; `--nested` takes a file for
     each recursion, as deep as the limits let it go.
     `--model` holds the model against the Rust, as `agree` does, on these files too.
-    Answers are compared without their lines 09, which the Rust knows nothing of; visits: the lines 09 alone, beside
-    the counted copy.
+    Answers are compared without their lines 09 and 0c, which the Rust knows nothing of; visits: the lines 09 alone,
+    beside the counted copy; unused: whole answers with both, beside the copy of the Rust that marks entries.
     Convert: each generated file out of the edition of two bytes for a predicate's number and back to it, beside the
     definition (what the file says, read in one edition and written in the other), with slices of all lengths; and
     out and back again. `--widen` and `--narrow` name the two programs. `--recorded` takes a recorded sample of that

@@ -5,7 +5,7 @@ use std::process::{Command, Stdio};
 
 use judge::{Answer, Limits};
 
-use crate::convert::{as_judged, without_visits};
+use crate::convert::{as_judged, rusts_own};
 
 /// How it is asked for a file's answer.
 pub enum Port {
@@ -48,7 +48,7 @@ impl Port {
     }
 
     /// What the port gives for a file, and what it should give where the answer is `expected`; both without the
-    /// lines 09, which the Rust knows nothing of (`compare visits` is for them).
+    /// lines 09 and 0c, which the Rust knows nothing of (`compare visits` and `compare unused` are for them).
     pub fn ask(
         &self,
         file: &[u8],
@@ -57,14 +57,14 @@ impl Port {
     ) -> Result<(Given, Given), String> {
         match self {
             Port::Program(command) => Ok((
-                without_visits(&program(command, file)?),
-                without_visits(&crate::printed::printed(expected)?),
+                rusts_own(&program(command, file)?),
+                rusts_own(&crate::printed::printed(expected)?),
             )),
             Port::Model => {
                 let answer = modelled(file, limits);
                 Ok((
-                    without_visits(&crate::printed::printed(&answer)?),
-                    without_visits(&crate::printed::printed(expected)?),
+                    rusts_own(&crate::printed::printed(&answer)?),
+                    rusts_own(&crate::printed::printed(expected)?),
                 ))
             }
             Port::Library => {
@@ -79,7 +79,7 @@ impl Port {
                 answer.resize(limits.bytes, 0);
                 let work = vec![0; limits.words];
                 let expected = describe(number, &work, &answer);
-                Ok((without_visits(&found), without_visits(&expected)))
+                Ok((rusts_own(&found), rusts_own(&expected)))
             }
         }
     }
