@@ -113,8 +113,16 @@ module _ {f w o : List ℕ} {T : Rows} {d : Described} {c : Checker} (sound : So
     stands = S .stands;
     holds = S .holds;
     nodes = S .nodes;
-    env = S .env;
-    few-env = S .few-env;
+    scopes = record {
+      env = S .scopes .env;
+      few-env = S .scopes .few-env;
+      makers = S .scopes .makers;
+      marks = S .scopes .marks;
+      few-marks = S .scopes .few-marks;
+      unused = S .scopes .unused;
+      few-unused = S .scopes .few-unused;
+      left = S .scopes .left;
+    };
     diagnostics = S .diagnostics;
     few-diagnostics = S .few-diagnostics;
   }

@@ -429,6 +429,7 @@ module _ {f w : List ℕ} {T : Rows} {d : Described} {c : Checker} {node symbol 
         runs = scoped-runs (M .scoped) sound R refl refl (M .scopes);
         unlined = scoped-unlined (M .scoped);
         reported = refl;
+        entries = refl;
         until = refl;
         grew = scoped-grew (M .scoped) sound R;
       }

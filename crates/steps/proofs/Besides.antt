@@ -263,6 +263,7 @@ module _ {f w ou : List ℕ} {T : Rows} {d : Described} {left : ℕ} {c : Checke
       log = B .orderly .log;
       env = B .orderly .env;
       few = B .orderly .few;
+      marks = B .orderly .marks;
       sides = B .orderly .sides;
       awaits = still-not (B .lines) (Check.entered a b c) one-more (c .diagnostics) (c .entries) (B .orderly .awaits) E;
     };
