@@ -89,13 +89,14 @@ static int of_the_reading(uint8_t r) { return (r >= 1 && r <= 10) || r == 13; }
 static int read_answer(const uint8_t *answer, size_t length) {
     static char text[SIGLA_BYTES];
     struct sigla_line line;
-    size_t at = 0, nodes = 0, queries = 0;
+    size_t at = 0, nodes = 0, once = 0, queries = 0;
     int diagnosed = 0, got, ended = 0;
     uint8_t before = 0;
     while ((got = sigla_next_line(answer, length, &at, &line)) > 0) {
         size_t n = sigla_text(&line, text, below(2) == 0 ? sizeof text : below(40));
         HOLDS((line.kind == SIGLA_MESSAGE) == (before == SIGLA_DIAGNOSTIC));
         HOLDS(!ended || line.kind == SIGLA_QUERY_NUMBER);
+        HOLDS(before != SIGLA_WRITTEN_ONCE || line.kind == SIGLA_WRITTEN_ONCE || line.kind == SIGLA_VISITS_MADE);
         done[KIND + line.kind] = 1;
         switch (line.kind) {
         case SIGLA_NODE_TYPE:
@@ -107,6 +108,9 @@ static int read_answer(const uint8_t *answer, size_t length) {
             HOLDS(n > 0 && n < 64);
             done[CODE + (line.digits[n + 3] * 31 + line.digits[2 * n - 1]) % 256] = 1;
             break;
+        case SIGLA_WRITTEN_ONCE:
+            HOLDS(n == 0 && ++once <= nodes);
+            break;
         case SIGLA_VISITS_MADE:
             HOLDS(line.number <= SIGLA_VISITS);
             done[VISITS + logarithm(line.number)] = 1;
@@ -114,7 +118,7 @@ static int read_answer(const uint8_t *answer, size_t length) {
             break;
         case SIGLA_QUERY_NUMBER:
             HOLDS(line.number == queries++ && queries <= SIGLA_QUERIES);
-            nodes = 0;
+            nodes = once = 0;
             ended = 0;
             break;
         default:

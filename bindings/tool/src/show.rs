@@ -50,7 +50,7 @@ pub fn shown(file: &File, answer: &Answer, sources: &[(String, String)], tree: b
             out += &said.under(source, colour);
         }
         for &span in &typed.once {
-            let said = Said { colour: YELLOW, title: "written once", message: "no other place of the query has this name", span };
+            let said = Said { colour: YELLOW, title: "written once", message: "nothing else that fits uses this name here", span };
             out += &said.under(source, colour);
         }
         match typed.visits {

@@ -276,7 +276,7 @@ fn an_answer_from_elsewhere_is_shown() {
     };
     let (status, all, _) = show(&answer.concat());
     assert_eq!(status, Some(0));
-    assert!(all.contains("written once: no other place of the query has this name\n"), "{all}");
+    assert!(all.contains("written once: nothing else that fits uses this name here\n"), "{all}");
     assert!(all.contains("1 | x where sample {pen = xx}\n  |                       ^^\n"), "{all}");
     let (status, all, _) = show(b"0f0b\n");
     assert_eq!((status, all.as_str()), (Some(3), "-: refused (11): a query needs more than 1,048,576 visits\n"));

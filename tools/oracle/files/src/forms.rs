@@ -240,6 +240,9 @@ pub fn visits(rng: &mut Rng) -> Vec<u8> {
         } else if place == before {
             let target = MOST_VISITS - 1 + rng.below(3) as u64;
             spent(rng, &mut draft, target);
+        } else if rng.chance(50) {
+            // Whoever runs it after one that was stopped charges for it.
+            spent(rng, &mut draft, 100);
         } else {
             draft.head = draft.node(Expr::Int);
         }

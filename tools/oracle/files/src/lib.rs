@@ -13,6 +13,7 @@ mod load;
 mod messages;
 mod nested;
 mod noise;
+mod once;
 mod predicates;
 mod references;
 mod rng;
@@ -84,6 +85,9 @@ const TABLE: &[(&str, usize, Make)] = &[
     ("renderings", 20, messages::renderings),
     ("look-alikes", 600, predicates::look_alikes),
     ("many-facts", 6, predicates::many_facts),
+    ("once", 900, |rng| once::once(rng).bytes()),
+    ("once-most", 15, once::once_most),
+    ("once-last", 6, once::once_last),
 ];
 
 const fn styles() -> [&'static str; TABLE.len()] {

@@ -297,7 +297,7 @@ pub fn answer_of(size: usize) -> Draft {
 }
 
 /// Node lines of that many bytes, over a draft without a schema or one that was given it here: wide records
-/// first (792 for a fact and its wildcard), then variables (13) and literals (9).
+/// first (792 for a fact and its wildcard), then wildcards (13) and literals (9).
 pub fn answer_over(draft: &mut Draft, size: usize) {
     const FIELDS: u16 = 127;
     for n in 0..FIELDS {
@@ -316,7 +316,7 @@ pub fn answer_over(draft: &mut Draft, size: usize) {
         left -= 792;
     }
     while !left.is_multiple_of(9) && left >= 13 {
-        let node = draft.var(0);
+        let node = draft.node(Expr::Wildcard);
         draft.body.push(Stmt::Implicit(node));
         left -= 13;
     }

@@ -19,7 +19,7 @@ const STORED: &str = concat!(env!("CARGO_MANIFEST_DIR"), "/../../../crates/repla
 /// Seed and count of the files that those which tell a mistake are taken from.
 const TELLING: (u64, u64) = (1, 20_000);
 /// Cases of each style, from the seeds 0 on.
-const EACH: u64 = 45;
+const EACH: u64 = 43;
 /// Seeds tried for them.
 const TRIES: u64 = 400;
 /// A case's file and answer are shorter than these, and the whole sample than that. Only the files

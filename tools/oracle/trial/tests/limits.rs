@@ -64,6 +64,42 @@ fn answers_that_end_in_a_message() {
 }
 
 #[test]
+fn answers_that_end_in_a_name_written_once() {
+    let limits = judge::Limits {
+        bytes: 100_000,
+        ..judge::Limits::default()
+    };
+    let length = |seed| {
+        let file = files::generate("once-last", seed);
+        let judge::Answer::Lines(lines) = judge::answer(&file, &limits).answer else {
+            panic!("refused");
+        };
+        let last = lines.split_inclusive(|byte| *byte == b'\n').nth_back(1);
+        assert!(last.is_some_and(|line| line.starts_with(b"0c")));
+        lines.len()
+    };
+    let seen: BTreeSet<usize> = (0..30).map(length).collect();
+    assert_eq!(seen, (65_535..=65_537).collect());
+}
+
+#[test]
+fn as_many_names_written_once_as_nodes() {
+    let lines = |seed| {
+        let file = files::generate("once-most", seed);
+        let judge::Answer::Lines(lines) =
+            judge::answer(&file, &judge::Limits::default()).answer
+        else {
+            panic!("refused");
+        };
+        lines
+            .split(|byte| *byte == b'\n')
+            .filter(|line| line.starts_with(b"0c"))
+            .count()
+    };
+    assert!((0..30).map(lines).max() > Some(490));
+}
+
+#[test]
 fn files_for_the_time_of_messages() {
     for (name, file) in files::speaking() {
         let ran = judge::answer(&file, &judge::Limits::default());

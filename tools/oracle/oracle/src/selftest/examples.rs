@@ -2,7 +2,7 @@
 
 use judge::Answer;
 
-use super::{Group, lines, report, visits};
+use super::{Group, lines, report, unused, visits};
 
 /// M: the smallest file.
 pub const M: &str = "
@@ -54,20 +54,29 @@ pub fn whole(group: &mut Group) {
     group.same("its codes", ran.codes, vec!["reject/infinite-type"]);
 }
 
-/// One row: a file, the types it prints, its reports and its visits.
-struct Row {
-    case: &'static str,
-    file: &'static str,
-    types: &'static str,
-    reports: &'static [(u32, u32, &'static str, &'static str)],
-    visits: u64,
+/// One row: a file, the types it prints, its reports, the nodes of names written once, and its visits.
+pub struct Row {
+    pub case: &'static str,
+    pub file: &'static str,
+    pub types: &'static str,
+    pub reports: &'static [(u32, u32, &'static str, &'static str)],
+    pub unused: &'static [u32],
+    pub visits: u64,
 }
 
 pub fn table(group: &mut Group) {
-    for row in ROWS {
+    rows(group, ROWS);
+}
+
+/// In the files, node n has the span from 2n to 2n + 1.
+pub fn rows(group: &mut Group, rows: &[Row]) {
+    for row in rows {
         let mut expected = lines(row.types);
         for (start, end, code, message) in row.reports {
             expected.extend_from_slice(report(*start, *end, code, message).as_bytes());
+        }
+        for node in row.unused {
+            expected.extend_from_slice(unused(2 * node, 2 * node + 1).as_bytes());
         }
         expected.extend_from_slice(visits(row.visits).as_bytes());
         let ran = group.answer(&lines(row.file));
@@ -78,13 +87,13 @@ pub fn table(group: &mut Group) {
     }
 }
 
-/// In the files, node n has the span from 2n to 2n + 1.
 const ROWS: &[Row] = &[
     Row {
         case: "M",
         file: M,
         types: "07 0000 00",
         reports: &[],
+        unused: &[],
         visits: 0,
     },
     Row {
@@ -101,6 +110,7 @@ const ROWS: &[Row] = &[
             "reject/infinite-type",
             "this pattern would have to contain itself",
         )],
+        unused: &[],
         visits: 3,
     },
     // x = error, head x: the unknown becomes Error.
@@ -118,6 +128,7 @@ const ROWS: &[Row] = &[
             07 0001 07
             07 0002 07",
         reports: &[],
+        unused: &[],
         visits: 1,
     },
     // x = {a = 1, b = \"\"}; x = {b = \"\", a = 1}, head x.
@@ -149,6 +160,7 @@ const ROWS: &[Row] = &[
             07 0007 04 0002 0002 01 0001 00
             07 0008 04 0002 0001 00 0002 01",
         reports: &[],
+        unused: &[],
         // First bind: unify, occurs at the record and its two fields. Second: unify and two inner.
         visits: 7,
     },
@@ -181,6 +193,7 @@ const ROWS: &[Row] = &[
             07 0007 04 0002 0001 00 0001 00
             07 0008 04 0002 0001 00 0002 01",
         reports: &[],
+        unused: &[],
         visits: 7,
     },
     // x = {a = 1, a = 1}; x = {a = 1, b = \"\"}: b is sought in {a, a}.
@@ -212,6 +225,7 @@ const ROWS: &[Row] = &[
             07 0007 04 0002 0001 00 0002 01
             07 0008 04 0002 0001 00 0001 00",
         reports: &[(14, 15, "reject/unknown-field", "`b` is not a field here")],
+        unused: &[],
         // First bind as before, 4. Second: unify and the one for a; b is not found.
         visits: 6,
     },
@@ -239,6 +253,7 @@ const ROWS: &[Row] = &[
             "reject/union-arity",
             "a union value is one alternative, and this names 0",
         )],
+        unused: &[],
         visits: 0,
     },
     // p {a = 1, a = 1} over the same schema.
@@ -269,6 +284,7 @@ const ROWS: &[Row] = &[
             "reject/union-arity",
             "a union value is one alternative, and this names 2",
         )],
+        unused: &[],
         visits: 0,
     },
     // p _ < p _ where p's key is Int.
@@ -297,6 +313,7 @@ const ROWS: &[Row] = &[
             "reject/type-mismatch",
             "`p` has no order — it holds a reference, and a reference compares by which fact was written first",
         )],
+        unused: &[],
         visits: 2,
     },
     // {} < {}.
@@ -313,6 +330,7 @@ const ROWS: &[Row] = &[
             07 0001 04 0000
             07 0002 00",
         reports: &[],
+        unused: &[],
         visits: 2,
     },
     // p {f = {g = y}} where p's key is {f : Int}; head y, which gets unknown 1.
@@ -345,6 +363,7 @@ const ROWS: &[Row] = &[
             "reject/type-mismatch",
             "expected an integer, found {g = an unknown type}",
         )],
+        unused: &[4],
         visits: 1,
     },
     // (absent 7 _).f, and its key node is not visited.
@@ -362,6 +381,7 @@ const ROWS: &[Row] = &[
             07 0001 03 00000007
             07 0002 07",
         reports: &[],
+        unused: &[],
         visits: 0,
     },
     // x = p _; x = (absent 65536 _): 65,536 is not predicate 0.
@@ -390,6 +410,7 @@ const ROWS: &[Row] = &[
             07 0005 03 00010000
             07 0006 03 00000000",
         reports: &[(10, 11, "reject/type-mismatch", "expected `p`, found a fact")],
+        unused: &[],
         // First bind: unify and occurs at the fact. Second: unify.
         visits: 3,
     },
@@ -421,6 +442,7 @@ const ROWS: &[Row] = &[
             "reject/type-mismatch",
             "expected a fact, found a fact",
         )],
+        unused: &[],
         visits: 2,
     },
     // (absent 7 _).value.
@@ -437,6 +459,7 @@ const ROWS: &[Row] = &[
             07 0001 03 00000007
             07 0002 07",
         reports: &[(4, 5, "reject/no-value", "this predicate has no value")],
+        unused: &[],
         visits: 0,
     },
     // Three fuzzy patterns as statements, head an integer.
@@ -469,6 +492,7 @@ const ROWS: &[Row] = &[
                 "an edit distance of 3 is outside 1..=2",
             ),
         ],
+        unused: &[],
         visits: 0,
     },
 ];

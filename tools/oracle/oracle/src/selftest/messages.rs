@@ -2,13 +2,15 @@
 
 use judge::{Answer, Limits};
 
-use super::{Group, lines, report, visits};
+use super::{Group, lines, report, unused, visits};
 
-/// A file and its reports: the node, the code and the message. Node n has the span from 2n to 2n + 1.
+/// A file, its reports (the node, the code and the message), and the nodes of names written once. Node n has the span
+/// from 2n to 2n + 1.
 struct Case {
     case: &'static str,
     file: &'static str,
     reports: &'static [(u32, &'static str, &'static str)],
+    unused: &'static [u32],
 }
 
 pub fn run(group: &mut Group) {
@@ -17,12 +19,14 @@ pub fn run(group: &mut Group) {
         case,
         file,
         reports,
+        unused: once,
     } in CASES
     {
         let ran = group.answer(&lines(file));
         let expected: String = reports
             .iter()
             .map(|(node, code, message)| report(2 * node, 2 * node + 1, code, message))
+            .chain(once.iter().map(|node| unused(2 * node, 2 * node + 1)))
             .chain(ran.visits.iter().map(|made| visits(*made)))
             .collect();
         let Answer::Lines(answer) = &ran.answer else {
@@ -146,6 +150,7 @@ const CASES: &[Case] = &[
                 "a wildcard head projects nothing",
             ),
         ],
+        unused: &[],
     },
     // The file's own limits, 3 and 2: a term of three characters in five bytes at distance 4 has two
     // messages.
@@ -169,6 +174,7 @@ const CASES: &[Case] = &[
                 "a fuzzy term of 3 characters is longer than the 2 a match is built for",
             ),
         ],
+        unused: &[],
     },
     // What is read: x.f; (p _).value where a field is called so; 1.value; "".f; {}.f; u.f, b.a?, u.f?
     // of the union u = (q _).value and bytes b; q {f = 1}.
@@ -252,6 +258,7 @@ const CASES: &[Case] = &[
                 "`f` is not an alternative of this union",
             ),
         ],
+        unused: &[0],
     },
     // Unions: x of {b : Int = 4294967295 | a : Int = 0} in the places of {a : Int = 0}, of one that
     // has c at 0 and a string at b, of two strings, and of {}.
@@ -310,6 +317,7 @@ const CASES: &[Case] = &[
                 "expected {}, found {b : an integer = 4294967295 | a : an integer = 0}: only one of them declares `a` = 0",
             ),
         ],
+        unused: &[0],
     },
     // A union in a union is shown by the outer one, a union in a record by itself.
     Case {
@@ -356,6 +364,7 @@ const CASES: &[Case] = &[
                 "expected {b : an integer = 1}, found {a : an integer = 1}: discriminant 1 is `b`, not `a`",
             ),
         ],
+        unused: &[0, 4],
     },
     // No binding is followed: k = 1; z = {k = k, e = error, f = p _, g = absent 9 _, s = "", b =
     // bytes, r = {}}; z = 1.
@@ -396,6 +405,7 @@ const CASES: &[Case] = &[
             "reject/type-mismatch",
             "expected {k = an unknown type, e = (already reported), f = `p`, g = a fact, s = a string, b = bytes, r = {}}, found an integer",
         )],
+        unused: &[],
     },
     // What has no order is resolved with the bindings of its moment: k; p {f = (1 where k = bytes; l
     // = {k = k, m = m, f = absent 9 _}; l < l)}; k = 1, head k.
@@ -435,5 +445,6 @@ const CASES: &[Case] = &[
             "reject/type-mismatch",
             "{k = bytes, m = an unknown type, f = a fact} has no order — it holds a reference, and a reference compares by which fact was written first",
         )],
+        unused: &[7],
     },
 ];

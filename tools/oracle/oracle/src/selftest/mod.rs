@@ -1,4 +1,4 @@
-//! `oracle selftest`: what document 01 and cards 1 to 3 and 6 to 8 say outright, held against the judge.
+//! `oracle selftest`: what document 01 and cards 1 to 3 and 6 to 9 say outright, held against the judge.
 //!
 //! The expected answers and visits were worked out from these papers by hand and not by running; the
 //! messages are what ty.rs says, read beside it.
@@ -11,6 +11,7 @@ mod messages;
 mod reading;
 mod refusals;
 mod texts;
+mod unused;
 
 use judge::{Answer, Limits, Ran};
 
@@ -21,7 +22,7 @@ use crate::options::Options;
 type Cases = fn(&mut Group);
 
 /// The groups by name.
-const GROUPS: [(&str, Cases); 11] = [
+const GROUPS: [(&str, Cases); 12] = [
     ("the examples of document 01", examples::whole),
     ("the table of refusals", refusals::run),
     ("the list of the computed table", examples::table),
@@ -33,6 +34,7 @@ const GROUPS: [(&str, Cases); 11] = [
     ("the two editions", cards::editions),
     ("the tally", cards::tally),
     ("the cabinet", cards::cabinet),
+    ("names written once", unused::run),
 ];
 
 /// One group of cases: counts, and the files that were asked about.
@@ -106,6 +108,11 @@ pub fn report(start: u32, end: u32, code: &str, message: &str) -> String {
         |text: &str| -> String { text.bytes().map(|byte| format!("{byte:02x}")).collect() };
     let (code, message) = (digits(code), digits(message));
     format!("08{start:08x}{end:08x}{code}\n0a{message}\n")
+}
+
+/// The line of a name written once, at its node's span.
+pub fn unused(start: u32, end: u32) -> String {
+    format!("0c{start:08x}{end:08x}\n")
 }
 
 /// The line of a query's visits, its last.
