@@ -1,0 +1,3 @@
+pub mod Inspect
+pub mod Claims
+pub mod Contracts

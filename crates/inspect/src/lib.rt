@@ -1,0 +1,56 @@
+// Card 12's call: the plain solver at the n-th entry to `unify` of a file's run.
+ghost use mathlib.Core.Path.{_≡_};
+ghost use Rattle.inspect.specs.Contracts.{inspectedBy, Answers, Inspects};
+use plain::Plain;
+use reading::Refusal;
+use seek::Sought;
+
+// After a success with the words that the bindings take in the lent slice; `TooFewWords` is refusal 18.
+pub enum Inspected {
+    Success(usize),
+    Failure,
+    ShutOut,
+    Fewer,
+    Refused(Refusal),
+    TooFewWords,
+}
+
+fn told(p: Plain) -> Inspected
+    ensures { λ r. ⌜ r ≡ inspectedBy p ⌝ }
+{
+    match p {
+        Plain::Success(n) => Inspected::Success(n),
+        Plain::Failure => Inspected::Failure,
+        Plain::ShutOut => Inspected::ShutOut,
+        Plain::TooFew => Inspected::TooFewWords,
+    }
+}
+
+// The work slice holds anything afterwards.
+fn answer(file: &[u8], n: u32, work: &mut [u32], lent: &mut [u32]) -> Inspected
+    ensures { λ r. ⌜ Answers (now (file .entry)) n (now (work .entry)) (now (lent .entry)) (now (work .exit)) (now (lent .exit)) r ⌝ }
+{
+    let s = seek::seek(file, n, work);
+    match s {
+        Sought::Entry(got, expected) => {
+            let p = plain::solve(work, got, expected, lent);
+            told(p)
+        }
+        Sought::Fewer => {
+            work::clear(lent);
+            Inspected::Fewer
+        }
+        Sought::Refused(e) => {
+            work::clear(lent);
+            Inspected::Refused(e)
+        }
+    }
+}
+
+pub fn inspect(file: &[u8], n: u32, work: &mut [u32], lent: &mut [u32]) -> Inspected
+    ensures { λ r. ⌜ Inspects (now (file .entry)) n (now (work .entry)) (now (lent .entry)) (now (work .exit)) (now (lent .exit)) r ⌝ }
+{
+    let r = answer(file, n, work, lent);
+    work::clear(work);
+    r
+}
