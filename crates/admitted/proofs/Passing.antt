@@ -183,9 +183,9 @@ pub record Settling (w₀ w : List ℕ) : Type 0 where
   pub long : TYS ≤ length w
   pub sound : (T : Rows) (st : State) → Holds w T st → Sound w T (st .subst)
 
-pub settling-start : {w₀ w : List ℕ} → TYS ≤ length w₀ → Unmarks w₀ w → Settling w₀ w
+pub settling-start : {u w : List ℕ} → TYS ≤ length u → Unmarks u w → Settling w w
 unfolding Sound
-settling-start {w₀} {w} l U = record { keeps = U .keeps; long = omega (arith, U .keeps .long); sound = nothing }
+settling-start {u} {w} l U = record { keeps = keeps-refl; long = omega (arith, U .keeps .long); sound = nothing }
   where
     none : (i : ℕ) {A : Type 0} → i < 1280 → marked w i ≡ true → A
     none i h g = let q = U .none i h in clash (cc)
@@ -210,10 +210,10 @@ module _ {w₀ w : List ℕ} (S : Settling w₀ w) {w′ : List ℕ} {r : Bool} 
   pub settling-less : r ≡ true → unmarked w′ 1280 < unmarked w 1280
   settling-less e = P .fewer (S .long) e
 
-  pub settling-end : r ≡ false → Settles w₀ w′
+  pub settling-end : {u : List ℕ} → Unmarks u w₀ → r ≡ false → Settles u w′
   unfolding Sound
-  settling-end e = record {
-    keeps = keeps-trans (S .keeps) (P .keeps);
+  settling-end U e = record {
+    keeps = keeps-trans (U .keeps) (keeps-trans (S .keeps) (P .keeps));
     settled = record { exactly = λ T st H t o. (after T st H t o, admitted-good H (P .rests e) t o) };
   }
 

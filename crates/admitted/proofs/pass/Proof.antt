@@ -1,4 +1,4 @@
--- Made from Proof.ans by tools/answers, 37fca11577d116ca 6f9874137da5c3a1.
+-- Made from Proof.ans by tools/answers, 2ed7d93790062d8f 128a1ccc119cc501.
 -- A mark more, or one item more that has none to set.
 use Rattle.admitted.proofs.pass.Statement.{statement}
 use Rattle.admitted.proofs.pass.Tie as tie
@@ -27,6 +27,9 @@ pass-spec =
     (λ c κs. search needs)
     (λ c. search needs)
     (λ c. search needs)
-    (λ c. ⊎-elim (λ z. ?) (λ z. ?) (c .if1 .came))
+    (λ c. ⊎-elim 
+    (λ z. rw (z .1) (passing-marked (c .before .before .before .before .before .before .loop .inv) (c .before .before .before .before .before .loop-test .taken) (c .before .before .before .mark .ensures) (z .0 .taken)))
+    (λ z. rw (z .1) (passing-on (c .before .before .before .before .before .before .loop .inv) (c .before .before .before .before .before .loop-test .taken) (c .before .before .before .mark .ensures) (z .0 .left)))
+     (c .if1 .came))
     (λ c. c .before .loop .inv .keeps .long)
     (λ c. passing-end (c .before .loop .inv) (c .loop-test .left)))
