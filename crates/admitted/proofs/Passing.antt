@@ -220,3 +220,13 @@ module _ {w₀ w : List ℕ} (S : Settling w₀ w) {w′ : List ℕ} {r : Bool} 
 -- A slice too short to hold a state has nothing to settle.
 pub settled-short : {w : List ℕ} → length w < TYS → Settles w w
 settled-short l = record { keeps = keeps-refl; settled = record { exactly = λ T st H t o. absurd (omega (arith, H .long)) } }
+
+-- ---- For who calls both: after `settle` the words stand for the same state, and `good` tells whether a type is admitted.
+module _ {w w′ : List ℕ} (S : Settles w w′) {T : Rows} {st : State} (H : Holds w T st) where
+  pub holds-settled : Holds w′ T st
+  holds-settled = holds-kept (S .keeps) H
+
+  pub good-tells : (t : Ty) → Ok w t → {r : Bool} → r ≡ goodW w′ t → Tells (Admitted (st .subst) (tree T t)) r
+  good-tells t o e =
+      let x = S .settled .exactly T st holds-settled t (ok-same (keeps-cells (omega arith) (S .keeps)) t o) in
+      record { yes = λ y. x .0 (sym e ∙ y); no = λ n a. let g = x .1 a in clash (cc) }
