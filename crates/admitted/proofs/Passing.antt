@@ -85,7 +85,10 @@ zero-there (x ∷ w) (suc i) = zero-there w i
 pub unmark-next : {w₀ w : List ℕ} {i : ℕ} → i < 1280 → Keeps ENV TYS w₀ w × ((j : ℕ) → j < i → marked w j ≡ false)
     → {w′ : List ℕ} → w′ ≡ set w (ENV + i) 0 → Keeps ENV TYS w₀ w′ × ((j : ℕ) → j < i + 1 → marked w′ j ≡ false)
 unfolding marked
-unmark-next {w₀} {w} {i} l h e = rw e (keeps-trans (h .0) (keeps-set w (ENV + i) 0 (omega arith) (omega arith)), below-more _ i (λ j m. marked-other w i 0 j (λ q. absurd (omega arith)) ∙ h .1 j m) zeroed)
+unmark-next {w₀} {w} {i} l h e = rw e (
+  keeps-trans (h .0) (keeps-set w (ENV + i) 0 (omega arith) (omega arith)),
+  below-more _ i (λ j m. marked-other w i 0 j (λ q. absurd (omega arith)) ∙ h .1 j m) zeroed,
+)
   where
     zeroed : marked (set w (ENV + i) 0) i ≡ false
     zeroed = ap (λ (x : ℕ). eqb x 1) (zero-there w (ENV + i))

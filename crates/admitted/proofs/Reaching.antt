@@ -51,7 +51,8 @@ module _ (T : Rows) (w : List ℕ) (k : Kind) (c : ℕ) where
   unfolding rowFrom
   distinct-row j zero h = tt
   distinct-row j (suc n) h =
-      (lacks-row (partW w k c j .key) (j + 1) n (λ m a b. h j (omega arith) m a (omega arith)), distinct-row (j + 1) n (λ i a m b d. h i (omega arith) m b (omega arith)))
+      let first = lacks-row (partW w k c j .key) (j + 1) n (λ m a b. h j (omega arith) m a (omega arith)) in
+      (first, distinct-row (j + 1) n (λ i a m b d. h i (omega arith) m b (omega arith)))
 
   row-distinct : (j n : ℕ) → Calls.Distinct (rowFrom T w k c j n) → (i : ℕ) → j ≤ i → (m : ℕ) → i + 1 ≤ m → m < j + n
       → ¬ (partW w k c i .key ≡ partW w k c m .key)
@@ -180,7 +181,8 @@ module _ {w : List ℕ} {T : Rows} {st : State} (H : Holds w T st) where
     abbrev Parts : Row → Type 0
     Parts r = (k : Kind) (c : ℕ) → T c ≡ r → IsCell w k c → (j : ℕ) → j < countW w c → goodW w (partW w k c j .ty) ≡ true
 
-    node-good : (kind : Tree.Kind) (r : Row) → Parts r → Admitted (st .subst) (Tree.node kind r) → (t : Ty) → tree T t ≡ Tree.node kind r → Ok w t → goodW w t ≡ true
+    node-good : (kind : Tree.Kind) (r : Row) → Parts r → Admitted (st .subst) (Tree.node kind r)
+        → (t : Ty) → tree T t ≡ Tree.node kind r → Ok w t → goodW w t ≡ true
     unfolding Admitted
     node-good kind r p a Int e o = refl
     node-good kind r p a Str e o = refl
@@ -220,7 +222,8 @@ module _ {w : List ℕ} {T : Rows} {st : State} (H : Holds w T st) where
           → Admitted (st .subst) v → (t : Ty) → tree T t ≡ v → Ok w t → goodW w t ≡ true
       tree-good (Tree.leaf p) b a t e o = leaf-is p t e
       tree-good (Tree.node kind r) b a t e o = node-good kind r (λ k c q i j l.
-          row-good r (λ y h. b y (inside h)) (λ u h. a u (inside h)) k c i 0 (countW w c) (sym (cell-row k c i) ∙ q) (omega arith) j (omega arith) (omega arith)) a t e o
+          row-good r (λ y h. b y (inside h)) (λ u h. a u (inside h)) k c i 0 (countW w c) (sym (cell-row k c i) ∙ q)
+          (omega arith) j (omega arith) (omega arith)) a t e o
       tree-good (Tree.Var x) b a t e o = var-is x (b x itself) t e o
       tree-good Tree.Error b a t e o = absurd (a Tree.Error itself)
 
@@ -247,7 +250,8 @@ module _ {w : List ℕ} {T : Rows} {st : State} (H : Holds w T st) where
         go Free q k f = rw q tt
         go (To u) q k f =
             let e = bound-is x′ u q in
-            rw q (tree-good (tree T u) (λ y r oy. f y (tree T u, e, r) oy (λ v i. a v (through e (reaches-trans (st .subst) r i)))) (λ v i. a v (through e i)) u refl k)
+            rw q (tree-good (tree T u) (λ y r oy. f y (tree T u, e, r) oy (λ v i. a v (through e (reaches-trans (st .subst) r i))))
+            (λ v i. a v (through e i)) u refl k)
 
     pub admitted-good : (t : Ty) → Ok w t → Admitted (st .subst) (tree T t) → goodW w t ≡ true
     unfolding Admitted Acyclic

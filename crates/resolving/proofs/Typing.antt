@@ -167,8 +167,8 @@ module _ (S : Script) where
 
   -- ---- A type, its parts in a loop
   -- Where the parts start there is less room.
-  pub head-moves : (w : List ℕ) (u : Ty) → 1 ≤ length (headOf S w u) → {out : List ℕ} {at : ℕ} {mid : List ℕ} {h : Wrote} {n : ℕ} → Writes out at (headOf S w u) mid h
-      → h ≡ To n → (at < n) × (n ≤ length out)
+  pub head-moves : (w : List ℕ) (u : Ty) → 1 ≤ length (headOf S w u) → {out : List ℕ} {at : ℕ} {mid : List ℕ} {h : Wrote} {n : ℕ}
+      → Writes out at (headOf S w u) mid h → h ≡ To n → (at < n) × (n ≤ length out)
   head-moves w u some f e = let g = writes-to f e in (omega (arith, g .0, some), g .1)
 
   pub typing-start : (w mid : List ℕ) (from : ℕ) (u : Ty) (n : ℕ) → n ≡ partsW w u → Typing S w mid from u n mid 0 from

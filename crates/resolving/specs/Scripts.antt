@@ -79,7 +79,8 @@ pub record WritesTy (S : Script) (w out : List ℕ) (at : ℕ) (t : Ty) (out′ 
   pub moves : Moves out at out′ r
 
 pub record WritesPart (S : Script) (w out : List ℕ) (at : ℕ) (k : Kind) (p : Part) (out′ : List ℕ) (r : Wrote) : Type 0 where
-  pub is : (T : Rows) (s : Subst) → Resolves w T s → Ok w (p .ty) → Writes out at (S .part (kindOf k) (p .key) (p .label) ++ written S (zonk s (tree T (p .ty)))) out′ r
+  pub is : (T : Rows) (s : Subst) → Resolves w T s → Ok w (p .ty)
+      → Writes out at (S .part (kindOf k) (p .key) (p .label) ++ written S (zonk s (tree T (p .ty)))) out′ r
   pub moves : Moves out at out′ r
 
 -- A cell may have no parts, and then nothing is written.

@@ -57,7 +57,8 @@ from-next : (s : Subst) (x : ℕ) → x < length s → from s x ≡ bindingSpell
 unfolding bound bindingSpelled resolvedFrom bindingsSpelled
 from-next s x h = rw (drop-cons s x none h, add-one x) (go (getD s x none))
   where
-    go : (o : Option Tree.Ty) → bindingsSpelled (resolvedFrom x (o ∷ drop (suc x) s) s) ≡ bindingSpelled s x o ++ bindingsSpelled (resolvedFrom (suc x) (drop (suc x) s) s)
+    go : (o : Option Tree.Ty) → bindingsSpelled (resolvedFrom x (o ∷ drop (suc x) s) s)
+        ≡ bindingSpelled s x o ++ bindingsSpelled (resolvedFrom (suc x) (drop (suc x) s) s)
     go none = refl
     go (some t) = refl
 

@@ -27,9 +27,9 @@ pass-spec =
     (λ c κs. search needs)
     (λ c. search needs)
     (λ c. search needs)
-    (λ c. ⊎-elim 
+    (λ c. ⊎-elim
     (λ z. rw (z .1) (passing-marked (c .before .before .before .before .before .before .loop .inv) (c .before .before .before .before .before .loop-test .taken) (c .before .before .before .mark .ensures) (z .0 .taken)))
     (λ z. rw (z .1) (passing-on (c .before .before .before .before .before .before .loop .inv) (c .before .before .before .before .before .loop-test .taken) (c .before .before .before .mark .ensures) (z .0 .left)))
-     (c .if1 .came))
+    (c .if1 .came))
     (λ c. c .before .loop .inv .keeps .long)
     (λ c. passing-end (c .before .loop .inv) (c .loop-test .left)))

@@ -1,4 +1,4 @@
--- Made from Proof.ans by tools/answers, 6677371ea9fb223c 7170321c9ca9e2d6.
+-- Made from Proof.ans by tools/answers, ee8745032f1d57be 7170321c9ca9e2d6.
 -- What stands before the parts is written first, so the room left falls. To write the parts from j on is to write them all.
 use Prim.Native.Nat.{ℕ, _<_, _-_}
 use borrow.Fn.Kinds.{In}
@@ -70,14 +70,27 @@ pub +ty-spec : {M : Type 1} → statement M
     (λ c. search needs)
     (λ c. search needs)
     (λ c. search needs)
-    (λ c. spells (typing-stops tokens (c .before .before .before .before .before .before .before .before .before .before .before .h .given .1) (c .before .before .before .before .before .before .part-of .result) (c .before .before .before .before .before .before .before .loop-test .taken) _ (c .before .before .before .before .before .before .before .before .before .before .before .before .before .before .before .before .before .repr .ensures) (c .before .before .before .before .before .before .before .before .before .before .before .before .before .before .before .head .ensures) (c .before .before .before .before .before .before .before .before .loop .inv) (c .before .before .before .before .before .before .part-of .ensures) (c .before .before .before .before .part-head .ensures) (c .enum-told2 .given .1)))
-    (λ c κs. omega (arith, head-moves tokens (now (c .before .before .before .before .before .before .before .before .before .before .before .before .before .before .before .before .before .before .before .before .before .before .args .w)) (c .before .before .before .before .before .before .before .before .before .before .before .before .before .before .before .before .before .before .before .repr .result) (head-some (now (c .before .before .before .before .before .before .before .before .before .before .before .before .before .before .before .before .before .before .before .before .before .before .args .w)) (c .before .before .before .before .before .before .before .before .before .before .before .before .before .before .before .before .before .before .before .repr .result)) (c .before .before .before .before .before .before .before .before .before .before .before .before .before .before .before .before .before .head .ensures) (c .before .before .before .before .before .before .before .before .before .before .before .before .before .h .given .1), c .before .before .before .before .before .before .before .before .before .before .loop .inv .moves .onward _ refl, c .before .before .before .before .before .before .before .before .before .before .loop .inv .moves .long, c .before .before .before .before .before .before .before .before .before .before .before .before .before .before .before .before .before .head .ensures .long, writes-moves (c .before .before .before .before .before .before .part-head .ensures) .onward _ (c .before .before .b .given .1), c .before .before .before .before .before .before .part-head .ensures .long))
+    (λ c. spells (typing-stops tokens (c .before .before .before .before .before .before .before .before .before .before .before .h .given .1) (c .before .before .before .before .before .before .part-of .result)
+    (c .before .before .before .before .before .before .before .loop-test .taken) _ (c .before .before .before .before .before .before .before .before .before .before .before .before .before .before .before .before .before .repr .ensures) (c .before .before .before .before .before .before .before .before .before .before .before .before .before .before .before .head .ensures) (c .before .before .before .before .before .before .before .before .loop .inv) (c .before .before .before .before .before .before .part-of .ensures) (c .before .before .before .before .part-head .ensures) (c .enum-told2 .given .1)))
+    (λ c κs. omega (
+      arith,
+      head-moves tokens (now (c .before .before .before .before .before .before .before .before .before .before .before .before .before .before .before .before .before .before .before .before .before .before .args .w)) (c .before .before .before .before .before .before .before .before .before .before .before .before .before .before .before .before .before .before .before .repr .result) (head-some (now (c .before .before .before .before .before .before .before .before .before .before .before .before .before .before .before .before .before .before .before .before .before .before .args .w)) (c .before .before .before .before .before .before .before .before .before .before .before .before .before .before .before .before .before .before .before .repr .result))
+          (c .before .before .before .before .before .before .before .before .before .before .before .before .before .before .before .before .before .head .ensures) (c .before .before .before .before .before .before .before .before .before .before .before .before .before .h .given .1),
+      c .before .before .before .before .before .before .before .before .before .before .loop .inv .moves .onward _ refl,
+      c .before .before .before .before .before .before .before .before .before .before .loop .inv .moves .long,
+      c .before .before .before .before .before .before .before .before .before .before .before .before .before .before .before .before .before .head .ensures .long,
+      writes-moves (c .before .before .before .before .before .before .part-head .ensures) .onward _ (c .before .before .b .given .1),
+      c .before .before .before .before .before .before .part-head .ensures .long,
+    ))
     (λ c. search needs)
     (λ c. search needs)
     (λ c. search needs)
-    (λ c. spells (typing-ends tokens (c .before .before .before .before .before .before .before .before .before .before .before .before .before .before .before .before .before .before .h .given .1) (c .before .before .before .before .before .before .before .before .before .before .before .before .before .part-of .result) (c .before .before .before .before .before .before .before .before .before .before .before .before .before .before .loop-test .taken) _ (c .before .before .before .before .before .before .before .before .before .before .before .before .before .before .before .before .before .before .before .before .before .before .before .before .repr .ensures) (c .before .before .before .before .before .before .before .before .before .before .before .before .before .before .before .before .before .before .before .before .before .before .head .ensures) (c .before .before .before .before .before .before .before .before .before .before .before .before .before .before .before .loop .inv) (c .before .before .before .before .before .before .before .before .before .before .before .before .before .part-of .ensures) (c .before .before .before .before .before .before .before .before .before .before .before .part-head .ensures) (c .before .before .before .before .before .before .before .b .given .1) (writes (c .before .before .before .before .ty .ensures)) (c .enum-told3 .given .1)))
+    (λ c. spells (typing-ends tokens (c .before .before .before .before .before .before .before .before .before .before .before .before .before .before .before .before .before .before .h .given .1) (c .before .before .before .before .before .before .before .before .before .before .before .before .before .part-of .result)
+    (c .before .before .before .before .before .before .before .before .before .before .before .before .before .before .loop-test .taken) _ (c .before .before .before .before .before .before .before .before .before .before .before .before .before .before .before .before .before .before .before .before .before .before .before .before .repr .ensures) (c .before .before .before .before .before .before .before .before .before .before .before .before .before .before .before .before .before .before .before .before .before .before .head .ensures) (c .before .before .before .before .before .before .before .before .before .before .before .before .before .before .before .loop .inv) (c .before .before .before .before .before .before .before .before .before .before .before .before .before .part-of .ensures) (c .before .before .before .before .before .before .before .before .before .before .before .part-head .ensures)
+    (c .before .before .before .before .before .before .before .b .given .1) (writes (c .before .before .before .before .ty .ensures)) (c .enum-told3 .given .1)))
     (λ c. search needs)
     (λ c. omega arith)
-    (λ c. typing-next tokens (c .before .before .before .before .before .before .before .before .before .before .before .before .before .before .part-of .result) (c .before .before .before .before .before .before .before .before .before .before .before .before .before .before .before .loop-test .taken) (c .before .before .before .before .before .before .before .before .b .given .1) (writes (c .before .before .before .before .before .ty .ensures)) _ (c .before .before .before .before .before .before .before .before .before .before .before .before .before .before .before .before .loop .inv) (c .before .before .before .before .before .before .before .before .before .before .before .before .before .before .part-of .ensures) (c .before .before .before .before .before .before .before .before .before .before .before .before .part-head .ensures) (c .before .r .given .1))
+    (λ c. typing-next tokens (c .before .before .before .before .before .before .before .before .before .before .before .before .before .before .part-of .result) (c .before .before .before .before .before .before .before .before .before .before .before .before .before .before .before .loop-test .taken) (c .before .before .before .before .before .before .before .before .b .given .1) (writes (c .before .before .before .before .before .ty .ensures)) _
+    (c .before .before .before .before .before .before .before .before .before .before .before .before .before .before .before .before .loop .inv) (c .before .before .before .before .before .before .before .before .before .before .before .before .before .before .part-of .ensures) (c .before .before .before .before .before .before .before .before .before .before .before .before .part-head .ensures) (c .before .r .given .1))
     (λ c. search needs)
     (λ c. spells (typing-done tokens (c .before .before .before .before .h .given .1) _ (c .before .before .before .before .before .before .before .before .before .before .repr .ensures) (c .before .before .before .before .before .before .before .before .head .ensures) (c .before .loop .inv) (c .loop-test .left)))
