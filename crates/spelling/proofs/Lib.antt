@@ -1,0 +1,2 @@
+pub mod Tokening
+pub mod Staging
