@@ -150,11 +150,12 @@ module _ {l : List ℕ} {tag left middle n right end h i j : ℕ} (g : Aliking l
             let w = spelled (c .ty) ++ rowSpelled (c .others) k in
             let one = label-at l i middle k (c .name) (c .label) w (g .inside) (c .stands) in
             let other = label-at l p end k (c .name) (u .0) (spelled (u .1) ++ f .1 .0) (g .also) (f .1 .1) in
-            go k (t .kind) one other (named-by k tag (getD l (i + 1) 0) (getD l (p + 1) 0) (t .kind) b (sym lab))
+            go k (c .label) (u .0) b one other (named-by k tag (getD l (i + 1) 0) (getD l (p + 1) 0) (t .kind) b (sym lab))
           where
-            go : (k : Kind) → kindTag k ≡ tag → {x y : ℕ} → Labelled-at k x (getD l (i + 1) 0) → Labelled-at k y (getD l (p + 1) 0) → Like-named k (getD l (i + 1) 0) (getD l (p + 1) 0) b → Like-named k x y b
-            go Record q m o z = z
-            go Union q m o z = rw (m, o) at z
+            go : (k : Kind) (x y : ℕ) (d : Bool) → Labelled-at k x (getD l (i + 1) 0) → Labelled-at k y (getD l (p + 1) 0) → Like-named k (getD l (i + 1) 0) (getD l (p + 1) 0) d → Like-named k x y d
+            go Record x y true m o z = z
+            go Record x y false m o z = z
+            go Union x y d m o z = rw (m, o) at z
 
         module _ (near : p < end) where
           pub alike-differs : b ≡ false → Alike l tag left middle n right end false

@@ -5,3 +5,6 @@ pub mod Swaps
 pub mod Passes
 pub mod Finding
 pub mod Aliking
+pub mod Staging
+pub mod Lowering
+pub mod Pairing

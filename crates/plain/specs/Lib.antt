@@ -1,2 +1,3 @@
 pub mod Tokens
+pub mod Stages
 pub mod Contracts
