@@ -6,7 +6,7 @@ use mathlib.Core.Path.{_≡_, refl, sym, ap, _∙_}
 use Prim.Native.Nat.{ℕ, suc, _+_, _-_, _≤_, _<_}
 use native.Mathlib.Omega.{arith}
 use lib.ListN.{length, getD, take, length-append}
-use lib.Seq.{take-take}
+use lib.Seq.{take-take, getD-take}
 use Rattle.bytes.specs.Bytes.{slice}
 use Rattle.unification.specs.Ty.{Kind, Record, Union, Ty, Row, ε, cell, rowLen}
 use Rattle.unification.specs.Unify.{findKey}
@@ -24,7 +24,7 @@ use Rattle.plain.proofs.Finding.{head-long, key-in, head-two}
 
 -- ---- A cell at a place
 
-module _ {l : List ℕ} {i to tag h : ℕ} (inside : to ≤ length l) (head : h ≡ headSize tag) (k : Kind) (kind : kindTag k ≡ tag) (key label : ℕ) (t : Ty) (ws : List ℕ)
+module _ (l : List ℕ) (i to tag h : ℕ) (inside : to ≤ length l) (head : h ≡ headSize tag) (k : Kind) (kind : kindTag k ≡ tag) (key label : ℕ) (t : Ty) (ws : List ℕ)
     (stands : slice i to l ≡ headSpelled k key label ++ (spelled t ++ ws)) where
   long : length (headSpelled k key label ++ (spelled t ++ ws)) ≡ h + length (spelled t ++ ws)
   long = length-append (headSpelled k key label) (spelled t ++ ws) ∙ ap (λ (b : ℕ). b + length (spelled t ++ ws)) (head-long k key label tag kind ∙ sym head)
@@ -174,7 +174,7 @@ module _ {l₀ : List ℕ} {tag left middle n right end at : ℕ} {l : List ℕ}
     inner = omega (arith, g .below, g .inside)
 
     room : (k : Kind) (r s : Row) (qs : List Equation) → TwoRows l₀ tag left middle n right end k r s → matched k r s ≡ parts qs → (h ≤ middle - i) × (2 ≤ h)
-    room k r s qs t m = let c = held k r s qs t m in cell-room inner (g .head) k (t .kind) (c .name) (c .label) (c .ty) (rowSpelled (c .others) k) (c .stands)
+    room k r s qs t m = let c = held k r s qs t m in cell-room l₀ i middle tag h inner (g .head) k (t .kind) (c .name) (c .label) (c .ty) (rowSpelled (c .others) k) (c .stands)
 
     pub pair-past-end : middle ≤ i → Result l Full
     pair-past-end p = never (g .moves .long) (λ k r s qs t m. omega (arith, room k r s qs t m))
@@ -189,7 +189,7 @@ module _ {l₀ : List ℕ} {tag left middle n right end at : ℕ} {l : List ℕ}
       there k r s qs t m =
           let c = held k r s qs t m in
           let low-word : getD l (i + h - 1) 0 ≡ getD l₀ (i + h - 1) 0 = same (i + h - 1) (omega (arith, g .below, room k r s qs t m)) in
-          let key : a ≡ c .name = e ∙ low-word ∙ cell-key inner (g .head) k (t .kind) (c .name) (c .label) (c .ty) (rowSpelled (c .others) k) (c .stands) in
+          let key : a ≡ c .name = e ∙ low-word ∙ cell-key l₀ i middle tag h inner (g .head) k (t .kind) (c .name) (c .label) (c .ty) (rowSpelled (c .others) k) (c .stands) in
           let f = rw key at (finds-low (g .low) (g .apart) F .is k s (t .kind) (t .as-many) (t .second)) in
           rw (c .found) at f
         where
@@ -206,7 +206,7 @@ module _ {l₀ : List ℕ} {tag left middle n right end at : ℕ} {l : List ℕ}
       pair-broken u v = never (g .moves .long) (λ k r s qs t m.
           let c = held k r s qs t m in
           let o = there k r s qs t m in
-          omega (arith, cell-room outer (g .head) k (t .kind) (c .name) (c .partner .0) (c .partner .1) (o .1 .0) (o .1 .1)))
+          omega (arith, cell-room l₀ p end tag h outer (g .head) k (t .kind) (c .name) (c .partner .0) (c .partner .1) (o .1 .0) (o .1 .1)))
 
       module _ {b : ℕ} (E : EndsAt l (i + h) middle b) {d : ℕ} (D : EndsAt l (p + h) end d) {out : List ℕ} {w : Wrote}
           (W : Writes l to (slice (i + h) b l ++ slice (p + h) d l) out w) (in-b : b ≤ middle) (in-d : d ≤ end) where
@@ -217,10 +217,10 @@ module _ {l₀ : List ℕ} {tag left middle n right end at : ℕ} {l : List ℕ}
             let o = there k r s qs t m in
             let one : slice (i + h) b l ≡ spelled (c .ty) =
                 slice-low l₀ l at (g .low) (i + h) b (omega (arith, g .below))
-                ∙ cell-own inner (g .head) k (t .kind) (c .name) (c .label) (c .ty) (rowSpelled (c .others) k) (c .stands) (ends-low (g .low) (g .below) E) in
+                ∙ cell-own l₀ i middle tag h inner (g .head) k (t .kind) (c .name) (c .label) (c .ty) (rowSpelled (c .others) k) (c .stands) (ends-low (g .low) (g .below) E) in
             let two : slice (p + h) d l ≡ spelled (c .partner .1) =
                 slice-low l₀ l at (g .low) (p + h) d (omega (arith, g .apart))
-                ∙ cell-own outer (g .head) k (t .kind) (c .name) (c .partner .0) (c .partner .1) (o .1 .0) (o .1 .1) (ends-low (g .low) (g .apart) D) in
+                ∙ cell-own l₀ p end tag h outer (g .head) k (t .kind) (c .name) (c .partner .0) (c .partner .1) (o .1 .0) (o .1 .1) (ends-low (g .low) (g .apart) D) in
             rw (one, two)
 
         pub pair-full : w ≡ Full → Result out Full
@@ -244,7 +244,7 @@ module _ {l₀ : List ℕ} {tag left middle n right end at : ℕ} {l : List ℕ}
               let c = held k r s qs t x in
               record {
                 row = c .others;
-                stands = cell-next inner (g .head) k (t .kind) (c .name) (c .label) (c .ty) (rowSpelled (c .others) k) (c .stands) (ends-low (g .low) (g .below) E);
+                stands = cell-next l₀ i middle tag h inner (g .head) k (t .kind) (c .name) (c .label) (c .ty) (rowSpelled (c .others) k) (c .stands) (ends-low (g .low) (g .below) E);
                 pairs = c .pairs;
                 are = c .are;
                 goes = goes-next (c .goes) (spelled (c .ty) ++ spelled (c .partner .1)) (pairsSpelled (c .pairs)) (sym (append-assoc (spelled (c .ty)) (spelled (c .partner .1)) (pairsSpelled (c .pairs))))
