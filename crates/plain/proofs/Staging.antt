@@ -10,11 +10,12 @@ use Rattle.unification.specs.Robinson.{Equation}
 use Rattle.writer.specs.declared.Wrote.{Wrote}
 use Rattle.writer.specs.declared.Wrote.the-variants.{To, Full}
 use Rattle.writer.specs.Writes.{Writes, Moves}
-use Rattle.writer.proofs.Writing.{writes-as, writes-to, writes-then, writes-over, writes-full}
+use Rattle.writer.proofs.Writing.{writes-as, writes-to, writes-then, writes-over, writes-full, writes-moves, full-moves, moves-then}
+use Rattle.plain_theory.specs.Words.{pairsSpelled}
 use Rattle.plain.specs.declared.Staged.{Staged}
 use Rattle.plain.specs.declared.Staged.the-variants as Staged
-use Rattle.plain.specs.Tokens.{swapped, TwoRows}
-use Rattle.plain.specs.Stages.{RowsAt, Lays, Stays, Lowers}
+use Rattle.plain.specs.Tokens.{swapped, TwoRows, Pairs}
+use Rattle.plain.specs.Stages.{RowsAt, Lays, Stays, Parted, Binds, Splits, Lowers}
 use Rattle.plain.proofs.Slices.{slice-front, slice-rest, slice-low, writes-low, writes-there}
 
 -- ---- The second writer
@@ -84,3 +85,97 @@ rows-low {l} {l′} {h} {p} {m} {q} e a b g =
       };
       are = g .are;
     }
+
+-- ---- The pairs of cells, and the pairs behind
+
+module _ {l : List ℕ} (p e : ℕ) {m q at tag n : ℕ} {mid : List ℕ} {r : Wrote} (a : tag ≡ getD l p 0) (b : n ≡ getD l (p + 1) 0) (f : Pairs l tag (p + 2) m n (m + 2) q at mid r) where
+  written : (qs : List Equation) → RowsAt l p m q qs → Writes l at (pairsSpelled qs) mid r
+  written qs g = f .is (g .kind) (g .left) (g .right) qs (record {
+    kind = g .rows .kind ∙ sym a;
+    first = g .rows .first;
+    second = g .rows .second;
+    many = g .rows .many ∙ sym b;
+    as-many = g .rows .as-many ∙ sym b;
+  }) (g .are)
+
+  pub parted-place : at ≤ length l → {k : ℕ} → r ≡ To k → (at ≤ k) × (k ≤ length mid)
+  parted-place h {k} x = (f .moves .onward k x, omega (arith, f .moves .inside k x h, f .moves .long))
+
+  pub parted-then : e ≤ at → {k : ℕ} → r ≡ To k → {out : List ℕ} {s : Wrote} → Writes mid k (slice q e mid) out s → Parted l p m q e at out s
+  parted-then h x w = record {
+    is = λ qs g. after-copy (written qs g) x q e h w;
+    moves = moves-then (f .moves) x (writes-moves w);
+  }
+
+  pub parted-full : r ≡ Full → Parted l p m q e at mid Full
+  parted-full x = record {
+    is = λ qs g. writes-full (written qs g) x (slice q e l);
+    moves = full-moves (f .moves .long);
+  }
+
+-- ---- A binding
+
+module _ {l : List ℕ} {h : ℕ} (b q e x first last : ℕ) (pre : (b ≤ h) × (e ≤ h) × (last ≤ h) × (length l ≡ h + h)) {mid : List ℕ} {r : Wrote}
+    (f : Writes l h (11 ∷ x ∷ (slice first last l ++ swapped x (slice first last l) (slice 0 b l))) mid r) where
+  pub bind-full : r ≡ Full → Binds l h b q e x first last mid Staged.Full
+  bind-full y = record {
+    is = lays-full {b = swapped x (slice first last l) (slice q e l)} (writes-full f y (swapped x (slice first last l) (slice q e l))) refl (pre .3);
+    stays = stays-full (f .long);
+  }
+
+  module _ {n : ℕ} (y : r ≡ To n) where
+    pub bind-again : (e ≤ n) × (last ≤ n) × (n ≤ length mid)
+    bind-again = (omega (arith, after-place f y, pre .1), omega (arith, after-place f y, pre .2), after-place f y .1)
+
+    module _ {mid′ : List ℕ} {s : Wrote} (g : Writes mid n (swapped x (slice first last mid) (slice q e mid)) mid′ s) where
+      all : Writes l h ((11 ∷ x ∷ (slice first last l ++ swapped x (slice first last l) (slice 0 b l))) ++ swapped x (slice first last l) (slice q e l)) mid′ s
+      all = after-replace f y x first last q e (pre .2) (pre .1) g
+
+      pub bind-over : s ≡ Full → Binds l h b q e x first last mid′ Staged.Full
+      bind-over z = record { is = lays-full all z (pre .3); stays = stays-full (g .long ∙ f .long) }
+
+      module _ {m : ℕ} (z : s ≡ To m) where
+        pub bind-place : (h ≤ n) × (n ≤ m) × (m ≤ h + h) × (m ≤ length mid′)
+        bind-place = (after-place f y .0, after-place g z .0, omega (arith, after-place g z, g .long, f .long, pre .3), after-place g z .1)
+
+        pub bind-there : {out : List ℕ} → Lowers mid′ h m out → Binds l h b q e x first last out (Staged.At (n - h) (m - h))
+        bind-there low = record {
+          is = lays-there all z (writes-to f y .0) low;
+          stays = stays-there (bind-place .0) (bind-place .1) (bind-place .2) (low .long ∙ g .long ∙ f .long);
+        }
+
+-- ---- A pair taken apart
+
+module _ {l : List ℕ} {h : ℕ} (b p m q e : ℕ) (pre : (b ≤ h) × (p ≤ h) × (m ≤ h) × (q ≤ h) × (e ≤ h) × (length l ≡ h + h)) {mid : List ℕ} {r : Wrote}
+    (f : Writes l h (slice 0 b l) mid r) where
+  pub split-full : r ≡ Full → Splits l h b p m q e mid Staged.Full
+  split-full y = record {
+    is = λ qs g. lays-full {b = pairsSpelled qs ++ slice q e l} (writes-full f y (pairsSpelled qs ++ slice q e l)) refl (pre .5);
+    stays = stays-full (f .long);
+  }
+
+  module _ {n : ℕ} (y : r ≡ To n) where
+    pub split-again : (m ≤ n) × (q ≤ n) × (e ≤ n) × (n ≤ length mid) × (p + p ≤ length mid) × (m + m ≤ length mid)
+    split-again =
+        let c = after-place f y in
+        (omega (arith, c, pre .2), omega (arith, c, pre .3), omega (arith, c, pre .4), c .1, omega (arith, pre .1, pre .5, f .long), omega (arith, pre .2, pre .5, f .long))
+
+    module _ {mid′ : List ℕ} {s : Wrote} (g : Parted mid p m q e n mid′ s) where
+      all-parts : (qs : List Equation) → RowsAt l p m q qs → Writes l h (slice 0 b l ++ (pairsSpelled qs ++ slice q e l)) mid′ s
+      all-parts qs rows = writes-then f y (writes-as (ap (λ (z : List ℕ). pairsSpelled qs ++ z) (after-same f y q e (pre .4))) (g .is qs (rows-low (writes-low f y) (pre .2) (pre .3) rows)))
+
+      pub split-over : s ≡ Full → Splits l h b p m q e mid′ Staged.Full
+      split-over z = record { is = λ qs rows. lays-full (all-parts qs rows) z (pre .5); stays = stays-full (g .moves .long ∙ f .long) }
+
+      module _ {k : ℕ} (z : s ≡ To k) where
+        pub split-place : (h ≤ n) × (n ≤ k) × (k ≤ h + h) × (k ≤ length mid′)
+        split-place =
+            let c = after-place f y in
+            let d = g .moves .inside k z (c .1) in
+            (c .0, g .moves .onward k z, omega (arith, d, f .long, pre .5), omega (arith, d, g .moves .long))
+
+        pub split-there : {out : List ℕ} → Lowers mid′ h k out → Splits l h b p m q e out (Staged.At (n - h) (k - h))
+        split-there low = record {
+          is = λ qs rows. lays-there (all-parts qs rows) z (writes-to f y .0) low;
+          stays = stays-there (split-place .0) (split-place .1) (split-place .2) (low .long ∙ g .moves .long ∙ f .long);
+        }

@@ -1,7 +1,7 @@
 -- Replacing in the words of a type is replacing in the type; an unknown is among the tokens of a type where it stands in it.
 use mathlib.Core.Bool.{Bool, true, false}
-use mathlib.Core.List.{List, [], _∷_, _++_, append-assoc, map}
-use mathlib.Core.Logic.{_⊎_, inl, inr}
+use mathlib.Core.List.{List, [], _∷_, _++_, append-assoc, append-nil, map}
+use mathlib.Core.Logic.{_⊎_, inl, inr, by-cases}
 use mathlib.Core.Path.{_≡_, refl, sym, ap, _∙_}
 use Prim.Native.Nat.{ℕ}
 use native.Mathlib.Decide.{ℕ-discrete}
@@ -10,7 +10,8 @@ use lib.Dec.{eqb}
 use Rattle.unification.specs.Ty.{Leaf, Int, String, Bytes, Fact, Kind, Record, Union, Ty, leaf, node, Var, Error, Row, ε, cell, rowLen, app, appRow}
 use Rattle.unification.specs.Robinson.{Equation}
 use Rattle.unification.proofs.Rows.{rowLen-app}
-use Rattle.plain_theory.specs.Plain.{Binding, In, InRow, in?, only, inPair, inBinding}
+use Rattle.unification.proofs.Tests.{clash}
+use Rattle.plain_theory.specs.Plain.{Binding, In, InRow, in?, only, inPair, inBinding, bind, fails, binds}
 use Rattle.plain_theory.specs.Words.{leafSpelled, kindTag, headSpelled, spelled, rowSpelled, pairsSpelled, bindingsSpelled}
 use Rattle.plain.specs.Tokens.{short, isUnknown, insteadOf, swapped, among}
 use Rattle.plain.proofs.Tokens.{swapped-short, swapped-long, among-short}
@@ -99,3 +100,91 @@ module _ (x : ℕ) (t : Ty) where
   swap-bindings (b ∷ bs) =
       swap-bound x (spelled t) (b .unknown) (spelled (b .to) ++ bindingsSpelled bs)
       ∙ ap (λ (l : List ℕ). 11 ∷ b .unknown ∷ l) (swap-type (b .to) (bindingsSpelled bs) ∙ ap (λ (l : List ℕ). spelled (app (only x t) (b .to)) ++ l) (swap-bindings bs))
+
+-- ---- The occurs check
+
+module _ (x : ℕ) where
+  seek-word : (a : ℕ) (ws : List ℕ) → short a ≡ true → among x (a ∷ ws) ≡ among x ws
+  unfolding among
+  seek-word a [] e = refl
+  seek-word a (b ∷ ws) e = among-short x a b ws e
+
+  seek-other : (a b : ℕ) (ws : List ℕ) → short a ≡ false → eqb a 7 ≡ false → among x (a ∷ b ∷ ws) ≡ among x ws
+  unfolding among isUnknown
+  seek-other a b ws c q = rw (c, q)
+
+  seek-leaf : (p : Leaf) (ws : List ℕ) → among x (leafSpelled p ++ ws) ≡ among x ws
+  unfolding leafSpelled short
+  seek-leaf Int ws = seek-word 1 ws refl
+  seek-leaf String ws = seek-word 2 ws refl
+  seek-leaf Bytes ws = seek-word 3 ws refl
+  seek-leaf (Fact p) ws = seek-other 4 p ws refl refl
+
+  seek-head : (k : Kind) (key label : ℕ) (ws : List ℕ) → among x (headSpelled k key label ++ ws) ≡ among x ws
+  unfolding headSpelled short
+  seek-head Record key label ws = seek-other 9 key ws refl refl
+  seek-head Union key label ws = seek-other 10 label (9 ∷ key ∷ ws) refl refl ∙ seek-other 9 key ws refl refl
+
+  seek-node : (k : Kind) (n : ℕ) (ws : List ℕ) → among x (kindTag k ∷ n ∷ ws) ≡ among x ws
+  unfolding kindTag short
+  seek-node Record n ws = seek-other 5 n ws refl refl
+  seek-node Union n ws = seek-other 6 n ws refl refl
+
+  seek-it : (y : ℕ) (ws : List ℕ) → x ≡ y → among x (7 ∷ y ∷ ws) ≡ true
+  unfolding among isUnknown
+  seek-it y ws e = rw (var-long, eq-eqb y x (sym e))
+
+  seek-another : (y : ℕ) (ws : List ℕ) → ¬ (x ≡ y) → among x (7 ∷ y ∷ ws) ≡ among x ws
+  unfolding among isUnknown
+  seek-another y ws n = rw (var-long, ne-eqb y x (λ e. n (sym e)))
+
+  mutual
+    unfolding spelled
+
+    out-among : (t : Ty) (ws : List ℕ) → ¬ In x t → among x (spelled t ++ ws) ≡ among x ws
+    out-among (leaf p) ws n = seek-leaf p ws
+    out-among (node k r) ws n = seek-node k (rowLen r) (rowSpelled r k ++ ws) ∙ out-row r k ws n
+    out-among (Var y) ws n = seek-another y ws n
+    out-among Error ws n = seek-word 8 ws error-short
+
+    out-row : (r : Row) (k : Kind) (ws : List ℕ) → ¬ InRow x r → among x (rowSpelled r k ++ ws) ≡ among x ws
+    out-row ε k ws n = refl
+    out-row (cell key label u r) k ws n =
+        rw (append-assoc (headSpelled k key label) (spelled u ++ rowSpelled r k) ws, append-assoc (spelled u) (rowSpelled r k) ws)
+        (seek-head k key label (spelled u ++ (rowSpelled r k ++ ws)) ∙ out-among u (rowSpelled r k ++ ws) (λ i. n (inl i)) ∙ out-row r k ws (λ i. n (inr i)))
+
+  mutual
+    unfolding spelled
+
+    in-among : (t : Ty) (ws : List ℕ) → In x t → among x (spelled t ++ ws) ≡ true
+    in-among (leaf p) ws h = absurd h
+    in-among (node k r) ws h = seek-node k (rowLen r) (rowSpelled r k ++ ws) ∙ in-row r k ws h
+    in-among (Var y) ws h = seek-it y ws h
+    in-among Error ws h = absurd h
+
+    in-row : (r : Row) (k : Kind) (ws : List ℕ) → InRow x r → among x (rowSpelled r k ++ ws) ≡ true
+    in-row ε k ws h = absurd h
+    in-row (cell key label u r) k ws (inl h) =
+        rw (append-assoc (headSpelled k key label) (spelled u ++ rowSpelled r k) ws, append-assoc (spelled u) (rowSpelled r k) ws)
+        (seek-head k key label (spelled u ++ (rowSpelled r k ++ ws)) ∙ in-among u (rowSpelled r k ++ ws) h)
+    in-row (cell key label u r) k ws (inr h) =
+        rw (append-assoc (headSpelled k key label) (spelled u ++ rowSpelled r k) ws, append-assoc (spelled u) (rowSpelled r k) ws)
+        (seek-head k key label (spelled u ++ (rowSpelled r k ++ ws))
+        ∙ by-cases (in? x u) (λ i. in-among u (rowSpelled r k ++ ws) i) (λ n. out-among u (rowSpelled r k ++ ws) n ∙ in-row r k ws h))
+
+  -- What the occurs check says of the words it says of the type.
+  pub bind-occurs : (t : Ty) → among x (spelled t) ≡ true → bind x t ≡ fails
+  unfolding bind among
+  bind-occurs t e = go (in? x t) refl
+    where
+      go : (d : Dec (In x t)) → in? x t ≡ d → bind x t ≡ fails
+      go (yes i) q = rw (q, bind)
+      go (no n) q = let z : false ≡ true = sym (out-among t [] n) ∙ ap (among x) (append-nil (spelled t)) ∙ e in clash (cc)
+
+  pub bind-free : (t : Ty) → among x (spelled t) ≡ false → bind x t ≡ binds x t
+  unfolding bind among
+  bind-free t e = go (in? x t) refl
+    where
+      go : (d : Dec (In x t)) → in? x t ≡ d → bind x t ≡ binds x t
+      go (yes i) q = let z : true ≡ false = sym (in-among t [] i) ∙ ap (among x) (append-nil (spelled t)) ∙ e in clash (cc)
+      go (no n) q = rw (q, bind)
