@@ -8,3 +8,4 @@ pub mod Aliking
 pub mod Staging
 pub mod Lowering
 pub mod Pairing
+pub mod Stepping
