@@ -1,0 +1,11 @@
+pub mod Slices
+pub mod Copying
+pub mod Tokens
+pub mod Swaps
+pub mod Passes
+pub mod Finding
+pub mod Aliking
+pub mod Staging
+pub mod Lowering
+pub mod Pairing
+pub mod Stepping
