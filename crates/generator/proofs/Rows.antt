@@ -249,14 +249,15 @@ module _ (i x : ℕ) where
 
 -- What is left of a row: to write the rest from here is to write the whole line from the start.
 pub record Left (out₀ : List ℕ) (at : ℕ) (whole out : List ℕ) (to : ℕ) (rest : List ℕ) : Type 0 where
+  pub long : length out ≡ length out₀
   pub go : (out′ : List ℕ) (r : Wrote) → Writes out to rest out′ r → Writes out₀ at whole out′ r
 
 pub left-start : (out : List ℕ) (at : ℕ) (whole rest : List ℕ) → rest ≡ whole → Left out at whole out at rest
-left-start out at whole rest e = record { go = λ out′ r f. writes-as e f }
+left-start out at whole rest e = record { long = refl; go = λ out′ r f. writes-as e f }
 
 module _ {out₀ : List ℕ} {at : ℕ} {whole out : List ℕ} {to : ℕ} {rest : List ℕ} (g : Left out₀ at whole out to rest) where
   pub left-next : (a b : List ℕ) → rest ≡ a ++ b → {mid : List ℕ} {r : Wrote} {n : ℕ} → Writes out to a mid r → r ≡ To n → Left out₀ at whole mid n b
-  left-next a b e f p = record { go = λ out′ r′ h. g .go out′ r′ (writes-as (sym e) (writes-then f p h)) }
+  left-next a b e f p = record { long = f .long ∙ g .long; go = λ out′ r′ h. g .go out′ r′ (writes-as (sym e) (writes-then f p h)) }
 
   pub left-full : (a b : List ℕ) → rest ≡ a ++ b → {mid : List ℕ} {r : Wrote} → Writes out to a mid r → r ≡ Full → Writes out₀ at whole mid Full
   left-full a b e {mid} f p = g .go mid Full (writes-as (sym e) (writes-full f p b))

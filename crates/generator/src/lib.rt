@@ -1,7 +1,7 @@
 // Card 11: the file of a seed, written into a lent slice. The rule is crates/testload/specs/Rule.antt.
 ghost use mathlib.Core.List.{_∷_, _++_, flatMap};
 ghost use mathlib.Core.Path.{_≡_};
-ghost use Prim.Native.Nat.{_-_, _<_, _≤_};
+ghost use Prim.Native.Nat.{_-_, _/_, _<_, _≤_};
 ghost use lib.ListN.{length, take, drop};
 ghost use Rattle.meaning.specs.Frame.{wide};
 ghost use Rattle.meaning.specs.Answer.{bytes₄, hexLine};
@@ -75,13 +75,20 @@ fn fill(seed: u32, w: &mut [u32])
     }
 }
 
+fn high(x: u32) -> usize
+    ensures { λ r. ⌜ r ≡ x / 268435456 ⌝ }
+    ensures { λ r. ⌜ r < 16 ⌝ }
+{
+    (x / 268435456) as usize
+}
+
 // One of sixteen, by the four high bits of its word.
 fn choice(w: &[u32; 1440], c: usize) -> usize
     requires { ⌜ c < 160 ⌝ }
     ensures { λ r. ⌜ r ≡ choice (now (w .entry)) c ⌝ }
     ensures { λ r. ⌜ r < 16 ⌝ }
 {
-    (w[1280 + c] / 268435456) as usize
+    high(w[1280 + c])
 }
 
 // ---- Rows
