@@ -17,7 +17,7 @@ use Rattle.seek.specs.declared.Sought.the-variants as Sought
 use Rattle.seek.specs.Contracts.{Shows, Seeks}
 use Rattle.seek.specs.Contracts as Seek
 use Rattle.plain.specs.declared.Plain.{Plain}
-use Rattle.plain.specs.Contracts.{Left, Solves}
+use Rattle.solver.specs.Contracts.{Left, Solves}
 use Rattle.inspect.specs.Inspect as Defined
 use Rattle.inspect.specs.Inspect.{told, inspected, decidePlain, lentAfter}
 use Rattle.inspect.specs.declared.Inspected.{Inspected}

@@ -33,7 +33,7 @@ fn answer(file: &[u8], n: u32, work: &mut [u32], lent: &mut [u32]) -> Inspected
     let s = seek::seek(file, n, work);
     match s {
         Sought::Entry(got, expected) => {
-            let p = plain::solve(work, got, expected, lent);
+            let p = solver::solve(work, got, expected, lent);
             told(p)
         }
         Sought::Fewer => {

@@ -121,6 +121,7 @@ module _ {w l : List ℕ} {at : ℕ} {a b : Ty} {mid : List ℕ} {h : Wrote} (f 
   start-full q = record {
     is = λ T st H o p i. writes-full (f .is T (st .subst) (resolves H) i) q _;
     between = λ T st H o p i m e z. clash (cc);
+    inside = λ m e z low. clash (cc);
     long = f .moves .long;
   }
 
@@ -130,13 +131,20 @@ module _ {w l : List ℕ} {at : ℕ} {a b : Ty} {mid : List ℕ} {h : Wrote} (f 
     start-over z = record {
       is = λ T st H o p i. rw z at (writes-then (f .is T (st .subst) (resolves H) i) q (g .is T (st .subst) (resolves H) o p));
       between = λ T st H o p i m e y. clash (cc);
+      inside = λ m e y low. clash (cc);
       long = g .moves .long ∙ f .moves .long;
     }
 
     pub start-at : {e : ℕ} → r ≡ To e → Starts w l at a b l′ (Staged.At n e)
     unfolding start
-    start-at z = record {
+    start-at {e} z = record {
       is = λ T st H o p i. rw z at (writes-then (f .is T (st .subst) (resolves H) i) q (g .is T (st .subst) (resolves H) o p));
       between = λ T st H o p i m e y. let k : n ≡ m = cc in sym k ∙ writes-to (f .is T (st .subst) (resolves H) i) q .0;
+      inside = λ i j y low.
+          let k : n ≡ i = cc y in
+          let k′ : e ≡ j = cc y in
+          let first = f .moves .inside n q low in
+          (omega (arith, k, f .moves .onward n q), omega (arith, k, k′, g .moves .onward e z),
+          omega (arith, k′, f .moves .long, g .moves .inside e z (omega (arith, first, f .moves .long))));
       long = g .moves .long ∙ f .moves .long;
     }

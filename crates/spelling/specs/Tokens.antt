@@ -56,10 +56,12 @@ ended Full = Wrote.Full
 abbrev pub spelledStage : Stage → List ℕ
 spelledStage g = bindingsSpelled (g .bindings) ++ pairsSpelled (g .pairs)
 
--- The stage stands there, or does not fit; and where its bindings end and its pairs start is told.
+-- The stage stands there, or does not fit; and where its bindings end and its pairs start is told. Both places lie in the slice,
+-- whatever the words are.
 pub record Starts (w l : List ℕ) (at : ℕ) (a b : Ty) (l′ : List ℕ) (r : Staged) : Type 0 where
   pub is : (T : Rows) (st : State) → Holds w T st → Ok w a → Ok w b → at ≤ length l
       → Writes l at (spelledStage (start (st .subst) (tree T a) (tree T b))) l′ (ended r)
   pub between : (T : Rows) (st : State) → Holds w T st → Ok w a → Ok w b → at ≤ length l → (m e : ℕ) → r ≡ At m e
       → m ≡ at + length (bindingsSpelled (start (st .subst) (tree T a) (tree T b) .bindings))
+  pub inside : (m e : ℕ) → r ≡ At m e → at ≤ length l → (at ≤ m) × (m ≤ e) × (e ≤ length l)
   pub long : length l′ ≡ length l

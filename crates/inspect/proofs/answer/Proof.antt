@@ -6,7 +6,7 @@ use Rattle.inspect.proofs.answer.Tie as tie
 use Rattle.inspect.proofs.answer.Reads as reads
 use Rattle.inspect.proofs.answer.Lts as lts
 use Rattle.seek.proofs.seek.Reads as seek-reads
-use Rattle.plain.proofs.solve.Reads as solve-reads
+use Rattle.solver.proofs.solve.Reads as solve-reads
 use Rattle.inspect.proofs.told.Reads as told-reads
 use Rattle.work.proofs.clear.Reads as clear-reads
 use native.Mathlib.Omega.{arith}
