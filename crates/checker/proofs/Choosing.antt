@@ -91,7 +91,6 @@ no-cell-by (Var v) x = tt
 no-cell-by Error x = tt
 
 pub no-error : (t : Ty) → OneOf (0 ∷ 1 ∷ 2 ∷ 3 ∷ 4 ∷ 5 ∷ 6 ∷ []) (tagOf ty.the-type t) → ¬ (tagW t ≡ 8)
-unfolding tagW
 no-error Int x q = omega (arith, q)
 no-error Str x q = omega (arith, q)
 no-error Bytes x q = omega (arith, q)
