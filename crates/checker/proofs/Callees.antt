@@ -4,7 +4,7 @@ use mathlib.Core.Path.{_≡_, sym, subst, _∙_}
 use Prim.Native.Nat.{ℕ, _<_, _≤_}
 use native.Mathlib.Omega.{arith}
 use lib.ListN.{getD}
-use Rattle.work.specs.Layout.{UNKNOWNS}
+use Rattle.work.specs.Layout.{UNKNOWNS, ENV-LEN, MARK-COUNT, UNDO-LEN}
 use Rattle.cells.specs.declared.Ty.{Ty}
 use Rattle.cells.specs.declared.Bound.{Bound}
 use Rattle.cells.specs.declared.TyError.{TyError}
@@ -27,7 +27,8 @@ use Rattle.tree.proofs.Steps.{field-lower, item-lower, LowerStmt, stmt-lower}
 use Rattle.steps.specs.declared.Typed.{Typed}
 use Rattle.state.specs.declared.Done.{Done}
 use Rattle.steps.specs.Contracts.{nodesOf, Rejects, Notes, Freshens, Reports, RollsTo, Leaves, KeyIs, OnType}
-use Rattle.steps.specs.Outside.{reportMessage, keyTyW, Rewinds, KeyOf, ValueOf}
+use Rattle.steps.specs.declared.Mark.{Mark}
+use Rattle.steps.specs.Outside.{reportMessage, keyTyW, Takes, Rewinds, KeyOf, ValueOf}
 use Rattle.steps.proofs.Ending.{rejects, notes, freshens}
 use Rattle.steps.proofs.Looking.{key-is}
 use Rattle.steps.proofs.Besides.{reports, rolls, leaves}
@@ -51,10 +52,12 @@ pub reports-by : {f w ou w′ ou′ : List ℕ} {n left : ℕ} {r : Done} (err :
     → Reports f w ou n err left w′ ou′ r
 reports-by {f} {w} {n = n} {left = left} err x = reports f w n err left x
 
-pub rolls-by : {f w ou w′ : List ℕ} {undo env marks u e m : ℕ} → undo ≡ u → env ≡ e → marks ≡ m → Rewinds w undo env marks w′ → RollsTo f w ou u e m w′ ou
-rolls-by {f} {w} {ou} {w′} {undo} {env} {marks} {u} {e} {m} p q z r =
-    subst (λ (x : ℕ). RollsTo f w ou x e m w′ ou) p
-    (subst (λ (x : ℕ). RollsTo f w ou undo x m w′ ou) q (subst (λ (x : ℕ). RollsTo f w ou undo env x w′ ou) z (rolls f w r)))
+pub rolls-by : {f w ou w₀ w′ : List ℕ} {m : Mark} → Takes w₀ m → Rewinds w m w′
+    → RollsTo f w ou (getD w₀ UNDO-LEN 0) (getD w₀ ENV-LEN 0) (getD w₀ MARK-COUNT 0) w′ ou
+rolls-by {f} {w} {ou} {w₀} {w′} {m} t r =
+    subst (λ (x : ℕ). RollsTo f w ou x (getD w₀ ENV-LEN 0) (getD w₀ MARK-COUNT 0) w′ ou) (t .undo)
+    (subst (λ (x : ℕ). RollsTo f w ou (m .undo) x (getD w₀ MARK-COUNT 0) w′ ou) (t .env)
+    (subst (λ (x : ℕ). RollsTo f w ou (m .undo) (m .env) x w′ ou) (t .marks) (rolls f w r)))
 
 pub leaves-by : {f w ou w′ : List ℕ} {scope : ℕ} → w′ ≡ leaveW w scope → Leaves f w ou scope w′ ou
 leaves-by {f} {w} {ou} {w′} {scope} e = subst (λ (v : List ℕ). Leaves f w ou scope v ou) (sym e) (leaves f w scope)

@@ -2,10 +2,12 @@
 use mathlib.Core.List.{List, [], _∷_}
 use mathlib.Core.Path.{_≡_, refl}
 use Prim.Native.Nat.{ℕ}
+use native.Mathlib.Omega.{arith}
 use types.Run.{OneOf, miss}
 use denote.Enum.Declared.{tagOf}
 use Rattle.cells.specs.declared.Ty.{Ty}
 use Rattle.cells.specs.declared.Ty.the-variants.{Int, Str, Bytes, Fact, Record, Union, Var, Error}
+use Rattle.cells.specs.Words.{tagW}
 use Rattle.cells.proofs.Ty as ty
 use Rattle.meaning.specs.Diag as Diag
 use Rattle.meaning.specs.Check.{formOf, denyForm, badTarget}
@@ -87,6 +89,16 @@ no-cell-by (Record c) x = miss (0 ∷ 1 ∷ 2 ∷ 3 ∷ 6 ∷ 7 ∷ []) 4 tt x
 no-cell-by (Union c) x = miss (0 ∷ 1 ∷ 2 ∷ 3 ∷ 6 ∷ 7 ∷ []) 5 tt x
 no-cell-by (Var v) x = tt
 no-cell-by Error x = tt
+
+pub no-error : (t : Ty) → OneOf (0 ∷ 1 ∷ 2 ∷ 3 ∷ 4 ∷ 5 ∷ 6 ∷ []) (tagOf ty.the-type t) → ¬ (tagW t ≡ 8)
+no-error Int x q = omega (arith, q)
+no-error Str x q = omega (arith, q)
+no-error Bytes x q = omega (arith, q)
+no-error (Fact p) x q = omega (arith, q)
+no-error (Record c) x q = omega (arith, q)
+no-error (Union c) x q = omega (arith, q)
+no-error (Var v) x q = omega (arith, q)
+no-error Error x q = miss (0 ∷ 1 ∷ 2 ∷ 3 ∷ 4 ∷ 5 ∷ 6 ∷ []) 7 tt x
 
 pub record-whole : {f w ou w′ ou′ : List ℕ} {n left : ℕ} {l : Items} {t : Ty} {r : Done} → InfersThenUnifies f w ou n t left w′ ou′ r
     → OneOf (0 ∷ 1 ∷ 2 ∷ 3 ∷ 6 ∷ 7 ∷ []) (tagOf ty.the-type t)

@@ -193,9 +193,7 @@ fn infer_then_unify(
 ) -> Done
     ensures { λ r. ⌜ InfersThenUnifies (now (f .entry)) (now (w .entry)) (now (out .entry)) n expected left (now (w .exit)) (now (out .exit)) r ⌝ }
 {
-    let undo = cells::snapshot(w);
-    let env = word(w, work::ENV_LEN);
-    let marks = word(w, work::MARK_COUNT);
+    let at = steps::snapshot(w);
     let r = infer(f, w, n, left, out);
     match r {
         Typed::Got(t, l) => {
@@ -203,7 +201,7 @@ fn infer_then_unify(
             match u {
                 Unified::Good(m) => Done::On(m),
                 Unified::Bad(err, m) => {
-                    steps::rollback(w, undo, env, marks);
+                    steps::rollback(w, at);
                     steps::report(f, w, n, err, m, out)
                 }
                 Unified::Spent => Done::Out,
@@ -230,14 +228,12 @@ fn check_field(
         Found::At(p) => {
             let t = p.ty;
             let before = word(w, work::DIAGNOSTIC_COUNT);
-            let undo = cells::snapshot(w);
-            let scope = word(w, work::ENV_LEN);
-            let marks = word(w, work::MARK_COUNT);
+            let mark = steps::snapshot(w);
             let d = check(f, w, value, t, left, out);
             match d {
                 Done::On(l) => {
                     if before < word(w, work::DIAGNOSTIC_COUNT) {
-                        steps::rollback(w, undo, scope, marks);
+                        steps::rollback(w, mark);
                     }
                     Done::On(l)
                 }
@@ -309,30 +305,32 @@ pub fn check(f: &[u8], w: &mut [u32], n: u32, expected: Ty, left: u32, out: &mut
     ensures { λ r. ⌜ Checks (now (f .entry)) (now (w .entry)) (now (out .entry)) n expected left (now (w .exit)) (now (out .exit)) r ⌝ }
 {
     let t = cells::repr(w, expected);
-    if cells::tag_of(t) == 8 {
-        return Done::On(left);
-    }
-    let e = tree::node_at(f, w, n);
-    match e {
-        Node::Wildcard => {
-            cells::annotate(w, n, t);
-            Done::On(left)
-        }
-        Node::Record(items) => match t {
-            Ty::Record(c) => {
-                let d = check_fields(f, w, items, c, left, out);
-                match d {
-                    Done::On(l) => {
-                        cells::annotate(w, n, t);
-                        Done::On(l)
-                    }
-                    Done::Out => Done::Out,
+    match t {
+        Ty::Error => Done::On(left),
+        _ => {
+            let e = tree::node_at(f, w, n);
+            match e {
+                Node::Wildcard => {
+                    cells::annotate(w, n, t);
+                    Done::On(left)
                 }
+                Node::Record(items) => match t {
+                    Ty::Record(c) => {
+                        let d = check_fields(f, w, items, c, left, out);
+                        match d {
+                            Done::On(l) => {
+                                cells::annotate(w, n, t);
+                                Done::On(l)
+                            }
+                            Done::Out => Done::Out,
+                        }
+                    }
+                    Ty::Union(c) => check_union(f, w, n, items, c, left, out),
+                    _ => infer_then_unify(f, w, n, t, left, out),
+                },
+                _ => infer_then_unify(f, w, n, t, left, out),
             }
-            Ty::Union(c) => check_union(f, w, n, items, c, left, out),
-            _ => infer_then_unify(f, w, n, t, left, out),
-        },
-        _ => infer_then_unify(f, w, n, t, left, out),
+        }
     }
 }
 

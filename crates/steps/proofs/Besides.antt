@@ -25,7 +25,7 @@ use Rattle.cells.specs.declared.Unified.the-variants as Unified
 use Rattle.cells.specs.Words.{pick}
 use Rattle.cells.specs.Stands.{Rows, tree, Ok, Keeps}
 use Rattle.cells.specs.Contracts as Cells
-use Rattle.cells.specs.Contracts.{errorOf, OkError, Unifies}
+use Rattle.cells.specs.Contracts.{errorOf, OkError, RollsBack, Unifies}
 use Rattle.cells.proofs.Frame.{more-refl, keeps-wider}
 use Rattle.meaning.specs.File.{Described}
 use Rattle.meaning.specs.Check as Check
@@ -56,6 +56,7 @@ use Rattle.steps.specs.declared.Typed.the-variants as Typed
 use Rattle.steps.specs.Ends.{done, silent, unified, Gone, Ends, went, spent}
 use Rattle.steps.specs.Loads.{Load, only, both, Holds, Begins, Beside}
 use Rattle.steps.specs.Contracts.{nodesOf, Reports, RollsTo, Leaves, fuzzy, Fuzzes, UnifiesOutside, typedAfter}
+use Rattle.steps.specs.declared.Mark.{Mark}
 use Rattle.steps.specs.Outside.{reportMessage, RejectedIf, reported, stayed, farW, charactersW, longW, Rewinds}
 use Rattle.steps.proofs.Growing.{ok-kept}
 use Rattle.steps.proofs.Sequel.{gone-on}
@@ -104,23 +105,23 @@ rollback-visits : (st : State) (at : Bindings.Snapshot) → Bindings.rollback st
 unfolding Bindings.rollback withHistory
 rollback-visits st at = rewind-left (length (st .undo) - at .undo) (st .undo) st
 
-pub rolls : (f w : List ℕ) {ou : List ℕ} {undo env marks : ℕ} {w′ : List ℕ} → Rewinds w undo env marks w′ → RollsTo f w ou undo env marks w′ ou
+pub rolls : (f w : List ℕ) {ou : List ℕ} {m : Mark} {w′ : List ℕ} → Rewinds w m w′ → RollsTo f w ou (m .undo) (m .env) (m .marks) w′ ou
 unfolding Check.rollback Check.truncateEnv Check.truncateMarks Check.withState Check.withEnv Check.withMarks andThen
-rolls f w {ou} {w′ = w′} X d left at p q r = rw (← q, ← r) (back (rw (← p, ← q, ← r) at X))
+rolls f w {ou} {w′ = w′} X d left at p q r = rw (← q, ← r) (back (rw (← p) at (X .back)) (rw (← q, ← r) at (X .cut)))
   where
-    back : Rewinds w (at .state .undo) (at .env) (at .marks) w′
+    back : RollsBack w (at .state .undo) (X .between) → w′ ≡ set (set (X .between) ENV-LEN (at .env)) MARK-COUNT (at .marks)
         → Beside f w ou left w′ ou (silent left) d (only no-thing) (λ T c. (at .env ≤ length (c .env)) × (at .marks ≤ length (c .marks)))
         (λ T. Check.rollback at)
-    back X = record {
+    back b cut = record {
       is = λ T c B within.
           let h : at .env ≤ getD w ENV-LEN 0 = omega (arith, within .0, runs-env-length (B .runs)) in
           let m : at .marks ≤ getD w MARK-COUNT 0 = omega (arith, within .1, runs-marks-length (B .runs)) in
-          rw (X .cut) (went (record {
+          rw cut (went (record {
             T′ = T;
             more = more-refl;
-            lines = told-same (rollback-unlined (B .sound) (B .runs) (X .back) (at .state .past) (at .env) (at .marks) h m) (B .lines);
-            runs = rollback-runs (B .sound) (B .runs) (X .back) (at .state .past) (at .env) (at .marks) h m;
-            grew = rollback-grew (B .sound) (B .runs) (X .back) (at .state .past) (at .env) (at .marks) h m;
+            lines = told-same (rollback-unlined (B .sound) (B .runs) b (at .state .past) (at .env) (at .marks) h m) (B .lines);
+            runs = rollback-runs (B .sound) (B .runs) b (at .state .past) (at .env) (at .marks) h m;
+            grew = rollback-grew (B .sound) (B .runs) b (at .state .past) (at .env) (at .marks) h m;
             is = rollback-visits (c .state) (at .state) ∙ B .visits;
           }));
     }

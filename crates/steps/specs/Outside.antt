@@ -25,6 +25,7 @@ use Rattle.messages.specs.declared.Message.{Message}
 use Rattle.messages.specs.declared.Message.the-variants as Message
 use Rattle.state.specs.Lines.{Rejected}
 use Rattle.state.specs.Runs.{Runs}
+use Rattle.steps.specs.declared.Mark.{Mark}
 use Rattle.steps.specs.declared.Typed.{Typed}
 use Rattle.state.specs.declared.Done.{Done}
 use Rattle.state.specs.declared.Done.the-variants as Done
@@ -70,11 +71,17 @@ charactersW w term = getD w (NAMES + term) 0 % 512
 abbrev pub longW : List ℕ → ℕ → Bool
 longW w term = ltb (getD w MAX-TERM 0) (charactersW w term)
 
--- The state goes back, and the environment is cut.
-pub record Rewinds (w : List ℕ) (undo env marks : ℕ) (w′ : List ℕ) : Type 0 where
+-- The lengths of now.
+pub record Takes (w : List ℕ) (at : Mark) : Type 0 where
+  pub undo : at .undo ≡ getD w UNDO-LEN 0
+  pub env : at .env ≡ getD w ENV-LEN 0
+  pub marks : at .marks ≡ getD w MARK-COUNT 0
+
+-- The state goes back, and the environment and its marks are cut.
+pub record Rewinds (w : List ℕ) (at : Mark) (w′ : List ℕ) : Type 0 where
   pub between : List ℕ
-  pub back : RollsBack w undo between
-  pub cut : w′ ≡ set (set between ENV-LEN env) MARK-COUNT marks
+  pub back : RollsBack w (at .undo) between
+  pub cut : w′ ≡ set (set between ENV-LEN (at .env)) MARK-COUNT (at .marks)
 
 -- ---- Look-up
 pub record FieldIs (w : List ℕ) (t : Ty) (name : ℕ) (r : Bound) : Type 0 where

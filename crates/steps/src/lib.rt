@@ -4,7 +4,7 @@ ghost use lib.ListN.{getD};
 ghost use Rattle.tree.specs.Nodes.{LowerItems};
 ghost use Rattle.state.specs.Lines.{Rejected};
 ghost use Rattle.messages.specs.declared.Message.the-variants as Message;
-ghost use Rattle.steps.specs.Outside.{reportMessage, keyTyW, valueTyW, RejectsTy, RejectedIf, farW, charactersW, longW, Rewinds, FieldIs, Shadows, ValueOf, FieldAt, KeyOf, SelectOf, ComparesOrder, IntroducesSides, ChecksHead, countersW, Untypes, StartsRun};
+ghost use Rattle.steps.specs.Outside.{reportMessage, keyTyW, valueTyW, RejectsTy, RejectedIf, farW, charactersW, longW, Takes, Rewinds, FieldIs, Shadows, ValueOf, FieldAt, KeyOf, SelectOf, ComparesOrder, IntroducesSides, ChecksHead, countersW, Untypes, StartsRun};
 ghost use Rattle.steps.specs.Contracts.{Fuzzes, UnifiesOutside, UnifiesAt, ComparesTypes, typedAfter, Asks, AsksAll};
 use cells::Asked;
 use cells::Bound;
@@ -62,12 +62,29 @@ pub fn report(f: &[u8], w: &mut [u32], n: u32, err: TyError, left: u32, out: &mu
     }
 }
 
-pub fn rollback(w: &mut [u32], undo: u32, env: u32, marks: u32)
-    ensures { λ _. ⌜ Rewinds (now (w .entry)) undo env marks (now (w .exit)) ⌝ }
+// What a rollback comes back to: the lengths of the undo log, of the environment and of its marks.
+pub struct Mark {
+    pub undo: u32,
+    pub env: u32,
+    pub marks: u32,
+}
+
+pub fn snapshot(w: &[u32]) -> Mark
+    ensures { λ r. ⌜ Takes (now (w .entry)) r ⌝ }
 {
-    cells::rollback(w, undo);
-    put(w, work::ENV_LEN, env);
-    put(w, work::MARK_COUNT, marks);
+    Mark {
+        undo: cells::snapshot(w),
+        env: word(w, work::ENV_LEN),
+        marks: word(w, work::MARK_COUNT),
+    }
+}
+
+pub fn rollback(w: &mut [u32], at: Mark)
+    ensures { λ _. ⌜ Rewinds (now (w .entry)) at (now (w .exit)) ⌝ }
+{
+    cells::rollback(w, at.undo);
+    put(w, work::ENV_LEN, at.env);
+    put(w, work::MARK_COUNT, at.marks);
 }
 
 // `unify` from outside it; an entry that the run was to last until is not made.

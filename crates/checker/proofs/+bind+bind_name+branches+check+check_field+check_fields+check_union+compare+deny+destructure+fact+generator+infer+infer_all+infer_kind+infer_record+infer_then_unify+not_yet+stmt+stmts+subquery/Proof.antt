@@ -1,4 +1,4 @@
--- Made from Proof.ans by tools/answers, c216576b145b9e4a b53de9c4d59f1e8e.
+-- Made from Proof.ans by tools/answers, b869a08230a6f372 fc4ae2a2e913c453.
 -- What a node names is lower, so the node falls, and on one node the rank of specs/Contracts.antt. Each arm is a law of its own.
 use Prim.Native.Nat.{ℕ, _<_, _+_, _-_, _*_, _≤_}
 use borrow.Fn.Kinds.{In}
@@ -74,8 +74,6 @@ use Rattle.cells.proofs.new_record.Reads as new-record-reads
 use Rattle.cells.proofs.put_field.Reads as put-field-reads
 use Rattle.cells.proofs.reserve.Reads as reserve-reads
 use Rattle.cells.proofs.repr.Reads as repr-reads
-use Rattle.cells.proofs.snapshot.Reads as snapshot-reads
-use Rattle.cells.proofs.tag_of.Reads as tag-of-reads
 use Rattle.checker.proofs.only.Reads as only-reads
 use Rattle.state.proofs.introduce.Reads as introduce-reads
 use Rattle.state.proofs.leave.Reads as leave-reads
@@ -89,6 +87,7 @@ use Rattle.steps.proofs.key_ty.Reads as key-ty-reads
 use Rattle.steps.proofs.report.Reads as report-reads
 use Rattle.steps.proofs.rollback.Reads as rollback-reads
 use Rattle.steps.proofs.select_of.Reads as select-of-reads
+use Rattle.steps.proofs.snapshot.Reads as snapshot-reads
 use Rattle.steps.proofs.unify_at.Reads as unify-at-reads
 use Rattle.steps.proofs.unify_outside.Reads as unify-outside-reads
 use Rattle.steps.proofs.value_of.Reads as value-of-reads
@@ -104,12 +103,13 @@ use borrow.Author.Needs.{needs}
 use native.Mathlib.Omega.{arith}
 use mathlib.Core.Path.{_≡_, refl, sym, ap, _∙_}
 use lib.ListN.{length}
+use Rattle.cells.specs.Words.{tagW}
 use Rattle.meaning.specs.Check.{formOf}
 use Rattle.tree.specs.Nodes.{kindW}
 use Rattle.steps.proofs.Ending.{brings}
 use Rattle.steps.proofs.Forms.{constant-form}
 use Rattle.checker.proofs.Callees.{as-node, rejects-by, notes-by, freshens-by, reports-by, rolls-by, leaves-by, key-by, key-on, value-on, item-falls, field-falls, stmt-falls, size-small, turn-at, generates-at, mentions-at, checks-at, finds-at, unknown-at}
-use Rattle.checker.proofs.Choosing.{later, denied-later, inferred, deny-target, no-disjunction, record-whole}
+use Rattle.checker.proofs.Choosing.{later, denied-later, inferred, deny-target, no-disjunction, no-error, record-whole}
 use Rattle.checker.proofs.Inferring.{infer-typed, infer-out, int-arm, bytes-arm, str-arm, prefix-arm, error-arm, wildcard-arm, never-arm, variable-arm}
 use Rattle.checker.proofs.Arms.{head-arm, head-out, key-head, value-head, select-head, fact-free, fact-on, fact-out, fact-arm, record-arm, subquery-arm, arith-arm, disjunction-arm, fuzzy-arm}
 use Rattle.checker.proofs.Alls.{turn-unified, turn-out, AllGoing, all-start, all-next, all-out, all-end}
@@ -1696,8 +1696,6 @@ branches-returns-2 t c = branches-end (c .before .loop .inv .0) (c .loop-test .l
 check-repr-requires : (t : ℕ) → check-lts.Need-repr-requires (
   repr-reads.Asked,
   repr-reads.Learnt,
-  tag-of-reads.Asked,
-  tag-of-reads.Learnt,
   node-at-reads.Asked,
   node-at-reads.Learnt,
   annotate-reads.Asked,
@@ -1711,83 +1709,9 @@ check-repr-requires : (t : ℕ) → check-lts.Need-repr-requires (
 ) (check-at t) check.Post
 check-repr-requires t c κs = search needs
 
-check-tag-of-requires : (t : ℕ) → check-lts.Need-tag-of-requires (
-  repr-reads.Asked,
-  repr-reads.Learnt,
-  tag-of-reads.Asked,
-  tag-of-reads.Learnt,
-  node-at-reads.Asked,
-  node-at-reads.Learnt,
-  annotate-reads.Asked,
-  annotate-reads.Learnt,
-  check-fields-below t,
-  check-fields.Post,
-  check-union-below t,
-  check-union.Post,
-  infer-then-unify-below t,
-  infer-then-unify.Post,
-) (check-at t) check.Post
-check-tag-of-requires t c κs = search needs
-
-check-same-length : (t : ℕ) → check-lts.Need-same-length (
-  repr-reads.Asked,
-  repr-reads.Learnt,
-  tag-of-reads.Asked,
-  tag-of-reads.Learnt,
-  node-at-reads.Asked,
-  node-at-reads.Learnt,
-  annotate-reads.Asked,
-  annotate-reads.Learnt,
-  check-fields-below t,
-  check-fields.Post,
-  check-union-below t,
-  check-union.Post,
-  infer-then-unify-below t,
-  infer-then-unify.Post,
-) (check-at t) check.Post
-check-same-length t c = search needs
-
-check-returns : (t : ℕ) → check-lts.Need-returns (
-  repr-reads.Asked,
-  repr-reads.Learnt,
-  tag-of-reads.Asked,
-  tag-of-reads.Learnt,
-  node-at-reads.Asked,
-  node-at-reads.Learnt,
-  annotate-reads.Asked,
-  annotate-reads.Learnt,
-  check-fields-below t,
-  check-fields.Post,
-  check-union-below t,
-  check-union.Post,
-  infer-then-unify-below t,
-  infer-then-unify.Post,
-) (check-at t) check.Post
-check-returns t c = check-nothing (c .before .before .repr .ensures) (sym (c .before .tag-of .ensures) ∙ c .if1 .taken)
-
-check-node-at-requires : (t : ℕ) → check-lts.Need-node-at-requires (
-  repr-reads.Asked,
-  repr-reads.Learnt,
-  tag-of-reads.Asked,
-  tag-of-reads.Learnt,
-  node-at-reads.Asked,
-  node-at-reads.Learnt,
-  annotate-reads.Asked,
-  annotate-reads.Learnt,
-  check-fields-below t,
-  check-fields.Post,
-  check-union-below t,
-  check-union.Post,
-  infer-then-unify-below t,
-  infer-then-unify.Post,
-) (check-at t) check.Post
-check-node-at-requires t c κs = search needs
-
 check-enum-told : (t : ℕ) → check-lts.Need-enum-told (
   repr-reads.Asked,
   repr-reads.Learnt,
-  tag-of-reads.Asked,
-  tag-of-reads.Learnt,
   node-at-reads.Asked,
   node-at-reads.Learnt,
   annotate-reads.Asked,
@@ -1801,11 +1725,41 @@ check-enum-told : (t : ℕ) → check-lts.Need-enum-told (
 ) (check-at t) check.Post
 check-enum-told t c = search needs
 
+check-node-at-requires : (t : ℕ) → check-lts.Need-node-at-requires (
+  repr-reads.Asked,
+  repr-reads.Learnt,
+  node-at-reads.Asked,
+  node-at-reads.Learnt,
+  annotate-reads.Asked,
+  annotate-reads.Learnt,
+  check-fields-below t,
+  check-fields.Post,
+  check-union-below t,
+  check-union.Post,
+  infer-then-unify-below t,
+  infer-then-unify.Post,
+) (check-at t) check.Post
+check-node-at-requires t c κs = search needs
+
+check-enum-told-2 : (t : ℕ) → check-lts.Need-enum-told-2 (
+  repr-reads.Asked,
+  repr-reads.Learnt,
+  node-at-reads.Asked,
+  node-at-reads.Learnt,
+  annotate-reads.Asked,
+  annotate-reads.Learnt,
+  check-fields-below t,
+  check-fields.Post,
+  check-union-below t,
+  check-union.Post,
+  infer-then-unify-below t,
+  infer-then-unify.Post,
+) (check-at t) check.Post
+check-enum-told-2 t c = search needs
+
 check-annotate-requires : (t : ℕ) → check-lts.Need-annotate-requires (
   repr-reads.Asked,
   repr-reads.Learnt,
-  tag-of-reads.Asked,
-  tag-of-reads.Learnt,
   node-at-reads.Asked,
   node-at-reads.Learnt,
   annotate-reads.Asked,
@@ -1822,8 +1776,6 @@ check-annotate-requires t c κs = search needs
 check-enum-known-e : (t : ℕ) → check-lts.Need-enum-known-e (
   repr-reads.Asked,
   repr-reads.Learnt,
-  tag-of-reads.Asked,
-  tag-of-reads.Learnt,
   node-at-reads.Asked,
   node-at-reads.Learnt,
   annotate-reads.Asked,
@@ -1840,8 +1792,6 @@ check-enum-known-e t c = search needs
 check-enum-known-t : (t : ℕ) → check-lts.Need-enum-known-t (
   repr-reads.Asked,
   repr-reads.Learnt,
-  tag-of-reads.Asked,
-  tag-of-reads.Learnt,
   node-at-reads.Asked,
   node-at-reads.Learnt,
   annotate-reads.Asked,
@@ -1858,8 +1808,6 @@ check-enum-known-t t c = search needs
 check-check-fields-requires : (t : ℕ) → check-lts.Need-check-fields-requires (
   repr-reads.Asked,
   repr-reads.Learnt,
-  tag-of-reads.Asked,
-  tag-of-reads.Learnt,
   node-at-reads.Asked,
   node-at-reads.Learnt,
   annotate-reads.Asked,
@@ -1876,8 +1824,6 @@ check-check-fields-requires t c κs = let low = as-node (c .before .before .befo
 check-enum-known-d : (t : ℕ) → check-lts.Need-enum-known-d (
   repr-reads.Asked,
   repr-reads.Learnt,
-  tag-of-reads.Asked,
-  tag-of-reads.Learnt,
   node-at-reads.Asked,
   node-at-reads.Learnt,
   annotate-reads.Asked,
@@ -1894,8 +1840,6 @@ check-enum-known-d t c = search needs
 check-annotate-requires-2 : (t : ℕ) → check-lts.Need-annotate-requires-2 (
   repr-reads.Asked,
   repr-reads.Learnt,
-  tag-of-reads.Asked,
-  tag-of-reads.Learnt,
   node-at-reads.Asked,
   node-at-reads.Learnt,
   annotate-reads.Asked,
@@ -1909,11 +1853,9 @@ check-annotate-requires-2 : (t : ℕ) → check-lts.Need-annotate-requires-2 (
 ) (check-at t) check.Post
 check-annotate-requires-2 t c κs = search needs
 
-check-enum-told-2 : (t : ℕ) → check-lts.Need-enum-told-2 (
+check-enum-told-3 : (t : ℕ) → check-lts.Need-enum-told-3 (
   repr-reads.Asked,
   repr-reads.Learnt,
-  tag-of-reads.Asked,
-  tag-of-reads.Learnt,
   node-at-reads.Asked,
   node-at-reads.Learnt,
   annotate-reads.Asked,
@@ -1925,13 +1867,11 @@ check-enum-told-2 : (t : ℕ) → check-lts.Need-enum-told-2 (
   infer-then-unify-below t,
   infer-then-unify.Post,
 ) (check-at t) check.Post
-check-enum-told-2 t c = search needs
+check-enum-told-3 t c = search needs
 
 check-enum-known-t-2 : (t : ℕ) → check-lts.Need-enum-known-t-2 (
   repr-reads.Asked,
   repr-reads.Learnt,
-  tag-of-reads.Asked,
-  tag-of-reads.Learnt,
   node-at-reads.Asked,
   node-at-reads.Learnt,
   annotate-reads.Asked,
@@ -1948,8 +1888,6 @@ check-enum-known-t-2 t c = search needs
 check-check-union-requires : (t : ℕ) → check-lts.Need-check-union-requires (
   repr-reads.Asked,
   repr-reads.Learnt,
-  tag-of-reads.Asked,
-  tag-of-reads.Learnt,
   node-at-reads.Asked,
   node-at-reads.Learnt,
   annotate-reads.Asked,
@@ -1966,8 +1904,6 @@ check-check-union-requires t c κs = (omega arith, as-node (c .before .before .b
 check-infer-then-unify-requires : (t : ℕ) → check-lts.Need-infer-then-unify-requires (
   repr-reads.Asked,
   repr-reads.Learnt,
-  tag-of-reads.Asked,
-  tag-of-reads.Learnt,
   node-at-reads.Asked,
   node-at-reads.Learnt,
   annotate-reads.Asked,
@@ -1984,8 +1920,6 @@ check-infer-then-unify-requires t c κs = omega arith
 check-infer-then-unify-requires-2 : (t : ℕ) → check-lts.Need-infer-then-unify-requires-2 (
   repr-reads.Asked,
   repr-reads.Learnt,
-  tag-of-reads.Asked,
-  tag-of-reads.Learnt,
   node-at-reads.Asked,
   node-at-reads.Learnt,
   annotate-reads.Asked,
@@ -1999,11 +1933,41 @@ check-infer-then-unify-requires-2 : (t : ℕ) → check-lts.Need-infer-then-unif
 ) (check-at t) check.Post
 check-infer-then-unify-requires-2 t c κs = omega arith
 
+check-same-length : (t : ℕ) → check-lts.Need-same-length (
+  repr-reads.Asked,
+  repr-reads.Learnt,
+  node-at-reads.Asked,
+  node-at-reads.Learnt,
+  annotate-reads.Asked,
+  annotate-reads.Learnt,
+  check-fields-below t,
+  check-fields.Post,
+  check-union-below t,
+  check-union.Post,
+  infer-then-unify-below t,
+  infer-then-unify.Post,
+) (check-at t) check.Post
+check-same-length t c = search needs
+
+check-returns : (t : ℕ) → check-lts.Need-returns (
+  repr-reads.Asked,
+  repr-reads.Learnt,
+  node-at-reads.Asked,
+  node-at-reads.Learnt,
+  annotate-reads.Asked,
+  annotate-reads.Learnt,
+  check-fields-below t,
+  check-fields.Post,
+  check-union-below t,
+  check-union.Post,
+  infer-then-unify-below t,
+  infer-then-unify.Post,
+) (check-at t) check.Post
+check-returns t c = check-nothing (c .before .before .repr .ensures) (ap tagW (c .enum-told .given .1))
+
 check-same-length-2 : (t : ℕ) → check-lts.Need-same-length-2 (
   repr-reads.Asked,
   repr-reads.Learnt,
-  tag-of-reads.Asked,
-  tag-of-reads.Learnt,
   node-at-reads.Asked,
   node-at-reads.Learnt,
   annotate-reads.Asked,
@@ -2020,8 +1984,6 @@ check-same-length-2 t c = search needs
 check-returns-2 : (t : ℕ) → check-lts.Need-returns-2 (
   repr-reads.Asked,
   repr-reads.Learnt,
-  tag-of-reads.Asked,
-  tag-of-reads.Learnt,
   node-at-reads.Asked,
   node-at-reads.Learnt,
   annotate-reads.Asked,
@@ -2033,13 +1995,11 @@ check-returns-2 : (t : ℕ) → check-lts.Need-returns-2 (
   infer-then-unify-below t,
   infer-then-unify.Post,
 ) (check-at t) check.Post
-check-returns-2 t c = check-wildcard (c .before .before .before .before .before .before .before .before .before .before .repr .ensures) (λ q. c .before .before .before .before .before .before .before .before .if1 .left (c .before .before .before .before .before .before .before .before .before .tag-of .ensures ∙ q)) (as-node (c .before .before .before .before .enum-told .given .1) (c .before .before .before .before .before .before .node-at .ensures)) (notes-by (c .before .before .annotate .ensures))
+check-returns-2 t c = check-wildcard (c .before .before .before .before .before .before .before .before .before .repr .ensures) (no-error (c .before .before .before .before .before .before .before .before .before .repr .result) (c .before .before .before .before .before .before .before .before .match .keys2)) (as-node (c .before .before .before .before .enum-told2 .given .1) (c .before .before .before .before .before .before .node-at .ensures)) (notes-by (c .before .before .annotate .ensures))
 
 check-same-length-3 : (t : ℕ) → check-lts.Need-same-length-3 (
   repr-reads.Asked,
   repr-reads.Learnt,
-  tag-of-reads.Asked,
-  tag-of-reads.Learnt,
   node-at-reads.Asked,
   node-at-reads.Learnt,
   annotate-reads.Asked,
@@ -2056,8 +2016,6 @@ check-same-length-3 t c = search needs
 check-same-length-4 : (t : ℕ) → check-lts.Need-same-length-4 (
   repr-reads.Asked,
   repr-reads.Learnt,
-  tag-of-reads.Asked,
-  tag-of-reads.Learnt,
   node-at-reads.Asked,
   node-at-reads.Learnt,
   annotate-reads.Asked,
@@ -2074,8 +2032,6 @@ check-same-length-4 t c = search needs
 check-returns-3 : (t : ℕ) → check-lts.Need-returns-3 (
   repr-reads.Asked,
   repr-reads.Learnt,
-  tag-of-reads.Asked,
-  tag-of-reads.Learnt,
   node-at-reads.Asked,
   node-at-reads.Learnt,
   annotate-reads.Asked,
@@ -2087,13 +2043,11 @@ check-returns-3 : (t : ℕ) → check-lts.Need-returns-3 (
   infer-then-unify-below t,
   infer-then-unify.Post,
 ) (check-at t) check.Post
-check-returns-3 t c = check-record (c .before .before .before .before .before .before .before .before .before .before .before .before .before .before .before .before .before .before .before .before .before .before .before .before .repr .ensures) (λ q. c .before .before .before .before .before .before .before .before .before .before .before .before .before .before .before .before .before .before .before .before .before .before .if1 .left (c .before .before .before .before .before .before .before .before .before .before .before .before .before .before .before .before .before .before .before .before .before .before .before .tag-of .ensures ∙ q)) (as-node (c .before .before .before .before .before .before .before .before .before .before .before .before .before .before .before .before .before .before .e .given .1) (c .before .before .before .before .before .before .before .before .before .before .before .before .before .before .before .before .before .before .before .before .node-at .ensures)) (rw (c .before .before .before .before .before .before .before .before .before .before .before .before .before .before .before .t .given .1) (record-noted (c .before .before .before .before .before .before .before .before .before .before .before .check-fields .ensures) (c .before .before .before .before .before .d .given .1) (notes-by (c .before .before .annotate2 .ensures))))
+check-returns-3 t c = check-record (c .before .before .before .before .before .before .before .before .before .before .before .before .before .before .before .before .before .before .before .before .before .before .before .repr .ensures) (no-error (c .before .before .before .before .before .before .before .before .before .before .before .before .before .before .before .before .before .before .before .before .before .before .before .repr .result) (c .before .before .before .before .before .before .before .before .before .before .before .before .before .before .before .before .before .before .before .before .before .before .match .keys2)) (as-node (c .before .before .before .before .before .before .before .before .before .before .before .before .before .before .before .before .before .before .e .given .1) (c .before .before .before .before .before .before .before .before .before .before .before .before .before .before .before .before .before .before .before .before .node-at .ensures)) (rw (c .before .before .before .before .before .before .before .before .before .before .before .before .before .before .before .t .given .1) (record-noted (c .before .before .before .before .before .before .before .before .before .before .before .check-fields .ensures) (c .before .before .before .before .before .d .given .1) (notes-by (c .before .before .annotate2 .ensures))))
 
 check-same-length-5 : (t : ℕ) → check-lts.Need-same-length-5 (
   repr-reads.Asked,
   repr-reads.Learnt,
-  tag-of-reads.Asked,
-  tag-of-reads.Learnt,
   node-at-reads.Asked,
   node-at-reads.Learnt,
   annotate-reads.Asked,
@@ -2110,8 +2064,6 @@ check-same-length-5 t c = search needs
 check-same-length-6 : (t : ℕ) → check-lts.Need-same-length-6 (
   repr-reads.Asked,
   repr-reads.Learnt,
-  tag-of-reads.Asked,
-  tag-of-reads.Learnt,
   node-at-reads.Asked,
   node-at-reads.Learnt,
   annotate-reads.Asked,
@@ -2128,8 +2080,6 @@ check-same-length-6 t c = search needs
 check-returns-4 : (t : ℕ) → check-lts.Need-returns-4 (
   repr-reads.Asked,
   repr-reads.Learnt,
-  tag-of-reads.Asked,
-  tag-of-reads.Learnt,
   node-at-reads.Asked,
   node-at-reads.Learnt,
   annotate-reads.Asked,
@@ -2141,13 +2091,11 @@ check-returns-4 : (t : ℕ) → check-lts.Need-returns-4 (
   infer-then-unify-below t,
   infer-then-unify.Post,
 ) (check-at t) check.Post
-check-returns-4 t c = check-record (c .before .before .before .before .before .before .before .before .before .before .before .before .before .before .before .before .before .before .before .repr .ensures) (λ q. c .before .before .before .before .before .before .before .before .before .before .before .before .before .before .before .before .before .if1 .left (c .before .before .before .before .before .before .before .before .before .before .before .before .before .before .before .before .before .before .tag-of .ensures ∙ q)) (as-node (c .before .before .before .before .before .before .before .before .before .before .before .before .before .e .given .1) (c .before .before .before .before .before .before .before .before .before .before .before .before .before .before .before .node-at .ensures)) (rw (c .before .before .before .before .before .before .before .before .before .before .t .given .1) (record-out (c .before .before .before .before .before .before .check-fields .ensures) (c .enum-told2 .given .1)))
+check-returns-4 t c = check-record (c .before .before .before .before .before .before .before .before .before .before .before .before .before .before .before .before .before .before .repr .ensures) (no-error (c .before .before .before .before .before .before .before .before .before .before .before .before .before .before .before .before .before .before .repr .result) (c .before .before .before .before .before .before .before .before .before .before .before .before .before .before .before .before .before .match .keys2)) (as-node (c .before .before .before .before .before .before .before .before .before .before .before .before .before .e .given .1) (c .before .before .before .before .before .before .before .before .before .before .before .before .before .before .before .node-at .ensures)) (rw (c .before .before .before .before .before .before .before .before .before .before .t .given .1) (record-out (c .before .before .before .before .before .before .check-fields .ensures) (c .enum-told3 .given .1)))
 
 check-same-length-7 : (t : ℕ) → check-lts.Need-same-length-7 (
   repr-reads.Asked,
   repr-reads.Learnt,
-  tag-of-reads.Asked,
-  tag-of-reads.Learnt,
   node-at-reads.Asked,
   node-at-reads.Learnt,
   annotate-reads.Asked,
@@ -2164,8 +2112,6 @@ check-same-length-7 t c = search needs
 check-same-length-8 : (t : ℕ) → check-lts.Need-same-length-8 (
   repr-reads.Asked,
   repr-reads.Learnt,
-  tag-of-reads.Asked,
-  tag-of-reads.Learnt,
   node-at-reads.Asked,
   node-at-reads.Learnt,
   annotate-reads.Asked,
@@ -2182,8 +2128,6 @@ check-same-length-8 t c = search needs
 check-returns-5 : (t : ℕ) → check-lts.Need-returns-5 (
   repr-reads.Asked,
   repr-reads.Learnt,
-  tag-of-reads.Asked,
-  tag-of-reads.Learnt,
   node-at-reads.Asked,
   node-at-reads.Learnt,
   annotate-reads.Asked,
@@ -2195,13 +2139,11 @@ check-returns-5 : (t : ℕ) → check-lts.Need-returns-5 (
   infer-then-unify-below t,
   infer-then-unify.Post,
 ) (check-at t) check.Post
-check-returns-5 t c = check-record (c .before .before .before .before .before .before .before .before .before .before .before .before .before .before .before .before .before .repr .ensures) (λ q. c .before .before .before .before .before .before .before .before .before .before .before .before .before .before .before .if1 .left (c .before .before .before .before .before .before .before .before .before .before .before .before .before .before .before .before .tag-of .ensures ∙ q)) (as-node (c .before .before .before .before .before .before .before .before .before .before .before .e .given .1) (c .before .before .before .before .before .before .before .before .before .before .before .before .before .node-at .ensures)) (rw (c .before .before .before .before .before .before .before .before .t2 .given .1) (record-union (c .before .before .before .before .check-union .ensures)))
+check-returns-5 t c = check-record (c .before .before .before .before .before .before .before .before .before .before .before .before .before .before .before .before .repr .ensures) (no-error (c .before .before .before .before .before .before .before .before .before .before .before .before .before .before .before .before .repr .result) (c .before .before .before .before .before .before .before .before .before .before .before .before .before .before .before .match .keys2)) (as-node (c .before .before .before .before .before .before .before .before .before .before .before .e .given .1) (c .before .before .before .before .before .before .before .before .before .before .before .before .before .node-at .ensures)) (rw (c .before .before .before .before .before .before .before .before .t2 .given .1) (record-union (c .before .before .before .before .check-union .ensures)))
 
 check-same-length-9 : (t : ℕ) → check-lts.Need-same-length-9 (
   repr-reads.Asked,
   repr-reads.Learnt,
-  tag-of-reads.Asked,
-  tag-of-reads.Learnt,
   node-at-reads.Asked,
   node-at-reads.Learnt,
   annotate-reads.Asked,
@@ -2218,8 +2160,6 @@ check-same-length-9 t c = search needs
 check-same-length-10 : (t : ℕ) → check-lts.Need-same-length-10 (
   repr-reads.Asked,
   repr-reads.Learnt,
-  tag-of-reads.Asked,
-  tag-of-reads.Learnt,
   node-at-reads.Asked,
   node-at-reads.Learnt,
   annotate-reads.Asked,
@@ -2236,8 +2176,6 @@ check-same-length-10 t c = search needs
 check-returns-6 : (t : ℕ) → check-lts.Need-returns-6 (
   repr-reads.Asked,
   repr-reads.Learnt,
-  tag-of-reads.Asked,
-  tag-of-reads.Learnt,
   node-at-reads.Asked,
   node-at-reads.Learnt,
   annotate-reads.Asked,
@@ -2249,13 +2187,11 @@ check-returns-6 : (t : ℕ) → check-lts.Need-returns-6 (
   infer-then-unify-below t,
   infer-then-unify.Post,
 ) (check-at t) check.Post
-check-returns-6 t c = check-record (c .before .before .before .before .before .before .before .before .before .before .before .before .before .before .before .repr .ensures) (λ q. c .before .before .before .before .before .before .before .before .before .before .before .before .before .if1 .left (c .before .before .before .before .before .before .before .before .before .before .before .before .before .before .tag-of .ensures ∙ q)) (as-node (c .before .before .before .before .before .before .before .before .before .e .given .1) (c .before .before .before .before .before .before .before .before .before .before .before .node-at .ensures)) (record-whole (c .before .before .before .before .infer-then-unify .ensures) (c .before .before .before .before .before .before .before .match2 .keys3))
+check-returns-6 t c = check-record (c .before .before .before .before .before .before .before .before .before .before .before .before .before .before .repr .ensures) (no-error (c .before .before .before .before .before .before .before .before .before .before .before .before .before .before .repr .result) (c .before .before .before .before .before .before .before .before .before .before .before .before .before .match .keys2)) (as-node (c .before .before .before .before .before .before .before .before .before .e .given .1) (c .before .before .before .before .before .before .before .before .before .before .before .node-at .ensures)) (record-whole (c .before .before .before .before .infer-then-unify .ensures) (c .before .before .before .before .before .before .before .match3 .keys3))
 
 check-same-length-11 : (t : ℕ) → check-lts.Need-same-length-11 (
   repr-reads.Asked,
   repr-reads.Learnt,
-  tag-of-reads.Asked,
-  tag-of-reads.Learnt,
   node-at-reads.Asked,
   node-at-reads.Learnt,
   annotate-reads.Asked,
@@ -2272,8 +2208,6 @@ check-same-length-11 t c = search needs
 check-same-length-12 : (t : ℕ) → check-lts.Need-same-length-12 (
   repr-reads.Asked,
   repr-reads.Learnt,
-  tag-of-reads.Asked,
-  tag-of-reads.Learnt,
   node-at-reads.Asked,
   node-at-reads.Learnt,
   annotate-reads.Asked,
@@ -2290,8 +2224,6 @@ check-same-length-12 t c = search needs
 check-returns-7 : (t : ℕ) → check-lts.Need-returns-7 (
   repr-reads.Asked,
   repr-reads.Learnt,
-  tag-of-reads.Asked,
-  tag-of-reads.Learnt,
   node-at-reads.Asked,
   node-at-reads.Learnt,
   annotate-reads.Asked,
@@ -2303,7 +2235,7 @@ check-returns-7 : (t : ℕ) → check-lts.Need-returns-7 (
   infer-then-unify-below t,
   infer-then-unify.Post,
 ) (check-at t) check.Post
-check-returns-7 t c = check-inferred (c .before .before .before .before .before .before .before .before .before .before .before .before .repr .ensures) (λ q. c .before .before .before .before .before .before .before .before .before .before .if1 .left (c .before .before .before .before .before .before .before .before .before .before .before .tag-of .ensures ∙ q)) (inferred _ _ (c .before .before .before .before .before .before .before .match .keys3)) (c .before .before .before .before .before .before .before .before .node-at .ensures) (c .before .before .before .before .infer-then-unify2 .ensures)
+check-returns-7 t c = check-inferred (c .before .before .before .before .before .before .before .before .before .before .before .repr .ensures) (no-error (c .before .before .before .before .before .before .before .before .before .before .before .repr .result) (c .before .before .before .before .before .before .before .before .before .before .match .keys2)) (inferred _ _ (c .before .before .before .before .before .before .before .match2 .keys3)) (c .before .before .before .before .before .before .before .before .node-at .ensures) (c .before .before .before .before .infer-then-unify2 .ensures)
 
 check-field-find-key-requires : (t : ℕ) → check-field-lts.Need-find-key-requires (
   find-key-reads.Asked,
@@ -2369,38 +2301,6 @@ check-field-snapshot-requires : (t : ℕ) → check-field-lts.Need-snapshot-requ
 ) (check-field-at t) check-field.Post
 check-field-snapshot-requires t c κs = search needs
 
-check-field-word-requires-2 : (t : ℕ) → check-field-lts.Need-word-requires-2 (
-  find-key-reads.Asked,
-  find-key-reads.Learnt,
-  word-reads.Asked,
-  word-reads.Learnt,
-  snapshot-reads.Asked,
-  snapshot-reads.Learnt,
-  check-below t,
-  check.Post,
-  rollback-reads.Asked,
-  rollback-reads.Learnt,
-  reject-reads.Asked,
-  reject-reads.Learnt,
-) (check-field-at t) check-field.Post
-check-field-word-requires-2 t c κs = search needs
-
-check-field-word-requires-3 : (t : ℕ) → check-field-lts.Need-word-requires-3 (
-  find-key-reads.Asked,
-  find-key-reads.Learnt,
-  word-reads.Asked,
-  word-reads.Learnt,
-  snapshot-reads.Asked,
-  snapshot-reads.Learnt,
-  check-below t,
-  check.Post,
-  rollback-reads.Asked,
-  rollback-reads.Learnt,
-  reject-reads.Asked,
-  reject-reads.Learnt,
-) (check-field-at t) check-field.Post
-check-field-word-requires-3 t c κs = search needs
-
 check-field-check-requires : (t : ℕ) → check-field-lts.Need-check-requires (
   find-key-reads.Asked,
   find-key-reads.Learnt,
@@ -2433,7 +2333,7 @@ check-field-enum-known-d : (t : ℕ) → check-field-lts.Need-enum-known-d (
 ) (check-field-at t) check-field.Post
 check-field-enum-known-d t c = search needs
 
-check-field-word-requires-4 : (t : ℕ) → check-field-lts.Need-word-requires-4 (
+check-field-word-requires-2 : (t : ℕ) → check-field-lts.Need-word-requires-2 (
   find-key-reads.Asked,
   find-key-reads.Learnt,
   word-reads.Asked,
@@ -2447,7 +2347,7 @@ check-field-word-requires-4 : (t : ℕ) → check-field-lts.Need-word-requires-4
   reject-reads.Asked,
   reject-reads.Learnt,
 ) (check-field-at t) check-field.Post
-check-field-word-requires-4 t c κs = search needs
+check-field-word-requires-2 t c κs = search needs
 
 check-field-rollback-requires : (t : ℕ) → check-field-lts.Need-rollback-requires (
   find-key-reads.Asked,
@@ -2559,7 +2459,7 @@ check-field-returns : (t : ℕ) → check-field-lts.Need-returns (
   reject-reads.Asked,
   reject-reads.Learnt,
 ) (check-field-at t) check-field.Post
-check-field-returns t c = mentions-field (c .before .before .before .before .before .before .before .before .before .before .before .before .before .before .before .before .before .before .before .before .before .before .before .before .before .before .before .before .find-key .ensures) (c .before .before .before .before .before .before .before .before .before .before .before .before .before .before .before .before .before .before .before .before .before .before .before .before .before .before .found .given .1) (field-rolled (c .before .before .before .before .before .before .before .before .before .before .before .before .before .before .check .ensures) (c .before .before .before .before .before .before .before .before .d .given .1) (omega (arith, c .before .before .before .before .before .before .before .before .before .before .before .before .before .before .before .before .before .before .before .before .before .before .before .word .ensures, c .before .before .before .before .before .word4 .ensures, c .before .before .before .before .if1 .taken)) (rolls-by (c .before .before .before .before .before .before .before .before .before .before .before .before .before .before .before .before .before .before .before .before .before .snapshot .ensures) (c .before .before .before .before .before .before .before .before .before .before .before .before .before .before .before .before .before .before .before .word2 .ensures) (c .before .before .before .before .before .before .before .before .before .before .before .before .before .before .before .before .before .word3 .ensures) (c .before .before .rollback .ensures)))
+check-field-returns t c = mentions-field (c .before .before .before .before .before .before .before .before .before .before .before .before .before .before .before .before .before .before .before .before .before .before .before .before .find-key .ensures) (c .before .before .before .before .before .before .before .before .before .before .before .before .before .before .before .before .before .before .before .before .before .before .found .given .1) (field-rolled (c .before .before .before .before .before .before .before .before .before .before .before .before .before .before .check .ensures) (c .before .before .before .before .before .before .before .before .d .given .1) (omega (arith, c .before .before .before .before .before .before .before .before .before .before .before .before .before .before .before .before .before .before .before .word .ensures, c .before .before .before .before .before .word2 .ensures, c .before .before .before .before .if1 .taken)) (rolls-by (c .before .before .before .before .before .before .before .before .before .before .before .before .before .before .before .before .before .snapshot .ensures) (c .before .before .rollback .ensures)))
 
 check-field-same-length-3 : (t : ℕ) → check-field-lts.Need-same-length-3 (
   find-key-reads.Asked,
@@ -2607,7 +2507,7 @@ check-field-returns-2 : (t : ℕ) → check-field-lts.Need-returns-2 (
   reject-reads.Asked,
   reject-reads.Learnt,
 ) (check-field-at t) check-field.Post
-check-field-returns-2 t c = mentions-field (c .before .before .before .before .before .before .before .before .before .before .before .before .before .before .before .before .before .before .before .before .before .before .before .before .find-key .ensures) (c .before .before .before .before .before .before .before .before .before .before .before .before .before .before .before .before .before .before .before .before .before .before .found .given .1) (field-kept (c .before .before .before .before .before .before .before .before .before .before .check .ensures) (c .before .before .before .before .d .given .1) (omega (arith, c .before .before .before .before .before .before .before .before .before .before .before .before .before .before .before .before .before .before .before .word .ensures, c .before .word4 .ensures, c .if1 .left)))
+check-field-returns-2 t c = mentions-field (c .before .before .before .before .before .before .before .before .before .before .before .before .before .before .before .before .before .before .before .before .find-key .ensures) (c .before .before .before .before .before .before .before .before .before .before .before .before .before .before .before .before .before .before .found .given .1) (field-kept (c .before .before .before .before .before .before .before .before .before .before .check .ensures) (c .before .before .before .before .d .given .1) (omega (arith, c .before .before .before .before .before .before .before .before .before .before .before .before .before .before .before .word .ensures, c .before .word2 .ensures, c .if1 .left)))
 
 check-field-same-length-5 : (t : ℕ) → check-field-lts.Need-same-length-5 (
   find-key-reads.Asked,
@@ -2655,7 +2555,7 @@ check-field-returns-3 : (t : ℕ) → check-field-lts.Need-returns-3 (
   reject-reads.Asked,
   reject-reads.Learnt,
 ) (check-field-at t) check-field.Post
-check-field-returns-3 t c = mentions-field (c .before .before .before .before .before .before .before .before .before .before .before .before .before .before .before .before .before .before .before .before .find-key .ensures) (c .before .before .before .before .before .before .before .before .before .before .before .before .before .before .before .before .before .before .found .given .1) (field-out (c .before .before .before .before .before .before .check .ensures) (c .enum-told .given .1))
+check-field-returns-3 t c = mentions-field (c .before .before .before .before .before .before .before .before .before .before .before .before .before .before .before .before .find-key .ensures) (c .before .before .before .before .before .before .before .before .before .before .before .before .before .before .found .given .1) (field-out (c .before .before .before .before .before .before .check .ensures) (c .enum-told .given .1))
 
 check-field-same-length-7 : (t : ℕ) → check-field-lts.Need-same-length-7 (
   find-key-reads.Asked,
@@ -7611,8 +7511,6 @@ infer-record-returns-4 t c = record-end (c .before .before .before .before .befo
 infer-then-unify-snapshot-requires : (t : ℕ) → infer-then-unify-lts.Need-snapshot-requires (
   snapshot-reads.Asked,
   snapshot-reads.Learnt,
-  word-reads.Asked,
-  word-reads.Learnt,
   infer-below t,
   infer.Post,
   unify-outside-reads.Asked,
@@ -7624,43 +7522,9 @@ infer-then-unify-snapshot-requires : (t : ℕ) → infer-then-unify-lts.Need-sna
 ) (infer-then-unify-at t) infer-then-unify.Post
 infer-then-unify-snapshot-requires t c κs = search needs
 
-infer-then-unify-word-requires : (t : ℕ) → infer-then-unify-lts.Need-word-requires (
-  snapshot-reads.Asked,
-  snapshot-reads.Learnt,
-  word-reads.Asked,
-  word-reads.Learnt,
-  infer-below t,
-  infer.Post,
-  unify-outside-reads.Asked,
-  unify-outside-reads.Learnt,
-  rollback-reads.Asked,
-  rollback-reads.Learnt,
-  report-reads.Asked,
-  report-reads.Learnt,
-) (infer-then-unify-at t) infer-then-unify.Post
-infer-then-unify-word-requires t c κs = search needs
-
-infer-then-unify-word-requires-2 : (t : ℕ) → infer-then-unify-lts.Need-word-requires-2 (
-  snapshot-reads.Asked,
-  snapshot-reads.Learnt,
-  word-reads.Asked,
-  word-reads.Learnt,
-  infer-below t,
-  infer.Post,
-  unify-outside-reads.Asked,
-  unify-outside-reads.Learnt,
-  rollback-reads.Asked,
-  rollback-reads.Learnt,
-  report-reads.Asked,
-  report-reads.Learnt,
-) (infer-then-unify-at t) infer-then-unify.Post
-infer-then-unify-word-requires-2 t c κs = search needs
-
 infer-then-unify-infer-requires : (t : ℕ) → infer-then-unify-lts.Need-infer-requires (
   snapshot-reads.Asked,
   snapshot-reads.Learnt,
-  word-reads.Asked,
-  word-reads.Learnt,
   infer-below t,
   infer.Post,
   unify-outside-reads.Asked,
@@ -7675,8 +7539,6 @@ infer-then-unify-infer-requires t c κs = omega arith
 infer-then-unify-enum-known-r : (t : ℕ) → infer-then-unify-lts.Need-enum-known-r (
   snapshot-reads.Asked,
   snapshot-reads.Learnt,
-  word-reads.Asked,
-  word-reads.Learnt,
   infer-below t,
   infer.Post,
   unify-outside-reads.Asked,
@@ -7692,8 +7554,6 @@ infer-then-unify-unify-outside-requires :
     (t : ℕ) → infer-then-unify-lts.Need-unify-outside-requires (
       snapshot-reads.Asked,
       snapshot-reads.Learnt,
-      word-reads.Asked,
-      word-reads.Learnt,
       infer-below t,
       infer.Post,
       unify-outside-reads.Asked,
@@ -7708,8 +7568,6 @@ infer-then-unify-unify-outside-requires t c κs = search needs
 infer-then-unify-enum-known-u : (t : ℕ) → infer-then-unify-lts.Need-enum-known-u (
   snapshot-reads.Asked,
   snapshot-reads.Learnt,
-  word-reads.Asked,
-  word-reads.Learnt,
   infer-below t,
   infer.Post,
   unify-outside-reads.Asked,
@@ -7724,8 +7582,6 @@ infer-then-unify-enum-known-u t c = search needs
 infer-then-unify-enum-known-u-2 : (t : ℕ) → infer-then-unify-lts.Need-enum-known-u-2 (
   snapshot-reads.Asked,
   snapshot-reads.Learnt,
-  word-reads.Asked,
-  word-reads.Learnt,
   infer-below t,
   infer.Post,
   unify-outside-reads.Asked,
@@ -7740,8 +7596,6 @@ infer-then-unify-enum-known-u-2 t c = search needs
 infer-then-unify-rollback-requires : (t : ℕ) → infer-then-unify-lts.Need-rollback-requires (
   snapshot-reads.Asked,
   snapshot-reads.Learnt,
-  word-reads.Asked,
-  word-reads.Learnt,
   infer-below t,
   infer.Post,
   unify-outside-reads.Asked,
@@ -7756,8 +7610,6 @@ infer-then-unify-rollback-requires t c κs = search needs
 infer-then-unify-report-requires : (t : ℕ) → infer-then-unify-lts.Need-report-requires (
   snapshot-reads.Asked,
   snapshot-reads.Learnt,
-  word-reads.Asked,
-  word-reads.Learnt,
   infer-below t,
   infer.Post,
   unify-outside-reads.Asked,
@@ -7772,8 +7624,6 @@ infer-then-unify-report-requires t c κs = search needs
 infer-then-unify-enum-told : (t : ℕ) → infer-then-unify-lts.Need-enum-told (
   snapshot-reads.Asked,
   snapshot-reads.Learnt,
-  word-reads.Asked,
-  word-reads.Learnt,
   infer-below t,
   infer.Post,
   unify-outside-reads.Asked,
@@ -7788,8 +7638,6 @@ infer-then-unify-enum-told t c = search needs
 infer-then-unify-enum-told-2 : (t : ℕ) → infer-then-unify-lts.Need-enum-told-2 (
   snapshot-reads.Asked,
   snapshot-reads.Learnt,
-  word-reads.Asked,
-  word-reads.Learnt,
   infer-below t,
   infer.Post,
   unify-outside-reads.Asked,
@@ -7804,8 +7652,6 @@ infer-then-unify-enum-told-2 t c = search needs
 infer-then-unify-same-length : (t : ℕ) → infer-then-unify-lts.Need-same-length (
   snapshot-reads.Asked,
   snapshot-reads.Learnt,
-  word-reads.Asked,
-  word-reads.Learnt,
   infer-below t,
   infer.Post,
   unify-outside-reads.Asked,
@@ -7820,8 +7666,6 @@ infer-then-unify-same-length t c = search needs
 infer-then-unify-same-length-2 : (t : ℕ) → infer-then-unify-lts.Need-same-length-2 (
   snapshot-reads.Asked,
   snapshot-reads.Learnt,
-  word-reads.Asked,
-  word-reads.Learnt,
   infer-below t,
   infer.Post,
   unify-outside-reads.Asked,
@@ -7836,8 +7680,6 @@ infer-then-unify-same-length-2 t c = search needs
 infer-then-unify-returns : (t : ℕ) → infer-then-unify-lts.Need-returns (
   snapshot-reads.Asked,
   snapshot-reads.Learnt,
-  word-reads.Asked,
-  word-reads.Learnt,
   infer-below t,
   infer.Post,
   unify-outside-reads.Asked,
@@ -7852,8 +7694,6 @@ infer-then-unify-returns t c = unify-good (c .before .before .before .before .be
 infer-then-unify-same-length-3 : (t : ℕ) → infer-then-unify-lts.Need-same-length-3 (
   snapshot-reads.Asked,
   snapshot-reads.Learnt,
-  word-reads.Asked,
-  word-reads.Learnt,
   infer-below t,
   infer.Post,
   unify-outside-reads.Asked,
@@ -7868,8 +7708,6 @@ infer-then-unify-same-length-3 t c = search needs
 infer-then-unify-same-length-4 : (t : ℕ) → infer-then-unify-lts.Need-same-length-4 (
   snapshot-reads.Asked,
   snapshot-reads.Learnt,
-  word-reads.Asked,
-  word-reads.Learnt,
   infer-below t,
   infer.Post,
   unify-outside-reads.Asked,
@@ -7884,8 +7722,6 @@ infer-then-unify-same-length-4 t c = search needs
 infer-then-unify-returns-2 : (t : ℕ) → infer-then-unify-lts.Need-returns-2 (
   snapshot-reads.Asked,
   snapshot-reads.Learnt,
-  word-reads.Asked,
-  word-reads.Learnt,
   infer-below t,
   infer.Post,
   unify-outside-reads.Asked,
@@ -7895,13 +7731,11 @@ infer-then-unify-returns-2 : (t : ℕ) → infer-then-unify-lts.Need-returns-2 (
   report-reads.Asked,
   report-reads.Learnt,
 ) (infer-then-unify-at t) infer-then-unify.Post
-infer-then-unify-returns-2 t c = unify-bad (c .before .before .before .before .before .before .before .before .before .before .before .before .before .before .before .before .before .before .before .before .before .before .before .before .before .infer .ensures) (c .before .before .before .before .before .before .before .before .before .before .before .before .before .before .before .before .before .before .before .r .given .1) (c .before .before .before .before .before .before .before .before .before .before .before .before .before .before .before .before .unify-outside .ensures .is _ _) (c .before .before .before .before .before .before .before .before .before .before .before .before .u2 .given .1) (rolls-by (c .before .before .before .before .before .before .before .before .before .before .before .before .before .before .before .before .before .before .before .before .before .before .before .before .before .before .before .before .before .before .before .before .snapshot .ensures) (c .before .before .before .before .before .before .before .before .before .before .before .before .before .before .before .before .before .before .before .before .before .before .before .before .before .before .before .before .before .before .word .ensures) (c .before .before .before .before .before .before .before .before .before .before .before .before .before .before .before .before .before .before .before .before .before .before .before .before .before .before .before .before .word2 .ensures) (c .before .before .before .before .before .before .before .before .before .rollback .ensures)) (reports-by (c .before .before .before .before .before .before .before .before .before .before .before .before .u2 .given .0 .0) (c .before .before .before .before .report .ensures))
+infer-then-unify-returns-2 t c = unify-bad (c .before .before .before .before .before .before .before .before .before .before .before .before .before .before .before .before .before .before .before .before .before .before .before .before .before .infer .ensures) (c .before .before .before .before .before .before .before .before .before .before .before .before .before .before .before .before .before .before .before .r .given .1) (c .before .before .before .before .before .before .before .before .before .before .before .before .before .before .before .before .unify-outside .ensures .is _ _) (c .before .before .before .before .before .before .before .before .before .before .before .before .u2 .given .1) (rolls-by (c .before .before .before .before .before .before .before .before .before .before .before .before .before .before .before .before .before .before .before .before .before .before .before .before .before .before .before .before .snapshot .ensures) (c .before .before .before .before .before .before .before .before .before .rollback .ensures)) (reports-by (c .before .before .before .before .before .before .before .before .before .before .before .before .u2 .given .0 .0) (c .before .before .before .before .report .ensures))
 
 infer-then-unify-same-length-5 : (t : ℕ) → infer-then-unify-lts.Need-same-length-5 (
   snapshot-reads.Asked,
   snapshot-reads.Learnt,
-  word-reads.Asked,
-  word-reads.Learnt,
   infer-below t,
   infer.Post,
   unify-outside-reads.Asked,
@@ -7916,8 +7750,6 @@ infer-then-unify-same-length-5 t c = search needs
 infer-then-unify-same-length-6 : (t : ℕ) → infer-then-unify-lts.Need-same-length-6 (
   snapshot-reads.Asked,
   snapshot-reads.Learnt,
-  word-reads.Asked,
-  word-reads.Learnt,
   infer-below t,
   infer.Post,
   unify-outside-reads.Asked,
@@ -7932,8 +7764,6 @@ infer-then-unify-same-length-6 t c = search needs
 infer-then-unify-returns-3 : (t : ℕ) → infer-then-unify-lts.Need-returns-3 (
   snapshot-reads.Asked,
   snapshot-reads.Learnt,
-  word-reads.Asked,
-  word-reads.Learnt,
   infer-below t,
   infer.Post,
   unify-outside-reads.Asked,
@@ -7948,8 +7778,6 @@ infer-then-unify-returns-3 t c = unify-spent (c .before .before .before .before 
 infer-then-unify-same-length-7 : (t : ℕ) → infer-then-unify-lts.Need-same-length-7 (
   snapshot-reads.Asked,
   snapshot-reads.Learnt,
-  word-reads.Asked,
-  word-reads.Learnt,
   infer-below t,
   infer.Post,
   unify-outside-reads.Asked,
@@ -7964,8 +7792,6 @@ infer-then-unify-same-length-7 t c = search needs
 infer-then-unify-same-length-8 : (t : ℕ) → infer-then-unify-lts.Need-same-length-8 (
   snapshot-reads.Asked,
   snapshot-reads.Learnt,
-  word-reads.Asked,
-  word-reads.Learnt,
   infer-below t,
   infer.Post,
   unify-outside-reads.Asked,
@@ -7980,8 +7806,6 @@ infer-then-unify-same-length-8 t c = search needs
 infer-then-unify-returns-4 : (t : ℕ) → infer-then-unify-lts.Need-returns-4 (
   snapshot-reads.Asked,
   snapshot-reads.Learnt,
-  word-reads.Asked,
-  word-reads.Learnt,
   infer-below t,
   infer.Post,
   unify-outside-reads.Asked,
@@ -9073,8 +8897,6 @@ pub +bind+bind-name+branches+check+check-field+check-fields+check-union+compare+
     (λ t. check-lts.spec (
       repr-reads.Asked,
       repr-reads.Learnt,
-      tag-of-reads.Asked,
-      tag-of-reads.Learnt,
       node-at-reads.Asked,
       node-at-reads.Learnt,
       annotate-reads.Asked,
@@ -9089,22 +8911,22 @@ pub +bind+bind-name+branches+check+check-field+check-fields+check-union+compare+
     (check-at t)
     check.Post
     (check-repr-requires t)
-    (check-tag-of-requires t)
-    (check-same-length t)
-    (check-returns t)
-    (check-node-at-requires t)
     (check-enum-told t)
+    (check-node-at-requires t)
+    (check-enum-told-2 t)
     (check-annotate-requires t)
     (check-enum-known-e t)
     (check-enum-known-t t)
     (check-check-fields-requires t)
     (check-enum-known-d t)
     (check-annotate-requires-2 t)
-    (check-enum-told-2 t)
+    (check-enum-told-3 t)
     (check-enum-known-t-2 t)
     (check-check-union-requires t)
     (check-infer-then-unify-requires t)
     (check-infer-then-unify-requires-2 t)
+    (check-same-length t)
+    (check-returns t)
     (check-same-length-2 t)
     (check-returns-2 t)
     (check-same-length-3 t)
@@ -9142,11 +8964,9 @@ pub +bind+bind-name+branches+check+check-field+check-fields+check-union+compare+
     (check-field-enum-known-found t)
     (check-field-word-requires t)
     (check-field-snapshot-requires t)
-    (check-field-word-requires-2 t)
-    (check-field-word-requires-3 t)
     (check-field-check-requires t)
     (check-field-enum-known-d t)
-    (check-field-word-requires-4 t)
+    (check-field-word-requires-2 t)
     (check-field-rollback-requires t)
     (check-field-enum-told t)
     (check-field-enum-told-2 t)
@@ -9580,8 +9400,6 @@ pub +bind+bind-name+branches+check+check-field+check-fields+check-union+compare+
     (λ t. infer-then-unify-lts.spec (
       snapshot-reads.Asked,
       snapshot-reads.Learnt,
-      word-reads.Asked,
-      word-reads.Learnt,
       infer-below t,
       infer.Post,
       unify-outside-reads.Asked,
@@ -9594,8 +9412,6 @@ pub +bind+bind-name+branches+check+check-field+check-fields+check-union+compare+
     (infer-then-unify-at t)
     infer-then-unify.Post
     (infer-then-unify-snapshot-requires t)
-    (infer-then-unify-word-requires t)
-    (infer-then-unify-word-requires-2 t)
     (infer-then-unify-infer-requires t)
     (infer-then-unify-enum-known-r t)
     (infer-then-unify-unify-outside-requires t)
