@@ -33,13 +33,13 @@ use Rattle.solver.specs.Contracts.{RunsHalves, RunsEngine}
 -- ---- What a text that was written leaves
 
 -- A part of the slice by where it stands in the text.
-placed-slice : (l front a b rest : List ℕ) → l ≡ front ++ ((a ++ b) ++ rest)
+placed-slice : (l front a b rest : List ℕ) → l ≡ (front ++ (a ++ b)) ++ rest
     → (slice (length front) (length front + length a) l ≡ a)
     × (slice (length front + length a) (length front + length a + length b) l ≡ b)
 unfolding slice
 placed-slice l front a b rest e =
-    let one : l ≡ (front ++ a) ++ (b ++ rest) = e ∙ ap (λ (z : List ℕ). front ++ z) (append-assoc a b rest) ∙ sym (append-assoc front a (b ++ rest)) in
-    let two : l ≡ ((front ++ a) ++ b) ++ rest = one ∙ sym (append-assoc (front ++ a) b rest) in
+    let two : l ≡ ((front ++ a) ++ b) ++ rest = e ∙ ap (λ (z : List ℕ). z ++ rest) (sym (append-assoc front a b)) in
+    let one : l ≡ (front ++ a) ++ (b ++ rest) = two ∙ append-assoc (front ++ a) b rest in
     let m : length (front ++ a) ≡ length front + length a = length-append front a in
     let n : length ((front ++ a) ++ b) ≡ length front + length a + length b = length-append (front ++ a) b ∙ ap (λ (k : ℕ). k + length b) m in
     (ap (λ (z : List ℕ). drop (length front) (take (length front + length a) z)) one
@@ -100,7 +100,7 @@ unfolding slice
 gives-part l rest r (solved bs) g =
     let n = length (bindingsSpelled bs) in
     let short : n ≤ length l = omega (arith, ap length (g .1), length-take n l) in
-    (g .0, ap (λ (z : List ℕ). z) (cut n short) ∙ g .1)
+    (g .0, cut n short ∙ g .1)
   where
     cut : (n : ℕ) → n ≤ length l → take n (l ++ rest) ≡ take n l
     cut n h =
@@ -114,6 +114,8 @@ pub engine-runs : {w l part : List ℕ} {got expected : Ty} {h m : ℕ} {r : Pla
     → RunsHalves w got expected h (midOf 0 (m - 0) l) part r → length (putMid 0 (m - 0) l part) ≡ length l
     → RunsEngine w got expected l (putMid 0 (m - 0) l part) r
 engine-runs {w} {l} {part} {got} {expected} {h} {m} {r} e d R long = record {
-  is = λ T st H o p. gives-part part (postOf 0 (m - 0) l) r _ (R .is T st H o p (length l) (omega (arith, e)) (omega (arith, e)));
+  is = λ T st H o p.
+      gives-part part (postOf 0 (m - 0) l) r (solve (length l) (start (st .subst) (tree T got) (tree T expected)))
+      (R .is T st H o p (length l) (omega (arith, e)) (omega (arith, e)));
   long = long;
 }

@@ -29,23 +29,23 @@ use Rattle.plain.specs.Stages.{Gives}
 use Rattle.solver.specs.Contracts.{RunsEngine, Left, Solves}
 
 -- ---- Zeros from a place on
-pub cleared-part : {l part : List ℕ} {from m : ℕ} → m ≡ length l → from < m → part ≡ replicate (length (midOf from (m - from) l)) 0
+pub cleared-part : (l : List ℕ) (from : ℕ) {part : List ℕ} {m : ℕ} → m ≡ length l → from < m → part ≡ replicate (length (midOf from (m - from) l)) 0
     → putMid from (m - from) l part ≡ take from l ++ replicate (length l - from) 0
-cleared-part {l} {part} {from} {m} e h p =
+cleared-part l from {part} {m} e h p =
     let rest : postOf from (m - from) l ≡ [] = post-is from m l (omega arith) ∙ drop-of-length-le l {i = m} (omega arith) in
     let long : length (midOf from (m - from) l) ≡ length l - from = mid-len from m l (omega arith) ∙ ap (λ (n : ℕ). n - from) e in
-    rw (rest, p, long) (ap (λ (z : List ℕ). take from l ++ z) append-nil)
+    rw (rest, p, long) (ap (λ (z : List ℕ). take from l ++ z) (append-nil (replicate (length l - from) 0)))
 
-pub cleared-none : {l : List ℕ} {from m : ℕ} → m ≡ length l → ¬ (from < m) → l ≡ take from l ++ replicate (length l - from) 0
-cleared-none {l} {from} {m} e h =
+pub cleared-none : (l : List ℕ) (from : ℕ) {m : ℕ} → m ≡ length l → m ≤ from → l ≡ take from l ++ replicate (length l - from) 0
+cleared-none l from {m} e h =
     let none : length l - from ≡ 0 = omega arith in
-    rw (none, take-all from l (omega arith)) (sym append-nil)
+    rw (none, take-all from l (omega arith)) (sym (append-nil l))
 
 -- ---- The question
-module _ {w w₁ l : List ℕ} {got expected : Ty} (S : Settles w w₁) where
-  ok-settled : (t : Ty) → Ok w t → Ok w₁ t
-  ok-settled t o = ok-same (keeps-cells (omega arith) (S .keeps)) t o
+ok-settled : {w w₁ : List ℕ} → Settles w w₁ → (t : Ty) → Ok w t → Ok w₁ t
+ok-settled S t o = ok-same (keeps-cells (omega arith) (S .keeps)) t o
 
+module _ {w w₁ l : List ℕ} {got expected : Ty} (S : Settles w w₁) where
   -- A side is not admitted.
   shut-out : {l′ : List ℕ} → l′ ≡ replicate (length l) 0
       → ((T : Rows) (st : State) → Holds w T st → Ok w got → Ok w expected → ¬ (Admitted (st .subst) (tree T got) × Admitted (st .subst) (tree T expected)))
@@ -73,18 +73,17 @@ module _ {w w₁ l : List ℕ} {got expected : Ty} (S : Settles w w₁) where
           rw (admitted-answer (length l) (st .subst) (H .acyclic) (tree T got) (tree T expected) (good-tells S H got o g .yes yes-got)
           (good-tells S H expected p h .yes yes-expected))
           (by (solve (length l) (start (st .subst) (tree T got) (tree T expected)))
-          (E .is T st (holds-settled S H) (ok-settled got o) (ok-settled expected p)));
+          (E .is T st (holds-settled S H) (ok-settled S got o) (ok-settled S expected p)));
       long = long;
       keeps = S .keeps;
     }
 
     pub solve-success : {n : ℕ} → r ≡ Success n → {l′ : List ℕ} → l′ ≡ take n l₁ ++ replicate (length l₁ - n) 0 → length l′ ≡ length l₁
         → Solves w got expected l w₁ l′ (Success n)
-    unfolding of
+    unfolding of slice
     solve-success {n} q {l′} z long = solved-by (long ∙ E .long) go
       where
         go : (x : Theory.Result) → Gives l₁ r x → Left l′ (length l) (Success n) (of x)
-        unfolding slice
         go (solved bs) k =
             let same : n ≡ length (bindingsSpelled bs) = cc (q, k .0) in
             let there : take n l₁ ≡ bindingsSpelled bs = rw same (k .1) in
@@ -97,9 +96,9 @@ module _ {w w₁ l : List ℕ} {got expected : Ty} (S : Settles w w₁) where
     pub solve-other : (c : Plain) → r ≡ c → ((n : ℕ) → ¬ (c ≡ Success n)) → {l′ : List ℕ} → l′ ≡ replicate (length l₁) 0
         → Solves w got expected l w₁ l′ c
     unfolding of
-    solve-other c q no {l′} z = solved-by (ap length z ∙ length-replicate (length l₁) 0 ∙ E .long) go
+    solve-other c q other {l′} z = solved-by (ap length z ∙ length-replicate (length l₁) 0 ∙ E .long) go
       where
         go : (x : Theory.Result) → Gives l₁ r x → Left l′ (length l) c (of x)
-        go (solved bs) k = absurd (no (length (bindingsSpelled bs)) (sym q ∙ k .0))
+        go (solved bs) k = absurd (other (length (bindingsSpelled bs)) (sym q ∙ k .0))
         go failed k = (sym q ∙ k, rw (← (E .long)) z)
         go full k = (sym q ∙ k, rw (← (E .long)) z)
