@@ -180,23 +180,23 @@ pub record Running (l₀ : List ℕ) (h b₀ e₀ : ℕ) (l : List ℕ) (b p e u
   pub low-b : b ≤ h
   pub low-p : p ≤ h
   pub low-e : e ≤ h
-  pub stands : (lent : ℕ) (g : Stage) → h + h ≤ lent → lent ≤ h + h + 1 → slice h b₀ l₀ ≡ bindingsSpelled (g .bindings) → slice b₀ e₀ l₀ ≡ pairsSpelled (g .pairs) → Standing lent g l b p e unknowns words
+  pub stands : (lent : ℕ) (g : Stage) → h + h ≤ lent → lent ≤ h + h + 1 → slice 0 b₀ l₀ ≡ bindingsSpelled (g .bindings) → slice b₀ e₀ l₀ ≡ pairsSpelled (g .pairs) → Standing lent g l b p e unknowns words
 
-pub run-start : (l₀ : List ℕ) (h b₀ e₀ : ℕ) → h ≤ b₀ → b₀ ≤ e₀ → e₀ ≤ length l₀ → length l₀ ≡ h + h → {l : List ℕ} → Lowers l₀ h e₀ l → Running l₀ h b₀ e₀ l (b₀ - h) (b₀ - h) (e₀ - h) h h
-run-start l₀ h b₀ e₀ i j k n {l} low = record {
-  half = low .long ∙ n;
-  long = low .long;
+pub run-start : (l : List ℕ) (h b e : ℕ) → b ≤ e → e ≤ h → length l ≡ h + h → Running l h b e l b b e h h
+run-start l h b e i j n = record {
+  half = n;
+  long = refl;
   low-b = omega arith;
   low-p = omega arith;
-  low-e = omega arith;
+  low-e = j;
   stands = λ lent g lo hi eb ep.
-      let words : length (pairsSpelled (g .pairs)) ≡ e₀ - b₀ = ap length (sym ep) ∙ slice-long l₀ b₀ e₀ k in
+      let words : length (pairsSpelled (g .pairs)) ≡ e - b = ap length (sym ep) ∙ slice-long l b e (omega arith) in
       record {
         stage = g;
         same = refl;
-        bound = low .is h b₀ (omega arith) i j 0 (b₀ - h) (omega arith) (omega arith) ∙ eb;
+        bound = eb;
         behind = omega arith;
-        pairs = low .is b₀ e₀ i j (omega arith) (b₀ - h) (e₀ - h) (omega arith) (omega arith) ∙ ep;
+        pairs = ep;
         fewer = omega (arith, words, lefts-few (g .pairs));
         list = allUnknowns (g .pairs);
         lists = all-listed (g .pairs);
@@ -234,7 +234,7 @@ module _ {l₀ : List ℕ} {h b₀ e₀ : ℕ} {l : List ℕ} {b p e u w : ℕ} 
   telling : {lent : ℕ} {g₀ : Stage} (s : Standing lent g₀ l b p e u w) {r : Next} → t ≡ r → Told l p e (s .stage .pairs) r
   telling s q = rw q at (T .is (s .stage .pairs) (s .pairs))
 
-  pub run-done : t ≡ Done → Runs l₀ h b₀ e₀ l (Success b)
+  pub run-done : t ≡ Done → Runs l₀ h 0 b₀ e₀ l (Success b)
   run-done q = record {
     is = λ lent g₀ lo hi eb ep.
         let s = g .stands lent g₀ lo hi eb ep in
@@ -245,7 +245,7 @@ module _ {l₀ : List ℕ} {h b₀ e₀ : ℕ} {l : List ℕ} {b p e u w : ℕ} 
     long = g .long;
   }
 
-  pub run-stuck : t ≡ Stuck → Runs l₀ h b₀ e₀ l Failure
+  pub run-stuck : t ≡ Stuck → Runs l₀ h 0 b₀ e₀ l Failure
   unfolding after
   run-stuck q = record {
     is = λ lent g₀ lo hi eb ep.
@@ -261,7 +261,7 @@ module _ {l₀ : List ℕ} {h b₀ e₀ : ℕ} {l : List ℕ} {b p e u w : ℕ} 
   unfolding lefts
   some-words s c z = omega (arith, s .fewer, ap lefts (c .are), words-some (c .first .left))
 
-  never-out : {r : Next} → t ≡ r → (r ≡ Done → ⊥) → w ≡ 0 → Runs l₀ h b₀ e₀ l TooFew
+  never-out : {r : Next} → t ≡ r → (r ≡ Done → ⊥) → w ≡ 0 → Runs l₀ h 0 b₀ e₀ l TooFew
   never-out q n z = record {
     is = λ lent g₀ lo hi eb ep. let s = g .stands lent g₀ lo hi eb ep in absurd (some-words s (taken (s .stage .pairs) n (telling s q)) z);
     long = g .long;
@@ -270,7 +270,7 @@ module _ {l₀ : List ℕ} {h b₀ e₀ : ℕ} {l : List ℕ} {b p e u w : ℕ} 
   -- ---- A pair is dropped
 
   module _ {o : ℕ} (q : t ≡ Drop o) where
-    pub run-drop-none : w ≡ 0 → Runs l₀ h b₀ e₀ l TooFew
+    pub run-drop-none : w ≡ 0 → Runs l₀ h 0 b₀ e₀ l TooFew
     run-drop-none z = never-out q (λ y. clash (cc)) z
 
     pub run-drop : Running l₀ h b₀ e₀ l b o e u (w - 1)
@@ -303,7 +303,7 @@ module _ {l₀ : List ℕ} {h b₀ e₀ : ℕ} {l : List ℕ} {b p e u w : ℕ} 
   -- ---- A pair is taken apart
 
   module _ {i o : ℕ} (q : t ≡ Split i o) where
-    pub run-split-none : w ≡ 0 → Runs l₀ h b₀ e₀ l TooFew
+    pub run-split-none : w ≡ 0 → Runs l₀ h 0 b₀ e₀ l TooFew
     run-split-none z = never-out q (λ y. clash (cc)) z
 
     pub run-split-place : (b ≤ h) × (p ≤ h) × (i ≤ h) × (o ≤ h) × (e ≤ h) × (length l ≡ h + h)
@@ -334,7 +334,7 @@ module _ {l₀ : List ℕ} {h b₀ e₀ : ℕ} {l : List ℕ} {b p e u w : ℕ} 
             lists = λ y j. ls y (⊎-map (down .1 y) (λ k. k) (inPairs-append y (f .0) (c .rest) j));
           }
 
-      pub run-split-full : r ≡ Full → Runs l₀ h b₀ e₀ out TooFew
+      pub run-split-full : r ≡ Full → Runs l₀ h 0 b₀ e₀ out TooFew
       run-split-full f = record {
         is = λ lent g₀ lo hi eb ep.
             let s = g .stands lent g₀ lo hi eb ep in
@@ -388,7 +388,7 @@ module _ {l₀ : List ℕ} {h b₀ e₀ : ℕ} {l : List ℕ} {b p e u w : ℕ} 
               (replaced-pairs x (f .0) y (c .rest) j);
         }
 
-    pub run-bind-none : u ≡ 0 → Runs l₀ h b₀ e₀ l TooFew
+    pub run-bind-none : u ≡ 0 → Runs l₀ h 0 b₀ e₀ l TooFew
     run-bind-none z = record {
       is = λ lent g₀ lo hi eb ep. let s = g .stands lent g₀ lo hi eb ep in absurd (omega (arith, binding-now s .fewer, s .few));
       long = g .long;
@@ -407,7 +407,7 @@ module _ {l₀ : List ℕ} {h b₀ e₀ : ℕ} {l : List ℕ} {b p e u w : ℕ} 
           let ps : swapped x (slice first last l) (slice o e l) ≡ pairsSpelled (map (inPair x (c .ty)) (c .rest)) = rw (c .stands, c .behind) (swap-pairs x (c .ty) (c .rest)) in
           rw (← bs, ← ps) (B .is)
 
-      pub run-bind-full : r ≡ Full → Runs l₀ h b₀ e₀ out TooFew
+      pub run-bind-full : r ≡ Full → Runs l₀ h 0 b₀ e₀ out TooFew
       run-bind-full f = record {
         is = λ lent g₀ lo hi eb ep.
             let s = g .stands lent g₀ lo hi eb ep in
@@ -433,3 +433,13 @@ module _ {l₀ : List ℕ} {h b₀ e₀ : ℕ} {l : List ℕ} {b p e u w : ℕ} 
             (omega (arith, words, lefts-few (map (inPair x (c .ty)) (c .rest)), B .stays .inside j k f))
             (without x (s .list)) (c .lists) (omega (arith, c .fewer, s .few));
       }
+
+-- ---- From h on
+
+pub run-lowered : {l : List ℕ} {h b e : ℕ} → h ≤ b → b ≤ e → {mid : List ℕ} → Lowers l h e mid → {out : List ℕ} {r : Plain} → Runs mid h 0 (b - h) (e - h) out r → Runs l h h b e out r
+run-lowered {l} {h} {b} {e} i j low R = record {
+  is = λ lent g lo hi eb ep. R .is lent g lo hi
+      (low .is h b (omega arith) i j 0 (b - h) (omega arith) (omega arith) ∙ eb)
+      (low .is b e i j (omega arith) (b - h) (e - h) (omega arith) (omega arith) ∙ ep);
+  long = R .long ∙ low .long;
+}
