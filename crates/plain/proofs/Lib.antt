@@ -9,3 +9,4 @@ pub mod Staging
 pub mod Lowering
 pub mod Pairing
 pub mod Stepping
+pub mod Running

@@ -504,16 +504,15 @@ fn step(l: &[u32], p: usize, e: usize) -> Next
     apart(l, p, m, q)
 }
 
-// The run from the stage that stands from h on, its bindings up to `b0` and its pairs up to `e0`. It ends on any words: each
-// turn has fewer unknowns that can still be bound, or as many and fewer words on the left sides.
-pub fn run(l: &mut [u32], h: usize, b0: usize, e0: usize) -> Plain
-    requires { ⌜ (h ≤ b0) × (b0 ≤ e0) × (e0 ≤ length (now l)) × (length (now l) ≡ h + h) ⌝ }
-    ensures { λ r. ⌜ Runs (now (l .entry)) h b0 e0 (now (l .exit)) r ⌝ }
+// The run from the stage at the start, its bindings up to `b0` and its pairs up to `e0`. It ends on any words: each turn leaves
+// fewer unknowns that can still be bound, or as many and fewer words on the left sides.
+fn turns(l: &mut [u32], h: usize, b0: usize, e0: usize) -> Plain
+    requires { ⌜ (b0 ≤ e0) × (e0 ≤ h) × (length (now l) ≡ h + h) ⌝ }
+    ensures { λ r. ⌜ Runs (now (l .entry)) h 0 b0 e0 (now (l .exit)) r ⌝ }
 {
-    lower(l, h, e0);
-    let mut b = b0 - h;
-    let mut p = b;
-    let mut e = e0 - h;
+    let mut b = b0;
+    let mut p = b0;
+    let mut e = e0;
     let mut unknowns = h;
     let mut words = h;
     loop {
@@ -569,4 +568,14 @@ pub fn run(l: &mut [u32], h: usize, b0: usize, e0: usize) -> Plain
             }
         }
     }
+}
+
+// The run from the stage that stands from h on, its bindings up to `b` and its pairs up to `e`. After a success the slice
+// starts with the bindings.
+pub fn run(l: &mut [u32], h: usize, b: usize, e: usize) -> Plain
+    requires { ⌜ (h ≤ b) × (b ≤ e) × (e ≤ length (now l)) × (length (now l) ≡ h + h) ⌝ }
+    ensures { λ r. ⌜ Runs (now (l .entry)) h h b e (now (l .exit)) r ⌝ }
+{
+    lower(l, h, e);
+    turns(l, h, b - h, e - h)
 }
