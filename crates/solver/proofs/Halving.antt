@@ -66,7 +66,7 @@ module _ {l : List ℕ} {at : ℕ} {a b l′ : List ℕ} {e : ℕ} (W : Writes l
           rw end (rw n at x)
 
 module _ {w l : List ℕ} {got expected : Ty} {h : ℕ} (twice : length l ≡ h + h) {l₁ : List ℕ} {s : Staged} (S : Starts w l h got expected l₁ s) where
-  pub halves-run : {b e : ℕ} → s ≡ Staged.At b e → {l₂ : List ℕ} {r : Plain} → Runs l₁ h b e l₂ r → RunsHalves w got expected h l l₂ r
+  pub halves-run : {b e : ℕ} → s ≡ Staged.At b e → {l₂ : List ℕ} {r : Plain} → Runs l₁ h h b e l₂ r → RunsHalves w got expected h l l₂ r
   halves-run {b} {e} q R = record {
     is = λ T st H o p lent low high.
         let g = start (st .subst) (tree T got) (tree T expected) in
