@@ -179,7 +179,7 @@ module _ {l : List ℕ} {tag left middle n right end h i j : ℕ} (g : Aliking l
                 let w = rowSpelled (c .others) k in
                 let start : i + length (headSpelled k (c .name) (c .label)) ≡ i + h = omega (arith, head-long k (c .name) (c .label) tag (t .kind), g .head) in
                 let type-there : slice (i + h) middle l ≡ spelled (c .ty) ++ w =
-                    rw start at (slice-rest l i middle (headSpelled k (c .name) (c .label)) (spelled (c .ty) ++ w) (c .stands)) in
+                rw start at (slice-rest l i middle (headSpelled k (c .name) (c .label)) (spelled (c .ty) ++ w) (c .stands)) in
                 let stop : m ≡ i + h + length (spelled (c .ty)) = ends .is (c .ty) w type-there in
                 (c .others, rw stop (slice-rest l (i + h) middle (spelled (c .ty)) w type-there), go k r s t (findKey (c .name) s) refl (found k r s t), omega (arith, c .many));
           }

@@ -121,9 +121,9 @@ module _ {l : List ℕ} {tag from n to key h i j : ℕ} (g : Finding l tag from 
             let w = rowSpelled (c .others) k in
             let start : i + length (headSpelled k (c .name) (c .label)) ≡ i + h = omega (arith, head-long k (c .name) (c .label) tag t, g .head) in
             let type-there : slice (i + h) to l ≡ spelled (c .ty) ++ w =
-                rw start at (slice-rest l i to (headSpelled k (c .name) (c .label)) (spelled (c .ty) ++ w) (c .stands)) in
+            rw start at (slice-rest l i to (headSpelled k (c .name) (c .label)) (spelled (c .ty) ++ w) (c .stands)) in
             let end : r ≡ i + h + length (spelled (c .ty)) = ends .is (c .ty) w type-there in
             let other : findKey key (cell (c .name) (c .label) (c .ty) (c .others)) ≡ findKey key (c .others) =
-                rw (ne-eqb key (c .name) (λ y. p (name-is k s t m q ∙ sym y)), findKey) in
+            rw (ne-eqb key (c .name) (λ y. p (name-is k s t m q ∙ sym y)), findKey) in
             (c .others, rw end (slice-rest l (i + h) to (spelled (c .ty)) w type-there), c .same ∙ other, omega (arith, c .many));
       }

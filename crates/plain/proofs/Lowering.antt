@@ -53,7 +53,7 @@ module _ {l₀ : List ℕ} {from to : ℕ} {l : List ℕ} {i : ℕ} (g : Lowerin
         let long-a : length (slice a b l) ≡ b - a = slice-long l a b (omega (arith, g .long, g .inside)) in
         let long-s : length (slice s t l₀) ≡ t - s = slice-long l₀ s t (omega (arith, g .inside)) in
         ext-getD 0 (slice a b l) (slice s t l₀) (omega (arith, long-a, long-s)) (λ j lt.
-            let place : (a + j) + from ≡ s + j = omega arith in
-            slice-getD l a b j (omega (arith, long-a)) ∙ g .moved (a + j) (omega (arith, long-a)) ∙ ap (λ (x : ℕ). getD l₀ x 0) place ∙ sym (slice-getD l₀ s t j (omega (arith, long-a))));
+        let place : (a + j) + from ≡ s + j = omega arith in
+        slice-getD l a b j (omega (arith, long-a)) ∙ g .moved (a + j) (omega (arith, long-a)) ∙ ap (λ (x : ℕ). getD l₀ x 0) place ∙ sym (slice-getD l₀ s t j (omega (arith, long-a))));
     long = g .long;
   }

@@ -216,11 +216,11 @@ module _ {l₀ : List ℕ} {tag left middle n right end at : ℕ} {l : List ℕ}
             let c = held k r s qs t m in
             let o = there k r s qs t m in
             let one : slice (i + h) b l ≡ spelled (c .ty) =
-                slice-low l₀ l at (g .low) (i + h) b (omega (arith, g .below))
-                ∙ cell-own l₀ i middle tag h inner (g .head) k (t .kind) (c .name) (c .label) (c .ty) (rowSpelled (c .others) k) (c .stands) (ends-low (g .low) (g .below) E) in
+            slice-low l₀ l at (g .low) (i + h) b (omega (arith, g .below))
+            ∙ cell-own l₀ i middle tag h inner (g .head) k (t .kind) (c .name) (c .label) (c .ty) (rowSpelled (c .others) k) (c .stands) (ends-low (g .low) (g .below) E) in
             let two : slice (p + h) d l ≡ spelled (c .partner .1) =
-                slice-low l₀ l at (g .low) (p + h) d (omega (arith, g .apart))
-                ∙ cell-own l₀ p end tag h outer (g .head) k (t .kind) (c .name) (c .partner .0) (c .partner .1) (o .1 .0) (o .1 .1) (ends-low (g .low) (g .apart) D) in
+            slice-low l₀ l at (g .low) (p + h) d (omega (arith, g .apart))
+            ∙ cell-own l₀ p end tag h outer (g .head) k (t .kind) (c .name) (c .partner .0) (c .partner .1) (o .1 .0) (o .1 .1) (ends-low (g .low) (g .apart) D) in
             rw (one, two)
 
         pub pair-full : w ≡ Full → Result out Full

@@ -84,7 +84,7 @@ module _ {l₀ : List ℕ} {from to x first last at : ℕ} {l : List ℕ} {i n :
         long-here =
             let next : i + 1 + 1 ≡ i + 2 = omega arith in
             let here : slice i to l₀ ≡ a ∷ b ∷ slice (i + 2) to l₀ =
-                next-word ∙ ap (λ (y : List ℕ). a ∷ y) (one-more ∙ ap (λ (y : ℕ). y ∷ slice (i + 1 + 1) to l₀) (word-is (i + 1) (omega arith) d) ∙ ap (λ (k : ℕ). b ∷ slice k to l₀) next) in
+            next-word ∙ ap (λ (y : List ℕ). a ∷ y) (one-more ∙ ap (λ (y : ℕ). y ∷ slice (i + 1 + 1) to l₀) (word-is (i + 1) (omega arith) d) ∙ ap (λ (k : ℕ). b ∷ slice k to l₀) next) in
             ap (swapped x ts) here ∙ swapped-long x ts a b (slice (i + 2) to l₀) c
 
         pub replace-long : {m : ℕ} → r ≡ To m → Replacing l₀ from to x first last at mid (i + 2) m
@@ -202,7 +202,7 @@ module _ {l : List ℕ} {from to i n : ℕ} (g : Ending l from to i n) where
     ending-long c s {b} d {k} o =
         let next : i + 1 + 1 ≡ i + 2 = omega arith in
         let tail : slice (i + 1) to l ≡ b ∷ slice (i + 2) to l =
-            slice-cons l (i + 1) to (g .inside) (omega arith) ∙ ap (λ (x : ℕ). x ∷ slice (i + 1 + 1) to l) (sym d) ∙ ap (λ (j : ℕ). b ∷ slice j to l) next in
+        slice-cons l (i + 1) to (g .inside) (omega arith) ∙ ap (λ (x : ℕ). x ∷ slice (i + 1 + 1) to l) (sym d) ∙ ap (λ (j : ℕ). b ∷ slice j to l) next in
         let two : slice i to l ≡ a ∷ b ∷ slice (i + 2) to l = end-here ∙ ap (λ (x : List ℕ). a ∷ x) tail in
         record {
           inside = g .inside;

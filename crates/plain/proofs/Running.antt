@@ -325,7 +325,7 @@ module _ {l₀ : List ℕ} {h b₀ e₀ : ℕ} {l : List ℕ} {b p e u w : ℕ} 
           let down : StepFalls (c .first .left) (c .first .right) (splits (f .0)) = rw (f .1) at (step-falls (c .first .left) (c .first .right)) in
           let ls : Lists (s .list) (c .first ∷ c .rest) = rw (c .are) at (s .lists) in
           let text : pairsSpelled (f .0) ++ slice o e l ≡ pairsSpelled (f .0 ++ c .rest) =
-              ap (λ (k : ℕ). pairsSpelled (f .0) ++ slice k e l) (f .2) ∙ ap (λ (x : List ℕ). pairsSpelled (f .0) ++ x) (c .behind) ∙ sym (pairs-append (f .0) (c .rest)) in
+          ap (λ (k : ℕ). pairsSpelled (f .0) ++ slice k e l) (f .2) ∙ ap (λ (x : List ℕ). pairsSpelled (f .0) ++ x) (c .behind) ∙ sym (pairs-append (f .0) (c .rest)) in
           record {
             to = record { pairs = f .0 ++ c .rest; bindings = s .stage .bindings };
             goes = next-after (s .stage) (c .first) (c .rest) (c .are) (splits (f .0)) (f .1);
@@ -403,7 +403,7 @@ module _ {l₀ : List ℕ} {h b₀ e₀ : ℕ} {l : List ℕ} {b p e u w : ℕ} 
       unfolding bindingsSpelled
       laid s c =
           let bs : slice first last l ++ swapped x (slice first last l) (slice 0 b l) ≡ spelled (c .ty) ++ bindingsSpelled (map (inBinding x (c .ty)) (s .stage .bindings)) =
-              rw (c .stands, s .bound) (ap (λ (y : List ℕ). spelled (c .ty) ++ y) (swap-bindings x (c .ty) (s .stage .bindings))) in
+          rw (c .stands, s .bound) (ap (λ (y : List ℕ). spelled (c .ty) ++ y) (swap-bindings x (c .ty) (s .stage .bindings))) in
           let ps : swapped x (slice first last l) (slice o e l) ≡ pairsSpelled (map (inPair x (c .ty)) (c .rest)) = rw (c .stands, c .behind) (swap-pairs x (c .ty) (c .rest)) in
           rw (← bs, ← ps) (B .is)
 
@@ -428,7 +428,7 @@ module _ {l₀ : List ℕ} {h b₀ e₀ : ℕ} {l : List ℕ} {b p e u w : ℕ} 
             let c = binding-now s in
             let L = laid s c in
             let words : length (pairsSpelled (map (inPair x (c .ty)) (c .rest))) ≡ k - j =
-                ap length (sym (L .there j k f .1)) ∙ slice-long out j k (omega (arith, B .stays .inside j k f, B .stays .long, g .half)) in
+            ap length (sym (L .there j k f .1)) ∙ slice-long out j k (omega (arith, B .stays .inside j k f, B .stays .long, g .half)) in
             landed lo hi (g .half) (g .low-b) (g .low-e) s _ (c .goes) L f
             (omega (arith, words, lefts-few (map (inPair x (c .ty)) (c .rest)), B .stays .inside j k f))
             (without x (s .list)) (c .lists) (omega (arith, c .fewer, s .few));

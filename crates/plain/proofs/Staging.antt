@@ -45,9 +45,10 @@ module _ {l : List ℕ} {h : ℕ} {a b mid : List ℕ} {r : Wrote} (f : Writes l
         let whole : slice h m mid ≡ a ++ b = writes-there f q in
         let end = writes-to f q in
         let long : length (a ++ b) ≡ length a + length b = length-append a b in
-        let inner : m ≤ length mid = omega (arith, end .1, f .long) in
-        (g .is h n (omega arith) (omega arith) (omega (arith, end .0)) 0 i (omega arith) (omega arith) ∙ ap (λ (k : ℕ). slice h k mid) e ∙ slice-front mid h m a b inner (omega (arith, end .0)) whole,
-        g .is n m (omega arith) (omega (arith, end .0)) (omega arith) i j (omega arith) (omega (arith, end .0)) ∙ ap (λ (k : ℕ). slice k m mid) e ∙ slice-rest mid h m a b whole);
+        let inner : m ≤ length mid = omega (arith, end .1, f .long) in (
+          g .is h n (omega arith) (omega arith) (omega (arith, end .0)) 0 i (omega arith) (omega arith) ∙ ap (λ (k : ℕ). slice h k mid) e ∙ slice-front mid h m a b inner (omega (arith, end .0)) whole,
+          g .is n m (omega arith) (omega (arith, end .0)) (omega arith) i j (omega arith) (omega (arith, end .0)) ∙ ap (λ (k : ℕ). slice k m mid) e ∙ slice-rest mid h m a b whole,
+        );
     over = λ eq. let z : _≡_ {A = ℕ} 0 1 = cc in absurd (omega arith);
   }
 

@@ -81,9 +81,12 @@ module _ (x : ℕ) (t : Ty) where
     swap-row : (r : Row) (k : Kind) (ws : List ℕ) → swapped x (spelled t) (rowSpelled r k ++ ws) ≡ rowSpelled (appRow (only x t) r) k ++ swapped x (spelled t) ws
     swap-row ε k ws = refl
     swap-row (cell key label u r) k ws =
-        rw (append-assoc (headSpelled k key label) (spelled u ++ rowSpelled r k) ws, append-assoc (spelled u) (rowSpelled r k) ws,
-        append-assoc (headSpelled k key label) (spelled (app (only x t) u) ++ rowSpelled (appRow (only x t) r) k) (swapped x (spelled t) ws),
-        append-assoc (spelled (app (only x t) u)) (rowSpelled (appRow (only x t) r) k) (swapped x (spelled t) ws))
+        rw (
+          append-assoc (headSpelled k key label) (spelled u ++ rowSpelled r k) ws,
+          append-assoc (spelled u) (rowSpelled r k) ws,
+          append-assoc (headSpelled k key label) (spelled (app (only x t) u) ++ rowSpelled (appRow (only x t) r) k) (swapped x (spelled t) ws),
+          append-assoc (spelled (app (only x t) u)) (rowSpelled (appRow (only x t) r) k) (swapped x (spelled t) ws),
+        )
         (swap-head x (spelled t) k key label (spelled u ++ (rowSpelled r k ++ ws))
         ∙ ap (λ (l : List ℕ). headSpelled k key label ++ l) (swap-type u (rowSpelled r k ++ ws) ∙ ap (λ (l : List ℕ). spelled (app (only x t) u) ++ l) (swap-row r k ws)))
 
