@@ -79,7 +79,8 @@ module _ {l : List ℕ} {tag from n to key h i j : ℕ} (g : Finding l tag from 
     room k s t m q =
         let c = held k s t m q in
         let w = spelled (c .ty) ++ rowSpelled (c .others) k in
-        let long : length (headSpelled k (c .name) (c .label) ++ w) ≡ headSize tag + length w = length-append (headSpelled k (c .name) (c .label)) w ∙ ap (λ (a : ℕ). a + length w) (head-long k (c .name) (c .label) tag t) in
+        let long : length (headSpelled k (c .name) (c .label) ++ w) ≡ headSize tag + length w = length-append (headSpelled k (c .name) (c .label)) w
+        ∙ ap (λ (a : ℕ). a + length w) (head-long k (c .name) (c .label) tag t) in
         (omega (arith, slice-long l i to (g .inside), ap length (c .stands), long, g .head), omega (arith, head-two tag, g .head))
 
     pub find-cut : to - i < h → FindsAt l tag from n to key to
@@ -93,7 +94,8 @@ module _ {l : List ℕ} {tag from n to key h i j : ℕ} (g : Finding l tag from 
       name-is k s t m q =
           let c = held k s t m q in
           let w = spelled (c .ty) ++ rowSpelled (c .others) k in
-          let long : length (headSpelled k (c .name) (c .label) ++ w) ≡ headSize tag + length w = length-append (headSpelled k (c .name) (c .label)) w ∙ ap (λ (b : ℕ). b + length w) (head-long k (c .name) (c .label) tag t) in
+          let long : length (headSpelled k (c .name) (c .label) ++ w) ≡ headSize tag + length w = length-append (headSpelled k (c .name) (c .label)) w
+          ∙ ap (λ (b : ℕ). b + length w) (head-long k (c .name) (c .label) tag t) in
           let place : i + h - 1 ≡ i + (headSize tag - 1) = omega (arith, g .head, room k s t m q) in
           e ∙ ap (λ (b : ℕ). getD l b 0) place
           ∙ slice-word l i to (headSpelled k (c .name) (c .label) ++ w) (g .inside) (c .stands) (headSize tag - 1) (omega (arith, long, head-two tag))
@@ -106,7 +108,14 @@ module _ {l : List ℕ} {tag from n to key h i j : ℕ} (g : Finding l tag from 
             let c = held k s t m q in
             let same-key : key ≡ c .name = sym p ∙ name-is k s t m q in
             let found : findKey key s ≡ some (c .label, c .ty) = c .same ∙ rw (eq-eqb key (c .name) same-key, findKey) in
-            rw found (inner, (rowSpelled (c .others) k, c .stands ∙ ap (λ (z : ℕ). headSpelled k z (c .label) ++ (spelled (c .ty) ++ rowSpelled (c .others) k)) (sym same-key)));
+            rw found (
+              inner,
+              (
+                rowSpelled (c .others) k,
+                c .stands
+                    ∙ ap (λ (z : ℕ). headSpelled k z (c .label) ++ (spelled (c .ty) ++ rowSpelled (c .others) k)) (sym same-key),
+              ),
+            );
         within = omega arith;
       }
 
