@@ -38,7 +38,8 @@ named-by Union tag p q t true e = eqb-true p q (ap (λ (n : ℕ). sameLabel n p 
 named-by Union tag p q t false e = eqb-false p q (ap (λ (n : ℕ). sameLabel n p q) t ∙ e)
 
 -- The label of a cell that stands at a place; of a field it is not looked at.
-pub label-at : (l : List ℕ) (i to : ℕ) (k : Kind) (key label : ℕ) (ws : List ℕ) → to ≤ length l → slice i to l ≡ headSpelled k key label ++ ws → Labelled-at k label (getD l (i + 1) 0)
+pub label-at : (l : List ℕ) (i to : ℕ) (k : Kind) (key label : ℕ) (ws : List ℕ) → to ≤ length l → slice i to l ≡ headSpelled k key label ++ ws
+    → Labelled-at k label (getD l (i + 1) 0)
 unfolding headSpelled
 label-at l i to Record key label ws h e = tt
 label-at l i to Union key label ws h e = slice-word l i to (10 ∷ label ∷ 9 ∷ key ∷ ws) h e 1 (omega arith)
@@ -76,8 +77,16 @@ pub record Aliking (l : List ℕ) (tag left middle n right end h i j : ℕ) : Ty
   pub rest : (k : Kind) (r s : Row) → TwoRows l tag left middle n right end k r s
       → (r′ : Row) × (slice i middle l ≡ rowSpelled r′ k) × (Like (matched k r s) ≡ Like (matched k r′ s)) × (rowLen r′ + j ≡ n)
 
-pub alike-start : (l : List ℕ) (tag left middle n right end h : ℕ) → middle ≤ length l → end ≤ length l → h ≡ headSize tag → Aliking l tag left middle n right end h left 0
-alike-start l tag left middle n right end h p q e = record { inside = p; also = q; head = e; within = omega arith; rest = λ k r s t. (r, t .first, refl, omega (arith, t .many)) }
+pub alike-start : (l : List ℕ) (tag left middle n right end h : ℕ) → middle ≤ length l → end ≤ length l → h ≡ headSize tag
+    → Aliking l tag left middle n right end h left 0
+alike-start l tag left middle n right end h p q e = record {
+  inside = p;
+  also = q;
+  head = e;
+  within = omega arith;
+  rest = λ k r s t.
+      (r, t .first, refl, omega (arith, t .many));
+}
 
 -- The cell there, and the rest of its row.
 record HeldLeft (l : List ℕ) (middle n i j : ℕ) (k : Kind) (r s : Row) : Type 0 where
@@ -111,7 +120,8 @@ module _ {l : List ℕ} {tag left middle n right end h i j : ℕ} (g : Aliking l
     room k r s t =
         let c = held k r s t in
         let w = spelled (c .ty) ++ rowSpelled (c .others) k in
-        let long : length (headSpelled k (c .name) (c .label) ++ w) ≡ headSize tag + length w = length-append (headSpelled k (c .name) (c .label)) w ∙ ap (λ (a : ℕ). a + length w) (head-long k (c .name) (c .label) tag (t .kind)) in
+        let long : length (headSpelled k (c .name) (c .label) ++ w) ≡ headSize tag + length w = length-append (headSpelled k (c .name) (c .label)) w
+        ∙ ap (λ (a : ℕ). a + length w) (head-long k (c .name) (c .label) tag (t .kind)) in
         (omega (arith, slice-long l i middle (g .inside), ap length (c .stands), long, g .head), omega (arith, head-two tag, g .head))
 
     pub alike-cut : middle - i < h → Alike l tag left middle n right end false
@@ -125,7 +135,8 @@ module _ {l : List ℕ} {tag left middle n right end h i j : ℕ} (g : Aliking l
       name-is k r s t =
           let c = held k r s t in
           let w = spelled (c .ty) ++ rowSpelled (c .others) k in
-          let long : length (headSpelled k (c .name) (c .label) ++ w) ≡ headSize tag + length w = length-append (headSpelled k (c .name) (c .label)) w ∙ ap (λ (b : ℕ). b + length w) (head-long k (c .name) (c .label) tag (t .kind)) in
+          let long : length (headSpelled k (c .name) (c .label) ++ w) ≡ headSize tag + length w = length-append (headSpelled k (c .name) (c .label)) w
+          ∙ ap (λ (b : ℕ). b + length w) (head-long k (c .name) (c .label) tag (t .kind)) in
           let place : i + h - 1 ≡ i + (headSize tag - 1) = omega (arith, g .head, room k r s t) in
           e ∙ ap (λ (b : ℕ). getD l b 0) place
           ∙ slice-word l i middle (headSpelled k (c .name) (c .label) ++ w) (g .inside) (c .stands) (headSize tag - 1) (omega (arith, long, head-two tag))
@@ -138,13 +149,16 @@ module _ {l : List ℕ} {tag left middle n right end h i j : ℕ} (g : Aliking l
       unfolding part
       alike-absent h = record { is = λ k r s t. let c = held k r s t in go k r s t (findKey (c .name) s) refl (found k r s t) }
         where
-          go : (k : Kind) (r s : Row) (t : TwoRows l tag left middle n right end k r s) (o : Option (ℕ × Ty)) → findKey (held k r s t .name) s ≡ o → FoundAt l k (held k r s t .name) end p o → false ≡ Like (matched k r s)
-          go k r s t none q f = let c = held k r s t in sym (c .same ∙ ap (λ (x : Option (ℕ × Ty)). Like (part k (c .label) (c .ty) x (matched k (c .others) s))) q)
+          go : (k : Kind) (r s : Row) (t : TwoRows l tag left middle n right end k r s) (o : Option (ℕ × Ty)) → findKey (held k r s t .name) s ≡ o
+              → FoundAt l k (held k r s t .name) end p o → false ≡ Like (matched k r s)
+          go k r s t none q f = let c = held k r s t in
+              sym (c .same ∙ ap (λ (x : Option (ℕ × Ty)). Like (part k (c .label) (c .ty) x (matched k (c .others) s))) q)
           go k r s t (some u) q f = absurd (omega (arith, f .0))
 
       module _ (b : Bool) (lab : b ≡ sameLabel tag (getD l (i + 1) 0) (getD l (p + 1) 0)) where
         -- what the two labels say of the two cells
-        labels : (k : Kind) (r s : Row) (t : TwoRows l tag left middle n right end k r s) (u : ℕ × Ty) → FoundAt l k (held k r s t .name) end p (some u) → Like-named k (held k r s t .label) (u .0) b
+        labels : (k : Kind) (r s : Row) (t : TwoRows l tag left middle n right end k r s) (u : ℕ × Ty) → FoundAt l k (held k r s t .name) end p (some u)
+            → Like-named k (held k r s t .label) (u .0) b
         labels k r s t u f =
             let c = held k r s t in
             let w = spelled (c .ty) ++ rowSpelled (c .others) k in
@@ -152,7 +166,8 @@ module _ {l : List ℕ} {tag left middle n right end h i j : ℕ} (g : Aliking l
             let other = label-at l p end k (c .name) (u .0) (spelled (u .1) ++ f .1 .0) (g .also) (f .1 .1) in
             go k (c .label) (u .0) b one other (named-by k tag (getD l (i + 1) 0) (getD l (p + 1) 0) (t .kind) b (sym lab))
           where
-            go : (k : Kind) (x y : ℕ) (d : Bool) → Labelled-at k x (getD l (i + 1) 0) → Labelled-at k y (getD l (p + 1) 0) → Like-named k (getD l (i + 1) 0) (getD l (p + 1) 0) d → Like-named k x y d
+            go : (k : Kind) (x y : ℕ) (d : Bool) → Labelled-at k x (getD l (i + 1) 0) → Labelled-at k y (getD l (p + 1) 0)
+                → Like-named k (getD l (i + 1) 0) (getD l (p + 1) 0) d → Like-named k x y d
             go Record x y true m o z = z
             go Record x y false m o z = z
             go Union x y d m o z = rw (m, o) at z
@@ -161,12 +176,14 @@ module _ {l : List ℕ} {tag left middle n right end h i j : ℕ} (g : Aliking l
           pub alike-differs : b ≡ false → Alike l tag left middle n right end false
           alike-differs z = record { is = λ k r s t. go k r s t (findKey (held k r s t .name) s) refl (found k r s t) }
             where
-              go : (k : Kind) (r s : Row) (t : TwoRows l tag left middle n right end k r s) (o : Option (ℕ × Ty)) → findKey (held k r s t .name) s ≡ o → FoundAt l k (held k r s t .name) end p o → false ≡ Like (matched k r s)
+              go : (k : Kind) (r s : Row) (t : TwoRows l tag left middle n right end k r s) (o : Option (ℕ × Ty)) → findKey (held k r s t .name) s ≡ o
+                  → FoundAt l k (held k r s t .name) end p o → false ≡ Like (matched k r s)
               go k r s t none q f = absurd (omega arith)
               go k r s t (some u) q f =
                   let c = held k r s t in
                   let apart : ¬ Named k (c .label) (u .0) = rw z at (labels k r s t u f) in
-                  sym (c .same ∙ ap (λ (x : Option (ℕ × Ty)). Like (part k (c .label) (c .ty) x (matched k (c .others) s))) q ∙ ap Like (part-unlike k (c .label) (c .ty) u (matched k (c .others) s) apart))
+                  sym (c .same ∙ ap (λ (x : Option (ℕ × Ty)). Like (part k (c .label) (c .ty) x (matched k (c .others) s))) q
+                  ∙ ap Like (part-unlike k (c .label) (c .ty) u (matched k (c .others) s) apart))
 
           pub alike-next : b ≡ true → {m : ℕ} → EndsAt l (i + h) middle m → Aliking l tag left middle n right end h m (j + 1)
           alike-next z {m} ends = record {
@@ -179,12 +196,18 @@ module _ {l : List ℕ} {tag left middle n right end h i j : ℕ} (g : Aliking l
                 let w = rowSpelled (c .others) k in
                 let start : i + length (headSpelled k (c .name) (c .label)) ≡ i + h = omega (arith, head-long k (c .name) (c .label) tag (t .kind), g .head) in
                 let type-there : slice (i + h) middle l ≡ spelled (c .ty) ++ w =
-                    rw start at (slice-rest l i middle (headSpelled k (c .name) (c .label)) (spelled (c .ty) ++ w) (c .stands)) in
-                let stop : m ≡ i + h + length (spelled (c .ty)) = ends .is (c .ty) w type-there in
-                (c .others, rw stop (slice-rest l (i + h) middle (spelled (c .ty)) w type-there), go k r s t (findKey (c .name) s) refl (found k r s t), omega (arith, c .many));
+                rw start at (slice-rest l i middle (headSpelled k (c .name) (c .label)) (spelled (c .ty) ++ w) (c .stands)) in
+                let stop : m ≡ i + h + length (spelled (c .ty)) = ends .is (c .ty) w type-there in (
+                  c .others,
+                  rw stop (slice-rest l (i + h) middle (spelled (c .ty)) w type-there),
+                  go k r s t (findKey (c .name) s) refl (found k r s t),
+                  omega
+                      (arith, c .many),
+                );
           }
             where
-              go : (k : Kind) (r s : Row) (t : TwoRows l tag left middle n right end k r s) (o : Option (ℕ × Ty)) → findKey (held k r s t .name) s ≡ o → FoundAt l k (held k r s t .name) end p o
+              go : (k : Kind) (r s : Row) (t : TwoRows l tag left middle n right end k r s) (o : Option (ℕ × Ty)) → findKey (held k r s t .name) s ≡ o
+                  → FoundAt l k (held k r s t .name) end p o
                   → Like (matched k r s) ≡ Like (matched k (held k r s t .others) s)
               go k r s t none q f = absurd (omega arith)
               go k r s t (some u) q f =

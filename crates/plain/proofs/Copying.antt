@@ -21,7 +21,8 @@ copy-start l from to at b h = record { below = b; inside = h; passing = passing-
 module _ {l₀ : List ℕ} {from to at : ℕ} {l : List ℕ} {i n : ℕ} (g : Copying l₀ from to at l i n) where
   module _ (lt : i < to) {a : ℕ} (e : a ≡ getD l i 0) {mid : List ℕ} {r : Wrote} (f : Writes l n (a ∷ []) mid r) where
     here : slice i to l₀ ≡ a ∷ slice (i + 1) to l₀
-    here = slice-cons l₀ i to (omega (arith, g .below, g .inside)) lt ∙ ap (λ (x : ℕ). x ∷ slice (i + 1) to l₀) (sym (e ∙ passing-word (g .passing) i (omega (arith, g .below))))
+    here = slice-cons l₀ i to (omega (arith, g .below, g .inside)) lt
+        ∙ ap (λ (x : ℕ). x ∷ slice (i + 1) to l₀) (sym (e ∙ passing-word (g .passing) i (omega (arith, g .below))))
 
     pub copy-next : {m : ℕ} → r ≡ To m → Copying l₀ from to at mid (i + 1) m
     copy-next q = record { below = g .below; inside = g .inside; passing = passing-next (g .passing) (a ∷ []) (slice (i + 1) to l₀) here f q }

@@ -79,7 +79,8 @@ module _ {l : List ℕ} {tag from n to key h i j : ℕ} (g : Finding l tag from 
     room k s t m q =
         let c = held k s t m q in
         let w = spelled (c .ty) ++ rowSpelled (c .others) k in
-        let long : length (headSpelled k (c .name) (c .label) ++ w) ≡ headSize tag + length w = length-append (headSpelled k (c .name) (c .label)) w ∙ ap (λ (a : ℕ). a + length w) (head-long k (c .name) (c .label) tag t) in
+        let long : length (headSpelled k (c .name) (c .label) ++ w) ≡ headSize tag + length w = length-append (headSpelled k (c .name) (c .label)) w
+        ∙ ap (λ (a : ℕ). a + length w) (head-long k (c .name) (c .label) tag t) in
         (omega (arith, slice-long l i to (g .inside), ap length (c .stands), long, g .head), omega (arith, head-two tag, g .head))
 
     pub find-cut : to - i < h → FindsAt l tag from n to key to
@@ -93,7 +94,8 @@ module _ {l : List ℕ} {tag from n to key h i j : ℕ} (g : Finding l tag from 
       name-is k s t m q =
           let c = held k s t m q in
           let w = spelled (c .ty) ++ rowSpelled (c .others) k in
-          let long : length (headSpelled k (c .name) (c .label) ++ w) ≡ headSize tag + length w = length-append (headSpelled k (c .name) (c .label)) w ∙ ap (λ (b : ℕ). b + length w) (head-long k (c .name) (c .label) tag t) in
+          let long : length (headSpelled k (c .name) (c .label) ++ w) ≡ headSize tag + length w = length-append (headSpelled k (c .name) (c .label)) w
+          ∙ ap (λ (b : ℕ). b + length w) (head-long k (c .name) (c .label) tag t) in
           let place : i + h - 1 ≡ i + (headSize tag - 1) = omega (arith, g .head, room k s t m q) in
           e ∙ ap (λ (b : ℕ). getD l b 0) place
           ∙ slice-word l i to (headSpelled k (c .name) (c .label) ++ w) (g .inside) (c .stands) (headSize tag - 1) (omega (arith, long, head-two tag))
@@ -106,7 +108,14 @@ module _ {l : List ℕ} {tag from n to key h i j : ℕ} (g : Finding l tag from 
             let c = held k s t m q in
             let same-key : key ≡ c .name = sym p ∙ name-is k s t m q in
             let found : findKey key s ≡ some (c .label, c .ty) = c .same ∙ rw (eq-eqb key (c .name) same-key, findKey) in
-            rw found (inner, (rowSpelled (c .others) k, c .stands ∙ ap (λ (z : ℕ). headSpelled k z (c .label) ++ (spelled (c .ty) ++ rowSpelled (c .others) k)) (sym same-key)));
+            rw found (
+              inner,
+              (
+                rowSpelled (c .others) k,
+                c .stands
+                    ∙ ap (λ (z : ℕ). headSpelled k z (c .label) ++ (spelled (c .ty) ++ rowSpelled (c .others) k)) (sym same-key),
+              ),
+            );
         within = omega arith;
       }
 
@@ -121,9 +130,9 @@ module _ {l : List ℕ} {tag from n to key h i j : ℕ} (g : Finding l tag from 
             let w = rowSpelled (c .others) k in
             let start : i + length (headSpelled k (c .name) (c .label)) ≡ i + h = omega (arith, head-long k (c .name) (c .label) tag t, g .head) in
             let type-there : slice (i + h) to l ≡ spelled (c .ty) ++ w =
-                rw start at (slice-rest l i to (headSpelled k (c .name) (c .label)) (spelled (c .ty) ++ w) (c .stands)) in
+            rw start at (slice-rest l i to (headSpelled k (c .name) (c .label)) (spelled (c .ty) ++ w) (c .stands)) in
             let end : r ≡ i + h + length (spelled (c .ty)) = ends .is (c .ty) w type-there in
             let other : findKey key (cell (c .name) (c .label) (c .ty) (c .others)) ≡ findKey key (c .others) =
-                rw (ne-eqb key (c .name) (λ y. p (name-is k s t m q ∙ sym y)), findKey) in
+            rw (ne-eqb key (c .name) (λ y. p (name-is k s t m q ∙ sym y)), findKey) in
             (c .others, rw end (slice-rest l (i + h) to (spelled (c .ty)) w type-there), c .same ∙ other, omega (arith, c .many));
       }

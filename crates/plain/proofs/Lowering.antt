@@ -40,7 +40,8 @@ module _ {l₀ : List ℕ} {from to : ℕ} {l : List ℕ} {i : ℕ} (g : Lowerin
       go : (j : ℕ) → j + from < i + 1 → Dec (j ≡ i - from) → getD (set l (i - from) a) j 0 ≡ getD l₀ (j + from) 0
       go j h (yes q) =
           let place : i ≡ j + from = omega (arith, g .reached) in
-          ap (λ (k : ℕ). getD (set l (i - from) a) k 0) q ∙ getD-set-same l (i - from) a 0 (omega (arith, g .reached, g .inside, g .long)) ∙ e ∙ g .kept i (g .reached) ∙ ap (λ (k : ℕ). getD l₀ k 0) place
+          ap (λ (k : ℕ). getD (set l (i - from) a) k 0) q ∙ getD-set-same l (i - from) a 0 (omega (arith, g .reached, g .inside, g .long)) ∙ e
+          ∙ g .kept i (g .reached) ∙ ap (λ (k : ℕ). getD l₀ k 0) place
       go j h (no n) = getD-set-other l (i - from) j a 0 n ∙ g .moved j (below (ℕ-discrete (j + from) i))
         where
           below : Dec (j + from ≡ i) → j + from < i
@@ -53,7 +54,8 @@ module _ {l₀ : List ℕ} {from to : ℕ} {l : List ℕ} {i : ℕ} (g : Lowerin
         let long-a : length (slice a b l) ≡ b - a = slice-long l a b (omega (arith, g .long, g .inside)) in
         let long-s : length (slice s t l₀) ≡ t - s = slice-long l₀ s t (omega (arith, g .inside)) in
         ext-getD 0 (slice a b l) (slice s t l₀) (omega (arith, long-a, long-s)) (λ j lt.
-            let place : (a + j) + from ≡ s + j = omega arith in
-            slice-getD l a b j (omega (arith, long-a)) ∙ g .moved (a + j) (omega (arith, long-a)) ∙ ap (λ (x : ℕ). getD l₀ x 0) place ∙ sym (slice-getD l₀ s t j (omega (arith, long-a))));
+        let place : (a + j) + from ≡ s + j = omega arith in
+        slice-getD l a b j (omega (arith, long-a)) ∙ g .moved (a + j) (omega (arith, long-a)) ∙ ap (λ (x : ℕ). getD l₀ x 0) place
+        ∙ sym (slice-getD l₀ s t j (omega (arith, long-a))));
     long = g .long;
   }

@@ -24,7 +24,8 @@ use Rattle.plain.proofs.Finding.{head-long, key-in, head-two}
 
 -- ---- A cell at a place
 
-module _ (l : List ℕ) (i to tag h : ℕ) (inside : to ≤ length l) (head : h ≡ headSize tag) (k : Kind) (kind : kindTag k ≡ tag) (key label : ℕ) (t : Ty) (ws : List ℕ)
+module _ (l : List ℕ) (i to tag h : ℕ) (inside : to ≤ length l) (head : h ≡ headSize tag) (k : Kind) (kind : kindTag k ≡ tag) (key label : ℕ) (t : Ty)
+    (ws : List ℕ)
     (stands : slice i to l ≡ headSpelled k key label ++ (spelled t ++ ws)) where
   long : length (headSpelled k key label ++ (spelled t ++ ws)) ≡ h + length (spelled t ++ ws)
   long = length-append (headSpelled k key label) (spelled t ++ ws) ∙ ap (λ (b : ℕ). b + length (spelled t ++ ws)) (head-long k key label tag kind ∙ sym head)
@@ -46,7 +47,8 @@ module _ (l : List ℕ) (i to tag h : ℕ) (inside : to ≤ length l) (head : h 
 
   module _ {r : ℕ} (ends : EndsAt l (i + h) to r) where
     cell-own : slice (i + h) r l ≡ spelled t
-    cell-own = ap (λ (b : ℕ). slice (i + h) b l) (ends .is t ws cell-type) ∙ slice-front l (i + h) to (spelled t) ws inside (omega (arith, cell-room, head-two tag)) cell-type
+    cell-own = ap (λ (b : ℕ). slice (i + h) b l) (ends .is t ws cell-type)
+        ∙ slice-front l (i + h) to (spelled t) ws inside (omega (arith, cell-room, head-two tag)) cell-type
 
     cell-next : slice r to l ≡ ws
     cell-next = ap (λ (b : ℕ). slice b to l) (ends .is t ws cell-type) ∙ slice-rest l (i + h) to (spelled t) ws cell-type
@@ -106,7 +108,8 @@ pub record Pairing (l₀ : List ℕ) (tag left middle n right end at : ℕ) (l :
   pub head : h ≡ headSize tag
   pub low : take at l ≡ take at l₀
   pub moves : Moves l₀ at l (To to)
-  pub rest : (k : Kind) (r s : Row) (qs : List Equation) → TwoRows l₀ tag left middle n right end k r s → matched k r s ≡ parts qs → Left l₀ middle n at l i j to k s qs
+  pub rest : (k : Kind) (r s : Row) (qs : List Equation) → TwoRows l₀ tag left middle n right end k r s → matched k r s ≡ parts qs
+      → Left l₀ middle n at l i j to k s qs
 
 pub pair-start : (l : List ℕ) (tag left middle n right end at h : ℕ) → middle ≤ at → end ≤ at → at ≤ length l → h ≡ headSize tag
     → Pairing l tag left middle n right end at l h left 0 at
@@ -117,7 +120,15 @@ pair-start l tag left middle n right end at h a b c e = record {
   head = e;
   low = refl;
   moves = moves-none l at;
-  rest = λ k r s qs t m. record { row = r; stands = t .first; pairs = qs; are = m; goes = goes-start l at (pairsSpelled qs) (pairsSpelled qs) c refl; many = omega (arith, t .many) };
+  rest = λ k r s qs t m. record {
+    row = r;
+    stands = t .first;
+    pairs = qs;
+    are = m;
+    goes = goes-start l at (pairsSpelled qs)
+        (pairsSpelled qs) c refl;
+    many = omega (arith, t .many);
+  };
 }
 
 -- The cell there, its partner, and what is to be written after them.
@@ -134,15 +145,30 @@ record HeldPair (l₀ : List ℕ) (middle n at : ℕ) (l : List ℕ) (i j to : �
   goes : Goes l₀ at (pairsSpelled qs) l to (spelled ty ++ (spelled (partner .1) ++ pairsSpelled pairs))
   many : suc (rowLen others) + j ≡ n
 
-held-pair : {l₀ : List ℕ} {middle n at : ℕ} {l : List ℕ} {i j to : ℕ} (k : Kind) (s : Row) (qs : List Equation) → j < n → Left l₀ middle n at l i j to k s qs → HeldPair l₀ middle n at l i j to k s qs
+held-pair : {l₀ : List ℕ} {middle n at : ℕ} {l : List ℕ} {i j to : ℕ} (k : Kind) (s : Row) (qs : List Equation) → j < n → Left l₀ middle n at l i j to k s qs
+    → HeldPair l₀ middle n at l i j to k s qs
 unfolding matched rowSpelled rowLen pairsSpelled
 held-pair {l₀} {middle} {n} {at} {l} {i} {j} {to} k s qs lt x = go (x .row) (x .stands) (x .pairs) (x .are) (x .goes) (x .many)
   where
-    go : (r : Row) → slice i middle l₀ ≡ rowSpelled r k → (ps : List Equation) → matched k r s ≡ parts ps → Goes l₀ at (pairsSpelled qs) l to (pairsSpelled ps) → rowLen r + j ≡ n → HeldPair l₀ middle n at l i j to k s qs
+    go : (r : Row) → slice i middle l₀ ≡ rowSpelled r k → (ps : List Equation) → matched k r s ≡ parts ps
+        → Goes l₀ at (pairsSpelled qs) l to (pairsSpelled ps) → rowLen r + j ≡ n → HeldPair l₀ middle n at l i j to k s qs
     go ε a ps b c d = absurd (omega arith)
     go (cell x y u o) a ps b c d =
         let w = paired k y u (findKey x s) (matched k o s) ps b in
-        record { name = x; label = y; ty = u; others = o; stands = a; partner = w .other; found = w .found; pairs = w .rest; are = w .others; goes = rw (w .are) at c; many = d }
+        record {
+          name = x;
+          label = y;
+          ty = u;
+          others = o;
+          stands = a;
+          partner = w .other;
+          found = w .found;
+          pairs = w .rest;
+          are = w .others;
+          goes = rw
+              (w .are) at c;
+          many = d;
+        }
 
 -- The row is at its end.
 nothing-left : (k : Kind) (r s : Row) (ps : List Equation) (j n : ℕ) → matched k r s ≡ parts ps → rowLen r + j ≡ n → n ≤ j → ps ≡ []
@@ -154,7 +180,8 @@ module _ {l₀ : List ℕ} {tag left middle n right end at : ℕ} {l : List ℕ}
   abbrev Result : List ℕ → Wrote → Type 0
   Result out r = Pairs l₀ tag left middle n right end at out r
 
-  never : {out : List ℕ} → length out ≡ length l₀ → ((k : Kind) (r s : Row) (qs : List Equation) → TwoRows l₀ tag left middle n right end k r s → matched k r s ≡ parts qs → ⊥) → Result out Full
+  never : {out : List ℕ} → length out ≡ length l₀
+      → ((k : Kind) (r s : Row) (qs : List Equation) → TwoRows l₀ tag left middle n right end k r s → matched k r s ≡ parts qs → ⊥) → Result out Full
   never e f = record { is = λ k r s qs t m. absurd (f k r s qs t m); moves = full-moves e }
 
   pub pair-done : n ≤ j → Result l (To to)
@@ -167,14 +194,16 @@ module _ {l₀ : List ℕ} {tag left middle n right end at : ℕ} {l : List ℕ}
   }
 
   module _ (lt : j < n) where
-    held : (k : Kind) (r s : Row) (qs : List Equation) → TwoRows l₀ tag left middle n right end k r s → matched k r s ≡ parts qs → HeldPair l₀ middle n at l i j to k s qs
+    held : (k : Kind) (r s : Row) (qs : List Equation) → TwoRows l₀ tag left middle n right end k r s → matched k r s ≡ parts qs
+        → HeldPair l₀ middle n at l i j to k s qs
     held k r s qs t m = held-pair k s qs lt (g .rest k r s qs t m)
 
     inner : middle ≤ length l₀
     inner = omega (arith, g .below, g .inside)
 
     room : (k : Kind) (r s : Row) (qs : List Equation) → TwoRows l₀ tag left middle n right end k r s → matched k r s ≡ parts qs → (h ≤ middle - i) × (2 ≤ h)
-    room k r s qs t m = let c = held k r s qs t m in cell-room l₀ i middle tag h inner (g .head) k (t .kind) (c .name) (c .label) (c .ty) (rowSpelled (c .others) k) (c .stands)
+    room k r s qs t m = let c = held k r s qs t m in
+        cell-room l₀ i middle tag h inner (g .head) k (t .kind) (c .name) (c .label) (c .ty) (rowSpelled (c .others) k) (c .stands)
 
     pub pair-past-end : middle ≤ i → Result l Full
     pair-past-end p = never (g .moves .long) (λ k r s qs t m. omega (arith, room k r s qs t m))
@@ -185,11 +214,13 @@ module _ {l₀ : List ℕ} {tag left middle n right end at : ℕ} {l : List ℕ}
     module _ (near : i < middle) (whole : h ≤ middle - i) {a : ℕ} (e : a ≡ getD l (i + h - 1) 0) {p : ℕ} (F : FindsAt l tag right n end a p) where
       -- the partner stands at p
       there : (k : Kind) (r s : Row) (qs : List Equation) (t : TwoRows l₀ tag left middle n right end k r s) (m : matched k r s ≡ parts qs)
-          → (p < end) × ((ws : List ℕ) × (slice p end l₀ ≡ headSpelled k (held k r s qs t m .name) (held k r s qs t m .partner .0) ++ (spelled (held k r s qs t m .partner .1) ++ ws)))
+          → (p < end) × ((ws : List ℕ) × (slice p end l₀ ≡ headSpelled k (held k r s qs t m .name) (held k r s qs t m .partner .0) ++
+          (spelled (held k r s qs t m .partner .1) ++ ws)))
       there k r s qs t m =
           let c = held k r s qs t m in
           let low-word : getD l (i + h - 1) 0 ≡ getD l₀ (i + h - 1) 0 = same (i + h - 1) (omega (arith, g .below, room k r s qs t m)) in
-          let key : a ≡ c .name = e ∙ low-word ∙ cell-key l₀ i middle tag h inner (g .head) k (t .kind) (c .name) (c .label) (c .ty) (rowSpelled (c .others) k) (c .stands) in
+          let key : a ≡ c .name = e ∙ low-word
+          ∙ cell-key l₀ i middle tag h inner (g .head) k (t .kind) (c .name) (c .label) (c .ty) (rowSpelled (c .others) k) (c .stands) in
           let f = rw key at (finds-low (g .low) (g .apart) F .is k s (t .kind) (t .as-many) (t .second)) in
           rw (c .found) at f
         where
@@ -216,18 +247,21 @@ module _ {l₀ : List ℕ} {tag left middle n right end at : ℕ} {l : List ℕ}
             let c = held k r s qs t m in
             let o = there k r s qs t m in
             let one : slice (i + h) b l ≡ spelled (c .ty) =
-                slice-low l₀ l at (g .low) (i + h) b (omega (arith, g .below))
-                ∙ cell-own l₀ i middle tag h inner (g .head) k (t .kind) (c .name) (c .label) (c .ty) (rowSpelled (c .others) k) (c .stands) (ends-low (g .low) (g .below) E) in
+            slice-low l₀ l at (g .low) (i + h) b (omega (arith, g .below))
+            ∙ cell-own l₀ i middle tag h inner (g .head) k (t .kind) (c .name) (c .label) (c .ty) (rowSpelled (c .others) k) (c .stands)
+            (ends-low (g .low) (g .below) E) in
             let two : slice (p + h) d l ≡ spelled (c .partner .1) =
-                slice-low l₀ l at (g .low) (p + h) d (omega (arith, g .apart))
-                ∙ cell-own l₀ p end tag h outer (g .head) k (t .kind) (c .name) (c .partner .0) (c .partner .1) (o .1 .0) (o .1 .1) (ends-low (g .low) (g .apart) D) in
+            slice-low l₀ l at (g .low) (p + h) d (omega (arith, g .apart))
+            ∙ cell-own l₀ p end tag h outer (g .head) k (t .kind) (c .name) (c .partner .0) (c .partner .1) (o .1 .0) (o .1 .1)
+            (ends-low (g .low) (g .apart) D) in
             rw (one, two)
 
         pub pair-full : w ≡ Full → Result out Full
         pair-full q = record {
           is = λ k r s qs t m.
               let c = held k r s qs t m in
-              goes-full (c .goes) (spelled (c .ty) ++ spelled (c .partner .1)) (pairsSpelled (c .pairs)) (sym (append-assoc (spelled (c .ty)) (spelled (c .partner .1)) (pairsSpelled (c .pairs))))
+              goes-full (c .goes) (spelled (c .ty) ++ spelled (c .partner .1)) (pairsSpelled (c .pairs))
+              (sym (append-assoc (spelled (c .ty)) (spelled (c .partner .1)) (pairsSpelled (c .pairs))))
               (writes-as (texts k r s qs t m) W) q;
           moves = full-moves (W .long ∙ g .moves .long);
         }
@@ -244,10 +278,12 @@ module _ {l₀ : List ℕ} {tag left middle n right end at : ℕ} {l : List ℕ}
               let c = held k r s qs t x in
               record {
                 row = c .others;
-                stands = cell-next l₀ i middle tag h inner (g .head) k (t .kind) (c .name) (c .label) (c .ty) (rowSpelled (c .others) k) (c .stands) (ends-low (g .low) (g .below) E);
+                stands = cell-next l₀ i middle tag h inner (g .head) k (t .kind) (c .name) (c .label) (c .ty) (rowSpelled (c .others) k) (c .stands)
+                    (ends-low (g .low) (g .below) E);
                 pairs = c .pairs;
                 are = c .are;
-                goes = goes-next (c .goes) (spelled (c .ty) ++ spelled (c .partner .1)) (pairsSpelled (c .pairs)) (sym (append-assoc (spelled (c .ty)) (spelled (c .partner .1)) (pairsSpelled (c .pairs))))
+                goes = goes-next (c .goes) (spelled (c .ty) ++ spelled (c .partner .1)) (pairsSpelled (c .pairs))
+                    (sym (append-assoc (spelled (c .ty)) (spelled (c .partner .1)) (pairsSpelled (c .pairs))))
                     (writes-as (texts k r s qs t x) W) q;
                 many = omega (arith, c .many);
               };

@@ -29,7 +29,8 @@ module _ (l : List ℕ) (i to : ℕ) (h : to ≤ length l) (lt : i < to) where
   pub two-words : 2 ≤ to - i → slice i to l ≡ getD l i 0 ∷ getD l (i + 1) 0 ∷ slice (i + 2) to l
   two-words s =
       let next : i + 1 + 1 ≡ i + 2 = omega arith in
-      slice-cons l i to h lt ∙ ap (λ (x : List ℕ). getD l i 0 ∷ x) (slice-cons l (i + 1) to h (omega arith) ∙ ap (λ (k : ℕ). getD l (i + 1) 0 ∷ slice k to l) next)
+      slice-cons l i to h lt ∙ ap (λ (x : List ℕ). getD l i 0 ∷ x)
+      (slice-cons l (i + 1) to h (omega arith) ∙ ap (λ (k : ℕ). getD l (i + 1) 0 ∷ slice k to l) next)
 
 -- ---- Replacing
 pub record Replacing (l₀ : List ℕ) (from to x first last at : ℕ) (l : List ℕ) (i n : ℕ) : Type 0 where
@@ -54,7 +55,8 @@ module _ {l₀ : List ℕ} {from to x first last at : ℕ} {l : List ℕ} {i n :
   module _ (lt : i < to) {a : ℕ} (e : a ≡ getD l i 0) where
     pub replace-last : to - i < 2 → {mid : List ℕ} {r : Wrote} → Writes l n (a ∷ []) mid r → Writes l₀ at (swapped x ts (slice from to l₀)) mid r
     unfolding swapped
-    replace-last s f = g .passing .goes .go _ _ (writes-as (sym (ap (swapped x ts) (last-word l₀ i to inside-to lt s ∙ ap (λ (y : ℕ). y ∷ []) (word-is i lt e)))) f)
+    replace-last s f = g .passing .goes .go _ _
+        (writes-as (sym (ap (swapped x ts) (last-word l₀ i to inside-to lt s ∙ ap (λ (y : ℕ). y ∷ []) (word-is i lt e)))) f)
 
     module _ (s : 2 ≤ to - i) where
       next-word : slice i to l₀ ≡ a ∷ slice (i + 1) to l₀
@@ -65,7 +67,8 @@ module _ {l₀ : List ℕ} {from to x first last at : ℕ} {l : List ℕ} {i n :
 
       module _ (c : short a ≡ true) {mid : List ℕ} {r : Wrote} (f : Writes l n (a ∷ []) mid r) where
         short-here : swapped x ts (slice i to l₀) ≡ a ∷ swapped x ts (slice (i + 1) to l₀)
-        short-here = ap (swapped x ts) (next-word ∙ ap (λ (y : List ℕ). a ∷ y) one-more) ∙ swapped-short x ts a _ _ c ∙ ap (λ (y : List ℕ). a ∷ swapped x ts y) (sym one-more)
+        short-here = ap (swapped x ts) (next-word ∙ ap (λ (y : List ℕ). a ∷ y) one-more) ∙ swapped-short x ts a _ _ c
+            ∙ ap (λ (y : List ℕ). a ∷ swapped x ts y) (sym one-more)
 
         pub replace-short : {m : ℕ} → r ≡ To m → Replacing l₀ from to x first last at mid (i + 1) m
         replace-short q = record { below = g .below; apart = g .apart; inside = g .inside; passing = passing-next (g .passing) (a ∷ []) _ short-here f q }
@@ -73,7 +76,8 @@ module _ {l₀ : List ℕ} {from to x first last at : ℕ} {l : List ℕ} {i n :
         pub replace-short-full : r ≡ Full → Writes l₀ at (swapped x ts (slice from to l₀)) mid Full
         replace-short-full q = passing-full (g .passing) (a ∷ []) _ short-here f q
 
-      module _ (c : short a ≡ false) {b : ℕ} (d : b ≡ getD l (i + 1) 0) {mid : List ℕ} {r : Wrote} (f : Writes l n (insteadOf x (slice first last l) a b) mid r) where
+      module _ (c : short a ≡ false) {b : ℕ} (d : b ≡ getD l (i + 1) 0) {mid : List ℕ} {r : Wrote}
+          (f : Writes l n (insteadOf x (slice first last l) a b) mid r) where
         same-ts : slice first last l ≡ ts
         same-ts = slice-low l₀ l at (g .passing .low) first last (g .apart)
 
@@ -84,11 +88,18 @@ module _ {l₀ : List ℕ} {from to x first last at : ℕ} {l : List ℕ} {i n :
         long-here =
             let next : i + 1 + 1 ≡ i + 2 = omega arith in
             let here : slice i to l₀ ≡ a ∷ b ∷ slice (i + 2) to l₀ =
-                next-word ∙ ap (λ (y : List ℕ). a ∷ y) (one-more ∙ ap (λ (y : ℕ). y ∷ slice (i + 1 + 1) to l₀) (word-is (i + 1) (omega arith) d) ∙ ap (λ (k : ℕ). b ∷ slice k to l₀) next) in
+            next-word ∙ ap (λ (y : List ℕ). a ∷ y)
+            (one-more ∙ ap (λ (y : ℕ). y ∷ slice (i + 1 + 1) to l₀) (word-is (i + 1) (omega arith) d) ∙ ap (λ (k : ℕ). b ∷ slice k to l₀) next) in
             ap (swapped x ts) here ∙ swapped-long x ts a b (slice (i + 2) to l₀) c
 
         pub replace-long : {m : ℕ} → r ≡ To m → Replacing l₀ from to x first last at mid (i + 2) m
-        replace-long q = record { below = g .below; apart = g .apart; inside = g .inside; passing = passing-next (g .passing) (insteadOf x ts a b) _ long-here f₀ q }
+        replace-long q = record {
+          below = g .below;
+          apart = g .apart;
+          inside = g .inside;
+          passing = passing-next (g .passing)
+              (insteadOf x ts a b) _ long-here f₀ q;
+        }
 
         pub replace-long-full : r ≡ Full → Writes l₀ at (swapped x ts (slice from to l₀)) mid Full
         replace-long-full q = passing-full (g .passing) (insteadOf x ts a b) _ long-here f₀ q
@@ -120,7 +131,8 @@ module _ {l : List ℕ} {from to x i : ℕ} (g : Seeking l from to x i) where
       pub seek-short : short a ≡ true → Seeking l from to x (i + 1)
       seek-short c =
           let next : i + 1 + 1 ≡ i + 2 = omega arith in
-          let rest : getD l (i + 1) 0 ∷ slice (i + 2) to l ≡ slice (i + 1) to l = sym (slice-cons l (i + 1) to (g .inside) (omega arith) ∙ ap (λ (k : ℕ). getD l (i + 1) 0 ∷ slice k to l) next) in
+          let rest : getD l (i + 1) 0 ∷ slice (i + 2) to l ≡ slice (i + 1) to l = sym
+          (slice-cons l (i + 1) to (g .inside) (omega arith) ∙ ap (λ (k : ℕ). getD l (i + 1) 0 ∷ slice k to l) next) in
           record { inside = g .inside; same = g .same ∙ ap (among x) seek-here ∙ among-short x a _ _ c ∙ ap (among x) rest }
 
       module _ (c : short a ≡ false) {b : ℕ} (d : b ≡ getD l (i + 1) 0) where
@@ -152,7 +164,8 @@ module _ {l : List ℕ} {from to : ℕ} (never : (t : Ty) (rest : List ℕ) → 
   ends-nowhere = record { is = λ t rest e. absurd (never t rest e); within = λ h. omega arith }
 
 pub ends-before : (l : List ℕ) (from to : ℕ) → to ≤ from → EndsAt l from to to
-ends-before l from to h = ends-nowhere (λ t rest e. none-left t rest (sym (type-behind t rest 0) ∙ ap (λ (x : List ℕ). behind x 1) (sym e ∙ slice-none l from to h) ∙ behind-empty 0))
+ends-before l from to h = ends-nowhere
+    (λ t rest e. none-left t rest (sym (type-behind t rest 0) ∙ ap (λ (x : List ℕ). behind x 1) (sym e ∙ slice-none l from to h) ∙ behind-empty 0))
   where
     none-left : (t : Ty) (rest : List ℕ) → behind rest 0 ≡ none → ⊥
     none-left t rest q = let z : some rest ≡ none = sym (behind-none rest) ∙ q in clash (cc)
@@ -172,7 +185,16 @@ module _ {l : List ℕ} {from to i n : ℕ} (g : Ending l from to i n) where
     is = λ t rest e.
         let all : some (slice i to l) ≡ some rest = sym (ap (behind (slice i to l)) z ∙ behind-none (slice i to l)) ∙ left t rest e in
         let same : slice i to l ≡ rest = cc in
-        omega (arith, slice-long l i to (g .inside), slice-long l from to (g .inside), ap length e ∙ length-append (spelled t) rest, ap length same, g .reached, g .some-words);
+        omega (
+          arith,
+          slice-long l i to (g .inside),
+          slice-long l from to (g .inside),
+          ap length e
+              ∙ length-append (spelled t) rest,
+          ap length same,
+          g .reached,
+          g .some-words,
+        );
     within = λ h. g .reached;
   }
 
@@ -194,7 +216,8 @@ module _ {l : List ℕ} {from to i n : ℕ} (g : Ending l from to i n) where
     pub ends-cut : short a ≡ false → to - i < 2 → EndsAt l from to to
     ends-cut c s = ends-nowhere (λ t rest e.
         let last : slice i to l ≡ a ∷ [] = end-here ∙ ap (λ (x : List ℕ). a ∷ x) (slice-none l (i + 1) to (omega arith)) in
-        let gone : behind (slice i to l) n ≡ none = ap (behind (slice i to l)) pred ∙ ap (λ (x : List ℕ). behind x (suc (n - 1))) last ∙ behind-cut a (n - 1) c in
+        let gone : behind (slice i to l) n ≡ none = ap (behind (slice i to l)) pred ∙ ap (λ (x : List ℕ). behind x (suc (n - 1))) last
+        ∙ behind-cut a (n - 1) c in
         let z : none ≡ some rest = sym gone ∙ left t rest e in
         clash (cc))
 
@@ -202,7 +225,7 @@ module _ {l : List ℕ} {from to i n : ℕ} (g : Ending l from to i n) where
     ending-long c s {b} d {k} o =
         let next : i + 1 + 1 ≡ i + 2 = omega arith in
         let tail : slice (i + 1) to l ≡ b ∷ slice (i + 2) to l =
-            slice-cons l (i + 1) to (g .inside) (omega arith) ∙ ap (λ (x : ℕ). x ∷ slice (i + 1 + 1) to l) (sym d) ∙ ap (λ (j : ℕ). b ∷ slice j to l) next in
+        slice-cons l (i + 1) to (g .inside) (omega arith) ∙ ap (λ (x : ℕ). x ∷ slice (i + 1 + 1) to l) (sym d) ∙ ap (λ (j : ℕ). b ∷ slice j to l) next in
         let two : slice i to l ≡ a ∷ b ∷ slice (i + 2) to l = end-here ∙ ap (λ (x : List ℕ). a ∷ x) tail in
         record {
           inside = g .inside;

@@ -82,7 +82,11 @@ pairs-append : (qs ps : List Equation) → pairsSpelled (qs ++ ps) ≡ pairsSpel
 unfolding pairsSpelled
 pairs-append [] ps = refl
 pairs-append (q ∷ qs) ps =
-    rw (append-assoc (spelled (q .left)) (spelled (q .right) ++ pairsSpelled qs) (pairsSpelled ps), append-assoc (spelled (q .right)) (pairsSpelled qs) (pairsSpelled ps))
+    rw (
+      append-assoc (spelled (q .left)) (spelled (q .right) ++ pairsSpelled qs) (pairsSpelled ps),
+      append-assoc (spelled (q .right)) (pairsSpelled qs)
+          (pairsSpelled ps),
+    )
     (ap (λ (l : List ℕ). spelled (q .left) ++ (spelled (q .right) ++ l)) (pairs-append qs ps))
 
 -- ---- The measure
@@ -157,7 +161,8 @@ next-none : (g : Stage) → g .pairs ≡ [] → next g ≡ done
 unfolding next nextOf
 next-none g e = ap (λ (ps : List Equation). nextOf ps (g .bindings)) e
 
-next-after : (g : Stage) (c : Equation) (ps : List Equation) → g .pairs ≡ c ∷ ps → (st : Step) → step (c .left) (c .right) ≡ st → next g ≡ after st ps (g .bindings)
+next-after : (g : Stage) (c : Equation) (ps : List Equation) → g .pairs ≡ c ∷ ps → (st : Step) → step (c .left) (c .right) ≡ st
+    → next g ≡ after st ps (g .bindings)
 unfolding next nextOf
 next-after g c ps e st f = ap (λ (qs : List Equation). nextOf qs (g .bindings)) e ∙ ap (λ (s : Step). after s ps (g .bindings)) f
 
@@ -180,7 +185,8 @@ pub record Running (l₀ : List ℕ) (h b₀ e₀ : ℕ) (l : List ℕ) (b p e u
   pub low-b : b ≤ h
   pub low-p : p ≤ h
   pub low-e : e ≤ h
-  pub stands : (lent : ℕ) (g : Stage) → h + h ≤ lent → lent ≤ h + h + 1 → slice 0 b₀ l₀ ≡ bindingsSpelled (g .bindings) → slice b₀ e₀ l₀ ≡ pairsSpelled (g .pairs) → Standing lent g l b p e unknowns words
+  pub stands : (lent : ℕ) (g : Stage) → h + h ≤ lent → lent ≤ h + h + 1 → slice 0 b₀ l₀ ≡ bindingsSpelled (g .bindings)
+      → slice b₀ e₀ l₀ ≡ pairsSpelled (g .pairs) → Standing lent g l b p e unknowns words
 
 pub run-start : (l : List ℕ) (h b e : ℕ) → b ≤ e → e ≤ h → length l ≡ h + h → Running l h b e l b b e h h
 run-start l h b e i j n = record {
@@ -205,17 +211,20 @@ run-start l h b e i j n = record {
 }
 
 -- The next stage, laid out in the slice or too long for it.
-module _ {lent h : ℕ} {g₀ : Stage} (lo : h + h ≤ lent) (hi : lent ≤ h + h + 1) {l : List ℕ} {b p e u w : ℕ} (half : length l ≡ h + h) (low-b : b ≤ h) (low-e : e ≤ h) (s : Standing lent g₀ l b p e u w) where
+module _ {lent h : ℕ} {g₀ : Stage} (lo : h + h ≤ lent) (hi : lent ≤ h + h + 1) {l : List ℕ} {b p e u w : ℕ} (half : length l ≡ h + h) (low-b : b ≤ h)
+    (low-e : e ≤ h) (s : Standing lent g₀ l b p e u w) where
   fits : needs (s .stage) ≤ lent
   fits =
       let bs : length (bindingsSpelled (s .stage .bindings)) ≡ b - 0 = ap length (sym (s .bound)) ∙ slice-long l 0 b (omega arith) in
       let ps : length (pairsSpelled (s .stage .pairs)) ≡ e - p = ap length (sym (s .pairs)) ∙ slice-long l p e (omega arith) in
       omega (arith, needs-words (s .stage), s .behind)
 
-  over-full : (g′ : Stage) → next (s .stage) ≡ on g′ → {out : List ℕ} {r : Staged} → Lays h (bindingsSpelled (g′ .bindings)) (pairsSpelled (g′ .pairs)) out r → r ≡ Full → solve lent g₀ ≡ full
+  over-full : (g′ : Stage) → next (s .stage) ≡ on g′ → {out : List ℕ} {r : Staged} → Lays h (bindingsSpelled (g′ .bindings)) (pairsSpelled (g′ .pairs)) out r
+      → r ≡ Full → solve lent g₀ ≡ full
   over-full g′ nx L f = s .same ∙ solve-next lent (s .stage) g′ fits nx ∙ solve-full lent g′ (omega (arith, needs-words g′, L .over f))
 
-  landed : (g′ : Stage) → next (s .stage) ≡ on g′ → {out : List ℕ} {r : Staged} → Lays h (bindingsSpelled (g′ .bindings)) (pairsSpelled (g′ .pairs)) out r → {i k : ℕ} → r ≡ At i k
+  landed : (g′ : Stage) → next (s .stage) ≡ on g′ → {out : List ℕ} {r : Staged} → Lays h (bindingsSpelled (g′ .bindings)) (pairsSpelled (g′ .pairs)) out r
+      → {i k : ℕ} → r ≡ At i k
       → {u′ w′ : ℕ} → lefts (g′ .pairs) ≤ w′ → (us : List ℕ) → Lists us (g′ .pairs) → length us ≤ u′ → Standing lent g₀ out i i k u′ w′
   landed g′ nx L {i} {k} f le us ls few = record {
     stage = g′;
@@ -240,7 +249,8 @@ module _ {l₀ : List ℕ} {h b₀ e₀ : ℕ} {l : List ℕ} {b p e u w : ℕ} 
         let s = g .stands lent g₀ lo hi eb ep in
         let bs : length (bindingsSpelled (s .stage .bindings)) ≡ b - 0 = ap length (sym (s .bound)) ∙ slice-long l 0 b (omega (arith, g .low-b, g .half)) in
         let same : b ≡ length (bindingsSpelled (s .stage .bindings)) = omega arith in
-        rw (s .same ∙ solve-done lent (s .stage) (fits lo hi (g .half) (g .low-b) (g .low-e) s) (next-none (s .stage) (none-left l p e (s .stage .pairs) (telling s q))))
+        rw (s .same ∙ solve-done lent (s .stage) (fits lo hi (g .half) (g .low-b) (g .low-e) s)
+        (next-none (s .stage) (none-left l p e (s .stage .pairs) (telling s q))))
         (ap Success same, ap (λ (k : ℕ). slice 0 k l) (sym same) ∙ s .bound);
     long = g .long;
   }
@@ -252,7 +262,8 @@ module _ {l₀ : List ℕ} {h b₀ e₀ : ℕ} {l : List ℕ} {b p e u w : ℕ} 
         let s = g .stands lent g₀ lo hi eb ep in
         let c = taken (s .stage .pairs) (λ z. clash (cc)) (telling s q) in
         let f = told-stuck l p (c .m) (c .q) (step (c .first .left) (c .first .right)) (c .told) in
-        rw (s .same ∙ solve-stuck lent (s .stage) (fits lo hi (g .half) (g .low-b) (g .low-e) s) (next-after (s .stage) (c .first) (c .rest) (c .are) fails f)) refl;
+        rw (s .same ∙ solve-stuck lent (s .stage) (fits lo hi (g .half) (g .low-b) (g .low-e) s)
+        (next-after (s .stage) (c .first) (c .rest) (c .are) fails f)) refl;
     long = g .long;
   }
 
@@ -288,7 +299,8 @@ module _ {l₀ : List ℕ} {h b₀ e₀ : ℕ} {l : List ℕ} {b p e u w : ℕ} 
           let ls : Lists (s .list) (c .first ∷ c .rest) = rw (c .are) at (s .lists) in
           record {
             stage = record { pairs = c .rest; bindings = s .stage .bindings };
-            same = s .same ∙ solve-next lent (s .stage) (record { pairs = c .rest; bindings = s .stage .bindings }) (fits lo hi (g .half) (g .low-b) (g .low-e) s)
+            same = s .same ∙ solve-next lent (s .stage) (record { pairs = c .rest; bindings = s .stage .bindings })
+                (fits lo hi (g .half) (g .low-b) (g .low-e) s)
                 (next-after (s .stage) (c .first) (c .rest) (c .are) drops (f .0));
             bound = s .bound;
             behind = omega (arith, s .behind, c .onward, f .1);
@@ -325,7 +337,8 @@ module _ {l₀ : List ℕ} {h b₀ e₀ : ℕ} {l : List ℕ} {b p e u w : ℕ} 
           let down : StepFalls (c .first .left) (c .first .right) (splits (f .0)) = rw (f .1) at (step-falls (c .first .left) (c .first .right)) in
           let ls : Lists (s .list) (c .first ∷ c .rest) = rw (c .are) at (s .lists) in
           let text : pairsSpelled (f .0) ++ slice o e l ≡ pairsSpelled (f .0 ++ c .rest) =
-              ap (λ (k : ℕ). pairsSpelled (f .0) ++ slice k e l) (f .2) ∙ ap (λ (x : List ℕ). pairsSpelled (f .0) ++ x) (c .behind) ∙ sym (pairs-append (f .0) (c .rest)) in
+          ap (λ (k : ℕ). pairsSpelled (f .0) ++ slice k e l) (f .2) ∙ ap (λ (x : List ℕ). pairsSpelled (f .0) ++ x) (c .behind)
+          ∙ sym (pairs-append (f .0) (c .rest)) in
           record {
             to = record { pairs = f .0 ++ c .rest; bindings = s .stage .bindings };
             goes = next-after (s .stage) (c .first) (c .rest) (c .are) (splits (f .0)) (f .1);
@@ -362,7 +375,11 @@ module _ {l₀ : List ℕ} {h b₀ e₀ : ℕ} {l : List ℕ} {b p e u w : ℕ} 
     record Binding-now {lent : ℕ} {g₀ : Stage} (s : Standing lent g₀ l b p e u w) : Type 0 where
       ty : Ty
       rest : List Equation
-      goes : next (s .stage) ≡ on (record { pairs = map (inPair x ty) rest; bindings = record { unknown = x; to = ty } ∷ map (inBinding x ty) (s .stage .bindings) })
+      goes : next (s .stage) ≡ on (record {
+        pairs = map (inPair x ty) rest;
+        bindings = record { unknown = x; to = ty } ∷ map (inBinding x ty)
+            (s .stage .bindings);
+      })
       stands : slice first last l ≡ spelled ty
       behind : slice o e l ≡ pairsSpelled rest
       fewer : length (without x (s .list)) < length (s .list)
@@ -399,12 +416,15 @@ module _ {l₀ : List ℕ} {h b₀ e₀ : ℕ} {l : List ℕ} {b p e u w : ℕ} 
 
     module _ {out : List ℕ} {r : Staged} (B : Binds l h b o e x first last out r) where
       laid : {lent : ℕ} {g₀ : Stage} (s : Standing lent g₀ l b p e u w) (c : Binding-now s)
-          → Lays h (bindingsSpelled (record { unknown = x; to = c .ty } ∷ map (inBinding x (c .ty)) (s .stage .bindings))) (pairsSpelled (map (inPair x (c .ty)) (c .rest))) out r
+          → Lays h (bindingsSpelled (record { unknown = x; to = c .ty } ∷ map (inBinding x (c .ty)) (s .stage .bindings)))
+          (pairsSpelled (map (inPair x (c .ty)) (c .rest))) out r
       unfolding bindingsSpelled
       laid s c =
-          let bs : slice first last l ++ swapped x (slice first last l) (slice 0 b l) ≡ spelled (c .ty) ++ bindingsSpelled (map (inBinding x (c .ty)) (s .stage .bindings)) =
-              rw (c .stands, s .bound) (ap (λ (y : List ℕ). spelled (c .ty) ++ y) (swap-bindings x (c .ty) (s .stage .bindings))) in
-          let ps : swapped x (slice first last l) (slice o e l) ≡ pairsSpelled (map (inPair x (c .ty)) (c .rest)) = rw (c .stands, c .behind) (swap-pairs x (c .ty) (c .rest)) in
+          let bs : slice first last l ++ swapped x (slice first last l) (slice 0 b l) ≡ spelled (c .ty) ++ bindingsSpelled
+          (map (inBinding x (c .ty)) (s .stage .bindings)) =
+          rw (c .stands, s .bound) (ap (λ (y : List ℕ). spelled (c .ty) ++ y) (swap-bindings x (c .ty) (s .stage .bindings))) in
+          let ps : swapped x (slice first last l) (slice o e l) ≡ pairsSpelled (map (inPair x (c .ty)) (c .rest)) = rw (c .stands, c .behind)
+          (swap-pairs x (c .ty) (c .rest)) in
           rw (← bs, ← ps) (B .is)
 
       pub run-bind-full : r ≡ Full → Runs l₀ h 0 b₀ e₀ out TooFew
@@ -428,7 +448,7 @@ module _ {l₀ : List ℕ} {h b₀ e₀ : ℕ} {l : List ℕ} {b p e u w : ℕ} 
             let c = binding-now s in
             let L = laid s c in
             let words : length (pairsSpelled (map (inPair x (c .ty)) (c .rest))) ≡ k - j =
-                ap length (sym (L .there j k f .1)) ∙ slice-long out j k (omega (arith, B .stays .inside j k f, B .stays .long, g .half)) in
+            ap length (sym (L .there j k f .1)) ∙ slice-long out j k (omega (arith, B .stays .inside j k f, B .stays .long, g .half)) in
             landed lo hi (g .half) (g .low-b) (g .low-e) s _ (c .goes) L f
             (omega (arith, words, lefts-few (map (inPair x (c .ty)) (c .rest)), B .stays .inside j k f))
             (without x (s .list)) (c .lists) (omega (arith, c .fewer, s .few));
@@ -436,7 +456,8 @@ module _ {l₀ : List ℕ} {h b₀ e₀ : ℕ} {l : List ℕ} {b p e u w : ℕ} 
 
 -- ---- From h on
 
-pub run-lowered : {l : List ℕ} {h b e : ℕ} → h ≤ b → b ≤ e → {mid : List ℕ} → Lowers l h e mid → {out : List ℕ} {r : Plain} → Runs mid h 0 (b - h) (e - h) out r → Runs l h h b e out r
+pub run-lowered : {l : List ℕ} {h b e : ℕ} → h ≤ b → b ≤ e → {mid : List ℕ} → Lowers l h e mid → {out : List ℕ} {r : Plain}
+    → Runs mid h 0 (b - h) (e - h) out r → Runs l h h b e out r
 run-lowered {l} {h} {b} {e} i j low R = record {
   is = λ lent g lo hi eb ep. R .is lent g lo hi
       (low .is h b (omega arith) i j 0 (b - h) (omega arith) (omega arith) ∙ eb)

@@ -75,7 +75,8 @@ writes-there {l} {at} {a} {l′} {r} {n} f e =
     let g = writes-to f e in
     let low : length (take at l) ≡ at = length-take-le at l (omega (arith, g .0, g .1)) in
     let both : length (take at l ++ a) ≡ n = omega (arith, low, length-append (take at l) a, g .0) in
-    ap (drop at) (ap (take n) (f .fits (omega (arith, g .0, g .1)) .1) ∙ take-at (take at l ++ a) (drop (at + length a) l) n both) ∙ drop-at (take at l) a at low
+    ap (drop at) (ap (take n) (f .fits (omega (arith, g .0, g .1)) .1) ∙ take-at (take at l ++ a) (drop (at + length a) l) n both)
+    ∙ drop-at (take at l) a at low
 
 -- ---- A loop that writes behind what it reads: to write the rest from here is to write the whole from the start
 pub record Passing (l₀ : List ℕ) (at : ℕ) (whole l : List ℕ) (to : ℕ) (rest : List ℕ) : Type 0 where

@@ -45,9 +45,12 @@ module _ {l : List ℕ} {h : ℕ} {a b mid : List ℕ} {r : Wrote} (f : Writes l
         let whole : slice h m mid ≡ a ++ b = writes-there f q in
         let end = writes-to f q in
         let long : length (a ++ b) ≡ length a + length b = length-append a b in
-        let inner : m ≤ length mid = omega (arith, end .1, f .long) in
-        (g .is h n (omega arith) (omega arith) (omega (arith, end .0)) 0 i (omega arith) (omega arith) ∙ ap (λ (k : ℕ). slice h k mid) e ∙ slice-front mid h m a b inner (omega (arith, end .0)) whole,
-        g .is n m (omega arith) (omega (arith, end .0)) (omega arith) i j (omega arith) (omega (arith, end .0)) ∙ ap (λ (k : ℕ). slice k m mid) e ∙ slice-rest mid h m a b whole);
+        let inner : m ≤ length mid = omega (arith, end .1, f .long) in (
+          g .is h n (omega arith) (omega arith) (omega (arith, end .0)) 0 i (omega arith) (omega arith) ∙ ap (λ (k : ℕ). slice h k mid) e
+              ∙ slice-front mid h m a b inner (omega (arith, end .0)) whole,
+          g .is n m (omega arith) (omega (arith, end .0)) (omega arith) i j (omega arith) (omega (arith, end .0)) ∙ ap (λ (k : ℕ). slice k m mid) e
+              ∙ slice-rest mid h m a b whole,
+        );
     over = λ eq. let z : _≡_ {A = ℕ} 0 1 = cc in absurd (omega arith);
   }
 
@@ -70,7 +73,8 @@ stays-full e = record { inside = λ i j eq. let z : _≡_ {A = ℕ} 0 1 = cc in 
 
 pub rows-low : {l l′ : List ℕ} {h p m q : ℕ} {qs : List Equation} → take h l′ ≡ take h l → m ≤ h → q ≤ h → RowsAt l p m q qs → RowsAt l′ p m q qs
 rows-low {l} {l′} {h} {p} {m} {q} e a b g =
-    let same : (i : ℕ) → i < h → getD l i 0 ≡ getD l′ i 0 = λ i lt. sym (sym (getD-take h l′ i 0 lt) ∙ ap (λ (x : List ℕ). getD x i 0) e ∙ getD-take h l i 0 lt) in
+    let same : (i : ℕ) → i < h → getD l i 0 ≡ getD l′ i 0 = λ i lt. sym
+    (sym (getD-take h l′ i 0 lt) ∙ ap (λ (x : List ℕ). getD x i 0) e ∙ getD-take h l i 0 lt) in
     record {
       place = g .place;
       kind = g .kind;
@@ -88,7 +92,8 @@ rows-low {l} {l′} {h} {p} {m} {q} e a b g =
 
 -- ---- The pairs of cells, and the pairs behind
 
-module _ {l : List ℕ} (p e : ℕ) {m q at tag n : ℕ} {mid : List ℕ} {r : Wrote} (a : tag ≡ getD l p 0) (b : n ≡ getD l (p + 1) 0) (f : Pairs l tag (p + 2) m n (m + 2) q at mid r) where
+module _ {l : List ℕ} (p e : ℕ) {m q at tag n : ℕ} {mid : List ℕ} {r : Wrote} (a : tag ≡ getD l p 0) (b : n ≡ getD l (p + 1) 0)
+    (f : Pairs l tag (p + 2) m n (m + 2) q at mid r) where
   written : (qs : List Equation) → RowsAt l p m q qs → Writes l at (pairsSpelled qs) mid r
   written qs g = f .is (g .kind) (g .left) (g .right) qs (record {
     kind = g .rows .kind ∙ sym a;
@@ -157,12 +162,20 @@ module _ {l : List ℕ} {h : ℕ} (b p m q e : ℕ) (pre : (b ≤ h) × (p ≤ h
   module _ {n : ℕ} (y : r ≡ To n) where
     pub split-again : (m ≤ n) × (q ≤ n) × (e ≤ n) × (n ≤ length mid) × (p + p ≤ length mid) × (m + m ≤ length mid)
     split-again =
-        let c = after-place f y in
-        (omega (arith, c, pre .2), omega (arith, c, pre .3), omega (arith, c, pre .4), c .1, omega (arith, pre .1, pre .5, f .long), omega (arith, pre .2, pre .5, f .long))
+        let c = after-place f y in (
+          omega (arith, c, pre .2),
+          omega (arith, c, pre .3),
+          omega (arith, c, pre .4),
+          c .1,
+          omega (arith, pre .1, pre .5, f .long),
+          omega
+              (arith, pre .2, pre .5, f .long),
+        )
 
     module _ {mid′ : List ℕ} {s : Wrote} (g : Parted mid p m q e n mid′ s) where
       all-parts : (qs : List Equation) → RowsAt l p m q qs → Writes l h (slice 0 b l ++ (pairsSpelled qs ++ slice q e l)) mid′ s
-      all-parts qs rows = writes-then f y (writes-as (ap (λ (z : List ℕ). pairsSpelled qs ++ z) (after-same f y q e (pre .4))) (g .is qs (rows-low (writes-low f y) (pre .2) (pre .3) rows)))
+      all-parts qs rows = writes-then f y
+          (writes-as (ap (λ (z : List ℕ). pairsSpelled qs ++ z) (after-same f y q e (pre .4))) (g .is qs (rows-low (writes-low f y) (pre .2) (pre .3) rows)))
 
       pub split-over : s ≡ Full → Splits l h b p m q e mid′ Staged.Full
       split-over z = record { is = λ qs rows. lays-full (all-parts qs rows) z (pre .5); stays = stays-full (g .moves .long ∙ f .long) }

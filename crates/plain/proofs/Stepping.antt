@@ -264,10 +264,28 @@ two-nodes : (a b : Ty) → NoVar a → NoVar b → tagOf a ≡ tagOf b → short
 unfolding step nodes tagOf numberOf kindTag short
 two-nodes (leaf p) b v w e s f n = absurd (f (leaf-long p s))
 two-nodes (node k r) (leaf q) v w e s f n = absurd (omega (arith, leaf-tag q, kind-tag k))
-two-nodes (node Record r) (node Record o) v w e s f n = record { kind = Record; left = r; right = o; first = refl; second = refl; many = n; does = ap split (rows-same Record r o n) }
+two-nodes (node Record r) (node Record o) v w e s f n = record {
+  kind = Record;
+  left = r;
+  right = o;
+  first = refl;
+  second = refl;
+  many = n;
+  does = ap split
+      (rows-same Record r o n);
+}
 two-nodes (node Record r) (node Union o) v w e s f n = absurd (omega arith)
 two-nodes (node Union r) (node Record o) v w e s f n = absurd (omega arith)
-two-nodes (node Union r) (node Union o) v w e s f n = record { kind = Union; left = r; right = o; first = refl; second = refl; many = n; does = ap split (rows-same Union r o n) }
+two-nodes (node Union r) (node Union o) v w e s f n = record {
+  kind = Union;
+  left = r;
+  right = o;
+  first = refl;
+  second = refl;
+  many = n;
+  does = ap split
+      (rows-same Union r o n);
+}
 two-nodes (node k r) (Var y) v w e s f n = absurd (w y refl)
 two-nodes (node k r) Error v w e s f n = absurd (omega (arith, kind-tag k))
 two-nodes (Var x) b v w e s f n = absurd (v x refl)
@@ -454,7 +472,9 @@ module _ (l : List ℕ) (p e : ℕ) (half : e + e ≤ length l) (lt : p < e) whe
   in-e = omega arith
 
   -- there is a first pair
-  tells : {r : Next} → Before e r → ((c : Equation) (ps : List Equation) → slice p e l ≡ spelled (c .left) ++ (spelled (c .right) ++ pairsSpelled ps) → Told l p e (c ∷ ps) r) → Tells l p e r
+  tells : {r : Next} → Before e r
+      → ((c : Equation) (ps : List Equation) → slice p e l ≡ spelled (c .left) ++ (spelled (c .right) ++ pairsSpelled ps) → Told l p e (c ∷ ps) r)
+      → Tells l p e r
   unfolding pairsSpelled
   tells {r} b f = record { is = go; within = b }
     where
@@ -509,7 +529,9 @@ module _ (l : List ℕ) (p e : ℕ) (half : e + e ≤ length l) (lt : p < e) whe
       step-no-end h = tells tt (λ c ps w. absurd (omega (arith, q-is c ps w)))
 
       -- what is told of the first two types is told of the pairs
-      told : {r : Next} → Before e r → ((c : Equation) (ps : List Equation) → slice p m l ≡ spelled (c .left) → slice m q l ≡ spelled (c .right) → ToldOf l p m q (step (c .left) (c .right)) r) → Tells l p e r
+      told : {r : Next} → Before e r →
+          ((c : Equation) (ps : List Equation) → slice p m l ≡ spelled (c .left) → slice m q l ≡ spelled (c .right)
+          → ToldOf l p m q (step (c .left) (c .right)) r) → Tells l p e r
       told b f = tells b (λ c ps w. (m, q, omega (arith, q-is c ps w), rest-there c ps w, f c ps (left-there c ps w) (right-there c ps w)))
 
       module _ {a b : ℕ} (wa : a ≡ getD l p 0) (wb : b ≡ getD l m 0) where
@@ -546,11 +568,17 @@ module _ (l : List ℕ) (p e : ℕ) (half : e + e ≤ length l) (lt : p < e) whe
 
               pub step-occurs : {o : Bool} → o ≡ among x (slice m q l) → o ≡ true → Tells l p e Stuck
               step-occurs {o} g h = told tt (λ c ps i j.
-                  rw (left-var (c .left) i, var-other x (c .right) (right-other (c .right) j), bind-occurs x (c .right) (ap (among x) (sym j) ∙ sym g ∙ h)) refl)
+                  rw (
+                    left-var (c .left) i,
+                    var-other x (c .right) (right-other (c .right) j),
+                    bind-occurs x (c .right)
+                        (ap (among x) (sym j) ∙ sym g ∙ h),
+                  ) refl)
 
               pub step-binds : {o : Bool} → o ≡ among x (slice m q l) → o ≡ false → Tells l p e (Bind x m q q)
               step-binds {o} g h = told (q-in, q-in) (λ c ps i j.
-                  rw (left-var (c .left) i, var-other x (c .right) (right-other (c .right) j), bind-free x (c .right) (ap (among x) (sym j) ∙ sym g ∙ h)) (m, q, refl, j))
+                  rw (left-var (c .left) i, var-other x (c .right) (right-other (c .right) j), bind-free x (c .right) (ap (among x) (sym j) ∙ sym g ∙ h))
+                  (m, q, refl, j))
 
         module _ (na : a ≡ 7 → ⊥) where
           left-other : (s : Ty) → slice p m l ≡ spelled s → NoVar s
@@ -568,7 +596,8 @@ module _ (l : List ℕ) (p e : ℕ) (half : e + e ≤ length l) (lt : p < e) whe
 
             pub step-binds-left : {o : Bool} → o ≡ among y (slice p m l) → o ≡ false → Tells l p e (Bind y p m q)
             step-binds-left {o} g h = told (omega arith, q-in) (λ c ps i j.
-                rw (right-var (c .right) j, other-var (c .left) y (left-other (c .left) i), bind-free y (c .left) (ap (among y) (sym i) ∙ sym g ∙ h)) (p, m, refl, i))
+                rw (right-var (c .right) j, other-var (c .left) y (left-other (c .left) i), bind-free y (c .left) (ap (among y) (sym i) ∙ sym g ∙ h))
+                (p, m, refl, i))
 
           module _ (nb : b ≡ 7 → ⊥) where
             pub step-apart : {r : Next} → TellsApart l p m q r → Tells l p e r

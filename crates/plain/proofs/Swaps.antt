@@ -78,28 +78,35 @@ module _ (x : ℕ) (t : Ty) where
     swap-type (Var y) ws = swap-unknown y ws
     swap-type Error ws = swap-word x (spelled t) 8 ws error-short
 
-    swap-row : (r : Row) (k : Kind) (ws : List ℕ) → swapped x (spelled t) (rowSpelled r k ++ ws) ≡ rowSpelled (appRow (only x t) r) k ++ swapped x (spelled t) ws
+    swap-row : (r : Row) (k : Kind) (ws : List ℕ)
+        → swapped x (spelled t) (rowSpelled r k ++ ws) ≡ rowSpelled (appRow (only x t) r) k ++ swapped x (spelled t) ws
     swap-row ε k ws = refl
     swap-row (cell key label u r) k ws =
-        rw (append-assoc (headSpelled k key label) (spelled u ++ rowSpelled r k) ws, append-assoc (spelled u) (rowSpelled r k) ws,
-        append-assoc (headSpelled k key label) (spelled (app (only x t) u) ++ rowSpelled (appRow (only x t) r) k) (swapped x (spelled t) ws),
-        append-assoc (spelled (app (only x t) u)) (rowSpelled (appRow (only x t) r) k) (swapped x (spelled t) ws))
+        rw (
+          append-assoc (headSpelled k key label) (spelled u ++ rowSpelled r k) ws,
+          append-assoc (spelled u) (rowSpelled r k) ws,
+          append-assoc (headSpelled k key label) (spelled (app (only x t) u) ++ rowSpelled (appRow (only x t) r) k) (swapped x (spelled t) ws),
+          append-assoc (spelled (app (only x t) u)) (rowSpelled (appRow (only x t) r) k) (swapped x (spelled t) ws),
+        )
         (swap-head x (spelled t) k key label (spelled u ++ (rowSpelled r k ++ ws))
-        ∙ ap (λ (l : List ℕ). headSpelled k key label ++ l) (swap-type u (rowSpelled r k ++ ws) ∙ ap (λ (l : List ℕ). spelled (app (only x t) u) ++ l) (swap-row r k ws)))
+        ∙ ap (λ (l : List ℕ). headSpelled k key label ++ l)
+        (swap-type u (rowSpelled r k ++ ws) ∙ ap (λ (l : List ℕ). spelled (app (only x t) u) ++ l) (swap-row r k ws)))
 
   pub swap-pairs : (ps : List Equation) → swapped x (spelled t) (pairsSpelled ps) ≡ pairsSpelled (map (inPair x t) ps)
   unfolding pairsSpelled inPair swapped
   swap-pairs [] = refl
   swap-pairs (p ∷ ps) =
       swap-type (p .left) (spelled (p .right) ++ pairsSpelled ps)
-      ∙ ap (λ (l : List ℕ). spelled (app (only x t) (p .left)) ++ l) (swap-type (p .right) (pairsSpelled ps) ∙ ap (λ (l : List ℕ). spelled (app (only x t) (p .right)) ++ l) (swap-pairs ps))
+      ∙ ap (λ (l : List ℕ). spelled (app (only x t) (p .left)) ++ l)
+      (swap-type (p .right) (pairsSpelled ps) ∙ ap (λ (l : List ℕ). spelled (app (only x t) (p .right)) ++ l) (swap-pairs ps))
 
   pub swap-bindings : (bs : List Binding) → swapped x (spelled t) (bindingsSpelled bs) ≡ bindingsSpelled (map (inBinding x t) bs)
   unfolding bindingsSpelled inBinding swapped
   swap-bindings [] = refl
   swap-bindings (b ∷ bs) =
       swap-bound x (spelled t) (b .unknown) (spelled (b .to) ++ bindingsSpelled bs)
-      ∙ ap (λ (l : List ℕ). 11 ∷ b .unknown ∷ l) (swap-type (b .to) (bindingsSpelled bs) ∙ ap (λ (l : List ℕ). spelled (app (only x t) (b .to)) ++ l) (swap-bindings bs))
+      ∙ ap (λ (l : List ℕ). 11 ∷ b .unknown ∷ l)
+      (swap-type (b .to) (bindingsSpelled bs) ∙ ap (λ (l : List ℕ). spelled (app (only x t) (b .to)) ++ l) (swap-bindings bs))
 
 -- ---- The occurs check
 

@@ -72,14 +72,16 @@ enough-one a (suc n) = go (short a) refl
     go true e = rw (behind-short a [] n e) (more-enough a [] (suc n) n (behind [] n) (omega arith) (enough-none n))
     go false e = rw (behind-cut a n e) tt
 
-enough-two : (a b : ℕ) (ws : List ℕ) (n : ℕ) → ((m : ℕ) → Enough (b ∷ ws) m (behind (b ∷ ws) m)) → ((m : ℕ) → Enough ws m (behind ws m)) → Enough (a ∷ b ∷ ws) n (behind (a ∷ b ∷ ws) n)
+enough-two : (a b : ℕ) (ws : List ℕ) (n : ℕ) → ((m : ℕ) → Enough (b ∷ ws) m (behind (b ∷ ws) m)) → ((m : ℕ) → Enough ws m (behind ws m))
+    → Enough (a ∷ b ∷ ws) n (behind (a ∷ b ∷ ws) n)
 enough-two a b ws zero f g = rw (behind-none (a ∷ b ∷ ws)) (omega arith)
 enough-two a b ws (suc n) f g = go (short a) refl
   where
     go : (c : Bool) → short a ≡ c → Enough (a ∷ b ∷ ws) (suc n) (behind (a ∷ b ∷ ws) (suc n))
     go true e = rw (behind-short a (b ∷ ws) n e) (more-enough a (b ∷ ws) (suc n) n (behind (b ∷ ws) n) (omega arith) (f n))
     go false e = rw (behind-long a b ws n e)
-        (more-enough a (b ∷ ws) (suc n) n (behind ws (owed a b + n)) (omega arith) (more-enough b ws n (owed a b + n) (behind ws (owed a b + n)) (omega arith) (g (owed a b + n))))
+        (more-enough a (b ∷ ws) (suc n) n (behind ws (owed a b + n)) (omega arith)
+        (more-enough b ws n (owed a b + n) (behind ws (owed a b + n)) (omega arith) (g (owed a b + n))))
 
 -- Each takes a word at least.
 pub behind-enough : (ws : List ℕ) (n : ℕ) → Enough ws n (behind ws n)
@@ -126,7 +128,8 @@ mutual
   pub type-behind : (t : Ty) (ws : List ℕ) (n : ℕ) → behind (spelled t ++ ws) (suc n) ≡ behind ws n
   type-behind (leaf p) ws n = leaf-behind p ws n
   type-behind (node k r) ws n = node-behind k (rowLen r) (rowSpelled r k ++ ws) n ∙ row-behind r k ws n
-  type-behind (Var x) ws n = let same : 0 + n ≡ n = omega arith in behind-long 7 x ws n var-long ∙ ap (λ (m : ℕ). behind ws m) (ap (λ (m : ℕ). m + n) (var-owes x) ∙ same)
+  type-behind (Var x) ws n = let same : 0 + n ≡ n = omega arith in
+      behind-long 7 x ws n var-long ∙ ap (λ (m : ℕ). behind ws m) (ap (λ (m : ℕ). m + n) (var-owes x) ∙ same)
   type-behind Error ws n = behind-short 8 ws n error-short
 
   row-behind : (r : Row) (k : Kind) (ws : List ℕ) (n : ℕ) → behind (rowSpelled r k ++ ws) (rowLen r + n) ≡ behind ws n

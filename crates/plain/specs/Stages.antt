@@ -101,5 +101,6 @@ Gives l r full = r ≡ TooFew
 -- In a slice of twice h words the stage stands from a place on, its bindings up to b and its pairs up to e. Of the words that
 -- were lent an odd one is left over.
 pub record Runs (l : List ℕ) (h from b e : ℕ) (l′ : List ℕ) (r : Plain) : Type 0 where
-  pub is : (lent : ℕ) (g : Stage) → h + h ≤ lent → lent ≤ h + h + 1 → slice from b l ≡ bindingsSpelled (g .bindings) → slice b e l ≡ pairsSpelled (g .pairs) → Gives l′ r (solve lent g)
+  pub is : (lent : ℕ) (g : Stage) → h + h ≤ lent → lent ≤ h + h + 1 → slice from b l ≡ bindingsSpelled (g .bindings) → slice b e l ≡ pairsSpelled (g .pairs)
+      → Gives l′ r (solve lent g)
   pub long : length l′ ≡ length l

@@ -93,5 +93,6 @@ pub record Alike (l : List ℕ) (tag left middle n right end : ℕ) (b : Bool) :
 
 -- The pairs of cells, written from a place on, where each has its cell.
 pub record Pairs (l : List ℕ) (tag left middle n right end at : ℕ) (l′ : List ℕ) (w : Wrote) : Type 0 where
-  pub is : (k : Kind) (r s : Row) (qs : List Equation) → TwoRows l tag left middle n right end k r s → matched k r s ≡ parts qs → Writes l at (pairsSpelled qs) l′ w
+  pub is : (k : Kind) (r s : Row) (qs : List Equation) → TwoRows l tag left middle n right end k r s → matched k r s ≡ parts qs
+      → Writes l at (pairsSpelled qs) l′ w
   pub moves : Moves l at l′ w

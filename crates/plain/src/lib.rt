@@ -86,7 +86,15 @@ fn is_unknown(a: u32, b: u32, x: u32) -> bool
 }
 
 // The words from a place up to another, with the words from `first` to `last` for each token of x.
-fn replace(l: &mut [u32], from: usize, to: usize, x: u32, first: usize, last: usize, at: usize) -> Wrote
+fn replace(
+    l: &mut [u32],
+    from: usize,
+    to: usize,
+    x: u32,
+    first: usize,
+    last: usize,
+    at: usize,
+) -> Wrote
     requires { ⌜ (to ≤ at) × (last ≤ at) × (at ≤ length (now l)) ⌝ }
     ensures { λ r. ⌜ Writes (now (l .entry)) at (swapped x (slice first last (now (l .entry))) (slice from to (now (l .entry)))) (now (l .exit)) r ⌝ }
 {
@@ -282,7 +290,16 @@ fn alike(l: &[u32], tag: u32, left: usize, middle: usize, n: u32, right: usize, 
 }
 
 // The pairs of cells of two rows, where each has its cell. On other words what is written is anything.
-fn pair_up(l: &mut [u32], tag: u32, left: usize, middle: usize, n: u32, right: usize, end: usize, at: usize) -> Wrote
+fn pair_up(
+    l: &mut [u32],
+    tag: u32,
+    left: usize,
+    middle: usize,
+    n: u32,
+    right: usize,
+    end: usize,
+    at: usize,
+) -> Wrote
     requires { ⌜ (middle ≤ at) × (end ≤ at) × (at ≤ length (now l)) ⌝ }
     ensures { λ r. ⌜ Pairs (now (l .entry)) tag left middle n right end at (now (l .exit)) r ⌝ }
 {
@@ -372,7 +389,16 @@ fn bound(l: &mut [u32], b: usize, x: u32, first: usize, last: usize, at: usize) 
 }
 
 // The stage after x is bound to the words from `first` to `last`: h on, then moved down.
-fn bind(l: &mut [u32], h: usize, b: usize, q: usize, e: usize, x: u32, first: usize, last: usize) -> Staged
+fn bind(
+    l: &mut [u32],
+    h: usize,
+    b: usize,
+    q: usize,
+    e: usize,
+    x: u32,
+    first: usize,
+    last: usize,
+) -> Staged
     requires { ⌜ (b ≤ h) × (e ≤ h) × (last ≤ h) × (length (now l) ≡ h + h) ⌝ }
     ensures { λ r. ⌜ Binds (now (l .entry)) h b q e x first last (now (l .exit)) r ⌝ }
 {
