@@ -3,7 +3,7 @@
 use mathlib.Core.Bool.{Bool, true, false}
 use mathlib.Core.List.{List, [], _∷_}
 use mathlib.Core.Path.{_≡_, refl, sym, _∙_, ap}
-use Prim.Native.Nat.{ℕ, zero, suc, _+_, _-_, _<_, _≤_}
+use Prim.Native.Nat.{ℕ, zero, suc, _+_, _<_, _≤_}
 use native.Mathlib.Decide.{ℕ-discrete}
 use native.Mathlib.Omega.{arith}
 use borrow.Author.Count.{below-none, below-more}
@@ -15,7 +15,7 @@ use Rattle.unification.specs.Ty as Tree
 use Rattle.unification.specs.Bindings.{State}
 use Rattle.unification.specs.Calls.{Admitted}
 use Rattle.unification.proofs.Tests.{clash}
-use Rattle.work.specs.Layout.{ENV, TYS, UNKNOWNS}
+use Rattle.work.specs.Layout.{ENV, TYS}
 use Rattle.cells.specs.declared.Ty.{Ty}
 use Rattle.cells.specs.declared.Ty.the-variants.{Int, Str, Bytes, Fact, Record, Union, Var, Error}
 use Rattle.cells.specs.Words.{pick}

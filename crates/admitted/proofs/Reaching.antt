@@ -9,8 +9,8 @@ use mathlib.Core.WellFounded.{Acc, Acc·intro}
 use Prim.Native.Nat.{ℕ, zero, suc, _+_, _-_, _*_, _%_, _<_, _≤_}
 use native.Mathlib.Decide.{ℕ-discrete}
 use native.Mathlib.Omega.{arith}
-use borrow.Author.Tests.{lt-ltb, le-ltb, eq-eqb}
-use lib.ListN.{length, getD}
+use borrow.Author.Tests.{lt-ltb, le-ltb}
+use lib.ListN.{getD}
 use Rattle.unification.specs.Ty as Tree
 use Rattle.unification.specs.Ty.{Row, ε, cell}
 use Rattle.unification.specs.Bindings.{Subst, bound, State}
@@ -26,9 +26,9 @@ use Rattle.cells.specs.declared.Kind.{Kind}
 use Rattle.cells.specs.declared.Kind.the-variants.{Fields, Alternatives}
 use Rattle.cells.specs.declared.Bound.{Bound}
 use Rattle.cells.specs.declared.Bound.the-variants.{To, Free}
-use Rattle.cells.specs.Words.{declaredW, countW, partW, partsW, partOfW, boundW}
-use Rattle.cells.specs.Stands.{Rows, tree, boundTree, rowFrom, rowW, IsCell, declared, made, Ok, OkBound, Cells, Holds}
-use Rattle.admitted.specs.Marks.{marked, itemW, goodW, Sound, AllGood, Lacks, Distinct, BoundGood, Holding}
+use Rattle.cells.specs.Words.{declaredW, countW, partW, boundW}
+use Rattle.cells.specs.Stands.{Rows, tree, boundTree, rowFrom, rowW, IsCell, declared, made, Ok, OkBound, Holds}
+use Rattle.admitted.specs.Marks.{marked, itemW, goodW, Sound, Lacks, Distinct, BoundGood, Holding}
 
 -- ---- A row, by the numbers of its cells
 module _ (T : Rows) (w : List ℕ) (k : Kind) (c : ℕ) where

@@ -21,7 +21,8 @@ use Rattle.meaning.specs.Answer.{bytes₂, slotBytes, hexLine, nodeLines}
 use Rattle.writer.specs.declared.Wrote.{Wrote}
 use Rattle.writer.specs.declared.Wrote.the-variants.{To, Full}
 use Rattle.writer.specs.Writes.{Writes, Moves, hexOf}
-use Rattle.answer.specs.Types.{Resolves, WritesTy}
+use Rattle.resolving.specs.Scripts.{Resolves}
+use Rattle.answer.specs.Types.{WritesTy}
 use Rattle.answer.specs.Lines.{nodeBytes, WritesSlot, WritesNode, WritesNodeLine, WritesNodeLines}
 use Rattle.writer.proofs.Writing.{writes-as, writes-then, writes-full, writes-moves, full-moves, moves-then, moves-none, moves-next, Goes, goes-start}
 use Rattle.writer.proofs.Writing.{goes-next, goes-full, goes-done}

@@ -31,7 +31,7 @@ fn fact(out: &mut [u8], at: usize, p: u32) -> Wrote
 
 // What stands before the parts of a resolved type: its shape, with a number or with how many parts there are.
 fn head(w: &[u32], out: &mut [u8], at: usize, u: Ty) -> Wrote
-    ensures { λ r. ⌜ Writes (now (out .entry)) at (hexOf (headOf (now (w .entry)) u)) (now (out .exit)) r ⌝ }
+    ensures { λ r. ⌜ Writes (now (out .entry)) at (headOf (now (w .entry)) u) (now (out .exit)) r ⌝ }
 {
     match u {
         Ty::Int => byte(out, at, 0),
@@ -47,7 +47,7 @@ fn head(w: &[u32], out: &mut [u8], at: usize, u: Ty) -> Wrote
 
 // What stands before a part's type: in a record the name, in a union the name and the discriminant.
 fn part_head(out: &mut [u8], at: usize, u: Ty, p: cells::Part) -> Wrote
-    ensures { λ r. ⌜ Writes (now (out .entry)) at (hexOf (partHeadOf u (p .key) (p .label))) (now (out .exit)) r ⌝ }
+    ensures { λ r. ⌜ Writes (now (out .entry)) at (partHeadOf u (p .key) (p .label)) (now (out .exit)) r ⌝ }
 {
     match u {
         Ty::Union(_) => {

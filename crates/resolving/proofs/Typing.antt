@@ -1,6 +1,6 @@
 -- To write a type is to write the one at the end of its chain: a leaf, a free unknown or the error at once; a cell by what
 -- stands before its parts, and then part by part, where to write the parts from j on is to write them all.
-use mathlib.Core.List.{List, [], _∷_, _++_, append-assoc}
+use mathlib.Core.List.{List, _++_, append-assoc}
 use mathlib.Core.Path.{_≡_, refl, sym, ap, _∙_}
 use Prim.Native.Nat.{ℕ, zero, suc, _+_, _≤_, _<_}
 use native.Mathlib.Omega.{arith}

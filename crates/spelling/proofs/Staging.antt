@@ -1,11 +1,12 @@
 -- The bindings one by one: to write those from x on is to write them all. Then the two sides.
 use mathlib.Core.List.{List, [], _∷_, _++_, append-nil}
+use mathlib.Core.Logic.{_↔_}
 use mathlib.Core.Option.{Option, none, some}
 use mathlib.Core.Path.{_≡_, refl, sym, ap, _∙_}
-use Prim.Native.Nat.{ℕ, zero, suc, _+_, _≤_, _<_}
+use Prim.Native.Nat.{ℕ, zero, suc, _+_, _*_, _≤_, _<_}
 use native.Mathlib.Numerals.{add-one}
 use native.Mathlib.Omega.{arith}
-use lib.ListN.{length, getD, drop, drop-of-length-le}
+use lib.ListN.{length, getD, drop, drop-of-length-le, length-append}
 use lib.Seq.{drop-cons}
 use Rattle.unification.specs.Ty as Tree
 use Rattle.unification.specs.Bindings.{Subst, bound, zonk, State}
@@ -18,14 +19,15 @@ use Rattle.cells.specs.Stands.{Rows, tree, Ok, Holds}
 use Rattle.writer.specs.declared.Wrote.{Wrote}
 use Rattle.writer.specs.declared.Wrote.the-variants.{To, Full}
 use Rattle.writer.specs.Writes.{Writes, Moves}
-use Rattle.writer.proofs.Writing.{writes-as, writes-none, writes-then, writes-full, writes-to, writes-moves, full-moves, moves-then, moves-none, moves-next}
+use Rattle.writer.proofs.Writing.{writes-none, writes-then, writes-full, writes-to, writes-over, writes-moves, full-moves, moves-then, moves-none, moves-next}
 use Rattle.writer.proofs.Writing.{Goes, goes-start, goes-next, goes-full, goes-done}
 use Rattle.resolving.specs.Scripts.{Resolves}
-use Rattle.plain_theory.specs.Plain.{resolvedFrom, start}
+use Rattle.plain_theory.specs.Plain.{Stage, needs, resolvedFrom, start}
 use Rattle.plain_theory.specs.Words.{spelled, pairsSpelled, bindingsSpelled}
+use Rattle.plain_theory.proofs.Words.{needs-words}
 use Rattle.spelling.specs.declared.Staged.{Staged}
 use Rattle.spelling.specs.declared.Staged.the-variants as Staged
-use Rattle.spelling.specs.Tokens.{SpellsTy, bindingSpelled, SpellsBinding, SpellsBindings, SpellsPair, Starts}
+use Rattle.spelling.specs.Tokens.{SpellsTy, bindingSpelled, SpellsBinding, SpellsBindings, SpellsPair, ended, spelledStage, Starts}
 use Rattle.unification.proofs.Tests.{clash}
 
 -- ---- A binding
@@ -148,3 +150,26 @@ module _ {w l : List ℕ} {at : ℕ} {a b : Ty} {mid : List ℕ} {h : Wrote} (f 
           omega (arith, k′, f .moves .long, g .moves .inside e z (omega (arith, first, f .moves .long))));
       long = g .moves .long ∙ f .moves .long;
     }
+
+-- ---- For who lends two halves and has the second written
+module _ {w l : List ℕ} {at : ℕ} {a b : Ty} {l′ : List ℕ} {r : Staged} (S : Starts w l at a b l′ r) {T : Rows} {st : State} (H : Holds w T st)
+    (o : Ok w a) (p : Ok w b) (half : length l ≡ 2 * at) where
+  -- The slice is full exactly where the first stage needs more words than were lent.
+  pub start-needs : (r ≡ Staged.Full) ↔ (length l < needs (start (st .subst) (tree T a) (tree T b)))
+  start-needs = (
+    λ e. omega (arith, writes-over there (ap ended e), long, needs-words g),
+    λ h. full r (there .over (omega (arith, long, needs-words g))),
+  )
+    where
+      g : Stage
+      g = start (st .subst) (tree T a) (tree T b)
+
+      there : Writes l at (spelledStage g) l′ (ended r)
+      there = S .is T st H o p (omega arith)
+
+      long : length (spelledStage g) ≡ length (bindingsSpelled (g .bindings)) + length (pairsSpelled (g .pairs))
+      long = length-append (bindingsSpelled (g .bindings)) (pairsSpelled (g .pairs))
+
+      full : (x : Staged) → ended x ≡ Full → x ≡ Staged.Full
+      full (Staged.At m e) q = clash (cc)
+      full Staged.Full q = refl

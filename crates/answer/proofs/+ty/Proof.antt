@@ -1,4 +1,4 @@
--- Made from Proof.ans by tools/answers, 5e3f22237b47cfbf ead7c99961b74ea7.
+-- Made from Proof.ans by tools/answers, c3e9cbf99e55a1de 6b6adc23c60a6e22.
 -- What stands before the parts is written first, so the room left falls. To write the parts from j on is to write them all.
 use Prim.Native.Nat.{ℕ, _<_, _-_}
 use borrow.Fn.Kinds.{In}
@@ -19,7 +19,9 @@ use mathlib.Core.Path.{refl}
 use denote.Ref.{now}
 use lib.ListN.{length}
 use Rattle.writer.proofs.Writing.{writes-moves}
-use Rattle.answer.proofs.Resolving.{head-moves, Typing, typing-start, typing-next, typing-full, typing-done, typing-stops, typing-ends}
+use Rattle.resolving.proofs.Typing.{head-moves, Typing, typing-start, typing-next, typing-full, typing-done, typing-stops, typing-ends}
+use Rattle.answer.specs.Types.{digits}
+use Rattle.answer.proofs.Resolving.{in-digits, by-script, head-some}
 
 abbrev μ-ty : Measures 2 ty-kinds.ps ℕ
 μ-ty κs a = length (now (a .1 .0)) - a .1 .1 .0
@@ -31,7 +33,7 @@ abbrev ty-below : ℕ → In 2 ty-kinds.ps
 ty-below t = and 2 ty-kinds.ps (falls 2 ty-kinds.ps _<_ μ-ty t) ty.Pre
 
 abbrev ty-Inv-loop : ty-lts.InvT-loop
-ty-Inv-loop w out₀ at u from n j₀ to₀ out j to = Typing w out₀ from u n out j to
+ty-Inv-loop w out₀ at u from n j₀ to₀ out j to = Typing digits w out₀ from u n out j to
 
 abbrev ty-μ-loop : ty-lts.MeasureT-loop
 ty-μ-loop w out₀ at u from n j₀ to₀ out j to = n - j
@@ -60,22 +62,35 @@ pub +ty-spec : {M : Type 1} → statement M
     (λ c. search needs)
     (λ c. search needs)
     (λ c. search needs)
-    (λ c. typing-full _ (c .before .before .before .before .before .before .repr .ensures) (c .before .before .before .before .head .ensures) (c .enum-told .given .1))
+    (λ c. in-digits (typing-full digits _ (c .before .before .before .before .before .before .repr .ensures) (c .before .before .before .before .head .ensures) (c .enum-told .given .1)))
     (λ c κs. search needs)
-    (λ c. typing-start _ _ _ _ _ (c .part-count .ensures))
+    (λ c. typing-start digits _ _ _ _ _ (c .part-count .ensures))
     (λ c κs. search needs)
     (λ c κs. search needs)
     (λ c. search needs)
     (λ c. search needs)
     (λ c. search needs)
-    (λ c. typing-stops (c .before .before .before .before .before .before .before .before .before .before .before .h .given .1) (c .before .before .before .before .before .before .part-of .result) (c .before .before .before .before .before .before .before .loop-test .taken) _ (c .before .before .before .before .before .before .before .before .before .before .before .before .before .before .before .before .before .repr .ensures) (c .before .before .before .before .before .before .before .before .before .before .before .before .before .before .before .head .ensures) (c .before .before .before .before .before .before .before .before .loop .inv) (c .before .before .before .before .before .before .part-of .ensures) (c .before .before .before .before .part-head .ensures) (c .enum-told2 .given .1))
-    (λ c κs. omega (arith, head-moves (now (c .before .before .before .before .before .before .before .before .before .before .before .before .before .before .before .before .before .before .before .before .before .before .args .w)) (c .before .before .before .before .before .before .before .before .before .before .before .before .before .before .before .before .before .before .before .repr .result) (c .before .before .before .before .before .before .before .before .before .before .before .before .before .before .before .before .before .head .ensures) (c .before .before .before .before .before .before .before .before .before .before .before .before .before .h .given .1), c .before .before .before .before .before .before .before .before .before .before .loop .inv .moves .onward _ refl, c .before .before .before .before .before .before .before .before .before .before .loop .inv .moves .long, c .before .before .before .before .before .before .before .before .before .before .before .before .before .before .before .before .before .head .ensures .long, writes-moves (c .before .before .before .before .before .before .part-head .ensures) .onward _ (c .before .before .b .given .1), c .before .before .before .before .before .before .part-head .ensures .long))
+    (λ c. in-digits (typing-stops digits (c .before .before .before .before .before .before .before .before .before .before .before .h .given .1) (c .before .before .before .before .before .before .part-of .result)
+    (c .before .before .before .before .before .before .before .loop-test .taken) _ (c .before .before .before .before .before .before .before .before .before .before .before .before .before .before .before .before .before .repr .ensures) (c .before .before .before .before .before .before .before .before .before .before .before .before .before .before .before .head .ensures) (c .before .before .before .before .before .before .before .before .loop .inv) (c .before .before .before .before .before .before .part-of .ensures) (c .before .before .before .before .part-head .ensures) (c .enum-told2 .given .1)))
+    (λ c κs. omega (
+      arith,
+      head-moves digits (now (c .before .before .before .before .before .before .before .before .before .before .before .before .before .before .before .before .before .before .before .before .before .before .args .w)) (c .before .before .before .before .before .before .before .before .before .before .before .before .before .before .before .before .before .before .before .repr .result) (head-some (now (c .before .before .before .before .before .before .before .before .before .before .before .before .before .before .before .before .before .before .before .before .before .before .args .w)) (c .before .before .before .before .before .before .before .before .before .before .before .before .before .before .before .before .before .before .before .repr .result))
+          (c .before .before .before .before .before .before .before .before .before .before .before .before .before .before .before .before .before .head .ensures) (c .before .before .before .before .before .before .before .before .before .before .before .before .before .h .given .1),
+      c .before .before .before .before .before .before .before .before .before .before .loop .inv .moves .onward _ refl,
+      c .before .before .before .before .before .before .before .before .before .before .loop .inv .moves .long,
+      c .before .before .before .before .before .before .before .before .before .before .before .before .before .before .before .before .before .head .ensures .long,
+      writes-moves (c .before .before .before .before .before .before .part-head .ensures) .onward _ (c .before .before .b .given .1),
+      c .before .before .before .before .before .before .part-head .ensures .long,
+    ))
     (λ c. search needs)
     (λ c. search needs)
     (λ c. search needs)
-    (λ c. typing-ends (c .before .before .before .before .before .before .before .before .before .before .before .before .before .before .before .before .before .before .h .given .1) (c .before .before .before .before .before .before .before .before .before .before .before .before .before .part-of .result) (c .before .before .before .before .before .before .before .before .before .before .before .before .before .before .loop-test .taken) _ (c .before .before .before .before .before .before .before .before .before .before .before .before .before .before .before .before .before .before .before .before .before .before .before .before .repr .ensures) (c .before .before .before .before .before .before .before .before .before .before .before .before .before .before .before .before .before .before .before .before .before .before .head .ensures) (c .before .before .before .before .before .before .before .before .before .before .before .before .before .before .before .loop .inv) (c .before .before .before .before .before .before .before .before .before .before .before .before .before .part-of .ensures) (c .before .before .before .before .before .before .before .before .before .before .before .part-head .ensures) (c .before .before .before .before .before .before .before .b .given .1) (c .before .before .before .before .ty .ensures) (c .enum-told3 .given .1))
+    (λ c. in-digits (typing-ends digits (c .before .before .before .before .before .before .before .before .before .before .before .before .before .before .before .before .before .before .h .given .1) (c .before .before .before .before .before .before .before .before .before .before .before .before .before .part-of .result)
+    (c .before .before .before .before .before .before .before .before .before .before .before .before .before .before .loop-test .taken) _ (c .before .before .before .before .before .before .before .before .before .before .before .before .before .before .before .before .before .before .before .before .before .before .before .before .repr .ensures) (c .before .before .before .before .before .before .before .before .before .before .before .before .before .before .before .before .before .before .before .before .before .before .head .ensures) (c .before .before .before .before .before .before .before .before .before .before .before .before .before .before .before .loop .inv) (c .before .before .before .before .before .before .before .before .before .before .before .before .before .part-of .ensures) (c .before .before .before .before .before .before .before .before .before .before .before .part-head .ensures)
+    (c .before .before .before .before .before .before .before .b .given .1) (by-script (c .before .before .before .before .ty .ensures)) (c .enum-told3 .given .1)))
     (λ c. search needs)
     (λ c. omega arith)
-    (λ c. typing-next (c .before .before .before .before .before .before .before .before .before .before .before .before .before .before .part-of .result) (c .before .before .before .before .before .before .before .before .before .before .before .before .before .before .before .loop-test .taken) (c .before .before .before .before .before .before .before .before .b .given .1) (c .before .before .before .before .before .ty .ensures) _ (c .before .before .before .before .before .before .before .before .before .before .before .before .before .before .before .before .loop .inv) (c .before .before .before .before .before .before .before .before .before .before .before .before .before .before .part-of .ensures) (c .before .before .before .before .before .before .before .before .before .before .before .before .part-head .ensures) (c .before .r .given .1))
+    (λ c. typing-next digits (c .before .before .before .before .before .before .before .before .before .before .before .before .before .before .part-of .result) (c .before .before .before .before .before .before .before .before .before .before .before .before .before .before .before .loop-test .taken) (c .before .before .before .before .before .before .before .before .b .given .1) (by-script (c .before .before .before .before .before .ty .ensures)) _
+    (c .before .before .before .before .before .before .before .before .before .before .before .before .before .before .before .before .loop .inv) (c .before .before .before .before .before .before .before .before .before .before .before .before .before .before .part-of .ensures) (c .before .before .before .before .before .before .before .before .before .before .before .before .part-head .ensures) (c .before .r .given .1))
     (λ c. search needs)
-    (λ c. typing-done (c .before .before .before .before .h .given .1) _ (c .before .before .before .before .before .before .before .before .before .before .repr .ensures) (c .before .before .before .before .before .before .before .before .head .ensures) (c .before .loop .inv) (c .loop-test .left))
+    (λ c. in-digits (typing-done digits (c .before .before .before .before .h .given .1) _ (c .before .before .before .before .before .before .before .before .before .before .repr .ensures) (c .before .before .before .before .before .before .before .before .head .ensures) (c .before .loop .inv) (c .loop-test .left)))
