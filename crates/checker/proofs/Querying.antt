@@ -135,7 +135,7 @@ module _ {f w ou : List ℕ} {left : ℕ} (T : Rows) (d : Described) (c : Checke
       → Ends f w₁ ou₁ w₂ ou₂ T₁ d n m (counted (Done.On v)) (andThen x (λ u z. goes ty z))
   unfolding andThen
   left-counted ty (went g) = went (record { T′ = g .T′; more = g .more; runs = g .runs; lines = g .lines; grew = g .grew; is = ap Done.On (sym (g .is)) })
-  left-counted ty (spent g) = absurd (g .is)
+  left-counted ty (spent g) = absurd (g .is .0)
 
   pub query-leaves : {w₁ ou₁ w₂ ou₂ : List ℕ} {v : ℕ} → Ends f w ou w₁ ou₁ T d (whole .records) (whole .fields) (counted (Done.On v))
       (inferQuery (d .schema) (nodesOf d) q c) → Leaves f w₁ ou₁ 0 w₂ ou₂

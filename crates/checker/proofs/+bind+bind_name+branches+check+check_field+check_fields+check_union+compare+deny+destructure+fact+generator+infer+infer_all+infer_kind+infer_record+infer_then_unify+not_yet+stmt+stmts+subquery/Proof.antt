@@ -1,4 +1,4 @@
--- Made from Proof.ans by tools/answers, b5d0beb90d2aaa32 dd1fa1b2fcbe0cce.
+-- Made from Proof.ans by tools/answers, c216576b145b9e4a b53de9c4d59f1e8e.
 -- What a node names is lower, so the node falls, and on one node the rank of specs/Contracts.antt. Each arm is a law of its own.
 use Prim.Native.Nat.{ℕ, _<_, _+_, _-_, _*_, _≤_}
 use borrow.Fn.Kinds.{In}
@@ -78,6 +78,7 @@ use Rattle.cells.proofs.snapshot.Reads as snapshot-reads
 use Rattle.cells.proofs.tag_of.Reads as tag-of-reads
 use Rattle.checker.proofs.only.Reads as only-reads
 use Rattle.state.proofs.introduce.Reads as introduce-reads
+use Rattle.state.proofs.leave.Reads as leave-reads
 use Rattle.state.proofs.reject.Reads as reject-reads
 use Rattle.steps.proofs.compare_types.Reads as compare-types-reads
 use Rattle.steps.proofs.destructurable.Reads as destructurable-reads
@@ -89,14 +90,13 @@ use Rattle.steps.proofs.report.Reads as report-reads
 use Rattle.steps.proofs.rollback.Reads as rollback-reads
 use Rattle.steps.proofs.select_of.Reads as select-of-reads
 use Rattle.steps.proofs.unify_at.Reads as unify-at-reads
+use Rattle.steps.proofs.unify_outside.Reads as unify-outside-reads
 use Rattle.steps.proofs.value_of.Reads as value-of-reads
 use Rattle.tree.proofs.field_at.Reads as field-at-reads
 use Rattle.tree.proofs.item_at.Reads as item-at-reads
 use Rattle.tree.proofs.node_at.Reads as node-at-reads
 use Rattle.tree.proofs.stmt_at.Reads as stmt-at-reads
 use Rattle.tree.proofs.stmt_size.Reads as stmt-size-reads
-use Rattle.unify.proofs.unify.Reads as unify-reads
-use Rattle.work.proofs.put.Reads as put-reads
 use Rattle.work.proofs.word.Reads as word-reads
 use Rattle.checker.proofs.+bind+bind_name+branches+check+check_field+check_fields+check_union+compare+deny+destructure+fact+generator+infer+infer_all+infer_kind+infer_record+infer_then_unify+not_yet+stmt+stmts+subquery.{statement}
 use Rattle.checker.proofs.+bind+bind_name+branches+check+check_field+check_fields+check_union+compare+deny+destructure+fact+generator+infer+infer_all+infer_kind+infer_record+infer_then_unify+not_yet+stmt+stmts+subquery.Tie.{close}
@@ -108,8 +108,7 @@ use Rattle.meaning.specs.Check.{formOf}
 use Rattle.tree.specs.Nodes.{kindW}
 use Rattle.steps.proofs.Ending.{brings}
 use Rattle.steps.proofs.Forms.{constant-form}
-use Rattle.steps.proofs.Besides.{unifies}
-use Rattle.checker.proofs.Callees.{as-node, rejects-by, notes-by, freshens-by, reports-by, rolls-by, cuts-by, key-by, key-on, value-on, item-falls, field-falls, stmt-falls, size-small, turn-at, generates-at, mentions-at, checks-at, finds-at, unknown-at}
+use Rattle.checker.proofs.Callees.{as-node, rejects-by, notes-by, freshens-by, reports-by, rolls-by, leaves-by, key-by, key-on, value-on, item-falls, field-falls, stmt-falls, size-small, turn-at, generates-at, mentions-at, checks-at, finds-at, unknown-at}
 use Rattle.checker.proofs.Choosing.{later, denied-later, inferred, deny-target, no-disjunction, record-whole}
 use Rattle.checker.proofs.Inferring.{infer-typed, infer-out, int-arm, bytes-arm, str-arm, prefix-arm, error-arm, wildcard-arm, never-arm, variable-arm}
 use Rattle.checker.proofs.Arms.{head-arm, head-out, key-head, value-head, select-head, fact-free, fact-on, fact-out, fact-arm, record-arm, subquery-arm, arith-arm, disjunction-arm, fuzzy-arm}
@@ -1544,7 +1543,7 @@ bind-name-returns : (t : ℕ) → bind-name-lts.Need-returns (
   unify-at-reads.Asked,
   unify-at-reads.Learnt,
 ) (bind-name-at t) bind-name.Post
-bind-name-returns t c = variable-unified (brings _ _ _ _ _ _ (c .before .before .before .before .before .before .before .before .before .before .before .before .before .before .before .before .before .before .before .before .before .before .before .introduce .ensures)) (notes-by (c .before .before .before .before .before .before .before .before .before .before .before .before .before .before .before .before .before .before .before .annotate .ensures)) (c .before .before .before .before .before .before .before .before .before .before .before .before .before .before .infer .ensures) (c .before .before .before .before .before .before .before .before .r .given .1) (c .before .before .before .before .unify-at .ensures)
+bind-name-returns t c = variable-unified (brings _ _ _ _ _ _ _ (c .before .before .before .before .before .before .before .before .before .before .before .before .before .before .before .before .before .before .before .before .before .before .before .introduce .ensures)) (notes-by (c .before .before .before .before .before .before .before .before .before .before .before .before .before .before .before .before .before .before .before .annotate .ensures)) (c .before .before .before .before .before .before .before .before .before .before .before .before .before .before .infer .ensures) (c .before .before .before .before .before .before .before .before .r .given .1) (c .before .before .before .before .unify-at .ensures)
 
 bind-name-same-length-3 : (t : ℕ) → bind-name-lts.Need-same-length-3 (
   introduce-reads.Asked,
@@ -1580,7 +1579,7 @@ bind-name-returns-2 : (t : ℕ) → bind-name-lts.Need-returns-2 (
   unify-at-reads.Asked,
   unify-at-reads.Learnt,
 ) (bind-name-at t) bind-name.Post
-bind-name-returns-2 t c = variable-out (brings _ _ _ _ _ _ (c .before .before .before .before .before .before .before .before .before .before .before .before .before .before .before .introduce .ensures)) (notes-by (c .before .before .before .before .before .before .before .before .before .before .before .annotate .ensures)) (c .before .before .before .before .before .before .infer .ensures) (c .enum-told .given .1)
+bind-name-returns-2 t c = variable-out (brings _ _ _ _ _ _ _ (c .before .before .before .before .before .before .before .before .before .before .before .before .before .before .before .introduce .ensures)) (notes-by (c .before .before .before .before .before .before .before .before .before .before .before .annotate .ensures)) (c .before .before .before .before .before .before .infer .ensures) (c .enum-told .given .1)
 
 branches-loop-holds : (t : ℕ) → branches-lts.Need-loop-holds (
   item-at-reads.Asked,
@@ -2386,6 +2385,22 @@ check-field-word-requires-2 : (t : ℕ) → check-field-lts.Need-word-requires-2
 ) (check-field-at t) check-field.Post
 check-field-word-requires-2 t c κs = search needs
 
+check-field-word-requires-3 : (t : ℕ) → check-field-lts.Need-word-requires-3 (
+  find-key-reads.Asked,
+  find-key-reads.Learnt,
+  word-reads.Asked,
+  word-reads.Learnt,
+  snapshot-reads.Asked,
+  snapshot-reads.Learnt,
+  check-below t,
+  check.Post,
+  rollback-reads.Asked,
+  rollback-reads.Learnt,
+  reject-reads.Asked,
+  reject-reads.Learnt,
+) (check-field-at t) check-field.Post
+check-field-word-requires-3 t c κs = search needs
+
 check-field-check-requires : (t : ℕ) → check-field-lts.Need-check-requires (
   find-key-reads.Asked,
   find-key-reads.Learnt,
@@ -2418,7 +2433,7 @@ check-field-enum-known-d : (t : ℕ) → check-field-lts.Need-enum-known-d (
 ) (check-field-at t) check-field.Post
 check-field-enum-known-d t c = search needs
 
-check-field-word-requires-3 : (t : ℕ) → check-field-lts.Need-word-requires-3 (
+check-field-word-requires-4 : (t : ℕ) → check-field-lts.Need-word-requires-4 (
   find-key-reads.Asked,
   find-key-reads.Learnt,
   word-reads.Asked,
@@ -2432,7 +2447,7 @@ check-field-word-requires-3 : (t : ℕ) → check-field-lts.Need-word-requires-3
   reject-reads.Asked,
   reject-reads.Learnt,
 ) (check-field-at t) check-field.Post
-check-field-word-requires-3 t c κs = search needs
+check-field-word-requires-4 t c κs = search needs
 
 check-field-rollback-requires : (t : ℕ) → check-field-lts.Need-rollback-requires (
   find-key-reads.Asked,
@@ -2544,7 +2559,7 @@ check-field-returns : (t : ℕ) → check-field-lts.Need-returns (
   reject-reads.Asked,
   reject-reads.Learnt,
 ) (check-field-at t) check-field.Post
-check-field-returns t c = mentions-field (c .before .before .before .before .before .before .before .before .before .before .before .before .before .before .before .before .before .before .before .before .before .before .before .before .before .before .find-key .ensures) (c .before .before .before .before .before .before .before .before .before .before .before .before .before .before .before .before .before .before .before .before .before .before .before .before .found .given .1) (field-rolled (c .before .before .before .before .before .before .before .before .before .before .before .before .before .before .check .ensures) (c .before .before .before .before .before .before .before .before .d .given .1) (omega (arith, c .before .before .before .before .before .before .before .before .before .before .before .before .before .before .before .before .before .before .before .before .before .word .ensures, c .before .before .before .before .before .word3 .ensures, c .before .before .before .before .if1 .taken)) (rolls-by (c .before .before .before .before .before .before .before .before .before .before .before .before .before .before .before .before .before .before .before .snapshot .ensures) (c .before .before .before .before .before .before .before .before .before .before .before .before .before .before .before .before .before .word2 .ensures) (c .before .before .rollback .ensures)))
+check-field-returns t c = mentions-field (c .before .before .before .before .before .before .before .before .before .before .before .before .before .before .before .before .before .before .before .before .before .before .before .before .before .before .before .before .find-key .ensures) (c .before .before .before .before .before .before .before .before .before .before .before .before .before .before .before .before .before .before .before .before .before .before .before .before .before .before .found .given .1) (field-rolled (c .before .before .before .before .before .before .before .before .before .before .before .before .before .before .check .ensures) (c .before .before .before .before .before .before .before .before .d .given .1) (omega (arith, c .before .before .before .before .before .before .before .before .before .before .before .before .before .before .before .before .before .before .before .before .before .before .before .word .ensures, c .before .before .before .before .before .word4 .ensures, c .before .before .before .before .if1 .taken)) (rolls-by (c .before .before .before .before .before .before .before .before .before .before .before .before .before .before .before .before .before .before .before .before .before .snapshot .ensures) (c .before .before .before .before .before .before .before .before .before .before .before .before .before .before .before .before .before .before .before .word2 .ensures) (c .before .before .before .before .before .before .before .before .before .before .before .before .before .before .before .before .before .word3 .ensures) (c .before .before .rollback .ensures)))
 
 check-field-same-length-3 : (t : ℕ) → check-field-lts.Need-same-length-3 (
   find-key-reads.Asked,
@@ -2592,7 +2607,7 @@ check-field-returns-2 : (t : ℕ) → check-field-lts.Need-returns-2 (
   reject-reads.Asked,
   reject-reads.Learnt,
 ) (check-field-at t) check-field.Post
-check-field-returns-2 t c = mentions-field (c .before .before .before .before .before .before .before .before .before .before .before .before .before .before .before .before .before .before .before .before .before .before .find-key .ensures) (c .before .before .before .before .before .before .before .before .before .before .before .before .before .before .before .before .before .before .before .before .found .given .1) (field-kept (c .before .before .before .before .before .before .before .before .before .before .check .ensures) (c .before .before .before .before .d .given .1) (omega (arith, c .before .before .before .before .before .before .before .before .before .before .before .before .before .before .before .before .before .word .ensures, c .before .word3 .ensures, c .if1 .left)))
+check-field-returns-2 t c = mentions-field (c .before .before .before .before .before .before .before .before .before .before .before .before .before .before .before .before .before .before .before .before .before .before .before .before .find-key .ensures) (c .before .before .before .before .before .before .before .before .before .before .before .before .before .before .before .before .before .before .before .before .before .before .found .given .1) (field-kept (c .before .before .before .before .before .before .before .before .before .before .check .ensures) (c .before .before .before .before .d .given .1) (omega (arith, c .before .before .before .before .before .before .before .before .before .before .before .before .before .before .before .before .before .before .before .word .ensures, c .before .word4 .ensures, c .if1 .left)))
 
 check-field-same-length-5 : (t : ℕ) → check-field-lts.Need-same-length-5 (
   find-key-reads.Asked,
@@ -2640,7 +2655,7 @@ check-field-returns-3 : (t : ℕ) → check-field-lts.Need-returns-3 (
   reject-reads.Asked,
   reject-reads.Learnt,
 ) (check-field-at t) check-field.Post
-check-field-returns-3 t c = mentions-field (c .before .before .before .before .before .before .before .before .before .before .before .before .before .before .before .before .before .before .find-key .ensures) (c .before .before .before .before .before .before .before .before .before .before .before .before .before .before .before .before .found .given .1) (field-out (c .before .before .before .before .before .before .check .ensures) (c .enum-told .given .1))
+check-field-returns-3 t c = mentions-field (c .before .before .before .before .before .before .before .before .before .before .before .before .before .before .before .before .before .before .before .before .find-key .ensures) (c .before .before .before .before .before .before .before .before .before .before .before .before .before .before .before .before .before .before .found .given .1) (field-out (c .before .before .before .before .before .before .check .ensures) (c .enum-told .given .1))
 
 check-field-same-length-7 : (t : ℕ) → check-field-lts.Need-same-length-7 (
   find-key-reads.Asked,
@@ -6293,7 +6308,7 @@ infer-kind-returns-9 : (t : ℕ) → infer-kind-lts.Need-returns-9 (
   subquery-below t,
   subquery.Post,
 ) (infer-kind-at t) infer-kind.Post
-infer-kind-returns-9 t c = variable-arm (brings _ _ _ _ _ _ (c .before .before .introduce .ensures)) (as-node (c .before .before .before .before .before .e2 .given .1) (c .before .before .before .before .before .before .before .node-at .ensures))
+infer-kind-returns-9 t c = variable-arm (brings _ _ _ _ _ _ _ (c .before .before .introduce .ensures)) (as-node (c .before .before .before .before .before .e2 .given .1) (c .before .before .before .before .before .before .before .node-at .ensures))
 
 infer-kind-same-length-11 : (t : ℕ) → infer-kind-lts.Need-same-length-11 (
   node-at-reads.Asked,
@@ -7600,8 +7615,8 @@ infer-then-unify-snapshot-requires : (t : ℕ) → infer-then-unify-lts.Need-sna
   word-reads.Learnt,
   infer-below t,
   infer.Post,
-  unify-reads.Asked,
-  unify-reads.Learnt,
+  unify-outside-reads.Asked,
+  unify-outside-reads.Learnt,
   rollback-reads.Asked,
   rollback-reads.Learnt,
   report-reads.Asked,
@@ -7616,14 +7631,30 @@ infer-then-unify-word-requires : (t : ℕ) → infer-then-unify-lts.Need-word-re
   word-reads.Learnt,
   infer-below t,
   infer.Post,
-  unify-reads.Asked,
-  unify-reads.Learnt,
+  unify-outside-reads.Asked,
+  unify-outside-reads.Learnt,
   rollback-reads.Asked,
   rollback-reads.Learnt,
   report-reads.Asked,
   report-reads.Learnt,
 ) (infer-then-unify-at t) infer-then-unify.Post
 infer-then-unify-word-requires t c κs = search needs
+
+infer-then-unify-word-requires-2 : (t : ℕ) → infer-then-unify-lts.Need-word-requires-2 (
+  snapshot-reads.Asked,
+  snapshot-reads.Learnt,
+  word-reads.Asked,
+  word-reads.Learnt,
+  infer-below t,
+  infer.Post,
+  unify-outside-reads.Asked,
+  unify-outside-reads.Learnt,
+  rollback-reads.Asked,
+  rollback-reads.Learnt,
+  report-reads.Asked,
+  report-reads.Learnt,
+) (infer-then-unify-at t) infer-then-unify.Post
+infer-then-unify-word-requires-2 t c κs = search needs
 
 infer-then-unify-infer-requires : (t : ℕ) → infer-then-unify-lts.Need-infer-requires (
   snapshot-reads.Asked,
@@ -7632,8 +7663,8 @@ infer-then-unify-infer-requires : (t : ℕ) → infer-then-unify-lts.Need-infer-
   word-reads.Learnt,
   infer-below t,
   infer.Post,
-  unify-reads.Asked,
-  unify-reads.Learnt,
+  unify-outside-reads.Asked,
+  unify-outside-reads.Learnt,
   rollback-reads.Asked,
   rollback-reads.Learnt,
   report-reads.Asked,
@@ -7648,8 +7679,8 @@ infer-then-unify-enum-known-r : (t : ℕ) → infer-then-unify-lts.Need-enum-kno
   word-reads.Learnt,
   infer-below t,
   infer.Post,
-  unify-reads.Asked,
-  unify-reads.Learnt,
+  unify-outside-reads.Asked,
+  unify-outside-reads.Learnt,
   rollback-reads.Asked,
   rollback-reads.Learnt,
   report-reads.Asked,
@@ -7657,21 +7688,22 @@ infer-then-unify-enum-known-r : (t : ℕ) → infer-then-unify-lts.Need-enum-kno
 ) (infer-then-unify-at t) infer-then-unify.Post
 infer-then-unify-enum-known-r t c = search needs
 
-infer-then-unify-unify-requires : (t : ℕ) → infer-then-unify-lts.Need-unify-requires (
-  snapshot-reads.Asked,
-  snapshot-reads.Learnt,
-  word-reads.Asked,
-  word-reads.Learnt,
-  infer-below t,
-  infer.Post,
-  unify-reads.Asked,
-  unify-reads.Learnt,
-  rollback-reads.Asked,
-  rollback-reads.Learnt,
-  report-reads.Asked,
-  report-reads.Learnt,
-) (infer-then-unify-at t) infer-then-unify.Post
-infer-then-unify-unify-requires t c κs = search needs
+infer-then-unify-unify-outside-requires :
+    (t : ℕ) → infer-then-unify-lts.Need-unify-outside-requires (
+      snapshot-reads.Asked,
+      snapshot-reads.Learnt,
+      word-reads.Asked,
+      word-reads.Learnt,
+      infer-below t,
+      infer.Post,
+      unify-outside-reads.Asked,
+      unify-outside-reads.Learnt,
+      rollback-reads.Asked,
+      rollback-reads.Learnt,
+      report-reads.Asked,
+      report-reads.Learnt,
+    ) (infer-then-unify-at t) infer-then-unify.Post
+infer-then-unify-unify-outside-requires t c κs = search needs
 
 infer-then-unify-enum-known-u : (t : ℕ) → infer-then-unify-lts.Need-enum-known-u (
   snapshot-reads.Asked,
@@ -7680,8 +7712,8 @@ infer-then-unify-enum-known-u : (t : ℕ) → infer-then-unify-lts.Need-enum-kno
   word-reads.Learnt,
   infer-below t,
   infer.Post,
-  unify-reads.Asked,
-  unify-reads.Learnt,
+  unify-outside-reads.Asked,
+  unify-outside-reads.Learnt,
   rollback-reads.Asked,
   rollback-reads.Learnt,
   report-reads.Asked,
@@ -7696,8 +7728,8 @@ infer-then-unify-enum-known-u-2 : (t : ℕ) → infer-then-unify-lts.Need-enum-k
   word-reads.Learnt,
   infer-below t,
   infer.Post,
-  unify-reads.Asked,
-  unify-reads.Learnt,
+  unify-outside-reads.Asked,
+  unify-outside-reads.Learnt,
   rollback-reads.Asked,
   rollback-reads.Learnt,
   report-reads.Asked,
@@ -7712,8 +7744,8 @@ infer-then-unify-rollback-requires : (t : ℕ) → infer-then-unify-lts.Need-rol
   word-reads.Learnt,
   infer-below t,
   infer.Post,
-  unify-reads.Asked,
-  unify-reads.Learnt,
+  unify-outside-reads.Asked,
+  unify-outside-reads.Learnt,
   rollback-reads.Asked,
   rollback-reads.Learnt,
   report-reads.Asked,
@@ -7728,8 +7760,8 @@ infer-then-unify-report-requires : (t : ℕ) → infer-then-unify-lts.Need-repor
   word-reads.Learnt,
   infer-below t,
   infer.Post,
-  unify-reads.Asked,
-  unify-reads.Learnt,
+  unify-outside-reads.Asked,
+  unify-outside-reads.Learnt,
   rollback-reads.Asked,
   rollback-reads.Learnt,
   report-reads.Asked,
@@ -7744,8 +7776,8 @@ infer-then-unify-enum-told : (t : ℕ) → infer-then-unify-lts.Need-enum-told (
   word-reads.Learnt,
   infer-below t,
   infer.Post,
-  unify-reads.Asked,
-  unify-reads.Learnt,
+  unify-outside-reads.Asked,
+  unify-outside-reads.Learnt,
   rollback-reads.Asked,
   rollback-reads.Learnt,
   report-reads.Asked,
@@ -7760,8 +7792,8 @@ infer-then-unify-enum-told-2 : (t : ℕ) → infer-then-unify-lts.Need-enum-told
   word-reads.Learnt,
   infer-below t,
   infer.Post,
-  unify-reads.Asked,
-  unify-reads.Learnt,
+  unify-outside-reads.Asked,
+  unify-outside-reads.Learnt,
   rollback-reads.Asked,
   rollback-reads.Learnt,
   report-reads.Asked,
@@ -7776,8 +7808,8 @@ infer-then-unify-same-length : (t : ℕ) → infer-then-unify-lts.Need-same-leng
   word-reads.Learnt,
   infer-below t,
   infer.Post,
-  unify-reads.Asked,
-  unify-reads.Learnt,
+  unify-outside-reads.Asked,
+  unify-outside-reads.Learnt,
   rollback-reads.Asked,
   rollback-reads.Learnt,
   report-reads.Asked,
@@ -7792,8 +7824,8 @@ infer-then-unify-same-length-2 : (t : ℕ) → infer-then-unify-lts.Need-same-le
   word-reads.Learnt,
   infer-below t,
   infer.Post,
-  unify-reads.Asked,
-  unify-reads.Learnt,
+  unify-outside-reads.Asked,
+  unify-outside-reads.Learnt,
   rollback-reads.Asked,
   rollback-reads.Learnt,
   report-reads.Asked,
@@ -7808,14 +7840,14 @@ infer-then-unify-returns : (t : ℕ) → infer-then-unify-lts.Need-returns (
   word-reads.Learnt,
   infer-below t,
   infer.Post,
-  unify-reads.Asked,
-  unify-reads.Learnt,
+  unify-outside-reads.Asked,
+  unify-outside-reads.Learnt,
   rollback-reads.Asked,
   rollback-reads.Learnt,
   report-reads.Asked,
   report-reads.Learnt,
 ) (infer-then-unify-at t) infer-then-unify.Post
-infer-then-unify-returns t c = unify-good (c .before .before .before .before .before .before .before .before .before .before .before .before .before .before .infer .ensures) (c .before .before .before .before .before .before .before .before .r .given .1) (unifies _ _ (c .before .before .before .before .before .unify .ensures)) (c .before .u .given .1)
+infer-then-unify-returns t c = unify-good (c .before .before .before .before .before .before .before .before .before .before .before .before .before .before .infer .ensures) (c .before .before .before .before .before .before .before .before .r .given .1) (c .before .before .before .before .before .unify-outside .ensures .is _ _) (c .before .u .given .1)
 
 infer-then-unify-same-length-3 : (t : ℕ) → infer-then-unify-lts.Need-same-length-3 (
   snapshot-reads.Asked,
@@ -7824,8 +7856,8 @@ infer-then-unify-same-length-3 : (t : ℕ) → infer-then-unify-lts.Need-same-le
   word-reads.Learnt,
   infer-below t,
   infer.Post,
-  unify-reads.Asked,
-  unify-reads.Learnt,
+  unify-outside-reads.Asked,
+  unify-outside-reads.Learnt,
   rollback-reads.Asked,
   rollback-reads.Learnt,
   report-reads.Asked,
@@ -7840,8 +7872,8 @@ infer-then-unify-same-length-4 : (t : ℕ) → infer-then-unify-lts.Need-same-le
   word-reads.Learnt,
   infer-below t,
   infer.Post,
-  unify-reads.Asked,
-  unify-reads.Learnt,
+  unify-outside-reads.Asked,
+  unify-outside-reads.Learnt,
   rollback-reads.Asked,
   rollback-reads.Learnt,
   report-reads.Asked,
@@ -7856,14 +7888,14 @@ infer-then-unify-returns-2 : (t : ℕ) → infer-then-unify-lts.Need-returns-2 (
   word-reads.Learnt,
   infer-below t,
   infer.Post,
-  unify-reads.Asked,
-  unify-reads.Learnt,
+  unify-outside-reads.Asked,
+  unify-outside-reads.Learnt,
   rollback-reads.Asked,
   rollback-reads.Learnt,
   report-reads.Asked,
   report-reads.Learnt,
 ) (infer-then-unify-at t) infer-then-unify.Post
-infer-then-unify-returns-2 t c = unify-bad (c .before .before .before .before .before .before .before .before .before .before .before .before .before .before .before .before .before .before .before .before .before .before .before .before .before .infer .ensures) (c .before .before .before .before .before .before .before .before .before .before .before .before .before .before .before .before .before .before .before .r .given .1) (unifies _ _ (c .before .before .before .before .before .before .before .before .before .before .before .before .before .before .before .before .unify .ensures)) (c .before .before .before .before .before .before .before .before .before .before .before .before .u2 .given .1) (rolls-by (c .before .before .before .before .before .before .before .before .before .before .before .before .before .before .before .before .before .before .before .before .before .before .before .before .before .before .before .before .before .before .snapshot .ensures) (c .before .before .before .before .before .before .before .before .before .before .before .before .before .before .before .before .before .before .before .before .before .before .before .before .before .before .before .before .word .ensures) (c .before .before .before .before .before .before .before .before .before .rollback .ensures)) (reports-by (c .before .before .before .before .before .before .before .before .before .before .before .before .u2 .given .0 .0) (c .before .before .before .before .report .ensures))
+infer-then-unify-returns-2 t c = unify-bad (c .before .before .before .before .before .before .before .before .before .before .before .before .before .before .before .before .before .before .before .before .before .before .before .before .before .infer .ensures) (c .before .before .before .before .before .before .before .before .before .before .before .before .before .before .before .before .before .before .before .r .given .1) (c .before .before .before .before .before .before .before .before .before .before .before .before .before .before .before .before .unify-outside .ensures .is _ _) (c .before .before .before .before .before .before .before .before .before .before .before .before .u2 .given .1) (rolls-by (c .before .before .before .before .before .before .before .before .before .before .before .before .before .before .before .before .before .before .before .before .before .before .before .before .before .before .before .before .before .before .before .before .snapshot .ensures) (c .before .before .before .before .before .before .before .before .before .before .before .before .before .before .before .before .before .before .before .before .before .before .before .before .before .before .before .before .before .before .word .ensures) (c .before .before .before .before .before .before .before .before .before .before .before .before .before .before .before .before .before .before .before .before .before .before .before .before .before .before .before .before .word2 .ensures) (c .before .before .before .before .before .before .before .before .before .rollback .ensures)) (reports-by (c .before .before .before .before .before .before .before .before .before .before .before .before .u2 .given .0 .0) (c .before .before .before .before .report .ensures))
 
 infer-then-unify-same-length-5 : (t : ℕ) → infer-then-unify-lts.Need-same-length-5 (
   snapshot-reads.Asked,
@@ -7872,8 +7904,8 @@ infer-then-unify-same-length-5 : (t : ℕ) → infer-then-unify-lts.Need-same-le
   word-reads.Learnt,
   infer-below t,
   infer.Post,
-  unify-reads.Asked,
-  unify-reads.Learnt,
+  unify-outside-reads.Asked,
+  unify-outside-reads.Learnt,
   rollback-reads.Asked,
   rollback-reads.Learnt,
   report-reads.Asked,
@@ -7888,8 +7920,8 @@ infer-then-unify-same-length-6 : (t : ℕ) → infer-then-unify-lts.Need-same-le
   word-reads.Learnt,
   infer-below t,
   infer.Post,
-  unify-reads.Asked,
-  unify-reads.Learnt,
+  unify-outside-reads.Asked,
+  unify-outside-reads.Learnt,
   rollback-reads.Asked,
   rollback-reads.Learnt,
   report-reads.Asked,
@@ -7904,14 +7936,14 @@ infer-then-unify-returns-3 : (t : ℕ) → infer-then-unify-lts.Need-returns-3 (
   word-reads.Learnt,
   infer-below t,
   infer.Post,
-  unify-reads.Asked,
-  unify-reads.Learnt,
+  unify-outside-reads.Asked,
+  unify-outside-reads.Learnt,
   rollback-reads.Asked,
   rollback-reads.Learnt,
   report-reads.Asked,
   report-reads.Learnt,
 ) (infer-then-unify-at t) infer-then-unify.Post
-infer-then-unify-returns-3 t c = unify-spent (c .before .before .before .before .before .before .before .before .before .before .before .before .before .infer .ensures) (c .before .before .before .before .before .before .before .r .given .1) (unifies _ _ (c .before .before .before .before .unify .ensures)) (c .enum-told .given .1)
+infer-then-unify-returns-3 t c = unify-spent (c .before .before .before .before .before .before .before .before .before .before .before .before .before .infer .ensures) (c .before .before .before .before .before .before .before .r .given .1) (c .before .before .before .before .unify-outside .ensures .is _ _) (c .enum-told .given .1)
 
 infer-then-unify-same-length-7 : (t : ℕ) → infer-then-unify-lts.Need-same-length-7 (
   snapshot-reads.Asked,
@@ -7920,8 +7952,8 @@ infer-then-unify-same-length-7 : (t : ℕ) → infer-then-unify-lts.Need-same-le
   word-reads.Learnt,
   infer-below t,
   infer.Post,
-  unify-reads.Asked,
-  unify-reads.Learnt,
+  unify-outside-reads.Asked,
+  unify-outside-reads.Learnt,
   rollback-reads.Asked,
   rollback-reads.Learnt,
   report-reads.Asked,
@@ -7936,8 +7968,8 @@ infer-then-unify-same-length-8 : (t : ℕ) → infer-then-unify-lts.Need-same-le
   word-reads.Learnt,
   infer-below t,
   infer.Post,
-  unify-reads.Asked,
-  unify-reads.Learnt,
+  unify-outside-reads.Asked,
+  unify-outside-reads.Learnt,
   rollback-reads.Asked,
   rollback-reads.Learnt,
   report-reads.Asked,
@@ -7952,8 +7984,8 @@ infer-then-unify-returns-4 : (t : ℕ) → infer-then-unify-lts.Need-returns-4 (
   word-reads.Learnt,
   infer-below t,
   infer.Post,
-  unify-reads.Asked,
-  unify-reads.Learnt,
+  unify-outside-reads.Asked,
+  unify-outside-reads.Learnt,
   rollback-reads.Asked,
   rollback-reads.Learnt,
   report-reads.Asked,
@@ -8698,8 +8730,8 @@ subquery-word-requires : (t : ℕ) → subquery-lts.Need-word-requires (
   stmts.Post,
   infer-below t,
   infer.Post,
-  put-reads.Asked,
-  put-reads.Learnt,
+  leave-reads.Asked,
+  leave-reads.Learnt,
 ) (subquery-at t) subquery.Post
 subquery-word-requires t c κs = search needs
 
@@ -8710,8 +8742,8 @@ subquery-stmts-requires : (t : ℕ) → subquery-lts.Need-stmts-requires (
   stmts.Post,
   infer-below t,
   infer.Post,
-  put-reads.Asked,
-  put-reads.Learnt,
+  leave-reads.Asked,
+  leave-reads.Learnt,
 ) (subquery-at t) subquery.Post
 subquery-stmts-requires t c κs = (omega arith, (omega (arith, c .before .before .before .before .before .before .before .pre .1 .0), c .before .before .before .before .before .before .before .pre .1 .1))
 
@@ -8722,8 +8754,8 @@ subquery-enum-known-d : (t : ℕ) → subquery-lts.Need-enum-known-d (
   stmts.Post,
   infer-below t,
   infer.Post,
-  put-reads.Asked,
-  put-reads.Learnt,
+  leave-reads.Asked,
+  leave-reads.Learnt,
 ) (subquery-at t) subquery.Post
 subquery-enum-known-d t c = search needs
 
@@ -8734,8 +8766,8 @@ subquery-infer-requires : (t : ℕ) → subquery-lts.Need-infer-requires (
   stmts.Post,
   infer-below t,
   infer.Post,
-  put-reads.Asked,
-  put-reads.Learnt,
+  leave-reads.Asked,
+  leave-reads.Learnt,
 ) (subquery-at t) subquery.Post
 subquery-infer-requires t c κs = omega (arith, c .before .before .before .before .before .before .before .before .before .before .before .before .before .before .before .before .before .pre .1 .0)
 
@@ -8746,22 +8778,22 @@ subquery-enum-known-r : (t : ℕ) → subquery-lts.Need-enum-known-r (
   stmts.Post,
   infer-below t,
   infer.Post,
-  put-reads.Asked,
-  put-reads.Learnt,
+  leave-reads.Asked,
+  leave-reads.Learnt,
 ) (subquery-at t) subquery.Post
 subquery-enum-known-r t c = search needs
 
-subquery-put-requires : (t : ℕ) → subquery-lts.Need-put-requires (
+subquery-leave-requires : (t : ℕ) → subquery-lts.Need-leave-requires (
   word-reads.Asked,
   word-reads.Learnt,
   stmts-below t,
   stmts.Post,
   infer-below t,
   infer.Post,
-  put-reads.Asked,
-  put-reads.Learnt,
+  leave-reads.Asked,
+  leave-reads.Learnt,
 ) (subquery-at t) subquery.Post
-subquery-put-requires t c κs = search needs
+subquery-leave-requires t c κs = search needs
 
 subquery-enum-told : (t : ℕ) → subquery-lts.Need-enum-told (
   word-reads.Asked,
@@ -8770,8 +8802,8 @@ subquery-enum-told : (t : ℕ) → subquery-lts.Need-enum-told (
   stmts.Post,
   infer-below t,
   infer.Post,
-  put-reads.Asked,
-  put-reads.Learnt,
+  leave-reads.Asked,
+  leave-reads.Learnt,
 ) (subquery-at t) subquery.Post
 subquery-enum-told t c = search needs
 
@@ -8782,8 +8814,8 @@ subquery-enum-told-2 : (t : ℕ) → subquery-lts.Need-enum-told-2 (
   stmts.Post,
   infer-below t,
   infer.Post,
-  put-reads.Asked,
-  put-reads.Learnt,
+  leave-reads.Asked,
+  leave-reads.Learnt,
 ) (subquery-at t) subquery.Post
 subquery-enum-told-2 t c = search needs
 
@@ -8794,8 +8826,8 @@ subquery-same-length : (t : ℕ) → subquery-lts.Need-same-length (
   stmts.Post,
   infer-below t,
   infer.Post,
-  put-reads.Asked,
-  put-reads.Learnt,
+  leave-reads.Asked,
+  leave-reads.Learnt,
 ) (subquery-at t) subquery.Post
 subquery-same-length t c = search needs
 
@@ -8806,8 +8838,8 @@ subquery-same-length-2 : (t : ℕ) → subquery-lts.Need-same-length-2 (
   stmts.Post,
   infer-below t,
   infer.Post,
-  put-reads.Asked,
-  put-reads.Learnt,
+  leave-reads.Asked,
+  leave-reads.Learnt,
 ) (subquery-at t) subquery.Post
 subquery-same-length-2 t c = search needs
 
@@ -8818,10 +8850,10 @@ subquery-returns : (t : ℕ) → subquery-lts.Need-returns (
   stmts.Post,
   infer-below t,
   infer.Post,
-  put-reads.Asked,
-  put-reads.Learnt,
+  leave-reads.Asked,
+  leave-reads.Learnt,
 ) (subquery-at t) subquery.Post
-subquery-returns t c = subquery-ends (c .before .before .before .before .before .before .before .before .before .before .before .before .before .before .before .before .before .before .before .before .before .stmts .ensures) (c .before .before .before .before .before .before .before .before .before .before .before .before .before .before .before .d .given .1) (c .before .before .before .before .before .before .before .before .before .before .before .infer .ensures) (c .before .before .before .before .before .r .given .1) (c .before .before .before .before .before .before .before .before .before .before .before .before .before .before .before .before .before .before .before .before .before .before .before .before .word .ensures) (cuts-by (c .before .before .put .ensures))
+subquery-returns t c = subquery-ends (c .before .before .before .before .before .before .before .before .before .before .before .before .before .before .before .before .before .before .before .before .before .stmts .ensures) (c .before .before .before .before .before .before .before .before .before .before .before .before .before .before .before .d .given .1) (c .before .before .before .before .before .before .before .before .before .before .before .infer .ensures) (c .before .before .before .before .before .r .given .1) (c .before .before .before .before .before .before .before .before .before .before .before .before .before .before .before .before .before .before .before .before .before .before .before .before .word .ensures) (leaves-by (c .before .before .leave .ensures))
 
 subquery-same-length-3 : (t : ℕ) → subquery-lts.Need-same-length-3 (
   word-reads.Asked,
@@ -8830,8 +8862,8 @@ subquery-same-length-3 : (t : ℕ) → subquery-lts.Need-same-length-3 (
   stmts.Post,
   infer-below t,
   infer.Post,
-  put-reads.Asked,
-  put-reads.Learnt,
+  leave-reads.Asked,
+  leave-reads.Learnt,
 ) (subquery-at t) subquery.Post
 subquery-same-length-3 t c = search needs
 
@@ -8842,8 +8874,8 @@ subquery-same-length-4 : (t : ℕ) → subquery-lts.Need-same-length-4 (
   stmts.Post,
   infer-below t,
   infer.Post,
-  put-reads.Asked,
-  put-reads.Learnt,
+  leave-reads.Asked,
+  leave-reads.Learnt,
 ) (subquery-at t) subquery.Post
 subquery-same-length-4 t c = search needs
 
@@ -8854,8 +8886,8 @@ subquery-returns-2 : (t : ℕ) → subquery-lts.Need-returns-2 (
   stmts.Post,
   infer-below t,
   infer.Post,
-  put-reads.Asked,
-  put-reads.Learnt,
+  leave-reads.Asked,
+  leave-reads.Learnt,
 ) (subquery-at t) subquery.Post
 subquery-returns-2 t c = subquery-head-out (c .before .before .before .before .before .before .before .before .before .before .before .before .before .before .before .before .stmts .ensures) (c .before .before .before .before .before .before .before .before .before .before .d .given .1) (c .before .before .before .before .before .before .infer .ensures) (c .enum-told .given .1)
 
@@ -8866,8 +8898,8 @@ subquery-same-length-5 : (t : ℕ) → subquery-lts.Need-same-length-5 (
   stmts.Post,
   infer-below t,
   infer.Post,
-  put-reads.Asked,
-  put-reads.Learnt,
+  leave-reads.Asked,
+  leave-reads.Learnt,
 ) (subquery-at t) subquery.Post
 subquery-same-length-5 t c = search needs
 
@@ -8878,8 +8910,8 @@ subquery-same-length-6 : (t : ℕ) → subquery-lts.Need-same-length-6 (
   stmts.Post,
   infer-below t,
   infer.Post,
-  put-reads.Asked,
-  put-reads.Learnt,
+  leave-reads.Asked,
+  leave-reads.Learnt,
 ) (subquery-at t) subquery.Post
 subquery-same-length-6 t c = search needs
 
@@ -8890,8 +8922,8 @@ subquery-returns-3 : (t : ℕ) → subquery-lts.Need-returns-3 (
   stmts.Post,
   infer-below t,
   infer.Post,
-  put-reads.Asked,
-  put-reads.Learnt,
+  leave-reads.Asked,
+  leave-reads.Learnt,
 ) (subquery-at t) subquery.Post
 subquery-returns-3 t c = subquery-out (c .before .before .before .before .before .before .stmts .ensures) (c .enum-told2 .given .1)
 
@@ -9111,9 +9143,10 @@ pub +bind+bind-name+branches+check+check-field+check-fields+check-union+compare+
     (check-field-word-requires t)
     (check-field-snapshot-requires t)
     (check-field-word-requires-2 t)
+    (check-field-word-requires-3 t)
     (check-field-check-requires t)
     (check-field-enum-known-d t)
-    (check-field-word-requires-3 t)
+    (check-field-word-requires-4 t)
     (check-field-rollback-requires t)
     (check-field-enum-told t)
     (check-field-enum-told-2 t)
@@ -9551,8 +9584,8 @@ pub +bind+bind-name+branches+check+check-field+check-fields+check-union+compare+
       word-reads.Learnt,
       infer-below t,
       infer.Post,
-      unify-reads.Asked,
-      unify-reads.Learnt,
+      unify-outside-reads.Asked,
+      unify-outside-reads.Learnt,
       rollback-reads.Asked,
       rollback-reads.Learnt,
       report-reads.Asked,
@@ -9562,9 +9595,10 @@ pub +bind+bind-name+branches+check+check-field+check-fields+check-union+compare+
     infer-then-unify.Post
     (infer-then-unify-snapshot-requires t)
     (infer-then-unify-word-requires t)
+    (infer-then-unify-word-requires-2 t)
     (infer-then-unify-infer-requires t)
     (infer-then-unify-enum-known-r t)
-    (infer-then-unify-unify-requires t)
+    (infer-then-unify-unify-outside-requires t)
     (infer-then-unify-enum-known-u t)
     (infer-then-unify-enum-known-u-2 t)
     (infer-then-unify-rollback-requires t)
@@ -9681,8 +9715,8 @@ pub +bind+bind-name+branches+check+check-field+check-fields+check-union+compare+
       stmts.Post,
       infer-below t,
       infer.Post,
-      put-reads.Asked,
-      put-reads.Learnt,
+      leave-reads.Asked,
+      leave-reads.Learnt,
     )
     (subquery-at t)
     subquery.Post
@@ -9691,7 +9725,7 @@ pub +bind+bind-name+branches+check+check-field+check-fields+check-union+compare+
     (subquery-enum-known-d t)
     (subquery-infer-requires t)
     (subquery-enum-known-r t)
-    (subquery-put-requires t)
+    (subquery-leave-requires t)
     (subquery-enum-told t)
     (subquery-enum-told-2 t)
     (subquery-same-length t)
