@@ -33,7 +33,7 @@
 #define SIGLA_WORDS 16384       /* the words that must be lent */
 #define SIGLA_BYTES 65536       /* the answer bytes that the program lends */
 #define SIGLA_QUERIES 64        /* the most queries of a file */
-#define SIGLA_STACK 1048576     /* bytes of stack that suffice for every file tried (755,256 were used, on samples/deepest.hex) */
+#define SIGLA_STACK 1048576     /* bytes of stack that suffice for every file tried (732,168 were used, on samples/deepest.hex) */
 
 /* The limits of a file. */
 #define SIGLA_FILE_BYTES 65536

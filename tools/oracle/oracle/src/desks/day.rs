@@ -103,6 +103,8 @@ fn pool_of_files(seed: u64) -> Vec<Vec<u8>> {
     ] {
         files.extend((0..3).map(|n| files::generate(style, trial::nth(seed, n))));
     }
+    // Few of these have a query after the one that is stopped.
+    files.extend((3..60).map(|n| files::generate("form-visits", trial::nth(seed, n))));
     files
 }
 
