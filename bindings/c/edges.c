@@ -57,6 +57,23 @@ int main(void) {
     HOLDS(sigla_ceiling(&group, 0, &visits) == SIGLA_OUTSIDE_THE_RULES && visits == 0);
     HOLDS(sigla_new_day(&group) == SIGLA_OUTSIDE_THE_RULES);
     HOLDS(sigla_length(NULL, 0) == 0);
+    HOLDS(sigla_load(0, NULL, 0, &length) == SIGLA_ANSWER_TOO_LONG && length == 0);
+
+    /* the test load around its length */
+    static uint8_t load[SIGLA_LOAD_BYTES + 4];
+    memset(load, 0xff, sizeof load);
+    HOLDS(sigla_load(7, load, sizeof load, &length) == SIGLA_ACCEPTED && length <= SIGLA_LOAD_BYTES && load[length - 1] == '\n');
+    HOLDS(zero(load + length, sizeof load - length));
+    for (size_t room = length + 2, all = length; room > all - 3; room--) {
+        uint8_t *out = malloc(room);
+        memset(out, 0xff, room);
+        uint8_t refusal = sigla_load(7, out, room, &length);
+        if (room < all)
+            HOLDS(refusal == SIGLA_ANSWER_TOO_LONG && length == 0 && zero(out, room));
+        else
+            HOLDS(refusal == SIGLA_ACCEPTED && length == all && memcmp(out, load, all) == 0 && zero(out + all, room - all));
+        free(out);
+    }
 
     /* each length of the answer slice, just as long as what was allocated */
     for (size_t room = 0; room < m + 4; room++) {

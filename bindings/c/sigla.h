@@ -20,7 +20,7 @@
  * Which platform?         x86-64 Linux, the C calling convention of that system. No file, clock, locale or environment is read.
  * Which edition?          Predicate numbers of 4 bytes. Files of the older one, with 2, go through sigla_widen first.
  *
- * Two calls are still to come: the plain solver, and the test load from a seed. */
+ * One call is still to come: the plain solver. */
 #ifndef SIGLA_H
 #define SIGLA_H
 
@@ -160,6 +160,12 @@ enum sigla_premise {
     SIGLA_NAMES_ABSENT = 4      /* the old file names no predicate by a number that it has none for, in a type or in a node */
 };
 uint8_t sigla_growth(const uint8_t *old, size_t old_len, const uint8_t *new_file, size_t new_len, uint32_t *work, size_t work_len);
+
+#define SIGLA_LOAD_BYTES 8255   /* no file of a seed is longer */
+
+/* The test load (docs/FORMAT.md): 0, the file of the seed stands in `out` with zeros after it, and `length` is its length. Or 12 where
+ * the slice is shorter than the file: it holds zeros, and `length` is 0. */
+uint8_t sigla_load(uint32_t seed, uint8_t *out, size_t out_len, size_t *length);
 
 /* A tally: units of 1,000 visits, cents, and the visits that fill no unit yet. Zeros to begin with. */
 struct sigla_tally {

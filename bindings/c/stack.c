@@ -21,7 +21,9 @@ static void *calls(void *unused) {
     printf(" check_at %u", sigla_check_at(&group, 0, file, length, work, SIGLA_WORDS, answer, sizeof answer));
     printf(" narrow %u", sigla_narrow(file, length, work, SIGLA_WORDS, other, sizeof other));
     printf(" widen %u", sigla_widen(other, sigla_length(other, sizeof other), work, SIGLA_WORDS, answer, sizeof answer));
-    printf(" growth %u\n", sigla_growth(file, length, file, length, work, SIGLA_WORDS));
+    printf(" growth %u", sigla_growth(file, length, file, length, work, SIGLA_WORDS));
+    size_t made;
+    printf(" load %u\n", sigla_load(7, other, sizeof other, &made));
     return NULL;
 }
 

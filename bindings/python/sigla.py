@@ -13,7 +13,7 @@ own rules. `make_library` makes one from the static library. docs/FORMAT.md has 
 
 prints each file's nodes with their types, and its diagnostics.
 
-The calls are proved; this file is tested. The plain solver and the test load, two calls still to come, go beside `growth`.
+The calls are proved; this file is tested. The plain solver, a call still to come, goes beside `growth`.
 """
 
 import ctypes
@@ -29,6 +29,7 @@ WORDS = 16384
 BYTES = 65536
 QUERIES = 64
 STACK = 1048576
+LOAD = 8255
 
 REASONS = {
     1: "the work slice has fewer than 16,384 words",
@@ -100,7 +101,7 @@ def _load():
         beside = pathlib.Path(__file__).resolve().parent / "../../lib/libsigla.so"
         found = os.environ.get("SIGLA_SO") or (str(beside) if beside.exists() else "libsigla.so")
         library = ctypes.CDLL(found)
-        for name in ("check", "lamp", "widen", "narrow", "growth", "tally", "set_up", "ceiling", "new_day", "check_at"):
+        for name in ("check", "lamp", "widen", "narrow", "growth", "load", "tally", "set_up", "ceiling", "new_day", "check_at"):
             getattr(library, f"sigla_{name}").restype = ctypes.c_uint8
         _library = library
     return _library
@@ -171,6 +172,13 @@ PREMISES = {
 def growth(old, new, words=WORDS):
     """0 where the queries of the old file keep their answers in the new one; else the first premise that fails (PREMISES)."""
     return _load().sigla_growth(*_file(old), *_file(new), *_work(words))
+
+
+def load(seed, length=LOAD):
+    """The test file of a seed of 32 bits (docs/FORMAT.md, "Test load"); raises Refused (12) where `length` bytes are too few."""
+    out, n = (ctypes.c_uint8 * length)(), ctypes.c_size_t()
+    _told(_load().sigla_load(ctypes.c_uint32(_word(seed)), out, ctypes.c_size_t(length), ctypes.byref(n)))
+    return bytes(out[:n.value])
 
 
 class Tally(ctypes.Structure):

@@ -74,6 +74,18 @@ class Calls(unittest.TestCase):
         self.assertEqual(sigla.growth(old, new, words=16383), 1)
         self.assertEqual(sigla.check(old), sigla.check(new))
 
+    def test_load(self):
+        seven = (SAMPLES / "../crates/sigla_load/stdout").read_bytes()
+        self.assertEqual(sigla.load(7), seven)
+        self.assertEqual(sigla.load(7, len(seven)), seven)
+        with self.assertRaises(sigla.Refused) as refused:
+            sigla.load(7, len(seven) - 1)
+        self.assertEqual(refused.exception.number, 12)
+        self.assertEqual(len({sigla.load(seed) for seed in range(100)}), 100)
+        self.assertTrue(all(sigla.check(sigla.load(seed)) for seed in range(100)))
+        with self.assertRaises(ValueError):
+            sigla.load(2 ** 32)
+
     def test_what_is_no_answer(self):
         for lines in [b"0e\n", b"07000100\n", b"070000\n", b"0700000000\n", b"07000000", b"0a61\n", b"0B0000\n", b"0b0001\n", b"07 000000\n",
                       b"\n", b"0900000000\n0900000000\n", b"0800000000000000006\n", b"08000000000000000061\n0a61\n0a61\n"]:

@@ -7,6 +7,7 @@
 //! - [`Group::check`] is the call at a desk of a cabinet with a pool of visits; [`Tally`] sums visits up to a bill.
 //! - [`widen`] and [`narrow`] turn files of the older edition into this one and back.
 //! - [`growth`] tells whether queries keep their answers under a larger schema.
+//! - [`load`] makes the test file of a seed.
 //!
 //! A file that is turned down is a [`Refusal`], by the numbers of docs/FORMAT.md; [`refused_line`] finds the line. Nothing here panics on what a file or an answer holds.
 //!
@@ -31,8 +32,8 @@
 //! # Ok::<(), Box<dyn std::error::Error>>(())
 //! ```
 //!
-//! Two calls of the library are still to come and get a module each beside `growth`: the plain solver, which asks for the n-th unification
-//! of a file's run, and the test load, which makes a file from a seed.
+//! One call of the library is still to come and gets a module beside `growth`: the plain solver, which asks for the n-th unification of a
+//! file's run.
 
 #![deny(missing_docs)]
 
@@ -41,6 +42,7 @@ mod desk;
 mod file;
 mod form;
 mod growth;
+mod load;
 mod refusal;
 mod ty;
 
@@ -49,6 +51,7 @@ pub use desk::{Desk, Group, Tally};
 pub use file::{Asked, File, NoFile, NodeFrame, PredicateFrame, QueryFrames, Shape, StatementFrame, TypeFrame};
 pub use form::{Form, Limit, Node, Predicate, Query, Span, Statement, Type};
 pub use growth::{Premise, growth};
+pub use load::{LOAD, load};
 pub use refusal::Refusal;
 pub use ty::{Alternative, Field, Names, Shown, Tree, Ty};
 

@@ -16,6 +16,9 @@ use Rattle.lamp.specs.declared.Lit.{Lit}
 use Rattle.lamp.specs.Contracts.{Lights}
 use Rattle.converters.specs.Contracts.{Widens, Narrows}
 use Rattle.growth.specs.Premises.{premises, FirstFailing}
+use Rattle.writer.specs.declared.Wrote.{Wrote}
+use Rattle.writer.specs.declared.Wrote.the-variants as Wrote
+use Rattle.generator.specs.Contracts.{Makes}
 use Rattle.tariff.specs.declared.Tallied.{Tallied}
 use Rattle.tariff.specs.Tariff.{Adds}
 use Rattle.cabinet.specs.declared.Changed.{Changed}
@@ -62,6 +65,20 @@ pub record CallsNarrow (f w out w′ out′ : List ℕ) (r : ℕ) : Type 0 where
 pub record CallsGrowth (old new w w′ : List ℕ) (r : ℕ) : Type 0 where
   pub told : FirstFailing (premises (length w) old new) r
   pub work : w′ ≡ replicate (length w) 0
+
+abbrev pub lengthIn : Wrote → ℕ
+lengthIn (Wrote.To n) = n
+lengthIn Wrote.Full = 0
+
+abbrev pub wroteNumber : Wrote → ℕ
+wroteNumber (Wrote.To n) = 0
+wroteNumber Wrote.Full = 12
+
+pub record CallsLoad (seed : ℕ) (out out′ : List ℕ) (m r : ℕ) : Type 0 where
+  pub wrote : Wrote
+  pub makes : Makes seed out out′ wrote
+  pub length : m ≡ lengthIn wrote
+  pub number : r ≡ wroteNumber wrote
 
 -- This number where a call was refused.
 abbrev pub orElse : Bool → ℕ → ℕ

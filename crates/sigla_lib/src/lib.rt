@@ -1,11 +1,12 @@
 // The calls for programs in other languages: every slice goes as a pointer and a length, an array as a pointer. Each gives back 0, or the
 // number of the refusal.
-ghost use Rattle.sigla_lib.specs.Numbers.{CallsCheck, CallsLamp, CallsWiden, CallsNarrow, CallsTally, CallsSetUp, CallsCeiling, CallsNewDay, CallsCheckAt, CallsGrowth, outcomeNumber};
+ghost use Rattle.sigla_lib.specs.Numbers.{CallsCheck, CallsLamp, CallsWiden, CallsNarrow, CallsTally, CallsSetUp, CallsCeiling, CallsNewDay, CallsCheckAt, CallsGrowth, CallsLoad, outcomeNumber};
 ghost use mathlib.Core.Path.{_≡_};
 use cabinet::Allowance;
 use desk::Outcome;
 use lamp::Signal;
 use reading::Refusal;
+use writer::Wrote;
 
 fn number(r: Outcome) -> u8
     ensures { λ n. ⌜ n ≡ outcomeNumber r ⌝ }
@@ -75,6 +76,26 @@ pub extern "C" fn sigla_growth(old: &[u8], new: &[u8], work: &mut [u32]) -> u8
     ensures { λ r. ⌜ CallsGrowth (now (old .entry)) (now (new .entry)) (now (work .entry)) (now (work .exit)) r ⌝ }
 {
     growth::premises_number(growth::check_growth(old, new, work))
+}
+
+// ---- The test load
+
+// The file of the seed and its length; or 12 for a slice that is shorter, and 0.
+#[no_mangle]
+pub extern "C" fn sigla_load(seed: u32, out: &mut [u8], length: &mut usize) -> u8
+    ensures { λ r. ⌜ CallsLoad seed (now (out .entry)) (now (out .exit)) (now (length .exit)) r ⌝ }
+{
+    let r = generator::make(seed, out);
+    match r {
+        Wrote::To(n) => {
+            *length = n;
+            0
+        }
+        Wrote::Full => {
+            *length = 0;
+            12
+        }
+    }
 }
 
 // ---- The capture tariff
