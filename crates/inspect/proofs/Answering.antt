@@ -1,11 +1,13 @@
 -- What the solver left in the slices is what the definition says of the entry that was found; and where none was found they are cleared.
-use mathlib.Core.List.{List}
+use mathlib.Core.List.{List, [], _∷_}
 use mathlib.Core.Path.{_≡_, refl, sym, ap, _∙_, subst}
 use Prim.Native.Nat.{ℕ}
 use lib.ListN.{length, replicate}
 use Rattle.unification.specs.Calls.{Entry}
 use Rattle.unification.proofs.Tests.{clash}
 use Rattle.cells.specs.declared.Ty.{Ty}
+use Rattle.meaning.specs.Refusal.{number}
+use Rattle.meaning.specs.Answer.{hexLine}
 use Rattle.plain_theory.specs.Answer as Solver
 use Rattle.plain_theory.specs.Answer.{answer}
 use Rattle.entries.specs.Entries as Entries
@@ -19,10 +21,10 @@ use Rattle.seek.specs.Contracts as Seek
 use Rattle.plain.specs.declared.Plain.{Plain}
 use Rattle.solver.specs.Contracts.{Left, Solves}
 use Rattle.inspect.specs.Inspect as Defined
-use Rattle.inspect.specs.Inspect.{told, inspected, decidePlain, lentAfter}
+use Rattle.inspect.specs.Inspect.{told, inspected, decidePlain, lentAfter, inspectLine}
 use Rattle.inspect.specs.declared.Inspected.{Inspected}
 use Rattle.inspect.specs.declared.Inspected.the-variants as Inspected
-use Rattle.inspect.specs.Contracts.{inspectedBy, Told, Answers, Inspects}
+use Rattle.inspect.specs.Contracts.{inspectedBy, Told, Answers, Inspects, lineOf}
 
 -- The answer, and what the lent slice holds.
 abbrev Right : List ℕ → ℕ → Inspected → Defined.Inspected → Type 0
@@ -80,3 +82,13 @@ module _ {f : List ℕ} {n : ℕ} {w w₁ : List ℕ} {s : Sought} (S : Seeks f 
 pub inspects : {f : List ℕ} {n : ℕ} {w l w₁ l′ w′ : List ℕ} {r : Inspected} → Answers f n w l w₁ l′ r → w′ ≡ replicate (length w₁) 0
     → Inspects f n w l w′ l′ r
 inspects A c = record { told = A .told; lent = A .lent; work = c ∙ ap (λ k. replicate k 0) (A .words) }
+
+-- The line of what was answered is that of what the definition decides.
+pub line-is : (r : Inspected) (x : Defined.Inspected) → Told r x → lineOf r ≡ inspectLine x
+unfolding lineOf inspectLine
+line-is r (Defined.Success bs) h = rw h
+line-is r Defined.Failure h = rw h
+line-is r Defined.ShutOut h = rw h
+line-is r Defined.Fewer h = rw h
+line-is r (Defined.Refused i) h = ap lineOf (h .1) ∙ ap (λ j. hexLine (0x0f ∷ number j ∷ [])) (h .2)
+line-is r Defined.TooFewWords h = rw h

@@ -5,11 +5,11 @@ use mathlib.Core.Logic.{_↔_, _⊎_, inl, inr}
 use mathlib.Core.Option.{Option, none, some}
 use mathlib.Core.Path.{_≡_, refl, sym, ap, _∙_, subst}
 use Prim.Native.Nat.{ℕ, _<_}
-use lib.ListN.{replicate}
+use lib.ListN.{length, replicate}
 use Rattle.unification.specs.Ty.{Ty}
 use Rattle.unification.specs.Bindings.{State, Subst, zonk}
 use Rattle.unification.specs.Unify.{Unified, Ok, Err, Spent, unify}
-use Rattle.unification.specs.Calls.{Entry, Admitted, Respects}
+use Rattle.unification.specs.Calls.{Entry, Side, Admitted, Respects, Machine, Calls}
 use Rattle.unification.specs.Acyclic.{Acyclic}
 use Rattle.unification.proofs.Tests.{clash}
 use Rattle.unification.proofs.Demand3.{calls-inv}
@@ -25,7 +25,7 @@ use Rattle.plain_theory.proofs.Answers.{admitted-exactly, as-unify}
 use Rattle.entries.specs.Entries.{Sought, found, fewer, turnedDown, entryAt}
 use Rattle.entries.proofs.Entries.{sought-refused, sought-led}
 use Rattle.inspect.specs.Inspect.{Inspected, Success, Failure, ShutOut, Fewer, Refused, TooFewWords, told, inspected, decidePlain, refusedBy}
-use Rattle.inspect.specs.Claims.{BothAdmitted, Overflows, There, Exactly, BesideUnify}
+use Rattle.inspect.specs.Claims.{BothAdmitted, Overflows, There, Exactly, AsUnifyFrom, BesideUnify}
 
 -- ---- What the solver answers is no refusal of the reading
 
@@ -105,28 +105,23 @@ admitted? s A a b = go (both (pure? (zonk s a)) (pure? (zonk s b)))
     go (yes h) = yes (admitted-exactly s A a .1 (h .0), admitted-exactly s A b .1 (h .1))
     go (no m) = no (λ h. m (admitted-exactly s A a .0 (h .0), admitted-exactly s A b .0 (h .1)))
 
--- The state to which the calls before the entry lead.
-record Led (lent : ℕ) (e : Entry) : Type 0 where
-  state : State
-  before : state .subst ≡ e .before
-  facts : Facts lent state (e .before) (e .got) (e .expected)
-
-led : (lent v : ℕ) (tys : List (Option Ty)) (e : Entry) → EntryLed v tys e → Led lent e
-led lent v tys e h =
-    let st = h .at .state in
-    let A = calls-inv v tys (h .at) (h .calls) .sound .wf .acyclic in
-    let u = as-unify lent v tys (h .at) (h .calls) (e .got) (e .expected) (h .got) (h .expected) (go (unify (h .at .state) (e .got) (e .expected)) refl) in
-    record {
-      state = st;
-      before = h .before;
-      facts = subst (λ s. Facts lent st s (e .got) (e .expected)) (h .before) (record {
-        decided = admitted? (st .subst) A (e .got) (e .expected);
+module _ (lent v : ℕ) (tys : List (Option Ty)) (m : Machine) (cs : Calls v tys m) (e : Entry) where
+  facts-at : m .state .subst ≡ e .before → Side (length (m .state .subst)) (e .got) → Side (length (m .state .subst)) (e .expected)
+      → Ends (unify (m .state) (e .got) (e .expected)) → Facts lent (m .state) (e .before) (e .got) (e .expected)
+  facts-at before got expected ended =
+      let A = calls-inv v tys m cs .sound .wf .acyclic in
+      let u = as-unify lent v tys m cs (e .got) (e .expected) got expected ended in
+      subst (λ s. Facts lent (m .state) s (e .got) (e .expected)) before (record {
+        decided = admitted? (m .state .subst) A (e .got) (e .expected);
         shuts-out = u .shuts-out;
         too-few = u .too-few;
         fails = u .fails;
         bindings = u .bindings;
-      });
-    }
+      })
+
+-- From the state to which the calls before the entry lead.
+led : (lent v : ℕ) (tys : List (Option Ty)) (e : Entry) (h : EntryLed v tys e) → Facts lent (h .at .state) (e .before) (e .got) (e .expected)
+led lent v tys e h = facts-at lent v tys (h .at) (h .calls) e (h .before) (h .got) (h .expected) (go (unify (h .at .state) (e .got) (e .expected)) refl)
   where
     go : (u : Unified) → unify (h .at .state) (e .got) (e .expected) ≡ u → Ends u
     go (Ok st) q = tt
@@ -140,8 +135,11 @@ module _ (file : List ℕ) (n words lent : ℕ) where
   unfolding decidePlain inspected
   at-entry e q = ap (inspected lent) q
 
-  there : (e : Entry) → entryAt file n words ≡ found e → Led lent e
-  there e q = let r = sought-led file n words e q in led lent maxVisits (replicate (r .0) none) e (r .1)
+  reaches : (e : Entry) → entryAt file n words ≡ found e → (nodes : ℕ) × EntryLed maxVisits (replicate nodes none) e
+  reaches e q = sought-led file n words e q
+
+  there : (e : Entry) (q : entryAt file n words ≡ found e) → Facts lent (reaches e q .1 .at .state) (e .before) (e .got) (e .expected)
+  there e q = let r = reaches e q in led lent maxVisits (replicate (r .0) none) e (r .1)
 
   -- An answer that neither the reading nor the count gives is the solver's, at an entry.
   by-entry : (x : Inspected) → ((r : Refusal) → ¬ (x ≡ Refused r)) → ¬ (x ≡ Fewer) → decidePlain file n words lent ≡ x
@@ -179,18 +177,18 @@ module _ (file : List ℕ) (n words lent : ℕ) where
   shut-out-exactly : (decidePlain file n words lent ≡ ShutOut) ↔ There file n words lent (λ e. ¬ BothAdmitted e)
   shut-out-exactly = (
     λ h. let y = by-entry ShutOut (λ r e. clash (cc e)) (λ e. clash (cc e)) h in
-        (y .0, y .1, there (y .0) (y .1) .facts .shuts-out .0 (told-shut-out (answer lent (y .0 .before) (y .0 .got) (y .0 .expected)) .0 (y .2))),
+        (y .0, y .1, there (y .0) (y .1) .shuts-out .0 (told-shut-out (answer lent (y .0 .before) (y .0 .got) (y .0 .expected)) .0 (y .2))),
     λ y. at-entry (y .0) (y .1)
-        ∙ told-shut-out (answer lent (y .0 .before) (y .0 .got) (y .0 .expected)) .1 (there (y .0) (y .1) .facts .shuts-out .1 (y .2)),
+        ∙ told-shut-out (answer lent (y .0 .before) (y .0 .got) (y .0 .expected)) .1 (there (y .0) (y .1) .shuts-out .1 (y .2)),
   )
 
   too-few-exactly : (decidePlain file n words lent ≡ TooFewWords) ↔ There file n words lent (λ e. BothAdmitted e × Overflows lent e)
   too-few-exactly = (
     λ h. let y = by-entry TooFewWords (λ r e. clash (cc e)) (λ e. clash (cc e)) h in
         let few = told-too-few (answer lent (y .0 .before) (y .0 .got) (y .0 .expected)) .0 (y .2) in
-        (y .0, y .1, go (y .0) (there (y .0) (y .1) .facts) few (there (y .0) (y .1) .facts .decided)),
+        (y .0, y .1, go (y .0) (there (y .0) (y .1)) few (there (y .0) (y .1) .decided)),
     λ y. at-entry (y .0) (y .1) ∙ told-too-few (answer lent (y .0 .before) (y .0 .got) (y .0 .expected)) .1
-        (there (y .0) (y .1) .facts .too-few (y .2 .0 .0) (y .2 .0 .1) .1 (y .2 .1)),
+        (there (y .0) (y .1) .too-few (y .2 .0 .0) (y .2 .0 .1) .1 (y .2 .1)),
   )
     where
       go : (e : Entry) {st : State} → Facts lent st (e .before) (e .got) (e .expected) → answer lent (e .before) (e .got) (e .expected) ≡ Solver.TooFew
@@ -210,16 +208,25 @@ module _ (file : List ℕ) (n words lent : ℕ) where
     );
   }
 
-  pub beside-unify : (e : Entry) → entryAt file n words ≡ found e → BesideUnify file n words lent e
-  beside-unify e q =
-      let L = there e q in
+  as-from : (e : Entry) → entryAt file n words ≡ found e → (st : State) → Facts lent st (e .before) (e .got) (e .expected)
+      → AsUnifyFrom file n words lent e st
+  as-from e q st F =
       let a = answer lent (e .before) (e .got) (e .expected) in
       let is = at-entry e q in
       record {
-        state = L .state;
-        before = L .before;
         fails = λ h few.
-            let x = L .facts .fails (h .0) (h .1) (λ p. few (is ∙ told-too-few a .1 p)) in
+            let x = F .fails (h .0) (h .1) (λ p. few (is ∙ told-too-few a .1 p)) in
             (λ p. x .0 (told-failure a .0 (sym is ∙ p)), λ p. is ∙ told-failure a .1 (x .1 p));
-        bindings = λ h after bs ok p. L .facts .bindings (h .0) (h .1) after bs ok (told-success a bs (sym is ∙ p));
+        bindings = λ h after bs ok p. F .bindings (h .0) (h .1) after bs ok (told-success a bs (sym is ∙ p));
+      }
+
+  pub beside-unify : (e : Entry) → entryAt file n words ≡ found e → BesideUnify file n words lent e
+  beside-unify e q =
+      let r = reaches e q in
+      record {
+        every = λ v tys m cs before ended.
+            let same : r .1 .at .state .subst ≡ m .state .subst = r .1 .before ∙ sym before in
+            as-from e q (m .state) (facts-at lent v tys m cs e before (subst (λ s. Side (length s) (e .got)) same (r .1 .got))
+            (subst (λ s. Side (length s) (e .expected)) same (r .1 .expected)) ended);
+        reached = r;
       }

@@ -1,18 +1,20 @@
 -- What is claimed of the call, over the definitions alone (proofs/Promises.antt).
 use mathlib.Core.List.{List}
 use mathlib.Core.Logic.{_↔_, _⊎_}
-use mathlib.Core.Option.{some}
+use mathlib.Core.Option.{Option, none, some}
 use mathlib.Core.Path.{_≡_}
 use Prim.Native.Nat.{ℕ, _<_}
+use lib.ListN.{replicate}
 use Rattle.unification.specs.Ty.{Ty}
 use Rattle.unification.specs.Bindings.{State}
 use Rattle.unification.specs.Unify.{Ok, unify}
-use Rattle.unification.specs.Calls.{Entry, Admitted, Respects}
+use Rattle.unification.specs.Calls.{Entry, Admitted, Respects, Machine, Calls}
 use Rattle.meaning.specs.Refusal.{Refusal, number}
+use Rattle.meaning.specs.Run.{EntryLed}
 use Rattle.meaning.specs.Outcome as Outcome
-use Rattle.meaning.specs.Outcome.{decide}
+use Rattle.meaning.specs.Outcome.{maxVisits, decide}
 use Rattle.plain_theory.specs.Plain.{Binding, Stage, needs, Along, start}
-use Rattle.plain_theory.specs.Claims.{Respected, Fails}
+use Rattle.plain_theory.specs.Claims.{Respected, Ends, Fails}
 use Rattle.entries.specs.Entries.{found, fewer, entryAt}
 use Rattle.inspect.specs.Inspect.{Success, Failure, ShutOut, Fewer, Refused, TooFewWords, decidePlain, refusedBy}
 
@@ -39,11 +41,15 @@ module _ (file : List ℕ) (n words lent : ℕ) where
     pub numbered : (i : ℕ) → (refusedBy (decidePlain file n words lent) ≡ some i)
         ↔ (((r : Refusal) × (decide file words ≡ Outcome.turnedDown r) × (number r ≡ i)) ⊎ ((i ≡ 18) × There (λ e. BothAdmitted e × Overflows lent e)))
 
-  -- At an entry that is there: the state to which the calls before it lead, and `unify` from there.
-  pub record BesideUnify (e : Entry) : Type 0 where
-    pub state : State
-    pub before : state .subst ≡ e .before
+  -- The answer at an entry, beside `unify` from a state.
+  pub record AsUnifyFrom (e : Entry) (st : State) : Type 0 where
     pub fails : BothAdmitted e → ¬ (decidePlain file n words lent ≡ TooFewWords)
-        → (decidePlain file n words lent ≡ Failure) ↔ Fails (unify state (e .got) (e .expected))
-    pub bindings : BothAdmitted e → (after : State) (bs : List Binding) → unify state (e .got) (e .expected) ≡ Ok after
+        → (decidePlain file n words lent ≡ Failure) ↔ Fails (unify st (e .got) (e .expected))
+    pub bindings : BothAdmitted e → (after : State) (bs : List Binding) → unify st (e .got) (e .expected) ≡ Ok after
         → decidePlain file n words lent ≡ Success bs → (σ : ℕ → Ty) → Respects σ (after .subst) ↔ Respected σ bs
+
+  -- From every state with the entry's bindings to which a list of calls leads and from which `unify` ends; the run's is one.
+  pub record BesideUnify (e : Entry) : Type 0 where
+    pub every : (v : ℕ) (tys : List (Option Ty)) (m : Machine) → Calls v tys m → m .state .subst ≡ e .before
+        → Ends (unify (m .state) (e .got) (e .expected)) → AsUnifyFrom e (m .state)
+    pub reached : (nodes : ℕ) × EntryLed maxVisits (replicate nodes none) e

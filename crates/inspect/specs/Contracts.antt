@@ -1,8 +1,10 @@
 -- What the functions of src/ promise: for every file, every number and both slices the outcome is the definition's.
-use mathlib.Core.List.{List}
+use mathlib.Core.List.{List, [], _∷_}
 use mathlib.Core.Path.{_≡_}
 use Prim.Native.Nat.{ℕ}
 use lib.ListN.{length, replicate}
+use Rattle.meaning.specs.Refusal.{number}
+use Rattle.meaning.specs.Answer.{hexLine}
 use Rattle.plain_theory.specs.Words.{bindingsSpelled}
 use Rattle.reading.specs.Contracts.{refusal}
 use Rattle.reading.specs.declared.Refusal.{Refusal}
@@ -38,3 +40,15 @@ pub record Inspects (f : List ℕ) (n : ℕ) (w l w′ l′ : List ℕ) (r : Ins
   pub told : Told r (decidePlain f n (length w) (length l))
   pub lent : l′ ≡ lentAfter (length l) (decidePlain f n (length w) (length l))
   pub work : w′ ≡ replicate (length w) 0
+
+-- ---- The line
+
+-- Of what was answered; `inspectLine` has it of what the definition decides (`line-is`).
+unfoldable pub lineOf : Inspected → List ℕ
+unfolding hexLine
+lineOf (Inspected.Success n) = hexLine (0x0e ∷ 1 ∷ [])
+lineOf Inspected.Failure = hexLine (0x0e ∷ 0 ∷ [])
+lineOf Inspected.ShutOut = hexLine (0x0e ∷ 2 ∷ [])
+lineOf Inspected.Fewer = hexLine (0x0e ∷ 3 ∷ [])
+lineOf (Inspected.Refused e) = hexLine (0x0f ∷ number (refusal e) ∷ [])
+lineOf Inspected.TooFewWords = hexLine (0x0f ∷ 18 ∷ [])

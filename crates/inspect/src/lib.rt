@@ -1,6 +1,6 @@
 // Card 12's call: the plain solver at the n-th entry to `unify` of a file's run.
 ghost use mathlib.Core.Path.{_≡_};
-ghost use Rattle.inspect.specs.Contracts.{inspectedBy, Answers, Inspects};
+ghost use Rattle.inspect.specs.Contracts.{inspectedBy, lineOf, Answers, Inspects};
 use plain::Plain;
 use reading::Refusal;
 use seek::Sought;
@@ -53,4 +53,18 @@ pub fn inspect(file: &[u8], n: u32, work: &mut [u32], lent: &mut [u32]) -> Inspe
     let r = answer(file, n, work, lent);
     work::clear(work);
     r
+}
+
+// The line that the program prints: 0e with 01, 00, 02 or 03, or the refusal's.
+pub fn line(r: Inspected) -> [u8; 5]
+    ensures { λ l. ⌜ l ≡ lineOf r ⌝ }
+{
+    match r {
+        Inspected::Success(_) => [48, 101, 48, 49, 10],
+        Inspected::Failure => [48, 101, 48, 48, 10],
+        Inspected::ShutOut => [48, 101, 48, 50, 10],
+        Inspected::Fewer => [48, 101, 48, 51, 10],
+        Inspected::Refused(e) => desk::refusal_line(e),
+        Inspected::TooFewWords => [48, 102, 49, 50, 10],
+    }
 }

@@ -71,7 +71,8 @@ module _ (schema : Schema) (a : Ast) (qs : List Ast) where
         (nth-first (entriesOf schema a) (entriesAll schema qs) n (omega (arith, many)))
 
     pub in-later : (n : ℕ) → length (c .entries) ≤ n
-        → unlessOut (nth (entriesAll schema (a ∷ qs)) n) (runAll schema (a ∷ qs)) ≡ unlessOut (nth (entriesAll schema qs) (n - length (c .entries))) (runAll schema qs)
+        → unlessOut (nth (entriesAll schema (a ∷ qs)) n) (runAll schema (a ∷ qs))
+        ≡ unlessOut (nth (entriesAll schema qs) (n - length (c .entries))) (runAll schema qs)
     unfolding entriesAll
     in-later n h =
         let k : n ≡ length (entriesOf schema a) + (n - length (c .entries)) = omega (arith, many) in
@@ -85,4 +86,5 @@ pub until-kept : (schema : Schema) (a : Ast) (u : Until) (c : ℕ) → ending (q
 unfolding begin beginUntil
 until-kept schema a u c =
     let same = same-self everything schema (a .nodes) (λ p. tt) (names-everything (a .nodes)) (λ p. predicate-everything (get schema p)) in
-    query-agrees everything 0 schema schema (a .nodes) same (a .query) .grows (beginUntil u c (length (a .nodes))) (begin-fine everything schema schema a same c) .until
+    query-agrees everything 0 schema schema (a .nodes) same (a .query) .grows (beginUntil u c (length (a .nodes)))
+    (begin-fine everything schema schema a same c) .until

@@ -29,7 +29,8 @@ use Rattle.seek.specs.Contracts.{Places, Told, Stops, Finds, Seeks}
 module _ {f : List ℕ} {n : ℕ} {w w₁ : List ℕ} {p : Place} (P : Places f n w w₁ p) where
   pub find-at : {at rest : ℕ} → p ≡ Place.At at rest → {w₂ : List ℕ} {r : Sought} → Stops f at rest w₁ w₂ r → Finds f n w w₂ r
   find-at e S = record {
-    is = λ T form q l s. S .is form (soughtRun (form .schema) (form .queries) n (runAll (form .schema) (form .queries))) (rw (P .words) l) (rw e at P .is T form q l s);
+    is = λ T form q l s. S .is form (soughtRun (form .schema) (form .queries) n (runAll (form .schema) (form .queries))) (rw (P .words) l)
+        (rw e at P .is T form q l s);
     words = S .words ∙ P .words;
   }
 
@@ -41,7 +42,8 @@ module _ {f : List ℕ} {n : ℕ} {w w₁ : List ℕ} {p : Place} (P : Places f 
 
   pub find-out : p ≡ Place.Out → Finds f n w w₁ (Sought.Refused Refusal.TooManyVisits)
   find-out e = record {
-    is = λ T form q l s. let h = rw e at P .is T form q l s in subst (Told w₁ (Sought.Refused Refusal.TooManyVisits)) (sym h) (Refusal.TooManyVisits, refl, refl);
+    is = λ T form q l s. let h = rw e at P .is T form q l s in
+        subst (Told w₁ (Sought.Refused Refusal.TooManyVisits)) (sym h) (Refusal.TooManyVisits, refl, refl);
     words = P .words;
   }
 

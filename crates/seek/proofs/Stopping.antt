@@ -67,14 +67,18 @@ module _ {f w w₁ o w₂ o′ : List ℕ} {at n next : ℕ} {x : Done} (L : Loa
           by (out c) S e u (ended-early T R t k p) =
               let same : c ≡ S .at = cc e in
               let sides : Sides w₂ T (S .here ∷ S .older) = sides-of w₂ T (c .until) (c .entries) k (ap (λ y. y .until) same ∙ u)
-              (ap {B = List Entry} (λ y. y .entries) same ∙ S .newest) (S .count) in
-              (a, b, refl, record {
-                rows = T;
-                state = c .state;
-                holds = R .holds;
-                before = ap (λ y. y .state .subst) same ∙ sym (S .before);
-                got-there = rw got (sides .0);
-                got = rw got (sides .1);
-                expected-there = rw expected (sides .2);
-                expected = rw expected (sides .3);
-              })
+              (ap {B = List Entry} (λ y. y .entries) same ∙ S .newest) (S .count) in (
+                a,
+                b,
+                refl,
+                record {
+                  rows = T;
+                  state = c .state;
+                  holds = R .holds;
+                  before = ap (λ y. y .state .subst) same ∙ sym (S .before);
+                  got-there = rw got (sides .0);
+                  got = rw got (sides .1);
+                  expected-there = rw expected (sides .2);
+                  expected = rw expected (sides .3);
+                },
+              )

@@ -38,13 +38,7 @@ fn one_query(file: &[u8], at: usize, work: &mut [u32]) -> Turn
 {
     let mut none = [0u8; 1];
     let next = loading::load(file, at, work);
-    let d = checker::query(
-        file,
-        work,
-        Until::TheEnd,
-        Counters::VISITS,
-        &mut none[0..0],
-    );
+    let d = checker::query(file, work, Until::TheEnd, Counters::VISITS, &mut none[0..0]);
     match d {
         Done::On(_) => Turn::On(next, word(work, work::ENTERED)),
         Done::Out => Turn::Out,
