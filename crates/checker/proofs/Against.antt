@@ -38,7 +38,7 @@ use Rattle.tree.specs.Nodes.{fieldW, fieldOf, fieldsFrom, kindW, IsNode}
 use Rattle.state.specs.declared.Done.{Done}
 use Rattle.state.specs.declared.Done.the-variants as Done
 use Rattle.steps.specs.Ends.{done, Ends}
-use Rattle.steps.specs.Loads.{Load, only, both, Holds, checks, visits, Begins, Beside}
+use Rattle.steps.specs.Loads.{Load, only, both, FitsIn, checks, visits, Begins, Beside}
 use Rattle.steps.specs.Contracts.{nodesOf, Fine, FineRecord, FineUnion, Notes, Rejects, Named, AllNamed, Node-at}
 use Rattle.checker.specs.Contracts.{below, InfersThenUnifies, ChecksFields, ChecksUnion, Checks}
 use Rattle.checker.proofs.Within.{ChecksRecord}
@@ -105,7 +105,7 @@ module _ {f w ou : List ℕ} {n left : ℕ} {e t : Ty} (R : Reprs w e t) where
       }
 
 -- ---- The forms
-note-fits : (d : Described) (k n : ℕ) → Holds (only (one-node n)) (checks (nodesOf d) k n)
+note-fits : (d : Described) (k n : ℕ) → FitsIn (only (one-node n)) (checks (nodesOf d) k n)
 note-fits d k n = record {
   grade = record
       { nodes = λ x. own-weight (nodesOf d) (λ m. same x m) k n; unknowns = omega arith; diagnostics = omega arith };
@@ -152,7 +152,7 @@ module _ {f w ou w′ ou′ : List ℕ} {n left : ℕ} {e t : Ty} (R : Reprs w e
 
 -- ---- A record against a type
 record-fits : (d : Described) (k n : ℕ) (fs : List Field) → nodeAt (nodesOf d) n .kind ≡ ExprKind.Record fs
-    → Holds (both (visits (nodesOf d) k (fieldValues fs)) (only (one-node n))) (checks (nodesOf d) (suc k) n)
+    → FitsIn (both (visits (nodesOf d) k (fieldValues fs)) (only (one-node n))) (checks (nodesOf d) (suc k) n)
 unfolding weight exprNodes
 record-fits d k n fs e = rw e (record { grade = omega arith; records = omega arith; fields = omega arith })
 
@@ -224,7 +224,7 @@ record-other {n = n} {t = t} h U = record
     { is = λ d k fs z at q. record { is = λ T c s fine. rw (no-cell T t h d (below d k) n fs c) (U .is d k at .is T c s fine) } }
 
 -- ---- One alternative of a union
-reject-fits : (d : Described) (k n : ℕ) → Holds (only one-diagnostic) (checks (nodesOf d) k n)
+reject-fits : (d : Described) (k n : ℕ) → FitsIn (only one-diagnostic) (checks (nodesOf d) k n)
 reject-fits d k n = record { grade = omega (arith, size-pos (nodesOf d) k n); records = omega arith; fields = omega arith }
 
 pub rejected : {f w ou w′ ou′ : List ℕ} {n left : ℕ} {T : Rows} {d : Described} {c : Checker} {r : Done} (k : ℕ) (m : Message) → OkMessage w m
@@ -275,7 +275,7 @@ module _ {f w ou : List ℕ} {e name : ℕ} {found : Found} (F : FindsName w e n
 
 -- A record of one field, its value's visit and the node itself.
 one-fits : (d : Described) (k n : ℕ) (x : Field) → nodeAt (nodesOf d) n .kind ≡ ExprKind.Record (x ∷ [])
-    → Holds (both (checks (nodesOf d) k (x .value)) (only (one-node n))) (checks (nodesOf d) (suc k) n)
+    → FitsIn (both (checks (nodesOf d) k (x .value)) (only (one-node n))) (checks (nodesOf d) (suc k) n)
 unfolding weight exprNodes fieldValues sumOf
 one-fits d k n x e = rw e (record { grade = omega arith; records = omega arith; fields = omega arith })
 

@@ -22,7 +22,7 @@ use Rattle.steps.specs.declared.Typed.the-variants as Typed
 use Rattle.state.specs.declared.Done.{Done}
 use Rattle.state.specs.declared.Done.the-variants as Done
 use Rattle.steps.specs.Ends.{typed, done, Ends}
-use Rattle.steps.specs.Loads.{Load, only, both, Holds, infers, visits, Begins, Beside}
+use Rattle.steps.specs.Loads.{Load, only, both, FitsIn, infers, visits, Begins, Beside}
 use Rattle.steps.specs.Contracts.{nodesOf, Fine, UnifiesAt, Named, AllNamed}
 use Rattle.checker.specs.Contracts.{below, Infers, InfersAll, allWith}
 use Rattle.steps.proofs.Sequel.{andThen-first}
@@ -45,7 +45,7 @@ pub record Turn (f w ou : List ℕ) (e : ℕ) (t : Ty) (left : ℕ) (w′ ou′ 
       → Beside f w ou left w′ ou′ (done r) d (visits (nodesOf d) k (e ∷ [])) (Fine w t)
       (λ T c. andThen (below d k .infer e c) (λ ty. unifyAt (d .schema) (nodesOf d) e ty (tree T t)))
 
-turn-fits : (d : Described) (k e : ℕ) → Holds (both (infers (nodesOf d) k e) (only one-diagnostic)) (visits (nodesOf d) k (e ∷ []))
+turn-fits : (d : Described) (k e : ℕ) → FitsIn (both (infers (nodesOf d) k e) (only one-diagnostic)) (visits (nodesOf d) k (e ∷ []))
 unfolding sumOf
 turn-fits d k e = record { grade = omega (arith, size-pos (nodesOf d) k e); records = omega arith; fields = omega arith }
 
@@ -89,7 +89,7 @@ unfolding allWith inferAll
 all-some d k t e es c = andThen-first (below d k .infer e c) (λ ty. unifyAt (d .schema) (nodesOf d) e ty t)
     (λ u. inferAll (d .schema) (nodesOf d) (below d k) t es) (λ u b. goes t b)
 
-pub some-fits : (d : Described) (k e : ℕ) (es : List ℕ) → Holds (both (visits (nodesOf d) k (e ∷ [])) (visits (nodesOf d) k es)) (visits (nodesOf d) k (e ∷ es))
+pub some-fits : (d : Described) (k e : ℕ) (es : List ℕ) → FitsIn (both (visits (nodesOf d) k (e ∷ [])) (visits (nodesOf d) k es)) (visits (nodesOf d) k (e ∷ es))
 unfolding sumOf
 some-fits d k e es = record { grade = omega arith; records = omega arith; fields = omega arith }
 

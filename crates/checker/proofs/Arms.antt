@@ -37,7 +37,7 @@ use Rattle.steps.specs.declared.Typed.{Typed}
 use Rattle.steps.specs.declared.Typed.the-variants as Typed
 use Rattle.state.specs.declared.Done.{Done}
 use Rattle.state.specs.declared.Done.the-variants as Done
-use Rattle.steps.specs.Loads.{Load, only, both, Holds, infers, checks, visits, parts, Begins}
+use Rattle.steps.specs.Loads.{Load, only, both, FitsIn, infers, checks, visits, parts, Begins}
 use Rattle.steps.specs.Contracts.{nodesOf, Fine, Freshens, fuzzy, Fuzzes, KeyIs, OnType}
 use Rattle.checker.specs.Contracts.{below, Infers, InfersKind, InfersRecord, InfersAll, Subqueries, Facts, allWith, Checks}
 use Rattle.steps.proofs.Sequel.{begins-part, ends-wider}
@@ -55,7 +55,7 @@ fine-head {T = T} {c = c} {t = t} s r fine = record {
 
 -- ---- A base, and then a step on its head
 base-fits : (d : Described) (k base : ℕ) (kd : ExprKind) → exprNodes kd ≡ base ∷ []
-    → Holds (both (infers (nodesOf d) k base) (only one-diagnostic)) (parts (nodesOf d) k kd)
+    → FitsIn (both (infers (nodesOf d) k base) (only one-diagnostic)) (parts (nodesOf d) k kd)
 unfolding sumOf
 base-fits d k base kd e = rw e (record { grade = omega (arith, size-pos (nodesOf d) k base); records = omega arith; fields = omega arith })
 
@@ -97,7 +97,7 @@ unfolding kindW inferKind exprNodes select repr
 select-head = record { other = λ x e. clash (cc e); part = refl; is = λ d b c. refl }
 
 -- ---- A fact's key
-fact-fits : (d : Described) (k p key : ℕ) → Holds (both (checks (nodesOf d) k key) (only no-thing)) (parts (nodesOf d) k (ExprKind.Fact p key))
+fact-fits : (d : Described) (k p key : ℕ) → FitsIn (both (checks (nodesOf d) k key) (only no-thing)) (parts (nodesOf d) k (ExprKind.Fact p key))
 unfolding sumOf exprNodes
 fact-fits d k p key = record { grade = omega arith; records = omega arith; fields = omega arith }
 

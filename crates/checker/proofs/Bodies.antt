@@ -44,7 +44,7 @@ use Rattle.steps.specs.declared.Typed.the-variants as Typed
 use Rattle.state.specs.declared.Done.{Done}
 use Rattle.state.specs.declared.Done.the-variants as Done
 use Rattle.steps.specs.Ends.{typed, done, Ends}
-use Rattle.steps.specs.Loads.{Load, only, both, Holds, infers, visits, parts, Begins}
+use Rattle.steps.specs.Loads.{Load, only, both, FitsIn, infers, visits, parts, Begins}
 use Rattle.steps.specs.Contracts.{nodesOf, onlyW, Leaves, Named, AllNamed, Asks}
 use Rattle.checker.specs.Contracts.{below, Infers, Generates, Sides, Binds, Denies, Compares, NotYets, Destructures, BindsVariable, States}
 use Rattle.checker.specs.Contracts.{StatesAll, Subqueries}
@@ -246,7 +246,7 @@ stmt-sum (QueryStmt.Implicit e) ss g = omega arith
 stmt-sum (QueryStmt.Negation e) ss g = omega arith
 
 stmt-fits : (d : Described) (k : ℕ) (s : QueryStmt) (ss : List QueryStmt)
-    → Holds (both (visits (nodesOf d) k (stmtNodes (s ∷ []))) (visits (nodesOf d) k (stmtNodes ss))) (visits (nodesOf d) k (stmtNodes (s ∷ ss)))
+    → FitsIn (both (visits (nodesOf d) k (stmtNodes (s ∷ []))) (visits (nodesOf d) k (stmtNodes ss))) (visits (nodesOf d) k (stmtNodes (s ∷ ss)))
 stmt-fits d k s ss =
     let size = stmt-sum s ss (λ n. Weights.size (nodesOf d) k n) in
     record {
@@ -382,7 +382,7 @@ module _ {f w₀ ou₀ w ou : List ℕ} {body : Stmts} {left at rest : ℕ} (A :
     }
 
 -- ---- A subquery
-subquery-fits : (d : Described) (k : ℕ) (q : Query) → Holds (both (visits (nodesOf d) k (stmtNodes (q .body))) (infers (nodesOf d) k (q .head)))
+subquery-fits : (d : Described) (k : ℕ) (q : Query) → FitsIn (both (visits (nodesOf d) k (stmtNodes (q .body))) (infers (nodesOf d) k (q .head)))
     (parts (nodesOf d) k (ExprKind.Subquery q))
 unfolding exprNodes queryNodes sumOf
 subquery-fits d k q = record { grade = omega arith; records = omega arith; fields = omega arith }

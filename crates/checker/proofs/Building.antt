@@ -13,7 +13,7 @@ use Rattle.meaning.specs.Check.{Checker, Step, goes, out, Does, andThen, inferF
 use Rattle.meaning.specs.Weights.{sumOf, records, recordsOf, recordFields, fieldsOf}
 use Rattle.meaning.specs.Grades.{visiting}
 use Rattle.meaning.proofs.Visits.{size-pos}
-use Rattle.steps.specs.Loads.{Load, both, Holds, infers, parts}
+use Rattle.steps.specs.Loads.{Load, both, FitsIn, infers, parts}
 use Rattle.steps.specs.Contracts.{nodesOf}
 use Rattle.checker.specs.Contracts.{below}
 use Rattle.steps.proofs.Sequel.{andThen-assoc}
@@ -58,11 +58,11 @@ builds d k fs = record {
 }
 
 -- `reserve` takes the record's own fields.
-pub reserve-fits : (d : Described) (k : ℕ) (fs : List Field) → Holds
+pub reserve-fits : (d : Described) (k : ℕ) (fs : List Field) → FitsIn
     (both (record { grade = visiting (nodesOf d) k []; records = 0; fields = length fs }) (builds d k fs)) (parts (nodesOf d) k (ExprKind.Record fs))
 unfolding exprNodes recordsOf fieldsOf sumOf
 reserve-fits d k fs = record { grade = omega arith; records = omega arith; fields = omega arith }
 
-pub built-fits : (d : Described) (k : ℕ) (x : Field) (fs : List Field) → Holds (both (infers (nodesOf d) k (x .value)) (builds d k fs)) (builds d k (x ∷ fs))
+pub built-fits : (d : Described) (k : ℕ) (x : Field) (fs : List Field) → FitsIn (both (infers (nodesOf d) k (x .value)) (builds d k fs)) (builds d k (x ∷ fs))
 unfolding fieldValues sumOf
 built-fits d k x fs = record { grade = omega (arith, size-pos (nodesOf d) k (x .value)); records = omega arith; fields = omega arith }

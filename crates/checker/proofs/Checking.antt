@@ -39,7 +39,7 @@ use Rattle.steps.specs.declared.Typed.the-variants as Typed
 use Rattle.state.specs.declared.Done.{Done}
 use Rattle.state.specs.declared.Done.the-variants as Done
 use Rattle.steps.specs.Ends.{Result, typed, done, silent, unified, IsUnified, Gone, Ends, went, spent}
-use Rattle.steps.specs.Loads.{Load, only, both, Holds, infers, checks, Begins}
+use Rattle.steps.specs.Loads.{Load, only, both, FitsIn, infers, checks, Begins}
 use Rattle.steps.specs.Contracts.{nodesOf, Fine, UnifiesTo, Reports, RollsTo, Named, Node-at}
 use Rattle.checker.specs.Contracts.{below, Infers, InfersThenUnifies, Checks}
 use Rattle.checker.proofs.Within.{ChecksField}
@@ -53,7 +53,7 @@ use Rattle.checker.proofs.Bodies.{made-env, made-marks}
 abbrev pub markOf : Checker → Mark
 markOf c = record { state = Bindings.snapshot (c .state); env = length (c .env); marks = length (c .marks) }
 
-same-load : (G : Load) → Holds (both G (only no-thing)) G
+same-load : (G : Load) → FitsIn (both G (only no-thing)) G
 same-load G = record { grade = omega arith; records = omega arith; fields = omega arith }
 
 module _ {f w ou w₂ ou₂ w₃ ou₃ : List ℕ} {T : Rows} {d : Described} {left v : ℕ} {c b : Checker} (G : Load) {A : Type 0} {E : Result A} {a : A}
@@ -99,10 +99,10 @@ carried x i (went g) = went (record {
 carried x i (spent g) = absurd (g .is .0)
 
 -- ---- `infer_then_unify`
-checks-fits : (d : Described) (k n : ℕ) → Holds (both (infers (nodesOf d) k n) (only one-diagnostic)) (checks (nodesOf d) k n)
+checks-fits : (d : Described) (k n : ℕ) → FitsIn (both (infers (nodesOf d) k n) (only one-diagnostic)) (checks (nodesOf d) k n)
 checks-fits d k n = record { grade = omega (arith, size-pos (nodesOf d) k n); records = omega arith; fields = omega arith }
 
-unify-fits : Holds (both (only no-thing) (only one-diagnostic)) (only one-diagnostic)
+unify-fits : FitsIn (both (only no-thing) (only one-diagnostic)) (only one-diagnostic)
 unify-fits = record { grade = omega arith; records = omega arith; fields = omega arith }
 
 -- What follows a unification.

@@ -19,7 +19,7 @@ use Rattle.steps.specs.declared.Typed.the-variants as Typed
 use Rattle.state.specs.declared.Done.{Done}
 use Rattle.state.specs.declared.Done.the-variants as Done
 use Rattle.steps.specs.Ends.{typed, done, Ends}
-use Rattle.steps.specs.Loads.{Load, only, both, Holds, visits, Begins}
+use Rattle.steps.specs.Loads.{Load, only, both, FitsIn, visits, Begins}
 use Rattle.steps.specs.Contracts.{nodesOf, BringsSide, compareTypes, ComparesTypes, Named}
 use Rattle.checker.specs.Contracts.{below, Infers, Compares}
 use Rattle.steps.proofs.Results.{fine-after, tree-after, then-typed, stop-typed, then-silent}
@@ -50,7 +50,7 @@ last d k rhs = both (lates d k rhs (formAt d rhs)) (only one-diagnostic)
 abbrev sides : Described → ℕ → ℕ → ℕ → Load
 sides d k lhs rhs = both (lates d k lhs (formAt d lhs)) (last d k rhs)
 
-all-fits : (d : Described) (k lhs rhs : ℕ) → Holds
+all-fits : (d : Described) (k lhs rhs : ℕ) → FitsIn
     (both (only (introducing (formAt d lhs))) (both (only (introducing (formAt d rhs))) (sides d k lhs rhs))) (visits (nodesOf d) k (lhs ∷ rhs ∷ []))
 unfolding sumOf
 all-fits d k lhs rhs = record {
@@ -65,7 +65,7 @@ all-fits d k lhs rhs = record {
   fields = omega arith;
 }
 
-as-it-is : (G H : Load) → Holds (both G H) (both G H)
+as-it-is : (G H : Load) → FitsIn (both G H) (both G H)
 as-it-is G H = record { grade = omega arith; records = omega arith; fields = omega arith }
 
 module _ {f w ou w₁ ou₁ w₂ ou₂ w₃ ou₃ : List ℕ} {lhs rhs left : ℕ} {r : Typed} (A : BringsSide f w ou lhs left w₁ ou₁)

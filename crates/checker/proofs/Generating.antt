@@ -24,7 +24,7 @@ use Rattle.tree.specs.Nodes.{itemW, itemsFrom, kindW, IsNode}
 use Rattle.steps.specs.declared.Typed.{Typed}
 use Rattle.steps.specs.declared.Typed.the-variants as Typed
 use Rattle.steps.specs.Ends.{typed, Ends}
-use Rattle.steps.specs.Loads.{Load, only, both, Holds, infers, visits, Begins, Beside}
+use Rattle.steps.specs.Loads.{Load, only, both, FitsIn, infers, visits, Begins, Beside}
 use Rattle.steps.specs.Contracts.{nodesOf, Always, Fine, Notes, Named, AllNamed}
 use Rattle.checker.specs.Contracts.{below, Infers, Generates, Branches}
 use Rattle.steps.proofs.Sequel.{Led}
@@ -46,7 +46,7 @@ pub record Last (f w₀ ou₀ w ou : List ℕ) (T : Rows) (d : Described) (k : �
   pub fine : Fine w t (mid .T₁) (mid .b)
   pub is : tree (mid .T₁) t ≡ ty
 
-branch-fits : (d : Described) (k e : ℕ) (es : List ℕ) → Holds (both (infers (nodesOf d) k e) (visits (nodesOf d) k es)) (visits (nodesOf d) k (e ∷ es))
+branch-fits : (d : Described) (k e : ℕ) (es : List ℕ) → FitsIn (both (infers (nodesOf d) k e) (visits (nodesOf d) k es)) (visits (nodesOf d) k (e ∷ es))
 unfolding sumOf
 branch-fits d k e es = record { grade = omega (arith, size-pos (nodesOf d) k e); records = omega arith; fields = omega arith }
 
@@ -134,7 +134,7 @@ module _ {f w₀ ou₀ w ou : List ℕ} {l : Items} {t : Ty} {left i rest : ℕ}
 
 -- ---- `generator`
 generates-fits : (d : Described) (k n : ℕ) (es : List ℕ) → nodeAt (nodesOf d) n .kind ≡ ExprKind.Disjunction es
-    → Holds (both (visits (nodesOf d) k es) (only (one-node n))) (infers (nodesOf d) (suc k) n)
+    → FitsIn (both (visits (nodesOf d) k es) (only (one-node n))) (infers (nodesOf d) (suc k) n)
 unfolding weight exprNodes
 generates-fits d k n es e = rw e (record { grade = omega arith; records = omega arith; fields = omega arith })
 

@@ -26,7 +26,7 @@ use Rattle.tree.specs.Nodes.{kindW, IsNode}
 use Rattle.steps.specs.declared.Typed.{Typed}
 use Rattle.steps.specs.declared.Typed.the-variants as Typed
 use Rattle.steps.specs.Ends.{typed, numbered, Ends}
-use Rattle.steps.specs.Loads.{Load, only, both, Holds, infers, finds, parts, Begins, Beside}
+use Rattle.steps.specs.Loads.{Load, only, both, FitsIn, infers, finds, parts, Begins, Beside}
 use Rattle.steps.specs.Contracts.{nodesOf, Always, Fine, Notes, Freshens, Brings, Named, AllNamed, Node-at}
 use Rattle.checker.specs.Contracts.{below, Infers, InfersKind}
 use Rattle.steps.proofs.Sequel.{begins-part}
@@ -53,11 +53,11 @@ module _ {f w ou w₁ ou₁ : List ℕ} {n left : ℕ} {r : Typed} (i : InfersKi
   at-node : {d : Described} {k : ℕ} → Named d (suc k) n → Node-at d k n
   at-node h = record { there = h .there; above = omega (arith, h .under) }
 
-  infers-fits : (d : Described) (k : ℕ) → Holds (both (parts (nodesOf d) k (nodeAt (nodesOf d) n .kind)) (only (one-node n))) (infers (nodesOf d) (suc k) n)
+  infers-fits : (d : Described) (k : ℕ) → FitsIn (both (parts (nodesOf d) k (nodeAt (nodesOf d) n .kind)) (only (one-node n))) (infers (nodesOf d) (suc k) n)
   unfolding weight
   infers-fits d k = record { grade = omega arith; records = omega arith; fields = omega arith }
 
-  finds-fits : (d : Described) (k : ℕ) → Holds (both (only no-thing) (only (one-node n))) (finds (nodesOf d) (suc k) n)
+  finds-fits : (d : Described) (k : ℕ) → FitsIn (both (only no-thing) (only (one-node n))) (finds (nodesOf d) (suc k) n)
   finds-fits d k = record {
     grade = record { nodes = λ x. omega (arith, own-weight (nodesOf d) (λ m. same x m) (suc k) n); unknowns = omega arith; diagnostics = omega arith };
     records = omega arith;
@@ -180,7 +180,7 @@ fresh-ends {T = T} {d = d} {x = x} {c = c} new s =
     (λ y. freshVarId-meets c (s .orderly)) (λ s₁. new d .is T c s₁ tt)
     (λ T₁ b a h. type-here (Var x) (a .begins .runs) (a .begins .lines) (a .begins .visits) (ok-unknown (a .begins .runs) h))
 
-pub fresh-fits : (d : Described) (k : ℕ) (kd : ExprKind) → Holds (only one-unknown) (parts (nodesOf d) k kd)
+pub fresh-fits : (d : Described) (k : ℕ) (kd : ExprKind) → FitsIn (only one-unknown) (parts (nodesOf d) k kd)
 fresh-fits d k kd = record { grade = omega arith; records = omega arith; fields = omega arith }
 
 module _ {f w ou w′ ou′ : List ℕ} {n left x : ℕ} (new : Freshens f w ou left w′ ou′ x) where

@@ -15,7 +15,7 @@ use Rattle.meaning.proofs.Meets.{Meets, made-more}
 use Rattle.cells.specs.Inferred.{More}
 use Rattle.state.specs.Runs.{Grew}
 use Rattle.steps.specs.Ends.{Result, Gone, Ends, went, spent}
-use Rattle.steps.specs.Loads.{Load, both, Holds, Begins}
+use Rattle.steps.specs.Loads.{Load, both, FitsIn, Begins}
 use Rattle.steps.specs.Contracts.{Fine}
 use Rattle.cells.proofs.Frame.{tree-more, more-refl}
 use Rattle.steps.proofs.Growing.{ok-kept, more-trans, grew-refl, grew-trans}
@@ -90,7 +90,7 @@ module _ {A : Type 0} {f w₀ ou₀ w ou : List ℕ} {T : Rows} {d : Described} 
       go (spent g) = spent (on g)
 
   -- A turn that goes on.
-  module _ {B : Type 0} {w₁ ou₁ : List ℕ} (G H′ : Load) (fits : Holds (both G H′) H) {E : Result B} (P : B → Checker → Type 0) (m : Step B) where
+  module _ {B : Type 0} {w₁ ou₁ : List ℕ} (G H′ : Load) (fits : FitsIn (both G H′) H) {E : Result B} (P : B → Checker → Type 0) (m : Step B) where
     pub mid-led : ¬ (E .Out) → (Ready (G .grade) (M .b) → Meets P (G .grade) (M .b) m)
         → (Begins f w ou (M .T₁) d G left (M .b) → Ends f w ou w₁ ou₁ (M .T₁) d (G .records) (G .fields) E m) → Led f w ou w₁ ou₁ (M .T₁) d G E P (M .b) m
     mid-led never meets first = let s = begins-part G H (holds-left G H′ H fits) (M .begins) in led G P never (meets (s .free .ready)) (first s)

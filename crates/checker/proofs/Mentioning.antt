@@ -32,7 +32,7 @@ use Rattle.tree.specs.Nodes.{fieldW, fieldOf, fieldsFrom}
 use Rattle.state.specs.declared.Done.{Done}
 use Rattle.state.specs.declared.Done.the-variants as Done
 use Rattle.steps.specs.Ends.{done, Ends}
-use Rattle.steps.specs.Loads.{Load, both, Holds, checks, visits, Begins}
+use Rattle.steps.specs.Loads.{Load, both, FitsIn, checks, visits, Begins}
 use Rattle.steps.specs.Contracts.{nodesOf, FineRecord, Rejects, Named, AllNamed}
 use Rattle.checker.specs.Contracts.{below, Mentions, ChecksFields}
 use Rattle.checker.proofs.Within.{ChecksField}
@@ -88,7 +88,7 @@ abbrev pub mentioningAll : Described → ℕ → Tree.Row → List Syntax.Field 
 mentioningAll d k row fs = checkFields (d .schema) (nodesOf d) (below d k) fs row
 
 some-fits : (d : Described) (k : ℕ) (x : Syntax.Field) (fs : List Syntax.Field)
-    → Holds (both (checks (nodesOf d) k (x .value)) (visits (nodesOf d) k (fieldValues fs))) (visits (nodesOf d) k (fieldValues (x ∷ fs)))
+    → FitsIn (both (checks (nodesOf d) k (x .value)) (visits (nodesOf d) k (fieldValues fs))) (visits (nodesOf d) k (fieldValues (x ∷ fs)))
 unfolding fieldValues sumOf
 some-fits d k x fs = record { grade = omega arith; records = omega arith; fields = omega arith }
 

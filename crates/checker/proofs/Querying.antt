@@ -34,7 +34,7 @@ use Rattle.state.specs.Lines.{untilOf}
 use Rattle.state.specs.declared.Done.{Done}
 use Rattle.state.specs.declared.Done.the-variants as Done
 use Rattle.steps.specs.Ends.{typed, counted, silent, Ends, went, spent}
-use Rattle.steps.specs.Loads.{Load, only, both, Holds, infers, visits, Begins}
+use Rattle.steps.specs.Loads.{Load, only, both, FitsIn, infers, visits, Begins}
 use Rattle.steps.specs.Contracts.{nodesOf, onlyW, Leaves, Starts, Named, AllNamed, Heads}
 use Rattle.steps.specs.Outside.{ChecksHead, StartsRun}
 use Rattle.checker.specs.Contracts.{below, Infers, StatesAll, Ran, to-the-end, ended-early, runUntil, Queries}
@@ -47,7 +47,7 @@ use Rattle.checker.proofs.Bodies.{sayingAll}
 abbrev depth : Described → ℕ
 depth d = length (nodesOf d)
 
-query-fits : (d : Described) (q : Query) → Holds
+query-fits : (d : Described) (q : Query) → FitsIn
     (both (visits (nodesOf d) (depth d) (stmtNodes (q .body))) (both (only one-diagnostic) (infers (nodesOf d) (depth d) (q .head))))
     (visits (nodesOf d) (depth d) (queryNodes q))
 unfolding queryNodes sumOf
@@ -89,7 +89,7 @@ module _ {f w ou w₁ ou₁ : List ℕ} {body : Stmts} {left : ℕ} {x : Done} (
         (λ s₁. S .is d k (q .body) e (named .1) .is T c s₁ tt)
         (λ T₁ b a. rest T₁ b (a .begins))
 
-    abbrev head-fits : Holds (both (only one-diagnostic) (infers (nodesOf d) (depth d) (q .head)))
+    abbrev head-fits : FitsIn (both (only one-diagnostic) (infers (nodesOf d) (depth d) (q .head)))
         (both (only one-diagnostic) (infers (nodesOf d) (depth d) (q .head)))
     head-fits = record { grade = omega arith; records = omega arith; fields = omega arith }
 
@@ -121,7 +121,7 @@ module _ {f w ou : List ℕ} {left : ℕ} (T : Rows) (d : Described) (c : Checke
   abbrev whole : Load
   whole = visits (nodesOf d) (depth d) (queryNodes q)
 
-  whole-fits : Holds (both (visits (nodesOf d) (depth d) (queryNodes q)) (only no-thing)) (visits (nodesOf d) (depth d) (queryNodes q))
+  whole-fits : FitsIn (both (visits (nodesOf d) (depth d) (queryNodes q)) (only no-thing)) (visits (nodesOf d) (depth d) (queryNodes q))
   whole-fits = record { grade = omega arith; records = omega arith; fields = omega arith }
 
   pub query-stops : {w₁ ou₁ : List ℕ} → Ends f w ou w₁ ou₁ T d (whole .records) (whole .fields) (counted Done.Out) (inferQuery (d .schema) (nodesOf d) q c)

@@ -37,7 +37,7 @@ use Rattle.state.proofs.Recording.{reserve-runs, reserve-grew, put-field-runs, 
 use Rattle.steps.specs.declared.Typed.{Typed}
 use Rattle.steps.specs.declared.Typed.the-variants as Typed
 use Rattle.steps.specs.Ends.{typed, Ends, went}
-use Rattle.steps.specs.Loads.{Load, both, Holds, infers, parts, Begins}
+use Rattle.steps.specs.Loads.{Load, both, FitsIn, infers, parts, Begins}
 use Rattle.steps.specs.Contracts.{nodesOf, Named, AllNamed}
 use Rattle.checker.specs.Contracts.{below, Infers, InfersRecord}
 use Rattle.steps.proofs.Growing.{ok-kept, more-trans}
@@ -99,7 +99,7 @@ module _ {f w ou : List ℕ} {T : Rows} {d : Described} {left : ℕ} {c : Checke
   abbrev given : Load
   given = record { grade = visiting (nodesOf d) k []; records = 0; fields = n }
 
-  given-fits : Holds (both given (builds d k fs)) (parts (nodesOf d) k (ExprKind.Record fs))
+  given-fits : FitsIn (both given (builds d k fs)) (parts (nodesOf d) k (ExprKind.Record fs))
   given-fits = rw (← many) (reserve-fits d k fs)
 
   given-room : getD w RECORD-FIELD-COUNT 0 + n ≤ 512

@@ -21,7 +21,7 @@ use Rattle.steps.specs.declared.Typed.the-variants as Typed
 use Rattle.state.specs.declared.Done.{Done}
 use Rattle.state.specs.declared.Done.the-variants as Done
 use Rattle.steps.specs.Ends.{done, Ends}
-use Rattle.steps.specs.Loads.{Load, only, both, Holds, infers, visits, Begins}
+use Rattle.steps.specs.Loads.{Load, only, both, FitsIn, infers, visits, Begins}
 use Rattle.steps.specs.Contracts.{nodesOf, Fine, Notes, Rejects, Brings, UnifiesAt, onlyW, Named}
 use Rattle.checker.specs.Contracts.{below, Infers, Sides, NotYets, Destructures, BindsVariable}
 use Rattle.checker.proofs.Within.{BadTargets}
@@ -40,7 +40,7 @@ right-ends : {f w ou w′ ou′ : List ℕ} {rhs left : ℕ} {r : Typed} {T : Ro
 unfolding onlyRight
 right-ends {rhs = rhs} {T = T} {d = d} {k = k} {c = c} I named s = only-ends (below d k .infer rhs c) (I .is d k named .is T c s tt)
 
-right-fits : (d : Described) (k lhs rhs : ℕ) → Holds (both (only one-diagnostic) (infers (nodesOf d) k rhs)) (visits (nodesOf d) k (lhs ∷ rhs ∷ []))
+right-fits : (d : Described) (k lhs rhs : ℕ) → FitsIn (both (only one-diagnostic) (infers (nodesOf d) k rhs)) (visits (nodesOf d) k (lhs ∷ rhs ∷ []))
 unfolding sumOf
 right-fits d k lhs rhs = record { grade = omega (arith, size-pos (nodesOf d) k lhs); records = omega arith; fields = omega arith }
 
@@ -85,7 +85,7 @@ module _ {f w ou w₁ ou₁ : List ℕ} {lhs rhs left : ℕ} {m : Message} {x : 
 abbrev two : Described → ℕ → ℕ → ℕ → Load
 two d k lhs rhs = both (infers (nodesOf d) k lhs) (infers (nodesOf d) k rhs)
 
-both-fits : (d : Described) (k lhs rhs : ℕ) → Holds (both (only one-diagnostic) (both (infers (nodesOf d) k lhs) (infers (nodesOf d) k rhs)))
+both-fits : (d : Described) (k lhs rhs : ℕ) → FitsIn (both (only one-diagnostic) (both (infers (nodesOf d) k lhs) (infers (nodesOf d) k rhs)))
     (visits (nodesOf d) k (lhs ∷ rhs ∷ []))
 unfolding sumOf
 both-fits d k lhs rhs = record { grade = omega (arith, size-pos (nodesOf d) k lhs); records = omega arith; fields = omega arith }
@@ -137,7 +137,7 @@ module _ {f w ou w₁ ou₁ w₂ ou₂ : List ℕ} {lhs rhs left v : ℕ} {m : M
   }
 
 -- ---- The right side inferred and unified with a type in hand
-unified-fits : (d : Described) (k rhs : ℕ) → Holds (both (infers (nodesOf d) k rhs) (only one-diagnostic))
+unified-fits : (d : Described) (k rhs : ℕ) → FitsIn (both (infers (nodesOf d) k rhs) (only one-diagnostic))
     (both (infers (nodesOf d) k rhs) (only one-diagnostic))
 unified-fits d k rhs = record { grade = omega arith; records = omega arith; fields = omega arith }
 
@@ -162,7 +162,7 @@ module _ {f w ou w₁ ou₁ : List ℕ} {rhs left : ℕ} {r : Typed} {t : Ty} {T
       (λ s₁. I .is d k named .is T c s₁ tt)
 
 -- ---- A record on the left
-pattern-fits : (d : Described) (k lhs rhs : ℕ) → Holds (both (infers (nodesOf d) k lhs) (both (infers (nodesOf d) k rhs) (only one-diagnostic)))
+pattern-fits : (d : Described) (k lhs rhs : ℕ) → FitsIn (both (infers (nodesOf d) k lhs) (both (infers (nodesOf d) k rhs) (only one-diagnostic)))
     (visits (nodesOf d) k (lhs ∷ rhs ∷ []))
 unfolding sumOf
 pattern-fits d k lhs rhs = record { grade = omega (arith, size-pos (nodesOf d) k rhs); records = omega arith; fields = omega arith }
@@ -207,7 +207,7 @@ module _ {f w ou w₁ ou₁ : List ℕ} {lhs rhs left : ℕ} {r : Typed} (I : In
     destructure-right-out h = destructured g (λ d k nr T c fine s. unified-out J nr fine s h)
 
 -- ---- A wildcard on the left
-wildcard-fits : (d : Described) (k lhs rhs : ℕ) → Holds (both (infers (nodesOf d) k rhs) (only (one-node lhs))) (visits (nodesOf d) k (lhs ∷ rhs ∷ []))
+wildcard-fits : (d : Described) (k lhs rhs : ℕ) → FitsIn (both (infers (nodesOf d) k rhs) (only (one-node lhs))) (visits (nodesOf d) k (lhs ∷ rhs ∷ []))
 unfolding sumOf
 wildcard-fits d k lhs rhs = record {
   grade = record { nodes = λ x. omega (arith, own-weight (nodesOf d) (λ m. same x m) k lhs); unknowns = omega arith; diagnostics = omega arith };
@@ -243,7 +243,7 @@ module _ {f w ou w₁ ou₁ : List ℕ} {lhs rhs left : ℕ} {r : Typed} (I : In
   }
 
 -- ---- A variable on the left
-noted-fits : (d : Described) (k lhs rhs : ℕ) → Holds
+noted-fits : (d : Described) (k lhs rhs : ℕ) → FitsIn
     (both (only one-unknown) (both (only (one-node lhs)) (both (infers (nodesOf d) k rhs) (only one-diagnostic)))) (visits (nodesOf d) k (lhs ∷ rhs ∷ []))
 unfolding sumOf
 noted-fits d k lhs rhs = record {

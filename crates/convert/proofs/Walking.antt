@@ -20,7 +20,7 @@ use Rattle.meaning.proofs.Bytes.{written-bytes}
 use Rattle.meaning.proofs.Written.{lineOf, at-most, said-line}
 use Rattle.meaning.proofs.Tests.{cases}
 use Rattle.hex.proofs.Line.{lines-at-end}
-use Rattle.frames.specs.Contracts.{Holds, Malformed}
+use Rattle.frames.specs.Contracts.{BytesAt, Malformed}
 use Rattle.writer.specs.declared.Wrote.{Wrote}
 use Rattle.writer.specs.declared.Wrote.the-variants.{To, Full}
 use Rattle.writer.specs.Writes.{Writes}
@@ -47,7 +47,7 @@ bytes-of : (e : Edition) (g : Frame) → Writable e g → bytesOf (lineOf e g) �
 unfolding bytesOf someBytes written
 bytes-of e g w = ap someBytes (decoded-hex (written e g) (written-bytes e g (w .fits))) ∙ at-most maxBytes (written e g) (w .short)
 
-pub step : (e : Edition) {f line : List ℕ} {at n next : ℕ} → Holds f at line n next → (fs : List Frame) → LinesAre e (drop at f) fs → First e f line n next fs
+pub step : (e : Edition) {f line : List ℕ} {at n next : ℕ} → BytesAt f at line n next → (fs : List Frame) → LinesAre e (drop at f) fs → First e f line n next fs
 step e {f} {line} {at} {n} {next} h fs a = go fs (sym (ap (map (said e)) (h .splits)) ∙ a)
   where
     made : (g : Frame) (gs : List Frame) → said e (h .first) ≡ frames g → LinesAre e (drop next f) gs → First e f line n next (g ∷ gs)
@@ -110,7 +110,7 @@ module _ (e : Edition) {f out₀ : List ℕ} {at : ℕ} {out : List ℕ} {to : �
     long = c .long;
   }
 
-  module _ {line : List ℕ} {n next : ℕ} (d : Holds f at line n next) {out′ : List ℕ} {r : Wrote} (w : ConvertsLine e out to (take (n - 0) line) out′ r) where
+  module _ {line : List ℕ} {n next : ℕ} (d : BytesAt f at line n next) {out′ : List ℕ} {r : Wrote} (w : ConvertsLine e out to (take (n - 0) line) out′ r) where
     record Turn (fs : List Frame) : Type 0 where
       rest : List Frame
       are : LinesAre e (drop next f) rest
@@ -185,7 +185,7 @@ module _ {f : List ℕ} {least at : ℕ} (c : Seeking f least at) where
   unfolding flatMap anyOf
   seeking-done l = record { is = λ fs a. let k = c .left fs a in sym (k .2 ∙ ap found (at-end wide f at l (k .0) (k .1))) }
 
-  module _ {line : List ℕ} {n next : ℕ} (d : Holds f at line n next) {r : Bool} (w : NamesFrom (take (n - 0) line) least r) where
+  module _ {line : List ℕ} {n next : ℕ} (d : BytesAt f at line n next) {r : Bool} (w : NamesFrom (take (n - 0) line) least r) where
     -- what the line names
     on-line : {fs : List Frame} (i : First wide f line n next fs) → r ≡ anyOf (leb least) (predicates (i .first))
     on-line i = w .is (i .first) (cut line n ∙ i .bytes) (i .writable .fits)

@@ -16,7 +16,7 @@ use Rattle.hex.proofs.Line.{is-digit, no-digit, pair-within, pair-past, pair-be
 use Rattle.hex.proofs.Line.{prefixed-nil, prefixed-twice, lines-at-LF, lines-split, decoded-on, others-on}
 use Rattle.hex.proofs.Bytes.{From, ends, from, bytes-of, bytes-enough, bytes-too-many}
 use Rattle.frames.specs.declared.lines.Decoded.the-variants.{Bytes, Bad}
-use Rattle.frames.specs.Contracts.{Holds, Malformed, Decodes}
+use Rattle.frames.specs.Contracts.{BytesAt, Malformed, Decodes}
 
 -- ---- Two digits
 
@@ -110,7 +110,7 @@ module _ {f : List ℕ} {at : ℕ} {line : List ℕ} {i n : ℕ} (r : SoFar f at
       unfolding someBytes
       empty e z = malformed (ap someBytes (closed-here e ∙ ap (λ k. some (take k line)) z))
 
-      pub whole : getD f i 0 ≡ LF → (n ≡ 0 → ⊥) → Holds f at line n (i + 1)
+      pub whole : getD f i 0 ≡ LF → (n ≡ 0 → ⊥) → BytesAt f at line n (i + 1)
       whole e z =
           let some-byte : 0 < n = omega arith in
           let long : length (take n line) ≡ n = length-take-le n line (omega (arith, r .room, r .most)) in
@@ -146,18 +146,18 @@ module _ {f : List ℕ} {at : ℕ} {line : List ℕ} {i n : ℕ} (r : SoFar f at
 pub bad : {f : List ℕ} {at : ℕ} {line : List ℕ} {i n : ℕ} → SoFar f at line i n → (at < length f → Malformed f at) → Decodes f at line Bad
 bad r m = record { room = r .room; holds = λ n next e. let z : _≡_ {A = ℕ} 0 1 = cc in absurd (omega arith); fails = λ _. m }
 
-pub good : {f : List ℕ} {at : ℕ} {line : List ℕ} {i n next : ℕ} → SoFar f at line i n → Holds f at line n next → Decodes f at line (Bytes n next)
+pub good : {f : List ℕ} {at : ℕ} {line : List ℕ} {i n next : ℕ} → SoFar f at line i n → BytesAt f at line n next → Decodes f at line (Bytes n next)
 good {f} {at} {line} {i} {n} {next} r h =
     record {
       room = r .room;
       holds = λ m on e.
           let u : n ≡ m = cc in
           let v : next ≡ on = cc in
-          subst (λ k. Holds f at line k on) u (subst (λ k. Holds f at line n k) v h);
+          subst (λ k. BytesAt f at line k on) u (subst (λ k. BytesAt f at line n k) v h);
       fails = λ e _. let z : _≡_ {A = ℕ} 0 1 = cc in absurd (omega arith);
     }
 
 -- The same by the line at a place.
-pub holds-line : (f : List ℕ) (at : ℕ) (line : List ℕ) (n next : ℕ) → Holds f at line n next → lineAt f at ≡ some (take n line)
+pub holds-line : (f : List ℕ) (at : ℕ) (line : List ℕ) (n next : ℕ) → BytesAt f at line n next → lineAt f at ≡ some (take n line)
 unfolding lineAt
 holds-line f at line n next h = ap firstLine (h .splits) ∙ h .bytes

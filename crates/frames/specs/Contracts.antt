@@ -14,7 +14,7 @@ use Rattle.frames.specs.declared.lines.Decoded.the-variants.{Bytes, Bad}
 -- ---- Lines
 
 -- The line at a place is well formed, and its bytes are the first n of `line`; the next line starts at `next`.
-pub record Holds (file : List ℕ) (at : ℕ) (line : List ℕ) (n next : ℕ) : Type 0 where
+pub record BytesAt (file : List ℕ) (at : ℕ) (line : List ℕ) (n next : ℕ) : Type 0 where
   pub first : Line
   pub splits : lines (drop at file) ≡ first ∷ lines (drop next file)
   pub bytes : bytesOf first ≡ some (take n line)
@@ -33,7 +33,7 @@ pub record Malformed (file : List ℕ) (at : ℕ) : Type 0 where
 
 pub record Decodes (file : List ℕ) (at : ℕ) (line : List ℕ) (r : Decoded) : Type 0 where
   pub room : length line ≡ 512
-  pub holds : (n next : ℕ) → r ≡ Bytes n next → Holds file at line n next
+  pub holds : (n next : ℕ) → r ≡ Bytes n next → BytesAt file at line n next
   pub fails : r ≡ Bad → at < length file → Malformed file at
 
 -- ---- Kinds

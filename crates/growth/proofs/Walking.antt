@@ -16,7 +16,7 @@ use Rattle.meaning.specs.Writing.{written, Writable}
 use Rattle.meaning.proofs.Tests.{cases}
 use Rattle.meaning.proofs.Hex.{hexes}
 use Rattle.meaning.proofs.Written.{says}
-use Rattle.frames.specs.Contracts.{byteW, Holds, Malformed}
+use Rattle.frames.specs.Contracts.{byteW, BytesAt, Malformed}
 use Rattle.convert.specs.Lines.{LinesAre}
 use Rattle.convert.proofs.Walking.{cut, step, no-bad, at-end}
 use Rattle.growth.specs.declared.Beside.{Beside}
@@ -167,7 +167,7 @@ module _ {old new : List ℕ} {i j : ℕ} (c : Walking old new i j) where
       shorter (f ∷ fs) [] e l a h = h
       shorter (f ∷ fs) (g ∷ gs) e l a h = let z : _≡_ {A = ℕ} 0 1 = cc in omega arith
 
-  module _ {a b : List ℕ} {n next m after : ℕ} (d : Holds old i a n next) (e : Holds new j b m after) where
+  module _ {a b : List ℕ} {n next m after : ℕ} (d : BytesAt old i a n next) (e : BytesAt new j b m after) where
     -- a line of each
     record Turn (r : Beside) (fs gs : List Frame) : Type 0 where
       left : Frame

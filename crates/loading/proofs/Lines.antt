@@ -16,7 +16,7 @@ use Rattle.meaning.proofs.Written.{kind-byte}
 use Rattle.meaning.proofs.Places.{lined}
 use Rattle.meaning.proofs.Sound.{some-queries}
 use Rattle.hex.proofs.Line.{lines-at-end, lines-split}
-use Rattle.frames.specs.Contracts.{Holds}
+use Rattle.frames.specs.Contracts.{BytesAt}
 use Rattle.reading.proofs.AnyLine.{frame-kind}
 use Rattle.loading.specs.Contracts.{Ahead}
 
@@ -51,7 +51,7 @@ is-frame (b ∷ t) g e = kinds (kindOf b) refl e
     kinds (some k) q c = says k q (frameOf wide k t) refl c
 
 -- The line here is the first of the frames, and the others follow it.
-module _ {f : List ℕ} {at : ℕ} {line : List ℕ} {n next : ℕ} (h : Holds f at line n next) (g : Frame) (gs : List Frame)
+module _ {f : List ℕ} {at : ℕ} {line : List ℕ} {n next : ℕ} (h : BytesAt f at line n next) (g : Frame) (gs : List Frame)
     (e : map (said wide) (lines (drop at f)) ≡ frames g ∷ map frames gs) where
   both : saidBy wide (some (take n line)) ∷ map (said wide) (lines (drop next f)) ≡ frames g ∷ map frames gs
   unfolding said

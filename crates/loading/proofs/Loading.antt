@@ -22,7 +22,7 @@ use Rattle.meaning.specs.Conditions.{maxNames, maxPredicates, maxNodes}
 use Rattle.meaning.specs.Sound.{Sound}
 use Rattle.meaning.specs.Outcome.{minWords}
 use Rattle.hex.specs.Digits.{lineAt}
-use Rattle.frames.specs.Contracts.{Holds, Malformed, numberOf}
+use Rattle.frames.specs.Contracts.{BytesAt, Malformed, numberOf}
 use Rattle.frames.proofs.Decoding.{holds-line}
 use Rattle.tree.specs.Stands.{QueryIs, SchemaStands, Stands}
 use Rattle.state.proofs.Standing.{schema-stands}
@@ -118,7 +118,7 @@ module _ {f : List ℕ} {at : ℕ} {w₀ w : List ℕ} {i n : ℕ} (m : Loading 
       omega arith)
 
   -- ---- A line
-  module _ {line : List ℕ} {size next : ℕ} (h : Holds f i line size next) (kind : ℕ) (e : kind ≡ numberOf (kindOf (getD line 0 0))) where
+  module _ {line : List ℕ} {size next : ℕ} (h : BytesAt f i line size next) (kind : ℕ) (e : kind ≡ numberOf (kindOf (getD line 0 0))) where
     number : {g : Frame} → IsFrame (take size line) g → kind ≡ kindByte (frameKind g) - 1
     number x = e ∙ ap (λ b. numberOf (kindOf b)) (sym (first-taken Frame.wide h)) ∙ ap numberOf (x .kind)
 

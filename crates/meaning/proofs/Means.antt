@@ -17,7 +17,7 @@ use Rattle.meaning.specs.SoFar.{Said, malformed, unknownKind, noFrame, f
 use Rattle.meaning.specs.All.{All, Any, Absent}
 use Rattle.meaning.specs.Answer.{hexLine}
 use Rattle.meaning.specs.Writing.{Byte, asContent, written, Fits, Writable}
-use Rattle.meaning.specs.Means.{Malformed, empty, odd, otherCharacter, over, withoutLF, Holds, Means, is-malformed, is-unknown, is-no-frame, is-frame}
+use Rattle.meaning.specs.Means.{Malformed, empty, odd, otherCharacter, over, withoutLF, WrittenAs, Means, is-malformed, is-unknown, is-no-frame, is-frame}
 use Rattle.meaning.proofs.Tests.{cases}
 use Rattle.meaning.proofs.Hex.{hexes, line-hexes, decoded-hex, hex-no-LF, Hex, hex-decoded}
 use Rattle.meaning.proofs.Lines.{lines-closed}
@@ -106,14 +106,14 @@ one-line : (s : List ℕ) → All Byte s → lines (hexLine s) ≡ closed (hexes
 unfolding lines
 one-line s a = ap lines (line-hexes s) ∙ lines-closed (hexes s) [] (hex-no-LF s a)
 
-holds-line : {l : Line} (s : List ℕ) → Holds l s → l ≡ closed (hexes s)
+holds-line : {l : Line} (s : List ℕ) → WrittenAs l s → l ≡ closed (hexes s)
 holds-line s h = head-eq-of-cons-eq (sym (h .is) ∙ one-line s (h .each))
 
-holds : (s t : List ℕ) → Hex s t → length t ≤ maxBytes → Holds (closed s) t
+holds : (s t : List ℕ) → Hex s t → length t ≤ maxBytes → WrittenAs (closed s) t
 holds s t x n = record { is = one-line t (x .bytes) ∙ ap (λ z. closed z ∷ []) (sym (x .is)); each = x .bytes; short = n }
 
 module _ (ed : Edition) where
-  holds-said : {l : Line} (b : ℕ) (t : List ℕ) → Holds l (b ∷ t) → said ed l ≡ saidIn ed (kindOf b) t
+  holds-said : {l : Line} (b : ℕ) (t : List ℕ) → WrittenAs l (b ∷ t) → said ed l ≡ saidIn ed (kindOf b) t
   unfolding said saidBy bytesOf someBytes
   holds-said b t h =
       ap (said ed) (holds-line (b ∷ t) h)
@@ -148,13 +148,13 @@ module _ (ed : Edition) where
             short = i .writable .short;
           })
 
-      of-kind : (b : ℕ) (t : List ℕ) → Holds (closed s) (b ∷ t) → (o : Option Kind) → kindOf b ≡ o → Means ed (closed s) (saidIn ed o t)
+      of-kind : (b : ℕ) (t : List ℕ) → WrittenAs (closed s) (b ∷ t) → (o : Option Kind) → kindOf b ≡ o → Means ed (closed s) (saidIn ed o t)
       of-kind b t h none q = is-unknown b t h (λ k e. let z : some k ≡ none = sym (byte-kind k) ∙ ap kindOf e ∙ q in let o : _≡_ {A = ℕ} 0 1 = cc in
           omega arith)
       of-kind b t h (some k) q = content (frameOf ed k t) refl
         where
-          here : Holds (closed s) (kindByte k ∷ t)
-          here = subst (λ x. Holds (closed s) (x ∷ t)) (kind-byte b k q) h
+          here : WrittenAs (closed s) (kindByte k ∷ t)
+          here = subst (λ x. WrittenAs (closed s) (x ∷ t)) (kind-byte b k q) h
 
           content : (o : Option Frame) → frameOf ed k t ≡ o → Means ed (closed s) (saidOf k o)
           content none r = is-no-frame k t here (λ f fits e. let w : Writable ed f = record

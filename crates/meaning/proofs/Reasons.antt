@@ -19,7 +19,7 @@ use Rattle.meaning.specs.File.{maxFile}
 use Rattle.meaning.specs.Writing.{written, Fits}
 use Rattle.meaning.specs.Refused as Lines
 use Rattle.meaning.specs.Refused.{First, here, later, AtLine, tooLong, atLine, missingQuery}
-use Rattle.meaning.specs.Means.{Malformed, Holds, Means, is-malformed, is-unknown, is-no-frame, is-frame}
+use Rattle.meaning.specs.Means.{Malformed, WrittenAs, Means, is-malformed, is-unknown, is-no-frame, is-frame}
 use Rattle.meaning.specs.Reasons.{Reaches, NoFrame}
 use Rattle.meaning.specs.Outcome.{Refused, minWords, outcome}
 use Rattle.meaning.specs.Demands.{RefusedWhen, for-work, for-file, for-visits, for-answer}
@@ -163,7 +163,7 @@ no-frame {l = l} (is-no-frame k t h n) a =
     record {
       kind = a .kind;
       content = t;
-      bytes = subst (λ z. Holds l (kindByte z ∷ t)) same h;
+      bytes = subst (λ z. WrittenAs l (kindByte z ∷ t)) same h;
       placed = a .placed;
       few = a .few;
       fewQueries = a .fewQueries;

@@ -22,7 +22,7 @@ pub data Malformed : Line → Type 0 where
   withoutLF : {s : List ℕ} → Malformed (unclosed s)
 
 -- The line is what these bytes are written as.
-pub record Holds (l : Line) (bytes : List ℕ) : Type 0 where
+pub record WrittenAs (l : Line) (bytes : List ℕ) : Type 0 where
   pub is : lines (hexLine bytes) ≡ l ∷ []
   pub each : All Byte bytes
   pub short : length bytes ≤ maxBytes
@@ -30,6 +30,6 @@ pub record Holds (l : Line) (bytes : List ℕ) : Type 0 where
 -- Condition 6, "unknown shape, flag or statement byte, or frame length wrong for it": no frame of the kind is written so.
 pub data Means (e : Edition) (l : Line) : Said → Type 0 where
   is-malformed : Malformed l → Means e l malformed
-  is-unknown : (b : ℕ) (content : List ℕ) → Holds l (b ∷ content) → ((k : Kind) → kindByte k ≢ b) → Means e l unknownKind
-  is-no-frame : (k : Kind) (content : List ℕ) → Holds l (kindByte k ∷ content) → ((f : Frame) → Fits e f → written e f ≢ kindByte k ∷ content) → Means e l (noFrame k)
-  is-frame : (f : Frame) → Fits e f → Holds l (written e f) → Means e l (frames f)
+  is-unknown : (b : ℕ) (content : List ℕ) → WrittenAs l (b ∷ content) → ((k : Kind) → kindByte k ≢ b) → Means e l unknownKind
+  is-no-frame : (k : Kind) (content : List ℕ) → WrittenAs l (kindByte k ∷ content) → ((f : Frame) → Fits e f → written e f ≢ kindByte k ∷ content) → Means e l (noFrame k)
+  is-frame : (f : Frame) → Fits e f → WrittenAs l (written e f) → Means e l (frames f)

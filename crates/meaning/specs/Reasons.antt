@@ -13,7 +13,7 @@ use Rattle.meaning.specs.Conditions.{isFull, isLastQueryPast}
 use Rattle.meaning.specs.File.{maxFile}
 use Rattle.meaning.specs.Refused.{Pass}
 use Rattle.meaning.specs.Writing.{written, Fits}
-use Rattle.meaning.specs.Means.{Holds}
+use Rattle.meaning.specs.Means.{WrittenAs}
 
 pub record Reaches (file : List ℕ) (P : SoFar → Line → Type 0) : Type 0 where
   pub size : length file ≤ maxFile
@@ -29,7 +29,7 @@ pub record Reaches (file : List ℕ) (P : SoFar → Line → Type 0) : Type 0 wh
 pub record NoFrame (so : SoFar) (l : Line) : Type 0 where
   pub kind : Kind
   pub content : List ℕ
-  pub bytes : Holds l (kindByte kind ∷ content)
+  pub bytes : WrittenAs l (kindByte kind ∷ content)
   pub placed : mayStand (so .previous) kind ≡ true
   pub few : isFull so kind ≡ false
   pub fewQueries : isLastQueryPast so kind ≡ false

@@ -23,7 +23,7 @@ use Rattle.unification.proofs.Zonk.{zonk-none, zonk-app, zonk-var, zonk-is, zon
 use Rattle.unification.specs.Log.{Wf}
 use Rattle.unification.proofs.Robinson.{unifies-respects, unifies-then, solution-respects, zonk-same}
 use Rattle.plain_theory.specs.Plain.{In, InRow, resolvedFrom, start}
-use Rattle.plain_theory.specs.Claims.{Respected, Holds, Clean, CleanRow, CleanPairs}
+use Rattle.plain_theory.specs.Claims.{Respected, Satisfies, Clean, CleanRow, CleanPairs}
 use Rattle.plain_theory.proofs.Steps.{clean-replaced, Unifiable}
 
 -- ---- Resolving, for what respects the bindings
@@ -78,7 +78,7 @@ module _ (σ : ℕ → Ty) (s : Subst) where
     λ R. to-list zero s (λ y t e. rw (zero-add y) (resolving σ s (Var y) R)),
   )
 
-pub start-holds : (s : Subst) (a b : Ty) → Acyclic s → (σ : ℕ → Ty) → Holds σ (start s a b) ↔ Unifies σ (Together s a b)
+pub start-holds : (s : Subst) (a b : Ty) → Acyclic s → (σ : ℕ → Ty) → Satisfies σ (start s a b) ↔ Unifies σ (Together s a b)
 unfolding start
 start-holds s a b A σ =
     let r = resolved-respected σ s A in

@@ -17,8 +17,8 @@ abbrev pub Respected : (ℕ → Ty) → List Binding → Type 0
 Respected σ [] = Unit {0}
 Respected σ (b ∷ bs) = Same (σ (b .unknown)) (app σ (b .to)) × Respected σ bs
 
-abbrev pub Holds : (ℕ → Ty) → Stage → Type 0
-Holds σ g = Unifies σ (g .pairs) × Respected σ (g .bindings)
+abbrev pub Satisfies : (ℕ → Ty) → Stage → Type 0
+Satisfies σ g = Unifies σ (g .pairs) × Respected σ (g .bindings)
 
 -- No row in it has a key twice, and a record's cells have no label.
 abbrev mutual

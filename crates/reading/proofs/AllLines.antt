@@ -23,7 +23,7 @@ use Rattle.meaning.specs.Outcome.{minWords, decideRead, decide}
 use Rattle.meaning.proofs.Tests.{cases}
 use Rattle.meaning.proofs.Refused.{read-refused, read-next, within, not-ended}
 use Rattle.hex.proofs.Line.{lines-at-end}
-use Rattle.frames.specs.Contracts.{Holds, Malformed, numberOf, kindAt}
+use Rattle.frames.specs.Contracts.{BytesAt, Malformed, numberOf, kindAt}
 use Rattle.frames.proofs.Decoding.{holds-line}
 use Rattle.frames.proofs.Following.{kind-of-number}
 use Rattle.reading.specs.declared.Refusal.{Refusal}
@@ -67,7 +67,7 @@ ends-refused ed f w e r q = subst (Ends ed f w (Read.Refused e)) (sym q) (e, ref
 
 -- ---- A line
 
-module _ (ed : Edition) {f : List ℕ} {at : ℕ} {line : List ℕ} {n next : ℕ} (h : Holds f at line n next) where
+module _ (ed : Edition) {f : List ℕ} {at : ℕ} {line : List ℕ} {n next : ℕ} (h : BytesAt f at line n next) where
   line-holds : Line f at next (take n line)
   line-holds = record {
     is = holds-line f at line n next h;
@@ -101,7 +101,7 @@ module _ (ed : Edition) {f : List ℕ} {at : ℕ} {line : List ℕ} {n next : �
   next-last so = ap (lastOf so) says-next
 
 module _ (ed : Edition) {f w : List ℕ} {c : Counters} {previous at : ℕ} (m : Midway ed f w c previous at) where
-  module _ {line : List ℕ} {n next : ℕ} (h : Holds f at line n next) (kind : ℕ) (e : kind ≡ numberOf (kindOf (getD line 0 0))) (w′ : List ℕ) where
+  module _ {line : List ℕ} {n next : ℕ} (h : BytesAt f at line n next) (kind : ℕ) (e : kind ≡ numberOf (kindOf (getD line 0 0))) (w′ : List ℕ) where
     abbrev says : Said
     says = saidBy ed (some (take n line))
 
@@ -141,7 +141,7 @@ module _ (ed : Edition) {f w : List ℕ} {c : Counters} {previous at : ℕ} (m :
             (map (said ed) (lines (drop next f))) j q ∙ ap refused (sym (ap refusal same ∙ s .2)))
 
   -- what `take_line` asks
-  pub midway-asks : {line : List ℕ} {n next : ℕ} → Holds f at line n next → at < length f
+  pub midway-asks : {line : List ℕ} {n next : ℕ} → BytesAt f at line n next → at < length f
       → (at < 65536) × (0 < length (take (n - 0) line)) × (length (take (n - 0) line) ≤ 512) × (16384 ≤ length w) × (c .names ≤ 256) ×
       (c .types ≤ 256) × (c .fields ≤ 8192) × (c .nodes ≤ 512) × (c .queries ≤ 64)
   midway-asks {n = n} h l =

@@ -54,7 +54,7 @@ use Rattle.state.specs.declared.Done.{Done}
 use Rattle.state.specs.declared.Done.the-variants as Done
 use Rattle.steps.specs.declared.Typed.the-variants as Typed
 use Rattle.steps.specs.Ends.{done, silent, unified, Gone, Ends, went, spent}
-use Rattle.steps.specs.Loads.{Load, only, both, Holds, Begins, Beside}
+use Rattle.steps.specs.Loads.{Load, only, both, FitsIn, Begins, Beside}
 use Rattle.steps.specs.Contracts.{nodesOf, Reports, RollsTo, Leaves, fuzzy, Fuzzes, UnifiesOutside, typedAfter}
 use Rattle.steps.specs.declared.Mark.{Mark}
 use Rattle.steps.specs.Outside.{reportMessage, RejectedIf, reported, stayed, farW, charactersW, longW, Rewinds}
@@ -165,7 +165,7 @@ module _ {f w ou w₁ ou₁ : List ℕ} (n term distance : ℕ) {left : ℕ} {r 
   abbrev two : Load
   two = only (record { nodes = λ x. 0; unknowns = 0; diagnostics = 2 })
 
-  one-one : Holds (both one one) two
+  one-one : FitsIn (both one one) two
   one-one = record {
     grade = record { nodes = λ x. omega arith; unknowns = omega arith; diagnostics = omega arith };
     records = omega arith;
@@ -278,7 +278,7 @@ module _ {f w ou : List ℕ} {T : Rows} {d : Described} {left : ℕ} {c : Checke
     };
   }
 
-  no-more : Holds (both (only no-thing) (only no-thing)) (only no-thing)
+  no-more : FitsIn (both (only no-thing) (only no-thing)) (only no-thing)
   no-more = record {
     grade = record { nodes = λ x. omega arith; unknowns = omega arith; diagnostics = omega arith };
     records = omega arith;

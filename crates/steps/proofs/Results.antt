@@ -20,7 +20,7 @@ use Rattle.steps.specs.declared.Typed.the-variants as Typed
 use Rattle.state.specs.declared.Done.{Done}
 use Rattle.state.specs.declared.Done.the-variants as Done
 use Rattle.steps.specs.Ends.{Result, IsTyped, typed, done, silent, numbered, Gone, Ends, went, spent}
-use Rattle.steps.specs.Loads.{Load, both, Holds, Begins}
+use Rattle.steps.specs.Loads.{Load, both, FitsIn, Begins}
 use Rattle.steps.specs.Contracts.{Fine, onlyW, typedAfter}
 use Rattle.cells.proofs.Frame.{tree-more}
 use Rattle.steps.proofs.Growing.{ok-kept}
@@ -60,7 +60,7 @@ pub got-same : {w : List ℕ} {r : Typed} {T : Rows} {ty : Tree.Ty} {left l : �
     → (Ok w t) × (tree T t ≡ ty) × (left ≡ l)
 got-same {t = t} e i = let p : i .t ≡ t = cc (e, i .res) in (rw (← p) (i .ok), rw (← p) (i .is), cc (e, i .res))
 
-module _ {B : Type 0} {f w ou w₁ ou₁ : List ℕ} {T : Rows} {d : Described} {left : ℕ} {c : Checker} (G H K : Load) (fits : Holds (both G H) K)
+module _ {B : Type 0} {f w ou w₁ ou₁ : List ℕ} {T : Rows} {d : Described} {left : ℕ} {c : Checker} (G H K : Load) (fits : FitsIn (both G H) K)
     {r : Typed} {E : Result B} where
   pub then-typed : {w₂ ou₂ : List ℕ} {t : Ty} {l : ℕ} (m : Step Tree.Ty) (next : Tree.Ty → Does B) → r ≡ Typed.Got t l → Begins f w ou T d K left c
       → (Ready (G .grade) c → Meets IsSide (G .grade) c m)
@@ -82,7 +82,7 @@ module _ {B : Type 0} {f w ou w₁ ou₁ : List ℕ} {T : Rows} {d : Described} 
       → Ends f w ou w₁ ou₁ T d (K .records) (K .fields) E (andThen m next)
   stop-typed m next e o s first = stop-ends G H K fits m next (λ R a v i. clash (cc (e, i .res))) (λ p. o) s first
 
-module _ {B : Type 0} {f w ou w₁ ou₁ : List ℕ} {T : Rows} {d : Described} {left : ℕ} {c : Checker} (G H K : Load) (fits : Holds (both G H) K)
+module _ {B : Type 0} {f w ou w₁ ou₁ : List ℕ} {T : Rows} {d : Described} {left : ℕ} {c : Checker} (G H K : Load) (fits : FitsIn (both G H) K)
     (P : Unit {0} → Checker → Type 0) {r : Done} {E : Result B} where
   pub then-done : {w₂ ou₂ : List ℕ} {l : ℕ} (m : Step (Unit {0})) (next : Unit {0} → Does B) → r ≡ Done.On l → Begins f w ou T d K left c
       → (Ready (G .grade) c → Meets P (G .grade) c m)
@@ -103,7 +103,7 @@ module _ {B : Type 0} {f w ou w₁ ou₁ : List ℕ} {T : Rows} {d : Described} 
   stop-done m next e o s first = stop-ends G H K fits m next (λ R a v i. clash (cc (e, i))) (λ p. o) s first
 
 -- ---- A step that always goes on, and then
-module _ {B : Type 0} {f w ou w₁ ou₁ : List ℕ} {T : Rows} {d : Described} {left : ℕ} {c : Checker} (G H K : Load) (fits : Holds (both G H) K)
+module _ {B : Type 0} {f w ou w₁ ou₁ : List ℕ} {T : Rows} {d : Described} {left : ℕ} {c : Checker} (G H K : Load) (fits : FitsIn (both G H) K)
     {E : Result B} where
   pub then-silent : {w₂ ou₂ : List ℕ} {v : ℕ} (P : Unit {0} → Checker → Type 0) (m : Step (Unit {0})) (next : Unit {0} → Does B)
       → Begins f w ou T d K left c → (Ready (G .grade) c → Meets P (G .grade) c m)

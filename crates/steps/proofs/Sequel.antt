@@ -17,7 +17,7 @@ use Rattle.state.specs.Lines.{Told}
 use Rattle.steps.specs.declared.Typed.the-variants as Typed
 use Rattle.state.specs.declared.Done.the-variants as Done
 use Rattle.steps.specs.Ends.{Result, Gone, Ends, went, spent}
-use Rattle.steps.specs.Loads.{Load, both, Holds, Free, Begins}
+use Rattle.steps.specs.Loads.{Load, both, FitsIn, Free, Begins}
 use Rattle.cells.proofs.Frame.{more-refl}
 use Rattle.steps.proofs.Growing.{more-trans, grew-refl, grew-trans, grew-wider}
 
@@ -40,7 +40,7 @@ made-diagnostics g c c′ m = omega (arith, m .few, ap length (m .diagnostics) �
 made-unknowns : (g : Grade) (c c′ : Checker) → Made g c c′ → unknowns c′ ≤ unknowns c + g .unknowns
 made-unknowns g c c′ m = omega (arith, m .unknowns, since-length (m .since))
 
-pub free-part : (G K : Load) {w : List ℕ} {c : Checker} → Holds G K → Free K w c → Free G w c
+pub free-part : (G K : Load) {w : List ℕ} {c : Checker} → FitsIn G K → Free K w c → Free G w c
 free-part G K {w} {c} h x = record {
   ready = ready-fits (G .grade) (K .grade) c (h .grade) (x .ready);
   unknowns = omega (arith, h .grade .unknowns, x .unknowns);
@@ -49,7 +49,7 @@ free-part G K {w} {c} h x = record {
   fields = omega (arith, h .fields, x .fields);
 }
 
-pub free-after : (G H K : Load) {w w′ : List ℕ} {c c′ : Checker} → Holds (both G H) K → Made (G .grade) c c′ → Grew w w′ (G .records) (G .fields)
+pub free-after : (G H K : Load) {w w′ : List ℕ} {c c′ : Checker} → FitsIn (both G H) K → Made (G .grade) c c′ → Grew w w′ (G .records) (G .fields)
     → Free K w c → Free H w′ c′
 free-after G H K {w} {w′} {c} {c′} h m g x = record {
   ready = ready-after (G .grade) (H .grade) (K .grade) c c′ (h .grade) m (x .ready);
@@ -59,7 +59,7 @@ free-after G H K {w} {w′} {c} {c′} h m g x = record {
   fields = omega (arith, h .fields, x .fields, g .fields);
 }
 
-pub holds-left : (G H K : Load) → Holds (both G H) K → Holds G K
+pub holds-left : (G H K : Load) → FitsIn (both G H) K → FitsIn G K
 holds-left G H K h = record {
   grade = record {
     nodes = λ x. omega (arith, h .grade .nodes x);
@@ -70,7 +70,7 @@ holds-left G H K h = record {
   fields = omega (arith, h .fields);
 }
 
-pub begins-part : (G K : Load) {f w ou : List ℕ} {T : Rows} {d : Described} {left : ℕ} {c : Checker} → Holds G K → Begins f w ou T d K left c
+pub begins-part : (G K : Load) {f w ou : List ℕ} {T : Rows} {d : Described} {left : ℕ} {c : Checker} → FitsIn G K → Begins f w ou T d K left c
     → Begins f w ou T d G left c
 begins-part G K h b = record { sound = b .sound; runs = b .runs; lines = b .lines; orderly = b .orderly; visits = b .visits; free = free-part G K h (b .free) }
 
@@ -108,7 +108,7 @@ led G P never meets (spent g) = absurd (never (g .is .0))
 
 -- ---- One after another
 pub gone-trans : {A B : Type 0} {f w ou w₁ ou₁ w₂ ou₂ : List ℕ} {T : Rows} {d : Described} (G H K : Load) {E : Result A} {E′ : Result B} {a : A}
-    {b : Checker} {a′ : B} {b′ : Checker} {v : ℕ} → Holds (both G H) K
+    {b : Checker} {a′ : B} {b′ : Checker} {v : ℕ} → FitsIn (both G H) K
     → (g : Gone f w ou w₁ ou₁ T d (G .records) (G .fields) E a b 0) → Gone f w₁ ou₁ w₂ ou₂ (g .T′) d (H .records) (H .fields) E′ a′ b′ v
     → Gone f w ou w₂ ou₂ T d (K .records) (K .fields) E′ a′ b′ v
 gone-trans G H K fits g h = record {
@@ -121,14 +121,14 @@ gone-trans G H K fits g h = record {
 }
 
 pub gone-on : {A B : Type 0} {f w ou w₁ ou₁ w₂ ou₂ : List ℕ} {T : Rows} {d : Described} (G H K : Load) {E : Result A} {E′ : Result B} {a : A}
-    {b : Checker} {s : Step B} → Holds (both G H) K
+    {b : Checker} {s : Step B} → FitsIn (both G H) K
     → (g : Gone f w ou w₁ ou₁ T d (G .records) (G .fields) E a b 0) → Ends f w₁ ou₁ w₂ ou₂ (g .T′) d (H .records) (H .fields) E′ s
     → Ends f w ou w₂ ou₂ T d (K .records) (K .fields) E′ s
 gone-on G H K fits g (went h) = went (gone-trans G H K fits g h)
 gone-on G H K fits g (spent h) = spent (gone-trans G H K fits g h)
 
 pub begins-after : {A : Type 0} {f w ou w₁ ou₁ : List ℕ} {T : Rows} {d : Described} {left : ℕ} {c : Checker} (G H K : Load) {E : Result A}
-    (P : A → Checker → Type 0) {a : A} {b : Checker} → Holds (both G H) K
+    (P : A → Checker → Type 0) {a : A} {b : Checker} → FitsIn (both G H) K
     → (g : Gone f w ou w₁ ou₁ T d (G .records) (G .fields) E a b 0) → Went P (G .grade) c a b → Begins f w ou T d K left c
     → Begins f w₁ ou₁ (g .T′) d H (b .state .left) b
 begins-after G H K P fits g v s = record {
@@ -147,7 +147,7 @@ unfolding andThen
 ends-there i j s next never so (went {a} {c = b} g) = absurd (never (g .T′) a (b .state .left) (g .is))
 ends-there i j s next never so (spent g) = spent (gone-as i j (λ R x. (so (x .0), x .1)) g)
 
-module _ {A B : Type 0} {f w ou w₁ ou₁ : List ℕ} {T : Rows} {d : Described} {left : ℕ} {c : Checker} (G H K : Load) (fits : Holds (both G H) K)
+module _ {A B : Type 0} {f w ou w₁ ou₁ : List ℕ} {T : Rows} {d : Described} {left : ℕ} {c : Checker} (G H K : Load) (fits : FitsIn (both G H) K)
     {E : Result A} {E′ : Result B} where
   after : {w₂ ou₂ : List ℕ} (P : A → Checker → Type 0) (m : Step A) (next : A → Does B) → ¬ (E .Out) → Begins f w ou T d K left c → Meets P (G .grade) c m
       → Ends f w ou w₁ ou₁ T d (G .records) (G .fields) E m

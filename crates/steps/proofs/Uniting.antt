@@ -32,7 +32,7 @@ use Rattle.state.proofs.Running.{runs-slots}
 use Rattle.state.specs.declared.Done.{Done}
 use Rattle.state.specs.declared.Done.the-variants as Done
 use Rattle.steps.specs.Ends.{IsUnified, unified, done, silent, Gone, Ends, spent}
-use Rattle.steps.specs.Loads.{only, both, Holds, Begins}
+use Rattle.steps.specs.Loads.{only, both, FitsIn, Begins}
 use Rattle.steps.specs.Contracts.{Fine, UnifiesTo, UnifiesOutside, compareTypes, UnifiesAt, ComparesTypes}
 use Rattle.steps.specs.Outside.{reportMessage, ComparesOrder}
 use Rattle.steps.proofs.Growing.{grew-refl}
@@ -42,7 +42,7 @@ use Rattle.steps.proofs.Ending.{reject-ends}
 use Rattle.steps.proofs.Besides.{reports, not-come}
 
 -- A step that makes nothing, and then one diagnostic at most.
-then-one : Holds (both (only no-thing) (only one-diagnostic)) (only one-diagnostic)
+then-one : FitsIn (both (only no-thing) (only one-diagnostic)) (only one-diagnostic)
 then-one = record {
   grade = record { nodes = λ x. omega arith; unknowns = omega arith; diagnostics = omega arith };
   records = omega arith;

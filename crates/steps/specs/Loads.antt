@@ -30,7 +30,7 @@ only g = record { grade = g; records = 0; fields = 0 }
 abbrev pub both : Load → Load → Load
 both g h = record { grade = plus (g .grade) (h .grade); records = g .records + h .records; fields = g .fields + h .fields }
 
-pub record Holds (g h : Load) : Type 0 where
+pub record FitsIn (g h : Load) : Type 0 where
   pub grade : Fits (g .grade) (h .grade)
   pub records : g .records ≤ h .records
   pub fields : g .fields ≤ h .fields
