@@ -15,6 +15,9 @@ use Rattle.lamp.specs.declared.Signal.the-variants as Signal
 use Rattle.lamp.specs.declared.Lit.{Lit}
 use Rattle.lamp.specs.Contracts.{Lights}
 use Rattle.converters.specs.Contracts.{Widens, Narrows}
+use Rattle.inspect.specs.declared.Inspected.{Inspected}
+use Rattle.inspect.specs.declared.Inspected.the-variants as Inspected
+use Rattle.inspect.specs.Contracts.{Inspects}
 use Rattle.growth.specs.Premises.{premises, FirstFailing}
 use Rattle.writer.specs.declared.Wrote.{Wrote}
 use Rattle.writer.specs.declared.Wrote.the-variants as Wrote
@@ -51,6 +54,29 @@ pub record CallsLamp (f w w′ : List ℕ) (bit r : ℕ) : Type 0 where
   pub lights : Lights f w w′ lit
   pub shown : bit ≡ litBit (lit .signal)
   pub number : r ≡ lampNumber (lit .signal)
+
+-- What is told of the plain solver's answer, and the number; 18 is its own refusal.
+abbrev pub inspectTold : Inspected → ℕ
+inspectTold (Inspected.Success n) = 1
+inspectTold Inspected.Failure = 0
+inspectTold Inspected.ShutOut = 2
+inspectTold Inspected.Fewer = 3
+inspectTold (Inspected.Refused e) = 0
+inspectTold Inspected.TooFewWords = 0
+
+abbrev pub inspectNumber : Inspected → ℕ
+inspectNumber (Inspected.Success n) = 0
+inspectNumber Inspected.Failure = 0
+inspectNumber Inspected.ShutOut = 0
+inspectNumber Inspected.Fewer = 0
+inspectNumber (Inspected.Refused e) = number (refusal e)
+inspectNumber Inspected.TooFewWords = 18
+
+pub record CallsInspect (f : List ℕ) (n : ℕ) (w l w′ l′ : List ℕ) (told r : ℕ) : Type 0 where
+  pub answer : Inspected
+  pub inspects : Inspects f n w l w′ l′ answer
+  pub shown : told ≡ inspectTold answer
+  pub number : r ≡ inspectNumber answer
 
 pub record CallsWiden (f w out w′ out′ : List ℕ) (r : ℕ) : Type 0 where
   pub outcome : Outcome

@@ -1,9 +1,10 @@
 // The calls for programs in other languages: every slice goes as a pointer and a length, an array as a pointer. Each gives back 0, or the
 // number of the refusal.
-ghost use Rattle.sigla_lib.specs.Numbers.{CallsCheck, CallsLamp, CallsWiden, CallsNarrow, CallsTally, CallsSetUp, CallsCeiling, CallsNewDay, CallsCheckAt, CallsGrowth, CallsLoad, outcomeNumber};
+ghost use Rattle.sigla_lib.specs.Numbers.{CallsCheck, CallsLamp, CallsInspect, CallsWiden, CallsNarrow, CallsTally, CallsSetUp, CallsCeiling, CallsNewDay, CallsCheckAt, CallsGrowth, CallsLoad, outcomeNumber};
 ghost use mathlib.Core.Path.{_≡_};
 use cabinet::Allowance;
 use desk::Outcome;
+use inspect::Inspected;
 use lamp::Signal;
 use reading::Refusal;
 use writer::Wrote;
@@ -46,6 +47,43 @@ pub extern "C" fn sigla_lamp(file: &[u8], work: &mut [u32], lit: &mut u32) -> u8
         Signal::Refused(e) => {
             *lit = 0;
             desk::refusal_number(e)
+        }
+    }
+}
+
+// ---- The plain solver
+
+// The n-th unification of the file's run in another way: `told` is 1 where it succeeds and 0 where it fails, 2 where a side is shut out, 3 where
+// there are fewer. After a success `lent` holds the bindings, up to the first zero in the place of an 11.
+#[no_mangle]
+pub extern "C" fn sigla_inspect(file: &[u8], n: u32, work: &mut [u32], lent: &mut [u32], told: &mut u32) -> u8
+    ensures { λ r. ⌜ CallsInspect (now (file .entry)) n (now (work .entry)) (now (lent .entry)) (now (work .exit)) (now (lent .exit)) (now (told .exit)) r ⌝ }
+{
+    let r = inspect::inspect(file, n, work, lent);
+    match r {
+        Inspected::Success(_) => {
+            *told = 1;
+            0
+        }
+        Inspected::Failure => {
+            *told = 0;
+            0
+        }
+        Inspected::ShutOut => {
+            *told = 2;
+            0
+        }
+        Inspected::Fewer => {
+            *told = 3;
+            0
+        }
+        Inspected::Refused(e) => {
+            *told = 0;
+            desk::refusal_number(e)
+        }
+        Inspected::TooFewWords => {
+            *told = 0;
+            18
         }
     }
 }
