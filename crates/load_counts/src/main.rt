@@ -7,12 +7,12 @@ use writer::Wrote;
 
 // ---- Digits
 
+fn wide(x: u8) -> usize {
+    x as usize
+}
+
 fn at(s: &[u8], i: usize) -> u8 {
-    if i < s.len() {
-        s[i]
-    } else {
-        0
-    }
+    if i < s.len() { s[i] } else { 0 }
 }
 
 fn digit(b: u8) -> usize
@@ -52,18 +52,14 @@ fn number(s: &[u8], i: usize) -> usize {
 }
 
 // ---- Counts: the nodes of 17 shapes, the statements of 5 kinds from 17 on, the diagnostics of 14 codes from 22 on, the files that are accepted
-// (36), have a diagnostic (37), have none (38); the diagnostics of the last file (39), and 1 more than the start of its first span (40).
+// (36), have a diagnostic (37), have none (38); the diagnostics of the last file (39), and 1 more than the start of its first span (40). At 41
+// nothing is counted.
 
 fn get(counts: &[usize], i: usize) -> usize {
-    if i < counts.len() {
-        counts[i]
-    } else {
-        0
-    }
+    if i < counts.len() { counts[i] } else { 0 }
 }
 
-fn put(counts: &mut [usize], i: usize, n: usize)
-{
+fn put(counts: &mut [usize], i: usize, n: usize) {
     if i < counts.len() {
         counts[i] = n;
     }
@@ -85,9 +81,11 @@ fn count_statements(s: &[u8], from: usize, counts: &mut [usize]) {
             return;
         }
         let tag = byte(s, p);
+        let mut place: usize = 41;
         if tag < 5 {
-            count(counts, 17 + tag);
+            place = 17 + tag;
         }
+        count(counts, place);
         let mut digits: usize = 10;
         if tag == 1 {
             digits = 6;
@@ -105,7 +103,7 @@ fn is(s: &[u8], from: usize, code: &[u8]) -> bool {
     let mut k: usize = 0;
     let mut p = from;
     while k < code.len() {
-        if byte(s, p) != code[k] as usize {
+        if byte(s, p) != wide(code[k]) {
             return false;
         }
         p = std::num::wrapping_add_usize(p, 2);
@@ -166,16 +164,21 @@ fn later_code_at(s: &[u8], p: usize) -> usize {
 
 fn count_node(s: &[u8], i: usize, counts: &mut [usize]) {
     let shape = byte(s, std::num::wrapping_add_usize(i, 18));
+    let mut place: usize = 41;
     if shape < 17 {
-        count(counts, shape);
+        place = shape;
     }
+    count(counts, place);
     if get(counts, 40) == 0 {
-        put(counts, 40, std::num::wrapping_add_usize(number(s, std::num::wrapping_add_usize(i, 2)), 1));
+        put(
+            counts,
+            40,
+            std::num::wrapping_add_usize(number(s, std::num::wrapping_add_usize(i, 2)), 1),
+        );
     }
 }
 
-fn count_line(s: &[u8], i: usize, counts: &mut [usize]) {
-    let kind = byte(s, i);
+fn count_line(s: &[u8], i: usize, kind: usize, counts: &mut [usize]) {
     match kind {
         5 => {
             count_node(s, i, counts);
@@ -191,6 +194,11 @@ fn count_line(s: &[u8], i: usize, counts: &mut [usize]) {
     }
 }
 
+// The kind of the line that starts here, if one does.
+fn kind_at(s: &[u8], i: usize, starts: bool) -> usize {
+    if starts { byte(s, i) } else { 0 }
+}
+
 // Up to the first zero byte.
 fn count_lines(s: &[u8], counts: &mut [usize]) {
     let mut i: usize = 0;
@@ -199,9 +207,7 @@ fn count_lines(s: &[u8], counts: &mut [usize]) {
         if s[i] == 0 {
             return;
         }
-        if first {
-            count_line(s, i, counts);
-        }
+        count_line(s, i, kind_at(s, i, first), counts);
         first = s[i] == 10;
         i += 1;
     }
@@ -219,11 +225,31 @@ fn count_answer(file: &[u8], work: &mut [u32], out: &mut [u8], counts: &mut [usi
     }
 }
 
-// Counts one seed's file and its answer, and gives 1 more than the start of its first span.
-fn count_seed(seed: u32, work: &mut [u32], out: &mut [u8], counts: &mut [usize]) -> usize {
-    let mut file = [0u8; 8255];
+fn start_file(counts: &mut [usize]) {
     put(counts, 39, 0);
     put(counts, 40, 0);
+}
+
+// Gives 1 more than the start of the first span.
+fn end_file(counts: &mut [usize]) -> usize {
+    let mut place: usize = 37;
+    if get(counts, 39) == 0 {
+        place = 38;
+    }
+    count(counts, place);
+    get(counts, 40)
+}
+
+fn count_file(file: &[u8], work: &mut [u32], out: &mut [u8], counts: &mut [usize]) -> usize {
+    count_lines(file, counts);
+    count_answer(file, work, out, counts);
+    count_lines(out, counts);
+    end_file(counts)
+}
+
+fn count_seed(seed: u32, work: &mut [u32], out: &mut [u8], counts: &mut [usize]) -> usize {
+    let mut file = [0u8; 8255];
+    start_file(counts);
     let r = generator::make(seed, &mut file);
     match r {
         Wrote::Full => 0,
@@ -231,15 +257,7 @@ fn count_seed(seed: u32, work: &mut [u32], out: &mut [u8], counts: &mut [usize])
             if 8255 < n {
                 return 0;
             }
-            count_lines(&file, counts);
-            count_answer(&file[0..n], work, out, counts);
-            count_lines(out, counts);
-            if get(counts, 39) == 0 {
-                count(counts, 38);
-            } else {
-                count(counts, 37);
-            }
-            get(counts, 40)
+            count_file(&file[0..n], work, out, counts)
         }
     }
 }
@@ -259,7 +277,12 @@ fn earlier(starts: &[usize], i: usize, start: usize) -> usize {
     same
 }
 
-fn count_seeds(starts: &mut [usize], work: &mut [u32], out: &mut [u8], counts: &mut [usize]) -> usize {
+fn count_seeds(
+    starts: &mut [usize],
+    work: &mut [u32],
+    out: &mut [u8],
+    counts: &mut [usize],
+) -> usize {
     let mut alike: usize = 0;
     let mut i: usize = 0;
     while i < 10000 {
