@@ -41,13 +41,14 @@ placed-slice l front a b rest e =
     let two : l ≡ ((front ++ a) ++ b) ++ rest = e ∙ ap (λ (z : List ℕ). z ++ rest) (sym (append-assoc front a b)) in
     let one : l ≡ (front ++ a) ++ (b ++ rest) = two ∙ append-assoc (front ++ a) b rest in
     let m : length (front ++ a) ≡ length front + length a = length-append front a in
-    let n : length ((front ++ a) ++ b) ≡ length front + length a + length b = length-append (front ++ a) b ∙ ap (λ (k : ℕ). k + length b) m in
-    (ap (λ (z : List ℕ). drop (length front) (take (length front + length a) z)) one
-    ∙ ap (drop (length front)) (take-at (front ++ a) (b ++ rest) (length front + length a) m)
-    ∙ drop-at front a (length front) refl,
-    ap (λ (z : List ℕ). drop (length front + length a) (take (length front + length a + length b) z)) two
-    ∙ ap (drop (length front + length a)) (take-at ((front ++ a) ++ b) rest (length front + length a + length b) n)
-    ∙ drop-at (front ++ a) b (length front + length a) m)
+    let n : length ((front ++ a) ++ b) ≡ length front + length a + length b = length-append (front ++ a) b ∙ ap (λ (k : ℕ). k + length b) m in (
+      ap (λ (z : List ℕ). drop (length front) (take (length front + length a) z)) one
+          ∙ ap (drop (length front)) (take-at (front ++ a) (b ++ rest) (length front + length a) m)
+          ∙ drop-at front a (length front) refl,
+      ap (λ (z : List ℕ). drop (length front + length a) (take (length front + length a + length b) z)) two
+          ∙ ap (drop (length front + length a)) (take-at ((front ++ a) ++ b) rest (length front + length a + length b) n)
+          ∙ drop-at (front ++ a) b (length front + length a) m,
+    )
 
 -- It fits: each part stands where it is said to.
 module _ {l : List ℕ} {at : ℕ} {a b l′ : List ℕ} {e : ℕ} (W : Writes l at (a ++ b) l′ (To e)) (low : at ≤ length l) where
