@@ -123,7 +123,7 @@ int main(void) {
 
     /* bindings in any words */
     const uint32_t bound[] = {11, 5, 5, 2, 9, 3, 1, 9, 7, 7, 2, 11, 6, 6, 1, 10, 4, 9, 9, 5, 0, 11, 7, 8};
-    const size_t counts[] = {9, 7, 1};
+    const size_t counts[] = {9, 8, 1};
     from = 0;
     for (uint32_t i = 0; i < 3; i++)
         HOLDS(sigla_next_binding(bound, 24, &from, &binding) == 1 && binding.unknown == 5 + i && binding.count == counts[i]);
