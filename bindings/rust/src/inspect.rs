@@ -169,6 +169,7 @@ impl Words<'_> {
         Some(Binding { unknown: self.half_after(11)?, ty: self.ty(DEPTH)? })
     }
 
+    /// In loops, without closures between one call and the next: the deepest type is read on the stated stack.
     fn ty(&mut self, depth: usize) -> Option<Ty> {
         let depth = depth.checked_sub(1)?;
         Some(match self.word()? {
@@ -177,14 +178,18 @@ impl Words<'_> {
             3 => Ty::Bytes,
             4 => Ty::Fact(self.word()?),
             5 => {
-                let n = self.word()?;
-                let part = |_| Some(Field { name: self.half_after(9)?, ty: self.ty(depth)? });
-                Ty::Record((0..n).map(part).collect::<Option<_>>()?)
+                let mut fields = Vec::new();
+                for _ in 0..self.word()? {
+                    fields.push(Field { name: self.half_after(9)?, ty: self.ty(depth)? });
+                }
+                Ty::Record(fields)
             }
             6 => {
-                let n = self.word()?;
-                let part = |_| Some(Alternative { name: self.half_after(10)?, discriminant: self.after(9)?, ty: self.ty(depth)? });
-                Ty::Union((0..n).map(part).collect::<Option<_>>()?)
+                let mut alternatives = Vec::new();
+                for _ in 0..self.word()? {
+                    alternatives.push(Alternative { name: self.half_after(10)?, discriminant: self.after(9)?, ty: self.ty(depth)? });
+                }
+                Ty::Union(alternatives)
             }
             7 => Ty::Open(self.half()?),
             8 => Ty::Error,

@@ -80,27 +80,17 @@ fn the_stated_stack_suffices() {
         let (mut work, mut lent) = (vec![0; WORDS], vec![0; 4 * LENT]);
         let mut longest = 0;
         for n in 0.. {
-            let mut told = 0;
-            // the call alone: parsing is not what the stack is stated for
-            match told_raw(n, &mut work, &mut lent, &mut told) {
-                0 if told == 3 => return (n, longest),
-                0 | 18 => longest = longest.max(lent.iter().position(|&word| word == 0).unwrap_or(lent.len())),
-                refusal => panic!("refused {refusal}"),
+            match inspect(DEEPEST, n, &mut work, &mut lent) {
+                Ok(Inspected::Fewer) => return (n, longest),
+                Ok(Inspected::Success(found)) => longest = found.iter().map(|binding| binding.to_string().len()).fold(longest, usize::max),
+                Ok(_) | Err(Failure::Refused(Refusal::TooFewWords)) => {}
+                Err(failure) => panic!("{failure}"),
             }
         }
         unreachable!("a run ends")
     });
     let (entries, longest) = thread.expect("a thread can be started").join().expect("the thread ends");
-    assert!(entries > 0 && longest > 0, "{entries} entries, {longest} words");
-}
-
-unsafe extern "C" {
-    fn sigla_inspect(file: *const u8, n: usize, at: u32, work: *mut u32, work_len: usize, lent: *mut u32, lent_len: usize, told: *mut u32) -> u8;
-}
-
-fn told_raw(n: u32, work: &mut [u32], lent: &mut [u32], told: &mut u32) -> u8 {
-    // SAFETY: as of `sigla::inspect`.
-    unsafe { sigla_inspect(DEEPEST.as_ptr(), DEEPEST.len(), n, work.as_mut_ptr(), work.len(), lent.as_mut_ptr(), lent.len(), told) }
+    assert!(entries > 0 && longest > 0, "{entries} entries, the longest binding has {longest} characters");
 }
 
 #[test]
@@ -152,6 +142,11 @@ fn bindings_are_read_and_shown() {
     ] {
         assert!(bindings(wrong).is_err(), "{wrong:?}");
     }
-    let deep = |n: usize| [&[11, 0][..], &[5, 1, 9, 0].repeat(n), &[1]].concat();
-    assert!(bindings(&deep(767)).is_ok() && bindings(&deep(768)).is_err() && bindings(&deep(100_000)).is_err());
+    let thread = std::thread::Builder::new().stack_size(STACK).spawn(|| {
+        let deep = |n: usize| [&[11, 0][..], &[5, 1, 9, 0].repeat(n), &[1]].concat();
+        let found = bindings(&deep(767)).expect("as deep as any answer");
+        assert_eq!(found[0].to_string().matches("record").count(), 767);
+        assert!(bindings(&deep(768)).is_err() && bindings(&deep(100_000)).is_err());
+    });
+    thread.expect("a thread can be started").join().expect("the stated stack suffices");
 }
