@@ -13,7 +13,8 @@ use Rattle.load_counts.proofs.put.Reads as put-reads
 use Rattle.std.proofs.num.wrapping_add_usize.Reads as wrapping-add-usize-reads
 
 abbrev Inv-loop : tie.InvT-loop
-Inv-loop starts₀ work₀ out₀ counts₀ alike₀ i₀ starts work out counts alike i = (i ≤ 10000) × (length starts ≡ length starts₀) × (length work ≡ length work₀) × (length out ≡ length out₀) × (length counts ≡ length counts₀)
+Inv-loop starts₀ work₀ out₀ counts₀ alike₀ i₀ starts work out counts alike i =
+    (i ≤ 10000) × (length starts ≡ length starts₀) × (length work ≡ length work₀) × (length out ≡ length out₀) × (length counts ≡ length counts₀)
 
 abbrev μ-loop : tie.MeasureT-loop
 μ-loop starts₀ work₀ out₀ counts₀ alike₀ i₀ starts work out counts alike i = 10000 - i
