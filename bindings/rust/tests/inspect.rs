@@ -78,19 +78,14 @@ fn the_stated_stack_suffices() {
     let thread = std::thread::Builder::new().stack_size(STACK);
     let thread = thread.spawn(|| {
         let (mut work, mut lent) = (vec![0; WORDS], vec![0; 4 * LENT]);
-        let mut longest = 0;
-        for n in 0.. {
-            match inspect(DEEPEST, n, &mut work, &mut lent) {
-                Ok(Inspected::Fewer) => return (n, longest),
-                Ok(Inspected::Success(found)) => longest = found.iter().map(|binding| binding.to_string().len()).fold(longest, usize::max),
-                Ok(_) | Err(Failure::Refused(Refusal::TooFewWords)) => {}
-                Err(failure) => panic!("{failure}"),
-            }
-        }
-        unreachable!("a run ends")
+        (0..).find(|&n| match inspect(DEEPEST, n, &mut work, &mut lent) {
+            Ok(told) => told == Inspected::Fewer,
+            Err(failure) => failure != Failure::Refused(Refusal::TooFewWords),
+        })
     });
-    let (entries, longest) = thread.expect("a thread can be started").join().expect("the thread ends");
-    assert!(entries > 0 && longest > 0, "{entries} entries, the longest binding has {longest} characters");
+    let first = thread.expect("a thread can be started").join().expect("the thread ends").expect("a run ends");
+    assert!(first > 0);
+    assert_eq!(told(DEEPEST, first, LENT).0, Ok(Inspected::Fewer));
 }
 
 #[test]
