@@ -25,7 +25,7 @@
 
 /* What a run did, for libFuzzer: an input that does something else is kept. */
 __attribute__((section("__libfuzzer_extra_counters"))) static uint8_t done[4096];
-enum { OUTCOME = 0, CODE = 256, KIND = 512, VISITS = 768, LENGTH = 832, NODE = 1024, LAMP = 2048, NARROW = 2304, WIDEN = 2560, GROWTH = 2816, DESK = 3072 };
+enum { OUTCOME = 0, CODE = 256, KIND = 512, VISITS = 768, LENGTH = 832, NODE = 1024, LAMP = 2048, NARROW = 2304, WIDEN = 2560, GROWTH = 2816, DESK = 3072, INSPECT = 3584 };
 
 static uint8_t *file_pages, *other_pages, *work_pages, *answer_pages, *out_pages;
 static uint8_t first[SIGLA_BYTES];
@@ -205,6 +205,18 @@ static void editions(const uint8_t *file, size_t n, uint8_t r) {
     }
 }
 
+/* One of the first unifications, in the other way; often in a slice that is too short for it. */
+static void inspect(const uint8_t *file, size_t n, uint8_t r) {
+    size_t m = below(4) == 0 ? below(64) : ROOM / 4;
+    uint32_t *work = words(SIGLA_WORDS), *room = (uint32_t *)lent(out_pages, 4 * m), told = 7;
+    uint8_t s = sigla_inspect(file, n, below(8), work, SIGLA_WORDS, room, m, &told);
+    HOLDS(zero(work, 4 * SIGLA_WORDS));
+    HOLDS(of_the_reading(r) || of_the_reading(s) ? s == r : s == 0 || s == SIGLA_TOO_MANY_VISITS || s == SIGLA_TOO_FEW_WORDS);
+    HOLDS(s == 0 ? told <= 3 : told == 0);
+    HOLDS((s == 0 && told == 1) || zero(room, 4 * m));
+    done[INSPECT + (s == 0 ? 32 + told : s)] = 1;
+}
+
 /* The file beside itself, and beside one with a line more. */
 static void growth(const uint8_t *file, size_t n, uint8_t r, size_t length) {
     uint32_t *work = words(SIGLA_WORDS);
@@ -314,6 +326,7 @@ int LLVMFuzzerTestOneInput(const uint8_t *data, size_t n) {
     int diagnosed = r == SIGLA_ACCEPTED ? read_answer(first, length) : 0;
     lamp(file, n, r, diagnosed);
     editions(file, n, r);
+    inspect(file, n, r);
     growth(file, n, r, length);
     desks(file, n, r, length);
     if (below(4) == 0)
