@@ -2,7 +2,7 @@
 use mathlib.Core.List.{List, [], _∷_}
 use mathlib.Core.Path.{_≡_, refl, sym, ap, _∙_, subst}
 use Prim.Native.Nat.{ℕ}
-use lib.ListN.{length, replicate}
+use lib.ListN.{length, replicate, length-replicate}
 use Rattle.unification.specs.Calls.{Entry}
 use Rattle.unification.proofs.Tests.{clash}
 use Rattle.cells.specs.declared.Ty.{Ty}
@@ -79,9 +79,16 @@ module _ {f : List ℕ} {n : ℕ} {w w₁ : List ℕ} {s : Sought} (S : Seeks f 
         go fewer h = clash (cc (h, e))
         go (turnedDown j) h = let same : h .0 ≡ i = cc (h .1, e) in ((i, refl, sym (ap refusal same) ∙ h .2), zeros)
 
-pub inspects : {f : List ℕ} {n : ℕ} {w l w₁ l′ w′ : List ℕ} {r : Inspected} → Answers f n w l w₁ l′ r → w′ ≡ replicate (length w₁) 0
-    → Inspects f n w l w′ l′ r
-inspects A c = record { told = A .told; lent = A .lent; work = c ∙ ap (λ k. replicate k 0) (A .words) }
+-- Only the length of the work slice counts.
+pub inspects : {f : List ℕ} {n : ℕ} {w l w₀ w₁ l′ w′ : List ℕ} {r : Inspected} → w₀ ≡ replicate (length w) 0 → Answers f n w₀ l w₁ l′ r
+    → w′ ≡ replicate (length w₁) 0 → Inspects f n w l w′ l′ r
+inspects {f} {n} {w} {l} {w₀} {w₁} {l′} {w′} {r} z A c =
+    let long : length w₀ ≡ length w = ap length z ∙ length-replicate (length w) 0 in
+    record {
+      told = subst (λ (k : ℕ). Told r (decidePlain f n k (length l))) long (A .told);
+      lent = subst (λ (k : ℕ). l′ ≡ lentAfter (length l) (decidePlain f n k (length l))) long (A .lent);
+      work = c ∙ ap (λ (k : ℕ). replicate k 0) (A .words ∙ long);
+    }
 
 -- The line of what was answered is that of what the definition decides.
 pub line-is : (r : Inspected) (x : Defined.Inspected) → Told r x → lineOf r ≡ inspectLine x

@@ -4,6 +4,7 @@ ghost use Rattle.inspect.specs.Contracts.{inspectedBy, lineOf, Answers, 
 use plain::Plain;
 use reading::Refusal;
 use seek::Sought;
+use work::clear;
 
 // After a success with the words that the bindings take in the lent slice; `TooFewWords` is refusal 18.
 pub enum Inspected {
@@ -50,6 +51,8 @@ fn answer(file: &[u8], n: u32, work: &mut [u32], lent: &mut [u32]) -> Inspected
 pub fn inspect(file: &[u8], n: u32, work: &mut [u32], lent: &mut [u32]) -> Inspected
     ensures { λ r. ⌜ Inspects (now (file .entry)) n (now (work .entry)) (now (lent .entry)) (now (work .exit)) (now (lent .exit)) r ⌝ }
 {
+    // Words that the caller left would be taken for records, and each would be looked through.
+    clear(work);
     let r = answer(file, n, work, lent);
     work::clear(work);
     r

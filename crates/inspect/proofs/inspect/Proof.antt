@@ -1,5 +1,5 @@
--- Made from Proof.ans by tools/answers, 524c3dc2009bd522 6b74115d80304e88.
--- `inspect::inspect` meets its contract: what was answered, and the work slice cleared.
+-- Made from Proof.ans by tools/answers, a4f2067741bb62df 5af298afc1eb62ec.
+-- `inspect::inspect` meets its contract: what was answered on a cleared work slice, which is cleared again.
 use borrow.Author.Needs.{needs}
 use Rattle.inspect.proofs.inspect.Statement.{statement}
 use Rattle.inspect.proofs.inspect.Tie as tie
@@ -12,4 +12,5 @@ use Rattle.inspect.proofs.Answering.{inspects}
 
 pub inspect-spec : {M : Type 1} → statement M
 inspect-spec =
-    tie.close (tie.spec (λ c κs. search needs) (λ c κs. search needs) (λ c. search needs) (λ c. search needs) (λ c. inspects (c .before .before .before .before .before .before .before .before .answer .ensures) (c .before .before .clear .ensures)))
+    tie.close
+    (tie.spec (λ c κs. search needs) (λ c κs. search needs) (λ c κs. search needs) (λ c. search needs) (λ c. search needs) (λ c. inspects (c .before .before .before .before .before .before .before .before .before .before .before .before .before .clear .ensures) (c .before .before .before .before .before .before .before .before .answer .ensures) (c .before .before .clear2 .ensures)))
