@@ -287,8 +287,12 @@ pub struct Entry {
 
 #[derive(Debug)]
 pub enum Entries {
-    /// How many there are over all queries, and those that were asked for.
-    Made { count: u64, kept: Vec<Entry> },
+    /// How many there are over all queries, the visits made, and the entries that were asked for.
+    Made {
+        count: u64,
+        visits: u64,
+        kept: Vec<Entry>,
+    },
     /// The refusal's number, 1 to 11 or 13.
     Refused(u8),
     /// The Rust can't hold what the file describes; the words say why.
@@ -312,13 +316,15 @@ pub fn entries(file: &[u8], limits: &Limits, first: u64, chosen: &HashSet<u64>, 
         first,
         kept: vec![],
     }));
+    let mut visits = 0;
     for tree in &file.trees {
         let tree = tree::build(tree, &base);
         let mut diagnostics = Diagnostics::new();
         marks::begin();
-        let (left, _) = visits::counted(limits.visits, || {
+        let (left, made) = visits::counted(limits.visits, || {
             counted::probe::walk(&tree.ast, &base.schema, &base.interner, &mut diagnostics)
         });
+        visits += made;
         let stopped = match left {
             Ok(_) => continue,
             Err(Stop::Visits) => Entries::Refused(11),
@@ -334,7 +340,11 @@ pub fn entries(file: &[u8], limits: &Limits, first: u64, chosen: &HashSet<u64>, 
         made: HashMap::new(),
     };
     let kept = log.kept.iter().map(|logged| entry(logged, &mut turned, words)).collect();
-    Entries::Made { count: log.count, kept }
+    Entries::Made {
+        count: log.count,
+        visits,
+        kept,
+    }
 }
 
 fn entry(logged: &Logged, turned: &mut Turned, words: u64) -> Entry {
