@@ -3,7 +3,7 @@
 mod assign;
 pub mod run;
 
-use std::collections::HashSet;
+use std::collections::{BTreeMap, HashSet};
 
 use files::Rng;
 use judge::Limits;
@@ -287,7 +287,8 @@ fn log(file: &[u8], limits: &Limits, rng: &mut Rng) -> Option<Log> {
 #[derive(Default)]
 struct Counts {
     left_out: u64,
-    refused: u64,
+    /// Files by refusal.
+    refused: BTreeMap<u8, u64>,
     entries: u64,
     asked: u64,
     /// Success, failure, shut out, fewer, 18, refused.
@@ -361,24 +362,41 @@ fn lengths(judged: &Judged, rng: &mut Rng) -> Vec<u64> {
     lengths
 }
 
+/// One question: the n-th entry with so many words of work slice and so many lent.
+struct Call<'a> {
+    log: &'a Log,
+    n: u64,
+    words: usize,
+    lent: u64,
+    expected: Told,
+    judged: Option<&'a Judged>,
+}
+
 /// The first fault of a file.
 fn fault(file: &[u8], seed: u64, asked: Asked, counts: &mut Counts) -> Option<Fault> {
     let rng = &mut Rng::new(seed ^ 0x696e_7370);
     let limits = Limits {
-        words: [16_384, 16_384, 16_384, 16_384, 20_000, 16_383][rng.below(6)],
+        words: [16_384, 16_384, 20_000][rng.below(3)],
         ..Limits::default()
     };
     let Some(log) = log(file, &limits, rng) else {
         counts.left_out += 1;
         return None;
     };
-    // n, the words lent, what is expected
-    let mut calls: Vec<(u64, u64, Told, Option<&Judged>)> = vec![];
+    let mut calls: Vec<Call> = vec![];
+    let call = |n, lent, expected, judged| Call {
+        log: &log,
+        n,
+        words: limits.words,
+        lent,
+        expected,
+        judged,
+    };
     match &log {
         Log::Refused(number) => {
-            counts.refused += 1;
+            *counts.refused.entry(*number).or_default() += 1;
             let n = [0, 0, 1, u64::from(u32::MAX)][rng.below(4)];
-            calls.push((n, rng.below(300) as u64, Told::Refused(*number), None));
+            calls.push(call(n, rng.below(300) as u64, Told::Refused(*number), None));
         }
         Log::Made { count, judged } => {
             counts.entries += count;
@@ -390,18 +408,34 @@ fn fault(file: &[u8], seed: u64, asked: Asked, counts: &mut Counts) -> Option<Fa
                     return Some(Fault { what, text });
                 }
                 for lent in lengths(judged, rng) {
-                    calls.push((judged.entry.number, lent, judged.told(lent), Some(judged)));
+                    calls.push(call(judged.entry.number, lent, judged.told(lent), Some(judged)));
                 }
             }
             for n in [*count, count + 1 + rng.below(1 << 20) as u64] {
-                calls.push((n, rng.below(300) as u64, Told::Fewer, None));
+                calls.push(call(n, rng.below(300) as u64, Told::Fewer, None));
             }
         }
     }
-    for (n, lent, expected, judged) in calls {
+    // A work slice that is too short comes before all else.
+    if rng.chance(10) {
+        calls.push(Call {
+            log: &Log::Refused(1),
+            words: [16_383, rng.below(16_383)][rng.below(2)],
+            ..call(0, rng.below(300) as u64, Told::Refused(1), None)
+        });
+    }
+    for call in calls {
+        let Call {
+            log,
+            n,
+            words,
+            lent,
+            expected,
+            judged,
+        } = call;
         let found = match asked {
-            Asked::Library => asked_library(file, n as u32, limits.words, lent),
-            Asked::Model(wrong) => asked_model(&log, n, limits.words, lent, wrong),
+            Asked::Library => asked_library(file, n as u32, words, lent),
+            Asked::Model(wrong) => asked_model(log, n, words, lent, wrong),
         };
         let kind = match expected {
             Told::Success => 0,
@@ -421,7 +455,7 @@ fn fault(file: &[u8], seed: u64, asked: Asked, counts: &mut Counts) -> Option<Fa
             let text = format!(
                 "{what}, entry {n}, {lent} words lent, work of {} words\nexpected {expected:?}, found {} and {}\n\
                  work not zero at {dirty:?}\nlent {:?}\n{:?}\n",
-                limits.words,
+                words,
                 found.number,
                 found.told,
                 &found.lent[..used],
@@ -530,6 +564,8 @@ pub fn compare(options: &Options) -> Done {
     println!(
         "  told: success {success}, failure {failure}, shut out {shut_out}, fewer {fewer}, 18 {too_few}, refused {refused}"
     );
+    let by_number = counts.refused.iter().map(|(number, files)| format!("{number}: {files}"));
+    println!("  refused by number: {}", by_number.collect::<Vec<_>>().join(", "));
     println!(
         "  assignments {}, of which {} respect the bindings; the most words of an entry solved {}; by the program {}",
         counts.compared.assignments, counts.compared.respecting, counts.words, counts.programs
@@ -538,7 +574,7 @@ pub fn compare(options: &Options) -> Done {
         "compare inspect: {} files, {} left out, {} refused, {} entries, asked about {}, {} mismatches",
         corpus.count(),
         counts.left_out,
-        counts.refused,
+        counts.refused.values().sum::<u64>(),
         counts.entries,
         counts.asked,
         mismatches.count
@@ -548,11 +584,14 @@ pub fn compare(options: &Options) -> Done {
 
 // ---- For the self-test
 
-/// What a solver with this mistake, or none, is told by in so many files of a run, and in which.
+/// What a solver with this mistake, or none, is told by in so many files, and in which first.
 pub fn told(wrong: Option<Wrong>, files: u64) -> Option<(u64, &'static str)> {
     let mut counts = Counts::default();
     (0..files).find_map(|number| {
-        let (_, file) = trial::file(12, number);
+        let file = match number % 2 {
+            0 => trial::file(12, number).1,
+            _ => files::generate(files::PAIRS, number),
+        };
         let fault = fault(&file, number, Asked::Model(wrong), &mut counts)?;
         Some((number, fault.what))
     })
