@@ -1,5 +1,5 @@
-//! Unifications of several steps, for card 12: records with the same few variables in many places, compared with records
-//! of the same shape, and variables that take declared unions.
+//! Unifications of several steps, for card 12: records with the same few variables in many places, compared with
+//! records of the same shape, and variables that take declared unions.
 
 use crate::draft::{Draft, Expr, Shape, Stmt};
 use crate::rng::Rng;

@@ -301,12 +301,19 @@ struct Counts {
 
 /// What was wrong at an entry.
 struct Fault {
-    what: &'static str,
+    /// The kind of fault, the answer expected and the one found.
+    what: String,
     text: String,
 }
 
 /// Holds an answer against what is expected.
-fn check(expected: Told, judged: Option<&Judged>, found: &Found, seed: u64, counts: &mut Counts) -> Result<(), &'static str> {
+fn check(
+    expected: Told,
+    judged: Option<&Judged>,
+    found: &Found,
+    seed: u64,
+    counts: &mut Counts,
+) -> Result<(), &'static str> {
     if (found.number, found.told) != expected.numbers() {
         return Err("answer");
     }
@@ -404,7 +411,7 @@ fn fault(file: &[u8], seed: u64, asked: Asked, counts: &mut Counts) -> Option<Fa
             for judged in judged {
                 if !judged.defined() {
                     let text = format!("entry {}: {:?}\n", judged.entry.number, judged.entry);
-                    let what = "definition";
+                    let what = "definition".to_owned();
                     return Some(Fault { what, text });
                 }
                 for lent in lengths(judged, rng) {
@@ -461,6 +468,7 @@ fn fault(file: &[u8], seed: u64, asked: Asked, counts: &mut Counts) -> Option<Fa
                 &found.lent[..used],
                 judged.map(|judged| (&judged.entry, &judged.after)),
             );
+            let what = format!("{what} {expected:?} {} {}", found.number, found.told);
             return Some(Fault { what, text });
         }
     }
@@ -494,7 +502,9 @@ fn program_fault(program: &str, file: &[u8], seed: u64, counts: &mut Counts) -> 
     };
     let n = match &log {
         Log::Refused(_) => rng.below(9) as u64,
-        Log::Made { judged, .. } if !judged.is_empty() && rng.chance(95) => judged[rng.below(judged.len())].entry.number,
+        Log::Made { judged, .. } if !judged.is_empty() && rng.chance(95) => {
+            judged[rng.below(judged.len())].entry.number
+        }
         Log::Made { count, .. } => *count,
     };
     let Some(expected) = printed(&log, n) else {
@@ -506,7 +516,8 @@ fn program_fault(program: &str, file: &[u8], seed: u64, counts: &mut Counts) -> 
         return Ok(None);
     }
     let text = format!("entry {n}, expected\n{expected}found\n{}", String::from_utf8_lossy(&found));
-    Ok(Some(Fault { what: "program", text }))
+    let what = "program".to_owned();
+    Ok(Some(Fault { what, text }))
 }
 
 // ---- The run
@@ -562,7 +573,8 @@ pub fn compare(options: &Options) -> Done {
     }
     let [success, failure, shut_out, fewer, too_few, refused] = counts.told;
     println!(
-        "  told: success {success}, failure {failure}, shut out {shut_out}, fewer {fewer}, 18 {too_few}, refused {refused}"
+        "  told: success {success}, failure {failure}, shut out {shut_out}, fewer {fewer}, 18 {too_few}, \
+         refused {refused}"
     );
     let by_number = counts.refused.iter().map(|(number, files)| format!("{number}: {files}"));
     println!("  refused by number: {}", by_number.collect::<Vec<_>>().join(", "));
@@ -585,7 +597,7 @@ pub fn compare(options: &Options) -> Done {
 // ---- For the self-test
 
 /// What a solver with this mistake, or none, is told by in so many files, and in which first.
-pub fn told(wrong: Option<Wrong>, files: u64) -> Option<(u64, &'static str)> {
+pub fn told(wrong: Option<Wrong>, files: u64) -> Option<(u64, String)> {
     let mut counts = Counts::default();
     (0..files).find_map(|number| {
         let file = match number % 2 {

@@ -1,4 +1,5 @@
-//! The plain solver's run as docs/FORMAT.md defines it, over the entry that the Rust logged, with mistakes to switch on.
+//! The plain solver's run as docs/FORMAT.md defines it, over the entry that the Rust logged, with mistakes to switch
+//! on.
 
 use judge::entries::{Kind, Node, Part, Term, Terms};
 

@@ -4,8 +4,8 @@ use super::forms::{FIRST, NAMES};
 use super::{Group, lines};
 use crate::inspect;
 
-/// Of each case the nodes' shapes, the statements, the words lent, and what is told of each entry in turn. Names 0 and 1
-/// are x and y.
+/// Of each case the nodes' shapes, the statements, the words lent, and what is told of each entry in turn. Names 0 and
+/// 1 are x and y.
 type Case = (&'static str, &'static [&'static str], &'static str, u64, &'static str);
 
 /// x = y; y = 1; x = "".
