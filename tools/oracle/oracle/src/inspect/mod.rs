@@ -23,10 +23,10 @@ use run::{Binding, Came, Run, Slip, run, spelled, unspelled};
 const MOST: u64 = 262_144;
 
 /// A file with at most so many entries is asked about each, unless its visits make that too long.
-const EVERY: u64 = 1_000;
+const EVERY: u64 = 100_000;
 
 /// The most visits of all the port's runs of one file, but for a few runs.
-const MOST_VISITS: u64 = 8_000_000;
+const MOST_VISITS: u64 = 400_000_000;
 
 /// The words that the program lends.
 const PROGRAM: u64 = 65_536;
