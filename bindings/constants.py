@@ -1,6 +1,6 @@
 #!/usr/bin/env python3
 """Holds the numbers of the bindings against the sources: refusals (crates/reading), limits (crates/work), codes (crates/meaning), the calls
-of the library (crates/sigla_lib). Prints what differs."""
+of the library (crates/sigla_lib), what the plain solver tells (its specs). Prints what differs."""
 
 import pathlib
 import re
@@ -29,6 +29,8 @@ tool = text("bindings/tool/src/explain.rs")
 
 # refusals: the variants of the enum in order, from 1
 variants = re.findall(r"^    ([A-Z]\w+),", re.search(r"pub enum Refusal \{(.*?)\}", text("crates/reading/src/lib.rt"), re.S)[1], re.M)
+numbers = text("crates/sigla_lib/specs/Numbers.antt")
+variants += re.findall(r"^inspectNumber Inspected\.(\w+) = 18$", numbers, re.M)  # the plain solver's own, no refusal of the reading
 refusals = list(enumerate(variants, 1))
 enum = re.search(r"enum sigla_refusal \{(.*?)\}", header, re.S)[1]
 same("sigla.h, refusals", [(int(n), camel(name)) for name, n in re.findall(r"SIGLA_(\w+) = (\d+)", enum)][1:], refusals)
@@ -64,6 +66,20 @@ for name, ours in [("NAMES", "NAMES"), ("TYPES", "TYPES"), ("PREDICATES", "PREDI
     same(f"form.rs, {name}", of_form[name], limits[ours])
 for where, found in [("lib.rs", constants), ("sigla.py", of_python)]:
     same(f"{where}, STACK", found["STACK"], defines["STACK"])
+
+# what the plain solver tells, and the words that its program lends
+inspected = re.findall(r"^inspectTold \(?Inspected\.(\w+)(?: n\))? = (\d)$", numbers, re.M)
+inspected = sorted((int(n), name) for name, n in inspected if name not in variants)
+enum = re.search(r"enum sigla_told \{(.*?)\n\}", header, re.S)[1]
+same("sigla.h, told", [(int(n), camel(name)) for name, n in re.findall(r"SIGLA_TOLD_(\w+) = (\d+)", enum)], inspected)
+solver = text("bindings/rust/src/inspect.rs")
+same("inspect.rs, told", [(int(n), name) for n, name in re.findall(r"^        (\d) => Inspected::(\w+)", solver, re.M)], inspected)
+told = re.findall(r"\"(.*?)\"", re.search(r"^TOLD = \((.*?)\)", python, re.M)[1])
+same("sigla.py, told", [(n, camel(name.replace(" ", "_"))) for n, name in enumerate(told)], inspected)
+words = int(re.search(r"let mut lent = \[0u32; (\d+)\]", text("crates/sigla_inspect/src/main.rt"))[1])
+same("sigla.h, LENT_WORDS", defines["LENT_WORDS"], words)
+same("inspect.rs, LENT", int(re.search(r"pub const LENT: usize = (\d+);", solver)[1]), words)
+same("sigla.py, LENT", of_python["LENT"], words)
 
 # calls
 calls = set(re.findall(r"#\[no_mangle\]\s*pub extern \"C\" fn (\w+)", text("crates/sigla_lib/src/lib.rt")))

@@ -11,6 +11,15 @@
 
 static const char SMALLEST[] = "01020020\n05000000000000000300\n060000\n";
 static const char ANSWER[] = "07000000\n0900000000\n";
+/* x where sample {pen = x}, with `sample` keyed by {pen : string}: one unification, of an unknown with a string */
+static const char PEN[] = "01020020\n0270656e\n0273616d706c65\n0278\n0301\n030400000000\n040001000100\n"
+                          "050000001600000017030002\n050000000f000000180800000000\n0500000008000000180d000000000001\n"
+                          "050000000000000001030002\n060003010002\n";
+/* x = {f = x}, and x = what could not be read */
+static const char INFINITE[] = "01020020\n0278\n0266\n050000000000000001030000\n05000000090000000a030000\n"
+                               "05000000040000000b0800010001\n050000000f00000010030000\n0600030000000002\n";
+static const char UNREAD[] = "01020020\n0278\n050000000000000001030000\n05000000040000000a0f\n050000000f00000010030000\n"
+                             "0600020000000001\n";
 static size_t held;
 
 #define HOLDS(what) (assert(what), held++)
@@ -73,6 +82,64 @@ int main(void) {
         else
             HOLDS(refusal == SIGLA_ACCEPTED && length == all && memcmp(out, load, all) == 0 && zero(out + all, room - all));
         free(out);
+    }
+
+    /* the plain solver: what is told, refusals, each length of the lent slice, just as long as what was allocated */
+    const uint8_t *pen = (const uint8_t *)PEN;
+    uint32_t told = 7, few[16];
+    struct sigla_binding binding;
+    struct sigla_token token;
+    size_t from = 0;
+    HOLDS(sigla_inspect(NULL, 0, 0, NULL, 0, NULL, 0, &told) == SIGLA_WORK_TOO_SHORT && told == 0);
+    HOLDS(sigla_inspect(pen, sizeof PEN - 1, 0, work, SIGLA_WORDS, NULL, 0, &told) == SIGLA_TOO_FEW_WORDS && told == 0);
+    HOLDS(sigla_inspect(pen, sizeof PEN - 1, 1, work, SIGLA_WORDS, NULL, 0, &told) == SIGLA_ACCEPTED && told == SIGLA_TOLD_FEWER);
+    HOLDS(sigla_inspect(pen, sizeof PEN - 1, UINT32_MAX, work, SIGLA_WORDS, few, 16, &told) == SIGLA_ACCEPTED && told == SIGLA_TOLD_FEWER);
+    HOLDS(sigla_inspect((const uint8_t *)INFINITE, sizeof INFINITE - 1, 0, work, SIGLA_WORDS, few, 16, &told) == SIGLA_ACCEPTED);
+    HOLDS(told == SIGLA_TOLD_FAILURE && zero(few, sizeof few));
+    HOLDS(sigla_inspect((const uint8_t *)INFINITE, sizeof INFINITE - 1, 0, work, SIGLA_WORDS, few, 15, &told) == SIGLA_TOO_FEW_WORDS);
+    memset(few, 0xff, sizeof few);
+    HOLDS(sigla_inspect((const uint8_t *)UNREAD, sizeof UNREAD - 1, 0, work, SIGLA_WORDS, few, 16, &told) == SIGLA_ACCEPTED);
+    HOLDS(told == SIGLA_TOLD_SHUT_OUT && zero(few, sizeof few));
+    memset(few, 0xff, sizeof few);
+    memset(work, 0xff, SIGLA_WORDS * sizeof *work);
+    HOLDS(sigla_inspect(pen, sizeof PEN - 2, 0, work, SIGLA_WORDS, few, 16, &told) == SIGLA_MALFORMED_LINE && told == 0);
+    HOLDS(zero(few, sizeof few) && zero(work, SIGLA_WORDS * sizeof *work));
+    for (size_t room = 0; room < 10; room++) {
+        uint32_t *lent = malloc(room * sizeof *lent + (room == 0));
+        memset(lent, 0xff, room * sizeof *lent);
+        memset(work, 0xff, SIGLA_WORDS * sizeof *work);
+        uint8_t refusal = sigla_inspect(pen, sizeof PEN - 1, 0, work, SIGLA_WORDS, lent, room, &told);
+        HOLDS(zero(work, SIGLA_WORDS * sizeof *work));
+        if (room < 6) {
+            HOLDS(refusal == SIGLA_TOO_FEW_WORDS && told == 0 && zero(lent, room * sizeof *lent));
+        } else {
+            HOLDS(refusal == SIGLA_ACCEPTED && told == SIGLA_TOLD_SUCCESS && zero(lent + 3, (room - 3) * sizeof *lent));
+            from = 0;
+            HOLDS(sigla_next_binding(lent, room, &from, &binding) == 1 && binding.unknown == 0 && binding.count == 1);
+            HOLDS(binding.type[0] == SIGLA_TOKEN_STRING && sigla_next_binding(lent, room, &from, &binding) == 0 && from == 3);
+        }
+        free(lent);
+    }
+
+    /* bindings in any words */
+    const uint32_t bound[] = {11, 5, 5, 2, 9, 3, 1, 9, 7, 7, 2, 11, 6, 6, 1, 10, 4, 9, 9, 5, 0, 11, 7, 8};
+    const size_t counts[] = {9, 8, 1};
+    from = 0;
+    for (uint32_t i = 0; i < 3; i++)
+        HOLDS(sigla_next_binding(bound, 24, &from, &binding) == 1 && binding.unknown == 5 + i && binding.count == counts[i]);
+    HOLDS(from == 24 && sigla_next_binding(bound, 24, &from, &binding) == 0);
+    from = 13;
+    HOLDS(sigla_next_token(bound, 24, &from, &token) == 1 && token.kind == SIGLA_TOKEN_UNION && token.number == 1 && from == 15);
+    for (size_t end = 1; end < 24; end++) {
+        int got = 1;
+        for (from = 0; got > 0;)
+            got = sigla_next_binding(bound, end, &from, &binding);
+        HOLDS(got == (end == 11 || end == 21 ? 0 : -1));
+    }
+    const uint32_t no[][6] = {{12, 0, 1}, {1}, {11, 0, 0}, {11, 0, 11, 0, 1}, {11, 0, 5, UINT32_MAX, 9, 0}, {11, 0, 9, 0}, {9, 0, 1}};
+    for (size_t i = 0; i < sizeof no / sizeof *no; i++) {
+        from = 0;
+        HOLDS(sigla_next_binding(no[i], 6, &from, &binding) == -1 && from == 0 && binding.type == NULL);
     }
 
     /* each length of the answer slice, just as long as what was allocated */

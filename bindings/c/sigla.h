@@ -18,9 +18,7 @@
  * Signals, longjmp?       A call may be interrupted; its slices then hold anything. It never calls back, blocks or raises.
  * How long does it take?  Microseconds; a query makes at most 1,048,576 visits, tens of milliseconds.
  * Which platform?         x86-64 Linux, the C calling convention of that system. No file, clock, locale or environment is read.
- * Which edition?          Predicate numbers of 4 bytes. Files of the older one, with 2, go through sigla_widen first.
- *
- * One call is still to come: the plain solver. */
+ * Which edition?          Predicate numbers of 4 bytes. Files of the older one, with 2, go through sigla_widen first. */
 #ifndef SIGLA_H
 #define SIGLA_H
 
@@ -33,6 +31,7 @@
 #define SIGLA_WORDS 16384       /* the words that must be lent */
 #define SIGLA_BYTES 65536       /* the answer bytes that the program lends */
 #define SIGLA_QUERIES 64        /* the most queries of a file */
+#define SIGLA_LENT_WORDS 65536  /* the words that the program lends to the plain solver */
 #define SIGLA_STACK 1048576     /* bytes of stack that suffice for every file tried (732,168 were used, on samples/deepest.hex) */
 
 /* The limits of a file. */
@@ -61,6 +60,7 @@ enum sigla_kind {
     SIGLA_QUERY_NUMBER = 0x0b,  /* number (2), before the lines of each of several queries */
     SIGLA_WRITTEN_ONCE = 0x0c,  /* start (4), end (4) of a name that is written only there */
     SIGLA_LAMP = 0x0d,          /* what the program sigla_lamp prints: 00 or 01 */
+    SIGLA_INSPECTED = 0x0e,     /* what the program sigla_inspect prints: what is told (1) */
     SIGLA_REFUSED = 0x0f        /* what the programs print of a refusal: its number (1) */
 };
 
@@ -126,7 +126,8 @@ enum sigla_refusal {
     SIGLA_NUMBER_TOO_WIDE = 14,
     SIGLA_TALLY_TOO_LARGE = 15,
     SIGLA_CEILING_PASSED = 16,
-    SIGLA_OUTSIDE_THE_RULES = 17
+    SIGLA_OUTSIDE_THE_RULES = 17,
+    SIGLA_TOO_FEW_WORDS = 18
 };
 
 #ifdef __cplusplus
@@ -143,6 +144,37 @@ uint8_t sigla_check(const uint8_t *file, size_t file_len, uint32_t *work, size_t
  * written. Else the refusal's number, 1 to 11 or 13, and `lit` is 0; 11 only where no diagnostic came first. The work slice is zero
  * throughout after each. */
 uint8_t sigla_lamp(const uint8_t *file, size_t file_len, uint32_t *work, size_t work_len, uint32_t *lit);
+
+/* What the plain solver tells of a unification. */
+enum sigla_told {
+    SIGLA_TOLD_FAILURE = 0,     /* as the check's unification does there */
+    SIGLA_TOLD_SUCCESS = 1,     /* the bindings stand in the lent slice */
+    SIGLA_TOLD_SHUT_OUT = 2,    /* a side reaches an Error or a record that names a field twice */
+    SIGLA_TOLD_FEWER = 3        /* the file's run has no n-th entry */
+};
+
+/* The first of the one or two words of a token in the lent slice after a success; what is owed follows it. */
+enum sigla_token_kind {
+    SIGLA_TOKEN_INTEGER = 1,
+    SIGLA_TOKEN_STRING = 2,
+    SIGLA_TOKEN_BYTES = 3,
+    SIGLA_TOKEN_FACT = 4,       /* predicate */
+    SIGLA_TOKEN_RECORD = 5,     /* how many fields: as many tokens 9, each before its type */
+    SIGLA_TOKEN_UNION = 6,      /* how many alternatives: as many tokens 10 */
+    SIGLA_TOKEN_UNKNOWN = 7,    /* number */
+    SIGLA_TOKEN_ERROR = 8,
+    SIGLA_TOKEN_KEY = 9,        /* the name of a field or the discriminant of an alternative, before its type */
+    SIGLA_TOKEN_LABEL = 10,     /* the name of an alternative, before its token 9 */
+    SIGLA_TOKEN_BINDING = 11    /* the unknown that is bound, before its type */
+};
+
+/* The n-th unification of a file's run, solved by the plain solver (docs/FORMAT.md): the entries from outside are counted from 0 over the
+ * runs of all queries, those that fail and those that are taken back among them. 0, and `told` is one of enum sigla_told; after a success
+ * the lent slice holds the bindings, the newest first, and then zeros (sigla_next_binding of sigla_answer.h), else it is zero throughout.
+ * Else a refusal's number, 1 to 11 or 13 as of the check, 11 also where the visits run out after the entry; then 18 where the solver needs
+ * more words than were lent; `told` is 0 and the lent slice zero. The work slice is zero after each. */
+uint8_t sigla_inspect(const uint8_t *file, size_t file_len, uint32_t n, uint32_t *work, size_t work_len, uint32_t *lent, size_t lent_len,
+                      uint32_t *told);
 
 /* The two editions of files: predicate references of 2 bytes (narrow) and of 4 (wide), which alone the check reads. 0: the file stands
  * in `out` in the other edition, zeros after it. Else 1 to 10 and 13 of the edition that is read, 12, and 14 for a number above
@@ -220,6 +252,7 @@ static inline const char *sigla_reason(uint8_t number) {
     case SIGLA_TALLY_TOO_LARGE: return "a total of the tally would pass 32 bits, or its remainder is over 999";
     case SIGLA_CEILING_PASSED: return "a query needs more visits than the desk's ceiling";
     case SIGLA_OUTSIDE_THE_RULES: return "the desk number or the group of desks is outside the rules";
+    case SIGLA_TOO_FEW_WORDS: return "the plain solver needs more words than were lent to it";
     default: return "turned down for a reason that this version does not know";
     }
 }

@@ -1,12 +1,17 @@
-/* Reads an answer line by line, in C or C++. Nothing is allocated and nothing is written but what is passed. Tested, not proved: it takes
- * any bytes, and tells what is no line of an answer.
+/* Reads an answer line by line, and the bindings of sigla_inspect, in C or C++. Nothing is allocated and nothing is written but what is passed. Tested, not proved: it takes
+ * any bytes and words, and tells what is no line of an answer and no binding.
  *
  *     size_t at = 0;
  *     struct sigla_line line;
  *     while (sigla_next_line(answer, length, &at, &line) > 0)
  *         if (line.kind == SIGLA_DIAGNOSTIC) ...
  *
- * bindings/c/diagnostics.c is a whole program. */
+ *     size_t at = 0;
+ *     struct sigla_binding binding;
+ *     while (sigla_next_binding(lent, lent_len, &at, &binding) > 0)
+ *         ...
+ *
+ * bindings/c/diagnostics.c and inspect.c are whole programs. */
 #ifndef SIGLA_ANSWER_H
 #define SIGLA_ANSWER_H
 
@@ -92,6 +97,65 @@ static inline size_t sigla_text(const struct sigla_line *line, char *out, size_t
     if (room > 0)
         out[n < room ? n : room - 1] = 0;
     return n;
+}
+
+/* A token of the words that sigla_inspect leaves. What its kind does not have is 0. */
+struct sigla_token {
+    uint32_t kind;              /* enum sigla_token_kind */
+    uint32_t number;
+};
+
+/* The token that starts at `at`: 1, and `at` is after it; 0 at the end or at a zero; -1 where there is no token. */
+static inline int sigla_next_token(const uint32_t *words, size_t count, size_t *at, struct sigla_token *token) {
+    token->kind = token->number = 0;
+    if (*at >= count || words[*at] == 0)
+        return 0;
+    uint32_t kind = words[*at];
+    int is_short = kind < SIGLA_TOKEN_FACT || kind == SIGLA_TOKEN_ERROR;
+    if (kind > SIGLA_TOKEN_BINDING || (!is_short && count - *at < 2))
+        return -1;
+    token->kind = kind;
+    if (!is_short)
+        token->number = words[*at + 1];
+    *at += is_short ? 1 : 2;
+    return 1;
+}
+
+/* A binding: an unknown, and the words of its type, for sigla_next_token. */
+struct sigla_binding {
+    uint32_t unknown;
+    const uint32_t *type;
+    size_t count;
+};
+
+/* The binding that starts at `at`, as sigla_next_token does. Types are not nested here: each token tells how many types it owes. */
+static inline int sigla_next_binding(const uint32_t *lent, size_t lent_len, size_t *at, struct sigla_binding *binding) {
+    const struct sigla_binding none = {0, NULL, 0};
+    *binding = none;
+    struct sigla_token token;
+    size_t next = *at;
+    int is = sigla_next_token(lent, lent_len, &next, &token);
+    if (is <= 0)
+        return is;
+    if (token.kind != SIGLA_TOKEN_BINDING)
+        return -1;
+    uint32_t unknown = token.number;
+    size_t first = next;
+    for (uint64_t owed = 1; owed > 0;) {
+        if (sigla_next_token(lent, lent_len, &next, &token) <= 0)
+            return -1;
+        if (token.kind == SIGLA_TOKEN_BINDING)
+            return -1;
+        if (token.kind == SIGLA_TOKEN_RECORD || token.kind == SIGLA_TOKEN_UNION)
+            owed += token.number;
+        if (token.kind != SIGLA_TOKEN_KEY && token.kind != SIGLA_TOKEN_LABEL)
+            owed--;
+    }
+    binding->unknown = unknown;
+    binding->type = lent + first;
+    binding->count = next - first;
+    *at = next;
+    return 1;
 }
 
 #ifdef __cplusplus

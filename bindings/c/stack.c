@@ -9,6 +9,7 @@ static size_t length;
 static uint32_t work[SIGLA_WORDS];
 static uint8_t answer[SIGLA_BYTES];
 static uint8_t other[SIGLA_BYTES];
+static uint32_t lent[SIGLA_LENT_WORDS];
 
 static void *calls(void *unused) {
     (void)unused;
@@ -23,7 +24,13 @@ static void *calls(void *unused) {
     printf(" widen %u", sigla_widen(other, sigla_length(other, sizeof other), work, SIGLA_WORDS, answer, sizeof answer));
     printf(" growth %u", sigla_growth(file, length, file, length, work, SIGLA_WORDS));
     size_t made;
-    printf(" load %u\n", sigla_load(7, other, sizeof other, &made));
+    printf(" load %u", sigla_load(7, other, sizeof other, &made));
+    /* unifications over the whole run, at growing distances */
+    uint32_t told = SIGLA_TOLD_FAILURE, n = 0;
+    uint8_t refusal = 0;
+    for (; told != SIGLA_TOLD_FEWER && (refusal == 0 || refusal == SIGLA_TOO_FEW_WORDS); n += n / 8 + 1)
+        refusal = sigla_inspect(file, length, n, work, SIGLA_WORDS, lent, SIGLA_LENT_WORDS, &told);
+    printf(" inspect %u %u below %u\n", refusal, told, n);
     return NULL;
 }
 

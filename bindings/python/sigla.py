@@ -13,7 +13,7 @@ own rules. `make_library` makes one from the static library. docs/FORMAT.md has 
 
 prints each file's nodes with their types, and its diagnostics.
 
-The calls are proved; this file is tested. The plain solver, a call still to come, goes beside `growth`.
+The calls are proved; this file is tested.
 """
 
 import ctypes
@@ -30,6 +30,7 @@ BYTES = 65536
 QUERIES = 64
 STACK = 1048576
 LOAD = 8255
+LENT = 65536
 
 REASONS = {
     1: "the work slice has fewer than 16,384 words",
@@ -49,6 +50,7 @@ REASONS = {
     15: "a total of the tally would pass 32 bits, or its remainder is over 999",
     16: "a query needs more visits than the desk's ceiling",
     17: "the desk number or the group of desks is outside the rules",
+    18: "the plain solver needs more words than were lent to it",
 }
 
 
@@ -101,7 +103,7 @@ def _load():
         beside = pathlib.Path(__file__).resolve().parent / "../../lib/libsigla.so"
         found = os.environ.get("SIGLA_SO") or (str(beside) if beside.exists() else "libsigla.so")
         library = ctypes.CDLL(found)
-        for name in ("check", "lamp", "widen", "narrow", "growth", "load", "tally", "set_up", "ceiling", "new_day", "check_at"):
+        for name in ("check", "lamp", "widen", "narrow", "growth", "load", "inspect", "tally", "set_up", "ceiling", "new_day", "check_at"):
             getattr(library, f"sigla_{name}").restype = ctypes.c_uint8
         _library = library
     return _library
@@ -179,6 +181,98 @@ def load(seed, length=LOAD):
     out, n = (ctypes.c_uint8 * length)(), ctypes.c_size_t()
     _told(_load().sigla_load(ctypes.c_uint32(_word(seed)), out, ctypes.c_size_t(length), ctypes.byref(n)))
     return bytes(out[:n.value])
+
+
+TOLD = ("failure", "success", "shut out", "fewer")
+
+
+@dataclass(frozen=True)
+class Binding:
+    """What an unknown is bound to, its type as of `Typed`; as a text it is what the program sigla_inspect prints."""
+
+    unknown: int
+    type: tuple
+
+    def __str__(self):
+        words, left = [f"?{self.unknown} ="], [self.type]  # what is left to be written, the next one last
+        while left:
+            part = left.pop()
+            if isinstance(part, str):
+                words.append(part)
+            elif part[0] in ("record", "union"):
+                words.append(f"{part[0]} {len(part[1])}")
+                for *head, type in reversed(part[1]):
+                    left += [type, f".{head[0]}" if part[0] == "record" else f"|{head[0]} .{head[1]}"]
+            else:
+                words.append({"integer": "Int", "string": "String", "bytes": "Bytes", "error": "Error"}.get(part[0]) or
+                             (f"?{part[1]}" if part[0] == "open" else f"fact {part[1]}"))
+        return " ".join(words)
+
+
+@dataclass(frozen=True)
+class Inspected:
+    """What the plain solver tells of a unification: one of TOLD, and after a success the bindings, the newest first. It fails where the
+    check's does; it is shut out where a side reaches an Error or a record that names a field twice; there may be fewer unifications."""
+
+    told: str
+    bindings: tuple = ()
+
+
+def inspect(file, n, words=WORDS, lent=LENT):
+    """The n-th unification of a file's run, from 0, solved by the plain solver (docs/FORMAT.md); raises Refused, 18 where so many lent words
+    are too few."""
+    solver, told = (ctypes.c_uint32 * lent)(), ctypes.c_uint32()
+    _told(_load().sigla_inspect(*_file(file), ctypes.c_uint32(_word(n)), *_work(words), solver, ctypes.c_size_t(lent), ctypes.byref(told)))
+    return Inspected(TOLD[told.value], bindings(solver))
+
+
+def bindings(words):
+    """The bindings in the words that the plain solver leaves, up to a zero where the next would begin; raises ValueError where there is none."""
+    found, at = [], 0
+    while at < len(words) and words[at]:
+        unknown, at = _number_after(words, at, 11)
+        type, at = _type_of(words, at)
+        found.append(Binding(unknown, type))
+    return tuple(found)
+
+
+def _number_after(words, at, kind):
+    if at + 1 >= len(words) or words[at] != kind:
+        raise ValueError("not a binding")
+    return words[at + 1], at + 2
+
+
+def _type_of(words, at):
+    """The type at a place, and where it ends; as `_Reader.type`, without a call of itself."""
+    around = []
+    while True:
+        kind = words[at] if at < len(words) else 0
+        done = None
+        if kind in (1, 2, 3, 8):
+            done, at = ({1: "integer", 2: "string", 3: "bytes", 8: "error"}[kind],), at + 1
+        elif kind in (4, 7):
+            number, at = _number_after(words, at, kind)
+            done = ("fact" if kind == 4 else "open", number)
+        elif kind in (5, 6):
+            missing, at = _number_after(words, at, kind)
+            around.append([("record", "union")[kind - 5], [], missing, None])
+        else:
+            raise ValueError("no type")
+        while around:
+            word, parts, missing, part = around[-1]
+            if done is not None:
+                parts.append((*part, done))
+            if missing:
+                head = ()
+                for kind in (9,) if word == "record" else (10, 9):
+                    number, at = _number_after(words, at, kind)
+                    head += (number,)
+                around[-1][2:] = [missing - 1, head]
+                break
+            around.pop()
+            done = (word, tuple(parts))
+        else:
+            return done, at
 
 
 class Tally(ctypes.Structure):

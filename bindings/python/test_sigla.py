@@ -86,6 +86,42 @@ class Calls(unittest.TestCase):
         with self.assertRaises(ValueError):
             sigla.load(2 ** 32)
 
+    def test_the_plain_solver(self):
+        form, infinite = ((SAMPLES / name).read_bytes() for name in ("form.hex", "infinite.hex"))
+        told = [sigla.inspect(form, n) for n in range(5)]
+        self.assertEqual([one.told for one in told], ["success", "success", "failure", "fewer", "fewer"])
+        self.assertEqual([[str(binding) for binding in one.bindings] for one in told], [["?0 = String"], ["?0 = Int"], [], [], []])
+        self.assertEqual([sigla.inspect(infinite, n).told for n in (0, 1, 2 ** 32 - 1)], ["failure", "fewer", "fewer"])
+        unread = b"01020020\n0278\n050000000000000001030000\n05000000040000000a0f\n050000000f00000010030000\n0600020000000001\n"
+        self.assertEqual(sigla.inspect(unread, 0), sigla.Inspected("shut out"))
+        self.assertEqual(sigla.inspect(form, 0, lent=6), told[0])
+        for arguments, options, number in [((form, 0), {"lent": 5}, 18), ((form, 0), {"lent": 0}, 18), ((form, 0), {"words": 16383}, 1),
+                                           ((b"", 0), {"lent": 0}, 4)]:
+            with self.assertRaises(sigla.Refused) as refused:
+                sigla.inspect(*arguments, **options)
+            self.assertEqual(refused.exception.number, number)
+        with self.assertRaises(ValueError):
+            sigla.inspect(form, 2 ** 32)
+
+    def test_bindings_are_read_and_shown(self):
+        words = [11, 5, 5, 2, 9, 3, 1, 9, 7, 7, 2, 11, 6, 6, 1, 10, 4, 9, 9, 5, 0, 11, 7, 4, 70000, 11, 8, 8, 11, 9, 3, 0, 11]
+        found = sigla.bindings(words)
+        self.assertEqual([str(binding) for binding in found],
+                         ["?5 = record 2 .3 Int .7 ?2", "?6 = union 1 |4 .9 record 0", "?7 = fact 70000", "?8 = Error", "?9 = Bytes"])
+        self.assertEqual(found[0], sigla.Binding(5, ("record", ((3, ("integer",)), (7, ("open", 2))))))
+        self.assertEqual(found[1].type, ("union", ((4, 9, ("record", ())),)))
+        whole = []
+        for end in range(1, 31):
+            with contextlib.suppress(ValueError):
+                sigla.bindings(words[:end])
+                whole.append(end)
+        self.assertEqual(whole, [11, 21, 25, 28])
+        for wrong in [[12, 0, 1], [11, 0, 0], [11, 0, 11, 0, 1], [11, 0, 5, 1, 10, 0, 1], [11, 0, 6, 1, 9, 0, 1], [11, 0, 1, 1]]:
+            with self.assertRaises(ValueError, msg=wrong):
+                sigla.bindings(wrong)
+        (deep,) = sigla.bindings([11, 0] + [5, 1, 9, 0] * 100000 + [1])
+        self.assertEqual(str(deep).count("record"), 100000)
+
     def test_what_is_no_answer(self):
         for lines in [b"0e\n", b"07000100\n", b"070000\n", b"0700000000\n", b"07000000", b"0a61\n", b"0B0000\n", b"0b0001\n", b"07 000000\n",
                       b"\n", b"0900000000\n0900000000\n", b"0800000000000000006\n", b"08000000000000000061\n0a61\n0a61\n"]:
@@ -117,13 +153,14 @@ class Calls(unittest.TestCase):
             found.append(sigla.lamp(deepest))
             found.append(sigla.widen(sigla.narrow(deepest)) == deepest)
             found.append(sigla.growth(deepest, deepest))
+            found.append({sigla.inspect(deepest, n, lent=1 << 18).told for n in range(0, 600, 40)} <= set(sigla.TOLD))
 
         before = threading.stack_size(sigla.STACK)
         thread = threading.Thread(target=run)
         thread.start()
         threading.stack_size(before)
         thread.join()
-        self.assertEqual(found[1:], [b"\n08" in found[0], True, 0])
+        self.assertEqual(found[1:], [b"\n08" in found[0], True, 0, True])
         names = sigla.Names.of(deepest)
         for query in sigla.parse(found[0]):
             for type in query.types:

@@ -105,7 +105,7 @@ impl From<NoAnswer> for Failure {
 }
 
 /// The deepest that a type is nested in any answer: 256 types of the schema within 512 records of a query.
-const DEPTH: usize = 768;
+pub(crate) const DEPTH: usize = 768;
 
 impl Answer {
     /// Whether no query has a diagnostic, as the lamp tells it.

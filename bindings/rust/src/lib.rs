@@ -8,6 +8,7 @@
 //! - [`widen`] and [`narrow`] turn files of the older edition into this one and back.
 //! - [`growth`] tells whether queries keep their answers under a larger schema.
 //! - [`load`] makes the test file of a seed.
+//! - [`inspect`] solves one unification of a file's run in another way and shows its bindings.
 //!
 //! A file that is turned down is a [`Refusal`], by the numbers of docs/FORMAT.md; [`refused_line`] finds the line. Nothing here panics on what a file or an answer holds.
 //!
@@ -31,9 +32,6 @@
 //! assert_eq!(diagnostic.to_string(), "22..23: reject/type-mismatch: expected a string, found an integer");
 //! # Ok::<(), Box<dyn std::error::Error>>(())
 //! ```
-//!
-//! One call of the library is still to come and gets a module beside `growth`: the plain solver, which asks for the n-th unification of a
-//! file's run.
 
 #![deny(missing_docs)]
 
@@ -42,6 +40,7 @@ mod desk;
 mod file;
 mod form;
 mod growth;
+mod inspect;
 mod load;
 mod refusal;
 mod ty;
@@ -51,6 +50,7 @@ pub use desk::{Desk, Group, Tally};
 pub use file::{Asked, File, NoFile, NodeFrame, PredicateFrame, QueryFrames, Shape, StatementFrame, TypeFrame};
 pub use form::{Form, Limit, Node, Predicate, Query, Span, Statement, Type};
 pub use growth::{Premise, growth};
+pub use inspect::{Binding, Inspected, LENT, bindings, inspect};
 pub use load::{LOAD, load};
 pub use refusal::Refusal;
 pub use ty::{Alternative, Field, Names, Shown, Tree, Ty};

@@ -41,12 +41,14 @@ pub enum Refusal {
     CeilingPassed,
     /// 17: the desk number or the group of desks is outside the rules.
     OutsideTheRules,
+    /// 18: the plain solver needs more words than were lent to it.
+    TooFewWords,
     /// A number that this version of the crate has no name for.
     Other(u8),
 }
 
 /// Each number with its refusal and what it says.
-const REFUSALS: [(u8, Refusal, &str); 17] = [
+const REFUSALS: [(u8, Refusal, &str); 18] = [
     (1, Refusal::WorkTooShort, "the work slice has fewer than 16,384 words"),
     (2, Refusal::FileTooLong, "the file has more than 65,536 bytes"),
     (3, Refusal::MalformedLine, "a line is empty, odd, has another character, more than 512 bytes, or no LF"),
@@ -64,6 +66,7 @@ const REFUSALS: [(u8, Refusal, &str); 17] = [
     (15, Refusal::TallyTooLarge, "a total of the tally would pass 32 bits, or its remainder is over 999"),
     (16, Refusal::CeilingPassed, "a query needs more visits than the desk's ceiling"),
     (17, Refusal::OutsideTheRules, "the desk number or the group of desks is outside the rules"),
+    (18, Refusal::TooFewWords, "the plain solver needs more words than were lent to it"),
 ];
 
 impl Refusal {

@@ -31,7 +31,7 @@ pub fn all() -> String {
 }
 
 /// What can be done about each refusal. After each the slices that were lent hold zeros alone.
-const CURES: [(u8, &str); 17] = [
+const CURES: [(u8, &str); 18] = [
     (1, "A call was lent too short a work slice: lend 16,384 words (SIGLA_WORDS). The programs always do."),
     (2, "Split a form into several files: each query is answered as if it stood alone."),
     (3, "A line is digits 0 to 9 and a to f, two for each byte, and ends with LF. A line end of CR LF, capital letters, a blank, an\nempty line at the end or a last line without LF are the usual causes."),
@@ -49,6 +49,7 @@ const CURES: [(u8, &str); 17] = [
     (15, "A tally is full, or was not made by the calls. Bill it and begin another one at zero; this one is as it was."),
     (16, "The desk's visits of the day are used up, or kept for the others by their shares. The ceiling was charged. `sigla_ceiling` tells\nwhat is left; a new day sets each use to 0."),
     (17, "Desks count from 0. From 1 to 16 desks; the shares together are no more than the pool, a cap is no lower than its share. A group\nhanded in must be one that the calls made. It is as it was."),
+    (18, "The plain solver alone gives this number, never the check. Lend `sigla_inspect` a longer slice; the program lends 65,536 words. A pair\nof types takes twice its words, a binding twice two more than those of its type (docs/FORMAT.md, \"The plain solver\")."),
 ];
 
 const CODES: [(&str, &str); 14] = [

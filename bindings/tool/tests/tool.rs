@@ -333,7 +333,7 @@ fn every_command_explains_itself() {
         assert_eq!(done.status.code(), Some(2));
         assert!(String::from_utf8_lossy(&done.stderr).contains(&format!("usage: sigla-tool {}", arguments[0])), "{arguments:?}");
     }
-    for number in 1..=17 {
+    for number in 1..=18 {
         let done = tool(&["explain", &number.to_string()], b"");
         assert!(done.status.success() && done.stdout.starts_with(format!("refused ({number}): ").as_bytes()), "{number}");
     }
@@ -344,7 +344,7 @@ fn every_command_explains_itself() {
         assert_eq!(tool(&["explain", what], b"").status.code(), Some(2), "{what}");
     }
     let all = tool(&["explain"], b"");
-    assert!(all.status.success() && String::from_utf8_lossy(&all.stdout).contains("  17  the desk number"));
+    assert!(all.status.success() && String::from_utf8_lossy(&all.stdout).contains("  18  the plain solver"));
     assert_eq!(tool(&[], b"").status.code(), Some(2));
     assert_eq!(tool(&["frobnicate"], b"").status.code(), Some(2));
     assert_eq!(tool(&["version"], b"").stdout, format!("sigla-tool {}\n", sigla::VERSION).as_bytes());

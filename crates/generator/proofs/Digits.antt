@@ -45,8 +45,11 @@ module _ (s : List ℕ) (v i : ℕ) (l : i < length s) where
   unfolding isDigit
   digits-next a b c =
       let d = getD s i 0 in
+      let inside : both (leb 48 d) (leb d 57) ≡ true = both-true (leb 48 d) (leb d 57) (le-leb 48 d a) (le-leb d 57 b) in
+      let small : ltb (10 * v + (d - 48)) 0x1_0000_0000 ≡ true = lt-ltb (10 * v + (d - 48)) 0x1_0000_0000 (omega arith) in
+      let ok = both-true (both (leb 48 d) (leb d 57)) (ltb (10 * v + (d - 48)) 0x1_0000_0000) inside small in
       ap (digitsFrom v) here
-      ∙ on v d (drop (suc i) s) (both-true (both (leb 48 d) (leb d 57)) (ltb (10 * v + (d - 48)) 0x1_0000_0000) (both-true (leb 48 d) (leb d 57) (le-leb 48 d a) (le-leb d 57 b)) (lt-ltb (10 * v + (d - 48)) 0x1_0000_0000 (omega arith)))
+      ∙ on v d (drop (suc i) s) ok
       ∙ rw (add-one i)
 
   pub digits-low : getD s i 0 < 48 → digitsFrom v (drop i s) ≡ none

@@ -22,7 +22,8 @@ use Rattle.meaning.specs.All.{All}
 use Rattle.meaning.specs.Content.{predicateFrame, queryFrames, schemaFrames, framesOf}
 use Rattle.meaning.specs.Writing.{asShape, asValueType, asNode, asQuery, asExpr, asContent, written, fileOf}
 use Rattle.meaning.proofs.Lists.{all-at}
-use Rattle.testload.specs.Rule.{Limits, limit, limits, names, base, simple, compound, predicates, predicate, leaves, pairs, singles, exprs, exprAt, queries, counts, from, choice, nodeOf, noPlan, planOf, queryOf, limitsOf, simpleOf, compoundOf, predicateOf, countOf, contentOf}
+use Rattle.testload.specs.Rule.{limit, limits, names, base, simple, compound, predicates, predicate, leaves, pairs}
+use Rattle.testload.specs.Rule.{singles, exprs, exprAt, from, choice, nodeOf, limitsOf, simpleOf, compoundOf, predicateOf, contentOf}
 use Rattle.writer.specs.Writes.{hexOf}
 use Rattle.writer.proofs.Digits.{hex-append, line-is}
 use Rattle.generator.specs.Contracts.{asLimits, asPredicate, joined, tables, content}
@@ -31,9 +32,12 @@ use Rattle.generator.proofs.Rows.{map-at, from-at, from-long, content-a
 -- ---- Digits of a line in pieces
 
 pub hex-line : (a b : List ℕ) → hexOf a ++ hexLine b ≡ hexLine (a ++ b)
-hex-line a b = ap (λ s. hexOf a ++ s) (line-is b) ∙ sym (append-assoc (hexOf a) (hexOf b) (10 ∷ [])) ∙ ap (λ s. s ++ 10 ∷ []) (sym (hex-append a b)) ∙ sym (line-is (a ++ b))
+hex-line a b =
+    ap (λ s. hexOf a ++ s) (line-is b)
+    ∙ sym (append-assoc (hexOf a) (hexOf b) (10 ∷ [])) ∙ ap (λ s. s ++ 10 ∷ []) (sym (hex-append a b)) ∙ sym (line-is (a ++ b))
 
-pub node-line : (start end : ℕ) (s : List ℕ) → hexOf (5 ∷ []) ++ (hexOf (bytes₄ start) ++ (hexOf (bytes₄ end) ++ hexLine s)) ≡ hexLine (5 ∷ bytes₄ start ++ bytes₄ end ++ s)
+pub node-line : (start end : ℕ) (s : List ℕ)
+    → hexOf (5 ∷ []) ++ (hexOf (bytes₄ start) ++ (hexOf (bytes₄ end) ++ hexLine s)) ≡ hexLine (5 ∷ bytes₄ start ++ bytes₄ end ++ s)
 unfolding bytes₂ bytes₄
 node-line start end s =
     ap (λ t. hexOf (5 ∷ []) ++ (hexOf (bytes₄ start) ++ t)) (hex-line (bytes₄ end) s)
@@ -49,7 +53,9 @@ file-cons f fs = refl
 pub file-append : (fs gs : List Frame) → fileOf wide (fs ++ gs) ≡ fileOf wide fs ++ fileOf wide gs
 unfolding fileOf flatMap
 file-append [] gs = refl
-file-append (f ∷ fs) gs = ap (λ s. hexLine (written wide f) ++ s) (file-append fs gs) ∙ sym (append-assoc (hexLine (written wide f)) (fileOf wide fs) (fileOf wide gs))
+file-append (f ∷ fs) gs =
+    ap (λ s. hexLine (written wide f) ++ s) (file-append fs gs)
+    ∙ sym (append-assoc (hexLine (written wide f)) (fileOf wide fs) (fileOf wide gs))
 
 -- ---- The schema
 
@@ -107,7 +113,9 @@ module _ (l : ℕ) (h : l < 27) where
       (leb-true 1 l (both-left (leb 1 l) (leb l 16) b), leb-true l 16 (both-right (leb 1 l) (leb l 16) b))
 
   chosen-place : (getD tablesOf l 0 ≡ 1 → ⊥) → getD chosenPlaces (l - 16) 0 ≡ l
-  chosen-place n = let b : eqb (getD chosenPlaces (l - 16) 0) l ≡ true = rw (ne-eqb (getD tablesOf l 0) 1 n) at other in eqb-true (getD chosenPlaces (l - 16) 0) l b
+  chosen-place n =
+      let b : eqb (getD chosenPlaces (l - 16) 0) l ≡ true = rw (ne-eqb (getD tablesOf l 0) 1 n) at other in
+      eqb-true (getD chosenPlaces (l - 16) 0) l b
 
 module _ (ws : List ℕ) where
   limits-content : choice ws 0 < 16 → content 0 (16 * 0 + choice ws 0) ≡ asLimits (limitsOf ws)
@@ -179,15 +187,22 @@ module _ (ws : List ℕ) where
       (λ e. omega (arith, table-small l h, e .1, c))
       p
 
+  fixed-line : (l : ℕ) → (1 ≤ l) × (l ≤ 16) → HasRow l (l - 1)
+  unfolding Fixed
+  fixed-line l w =
+      subst Fixed {y = l}
+      (from-at 1 16 (l - 1) (omega (arith, w)) ∙ omega (arith, w))
+      (all-at Fixed (from 1 16) (l - 1) 0 fixed-lines (omega (arith, w, from-long 1 16)))
+
+  chosen-line : (l : ℕ) → l < 27 → (getD tablesOf l 0 ≡ 1 → ⊥) → choice ws l < 16 → HasRow l (choice ws l)
+  unfolding Chosen
+  chosen-line l h n = subst Chosen {y = l} (chosen-place l h n) (all-at Chosen chosenPlaces (l - 16) 0 chosen-lines (omega (arith, chosen-long)))
+
   pub row-is : (l v : ℕ) → l < 27 → choice ws l < 16 → Picked l v → HasRow l v
-  unfolding Fixed Chosen
   row-is l v h c p =
       ⊎-elim
-      (λ e. let w = fixed-within l h (e .0) in
-      let f : Fixed l = subst Fixed {y = l} (from-at 1 16 (l - 1) (omega (arith, w)) ∙ omega (arith, w)) (all-at Fixed (from 1 16) (l - 1) 0 fixed-lines (omega (arith, w, from-long 1 16))) in
-      subst (HasRow l) (sym (e .1)) f)
-      (λ e. let f : Chosen l = subst Chosen {y = l} (chosen-place l h (e .0)) (all-at Chosen chosenPlaces (l - 16) 0 chosen-lines (omega (arith, chosen-long))) in
-      subst (HasRow l) (sym (e .1)) (f c))
+      (λ e. subst (HasRow l) (sym (e .1)) (fixed-line l (fixed-within l h (e .0))))
+      (λ e. subst (HasRow l) (sym (e .1)) (chosen-line l h (e .0) c))
       p
 
   pub schema-long : length (schemaFrames (contentOf ws)) ≡ 27
@@ -221,17 +236,36 @@ module _ (ws : List ℕ) where
 
   -- a node's table by its place in the block
   SlotIs : ℕ → ℕ → Type 0
-  SlotIs i k = (getD (tables i) (getD slots k 0) [] ≡ map (asExpr wide) (getD (exprs ws i) k [])) × (length (getD (exprs ws i) k []) ≡ 16) × (getD slots k 0 < 9)
+  SlotIs i k =
+      (getD (tables i) (getD slots k 0) [] ≡ map (asExpr wide) (getD (exprs ws i) k []))
+      × (length (getD (exprs ws i) k []) ≡ 16)
+      × (getD slots k 0 ≤ 8)
 
-  slot-is : (i : ℕ) → All (SlotIs i) (from 0 8)
+  all-slots : (i : ℕ) → All (SlotIs i) (from 0 8)
   unfolding SlotIs from slots tables exprs leaves pairs singles
-  slot-is i = ((refl, refl, omega arith), ((refl, refl, omega arith), ((refl, refl, omega arith), ((refl, refl, omega arith), ((refl, refl, omega arith), ((refl, refl, omega arith), ((refl, refl, omega arith), ((refl, refl, omega arith), tt))))))))
+  all-slots i =
+      let low : (n : ℕ) → n ≤ 8 → (n ≤ 8) = λ n h. h in
+      let five = low 5 (omega arith) in
+      let six = low 6 (omega arith) in
+      let seven = low 7 (omega arith) in (
+        (refl, refl, five),
+        (
+          (refl, refl, five),
+          ((refl, refl, six), ((refl, refl, seven), ((refl, refl, five), ((refl, refl, seven), ((refl, refl, seven), ((refl, refl, five), tt)))))),
+        ),
+      )
+
+  slot-is : (i : ℕ) → SlotIs i (i % 8)
+  slot-is i =
+      subst (SlotIs i) {y = i % 8}
+      (from-at 0 8 (i % 8) (omega arith) ∙ omega arith)
+      (all-at (SlotIs i) (from 0 8) (i % 8) 0 (all-slots i) (omega (arith, from-long 0 8)))
 
   pub node-content : (i v : ℕ) → v < 16 → content i (16 * getD slots (i % 8) 0 + v) ≡ asExpr wide (exprAt ws i v)
   unfolding SlotIs exprAt
   node-content i v h =
-      let s = subst (SlotIs i) {y = i % 8} (from-at 0 8 (i % 8) (omega arith) ∙ omega arith) (all-at (SlotIs i) (from 0 8) (i % 8) 0 (slot-is i) (omega (arith, from-long 0 8))) in
-      content-at i (getD slots (i % 8) 0) v (s .2) h
+      let s = slot-is i in
+      content-at i (getD slots (i % 8) 0) v (omega (arith, s .2)) h
       ∙ ap (λ t. getD t v []) (s .0)
       ∙ map-at (asExpr wide) (getD (exprs ws i) (i % 8) []) v ExprKind.Error [] (omega (arith, s .1))
 
@@ -250,6 +284,4 @@ module _ (ws : List ℕ) where
 
   pub slot-small : (i : ℕ) → getD slots (i % 8) 0 < 9
   unfolding SlotIs
-  slot-small i =
-      let s = subst (SlotIs i) {y = i % 8} (from-at 0 8 (i % 8) (omega arith) ∙ omega arith) (all-at (SlotIs i) (from 0 8) (i % 8) 0 (slot-is i) (omega (arith, from-long 0 8))) in
-      s .2
+  slot-small i = omega (arith, slot-is i .2)

@@ -82,7 +82,9 @@ module _ (ws : List ℕ) where
 
     next : (n i : ℕ) → i < n → choice ws (33 + 32 * q + i) < 16
         → queryFrom n i
-        ≡ hexLine (5 ∷ bytes₄ (getD ws (55 + 64 * q + 2 * i) 0) ++ bytes₄ (getD ws (55 + 64 * q + 2 * i + 1) 0) ++ content i (16 * getD slots (i % 8) 0 + choice ws (33 + 32 * q + i)))
+        ≡ hexLine
+        (5 ∷ bytes₄ (getD ws (55 + 64 * q + 2 * i) 0) ++ bytes₄ (getD ws (55 + 64 * q + 2 * i + 1) 0)
+        ++ content i (16 * getD slots (i % 8) 0 + choice ws (33 + 32 * q + i)))
         ++ queryFrom n (i + 1)
     unfolding queryFrom
     next n i l h =

@@ -228,7 +228,9 @@ all-in-order = refl
 
 pub row-within : (n : ℕ) → n < 144 → (getD rows n 0 ≤ getD rows (n + 1) 0) × (getD rows (n + 1) 0 ≤ length flat)
 unfolding inOrder
-row-within n h = let r = every inOrder 144 all-in-order n h in (leb-true _ _ (both-left _ _ r), leb-true _ _ (both-right (leb (getD rows n 0) (getD rows (n + 1) 0)) _ r))
+row-within n h =
+    let r = every inOrder 144 all-in-order n h in
+    (leb-true _ _ (both-left _ _ r), leb-true _ _ (both-right (leb (getD rows n 0) (getD rows (n + 1) 0)) _ r))
 
 -- ---- A cell
 
@@ -295,7 +297,8 @@ tables-sixteen : (i : ℕ) → All (λ t. length t ≡ 16) (tables i)
 unfolding tables limits names base simple compound predicates leaves pairs singles queries
 tables-sixteen i = (refl, (refl, (refl, (refl, (refl, (refl, (refl, (refl, (refl, tt)))))))))
 
-joined-at : (ts : List (List (List ℕ))) → All (λ t. length t ≡ 16) ts → (t v : ℕ) → t < length ts → v < 16 → getD (joined ts) (16 * t + v) [] ≡ getD (getD ts t []) v []
+joined-at : (ts : List (List (List ℕ))) → All (λ t. length t ≡ 16) ts
+    → (t v : ℕ) → t < length ts → v < 16 → getD (joined ts) (16 * t + v) [] ≡ getD (getD ts t []) v []
 unfolding joined
 joined-at [] a t v h l = absurd (not-suc-le-zero h)
 joined-at (x ∷ ts) a zero v h l = ap (λ n. getD (x ++ joined ts) n []) (omega arith) ∙ List·getD-append x (joined ts) [] v (omega (arith, a .0))

@@ -351,7 +351,7 @@ fn both(l: &mut [u32], from: usize, to: usize, first: usize, last: usize, at: us
 }
 
 // Where the bindings of a stage end, and where its pairs end; or it is too long.
-pub enum Staged {
+enum Staged {
     At(usize, usize),
     Full,
 }
@@ -369,10 +369,12 @@ fn lower(l: &mut [u32], from: usize, to: usize)
     }
 }
 
-// A binding before the others, and x replaced in what it is bound to nowhere else.
+// The binding of x to the words from `first` to `last`, and behind it the bindings up to b, in which x is replaced.
 fn bound(l: &mut [u32], b: usize, x: u32, first: usize, last: usize, at: usize) -> Wrote
     requires { ⌜ (b ≤ at) × (last ≤ at) × (at ≤ length (now l)) ⌝ }
-    ensures { λ r. ⌜ Writes (now (l .entry)) at (11 ∷ x ∷ (slice first last (now (l .entry)) ++ swapped x (slice first last (now (l .entry))) (slice 0 b (now (l .entry))))) (now (l .exit)) r ⌝ }
+    ensures { λ r. ⌜ Writes (now (l .entry)) at
+        (11 ∷ x ∷ (slice first last (now (l .entry)) ++ swapped x (slice first last (now (l .entry))) (slice 0 b (now (l .entry)))))
+        (now (l .exit)) r ⌝ }
 {
     let r = two(l, at, 11, x);
     let n = match r {
@@ -388,7 +390,8 @@ fn bound(l: &mut [u32], b: usize, x: u32, first: usize, last: usize, at: usize) 
     }
 }
 
-// The stage after x is bound to the words from `first` to `last`: h on, then moved down.
+// The stage after x is bound to the words from `first` to `last`, written from h on and moved down. What is longer than h words
+// is full.
 fn bind(
     l: &mut [u32],
     h: usize,
@@ -433,7 +436,7 @@ fn parted(l: &mut [u32], p: usize, m: usize, q: usize, e: usize, at: usize) -> W
     }
 }
 
-// The stage after the pair from p to q is taken apart, its second type from m on: h on, then moved down.
+// The stage after the pair from p to q, whose second type starts at m, is taken apart: written from h on and moved down.
 fn split(l: &mut [u32], h: usize, b: usize, p: usize, m: usize, q: usize, e: usize) -> Staged
     requires { ⌜ (b ≤ h) × (p ≤ h) × (m ≤ h) × (q ≤ h) × (e ≤ h) × (length (now l) ≡ h + h) ⌝ }
     ensures { λ r. ⌜ Splits (now (l .entry)) h b p m q e (now (l .exit)) r ⌝ }
@@ -456,7 +459,7 @@ fn split(l: &mut [u32], h: usize, b: usize, p: usize, m: usize, q: usize, e: usi
 }
 
 // What is to be done with the first pair.
-pub enum Next {
+enum Next {
     Done,
     Stuck,
     Drop(usize),

@@ -56,7 +56,13 @@ pub extern "C" fn sigla_lamp(file: &[u8], work: &mut [u32], lit: &mut u32) -> u8
 // The n-th unification of the file's run in another way: `told` is 1 where it succeeds and 0 where it fails, 2 where a side is shut out, 3 where
 // there are fewer. After a success `lent` holds the bindings, up to the first zero in the place of an 11.
 #[no_mangle]
-pub extern "C" fn sigla_inspect(file: &[u8], n: u32, work: &mut [u32], lent: &mut [u32], told: &mut u32) -> u8
+pub extern "C" fn sigla_inspect(
+    file: &[u8],
+    n: u32,
+    work: &mut [u32],
+    lent: &mut [u32],
+    told: &mut u32,
+) -> u8
     ensures { λ r. ⌜ CallsInspect (now (file .entry)) n (now (work .entry)) (now (lent .entry)) (now (work .exit)) (now (lent .exit)) (now (told .exit)) r ⌝ }
 {
     let r = inspect::inspect(file, n, work, lent);

@@ -1,11 +1,11 @@
 -- The engine in two halves of the lent slice: the first stage stands in the upper one, or is longer than half of what was lent, which is
 -- where the definition's run needs too many words at once.
-use mathlib.Core.List.{List, [], _∷_, _++_, append-assoc}
+use mathlib.Core.List.{List, _++_, append-assoc}
 use mathlib.Core.Path.{_≡_, refl, sym, ap, _∙_}
-use Prim.Native.Nat.{ℕ, _+_, _-_, _*_, _/_, _≤_, _<_}
+use Prim.Native.Nat.{ℕ, _+_, _-_, _/_, _≤_, _<_}
 use native.Mathlib.Decide.{decLe}
 use native.Mathlib.Omega.{arith}
-use lib.ListN.{length, take, drop, length-append, length-take, length-drop, take-append-drop}
+use lib.ListN.{length, take, drop, length-append, length-take, take-append-drop}
 use lib.Seq.{length-take-le, take-at, drop-at}
 use borrow.Rule.Slice.PartMut.{midOf, postOf, putMid}
 use Rattle.bytes.specs.Bytes.{slice}
@@ -13,13 +13,12 @@ use Rattle.unification.specs.Bindings.{State}
 use Rattle.unification.proofs.Tests.{clash}
 use Rattle.cells.specs.declared.Ty.{Ty}
 use Rattle.cells.specs.Stands.{Rows, tree, Ok, Holds}
-use Rattle.writer.specs.declared.Wrote.{Wrote}
-use Rattle.writer.specs.declared.Wrote.the-variants.{To, Full}
+use Rattle.writer.specs.declared.Wrote.the-variants.{To}
 use Rattle.writer.specs.Writes.{placed, Writes}
 use Rattle.plain_theory.specs.Plain as Theory
-use Rattle.plain_theory.specs.Plain.{Stage, start, needs, solved, failed, full}
+use Rattle.plain_theory.specs.Plain.{start, needs, solved, failed, full}
 use Rattle.plain_theory.specs.Solve.{solve}
-use Rattle.plain_theory.specs.Words.{bindingsSpelled, pairsSpelled}
+use Rattle.plain_theory.specs.Words.{bindingsSpelled}
 use Rattle.plain_theory.proofs.Words.{needs-words}
 use Rattle.plain_theory.proofs.Runs.{solve-full}
 use Rattle.plain.specs.declared.Plain.{Plain}
@@ -28,6 +27,7 @@ use Rattle.plain.specs.Stages.{Gives, Runs}
 use Rattle.spelling.specs.declared.Staged.{Staged}
 use Rattle.spelling.specs.declared.Staged.the-variants as Staged
 use Rattle.spelling.specs.Tokens.{spelledStage, Starts}
+use Rattle.spelling.proofs.Staging.{start-needs}
 use Rattle.solver.specs.Contracts.{RunsHalves, RunsEngine}
 
 -- ---- What a text that was written leaves
@@ -41,13 +41,14 @@ placed-slice l front a b rest e =
     let two : l ≡ ((front ++ a) ++ b) ++ rest = e ∙ ap (λ (z : List ℕ). z ++ rest) (sym (append-assoc front a b)) in
     let one : l ≡ (front ++ a) ++ (b ++ rest) = two ∙ append-assoc (front ++ a) b rest in
     let m : length (front ++ a) ≡ length front + length a = length-append front a in
-    let n : length ((front ++ a) ++ b) ≡ length front + length a + length b = length-append (front ++ a) b ∙ ap (λ (k : ℕ). k + length b) m in
-    (ap (λ (z : List ℕ). drop (length front) (take (length front + length a) z)) one
-    ∙ ap (drop (length front)) (take-at (front ++ a) (b ++ rest) (length front + length a) m)
-    ∙ drop-at front a (length front) refl,
-    ap (λ (z : List ℕ). drop (length front + length a) (take (length front + length a + length b) z)) two
-    ∙ ap (drop (length front + length a)) (take-at ((front ++ a) ++ b) rest (length front + length a + length b) n)
-    ∙ drop-at (front ++ a) b (length front + length a) m)
+    let n : length ((front ++ a) ++ b) ≡ length front + length a + length b = length-append (front ++ a) b ∙ ap (λ (k : ℕ). k + length b) m in (
+      ap (λ (z : List ℕ). drop (length front) (take (length front + length a) z)) one
+          ∙ ap (drop (length front)) (take-at (front ++ a) (b ++ rest) (length front + length a) m)
+          ∙ drop-at front a (length front) refl,
+      ap (λ (z : List ℕ). drop (length front + length a) (take (length front + length a + length b) z)) two
+          ∙ ap (drop (length front + length a)) (take-at ((front ++ a) ++ b) rest (length front + length a + length b) n)
+          ∙ drop-at (front ++ a) b (length front + length a) m,
+    )
 
 -- It fits: each part stands where it is said to.
 module _ {l : List ℕ} {at : ℕ} {a b l′ : List ℕ} {e : ℕ} (W : Writes l at (a ++ b) l′ (To e)) (low : at ≤ length l) where
@@ -82,17 +83,10 @@ module _ {w l : List ℕ} {got expected : Ty} {h : ℕ} (twice : length l ≡ h 
   halves-full q = record {
     is = λ T st H o p lent low high.
         let g = start (st .subst) (tree T got) (tree T expected) in
-        let W : Writes l h (spelledStage g) l₁ Full = rw q at (S .is T st H o p (omega arith)) in
-        rw (solve-full lent g (too-long g W lent high)) refl;
+        let more : length l < needs g = start-needs S H o p (omega arith) .0 q in
+        rw (solve-full lent g (omega (arith, more, needs-words g))) refl;
     long = S .long;
   }
-    where
-      too-long : (g : Stage) → Writes l h (spelledStage g) l₁ Full → (lent : ℕ) → lent ≤ h + h + 1 → lent < needs g
-      too-long g W lent high = go (decLe (h + length (spelledStage g)) (length l))
-        where
-          go : Dec (h + length (spelledStage g) ≤ length l) → lent < needs g
-          go (yes o) = clash (cc (W .fits o .0))
-          go (no o) = omega (arith, needs-words g, length-append (bindingsSpelled (g .bindings)) (pairsSpelled (g .pairs)))
 
 -- ---- The lower part of the slice, put back
 gives-part : (l rest : List ℕ) (r : Plain) (x : Theory.Result) → Gives l r x → Gives (l ++ rest) r x

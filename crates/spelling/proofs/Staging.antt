@@ -145,9 +145,11 @@ module _ {w l : List ℕ} {at : ℕ} {a b : Ty} {mid : List ℕ} {h : Wrote} (f 
       inside = λ i j y low.
           let k : n ≡ i = cc y in
           let k′ : e ≡ j = cc y in
-          let first = f .moves .inside n q low in
-          (omega (arith, k, f .moves .onward n q), omega (arith, k, k′, g .moves .onward e z),
-          omega (arith, k′, f .moves .long, g .moves .inside e z (omega (arith, first, f .moves .long))));
+          let first = f .moves .inside n q low in (
+            omega (arith, k, f .moves .onward n q),
+            omega (arith, k, k′, g .moves .onward e z),
+            omega (arith, k′, f .moves .long, g .moves .inside e z (omega (arith, first, f .moves .long))),
+          );
       long = g .moves .long ∙ f .moves .long;
     }
 

@@ -1,4 +1,4 @@
--- Made from Proof.ans by tools/answers, 751ec34992bf412b b1a7a0c428275028.
+-- Made from Proof.ans by tools/answers, 004ef2718cd9ba22 b1a7a0c428275028.
 -- To write the cells from k on is to write them all; the measure is what is left of them.
 use Rattle.generator.proofs.cells.Statement.{statement}
 use Rattle.generator.proofs.cells.Tie as tie
@@ -35,7 +35,8 @@ cells-spec =
     (λ c. search needs)
     (λ c. search needs)
     (λ c. search needs)
-    (λ c. left-full (c .before .before .before .before .before .before .before .before .loop .inv .2) _ _ (cells-next (c .before .before .before .before .before .before .before .before .before .before .before .args .i) _ (c .before .before .before .before .before .before .before .before .before .before .before .args .end) (c .before .before .before .before .before .before .before .before .loop .k) (c .before .before .before .before .before .before .before .loop-test .taken) (c .before .before .before .before .before .before .before .before .loop .inv .1)) (c .before .before .before .before .cell .ensures) (c .enum-told .given .1))
+    (λ c. left-full (c .before .before .before .before .before .before .before .before .loop .inv .2) _ _
+    (cells-next (c .before .before .before .before .before .before .before .before .before .before .before .args .i) _ (c .before .before .before .before .before .before .before .before .before .before .before .args .end) (c .before .before .before .before .before .before .before .before .loop .k) (c .before .before .before .before .before .before .before .loop-test .taken) (c .before .before .before .before .before .before .before .before .loop .inv .1)) (c .before .before .before .before .cell .ensures) (c .enum-told .given .1))
     (λ c. search needs)
     (λ c. omega (arith, c .before .before .before .before .before .before .before .before .loop-test .taken))
     (λ c. (

@@ -1,4 +1,4 @@
--- Made from Proof.ans by tools/answers, 30ca6e1e5a9bfed0 30d45a97b626457a.
+-- Made from Proof.ans by tools/answers, 229c627c054139b3 30d45a97b626457a.
 -- The kind, the span and the row, one after the other.
 use Rattle.generator.proofs.node.Statement.{statement}
 use Rattle.generator.proofs.node.Tie as tie
@@ -29,7 +29,8 @@ node-spec =
     (λ c κs. c .before .before .before .before .before .before .before .before .before .before .before .before .before .before .before .before .before .before .before .before .before .before .before .pre)
     (λ c. search needs)
     (λ c. writes-as (node-line (c .before .before .before .before .before .before .before .args .start) (c .before .before .before .before .before .before .before .args .end) (content (c .before .before .before .before .before .before .before .args .i) (c .before .before .before .before .before .before .before .args .n)))
-    (writes-full (c .before .before .before .before .byte .ensures) (c .enum-told .given .1) (hexOf (bytes₄ (c .before .before .before .before .before .before .before .args .start)) ++ (hexOf (bytes₄ (c .before .before .before .before .before .before .before .args .end)) ++ hexLine (content (c .before .before .before .before .before .before .before .args .i) (c .before .before .before .before .before .before .before .args .n))))))
+    (writes-full (c .before .before .before .before .byte .ensures) (c .enum-told .given .1)
+    (hexOf (bytes₄ (c .before .before .before .before .before .before .before .args .start)) ++ (hexOf (bytes₄ (c .before .before .before .before .before .before .before .args .end)) ++ hexLine (content (c .before .before .before .before .before .before .before .args .i) (c .before .before .before .before .before .before .before .args .n))))))
     (λ c. search needs)
     (λ c. writes-as (node-line (c .before .before .before .before .before .before .before .before .before .before .before .before .before .before .args .start) (c .before .before .before .before .before .before .before .before .before .before .before .before .before .before .args .end) (content (c .before .before .before .before .before .before .before .before .before .before .before .before .before .before .args .i) (c .before .before .before .before .before .before .before .before .before .before .before .before .before .before .args .n)))
     (writes-then (c .before .before .before .before .before .before .before .before .before .before .before .byte .ensures) (c .before .before .before .before .before .before .before .a .given .1)

@@ -1,4 +1,4 @@
--- Made from Proof.ans by tools/answers, aa8e3ad0fcb3cf32 e6f266a9af4ea2c3.
+-- Made from Proof.ans by tools/answers, 162d70a273ef7ddc e6f266a9af4ea2c3.
 -- To write the queries from q on is to write them all; the measure is what is left of them.
 use Rattle.generator.proofs.queries.Statement.{statement}
 use Rattle.generator.proofs.queries.Tie as tie
@@ -25,7 +25,11 @@ abbrev μ-loop : tie.MeasureT-loop
 
 loop-holds : tie.Need-loop-holds Inv-loop μ-loop
 unfolding counts
-loop-holds c = (counts-few _ (c .choice .ensures .1), refl, goes-start _ _ _ _ (c .before .before .pre) (queries-start _ _ (c .choice .ensures .0) (c .choice .ensures .1)))
+loop-holds c = (
+  counts-few _ (c .choice .ensures .1),
+  refl,
+  goes-start _ _ _ _ (c .before .before .pre) (queries-start _ _ (c .choice .ensures .0) (c .choice .ensures .1)),
+)
 
 pub queries-spec : {M : Type 1} → statement M
 queries-spec =

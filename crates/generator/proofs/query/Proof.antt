@@ -1,4 +1,4 @@
--- Made from Proof.ans by tools/answers, 8824db14d2a09020 7a30c7b642f08e89.
+-- Made from Proof.ans by tools/answers, 3a6f42092069c7b5 7a30c7b642f08e89.
 -- To write the nodes from i on and the query is to write the whole; the measure is what is left of the nodes.
 use Rattle.generator.proofs.query.Statement.{statement}
 use Rattle.generator.proofs.query.Tie as tie
@@ -29,7 +29,10 @@ mul-n-2 c = record { fits = omega (arith, blocks-few _ (c .choice .ensures .1)) 
 
 loop-holds : tie.Need-loop-holds Inv-loop μ-loop
 unfolding blocks
-loop-holds c = (omega (arith, blocks-few _ (c .choice .ensures .1)), left-start _ _ _ _ (query-start _ (c .before .before .args .q) _ (c .choice .ensures .0) (c .choice .ensures .1)))
+loop-holds c = (
+  omega (arith, blocks-few _ (c .choice .ensures .1)),
+  left-start _ _ _ _ (query-start _ (c .before .before .args .q) _ (c .choice .ensures .0) (c .choice .ensures .1)),
+)
 
 mul-node-4 : tie.Need-mul-node-4 Inv-loop μ-loop
 unfolding slots
@@ -45,13 +48,16 @@ node-requires c κs = omega (arith, slot-small (c .before .before .before .befor
 
 returns : tie.Need-returns Inv-loop μ-loop
 unfolding slots
-returns c = left-full (c .before .before .before .before .before .before .before .before .before .before .loop .inv .1) _ _ (query-next _ (c .before .before .before .before .before .before .before .before .before .before .before .before .before .args .q) _ (c .before .before .before .before .before .before .before .before .before .before .loop .i) _ (c .before .before .before .before .before .before .before .before .before .loop-test .taken) (c .before .before .before .before .before .before .before .before .choice2 .ensures .0) (c .before .before .before .before .before .before .before .before .choice2 .ensures .1)) (c .before .before .before .before .node .ensures) (c .enum-told .given .1)
+returns c = left-full (c .before .before .before .before .before .before .before .before .before .before .loop .inv .1) _ _
+    (query-next _ (c .before .before .before .before .before .before .before .before .before .before .before .before .before .args .q) _ (c .before .before .before .before .before .before .before .before .before .before .loop .i) _ (c .before .before .before .before .before .before .before .before .before .loop-test .taken) (c .before .before .before .before .before .before .before .before .choice2 .ensures .0) (c .before .before .before .before .before .before .before .before .choice2 .ensures .1))
+    (c .before .before .before .before .node .ensures) (c .enum-told .given .1)
 
 loop-again : tie.Need-loop-again Inv-loop μ-loop
 unfolding slots
 loop-again c = (
   c .before .before .before .before .before .before .before .before .before .before .before .loop .inv .0,
-  left-next (c .before .before .before .before .before .before .before .before .before .before .before .loop .inv .1) _ _ (query-next _ (c .before .before .before .before .before .before .before .before .before .before .before .before .before .before .args .q) _ (c .before .before .before .before .before .before .before .before .before .before .before .loop .i) _ (c .before .before .before .before .before .before .before .before .before .before .loop-test .taken) (c .before .before .before .before .before .before .before .before .before .choice2 .ensures .0) (c .before .before .before .before .before .before .before .before .before .choice2 .ensures .1)) (c .before .before .before .before .before .node .ensures) (c .before .r .given .1),
+  left-next (c .before .before .before .before .before .before .before .before .before .before .before .loop .inv .1) _ _
+      (query-next _ (c .before .before .before .before .before .before .before .before .before .before .before .before .before .before .args .q) _ (c .before .before .before .before .before .before .before .before .before .before .before .loop .i) _ (c .before .before .before .before .before .before .before .before .before .before .loop-test .taken) (c .before .before .before .before .before .before .before .before .before .choice2 .ensures .0) (c .before .before .before .before .before .before .before .before .before .choice2 .ensures .1)) (c .before .before .before .before .before .node .ensures) (c .before .r .given .1),
 )
 
 pub query-spec : {M : Type 1} → statement M

@@ -1,4 +1,4 @@
--- Made from Proof.ans by tools/answers, fd9fa1c097009fa3 e7e972bdedf0475c.
+-- Made from Proof.ans by tools/answers, 3cb3927fee3daf52 e7e972bdedf0475c.
 -- What the digits from i on go to, from v, is what all of them go to; the measure is what is left of the length.
 use Rattle.generator.proofs.read_seed.Statement.{statement}
 use Rattle.generator.proofs.read_seed.Tie as tie
@@ -36,5 +36,6 @@ read-seed-spec =
     (λ c. record { fits = omega (arith, c .if4 .left) })
     (λ c. search needs)
     (λ c. omega (arith, c .before .before .before .before .loop-test .taken))
-    (λ c. sym (digits-next _ (c .before .before .before .before .before .loop .v) (c .before .before .before .before .before .loop .i) (c .before .before .before .before .loop-test .taken) (omega (arith, c .before .before .if2 .left)) (omega (arith, c .before .if3 .left)) (omega (arith, c .if4 .left))) ∙ c .before .before .before .before .before .loop .inv)
+    (λ c. sym (digits-next _ (c .before .before .before .before .before .loop .v) (c .before .before .before .before .before .loop .i) (c .before .before .before .before .loop-test .taken)
+    (omega (arith, c .before .before .if2 .left)) (omega (arith, c .before .if3 .left)) (omega (arith, c .if4 .left))) ∙ c .before .before .before .before .before .loop .inv)
     (λ c. sym (digits-end _ (c .before .loop .v) (c .before .loop .i) (c .loop-test .left)) ∙ c .before .loop .inv))

@@ -1,4 +1,4 @@
--- Made from Proof.ans by tools/answers, fc3a5547c8c6a90e 8ce0df13ecdb4db2.
+-- Made from Proof.ans by tools/answers, 8f7a037da30f8b97 8ce0df13ecdb4db2.
 -- To write the lines from l on is to write the schema; the measure is what is left of them.
 use Rattle.generator.proofs.schema.Statement.{statement}
 use Rattle.generator.proofs.schema.Tie as tie
@@ -36,7 +36,8 @@ unfolding tablesOf
 add-line c = record {
   fits = omega (
     arith,
-    row-there (c .before .before .before .before .before .before .before .args .w .now) (c .before .before .before .before .before .loop .l) (c .before .before .if1 .v) (c .before .before .before .before .loop-test .taken) (rw (c .before .before .before .choice .ensures .0) at (c .before .before .before .choice .ensures .1))
+    row-there (c .before .before .before .before .before .before .before .args .w .now) (c .before .before .before .before .before .loop .l) (c .before .before .if1 .v) (c .before .before .before .before .loop-test .taken)
+        (rw (c .before .before .before .choice .ensures .0) at (c .before .before .before .choice .ensures .1))
         (⊎-elim (λ e. inl (e .0 .taken, e .1)) (λ e. inr (e .0 .left, e .1 ∙ c .before .before .before .choice .ensures .0)) (c .before .before .if1 .came)),
   );
 }

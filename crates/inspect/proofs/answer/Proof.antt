@@ -1,4 +1,4 @@
--- Made from Proof.ans by tools/answers, 3fc39a51d5aa49ff 8fcfdbc37bd84abd.
+-- Made from Proof.ans by tools/answers, 3fc39a51d5aa49ff cca4fe1fd3b0b9f5.
 -- `inspect::answer` meets its contract: by what was found (Answering.antt).
 use borrow.Author.Needs.{needs}
 use Rattle.inspect.proofs.answer.Statement.{statement}

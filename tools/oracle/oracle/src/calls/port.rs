@@ -12,11 +12,11 @@ const TYPES: usize = 272;
 const FIELDS: usize = 1_424;
 const RECORD_COUNT: usize = 9_616;
 const UNKNOWNS: usize = 9_620;
-const RECORDS: usize = 9_632;
-const RECORD_FIELDS: usize = 10_144;
-const UNDO_LEN: usize = 13_472;
-const BINDINGS: usize = 13_473;
-const END: usize = 15_521;
+const RECORDS: usize = 9_648;
+const RECORD_FIELDS: usize = 10_160;
+const UNDO_LEN: usize = 13_744;
+const BINDINGS: usize = 13_745;
+const END: usize = 15_793;
 
 const INT: u32 = 1;
 const STRING: u32 = 2;
