@@ -31,10 +31,18 @@ const ENTRIES: [(&str, &str); 7] = [
     ),
 ];
 
-/// Card 9: the lines of ty.rs around which one is inserted, before it or after it, how often each stands in
-/// ty.rs, and what the inserted line says. Which entry a look-up finds is told by its unknown; the entry that
-/// is pushed next was made by the node that looked last.
-const MARKS: [(&str, Place, usize, &str); 9] = [
+/// The lines of ty.rs around which one is inserted, before it or after it, how often each stands in ty.rs, and what
+/// the inserted line says. Card 9: which entry a look-up finds is told by its unknown; the entry that is pushed next
+/// was made by the node that looked last. Card 12: an entry to `unify` that no other one is about calls `unify` anew,
+/// within the log, before it counts a visit.
+const MARKS: [(&str, Place, usize, &str); 10] = [
+    (
+        "fn unify(&mut self, got: &Ty, expected: &Ty) -> Result<(), TyError> {",
+        Place::After,
+        1,
+        "if crate::entries::begins(got, expected, &self.subst) { let told = self.unify(got, expected); \
+         crate::entries::ends(told.is_ok(), &self.subst); return told; }",
+    ),
     (
         "if let ExprKind::Var(symbol) = ast.store().kind(side)",
         Place::Before,

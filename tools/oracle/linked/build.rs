@@ -39,6 +39,9 @@ const DESKS: [&str; 5] = [
 /// That of two files, by its own cfg.
 const GROWTH: [&str; 1] = ["sigla_growth"];
 
+/// The plain solver's, by its own cfg.
+const INSPECT: [&str; 1] = ["sigla_inspect"];
+
 /// These too, by the cfg `sigla_texts`.
 const TEXTS: [&str; 2] = ["sigla_characters", "sigla_characters_by_table"];
 
@@ -49,6 +52,7 @@ fn main() {
         "sigla_convert",
         "sigla_desks",
         "sigla_growth",
+        "sigla_inspect",
     ];
     for cfg in WHOLE.iter().chain(&groups) {
         println!("cargo::rustc-check-cfg=cfg({cfg})");
@@ -68,6 +72,7 @@ fn main() {
             ("sigla_convert", &CONVERT[..]),
             ("sigla_desks", &DESKS),
             ("sigla_growth", &GROWTH),
+            ("sigla_inspect", &INSPECT),
         ] {
             if calls.iter().all(|call| whole.has(call)) {
                 println!("cargo::rustc-cfg={cfg}");

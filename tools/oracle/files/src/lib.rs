@@ -14,6 +14,7 @@ mod messages;
 mod nested;
 mod noise;
 mod once;
+mod pairs;
 mod predicates;
 mod references;
 mod rng;
@@ -106,10 +107,18 @@ pub const STYLES: &[&str] = &styles();
 /// Card 11's test load, by name alone: its files are those of the low 32 bits of the seed.
 pub const LOAD: &str = "load";
 
+/// Card 12's unifications of several steps, by name alone.
+pub const PAIRS: &str = "pairs";
+
 /// A file of that style; an unknown style has no files but the empty one.
 pub fn generate(style: &str, seed: u64) -> Vec<u8> {
     if style == LOAD {
         return load(seed as u32);
+    }
+    if style == PAIRS {
+        let rng = &mut Rng::new(!seed);
+        rng.next();
+        return pairs::pairs(rng);
     }
     let Some(place) = STYLES.iter().position(|name| *name == style) else {
         return Vec::new();

@@ -8,6 +8,7 @@ mod cabinet;
 pub mod calls;
 mod convert;
 mod encode;
+pub mod entries;
 mod file;
 mod lamp;
 pub mod levenshtein;

@@ -18,6 +18,7 @@ pub mod calls;
 pub mod convert;
 pub mod desks;
 pub mod growth;
+pub mod inspect;
 pub mod stack;
 pub mod texts;
 

@@ -8,6 +8,7 @@ use crate::convert;
 use crate::corpus::{self, Corpus, Item};
 use crate::desks;
 use crate::growth;
+use crate::inspect;
 use crate::lamp;
 use crate::mismatch::Mismatches;
 use crate::names;
@@ -22,7 +23,7 @@ use crate::visits;
 const TRIES: usize = 20_000;
 
 /// A smaller file that still differs, as far as the tries go.
-fn shrink(file: &[u8], differs: impl Fn(&[u8]) -> bool) -> Vec<u8> {
+pub fn shrink(file: &[u8], differs: impl Fn(&[u8]) -> bool) -> Vec<u8> {
     let mut tries = 0;
     trial::shrink(file, &mut |smaller| {
         tries += 1;
@@ -44,6 +45,7 @@ pub fn run(given: &[String]) -> Done {
         [what] if what == "convert" => convert::compare(&options),
         [what] if what == "days" => desks::compare_days(&options),
         [what] if what == "growth" => growth::compare(&options),
+        [what] if what == "inspect" => inspect::compare(&options),
         [what] if what == "names" => names::compare(&options),
         [what] if what == "lamp" => lamp::compare(&options),
         [what] if what == "tally" => desks::compare_tally(&options),
@@ -51,7 +53,7 @@ pub fn run(given: &[String]) -> Done {
         [what] if what == "unused" => unused::compare(&options),
         [what] if what == "visits" => visits::compare(&options),
         _ => Err(
-            "compare what? one of answers, reading, calls, convert, days, growth, lamp, names, tally, texts, unused, visits"
+            "compare what? one of answers, reading, calls, convert, days, growth, inspect, lamp, names, tally, texts, unused, visits"
                 .to_owned(),
         ),
     }

@@ -89,7 +89,7 @@ pub fn style(options: &Options) -> Result<Option<&'static str>, String> {
     };
     let known = files::STYLES
         .iter()
-        .chain([&files::LOAD])
+        .chain([&files::LOAD, &files::PAIRS])
         .find(|style| **style == named);
     match known {
         Some(style) => Ok(Some(style)),

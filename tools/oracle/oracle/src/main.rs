@@ -7,6 +7,7 @@ mod convert;
 mod corpus;
 mod desks;
 mod growth;
+mod inspect;
 mod lamp;
 mod mismatch;
 mod names;
@@ -63,6 +64,7 @@ oracle compare tally   --seed S [--count N] [--out DIR]
 oracle compare lamp    --seed S --count N [--style NAME] [--out DIR]
 oracle compare names   --seed S --count N [--style NAME] [--program P] [--out DIR]
 oracle compare growth  --seed S --count N [--style NAME] [--program P] [--growth P] [--out DIR]
+oracle compare inspect --seed S --count N [--style NAME] [--program P] [--model] [--out DIR]
 oracle compare texts
 oracle compare unused  --seed S --count N [--style NAME] [--program P] [--out DIR]
     Holds the port against the Rust on generated files: the program P (with arguments, if it needs
@@ -95,6 +97,11 @@ oracle compare unused  --seed S --count N [--style NAME] [--program P] [--out DI
     generated schema, with the outcome, the visits left and every binding after each call.
     Texts: every string of up to three bytes, and many of four, through both text tests of the port and the
     Rust's own.
+    Inspect: card 12's plain solver at every entry to `unify` from outside it (of a file with very many visits at some),
+    beside the log of the counted copy: success and failure as the Rust's `unify`, the bindings over random
+    assignments, and all words beside the definition's own run, with slices lent that just suffice and that do not.
+    `--program` names the program of card 12, which is asked about one entry of every twentieth file; `--model` takes
+    the definition's run in the port's place.
     Lamp: the port's lamp beside the Rust's diagnostics, and beside the port's own full check with an answer slice
     as long as any answer.
 

@@ -1,4 +1,4 @@
-//! `oracle selftest`: what document 01 and cards 1 to 3 and 6 to 9 say outright, held against the judge.
+//! `oracle selftest`: what document 01 and cards 1 to 3, 6 to 9 and 12 say outright, held against the judge.
 //!
 //! The expected answers and visits were worked out from these papers by hand and not by running; the
 //! messages are what ty.rs says, read beside it.
@@ -6,6 +6,7 @@
 mod cards;
 mod examples;
 mod forms;
+mod inspect;
 mod large;
 mod messages;
 mod reading;
@@ -22,7 +23,7 @@ use crate::options::Options;
 type Cases = fn(&mut Group);
 
 /// The groups by name.
-const GROUPS: [(&str, Cases); 12] = [
+const GROUPS: [(&str, Cases); 13] = [
     ("the examples of document 01", examples::whole),
     ("the table of refusals", refusals::run),
     ("the list of the computed table", examples::table),
@@ -35,6 +36,7 @@ const GROUPS: [(&str, Cases); 12] = [
     ("the tally", cards::tally),
     ("the cabinet", cards::cabinet),
     ("names written once", unused::run),
+    ("the plain solver", inspect::run),
 ];
 
 /// One group of cases: counts, and the files that were asked about.
