@@ -1,6 +1,8 @@
 // Whether a type reaches what demand 3 shuts out, an Error or a record that names a field twice, by the bindings of the
 // moment. Types share their parts, so nothing is walked: each cell and each unknown has a mark, in the words where the
 // environment was, and passes over all of them mark what holds only good types, until one marks nothing.
+#![tactic(auto)]
+
 ghost use Rattle.std.specs.Prelude.{◌≡◌};
 ghost use Rattle.cells.specs.declared.Ty.TheVariants as Ty;
 ghost use Rattle.admitted.specs.Marks.{item_w, good_w, AllGood, Lacks, Distinct, Holding, Tells, Marks, Passes, Unmarks, Settles};

@@ -1,4 +1,6 @@
 // The answer's lines, written into a lent slice.
+#![tactic(auto)]
+
 ghost use Rattle.std.specs.Prelude.{[], ◌∷◌, ◌++◌, ◌≡◌, ◌≤◌, length, take, drop};
 ghost use Rattle.bytes.specs.Bytes.{slice};
 ghost use Rattle.meaning.specs.Answer.{hex_line, bytes₂, bytes₄};

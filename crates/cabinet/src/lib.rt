@@ -1,4 +1,6 @@
 // One cabinet with a daily pool of visits, and the 1 to 16 desks that use it.
+#![tactic(auto)]
+
 ghost use Rattle.std.specs.Prelude.{◌≡◌, ◌<◌, ◌≤◌, min, length};
 ghost use Rattle.cabinet.specs.Cabinet.{absent, nobody, larger, Valid, ceiling_of, charged, rested};
 ghost use Rattle.cabinet.specs.Accounts.{open_account, ceiling_in, charged_to, Good};
@@ -7,7 +9,7 @@ ghost use Rattle.cabinet.specs.Promises.{At, IsAt, Others, Validates, SetsUp, Ce
 use work::Counters;
 
 // What a desk is sure of, what it may use at most, and what it has used today.
-#[derive(Drop)]
+#[derive(Clone, Copy)]
 pub struct Desk {
     pub share: u32,
     pub cap: u32,
@@ -15,7 +17,7 @@ pub struct Desk {
 }
 
 // The first `count` places are the desks.
-#[derive(Drop)]
+#[derive(Clone, Copy)]
 pub struct Group {
     pub count: u32,
     pub pool: u32,

@@ -1,6 +1,8 @@
 // Demand 3's calls on numbers, for the comparison with the Rust (tools/oracle); a program that embeds the checker has no use for
 // them. A type goes as its tag and its payload (crates/cells/specs/Words.antt). Every function takes any words: what they stand for
 // is its caller's to keep.
+#![tactic(auto)]
+
 ghost use Rattle.std.specs.Prelude.{◌≡◌, get_or};
 ghost use Rattle.work.specs.Layout.{RECORD-FIELD-COUNT, UNKNOWNS, UNDO-LEN};
 ghost use Rattle.cells.specs.Inferred.{reserve_w, put_field_w, new_record_ty, new_record_w};

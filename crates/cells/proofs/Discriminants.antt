@@ -181,7 +181,7 @@ onward_first from m k (j ∷ ks) a e = go (ltb j from) refl (onward_first from (
         let same : Next.Is j ≡ Next.Is k = rw (q, onward) at e in
         let p : j ≡ k = cc same in
         let g = ltb-false j from q in
-        (omega arith, rw (q, ← p, lt-ltb j (j + 1) (omega arith), onward_later (j + 1) (suc j) ks (omega arith) a.1))
+        (omega arith, rw (q, ← p, lt-ltb j (j + 1) (omega arith), onward_later (k + 1) (suc j) ks (omega arith) a.1))
 
 onward_nothing : (from : ℕ) (ks : List ℕ) → first (onward from ks) ≡ Next.Nothing → onward from ks ≡ []
 onward_nothing from ks e = go (onward from ks) e

@@ -1,5 +1,7 @@
 // Types as numbered cells in the work slice: bindings, `repr`, `occurs`, `set_var`, `snapshot`, `rollback`, as ty.rs has
 // them. A visit is counted at each entry of `occurs`.
+#![tactic(auto)]
+
 ghost use Rattle.std.specs.Prelude.{◌≡◌, ℕ, ◌+◌, ◌*◌, ◌<◌, ◌≤◌, length, get_or, set};
 ghost use Rattle.work.specs.Layout.{UNKNOWNS, UNDO, UNDO-LEN};
 ghost use Rattle.cells.specs.Words.{ty_w, tag_w, payload_w, declared_w, count_w, first_w, field_w, alternative_w, part_w, bound_w, same_ty_w, push_undo_w, set_var_w, annotate_w, fresh_w, revert_w, is_unknown_w, parts_w, part_of_w};
@@ -15,7 +17,7 @@ use work::{
 
 // A type in hand; two words in the slice. A record and a union name a cell: below 256 the schema type of that number,
 // from 256 on an inferred record.
-#[derive(Drop)]
+#[derive(Clone, Copy)]
 pub enum Ty {
     Int,
     Str,
@@ -27,7 +29,7 @@ pub enum Ty {
     Error,
 }
 
-#[derive(Drop)]
+#[derive(Clone, Copy)]
 pub enum Kind {
     Fields,
     Alternatives,
@@ -69,14 +71,14 @@ pub enum Asked {
     Spent,
 }
 
-#[derive(Drop)]
+#[derive(Clone, Copy)]
 pub enum UnionDiff {
     Absent(u32, u32),
     Renamed(u32, u32, u32),
     Payload(u32, u32),
 }
 
-#[derive(Drop)]
+#[derive(Clone, Copy)]
 pub enum TyError {
     Mismatch(Ty, Ty),
     UnionMismatch(UnionDiff, Ty, Ty),

@@ -1,5 +1,7 @@
 // `check` of ty.rs over the work slice: infer, check, stmt, generator and bind call each other in a cycle; the node number
 // falls, and a rank orders calls on one node.
+#![tactic(auto)]
+
 ghost use Rattle.std.specs.Prelude.{◌≡◌, ◌<◌};
 ghost use Rattle.tree.specs.Nodes.{LowerItems};
 ghost use Rattle.steps.specs.Promises.{only_w};

@@ -1,5 +1,7 @@
 // Card 6: the lines of a file in the other edition. A line that names a predicate has two bytes more in the wide
 // edition, the number's upper half; every other line is the same in both.
+#![tactic(auto)]
+
 ghost use Rattle.std.specs.Prelude.{◌++◌, ◌≡◌};
 ghost use Rattle.frames.specs.Promises.{edition};
 ghost use Rattle.convert.specs.Lines.{Placed, WritesLine, ConvertsLine, ConvertsLines, NamesFrom, SomeFrom, SomeAbove};

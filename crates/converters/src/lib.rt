@@ -1,4 +1,6 @@
 // Card 6: files of the narrow edition turned into the wide one, and back; the whole calls.
+#![tactic(auto)]
+
 ghost use Rattle.std.specs.Prelude.{◌≡◌, length};
 ghost use Rattle.editions.specs.Converted.{decide_widen, decide_narrow};
 ghost use Rattle.converters.specs.Promises.{outcome_of, RunsTo, Widens, Narrows};

@@ -1,4 +1,6 @@
 // The whole call: a file, a work slice and an answer slice.
+#![tactic(auto)]
+
 ghost use Rattle.std.specs.Prelude.{[], ◌∷◌, ◌≡◌, ◌-◌, ◌<◌, ◌≤◌, length};
 ghost use Rattle.meaning.specs.Refusal.{number};
 ghost use Rattle.meaning.specs.Answer.{hex_line};

@@ -1,4 +1,6 @@
 // Lines of hexadecimal and the forms of frames.
+#![tactic(auto)]
+
 mod forms;
 mod lines;
 

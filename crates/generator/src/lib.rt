@@ -1,4 +1,6 @@
 // Card 11: the file of a seed, written into a lent slice. The rule is crates/testload/specs/Rule.antt.
+#![tactic(auto)]
+
 ghost use Rattle.std.specs.Prelude.{◌≡◌, ◌-◌, ◌/◌, ◌<◌, ◌≤◌, ◌∷◌, ◌++◌, length, take, drop};
 ghost use mathlib.Core.List.{flat_map};
 ghost use Rattle.meaning.specs.Frame.{wide};

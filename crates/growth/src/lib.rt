@@ -1,4 +1,6 @@
 // Card 14: whether the queries of an old file keep their answers in a new one.
+#![tactic(auto)]
+
 ghost use Rattle.std.specs.Prelude.{[], ◌∷◌, ◌≡◌};
 ghost use Rattle.meaning.specs.Answer.{hex_line};
 ghost use Rattle.growth.specs.Promises.{number, Compares, ChecksGrowth};

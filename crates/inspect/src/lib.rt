@@ -1,4 +1,6 @@
 // Card 12's call: the plain solver at the n-th entry to `unify` of a file's run.
+#![tactic(auto)]
+
 ghost use Rattle.std.specs.Prelude.{◌≡◌};
 ghost use Rattle.inspect.specs.Promises.{inspected_by, line_of, Answers, Inspects};
 

@@ -1,4 +1,6 @@
 // Card 4's call: whether a query of a file has a diagnostic. Each query runs until its first one, and no answer is written.
+#![tactic(auto)]
+
 ghost use Rattle.std.specs.Prelude.{◌≡◌, ◌≤◌, length};
 ghost use Rattle.lamp.specs.Promises.{signal_of, lamp_line, Glows, Asks, Looks, Lights};
 

@@ -1,4 +1,6 @@
 // A group of desks and a tally as words, for callers in other languages.
+#![tactic(auto)]
+
 ghost use Rattle.std.specs.Prelude.{◌≡◌};
 ghost use Rattle.ledger.specs.Words.{group_of, group_words, tally_of, tally_words};
 

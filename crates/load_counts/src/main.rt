@@ -1,6 +1,8 @@
 // Card 11: "A run over the seeds 0 to 9,999 counts that each node shape occurs, that files with and without diagnostics do, and that no two files
 // are alike." Each file is made by the proved call and checked by the proved check. Two files are told apart by the start of their first span,
 // which is part of a file: where these numbers differ, so do the files.
+#![tactic(auto)]
+
 ghost use Rattle.std.specs.Prelude.{◌<◌};
 
 use desk::Outcome;

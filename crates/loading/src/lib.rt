@@ -1,4 +1,6 @@
 // A query of a file that was read: where its lines stand goes into the work slice, beside the schema that the reading left there.
+#![tactic(auto)]
+
 ghost use Rattle.loading.specs.Promises.{Loads};
 
 use frames::Decoded;

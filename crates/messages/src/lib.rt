@@ -1,4 +1,6 @@
 // What a diagnostic says, and how it is written.
+#![tactic(auto)]
+
 ghost use Rattle.messages.specs.Parts.{arg_text, ok_arg, pair_text, phrase_text, OkPhrase, parts_text, OkParts};
 ghost use Rattle.messages.specs.Shown.{Shows};
 ghost use Rattle.messages.specs.Said.{CodeIs, WritesCode, WritesMessage};
@@ -15,7 +17,7 @@ use work::word;
 use writer::Wrote;
 
 // One for each text of ty.rs, with the numbers and types in hand that it shows.
-#[derive(Drop)]
+#[derive(Clone, Copy)]
 pub enum Message {
     WildcardHead,
     BoundConstant,

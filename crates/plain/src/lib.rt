@@ -1,5 +1,7 @@
 // The plain solver (card 12): a list of pairs to be made equal and a list of bindings, in a lent slice of words. Nothing of
 // `unify` is called.
+#![tactic(auto)]
+
 ghost use Rattle.std.specs.Prelude.{true, false, [], ◌∷◌, ◌++◌, ◌≡◌, ◌+◌, ◌<◌, ◌≤◌, length, get_or};
 ghost use Rattle.bytes.specs.Bytes.{slice};
 ghost use Rattle.writer.specs.Writes.{Writes};

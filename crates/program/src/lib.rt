@@ -1,4 +1,6 @@
 // The programs but for their `main`: what is printed for a file, and the reading and writing around it.
+#![tactic(auto)]
+
 ghost use Rattle.std.specs.Prelude.{◌≡◌, ◌≤◌, length};
 ghost use Rattle.meaning.specs.Outcome.{min_words};
 ghost use Rattle.desk.specs.Promises.{Finishes};

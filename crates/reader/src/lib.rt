@@ -1,4 +1,6 @@
 // One frame, read through a struct that refers to the line's bytes: a byte, 16 bits and 32 bits.
+#![tactic(auto)]
+
 ghost use Rattle.reader.specs.Taking.{TakesByte, TakesHalf, TakesFull, ReadsLimits, ReadsField, ReadsAlternative, ReadsPredicate};
 
 #[derive(Drop)]

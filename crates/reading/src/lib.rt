@@ -1,4 +1,6 @@
 // Reading a file: its lines, and what they say, into the work slice; or the refusal that document 01 gives.
+#![tactic(auto)]
+
 ghost use Rattle.std.specs.Prelude.{◌≡◌, ℕ, ◌+◌, ◌<◌, ◌≤◌, length};
 ghost use Rattle.meaning.specs.Frame.{limits};
 ghost use Rattle.frames.specs.Promises.{edition};

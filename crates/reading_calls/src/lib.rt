@@ -1,4 +1,6 @@
 // The reading alone, for the comparison with the Rust (tools/oracle): a program that embeds the checker has no use for it.
+#![tactic(auto)]
+
 ghost use Rattle.reading_calls.specs.Numbers.{CallsRead};
 
 use reading::Read;

@@ -1,5 +1,7 @@
 // Replays the recorded answers that stand on standard input (README.md has their layout): each file is checked, and
 // what the program prints for it is held against what was recorded.
+#![tactic(auto)]
+
 use program::Job;
 
 // A part's length, or the input ends here or is no sample: a part is shorter than 2,048 bytes.

@@ -1,4 +1,6 @@
 // Reads standard input, and prints the answer or the refusal.
+#![tactic(auto)]
+
 use program::Job;
 
 fn main() {

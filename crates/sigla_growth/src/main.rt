@@ -1,5 +1,7 @@
 // Whether the queries of the file that the first argument names keep their answers in the file that the second one names: the line 00, or
 // the first of card 14's premises that fails.
+#![tactic(auto)]
+
 ghost use Rattle.std.specs.Prelude.{◌≤◌, length};
 
 use input::Input;

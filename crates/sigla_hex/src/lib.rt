@@ -1,4 +1,6 @@
 // Lower-case hexadecimal digits.
+#![tactic(auto)]
+
 ghost use Rattle.std.specs.Prelude.{◌≡◌, ◌<◌};
 ghost use Rattle.sigla_hex.specs.Digits.{digit_w};
 

@@ -1,5 +1,7 @@
 // Reads standard input, and prints what the plain solver answers at the entry to `unify` of the first argument's number, from 0; after a
 // success its bindings too, each in a line of its own.
+#![tactic(auto)]
+
 ghost use Rattle.std.specs.Prelude.{◌≤◌};
 
 use input::Input;

@@ -1,4 +1,6 @@
 // Prints the file of the seed that the first argument is: decimal digits, a number below 2^32.
+#![tactic(auto)]
+
 use generator::Seed;
 use writer::Wrote;
 

@@ -1,4 +1,6 @@
 // The program `sigla` once more, run on a file that is refused: a union type repeats a discriminant, refusal 10.
+#![tactic(auto)]
+
 use program::Job;
 
 fn main() {

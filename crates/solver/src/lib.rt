@@ -1,5 +1,7 @@
 // The plain solver (card 12) asked about two types in hand: what demand 3 shuts out is told first, then the bindings and the sides are
 // spelled into the lent slice, and the engine runs there. Nothing of `unify` is called.
+#![tactic(auto)]
+
 ghost use Rattle.std.specs.Prelude.{◌++◌, ◌≡◌, ◌+◌, ◌-◌, length, take, replicate};
 ghost use Rattle.solver.specs.Promises.{RunsHalves, RunsEngine, Solves};
 

@@ -1,5 +1,7 @@
 // Types from the cells as words, written into a lent slice: the first stage of the plain solver (card 12), which is every
 // binding, resolved, by ascending unknown, and the two sides, resolved.
+#![tactic(auto)]
+
 ghost use Rattle.std.specs.Prelude.{[], ◌∷◌};
 ghost use Rattle.writer.specs.Writes.{Writes};
 ghost use Rattle.resolving.specs.Scripts.{head_of, part_head_of};

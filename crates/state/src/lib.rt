@@ -1,5 +1,7 @@
 // What a run keeps in the slice besides types: the environment, which entries are marked as used and which left unmarked, where the lines
 // of its diagnostics end in the answer slice, and what ends it early.
+#![tactic(auto)]
+
 ghost use Rattle.std.specs.Prelude.{◌≡◌, get_or, set, ◌<◌};
 ghost use Rattle.cells.specs.Words.{put_ty};
 ghost use Rattle.work.specs.Layout.{ENV-LEN, MARK-COUNT};
@@ -27,7 +29,7 @@ pub enum Done {
 }
 
 // What ends a run early besides its visits: nothing, its first diagnostic, or its n-th entry to `unify` from outside, counted from 0.
-#[derive(Drop)]
+#[derive(Clone, Copy)]
 pub enum Until {
     TheEnd,
     FirstDiagnostic,

@@ -1,4 +1,6 @@
 // The capture tariff: what archive customers pay for the visits of their queries.
+#![tactic(auto)]
+
 ghost use Rattle.tariff.specs.Tariff.{zero, Adds};
 ghost use Rattle.std.specs.Prelude.{true, ◌≡◌, ◌<◌};
 

@@ -180,6 +180,7 @@ in_rule (later (later (later (later (later (later (later (this (then {b = b} i (
 in_rule (later (later (later (later (later (later (later (later (this (then {b = b} i (then {b = x} j (then {b = y} k (then {b = z} l end))))))))))))) =
     of_four b x y z (narrow i tt tt) (follows j tt tt) (follows k tt tt) (follows l tt tt)
     (omega (arith, i)) (omega (arith, i, j))
+in_rule {s = s} (later (later (later (later (later (later (later (later (later h))))))))) = elim h [ ]
 
 abbrev pub Byte : ℕ → Type 0
 Byte b = b < 256
@@ -191,6 +192,7 @@ same_character s bytes = (go s bytes, in_rule)
     go : (s : List ℕ) → Each Byte s → rule.Character s → utf8.Character s
     go (b ∷ []) bytes (alone h) = alternative 0 tt (then (range 0x00 0x7f b (omega arith) (omega arith)) end)
     go (b ∷ t) bytes (several q) = in_grammar b t bytes.0 q
+    go [] bytes h = elim h [ ]
 
 pub each_left : (P : ℕ → Type 0) (a t : List ℕ) → Each P (a ++ t) → Each P a
 each_left P [] t h = tt

@@ -37,10 +37,13 @@ rises = search (top, up, lit≤) depth 30 fits 5000
 above : {l b : ℕ} {g : List (List Range)} {s : List ℕ} → Rising l g → OneOf g (b ∷ s) → l ≤ b
 above (up from some_byte rest) (this (then i f)) = omega (arith, i.low)
 above (up from some_byte rest) (later o) = omega (arith, above rest o)
+above {b = b} {s = s} (top {l = l}) h = elim h [ ]
 
 -- an alternative has a first byte
 filled : {l : ℕ} {g : List (List Range)} → Rising l g → OneOf g [] → ⊥
 filled (up from some_byte rest) (later o) = filled rest o
+filled (top {l = l}) h = elim h [ ]
+filled (up {l = l} {r = r} {rs = rs} {g = g} from some_byte rest) (this h) = elim h [ ]
 
 pub not_empty : Character [] → ⊥
 not_empty c = filled rises c
@@ -63,6 +66,7 @@ chosen {b = b} (up from some_byte rest) (this (then {r = r} {rs = rs} i f)) =
 chosen {b = b} (up {r = r} {rs = rs} {g = g} from some_byte rest) (later o) =
     let c = chosen rest o in
     record { ranges = c.ranges; is = passed r rs g b (above rest o) ∙ c.is; fit = c.fit }
+chosen {b = b} {s = s} (top {l = l}) h = elim h [ ]
 
 -- the bytes that are owed are read, and the count goes on after them
 read : (g : List (List Range)) {rs : List Range} {a : List ℕ} (t : List ℕ) → Fits rs a → count g rs (a ++ t) ≡ count g [] t

@@ -1,4 +1,6 @@
 // UTF-8: whether bytes are a text, and of how many characters.
+#![tactic(auto)]
+
 ghost use Rattle.std.specs.Prelude.{◌≡◌, ◌<◌, length, drop};
 ghost use Rattle.text.specs.Rule.{ones, head};
 ghost use Rattle.text.specs.Width.{Width, Room, SequenceAt, Decides};

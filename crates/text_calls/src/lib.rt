@@ -1,4 +1,6 @@
 // Both text tests for programs in other languages, for comparison only.
+#![tactic(auto)]
+
 ghost use Rattle.std.specs.Prelude.{◌≡◌};
 ghost use Rattle.text_calls.specs.Numbers.{number_of, CallsTest};
 

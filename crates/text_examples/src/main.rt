@@ -1,5 +1,7 @@
 // Runs both text tests on RFC 3629's example sequences and on the bytes either side of each of its limits, and prints for each
 // what the first says and what the second says: the number of characters or `broken`.
+#![tactic(auto)]
+
 use text::Text;
 
 fn print(t: Text) {

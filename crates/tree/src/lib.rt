@@ -1,4 +1,6 @@
 // The nodes and statements of a file that was read, taken from its digits where they stand.
+#![tactic(auto)]
+
 ghost use Rattle.std.specs.Prelude.{◌≡◌, ℕ, ◌+◌, ◌*◌, ◌<◌, ◌≤◌};
 ghost use Rattle.sigla_hex.specs.Digits.{digits_w, half_at};
 ghost use Rattle.tree.specs.Nodes.{lower_w, full_at, field_w, item_w, stmt_w, stmt_size_w, line_start_w, items_w, parent_w, IsNode, head_w, body_w};
@@ -33,7 +35,7 @@ fn hex_full(f: &[u8], i: usize) -> u32
 }
 
 // So many items from a place in the file on; each names a node below `below`.
-#[derive(Drop)]
+#[derive(Clone, Copy)]
 pub struct Items {
     pub at: usize,
     pub n: u32,

@@ -71,6 +71,7 @@ swapped = (refl, (int, cell 1 0 string ε, refl, (string, ε, refl, tt, here), t
 
 no_int_in_one : (t : Ty) (r : Row) → Same int t → ¬ Inserted 1 0 t r (cell 1 0 string ε)
 no_int_in_one t r e here = clash (cc)
+no_int_in_one t _ e (there {r = r} i) = elim i [ ]
 
 no_int : (t : Ty) (r : Row) → Same int t → ¬ Inserted 1 0 t r (cell 1 0 string (cell 1 0 string ε))
 no_int t r e here = clash (cc)

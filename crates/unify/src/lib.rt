@@ -1,4 +1,6 @@
 // `unify` and `orderable` over the cells, as ty.rs has them. A visit is counted at each entry.
+#![tactic(auto)]
+
 ghost use Rattle.std.specs.Prelude.{◌≡◌, ◌<◌};
 ghost use Rattle.cells.specs.Words.{first_w, part_w, after_w, again_w};
 ghost use Rattle.cells.specs.Promises.{IsOrderable, Lowers, LeastFrom, NextFrom, Passed, part_at, FindsKey, Unifies, BindsVar, UnifiesHeads, UnifiesRecord, UnifiesFields, UnifiesUnion, UnifiesPayload};

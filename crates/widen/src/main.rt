@@ -1,4 +1,6 @@
 // Reads a file of the narrow edition from standard input, and prints it in the wide edition, or the refusal.
+#![tactic(auto)]
+
 use program::Job;
 
 fn main() {

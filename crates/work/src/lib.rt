@@ -1,10 +1,12 @@
 // The work slice: where its regions stand, and reads and writes of one word that are total, so that no caller owes a bound.
+#![tactic(auto)]
+
 ghost use Rattle.std.specs.Prelude.{◌≡◌, ◌<◌, length, get_or, set, take, replicate, ◌++◌, ◌-◌};
 ghost use Rattle.work.specs.Counted.{no_counters};
 
 // The run's counters, and its limits. `fields` counts the words of schema types' parts; `value` is one more than the number
 // of the name `value`, or 0.
-#[derive(Drop)]
+#[derive(Clone, Copy)]
 pub struct Counters {
     pub names: u32,
     pub types: u32,

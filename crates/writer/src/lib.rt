@@ -1,4 +1,6 @@
 // Bytes, numbers and texts as hexadecimal digits, written into a lent slice from a place on. All that is written is written here.
+#![tactic(auto)]
+
 ghost use Rattle.std.specs.Prelude.{[], ◌∷◌, ◌<◌, ◌≡◌};
 ghost use Rattle.meaning.specs.Answer.{hex_digit, bytes₂, bytes₄};
 ghost use Rattle.writer.specs.Writes.{Writes, WritesText, hex_of};
