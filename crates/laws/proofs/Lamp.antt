@@ -173,6 +173,7 @@ module _ (text : Message → List ℕ) where
   numbered_begins k (t ∷ ts) (later e h) =
       after_then (hex_line (0x0b ∷ bytes₂ k)) (answer_lines text t ++ numbered text (suc k) ts) (number_skips k)
       (after_then (answer_lines text t) (numbered text (suc k) ts) (answer_skips t e) (numbered_begins (suc k) ts h))
+  numbered_begins k [] x' = elim x' [ ]
 
   whole : (a : List ℕ) → a ++ [] ≡ a
   whole a = append-nil a
@@ -181,6 +182,8 @@ module _ (text : Message → List ℕ) where
   unfolding form_lines
   form_has (t ∷ []) (here n) = subst Has08 (whole (answer_lines text t)) ((answer_begins t n).here08 [])
   form_has (t ∷ u ∷ ts) h = subst Has08 (whole (numbered text 0 (t ∷ u ∷ ts))) ((numbered_begins 0 (t ∷ u ∷ ts) h).here08 [])
+  form_has [] h = elim h [ ]
+  form_has (t ∷ []) (later _ h) = elim h [ ]
 
   form_lacks : (ts : List Typed) → All (λ t. t.diagnostics ≡ []) ts → Has08 (form_lines text ts) → ⊥
   unfolding form_lines lines
@@ -235,11 +238,13 @@ module _ (schema : Schema) where
   one_shows (a ∷ qs) [] e h = absurd e
   one_shows (a ∷ qs) (t ∷ ts) e (here x) = here (shows_told a t e.0 x)
   one_shows (a ∷ qs) (t ∷ ts) e (later x h) = later (clean_told a t e.0 x) (one_shows qs ts e.1 h)
+  one_shows [] ts e h = elim h [ ]
 
   none_silent : (qs : List Ast) (ts : List Typed) → Each (Ran schema) qs ts → First (Clean schema) (Silent schema) qs → ⊥
   none_silent (a ∷ qs) [] e h = e
   none_silent (a ∷ qs) (t ∷ ts) e (here x) = silent_not a t e.0 x
   none_silent (a ∷ qs) (t ∷ ts) e (later x h) = none_silent qs ts e.1 h
+  none_silent [] ts e h = elim h [ ]
 
 -- ---- The whole call
 
