@@ -1,25 +1,24 @@
 -- Card 4. Each query's run that lasts until its first diagnostic goes as its whole run does, up to there (`lit` of Agree.antt): so the lamp is
 -- what the whole runs say (`lamp_is`), and of an answer, however long, whether it has a line 08 (`lamp_answered`).
-use mathlib.Core.Bool.{Bool, true, false}
 use mathlib.Core.List.{List, [], ◌∷◌, ◌++◌, append_assoc, append-nil}
-use mathlib.Core.Logic.{◌≢◌, ◌⊎◌, inl, inr, ◌↔◌}
-use mathlib.Core.Option.{Option, none, some}
+use mathlib.Core.Logic.{◌≢◌, inl, inr, ◌↔◌}
+use mathlib.Core.Option.{Option}
 use mathlib.Core.Path.{◌≡◌, refl, sym, ap, ◌∙◌, subst}
 use Prim.Native.Nat.{ℕ, suc, ◌%◌, ◌<◌, ◌≤◌}
 use native.Mathlib.Omega.{arith}
 use lib.Dec.{ltb}
 use borrow.Author.Tests.{ltb-false, lt-ltb, le-ltb}
-use lib.ListN.{length, drop}
+use lib.ListN.{drop}
 use Rattle.unification.specs.Ty.{Ty}
 use Rattle.meaning.specs.Syntax.{Span, Ast}
-use Rattle.meaning.specs.Schema.{Schema, get}
+use Rattle.meaning.specs.Schema.{Schema}
 use Rattle.meaning.specs.Diag.{Message, Diagnostic}
 use Rattle.meaning.specs.Refusal.{Refusal, work_too_short, too_many_visits}
 use Rattle.meaning.specs.All.{All, Any, Each}
 use Rattle.meaning.specs.Lines.{closed, LF, lines}
 use Rattle.meaning.specs.Answer.{bytes₂, bytes₄, hex_digit, hex_line, slot_bytes, node_lines, diagnostic_bytes, diagnostic_line, diagnostic_lines, unused_line}
 use Rattle.meaning.specs.Answer.{unused_lines, answer_lines, numbered, form_lines}
-use Rattle.meaning.specs.Check.{Checker, Step, goes, out, Until, the_end, first_diagnostic, begin, begin_until, lasting, query, Typed, typed, reversed}
+use Rattle.meaning.specs.Check.{Step, goes, out, first_diagnostic, lasting, Typed, typed, reversed}
 use Rattle.meaning.specs.Check.{checked, check}
 use Rattle.meaning.specs.Run.{ending, run}
 use Rattle.meaning.specs.Outcome.{min_words, max_visits, turned_down, answered, decide_run, decide_read, decide}
