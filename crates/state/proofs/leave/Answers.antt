@@ -1,4 +1,3 @@
-use Prim.Native.Nat.{◌-◌}
 use Rattle.state.proofs.Entries.{leaving_start, leaving_next, leaving_done}
 use Rattle.state.proofs.leave.Goals as goal
 

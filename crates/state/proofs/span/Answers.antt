@@ -1,6 +1,5 @@
 use native.Mathlib.Omega.{arith}
 use mathlib.Core.Path.{refl}
-use Prim.Native.Nat.{◌-◌}
 use Rattle.state.proofs.Telling.{span_start, span_next, span_full, span_done, span_none}
 use Rattle.state.proofs.span.Goals as goal
 
