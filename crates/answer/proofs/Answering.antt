@@ -9,7 +9,7 @@ use lib.Seq.{take_at, drop_at}
 use Rattle.unification.specs.Ty as Tree
 use Rattle.work.specs.Layout.{FULL}
 use Rattle.cells.specs.Stands.{Rows}
-use Rattle.bytes.specs.Bytes.{slice}
+use lib.Seq.{slice}
 use Rattle.meaning.specs.File.{Described}
 use Rattle.meaning.specs.Check.{Checker, Typed, goes, typed, checked, reversed, zonked}
 use Rattle.meaning.specs.Messages.{message_text}

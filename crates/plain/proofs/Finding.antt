@@ -8,7 +8,7 @@ use native.Mathlib.Omega.{arith}
 use borrow.Author.Tests.{eq-eqb, ne_eqb}
 use lib.Dec.{eqb}
 use lib.ListN.{length, get_or, length-append}
-use Rattle.bytes.specs.Bytes.{slice}
+use lib.Seq.{slice}
 use Rattle.unification.specs.Ty.{Kind, Record, Union, Ty, Row, ε, cell, row_len}
 use Rattle.unification.specs.Unify.{find_key}
 use Rattle.plain_theory.specs.Words.{kind_tag, head_spelled, spelled, row_spelled}

@@ -7,7 +7,7 @@ use native.Mathlib.Decide.{ℕ_discrete}
 use native.Mathlib.Omega.{arith}
 use lib.ListN.{length, get_or, set, take, length-set}
 use lib.Seq.{ext_get_or, get_or-set_same, get_or-set_other, get_or-drop, get_or-take}
-use Rattle.bytes.specs.Bytes.{slice}
+use lib.Seq.{slice}
 use Rattle.plain.specs.Stages.{Lowers}
 use Rattle.plain.proofs.Slices.{slice_long}
 

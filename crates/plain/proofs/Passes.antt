@@ -8,7 +8,7 @@ use Prim.Native.Nat.{ℕ, zero, suc, ◌+◌, ◌-◌, ◌≤◌, ◌<◌}
 use native.Mathlib.Omega.{arith}
 use lib.Dec.{eqb}
 use lib.ListN.{length, get_or, length-append}
-use Rattle.bytes.specs.Bytes.{slice}
+use lib.Seq.{slice}
 use Rattle.unification.specs.Ty.{Ty}
 use Rattle.unification.proofs.Tests.{clash}
 use Rattle.writer.specs.declared.Wrote.{Wrote}

@@ -6,7 +6,7 @@ use native.Mathlib.Numerals.{add-one}
 use native.Mathlib.Omega.{arith}
 use lib.ListN.{length, get_or, take, drop, length-append, length-take, length-drop, drop_of_length-le}
 use lib.Seq.{length-take-le, drop-cons, get_or-take, take-take, take_at, drop_at, drop-drop, take-add, take-append-le, get_or-drop}
-use Rattle.bytes.specs.Bytes.{slice}
+use lib.Seq.{slice}
 use Rattle.writer.specs.declared.Wrote.{Wrote}
 use Rattle.writer.specs.declared.Wrote.TheVariants.{To, Full}
 use Rattle.writer.specs.Writes.{placed, Writes}

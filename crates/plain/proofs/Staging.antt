@@ -5,7 +5,7 @@ use Prim.Native.Nat.{ℕ, ◌+◌, ◌-◌, ◌≤◌, ◌<◌}
 use native.Mathlib.Omega.{arith}
 use lib.ListN.{length, get_or, take, length-append}
 use lib.Seq.{get_or-take}
-use Rattle.bytes.specs.Bytes.{slice}
+use lib.Seq.{slice}
 use Rattle.unification.specs.Robinson.{Equation}
 use Rattle.writer.specs.declared.Wrote.{Wrote}
 use Rattle.writer.specs.declared.Wrote.TheVariants.{To, Full}
