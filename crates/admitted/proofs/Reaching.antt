@@ -28,7 +28,7 @@ use Rattle.cells.specs.declared.Bound.{Bound}
 use Rattle.cells.specs.declared.Bound.TheVariants.{To, Free}
 use Rattle.cells.specs.Words.{declared_w, count_w, part_w, bound_w}
 use Rattle.cells.specs.Stands.{Rows, tree, bound_tree, row_from, row_w, IsCell, declared, made, Ok, OkBound, Holds}
-use Rattle.admitted.specs.Marks.{marked, item_w, good_w, Sound, Lacks, Distinct, BoundGood, Holding}
+use Rattle.admitted.specs.Marks.{marked, item_w, good_w, Sound, Distinct, BoundGood, Holding}
 
 -- ---- A row, by the numbers of its cells
 module _ (T : Rows) (w : List ℕ) (k : Kind) (c : ℕ) where

@@ -4,7 +4,6 @@ use mathlib.Core.Path.{◌≡◌, refl, ap}
 use Prim.Native.Nat.{ℕ, ◌≤◌}
 use Rattle.cabinet.specs.declared.Account.{Account}
 use Rattle.cabinet.specs.Cabinet.{ceiling_of, charged}
-use Rattle.cabinet.specs.Promises.{At}
 use Rattle.cabinet.specs.Accounts.{open_account, pick, ceiling_in, charged_to, Good}
 use Rattle.cabinet.proofs.Checking.{differ}
 use Rattle.cabinet.proofs.Groups.{charged_valid}

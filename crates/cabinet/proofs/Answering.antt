@@ -2,7 +2,7 @@
 use mathlib.Core.Bool.{Bool, true, false}
 use mathlib.Core.List.{List}
 use mathlib.Core.Path.{◌≡◌, refl, sym, ◌∙◌}
-use Prim.Native.Nat.{ℕ, ◌+◌, ◌-◌, ◌<◌, ◌≤◌, min, max}
+use Prim.Native.Nat.{ℕ}
 use native.Mathlib.Omega.{arith}
 use borrow.Author.Tests.{ltb-true, lt-ltb}
 use lib.Dec.{ltb}
@@ -10,11 +10,10 @@ use lib.ListN.{length}
 use Rattle.cabinet.specs.declared.Group.{Group}
 use Rattle.cabinet.specs.declared.Changed.{Changed}
 use Rattle.cabinet.specs.declared.Allowance.{Allowance}
-use Rattle.cabinet.specs.declared.Allowance.TheVariants as Allowance
-use Rattle.cabinet.specs.Cabinet.{nobody, desk, larger, Valid, ceiling_of, rested, set_up}
+use Rattle.cabinet.specs.Cabinet.{nobody, Valid, ceiling_of, rested, set_up}
 use Rattle.cabinet.specs.Promises.{Validates, Others, At, IsAt, Ceils, Rests, Allowed, SetsUp}
 use Rattle.cabinet.proofs.Checking.{differ}
-use Rattle.cabinet.proofs.Groups.{others, set_up_valid, set_up_allowed}
+use Rattle.cabinet.proofs.Groups.{others, set_up_allowed}
 
 pub invalid : {g : Group} {r : Bool} → Validates g r → r ≡ false → Valid g → ⊥
 invalid h e v = differ (sym e ∙ h.1 v)

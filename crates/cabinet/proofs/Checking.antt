@@ -9,8 +9,8 @@ use lib.Dec.{leb}
 use lib.ListN.{get_or}
 use Rattle.cabinet.specs.declared.Desk.{Desk}
 use Rattle.cabinet.specs.declared.Group.{Group}
-use Rattle.cabinet.specs.Cabinet.{absent, desk, total, larger, but, Rules, Valid}
-use Rattle.cabinet.specs.Promises.{Validates, Others}
+use Rattle.cabinet.specs.Cabinet.{absent, desk, total, larger, but, Valid}
+use Rattle.cabinet.specs.Promises.{Validates}
 use Rattle.cabinet.proofs.Totals.{up_to, total_one, total_mono, but_at, but_other}
 
 pub record Summed (f : ℕ → ℕ) (i sum : ℕ) : Type 0 where

@@ -1,11 +1,8 @@
 -- Every group that calls lead to is valid, and so assures each desk what the card says.
 use mathlib.Core.Bool.{Bool, true, false}
 use mathlib.Core.Path.{◌≡◌, refl}
-use Prim.Native.Nat.{ℕ}
 use Rattle.cabinet.specs.declared.Group.{Group}
-use Rattle.cabinet.specs.declared.Changed.{Changed}
-use Rattle.cabinet.specs.Cabinet.{Valid, rested}
-use Rattle.cabinet.specs.Promises.{Rests, SetsUp}
+use Rattle.cabinet.specs.Cabinet.{Valid}
 use Rattle.cabinet.specs.Days.{Led, set_up_lem, query, new_day, Assured}
 use Rattle.cabinet.proofs.Groups as Groups
 

@@ -1,5 +1,4 @@
 -- A day at three desks: the first uses more than its share, and the third is still sure of its own.
-use mathlib.Core.Bool.{false}
 use mathlib.Core.List.{List, [], ◌∷◌}
 use mathlib.Core.Path.{◌≡◌, refl}
 use Prim.Native.Nat.{ℕ, zero, suc, ◌<◌, ◌≤◌}
@@ -7,7 +6,7 @@ use native.Mathlib.Omega.{arith}
 use lib.ListN.{get_or}
 use Rattle.cabinet.specs.declared.Group.{Group}
 use Rattle.cabinet.specs.Cabinet.{total, places, ceiling_of, charged, set_up, rested}
-use Rattle.cabinet.specs.Promises.{Allowed, SetsUp}
+use Rattle.cabinet.specs.Promises.{Allowed}
 use Rattle.cabinet.specs.Days.{Led, set_up_lem, query, new_day, Assured}
 use Rattle.cabinet.proofs.Groups.{set_up_valid}
 use Rattle.cabinet.proofs.Answering.{sets_up, rests}

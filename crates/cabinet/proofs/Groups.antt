@@ -6,13 +6,13 @@ use Prim.Native.Nat.{ℕ, ◌+◌, ◌-◌, ◌<◌, ◌≤◌, min, max}
 use native.Mathlib.Omega.{arith}
 use borrow.Author.Tests.{eqb-true, eqb-false, ltb-true, ltb-false}
 use lib.Dec.{eqb, ltb}
-use lib.ListN.{length, get_or, set, length-set, get_or-eq_default}
+use lib.ListN.{length, get_or, length-set, get_or-eq_default}
 use lib.Seq.{get_or-set_same, get_or-set_other}
 use Rattle.cabinet.specs.declared.Desk.{Desk}
 use Rattle.cabinet.specs.declared.Group.{Group}
-use Rattle.cabinet.specs.Cabinet.{absent, desk, total, larger, but, Rules, Valid, ceiling_of, charged, rested, set_up, places}
+use Rattle.cabinet.specs.Cabinet.{absent, desk, total, larger, but, Rules, Valid, ceiling_of, charged, rested, set_up}
 use Rattle.cabinet.specs.Promises.{Allowed}
-use Rattle.cabinet.proofs.Totals.{total_mono, total_same, total_split, but_other}
+use Rattle.cabinet.proofs.Totals.{total_same, total_split}
 use Rattle.cabinet.proofs.Places.{place_at_lem}
 
 -- What every other desk keeps.

@@ -4,7 +4,6 @@ use Rattle.cabinet.specs.declared.Desk.{Desk}
 use Rattle.cabinet.specs.declared.Group.{Group}
 use Rattle.cabinet.specs.declared.Changed.{Changed}
 use Rattle.cabinet.specs.declared.Allowance.{Allowance}
-use Rattle.cabinet.specs.declared.Allowance.TheVariants as Allowance
 use Rattle.cabinet.specs.Cabinet.{absent, nobody, total, larger, but, Rules, Valid, ceiling_of, rested, set_up}
 
 abbrev pub Validates : Group → Bool → Type 0

@@ -1,7 +1,7 @@
 -- After `sigla_begin` the words are where a list of the code's calls begins: what it wrote are the four zeros that the start asks for, and
 -- the schema types stand below them.
 use mathlib.Core.List.{List, []}
-use mathlib.Core.Path.{◌≡◌, refl, sym, ap, ◌∙◌}
+use mathlib.Core.Path.{◌≡◌, ◌∙◌}
 use Prim.Native.Nat.{ℕ, ◌+◌, ◌*◌, ◌<◌, ◌≤◌}
 use native.Mathlib.Omega.{arith}
 use lib.ListN.{length, get_or, set, length-set}
@@ -12,7 +12,7 @@ use Rattle.unification.specs.Calls as Calls
 use Rattle.work.specs.Layout.{TYPE-COUNT, NODE-COUNT, QUERY, TYPES, NODES, RECORD-COUNT, RECORD-FIELD-COUNT, UNKNOWNS, UNDO-LEN, END}
 use Rattle.cells.specs.declared.Kind.{Kind}
 use Rattle.cells.specs.Words.{declared_w}
-use Rattle.cells.specs.Stands.{Rows, tree, IsCell, declared, made, Cells, Keeps}
+use Rattle.cells.specs.Stands.{Rows, IsCell, declared, made, Cells, Keeps}
 use Rattle.cells.specs.CodeCalls.{Declares, CodeCalls, none_yet}
 use Rattle.cells.proofs.Frame.{keeps_trans, keeps_set}
 use Rattle.cells.proofs.Starting.{start_holds}

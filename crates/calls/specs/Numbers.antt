@@ -1,9 +1,7 @@
 -- How the answers of cells/src go as numbers.
 use Rattle.std.specs.Prelude.{List, ◌≡◌, ℕ, set}
 use Rattle.cells.specs.declared.TyError.{TyError}
-use Rattle.cells.specs.declared.TyError.TheVariants as TyError
 use Rattle.cells.specs.declared.Unified.{Unified}
-use Rattle.cells.specs.declared.Unified.TheVariants as Unified
 use Rattle.cells.specs.Words.{ty_w}
 use Rattle.cells.specs.Promises.{Unifies, unified_left}
 

@@ -1,16 +1,15 @@
 -- The two calls: each refusal exactly under its condition, zeros, and out and back through slices that are large enough.
-use mathlib.Core.Bool.{Bool, true, false}
+use mathlib.Core.Bool.{true, false}
 use mathlib.Core.List.{List, [], ◌∷◌, ◌++◌, flat_map}
-use mathlib.Core.Logic.{◌⊎◌, inl, inr, ◌↔◌}
+use mathlib.Core.Logic.{◌⊎◌, inl, inr}
 use mathlib.Core.Path.{◌≡◌, refl, sym, ap, subst, ◌∙◌}
-use Prim.Native.Nat.{ℕ, ◌-◌, ◌≤◌, ◌<◌}
+use Prim.Native.Nat.{ℕ, ◌≤◌, ◌<◌}
 use native.Mathlib.Omega.{arith}
 use lib.Dec.{ltb, leb}
-use lib.ListN.{length, replicate}
+use lib.ListN.{length}
 use borrow.Author.Tests.{ltb-true, ltb-false, lt-ltb, le-ltb, leb-true, le-leb}
 use Rattle.meaning.specs.Refusal.{Refusal, work_too_short, answer_too_long, number_too_wide}
-use Rattle.meaning.specs.Refused as Lines
-use Rattle.meaning.specs.Frame.{Edition, narrow, wide, Frame}
+use Rattle.meaning.specs.Frame.{narrow, wide, Frame}
 use Rattle.meaning.specs.Conditions.{any_of}
 use Rattle.meaning.specs.All.{Any}
 use Rattle.meaning.specs.File.{Form, Reading, refused, described, reading_of, max_file}

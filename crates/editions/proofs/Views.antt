@@ -1,8 +1,8 @@
 -- Which frames name a predicate by number: a type and a node. All others are written alike in both editions, and their numbers fit alike.
-use mathlib.Core.Bool.{Bool, true, false}
-use mathlib.Core.List.{List, [], ◌∷◌, ◌++◌}
+use mathlib.Core.Bool.{false}
+use mathlib.Core.List.{[], ◌∷◌, ◌++◌}
 use mathlib.Core.Path.{◌≡◌, refl, sym, ap, subst, ◌∙◌}
-use Prim.Native.Nat.{ℕ, ◌+◌, ◌/◌, ◌%◌, ◌≤◌, ◌<◌}
+use Prim.Native.Nat.{ℕ, ◌/◌, ◌%◌, ◌≤◌, ◌<◌}
 use native.Mathlib.Omega.{arith}
 use lib.Dec.{leb}
 use lib.ListN.{length}
@@ -13,7 +13,7 @@ use Rattle.meaning.specs.Frame.{Edition, narrow, wide, kind_byte, a_leaf, a_reco
 use Rattle.meaning.specs.Lines.{max_bytes}
 use Rattle.meaning.specs.Conditions.{any_of}
 use Rattle.meaning.specs.Answer.{bytes₂, bytes₄}
-use Rattle.meaning.specs.Writing.{InTwo, InFour, as_reference, as_shape, as_expr, as_node, as_content, written, ExprFits, Fits, Writable}
+use Rattle.meaning.specs.Writing.{as_reference, as_shape, as_expr, as_node, as_content, written, ExprFits, Fits, Writable}
 use Rattle.editions.specs.Converted.{shape_predicates, expr_predicates, predicates, is_above}
 use Rattle.meaning.proofs.Tests.{cases, clash}
 

@@ -1,6 +1,6 @@
 -- What card 6 asks of the two calls: when each is refused for which reason, zeros as demand 1 has them, the converted file says the same, and out
 -- and back gives the first file. The theorems stand in proofs/Same.antt and proofs/Calls.antt.
-use Rattle.std.specs.Prelude.{true, false, List, ◌++◌, ◌↔◌, ◌≡◌, ℕ, ◌-◌, ◌<◌, ◌≤◌, length, replicate}
+use Rattle.std.specs.Prelude.{false, List, ◌++◌, ◌↔◌, ◌≡◌, ℕ, ◌-◌, ◌<◌, ◌≤◌, length, replicate}
 use Rattle.meaning.specs.Refusal.{Refusal, work_too_short, answer_too_long, number_too_wide}
 use Rattle.meaning.specs.Refused as Lines
 use Rattle.meaning.specs.All.{Any}

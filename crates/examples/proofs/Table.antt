@@ -4,7 +4,7 @@ use native.Mathlib.Decide.{ℕ_discrete}
 use mathlib.Core.Path.{refl}
 use Rattle.unification.specs.Bindings as Bindings
 use Rattle.unification.specs.Unify as Unify
-use Rattle.meaning.specs.Table.{at_limits, holds, Rows, end, _then_, wholes, ends}
+use Rattle.meaning.specs.Table.{at_limits, holds, Rows, end, ◌then◌, wholes, ends}
 
 -- The last that passes and the first that does not.
 pub limit_examples : Rows holds at_limits

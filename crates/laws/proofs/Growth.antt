@@ -3,7 +3,7 @@
 use mathlib.Core.Bool.{Bool, true, false}
 use mathlib.Core.List.{List, [], ◌∷◌, ◌++◌, map, append_assoc, append-nil}
 use mathlib.Core.Option.{Option, none, some}
-use mathlib.Core.Path.{◌≡◌, refl, sym, ◌∙◌, ap}
+use mathlib.Core.Path.{◌≡◌, refl, sym, subst, ◌∙◌, ap}
 use Prim.Native.Nat.{ℕ, zero, suc, ◌<◌, ◌≤◌}
 use native.Mathlib.Nat.{zero-add, not-suc-le-zero, le_of_suc-le-suc}
 use native.Mathlib.Omega.{arith}
@@ -141,7 +141,7 @@ module _ (c : Content) (refers : Refers c) (present : NoAbsent c) (names : List 
       let more = types_begin old_types types in
       let e : types_from [] (c.types ++ types) ≡ old_types ++ more.0 = types_append [] c.types types ∙ more.1 in
       let n : length old_types ≡ length c.types = types_length [] c.types ∙ zero-add (length c.types) in
-      rw e (get_grown old_types more.0 c.predicates predicates p h (rw n refers.predicate_types))
+      rw e (get_grown old_types more.0 c.predicates predicates p h (subst (λ m. All (λ q. Below m (q.key ∷ optional q.value)) c.predicates) (sym n) refers.predicate_types))
 
   old_over : (p : ℕ) → PredicateOver (spoken c) (get old.schema p)
   old_over p = content_over (spoken c) c present.types refers.type_names p

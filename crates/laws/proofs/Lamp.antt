@@ -1,25 +1,24 @@
 -- Card 4. Each query's run that lasts until its first diagnostic goes as its whole run does, up to there (`lit` of Agree.antt): so the lamp is
 -- what the whole runs say (`lamp_is`), and of an answer, however long, whether it has a line 08 (`lamp_answered`).
-use mathlib.Core.Bool.{Bool, true, false}
 use mathlib.Core.List.{List, [], ◌∷◌, ◌++◌, append_assoc, append-nil}
-use mathlib.Core.Logic.{◌≢◌, ◌⊎◌, inl, inr, ◌↔◌}
-use mathlib.Core.Option.{Option, none, some}
+use mathlib.Core.Logic.{◌≢◌, inl, inr, ◌↔◌}
+use mathlib.Core.Option.{Option}
 use mathlib.Core.Path.{◌≡◌, refl, sym, ap, ◌∙◌, subst}
 use Prim.Native.Nat.{ℕ, suc, ◌%◌, ◌<◌, ◌≤◌}
 use native.Mathlib.Omega.{arith}
 use lib.Dec.{ltb}
 use borrow.Author.Tests.{ltb-false, lt-ltb, le-ltb}
-use lib.ListN.{length, drop}
+use lib.ListN.{drop}
 use Rattle.unification.specs.Ty.{Ty}
 use Rattle.meaning.specs.Syntax.{Span, Ast}
-use Rattle.meaning.specs.Schema.{Schema, get}
+use Rattle.meaning.specs.Schema.{Schema}
 use Rattle.meaning.specs.Diag.{Message, Diagnostic}
 use Rattle.meaning.specs.Refusal.{Refusal, work_too_short, too_many_visits}
 use Rattle.meaning.specs.All.{All, Any, Each}
 use Rattle.meaning.specs.Lines.{closed, LF, lines}
 use Rattle.meaning.specs.Answer.{bytes₂, bytes₄, hex_digit, hex_line, slot_bytes, node_lines, diagnostic_bytes, diagnostic_line, diagnostic_lines, unused_line}
 use Rattle.meaning.specs.Answer.{unused_lines, answer_lines, numbered, form_lines}
-use Rattle.meaning.specs.Check.{Checker, Step, goes, out, Until, the_end, first_diagnostic, begin, begin_until, lasting, query, Typed, typed, reversed}
+use Rattle.meaning.specs.Check.{Step, goes, out, first_diagnostic, lasting, Typed, typed, reversed}
 use Rattle.meaning.specs.Check.{checked, check}
 use Rattle.meaning.specs.Run.{ending, run}
 use Rattle.meaning.specs.Outcome.{min_words, max_visits, turned_down, answered, decide_run, decide_read, decide}
@@ -173,6 +172,7 @@ module _ (text : Message → List ℕ) where
   numbered_begins k (t ∷ ts) (later e h) =
       after_then (hex_line (0x0b ∷ bytes₂ k)) (answer_lines text t ++ numbered text (suc k) ts) (number_skips k)
       (after_then (answer_lines text t) (numbered text (suc k) ts) (answer_skips t e) (numbered_begins (suc k) ts h))
+  numbered_begins k [] x' = elim x' [ ]
 
   whole : (a : List ℕ) → a ++ [] ≡ a
   whole a = append-nil a
@@ -181,6 +181,8 @@ module _ (text : Message → List ℕ) where
   unfolding form_lines
   form_has (t ∷ []) (here n) = subst Has08 (whole (answer_lines text t)) ((answer_begins t n).here08 [])
   form_has (t ∷ u ∷ ts) h = subst Has08 (whole (numbered text 0 (t ∷ u ∷ ts))) ((numbered_begins 0 (t ∷ u ∷ ts) h).here08 [])
+  form_has [] h = elim h [ ]
+  form_has (t ∷ []) (later _ h) = elim h [ ]
 
   form_lacks : (ts : List Typed) → All (λ t. t.diagnostics ≡ []) ts → Has08 (form_lines text ts) → ⊥
   unfolding form_lines lines
@@ -235,11 +237,13 @@ module _ (schema : Schema) where
   one_shows (a ∷ qs) [] e h = absurd e
   one_shows (a ∷ qs) (t ∷ ts) e (here x) = here (shows_told a t e.0 x)
   one_shows (a ∷ qs) (t ∷ ts) e (later x h) = later (clean_told a t e.0 x) (one_shows qs ts e.1 h)
+  one_shows [] ts e h = elim h [ ]
 
   none_silent : (qs : List Ast) (ts : List Typed) → Each (Ran schema) qs ts → First (Clean schema) (Silent schema) qs → ⊥
   none_silent (a ∷ qs) [] e h = e
   none_silent (a ∷ qs) (t ∷ ts) e (here x) = silent_not a t e.0 x
   none_silent (a ∷ qs) (t ∷ ts) e (later x h) = none_silent qs ts e.1 h
+  none_silent [] ts e h = elim h [ ]
 
 -- ---- The whole call
 

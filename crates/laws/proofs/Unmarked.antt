@@ -7,7 +7,7 @@ use Rattle.unification.specs.Ty.{Ty}
 use Rattle.meaning.specs.Syntax.{Span, Ast}
 use Rattle.meaning.specs.Schema.{Schema, get}
 use Rattle.meaning.specs.Diag.{Message, Diagnostic, ascii}
-use Rattle.meaning.specs.Check.{Step, with_marks, with_unused, Typed, begin, query, zonked, reversed, checked, check}
+use Rattle.meaning.specs.Check.{Step, with_marks, with_unused, Typed, begin, zonked, checked, check}
 use Rattle.meaning.specs.Answer.{bytes₄, diagnostic_bytes, diagnostic_line, diagnostic_lines, answer_lines}
 use Rattle.laws.specs.Over.{everything}
 use Rattle.laws.specs.Unmarked.{remarked, check_from, with_lines, SameButUnused, both_typed, both_exhausted}

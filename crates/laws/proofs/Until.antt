@@ -1,5 +1,5 @@
 -- Cards 4 and 12: a query's run that is to last until something goes as its whole run does, up to there.
-use mathlib.Core.List.{List, []}
+use mathlib.Core.List.{[]}
 use mathlib.Core.Path.{◌≡◌, refl}
 use Prim.Native.Nat.{ℕ, ◌≤◌}
 use native.Mathlib.Omega.{arith}
@@ -12,7 +12,7 @@ use Rattle.meaning.specs.Run.{NotYet, run}
 use Rattle.laws.specs.Over.{everything}
 use Rattle.laws.specs.Same.{Same}
 use Rattle.laws.proofs.Over.{predicate_everything, names_everything}
-use Rattle.laws.proofs.Agree.{Agree, Any, Went, SafeStep, Lit}
+use Rattle.laws.proofs.Agree.{Lit}
 use Rattle.laws.proofs.Walk.{query_agrees}
 use Rattle.laws.proofs.Run.{begin_fine, same_self}
 

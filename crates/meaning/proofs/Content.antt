@@ -11,7 +11,8 @@ use lib.ListN.{length, length-map}
 use Rattle.meaning.specs.Frame.{Edition, Kind, limits, may_stand, kind_byte, Frame, the_limits, a_name, a_type, a_predicate, a_node, the_query, frame_kind}
 use Rattle.meaning.specs.SoFar.{SoFar, start, add}
 use Rattle.meaning.specs.File.{Form, schema_of, describe, described, reading_of}
-use Rattle.meaning.specs.All.{All}
+use Rattle.meaning.specs.All.{All, Below}
+use Rattle.meaning.specs.References.{optional}
 use Rattle.meaning.specs.Writing.{file_of, Writable}
 use Rattle.meaning.proofs.Obeys.{Obeys, Rules, done, next, Written}
 use Rattle.meaning.specs.Sound.{Kept}
@@ -69,7 +70,7 @@ after_limits d t fs end e k g =
         type_types = g.type_types;
         type_keys = g.type_keys;
         predicate_names = rw g.end_names at g.predicate_names;
-        predicate_types = rw types at g.predicate_types;
+        predicate_types = subst (λ n. All (λ p. Below n (p.key ∷ optional p.value)) g.predicates) types g.predicate_types;
         queries = rw (g.end_names, queries) at k.queries;
         queries_min = rw queries at (k.one_ended e);
         queries_max = rw queries at k.queries_max;

@@ -2,7 +2,7 @@
 use mathlib.Core.Bool.{true}
 use mathlib.Core.List.{List, [], ◌∷◌, ◌++◌, map, flat_map, append-nil, append_assoc}
 use mathlib.Core.Option.{Option, none, some}
-use mathlib.Core.Path.{◌≡◌, refl, ◌∙◌}
+use mathlib.Core.Path.{◌≡◌, refl, sym, subst, ◌∙◌}
 use Prim.Native.Nat.{ℕ, ◌+◌, ◌<◌, ◌≤◌}
 use native.Mathlib.Nat.{zero-add, not-suc-le-zero}
 use native.Mathlib.Omega.{arith}
@@ -291,12 +291,13 @@ lawful_rules c h =
     let t = c.max_term_chars in
     let ts = types_from [] c.types in
     let ps = map (predicate_with ts) c.predicates in
+    let as_long : length ts ≡ length c.types = omega (arith, types_length [] c.types) in
     let a = name_rules d t [] c.names (some limits) ready_limits h.texts h.distinct (omega (arith, h.names_max)) in
     let b = type_rules d t c.names [] c.types a.previous (ready_later name schema_type a.previous types_later a.ready) h.type_names
     h.type_types h.type_keys (omega (arith, h.types_max)) in
     let e = predicate_rules d t c.names ts [] c.predicates b.previous
     (ready_later schema_type predicate b.previous predicates_later b.ready) h.predicate_names
-    (rw (types_length [] c.types, zero-add) h.predicate_types) (omega (arith, h.predicates_max)) in
+    (subst (λ n. All (λ p. Below n (p.key ∷ optional p.value)) c.predicates) (sym as_long) h.predicate_types) (omega (arith, h.predicates_max)) in
     next (limits_obey d t) (rules_append (rules_append a.rules (rules_append b.rules e.rules))
     (queries c.queries ts ps e.previous (e.ready node nodes_later) h.queries_min h.queries_max h.queries))
   where

@@ -95,6 +95,7 @@ first_holds (later q (later r (later s (later t (later u (here v)))))) e = let z
 first_holds (later q (later r (later s (later t (later u (later v (here w))))))) e = let z : ◌≡◌ {A = ℕ} 0 1 = cc in absurd (omega arith)
 first_holds (later q (later r (later s (later t (later u (later v (later w (here x)))))))) e = let z : ◌≡◌ {A = ℕ} 0 1 = cc in absurd (omega arith)
 first_holds (later q (later r (later s (later t (later u (later v (later w (later x (here y))))))))) e = let z : ◌≡◌ {A = ℕ} 0 1 = cc in absurd (omega arith)
+first_holds {so = so} {i = i} (later q (later r (later s (later t (later u (later v (later w (later x (later _ h))))))))) e = elim h [ ]
 
 -- what 6 says of the conditions before it
 record Before6 (so : SoFar) (x : Said) : Type 0 where
@@ -114,6 +115,7 @@ before_6 (later q (later r (later s (later t (later u (here v)))))) e = let z : 
 before_6 (later q (later r (later s (later t (later u (later v (here w))))))) e = let z : ◌≡◌ {A = ℕ} 0 1 = cc in absurd (omega arith)
 before_6 (later q (later r (later s (later t (later u (later v (later w (here x)))))))) e = let z : ◌≡◌ {A = ℕ} 0 1 = cc in absurd (omega arith)
 before_6 (later q (later r (later s (later t (later u (later v (later w (later x (here y))))))))) e = let z : ◌≡◌ {A = ℕ} 0 1 = cc in absurd (omega arith)
+before_6 {so = so} {i = i} (later q (later r (later s (later t (later u (later v (later w (later x (later _ h))))))))) e = elim h [ ]
 
 only_malformed : {l : Line} {x : Said} → Means wide l x → x ≡ malformed → Malformed l
 only_malformed (is_malformed_lem m) e = m

@@ -140,15 +140,15 @@ module _ (ed : Edition) where
   why i (turned_down {i = j} h) e = let same : i ≡ j = cc in rw same h
   why i (passed end h p s) e = let z : ◌≡◌ {A = ℕ} 0 1 = cc in absurd (omega arith)
 
-  turned_down : (file : List ℕ) {i : Refusal} → Refused ed file i → reading_of ed file ≡ refused i
+  turned_down_lem : (file : List ℕ) {i : Refusal} → Refused ed file i → reading_of ed file ≡ refused i
   unfolding reading_of at_end
-  turned_down file (too_long h) = rw (lt-ltb max_file (length file) h, reading_of)
-  turned_down file (at_line h s) = within file h ∙ stops s
-  turned_down file (missing_query end h p q) = within file h ∙ to_the_end p ∙ not_ended end end.previous q
+  turned_down_lem file (too_long h) = rw (lt-ltb max_file (length file) h, reading_of)
+  turned_down_lem file (at_line h s) = within file h ∙ stops s
+  turned_down_lem file (missing_query end h p q) = within file h ∙ to_the_end p ∙ not_ended end end.previous q
 
   -- Refused for a reason exactly under its condition.
   pub refused_when : (file : List ℕ) (i : Refusal) → (reading_of ed file ≡ refused i) ↔ Refused ed file i
-  refused_when file i = (λ e. why i (read file) e, λ h. turned_down file h)
+  refused_when file i = (λ e. why i (read file) e, λ h. turned_down_lem file h)
 
   -- Described exactly where all lines pass and the last is a query.
   pub accepted : (file : List ℕ) (end : SoFar) → length file ≤ max_file → Pass start (map (said ed) (lines file)) end → end.previous ≡ some Kind.query

@@ -81,6 +81,7 @@ at_text (later q (later r (later s (later t (later u (here v)))))) e = record { 
 at_text (later q (later r (later s (later t (later u (later v (here w))))))) e = let z : ◌≡◌ {A = ℕ} 0 1 = cc in absurd (omega arith)
 at_text (later q (later r (later s (later t (later u (later v (later w (here x)))))))) e = let z : ◌≡◌ {A = ℕ} 0 1 = cc in absurd (omega arith)
 at_text (later q (later r (later s (later t (later u (later v (later w (later x (here y))))))))) e = let z : ◌≡◌ {A = ℕ} 0 1 = cc in absurd (omega arith)
+at_text {so = so} {l = l} {i = i} (later q (later r (later s (later t (later u (later v (later w (later x (later _ h))))))))) e = elim h [ ]
 
 -- such a line is a name
 record NameLine (so : SoFar) (l : Said) : Type 0 where

@@ -8,7 +8,7 @@ use native.Mathlib.Omega.{arith}
 use lib.ListN.{length, take, drop, length-append, length-take, take-append-drop}
 use lib.Seq.{length-take-le, take_at, drop_at}
 use borrow.Rule.Slice.PartMut.{mid_of, post_of, put_mid}
-use lib.Seq.{slice}
+use Rattle.plain.specs.Slices.{slice}
 use Rattle.unification.specs.Bindings.{State}
 use Rattle.unification.proofs.Tests.{clash}
 use Rattle.cells.specs.declared.Ty.{Ty}

@@ -7,7 +7,7 @@ use native.Mathlib.Omega.{arith}
 use lib.ListN.{length, take, drop, replicate, length-append, length-replicate, drop_of_length-le}
 use lib.Seq.{take_all}
 use borrow.Rule.Slice.PartMut.{mid_of, post_of, put_mid, Post-is, mid_len}
-use lib.Seq.{slice}
+use Rattle.plain.specs.Slices.{slice}
 use Rattle.unification.specs.Bindings.{State}
 use Rattle.unification.specs.Calls.{Admitted}
 use Rattle.unification.proofs.Tests.{clash}

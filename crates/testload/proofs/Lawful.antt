@@ -1,5 +1,4 @@
 -- Whatever 32-bit words it is made of, the content obeys the rules: each choice is one of sixteen rows, and each row obeys them (Tables.antt).
-use mathlib.Core.Bool.{true, false}
 use mathlib.Core.List.{List, [], ◌∷◌, ◌++◌, map, flat_map}
 use mathlib.Core.Option.{Option, none, some}
 use mathlib.Core.Path.{◌≡◌, refl, sym, ap, ap₂, subst, ◌∙◌}
@@ -7,20 +6,20 @@ use Prim.Native.Nat.{ℕ, zero, suc, ◌+◌, ◌-◌, ◌*◌, ◌<◌, ◌≤�
 use native.Mathlib.Omega.{arith}
 use lib.ListN.{length, get_or, length-append, length-map}
 use Rattle.text.specs.Utf8.{Text}
-use Rattle.meaning.specs.Syntax.{Node, Ast, ExprKind, no_node}
-use Rattle.meaning.specs.References.{shape_names, shape_types, shape_keys, optional, query_nodes, expr_names, expr_nodes}
-use Rattle.meaning.specs.Frame.{Edition, wide, Kind, kind_byte, TypeShape, a_record, Frame, the_limits, a_name, a_type, a_predicate, a_node, the_query, frame_kind}
+use Rattle.meaning.specs.Syntax.{Node, Ast, no_node}
+use Rattle.meaning.specs.References.{shape_names, shape_types, shape_keys, optional, expr_names}
+use Rattle.meaning.specs.Frame.{wide, TypeShape, a_record, Frame, the_limits, a_name, a_type, a_predicate, a_node, the_query}
 use Rattle.meaning.specs.Lines.{max_bytes}
 use Rattle.meaning.specs.Conditions.{max_names, max_types, max_predicates, max_nodes, max_queries}
 use Rattle.meaning.specs.File.{max_file, no_ast}
 use Rattle.meaning.specs.All.{All, Distinct, Below}
 use Rattle.meaning.specs.Answer.{bytes₂, bytes₄, hex_line}
-use Rattle.meaning.specs.Content.{PredicateFrame, predicate_frame, Content, query_frames, schema_frames, frames_of, TypesBefore, Lawful}
+use Rattle.meaning.specs.Content.{PredicateFrame, predicate_frame, query_frames, schema_frames, frames_of, TypesBefore, Lawful}
 use Rattle.meaning.specs.Sound.{Lower, nodes_named, LawfulQuery}
 use Rattle.meaning.specs.Writing.{as_value_type, as_content, as_node, written, file_of, Fits, Writable}
 use Rattle.meaning.proofs.Lists.{all_append, all_map, all_at}
 use Rattle.testload.specs.Rule.{Limits, limit, limits, names, base, simple, compound, predicates, predicate, Plan, queries, counts, from, choice}
-use Rattle.testload.specs.Rule.{expr_at, node_of, no_plan, plan_of, query_of, limits_of, simple_of, compound_of, predicate_of, count_of, content_of}
+use Rattle.testload.specs.Rule.{node_of, no_plan, plan_of, query_of, limits_of, simple_of, compound_of, predicate_of, count_of, content_of}
 use Rattle.testload.proofs.Tables.{TypeRow, PredicateRow, LimitsRow, NameRow, ExprRow, PlanRow, base_rows, simple_rows, compound_rows, limits_rows}
 use Rattle.testload.proofs.Tables.{predicates_rows, names_rows, names_distinct, named_at, named_in, expr_at_lem, queries_rows, counts_rows, named_lower}
 

@@ -1,17 +1,17 @@
 -- Card 11's promises of the definition: every file made is past refusals 2 to 10 and 13, and two seeds below 2^31 give two files.
-use mathlib.Core.List.{List, [], ◌∷◌, ◌++◌}
+use mathlib.Core.List.{List, [], ◌∷◌}
 use mathlib.Core.Path.{◌≡◌, refl, sym, ap, ◌∙◌}
 use Prim.Native.Nat.{ℕ, zero, suc, ◌+◌, ◌-◌, ◌*◌, ◌%◌, ◌^◌, ◌<◌, ◌≤◌}
 use native.Mathlib.Decide.{dec_le}
 use native.Mathlib.Omega.{arith}
 use lib.ListN.{length, get_or}
 use Rattle.meaning.specs.Syntax.{no_node}
-use Rattle.meaning.specs.Frame.{Edition, wide}
-use Rattle.meaning.specs.File.{Form, no_ast, Reading, refused, described, reading_of, reading}
+use Rattle.meaning.specs.Frame.{wide}
+use Rattle.meaning.specs.File.{Form, no_ast, refused, described, reading_of, reading}
 use Rattle.meaning.specs.Refusal.{Refusal}
 use Rattle.meaning.specs.Refused.{Refused}
 use Rattle.meaning.specs.All.{All}
-use Rattle.meaning.specs.Content.{Content, describes, Says}
+use Rattle.meaning.specs.Content.{describes, Says}
 use Rattle.meaning.proofs.Lists.{all_snoc}
 use Rattle.meaning.proofs.Content.{says_exactly}
 use Rattle.meaning.proofs.Refused.{refused_when}

@@ -1,11 +1,11 @@
 -- The rule's tables, row by row, by tests that are computed over each table.
 use mathlib.Core.Bool.{Bool, true, false, not}
-use mathlib.Core.List.{List, [], ◌∷◌, ◌++◌, map, flat_map}
-use mathlib.Core.Path.{◌≡◌, refl, sym, ap, ◌∙◌}
-use Prim.Native.Nat.{ℕ, zero, suc, ◌+◌, ◌-◌, ◌*◌, ◌%◌, ◌<◌, ◌≤◌}
+use mathlib.Core.List.{List, [], ◌∷◌, ◌++◌, flat_map}
+use mathlib.Core.Path.{◌≡◌, refl, sym}
+use Prim.Native.Nat.{ℕ, zero, suc, ◌-◌, ◌*◌, ◌%◌, ◌<◌, ◌≤◌}
 use native.Mathlib.Nat.{not-suc-le-zero, le_of_suc-le-suc}
 use native.Mathlib.Omega.{arith}
-use lib.Dec.{leb, ltb}
+use lib.Dec.{leb}
 use lib.ListN.{length, get_or}
 use borrow.Author.Tests.{leb-true}
 use borrow.Author.Rules.{rules}
@@ -13,18 +13,18 @@ use mathlib.Core.Option.{Option, none, some}
 use Rattle.text.specs.Utf8.{Text, characters, both}
 use Rattle.text.proofs.Every.{both_left, both_right, below, every}
 use Rattle.text.proofs.Grammar.{counts as counted}
-use Rattle.meaning.specs.Syntax.{QueryStmt, Query, FieldRef, Literal, ExprKind}
+use Rattle.meaning.specs.Syntax.{ExprKind}
 use Rattle.meaning.specs.References.{shape_names, shape_types, shape_keys, optional, field_names, field_values, stmt_nodes, query_nodes, expr_names, expr_nodes}
 use Rattle.meaning.specs.Diag.{ascii}
-use Rattle.meaning.specs.Frame.{Edition, wide, TypeShape}
+use Rattle.meaning.specs.Frame.{wide, TypeShape}
 use Rattle.meaning.specs.Conditions.{any_of, all_below, among, again, same_text, given}
 use Rattle.meaning.specs.All.{All, Distinct, Below, Each}
 use Rattle.meaning.specs.Answer.{bytes₂, bytes₄}
 use Rattle.meaning.specs.Content.{PredicateFrame}
-use Rattle.meaning.specs.Writing.{as_field, as_alternative, as_reference, as_shape, as_value_type, as_statement, as_query, as_expr, Byte, InTwo, ShapeFits}
-use Rattle.meaning.specs.Writing.{ValueTypeFits, QueryFits, ExprFits}
+use Rattle.meaning.specs.Writing.{as_field, as_alternative, as_reference, as_shape, as_statement, as_query, as_expr, Byte, InTwo, ShapeFits}
+use Rattle.meaning.specs.Writing.{QueryFits, ExprFits}
 use Rattle.meaning.proofs.Lists.{all_at}
-use Rattle.meaning.proofs.Tests.{cases, clash, none_passes, below_all, again_distinct, given_absent}
+use Rattle.meaning.proofs.Tests.{clash, below_all, again_distinct, given_absent}
 use Rattle.testload.specs.Rule.{Limits, limits, names, base, simple, compound, predicates, leaves, pairs, singles, exprs, expr_at, Plan, queries}
 use Rattle.testload.specs.Rule.{counts, from}
 
@@ -379,6 +379,8 @@ each_at : {A B : Type 0} (R : A → B → Type 0) (l : List A) (m : List B) → 
 each_at R [] [] e n d d' h = absurd (not-suc-le-zero h)
 each_at R (a ∷ l) (b ∷ m) e zero d d' h = e.0
 each_at R (a ∷ l) (b ∷ m) e (suc n) d d' h = each_at R l m e.1 n d d' (le_of_suc-le-suc h)
+each_at {A = A} {B = B} R [] (b ∷ m) e n d d' h = elim e [ ]
+each_at {A = A} {B = B} R (a ∷ l) [] e n d d' h = elim e [ ]
 
 -- a table of sixteen expressions that name just these nodes
 record Sixteen (l : List ExprKind) (named : List ℕ) : Type 0 where

@@ -1,14 +1,11 @@
 -- The words by their places: each is where it was once it is made, so the card's three sentences hold of `word_at`.
-use mathlib.Core.Bool.{Bool, true, false}
-use mathlib.Core.List.{List, [], ◌∷◌, ◌++◌}
+use mathlib.Core.List.{List, [], ◌∷◌}
 use mathlib.Core.Path.{◌≡◌, refl, ap, sym, ◌∙◌}
 use Prim.Native.Nat.{ℕ, zero, suc, ◌+◌, ◌-◌, ◌%◌, ◌^◌, ◌≤◌, ◌<◌}
 use native.Mathlib.Omega.{arith}
-use lib.Dec.{eqb, ltb}
 use native.Mathlib.Decide.{dec_le}
-use native.Mathlib.Numerals.{add-one}
-use lib.ListN.{length, get_or, set, take, length-append, length-set}
-use lib.Seq.{get_or-take, take-append-le, take_all, take-suc-set, get_or_at}
+use lib.ListN.{length, get_or, take, length-append}
+use lib.Seq.{get_or-take, take-append-le, take_all, get_or_at}
 use borrow.Author.Tests.{eq-eqb, ne_eqb, lt-ltb, le-ltb}
 use Rattle.testload.specs.Words.{plus, next, words, word_at}
 

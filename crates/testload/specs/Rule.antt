@@ -6,7 +6,7 @@ use Rattle.std.proofs.Math.Option.{Option, none, some}
 use Rattle.std.specs.Prelude.{ℕ, zero, suc, ◌+◌, ◌-◌, ◌*◌, ◌/◌, ◌%◌}
 use Rattle.std.proofs.Math.ListN.{get_or}
 use Rattle.unification.specs.Ty.{Int, String, Bytes, Fact}
-use Rattle.meaning.specs.Syntax.{Field, QueryStmt, Query, FieldRef, Literal, ExprKind, Node, Ast}
+use Rattle.meaning.specs.Syntax.{Field, QueryStmt, Query, Literal, ExprKind, Node, Ast}
 use Rattle.meaning.specs.Syntax.ExprKind.{Lit, Var, Wildcard, Never, Prefix, Fuzzy, Record, Access, Disjunction, Subquery, Arith, Error, Select}
 use Rattle.meaning.specs.Syntax.QueryStmt.{Bind, Deny, Compare, Implicit, Negation}
 use Rattle.meaning.specs.Syntax.FieldRef.{Key, Value}

@@ -144,7 +144,8 @@ outside_low r h = rw (lt-leb 0xed r.high (ltb-true r.high 0xed h)) (both_false (
 
 none_counted : {s : List ℕ} → HasSurrogate s → (rs : List Range) → low rs ≡ true → count utf8_char rs s ≡ none
 unfolding count following
-none_counted (here {x = x} i j) [] l = rw (outside_9f x i, count)
+none_counted (here {x = x} {y = y} {t = t} i j) [] l =
+    let inner : count utf8_char (0x80 to 0x9f ∷ tail ∷ []) (x ∷ y ∷ t) ≡ none = rw (outside_9f x i, count) in ap one_more inner
 none_counted (here i j) (r ∷ rs) l = rw (outside_low r (both_left _ _ l), count)
 none_counted (later {b = b} {s = s} h) (r ∷ rs) l = go (none_counted h rs (both_right (ltb r.high 0xed) (low rs) l)) (inside r b) refl
   where

@@ -35,9 +35,9 @@ loop-j-smaller t c = omega arith
 
 pub loop-j-preserved : goal.loop-j-preserved
 loop-j-preserved t c = elim c.if-same_ty.branch [
-    then-same_ty+else-rest-cost w ↦ occurring_again c.loop-j.invariant c.part_ty-q.result c.loop-j-test.true c.part_ty-q.ensures (same_true _ _ (sym c.same_ty.ensures ∙ w.if-same_ty.true)) w.if-rest-cost.false w.rest-is w.last-is w.cost-is
-    | else-same_ty+in-No w ↦ occurring_new c.loop-j.invariant c.part_ty-q.result c.loop-j-test.true c.part_ty-q.ensures w.occurs-r.ensures w.in-No.l w.in-No.is w.rest-is w.last-is w.cost-is
-  ]
+  | then-same_ty+else-rest-cost w ↦ occurring_again c.loop-j.invariant c.part_ty-q.result c.loop-j-test.true c.part_ty-q.ensures (same_true _ _ (sym c.same_ty.ensures ∙ w.if-same_ty.true)) w.if-rest-cost.false w.rest-is w.last-is w.cost-is
+  | else-same_ty+in-No w ↦ occurring_new c.loop-j.invariant c.part_ty-q.result c.loop-j-test.true c.part_ty-q.ensures w.occurs-r.ensures w.in-No.l w.in-No.is w.rest-is w.last-is w.cost-is
+]
 
 pub returns : goal.returns
 returns t c = occurring_none c.if-left-eq0.false c.repr-u.ensures c.loop-j.invariant.0 (sym c.if-is_unknown.false ∙ c.is_unknown.ensures) c.loop-j-test.false

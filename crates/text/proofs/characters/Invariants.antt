@@ -1,0 +1,13 @@
+-- What is counted, added to the count of the bytes that are left, is the count of all. The measure is the number of bytes that are left.
+use Prim.Native.Nat.{◌≤◌, ◌-◌}
+use mathlib.Core.Path.{◌≡◌}
+use lib.ListN.{length, drop}
+use Rattle.text.specs.Utf8.{characters}
+use Rattle.text.proofs.Walk.{plus}
+use Rattle.text.proofs.characters.Given as goal
+
+abbrev pub invariant-loop-i : goal.invariant-loop-i
+invariant-loop-i l = (l.i ≤ length l.s) × (l.count ≤ l.i) × (characters l.s ≡ plus l.count (characters (drop l.i l.s)))
+
+abbrev pub decreases-loop-i : goal.decreases-loop-i
+decreases-loop-i l = length l.s - l.i

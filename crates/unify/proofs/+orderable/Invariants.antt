@@ -1,0 +1,15 @@
+-- A call costs a visit, so the visits left fall. The answer for the row is the answer for the rest from j on. What the last part
+-- that was asked cost is kept beside it.
+use Prim.Native.Nat.{◌-◌}
+use Rattle.unification.specs.Acyclic.{Acyclic}
+use Rattle.cells.proofs.Asking.{orders, Asking, Ordered}
+use Rattle.unify.proofs.+orderable.Given as goal
+
+abbrev pub decreases-orderable : goal.decreases-orderable
+decreases-orderable l = l.left
+
+abbrev pub invariant-loop-j : goal.invariant-loop-j
+invariant-loop-j l = Asking Acyclic orders l.w l.u (l.left - 1) l.n l.j l.rest × Ordered l.w l.last l.cost
+
+abbrev pub decreases-loop-j : goal.decreases-loop-j
+decreases-loop-j l = l.n - l.j
