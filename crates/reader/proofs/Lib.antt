@@ -1,1 +1,4 @@
 pub mod Moving
+pub mod Locals
+pub mod Thin
+pub mod Chain
