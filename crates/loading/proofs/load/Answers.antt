@@ -14,10 +14,10 @@ pub returns-in-Bad : goal.returns-in-Bad
 returns-in-Bad c = loading_bad c.loop-i.invariant.1 (c.decode-got.ensures.fails c.in-Bad.is c.loop-i-test.true)
 
 pub line_word-requires : goal.line_word-requires
-line_word-requires c = search (rules, @(decode.ensures.holds _ _ c.in-Bytes.is).most)
+line_word-requires c = search (rules, (c.decode-got.ensures.holds _ _ c.in-Bytes.is).most)
 
 pub node_word-requires : goal.node_word-requires
-node_word-requires c = search (rules, @(decode.ensures.holds _ _ c.in-Bytes.is).most)
+node_word-requires c = search (rules, (c.decode-got.ensures.holds _ _ c.in-Bytes.is).most)
 
 pub returns-then-kind-eq5 : goal.returns-then-kind-eq5
 returns-then-kind-eq5 c = rw (c.put-then-kind-eq5.ensures, c.put.ensures, c.line_word.ensures) (loading_query c.loop-i.invariant.1 (c.decode-got.ensures.holds _ _ c.in-Bytes.is) _ c.kind_of-kind.ensures c.if-kind-eq5.true)
