@@ -3,7 +3,7 @@ use mathlib.Core.Bool.{Bool, true, false}
 use mathlib.Core.List.{List, [], ◌∷◌, ◌++◌, map, flat_map, head-eq_of_cons-eq, tail-eq_of_cons-eq}
 use mathlib.Core.Option.{some}
 use mathlib.Core.Path.{◌≡◌, refl, sym, ap, subst, ◌∙◌}
-use Prim.Native.Nat.{ℕ, ◌-◌, ◌≤◌, ◌<◌}
+use Prim.Native.Nat.{ℕ, ◌-◌, ◌≤◌}
 use native.Mathlib.Nat.{sub-zero}
 use native.Mathlib.Omega.{arith}
 use lib.Dec.{leb}
@@ -24,7 +24,7 @@ use Rattle.frames.specs.Promises.{BytesAt, Malformed}
 use Rattle.writer.specs.declared.Wrote.{Wrote}
 use Rattle.writer.specs.declared.Wrote.TheVariants.{To, Full}
 use Rattle.writer.specs.Writes.{Writes}
-use Rattle.writer.proofs.Writing.{Goes, goes_start, goes_next, goes_full, goes_done, writes_to}
+use Rattle.writer.proofs.Writing.{Goes, goes_start, goes_next, goes_full, goes_done}
 use Rattle.editions.specs.Converted.{predicates, is_above, some_above}
 use Rattle.convert.specs.Lines.{other, LinesAre, ConvertsLine, ConvertsLines, NamesFrom, SomeFrom, SomeAbove}
 

@@ -9,7 +9,7 @@ use Rattle.meaning.specs.All.{All}
 use Rattle.meaning.specs.Answer.{hex_line}
 use Rattle.meaning.specs.Writing.{written, file_of, Fits}
 use Rattle.writer.specs.declared.Wrote.{Wrote}
-use Rattle.writer.specs.Writes.{Writes, Moves}
+use Rattle.writer.specs.Writes.{Writes}
 use Rattle.editions.specs.Converted.{shape_predicates, expr_predicates, predicates, some_above}
 
 abbrev pub other : Edition → Edition

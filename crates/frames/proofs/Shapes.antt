@@ -12,7 +12,7 @@ use borrow.Author.Tests.{ne_eqb, eqb-true, eqb-false, ltb-true, ltb-false, le-le
 use Rattle.text.specs.Utf8.{both}
 use Rattle.sigla_hex.proofs.Line.{from_here}
 use Rattle.meaning.specs.Frame.{Edition, limits, name, schema_type, predicate, node, query, the_limits, a_type, a_predicate, a_node, the_query, Got, got, fails}
-use Rattle.meaning.specs.Frame.{Reader, and_then, nothing, one, pair, triple, byte, two, many, entry, choice, reference, type_shapes, value_types}
+use Rattle.meaning.specs.Frame.{Reader, and_then, nothing, one, pair, triple, byte, two, many, entry, choice, type_shapes, value_types}
 use Rattle.meaning.specs.Frame.{head_and_body, expr_kinds, span_and_kind, rest, frame, whole, frame_of}
 use Rattle.frames.specs.Promises.{kind_at, byte_w, half_w, reference_size, wholly, is_frame, size_w, type_shape, value_type, statement, expr_kind}
 use Rattle.frames.proofs.Following.{no_kind}
@@ -183,7 +183,7 @@ module _ (ed : Edition) (s : List ℕ) where
 
   pub type_short : length s < 2 → is_frame ed (some schema_type) (drop 1 s) ≡ false
   unfolding frame_of frame type_shapes
-  type_short h = one_test a_type (type_shape ed) (drop 1 s) ∙ fails_test (type_shape ed (drop 1 s)) (choice_past _ s 1 (omega arith))
+  type_short h = one_test a_type (type_shape ed) (drop 1 s) ∙ fails_test (type_shape ed (drop 1 s)) (choice_past (type_shapes ed) s 1 (omega arith))
 
   -- 00 and 01
   abbrev pub value_tests : List Bool
@@ -253,7 +253,7 @@ module _ (ed : Edition) (s : List ℕ) where
 
   kind_short : length s ≤ 9 → wholly (expr_kind ed (drop 9 s)) ≡ false
   unfolding expr_kinds
-  kind_short h = fails_test (expr_kind ed (drop 9 s)) (choice_past _ s 9 h)
+  kind_short h = fails_test (expr_kind ed (drop 9 s)) (choice_past (expr_kinds ed) s 9 h)
 
   node_kind : is_frame ed (some node) (drop 1 s) ≡ wholly (expr_kind ed (drop 9 s))
   unfolding frame_of frame span_and_kind triple pair

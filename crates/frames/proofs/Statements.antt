@@ -5,7 +5,7 @@ use mathlib.Core.Path.{◌≡◌, refl, sym, ap, subst, ◌∙◌}
 use Prim.Native.Nat.{ℕ, zero, suc, ◌+◌, ◌<◌, ◌≤◌}
 use native.Mathlib.Omega.{arith}
 use lib.Dec.{eqb, ltb}
-use lib.ListN.{length, get_or, get_elem?, drop, length-drop, drop_of_length-le}
+use lib.ListN.{length, get_elem?, drop, length-drop, drop_of_length-le}
 use borrow.Author.Tests.{eqb-true, eqb-false, ltb-true, ltb-false}
 use Rattle.sigla_hex.proofs.Line.{from_here}
 use Rattle.meaning.specs.Syntax.{QueryStmt}

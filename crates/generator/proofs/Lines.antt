@@ -1,16 +1,16 @@
 -- What each line of the code is in the rule: the schema's by their numbers, a node by its place in a block, a query by its row.
-use Rattle.std.proofs.Common.{◌≡◌, ℕ, zero, suc, ◌+◌, ◌-◌, ◌*◌, ◌%◌, ◌<◌, ◌≤◌, Bool, true, false, eqb, ltb, leb, ◌⊎◌, List, [], ◌∷◌, ◌++◌, map, length, get_or, drop, sym, refl, ap, ◌∙◌, subst, ⊎_elim, append_assoc, append-nil, not-suc-le-zero, add-one, arith, drop_of_length-le, drop-cons, ltb-true, eq-eqb, ne_eqb, eqb-true, leb-true}
+use Rattle.std.proofs.Common.{◌≡◌, ℕ, suc, ◌+◌, ◌-◌, ◌*◌, ◌%◌, ◌<◌, ◌≤◌, Bool, true, false, eqb, ltb, leb, ◌⊎◌, List, [], ◌∷◌, ◌++◌, map, length, get_or, drop, sym, refl, ap, ◌∙◌, subst, ⊎_elim, append_assoc, add-one, arith, drop_of_length-le, drop-cons, ltb-true, eq-eqb, ne_eqb, eqb-true, leb-true}
 use mathlib.Core.List.{flat_map}
 use mathlib.Core.Option.{none}
 use Rattle.text.specs.Utf8.{both}
 use Rattle.text.proofs.Every.{below, every, both_left, both_right}
-use Rattle.meaning.specs.Syntax.{ExprKind, Node}
+use Rattle.meaning.specs.Syntax.{ExprKind}
 use Rattle.meaning.specs.Diag.{ascii}
-use Rattle.meaning.specs.Frame.{Edition, wide, Kind, kind_byte, a_record, Frame, the_limits, a_name, a_type, a_node, the_query, frame_kind}
+use Rattle.meaning.specs.Frame.{wide, kind_byte, a_record, Frame, a_name, a_node, frame_kind}
 use Rattle.meaning.specs.Answer.{bytes₂, bytes₄, hex_line}
 use Rattle.meaning.specs.All.{All}
-use Rattle.meaning.specs.Content.{predicate_frame, query_frames, schema_frames, frames_of}
-use Rattle.meaning.specs.Writing.{as_shape, as_value_type, as_node, as_query, as_expr, as_content, written, file_of}
+use Rattle.meaning.specs.Content.{schema_frames}
+use Rattle.meaning.specs.Writing.{as_shape, as_node, as_expr, as_content, written, file_of}
 use Rattle.meaning.proofs.Lists.{all_at}
 use Rattle.testload.specs.Rule.{limit, limits, names, base, simple, compound, predicates, predicate, leaves, pairs}
 use Rattle.testload.specs.Rule.{singles, exprs, expr_at, from, choice, node_of, limits_of, simple_of, compound_of, predicate_of, content_of}

@@ -1,5 +1,5 @@
 -- The whole call: the file and zeros after it, or zeros.
-use Rattle.std.proofs.Common.{◌≡◌, ℕ, ◌+◌, ◌-◌, ◌<◌, ◌≤◌, List, [], ◌∷◌, ◌++◌, length, take, replicate, sym, refl, ap, ◌∙◌, arith, le-ltb, lt-ltb}
+use Rattle.std.proofs.Common.{◌≡◌, ℕ, ◌-◌, ◌<◌, ◌≤◌, List, ◌++◌, length, take, replicate, sym, ap, ◌∙◌, arith, le-ltb, lt-ltb}
 use Rattle.meaning.specs.Frame.{wide}
 use Rattle.meaning.specs.Refusal.{answer_too_long}
 use Rattle.meaning.specs.Content.{frames_of}

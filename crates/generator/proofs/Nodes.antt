@@ -1,10 +1,9 @@
 -- A query line by line, and the queries one after the other: what is left from here on.
-use Rattle.std.proofs.Common.{◌≡◌, ℕ, zero, suc, ◌+◌, ◌-◌, ◌*◌, ◌%◌, ◌<◌, ◌≤◌, Bool, true, leb, List, [], ◌∷◌, ◌++◌, map, length, get_or, sym, refl, ap, ◌∙◌, subst, append_assoc, append-nil, add-one, arith, leb-true}
+use Rattle.std.proofs.Common.{◌≡◌, ℕ, suc, ◌+◌, ◌-◌, ◌*◌, ◌%◌, ◌<◌, ◌≤◌, Bool, true, leb, List, [], ◌∷◌, ◌++◌, map, get_or, sym, refl, ap, ◌∙◌, subst, append_assoc, append-nil, add-one, arith, leb-true}
 use mathlib.Core.List.{flat_map}
 use Rattle.text.proofs.Every.{below, every}
-use Rattle.meaning.specs.Syntax.{Ast}
-use Rattle.meaning.specs.Frame.{Edition, wide, kind_byte, Frame, a_node, the_query, frame_kind}
-use Rattle.meaning.specs.Answer.{bytes₂, bytes₄, hex_line}
+use Rattle.meaning.specs.Frame.{wide, kind_byte, a_node, the_query, frame_kind}
+use Rattle.meaning.specs.Answer.{bytes₄, hex_line}
 use Rattle.meaning.specs.Content.{query_frames, schema_frames, frames_of}
 use Rattle.meaning.specs.Writing.{as_query, as_content, written, file_of}
 use Rattle.testload.specs.Rule.{queries, counts, from, choice, node_of, no_plan, plan_of, query_of, count_of, content_of}

@@ -1,5 +1,5 @@
 -- The code's rows are the rule's tables, by one computation over all of them; and a row is written cell by cell.
-use Rattle.std.proofs.Common.{◌≡◌, ℕ, zero, suc, ◌+◌, ◌-◌, ◌*◌, ◌<◌, ◌≤◌, Bool, true, false, leb, List, [], ◌∷◌, ◌++◌, map, length, get_or, take, drop, sym, refl, ap, ◌∙◌, append_assoc, le_of_suc-le-suc, not-suc-le-zero, add-one, arith, drop-cons, get_or-append-add, eq-eqb, ne_eqb, leb-true}
+use Rattle.std.proofs.Common.{◌≡◌, ℕ, zero, suc, ◌+◌, ◌-◌, ◌*◌, ◌<◌, ◌≤◌, Bool, true, leb, List, [], ◌∷◌, ◌++◌, map, length, get_or, take, drop, sym, refl, ap, ◌∙◌, append_assoc, le_of_suc-le-suc, not-suc-le-zero, add-one, arith, drop-cons, get_or-append-add, eq-eqb, ne_eqb, leb-true}
 use mathlib.Core.List.{flat_map}
 use lib.ListN.{get_or-append}
 use Rattle.text.specs.Utf8.{both}

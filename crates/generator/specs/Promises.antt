@@ -3,7 +3,7 @@ use Rattle.std.specs.Prelude.{◌≡◌, ℕ, ◌+◌, ◌-◌, ◌*◌, ◌≤�
 use Rattle.std.proofs.Math.Option.{Option, none, some}
 use Rattle.text.specs.Utf8.{both}
 use Rattle.meaning.specs.Refusal.{answer_too_long}
-use Rattle.meaning.specs.Frame.{Edition, wide}
+use Rattle.meaning.specs.Frame.{wide}
 use Rattle.meaning.specs.Answer.{bytes₂}
 use Rattle.meaning.specs.Content.{PredicateFrame}
 use Rattle.meaning.specs.Writing.{as_shape, as_value_type, as_query, as_expr}
@@ -12,7 +12,6 @@ use Rattle.testload.specs.Rule.{Limits, limits, names, base, simple, compound, p
 use Rattle.writer.specs.declared.Wrote.{Wrote}
 use Rattle.writer.specs.declared.Wrote.TheVariants.{To, Full}
 use Rattle.generator.specs.declared.Seed.{Seed}
-use Rattle.generator.specs.declared.Seed.TheVariants as Seed
 
 -- ---- Seeds
 

@@ -10,9 +10,7 @@ use Rattle.writer.specs.declared.Wrote.{Wrote}
 use Rattle.writer.specs.Writes.{hex_of}
 use Rattle.writer.proofs.Writing.{writes_as}
 use Rattle.messages.specs.declared.Message.{Message}
-use Rattle.messages.specs.declared.Message.TheVariants as Message
 use Rattle.messages.specs.declared.parts.Arg.{Arg}
-use Rattle.messages.specs.declared.parts.Arg.TheVariants as Arg
 use Rattle.messages.specs.declared.parts.Parts.{Parts}
 use Rattle.messages.specs.Pieces.{pieces, piece_of}
 use Rattle.messages.specs.Shown.{Sight, Shows, render_text}

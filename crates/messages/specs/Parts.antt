@@ -5,7 +5,6 @@ use Rattle.cells.specs.Stands.{Ok}
 use Rattle.meaning.specs.Messages.{decimal, message_text}
 use Rattle.messages.specs.declared.Message.{Message}
 use Rattle.messages.specs.declared.parts.Arg.{Arg}
-use Rattle.messages.specs.declared.parts.Arg.TheVariants as Arg
 use Rattle.messages.specs.declared.parts.Phrase.{Phrase}
 use Rattle.messages.specs.declared.parts.Parts.{Parts}
 use Rattle.messages.specs.Pieces.{piece_of}

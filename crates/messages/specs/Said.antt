@@ -13,7 +13,6 @@ use Rattle.writer.specs.declared.Wrote.{Wrote}
 use Rattle.writer.specs.Writes.{Writes, WritesText, Moves, hex_of}
 use Rattle.messages.specs.Pieces.{piece_of}
 use Rattle.messages.specs.declared.Message.{Message}
-use Rattle.messages.specs.declared.Message.TheVariants as Message
 
 abbrev pub said : Rows → Subst → Message → Diag.Message
 said T s Message.WildcardHead = Diag.wildcard_head

@@ -1,15 +1,13 @@
 -- Two rows are compared cell by cell: each cell of the first has its cell in the second exactly where the rest from i on has.
 use mathlib.Core.Bool.{Bool, true, false}
-use mathlib.Core.List.{List, [], ◌∷◌, ◌++◌}
+use mathlib.Core.List.{List, ◌∷◌, ◌++◌}
 use mathlib.Core.Option.{Option, none, some}
 use mathlib.Core.Path.{◌≡◌, refl, sym, ap, ◌∙◌}
 use Prim.Native.Nat.{ℕ, suc, ◌+◌, ◌-◌, ◌≤◌, ◌<◌}
-use native.Mathlib.Decide.{ℕ_discrete}
 use native.Mathlib.Omega.{arith}
-use borrow.Author.Tests.{eq-eqb, ne_eqb, eqb-true, eqb-false}
-use lib.Dec.{eqb}
+use borrow.Author.Tests.{eqb-true, eqb-false}
 use lib.ListN.{length, get_or, length-append}
-use Rattle.bytes.specs.Bytes.{slice}
+use Rattle.plain.specs.Slices.{slice}
 use Rattle.unification.specs.Ty.{Kind, Record, Union, Ty, Row, ε, cell, row_len}
 use Rattle.unification.specs.Unify.{find_key}
 use Rattle.unification.proofs.Tests.{clash}

@@ -1,5 +1,4 @@
 -- Words moved to the start, one by one: those that were moved stand there, those from `from` on are as they were.
-use mathlib.Core.Logic.{by_cases}
 use mathlib.Core.List.{List}
 use mathlib.Core.Path.{◌≡◌, refl, sym, ap, ◌∙◌}
 use Prim.Native.Nat.{ℕ, ◌+◌, ◌-◌, ◌≤◌, ◌<◌}
@@ -7,7 +6,7 @@ use native.Mathlib.Decide.{ℕ_discrete}
 use native.Mathlib.Omega.{arith}
 use lib.ListN.{length, get_or, set, take, length-set}
 use lib.Seq.{ext_get_or, get_or-set_same, get_or-set_other, get_or-drop, get_or-take}
-use Rattle.bytes.specs.Bytes.{slice}
+use Rattle.plain.specs.Slices.{slice}
 use Rattle.plain.specs.Stages.{Lowers}
 use Rattle.plain.proofs.Slices.{slice_long}
 

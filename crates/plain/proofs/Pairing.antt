@@ -1,5 +1,4 @@
 -- Two rows are paired cell by cell: to write the pairs of the rest from i on is to write the pairs of the whole row.
-use mathlib.Core.Bool.{Bool, true, false}
 use mathlib.Core.List.{List, [], ◌∷◌, ◌++◌, append_assoc}
 use mathlib.Core.Option.{Option, none, some}
 use mathlib.Core.Path.{◌≡◌, refl, sym, ap, ◌∙◌}
@@ -7,15 +6,15 @@ use Prim.Native.Nat.{ℕ, suc, ◌+◌, ◌-◌, ◌≤◌, ◌<◌}
 use native.Mathlib.Omega.{arith}
 use lib.ListN.{length, get_or, take, length-append}
 use lib.Seq.{take-take, get_or-take}
-use Rattle.bytes.specs.Bytes.{slice}
-use Rattle.unification.specs.Ty.{Kind, Record, Union, Ty, Row, ε, cell, row_len}
+use Rattle.plain.specs.Slices.{slice}
+use Rattle.unification.specs.Ty.{Kind, Ty, Row, ε, cell, row_len}
 use Rattle.unification.specs.Unify.{find_key}
 use Rattle.unification.specs.Robinson.{Equation}
 use Rattle.unification.proofs.Tests.{clash}
 use Rattle.writer.specs.declared.Wrote.{Wrote}
 use Rattle.writer.specs.declared.Wrote.TheVariants.{To, Full}
 use Rattle.writer.specs.Writes.{Writes, Moves}
-use Rattle.writer.proofs.Writing.{writes_as, writes_to, writes_moves, full_moves, moves_none, moves_next, Goes, goes_start, goes_next, goes_full, goes_done}
+use Rattle.writer.proofs.Writing.{writes_as, writes_moves, full_moves, moves_none, moves_next, Goes, goes_start, goes_next, goes_full, goes_done}
 use Rattle.plain_theory.specs.Plain.{Parts, parts, unlike, with_part, Named, named?, part, matched}
 use Rattle.plain_theory.specs.Words.{kind_tag, head_spelled, spelled, row_spelled, pairs_spelled}
 use Rattle.plain.specs.Tokens.{head_size, EndsAt, FoundAt, FindsAt, TwoRows, Pairs}

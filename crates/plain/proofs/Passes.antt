@@ -1,14 +1,13 @@
 -- The loops over tokens: to replace in the words from i on is to replace in all, to seek from i on is to seek in all, and
 -- what is left after n types from i on is what is left after one from the start.
-use mathlib.Core.Bool.{Bool, true, false}
+use mathlib.Core.Bool.{true, false}
 use mathlib.Core.List.{List, [], ◌∷◌, ◌++◌}
-use mathlib.Core.Option.{Option, none, some}
+use mathlib.Core.Option.{none, some}
 use mathlib.Core.Path.{◌≡◌, refl, sym, ap, ◌∙◌}
-use Prim.Native.Nat.{ℕ, zero, suc, ◌+◌, ◌-◌, ◌≤◌, ◌<◌}
+use Prim.Native.Nat.{ℕ, suc, ◌+◌, ◌-◌, ◌≤◌, ◌<◌}
 use native.Mathlib.Omega.{arith}
-use lib.Dec.{eqb}
 use lib.ListN.{length, get_or, length-append}
-use Rattle.bytes.specs.Bytes.{slice}
+use Rattle.plain.specs.Slices.{slice}
 use Rattle.unification.specs.Ty.{Ty}
 use Rattle.unification.proofs.Tests.{clash}
 use Rattle.writer.specs.declared.Wrote.{Wrote}
@@ -17,7 +16,7 @@ use Rattle.writer.specs.Writes.{Writes}
 use Rattle.writer.proofs.Writing.{writes_as}
 use Rattle.plain_theory.specs.Words.{spelled}
 use Rattle.plain.specs.Tokens.{short, is_unknown, owed, instead_of, swapped, among, behind, EndsAt}
-use Rattle.plain.proofs.Slices.{slice_long, slice_cons, slice_none, slice_rest, slice_low, Passing, passing_start, passing_next, passing_full, passing_done, passing_word}
+use Rattle.plain.proofs.Slices.{slice_long, slice_cons, slice_none, slice_low, Passing, passing_start, passing_next, passing_full, passing_done, passing_word}
 use Rattle.plain.proofs.Tokens.{swapped_short, swapped_long, among_short, behind_none, behind_short, behind_long, behind_cut, behind_empty, Enough, behind_enough, type_behind}
 
 -- ---- The first words of a part

@@ -1,20 +1,20 @@
 -- The run: the stage that stands in the slice has the result of the first. Each turn leaves fewer unknowns in the pairs, or as
 -- many and fewer words on the left sides; both are at most the words of the stage, so neither count runs out.
 use mathlib.Core.List.{List, [], ◌∷◌, ◌++◌, append_assoc, map}
-use mathlib.Core.Logic.{◌⊎◌, inl, inr, ⊎_elim, ⊎_map}
+use mathlib.Core.Logic.{inl, inr, ⊎_elim, ⊎_map}
 use mathlib.Core.Path.{◌≡◌, refl, sym, ap, ◌∙◌}
 use Prim.Native.Nat.{ℕ, suc, ◌+◌, ◌-◌, ◌*◌, ◌≤◌, ◌<◌}
 use native.Mathlib.Nat.{suc-mul}
 use native.Mathlib.Omega.{arith}
 use lib.ListN.{length, length-append}
-use Rattle.bytes.specs.Bytes.{slice}
+use Rattle.plain.specs.Slices.{slice}
 use Rattle.unification.specs.Ty.{Kind, Ty, leaf, node, Var, Error, Row, ε, cell}
 use Rattle.unification.specs.Robinson.{Equation}
 use Rattle.unification.proofs.Tests.{clash}
-use Rattle.plain_theory.specs.Plain.{Binding, Stage, in_pair, in_binding, Step, drops, fails, splits, binds, step, needs, done, stuck, on, after, next_of, next, solved, failed, full}
+use Rattle.plain_theory.specs.Plain.{Stage, in_pair, in_binding, Step, drops, fails, splits, binds, step, needs, done, on, after, next_of, next, full}
 use Rattle.plain_theory.specs.Words.{head_spelled, spelled, row_spelled, pairs_spelled, bindings_spelled}
-use Rattle.plain_theory.specs.Falls.{InPairs, in_pairs_append, lefts, lefts_append, words_some, replaced_pairs, StepFalls, step_falls}
-use Rattle.plain_theory.specs.Solve.{Mem, without, mem_without, without_fewer, Lists, unknowns, row_unknowns, all_unknowns, all_listed, solve}
+use Rattle.plain_theory.specs.Falls.{in_pairs_append, lefts, lefts_append, words_some, replaced_pairs, StepFalls, step_falls}
+use Rattle.plain_theory.specs.Solve.{without, mem_without, without_fewer, Lists, unknowns, row_unknowns, all_unknowns, all_listed, solve}
 use Rattle.plain_theory.proofs.Runs.{solve_next, solve_done, solve_stuck, solve_full}
 use Rattle.plain_theory.proofs.Words.{spelled_words, needs_words}
 use Rattle.plain.specs.declared.Plain.{Plain}
@@ -24,7 +24,7 @@ use Rattle.plain.specs.declared.Next.TheVariants.{Done, Stuck, Drop, Bind, Split
 use Rattle.plain.specs.declared.Staged.{Staged}
 use Rattle.plain.specs.declared.Staged.TheVariants.{At, Full}
 use Rattle.plain.specs.Tokens.{swapped}
-use Rattle.plain.specs.Stages.{RowsAt, ToldOf, Told, Tells, Lays, Stays, Binds, Splits, Lowers, Gives, Runs}
+use Rattle.plain.specs.Stages.{RowsAt, ToldOf, Told, Tells, Lays, Binds, Splits, Lowers, Runs}
 use Rattle.plain.proofs.Slices.{slice_long}
 use Rattle.plain.proofs.Swaps.{swap_pairs, swap_bindings}
 

@@ -1,16 +1,16 @@
 -- Parts of a list, and a loop that writes behind the part that it reads.
 use mathlib.Core.List.{List, [], ◌∷◌, ◌++◌}
 use mathlib.Core.Path.{◌≡◌, refl, sym, ap, ◌∙◌}
-use Prim.Native.Nat.{ℕ, suc, ◌+◌, ◌-◌, ◌≤◌, ◌<◌}
+use Prim.Native.Nat.{ℕ, ◌+◌, ◌-◌, ◌≤◌, ◌<◌}
 use native.Mathlib.Numerals.{add-one}
 use native.Mathlib.Omega.{arith}
 use lib.ListN.{length, get_or, take, drop, length-append, length-take, length-drop, drop_of_length-le}
 use lib.Seq.{length-take-le, drop-cons, get_or-take, take-take, take_at, drop_at, drop-drop, take-add, take-append-le, get_or-drop}
-use Rattle.bytes.specs.Bytes.{slice}
+use Rattle.plain.specs.Slices.{slice}
 use Rattle.writer.specs.declared.Wrote.{Wrote}
 use Rattle.writer.specs.declared.Wrote.TheVariants.{To, Full}
 use Rattle.writer.specs.Writes.{placed, Writes}
-use Rattle.writer.proofs.Writing.{writes_none, writes_as, writes_to, writes_full, writes_then, Goes, goes_start, goes_next, goes_full, goes_done}
+use Rattle.writer.proofs.Writing.{writes_to, Goes, goes_start, goes_next, goes_full, goes_done}
 
 -- ---- Parts
 

@@ -1,20 +1,19 @@
 -- One writer after another reads below what the first wrote; a stage that is moved to the start.
-use mathlib.Core.List.{List, [], ◌∷◌, ◌++◌}
+use mathlib.Core.List.{List, ◌∷◌, ◌++◌}
 use mathlib.Core.Path.{◌≡◌, refl, sym, ap, ◌∙◌}
 use Prim.Native.Nat.{ℕ, ◌+◌, ◌-◌, ◌≤◌, ◌<◌}
 use native.Mathlib.Omega.{arith}
 use lib.ListN.{length, get_or, take, length-append}
 use lib.Seq.{get_or-take}
-use Rattle.bytes.specs.Bytes.{slice}
+use Rattle.plain.specs.Slices.{slice}
 use Rattle.unification.specs.Robinson.{Equation}
 use Rattle.writer.specs.declared.Wrote.{Wrote}
 use Rattle.writer.specs.declared.Wrote.TheVariants.{To, Full}
-use Rattle.writer.specs.Writes.{Writes, Moves}
+use Rattle.writer.specs.Writes.{Writes}
 use Rattle.writer.proofs.Writing.{writes_as, writes_to, writes_then, writes_over, writes_full, writes_moves, full_moves, moves_then}
 use Rattle.plain_theory.specs.Words.{pairs_spelled}
 use Rattle.plain.specs.declared.Staged.{Staged}
-use Rattle.plain.specs.declared.Staged.TheVariants as Staged
-use Rattle.plain.specs.Tokens.{swapped, TwoRows, Pairs}
+use Rattle.plain.specs.Tokens.{swapped, Pairs}
 use Rattle.plain.specs.Stages.{RowsAt, Lays, Stays, Parted, Binds, Splits, Lowers}
 use Rattle.plain.proofs.Slices.{slice_front, slice_rest, slice_low, writes_low, writes_there}
 

@@ -3,17 +3,17 @@
 use mathlib.Core.Bool.{Bool, true, false}
 use mathlib.Core.List.{List, [], ◌∷◌, ◌++◌}
 use mathlib.Core.Path.{◌≡◌, refl, sym, ap, ◌∙◌}
-use Prim.Native.Nat.{ℕ, ◌+◌, ◌-◌, ◌≤◌, ◌<◌}
+use Prim.Native.Nat.{ℕ, ◌+◌, ◌≤◌, ◌<◌}
 use native.Mathlib.Decide.{ℕ_discrete}
 use native.Mathlib.Omega.{arith}
-use borrow.Author.Tests.{eq-eqb, ne_eqb, eqb-true}
+use borrow.Author.Tests.{eq-eqb, eqb-true}
 use lib.Dec.{eqb}
 use lib.ListN.{length, get_or, length-append}
-use Rattle.bytes.specs.Bytes.{slice}
-use Rattle.unification.specs.Ty.{Leaf, Int, String, Bytes, Fact, Leaf-discrete, Kind, Record, Union, Ty, leaf, node, Var, Error, Row, ε, cell, row_len}
+use Rattle.plain.specs.Slices.{slice}
+use Rattle.unification.specs.Ty.{Leaf, Int, String, Bytes, Fact, Leaf-discrete, Kind, Record, Union, Ty, leaf, node, Var, Error, Row, row_len}
 use Rattle.unification.specs.Robinson.{Equation}
 use Rattle.unification.proofs.Tests.{clash}
-use Rattle.plain_theory.specs.Plain.{Parts, parts, unlike, matched, rows, Step, drops, fails, splits, binds, bind, split, nodes, step}
+use Rattle.plain_theory.specs.Plain.{Parts, parts, unlike, matched, rows, drops, fails, bind, split, nodes, step}
 use Rattle.plain_theory.specs.Words.{leaf_spelled, kind_tag, spelled, row_spelled, pairs_spelled}
 use Rattle.plain_theory.specs.Falls.{words_some}
 use Rattle.plain_theory.proofs.Words.{spelled_words}

@@ -1,2 +1,3 @@
+pub mod Slices
 pub mod Tokens
 pub mod Stages

@@ -1,7 +1,7 @@
 -- A stage in the lent slice: the bindings from its start on and behind them the pairs. What is told of the first pair, what a
 -- step leaves, and what the run gives.
 use Rattle.std.specs.Prelude.{List, [], ◌∷◌, ◌++◌, ◌≡◌, ℕ, ◌+◌, ◌≤◌, ◌<◌, length, get_or}
-use Rattle.bytes.specs.Bytes.{slice}
+use Rattle.plain.specs.Slices.{slice}
 use Rattle.unification.specs.Ty.{Kind, Ty, Var, Row}
 use Rattle.unification.specs.Robinson.{Equation}
 use Rattle.plain_theory.specs.Plain as Theory

@@ -1,7 +1,7 @@
 -- The lent slice read token by token from a place on: an unknown replaced, an unknown sought, what is left after a type.
 use Rattle.std.specs.Prelude.{Bool, true, false, List, [], ◌∷◌, ◌++◌, ◌≡◌, ℕ, zero, suc, ◌+◌, ◌≤◌, ◌<◌, eqb, ltb, length}
 use Rattle.std.proofs.Math.Option.{Option, none, some}
-use Rattle.bytes.specs.Bytes.{slice}
+use Rattle.plain.specs.Slices.{slice}
 use Rattle.unification.specs.Ty.{Kind, Ty, Row, row_len}
 use Rattle.unification.specs.Unify.{find_key}
 use Rattle.unification.specs.Robinson.{Equation}

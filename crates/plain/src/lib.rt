@@ -3,7 +3,7 @@
 #![tactic(auto)]
 
 ghost use Rattle.std.specs.Prelude.{true, false, [], ◌∷◌, ◌++◌, ◌≡◌, ◌+◌, ◌<◌, ◌≤◌, length, get_or};
-ghost use Rattle.bytes.specs.Bytes.{slice};
+ghost use Rattle.plain.specs.Slices.{slice};
 ghost use Rattle.writer.specs.Writes.{Writes};
 ghost use Rattle.plain.specs.Tokens.{short, is_unknown, owed, instead_of, swapped, among, head_size, same_label, EndsAt, FindsAt, Alike, Pairs};
 ghost use Rattle.plain.specs.Stages.{TellsApart, Tells, Parted, Binds, Splits, Lowers, Runs};

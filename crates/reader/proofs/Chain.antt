@@ -12,18 +12,17 @@ use mir.Syntax.{Fn, Place, Opd as Operand, Body, named, imm, w8, w64, ty_int, ty
 use mir.Val.{Val, WT, has_ty, vint}
 use base.Logic.{SProp, ent, sep, emp, via, fst∗, snd∗, ex_e, id⊢}
 use base.Fml.{Lft, Share, Fml, ftrue, flft}
-use prog.Routine.{Name}
+use prog.Routine.{Callee}
 use prog.Wp.{Env, Calls, Loops, WpFn, Tables}
 use types.Logic.{Logic, sem}
-use contract.Lifetimes.{Lfts}
 use contract.Monad.{fact}
 use types.Kit.{Item, Post, Seq, runs, lands, ‵, raw, ◌⊛◌, ⋆, some, later}
 use types.Kit.{◌$◌, ◌∵◌, !, qed, by, move, drop, use1, use2, split, join, pick, fsplit, fjoin, suffices, frame, await, done}
 use types.Run.{Opd, and_then, no_more}
-use sound.WpLaws.{FmC, fm_of, WpFn-mono}
+use sound.WpLaws.{FmC, WpFn-mono}
 use denote.RattleType.{RattleType, owns}
 use denote.Laws.{Is, shows}
-use denote.Plain.{uint_vals, uint_Tells, uint_Makes}
+use denote.Plain.{uint_row_laws, uint_vals, uint_Tells, uint_Makes}
 use denote.Builtin.{u8, usize, SliceRefOf}
 use denote.Ref.{Bor, NamedLft}
 use denote.Signature.{Signature, plain, named_lft}
@@ -31,11 +30,11 @@ use denote.Slice.{slice_val, slice_ty, ShrSlice, shr_slice_vals, shr_slice_Tells
 use denote.Steps.{only, owned, peeks, heard, nothing}
 use denote.Struct.Laws as LL
 use denote.Struct.Rest.{own_shut}
-use denote.Triple.Statement.{Contract, Triple}
+use denote.Triple.Statement.{Triple}
 use denote.Triple.Call.{calls_at}
 use denote.Triple.Entry.{Vals, on_entry}
-use denote.Triple.Spec.{Meets, triple_of}
-use denote.Triple.Walked.{says, Stays, stay_none, stay_none_slice, walk_of, Goes-none, Goes-none_slice, Walks, ends_at, walked, walk_Meets}
+use denote.Triple.Spec.{Meets}
+use denote.Triple.Walked.{says, Stays, stay_none, stay_none_slice, walk_of, Goes-none, Goes-none_slice, ends_at, walked, walk_Meets}
 use denote.Exit.{yes}
 use denote.Triple.Clauses.{Clauses, Ended, closing, ensured, lasts}
 use Rattle.reader.specs.declared.Reader.{Reader}
@@ -88,7 +87,7 @@ module _ {M : Type 1} {𝓤 : Ura M} (𝓛 : Logic 𝓤) (κ : Lft) (q : Share) 
 
     goes : n < 2 ^ 64 → ent 𝓤 (⋆ 𝓛 (Token ∷ ‵ Own ∷ [])) (sep 𝓤 Pre (sem 𝓛 Own))
     goes fits =
-        qed 𝓛 (Token ∷ ‵ Own ∷ []) ∵ move ! (1 ∷ []) $ use1 𝓛 (‵ Own ⊛ ‵ Own) ((shr_slice_copy 𝓛 (named 0) κ u8).twice s (v ∷ [])) $ split ! $
+        qed 𝓛 (Token ∷ ‵ Own ∷ []) ∵ move ! (1 ∷ []) $ use1 𝓛 (‵ Own ⊛ ‵ Own) ((shr_slice_copy 𝓛 (named 0) κ u8 (uint_row_laws w8)).twice s (v ∷ [])) $ split ! $
         use1 𝓛 (‵ (OwnAt n)) (made n fits) $ nothing ! $ move ! (1 ∷ 0 ∷ []) $ fjoin ! $ move ! (2 ∷ 0 ∷ []) $
         use2 𝓛 (raw Pre) (qed 𝓛 (Token ∷ ‵ (owns (T.the_row α ∷ []) (reader n, tt) (T'.lowered (reader n) ∷ [], tt)) ∷ []) ∵ join ! $ frame ! $ done !) $
         frame ! $ done !
@@ -107,7 +106,7 @@ module _ {M : Type 1} {𝓤 : Ura M} (𝓛 : Logic 𝓤) (κ : Lft) (q : Share) 
   Fine u = Holds (has_ty S'.mir u) × WT u
 
   module _ {K : Type 0} {Γ : List (Item 𝓤)} {E : Env 𝓤 H} {C : Calls 𝓤 H} {Λ : Loops 𝓤 H} {P : Post 𝓤 H}
-      {f : Name} {o : Operand} {d : Place} {rest : Body} where
+      {f : Callee} {o : Operand} {d : Place} {rest : Body} where
     pub takes : K → FmC 𝓤 H 𝓛.laws C → (Says : List ℕ → ℕ → Taken → Type 0) → Triple 𝓤 (C f) (Takes Says 𝓛) → (n : ℕ) → n < 2 ^ 64
         → Opd K 𝓛 (raw (Pre Says n) ∷ ‵ Own ∷ Γ) E o (T'.lowered (reader n))
         → ((t : Taken) → Says s.now n t → Fine (S'.lowered t) → Seq K 𝓛 (Token ∷ ‵ Own ∷ Γ) (lands C Λ E d (S'.lowered t) rest P))

@@ -4,8 +4,8 @@ use Prim.Native.Nat.{ℕ, zero, ◌+◌, ◌<◌, ◌^◌}
 use mathlib.Core.List.{List, [], ◌∷◌}
 use mathlib.Core.Option.{some}
 use seplogic.Ra.Ura.{Ura}
-use seplogic.Ra.TreeShare.{full_share}
-use mir.Syntax.{Ty, Place, place, field, Opd as Operand, copy, aggregate, w32}
+use base.Fraction.{full_share}
+use mir.Syntax.{Ty, place, field, Opd as Operand, copy, aggregate, w32}
 use mir.Val.{Val, vint, vstruct, vcons, vnil}
 use base.Fml.{Share, Fml, fsep, fat, fdies}
 use prog.Memory.{field_of}

@@ -10,12 +10,8 @@ use lib.ListN.{length}
 use borrow.Author.Tests.{le-ltb, lt-ltb, ltb-false}
 use Rattle.frames.specs.Promises.{byte_w, half_w, full_w}
 use Rattle.frames.proofs.Numbers.{byte_past, half_past, full_past}
-use Rattle.reader.specs.Taking.{moved, past, TakesByte, TakesHalf, TakesFull, ReadsLimits, ReadsField, ReadsAlternative, ReadsPredicate}
+use Rattle.reader.specs.Taking.{past, TakesByte, TakesHalf, TakesFull, ReadsLimits, ReadsField, ReadsAlternative, ReadsPredicate}
 use Rattle.reader.specs.declared.Taken.{Taken}
-use Rattle.reader.specs.declared.Limits.{Limits}
-use Rattle.reader.specs.declared.Field.{Field}
-use Rattle.reader.specs.declared.Alternative.{Alternative}
-use Rattle.reader.specs.declared.Predicate.{Predicate}
 
 abbrev pub taken : ℕ → ℕ → Taken
 taken v at = record { value = v; at = at }

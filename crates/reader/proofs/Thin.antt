@@ -12,7 +12,7 @@ use mir.Syntax.{Fn, Ty, Local, local, value_local, named, erased, imm, w8, w64, 
 use mir.Val.{Val, WT, has_ty, vint}
 use base.Logic.{SProp, ent, sep, emp, via, fst∗, snd∗, ex_e, id⊢}
 use base.Fml.{Lft, Share, Fml, ftrue, flft}
-use prog.Routine.{Name}
+use prog.Routine.{Callee}
 use prog.Wp.{Calls, Loops, WpFn, Tables}
 use types.Logic.{Logic, sem}
 use contract.Lifetimes.{Lfts}
@@ -84,12 +84,14 @@ module _ (Says : List ℕ → ℕ → Taken → Type 0) where
     abbrev pub Takes : Contract 𝓤
     Takes = triple_of 𝓛 thin.signature (closing 𝓛 thin.ended (clauses 𝓤))
 
-module _ (name : Name) (Says : List ℕ → ℕ → Taken → Type 0) where
+module _ (name : Callee) (Says : List ℕ → ℕ → Taken → Type 0) where
   -- the MIR of each thin function, as `rt mir` prints it
   abbrev pub function : Fn
   function = record {
     lifetimes = 1;
     outlives = [];
+    ty_params = [];
+    givens = 0;
     params = 1;
     locals = value S'.mir ∷ value (T'.mir (named 0)) ∷ value (slice_ty (ty_ref erased imm (ty_int w8))) ∷ value (ty_int w64) ∷ [];
     body = seq (assign (place 2 []) (rv_opd (copy (place 1 (field 0 ∷ [])))))

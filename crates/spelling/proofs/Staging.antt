@@ -26,7 +26,6 @@ use Rattle.plain_theory.specs.Plain.{Stage, needs, resolved_from, start}
 use Rattle.plain_theory.specs.Words.{spelled, pairs_spelled, bindings_spelled}
 use Rattle.plain_theory.proofs.Words.{needs_words}
 use Rattle.spelling.specs.declared.Staged.{Staged}
-use Rattle.spelling.specs.declared.Staged.TheVariants as Staged
 use Rattle.spelling.specs.Tokens.{SpellsTy, binding_spelled, SpellsBinding, SpellsBindings, SpellsPair, ended, spelled_stage, Starts}
 use Rattle.unification.proofs.Tests.{clash}
 

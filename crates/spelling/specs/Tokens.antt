@@ -8,7 +8,6 @@ use Rattle.work.specs.Layout.{UNKNOWNS}
 use Rattle.cells.specs.declared.Ty.{Ty}
 use Rattle.cells.specs.Stands.{Rows, tree, Ok, Holds}
 use Rattle.writer.specs.declared.Wrote.{Wrote}
-use Rattle.writer.specs.declared.Wrote.TheVariants as Wrote
 use Rattle.writer.specs.Writes.{Writes, Moves}
 use Rattle.resolving.specs.Scripts.{Script, Resolves}
 use Rattle.plain_theory.specs.Plain.{Stage, resolved_from, start}

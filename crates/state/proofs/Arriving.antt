@@ -1,7 +1,6 @@
 -- An entry to `unify` from outside it: it is counted, and the run goes on, or it was to last until here. The count stops at the greatest word, which
 -- no number of an entry passes, so the test on words is the definition's.
-use mathlib.Core.Bool.{true, false}
-use mathlib.Core.List.{List, ◌∷◌}
+use mathlib.Core.List.{List}
 use mathlib.Core.Path.{◌≡◌, refl, sym, ◌∙◌, ap}
 use native.Mathlib.Omega.{arith}
 use Prim.Native.Nat.{ℕ, suc, ◌+◌, ◌<◌, ◌≤◌}
@@ -25,7 +24,6 @@ use Rattle.meaning.specs.Check.{Checker, Step, goes, out, entered, with_entries,
 use Rattle.meaning.specs.Run.{NotYet}
 use Rattle.meaning.proofs.Tests.{cases}
 use Rattle.state.specs.declared.Done.{Done}
-use Rattle.state.specs.declared.Done.TheVariants as Done
 use Rattle.state.specs.Runs.{Runs, Grew}
 use Rattle.state.specs.Lines.{AFTER-SIDES, capped, until_w, stop_w, Keeping, Told, entered_w, sides_w, side_w, Enters, enters, enters_before, stops_here}
 use Rattle.state.proofs.Lining.{lines_same}

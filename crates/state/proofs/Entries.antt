@@ -11,7 +11,6 @@ use Rattle.work.specs.Layout.{ENV-LEN, UNKNOWNS, MARK-COUNT, UNUSED-COUNT, ENV, 
 use Rattle.cells.specs.Words.{fresh_w}
 use Rattle.meaning.specs.Check.{Entry, lookup_in, is_in}
 use Rattle.state.specs.declared.Known.{Known}
-use Rattle.state.specs.declared.Known.TheVariants as Known
 use Rattle.state.specs.Words.{entry_w, env_of, known_as, push_env_w, numbers_of, marks_of, is_marked_w, push_w, mark_w, leave_entry_w, left_w, leave_w, Introduces}
 
 entries : (w : List ℕ) (i : ℕ) → 0 < i → env_of w i ≡ entry_w (get_or w (ENV + (i - 1)) 0) ∷ env_of w (i - 1)

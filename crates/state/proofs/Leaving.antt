@@ -6,9 +6,8 @@ use mathlib.Core.Path.{◌≡◌, refl, sym, ◌∙◌, ap}
 use native.Mathlib.Decide.{ℕ_discrete}
 use native.Mathlib.Omega.{arith}
 use Prim.Native.Nat.{ℕ, zero, suc, ◌+◌, ◌-◌, ◌/◌, ◌%◌, ◌<◌, ◌≤◌}
-use lib.ListN.{length, get_or, set, take, drop}
+use lib.ListN.{length, get_or, take, drop}
 use Rattle.work.specs.Layout.{ENV-LEN, MARK-COUNT, UNUSED-COUNT, ENV, MARKS, UNUSED, TYS, END}
-use Rattle.cells.specs.Words.{pick}
 use Rattle.cells.specs.Stands.{Rows}
 use Rattle.meaning.specs.All.{All}
 use Rattle.meaning.specs.Syntax.{Span}

@@ -2,10 +2,10 @@
 use mathlib.Core.List.{List, [], ◌∷◌, ◌++◌, append_assoc, append-nil}
 use mathlib.Core.Path.{◌≡◌, refl, sym, ◌∙◌, ap}
 use native.Mathlib.Omega.{arith}
-use Prim.Native.Nat.{ℕ, ◌+◌, ◌<◌, ◌≤◌}
+use Prim.Native.Nat.{ℕ, ◌<◌, ◌≤◌}
 use lib.ListN.{length, get_or, set}
 use lib.Seq.{get_or-set_same}
-use Rattle.work.specs.Layout.{ENV-LEN, DIAGNOSTIC-COUNT, UNKNOWNS, PLACE, PLACE-HIGH, FULL, UNTIL, LEFT, STOP, ENTERED, MARK-COUNT, UNUSED-COUNT, ENV}
+use Rattle.work.specs.Layout.{ENV-LEN, DIAGNOSTIC-COUNT, UNKNOWNS, PLACE, PLACE-HIGH, FULL, UNTIL, LEFT, STOP, ENTERED, MARK-COUNT, UNUSED-COUNT}
 use Rattle.cells.specs.Stands.{Rows, Keeps}
 use Rattle.cells.proofs.Frame.{keeps_refl, keeps_wider, keeps_set}
 use Rattle.cells.proofs.Elsewhere.{SameState}
@@ -20,7 +20,6 @@ use Rattle.meaning.specs.Answer.{diagnostic_line, diagnostic_lines}
 use Rattle.messages.specs.declared.Message.{Message}
 use Rattle.messages.specs.Said.{OkMessage}
 use Rattle.state.specs.declared.Done.{Done}
-use Rattle.state.specs.declared.Done.TheVariants as Done
 use Rattle.state.specs.Words.{counted_w}
 use Rattle.state.specs.Runs.{Runs, Grew}
 use Rattle.state.specs.Lines.{AFTER-SIDES, diagnosed, Lines, within, until_w, Told, Halts, goes_on, ends_here, Rejected}

@@ -3,7 +3,7 @@
 use mathlib.Core.Bool.{Bool, true, false}
 use mathlib.Core.List.{List, [], ◌∷◌, map}
 use mathlib.Core.Logic.{◌≢◌}
-use mathlib.Core.Option.{Option, none, some}
+use mathlib.Core.Option.{none, some}
 use mathlib.Core.Path.{◌≡◌, refl, sym, ◌∙◌, ap}
 use native.Mathlib.Numerals.{add-one}
 use native.Mathlib.Omega.{arith}
@@ -15,9 +15,8 @@ use borrow.Author.Tests.{lt-ltb}
 use Rattle.unification.specs.Bindings as Bindings
 use Rattle.unification.specs.Bindings.{History, with_history}
 use Rattle.unification.proofs.Undo.{rewind_nodes}
-use Rattle.unification.proofs.Tests.{clash}
 use Rattle.work.specs.Layout.{RECORD-COUNT, ENV-LEN, DIAGNOSTIC-COUNT, UNKNOWNS, MARK-COUNT, UNUSED-COUNT, ENV, MARKS, UNUSED, TYS, END}
-use Rattle.cells.specs.Words.{pick, fresh_w}
+use Rattle.cells.specs.Words.{fresh_w}
 use Rattle.cells.specs.Stands.{Rows, Keeps}
 use Rattle.cells.specs.Promises.{RollsBack}
 use Rattle.cells.proofs.Elsewhere.{SameState}
@@ -27,11 +26,10 @@ use Rattle.meaning.specs.File.{Described}
 use Rattle.meaning.specs.Check as Check
 use Rattle.meaning.specs.Check.{Entry, Checker, Step, goes, and_then, lookup_in, is_in, marked, with_state, with_env, with_marks}
 use Rattle.state.specs.declared.Known.{Known}
-use Rattle.state.specs.declared.Known.TheVariants as Known
 use Rattle.state.specs.Words.{entry_w, env_of, known_as, numbers_of, push_w, push_env_w, marks_of, unused_of, is_marked_w, mark_w, Introduces}
 use Rattle.state.specs.Runs.{span_of, Scopes, Runs, Grew}
 use Rattle.state.proofs.Lining.{Unlined, unlined_trans}
-use Rattle.state.proofs.Running.{env_same, numbers_same, grew_refl, grew_trans, same_grew, runs_slots, grew_slots, fresh_word, fresh_runs}
+use Rattle.state.proofs.Running.{env_same, numbers_same, grew_trans, same_grew, runs_slots, grew_slots, fresh_word, fresh_runs}
 use Rattle.state.proofs.Running.{fresh_grew, runs_aside}
 
 pub env_length : (w : List ℕ) (n : ℕ) → length (env_of w n) ≡ n

@@ -1,7 +1,7 @@
 -- What a file said stands in the words below the run's: a change above them, over rows that hold those of before, leaves it as it
 -- was. A schema type is no unknown, so it exists whatever the run made; where the run made nothing, the schema types are all cells.
 use mathlib.Core.Bool.{Bool, true, false}
-use mathlib.Core.List.{List, []}
+use mathlib.Core.List.{List}
 use mathlib.Core.Option.{none, some}
 use mathlib.Core.Path.{◌≡◌, refl, sym, ◌∙◌, ap}
 use native.Mathlib.Omega.{arith}
@@ -9,7 +9,6 @@ use Prim.Native.Nat.{ℕ, zero, suc, ◌+◌, ◌*◌, ◌/◌, ◌%◌, ◌<◌
 use lib.Dec.{eqb}
 use lib.ListN.{length, get_or}
 use borrow.Author.Tests.{lt-ltb, eqb-true, ne_eqb}
-use Rattle.unification.specs.Ty as Tree
 use Rattle.work.specs.Layout.{NAME-COUNT, TYPE-COUNT, PREDICATE-COUNT, NODE-COUNT, VALUE-NAME, MAX-DISTANCE, MAX-TERM, QUERY, NAMES, TYPES, PREDICATES}
 use Rattle.work.specs.Layout.{NODES, FIELDS, RECORD-COUNT, RECORD-FIELD-COUNT}
 use Rattle.cells.specs.declared.Ty.{Ty}

@@ -23,9 +23,7 @@ use Rattle.tree.specs.Stands.{Stands}
 use Rattle.messages.specs.declared.Message.{Message}
 use Rattle.messages.specs.Said.{said, OkMessage}
 use Rattle.state.specs.declared.Done.{Done}
-use Rattle.state.specs.declared.Done.TheVariants as Done
 use Rattle.state.specs.declared.Until.{Until}
-use Rattle.state.specs.declared.Until.TheVariants as Until
 use Rattle.state.specs.Words.{counted_w}
 
 abbrev pub AFTER-FULL : ℕ

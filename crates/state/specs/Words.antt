@@ -7,7 +7,6 @@ use Rattle.work.specs.Layout.{ENV-LEN, DIAGNOSTIC-COUNT, UNKNOWNS, MARK-COUNT, U
 use Rattle.cells.specs.Words.{pick, fresh_w}
 use Rattle.meaning.specs.Check.{Entry, lookup_in, is_in}
 use Rattle.state.specs.declared.Known.{Known}
-use Rattle.state.specs.declared.Known.TheVariants as Known
 
 -- ---- The number of diagnostics
 unfoldable pub counted_w : List ℕ → List ℕ

@@ -1,4 +1,4 @@
--- Each arm of `node_at_lem`: where the shape byte is this, the node made of the digits after it is the one that the line says.
+-- Each arm of `node_at`: where the shape byte is this, the node made of the digits after it is the one that the line says.
 use mathlib.Core.Bool.{Bool, true, false}
 use mathlib.Core.List.{List, [], ◌∷◌}
 use mathlib.Core.Path.{◌≡◌, refl, sym, ◌∙◌, ap, ap₂}
@@ -18,7 +18,6 @@ use Rattle.meaning.specs.Conditions.{all_below}
 use Rattle.sigla_hex.specs.Digits.{digits_w, half_at}
 use Rattle.tree.specs.declared.Items.{Items}
 use Rattle.tree.specs.declared.Node.{Node}
-use Rattle.tree.specs.declared.Node.TheVariants as Node
 use Rattle.tree.specs.Stands.{NodeIs}
 use Rattle.tree.specs.Nodes.{lower_w, full_at, items_w, parent_w, fields_from, items_from, stmts_w, kind_w, LowerItems, Lower, IsNode}
 use Rattle.tree.proofs.Lowering.{lower_stays, lower_below}

@@ -12,7 +12,6 @@ use Rattle.sigla_hex.specs.Digits.{digits_w, half_at}
 use Rattle.tree.specs.declared.Items.{Items}
 use Rattle.tree.specs.declared.Stmts.{Stmts}
 use Rattle.tree.specs.declared.Stmt.{Stmt}
-use Rattle.tree.specs.declared.Stmt.TheVariants as Stmt
 use Rattle.tree.specs.Nodes.{field_w, field_of, fields_from, item_w, items_from, stmt_of, stmt_w, stmt_size_w, statement, stmts_from, stmts_w}
 use Rattle.tree.proofs.Lowering.{lower_below}
 use Rattle.tree.proofs.Below.{stmt_size, stmts_done, stmts_next}

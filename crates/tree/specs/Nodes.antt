@@ -10,9 +10,7 @@ use Rattle.tree.specs.declared.Items.{Items}
 use Rattle.tree.specs.declared.Stmts.{Stmts}
 use Rattle.tree.specs.declared.Field.{Field}
 use Rattle.tree.specs.declared.Node.{Node}
-use Rattle.tree.specs.declared.Node.TheVariants as Node
 use Rattle.tree.specs.declared.Stmt.{Stmt}
-use Rattle.tree.specs.declared.Stmt.TheVariants as Stmt
 use Rattle.sigla_hex.specs.Digits.{digits_w, half_at}
 use Rattle.tree.specs.Stands.{NodeIs}
 

@@ -1,0 +1,12 @@
+-- `frames::decode` meets its contract. The invariant: the bytes read so far, in front of what the line holds from here on, are what it
+-- holds. The measure is what is left of the file.
+use Prim.Native.Nat.{◌-◌}
+use lib.ListN.{length}
+use Rattle.frames.proofs.Decoding.{SoFar}
+use Rattle.frames.proofs.lines.decode.Given as goal
+
+abbrev pub invariant-loop-i : goal.invariant-loop-i
+invariant-loop-i l = SoFar l.file l.at l.line l.i l.n
+
+abbrev pub decreases-loop-i : goal.decreases-loop-i
+decreases-loop-i l = length l.file - l.i

@@ -1,0 +1,6 @@
+-- `reader::read_alternative` meets its contract: three numbers, each read where the one before it ended.
+use Rattle.reader.proofs.Moving.{alternative_read}
+use Rattle.reader.proofs.read_alternative.Goals as goal
+
+pub returns : goal.returns
+returns c = alternative_read c.args.line.now c.half-name.ensures c.full-discriminant.ensures c.half-ty.ensures

@@ -1,0 +1,6 @@
+-- `reader::read_field` meets its contract: two numbers, each read where the one before it ended.
+use Rattle.reader.proofs.Moving.{field_read}
+use Rattle.reader.proofs.read_field.Goals as goal
+
+pub returns : goal.returns
+returns c = field_read c.args.line.now c.half-name.ensures c.half-ty.ensures

@@ -1,0 +1,6 @@
+-- `reader::read_predicate` meets its contract: four numbers, each read where the one before it ended.
+use Rattle.reader.proofs.Moving.{predicate_read}
+use Rattle.reader.proofs.read_predicate.Goals as goal
+
+pub returns : goal.returns
+returns c = predicate_read c.args.line.now c.half-name.ensures c.half-key.ensures c.byte-flag.ensures c.half-value.ensures
