@@ -1,7 +1,7 @@
 /* The type checker of Sigla queries, for programs in C and C++. The calls are proved for every file and all slices (docs/PROMISE.md); what
  * is `static inline` below is tested, not proved. docs/FORMAT.md has files, answers and refusals, sigla_answer.h a reader of answers.
  *
- * What do I link?         libsigla_lib.a, which `rt staticlib sigla_lib` makes in target/staticlib; installed it is libsigla.a, and
+ * What do I link?         libsigla_lib.a, which `tools/build sigla_lib` makes in target/staticlib; installed it is libsigla.a, and
  *                         `pkg-config --cflags --libs sigla` has the words. Of the C library it needs memcpy and memset alone.
  * What do I lend?         A work slice of SIGLA_WORDS words and a slice for the answer, SIGLA_BYTES bytes where you have no reason for
  *                         another length. They may hold anything before a call. The library allocates nothing and keeps no pointer.

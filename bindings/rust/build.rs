@@ -1,4 +1,4 @@
-//! Links libsigla_lib.a: where `SIGLA_LIB` says, or in target/staticlib at the repository's top (`rt staticlib sigla_lib`).
+//! Links libsigla_lib.a: where `SIGLA_LIB` says, or in target/staticlib at the repository's top (`tools/build sigla_lib`).
 
 use std::env;
 use std::path::PathBuf;
@@ -12,7 +12,7 @@ fn main() {
     };
     assert!(
         library.exists(),
-        "no library at {}: make it with `rt staticlib sigla_lib`",
+        "no library at {}: make it with `tools/build sigla_lib`",
         library.display()
     );
     println!("cargo::rerun-if-changed={}", library.display());

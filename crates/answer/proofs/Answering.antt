@@ -9,7 +9,7 @@ use lib.Seq.{take_at, drop_at}
 use Rattle.unification.specs.Ty as Tree
 use Rattle.work.specs.Layout.{FULL}
 use Rattle.cells.specs.Stands.{Rows}
-use Rattle.bytes.specs.Bytes.{slice}
+use lib.Seq.{slice}
 use Rattle.meaning.specs.File.{Described}
 use Rattle.meaning.specs.Check.{Checker, Typed, goes, typed, checked, reversed, zonked}
 use Rattle.meaning.specs.Messages.{message_text}
@@ -35,7 +35,7 @@ module _ {out a b mid : List ℕ} {end : ℕ} (there : take (length a) out ≡ a
 
   pub exchanged_writes : {out' : List ℕ} → length out' ≡ length out → out' ≡ slice (length a) end mid ++ (take (length a) mid ++ drop end mid)
       → Writes out 0 (b ++ a) out' (To end)
-  unfolding placed slice
+  unfolding placed
   exchanged_writes {out'} long e =
       let n : length (b ++ a) ≡ length b + length a = length-append b a in
       let n' : length (a ++ b) ≡ length a + length b = length-append a b in
@@ -123,7 +123,6 @@ module _ {w out : List ℕ} {full : ℕ} (p : full ≡ get_or w FULL 0) where
 
         -- no diagnostic: the lines of the nodes stand at the start
         pub answer_alone : at ≤ 0 → WritesLines w out mid (To end)
-        unfolding slice
         answer_alone none =
             let o : at ≡ 0 = omega arith in
             answer_exchanged g.moves.long (sym (rw o (take-append-drop end mid)))

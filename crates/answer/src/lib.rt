@@ -2,7 +2,7 @@
 #![tactic(auto)]
 
 ghost use Rattle.std.specs.Prelude.{[], ◌∷◌, ◌++◌, ◌≡◌, ◌≤◌, length, take, drop};
-ghost use Rattle.bytes.specs.Bytes.{slice};
+ghost use lib.Seq.{slice};
 ghost use Rattle.meaning.specs.Answer.{hex_line, bytes₂, bytes₄};
 ghost use Rattle.writer.specs.Writes.{Writes, hex_of};
 ghost use Rattle.answer.specs.Types.{head_of, part_head_of, WritesTy};
@@ -158,14 +158,12 @@ pub fn number_line(out: &mut [u8], at: usize, k: u32) -> Wrote
     }
 }
 
-// Two blocks at the start change places, the one to `mid` and the one from there to `end`: each is reversed, then both together.
+// Two blocks at the start change places, the one to `mid` and the one from there to `end`.
 fn exchange(out: &mut [u8], mid: usize, end: usize)
     requires { (mid ≤ end) × (end ≤ length out.old) }
     ensures { out.new ≡ slice mid end out.old ++ (take mid out.old ++ drop end out.old) }
 {
-    bytes::reverse(out, 0, mid);
-    bytes::reverse(out, mid, end);
-    bytes::reverse(out, 0, end);
+    out[..end].rotate_left(mid);
 }
 
 // The lines of the nodes go behind those of the diagnostics, which the run left in the slice; then the two blocks change places.

@@ -39,7 +39,7 @@ pub enum Allowance {
 }
 
 // What the queries of a file are charged to: a desk of a group; or nothing, and each has the visits of a query alone.
-#[derive(Drop)]
+#[derive(Clone, Copy)]
 pub struct Account {
     pub bounded: bool,
     pub desk: usize,

@@ -1,5 +1,5 @@
-// Demand 3's calls on numbers, for the comparison with the Rust (tools/oracle); a program that embeds the checker has no use for
-// them. A type goes as its tag and its payload (crates/cells/specs/Words.antt). Every function takes any words: what they stand for
+// Demand 3's calls on numbers, for the comparison with the Rust (tools/oracle), which crate calls_c exports; a program that embeds
+// the checker has no use for them. A type goes as its tag and its payload (crates/cells/specs/Words.antt). Every function takes any words: what they stand for
 // is its caller's to keep.
 #![tactic(auto)]
 
@@ -14,8 +14,7 @@ ghost use Rattle.calls.specs.Numbers.{reason_of, field_of, two, CallsUnify};
 use cells::{Ty, TyError, Unified};
 
 // A list of calls starts here: no unknown, no inferred record, nothing to take back. The schema types that a reading left stay.
-#[unsafe(no_mangle)]
-pub extern "C" fn sigla_begin(w: &mut [u32])
+pub fn sigla_begin(w: &mut [u32])
     ensures { w.new ≡ begun_w w.old }
 {
     work::put(w, work::RECORD_COUNT, 0);
@@ -25,45 +24,39 @@ pub extern "C" fn sigla_begin(w: &mut [u32])
 }
 
 // A new unknown, and its number.
-#[unsafe(no_mangle)]
-pub extern "C" fn sigla_fresh(w: &mut [u32]) -> u32
+pub fn sigla_fresh(w: &mut [u32]) -> u32
     ensures { (result ≡ get_or w.old UNKNOWNS 0) × (w.new ≡ fresh_w w.old) }
 {
     cells::fresh_var_id(w)
 }
 
 // Room for so many fields of a record: where they start.
-#[unsafe(no_mangle)]
-pub extern "C" fn sigla_reserve(w: &mut [u32], n: u32) -> u32
+pub fn sigla_reserve(w: &mut [u32], n: u32) -> u32
     ensures { (result ≡ get_or w.old RECORD-FIELD-COUNT 0) × (w.new ≡ reserve_w w.old n) }
 {
     cells::reserve(w, n)
 }
 
-#[unsafe(no_mangle)]
-pub extern "C" fn sigla_put_field(w: &mut [u32], i: u32, name: u32, tag: u32, payload: u32)
+pub fn sigla_put_field(w: &mut [u32], i: u32, name: u32, tag: u32, payload: u32)
     ensures { w.new ≡ put_field_w w.old i name (ty_w tag payload) }
 {
     cells::put_field(w, i, name, cells::ty_of(tag, payload));
 }
 
 // A record of fields that were put: its cell.
-#[unsafe(no_mangle)]
-pub extern "C" fn sigla_new_record(w: &mut [u32], from: u32, n: u32) -> u32
+pub fn sigla_new_record(w: &mut [u32], from: u32, n: u32) -> u32
     ensures { (result ≡ payload_w (new_record_ty w.old from n)) × (w.new ≡ new_record_w w.old from n) }
 {
     cells::payload_of(cells::new_record(w, from, n))
 }
 
-#[unsafe(no_mangle)]
-pub extern "C" fn sigla_snapshot(w: &[u32]) -> u32
+pub fn sigla_snapshot(w: &[u32]) -> u32
     ensures { result ≡ get_or w.now UNDO-LEN 0 }
 {
     cells::snapshot(w)
 }
 
-#[unsafe(no_mangle)]
-pub extern "C" fn sigla_rollback(w: &mut [u32], mark: u32)
+pub fn sigla_rollback(w: &mut [u32], mark: u32)
     ensures { RollsBack w.old mark w.new }
 {
     cells::rollback(w, mark);
@@ -100,8 +93,7 @@ fn put_two(out: &mut [u32], a: u32, b: u32)
 }
 
 // 0 for success, the reason of a failure, or 5 where the visits ran out. `out` gets the visits left and the field's name.
-#[unsafe(no_mangle)]
-pub extern "C" fn sigla_unify(
+pub fn sigla_unify(
     w: &mut [u32],
     gtag: u32,
     got: u32,

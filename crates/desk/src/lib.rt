@@ -15,7 +15,7 @@ use reading::{Counters, Read, Refusal};
 use state::{Done, Until};
 use writer::Wrote;
 
-#[derive(Drop)]
+#[derive(Clone, Copy)]
 pub enum Outcome {
     Accepted(usize),
     Refused(Refusal),

@@ -1,7 +1,6 @@
 -- What was read lies in a slice of `most` bytes.
 use Rattle.std.specs.Prelude.{ℕ, ◌≤◌}
 use Rattle.input.specs.declared.Input.{Input}
-use Rattle.input.specs.declared.Input.TheVariants as Input
 
 abbrev pub Within : ℕ → Input → Type 0
 Within most (Input.Bytes n) = n ≤ most

@@ -10,7 +10,7 @@ use seek::Sought;
 use work::clear;
 
 // After a success with the words that the bindings take in the lent slice; `TooFewWords` is refusal 18.
-#[derive(Drop)]
+#[derive(Clone, Copy)]
 pub enum Inspected {
     Success(usize),
     Failure,

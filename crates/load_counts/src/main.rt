@@ -6,6 +6,7 @@
 ghost use Rattle.std.specs.Prelude.{◌<◌};
 
 use desk::Outcome;
+use std::io;
 use writer::Wrote;
 
 // ---- Digits
@@ -42,15 +43,15 @@ fn byte(s: &[u8], i: usize) -> usize
     ensures { result < 256 }
 {
     let high = digit(at(s, i));
-    let low = digit(at(s, std::num::wrapping_add_usize(i, 1)));
+    let low = digit(at(s, i.wrapping_add(1)));
     16 * high + low
 }
 
 fn number(s: &[u8], i: usize) -> usize {
     let a = byte(s, i);
-    let b = byte(s, std::num::wrapping_add_usize(i, 2));
-    let c = byte(s, std::num::wrapping_add_usize(i, 4));
-    let d = byte(s, std::num::wrapping_add_usize(i, 6));
+    let b = byte(s, i.wrapping_add(2));
+    let c = byte(s, i.wrapping_add(4));
+    let d = byte(s, i.wrapping_add(6));
     16777216 * a + 65536 * b + 256 * c + d
 }
 
@@ -70,7 +71,7 @@ fn put(counts: &mut [usize], i: usize, n: usize) {
 
 fn count(counts: &mut [usize], i: usize) {
     if i < counts.len() {
-        counts[i] = std::num::wrapping_add_usize(counts[i], 1);
+        counts[i] = counts[i].wrapping_add(1);
     }
 }
 
@@ -96,7 +97,7 @@ fn count_statements(s: &[u8], from: usize, counts: &mut [usize]) {
         if tag == 2 {
             digits = 6;
         }
-        p = std::num::wrapping_add_usize(p, digits);
+        p = p.wrapping_add(digits);
         k += 1;
     }
 }
@@ -109,7 +110,7 @@ fn is(s: &[u8], from: usize, code: &[u8]) -> bool {
         if byte(s, p) != wide(code[k]) {
             return false;
         }
-        p = std::num::wrapping_add_usize(p, 2);
+        p = p.wrapping_add(2);
         k += 1;
     }
     at(s, p) == 10
@@ -166,7 +167,7 @@ fn later_code_at(s: &[u8], p: usize) -> usize {
 }
 
 fn count_node(s: &[u8], i: usize, counts: &mut [usize]) {
-    let shape = byte(s, std::num::wrapping_add_usize(i, 18));
+    let shape = byte(s, i.wrapping_add(18));
     let mut place: usize = 41;
     if shape < 17 {
         place = shape;
@@ -176,7 +177,7 @@ fn count_node(s: &[u8], i: usize, counts: &mut [usize]) {
         put(
             counts,
             40,
-            std::num::wrapping_add_usize(number(s, std::num::wrapping_add_usize(i, 2)), 1),
+            std::num::wrapping_add_usize(number(s, i.wrapping_add(2)), 1),
         );
     }
 }
@@ -187,10 +188,10 @@ fn count_line(s: &[u8], i: usize, kind: usize, counts: &mut [usize]) {
             count_node(s, i, counts);
         }
         6 => {
-            count_statements(s, std::num::wrapping_add_usize(i, 6), counts);
+            count_statements(s, i.wrapping_add(6), counts);
         }
         8 => {
-            count(counts, code_at(s, std::num::wrapping_add_usize(i, 18)));
+            count(counts, code_at(s, i.wrapping_add(18)));
             count(counts, 39);
         }
         _ => {}
@@ -272,7 +273,7 @@ fn earlier(starts: &[usize], i: usize, start: usize) -> usize {
     while j < i {
         if j < starts.len() {
             if starts[j] == start {
-                same = std::num::wrapping_add_usize(same, 1);
+                same = same.wrapping_add(1);
             }
         }
         j += 1;
@@ -290,7 +291,7 @@ fn count_seeds(
     let mut i: usize = 0;
     while i < 10000 {
         let start = count_seed(i as u32, work, out, counts);
-        alike = std::num::wrapping_add_usize(alike, earlier(starts, i, start));
+        alike = alike.wrapping_add(earlier(starts, i, start));
         put(starts, i, start);
         i += 1;
     }
@@ -299,57 +300,63 @@ fn count_seeds(
 
 // ---- What is printed
 
-fn print(before: &[u8], n: usize) {
-    io::write_all(libc::STDOUT_FILENO, before);
-    io::print_decimal(libc::STDOUT_FILENO, n as u64);
+fn print(rt: &impl Print, before: &str, n: usize) -> io::Result<()> {
+    print!(rt; "{before}{n}")
 }
 
-fn print_numbered(what: &[u8], from: usize, end: usize, counts: &[usize]) {
+fn print_numbered(
+    rt: &impl Print,
+    what: &str,
+    from: usize,
+    end: usize,
+    counts: &[usize],
+) -> io::Result<()> {
     let mut i = from;
     while i < end {
-        print(what, std::num::wrapping_sub_usize(i, from));
-        print(b": ", get(counts, i));
+        print(rt, what, i.wrapping_sub(from))?;
+        print(rt, ": ", get(counts, i))?;
         i += 1;
     }
+    Ok(())
 }
 
-fn print_codes(counts: &[usize]) {
-    print(b"\nnyi/bind-unification: ", get(counts, 22));
-    print(b"\nreject/bind-lhs: ", get(counts, 23));
-    print(b"\nreject/fuzzy-distance: ", get(counts, 24));
-    print(b"\nreject/fuzzy-term: ", get(counts, 25));
-    print(b"\nreject/infinite-type: ", get(counts, 26));
-    print(b"\nreject/no-value: ", get(counts, 27));
-    print(b"\nreject/not-a-union: ", get(counts, 28));
+fn print_codes(rt: &impl Print, counts: &[usize]) -> io::Result<()> {
+    print(rt, "\nnyi/bind-unification: ", get(counts, 22))?;
+    print(rt, "\nreject/bind-lhs: ", get(counts, 23))?;
+    print(rt, "\nreject/fuzzy-distance: ", get(counts, 24))?;
+    print(rt, "\nreject/fuzzy-term: ", get(counts, 25))?;
+    print(rt, "\nreject/infinite-type: ", get(counts, 26))?;
+    print(rt, "\nreject/no-value: ", get(counts, 27))?;
+    print(rt, "\nreject/not-a-union: ", get(counts, 28))
 }
 
-fn print_later_codes(counts: &[usize]) {
-    print(b"\nreject/type-mismatch: ", get(counts, 29));
-    print(b"\nreject/union-arity: ", get(counts, 30));
-    print(b"\nreject/unknown-alternative: ", get(counts, 31));
-    print(b"\nreject/unknown-field: ", get(counts, 32));
-    print(b"\nreject/unresolved-access: ", get(counts, 33));
-    print(b"\nreject/value-shadowed: ", get(counts, 34));
-    print(b"\nreject/wildcard-in-head: ", get(counts, 35));
-    io::write_all(libc::STDOUT_FILENO, b"\n");
+fn print_later_codes(rt: &impl Print, counts: &[usize]) -> io::Result<()> {
+    print(rt, "\nreject/type-mismatch: ", get(counts, 29))?;
+    print(rt, "\nreject/union-arity: ", get(counts, 30))?;
+    print(rt, "\nreject/unknown-alternative: ", get(counts, 31))?;
+    print(rt, "\nreject/unknown-field: ", get(counts, 32))?;
+    print(rt, "\nreject/unresolved-access: ", get(counts, 33))?;
+    print(rt, "\nreject/value-shadowed: ", get(counts, 34))?;
+    print(rt, "\nreject/wildcard-in-head: ", get(counts, 35))?;
+    println!(rt; "")
 }
 
-fn report(counts: &[usize], alike: usize) {
-    print(b"accepted: ", get(counts, 36));
-    print(b"\nwith a diagnostic: ", get(counts, 37));
-    print(b"\nwithout one: ", get(counts, 38));
-    print(b"\npairs with the same first span: ", alike);
-    print_numbered(b"\nnodes of shape ", 0, 17, counts);
-    print_numbered(b"\nstatements of kind ", 17, 22, counts);
-    print_codes(counts);
-    print_later_codes(counts);
+fn report(rt: &impl Print, counts: &[usize], alike: usize) -> io::Result<()> {
+    print(rt, "accepted: ", get(counts, 36))?;
+    print(rt, "\nwith a diagnostic: ", get(counts, 37))?;
+    print(rt, "\nwithout one: ", get(counts, 38))?;
+    print(rt, "\npairs with the same first span: ", alike)?;
+    print_numbered(rt, "\nnodes of shape ", 0, 17, counts)?;
+    print_numbered(rt, "\nstatements of kind ", 17, 22, counts)?;
+    print_codes(rt, counts)?;
+    print_later_codes(rt, counts)
 }
 
-fn main() {
+fn main(rt: HostRuntime) -> io::Result<()> {
     let mut work = [0u32; 16384];
     let mut out = [0u8; 65536];
     let mut counts = [0usize; 41];
     let mut starts = [0usize; 10000];
     let alike = count_seeds(&mut starts, &mut work, &mut out, &mut counts);
-    report(&counts, alike);
+    report(&rt, &counts, alike)
 }

@@ -8,6 +8,7 @@ ghost use Rattle.program.specs.Promises.{decided_by, Prints, PrintsLamp};
 
 use desk::Outcome;
 use input::Input;
+use std::io;
 
 // What a program does with its file.
 #[derive(Drop)]
@@ -37,7 +38,8 @@ pub fn printed(job: Job, file: &[u8], work: &mut [u32; 16384], out: &mut [u8; 65
         Outcome::Accepted(n) => n,
         Outcome::Refused(e) => {
             let line = desk::refusal_line(e);
-            bytes::copy(&line, out)
+            out[..line.len()].copy_from_slice(&line);
+            line.len()
         }
     }
 }
@@ -52,38 +54,36 @@ pub fn lamp_line(file: &[u8], work: &mut [u32; 16384]) -> [u8; 5]
 }
 
 // One byte more is read than a file may have, so that a longer input is refused.
-pub fn run(job: Job) {
+pub fn run(rt: &(impl io::Input + Print + Eprint), job: Job) {
     let mut file = [0u8; 65537];
     let mut work = [0u32; 16384];
     let mut out = [0u8; 65536];
-    let r = input::read_all(libc::STDIN_FILENO, &mut file);
-    match r {
-        Input::Failed => {
-            io::write_all(libc::STDERR_FILENO, b"reading standard input failed\n");
-        }
+    match input::read_all(&mut rt.reader(), &mut file) {
+        Input::Failed => tell(rt, "reading standard input failed"),
         Input::Bytes(n) => {
             let m = printed(job, &file[0..n], &mut work, &mut out);
-            if !io::write_all(libc::STDOUT_FILENO, &out[0..m]) {
-                io::write_all(libc::STDERR_FILENO, b"writing standard output failed\n");
-            }
+            write(rt, &out[0..m]);
         }
     }
 }
 
 // The lamp of standard input.
-pub fn run_lamp() {
+pub fn run_lamp(rt: &(impl io::Input + Print + Eprint)) {
     let mut file = [0u8; 65537];
     let mut work = [0u32; 16384];
-    let r = input::read_all(libc::STDIN_FILENO, &mut file);
-    match r {
-        Input::Failed => {
-            io::write_all(libc::STDERR_FILENO, b"reading standard input failed\n");
-        }
-        Input::Bytes(n) => {
-            let line = lamp_line(&file[0..n], &mut work);
-            if !io::write_all(libc::STDOUT_FILENO, &line) {
-                io::write_all(libc::STDERR_FILENO, b"writing standard output failed\n");
-            }
-        }
+    match input::read_all(&mut rt.reader(), &mut file) {
+        Input::Failed => tell(rt, "reading standard input failed"),
+        Input::Bytes(n) => write(rt, &lamp_line(&file[0..n], &mut work)),
     }
+}
+
+fn write(rt: &(impl Print + Eprint), bytes: &[u8]) {
+    if rt.write_all(bytes).is_err() {
+        tell(rt, "writing standard output failed");
+    }
+}
+
+// A line on standard error: where that fails too, there is no one left to tell.
+fn tell(rt: &impl Eprint, line: &str) {
+    let _ = rt.eprintln(line);
 }

@@ -15,7 +15,7 @@ pub use work::Counters;
 use work::put;
 
 // The refusals of document 01, by meaning: `refusal` of specs/Promises.antt.
-#[derive(Drop)]
+#[derive(Clone, Copy)]
 pub enum Refusal {
     WorkTooShort,
     FileTooLong,

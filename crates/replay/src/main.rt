@@ -2,7 +2,10 @@
 // what the program prints for it is held against what was recorded.
 #![tactic(auto)]
 
+use input::Input;
 use program::Job;
+use std::io;
+use std::io::Read;
 
 // A part's length, or the input ends here or is no sample: a part is shorter than 2,048 bytes.
 #[derive(Drop)]
@@ -11,17 +14,24 @@ enum Part {
     End,
 }
 
-fn read_part(into: &mut [u8]) -> Part {
+// Whether the slice was filled: a read that fails counts as the end.
+fn fill<R: Read>(from: &mut R, into: &mut [u8]) -> bool {
+    match input::read_all(from, into) {
+        Input::Bytes(n) => n == into.len(),
+        Input::Failed => false,
+    }
+}
+
+fn read_part<R: Read>(from: &mut R, into: &mut [u8]) -> Part {
     let mut head = [0u8; 4];
-    let got = io::read_full(0, &mut head);
-    if got < 4 {
+    if !fill(from, &mut head) {
         return Part::End;
     }
     let n = work::wide(frames::full(&head, 0));
     if into.len() < n {
         return Part::End;
     }
-    if io::read_full(0, &mut into[0..n]) < n {
+    if !fill(from, &mut into[0..n]) {
         return Part::End;
     }
     Part::Bytes(n)
@@ -30,8 +40,7 @@ fn read_part(into: &mut [u8]) -> Part {
 // Whether the program prints this for the file.
 fn answers(file: &[u8], printed: &[u8], work: &mut [u32; 16384], out: &mut [u8; 65536]) -> bool {
     let n = program::printed(Job::Check, file, work, out);
-    let all: &[u8] = out;
-    check::same(&all[0..n], printed)
+    &out[0..n] == printed
 }
 
 // The next case of the sample, read and answered.
@@ -42,17 +51,18 @@ enum Case {
     End,
 }
 
-fn next_case(
+fn next_case<R: Read>(
+    from: &mut R,
     file: &mut [u8],
     printed: &mut [u8],
     work: &mut [u32; 16384],
     out: &mut [u8; 65536],
 ) -> Case {
-    let a = read_part(file);
+    let a = read_part(from, file);
     let Part::Bytes(n) = a else {
         return Case::End;
     };
-    let b = read_part(printed);
+    let b = read_part(from, printed);
     let Part::Bytes(m) = b else {
         return Case::End;
     };
@@ -69,37 +79,37 @@ fn next_case(
     }
 }
 
-fn report(cases: u64, otherwise: u64) {
-    io::print_decimal(1, cases);
-    io::write_all(1, b" cases, ");
-    io::print_decimal(1, otherwise);
-    io::write_all(1, b" answered otherwise\n");
+fn report(rt: &impl Print, cases: u64, otherwise: u64) -> io::Result<()> {
+    println!(rt; "{cases} cases, {otherwise} answered otherwise")
 }
 
-fn replay(file: &mut [u8], printed: &mut [u8], work: &mut [u32; 16384], out: &mut [u8; 65536]) {
+fn replay(
+    rt: &(impl io::Input + Print),
+    file: &mut [u8],
+    printed: &mut [u8],
+    work: &mut [u32; 16384],
+    out: &mut [u8; 65536],
+) -> io::Result<()> {
+    let mut from = rt.reader();
     let mut cases: u64 = 0;
     let mut otherwise: u64 = 0;
     while cases < 65536 {
-        let r = next_case(file, printed, work, out);
-        match r {
+        match next_case(&mut from, file, printed, work, out) {
             Case::Same => {}
             Case::Otherwise => {
-                otherwise = std::num::wrapping_add_u64(otherwise, 1);
+                otherwise = otherwise.wrapping_add(1);
             }
-            Case::End => {
-                report(cases, otherwise);
-                return;
-            }
+            Case::End => return report(rt, cases, otherwise),
         }
         cases += 1;
     }
-    report(cases, otherwise);
+    report(rt, cases, otherwise)
 }
 
-fn main() {
+fn main(rt: HostRuntime) -> io::Result<()> {
     let mut file = [0u8; 2048];
     let mut printed = [0u8; 2048];
     let mut work = [0u32; 16384];
     let mut out = [0u8; 65536];
-    replay(&mut file, &mut printed, &mut work, &mut out);
+    replay(&rt, &mut file, &mut printed, &mut work, &mut out)
 }

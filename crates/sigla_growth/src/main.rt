@@ -5,36 +5,38 @@
 ghost use Rattle.std.specs.Prelude.{◌≤◌, length};
 
 use input::Input;
+use std::env::Env;
+use std::fs::{File, Files};
+use std::str;
 
 // A file that is not named, that can't be opened or of which a read fails counts as empty.
-fn read_named(i: usize, into: &mut [u8]) -> usize
+fn read_named(rt: &(impl Env + Files), i: usize, into: &mut [u8]) -> usize
     ensures { result ≤ length into.new }
 {
-    let mut path = io::buffer();
-    let n = os::arg(i, &mut path);
-    if os::errno() != 0 {
+    let mut path = [0u8; 4096];
+    let Ok(n) = rt.arg(i, &mut path) else {
         return 0;
-    }
-    let fd = os::open_read(&path[..n]);
-    if fd < 0 {
+    };
+    let Ok(name) = str::from_utf8(&path[..n]) else {
         return 0;
-    }
-    let r = input::read_all(fd, into);
-    libc::close(fd);
-    match r {
+    };
+    let Ok(mut file) = File::open(rt, name) else {
+        return 0;
+    };
+    match input::read_all(&mut file, into) {
         Input::Bytes(m) => m,
         Input::Failed => 0,
     }
 }
 
 // One byte more is read than a file may have, so that a longer one is refused.
-fn main() {
+fn main(rt: HostRuntime) {
     let mut old = [0u8; 65537];
     let mut new = [0u8; 65537];
     let mut work = [0u32; 16384];
-    let n = read_named(1, &mut old);
-    let m = read_named(2, &mut new);
+    let n = read_named(&rt, 1, &mut old);
+    let m = read_named(&rt, 2, &mut new);
     let p = growth::check_growth(&old[0..n], &new[0..m], &mut work);
     let line = growth::premises_line(p);
-    io::write_all(libc::STDOUT_FILENO, &line);
+    let _ = rt.write_all(&line);
 }

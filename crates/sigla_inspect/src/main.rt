@@ -6,6 +6,8 @@ ghost use Rattle.std.specs.Prelude.{◌≤◌};
 
 use input::Input;
 use inspect::Inspected;
+use std::env::Env;
+use std::io;
 use work::word;
 
 // What an argument says in decimal digits.
@@ -38,17 +40,12 @@ fn read_number(text: &[u8]) -> Number {
     Number::Is(n as u32)
 }
 
-fn argument() -> Number {
-    let mut text = io::buffer();
-    let n = os::arg(1, &mut text);
-    if os::errno() != 0 {
-        return Number::Not;
+fn argument(rt: &impl Env) -> Number {
+    let mut text = [0u8; 4096];
+    match rt.arg(1, &mut text) {
+        Ok(n) => read_number(&text[..n]),
+        Err(_) => Number::Not,
     }
-    read_number(&text[..n])
-}
-
-fn say(text: &[u8]) -> bool {
-    io::write_all(libc::STDOUT_FILENO, text)
 }
 
 fn digit(x: u32) -> u8 {
@@ -90,7 +87,7 @@ fn zeros(x: u32) -> usize
 }
 
 // In decimal.
-fn say_number(x: u32) -> bool {
+fn say_number(rt: &impl Print, x: u32) -> io::Result<()> {
     let d = [
         digit(x / 1000000000),
         digit(x / 100000000),
@@ -104,38 +101,34 @@ fn say_number(x: u32) -> bool {
         digit(x),
     ];
     let k = zeros(x);
-    say(&d[k..10])
+    rt.write_all(&d[k..10])
 }
 
-fn say_numbered(text: &[u8], x: u32) -> bool {
-    if !say(text) {
-        return false;
-    }
-    say_number(x)
+fn say_numbered(rt: &impl Print, text: &[u8], x: u32) -> io::Result<()> {
+    rt.write_all(text)?;
+    say_number(rt, x)
 }
 
 // One of the words that follow the unknown of a binding.
-fn say_token(a: u32, b: u32) -> bool {
+fn say_token(rt: &impl Print, a: u32, b: u32) -> io::Result<()> {
     match a {
-        1 => say(b" Int"),
-        2 => say(b" String"),
-        3 => say(b" Bytes"),
-        4 => say_numbered(b" fact ", b),
-        5 => say_numbered(b" record ", b),
-        6 => say_numbered(b" union ", b),
-        7 => say_numbered(b" ?", b),
-        8 => say(b" Error"),
-        9 => say_numbered(b" .", b),
-        _ => say_numbered(b" |", b),
+        1 => rt.write_all(b" Int"),
+        2 => rt.write_all(b" String"),
+        3 => rt.write_all(b" Bytes"),
+        4 => say_numbered(rt, b" fact ", b),
+        5 => say_numbered(rt, b" record ", b),
+        6 => say_numbered(rt, b" union ", b),
+        7 => say_numbered(rt, b" ?", b),
+        8 => rt.write_all(b" Error"),
+        9 => say_numbered(rt, b" .", b),
+        _ => say_numbered(rt, b" |", b),
     }
 }
 
 // An unknown, whose type follows.
-fn say_binding(x: u32) -> bool {
-    if !say_numbered(b"?", x) {
-        return false;
-    }
-    say(b" =")
+fn say_binding(rt: &impl Print, x: u32) -> io::Result<()> {
+    say_numbered(rt, b"?", x)?;
+    rt.write_all(b" =")
 }
 
 // Whether a token is this one word, and else a second one follows.
@@ -147,27 +140,21 @@ fn is_short(a: u32) -> bool {
 }
 
 // The bindings in the first n words.
-fn say_bindings(l: &[u32], n: usize) -> bool {
+fn say_bindings(rt: &impl Print, l: &[u32], n: usize) -> io::Result<()> {
     let mut i: usize = 0;
     while i < l.len() {
         if n <= i {
-            return say(b"\n");
+            return rt.write_all(b"\n");
         }
         let a = word(l, i);
         let b = word(l, i + 1);
         if a == 11 {
             if 0 < i {
-                if !say(b"\n") {
-                    return false;
-                }
+                rt.write_all(b"\n")?;
             }
-            if !say_binding(b) {
-                return false;
-            }
+            say_binding(rt, b)?;
         } else {
-            if !say_token(a, b) {
-                return false;
-            }
+            say_token(rt, a, b)?;
         }
         if is_short(a) {
             i += 1;
@@ -175,52 +162,47 @@ fn say_bindings(l: &[u32], n: usize) -> bool {
             i += 2;
         }
     }
-    say(b"\n")
+    rt.write_all(b"\n")
 }
 
-fn say_inspected(r: Inspected, lent: &[u32]) -> bool {
+fn say_inspected(rt: &impl Print, r: Inspected, lent: &[u32]) -> io::Result<()> {
     let line = inspect::line(r);
-    if !say(&line) {
-        return false;
-    }
+    rt.write_all(&line)?;
     match r {
         Inspected::Success(n) => {
             if n == 0 {
-                return true;
+                return Ok(());
             }
-            say_bindings(lent, n)
+            say_bindings(rt, lent, n)
         }
-        _ => true,
+        _ => Ok(()),
     }
+}
+
+// A line on standard error: where that fails too, there is no one left to tell.
+fn tell(rt: &impl Eprint, line: &str) {
+    let _ = rt.eprintln(line);
 }
 
 // One byte more is read than a file may have, so that a longer input is refused.
-fn run(n: u32) {
+fn run(rt: &(impl io::Input + Print + Eprint), n: u32) {
     let mut file = [0u8; 65537];
     let mut work = [0u32; 16384];
     let mut lent = [0u32; 65536];
-    let r = input::read_all(libc::STDIN_FILENO, &mut file);
-    match r {
-        Input::Failed => {
-            io::write_all(libc::STDERR_FILENO, b"reading standard input failed\n");
-        }
+    match input::read_all(&mut rt.reader(), &mut file) {
+        Input::Failed => tell(rt, "reading standard input failed"),
         Input::Bytes(m) => {
             let r = inspect::inspect(&file[0..m], n, &mut work, &mut lent);
-            if !say_inspected(r, &lent) {
-                io::write_all(libc::STDERR_FILENO, b"writing standard output failed\n");
+            if say_inspected(rt, r, &lent).is_err() {
+                tell(rt, "writing standard output failed");
             }
         }
     }
 }
 
-fn main() {
-    let n = argument();
-    match n {
-        Number::Is(k) => {
-            run(k);
-        }
-        Number::Not => {
-            io::write_all(libc::STDERR_FILENO, b"usage: sigla_inspect NUMBER < FILE\n");
-        }
+fn main(rt: HostRuntime) {
+    match argument(&rt) {
+        Number::Is(k) => run(&rt, k),
+        Number::Not => tell(&rt, "usage: sigla_inspect NUMBER < FILE"),
     }
 }

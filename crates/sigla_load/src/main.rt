@@ -2,35 +2,36 @@
 #![tactic(auto)]
 
 use generator::Seed;
+use std::env::Env;
 use writer::Wrote;
 
 // No file is longer than the slice (crates/testload/proofs/Promise.antt, `load_short`).
-fn print(seed: u32) {
+fn print(rt: &(impl Print + Eprint), seed: u32) {
     let mut out = [0u8; 8255];
     let r = generator::make(seed, &mut out);
     match r {
         Wrote::Full => {}
         Wrote::To(m) => {
-            if !io::write_all(libc::STDOUT_FILENO, &out[0..m]) {
-                io::write_all(libc::STDERR_FILENO, b"writing standard output failed\n");
+            if rt.write_all(&out[0..m]).is_err() {
+                tell(rt, "writing standard output failed");
             }
         }
     }
 }
 
-fn main() {
-    let mut word = io::buffer();
-    let n = os::arg(1, &mut word);
-    let mut seed = generator::read_seed(&word[..n]);
-    if os::errno() != 0 {
-        seed = Seed::None;
-    }
+// A line on standard error: where that fails too, there is no one left to tell.
+fn tell(rt: &impl Eprint, line: &str) {
+    let _ = rt.eprintln(line);
+}
+
+fn main(rt: HostRuntime) {
+    let mut word = [0u8; 4096];
+    let seed = match rt.arg(1, &mut word) {
+        Ok(n) => generator::read_seed(&word[..n]),
+        Err(_) => Seed::None,
+    };
     match seed {
-        Seed::None => {
-            io::write_all(libc::STDERR_FILENO, b"usage: sigla_load SEED\n");
-        }
-        Seed::Is(s) => {
-            print(s);
-        }
+        Seed::None => tell(&rt, "usage: sigla_load SEED"),
+        Seed::Is(s) => print(&rt, s),
     }
 }

@@ -3,6 +3,6 @@
 
 use program::Job;
 
-fn main() {
-    program::run(Job::Widen);
+fn main(rt: HostRuntime) {
+    program::run(&rt, Job::Widen);
 }

@@ -6,7 +6,7 @@ ghost use Rattle.meaning.specs.Answer.{hex_digit, bytes₂, bytes₄};
 ghost use Rattle.writer.specs.Writes.{Writes, WritesText, hex_of};
 
 // Where the next byte goes, or the slice is too short.
-#[derive(Drop)]
+#[derive(Clone, Copy)]
 pub enum Wrote {
     To(usize),
     Full,

@@ -40,7 +40,7 @@ pub fn run(given: &[String]) -> Done {
 }
 
 /// How both sides were built; the workspace's Cargo.toml has it.
-pub const BEST: &str = "the Rust: opt-level 3, fat link-time optimization, one codegen unit, no debug assertions; the port: rt staticlib";
+pub const BEST: &str = "the Rust: opt-level 3, fat link-time optimization, one codegen unit, no debug assertions; the port: rt lib";
 
 /// One file's times: the quickest of all rounds.
 struct Timed {

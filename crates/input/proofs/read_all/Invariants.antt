@@ -1,0 +1,9 @@
+-- A byte at least is read in each turn that goes on, and the slice keeps its length.
+use Rattle.std.proofs.Common.{length, ◌-◌, ◌≡◌, ◌≤◌}
+use Rattle.input.proofs.read_all.Given as goal
+
+abbrev pub invariant-loop-n : goal.invariant-loop-n
+invariant-loop-n g l = (l.n ≤ length l.into) × (length l.into ≡ length l.initial.into)
+
+abbrev pub decreases-loop-n : goal.decreases-loop-n
+decreases-loop-n g l = length l.into - l.n
