@@ -13,7 +13,6 @@ use Rattle.unification.specs.Bindings.{State}
 use Rattle.work.specs.Layout.{NODE-COUNT, TYS}
 use Rattle.cells.specs.declared.Ty.{Ty}
 use Rattle.cells.specs.declared.Bound.{Bound}
-use Rattle.cells.specs.declared.Bound.TheVariants as Bound
 use Rattle.cells.specs.Words.{ty_w, slot_w}
 use Rattle.cells.specs.Stands.{Rows, Holds}
 use Rattle.meaning.specs.Check.{zonked}

@@ -4,11 +4,10 @@ use mathlib.Core.List.{List, [], ◌∷◌}
 use mathlib.Core.Logic.{◌≢◌}
 use mathlib.Core.Option.{none, some}
 use mathlib.Core.Path.{◌≡◌, refl, sym, ◌∙◌, ap}
-use Prim.Native.Nat.{ℕ, zero, suc, ◌+◌, ◌-◌, ◌<◌}
+use Prim.Native.Nat.{ℕ, zero, suc, ◌+◌, ◌<◌}
 use native.Mathlib.Omega.{arith}
 use lib.ListN.{length}
 use Rattle.unification.specs.Ty as Tree
-use Rattle.unification.specs.Bindings as Bindings
 use Rattle.unification.specs.Unify.{find_label}
 use Rattle.cells.specs.declared.Ty.{Ty}
 use Rattle.cells.specs.declared.Ty.TheVariants.{Int, Str, Bytes, Fact, Record, Union, Var, Error}
@@ -16,7 +15,6 @@ use Rattle.cells.specs.Words.{tag_w}
 use Rattle.cells.specs.Stands.{Rows, tree}
 use Rattle.cells.specs.declared.Part.{Part}
 use Rattle.cells.specs.declared.Found.{Found}
-use Rattle.cells.specs.declared.Found.TheVariants as Found
 use Rattle.cells.specs.Promises.{found_ty, FindsName, Reprs}
 use Rattle.meaning.specs.Syntax.{Field, ExprKind, node_at}
 use Rattle.meaning.specs.References.{field_values, expr_nodes}
@@ -29,14 +27,11 @@ use Rattle.meaning.specs.Grades.{unknowns, one_diagnostic, one_node}
 use Rattle.meaning.proofs.Steps.{Nothing}
 use Rattle.meaning.proofs.Visits.{size_pos, own_weight, payload_side, check_fields_meets}
 use Rattle.messages.specs.declared.Message.{Message}
-use Rattle.messages.specs.declared.Message.TheVariants as Message
 use Rattle.messages.specs.Said.{said, OkMessage}
 use Rattle.tree.specs.declared.Items.{Items}
 use Rattle.tree.specs.declared.Node.{Node}
-use Rattle.tree.specs.declared.Node.TheVariants as Node
 use Rattle.tree.specs.Nodes.{field_w, field_of, fields_from, kind_w, IsNode}
 use Rattle.state.specs.declared.Done.{Done}
-use Rattle.state.specs.declared.Done.TheVariants as Done
 use Rattle.steps.specs.Ends.{done, Ends}
 use Rattle.steps.specs.Loads.{Load, only, both, FitsIn, checks, visits, Begins, Beside}
 use Rattle.steps.specs.Promises.{nodes_of, Fine, FineRecord, FineUnion, Notes, Rejects, Named, AllNamed, NodeAt}

@@ -29,14 +29,11 @@ use Rattle.meaning.specs.Grades.{unknowns, no_thing, one_diagnostic, one_unknown
 use Rattle.meaning.proofs.Steps.{Nothing, fresh_var_id_meets}
 use Rattle.meaning.proofs.Visits.{repr_side, size_pos, key_declared}
 use Rattle.tree.specs.declared.Node.{Node}
-use Rattle.tree.specs.declared.Node.TheVariants as Node
 use Rattle.tree.specs.declared.Items.{Items}
 use Rattle.tree.specs.declared.Stmts.{Stmts}
 use Rattle.tree.specs.Nodes.{fields_from, items_from, stmts_w, kind_w, IsNode}
 use Rattle.steps.specs.declared.Typed.{Typed}
-use Rattle.steps.specs.declared.Typed.TheVariants as Typed
 use Rattle.state.specs.declared.Done.{Done}
-use Rattle.state.specs.declared.Done.TheVariants as Done
 use Rattle.steps.specs.Loads.{Load, only, both, FitsIn, infers, checks, visits, parts, Begins}
 use Rattle.steps.specs.Promises.{nodes_of, Fine, Freshens, fuzzy, Fuzzes, KeyIs, OnType}
 use Rattle.checker.specs.Promises.{below, Infers, InfersKind, InfersRecord, InfersAll, Subqueries, Facts, all_with, Checks}

@@ -8,7 +8,6 @@ use native.Mathlib.Omega.{arith}
 use lib.Dec.{eqb}
 use lib.ListN.{length, get_or, length-append}
 use borrow.Author.Tests.{lt-ltb, le-ltb}
-use Rattle.unification.specs.Ty as Tree
 use Rattle.unification.proofs.Tests.{clash}
 use Rattle.cells.specs.declared.Ty.{Ty}
 use Rattle.cells.specs.Words.{pick}
@@ -18,7 +17,6 @@ use Rattle.meaning.specs.References.{stmt_nodes, query_nodes, expr_nodes}
 use Rattle.meaning.specs.All.{All}
 use Rattle.meaning.specs.Diag as Diag
 use Rattle.meaning.specs.File.{Described}
-use Rattle.meaning.specs.Check as Check
 use Rattle.meaning.specs.Check.{Checker, Step, goes, out, Does, and_then, Walk, Form, a_wildcard, a_variable, a_constant, a_record, a_disjunction, an_error}
 use Rattle.meaning.specs.Check.{another, form_of, bind_form, deny_form, generate, stmt, stmts, bad_target, only_right, not_yet, bind_wildcard, env_len, leave}
 use Rattle.meaning.specs.Check.{subquery}
@@ -35,14 +33,10 @@ use Rattle.messages.specs.declared.Message.TheVariants as Message
 use Rattle.tree.specs.declared.Items.{Items}
 use Rattle.tree.specs.declared.Stmts.{Stmts}
 use Rattle.tree.specs.declared.Node.{Node}
-use Rattle.tree.specs.declared.Node.TheVariants as Node
 use Rattle.tree.specs.declared.Stmt.{Stmt}
-use Rattle.tree.specs.declared.Stmt.TheVariants as Stmt
 use Rattle.tree.specs.Nodes.{kind_w, IsNode, statement, stmt_w, stmt_size_w, stmts_from, stmts_w}
 use Rattle.steps.specs.declared.Typed.{Typed}
-use Rattle.steps.specs.declared.Typed.TheVariants as Typed
 use Rattle.state.specs.declared.Done.{Done}
-use Rattle.state.specs.declared.Done.TheVariants as Done
 use Rattle.steps.specs.Ends.{typed, done, Ends}
 use Rattle.steps.specs.Loads.{Load, only, both, FitsIn, infers, visits, parts, Begins}
 use Rattle.steps.specs.Promises.{nodes_of, only_w, Leaves, Named, AllNamed, Asks}

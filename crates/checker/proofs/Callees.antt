@@ -14,7 +14,6 @@ use Rattle.cells.specs.Words.{annotate_w, fresh_w}
 use Rattle.meaning.specs.Syntax.{FieldRef}
 use Rattle.meaning.specs.Check as Check
 use Rattle.messages.specs.declared.Message.{Message}
-use Rattle.messages.specs.declared.Message.TheVariants as Message
 use Rattle.state.specs.Words.{leave_w}
 use Rattle.state.specs.Lines.{Rejected}
 use Rattle.tree.specs.declared.Node.{Node}

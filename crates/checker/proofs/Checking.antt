@@ -3,8 +3,8 @@
 use mathlib.Core.Bool.{Bool, true, false}
 use mathlib.Core.List.{List}
 use mathlib.Core.Option.{Option, none, some}
-use mathlib.Core.Path.{◌≡◌, refl, sym, ◌∙◌, ap}
-use Prim.Native.Nat.{ℕ, suc, ◌-◌, ◌≤◌, ◌<◌}
+use mathlib.Core.Path.{◌≡◌, refl, sym}
+use Prim.Native.Nat.{ℕ, suc, ◌≤◌, ◌<◌}
 use native.Mathlib.Omega.{arith}
 use lib.Dec.{ltb}
 use lib.ListN.{length, get_or}
@@ -16,11 +16,9 @@ use Rattle.unification.proofs.Tests.{clash}
 use Rattle.work.specs.Layout.{ENV-LEN, DIAGNOSTIC-COUNT, MARK-COUNT, UNDO-LEN}
 use Rattle.cells.specs.declared.Ty.{Ty}
 use Rattle.cells.specs.declared.TyError.{TyError}
-use Rattle.cells.specs.declared.TyError.TheVariants as TyError
 use Rattle.cells.specs.declared.Unified.{Unified}
-use Rattle.cells.specs.declared.Unified.TheVariants as Unified
 use Rattle.cells.specs.Stands.{Rows, tree}
-use Rattle.cells.specs.Promises.{error_of, IsError}
+use Rattle.cells.specs.Promises.{IsError}
 use Rattle.cells.specs.Inferred.{More, Adds}
 use Rattle.cells.proofs.Frame.{tree_more}
 use Rattle.cells.proofs.Holding.{holds_log}
@@ -30,14 +28,12 @@ use Rattle.meaning.specs.Check.{infer_then_unify, check_field}
 use Rattle.meaning.proofs.Meets.{Went, made_trans, reached_trans}
 use Rattle.meaning.specs.Grades.{no_thing, one_diagnostic}
 use Rattle.meaning.proofs.Steps.{Nothing, IsSide, unify_meets, rolled_meets}
-use Rattle.meaning.proofs.Visits.{Good, size_pos}
+use Rattle.meaning.proofs.Visits.{size_pos}
 use Rattle.state.specs.Lines.{Told}
 use Rattle.state.specs.Runs.{Runs}
 use Rattle.state.proofs.Scoping.{runs_env_length, runs_marks_length}
 use Rattle.steps.specs.declared.Typed.{Typed}
-use Rattle.steps.specs.declared.Typed.TheVariants as Typed
 use Rattle.state.specs.declared.Done.{Done}
-use Rattle.state.specs.declared.Done.TheVariants as Done
 use Rattle.steps.specs.Ends.{Result, typed, done, silent, unified, IsUnified, Gone, Ends, went, spent}
 use Rattle.steps.specs.Loads.{Load, only, both, FitsIn, infers, checks, Begins}
 use Rattle.steps.specs.Promises.{nodes_of, Fine, UnifiesTo, Reports, RollsTo, Named, NodeAt}

@@ -4,7 +4,6 @@ use mathlib.Core.List.{List, [], ◌∷◌}
 use mathlib.Core.Path.{◌≡◌, refl}
 use Prim.Native.Nat.{ℕ}
 use native.Mathlib.Omega.{arith}
-use Rattle.unification.specs.Ty as Tree
 use Rattle.cells.specs.declared.Ty.{Ty}
 use Rattle.cells.specs.Stands.{Rows, tree}
 use Rattle.meaning.specs.Syntax.{node_at}
@@ -15,9 +14,7 @@ use Rattle.meaning.specs.Weights.{sum_of, size, records, record_fields}
 use Rattle.meaning.specs.Grades.{one_diagnostic, introducing}
 use Rattle.meaning.proofs.Visits.{size_pos, late, early_late, inferring_late, Introduced, made_introduced, introduce_side_meets, infer_late, variable_kind}
 use Rattle.steps.specs.declared.Typed.{Typed}
-use Rattle.steps.specs.declared.Typed.TheVariants as Typed
 use Rattle.state.specs.declared.Done.{Done}
-use Rattle.state.specs.declared.Done.TheVariants as Done
 use Rattle.steps.specs.Ends.{typed, done, Ends}
 use Rattle.steps.specs.Loads.{Load, only, both, FitsIn, visits, Begins}
 use Rattle.steps.specs.Promises.{nodes_of, BringsSide, compare_types, ComparesTypes, Named}

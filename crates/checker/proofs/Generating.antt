@@ -12,17 +12,15 @@ use Rattle.cells.specs.Stands.{Rows, tree}
 use Rattle.meaning.specs.Syntax.{ExprKind, node_at}
 use Rattle.meaning.specs.References.{expr_nodes}
 use Rattle.meaning.specs.File.{Described}
-use Rattle.meaning.specs.Check.{Checker, Step, goes, Does, and_then, Walk, walk, annotate, form_of, kind, infer_at, generate_branches, generator_form, generator_at}
+use Rattle.meaning.specs.Check.{Checker, Step, goes, Does, and_then, Walk, walk, annotate, form_of, infer_at, generate_branches, generator_form, generator_at}
 use Rattle.meaning.specs.Weights.{sum_of, weight}
 use Rattle.meaning.specs.Grades.{one_node}
 use Rattle.meaning.proofs.Steps.{IsSide}
 use Rattle.meaning.proofs.Visits.{size_pos, generate_branches_meets}
 use Rattle.tree.specs.declared.Items.{Items}
 use Rattle.tree.specs.declared.Node.{Node}
-use Rattle.tree.specs.declared.Node.TheVariants as Node
 use Rattle.tree.specs.Nodes.{item_w, items_from, kind_w, IsNode}
 use Rattle.steps.specs.declared.Typed.{Typed}
-use Rattle.steps.specs.declared.Typed.TheVariants as Typed
 use Rattle.steps.specs.Ends.{typed, Ends}
 use Rattle.steps.specs.Loads.{Load, only, both, FitsIn, infers, visits, Begins, Beside}
 use Rattle.steps.specs.Promises.{nodes_of, Always, Fine, Notes, Named, AllNamed}

@@ -21,10 +21,8 @@ use Rattle.meaning.proofs.Steps.{Nothing, IsSide, IsUnknown, annotate_meets, fre
 use Rattle.meaning.proofs.Visits.{Good, infer_kind_meets, walk_good, own_weight}
 use Rattle.state.specs.Runs.{Runs}
 use Rattle.tree.specs.declared.Node.{Node}
-use Rattle.tree.specs.declared.Node.TheVariants as Node
 use Rattle.tree.specs.Nodes.{kind_w, IsNode}
 use Rattle.steps.specs.declared.Typed.{Typed}
-use Rattle.steps.specs.declared.Typed.TheVariants as Typed
 use Rattle.steps.specs.Ends.{typed, numbered, Ends}
 use Rattle.steps.specs.Loads.{Load, only, both, FitsIn, infers, finds, parts, Begins, Beside}
 use Rattle.steps.specs.Promises.{nodes_of, Always, Fine, Notes, Freshens, Brings, Named, AllNamed, NodeAt}

@@ -10,11 +10,9 @@ use Rattle.unification.specs.Unify.{find_key}
 use Rattle.unification.specs.Calls.{SideRow}
 use Rattle.unification.proofs.Tests.{clash}
 use Rattle.unification.proofs.Sides.{side_more, Part, find_part, Field, fields}
-use Rattle.cells.specs.declared.Ty.{Ty}
 use Rattle.cells.specs.declared.Kind.TheVariants.{Fields}
 use Rattle.cells.specs.declared.Part as Cell
 use Rattle.cells.specs.declared.Found.{Found}
-use Rattle.cells.specs.declared.Found.TheVariants as Found
 use Rattle.cells.specs.Stands.{Rows, tree}
 use Rattle.cells.specs.Promises.{found_part, FindsKey}
 use Rattle.meaning.specs.Syntax as Syntax
@@ -30,7 +28,6 @@ use Rattle.messages.specs.declared.Message.TheVariants as Message
 use Rattle.tree.specs.declared.Items.{Items}
 use Rattle.tree.specs.Nodes.{field_w, field_of, fields_from}
 use Rattle.state.specs.declared.Done.{Done}
-use Rattle.state.specs.declared.Done.TheVariants as Done
 use Rattle.steps.specs.Ends.{done, Ends}
 use Rattle.steps.specs.Loads.{Load, both, FitsIn, checks, visits, Begins}
 use Rattle.steps.specs.Promises.{nodes_of, FineRecord, Rejects, Named, AllNamed}

@@ -28,11 +28,9 @@ use Rattle.tree.proofs.QuerySays.{query_head_is, query_body_is}
 use Rattle.meaning.proofs.Lists.{all_map}
 use Rattle.meaning.proofs.Tests.{all_below_lem}
 use Rattle.steps.specs.declared.Typed.{Typed}
-use Rattle.steps.specs.declared.Typed.TheVariants as Typed
 use Rattle.state.specs.declared.Until as Code
 use Rattle.state.specs.Lines.{until_of}
 use Rattle.state.specs.declared.Done.{Done}
-use Rattle.state.specs.declared.Done.TheVariants as Done
 use Rattle.steps.specs.Ends.{typed, counted, silent, Ends, went, spent}
 use Rattle.steps.specs.Loads.{Load, only, both, FitsIn, infers, visits, Begins}
 use Rattle.steps.specs.Promises.{nodes_of, only_w, Leaves, Starts, Named, AllNamed, Heads}

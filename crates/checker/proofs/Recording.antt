@@ -35,7 +35,6 @@ use Rattle.tree.proofs.Steps.{fields_next, fields_end, fields_length, field_lowe
 use Rattle.state.proofs.Lining.{told_same}
 use Rattle.state.proofs.Recording.{reserve_runs, reserve_grew, put_field_runs, new_record_runs, within}
 use Rattle.steps.specs.declared.Typed.{Typed}
-use Rattle.steps.specs.declared.Typed.TheVariants as Typed
 use Rattle.steps.specs.Ends.{typed, Ends, went}
 use Rattle.steps.specs.Loads.{Load, both, FitsIn, infers, parts, Begins}
 use Rattle.steps.specs.Promises.{nodes_of, Named, AllNamed}

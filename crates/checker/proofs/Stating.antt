@@ -8,7 +8,6 @@ use Rattle.cells.specs.declared.Ty.{Ty}
 use Rattle.cells.specs.declared.Ty.TheVariants.{Var}
 use Rattle.cells.specs.Stands.{Rows, tree}
 use Rattle.meaning.specs.File.{Described}
-use Rattle.meaning.specs.Check as Check
 use Rattle.meaning.specs.Check.{Checker, and_then, introduce, annotate, reject, unify_at, bind_variable, bad_target, only_right, not_yet, destructure, bind_wildcard}
 use Rattle.meaning.specs.Weights.{same, sum_of}
 use Rattle.meaning.specs.Grades.{one_diagnostic, one_unknown, one_node}
@@ -17,9 +16,7 @@ use Rattle.meaning.proofs.Visits.{size_pos, own_weight}
 use Rattle.messages.specs.declared.Message.{Message}
 use Rattle.messages.specs.Said.{said}
 use Rattle.steps.specs.declared.Typed.{Typed}
-use Rattle.steps.specs.declared.Typed.TheVariants as Typed
 use Rattle.state.specs.declared.Done.{Done}
-use Rattle.state.specs.declared.Done.TheVariants as Done
 use Rattle.steps.specs.Ends.{done, Ends}
 use Rattle.steps.specs.Loads.{Load, only, both, FitsIn, infers, visits, Begins}
 use Rattle.steps.specs.Promises.{nodes_of, Fine, Notes, Rejects, Brings, UnifiesAt, only_w, Named}

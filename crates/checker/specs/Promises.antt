@@ -31,9 +31,7 @@ use Rattle.tree.specs.declared.Items.{Items}
 use Rattle.tree.specs.declared.Stmts.{Stmts}
 use Rattle.tree.specs.Nodes.{fields_from, items_from, statement, stmt_w, stmts_w}
 use Rattle.steps.specs.declared.Typed.{Typed}
-use Rattle.steps.specs.declared.Typed.TheVariants as Typed
 use Rattle.state.specs.declared.Done.{Done}
-use Rattle.state.specs.declared.Done.TheVariants as Done
 use Rattle.steps.specs.Ends.{typed, done}
 use Rattle.steps.specs.Loads.{only, infers, finds, checks, visits, parts, Beside}
 use Rattle.steps.specs.Promises.{Always, Fine, FineRecord, FineUnion, nodes_of, AllNamed, Named, NodeAt}

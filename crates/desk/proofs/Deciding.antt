@@ -116,12 +116,12 @@ module _ (buf buf₁ : List ℕ) (r : Outcome) where
       let m : n ≡ length ls = cc in
       record { text = ls; is = refl; long = m; fits = ltb-false (length buf) (length ls) b; there = rw m p.1 })
 
-  turned_down : (e : Refusal) → r ≡ Outcome.Refused e → (x : Decided) → Told buf buf₁ r x → (words : ℕ)
+  turned_down_lem : (e : Refusal) → r ≡ Outcome.Refused e → (x : Decided) → Told buf buf₁ r x → (words : ℕ)
       → finish x words (length buf) ≡ refuse (refusal e) words (length buf)
   unfolding Told finish
-  turned_down e q (turned_down i) t words = let p = t.1 in let same : e ≡ t.0 = cc in ap (λ j. refuse j words (length buf))
+  turned_down_lem e q (turned_down i) t words = let p = t.1 in let same : e ≡ t.0 = cc in ap (λ j. refuse j words (length buf))
       (sym t.2 ∙ sym (ap refusal same))
-  turned_down e q (answered ls) t words = cases (ltb (length buf) (length ls))
+  turned_down_lem e q (answered ls) t words = cases (ltb (length buf) (length ls))
       (λ b. let p = t.1 (ltb-true (length buf) (length ls) b) in let same : Refusal.AnswerTooLong ≡ e = cc in rw (b, finish)
       (ap (λ x. refuse (refusal x) words (length buf)) same))
       (λ b. let p = (t.0 (ltb-false (length buf) (length ls) b)).0 in let z : ◌≡◌ {A = ℕ} 0 1 = cc in absurd (omega arith))
@@ -131,7 +131,7 @@ module _ {x : Decided} {w buf w₁ buf₁ w' buf' : List ℕ} (words : length w�
       → Finishes x w buf w' buf' (Outcome.Refused e)
   unfolding refuse
   refused_cleared e t c =
-      let is = turned_down buf buf₁ (Outcome.Refused e) e refl x t (length w) in
+      let is = turned_down_lem buf buf₁ (Outcome.Refused e) e refl x t (length w) in
       let n : length buf₁ - 0 ≡ length buf = omega arith in
       record {
         result = sym (ap Defined.Outcome.result is);

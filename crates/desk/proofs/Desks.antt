@@ -60,6 +60,7 @@ module _ (schema : Schema) where
   unfolding run_at
   stopped_so (q ∷ qs) a i (Desks.here p) = ap (λ x. (after a x (λ b. run_at schema qs b)).end) p
   stopped_so (q ∷ qs) a i (Desks.later t p s) = ap (λ x. (after a x (λ b. run_at schema qs b)).end) p ∙ ap (first t) (stopped_so qs (charged_to a t.visits) i s)
+  stopped_so [] a i h = elim h [ ]
 
   ends : (qs : List Ast) (a : Account) (ts : List Typed) → (run_at schema qs a).end ≡ all ts → Ends schema qs a ts
   unfolding run_at
@@ -146,6 +147,7 @@ low = (omega arith, (omega arith, (omega arith, (omega arith, (omega arith, (ome
 first_low : (cs : List Condition) {s : SoFar} {l : Said} {i : Refusal} → All (λ c. number c.refusal ≤ 13) cs → First cs s l i → number i ≤ 13
 first_low (c ∷ cs) h (here e) = h.0
 first_low (c ∷ cs) h (later e r) = first_low cs h.1 r
+first_low [] {s = s} {l = l} {i = i} h e = elim e [ ]
 
 file_low : (f : List ℕ) (i : Refusal) → Refused wide f i → number i ≤ 13
 unfolding number
@@ -157,6 +159,7 @@ stop_low : (schema : Schema) (qs : List Ast) (a : Account) (i : Refusal) → Sto
 unfolding number stop_at
 stop_low schema (q ∷ qs) a i (Desks.here p) = cases (ltb (ceiling_in a) max_visits) (λ b. rw (b, stop_at) (omega arith)) (λ b. rw (b, stop_at) (omega arith))
 stop_low schema (q ∷ qs) a i (Desks.later t p s) = stop_low schema qs (charged_to a t.visits) i s
+stop_low schema [] a i h = elim h [ ]
 
 refused_low : (g : Group) (d : ℕ) (f : List ℕ) (words bytes : ℕ) (i : Refusal) → RefusedAt g d f words bytes i → number i ≤ 16
 unfolding number

@@ -24,7 +24,6 @@ use Rattle.work.specs.Layout.{PREDICATE-COUNT}
 use Rattle.reading.specs.Promises.{Ends, reading_in, ReadsFile}
 use Rattle.reading.specs.declared.Refusal.{Refusal}
 use Rattle.reading.specs.declared.Read.{Read}
-use Rattle.reading.specs.declared.Read.TheVariants as Read
 use Rattle.editions.specs.Converted.{predicates}
 use Rattle.convert.specs.Lines.{LinesAre, SomeFrom}
 use Rattle.growth.specs.Premises.{Past, content_of, OnlyAdded, NamesNoAbsent}

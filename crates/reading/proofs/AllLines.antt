@@ -27,9 +27,7 @@ use Rattle.frames.specs.Promises.{BytesAt, Malformed, number_of, kind_at}
 use Rattle.frames.proofs.Decoding.{holds_line}
 use Rattle.frames.proofs.Following.{kind_of_number}
 use Rattle.reading.specs.declared.Refusal.{Refusal}
-use Rattle.reading.specs.declared.Refusal.TheVariants as Refusal
 use Rattle.reading.specs.declared.Read.{Read}
-use Rattle.reading.specs.declared.Read.TheVariants as Read
 use Rattle.work.specs.declared.Counters.{Counters}
 use Rattle.work.specs.Counted.{no_counters}
 use Rattle.reading.specs.declared.Step.{Step}

@@ -26,7 +26,6 @@ use Rattle.frames.proofs.Following.{kind_of_number, stands_unknown}
 use Rattle.frames.proofs.Readers.{sized_pair, sized_byte, sized_two}
 use Rattle.frames.proofs.Shapes.{up, type_short, predicate_short, node_short}
 use Rattle.reading.specs.declared.Refusal.{Refusal}
-use Rattle.reading.specs.declared.Refusal.TheVariants as Refusal
 use Rattle.work.specs.declared.Counters.{Counters}
 use Rattle.reading.specs.declared.Step.{Step}
 use Rattle.reading.specs.declared.Step.TheVariants.{On, Off}

@@ -21,7 +21,6 @@ use Rattle.meaning.specs.Lines.{position}
 use Rattle.meaning.specs.Conditions.{any_of, among}
 use Rattle.meaning.specs.SoFar.{SoFar, start}
 use Rattle.meaning.specs.File.{count_of, schema_of, describe}
-use Rattle.meaning.specs.All.{All}
 use Rattle.meaning.specs.Sound.{Kept}
 use Rattle.meaning.proofs.Lists.{all_at}
 use Rattle.tree.specs.Stands.{TypeCells, SchemaStands}

@@ -13,7 +13,6 @@ use borrow.Author.Tests.{lt-ltb, eqb-true}
 use Rattle.unification.specs.Ty as Tree
 use Rattle.work.specs.Layout.{MAX-DISTANCE, MAX-TERM, QUERY, NAMES, TYPES, PREDICATES, NODES, FIELDS}
 use Rattle.cells.specs.declared.Ty.{Ty}
-use Rattle.cells.specs.declared.Ty.TheVariants as Ty
 use Rattle.cells.specs.declared.Kind.{Kind}
 use Rattle.cells.specs.declared.Kind.TheVariants.{Fields, Alternatives}
 use Rattle.cells.specs.declared.Part.{Part}

@@ -2,21 +2,20 @@
 -- the same is held as before.
 use mathlib.Core.Bool.{true, false}
 use mathlib.Core.List.{List, [], ◌∷◌, ◌++◌}
-use mathlib.Core.Option.{Option, none, some}
+use mathlib.Core.Option.{Option, some}
 use mathlib.Core.Path.{◌≡◌, refl, ap, subst, ◌∙◌}
 use Prim.Native.Nat.{ℕ, ◌+◌, ◌*◌, ◌/◌, ◌<◌, ◌≤◌}
 use native.Mathlib.Omega.{arith}
 use lib.ListN.{length, get_or, set, length-append}
 use lib.Seq.{get_or-set_same, sets}
 use Rattle.text.specs.Utf8.{characters}
-use Rattle.unification.specs.Ty as Tree
 use Rattle.work.specs.Layout.{MAX-DISTANCE, MAX-TERM, QUERY, NAMES, TYPES, PREDICATES, NODES, FIELDS}
 use Rattle.cells.specs.Words.{pick}
 use Rattle.cells.specs.Stands.{Rows, Keeps}
 use Rattle.cells.proofs.Frame.{keeps_trans, keeps_wider, keeps_set}
 use Rattle.sigla_hex.specs.Digits.{line_at}
 use Rattle.meaning.specs.Syntax.{Node, Query}
-use Rattle.meaning.specs.References.{shape_types, optional, expr_nodes, query_nodes}
+use Rattle.meaning.specs.References.{shape_types, optional, expr_nodes}
 use Rattle.meaning.specs.All.{Below}
 use Rattle.meaning.specs.Frame as Frame
 use Rattle.meaning.specs.Frame.{TypeShape, may_stand, the_limits, a_name, a_type, a_predicate, a_node, the_query, frame_of}

@@ -7,7 +7,7 @@ use Prim.Native.Nat.{ℕ, ◌+◌, ◌*◌, ◌<◌}
 use native.Mathlib.Omega.{arith}
 use lib.ListN.{length, drop, set}
 use Rattle.text.specs.Utf8.{both}
-use Rattle.work.specs.Layout.{NODES, QUERY}
+use Rattle.work.specs.Layout.{NODES}
 use Rattle.cells.specs.Stands.{Rows}
 use Rattle.meaning.specs.Syntax.{Node, Query}
 use Rattle.meaning.specs.Refusal as Refused

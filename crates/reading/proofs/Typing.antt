@@ -26,7 +26,7 @@ use Rattle.meaning.specs.Conditions.{any_of, all_below, again, refers_earlier, r
 use Rattle.meaning.proofs.Tests.{cases, below_all}
 use Rattle.frames.specs.Promises.{reference_w, byte_w, half_w, type_shape}
 use Rattle.frames.specs.Items.{items_at, field_at, alternative_at}
-use Rattle.frames.proofs.Readers.{sized_reference, Sized, sized_one, sized_two, Items, fields_are, alternatives_are}
+use Rattle.frames.proofs.Readers.{sized_reference, Sized, sized_one, Items, fields_are, alternatives_are}
 use Rattle.frames.proofs.Statements.{choice_at}
 use Rattle.reading.specs.declared.Refusal.TheVariants as Refusal
 use Rattle.work.specs.declared.Counters.{Counters}

@@ -1,6 +1,6 @@
 -- What the work slice and the counters hold in the midst of reading: what has been read so far (`SoFar` of
 -- meaning/specs/SoFar.antt), kind by kind. `at` is where the next line starts.
-use Rattle.std.specs.Prelude.{Bool, true, false, List, [], ◌∷◌, ◌≡◌, ℕ, ◌+◌, ◌-◌, ◌*◌, ◌/◌, ◌%◌, ◌≤◌, ◌<◌, length, get_or}
+use Rattle.std.specs.Prelude.{Bool, true, false, List, [], ◌≡◌, ℕ, ◌+◌, ◌*◌, ◌%◌, ◌≤◌, ◌<◌, length, get_or}
 use Rattle.std.proofs.Math.Option.{Option, none, some}
 use Rattle.unification.specs.Ty as Tree
 use Rattle.work.specs.Layout.{NAMES, TYPES, NODES, FIELDS, MAX-DISTANCE, MAX-TERM}

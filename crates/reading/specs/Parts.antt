@@ -1,5 +1,5 @@
 -- A type's parts, by places of the line: how they are read, what is written for them, and what the loops over them answer.
-use Rattle.std.specs.Prelude.{Bool, not, List, [], ◌∷◌, map, ◌≡◌, ℕ, ◌+◌, ◌-◌, ◌*◌, eqb, length}
+use Rattle.std.specs.Prelude.{Bool, not, List, [], ◌∷◌, map, ◌≡◌, ℕ, ◌+◌, ◌*◌, eqb, length}
 use Rattle.std.proofs.lemmas.List.Edits.{sets}
 use Rattle.text.specs.Utf8.{both}
 use Rattle.work.specs.Layout.{FIELDS}

@@ -17,12 +17,9 @@ use Rattle.cells.specs.CodeCalls.{Declares}
 use Rattle.cells.specs.Words.{pick}
 use Rattle.cells.specs.Stands.{Rows}
 use Rattle.reading.specs.declared.Refusal.{Refusal}
-use Rattle.reading.specs.declared.Refusal.TheVariants as Refusal
 use Rattle.reading.specs.declared.Read.{Read}
-use Rattle.reading.specs.declared.Read.TheVariants as Read
 use Rattle.work.specs.declared.Counters.{Counters}
 use Rattle.reading.specs.declared.Step.{Step}
-use Rattle.reading.specs.declared.Step.TheVariants as Step
 use Rattle.reading.specs.Held.{NamesHeld, Held}
 use Rattle.tree.specs.Stands.{SchemaStands}
 

@@ -9,10 +9,9 @@ use lib.ListN.{length, take, drop, length-append, length-take, take-append-drop}
 use lib.Seq.{length-take-le, take_at, drop_at}
 use borrow.Rule.Slice.PartMut.{mid_of, post_of, put_mid}
 use Rattle.plain.specs.Slices.{slice}
-use Rattle.unification.specs.Bindings.{State}
 use Rattle.unification.proofs.Tests.{clash}
 use Rattle.cells.specs.declared.Ty.{Ty}
-use Rattle.cells.specs.Stands.{Rows, tree, Ok, Holds}
+use Rattle.cells.specs.Stands.{tree}
 use Rattle.writer.specs.declared.Wrote.TheVariants.{To}
 use Rattle.writer.specs.Writes.{placed, Writes}
 use Rattle.plain_theory.specs.Plain as Theory
@@ -22,10 +21,9 @@ use Rattle.plain_theory.specs.Words.{bindings_spelled}
 use Rattle.plain_theory.proofs.Words.{needs_words}
 use Rattle.plain_theory.proofs.Runs.{solve_full}
 use Rattle.plain.specs.declared.Plain.{Plain}
-use Rattle.plain.specs.declared.Plain.TheVariants.{Success, Failure, TooFew}
+use Rattle.plain.specs.declared.Plain.TheVariants.{TooFew}
 use Rattle.plain.specs.Stages.{Gives, Runs}
 use Rattle.spelling.specs.declared.Staged.{Staged}
-use Rattle.spelling.specs.declared.Staged.TheVariants as Staged
 use Rattle.spelling.specs.Tokens.{spelled_stage, Starts}
 use Rattle.spelling.proofs.Staging.{start_needs}
 use Rattle.solver.specs.Promises.{RunsHalves, RunsEngine}

@@ -1,10 +1,10 @@
 -- The whole question: shut out where a side is not admitted, else as the engine ends; and what then stands in the lent slice.
 use mathlib.Core.Bool.{Bool, true, false}
-use mathlib.Core.List.{List, [], ◌∷◌, ◌++◌, append-nil}
+use mathlib.Core.List.{List, [], ◌++◌, append-nil}
 use mathlib.Core.Path.{◌≡◌, refl, sym, ap, ◌∙◌}
-use Prim.Native.Nat.{ℕ, ◌+◌, ◌-◌, ◌≤◌, ◌<◌}
+use Prim.Native.Nat.{ℕ, ◌-◌, ◌≤◌, ◌<◌}
 use native.Mathlib.Omega.{arith}
-use lib.ListN.{length, take, drop, replicate, length-append, length-replicate, drop_of_length-le}
+use lib.ListN.{length, take, replicate, length-replicate, drop_of_length-le}
 use lib.Seq.{take_all}
 use borrow.Rule.Slice.PartMut.{mid_of, post_of, put_mid, Post-is, mid_len}
 use Rattle.plain.specs.Slices.{slice}
@@ -19,12 +19,11 @@ use Rattle.admitted.proofs.Passing.{holds_settled, good_tells}
 use Rattle.plain_theory.specs.Plain.{start, solved, failed, full}
 use Rattle.plain_theory.specs.Plain as Theory
 use Rattle.plain_theory.specs.Solve.{solve}
-use Rattle.plain_theory.specs.Answer as Answer
-use Rattle.plain_theory.specs.Answer.{answer, of}
+use Rattle.plain_theory.specs.Answer.{of}
 use Rattle.plain_theory.specs.Words.{bindings_spelled}
 use Rattle.plain_theory.proofs.Answers.{shut_out_exactly, admitted_answer}
 use Rattle.plain.specs.declared.Plain.{Plain}
-use Rattle.plain.specs.declared.Plain.TheVariants.{Success, Failure, ShutOut, TooFew}
+use Rattle.plain.specs.declared.Plain.TheVariants.{Success, ShutOut}
 use Rattle.plain.specs.Stages.{Gives}
 use Rattle.solver.specs.Promises.{RunsEngine, Left, Solves}
 

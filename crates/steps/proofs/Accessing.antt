@@ -26,11 +26,9 @@ use Rattle.meaning.specs.Check.{Checker, Does, goes, reject_ty, key_ty, value_ty
 use Rattle.meaning.specs.Grades.{unknowns}
 use Rattle.meaning.proofs.Visits.{key_declared}
 use Rattle.messages.specs.declared.Message.{Message}
-use Rattle.messages.specs.declared.Message.TheVariants as Message
 use Rattle.messages.specs.Said.{said, OkMessage}
 use Rattle.state.specs.Runs.{Runs}
 use Rattle.steps.specs.declared.Typed.{Typed}
-use Rattle.steps.specs.declared.Typed.TheVariants as Typed
 use Rattle.steps.specs.Promises.{nodes_of, Fine, OnType}
 use Rattle.steps.specs.Outside.{key_ty_w, value_ty_w, RejectsTy, FieldIs, Shadows, ValueOf, FieldAt, KeyOf, SelectOf}
 use Rattle.steps.proofs.Looking.{key_stands, key_ok, value_stands, value_ok}

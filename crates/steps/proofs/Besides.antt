@@ -19,10 +19,7 @@ use Rattle.work.specs.Layout.{RECORD-COUNT, RECORD-FIELD-COUNT, ENV-LEN, MARK-CO
 use Rattle.cells.specs.declared.Ty.{Ty}
 use Rattle.cells.specs.declared.Ty.TheVariants.{Str}
 use Rattle.cells.specs.declared.TyError.{TyError}
-use Rattle.cells.specs.declared.TyError.TheVariants as TyError
 use Rattle.cells.specs.declared.Unified.{Unified}
-use Rattle.cells.specs.declared.Unified.TheVariants as Unified
-use Rattle.cells.specs.Words.{pick}
 use Rattle.cells.specs.Stands.{Rows, tree, Ok, Keeps}
 use Rattle.cells.specs.Promises as Cells
 use Rattle.cells.specs.Promises.{error_of, OkError, RollsBack, Unifies}
@@ -39,7 +36,6 @@ use Rattle.unification.specs.Calls.{Entry}
 use Rattle.unification.proofs.Tests.{clash}
 use Rattle.unification.specs.Bindings.{Subst}
 use Rattle.messages.specs.declared.Message.{Message}
-use Rattle.messages.specs.declared.Message.TheVariants as Message
 use Rattle.messages.specs.Said.{said, OkMessage}
 use Rattle.state.specs.Lines.{Rejected, entered_w, sides_w, Sides, AtEntry, Enters, enters, enters_before, stops_here}
 use Rattle.state.proofs.Arriving.{goes_past, still_not, stops_there, entered_keeps, entered_runs, entered_grew, entered_told, stopped_runs, stopped_grew}
@@ -51,7 +47,6 @@ use Rattle.state.specs.Words.{leave_w}
 use Rattle.state.proofs.Lining.{told_same}
 use Rattle.state.proofs.Lined.{keeps_unlined}
 use Rattle.state.specs.declared.Done.{Done}
-use Rattle.state.specs.declared.Done.TheVariants as Done
 use Rattle.steps.specs.declared.Typed.TheVariants as Typed
 use Rattle.steps.specs.Ends.{done, silent, unified, Gone, Ends, went, spent}
 use Rattle.steps.specs.Loads.{Load, only, both, FitsIn, Begins, Beside}

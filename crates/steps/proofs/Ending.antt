@@ -1,8 +1,8 @@
 -- How the steps outside of the cycle end: at once with a type in hand, or after one diagnostic. The room for it is the load's.
 use mathlib.Core.Bool.{false}
-use mathlib.Core.List.{List, [], ◌∷◌}
+use mathlib.Core.List.{List, ◌∷◌}
 use mathlib.Core.Option.{Option, none, some}
-use mathlib.Core.Path.{◌≡◌, refl, sym, subst, ◌∙◌, ap}
+use mathlib.Core.Path.{◌≡◌, refl, sym, ◌∙◌, ap}
 use native.Mathlib.Omega.{arith}
 use Prim.Native.Nat.{ℕ, ◌<◌}
 use lib.ListN.{length, get_or}
@@ -27,15 +27,13 @@ use Rattle.messages.specs.declared.Message.{Message}
 use Rattle.messages.specs.Said.{said, OkMessage}
 use Rattle.state.specs.Words.{Introduces}
 use Rattle.state.specs.declared.Done.{Done}
-use Rattle.state.specs.declared.Done.TheVariants as Done
 use Rattle.state.specs.Lines.{Told, until_w, Rejected}
 use Rattle.state.proofs.Running.{grew_refl, annotate_runs, grew_slots, fresh_word, fresh_runs, fresh_grew}
 use Rattle.state.proofs.Scoping.{runs_env_length, runs_marks_length, Gives, introduce_runs}
 use Rattle.state.proofs.Lining.{told_same}
 use Rattle.state.proofs.Lined.{rejected_runs, rejected_grew, rejected_on, rejected_out}
 use Rattle.steps.specs.declared.Typed.{Typed}
-use Rattle.steps.specs.declared.Typed.TheVariants as Typed
-use Rattle.steps.specs.Ends.{typed, done, silent, numbered, Ends, went, spent}
+use Rattle.steps.specs.Ends.{typed, done, numbered, Ends, went, spent}
 use Rattle.steps.specs.Loads.{Load, only, Begins}
 use Rattle.steps.specs.Promises.{nodes_of, Rejects, Notes, Freshens, Brings}
 use Rattle.steps.specs.Outside.{RejectsTy}

@@ -12,7 +12,6 @@ use Rattle.unification.proofs.Tests.{clash}
 use Rattle.meaning.specs.Syntax.{Field, destructurable_kind}
 use Rattle.meaning.specs.Check.{Form, a_wildcard, a_variable, a_constant, a_record, a_disjunction, an_error, another, form_of}
 use Rattle.tree.specs.declared.Node.{Node}
-use Rattle.tree.specs.declared.Node.TheVariants as Node
 use Rattle.tree.specs.Nodes.{kind_w}
 use Rattle.tree.specs.contracts.Node.{the_type}
 

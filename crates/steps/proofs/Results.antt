@@ -16,9 +16,7 @@ use Rattle.cells.specs.Inferred.{More}
 use Rattle.state.specs.Lines.{Told}
 use Rattle.state.specs.Runs.{Runs, Grew}
 use Rattle.steps.specs.declared.Typed.{Typed}
-use Rattle.steps.specs.declared.Typed.TheVariants as Typed
 use Rattle.state.specs.declared.Done.{Done}
-use Rattle.state.specs.declared.Done.TheVariants as Done
 use Rattle.steps.specs.Ends.{Result, IsTyped, typed, done, silent, numbered, Gone, Ends, went, spent}
 use Rattle.steps.specs.Loads.{Load, both, FitsIn, Begins}
 use Rattle.steps.specs.Promises.{Fine, only_w, typed_after}

@@ -5,7 +5,6 @@ use mathlib.Core.Path.{◌≡◌, refl, ◌∙◌, ap}
 use Prim.Native.Nat.{ℕ, ◌+◌, ◌≤◌}
 use native.Mathlib.Omega.{arith}
 use lib.ListN.{length, length-append}
-use Rattle.unification.specs.Ty as Tree
 use Rattle.unification.proofs.Undo.{since_length}
 use Rattle.cells.specs.Stands.{Rows}
 use Rattle.meaning.specs.File.{Described}
@@ -14,8 +13,6 @@ use Rattle.meaning.specs.Grades.{Grade, unknowns, Ready}
 use Rattle.meaning.proofs.Meets.{Made, Went, Meets, going, ready_fits, ready_after}
 use Rattle.state.specs.Runs.{Runs, Grew}
 use Rattle.state.specs.Lines.{Told}
-use Rattle.steps.specs.declared.Typed.TheVariants as Typed
-use Rattle.state.specs.declared.Done.TheVariants as Done
 use Rattle.steps.specs.Ends.{Result, Gone, Ends, went, spent}
 use Rattle.steps.specs.Loads.{Load, both, FitsIn, Free, Begins}
 use Rattle.cells.proofs.Frame.{more_refl}

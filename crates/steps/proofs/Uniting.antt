@@ -12,9 +12,7 @@ use Rattle.unification.proofs.Tests.{clash}
 use Rattle.cells.specs.declared.Ty.{Ty}
 use Rattle.cells.specs.declared.TyError.{TyError}
 use Rattle.cells.specs.declared.Asked.{Asked}
-use Rattle.cells.specs.declared.Asked.TheVariants as Asked
 use Rattle.cells.specs.declared.Unified.{Unified}
-use Rattle.cells.specs.declared.Unified.TheVariants as Unified
 use Rattle.cells.specs.Stands.{Rows, tree}
 use Rattle.cells.specs.Promises.{error_of, OkError, answer_of, IsOrderable}
 use Rattle.cells.proofs.Frame.{more_refl, keeps_refl}
@@ -30,7 +28,6 @@ use Rattle.state.specs.Lines.{Rejected}
 use Rattle.state.specs.Runs.{Runs}
 use Rattle.state.proofs.Running.{runs_slots}
 use Rattle.state.specs.declared.Done.{Done}
-use Rattle.state.specs.declared.Done.TheVariants as Done
 use Rattle.steps.specs.Ends.{IsUnified, unified, done, silent, Gone, Ends, spent}
 use Rattle.steps.specs.Loads.{only, both, FitsIn, Begins}
 use Rattle.steps.specs.Promises.{Fine, UnifiesTo, UnifiesOutside, compare_types, UnifiesAt, ComparesTypes}

@@ -17,14 +17,12 @@ use Rattle.meaning.proofs.Depth.{lower_falls, destructurable_is}
 use Rattle.tree.specs.declared.Items.{Items}
 use Rattle.tree.specs.declared.Field.{Field}
 use Rattle.tree.specs.declared.Node.{Node}
-use Rattle.tree.specs.declared.Node.TheVariants as Node
 use Rattle.tree.specs.Nodes.{field_w, field_of, fields_from, kind_w, LowerItems, IsNode}
 use Rattle.tree.specs.contracts.Node.{the_type}
 use Rattle.tree.proofs.Lowering.{lower_below}
 use Rattle.messages.specs.declared.Message.TheVariants as Message
 use Rattle.state.specs.Words.{Introduces}
 use Rattle.state.specs.declared.Done.{Done}
-use Rattle.state.specs.declared.Done.TheVariants as Done
 use Rattle.state.specs.Lines.{Rejected}
 use Rattle.state.specs.Runs.{Runs}
 use Rattle.steps.specs.Ends.{silent, numbered, Ends, went, spent}

@@ -7,7 +7,6 @@ use Rattle.unification.specs.Unify as Unify
 use Rattle.cells.specs.declared.Ty.{Ty}
 use Rattle.cells.specs.declared.TyError.{TyError}
 use Rattle.cells.specs.declared.Unified.{Unified}
-use Rattle.cells.specs.declared.Unified.TheVariants as Unified
 use Rattle.cells.specs.Stands.{Rows, tree, Ok}
 use Rattle.cells.specs.Promises.{IsError}
 use Rattle.meaning.specs.File.{Described}
@@ -16,9 +15,7 @@ use Rattle.cells.specs.Inferred.{More}
 use Rattle.state.specs.Runs.{Runs, Grew}
 use Rattle.state.specs.Lines.{Told, AtEntry}
 use Rattle.steps.specs.declared.Typed.{Typed}
-use Rattle.steps.specs.declared.Typed.TheVariants as Typed
 use Rattle.state.specs.declared.Done.{Done}
-use Rattle.state.specs.declared.Done.TheVariants as Done
 
 -- ---- What the code gives back
 

@@ -3,11 +3,9 @@
 use Rattle.std.specs.Prelude.{Bool, true, false, List, ◌≡◌, ℕ, ◌+◌, ◌*◌, ◌/◌, ◌%◌, ◌<◌, eqb, ltb, length, get_or, set}
 use Rattle.work.specs.Layout.{PREDICATE-COUNT, MAX-DISTANCE, MAX-TERM, NAMES, PREDICATES, RECORD-COUNT, RECORD-FIELD-COUNT, ENV-LEN, DIAGNOSTIC-COUNT, UNKNOWNS, MARK-COUNT, UNUSED-COUNT, TYS, UNDO-LEN}
 use Rattle.cells.specs.declared.Ty.{Ty}
-use Rattle.cells.specs.declared.Ty.TheVariants as Ty
 use Rattle.cells.specs.declared.Bound.{Bound}
 use Rattle.cells.specs.declared.Bound.TheVariants.{To, Free}
 use Rattle.cells.specs.declared.TyError.{TyError}
-use Rattle.cells.specs.declared.TyError.TheVariants as TyError
 use Rattle.cells.specs.Words.{pick, declared_w}
 use Rattle.cells.specs.Stands.{Rows, tree, bound_tree, Ok, OkBound, Cells, Keeps}
 use Rattle.cells.specs.Promises.{RollsBack}
@@ -17,13 +15,11 @@ use Rattle.meaning.specs.Check as Check
 use Rattle.meaning.specs.Check.{Checker}
 use Rattle.meaning.specs.Grades.{one_diagnostic}
 use Rattle.messages.specs.declared.Message.{Message}
-use Rattle.messages.specs.declared.Message.TheVariants as Message
 use Rattle.state.specs.Lines.{Rejected}
 use Rattle.state.specs.Runs.{Runs}
 use Rattle.steps.specs.declared.Mark.{Mark}
 use Rattle.steps.specs.declared.Typed.{Typed}
 use Rattle.state.specs.declared.Done.{Done}
-use Rattle.state.specs.declared.Done.TheVariants as Done
 use Rattle.state.specs.declared.Until.{Until}
 use Rattle.steps.specs.Ends.{done}
 use Rattle.steps.specs.Loads.{only, Beside}

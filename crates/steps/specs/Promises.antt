@@ -28,9 +28,7 @@ use Rattle.cells.specs.Promises.{error_of, OkError}
 use Rattle.tree.specs.declared.Items.{Items}
 use Rattle.tree.specs.Nodes.{fields_from}
 use Rattle.steps.specs.declared.Typed.{Typed}
-use Rattle.steps.specs.declared.Typed.TheVariants as Typed
 use Rattle.state.specs.declared.Done.{Done}
-use Rattle.state.specs.declared.Done.TheVariants as Done
 use Rattle.steps.specs.Ends.{typed, done, silent, numbered, unified}
 use Rattle.steps.specs.Loads.{only, Beside}
 

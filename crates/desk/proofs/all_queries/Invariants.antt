@@ -1,0 +1,12 @@
+-- `desk::all_queries` meets its contract, query by query (Telling.antt). The measure is what is left of the file.
+use Prim.Native.Nat.{◌-◌}
+use mathlib.Core.Path.{◌≡◌}
+use lib.ListN.{length}
+use Rattle.desk.proofs.Telling.{Midway}
+use Rattle.desk.proofs.all_queries.Given as goal
+
+abbrev pub invariant-loop-at : goal.invariant-loop-at
+invariant-loop-at l = (length l.out ≡ length l.initial.out) × Midway l.file l.initial.charged l.initial.work l.initial.out l.work l.out l.at l.k l.page l.charged
+
+abbrev pub decreases-loop-at : goal.decreases-loop-at
+decreases-loop-at l = length l.file - l.at

@@ -1,0 +1,14 @@
+-- `lamp::look` meets its contract: the reading, and then the queries of what was read.
+use borrow.Author.Rules.{rules}
+use Rattle.desk.proofs.Deciding.{read_small}
+use Rattle.lamp.proofs.Looking.{not_read, was_read}
+use Rattle.lamp.proofs.look.Goals as goal
+
+pub ask-requires : goal.ask-requires
+ask-requires c = read_small _ _ _ _ c.read_file-r.ensures c.in-Accepted.is
+
+pub returns-in-Refused : goal.returns-in-Refused
+returns-in-Refused c = not_read c.read_file-r.ensures c.in-Refused.is
+
+pub returns-in-Accepted : goal.returns-in-Accepted
+returns-in-Accepted c = was_read c.read_file-r.ensures c.in-Accepted.is c.ask.ensures (search rules)
