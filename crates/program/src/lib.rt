@@ -1,7 +1,7 @@
 // The programs but for their `main`: what is printed for a file, and the reading and writing around it. A `main` gives standard input.
 #![tactic(auto)]
 
-ghost use Rattle.std.specs.Prelude.{◌≡◌, ◌≤◌, length};
+ghost use Rattle.std.specs.Prelude.{◌≡◌, ◌++◌, ◌≤◌, drop, length};
 ghost use Rattle.meaning.specs.Outcome.{min_words};
 ghost use Rattle.desk.specs.Promises.{Finishes};
 ghost use Rattle.program.specs.Promises.{decided_by, Prints, PrintsLamp};
@@ -28,6 +28,16 @@ fn done(job: Job, file: &[u8], work: &mut [u32], out: &mut [u8]) -> Outcome
     }
 }
 
+// Puts the line at the start of `out`, and gives its length.
+fn copy(line: &[u8], out: &mut [u8]) -> usize
+    requires { length line.now ≤ length out.old }
+    ensures length { result ≡ length line.now }
+    ensures written { out.new ≡ line.now ++ drop (length line.now) out.old }
+{
+    out[..line.len()].copy_from_slice(line);
+    line.len()
+}
+
 // What is to be printed for the file stands at the start of `out`, and how long it is comes back.
 pub fn printed(job: Job, file: &[u8], work: &mut [u32; 16384], out: &mut [u8; 65536]) -> usize
     ensures prints { Prints (decided_by job file.now min_words) work.new out.new result }
@@ -38,8 +48,7 @@ pub fn printed(job: Job, file: &[u8], work: &mut [u32; 16384], out: &mut [u8; 65
         Outcome::Accepted(n) => n,
         Outcome::Refused(e) => {
             let line = desk::refusal_line(e);
-            out[..line.len()].copy_from_slice(&line);
-            line.len()
+            copy(&line, out)
         }
     }
 }
