@@ -4,5 +4,5 @@
 use program::Job;
 
 fn main(rt: HostRuntime) {
-    program::run(&rt, Job::Narrow);
+    program::run(&rt, &mut rt.stdin(), Job::Narrow);
 }

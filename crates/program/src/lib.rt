@@ -1,14 +1,14 @@
-// The programs but for their `main`: what is printed for a file, and the reading and writing around it.
+// The programs but for their `main`: what is printed for a file, and the reading and writing around it. A `main` gives standard input.
 #![tactic(auto)]
 
-ghost use Rattle.std.specs.Prelude.{◌≡◌, ◌≤◌, length};
+ghost use Rattle.std.specs.Prelude.{◌≡◌, ◌++◌, ◌≤◌, drop, length};
 ghost use Rattle.meaning.specs.Outcome.{min_words};
 ghost use Rattle.desk.specs.Promises.{Finishes};
 ghost use Rattle.program.specs.Promises.{decided_by, Prints, PrintsLamp};
 
 use desk::Outcome;
 use input::Input;
-use std::io;
+use std::io::Read;
 
 // What a program does with its file.
 #[derive(Drop)]
@@ -28,6 +28,16 @@ fn done(job: Job, file: &[u8], work: &mut [u32], out: &mut [u8]) -> Outcome
     }
 }
 
+// Puts the line at the start of `out`, and gives its length.
+fn copy(line: &[u8], out: &mut [u8]) -> usize
+    requires { length line.now ≤ length out.old }
+    ensures length { result ≡ length line.now }
+    ensures written { out.new ≡ line.now ++ drop (length line.now) out.old }
+{
+    out[..line.len()].copy_from_slice(line);
+    line.len()
+}
+
 // What is to be printed for the file stands at the start of `out`, and how long it is comes back.
 pub fn printed(job: Job, file: &[u8], work: &mut [u32; 16384], out: &mut [u8; 65536]) -> usize
     ensures prints { Prints (decided_by job file.now min_words) work.new out.new result }
@@ -38,8 +48,7 @@ pub fn printed(job: Job, file: &[u8], work: &mut [u32; 16384], out: &mut [u8; 65
         Outcome::Accepted(n) => n,
         Outcome::Refused(e) => {
             let line = desk::refusal_line(e);
-            out[..line.len()].copy_from_slice(&line);
-            line.len()
+            copy(&line, out)
         }
     }
 }
@@ -53,12 +62,12 @@ pub fn lamp_line(file: &[u8], work: &mut [u32; 16384]) -> [u8; 5]
     lamp::line(s)
 }
 
-// One byte more is read than a file may have, so that a longer input is refused.
-pub fn run(rt: &(impl io::Input + Print + Eprint), job: Job) {
+// What `from` gives is the file. One byte more is read than a file may have, so that a longer one is refused.
+pub fn run(rt: &(impl Print + Eprint), from: &mut impl Read, job: Job) {
     let mut file = [0u8; 65537];
     let mut work = [0u32; 16384];
     let mut out = [0u8; 65536];
-    match input::read_all(&mut rt.reader(), &mut file) {
+    match input::read_all(from, &mut file) {
         Input::Failed => tell(rt, "reading standard input failed"),
         Input::Bytes(n) => {
             let m = printed(job, &file[0..n], &mut work, &mut out);
@@ -67,11 +76,11 @@ pub fn run(rt: &(impl io::Input + Print + Eprint), job: Job) {
     }
 }
 
-// The lamp of standard input.
-pub fn run_lamp(rt: &(impl io::Input + Print + Eprint)) {
+// The lamp of the file that `from` gives.
+pub fn run_lamp(rt: &(impl Print + Eprint), from: &mut impl Read) {
     let mut file = [0u8; 65537];
     let mut work = [0u32; 16384];
-    match input::read_all(&mut rt.reader(), &mut file) {
+    match input::read_all(from, &mut file) {
         Input::Failed => tell(rt, "reading standard input failed"),
         Input::Bytes(n) => write(rt, &lamp_line(&file[0..n], &mut work)),
     }

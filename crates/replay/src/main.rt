@@ -83,18 +83,18 @@ fn report(rt: &impl Print, cases: u64, otherwise: u64) -> io::Result<()> {
     println!(rt; "{cases} cases, {otherwise} answered otherwise")
 }
 
-fn replay(
-    rt: &(impl io::Input + Print),
+fn replay<R: Read>(
+    rt: &impl Print,
+    from: &mut R,
     file: &mut [u8],
     printed: &mut [u8],
     work: &mut [u32; 16384],
     out: &mut [u8; 65536],
 ) -> io::Result<()> {
-    let mut from = rt.reader();
     let mut cases: u64 = 0;
     let mut otherwise: u64 = 0;
     while cases < 65536 {
-        match next_case(&mut from, file, printed, work, out) {
+        match next_case(from, file, printed, work, out) {
             Case::Same => {}
             Case::Otherwise => {
                 otherwise = otherwise.wrapping_add(1);
@@ -111,5 +111,12 @@ fn main(rt: HostRuntime) -> io::Result<()> {
     let mut printed = [0u8; 2048];
     let mut work = [0u32; 16384];
     let mut out = [0u8; 65536];
-    replay(&rt, &mut file, &mut printed, &mut work, &mut out)
+    replay(
+        &rt,
+        &mut rt.stdin(),
+        &mut file,
+        &mut printed,
+        &mut work,
+        &mut out,
+    )
 }

@@ -6,11 +6,11 @@ ghost use Rattle.std.specs.Prelude.{◌≤◌, length};
 
 use input::Input;
 use std::env::Env;
-use std::fs::{File, Files};
+use std::fs::{Files, OpenOptions};
 use std::str;
 
 // A file that is not named, that can't be opened or of which a read fails counts as empty.
-fn read_named(rt: &(impl Env + Files), i: usize, into: &mut [u8]) -> usize
+fn read_named(rt: &HostRuntime, i: usize, into: &mut [u8]) -> usize
     ensures { result ≤ length into.new }
 {
     let mut path = [0u8; 4096];
@@ -20,7 +20,7 @@ fn read_named(rt: &(impl Env + Files), i: usize, into: &mut [u8]) -> usize
     let Ok(name) = str::from_utf8(&path[..n]) else {
         return 0;
     };
-    let Ok(mut file) = File::open(rt, name) else {
+    let Ok(mut file) = rt.open_file(OpenOptions::new().read(true), name) else {
         return 0;
     };
     match input::read_all(&mut file, into) {

@@ -8,6 +8,7 @@ use input::Input;
 use inspect::Inspected;
 use std::env::Env;
 use std::io;
+use std::io::Read;
 use work::word;
 
 // What an argument says in decimal digits.
@@ -40,7 +41,7 @@ fn read_number(text: &[u8]) -> Number {
     Number::Is(n as u32)
 }
 
-fn argument(rt: &impl Env) -> Number {
+fn argument(rt: &HostRuntime) -> Number {
     let mut text = [0u8; 4096];
     match rt.arg(1, &mut text) {
         Ok(n) => read_number(&text[..n]),
@@ -185,11 +186,11 @@ fn tell(rt: &impl Eprint, line: &str) {
 }
 
 // One byte more is read than a file may have, so that a longer input is refused.
-fn run(rt: &(impl io::Input + Print + Eprint), n: u32) {
+fn run(rt: &(impl Print + Eprint), from: &mut impl Read, n: u32) {
     let mut file = [0u8; 65537];
     let mut work = [0u32; 16384];
     let mut lent = [0u32; 65536];
-    match input::read_all(&mut rt.reader(), &mut file) {
+    match input::read_all(from, &mut file) {
         Input::Failed => tell(rt, "reading standard input failed"),
         Input::Bytes(m) => {
             let r = inspect::inspect(&file[0..m], n, &mut work, &mut lent);
@@ -202,7 +203,7 @@ fn run(rt: &(impl io::Input + Print + Eprint), n: u32) {
 
 fn main(rt: HostRuntime) {
     match argument(&rt) {
-        Number::Is(k) => run(&rt, k),
+        Number::Is(k) => run(&rt, &mut rt.stdin(), k),
         Number::Not => tell(&rt, "usage: sigla_inspect NUMBER < FILE"),
     }
 }

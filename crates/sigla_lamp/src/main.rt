@@ -2,5 +2,5 @@
 #![tactic(auto)]
 
 fn main(rt: HostRuntime) {
-    program::run_lamp(&rt);
+    program::run_lamp(&rt, &mut rt.stdin());
 }

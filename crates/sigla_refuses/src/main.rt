@@ -4,5 +4,5 @@
 use program::Job;
 
 fn main(rt: HostRuntime) {
-    program::run(&rt, Job::Check);
+    program::run(&rt, &mut rt.stdin(), Job::Check);
 }
