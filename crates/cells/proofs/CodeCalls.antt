@@ -28,7 +28,6 @@ use Rattle.cells.specs.declared.Ty.TheVariants.{Int, Str, Bytes, Fact, Record, U
 use Rattle.cells.specs.declared.Kind.{Kind}
 use Rattle.cells.specs.declared.Kind.TheVariants.{Fields, Alternatives}
 use Rattle.cells.specs.declared.Unified.{Unified}
-use Rattle.cells.specs.declared.Unified.TheVariants as Unified
 use Rattle.cells.specs.Words.{declared_w, made_field, fresh_w}
 use Rattle.cells.specs.Inferred.{new_record_w, new_record_ty, row_made, rows_with, Filled}
 use Rattle.cells.specs.Stands.{Rows, tree, bound_tree, tag_of, IsCell, declared, made, Ok, Holds}

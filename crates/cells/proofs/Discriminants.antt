@@ -4,7 +4,7 @@ use mathlib.Core.Bool.{Bool, true, false}
 use mathlib.Core.List.{List, [], ◌∷◌}
 use mathlib.Core.Path.{◌≡◌, refl, sym, ◌∙◌, ap}
 use native.Mathlib.Omega.{arith}
-use Prim.Native.Nat.{ℕ, zero, suc, ◌+◌, ◌-◌, ◌<◌, ◌≤◌, min}
+use Prim.Native.Nat.{ℕ, zero, suc, ◌+◌, ◌<◌, ◌≤◌, min}
 use lib.Dec.{eqb, ltb}
 use lib.ListN.{get_or}
 use borrow.Author.Tests.{lt-ltb, le-ltb, ltb-true, ltb-false, eqb-true, eqb-false}
@@ -14,7 +14,6 @@ use Rattle.unification.proofs.Tests.{clash}
 use Rattle.cells.specs.declared.Kind.TheVariants.{Alternatives}
 use Rattle.cells.specs.declared.Part.{Part}
 use Rattle.cells.specs.declared.Next.{Next}
-use Rattle.cells.specs.declared.Next.TheVariants as Next
 use Rattle.cells.specs.Words.{pick, count_w, alternative_w, part_w, lesser, lower_w}
 use Rattle.cells.specs.Stands.{Rows, row_from, row_w, IsCell, Cells}
 use Rattle.cells.specs.Promises.{least_from, KeysBelow, NotBelow, Lowers, LeastFrom, Passed}

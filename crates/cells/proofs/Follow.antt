@@ -11,7 +11,6 @@ use borrow.Author.Tests.{lt-ltb, le-ltb, ne_eqb}
 use lib.ListN.{length, get_or}
 use types.Run.{OneOf, miss}
 use denote.Enum.Declared.{tag_of}
-use Rattle.unification.specs.Ty as Tree
 use Rattle.unification.specs.Bindings.{Subst, bound, follow, repr}
 use Rattle.work.specs.Layout.{UNKNOWNS, BINDINGS}
 use Rattle.cells.specs.declared.Ty.{Ty}

@@ -26,7 +26,6 @@ use Rattle.cells.specs.declared.Ty.{Ty}
 use Rattle.cells.specs.declared.Ty.TheVariants.{Int, Str, Bytes, Fact, Record, Union, Var, Error}
 use Rattle.cells.specs.declared.Asked.{Asked}
 use Rattle.cells.specs.declared.Asked.TheVariants.{Yes, No}
-use Rattle.cells.specs.declared.Asked.TheVariants as Asked
 use Rattle.cells.specs.declared.TyError.TheVariants.{Mismatch, Infinite}
 use Rattle.cells.specs.declared.Unified.{Unified}
 use Rattle.cells.specs.declared.Unified.TheVariants.{Good, Bad, Spent}

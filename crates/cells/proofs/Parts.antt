@@ -1,7 +1,6 @@
 -- The parts of a cell one by one: the row from number j on is the part at j and the row from j + 1 on. A loop that looks for the
 -- first part of a kind keeps that what is sought in the row is what is sought in the rest of it.
 use mathlib.Core.List.{List}
-use mathlib.Core.Option.{none}
 use mathlib.Core.Path.{◌≡◌, refl, sym, ◌∙◌, ap}
 use native.Mathlib.Nat.{sub-zero}
 use native.Mathlib.Omega.{arith}
@@ -17,7 +16,6 @@ use Rattle.cells.specs.declared.Kind.TheVariants.{Alternatives}
 use Rattle.cells.specs.declared.Part.{Part}
 use Rattle.cells.specs.declared.Found.TheVariants as Found
 use Rattle.cells.specs.declared.Place.{Place}
-use Rattle.cells.specs.declared.Place.TheVariants as Place
 use Rattle.cells.specs.Words.{count_w, part_w}
 use Rattle.cells.specs.Stands.{Rows, tree, row_from, row_w, IsCell, Ok, Cells}
 use Rattle.cells.specs.Promises.{part_at, FindsKey, FindsName, Passed}

@@ -3,7 +3,7 @@
 use mathlib.Core.Bool.{Bool, true, false}
 use mathlib.Core.List.{List, [], ◌∷◌}
 use mathlib.Core.Logic.{◌⊎◌, inl, inr, ⊎_elim, ◌↔◌}
-use mathlib.Core.Path.{◌≡◌, refl, sym}
+use mathlib.Core.Path.{◌≡◌, refl}
 use Prim.Native.Nat.{ℕ, suc, ◌<◌, ◌≤◌}
 use native.Mathlib.Decide.{dec_le}
 use native.Mathlib.Omega.{arith}
@@ -13,7 +13,6 @@ use Rattle.unification.specs.Ty.{Row, ε, cell}
 use Rattle.unification.specs.Unify.{insert_once, with_keys, discriminants}
 use Rattle.cells.specs.declared.Kind.TheVariants.{Alternatives}
 use Rattle.cells.specs.declared.Next.{Next}
-use Rattle.cells.specs.declared.Next.TheVariants as Next
 use Rattle.cells.specs.Words.{pick, lesser, lower_w}
 use Rattle.cells.specs.Stands.{Rows, IsCell, Cells}
 use Rattle.cells.specs.Promises.{least_from, KeysBelow, NextFrom}

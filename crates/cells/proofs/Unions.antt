@@ -8,7 +8,7 @@ use mathlib.Core.Path.{◌≡◌, refl, sym, ◌∙◌, ap}
 use Prim.Native.Nat.{ℕ, ◌+◌, ◌-◌, ◌<◌, ◌≤◌}
 use native.Mathlib.Omega.{arith}
 use lib.Dec.{eqb}
-use lib.ListN.{length, get_or}
+use lib.ListN.{get_or}
 use borrow.Author.Tests.{eq-eqb, ne_eqb, eqb-false}
 use types.Run.{OneOf, miss}
 use denote.Enum.Declared.{tag_of}
@@ -26,14 +26,13 @@ use Rattle.cells.specs.declared.Part.{Part}
 use Rattle.cells.specs.declared.Found.{Found}
 use Rattle.cells.specs.declared.Found.TheVariants.{At, Nothing}
 use Rattle.cells.specs.declared.Next.{Next}
-use Rattle.cells.specs.declared.Next.TheVariants as Next
 use Rattle.cells.specs.declared.UnionDiff.{UnionDiff}
 use Rattle.cells.specs.declared.UnionDiff.TheVariants.{Absent, Renamed, Payload}
 use Rattle.cells.specs.declared.TyError.{TyError}
 use Rattle.cells.specs.declared.TyError.TheVariants.{UnionMismatch}
 use Rattle.cells.specs.declared.Unified.{Unified}
 use Rattle.cells.specs.declared.Unified.TheVariants.{Good, Bad, Spent}
-use Rattle.cells.specs.Stands.{Rows, tree, IsCell, Ok, Holds, Keeps}
+use Rattle.cells.specs.Stands.{Rows, tree, IsCell, Holds, Keeps}
 use Rattle.cells.specs.Promises.{found_part, FindsKey, NextFrom, diff_of, Ends, unifier, differs, UnifiesUnion, UnifiesAlternative, UnifiesPayload}
 use Rattle.cells.specs.Promises.{Unifies}
 use Rattle.cells.specs.contracts.Unified.{the_type}

@@ -15,7 +15,6 @@ use Rattle.cells.specs.declared.Kind.TheVariants.{Fields, Alternatives}
 use Rattle.cells.specs.declared.Bound.TheVariants.{Free}
 use Rattle.cells.specs.declared.TyError.{TyError}
 use Rattle.cells.specs.declared.Unified.{Unified}
-use Rattle.cells.specs.declared.Unified.TheVariants as Unified
 use Rattle.cells.specs.Words.{declared_w, slot_w, fresh_w, annotate_w}
 use Rattle.cells.specs.Stands.{Rows, tree, IsCell, Ok, Holds}
 use Rattle.cells.specs.Inferred.{reserve_w, put_field_w, new_record_w, Reserved, Filled, rows_with}

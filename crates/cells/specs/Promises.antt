@@ -11,23 +11,16 @@ use Rattle.unification.specs.Unify.{find_key, find_label}
 use Rattle.unification.specs.Acyclic.{Acyclic}
 use Rattle.work.specs.Layout.{TYS, UNDO-LEN, END}
 use Rattle.cells.specs.declared.Ty.{Ty}
-use Rattle.cells.specs.declared.Ty.TheVariants.{Union, Var}
+use Rattle.cells.specs.declared.Ty.TheVariants.{Var}
 use Rattle.cells.specs.declared.Kind.{Kind}
 use Rattle.cells.specs.declared.Kind.TheVariants.{Fields, Alternatives}
 use Rattle.cells.specs.declared.Found.{Found}
-use Rattle.cells.specs.declared.Found.TheVariants as Found
 use Rattle.cells.specs.declared.Place.{Place}
-use Rattle.cells.specs.declared.Place.TheVariants as Place
 use Rattle.cells.specs.declared.Asked.{Asked}
-use Rattle.cells.specs.declared.Asked.TheVariants as Asked
 use Rattle.cells.specs.declared.UnionDiff.{UnionDiff}
-use Rattle.cells.specs.declared.UnionDiff.TheVariants as UnionDiff
 use Rattle.cells.specs.declared.TyError.{TyError}
-use Rattle.cells.specs.declared.TyError.TheVariants as TyError
 use Rattle.cells.specs.declared.Unified.{Unified}
-use Rattle.cells.specs.declared.Unified.TheVariants as Unified
 use Rattle.cells.specs.declared.Next.{Next}
-use Rattle.cells.specs.declared.Next.TheVariants as Next
 use Rattle.cells.specs.Words.{count_w, part_w, lower_w}
 use Rattle.cells.specs.Stands.{Rows, tree, IsCell, Ok, Cells, Binds, Holds, Keeps}
 

@@ -9,7 +9,6 @@ use Rattle.cells.specs.declared.Part.{Part}
 use Rattle.cells.specs.declared.Bound.{Bound}
 use Rattle.cells.specs.declared.Bound.TheVariants.{To, Free}
 use Rattle.cells.specs.declared.Next.{Next}
-use Rattle.cells.specs.declared.Next.TheVariants as Next
 
 abbrev pub pick {ℓ} : {A : Type ℓ} → Bool → A → A → A
 pick true a b = a

@@ -1,16 +1,14 @@
 -- The n-th entry of a file. It is refused as the full check is, its length left aside (`sought_refused`); where it is found, a list of demand 3's calls
 -- leads to it and `unify` ends there (`sought_led`); and a query's run that is to last until it ends right before it, with its sides and bindings
 -- (`stops_at`).
-use mathlib.Core.Bool.{true, false}
 use mathlib.Core.List.{List, [], ◌∷◌, ◌++◌}
 use mathlib.Core.Logic.{◌↔◌}
 use mathlib.Core.Option.{Option, none, some}
 use mathlib.Core.Path.{◌≡◌, refl, sym, ap, ◌∙◌, subst}
-use Prim.Native.Nat.{ℕ, zero, suc, ◌+◌, ◌-◌, ◌<◌, ◌≤◌}
+use Prim.Native.Nat.{ℕ, zero, suc, ◌+◌, ◌<◌, ◌≤◌}
 use native.Mathlib.Omega.{arith}
 use lib.Dec.{ltb}
-use lib.ListN.{length, replicate, length-append}
-use borrow.Author.Tests.{ltb-false}
+use lib.ListN.{length, replicate}
 use Rattle.unification.specs.Ty.{Ty}
 use Rattle.unification.specs.Calls.{Entry}
 use Rattle.unification.proofs.Tests.{clash}
@@ -21,7 +19,7 @@ use Rattle.meaning.specs.All.{All, Each}
 use Rattle.meaning.specs.File.{Form, view_of, Reading, refused, described, reading}
 use Rattle.meaning.specs.Sound.{Sound}
 use Rattle.meaning.specs.Messages.{text_in}
-use Rattle.meaning.specs.Check.{Checker, Step, goes, out, entry, begin_until, lasting, query, Typed, typed, exhausted, checked, check, reversed}
+use Rattle.meaning.specs.Check.{Checker, Step, goes, out, entry, begin_until, query, Typed, typed, checked, check, reversed}
 use Rattle.meaning.specs.Run.{EntryLed, ending, run}
 use Rattle.meaning.specs.Outcome as Outcome
 use Rattle.meaning.specs.Outcome.{min_words, max_visits, answered, decide_run, decide_read, decide, run_all}
@@ -31,7 +29,7 @@ use Rattle.meaning.proofs.Run.{sound_well_formed, run_entries}
 use Rattle.meaning.proofs.Sound.{sound}
 use Rattle.laws.proofs.Agree.{Lit, dark_goes, dark_out, shines}
 use Rattle.laws.proofs.Until.{run_until_lem}
-use Rattle.entries.specs.Entries.{entries_of, entries_all, nth, Sought, found, fewer, turned_down, among, sought_run, sought_read, entry_at}
+use Rattle.entries.specs.Entries.{entries_of, entries_all, nth, found, turned_down, among, sought_run, sought_read, entry_at}
 
 -- ---- Lists, the oldest first
 

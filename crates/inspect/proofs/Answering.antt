@@ -15,7 +15,6 @@ use Rattle.entries.specs.Entries.{found, fewer, turned_down, entry_at}
 use Rattle.reading.specs.Promises.{refusal}
 use Rattle.reading.specs.declared.Refusal.{Refusal}
 use Rattle.seek.specs.declared.Sought.{Sought}
-use Rattle.seek.specs.declared.Sought.TheVariants as Sought
 use Rattle.seek.specs.Promises.{Shows, Seeks}
 use Rattle.seek.specs.Promises as Seek
 use Rattle.plain.specs.declared.Plain.{Plain}
@@ -23,7 +22,6 @@ use Rattle.solver.specs.Promises.{Left, Solves}
 use Rattle.inspect.specs.Inspect as Defined
 use Rattle.inspect.specs.Inspect.{told, inspected, decide_plain, lent_after, inspect_line}
 use Rattle.inspect.specs.declared.Inspected.{Inspected}
-use Rattle.inspect.specs.declared.Inspected.TheVariants as Inspected
 use Rattle.inspect.specs.Promises.{inspected_by, Told, Answers, Inspects, line_of}
 
 -- The answer, and what the lent slice holds.

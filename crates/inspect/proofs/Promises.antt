@@ -20,7 +20,7 @@ use Rattle.meaning.specs.Outcome.{max_visits, decide}
 use Rattle.plain_theory.specs.Plain.{Binding, Stage, needs, Along, start}
 use Rattle.plain_theory.specs.Answer as Solver
 use Rattle.plain_theory.specs.Answer.{Pure, both, pure?, answer}
-use Rattle.plain_theory.specs.Claims.{Ends, Fails, Respected, AsUnify}
+use Rattle.plain_theory.specs.Claims.{Ends, Fails, Respected}
 use Rattle.plain_theory.proofs.Answers.{admitted_exactly, as_unify}
 use Rattle.entries.specs.Entries.{Sought, found, fewer, turned_down, entry_at}
 use Rattle.entries.proofs.Entries.{sought_refused, sought_led}

@@ -6,11 +6,9 @@ use Rattle.plain_theory.specs.Words.{bindings_spelled}
 use Rattle.reading.specs.Promises.{refusal}
 use Rattle.reading.specs.declared.Refusal.{Refusal}
 use Rattle.plain.specs.declared.Plain.{Plain}
-use Rattle.plain.specs.declared.Plain.TheVariants as Plain
 use Rattle.inspect.specs.Inspect as Defined
 use Rattle.inspect.specs.Inspect.{decide_plain, lent_after}
 use Rattle.inspect.specs.declared.Inspected.{Inspected}
-use Rattle.inspect.specs.declared.Inspected.TheVariants as Inspected
 
 abbrev pub inspected_by : Plain → Inspected
 inspected_by (Plain.Success n) = Inspected.Success n

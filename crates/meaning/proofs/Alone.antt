@@ -1,8 +1,8 @@
 -- Card 3: the file of one query alone passes, and the answer of a form is made of the answers of these files.
 use mathlib.Core.Bool.{true, false}
 use mathlib.Core.List.{List, [], ◌∷◌, ◌++◌, map, flat_map, append-nil, append_assoc}
-use mathlib.Core.Logic.{◌⊎◌, inl, inr, ◌≢◌, ◌↔◌}
-use mathlib.Core.Option.{Option, none, some}
+use mathlib.Core.Logic.{inl, inr, ◌≢◌, ◌↔◌}
+use mathlib.Core.Option.{Option, some}
 use mathlib.Core.Path.{◌≡◌, refl, sym, ap, ◌∙◌}
 use Prim.Native.Nat.{ℕ, suc, ◌+◌, ◌≤◌}
 use native.Mathlib.Omega.{arith}
@@ -13,14 +13,14 @@ use Rattle.meaning.specs.Schema.{Schema}
 use Rattle.meaning.specs.Refusal.{Refusal, work_too_short, too_many_visits}
 use Rattle.meaning.specs.Frame.{Edition, wide, Frame}
 use Rattle.meaning.specs.Conditions.{max_queries}
-use Rattle.meaning.specs.File.{Form, described, reading, max_file}
+use Rattle.meaning.specs.File.{described, reading, max_file}
 use Rattle.meaning.specs.All.{All, Any, Each}
 use Rattle.meaning.specs.Check.{Typed, check}
 use Rattle.meaning.specs.Diag.{Message}
 use Rattle.meaning.specs.Messages.{text_in}
 use Rattle.meaning.specs.Answer.{bytes₂, hex_line, answer_lines, numbered, form_lines}
 use Rattle.meaning.specs.Writing.{file_of, written, Writable}
-use Rattle.meaning.specs.Content.{Content, query_frames, schema_frames, frames_of, Lawful, describes, Says}
+use Rattle.meaning.specs.Content.{Content, query_frames, schema_frames, frames_of, Lawful, describes}
 use Rattle.meaning.specs.Sound.{LawfulQuery}
 use Rattle.meaning.specs.Outcome.{Decided, turned_down, answered, with_checked, run_all, decide_run, decide_read, decide, min_words, max_visits}
 use Rattle.meaning.specs.Alone.{alone, file_alone, joined, Apart}

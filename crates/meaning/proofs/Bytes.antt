@@ -9,7 +9,7 @@ use Rattle.meaning.specs.Frame.{Edition, narrow, wide, Kind, kind_byte, Alternat
 use Rattle.meaning.specs.Frame.{a_type, a_predicate, a_node, the_query, frame_kind}
 use Rattle.meaning.specs.All.{All}
 use Rattle.meaning.specs.Writing.{Byte, InTwo, as_field, as_alternative, as_reference, as_shape, as_value_type, as_statement, as_query, as_expr, as_node}
-use Rattle.meaning.specs.Writing.{as_content, written, FieldFits, AlternativeFits, ReferenceFits, ShapeFits, ValueTypeFits, StatementFits, QueryFits}
+use Rattle.meaning.specs.Writing.{as_content, written, FieldFits, AlternativeFits, ShapeFits, ValueTypeFits, StatementFits, QueryFits}
 use Rattle.meaning.specs.Writing.{ExprFits, NodeFits, Fits}
 use Rattle.meaning.specs.Answer.{bytes₂, bytes₄}
 use Rattle.meaning.proofs.Lists.{all_append}

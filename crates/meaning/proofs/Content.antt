@@ -19,7 +19,7 @@ use Rattle.meaning.specs.Sound.{Kept}
 use Rattle.meaning.specs.Content.{predicate_frame, query_frames, Content, schema_frames, frames_of, Lawful, types_from, predicate_with, describes, Says}
 use Rattle.meaning.proofs.Kept.{kept}
 use Rattle.meaning.proofs.Written.{described_exactly}
-use Rattle.meaning.proofs.Grouped.{Tail, Grouped, grouped}
+use Rattle.meaning.proofs.Grouped.{Grouped, grouped}
 use Rattle.meaning.proofs.Lawful.{end_of, types_length, lawful_rules}
 
 -- ---- From frames to content

@@ -1,6 +1,6 @@
 -- Document 01's three demands of the whole call, for every file and every two lengths. What is decided follows the order of the refusals, and
 -- both slices follow what is decided.
-use mathlib.Core.List.{List, ◌++◌}
+use mathlib.Core.List.{List}
 use mathlib.Core.Option.{Option, none, some}
 use mathlib.Core.Path.{◌≡◌, refl, sym, ap, ◌∙◌, subst}
 use Prim.Native.Nat.{ℕ, ◌<◌, ◌≤◌}
@@ -11,7 +11,6 @@ use borrow.Author.Tests.{ltb-true, ltb-false, lt-ltb, le-ltb}
 use Rattle.meaning.specs.Refusal.{Refusal, work_too_short, broken_text, too_many_visits, answer_too_long}
 use Rattle.meaning.specs.Frame.{wide}
 use Rattle.meaning.specs.Refused as Lines
-use Rattle.meaning.specs.Syntax.{Ast}
 use Rattle.meaning.specs.All.{All, Any, Each}
 use Rattle.meaning.specs.File.{Form, view_of, Reading, refused, described, reading}
 use Rattle.meaning.specs.Sound.{Sound}

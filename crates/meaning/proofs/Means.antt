@@ -1,28 +1,27 @@
 -- A line says exactly what `Means` says. A line that decodes to bytes is their writing, so its kind is told by the first byte, and a frame is
 -- read from its own bytes and from no others (Written.antt); one that does not decode is odd or has another character.
-use mathlib.Core.Bool.{true, false}
 use mathlib.Core.List.{List, [], ◌∷◌, ◌++◌, append-nil, head-eq_of_cons-eq, tail-eq_of_cons-eq}
-use mathlib.Core.Logic.{◌⊎◌, inl, inr, ◌≢◌, ◌↔◌}
+use mathlib.Core.Logic.{◌⊎◌, inl, inr, ◌↔◌}
 use mathlib.Core.Option.{Option, none, some}
 use mathlib.Core.Path.{◌≡◌, refl, sym, ap, subst, ◌∙◌}
 use Prim.Native.Nat.{ℕ, ◌*◌, ◌%◌, ◌<◌, ◌≤◌}
 use native.Mathlib.Omega.{arith}
 use lib.Dec.{eqb, leb}
 use lib.ListN.{length}
-use borrow.Author.Tests.{eqb-false, ne_eqb, leb-true, leb-false, lt-leb, le-leb}
+use borrow.Author.Tests.{eqb-false, ne_eqb, leb-true, leb-false, lt-leb}
 use Rattle.text.specs.Utf8.{one_more}
-use Rattle.meaning.specs.Lines.{Line, closed, unclosed, LF, lines, position, digits, digit, pair, decoded, max_bytes, at_most, some_bytes, bytes_of}
+use Rattle.meaning.specs.Lines.{Line, closed, unclosed, lines, position, digits, digit, pair, decoded, max_bytes, at_most, some_bytes, bytes_of}
 use Rattle.meaning.specs.Frame.{Edition, Kind, kind_byte, kind_of, Frame, frame_kind, frame_of}
 use Rattle.meaning.specs.SoFar.{Said, malformed, unknown_kind, no_frame, frames, said_of, said_in, said_by, said}
 use Rattle.meaning.specs.All.{All, Any, Absent}
 use Rattle.meaning.specs.Answer.{hex_line}
-use Rattle.meaning.specs.Writing.{Byte, as_content, written, Fits, Writable}
+use Rattle.meaning.specs.Writing.{Byte, as_content, written, Writable}
 use Rattle.meaning.specs.Means.{Malformed, empty, odd, other_character, over, without_lf, WrittenAs, Means, is_malformed_lem, is_unknown_lem, is_no_frame_lem, is_frame_lem}
 use Rattle.meaning.proofs.Tests.{cases}
 use Rattle.meaning.proofs.Hex.{hexes, line_hexes, decoded_hex, hex_no_LF, Hex, hex_decoded}
 use Rattle.meaning.proofs.Lines.{lines_closed}
 use Rattle.meaning.proofs.Bytes.{written_bytes}
-use Rattle.meaning.proofs.Written.{byte_kind, kind_byte_lem, line_of, frame_back, frame_forth, at_most_lem, says, said_line}
+use Rattle.meaning.proofs.Written.{byte_kind, kind_byte_lem, frame_back, frame_forth, at_most_lem, says, said_line}
 
 -- ---- Lines that do not decode
 

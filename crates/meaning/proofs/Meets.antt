@@ -2,16 +2,15 @@
 -- and how many diagnostics a step may make; the grades of steps add up. Every step keeps the state in order and is a list of
 -- demand 3's calls.
 use mathlib.Core.List.{List, [], ◌++◌, append_assoc}
-use mathlib.Core.Option.{Option, none, some}
+use mathlib.Core.Option.{Option, none}
 use mathlib.Core.Path.{◌≡◌, refl, sym, ◌∙◌, ap}
-use Prim.Native.Nat.{ℕ, ◌+◌, ◌≤◌, ◌<◌}
+use Prim.Native.Nat.{ℕ, ◌+◌, ◌≤◌}
 use native.Mathlib.Omega.{arith}
 use lib.ListN.{length, get_or, length-append}
 use Rattle.unification.specs.Ty.{Ty}
 use Rattle.unification.specs.Calls.{Side, Taken, Calls}
 use Rattle.unification.proofs.Sides.{side_more}
 use Rattle.unification.proofs.Undo.{Since, since_refl, since_trans, since_length}
-use Rattle.unification.specs.Log.{Log}
 use Rattle.meaning.specs.Diag.{Diagnostic}
 use Rattle.meaning.specs.Check.{Checker, Entry, Step, goes, out, Does, and_then}
 use Rattle.meaning.specs.All.{All}

@@ -1,9 +1,7 @@
 -- No byte of an answer is zero: it is digits and LF. So an answer ends at the first zero of its slice, by which the bindings for C and Rust find
 -- its length.
-use mathlib.Core.Bool.{true, false}
 use mathlib.Core.List.{List, [], ◌∷◌, ◌++◌}
 use mathlib.Core.Option.{Option}
-use mathlib.Core.Path.{◌≡◌}
 use Prim.Native.Nat.{ℕ, suc, ◌/◌, ◌%◌, ◌<◌}
 use native.Mathlib.Omega.{arith}
 use lib.Dec.{ltb}

@@ -1,18 +1,17 @@
 -- A file without a line after a 06 line has the outcome that it had before card 3.
-use mathlib.Core.Bool.{Bool, true, false, not}
-use mathlib.Core.List.{List, [], ◌∷◌, ◌++◌, map}
+use mathlib.Core.Bool.{false, not}
+use mathlib.Core.List.{List, [], ◌∷◌, map}
 use mathlib.Core.Logic.{◌≢◌}
 use mathlib.Core.Option.{Option, none, some}
 use mathlib.Core.Path.{◌≡◌, refl, sym, ap, subst, ◌∙◌}
 use Prim.Native.Nat.{ℕ}
 use native.Mathlib.Omega.{arith}
-use lib.Dec.{eqb, ltb}
-use lib.ListN.{length}
-use Rattle.meaning.specs.Syntax.{Query, Ast}
+use lib.Dec.{ltb}
+use Rattle.meaning.specs.Syntax.{Ast}
 use Rattle.meaning.specs.Schema.{Schema}
 use Rattle.meaning.specs.Refusal.{Refusal}
 use Rattle.meaning.specs.Lines.{lines}
-use Rattle.meaning.specs.Frame.{wide, Kind, limits, name, schema_type, predicate, node, query, kind_byte, rises, follows, may_stand, Frame, the_limits}
+use Rattle.meaning.specs.Frame.{wide, Kind, limits, name, schema_type, predicate, node, query, kind_byte, follows, may_stand, the_limits}
 use Rattle.meaning.specs.Frame.{a_name, a_type, a_predicate, a_node, the_query, frame_kind}
 use Rattle.meaning.specs.SoFar.{Said, malformed, unknown_kind, no_frame, frames, said, SoFar, start, add, after}
 use Rattle.meaning.specs.Conditions.{is_misplaced, is_last_query_past, is_query_too_many, max_queries, Condition, conditions, first_of}
@@ -20,7 +19,7 @@ use Rattle.meaning.specs.File.{schema_of, describe, Reading, refused, described,
 use Rattle.meaning.specs.Check.{Checked, typed, exhausted, check}
 use Rattle.meaning.specs.Messages.{message_text}
 use Rattle.meaning.specs.Answer.{form_lines}
-use Rattle.meaning.specs.Outcome.{Decided, with_checked, run_all, decide_run, decide_read, decide, finish, outcome, min_words, max_visits}
+use Rattle.meaning.specs.Outcome.{with_checked, run_all, decide_run, decide_read, decide, finish, outcome, min_words, max_visits}
 use Rattle.meaning.specs.OneQuery.{SoFarBefore, start_before, add_before, after_before, as_now, may_stand_before, is_misplaced_before, conditions_before}
 use Rattle.meaning.specs.OneQuery.{ReadingBefore, refused_before, described_before, describe_before, at_end_before, read_from_before, reading_before}
 use Rattle.meaning.specs.OneQuery.{decide_checked_before, decide_read_before, decide_before, outcome_before, kind_in, QueryLast}

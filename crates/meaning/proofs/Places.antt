@@ -1,7 +1,7 @@
 -- Where the queries of a file stand: its lines are frames of the schema, none of them a node or a query, and then the frames of each query.
 -- What a second walk over the file needs to find the k-th query again.
 use mathlib.Core.List.{List, [], ◌∷◌, ◌++◌, map, flat_map}
-use mathlib.Core.Path.{◌≡◌, refl, sym, ap, ◌∙◌}
+use mathlib.Core.Path.{◌≡◌, sym, ap, ◌∙◌}
 use Prim.Native.Nat.{ℕ, ◌<◌}
 use native.Mathlib.Omega.{arith}
 use Rattle.meaning.specs.Lines.{lines}
@@ -9,7 +9,7 @@ use Rattle.meaning.specs.Frame.{wide, node, kind_byte, Frame, a_name, a_type, fr
 use Rattle.meaning.specs.SoFar.{frames, said}
 use Rattle.meaning.specs.File.{Form, described, reading}
 use Rattle.meaning.specs.All.{All}
-use Rattle.meaning.specs.Content.{predicate_frame, query_frames, Content, schema_frames, frames_of, describes, Says}
+use Rattle.meaning.specs.Content.{predicate_frame, query_frames, Content, schema_frames, frames_of, describes}
 use Rattle.meaning.proofs.Lists.{all_append}
 use Rattle.meaning.proofs.Written.{file_lines}
 use Rattle.meaning.proofs.Content.{says_exactly}

@@ -3,11 +3,11 @@
 -- Where a number bounds a depth, that it suffices: `walk_depth` and `destructurable_depth` in Depth.antt, `weight_depth` in
 -- Weights.antt; in the unification crate `repr_resolved` in Chain.antt for `repr`, `zonk_solved` in Zonk.antt for `zonk`,
 -- `occurs_depth` in Occurs.antt, `unify_depth` in Depth.antt.
-use mathlib.Core.List.{List, [], ◌∷◌, ◌++◌}
+use mathlib.Core.List.{List, [], ◌∷◌}
 use mathlib.Core.Logic.{by_cases}
 use mathlib.Core.Option.{Option, none}
 use mathlib.Core.Path.{◌≡◌, refl}
-use Prim.Native.Nat.{ℕ, zero, suc, ◌+◌, ◌-◌, ◌≤◌, ◌<◌}
+use Prim.Native.Nat.{ℕ, zero, suc, ◌+◌, ◌≤◌, ◌<◌}
 use native.Mathlib.Decide.{dec_lt}
 use native.Mathlib.Omega.{arith}
 use lib.ListN.{length, get_or, replicate, length-replicate, get_or-replicate}
@@ -27,7 +27,7 @@ use Rattle.meaning.specs.References.{stmt_nodes, query_nodes}
 use Rattle.meaning.specs.File.{Described}
 use Rattle.meaning.specs.All.{All}
 use Rattle.meaning.specs.Sound.{Sound}
-use Rattle.meaning.specs.Check.{Checker, Step, goes, query, begin}
+use Rattle.meaning.specs.Check.{Checker, Step, goes, begin}
 use Rattle.meaning.specs.Run.{Led, EntryLed, between_calls, at_the_limit, ending, run, RunDemand3, RunAsRobinson}
 use Rattle.meaning.specs.Weights.{WellFormed, same, sum_of, total, weight, size, records, record_fields}
 use Rattle.meaning.proofs.Depth.{lower_falls}

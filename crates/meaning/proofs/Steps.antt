@@ -31,7 +31,7 @@ use Rattle.meaning.specs.Schema.{Schema}
 use Rattle.meaning.specs.Diag.{Message}
 use Rattle.meaning.specs.Check.{Until, the_end, first_diagnostic, entry, Entry, Checker, goes, Does, and_then, with_state, with_env, with_marks}
 use Rattle.meaning.specs.Check.{with_unused, with_diagnostics, with_entries, diagnosed, reported, fresh_var_id, lookup_in, lookup, push_env, is_in, marked}
-use Rattle.meaning.specs.Check.{mark, introduce, annotate, unified, united, entered, arrived, enter, unify, ordered, orderable, Mark, snapshot}
+use Rattle.meaning.specs.Check.{mark, introduce, annotate, unified, united, entered, arrived, enter, unify, ordered, orderable, Mark}
 use Rattle.meaning.specs.Check.{truncate_env, truncate_marks, rollback, leaving, leave, reject, report, unify_at}
 use Rattle.meaning.specs.All.{All}
 use Rattle.meaning.specs.Run.{between_calls, at_the_limit, NotYet}

@@ -3,23 +3,22 @@
 use mathlib.Core.Bool.{true, false, not, true≢false}
 use mathlib.Core.List.{List, [], ◌∷◌, ◌++◌, map, flat_map, append-nil, append_assoc}
 use mathlib.Core.Logic.{◌↔◌}
-use mathlib.Core.Option.{Option, none, some}
-use mathlib.Core.Path.{◌≡◌, refl, sym, ap, subst, ◌∙◌}
-use Prim.Native.Nat.{ℕ, ◌<◌, ◌≤◌}
+use mathlib.Core.Path.{◌≡◌, refl, sym, ap, ◌∙◌}
+use Prim.Native.Nat.{ℕ, ◌<◌}
 use native.Mathlib.Omega.{arith}
 use lib.ListN.{length}
 use borrow.Author.Tests.{leb-false, lt-leb, not-false}
 use Rattle.text.specs.Utf8.{Text, characters}
 use Rattle.text.proofs.Grammar.{counts}
 use Rattle.meaning.specs.Refusal.{Refusal, broken_text}
-use Rattle.meaning.specs.Frame.{Edition, wide, Kind, may_stand, Frame, the_limits, a_name, a_type, a_predicate, a_node, the_query, frame_kind}
+use Rattle.meaning.specs.Frame.{Edition, wide, Kind, may_stand, the_limits, a_name, a_type, a_predicate, a_node, the_query, frame_kind}
 use Rattle.meaning.specs.References.{texts_of}
 use Rattle.meaning.specs.SoFar.{SoFar, Said, malformed, unknown_kind, no_frame, frames, add, after, texts_on, texts_in, start}
 use Rattle.meaning.specs.Conditions.{any_of, of_frame, broken, max_names, is_malformed, is_misplaced, is_full, is_one_too_many, is_last_query_past}
 use Rattle.meaning.specs.Conditions.{is_query_too_many, is_no_frame, is_broken_text, conditions}
 use Rattle.meaning.specs.File.{Form, count_of, schema_of, describe, described, reading}
 use Rattle.meaning.specs.All.{All, Each}
-use Rattle.meaning.specs.Refused.{First, here, later, Pass, none_left, more, AtLine, Refused, too_long, at_line, missing_query, BrokenText}
+use Rattle.meaning.specs.Refused.{First, here, later, Pass, none_left, more, Refused, too_long, at_line, missing_query, BrokenText}
 use Rattle.meaning.proofs.Tests.{cases, clash}
 use Rattle.meaning.proofs.Conditions.{readable, unbroken}
 use Rattle.meaning.proofs.Refused.{described_when}

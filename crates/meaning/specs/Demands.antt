@@ -13,7 +13,7 @@ use Rattle.meaning.specs.Check.{Typed, typed, exhausted, check}
 use Rattle.meaning.specs.Run.{RunAsRobinson}
 use Rattle.meaning.specs.Messages.{text_in}
 use Rattle.meaning.specs.Answer.{form_lines}
-use Rattle.meaning.specs.Outcome.{Outcome, Accepted, Refused, min_words, max_visits, outcome}
+use Rattle.meaning.specs.Outcome.{Accepted, Refused, min_words, max_visits, outcome}
 
 -- ---- Demand 1
 

@@ -1,5 +1,4 @@
 -- The codes that ty.rs reports, `Code::as_str` (diag.rs), and what a diagnostic says.
-use mathlib.Core.List as List
 use Rattle.std.specs.Prelude.{List, ℕ}
 use Prim.Native.Char.{code}
 use Prim.Native.String.{String}

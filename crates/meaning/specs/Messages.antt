@@ -3,11 +3,10 @@
 use Rattle.std.specs.Prelude.{true, false, ℕ, zero, suc, ◌+◌, ◌/◌, ◌%◌, ltb}
 use mathlib.Core.List.{List, [], ◌∷◌, ◌++◌}
 use Rattle.std.proofs.Math.Option.{Option, none, some}
-use Prim.Native.String.{String}
 use Rattle.std.proofs.Math.ListN.{get_elem?}
 use Rattle.unification.specs.Ty.{Leaf, Kind, Ty, Row}
 use Rattle.unification.specs.Unify.{UnionDiff}
-use Rattle.meaning.specs.Schema.{Predicate, Schema, get}
+use Rattle.meaning.specs.Schema.{Schema, get}
 use Rattle.meaning.specs.Diag.{Message, ascii}
 use Rattle.meaning.specs.File.{Form}
 

@@ -7,7 +7,7 @@ use Rattle.text.specs.Surrogates.{HasSurrogate, characters_open}
 use Rattle.meaning.specs.All.{All}
 use Rattle.meaning.specs.Schema.{Schema}
 use Rattle.meaning.specs.Refusal.{work_too_short, file_too_long, malformed_line, misplaced_kind, too_many, malformed_frame, broken_text, name_given_before, bad_reference, repeated_key, too_many_queries}
-use Rattle.meaning.specs.Frame.{wide, Kind, limits, name, schema_type, predicate, node, query, Frame}
+use Rattle.meaning.specs.Frame.{wide, Kind, limits, name, schema_type, predicate, node, query}
 use Rattle.meaning.specs.References.{texts_of}
 use Rattle.meaning.specs.Lines.{position, lines}
 use Rattle.meaning.specs.SoFar.{Said, malformed, unknown_kind, no_frame, frames, said, SoFar, start, after}

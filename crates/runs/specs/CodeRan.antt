@@ -7,7 +7,6 @@ use Rattle.meaning.specs.File.{Described}
 use Rattle.meaning.specs.Check.{Step, goes, out}
 use Rattle.meaning.specs.Run.{run, RunDemand3, RunAsRobinson}
 use Rattle.state.specs.declared.Done.{Done}
-use Rattle.state.specs.declared.Done.TheVariants as Done
 
 -- Where the definition's run ends, or where it runs out of visits, the words stand for its state; the code gives back the visits that it has
 -- left, or that it ran out.

@@ -2,7 +2,7 @@
 -- run that is to last until an entry keeps to it.
 use mathlib.Core.List.{List, [], ◌∷◌, ◌++◌}
 use mathlib.Core.Option.{Option, none, some}
-use mathlib.Core.Path.{◌≡◌, refl, sym, ap, ◌∙◌}
+use mathlib.Core.Path.{◌≡◌, refl, ap, ◌∙◌}
 use Prim.Native.Nat.{ℕ, ◌+◌, ◌-◌, ◌<◌, ◌≤◌}
 use native.Mathlib.Omega.{arith}
 use lib.ListN.{length}
@@ -12,15 +12,14 @@ use Rattle.unification.proofs.Tests.{clash}
 use Rattle.meaning.specs.Syntax.{Ast}
 use Rattle.meaning.specs.Schema.{Schema, get}
 use Rattle.meaning.specs.Refusal.{too_many_visits}
-use Rattle.meaning.specs.Check.{Until, Checker, Step, goes, out, begin, begin_until, query, Typed, Checked, typed, exhausted, checked, check}
+use Rattle.meaning.specs.Check.{Until, Checker, goes, out, begin, begin_until, query, Typed, Checked, typed, exhausted, checked, check}
 use Rattle.meaning.specs.Run.{ending, run}
 use Rattle.meaning.specs.Outcome.{max_visits, with_checked, run_all}
 use Rattle.laws.specs.Over.{everything}
 use Rattle.laws.proofs.Over.{predicate_everything, names_everything}
-use Rattle.laws.proofs.Agree.{Agreeing, Grows}
 use Rattle.laws.proofs.Walk.{query_agrees}
 use Rattle.laws.proofs.Run.{begin_fine, same_self}
-use Rattle.entries.specs.Entries.{entries_of, entries_all, nth, Sought, fewer, turned_down, among, sought_run}
+use Rattle.entries.specs.Entries.{entries_of, entries_all, nth, Sought, turned_down, among, sought_run}
 use Rattle.entries.proofs.Entries.{length_reversed, nth_first, nth_later, entries_are}
 
 -- ---- What is left

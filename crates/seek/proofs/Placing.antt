@@ -25,9 +25,8 @@ use Rattle.tree.specs.Stands.{SchemaStands}
 use Rattle.loading.specs.Promises.{Ahead}
 use Rattle.loading.proofs.Lines.{query_ahead, all_ahead}
 use Rattle.seek.specs.declared.Turn.{Turn}
-use Rattle.seek.specs.declared.Turn.TheVariants as Turn
 use Rattle.seek.specs.declared.Place.TheVariants as Place
-use Rattle.seek.specs.Promises.{SchemaIn, Turned, Turns, RanOn, RunsOn, Within, Placed, Places}
+use Rattle.seek.specs.Promises.{SchemaIn, Turned, Turns, RanOn, RunsOn, Within, Places}
 use Rattle.seek.proofs.Counting.{unless_out, sought_is, out_first, many, in_first, in_later}
 
 -- Those that are left, with the entries that are still to come before the one that is sought.

@@ -7,21 +7,16 @@ use lib.ListN.{length}
 use Rattle.unification.proofs.Tests.{clash}
 use Rattle.meaning.specs.Frame.{wide}
 use Rattle.meaning.specs.Refusal as Meaning
-use Rattle.meaning.specs.File.{Form, Reading, refused, described, reading_of, reading, max_file}
+use Rattle.meaning.specs.File.{Form, Reading, refused, described, reading, max_file}
 use Rattle.meaning.specs.Outcome.{min_words, run_all}
 use Rattle.meaning.proofs.Tests.{cases}
 use Rattle.meaning.proofs.Content.{says_exactly}
-use Rattle.entries.specs.Entries as Defined
-use Rattle.entries.specs.Entries.{fewer, turned_down, sought_run, sought_read, entry_at}
+use Rattle.entries.specs.Entries.{sought_run, sought_read, entry_at}
 use Rattle.reading.specs.Promises.{refusal, Ends, reading_in, ReadsFile}
 use Rattle.reading.specs.declared.Refusal.{Refusal}
-use Rattle.reading.specs.declared.Refusal.TheVariants as Refusal
 use Rattle.reading.specs.declared.Read.{Read}
-use Rattle.reading.specs.declared.Read.TheVariants as Read
 use Rattle.seek.specs.declared.Place.{Place}
-use Rattle.seek.specs.declared.Place.TheVariants as Place
 use Rattle.seek.specs.declared.Sought.{Sought}
-use Rattle.seek.specs.declared.Sought.TheVariants as Sought
 use Rattle.seek.specs.Promises.{Places, Told, Stops, Finds, Seeks}
 
 -- ---- Of a file that was read

@@ -5,7 +5,6 @@ use mathlib.Core.Option.{Option, none, some}
 use mathlib.Core.Path.{◌≡◌, refl, sym, ap, ◌∙◌, subst}
 use Prim.Native.Nat.{ℕ, ◌≤◌, ◌<◌}
 use native.Mathlib.Omega.{arith}
-use lib.Dec.{ltb}
 use lib.ListN.{length, get_or}
 use borrow.Author.Tests.{lt-ltb}
 use Rattle.unification.specs.Ty as Tree
@@ -16,20 +15,18 @@ use Rattle.meaning.specs.Syntax.{Ast}
 use Rattle.meaning.specs.All.{All}
 use Rattle.meaning.specs.File.{Form, view_of}
 use Rattle.meaning.specs.Sound.{Sound}
-use Rattle.meaning.specs.Check.{Step, goes, out, the_end, begin, begin_until, query, Typed, typed}
+use Rattle.meaning.specs.Check.{Step, goes, out, the_end, begin, Typed, typed}
 use Rattle.meaning.specs.Run.{run}
 use Rattle.meaning.specs.Outcome.{min_words, max_visits, with_checked, run_all}
 use Rattle.laws.proofs.Until.{run_few}
 use Rattle.tree.specs.Stands.{SchemaStands}
 use Rattle.state.specs.Lines.{capped}
 use Rattle.state.specs.declared.Done.{Done}
-use Rattle.state.specs.declared.Done.TheVariants as Done
 use Rattle.state.specs.declared.Until.TheVariants as Until
 use Rattle.checker.specs.Promises.{Ran, to_the_end, ended_early, run_until, Queries}
 use Rattle.loading.specs.Promises.{Ahead, Loads}
 use Rattle.loading.proofs.Lines.{query_ahead}
 use Rattle.seek.specs.declared.Turn.{Turn}
-use Rattle.seek.specs.declared.Turn.TheVariants as Turn
 use Rattle.seek.specs.Promises.{SchemaIn, Turned, Turns, RanOn, RunsOn}
 use Rattle.seek.proofs.Counting.{out_first, goes_first}
 

@@ -1,6 +1,5 @@
 -- The entry's query run again: it ends right before the entry, in its state, and the four words have its sides.
-use mathlib.Core.List.{List, [], ◌∷◌}
-use mathlib.Core.Option.{Option, none, some}
+use mathlib.Core.List.{List, ◌∷◌}
 use mathlib.Core.Path.{◌≡◌, refl, sym, ap, ◌∙◌, subst}
 use Prim.Native.Nat.{ℕ, ◌+◌, ◌≤◌, ◌<◌}
 use native.Mathlib.Omega.{arith}
@@ -11,7 +10,7 @@ use Rattle.unification.proofs.Tests.{clash}
 use Rattle.work.specs.Layout.{GOT, EXPECTED}
 use Rattle.cells.specs.declared.Ty.{Ty}
 use Rattle.cells.specs.Words.{ty_w}
-use Rattle.cells.specs.Stands.{Rows, tree, Ok}
+use Rattle.cells.specs.Stands.{Rows}
 use Rattle.meaning.specs.Syntax.{Ast}
 use Rattle.meaning.specs.File.{Form, view_of}
 use Rattle.meaning.specs.Check as Check
@@ -24,10 +23,10 @@ use Rattle.entries.proofs.Entries.{StopsAt, stops_at}
 use Rattle.state.specs.Lines.{side_w, Sides, AtEntry}
 use Rattle.state.specs.declared.Done.{Done}
 use Rattle.state.specs.declared.Until.TheVariants as Until
-use Rattle.checker.specs.Promises.{Ran, to_the_end, ended_early, run_until, Queries}
+use Rattle.checker.specs.Promises.{Ran, ended_early, run_until, Queries}
 use Rattle.loading.specs.Promises.{Loads}
 use Rattle.seek.specs.declared.Sought.TheVariants as Sought
-use Rattle.seek.specs.Promises.{Within, Shows, Told, Stops}
+use Rattle.seek.specs.Promises.{Within, Told, Stops}
 use Rattle.seek.proofs.Counting.{until_kept}
 
 -- A type read from two words.

@@ -22,11 +22,8 @@ use Rattle.loading.specs.Promises.{Ahead}
 use Rattle.reading.specs.Promises.{refusal}
 use Rattle.reading.specs.declared.Refusal.{Refusal}
 use Rattle.seek.specs.declared.Turn.{Turn}
-use Rattle.seek.specs.declared.Turn.TheVariants as Turn
 use Rattle.seek.specs.declared.Place.{Place}
-use Rattle.seek.specs.declared.Place.TheVariants as Place
 use Rattle.seek.specs.declared.Sought.{Sought}
-use Rattle.seek.specs.declared.Sought.TheVariants as Sought
 
 -- The schema and the names stand in the words, with whatever rows.
 abbrev pub SchemaIn : List ℕ → List ℕ → Form → Type 0

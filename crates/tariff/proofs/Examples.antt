@@ -3,7 +3,7 @@ use mathlib.Core.Bool.{true}
 use mathlib.Core.List.{[], ◌∷◌}
 use mathlib.Core.Path.{refl}
 use native.Mathlib.Omega.{arith}
-use Rattle.tariff.specs.Tariff.{zero, next, cents_over}
+use Rattle.tariff.specs.Tariff.{cents_over}
 use Rattle.tariff.specs.Sums.{Run, start, counts, refuses, Sums}
 use Rattle.tariff.proofs.Adding.{turned_down, taken}
 use Rattle.tariff.proofs.Sums.{sums}

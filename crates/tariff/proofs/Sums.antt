@@ -1,10 +1,10 @@
 -- Over any run from zero, what the tally says is what the visits and prices add up to.
-use mathlib.Core.List.{List, [], ◌∷◌}
-use mathlib.Core.Path.{◌≡◌, refl, ap}
-use Prim.Native.Nat.{ℕ, ◌+◌, ◌*◌, ◌/◌, ◌%◌, ◌-◌, ◌≤◌}
+use mathlib.Core.List.{List, ◌∷◌}
+use mathlib.Core.Path.{◌≡◌, refl}
+use Prim.Native.Nat.{ℕ, ◌+◌, ◌/◌, ◌-◌}
 use native.Mathlib.Omega.{arith}
 use Rattle.tariff.specs.declared.Tally.{Tally}
-use Rattle.tariff.specs.Tariff.{zero, filled, next, Adds}
+use Rattle.tariff.specs.Tariff.{filled, next}
 use Rattle.tariff.specs.Sums.{Query, Run, start, counts, refuses, all_visits, all_cents, Sums}
 
 module _ (qs : List Query) (t : Tally) (visits price : ℕ) (s : Sums qs t) where

@@ -1,5 +1,5 @@
 -- The machine's tables beside the grammar: each rule is one test that antt computes over all entries.
-use Prim.Native.Nat.{ℕ, zero, suc, ◌^◌, ◌≤◌, ◌<◌}
+use Prim.Native.Nat.{ℕ, ◌≤◌, ◌<◌}
 use native.Mathlib.Omega.{arith}
 use mathlib.Core.Bool.{Bool, true, false, true≢false}
 use mathlib.Core.Path.{◌≡◌, refl, ap, sym, ◌∙◌}
@@ -8,7 +8,7 @@ use mathlib.Core.Option.{Option, none, some}
 use lib.Dec.{eqb, leb}
 use lib.ListN.{get_or}
 use borrow.Author.Tests.{eqb-true, leb-true}
-use Rattle.text.specs.Utf8.{Range, ◌to◌, both, inside, following}
+use Rattle.text.specs.Utf8.{Range, ◌to◌, both, following}
 use Rattle.text.specs.Machine.{first_above, class_of, wanted, after, Steps}
 use Rattle.text.proofs.Every.{both_left, both_right, below, every}
 

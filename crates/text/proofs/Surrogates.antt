@@ -1,5 +1,5 @@
 -- Card 2: a text with a value from d800 to dfff is none any more, and every other one is what it was.
-use Prim.Native.Nat.{ℕ, suc, ◌≤◌, ◌<◌}
+use Prim.Native.Nat.{ℕ}
 use native.Mathlib.Omega.{arith}
 use mathlib.Core.Bool.{Bool, true, false, true≢false}
 use mathlib.Core.Logic.{◌↔◌}
@@ -9,7 +9,7 @@ use mathlib.Core.Option.{Option, none, some}
 use native.Mathlib.Decide.{dec_le}
 use lib.Dec.{eqb, leb, ltb}
 use borrow.Author.Tests.{eqb-true, eqb-false, lt-leb, ltb-true}
-use Rattle.text.specs.Utf8.{Range, ◌to◌, only, tail, In, Text, utf8_1, utf8_2, utf8_3, utf8_4, utf8_char, both, inside, following, one_more, count}
+use Rattle.text.specs.Utf8.{Range, ◌to◌, only, tail, In, Text, utf8_1, utf8_2, utf8_4, utf8_char, both, inside, following, one_more, count}
 use Rattle.text.specs.Utf8.{characters}
 use Rattle.text.specs.Rule.{ones_of, ones, head, value}
 use Rattle.text.specs.Surrogates.{utf8_char_open, characters_open, HasSurrogate, here, later}

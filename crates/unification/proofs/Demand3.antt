@@ -23,7 +23,7 @@ use Rattle.unification.proofs.Sides.{bound_pad, pad_among, wf_pad}
 use Rattle.unification.proofs.Undo.{unbind, unannotate, Since, since_refl, since_trans, since_length, since_fresh, since_left, since_annotate}
 use Rattle.unification.proofs.Undo.{rollback_subst, rollback_tys, rollback_undo, rollback_left}
 use Rattle.unification.proofs.Kept.{After, Kept, unify_kept}
-use Rattle.unification.proofs.Post.{Any, Moments, Here, Known, Post}
+use Rattle.unification.proofs.Post.{Any, Moments, Known, Post}
 use Rattle.unification.proofs.Sound.{noted_end, unify_post}
 
 -- ---- What holds of a state

@@ -10,7 +10,7 @@ use native.Mathlib.Omega.{arith}
 use lib.Dec.{eqb}
 use lib.ListN.{length, get_or, set, replicate, length-set}
 use Rattle.unification.specs.Ty.{Leaf-discrete, Kind, Record, Union, Ty, leaf, node, Var, Error, Row, ε, cell, row_len}
-use Rattle.unification.specs.Bindings.{Subst, bound, repr, Answer, yes_left, no_left, spent, occurs, Undo, Binding, Annotation, State, with_left}
+use Rattle.unification.specs.Bindings.{Subst, bound, repr, Answer, yes_left, no_left, spent, occurs, State, with_left}
 use Rattle.unification.specs.Bindings.{set_var, annotate, Resolved}
 use Rattle.unification.specs.Unify.{UnionDiff, TyError, Unified, Ok, Err, Spent, and_then, map_err, bind_var, find_key, unify_field, unify_fields}
 use Rattle.unification.specs.Unify.{unify_record, discriminants, unify_alternative, unify_alternatives, unify_union, unify_nodes, unify_heads, note}
@@ -19,7 +19,7 @@ use Rattle.unification.specs.Calls.{Side, Reaches}
 use Rattle.unification.proofs.Tests.{clash}
 use Rattle.unification.proofs.Chain.{error_reaches, repr_resolved}
 use Rattle.unification.proofs.Occurs.{occurs_no}
-use Rattle.unification.specs.Log.{Wf, taken, Log}
+use Rattle.unification.specs.Log.{taken, Log}
 use Rattle.unification.proofs.Sides.{Parts, Part, find_part, parts_map, Field, Alternative, fields, alternatives, side_follow, wf_bind}
 use Rattle.unification.proofs.Kept.{After, heads_in, unify_in_spent, unify_in_visit}
 

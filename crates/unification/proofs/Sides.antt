@@ -15,7 +15,6 @@ use Rattle.unification.specs.Bindings.{Subst, bound, follow}
 use Rattle.unification.specs.Unify.{find_key}
 use Rattle.unification.specs.Calls.{Declared, DeclaredRow, Side, SideRow, Reaches, inside, ReachesRow, first, later, Allowed, Admitted}
 use Rattle.unification.proofs.Reach.{bound_same, bound_other}
-use Rattle.unification.specs.Acyclic.{Acyclic}
 use Rattle.unification.specs.Log.{Wf}
 use Rattle.unification.proofs.Acyclic.{acyclic_bind, Among, acyclic_among}
 

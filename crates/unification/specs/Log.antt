@@ -1,5 +1,5 @@
 -- The undo log in order: every change notes that nothing stood there before, and the log is as long as there are bound unknowns and annotated nodes.
-use Rattle.std.specs.Prelude.{List, [], ◌∷◌, ◌≡◌, ℕ, suc, ◌+◌, length, get_or}
+use Rattle.std.specs.Prelude.{List, [], ◌∷◌, ◌≡◌, ℕ, suc, ◌+◌, length}
 use Rattle.std.proofs.Math.Option.{Option, none, some}
 use Rattle.unification.specs.Ty.{Ty}
 use Rattle.unification.specs.Bindings.{Subst, bound, Undo, Binding, Annotation, State}

@@ -1,9 +1,6 @@
 use borrow.Enum.Refused.{opened}
-use Prim.Native.Nat.{◌-◌}
-use borrow.Fn.PlainCycle.{is}
 use native.Mathlib.Omega.{arith}
 use mathlib.Core.Path.{sym, ◌∙◌}
-use mathlib.Core.Logic.{⊎_elim}
 use Rattle.cells.proofs.Heads.{same_true}
 use Rattle.cells.proofs.Asking.{no_visit, asking_start, error_outside, occurring_again, occurring_new, occurring_short, occurring_yes, occurring_ends, occurring_none}
 use Rattle.cells.proofs.+occurs.Goals as goal

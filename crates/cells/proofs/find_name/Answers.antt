@@ -1,4 +1,3 @@
-use Prim.Native.Nat.{◌-◌}
 use Rattle.cells.proofs.Parts.{seek_start, name_here, name_past, name_none}
 use Rattle.cells.proofs.find_name.Goals as goal
 

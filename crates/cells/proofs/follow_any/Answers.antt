@@ -1,7 +1,6 @@
 use borrow.Enum.Refused.{opened}
 use borrow.Author.Rules.{rules}
 use mathlib.Core.Path.{sym, ◌∙◌}
-use Prim.Native.Nat.{◌-◌}
 use Rattle.cells.proofs.Follow.{follow_start, not_unknown, ends_shape, ends_free, follow_next, ends_last}
 use Rattle.cells.proofs.follow_any.Goals as goal
 

@@ -1,5 +1,4 @@
 use native.Mathlib.Omega.{arith}
-use Prim.Native.Nat.{◌-◌}
 use Rattle.cells.proofs.Follow.{follow_start, ends_last, within_past, within_free, within_other, within_next}
 use Rattle.cells.proofs.follow_within.Goals as goal
 

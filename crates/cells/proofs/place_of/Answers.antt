@@ -1,4 +1,3 @@
-use Prim.Native.Nat.{◌-◌}
 use Rattle.cells.proofs.Parts.{seek_start, key_here, key_past, key_none}
 use Rattle.cells.proofs.place_of.Goals as goal
 

@@ -1,5 +1,5 @@
 -- Each turn takes the newest entry back; the measure is the log's length.
-use Prim.Native.Nat.{◌-◌, ◌<◌}
+use Prim.Native.Nat.{◌<◌}
 use Rattle.cells.proofs.Rolling.{Rolling}
 use Rattle.cells.proofs.rollback.Given as goal
 

@@ -1,5 +1,4 @@
 -- The arms of the match are the cases of `tyW`; in the last each test of a tag is false.
-use borrow.Enum.Refused.{opened}
 use borrow.Author.Tests.{ne_eqb}
 use Rattle.cells.specs.Words.{ty_w}
 use Rattle.cells.proofs.ty_of.Goals as goal

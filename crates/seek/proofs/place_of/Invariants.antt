@@ -1,0 +1,11 @@
+-- `seek::place_of` meets its contract, query by query (Placing.antt). The measure is what is left of the file.
+use Prim.Native.Nat.{◌-◌}
+use lib.ListN.{length}
+use Rattle.seek.proofs.Placing.{Placing}
+use Rattle.seek.proofs.place_of.Given as goal
+
+abbrev pub invariant-loop-at : goal.invariant-loop-at
+invariant-loop-at l = Placing l.file l.n l.initial.work l.work l.at l.rest
+
+abbrev pub decreases-loop-at : goal.decreases-loop-at
+decreases-loop-at l = length l.file - l.at
