@@ -7,5 +7,9 @@ pub returns-in-To : goal.returns-in-To
 returns-in-To c = record { wrote = c.make-r.result; makes = c.make-r.ensures; length = sym (ap length_in c.in-To.is); number = sym (ap wrote_number c.in-To.is) }
 
 pub returns-in-Full : goal.returns-in-Full
-returns-in-Full c = record { wrote = c.make-r.result; makes = c.make-r.ensures;
-  length = sym (ap length_in c.in-Full.is); number = sym (ap wrote_number c.in-Full.is) }
+returns-in-Full c = record {
+  wrote = c.make-r.result;
+  makes = c.make-r.ensures;
+  length = sym (ap length_in c.in-Full.is);
+  number = sym (ap wrote_number c.in-Full.is);
+}
