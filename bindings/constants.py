@@ -30,7 +30,7 @@ tool = text("bindings/tool/src/explain.rs")
 # refusals: the variants of the enum in order, from 1
 variants = re.findall(r"^    ([A-Z]\w+),", re.search(r"pub enum Refusal \{(.*?)\}", text("crates/reading/src/lib.rt"), re.S)[1], re.M)
 numbers = text("crates/sigla_lib/specs/Numbers.antt")
-variants += re.findall(r"^inspectNumber Inspected\.(\w+) = 18$", numbers, re.M)  # the plain solver's own, no refusal of the reading
+variants += re.findall(r"^inspect_number Inspected\.(\w+) = 18$", numbers, re.M)  # the plain solver's own, no refusal of the reading
 refusals = list(enumerate(variants, 1))
 enum = re.search(r"enum sigla_refusal \{(.*?)\}", header, re.S)[1]
 same("sigla.h, refusals", [(int(n), camel(name)) for name, n in re.findall(r"SIGLA_(\w+) = (\d+)", enum)][1:], refusals)
@@ -43,7 +43,7 @@ same("sigla.h, their texts", re.findall(r"case SIGLA_\w+: return \"(.*?)\";", he
 same("sigla-tool explain, refusals", [int(n) for n in re.findall(r"^    \((\d+), \"", tool, re.M)], [n for n, _ in refusals])
 
 # codes
-codes = sorted(re.findall(r"^asStr \w+ = \"(.*)\"", text("crates/meaning/specs/Diag.antt"), re.M))
+codes = sorted(re.findall(r"^as_str \w+ = \"(.*)\"", text("crates/meaning/specs/Diag.antt"), re.M))
 same("sigla-tool explain, codes", re.findall(r"^    \(\"([a-z]+/[a-z-]+)\", ", tool, re.M), codes)
 
 # limits
@@ -68,7 +68,7 @@ for where, found in [("lib.rs", constants), ("sigla.py", of_python)]:
     same(f"{where}, STACK", found["STACK"], defines["STACK"])
 
 # what the plain solver tells, and the words that its program lends
-inspected = re.findall(r"^inspectTold \(?Inspected\.(\w+)(?: n\))? = (\d)$", numbers, re.M)
+inspected = re.findall(r"^inspect_told \(?Inspected\.(\w+)(?: n\))? = (\d)$", numbers, re.M)
 inspected = sorted((int(n), name) for name, n in inspected if name not in variants)
 enum = re.search(r"enum sigla_told \{(.*?)\n\}", header, re.S)[1]
 same("sigla.h, told", [(int(n), camel(name)) for name, n in re.findall(r"SIGLA_TOLD_(\w+) = (\d+)", enum)], inspected)
@@ -82,7 +82,7 @@ same("inspect.rs, LENT", int(re.search(r"pub const LENT: usize = (\d+);", solver
 same("sigla.py, LENT", of_python["LENT"], words)
 
 # calls
-calls = set(re.findall(r"#\[no_mangle\]\s*pub extern \"C\" fn (\w+)", text("crates/sigla_lib/src/lib.rt")))
+calls = set(re.findall(r"#\[unsafe\(no_mangle\)\]\s*pub extern \"C\" fn (\w+)", text("crates/sigla_lib/src/lib.rt")))
 sources = "".join(path.read_text() for path in (TOP / "bindings/rust/src").glob("*.rs"))
 same("sigla.h, calls", set(re.findall(r"^uint8_t (sigla_\w+)\(", header, re.M)), calls)
 same("the Rust crate, calls", set(re.findall(r"^    fn (sigla_\w+)\(", sources, re.M)), calls)

@@ -158,12 +158,14 @@ pub fn number_line(out: &mut [u8], at: usize, k: u32) -> Wrote
     }
 }
 
-// Two blocks at the start change places, the one to `mid` and the one from there to `end`.
+// Two blocks at the start change places, the one to `mid` and the one from there to `end`: each is reversed, then both together.
 fn exchange(out: &mut [u8], mid: usize, end: usize)
     requires { (mid ≤ end) × (end ≤ length out.old) }
     ensures { out.new ≡ slice mid end out.old ++ (take mid out.old ++ drop end out.old) }
 {
-    out[..end].rotate_left(mid);
+    out[..mid].reverse();
+    out[mid..end].reverse();
+    out[..end].reverse();
 }
 
 // The lines of the nodes go behind those of the diagnostics, which the run left in the slice; then the two blocks change places.

@@ -8,7 +8,6 @@ use Rattle.desk.specs.declared.Outcome.{Outcome}
 use Rattle.desk.specs.Promises.{Finishes, ChecksFile}
 use Rattle.converters.specs.Promises.{Widens, Narrows}
 use Rattle.program.specs.declared.Job.{Job}
-use Rattle.program.specs.declared.Job.TheVariants as Job
 use Rattle.program.specs.Promises.{decided_by}
 
 abbrev Does : List ℕ → List ℕ → List ℕ → List ℕ → List ℕ → Outcome → Job → Type 0

@@ -1,6 +1,5 @@
 -- What a call leaves is what the definition prints: after an answer the slice has it already; after a refusal the slice is zero
 -- throughout, and the refusal's line takes the place of its first bytes.
-use mathlib.Core.Bool.{true, false}
 use mathlib.Core.List.{List, [], ◌∷◌, ◌++◌}
 use mathlib.Core.Path.{◌≡◌, refl, sym, ap, subst, ◌∙◌}
 use Prim.Native.Nat.{ℕ, ◌+◌, ◌-◌, ◌≤◌}
@@ -18,7 +17,6 @@ use Rattle.meaning.proofs.Tests.{cases}
 use Rattle.reading.specs.Promises.{refusal}
 use Rattle.reading.specs.declared.Refusal.{Refusal}
 use Rattle.desk.specs.declared.Outcome.{Outcome}
-use Rattle.desk.specs.declared.Outcome.TheVariants as Outcome
 use Rattle.desk.specs.Promises.{Finishes}
 use Rattle.program.specs.Promises.{Prints}
 

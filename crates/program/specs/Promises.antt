@@ -5,7 +5,6 @@ use Rattle.meaning.specs.Lamp.{lamp}
 use Rattle.lamp.specs.Promises.{lamp_line}
 use Rattle.editions.specs.Converted.{decide_widen, decide_narrow}
 use Rattle.program.specs.declared.Job.{Job}
-use Rattle.program.specs.declared.Job.TheVariants as Job
 
 -- What is decided of a file by the program's job, with so many words lent.
 abbrev pub decided_by : Job → List ℕ → ℕ → Decided

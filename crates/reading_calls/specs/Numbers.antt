@@ -2,7 +2,6 @@
 use Rattle.std.specs.Prelude.{List, ◌≡◌, ℕ}
 use Rattle.meaning.specs.Refusal.{number}
 use Rattle.reading.specs.declared.Read.{Read}
-use Rattle.reading.specs.declared.Read.TheVariants as Read
 use Rattle.meaning.specs.Frame.{wide}
 use Rattle.reading.specs.Promises.{refusal, Reads}
 

@@ -1,7 +1,6 @@
 -- How the answer of a text test goes as a number.
 use Rattle.std.specs.Prelude.{List, ◌≡◌, ℕ}
 use Rattle.text.specs.declared.Text.{Text}
-use Rattle.text.specs.declared.Text.TheVariants as Text
 use Rattle.text.specs.Answer.{Tests}
 
 abbrev pub number_of : Text → ℕ
