@@ -7,7 +7,7 @@ use Prim.Native.Nat.{ℕ, zero, suc, ◌+◌, ◌<◌, ◌≤◌}
 use native.Mathlib.Decide.{ℕ_discrete}
 use native.Mathlib.Omega.{arith}
 use borrow.Author.Count.{below_none, below_more}
-use borrow.Author.Tests.{eq-eqb, ne_eqb}
+use borrow.Author.Tests.{eq-eqb}
 use lib.Dec.{eqb}
 use lib.ListN.{length, get_or, set}
 use lib.Seq.{get_or-set_same, get_or-set_other}
@@ -16,13 +16,14 @@ use Rattle.unification.specs.Bindings.{State}
 use Rattle.unification.specs.Calls.{Admitted}
 use Rattle.unification.proofs.Tests.{clash}
 use Rattle.work.specs.Layout.{ENV, TYS}
+use Rattle.std.specs.Prelude.{cond}
 use Rattle.cells.specs.declared.Ty.{Ty}
 use Rattle.cells.specs.declared.Ty.TheVariants.{Int, Str, Bytes, Fact, Record, Union, Var, Error}
-use Rattle.cells.specs.Words.{pick}
 use Rattle.cells.specs.Stands.{Rows, tree, Ok, Holds, Keeps}
 use Rattle.cells.proofs.Frame.{keeps_refl, keeps_trans, keeps_sym, keeps_set, keeps_cells, ok_same}
 use Rattle.cells.proofs.Elsewhere.{keeps_env, holds_same}
-use Rattle.admitted.specs.Marks.{marked, item_w, good_w, Settles, Sound, Holding, Tells, Marks, unmarked, Passes, Unmarks}
+use Rattle.admitted.specs.Marks.{marked, item_w, good_w, Settles, Sound, Holding, Marks, unmarked, Passes, Unmarks}
+use Rattle.admitted.proofs.Telling.{Tells}
 use Rattle.admitted.proofs.Reaching.{leaf_admitted, holding_admitted, item_record, item_union, item_var, few, admitted_good}
 
 -- ---- One mark
@@ -55,26 +56,6 @@ unmarked_one w i (suc n) l q h = go (ℕ_discrete n i) (λ m. unmarked_one w i n
     go : Dec (n ≡ i) → (i < n → unmarked (set w (ENV + i) 1) n + 1 ≡ unmarked w n) → unmarked (set w (ENV + i) 1) (suc n) + 1 ≡ unmarked w (suc n)
     go (yes e) f = rw (e, marked_here w i h, q, unmarked_above w i 1 i (omega arith)) (omega arith)
     go (no d) f = rw (marked_other w i 1 n d) (omega (arith, f (omega arith)))
-
--- ---- What `mark` tells
-module _ {w : List ℕ} {i at x : ℕ} (a : at ≡ i) (e : x ≡ get_or w (ENV + at) 0) where
-  pub mark_stands : x ≡ 1 → Marks w i w false
-  unfolding marked
-  mark_stands q = record {
-    new = λ z. clash (cc);
-    old = λ z. (refl, λ f. let t = eq-eqb (get_or w (ENV + i) 0) 1 (rw (← a) (sym e ∙ q)) in clash (cc));
-  }
-
-  module _ {t : Ty} (q : t ≡ item_w w i) {r : Bool} (h : Tells (Holding w t) r) where
-    pub mark_set : ¬ (x ≡ 1) → r ≡ true → {w' : List ℕ} → w' ≡ set w (ENV + at) 1 → Marks w i w' true
-    unfolding marked
-    mark_set n y f = record {
-      new = λ z. (rw (← a) f, ne_eqb (get_or w (ENV + i) 0) 1 (λ o. n (e ∙ rw a o)), rw (← q) (h.yes y));
-      old = λ z. clash (cc);
-    }
-
-    pub mark_not : r ≡ false → Marks w i w false
-    mark_not y = record { new = λ z. clash (cc); old = λ z. (refl, λ m. rw (← q) (h.no y)) }
 
 -- ---- No mark
 zero_there : (w : List ℕ) (i : ℕ) → get_or (set w i 0) i 0 ≡ 0
@@ -129,7 +110,7 @@ pub record Passing (w₀ w : List ℕ) (i : ℕ) (some : Bool) : Type 0 where
   pub within : i ≤ 1280
   pub keeps : Keeps ENV TYS w₀ w
   pub sound : (T : Rows) (st : State) → Holds w₀ T st → Sound w₀ T st.subst → Sound w T st.subst
-  pub fewer : TYS ≤ length w₀ → unmarked w 1280 + pick some 1 0 ≤ unmarked w₀ 1280
+  pub fewer : TYS ≤ length w₀ → unmarked w 1280 + cond some 1 0 ≤ unmarked w₀ 1280
   pub rests : some ≡ false → (w ≡ w₀) × ((j : ℕ) → j < i → marked w₀ j ≡ false → ¬ Holding w₀ (item_w w₀ j))
 
 pub passing_start : (w : List ℕ) → Passing w w 0 false
@@ -156,7 +137,7 @@ module _ {w₀ w : List ℕ} {i : ℕ} {some : Bool} (P : Passing w₀ w i some)
         rests = λ q. clash (cc);
       })
     where
-      less : (b : Bool) → unmarked w 1280 + pick b 1 0 ≤ unmarked w₀ 1280 → unmarked (set w (ENV + i) 1) 1280 + 1 ≡ unmarked w 1280
+      less : (b : Bool) → unmarked w 1280 + cond b 1 0 ≤ unmarked w₀ 1280 → unmarked (set w (ENV + i) 1) 1280 + 1 ≡ unmarked w 1280
           → unmarked (set w (ENV + i) 1) 1280 + 1 ≤ unmarked w₀ 1280
       less true f q = omega arith
       less false f q = omega arith

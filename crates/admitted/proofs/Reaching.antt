@@ -3,7 +3,6 @@
 use mathlib.Core.Bool.{Bool, true, false}
 use mathlib.Core.List.{List}
 use mathlib.Core.Logic.{◌↔◌}
-use mathlib.Core.Option.{some}
 use mathlib.Core.Path.{◌≡◌, refl, sym, ◌∙◌, ap}
 use mathlib.Core.WellFounded.{Acc}
 use Prim.Native.Nat.{ℕ, zero, suc, ◌+◌, ◌-◌, ◌*◌, ◌%◌, ◌<◌, ◌≤◌}
@@ -24,11 +23,10 @@ use Rattle.cells.specs.declared.Ty.{Ty}
 use Rattle.cells.specs.declared.Ty.TheVariants.{Int, Str, Bytes, Fact, Record, Union, Var, Error}
 use Rattle.cells.specs.declared.Kind.{Kind}
 use Rattle.cells.specs.declared.Kind.TheVariants.{Fields, Alternatives}
-use Rattle.cells.specs.declared.Bound.{Bound}
-use Rattle.cells.specs.declared.Bound.TheVariants.{To, Free}
 use Rattle.cells.specs.Words.{declared_w, count_w, part_w, bound_w}
 use Rattle.cells.specs.Stands.{Rows, tree, bound_tree, row_from, row_w, IsCell, declared, made, Ok, OkBound, Holds}
 use Rattle.admitted.specs.Marks.{marked, item_w, good_w, Sound, Distinct, BoundGood, Holding}
+use Rattle.std.specs.Prelude.{None, Option, Some}
 
 -- ---- A row, by the numbers of its cells
 module _ (T : Rows) (w : List ℕ) (k : Kind) (c : ℕ) where
@@ -87,7 +85,7 @@ module _ (s : Subst) where
   node_admitted k r a h u itself = a
   node_admitted k r a h u (inside i) = h u i
 
-  var_admitted : (x : ℕ) → ((t : Tree.Ty) → bound s x ≡ some t → Admitted s t) → Admitted s (Tree.Var x)
+  var_admitted : (x : ℕ) → ((t : Tree.Ty) → bound s x ≡ Some t → Admitted s t) → Admitted s (Tree.Var x)
   unfolding Admitted
   var_admitted x h u itself = tt
   var_admitted x h u (through {t = t} e i) = h t e u i
@@ -103,7 +101,7 @@ module _ {w : List ℕ} {T : Rows} {st : State} (H : Holds w T st) where
     λ d a l m b h. row_distinct T w Fields c 0 (count_w w c) (rw (cell_row Fields c i) at d) a (omega arith) m h (omega arith),
   )
 
-  bound_is : (x : ℕ) (u : Ty) → bound_w w x ≡ To u → bound st.subst x ≡ some (tree T u)
+  bound_is : (x : ℕ) (u : Ty) → bound_w w x ≡ Some u → bound st.subst x ≡ Some (tree T u)
   bound_is x u q = H.binds.at x ∙ rw q
 
   -- ---- Sound
@@ -114,10 +112,10 @@ module _ {w : List ℕ} {T : Rows} {st : State} (H : Holds w T st) where
     cell_sound k c i h u r = row_allowed T w k c st.subst 0 (count_w w c)
         (λ j a b. S (part_w w k c j).ty (H.cells.ok k c j i (omega arith)) (h j (omega arith))) u (rw (cell_row k c i) at r)
 
-    bound_sound : (x : ℕ) (b : Bound) → bound_w w x ≡ b → OkBound w b → BoundGood w b → (t : Tree.Ty) → bound st.subst x ≡ some t → Admitted st.subst t
+    bound_sound : (x : ℕ) (b : Option Ty) → bound_w w x ≡ b → OkBound w b → BoundGood w b → (t : Tree.Ty) → bound st.subst x ≡ Some t → Admitted st.subst t
     unfolding Sound
-    bound_sound x Free q o g t e = let z : bound_tree T (bound_w w x) ≡ some t = sym (H.binds.at x) ∙ e in clash (cc)
-    bound_sound x (To u) q o g t e = let z : tree T u ≡ t = cc (bound_is x u q) in rw (← z) (S u o g)
+    bound_sound x None q o g t e = let z : bound_tree T (bound_w w x) ≡ Some t = sym (H.binds.at x) ∙ e in clash (cc)
+    bound_sound x (Some u) q o g t e = let z : tree T u ≡ t = cc (bound_is x u q) in rw (← z) (S u o g)
 
     pub holding_admitted : (t : Ty) → Ok w t → Holding w t → Admitted st.subst (tree T t)
     holding_admitted Int o h = leaf_admitted st.subst Tree.Int
@@ -245,10 +243,10 @@ module _ {w : List ℕ} {T : Rows} {st : State} (H : Holds w T st) where
     unfolding Admitted Behind
     var_good x (Acc.intro x' h) o a = good_holding (Var x') o (go (bound_w w x') refl (H.binds.ok x') (λ y b. var_good y (h y b)))
       where
-        go : (b : Bound) → bound_w w x' ≡ b → OkBound w b
+        go : (b : Option Ty) → bound_w w x' ≡ b → OkBound w b
             → ((y : ℕ) → Behind st.subst y x' → Ok w (Var y) → Admitted st.subst (Tree.Var y) → good_w w (Var y) ≡ true) → BoundGood w (bound_w w x')
-        go Free q k f = rw q tt
-        go (To u) q k f =
+        go None q k f = rw q tt
+        go (Some u) q k f =
             let e = bound_is x' u q in
             rw q (tree_good (tree T u) (λ y r oy. f y (tree T u, e, r) oy (λ v i. a v (through e (reaches_trans st.subst r i))))
             (λ v i. a v (through e i)) u refl k)

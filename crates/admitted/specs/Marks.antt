@@ -1,14 +1,12 @@
 -- Which types in hand reach an Error or a record that names a field twice, told by marks. There is a mark for each cell and
 -- each unknown, and once they are settled it stands exactly where demand 3 admits the type.
-use Rattle.std.specs.Prelude.{Bool, true, false, List, ◌↔◌, ◌≡◌, ℕ, zero, suc, ◌+◌, ◌-◌, ◌≤◌, ◌<◌, eqb, ltb, length, get_or, set}
+use Rattle.std.specs.Prelude.{Bool, true, false, cond, List, ◌↔◌, ◌≡◌, ℕ, zero, suc, ◌+◌, ◌-◌, ◌≤◌, ◌<◌, eqb, ltb, length, get_or, set, None, Option, Some}
 use Rattle.unification.specs.Bindings.{Subst, State}
 use Rattle.unification.specs.Calls.{Admitted}
 use Rattle.work.specs.Layout.{ENV, TYS}
 use Rattle.cells.specs.declared.Ty.{Ty}
 use Rattle.cells.specs.declared.Ty.TheVariants.{Int, Str, Bytes, Fact, Record, Union, Var, Error}
-use Rattle.cells.specs.declared.Bound.{Bound}
-use Rattle.cells.specs.declared.Bound.TheVariants.{To, Free}
-use Rattle.cells.specs.Words.{pick, declared_w, count_w, field_w, parts_w, part_of_w, bound_w}
+use Rattle.cells.specs.Words.{declared_w, count_w, field_w, parts_w, part_of_w, bound_w}
 use Rattle.cells.specs.Stands.{Rows, tree, Ok, Holds, Keeps}
 
 -- ---- The marks: 768 of the cells, by number, and then those of the unknowns
@@ -19,7 +17,7 @@ marked w i = eqb (get_or w (ENV + i) 0) 1
 -- The type that the mark at i is of; no type in hand has that mark where there is neither a cell nor an unknown.
 unfoldable pub item_w : List ℕ → ℕ → Ty
 unfolding declared_w
-item_w w i = pick (ltb i 256) (declared_w w i) (pick (ltb i 768) (Record i) (Var (i - 768)))
+item_w w i = cond (ltb i 256) (declared_w w i) (cond (ltb i 768) (Record i) (Var (i - 768)))
 
 -- What the marks say of a type in hand.
 abbrev pub good_w : List ℕ → Ty → Bool
@@ -58,9 +56,9 @@ Lacks w c key from = (j : ℕ) → j < count_w w c → from ≤ j → ¬ (key �
 abbrev pub Distinct : List ℕ → ℕ → Type 0
 Distinct w c = (i : ℕ) → i < count_w w c → Lacks w c (field_w w c i).key (i + 1)
 
-abbrev pub BoundGood : List ℕ → Bound → Type 0
-BoundGood w Free = Unit {0}
-BoundGood w (To t) = good_w w t ≡ true
+abbrev pub BoundGood : List ℕ → Option Ty → Type 0
+BoundGood w None = Unit {0}
+BoundGood w (Some t) = good_w w t ≡ true
 
 abbrev pub Holding : List ℕ → Ty → Type 0
 Holding w Int = Unit {0}
@@ -72,11 +70,6 @@ Holding w (Union c) = AllGood w (Union c)
 Holding w (Var x) = BoundGood w (bound_w w x)
 Holding w Error = ⊥
 
--- The answer to a question: yes exactly where P.
-pub record Tells (P : Type 0) (r : Bool) : Type 0 where
-  pub yes : r ≡ true → P
-  pub no : r ≡ false → ¬ P
-
 -- One item, marked where it is unmarked and holds.
 pub record Marks (w : List ℕ) (i : ℕ) (w' : List ℕ) (r : Bool) : Type 0 where
   pub new : r ≡ true → (w' ≡ set w (ENV + i) 1) × (marked w i ≡ false) × Holding w (item_w w i)
@@ -86,7 +79,7 @@ pub record Marks (w : List ℕ) (i : ℕ) (w' : List ℕ) (r : Bool) : Type 0 wh
 unfoldable pub unmarked : List ℕ → ℕ → ℕ
 unfolding marked
 unmarked w zero = 0
-unmarked w (suc n) = pick (marked w n) 0 1 + unmarked w n
+unmarked w (suc n) = cond (marked w n) 0 1 + unmarked w n
 
 -- All items in turn.
 pub record Passes (w w' : List ℕ) (r : Bool) : Type 0 where

@@ -3,108 +3,85 @@
 // environment was, and passes over all of them mark what holds only good types, until one marks nothing.
 #![tactic(auto)]
 
-ghost use Rattle.std.specs.Prelude.{◌≡◌};
+ghost use Rattle.std.specs.Prelude.{◌≡◌, ◌<◌, ◌↔◌, IsTrue};
 ghost use Rattle.cells.specs.declared.Ty.TheVariants as Ty;
-ghost use Rattle.admitted.specs.Marks.{item_w, good_w, AllGood, Lacks, Distinct, Holding, Tells, Marks, Passes, Unmarks, Settles};
+ghost use Rattle.admitted.specs.Marks.{marked, item_w, good_w, AllGood, Lacks, Distinct, Holding, BoundGood, Marks, Passes, Unmarks, Settles};
+ghost use Rattle.cells.specs.Words.{bound_w};
 
-use cells::{Bound, Kind, Ty};
+use cells::{Kind, Ty};
 use work::{Counters, put, wide, word};
 
 const CELLS: u32 = Counters::TYPES + Counters::RECORDS;
 
 const ITEMS: u32 = CELLS + Counters::UNKNOWNS;
 
+#[tactic(auto, unfolding(crate::specs::Marks::marked))]
+fn is_marked(w: &[u32], i: usize) -> bool
+    requires { i < 8589934592 }
+    ensures { result ≡ marked w.now i }
+{
+    word(w, work::ENV + i) == 1
+}
+
 // What the marks say of a type; once they are settled, whether it is admitted.
 pub fn good(w: &[u32], t: Ty) -> bool
     ensures { result ≡ good_w w.now t }
 {
     match t {
-        Ty::Int => true,
-        Ty::Str => true,
-        Ty::Bytes => true,
-        Ty::Fact(_) => true,
-        Ty::Record(c) => word(w, work::ENV + wide(c)) == 1,
-        Ty::Union(c) => word(w, work::ENV + wide(c)) == 1,
-        Ty::Var(x) => word(w, work::ENV + (wide(CELLS) + wide(x))) == 1,
+        Ty::Int | Ty::Str | Ty::Bytes | Ty::Fact(_) => true,
+        Ty::Record(c) | Ty::Union(c) => is_marked(w, wide(c)),
+        Ty::Var(x) => is_marked(w, wide(CELLS) + wide(x)),
         Ty::Error => false,
     }
 }
 
 fn parts_good(w: &[u32], t: Ty) -> bool
-    ensures { Tells (AllGood w.now t) result }
+    ensures { IsTrue result ↔ AllGood w.now t }
 {
-    let n = cells::part_count(w, t);
-    let mut j: u32 = 0;
-    while j < n {
-        let u = cells::part_ty(w, t, j);
-        if !good(w, u) {
+    for j in 0..cells::part_count(w, t) {
+        if !good(w, cells::part_ty(w, t, j)) {
             return false;
         }
-        j += 1;
     }
     true
 }
 
 // Whether no field from this number on has the name.
 fn lacks(w: &[u32], c: u32, key: u32, from: u32) -> bool
-    ensures { Tells (Lacks w.now c key from) result }
+    ensures { IsTrue result ↔ Lacks w.now c key from }
 {
-    let n = cells::count(w, c);
-    let mut j = from;
-    while j < n {
-        let k = cells::key_at(w, Kind::Fields, c, j);
-        if key == k {
+    for j in from..cells::count(w, c) {
+        if cells::key_at(w, Kind::Fields, c, j) == key {
             return false;
         }
-        j += 1;
     }
     true
 }
 
 fn distinct(w: &[u32], c: u32) -> bool
-    ensures { Tells (Distinct w.now c) result }
+    ensures { IsTrue result ↔ Distinct w.now c }
 {
-    let n = cells::count(w, c);
-    let mut i: u32 = 0;
-    while i < n {
-        let k = cells::key_at(w, Kind::Fields, c, i);
-        if !lacks(w, c, k, i + 1) {
+    for i in 0..cells::count(w, c) {
+        if !lacks(w, c, cells::key_at(w, Kind::Fields, c, i), i + 1) {
             return false;
         }
-        i += 1;
     }
     true
 }
 
 fn bound_good(w: &[u32], x: u32) -> bool
-    ensures { Tells (Holding w.now (Ty.Var x)) result }
+    ensures { IsTrue result ↔ BoundGood w.now (bound_w w.now x) }
 {
-    let b = cells::var_ty(w, x);
-    match b {
-        Bound::Free => true,
-        Bound::To(t) => good(w, t),
-    }
-}
-
-fn record_good(w: &[u32], c: u32) -> bool
-    ensures { Tells (Holding w.now (Ty.Record c)) result }
-{
-    if parts_good(w, Ty::Record(c)) {
-        return distinct(w, c);
-    }
-    false
+    cells::var_ty(w, x).map_or(true, |t| good(w, t))
 }
 
 // Whether all that a type holds at once is good.
 fn holding(w: &[u32], t: Ty) -> bool
-    ensures { Tells (Holding w.now t) result }
+    ensures { IsTrue result ↔ Holding w.now t }
 {
     match t {
-        Ty::Int => true,
-        Ty::Str => true,
-        Ty::Bytes => true,
-        Ty::Fact(_) => true,
-        Ty::Record(c) => record_good(w, c),
+        Ty::Int | Ty::Str | Ty::Bytes | Ty::Fact(_) => true,
+        Ty::Record(c) => parts_good(w, t) && distinct(w, c),
         Ty::Union(_) => parts_good(w, t),
         Ty::Var(x) => bound_good(w, x),
         Ty::Error => false,
@@ -112,31 +89,27 @@ fn holding(w: &[u32], t: Ty) -> bool
 }
 
 // The type that a mark is of.
+#[tactic(auto, unfolding(crate::specs::Marks::item_w))]
 fn item(w: &[u32], i: u32) -> Ty
     ensures { result ≡ item_w w.now i }
 {
     if i < Counters::TYPES {
-        return cells::declared(w, i);
+        cells::declared(w, i)
+    } else if i < CELLS {
+        Ty::Record(i)
+    } else {
+        Ty::Var(i - CELLS)
     }
-    if i < CELLS {
-        return Ty::Record(i);
-    }
-    Ty::Var(i - CELLS)
 }
 
 fn mark(w: &mut [u32], i: u32) -> bool
     ensures { Marks w.old i w.new result }
 {
-    let at = work::ENV + wide(i);
-    if word(w, at) == 1 {
+    if is_marked(w, wide(i)) || !holding(w, item(w, i)) {
         return false;
     }
-    let t = item(w, i);
-    if holding(w, t) {
-        put(w, at, 1);
-        return true;
-    }
-    false
+    put(w, work::ENV + wide(i), 1);
+    true
 }
 
 // Whether there was one to mark.
@@ -144,12 +117,10 @@ fn pass(w: &mut [u32]) -> bool
     ensures { Passes w.old w.new result }
 {
     let mut some = false;
-    let mut i: u32 = 0;
-    while i < ITEMS {
+    for i in 0..ITEMS {
         if mark(w, i) {
             some = true;
         }
-        i += 1;
     }
     some
 }
@@ -157,10 +128,8 @@ fn pass(w: &mut [u32]) -> bool
 fn unmark(w: &mut [u32])
     ensures { Unmarks w.old w.new }
 {
-    let mut i: u32 = 0;
-    while i < ITEMS {
+    for i in 0..ITEMS {
         put(w, work::ENV + wide(i), 0);
-        i += 1;
     }
 }
 
@@ -172,9 +141,5 @@ pub fn settle(w: &mut [u32])
         return;
     }
     unmark(w);
-    loop {
-        if !pass(w) {
-            return;
-        }
-    }
+    while pass(w) {}
 }

@@ -1,5 +1,4 @@
 pub mod Resolving
 pub mod Noding
 pub mod Unusing
-pub mod Exchanging
 pub mod Answering

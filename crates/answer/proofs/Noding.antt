@@ -1,80 +1,69 @@
 -- The slot of a node holds no type or the type that it was found to be. To write the lines of the nodes from i on is to write
 -- them all.
-use mathlib.Core.List.{List, [], ◌∷◌, ◌++◌, map}
-use mathlib.Core.Option.{none}
-use mathlib.Core.Path.{◌≡◌, refl, sym, ap, ◌∙◌}
-use Prim.Native.Nat.{ℕ, ◌+◌, ◌*◌, ◌≤◌, ◌<◌}
-use native.Mathlib.Numerals.{add-one}
-use native.Mathlib.Omega.{arith}
-use borrow.Author.Tests.{eq-eqb, ne_eqb}
-use lib.ListN.{length, get_or, drop, length-map, get_or-map, drop_of_length-le}
-use lib.Seq.{drop-cons}
+use Rattle.std.proofs.Common.{◌≡◌, ℕ, ◌+◌, ◌*◌, ◌≤◌, ◌<◌, List, [], ◌∷◌, ◌++◌, map, length, get_or, drop, None, Option, Some, refl, sym, ap, ◌∙◌, add-one, arith, drop_of_length-le, drop-cons, eq-eqb, ne_eqb}
+use Rattle.std.proofs.Math.ListN.{length-map, get_or-map}
 use Rattle.unification.specs.Bindings.{State}
 use Rattle.work.specs.Layout.{NODE-COUNT, TYS}
 use Rattle.cells.specs.declared.Ty.{Ty}
-use Rattle.cells.specs.declared.Bound.{Bound}
 use Rattle.cells.specs.Words.{ty_w, slot_w}
 use Rattle.cells.specs.Stands.{Rows, Holds}
 use Rattle.meaning.specs.Check.{zonked}
 use Rattle.meaning.specs.Answer.{bytes₂, slot_bytes, hex_line, node_lines}
-use Rattle.writer.specs.declared.Wrote.{Wrote}
-use Rattle.writer.specs.declared.Wrote.TheVariants.{To, Full}
 use Rattle.writer.specs.Writes.{Writes, Moves, hex_of}
 use Rattle.resolving.specs.Scripts.{Resolves}
 use Rattle.answer.specs.Types.{WritesTy}
-use Rattle.answer.specs.Lines.{node_bytes, WritesSlot, WritesNode, WritesNodeLine, WritesNodeLines}
-use Rattle.writer.proofs.Writing.{writes_as, writes_then, writes_full, writes_moves, full_moves, moves_then, moves_none, moves_next, Goes, goes_start}
+use Rattle.answer.specs.Lines.{node_bytes, WritesSlot, WritesNodeLine, WritesNodeLines}
+use Rattle.writer.proofs.Writing.{writes_moves, full_moves, moves_then, moves_none, moves_next, Goes, goes_start}
 use Rattle.writer.proofs.Writing.{goes_next, goes_full, goes_done}
-use Rattle.writer.proofs.Digits.{hex_then, hex_full, line_is}
+use Rattle.writer.proofs.Digits.{hex_then, hex_full, line_then, line_full}
 
 resolves : {w : List ℕ} {T : Rows} {st : State} → Holds w T st → Resolves w T st.subst
 resolves H = record { cells = H.cells; binds = H.binds; acyclic = H.acyclic }
 
 -- ---- A slot
-slot_free : (w : List ℕ) (i : ℕ) → get_or w i 0 ≡ 0 → slot_w w i ≡ Bound.Free
+slot_free : (w : List ℕ) (i : ℕ) → get_or w i 0 ≡ 0 → slot_w w i ≡ None
 unfolding slot_w
 slot_free w i e = rw (eq-eqb _ _ e)
 
-slot_bound : (w : List ℕ) (i : ℕ) → ¬ (get_or w i 0 ≡ 0) → slot_w w i ≡ Bound.To (ty_w (get_or w i 0) (get_or w (i + 1) 0))
+slot_bound : (w : List ℕ) (i : ℕ) → ¬ (get_or w i 0 ≡ 0) → slot_w w i ≡ Some (ty_w (get_or w i 0) (get_or w (i + 1) 0))
 unfolding slot_w
 slot_bound w i e = rw (ne_eqb _ _ e)
 
-pub slot_none : {w out : List ℕ} {at n : ℕ} {out' : List ℕ} {r : Wrote} → get_or w (TYS + 2 * n) 0 ≡ 0 → Writes out at (hex_of (255 ∷ [])) out' r
+pub slot_none : {w out : List ℕ} {at n : ℕ} {out' : List ℕ} {r : Option ℕ} → get_or w (TYS + 2 * n) 0 ≡ 0 → Writes out at (hex_of (255 ∷ [])) out' r
     → WritesSlot w out at n out' r
 unfolding slot_bytes zonked
 slot_none {w} {out} {at} {n} e f = record { is = λ T st H l. rw (H.types.at n l, slot_free w (TYS + 2 * n) e) f; moves = writes_moves f }
 
-pub slot_some : {w out : List ℕ} {at n : ℕ} {out' : List ℕ} {r : Wrote} (t : Ty) → ¬ (get_or w (TYS + 2 * n) 0 ≡ 0)
+pub slot_some : {w out : List ℕ} {at n : ℕ} {out' : List ℕ} {r : Option ℕ} (t : Ty) → ¬ (get_or w (TYS + 2 * n) 0 ≡ 0)
     → t ≡ ty_w (get_or w (TYS + 2 * n) 0) (get_or w (TYS + 2 * n + 1) 0) → WritesTy w out at t out' r → WritesSlot w out at n out' r
 unfolding slot_bytes zonked
 slot_some {w} {out} {at} {n} {out'} {r} t e q f = record {
   is = λ T st H l.
-      let b : slot_w w (TYS + 2 * n) ≡ Bound.To t = slot_bound w (TYS + 2 * n) e ∙ ap Bound.To (sym q) in
+      let b : slot_w w (TYS + 2 * n) ≡ Some t = slot_bound w (TYS + 2 * n) e ∙ ap Some (sym q) in
       rw (H.types.at n l, b) (f.is T st.subst (resolves H) (rw b at (H.types.ok n l)));
   moves = f.moves;
 }
 
--- ---- A line
-module _ {w out : List ℕ} {at n : ℕ} {mid : List ℕ} {h : Wrote} where
-  pub node_then : Writes out at (hex_of (7 ∷ bytes₂ n)) mid h → {m : ℕ} → h ≡ To m → {out' : List ℕ} {r : Wrote} → WritesSlot w mid m n out' r
-      → WritesNode w out at n out' r
-  node_then f e g = record { is = λ T st H l. hex_then _ _ f e (g.is T st H l); moves = moves_then (writes_moves f) e g.moves }
-
-  pub node_full : Writes out at (hex_of (7 ∷ bytes₂ n)) mid h → h ≡ Full → WritesNode w out at n mid Full
-  node_full f e = record { is = λ T st H l. hex_full _ _ f e; moves = full_moves f.long }
-
-  pub line_then : WritesNode w out at n mid h → {m : ℕ} → h ≡ To m → {out' : List ℕ} {r : Wrote} → Writes mid m (10 ∷ []) out' r
-      → WritesNodeLine w out at n out' r
-  line_then f e g = record {
-    is = λ T st H l. writes_as (sym (line_is (node_bytes st n))) (writes_then (f.is T st H l) e g);
-    moves = moves_then f.moves e (writes_moves g);
+-- ---- A line: the number, the slot and LF
+module _ {w out : List ℕ} {at n : ℕ} {mid : List ℕ} {h : Option ℕ} (f : Writes out at (hex_of (7 ∷ bytes₂ n)) mid h) where
+  pub number_full : h ≡ None → WritesNodeLine w out at n mid None
+  number_full e = record {
+    is = λ T st H l. line_full (node_bytes st n) (hex_full _ _ f e) refl;
+    moves = full_moves f.long;
   }
 
-  pub line_full : WritesNode w out at n mid h → h ≡ Full → WritesNodeLine w out at n mid Full
-  line_full f e = record {
-    is = λ T st H l. writes_as (sym (line_is (node_bytes st n))) (writes_full (f.is T st H l) e (10 ∷ []));
-    moves = full_moves f.moves.long;
-  }
+  module _ {m : ℕ} (e : h ≡ Some m) {mid' : List ℕ} {r : Option ℕ} (g : WritesSlot w mid m n mid' r) where
+    pub slot_full : r ≡ None → WritesNodeLine w out at n mid' None
+    slot_full q = record {
+      is = λ T st H l. line_full (node_bytes st n) (hex_then _ _ f e (g.is T st H l)) q;
+      moves = full_moves (g.moves.long ∙ f.long);
+    }
+
+    pub line_ends : {k : ℕ} → r ≡ Some k → {out' : List ℕ} {r' : Option ℕ} → Writes mid' k (10 ∷ []) out' r' → WritesNodeLine w out at n out' r'
+    line_ends q c = record {
+      is = λ T st H l. line_then (node_bytes st n) (hex_then _ _ f e (g.is T st H l)) q c;
+      moves = moves_then (moves_then (writes_moves f) e g.moves) q (writes_moves c);
+    }
 
 -- ---- The lines
 abbrev lines_from : State → ℕ → List ℕ
@@ -84,7 +73,7 @@ lines_cons : (st : State) (i : ℕ) → i < length st.tys → lines_from st i �
 unfolding node_lines zonked
 lines_cons st i l =
     let long : i < length (map (zonked st) st.tys) = simp length-map l in
-    rw (drop-cons (map (zonked st) st.tys) i none long, get_or-map (zonked st) st.tys i none, add-one i)
+    rw (drop-cons (map (zonked st) st.tys) i None long, get_or-map (zonked st) st.tys i None, add-one i)
 
 lines_none : (st : State) (i : ℕ) → length st.tys ≤ i → lines_from st i ≡ []
 unfolding node_lines
@@ -93,7 +82,7 @@ lines_none st i l = let long : length (map (zonked st) st.tys) ≤ i = simp leng
 pub record Noding (w out₀ : List ℕ) (at n : ℕ) (out : List ℕ) (i to : ℕ) : Type 0 where
   pub within : i ≤ n
   pub all : n ≡ get_or w NODE-COUNT 0
-  pub moves : Moves out₀ at out (To to)
+  pub moves : Moves out₀ at out (Some to)
   pub go : (T : Rows) (st : State) → Holds w T st → get_or w NODE-COUNT 0 ≡ length st.tys → at ≤ length out₀
       → Goes out₀ at (lines_from st 0) out to (lines_from st i)
 
@@ -101,8 +90,8 @@ pub nodes_start : (w out : List ℕ) (at n : ℕ) → n ≡ get_or w NODE-COUNT 
 nodes_start w out at n e = record { within = omega arith; all = e; moves = moves_none out at; go = λ T st H c l. goes_start out at _ _ l refl }
 
 module _ {w out₀ : List ℕ} {at n : ℕ} {out : List ℕ} {i to : ℕ} (g : Noding w out₀ at n out i to) where
-  module _ (l : i < n) {out' : List ℕ} {r : Wrote} (f : WritesNodeLine w out to i out' r) where
-    pub nodes_next : {m : ℕ} → r ≡ To m → Noding w out₀ at n out' (i + 1) m
+  module _ (l : i < n) {out' : List ℕ} {r : Option ℕ} (f : WritesNodeLine w out to i out' r) where
+    pub nodes_next : {m : ℕ} → r ≡ Some m → Noding w out₀ at n out' (i + 1) m
     nodes_next e = record {
       within = omega arith;
       all = g.all;
@@ -110,11 +99,11 @@ module _ {w out₀ : List ℕ} {at n : ℕ} {out : List ℕ} {i to : ℕ} (g : N
       go = λ T st H c b. goes_next (g.go T st H c b) _ _ (lines_cons st i (omega (arith, g.all))) (f.is T st H (omega (arith, g.all))) e;
     }
 
-    pub nodes_full : r ≡ Full → WritesNodeLines w out₀ at out' Full
+    pub nodes_full : r ≡ None → WritesNodeLines w out₀ at out' None
     nodes_full e = record {
       is = λ T st H c b. goes_full (g.go T st H c b) _ _ (lines_cons st i (omega (arith, g.all))) (f.is T st H (omega (arith, g.all))) e;
       moves = full_moves (f.moves.long ∙ g.moves.long);
     }
 
-  pub nodes_done : n ≤ i → WritesNodeLines w out₀ at out (To to)
+  pub nodes_done : n ≤ i → WritesNodeLines w out₀ at out (Some to)
   nodes_done l = record { is = λ T st H c b. goes_done (g.go T st H c b) (lines_none st i (omega (arith, g.all))); moves = g.moves }

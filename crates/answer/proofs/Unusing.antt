@@ -18,11 +18,10 @@ use Rattle.state.specs.Words.{numbers_of, unused_of}
 use Rattle.state.specs.Runs.{span_of, Runs}
 use Rattle.state.specs.Lines.{WritesUnusedLine}
 use Rattle.state.proofs.Telling.{span_at}
-use Rattle.writer.specs.declared.Wrote.{Wrote}
-use Rattle.writer.specs.declared.Wrote.TheVariants.{To, Full}
 use Rattle.writer.specs.Writes.{Writes}
 use Rattle.writer.proofs.Writing.{writes_as, Goes, goes_start, goes_next, goes_full, goes_done}
 use Rattle.answer.specs.Lines.{WritesUnusedLines}
+use Rattle.std.specs.Prelude.{None, Option, Some}
 
 -- ---- So many nodes from a number on, the one that left first first
 unfoldable pub nodes_from : List ℕ → ℕ → ℕ → List ℕ
@@ -81,7 +80,7 @@ unused_start f w out at n e = record {
 }
 
 module _ {f w out₀ : List ℕ} {at n : ℕ} {out : List ℕ} {i to : ℕ} (g : Unusing f w out₀ at n out i to) where
-  module _ (l : i < n) {node place : ℕ} (q : node ≡ get_or w (UNUSED + place) 0) (p : place ≡ i) {out' : List ℕ} {r : Wrote}
+  module _ (l : i < n) {node place : ℕ} (q : node ≡ get_or w (UNUSED + place) 0) (p : place ≡ i) {out' : List ℕ} {r : Option ℕ}
       (h : WritesUnusedLine f w out to node out' r) where
     line : {T : Rows} {d : Described} {c : Checker} → Runs f w T d c → Writes out to (unused_line (span_of d (get_or w (UNUSED + i) 0))) out' r
     line {d = d} R =
@@ -91,7 +90,7 @@ module _ {f w out₀ : List ℕ} {at n : ℕ} {out : List ℕ} {i to : ℕ} (g :
         (rw at_i at h).is (span_of d (get_or w (UNUSED + i) 0))
         (span_at f w (get_or w (UNUSED + i) 0) (node_at d.ast.nodes (get_or w (UNUSED + i) 0)) (R.stands.node (get_or w (UNUSED + i) 0) there))
 
-    pub unused_next : {m : ℕ} → r ≡ To m → Unusing f w out₀ at n out' (i + 1) m
+    pub unused_next : {m : ℕ} → r ≡ Some m → Unusing f w out₀ at n out' (i + 1) m
     unused_next e = record {
       within = omega arith;
       all = g.all;
@@ -99,13 +98,13 @@ module _ {f w out₀ : List ℕ} {at n : ℕ} {out : List ℕ} {i to : ℕ} (g :
       go = λ T d c R b. goes_next (g.go T d c R b) _ _ (lines_cons d w n i l) (line R) e;
     }
 
-    pub unused_full : r ≡ Full → WritesUnusedLines f w out₀ at out' Full
+    pub unused_full : r ≡ None → WritesUnusedLines f w out₀ at out' None
     unused_full e = record {
       is = λ T d c R b. writes_as (ap unused_lines (rw g.all (sym (in_order_lem R)))) (goes_full (g.go T d c R b) _ _ (lines_cons d w n i l) (line R) e);
       long = h.long ∙ g.long;
     }
 
-  pub unused_done : n ≤ i → WritesUnusedLines f w out₀ at out (To to)
+  pub unused_done : n ≤ i → WritesUnusedLines f w out₀ at out (Some to)
   unused_done l = record {
     is = λ T d c R b. writes_as (ap unused_lines (rw g.all (sym (in_order_lem R)))) (goes_done (g.go T d c R b) (lines_none d w n i l));
     long = g.long;

@@ -1,16 +1,16 @@
 -- What is written of a type in hand: the digits of the bytes of meaning/specs/Answer.antt, of the type with every bound
 -- unknown replaced.
-use Rattle.std.specs.Prelude.{List, [], ◌∷◌, ℕ}
+use Rattle.std.specs.Prelude.{List, [], ◌∷◌, ℕ, ◌≤◌, length, Option}
+use Rattle.std.proofs.Common.{arith}
 use Rattle.unification.specs.Bindings.{Subst, zonk}
 use Rattle.cells.specs.declared.Ty.{Ty}
+use Rattle.cells.specs.declared.Ty.TheVariants.{Int, Str, Bytes, Fact, Record, Union, Var, Error}
 use Rattle.cells.specs.Stands.{Rows, tree, Ok}
 use Rattle.meaning.specs.Answer.{bytes₂, leaf_bytes, kind_byte, ty_bytes, cell_head}
-use Rattle.writer.specs.declared.Wrote.{Wrote}
 use Rattle.writer.specs.Writes.{Writes, Moves, hex_of}
-use Rattle.resolving.specs.Scripts as Scripts
-use Rattle.resolving.specs.Scripts.{Script, Resolves}
+use Rattle.resolving.specs.Scripts.{Script, head_of, Resolves}
 
-unfoldable pub digits : Script
+unfoldable pub digits : Script ℕ
 unfolding hex_of bytes₂ leaf_bytes kind_byte cell_head
 digits = record {
   leaf = λ p. hex_of (leaf_bytes p);
@@ -20,13 +20,17 @@ digits = record {
   part = λ k key label. hex_of (cell_head k key label);
 }
 
--- What stands before the parts of a resolved type, and before the type of a part of it.
-abbrev pub head_of : List ℕ → Ty → List ℕ
-head_of w u = Scripts.head_of digits w u
+pub head_some : (w : List ℕ) (u : Ty) → 1 ≤ length (head_of digits w u)
+unfolding digits hex_of leaf_bytes
+head_some w Int = omega arith
+head_some w Str = omega arith
+head_some w Bytes = omega arith
+head_some w (Fact p) = omega arith
+head_some w (Record c) = omega arith
+head_some w (Union c) = omega arith
+head_some w (Var x) = omega arith
+head_some w Error = omega arith
 
-abbrev pub part_head_of : Ty → ℕ → ℕ → List ℕ
-part_head_of u key label = Scripts.part_head_of digits u key label
-
-pub record WritesTy (w out : List ℕ) (at : ℕ) (t : Ty) (out' : List ℕ) (r : Wrote) : Type 0 where
+pub record WritesTy (w out : List ℕ) (at : ℕ) (t : Ty) (out' : List ℕ) (r : Option ℕ) : Type 0 where
   pub is : (T : Rows) (s : Subst) → Resolves w T s → Ok w t → Writes out at (hex_of (ty_bytes (zonk s (tree T t)))) out' r
   pub moves : Moves out at out' r

@@ -1,15 +1,9 @@
 -- A day at three desks: the first uses more than its share, and the third is still sure of its own.
-use mathlib.Core.List.{List, [], ◌∷◌}
-use mathlib.Core.Path.{◌≡◌, refl}
-use Prim.Native.Nat.{ℕ, zero, suc, ◌<◌, ◌≤◌}
-use native.Mathlib.Omega.{arith}
-use lib.ListN.{get_or}
+use Rattle.std.proofs.Common.{Ok, List, [], ◌∷◌, get_or, ◌≡◌, refl, ℕ, zero, suc, ◌<◌, ◌≤◌, arith}
 use Rattle.cabinet.specs.declared.Group.{Group}
 use Rattle.cabinet.specs.Cabinet.{total, places, ceiling_of, charged, set_up, rested}
 use Rattle.cabinet.specs.Promises.{Allowed}
 use Rattle.cabinet.specs.Days.{Led, set_up_lem, query, new_day, Assured}
-use Rattle.cabinet.proofs.Groups.{set_up_valid}
-use Rattle.cabinet.proofs.Answering.{sets_up, rests}
 use Rattle.cabinet.proofs.Days.{always, assured}
 
 abbrev shares : List ℕ
@@ -32,7 +26,7 @@ allowed = record { pairs = refl; rules = record { some = omega arith; few = omeg
     enough (suc (suc (suc i))) l = omega arith
 
 begun : Led three
-begun = set_up_lem 1000 shares caps _ (sets_up refl (set_up_valid _ _ _ allowed) refl) refl
+begun = set_up_lem 1000 shares caps (record { exactly = (λ _. allowed, λ _. refl); made = refl; turned_down = tt })
 
 -- 1,000 less the 200 and the 100 that the others are sure of
 pub first_may : ceiling_of three 0 ≡ 700
@@ -51,4 +45,4 @@ unfolding total places
 used_up = refl
 
 pub the_day_after : Assured (rested (charged three 0 700))
-the_day_after = assured (new_day used _ (rests (always used) refl))
+the_day_after = assured (new_day used (Ok (rested (charged three 0 700))) (record { exactly = (λ _. always used, λ _. refl); rests = refl; unchanged = tt }))

@@ -1,39 +1,21 @@
 -- What a valid group is sure of, and that charging a ceiling and a new day leave it valid.
-use mathlib.Core.Bool.{Bool, true, false}
-use mathlib.Core.List.{List}
-use mathlib.Core.Path.{◌≡◌, refl, sym, ap}
-use Prim.Native.Nat.{ℕ, ◌+◌, ◌-◌, ◌<◌, ◌≤◌, min, max}
-use native.Mathlib.Omega.{arith}
-use borrow.Author.Tests.{eqb-true, eqb-false, ltb-true, ltb-false}
-use lib.Dec.{eqb, ltb}
-use lib.ListN.{length, get_or, length-set, get_or-eq_default}
-use lib.Seq.{get_or-set_same, get_or-set_other}
+use Rattle.std.proofs.Common.{List, length, get_or, take, sum_by, ◌≡◌, refl, ℕ, ◌+◌, ◌-◌, ◌<◌, ◌≤◌, min, arith}
+use Rattle.std.proofs.lemmas.Grind.{common_steps}
+use Rattle.std.proofs.lemmas.Bool.Decides.{nat_tests}
 use Rattle.cabinet.specs.declared.Desk.{Desk}
 use Rattle.cabinet.specs.declared.Group.{Group}
 use Rattle.cabinet.specs.Cabinet.{absent, desk, total, larger, but, Rules, Valid, ceiling_of, charged, rested, set_up}
 use Rattle.cabinet.specs.Promises.{Allowed}
-use Rattle.cabinet.proofs.Totals.{total_same, total_split}
-use Rattle.cabinet.proofs.Places.{place_at_lem}
+use Rattle.cabinet.proofs.Totals.{total_same, total_split, total_taken}
+use Rattle.cabinet.proofs.Places.{get_or-places}
 
 -- What every other desk keeps.
 abbrev pub others : Group → ℕ → ℕ
 others g d = total (but d (λ i. larger (desk g i))) g.count
 
-under : (m a b c : ℕ) → a ≤ b → a ≤ c → min m a ≤ min m (min b c)
-under m a b c h k = omega arith
-
-rest_of_cap : (share cap used : ℕ) → share ≤ cap → share - used ≤ cap - used
-rest_of_cap share cap used l = omega arith
-
-rest_of_pool : (share pool used kept : ℕ) → kept + max used share ≤ pool → share - used ≤ pool - used - kept
-rest_of_pool share pool used kept l = omega arith
-
-third : (m b c visits : ℕ) → visits ≤ min m (min b c) → visits ≤ c
-third m b c visits l = omega arith
-
-still_beside : (share pool used kept visits used' : ℕ) → kept + max used share ≤ pool → visits ≤ pool - used - kept → used' ≤ used + visits
-    → kept + max used' share ≤ pool
-still_beside share pool used kept visits used' b l u = omega arith
+-- All that is kept, but for the desk's own.
+pub others_left : (g : Group) (d : ℕ) → g.count ≤ length g.desks → d < g.count → sum_by larger (take g.count g.desks) - larger (desk g d) ≡ others g d
+others_left g d here at = omega (arith, total_taken larger g.desks absent g.count here, total_split d (λ i. larger (desk g i)) g.count at)
 
 module _ (g : Group) (v : Valid g) (d : ℕ) (at : d < g.count) where
   -- The pool holds the desk's own beside it.
@@ -41,7 +23,7 @@ module _ (g : Group) (v : Valid g) (d : ℕ) (at : d < g.count) where
   beside = omega (arith, total_split d (λ i. larger (desk g i)) g.count at, v.held)
 
   pub assured : min 1048576 ((desk g d).share - (desk g d).used) ≤ ceiling_of g d
-  assured = under 1048576 _ _ _ (rest_of_cap _ _ _ (v.rules.caps d at)) (rest_of_pool _ _ _ _ beside)
+  assured = omega (arith, v.rules.caps d at, beside)
 
   pub within : (desk g d).used + ceiling_of g d ≤ (desk g d).cap
   within = omega (arith, v.uses d at)
@@ -55,32 +37,11 @@ record Grown (visits : ℕ) (d d' : Desk) : Type 0 where
   used : d'.used ≤ d.used + visits
 
 module _ (g : Group) (d visits : ℕ) where
-  grown_other : (i : ℕ) → (i ≡ d → ⊥) → desk (charged g d visits) i ≡ desk g i
-  grown_other i n = get_or-set_other g.desks d i _ absent n
-
-  grown_at : Grown visits (desk g d) (desk (charged g d visits) d)
-  grown_at = go (ltb d (length g.desks)) refl
-    where
-      go : (b : Bool) → ltb d (length g.desks) ≡ b → Grown visits (desk g d) (desk (charged g d visits) d)
-      go true e = rw (get_or-set_same g.desks d _ absent (ltb-true d _ e)) (record { share = refl; cap = refl; used = omega arith })
-      go false e = let past = ltb-false d _ e in
-          let still : length (charged g d visits).desks ≤ d = simp length-set past in
-          rw (get_or-eq_default (charged g d visits).desks absent still, get_or-eq_default g.desks absent past)
-          (record { share = refl; cap = refl; used = omega arith })
-
   grown : (i : ℕ) → Grown visits (desk g i) (desk (charged g d visits) i)
-  grown i = go (eqb i d) refl
-    where
-      go : (b : Bool) → eqb i d ≡ b → Grown visits (desk g i) (desk (charged g d visits) i)
-      go true e = rw (eqb-true i d e) grown_at
-      go false e = rw (grown_other i (eqb-false i d e)) (record { share = refl; cap = refl; used = omega arith })
+  grown i = record { share = grind (arith, common_steps); cap = grind (arith, common_steps); used = grind (arith, common_steps) }
 
   others_stay : others (charged g d visits) d ≡ others g d
-  others_stay = total_same _ _ g.count (λ i l. go i (eqb i d) refl)
-    where
-      go : (i : ℕ) (b : Bool) → eqb i d ≡ b → but d (λ j. larger (desk (charged g d visits) j)) i ≡ but d (λ j. larger (desk g j)) i
-      go i true e = rw (e, but)
-      go i false e = rw (e, but) (ap larger (grown_other i (eqb-false i d e)))
+  others_stay = total_same _ _ g.count (λ i l. grind (arith, nat_tests, common_steps))
 
   pub charged_valid : Valid g → d < g.count → visits ≤ ceiling_of g d → Valid (charged g d visits)
   charged_valid v at l = record {
@@ -90,45 +51,43 @@ module _ (g : Group) (d visits : ℕ) where
       shares = rw (total_same _ (λ i. (desk g i).share) g.count (λ i k. (grown i).share)) v.rules.shares;
       caps = λ i k. omega (arith, (grown i).share, (grown i).cap, v.rules.caps i k);
     };
-    uses = λ i k. go i k (eqb i d) refl;
-    held = rw (total_split d (λ i. larger (desk (charged g d visits) i)) g.count at, others_stay, grown_at.share)
-        (still_beside _ _ _ _ visits _ (beside g v d at) (third 1048576 _ _ visits l) grown_at.used);
+    uses = λ i k. grind (arith, common_steps, within, v.uses);
+    held = omega (arith, total_split d (λ i. larger (desk (charged g d visits) i)) g.count at, others_stay, (grown d).share, (grown d).used, beside g v d at, l);
   }
-    where
-      go : (i : ℕ) → i < g.count → (b : Bool) → eqb i d ≡ b → (desk (charged g d visits) i).used ≤ (desk (charged g d visits) i).cap
-      go i k true e = rw (eqb-true i d e) (omega (arith, grown_at.used, grown_at.cap, within g v d at))
-      go i k false e = rw (grown_other i (eqb-false i d e)) (v.uses i k)
 
 -- ---- No use yet
 
 module _ (g : Group) (share cap : ℕ → ℕ) (unused : (i : ℕ) → i < 16 → desk g i ≡ record { share = share i; cap = cap i; used = 0 }) where
+  -- A fact of each of the first desks, by what it is.
+  each : (n : ℕ) → n ≤ 16 → (P : ℕ → Desk → Type 0) → ((i : ℕ) → i < n → P i (record { share = share i; cap = cap i; used = 0 })) → (i : ℕ) → i < n → P i (desk g i)
+  each n few P h i l = rw (unused i (omega arith)) (h i l)
+
   pub unused_valid : Rules g.count g.pool share cap → Valid g
   unused_valid r = record {
     rules = record {
       some = r.some;
       few = r.few;
-      shares = rw (total_same _ share g.count (λ i k. ap (λ x. x.share) (unused i (omega (arith, r.few))))) r.shares;
-      caps = λ i k. rw (unused i (omega (arith, r.few))) (r.caps i k);
+      shares = rw (total_same _ share g.count (each g.count r.few (λ i d. d.share ≡ share i) (λ i k. refl))) r.shares;
+      caps = each g.count r.few (λ i d. d.share ≤ d.cap) r.caps;
     };
-    uses = λ i k. rw (unused i (omega (arith, r.few))) (omega arith);
-    held = rw (total_same (λ i. larger (desk g i)) share g.count (λ i k. rw (unused i (omega (arith, r.few))) (omega arith))) r.shares;
+    uses = each g.count r.few (λ i d. d.used ≤ d.cap) (λ i k. omega arith);
+    held = rw (total_same _ share g.count (each g.count r.few (λ i d. larger d ≡ share i) (λ i k. omega arith))) r.shares;
   }
 
   pub unused_rules : Valid g → Rules g.count g.pool share cap
   unused_rules v = record {
     some = v.rules.some;
     few = v.rules.few;
-    shares = rw (total_same share (λ i. (desk g i).share) g.count (λ i k. sym (ap (λ x. x.share) (unused i (omega (arith, v.rules.few))))))
-        v.rules.shares;
+    shares = rw (total_same share _ g.count (each g.count v.rules.few (λ i d. share i ≡ d.share) (λ i k. refl))) v.rules.shares;
     caps = λ i k. rw (unused i (omega (arith, v.rules.few))) at (v.rules.caps i k);
   }
 
 pub rested_valid : (g : Group) → Valid g → Valid (rested g)
-rested_valid g v = unused_valid (rested g) (λ i. (desk g i).share) (λ i. (desk g i).cap) (λ i k. place_at_lem _ 16 i k) v.rules
+rested_valid g v = unused_valid (rested g) (λ i. (desk g i).share) (λ i. (desk g i).cap) (λ i k. get_or-places _ 16 i k) v.rules
 
 module _ (pool : ℕ) (shares caps : List ℕ) where
   set_up_at : (i : ℕ) → i < 16 → desk (set_up pool shares caps) i ≡ record { share = get_or shares i 0; cap = get_or caps i 0; used = 0 }
-  set_up_at i k = place_at_lem _ 16 i k
+  set_up_at i k = get_or-places _ 16 i k
 
   pub set_up_valid : Allowed pool shares caps → Valid (set_up pool shares caps)
   set_up_valid a = unused_valid (set_up pool shares caps) (λ i. get_or shares i 0) (λ i. get_or caps i 0) set_up_at a.rules

@@ -1,45 +1,37 @@
 -- A list by what stands at each of its places.
-use mathlib.Core.List.{List}
-use mathlib.Core.Path.{◌≡◌, refl, sym, ap}
-use Prim.Native.Nat.{ℕ, zero, suc, ◌+◌, ◌<◌, ◌≤◌}
-use native.Mathlib.Omega.{arith}
-use lib.ListN.{length, get_or, set, length-set}
-use lib.Seq.{ext_get_or, get_or-set_same, get_or-set_other}
+use Rattle.std.proofs.Common.{List, length, get_or, ◌≡◌, ℕ, zero, suc, ◌+◌, ◌<◌, ◌∙◌, subst, arith}
+use Rattle.std.proofs.lemmas.List.FromFn.{length-map-range_with_len, get_or-map-range_with_len, fill_by_all}
+use Rattle.std.specs.Array.{IsFromFnResult, IsFromFnResultFrom, IsMapOf}
+use Rattle.std.specs.Fn.{Called}
+use denote.Param.Members.{Mut}
 use Rattle.cabinet.specs.declared.Desk.{Desk}
 use Rattle.cabinet.specs.Cabinet.{absent, places}
-use Rattle.cabinet.proofs.Totals.{up_to}
 
-pub place_length : (f : ℕ → Desk) (n : ℕ) → length (places f n) ≡ n
+pub length-places : (f : ℕ → Desk) (n : ℕ) → length (places f n) ≡ n
 unfolding places
-place_length f zero = refl
-place_length f (suc n) = ap suc (place_length (λ i. f (suc i)) n)
+length-places f n = length-map-range_with_len f 0 n
 
-pub place_at_lem : (f : ℕ → Desk) (n i : ℕ) → i < n → get_or (places f n) i absent ≡ f i
+pub get_or-places : (f : ℕ → Desk) (n i : ℕ) → i < n → get_or (places f n) i absent ≡ f i
 unfolding places
-place_at_lem f zero i l = absurd (omega arith)
-place_at_lem f (suc n) zero l = refl
-place_at_lem f (suc n) (suc i) l = place_at_lem (λ j. f (suc j)) n i (omega arith)
+get_or-places f n i l = get_or-map-range_with_len f 0 n i i absent l (omega arith)
 
--- The places below i hold what they are to hold, and those from i on what they held.
-pub record Filling (f : ℕ → Desk) (ds₀ : List Desk) (i : ℕ) (ds : List Desk) : Type 0 where
-  pub long : length ds ≡ length ds₀
-  pub done : (j : ℕ) → j < i → get_or ds j absent ≡ f j
-  pub left : (j : ℕ) → i ≤ j → get_or ds j absent ≡ get_or ds₀ j absent
+pub places_by_all : (f : ℕ → Desk) (ds : List Desk) (n : ℕ) → length ds ≡ n → ((i : ℕ) → i < n → get_or ds i absent ≡ f i) → ds ≡ places f n
+unfolding places
+places_by_all f ds n l h = fill_by_all f ds n absent l h
 
-module _ {f : ℕ → Desk} {ds₀ : List Desk} where
-  pub filling_start : Filling f ds₀ 0 ds₀
-  filling_start = record { long = refl; done = λ j l. absurd (omega arith); left = λ j l. refl }
+-- What `array::from_fn` makes of a closure that gives h of each index and stays as it is.
+module _ {F : Type 0} (g : Mut F (ℕ × Unit {0}) Desk) (f : F) (h : ℕ → Desk)
+    (says : (i : ℕ) (d : Desk) (q : F) → Called g f (i, tt) d q → (q ≡ f) × (d ≡ h i)) where
+  each_made : (ds : List Desk) (i n : ℕ) → IsFromFnResultFrom g f ds i n → (k j : ℕ) → i + k ≡ j → k < n → get_or ds j absent ≡ h j
+  each_made ds i zero e k j p l = absurd (omega arith)
+  each_made ds i (suc n) e zero j p l = let q : i ≡ j = omega arith in subst (λ j. get_or ds j absent ≡ h j) q (e.2.1 absent ∙ (says i e.1 e.0 e.3).1)
+  each_made ds i (suc n) e (suc k) j p l =
+      each_made ds (i + 1) n (subst (λ q. IsFromFnResultFrom g q ds (i + 1) n) (says i e.1 e.0 e.3).0 e.4) k j (omega arith) (omega arith)
 
-  pub filling_on : {i : ℕ} {ds : List Desk} → Filling f ds₀ i ds → i < length ds₀ → (d : Desk) → d ≡ f i → Filling f ds₀ (i + 1) (set ds i d)
-  filling_on {i} {ds} h l d e = record {
-    long = simp length-set h.long;
-    done = up_to (λ j. get_or (set ds i d) j absent ≡ f j) i
-        (λ j b. rw (get_or-set_other ds i j d absent (λ q. omega arith)) (h.done j b))
-        (rw (get_or-set_same ds i d absent (rw h.long l)) e);
-    left = λ j b. rw (get_or-set_other ds i j d absent (λ q. omega arith)) (h.left j (omega arith));
-  }
+  pub places_from_fn : (ds : List Desk) (n : ℕ) → IsFromFnResult g f ds n → ds ≡ places h n
+  places_from_fn ds n r = places_by_all h ds n r.long (λ i l. each_made ds 0 n r.each i i (omega arith) l)
 
-  pub filling_end : {n i : ℕ} {ds : List Desk} → Filling f ds₀ i ds → length ds₀ ≡ n → n ≤ i → ds ≡ places f n
-  filling_end {n} {i} {ds} h e l =
-      ext_get_or absent ds (places f n) (cc (h.long, place_length f n))
-      (λ j b. let k : j < n = omega (arith, h.long) in rw (h.done j (omega arith)) (sym (place_at_lem f n j k)))
+-- What `map` makes of a list by a closure that gives h of each element.
+pub places_map : {F : Type 0} (g : Mut F (Desk × Unit {0}) Desk) (f : F) (h : Desk → Desk) → ((d e : Desk) (p q : F) → Called g p (d, tt) e q → e ≡ h d)
+    → (ds es : List Desk) (n : ℕ) → IsMapOf g f ds es n → es ≡ places (λ i. h (get_or ds i absent)) n
+places_map g f h says ds es n r = places_by_all (λ i. h (get_or ds i absent)) es n r.long (λ i l. let a = r.at i absent absent l in says _ _ a.0 a.1 a.2)

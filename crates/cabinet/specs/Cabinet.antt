@@ -1,5 +1,6 @@
 -- Card 8: a cabinet's daily pool of visits and the desks that use it, over natural numbers.
-use Rattle.std.specs.Prelude.{true, false, List, [], ◌∷◌, ℕ, zero, suc, ◌+◌, ◌-◌, ◌<◌, ◌≤◌, min, max, eqb, length, replicate, get_or, set}
+use Rattle.std.specs.Prelude.{true, false, List, ℕ, zero, suc, ◌+◌, ◌-◌, ◌<◌, ◌≤◌, min, max, eqb, map, length, replicate, get_or, set}
+use Rattle.std.specs.List.{range_with_len}
 use Rattle.cabinet.specs.declared.Desk.{Desk}
 use Rattle.cabinet.specs.declared.Group.{Group}
 
@@ -21,18 +22,24 @@ total f (suc n) = total f n + f n
 
 -- ---- The rules
 
--- "From 1 to 16 desks"; "each has a share, all shares together no more than the pool, and a cap no lower than its share"
+-- "From 1 to 16 desks"; "each has a share, all shares together no more than the pool, and a cap no lower than its
+-- share"
 pub record Rules (n pool : ℕ) (share cap : ℕ → ℕ) : Type 0 where
   pub some : 1 ≤ n
   pub few : n ≤ 16
   pub shares : total share n ≤ pool
   pub caps : (i : ℕ) → i < n → share i ≤ cap i
 
+-- "a cap no lower than its share", and "where a use passes its cap"
+abbrev pub IsWithinCap : Desk → Type 0
+IsWithinCap d = (d.share ≤ d.cap) × (d.used ≤ d.cap)
+
 -- "the larger of that desk's use and share"
 abbrev pub larger : Desk → ℕ
 larger d = max d.used d.share
 
--- 17 otherwise: "a group handed in that breaks them or where a use passes its cap or the larger of use and share add up past the pool"
+-- 17 otherwise: "a group handed in that breaks them or where a use passes its cap or the larger of use and share add up
+-- past the pool"
 pub record Valid (g : Group) : Type 0 where
   pub rules : Rules g.count g.pool (λ i. (desk g i).share) (λ i. (desk g i).cap)
   pub uses : (i : ℕ) → i < g.count → (desk g i).used ≤ (desk g i).cap
@@ -44,8 +51,8 @@ pub record Valid (g : Group) : Type 0 where
 abbrev pub but : ℕ → (ℕ → ℕ) → ℕ → ℕ
 but d f i = elim (eqb i d) [ true ↦ 0 | false ↦ f i ]
 
--- "the smallest of three numbers: 1,048,576; its cap less its use; the pool less its use and less, for every other desk, the larger of that
--- desk's use and share"
+-- "the smallest of three numbers: 1,048,576; its cap less its use; the pool less its use and less, for every other desk,
+-- the larger of that desk's use and share"
 abbrev pub ceiling_of : Group → ℕ → ℕ
 ceiling_of g d = min 1048576 (min ((desk g d).cap - (desk g d).used) (g.pool - (desk g d).used - total (but d (λ i. larger (desk g i))) g.count))
 
@@ -61,8 +68,7 @@ charged g d visits = record {
 
 -- A list by what stands at each of its places.
 unfoldable pub places : (ℕ → Desk) → ℕ → List Desk
-places f zero = []
-places f (suc n) = f 0 ∷ places (λ i. f (suc i)) n
+places f n = map f (range_with_len 0 n)
 
 -- "A new day sets each use to 0"
 abbrev pub rested : Group → Group

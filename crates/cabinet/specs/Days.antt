@@ -1,17 +1,18 @@
 -- The groups that calls lead to, and what holds of each of them "whatever the others do".
-use Rattle.std.specs.Prelude.{false, List, ◌≡◌, ℕ, ◌-◌, ◌<◌, ◌≤◌, min}
+use Rattle.std.specs.Prelude.{Result, Ok, List, ℕ, ◌-◌, ◌<◌, ◌≤◌, min}
 use Rattle.cabinet.specs.declared.Group.{Group}
-use Rattle.cabinet.specs.declared.Changed.{Changed}
 use Rattle.cabinet.specs.Cabinet.{desk, Valid, ceiling_of, charged}
-use Rattle.cabinet.specs.Promises.{Rests, SetsUp}
+use Rattle.cabinet.specs.Promises.{Rests, SetsUp, left}
 
--- Any list of calls from a set-up that is not turned down: queries at any desks, each charged at most its ceiling of that moment, and new days.
+-- Any list of calls from a set-up that is not turned down: queries at any desks, each charged at most its ceiling of that
+-- moment, and new days.
 pub data Led : Group → Type 0 where
-  set_up_lem : (pool : ℕ) (shares caps : List ℕ) (r : Changed) → SetsUp pool shares caps r → r.refused ≡ false → Led r.group
+  set_up_lem : (pool : ℕ) (shares caps : List ℕ) {g : Group} → SetsUp pool shares caps (Ok g) → Led g
   query : {g : Group} → Led g → (d visits : ℕ) → d < g.count → visits ≤ ceiling_of g d → Led (charged g d visits)
-  new_day : {g : Group} → Led g → (r : Changed) → Rests g r → Led r.group
+  new_day : {g : Group} → Led g → (r : Result Group Group) → Rests g r → Led (left r)
 
--- "a desk's ceiling is never under the smaller of 1,048,576 and the unused rest of its share, and no use passes its cap"
+-- "a desk's ceiling is never under the smaller of 1,048,576 and the unused rest of its share, and no use passes its
+-- cap"
 pub record Assured (g : Group) : Type 0 where
   pub valid : Valid g
   pub uses : (d : ℕ) → d < g.count → (desk g d).used ≤ (desk g d).cap

@@ -1,326 +1,256 @@
 // One cabinet with a daily pool of visits, and the 1 to 16 desks that use it.
 #![tactic(auto)]
 
-ghost use Rattle.std.specs.Prelude.{◌≡◌, ◌<◌, ◌≤◌, min, length};
-ghost use Rattle.cabinet.specs.Cabinet.{absent, nobody, larger, Valid, ceiling_of, charged, rested};
-ghost use Rattle.cabinet.specs.Accounts.{open_account, ceiling_in, charged_to, Good};
-ghost use Rattle.cabinet.specs.Promises.{At, IsAt, Others, Validates, SetsUp, Ceils, Rests, Made, no_desks};
+ghost use Rattle.std.specs.Prelude.{◌≡◌, ◌≤◌, ◌↔◌, IsTrue, IsSome, IfSome, All, length, sum_by};
+ghost use Rattle.cabinet.specs.Cabinet.{nobody, desk, total, but, larger, IsWithinCap, rested, ceiling_of, charged};
+ghost use Rattle.cabinet.specs.Promises.{At, IsAt, Validates, SetsUp, Ceils, Rests, Made};
 
+use std::array;
+use std::marker::Model;
 use work::Counters;
 
+// The most desks of a group.
+pub const DESKS: usize = 16;
+
 // What a desk is sure of, what it may use at most, and what it has used today.
-#[derive(Clone, Copy)]
+#[derive(Clone, Copy, Default)]
 pub struct Desk {
     pub share: u32,
     pub cap: u32,
     pub used: u32,
 }
 
-// The first `count` places are the desks.
-#[derive(Clone, Copy)]
-pub struct Group {
-    pub count: u32,
-    pub pool: u32,
-    pub desks: [Desk; 16],
-}
-
-// The group after a call; or 17, and the group that the call leaves.
-#[derive(Drop)]
-pub struct Changed {
-    pub group: Group,
-    pub refused: bool,
-}
-
-// The visits that a desk may make now; or 17.
-#[derive(Drop)]
-pub enum Allowance {
-    Visits(u32),
-    Refused,
-}
-
-// What the queries of a file are charged to: a desk of a group; or nothing, and each has the visits of a query alone.
-#[derive(Clone, Copy)]
-pub struct Account {
-    pub bounded: bool,
-    pub desk: usize,
-    pub group: Group,
-}
-
-fn wide(x: u32) -> u64
-    ensures { (result ≡ x) × (result < 4294967296) }
-{
-    x as u64
-}
-
-fn index(x: u32) -> usize
-    ensures { result ≡ x }
-{
-    x as usize
-}
-
-fn least(a: u64, b: u64) -> u64
-    ensures { result ≡ min a b }
-{
-    if a < b { a } else { b }
-}
-
-pub fn no_desks() -> Group
-    ensures { result ≡ nobody }
-{
-    let absent = Desk {
-        share: 0,
-        cap: 0,
-        used: 0,
-    };
-    Group {
-        count: 0,
-        pool: 0,
-        desks: [absent; 16],
+impl Desk {
+    // What the other desks leave to this one: the larger of its use and its share.
+    fn kept(&self) -> u32
+        ensures { result ≡ larger self.now }
+    {
+        self.used.max(self.share)
     }
 }
 
-// What the other desks leave to this one: the larger of its use and its share.
-fn kept(d: Desk) -> u64
-    ensures { (result ≡ larger d) × (result < 4294967296) }
+// Whether no desk's share and no desk's use passes its cap.
+fn are_within_caps(desks: &[Desk]) -> bool
+    ensures { IsTrue result ↔ All IsWithinCap desks.now }
 {
-    if d.used < d.share {
-        wide(d.share)
-    } else {
-        wide(d.used)
-    }
+    desks.iter().all(|d| d.share <= d.cap && d.used <= d.cap)
 }
 
-// Whether the group obeys the rules; its sums have more than 32 bits.
-pub fn is_valid(g: Group) -> bool
-    ensures { Validates g result }
+// What these desks keep together, in more than 32 bits.
+fn held(desks: &[Desk]) -> u64
+    requires { length desks.now ≤ 16 }
+    ensures { result ≡ sum_by larger desks.now }
 {
-    let n = index(g.count);
-    if n < 1 {
-        return false;
-    }
-    if 16 < n {
-        return false;
-    }
-    let ds = g.desks;
-    let mut held: u64 = 0;
-    let mut i: usize = 0;
-    while i < n {
-        let d = ds[i];
-        if d.cap < d.share {
-            return false;
-        }
-        if d.cap < d.used {
-            return false;
-        }
-        held += kept(d);
-        i += 1;
-    }
-    held <= wide(g.pool)
-}
-
-// What every other desk keeps.
-fn others(ds: [Desk; 16], n: usize, desk: usize) -> u64
-    requires { n ≤ 16 }
-    ensures { Others ds n desk result }
-{
-    let mut sum: u64 = 0;
-    let mut i: usize = 0;
-    while i < n {
-        if i != desk {
-            let d = ds[i];
-            sum += kept(d);
-        }
-        i += 1;
+    let mut sum = 0;
+    for d in desks {
+        sum += u64::from(d.kept());
     }
     sum
 }
 
-// The smallest of the card's three numbers.
-pub fn may_use(g: Group, desk: usize) -> u32
-    requires { Valid g × (desk < g.count) }
-    ensures { result ≡ ceiling_of g desk }
-{
-    let n = index(g.count);
-    let ds = g.desks;
-    let d = ds[desk];
-    let used = wide(d.used);
-    let own = wide(d.cap) - used;
-    let rest = wide(g.pool) - used - others(ds, n, desk);
-    least(wide(Counters::VISITS), least(own, rest)) as u32
+// The first `count` places are the desks. An array and a count: there is no heap, and C hands in any count.
+#[derive(Clone, Copy)]
+pub struct Group {
+    pub count: u32,
+    pub pool: u32,
+    pub desks: [Desk; DESKS],
 }
 
-// Whether the group obeys the rules and has such a desk.
-pub fn is_at(g: Group, desk: usize) -> bool
-    ensures { IsAt g desk result }
-{
-    if is_valid(g) {
-        return desk < index(g.count);
+impl Group {
+    // What a set-up that is turned down comes back with.
+    pub fn no_desks() -> Self
+        ensures { result ≡ nobody }
+    {
+        Group {
+            count: 0,
+            pool: 0,
+            desks: [Desk::default(); DESKS],
+        }
     }
-    false
-}
 
-pub fn ceiling(g: Group, desk: usize) -> Allowance
-    ensures { Ceils g desk result }
-{
-    if is_at(g, desk) {
-        return Allowance::Visits(may_use(g, desk));
+    // The desks of these shares and caps, unused.
+    fn made(pool: u32, shares: &[u32], caps: &[u32]) -> Self
+        requires { length shares.now ≤ 16 }
+        ensures { Made pool shares.now caps.now result }
+    {
+        Group {
+            count: shares.len() as u32,
+            pool,
+            desks: array::from_fn(|i| Desk {
+                share: shares.get(i).copied().unwrap_or(0),
+                cap: caps.get(i).copied().unwrap_or(0),
+                used: 0,
+            }),
+        }
     }
-    Allowance::Refused
-}
 
-// Visits that a query at the desk made, within its ceiling.
-pub fn charge(g: Group, desk: usize, visits: u32) -> Group
-    requires { At g desk × (visits ≤ ceiling_of g desk) }
-    ensures { result ≡ charged g desk visits }
-{
-    let mut ds = g.desks;
-    let d = ds[desk];
-    ds[desk] = Desk {
-        share: d.share,
-        cap: d.cap,
-        used: d.used + visits,
-    };
-    Group {
-        count: g.count,
-        pool: g.pool,
-        desks: ds,
+    // A desk for each share and cap; or 17, and no desks.
+    pub fn set_up(pool: u32, shares: &[u32], caps: &[u32]) -> Result<Self, Self>
+        ensures { SetsUp pool shares.now caps.now result }
+    {
+        if shares.len() != caps.len() || shares.len() > DESKS {
+            return Err(Self::no_desks());
+        }
+        let group = Self::made(pool, shares, caps);
+        if group.is_valid() {
+            Ok(group)
+        } else {
+            Err(Self::no_desks())
+        }
     }
-}
 
-// Each use is 0 again.
-fn rest(g: Group) -> Group
-    ensures { result ≡ rested g }
-{
-    let ds = g.desks;
-    let absent = Desk {
-        share: 0,
-        cap: 0,
-        used: 0,
-    };
-    let mut unused = [absent; 16];
-    let mut i: usize = 0;
-    while i < 16 {
-        let d = ds[i];
-        unused[i] = Desk {
-            share: d.share,
-            cap: d.cap,
-            used: 0,
-        };
-        i += 1;
+    // Whether the group obeys the rules.
+    pub fn is_valid(&self) -> bool
+        ensures { Validates self.now result }
+    {
+        match self.desks.get(..self.count as usize) {
+            None | Some([]) => false,
+            Some(desks) => are_within_caps(desks) && held(desks) <= u64::from(self.pool),
+        }
     }
-    Group {
-        count: g.count,
-        pool: g.pool,
-        desks: unused,
-    }
-}
 
-// The day's end: the uses are forgotten; or 17, and the group stays.
-pub fn new_day(g: Group) -> Changed
-    ensures { Rests g result }
-{
-    if is_valid(g) {
-        return Changed {
-            group: rest(g),
-            refused: false,
-        };
+    // Whether the group obeys the rules and has such a desk.
+    pub fn is_at(&self, desk: usize) -> bool
+        ensures { IsAt self.now desk result }
+    {
+        self.is_valid() && desk < self.count as usize
     }
-    Changed {
-        group: g,
-        refused: true,
-    }
-}
 
-// The desks of these shares and caps, unused.
-fn made(pool: u32, shares: &[u32], caps: &[u32]) -> Group
-    requires { length shares.now ≤ 16 }
-    ensures { Made pool shares.now caps.now result }
-{
-    let absent = Desk {
-        share: 0,
-        cap: 0,
-        used: 0,
-    };
-    let mut ds = [absent; 16];
-    let mut i: usize = 0;
-    while i < 16 {
-        ds[i] = Desk {
-            share: work::word(shares, i),
-            cap: work::word(caps, i),
-            used: 0,
-        };
-        i += 1;
+    // The desk of this number, if the group obeys the rules and has it.
+    pub fn seat(self, desk: usize) -> Option<Seat>
+        ensures at { IsSome result ↔ At self desk }
+        ensures seat { IfSome result (λ s. s ≡ record { group = self; desk = desk }) }
+    {
+        if self.is_at(desk) {
+            Some(Seat { group: self, desk })
+        } else {
+            None
+        }
     }
-    Group {
-        count: shares.len() as u32,
-        pool: pool,
-        desks: ds,
+
+    // The visits that a desk may make now; or 17.
+    pub fn ceiling(self, desk: usize) -> Option<u32>
+        ensures { Ceils self desk result }
+    {
+        Some(self.seat(desk)?.may_use())
+    }
+
+    // The group with each use 0 again.
+    fn rested(self) -> Self
+        ensures { result ≡ rested self }
+    {
+        Group {
+            desks: self.desks.map(|d| Desk { used: 0, ..d }),
+            ..self
+        }
+    }
+
+    // The day's end: the uses are forgotten; or 17, and the group stays.
+    pub fn new_day(self) -> Result<Self, Self>
+        ensures { Rests self result }
+    {
+        if self.is_valid() {
+            Ok(self.rested())
+        } else {
+            Err(self)
+        }
     }
 }
 
-fn turned_down() -> Changed
-    ensures { result ≡ no_desks }
-{
-    Changed {
-        group: no_desks(),
-        refused: true,
+// A desk of a group that obeys the rules.
+#[derive(Clone, Copy)]
+pub struct Seat {
+    group: Group,
+    desk: usize,
+}
+
+impl Model for Seat {
+    ghost use Rattle.cabinet.specs.Promises.{DeskOf, At};
+
+    ghost Value = { DeskOf };
+
+    ghost view = { λ s. record { group = s.group; desk = s.desk } };
+
+    ghost invariant = { λ s. At s.group s.desk };
+
+    ghost inverse = { λ d. record { group = d.group; desk = d.desk } };
+}
+
+impl Seat {
+    // The group, which obeys the rules and has the desk.
+    pub fn group(self) -> Group
+        ensures at { At self.group self.desk }
+        ensures group { result ≡ self.group }
+    {
+        self.group
+    }
+
+    // What every other desk keeps.
+    fn others(&self) -> u64
+        ensures { result ≡ total (but self.now.desk (λ i. larger (desk self.now.group i))) self.now.group.count }
+    {
+        let g = &self.group;
+        held(&g.desks[..g.count as usize]) - u64::from(g.desks[self.desk].kept())
+    }
+
+    // The smallest of the card's three numbers.
+    pub fn may_use(&self) -> u32
+        ensures { result ≡ ceiling_of self.now.group self.now.desk }
+    {
+        let d = self.group.desks[self.desk];
+        let rest = u64::from(self.group.pool) - u64::from(d.used) - self.others();
+        Counters::VISITS.min(d.cap - d.used).min(rest as u32)
+    }
+
+    // Visits that a query at the desk made, within its ceiling.
+    pub fn charge(mut self, visits: u32) -> Self
+        requires { visits ≤ ceiling_of self.group self.desk }
+        ensures { result ≡ record { group = charged self.group self.desk visits; desk = self.desk } }
+    {
+        let desk = &mut self.group.desks[self.desk];
+        desk.used += visits;
+        self
     }
 }
 
-// A desk for each share and cap; or 17, and no desks.
-pub fn setup(pool: u32, shares: &[u32], caps: &[u32]) -> Changed
-    ensures { SetsUp pool shares.now caps.now result }
-{
-    if shares.len() != caps.len() {
-        return turned_down();
-    }
-    if 16 < shares.len() {
-        return turned_down();
-    }
-    let g = made(pool, shares, caps);
-    if is_valid(g) {
-        return Changed {
-            group: g,
-            refused: false,
-        };
-    }
-    turned_down()
+// What the queries of a file are charged to: nothing, and each has the visits of a query alone; or a desk.
+#[derive(Clone, Copy)]
+pub enum Account {
+    Open,
+    At(Seat),
 }
 
-pub fn open_account() -> Account
-    ensures { result ≡ open_account }
-{
-    Account {
-        bounded: false,
-        desk: 0,
-        group: no_desks(),
-    }
-}
+impl Account {
+    ghost use Rattle.cabinet.specs.Accounts.{ceiling_in, charged_to, group_in};
 
-// The ceiling of the next query.
-pub fn next_ceiling(a: Account) -> u32
-    requires { Good a }
-    ensures { result ≡ ceiling_in a }
-{
-    if a.bounded {
-        let g = a.group;
-        return may_use(g, a.desk);
+    // The ceiling of the next query.
+    pub fn next_ceiling(&self) -> u32
+        ensures { result ≡ ceiling_in self.now }
+    {
+        match self {
+            Account::Open => Counters::VISITS,
+            Account::At(seat) => seat.may_use(),
+        }
     }
-    Counters::VISITS
-}
 
-pub fn charge_to(a: Account, visits: u32) -> Account
-    requires { Good a × (visits ≤ ceiling_in a) }
-    ensures { result ≡ charged_to a visits }
-{
-    if a.bounded {
-        let g = a.group;
-        let after = charge(g, a.desk, visits);
-        return Account {
-            bounded: a.bounded,
-            desk: a.desk,
-            group: after,
-        };
+    // The account with the visits of a query, within its ceiling.
+    pub fn charge(self, visits: u32) -> Self
+        requires { visits ≤ ceiling_in self }
+        ensures { result ≡ charged_to self visits }
+    {
+        match self {
+            Account::Open => self,
+            Account::At(seat) => Account::At(seat.charge(visits)),
+        }
     }
-    a
+
+    // The group that is charged, or no desks.
+    pub fn group(self) -> Group
+        ensures { result ≡ group_in self }
+    {
+        match self {
+            Account::Open => Group::no_desks(),
+            Account::At(seat) => seat.group(),
+        }
+    }
 }

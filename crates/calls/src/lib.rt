@@ -11,9 +11,10 @@ ghost use Rattle.cells.specs.Promises.{RollsBack};
 ghost use Rattle.calls.specs.Beginning.{begun_w};
 ghost use Rattle.calls.specs.Numbers.{reason_of, field_of, two, CallsUnify};
 
-use cells::{Ty, TyError, Unified};
+use cells::{Failure, Ty, TyError};
 
 // A list of calls starts here: no unknown, no inferred record, nothing to take back. The schema types that a reading left stay.
+#[tactic(auto, unfolding(crate::specs::Beginning::begun_w))]
 pub fn sigla_begin(w: &mut [u32])
     ensures { w.new ≡ begun_w w.old }
 {
@@ -40,14 +41,14 @@ pub fn sigla_reserve(w: &mut [u32], n: u32) -> u32
 pub fn sigla_put_field(w: &mut [u32], i: u32, name: u32, tag: u32, payload: u32)
     ensures { w.new ≡ put_field_w w.old i name (ty_w tag payload) }
 {
-    cells::put_field(w, i, name, cells::ty_of(tag, payload));
+    cells::put_field(w, i, name, Ty::from_words(tag, payload));
 }
 
 // A record of fields that were put: its cell.
 pub fn sigla_new_record(w: &mut [u32], from: u32, n: u32) -> u32
     ensures { (result ≡ payload_w (new_record_ty w.old from n)) × (w.new ≡ new_record_w w.old from n) }
 {
-    cells::payload_of(cells::new_record(w, from, n))
+    cells::new_record(w, from, n).payload()
 }
 
 pub fn sigla_snapshot(w: &[u32]) -> u32
@@ -79,9 +80,7 @@ fn field(e: TyError) -> u32
 {
     match e {
         TyError::UnknownField(n) => n,
-        TyError::Mismatch(_, _) => 0,
-        TyError::UnionMismatch(_, _, _) => 0,
-        TyError::Infinite => 0,
+        _ => 0,
     }
 }
 
@@ -106,22 +105,15 @@ pub fn sigla_unify(
 {
     let r = unify::unify(
         w,
-        cells::ty_of(gtag, got),
-        cells::ty_of(etag, expected),
+        Ty::from_words(gtag, got),
+        Ty::from_words(etag, expected),
         left,
     );
-    match r {
-        Unified::Good(l) => {
-            put_two(out, l, 0);
-            0
-        }
-        Unified::Bad(e, l) => {
-            put_two(out, l, field(e));
-            reason(e)
-        }
-        Unified::Spent => {
-            put_two(out, 0, 0);
-            5
-        }
-    }
+    let (number, rest, name) = match r {
+        Ok(l) => (0, l, 0),
+        Err(Failure::Bad(e, l)) => (reason(e), l, field(e)),
+        Err(Failure::Spent) => (5, 0, 0),
+    };
+    put_two(out, rest, name);
+    number
 }

@@ -1,12 +1,11 @@
 -- Questions over the parts of a type, as `occurs` and `orderable` ask them: the answer for the row is the answer for the rest of
 -- it with the visits left. A question is put to each part in turn until one ends it.
 use mathlib.Core.Bool.{true, false}
-use mathlib.Core.List.{List, [], ◌∷◌}
+use mathlib.Core.List.{List}
 use mathlib.Core.Path.{◌≡◌, refl, sym, ◌∙◌, ap}
 use native.Mathlib.Omega.{arith}
 use Prim.Native.Nat.{ℕ, zero, suc, ◌+◌, ◌-◌, ◌<◌, ◌≤◌}
-use types.Run.{OneOf, hit, miss}
-use denote.Enum.Declared.{tag_of}
+use borrow.Author.Tests.{eq-eqb, ne_eqb}
 use Rattle.unification.specs.Ty as Tree
 use Rattle.unification.specs.Ty.{Row, ε, cell, app, app_row}
 use Rattle.unification.specs.Bindings as Bindings
@@ -22,14 +21,16 @@ use Rattle.cells.specs.declared.Ty.TheVariants.{Int, Str, Bytes, Fact, Record, U
 use Rattle.cells.specs.declared.Kind.{Kind}
 use Rattle.cells.specs.declared.Kind.TheVariants.{Fields, Alternatives}
 use Rattle.cells.specs.declared.Part.{Part}
-use Rattle.cells.specs.declared.Asked.{Asked}
-use Rattle.cells.specs.declared.Asked.TheVariants.{Yes, No, Spent}
-use Rattle.cells.specs.Words.{count_w, part_w, field_w, is_unknown_w, parts_w, part_of_w}
+use Rattle.cells.specs.Words.{count_w, part_w, parts_w, part_of_w}
 use Rattle.cells.specs.Stands.{Rows, tree, IsCell, Ok, Cells, Binds}
 use Rattle.cells.specs.Promises.{Reprs, answer_of, asked_left, Occurs, IsOrderable}
-use Rattle.cells.specs.contracts.Ty as ty
-use Rattle.cells.specs.contracts.Asked as asked
+use Rattle.std.proofs.lemmas.Option.{none-some}
 use Rattle.cells.proofs.Parts.{rest, rest_whole, rest_cell, rest_none, part_ok}
+use Rattle.std.specs.Prelude.{Bool, None, Option, Some, ℕ}
+
+-- The answer is not this one, with whatever visits left.
+abbrev pub IsNot : Bool → Option (Bool × ℕ) → Type 0
+IsNot b a = (l : ℕ) → a ≡ Some (b, l) → ⊥
 
 -- ---- A walk that has come to number j with v visits left: f is the question over a row, of bindings with P.
 pub record Walking (P : Subst → Type 0) (f : ℕ → Subst → ℕ → Row → Answer) (w : List ℕ) (k : Kind) (c left n j v : ℕ) : Type 0 where
@@ -111,8 +112,9 @@ pub record Asking (P : Subst → Type 0) (f : ℕ → Subst → ℕ → Row → 
   pub unmoved : j ≡ 0 → v ≡ left
   pub walks : (k : Kind) (c : ℕ) → HasParts u k c → Walking P f w k c left n j v
 
-pub asking_start : (P : Subst → Type 0) (f : ℕ → Subst → ℕ → Row → Answer) (w : List ℕ) (u : Ty) (left n : ℕ) → n ≡ parts_w w u → Asking P f w u left n 0 left
-asking_start P f w u left n e = record {
+pub asking_start : (P : Subst → Type 0) (f : ℕ → Subst → ℕ → Row → Answer) (w : List ℕ) (u : Ty) (left n v : ℕ) → n ≡ parts_w w u → v ≡ left
+    → Asking P f w u left n 0 v
+asking_start P f w u left n v e q = rw q record {
   within = omega arith;
   all = e;
   fewer = omega arith;
@@ -142,9 +144,9 @@ module _ {P : Subst → Type 0} {f : ℕ → Subst → ℕ → Row → Answer} {
   }
 
 -- A part that did not end the walk: as often as it is asked it costs the same, and where fewer visits are left they run out.
-pub record Costs (asked : ℕ → Asked → Type 0) (goes : ℕ → Asked) (cost : ℕ) : Type 0 where
+pub record Costs (asked : ℕ → Option (Bool × ℕ) → Type 0) (goes : ℕ → Option (Bool × ℕ)) (cost : ℕ) : Type 0 where
   pub enough : (v : ℕ) → cost ≤ v → asked v (goes (v - cost))
-  pub short : (v : ℕ) → v < cost → asked v Spent
+  pub short : (v : ℕ) → v < cost → asked v None
 
 -- ---- `occurs`
 abbrev pub Any : Subst → Type 0
@@ -153,7 +155,7 @@ Any s = Unit {0}
 abbrev pub asks : ℕ → ℕ → Subst → ℕ → Row → Answer
 asks x d s v r = any_row (λ u t. Bindings.occurs d s x u t) v r
 
-pub no_visit : {w : List ℕ} {x : ℕ} {t : Ty} {left : ℕ} → left ≡ 0 → Occurs w x t left Spent
+pub no_visit : {w : List ℕ} {x : ℕ} {t : Ty} {left : ℕ} → left ≡ 0 → Occurs w x t left None
 unfolding Bindings.occurs
 no_visit {w} {x} {t} {left} e = record { is = λ T s C B o d h. one s d (tree T t); fewer = omega arith }
   where
@@ -163,7 +165,7 @@ no_visit {w} {x} {t} {left} e = record { is = λ T s C B o d h. one s d (tree T 
 
 module _ {w : List ℕ} {x : ℕ} {t u : Ty} {left : ℕ} (some : ¬ (left ≡ 0)) (rep : Reprs w t u) where
   -- One visit, and on to the end of the chain.
-  visit : (r : Asked) → asked_left r ≤ left - 1
+  visit : (r : Option (Bool × ℕ)) → asked_left r ≤ left - 1
       → ((T : Rows) (s : Subst) → Cells w T → Binds w T s → Ok w u → (d : ℕ) → left - 1 ≤ d
       → answer_of r ≡ occurs_in (λ v t. Bindings.occurs d s x v t) x (left - 1) (tree T u))
       → Occurs w x t left r
@@ -182,81 +184,37 @@ any_next : (ask : ℕ → Tree.Ty → Answer) (v l k m : ℕ) (t : Tree.Ty) (r :
 unfolding any_row
 any_next ask v l k m t r e = rw (e, any_row)
 
-any_ends : (a : Asked) → OneOf (0 ∷ 2 ∷ []) (tag_of asked.the_type a) → (ask : ℕ → Tree.Ty → Answer) (v k m : ℕ) (t : Tree.Ty) (r : Row)
+any_ends : (a : Option (Bool × ℕ)) → IsNot false a → (ask : ℕ → Tree.Ty → Answer) (v k m : ℕ) (t : Tree.Ty) (r : Row)
     → ask v t ≡ answer_of a → any_row ask v (cell k m t r) ≡ answer_of a
 unfolding any_row
-any_ends (Yes l) h ask v k m t r e = rw (e, any_row)
-any_ends Spent h ask v k m t r e = rw (e, any_row)
-any_ends (No l) h ask v k m t r e = absurd (miss (0 ∷ 2 ∷ []) 1 tt h)
-
-pub no_unknown : (x : ℕ) (u : Ty) → OneOf (0 ∷ 1 ∷ 2 ∷ 3 ∷ 4 ∷ 5 ∷ 7 ∷ []) (tag_of ty.the_type u) → false ≡ is_unknown_w u x
-no_unknown x Int o = refl
-no_unknown x Str o = refl
-no_unknown x Bytes o = refl
-no_unknown x (Fact p) o = refl
-no_unknown x (Record c) o = refl
-no_unknown x (Union c) o = refl
-no_unknown x (Var y) o = absurd (miss (0 ∷ 1 ∷ 2 ∷ 3 ∷ 4 ∷ 5 ∷ 7 ∷ []) 6 tt o)
-no_unknown x Error o = refl
-
-pub no_parts : (w : List ℕ) (u : Ty) → OneOf (0 ∷ 1 ∷ 2 ∷ 3 ∷ 6 ∷ 7 ∷ []) (tag_of ty.the_type u) → 0 ≡ parts_w w u
-no_parts w Int o = refl
-no_parts w Str o = refl
-no_parts w Bytes o = refl
-no_parts w (Fact p) o = refl
-no_parts w (Record c) o = absurd (miss (0 ∷ 1 ∷ 2 ∷ 3 ∷ 6 ∷ 7 ∷ []) 4 tt o)
-no_parts w (Union c) o = absurd (miss (0 ∷ 1 ∷ 2 ∷ 3 ∷ 6 ∷ 7 ∷ []) 5 tt o)
-no_parts w (Var y) o = refl
-no_parts w Error o = refl
-
-pub no_part : (w : List ℕ) (u : Ty) (j : ℕ) {p : Part} → OneOf (0 ∷ 1 ∷ 2 ∷ 3 ∷ 6 ∷ 7 ∷ []) (tag_of ty.the_type u) → p ≡ field_w w 0 j → p ≡ part_of_w w u j
-no_part w Int j o e = e
-no_part w Str j o e = e
-no_part w Bytes j o e = e
-no_part w (Fact p) j o e = e
-no_part w (Record c) j o e = absurd (miss (0 ∷ 1 ∷ 2 ∷ 3 ∷ 6 ∷ 7 ∷ []) 4 tt o)
-no_part w (Union c) j o e = absurd (miss (0 ∷ 1 ∷ 2 ∷ 3 ∷ 6 ∷ 7 ∷ []) 5 tt o)
-no_part w (Var y) j o e = e
-no_part w Error j o e = e
-
-pub no_part_ty : (w : List ℕ) (u : Ty) (j : ℕ) {t : Ty} → OneOf (0 ∷ 1 ∷ 2 ∷ 3 ∷ 6 ∷ 7 ∷ []) (tag_of ty.the_type u) → t ≡ (field_w w 0 j).ty
-    → t ≡ (part_of_w w u j).ty
-no_part_ty w u j o e = e ∙ ap (λ (p : Part). p.ty) (no_part w u j o refl)
+any_ends (Some (true, l)) h ask v k m t r e = rw (e, any_row)
+any_ends None h ask v k m t r e = rw (e, any_row)
+any_ends (Some (false, l)) h ask v k m t r e = absurd (h l refl)
 
 -- A type without parts holds an unknown where it is that unknown.
-is_inside : (x : ℕ) (T : Rows) (ask : ℕ → Tree.Ty → Answer) (v : ℕ) (u : Ty) → true ≡ is_unknown_w u x → yes_left v ≡ occurs_in ask x v (tree T u)
+not_inside : (x : ℕ) (T : Rows) (ask : ℕ → Tree.Ty → Answer) (v : ℕ) (u : Ty) → ¬ (u ≡ Var x) → NoParts u → no_left v ≡ occurs_in ask x v (tree T u)
 unfolding occurs_in
-is_inside x T ask v (Var y) e = rw (← e, occurs_in)
-is_inside x T ask v Int e = absurd (let z : ◌≡◌ {A = ℕ} 0 1 = cc in omega arith)
-is_inside x T ask v Str e = absurd (let z : ◌≡◌ {A = ℕ} 0 1 = cc in omega arith)
-is_inside x T ask v Bytes e = absurd (let z : ◌≡◌ {A = ℕ} 0 1 = cc in omega arith)
-is_inside x T ask v (Fact p) e = absurd (let z : ◌≡◌ {A = ℕ} 0 1 = cc in omega arith)
-is_inside x T ask v (Record c) e = absurd (let z : ◌≡◌ {A = ℕ} 0 1 = cc in omega arith)
-is_inside x T ask v (Union c) e = absurd (let z : ◌≡◌ {A = ℕ} 0 1 = cc in omega arith)
-is_inside x T ask v Error e = absurd (let z : ◌≡◌ {A = ℕ} 0 1 = cc in omega arith)
-
-not_inside : (x : ℕ) (T : Rows) (ask : ℕ → Tree.Ty → Answer) (v : ℕ) (u : Ty) → false ≡ is_unknown_w u x → NoParts u → no_left v ≡ occurs_in ask x v (tree T u)
-unfolding occurs_in
-not_inside x T ask v Int e o = refl
-not_inside x T ask v Str e o = refl
-not_inside x T ask v Bytes e o = refl
-not_inside x T ask v (Fact p) e o = refl
-not_inside x T ask v (Record c) e o = absurd o
-not_inside x T ask v (Union c) e o = absurd o
-not_inside x T ask v (Var y) e o = rw (← e, occurs_in)
-not_inside x T ask v Error e o = refl
+not_inside x T ask v Int n o = refl
+not_inside x T ask v Str n o = refl
+not_inside x T ask v Bytes n o = refl
+not_inside x T ask v (Fact p) n o = refl
+not_inside x T ask v (Record c) n o = absurd o
+not_inside x T ask v (Union c) n o = absurd o
+not_inside x T ask v (Var y) n o = rw (ne_eqb x y (λ e. n (ap Var (sym e))), occurs_in)
+not_inside x T ask v Error n o = refl
 
 module _ {w : List ℕ} {x : ℕ} {u : Ty} {left n j v : ℕ} (g : Asking Any (asks x) w u left n j v) where
-  pub occurring_next : (t : Ty) → j < n → t ≡ (part_of_w w u j).ty → {a : Asked} → Occurs w x t v a → (l : ℕ) → a ≡ No l → Asking Any (asks x) w u left n (j + 1) l
+  pub occurring_next : (t : Ty) → j < n → t ≡ (part_of_w w u j).ty → {a : Option (Bool × ℕ)} → Occurs w x t v a → (l : ℕ) → a ≡ Some (false, l) → Asking Any (asks x) w u left n (j + 1) l
   occurring_next t h e o l q = asking_next g t h e l (rw q at o.fewer) (λ T s C B A i d b k m r.
       any_next (λ u t. Bindings.occurs d s x u t) v l k m _ r (sym (rw q at (o.is T s C B i d (omega (arith, g.fewer))))))
 
 module _ {w : List ℕ} {x : ℕ} {t u : Ty} {left : ℕ} (some : ¬ (left ≡ 0)) (rep : Reprs w t u) where
-  pub occurring_yes : true ≡ is_unknown_w u x → Occurs w x t left (Yes (left - 1))
-  occurring_yes e = visit some rep (Yes (left - 1)) (omega arith) (λ T s C B o d h. is_inside x T _ (left - 1) u e)
+  pub occurring_yes : (v : ℕ) → v ≡ left - 1 → u ≡ Var x → Occurs w x t left (Some (true, v))
+  unfolding occurs_in
+  occurring_yes v q e = rw q (visit some rep (Some (true, (left - 1))) (omega arith) (λ T s C B o d h. rw (e, eq-eqb x x refl, occurs_in)))
 
   module _ {n j v : ℕ} (g : Asking Any (asks x) w u (left - 1) n j v) where
-    pub occurring_ends : (q : Ty) → j < n → q ≡ (part_of_w w u j).ty → {a : Asked} → Occurs w x q v a → OneOf (0 ∷ 2 ∷ []) (tag_of asked.the_type a)
+    pub occurring_ends : (q : Ty) → j < n → q ≡ (part_of_w w u j).ty → {a : Option (Bool × ℕ)} → Occurs w x q v a → IsNot false a
         → Occurs w x t left a
     unfolding occurs_in
     occurring_ends q h e {a} o z = by_parts u
@@ -266,15 +224,15 @@ module _ {w : List ℕ} {x : ℕ} {t u : Ty} {left : ℕ} (some : ¬ (left ≡ 0
         (sym (o.is T s C B (walk_ok (g.walks k c i) q h (here g i e) T C (cell_of i p)) d (omega (arith, g.fewer))))))))
         (λ none. absurd (omega (arith, g.all, none_of w u none)))
 
-    pub occurring_none : false ≡ is_unknown_w u x → n ≤ j → Occurs w x t left (No v)
+    pub occurring_none : ¬ (u ≡ Var x) → n ≤ j → Occurs w x t left (Some (false, v))
     unfolding occurs_in any_row
     occurring_none f h = by_parts u
-        (λ k c i. visit some rep (No v) g.fewer (λ T s C B p d b. rw (tree_of T i) (sym (walk_none (g.walks k c i) h T s C B tt (cell_of i p) d b))))
+        (λ k c i. visit some rep (Some (false, v)) g.fewer (λ T s C B p d b. rw (tree_of T i) (sym (walk_none (g.walks k c i) h T s C B tt (cell_of i p) d b))))
         (λ none. rw (g.unmoved (omega (arith, g.all, g.within, none_of w u none)))
-        (visit some rep (No (left - 1)) (omega arith) (λ T s C B o d b. not_inside x T _ (left - 1) u f none)))
+        (visit some rep (Some (false, (left - 1))) (omega arith) (λ T s C B o d b. not_inside x T _ (left - 1) u f none)))
 
 abbrev pub Outside : List ℕ → ℕ → Ty → ℕ → Type 0
-Outside w x t cost = Costs (λ v r. Occurs w x t v r) No cost
+Outside w x t cost = Costs (λ v r. Occurs w x t v r) (λ l. Some (false, l)) cost
 
 pub error_outside : (w : List ℕ) (x : ℕ) → Outside w x Error 1
 unfolding Bindings.occurs Bindings.repr Bindings.follow occurs_in
@@ -285,7 +243,7 @@ error_outside w x = record { enough = λ v h. record { is = λ T s C B o d b. on
     one s (suc d) zero h b = absurd (omega arith)
     one s (suc d) (suc v) h b = let less : suc v - 1 ≡ v = omega arith in rw less
 
-pub outside : {w : List ℕ} {x : ℕ} {t : Ty} {left l : ℕ} → Occurs w x t left (No l) → Outside w x t (left - l)
+pub outside : {w : List ℕ} {x : ℕ} {t : Ty} {left l : ℕ} → Occurs w x t left (Some (false, l)) → Outside w x t (left - l)
 outside {w} {x} {t} {left} {l} o = record {
   enough = λ v h. record {
     is = λ T s C B i d b. sym (at d s (tree T t) v b
@@ -311,14 +269,14 @@ module _ {w : List ℕ} {x : ℕ} {u : Ty} {left n j v : ℕ} {last : Ty} {cost 
   pub occurring_again : q ≡ last → cost ≤ v → v' ≡ v - cost → last' ≡ last → cost' ≡ cost → Asking Any (asks x) w u left n (j + 1) v' × Outside w x last' cost'
   occurring_again s m a b c = rw (a, b, c) (occurring_next g.0 q h e (rw s (g.1.enough v m)) (v - cost) refl, g.1)
 
-  pub occurring_new : {a : Asked} → Occurs w x q v a → (l : ℕ) → a ≡ No l → v' ≡ l → last' ≡ q → cost' ≡ v - l
+  pub occurring_new : {a : Option (Bool × ℕ)} → Occurs w x q v a → (l : ℕ) → a ≡ Some (false, l) → v' ≡ l → last' ≡ q → cost' ≡ v - l
       → Asking Any (asks x) w u left n (j + 1) v' × Outside w x last' cost'
   occurring_new o l z a b c = rw (a, b, c) (occurring_next g.0 q h e o l z, outside (rw z at o))
 
 pub occurring_short : {w : List ℕ} {x : ℕ} {t u : Ty} {left : ℕ} → ¬ (left ≡ 0) → Reprs w t u → {n j v : ℕ} {last : Ty} {cost : ℕ}
     → Asking Any (asks x) w u (left - 1) n j v × Outside w x last cost
-    → (q : Ty) → j < n → q ≡ (part_of_w w u j).ty → q ≡ last → v < cost → Occurs w x t left Spent
-occurring_short some rep g q h e s m = occurring_ends some rep g.0 q h e (rw s (g.1.short _ m)) (hit (0 ∷ 2 ∷ []) 2 tt)
+    → (q : Ty) → j < n → q ≡ (part_of_w w u j).ty → q ≡ last → v < cost → Occurs w x t left None
+occurring_short some rep g q h e s m = occurring_ends some rep g.0 q h e (rw s (g.1.short _ m)) (λ l z. none-some _ z)
 
 -- ---- `orderable`
 abbrev pub orders : ℕ → Subst → ℕ → Row → Answer
@@ -340,7 +298,7 @@ order_spent (Tree.node k r) v e = visited_none v _ e
 order_spent (Tree.Var x) v e = visited_none v _ e
 order_spent Tree.Error v e = visited_none v _ e
 
-pub order_no_visit : {w : List ℕ} {t : Ty} {left : ℕ} → left ≡ 0 → IsOrderable w t left Spent
+pub order_no_visit : {w : List ℕ} {t : Ty} {left : ℕ} → left ≡ 0 → IsOrderable w t left None
 order_no_visit {w} {t} {left} e = record { is = λ T s C B A o. sym (order_spent (Bindings.zonk s (tree T t)) left e); fewer = omega arith }
 
 module _ {w : List ℕ} {t u : Ty} {left : ℕ} (some : ¬ (left ≡ 0)) (rep : Reprs w t u) where
@@ -348,16 +306,16 @@ module _ {w : List ℕ} {t u : Ty} {left : ℕ} (some : ¬ (left ≡ 0)) (rep : 
   replaced : (T : Rows) (s : Subst) → Binds w T s → Acyclic s → Bindings.zonk s (tree T t) ≡ Bindings.zonk s (tree T u)
   replaced T s B A = sym (zonk_repr s A (tree T t)) ∙ ap (Bindings.zonk s) (sym (rep.is T s B))
 
-  order : (r : Asked) → asked_left r ≤ left - 1
+  order : (r : Option (Bool × ℕ)) → asked_left r ≤ left - 1
       → ((T : Rows) (s : Subst) → Cells w T → Binds w T s → Acyclic s → Ok w u → Unify.orderable (Bindings.zonk s (tree T u)) left ≡ answer_of r)
       → IsOrderable w t left r
   order r f a = record { is = λ T s C B A o. sym (rw (replaced T s B A) (a T s C B A (rep.ok T s B o))); fewer = omega arith }
 
-  pub order_fact : (q : ℕ) → u ≡ Fact q → IsOrderable w t left (No (left - 1))
+  pub order_fact : (q : ℕ) → u ≡ Fact q → (l : ℕ) → l ≡ left - 1 → IsOrderable w t left (Some (false, l))
   unfolding Unify.orderable Unify.leaf_orderable
-  order_fact q v = order (No (left - 1)) (omega arith) (λ T s C B A o. rw (v, zonk_leaf s (Tree.Fact q)) (visited_some left _ some))
+  order_fact q v l e = rw e (order (Some (false, (left - 1))) (omega arith) (λ T s C B A o. rw (v, zonk_leaf s (Tree.Fact q)) (visited_some left _ some)))
 
-  order_node : (k : Tree.Kind) (r : Asked) (T : Rows) (s : Subst) (c : ℕ) → tree T u ≡ Tree.node k (T c)
+  order_node : (k : Tree.Kind) (r : Option (Bool × ℕ)) (T : Rows) (s : Subst) (c : ℕ) → tree T u ≡ Tree.node k (T c)
       → orders 0 s (left - 1) (T c) ≡ answer_of r → Unify.orderable (Bindings.zonk s (tree T u)) left ≡ answer_of r
   unfolding Unify.orderable
   order_node k r T s c v q = rw (v, zonk_node s k (T c)) (visited_some left _ some ∙ q)
@@ -370,26 +328,26 @@ all_cell : (v k m : ℕ) (t : Tree.Ty) (r : Row) (a : Answer) → Unify.orderabl
 unfolding Unify.all_orderable
 all_cell v k m t r a e = ap (goes_on r) e
 
-all_ends : (a : Asked) → OneOf (1 ∷ 2 ∷ []) (tag_of asked.the_type a) → (v k m : ℕ) (t : Tree.Ty) (r : Row) → Unify.orderable t v ≡ answer_of a
+all_ends : (a : Option (Bool × ℕ)) → IsNot true a → (v k m : ℕ) (t : Tree.Ty) (r : Row) → Unify.orderable t v ≡ answer_of a
     → Unify.all_orderable (cell k m t r) v ≡ answer_of a
-all_ends (No l) h v k m t r e = all_cell v k m t r (no_left l) e
-all_ends Spent h v k m t r e = all_cell v k m t r spent e
-all_ends (Yes l) h v k m t r e = absurd (miss (1 ∷ 2 ∷ []) 0 tt h)
+all_ends (Some (false, l)) h v k m t r e = all_cell v k m t r (no_left l) e
+all_ends None h v k m t r e = all_cell v k m t r spent e
+all_ends (Some (true, l)) h v k m t r e = absurd (h l refl)
 
 module _ {w : List ℕ} {u : Ty} {left n j v : ℕ} (g : Asking Acyclic orders w u left n j v) where
   -- the answer of a part, over its type with the unknowns replaced
-  said : (t : Ty) {a : Asked} → IsOrderable w t v a → (T : Rows) (s : Subst) → Cells w T → Binds w T s → Acyclic s → Ok w t
+  said : (t : Ty) {a : Option (Bool × ℕ)} → IsOrderable w t v a → (T : Rows) (s : Subst) → Cells w T → Binds w T s → Acyclic s → Ok w t
       → Unify.orderable (app (λ x. Bindings.zonk s (Tree.Var x)) (tree T t)) v ≡ answer_of a
   said t o T s C B A i = rw (← zonk_replaces s (tree T t)) (sym (o.is T s C B A i))
 
-  pub ordering_next : (t : Ty) → j < n → t ≡ (part_of_w w u j).ty → {a : Asked} → IsOrderable w t v a → (l : ℕ) → a ≡ Yes l
+  pub ordering_next : (t : Ty) → j < n → t ≡ (part_of_w w u j).ty → {a : Option (Bool × ℕ)} → IsOrderable w t v a → (l : ℕ) → a ≡ Some (true, l)
       → Asking Acyclic orders w u left n (j + 1) l
   unfolding app_row
   ordering_next t h e o l q = asking_next g t h e l (rw q at o.fewer)
       (λ T s C B A i d b k m r. all_cell v _ _ _ _ (yes_left l) (rw q at (said t o T s C B A i)))
 
 module _ {w : List ℕ} {t u : Ty} {left : ℕ} (some : ¬ (left ≡ 0)) (rep : Reprs w t u) {n j v : ℕ} (g : Asking Acyclic orders w u (left - 1) n j v) where
-  pub ordering_ends : (q : Ty) → j < n → q ≡ (part_of_w w u j).ty → {a : Asked} → IsOrderable w q v a → OneOf (1 ∷ 2 ∷ []) (tag_of asked.the_type a)
+  pub ordering_ends : (q : Ty) → j < n → q ≡ (part_of_w w u j).ty → {a : Option (Bool × ℕ)} → IsOrderable w q v a → IsNot true a
       → IsOrderable w t left a
   unfolding app_row
   ordering_ends q h e {a} o z = by_parts u
@@ -398,27 +356,27 @@ module _ {w : List ℕ} {t u : Ty} {left : ℕ} (some : ¬ (left ≡ 0)) (rep : 
       ∙ all_ends a z v _ _ _ _ (said g q o T s C B A (walk_ok (g.walks k c i) q h (here g i e) T C (cell_of i p))))))
       (λ none. absurd (omega (arith, g.all, none_of w u none)))
 
-  pub ordering_none : OneOf (0 ∷ 1 ∷ 2 ∷ 4 ∷ 5 ∷ 6 ∷ 7 ∷ []) (tag_of ty.the_type u) → n ≤ j → IsOrderable w t left (Yes v)
+  pub ordering_none : ((q : ℕ) → u ≡ Fact q → ⊥) → n ≤ j → IsOrderable w t left (Some (true, v))
   unfolding app_row Unify.all_orderable Unify.orderable Unify.leaf_orderable
   ordering_none f h = by_parts u
-      (λ k c i. order some rep (Yes v) g.fewer (λ T s C B A p. order_node some rep (kind_of k) (Yes v) T s c (tree_of T i)
+      (λ k c i. order some rep (Some (true, v)) g.fewer (λ T s C B A p. order_node some rep (kind_of k) (Some (true, v)) T s c (tree_of T i)
       (walk_none (g.walks k c i) h T s C B A (cell_of i p) (left - 1) (omega arith))))
       (λ none. rw (g.unmoved (omega (arith, g.all, g.within, none_of w u none)))
-      (order some rep (Yes (left - 1)) (omega arith) (λ T s C B A o. yes_at T s u f none (rw (← rep.is T s B) at (repr_resolved s A (tree T t))))))
+      (order some rep (Some (true, (left - 1))) (omega arith) (λ T s C B A o. yes_at T s u f none (rw (← rep.is T s B) at (repr_resolved s A (tree T t))))))
     where
-      yes_at : (T : Rows) (s : Subst) (u : Ty) → OneOf (0 ∷ 1 ∷ 2 ∷ 4 ∷ 5 ∷ 6 ∷ 7 ∷ []) (tag_of ty.the_type u) → NoParts u → Resolved s (tree T u)
+      yes_at : (T : Rows) (s : Subst) (u : Ty) → ((q : ℕ) → u ≡ Fact q → ⊥) → NoParts u → Resolved s (tree T u)
           → Unify.orderable (Bindings.zonk s (tree T u)) left ≡ yes_left (left - 1)
       yes_at T s Int h o f = rw (zonk_leaf s Tree.Int) (visited_some left _ some)
       yes_at T s Str h o f = rw (zonk_leaf s Tree.String) (visited_some left _ some)
       yes_at T s Bytes h o f = rw (zonk_leaf s Tree.Bytes) (visited_some left _ some)
-      yes_at T s (Fact q) h o f = absurd (miss (0 ∷ 1 ∷ 2 ∷ 4 ∷ 5 ∷ 6 ∷ 7 ∷ []) 3 tt h)
+      yes_at T s (Fact q) h o f = absurd (h q refl)
       yes_at T s (Record c) h o f = absurd o
       yes_at T s (Union c) h o f = absurd o
       yes_at T s (Var y) h o f = rw (zonk_unbound s y f) (visited_some left _ some)
       yes_at T s Error h o f = rw (zonk_error s) (visited_some left _ some)
 
 abbrev pub Ordered : List ℕ → Ty → ℕ → Type 0
-Ordered w t cost = Costs (λ v r. IsOrderable w t v r) Yes cost
+Ordered w t cost = Costs (λ v r. IsOrderable w t v r) (λ l. Some (true, l)) cost
 
 pub error_ordered : (w : List ℕ) → Ordered w Error 1
 unfolding Unify.orderable
@@ -427,7 +385,7 @@ error_ordered w = record {
   short = λ v h. order_no_visit (omega arith);
 }
 
-pub ordered : {w : List ℕ} {t : Ty} {left l : ℕ} → IsOrderable w t left (Yes l) → Ordered w t (left - l)
+pub ordered : {w : List ℕ} {t : Ty} {left l : ℕ} → IsOrderable w t left (Some (true, l)) → Ordered w t (left - l)
 ordered {w} {t} {left} {l} o = record {
   enough = λ v h. record {
     is = λ T s C B A i. sym
@@ -448,11 +406,11 @@ module _ {w : List ℕ} {u : Ty} {left n j v : ℕ} {last : Ty} {cost : ℕ} (g 
   pub ordering_again : q ≡ last → cost ≤ v → v' ≡ v - cost → last' ≡ last → cost' ≡ cost → Asking Acyclic orders w u left n (j + 1) v' × Ordered w last' cost'
   ordering_again s m a b c = rw (a, b, c) (ordering_next g.0 q h e (rw s (g.1.enough v m)) (v - cost) refl, g.1)
 
-  pub ordering_new : {a : Asked} → IsOrderable w q v a → (l : ℕ) → a ≡ Yes l → v' ≡ l → last' ≡ q → cost' ≡ v - l
+  pub ordering_new : {a : Option (Bool × ℕ)} → IsOrderable w q v a → (l : ℕ) → a ≡ Some (true, l) → v' ≡ l → last' ≡ q → cost' ≡ v - l
       → Asking Acyclic orders w u left n (j + 1) v' × Ordered w last' cost'
   ordering_new o l z a b c = rw (a, b, c) (ordering_next g.0 q h e o l z, ordered (rw z at o))
 
 pub ordering_short : {w : List ℕ} {t u : Ty} {left : ℕ} → ¬ (left ≡ 0) → Reprs w t u → {n j v : ℕ} {last : Ty} {cost : ℕ}
     → Asking Acyclic orders w u (left - 1) n j v × Ordered w last cost
-    → (q : Ty) → j < n → q ≡ (part_of_w w u j).ty → q ≡ last → v < cost → IsOrderable w t left Spent
-ordering_short some rep g q h e s m = ordering_ends some rep g.0 q h e (rw s (g.1.short _ m)) (hit (1 ∷ 2 ∷ []) 2 tt)
+    → (q : Ty) → j < n → q ≡ (part_of_w w u j).ty → q ≡ last → v < cost → IsOrderable w t left None
+ordering_short some rep g q h e s m = ordering_ends some rep g.0 q h e (rw s (g.1.short _ m)) (λ l z. none-some _ z)

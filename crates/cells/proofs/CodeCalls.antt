@@ -3,7 +3,6 @@
 -- cell is. How the definition's unification ended is read off what the code gave back.
 use mathlib.Core.Bool.{Bool, true, false}
 use mathlib.Core.List.{List, [], ◌∷◌, ◌++◌, map}
-use mathlib.Core.Option.{Option, none, some}
 use mathlib.Core.Logic.{⊎_elim}
 use mathlib.Core.Path.{◌≡◌, refl, sym, ap, subst, ◌∙◌}
 use Prim.Native.Nat.{ℕ, zero, suc, ◌+◌, ◌-◌, ◌*◌, ◌%◌, ◌≤◌, ◌<◌}
@@ -27,7 +26,6 @@ use Rattle.cells.specs.declared.Ty.{Ty}
 use Rattle.cells.specs.declared.Ty.TheVariants.{Int, Str, Bytes, Fact, Record, Union, Var, Error}
 use Rattle.cells.specs.declared.Kind.{Kind}
 use Rattle.cells.specs.declared.Kind.TheVariants.{Fields, Alternatives}
-use Rattle.cells.specs.declared.Unified.{Unified}
 use Rattle.cells.specs.Words.{declared_w, made_field, fresh_w}
 use Rattle.cells.specs.Inferred.{new_record_w, new_record_ty, row_made, rows_with, Filled}
 use Rattle.cells.specs.Stands.{Rows, tree, bound_tree, tag_of, IsCell, declared, made, Ok, Holds}
@@ -39,6 +37,8 @@ use Rattle.cells.proofs.Frame.{SameCells, keeps_cells, cell_before, cell_by}
 use Rattle.cells.proofs.Holding.{holds_log, holds_left, annotate_keeps, annotate_holds, fresh_cells, fresh_holds}
 use Rattle.cells.proofs.Making.{reserve_other, reserve_holds, put_field_keeps, put_field_holds, new_record_ty_lem, new_record_other, new_record_count}
 use Rattle.cells.proofs.Making.{new_record_more, new_record_row, new_or_old, new_record_holds}
+use Rattle.std.specs.Prelude.{Err, None, Option, Result, Some, ℕ}
+use Rattle.cells.specs.declared.Failure.{Failure}
 
 -- What a type in hand stands for is a permitted side.
 pub ok_side : {w : List ℕ} {T : Rows} {st : State} → Holds w T st → Permitted w T → (t : Ty) → Ok w t → Side (length st.subst) (tree T t)
@@ -146,14 +146,14 @@ split (t ∷ ts) (x ∷ newer) older mark e =
 
 -- What `unify` gives back, with the state in which it ended over trees.
 module _ (v nodes : ℕ) (w' : List ℕ) (T : Rows) (marks : List ℕ) (m : Machine) (a b : Tree.Ty) where
-  abbrev Goes : Unified → State → Type 0
-  Goes (Unified.Good l) st = Beside v nodes w' T l marks (with_state_lem m st) × Returned m.state.subst a b st.subst (Unified.Good l)
-  Goes (Unified.Bad e l) st = Beside v nodes w' T l marks (with_state_lem m st) × Returned m.state.subst a b st.subst (Unified.Bad e l)
-  Goes Unified.Spent st = Holds w' T st × (Unify.unify m.state a b ≡ Unify.Spent st)
+  abbrev Goes : Result ℕ Failure → State → Type 0
+  Goes (Result.Ok l) st = Beside v nodes w' T l marks (with_state_lem m st) × Returned m.state.subst a b st.subst (Result.Ok l)
+  Goes (Err (Failure.Bad e l)) st = Beside v nodes w' T l marks (with_state_lem m st) × Returned m.state.subst a b st.subst (Err (Failure.Bad e l))
+  Goes (Err Failure.Spent) st = Holds w' T st × (Unify.unify m.state a b ≡ Unify.Spent st)
 
 module _ {v nodes : ℕ} where
   -- ---- `unify`
-  module _ {w w' : List ℕ} {T : Rows} {left : ℕ} {marks : List ℕ} {m : Machine} {got expected : Ty} {r : Unified}
+  module _ {w w' : List ℕ} {T : Rows} {left : ℕ} {marks : List ℕ} {m : Machine} {got expected : Ty} {r : Result ℕ Failure}
       (b : Beside v nodes w T left marks m) (og : Ok w got) (oe : Ok w expected) (U : Unifies w got expected left w' r) where
     abbrev x : Tree.Ty
     x = tree T got
@@ -209,7 +209,7 @@ module _ {v nodes : ℕ} where
   pub code_calls : {w : List ℕ} {T : Rows} {left : ℕ} {marks : List ℕ} {m : Machine} → CodeCalls v nodes w T left marks m → Beside v nodes w T left marks m
   unfolding Calls.begin Bindings.fresh Bindings.with_left Bindings.annotate Calls.take_snapshot Bindings.snapshot Bindings.rollback Bindings.with_history
   code_calls (none_yet H P) =
-      record { calls = Calls.none_yet; holds = H; permitted = P; visits = refl; marks_are = refl; nodes_are = length-replicate {A = Option Tree.Ty} nodes none }
+      record { calls = Calls.none_yet; holds = H; permitted = P; visits = refl; marks_are = refl; nodes_are = length-replicate {A = Option Tree.Ty} nodes None }
   code_calls (unknown {m = m} k few) =
       let b = code_calls k in
       let lt : length m.state.subst < 512 = omega (arith, b.holds.binds.unknowns) in
@@ -295,14 +295,14 @@ module _ {v nodes : ℕ} where
   code_calls (annotation {w} {T} {m = m} n t k o lt free) =
       let b = code_calls k in
       let inside : n < length m.state.tys = omega (arith, b.nodes_are) in
-      let bare : get_or m.state.tys n none ≡ none = b.holds.types.at n inside ∙ ap (bound_tree T) free in
+      let bare : get_or m.state.tys n None ≡ None = b.holds.types.at n inside ∙ ap (bound_tree T) free in
       record {
         calls = Calls.then_call b.calls (Calls.annotation n _);
         holds = annotate_holds b.holds n t inside bare o;
         permitted = permitted_same (keeps_cells (omega arith) (annotate_keeps _ n t)) b.permitted;
         visits = b.visits;
         marks_are = b.marks_are;
-        nodes_are = length-set m.state.tys n (some (tree T t)) ∙ b.nodes_are;
+        nodes_are = length-set m.state.tys n (Some (tree T t)) ∙ b.nodes_are;
       }
 
   -- Wherever a list of the code's calls has led, the limit included, the words stand for a state of which demand 3's clauses hold and all
@@ -327,7 +327,7 @@ module _ {v nodes : ℕ} where
         let b = code_calls k in
         let after = code_calls (unknown k few) in
         let is : x ≡ length m.state.subst = omega (arith, b.holds.binds.unknowns) in
-        (is, omega (arith, is, after.holds.binds.unknowns, length-append m.state.subst (none ∷ [])))
+        (is, omega (arith, is, after.holds.binds.unknowns, length-append m.state.subst (None ∷ [])))
 
     -- `new_record`: the record of the fields that were filled, a type in hand from then on.
     pub code_record : (from n : ℕ) (t : Ty) → get_or w RECORD-COUNT 0 < 512 → Filled w from n → t ≡ new_record_ty w from n
@@ -341,8 +341,8 @@ module _ {v nodes : ℕ} where
         )
 
     -- `unify`: how it ended.
-    pub code_unify : {w' : List ℕ} (got expected : Ty) (r : Unified) → Ok w got → Ok w expected → Unifies w got expected left w' r
+    pub code_unify : {w' : List ℕ} (got expected : Ty) (r : Result ℕ Failure) → Ok w got → Ok w expected → Unifies w got expected left w' r
         → Returned m.state.subst (tree T got) (tree T expected) (united T m.state got expected).subst r
-    code_unify got expected (Unified.Good l) og oe U = (unify_goes (code_calls k) og oe U).1
-    code_unify got expected (Unified.Bad e l) og oe U = (unify_goes (code_calls k) og oe U).1
-    code_unify got expected Unified.Spent og oe U = tt
+    code_unify got expected (Result.Ok l) og oe U = (unify_goes (code_calls k) og oe U).1
+    code_unify got expected (Err (Failure.Bad e l)) og oe U = (unify_goes (code_calls k) og oe U).1
+    code_unify got expected (Err Failure.Spent) og oe U = tt

@@ -13,32 +13,32 @@ use Rattle.unification.specs.Unify.{insert_once, with_keys, discriminants}
 use Rattle.unification.proofs.Tests.{clash}
 use Rattle.cells.specs.declared.Kind.TheVariants.{Alternatives}
 use Rattle.cells.specs.declared.Part.{Part}
-use Rattle.cells.specs.declared.Next.{Next}
 use Rattle.cells.specs.Words.{pick, count_w, alternative_w, part_w, lesser, lower_w}
 use Rattle.cells.specs.Stands.{Rows, row_from, row_w, IsCell, Cells}
 use Rattle.cells.specs.Promises.{least_from, KeysBelow, NotBelow, Lowers, LeastFrom, Passed}
 use Rattle.cells.proofs.Parts.{rest, rest_whole, rest_cell, rest_none}
+use Rattle.std.specs.Prelude.{None, Option, Some}
 
 -- ---- The scan of one union that has come to number j
-pub record Lowering (w : List ℕ) (c from : ℕ) (best : Next) (n j : ℕ) (least : Next) : Type 0 where
+pub record Lowering (w : List ℕ) (c from : ℕ) (best : Option ℕ) (n j : ℕ) (least : Option ℕ) : Type 0 where
   pub to : (T : Rows) → Cells w T → IsCell w Alternatives c → least_from from (T c) best ≡ least_from from (rest T w Alternatives c n j) least
   pub above : NotBelow from best → NotBelow from least
 
-lower_above : (key from : ℕ) (o : Next) → NotBelow from o → NotBelow from (lower_w key from o)
+lower_above : (key from : ℕ) (o : Option ℕ) → NotBelow from o → NotBelow from (lower_w key from o)
 unfolding lower_w
 lower_above key from o h = go (ltb key from) refl o h
   where
-    go : (b : Bool) → ltb key from ≡ b → (o : Next) → NotBelow from o → NotBelow from (pick b o (lesser key o))
+    go : (b : Bool) → ltb key from ≡ b → (o : Option ℕ) → NotBelow from o → NotBelow from (pick b o (lesser key o))
     go true q o h = h
-    go false q Next.Nothing h = ltb-false key from q
-    go false q (Next.Is m) h = one (ltb key m)
+    go false q None h = ltb-false key from q
+    go false q (Some m) h = one (ltb key m)
       where
-        one : (b : Bool) → NotBelow from (pick b (Next.Is key) (Next.Is m))
+        one : (b : Bool) → NotBelow from (pick b (Some key) (Some m))
         one true = ltb-false key from q
         one false = h
 
 -- Keys below `from` change nothing.
-below_skips : (w : List ℕ) (c from : ℕ) (best : Next) (T : Rows) (n i : ℕ) → ((j : ℕ) → j < i → j < n → (part_w w Alternatives c j).key < from)
+below_skips : (w : List ℕ) (c from : ℕ) (best : Option ℕ) (T : Rows) (n i : ℕ) → ((j : ℕ) → j < i → j < n → (part_w w Alternatives c j).key < from)
     → least_from from (rest T w Alternatives c n 0) best ≡ least_from from (rest T w Alternatives c n i) best
 unfolding least_from lower_w
 below_skips w c from best T n zero h = refl
@@ -55,7 +55,7 @@ below_skips w c from best T n (suc i) h = below_skips w c from best T n i (λ j 
         )
     go false q = let le = ltb-false i n q in rw (rest_none T w Alternatives c n i le, rest_none T w Alternatives c n (suc i) (omega arith))
 
-pub scan_start : (w : List ℕ) (c i from : ℕ) (best : Next) (n : ℕ) → Passed w c i from → n ≡ count_w w c → Lowering w c from best n i best
+pub scan_start : (w : List ℕ) (c i from : ℕ) (best : Option ℕ) (n : ℕ) → Passed w c i from → n ≡ count_w w c → Lowering w c from best n i best
 scan_start w c i from best n p e = record {
   to = λ T C k. ap (λ (r : Row). least_from from r best) (rest_whole T w Alternatives c n e C k) ∙ below_skips w c from best T n i
       (λ j l m. p.past T C k j l (omega arith));
@@ -73,26 +73,26 @@ unfolding row_w
 all_fit w f T c C i = rw (C.row Alternatives c i) (keys_fit w f T c 0 (count_w w c))
 
 -- Nothing that is not below `from` is less than it.
-pub least_low : (from m : ℕ) → m ≤ from → (r : Row) → least_from from r (Next.Is m) ≡ Next.Is m
+pub least_low : (from m : ℕ) → m ≤ from → (r : Row) → least_from from r (Some m) ≡ Some m
 unfolding least_from lower_w
 least_low from m h ε = refl
 least_low from m h (cell k l t r) = ap (least_from from r) (go (ltb k from) refl) ∙ least_low from m h r
   where
-    go : (b : Bool) → ltb k from ≡ b → pick b (Next.Is m) (lesser k (Next.Is m)) ≡ Next.Is m
+    go : (b : Bool) → ltb k from ≡ b → pick b (Some m) (lesser k (Some m)) ≡ Some m
     go true q = refl
     go false q = rw (le-ltb k m (omega (arith, ltb-false k from q)))
 
-low_enough : (from : ℕ) (o : Next) → (m : ℕ) × (lower_w from from o ≡ Next.Is m) × (m ≤ from)
+low_enough : (from : ℕ) (o : Option ℕ) → (m : ℕ) × (lower_w from from o ≡ Some m) × (m ≤ from)
 unfolding lower_w
-low_enough from Next.Nothing = (from, rw (le-ltb from from (omega arith)), omega arith)
-low_enough from (Next.Is b) = go (ltb from b) refl
+low_enough from None = (from, rw (le-ltb from from (omega arith)), omega arith)
+low_enough from (Some b) = go (ltb from b) refl
   where
-    go : (t : Bool) → ltb from b ≡ t → (m : ℕ) × (lower_w from from (Next.Is b) ≡ Next.Is m) × (m ≤ from)
+    go : (t : Bool) → ltb from b ≡ t → (m : ℕ) × (lower_w from from (Some b) ≡ Some m) × (m ≤ from)
     go true q = (from, rw (le-ltb from from (omega arith), q), omega arith)
     go false q = (b, rw (le-ltb from from (omega arith), q), ltb-false from b q)
 
-module _ {w : List ℕ} {c from : ℕ} {best : Next} {n j : ℕ} {least : Next} (g : Lowering w c from best n j least) where
-  pub scan_next : (p : Part) (r : Next) → j < n → p ≡ part_w w Alternatives c j → Lowers p.key from least r → Lowering w c from best n (j + 1) r
+module _ {w : List ℕ} {c from : ℕ} {best : Option ℕ} {n j : ℕ} {least : Option ℕ} (g : Lowering w c from best n j least) where
+  pub scan_next : (p : Part) (r : Option ℕ) → j < n → p ≡ part_w w Alternatives c j → Lowers p.key from least r → Lowering w c from best n (j + 1) r
   unfolding least_from
   scan_next p r h e l = record {
     to = λ T C i. g.to T C i ∙ rw (rest_cell T w Alternatives c n j p h e, least_from, ← l.is);
@@ -109,12 +109,12 @@ module _ {w : List ℕ} {c from : ℕ} {best : Next} {n j : ℕ} {least : Next} 
     }
 
 -- A key that is `from` itself ends the scan.
-pub scan_stop : {w : List ℕ} {c from : ℕ} {best : Next} {n j : ℕ} {least : Next} → Lowering w c from best n j least → ((i : ℕ) → get_or w i 0 < 4294967296)
-    → (p : Part) (r : Next) → j < n → p ≡ part_w w Alternatives c j → Lowers p.key from least r → p.key ≡ from → LeastFrom w c from best r
+pub scan_stop : {w : List ℕ} {c from : ℕ} {best : Option ℕ} {n j : ℕ} {least : Option ℕ} → Lowering w c from best n j least → ((i : ℕ) → get_or w i 0 < 4294967296)
+    → (p : Part) (r : Option ℕ) → j < n → p ≡ part_w w Alternatives c j → Lowers p.key from least r → p.key ≡ from → LeastFrom w c from best r
 scan_stop {w} {c} {from} {best} {n} {j} {least} g fits p r h e l q =
     let G = scan_next g p r h e l in
     let L = low_enough from least in
-    let is : r ≡ Next.Is L.0 = l.is ∙ ap (λ (k : ℕ). lower_w k from least) q ∙ L.1 in
+    let is : r ≡ Some L.0 = l.is ∙ ap (λ (k : ℕ). lower_w k from least) q ∙ L.1 in
     record {
       is = λ T C i. sym (G.to T C i ∙ rw is (least_low from L.0 L.2 (rest T w Alternatives c n (j + 1))));
       small = λ T C i. all_fit w fits T c C i;
@@ -126,9 +126,9 @@ unfoldable pub onward : ℕ → List ℕ → List ℕ
 onward from [] = []
 onward from (k ∷ ks) = pick (ltb k from) (onward from ks) (k ∷ ks)
 
-abbrev first : List ℕ → Next
-first [] = Next.Nothing
-first (k ∷ ks) = Next.Is k
+abbrev first : List ℕ → Option ℕ
+first [] = None
+first (k ∷ ks) = Some k
 
 -- ascending, each at least m
 abbrev pub Ascending : ℕ → List ℕ → Type 0
@@ -165,44 +165,44 @@ unfolding onward
 onward_later from m [] h a = refl
 onward_later from m (k ∷ ks) h a = rw (le-ltb k from (omega arith))
 
-onward_first : (from m k : ℕ) (ks : List ℕ) → Ascending m ks → first (onward from ks) ≡ Next.Is k → (from ≤ k) × (onward from ks ≡ k ∷ onward (k + 1) ks)
+onward_first : (from m k : ℕ) (ks : List ℕ) → Ascending m ks → first (onward from ks) ≡ Some k → (from ≤ k) × (onward from ks ≡ k ∷ onward (k + 1) ks)
 unfolding onward
 onward_first from m k [] a e = clash (cc)
 onward_first from m k (j ∷ ks) a e = go (ltb j from) refl (onward_first from (suc j) k ks a.1)
   where
-    go : (b : Bool) → ltb j from ≡ b → (first (onward from ks) ≡ Next.Is k → (from ≤ k) × (onward from ks ≡ k ∷ onward (k + 1) ks))
+    go : (b : Bool) → ltb j from ≡ b → (first (onward from ks) ≡ Some k → (from ≤ k) × (onward from ks ≡ k ∷ onward (k + 1) ks))
         → (from ≤ k) × (onward from (j ∷ ks) ≡ k ∷ onward (k + 1) (j ∷ ks))
     go true q ih =
         let rec = ih (rw (q, onward) at e) in
         let g = ltb-true j from q in
         (rec.0, rw (q, lt-ltb j (k + 1) (omega (arith, rec.0))) rec.1)
     go false q ih =
-        let same : Next.Is j ≡ Next.Is k = rw (q, onward) at e in
+        let same : Some j ≡ Some k = rw (q, onward) at e in
         let p : j ≡ k = cc same in
         let g = ltb-false j from q in
         (omega arith, rw (q, ← p, lt-ltb j (j + 1) (omega arith), onward_later (k + 1) (suc j) ks (omega arith) a.1))
 
-onward_nothing : (from : ℕ) (ks : List ℕ) → first (onward from ks) ≡ Next.Nothing → onward from ks ≡ []
+onward_nothing : (from : ℕ) (ks : List ℕ) → first (onward from ks) ≡ None → onward from ks ≡ []
 onward_nothing from ks e = go (onward from ks) e
   where
-    go : (l : List ℕ) → first l ≡ Next.Nothing → l ≡ []
+    go : (l : List ℕ) → first l ≡ None → l ≡ []
     go [] e = refl
     go (k ∷ l) e = clash (cc)
 
 -- ---- The order in which keys are looked at does not matter.
-lesser_min : (a b : ℕ) → lesser a (Next.Is b) ≡ Next.Is (min a b)
+lesser_min : (a b : ℕ) → lesser a (Some b) ≡ Some (min a b)
 lesser_min a b = go (ltb a b) refl
   where
-    go : (t : Bool) → ltb a b ≡ t → lesser a (Next.Is b) ≡ Next.Is (min a b)
-    go true q = rw q (ap Next.Is (omega (arith, ltb-true a b q)))
-    go false q = rw q (ap Next.Is (omega (arith, ltb-false a b q)))
+    go : (t : Bool) → ltb a b ≡ t → lesser a (Some b) ≡ Some (min a b)
+    go true q = rw q (ap Some (omega (arith, ltb-true a b q)))
+    go false q = rw q (ap Some (omega (arith, ltb-false a b q)))
 
-lesser_swap : (a b : ℕ) (o : Next) → lesser a (lesser b o) ≡ lesser b (lesser a o)
-lesser_swap a b Next.Nothing = lesser_min a b ∙ ap Next.Is (omega arith) ∙ sym (lesser_min b a)
-lesser_swap a b (Next.Is c) =
-    ap (lesser a) (lesser_min b c) ∙ lesser_min a (min b c) ∙ ap Next.Is (omega arith) ∙ sym (ap (lesser b) (lesser_min a c) ∙ lesser_min b (min a c))
+lesser_swap : (a b : ℕ) (o : Option ℕ) → lesser a (lesser b o) ≡ lesser b (lesser a o)
+lesser_swap a b None = lesser_min a b ∙ ap Some (omega arith) ∙ sym (lesser_min b a)
+lesser_swap a b (Some c) =
+    ap (lesser a) (lesser_min b c) ∙ lesser_min a (min b c) ∙ ap Some (omega arith) ∙ sym (ap (lesser b) (lesser_min a c) ∙ lesser_min b (min a c))
 
-lower_swap : (a b from : ℕ) (o : Next) → lower_w a from (lower_w b from o) ≡ lower_w b from (lower_w a from o)
+lower_swap : (a b from : ℕ) (o : Option ℕ) → lower_w a from (lower_w b from o) ≡ lower_w b from (lower_w a from o)
 unfolding lower_w
 lower_swap a b from o = go (ltb a from) refl (ltb b from) refl
   where
@@ -212,12 +212,12 @@ lower_swap a b from o = go (ltb a from) refl (ltb b from) refl
     go false p true q = rw (p, q)
     go false p false q = rw (p, q) (lesser_swap a b o)
 
-least_lower : (k from : ℕ) (r : Row) (o : Next) → lower_w k from (least_from from r o) ≡ least_from from r (lower_w k from o)
+least_lower : (k from : ℕ) (r : Row) (o : Option ℕ) → lower_w k from (least_from from r o) ≡ least_from from r (lower_w k from o)
 unfolding least_from
 least_lower k from ε o = refl
 least_lower k from (cell m l t r) o = least_lower k from r (lower_w m from o) ∙ ap (least_from from r) (lower_swap k m from o)
 
-least_swap : (from : ℕ) (r s : Row) (o : Next) → least_from from r (least_from from s o) ≡ least_from from s (least_from from r o)
+least_swap : (from : ℕ) (r s : Row) (o : Option ℕ) → least_from from r (least_from from s o) ≡ least_from from s (least_from from r o)
 unfolding least_from
 least_swap from ε s o = refl
 least_swap from (cell k l t r) s o = ap (least_from from r) (least_lower k from s o) ∙ least_swap from r s (lower_w k from o)
@@ -227,7 +227,7 @@ first_insert : (from m k : ℕ) (ks : List ℕ) → Ascending m ks → first (on
 unfolding insert_once onward lower_w
 first_insert from m k [] a = go (ltb k from) refl
   where
-    go : (b : Bool) → ltb k from ≡ b → first (onward from (k ∷ [])) ≡ lower_w k from Next.Nothing
+    go : (b : Bool) → ltb k from ≡ b → first (onward from (k ∷ [])) ≡ lower_w k from None
     go true q = rw q
     go false q = rw q
 first_insert from m k (j ∷ ks) a = go (eqb k j) refl (ltb k j) refl (ltb j from) refl (ltb k from) refl (first_insert from (suc j) k ks a.1)
@@ -255,22 +255,13 @@ first_keys from (cell k l t r) ks a =
     ∙ least_lower k from r (first (onward from ks))
 
 module _ (from : ℕ) (xs ys : Row) where
-  found : first (onward from (discriminants xs ys)) ≡ least_from from ys (least_from from xs Next.Nothing)
+  found : first (onward from (discriminants xs ys)) ≡ least_from from ys (least_from from xs None)
   unfolding discriminants onward
-  found = first_keys from xs (with_keys ys []) (ascending_keys ys [] tt) ∙ ap (least_from from xs) (first_keys from ys [] tt) ∙ least_swap from xs ys Next.Nothing
+  found = first_keys from xs (with_keys ys []) (ascending_keys ys [] tt) ∙ ap (least_from from xs) (first_keys from ys [] tt) ∙ least_swap from xs ys None
 
-  pub next_is : (k : ℕ) → least_from from ys (least_from from xs Next.Nothing) ≡ Next.Is k
+  pub next_is : (k : ℕ) → least_from from ys (least_from from xs None) ≡ Some k
       → (from ≤ k) × (onward from (discriminants xs ys) ≡ k ∷ onward (k + 1) (discriminants xs ys))
   next_is k e = onward_first from 0 k (discriminants xs ys) (ascending xs ys) (found ∙ e)
 
-  pub next_nothing : least_from from ys (least_from from xs Next.Nothing) ≡ Next.Nothing → onward from (discriminants xs ys) ≡ []
+  pub next_nothing : least_from from ys (least_from from xs None) ≡ None → onward from (discriminants xs ys) ≡ []
   next_nothing e = onward_nothing from (discriminants xs ys) (found ∙ e)
-
--- Past every key there is none.
-below_none : (n : ℕ) (r : Row) (o : Next) → KeysBelow n r → least_from n r o ≡ o
-unfolding least_from lower_w
-below_none n ε o h = refl
-below_none n (cell k l t r) o h = rw (lt-ltb k n h.0) (below_none n r o h.1)
-
-pub onward_past : (n : ℕ) (xs ys : Row) → KeysBelow n xs → KeysBelow n ys → onward n (discriminants xs ys) ≡ []
-onward_past n xs ys h g = next_nothing n xs ys (below_none n ys _ g ∙ below_none n xs Next.Nothing h)

@@ -3,7 +3,6 @@
 use mathlib.Core.Bool.{Bool, true, false}
 use mathlib.Core.List.{List}
 use mathlib.Core.Logic.{◌⊎◌, inl, ⊎_elim}
-use mathlib.Core.Option.{some}
 use mathlib.Core.Path.{◌≡◌, refl, sym, ◌∙◌, ap}
 use Prim.Native.Nat.{ℕ, zero, suc, ◌+◌, ◌-◌, ◌*◌, ◌%◌, ◌<◌, ◌≤◌}
 use native.Mathlib.Omega.{arith}
@@ -17,11 +16,10 @@ use Rattle.cells.specs.declared.Ty.{Ty}
 use Rattle.cells.specs.declared.Ty.TheVariants.{Int, Str, Bytes, Fact, Record, Union, Var, Error}
 use Rattle.cells.specs.declared.Kind.{Kind}
 use Rattle.cells.specs.declared.Kind.TheVariants.{Fields, Alternatives}
-use Rattle.cells.specs.declared.Bound.{Bound}
-use Rattle.cells.specs.declared.Bound.TheVariants.{To, Free}
 use Rattle.cells.specs.Words.{pick, declared_w, count_w, first_w, declared_field, made_field, field_w, alternative_w, part_w, slot_w, bound_w}
 use Rattle.cells.specs.Inferred.{More}
 use Rattle.cells.specs.Stands.{Rows, tree, bound_tree, row_from, row_w, IsCell, declared, made, Ok, OkBound, Cells, undo_of, Keeps}
+use Rattle.std.specs.Prelude.{None, Option, Some}
 
 -- ---- One region changed
 pub keeps_refl : {a e : ℕ} {w : List ℕ} → Keeps a e w w
@@ -97,9 +95,9 @@ module _ {w : List ℕ} {T T' : Rows} (M : More w T T') where
   tree_more (Var x) o = refl
   tree_more Error o = refl
 
-  pub bound_more : (b : Bound) → OkBound w b → bound_tree T' b ≡ bound_tree T b
-  bound_more Free o = refl
-  bound_more (To t) o = ap some (tree_more t o)
+  pub bound_more : (b : Option Ty) → OkBound w b → bound_tree T' b ≡ bound_tree T b
+  bound_more None o = refl
+  bound_more (Some t) o = ap Some (tree_more t o)
 
 -- A cell that is new in w.
 pub record NewCell (w : List ℕ) (T : Rows) (k : Kind) (c : ℕ) : Type 0 where
@@ -115,9 +113,9 @@ module _ {w w' : List ℕ} (S : OldCells w w') where
   pub ok_old : (t : Ty) → Ok w t → Ok w' t
   ok_old t o = ok_by w w' t (λ k c h. cell_old h) S.unknowns o
 
-  pub ok_bound_old : (b : Bound) → OkBound w b → OkBound w' b
-  ok_bound_old Free o = tt
-  ok_bound_old (To t) o = ok_old t o
+  pub ok_bound_old : (b : Option Ty) → OkBound w b → OkBound w' b
+  ok_bound_old None o = tt
+  ok_bound_old (Some t) o = ok_old t o
 
   pub declared_old : (t : ℕ) → t < 256 → declared_w w' t ≡ declared_w w t
   unfolding declared_w
@@ -209,9 +207,9 @@ module _ {w w' : List ℕ} (S : SameCells w w') where
   pub ok_same : (t : Ty) → Ok w t → Ok w' t
   ok_same t o = ok_by w w' t (λ k c h. cell_same h) S.unknowns o
 
-  pub ok_bound_same : (b : Bound) → OkBound w b → OkBound w' b
-  ok_bound_same Free o = tt
-  ok_bound_same (To t) o = ok_same t o
+  pub ok_bound_same : (b : Option Ty) → OkBound w b → OkBound w' b
+  ok_bound_same None o = tt
+  ok_bound_same (Some t) o = ok_same t o
 
   module _ {T : Rows} (C : Cells w T) where
     pub same_old : OldCells w w'
@@ -242,7 +240,7 @@ pub bound_same : (w w' : List ℕ) (x : ℕ) → get_or w' UNKNOWNS 0 ≡ get_or
 unfolding bound_w
 bound_same w w' x e s = rw e (go (ltb x (get_or w UNKNOWNS 0)) refl)
   where
-    go : (b : Bool) → ltb x (get_or w UNKNOWNS 0) ≡ b → pick b (slot_w w' (BINDINGS + 2 * x)) Free ≡ pick b (slot_w w (BINDINGS + 2 * x)) Free
+    go : (b : Bool) → ltb x (get_or w UNKNOWNS 0) ≡ b → pick b (slot_w w' (BINDINGS + 2 * x)) None ≡ pick b (slot_w w (BINDINGS + 2 * x)) None
     go true q = s (ltb-true x (get_or w UNKNOWNS 0) q)
     go false q = refl
 

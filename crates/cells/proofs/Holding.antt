@@ -3,7 +3,6 @@
 use mathlib.Core.Bool.{Bool, true, false}
 use mathlib.Core.List.{List, [], ◌∷◌, ◌++◌}
 use mathlib.Core.Logic.{◌≢◌, by_cases}
-use mathlib.Core.Option.{none}
 use mathlib.Core.Path.{◌≡◌, refl, sym, ◌∙◌, ap}
 use Prim.Native.Nat.{ℕ, zero, suc, ◌+◌, ◌*◌, ◌<◌, ◌≤◌}
 use native.Mathlib.Decide.{ℕ_discrete}
@@ -21,14 +20,13 @@ use Rattle.unification.proofs.Acyclic.{acyclic_among, acyclic_bind}
 use Rattle.unification.proofs.Chain.{unset, unset_acyclic}
 use Rattle.work.specs.Layout.{UNKNOWNS, TYS, UNDO-LEN, BINDINGS, UNDO, END}
 use Rattle.cells.specs.declared.Ty.{Ty}
-use Rattle.cells.specs.declared.Bound.{Bound}
-use Rattle.cells.specs.declared.Bound.TheVariants.{To, Free}
 use Rattle.cells.specs.Words.{pick, slot_w, bound_w, put_ty, push_undo_w, set_var_w, annotate_w, fresh_w}
 use Rattle.cells.specs.Stands.{Rows, tree, bound_tree, Ok, OkBound, undo_of, Logged, Holds, Keeps}
 use Rattle.cells.proofs.Frame.{keeps_refl, keeps_trans, keeps_wider, SameCells, ok_bound_same, cells_same, slot_same, undo_same}
 use Rattle.cells.proofs.Logged.{logged_bind, logged_annotate, room_to_bind, room_to_annotate, Unbound, Unannotated, get_d_end, logged_fresh}
 use Rattle.cells.proofs.State.{entry_binding, entry_annotation, put_keeps, push_keeps, Change, binding_slot, type_slot, set_change, set_undo}
 use Rattle.cells.proofs.State.{pop_change, pop_undo, slot_free, cells, binds_other, types_other, binds_at, types_at}
+use Rattle.std.specs.Prelude.{None, Option, Some}
 
 -- ---- Visits and history are in no word
 module _ {w : List ℕ} {T : Rows} {st : State} (H : Holds w T st) where
@@ -69,7 +67,7 @@ pub holds_log : {w : List ℕ} {T : Rows} {st : State} → Holds w T st → get_
 holds_log {w} {T} {st} H = sym (ap (λ (us : List Undo). length us) H.undo ∙ undo_length w (get_or w UNDO-LEN 0))
 
 -- ---- One slot changed
-module _ {w w' : List ℕ} {T : Rows} {st : State} {b : Bound} (H : Holds w T st) (o : OkBound w b) (us : List Undo) (v : ℕ) (h : History)
+module _ {w w' : List ℕ} {T : Rows} {st : State} {b : Option Ty} (H : Holds w T st) (o : OkBound w b) (us : List Undo) (v : ℕ) (h : History)
     (undo : us ≡ undo_of w' (get_or w' UNDO-LEN 0)) where
   binding_changed : {x : ℕ} → Change w w' (BINDINGS + 2 * x) b → x < length st.subst → Logged us (set st.subst x (bound_tree T b)) st.tys
       → Acyclic (set st.subst x (bound_tree T b))
@@ -111,7 +109,7 @@ set_var_keeps w x t = go (ltb x 512) refl
         keeps_trans (put_keeps w (BINDINGS + 2 * x) t (omega arith) (omega arith)) (push_keeps (put_ty w (BINDINGS + 2 * x) t) x)
     go false q = keeps_refl
 
-module _ {w : List ℕ} {T : Rows} {st : State} (H : Holds w T st) (x : ℕ) (t : Ty) (lt : x < length st.subst) (free : bound st.subst x ≡ none)
+module _ {w : List ℕ} {T : Rows} {st : State} (H : Holds w T st) (x : ℕ) (t : Ty) (lt : x < length st.subst) (free : bound st.subst x ≡ None)
     (o : Ok w t) where
   set_var_is : set_var_w w x t ≡ push_undo_w (put_ty w (BINDINGS + 2 * x) t) x
   unfolding set_var_w
@@ -124,10 +122,10 @@ module _ {w : List ℕ} {T : Rows} {st : State} (H : Holds w T st) (x : ℕ) (t 
       let at = BINDINGS + 2 * x in
       let slot = binding_slot x (omega (arith, H.few_unknowns)) in
       let w' = push_undo_w (put_ty w at t) x in
-      let undo : Binding x none ∷ st.undo ≡ undo_of w' (get_or w' UNDO-LEN 0) =
+      let undo : Binding x None ∷ st.undo ≡ undo_of w' (get_or w' UNDO-LEN 0) =
       sym (set_undo w H.long at slot t x room ∙ rw (entry_binding x (omega (arith, H.few_unknowns)), ← H.undo)) in
       rw (set_var_is, free)
-      (binding_changed {b = To t} H o (Binding x none ∷ st.undo) st.left st.history undo
+      (binding_changed {b = Some t} H o (Binding x None ∷ st.undo) st.left st.history undo
       (set_change w H.long at slot t x room) lt
       (logged_bind H.logged (tree T t) x lt free) (acyclic_bind st.subst x (tree T t) lt away H.acyclic))
 
@@ -143,7 +141,7 @@ annotate_keeps w n t = go (ltb n 512) refl
         (keeps_wider (omega arith) (omega arith) (push_keeps (put_ty w (TYS + 2 * n) t) (n + 65536)))
     go false q = keeps_refl
 
-module _ {w : List ℕ} {T : Rows} {st : State} (H : Holds w T st) (n : ℕ) (t : Ty) (lt : n < length st.tys) (free : get_or st.tys n none ≡ none)
+module _ {w : List ℕ} {T : Rows} {st : State} (H : Holds w T st) (n : ℕ) (t : Ty) (lt : n < length st.tys) (free : get_or st.tys n None ≡ None)
     (o : Ok w t) where
   annotate_is : annotate_w w n t ≡ push_undo_w (put_ty w (TYS + 2 * n) t) (n + 65536)
   unfolding annotate_w
@@ -156,10 +154,10 @@ module _ {w : List ℕ} {T : Rows} {st : State} (H : Holds w T st) (n : ℕ) (t 
       let at = TYS + 2 * n in
       let slot = type_slot n (omega (arith, H.few_nodes)) in
       let w' = push_undo_w (put_ty w at t) (n + 65536) in
-      let undo : Annotation n none ∷ st.undo ≡ undo_of w' (get_or w' UNDO-LEN 0) =
+      let undo : Annotation n None ∷ st.undo ≡ undo_of w' (get_or w' UNDO-LEN 0) =
       sym (set_undo w H.long at slot t (n + 65536) room ∙ rw (entry_annotation n, ← H.undo)) in
       rw (annotate_is, free)
-      (type_changed {b = To t} H o (Annotation n none ∷ st.undo) st.left st.history undo
+      (type_changed {b = Some t} H o (Annotation n None ∷ st.undo) st.left st.history undo
       (set_change w H.long at slot t (n + 65536) room) lt
       (logged_annotate H.logged (tree T t) n lt free))
 
@@ -185,7 +183,7 @@ module _ {w : List ℕ} {T : Rows} {st : State} (H : Holds w T st) (few : length
   fresh_unknowns = rw fresh_is (get_or-set_same (set w (BINDINGS + 2 * next) 0) UNKNOWNS (next + 1) 0
       (omega (arith, H.long, length-set w (BINDINGS + 2 * next) 0)))
 
-  fresh_free : slot_w (fresh_w w) (BINDINGS + 2 * next) ≡ Free
+  fresh_free : slot_w (fresh_w w) (BINDINGS + 2 * next) ≡ None
   fresh_free = slot_free (fresh_w w) (BINDINGS + 2 * next) (rw fresh_is
       (get_or-set_other (set w (BINDINGS + 2 * next) 0) UNKNOWNS (BINDINGS + 2 * next) (next + 1) 0 (λ q. omega arith)
       ∙ get_or-set_same w (BINDINGS + 2 * next) 0 0 (omega (arith, H.long, next_few))))
@@ -203,13 +201,13 @@ module _ {w : List ℕ} {T : Rows} {st : State} (H : Holds w T st) (few : length
       (slot_same w (fresh_w w) (BINDINGS + 2 * x) (fresh_other (BINDINGS + 2 * x) (λ q. omega arith) (λ q. omega arith))
       (fresh_other (BINDINGS + 2 * x + 1) (λ q. omega arith) (λ q. omega arith)))
 
-  new_bound : (x : ℕ) → next ≤ x → bound_w (fresh_w w) x ≡ Free
+  new_bound : (x : ℕ) → next ≤ x → bound_w (fresh_w w) x ≡ None
   unfolding bound_w
   new_bound x h = rw fresh_unknowns (by_cases (ℕ_discrete x next)
       (λ e. rw (e, lt-ltb next (next + 1) (omega arith)) fresh_free)
       (λ n. rw (le-ltb x (next + 1) (omega arith))))
 
-  none_bound : (x : ℕ) → next ≤ x → bound_w w x ≡ Free
+  none_bound : (x : ℕ) → next ≤ x → bound_w w x ≡ None
   unfolding bound_w
   none_bound x h = rw (le-ltb x next h)
 
@@ -232,7 +230,7 @@ module _ {w : List ℕ} {T : Rows} {st : State} (H : Holds w T st) (few : length
     long = omega (arith, fresh_length, H.long);
     cells = cells_same fresh_cells H.cells;
     binds = record {
-      unknowns = length-append st.subst (none ∷ []) ∙ omega (arith, fresh_unknowns, H.binds.unknowns);
+      unknowns = length-append st.subst (None ∷ []) ∙ omega (arith, fresh_unknowns, H.binds.unknowns);
       at = λ x. get_d_end st.subst x ∙ H.binds.at x ∙ ap (bound_tree T) (sym (fresh_bound x));
       ok = λ x. rw (fresh_bound x) (ok_bound_same fresh_cells (bound_w w x) (H.binds.ok x));
     };
@@ -243,8 +241,8 @@ module _ {w : List ℕ} {T : Rows} {st : State} (H : Holds w T st) (few : length
     undo = H.undo ∙ sym (rw (fresh_other UNDO-LEN (λ q. omega arith) (λ q. omega arith))
         (undo_same w (fresh_w w) (get_or w UNDO-LEN 0) (λ i h. fresh_other (UNDO + i) (λ q. omega arith) (λ q. omega (arith, next_few)))));
     logged = logged_fresh H.logged;
-    acyclic = acyclic_among (st.subst ++ none ∷ []) st.subst (λ x t e. sym (get_d_end st.subst x) ∙ e) H.acyclic;
-    few_unknowns = omega (arith, length-append st.subst (none ∷ []));
+    acyclic = acyclic_among (st.subst ++ None ∷ []) st.subst (λ x t e. sym (get_d_end st.subst x) ∙ e) H.acyclic;
+    few_unknowns = omega (arith, length-append st.subst (None ∷ []));
     few_nodes = H.few_nodes;
   }
 
@@ -254,16 +252,16 @@ pop_w w at n = set (set w at 0) UNDO-LEN n
 
 module _ {w : List ℕ} {T : Rows} {st : State} (H : Holds w T st) (us : List Undo) (m : ℕ) (rest : us ≡ undo_of w m) where
   pub unbind_holds : {x : ℕ} → Unbound x us st.subst st.tys
-      → Holds (pop_w w (BINDINGS + 2 * x) m) T (record { subst = set st.subst x none; tys = st.tys; undo = us; left = st.left; history = st.history })
+      → Holds (pop_w w (BINDINGS + 2 * x) m) T (record { subst = set st.subst x None; tys = st.tys; undo = us; left = st.left; history = st.history })
   unfolding unset
   unbind_holds {x} u =
       let slot = binding_slot x (omega (arith, u.within, H.few_unknowns)) in
-      binding_changed {b = Free} H tt us st.left st.history (rest ∙ sym (pop_undo w H.long (BINDINGS + 2 * x) slot m))
+      binding_changed {b = None} H tt us st.left st.history (rest ∙ sym (pop_undo w H.long (BINDINGS + 2 * x) slot m))
       (pop_change w H.long (BINDINGS + 2 * x) slot m) u.within u.rest (unset_acyclic st.subst x H.acyclic)
 
   pub unannotate_holds : {n : ℕ} → Unannotated n us st.subst st.tys
-      → Holds (pop_w w (TYS + 2 * n) m) T (record { subst = st.subst; tys = set st.tys n none; undo = us; left = st.left; history = st.history })
+      → Holds (pop_w w (TYS + 2 * n) m) T (record { subst = st.subst; tys = set st.tys n None; undo = us; left = st.left; history = st.history })
   unannotate_holds {n} u =
       let slot = type_slot n (omega (arith, u.within, H.few_nodes)) in
-      type_changed {b = Free} H tt us st.left st.history (rest ∙ sym (pop_undo w H.long (TYS + 2 * n) slot m))
+      type_changed {b = None} H tt us st.left st.history (rest ∙ sym (pop_undo w H.long (TYS + 2 * n) slot m))
       (pop_change w H.long (TYS + 2 * n) slot m) u.within u.rest

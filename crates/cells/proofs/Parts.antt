@@ -14,11 +14,11 @@ use Rattle.unification.specs.Unify.{find_key, find_label}
 use Rattle.cells.specs.declared.Kind.{Kind}
 use Rattle.cells.specs.declared.Kind.TheVariants.{Alternatives}
 use Rattle.cells.specs.declared.Part.{Part}
-use Rattle.cells.specs.declared.Found.TheVariants as Found
-use Rattle.cells.specs.declared.Place.{Place}
 use Rattle.cells.specs.Words.{count_w, part_w}
 use Rattle.cells.specs.Stands.{Rows, tree, row_from, row_w, IsCell, Ok, Cells}
 use Rattle.cells.specs.Promises.{part_at, FindsKey, FindsName, Passed}
+use Rattle.std.specs.Prelude.{None, Option, Some, MatchOption}
+use Rattle.std.proofs.Common.{add-zero}
 
 -- ---- The row of a cell
 module _ (T : Rows) (w : List ℕ) (k : Kind) (c n : ℕ) where
@@ -60,22 +60,38 @@ module _ {A : Type 0} {f : Row → A} {w : List ℕ} {k : Kind} {c n j : ℕ} (g
   seek_none : n ≤ j → (T : Rows) → Cells w T → IsCell w k c → f (T c) ≡ f ε
   seek_none h T C i = g.to T C i ∙ ap f (rest_none T w k c n j h)
 
-module _ {w : List ℕ} {k : Kind} {c n j key : ℕ} (g : Seeking (find_key key) w k c n j) where
-  pub key_past : (x : ℕ) → j < n → x ≡ (part_w w k c j).key → ¬ (x ≡ key) → Seeking (find_key key) w k c n (j + 1)
-  unfolding find_key
-  key_past x h e q = seek_past g (part_w w k c j) h refl (λ t r. rw (ne_eqb key (part_w w k c j).key (λ y. q (e ∙ sym y)), find_key))
+-- ---- The first place from i on with a property, or none
+abbrev pub FirstPlace : (ℕ → Type 0) → ℕ → ℕ → Option ℕ → Type 0
+FirstPlace P i n r = MatchOption r ((j : ℕ) → i ≤ j → j < n → ¬ P j) (λ j. (i ≤ j) × (j < n) × P j × ((m : ℕ) → i ≤ m → m < j → ¬ P m))
 
-  pub key_here : (x : ℕ) → j < n → x ≡ (part_w w k c j).key → x ≡ key → FindsKey w k c key (Found.At (part_w w k c j))
-  unfolding find_key
-  key_here x h e q = record {
-    is = λ T C i. sym (seek_here g (part_w w k c j) h refl T C i ∙ rw (eq-eqb key (part_w w k c j).key (sym q ∙ e), find_key));
-    ok = λ T C i. part_ok C k c n j (part_w w k c j) g.all i h refl;
-    has = sym e ∙ q;
-  }
+module _ {A : Type 0} {f : Row → A} {w : List ℕ} {k : Kind} {c n : ℕ} (P : ℕ → Type 0)
+    (past : (j : ℕ) → Seeking f w k c n j → j < n → ¬ P j → Seeking f w k c n (j + 1)) {i : ℕ} (g : Seeking f w k c n i) where
+  passes : (d : ℕ) → ((m : ℕ) → i ≤ m → m < i + d → (m < n) × ¬ P m) → Seeking f w k c n (i + d)
+  passes zero h = rw add-zero g
+  passes (suc d) h =
+      let one : i + suc d ≡ i + d + 1 = omega arith in
+      let p = h (i + d) (omega arith) (omega arith) in
+      rw one (past (i + d) (passes d (λ m a b. h m a (omega arith))) p.0 p.1)
 
-  pub key_none : n ≤ j → FindsKey w k c key Found.Nothing
+  first_place : (F : Option ℕ → Type 0) → ((j : ℕ) → Seeking f w k c n j → j < n → P j → F (Some j)) → ((j : ℕ) → Seeking f w k c n j → n ≤ j → F None)
+      → (r : Option ℕ) → FirstPlace P i n r → F r
+  first_place F here none None h = none (i + (n - i)) (passes (n - i) (λ m a b. (omega arith, h m a (omega arith)))) (omega arith)
+  first_place F here none (Some j) h =
+      let at : i + (j - i) ≡ j = omega (arith, h.0) in
+      here j (rw at at (passes (j - i) (λ m a b. (omega (arith, h.1), h.3 m a (omega arith))))) h.1 h.2
+
+module _ {w : List ℕ} {k : Kind} {c n i key : ℕ} (g : Seeking (find_key key) w k c n i) where
+  pub first_key : (r : Option ℕ) → FirstPlace (λ j. (part_w w k c j).key ≡ key) i n r → FindsKey w k c key (part_at w k c r)
   unfolding find_key
-  key_none h = record { is = λ T C i. sym (seek_none g h T C i); ok = λ T C i. tt; has = tt }
+  first_key = first_place (λ j. (part_w w k c j).key ≡ key)
+      (λ j s h q. seek_past s (part_w w k c j) h refl (λ t r. rw (ne_eqb key (part_w w k c j).key (λ y. q (sym y)), find_key)))
+      g (λ r. FindsKey w k c key (part_at w k c r))
+      (λ j s h q. record {
+        is = λ T C i. sym (seek_here s (part_w w k c j) h refl T C i ∙ rw (eq-eqb key (part_w w k c j).key (sym q), find_key));
+        ok = λ T C i. part_ok C k c n j (part_w w k c j) s.all i h refl;
+        has = q;
+      })
+      (λ j s h. record { is = λ T C i. sym (seek_none s h T C i); ok = λ T C i. tt; has = tt })
 
 -- What is passed has another key.
 passed_skips : (w : List ℕ) (c key : ℕ) (T : Rows) (n i : ℕ) → ((j : ℕ) → j < i → j < n → (part_w w Alternatives c j).key < key)
@@ -103,26 +119,22 @@ seek_after {w} {c} {i} {key} {n} p e = record {
 }
 
 -- ---- From the place to the part
-module _ {w : List ℕ} {k : Kind} {c key : ℕ} {r : Place} (F : FindsKey w k c key (part_at w k c r)) where
-  pub place_here : (j : ℕ) (p : Part) → r ≡ Place.At j → p ≡ part_w w k c j → FindsKey w k c key (Found.At p)
+module _ {w : List ℕ} {k : Kind} {c key : ℕ} {r : Option ℕ} (F : FindsKey w k c key (part_at w k c r)) where
+  pub place_here : (j : ℕ) (p : Part) → r ≡ Some j → p ≡ part_w w k c j → FindsKey w k c key (Some p)
   place_here j p e q = rw q (rw e at F)
 
-  pub place_none : r ≡ Place.Nowhere → FindsKey w k c key Found.Nothing
+  pub place_none : r ≡ None → FindsKey w k c key None
   place_none e = rw e at F
 
-module _ {w : List ℕ} {c n j name : ℕ} (g : Seeking (find_label name) w Alternatives c n j) where
-  pub name_here : (p : Part) → j < n → p ≡ part_w w Alternatives c j → p.label ≡ name → FindsName w c name (Found.At p)
-  unfolding find_label
-  name_here p h e q = record {
-    is = λ T C i. sym (seek_here g p h e T C i ∙ rw (eq-eqb name p.label (sym q), find_label));
-    ok = λ T C i. part_ok C Alternatives c n j p g.all i h e;
-    has = q;
-  }
-
-  pub name_past : (p : Part) → j < n → p ≡ part_w w Alternatives c j → ¬ (p.label ≡ name) → Seeking (find_label name) w Alternatives c n (j + 1)
-  unfolding find_label
-  name_past p h e q = seek_past g p h e (λ t r. rw (ne_eqb name p.label (λ x. q (sym x)), find_label))
-
-  pub name_none : n ≤ j → FindsName w c name Found.Nothing
-  unfolding find_label
-  name_none h = record { is = λ T C i. sym (seek_none g h T C i); ok = λ T C i. tt; has = tt }
+pub first_name : {w : List ℕ} {c n i name : ℕ} → Seeking (find_label name) w Alternatives c n i → (r : Option ℕ)
+    → FirstPlace (λ j. (part_w w Alternatives c j).label ≡ name) i n r → FindsName w c name (part_at w Alternatives c r)
+unfolding find_label
+first_name {w} {c} {n} {i} {name} g = first_place (λ j. (part_w w Alternatives c j).label ≡ name)
+    (λ j s h q. seek_past s (part_w w Alternatives c j) h refl (λ t r. rw (ne_eqb name (part_w w Alternatives c j).label (λ y. q (sym y)), find_label)))
+    g (λ r. FindsName w c name (part_at w Alternatives c r))
+    (λ j s h q. record {
+      is = λ T C i. sym (seek_here s (part_w w Alternatives c j) h refl T C i ∙ rw (eq-eqb name (part_w w Alternatives c j).label (sym q), find_label));
+      ok = λ T C i. part_ok C Alternatives c n j (part_w w Alternatives c j) s.all i h refl;
+      has = q;
+    })
+    (λ j s h. record { is = λ T C i. sym (seek_none s h T C i); ok = λ T C i. tt; has = tt })

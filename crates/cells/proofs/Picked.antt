@@ -12,12 +12,12 @@ use borrow.Author.Tests.{eqb-true, ltb-true, ltb-false}
 use Rattle.unification.specs.Ty.{Row, ε, cell}
 use Rattle.unification.specs.Unify.{insert_once, with_keys, discriminants}
 use Rattle.cells.specs.declared.Kind.TheVariants.{Alternatives}
-use Rattle.cells.specs.declared.Next.{Next}
 use Rattle.cells.specs.Words.{pick, lesser, lower_w}
 use Rattle.cells.specs.Stands.{Rows, IsCell, Cells}
-use Rattle.cells.specs.Promises.{least_from, KeysBelow, NextFrom}
+use Rattle.cells.specs.Promises.{least_from, NextFrom}
 use Rattle.cells.proofs.Discriminants.{onward, Ascending, ascending}
-use Rattle.cells.proofs.Remaining.{words, remaining}
+use Rattle.cells.proofs.Remaining.{remaining}
+use Rattle.std.specs.Prelude.{None, Option, Some}
 
 -- j is a discriminant of the union
 abbrev pub Has : ℕ → Row → Type 0
@@ -34,25 +34,25 @@ pub record Least (P : ℕ → Type 0) (from k : ℕ) : Type 0 where
   pub least : (j : ℕ) → P j → from ≤ j → k ≤ j
 
 -- that one, or none is left
-abbrev pub Picks : (ℕ → Type 0) → ℕ → Next → Type 0
-Picks P from (Next.Is k) = Least P from k
-Picks P from Next.Nothing = (j : ℕ) → P j → j < from
+abbrev pub Picks : (ℕ → Type 0) → ℕ → Option ℕ → Type 0
+Picks P from (Some k) = Least P from k
+Picks P from None = (j : ℕ) → P j → j < from
 
-picks_same : (P Q : ℕ → Type 0) (from : ℕ) → ((j : ℕ) → P j → Q j) → ((j : ℕ) → Q j → P j) → (n : Next) → Picks P from n → Picks Q from n
-picks_same P Q from to back Next.Nothing p = λ j q. p j (back j q)
-picks_same P Q from to back (Next.Is k) p = record { one = to k p.one; yet = p.yet; least = λ j q. p.least j (back j q) }
+picks_same : (P Q : ℕ → Type 0) (from : ℕ) → ((j : ℕ) → P j → Q j) → ((j : ℕ) → Q j → P j) → (n : Option ℕ) → Picks P from n → Picks Q from n
+picks_same P Q from to back None p = λ j q. p j (back j q)
+picks_same P Q from to back (Some k) p = record { one = to k p.one; yet = p.yet; least = λ j q. p.least j (back j q) }
 
 -- one more discriminant
 module _ (P : ℕ → Type 0) (k from : ℕ) where
-  passed : k < from → (n : Next) → Picks P from n → Picks (λ j. P j ⊎ (j ≡ k)) from n
-  passed h Next.Nothing p = λ j. ⊎_elim (p j) (λ e. omega arith)
-  passed h (Next.Is m) p = record { one = inl p.one; yet = p.yet; least = λ j. ⊎_elim (p.least j) (λ e l. absurd (omega arith)) }
+  passed : k < from → (n : Option ℕ) → Picks P from n → Picks (λ j. P j ⊎ (j ≡ k)) from n
+  passed h None p = λ j. ⊎_elim (p j) (λ e. omega arith)
+  passed h (Some m) p = record { one = inl p.one; yet = p.yet; least = λ j. ⊎_elim (p.least j) (λ e l. absurd (omega arith)) }
 
-  taken : from ≤ k → (n : Next) → Picks P from n → Picks (λ j. P j ⊎ (j ≡ k)) from (lesser k n)
-  taken h Next.Nothing p = record { one = inr refl; yet = h; least = λ j. ⊎_elim (λ q l. absurd (omega (arith, p j q))) (λ e l. omega arith) }
-  taken h (Next.Is m) p = go (ltb k m) refl
+  taken : from ≤ k → (n : Option ℕ) → Picks P from n → Picks (λ j. P j ⊎ (j ≡ k)) from (lesser k n)
+  taken h None p = record { one = inr refl; yet = h; least = λ j. ⊎_elim (λ q l. absurd (omega (arith, p j q))) (λ e l. omega arith) }
+  taken h (Some m) p = go (ltb k m) refl
     where
-      go : (b : Bool) → ltb k m ≡ b → Picks (λ j. P j ⊎ (j ≡ k)) from (pick b (Next.Is k) (Next.Is m))
+      go : (b : Bool) → ltb k m ≡ b → Picks (λ j. P j ⊎ (j ≡ k)) from (pick b (Some k) (Some m))
       go true q =
           let less = ltb-true k m q in
           record { one = inr refl; yet = h; least = λ j. ⊎_elim (λ x l. omega (arith, p.least j x l)) (λ e l. omega arith) }
@@ -60,7 +60,7 @@ module _ (P : ℕ → Type 0) (k from : ℕ) where
           let less = ltb-false k m q in
           record { one = inl p.one; yet = p.yet; least = λ j. ⊎_elim (p.least j) (λ e l. omega arith) }
 
-  lowered : (n : Next) → Picks P from n → Picks (λ j. P j ⊎ (j ≡ k)) from (lower_w k from n)
+  lowered : (n : Option ℕ) → Picks P from n → Picks (λ j. P j ⊎ (j ≡ k)) from (lower_w k from n)
   unfolding lower_w
   lowered n p = go (ltb k from) refl
     where
@@ -69,7 +69,7 @@ module _ (P : ℕ → Type 0) (k from : ℕ) where
       go false q = taken (ltb-false k from q) n p
 
 -- a whole union more
-scanned : (from : ℕ) (r : Row) (P : ℕ → Type 0) (n : Next) → Picks P from n → Picks (λ j. P j ⊎ Has j r) from (least_from from r n)
+scanned : (from : ℕ) (r : Row) (P : ℕ → Type 0) (n : Option ℕ) → Picks P from n → Picks (λ j. P j ⊎ Has j r) from (least_from from r n)
 unfolding least_from
 scanned from ε P n p = picks_same P (λ j. P j ⊎ ⊥) from (λ j. inl) (λ j. ⊎_elim (λ x. x) (λ x. absurd x)) n p
 scanned from (cell k l t r) P n p =
@@ -79,14 +79,14 @@ scanned from (cell k l t r) P n p =
     (least_from from r (lower_w k from n))
     (scanned from r (λ j. P j ⊎ (j ≡ k)) (lower_w k from n) (lowered P k from n p))
 
-least_of_either : (from : ℕ) (xs ys : Row) → Picks (OfEither xs ys) from (least_from from ys (least_from from xs Next.Nothing))
+least_of_either : (from : ℕ) (xs ys : Row) → Picks (OfEither xs ys) from (least_from from ys (least_from from xs None))
 least_of_either from xs ys =
-    scanned from ys (λ j. Has j xs) (least_from from xs Next.Nothing)
-    (picks_same (λ j. ⊥ ⊎ Has j xs) (λ j. Has j xs) from (λ j. ⊎_elim (λ x. absurd x) (λ x. x)) (λ j. inr) (least_from from xs Next.Nothing)
-    (scanned from xs (λ j. ⊥) Next.Nothing (λ j x. absurd x)))
+    scanned from ys (λ j. Has j xs) (least_from from xs None)
+    (picks_same (λ j. ⊥ ⊎ Has j xs) (λ j. Has j xs) from (λ j. ⊎_elim (λ x. absurd x) (λ x. x)) (λ j. inr) (least_from from xs None)
+    (scanned from xs (λ j. ⊥) None (λ j x. absurd x)))
 
 -- What `next_discriminant` promises (`NextFrom`), in the card's words.
-pub next_is_least : {w : List ℕ} {c d from : ℕ} {r : Next} → NextFrom w c d from r
+pub next_is_least : {w : List ℕ} {c d from : ℕ} {r : Option ℕ} → NextFrom w c d from r
     → (T : Rows) → Cells w T → IsCell w Alternatives c → IsCell w Alternatives d → Picks (OfEither (T c) (T d)) from r
 next_is_least {c = c} {d = d} {from = from} n T C i j = rw (n.is T C i j) (least_of_either from (T c) (T d))
 
@@ -161,29 +161,17 @@ module _ (j : ℕ) where
         go ih true q = rw (q, onward) (⊎_elim (λ e. absurd (omega (arith, ltb-true k from q))) ih h)
         go ih false q = rw (q, onward) h
 
-  has_small : (n : ℕ) (r : Row) → KeysBelow n r → Has j r → j < n
-  has_small n ε b h = absurd h
-  has_small n (cell k l t r) b h = ⊎_elim (λ e. omega (arith, b.0)) (has_small n r b.1) h
-
   -- A discriminant of either has yet to be compared exactly where it is not below `from`.
-  pub yet_to_compare : (from : ℕ) (xs ys : Row) → KeysBelow words xs → KeysBelow words ys → In j (remaining from xs ys) ↔ (OfEither xs ys j × (from ≤ j))
+  pub yet_to_compare : (from : ℕ) (xs ys : Row) → In j (remaining from xs ys) ↔ (OfEither xs ys j × (from ≤ j))
   unfolding remaining
-  yet_to_compare from xs ys bx by = go (ltb from words) refl
-    where
-      go : (b : Bool) → ltb from words ≡ b → In j (pick b (onward from (discriminants xs ys)) []) ↔ (OfEither xs ys j × (from ≤ j))
-      go true q = (
-        λ h. let x = onward_to from 0 (discriminants xs ys) (ascending xs ys) h in ((of_either xs ys).0 x.0, x.1),
-        λ p. onward_back from (discriminants xs ys) ((of_either xs ys).1 p.0) p.1,
-      )
-      go false q = (
-        λ h. absurd h,
-        λ p. absurd (omega (arith, ltb-false from words q, p.1, ⊎_elim (has_small words xs bx) (has_small words ys by) p.0)),
-      )
+  yet_to_compare from xs ys = (
+    λ h. let x = onward_to from 0 (discriminants xs ys) (ascending xs ys) h in ((of_either xs ys).0 x.0, x.1),
+    λ p. onward_back from (discriminants xs ys) ((of_either xs ys).1 p.0) p.1,
+  )
 
   -- So what was compared by then is exactly what is below `from`.
-  pub compared_below : (from : ℕ) (xs ys : Row) → KeysBelow words xs → KeysBelow words ys
-      → (OfEither xs ys j × (In j (remaining from xs ys) → ⊥)) ↔ (OfEither xs ys j × (j < from))
-  compared_below from xs ys bx by = (
-    λ p. (p.0, elim (dec_le from j) [ yes h ↦ absurd (p.1 ((yet_to_compare from xs ys bx by).1 (p.0, h))) | no h ↦ omega arith ]),
-    λ p. (p.0, λ h. omega (arith, p.1, ((yet_to_compare from xs ys bx by).0 h).1)),
+  pub compared_below : (from : ℕ) (xs ys : Row) → (OfEither xs ys j × (In j (remaining from xs ys) → ⊥)) ↔ (OfEither xs ys j × (j < from))
+  compared_below from xs ys = (
+    λ p. (p.0, elim (dec_le from j) [ yes h ↦ absurd (p.1 ((yet_to_compare from xs ys).1 (p.0, h))) | no h ↦ omega arith ]),
+    λ p. (p.0, λ h. omega (arith, p.1, ((yet_to_compare from xs ys).0 h).1)),
   )

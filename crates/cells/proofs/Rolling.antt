@@ -2,7 +2,6 @@
 -- state before the loop is what it gives of the state reached, so at the mark nothing is left to take back.
 use mathlib.Core.Bool.{Bool, true, false}
 use mathlib.Core.List.{List, [], ◌∷◌}
-use mathlib.Core.Option.{Option, none}
 use mathlib.Core.Path.{◌≡◌, refl, sym, ◌∙◌}
 use Prim.Native.Nat.{ℕ, zero, suc, ◌+◌, ◌-◌, ◌*◌, ◌<◌, ◌≤◌}
 use native.Mathlib.Omega.{arith}
@@ -20,6 +19,7 @@ use Rattle.cells.specs.Promises.{RollsBack}
 use Rattle.cells.proofs.Frame.{keeps_refl, keeps_trans, keeps_set}
 use Rattle.cells.proofs.Logged.{logged_unbind, logged_unannotate}
 use Rattle.cells.proofs.Holding.{holds_history, undo_length, holds_log, unbind_holds, unannotate_holds}
+use Rattle.std.specs.Prelude.{None, Option}
 
 -- `rewind` takes the log that it is given, not that of the state.
 rewind_log : (k : ℕ) (us : List Undo) (s : Subst) (tys : List (Option Tree.Ty)) (u v : List Undo) (l : ℕ) (h : History)
@@ -60,16 +60,16 @@ module _ {w : List ℕ} {T : Rows} {st : State} (H : Holds w T st) (n : ℕ) (co
   pop_count : (v : List ℕ) → length v ≡ length w → get_or (set v UNDO-LEN n) UNDO-LEN 0 ≡ n
   pop_count v e = get_or-set_same v UNDO-LEN n 0 (omega (arith, H.long))
 
-  step : (e : ℕ) (b : Bool) → ltb e 65536 ≡ b → st.undo ≡ pick b (Binding e none) (Annotation (e - 65536) none) ∷ undo_of w n
+  step : (e : ℕ) (b : Bool) → ltb e 65536 ≡ b → st.undo ≡ pick b (Binding e None) (Annotation (e - 65536) None) ∷ undo_of w n
       → Back (set (pick b (pick (ltb e 512) (set w (BINDINGS + 2 * e) 0) w) (pick (ltb (e - 65536) 512) (set w (TYS + 2 * (e - 65536)) 0) w)) UNDO-LEN
       n) T st mark n
   unfolding revert
   step e true q undo =
       let u = logged_unbind (rw undo at H.logged) in
       rw (lt-ltb e 512 (omega (arith, u.within, H.few_unknowns))) record {
-        reached = record { subst = set st.subst e none; tys = st.tys; undo = undo_of w n; left = st.left; history = st.history };
+        reached = record { subst = set st.subst e None; tys = st.tys; undo = undo_of w n; left = st.left; history = st.history };
         holds = unbind_holds H (undo_of w n) n refl u;
-        same = rewind_first (Binding e none) undo ∙ rewind_log (length (undo_of w n) - mark) (undo_of w n) (set st.subst e none) st.tys st.undo
+        same = rewind_first (Binding e None) undo ∙ rewind_log (length (undo_of w n) - mark) (undo_of w n) (set st.subst e None) st.tys st.undo
             (undo_of w n) st.left st.history;
         log = pop_count (set w (BINDINGS + 2 * e) 0) (length-set w (BINDINGS + 2 * e) 0);
       }
@@ -77,9 +77,9 @@ module _ {w : List ℕ} {T : Rows} {st : State} (H : Holds w T st) (n : ℕ) (co
       let u = logged_unannotate (rw undo at H.logged) in
       let m = e - 65536 in
       rw (lt-ltb m 512 (omega (arith, u.within, H.few_nodes))) record {
-        reached = record { subst = st.subst; tys = set st.tys m none; undo = undo_of w n; left = st.left; history = st.history };
+        reached = record { subst = st.subst; tys = set st.tys m None; undo = undo_of w n; left = st.left; history = st.history };
         holds = unannotate_holds H (undo_of w n) n refl u;
-        same = rewind_first (Annotation m none) undo ∙ rewind_log (length (undo_of w n) - mark) (undo_of w n) st.subst (set st.tys m none)
+        same = rewind_first (Annotation m None) undo ∙ rewind_log (length (undo_of w n) - mark) (undo_of w n) st.subst (set st.tys m None)
             st.undo (undo_of w n) st.left st.history;
         log = pop_count (set w (TYS + 2 * m) 0) (length-set w (TYS + 2 * m) 0);
       }
@@ -126,8 +126,8 @@ module _ {w₀ : List ℕ} {mark : ℕ} {w : List ℕ} {n : ℕ} (g : Rolling w�
     where
       done : (T : Rows) (st : State) → Holds w T st → get_or w UNDO-LEN 0 ≡ n → Holds w T (back_to mark st)
       done T st H e =
-          let none : length st.undo - mark ≡ 0 = omega (arith, holds_log H) in
-          rw none H
+          let None : length st.undo - mark ≡ 0 = omega (arith, holds_log H) in
+          rw None H
 
       one : (T : Rows) (st : State) (past : History) → Back w T st mark n → Holds w T (Bindings.rollback st (record { undo = mark; past = past }))
       one T st past b =

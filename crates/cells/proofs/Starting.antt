@@ -1,7 +1,6 @@
 -- The state at the start of a run: no unknown, no node typed, nothing logged. The words stand for it as soon as they stand for
 -- the cells.
 use mathlib.Core.List.{List, []}
-use mathlib.Core.Option.{Option, none}
 use mathlib.Core.Path.{◌≡◌, refl, sym}
 use mathlib.Core.WellFounded.Acc
 use Prim.Native.Nat.{ℕ, zero, suc, ◌+◌, ◌*◌, ◌<◌, ◌≤◌}
@@ -13,26 +12,26 @@ use Rattle.unification.specs.Bindings.{bound, History, State}
 use Rattle.unification.proofs.Tests.{clash}
 use Rattle.unification.specs.Acyclic.{Behind, Acyclic}
 use Rattle.work.specs.Layout.{UNKNOWNS, TYS, UNDO-LEN, END}
-use Rattle.cells.specs.declared.Bound.TheVariants.{Free}
 use Rattle.cells.specs.Words.{slot_w, bound_w}
 use Rattle.cells.specs.Stands.{Rows, Cells, undo_of, none_set, Holds}
 use Rattle.cells.proofs.State.{slot_free}
+use Rattle.std.specs.Prelude.{None, Option}
 
 acyclic_none : Acyclic []
 unfolding Acyclic Behind bound
 acyclic_none x = Acc.intro x (λ y b. clash (cc b.1))
 
-replicate_none : (n i : ℕ) → get_or (replicate {A = Option Tree.Ty} n none) i none ≡ none
+replicate_none : (n i : ℕ) → get_or (replicate {A = Option Tree.Ty} n None) i None ≡ None
 replicate_none zero i = refl
 replicate_none (suc n) zero = refl
 replicate_none (suc n) (suc i) = replicate_none n i
 
-no_bound : (w : List ℕ) (x : ℕ) → get_or w UNKNOWNS 0 ≡ 0 → bound_w w x ≡ Free
+no_bound : (w : List ℕ) (x : ℕ) → get_or w UNKNOWNS 0 ≡ 0 → bound_w w x ≡ None
 unfolding bound_w
 no_bound w x e = rw (e, le-ltb x 0 (omega arith))
 
 abbrev pub start_state : ℕ → ℕ → History → State
-start_state n v h = record { subst = []; tys = replicate n none; undo = []; left = v; history = h }
+start_state n v h = record { subst = []; tys = replicate n None; undo = []; left = v; history = h }
 
 pub start_holds : {w : List ℕ} {T : Rows} (n v : ℕ) (h : History) → END ≤ length w → n ≤ 512 → Cells w T → get_or w UNKNOWNS 0 ≡ 0 → get_or w UNDO-LEN 0 ≡ 0
     → ((i : ℕ) → i < n → get_or w (TYS + 2 * i) 0 ≡ 0) → Holds w T (start_state n v h)
@@ -49,8 +48,8 @@ start_holds {w} {T} n v h long few C unknowns log free = record {
   logged = none_set (λ x. refl) (λ i. replicate_none n i);
   acyclic = acyclic_none;
   few_unknowns = omega arith;
-  few_nodes = omega (arith, length-replicate {A = Option Tree.Ty} n none);
+  few_nodes = omega (arith, length-replicate {A = Option Tree.Ty} n None);
 }
   where
-    slot : (i : ℕ) → i < length (replicate {A = Option Tree.Ty} n none) → slot_w w (TYS + 2 * i) ≡ Free
-    slot i lt = slot_free w (TYS + 2 * i) (free i (omega (arith, length-replicate {A = Option Tree.Ty} n none)))
+    slot : (i : ℕ) → i < length (replicate {A = Option Tree.Ty} n None) → slot_w w (TYS + 2 * i) ≡ None
+    slot i lt = slot_free w (TYS + 2 * i) (free i (omega (arith, length-replicate {A = Option Tree.Ty} n None)))

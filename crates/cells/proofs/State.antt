@@ -4,7 +4,6 @@
 use mathlib.Core.Bool.{Bool, true, false}
 use mathlib.Core.List.{List, ◌∷◌}
 use mathlib.Core.Logic.{◌≢◌, by_cases}
-use mathlib.Core.Option.{Option, none}
 use mathlib.Core.Path.{◌≡◌, refl, sym, ◌∙◌, ap}
 use Prim.Native.Nat.{ℕ, suc, ◌+◌, ◌-◌, ◌*◌, ◌<◌, ◌≤◌}
 use native.Mathlib.Decide.{ℕ_discrete}
@@ -19,11 +18,10 @@ use Rattle.unification.specs.Bindings.{Subst, bound, Undo, Binding, Annotation}
 use Rattle.work.specs.Layout.{UNKNOWNS, TYS, UNDO-LEN, BINDINGS, UNDO, END}
 use Rattle.cells.specs.declared.Ty.{Ty}
 use Rattle.cells.specs.declared.Ty.TheVariants.{Int, Str, Bytes, Fact, Record, Union, Var, Error}
-use Rattle.cells.specs.declared.Bound.{Bound}
-use Rattle.cells.specs.declared.Bound.TheVariants.{To, Free}
 use Rattle.cells.specs.Words.{pick, ty_w, tag_w, payload_w, slot_w, bound_w, put_ty, push_undo_w}
 use Rattle.cells.specs.Stands.{Rows, bound_tree, OkBound, Binds, Types, entry_of, undo_of, Keeps}
 use Rattle.cells.proofs.Frame.{keeps_refl, keeps_trans, keeps_wider, keeps_set, SameCells, keeps_cells, ok_bound_same, slot_same, bound_same, undo_same}
+use Rattle.std.specs.Prelude.{None, Option, Some}
 
 -- ---- A type is read back as it was written
 pub read_back : (t : Ty) → ty_w (tag_w t) (payload_w t) ≡ t
@@ -47,11 +45,11 @@ tag_not_free (Union c) = refl
 tag_not_free (Var x) = refl
 tag_not_free Error = refl
 
-slot_set : (w : List ℕ) (at : ℕ) (t : Ty) → get_or w at 0 ≡ tag_w t → get_or w (at + 1) 0 ≡ payload_w t → slot_w w at ≡ To t
+slot_set : (w : List ℕ) (at : ℕ) (t : Ty) → get_or w at 0 ≡ tag_w t → get_or w (at + 1) 0 ≡ payload_w t → slot_w w at ≡ Some t
 unfolding slot_w
 slot_set w at t p q = rw (p, q, tag_not_free t, read_back t)
 
-pub slot_free : (w : List ℕ) (at : ℕ) → get_or w at 0 ≡ 0 → slot_w w at ≡ Free
+pub slot_free : (w : List ℕ) (at : ℕ) → get_or w at 0 ≡ 0 → slot_w w at ≡ None
 unfolding slot_w
 slot_free w at p = rw p
 
@@ -80,11 +78,11 @@ module _ (w : List ℕ) (at : ℕ) (t : Ty) where
   put_payload h = get_or-set_same (set w at (tag_w t)) (at + 1) (payload_w t) 0 (omega (arith, length-set w at (tag_w t)))
 
 -- ---- An entry is pushed
-pub entry_binding : (x : ℕ) → x < 65536 → entry_of x ≡ Binding x none
+pub entry_binding : (x : ℕ) → x < 65536 → entry_of x ≡ Binding x None
 unfolding entry_of
 entry_binding x h = rw (lt-ltb x 65536 h)
 
-pub entry_annotation : (n : ℕ) → entry_of (n + 65536) ≡ Annotation n none
+pub entry_annotation : (n : ℕ) → entry_of (n + 65536) ≡ Annotation n None
 unfolding entry_of
 entry_annotation n =
     let e : n + 65536 - 65536 ≡ n = omega arith in
@@ -132,7 +130,7 @@ module _ (w : List ℕ) (e : ℕ) where
       )
 
 -- ---- One slot changed, and the log
-pub record Change (w w' : List ℕ) (at : ℕ) (b : Bound) : Type 0 where
+pub record Change (w w' : List ℕ) (at : ℕ) (b : Option Ty) : Type 0 where
   pub keeps : Keeps TYS END w w'
   pub here : slot_w w' at ≡ b
   pub other : (i : ℕ) → TYS ≤ i → i < UNDO → i ≢ UNDO-LEN → i ≢ at → i ≢ at + 1 → get_or w' i 0 ≡ get_or w i 0
@@ -155,7 +153,7 @@ module _ (w : List ℕ) (long : END ≤ length w) (at : ℕ) (slot : IsSlot at) 
     put_log : get_or (put_ty w at t) UNDO-LEN 0 ≡ get_or w UNDO-LEN 0
     put_log = put_other w at t UNDO-LEN (λ q. slot.before (sym q)) (λ q. slot.behind (sym q))
 
-    pub set_change : Change w (push_undo_w (put_ty w at t) e) at (To t)
+    pub set_change : Change w (push_undo_w (put_ty w at t) e) at (Some t)
     set_change =
         let r : get_or (put_ty w at t) UNDO-LEN 0 < 1024 = omega (arith, put_log) in
         record {
@@ -178,7 +176,7 @@ module _ (w : List ℕ) (long : END ≤ length w) (at : ℕ) (slot : IsSlot at) 
     pop_other : (i : ℕ) → i ≢ UNDO-LEN → i ≢ at → get_or (set (set w at 0) UNDO-LEN n) i 0 ≡ get_or w i 0
     pop_other i p q = get_or-set_other (set w at 0) UNDO-LEN i n 0 p ∙ get_or-set_other w at i 0 0 q
 
-    pub pop_change : Change w (set (set w at 0) UNDO-LEN n) at Free
+    pub pop_change : Change w (set (set w at 0) UNDO-LEN n) at None
     pop_change = record {
       keeps = keeps_trans (keeps_set w at 0 slot.low (omega (arith, slot.high))) (keeps_set (set w at 0) UNDO-LEN n (omega arith) (omega arith));
       here = slot_free (set (set w at 0) UNDO-LEN n) at
@@ -198,7 +196,7 @@ get_d_set_at l i j a d Q lt same other = by_cases (ℕ_discrete j i)
     (λ n. rw (get_or-set_other l i j a d n) (other n))
 
 -- Bindings, and the types of nodes, where a slot of their own changed; or none of theirs.
-module _ {w w' : List ℕ} {at : ℕ} {b : Bound} (c : Change w w' at b) where
+module _ {w w' : List ℕ} {at : ℕ} {b : Option Ty} (c : Change w w' at b) where
   abbrev pub cells : SameCells w w'
   cells = keeps_cells (omega arith) c.keeps
 
@@ -235,12 +233,12 @@ module _ {w w' : List ℕ} {at : ℕ} {b : Bound} (c : Change w w' at b) where
       same : (n : ℕ) → n < length tys → slot_w w' (TYS + 2 * n) ≡ slot_w w (TYS + 2 * n)
       same n h = other_slot (TYS + 2 * n) (type_slot n (omega arith)) (λ q. omega arith) (λ q. omega arith) (λ q. omega arith)
 
-pub binds_at : {w w' : List ℕ} {x : ℕ} {b : Bound} {T : Rows} {s : Subst} → Change w w' (BINDINGS + 2 * x) b → OkBound w b → x < length s
+pub binds_at : {w w' : List ℕ} {x : ℕ} {b : Option Ty} {T : Rows} {s : Subst} → Change w w' (BINDINGS + 2 * x) b → OkBound w b → x < length s
     → length s ≤ 512 → Binds w T s → Binds w' T (set s x (bound_tree T b))
 unfolding bound bound_w
 binds_at {w} {w'} {x} {b} {T} {s} c o lt few B = record {
   unknowns = length-set s x (bound_tree T b) ∙ B.unknowns ∙ sym (unknowns_same c);
-  at = λ y. get_d_set_at s x y (bound_tree T b) none (λ v. v ≡ bound_tree T (bound_w w' y)) lt
+  at = λ y. get_d_set_at s x y (bound_tree T b) None (λ v. v ≡ bound_tree T (bound_w w' y)) lt
       (λ e. rw (e, here))
       (λ n. B.at y ∙ ap (bound_tree T) (sym (same y n)));
   ok = λ y. by_cases (ℕ_discrete y x)
@@ -254,10 +252,10 @@ binds_at {w} {w'} {x} {b} {T} {s} c o lt few B = record {
     same : (y : ℕ) → y ≢ x → bound_w w' y ≡ bound_w w y
     same y n = other_bound c (omega (arith, B.unknowns)) y (λ h. (λ q. n (omega arith), λ q. omega arith, λ q. omega arith))
 
-pub types_at : {w w' : List ℕ} {n : ℕ} {b : Bound} {T : Rows} {tys : List (Option Tree.Ty)} → Change w w' (TYS + 2 * n) b → OkBound w b
+pub types_at : {w w' : List ℕ} {n : ℕ} {b : Option Ty} {T : Rows} {tys : List (Option Tree.Ty)} → Change w w' (TYS + 2 * n) b → OkBound w b
     → n < length tys → length tys ≤ 512 → Types w T tys → Types w' T (set tys n (bound_tree T b))
 types_at {w} {w'} {n} {b} {T} {tys} c o lt few Y = record {
-  at = λ m h. get_d_set_at tys n m (bound_tree T b) none (λ v. v ≡ bound_tree T (slot_w w' (TYS + 2 * m))) lt
+  at = λ m h. get_d_set_at tys n m (bound_tree T b) None (λ v. v ≡ bound_tree T (slot_w w' (TYS + 2 * m))) lt
       (λ e. rw (e, c.here))
       (λ k. Y.at m (within m h) ∙ ap (bound_tree T) (sym (same m h k)));
   ok = λ m h. by_cases (ℕ_discrete m n)

@@ -1,7 +1,6 @@
 -- Demand 3's lists of calls, made by the code. A list goes by what the code gives back: the visits left, the marks of snapshots, how a
 -- unification ended. Beside it goes the machine of unification/specs/Calls.antt.
-use Rattle.std.specs.Prelude.{true, false, List, [], ◌∷◌, ◌++◌, ◌≡◌, ℕ, ◌+◌, ◌*◌, ◌≤◌, ◌<◌, length, get_or, drop, replicate}
-use Rattle.std.proofs.Math.Option.{Option, none}
+use Rattle.std.specs.Prelude.{true, false, List, [], ◌∷◌, ◌++◌, ◌≡◌, ℕ, ◌+◌, ◌*◌, ◌≤◌, ◌<◌, length, get_or, drop, replicate, Err, None, Option, Result}
 use Rattle.unification.specs.Ty as Tree
 use Rattle.unification.specs.Bindings as Bindings
 use Rattle.unification.specs.Bindings.{Subst, State}
@@ -12,13 +11,12 @@ use Rattle.work.specs.Layout.{TYPE-COUNT, UNKNOWNS, RECORD-COUNT, RECORD-FIELD-C
 use Rattle.cells.specs.declared.Ty.{Ty}
 use Rattle.cells.specs.declared.Kind.{Kind}
 use Rattle.cells.specs.declared.Kind.TheVariants.{Fields, Alternatives}
-use Rattle.cells.specs.declared.Bound.TheVariants.{Free}
 use Rattle.cells.specs.declared.TyError.{TyError}
-use Rattle.cells.specs.declared.Unified.{Unified}
 use Rattle.cells.specs.Words.{declared_w, slot_w, fresh_w, annotate_w}
 use Rattle.cells.specs.Stands.{Rows, tree, IsCell, Ok, Holds}
 use Rattle.cells.specs.Inferred.{reserve_w, put_field_w, new_record_w, Reserved, Filled, rows_with}
 use Rattle.cells.specs.Promises.{Unifies, RollsBack}
+use Rattle.cells.specs.declared.Failure.{Failure}
 
 -- ---- Where a list begins
 
@@ -38,7 +36,7 @@ pub record Permitted (w : List ℕ) (T : Rows) : Type 0 where
 
 -- No node has a type.
 abbrev pub untyped : ℕ → List (Option Tree.Ty)
-untyped nodes = replicate nodes none
+untyped nodes = replicate nodes None
 
 -- ---- The machine after a call
 
@@ -72,10 +70,10 @@ pub data CodeCalls (v nodes : ℕ) : List ℕ → Rows → ℕ → List ℕ → 
       → get_or w RECORD-COUNT 0 < 512 → Filled w from n → CodeCalls v nodes (new_record_w w from n) (rows_with w from n T) left marks m
   -- `unify`, which gave back success or a failure
   success : {w w' : List ℕ} {T : Rows} {left left' : ℕ} {marks : List ℕ} {m : Machine} (got expected : Ty) → CodeCalls v nodes w T left marks m
-      → Ok w got → Ok w expected → Unifies w got expected left w' (Unified.Good left')
+      → Ok w got → Ok w expected → Unifies w got expected left w' (Result.Ok left')
       → CodeCalls v nodes w' T left' marks (with_state_lem m (united T m.state got expected))
   failure : {w w' : List ℕ} {T : Rows} {left left' : ℕ} {marks : List ℕ} {m : Machine} (got expected : Ty) (e : TyError) → CodeCalls v nodes w T left marks m
-      → Ok w got → Ok w expected → Unifies w got expected left w' (Unified.Bad e left')
+      → Ok w got → Ok w expected → Unifies w got expected left w' (Err (Failure.Bad e left'))
       → CodeCalls v nodes w' T left' marks (with_state_lem m (united T m.state got expected))
   -- `snapshot`, which gave back the mark
   snapping : {w : List ℕ} {T : Rows} {left : ℕ} {marks : List ℕ} {m : Machine} (mark : ℕ) → CodeCalls v nodes w T left marks m → mark ≡ get_or w UNDO-LEN 0
@@ -88,18 +86,18 @@ pub data CodeCalls (v nodes : ℕ) : List ℕ → Rows → ℕ → List ℕ → 
       → CodeCalls v nodes w T u marks (with_state_lem m (Bindings.with_left m.state u))
   -- `annotate`, of a node without a type
   annotation : {w : List ℕ} {T : Rows} {left : ℕ} {marks : List ℕ} {m : Machine} (n : ℕ) (t : Ty) → CodeCalls v nodes w T left marks m
-      → Ok w t → n < nodes → slot_w w (TYS + 2 * n) ≡ Free → CodeCalls v nodes (annotate_w w n t) T left marks (with_state_lem m (Bindings.annotate m.state n (tree T t)))
+      → Ok w t → n < nodes → slot_w w (TYS + 2 * n) ≡ None → CodeCalls v nodes (annotate_w w n t) T left marks (with_state_lem m (Bindings.annotate m.state n (tree T t)))
 
 -- Where a list has led: between two calls, or to where a unification passed the visit limit, which ends the list.
 pub data CodeLed (v nodes : ℕ) : List ℕ → Rows → State → Type 0 where
   between_calls : {w : List ℕ} {T : Rows} {left : ℕ} {marks : List ℕ} {m : Machine} → CodeCalls v nodes w T left marks m → CodeLed v nodes w T m.state
   at_the_limit : {w w' : List ℕ} {T : Rows} {left : ℕ} {marks : List ℕ} {m : Machine} (got expected : Ty) → CodeCalls v nodes w T left marks m
-      → Ok w got → Ok w expected → Unifies w got expected left w' Unified.Spent → CodeLed v nodes w' T (united T m.state got expected)
+      → Ok w got → Ok w expected → Unifies w got expected left w' (Err Failure.Spent) → CodeLed v nodes w' T (united T m.state got expected)
 
 -- ---- What the code gives back
 
 -- `unify`, of a unification from the bindings s to s': clause (a) of demand 3, and Robinson's notions. Where the visits ran out nothing is said.
-abbrev pub Returned : Subst → Tree.Ty → Tree.Ty → Subst → Unified → Type 0
-Returned s a b s' (Unified.Good left) = EntryClaim Assignment s a b true s' × (Admitted s a → Admitted s b → AsRobinson s a b true s')
-Returned s a b s' (Unified.Bad e left) = EntryClaim Assignment s a b false s' × (Admitted s a → Admitted s b → AsRobinson s a b false s')
-Returned s a b s' Unified.Spent = Unit {0}
+abbrev pub Returned : Subst → Tree.Ty → Tree.Ty → Subst → Result ℕ Failure → Type 0
+Returned s a b s' (Result.Ok left) = EntryClaim Assignment s a b true s' × (Admitted s a → Admitted s b → AsRobinson s a b true s')
+Returned s a b s' (Err (Failure.Bad e left)) = EntryClaim Assignment s a b false s' × (Admitted s a → Admitted s b → AsRobinson s a b false s')
+Returned s a b s' (Err Failure.Spent) = Unit {0}

@@ -1,7 +1,6 @@
 -- What the words of the work slice stand for: types as trees, and the state of unification/specs/Bindings.antt. This is the one
 -- relation between the code's words and the definitions.
-use Rattle.std.specs.Prelude.{List, [], ◌∷◌, ◌≡◌, ℕ, zero, suc, ◌+◌, ◌-◌, ◌*◌, ◌%◌, ◌≤◌, ◌<◌, ltb, length, get_or, set}
-use Rattle.std.proofs.Math.Option.{Option, none, some}
+use Rattle.std.specs.Prelude.{List, [], ◌∷◌, ◌≡◌, ℕ, zero, suc, ◌+◌, ◌-◌, ◌*◌, ◌%◌, ◌≤◌, ◌<◌, ltb, length, get_or, set, None, Option, Some}
 use Rattle.unification.specs.Ty as Tree
 use Rattle.unification.specs.Ty.{Row, ε, cell}
 use Rattle.unification.specs.Bindings.{Subst, bound, Undo, Binding, Annotation, State}
@@ -11,8 +10,6 @@ use Rattle.cells.specs.declared.Ty.{Ty}
 use Rattle.cells.specs.declared.Ty.TheVariants.{Int, Str, Bytes, Fact, Record, Union, Var, Error}
 use Rattle.cells.specs.declared.Kind.{Kind}
 use Rattle.cells.specs.declared.Kind.TheVariants.{Fields, Alternatives}
-use Rattle.cells.specs.declared.Bound.{Bound}
-use Rattle.cells.specs.declared.Bound.TheVariants.{To, Free}
 use Rattle.cells.specs.Words.{pick, count_w, first_w, part_w, slot_w, bound_w}
 
 -- The rows of the cells, by number.
@@ -30,9 +27,9 @@ tree T (Union c) = Tree.node Tree.Union (T c)
 tree T (Var x) = Tree.Var x
 tree T Error = Tree.Error
 
-abbrev pub bound_tree : Rows → Bound → Option Tree.Ty
-bound_tree T Free = none
-bound_tree T (To t) = some (tree T t)
+abbrev pub bound_tree : Rows → Option Ty → Option Tree.Ty
+bound_tree T None = None
+bound_tree T (Some t) = Some (tree T t)
 
 -- n parts of a cell from number j on
 unfoldable pub row_from : Rows → List ℕ → Kind → ℕ → ℕ → ℕ → Row
@@ -64,9 +61,9 @@ Ok w (Union c) = IsCell w Alternatives c
 Ok w (Var x) = x < get_or w UNKNOWNS 0
 Ok w Error = Unit {0}
 
-abbrev pub OkBound : List ℕ → Bound → Type 0
-OkBound w Free = Unit {0}
-OkBound w (To t) = Ok w t
+abbrev pub OkBound : List ℕ → Option Ty → Type 0
+OkBound w None = Unit {0}
+OkBound w (Some t) = Ok w t
 
 -- the words of a part of a schema type
 abbrev pub part_words : Kind → ℕ
@@ -88,14 +85,14 @@ pub record Binds (w : List ℕ) (T : Rows) (s : Subst) : Type 0 where
   pub ok : (x : ℕ) → OkBound w (bound_w w x)
 
 pub record Types (w : List ℕ) (T : Rows) (tys : List (Option Tree.Ty)) : Type 0 where
-  pub at : (n : ℕ) → n < length tys → get_or tys n none ≡ bound_tree T (slot_w w (TYS + 2 * n))
+  pub at : (n : ℕ) → n < length tys → get_or tys n None ≡ bound_tree T (slot_w w (TYS + 2 * n))
   pub ok : (n : ℕ) → n < length tys → OkBound w (slot_w w (TYS + 2 * n))
 
 -- ---- The undo log
 
 -- What stood there before is always none.
 unfoldable pub entry_of : ℕ → Undo
-entry_of e = pick (ltb e 65536) (Binding e none) (Annotation (e - 65536) none)
+entry_of e = pick (ltb e 65536) (Binding e None) (Annotation (e - 65536) None)
 
 -- newest first
 unfoldable pub undo_of : List ℕ → ℕ → List Undo
@@ -105,11 +102,11 @@ undo_of w (suc n) = entry_of (get_or w (UNDO + n) 0) ∷ undo_of w n
 
 -- The log holds each slot that is set, once: taking it back whole frees all. So it is no longer than there are slots.
 pub data Logged : List Undo → Subst → List (Option Tree.Ty) → Type 0 where
-  none_set : {s : Subst} {tys : List (Option Tree.Ty)} → ((x : ℕ) → get_or s x none ≡ none) → ((n : ℕ) → get_or tys n none ≡ none) → Logged [] s tys
-  binding : {us : List Undo} {s : Subst} {tys : List (Option Tree.Ty)} (x : ℕ) (t : Tree.Ty) → get_or s x none ≡ some t
-      → Logged us (set s x none) tys → Logged (Binding x none ∷ us) s tys
-  annotation : {us : List Undo} {s : Subst} {tys : List (Option Tree.Ty)} (n : ℕ) (t : Tree.Ty) → get_or tys n none ≡ some t
-      → Logged us s (set tys n none) → Logged (Annotation n none ∷ us) s tys
+  none_set : {s : Subst} {tys : List (Option Tree.Ty)} → ((x : ℕ) → get_or s x None ≡ None) → ((n : ℕ) → get_or tys n None ≡ None) → Logged [] s tys
+  binding : {us : List Undo} {s : Subst} {tys : List (Option Tree.Ty)} (x : ℕ) (t : Tree.Ty) → get_or s x None ≡ Some t
+      → Logged us (set s x None) tys → Logged (Binding x None ∷ us) s tys
+  annotation : {us : List Undo} {s : Subst} {tys : List (Option Tree.Ty)} (n : ℕ) (t : Tree.Ty) → get_or tys n None ≡ Some t
+      → Logged us s (set tys n None) → Logged (Annotation n None ∷ us) s tys
 
 -- ---- The state
 

@@ -1,18 +1,14 @@
 -- How the words of the work slice are read as types, parts of cells, bindings and undo entries.
-use Rattle.std.specs.Prelude.{Bool, true, false, List, ℕ, ◌+◌, ◌-◌, ◌*◌, ◌/◌, ◌%◌, eqb, ltb, get_or, set}
+use Rattle.std.specs.Prelude.{Bool, cond, List, ℕ, ◌+◌, ◌-◌, ◌*◌, ◌/◌, ◌%◌, eqb, ltb, get_or, set, None, Option, Some}
 use Rattle.work.specs.Layout.{TYPES, FIELDS, RECORDS, RECORD-FIELDS, UNKNOWNS, BINDINGS, TYS, UNDO, UNDO-LEN}
 use Rattle.cells.specs.declared.Ty.{Ty}
 use Rattle.cells.specs.declared.Ty.TheVariants.{Int, Str, Bytes, Fact, Record, Union, Var, Error}
 use Rattle.cells.specs.declared.Kind.{Kind}
 use Rattle.cells.specs.declared.Kind.TheVariants.{Fields, Alternatives}
 use Rattle.cells.specs.declared.Part.{Part}
-use Rattle.cells.specs.declared.Bound.{Bound}
-use Rattle.cells.specs.declared.Bound.TheVariants.{To, Free}
-use Rattle.cells.specs.declared.Next.{Next}
 
 abbrev pub pick {ℓ} : {A : Type ℓ} → Bool → A → A → A
-pick true a b = a
-pick false a b = b
+pick = cond
 
 -- ---- A type is a tag and a payload.
 unfoldable pub ty_w : ℕ → ℕ → Ty
@@ -37,15 +33,6 @@ payload_w (Record c) = c
 payload_w (Union c) = c
 payload_w (Var x) = x
 payload_w Error = 0
-
--- Whether two types in hand are the same.
-unfoldable pub same_ty_w : Ty → Ty → Bool
-same_ty_w a b = pick (eqb (tag_w a) (tag_w b)) (eqb (payload_w a) (payload_w b)) false
-
--- Whether two types are the last two in hand, and the log is as long as it was.
-unfoldable pub again_w : List ℕ → Ty → Ty → Ty → Ty → ℕ → Bool
-unfolding same_ty_w
-again_w w x y got expected log = pick (same_ty_w x got) (pick (same_ty_w y expected) (eqb (get_or w UNDO-LEN 0) log) false) false
 
 -- ---- Cells: below 256 the schema type of that number, from 256 on an inferred record.
 
@@ -89,17 +76,7 @@ abbrev pub part_w : List ℕ → Kind → ℕ → ℕ → Part
 part_w w Fields c j = field_w w c j
 part_w w Alternatives c j = alternative_w w c j
 
--- ---- A type in hand: whether it is this unknown, how many parts it has, and its part of this number.
-abbrev pub is_unknown_w : Ty → ℕ → Bool
-is_unknown_w Int x = false
-is_unknown_w Str x = false
-is_unknown_w Bytes x = false
-is_unknown_w (Fact p) x = false
-is_unknown_w (Record c) x = false
-is_unknown_w (Union c) x = false
-is_unknown_w (Var y) x = eqb x y
-is_unknown_w Error x = false
-
+-- ---- A type in hand: how many parts it has, and its part of this number.
 abbrev pub parts_w : List ℕ → Ty → ℕ
 parts_w w Int = 0
 parts_w w Str = 0
@@ -121,11 +98,11 @@ part_of_w w (Var y) j = field_w w 0 j
 part_of_w w Error j = field_w w 0 j
 
 -- The key or what was found so far, the lower of the two; a key below `from` does not count.
-abbrev pub lesser : ℕ → Next → Next
-lesser key Next.Nothing = Next.Is key
-lesser key (Next.Is b) = pick (ltb key b) (Next.Is key) (Next.Is b)
+abbrev pub lesser : ℕ → Option ℕ → Option ℕ
+lesser key None = Some key
+lesser key (Some b) = pick (ltb key b) (Some key) (Some b)
 
-unfoldable pub lower_w : ℕ → ℕ → Next → Next
+unfoldable pub lower_w : ℕ → ℕ → Option ℕ → Option ℕ
 lower_w key from best = pick (ltb key from) best (lesser key best)
 
 -- One alternative more is passed where the one that was compared is the next.
@@ -133,13 +110,13 @@ unfoldable pub after_w : ℕ → ℕ → ℕ
 after_w a i = pick (eqb a i) (pick (ltb i 65536) (i + 1) i) i
 
 -- ---- Bindings and node types: tag 0 stands for none.
-unfoldable pub slot_w : List ℕ → ℕ → Bound
+unfoldable pub slot_w : List ℕ → ℕ → Option Ty
 unfolding ty_w
-slot_w w at = pick (eqb (get_or w at 0) 0) Free (To (ty_w (get_or w at 0) (get_or w (at + 1) 0)))
+slot_w w at = pick (eqb (get_or w at 0) 0) None (Some (ty_w (get_or w at 0) (get_or w (at + 1) 0)))
 
-unfoldable pub bound_w : List ℕ → ℕ → Bound
+unfoldable pub bound_w : List ℕ → ℕ → Option Ty
 unfolding slot_w
-bound_w w x = pick (ltb x (get_or w UNKNOWNS 0)) (slot_w w (BINDINGS + 2 * x)) Free
+bound_w w x = pick (ltb x (get_or w UNKNOWNS 0)) (slot_w w (BINDINGS + 2 * x)) None
 
 -- ---- Writing
 unfoldable pub put_ty : List ℕ → ℕ → Ty → List ℕ

@@ -4,7 +4,7 @@
 
 ghost use Rattle.std.specs.Prelude.{◌≡◌, ℕ, ◌+◌, ◌*◌, ◌<◌, ◌≤◌, length, get_or, set};
 ghost use Rattle.work.specs.Layout.{UNKNOWNS, UNDO, UNDO-LEN};
-ghost use Rattle.cells.specs.Words.{ty_w, tag_w, payload_w, declared_w, count_w, first_w, field_w, alternative_w, part_w, bound_w, same_ty_w, push_undo_w, set_var_w, annotate_w, fresh_w, revert_w, is_unknown_w, parts_w, part_of_w};
+ghost use Rattle.cells.specs.Words.{ty_w, tag_w, payload_w, declared_w, count_w, first_w, field_w, alternative_w, part_w, slot_w, bound_w, put_ty, push_undo_w, set_var_w, annotate_w, fresh_w, revert_w, parts_w, part_of_w};
 ghost use Rattle.cells.specs.Promises.{part_at, FindsKey, FindsName, Reprs, Occurs, RollsBack};
 ghost use Rattle.cells.specs.declared.Ty.TheVariants as Ty;
 
@@ -17,7 +17,7 @@ use work::{
 
 // A type in hand; two words in the slice. A record and a union name a cell: below 256 the schema type of that number,
 // from 256 on an inferred record.
-#[derive(Clone, Copy)]
+#[derive(Clone, Copy, PartialEq, Eq)]
 pub enum Ty {
     Int,
     Str,
@@ -35,6 +35,13 @@ pub enum Kind {
     Alternatives,
 }
 
+// Why a unification ended without success: the sides differ, with the visits left, or these ran out.
+#[derive(Clone, Copy)]
+pub enum Failure {
+    Bad(TyError, u32),
+    Spent,
+}
+
 // A cell's field or alternative: in a record the key is the name and the label 0, in a union the key is the
 // discriminant and the label the name.
 #[derive(Drop)]
@@ -42,33 +49,6 @@ pub struct Part {
     pub key: u32,
     pub label: u32,
     pub ty: Ty,
-}
-
-#[derive(Drop)]
-pub enum Found {
-    At(Part),
-    Nothing,
-}
-
-// Where a part stands among those of its cell.
-#[derive(Drop)]
-pub enum Place {
-    At(u32),
-    Nowhere,
-}
-
-#[derive(Drop)]
-pub enum Bound {
-    To(Ty),
-    Free,
-}
-
-// How a question that costs visits ends, with the visits left.
-#[derive(Drop)]
-pub enum Asked {
-    Yes(u32),
-    No(u32),
-    Spent,
 }
 
 #[derive(Clone, Copy)]
@@ -86,81 +66,63 @@ pub enum TyError {
     Infinite,
 }
 
-#[derive(Drop)]
-pub enum Unified {
-    Good(u32),
-    Bad(TyError, u32),
-    Spent,
-}
-
-// A discriminant still to be compared.
-#[derive(Drop)]
-pub enum Next {
-    Is(u32),
-    Nothing,
-}
-
-pub fn ty_of(tag: u32, payload: u32) -> Ty
-    ensures { result ≡ ty_w tag payload }
-{
-    match tag {
-        1 => Ty::Int,
-        2 => Ty::Str,
-        3 => Ty::Bytes,
-        4 => Ty::Fact(payload),
-        5 => Ty::Record(payload),
-        6 => Ty::Union(payload),
-        7 => Ty::Var(payload),
-        _ => Ty::Error,
+impl Ty {
+    #[tactic(auto, unfolding(crate::specs::Words::ty_w))]
+    pub fn from_words(tag: u32, payload: u32) -> Self
+        ensures { result ≡ ty_w tag payload }
+    {
+        match tag {
+            1 => Self::Int,
+            2 => Self::Str,
+            3 => Self::Bytes,
+            4 => Self::Fact(payload),
+            5 => Self::Record(payload),
+            6 => Self::Union(payload),
+            7 => Self::Var(payload),
+            _ => Self::Error,
+        }
     }
-}
 
-pub fn tag_of(t: Ty) -> u32
-    ensures { result ≡ tag_w t }
-{
-    match t {
-        Ty::Int => 1,
-        Ty::Str => 2,
-        Ty::Bytes => 3,
-        Ty::Fact(_) => 4,
-        Ty::Record(_) => 5,
-        Ty::Union(_) => 6,
-        Ty::Var(_) => 7,
-        Ty::Error => 8,
+    pub fn tag(self) -> u32
+        ensures { result ≡ tag_w self }
+    {
+        match self {
+            Self::Int => 1,
+            Self::Str => 2,
+            Self::Bytes => 3,
+            Self::Fact(_) => 4,
+            Self::Record(_) => 5,
+            Self::Union(_) => 6,
+            Self::Var(_) => 7,
+            Self::Error => 8,
+        }
     }
-}
 
-pub fn payload_of(t: Ty) -> u32
-    ensures { result ≡ payload_w t }
-{
-    match t {
-        Ty::Int => 0,
-        Ty::Str => 0,
-        Ty::Bytes => 0,
-        Ty::Fact(p) => p,
-        Ty::Record(c) => c,
-        Ty::Union(c) => c,
-        Ty::Var(x) => x,
-        Ty::Error => 0,
+    pub fn payload(self) -> u32
+        ensures { result ≡ payload_w self }
+    {
+        match self {
+            Self::Int | Self::Str | Self::Bytes | Self::Error => 0,
+            Self::Fact(p) | Self::Record(p) | Self::Union(p) | Self::Var(p) => p,
+        }
     }
 }
 
 // The schema type of this number.
+#[tactic(auto, unfolding(crate::specs::Words::declared_w))]
 pub fn declared(w: &[u32], t: u32) -> Ty
     ensures { result ≡ declared_w w.now t }
 {
     let at = work::TYPES + 2 * wide(t);
-    let tag = tag_in(word(w, at));
-    if tag == 5 {
-        return Ty::Record(t);
+    match tag_in(word(w, at)) {
+        5 => Ty::Record(t),
+        6 => Ty::Union(t),
+        tag => Ty::from_words(tag, word(w, at + 1)),
     }
-    if tag == 6 {
-        return Ty::Union(t);
-    }
-    ty_of(tag, word(w, at + 1))
 }
 
 // How many fields or alternatives a cell has, and where they start in their region.
+#[tactic(auto, unfolding(crate::specs::Words::count_w))]
 pub fn count(w: &[u32], c: u32) -> u32
     ensures { result ≡ count_w w.now c }
 {
@@ -171,6 +133,7 @@ pub fn count(w: &[u32], c: u32) -> u32
     }
 }
 
+#[tactic(auto, unfolding(crate::specs::Words::first_w))]
 pub fn first(w: &[u32], c: u32) -> usize
     ensures { (result ≡ first_w w.now c) × (result < 4294967296) }
 {
@@ -181,6 +144,7 @@ pub fn first(w: &[u32], c: u32) -> usize
     }
 }
 
+#[tactic(auto, unfolding(crate::specs::Words::field_w, crate::specs::Words::declared_field, crate::specs::Words::made_field))]
 pub fn field(w: &[u32], c: u32, j: u32) -> Part
     ensures { result ≡ field_w w.now c j }
 {
@@ -197,11 +161,12 @@ pub fn field(w: &[u32], c: u32, j: u32) -> Part
         Part {
             key: above_tag(x),
             label: 0,
-            ty: ty_of(tag_in(x), word(w, at + 1)),
+            ty: Ty::from_words(tag_in(x), word(w, at + 1)),
         }
     }
 }
 
+#[tactic(auto, unfolding(crate::specs::Words::alternative_w))]
 pub fn alternative(w: &[u32], c: u32, j: u32) -> Part
     ensures { result ≡ alternative_w w.now c j }
 {
@@ -224,6 +189,7 @@ pub fn part_at(w: &[u32], k: Kind, c: u32, j: u32) -> Part
 }
 
 // The key alone.
+#[tactic(auto, unfolding(crate::specs::Words::field_w, crate::specs::Words::declared_field, crate::specs::Words::made_field, crate::specs::Words::alternative_w))]
 pub fn key_at(w: &[u32], k: Kind, c: u32, j: u32) -> u32
     ensures { result ≡ (part_w w.now k c j).key }
 {
@@ -240,87 +206,74 @@ pub fn key_at(w: &[u32], k: Kind, c: u32, j: u32) -> u32
 }
 
 // Where the first part with this key stands.
-pub fn place_of(w: &[u32], k: Kind, c: u32, key: u32) -> Place
+pub fn place_of(w: &[u32], k: Kind, c: u32, key: u32) -> Option<u32>
     ensures { FindsKey w.now k c key (part_at w.now k c result) }
 {
-    let n = count(w, c);
-    let mut j: u32 = 0;
-    while j < n {
-        let x = key_at(w, k, c, j);
-        if x == key {
-            return Place::At(j);
+    for j in 0..count(w, c) {
+        if key_at(w, k, c, j) == key {
+            return Some(j);
         }
-        j += 1;
     }
-    Place::Nowhere
+    None
 }
 
 // The first part with this key.
-pub fn find_key(w: &[u32], k: Kind, c: u32, key: u32) -> Found
+pub fn find_key(w: &[u32], k: Kind, c: u32, key: u32) -> Option<Part>
     ensures { FindsKey w.now k c key result }
 {
-    let place = place_of(w, k, c, key);
-    match place {
-        Place::At(j) => Found::At(part_at(w, k, c, j)),
-        Place::Nowhere => Found::Nothing,
-    }
+    let j = place_of(w, k, c, key)?;
+    Some(part_at(w, k, c, j))
 }
 
 // The first alternative of this name.
-pub fn find_name(w: &[u32], c: u32, name: u32) -> Found
+pub fn find_name(w: &[u32], c: u32, name: u32) -> Option<Part>
     ensures { FindsName w.now c name result }
 {
-    let n = count(w, c);
-    let mut j: u32 = 0;
-    while j < n {
+    for j in 0..count(w, c) {
         let p = alternative(w, c, j);
         if p.label == name {
-            return Found::At(p);
+            return Some(p);
         }
-        j += 1;
     }
-    Found::Nothing
+    None
+}
+
+// The type in two words; tag 0 stands for none.
+#[tactic(auto, unfolding(crate::specs::Words::slot_w))]
+pub fn slot(w: &[u32], at: usize) -> Option<Ty>
+    ensures { result ≡ slot_w w.now at }
+{
+    match word(w, at) {
+        0 => None,
+        tag => Some(Ty::from_words(tag, word(w, at + 1))),
+    }
 }
 
 // `var_ty`
-pub fn var_ty(w: &[u32], x: u32) -> Bound
+#[tactic(auto, unfolding(crate::specs::Words::bound_w))]
+pub fn var_ty(w: &[u32], x: u32) -> Option<Ty>
     ensures { result ≡ bound_w w.now x }
 {
     if x < word(w, work::UNKNOWNS) {
-        let at = work::BINDINGS + 2 * wide(x);
-        let tag = word(w, at);
-        if tag == 0 {
-            return Bound::Free;
-        }
-        return Bound::To(ty_of(tag, word(w, at + 1)));
+        slot(w, work::BINDINGS + 2 * wide(x))
+    } else {
+        None
     }
-    Bound::Free
 }
 
 // `repr` without haste: a chain is at most as long as there are unknowns.
 fn follow_any(w: &[u32], t: Ty) -> Ty
     ensures { Reprs w.now t result }
 {
-    let n = wide(word(w, work::UNKNOWNS));
-    let mut k: usize = 0;
     let mut at = t;
-    while k <= n {
-        let x = match at {
-            Ty::Var(x) => x,
-            _ => {
-                return at;
-            }
+    for _ in 0..wide(word(w, work::UNKNOWNS)) + 1 {
+        let Ty::Var(x) = at else {
+            return at;
         };
-        let b = var_ty(w, x);
-        match b {
-            Bound::Free => {
-                return at;
-            }
-            Bound::To(u) => {
-                at = u;
-            }
-        }
-        k += 1;
+        let Some(u) = var_ty(w, x) else {
+            return at;
+        };
+        at = u;
     }
     at
 }
@@ -339,23 +292,17 @@ fn follow_within(w: &[u32], from: u32, n: u32) -> Ty
     ensures { Reprs w.now (Ty.Var from) result }
 {
     let mut x = from;
-    let mut k: u32 = 0;
-    while k <= n {
+    for _ in 0..n + 1 {
         if n <= x {
             return Ty::Var(x);
         }
         let at = work::BINDINGS + 2 * wide(x);
-        let tag = inside(w, at);
         let p = inside(w, at + 1);
-        if tag == 7 {
-            x = p;
-        } else {
-            if tag == 0 {
-                return Ty::Var(x);
-            }
-            return ty_of(tag, p);
+        match inside(w, at) {
+            0 => return Ty::Var(x),
+            7 => x = p,
+            tag => return Ty::from_words(tag, p),
         }
-        k += 1;
     }
     Ty::Var(x)
 }
@@ -364,44 +311,24 @@ fn follow_far(w: &[u32], x: u32) -> Ty
     ensures { Reprs w.now (Ty.Var x) result }
 {
     let n = word(w, work::UNKNOWNS);
-    if n <= Counters::UNKNOWNS {
-        if work::UNDO <= w.len() {
-            return follow_within(w, x, n);
-        }
+    if n <= Counters::UNKNOWNS && work::UNDO <= w.len() {
+        follow_within(w, x, n)
+    } else {
+        follow_any(w, Ty::Var(x))
     }
-    follow_any(w, Ty::Var(x))
 }
 
 // `repr`: mostly the first binding tells. The slice is lent anew to the call, so that it can stay in registers otherwise.
 pub fn repr(w: &[u32], t: Ty) -> Ty
     ensures { Reprs w.now t result }
 {
-    let x = match t {
-        Ty::Var(x) => x,
-        _ => {
-            return t;
-        }
+    let Ty::Var(x) = t else {
+        return t;
     };
-    let b = var_ty(w, x);
-    let u = match b {
-        Bound::Free => {
-            return t;
-        }
-        Bound::To(u) => u,
-    };
-    match u {
-        Ty::Var(_) => follow_far(&w[..], x),
-        _ => u,
-    }
-}
-
-// Whether a type in hand is this unknown.
-fn is_unknown(t: Ty, x: u32) -> bool
-    ensures { result ≡ is_unknown_w t x }
-{
-    match t {
-        Ty::Var(y) => x == y,
-        _ => false,
+    match var_ty(w, x) {
+        None => t,
+        Some(Ty::Var(_)) => follow_far(&w[..], x),
+        Some(u) => u,
     }
 }
 
@@ -410,8 +337,7 @@ pub fn part_count(w: &[u32], t: Ty) -> u32
     ensures { result ≡ parts_w w.now t }
 {
     match t {
-        Ty::Record(c) => count(w, c),
-        Ty::Union(c) => count(w, c),
+        Ty::Record(c) | Ty::Union(c) => count(w, c),
         _ => 0,
     }
 }
@@ -427,6 +353,7 @@ pub fn part_of(w: &[u32], t: Ty, j: u32) -> Part
 }
 
 // Its type alone.
+#[tactic(auto, unfolding(crate::specs::Words::field_w, crate::specs::Words::declared_field, crate::specs::Words::made_field))]
 fn field_ty(w: &[u32], c: u32, j: u32) -> Ty
     ensures { result ≡ (field_w w.now c j).ty }
 {
@@ -434,10 +361,11 @@ fn field_ty(w: &[u32], c: u32, j: u32) -> Ty
         declared(w, part_type(word(w, work::FIELDS + first(w, c) + wide(j))))
     } else {
         let at = work::RECORD_FIELDS + 2 * (first(w, c) + wide(j));
-        ty_of(tag_in(word(w, at)), word(w, at + 1))
+        Ty::from_words(tag_in(word(w, at)), word(w, at + 1))
     }
 }
 
+#[tactic(auto, unfolding(crate::specs::Words::alternative_w))]
 pub fn part_ty(w: &[u32], t: Ty, j: u32) -> Ty
     ensures { result ≡ (part_of_w w.now t j).ty }
 {
@@ -451,59 +379,40 @@ pub fn part_ty(w: &[u32], t: Ty, j: u32) -> Ty
     }
 }
 
-// Whether two types in hand are the same.
-pub fn same_ty(a: Ty, b: Ty) -> bool
-    ensures { result ≡ same_ty_w a b }
-{
-    tag_of(a) == tag_of(b) && payload_of(a) == payload_of(b)
-}
-
 // `occurs`: to the first yes. A part of the same type as the last one that was asked costs what that cost, and is not
 // walked again.
-pub fn occurs(w: &[u32], x: u32, t: Ty, left: u32) -> Asked
+pub fn occurs(w: &[u32], x: u32, t: Ty, left: u32) -> Option<(bool, u32)>
     ensures { Occurs w.now x t left result }
 {
-    if left == 0 {
-        return Asked::Spent;
-    }
+    let mut rest = left.checked_sub(1)?;
     let u = repr(w, t);
-    let mut rest = left - 1;
-    if is_unknown(u, x) {
-        return Asked::Yes(rest);
+    if u == Ty::Var(x) {
+        return Some((true, rest));
     }
-    let n = part_count(w, u);
-    let mut j: u32 = 0;
     let mut last = Ty::Error;
     let mut cost: u32 = 1;
-    while j < n {
+    for j in 0..part_count(w, u) {
         let q = part_ty(w, u, j);
-        if same_ty(q, last) {
-            if rest < cost {
-                return Asked::Spent;
-            }
-            rest -= cost;
+        if q == last {
+            rest = rest.checked_sub(cost)?;
         } else {
-            let r = occurs(w, x, q, rest);
-            match r {
-                Asked::No(l) => {
-                    last = q;
-                    cost = rest - l;
-                    rest = l;
-                }
-                _ => {
-                    return r;
-                }
+            let (found, l) = occurs(w, x, q, rest)?;
+            if found {
+                return Some((true, l));
             }
+            last = q;
+            cost = rest - l;
+            rest = l;
         }
-        j += 1;
     }
-    Asked::No(rest)
+    Some((false, rest))
 }
 
 // The undo log holds an unknown as its number and a node as its number and this: what stood there before is always none,
 // since an unknown is bound only while it is free and a node is annotated once.
 const NODE: u32 = 65536;
 
+#[tactic(auto, unfolding(crate::specs::Words::push_undo_w))]
 fn push_undo(w: &mut [u32], entry: u32)
     ensures { w.new ≡ push_undo_w w.old entry }
 {
@@ -515,6 +424,7 @@ fn push_undo(w: &mut [u32], entry: u32)
 }
 
 // A new unknown, free, and its number.
+#[tactic(auto, unfolding(crate::specs::Words::fresh_w))]
 pub fn fresh_var_id(w: &mut [u32]) -> u32
     ensures { (result ≡ get_or w.old UNKNOWNS 0) × (w.new ≡ fresh_w w.old) }
 {
@@ -526,24 +436,31 @@ pub fn fresh_var_id(w: &mut [u32]) -> u32
     x
 }
 
+#[tactic(auto, unfolding(crate::specs::Words::put_ty))]
+pub fn put_ty(w: &mut [u32], at: usize, t: Ty)
+    requires { at < 16384 }
+    ensures { w.new ≡ put_ty w.old at t }
+{
+    put(w, at, t.tag());
+    put(w, at + 1, t.payload());
+}
+
+#[tactic(auto, unfolding(crate::specs::Words::set_var_w))]
 pub fn set_var(w: &mut [u32], x: u32, t: Ty)
     ensures { w.new ≡ set_var_w w.old x t }
 {
     if x < Counters::UNKNOWNS {
-        let at = work::BINDINGS + 2 * wide(x);
-        put(w, at, tag_of(t));
-        put(w, at + 1, payload_of(t));
+        put_ty(w, work::BINDINGS + 2 * wide(x), t);
         push_undo(w, x);
     }
 }
 
+#[tactic(auto, unfolding(crate::specs::Words::annotate_w))]
 pub fn annotate(w: &mut [u32], n: u32, t: Ty)
     ensures { w.new ≡ annotate_w w.old n t }
 {
     if n < Counters::NODES {
-        let at = work::TYS + 2 * wide(n);
-        put(w, at, tag_of(t));
-        put(w, at + 1, payload_of(t));
+        put_ty(w, work::TYS + 2 * wide(n), t);
         push_undo(w, n + NODE);
     }
 }
@@ -554,27 +471,21 @@ pub fn snapshot(w: &[u32]) -> u32
     word(w, work::UNDO_LEN)
 }
 
+#[tactic(auto, unfolding(crate::specs::Words::revert_w))]
 fn revert(w: &mut [u32], entry: u32)
     ensures { w.new ≡ revert_w w.old entry }
 {
-    if entry < NODE {
-        if entry < Counters::UNKNOWNS {
-            put(w, work::BINDINGS + 2 * wide(entry), 0);
-        }
-    } else {
-        let n = entry - NODE;
-        if n < Counters::NODES {
-            put(w, work::TYS + 2 * wide(n), 0);
-        }
+    if entry < Counters::UNKNOWNS {
+        put(w, work::BINDINGS + 2 * wide(entry), 0);
+    } else if NODE <= entry && entry - NODE < Counters::NODES {
+        put(w, work::TYS + 2 * wide(entry - NODE), 0);
     }
 }
 
 pub fn rollback(w: &mut [u32], mark: u32)
     ensures { RollsBack w.old mark w.new }
 {
-    let mut n = word(w, work::UNDO_LEN);
-    while mark < n {
-        n -= 1;
+    for n in (mark..word(w, work::UNDO_LEN)).rev() {
         let entry = word(w, work::UNDO + wide(n));
         revert(w, entry);
         put(w, work::UNDO_LEN, n);

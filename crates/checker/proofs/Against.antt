@@ -2,7 +2,6 @@
 -- for a record, and else what is inferred unified.
 use mathlib.Core.List.{List, [], ◌∷◌}
 use mathlib.Core.Logic.{◌≢◌}
-use mathlib.Core.Option.{none, some}
 use mathlib.Core.Path.{◌≡◌, refl, sym, ◌∙◌, ap}
 use Prim.Native.Nat.{ℕ, zero, suc, ◌+◌, ◌<◌}
 use native.Mathlib.Omega.{arith}
@@ -14,7 +13,6 @@ use Rattle.cells.specs.declared.Ty.TheVariants.{Int, Str, Bytes, Fact, Record, U
 use Rattle.cells.specs.Words.{tag_w}
 use Rattle.cells.specs.Stands.{Rows, tree}
 use Rattle.cells.specs.declared.Part.{Part}
-use Rattle.cells.specs.declared.Found.{Found}
 use Rattle.cells.specs.Promises.{found_ty, FindsName, Reprs}
 use Rattle.meaning.specs.Syntax.{Field, ExprKind, node_at}
 use Rattle.meaning.specs.References.{field_values, expr_nodes}
@@ -31,7 +29,6 @@ use Rattle.messages.specs.Said.{said, OkMessage}
 use Rattle.tree.specs.declared.Items.{Items}
 use Rattle.tree.specs.declared.Node.{Node}
 use Rattle.tree.specs.Nodes.{field_w, field_of, fields_from, kind_w, IsNode}
-use Rattle.state.specs.declared.Done.{Done}
 use Rattle.steps.specs.Ends.{done, Ends}
 use Rattle.steps.specs.Loads.{Load, only, both, FitsIn, checks, visits, Begins, Beside}
 use Rattle.steps.specs.Promises.{nodes_of, Fine, FineRecord, FineUnion, Notes, Rejects, Named, AllNamed, NodeAt}
@@ -42,6 +39,7 @@ use Rattle.steps.proofs.Results.{fine_after, tree_after, on_here, then_done, sto
 use Rattle.steps.proofs.Reading.{parts_named, kind_read, form_read}
 use Rattle.checker.proofs.Inferring.{good}
 use Rattle.checker.proofs.Arms.{fine_head}
+use Rattle.std.specs.Prelude.{None, Option, Some}
 
 -- ---- The head of what is expected
 not_error : (T : Rows) (t : Ty) → tag_w t ≢ 8 → (d : Described) (b : Walk) (n : ℕ) (c : Checker)
@@ -68,11 +66,11 @@ an_error_lem T Error h = refl
 
 module _ {f w ou : List ℕ} {n left : ℕ} {e t : Ty} (R : Reprs w e t) where
   -- Against Error nothing is visited.
-  pub check_nothing : tag_w t ≡ 8 → Checks f w ou n e left w ou (Done.On left)
+  pub check_nothing : tag_w t ≡ 8 → Checks f w ou n e left w ou (Some left)
   unfolding walk check_at repr check_against
   check_nothing h = record { is = λ d k. at_depth d k }
     where
-      at_depth : (d : Described) (k : ℕ) → Named d k n → Beside f w ou left w ou (done (Done.On left)) d (checks (nodes_of d) k n) (Fine w e)
+      at_depth : (d : Described) (k : ℕ) → Named d k n → Beside f w ou left w ou (done (Some left)) d (checks (nodes_of d) k n) (Fine w e)
           (λ T. (below d k).check n (tree T e))
       at_depth d zero m = absurd (omega (arith, m.under))
       at_depth d (suc k) m = record {
@@ -81,7 +79,7 @@ module _ {f w ou : List ℕ} {n left : ℕ} {e t : Ty} (R : Reprs w e t) where
       }
 
   -- By the node's form.
-  pub check_as : {w' ou' : List ℕ} {r : Done} {nd : Node} → tag_w t ≢ 8 → IsNode f w n nd
+  pub check_as : {w' ou' : List ℕ} {r : Option ℕ} {nd : Node} → tag_w t ≢ 8 → IsNode f w n nd
       → ((d : Described) (k : ℕ) (T : Rows) (c : Checker) → NodeAt d k n → (node_at (nodes_of d) n).kind ≡ kind_w f nd
       → Begins f w ou T d (checks (nodes_of d) (suc k) n) left c → Fine w t T c
       → Ends f w ou w' ou' T d (checks (nodes_of d) (suc k) n).records (checks (nodes_of d) (suc k) n).fields (done r)
@@ -130,17 +128,17 @@ inferred_form a_wildcard h d b n t c = absurd h
 inferred_form (a_record fs) h d b n t c = absurd h
 
 module _ {f w ou w' ou' : List ℕ} {n left : ℕ} {e t : Ty} (R : Reprs w e t) (h : tag_w t ≢ 8) where
-  pub check_wildcard : IsNode f w n Node.Wildcard → Notes f w ou n t left w' ou' → Checks f w ou n e left w' ou' (Done.On left)
+  pub check_wildcard : IsNode f w n Node.Wildcard → Notes f w ou n t left w' ou' → Checks f w ou n e left w' ou' (Some left)
   unfolding kind_w form_of check_form
   check_wildcard i ann = check_as R h i (λ d k T c at q s fine.
       ends_wider (omega arith) (omega arith) (silent_on
       ((ann d at.there).is T c (begins_part (only (one_node n)) (checks (nodes_of d) (suc k) n) (note_fits d (suc k) n) s) fine)))
 
-  pub check_record_lem : {l : Items} {r : Done} → IsNode f w n (Node.Record l) → ChecksRecord f w ou n l t left w' ou' r → Checks f w ou n e left w' ou' r
+  pub check_record_lem : {l : Items} {r : Option ℕ} → IsNode f w n (Node.Record l) → ChecksRecord f w ou n l t left w' ou' r → Checks f w ou n e left w' ou' r
   unfolding kind_w form_of check_form
   check_record_lem {l} i C = check_as R h i (λ d k T c at q s fine. (C.is d k (fields_from f l 0 l.n) refl at q).is T c s fine)
 
-  pub check_inferred : {nd : Node} {r : Done} → Inferred (form_of (kind_w f nd)) → IsNode f w n nd → InfersThenUnifies f w ou n t left w' ou' r
+  pub check_inferred : {nd : Node} {r : Option ℕ} → Inferred (form_of (kind_w f nd)) → IsNode f w n nd → InfersThenUnifies f w ou n t left w' ou' r
       → Checks f w ou n e left w' ou' r
   check_inferred {nd} j i U = check_as R h i
       (λ d k T c at q s fine. rw (inferred_form (form_of (kind_w f nd)) j d (below d k) n (tree T t) c) ((U.is d k at).is T c s fine))
@@ -157,9 +155,9 @@ unfolding expr_nodes
 values_named {k = k} s at e = rw e at (parts_named s.sound at.there k at.above)
 
 module _ {f w ou : List ℕ} {n left : ℕ} {l : Items} where
-  module _ {w₁ ou₁ : List ℕ} {e : ℕ} {r : Done} (C : ChecksFields f w ou l e left w₁ ou₁ r) where
-    pub record_noted : {w₂ ou₂ : List ℕ} {v : ℕ} → r ≡ Done.On v → Notes f w₁ ou₁ n (Record e) v w₂ ou₂
-        → ChecksRecord f w ou n l (Record e) left w₂ ou₂ (Done.On v)
+  module _ {w₁ ou₁ : List ℕ} {e : ℕ} {r : Option ℕ} (C : ChecksFields f w ou l e left w₁ ou₁ r) where
+    pub record_noted : {w₂ ou₂ : List ℕ} {v : ℕ} → r ≡ Some v → Notes f w₁ ou₁ n (Record e) v w₂ ou₂
+        → ChecksRecord f w ou n l (Record e) left w₂ ou₂ (Some v)
     unfolding check_record
     record_noted g ann = record {
       is = λ d k fs z at q. record {
@@ -174,7 +172,7 @@ module _ {f w ou : List ℕ} {n left : ℕ} {l : Items} where
       };
     }
 
-    pub record_out : r ≡ Done.Out → ChecksRecord f w ou n l (Record e) left w₁ ou₁ Done.Out
+    pub record_out : r ≡ None → ChecksRecord f w ou n l (Record e) left w₁ ou₁ None
     unfolding check_record
     record_out g = record {
       is = λ d k fs z at q. record {
@@ -186,7 +184,7 @@ module _ {f w ou : List ℕ} {n left : ℕ} {l : Items} where
       };
     }
 
-  pub record_union : {w' ou' : List ℕ} {e : ℕ} {r : Done} → ChecksUnion f w ou n l e left w' ou' r → ChecksRecord f w ou n l (Union e) left w' ou' r
+  pub record_union : {w' ou' : List ℕ} {e : ℕ} {r : Option ℕ} → ChecksUnion f w ou n l e left w' ou' r → ChecksRecord f w ou n l (Union e) left w' ou' r
   unfolding check_record
   record_union C = record { is = λ d k fs z at q. record { is = λ T c s fine. (C.is d k fs z at q).is T c s (record { cell = fine.ok; side = fine.side }) } }
 
@@ -213,7 +211,7 @@ no_cell T Error h d b n fs c = refl
 no_cell T (Record x) h d b n fs c = absurd h
 no_cell T (Union x) h d b n fs c = absurd h
 
-pub record_other : {f w ou w' ou' : List ℕ} {n left : ℕ} {l : Items} {t : Ty} {r : Done} → NoCell t → InfersThenUnifies f w ou n t left w' ou' r
+pub record_other : {f w ou w' ou' : List ℕ} {n left : ℕ} {l : Items} {t : Ty} {r : Option ℕ} → NoCell t → InfersThenUnifies f w ou n t left w' ou' r
     → ChecksRecord f w ou n l t left w' ou' r
 record_other {n = n} {t = t} h U = record
     { is = λ d k fs z at q. record { is = λ T c s fine. rw (no_cell T t h d (below d k) n fs c) ((U.is d k at).is T c s fine) } }
@@ -222,7 +220,7 @@ record_other {n = n} {t = t} h U = record
 reject_fits : (d : Described) (k n : ℕ) → FitsIn (only one_diagnostic) (checks (nodes_of d) k n)
 reject_fits d k n = record { grade = omega (arith, size_pos (nodes_of d) k n); records = omega arith; fields = omega arith }
 
-pub rejected : {f w ou w' ou' : List ℕ} {n left : ℕ} {T : Rows} {d : Described} {c : Checker} {r : Done} (k : ℕ) (m : Message) → OkMessage w m
+pub rejected : {f w ou w' ou' : List ℕ} {n left : ℕ} {T : Rows} {d : Described} {c : Checker} {r : Option ℕ} (k : ℕ) (m : Message) → OkMessage w m
     → Rejects f w ou n m left w' ou' r → n < length (nodes_of d) → Begins f w ou T d (checks (nodes_of d) k n) left c
     → Ends f w ou w' ou' T d (checks (nodes_of d) k n).records (checks (nodes_of d) k n).fields (done r)
     (reject d.schema (nodes_of d) n (said T c.state.subst m) c)
@@ -242,7 +240,7 @@ unfolding fields_from
 fields_length f l i zero = refl
 fields_length f l i (suc n) = ap suc (fields_length f l (i + 1) n)
 
-pub union_arity : {f w ou w' ou' : List ℕ} {n e left : ℕ} {l : Items} {r : Done} → l.n ≢ 1
+pub union_arity : {f w ou w' ou' : List ℕ} {n e left : ℕ} {l : Items} {r : Option ℕ} → l.n ≢ 1
     → Rejects f w ou n (Message.NotOneAlternative l.n) left w' ou' r → ChecksUnion f w ou n l e left w' ou' r
 union_arity {f = f} {n = n} {e = e} {l = l} h R = record {
   is = λ d k fs z at q. record {
@@ -257,9 +255,9 @@ first_field : (f : List ℕ) (l : Items) → l.n ≡ 1 → (fs : List Field) →
 unfolding fields_from
 first_field f l one fs z = z ∙ ap (fields_from f l 0) one
 
-module _ {f w ou : List ℕ} {e name : ℕ} {found : Found} (F : FindsName w e name found) {p : Part} (g : found ≡ Found.At p) {T : Rows} {d : Described}
+module _ {f w ou : List ℕ} {e name : ℕ} {found : Option Part} (F : FindsName w e name found) {p : Part} (g : found ≡ Some p) {T : Rows} {d : Described}
     {L : Load} {left : ℕ} {c : Checker} (s : Begins f w ou T d L left c) (fine : FineUnion w e T c) where
-  payload_is : find_label name (T e) ≡ some (tree T p.ty)
+  payload_is : find_label name (T e) ≡ Some (tree T p.ty)
   payload_is = sym (F.is T s.runs.holds.cells fine.cell) ∙ ap (found_ty T) g
 
   payload_fine : Fine w p.ty T c
@@ -278,20 +276,20 @@ one_named : {d : Described} {k : ℕ} (x : Field) → AllNamed d k (field_values
 unfolding field_values
 one_named x h = h.0
 
-module _ {f w ou : List ℕ} {n e left : ℕ} {l : Items} (one : l.n ≡ 1) {found : Found} (F : FindsName w e (field_w f l 0).name found) where
-  pub union_unknown : {w' ou' : List ℕ} {r : Done} → found ≡ Found.Nothing
+module _ {f w ou : List ℕ} {n e left : ℕ} {l : Items} (one : l.n ≡ 1) {found : Option Part} (F : FindsName w e (field_w f l 0).name found) where
+  pub union_unknown : {w' ou' : List ℕ} {r : Option ℕ} → found ≡ None
       → Rejects f w ou n (Message.NoAlternative (field_w f l 0).name) left w' ou' r → ChecksUnion f w ou n l e left w' ou' r
   unfolding check_union check_alternative field_of
   union_unknown g R = record {
     is = λ d k fs z at q. record {
       is = λ T c s fine.
-          let none_found : find_label (field_w f l 0).name (T e) ≡ none = sym (F.is T s.runs.holds.cells fine.cell) ∙ ap (found_ty T) g in
+          let none_found : find_label (field_w f l 0).name (T e) ≡ None = sym (F.is T s.runs.holds.cells fine.cell) ∙ ap (found_ty T) g in
           rw (first_field f l one fs z, none_found, check_alternative) (rejected (suc k) (Message.NoAlternative (field_w f l 0).name) tt R at.there s);
     };
   }
 
-  module _ {p : Part} (g : found ≡ Found.At p) {w₁ ou₁ : List ℕ} {r : Done} (C : Checks f w ou (field_w f l 0).value p.ty left w₁ ou₁ r) where
-    pub union_noted : {w₂ ou₂ : List ℕ} {v : ℕ} → r ≡ Done.On v → Notes f w₁ ou₁ n (Union e) v w₂ ou₂ → ChecksUnion f w ou n l e left w₂ ou₂ (Done.On v)
+  module _ {p : Part} (g : found ≡ Some p) {w₁ ou₁ : List ℕ} {r : Option ℕ} (C : Checks f w ou (field_w f l 0).value p.ty left w₁ ou₁ r) where
+    pub union_noted : {w₂ ou₂ : List ℕ} {v : ℕ} → r ≡ Some v → Notes f w₁ ou₁ n (Union e) v w₂ ou₂ → ChecksUnion f w ou n l e left w₂ ou₂ (Some v)
     unfolding check_union check_alternative field_of
     union_noted h ann = record {
       is = λ d k fs z at q. record {
@@ -309,7 +307,7 @@ module _ {f w ou : List ℕ} {n e left : ℕ} {l : Items} (one : l.n ≡ 1) {fou
       };
     }
 
-    pub union_out : r ≡ Done.Out → ChecksUnion f w ou n l e left w₁ ou₁ Done.Out
+    pub union_out : r ≡ None → ChecksUnion f w ou n l e left w₁ ou₁ None
     unfolding check_union check_alternative field_of
     union_out h = record {
       is = λ d k fs z at q. record {

@@ -17,8 +17,6 @@ use Rattle.meaning.proofs.Steps.{Nothing, IsSide, unify_at_meets}
 use Rattle.meaning.proofs.Visits.{size_pos}
 use Rattle.tree.specs.declared.Items.{Items}
 use Rattle.tree.specs.Nodes.{item_w, items_from}
-use Rattle.steps.specs.declared.Typed.{Typed}
-use Rattle.state.specs.declared.Done.{Done}
 use Rattle.steps.specs.Ends.{typed, done, Ends}
 use Rattle.steps.specs.Loads.{Load, only, both, FitsIn, infers, visits, Begins, Beside}
 use Rattle.steps.specs.Promises.{nodes_of, Fine, UnifiesAt, Named, AllNamed}
@@ -27,6 +25,7 @@ use Rattle.steps.proofs.Sequel.{and_then_first}
 use Rattle.steps.proofs.Results.{fine_after, tree_after, type_here, then_typed, stop_typed, stop_done}
 use Rattle.checker.proofs.Looping.{Midway, mid_start, mid_tree, mid_fine, mid_ends, mid_led, mid_after}
 use Rattle.checker.proofs.Inferring.{good}
+use Rattle.std.specs.Prelude.{None, Option, Some, ℕ}
 
 -- ---- Lists of items
 pub items_some : (f : List ℕ) (l : Items) (i : ℕ) → i < l.n → items_from f l i (l.n - i) ≡ item_w f l i ∷ items_from f l (i + 1) (l.n - (i + 1))
@@ -38,7 +37,7 @@ unfolding items_from
 items_none f l i h = let e : l.n - i ≡ 0 = omega arith in rw e refl
 
 -- ---- A turn
-pub record Turn (f w ou : List ℕ) (e : ℕ) (t : Ty) (left : ℕ) (w' ou' : List ℕ) (r : Done) : Type 0 where
+pub record Turn (f w ou : List ℕ) (e : ℕ) (t : Ty) (left : ℕ) (w' ou' : List ℕ) (r : Option ℕ) : Type 0 where
   pub is : (d : Described) (k : ℕ) → Named d k e
       → Beside f w ou left w' ou' (done r) d (visits (nodes_of d) k (e ∷ [])) (Fine w t)
       (λ T c. and_then ((below d k).infer e c) (λ ty. unify_at d.schema (nodes_of d) e ty (tree T t)))
@@ -47,8 +46,8 @@ turn_fits : (d : Described) (k e : ℕ) → FitsIn (both (infers (nodes_of d) k 
 unfolding sum_of
 turn_fits d k e = record { grade = omega (arith, size_pos (nodes_of d) k e); records = omega arith; fields = omega arith }
 
-module _ {f w ou w₁ ou₁ : List ℕ} {e left : ℕ} {t : Ty} {r : Typed} (I : Infers f w ou e left w₁ ou₁ r) where
-  pub turn_unified : {w₂ ou₂ : List ℕ} {u : Ty} {l : ℕ} {x : Done} → r ≡ Typed.Got u l → UnifiesAt f w₁ ou₁ e u t l w₂ ou₂ x → Turn f w ou e t left w₂ ou₂ x
+module _ {f w ou w₁ ou₁ : List ℕ} {e left : ℕ} {t : Ty} {r : Option (Ty × ℕ)} (I : Infers f w ou e left w₁ ou₁ r) where
+  pub turn_unified : {w₂ ou₂ : List ℕ} {u : Ty} {l : ℕ} {x : Option ℕ} → r ≡ Some (u, l) → UnifiesAt f w₁ ou₁ e u t l w₂ ou₂ x → Turn f w ou e t left w₂ ou₂ x
   turn_unified {u = u} g U = record {
     is = λ d k named. record {
       is = λ T c s fine.
@@ -59,7 +58,7 @@ module _ {f w ou w₁ ou₁ : List ℕ} {e left : ℕ} {t : Ty} {r : Typed} (I :
     };
   }
 
-  pub turn_out : r ≡ Typed.Out → Turn f w ou e t left w₁ ou₁ Done.Out
+  pub turn_out : r ≡ None → Turn f w ou e t left w₁ ou₁ None
   turn_out g = record {
     is = λ d k named. record {
       is = λ T c s fine.
@@ -94,11 +93,11 @@ some_fits d k e es = record { grade = omega arith; records = omega arith; fields
 module _ {f w₀ ou₀ w ou : List ℕ} {T : Rows} {d : Described} {K : Load} {rest : ℕ} {c : Checker} {whole : Step Tree.Ty} (k : ℕ) (t : Ty)
     (fine : Fine w₀ t T c) where
   all_done : Midway f w₀ ou₀ w ou T d K (visits (nodes_of d) k []) rest c whole (all_with d k (tree T t) [])
-      → Ends f w₀ ou₀ w ou T d K.records K.fields (typed w (Typed.Got t rest)) whole
+      → Ends f w₀ ou₀ w ou T d K.records K.fields (typed w (Some (t, rest))) whole
   unfolding all_with infer_all
   all_done M = mid_ends M (rw (← mid_tree M t fine.ok) (type_here t M.begins.runs M.begins.lines M.begins.visits (mid_fine M t fine).ok))
 
-  module _ {w' ou' : List ℕ} {e : ℕ} (es : List ℕ) {r : Done}
+  module _ {w' ou' : List ℕ} {e : ℕ} (es : List ℕ) {r : Option ℕ}
       (M : Midway f w₀ ou₀ w ou T d K (visits (nodes_of d) k (e ∷ es)) rest c whole (all_with d k (tree T t) (e ∷ es))) (named : Named d k e)
       (U : Turn f w ou e t rest w' ou' r) where
     turn_ends : Begins f w ou M.T₁ d (visits (nodes_of d) k (e ∷ [])) rest M.b
@@ -106,7 +105,7 @@ module _ {f w₀ ou₀ w ou : List ℕ} {T : Rows} {d : Described} {K : Load} {r
         (and_then ((below d k).infer e M.b) (λ ty. unify_at d.schema (nodes_of d) e ty (tree T t)))
     turn_ends s = rw (← mid_tree M t fine.ok) ((U.is d k named).is M.T₁ M.b s (mid_fine M t fine))
 
-    all_on : {l : ℕ} → r ≡ Done.On l → Midway f w₀ ou₀ w' ou' T d K (visits (nodes_of d) k es) l c whole (all_with d k (tree T t) es)
+    all_on : {l : ℕ} → r ≡ Some l → Midway f w₀ ou₀ w' ou' T d K (visits (nodes_of d) k es) l c whole (all_with d k (tree T t) es)
     all_on {l} g =
         let m = and_then ((below d k).infer e M.b) (λ ty. unify_at d.schema (nodes_of d) e ty (tree T t)) in
         let L = mid_led M (visits (nodes_of d) k (e ∷ [])) (visits (nodes_of d) k es) (some_fits d k e es) Nothing m (λ o. clash (cc (g, o)))
@@ -114,7 +113,7 @@ module _ {f w₀ ou₀ w ou : List ℕ} {T : Rows} {d : Described} {K : Load} {r
         mid_after M (visits (nodes_of d) k (e ∷ [])) (visits (nodes_of d) k es) (some_fits d k e es) Nothing m L (λ u. all_with d k (tree T t) es) l
         (all_some d k (tree T t) e es M.b) (cc (g, L.gone.is))
 
-    all_stop : r ≡ Done.Out → Ends f w₀ ou₀ w' ou' T d K.records K.fields (typed w' Typed.Out) whole
+    all_stop : r ≡ None → Ends f w₀ ou₀ w' ou' T d K.records K.fields (typed w' None) whole
     all_stop g = mid_ends M (rw (all_some d k (tree T t) e es M.b)
         (stop_done (visits (nodes_of d) k (e ∷ [])) (visits (nodes_of d) k es) (visits (nodes_of d) k (e ∷ es)) (some_fits d k e es) Nothing
         (and_then ((below d k).infer e M.b) (λ ty. unify_at d.schema (nodes_of d) e ty (tree T t))) (λ u. all_with d k (tree T t) es) g refl
@@ -139,14 +138,14 @@ all_start f w l t left =
     }
 
 module _ {f w₀ ou₀ w ou : List ℕ} {l : Items} {t : Ty} {left i rest : ℕ} (A : AllGoing f w₀ ou₀ l t left w ou i rest) where
-  pub all_end : l.n ≤ i → InfersAll f w₀ ou₀ l t left w ou (Typed.Got t rest)
+  pub all_end : l.n ≤ i → InfersAll f w₀ ou₀ l t left w ou (Some (t, rest))
   all_end h = record { is = λ d k es q named. record { is = λ T c s fine. all_done k t fine (rw (items_none f l i h) at (A.to d k es q named T c s fine)) } }
 
-  module _ (h : i < l.n) {w' ou' : List ℕ} {r : Done} (U : Turn f w ou (item_w f l i) t rest w' ou' r) where
+  module _ (h : i < l.n) {w' ou' : List ℕ} {r : Option ℕ} (U : Turn f w ou (item_w f l i) t rest w' ou' r) where
     first_named : (d : Described) (k : ℕ) → AllNamed d k (items_from f l 0 l.n) → AllNamed d k (item_w f l i ∷ items_from f l (i + 1) (l.n - (i + 1)))
     first_named d k all = rw (items_some f l i h) at (A.named d k all)
 
-    pub all_out : r ≡ Done.Out → InfersAll f w₀ ou₀ l t left w' ou' Typed.Out
+    pub all_out : r ≡ None → InfersAll f w₀ ou₀ l t left w' ou' None
     all_out g = record {
       is = λ d k es q named. record {
         is = λ T c s fine. all_stop k t fine (items_from f l (i + 1) (l.n - (i + 1))) (rw (items_some f l i h) at (A.to d k es q named T c s fine))
@@ -154,7 +153,7 @@ module _ {f w₀ ou₀ w ou : List ℕ} {l : Items} {t : Ty} {left i rest : ℕ}
       };
     }
 
-    pub all_next : {left' : ℕ} → r ≡ Done.On left' → AllGoing f w₀ ou₀ l t left w' ou' (i + 1) left'
+    pub all_next : {left' : ℕ} → r ≡ Some left' → AllGoing f w₀ ou₀ l t left w' ou' (i + 1) left'
     all_next g = record {
       within = omega arith;
       named = λ d k all. (first_named d k all).1;

@@ -1,7 +1,6 @@
 -- The arms of `infer_kind` that visit nodes below: a base and then its field, value or alternative; a fact's key; operands and branches;
 -- a subquery. What a kind's parts make and what it makes of its own is the load of the arm.
 use mathlib.Core.List.{List, [], ◌∷◌}
-use mathlib.Core.Option.{none, some}
 use mathlib.Core.Path.{◌≡◌, refl, sym, ◌∙◌, ap}
 use Prim.Native.Nat.{ℕ, ◌<◌}
 use native.Mathlib.Omega.{arith}
@@ -12,8 +11,6 @@ use Rattle.unification.proofs.Tests.{clash}
 use Rattle.unification.proofs.Sides.{declared_side}
 use Rattle.cells.specs.declared.Ty.{Ty}
 use Rattle.cells.specs.declared.Ty.TheVariants.{Int, Fact, Var}
-use Rattle.cells.specs.declared.Bound.{Bound}
-use Rattle.cells.specs.declared.Bound.TheVariants.{To, Free}
 use Rattle.cells.specs.Stands.{Rows, tree, bound_tree}
 use Rattle.cells.specs.Promises.{Reprs}
 use Rattle.meaning.specs.Syntax.{ExprKind, Field, FieldRef, no_node, node_at}
@@ -32,8 +29,6 @@ use Rattle.tree.specs.declared.Node.{Node}
 use Rattle.tree.specs.declared.Items.{Items}
 use Rattle.tree.specs.declared.Stmts.{Stmts}
 use Rattle.tree.specs.Nodes.{fields_from, items_from, stmts_w, kind_w, IsNode}
-use Rattle.steps.specs.declared.Typed.{Typed}
-use Rattle.state.specs.declared.Done.{Done}
 use Rattle.steps.specs.Loads.{Load, only, both, FitsIn, infers, checks, visits, parts, Begins}
 use Rattle.steps.specs.Promises.{nodes_of, Fine, Freshens, fuzzy, Fuzzes, KeyIs, OnType}
 use Rattle.checker.specs.Promises.{below, Infers, InfersKind, InfersRecord, InfersAll, Subqueries, Facts, all_with, Checks}
@@ -41,6 +36,7 @@ use Rattle.steps.proofs.Sequel.{begins_part, ends_wider}
 use Rattle.steps.proofs.Reading.{kind_read}
 use Rattle.steps.proofs.Results.{type_here, then_typed, stop_typed, then_done, stop_done, then_numbered}
 use Rattle.checker.proofs.Inferring.{good, arm, ok_unknown}
+use Rattle.std.specs.Prelude.{None, Option, Some, ℕ}
 
 -- ---- A type in hand followed to its head
 pub fine_head : {f w ou : List ℕ} {T : Rows} {d : Described} {L : Load} {left : ℕ} {c : Checker} {t u : Ty} → Begins f w ou T d L left c → Reprs w t u
@@ -64,8 +60,8 @@ pub record OnHead (f : List ℕ) (n base : ℕ) (nd : Node) (m : Described → T
       (λ ty e. m d (Bindings.repr e.state.subst ty) e)
 
 module _ {f w ou w₁ ou₁ : List ℕ} {n base left : ℕ} {nd : Node} {m : Described → Tree.Ty → Does Tree.Ty} (o : OnHead f n base nd m)
-    (i : IsNode f w n nd) {r : Typed} (I : Infers f w ou base left w₁ ou₁ r) where
-  pub head_arm : {w₂ ou₂ : List ℕ} {res : Typed} {t u : Ty} {l : ℕ} → r ≡ Typed.Got t l → Reprs w₁ t u
+    (i : IsNode f w n nd) {r : Option (Ty × ℕ)} (I : Infers f w ou base left w₁ ou₁ r) where
+  pub head_arm : {w₂ ou₂ : List ℕ} {res : Option (Ty × ℕ)} {t u : Ty} {l : ℕ} → r ≡ Some (t, l) → Reprs w₁ t u
       → OnType m f w₁ ou₁ n u l w₂ ou₂ res → InfersKind f w ou n left w₂ ou₂ res
   head_arm {t = t} {u = u} e R step = arm i o.other (λ d k T c at named s.
       rw (o.is d (below d k) c) (then_typed (infers (nodes_of d) k base) (only one_diagnostic) (parts (nodes_of d) k (kind_w f nd))
@@ -75,7 +71,7 @@ module _ {f w ou w₁ ou₁ : List ℕ} {n base left : ℕ} {nd : Node} {m : Des
       (λ T₁ b a fine. rw (← R.is T₁ b.state.subst a.begins.runs.holds.binds)
       ((step.is d at.there).is T₁ b a.begins (fine_head a.begins R fine)))))
 
-  pub head_out : r ≡ Typed.Out → InfersKind f w ou n left w₁ ou₁ Typed.Out
+  pub head_out : r ≡ None → InfersKind f w ou n left w₁ ou₁ None
   head_out e = arm i o.other (λ d k T c at named s.
       rw (o.is d (below d k) c) (stop_typed (infers (nodes_of d) k base) (only one_diagnostic) (parts (nodes_of d) k (kind_w f nd))
       (base_fits d k base (kind_w f nd) o.part) ((below d k).infer base c)
@@ -98,9 +94,9 @@ fact_fits : (d : Described) (k p key : ℕ) → FitsIn (both (checks (nodes_of d
 unfolding sum_of expr_nodes
 fact_fits d k p key = record { grade = omega arith; records = omega arith; fields = omega arith }
 
-module _ {f w ou : List ℕ} {p : ℕ} {t : Bound} {u : Ty} (K : KeyIs f w p t) (e : t ≡ To u) {T : Rows} {d : Described} {L : Load} {left : ℕ}
+module _ {f w ou : List ℕ} {p : ℕ} {t : Option Ty} {u : Ty} (K : KeyIs f w p t) (e : t ≡ Some u) {T : Rows} {d : Described} {L : Load} {left : ℕ}
     {c : Checker} (s : Begins f w ou T d L left c) where
-  key_is : key_ty d.schema (nodes_of d) p ≡ some (tree T u)
+  key_is : key_ty d.schema (nodes_of d) p ≡ Some (tree T u)
   key_is = sym (K.is T d c s.runs) ∙ ap (bound_tree T) e
 
   key_fine : Fine w u T c
@@ -111,19 +107,19 @@ module _ {f w ou : List ℕ} {p : ℕ} {t : Bound} {u : Ty} (K : KeyIs f w p t) 
   }
 
 module _ {f w ou : List ℕ} {p key left : ℕ} where
-  pub fact_free : {t : Bound} → KeyIs f w p t → t ≡ Free → Facts f w ou p key left w ou (Typed.Got (Fact p) left)
+  pub fact_free : {t : Option Ty} → KeyIs f w p t → t ≡ None → Facts f w ou p key left w ou (Some ((Fact p), left))
   unfolding fact
   fact_free K e = record {
     is = λ d k named. record {
       is = λ T c s u.
-          let q : key_ty d.schema (nodes_of d) p ≡ none = sym (K.is T d c s.runs) ∙ ap (bound_tree T) e in
+          let q : key_ty d.schema (nodes_of d) p ≡ None = sym (K.is T d c s.runs) ∙ ap (bound_tree T) e in
           rw (q, fact) (type_here (Fact p) s.runs s.lines s.visits tt);
     };
   }
 
-  module _ {t : Bound} {u : Ty} (K : KeyIs f w p t) (e : t ≡ To u) where
-    pub fact_on : {w₁ ou₁ : List ℕ} {r : Done} {l : ℕ} → Checks f w ou key u left w₁ ou₁ r → r ≡ Done.On l
-        → Facts f w ou p key left w₁ ou₁ (Typed.Got (Fact p) l)
+  module _ {t : Option Ty} {u : Ty} (K : KeyIs f w p t) (e : t ≡ Some u) where
+    pub fact_on : {w₁ ou₁ : List ℕ} {r : Option ℕ} {l : ℕ} → Checks f w ou key u left w₁ ou₁ r → r ≡ Some l
+        → Facts f w ou p key left w₁ ou₁ (Some ((Fact p), l))
     unfolding fact
     fact_on C g = record {
       is = λ d k named. record {
@@ -135,7 +131,7 @@ module _ {f w ou : List ℕ} {p key left : ℕ} where
       };
     }
 
-    pub fact_out : {w₁ ou₁ : List ℕ} {r : Done} → Checks f w ou key u left w₁ ou₁ r → r ≡ Done.Out → Facts f w ou p key left w₁ ou₁ Typed.Out
+    pub fact_out : {w₁ ou₁ : List ℕ} {r : Option ℕ} → Checks f w ou key u left w₁ ou₁ r → r ≡ None → Facts f w ou p key left w₁ ou₁ None
     unfolding fact
     fact_out C g = record {
       is = λ d k named. record {
@@ -154,7 +150,7 @@ small_names {d} {n} {fs} s there e =
     all_map (λ x. x < length d.schema.characters) (λ x. x < 65536) (field_names fs) (λ x h. omega (arith, s.names_max))
     (rw e at (all_at (λ m. Below (length d.schema.characters) (expr_names m.kind)) (nodes_of d) n no_node s.names_below there))
 
-module _ {f w ou w' ou' : List ℕ} {n left : ℕ} {r : Typed} where
+module _ {f w ou w' ou' : List ℕ} {n left : ℕ} {r : Option (Ty × ℕ)} where
   pub fact_arm : {p key : ℕ} → IsNode f w n (Node.Fact p key) → Facts f w ou p key left w' ou' r → InfersKind f w ou n left w' ou' r
   unfolding kind_w infer_kind expr_nodes
   fact_arm i F = arm i (λ x e. clash (cc e)) (λ d k T c at named s. (F.is d k named.0).is T c s tt)
@@ -197,7 +193,7 @@ unfolding node_at expr_names
 term_there {d} {n} s there e = (rw e at (all_at (λ m. Below (length d.schema.characters) (expr_names m.kind)) (nodes_of d) n no_node
     s.names_below there)).0
 
-pub fuzzy_arm : {f w ou w' ou' : List ℕ} {n left x y : ℕ} {r : Typed} → IsNode f w n (Node.Fuzzy x y) → Fuzzes f w ou n x y left w' ou' r
+pub fuzzy_arm : {f w ou w' ou' : List ℕ} {n left x y : ℕ} {r : Option (Ty × ℕ)} → IsNode f w n (Node.Fuzzy x y) → Fuzzes f w ou n x y left w' ou' r
     → InfersKind f w ou n left w' ou' r
 unfolding kind_w infer_kind expr_nodes records_of fields_of sum_of fuzzy
 fuzzy_arm {n = n} {x = x} {y = y} i F = arm i (λ z e. clash (cc e)) (λ d k T c at named s.

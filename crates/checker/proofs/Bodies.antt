@@ -35,8 +35,6 @@ use Rattle.tree.specs.declared.Stmts.{Stmts}
 use Rattle.tree.specs.declared.Node.{Node}
 use Rattle.tree.specs.declared.Stmt.{Stmt}
 use Rattle.tree.specs.Nodes.{kind_w, IsNode, statement, stmt_w, stmt_size_w, stmts_from, stmts_w}
-use Rattle.steps.specs.declared.Typed.{Typed}
-use Rattle.state.specs.declared.Done.{Done}
 use Rattle.steps.specs.Ends.{typed, done, Ends}
 use Rattle.steps.specs.Loads.{Load, only, both, FitsIn, infers, visits, parts, Begins}
 use Rattle.steps.specs.Promises.{nodes_of, only_w, Leaves, Named, AllNamed, Asks}
@@ -49,9 +47,10 @@ use Rattle.checker.proofs.Looping.{Midway, mid_start, mid_ends, mid_led, mid_aft
 use Rattle.steps.proofs.Reading.{kind_read, form_read, name_small}
 use Rattle.checker.proofs.Inferring.{good}
 use Rattle.checker.proofs.Stating.{OnlyRights, Wildcards}
+use Rattle.std.specs.Prelude.{None, Option, Some, ℕ}
 
 -- ---- `bind` and `deny`
-module _ {f w ou w' ou' : List ℕ} {lhs rhs left : ℕ} {r : Done} {nd : Node} (i : IsNode f w lhs nd) (m : Described → Walk → ℕ → ℕ → Does (Unit {0})) where
+module _ {f w ou w' ou' : List ℕ} {lhs rhs left : ℕ} {r : Option ℕ} {nd : Node} (i : IsNode f w lhs nd) (m : Described → Walk → ℕ → ℕ → Does (Unit {0})) where
   -- By the form that was read.
   pub bind_as : ((d : Described) (b : Walk) (c : Checker) → bind_form d.schema (nodes_of d) b (form_of (kind_w f nd)) lhs rhs c ≡ m d b lhs rhs c)
       → Sides m f w ou lhs rhs left w' ou' r → Binds f w ou lhs rhs left w' ou' r
@@ -102,7 +101,7 @@ later_deny (a_variable v) h d b x y c = absurd h
 later_deny a_constant h d b x y c = absurd h
 later_deny an_error h d b x y c = absurd h
 
-module _ {f w ou w' ou' : List ℕ} {lhs rhs left : ℕ} {r : Done} {nd : Node} (i : IsNode f w lhs nd) where
+module _ {f w ou w' ou' : List ℕ} {lhs rhs left : ℕ} {r : Option ℕ} {nd : Node} (i : IsNode f w lhs nd) where
   pub bind_wildcard_lem : form_of (kind_w f nd) ≡ a_wildcard → Wildcards f w ou lhs rhs left w' ou' r → Binds f w ou lhs rhs left w' ou' r
   unfolding bind_form
   bind_wildcard_lem q S = bind_as i (λ d b x y. bind_wildcard d.schema (nodes_of d) b x y) (λ d b c. rw q refl) S
@@ -129,7 +128,7 @@ module _ {f w ou w' ou' : List ℕ} {lhs rhs left : ℕ} {r : Done} {nd : Node} 
       (plainly Diag.denied_pattern (λ T s. refl) tt S)
 
 -- A record is taken apart where that can be done.
-module _ {f w ou w' ou' : List ℕ} {lhs rhs left : ℕ} {r : Done} {l : Items} (i : IsNode f w lhs (Node.Record l)) {b : Bool} (D : Asks f w lhs b) where
+module _ {f w ou w' ou' : List ℕ} {lhs rhs left : ℕ} {r : Option ℕ} {l : Items} (i : IsNode f w lhs (Node.Record l)) {b : Bool} (D : Asks f w lhs b) where
   pub bind_apart : b ≡ true → Destructures f w ou lhs rhs left w' ou' r → Binds f w ou lhs rhs left w' ou' r
   unfolding kind_w form_of bind_form
   bind_apart e S = record {
@@ -151,7 +150,7 @@ module _ {f w ou w' ou' : List ℕ} {lhs rhs left : ℕ} {r : Done} {l : Items} 
   }
 
 -- A variable, introduced before the right side is inferred.
-module _ {f w ou w' ou' : List ℕ} {lhs rhs left x : ℕ} {r : Done} (i : IsNode f w lhs (Node.Var x)) (B : BindsVariable f w ou x lhs rhs left w' ou' r) where
+module _ {f w ou w' ou' : List ℕ} {lhs rhs left x : ℕ} {r : Option ℕ} (i : IsNode f w lhs (Node.Var x)) (B : BindsVariable f w ou x lhs rhs left w' ou' r) where
   pub bind_variable_lem : Binds f w ou lhs rhs left w' ou' r
   unfolding kind_w form_of bind_form
   bind_variable_lem = record {
@@ -167,7 +166,7 @@ module _ {f w ou w' ou' : List ℕ} {lhs rhs left x : ℕ} {r : Done} (i : IsNod
   }
 
 -- ---- `stmt`
-generated : {f w ou w' ou' : List ℕ} {left : ℕ} {r : Typed} (n : ℕ) → Generates f w ou n left w' ou' r → (d : Described) (k : ℕ) → Named d k n
+generated : {f w ou w' ou' : List ℕ} {left : ℕ} {r : Option (Ty × ℕ)} (n : ℕ) → Generates f w ou n left w' ou' r → (d : Described) (k : ℕ) → Named d k n
     → (T : Rows) (c : Checker) → Begins f w ou T d (visits (nodes_of d) k (n ∷ [])) left c
     → Ends f w ou w' ou' T d (visits (nodes_of d) k (n ∷ [])).records (visits (nodes_of d) k (n ∷ [])).fields (done (only_w r))
     (generate d.schema (nodes_of d) (below d k) n c)
@@ -177,7 +176,7 @@ generated n G d k named T c s = ends_wider (omega arith) (omega arith) (only_end
     (record { grade = omega arith; records = omega arith; fields = omega arith }) s) tt))
 
 module _ {f w ou w' ou' : List ℕ} {at under left : ℕ} where
-  pub stmt_implicit : {n : ℕ} {r : Typed} → stmt_w f at under ≡ Stmt.Implicit n → Generates f w ou n left w' ou' r → States f w ou at under left w' ou' (only_w r)
+  pub stmt_implicit : {n : ℕ} {r : Option (Ty × ℕ)} → stmt_w f at under ≡ Stmt.Implicit n → Generates f w ou n left w' ou' r → States f w ou at under left w' ou' (only_w r)
   unfolding stmt stmt_nodes
   stmt_implicit {n} e G = record {
     is = λ d k s q named. record {
@@ -186,7 +185,7 @@ module _ {f w ou w' ou' : List ℕ} {at under left : ℕ} where
     };
   }
 
-  pub stmt_negation : {n : ℕ} {r : Typed} → stmt_w f at under ≡ Stmt.Negation n → Generates f w ou n left w' ou' r → States f w ou at under left w' ou' (only_w r)
+  pub stmt_negation : {n : ℕ} {r : Option (Ty × ℕ)} → stmt_w f at under ≡ Stmt.Negation n → Generates f w ou n left w' ou' r → States f w ou at under left w' ou' (only_w r)
   unfolding stmt stmt_nodes
   stmt_negation {n} e G = record {
     is = λ d k s q named. record {
@@ -195,7 +194,7 @@ module _ {f w ou w' ou' : List ℕ} {at under left : ℕ} where
     };
   }
 
-  pub stmt_bind : {x y : ℕ} {r : Done} → stmt_w f at under ≡ Stmt.Bind x y → Binds f w ou x y left w' ou' r → States f w ou at under left w' ou' r
+  pub stmt_bind : {x y : ℕ} {r : Option ℕ} → stmt_w f at under ≡ Stmt.Bind x y → Binds f w ou x y left w' ou' r → States f w ou at under left w' ou' r
   unfolding stmt stmt_nodes
   stmt_bind {x} {y} e B = record {
     is = λ d k s q named. record {
@@ -204,7 +203,7 @@ module _ {f w ou w' ou' : List ℕ} {at under left : ℕ} where
     };
   }
 
-  pub stmt_deny : {x y : ℕ} {r : Done} → stmt_w f at under ≡ Stmt.Deny x y → Denies f w ou x y left w' ou' r → States f w ou at under left w' ou' r
+  pub stmt_deny : {x y : ℕ} {r : Option ℕ} → stmt_w f at under ≡ Stmt.Deny x y → Denies f w ou x y left w' ou' r → States f w ou at under left w' ou' r
   unfolding stmt stmt_nodes
   stmt_deny {x} {y} e B = record {
     is = λ d k s q named. record {
@@ -213,7 +212,7 @@ module _ {f w ou w' ou' : List ℕ} {at under left : ℕ} where
     };
   }
 
-  pub stmt_compare : {x y : ℕ} {r : Done} → stmt_w f at under ≡ Stmt.Compare x y → Compares f w ou x y left w' ou' r → States f w ou at under left w' ou' r
+  pub stmt_compare : {x y : ℕ} {r : Option ℕ} → stmt_w f at under ≡ Stmt.Compare x y → Compares f w ou x y left w' ou' r → States f w ou at under left w' ou' r
   unfolding stmt stmt_nodes
   stmt_compare {x} {y} e B = record {
     is = λ d k s q named. record {
@@ -273,14 +272,14 @@ stmt_meets {d = d} {c = c} b k s y = rw (← and_then_unit (saying d k s c))
 
 module _ {f w₀ ou₀ w ou : List ℕ} {T : Rows} {d : Described} {K : Load} {rest : ℕ} {c : Checker} {whole : Step (Unit {0})} (k : ℕ) where
   stmts_done : Midway f w₀ ou₀ w ou T d K (visits (nodes_of d) k (stmt_nodes [])) rest c whole (saying_all d k [])
-      → Ends f w₀ ou₀ w ou T d K.records K.fields (done (Done.On rest)) whole
+      → Ends f w₀ ou₀ w ou T d K.records K.fields (done (Some rest)) whole
   unfolding stmts
   stmts_done M = mid_ends M (on_here M.begins.runs M.begins.lines M.begins.visits)
 
-  module _ {w' ou' : List ℕ} {at under : ℕ} {r : Done} (s : QueryStmt) (ss : List QueryStmt)
+  module _ {w' ou' : List ℕ} {at under : ℕ} {r : Option ℕ} (s : QueryStmt) (ss : List QueryStmt)
       (M : Midway f w₀ ou₀ w ou T d K (visits (nodes_of d) k (stmt_nodes (s ∷ ss))) rest c whole (saying_all d k (s ∷ ss)))
       (named : AllNamed d k (stmt_nodes (s ∷ []))) (q : s ≡ statement (stmt_w f at under)) (S : States f w ou at under rest w' ou' r) where
-    stmts_on : {l : ℕ} → r ≡ Done.On l → Midway f w₀ ou₀ w' ou' T d K (visits (nodes_of d) k (stmt_nodes ss)) l c whole (saying_all d k ss)
+    stmts_on : {l : ℕ} → r ≡ Some l → Midway f w₀ ou₀ w' ou' T d K (visits (nodes_of d) k (stmt_nodes ss)) l c whole (saying_all d k ss)
     unfolding stmts
     stmts_on {l} g =
         let L = mid_led M (visits (nodes_of d) k (stmt_nodes (s ∷ []))) (visits (nodes_of d) k (stmt_nodes ss)) (stmt_fits d k s ss) Nothing
@@ -289,7 +288,7 @@ module _ {f w₀ ou₀ w ou : List ℕ} {T : Rows} {d : Described} {K : Load} {r
         mid_after M (visits (nodes_of d) k (stmt_nodes (s ∷ []))) (visits (nodes_of d) k (stmt_nodes ss)) (stmt_fits d k s ss) Nothing
         (saying d k s M.b) L (λ u. saying_all d k ss) l refl (cc (g, L.gone.is))
 
-    stmts_stop : r ≡ Done.Out → Ends f w₀ ou₀ w' ou' T d K.records K.fields (done Done.Out) whole
+    stmts_stop : r ≡ None → Ends f w₀ ou₀ w' ou' T d K.records K.fields (done None) whole
     unfolding stmts
     stmts_stop g = mid_ends M (stop_done (visits (nodes_of d) k (stmt_nodes (s ∷ []))) (visits (nodes_of d) k (stmt_nodes ss))
         (visits (nodes_of d) k (stmt_nodes (s ∷ ss))) (stmt_fits d k s ss) Nothing (saying d k s M.b)
@@ -335,13 +334,13 @@ size_some f at = go (eqb (digits_w f at) 1) (eqb (digits_w f at) 2)
     go false false = omega arith
 
 module _ {f w₀ ou₀ w ou : List ℕ} {body : Stmts} {left at rest : ℕ} (A : StmtsGoing f w₀ ou₀ body left w ou at rest) where
-  pub stmts_end : body.end ≤ at → StatesAll f w₀ ou₀ body left w ou (Done.On rest)
+  pub stmts_end : body.end ≤ at → StatesAll f w₀ ou₀ body left w ou (Some rest)
   stmts_end h = record {
     is = λ d k ss q named. record
         { is = λ T c s u. stmts_done k (rw (from_none A.fuel f at body.end body.below h) at (A.to d k ss q named T c s)) };
   }
 
-  module _ (h : at < body.end) {w' ou' : List ℕ} {r : Done} (S : States f w ou at body.below rest w' ou' r) where
+  module _ (h : at < body.end) {w' ou' : List ℕ} {r : Option ℕ} (S : States f w ou at body.below rest w' ou' r) where
     abbrev less : ℕ
     less = A.fuel - 1
 
@@ -356,7 +355,7 @@ module _ {f w₀ ou₀ w ou : List ℕ} {body : Stmts} {left at rest : ℕ} (A :
     both_named d k all = stmt_nodes_lem (statement (stmt_w f at body.below)) (stmts_from less f (at + stmt_size_w f at) body.end body.below)
         (Named d k) (rw first_rest at (A.named d k all))
 
-    pub stmts_out : r ≡ Done.Out → StatesAll f w₀ ou₀ body left w' ou' Done.Out
+    pub stmts_out : r ≡ None → StatesAll f w₀ ou₀ body left w' ou' None
     stmts_out g = record {
       is = λ d k ss q named. record {
         is = λ T c s u.
@@ -365,7 +364,7 @@ module _ {f w₀ ou₀ w ou : List ℕ} {body : Stmts} {left at rest : ℕ} (A :
       };
     }
 
-    pub stmts_next : {left' : ℕ} → r ≡ Done.On left' → StmtsGoing f w₀ ou₀ body left w' ou' (at + stmt_size_w f at) left'
+    pub stmts_next : {left' : ℕ} → r ≡ Some left' → StmtsGoing f w₀ ou₀ body left w' ou' (at + stmt_size_w f at) left'
     stmts_next g = record {
       fuel = less;
       enough = omega (arith, A.enough, size_some f at);
@@ -387,8 +386,8 @@ made_marks g c c' m = omega (arith, ap length m.marks ∙ length-append m.marked
 pub made_env : (g : Grade) (c c' : Checker) → Made g c c' → length c.env ≤ length c'.env
 made_env g c c' m = omega (arith, ap length m.env ∙ length-append m.pushed c.env)
 
-module _ {f w ou w₁ ou₁ : List ℕ} {head left : ℕ} {body : Stmts} {x : Done} (D : StatesAll f w ou body left w₁ ou₁ x) where
-  pub subquery_out : x ≡ Done.Out → Subqueries f w ou head body left w₁ ou₁ Typed.Out
+module _ {f w ou w₁ ou₁ : List ℕ} {head left : ℕ} {body : Stmts} {x : Option ℕ} (D : StatesAll f w ou body left w₁ ou₁ x) where
+  pub subquery_out : x ≡ None → Subqueries f w ou head body left w₁ ou₁ None
   unfolding subquery env_len expr_nodes query_nodes
   subquery_out g = record {
     is = λ d k q e named. record {
@@ -400,8 +399,8 @@ module _ {f w ou w₁ ou₁ : List ℕ} {head left : ℕ} {body : Stmts} {x : Do
     };
   }
 
-  module _ {l : ℕ} (g : x ≡ Done.On l) where
-    subquery_then : {w₃ ou₃ : List ℕ} {r : Typed}
+  module _ {l : ℕ} (g : x ≡ Some l) where
+    subquery_then : {w₃ ou₃ : List ℕ} {r : Option (Ty × ℕ)}
         → ((d : Described) (k : ℕ) → Named d k head → (T₁ : Rows) (c b : Checker) → length c.env ≡ get_or w ENV-LEN 0
         → length c.env ≤ length b.env → Begins f w₁ ou₁ T₁ d (infers (nodes_of d) k head) l b
         → Ends f w₁ ou₁ w₃ ou₃ T₁ d (infers (nodes_of d) k head).records (infers (nodes_of d) k head).fields (typed w₃ r)
@@ -421,9 +420,9 @@ module _ {f w ou w₁ ou₁ : List ℕ} {head left : ℕ} {body : Stmts} {x : Do
       };
     }
 
-    pub subquery_ends : {scope : ℕ} {w₂ ou₂ w₃ ou₃ : List ℕ} {r : Typed} {t : Ty} {v : ℕ} → Infers f w₁ ou₁ head l w₂ ou₂ r → r ≡ Typed.Got t v
+    pub subquery_ends : {scope : ℕ} {w₂ ou₂ w₃ ou₃ : List ℕ} {r : Option (Ty × ℕ)} {t : Ty} {v : ℕ} → Infers f w₁ ou₁ head l w₂ ou₂ r → r ≡ Some (t, v)
         → scope ≡ get_or w ENV-LEN 0 → Leaves f w₂ ou₂ scope w₃ ou₃
-        → Subqueries f w ou head body left w₃ ou₃ (Typed.Got t v)
+        → Subqueries f w ou head body left w₃ ou₃ (Some (t, v))
     subquery_ends {t = t} {v} I got z C = subquery_then (λ d k nh T₁ c b len up s₁.
         then_typed (infers (nodes_of d) k head) (only no_thing) (infers (nodes_of d) k head)
         (record { grade = omega arith; records = omega arith; fields = omega arith }) ((below d k).infer head b)
@@ -432,7 +431,7 @@ module _ {f w ou w₁ ou₁ : List ℕ} {head left : ℕ} {body : Stmts} {x : Do
         (λ T₂ e a fine. done_typed t fine.ok (silent_on
         (rw (len ∙ sym z) ((C d v).is T₂ e a.begins (omega (arith, len, z, up, made_env _ b e a.made)))))))
 
-    pub subquery_head_out : {w₂ ou₂ : List ℕ} {r : Typed} → Infers f w₁ ou₁ head l w₂ ou₂ r → r ≡ Typed.Out → Subqueries f w ou head body left w₂ ou₂ Typed.Out
+    pub subquery_head_out : {w₂ ou₂ : List ℕ} {r : Option (Ty × ℕ)} → Infers f w₁ ou₁ head l w₂ ou₂ r → r ≡ None → Subqueries f w ou head body left w₂ ou₂ None
     subquery_head_out I none = subquery_then (λ d k nh T₁ c b len up s₁.
         stop_typed (infers (nodes_of d) k head) (only no_thing) (infers (nodes_of d) k head)
         (record { grade = omega arith; records = omega arith; fields = omega arith }) ((below d k).infer head b)

@@ -6,9 +6,7 @@ use native.Mathlib.Omega.{arith}
 use lib.ListN.{get_or}
 use Rattle.work.specs.Layout.{UNKNOWNS, ENV-LEN, MARK-COUNT, UNDO-LEN}
 use Rattle.cells.specs.declared.Ty.{Ty}
-use Rattle.cells.specs.declared.Bound.{Bound}
 use Rattle.cells.specs.declared.TyError.{TyError}
-use Rattle.cells.specs.declared.Found.{Found}
 use Rattle.cells.specs.Promises.{FindsName}
 use Rattle.cells.specs.Words.{annotate_w, fresh_w}
 use Rattle.meaning.specs.Syntax.{FieldRef}
@@ -23,8 +21,6 @@ use Rattle.tree.specs.declared.Stmt.{Stmt}
 use Rattle.tree.specs.Nodes.{IsNode, item_w, field_w, stmt_w, stmt_size_w}
 use Rattle.tree.proofs.Below.{stmt_size}
 use Rattle.tree.proofs.Steps.{field_lower, item_lower, LowerStmt, stmt_lower}
-use Rattle.steps.specs.declared.Typed.{Typed}
-use Rattle.state.specs.declared.Done.{Done}
 use Rattle.steps.specs.Promises.{nodes_of, Rejects, Notes, Freshens, Reports, RollsTo, Leaves, KeyIs, OnType}
 use Rattle.steps.specs.declared.Mark.{Mark}
 use Rattle.steps.specs.Outside.{report_message, key_ty_w, Takes, Rewinds, KeyOf, ValueOf}
@@ -33,11 +29,13 @@ use Rattle.steps.proofs.Looking.{key_is}
 use Rattle.steps.proofs.Besides.{reports, rolls, leaves}
 use Rattle.checker.specs.Promises.{Infers, Checks, Generates, Mentions}
 use Rattle.checker.proofs.Alls.{Turn}
+use Rattle.std.specs.Prelude.{Option, ℕ}
+use Rattle.cells.specs.declared.Part.{Part}
 
 pub as_node_lem : {f w : List ℕ} {n : ℕ} {r nd : Node} → r ≡ nd → IsNode f w n r → IsNode f w n nd
 as_node_lem {f} {w} {n} e i = subst (λ (x : Node). IsNode f w n x) e i
 
-pub rejects_by : {f w ou w' ou' : List ℕ} {n left : ℕ} {m : Message} {r : Done} → Rejected f w ou n m left w' ou' r → Rejects f w ou n m left w' ou' r
+pub rejects_by : {f w ou w' ou' : List ℕ} {n left : ℕ} {m : Message} {r : Option ℕ} → Rejected f w ou n m left w' ou' r → Rejects f w ou n m left w' ou' r
 rejects_by {f} {w} {n = n} {left = left} {m = m} x = rejects f w n m left x
 
 pub notes_by : {f w ou w' : List ℕ} {n left : ℕ} {t : Ty} → w' ≡ annotate_w w n t → Notes f w ou n t left w' ou
@@ -47,7 +45,7 @@ pub freshens_by : {f w ou w' : List ℕ} {left x : ℕ} → (x ≡ get_or w UNKN
 freshens_by {f} {w} {ou} {w'} {left} {x} e =
     subst (λ (v : List ℕ). Freshens f w ou left v ou x) (sym e.1) (subst (λ (y : ℕ). Freshens f w ou left (fresh_w w) ou y) (sym e.0) (freshens f w left))
 
-pub reports_by : {f w ou w' ou' : List ℕ} {n left : ℕ} {r : Done} (err : TyError) → Rejected f w ou n (report_message err) left w' ou' r
+pub reports_by : {f w ou w' ou' : List ℕ} {n left : ℕ} {r : Option ℕ} (err : TyError) → Rejected f w ou n (report_message err) left w' ou' r
     → Reports f w ou n err left w' ou' r
 reports_by {f} {w} {n = n} {left = left} err x = reports f w n err left x
 
@@ -61,16 +59,16 @@ rolls_by {f} {w} {ou} {w₀} {w'} {m} t r =
 pub leaves_by : {f w ou w' : List ℕ} {scope : ℕ} → w' ≡ leave_w w scope → Leaves f w ou scope w' ou
 leaves_by {f} {w} {ou} {w'} {scope} e = subst (λ (v : List ℕ). Leaves f w ou scope v ou) (sym e) (leaves f w scope)
 
-pub key_by : {f w : List ℕ} {p : ℕ} {r : Bound} → r ≡ key_ty_w w p → KeyIs f w p r
-key_by {f} {w} {p} e = subst (λ (b : Bound). KeyIs f w p b) (sym e) (key_is f w p)
+pub key_by : {f w : List ℕ} {p : ℕ} {r : Option Ty} → r ≡ key_ty_w w p → KeyIs f w p r
+key_by {f} {w} {p} e = subst (λ (b : Option Ty). KeyIs f w p b) (sym e) (key_is f w p)
 
 -- ---- An access by its field
-pub key_on : {f w ou w' ou' : List ℕ} {n left : ℕ} {t : Ty} {r : Typed} (name : ℕ) → KeyOf f w ou n name t left w' ou' r
+pub key_on : {f w ou w' ou' : List ℕ} {n left : ℕ} {t : Ty} {r : Option (Ty × ℕ)} (name : ℕ) → KeyOf f w ou n name t left w' ou' r
     → OnType (λ d ty. Check.access_of d.schema (nodes_of d) n (FieldRef.Key name) ty) f w ou n t left w' ou' r
 unfolding Check.access_of
 key_on name k = k
 
-pub value_on : {f w ou w' ou' : List ℕ} {n left : ℕ} {t : Ty} {r : Typed} → ValueOf f w ou n t left w' ou' r
+pub value_on : {f w ou w' ou' : List ℕ} {n left : ℕ} {t : Ty} {r : Option (Ty × ℕ)} → ValueOf f w ou n t left w' ou' r
     → OnType (λ d ty. Check.access_of d.schema (nodes_of d) n FieldRef.Value ty) f w ou n t left w' ou' r
 unfolding Check.access_of
 value_on v = v
@@ -85,29 +83,29 @@ field_falls f l i some h q = rw q (field_lower f l i (some (omega arith)))
 pub stmt_falls : (f : List ℕ) (at : ℕ) {n : ℕ} {s s' : Stmt} → 0 < n → s ≡ stmt_w f at n → s ≡ s' → LowerStmt n s'
 stmt_falls f at {n} h p q = subst (λ (x : Stmt). LowerStmt n x) (sym p ∙ q) (stmt_lower f at n h)
 
-pub turn_at : {f w ou w' ou' : List ℕ} {e x left : ℕ} {t : Ty} {r : Done} → e ≡ x → Turn f w ou e t left w' ou' r → Turn f w ou x t left w' ou' r
+pub turn_at : {f w ou w' ou' : List ℕ} {e x left : ℕ} {t : Ty} {r : Option ℕ} → e ≡ x → Turn f w ou e t left w' ou' r → Turn f w ou x t left w' ou' r
 turn_at {f} {w} {ou} {w'} {ou'} {left = left} {t = t} {r = r} q u = subst (λ (y : ℕ). Turn f w ou y t left w' ou' r) q u
 
-pub generates_at : {f w ou w' ou' : List ℕ} {e x left : ℕ} {r : Typed} → e ≡ x → Generates f w ou e left w' ou' r → Generates f w ou x left w' ou' r
+pub generates_at : {f w ou w' ou' : List ℕ} {e x left : ℕ} {r : Option (Ty × ℕ)} → e ≡ x → Generates f w ou e left w' ou' r → Generates f w ou x left w' ou' r
 generates_at {f} {w} {ou} {w'} {ou'} {left = left} {r = r} q u = subst (λ (y : ℕ). Generates f w ou y left w' ou' r) q u
 
-pub mentions_at : {f w ou w' ou' : List ℕ} {e left : ℕ} {x y : Field} {r : Done} → x ≡ y → Mentions f w ou x.name x.value e left w' ou' r
+pub mentions_at : {f w ou w' ou' : List ℕ} {e left : ℕ} {x y : Field} {r : Option ℕ} → x ≡ y → Mentions f w ou x.name x.value e left w' ou' r
     → Mentions f w ou y.name y.value e left w' ou' r
 mentions_at {f} {w} {ou} {w'} {ou'} {e} {left} {r = r} q u = subst (λ (z : Field). Mentions f w ou z.name z.value e left w' ou' r) q u
 
-pub infers_at : {f w ou w' ou' : List ℕ} {left : ℕ} {x y : Field} {r : Typed} → x ≡ y → Infers f w ou x.value left w' ou' r
+pub infers_at : {f w ou w' ou' : List ℕ} {left : ℕ} {x y : Field} {r : Option (Ty × ℕ)} → x ≡ y → Infers f w ou x.value left w' ou' r
     → Infers f w ou y.value left w' ou' r
 infers_at {f} {w} {ou} {w'} {ou'} {left} {r = r} q u = subst (λ (z : Field). Infers f w ou z.value left w' ou' r) q u
 
-pub checks_at : {f w ou w' ou' : List ℕ} {left : ℕ} {t : Ty} {x y : Field} {r : Done} → x ≡ y → Checks f w ou x.value t left w' ou' r
+pub checks_at : {f w ou w' ou' : List ℕ} {left : ℕ} {t : Ty} {x y : Field} {r : Option ℕ} → x ≡ y → Checks f w ou x.value t left w' ou' r
     → Checks f w ou y.value t left w' ou' r
 checks_at {f} {w} {ou} {w'} {ou'} {left} {t} {r = r} q u = subst (λ (z : Field). Checks f w ou z.value t left w' ou' r) q u
 
-pub finds_at : {w : List ℕ} {c : ℕ} {x y : Field} {found : Found} → x ≡ y → FindsName w c x.name found → FindsName w c y.name found
+pub finds_at : {w : List ℕ} {c : ℕ} {x y : Field} {found : Option Part} → x ≡ y → FindsName w c x.name found → FindsName w c y.name found
 finds_at {w} {c} {found = found} q u = subst (λ (z : Field). FindsName w c z.name found) q u
 
 -- the alternative that the field names
-pub unknown_at : {f w ou w' ou' : List ℕ} {n left : ℕ} {r : Done} {x y : Field} → x ≡ y
+pub unknown_at : {f w ou w' ou' : List ℕ} {n left : ℕ} {r : Option ℕ} {x y : Field} → x ≡ y
     → Rejected f w ou n (Message.NoAlternative x.name) left w' ou' r → Rejects f w ou n (Message.NoAlternative y.name) left w' ou' r
 unknown_at {f} {w} {ou} {w'} {ou'} {n} {left} {r} q u = rejects_by
     (subst (λ (z : Field). Rejected f w ou n (Message.NoAlternative z.name) left w' ou' r) q u)

@@ -2,7 +2,6 @@
 -- is rolled back to where it began: only its unknowns, its diagnostics and what left it stay.
 use mathlib.Core.Bool.{Bool, true, false}
 use mathlib.Core.List.{List}
-use mathlib.Core.Option.{Option, none, some}
 use mathlib.Core.Path.{◌≡◌, refl, sym}
 use Prim.Native.Nat.{ℕ, suc, ◌≤◌, ◌<◌}
 use native.Mathlib.Omega.{arith}
@@ -16,7 +15,6 @@ use Rattle.unification.proofs.Tests.{clash}
 use Rattle.work.specs.Layout.{ENV-LEN, DIAGNOSTIC-COUNT, MARK-COUNT, UNDO-LEN}
 use Rattle.cells.specs.declared.Ty.{Ty}
 use Rattle.cells.specs.declared.TyError.{TyError}
-use Rattle.cells.specs.declared.Unified.{Unified}
 use Rattle.cells.specs.Stands.{Rows, tree}
 use Rattle.cells.specs.Promises.{IsError}
 use Rattle.cells.specs.Inferred.{More, Adds}
@@ -32,9 +30,7 @@ use Rattle.meaning.proofs.Visits.{size_pos}
 use Rattle.state.specs.Lines.{Told}
 use Rattle.state.specs.Runs.{Runs}
 use Rattle.state.proofs.Scoping.{runs_env_length, runs_marks_length}
-use Rattle.steps.specs.declared.Typed.{Typed}
-use Rattle.state.specs.declared.Done.{Done}
-use Rattle.steps.specs.Ends.{Result, typed, done, silent, unified, IsUnified, Gone, Ends, went, spent}
+use Rattle.steps.specs.Ends.{Gives, typed, done, silent, unified, IsUnified, Gone, Ends, went, spent}
 use Rattle.steps.specs.Loads.{Load, only, both, FitsIn, infers, checks, Begins}
 use Rattle.steps.specs.Promises.{nodes_of, Fine, UnifiesTo, Reports, RollsTo, Named, NodeAt}
 use Rattle.checker.specs.Promises.{below, Infers, InfersThenUnifies, Checks}
@@ -44,6 +40,8 @@ use Rattle.steps.proofs.Sequel.{begins_part, begins_after, gone_trans, gone_on, 
 use Rattle.steps.proofs.Results.{After, with_visits, fine_after, tree_after, got_same, on_here, then_typed, stop_typed, then_done, stop_done, silent_on}
 use Rattle.checker.proofs.Inferring.{good}
 use Rattle.checker.proofs.Bodies.{made_env, made_marks}
+use Rattle.std.specs.Prelude.{Err, None, Ok, Option, Some, ℕ, Result}
+use Rattle.cells.specs.declared.Failure.{Failure}
 
 -- ---- Back to where the stretch began
 abbrev pub mark_of : Checker → Mark
@@ -52,7 +50,7 @@ mark_of c = record { state = Bindings.snapshot c.state; env = length c.env; mark
 same_load : (G : Load) → FitsIn (both G (only no_thing)) G
 same_load G = record { grade = omega arith; records = omega arith; fields = omega arith }
 
-module _ {f w ou w₂ ou₂ w₃ ou₃ : List ℕ} {T : Rows} {d : Described} {left v : ℕ} {c b : Checker} (G : Load) {A : Type 0} {E : Result A} {a : A}
+module _ {f w ou w₂ ou₂ w₃ ou₃ : List ℕ} {T : Rows} {d : Described} {left v : ℕ} {c b : Checker} (G : Load) {A : Type 0} {E : Gives A} {a : A}
     (P : A → Checker → Type 0)
     (s : Begins f w ou T d G left c) (g : Gone f w ou w₂ ou₂ T d G.records G.fields E a b 0) (x : Went P G.grade c a b) (e : b.state.left ≡ v)
     (R : RollsTo f w₂ ou₂ (get_or w UNDO-LEN 0) (get_or w ENV-LEN 0) (get_or w MARK-COUNT 0) w₃ ou₃) where
@@ -79,7 +77,7 @@ error_kept a M (TyError.UnionMismatch u p q) i = record
 error_kept a M (TyError.UnknownField n) i = record { is = i.is; ok = tt }
 error_kept a M TyError.Infinite i = record { is = i.is; ok = tt }
 
-abbrev carrying : List ℕ → ℕ → TyError → Unify.TyError → Result (Unit {0})
+abbrev carrying : List ℕ → ℕ → TyError → Unify.TyError → Gives (Unit {0})
 carrying w v x e = record { Is = λ R u l. (l ≡ v) × IsError w R x e; Out = ⊥ }
 
 carried : {f w ou w' ou' : List ℕ} {T : Rows} {d : Described} {n m v : ℕ} {s : Step (Unit {0})} (x : TyError) {e : Unify.TyError} → IsError w T x e
@@ -103,8 +101,8 @@ unify_fits = record { grade = omega arith; records = omega arith; fields = omega
 
 -- What follows a unification.
 abbrev following : Described → ℕ → Mark → Option Unify.TyError → Does (Unit {0})
-following d n m none c = goes tt c
-following d n m (some err) c = and_then (rollback m c) (λ u. report d.schema (nodes_of d) n err)
+following d n m None c = goes tt c
+following d n m (Some err) c = and_then (rollback m c) (λ u. report d.schema (nodes_of d) n err)
 
 then_same : (d : Described) (k n : ℕ) (t : Tree.Ty) (c : Checker)
     → infer_then_unify d.schema (nodes_of d) (below d k) n t c ≡ and_then ((below d (suc k)).infer n c)
@@ -114,15 +112,15 @@ then_same d k n t c = go (infer_at d.schema (nodes_of d) (below d k) n c)
   where
     tail : (m : Step (Option Unify.TyError)) → and_then m
         (λ failed. elim failed as (λ o. Does (Unit {0}))
-        [ none ↦ (λ b. goes tt b) | some err ↦ (λ b. and_then (rollback (mark_of c) b) (λ u. report d.schema (nodes_of d) n err)) ]) ≡ and_then m
+        [ None ↦ (λ b. goes tt b) | Some err ↦ (λ b. and_then (rollback (mark_of c) b) (λ u. report d.schema (nodes_of d) n err)) ]) ≡ and_then m
         (following d n (mark_of c))
-    tail (goes none b) = refl
-    tail (goes (some err) b) = refl
+    tail (goes None b) = refl
+    tail (goes (Some err) b) = refl
     tail (out b) = refl
 
     go : (m : Step Tree.Ty) → and_then m (λ ty b. and_then (unify ty t b)
         (λ failed. elim failed as (λ o. Does (Unit {0}))
-        [ none ↦ (λ e. goes tt e) | some err ↦ (λ e. and_then (rollback (mark_of c) e) (λ u. report d.schema (nodes_of d) n err)) ]))
+        [ None ↦ (λ e. goes tt e) | Some err ↦ (λ e. and_then (rollback (mark_of c) e) (λ u. report d.schema (nodes_of d) n err)) ]))
         ≡ and_then m (λ ty b. and_then (unify ty t b) (following d n (mark_of c)))
     go (goes ty b) = tail (unify ty t b)
     go (out b) = refl
@@ -130,8 +128,8 @@ then_same d k n t c = go (infer_at d.schema (nodes_of d) (below d k) n c)
 visited : {d : Described} {k n : ℕ} → NodeAt d k n → Named d (suc k) n
 visited at = record { there = at.there; under = omega (arith, at.above) }
 
-module _ {f w ou w₁ ou₁ : List ℕ} {n left : ℕ} {t : Ty} {r : Typed} (I : Infers f w ou n left w₁ ou₁ r) where
-  pub unify_out : r ≡ Typed.Out → InfersThenUnifies f w ou n t left w₁ ou₁ Done.Out
+module _ {f w ou w₁ ou₁ : List ℕ} {n left : ℕ} {t : Ty} {r : Option (Ty × ℕ)} (I : Infers f w ou n left w₁ ou₁ r) where
+  pub unify_out : r ≡ None → InfersThenUnifies f w ou n t left w₁ ou₁ None
   unify_out g = record {
     is = λ d k at. record {
       is = λ T c s fine.
@@ -141,14 +139,14 @@ module _ {f w ou w₁ ou₁ : List ℕ} {n left : ℕ} {t : Ty} {r : Typed} (I :
     };
   }
 
-  module _ {u : Ty} {l : ℕ} (g : r ≡ Typed.Got u l) {w₂ ou₂ : List ℕ} {x : Unified} (U : UnifiesTo f w₁ ou₁ u t l w₂ ou₂ x) where
+  module _ {u : Ty} {l : ℕ} (g : r ≡ Some (u, l)) {w₂ ou₂ : List ℕ} {x : Result ℕ Failure} (U : UnifiesTo f w₁ ou₁ u t l w₂ ou₂ x) where
     -- The unification, after the visit.
     unify_ends : {T : Rows} {d : Described} {G H : Load} {c : Checker} {T₁ : Rows} {b : Checker} (a : After f w ou w₁ ou₁ T d G H l c T₁ b)
         → Fine w t T c → Fine w₁ u T₁ b → Begins f w₁ ou₁ T₁ d (only no_thing) l b
         → Ends f w₁ ou₁ w₂ ou₂ T₁ d 0 0 (unified w₂ x) (unify (tree T₁ u) (tree T t) b)
     unify_ends {d = d} {T₁ = T₁} {b = b} a fine fine₁ s = rw (← tree_after a t fine.ok) ((U d).is T₁ b s (fine₁, fine_after a t fine))
 
-    pub unify_good : {v : ℕ} → x ≡ Unified.Good v → InfersThenUnifies f w ou n t left w₂ ou₂ (Done.On v)
+    pub unify_good : {v : ℕ} → x ≡ Ok v → InfersThenUnifies f w ou n t left w₂ ou₂ (Some v)
     unify_good {v} z = record {
       is = λ d k at. record {
         is = λ T c s fine.
@@ -166,11 +164,11 @@ module _ {f w ou w₁ ou₁ : List ℕ} {n left : ℕ} {t : Ty} {r : Typed} (I :
     }
       where
         succeeded : {T₂ : Rows} (d : Described) (n : ℕ) (m : Mark) (o : Option Unify.TyError) (e : Checker) → IsUnified w₂ x T₂ o e.state.left
-            → Runs f w₂ T₂ d e → Told d w₂ ou₂ e 0 → Ends f w₂ ou₂ w₂ ou₂ T₂ d 0 0 (done (Done.On v)) (following d n m o e)
-        succeeded d n m none e i runs told = on_here runs told (cc (z, i))
-        succeeded d n m (some err) e i runs told = clash (cc (z, i.1))
+            → Runs f w₂ T₂ d e → Told d w₂ ou₂ e 0 → Ends f w₂ ou₂ w₂ ou₂ T₂ d 0 0 (done (Some v)) (following d n m o e)
+        succeeded d n m None e i runs told = on_here runs told (cc (z, i))
+        succeeded d n m (Some err) e i runs told = clash (cc (z, i.1))
 
-    pub unify_spent : x ≡ Unified.Spent → InfersThenUnifies f w ou n t left w₂ ou₂ Done.Out
+    pub unify_spent : x ≡ Err Failure.Spent → InfersThenUnifies f w ou n t left w₂ ou₂ None
     unify_spent z = record {
       is = λ d k at. record {
         is = λ T c s fine.
@@ -184,19 +182,19 @@ module _ {f w ou w₁ ou₁ : List ℕ} {n left : ℕ} {t : Ty} {r : Typed} (I :
     }
       where
         unsucceeded : (R : Rows) (o : Option Unify.TyError) (v : ℕ) → ¬ (IsUnified w₂ x R o v)
-        unsucceeded R none v i = clash (cc (z, i))
-        unsucceeded R (some err) v i = clash (cc (z, i.1))
+        unsucceeded R None v i = clash (cc (z, i))
+        unsucceeded R (Some err) v i = clash (cc (z, i.1))
 
     -- The failure, rolled back and reported.
-    module _ {w₃ ou₃ w₄ ou₄ : List ℕ} {err : TyError} {v : ℕ} {y : Done} (z : x ≡ Unified.Bad err v)
+    module _ {w₃ ou₃ w₄ ou₄ : List ℕ} {err : TyError} {v : ℕ} {y : Option ℕ} (z : x ≡ Err (Failure.Bad err v))
         (R : RollsTo f w₂ ou₂ (get_or w UNDO-LEN 0) (get_or w ENV-LEN 0) (get_or w MARK-COUNT 0) w₃ ou₃) (O : Reports f w₃ ou₃ n err v w₄ ou₄ y) where
       failed : {T : Rows} {d : Described} {c b : Checker} (k : ℕ) (o : Option Unify.TyError) → NodeAt d k n
           → Begins f w ou T d (checks (nodes_of d) (suc k) n) left c
           → (g : Gone f w ou w₂ ou₂ T d (infers (nodes_of d) (suc k) n).records (infers (nodes_of d) (suc k) n).fields (unified w₂ x) o b 0)
           → Went Nothing (infers (nodes_of d) (suc k) n).grade c o b
           → Ends f w ou w₄ ou₄ T d (checks (nodes_of d) (suc k) n).records (checks (nodes_of d) (suc k) n).fields (done y) (following d n (mark_of c) o b)
-      failed k none at s q h = clash (cc (z, q.is))
-      failed {T} {d} {c} {b} k (some e) at s q h =
+      failed k None at s q h = clash (cc (z, q.is))
+      failed {T} {d} {c} {b} k (Some e) at s q h =
           let G = infers (nodes_of d) (suc k) n in
           let i : IsError w₂ q.T' err e = (let p : q.is.0 ≡ err = cc (z, q.is.1) in rw p at q.is.2) in
           let visits : b.state.left ≡ v = cc (z, q.is.1) in
@@ -274,8 +272,8 @@ field_same d k n t c = go ((below d k).check n t c)
     go (goes u b) = tail (ltb (length c.diagnostics) (length b.diagnostics)) b
     go (out b) = refl
 
-module _ {f w ou w₁ ou₁ : List ℕ} {n left : ℕ} {t : Ty} {r : Done} (C : Checks f w ou n t left w₁ ou₁ r) where
-  pub field_out : r ≡ Done.Out → ChecksField f w ou n t left w₁ ou₁ Done.Out
+module _ {f w ou w₁ ou₁ : List ℕ} {n left : ℕ} {t : Ty} {r : Option ℕ} (C : Checks f w ou n t left w₁ ou₁ r) where
+  pub field_out : r ≡ None → ChecksField f w ou n t left w₁ ou₁ None
   field_out g = record {
     is = λ d k named. record {
       is = λ T c s fine.
@@ -285,9 +283,9 @@ module _ {f w ou w₁ ou₁ : List ℕ} {n left : ℕ} {t : Ty} {r : Done} (C : 
     };
   }
 
-  module _ {l : ℕ} (g : r ≡ Done.On l) where
+  module _ {l : ℕ} (g : r ≡ Some l) where
     -- No diagnostic arose.
-    pub field_kept : get_or w₁ DIAGNOSTIC-COUNT 0 ≤ get_or w DIAGNOSTIC-COUNT 0 → ChecksField f w ou n t left w₁ ou₁ (Done.On l)
+    pub field_kept : get_or w₁ DIAGNOSTIC-COUNT 0 ≤ get_or w DIAGNOSTIC-COUNT 0 → ChecksField f w ou n t left w₁ ou₁ (Some l)
     field_kept h = record {
       is = λ d k named. record {
         is = λ T c s fine.
@@ -301,7 +299,7 @@ module _ {f w ou w₁ ou₁ : List ℕ} {n left : ℕ} {t : Ty} {r : Done} (C : 
     }
 
     pub field_rolled : {w₂ ou₂ : List ℕ} → get_or w DIAGNOSTIC-COUNT 0 < get_or w₁ DIAGNOSTIC-COUNT 0
-        → RollsTo f w₁ ou₁ (get_or w UNDO-LEN 0) (get_or w ENV-LEN 0) (get_or w MARK-COUNT 0) w₂ ou₂ → ChecksField f w ou n t left w₂ ou₂ (Done.On l)
+        → RollsTo f w₁ ou₁ (get_or w UNDO-LEN 0) (get_or w ENV-LEN 0) (get_or w MARK-COUNT 0) w₂ ou₂ → ChecksField f w ou n t left w₂ ou₂ (Some l)
     unfolding and_then
     field_rolled {w₂} {ou₂} h R = record {
       is = λ d k named. record {
@@ -313,7 +311,7 @@ module _ {f w ou w₁ ou₁ : List ℕ} {n left : ℕ} {t : Ty} {r : Done} (C : 
       where
         back : {T : Rows} {d : Described} {c : Checker} (k : ℕ) → Begins f w ou T d (checks (nodes_of d) k n) left c
             → Led f w ou w₁ ou₁ T d (checks (nodes_of d) k n) (done r) Nothing c ((below d k).check n (tree T t) c)
-            → Ends f w ou w₂ ou₂ T d (checks (nodes_of d) k n).records (checks (nodes_of d) k n).fields (done (Done.On l))
+            → Ends f w ou w₂ ou₂ T d (checks (nodes_of d) k n).records (checks (nodes_of d) k n).fields (done (Some l))
             (check_field d.schema (nodes_of d) (below d k) n (tree T t) c)
         back {T} {d} {c} k s L =
             rw (

@@ -16,13 +16,13 @@ use Rattle.tree.specs.declared.Node.{Node}
 use Rattle.tree.specs.declared.Items.{Items}
 use Rattle.tree.specs.Nodes.{IsNode, kind_w}
 use Rattle.tree.specs.contracts.Node.{the_type}
-use Rattle.state.specs.declared.Done.{Done}
 use Rattle.steps.specs.Promises.{nodes_of}
 use Rattle.steps.proofs.Forms.{by_form}
 use Rattle.checker.specs.Promises.{Denies, InfersThenUnifies}
 use Rattle.checker.proofs.Within.{BadTargets, plainly, ChecksRecord}
 use Rattle.checker.proofs.Bodies.{Later, DeniedLater, deny_as}
 use Rattle.checker.proofs.Against.{Inferred, NoCell, record_other}
+use Rattle.std.specs.Prelude.{Option}
 
 pub later : (f : List ℕ) (nd : Node) → OneOf (5 ∷ 7 ∷ 9 ∷ 10 ∷ 11 ∷ 12 ∷ 13 ∷ 14 ∷ 16 ∷ []) (tag_of the_type nd) → Later (form_of (kind_w f nd))
 later f nd x = by_form f (5 ∷ 7 ∷ 9 ∷ 10 ∷ 11 ∷ 12 ∷ 13 ∷ 14 ∷ 16 ∷ []) Later (record {
@@ -59,7 +59,7 @@ inferred f nd x = by_form f (0 ∷ 1 ∷ 2 ∷ 3 ∷ 5 ∷ 6 ∷ 7 ∷ 9 ∷ 10 
 }) nd x
 
 -- A wildcard or a constant cannot be denied.
-pub deny_target : {f w ou w' ou' : List ℕ} {lhs rhs left : ℕ} {r : Done} {nd : Node} → OneOf (4 ∷ 0 ∷ 1 ∷ 2 ∷ 6 ∷ []) (tag_of the_type nd)
+pub deny_target : {f w ou w' ou' : List ℕ} {lhs rhs left : ℕ} {r : Option ℕ} {nd : Node} → OneOf (4 ∷ 0 ∷ 1 ∷ 2 ∷ 6 ∷ []) (tag_of the_type nd)
     → IsNode f w lhs nd → BadTargets Message.DeniedConstant f w ou lhs rhs left w' ou' r
     → Denies f w ou lhs rhs left w' ou' r
 unfolding deny_form
@@ -99,7 +99,7 @@ no_error (Union c) x q = omega (arith, q)
 no_error (Var v) x q = omega (arith, q)
 no_error Error x q = miss (0 ∷ 1 ∷ 2 ∷ 3 ∷ 4 ∷ 5 ∷ 6 ∷ []) 7 tt x
 
-pub record_whole : {f w ou w' ou' : List ℕ} {n left : ℕ} {l : Items} {t : Ty} {r : Done} → InfersThenUnifies f w ou n t left w' ou' r
+pub record_whole : {f w ou w' ou' : List ℕ} {n left : ℕ} {l : Items} {t : Ty} {r : Option ℕ} → InfersThenUnifies f w ou n t left w' ou' r
     → OneOf (0 ∷ 1 ∷ 2 ∷ 3 ∷ 6 ∷ 7 ∷ []) (tag_of ty.the_type t)
     → ChecksRecord f w ou n l t left w' ou' r
 record_whole {t = t} I x = record_other (no_cell_by t x) I

@@ -13,14 +13,13 @@ use Rattle.meaning.specs.Check.{introduce_side, compare}
 use Rattle.meaning.specs.Weights.{sum_of, size, records, record_fields}
 use Rattle.meaning.specs.Grades.{one_diagnostic, introducing}
 use Rattle.meaning.proofs.Visits.{size_pos, late, early_late, inferring_late, Introduced, made_introduced, introduce_side_meets, infer_late, variable_kind}
-use Rattle.steps.specs.declared.Typed.{Typed}
-use Rattle.state.specs.declared.Done.{Done}
 use Rattle.steps.specs.Ends.{typed, done, Ends}
 use Rattle.steps.specs.Loads.{Load, only, both, FitsIn, visits, Begins}
 use Rattle.steps.specs.Promises.{nodes_of, BringsSide, compare_types, ComparesTypes, Named}
 use Rattle.checker.specs.Promises.{below, Infers, Compares}
 use Rattle.steps.proofs.Results.{fine_after, tree_after, then_typed, stop_typed, then_silent}
 use Rattle.checker.proofs.Inferring.{good}
+use Rattle.std.specs.Prelude.{None, Option, Some, ℕ}
 
 abbrev lates : Described → ℕ → ℕ → Form → Load
 lates d k n q = record { grade = inferring_late (nodes_of d) k n q; records = records (nodes_of d) k n; fields = record_fields (nodes_of d) k n }
@@ -28,7 +27,7 @@ lates d k n q = record { grade = inferring_late (nodes_of d) k n q; records = re
 abbrev form_at : Described → ℕ → Form
 form_at d n = form d.schema (nodes_of d) n
 
-late_ends : {f w ou w' ou' : List ℕ} {n left : ℕ} {r : Typed} {T : Rows} {d : Described} {c : Checker} (k : ℕ) (q : Form) → form_at d n ≡ q
+late_ends : {f w ou w' ou' : List ℕ} {n left : ℕ} {r : Option (Ty × ℕ)} {T : Rows} {d : Described} {c : Checker} (k : ℕ) (q : Form) → form_at d n ≡ q
     → Infers f w ou n left w' ou' r → Named d k n → Begins f w ou T d (lates d k n q) left c → Introduced q c
     → Ends f w ou w' ou' T d (records (nodes_of d) k n) (record_fields (nodes_of d) k n) (typed w' r) ((below d k).infer n c)
 unfolding form kind late
@@ -65,10 +64,10 @@ all_fits d k lhs rhs = record {
 as_it_is : (G H : Load) → FitsIn (both G H) (both G H)
 as_it_is G H = record { grade = omega arith; records = omega arith; fields = omega arith }
 
-module _ {f w ou w₁ ou₁ w₂ ou₂ w₃ ou₃ : List ℕ} {lhs rhs left : ℕ} {r : Typed} (A : BringsSide f w ou lhs left w₁ ou₁)
+module _ {f w ou w₁ ou₁ w₂ ou₂ w₃ ou₃ : List ℕ} {lhs rhs left : ℕ} {r : Option (Ty × ℕ)} (A : BringsSide f w ou lhs left w₁ ou₁)
     (B : BringsSide f w₁ ou₁ rhs left w₂ ou₂) (I : Infers f w₂ ou₂ lhs left w₃ ou₃ r) where
   -- Both sides are introduced.
-  introduced : {w₄ ou₄ : List ℕ} {x : Done} →
+  introduced : {w₄ ou₄ : List ℕ} {x : Option ℕ} →
       ((d : Described) (k : ℕ) → Named d k lhs → Named d k rhs → (T : Rows) (c : Checker) → Begins f w₂ ou₂ T d (sides d k lhs rhs) left c
       → Introduced (form_at d lhs) c → Introduced (form_at d rhs) c
       → Ends f w₂ ou₂ w₄ ou₄ T d (sides d k lhs rhs).records (sides d k lhs rhs).fields (done x)
@@ -94,14 +93,14 @@ module _ {f w ou w₁ ou₁ w₂ ou₂ w₃ ou₃ : List ℕ} {lhs rhs left : �
     };
   }
 
-  pub compare_left_out : r ≡ Typed.Out → Compares f w ou lhs rhs left w₃ ou₃ Done.Out
+  pub compare_left_out : r ≡ None → Compares f w ou lhs rhs left w₃ ou₃ None
   compare_left_out g = introduced (λ d k nl nr T c s h h₂.
       stop_typed (lates d k lhs (form_at d lhs)) (last d k rhs) (sides d k lhs rhs) (as_it_is (lates d k lhs (form_at d lhs)) (last d k rhs))
       ((below d k).infer lhs c)
       (λ a b. and_then ((below d k).infer rhs b) (λ y. compare_types d lhs rhs a y)) g refl s (λ s₁. late_ends k (form_at d lhs) refl I nl s₁ h))
 
-  module _ {t : Ty} {l : ℕ} (g : r ≡ Typed.Got t l) {w₄ ou₄ : List ℕ} {y : Typed} (J : Infers f w₃ ou₃ rhs l w₄ ou₄ y) where
-    pub compare_right_out : y ≡ Typed.Out → Compares f w ou lhs rhs left w₄ ou₄ Done.Out
+  module _ {t : Ty} {l : ℕ} (g : r ≡ Some (t, l)) {w₄ ou₄ : List ℕ} {y : Option (Ty × ℕ)} (J : Infers f w₃ ou₃ rhs l w₄ ou₄ y) where
+    pub compare_right_out : y ≡ None → Compares f w ou lhs rhs left w₄ ou₄ None
     compare_right_out z = introduced (λ d k nl nr T c s h h₂.
         then_typed (lates d k lhs (form_at d lhs)) (last d k rhs) (sides d k lhs rhs) (as_it_is (lates d k lhs (form_at d lhs)) (last d k rhs))
         ((below d k).infer lhs c)
@@ -113,7 +112,7 @@ module _ {f w ou w₁ ou₁ w₂ ou₂ w₃ ou₃ : List ℕ} {lhs rhs left : �
         (λ y. compare_types d lhs rhs (tree T₁ t) y) z refl a.begins
         (λ s₂. late_ends k (form_at d rhs) refl J nr s₂ (made_introduced _ c b (form_at d rhs) a.made h₂))))
 
-    pub compare_types_lem : {u : Ty} {v : ℕ} {w₅ ou₅ : List ℕ} {x : Done} → y ≡ Typed.Got u v → ComparesTypes f w₄ ou₄ lhs rhs t u v w₅ ou₅ x
+    pub compare_types_lem : {u : Ty} {v : ℕ} {w₅ ou₅ : List ℕ} {x : Option ℕ} → y ≡ Some (u, v) → ComparesTypes f w₄ ou₄ lhs rhs t u v w₅ ou₅ x
         → Compares f w ou lhs rhs left w₅ ou₅ x
     compare_types_lem {u} z C = introduced (λ d k nl nr T c s h h₂.
         then_typed (lates d k lhs (form_at d lhs)) (last d k rhs) (sides d k lhs rhs) (as_it_is (lates d k lhs (form_at d lhs)) (last d k rhs))

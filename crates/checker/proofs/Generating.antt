@@ -20,7 +20,6 @@ use Rattle.meaning.proofs.Visits.{size_pos, generate_branches_meets}
 use Rattle.tree.specs.declared.Items.{Items}
 use Rattle.tree.specs.declared.Node.{Node}
 use Rattle.tree.specs.Nodes.{item_w, items_from, kind_w, IsNode}
-use Rattle.steps.specs.declared.Typed.{Typed}
 use Rattle.steps.specs.Ends.{typed, Ends}
 use Rattle.steps.specs.Loads.{Load, only, both, FitsIn, infers, visits, Begins, Beside}
 use Rattle.steps.specs.Promises.{nodes_of, Always, Fine, Notes, Named, AllNamed}
@@ -31,6 +30,7 @@ use Rattle.checker.proofs.Looping.{Midway, mid_start, mid_ends, mid_led, mid_aft
 use Rattle.steps.proofs.Reading.{parts_named, kind_read, form_read}
 use Rattle.checker.proofs.Inferring.{good, noted}
 use Rattle.checker.proofs.Alls.{items_some, items_none}
+use Rattle.std.specs.Prelude.{None, Option, Some, ℕ}
 
 -- ---- Branches
 abbrev pub branching : Described → ℕ → Tree.Ty → List ℕ → Does Tree.Ty
@@ -49,13 +49,13 @@ unfolding sum_of
 branch_fits d k e es = record { grade = omega (arith, size_pos (nodes_of d) k e); records = omega arith; fields = omega arith }
 
 module _ {f w₀ ou₀ w ou : List ℕ} {T : Rows} {d : Described} {K : Load} {rest : ℕ} {c : Checker} {whole : Step Tree.Ty} (k : ℕ) {t : Ty} where
-  last_done : Last f w₀ ou₀ w ou T d k K rest c whole t [] → Ends f w₀ ou₀ w ou T d K.records K.fields (typed w (Typed.Got t rest)) whole
+  last_done : Last f w₀ ou₀ w ou T d k K rest c whole t [] → Ends f w₀ ou₀ w ou T d K.records K.fields (typed w (Some (t, rest))) whole
   unfolding generate_branches
   last_done L = let M = L.mid in mid_ends M (rw (← L.is) (type_here t M.begins.runs M.begins.lines M.begins.visits L.fine.ok))
 
-  module _ {w' ou' : List ℕ} {e : ℕ} (es : List ℕ) {r : Typed} (L : Last f w₀ ou₀ w ou T d k K rest c whole t (e ∷ es)) (named : Named d k e)
+  module _ {w' ou' : List ℕ} {e : ℕ} (es : List ℕ) {r : Option (Ty × ℕ)} (L : Last f w₀ ou₀ w ou T d k K rest c whole t (e ∷ es)) (named : Named d k e)
       (U : Generates f w ou e rest w' ou' r) where
-    last_after : {u : Ty} {l : ℕ} → r ≡ Typed.Got u l → Led f w ou w' ou' L.mid.T₁ d (infers (nodes_of d) k e) (typed w' r) IsSide L.mid.b
+    last_after : {u : Ty} {l : ℕ} → r ≡ Some (u, l) → Led f w ou w' ou' L.mid.T₁ d (infers (nodes_of d) k e) (typed w' r) IsSide L.mid.b
         ((below d k).generator e L.mid.b) → Last f w₀ ou₀ w' ou' T d k K l c whole u es
     unfolding generate_branches
     last_after {u} {l} g N =
@@ -68,14 +68,14 @@ module _ {f w₀ ou₀ w ou : List ℕ} {T : Rows} {d : Described} {K : Load} {r
           is = i.1;
         }
 
-    last_on : {u : Ty} {l : ℕ} → r ≡ Typed.Got u l → Last f w₀ ou₀ w' ou' T d k K l c whole u es
+    last_on : {u : Ty} {l : ℕ} → r ≡ Some (u, l) → Last f w₀ ou₀ w' ou' T d k K l c whole u es
     last_on g =
         let M = L.mid in
         last_after g (mid_led M (infers (nodes_of d) k e) (visits (nodes_of d) k es) (branch_fits d k e es) IsSide ((below d k).generator e M.b)
         (λ o. clash (cc (g, o)))
         (λ y. (good M.begins k).generator e M.b M.begins.orderly y) (λ s. (U.is d k named).is M.T₁ M.b s tt))
 
-    last_stop : r ≡ Typed.Out → Ends f w₀ ou₀ w' ou' T d K.records K.fields (typed w' Typed.Out) whole
+    last_stop : r ≡ None → Ends f w₀ ou₀ w' ou' T d K.records K.fields (typed w' None) whole
     unfolding generate_branches
     last_stop g =
         let M = L.mid in
@@ -106,14 +106,14 @@ branches_start f w l left =
     }
 
 module _ {f w₀ ou₀ w ou : List ℕ} {l : Items} {t : Ty} {left i rest : ℕ} (A : BranchesGoing f w₀ ou₀ l left w ou t i rest) where
-  pub branches_end : l.n ≤ i → Branches f w₀ ou₀ l left w ou (Typed.Got t rest)
+  pub branches_end : l.n ≤ i → Branches f w₀ ou₀ l left w ou (Some (t, rest))
   branches_end h = record { is = λ d k es q named. record { is = λ T c s u. last_done k (rw (items_none f l i h) at (A.to d k es q named T c s)) } }
 
-  module _ (h : i < l.n) {w' ou' : List ℕ} {r : Typed} (U : Generates f w ou (item_w f l i) rest w' ou' r) where
+  module _ (h : i < l.n) {w' ou' : List ℕ} {r : Option (Ty × ℕ)} (U : Generates f w ou (item_w f l i) rest w' ou' r) where
     first_named : (d : Described) (k : ℕ) → AllNamed d k (items_from f l 0 l.n) → AllNamed d k (item_w f l i ∷ items_from f l (i + 1) (l.n - (i + 1)))
     first_named d k all = rw (items_some f l i h) at (A.named d k all)
 
-    pub branches_out : r ≡ Typed.Out → Branches f w₀ ou₀ l left w' ou' Typed.Out
+    pub branches_out : r ≡ None → Branches f w₀ ou₀ l left w' ou' None
     branches_out g = record {
       is = λ d k es q named. record {
         is = λ T c s u.
@@ -122,7 +122,7 @@ module _ {f w₀ ou₀ w ou : List ℕ} {l : Items} {t : Ty} {left i rest : ℕ}
       };
     }
 
-    pub branches_next : {u : Ty} {left' : ℕ} → r ≡ Typed.Got u left' → BranchesGoing f w₀ ou₀ l left w' ou' u (i + 1) left'
+    pub branches_next : {u : Ty} {left' : ℕ} → r ≡ Some (u, left') → BranchesGoing f w₀ ou₀ l left w' ou' u (i + 1) left'
     branches_next g = record {
       within = omega arith;
       named = λ d k all. (first_named d k all).1;
@@ -158,7 +158,7 @@ generator_other f (Node.Arith l) h d b n c = refl
 generator_other f Node.Error h d b n c = refl
 generator_other f (Node.Select x e) h d b n c = refl
 
-module _ {f w ou w₁ ou₁ : List ℕ} {n left : ℕ} {r : Typed} where
+module _ {f w ou w₁ ou₁ : List ℕ} {n left : ℕ} {r : Option (Ty × ℕ)} where
   pub generator_inferred : {nd : Node} → IsNode f w n nd → ((l : Items) → ¬ (nd ≡ Node.Disjunction l)) → Infers f w ou n left w₁ ou₁ r
       → Generates f w ou n left w₁ ou₁ r
   unfolding walk generator_at
@@ -179,12 +179,12 @@ module _ {f w ou w₁ ou₁ : List ℕ} {n left : ℕ} {r : Typed} where
     branched {T} {d} {k} {c} m s s₁ = (B.is d k items refl
         (rw (kind_read s m.there i) at (parts_named s.sound m.there k (omega (arith, m.under))))).is T c s₁ tt
 
-    pub generator_branched : {w₂ ou₂ : List ℕ} {t : Ty} {v : ℕ} → r ≡ Typed.Got t v → Notes f w₁ ou₁ n t v w₂ ou₂
-        → Generates f w ou n left w₂ ou₂ (Typed.Got t v)
+    pub generator_branched : {w₂ ou₂ : List ℕ} {t : Ty} {v : ℕ} → r ≡ Some (t, v) → Notes f w₁ ou₁ n t v w₂ ou₂
+        → Generates f w ou n left w₂ ou₂ (Some (t, v))
     unfolding walk generator_at generator_form kind_w form_of
     generator_branched {w₂} {ou₂} {t} {v} g ann = record { is = λ d k. at_depth d k }
       where
-        at_depth : (d : Described) (k : ℕ) → Named d k n → Beside f w ou left w₂ ou₂ (typed w₂ (Typed.Got t v)) d (infers (nodes_of d) k n) Always
+        at_depth : (d : Described) (k : ℕ) → Named d k n → Beside f w ou left w₂ ou₂ (typed w₂ (Some (t, v))) d (infers (nodes_of d) k n) Always
             (λ T. (below d k).generator n)
         at_depth d zero m = absurd (omega (arith, m.under))
         at_depth d (suc k) m = record {
@@ -197,11 +197,11 @@ module _ {f w ou w₁ ou₁ : List ℕ} {n left : ℕ} {r : Typed} where
               (λ T₁ b a fine. noted m.there ann a.begins fine));
         }
 
-    pub generator_out : r ≡ Typed.Out → Generates f w ou n left w₁ ou₁ Typed.Out
+    pub generator_out : r ≡ None → Generates f w ou n left w₁ ou₁ None
     unfolding walk generator_at generator_form kind_w form_of
     generator_out g = record { is = λ d k. at_depth d k }
       where
-        at_depth : (d : Described) (k : ℕ) → Named d k n → Beside f w ou left w₁ ou₁ (typed w₁ Typed.Out) d (infers (nodes_of d) k n) Always
+        at_depth : (d : Described) (k : ℕ) → Named d k n → Beside f w ou left w₁ ou₁ (typed w₁ None) d (infers (nodes_of d) k n) Always
             (λ T. (below d k).generator n)
         at_depth d zero m = absurd (omega (arith, m.under))
         at_depth d (suc k) m = record {

@@ -14,7 +14,7 @@ use Rattle.meaning.specs.Grades.{unknowns, Ready}
 use Rattle.meaning.proofs.Meets.{Meets, made_more}
 use Rattle.cells.specs.Inferred.{More}
 use Rattle.state.specs.Runs.{Grew}
-use Rattle.steps.specs.Ends.{Result, Gone, Ends, went, spent}
+use Rattle.steps.specs.Ends.{Gives, Gone, Ends, went, spent}
 use Rattle.steps.specs.Loads.{Load, both, FitsIn, Begins}
 use Rattle.steps.specs.Promises.{Fine}
 use Rattle.cells.proofs.Frame.{tree_more, more_refl}
@@ -70,11 +70,11 @@ module _ {A : Type 0} {f w₀ ou₀ w ou : List ℕ} {T : Rows} {d : Described} 
   }
 
   -- How the rest ends, the whole ends.
-  pub mid_ends : {w₂ ou₂ : List ℕ} {E : Result A} → Ends f w ou w₂ ou₂ M.T₁ d H.records H.fields E (rest M.b)
+  pub mid_ends : {w₂ ou₂ : List ℕ} {E : Gives A} → Ends f w ou w₂ ou₂ M.T₁ d H.records H.fields E (rest M.b)
       → Ends f w₀ ou₀ w₂ ou₂ T d K.records K.fields E whole
   mid_ends {w₂} {ou₂} {E} h = rw M.same (go h)
     where
-      on : {B : Type 0} {F : Result B} {a : B} {b : Checker} {v : ℕ} → Gone f w ou w₂ ou₂ M.T₁ d H.records H.fields F a b v
+      on : {B : Type 0} {F : Gives B} {a : B} {b : Checker} {v : ℕ} → Gone f w ou w₂ ou₂ M.T₁ d H.records H.fields F a b v
           → Gone f w₀ ou₀ w₂ ou₂ T d K.records K.fields F a b v
       on g = record {
         T' = g.T';
@@ -90,7 +90,7 @@ module _ {A : Type 0} {f w₀ ou₀ w ou : List ℕ} {T : Rows} {d : Described} 
       go (spent g) = spent (on g)
 
   -- A turn that goes on.
-  module _ {B : Type 0} {w₁ ou₁ : List ℕ} (G H' : Load) (fits : FitsIn (both G H') H) {E : Result B} (P : B → Checker → Type 0) (m : Step B) where
+  module _ {B : Type 0} {w₁ ou₁ : List ℕ} (G H' : Load) (fits : FitsIn (both G H') H) {E : Gives B} (P : B → Checker → Type 0) (m : Step B) where
     pub mid_led : ¬ E.Out → (Ready G.grade M.b → Meets P G.grade M.b m)
         → (Begins f w ou M.T₁ d G left M.b → Ends f w ou w₁ ou₁ M.T₁ d G.records G.fields E m) → Led f w ou w₁ ou₁ M.T₁ d G E P M.b m
     mid_led never meets first = let s = begins_part G H (holds_left G H' H fits) M.begins in led G P never (meets s.free.ready) (first s)

@@ -27,10 +27,8 @@ use Rattle.tree.specs.Nodes.{stmts_w, head_w, body_w}
 use Rattle.tree.proofs.QuerySays.{query_head_is, query_body_is}
 use Rattle.meaning.proofs.Lists.{all_map}
 use Rattle.meaning.proofs.Tests.{all_below_lem}
-use Rattle.steps.specs.declared.Typed.{Typed}
 use Rattle.state.specs.declared.Until as Code
 use Rattle.state.specs.Lines.{until_of}
-use Rattle.state.specs.declared.Done.{Done}
 use Rattle.steps.specs.Ends.{typed, counted, silent, Ends, went, spent}
 use Rattle.steps.specs.Loads.{Load, only, both, FitsIn, infers, visits, Begins}
 use Rattle.steps.specs.Promises.{nodes_of, only_w, Leaves, Starts, Named, AllNamed, Heads}
@@ -40,6 +38,7 @@ use Rattle.steps.proofs.Sequel.{gone_as, then_ends, stop_ends}
 use Rattle.steps.proofs.Results.{with_visits, then_done, stop_done}
 use Rattle.checker.proofs.Inferring.{good}
 use Rattle.checker.proofs.Bodies.{saying_all}
+use Rattle.std.specs.Prelude.{None, Option, Some, ℕ}
 
 -- The depth is the number of nodes.
 abbrev depth : Described → ℕ
@@ -51,16 +50,16 @@ query_fits : (d : Described) (q : Query) → FitsIn
 unfolding query_nodes sum_of
 query_fits d q = record { grade = omega (arith, size_pos (nodes_of d) (depth d) q.head); records = omega arith; fields = omega arith }
 
-counted_ends : {f w ou w' ou' : List ℕ} {T : Rows} {d : Described} {n m : ℕ} {r : Typed} {s : Step Tree.Ty}
+counted_ends : {f w ou w' ou' : List ℕ} {T : Rows} {d : Described} {n m : ℕ} {r : Option (Ty × ℕ)} {s : Step Tree.Ty}
     → Ends f w ou w' ou' T d n m (typed w' r) s → Ends f w ou w' ou' T d n m (counted (only_w r)) s
 counted_ends (went g) = went (gone_as (omega arith) (omega arith) (λ R x. ap only_w x.res) g)
 counted_ends (spent g) = spent (gone_as (omega arith) (omega arith) (λ R x. (ap only_w x.0, x.1)) g)
 
-module _ {f w ou w₁ ou₁ : List ℕ} {body : Stmts} {left : ℕ} {x : Done} (S : StatesAll f w ou body left w₁ ou₁ x) (T : Rows) (d : Described)
+module _ {f w ou w₁ ou₁ : List ℕ} {body : Stmts} {left : ℕ} {x : Option ℕ} (S : StatesAll f w ou body left w₁ ou₁ x) (T : Rows) (d : Described)
     (c : Checker) (q : Query) (e : q.body ≡ stmts_w f body)
     (named : AllNamed d (depth d) (query_nodes q)) (s : Begins f w ou T d (visits (nodes_of d) (depth d) (query_nodes q)) left c) where
-  pub query_out : x ≡ Done.Out → Ends f w ou w₁ ou₁ T d (visits (nodes_of d) (depth d) (query_nodes q)).records
-      (visits (nodes_of d) (depth d) (query_nodes q)).fields (counted Done.Out) (infer_query d.schema (nodes_of d) q c)
+  pub query_out : x ≡ None → Ends f w ou w₁ ou₁ T d (visits (nodes_of d) (depth d) (query_nodes q)).records
+      (visits (nodes_of d) (depth d) (query_nodes q)).fields (counted None) (infer_query d.schema (nodes_of d) q c)
   unfolding infer_query query_nodes
   query_out g = stop_done (visits (nodes_of d) (depth d) (stmt_nodes q.body)) (both (only one_diagnostic) (infers (nodes_of d) (depth d) q.head))
       (visits (nodes_of d) (depth d) (query_nodes q)) (query_fits d q) Nothing (saying_all d (depth d) q.body c)
@@ -68,9 +67,9 @@ module _ {f w ou w₁ ou₁ : List ℕ} {body : Stmts} {left : ℕ} {x : Done} (
       (λ u. (below d (depth d)).infer q.head)) g refl s
       (λ s₁. (S.is d (depth d) q.body e named.1).is T c s₁ tt)
 
-  module _ {l : ℕ} (g : x ≡ Done.On l) {w₂ ou₂ : List ℕ} {y : Done} (H : Heads f w₁ ou₁ q.head l w₂ ou₂ y) where
+  module _ {l : ℕ} (g : x ≡ Some l) {w₂ ou₂ : List ℕ} {y : Option ℕ} (H : Heads f w₁ ou₁ q.head l w₂ ou₂ y) where
     -- The head, after the statements.
-    query_head : {w₃ ou₃ : List ℕ} {z : Done}
+    query_head : {w₃ ou₃ : List ℕ} {z : Option ℕ}
         → ((T₁ : Rows) (b : Checker) → Begins f w₁ ou₁ T₁ d (both (only one_diagnostic) (infers (nodes_of d) (depth d) q.head)) l b
         → Ends f w₁ ou₁ w₃ ou₃ T₁ d (both (only one_diagnostic) (infers (nodes_of d) (depth d) q.head)).records
         (both (only one_diagnostic) (infers (nodes_of d) (depth d) q.head)).fields (counted z)
@@ -91,7 +90,7 @@ module _ {f w ou w₁ ou₁ : List ℕ} {body : Stmts} {left : ℕ} {x : Done} (
         (both (only one_diagnostic) (infers (nodes_of d) (depth d) q.head))
     head_fits = record { grade = omega arith; records = omega arith; fields = omega arith }
 
-    pub query_on : {w₃ ou₃ : List ℕ} {v : ℕ} {r : Typed} → y ≡ Done.On v → Infers f w₂ ou₂ q.head v w₃ ou₃ r
+    pub query_on : {w₃ ou₃ : List ℕ} {v : ℕ} {r : Option (Ty × ℕ)} → y ≡ Some v → Infers f w₂ ou₂ q.head v w₃ ou₃ r
         → Ends f w ou w₃ ou₃ T d (visits (nodes_of d) (depth d) (query_nodes q)).records (visits (nodes_of d) (depth d) (query_nodes q)).fields
         (counted (only_w r)) (infer_query d.schema (nodes_of d) q c)
     unfolding query_nodes
@@ -103,9 +102,9 @@ module _ {f w ou w₁ ou₁ : List ℕ} {body : Stmts} {left : ℕ} {x : Done} (
         (λ s₂. (H d named.0.there).is T₁ b s₂ tt)
         (λ T₂ b₂ a₂. counted_ends ((I.is d (depth d) named.0).is T₂ b₂ a₂.begins tt)))
 
-    pub query_head_out : y ≡ Done.Out
+    pub query_head_out : y ≡ None
         → Ends f w ou w₂ ou₂ T d (visits (nodes_of d) (depth d) (query_nodes q)).records (visits (nodes_of d) (depth d) (query_nodes q)).fields
-        (counted Done.Out) (infer_query d.schema (nodes_of d) q c)
+        (counted None) (infer_query d.schema (nodes_of d) q c)
     unfolding query_nodes
     query_head_out h = query_head (λ T₁ b s₁.
         stop_done (only one_diagnostic) (infers (nodes_of d) (depth d) q.head) (both (only one_diagnostic) (infers (nodes_of d) (depth d) q.head))
@@ -122,22 +121,22 @@ module _ {f w ou : List ℕ} {left : ℕ} (T : Rows) (d : Described) (c : Checke
   whole_fits : FitsIn (both (visits (nodes_of d) (depth d) (query_nodes q)) (only no_thing)) (visits (nodes_of d) (depth d) (query_nodes q))
   whole_fits = record { grade = omega arith; records = omega arith; fields = omega arith }
 
-  pub query_stops : {w₁ ou₁ : List ℕ} → Ends f w ou w₁ ou₁ T d whole.records whole.fields (counted Done.Out) (infer_query d.schema (nodes_of d) q c)
-      → Ends f w ou w₁ ou₁ T d whole.records whole.fields (counted Done.Out) (query d.schema (nodes_of d) q c)
+  pub query_stops : {w₁ ou₁ : List ℕ} → Ends f w ou w₁ ou₁ T d whole.records whole.fields (counted None) (infer_query d.schema (nodes_of d) q c)
+      → Ends f w ou w₁ ou₁ T d whole.records whole.fields (counted None) (query d.schema (nodes_of d) q c)
   unfolding query
   query_stops first = stop_ends whole (only no_thing) whole whole_fits (infer_query d.schema (nodes_of d) q c)
       (λ ty b. and_then (leave d.schema (nodes_of d) 0 b) (λ u z. goes ty z))
       (λ R ty v i. clash (cc i)) (λ o. refl) s (λ s₁. first)
 
   left_counted : {w₁ ou₁ w₂ ou₂ : List ℕ} {T₁ : Rows} {n m v : ℕ} {x : Step (Unit {0})} (ty : Tree.Ty) → Ends f w₁ ou₁ w₂ ou₂ T₁ d n m (silent v) x
-      → Ends f w₁ ou₁ w₂ ou₂ T₁ d n m (counted (Done.On v)) (and_then x (λ u z. goes ty z))
+      → Ends f w₁ ou₁ w₂ ou₂ T₁ d n m (counted (Some v)) (and_then x (λ u z. goes ty z))
   unfolding and_then
-  left_counted ty (went g) = went (record { T' = g.T'; more = g.more; runs = g.runs; lines = g.lines; grew = g.grew; is = ap Done.On (sym g.is) })
+  left_counted ty (went g) = went (record { T' = g.T'; more = g.more; runs = g.runs; lines = g.lines; grew = g.grew; is = ap Some (sym g.is) })
   left_counted ty (spent g) = absurd g.is.0
 
-  pub query_leaves : {w₁ ou₁ w₂ ou₂ : List ℕ} {v : ℕ} → Ends f w ou w₁ ou₁ T d whole.records whole.fields (counted (Done.On v))
+  pub query_leaves : {w₁ ou₁ w₂ ou₂ : List ℕ} {v : ℕ} → Ends f w ou w₁ ou₁ T d whole.records whole.fields (counted (Some v))
       (infer_query d.schema (nodes_of d) q c) → Leaves f w₁ ou₁ 0 w₂ ou₂
-      → Ends f w ou w₂ ou₂ T d whole.records whole.fields (counted (Done.On v)) (query d.schema (nodes_of d) q c)
+      → Ends f w ou w₂ ou₂ T d whole.records whole.fields (counted (Some v)) (query d.schema (nodes_of d) q c)
   unfolding query
   query_leaves {v = v} first L =
       then_ends whole (only no_thing) whole whole_fits IsSide (infer_query d.schema (nodes_of d) q c)
@@ -184,7 +183,7 @@ query_begins u T d ceiling S sound stands =
     }
 
 -- ---- The whole
-ran : {f w ou w' ou' : List ℕ} {T : Rows} {d : Described} {n m : ℕ} {r : Done} {s : Step Tree.Ty} → Ends f w ou w' ou' T d n m (counted r) s
+ran : {f w ou w' ou' : List ℕ} {T : Rows} {d : Described} {n m : ℕ} {r : Option ℕ} {s : Step Tree.Ty} → Ends f w ou w' ou' T d n m (counted r) s
     → Ran f w' ou' d r s
 ran (went g) = to_the_end g.T' g.runs g.lines g.is
 ran (spent g) = ended_early g.T' g.runs g.lines g.is.1 g.is.0
@@ -208,8 +207,8 @@ module _ {f w w₁ : List ℕ} {u : Code.Until} (ceiling : ℕ) {head : ℕ} {b 
     body_says = sym (ap (stmts_w f) bd ∙ query_body_is f w₁ d.ast.query starts.runs.stands.query (depth d) starts.runs.stands.few
         (rw (all_below_lem (depth d) (query_nodes d.ast.query) sound.query) tt))
 
-  module _ {ou w₂ ou₂ : List ℕ} {x : Done} (D : StatesAll f w₁ ou b ceiling w₂ ou₂ x) where
-    pub queried_out : x ≡ Done.Out → length w₂ ≡ length w → length ou₂ ≡ length ou → Queries f w ou u ceiling w₂ ou₂ Done.Out
+  module _ {ou w₂ ou₂ : List ℕ} {x : Option ℕ} (D : StatesAll f w₁ ou b ceiling w₂ ou₂ x) where
+    pub queried_out : x ≡ None → length w₂ ≡ length w → length ou₂ ≡ length ou → Queries f w ou u ceiling w₂ ou₂ None
     unfolding run_until
     queried_out e words slice = record {
       is = λ T d sound stands. ran (query_stops T d (begin_until (until_of u) ceiling (depth d)) d.ast.query (starts ou T d sound stands)
@@ -219,11 +218,11 @@ module _ {f w w₁ : List ℕ} {u : Code.Until} (ceiling : ℕ) {head : ℕ} {b 
       slice = slice;
     }
 
-    module _ {w₃ ou₃ : List ℕ} {l : ℕ} {y : Done} (e : x ≡ Done.On l) (H : ChecksHead f w₂ ou₂ head l w₃ ou₃ y) where
+    module _ {w₃ ou₃ : List ℕ} {l : ℕ} {y : Option ℕ} (e : x ≡ Some l) (H : ChecksHead f w₂ ou₂ head l w₃ ou₃ y) where
       head_at : (T : Rows) (d : Described) → Sound d → Stands f w T d → Heads f w₂ ou₂ d.ast.query.head l w₃ ou₃ y
       head_at T d sound stands = subst (λ (n : ℕ). Heads f w₂ ou₂ n l w₃ ou₃ y) (head_is ou T d sound stands) H.is
 
-      pub queried_head_out : y ≡ Done.Out → length w₃ ≡ length w → length ou₃ ≡ length ou → Queries f w ou u ceiling w₃ ou₃ Done.Out
+      pub queried_head_out : y ≡ None → length w₃ ≡ length w → length ou₃ ≡ length ou → Queries f w ou u ceiling w₃ ou₃ None
       unfolding run_until
       queried_head_out h words slice = record {
         is = λ T d sound stands.
@@ -234,7 +233,7 @@ module _ {f w w₁ : List ℕ} {u : Code.Until} (ceiling : ℕ) {head : ℕ} {b 
         slice = slice;
       }
 
-      module _ {w₄ ou₄ : List ℕ} {v : ℕ} {r : Typed} (h : y ≡ Done.On v) (I : Infers f w₃ ou₃ head v w₄ ou₄ r) where
+      module _ {w₄ ou₄ : List ℕ} {v : ℕ} {r : Option (Ty × ℕ)} (h : y ≡ Some v) (I : Infers f w₃ ou₃ head v w₄ ou₄ r) where
         inferred : (T : Rows) (d : Described) (sound : Sound d) (stands : Stands f w T d)
             → Ends f w₁ ou w₄ ou₄ T d (visits (nodes_of d) (depth d) (query_nodes d.ast.query)).records
             (visits (nodes_of d) (depth d) (query_nodes d.ast.query)).fields (counted (only_w r))
@@ -244,7 +243,7 @@ module _ {f w w₁ : List ℕ} {u : Code.Until} (ceiling : ℕ) {head : ℕ} {b 
             (starts ou T d sound stands) e (head_at T d sound stands) h
             (subst (λ (n : ℕ). Infers f w₃ ou₃ n v w₄ ou₄ r) (head_is ou T d sound stands) I)
 
-        pub queried_infer_out : r ≡ Typed.Out → length w₄ ≡ length w → length ou₄ ≡ length ou → Queries f w ou u ceiling w₄ ou₄ Done.Out
+        pub queried_infer_out : r ≡ None → length w₄ ≡ length w → length ou₄ ≡ length ou → Queries f w ou u ceiling w₄ ou₄ None
         unfolding run_until
         queried_infer_out z words slice = record {
           is = λ T d sound stands. ran (query_stops T d (begin_until (until_of u) ceiling (depth d)) d.ast.query (starts ou T d sound stands)
@@ -253,8 +252,8 @@ module _ {f w w₁ : List ℕ} {u : Code.Until} (ceiling : ℕ) {head : ℕ} {b 
           slice = slice;
         }
 
-        pub queried_on : {w₅ : List ℕ} {t : Ty} {l' : ℕ} → r ≡ Typed.Got t l' → Leaves f w₄ ou₄ 0 w₅ ou₄ → length w₅ ≡ length w
-            → length ou₄ ≡ length ou → Queries f w ou u ceiling w₅ ou₄ (Done.On l')
+        pub queried_on : {w₅ : List ℕ} {t : Ty} {l' : ℕ} → r ≡ Some (t, l') → Leaves f w₄ ou₄ 0 w₅ ou₄ → length w₅ ≡ length w
+            → length ou₄ ≡ length ou → Queries f w ou u ceiling w₅ ou₄ (Some l')
         unfolding run_until
         queried_on z L words slice = record {
           is = λ T d sound stands. ran (query_leaves T d (begin_until (until_of u) ceiling (depth d)) d.ast.query (starts ou T d sound stands)

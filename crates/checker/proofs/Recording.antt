@@ -34,7 +34,6 @@ use Rattle.tree.specs.Nodes.{field_w, field_of, fields_from}
 use Rattle.tree.proofs.Steps.{fields_next, fields_end, fields_length, field_lower}
 use Rattle.state.proofs.Lining.{told_same}
 use Rattle.state.proofs.Recording.{reserve_runs, reserve_grew, put_field_runs, new_record_runs, within}
-use Rattle.steps.specs.declared.Typed.{Typed}
 use Rattle.steps.specs.Ends.{typed, Ends, went}
 use Rattle.steps.specs.Loads.{Load, both, FitsIn, infers, parts, Begins}
 use Rattle.steps.specs.Promises.{nodes_of, Named, AllNamed}
@@ -45,6 +44,7 @@ use Rattle.steps.proofs.Results.{stop_typed, got_same}
 use Rattle.checker.proofs.Looping.{Midway, mid_ends, mid_led, mid_after}
 use Rattle.checker.proofs.Inferring.{good}
 use Rattle.checker.proofs.Building.{built, built_start, built_some, built_none, builds, reserve_fits, built_fits}
+use Rattle.std.specs.Prelude.{None, Option, Some, ℕ}
 
 -- ---- The fields put so far
 
@@ -215,7 +215,7 @@ module _ {w w₁ : List ℕ} {T T₁ : Rows} {from n : ℕ} (A : Adds w w₁) (m
 
 -- ---- A turn
 module _ {f w₀ ou₀ w ou w₁ ou₁ : List ℕ} {T : Rows} {d : Described} {k from n i left : ℕ} {whole : List Syntax.Field} (x : Syntax.Field)
-    (fs : List Syntax.Field) {c : Checker} {r : Typed}
+    (fs : List Syntax.Field) {c : Checker} {r : Option (Ty × ℕ)}
     (M : Recorded f w₀ ou₀ w ou T d k from n i whole (x ∷ fs) left c) (named : Named d k x.value) (I : Infers f w ou x.value left w₁ ou₁ r) where
   abbrev inferred : Step Tree.Ty
   inferred = (below d k).infer x.value M.mid.b
@@ -227,13 +227,13 @@ module _ {f w₀ ou₀ w ou w₁ ou₁ : List ℕ} {T : Rows} {d : Described} {k
       → Ends f w ou w₁ ou₁ M.mid.T₁ d (infers (nodes_of d) k x.value).records (infers (nodes_of d) k x.value).fields (typed w₁ r) inferred
   inferred_ends s = (I.is d k named).is M.mid.T₁ M.mid.b s tt
 
-  recorded_stop : r ≡ Typed.Out → Ends f w₀ ou₀ w₁ ou₁ T d (parts (nodes_of d) k (ExprKind.Record whole)).records
-      (parts (nodes_of d) k (ExprKind.Record whole)).fields (typed w₁ Typed.Out) (built d k (λ row. row) whole c)
+  recorded_stop : r ≡ None → Ends f w₀ ou₀ w₁ ou₁ T d (parts (nodes_of d) k (ExprKind.Record whole)).records
+      (parts (nodes_of d) k (ExprKind.Record whole)).fields (typed w₁ None) (built d k (λ row. row) whole c)
   recorded_stop g = mid_ends M.mid (rw (built_some d k M.front x fs M.mid.b)
       (stop_typed (infers (nodes_of d) k x.value) (builds d k fs) (builds d k (x ∷ fs)) (built_fits d k x fs) inferred next g refl M.mid.begins
       inferred_ends))
 
-  module _ {t : Ty} {l : ℕ} (g : r ≡ Typed.Got t l) (below-n : i < n) (small : x.name < 65536) where
+  module _ {t : Ty} {l : ℕ} (g : r ≡ Some (t, l)) (below-n : i < n) (small : x.name < 65536) where
     turn_led : Led f w ou w₁ ou₁ M.mid.T₁ d (infers (nodes_of d) k x.value) (typed w₁ r) IsSide M.mid.b inferred
     turn_led = mid_led M.mid (infers (nodes_of d) k x.value) (builds d k fs) (built_fits d k x fs) IsSide inferred (λ o. clash (cc (g, o)))
         (λ y. (good M.mid.begins k).infer x.value M.mid.b M.mid.begins.orderly y) inferred_ends
@@ -278,7 +278,7 @@ module _ {f w₀ ou₀ w ou : List ℕ} {T : Rows} {d : Described} {k from n lef
 
   recorded_end : Ends f w₀ ou₀ (new_record_w w from n) ou T d (parts (nodes_of d) k (ExprKind.Record whole)).records
       (parts (nodes_of d) k (ExprKind.Record whole)).fields
-      (typed (new_record_w w from n) (Typed.Got (new_record_ty w from n) left)) (built d k (λ row. row) whole c)
+      (typed (new_record_w w from n) (Some ((new_record_ty w from n), left))) (built d k (λ row. row) whole c)
   recorded_end =
       let R = M.mid.begins.runs in
       let long = R.holds.long in
@@ -304,7 +304,7 @@ module _ {f w₀ ou₀ w ou : List ℕ} {T : Rows} {d : Described} {k from n lef
         };
         is = record {
           t = new_record_ty w from n;
-          res = ap (Typed.Got (new_record_ty w from n)) (sym M.mid.begins.visits);
+          res = ap (λ l. Some (new_record_ty w from n, l)) (sym M.mid.begins.visits);
           ok = rw ty (new_record_cell w from n record_room given long);
           is = rw ty (ap (Tree.node Tree.Record) (sym
               (record_row (rows_with w from n M.mid.T₁ cell) (new_record_row w from n record_room given long M.mid.T₁))));
@@ -324,7 +324,7 @@ pub record RecordGoing (f w₁ ou₁ : List ℕ) (l : Items) (left from : ℕ) (
       → Recorded f w₀ ou₁ w ou T d k from l.n i fs (fields_from f l i (l.n - i)) rest c
 
 -- In a run there is room for the fields.
-pub record_full : {f w ou w₁ ou₁ : List ℕ} {l : Items} {left from : ℕ} {r : Typed} → from ≡ get_or w RECORD-FIELD-COUNT 0 → 512 < from + l.n
+pub record_full : {f w ou w₁ ou₁ : List ℕ} {l : Items} {left from : ℕ} {r : Option (Ty × ℕ)} → from ≡ get_or w RECORD-FIELD-COUNT 0 → 512 < from + l.n
     → InfersRecord f w ou l left w₁ ou₁ r
 record_full {f} {l = l} e h = record {
   is = λ d k id fs q named small. record { is = λ T c s u. absurd (omega (arith, e, h, given_room k l.n fs (ap length q ∙ fields_length f l l.n 0) s)) };
@@ -342,7 +342,7 @@ record_start f w₁ l left from =
 
 module _ {f w₁ ou₁ w ou : List ℕ} {l : Items} {left from i rest : ℕ} (A : RecordGoing f w₁ ou₁ l left from w ou i rest) where
   pub record_end : {w₀ : List ℕ} → from ≡ get_or w₀ RECORD-FIELD-COUNT 0 → w₁ ≡ reserve_w w₀ l.n → l.n ≤ i
-      → {w' : List ℕ} {t : Ty} → t ≡ new_record_ty w from l.n → w' ≡ new_record_w w from l.n → InfersRecord f w₀ ou₁ l left w' ou (Typed.Got t rest)
+      → {w' : List ℕ} {t : Ty} → t ≡ new_record_ty w from l.n → w' ≡ new_record_w w from l.n → InfersRecord f w₀ ou₁ l left w' ou (Some (t, rest))
   record_end {w₀} p q h x y = record {
     is = λ d k id fs e named small. record {
       is = λ T c s u.
@@ -355,7 +355,7 @@ module _ {f w₁ ou₁ w ou : List ℕ} {l : Items} {left from i rest : ℕ} (A 
   pub record_lower : i < l.n → {x : Field} → x ≡ field_w f l i → (0 < l.n → 0 < l.below) → x.value < l.below
   record_lower h e some = rw e (field_lower f l i (some (omega arith)))
 
-  module _ (h : i < l.n) {x : Field} (x-is : x ≡ field_w f l i) {w₂ ou₂ : List ℕ} {r : Typed} (I : Infers f w ou x.value rest w₂ ou₂ r) where
+  module _ (h : i < l.n) {x : Field} (x-is : x ≡ field_w f l i) {w₂ ou₂ : List ℕ} {r : Option (Ty × ℕ)} (I : Infers f w ou x.value rest w₂ ou₂ r) where
     turn_named : (d : Described) (k : ℕ) → AllNamed d k (field_values (fields_from f l 0 l.n))
         → AllNamed d k (field_values (field_of (field_w f l i) ∷ fields_from f l (i + 1) (l.n - (i + 1))))
     turn_named d k all = rw (fields_next f l i l.n h) at (A.named d k all)
@@ -367,8 +367,8 @@ module _ {f w₁ ou₁ w ou : List ℕ} {l : Items} {left from i rest : ℕ} (A 
     turn_infers : Infers f w ou (field_w f l i).value rest w₂ ou₂ r
     turn_infers = rw x-is at I
 
-    pub record_out : {w₀ : List ℕ} → from ≡ get_or w₀ RECORD-FIELD-COUNT 0 → w₁ ≡ reserve_w w₀ l.n → r ≡ Typed.Out
-        → InfersRecord f w₀ ou₁ l left w₂ ou₂ Typed.Out
+    pub record_out : {w₀ : List ℕ} → from ≡ get_or w₀ RECORD-FIELD-COUNT 0 → w₁ ≡ reserve_w w₀ l.n → r ≡ None
+        → InfersRecord f w₀ ou₁ l left w₂ ou₂ None
     unfolding field_values field_of
     record_out {w₀} p q g = record {
       is = λ d k id fs e named small. record {
@@ -379,7 +379,7 @@ module _ {f w₁ ou₁ w ou : List ℕ} {l : Items} {left from i rest : ℕ} (A 
       };
     }
 
-    pub record_next : {t : Ty} {v : ℕ} → r ≡ Typed.Got t v → {w₃ : List ℕ} → w₃ ≡ put_field_w w₂ (from + i) x.name t
+    pub record_next : {t : Ty} {v : ℕ} → r ≡ Some (t, v) → {w₃ : List ℕ} → w₃ ≡ put_field_w w₂ (from + i) x.name t
         → RecordGoing f w₁ ou₁ l left from w₃ ou₂ (i + 1) v
     unfolding field_values field_names field_of
     record_next g y = record {

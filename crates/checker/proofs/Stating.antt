@@ -15,8 +15,6 @@ use Rattle.meaning.proofs.Steps.{Nothing, IsUnknown, reject_meets, introduce_mee
 use Rattle.meaning.proofs.Visits.{size_pos, own_weight}
 use Rattle.messages.specs.declared.Message.{Message}
 use Rattle.messages.specs.Said.{said}
-use Rattle.steps.specs.declared.Typed.{Typed}
-use Rattle.state.specs.declared.Done.{Done}
 use Rattle.steps.specs.Ends.{done, Ends}
 use Rattle.steps.specs.Loads.{Load, only, both, FitsIn, infers, visits, Begins}
 use Rattle.steps.specs.Promises.{nodes_of, Fine, Notes, Rejects, Brings, UnifiesAt, only_w, Named}
@@ -25,12 +23,13 @@ use Rattle.checker.proofs.Within.{BadTargets}
 use Rattle.steps.proofs.Sequel.{begins_part, ends_wider}
 use Rattle.steps.proofs.Results.{fine_after, tree_after, then_typed, stop_typed, then_done, stop_done, then_silent, then_numbered, only_ends, silent_on}
 use Rattle.checker.proofs.Inferring.{good, ok_unknown}
+use Rattle.std.specs.Prelude.{None, Option, Some, ℕ}
 
 -- ---- The right side alone
-abbrev pub OnlyRights : List ℕ → List ℕ → List ℕ → ℕ → ℕ → ℕ → List ℕ → List ℕ → Done → Type 0
+abbrev pub OnlyRights : List ℕ → List ℕ → List ℕ → ℕ → ℕ → ℕ → List ℕ → List ℕ → Option ℕ → Type 0
 OnlyRights f w ou lhs rhs left w' ou' r = Sides (λ d b x y. only_right d.schema (nodes_of d) b y) f w ou lhs rhs left w' ou' r
 
-right_ends : {f w ou w' ou' : List ℕ} {rhs left : ℕ} {r : Typed} {T : Rows} {d : Described} {k : ℕ} {c : Checker} → Infers f w ou rhs left w' ou' r
+right_ends : {f w ou w' ou' : List ℕ} {rhs left : ℕ} {r : Option (Ty × ℕ)} {T : Rows} {d : Described} {k : ℕ} {c : Checker} → Infers f w ou rhs left w' ou' r
     → Named d k rhs → Begins f w ou T d (infers (nodes_of d) k rhs) left c
     → Ends f w ou w' ou' T d (infers (nodes_of d) k rhs).records (infers (nodes_of d) k rhs).fields (done (only_w r))
     (only_right d.schema (nodes_of d) (below d k) rhs c)
@@ -41,7 +40,7 @@ right_fits : (d : Described) (k lhs rhs : ℕ) → FitsIn (both (only one_diagno
 unfolding sum_of
 right_fits d k lhs rhs = record { grade = omega (arith, size_pos (nodes_of d) k lhs); records = omega arith; fields = omega arith }
 
-pub only_right_lem : {f w ou w' ou' : List ℕ} {lhs rhs left : ℕ} {r : Typed} → Infers f w ou rhs left w' ou' r → OnlyRights f w ou lhs rhs left w' ou' (only_w r)
+pub only_right_lem : {f w ou w' ou' : List ℕ} {lhs rhs left : ℕ} {r : Option (Ty × ℕ)} → Infers f w ou rhs left w' ou' r → OnlyRights f w ou lhs rhs left w' ou' (only_w r)
 unfolding sum_of
 only_right_lem {lhs = lhs} {rhs = rhs} I = record {
   is = λ d k nl nr. record {
@@ -53,8 +52,8 @@ only_right_lem {lhs = lhs} {rhs = rhs} I = record {
 }
 
 -- ---- A target that can't be
-module _ {f w ou w₁ ou₁ : List ℕ} {lhs rhs left : ℕ} {m : Message} {x : Done} (R : Rejects f w ou lhs m left w₁ ou₁ x) where
-  pub bad_target_lem : {w₂ ou₂ : List ℕ} {l : ℕ} {r : Typed} → x ≡ Done.On l → Infers f w₁ ou₁ rhs l w₂ ou₂ r → BadTargets m f w ou lhs rhs left w₂ ou₂ (only_w r)
+module _ {f w ou w₁ ou₁ : List ℕ} {lhs rhs left : ℕ} {m : Message} {x : Option ℕ} (R : Rejects f w ou lhs m left w₁ ou₁ x) where
+  pub bad_target_lem : {w₂ ou₂ : List ℕ} {l : ℕ} {r : Option (Ty × ℕ)} → x ≡ Some l → Infers f w₁ ou₁ rhs l w₂ ou₂ r → BadTargets m f w ou lhs rhs left w₂ ou₂ (only_w r)
   unfolding bad_target only_right
   bad_target_lem g I = record {
     is = λ d k nl nr. record {
@@ -67,7 +66,7 @@ module _ {f w ou w₁ ou₁ : List ℕ} {lhs rhs left : ℕ} {m : Message} {x : 
     };
   }
 
-  pub bad_target_out : x ≡ Done.Out → BadTargets m f w ou lhs rhs left w₁ ou₁ Done.Out
+  pub bad_target_out : x ≡ None → BadTargets m f w ou lhs rhs left w₁ ou₁ None
   unfolding bad_target only_right
   bad_target_out g = record {
     is = λ d k nl nr. record {
@@ -87,8 +86,8 @@ both_fits : (d : Described) (k lhs rhs : ℕ) → FitsIn (both (only one_diagnos
 unfolding sum_of
 both_fits d k lhs rhs = record { grade = omega (arith, size_pos (nodes_of d) k lhs); records = omega arith; fields = omega arith }
 
-pub not_yet_stops : {f w ou w₁ ou₁ : List ℕ} {lhs rhs left : ℕ} {m : Message} {x : Done} → Rejects f w ou lhs m left w₁ ou₁ x → x ≡ Done.Out
-    → NotYets m f w ou lhs rhs left w₁ ou₁ Done.Out
+pub not_yet_stops : {f w ou w₁ ou₁ : List ℕ} {lhs rhs left : ℕ} {m : Message} {x : Option ℕ} → Rejects f w ou lhs m left w₁ ou₁ x → x ≡ None
+    → NotYets m f w ou lhs rhs left w₁ ou₁ None
 unfolding not_yet only_right
 not_yet_stops {lhs = lhs} {rhs = rhs} {m = m} R h = record {
   is = λ d k nl nr. record {
@@ -99,9 +98,9 @@ not_yet_stops {lhs = lhs} {rhs = rhs} {m = m} R h = record {
   };
 }
 
-module _ {f w ou w₁ ou₁ w₂ ou₂ : List ℕ} {lhs rhs left v : ℕ} {m : Message} {x : Done} {r : Typed} (R : Rejects f w ou lhs m left w₁ ou₁ x)
-    (h : x ≡ Done.On v) (I : Infers f w₁ ou₁ lhs v w₂ ou₂ r) where
-  pub not_yet_lem : {w₃ ou₃ : List ℕ} {t : Ty} {l : ℕ} {y : Typed} → r ≡ Typed.Got t l → Infers f w₂ ou₂ rhs l w₃ ou₃ y
+module _ {f w ou w₁ ou₁ w₂ ou₂ : List ℕ} {lhs rhs left v : ℕ} {m : Message} {x : Option ℕ} {r : Option (Ty × ℕ)} (R : Rejects f w ou lhs m left w₁ ou₁ x)
+    (h : x ≡ Some v) (I : Infers f w₁ ou₁ lhs v w₂ ou₂ r) where
+  pub not_yet_lem : {w₃ ou₃ : List ℕ} {t : Ty} {l : ℕ} {y : Option (Ty × ℕ)} → r ≡ Some (t, l) → Infers f w₂ ou₂ rhs l w₃ ou₃ y
       → NotYets m f w ou lhs rhs left w₃ ou₃ (only_w y)
   unfolding not_yet only_right
   not_yet_lem g J = record {
@@ -118,7 +117,7 @@ module _ {f w ou w₁ ou₁ w₂ ou₂ : List ℕ} {lhs rhs left v : ℕ} {m : M
     };
   }
 
-  pub not_yet_out : r ≡ Typed.Out → NotYets m f w ou lhs rhs left w₂ ou₂ Done.Out
+  pub not_yet_out : r ≡ None → NotYets m f w ou lhs rhs left w₂ ou₂ None
   unfolding not_yet only_right
   not_yet_out g = record {
     is = λ d k nl nr. record {
@@ -138,13 +137,13 @@ unified_fits : (d : Described) (k rhs : ℕ) → FitsIn (both (infers (nodes_of 
     (both (infers (nodes_of d) k rhs) (only one_diagnostic))
 unified_fits d k rhs = record { grade = omega arith; records = omega arith; fields = omega arith }
 
-module _ {f w ou w₁ ou₁ : List ℕ} {rhs left : ℕ} {r : Typed} {t : Ty} {T : Rows} {d : Described} {k : ℕ} {c : Checker}
+module _ {f w ou w₁ ou₁ : List ℕ} {rhs left : ℕ} {r : Option (Ty × ℕ)} {t : Ty} {T : Rows} {d : Described} {k : ℕ} {c : Checker}
     (I : Infers f w ou rhs left w₁ ou₁ r) (named : Named d k rhs) (fine : Fine w t T c)
     (s : Begins f w ou T d (both (infers (nodes_of d) k rhs) (only one_diagnostic)) left c) where
   abbrev rest : Load
   rest = both (infers (nodes_of d) k rhs) (only one_diagnostic)
 
-  unified_ends : {w₂ ou₂ : List ℕ} {u : Ty} {l : ℕ} {x : Done} → r ≡ Typed.Got u l → UnifiesAt f w₁ ou₁ rhs u t l w₂ ou₂ x
+  unified_ends : {w₂ ou₂ : List ℕ} {u : Ty} {l : ℕ} {x : Option ℕ} → r ≡ Some (u, l) → UnifiesAt f w₁ ou₁ rhs u t l w₂ ou₂ x
       → Ends f w ou w₂ ou₂ T d rest.records rest.fields (done x)
       (and_then ((below d k).infer rhs c) (λ ty. unify_at d.schema (nodes_of d) rhs ty (tree T t)))
   unified_ends g U = then_typed (infers (nodes_of d) k rhs) (only one_diagnostic) rest (unified_fits d k rhs) ((below d k).infer rhs c)
@@ -152,7 +151,7 @@ module _ {f w ou w₁ ou₁ : List ℕ} {rhs left : ℕ} {r : Typed} {t : Ty} {T
       (λ y. (good s k).infer rhs c s.orderly y) (λ s₁. (I.is d k named).is T c s₁ tt)
       (λ T₁ b a fine₁. rw (← tree_after a t fine.ok) ((U.is d named.there).is T₁ b a.begins (fine₁, fine_after a t fine)))
 
-  unified_out : r ≡ Typed.Out → Ends f w ou w₁ ou₁ T d rest.records rest.fields (done Done.Out)
+  unified_out : r ≡ None → Ends f w ou w₁ ou₁ T d rest.records rest.fields (done None)
       (and_then ((below d k).infer rhs c) (λ ty. unify_at d.schema (nodes_of d) rhs ty (tree T t)))
   unified_out g = stop_typed (infers (nodes_of d) k rhs) (only one_diagnostic) rest (unified_fits d k rhs) ((below d k).infer rhs c)
       (λ ty. unify_at d.schema (nodes_of d) rhs ty (tree T t)) g refl s
@@ -164,9 +163,9 @@ pattern_fits : (d : Described) (k lhs rhs : ℕ) → FitsIn (both (infers (nodes
 unfolding sum_of
 pattern_fits d k lhs rhs = record { grade = omega (arith, size_pos (nodes_of d) k rhs); records = omega arith; fields = omega arith }
 
-module _ {f w ou w₁ ou₁ : List ℕ} {lhs rhs left : ℕ} {r : Typed} (I : Infers f w ou lhs left w₁ ou₁ r) where
+module _ {f w ou w₁ ou₁ : List ℕ} {lhs rhs left : ℕ} {r : Option (Ty × ℕ)} (I : Infers f w ou lhs left w₁ ou₁ r) where
   -- What follows the left side.
-  destructured : {w₂ ou₂ : List ℕ} {x : Done} {t : Ty} {l : ℕ} → r ≡ Typed.Got t l
+  destructured : {w₂ ou₂ : List ℕ} {x : Option ℕ} {t : Ty} {l : ℕ} → r ≡ Some (t, l)
       → ((d : Described) (k : ℕ) → Named d k rhs → (T : Rows) (c : Checker) → Fine w₁ t T c
       → Begins f w₁ ou₁ T d (both (infers (nodes_of d) k rhs) (only one_diagnostic)) l c
       → Ends f w₁ ou₁ w₂ ou₂ T d (both (infers (nodes_of d) k rhs) (only one_diagnostic)).records
@@ -184,7 +183,7 @@ module _ {f w ou w₁ ou₁ : List ℕ} {lhs rhs left : ℕ} {r : Typed} (I : In
     };
   }
 
-  pub destructure_out : r ≡ Typed.Out → Destructures f w ou lhs rhs left w₁ ou₁ Done.Out
+  pub destructure_out : r ≡ None → Destructures f w ou lhs rhs left w₁ ou₁ None
   unfolding destructure
   destructure_out g = record {
     is = λ d k nl nr. record {
@@ -195,12 +194,12 @@ module _ {f w ou w₁ ou₁ : List ℕ} {lhs rhs left : ℕ} {r : Typed} (I : In
     };
   }
 
-  module _ {w₂ ou₂ : List ℕ} {t : Ty} {l : ℕ} {y : Typed} (g : r ≡ Typed.Got t l) (J : Infers f w₁ ou₁ rhs l w₂ ou₂ y) where
-    pub destructure_unified : {w₃ ou₃ : List ℕ} {u : Ty} {v : ℕ} {x : Done} → y ≡ Typed.Got u v → UnifiesAt f w₂ ou₂ rhs u t v w₃ ou₃ x
+  module _ {w₂ ou₂ : List ℕ} {t : Ty} {l : ℕ} {y : Option (Ty × ℕ)} (g : r ≡ Some (t, l)) (J : Infers f w₁ ou₁ rhs l w₂ ou₂ y) where
+    pub destructure_unified : {w₃ ou₃ : List ℕ} {u : Ty} {v : ℕ} {x : Option ℕ} → y ≡ Some (u, v) → UnifiesAt f w₂ ou₂ rhs u t v w₃ ou₃ x
         → Destructures f w ou lhs rhs left w₃ ou₃ x
     destructure_unified h U = destructured g (λ d k nr T c fine s. unified_ends J nr fine s h U)
 
-    pub destructure_right_out : y ≡ Typed.Out → Destructures f w ou lhs rhs left w₂ ou₂ Done.Out
+    pub destructure_right_out : y ≡ None → Destructures f w ou lhs rhs left w₂ ou₂ None
     destructure_right_out h = destructured g (λ d k nr T c fine s. unified_out J nr fine s h)
 
 -- ---- A wildcard on the left
@@ -212,11 +211,11 @@ wildcard_fits d k lhs rhs = record {
   fields = omega arith;
 }
 
-abbrev pub Wildcards : List ℕ → List ℕ → List ℕ → ℕ → ℕ → ℕ → List ℕ → List ℕ → Done → Type 0
+abbrev pub Wildcards : List ℕ → List ℕ → List ℕ → ℕ → ℕ → ℕ → List ℕ → List ℕ → Option ℕ → Type 0
 Wildcards f w ou lhs rhs left w' ou' r = Sides (λ d b x y. bind_wildcard d.schema (nodes_of d) b x y) f w ou lhs rhs left w' ou' r
 
-module _ {f w ou w₁ ou₁ : List ℕ} {lhs rhs left : ℕ} {r : Typed} (I : Infers f w ou rhs left w₁ ou₁ r) where
-  pub wildcard_noted : {w₂ ou₂ : List ℕ} {t : Ty} {l : ℕ} → r ≡ Typed.Got t l → Notes f w₁ ou₁ lhs t l w₂ ou₂ → Wildcards f w ou lhs rhs left w₂ ou₂ (Done.On l)
+module _ {f w ou w₁ ou₁ : List ℕ} {lhs rhs left : ℕ} {r : Option (Ty × ℕ)} (I : Infers f w ou rhs left w₁ ou₁ r) where
+  pub wildcard_noted : {w₂ ou₂ : List ℕ} {t : Ty} {l : ℕ} → r ≡ Some (t, l) → Notes f w₁ ou₁ lhs t l w₂ ou₂ → Wildcards f w ou lhs rhs left w₂ ou₂ (Some l)
   unfolding bind_wildcard
   wildcard_noted g ann = record {
     is = λ d k nl nr. record {
@@ -228,7 +227,7 @@ module _ {f w ou w₁ ou₁ : List ℕ} {lhs rhs left : ℕ} {r : Typed} (I : In
     };
   }
 
-  pub wildcard_out : r ≡ Typed.Out → Wildcards f w ou lhs rhs left w₁ ou₁ Done.Out
+  pub wildcard_out : r ≡ None → Wildcards f w ou lhs rhs left w₁ ou₁ None
   unfolding bind_wildcard
   wildcard_out g = record {
     is = λ d k nl nr. record {
@@ -253,9 +252,9 @@ noted_fits d k lhs rhs = record {
   fields = omega arith;
 }
 
-module _ {f w ou w₁ ou₁ w₂ ou₂ w₃ ou₃ : List ℕ} {symbol lhs rhs left v : ℕ} {r : Typed} (B : Brings f w ou lhs symbol left w₁ ou₁ v)
+module _ {f w ou w₁ ou₁ w₂ ou₂ w₃ ou₃ : List ℕ} {symbol lhs rhs left v : ℕ} {r : Option (Ty × ℕ)} (B : Brings f w ou lhs symbol left w₁ ou₁ v)
     (ann : Notes f w₁ ou₁ lhs (Var v) left w₂ ou₂) (I : Infers f w₂ ou₂ rhs left w₃ ou₃ r) where
-  variable_then : {w₄ ou₄ : List ℕ} {x : Done}
+  variable_then : {w₄ ou₄ : List ℕ} {x : Option ℕ}
       → ((d : Described) (k : ℕ) → Named d k rhs → (T : Rows) (c : Checker) → Fine w₂ (Var v) T c
       → Begins f w₂ ou₂ T d (both (infers (nodes_of d) k rhs) (only one_diagnostic)) left c
       → Ends f w₂ ou₂ w₄ ou₄ T d (both (infers (nodes_of d) k rhs) (only one_diagnostic)).records
@@ -283,9 +282,9 @@ module _ {f w ou w₁ ou₁ w₂ ou₂ w₃ ou₃ : List ℕ} {symbol lhs rhs le
     };
   }
 
-  pub variable_unified : {w₄ ou₄ : List ℕ} {u : Ty} {l : ℕ} {x : Done} → r ≡ Typed.Got u l → UnifiesAt f w₃ ou₃ rhs u (Var v) l w₄ ou₄ x
+  pub variable_unified : {w₄ ou₄ : List ℕ} {u : Ty} {l : ℕ} {x : Option ℕ} → r ≡ Some (u, l) → UnifiesAt f w₃ ou₃ rhs u (Var v) l w₄ ou₄ x
       → BindsVariable f w ou symbol lhs rhs left w₄ ou₄ x
   variable_unified g U = variable_then (λ d k nr T c fine s. unified_ends I nr fine s g U)
 
-  pub variable_out : r ≡ Typed.Out → BindsVariable f w ou symbol lhs rhs left w₃ ou₃ Done.Out
+  pub variable_out : r ≡ None → BindsVariable f w ou symbol lhs rhs left w₃ ou₃ None
   variable_out g = variable_then (λ d k nr T c fine s. unified_out I nr fine s g)

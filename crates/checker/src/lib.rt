@@ -7,155 +7,119 @@ ghost use Rattle.tree.specs.Nodes.{LowerItems};
 ghost use Rattle.steps.specs.Promises.{only_w};
 ghost use Rattle.checker.specs.Promises.{InfersRecord, InfersAll, Subqueries, Facts, InfersKind, Infers, InfersThenUnifies, Mentions, ChecksFields, ChecksUnion, Checks, Generates, Branches, BindsVariable, NotYets, Destructures, Binds, Denies, Compares, States, StatesAll, Queries};
 
-use cells::{Bound, Found, Kind, Ty, Unified};
+use cells::{Failure, Kind, Ty};
 use messages::Message;
-use state::{Done, Until, introduce, reject};
-use steps::Typed;
+use state::{Until, introduce, reject};
 use tree::{Items, Node, Stmt, Stmts};
 use work::{Counters, word};
 
 #[cycle(checking)]
-fn infer_record(f: &[u8], w: &mut [u32], items: Items, left: u32, out: &mut [u8]) -> Typed
+fn infer_record(
+    f: &[u8],
+    w: &mut [u32],
+    items: Items,
+    left: u32,
+    out: &mut [u8],
+) -> Option<(Ty, u32)>
     requires { (0 < items.n → 0 < items.below) × (items.at < 2147483648) }
     ensures { InfersRecord f.now w.old out.old items left w.new out.new result }
 {
     let n = items.n;
     let from = cells::reserve(w, n);
     // It never comes to that: there is room in every run.
-    if from > Counters::RECORD_FIELDS {
-        return Typed::Out;
+    if from > Counters::RECORD_FIELDS || n > Counters::RECORD_FIELDS - from {
+        return None;
     }
-    if n > Counters::RECORD_FIELDS - from {
-        return Typed::Out;
-    }
-    let mut i: u32 = 0;
     let mut rest = left;
-    while i < n {
+    for i in 0..n {
         let e = tree::field_at(f, items, i);
-        let r = infer(f, w, e.value, rest, out);
-        match r {
-            Typed::Got(t, l) => {
-                cells::put_field(w, from + i, e.name, t);
-                rest = l;
-            }
-            Typed::Out => {
-                return Typed::Out;
-            }
-        }
-        i += 1;
+        let (t, l) = infer(f, w, e.value, rest, out)?;
+        cells::put_field(w, from + i, e.name, t);
+        rest = l;
     }
-    Typed::Got(cells::new_record(w, from, n), rest)
+    Some((cells::new_record(w, from, n), rest))
 }
 
 // Each operand or branch, unified with one type.
 #[cycle(checking)]
-fn infer_all(f: &[u8], w: &mut [u32], items: Items, with: Ty, left: u32, out: &mut [u8]) -> Typed
+fn infer_all(
+    f: &[u8],
+    w: &mut [u32],
+    items: Items,
+    with: Ty,
+    left: u32,
+    out: &mut [u8],
+) -> Option<(Ty, u32)>
     requires { (0 < items.n → 0 < items.below) × (items.at < 2147483648) }
     ensures { InfersAll f.now w.old out.old items with left w.new out.new result }
 {
-    let n = items.n;
-    let mut i: u32 = 0;
     let mut rest = left;
-    while i < n {
+    for i in 0..items.n {
         let e = tree::item_at(f, items, i);
-        let r = infer(f, w, e, rest, out);
-        match r {
-            Typed::Got(t, l) => {
-                let d = steps::unify_at(f, w, e, t, with, l, out);
-                match d {
-                    Done::On(m) => {
-                        rest = m;
-                    }
-                    Done::Out => {
-                        return Typed::Out;
-                    }
-                }
-            }
-            Typed::Out => {
-                return Typed::Out;
-            }
-        }
-        i += 1;
+        let (t, l) = infer(f, w, e, rest, out)?;
+        rest = steps::unify_at(f, w, e, t, with, l, out)?;
     }
-    Typed::Got(with, rest)
+    Some((with, rest))
 }
 
 #[cycle(checking)]
-fn subquery(f: &[u8], w: &mut [u32], head: u32, body: Stmts, left: u32, out: &mut [u8]) -> Typed
+fn subquery(
+    f: &[u8],
+    w: &mut [u32],
+    head: u32,
+    body: Stmts,
+    left: u32,
+    out: &mut [u8],
+) -> Option<(Ty, u32)>
     requires { (head < body.below) × (body.end < 2147483648) }
     ensures { Subqueries f.now w.old out.old head body left w.new out.new result }
 {
     let scope = word(w, work::ENV_LEN);
-    let d = stmts(f, w, body, left, out);
-    match d {
-        Done::On(l) => {
-            let r = infer(f, w, head, l, out);
-            match r {
-                Typed::Got(t, m) => {
-                    state::leave(w, scope);
-                    Typed::Got(t, m)
-                }
-                Typed::Out => Typed::Out,
-            }
-        }
-        Done::Out => Typed::Out,
-    }
+    let l = stmts(f, w, body, left, out)?;
+    let (t, m) = infer(f, w, head, l, out)?;
+    state::leave(w, scope);
+    Some((t, m))
 }
 
 #[cycle(checking)]
-fn fact(f: &[u8], w: &mut [u32], p: u32, key: u32, left: u32, out: &mut [u8]) -> Typed
+fn fact(f: &[u8], w: &mut [u32], p: u32, key: u32, left: u32, out: &mut [u8]) -> Option<(Ty, u32)>
     ensures { Facts f.now w.old out.old p key left w.new out.new result }
 {
-    let t = steps::key_ty(w, p);
-    match t {
-        Bound::To(u) => {
-            let d = check(f, w, key, u, left, out);
-            match d {
-                Done::On(l) => Typed::Got(Ty::Fact(p), l),
-                Done::Out => Typed::Out,
-            }
-        }
-        Bound::Free => Typed::Got(Ty::Fact(p), left),
-    }
+    let Some(t) = steps::key_ty(w, p) else {
+        return Some((Ty::Fact(p), left));
+    };
+    let l = check(f, w, key, t, left, out)?;
+    Some((Ty::Fact(p), l))
 }
 
 #[cycle(checking)]
-fn infer_kind(f: &[u8], w: &mut [u32], n: u32, left: u32, out: &mut [u8]) -> Typed
+fn infer_kind(f: &[u8], w: &mut [u32], n: u32, left: u32, out: &mut [u8]) -> Option<(Ty, u32)>
     ensures { InfersKind f.now w.old out.old n left w.new out.new result }
 {
     let e = tree::node_at(f, w, n);
     match e {
-        Node::Int => Typed::Got(Ty::Int, left),
-        Node::Bytes => Typed::Got(Ty::Bytes, left),
-        Node::Str => Typed::Got(Ty::Str, left),
-        Node::Prefix(_) => Typed::Got(Ty::Str, left),
+        Node::Int => Some((Ty::Int, left)),
+        Node::Bytes => Some((Ty::Bytes, left)),
+        Node::Str => Some((Ty::Str, left)),
+        Node::Prefix(_) => Some((Ty::Str, left)),
         Node::Fuzzy(term, distance) => { steps::fuzzy(f, w, n, term, distance, left, out) }
-        Node::Wildcard => Typed::Got(Ty::Var(cells::fresh_var_id(w)), left),
-        Node::Never => Typed::Got(Ty::Var(cells::fresh_var_id(w)), left),
-        Node::Error => Typed::Got(Ty::Error, left),
-        Node::Var(symbol) => Typed::Got(Ty::Var(introduce(w, n, symbol)), left),
+        Node::Wildcard => Some((Ty::Var(cells::fresh_var_id(w)), left)),
+        Node::Never => Some((Ty::Var(cells::fresh_var_id(w)), left)),
+        Node::Error => Some((Ty::Error, left)),
+        Node::Var(symbol) => Some((Ty::Var(introduce(w, n, symbol)), left)),
         Node::Arith(items) => infer_all(f, w, items, Ty::Int, left, out),
         Node::Record(items) => infer_record(f, w, items, left, out),
         Node::Key(name, base) => {
-            let r = infer(f, w, base, left, out);
-            match r {
-                Typed::Got(t, l) => steps::key_of(f, w, n, name, cells::repr(w, t), l, out),
-                Typed::Out => Typed::Out,
-            }
+            let (t, l) = infer(f, w, base, left, out)?;
+            steps::key_of(f, w, n, name, cells::repr(w, t), l, out)
         }
         Node::Value(base) => {
-            let r = infer(f, w, base, left, out);
-            match r {
-                Typed::Got(t, l) => steps::value_of(f, w, n, cells::repr(w, t), l, out),
-                Typed::Out => Typed::Out,
-            }
+            let (t, l) = infer(f, w, base, left, out)?;
+            steps::value_of(f, w, n, cells::repr(w, t), l, out)
         }
         Node::Select(name, base) => {
-            let r = infer(f, w, base, left, out);
-            match r {
-                Typed::Got(t, l) => steps::select_of(f, w, n, name, cells::repr(w, t), l, out),
-                Typed::Out => Typed::Out,
-            }
+            let (t, l) = infer(f, w, base, left, out)?;
+            steps::select_of(f, w, n, name, cells::repr(w, t), l, out)
         }
         Node::Fact(p, key) => fact(f, w, p, key, left, out),
         Node::Disjunction(items) => {
@@ -167,17 +131,12 @@ fn infer_kind(f: &[u8], w: &mut [u32], n: u32, left: u32, out: &mut [u8]) -> Typ
 }
 
 #[cycle(checking)]
-pub fn infer(f: &[u8], w: &mut [u32], n: u32, left: u32, out: &mut [u8]) -> Typed
+pub fn infer(f: &[u8], w: &mut [u32], n: u32, left: u32, out: &mut [u8]) -> Option<(Ty, u32)>
     ensures { Infers f.now w.old out.old n left w.new out.new result }
 {
-    let r = infer_kind(f, w, n, left, out);
-    match r {
-        Typed::Got(t, l) => {
-            cells::annotate(w, n, t);
-            Typed::Got(t, l)
-        }
-        Typed::Out => Typed::Out,
-    }
+    let (t, l) = infer_kind(f, w, n, left, out)?;
+    cells::annotate(w, n, t);
+    Some((t, l))
 }
 
 #[cycle(checking)]
@@ -188,24 +147,18 @@ fn infer_then_unify(
     expected: Ty,
     left: u32,
     out: &mut [u8],
-) -> Done
+) -> Option<u32>
     ensures { InfersThenUnifies f.now w.old out.old n expected left w.new out.new result }
 {
     let at = steps::snapshot(w);
-    let r = infer(f, w, n, left, out);
-    match r {
-        Typed::Got(t, l) => {
-            let u = steps::unify_outside(w, t, expected, l);
-            match u {
-                Unified::Good(m) => Done::On(m),
-                Unified::Bad(err, m) => {
-                    steps::rollback(w, at);
-                    steps::report(f, w, n, err, m, out)
-                }
-                Unified::Spent => Done::Out,
-            }
+    let (t, l) = infer(f, w, n, left, out)?;
+    match steps::unify_outside(w, t, expected, l) {
+        Ok(m) => Some(m),
+        Err(Failure::Bad(err, m)) => {
+            steps::rollback(w, at);
+            steps::report(f, w, n, err, m, out)
         }
-        Typed::Out => Done::Out,
+        Err(Failure::Spent) => None,
     }
 }
 
@@ -219,52 +172,39 @@ fn check_field(
     value: u32,
     left: u32,
     out: &mut [u8],
-) -> Done
+) -> Option<u32>
     ensures { Mentions f.now w.old out.old name value c left w.new out.new result }
 {
-    let found = cells::find_key(w, Kind::Fields, c, name);
-    match found {
-        Found::At(p) => {
-            let t = p.ty;
-            let before = word(w, work::DIAGNOSTIC_COUNT);
-            let mark = steps::snapshot(w);
-            let d = check(f, w, value, t, left, out);
-            match d {
-                Done::On(l) => {
-                    if before < word(w, work::DIAGNOSTIC_COUNT) {
-                        steps::rollback(w, mark);
-                    }
-                    Done::On(l)
-                }
-                Done::Out => Done::Out,
-            }
-        }
-        Found::Nothing => reject(f, w, value, Message::NoField(name), left, out),
+    let Some(p) = cells::find_key(w, Kind::Fields, c, name) else {
+        return reject(f, w, value, Message::NoField(name), left, out);
+    };
+    let before = word(w, work::DIAGNOSTIC_COUNT);
+    let mark = steps::snapshot(w);
+    let l = check(f, w, value, p.ty, left, out)?;
+    if before < word(w, work::DIAGNOSTIC_COUNT) {
+        steps::rollback(w, mark);
     }
+    Some(l)
 }
 
 #[cycle(checking)]
-fn check_fields(f: &[u8], w: &mut [u32], items: Items, c: u32, left: u32, out: &mut [u8]) -> Done
+fn check_fields(
+    f: &[u8],
+    w: &mut [u32],
+    items: Items,
+    c: u32,
+    left: u32,
+    out: &mut [u8],
+) -> Option<u32>
     requires { (0 < items.n → 0 < items.below) × (items.at < 2147483648) }
     ensures { ChecksFields f.now w.old out.old items c left w.new out.new result }
 {
-    let n = items.n;
-    let mut i: u32 = 0;
     let mut rest = left;
-    while i < n {
+    for i in 0..items.n {
         let e = tree::field_at(f, items, i);
-        let d = check_field(f, w, c, e.name, e.value, rest, out);
-        match d {
-            Done::On(l) => {
-                rest = l;
-            }
-            Done::Out => {
-                return Done::Out;
-            }
-        }
-        i += 1;
+        rest = check_field(f, w, c, e.name, e.value, rest, out)?;
     }
-    Done::On(rest)
+    Some(rest)
 }
 
 #[cycle(checking)]
@@ -276,7 +216,7 @@ fn check_union(
     c: u32,
     left: u32,
     out: &mut [u8],
-) -> Done
+) -> Option<u32>
     requires { LowerItems n items }
     ensures { ChecksUnion f.now w.old out.old n items c left w.new out.new result }
 {
@@ -284,112 +224,85 @@ fn check_union(
         return reject(f, w, n, Message::NotOneAlternative(items.n), left, out);
     }
     let e = tree::field_at(f, items, 0);
-    let found = cells::find_name(w, c, e.name);
-    match found {
-        Found::At(p) => {
-            let t = p.ty;
-            let d = check(f, w, e.value, t, left, out);
-            match d {
-                Done::On(l) => {
-                    cells::annotate(w, n, Ty::Union(c));
-                    Done::On(l)
-                }
-                Done::Out => Done::Out,
-            }
-        }
-        Found::Nothing => reject(f, w, n, Message::NoAlternative(e.name), left, out),
-    }
+    let Some(p) = cells::find_name(w, c, e.name) else {
+        return reject(f, w, n, Message::NoAlternative(e.name), left, out);
+    };
+    let l = check(f, w, e.value, p.ty, left, out)?;
+    cells::annotate(w, n, Ty::Union(c));
+    Some(l)
 }
 
 // Against Error nothing is visited.
 #[cycle(checking)]
-pub fn check(f: &[u8], w: &mut [u32], n: u32, expected: Ty, left: u32, out: &mut [u8]) -> Done
+pub fn check(
+    f: &[u8],
+    w: &mut [u32],
+    n: u32,
+    expected: Ty,
+    left: u32,
+    out: &mut [u8],
+) -> Option<u32>
     ensures { Checks f.now w.old out.old n expected left w.new out.new result }
 {
     let t = cells::repr(w, expected);
-    match t {
-        Ty::Error => Done::On(left),
-        _ => {
-            let e = tree::node_at(f, w, n);
-            match e {
-                Node::Wildcard => {
-                    cells::annotate(w, n, t);
-                    Done::On(left)
-                }
-                Node::Record(items) => match t {
-                    Ty::Record(c) => {
-                        let d = check_fields(f, w, items, c, left, out);
-                        match d {
-                            Done::On(l) => {
-                                cells::annotate(w, n, t);
-                                Done::On(l)
-                            }
-                            Done::Out => Done::Out,
-                        }
-                    }
-                    Ty::Union(c) => check_union(f, w, n, items, c, left, out),
-                    _ => infer_then_unify(f, w, n, t, left, out),
-                },
-                _ => infer_then_unify(f, w, n, t, left, out),
-            }
+    if let Ty::Error = t {
+        return Some(left);
+    }
+    let e = tree::node_at(f, w, n);
+    match e {
+        Node::Wildcard => {
+            cells::annotate(w, n, t);
+            Some(left)
         }
+        Node::Record(items) => match t {
+            Ty::Record(c) => {
+                let l = check_fields(f, w, items, c, left, out)?;
+                cells::annotate(w, n, t);
+                Some(l)
+            }
+            Ty::Union(c) => check_union(f, w, n, items, c, left, out),
+            _ => infer_then_unify(f, w, n, t, left, out),
+        },
+        _ => infer_then_unify(f, w, n, t, left, out),
     }
 }
 
 // Branches are not unified.
 #[cycle(checking)]
-pub fn generator(f: &[u8], w: &mut [u32], n: u32, left: u32, out: &mut [u8]) -> Typed
+pub fn generator(f: &[u8], w: &mut [u32], n: u32, left: u32, out: &mut [u8]) -> Option<(Ty, u32)>
     ensures { Generates f.now w.old out.old n left w.new out.new result }
 {
     let e = tree::node_at(f, w, n);
     match e {
         Node::Disjunction(items) => {
-            let r = branches(f, w, items, left, out);
-            match r {
-                Typed::Got(t, l) => {
-                    cells::annotate(w, n, t);
-                    Typed::Got(t, l)
-                }
-                Typed::Out => Typed::Out,
-            }
+            let (t, l) = branches(f, w, items, left, out)?;
+            cells::annotate(w, n, t);
+            Some((t, l))
         }
         _ => infer(f, w, n, left, out),
     }
 }
 
 #[cycle(checking)]
-fn branches(f: &[u8], w: &mut [u32], items: Items, left: u32, out: &mut [u8]) -> Typed
+fn branches(f: &[u8], w: &mut [u32], items: Items, left: u32, out: &mut [u8]) -> Option<(Ty, u32)>
     requires { (0 < items.n → 0 < items.below) × (items.at < 2147483648) }
     ensures { Branches f.now w.old out.old items left w.new out.new result }
 {
-    let n = items.n;
-    let mut i: u32 = 0;
     let mut rest = left;
     let mut last = Ty::Error;
-    while i < n {
+    for i in 0..items.n {
         let e = tree::item_at(f, items, i);
-        let r = generator(f, w, e, rest, out);
-        match r {
-            Typed::Got(t, l) => {
-                last = t;
-                rest = l;
-            }
-            Typed::Out => {
-                return Typed::Out;
-            }
-        }
-        i += 1;
+        let (t, l) = generator(f, w, e, rest, out)?;
+        last = t;
+        rest = l;
     }
-    Typed::Got(last, rest)
+    Some((last, rest))
 }
 
-fn only(r: Typed) -> Done
+fn only(r: Option<(Ty, u32)>) -> Option<u32>
     ensures { result ≡ only_w r }
 {
-    match r {
-        Typed::Got(_, l) => Done::On(l),
-        Typed::Out => Done::Out,
-    }
+    r.map(|(_, left)| left)
 }
 
 // `bind` and `deny` with a variable on the left.
@@ -402,16 +315,13 @@ fn bind_name(
     rhs: u32,
     left: u32,
     out: &mut [u8],
-) -> Done
+) -> Option<u32>
     ensures { BindsVariable f.now w.old out.old symbol lhs rhs left w.new out.new result }
 {
     let var = introduce(w, lhs, symbol);
     cells::annotate(w, lhs, Ty::Var(var));
-    let r = infer(f, w, rhs, left, out);
-    match r {
-        Typed::Got(t, l) => steps::unify_at(f, w, rhs, t, Ty::Var(var), l, out),
-        Typed::Out => Done::Out,
-    }
+    let (t, l) = infer(f, w, rhs, left, out)?;
+    steps::unify_at(f, w, rhs, t, Ty::Var(var), l, out)
 }
 
 #[cycle(checking)]
@@ -423,54 +333,40 @@ fn not_yet(
     left: u32,
     m: Message,
     out: &mut [u8],
-) -> Done
+) -> Option<u32>
     ensures { NotYets m f.now w.old out.old lhs rhs left w.new out.new result }
 {
-    let d = reject(f, w, lhs, m, left, out);
-    match d {
-        Done::On(v) => {
-            let r = infer(f, w, lhs, v, out);
-            match r {
-                Typed::Got(_, l) => only(infer(f, w, rhs, l, out)),
-                Typed::Out => Done::Out,
-            }
-        }
-        Done::Out => Done::Out,
-    }
+    let v = reject(f, w, lhs, m, left, out)?;
+    let (_, l) = infer(f, w, lhs, v, out)?;
+    only(infer(f, w, rhs, l, out))
 }
 
 #[cycle(checking)]
-fn destructure(f: &[u8], w: &mut [u32], lhs: u32, rhs: u32, left: u32, out: &mut [u8]) -> Done
+fn destructure(
+    f: &[u8],
+    w: &mut [u32],
+    lhs: u32,
+    rhs: u32,
+    left: u32,
+    out: &mut [u8],
+) -> Option<u32>
     ensures { Destructures f.now w.old out.old lhs rhs left w.new out.new result }
 {
-    let p = infer(f, w, lhs, left, out);
-    match p {
-        Typed::Got(pattern, l) => {
-            let v = infer(f, w, rhs, l, out);
-            match v {
-                Typed::Got(value, m) => steps::unify_at(f, w, rhs, value, pattern, m, out),
-                Typed::Out => Done::Out,
-            }
-        }
-        Typed::Out => Done::Out,
-    }
+    let (pattern, l) = infer(f, w, lhs, left, out)?;
+    let (value, m) = infer(f, w, rhs, l, out)?;
+    steps::unify_at(f, w, rhs, value, pattern, m, out)
 }
 
 #[cycle(checking)]
-fn bind(f: &[u8], w: &mut [u32], lhs: u32, rhs: u32, left: u32, out: &mut [u8]) -> Done
+fn bind(f: &[u8], w: &mut [u32], lhs: u32, rhs: u32, left: u32, out: &mut [u8]) -> Option<u32>
     ensures { Binds f.now w.old out.old lhs rhs left w.new out.new result }
 {
     let e = tree::node_at(f, w, lhs);
     match e {
         Node::Wildcard => {
-            let r = infer(f, w, rhs, left, out);
-            match r {
-                Typed::Got(t, l) => {
-                    cells::annotate(w, lhs, t);
-                    Done::On(l)
-                }
-                Typed::Out => Done::Out,
-            }
+            let (t, l) = infer(f, w, rhs, left, out)?;
+            cells::annotate(w, lhs, t);
+            Some(l)
         }
         Node::Var(symbol) => bind_name(f, w, symbol, lhs, rhs, left, out),
         Node::Record(_) => {
@@ -481,11 +377,8 @@ fn bind(f: &[u8], w: &mut [u32], lhs: u32, rhs: u32, left: u32, out: &mut [u8]) 
             }
         }
         Node::Int | Node::Str | Node::Bytes | Node::Prefix(_) => {
-            let d = reject(f, w, lhs, Message::BoundConstant, left, out);
-            match d {
-                Done::On(l) => only(infer(f, w, rhs, l, out)),
-                Done::Out => Done::Out,
-            }
+            let l = reject(f, w, lhs, Message::BoundConstant, left, out)?;
+            only(infer(f, w, rhs, l, out))
         }
         Node::Error => only(infer(f, w, rhs, left, out)),
         _ => not_yet(f, w, lhs, rhs, left, Message::MatchedPatterns, out),
@@ -493,18 +386,15 @@ fn bind(f: &[u8], w: &mut [u32], lhs: u32, rhs: u32, left: u32, out: &mut [u8]) 
 }
 
 #[cycle(checking)]
-fn deny(f: &[u8], w: &mut [u32], lhs: u32, rhs: u32, left: u32, out: &mut [u8]) -> Done
+fn deny(f: &[u8], w: &mut [u32], lhs: u32, rhs: u32, left: u32, out: &mut [u8]) -> Option<u32>
     ensures { Denies f.now w.old out.old lhs rhs left w.new out.new result }
 {
     let e = tree::node_at(f, w, lhs);
     match e {
         Node::Var(symbol) => bind_name(f, w, symbol, lhs, rhs, left, out),
         Node::Wildcard | Node::Int | Node::Str | Node::Bytes | Node::Prefix(_) => {
-            let d = reject(f, w, lhs, Message::DeniedConstant, left, out);
-            match d {
-                Done::On(l) => only(infer(f, w, rhs, l, out)),
-                Done::Out => Done::Out,
-            }
+            let l = reject(f, w, lhs, Message::DeniedConstant, left, out)?;
+            only(infer(f, w, rhs, l, out))
         }
         Node::Error => only(infer(f, w, rhs, left, out)),
         _ => not_yet(f, w, lhs, rhs, left, Message::DeniedPattern, out),
@@ -512,26 +402,18 @@ fn deny(f: &[u8], w: &mut [u32], lhs: u32, rhs: u32, left: u32, out: &mut [u8]) 
 }
 
 #[cycle(checking)]
-fn compare(f: &[u8], w: &mut [u32], lhs: u32, rhs: u32, left: u32, out: &mut [u8]) -> Done
+fn compare(f: &[u8], w: &mut [u32], lhs: u32, rhs: u32, left: u32, out: &mut [u8]) -> Option<u32>
     ensures { Compares f.now w.old out.old lhs rhs left w.new out.new result }
 {
     steps::introduce_side(f, w, lhs);
     steps::introduce_side(f, w, rhs);
-    let x = infer(f, w, lhs, left, out);
-    match x {
-        Typed::Got(a, l) => {
-            let y = infer(f, w, rhs, l, out);
-            match y {
-                Typed::Got(b, m) => steps::compare_types(f, w, lhs, rhs, a, b, m, out),
-                Typed::Out => Done::Out,
-            }
-        }
-        Typed::Out => Done::Out,
-    }
+    let (a, l) = infer(f, w, lhs, left, out)?;
+    let (b, m) = infer(f, w, rhs, l, out)?;
+    steps::compare_types(f, w, lhs, rhs, a, b, m, out)
 }
 
 #[cycle(checking)]
-fn stmt(f: &[u8], w: &mut [u32], at: usize, below: u32, left: u32, out: &mut [u8]) -> Done
+fn stmt(f: &[u8], w: &mut [u32], at: usize, below: u32, left: u32, out: &mut [u8]) -> Option<u32>
     requires { (0 < below) × (at < 2147483648) }
     ensures { States f.now w.old out.old at below left w.new out.new result }
 {
@@ -546,7 +428,7 @@ fn stmt(f: &[u8], w: &mut [u32], at: usize, below: u32, left: u32, out: &mut [u8
 }
 
 #[cycle(checking)]
-fn stmts(f: &[u8], w: &mut [u32], body: Stmts, left: u32, out: &mut [u8]) -> Done
+fn stmts(f: &[u8], w: &mut [u32], body: Stmts, left: u32, out: &mut [u8]) -> Option<u32>
     requires { (0 < body.below) × (body.end < 2147483648) }
     ensures { StatesAll f.now w.old out.old body left w.new out.new result }
 {
@@ -555,45 +437,22 @@ fn stmts(f: &[u8], w: &mut [u32], body: Stmts, left: u32, out: &mut [u8]) -> Don
     let mut at = body.at;
     let mut rest = left;
     while at < end {
-        let d = stmt(f, w, at, below, rest, out);
-        match d {
-            Done::On(l) => {
-                rest = l;
-            }
-            Done::Out => {
-                return Done::Out;
-            }
-        }
+        rest = stmt(f, w, at, below, rest, out)?;
         at += tree::stmt_size(f, at);
     }
-    Done::On(rest)
+    Some(rest)
 }
 
 // The query of the file that was read: every type and diagnostic is then in the slice. The head is inferred last, and then every entry
 // leaves.
-pub fn query(f: &[u8], w: &mut [u32], until: Until, ceiling: u32, out: &mut [u8]) -> Done
+pub fn query(f: &[u8], w: &mut [u32], until: Until, ceiling: u32, out: &mut [u8]) -> Option<u32>
     ensures { Queries f.now w.old out.old until ceiling w.new out.new result }
 {
     steps::begin(w, until);
     let head = tree::query_head(f, w);
-    let d = stmts(f, w, tree::query_body(w), ceiling, out);
-    match d {
-        Done::On(l) => {
-            let e = steps::check_head(f, w, head, l, out);
-            match e {
-                Done::On(m) => {
-                    let r = infer(f, w, head, m, out);
-                    match r {
-                        Typed::Got(_, v) => {
-                            state::leave(w, 0);
-                            Done::On(v)
-                        }
-                        Typed::Out => Done::Out,
-                    }
-                }
-                Done::Out => Done::Out,
-            }
-        }
-        Done::Out => Done::Out,
-    }
+    let l = stmts(f, w, tree::query_body(w), ceiling, out)?;
+    let m = steps::check_head(f, w, head, l, out)?;
+    let (_, v) = infer(f, w, head, m, out)?;
+    state::leave(w, 0);
+    Some(v)
 }

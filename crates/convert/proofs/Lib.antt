@@ -1,3 +1,3 @@
-pub mod Places
 pub mod Joining
+pub mod Places
 pub mod Walking

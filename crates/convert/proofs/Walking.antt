@@ -1,12 +1,11 @@
 -- The lines of a file one after the other: each is a frame's, and what follows it is the others'.
 use mathlib.Core.Bool.{Bool, true, false}
 use mathlib.Core.List.{List, [], ◌∷◌, ◌++◌, map, flat_map, head-eq_of_cons-eq, tail-eq_of_cons-eq}
-use mathlib.Core.Option.{some}
 use mathlib.Core.Path.{◌≡◌, refl, sym, ap, subst, ◌∙◌}
-use Prim.Native.Nat.{ℕ, ◌-◌, ◌≤◌}
-use native.Mathlib.Nat.{sub-zero}
+use Prim.Native.Nat.{ℕ, ◌<◌, ◌≤◌}
 use native.Mathlib.Omega.{arith}
-use lib.Dec.{leb}
+use lib.Dec.{leb, ltb}
+use borrow.Author.Tests.{ltb-true, ltb-false}
 use lib.ListN.{length, take, drop}
 use Rattle.meaning.specs.Lines.{lines, max_bytes, some_bytes, bytes_of}
 use Rattle.meaning.specs.Frame.{Edition, narrow, wide, Frame}
@@ -21,16 +20,11 @@ use Rattle.meaning.proofs.Written.{line_of, at_most_lem, said_line}
 use Rattle.meaning.proofs.Tests.{cases}
 use Rattle.sigla_hex.proofs.Line.{lines_at_end}
 use Rattle.frames.specs.Promises.{BytesAt, Malformed}
-use Rattle.writer.specs.declared.Wrote.{Wrote}
-use Rattle.writer.specs.declared.Wrote.TheVariants.{To, Full}
 use Rattle.writer.specs.Writes.{Writes}
 use Rattle.writer.proofs.Writing.{Goes, goes_start, goes_next, goes_full, goes_done}
-use Rattle.editions.specs.Converted.{predicates, is_above, some_above}
-use Rattle.convert.specs.Lines.{other, LinesAre, ConvertsLine, ConvertsLines, NamesFrom, SomeFrom, SomeAbove}
-
--- the line as the code cuts it
-pub cut : (line : List ℕ) (n : ℕ) → take (n - 0) line ≡ take n line
-cut line n = ap (λ k. take k line) (sub-zero n)
+use Rattle.editions.specs.Converted.{predicates}
+use Rattle.convert.specs.Lines.{other, LinesAre, ConvertsLine, ConvertsLines, NamesFrom, SomeFrom}
+use Rattle.std.specs.Prelude.{None, Option, Some}
 
 -- ---- One line
 
@@ -43,7 +37,7 @@ pub record First (e : Edition) (f line : List ℕ) (n next : ℕ) (fs : List Fra
   pub writable : Writable e first
   pub later : LinesAre e (drop next f) rest
 
-bytes_of_lem : (e : Edition) (g : Frame) → Writable e g → bytes_of (line_of e g) ≡ some (written e g)
+bytes_of_lem : (e : Edition) (g : Frame) → Writable e g → bytes_of (line_of e g) ≡ Some (written e g)
 unfolding bytes_of some_bytes written
 bytes_of_lem e g w = ap some_bytes (decoded_hex (written e g) (written_bytes e g w.fits)) ∙ at_most_lem max_bytes (written e g) w.short
 
@@ -53,7 +47,7 @@ step e {f} {line} {at} {n} {next} h fs a = go fs (sym (ap (map (said e)) h.split
     made : (g : Frame) (gs : List Frame) → said e h.first ≡ frames g → LinesAre e (drop next f) gs → First e f line n next (g ∷ gs)
     made g gs q l =
         let i = said_line e h.first g q in
-        let same : some (take n line) ≡ some (written e g) = sym h.bytes ∙ ap bytes_of i.is ∙ bytes_of_lem e g i.writable in
+        let same : Some (take n line) ≡ Some (written e g) = sym h.bytes ∙ ap bytes_of i.is ∙ bytes_of_lem e g i.writable in
         record { first = g; rest = gs; are = refl; bytes = cc; writable = i.writable; later = l }
 
     go : (fs : List Frame) → map (said e) (h.first ∷ lines (drop next f)) ≡ map frames fs → First e f line n next fs
@@ -100,17 +94,17 @@ converting_start e f out = record {
 }
 
 module _ (e : Edition) {f out₀ : List ℕ} {at : ℕ} {out : List ℕ} {to : ℕ} (c : Converting e f out₀ at out to) where
-  pub converting_bad : Malformed f at → ConvertsLines e f out₀ out Full
+  pub converting_bad : Malformed f at → ConvertsLines e f out₀ out None
   converting_bad b = record { is = λ fs a h. let k = c.left fs a h in absurd (no_bad e b k.rest k.are); long = c.long }
 
-  pub converting_done : length f ≤ at → ConvertsLines e f out₀ out (To to)
+  pub converting_done : length f ≤ at → ConvertsLines e f out₀ out (Some to)
   unfolding file_of flat_map
   converting_done l = record {
     is = λ fs a h. let k = c.left fs a h in goes_done k.goes (ap (file_of (other e)) (at_end_lem e f at l k.rest k.are));
     long = c.long;
   }
 
-  module _ {line : List ℕ} {n next : ℕ} (d : BytesAt f at line n next) {out' : List ℕ} {r : Wrote} (w : ConvertsLine e out to (take (n - 0) line) out' r) where
+  module _ {line : List ℕ} {n next : ℕ} (d : BytesAt f at line n next) {out' : List ℕ} {r : Option ℕ} (w : ConvertsLine e out to (take n line) out' r) where
     record Turn (fs : List Frame) : Type 0 where
       rest : List Frame
       are : LinesAre e (drop next f) rest
@@ -135,17 +129,17 @@ module _ (e : Edition) {f out₀ : List ℕ} {at : ℕ} {out : List ℕ} {to : �
               fit = h.1;
               text = hex_line (written (other e) x);
               goes = g;
-              writes = w.is x (cut line n ∙ i.bytes ∙ ap (written e) (sym p)) h.0 g.inside;
+              writes = w.is x (i.bytes ∙ ap (written e) (sym p)) h.0 g.inside;
             }
 
-    pub converting_next : {m : ℕ} → r ≡ To m → Converting e f out₀ next out' m
+    pub converting_next : {m : ℕ} → r ≡ Some m → Converting e f out₀ next out' m
     converting_next q = record {
       long = w.long ∙ c.long;
       left = λ fs a h. let t = turn fs (c.left fs a h) in record
           { rest = t.rest; are = t.are; fit = t.fit; goes = goes_next t.goes t.text (file_of (other e) t.rest) refl t.writes q };
     }
 
-    pub converting_full : r ≡ Full → ConvertsLines e f out₀ out' Full
+    pub converting_full : r ≡ None → ConvertsLines e f out₀ out' None
     converting_full q = record {
       is = λ fs a h. let t = turn fs (c.left fs a h) in goes_full t.goes t.text (file_of (other e) t.rest) refl t.writes q;
       long = w.long ∙ c.long;
@@ -178,17 +172,21 @@ module _ {f : List ℕ} {least at : ℕ} (c : Seeking f least at) where
   abbrev found : List Frame → Bool
   found fs = any_of (leb least) (flat_map predicates fs)
 
-  pub seeking_bad : Malformed f at → SomeFrom f least false
+  seeking_bad : Malformed f at → SomeFrom f least false
   seeking_bad b = record { is = λ fs a. let k = c.left fs a in absurd (no_bad wide b k.0 k.1) }
 
-  pub seeking_done : length f ≤ at → SomeFrom f least false
+  seeking_done : length f ≤ at → SomeFrom f least false
   unfolding flat_map any_of
   seeking_done l = record { is = λ fs a. let k = c.left fs a in sym (k.2 ∙ ap found (at_end_lem wide f at l k.0 k.1)) }
 
-  module _ {line : List ℕ} {n next : ℕ} (d : BytesAt f at line n next) {r : Bool} (w : NamesFrom (take (n - 0) line) least r) where
+  -- no line stands here
+  pub seeking_over : (at < length f → Malformed f at) → SomeFrom f least false
+  seeking_over b = cases (ltb at (length f)) (λ q. seeking_bad (b (ltb-true at (length f) q))) (λ q. seeking_done (ltb-false at (length f) q))
+
+  module _ {line : List ℕ} {n next : ℕ} (d : BytesAt f at line n next) {r : Bool} (w : NamesFrom (take n line) least r) where
     -- what the line names
     on_line : {fs : List Frame} (i : First wide f line n next fs) → r ≡ any_of (leb least) (predicates i.first)
-    on_line i = w.is i.first (cut line n ∙ i.bytes) i.writable.fits
+    on_line i = w.is i.first (i.bytes) i.writable.fits
 
     pub seeking_next : r ≡ false → Seeking f least next
     unfolding flat_map
@@ -209,7 +207,4 @@ module _ {f : List ℕ} {least at : ℕ} (c : Seeking f least at) where
           sym (k.2 ∙ ap found i.are ∙ any_first (leb least) (predicates i.first) (flat_map predicates i.rest) (sym (on_line i) ∙ q));
     }
 
--- 14
-pub above_by : {f : List ℕ} {r : Bool} → SomeFrom f 65536 r → SomeAbove f r
-unfolding some_above is_above
-above_by h = record { is = λ fs a. h.is fs a }
+pub ruleset seeking = (seeking_start, seeking_over, seeking_next, seeking_found)

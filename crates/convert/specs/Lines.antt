@@ -1,5 +1,5 @@
 -- What the functions of src/ promise of a line and of all lines. `e` is the edition that is read; the other one is written.
-use Rattle.std.specs.Prelude.{Bool, ◌≡◌, ℕ, ◌+◌, ◌≤◌, ◌<◌, leb, length}
+use Rattle.std.specs.Prelude.{Bool, ◌≡◌, ℕ, ◌+◌, ◌≤◌, leb, length, None, Option, Some, IfSome}
 use mathlib.Core.List.{List, [], ◌∷◌, map, flat_map}
 use Rattle.meaning.specs.Lines.{lines}
 use Rattle.meaning.specs.Frame.{Edition, narrow, wide, Frame, the_limits, a_name, a_type, a_predicate, a_node, the_query}
@@ -8,7 +8,6 @@ use Rattle.meaning.specs.Conditions.{any_of}
 use Rattle.meaning.specs.All.{All}
 use Rattle.meaning.specs.Answer.{hex_line}
 use Rattle.meaning.specs.Writing.{written, file_of, Fits}
-use Rattle.writer.specs.declared.Wrote.{Wrote}
 use Rattle.writer.specs.Writes.{Writes}
 use Rattle.editions.specs.Converted.{shape_predicates, expr_predicates, predicates, some_above}
 
@@ -16,31 +15,31 @@ abbrev pub other : Edition → Edition
 other narrow = wide
 other wide = narrow
 
--- Where the number of the predicate starts in what a frame is written as, and 0 where it names none.
-abbrev pub place_at : List ℕ → ℕ → ℕ
-place_at [] n = 0
-place_at (p ∷ ps) n = n
+-- Where the number of the predicate starts in what a frame is written as; none where it names none.
+abbrev pub place_at : List ℕ → ℕ → Option ℕ
+place_at [] n = None
+place_at (p ∷ ps) n = Some n
 
-unfoldable pub place_of : Frame → ℕ
+unfoldable pub place_of : Frame → Option ℕ
 unfolding shape_predicates expr_predicates
-place_of (the_limits d t) = 0
-place_of (a_name s) = 0
+place_of (the_limits d t) = None
+place_of (a_name s) = None
 place_of (a_type t) = place_at (shape_predicates t) 2
-place_of (a_predicate n k v) = 0
+place_of (a_predicate n k v) = None
 place_of (a_node n) = place_at (expr_predicates n.kind) 10
-place_of (the_query q) = 0
+place_of (the_query q) = None
 
-pub record Placed (s : List ℕ) (r : ℕ) : Type 0 where
+pub record Placed (s : List ℕ) (r : Option ℕ) : Type 0 where
   pub is : (e : Edition) (g : Frame) → s ≡ written e g → r ≡ place_of g
-  pub room : 0 < r → r + 2 ≤ length s
+  pub room : IfSome r (λ i. i + 2 ≤ length s)
 
 -- these bytes as a line
-pub record WritesLine (out : List ℕ) (at : ℕ) (s out' : List ℕ) (r : Wrote) : Type 0 where
+pub record WritesLine (out : List ℕ) (at : ℕ) (s out' : List ℕ) (r : Option ℕ) : Type 0 where
   pub is : at ≤ length out → Writes out at (hex_line s) out' r
   pub long : length out' ≡ length out
 
 -- A frame whose numbers fit the narrow edition, in the other edition.
-pub record ConvertsLine (e : Edition) (out : List ℕ) (at : ℕ) (s out' : List ℕ) (r : Wrote) : Type 0 where
+pub record ConvertsLine (e : Edition) (out : List ℕ) (at : ℕ) (s out' : List ℕ) (r : Option ℕ) : Type 0 where
   pub is : (g : Frame) → s ≡ written e g → Fits narrow g → at ≤ length out → Writes out at (hex_line (written (other e) g)) out' r
   pub long : length out' ≡ length out
 
@@ -48,7 +47,7 @@ pub record ConvertsLine (e : Edition) (out : List ℕ) (at : ℕ) (s out' : List
 abbrev pub LinesAre : Edition → List ℕ → List Frame → Type 0
 LinesAre e f fs = map (said e) (lines f) ≡ map frames fs
 
-pub record ConvertsLines (e : Edition) (f out out' : List ℕ) (r : Wrote) : Type 0 where
+pub record ConvertsLines (e : Edition) (f out out' : List ℕ) (r : Option ℕ) : Type 0 where
   pub is : (fs : List Frame) → LinesAre e f fs → All (Fits narrow) fs → Writes out 0 (file_of (other e) fs) out' r
   pub long : length out' ≡ length out
 

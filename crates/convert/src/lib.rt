@@ -3,139 +3,89 @@
 #![tactic(auto)]
 
 ghost use Rattle.std.specs.Prelude.{◌++◌, ◌≡◌};
-ghost use Rattle.frames.specs.Promises.{edition};
+ghost use Rattle.frames.specs.Promises.{edition_of};
 ghost use Rattle.convert.specs.Lines.{Placed, WritesLine, ConvertsLine, ConvertsLines, NamesFrom, SomeFrom, SomeAbove};
 
-use frames::{Decoded, byte, full};
+use frames::{Edition, byte, full};
 use work::Counters;
-use writer::{Wrote, close, text};
+use writer::{close, text};
 
-// Where the line's predicate number starts, and 0 where it has none: after the shape byte of a type or of a node.
-fn place(s: &[u8]) -> usize
+// Where the line's predicate number starts, if it has one: after the shape byte of a type or of a node.
+#[tactic(auto, using(crate::proofs::Places::placing))]
+fn place(s: &[u8]) -> Option<usize>
     ensures { Placed s.now result }
 {
-    let kind = byte(s, 0);
-    if kind == 3 {
-        if byte(s, 1) == 3 {
-            if 4 <= s.len() {
-                return 2;
-            }
-        }
-        return 0;
+    match byte(s, 0) {
+        3 if byte(s, 1) == 3 && 4 <= s.len() => Some(2),
+        5 if byte(s, 9) == 13 && 12 <= s.len() => Some(10),
+        _ => None,
     }
-    if kind == 5 {
-        if byte(s, 9) == 13 {
-            if 12 <= s.len() {
-                return 10;
-            }
-        }
-    }
-    0
 }
 
 // Three pieces as one line.
-fn line(out: &mut [u8], at: usize, a: &[u8], b: &[u8], c: &[u8]) -> Wrote
+fn line(out: &mut [u8], at: usize, a: &[u8], b: &[u8], c: &[u8]) -> Option<usize>
     ensures { WritesLine out.old at (a.now ++ (b.now ++ c.now)) out.new result }
 {
-    let x = text(out, at, a);
-    match x {
-        Wrote::Full => Wrote::Full,
-        Wrote::To(i) => {
-            let y = text(out, i, b);
-            match y {
-                Wrote::Full => Wrote::Full,
-                Wrote::To(j) => {
-                    let z = text(out, j, c);
-                    match z {
-                        Wrote::Full => Wrote::Full,
-                        Wrote::To(k) => close(out, k),
-                    }
-                }
-            }
-        }
-    }
+    let i = text(out, at, a)?;
+    let j = text(out, i, b)?;
+    let k = text(out, j, c)?;
+    close(out, k)
 }
 
 // A line in the other edition: two zero bytes more before its predicate number, or two bytes less.
-fn convert_line(out: &mut [u8], at: usize, s: &[u8], wide: bool) -> Wrote
-    ensures { ConvertsLine (edition wide) out.old at s.now out.new result }
+#[tactic(auto, using(crate::proofs::Places::converting))]
+fn convert_line(out: &mut [u8], at: usize, s: &[u8], edition: Edition) -> Option<usize>
+    ensures { ConvertsLine (edition_of edition) out.old at s.now out.new result }
 {
-    let zeros = [0u8; 2];
-    let i = place(s);
-    if i == 0 {
-        return line(out, at, &s[0..0], &s[0..0], s);
+    let Some(i) = place(s) else {
+        return line(out, at, &[], &[], s);
+    };
+    match edition {
+        Edition::Narrow => line(out, at, &s[..i], &[0, 0], &s[i..]),
+        Edition::Wide => line(out, at, &s[..i], &[], &s[i + 2..]),
     }
-    if wide {
-        return line(out, at, &s[0..i], &s[0..0], &s[i + 2..]);
-    }
-    line(out, at, &s[0..i], &zeros[0..2], &s[i..])
 }
 
 // All lines of a file that was read.
-pub fn convert(file: &[u8], out: &mut [u8], wide: bool) -> Wrote
-    ensures { ConvertsLines (edition wide) file.now out.old out.new result }
+pub fn convert(file: &[u8], out: &mut [u8], edition: Edition) -> Option<usize>
+    ensures { ConvertsLines (edition_of edition) file.now out.old out.new result }
 {
     let mut line = [0u8; Counters::LINE];
-    let mut at: usize = 0;
-    let mut to: usize = 0;
+    let mut at = 0;
+    let mut to = 0;
     while at < file.len() {
-        let got = frames::decode(file, at, &mut line);
-        match got {
-            Decoded::Bad => {
-                return Wrote::Full;
-            }
-            Decoded::Bytes(n, next) => {
-                let r = convert_line(out, to, &line[0..n], wide);
-                match r {
-                    Wrote::To(m) => {
-                        to = m;
-                    }
-                    Wrote::Full => {
-                        return Wrote::Full;
-                    }
-                }
-                at = next;
-            }
-        }
+        let (n, next) = frames::decode(file, at, &mut line)?;
+        to = convert_line(out, to, &line[..n], edition)?;
+        at = next;
     }
-    Wrote::To(to)
+    Some(to)
 }
 
 // Whether the line of a wide file names a predicate by this number or a higher one.
 fn names_from(s: &[u8], least: u32) -> bool
     ensures { NamesFrom s.now least result }
 {
-    let i = place(s);
-    if i == 0 {
-        return false;
-    }
-    least <= full(s, i)
+    place(s).is_some_and(|i| least <= full(s, i))
 }
 
 // Whether a line of a wide file does.
+#[tactic(auto, using(crate::proofs::Walking::seeking))]
 pub fn some_from(file: &[u8], least: u32) -> bool
     ensures { SomeFrom file.now least result }
 {
     let mut line = [0u8; Counters::LINE];
-    let mut at: usize = 0;
-    while at < file.len() {
-        let got = frames::decode(file, at, &mut line);
-        match got {
-            Decoded::Bad => {
-                return false;
-            }
-            Decoded::Bytes(n, next) => {
-                if names_from(&line[0..n], least) {
-                    return true;
-                }
-                at = next;
-            }
+    let mut at = 0;
+    while let Some((n, next)) = frames::decode(file, at, &mut line) {
+        if names_from(&line[..n], least) {
+            return true;
         }
+        at = next;
     }
     false
 }
 
 // 14: whether a line of a wide file names a predicate above 65,535.
+#[tactic(auto, unfolding(editions::specs::Converted::some_above, editions::specs::Converted::is_above))]
 pub fn some_above(file: &[u8]) -> bool
     ensures { SomeAbove file.now result }
 {

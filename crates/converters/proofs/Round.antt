@@ -12,16 +12,16 @@ use Rattle.meaning.specs.File.{Form, described, reading_of, max_file}
 use Rattle.meaning.specs.Outcome as Defined
 use Rattle.meaning.specs.Outcome.{Decided, answered, min_words, accept, finish}
 use Rattle.meaning.proofs.Content.{says_exactly}
-use Rattle.desk.specs.declared.Outcome.{Outcome}
-use Rattle.desk.specs.declared.Outcome.TheVariants as Outcome
 use Rattle.desk.specs.Promises.{result_of, Finishes}
 use Rattle.editions.specs.Converted.{frames_in, some_above, widened, narrowed, decide_widen, decide_narrow}
 use Rattle.editions.proofs.Same.{widened_says, narrowed_says, out_and_back, back_and_out, widened_low}
 use Rattle.editions.proofs.Calls.{widen_answered, narrow_answered}
 use Rattle.converters.specs.Promises.{Widens, Narrows, Gives}
+use Rattle.std.specs.Prelude.{Err, Ok, Result, ℕ}
+use Rattle.reading.specs.declared.Refusal.{Refusal}
 
 -- What is decided and has room is given.
-given : {x : Decided} {w out w' out' : List ℕ} (r : Outcome) (ls : List ℕ) → x ≡ answered ls → length ls ≤ length out → Finishes x w out w' out' r
+given : {x : Decided} {w out w' out' : List ℕ} (r : Result ℕ Refusal) (ls : List ℕ) → x ≡ answered ls → length ls ≤ length out → Finishes x w out w' out' r
     → Gives out' ls r
 unfolding finish accept
 given {x} {w} {out} {w'} {out'} r ls e l h = go r (h.result ∙ ap (λ o. o.result) done) h.ends
@@ -29,8 +29,8 @@ given {x} {w} {out} {w'} {out'} r ls e l h = go r (h.result ∙ ap (λ o. o.resu
     done : finish x (length w) (length out) ≡ accept ls (length w) (length out)
     done = ap (λ y. finish y (length w) (length out)) e ∙ rw (le-ltb (length out) (length ls) l, finish)
 
-    go : (r : Outcome) → result_of r ≡ Defined.Accepted → ((n : ℕ) → r ≡ Outcome.Accepted n → (n ≤ length out) × (x ≡ answered (take n out'))) → Gives out' ls r
-    go (Outcome.Accepted n) q ends =
+    go : (r : Result ℕ Refusal) → result_of r ≡ Defined.Accepted → ((n : ℕ) → r ≡ Ok n → (n ≤ length out) × (x ≡ answered (take n out'))) → Gives out' ls r
+    go (Ok n) q ends =
         let t = ends n refl in
         let same : answered (take n out') ≡ answered ls = sym t.1 ∙ e in
         let there : take n out' ≡ ls = cc in
@@ -39,10 +39,10 @@ given {x} {w} {out} {w'} {out'} r ls e l h = go r (h.result ∙ ap (λ o. o.resu
         ap length all ∙ length-append ls (replicate (length out - length ls) 0) ∙ ap (λ m. length ls + m)
         (length-replicate {A = ℕ} (length out - length ls) 0) in
         let long : n ≡ length ls = sym (length-take-le n out' (omega (arith, size, l, t.0))) ∙ ap length there in
-        record { accepted = ap Outcome.Accepted long; stands = subst (λ m. take m out' ≡ ls) long there }
-    go (Outcome.Refused i) q ends = let z : ◌≡◌ {A = ℕ} 0 1 = cc in absurd (omega arith)
+        record { accepted = ap Ok long; stands = subst (λ m. take m out' ≡ ls) long there }
+    go (Err i) q ends = let z : ◌≡◌ {A = ℕ} 0 1 = cc in absurd (omega arith)
 
-module _ (f : List ℕ) (d : Form) {w out w' out' v buf v' buf' : List ℕ} (r q : Outcome) (words : min_words ≤ length w) (words' : min_words ≤ length v) where
+module _ (f : List ℕ) (d : Form) {w out w' out' v buf v' buf' : List ℕ} (r q : Result ℕ Refusal) (words : min_words ≤ length w) (words' : min_words ≤ length v) where
   -- of every file of the narrow edition past 1 to 10 and 13 whose wide file can be read
   pub code_out_and_back : reading_of narrow f ≡ described d → length (widened f) ≤ max_file → length (widened f) ≤ length out → length f ≤ length buf
       → Widens f w out w' out' r → Narrows (take (length (widened f)) out') v buf v' buf' q → Gives out' (widened f) r × Gives buf' f q

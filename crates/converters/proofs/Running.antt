@@ -21,21 +21,16 @@ use Rattle.meaning.proofs.Content.{says_exactly}
 use Rattle.reading.specs.Promises.{refusal, Ends, reading_in, ReadsFile}
 use Rattle.reading.specs.declared.Refusal.{Refusal}
 use Rattle.reading.specs.declared.Refusal.TheVariants as Refusal
-use Rattle.reading.specs.declared.Read.{Read}
-use Rattle.reading.specs.declared.Read.TheVariants as Read
-use Rattle.writer.specs.declared.Wrote.{Wrote}
-use Rattle.writer.specs.declared.Wrote.TheVariants.{To, Full}
 use Rattle.writer.specs.Writes.{Writes}
 use Rattle.writer.proofs.Writing.{whole_there, whole_over}
-use Rattle.desk.specs.declared.Outcome.{Outcome}
-use Rattle.desk.specs.declared.Outcome.TheVariants as Outcome
 use Rattle.desk.specs.Promises.{Told, Finishes, Clears}
 use Rattle.desk.proofs.Deciding.{enough_words, refused_told}
 use Rattle.desk.proofs.Deciding as Deciding
 use Rattle.editions.specs.Converted.{frames_in, some_above, widened, narrowed, widen_read, narrow_read, decide_widen, decide_narrow}
 use Rattle.editions.proofs.Same.{frames_are, all_narrow}
 use Rattle.convert.specs.Lines.{LinesAre, ConvertsLines, SomeAbove}
-use Rattle.converters.specs.Promises.{outcome_of, RunsTo}
+use Rattle.converters.specs.Promises.{RunsTo}
+use Rattle.std.specs.Prelude.{Err, None, Ok, Option, Result, Some, ℕ, ok_or}
 
 -- ---- What is decided goes by the reading
 
@@ -62,7 +57,7 @@ said_frames ed f d e =
     record { these = frames_of s.content; lines_are = l; frames = frames_are ed f (frames_of s.content) l; writable = s.lawful.writable }
 
 -- of an accepted reading
-described_by : (ed : Edition) {f w w' : List ℕ} {r : Read} → ReadsFile ed f w w' r → r ≡ Read.Accepted → (d : Form) × (reading_in ed f (length w) ≡ described d)
+described_by : (ed : Edition) {f w w' : List ℕ} {r : Result (Unit {0}) Refusal} → ReadsFile ed f w w' r → r ≡ Ok tt → (d : Form) × (reading_in ed f (length w) ≡ described d)
 unfolding Ends
 described_by ed {f} {w} {w'} {r} h q = go (reading_in ed f (length w)) refl h.ends
   where
@@ -76,36 +71,36 @@ all_fit (f ∷ fs) w = (w.0.fits, all_fit fs w.1)
 
 -- ---- What is written is told
 
-written_told : {out ls out' : List ℕ} (r : Wrote) → Writes out 0 ls out' r → Told out out' (outcome_of r) (answered ls)
+written_told : {out ls out' : List ℕ} (r : Option ℕ) → Writes out 0 ls out' r → Told out out' (ok_or r Refusal.AnswerTooLong) (answered ls)
 unfolding Told
-written_told {out} {ls} {out'} (To n) w =
+written_told {out} {ls} {out'} (Some n) w =
     let h = whole_there w refl in
-    (λ l. (ap Outcome.Accepted h.0, subst (λ m. take m out' ≡ ls) h.0 h.2), λ l. absurd (omega (arith, l, h.0, h.1)))
-written_told {out} {ls} {out'} Full w = (λ l. absurd (omega (arith, l, whole_over w refl)), λ l. refl)
+    (λ l. (ap Ok h.0, subst (λ m. take m out' ≡ ls) h.0 h.2), λ l. absurd (omega (arith, l, h.0, h.1)))
+written_told {out} {ls} {out'} None w = (λ l. absurd (omega (arith, l, whole_over w refl)), λ l. refl)
 
 module _ {f w w' out : List ℕ} where
-  pub widen_refused : {r : Read} (e : Refusal) → ReadsFile narrow f w w' r → r ≡ Read.Refused e
-      → RunsTo (decide_widen f (length w)) w out w' out (Outcome.Refused e)
+  pub widen_refused : {r : Result (Unit {0}) Refusal} (e : Refusal) → ReadsFile narrow f w w' r → r ≡ Err e
+      → RunsTo (decide_widen f (length w)) w out w' out (Err e)
   unfolding widen_read
   widen_refused {r} e h q = record {
-    told = subst (Told out out (Outcome.Refused e)) (sym (widen_decided f (length w)))
+    told = subst (Told out out (Err e)) (sym (widen_decided f (length w)))
         (refused_told narrow (widen_read f) (λ i. refl) f w w' out r e h q);
     words = h.long;
     bytes = refl;
   }
 
-  pub narrow_refused : {r : Read} (e : Refusal) → ReadsFile wide f w w' r → r ≡ Read.Refused e
-      → RunsTo (decide_narrow f (length w)) w out w' out (Outcome.Refused e)
+  pub narrow_refused : {r : Result (Unit {0}) Refusal} (e : Refusal) → ReadsFile wide f w w' r → r ≡ Err e
+      → RunsTo (decide_narrow f (length w)) w out w' out (Err e)
   unfolding narrow_read
   narrow_refused {r} e h q = record {
-    told = subst (Told out out (Outcome.Refused e)) (sym (narrow_decided f (length w)))
+    told = subst (Told out out (Err e)) (sym (narrow_decided f (length w)))
         (refused_told wide (narrow_read f) (λ i. refl) f w w' out r e h q);
     words = h.long;
     bytes = refl;
   }
 
-  pub widen_written : {r : Read} {out' : List ℕ} (x : Wrote) → ReadsFile narrow f w w' r → r ≡ Read.Accepted → ConvertsLines narrow f out out' x
-      → RunsTo (decide_widen f (length w)) w out w' out' (outcome_of x)
+  pub widen_written : {r : Result (Unit {0}) Refusal} {out' : List ℕ} (x : Option ℕ) → ReadsFile narrow f w w' r → r ≡ Ok tt → ConvertsLines narrow f out out' x
+      → RunsTo (decide_widen f (length w)) w out w' out' (ok_or x Refusal.AnswerTooLong)
   unfolding widen_read widened
   widen_written {r} {out'} x h q c =
       let d = described_by narrow h q in
@@ -113,14 +108,14 @@ module _ {f w w' out : List ℕ} where
       let is : decide_widen f (length w) ≡ answered (file_of wide s.these) = widen_decided f (length w) ∙ ap (widen_read f) d.1 ∙ ap
       (λ l. answered (file_of wide l)) s.frames in
       record {
-        told = subst (Told out out' (outcome_of x)) (sym is)
+        told = subst (Told out out' (ok_or x Refusal.AnswerTooLong)) (sym is)
             (written_told x (c.is s.these s.lines_are (all_fit s.these s.writable)));
         words = h.long;
         bytes = c.long;
       }
 
-  module _ {r : Read} {b : Bool} (h : ReadsFile wide f w w' r) (q : r ≡ Read.Accepted) (a : SomeAbove f b) where
-    pub narrow_above : b ≡ true → RunsTo (decide_narrow f (length w)) w out w' out (Outcome.Refused Refusal.NumberTooWide)
+  module _ {r : Result (Unit {0}) Refusal} {b : Bool} (h : ReadsFile wide f w w' r) (q : r ≡ Ok tt) (a : SomeAbove f b) where
+    pub narrow_above : b ≡ true → RunsTo (decide_narrow f (length w)) w out w' out (Err Refusal.NumberTooWide)
     unfolding narrow_read Told
     narrow_above t =
         let d = described_by wide h q in
@@ -129,13 +124,13 @@ module _ {f w w' out : List ℕ} where
         let is : decide_narrow f (length w) ≡ turned_down Meaning.number_too_wide = narrow_decided f (length w) ∙ ap (narrow_read f) d.1 ∙ rw
         (high, narrow_read) in
         record {
-          told = subst (Told out out (Outcome.Refused Refusal.NumberTooWide)) (sym is) (Refusal.NumberTooWide, refl, refl);
+          told = subst (Told out out (Err Refusal.NumberTooWide)) (sym is) (Refusal.NumberTooWide, refl, refl);
           words = h.long;
           bytes = refl;
         }
 
-    pub narrow_written : {out' : List ℕ} (x : Wrote) → b ≡ false → ConvertsLines wide f out out' x
-        → RunsTo (decide_narrow f (length w)) w out w' out' (outcome_of x)
+    pub narrow_written : {out' : List ℕ} (x : Option ℕ) → b ≡ false → ConvertsLines wide f out out' x
+        → RunsTo (decide_narrow f (length w)) w out w' out' (ok_or x Refusal.AnswerTooLong)
     unfolding narrow_read narrowed
     narrow_written {out'} x t c =
         let d = described_by wide h q in
@@ -144,11 +139,11 @@ module _ {f w w' out : List ℕ} where
         let is : decide_narrow f (length w) ≡ answered (file_of narrow s.these) = narrow_decided f (length w) ∙ ap (narrow_read f) d.1 ∙ rw
         (ap some_above s.frames ∙ low, narrow_read) (ap (λ l. answered (file_of narrow l)) s.frames) in
         record {
-          told = subst (Told out out' (outcome_of x)) (sym is)
+          told = subst (Told out out' (ok_or x Refusal.AnswerTooLong)) (sym is)
               (written_told x (c.is s.these s.lines_are (all_fit s.these (all_narrow s.these s.writable low))));
           words = h.long;
           bytes = c.long;
         }
 
-pub cleared : {x : Decided} {w out w₁ out₁ w' out' : List ℕ} (r : Outcome) → RunsTo x w out w₁ out₁ r → Clears r w₁ out₁ w' out' → Finishes x w out w' out' r
+pub cleared : {x : Decided} {w out w₁ out₁ w' out' : List ℕ} (r : Result ℕ Refusal) → RunsTo x w out w₁ out₁ r → Clears r w₁ out₁ w' out' → Finishes x w out w' out' r
 cleared r h c = Deciding.cleared h.words h.bytes r h.told c

@@ -3,49 +3,30 @@
 
 ghost use Rattle.std.specs.Prelude.{◌≡◌, length};
 ghost use Rattle.editions.specs.Converted.{decide_widen, decide_narrow};
-ghost use Rattle.converters.specs.Promises.{outcome_of, RunsTo, Widens, Narrows};
+ghost use Rattle.converters.specs.Promises.{RunsTo, Widens, Narrows};
 
-use desk::Outcome;
-use reading::{Read, Refusal};
-use writer::Wrote;
-
-fn written(r: Wrote) -> Outcome
-    ensures { result ≡ outcome_of r }
-{
-    match r {
-        Wrote::To(n) => Outcome::Accepted(n),
-        Wrote::Full => Outcome::Refused(Refusal::AnswerTooLong),
-    }
-}
+use reading::{Edition, Refusal};
 
 // Both slices hold anything afterwards, but for the output.
-fn run_widen(file: &[u8], work: &mut [u32], out: &mut [u8]) -> Outcome
+fn run_widen(file: &[u8], work: &mut [u32], out: &mut [u8]) -> Result<usize, Refusal>
     ensures { RunsTo (decide_widen file.now (length work.old)) work.old out.old work.new out.new result }
 {
-    let r = reading::read_file(file, work, false);
-    match r {
-        Read::Refused(e) => Outcome::Refused(e),
-        Read::Accepted => written(convert::convert(file, out, false)),
-    }
+    reading::read_file(file, work, Edition::Narrow)?;
+    convert::convert(file, out, Edition::Narrow).ok_or(Refusal::AnswerTooLong)
 }
 
-fn run_narrow(file: &[u8], work: &mut [u32], out: &mut [u8]) -> Outcome
+fn run_narrow(file: &[u8], work: &mut [u32], out: &mut [u8]) -> Result<usize, Refusal>
     ensures { RunsTo (decide_narrow file.now (length work.old)) work.old out.old work.new out.new result }
 {
-    let r = reading::read_file(file, work, true);
-    match r {
-        Read::Refused(e) => Outcome::Refused(e),
-        Read::Accepted => {
-            if convert::some_above(file) {
-                return Outcome::Refused(Refusal::NumberTooWide);
-            }
-            written(convert::convert(file, out, true))
-        }
+    reading::read_file(file, work, Edition::Wide)?;
+    if convert::some_above(file) {
+        return Err(Refusal::NumberTooWide);
     }
+    convert::convert(file, out, Edition::Wide).ok_or(Refusal::AnswerTooLong)
 }
 
 // A file of the narrow edition into the wide one.
-pub fn widen(file: &[u8], work: &mut [u32], out: &mut [u8]) -> Outcome
+pub fn widen(file: &[u8], work: &mut [u32], out: &mut [u8]) -> Result<usize, Refusal>
     ensures { Widens file.now work.old out.old work.new out.new result }
 {
     let r = run_widen(file, work, out);
@@ -54,7 +35,7 @@ pub fn widen(file: &[u8], work: &mut [u32], out: &mut [u8]) -> Outcome
 }
 
 // A file of the wide edition into the narrow one.
-pub fn narrow(file: &[u8], work: &mut [u32], out: &mut [u8]) -> Outcome
+pub fn narrow(file: &[u8], work: &mut [u32], out: &mut [u8]) -> Result<usize, Refusal>
     ensures { Narrows file.now work.old out.old work.new out.new result }
 {
     let r = run_narrow(file, work, out);

@@ -16,15 +16,15 @@ use Rattle.meaning.specs.Outcome.{answered, min_words, accept, finish, decide, o
 use Rattle.laws.specs.Names.{Renamed, lines_beside}
 use Rattle.laws.specs.Growth.{Grown, NoAbsent}
 use Rattle.laws.proofs.Files.{private_files, grown_decisions}
-use Rattle.desk.specs.declared.Outcome.{Outcome}
-use Rattle.desk.specs.declared.Outcome.TheVariants as Outcome
 use Rattle.desk.specs.Promises.{result_of, ChecksFile}
 use Rattle.desk.specs.Calls.{Large, SameCalls, SameAnswer}
 use Rattle.desk.proofs.Demands.{call_accepted}
+use Rattle.std.specs.Prelude.{Err, Ok, Result, ℕ}
+use Rattle.reading.specs.declared.Refusal.{Refusal}
 
 module _ {f w out w' out' g v buf v' buf' : List ℕ} where
   -- Card 10.
-  pub private_calls : (r q : Outcome) → ChecksFile f w out w' out' r → ChecksFile g v buf v' buf' q → min_words ≤ length w → min_words ≤ length v
+  pub private_calls : (r q : Result ℕ Refusal) → ChecksFile f w out w' out' r → ChecksFile g v buf v' buf' q → min_words ≤ length w → min_words ≤ length v
       → (d e : Form) (p : Says wide f d) (p' : Says wide g e) → Renamed p.content p'.content → Large r → Large q → SameCalls out' r buf' q
   private_calls r q first second l l' d e p p' h large large' =
       let s = private_files f g d e p p' h (length w) (length out) (length v) (length buf) l l'
@@ -35,7 +35,7 @@ module _ {f w out w' out' g v buf v' buf' : List ℕ} where
       }
 
 -- The answer lies in its slice.
-answer_long : {f w out w' out' : List ℕ} (n : ℕ) → ChecksFile f w out w' out' (Outcome.Accepted n) → length (take n out') ≡ n
+answer_long : {f w out w' out' : List ℕ} (n : ℕ) → ChecksFile f w out w' out' (Ok n) → length (take n out') ≡ n
 answer_long {f} {w} {out} {w'} {out'} n h =
     let x = call_accepted n h in
     let ls = form_lines (text_in x.form) x.ts in
@@ -46,7 +46,7 @@ answer_long {f} {w} {out} {w'} {out'} n h =
 
 module _ {f w out w' out' g v buf v' buf' : List ℕ} where
   -- Card 14. The slices of the second call need only be long enough.
-  pub grown_calls : (n : ℕ) (q : Outcome) → ChecksFile f w out w' out' (Outcome.Accepted n) → ChecksFile g v buf v' buf' q
+  pub grown_calls : (n : ℕ) (q : Result ℕ Refusal) → ChecksFile f w out w' out' (Ok n) → ChecksFile g v buf v' buf' q
       → min_words ≤ length v → n ≤ length buf
       → (d e : Form) (p : Says wide f d) (p' : Says wide g e) → NoAbsent p.content → Grown p.content p'.content → SameAnswer n out' buf' q
   unfolding outcome finish accept
@@ -60,11 +60,11 @@ module _ {f w out w' out' g v buf v' buf' : List ℕ} where
       ap (λ x. finish x (length v) (length buf)) same ∙ rw (le-ltb (length buf) (length ls) (subst (λ k. k ≤ length buf) (sym size) m), finish) in
       go q second (second.result ∙ ap (λ (o : Defined.Outcome). o.result) ended) same size
     where
-      go : (q : Outcome) → ChecksFile g v buf v' buf' q → result_of q ≡ Defined.Accepted → decide g (length v) ≡ answered (take n out')
+      go : (q : Result ℕ Refusal) → ChecksFile g v buf v' buf' q → result_of q ≡ Defined.Accepted → decide g (length v) ≡ answered (take n out')
           → length (take n out') ≡ n → SameAnswer n out' buf' q
-      go (Outcome.Refused i) second z same size = let c : ◌≡◌ {A = ℕ} 0 1 = cc in absurd (omega arith)
-      go (Outcome.Accepted k) second z same size =
+      go (Err i) second z same size = let c : ◌≡◌ {A = ℕ} 0 1 = cc in absurd (omega arith)
+      go (Ok k) second z same size =
           let both : answered (take k buf') ≡ answered (take n out') = sym (second.ends k refl).1 ∙ same in
           let text : take k buf' ≡ take n out' = cc in
           let long : k ≡ n = sym (answer_long k second) ∙ ap length text ∙ size in
-          record { accepted = ap Outcome.Accepted long; answer = ap (λ i. take i buf') (sym long) ∙ text }
+          record { accepted = ap Ok long; answer = ap (λ i. take i buf') (sym long) ∙ text }

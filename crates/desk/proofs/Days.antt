@@ -1,8 +1,6 @@
 -- The visits that a file is charged at a desk are at most its ceilings, one after the other, so every group that calls lead to is one of
 -- cabinet's (`Led`); and what ends within a ceiling ends alike within that of document 01.
-use mathlib.Core.Bool.{Bool, true, false}
 use mathlib.Core.List.{List, [], ◌∷◌}
-use mathlib.Core.Option.{Option, none, some}
 use mathlib.Core.Path.{◌≡◌, refl, sym, ap, subst, ◌∙◌}
 use Prim.Native.Nat.{ℕ, ◌<◌, ◌≤◌}
 use native.Mathlib.Omega.{arith}
@@ -11,74 +9,64 @@ use lib.Dec.{ltb}
 use lib.ListN.{length}
 use Rattle.cabinet.specs.declared.Account.{Account}
 use Rattle.cabinet.specs.declared.Group.{Group}
-use Rattle.cabinet.specs.Promises.{At}
-use Rattle.cabinet.specs.Accounts.{ceiling_in, charged_to, Good}
+use Rattle.cabinet.specs.Cabinet.{ceiling_of, charged}
+use Rattle.cabinet.specs.Promises.{DeskOf}
+use Rattle.cabinet.specs.Accounts.{ceiling_in, charged_to, group_in}
 use Rattle.cabinet.specs.Days.{Led, Assured}
 use Rattle.cabinet.specs.Days as Cabinet
-use Rattle.cabinet.proofs.Accounts.{open_ceiling, desk_ceiling, desk_charged, good_charged}
 use Rattle.cabinet.proofs.Days.{always, assured}
 use Rattle.meaning.specs.Refusal.{Refusal, work_too_short}
 use Rattle.meaning.specs.Syntax.{Ast}
 use Rattle.meaning.specs.Schema.{Schema}
-use Rattle.meaning.specs.File.{Form, Reading, refused, described, reading}
+use Rattle.meaning.specs.File.{Reading, refused, described, reading}
 use Rattle.meaning.specs.Check.{Typed, Checked, typed, exhausted, check}
 use Rattle.meaning.specs.Diag.{Message}
 use Rattle.meaning.specs.Messages.{text_in}
-use Rattle.meaning.specs.Outcome.{Decided, turned_down, answered, min_words, max_visits, with_checked, run_all, decide_run, decide_read, decide}
+use Rattle.meaning.specs.Outcome.{turned_down, answered, min_words, max_visits, with_checked, run_all, decide_run, decide_read, decide}
 use Rattle.meaning.proofs.Tests.{cases}
 use Rattle.laws.proofs.Run.{more_visits_lem, more_needed, within}
-use Rattle.desk.specs.declared.Desked.{Desked}
-use Rattle.desk.specs.At.{End, all, stopped, stop_at, first, RunAt, after, run_at, decide_end, decide_read_at, decide_at, desk_account}
-use Rattle.desk.specs.Promises.{ChecksAt}
+use Rattle.desk.specs.At.{End, all, stopped, first, after, run_at, decide_end, decide_read_at, decide_at, desk_account}
 use Rattle.desk.specs.Desks.{Stops}
 use Rattle.desk.specs.Days.{Days, set_up_lem, check_at_lem, new_day, ShortOf}
+use Rattle.std.specs.Prelude.{Option, Some}
 
 low : (a : Account) → ceiling_in a ≤ max_visits
 unfolding max_visits
-low a = go a.bounded refl
-  where
-    go : (b : Bool) → a.bounded ≡ b → ceiling_in a ≤ 1048576
-    go true e = rw (desk_ceiling a e) (omega arith)
-    go false e = rw (open_ceiling a e) (omega arith)
+low Account.Open = omega arith
+low (Account.At s) = omega arith
 
 -- ---- The groups
 
 module _ (schema : Schema) where
-  -- A desk's account, charged within its ceiling, is that of a group that calls lead to.
-  led_charged : (a : Account) (visits : ℕ) → a.bounded ≡ true → Led a.group → Good a → visits ≤ ceiling_in a → Led (charged_to a visits).group
-  led_charged a visits b l g h = rw (desk_charged a visits b) (Cabinet.query l a.desk visits (g b).1 (rw (desk_ceiling a b) at h))
-
-  bounded_charged : (a : Account) (visits : ℕ) → a.bounded ≡ true → (charged_to a visits).bounded ≡ true
-  bounded_charged a visits b = rw (desk_charged a visits b) b
-
-  led_run : (qs : List Ast) (a : Account) → a.bounded ≡ true → Led a.group → Good a → Led (run_at schema qs a).account.group
+  -- Charged within its ceilings, the group of a desk is one that calls lead to.
+  led_run : (qs : List Ast) (s : DeskOf) → s.desk < s.group.count → Led s.group → Led (group_in (run_at schema qs (Account.At s)).account)
   unfolding run_at
-  led_run [] a b l g = l
-  led_run (q ∷ qs) a b l g = go (λ c. led_run qs c) (check (ceiling_in a) schema q) refl
+  led_run [] s b l = l
+  led_run (q ∷ qs) s b l = go (λ t. led_run qs t) (check (ceiling_of s.group s.desk) schema q) refl
     where
-      go : ((c : Account) → c.bounded ≡ true → Led c.group → Good c → Led (run_at schema qs c).account.group) → (x : Checked)
-          → check (ceiling_in a) schema q ≡ x
-          → Led (after a x (λ c. run_at schema qs c)).account.group
-      go rest exhausted e = led_charged a (ceiling_in a) b l g (omega arith)
+      go : ((t : DeskOf) → t.desk < t.group.count → Led t.group → Led (group_in (run_at schema qs (Account.At t)).account)) → (x : Checked)
+          → check (ceiling_of s.group s.desk) schema q ≡ x
+          → Led (group_in (after (Account.At s) x (λ c. run_at schema qs c)).account)
+      go rest exhausted e = Cabinet.query l s.desk (ceiling_of s.group s.desk) b (omega arith)
       go rest (typed t) e =
-          let few : t.visits ≤ ceiling_in a = within schema q (ceiling_in a) t e in
-          rest (charged_to a t.visits) (bounded_charged a t.visits b) (led_charged a t.visits b l g few) (good_charged a t.visits g few)
+          rest (record s { group = charged s.group s.desk t.visits }) b
+          (Cabinet.query l s.desk t.visits b (within schema q (ceiling_of s.group s.desk) t e))
 
-led_decided : (f : List ℕ) (words : ℕ) (g : Group) (d : ℕ) → At g d → Led g → Led (decide_at f words (desk_account g d)).account.group
+led_decided : (f : List ℕ) (words : ℕ) (g : Group) (d : ℕ) → d < g.count → Led g → Led (group_in (decide_at f words (desk_account g d)).account)
 unfolding decide_at decide_read_at
-led_decided f words g d i l = cases (ltb words min_words) (λ q. rw (q, decide_at) l) (λ q. rw (q, decide_at) (go (reading f)))
+led_decided f words g d b l = cases (ltb words min_words) (λ q. rw (q, decide_at) l) (λ q. rw (q, decide_at) (go (reading f)))
   where
-    go : (x : Reading) → Led (decide_read_at x (desk_account g d)).account.group
+    go : (x : Reading) → Led (group_in (decide_read_at x (desk_account g d)).account)
     go (refused r) = l
-    go (described form) = led_run form.schema form.queries (desk_account g d) refl l (λ _. i)
+    go (described form) = led_run form.schema form.queries (record { group = g; desk = d }) b l
 
 led : {g : Group} → Days g → Led g
-led (set_up_lem pool shares caps r s e) = Cabinet.set_up_lem pool shares caps r s e
+led (set_up_lem pool shares caps s) = Cabinet.set_up_lem pool shares caps s
 led (check_at_lem {g} days d f w out w' out' r c) = go (led days)
   where
     go : Led g → Led r.group
     go l = cases (ltb d g.count)
-        (λ q. let i : At g d = (always l, ltb-true d g.count q) in subst Led (sym (c.inside i).1) (led_decided f (length w) g d i l))
+        (λ q. let b = ltb-true d g.count q in subst Led (sym (c.inside (always l, b)).1) (led_decided f (length w) g d b l))
         (λ q. subst Led (sym (c.outside (λ i. omega (arith, i.1, ltb-false d g.count q))).1) l)
 led (new_day days r s) = Cabinet.new_day (led days) r s
 
@@ -98,19 +86,19 @@ answered_all text (stopped i) ls e = let z : ◌≡◌ {A = ℕ} 0 1 = cc in abs
 
 module _ (schema : Schema) where
   -- What ran within its ceilings ran.
-  ran_alike : (qs : List Ast) (a : Account) (ts : List Typed) → (run_at schema qs a).end ≡ all ts → run_all schema qs ≡ some ts
+  ran_alike : (qs : List Ast) (a : Account) (ts : List Typed) → (run_at schema qs a).end ≡ all ts → run_all schema qs ≡ Some ts
   unfolding run_at run_all with_checked
-  ran_alike [] a ts e = let same : [] ≡ ts = cc in ap {B = Option (List Typed)} some same
+  ran_alike [] a ts e = let same : [] ≡ ts = cc in ap {B = Option (List Typed)} Some same
   ran_alike (q ∷ qs) a ts e = go (λ b us. ran_alike qs b us) (check (ceiling_in a) schema q) refl e
     where
-      go : ((b : Account) (us : List Typed) → (run_at schema qs b).end ≡ all us → run_all schema qs ≡ some us) → (x : Checked) → check (ceiling_in a) schema q ≡ x
-          → (after a x (λ b. run_at schema qs b)).end ≡ all ts → with_checked (check max_visits schema q) (run_all schema qs) ≡ some ts
+      go : ((b : Account) (us : List Typed) → (run_at schema qs b).end ≡ all us → run_all schema qs ≡ Some us) → (x : Checked) → check (ceiling_in a) schema q ≡ x
+          → (after a x (λ b. run_at schema qs b)).end ≡ all ts → with_checked (check max_visits schema q) (run_all schema qs) ≡ Some ts
       go rest exhausted p r = let z : ◌≡◌ {A = ℕ} 0 1 = cc in absurd (omega arith)
       go rest (typed t) p r =
           let y = first_all t (run_at schema qs (charged_to a t.visits)).end ts r in
           ap (λ c. with_checked c (run_all schema qs)) (more_visits_lem schema q (ceiling_in a) max_visits t (low a) p) ∙ ap (with_checked (typed t))
           (rest (charged_to a t.visits) y.0 y.1)
-          ∙ ap {B = Option (List Typed)} some y.2
+          ∙ ap {B = Option (List Typed)} Some y.2
 
   -- What is stopped at a desk (`refused_exactly` of Desks.antt) needs more visits than its ceiling.
   pub stopped_short : {qs : List Ast} {a : Account} {i : Refusal} → Stops schema qs a i → ShortOf schema qs a

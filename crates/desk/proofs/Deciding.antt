@@ -18,19 +18,16 @@ use Rattle.meaning.proofs.Content.{says_exactly}
 use Rattle.reading.specs.Promises.{refusal, Ends, reading_in, ReadsFile}
 use Rattle.reading.specs.declared.Refusal.{Refusal}
 use Rattle.reading.specs.declared.Refusal.TheVariants as Refusal
-use Rattle.reading.specs.declared.Read.{Read}
-use Rattle.reading.specs.declared.Read.TheVariants as Read
-use Rattle.desk.specs.declared.Outcome.{Outcome}
-use Rattle.desk.specs.declared.Outcome.TheVariants as Outcome
 use Rattle.desk.specs.Promises.{Told, RunsQueries, RunsFile, Clears, Finishes, ChecksFile, ChecksAt}
 use Rattle.desk.specs.At.{decide_read_at, decide_at, desk_account}
 use Rattle.desk.specs.declared.Settled.{Settled}
 use Rattle.desk.specs.declared.Desked.{Desked}
 use Rattle.cabinet.specs.declared.Account.{Account}
 use Rattle.cabinet.specs.declared.Group.{Group}
-use Rattle.cabinet.specs.Accounts.{open_account}
-use Rattle.cabinet.specs.Promises.{At, IsAt}
+use Rattle.cabinet.specs.Accounts.{group_in}
+use Rattle.cabinet.specs.Promises.{At}
 use Rattle.desk.proofs.Opening.{open_decides}
+use Rattle.std.specs.Prelude.{Err, Ok, Result, ℕ}
 
 -- ---- Reading
 
@@ -42,13 +39,13 @@ enough_words ed f words d e = cases (ltb words min_words)
 
 -- A file that was not read is turned down, by whatever goes on with a reading.
 pub refused_told : (ed : Edition) (k : Reading → Decided) → ((i : Meaning.Refusal) → k (refused i) ≡ turned_down i)
-    → (f w w' buf : List ℕ) (r : Read) (e : Refusal) → ReadsFile ed f w w' r → r ≡ Read.Refused e
-    → Told buf buf (Outcome.Refused e) (k (reading_in ed f (length w)))
+    → (f w w' buf : List ℕ) (r : Result (Unit {0}) Refusal) (e : Refusal) → ReadsFile ed f w w' r → r ≡ Err e
+    → Told buf buf (Err e) (k (reading_in ed f (length w)))
 unfolding Ends Told
 refused_told ed k down f w w' buf r e h q = go (reading_in ed f (length w)) h.ends
   where
-    go : (x : Reading) → Ends ed f w' r x → Told buf buf (Outcome.Refused e) (k x)
-    go (refused i) g = let p = g.1 in let same : g.0 ≡ e = cc in subst (Told buf buf (Outcome.Refused e)) (sym (down i))
+    go : (x : Reading) → Ends ed f w' r x → Told buf buf (Err e) (k x)
+    go (refused i) g = let p = g.1 in let same : g.0 ≡ e = cc in subst (Told buf buf (Err e)) (sym (down i))
         (e, refl, sym (ap refusal same) ∙ g.2)
     go (described d) g = let p = g.0 in let z : ◌≡◌ {A = ℕ} 0 1 = cc in absurd (omega arith)
 
@@ -57,22 +54,22 @@ settled_by : (f : List ℕ) (words : ℕ) (a : Account) → decide_at f words a 
 unfolding decide_at reading_in decide_read_at
 settled_by f words a = cases (ltb words min_words) (λ q. rw (q, decide_at, reading_in)) (λ q. rw (q, decide_at, reading_in))
 
-module _ (f w w' buf : List ℕ) (a : Account) (r : Read) (e : Refusal) (h : ReadsFile wide f w w' r) (q : r ≡ Read.Refused e) where
-  unread : Told buf buf (Outcome.Refused e) (decide_at f (length w) a).decided × (a ≡ (decide_at f (length w) a).account)
+module _ (f w w' buf : List ℕ) (a : Account) (r : Result (Unit {0}) Refusal) (e : Refusal) (h : ReadsFile wide f w w' r) (q : r ≡ Err e) where
+  unread : Told buf buf (Err e) (decide_at f (length w) a).decided × (a ≡ (decide_at f (length w) a).account)
   unfolding Ends Told decide_read_at
-  unread = subst (λ x. Told buf buf (Outcome.Refused e) x.decided × (a ≡ x.account)) (sym (settled_by f (length w) a))
+  unread = subst (λ x. Told buf buf (Err e) x.decided × (a ≡ x.account)) (sym (settled_by f (length w) a))
       (go (reading_in wide f (length w)) h.ends)
     where
-      go : (x : Reading) → Ends wide f w' r x → Told buf buf (Outcome.Refused e) (decide_read_at x a).decided × (a ≡ (decide_read_at x a).account)
+      go : (x : Reading) → Ends wide f w' r x → Told buf buf (Err e) (decide_read_at x a).decided × (a ≡ (decide_read_at x a).account)
       go (refused i) g = let p = g.1 in let same : e ≡ g.0 = cc in ((e, refl, ap refusal same ∙ g.2), refl)
       go (described d) g = let p = g.0 in let z : ◌≡◌ {A = ℕ} 0 1 = cc in absurd (omega arith)
 
   -- The reading's refusal is the one decided, and nothing is charged.
-  pub not_read : RunsFile f w buf a w' buf (record { account = a; outcome = Outcome.Refused e })
+  pub not_read : RunsFile f w buf a w' buf (record { account = a; outcome = Err e })
   not_read = record { told = unread.0; account = unread.1; words = h.long; bytes = refl }
 
 -- A file that was read is short enough.
-pub read_small : (f w w' : List ℕ) (r : Read) → ReadsFile wide f w w' r → r ≡ Read.Accepted → length f ≤ 65536
+pub read_small : (f w w' : List ℕ) (r : Result (Unit {0}) Refusal) → ReadsFile wide f w w' r → r ≡ Ok tt → length f ≤ 65536
 unfolding Ends max_file
 read_small f w w' r h q = go (reading_in wide f (length w)) refl h.ends
   where
@@ -80,7 +77,7 @@ read_small f w w' r h q = go (reading_in wide f (length w)) refl h.ends
     go (refused i) e g = let p = g.1 in let z : ◌≡◌ {A = ℕ} 0 1 = cc in absurd (omega arith)
     go (described d) e g = ((says_exactly wide f d).0 (enough_words wide f (length w) d e)).size
 
-module _ (f w w₁ w' buf buf' : List ℕ) (a : Account) (r : Read) (o : Settled) (h : ReadsFile wide f w w₁ r) (q : r ≡ Read.Accepted)
+module _ (f w w₁ w' buf buf' : List ℕ) (a : Account) (r : Result (Unit {0}) Refusal) (o : Settled) (h : ReadsFile wide f w w₁ r) (q : r ≡ Ok tt)
     (runs : RunsQueries f w₁ buf a buf' o) where
   ran : Told buf buf' o.outcome (decide_at f (length w) a).decided × (o.account ≡ (decide_at f (length w) a).account)
   unfolding Ends decide_read_at min_words
@@ -105,8 +102,8 @@ record Stood (buf buf₁ : List ℕ) (n : ℕ) (x : Decided) : Type 0 where
   fits : length text ≤ length buf
   there : take n buf₁ ≡ text
 
-module _ (buf buf₁ : List ℕ) (r : Outcome) where
-  stood : (n : ℕ) → r ≡ Outcome.Accepted n → (x : Decided) → Told buf buf₁ r x → Stood buf buf₁ n x
+module _ (buf buf₁ : List ℕ) (r : Result ℕ Refusal) where
+  stood : (n : ℕ) → r ≡ Ok n → (x : Decided) → Told buf buf₁ r x → Stood buf buf₁ n x
   unfolding Told
   stood n q (turned_down i) t = let p = t.1 in let z : ◌≡◌ {A = ℕ} 0 1 = cc in absurd (omega arith)
   stood n q (answered ls) t = cases (ltb (length buf) (length ls))
@@ -116,7 +113,7 @@ module _ (buf buf₁ : List ℕ) (r : Outcome) where
       let m : n ≡ length ls = cc in
       record { text = ls; is = refl; long = m; fits = ltb-false (length buf) (length ls) b; there = rw m p.1 })
 
-  turned_down_lem : (e : Refusal) → r ≡ Outcome.Refused e → (x : Decided) → Told buf buf₁ r x → (words : ℕ)
+  turned_down_lem : (e : Refusal) → r ≡ Err e → (x : Decided) → Told buf buf₁ r x → (words : ℕ)
       → finish x words (length buf) ≡ refuse (refusal e) words (length buf)
   unfolding Told finish
   turned_down_lem e q (turned_down i) t words = let p = t.1 in let same : e ≡ t.0 = cc in ap (λ j. refuse j words (length buf))
@@ -127,11 +124,11 @@ module _ (buf buf₁ : List ℕ) (r : Outcome) where
       (λ b. let p = (t.0 (ltb-false (length buf) (length ls) b)).0 in let z : ◌≡◌ {A = ℕ} 0 1 = cc in absurd (omega arith))
 
 module _ {x : Decided} {w buf w₁ buf₁ w' buf' : List ℕ} (words : length w₁ ≡ length w) (bytes : length buf₁ ≡ length buf) where
-  refused_cleared : (e : Refusal) → Told buf buf₁ (Outcome.Refused e) x → Clears (Outcome.Refused e) w₁ buf₁ w' buf'
-      → Finishes x w buf w' buf' (Outcome.Refused e)
+  refused_cleared : (e : Refusal) → Told buf buf₁ (Err e) x → Clears (Err e) w₁ buf₁ w' buf'
+      → Finishes x w buf w' buf' (Err e)
   unfolding refuse
   refused_cleared e t c =
-      let is = turned_down_lem buf buf₁ (Outcome.Refused e) e refl x t (length w) in
+      let is = turned_down_lem buf buf₁ (Err e) e refl x t (length w) in
       let n : length buf₁ - 0 ≡ length buf = omega arith in
       record {
         result = sym (ap Defined.Outcome.result is);
@@ -140,11 +137,11 @@ module _ {x : Decided} {w buf w₁ buf₁ w' buf' : List ℕ} (words : length w�
         ends = λ m p. let z : ◌≡◌ {A = ℕ} 0 1 = cc in absurd (omega arith);
       }
 
-  accepted_cleared : (n : ℕ) → Told buf buf₁ (Outcome.Accepted n) x → Clears (Outcome.Accepted n) w₁ buf₁ w' buf'
-      → Finishes x w buf w' buf' (Outcome.Accepted n)
+  accepted_cleared : (n : ℕ) → Told buf buf₁ (Ok n) x → Clears (Ok n) w₁ buf₁ w' buf'
+      → Finishes x w buf w' buf' (Ok n)
   unfolding finish accept
   accepted_cleared n t c =
-      let y = stood buf buf₁ (Outcome.Accepted n) n refl x t in
+      let y = stood buf buf₁ (Ok n) n refl x t in
       let is : finish x (length w) (length buf) ≡ accept y.text (length w) (length buf) =
       ap (λ d. finish d (length w) (length buf)) y.is ∙ rw (le-ltb (length buf) (length y.text) y.fits, finish) in
       let rest : length buf₁ - n ≡ length buf - length y.text = omega (arith, y.long) in
@@ -162,35 +159,32 @@ module _ {x : Decided} {w buf w₁ buf₁ w' buf' : List ℕ} (words : length w�
             );
       }
 
-  pub cleared : (r : Outcome) → Told buf buf₁ r x → Clears r w₁ buf₁ w' buf' → Finishes x w buf w' buf' r
-  cleared (Outcome.Accepted n) t c = accepted_cleared n t c
-  cleared (Outcome.Refused e) t c = refused_cleared e t c
+  pub cleared : (r : Result ℕ Refusal) → Told buf buf₁ r x → Clears r w₁ buf₁ w' buf' → Finishes x w buf w' buf' r
+  cleared (Ok n) t c = accepted_cleared n t c
+  cleared (Err e) t c = refused_cleared e t c
 
 -- ---- The calls
 
 -- Without a desk it is the call of document 01.
-pub checks_file : {f w buf w₁ buf₁ w' buf' : List ℕ} {a : Account} {s : Settled} → a ≡ open_account → RunsFile f w buf a w₁ buf₁ s
+pub checks_file : {f w buf w₁ buf₁ w' buf' : List ℕ} {s : Settled} → RunsFile f w buf Account.Open w₁ buf₁ s
     → Clears s.outcome w₁ buf₁ w' buf' → ChecksFile f w buf w' buf' s.outcome
 unfolding outcome
-checks_file {f} {w} {buf} {w' = w'} {buf' = buf'} {a = a} {s = s} e h c =
+checks_file {f} {w} {buf} {w' = w'} {buf' = buf'} {s = s} h c =
     let y : Finishes (decide f (length w)) w buf w' buf' s.outcome = cleared h.words h.bytes s.outcome
-    (subst (Told _ _ s.outcome) (open_decides f (length w) a (ap (λ x. x.bounded) e)) h.told) c in
+    (subst (Told _ _ s.outcome) (open_decides f (length w)) h.told) c in
     record { result = y.result; work = y.work; answer = y.answer; ends = y.ends }
 
 pub checks_at : {g : Group} {d : ℕ} {f w buf w₁ buf₁ w' buf' : List ℕ} {s : Settled} {r : Desked} → At g d → RunsFile f w buf (desk_account g d) w₁ buf₁ s
-    → Clears s.outcome w₁ buf₁ w' buf' → r ≡ record { group = s.account.group; outcome = s.outcome } → ChecksAt g d f w buf w' buf' r
+    → Clears s.outcome w₁ buf₁ w' buf' → r ≡ record { group = group_in s.account; outcome = s.outcome } → ChecksAt g d f w buf w' buf' r
 checks_at {s = s} i h c e = rw e (record {
   outside = λ o. absurd (o i);
-  inside = λ _. (cleared h.words h.bytes s.outcome h.told c, ap (λ x. x.group) h.account);
+  inside = λ _. (cleared h.words h.bytes s.outcome h.told c, ap group_in h.account);
 })
 
-pub not_at : {g : Group} {d : ℕ} {b : Bool} → IsAt g d b → b ≡ false → At g d → ⊥
-not_at h e a = let t = h.1 a in let z : ◌≡◌ {A = ℕ} 0 1 = cc in omega arith
-
-pub checks_none : {g : Group} {d : ℕ} {f w buf w' buf' : List ℕ} {r : Desked} → (At g d → ⊥) → Clears (Outcome.Refused Refusal.OutsideTheRules) w buf w' buf'
-    → r ≡ record { group = g; outcome = Outcome.Refused Refusal.OutsideTheRules } → ChecksAt g d f w buf w' buf' r
+pub checks_none : {g : Group} {d : ℕ} {f w buf w' buf' : List ℕ} {r : Desked} → (At g d → ⊥) → Clears (Err Refusal.OutsideTheRules) w buf w' buf'
+    → r ≡ record { group = g; outcome = Err Refusal.OutsideTheRules } → ChecksAt g d f w buf w' buf' r
 unfolding Told
 checks_none o c e = rw e (record {
-  outside = λ _. (cleared refl refl (Outcome.Refused Refusal.OutsideTheRules) (Refusal.OutsideTheRules, refl, refl) c, refl);
+  outside = λ _. (cleared refl refl (Err Refusal.OutsideTheRules) (Refusal.OutsideTheRules, refl, refl) c, refl);
   inside = λ i. absurd (o i);
 })

@@ -1,14 +1,11 @@
 -- Without a desk every ceiling is that of document 01 and nothing is charged, so what is decided is what document 01 has.
-use mathlib.Core.Bool.{Bool, true, false}
 use mathlib.Core.List.{List, [], ◌∷◌}
-use mathlib.Core.Option.{Option, none, some}
-use mathlib.Core.Path.{◌≡◌, refl, sym, ap, subst, ◌∙◌}
+use mathlib.Core.Path.{◌≡◌, refl, sym, ap, ◌∙◌}
 use Prim.Native.Nat.{ℕ, ◌<◌, ◌≤◌}
+use native.Mathlib.Omega.{arith}
 use borrow.Author.Tests.{lt-ltb, le-ltb}
 use lib.Dec.{ltb}
-use Rattle.cabinet.specs.declared.Account.{Account}
-use Rattle.cabinet.specs.Accounts.{ceiling_in, charged_to}
-use Rattle.cabinet.proofs.Accounts.{open_ceiling, open_charged}
+use Rattle.cabinet.specs.declared.Account.TheVariants as Account
 use Rattle.meaning.specs.Refusal.{too_many_visits, ceiling_passed}
 use Rattle.meaning.specs.Syntax.{Ast}
 use Rattle.meaning.specs.Schema.{Schema}
@@ -18,22 +15,23 @@ use Rattle.meaning.specs.Diag.{Message}
 use Rattle.meaning.specs.Messages.{text_in}
 use Rattle.meaning.specs.Outcome.{min_words, max_visits, with_checked, run_all, decide_run, decide_read, decide}
 use Rattle.meaning.proofs.Tests.{cases}
-use Rattle.desk.specs.At.{End, all, stopped, stop_at, first, RunAt, after, run_at, decide_end, decide_read_at, decide_at}
+use Rattle.desk.specs.At.{End, all, stopped, stop_at, first, after, run_at, decide_end, decide_read_at, decide_at}
+use Rattle.std.specs.Prelude.{None, Option, Some}
 
 -- An end, as document 01 has it.
 unfoldable ended : Option (List Typed) → End
-ended none = stopped too_many_visits
-ended (some ts) = all ts
+ended None = stopped too_many_visits
+ended (Some ts) = all ts
 
 first_ended : (t : Typed) (o : Option (List Typed)) → first t (ended o) ≡ ended (with_checked (typed t) o)
 unfolding ended with_checked
-first_ended t none = refl
-first_ended t (some ts) = refl
+first_ended t None = refl
+first_ended t (Some ts) = refl
 
 decide_ended : (text : Message → List ℕ) (o : Option (List Typed)) → decide_end text (ended o) ≡ decide_run text o
 unfolding ended decide_run
-decide_ended text none = refl
-decide_ended text (some ts) = refl
+decide_ended text None = refl
+decide_ended text (Some ts) = refl
 
 pub stop_under : (c : ℕ) → c < 1048576 → ceiling_passed ≡ stop_at c
 unfolding stop_at max_visits
@@ -43,29 +41,20 @@ pub stop_limit : (c : ℕ) → 1048576 ≤ c → too_many_visits ≡ stop_at c
 unfolding stop_at max_visits
 stop_limit c l = rw (le-ltb c 1048576 l, stop_at)
 
-stop_open : stop_at max_visits ≡ too_many_visits
-unfolding stop_at max_visits
-stop_open = refl
-
-module _ (a : Account) (e : a.bounded ≡ false) where
-  limit : ceiling_in a ≡ max_visits
-  unfolding max_visits
-  limit = open_ceiling a e
-
-  open_run : (schema : Schema) (qs : List Ast) → (run_at schema qs a).end ≡ ended (run_all schema qs)
-  unfolding run_at run_all ended with_checked
-  open_run schema [] = refl
-  open_run schema (q ∷ qs) = ap (λ n. (after a (check n schema q) (λ b. run_at schema qs b)).end) limit ∙ go (check max_visits schema q) (open_run schema qs)
-    where
-      go : (c : Checked) → (run_at schema qs a).end ≡ ended (run_all schema qs)
-          → (after a c (λ b. run_at schema qs b)).end ≡ ended (with_checked c (run_all schema qs))
-      go exhausted h = ap (λ n. stopped (stop_at n)) limit ∙ ap stopped stop_open
-      go (typed t) h = ap (λ b. first t (run_at schema qs b).end) (open_charged a t.visits e) ∙ ap (first t) h ∙ first_ended t (run_all schema qs)
-
-pub open_decides : (f : List ℕ) (words : ℕ) (a : Account) → a.bounded ≡ false → (decide_at f words a).decided ≡ decide f words
-unfolding decide_at decide decide_read_at decide_read
-open_decides f words a e = cases (ltb words min_words) (λ q. rw (q, decide_at, decide)) (λ q. rw (q, decide_at, decide) (go (reading f)))
+open_run : (schema : Schema) (qs : List Ast) → (run_at schema qs Account.Open).end ≡ ended (run_all schema qs)
+unfolding run_at run_all ended with_checked max_visits
+open_run schema [] = refl
+open_run schema (q ∷ qs) = go (check max_visits schema q) (open_run schema qs)
   where
-    go : (x : Reading) → (decide_read_at x a).decided ≡ decide_read x
+    go : (c : Checked) → (run_at schema qs Account.Open).end ≡ ended (run_all schema qs)
+        → (after Account.Open c (λ b. run_at schema qs b)).end ≡ ended (with_checked c (run_all schema qs))
+    go exhausted h = ap stopped (sym (stop_limit 1048576 (omega arith)))
+    go (typed t) h = ap (first t) h ∙ first_ended t (run_all schema qs)
+
+pub open_decides : (f : List ℕ) (words : ℕ) → (decide_at f words Account.Open).decided ≡ decide f words
+unfolding decide_at decide decide_read_at decide_read
+open_decides f words = cases (ltb words min_words) (λ q. rw (q, decide_at, decide)) (λ q. rw (q, decide_at, decide) (go (reading f)))
+  where
+    go : (x : Reading) → (decide_read_at x Account.Open).decided ≡ decide_read x
     go (refused i) = refl
-    go (described d) = ap (decide_end (text_in d)) (open_run a e d.schema d.queries) ∙ decide_ended (text_in d) (run_all d.schema d.queries)
+    go (described d) = ap (decide_end (text_in d)) (open_run d.schema d.queries) ∙ decide_ended (text_in d) (run_all d.schema d.queries)

@@ -24,20 +24,16 @@ use Rattle.reading.specs.Promises.{refusal}
 use Rattle.reading.specs.declared.Refusal as Refusal
 use Rattle.reading.specs.declared.Refusal.TheVariants as Variants
 use Rattle.cabinet.specs.declared.Account.{Account}
-use Rattle.cabinet.specs.Accounts.{ceiling_in, charged_to, Good}
-use Rattle.cabinet.proofs.Accounts.{good_charged}
+use Rattle.cabinet.specs.Accounts.{ceiling_in, charged_to}
+use Rattle.desk.proofs.Turning.{triple_parts}
 use Rattle.desk.specs.At.{End, all, stopped, stop_at, first, RunAt, after, run_at, decide_end}
 use Rattle.loading.specs.Promises.{Ahead}
 use Rattle.loading.proofs.Lines.{query_ahead, all_ahead}
-use Rattle.writer.specs.declared.Wrote.{Wrote}
-use Rattle.writer.specs.declared.Wrote.TheVariants.{To, Full}
-use Rattle.desk.specs.declared.Turn.{Turn}
-use Rattle.desk.specs.declared.Turn.TheVariants as Turn
-use Rattle.desk.specs.declared.Outcome.{Outcome}
-use Rattle.desk.specs.declared.Outcome.TheVariants as Outcome
 use Rattle.desk.specs.Turns.{head_line, several, Follows, Turned, Turns, Continues}
 use Rattle.desk.proofs.Continuing.{continues_none, continues_to, continues_as, continues_then, after_full, whole_there, whole_over}
 use Rattle.desk.specs.Promises.{Told, RunsQueries}
+use Rattle.std.specs.Prelude.{Err, None, Ok, Option, Result, Some, ℕ, ok_or}
+use Rattle.reading.specs.declared.Refusal.{Refusal}
 
 -- ---- The lines of queries, from number k on
 
@@ -102,7 +98,7 @@ resumed ts x = record { account = x.account; end = firsts ts x.end }
 
 -- ---- Between two turns
 
-record Telling (f : List ℕ) (form : Form) (a₀ : Account) (w out₀ out : List ℕ) (at k : ℕ) (page : Wrote) (a : Account) : Type 0 where
+record Telling (f : List ℕ) (form : Form) (a₀ : Account) (w out₀ out : List ℕ) (at k : ℕ) (page : Option ℕ) (a : Account) : Type 0 where
   before : List Ast
   left : List Ast
   ts : List Typed
@@ -116,23 +112,21 @@ record Telling (f : List ℕ) (form : Form) (a₀ : Account) (w out₀ out : Lis
   stands : SchemaStands f w rows form.names form.schema
   written : Continues out₀ 0 (lines_of (text_in form) (ltb 1 (length form.queries)) 0 ts) out page
 
-pub record Midway (f : List ℕ) (a₀ : Account) (w₀ out₀ w out : List ℕ) (at k : ℕ) (page : Wrote) (a : Account) : Type 0 where
+pub record Midway (f : List ℕ) (a₀ : Account) (w₀ out₀ w out : List ℕ) (at k : ℕ) (page : Option ℕ) (a : Account) : Type 0 where
   pub words : length w ≡ length w₀
   pub few : k ≤ at
   pub within : at ≤ length f
   pub small : length f ≤ 65536
-  pub good : Good a
   is : (T : Rows) (form : Form) → reading f ≡ described form → min_words ≤ length w₀ → SchemaStands f w₀ T form.names form.schema
       → Telling f form a₀ w out₀ out at k page a
 
-pub midway_start : (f w out : List ℕ) (a : Account) → length f ≤ 65536 → Good a → Midway f a w out w out 0 0 (To 0) a
+pub midway_start : (f w out : List ℕ) (a : Account) → length f ≤ 65536 → Midway f a w out w out 0 0 (Some 0) a
 unfolding lines_of max_file resumed firsts
-midway_start f w out a small good = record {
+midway_start f w out a small = record {
   words = refl;
   few = omega arith;
   within = omega arith;
   small = small;
-  good = good;
   is = λ T form e l S. record {
     before = [];
     left = form.queries;
@@ -150,17 +144,17 @@ midway_start f w out a small good = record {
 }
 
 -- The page goes on from wherever it stands.
-goes_on : {out₀ a out : List ℕ} {page : Wrote} {b out' : List ℕ} {r : Wrote} → Continues out₀ 0 a out page → Follows out page b out' r
+goes_on : {out₀ a out : List ℕ} {page : Option ℕ} {b out' : List ℕ} {r : Option ℕ} → Continues out₀ 0 a out page → Follows out page b out' r
     → Continues out₀ 0 (a ++ b) out' r
 goes_on {out₀} {a} {out} {page} {b} {out'} {r} f g = go page refl
   where
-    go : (p : Wrote) → page ≡ p → Continues out₀ 0 (a ++ b) out' r
-    go (To n) e = continues_then f e (g.1 n e (omega (arith, (continues_to f e).1, f.long)))
-    go Full e = subst (Continues out₀ 0 (a ++ b) out') (sym (g.2 e)) (after_full f e b out' (g.0 ∙ f.long))
+    go : (p : Option ℕ) → page ≡ p → Continues out₀ 0 (a ++ b) out' r
+    go (Some n) e = continues_then f e (g.1 n e (omega (arith, (continues_to f e).1, f.long)))
+    go None e = subst (Continues out₀ 0 (a ++ b) out') (sym (g.2 e)) (after_full f e b out' (g.0 ∙ f.long))
 
-module _ {f : List ℕ} {a₀ : Account} {w₀ out₀ w out : List ℕ} {at k : ℕ} {page : Wrote} {acc : Account} (m : Midway f a₀ w₀ out₀ w out at k page acc) where
+module _ {f : List ℕ} {a₀ : Account} {w₀ out₀ w out : List ℕ} {at k : ℕ} {page : Option ℕ} {acc : Account} (m : Midway f a₀ w₀ out₀ w out at k page acc) where
   -- ---- A turn
-  module _ (here : at < length f) {ceiling : ℕ} (its : ceiling ≡ ceiling_in acc) {w' out' : List ℕ} {r : Turn}
+  module _ (here : at < length f) {ceiling : ℕ} (its : ceiling ≡ ceiling_in acc) {w' out' : List ℕ} {r : Option (ℕ × Option ℕ × ℕ)}
       (given : Turns f at k ceiling w out page w' out' r)
       (long : length w' ≡ length w) where
     t : Turns f at k (ceiling_in acc) w out page w' out' r
@@ -193,7 +187,7 @@ module _ {f : List ℕ} {a₀ : Account} {w₀ out₀ w out : List ℕ} {at k : 
           }
 
       -- it ran to its end, and its lines follow
-      one_told : (next : ℕ) (p : Wrote) (v : ℕ) → r ≡ Turn.On next p v → Telling f form a₀ w' out₀ out' next (k + 1) p (charged_to acc v)
+      one_told : (next : ℕ) (p : Option ℕ) (v : ℕ) → r ≡ Some (next, p, v) → Telling f form a₀ w' out₀ out' next (k + 1) p (charged_to acc v)
       unfolding Turned view_of run_at resumed
       one_told next p v e = ends (check (ceiling_in acc) form.schema next_one.a) refl next_one.turned
         where
@@ -214,10 +208,10 @@ module _ {f : List ℕ} {a₀ : Account} {w₀ out₀ w out : List ℕ} {at k : 
               → Telling f form a₀ w' out₀ out' next (k + 1) p (charged_to acc v)
           ends exhausted q z = let clash : ◌≡◌ {A = ℕ} 0 1 = cc in absurd (omega arith)
           ends (typed u) q z =
-              let same : Turn.On z.0 z.1 u.visits ≡ Turn.On next p v = sym z.2 ∙ e in
-              let place : z.0 ≡ next = cc in
-              let to : z.1 ≡ p = cc in
-              let made : u.visits ≡ v = cc in
+              let same : Some (z.0, z.1, u.visits) ≡ Some (next, p, v) = sym z.2 ∙ e in
+              let place : z.0 ≡ next = (triple_parts same).0 in
+              let to : z.1 ≡ p = (triple_parts same).1 in
+              let made : u.visits ≡ v = (triple_parts same).2 in
               let rest : RunAt = run_at form.schema y.qs (charged_to acc u.visits) in
               let went : run_at form.schema (y.a ∷ y.qs) acc ≡ after acc (typed u) (λ b. run_at form.schema y.qs b) = ap
               (λ c. after acc c (λ b. run_at form.schema y.qs b)) q in
@@ -242,7 +236,7 @@ module _ {f : List ℕ} {a₀ : Account} {w₀ out₀ w out : List ℕ} {at k : 
                     (continues_as (sym (lines_snoc (text_in form) m₀ 0 x.ts u)) (goes_on x.written follows));
               }
 
-      one_out : r ≡ Turn.Out → run_at form.schema form.queries a₀ ≡ record
+      one_out : r ≡ None → run_at form.schema form.queries a₀ ≡ record
           { account = charged_to acc (ceiling_in acc); end = stopped (stop_at (ceiling_in acc)) }
       unfolding Turned run_at resumed
       one_out e = ends (check (ceiling_in acc) form.schema next_one.a) refl next_one.turned
@@ -253,10 +247,10 @@ module _ {f : List ℕ} {a₀ : Account} {w₀ out₀ w out : List ℕ} {at k : 
           ends exhausted q z =
               next_one.runs ∙ ap (λ c. resumed x.ts (after acc c (λ b. run_at form.schema next_one.qs b))) q
               ∙ ap {B = RunAt} (λ e. record { account = charged_to acc (ceiling_in acc); end = e }) (firsts_stopped x.ts (stop_at (ceiling_in acc)))
-          ends (typed u) q z = let same : Turn.On z.0 z.1 u.visits ≡ Turn.Out = sym z.2 ∙ e in let clash : ◌≡◌ {A = ℕ} 0 1 = cc in absurd
+          ends (typed u) q z = let same : Some (z.0, z.1, u.visits) ≡ None = sym z.2 ∙ e in let clash : ◌≡◌ {A = ℕ} 0 1 = cc in absurd
               (omega arith)
 
-    pub midway_on : (next : ℕ) (p : Wrote) (v : ℕ) → r ≡ Turn.On next p v → {acc' : Account} → acc' ≡ charged_to acc v
+    pub midway_on : (next : ℕ) (p : Option ℕ) (v : ℕ) → r ≡ Some (next, p, v) → {acc' : Account} → acc' ≡ charged_to acc v
         → Midway f a₀ w₀ out₀ w' out' next (k + 1) p acc'
     midway_on next p v e paid =
         let on = t.onward here next p v e in
@@ -265,16 +259,15 @@ module _ {f : List ℕ} {a₀ : Account} {w₀ out₀ w out : List ℕ} {at k : 
           few = omega (arith, m.few, on.0);
           within = on.1;
           small = m.small;
-          good = good_charged acc v m.good (t.few next p v e);
           is = λ T form q l S. one_told form l (m.is T form q l S) next p v e;
         })
 
-    pub midway_out : r ≡ Turn.Out → {last : Account} → last ≡ charged_to acc ceiling → {e : Refusal.Refusal} → refusal e ≡ stop_at ceiling
-        → RunsQueries f w₀ out₀ a₀ out' (record { account = last; outcome = Outcome.Refused e })
+    pub midway_out : r ≡ None → {last : Account} → last ≡ charged_to acc ceiling → {e : Refusal.Refusal} → refusal e ≡ stop_at ceiling
+        → RunsQueries f w₀ out₀ a₀ out' (record { account = last; outcome = Err e })
     unfolding Told
     midway_out o {last} paid {e} i = record {
       told = λ T form q l S. let y = one_out form l (m.is T form q l S) o in (
-        subst (λ x. Told out₀ out' (Outcome.Refused e) (decide_end (text_in form) x.end)) (sym y) (e, refl, i ∙ ap stop_at its),
+        subst (λ x. Told out₀ out' (Err e) (decide_end (text_in form) x.end)) (sym y) (e, refl, i ∙ ap stop_at its),
         paid ∙ ap (charged_to acc) its ∙ sym (ap RunAt.account y),
       );
     }
@@ -301,7 +294,7 @@ module _ {f : List ℕ} {a₀ : Account} {w₀ out₀ w out : List ℕ} {at k : 
               continues_as (ap (λ n. lines_of (text_in form) (ltb 1 n) 0 x.ts) count ∙ sym (form_lines_lem (text_in form) x.ts)) x.written,
             )
 
-    module _ (o : Outcome) (tell : (ls : List ℕ) → Continues out₀ 0 ls out page → Told out₀ out o (answered ls)) where
+    module _ (o : Result ℕ Refusal) (tell : (ls : List ℕ) → Continues out₀ 0 ls out page → Told out₀ out o (answered ls)) where
       by_page : RunsQueries f w₀ out₀ a₀ out (record { account = acc; outcome = o })
       by_page = record {
         told = λ T form q l S. let y = at_end_lem T form q l S in (
@@ -310,11 +303,18 @@ module _ {f : List ℕ} {a₀ : Account} {w₀ out₀ w out : List ℕ} {at k : 
         );
       }
 
-    pub midway_fits : (n : ℕ) → page ≡ To n → RunsQueries f w₀ out₀ a₀ out (record { account = acc; outcome = Outcome.Accepted n })
+    pub midway_fits : (n : ℕ) → page ≡ Some n → RunsQueries f w₀ out₀ a₀ out (record { account = acc; outcome = Ok n })
     unfolding Told
-    midway_fits n p = by_page (Outcome.Accepted n)
-        (λ ls g. let h = whole_there g p in ((λ l. (ap Outcome.Accepted h.0, rw (← h.0) h.2)), λ l. absurd (omega (arith, h.0, h.1))))
+    midway_fits n p = by_page (Ok n)
+        (λ ls g. let h = whole_there g p in ((λ l. (ap Ok h.0, rw (← h.0) h.2)), λ l. absurd (omega (arith, h.0, h.1))))
 
-    pub midway_full : page ≡ Full → RunsQueries f w₀ out₀ a₀ out (record { account = acc; outcome = Outcome.Refused Variants.AnswerTooLong })
+    pub midway_full : page ≡ None → RunsQueries f w₀ out₀ a₀ out (record { account = acc; outcome = Err Variants.AnswerTooLong })
     unfolding Told
-    midway_full p = by_page (Outcome.Refused Variants.AnswerTooLong) (λ ls g. ((λ l. absurd (omega (arith, whole_over g p))), λ l. refl))
+    midway_full p = by_page (Err Variants.AnswerTooLong) (λ ls g. ((λ l. absurd (omega (arith, whole_over g p))), λ l. refl))
+
+    pub midway_ends : RunsQueries f w₀ out₀ a₀ out (record { account = acc; outcome = ok_or page Variants.AnswerTooLong })
+    midway_ends = go page refl
+      where
+        go : (p : Option ℕ) → page ≡ p → RunsQueries f w₀ out₀ a₀ out (record { account = acc; outcome = ok_or p Variants.AnswerTooLong })
+        go None e = midway_full e
+        go (Some n) e = midway_fits n e

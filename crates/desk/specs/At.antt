@@ -62,4 +62,4 @@ unfolding decide_read_at reading_of min_words
 decide_at file words a = elim (ltb words min_words) [ true ↦ record { account = a; decided = turned_down work_too_short } | false ↦ decide_read_at (reading file) a ]
 
 abbrev pub desk_account : Group → ℕ → Account
-desk_account g d = record { bounded = true; desk = d; group = g }
+desk_account g d = Account.At (record { group = g; desk = d })

@@ -1,10 +1,9 @@
 -- Days at the desks: the groups that whole calls lead to, and an answer at a desk beside the answer without one.
-use Rattle.std.specs.Prelude.{false, List, ◌∷◌, ◌≡◌, ℕ, ◌<◌}
+use Rattle.std.specs.Prelude.{Result, Ok, List, ◌∷◌, ◌≡◌, ℕ, ◌<◌}
 use Rattle.cabinet.specs.declared.Group.{Group}
-use Rattle.cabinet.specs.declared.Changed.{Changed}
 use Rattle.cabinet.specs.declared.Account.{Account}
 use Rattle.cabinet.specs.Accounts.{ceiling_in, charged_to}
-use Rattle.cabinet.specs.Promises.{Rests, SetsUp}
+use Rattle.cabinet.specs.Promises.{Rests, SetsUp, left}
 use Rattle.meaning.specs.Syntax.{Ast}
 use Rattle.meaning.specs.Schema.{Schema}
 use Rattle.meaning.specs.Check.{Typed, typed, exhausted, check}
@@ -13,9 +12,9 @@ use Rattle.desk.specs.Promises.{ChecksAt}
 
 -- Any list of calls from a set-up that is not turned down: files checked at any desks, in any slices, whatever comes of it, and new days.
 pub data Days : Group → Type 0 where
-  set_up_lem : (pool : ℕ) (shares caps : List ℕ) (r : Changed) → SetsUp pool shares caps r → r.refused ≡ false → Days r.group
+  set_up_lem : (pool : ℕ) (shares caps : List ℕ) {g : Group} → SetsUp pool shares caps (Ok g) → Days g
   check_at_lem : {g : Group} → Days g → (d : ℕ) (f w out w' out' : List ℕ) (r : Desked) → ChecksAt g d f w out w' out' r → Days r.group
-  new_day : {g : Group} → Days g → (r : Changed) → Rests g r → Days r.group
+  new_day : {g : Group} → Days g → (r : Result Group Group) → Rests g r → Days (left r)
 
 -- The first query that passes its ceiling of that moment, those before it having been charged: wherever it ends, it makes more visits.
 pub data ShortOf (schema : Schema) : List Ast → Account → Type 0 where

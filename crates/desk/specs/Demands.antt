@@ -1,15 +1,14 @@
 -- Document 01's three demands of the whole call (meaning/specs/Demands.antt) as a caller of `check_file` sees them. The theorems stand in
 -- proofs/Demands.antt.
-use Rattle.std.specs.Prelude.{List, [], ◌∷◌, ◌++◌, ◌≡◌, ℕ, ◌-◌, length, take, replicate}
+use Rattle.std.specs.Prelude.{List, [], ◌∷◌, ◌++◌, ◌≡◌, ℕ, ◌-◌, length, take, replicate, Err, Ok, Result}
 use Rattle.meaning.specs.Refusal.{Refusal, number}
 use Rattle.meaning.specs.File.{Form}
 use Rattle.meaning.specs.Check.{Typed}
 use Rattle.meaning.specs.Messages.{text_in}
 use Rattle.meaning.specs.Answer.{form_lines, hex_line}
 use Rattle.meaning.specs.Demands.{RefusedWhen, AcceptedWhen, Zeros}
+use Rattle.reading.specs.declared.Refusal as Reading
 use Rattle.reading.specs.Promises.{refusal}
-use Rattle.desk.specs.declared.Outcome as Called
-use Rattle.desk.specs.declared.Outcome.TheVariants as Call
 
 pub record CallRefused (f w out w' out' : List ℕ) (i : Refusal) : Type 0 where
   pub when : RefusedWhen f (length w) (length out) i
@@ -25,7 +24,7 @@ pub record CallAccepted (f w out w' out' : List ℕ) (n : ℕ) : Type 0 where
   pub answer : out' ≡ form_lines (text_in form) ts ++ replicate (length out - n) 0
 
 -- What the program prints of a call: the answer's bytes, or the refusal's line.
-unfoldable pub shown : Called.Outcome → List ℕ → List ℕ
+unfoldable pub shown : Result ℕ Reading.Refusal → List ℕ → List ℕ
 unfolding hex_line number
-shown (Call.Accepted n) out' = take n out'
-shown (Call.Refused e) out' = hex_line (0x0f ∷ number (refusal e) ∷ [])
+shown (Ok n) out' = take n out'
+shown (Err e) out' = hex_line (0x0f ∷ number (refusal e) ∷ [])

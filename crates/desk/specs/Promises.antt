@@ -1,5 +1,6 @@
 -- What the functions of src/ promise: the whole call is the one of meaning/specs/Outcome.antt, for every file and every two slices.
-use Rattle.std.specs.Prelude.{List, ◌++◌, ◌≡◌, ℕ, ◌-◌, ◌<◌, ◌≤◌, length, take, replicate}
+use Rattle.std.specs.Prelude as Std
+use Rattle.std.specs.Prelude.{List, ◌++◌, ◌≡◌, ℕ, ◌-◌, ◌<◌, ◌≤◌, length, take, replicate, Err, Ok}
 use Rattle.cells.specs.Stands.{Rows}
 use Rattle.meaning.specs.File.{Form, described, reading}
 use Rattle.meaning.specs.Messages.{text_in}
@@ -13,24 +14,23 @@ use Rattle.meaning.specs.Refusal.{outside_the_rules}
 use Rattle.cabinet.specs.declared.Account.{Account}
 use Rattle.cabinet.specs.declared.Group.{Group}
 use Rattle.cabinet.specs.Promises.{At}
+use Rattle.cabinet.specs.Accounts.{group_in}
 use Rattle.desk.specs.At.{run_at, decide_end, decide_at, desk_account}
 use Rattle.desk.specs.declared.Settled.{Settled}
 use Rattle.desk.specs.declared.Desked.{Desked}
-use Rattle.desk.specs.declared.Outcome.{Outcome}
-use Rattle.desk.specs.declared.Outcome.TheVariants as Outcome
 
 -- The result as the definition has it, which leaves the answer's length out.
-abbrev pub result_of : Outcome → Result
-result_of (Outcome.Accepted n) = Defined.Accepted
-result_of (Outcome.Refused e) = Defined.Refused (refusal e)
+abbrev pub result_of : Std.Result ℕ Refusal → Result
+result_of (Ok n) = Defined.Accepted
+result_of (Err e) = Defined.Refused (refusal e)
 
 -- How a call ends before the slices are cleared, by what is decided: the refusal; or the answer stands at the start of the answer slice,
 -- unless it is longer than the slice.
-unfoldable pub Told : List ℕ → List ℕ → Outcome → Decided → Type 0
-Told out out' r (turned_down e) = (e' : Refusal) × (r ≡ Outcome.Refused e') × (refusal e' ≡ e)
+unfoldable pub Told : List ℕ → List ℕ → Std.Result ℕ Refusal → Decided → Type 0
+Told out out' r (turned_down e) = (e' : Refusal) × (r ≡ Err e') × (refusal e' ≡ e)
 Told out out' r (answered ls) =
-    (length ls ≤ length out → (r ≡ Outcome.Accepted (length ls)) × (take (length ls) out' ≡ ls))
-    × (length out < length ls → r ≡ Outcome.Refused Refusal.AnswerTooLong)
+    (length ls ≤ length out → (r ≡ Ok (length ls)) × (take (length ls) out' ≡ ls))
+    × (length out < length ls → r ≡ Err Refusal.AnswerTooLong)
 
 -- The queries of a described form whose schema and names stand in the words, and what they are charged to.
 pub record RunsQueries (f w out : List ℕ) (a : Account) (out' : List ℕ) (r : Settled) : Type 0 where
@@ -44,32 +44,32 @@ pub record RunsFile (f w out : List ℕ) (a : Account) (w' out' : List ℕ) (r :
   pub bytes : length out' ≡ length out
 
 -- The bytes that a call keeps.
-abbrev pub kept : Outcome → ℕ
-kept (Outcome.Accepted n) = n
-kept (Outcome.Refused e) = 0
+abbrev pub kept : Std.Result ℕ Refusal → ℕ
+kept (Ok n) = n
+kept (Err e) = 0
 
-pub record Clears (r : Outcome) (w out w' out' : List ℕ) : Type 0 where
+pub record Clears (r : Std.Result ℕ Refusal) (w out w' out' : List ℕ) : Type 0 where
   pub words : w' ≡ replicate (length w) 0
   pub bytes : out' ≡ take (kept r) out ++ replicate (length out - kept r) 0
 
 -- A call that came to what is decided, with both slices cleared; where the file is accepted, the answer is the first n bytes of the answer
 -- slice.
-pub record Finishes (x : Decided) (w out w' out' : List ℕ) (r : Outcome) : Type 0 where
+pub record Finishes (x : Decided) (w out w' out' : List ℕ) (r : Std.Result ℕ Refusal) : Type 0 where
   pub result : result_of r ≡ (finish x (length w) (length out)).result
   pub work : w' ≡ (finish x (length w) (length out)).work
   pub answer : out' ≡ (finish x (length w) (length out)).answer
-  pub ends : (n : ℕ) → r ≡ Outcome.Accepted n → (n ≤ length out) × (x ≡ answered (take n out'))
+  pub ends : (n : ℕ) → r ≡ Ok n → (n ≤ length out) × (x ≡ answered (take n out'))
 
 -- The whole call, as the definition has it for the file and the two lengths alone; and where the file is accepted, the answer is the
 -- first n bytes of the answer slice.
-pub record ChecksFile (f w out w' out' : List ℕ) (r : Outcome) : Type 0 where
+pub record ChecksFile (f w out w' out' : List ℕ) (r : Std.Result ℕ Refusal) : Type 0 where
   pub result : result_of r ≡ (outcome f (length w) (length out)).result
   pub work : w' ≡ (outcome f (length w) (length out)).work
   pub answer : out' ≡ (outcome f (length w) (length out)).answer
-  pub ends : (n : ℕ) → r ≡ Outcome.Accepted n → (n ≤ length out) × (decide f (length w) ≡ answered (take n out'))
+  pub ends : (n : ℕ) → r ≡ Ok n → (n ≤ length out) × (decide f (length w) ≡ answered (take n out'))
 
 -- The call at a desk. "17 for a desk number [..] outside the rules, or a group handed in that breaks them [..], before 1, the group unchanged";
 -- else it is as the definition has it, and the group is charged.
 pub record ChecksAt (g : Group) (d : ℕ) (f w out w' out' : List ℕ) (r : Desked) : Type 0 where
   pub outside : (At g d → ⊥) → Finishes (turned_down outside_the_rules) w out w' out' r.outcome × (r.group ≡ g)
-  pub inside : At g d → Finishes (decide_at f (length w) (desk_account g d)).decided w out w' out' r.outcome × (r.group ≡ (decide_at f (length w) (desk_account g d)).account.group)
+  pub inside : At g d → Finishes (decide_at f (length w) (desk_account g d)).decided w out w' out' r.outcome × (r.group ≡ group_in (decide_at f (length w) (desk_account g d)).account)

@@ -1,5 +1,5 @@
 -- A query's turn: what its own lines are in the answer, and what it leaves for the next one.
-use Rattle.std.specs.Prelude.{Bool, true, false, List, [], ◌∷◌, ◌++◌, ◌≡◌, ℕ, zero, suc, ◌+◌, ◌≤◌, ◌<◌, ltb, length, take}
+use Rattle.std.specs.Prelude.{Bool, true, false, List, [], ◌∷◌, ◌++◌, ◌≡◌, ℕ, zero, suc, ◌+◌, ◌≤◌, ◌<◌, ltb, length, take, None, Option, Some}
 use Rattle.cells.specs.Stands.{Rows}
 use Rattle.meaning.specs.Syntax.{Ast}
 use Rattle.meaning.specs.File.{Described}
@@ -10,22 +10,12 @@ use Rattle.meaning.specs.Answer.{bytes₂, hex_line, answer_lines}
 use Rattle.meaning.specs.Outcome.{min_words}
 use Rattle.tree.specs.Stands.{SchemaStands, Stands}
 use Rattle.loading.specs.Promises.{Ahead}
-use Rattle.writer.specs.declared.Wrote.{Wrote}
-use Rattle.writer.specs.declared.Wrote.TheVariants.{To, Full}
-use Rattle.desk.specs.declared.Ended.{Ended}
-use Rattle.desk.specs.declared.Ended.TheVariants as Ended
-use Rattle.desk.specs.declared.Turn.{Turn}
-use Rattle.desk.specs.declared.Turn.TheVariants as Turn
 
 -- ---- Places
 
-pub record Least (a b r : ℕ) : Type 0 where
-  pub within : r ≤ b
-  pub is : a ≤ b → r ≡ a
-
-pub record Place (page : Wrote) (room r : ℕ) : Type 0 where
+pub record Place (page : Option ℕ) (room r : ℕ) : Type 0 where
   pub within : r ≤ room
-  pub is : (n : ℕ) → page ≡ To n → n ≤ room → r ≡ n
+  pub is : (n : ℕ) → page ≡ Some n → n ≤ room → r ≡ n
 
 -- ---- Lines
 
@@ -47,40 +37,40 @@ pub record OneOfSeveral (k next end : ℕ) (r : Bool) : Type 0 where
 
 -- A text stands from a place on, and what stood before it stays, or the slice is too short; the rest of the slice may be anything, since
 -- a run leaves lines there that change places.
-pub record Continues (out : List ℕ) (at : ℕ) (text out' : List ℕ) (r : Wrote) : Type 0 where
-  pub fits : at + length text ≤ length out → (r ≡ To (at + length text)) × (take (at + length text) out' ≡ take at out ++ text)
-  pub over : length out < at + length text → r ≡ Full
+pub record Continues (out : List ℕ) (at : ℕ) (text out' : List ℕ) (r : Option ℕ) : Type 0 where
+  pub fits : at + length text ≤ length out → (r ≡ Some (at + length text)) × (take (at + length text) out' ≡ take at out ++ text)
+  pub over : length out < at + length text → r ≡ None
   pub long : length out' ≡ length out
 
 -- A text is written after what stands on the page.
-abbrev pub Follows : List ℕ → Wrote → List ℕ → List ℕ → Wrote → Type 0
-Follows out page text out' r = (length out' ≡ length out) × ((n : ℕ) → page ≡ To n → n ≤ length out → Continues out n text out' r) × (page ≡ Full → r ≡ Full)
+abbrev pub Follows : List ℕ → Option ℕ → List ℕ → List ℕ → Option ℕ → Type 0
+Follows out page text out' r = (length out' ≡ length out) × ((n : ℕ) → page ≡ Some n → n ≤ length out → Continues out n text out' r) × (page ≡ None → r ≡ None)
 
 -- ---- The run and its lines
 
 -- The visits ran out; or the answer's lines stand at the start of the slice, and the schema stands as before.
-unfoldable pub Answered : List ℕ → List ℕ → List ℕ → List ℕ → Ended → Described → Checked → Type 0
-Answered f out w' out' r d exhausted = r ≡ Ended.Out
-Answered f out w' out' r d (typed t) = (a : Wrote) × (r ≡ Ended.Lines a t.visits) × ((T : Rows) × SchemaStands f w' T d.names d.schema) × Continues out 0 (answer_lines (message_text d.names d.schema) t) out' a
+unfoldable pub Answered : List ℕ → List ℕ → List ℕ → List ℕ → Option (Option ℕ × ℕ) → Described → Checked → Type 0
+Answered f out w' out' r d exhausted = r ≡ None
+Answered f out w' out' r d (typed t) = (a : Option ℕ) × (r ≡ Some (a, t.visits)) × ((T : Rows) × SchemaStands f w' T d.names d.schema) × Continues out 0 (answer_lines (message_text d.names d.schema) t) out' a
 
-pub record Answers (f w : List ℕ) (ceiling : ℕ) (out w' out' : List ℕ) (r : Ended) : Type 0 where
+pub record Answers (f w : List ℕ) (ceiling : ℕ) (out w' out' : List ℕ) (r : Option (Option ℕ × ℕ)) : Type 0 where
   pub is : (T : Rows) (d : Described) → Sound d → Stands f w T d → Answered f out w' out' r d (check ceiling d.schema d.ast)
-  pub few : (a : Wrote) (visits : ℕ) → r ≡ Ended.Lines a visits → visits ≤ ceiling
+  pub few : (a : Option ℕ) (visits : ℕ) → r ≡ Some (a, visits) → visits ≤ ceiling
   pub words : length w' ≡ length w
   pub bytes : length out' ≡ length out
 
 -- ---- The turn
 
 -- The visits ran out; or the query's lines follow, the schema stands as before, and the others lie ahead.
-unfoldable pub Turned : List ℕ → ℕ → List ℕ → Wrote → List ℕ → List ℕ → Turn → Described → List Ast → Checked → Type 0
-Turned f k out page w' out' r d qs exhausted = r ≡ Turn.Out
+unfoldable pub Turned : List ℕ → ℕ → List ℕ → Option ℕ → List ℕ → List ℕ → Option (ℕ × Option ℕ × ℕ) → Described → List Ast → Checked → Type 0
+Turned f k out page w' out' r d qs exhausted = r ≡ None
 Turned f k out page w' out' r d qs (typed t) =
-    (next : ℕ) × (written : Wrote) × (r ≡ Turn.On next written t.visits) × Ahead f next qs × ((T : Rows) × SchemaStands f w' T d.names d.schema)
+    (next : ℕ) × (written : Option ℕ) × (r ≡ Some (next, written, t.visits)) × Ahead f next qs × ((T : Rows) × SchemaStands f w' T d.names d.schema)
     × Follows out page (head_line (several k qs) k ++ answer_lines (message_text d.names d.schema) t) out' written
 
 -- For every input the place goes forward within the file; and where the query lies ahead, its run is the definition's.
-pub record Turns (f : List ℕ) (at k ceiling : ℕ) (w out : List ℕ) (page : Wrote) (w' out' : List ℕ) (r : Turn) : Type 0 where
-  pub onward : at < length f → (next : ℕ) (written : Wrote) (visits : ℕ) → r ≡ Turn.On next written visits → (at < next) × (next ≤ length f)
-  pub few : (next : ℕ) (written : Wrote) (visits : ℕ) → r ≡ Turn.On next written visits → visits ≤ ceiling
+pub record Turns (f : List ℕ) (at k ceiling : ℕ) (w out : List ℕ) (page : Option ℕ) (w' out' : List ℕ) (r : Option (ℕ × Option ℕ × ℕ)) : Type 0 where
+  pub onward : at < length f → (next : ℕ) (written : Option ℕ) (visits : ℕ) → r ≡ Some (next, written, visits) → (at < next) × (next ≤ length f)
+  pub few : (next : ℕ) (written : Option ℕ) (visits : ℕ) → r ≡ Some (next, written, visits) → visits ≤ ceiling
   pub is : (T : Rows) (d : Described) (qs : List Ast) → Sound d → min_words ≤ length w → SchemaStands f w T d.names d.schema → Ahead f at (d.ast ∷ qs)
       → Turned f k out page w' out' r d qs (check ceiling d.schema d.ast)

@@ -5,63 +5,35 @@ ghost use Rattle.std.specs.Prelude.{[], ◌∷◌, ◌≡◌, ◌-◌, ◌<◌, 
 ghost use Rattle.meaning.specs.Refusal.{number};
 ghost use Rattle.meaning.specs.Answer.{hex_line};
 ghost use Rattle.reading.specs.Promises.{refusal};
-ghost use Rattle.desk.specs.Turns.{head_line, Follows, Least, Place, OneOfSeveral, Answers, Turns};
-ghost use Rattle.cabinet.specs.Accounts.{Good};
+ghost use Rattle.desk.specs.Turns.{head_line, Follows, Place, OneOfSeveral, Answers, Turns};
 ghost use Rattle.desk.specs.At.{stop_at};
 ghost use Rattle.desk.specs.Promises.{RunsQueries, RunsFile, Clears, ChecksFile, ChecksAt};
 
 use cabinet::{Account, Group};
-use reading::{Counters, Read, Refusal};
-use state::{Done, Until};
-use writer::Wrote;
-
-#[derive(Clone, Copy)]
-pub enum Outcome {
-    Accepted(usize),
-    Refused(Refusal),
-}
-
-// How a query's run ends: its visits ran out, or where its lines end and the visits that it made.
-#[derive(Drop)]
-pub enum Ended {
-    Lines(Wrote, u32),
-    Out,
-}
-
-// How a query's turn ends: where the next one starts, what is written by then and the visits that it made, or its visits ran out.
-#[derive(Drop)]
-pub enum Turn {
-    On(usize, Wrote, u32),
-    Out,
-}
+use reading::{Counters, Edition, Refusal};
+use state::Until;
 
 // How a file's queries end, and what they were charged to.
 #[derive(Drop)]
 pub struct Settled {
     pub account: Account,
-    pub outcome: Outcome,
+    pub outcome: Result<usize, Refusal>,
 }
 
 // How a call at a desk ends, and the group after it.
 #[derive(Drop)]
 pub struct Desked {
     pub group: Group,
-    pub outcome: Outcome,
-}
-
-fn least(a: usize, b: usize) -> usize
-    ensures { Least a b result }
-{
-    if a < b { a } else { b }
+    pub outcome: Result<usize, Refusal>,
 }
 
 // Where the next byte goes in a slice of this room; a full one has no room left.
-fn place(page: Wrote, room: usize) -> usize
+fn place(page: Option<usize>, room: usize) -> usize
     ensures { Place page room result }
 {
     match page {
-        Wrote::To(n) => least(n, room),
-        Wrote::Full => room,
+        Some(n) => n.min(room),
+        None => room,
     }
 }
 
@@ -69,21 +41,15 @@ fn place(page: Wrote, room: usize) -> usize
 fn is_one_of_several(k: u32, next: usize, end: usize) -> bool
     ensures { OneOfSeveral k next end result }
 {
-    if 0 < k {
-        return true;
-    }
-    next < end
+    0 < k || next < end
 }
 
 // The line with the query's number, if there are several.
-fn heading(out: &mut [u8], page: Wrote, k: u32, several: bool) -> Wrote
+fn heading(out: &mut [u8], page: Option<usize>, k: u32, several: bool) -> Option<usize>
     ensures { Follows out.old page (head_line several k) out.new result }
 {
     if several {
-        match page {
-            Wrote::To(n) => answer::number_line(out, n, k),
-            Wrote::Full => Wrote::Full,
-        }
+        answer::number_line(out, page?, k)
     } else {
         page
     }
@@ -93,21 +59,21 @@ fn heading(out: &mut [u8], page: Wrote, k: u32, several: bool) -> Wrote
 pub fn made(ceiling: u32, left: u32) -> u32
     ensures { result ≡ ceiling - left }
 {
-    if left < ceiling { ceiling - left } else { 0 }
+    ceiling.saturating_sub(left)
 }
 
 // The run of the query that is loaded, and its answer from the start of the slice on.
-fn answer_query(file: &[u8], work: &mut [u32], ceiling: u32, out: &mut [u8]) -> Ended
+fn answer_query(
+    file: &[u8],
+    work: &mut [u32],
+    ceiling: u32,
+    out: &mut [u8],
+) -> Option<(Option<usize>, u32)>
     ensures { Answers file.now work.old ceiling out.old work.new out.new result }
 {
-    let d = checker::query(file, work, Until::TheEnd, ceiling, out);
-    match d {
-        Done::Out => Ended::Out,
-        Done::On(left) => {
-            let visits = made(ceiling, left);
-            Ended::Lines(answer::write(file, work, out, visits), visits)
-        }
-    }
+    let left = checker::query(file, work, Until::TheEnd, ceiling, out)?;
+    let visits = made(ceiling, left);
+    Some((answer::write(file, work, out, visits), visits))
 }
 
 // One query, from its lines to its answer. Where the slice is full it still runs, for its visits.
@@ -118,8 +84,8 @@ fn one_query(
     ceiling: u32,
     work: &mut [u32],
     out: &mut [u8],
-    page: Wrote,
-) -> Turn
+    page: Option<usize>,
+) -> Option<(usize, Option<usize>, u32)>
     ensures { Turns file.now at k ceiling work.old out.old page work.new out.new result }
 {
     let next = loading::load(file, at, work);
@@ -127,16 +93,13 @@ fn one_query(
     let head = heading(out, page, k, several);
     let from = place(head, out.len());
     let rest = out.len() - from;
-    let e = answer_query(file, work, ceiling, &mut out[from..]);
-    match e {
-        Ended::Lines(a, visits) => match head {
-            Wrote::To(_) => match a {
-                Wrote::To(n) => Turn::On(next, Wrote::To(from + least(n, rest)), visits),
-                Wrote::Full => Turn::On(next, Wrote::Full, visits),
-            },
-            Wrote::Full => Turn::On(next, Wrote::Full, visits),
+    let (lines, visits) = answer_query(file, work, ceiling, &mut out[from..])?;
+    match head {
+        Some(_) => match lines {
+            Some(n) => Some((next, Some(from + n.min(rest)), visits)),
+            None => Some((next, None, visits)),
         },
-        Ended::Out => Turn::Out,
+        None => Some((next, None, visits)),
     }
 }
 
@@ -154,78 +117,59 @@ fn stop(ceiling: u32) -> Refusal
 // The queries of a file that was read, one after the other, each under the ceiling that those before it left: 11 or 16 of any of them, then
 // 12 of them all.
 fn all_queries(file: &[u8], work: &mut [u32], out: &mut [u8], account: Account) -> Settled
-    requires { (length file.now ≤ 65536) × Good account }
+    requires { length file.now ≤ 65536 }
     ensures { RunsQueries file.now work.old out.old account out.new result }
 {
     let mut charged = account;
     let mut at: usize = 0;
     let mut k: u32 = 0;
-    let mut page = Wrote::To(0);
+    let mut page = Some(0);
     while at < file.len() {
-        let ceiling = cabinet::next_ceiling(charged);
-        let t = one_query(file, at, k, ceiling, work, out, page);
-        match t {
-            Turn::On(next, written, visits) => {
-                charged = cabinet::charge_to(charged, visits);
-                at = next;
-                page = written;
-                k += 1;
-            }
-            Turn::Out => {
-                let last = cabinet::charge_to(charged, ceiling);
-                return Settled {
-                    account: last,
-                    outcome: Outcome::Refused(stop(ceiling)),
-                };
-            }
-        }
+        let ceiling = charged.next_ceiling();
+        let Some((next, written, visits)) = one_query(file, at, k, ceiling, work, out, page) else {
+            let last = charged.charge(ceiling);
+            return Settled {
+                account: last,
+                outcome: Err(stop(ceiling)),
+            };
+        };
+        charged = charged.charge(visits);
+        at = next;
+        page = written;
+        k += 1;
     }
-    match page {
-        Wrote::To(n) => Settled {
-            account: charged,
-            outcome: Outcome::Accepted(n),
-        },
-        Wrote::Full => Settled {
-            account: charged,
-            outcome: Outcome::Refused(Refusal::AnswerTooLong),
-        },
+    Settled {
+        account: charged,
+        outcome: page.ok_or(Refusal::AnswerTooLong),
     }
 }
 
 // Both slices hold anything afterwards, but for the answer.
 fn run(file: &[u8], work: &mut [u32], out: &mut [u8], account: Account) -> Settled
-    requires { Good account }
     ensures { RunsFile file.now work.old out.old account work.new out.new result }
 {
-    let r = reading::read_file(file, work, true);
+    let r = reading::read_file(file, work, Edition::Wide);
     match r {
-        Read::Refused(e) => Settled {
+        Err(e) => Settled {
             account: account,
-            outcome: Outcome::Refused(e),
+            outcome: Err(e),
         },
-        Read::Accepted => all_queries(file, work, out, account),
+        Ok(()) => all_queries(file, work, out, account),
     }
 }
 
 // The work slice, and what stands after the answer.
-pub fn clear_after(r: Outcome, work: &mut [u32], out: &mut [u8])
+pub fn clear_after(r: Result<usize, Refusal>, work: &mut [u32], out: &mut [u8])
     ensures { Clears r work.old out.old work.new out.new }
 {
     work::clear(work);
-    match r {
-        Outcome::Accepted(n) => {
-            work::clear_bytes(out, n);
-        }
-        Outcome::Refused(_) => {
-            work::clear_bytes(out, 0);
-        }
-    }
+    work::clear_bytes(out, r.unwrap_or(0));
 }
 
-pub fn check_file(file: &[u8], work: &mut [u32], out: &mut [u8]) -> Outcome
+pub fn check_file(file: &[u8], work: &mut [u32], out: &mut [u8]) -> Result<usize, Refusal>
     ensures { ChecksFile file.now work.old out.old work.new out.new result }
 {
-    let s = run(file, work, out, cabinet::open_account());
+    let s = run(file, work, out, Account::Open);
     let r = s.outcome;
     clear_after(r, work, out);
     r
@@ -235,23 +179,16 @@ pub fn check_file(file: &[u8], work: &mut [u32], out: &mut [u8]) -> Outcome
 pub fn check_at(g: Group, desk: usize, file: &[u8], work: &mut [u32], out: &mut [u8]) -> Desked
     ensures { ChecksAt g desk file.now work.old out.old work.new out.new result }
 {
-    if cabinet::is_at(g, desk) {
-        let a = Account {
-            bounded: true,
-            desk: desk,
-            group: g,
-        };
-        let s = run(file, work, out, a);
+    if let Some(seat) = g.seat(desk) {
+        let s = run(file, work, out, Account::At(seat));
         let r = s.outcome;
         clear_after(r, work, out);
-        let b = s.account;
-        let after = b.group;
         return Desked {
-            group: after,
+            group: s.account.group(),
             outcome: r,
         };
     }
-    let r = Outcome::Refused(Refusal::OutsideTheRules);
+    let r = Err(Refusal::OutsideTheRules);
     clear_after(r, work, out);
     Desked {
         group: g,

@@ -3,7 +3,6 @@
 -- (`stops_at`).
 use mathlib.Core.List.{List, [], ◌∷◌, ◌++◌}
 use mathlib.Core.Logic.{◌↔◌}
-use mathlib.Core.Option.{Option, none, some}
 use mathlib.Core.Path.{◌≡◌, refl, sym, ap, ◌∙◌, subst}
 use Prim.Native.Nat.{ℕ, zero, suc, ◌+◌, ◌<◌, ◌≤◌}
 use native.Mathlib.Omega.{arith}
@@ -30,6 +29,7 @@ use Rattle.meaning.proofs.Sound.{sound}
 use Rattle.laws.proofs.Agree.{Lit, dark_goes, dark_out, shines}
 use Rattle.laws.proofs.Until.{run_until_lem}
 use Rattle.entries.specs.Entries.{entries_of, entries_all, nth, found, turned_down, among, sought_run, sought_read, entry_at}
+use Rattle.std.specs.Prelude.{None, Option, Some}
 
 -- ---- Lists, the oldest first
 
@@ -60,7 +60,7 @@ unfolding nth
 nth_later [] ys n = let e : 0 + n ≡ n = omega arith in rw e
 nth_later (x ∷ xs) ys n = let e : length (x ∷ xs) + n ≡ suc (length xs + n) = omega arith in rw e (nth_later xs ys n)
 
-pub nth_none : {A : Type 0} (xs : List A) (n : ℕ) → length xs ≤ n → nth xs n ≡ none
+pub nth_none : {A : Type 0} (xs : List A) (n : ℕ) → length xs ≤ n → nth xs n ≡ None
 unfolding nth
 nth_none [] n h = refl
 nth_none (x ∷ xs) zero h = absurd (omega arith)
@@ -81,7 +81,7 @@ module _ (schema : Schema) (a : Ast) where
     pub newest : at.entries ≡ here ∷ older
     pub count : length older ≡ n
     pub before : here.before ≡ at.state.subst
-    pub nth_is : nth (entries_of schema a) n ≡ some here
+    pub nth_is : nth (entries_of schema a) n ≡ Some here
 
   module _ (ty : Ty) (c : Checker) (e : run schema a max_visits ≡ goes ty c) where
     -- The entries are those of the checker in which it ends.
@@ -119,7 +119,7 @@ module _ (schema : Schema) (a : Ast) where
 
 -- It is one of a run that goes to its end.
 abbrev pub Reached : Entry → Type 0
-Reached e = (nodes : ℕ) × EntryLed max_visits (replicate nodes none) e
+Reached e = (nodes : ℕ) × EntryLed max_visits (replicate nodes None) e
 
 all_reversed : {A : Type 0} (P : A → Type 0) (xs ys : List A) → All P xs → All P ys → All P (reversed xs ys)
 unfolding reversed
@@ -130,7 +130,7 @@ all_append : {A : Type 0} (P : A → Type 0) (xs ys : List A) → All P xs → A
 all_append P [] ys h i = i
 all_append P (x ∷ xs) ys h i = (h.0, all_append P xs ys h.1 i)
 
-all_nth : {A : Type 0} (P : A → Type 0) (xs : List A) (n : ℕ) (x : A) → All P xs → nth xs n ≡ some x → P x
+all_nth : {A : Type 0} (P : A → Type 0) (xs : List A) (n : ℕ) (x : A) → All P xs → nth xs n ≡ Some x → P x
 unfolding nth
 all_nth P [] n x h e = clash (cc e)
 all_nth P (y ∷ ys) zero x h e = let q : y ≡ x = cc e in subst P q h.0
@@ -148,7 +148,7 @@ module _ (form : Form) where
       go : (x : Step Ty) → run form.schema a max_visits ≡ x → All Reached (entries_of form.schema a)
       go (goes ty c) e =
           rw (entries_are form.schema a ty c e) (all_reversed Reached c.entries []
-          (all_with_lem (EntryLed max_visits (replicate (length a.nodes) none)) Reached c.entries (λ x h. (length a.nodes, h))
+          (all_with_lem (EntryLed max_visits (replicate (length a.nodes) None)) Reached c.entries (λ x h. (length a.nodes, h))
           (run_entries form.schema a (sound_well_formed (view_of form a) s) max_visits ty c e)) tt)
       go (out c) e = let z : checked max_visits (out c) ≡ typed t = ap (checked max_visits) (sym e) ∙ r in clash (cc z)
 
@@ -172,13 +172,13 @@ module _ (file : List ℕ) (n words : ℕ) where
       same {i} = (λ e. let z : i ≡ r = cc in ap turned_down z, λ e. let z : i ≡ r = cc in ap Outcome.turned_down z)
 
       never : (o : Option Entry) → among o ≡ turned_down r → ⊥
-      never none e = clash (cc e)
-      never (some x) e = clash (cc e)
+      never None e = clash (cc e)
+      never (Some x) e = clash (cc e)
 
       run_by : (schema : Schema) (qs : List Ast) (f : Form) (o : Option (List Typed))
           → (decide_run (text_in f) o ≡ Outcome.turned_down r) ↔ (sought_run schema qs n o ≡ turned_down r)
-      run_by schema qs f none = same
-      run_by schema qs f (some ts) = (λ e. clash (cc e), λ e. absurd (never (nth (entries_all schema qs) n) e))
+      run_by schema qs f None = same
+      run_by schema qs f (Some ts) = (λ e. clash (cc e), λ e. absurd (never (nth (entries_all schema qs) n) e))
 
       read : (x : Reading) → (decide_read x ≡ Outcome.turned_down r) ↔ (sought_read n x ≡ turned_down r)
       read (refused i) = same
@@ -190,9 +190,9 @@ module _ (file : List ℕ) (n words : ℕ) where
   sought_led e z = cases (ltb words min_words) (λ q. let k : turned_down _ ≡ found e = rw (q, entry_at) at z in clash (cc k))
       (λ q. read (reading file) refl (rw (q, entry_at) at z))
     where
-      is_some : (o : Option Entry) → among o ≡ found e → o ≡ some e
-      is_some none h = clash (cc h)
-      is_some (some x) h = let k : x ≡ e = cc h in ap some k
+      is_some : (o : Option Entry) → among o ≡ found e → o ≡ Some e
+      is_some None h = clash (cc h)
+      is_some (Some x) h = let k : x ≡ e = cc h in ap Some k
 
       by : (f : Form) → reading file ≡ described f → {o : Option (List Typed)} → Runs f.schema f.queries o
           → sought_run f.schema f.queries n o ≡ found e → Reached e

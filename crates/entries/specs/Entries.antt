@@ -1,8 +1,7 @@
 -- Card 12: "the n-th entry to `unify` from outside it, counted from 0 over the file's run". The run of a file is its queries' runs in order, with one
 -- count; each entry has its sides and the bindings right before it. Entries that fail, that are rolled back later, or that have Error on a side are
 -- entries too.
-use Rattle.std.specs.Prelude.{true, false, List, [], ◌∷◌, ◌++◌, ℕ, zero, suc, ltb}
-use Rattle.std.proofs.Math.Option.{Option, none, some}
+use Rattle.std.specs.Prelude.{true, false, List, [], ◌∷◌, ◌++◌, ℕ, zero, suc, ltb, None, Option, Some}
 use Rattle.unification.specs.Calls.{Entry}
 use Rattle.meaning.specs.Syntax.{Ast}
 use Rattle.meaning.specs.Schema.{Schema}
@@ -23,8 +22,8 @@ entries_all schema [] = []
 entries_all schema (a ∷ more) = entries_of schema a ++ entries_all schema more
 
 unfoldable pub nth : {A : Type 0} → List A → ℕ → Option A
-nth [] n = none
-nth (x ∷ xs) zero = some x
+nth [] n = None
+nth (x ∷ xs) zero = Some x
 nth (x ∷ xs) (suc n) = nth xs n
 
 pub data Sought : Type 0 where
@@ -33,14 +32,14 @@ pub data Sought : Type 0 where
   turned_down : Refusal → Sought
 
 unfoldable pub among : Option Entry → Sought
-among none = fewer
-among (some e) = found e
+among None = fewer
+among (Some e) = found e
 
 -- "11 also where the visits run out only after the n-th": the whole file is run.
 unfoldable pub sought_run : Schema → List Ast → ℕ → Option (List Typed) → Sought
 unfolding entries_all nth among
-sought_run schema qs n none = turned_down too_many_visits
-sought_run schema qs n (some ts) = among (nth (entries_all schema qs) n)
+sought_run schema qs n None = turned_down too_many_visits
+sought_run schema qs n (Some ts) = among (nth (entries_all schema qs) n)
 
 unfoldable pub sought_read : ℕ → Reading → Sought
 unfolding sought_run run_all

@@ -1,64 +1,44 @@
 -- Reading a line from its start: the bytes read so far, in front of what the line holds from here on, are what it holds.
 use mathlib.Core.Bool.{Bool, true, false}
 use mathlib.Core.List.{List, [], ◌∷◌, ◌++◌, append-nil}
-use mathlib.Core.Option.{Option, none, some}
-use mathlib.Core.Path.{◌≡◌, refl, sym, ap, subst, ◌∙◌}
+use mathlib.Core.Path.{◌≡◌, refl, sym, ap, ◌∙◌}
 use Prim.Native.Nat.{ℕ, ◌+◌, ◌*◌, ◌<◌, ◌≤◌}
 use native.Mathlib.Numerals.{add-one}
 use native.Mathlib.Omega.{arith}
 use lib.Dec.{ltb}
 use lib.ListN.{length, get_or, take, drop, set, length-append, length-set}
 use lib.Seq.{take-suc-set, length-take-le}
-use borrow.Author.Tests.{ltb-true, ltb-false}
 use Rattle.meaning.specs.Lines.{LF, lines, digit, decoded, some_bytes}
-use Rattle.sigla_hex.specs.Digits.{or_else, digit_w, byte_of, pair_at, first_line, line_at}
-use Rattle.sigla_hex.proofs.Line.{is_digit_lem, no_digit, pair_within, pair_past, pair_below, head_line, others, decoded_line, decoded_at, others_at, prefixed}
+use Rattle.sigla_hex.specs.Digits.{byte_of, pair_at, first_line, line_at}
+use Rattle.sigla_hex.proofs.Line.{no_some, pair_within, pair_past, decoded_none, lines_at_end, head_line, others, decoded_line, decoded_at, others_at, prefixed}
 use Rattle.sigla_hex.proofs.Line.{prefixed_nil, prefixed_twice, lines_at_LF, lines_split, decoded_on, others_on}
 use Rattle.sigla_hex.proofs.Bytes.{From, ends, from, bytes_of_lem, bytes_enough, bytes_too_many}
-use Rattle.frames.specs.declared.lines.Decoded.TheVariants.{Bytes, Bad}
 use Rattle.frames.specs.Promises.{BytesAt, Malformed, Decodes}
+use Rattle.std.specs.Prelude.{None, Option, Some}
 
 -- ---- Two digits
 
 module _ (f : List ℕ) (i : ℕ) where
-  pub past : length f ≤ i + 1 → 256 ≡ or_else 256 (pair_at f i)
-  past h = sym (ap (or_else 256) (pair_past f i h))
-
-  pub no_high : 16 ≤ digit_w (get_or f i 0) → 256 ≡ or_else 256 (pair_at f i)
-  unfolding byte_of
-  no_high h = go (ltb (i + 1) (length f)) refl
+  pub no_high : digit (get_or f i 0) ≡ None → None ≡ pair_at f i
+  unfolding pair_at byte_of
+  no_high e = go (ltb (i + 1) (length f))
     where
-      go : (t : Bool) → ltb (i + 1) (length f) ≡ t → 256 ≡ or_else 256 (pair_at f i)
-      go true e = sym (ap (or_else 256) (pair_within f i (ltb-true (i + 1) (length f) e) ∙ ap (λ o. byte_of o (digit (get_or f (i + 1) 0)))
-          (no_digit (get_or f i 0) h)))
-      go false e = past (ltb-false (i + 1) (length f) e)
+      go : (t : Bool) → ◌≡◌ {A = Option ℕ} None (elim t [ true ↦ byte_of (digit (get_or f i 0)) (digit (get_or f (i + 1) 0)) | false ↦ None ])
+      go true = rw e
+      go false = refl
 
-  module _ (room : i + 1 < length f) (high : digit_w (get_or f i 0) < 16) where
-    byte_low : (o : Option ℕ) → digit (get_or f (i + 1) 0) ≡ o → pair_at f i ≡ byte_of (some (digit_w (get_or f i 0))) o
-    byte_low o e = pair_within f i room ∙ ap (λ h. byte_of h (digit (get_or f (i + 1) 0))) (is_digit_lem (get_or f i 0) high) ∙ ap
-        (byte_of (some (digit_w (get_or f i 0)))) e
+  module _ {h : ℕ} (high : digit (get_or f i 0) ≡ Some h) where
+    pub no_low : digit (get_or f (i + 1) 0) ≡ None → None ≡ pair_at f i
+    unfolding pair_at byte_of
+    no_low e = go (ltb (i + 1) (length f))
+      where
+        go : (t : Bool) → ◌≡◌ {A = Option ℕ} None (elim t [ true ↦ byte_of (digit (get_or f i 0)) (digit (get_or f (i + 1) 0)) | false ↦ None ])
+        go true = rw (high, e)
+        go false = refl
 
-    pub no_low : 16 ≤ digit_w (get_or f (i + 1) 0) → 256 ≡ or_else 256 (pair_at f i)
+    pub both_digits : {l : ℕ} → i + 1 < length f → digit (get_or f (i + 1) 0) ≡ Some l → Some (h * 16 + l) ≡ pair_at f i
     unfolding byte_of
-    no_low h = sym (ap (or_else 256) (byte_low none (no_digit (get_or f (i + 1) 0) h)))
-
-    pub both_digits : digit_w (get_or f (i + 1) 0) < 16 → digit_w (get_or f i 0) * 16 + digit_w (get_or f (i + 1) 0) ≡ or_else 256 (pair_at f i)
-    unfolding byte_of
-    both_digits h = sym (ap (or_else 256) (byte_low (some (digit_w (get_or f (i + 1) 0))) (is_digit_lem (get_or f (i + 1) 0) h)))
-
-  pub found : or_else 256 (pair_at f i) < 256 → pair_at f i ≡ some (or_else 256 (pair_at f i))
-  found h = go (pair_at f i) h
-    where
-      go : (o : Option ℕ) → or_else 256 o < 256 → o ≡ some (or_else 256 o)
-      go none h = absurd (omega arith)
-      go (some b) h = refl
-
-  pub missing : 256 ≤ or_else 256 (pair_at f i) → pair_at f i ≡ none
-  missing h = go (pair_at f i) refl h
-    where
-      go : (o : Option ℕ) → pair_at f i ≡ o → 256 ≤ or_else 256 o → o ≡ none
-      go none e h = refl
-      go (some b) e h = absurd (omega (arith, pair_below f i b e))
+    both_digits room low = rw (pair_within f i room, high, low)
 
 -- ---- The walk
 
@@ -74,7 +54,7 @@ pub at_start : (f : List ℕ) (at : ℕ) (line : List ℕ) → length line ≡ 5
 at_start f at line e = record { from = omega arith; most = omega arith; room = e; holds = sym (prefixed_nil (decoded_at f at)); then = refl }
 
 module _ {f : List ℕ} {at : ℕ} {line : List ℕ} {i n : ℕ} (r : SoFar f at line i n) where
-  pub one_on : (b : ℕ) → n < 512 → pair_at f i ≡ some b → SoFar f at (set line n b) (i + 2) (n + 1)
+  pub one_on : (b : ℕ) → n < 512 → pair_at f i ≡ Some b → SoFar f at (set line n b) (i + 2) (n + 1)
   one_on b h e =
       let within : n < length line = omega (arith, r.room) in
       let longer : take (n + 1) (set line n b) ≡ take n line ++ (b ∷ []) = rw add-one (take-suc-set line n b within) in
@@ -88,7 +68,7 @@ module _ {f : List ℕ} {at : ℕ} {line : List ℕ} {i n : ℕ} (r : SoFar f at
       }
 
   module _ (begins : at < length f) where
-    malformed : some_bytes (decoded_at f at) ≡ none → Malformed f at
+    malformed : some_bytes (decoded_at f at) ≡ None → Malformed f at
     malformed e = record {
       first = head_line (lines (drop at f));
       rest = others_at f at;
@@ -96,19 +76,19 @@ module _ {f : List ℕ} {at : ℕ} {line : List ℕ} {i n : ℕ} (r : SoFar f at
       bytes = bytes_of_lem (head_line (lines (drop at f))) ∙ e;
     }
 
-    pub no_bytes : decoded_at f i ≡ none → Malformed f at
+    pub no_bytes : decoded_at f i ≡ None → Malformed f at
     unfolding some_bytes
     no_bytes e = malformed (ap some_bytes (r.holds ∙ ap (prefixed (take n line)) e))
 
     module _ (here : i < length f) where
-      closed_here : get_or f i 0 ≡ LF → decoded_at f at ≡ some (take n line)
+      closed_here : get_or f i 0 ≡ LF → decoded_at f at ≡ Some (take n line)
       unfolding decoded
-      closed_here e = r.holds ∙ ap (prefixed (take n line)) (ap (λ ls. decoded_line (head_line ls)) (lines_at_LF f i here e)) ∙ ap some
+      closed_here e = r.holds ∙ ap (prefixed (take n line)) (ap (λ ls. decoded_line (head_line ls)) (lines_at_LF f i here e)) ∙ ap Some
           (append-nil (take n line))
 
       pub empty : get_or f i 0 ≡ LF → n ≡ 0 → Malformed f at
       unfolding some_bytes
-      empty e z = malformed (ap some_bytes (closed_here e ∙ ap (λ k. some (take k line)) z))
+      empty e z = malformed (ap some_bytes (closed_here e ∙ ap (λ k. Some (take k line)) z))
 
       pub whole : get_or f i 0 ≡ LF → (n ≡ 0 → ⊥) → BytesAt f at line n (i + 1)
       whole e z =
@@ -133,31 +113,27 @@ module _ {f : List ℕ} {at : ℕ} {line : List ℕ} {i n : ℕ} (r : SoFar f at
           not_here : From f i [] → ⊥
           not_here (ends h q) = other q
 
-          go : (o : Option (List ℕ)) → decoded_at f i ≡ o → some_bytes (prefixed (take n line) o) ≡ none
-          go none e = refl
-          go (some []) e = absurd (not_here (from f i [] e))
-          go (some (b ∷ s)) e =
+          go : (o : Option (List ℕ)) → decoded_at f i ≡ o → some_bytes (prefixed (take n line) o) ≡ None
+          go None e = refl
+          go (Some []) e = absurd (not_here (from f i [] e))
+          go (Some (b ∷ s)) e =
               bytes_too_many
               (take n line ++ b ∷ s)
               (omega (arith, length-append (take n line) (b ∷ s), length-take-le n line (omega (arith, r.room, r.most))))
 
 -- ---- The answers
 
-pub bad : {f : List ℕ} {at : ℕ} {line : List ℕ} {i n : ℕ} → SoFar f at line i n → (at < length f → Malformed f at) → Decodes f at line Bad
-bad r m = record { room = r.room; holds = λ n next e. let z : ◌≡◌ {A = ℕ} 0 1 = cc in absurd (omega arith); fails = λ _. m }
+pub bad : {f : List ℕ} {at : ℕ} {line : List ℕ} {i n : ℕ} → SoFar f at line i n → (at < length f → Malformed f at) → Decodes f at line None
+bad r m = record { room = r.room; holds = tt; fails = λ _. m }
 
-pub good : {f : List ℕ} {at : ℕ} {line : List ℕ} {i n next : ℕ} → SoFar f at line i n → BytesAt f at line n next → Decodes f at line (Bytes n next)
-good {f} {at} {line} {i} {n} {next} r h =
-    record {
-      room = r.room;
-      holds = λ m on e.
-          let u : n ≡ m = cc in
-          let v : next ≡ on = cc in
-          subst (λ k. BytesAt f at line k on) u (subst (λ k. BytesAt f at line n k) v h);
-      fails = λ e _. let z : ◌≡◌ {A = ℕ} 0 1 = cc in absurd (omega arith);
-    }
+pub good : {f : List ℕ} {at : ℕ} {line : List ℕ} {i n next : ℕ} → SoFar f at line i n → BytesAt f at line n next → Decodes f at line (Some (n, next))
+good r h = record { room = r.room; holds = h; fails = λ e _. no_some (sym e) }
+
+pub ruleset pairs = (pair_past, no_high, no_low, both_digits)
+
+pub ruleset walking = (at_start, one_on, no_bytes, empty, whole, too_long, bad, good, decoded_none, lines_at_end)
 
 -- The same by the line at a place.
-pub holds_line : (f : List ℕ) (at : ℕ) (line : List ℕ) (n next : ℕ) → BytesAt f at line n next → line_at f at ≡ some (take n line)
+pub holds_line : (f : List ℕ) (at : ℕ) (line : List ℕ) (n next : ℕ) → BytesAt f at line n next → line_at f at ≡ Some (take n line)
 unfolding line_at
 holds_line f at line n next h = ap first_line h.splits ∙ h.bytes

@@ -1,50 +1,29 @@
--- Kinds by number: bytes past 06 name none, and the rule of `may_stand` is computed once for each pair of numbers.
+-- Kinds of frames: bytes past 06 name none, and the rule of `may_stand` is computed for each pair of kinds.
 use mathlib.Core.Bool.{Bool, true, false}
 use mathlib.Core.List.{List, [], ◌∷◌}
-use mathlib.Core.Option.{Option, none, some}
 use mathlib.Core.Path.{◌≡◌, refl, sym, ap, ◌∙◌}
-use Prim.Native.Nat.{ℕ, suc, ◌-◌, ◌<◌, ◌≤◌}
+use Prim.Native.Nat.{ℕ, zero, suc, ◌<◌, ◌≤◌}
 use native.Mathlib.Omega.{arith}
-use lib.Dec.{eqb}
 use lib.ListN.{get_or, get_or-eq_default}
-use Rattle.text.proofs.Every.{same, same_eq, below, every}
-use Rattle.sigla_hex.proofs.Values.{run}
-use Rattle.meaning.specs.Frame.{Kind, limits, name, schema_type, predicate, node, query, kind_byte, kind_of, repeatable, rises, follows, may_stand}
-use Rattle.frames.specs.Promises.{number_of, kind_at, stands}
+use denote.Enum.Bare.{sameb}
+use denote.Enum.Enum.{tag}
+use denote.Enum.Declared.{intoss}
+use denote.Struct.Field.{rows}
+use Rattle.meaning.specs.Frame as Frame
+use Rattle.meaning.specs.Frame.{limits, name, schema_type, predicate, node, query, kind_byte, kind_of, repeatable, rises, follows, may_stand}
+use Rattle.frames.specs.contracts.Kind.{the_type, as_values}
+use Rattle.frames.specs.declared.Kind.{Kind}
+use Rattle.frames.specs.declared.Kind.TheVariants.{Limits, Name, SchemaType, Predicate, Node, Query}
+use Rattle.frames.specs.Promises.{kind_meant, known, stands}
+use Rattle.sigla_hex.proofs.Line.{no_some}
+use Rattle.std.specs.Prelude.{None, Option, Some}
+use Rattle.std.proofs.lemmas.Option.{same_Some}
 
-pub no_kind : (b : ℕ) → 7 ≤ b → kind_of b ≡ none
+pub no_kind : (b : ℕ) → (0 < b → 7 ≤ b) → None ≡ kind_of b
 unfolding kind_of
-no_kind b h = get_or-eq_default (none ∷ some limits ∷ some name ∷ some schema_type ∷ some predicate ∷ some node ∷ some query ∷ []) none h
-
-pub number_zero : (b : ℕ) → b ≡ 0 → 6 ≡ number_of (kind_of b)
-unfolding kind_of
-number_zero b e = sym (ap (λ n. number_of (kind_of n)) e)
-
-pub number_past : (b : ℕ) → 6 < b → 6 ≡ number_of (kind_of b)
-number_past b h = sym (ap number_of (no_kind b h))
-
-pub number_kind : (b : ℕ) → (b ≡ 0 → ⊥) → b ≤ 6 → b - 1 ≡ number_of (kind_of b)
-unfolding kind_of kind_byte
-number_kind b n h = run (λ b. number_of (kind_of b)) 1 6 (λ k. k) refl b (omega arith) (omega arith)
-
-pub kind_of_number : (o : Option Kind) → kind_at (number_of o) ≡ o
-unfolding kind_of kind_byte
-kind_of_number none = refl
-kind_of_number (some limits) = refl
-kind_of_number (some name) = refl
-kind_of_number (some schema_type) = refl
-kind_of_number (some predicate) = refl
-kind_of_number (some node) = refl
-kind_of_number (some query) = refl
-
-pub stands_unknown : (previous kind : ℕ) → 6 ≤ kind → false ≡ stands (kind_at previous) (kind_at kind)
-stands_unknown previous kind h = sym (ap (stands (kind_at previous)) (no_kind (suc kind) (omega arith)))
-
-pub stands_first : (previous kind : ℕ) → 6 ≤ previous → kind < 6 → eqb kind 0 ≡ stands (kind_at previous) (kind_at kind)
-unfolding kind_of kind_byte may_stand
-stands_first previous kind p h =
-    same_eq (eqb kind 0) (stands none (kind_at kind)) (every (λ k. same (eqb k 0) (stands none (kind_at k))) 6 refl kind h)
-    ∙ ap (λ o. stands o (kind_at kind)) (sym (no_kind (suc previous) (omega arith)))
+no_kind zero h = refl
+no_kind (suc b) h =
+    sym (get_or-eq_default (None ∷ Some limits ∷ Some name ∷ Some schema_type ∷ Some predicate ∷ Some node ∷ Some query ∷ []) None (h (omega arith)))
 
 -- The table of the code: a row for each kind that came before.
 abbrev pub table : List (List Bool)
@@ -57,16 +36,54 @@ table =
     ∷ (false ∷ false ∷ false ∷ false ∷ true ∷ false ∷ [])
     ∷ []
 
-right : ℕ → ℕ → Bool
-right p k = same (get_or (get_or table p []) k false) (stands (kind_at p) (kind_at k))
+-- what `kind as usize` says
+abbrev pub place : Kind → ℕ
+place k = tag (rows [] ∷ rows [] ∷ rows [] ∷ rows [] ∷ rows [] ∷ rows [] ∷ []) (intoss ([] ∷ [] ∷ [] ∷ [] ∷ [] ∷ [] ∷ []) (as_values k))
 
-row : ℕ → Bool
-row p = below (right p) 6
+-- what holds of each kind
+each : (P : Kind → Type 0) → P Limits → P Name → P SchemaType → P Predicate → P Node → P Query → (k : Kind) → P k
+each P l n s p d q Limits = l
+each P l n s p d q Name = n
+each P l n s p d q SchemaType = s
+each P l n s p d q Predicate = p
+each P l n s p d q Node = d
+each P l n s p d q Query = q
 
-at_each : below row 6 ≡ true
-unfolding row right kind_of kind_byte repeatable rises follows may_stand
-at_each = refl
+abbrev meant_by : Frame.Kind → Kind
+meant_by limits = Limits
+meant_by name = Name
+meant_by schema_type = SchemaType
+meant_by predicate = Predicate
+meant_by node = Node
+meant_by query = Query
 
-pub stands_table : (previous kind : ℕ) → previous < 6 → kind < 6 → get_or (get_or table previous []) kind false ≡ stands (kind_at previous) (kind_at kind)
-unfolding row right
-stands_table previous kind p k = same_eq _ _ (every (right previous) 6 (every row 6 at_each previous p) kind k)
+-- A kind is known by what it means.
+pub same_known : (o : Option Kind) (k : Kind) → known o ≡ Some (kind_meant k) → o ≡ Some k
+same_known None k e = no_some e
+same_known (Some j) k e = ap Some (sym (back j) ∙ ap meant_by (same_Some _ _ e) ∙ back k)
+  where
+    back : (k : Kind) → meant_by (kind_meant k) ≡ k
+    back = each (λ k. meant_by (kind_meant k) ≡ k) refl refl refl refl refl refl
+
+abbrev Right : Kind → Kind → Type 0
+Right p k = get_or (get_or table (place p) []) (place k) false ≡ stands (known (Some p)) (known (Some k))
+
+pub stands_table : (p k : Kind) → Right p k
+unfolding kind_byte repeatable rises follows may_stand
+stands_table p k =
+    each
+    (λ p. (k : Kind) → Right p k)
+    (each (Right Limits) refl refl refl refl refl refl)
+    (each (Right Name) refl refl refl refl refl refl)
+    (each (Right SchemaType) refl refl refl refl refl refl)
+    (each (Right Predicate) refl refl refl refl refl refl)
+    (each (Right Node) refl refl refl refl refl refl)
+    (each (Right Query) refl refl refl refl refl refl)
+    p
+    k
+
+pub stands_first : (k : Kind) → sameb the_type k Limits ≡ stands None (known (Some k))
+unfolding kind_byte may_stand
+stands_first k = each (λ k. sameb the_type k Limits ≡ stands None (known (Some k))) refl refl refl refl refl refl k
+
+pub ruleset standing = (stands_first, stands_table)

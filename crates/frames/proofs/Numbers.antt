@@ -1,11 +1,10 @@
 -- Past the end every byte is 0, and so are the numbers made of them.
-use mathlib.Core.Path.{◌≡◌, refl, sym}
-use Prim.Native.Nat.{ℕ, ◌+◌, ◌<◌, ◌≤◌}
+use mathlib.Core.Path.{◌≡◌}
+use Prim.Native.Nat.{ℕ, ◌+◌, ◌≤◌}
 use native.Mathlib.Omega.{arith}
-use mathlib.Core.List.{List, [], ◌∷◌}
+use mathlib.Core.List.{List}
 use lib.ListN.{length, get_or-eq_default}
-use Rattle.sigla_hex.proofs.Values.{run}
-use Rattle.frames.specs.Promises.{byte_w, half_w, full_w, size_w}
+use Rattle.frames.specs.Promises.{byte_w, half_w, full_w}
 
 module _ (s : List ℕ) (i : ℕ) where
   pub byte_past : length s ≤ i → byte_w s i ≡ 0
@@ -18,14 +17,3 @@ module _ (s : List ℕ) (i : ℕ) where
 pub full_past : (s : List ℕ) (i : ℕ) → length s ≤ i → full_w s i ≡ 0
 unfolding full_w
 full_past s i h = rw (half_past s i h, half_past s (i + 2) (omega arith))
-
--- ---- Sizes of statements
-
-pub size_one : (tag : ℕ) → 1 ≤ tag → tag < 3 → 3 ≡ size_w tag
-size_one tag l h = run size_w 1 2 (λ _. 3) refl tag l h
-
-pub size_two : (tag : ℕ) → 3 ≤ tag → tag < 5 → 5 ≡ size_w tag
-size_two tag l h = run size_w 3 2 (λ _. 5) refl tag l h
-
-pub size_none : (tag : ℕ) → 5 ≤ tag → 0 ≡ size_w tag
-size_none tag h = sym (get_or-eq_default (5 ∷ 3 ∷ 3 ∷ 5 ∷ 5 ∷ []) 0 h)

@@ -1,11 +1,12 @@
 -- Statements by places of the bytes: a tag says how many bytes one takes, and a list of them is read exactly where they fill what is left.
+use Rattle.std.specs.Prelude.{slice_get}
 use mathlib.Core.Bool.{Bool, true, false}
 use mathlib.Core.List.{List, [], ◌∷◌}
 use mathlib.Core.Path.{◌≡◌, refl, sym, ap, subst, ◌∙◌}
 use Prim.Native.Nat.{ℕ, zero, suc, ◌+◌, ◌<◌, ◌≤◌}
 use native.Mathlib.Omega.{arith}
 use lib.Dec.{eqb, ltb}
-use lib.ListN.{length, get_elem?, drop, length-drop, drop_of_length-le}
+use lib.ListN.{length, drop, length-drop, drop_of_length-le}
 use borrow.Author.Tests.{eqb-true, eqb-false, ltb-true, ltb-false}
 use Rattle.sigla_hex.proofs.Line.{from_here}
 use Rattle.meaning.specs.Syntax.{QueryStmt}
@@ -17,7 +18,7 @@ use Rattle.frames.proofs.Readers.{sized_one, sized_pair, sized_two, Shrinks, man
 -- ---- A byte that says how to go on
 
 module _ {A : Type 0} (table : List (Reader A)) (s : List ℕ) (i : ℕ) where
-  pub choice_at : i < length s → choice table (drop i s) ≡ entry (get_elem? table (byte_w s i)) (drop (i + 1) s)
+  pub choice_at : i < length s → choice table (drop i s) ≡ entry (slice_get table (byte_w s i)) (drop (i + 1) s)
   unfolding choice
   choice_at h = ap (choice table) (from_here s i h)
 
@@ -43,7 +44,7 @@ module _ (s : List ℕ) (i : ℕ) where
       let v : i + 1 + 2 ≡ i + 3 = omega arith in
       rw v at ((sized_one make sized_two).reads s (i + 1) (omega arith))
 
-  row_reads : (b : ℕ) → 0 < size_w b → i + size_w b ≤ length s → entry (get_elem? rows b) (drop (i + 1) s) ≡ got
+  row_reads : (b : ℕ) → 0 < size_w b → i + size_w b ≤ length s → entry (slice_get rows b) (drop (i + 1) s) ≡ got
       (statement_of b (half_w s (i + 1)) (half_w s (i + 3))) (drop (i + size_w b) s)
   unfolding entry
   row_reads zero p h = two_nodes QueryStmt.Bind h
@@ -53,7 +54,7 @@ module _ (s : List ℕ) (i : ℕ) where
   row_reads (suc (suc (suc (suc zero)))) p h = two_nodes QueryStmt.Compare h
   row_reads (suc (suc (suc (suc (suc b))))) p h = absurd (omega arith)
 
-  row_lacks : (b : ℕ) → i < length s → length s < i + size_w b → entry (get_elem? rows b) (drop (i + 1) s) ≡ fails
+  row_lacks : (b : ℕ) → i < length s → length s < i + size_w b → entry (slice_get rows b) (drop (i + 1) s) ≡ fails
   unfolding entry
   row_lacks zero l h = (sized_pair QueryStmt.Bind sized_two sized_two).lacks s (i + 1) (omega arith) (omega arith)
   row_lacks (suc zero) l h = (sized_one QueryStmt.Implicit sized_two).lacks s (i + 1) (omega arith) (omega arith)
@@ -62,7 +63,7 @@ module _ (s : List ℕ) (i : ℕ) where
   row_lacks (suc (suc (suc (suc zero)))) l h = (sized_pair QueryStmt.Compare sized_two sized_two).lacks s (i + 1) (omega arith) (omega arith)
   row_lacks (suc (suc (suc (suc (suc b))))) l h = absurd (omega arith)
 
-  row_none : (b : ℕ) → size_w b ≡ 0 → entry (get_elem? rows b) (drop (i + 1) s) ≡ fails
+  row_none : (b : ℕ) → size_w b ≡ 0 → entry (slice_get rows b) (drop (i + 1) s) ≡ fails
   unfolding entry
   row_none zero e = absurd (omega arith)
   row_none (suc zero) e = absurd (omega arith)

@@ -1,11 +1,13 @@
 -- What the functions of src/ promise, in the terms of the definitions of a file's lines and frames.
-use Rattle.std.specs.Prelude.{Bool, true, false, List, [], ◌∷◌, ◌≡◌, ℕ, suc, ◌+◌, ◌-◌, ◌*◌, ◌<◌, ◌≤◌, length, get_or, take, drop}
-use Rattle.std.proofs.Math.Option.{Option, none, some}
+use Rattle.std.specs.Prelude.{Bool, true, false, List, [], ◌∷◌, ◌≡◌, ℕ, ◌+◌, ◌*◌, ◌<◌, ◌≤◌, length, get_or, take, drop, None, Option, Some, IfSome}
 use Rattle.meaning.specs.Lines.{Line, lines, bytes_of}
 use Rattle.meaning.specs.Syntax.{QueryStmt, ExprKind}
-use Rattle.meaning.specs.Frame.{Edition, narrow, wide, Kind, kind_byte, kind_of, may_stand, Got, Reader, choice, TypeShape, type_shapes, value_types, statements, expr_kinds, whole, frame_of}
-use Rattle.frames.specs.declared.lines.Decoded.{Decoded}
-use Rattle.frames.specs.declared.lines.Decoded.TheVariants.{Bytes, Bad}
+use Rattle.meaning.specs.Frame as Frame
+use Rattle.meaning.specs.Frame.{may_stand, Got, Reader, choice, TypeShape, type_shapes, value_types, statements, expr_kinds, whole, frame_of}
+use Rattle.frames.specs.declared.Kind.{Kind}
+use Rattle.frames.specs.declared.Kind.TheVariants.{Limits, Name, SchemaType, Predicate, Node, Query}
+use Rattle.frames.specs.declared.Edition.{Edition}
+use Rattle.frames.specs.declared.Edition.TheVariants.{Narrow, Wide}
 
 -- ---- Lines
 
@@ -13,7 +15,7 @@ use Rattle.frames.specs.declared.lines.Decoded.TheVariants.{Bytes, Bad}
 pub record BytesAt (file : List ℕ) (at : ℕ) (line : List ℕ) (n next : ℕ) : Type 0 where
   pub first : Line
   pub splits : lines (drop at file) ≡ first ∷ lines (drop next file)
-  pub bytes : bytes_of first ≡ some (take n line)
+  pub bytes : bytes_of first ≡ Some (take n line)
   pub count : length (take n line) ≡ n
   pub some : 0 < n
   pub most : n ≤ 512
@@ -25,27 +27,32 @@ pub record Malformed (file : List ℕ) (at : ℕ) : Type 0 where
   pub first : Line
   pub rest : List Line
   pub splits : lines (drop at file) ≡ first ∷ rest
-  pub bytes : bytes_of first ≡ none
+  pub bytes : bytes_of first ≡ None
 
-pub record Decodes (file : List ℕ) (at : ℕ) (line : List ℕ) (r : Decoded) : Type 0 where
+pub record Decodes (file : List ℕ) (at : ℕ) (line : List ℕ) (r : Option (ℕ × ℕ)) : Type 0 where
   pub room : length line ≡ 512
-  pub holds : (n next : ℕ) → r ≡ Bytes n next → BytesAt file at line n next
-  pub fails : r ≡ Bad → at < length file → Malformed file at
+  pub holds : IfSome r (λ p. BytesAt file at line p.0 p.1)
+  pub fails : r ≡ None → at < length file → Malformed file at
 
 -- ---- Kinds
 
--- The code numbers the kinds from 0 on, one below their bytes, and 6 stands for none.
-abbrev pub number_of : Option Kind → ℕ
-number_of none = 6
-number_of (some k) = kind_byte k - 1
+-- The code's kinds in the definitions' terms.
+abbrev pub kind_meant : Kind → Frame.Kind
+kind_meant Limits = Frame.limits
+kind_meant Name = Frame.name
+kind_meant SchemaType = Frame.schema_type
+kind_meant Predicate = Frame.predicate
+kind_meant Node = Frame.node
+kind_meant Query = Frame.query
 
-abbrev pub kind_at : ℕ → Option Kind
-kind_at n = kind_of (suc n)
+abbrev pub known : Option Kind → Option Frame.Kind
+known None = None
+known (Some k) = Some (kind_meant k)
 
 -- an unknown kind may stand nowhere
-abbrev pub stands : Option Kind → Option Kind → Bool
-stands previous none = false
-stands previous (some k) = may_stand previous k
+abbrev pub stands : Option Frame.Kind → Option Frame.Kind → Bool
+stands previous None = false
+stands previous (Some k) = may_stand previous k
 
 -- ---- Numbers, big-endian, with 0 for each byte past the end
 
@@ -61,24 +68,23 @@ full_w s i = half_w s i * 65536 + half_w s (i + 2)
 
 -- ---- Editions (card 6)
 
--- The code says whether it is the wide one.
-abbrev pub edition : Bool → Edition
-edition true = wide
-edition false = narrow
+abbrev pub edition_of : Edition → Frame.Edition
+edition_of Narrow = Frame.narrow
+edition_of Wide = Frame.wide
 
 -- how many bytes a predicate reference has, and the one at a place
-abbrev pub reference_size : Edition → ℕ
-reference_size narrow = 2
-reference_size wide = 4
+abbrev pub reference_size : Frame.Edition → ℕ
+reference_size Frame.narrow = 2
+reference_size Frame.wide = 4
 
-abbrev pub reference_w : Edition → List ℕ → ℕ → ℕ
-reference_w narrow s i = half_w s i
-reference_w wide s i = full_w s i
+abbrev pub reference_w : Frame.Edition → List ℕ → ℕ → ℕ
+reference_w Frame.narrow s i = half_w s i
+reference_w Frame.wide s i = full_w s i
 
 -- ---- Frames
 
 -- What a first byte says how to read.
-abbrev pub type_shape : Edition → Reader TypeShape
+abbrev pub type_shape : Frame.Edition → Reader TypeShape
 type_shape e = choice (type_shapes e)
 
 abbrev pub value_type : Reader (Option ℕ)
@@ -87,25 +93,25 @@ value_type = choice value_types
 abbrev pub statement : Reader QueryStmt
 statement = choice statements
 
-abbrev pub expr_kind : Edition → Reader ExprKind
+abbrev pub expr_kind : Frame.Edition → Reader ExprKind
 expr_kind e = choice (expr_kinds e)
 
 abbrev pub is_some : {A : Type 0} → Option A → Bool
-is_some none = false
-is_some (some a) = true
+is_some None = false
+is_some (Some a) = true
 
 -- a reader got something, with no byte left over
 abbrev pub wholly : {A : Type 0} → Got A → Bool
 wholly g = is_some (whole g)
 
 -- The content is a frame of the kind; an unknown kind has none.
-abbrev pub is_frame : Edition → Option Kind → List ℕ → Bool
-is_frame e none content = false
-is_frame e (some k) content = is_some (frame_of e k content)
+abbrev pub is_frame : Frame.Edition → Option Frame.Kind → List ℕ → Bool
+is_frame e None content = false
+is_frame e (Some k) content = is_some (frame_of e k content)
 
 -- The test of a kind whose frames are the same in both editions.
-pub record Formed (k : Kind) (content : List ℕ) (r : Bool) : Type 0 where
-  pub is : (e : Edition) → r ≡ is_frame e (some k) content
+pub record Formed (k : Frame.Kind) (content : List ℕ) (r : Bool) : Type 0 where
+  pub is : (e : Frame.Edition) → r ≡ is_frame e (Some k) content
 
 -- how many bytes a statement takes by its first; 0 for a byte that starts none
 abbrev pub size_w : ℕ → ℕ

@@ -1,8 +1,9 @@
 // Frames: which kind may follow which, big-endian numbers, and the form of each kind.
-ghost use Rattle.std.specs.Prelude.{◌≡◌, ◌<◌, ◌≤◌, length, drop};
-ghost use Rattle.std.proofs.Math.Option.{some};
+ghost use Rattle.std.specs.Prelude.{◌≡◌, ◌<◌, ◌≤◌, length, drop, MatchOption};
 ghost use Rattle.meaning.specs.Frame.{kind_of, schema_type, predicate, node, query, many};
-ghost use Rattle.frames.specs.Promises.{number_of, kind_at, stands, byte_w, half_w, full_w, edition, reference_size, reference_w, wholly, is_frame, Formed, size_w, statement};
+ghost use Rattle.frames.specs.Promises.{known, stands, byte_w, half_w, full_w, edition_of, reference_size, reference_w, wholly, is_frame, Formed, size_w, statement};
+
+use crate::{Edition, Kind};
 
 // A row for each kind that came before, a column for each that comes.
 const FOLLOWS: [[bool; 6]; 6] = [
@@ -14,177 +15,178 @@ const FOLLOWS: [[bool; 6]; 6] = [
     [false, false, false, false, true, false], // query
 ];
 
-// The kinds from 0 on, and 6 for a byte that is none.
-pub fn kind_of(b: u8) -> usize
-    ensures { result ≡ number_of (kind_of b) }
+#[tactic(auto, unfolding(meaning::specs::Frame::kind_of), using(crate::proofs::Following::no_kind))]
+pub fn kind_of(b: u8) -> Option<Kind>
+    ensures { known result ≡ kind_of b }
 {
-    if b == 0 {
-        return 6;
+    match b {
+        1 => Some(Kind::Limits),
+        2 => Some(Kind::Name),
+        3 => Some(Kind::SchemaType),
+        4 => Some(Kind::Predicate),
+        5 => Some(Kind::Node),
+        6 => Some(Kind::Query),
+        _ => None,
     }
-    if 6 < b {
-        return 6;
-    }
-    (b - 1) as usize
 }
 
-pub fn may_stand(previous: usize, kind: usize) -> bool
-    ensures { result ≡ stands (kind_at previous) (kind_at kind) }
+#[tactic(auto, using(crate::proofs::Following::standing))]
+pub fn may_stand(previous: Option<Kind>, kind: Option<Kind>) -> bool
+    ensures { result ≡ stands (known previous) (known kind) }
 {
-    if 6 <= kind {
+    let Some(kind) = kind else {
         return false;
+    };
+    match previous {
+        None => kind == Kind::Limits,
+        Some(previous) => FOLLOWS[previous as usize][kind as usize],
     }
-    if 6 <= previous {
-        return kind == 0;
-    }
-    FOLLOWS[previous][kind]
 }
 
 // Numbers, with 0 for each byte past the end.
 pub fn byte(s: &[u8], i: usize) -> u32
     ensures { (result ≡ byte_w s.now i) × (result < 256) }
 {
-    if i < s.len() { s[i] as u32 } else { 0 }
+    s.get(i).map_or(0, |b| u32::from(*b))
 }
 
+#[tactic(auto, unfolding(crate::specs::Promises::half_w), using(crate::proofs::Numbers::half_past))]
 pub fn half(s: &[u8], i: usize) -> u32
     ensures { (result ≡ half_w s.now i) × (result < 65536) }
 {
-    if s.len() <= i {
-        return 0;
+    if i < s.len() {
+        byte(s, i) * 256 + byte(s, i + 1)
+    } else {
+        0
     }
-    byte(s, i) * 256 + byte(s, i + 1)
 }
 
+#[tactic(auto, unfolding(crate::specs::Promises::full_w), using(crate::proofs::Numbers::full_past))]
 pub fn full(s: &[u8], i: usize) -> u32
     ensures { result ≡ full_w s.now i }
 {
-    if s.len() <= i {
-        return 0;
+    if i < s.len() {
+        half(s, i) * 65536 + half(s, i + 2)
+    } else {
+        0
     }
-    half(s, i) * 65536 + half(s, i + 2)
 }
 
-// How many bytes a predicate reference has, in the wide edition or the narrow one.
-pub fn reference_size(wide: bool) -> usize
-    ensures { (result ≡ reference_size (edition wide)) × (result ≤ 4) }
+// How many bytes a predicate reference has.
+pub fn reference_size(edition: Edition) -> usize
+    ensures { (result ≡ reference_size (edition_of edition)) × (result ≤ 4) }
 {
-    if wide { 4 } else { 2 }
+    match edition {
+        Edition::Narrow => 2,
+        Edition::Wide => 4,
+    }
 }
 
-pub fn reference(s: &[u8], i: usize, wide: bool) -> u32
-    ensures { result ≡ reference_w (edition wide) s.now i }
+pub fn reference(s: &[u8], i: usize, edition: Edition) -> u32
+    ensures { result ≡ reference_w (edition_of edition) s.now i }
 {
-    if wide { full(s, i) } else { half(s, i) }
+    match edition {
+        Edition::Narrow => half(s, i),
+        Edition::Wide => full(s, i),
+    }
 }
 
-// How many bytes a statement takes by its first, and 0 for a byte that starts none.
-fn statement_size(tag: u8) -> usize
-    ensures { (result ≡ size_w tag) × (result ≤ 5) }
+// How many bytes a statement takes by its first; none for a byte that starts none.
+fn statement_size(tag: u8) -> Option<usize>
+    ensures { MatchOption result (size_w tag ≡ 0) (λ n. (n ≡ size_w tag) × (0 < n) × (n ≤ 5)) }
 {
     match tag {
-        0 | 3 | 4 => 5,
-        1 | 2 => 3,
-        _ => 0,
+        0 | 3 | 4 => Some(5),
+        1 | 2 => Some(3),
+        _ => None,
     }
 }
 
-// Whether statements fill the frame from `from` to its end.
-fn statements_fill(s: &[u8], from: usize) -> bool
-    requires { from ≤ length s.now }
-    ensures { result ≡ wholly (many statement (drop from s.now)) }
+#[tactic(auto, using(crate::proofs::Shapes::filling))]
+fn are_statements(s: &[u8]) -> bool
+    ensures { result ≡ wholly (many statement s.now) }
 {
-    let mut at = from;
-    while at < s.len() {
-        let size = statement_size(s[at]);
-        if size == 0 {
+    let mut rest = s;
+    while let [tag, ..] = rest {
+        let Some(size) = statement_size(*tag) else {
             return false;
-        }
-        if s.len() - at < size {
+        };
+        let Some(after) = rest.get(size..) else {
             return false;
-        }
-        at += size;
+        };
+        rest = after;
     }
     true
 }
 
-fn type_frame(s: &[u8], wide: bool) -> bool
-    ensures { result ≡ is_frame (edition wide) (some schema_type) (drop 1 s.now) }
+#[tactic(auto, using(crate::proofs::Shapes::types))]
+fn type_frame(s: &[u8], edition: Edition) -> bool
+    ensures { result ≡ is_frame (edition_of edition) (Some schema_type) (drop 1 s.now) }
 {
     let n = s.len();
-    if n < 2 {
-        return false;
-    }
-    let shape = s[1];
-    match shape {
-        0 | 1 | 2 => n == 2,
-        3 => n == 2 + reference_size(wide),
-        4 => (n - 2) % 4 == 0,
-        5 => (n - 2) % 8 == 0,
-        _ => false,
-    }
+    2 <= n
+        && match s[1] {
+            0..=2 => n == 2,
+            3 => n == 2 + reference_size(edition),
+            4 => (n - 2) % 4 == 0,
+            5 => (n - 2) % 8 == 0,
+            _ => false,
+        }
 }
 
+#[tactic(auto, using(crate::proofs::Shapes::predicates))]
 fn predicate_frame(s: &[u8]) -> bool
     ensures { Formed predicate (drop 1 s.now) result }
 {
     let n = s.len();
-    if n < 6 {
-        return false;
-    }
-    let flag = s[5];
-    match flag {
-        0 => n == 6,
-        1 => n == 8,
-        _ => false,
-    }
+    6 <= n
+        && match s[5] {
+            0 => n == 6,
+            1 => n == 8,
+            _ => false,
+        }
 }
 
-fn node_frame(s: &[u8], wide: bool) -> bool
-    ensures { result ≡ is_frame (edition wide) (some node) (drop 1 s.now) }
+#[tactic(auto, using(crate::proofs::Shapes::nodes))]
+fn node_frame(s: &[u8], edition: Edition) -> bool
+    ensures { result ≡ is_frame (edition_of edition) (Some node) (drop 1 s.now) }
 {
     let n = s.len();
-    if n < 10 {
-        return false;
-    }
-    let shape = s[9];
-    match shape {
-        0 | 1 | 2 | 4 | 5 | 15 => n == 10,
-        3 | 6 | 10 => n == 12,
-        7 => n == 13,
-        9 | 16 => n == 14,
-        13 => n == 12 + reference_size(wide),
-        8 => (n - 10) % 4 == 0,
-        11 | 14 => (n - 10) % 2 == 0,
-        12 => {
-            if n < 12 {
-                return false;
-            }
-            statements_fill(s, 12)
+    10 <= n
+        && match s[9] {
+            0..=2 | 4 | 5 | 15 => n == 10,
+            3 | 6 | 10 => n == 12,
+            7 => n == 13,
+            9 | 16 => n == 14,
+            13 => n == 12 + reference_size(edition),
+            8 => (n - 10) % 4 == 0,
+            11 | 14 => (n - 10) % 2 == 0,
+            12 => 12 <= n && are_statements(&s[12..]),
+            _ => false,
         }
-        _ => false,
-    }
 }
 
+#[tactic(auto, using(crate::proofs::Shapes::queries))]
 fn query_frame(s: &[u8]) -> bool
     ensures { Formed query (drop 1 s.now) result }
 {
-    if s.len() < 3 {
-        return false;
-    }
-    statements_fill(s, 3)
+    3 <= s.len() && are_statements(&s[3..])
 }
 
 // Whether the line, its kind byte first, has its kind's form.
-pub fn is_frame(s: &[u8], kind: usize, wide: bool) -> bool
-    ensures { result ≡ is_frame (edition wide) (kind_at kind) (drop 1 s.now) }
+#[tactic(auto, using(crate::proofs::Shapes::kinds))]
+pub fn is_frame(s: &[u8], kind: Option<Kind>, edition: Edition) -> bool
+    ensures { result ≡ is_frame (edition_of edition) (known kind) (drop 1 s.now) }
 {
+    let Some(kind) = kind else {
+        return false;
+    };
     match kind {
-        0 => s.len() == 4,
-        1 => true,
-        2 => type_frame(s, wide),
-        3 => predicate_frame(s),
-        4 => node_frame(s, wide),
-        5 => query_frame(s),
-        _ => false,
+        Kind::Limits => s.len() == 4,
+        Kind::Name => true,
+        Kind::SchemaType => type_frame(s, edition),
+        Kind::Predicate => predicate_frame(s),
+        Kind::Node => node_frame(s, edition),
+        Kind::Query => query_frame(s),
     }
 }

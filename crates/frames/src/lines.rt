@@ -1,59 +1,37 @@
 // Lines of lower-case hexadecimal.
 ghost use Rattle.std.specs.Prelude.{◌≡◌, ◌<◌, length};
-ghost use Rattle.sigla_hex.specs.Digits.{or_else, pair_at};
+ghost use Rattle.sigla_hex.specs.Digits.{pair_at};
 ghost use Rattle.frames.specs.Promises.{Decodes};
 
-// The byte that two digits stand for, and 256 where they are none or the file ends.
-fn pair(file: &[u8], i: usize) -> u32
+// The byte of two digits; none where they are no digits or the file ends.
+#[tactic(auto, using(crate::proofs::Decoding::pairs))]
+fn pair(file: &[u8], i: usize) -> Option<u8>
     requires { i < length file.now }
-    ensures { result ≡ or_else 256 (pair_at file.now i) }
+    ensures { result ≡ pair_at file.now i }
 {
-    let hi = sigla_hex::digit(file[i]);
-    if 16 <= hi {
-        return 256;
-    }
-    let j = i + 1;
-    if file.len() <= j {
-        return 256;
-    }
-    let lo = sigla_hex::digit(file[j]);
-    if 16 <= lo {
-        return 256;
-    }
-    (hi as u32) * 16 + (lo as u32)
+    let high = sigla_hex::digit(file[i])?;
+    let low = sigla_hex::digit(*file.get(i + 1)?)?;
+    Some(high * 16 + low)
 }
 
-#[derive(Drop)]
-pub enum Decoded {
-    // How many bytes the line has, and where the next line starts.
-    Bytes(usize, usize),
-    Bad,
-}
-
-// The line at a place, decoded into `line`; Bad under condition 3, and past the end.
-pub fn decode(file: &[u8], at: usize, line: &mut [u8; 512]) -> Decoded
-    requires { length line.old ≡ 512 }
+// The line at a place, decoded into `line`: how many bytes it has, and where the next one starts; none under condition
+// 3, and past the end.
+#[tactic(auto, using(crate::proofs::Decoding::walking))]
+pub fn decode(file: &[u8], at: usize, line: &mut [u8; 512]) -> Option<(usize, usize)>
     ensures { Decodes file.now at line.new result }
 {
     let mut i = at;
-    let mut n: usize = 0;
-    while i < file.len() {
-        if file[i] == 10 {
-            if n == 0 {
-                return Decoded::Bad;
-            }
-            return Decoded::Bytes(n, i + 1);
+    let mut n = 0;
+    while let Some(b) = file.get(i) {
+        if *b == b'\n' {
+            return if n == 0 { None } else { Some((n, i + 1)) };
         }
         if 512 <= n {
-            return Decoded::Bad;
+            return None;
         }
-        let b = pair(file, i);
-        if 256 <= b {
-            return Decoded::Bad;
-        }
-        line[n] = b as u8;
+        line[n] = pair(file, i)?;
         n += 1;
         i += 2;
     }
-    Decoded::Bad
+    None
 }

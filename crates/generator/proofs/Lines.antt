@@ -1,7 +1,7 @@
 -- What each line of the code is in the rule: the schema's by their numbers, a node by its place in a block, a query by its row.
-use Rattle.std.proofs.Common.{◌≡◌, ℕ, suc, ◌+◌, ◌-◌, ◌*◌, ◌%◌, ◌<◌, ◌≤◌, Bool, true, false, eqb, ltb, leb, ◌⊎◌, List, [], ◌∷◌, ◌++◌, map, length, get_or, drop, sym, refl, ap, ◌∙◌, subst, ⊎_elim, append_assoc, add-one, arith, drop_of_length-le, drop-cons, ltb-true, eq-eqb, ne_eqb, eqb-true, leb-true}
+use Rattle.std.proofs.Common.{◌≡◌, ℕ, suc, ◌+◌, ◌-◌, ◌*◌, ◌%◌, ◌<◌, ◌≤◌, Bool, true, false, eqb, ltb, leb, ◌⊎◌, List, [], ◌∷◌, ◌++◌, map, length, get_or, drop, None, Option, Some, sym, refl, ap, ◌∙◌, subst, ⊎_elim, append_assoc, add-one, arith, drop_of_length-le, drop-cons, ltb-true, eq-eqb, ne_eqb, eqb-true, leb-true}
 use mathlib.Core.List.{flat_map}
-use mathlib.Core.Option.{none}
+use Rattle.std.proofs.lemmas.List.{get_or-map}
 use Rattle.text.specs.Utf8.{both}
 use Rattle.text.proofs.Every.{below, every, both_left, both_right}
 use Rattle.meaning.specs.Syntax.{ExprKind}
@@ -14,25 +14,26 @@ use Rattle.meaning.specs.Writing.{as_shape, as_node, as_expr, as_content, writte
 use Rattle.meaning.proofs.Lists.{all_at}
 use Rattle.testload.specs.Rule.{limit, limits, names, base, simple, compound, predicates, predicate, leaves, pairs}
 use Rattle.testload.specs.Rule.{singles, exprs, expr_at, from, choice, node_of, limits_of, simple_of, compound_of, predicate_of, content_of}
-use Rattle.writer.specs.Writes.{hex_of}
+use Rattle.writer.specs.Writes.{Writes, hex_of}
+use Rattle.writer.proofs.Writing.{writes_then, writes_full, writes_as}
 use Rattle.writer.proofs.Digits.{hex_append, line_is}
 use Rattle.generator.specs.Promises.{as_limits, as_predicate, joined, tables, content}
-use Rattle.generator.proofs.Rows.{map_at, from_at, from_long, content_at}
+use Rattle.generator.specs.declared.TheConstants.{LINES, SLOTS}
+use Rattle.generator.proofs.Rows.{from_at, from_long, content_at}
 
 -- ---- Digits of a line in pieces
 
-pub hex_line_lem : (a b : List ℕ) → hex_of a ++ hex_line b ≡ hex_line (a ++ b)
+hex_line_lem : (a b : List ℕ) → hex_of a ++ hex_line b ≡ hex_line (a ++ b)
 hex_line_lem a b =
     ap (λ s. hex_of a ++ s) (line_is b)
     ∙ sym (append_assoc (hex_of a) (hex_of b) (10 ∷ [])) ∙ ap (λ s. s ++ 10 ∷ []) (sym (hex_append a b)) ∙ sym (line_is (a ++ b))
 
-pub node_line : (start end : ℕ) (s : List ℕ)
-    → hex_of (5 ∷ []) ++ (hex_of (bytes₄ start) ++ (hex_of (bytes₄ end) ++ hex_line s)) ≡ hex_line (5 ∷ bytes₄ start ++ bytes₄ end ++ s)
-unfolding bytes₂ bytes₄
-node_line start end s =
-    ap (λ t. hex_of (5 ∷ []) ++ (hex_of (bytes₄ start) ++ t)) (hex_line_lem (bytes₄ end) s)
-    ∙ ap (λ t. hex_of (5 ∷ []) ++ t) (hex_line_lem (bytes₄ start) (bytes₄ end ++ s))
-    ∙ hex_line_lem (5 ∷ []) (bytes₄ start ++ (bytes₄ end ++ s))
+module _ {out : List ℕ} {at : ℕ} (a b : List ℕ) {mid : List ℕ} {r : Option ℕ} (f : Writes out at (hex_of a) mid r) where
+  pub line_after : {n : ℕ} {out' : List ℕ} {r' : Option ℕ} → r ≡ Some n → Writes mid n (hex_line b) out' r' → Writes out at (hex_line (a ++ b)) out' r'
+  line_after e g = writes_as (hex_line_lem a b) (writes_then f e g)
+
+  pub line_cut : r ≡ None → Writes out at (hex_line (a ++ b)) mid None
+  line_cut e = writes_as (hex_line_lem a b) (writes_full f e (hex_line b))
 
 -- ---- Lines one after the other
 
@@ -49,15 +50,15 @@ file_append (f ∷ fs) gs =
 
 -- ---- The schema
 
--- `KINDS`, `TABLES` and `SLOTS` of src/
-unfoldable pub kinds : List ℕ
-kinds = 1 ∷ 2 ∷ 2 ∷ 2 ∷ 2 ∷ 2 ∷ 2 ∷ 2 ∷ 2 ∷ 2 ∷ 2 ∷ 2 ∷ 2 ∷ 2 ∷ 3 ∷ 3 ∷ 3 ∷ 3 ∷ 3 ∷ 3 ∷ 3 ∷ 3 ∷ 3 ∷ 4 ∷ 4 ∷ 4 ∷ 4 ∷ []
+-- a line's kind and the table of its row; the table of a node by its place in a block
+unfoldable pub kind_at : ℕ → ℕ
+kind_at l = (get_or LINES l (record { 0 = 0; 1 = 0 })).0
 
-unfoldable pub tables_of : List ℕ
-tables_of = 0 ∷ 1 ∷ 1 ∷ 1 ∷ 1 ∷ 1 ∷ 1 ∷ 1 ∷ 1 ∷ 1 ∷ 1 ∷ 1 ∷ 1 ∷ 1 ∷ 1 ∷ 1 ∷ 1 ∷ 2 ∷ 2 ∷ 2 ∷ 3 ∷ 3 ∷ 3 ∷ 4 ∷ 4 ∷ 4 ∷ 4 ∷ []
+unfoldable pub table_at : ℕ → ℕ
+table_at l = (get_or LINES l (record { 0 = 0; 1 = 0 })).1
 
 unfoldable pub slots : List ℕ
-slots = 5 ∷ 5 ∷ 6 ∷ 7 ∷ 5 ∷ 7 ∷ 7 ∷ 5 ∷ []
+slots = SLOTS
 
 pub no_frame : Frame
 no_frame = a_name []
@@ -75,58 +76,58 @@ chosen_long = refl
 
 right : ℕ → Bool
 right l =
-    both (both (leb (get_or tables_of l 0) 4) (ltb (get_or kinds l 0) 256))
-    (elim (eqb (get_or tables_of l 0) 1) [ true ↦ both (leb 1 l) (leb l 16) | false ↦ eqb (get_or chosen_places (l - 16) 0) l ])
+    both (both (leb (table_at l) 4) (ltb (kind_at l) 256))
+    (elim (eqb (table_at l) 1) [ true ↦ both (leb 1 l) (leb l 16) | false ↦ eqb (get_or chosen_places (l - 16) 0) l ])
 
 all_right : below right 27 ≡ true
-unfolding right kinds tables_of chosen_places
+unfolding right kind_at table_at chosen_places
 all_right = refl
 
 module _ (l : ℕ) (h : l < 27) where
-  places : both (leb (get_or tables_of l 0) 4) (ltb (get_or kinds l 0) 256) ≡ true
+  places : both (leb (table_at l) 4) (ltb (kind_at l) 256) ≡ true
   unfolding right
-  places = both_left (both (leb (get_or tables_of l 0) 4) (ltb (get_or kinds l 0) 256)) _ (every right 27 all_right l h)
+  places = both_left (both (leb (table_at l) 4) (ltb (kind_at l) 256)) _ (every right 27 all_right l h)
 
-  pub table_small : get_or tables_of l 0 ≤ 4
-  table_small = leb-true (get_or tables_of l 0) 4 (both_left (leb (get_or tables_of l 0) 4) _ places)
+  pub table_small : table_at l ≤ 4
+  table_small = leb-true (table_at l) 4 (both_left (leb (table_at l) 4) _ places)
 
-  pub kind_small : get_or kinds l 0 < 256
-  kind_small = ltb-true (get_or kinds l 0) 256 (both_right (leb (get_or tables_of l 0) 4) _ places)
+  pub kind_small : kind_at l < 256
+  kind_small = ltb-true (kind_at l) 256 (both_right (leb (table_at l) 4) _ places)
 
-  other : elim (eqb (get_or tables_of l 0) 1) [ true ↦ both (leb 1 l) (leb l 16) | false ↦ eqb (get_or chosen_places (l - 16) 0) l ] ≡ true
+  other : elim (eqb (table_at l) 1) [ true ↦ both (leb 1 l) (leb l 16) | false ↦ eqb (get_or chosen_places (l - 16) 0) l ] ≡ true
   unfolding right
-  other = both_right (both (leb (get_or tables_of l 0) 4) (ltb (get_or kinds l 0) 256)) _ (every right 27 all_right l h)
+  other = both_right (both (leb (table_at l) 4) (ltb (kind_at l) 256)) _ (every right 27 all_right l h)
 
-  pub fixed_within : get_or tables_of l 0 ≡ 1 → (1 ≤ l) × (l ≤ 16)
+  pub fixed_within : table_at l ≡ 1 → (1 ≤ l) × (l ≤ 16)
   fixed_within e =
-      let b : both (leb 1 l) (leb l 16) ≡ true = rw (eq-eqb (get_or tables_of l 0) 1 e) at other in
+      let b : both (leb 1 l) (leb l 16) ≡ true = rw (eq-eqb (table_at l) 1 e) at other in
       (leb-true 1 l (both_left (leb 1 l) (leb l 16) b), leb-true l 16 (both_right (leb 1 l) (leb l 16) b))
 
-  chosen_place : (get_or tables_of l 0 ≡ 1 → ⊥) → get_or chosen_places (l - 16) 0 ≡ l
+  chosen_place : (table_at l ≡ 1 → ⊥) → get_or chosen_places (l - 16) 0 ≡ l
   chosen_place n =
-      let b : eqb (get_or chosen_places (l - 16) 0) l ≡ true = rw (ne_eqb (get_or tables_of l 0) 1 n) at other in
+      let b : eqb (get_or chosen_places (l - 16) 0) l ≡ true = rw (ne_eqb (table_at l) 1 n) at other in
       eqb-true (get_or chosen_places (l - 16) 0) l b
 
 module _ (ws : List ℕ) where
   limits_content : choice ws 0 < 16 → content 0 (16 * 0 + choice ws 0) ≡ as_limits (limits_of ws)
   unfolding limits_of limits tables
-  limits_content h = content_at 0 0 (choice ws 0) (omega arith) h ∙ map_at as_limits limits (choice ws 0) (limit 0 0) [] h
+  limits_content h = content_at 0 0 (choice ws 0) (omega arith) h ∙ get_or-map as_limits limits (choice ws 0) (limit 0 0) [] h
 
   simple_content : (l : ℕ) → choice ws l < 16 → content 0 (16 * 2 + choice ws l) ≡ as_shape wide (simple_of ws l)
   unfolding simple_of simple tables
-  simple_content l h = content_at 0 2 (choice ws l) (omega arith) h ∙ map_at (as_shape wide) simple (choice ws l) (a_record []) [] h
+  simple_content l h = content_at 0 2 (choice ws l) (omega arith) h ∙ get_or-map (as_shape wide) simple (choice ws l) (a_record []) [] h
 
   compound_content : (l : ℕ) → choice ws l < 16 → content 0 (16 * 3 + choice ws l) ≡ as_shape wide (compound_of ws l)
   unfolding compound_of compound tables
-  compound_content l h = content_at 0 3 (choice ws l) (omega arith) h ∙ map_at (as_shape wide) compound (choice ws l) (a_record []) [] h
+  compound_content l h = content_at 0 3 (choice ws l) (omega arith) h ∙ get_or-map (as_shape wide) compound (choice ws l) (a_record []) [] h
 
   predicate_content : (l : ℕ) → choice ws l < 16 → content 0 (16 * 4 + choice ws l) ≡ as_predicate (predicate_of ws l)
   unfolding predicate_of predicates tables
-  predicate_content l h = content_at 0 4 (choice ws l) (omega arith) h ∙ map_at as_predicate predicates (choice ws l) (predicate 0 0 none) [] h
+  predicate_content l h = content_at 0 4 (choice ws l) (omega arith) h ∙ get_or-map as_predicate predicates (choice ws l) (predicate 0 0 None) [] h
 
   -- line l of the schema has row v of its table
-  pub HasRow : ℕ → ℕ → Type 0
-  HasRow l v = written wide (get_or (schema_frames (content_of ws)) l no_frame) ≡ get_or kinds l 0 ∷ content 0 (16 * get_or tables_of l 0 + v)
+  HasRow : ℕ → ℕ → Type 0
+  HasRow l v = written wide (get_or (schema_frames (content_of ws)) l no_frame) ≡ kind_at l ∷ content 0 (16 * table_at l + v)
 
   Fixed : ℕ → Type 0
   Fixed l = HasRow l (l - 1)
@@ -135,11 +136,11 @@ module _ (ws : List ℕ) where
   Chosen l = choice ws l < 16 → HasRow l (choice ws l)
 
   fixed_lines : All Fixed (from 1 16)
-  unfolding Fixed HasRow from kinds tables_of schema_frames content_of written as_content frame_kind kind_byte names base content joined tables as_shape ascii bytes₂
+  unfolding Fixed HasRow from kind_at table_at schema_frames content_of written as_content frame_kind kind_byte names base content joined tables as_shape ascii bytes₂
   fixed_lines = (refl, (refl, (refl, (refl, (refl, (refl, (refl, (refl, (refl, (refl, (refl, (refl, (refl, (refl, (refl, (refl, tt))))))))))))))))
 
   chosen_lines : All Chosen chosen_places
-  unfolding Chosen HasRow chosen_places from kinds tables_of schema_frames content_of written as_content frame_kind kind_byte names base as_limits as_predicate
+  unfolding Chosen HasRow chosen_places from kind_at table_at schema_frames content_of written as_content frame_kind kind_byte names base as_limits as_predicate
   chosen_lines = (
     λ h. kind_then 1 (limits_content h),
     (
@@ -168,13 +169,13 @@ module _ (ws : List ℕ) where
 
   -- which row the code picks
   abbrev pub Picked : ℕ → ℕ → Type 0
-  Picked l v = ((get_or tables_of l 0 ≡ 1) × (v ≡ l - 1)) ⊎ ((get_or tables_of l 0 ≡ 1 → ⊥) × (v ≡ choice ws l))
+  Picked l v = ((table_at l ≡ 1) × (v ≡ l - 1)) ⊎ ((table_at l ≡ 1 → ⊥) × (v ≡ choice ws l) × (v < 16))
 
-  pub row_there : (l v : ℕ) → l < 27 → choice ws l < 16 → Picked l v → 16 * get_or tables_of l 0 + v < 144
-  row_there l v h c p =
+  pub row_there : (l v : ℕ) → l < 27 → Picked l v → 16 * table_at l + v < 144
+  row_there l v h p =
       ⊎_elim
       (λ e. omega (arith, table_small l h, fixed_within l h e.0, e.1))
-      (λ e. omega (arith, table_small l h, e.1, c))
+      (λ e. omega (arith, table_small l h, e.2))
       p
 
   fixed_line : (l : ℕ) → (1 ≤ l) × (l ≤ 16) → HasRow l (l - 1)
@@ -184,18 +185,18 @@ module _ (ws : List ℕ) where
       (from_at 1 16 (l - 1) (omega (arith, w)) ∙ omega (arith, w))
       (all_at Fixed (from 1 16) (l - 1) 0 fixed_lines (omega (arith, w, from_long 1 16)))
 
-  chosen_line : (l : ℕ) → l < 27 → (get_or tables_of l 0 ≡ 1 → ⊥) → choice ws l < 16 → HasRow l (choice ws l)
+  chosen_line : (l : ℕ) → l < 27 → (table_at l ≡ 1 → ⊥) → choice ws l < 16 → HasRow l (choice ws l)
   unfolding Chosen
   chosen_line l h n = subst Chosen {y = l} (chosen_place l h n) (all_at Chosen chosen_places (l - 16) 0 chosen_lines (omega (arith, chosen_long)))
 
-  pub row_is : (l v : ℕ) → l < 27 → choice ws l < 16 → Picked l v → HasRow l v
-  row_is l v h c p =
+  row_is : (l v : ℕ) → l < 27 → Picked l v → HasRow l v
+  row_is l v h p =
       ⊎_elim
       (λ e. subst (HasRow l) (sym e.1) (fixed_line l (fixed_within l h e.0)))
-      (λ e. subst (HasRow l) (sym e.1) (chosen_line l h e.0 c))
+      (λ e. subst (HasRow l) (sym e.1) (chosen_line l h e.0 (rw e.1 at e.2)))
       p
 
-  pub schema_long : length (schema_frames (content_of ws)) ≡ 27
+  schema_long : length (schema_frames (content_of ws)) ≡ 27
   unfolding schema_frames content_of names base from
   schema_long = refl
 
@@ -203,7 +204,7 @@ module _ (ws : List ℕ) where
   pub schema_from : ℕ → List ℕ
   schema_from l = file_of wide (drop l (schema_frames (content_of ws)))
 
-  pub schema_next : (l : ℕ) → l < 27 → schema_from l ≡ hex_line (written wide (get_or (schema_frames (content_of ws)) l no_frame)) ++ schema_from (l + 1)
+  schema_next : (l : ℕ) → l < 27 → schema_from l ≡ hex_line (written wide (get_or (schema_frames (content_of ws)) l no_frame)) ++ schema_from (l + 1)
   unfolding schema_from
   schema_next l h =
       ap (file_of wide) (drop-cons (schema_frames (content_of ws)) l no_frame (omega (arith, schema_long)))
@@ -218,9 +219,9 @@ module _ (ws : List ℕ) where
   unfolding schema_from file_of flat_map
   schema_end l h = ap (file_of wide) (drop_of_length-le (schema_frames (content_of ws)) {i = l} (omega (arith, schema_long)))
 
-  pub schema_row : (l v : ℕ) → l < 27 → HasRow l v → schema_from l ≡ hex_line (get_or kinds l 0 ∷ content 0 (16 * get_or tables_of l 0 + v)) ++ schema_from (l + 1)
+  pub schema_row : (l v : ℕ) → l < 27 → Picked l v → schema_from l ≡ hex_line (kind_at l ∷ content 0 (16 * table_at l + v)) ++ schema_from (l + 1)
   unfolding HasRow
-  schema_row l v h e = schema_next l h ∙ ap (λ s. hex_line s ++ schema_from (l + 1)) e
+  schema_row l v h p = schema_next l h ∙ ap (λ s. hex_line s ++ schema_from (l + 1)) (row_is l v h p)
 
   -- ---- A query
 
@@ -257,7 +258,7 @@ module _ (ws : List ℕ) where
       let s = slot_is i in
       content_at i (get_or slots (i % 8) 0) v (omega (arith, s.2)) h
       ∙ ap (λ t. get_or t v []) s.0
-      ∙ map_at (as_expr wide) (get_or (exprs ws i) (i % 8) []) v ExprKind.Error [] (omega (arith, s.1))
+      ∙ get_or-map (as_expr wide) (get_or (exprs ws i) (i % 8) []) v ExprKind.Error [] (omega (arith, s.1))
 
   -- node i of query q, its choice c
   pub node_frame : (q i : ℕ) → choice ws (33 + 32 * q + i) < 16
@@ -271,7 +272,3 @@ module _ (ws : List ℕ) where
       let e = as_expr wide (expr_at ws i (choice ws (33 + 32 * q + i))) in
       ap (λ n. 5 ∷ a ++ bytes₄ (get_or ws n 0) ++ e) place
       ∙ ap (λ s. 5 ∷ a ++ bytes₄ (get_or ws (55 + 64 * q + 2 * i + 1) 0) ++ s) (sym (node_content i (choice ws (33 + 32 * q + i)) h))
-
-  pub slot_small : (i : ℕ) → get_or slots (i % 8) 0 < 9
-  unfolding SlotIs
-  slot_small i = omega (arith, (slot_is i).2)

@@ -1,14 +1,15 @@
 -- A query line by line, and the queries one after the other: what is left from here on.
-use Rattle.std.proofs.Common.{◌≡◌, ℕ, suc, ◌+◌, ◌-◌, ◌*◌, ◌%◌, ◌<◌, ◌≤◌, Bool, true, leb, List, [], ◌∷◌, ◌++◌, map, get_or, sym, refl, ap, ◌∙◌, subst, append_assoc, append-nil, add-one, arith, leb-true}
+use Rattle.std.proofs.Common.{◌≡◌, ℕ, suc, ◌+◌, ◌-◌, ◌*◌, ◌%◌, ◌<◌, ◌≤◌, List, [], ◌∷◌, ◌++◌, map, get_or, sym, refl, ap, ◌∙◌, subst, append_assoc, append-nil, add-one, arith}
 use mathlib.Core.List.{flat_map}
-use Rattle.text.proofs.Every.{below, every}
+use Rattle.std.proofs.lemmas.List.{get_or-map}
 use Rattle.meaning.specs.Frame.{wide, kind_byte, a_node, the_query, frame_kind}
 use Rattle.meaning.specs.Answer.{bytes₄, hex_line}
 use Rattle.meaning.specs.Content.{query_frames, schema_frames, frames_of}
 use Rattle.meaning.specs.Writing.{as_query, as_content, written, file_of}
 use Rattle.testload.specs.Rule.{queries, counts, from, choice, node_of, no_plan, plan_of, query_of, count_of, content_of}
 use Rattle.generator.specs.Promises.{tables, content}
-use Rattle.generator.proofs.Rows.{map_at, content_at}
+use Rattle.generator.specs.declared.TheConstants.{BLOCKS}
+use Rattle.generator.proofs.Rows.{content_at}
 use Rattle.generator.proofs.Lines.{file_cons, file_append, slots, node_frame}
 
 from_next : (i n : ℕ) → i < n → from i (n - i) ≡ i ∷ from (i + 1) (n - (i + 1))
@@ -19,35 +20,12 @@ from_end : (i n : ℕ) → n ≤ i → from i (n - i) ≡ []
 unfolding from
 from_end i n h = let none : n - i ≡ 0 = omega arith in ap (from i) none
 
--- `BLOCKS` of src/
 unfoldable pub blocks : List ℕ
-blocks = 1 ∷ 1 ∷ 1 ∷ 1 ∷ 1 ∷ 1 ∷ 1 ∷ 1 ∷ 2 ∷ 2 ∷ 2 ∷ 2 ∷ 2 ∷ 3 ∷ 3 ∷ 3 ∷ []
+blocks = BLOCKS
 
 blocks_are : map (λ p. p.blocks) queries ≡ blocks
 unfolding queries blocks
 blocks_are = refl
-
-few : ℕ → Bool
-few v = leb (get_or blocks v 0) 3
-
-all_few : below few 16 ≡ true
-unfolding few blocks
-all_few = refl
-
-pub blocks_few : (v : ℕ) → v < 16 → get_or blocks v 0 ≤ 3
-unfolding few
-blocks_few v h = leb-true (get_or blocks v 0) 3 (every few 16 all_few v h)
-
-four : ℕ → Bool
-four v = leb (get_or counts v 0) 4
-
-all_four : below four 16 ≡ true
-unfolding four counts
-all_four = refl
-
-pub counts_few : (v : ℕ) → v < 16 → get_or counts v 0 ≤ 4
-unfolding four
-counts_few v h = leb-true (get_or counts v 0) 4 (every four 16 all_four v h)
 
 module _ (ws : List ℕ) where
   module _ (q : ℕ) where
@@ -55,7 +33,7 @@ module _ (ws : List ℕ) where
     unfolding plan_of queries
     planned h =
         ap (λ l. get_or l (choice ws (32 + 32 * q)) 0) (sym blocks_are)
-        ∙ map_at (λ p. p.blocks) queries (choice ws (32 + 32 * q)) (no_plan ws) 0 h
+        ∙ get_or-map (λ p. p.blocks) queries (choice ws (32 + 32 * q)) (no_plan ws) 0 h
 
     -- the nodes from i on, of n, and the 06 line
     pub query_from : ℕ → ℕ → List ℕ
@@ -95,7 +73,7 @@ module _ (ws : List ℕ) where
         ∙ ap
         (λ s. hex_line (6 ∷ s))
         (sym
-        (content_at 0 8 (choice ws (32 + 32 * q)) (omega arith) h ∙ map_at (λ p. as_query p.query) queries (choice ws (32 + 32 * q)) (no_plan ws) [] h))
+        (content_at 0 8 (choice ws (32 + 32 * q)) (omega arith) h ∙ get_or-map (λ p. as_query p.query) queries (choice ws (32 + 32 * q)) (no_plan ws) [] h))
 
     -- the same with a choice in hand
     module _ (v : ℕ) (e : v ≡ choice ws (32 + 32 * q)) (h : v < 16) where
@@ -127,7 +105,7 @@ module _ (ws : List ℕ) where
   all_queries h =
       let all : (n : ℕ) → n - 0 ≡ n = λ n. omega arith in
       let n = get_or counts (choice ws 27) 0 in
-      ap (λ m. file_of wide (flat_map query_frames (map (query_of ws) (from 0 m)))) (all n ∙ map_at (λ x. x) counts (choice ws 27) 1 0 h)
+      ap (λ m. file_of wide (flat_map query_frames (map (query_of ws) (from 0 m)))) (all n ∙ get_or-map (λ x. x) counts (choice ws 27) 1 0 h)
 
   pub queries_start : (v : ℕ) → v ≡ choice ws 27 → v < 16 → queries_from (get_or counts v 0) 0 ≡ file_of wide (flat_map query_frames (content_of ws).queries)
   queries_start v e h =

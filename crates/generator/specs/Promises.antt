@@ -1,6 +1,5 @@
 -- What the functions of src/ promise: `make` writes the file of the seed, as the rule of crates/testload/specs/Rule.antt has it.
-use Rattle.std.specs.Prelude.{◌≡◌, ℕ, ◌+◌, ◌-◌, ◌*◌, ◌≤◌, true, false, List, [], ◌∷◌, ◌++◌, map, length, ◌==◌, nat_le, nat_lt, slice_index_or}
-use Rattle.std.proofs.Math.Option.{Option, none, some}
+use Rattle.std.specs.Prelude.{◌≡◌, ℕ, ◌+◌, ◌-◌, ◌*◌, ◌≤◌, true, false, List, [], ◌∷◌, ◌++◌, map, length, ◌==◌, nat_le, nat_lt, slice_index_or, None, Option, Some}
 use Rattle.text.specs.Utf8.{both}
 use Rattle.meaning.specs.Refusal.{answer_too_long}
 use Rattle.meaning.specs.Frame.{wide}
@@ -9,25 +8,18 @@ use Rattle.meaning.specs.Content.{PredicateFrame}
 use Rattle.meaning.specs.Writing.{as_shape, as_value_type, as_query, as_expr}
 use Rattle.meaning.specs.Outcome.{Result, Accepted, Refused, answered, finish}
 use Rattle.testload.specs.Rule.{Limits, limits, names, base, simple, compound, predicates, leaves, pairs, singles, queries, load_file}
-use Rattle.writer.specs.declared.Wrote.{Wrote}
-use Rattle.writer.specs.declared.Wrote.TheVariants.{To, Full}
-use Rattle.generator.specs.declared.Seed.{Seed}
 
 -- ---- Seeds
 
 -- the number that decimal digits go on to from v; none where one is no digit, or the number has more than 32 bits
 unfoldable pub digits_from : ℕ → List ℕ → Option ℕ
-digits_from v [] = some v
-digits_from v (b ∷ s) = elim (both (both (nat_le 48 b) (nat_le b 57)) (nat_lt (10 * v + (b - 48)) 0x1_0000_0000)) [ true ↦ digits_from (10 * v + (b - 48)) s | false ↦ none ]
+digits_from v [] = Some v
+digits_from v (b ∷ s) = elim (both (both (nat_le 48 b) (nat_le b 57)) (nat_lt (10 * v + (b - 48)) 0x1_0000_0000)) [ true ↦ digits_from (10 * v + (b - 48)) s | false ↦ None ]
 
 unfoldable pub decimal : List ℕ → Option ℕ
 unfolding digits_from
-decimal [] = none
+decimal [] = None
 decimal (b ∷ s) = digits_from 0 (b ∷ s)
-
-abbrev pub seed_of : Seed → Option ℕ
-seed_of (Seed.Is v) = some v
-seed_of Seed.None = none
 
 -- ---- Cells
 
@@ -71,12 +63,12 @@ content i n = slice_index_or (joined (tables i)) n []
 
 -- ---- The call
 
-abbrev pub result_of : Wrote → Result
-result_of (To n) = Accepted
-result_of Full = Refused answer_too_long
+abbrev pub result_of : Option ℕ → Result
+result_of (Some n) = Accepted
+result_of None = Refused answer_too_long
 
 -- "A slice shorter than the file gets 12 and zeros": else the file and zeros after it, and where the file ends.
-pub record Makes (seed : ℕ) (out out' : List ℕ) (r : Wrote) : Type 0 where
+pub record Makes (seed : ℕ) (out out' : List ℕ) (r : Option ℕ) : Type 0 where
   pub result : result_of r ≡ (finish (answered (load_file seed)) 0 (length out)).result
   pub answer : out' ≡ (finish (answered (load_file seed)) 0 (length out)).answer
-  pub ends : (n : ℕ) → r ≡ To n → (n ≡ length (load_file seed)) × (n ≤ length out)
+  pub ends : (n : ℕ) → r ≡ Some n → (n ≡ length (load_file seed)) × (n ≤ length out)

@@ -1,8 +1,8 @@
--- A content has grown exactly where its frames are the old ones with additions. The frames stand kind by kind, each kind before the later ones; where
--- the old file has frames of a kind left, the new one has the same ones, and where it has none left, those of the new one are additions.
+-- A content has grown exactly where its frames are the old ones with additions. The frames stand kind by kind, each
+-- kind before the later ones; where the old file has frames of a kind left, the new one has the same ones, and where it
+-- has none left, those of the new one are additions.
 use mathlib.Core.List.{List, [], ◌∷◌, ◌++◌, map, flat_map, append-nil, append_assoc}
 use mathlib.Core.Logic.{inl, inr}
-use mathlib.Core.Option.{Option}
 use mathlib.Core.Path.{◌≡◌, refl, sym, ap, subst, ◌∙◌}
 use Prim.Native.Nat.{ℕ, ◌≤◌, ◌<◌}
 use native.Mathlib.Omega.{arith}
@@ -14,6 +14,7 @@ use Rattle.meaning.specs.Content.{PredicateFrame, Content, predicate_frame, quer
 use Rattle.meaning.proofs.Lists.{all_append}
 use Rattle.laws.specs.Growth.{grow, Grown}
 use Rattle.growth.specs.Lines.{kind_of, Adds}
+use Rattle.std.specs.Prelude.{Option}
 
 -- ---- One kind
 

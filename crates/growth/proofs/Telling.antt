@@ -23,16 +23,16 @@ use Rattle.meaning.proofs.Content.{says_exactly}
 use Rattle.work.specs.Layout.{PREDICATE-COUNT}
 use Rattle.reading.specs.Promises.{Ends, reading_in, ReadsFile}
 use Rattle.reading.specs.declared.Refusal.{Refusal}
-use Rattle.reading.specs.declared.Read.{Read}
 use Rattle.editions.specs.Converted.{predicates}
 use Rattle.convert.specs.Lines.{LinesAre, SomeFrom}
 use Rattle.growth.specs.Premises.{Past, content_of, OnlyAdded, NamesNoAbsent}
 use Rattle.growth.specs.Lines.{TellsAdded}
 use Rattle.growth.specs.Promises.{number, Compares, ChecksGrowth}
-use Rattle.growth.specs.declared.Premises.{Premises}
-use Rattle.growth.specs.declared.Premises.TheVariants.{Hold, OldRefused, NewRefused, OtherChange, NamesAbsent}
 use Rattle.growth.proofs.Additions.{grown_adds, adds_grown}
 use Rattle.growth.proofs.Absent.{none_absent, absent_none}
+use Rattle.std.specs.Result.{result_or}
+use Rattle.std.specs.Prelude.{Err, Ok, Result}
+use Rattle.growth.specs.declared.Premise.{Premise}
 
 -- ---- What a reading tells
 
@@ -50,21 +50,21 @@ reads_past words f d e = cases (ltb words min_words)
 past_lines : {words : ℕ} {f : List ℕ} (p : Past words f) → LinesAre wide f (frames_of (content_of p))
 past_lines p = ap (λ x. map (said wide) (lines x)) p.says.is ∙ file_lines wide (frames_of (content_of p)) p.says.lawful.writable
 
-module _ {f w w' : List ℕ} {r : Read} (h : ReadsFile wide f w w' r) where
-  pub was_refused : (i : Refusal) → r ≡ Read.Refused i → Past (length w) f → ⊥
+module _ {f w w' : List ℕ} {r : Result (Unit {0}) Refusal} (h : ReadsFile wide f w w' r) where
+  pub was_refused : (i : Refusal) → r ≡ Err i → Past (length w) f → ⊥
   unfolding Ends
   was_refused i q p =
       let g : Ends wide f w' r (described p.form) = subst (Ends wide f w' r) (past_reads (length w) f p) h.ends in
-      let c : Read.Refused i ≡ Read.Accepted = sym q ∙ g.0 in
+      let c : Err i ≡ (Ok tt) = sym q ∙ g.0 in
       let z : ◌≡◌ {A = ℕ} 0 1 = cc in
       omega arith
 
-  pub was_accepted : r ≡ Read.Accepted → Past (length w) f
+  pub was_accepted : r ≡ Ok tt → Past (length w) f
   unfolding Ends
   was_accepted q = go (reading_in wide f (length w)) refl h.ends
     where
       go : (x : Reading) → reading_in wide f (length w) ≡ x → Ends wide f w' r x → Past (length w) f
-      go (refused i) e g = let c : Read.Accepted ≡ Read.Refused g.0 = sym q ∙ g.1 in let z : ◌≡◌ {A = ℕ} 0 1 = cc in absurd (omega arith)
+      go (refused i) e g = let c : (Ok tt) ≡ Err g.0 = sym q ∙ g.1 in let z : ◌≡◌ {A = ℕ} 0 1 = cc in absurd (omega arith)
       go (described d) e g = reads_past (length w) f d e
 
   -- the number of its predicates
@@ -102,56 +102,73 @@ module _ {words least : ℕ} {old : List ℕ} {r : Bool} (s : SomeFrom old least
   pub was_absent : r ≡ true → NamesNoAbsent words old → ⊥
   was_absent e n = let c : true ≡ false = sym e ∙ found n.past_old ∙ absent_none (content_of n.past_old) n.no_absent in clash c
 
+-- ---- A reading's end, as the first premise that fails
+
+module _ (r : Result (Unit {0}) Refusal) (p : Premise) where
+  pub refused_or : (x : Premise) → Err x ≡ result_or r (Err p) → (x ≡ p) × (i : Refusal) × (r ≡ Err i)
+  refused_or x q = go r refl q
+    where
+      go : (o : Result (Unit {0}) Refusal) → r ≡ o → ◌≡◌ {A = Result (Unit {0}) Premise} (Err x) (result_or o (Err p)) → (x ≡ p) × (i : Refusal) × (r ≡ Err i)
+      go (Ok u) e q = let z : ◌≡◌ {A = ℕ} 0 1 = cc in absurd (omega arith)
+      go (Err i) e q = (cc, i, e)
+
+  pub accepted_or : Ok tt ≡ result_or r (Err p) → r ≡ Ok tt
+  accepted_or q = go r refl q
+    where
+      go : (o : Result (Unit {0}) Refusal) → r ≡ o → ◌≡◌ {A = Result (Unit {0}) Premise} (Ok tt) (result_or o (Err p)) → r ≡ Ok tt
+      go (Ok u) e q = e
+      go (Err i) e q = let z : ◌≡◌ {A = ℕ} 0 1 = cc in absurd (omega arith)
+
 -- ---- The call
 
-module _ {old new w w₁ : List ℕ} {r : Read} (h : ReadsFile wide old w w₁ r) where
-  pub tells_1 : {i : Refusal} → r ≡ Read.Refused i → Compares old new w w₁ OldRefused
+module _ {old new w w₁ : List ℕ} {r : Result (Unit {0}) Refusal} (h : ReadsFile wide old w w₁ r) where
+  pub tells_1 : {i : Refusal} → r ≡ Err i → Compares old new w w₁ (Err Premise.OldRefused)
   tells_1 {i} q = record { told = inl (was_refused h i q, refl); long = h.long }
 
-  module _ (a : r ≡ Read.Accepted) {w₂ : List ℕ} {r' : Read} (h' : ReadsFile wide new w₁ w₂ r') where
+  module _ (a : r ≡ Ok tt) {w₂ : List ℕ} {r' : Result (Unit {0}) Refusal} (h' : ReadsFile wide new w₁ w₂ r') where
     p : Past (length w) old
     p = was_accepted h a
 
     kept : length w₂ ≡ length w
     kept = h'.long ∙ h.long
 
-    pub tells_2 : {i : Refusal} → r' ≡ Read.Refused i → Compares old new w w₂ NewRefused
+    pub tells_2 : {i : Refusal} → r' ≡ Err i → Compares old new w w₂ (Err Premise.NewRefused)
     tells_2 {i} q = record {
       told = inr (p, inl ((λ x. was_refused h' i q (subst (λ n. Past n new) (sym h.long) x)), refl));
       long = kept;
     }
 
-    module _ (a' : r' ≡ Read.Accepted) {b : Bool} (t : TellsAdded old new b) where
+    module _ (a' : r' ≡ Ok tt) {b : Bool} (t : TellsAdded old new b) where
       p' : Past (length w) new
       p' = subst (λ n. Past n new) h.long (was_accepted h' a')
 
-      pub tells_3 : b ≡ false → Compares old new w w₂ OtherChange
+      pub tells_3 : b ≡ false → Compares old new w w₂ (Err Premise.OtherChange)
       tells_3 e = record { told = inr (p, inr (p', inl (was_other t e, refl))); long = kept }
 
       module _ (e : b ≡ true) {least : ℕ} (is : least ≡ get_or w₁ PREDICATE-COUNT 0) {x : Bool} (s : SomeFrom old least x) where
-        pub tells_4 : x ≡ true → Compares old new w w₂ NamesAbsent
+        pub tells_4 : x ≡ true → Compares old new w w₂ (Err Premise.NamesAbsent)
         tells_4 d = record { told = inr (p, inr (p', inr (was_added t p p' e, inl (was_absent s (λ y. is ∙ counted h y) d, refl)))); long = kept }
 
-        pub tells_0 : x ≡ false → Compares old new w w₂ Hold
+        pub tells_0 : x ≡ false → Compares old new w w₂ (Ok tt)
         tells_0 d = record { told = inr (p, inr (p', inr (was_added t p p' e, inr (was_present s (λ y. is ∙ counted h y) p d, refl)))); long = kept }
 
-pub cleared : {old new w w₁ w' : List ℕ} {r : Premises} → Compares old new w w₁ r → w' ≡ replicate (length w₁) 0 → ChecksGrowth old new w w' r
+pub cleared : {old new w w₁ w' : List ℕ} {r : Result (Unit {0}) Premise} → Compares old new w w₁ r → w' ≡ replicate (length w₁) 0 → ChecksGrowth old new w w' r
 cleared h z = record { told = h.told; work = z ∙ ap (λ n. replicate n 0) h.long }
 
 -- ---- The line
 
 -- its second digit does not overflow a byte
-pub number_low : (p : Premises) (n : ℕ) → n ≡ number p → n ≤ 4
-number_low Hold n e = omega (arith, e)
-number_low OldRefused n e = omega (arith, e)
-number_low NewRefused n e = omega (arith, e)
-number_low OtherChange n e = omega (arith, e)
-number_low NamesAbsent n e = omega (arith, e)
+pub number_low : (p : Result (Unit {0}) Premise) (n : ℕ) → n ≡ number p → n ≤ 4
+number_low (Ok tt) n e = omega (arith, e)
+number_low (Err Premise.OldRefused) n e = omega (arith, e)
+number_low (Err Premise.NewRefused) n e = omega (arith, e)
+number_low (Err Premise.OtherChange) n e = omega (arith, e)
+number_low (Err Premise.NamesAbsent) n e = omega (arith, e)
 
-pub line_is : (p : Premises) (n : ℕ) → n ≡ number p → 48 ∷ (48 + n) ∷ 10 ∷ [] ≡ hex_line (number p ∷ [])
+pub line_is : (p : Result (Unit {0}) Premise) (n : ℕ) → n ≡ number p → 48 ∷ (48 + n) ∷ 10 ∷ [] ≡ hex_line (number p ∷ [])
 unfolding hex_line
-line_is Hold n e = rw e refl
-line_is OldRefused n e = rw e refl
-line_is NewRefused n e = rw e refl
-line_is OtherChange n e = rw e refl
-line_is NamesAbsent n e = rw e refl
+line_is (Ok tt) n e = rw e refl
+line_is (Err Premise.OldRefused) n e = rw e refl
+line_is (Err Premise.NewRefused) n e = rw e refl
+line_is (Err Premise.OtherChange) n e = rw e refl
+line_is (Err Premise.NamesAbsent) n e = rw e refl

@@ -1,57 +1,29 @@
 -- The walk through both files, a line of each: what is asked of all frames is asked of those that are left.
-use mathlib.Core.Bool.{Bool, true, false}
+use mathlib.Core.Bool.{Bool, false}
 use mathlib.Core.List.{List, [], ◌∷◌, map}
 use mathlib.Core.Logic.{inl, inr}
 use mathlib.Core.Path.{◌≡◌, refl, sym, ap, subst, ◌∙◌}
-use Prim.Native.Nat.{ℕ, ◌+◌, ◌-◌, ◌≤◌, ◌<◌}
+use Prim.Native.Nat.{ℕ, ◌≤◌, ◌<◌}
 use native.Mathlib.Omega.{arith}
 use lib.Dec.{leb, eqb}
 use lib.ListN.{length, get_or, take, drop, length-drop}
-use lib.Seq.{ext_get_or}
-use borrow.Author.Tests.{leb-true, leb-false, eqb-true, eqb-false}
+use borrow.Author.Tests.{leb-true, leb-false, le-leb, lt-leb}
 use Rattle.meaning.specs.Lines.{Line, closed, unclosed, LF, in_front, lines}
 use Rattle.meaning.specs.Frame.{wide, kind_byte, Frame}
 use Rattle.meaning.specs.SoFar.{frames, said}
 use Rattle.meaning.specs.Writing.{written, Writable}
-use Rattle.meaning.proofs.Tests.{cases}
+use Rattle.meaning.proofs.Tests.{cases, clash}
+use lib.Pointwise.{pointwise}
+use Rattle.std.proofs.lemmas.Bool.Decides.{Decides-eqb}
+use Rattle.std.proofs.lemmas.Slice.Eq.{slice_eq-Decides}
 use Rattle.meaning.proofs.Hex.{hexes}
 use Rattle.meaning.proofs.Written.{says}
 use Rattle.frames.specs.Promises.{byte_w, BytesAt, Malformed}
 use Rattle.convert.specs.Lines.{LinesAre}
-use Rattle.convert.proofs.Walking.{cut, step, no_bad, at_end_lem}
+use Rattle.convert.proofs.Walking.{step, no_bad, at_end_lem}
 use Rattle.growth.specs.declared.Beside.{Beside}
 use Rattle.growth.specs.declared.Beside.TheVariants.{Same, Added, Other}
-use Rattle.growth.specs.Lines.{SameBytes, kind_of, Addition, Adds, IsBeside, TellsBeside, TellsAdded}
-
--- ---- Bytes
-
-module _ {a b : List ℕ} where
-  pub lengths_differ : (length a ≡ length b → ⊥) → SameBytes a b false
-  lengths_differ d = record { same = λ q. let z : ◌≡◌ {A = ℕ} 0 1 = cc in absurd (omega arith); other = λ q e. d (ap length e) }
-
-  pub bytes_differ : (i : ℕ) → (get_or a i 0 ≡ get_or b i 0 → ⊥) → SameBytes a b false
-  bytes_differ i d = record { same = λ q. let z : ◌≡◌ {A = ℕ} 0 1 = cc in absurd (omega arith); other = λ q e. d (ap (λ s. get_or s i 0) e) }
-
--- The bytes below i are the same.
-pub record Agree (a b : List ℕ) (i : ℕ) : Type 0 where
-  pub long : length a ≡ length b
-  pub bytes : (j : ℕ) → j < i → get_or a j 0 ≡ get_or b j 0
-
-module _ {a b : List ℕ} where
-  pub agree_start : length a ≡ length b → Agree a b 0
-  agree_start l = record { long = l; bytes = λ j k. absurd (omega (arith, k)) }
-
-  pub agree_more : {i : ℕ} → Agree a b i → get_or a i 0 ≡ get_or b i 0 → Agree a b (i + 1)
-  agree_more {i} h e = record {
-    long = h.long;
-    bytes = λ j k. cases (eqb j i) (λ q. rw (eqb-true j i q) e) (λ q. h.bytes j (let d = eqb-false j i q in omega (arith, d)));
-  }
-
-  pub agree_done : {i : ℕ} → Agree a b i → length a ≤ i → SameBytes a b true
-  agree_done h m = record {
-    same = λ q. ext_get_or 0 a b h.long (λ j k. h.bytes j (omega arith));
-    other = λ q e. let z : ◌≡◌ {A = ℕ} 0 1 = cc in absurd (omega arith);
-  }
+use Rattle.growth.specs.Lines.{kind_of, Addition, Adds, IsBeside, TellsBeside, TellsAdded}
 
 -- ---- Two lines
 
@@ -64,9 +36,12 @@ first_byte : (f : Frame) (s : List ℕ) → s ≡ written wide f → byte_w s 0 
 unfolding written
 first_byte f s e = ap (λ s. get_or s 0 0) e
 
+pub unequal : {a b : List ℕ} {r : Bool} → r ≡ pointwise eqb a b → r ≡ false → a ≡ b → ⊥
+unequal {a} {b} {r} e q s = clash (sym ((slice_eq-Decides Decides-eqb a b r e).1 s) ∙ q)
+
 module _ {a b : List ℕ} where
-  pub beside_same : {r : Bool} → SameBytes a b r → r ≡ true → TellsBeside a b Same
-  beside_same h q = record { is = λ f g v w p o. same_frame f g p o (sym v ∙ h.same q ∙ w) }
+  pub beside_same : a ≡ b → TellsBeside a b Same
+  beside_same e = record { is = λ f g v w p o. same_frame f g p o (sym v ∙ e ∙ w) }
 
   pub beside_added : 2 ≤ byte_w b 0 → byte_w b 0 ≤ 4 → byte_w b 0 < byte_w a 0 → TellsBeside a b Added
   unfolding kind_byte
@@ -77,13 +52,13 @@ module _ {a b : List ℕ} where
         record { least = omega (arith, l, y); most = omega (arith, m, y); later = omega (arith, k, x, y) };
   }
 
-  pub beside_other : {r : Bool} → SameBytes a b r → r ≡ false → (2 ≤ byte_w b 0 → byte_w b 0 ≤ 4 → byte_w b 0 < byte_w a 0 → ⊥) → TellsBeside a b Other
+  pub beside_other : (a ≡ b → ⊥) → (2 ≤ byte_w b 0 → byte_w b 0 ≤ 4 → byte_w b 0 < byte_w a 0 → ⊥) → TellsBeside a b Other
   unfolding kind_byte
-  beside_other h q n = record {
+  beside_other d n = record {
     is = λ f g v w p o.
         let x = first_byte f a v in
         let y = first_byte g b w in
-        (λ e. h.other q (v ∙ ap (written wide) e ∙ sym w), λ d. n (omega (arith, d.least, y)) (omega (arith, d.most, y)) (omega (arith, d.later, x, y)));
+        (λ e. d (v ∙ ap (written wide) e ∙ sym w), λ k. n (omega (arith, k.least, y)) (omega (arith, k.most, y)) (omega (arith, k.later, x, y)));
   }
 
 -- ---- All lines
@@ -167,6 +142,24 @@ module _ {old new : List ℕ} {i j : ℕ} (c : Walking old new i j) where
       shorter (f ∷ fs) [] e l a h = h
       shorter (f ∷ fs) (g ∷ gs) e l a h = let z : ◌≡◌ {A = ℕ} 0 1 = cc in omega arith
 
+  -- a line of the new file, and no further one of the old
+  pub walking_none : (i < length old → Malformed old i) → {b : List ℕ} {m after : ℕ} → BytesAt new j b m after → TellsAdded old new false
+  walking_none fails e = cases (leb (length old) i)
+      (λ q. walking_longer (leb-true (length old) i q) (omega (arith, e.on, e.within)))
+      (λ q. walking_bad_old (fails (leb-false (length old) i q)))
+
+  -- no further line of the new file
+  module _ (fails : j < length new → Malformed new j) where
+    pub walking_ended : length old ≤ i → TellsAdded old new (leb (length new) j)
+    walking_ended l = cases (leb (length new) j)
+        (λ q. rw q (rw (le-leb (length old) i l) at (walking_done (leb-true (length new) j q))))
+        (λ q. rw q (walking_bad_new (fails (leb-false (length new) j q))))
+
+    pub walking_left : i < length old → TellsAdded old new (leb (length old) i)
+    walking_left l = cases (leb (length new) j)
+        (λ q. walking_done (leb-true (length new) j q))
+        (λ q. rw (lt-leb (length old) i l) (walking_bad_new (fails (leb-false (length new) j q))))
+
   module _ {a b : List ℕ} {n next m after : ℕ} (d : BytesAt old i a n next) (e : BytesAt new j b m after) where
     -- a line of each
     record Turn (r : Beside) (fs gs : List Frame) : Type 0 where
@@ -181,7 +174,7 @@ module _ {old new : List ℕ} {i j : ℕ} (c : Walking old new i j) where
       to : Adds fs gs → Adds (left ∷ olds) (right ∷ news)
       back : Adds (left ∷ olds) (right ∷ news) → Adds fs gs
 
-    turn : (r : Beside) → TellsBeside (take (n - 0) a) (take (m - 0) b) r → (fs gs : List Frame) → LinesAre wide old fs → LinesAre wide new gs → Turn r fs gs
+    turn : (r : Beside) → TellsBeside (take n a) (take m b) r → (fs gs : List Frame) → LinesAre wide old fs → LinesAre wide new gs → Turn r fs gs
     turn r t fs gs u v =
         let k = c.left fs gs u v in
         let x = step wide d k.olds k.old_are in
@@ -189,7 +182,7 @@ module _ {old new : List ℕ} {i j : ℕ} (c : Walking old new i j) where
         record {
           left = x.first;
           right = y.first;
-          is = t.is x.first y.first (cut a n ∙ x.bytes) (cut b m ∙ y.bytes) x.writable y.writable;
+          is = t.is x.first y.first x.bytes y.bytes x.writable y.writable;
           olds = x.rest;
           news = y.rest;
           old_are = x.later;
@@ -199,7 +192,7 @@ module _ {old new : List ℕ} {i j : ℕ} (c : Walking old new i j) where
           back = λ h. k.back (subst (λ l. Adds l k.news) (sym x.are) (subst (λ l. Adds (x.first ∷ x.rest) l) (sym y.are) h));
         }
 
-    pub walking_same : TellsBeside (take (n - 0) a) (take (m - 0) b) Same → Walking old new next after
+    pub walking_same : TellsBeside (take n a) (take m b) Same → Walking old new next after
     walking_same t = record {
       left = λ fs gs u v. let k = turn Same t fs gs u v in record {
         olds = k.olds;
@@ -215,7 +208,7 @@ module _ {old new : List ℕ} {i j : ℕ} (c : Walking old new i j) where
         past f g q fs gs (inl h) = h.1
         past f g q fs gs (inr h) = absurd (omega (arith, h.0.later, ap kind_of q))
 
-    pub walking_added : TellsBeside (take (n - 0) a) (take (m - 0) b) Added → Walking old new i after
+    pub walking_added : TellsBeside (take n a) (take m b) Added → Walking old new i after
     walking_added t = record {
       left = λ fs gs u v. let k = turn Added t fs gs u v in record {
         olds = k.left ∷ k.olds;
@@ -231,7 +224,7 @@ module _ {old new : List ℕ} {i j : ℕ} (c : Walking old new i j) where
         past f g q fs gs (inl h) = absurd (omega (arith, q.later, ap kind_of h.0))
         past f g q fs gs (inr h) = h.1
 
-    pub walking_other : TellsBeside (take (n - 0) a) (take (m - 0) b) Other → TellsAdded old new false
+    pub walking_other : TellsBeside (take n a) (take m b) Other → TellsAdded old new false
     walking_other t = record {
       added = λ fs gs u v q. let z : ◌≡◌ {A = ℕ} 0 1 = cc in absurd (omega arith);
       other = λ fs gs u v q h. let k = turn Other t fs gs u v in past k.left k.right k.is k.olds k.news (k.to h);

@@ -6,14 +6,11 @@ use Rattle.convert.specs.Lines.{LinesAre}
 use Rattle.growth.specs.declared.Beside.{Beside}
 use Rattle.growth.specs.declared.Beside.TheVariants.{Same, Added, Other}
 
-pub record SameBytes (a b : List ℕ) (r : Bool) : Type 0 where
-  pub same : r ≡ true → a ≡ b
-  pub other : r ≡ false → a ≡ b → ⊥
-
 abbrev pub kind_of : Frame → ℕ
 kind_of f = kind_byte (frame_kind f)
 
--- A name, a type or a predicate of the new file where the old one has come to a later kind: it stands after all old ones of its kind.
+-- A name, a type or a predicate of the new file where the old one has come to a later kind: it stands after all old
+-- ones of its kind.
 pub record Addition (old new : Frame) : Type 0 where
   pub least : kind_byte name ≤ kind_of new
   pub most : kind_of new ≤ kind_byte predicate

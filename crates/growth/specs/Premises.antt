@@ -1,7 +1,7 @@
--- Card 14: the premises, and which of them is told. "If the new file differs only by added names, types and predicates, each after all old ones of
--- its kind, and no predicate number named in the old file was absent there, an old query accepted before gets the same answer, byte for byte. Both
--- files are past refusals 1 to 10 and 13." What a file holds is `content` of crates/meaning/specs/Content.antt; `Grown` and `NoAbsent` are of
--- crates/laws/specs/Growth.antt.
+-- Card 14: the premises, and which of them is told. "If the new file differs only by added names, types and predicates,
+-- each after all old ones of its kind, and no predicate number named in the old file was absent there, an old query
+-- accepted before gets the same answer, byte for byte. Both files are past refusals 1 to 10 and 13." What a file holds
+-- is `content` of crates/meaning/specs/Content.antt; `Grown` and `NoAbsent` are of crates/laws/specs/Growth.antt.
 use Rattle.std.specs.Prelude.{List, [], ◌∷◌, ◌⊎◌, ◌≡◌, ℕ, ◌≤◌}
 use Rattle.meaning.specs.Frame.{wide}
 use Rattle.meaning.specs.File.{Form}
@@ -9,7 +9,8 @@ use Rattle.meaning.specs.Content.{Content, Says}
 use Rattle.meaning.specs.Outcome.{min_words}
 use Rattle.laws.specs.Growth.{Grown, NoAbsent}
 
--- Past 1, which is of the work slice alone, and past 2 to 10 and 13 (`says_exactly` in crates/meaning/proofs/Content.antt).
+-- Past 1, which is of the work slice alone, and past 2 to 10 and 13 (`says_exactly` in
+-- crates/meaning/proofs/Content.antt).
 pub record Past (words : ℕ) (file : List ℕ) : Type 0 where
   pub enough : min_words ≤ words
   pub form : Form
@@ -29,8 +30,8 @@ pub record NamesNoAbsent (words : ℕ) (old : List ℕ) : Type 0 where
   pub past_old : Past words old
   pub no_absent : NoAbsent (content_of past_old)
 
--- "prints the line 00 if the premises hold, else the first that fails: 01 the old file past those refusals, 02 the new one past them, 03 only such
--- additions, 04 no absent predicate"
+-- "prints the line 00 if the premises hold, else the first that fails: 01 the old file past those refusals, 02 the new
+-- one past them, 03 only such additions, 04 no absent predicate"
 pub record Premise : Type 1 where
   pub number : ℕ
   pub holds : Type 0

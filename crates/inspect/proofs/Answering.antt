@@ -14,33 +14,34 @@ use Rattle.entries.specs.Entries as Entries
 use Rattle.entries.specs.Entries.{found, fewer, turned_down, entry_at}
 use Rattle.reading.specs.Promises.{refusal}
 use Rattle.reading.specs.declared.Refusal.{Refusal}
-use Rattle.seek.specs.declared.Sought.{Sought}
 use Rattle.seek.specs.Promises.{Shows, Seeks}
 use Rattle.seek.specs.Promises as Seek
-use Rattle.plain.specs.declared.Plain.{Plain}
 use Rattle.solver.specs.Promises.{Left, Solves}
 use Rattle.inspect.specs.Inspect as Defined
 use Rattle.inspect.specs.Inspect.{told, inspected, decide_plain, lent_after, inspect_line}
 use Rattle.inspect.specs.declared.Inspected.{Inspected}
 use Rattle.inspect.specs.Promises.{inspected_by, Told, Answers, Inspects, line_of}
+use Rattle.std.specs.Prelude.{Err, None, Ok, Option, Result, Some, ℕ}
+use Rattle.std.proofs.lemmas.Option.{some_pair_parts}
+use Rattle.plain.specs.declared.Unsolved.{Unsolved}
 
 -- The answer, and what the lent slice holds.
 abbrev Right : List ℕ → ℕ → Inspected → Defined.Inspected → Type 0
 Right l lent r x = Told r x × (l ≡ lent_after lent x)
 
-solver_right : (l : List ℕ) (lent : ℕ) (p : Plain) (x : Solver.Answer) → Left l lent p x → Right l lent (inspected_by p) (told x)
+solver_right : (l : List ℕ) (lent : ℕ) (p : Result ℕ Unsolved) (x : Solver.Answer) → Left l lent p x → Right l lent (inspected_by p) (told x)
 unfolding told lent_after
 solver_right l lent p (Solver.Success bs) h = (ap inspected_by h.0, h.1)
 solver_right l lent p Solver.Failure h = (ap inspected_by h.0, h.1)
 solver_right l lent p Solver.ShutOut h = (ap inspected_by h.0, h.1)
 solver_right l lent p Solver.TooFew h = (ap inspected_by h.0, h.1)
 
-module _ {f : List ℕ} {n : ℕ} {w w₁ : List ℕ} {s : Sought} (S : Seeks f n w w₁ s) (l : List ℕ) where
+module _ {f : List ℕ} {n : ℕ} {w w₁ : List ℕ} {s : Result (Option (Ty × Ty)) Refusal} (S : Seeks f n w w₁ s) (l : List ℕ) where
   answers : {w₂ l' : List ℕ} {r : Inspected} → length w₂ ≡ length w₁ → Right l' (length l) r (decide_plain f n (length w) (length l))
       → Answers f n w l w₂ l' r
   answers long h = record { told = h.0; lent = h.1; words = long ∙ S.words }
 
-  pub solved : {a b : Ty} → s ≡ Sought.Entry a b → {w₂ l' : List ℕ} {p : Plain} {r : Inspected} → Solves w₁ a b l w₂ l' p → r ≡ inspected_by p
+  pub solved : {a b : Ty} → s ≡ Ok (Some (a, b)) → {w₂ l' : List ℕ} {p : Result ℕ Unsolved} {r : Inspected} → Solves w₁ a b l w₂ l' p → r ≡ inspected_by p
       → Answers f n w l w₂ l' r
   unfolding decide_plain inspected
   solved {a} {b} e {w₂} {l'} {p} {r} P is = answers P.keeps.long (go (entry_at f n (length w)) S.is)
@@ -50,8 +51,9 @@ module _ {f : List ℕ} {n : ℕ} {w w₁ : List ℕ} {s : Sought} (S : Seeks f 
 
       go : (x : Entries.Sought) → Seek.Told w₁ s x → Right l' (length l) r (inspected (length l) x)
       go (found x) h =
-          let one : h.0 ≡ a = cc (h.2, e) in
-          let other : h.1 ≡ b = cc (h.2, e) in
+          let both : ◌≡◌ {A = Option (Ty × Ty)} (Some (h.0, h.1)) (Some (a, b)) = cc (h.2, e) in
+          let one : h.0 ≡ a = (some_pair_parts _ _ _ _ both).0 in
+          let other : h.1 ≡ b = (some_pair_parts _ _ _ _ both).1 in
           let shows : Shows w₁ a b x = rw (sym one, sym other) h.3 in
           subst (λ y. Right l' (length l) y (inspected (length l) (found x))) (sym is)
           (solver_right l' (length l) p (answer (length l) x.before x.got x.expected) (at x shows))
@@ -59,7 +61,7 @@ module _ {f : List ℕ} {n : ℕ} {w w₁ : List ℕ} {s : Sought} (S : Seeks f 
       go (turned_down i) h = clash (cc (h.1, e))
 
   module _ {l' : List ℕ} (zeros : l' ≡ replicate (length l) 0) where
-    pub none_there : s ≡ Sought.Fewer → Answers f n w l w₁ l' Inspected.Fewer
+    pub none_there : s ≡ Ok None → Answers f n w l w₁ l' Inspected.Fewer
     unfolding decide_plain inspected lent_after
     none_there e = answers refl (go (entry_at f n (length w)) S.is)
       where
@@ -68,7 +70,7 @@ module _ {f : List ℕ} {n : ℕ} {w w₁ : List ℕ} {s : Sought} (S : Seeks f 
         go fewer h = (refl, zeros)
         go (turned_down i) h = clash (cc (h.1, e))
 
-    pub refused : {i : Refusal} → s ≡ Sought.Refused i → Answers f n w l w₁ l' (Inspected.Refused i)
+    pub refused : {i : Refusal} → s ≡ Err i → Answers f n w l w₁ l' (Inspected.Refused i)
     unfolding decide_plain inspected lent_after
     refused {i} e = answers refl (go (entry_at f n (length w)) S.is)
       where

@@ -2,7 +2,6 @@
 -- at an entry that is there it fails exactly where `unify` fails, and the same assignments respect the bindings of both.
 use mathlib.Core.List.{List}
 use mathlib.Core.Logic.{◌↔◌, ◌⊎◌, inl, inr}
-use mathlib.Core.Option.{Option, none, some}
 use mathlib.Core.Path.{◌≡◌, refl, sym, ap, ◌∙◌, subst}
 use Prim.Native.Nat.{ℕ, ◌<◌}
 use lib.ListN.{length, replicate}
@@ -26,6 +25,7 @@ use Rattle.entries.specs.Entries.{Sought, found, fewer, turned_down, entry_at}
 use Rattle.entries.proofs.Entries.{sought_refused, sought_led}
 use Rattle.inspect.specs.Inspect.{Inspected, Success, Failure, ShutOut, Fewer, Refused, TooFewWords, told, inspected, decide_plain, refused_by}
 use Rattle.inspect.specs.Claims.{BothAdmitted, Overflows, There, Exactly, AsUnifyFrom, BesideUnify}
+use Rattle.std.specs.Prelude.{None, Option, Some}
 
 -- ---- What the solver answers is no refusal of the reading
 
@@ -71,7 +71,7 @@ told_success Solver.Failure bs e = clash (cc e)
 told_success Solver.ShutOut bs e = clash (cc e)
 told_success Solver.TooFew bs e = clash (cc e)
 
-refused_number : (x : Inspected) (i : ℕ) → (refused_by x ≡ some i) ↔ (((r : Refusal) × (x ≡ Refused r) × (number r ≡ i)) ⊎ ((i ≡ 18) × (x ≡ TooFewWords)))
+refused_number : (x : Inspected) (i : ℕ) → (refused_by x ≡ Some i) ↔ (((r : Refusal) × (x ≡ Refused r) × (number r ≡ i)) ⊎ ((i ≡ 18) × (x ≡ TooFewWords)))
 unfolding refused_by
 refused_number (Success bs) i = (λ e. clash (cc e), λ h. elim h [ inl y ↦ clash (cc y.1) | inr y ↦ clash (cc y.1) ])
 refused_number Failure i = (λ e. clash (cc e), λ h. elim h [ inl y ↦ clash (cc y.1) | inr y ↦ clash (cc y.1) ])
@@ -79,11 +79,11 @@ refused_number ShutOut i = (λ e. clash (cc e), λ h. elim h [ inl y ↦ clash (
 refused_number Fewer i = (λ e. clash (cc e), λ h. elim h [ inl y ↦ clash (cc y.1) | inr y ↦ clash (cc y.1) ])
 refused_number (Refused r) i = (
   λ e. let same : number r ≡ i = cc e in inl (r, refl, same),
-  λ h. elim h [ inl y ↦ (let same : r ≡ y.0 = cc y.1 in ap some (ap number same ∙ y.2)) | inr y ↦ clash (cc y.1) ],
+  λ h. elim h [ inl y ↦ (let same : r ≡ y.0 = cc y.1 in ap Some (ap number same ∙ y.2)) | inr y ↦ clash (cc y.1) ],
 )
 refused_number TooFewWords i = (
   λ e. let same : 18 ≡ i = cc e in inr (sym same, refl),
-  λ h. elim h [ inl y ↦ clash (cc y.1) | inr y ↦ ap some (sym y.0) ],
+  λ h. elim h [ inl y ↦ clash (cc y.1) | inr y ↦ ap Some (sym y.0) ],
 )
 
 -- ---- At an entry
@@ -135,11 +135,11 @@ module _ (file : List ℕ) (n words lent : ℕ) where
   unfolding decide_plain inspected
   at_entry e q = ap (inspected lent) q
 
-  reaches : (e : Entry) → entry_at file n words ≡ found e → (nodes : ℕ) × EntryLed max_visits (replicate nodes none) e
+  reaches : (e : Entry) → entry_at file n words ≡ found e → (nodes : ℕ) × EntryLed max_visits (replicate nodes None) e
   reaches e q = sought_led file n words e q
 
   there : (e : Entry) (q : entry_at file n words ≡ found e) → Facts lent (reaches e q).1.at.state e.before e.got e.expected
-  there e q = let r = reaches e q in led lent max_visits (replicate r.0 none) e r.1
+  there e q = let r = reaches e q in led lent max_visits (replicate r.0 None) e r.1
 
   -- An answer that neither the reading nor the count gives is the solver's, at an entry.
   by_entry : (x : Inspected) → ((r : Refusal) → ¬ (x ≡ Refused r)) → ¬ (x ≡ Fewer) → decide_plain file n words lent ≡ x

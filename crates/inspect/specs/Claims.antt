@@ -1,6 +1,5 @@
 -- What is claimed of the call, over the definitions alone (proofs/Promises.antt).
-use Rattle.std.specs.Prelude.{List, ◌↔◌, ◌⊎◌, ◌≡◌, ℕ, ◌<◌, replicate}
-use Rattle.std.proofs.Math.Option.{Option, none, some}
+use Rattle.std.specs.Prelude.{List, ◌↔◌, ◌⊎◌, ◌≡◌, ℕ, ◌<◌, replicate, None, Option, Some}
 use Rattle.unification.specs.Ty.{Ty}
 use Rattle.unification.specs.Bindings.{State}
 use Rattle.unification.specs.Unify.{Ok, unify}
@@ -34,7 +33,7 @@ module _ (file : List ℕ) (n words lent : ℕ) where
     pub shut_out : (decide_plain file n words lent ≡ ShutOut) ↔ There (λ e. ¬ BothAdmitted e)
     pub too_few : (decide_plain file n words lent ≡ TooFewWords) ↔ There (λ e. BothAdmitted e × Overflows lent e)
     -- by their numbers
-    pub numbered : (i : ℕ) → (refused_by (decide_plain file n words lent) ≡ some i)
+    pub numbered : (i : ℕ) → (refused_by (decide_plain file n words lent) ≡ Some i)
         ↔ (((r : Refusal) × (decide file words ≡ Outcome.turned_down r) × (number r ≡ i)) ⊎ ((i ≡ 18) × There (λ e. BothAdmitted e × Overflows lent e)))
 
   -- The answer at an entry, beside `unify` from a state.
@@ -48,4 +47,4 @@ module _ (file : List ℕ) (n words lent : ℕ) where
   pub record BesideUnify (e : Entry) : Type 0 where
     pub every : (v : ℕ) (tys : List (Option Ty)) (m : Machine) → Calls v tys m → m.state.subst ≡ e.before
         → Ends (unify m.state e.got e.expected) → AsUnifyFrom e m.state
-    pub reached : (nodes : ℕ) × EntryLed max_visits (replicate nodes none) e
+    pub reached : (nodes : ℕ) × EntryLed max_visits (replicate nodes None) e

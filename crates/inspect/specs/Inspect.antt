@@ -1,8 +1,7 @@
 -- Card 12's call: the plain solver's answer at the n-th entry to `unify` of a file's run. "Answers: 1 to 11 and 13 as for the full check, 11 also
 -- where the visits run out only after the n-th; 18 where, on sides that demand 3 admits, a step of the defined run needs more words than were lent,
 -- after all others, this engine only; any of them leaves zeros in the lent slice and the work slice."
-use Rattle.std.specs.Prelude.{List, [], ◌∷◌, ◌++◌, ℕ, ◌-◌, length, replicate}
-use Rattle.std.proofs.Math.Option.{Option, none, some}
+use Rattle.std.specs.Prelude.{List, [], ◌∷◌, ◌++◌, ℕ, ◌-◌, length, replicate, None, Option, Some}
 use Rattle.meaning.specs.Refusal.{Refusal, number}
 use Rattle.meaning.specs.Answer.{hex_line}
 use Rattle.plain_theory.specs.Plain.{Binding}
@@ -38,12 +37,12 @@ decide_plain file n words lent = inspected lent (entry_at file n words)
 -- The number of the refusal, if it is one.
 unfoldable pub refused_by : Inspected → Option ℕ
 unfolding number
-refused_by (Success bs) = none
-refused_by Failure = none
-refused_by ShutOut = none
-refused_by Fewer = none
-refused_by (Refused r) = some (number r)
-refused_by TooFewWords = some 18
+refused_by (Success bs) = None
+refused_by Failure = None
+refused_by ShutOut = None
+refused_by Fewer = None
+refused_by (Refused r) = Some (number r)
+refused_by TooFewWords = Some 18
 
 -- ---- The slices
 

@@ -1,20 +1,20 @@
 -- What the functions of src/ promise: for every file, every number and both slices the outcome is the definition's.
-use Rattle.std.specs.Prelude.{List, [], ◌∷◌, ◌≡◌, ℕ, length, replicate}
+use Rattle.std.specs.Prelude.{List, [], ◌∷◌, ◌≡◌, ℕ, length, replicate, Err, Ok, Result}
 use Rattle.meaning.specs.Refusal.{number}
 use Rattle.meaning.specs.Answer.{hex_line}
 use Rattle.plain_theory.specs.Words.{bindings_spelled}
 use Rattle.reading.specs.Promises.{refusal}
 use Rattle.reading.specs.declared.Refusal.{Refusal}
-use Rattle.plain.specs.declared.Plain.{Plain}
 use Rattle.inspect.specs.Inspect as Defined
 use Rattle.inspect.specs.Inspect.{decide_plain, lent_after}
 use Rattle.inspect.specs.declared.Inspected.{Inspected}
+use Rattle.plain.specs.declared.Unsolved.{Unsolved}
 
-abbrev pub inspected_by : Plain → Inspected
-inspected_by (Plain.Success n) = Inspected.Success n
-inspected_by Plain.Failure = Inspected.Failure
-inspected_by Plain.ShutOut = Inspected.ShutOut
-inspected_by Plain.TooFew = Inspected.TooFewWords
+abbrev pub inspected_by : Result ℕ Unsolved → Inspected
+inspected_by (Ok n) = Inspected.Success n
+inspected_by (Err Unsolved.Failure) = Inspected.Failure
+inspected_by (Err Unsolved.ShutOut) = Inspected.ShutOut
+inspected_by (Err Unsolved.TooFew) = Inspected.TooFewWords
 
 -- What is answered, beside what the definition decides.
 abbrev pub Told : Inspected → Defined.Inspected → Type 0

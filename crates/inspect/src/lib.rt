@@ -4,12 +4,12 @@
 ghost use Rattle.std.specs.Prelude.{◌≡◌};
 ghost use Rattle.inspect.specs.Promises.{inspected_by, line_of, Answers, Inspects};
 
-use plain::Plain;
+use plain::Unsolved;
 use reading::Refusal;
-use seek::Sought;
 use work::clear;
 
 // After a success with the words that the bindings take in the lent slice; `TooFewWords` is refusal 18.
+// No Result: the definition's six answers one to one; as a Result they would be two types, and each use would join them again.
 #[derive(Clone, Copy)]
 pub enum Inspected {
     Success(usize),
@@ -20,14 +20,16 @@ pub enum Inspected {
     TooFewWords,
 }
 
-fn told(p: Plain) -> Inspected
-    ensures { result ≡ inspected_by p }
-{
-    match p {
-        Plain::Success(n) => Inspected::Success(n),
-        Plain::Failure => Inspected::Failure,
-        Plain::ShutOut => Inspected::ShutOut,
-        Plain::TooFew => Inspected::TooFewWords,
+impl From<Result<usize, Unsolved>> for Inspected {
+    ghost from_gives = { λ p r. r ≡ inspected_by p };
+
+    fn from(p: Result<usize, Unsolved>) -> Inspected {
+        match p {
+            Ok(n) => Inspected::Success(n),
+            Err(Unsolved::Failure) => Inspected::Failure,
+            Err(Unsolved::ShutOut) => Inspected::ShutOut,
+            Err(Unsolved::TooFew) => Inspected::TooFewWords,
+        }
     }
 }
 
@@ -35,17 +37,15 @@ fn told(p: Plain) -> Inspected
 fn answer(file: &[u8], n: u32, work: &mut [u32], lent: &mut [u32]) -> Inspected
     ensures { Answers file.now n work.old lent.old work.new lent.new result }
 {
-    let s = seek::seek(file, n, work);
-    match s {
-        Sought::Entry(got, expected) => {
-            let p = solver::solve(work, got, expected, lent);
-            told(p)
-        }
-        Sought::Fewer => {
-            work::clear(lent);
-            Inspected::Fewer
-        }
-        Sought::Refused(e) => {
+    match seek::seek(file, n, work) {
+        Ok(found) => match found {
+            Some((got, expected)) => Inspected::from(solver::solve(work, got, expected, lent)),
+            None => {
+                work::clear(lent);
+                Inspected::Fewer
+            }
+        },
+        Err(e) => {
             work::clear(lent);
             Inspected::Refused(e)
         }
@@ -57,9 +57,9 @@ pub fn inspect(file: &[u8], n: u32, work: &mut [u32], lent: &mut [u32]) -> Inspe
 {
     // Words that the caller left would be taken for records, and each would be looked through.
     clear(work);
-    let r = answer(file, n, work, lent);
+    let answered = answer(file, n, work, lent);
     work::clear(work);
-    r
+    answered
 }
 
 // The line that the program prints: 0e with 01, 00, 02 or 03, or the refusal's.
@@ -67,11 +67,11 @@ pub fn line(r: Inspected) -> [u8; 5]
     ensures { result ≡ line_of r }
 {
     match r {
-        Inspected::Success(_) => [48, 101, 48, 49, 10],
-        Inspected::Failure => [48, 101, 48, 48, 10],
-        Inspected::ShutOut => [48, 101, 48, 50, 10],
-        Inspected::Fewer => [48, 101, 48, 51, 10],
+        Inspected::Success(_) => *b"0e01\n",
+        Inspected::Failure => *b"0e00\n",
+        Inspected::ShutOut => *b"0e02\n",
+        Inspected::Fewer => *b"0e03\n",
         Inspected::Refused(e) => desk::refusal_line(e),
-        Inspected::TooFewWords => [48, 102, 49, 50, 10],
+        Inspected::TooFewWords => *b"0f12\n",
     }
 }

@@ -21,8 +21,6 @@ use Rattle.meaning.specs.Lamp as Defined
 use Rattle.meaning.specs.Lamp.{lit_run, stopped, lamp_after, lamp_all, visits_after, visits_all}
 use Rattle.meaning.proofs.Sound.{sound}
 use Rattle.tree.specs.Stands.{SchemaStands, Stands}
-use Rattle.state.specs.declared.Done.{Done}
-use Rattle.state.specs.declared.Done.TheVariants as Done
 use Rattle.state.specs.declared.Until.TheVariants as Until
 use Rattle.checker.specs.Promises.{Ran, to_the_end, ended_early, run_until, Queries}
 use Rattle.loading.specs.Promises.{Ahead, Loads}
@@ -30,8 +28,8 @@ use Rattle.loading.proofs.Lines.{query_ahead, all_ahead}
 use Rattle.reading.specs.declared.Refusal.TheVariants as Refusal
 use Rattle.lamp.specs.declared.Glow.{Glow}
 use Rattle.lamp.specs.declared.Glow.TheVariants as Glow
-use Rattle.lamp.specs.declared.Signal.TheVariants as Signal
 use Rattle.lamp.specs.Promises.{glow_of, Glowed, Glows, Asks}
+use Rattle.std.specs.Prelude.{Err, None, Ok, Option, Some, false, true}
 
 -- ---- A query
 
@@ -39,13 +37,13 @@ lit_is : (d : Described) → lit_run d.schema d.ast max_visits ≡ run_until fir
 unfolding lit_run run_until max_visits
 lit_is d = refl
 
-module _ {f w o w' o' : List ℕ} {x : Done} (Q : Queries f w o Until.FirstDiagnostic 1048576 w' o' x) where
+module _ {f w o w' o' : List ℕ} {x : Option ℕ} (Q : Queries f w o Until.FirstDiagnostic 1048576 w' o' x) where
   module _ (g : Glow) (ends : (d : Described) (s : Step Tree.Ty) → Ran f w' o' d x s → Glowed f w' d g s) where
     glowed : (T : Rows) (d : Described) → Sound d → Stands f w T d → Glowed f w' d g (lit_run d.schema d.ast max_visits)
     glowed T d s S = rw (lit_is d) (ends d (run_until first_diagnostic d 1048576) (Q.is T d s S))
 
   -- It went through.
-  pub glow_dark : {left v : ℕ} → x ≡ Done.On left → v ≡ 1048576 - left → Glows f w w' (Glow.Dark v)
+  pub glow_dark : {left v : ℕ} → x ≡ Some left → v ≡ 1048576 - left → Glows f w w' (Glow.Dark v)
   unfolding Glowed max_visits
   glow_dark {left} {v} e m = record { is = glowed (Glow.Dark v) go; few = omega arith; words = Q.words }
     where
@@ -54,7 +52,7 @@ module _ {f w o w' o' : List ℕ} {x : Done} (Q : Queries f w o Until.FirstDiagn
           (ap Glow.Dark (m ∙ ap (λ n. 1048576 - n) same), (T, R.stands.schema))
       go d (out c) (ended_early T R t k p) = clash (cc (e, p))
 
-  module _ (e : x ≡ Done.Out) {left count v : ℕ} (l : left ≡ get_or w' LEFT 0) (m : v ≡ 1048576 - left) (n : count ≡ get_or w' DIAGNOSTIC-COUNT 0) where
+  module _ (e : x ≡ None) {left count v : ℕ} (l : left ≡ get_or w' LEFT 0) (m : v ≡ 1048576 - left) (n : count ≡ get_or w' DIAGNOSTIC-COUNT 0) where
     module _ (g : Glow) (by : (ds : List Diagnostic) → length ds ≡ count → g ≡ glow_of ds v) where
       ended : (d : Described) (s : Step Tree.Ty) → Ran f w' o' d x s → Glowed f w' d g s
       unfolding Glowed max_visits
@@ -119,7 +117,7 @@ ask_start f w small = record {
 
 module _ {f w₀ w : List ℕ} {at visits : ℕ} (A : Asking f w₀ w at visits) where
   -- None is left.
-  pub ask_end : length f ≤ at → Asks f w₀ (record { signal = Signal.No; visits = visits })
+  pub ask_end : length f ≤ at → Asks f w₀ (record { signal = (Ok false); visits = visits })
   unfolding lamp_all visits_all
   ask_end end = record { is = λ T form e l S. let b = A.is T form e l S in go b b.left b.ahead b.lamp b.made }
     where
@@ -193,7 +191,7 @@ module _ {f w₀ w : List ℕ} {at visits : ℕ} (A : Asking f w₀ w at visits)
           go t (goes ty c) p q h = absurd (light (max_visits - c.state.left) h.0)
           go t (out c) p q h = let x = by c.diagnostics (max_visits - c.state.left) h in (x.0 ∙ sym p, x.1 ∙ sym q)
 
-    pub ask_shown : {v total : ℕ} → g ≡ Glow.Shown v → total ≡ visits + v → Asks f w₀ (record { signal = Signal.Yes; visits = total })
+    pub ask_shown : {v total : ℕ} → g ≡ Glow.Shown v → total ≡ visits + v → Asks f w₀ (record { signal = (Ok true); visits = total })
     unfolding stopped
     ask_shown {v} {total} e t = record { is = asked by (λ u h. clash (cc (e, h))) }
       where
@@ -201,7 +199,7 @@ module _ {f w₀ w : List ℕ} {at visits : ℕ} (A : Asking f w₀ w at visits)
         by [] u h = clash (cc (e, h))
         by (d ∷ ds) u h = let same : u ≡ v = cc (e, h) in (refl, omega (arith, t, same))
 
-    pub ask_out : {v total : ℕ} → g ≡ Glow.Out v → total ≡ visits + v → Asks f w₀ (record { signal = Signal.Refused Refusal.TooManyVisits; visits = total })
+    pub ask_out : {v total : ℕ} → g ≡ Glow.Out v → total ≡ visits + v → Asks f w₀ (record { signal = Err Refusal.TooManyVisits; visits = total })
     unfolding stopped
     ask_out {v} {total} e t = record { is = asked by (λ u h. clash (cc (e, h))) }
       where

@@ -13,12 +13,10 @@ use Rattle.meaning.specs.Lamp.{lamp_read, visits_read, lamp, lamp_visits}
 use Rattle.meaning.proofs.Tests.{cases}
 use Rattle.reading.specs.Promises.{refusal, Ends, reading_in, ReadsFile}
 use Rattle.reading.specs.declared.Refusal.{Refusal}
-use Rattle.reading.specs.declared.Read.{Read}
-use Rattle.reading.specs.declared.Read.TheVariants as Read
 use Rattle.desk.proofs.Deciding.{enough_words}
-use Rattle.lamp.specs.declared.Signal.TheVariants as Signal
 use Rattle.lamp.specs.declared.Lit.{Lit}
 use Rattle.lamp.specs.Promises.{signal_of, Asks, Looks, Lights}
+use Rattle.std.specs.Prelude.{Err, Ok, Result}
 
 module _ (f : List ℕ) (words : ℕ) where
   lamp_by : lamp f words ≡ lamp_read (reading_in wide f words)
@@ -29,8 +27,8 @@ module _ (f : List ℕ) (words : ℕ) where
   unfolding lamp_visits reading_in visits_read
   visits_by = cases (ltb words min_words) (λ q. rw (q, lamp_visits, reading_in)) (λ q. rw (q, lamp_visits, reading_in))
 
-module _ {f w w₁ : List ℕ} {r : Read} (h : ReadsFile wide f w w₁ r) where
-  pub not_read : {e : Refusal} → r ≡ Read.Refused e → Looks f w w₁ (record { signal = Signal.Refused e; visits = 0 })
+module _ {f w w₁ : List ℕ} {r : Result (Unit {0}) Refusal} (h : ReadsFile wide f w w₁ r) where
+  pub not_read : {e : Refusal} → r ≡ Err e → Looks f w w₁ (record { signal = Err e; visits = 0 })
   unfolding Ends lamp_read visits_read
   not_read {e} q =
       let x = go (reading_in wide f (length w)) h.ends in
@@ -40,7 +38,7 @@ module _ {f w w₁ : List ℕ} {r : Read} (h : ReadsFile wide f w w₁ r) where
       go (refused i) g = let same : e ≡ g.0 = cc (q, g.1) in (ap Defined.Refused (ap refusal same ∙ g.2), refl)
       go (described d) g = clash (cc (q, g.0))
 
-  pub was_read : {w' : List ℕ} {o : Lit} → r ≡ Read.Accepted → Asks f w₁ o → length w' ≡ length w₁ → Looks f w w' o
+  pub was_read : {w' : List ℕ} {o : Lit} → r ≡ Ok tt → Asks f w₁ o → length w' ≡ length w₁ → Looks f w w' o
   unfolding Ends lamp_read visits_read min_words
   was_read {w'} {o} q A long =
       let x = go (reading_in wide f (length w)) refl h.ends in

@@ -1,6 +1,6 @@
 -- What the functions of src/ promise: the call is the one of meaning/specs/Lamp.antt, for every file and every work slice, and it makes the
 -- visits of that definition's runs, no more.
-use Rattle.std.specs.Prelude.{List, [], ◌∷◌, ◌≡◌, ℕ, ◌-◌, ◌≤◌, length, replicate}
+use Rattle.std.specs.Prelude.{List, [], ◌∷◌, ◌≡◌, ℕ, ◌-◌, ◌≤◌, length, replicate, Bool, Err, Ok, Result, false, true}
 use Rattle.unification.specs.Ty as Tree
 use Rattle.cells.specs.Stands.{Rows}
 use Rattle.meaning.specs.Diag.{Diagnostic}
@@ -16,14 +16,13 @@ use Rattle.tree.specs.Stands.{SchemaStands, Stands}
 use Rattle.reading.specs.Promises.{refusal}
 use Rattle.lamp.specs.declared.Glow.{Glow}
 use Rattle.lamp.specs.declared.Glow.TheVariants as Glow
-use Rattle.lamp.specs.declared.Signal.{Signal}
-use Rattle.lamp.specs.declared.Signal.TheVariants as Signal
 use Rattle.lamp.specs.declared.Lit.{Lit}
+use Rattle.reading.specs.declared.Refusal.{Refusal}
 
-abbrev pub signal_of : Signal → Defined.Lamp
-signal_of Signal.Yes = Defined.Yes
-signal_of Signal.No = Defined.No
-signal_of (Signal.Refused e) = Defined.Refused (refusal e)
+abbrev pub signal_of : Result Bool Refusal → Defined.Lamp
+signal_of (Ok true) = Defined.Yes
+signal_of (Ok false) = Defined.No
+signal_of (Err e) = Defined.Refused (refusal e)
 
 -- What the program prints for it.
 unfoldable pub lamp_line : Defined.Lamp → List ℕ

@@ -5,8 +5,8 @@ ghost use Rattle.std.specs.Prelude.{◌≡◌, ◌≤◌, length};
 ghost use Rattle.lamp.specs.Promises.{signal_of, lamp_line, Glows, Asks, Looks, Lights};
 
 use desk::made;
-use reading::{Counters, Read, Refusal};
-use state::{Done, Until};
+use reading::{Counters, Edition, Refusal};
+use state::Until;
 use work::{wide, word};
 
 // How a query's run ended, with the visits that it made: at a diagnostic, at its end without one, or they ran out before one came.
@@ -17,17 +17,10 @@ pub enum Glow {
     Out(u32),
 }
 
-#[derive(Drop)]
-pub enum Signal {
-    Yes,
-    No,
-    Refused(Refusal),
-}
-
 // What the lamp shows, and the visits of the queries that were asked.
 #[derive(Drop)]
 pub struct Lit {
-    pub signal: Signal,
+    pub signal: Result<bool, Refusal>,
     pub visits: usize,
 }
 
@@ -43,16 +36,14 @@ fn one_query(file: &[u8], work: &mut [u32]) -> Glow
         Counters::VISITS,
         &mut none[0..0],
     );
-    match d {
-        Done::On(left) => Glow::Dark(made(Counters::VISITS, left)),
-        Done::Out => {
-            let visits = made(Counters::VISITS, word(work, work::LEFT));
-            if word(work, work::DIAGNOSTIC_COUNT) == 0 {
-                Glow::Out(visits)
-            } else {
-                Glow::Shown(visits)
-            }
-        }
+    if let Some(left) = d {
+        return Glow::Dark(made(Counters::VISITS, left));
+    }
+    let visits = made(Counters::VISITS, word(work, work::LEFT));
+    if word(work, work::DIAGNOSTIC_COUNT) == 0 {
+        Glow::Out(visits)
+    } else {
+        Glow::Shown(visits)
     }
 }
 
@@ -72,13 +63,13 @@ fn ask(file: &[u8], work: &mut [u32]) -> Lit
             }
             Glow::Shown(v) => {
                 return Lit {
-                    signal: Signal::Yes,
+                    signal: Ok(true),
                     visits: visits + wide(v),
                 };
             }
             Glow::Out(v) => {
                 return Lit {
-                    signal: Signal::Refused(Refusal::TooManyVisits),
+                    signal: Err(Refusal::TooManyVisits),
                     visits: visits + wide(v),
                 };
             }
@@ -86,7 +77,7 @@ fn ask(file: &[u8], work: &mut [u32]) -> Lit
         at = next;
     }
     Lit {
-        signal: Signal::No,
+        signal: Ok(false),
         visits: visits,
     }
 }
@@ -95,13 +86,13 @@ fn ask(file: &[u8], work: &mut [u32]) -> Lit
 fn look(file: &[u8], work: &mut [u32]) -> Lit
     ensures { Looks file.now work.old work.new result }
 {
-    let r = reading::read_file(file, work, true);
+    let r = reading::read_file(file, work, Edition::Wide);
     match r {
-        Read::Refused(e) => Lit {
-            signal: Signal::Refused(e),
+        Err(e) => Lit {
+            signal: Err(e),
             visits: 0,
         },
-        Read::Accepted => ask(file, work),
+        Ok(()) => ask(file, work),
     }
 }
 
@@ -114,12 +105,12 @@ pub fn lamp(file: &[u8], work: &mut [u32]) -> Lit
 }
 
 // The line that the program prints: 0d with 01 or 00, or the refusal's.
-pub fn line(l: Signal) -> [u8; 5]
+pub fn line(l: Result<bool, Refusal>) -> [u8; 5]
     ensures { result ≡ lamp_line (signal_of l) }
 {
     match l {
-        Signal::Yes => [48, 100, 48, 49, 10],
-        Signal::No => [48, 100, 48, 48, 10],
-        Signal::Refused(e) => desk::refusal_line(e),
+        Ok(true) => [48, 100, 48, 49, 10],
+        Ok(false) => [48, 100, 48, 48, 10],
+        Err(e) => desk::refusal_line(e),
     }
 }

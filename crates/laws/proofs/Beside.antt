@@ -1,7 +1,6 @@
 -- The lines of an answer beside its message lines do not depend on how messages are written.
 use mathlib.Core.Bool.{Bool, true, false}
 use mathlib.Core.List.{List, [], ◌∷◌, ◌++◌, append_assoc}
-use mathlib.Core.Option.{Option}
 use mathlib.Core.Path.{◌≡◌, refl, sym, ◌∙◌, ap}
 use Prim.Native.Nat.{ℕ, zero, suc, ◌+◌, ◌/◌, ◌%◌}
 use native.Mathlib.Omega.{arith}
@@ -20,6 +19,7 @@ use Rattle.meaning.proofs.Tests.{cases}
 use Rattle.meaning.proofs.Hex.{hexes, line_hexes}
 use Rattle.meaning.proofs.Lines.{lines_closed}
 use Rattle.laws.specs.Names.{of_kind, beside_kind, lines_but}
+use Rattle.std.specs.Prelude.{Option}
 
 -- ---- One line
 digit_no_LF : (n : ℕ) → LF ≡ hex_digit n → ⊥

@@ -1,8 +1,7 @@
 -- The predicates that a content describes are over its language: its types are made of what their frames refer to.
 use mathlib.Core.List.{List, [], ◌∷◌, ◌++◌, map}
-use mathlib.Core.Option.{Option, none, some}
 use Prim.Native.Nat.{ℕ, zero, suc, ◌<◌}
-use lib.ListN.{length, get_elem?}
+use lib.ListN.{length}
 use Rattle.unification.specs.Ty.{Record, Union, Ty, Error}
 use Rattle.meaning.specs.All.{All}
 use Rattle.meaning.specs.Syntax.{Field}
@@ -16,6 +15,7 @@ use Rattle.laws.specs.Growth.{ShapeFacts}
 use Rattle.laws.specs.Marks.{NamedBelow}
 use Rattle.laws.proofs.Over.{all_get_d}
 use Rattle.meaning.proofs.Lists.{all_snoc}
+use Rattle.std.specs.Prelude.{None, Option, Some, slice_get}
 
 module _ (L : Language) where
   fields_over : (ts : List Ty) (fs : List Field) → All (Over L) ts → All L.name (field_names fs) → RowOver L (field_row ts fs) Record
@@ -41,14 +41,14 @@ module _ (L : Language) where
   types_over ts [] h i n = h
   types_over ts (s ∷ a) h i n = types_over (ts ++ ty_of ts s ∷ []) a (all_snoc (Over L) ts (ty_of ts s) h (ty_of_over ts s h i.0 n.0)) i.1 n.1
 
-  predicate_over : (ts : List Ty) (ps : List PredicateFrame) (p : ℕ) → All (Over L) ts → PredicateOver L (get_elem? (map (predicate_with ts) ps) p)
+  predicate_over : (ts : List Ty) (ps : List PredicateFrame) (p : ℕ) → All (Over L) ts → PredicateOver L (slice_get (map (predicate_with ts) ps) p)
   unfolding predicate_with predicate_of type_at value_ty
   predicate_over ts [] p h = tt
   predicate_over ts (x ∷ ps) zero h = (all_get_d (Over L) ts x.key Error h tt, value x.value)
     where
       value : (o : Option ℕ) → OptionOver L (value_ty ts o)
-      value none = tt
-      value (some n) = all_get_d (Over L) ts n Error h tt
+      value None = tt
+      value (Some n) = all_get_d (Over L) ts n Error h tt
   predicate_over ts (x ∷ ps) (suc p) h = predicate_over ts ps p h
 
   pub content_over : (c : Content) → All (ShapeFacts L.predicate) c.types → All (λ s. All L.name (shape_names s)) c.types
@@ -57,7 +57,7 @@ module _ (L : Language) where
   content_over c facts names p = predicate_over (types_from [] c.types) c.predicates p (types_over [] c.types tt facts names)
 
 -- Their names are the content's.
-frames_named : (n : ℕ) (ts : List Ty) (ps : List PredicateFrame) (p : ℕ) → All (λ x. x.name < n) ps → NamedBelow n (get_elem? (map (predicate_with ts) ps) p)
+frames_named : (n : ℕ) (ts : List Ty) (ps : List PredicateFrame) (p : ℕ) → All (λ x. x.name < n) ps → NamedBelow n (slice_get (map (predicate_with ts) ps) p)
 unfolding predicate_with predicate_of
 frames_named n ts [] p h = tt
 frames_named n ts (x ∷ ps) zero h = h.0

@@ -3,7 +3,6 @@
 use mathlib.Core.Bool.{false}
 use mathlib.Core.List.{List, [], ◌∷◌, ◌++◌}
 use mathlib.Core.Logic.{◌≢◌}
-use mathlib.Core.Option.{some}
 use mathlib.Core.Path.{◌≡◌, refl, sym, ◌∙◌, ap}
 use Prim.Native.Nat.{ℕ, ◌≤◌}
 use native.Mathlib.Decide.{ℕ_discrete}
@@ -45,10 +44,11 @@ use Rattle.laws.proofs.Names.{answers, names_private}
 use Rattle.laws.proofs.Growth.{Refers, grown_answers}
 use Rattle.laws.proofs.Marks.{no_mark}
 use Rattle.laws.proofs.Files.{private_files, grown_files}
+use Rattle.std.specs.Prelude.{Some}
 
 -- ---- Ceilings
 abbrev three_ints : Typed
-three_ints = record { tys = some (leaf Int) ∷ some (leaf Int) ∷ some (leaf Int) ∷ []; diagnostics = []; unused = []; visits = 2 }
+three_ints = record { tys = Some (leaf Int) ∷ Some (leaf Int) ∷ Some (leaf Int) ∷ []; diagnostics = []; unused = []; visits = 2 }
 
 two_suffice : check 2 (describes comparing).schema one_compared ≡ typed three_ints
 unfolding check code_of describes ℕ_discrete Bindings.fresh Bindings.fresh_id Bindings.annotate Bindings.snapshot Bindings.rollback Bindings.zonk Unify.unify Unify.orderable
@@ -186,10 +186,10 @@ told_lawful n h = record {
   );
 }
 
-text_of : (s : List ℕ) (n : ℕ) → characters s ≡ some n → (m : ℕ) × Text s m
+text_of : (s : List ℕ) (n : ℕ) → characters s ≡ Some n → (m : ℕ) × Text s m
 text_of s n e = (n, (counts s n).1 e)
 
-says_telling : (t : List ℕ) (n : ℕ) → characters t ≡ some n → t ≢ short → All (Writable wide) (frames_of (telling (t ∷ short ∷ []) 0))
+says_telling : (t : List ℕ) (n : ℕ) → characters t ≡ Some n → t ≢ short → All (Writable wide) (frames_of (telling (t ∷ short ∷ []) 0))
     → length (file (telling (t ∷ short ∷ []) 0)) ≤ max_file → Says wide (file (telling (t ∷ short ∷ []) 0)) (describes (telling (t ∷ short ∷ []) 0))
 unfolding characters max_names max_types max_predicates max_queries shape_names shape_types shape_keys optional
 says_telling t n count new writable size = record {

@@ -1,7 +1,6 @@
 -- The same over files past 1 to 10 and 13: what they are answered, and the outcome in both slices.
 use mathlib.Core.Bool.{Bool, true, false}
 use mathlib.Core.List.{List, [], ◌∷◌, map}
-use mathlib.Core.Option.{Option, none, some}
 use mathlib.Core.Path.{◌≡◌, refl, sym, ◌∙◌, ap}
 use Prim.Native.Nat.{ℕ, ◌-◌, ◌≤◌}
 use lib.Dec.{ltb}
@@ -33,10 +32,11 @@ use Rattle.laws.proofs.Names.{answers, names_private}
 use Rattle.laws.proofs.Texts.{RunsAlike, decide_same}
 use Rattle.laws.proofs.Beside.{same_form, no_lines}
 use Rattle.laws.proofs.Growth.{lawful_refers, grown_answers, grown_over, grown_texts}
+use Rattle.std.specs.Prelude.{None, Option, Some}
 
 -- The answers of all queries, none where one was stopped.
 abbrev together : List Checked → Option (List Typed)
-together [] = some []
+together [] = Some []
 together (x ∷ xs) = with_checked x (together xs)
 
 runs_together : (schema : Schema) (qs : List Ast) → run_all schema qs ≡ together (map (λ (a : Ast). check max_visits schema a) qs)
@@ -105,8 +105,8 @@ module _ (text text' : Message → List ℕ) (words bytes words' bytes' : ℕ) w
   decided_beside : (o : Option (List Typed)) → Fits (finish (decide_run text o) words bytes) → Fits (finish (decide_run text' o) words' bytes')
       → SameBeside (finish (decide_run text o) words bytes) (finish (decide_run text' o) words' bytes')
   unfolding decide_run finish refuse lines_but
-  decided_beside none h i = record { result = refl; answer = no_lines bytes ∙ sym (no_lines bytes') }
-  decided_beside (some ts) h i = both_fit ts _ _ refl refl h i
+  decided_beside None h i = record { result = refl; answer = no_lines bytes ∙ sym (no_lines bytes') }
+  decided_beside (Some ts) h i = both_fit ts _ _ refl refl h i
 
 -- The same result and the same lines but for message lines, where each answer slice is large enough.
 pub private_files : (f g : List ℕ) (d e : Form) (p : Says wide f d) (q : Says wide g e) → Renamed p.content q.content
@@ -130,8 +130,8 @@ runs_alike L text text' same schema (a ∷ qs) h = go (check max_visits schema a
   where
     go : (c : Checked) → CheckedOver L c → (o : Option (List Typed)) → RunsAlike text text' o → RunsAlike text text' (with_checked c o)
     go exhausted i o j = tt
-    go (typed t) i none j = tt
-    go (typed t) i (some ts) j = (all_map (λ d. MessageOver L d.message) _ t.diagnostics (λ d k. same d.message k) i, j)
+    go (typed t) i None j = tt
+    go (typed t) i (Some ts) j = (all_map (λ d. MessageOver L d.message) _ t.diagnostics (λ d k. same d.message k) i, j)
 
 module _ (c : Content) (l : Lawful wide c) (n : NoAbsent c) (names : List (List ℕ)) (types : List TypeShape) (predicates : List PredicateFrame) where
   decided_grown : decide_read (described (describes c)) ≡ decide_read (described (describes (grow c names types predicates)))

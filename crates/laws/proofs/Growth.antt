@@ -2,13 +2,12 @@
 -- was. An added name `value` has a number that no old type uses.
 use mathlib.Core.Bool.{Bool, true, false}
 use mathlib.Core.List.{List, [], ◌∷◌, ◌++◌, map, append_assoc, append-nil}
-use mathlib.Core.Option.{Option, none, some}
 use mathlib.Core.Path.{◌≡◌, refl, sym, subst, ◌∙◌, ap}
 use Prim.Native.Nat.{ℕ, zero, suc, ◌<◌, ◌≤◌}
 use native.Mathlib.Nat.{zero-add, not-suc-le-zero, le_of_suc-le-suc}
 use native.Mathlib.Omega.{arith}
 use lib.Dec.{eqb}
-use lib.ListN.{length, get_elem?, get_or-append}
+use lib.ListN.{length, get_or-append}
 use borrow.Author.Tests.{ne_eqb}
 use Rattle.text.specs.Utf8.{characters, one_more}
 use Rattle.unification.specs.Ty.{Record, Union, Ty, leaf, node, Var, Error, Row, ε, cell}
@@ -36,6 +35,7 @@ use Rattle.laws.proofs.Shadows.{shadowing, shadows_is}
 use Rattle.laws.proofs.Run.{same_run, told_over}
 use Rattle.laws.proofs.Names.{answers, count_at}
 use Rattle.meaning.proofs.Lawful.{types_length}
+use Rattle.std.specs.Prelude.{None, Option, Some, slice_get}
 
 -- ---- Types
 types_append : (ts : List Ty) (a b : List TypeShape) → types_from ts (a ++ b) ≡ types_from (types_from ts a) b
@@ -50,13 +50,13 @@ types_begin ts [] = ([], sym (append-nil ts))
 types_begin ts (s ∷ a) = let h = types_begin (ts ++ ty_of ts s ∷ []) a in (ty_of ts s ∷ h.0, h.1 ∙ append_assoc ts (ty_of ts s ∷ []) h.0)
 
 -- ---- Names that are new
-not_found : (P : ℕ → Type 0) (n j : ℕ) (r : Row) → n ≤ j → RowOver (language_of P n) r Record → find_key j r ≡ none
+not_found : (P : ℕ → Type 0) (n j : ℕ) (r : Row) → n ≤ j → RowOver (language_of P n) r Record → find_key j r ≡ None
 unfolding find_key
 not_found P n j ε le h = refl
 not_found P n j (cell k l t r) le h = let e : eqb j k ≡ false = ne_eqb j k (λ q. absurd (omega (arith, h.0))) in rw (e, find_key)
     (not_found P n j r le h.1.1)
 
-no_field : (P : ℕ → Type 0) (n j : ℕ) (t : Ty) → n ≤ j → Over (language_of P n) t → field_of t j ≡ none
+no_field : (P : ℕ → Type 0) (n j : ℕ) (t : Ty) → n ≤ j → Over (language_of P n) t → field_of t j ≡ None
 unfolding field_of
 no_field P n j (leaf l) le h = refl
 no_field P n j (node Record r) le h = rw (not_found P n j r le h, field_of)
@@ -75,13 +75,13 @@ unfolding predicate_with predicate_of optional value_ty
 predicate_grown ts more p h = rw (type_at_grown ts more p.key h.0, value p.value h.1)
   where
     value : (o : Option ℕ) → Below (length ts) (optional o) → value_ty ts o ≡ value_ty (ts ++ more) o
-    value none i = refl
-    value (some n) i = rw (type_at_grown ts more n i.0)
+    value None i = refl
+    value (Some n) i = rw (type_at_grown ts more n i.0)
 
 get_grown : (ts more : List Ty) (ps new : List PredicateFrame) (p : ℕ) → p < length ps → All (λ x. Below (length ts) (x.key ∷ optional x.value)) ps
-    → get_elem? (map (predicate_with ts) ps) p ≡ get_elem? (map (predicate_with (ts ++ more)) (ps ++ new)) p
+    → slice_get (map (predicate_with ts) ps) p ≡ slice_get (map (predicate_with (ts ++ more)) (ps ++ new)) p
 get_grown ts more [] new p l h = absurd (not-suc-le-zero l)
-get_grown ts more (x ∷ ps) new zero l h = ap some (predicate_grown ts more x h.0)
+get_grown ts more (x ∷ ps) new zero l h = ap Some (predicate_grown ts more x h.0)
 get_grown ts more (x ∷ ps) new (suc p) l h = get_grown ts more ps new p (le_of_suc-le-suc l) h.1
 
 -- ---- The name `value`
@@ -89,7 +89,7 @@ get_grown ts more (x ∷ ps) new (suc p) l h = get_grown ts more ps new p (le_of
 -- It keeps its number, or is new.
 data Later (n : ℕ) : Option ℕ → Option ℕ → Type 0 where
   kept : (o : Option ℕ) → Later n o o
-  added : (j : ℕ) → n ≤ j → Later n none (some j)
+  added : (j : ℕ) → n ≤ j → Later n None (Some j)
 
 later_more : (n : ℕ) (o o' : Option ℕ) → Later n o o' → Later (suc n) (one_more o) (one_more o')
 later_more n o o' (kept q) = kept (one_more q)
@@ -99,22 +99,22 @@ position_later : {A : Type 0} (test : A → Bool) (a b : List A) → Later (leng
 unfolding position
 position_later test [] b = go (position test b) refl
   where
-    go : (o : Option ℕ) → position test b ≡ o → Later 0 none (position test b)
-    go none e = rw e (kept none)
-    go (some j) e = rw e (added j (omega arith))
+    go : (o : Option ℕ) → position test b ≡ o → Later 0 None (position test b)
+    go None e = rw e (kept None)
+    go (Some j) e = rw e (added j (omega arith))
 position_later test (x ∷ a) b = go (test x) refl (position_later test a b)
   where
     go : (t : Bool) → test x ≡ t → Later (length a) (position test a) (position test (a ++ b))
         → Later (length (x ∷ a)) (position test (x ∷ a)) (position test (x ∷ (a ++ b)))
-    go true e h = rw (e, position) (kept (some 0))
+    go true e h = rw (e, position) (kept (Some 0))
     go false e h = rw (e, position) (later_more (length a) (position test a) (position test (a ++ b)) h)
 
 shadowing_later : (P : ℕ → Type 0) (n : ℕ) (o : Option Predicate) (v v' : Option ℕ) → PredicateOver (language_of P n) o → Later n v v'
     → shadowing o v ≡ shadowing o v'
 unfolding shadowing is_some
 shadowing_later P n o v v' h (kept w) = refl
-shadowing_later P n none v v' h (added j l) = refl
-shadowing_later P n (some d) v v' h (added j l) = rw (no_field P n j d.key l h.0)
+shadowing_later P n None v v' h (added j l) = refl
+shadowing_later P n (Some d) v v' h (added j l) = rw (no_field P n j d.key l h.0)
 
 -- ---- The whole
 

@@ -2,7 +2,6 @@
 -- what the whole runs say (`lamp_is`), and of an answer, however long, whether it has a line 08 (`lamp_answered`).
 use mathlib.Core.List.{List, [], ◌∷◌, ◌++◌, append_assoc, append-nil}
 use mathlib.Core.Logic.{◌≢◌, inl, inr, ◌↔◌}
-use mathlib.Core.Option.{Option}
 use mathlib.Core.Path.{◌≡◌, refl, sym, ap, ◌∙◌, subst}
 use Prim.Native.Nat.{ℕ, suc, ◌%◌, ◌<◌, ◌≤◌}
 use native.Mathlib.Omega.{arith}
@@ -33,6 +32,7 @@ use Rattle.meaning.proofs.Lines.{lines_closed}
 use Rattle.laws.proofs.Beside.{hexes_no_LF}
 use Rattle.laws.proofs.Agree.{Lit, dark_goes, dark_out, shines}
 use Rattle.laws.proofs.Until.{run_until_lem}
+use Rattle.std.specs.Prelude.{Option}
 
 not_empty : (later : List Diagnostic) (d : Diagnostic) → later ++ d ∷ [] ≢ []
 not_empty [] d e = let z : ◌≡◌ {A = ℕ} 0 1 = cc in omega arith

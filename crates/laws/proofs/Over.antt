@@ -1,7 +1,6 @@
 -- What is found in, followed through or put into types over a language is over it again.
 use mathlib.Core.Bool.{Bool, true, false}
 use mathlib.Core.List.{List, [], ◌∷◌}
-use mathlib.Core.Option.{Option, none, some}
 use mathlib.Core.Path.{◌≡◌, refl}
 use Prim.Native.Nat.{ℕ, zero, suc, ◌-◌}
 use lib.Dec.{eqb}
@@ -15,6 +14,7 @@ use Rattle.meaning.specs.Syntax.{Node}
 use Rattle.meaning.specs.Schema.{Predicate, field_of}
 use Rattle.meaning.specs.References.{expr_names}
 use Rattle.laws.specs.Over.{Language, everything, cell_name, Over, RowOver, OptionOver, PredicateOver, UndoOver, FineState}
+use Rattle.std.specs.Prelude.{None, Option, Some}
 
 -- ---- Lists
 pub all_set : {A : Type 0} (Q : A → Type 0) (l : List A) (n : ℕ) (a : A) → All Q l → Q a → All Q (set l n a)
@@ -51,12 +51,12 @@ mutual
   row_everything (cell key label t r) k = (tt, (over_everything t, row_everything r k))
 
 pub predicate_everything : (o : Option Predicate) → PredicateOver everything o
-predicate_everything none = tt
-predicate_everything (some d) = (over_everything d.key, value d.value)
+predicate_everything None = tt
+predicate_everything (Some d) = (over_everything d.key, value d.value)
   where
     value : (o : Option Ty) → OptionOver everything o
-    value none = tt
-    value (some t) = over_everything t
+    value None = tt
+    value (Some t) = over_everything t
 
 pub names_everything : (ns : List Node) → All (λ n. All everything.name (expr_names n.kind)) ns
 names_everything ns = all_of _ (λ n. all_of _ (λ x. tt) (expr_names n.kind)) ns
@@ -70,8 +70,8 @@ module _ (L : Language) where
   LabelOver Union label = L.name label
 
   abbrev pub FoundOver : Kind → Option (ℕ × Ty) → Type 0
-  FoundOver k none = Unit {0}
-  FoundOver k (some f) = LabelOver k f.0 × Over L f.1
+  FoundOver k None = Unit {0}
+  FoundOver k (Some f) = LabelOver k f.0 × Over L f.1
 
   label_over : (k : Kind) (key label : ℕ) → L.name (cell_name k key label) → LabelOver k label
   label_over Record key label h = tt
@@ -101,8 +101,8 @@ module _ (L : Language) where
   field_of_over (node Record r) n h = go (find_key n r) refl (find_key_over n r Record h)
     where
       go : (o : Option (ℕ × Ty)) → find_key n r ≡ o → FoundOver Record o → OptionOver L (field_of (node Record r) n)
-      go none e i = rw (e, field_of) tt
-      go (some f) e i = rw (e, field_of) i.1
+      go None e i = rw (e, field_of) tt
+      go (Some f) e i = rw (e, field_of) i.1
   field_of_over (node Union r) n h = tt
   field_of_over (Var x) n h = tt
   field_of_over Error n h = tt
@@ -113,11 +113,11 @@ module _ (L : Language) where
   follow_over zero s t a h = h
   follow_over (suc k) s (leaf p) a h = h
   follow_over (suc k) s (node c r) a h = h
-  follow_over (suc k) s (Var x) a h = go (bound s x) refl (all_get_d (OptionOver L) s x none a tt) (λ t i. follow_over k s t a i)
+  follow_over (suc k) s (Var x) a h = go (bound s x) refl (all_get_d (OptionOver L) s x None a tt) (λ t i. follow_over k s t a i)
     where
       go : (o : Option Ty) → bound s x ≡ o → OptionOver L o → ((t : Ty) → Over L t → Over L (follow k s t)) → Over L (follow (suc k) s (Var x))
-      go none e i ih = rw (e, follow) tt
-      go (some t) e i ih = rw (e, follow) (ih t i)
+      go None e i ih = rw (e, follow) tt
+      go (Some t) e i ih = rw (e, follow) (ih t i)
   follow_over (suc k) s Error a h = h
 
   pub repr_over : (s : Subst) (t : Ty) → All (OptionOver L) s → Over L t → Over L (repr s t)
@@ -140,11 +140,11 @@ module _ (L : Language) where
   zonk_in_over : (d : ℕ) (s : Subst) (t : Ty) → All (OptionOver L) s → Over L t → Over L (zonk_in d s t)
   unfolding zonk_in bound
   zonk_in_over zero s t a h = h
-  zonk_in_over (suc d) s t a h = app_over _ (λ x. go x (bound s x) (all_get_d (OptionOver L) s x none a tt) (λ u i. zonk_in_over d s u a i)) t h
+  zonk_in_over (suc d) s t a h = app_over _ (λ x. go x (bound s x) (all_get_d (OptionOver L) s x None a tt) (λ u i. zonk_in_over d s u a i)) t h
     where
-      go : (x : ℕ) (o : Option Ty) → OptionOver L o → ((u : Ty) → Over L u → Over L (zonk_in d s u)) → Over L (elim o [ none ↦ Var x | some u ↦ zonk_in d s u ])
-      go x none i ih = tt
-      go x (some u) i ih = ih u i
+      go : (x : ℕ) (o : Option Ty) → OptionOver L o → ((u : Ty) → Over L u → Over L (zonk_in d s u)) → Over L (elim o [ None ↦ Var x | Some u ↦ zonk_in d s u ])
+      go x None i ih = tt
+      go x (Some u) i ih = ih u i
 
   pub zonk_over : (s : Subst) (t : Ty) → All (OptionOver L) s → Over L t → Over L (zonk s t)
   unfolding zonk

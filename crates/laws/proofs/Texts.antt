@@ -1,11 +1,10 @@
 -- A message over a language has one text under names and schemas that give the language's names and its predicates' names alike. So have the
 -- answers whose messages are over it.
 use mathlib.Core.List.{List, [], ◌∷◌, ◌++◌}
-use mathlib.Core.Option.{Option, none, some}
 use mathlib.Core.Path.{◌≡◌, refl, sym, ◌∙◌, ap, ap₂}
 use Prim.Native.Nat.{ℕ, zero, suc, ◌<◌}
 use native.Mathlib.Nat.{not-suc-le-zero, le_of_suc-le-suc}
-use lib.ListN.{length, get_elem?}
+use lib.ListN.{length}
 use Rattle.unification.specs.Ty.{Leaf, Kind, Ty, Row}
 use Rattle.unification.specs.Unify.{UnionDiff}
 use Rattle.meaning.specs.All.{All}
@@ -17,9 +16,10 @@ use Rattle.meaning.specs.Answer.{diagnostic_line, diagnostic_lines, unused_lines
 use Rattle.meaning.specs.Outcome.{decide_run}
 use Rattle.laws.specs.Over.{Language, LeafFacts, cell_name, Over, RowOver, DiffOver, MessageOver}
 use Rattle.laws.specs.Marks.{NamedBelow}
+use Rattle.std.specs.Prelude.{None, Option, Some, slice_get}
 
 -- ---- Names, with more of them after
-pub at_append : {A : Type 0} (l more : List A) (n : ℕ) → n < length l → get_elem? l n ≡ get_elem? (l ++ more) n
+pub at_append : {A : Type 0} (l more : List A) (n : ℕ) → n < length l → slice_get l n ≡ slice_get (l ++ more) n
 at_append [] more n h = absurd (not-suc-le-zero h)
 at_append (x ∷ l) more zero h = refl
 at_append (x ∷ l) more (suc n) h = at_append l more n (le_of_suc-le-suc h)
@@ -30,8 +30,8 @@ unfolding fact_name
 fact_append names more s s' p e h = go (get s p) refl h
   where
     go : (o : Option Predicate) → get s p ≡ o → NamedBelow (length names) o → fact_name names s p ≡ fact_name (names ++ more) s' p
-    go none q i = rw (q, sym e ∙ q, fact_name)
-    go (some d) q i = rw (q, sym e ∙ q, fact_name) (at_append names more d.name i)
+    go None q i = rw (q, sym e ∙ q, fact_name)
+    go (Some d) q i = rw (q, sym e ∙ q, fact_name) (at_append names more d.name i)
 
 -- ---- One message
 
@@ -39,7 +39,7 @@ fact_append names more s s' p e h = go (get s p) refl h
 pub record SameNames (L : Language) (names names' : List (List ℕ)) (s s' : Schema) : Type 0 where
   pub max_distance : s.max_distance ≡ s'.max_distance
   pub max_term_chars : s.max_term_chars ≡ s'.max_term_chars
-  pub texts : (x : ℕ) → L.name x → get_elem? names x ≡ get_elem? names' x
+  pub texts : (x : ℕ) → L.name x → slice_get names x ≡ slice_get names' x
   pub facts : (p : ℕ) → L.predicate p → fact_name names s p ≡ fact_name names' s' p
 
 module _ (L : Language) (names names' : List (List ℕ)) (s s' : Schema) (same : SameNames L names names' s s') where
@@ -146,10 +146,10 @@ module _ (text text' : Message → List ℕ) where
   form_same (t ∷ u ∷ ts) h = numbered_same 0 (t ∷ u ∷ ts) h
 
   abbrev pub RunsAlike : Option (List Typed) → Type 0
-  RunsAlike none = Unit {0}
-  RunsAlike (some ts) = All (λ t. Alike t.diagnostics) ts
+  RunsAlike None = Unit {0}
+  RunsAlike (Some ts) = All (λ t. Alike t.diagnostics) ts
 
   pub decide_same : (o : Option (List Typed)) → RunsAlike o → decide_run text o ≡ decide_run text' o
   unfolding decide_run
-  decide_same none h = refl
-  decide_same (some ts) h = rw (form_same ts h)
+  decide_same None h = refl
+  decide_same (Some ts) h = rw (form_same ts h)

@@ -1,6 +1,5 @@
 -- Small contents on which the laws say something.
-use Rattle.std.specs.Prelude.{List, [], ◌∷◌, map, ℕ}
-use Rattle.std.proofs.Math.Option.{none, some}
+use Rattle.std.specs.Prelude.{List, [], ◌∷◌, map, ℕ, None, Some}
 use Rattle.unification.specs.Ty.{Leaf}
 use Rattle.meaning.specs.Syntax.{QueryStmt, FieldRef, Literal, ExprKind, Node, Ast}
 use Rattle.meaning.specs.Diag.{Code, Message, code_of}
@@ -44,7 +43,7 @@ named texts = record {
   max_term_chars = 1;
   names = texts;
   types = a_leaf Leaf.Int ∷ a_record (record { name = 1; value = 0 } ∷ []) ∷ [];
-  predicates = record { name = 0; key = 1; value = some 0 } ∷ [];
+  predicates = record { name = 0; key = 1; value = Some 0 } ∷ [];
   queries = record { nodes = shape (ExprKind.Fuzzy 0 1) ∷ shape ExprKind.Wildcard ∷ shape (ExprKind.Fact 0 1) ∷ shape (ExprKind.Access FieldRef.Value 2) ∷ []; query = record { head = 3; body = QueryStmt.Implicit 0 ∷ [] } } ∷ [];
 }
 
@@ -72,13 +71,13 @@ asking p = record {
   max_term_chars = 32;
   names = ab ∷ short ∷ [];
   types = a_leaf Leaf.Int ∷ a_record (record { name = 1; value = 0 } ∷ []) ∷ [];
-  predicates = record { name = 0; key = 1; value = none } ∷ [];
+  predicates = record { name = 0; key = 1; value = None } ∷ [];
   queries = record { nodes = shape ExprKind.Wildcard ∷ shape (ExprKind.Fact p 0) ∷ shape (ExprKind.Access FieldRef.Value 1) ∷ []; query = record { head = 2; body = [] } } ∷ [];
 }
 
 -- The same with the name `value`, a record with such a field, and a predicate keyed by it.
 abbrev pub asking_grown : ℕ → Content
-asking_grown p = grow (asking p) (value ∷ []) (a_record (record { name = 2; value = 0 } ∷ []) ∷ []) (record { name = 2; key = 2; value = none } ∷ [])
+asking_grown p = grow (asking p) (value ∷ []) (a_record (record { name = 2; value = 0 } ∷ []) ∷ []) (record { name = 2; key = 2; value = None } ∷ [])
 
 -- ---- Messages with names
 
@@ -97,7 +96,7 @@ telling names p = record {
   max_term_chars = 32;
   names = names;
   types = a_leaf Leaf.Int ∷ a_record (record { name = 1; value = 0 } ∷ []) ∷ [];
-  predicates = record { name = 0; key = 1; value = none } ∷ [];
+  predicates = record { name = 0; key = 1; value = None } ∷ [];
   queries = told p ∷ [];
 }
 
@@ -105,7 +104,7 @@ abbrev pub before : ℕ → Content
 before p = telling (ab ∷ short ∷ []) p
 
 abbrev pub grown : ℕ → Content
-grown p = grow (before p) (value ∷ []) (a_record (record { name = 2; value = 0 } ∷ []) ∷ []) (record { name = 2; key = 2; value = none } ∷ [])
+grown p = grow (before p) (value ∷ []) (a_record (record { name = 2; value = 0 } ∷ []) ∷ []) (record { name = 2; key = 2; value = None } ∷ [])
 
 abbrev pub blackened : ℕ → Content
 blackened p = telling (accented ∷ short ∷ []) p

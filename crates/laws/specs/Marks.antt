@@ -1,7 +1,6 @@
 -- Card 1: "?" would stand where the Rust resolves no name. What a file can name: its names by their numbers, and every predicate that is absent
 -- or has one of its names.
-use Rattle.std.specs.Prelude.{List, ◌++◌, ◌≡◌, ℕ, ◌<◌, length}
-use Rattle.std.proofs.Math.Option.{Option, none, some}
+use Rattle.std.specs.Prelude.{List, ◌++◌, ◌≡◌, ℕ, ◌<◌, length, None, Option, Some}
 use Rattle.meaning.specs.Schema.{Predicate, get}
 use Rattle.meaning.specs.File.{Form}
 use Rattle.meaning.specs.All.{All}
@@ -10,8 +9,8 @@ use Rattle.meaning.specs.Check.{Checked, typed, exhausted}
 use Rattle.laws.specs.Over.{Language, language_of}
 
 abbrev pub NamedBelow : ℕ → Option Predicate → Type 0
-NamedBelow n none = Unit {0}
-NamedBelow n (some d) = d.name < n
+NamedBelow n None = Unit {0}
+NamedBelow n (Some d) = d.name < n
 
 abbrev pub of_file : Form → Language
 of_file f = language_of (λ p. NamedBelow (length f.names) (get f.schema p)) (length f.names)

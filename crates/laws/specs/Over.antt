@@ -1,7 +1,6 @@
 -- What a run speaks of. Over a language, some predicates and some names, is a type, a state or a message in which every fact is of one of
 -- the predicates and every field and alternative has one of the names.
-use Rattle.std.specs.Prelude.{List, ℕ, ◌<◌}
-use Rattle.std.proofs.Math.Option.{Option, none, some}
+use Rattle.std.specs.Prelude.{List, ℕ, ◌<◌, None, Option, Some}
 use Rattle.unification.specs.Ty.{Leaf, Int, String, Bytes, Fact, Kind, Record, Union, Ty, leaf, node, Var, Error, Row, ε, cell}
 use Rattle.unification.specs.Bindings.{Undo, Binding, Annotation, State}
 use Rattle.unification.specs.Unify.{UnionDiff, Absent, Renamed, Payload, TyError}
@@ -46,13 +45,13 @@ abbrev mutual
   RowOver L (cell key label t r) k = L.name (cell_name k key label) × (Over L t × RowOver L r k)
 
 abbrev pub OptionOver : Language → Option Ty → Type 0
-OptionOver L none = Unit {0}
-OptionOver L (some t) = Over L t
+OptionOver L None = Unit {0}
+OptionOver L (Some t) = Over L t
 
 -- A predicate's types, if it is there.
 abbrev pub PredicateOver : Language → Option Predicate → Type 0
-PredicateOver L none = Unit {0}
-PredicateOver L (some d) = Over L d.key × OptionOver L d.value
+PredicateOver L None = Unit {0}
+PredicateOver L (Some d) = Over L d.key × OptionOver L d.value
 
 -- ---- Messages
 abbrev pub DiffOver : Language → UnionDiff → Type 0
@@ -86,8 +85,8 @@ abbrev pub ErrorOver : Language → TyError → Type 0
 ErrorOver L e = MessageOver L (message_of e)
 
 abbrev pub FailureOver : Language → Option TyError → Type 0
-FailureOver L none = Unit {0}
-FailureOver L (some e) = ErrorOver L e
+FailureOver L None = Unit {0}
+FailureOver L (Some e) = ErrorOver L e
 
 abbrev pub DiagnosticsOver : Language → List Diagnostic → Type 0
 DiagnosticsOver L ds = All (λ d. MessageOver L d.message) ds

@@ -1,5 +1,5 @@
--- Which words stand for a group of desks and for a tally. Both ways are one (`words_group`, `group_words_lem`, `words_tally`, `tally_words_lem` of
--- proofs/Words.antt).
+-- Which words stand for a group of desks and for a tally. Both ways are one (`words_group`, `group_words_lem`,
+-- `words_tally`, `tally_words_lem` of proofs/Words.antt).
 use Rattle.std.specs.Prelude.{List, [], ◌∷◌, ℕ, ◌+◌, ◌*◌, get_or}
 use Rattle.cabinet.specs.declared.Desk.{Desk}
 use Rattle.cabinet.specs.declared.Group.{Group}

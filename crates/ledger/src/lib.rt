@@ -5,50 +5,36 @@ ghost use Rattle.std.specs.Prelude.{◌≡◌};
 ghost use Rattle.ledger.specs.Words.{group_of, group_words, tally_of, tally_words};
 
 use cabinet::{Desk, Group};
+use std::array;
 use tariff::Tally;
+
+// No impls of `From`: a group and a tally are other crates' types (orphan-impl), and those crates know of no words.
 
 // The count, the pool, and of each desk the share, the cap and the use.
 pub fn group(words: &[u32; 50]) -> Group
     ensures { result ≡ group_of words.now }
 {
-    let absent = Desk {
-        share: 0,
-        cap: 0,
-        used: 0,
-    };
-    let mut ds = [absent; 16];
-    let mut i: usize = 0;
-    while i < 16 {
-        ds[i] = Desk {
-            share: words[2 + 3 * i],
-            cap: words[3 + 3 * i],
-            used: words[4 + 3 * i],
-        };
-        i += 1;
-    }
     Group {
         count: words[0],
         pool: words[1],
-        desks: ds,
+        desks: array::from_fn(|i| Desk {
+            share: words[2 + 3 * i],
+            cap: words[3 + 3 * i],
+            used: words[4 + 3 * i],
+        }),
     }
 }
 
 pub fn put_group(words: &mut [u32; 50], g: Group)
     ensures { words.new ≡ group_words g }
 {
-    let ds = g.desks;
-    let mut all = [0u32; 50];
-    all[0] = g.count;
-    all[1] = g.pool;
-    let mut i: usize = 0;
-    while i < 16 {
-        let d = ds[i];
-        all[2 + 3 * i] = d.share;
-        all[3 + 3 * i] = d.cap;
-        all[4 + 3 * i] = d.used;
-        i += 1;
+    words[0] = g.count;
+    words[1] = g.pool;
+    for (i, d) in g.desks.iter().enumerate() {
+        words[2 + 3 * i] = d.share;
+        words[3 + 3 * i] = d.cap;
+        words[4 + 3 * i] = d.used;
     }
-    *words = all;
 }
 
 pub fn tally(words: &[u32; 3]) -> Tally

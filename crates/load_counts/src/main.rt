@@ -5,9 +5,7 @@
 
 ghost use Rattle.std.specs.Prelude.{◌<◌};
 
-use desk::Outcome;
 use std::io;
-use writer::Wrote;
 
 // ---- Digits
 
@@ -222,8 +220,8 @@ fn count_lines(s: &[u8], counts: &mut [usize]) {
 fn count_answer(file: &[u8], work: &mut [u32], out: &mut [u8], counts: &mut [usize]) {
     let r = desk::check_file(file, work, out);
     match r {
-        Outcome::Refused(_) => {}
-        Outcome::Accepted(_) => {
+        Err(_) => {}
+        Ok(_) => {
             count(counts, 36);
         }
     }
@@ -256,8 +254,8 @@ fn count_seed(seed: u32, work: &mut [u32], out: &mut [u8], counts: &mut [usize])
     start_file(counts);
     let r = generator::make(seed, &mut file);
     match r {
-        Wrote::Full => 0,
-        Wrote::To(n) => {
+        None => 0,
+        Some(n) => {
             if 8255 < n {
                 return 0;
             }

@@ -1,15 +1,14 @@
 -- What lies ahead of a place: a line there is the first of the frames, and a query ahead means that the file has not ended.
 use mathlib.Core.List.{List, [], ◌∷◌, ◌++◌, map, flat_map, head-eq_of_cons-eq, tail-eq_of_cons-eq}
-use mathlib.Core.Option.{Option, none, some}
 use mathlib.Core.Path.{◌≡◌, refl, sym, ap, ◌∙◌}
-use Prim.Native.Nat.{ℕ, zero, suc, ◌+◌, ◌≤◌, ◌<◌}
+use Prim.Native.Nat.{ℕ, ◌≤◌, ◌<◌}
 use native.Mathlib.Decide.{dec_le}
 use native.Mathlib.Omega.{arith}
 use lib.ListN.{length, get_or, take, drop}
 use Rattle.meaning.specs.Syntax.{Node, Ast}
-use Rattle.meaning.specs.Lines.{Line, lines}
+use Rattle.meaning.specs.Lines.{lines}
 use Rattle.meaning.specs.Frame.{wide, Kind, kind_byte, kind_of, Frame, a_node, the_query, frame_kind, frame_of}
-use Rattle.meaning.specs.SoFar.{malformed, unknown_kind, no_frame, frames, said_of, said_in, said_by, said}
+use Rattle.meaning.specs.SoFar.{frames, said_of, said_in, said_by, said}
 use Rattle.meaning.specs.File.{Form, described, reading, max_file}
 use Rattle.meaning.specs.Content.{query_frames}
 use Rattle.meaning.proofs.Written.{kind_byte_lem}
@@ -19,6 +18,7 @@ use Rattle.sigla_hex.proofs.Line.{lines_at_end, lines_split}
 use Rattle.frames.specs.Promises.{BytesAt}
 use Rattle.reading.proofs.AnyLine.{frame_kind_lem}
 use Rattle.loading.specs.Promises.{Ahead}
+use Rattle.std.specs.Prelude.{None, Option, Some}
 
 -- ---- One line
 
@@ -26,15 +26,15 @@ use Rattle.loading.specs.Promises.{Ahead}
 pub record IsFrame (s : List ℕ) (g : Frame) : Type 0 where
   pub content : List ℕ
   pub first : s ≡ kind_byte (frame_kind g) ∷ content
-  pub is : frame_of wide (frame_kind g) content ≡ some g
-  pub kind : kind_of (get_or s 0 0) ≡ some (frame_kind g)
+  pub is : frame_of wide (frame_kind g) content ≡ Some g
+  pub kind : kind_of (get_or s 0 0) ≡ Some (frame_kind g)
 
-pub is_frame_lem : (s : List ℕ) (g : Frame) → said_by wide (some s) ≡ frames g → IsFrame s g
+pub is_frame_lem : (s : List ℕ) (g : Frame) → said_by wide (Some s) ≡ frames g → IsFrame s g
 unfolding said_by said_in said_of
 is_frame_lem [] g e = let z : ◌≡◌ {A = ℕ} 0 1 = cc in absurd (omega arith)
 is_frame_lem (b ∷ t) g e = kinds (kind_of b) refl e
   where
-    made : (k : Kind) → kind_of b ≡ some k → frame_of wide k t ≡ some g → (frame_kind g ≡ k) → IsFrame (b ∷ t) g
+    made : (k : Kind) → kind_of b ≡ Some k → frame_of wide k t ≡ Some g → (frame_kind g ≡ k) → IsFrame (b ∷ t) g
     made k q x same = record {
       content = t;
       first = ap (λ c. c ∷ t) (kind_byte_lem b k q ∙ ap kind_byte (sym same));
@@ -42,18 +42,18 @@ is_frame_lem (b ∷ t) g e = kinds (kind_of b) refl e
       kind = rw same q;
     }
 
-    says : (k : Kind) → kind_of b ≡ some k → (o : Option Frame) → frame_of wide k t ≡ o → said_of k o ≡ frames g → IsFrame (b ∷ t) g
-    says k q none x c = let z : ◌≡◌ {A = ℕ} 0 1 = cc in absurd (omega arith)
-    says k q (some h) x c = let same : h ≡ g = cc in let y : frame_of wide k t ≡ some g = x ∙ ap some same in made k q y (frame_kind_lem wide k t g y)
+    says : (k : Kind) → kind_of b ≡ Some k → (o : Option Frame) → frame_of wide k t ≡ o → said_of k o ≡ frames g → IsFrame (b ∷ t) g
+    says k q None x c = let z : ◌≡◌ {A = ℕ} 0 1 = cc in absurd (omega arith)
+    says k q (Some h) x c = let same : h ≡ g = cc in let y : frame_of wide k t ≡ Some g = x ∙ ap Some same in made k q y (frame_kind_lem wide k t g y)
 
     kinds : (o : Option Kind) → kind_of b ≡ o → said_in wide o t ≡ frames g → IsFrame (b ∷ t) g
-    kinds none q c = let z : ◌≡◌ {A = ℕ} 0 1 = cc in absurd (omega arith)
-    kinds (some k) q c = says k q (frame_of wide k t) refl c
+    kinds None q c = let z : ◌≡◌ {A = ℕ} 0 1 = cc in absurd (omega arith)
+    kinds (Some k) q c = says k q (frame_of wide k t) refl c
 
 -- The line here is the first of the frames, and the others follow it.
 module _ {f : List ℕ} {at : ℕ} {line : List ℕ} {n next : ℕ} (h : BytesAt f at line n next) (g : Frame) (gs : List Frame)
     (e : map (said wide) (lines (drop at f)) ≡ frames g ∷ map frames gs) where
-  both : said_by wide (some (take n line)) ∷ map (said wide) (lines (drop next f)) ≡ frames g ∷ map frames gs
+  both : said_by wide (Some (take n line)) ∷ map (said wide) (lines (drop next f)) ≡ frames g ∷ map frames gs
   unfolding said
   both = ap (λ o. said_by wide o ∷ map (said wide) (lines (drop next f))) (sym h.bytes) ∙ sym (ap (map (said wide)) h.splits) ∙ e
 
@@ -91,7 +91,7 @@ all_ahead f form small e =
       schema = l.schema;
       early = l.early;
       are = l.are;
-      ended = λ none_left. let some = (some_queries f form e).0 in let long : length form.queries ≡ 0 = ap length none_left in absurd (omega arith);
+      ended = λ none_left. let Some = (some_queries f form e).0 in let long : length form.queries ≡ 0 = ap length none_left in absurd (omega arith);
     }
 
 -- Where a query lies ahead, the file goes on.

@@ -1,17 +1,19 @@
 -- The walk of `load`: what lies ahead is what is left of the schema, of the query's nodes and of the queries after it; the nodes passed so far
 -- stand in their words.
 use mathlib.Core.List.{List, [], ◌∷◌, ◌++◌, map, flat_map, append_assoc, append-nil}
-use mathlib.Core.Option.{none, some}
-use mathlib.Core.Path.{◌≡◌, refl, sym, ap, subst, ◌∙◌}
-use Prim.Native.Nat.{ℕ, ◌+◌, ◌-◌, ◌*◌, ◌/◌, ◌≤◌, ◌<◌}
+use mathlib.Core.Path.{◌≡◌, refl, sym, ap, ◌∙◌}
+use Prim.Native.Nat.{ℕ, ◌+◌, ◌*◌, ◌/◌, ◌≤◌, ◌<◌}
 use native.Mathlib.Omega.{arith}
 use lib.ListN.{length, get_or, take, drop, set, length-append, length-set}
+use lib.Dec.{ltb}
+use borrow.Author.Tests.{ltb-true, ltb-false}
+use Rattle.meaning.proofs.Tests.{cases}
 use lib.Seq.{get_or-set_same, get_or-set_other}
-use Rattle.work.specs.Layout.{NODE-COUNT, QUERY, NODES, FIELDS, RECORD-COUNT, END}
+use Rattle.work.specs.Layout.{NODE-COUNT, QUERY, NODES, FIELDS}
 use Rattle.cells.specs.Stands.{Rows}
 use Rattle.cells.proofs.Frame.{more_refl}
 use Rattle.meaning.specs.Frame as Frame
-use Rattle.meaning.specs.Syntax.{Node, Query, Ast, node_at}
+use Rattle.meaning.specs.Syntax.{Node, Query, Ast}
 use Rattle.meaning.specs.Lines.{lines}
 use Rattle.meaning.specs.Frame.{node, kind_byte, kind_of, Frame, a_node, the_query, frame_kind}
 use Rattle.meaning.specs.SoFar.{malformed, frames, said_by, said}
@@ -22,9 +24,12 @@ use Rattle.meaning.specs.Conditions.{max_names, max_predicates, max_nodes}
 use Rattle.meaning.specs.Sound.{Sound}
 use Rattle.meaning.specs.Outcome.{min_words}
 use Rattle.sigla_hex.specs.Digits.{line_at}
-use Rattle.frames.specs.Promises.{BytesAt, Malformed, number_of}
+use Rattle.frames.specs.declared.Kind.{Kind}
+use Rattle.frames.specs.declared.Kind.TheVariants as Code
+use Rattle.frames.specs.Promises.{BytesAt, Malformed, kind_meant, known}
+use Rattle.frames.proofs.Following.{same_known}
 use Rattle.frames.proofs.Decoding.{holds_line}
-use Rattle.tree.specs.Stands.{QueryIs, SchemaStands, Stands}
+use Rattle.tree.specs.Stands.{SchemaStands, Stands}
 use Rattle.state.proofs.Standing.{schema_stands}
 use Rattle.reading.specs.Held.{NodesHeld}
 use Rattle.reading.proofs.Kept.{node_kept, query_kept}
@@ -32,6 +37,8 @@ use Rattle.reading.proofs.Added.{node_added, query_added}
 use Rattle.reading.proofs.AllLines.{first_taken}
 use Rattle.loading.specs.Promises.{Ahead, Reloads, Loads}
 use Rattle.loading.proofs.Lines.{IsFrame, first_frame, later_frames, not_ended, is_ended}
+use Rattle.std.specs.Prelude.{Option, Some}
+use Rattle.std.proofs.lemmas.Option.{same_Some}
 
 -- ---- Words
 
@@ -103,11 +110,11 @@ module _ {f : List ℕ} {at : ℕ} {w₀ w : List ℕ} {i n : ℕ} (m : Loading 
     ahead = λ d qs s l a. absurd (never d qs (m.is d qs s l a));
   }
 
-  pub loading_ended : length f ≤ i → Loads f at w₀ w (length f)
+  loading_ended : length f ≤ i → Loads f at w₀ w (length f)
   loading_ended l = nothing (λ d qs x. let g = some_frame d.ast.query qs x.left x.schema in let z : i < length f = not_ended f i g.0
       g.1 (x.are ∙ ap (map frames) g.2) in omega arith)
 
-  pub loading_bad : Malformed f i → Loads f at w₀ w (length f)
+  loading_bad : Malformed f i → Loads f at w₀ w (length f)
   unfolding said said_by
   loading_bad b = nothing (λ d qs x.
       let g = some_frame d.ast.query qs x.left x.schema in
@@ -117,16 +124,20 @@ module _ {f : List ℕ} {at : ℕ} {w₀ w : List ℕ} {i n : ℕ} (m : Loading 
       let z : ◌≡◌ {A = ℕ} 0 1 = cc in
       omega arith)
 
-  -- ---- A line
-  module _ {line : List ℕ} {size next : ℕ} (h : BytesAt f i line size next) (kind : ℕ) (e : kind ≡ number_of (kind_of (get_or line 0 0))) where
-    number : {g : Frame} → IsFrame (take size line) g → kind ≡ kind_byte (frame_kind g) - 1
-    number x = e ∙ ap (λ b. number_of (kind_of b)) (sym (first_taken Frame.wide h)) ∙ ap number_of x.kind
+  -- no line stands here
+  pub loading_over : (i < length f → Malformed f i) → Loads f at w₀ w (length f)
+  loading_over b = cases (ltb i (length f)) (λ q. loading_bad (b (ltb-true i (length f) q))) (λ q. loading_ended (ltb-false i (length f) q))
 
-    is_size : size ≡ length (take size line)
-    is_size = sym h.count
+  -- ---- A line
+  module _ {line : List ℕ} {size next : ℕ} (h : BytesAt f i line size next) (kind : Option Kind) (e : known kind ≡ kind_of (get_or line 0 0)) where
+    says : {g : Frame} → IsFrame (take size line) g → known kind ≡ Some (frame_kind g)
+    says x = e ∙ ap kind_of (sym (first_taken Frame.wide h)) ∙ x.kind
+
+    byte_is : {g : Frame} {k : Kind} → IsFrame (take size line) g → kind ≡ Some k → kind_byte (frame_kind g) ≡ kind_byte (kind_meant k)
+    byte_is x q = ap kind_byte (same_Some _ _ (sym (says x) ∙ ap known q))
 
     -- The 06 line: it is the query's, and the words are complete.
-    module _ (k : kind ≡ 5) where
+    module _ (k : kind ≡ Some Code.Query) where
       record AtQuery (q : Query) (qs : List Ast) (left : List Node) : Type 0 where
         none_left : left ≡ []
         frame : IsFrame (take size line) (the_query q)
@@ -135,8 +146,8 @@ module _ {f : List ℕ} {at : ℕ} {w₀ w : List ℕ} {i n : ℕ} (m : Loading 
       at_query : (q : Query) (qs : List Ast) (left : List Node) (schema : List Frame) → All (λ g. kind_byte (frame_kind g) < kind_byte node) schema
           → map (said Frame.wide) (lines (drop i f)) ≡ map frames (Rest q qs left schema) → AtQuery q qs left
       unfolding kind_byte frame_kind
-      at_query q qs left (g ∷ schema) early are = absurd (omega (arith, number (first_frame h g (Rest q qs left schema) are), early.0))
-      at_query q qs (nd ∷ left) [] early are = absurd (omega (arith, number (first_frame h (a_node nd) (Rest q qs left []) are)))
+      at_query q qs left (g ∷ schema) early are = absurd (omega (arith, byte_is (first_frame h g (Rest q qs left schema) are) k, early.0))
+      at_query q qs (nd ∷ left) [] early are = absurd (omega (arith, byte_is (first_frame h (a_node nd) (Rest q qs left []) are) k))
       at_query q qs [] [] early are = record {
         none_left = refl;
         frame = first_frame h (the_query q) (flat_map query_frames qs) are;
@@ -164,8 +175,8 @@ module _ {f : List ℕ} {at : ℕ} {w₀ w : List ℕ} {i n : ℕ} (m : Loading 
           let wide₁ : length w₁ ≡ length w = length-set w QUERY (i * 1024 + size) in
           let nodes : x.done ≡ d.ast.nodes = sym (append-nil x.done) ∙ ap (λ t. x.done ++ t) (sym y.none_left) ∙ x.nodes in
           let frame = y.frame in
-          let line_is : line_at f i ≡ some (0x06 ∷ frame.content) = holds_line f i line size next h ∙ ap some frame.first in
-          let long : size ≡ length (0x06 ∷ frame.content) = is_size ∙ ap length frame.first in
+          let line_is : line_at f i ≡ Some (0x06 ∷ frame.content) = holds_line f i line size next h ∙ ap Some frame.first in
+          let long : size ≡ length (0x06 ∷ frame.content) = sym h.count ∙ ap length frame.first in
           record {
             long = omega (arith, reloaded.long);
             schema = schema_stands w₀ counted reloaded.below (λ j lo hi. reloaded.above j lo) more_refl S s.predicates_max s.names_max;
@@ -197,7 +208,7 @@ module _ {f : List ℕ} {at : ℕ} {w₀ w : List ℕ} {i n : ℕ} (m : Loading 
       }
 
     -- A 05 line: it is the query's next node.
-    module _ (k : kind ≡ 4) where
+    module _ (k : kind ≡ Some Code.Node) where
       record AtNode (q : Query) (qs : List Ast) (left : List Node) : Type 0 where
         nd : Node
         more : List Node
@@ -208,7 +219,7 @@ module _ {f : List ℕ} {at : ℕ} {w₀ w : List ℕ} {i n : ℕ} (m : Loading 
       at_node : (q : Query) (qs : List Ast) (left : List Node) (schema : List Frame) → All (λ g. kind_byte (frame_kind g) < kind_byte node) schema
           → map (said Frame.wide) (lines (drop i f)) ≡ map frames (Rest q qs left schema) → AtNode q qs left
       unfolding kind_byte frame_kind
-      at_node q qs left (g ∷ schema) early are = absurd (omega (arith, number (first_frame h g (Rest q qs left schema) are), early.0))
+      at_node q qs left (g ∷ schema) early are = absurd (omega (arith, byte_is (first_frame h g (Rest q qs left schema) are) k, early.0))
       at_node q qs (nd ∷ left) [] early are = record {
         nd = nd;
         more = left;
@@ -216,7 +227,7 @@ module _ {f : List ℕ} {at : ℕ} {w₀ w : List ℕ} {i n : ℕ} (m : Loading 
         frame = first_frame h (a_node nd) (Rest q qs left []) are;
         later = later_frames h (a_node nd) (Rest q qs left []) are;
       }
-      at_node q qs [] [] early are = absurd (omega (arith, number (first_frame h (the_query q) (flat_map query_frames qs) are)))
+      at_node q qs [] [] early are = absurd (omega (arith, byte_is (first_frame h (the_query q) (flat_map query_frames qs) are) k))
 
       -- there is room for it
       module _ (d : Described) (qs : List Ast) (s : Sound d) (x : Midst f w i n d.ast qs) where
@@ -257,15 +268,15 @@ module _ {f : List ℕ} {at : ℕ} {w₀ w : List ℕ} {i n : ℕ} (m : Loading 
               left = y.more;
               schema = [];
               nodes = append_assoc x.done (y.nd ∷ []) y.more ∙ one_more d qs s x;
-              held = node_added i size 0x05 frame.content (holds_line f i line size next h ∙ ap some frame.first)
-                  (is_size ∙ ap length frame.first) h.most y.nd x.held (omega (arith, m.words.long)) (room d qs s x) refl frame.is;
+              held = node_added i size 0x05 frame.content (holds_line f i line size next h ∙ ap Some frame.first)
+                  (sym h.count ∙ ap length frame.first) h.most y.nd x.held (omega (arith, m.words.long)) (room d qs s x) refl frame.is;
               early = tt;
               are = y.later;
             };
       }
 
     -- A line of the schema is passed over.
-    module _ (k : (kind ≡ 5 → ⊥)) (j : (kind ≡ 4 → ⊥)) where
+    module _ (k : kind ≡ Some Code.Query → ⊥) (j : kind ≡ Some Code.Node → ⊥) where
       record AtSchema (q : Query) (qs : List Ast) (left : List Node) : Type 0 where
         more : List Frame
         early : All (λ g. kind_byte (frame_kind g) < kind_byte node) more
@@ -275,8 +286,8 @@ module _ {f : List ℕ} {at : ℕ} {w₀ w : List ℕ} {i n : ℕ} (m : Loading 
           → map (said Frame.wide) (lines (drop i f)) ≡ map frames (Rest q qs left schema) → AtSchema q qs left
       unfolding kind_byte frame_kind
       at_schema q qs left (g ∷ schema) early are = record { more = schema; early = early.1; later = later_frames h g (Rest q qs left schema) are }
-      at_schema q qs (nd ∷ left) [] early are = absurd (j (number (first_frame h (a_node nd) (Rest q qs left []) are)))
-      at_schema q qs [] [] early are = absurd (k (number (first_frame h (the_query q) (flat_map query_frames qs) are)))
+      at_schema q qs (nd ∷ left) [] early are = absurd (j (same_known kind Code.Node (says (first_frame h (a_node nd) (Rest q qs left []) are))))
+      at_schema q qs [] [] early are = absurd (k (same_known kind Code.Query (says (first_frame h (the_query q) (flat_map query_frames qs) are))))
 
       pub loading_past : Loading f at w₀ w next n
       loading_past = record {
@@ -300,3 +311,5 @@ loading_too_long f at w l = record {
   stands = λ T d qs s e S a. absurd (omega (arith, a.small));
   ahead = λ d qs s e a. absurd (omega (arith, a.small));
 }
+
+pub ruleset loading = (loading_start, loading_query, loading_full, loading_node)

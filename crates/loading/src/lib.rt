@@ -3,43 +3,36 @@
 
 ghost use Rattle.loading.specs.Promises.{Loads};
 
-use frames::Decoded;
+use frames::Kind;
 use reading::Counters;
 use work::{line_word, node_word, put, wide};
 
 // The next query from `at` on; what comes back is where the lines after its 06 line start. Lines 01 to 04 are passed over, and where no
 // query is found that is the file's end.
+#[tactic(auto, using(crate::proofs::Loading::loading))]
 pub fn load(file: &[u8], at: usize, w: &mut [u32]) -> usize
     ensures { Loads file.now at w.old w.new result }
 {
     if Counters::FILE < file.len() {
         return file.len();
     }
-    let mut line = [0u8; 512];
-    let mut nodes: u32 = 0;
+    let mut line = [0u8; Counters::LINE];
+    let mut nodes = 0;
     let mut i = at;
-    while i < file.len() {
-        let got = frames::decode(file, i, &mut line);
-        match got {
-            Decoded::Bad => {
-                return file.len();
+    while let Some((n, next)) = frames::decode(file, i, &mut line) {
+        match frames::kind_of(line[0]) {
+            Some(Kind::Query) => {
+                put(w, work::QUERY, line_word(i, n));
+                put(w, work::NODE_COUNT, nodes);
+                return next;
             }
-            Decoded::Bytes(n, next) => {
-                let kind = frames::kind_of(line[0]);
-                if kind == 5 {
-                    put(w, work::QUERY, line_word(i, n));
-                    put(w, work::NODE_COUNT, nodes);
-                    return next;
-                }
-                if kind == 4 {
-                    if nodes < Counters::NODES {
-                        put(w, work::NODES + wide(nodes), node_word(i, n));
-                        nodes += 1;
-                    }
-                }
-                i = next;
+            Some(Kind::Node) if nodes < Counters::NODES => {
+                put(w, work::NODES + wide(nodes), node_word(i, n));
+                nodes += 1;
             }
+            _ => {}
         }
+        i = next;
     }
     file.len()
 }

@@ -2,7 +2,6 @@
 use mathlib.Core.Bool.{true, false}
 use mathlib.Core.List.{List, [], ◌∷◌, ◌++◌, map, flat_map, append-nil, append_assoc}
 use mathlib.Core.Logic.{inl, inr, ◌≢◌, ◌↔◌}
-use mathlib.Core.Option.{Option, some}
 use mathlib.Core.Path.{◌≡◌, refl, sym, ap, ◌∙◌}
 use Prim.Native.Nat.{ℕ, suc, ◌+◌, ◌≤◌}
 use native.Mathlib.Omega.{arith}
@@ -28,6 +27,7 @@ use Rattle.meaning.proofs.Lists.{all_append, all_left, all_right, all_map}
 use Rattle.meaning.proofs.Tests.{cases}
 use Rattle.meaning.proofs.Forms.{Ran, RanOut, Runs, all_ran, one_out, runs}
 use Rattle.meaning.proofs.Content.{says_exactly}
+use Rattle.std.specs.Prelude.{Option, Some}
 
 -- ---- The file of one query alone passes
 
@@ -129,19 +129,19 @@ module _ (c : Content) (words : ℕ) (enough : ltb words min_words ≡ false) wh
 
   -- the file alone is decided by its query's run
   one_decided : (a : Ast) → reading (file_alone c a) ≡ described (describes (alone c a))
-      → decide (file_alone c a) words ≡ decide_run text (with_checked (check max_visits schema a) (some []))
+      → decide (file_alone c a) words ≡ decide_run text (with_checked (check max_visits schema a) (Some []))
   unfolding decide schema text describes alone run_all
   one_decided a p = rw (enough, decide, p)
 
   one_answered : (a : Ast) (t : Typed) → reading (file_alone c a) ≡ described (describes (alone c a)) → Ran schema a t
       → decide (file_alone c a) words ≡ answered (answer_lines text t)
   unfolding with_checked decide_run form_lines
-  one_answered a t p q = one_decided a p ∙ ap (λ x. decide_run text (with_checked x (some []))) q
+  one_answered a t p q = one_decided a p ∙ ap (λ x. decide_run text (with_checked x (Some []))) q
 
   one_ran_out : (a : Ast) → reading (file_alone c a) ≡ described (describes (alone c a)) → RanOut schema a
       → decide (file_alone c a) words ≡ turned_down too_many_visits
   unfolding with_checked decide_run
-  one_ran_out a p q = one_decided a p ∙ ap (λ x. decide_run text (with_checked x (some []))) q
+  one_ran_out a p q = one_decided a p ∙ ap (λ x. decide_run text (with_checked x (Some []))) q
 
   each_answered : (qs : List Ast) (ts : List Typed) → All (λ a. reading (file_alone c a) ≡ described (describes (alone c a))) qs
       → Each (Ran schema) qs ts → Each (λ a l. decide (file_alone c a) words ≡ answered l) qs (map (answer_lines text) ts)

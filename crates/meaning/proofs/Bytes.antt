@@ -1,6 +1,5 @@
 -- A frame whose numbers fit in their bytes is written in bytes.
 use mathlib.Core.List.{List, [], ◌∷◌, ◌++◌, flat_map}
-use mathlib.Core.Option.{Option, none, some}
 use Prim.Native.Nat.{ℕ, ◌/◌}
 use native.Mathlib.Omega.{arith}
 use Rattle.unification.specs.Ty.{Int, String, Bytes, Fact}
@@ -13,6 +12,7 @@ use Rattle.meaning.specs.Writing.{as_content, written, FieldFits, AlternativeFit
 use Rattle.meaning.specs.Writing.{ExprFits, NodeFits, Fits}
 use Rattle.meaning.specs.Answer.{bytes₂, bytes₄}
 use Rattle.meaning.proofs.Lists.{all_append}
+use Rattle.std.specs.Prelude.{None, Option, Some}
 
 two : (n : ℕ) → All Byte (bytes₂ n)
 unfolding bytes₂
@@ -58,8 +58,8 @@ shape e (a_union alts) h = (omega arith, each as_alternative AlternativeFits alt
 
 value : (v : Option ℕ) → ValueTypeFits v → All Byte (as_value_type v)
 unfolding as_value_type
-value none h = (omega arith, tt)
-value (some t) h = (omega arith, two t)
+value None h = (omega arith, tt)
+value (Some t) h = (omega arith, two t)
 
 statement : (q : QueryStmt) → StatementFits q → All Byte (as_statement q)
 unfolding as_statement

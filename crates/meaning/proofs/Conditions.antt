@@ -1,7 +1,6 @@
 -- None of the conditions holds of a frame exactly where it obeys the rules.
 use mathlib.Core.Bool.{Bool, true, false, not, ◌||◌}
 use mathlib.Core.List.{List, [], ◌∷◌}
-use mathlib.Core.Option.{Option, none, some}
 use mathlib.Core.Path.{◌≡◌, refl, sym, ap}
 use Prim.Native.Nat.{ℕ}
 use native.Mathlib.Omega.{arith}
@@ -21,17 +20,18 @@ use Rattle.meaning.proofs.Obeys.{Room, Obeys}
 use Rattle.meaning.proofs.Lists.{empty_absent}
 use Rattle.meaning.proofs.Tests.{cases, clash, both_true, none_passes, passes_none, below_all, all_below_lem, again_new, again_distinct, new_again}
 use Rattle.meaning.proofs.Tests.{given_absent, absent_given}
+use Rattle.std.specs.Prelude.{None, Option, Some}
 
 -- ---- No condition of a list holds
 
-pub none_holds : (cs : List Condition) (so : SoFar) (l : Said) → first_of cs so l ≡ none → All (λ c. c.holds so l ≡ false) cs
+pub none_holds : (cs : List Condition) (so : SoFar) (l : Said) → first_of cs so l ≡ None → All (λ c. c.holds so l ≡ false) cs
 unfolding first_of
 none_holds [] so l e = tt
 none_holds (c ∷ cs) so l e = cases (c.holds so l)
-    (λ q. let z : some c.refusal ≡ none = rw (q, first_of) at e in let w : ◌≡◌ {A = ℕ} 0 1 = cc in absurd (omega arith))
+    (λ q. let z : Some c.refusal ≡ None = rw (q, first_of) at e in let w : ◌≡◌ {A = ℕ} 0 1 = cc in absurd (omega arith))
     (λ q. (q, none_holds cs so l (rw (q, first_of) at e)))
 
-pub holds_none : (cs : List Condition) (so : SoFar) (l : Said) → All (λ c. c.holds so l ≡ false) cs → first_of cs so l ≡ none
+pub holds_none : (cs : List Condition) (so : SoFar) (l : Said) → All (λ c. c.holds so l ≡ false) cs → first_of cs so l ≡ None
 unfolding first_of
 holds_none [] so l a = refl
 holds_none (c ∷ cs) so l a = rw (a.0, first_of) (holds_none cs so l a.1)
@@ -73,8 +73,8 @@ unfolding broken
 readable s h = go (characters s) refl
   where
     go : (o : Option ℕ) → characters s ≡ o → Readable s
-    go none q = clash (rw (q, broken) at h)
-    go (some n) q = (n, (counts s n).1 q)
+    go None q = clash (rw (q, broken) at h)
+    go (Some n) q = (n, (counts s n).1 q)
 
 pub unbroken : (s : List ℕ) → Readable s → broken s ≡ false
 unfolding broken
@@ -90,7 +90,7 @@ or_not : (a b : Bool) → a ≡ true → b ≡ false → (not a || b) ≡ false
 or_not true b p q = q
 or_not false b p q = clash (sym p)
 
-pub obeys : (so : SoFar) (f : Frame) → first_of conditions so (frames f) ≡ none → Obeys so f
+pub obeys : (so : SoFar) (f : Frame) → first_of conditions so (frames f) ≡ None → Obeys so f
 unfolding conditions is_misplaced is_one_too_many is_query_too_many is_broken_text is_name_given_before is_bad_reference is_repeated_key of_frame refers_earlier refers_badly
 obeys so f e =
     record {
@@ -116,7 +116,7 @@ obeys so f e =
     once : again so.named (node_refs f) ≡ false
     once = (not_or (refers_earlier so f) (again so.named (node_refs f)) a.1.1.1.1.1.1.1.0).1
 
-pub no_condition : (so : SoFar) (f : Frame) → Obeys so f → first_of conditions so (frames f) ≡ none
+pub no_condition : (so : SoFar) (f : Frame) → Obeys so f → first_of conditions so (frames f) ≡ None
 unfolding conditions is_malformed is_misplaced is_one_too_many is_query_too_many is_no_frame is_broken_text is_name_given_before is_bad_reference is_repeated_key of_frame refers_earlier refers_badly
 no_condition so f o =
     holds_none conditions so (frames f) (

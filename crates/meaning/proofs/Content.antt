@@ -3,7 +3,6 @@
 use mathlib.Core.Bool.{true≢false}
 use mathlib.Core.List.{List, [], ◌∷◌, ◌++◌, map, flat_map, append-nil, append_assoc}
 use mathlib.Core.Logic.{◌↔◌}
-use mathlib.Core.Option.{some}
 use mathlib.Core.Path.{◌≡◌, refl, sym, ap, subst, ◌∙◌}
 use Prim.Native.Nat.{ℕ}
 use native.Mathlib.Omega.{arith}
@@ -21,6 +20,7 @@ use Rattle.meaning.proofs.Kept.{kept}
 use Rattle.meaning.proofs.Written.{described_exactly}
 use Rattle.meaning.proofs.Grouped.{Grouped, grouped}
 use Rattle.meaning.proofs.Lawful.{end_of, types_length, lawful_rules}
+use Rattle.std.specs.Prelude.{Some}
 
 -- ---- From frames to content
 
@@ -36,7 +36,7 @@ record Held (fs : List Frame) (end : SoFar) : Type 0 where
   lawful : (ed : Edition) → All (Writable ed) fs → Lawful ed content
 
 -- the frames after the limits
-after_limits : (d t : ℕ) (fs : List Frame) (end : SoFar) → end.previous ≡ some Kind.query → Kept end
+after_limits : (d t : ℕ) (fs : List Frame) (end : SoFar) → end.previous ≡ Some Kind.query → Kept end
     → Grouped limits (add start (the_limits d t)) fs end → Held (the_limits d t ∷ fs) end
 unfolding add start frames_of schema_frames
 after_limits d t fs end e k g =
@@ -81,7 +81,7 @@ after_limits d t fs end e k g =
     apart : {A : Type 0} (a b c d : List A) → a ++ (b ++ (c ++ d)) ≡ (a ++ (b ++ c)) ++ d
     apart a b c d = sym (append_assoc a (b ++ c) d ∙ ap (λ l. a ++ l) (append_assoc b c d))
 
-held : (fs : List Frame) (end : SoFar) → end.previous ≡ some Kind.query → Rules start fs end → Held fs end
+held : (fs : List Frame) (end : SoFar) → end.previous ≡ Some Kind.query → Rules start fs end → Held fs end
 unfolding start add may_stand kind_byte frame_kind
 held [] end e done = let w : ◌≡◌ {A = ℕ} 0 1 = cc in absurd (omega arith)
 held (f ∷ fs) end e (next o r) = go f (kept (next o r)) o r

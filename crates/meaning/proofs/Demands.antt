@@ -1,7 +1,6 @@
 -- Document 01's three demands of the whole call, for every file and every two lengths. What is decided follows the order of the refusals, and
 -- both slices follow what is decided.
 use mathlib.Core.List.{List}
-use mathlib.Core.Option.{Option, none, some}
 use mathlib.Core.Path.{◌≡◌, refl, sym, ap, ◌∙◌, subst}
 use Prim.Native.Nat.{ℕ, ◌<◌, ◌≤◌}
 use native.Mathlib.Omega.{arith}
@@ -29,6 +28,7 @@ use Rattle.meaning.proofs.Texts.{texts_counted, broken_exactly}
 use Rattle.meaning.proofs.Nonzero.{form_nonzero}
 use Rattle.meaning.proofs.Sound.{sound}
 use Rattle.meaning.proofs.Run.{sound_well_formed, run_demand_3, run_robinson}
+use Rattle.std.specs.Prelude.{None, Option, Some}
 
 -- Every unification of the run on each query goes as Robinson's notions say.
 all_robinson : (file : List ℕ) (f : Form) → reading file ≡ described f → All (λ a. RunAsRobinson f.schema a max_visits) f.queries
@@ -72,8 +72,8 @@ module _ (file : List ℕ) (words : ℕ) where
     where
       checks : min_words ≤ words → (f : Form) → reading file ≡ described f → {x : Option (List Typed)} → Runs f.schema f.queries x
           → run_all f.schema f.queries ≡ x → Decides (decide file words)
-      checks h f s (all_ran ts r) e = subst Decides (sym (reads_decides f (some ts) h s e)) (answers f ts h s r)
-      checks h f s (one_out r) e = subst Decides (sym (reads_decides f none h s e)) (spent f h s r)
+      checks h f s (all_ran ts r) e = subst Decides (sym (reads_decides f (Some ts) h s e)) (answers f ts h s r)
+      checks h f s (one_out r) e = subst Decides (sym (reads_decides f None h s e)) (spent f h s r)
 
       read : min_words ≤ words → (r : Reading) → reading file ≡ r → Decides (decide file words)
       read h (refused i) e = let r = (refused_when wide file i).0 e in subst Decides (sym (unread_decides i h r)) (unread h r)
@@ -115,13 +115,13 @@ module _ (file : List ℕ) (words : ℕ) where
     unfolding decide_run
     refuses i (for_work h) = down i (short_decides h)
     refuses i (for_file h r) = down i (unread_decides i h r)
-    refuses i (for_visits d h s c) = down i (reads_decides d none h s (any_out d.schema d.queries c))
-    refuses i (for_answer d t h s c l) = over (form_lines (text_in d) t) (reads_decides d (some t) h s (each_ran d.schema d.queries t c)) l
+    refuses i (for_visits d h s c) = down i (reads_decides d None h s (any_out d.schema d.queries c))
+    refuses i (for_answer d t h s c l) = over (form_lines (text_in d) t) (reads_decides d (Some t) h s (each_ran d.schema d.queries t c)) l
 
     accepts : (d : Form) (t : List Typed) → AcceptedWhen file words bytes d t → outcome file words bytes ≡ accept (form_lines (text_in d) t) words bytes
     unfolding decide_run
     accepts d t a = fitting (form_lines (text_in d) t)
-        (reads_decides d (some t) a.enough a.reads (each_ran d.schema d.queries t a.checks)) a.fits
+        (reads_decides d (Some t) a.enough a.reads (each_ran d.schema d.queries t a.checks)) a.fits
 
     -- Every call is accepted or refused for one of the thirteen reasons, each exactly under its condition; zeros as document 01 has them.
     pub demand_1 : Demand1 file words bytes

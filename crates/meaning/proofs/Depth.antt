@@ -2,7 +2,6 @@
 -- visit the node alike.
 use mathlib.Core.Bool.{Bool, true, false}
 use mathlib.Core.List.{List, [], ◌∷◌}
-use mathlib.Core.Option.{Option, none, some}
 use mathlib.Core.Path.{◌≡◌, refl, ◌∙◌, fun_ext}
 use mathlib.Core.Logic.{by_cases}
 use Prim.Native.Nat.{ℕ, zero, suc, ◌<◌}
@@ -24,6 +23,7 @@ use Rattle.meaning.specs.Check.{access, select, infer_fields, infer_all, disjunc
 use Rattle.meaning.specs.Check.{bind_wildcard, bind_form, deny_form, compare, generate, stmt, stmts, subquery, infer_kind, infer_at, infer_then_unify}
 use Rattle.meaning.specs.Check.{check_field, check_mentioned, check_fields, check_alternative, check_union, check_record, check_form, check_against, check_at}
 use Rattle.meaning.specs.Check.{generate_branches, generator_form, generator_at, walk}
+use Rattle.std.specs.Prelude.{None, Option, Some}
 
 -- They visit this node alike.
 pub record Alike (below below' : Walk) (m : ℕ) : Type 0 where
@@ -46,8 +46,8 @@ module _ (schema : Schema) (nodes : List Node) (below below' : Walk) where
   fact_alike p key h = go (key_ty schema nodes p) refl
     where
       go : (o : Option Ty) → key_ty schema nodes p ≡ o → fact schema nodes below p key ≡ fact schema nodes below' p key
-      go none e = rw (e, fact)
-      go (some t) e = rw (e, fact, h.check)
+      go None e = rw (e, fact)
+      go (Some t) e = rw (e, fact, h.check)
 
   infer_fields_alike : (fs : List Field) → All (Alike below below') (field_values fs) → infer_fields schema nodes below fs ≡ infer_fields schema nodes below' fs
   unfolding infer_fields field_values
@@ -140,8 +140,8 @@ module _ (schema : Schema) (nodes : List Node) (below below' : Walk) where
     check_fields_alike (f ∷ fs) row h = rw (mentioned (find_key f.name row), check_fields_alike fs row h.1)
       where
         mentioned : (o : Option (ℕ × Ty)) → check_mentioned schema nodes below f o ≡ check_mentioned schema nodes below' f o
-        mentioned none = refl
-        mentioned (some field) = rw h.0.check
+        mentioned None = refl
+        mentioned (Some field) = rw h.0.check
 
     check_union_alike : (fs : List Field) (row : Row) → All (Alike below below') (field_values fs)
         → check_union schema nodes below id fs row ≡ check_union schema nodes below' id fs row
@@ -150,8 +150,8 @@ module _ (schema : Schema) (nodes : List Node) (below below' : Walk) where
     check_union_alike (f ∷ []) row h = go (find_label f.name row) refl
       where
         go : (o : Option Ty) → find_label f.name row ≡ o → check_alternative schema nodes below id f row ≡ check_alternative schema nodes below' id f row
-        go none e = rw (e, check_alternative)
-        go (some t) e = rw (e, check_alternative, h.0.check)
+        go None e = rw (e, check_alternative)
+        go (Some t) e = rw (e, check_alternative, h.0.check)
     check_union_alike (f ∷ g ∷ fs) row h = refl
 
     check_record_alike : (fs : List Field) (t : Ty) → All (Alike below below') (field_values fs)

@@ -1,6 +1,5 @@
 -- A frame is read from its bytes and from no others: production by production.
 use mathlib.Core.List.{List, [], ◌++◌, flat_map, append-nil, append_assoc}
-use mathlib.Core.Option.{Option, none, some}
 use mathlib.Core.Path.{◌≡◌, refl, ap, ◌∙◌}
 use Prim.Native.Nat.{ℕ, ◌<◌}
 use native.Mathlib.Omega.{arith}
@@ -18,6 +17,7 @@ use Rattle.meaning.specs.Answer.{bytes₂}
 use Rattle.meaning.proofs.Inverse.{Took, Inverse, Anything, Nothing, one_back, one_forth, pair_back, pair_forth, triple_back, triple_forth}
 use Rattle.meaning.proofs.Inverse.{pair_inverse, triple_inverse, byte_inverse, two_inverse, four_inverse, many_inverse, Entries, end, ◌then◌}
 use Rattle.meaning.proofs.Inverse.{choice_forth, entry_nothing, entry_one, entry_pair}
+use Rattle.std.specs.Prelude.{None, Option, Some}
 
 field_inverse : Inverse Anything field as_field FieldFits
 unfolding field as_field
@@ -119,13 +119,13 @@ unfolding value_types as_value_type choice entry nothing
 value_inverse = record { back = back; forth = choice_forth as_value_type ValueTypeFits value_types entries }
   where
     back : (v : Option ℕ) (t : List ℕ) → ValueTypeFits v → Unit {0} → choice value_types (as_value_type v ++ t) ≡ got v t
-    back none t f e = refl
-    back (some x) t f e = one_back some two_inverse x t f tt
+    back None t f e = refl
+    back (Some x) t f e = one_back Some two_inverse x t f tt
 
     entries : Entries as_value_type ValueTypeFits 0 value_types
     entries =
-        entry_nothing _ _ 0x00 none refl tt then
-        entry_one _ _ 0x01 some two_inverse (λ a. refl) (λ a x. x) then
+        entry_nothing _ _ 0x00 None refl tt then
+        entry_one _ _ 0x01 Some two_inverse (λ a. refl) (λ a x. x) then
         end
 
 expr_inverse : (e : Edition) → Inverse Nothing (choice (expr_kinds e)) (as_expr e) (ExprFits e)

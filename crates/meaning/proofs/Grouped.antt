@@ -2,7 +2,6 @@
 -- query, what follows a frame of the schema has no kind below it, and after a query only nodes and queries come.
 use mathlib.Core.Bool.{true, true≢false}
 use mathlib.Core.List.{List, [], ◌∷◌, ◌++◌, map, flat_map, append-nil, append_assoc, map-append}
-use mathlib.Core.Option.{some}
 use mathlib.Core.Path.{◌≡◌, refl, sym, ap, subst, ◌∙◌}
 use Prim.Native.Nat.{ℕ, ◌<◌, ◌≤◌}
 use native.Mathlib.Omega.{arith}
@@ -19,6 +18,7 @@ use Rattle.meaning.proofs.Obeys.{Obeys, Rules, done, next}
 use Rattle.meaning.specs.Content.{PredicateFrame, predicate_frame, query_frames, TypesBefore, types_from, predicate_with}
 use Rattle.meaning.proofs.Tests.{cases}
 use Rattle.meaning.proofs.Lists.{length_snoc}
+use Rattle.std.specs.Prelude.{Some}
 
 -- ---- Kinds
 
@@ -276,12 +276,12 @@ module _ (p : Kind) (so : SoFar) (end : SoFar) (fs : List Frame) where
         no_predicates = λ h. refl;
       }
 
-pub grouped : {so end : SoFar} {fs : List Frame} (p : Kind) → so.previous ≡ some p → Rules so fs end → Grouped p so fs end
+pub grouped : {so end : SoFar} {fs : List Frame} (p : Kind) → so.previous ≡ Some p → Rules so fs end → Grouped p so fs end
 unfolding add may_stand frame_kind
 grouped {so} p e done = nothing_follows p so
 grouped {so} {end} p e (next {f = f} {fs = fs} o r) = go f o (λ k q. grouped k q r) (rw e at o.placed)
   where
-    go : (f : Frame) → Obeys so f → ((k : Kind) → (add so f).previous ≡ some k → Grouped k (add so f) fs end) → follows p (frame_kind f) ≡ true
+    go : (f : Frame) → Obeys so f → ((k : Kind) → (add so f).previous ≡ Some k → Grouped k (add so f) fs end) → follows p (frame_kind f) ≡ true
         → Grouped p so (f ∷ fs) end
     go (the_limits d t) o ih q = absurd (limits_once p q)
     go (a_name s) o ih q = name_first p so end fs s q (ih name refl)

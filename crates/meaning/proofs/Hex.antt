@@ -1,7 +1,6 @@
 -- Hexadecimal read and written. A digit's value is its place among the digits, which are tested one by one.
 use mathlib.Core.Bool.{Bool, true, false, not}
 use mathlib.Core.List.{List, [], ◌∷◌, ◌++◌}
-use mathlib.Core.Option.{Option, none, some}
 use mathlib.Core.Path.{◌≡◌, refl, sym, ap, ◌∙◌}
 use Prim.Native.Nat.{ℕ, suc, ◌+◌, ◌*◌, ◌/◌, ◌%◌, ◌<◌}
 use native.Mathlib.Nat.{div-add-mod'}
@@ -18,17 +17,18 @@ use Rattle.meaning.specs.All.{All, Absent}
 use Rattle.meaning.specs.Writing.{Byte}
 use Rattle.meaning.specs.Answer.{hex_digit, hex_line}
 use Rattle.meaning.proofs.Tests.{cases, clash}
+use Rattle.std.specs.Prelude.{None, Option, Some}
 
 -- ---- One digit
 
 is : Option ℕ → ℕ → Bool
-is none v = false
-is (some w) v = eqb w v
+is None v = false
+is (Some w) v = eqb w v
 
-is_some : (o : Option ℕ) (v : ℕ) → is o v ≡ true → o ≡ some v
+is_some : (o : Option ℕ) (v : ℕ) → is o v ≡ true → o ≡ Some v
 unfolding is
-is_some none v h = clash (sym h)
-is_some (some w) v h = ap some (eqb-true w v h)
+is_some None v h = clash (sym h)
+is_some (Some w) v h = ap Some (eqb-true w v h)
 
 reads_back : ℕ → Bool
 unfolding is digit digits ascii hex_digit
@@ -38,7 +38,7 @@ each_reads_back : below reads_back 16 ≡ true
 unfolding reads_back
 each_reads_back = refl
 
-digit_of : (v : ℕ) → v < 16 → digit (hex_digit v) ≡ some v
+digit_of : (v : ℕ) → v < 16 → digit (hex_digit v) ≡ Some v
 unfolding reads_back
 digit_of v h = is_some _ v (both_left _ _ (both_left _ _ (every reads_back 16 each_reads_back v h)))
 
@@ -59,23 +59,23 @@ record Stands (c : ℕ) (l : List ℕ) (v : ℕ) : Type 0 where
 next : {c a v : ℕ} {l : List ℕ} → Stands c l v → Stands c (a ∷ l) (suc v)
 next s = record { at = s.at; inside = omega (arith, s.inside) }
 
-stands : (c : ℕ) (l : List ℕ) (v : ℕ) → position (eqb c) l ≡ some v → Stands c l v
+stands : (c : ℕ) (l : List ℕ) (v : ℕ) → position (eqb c) l ≡ Some v → Stands c l v
 unfolding position
 stands c [] v e = no_some e
 stands c (a ∷ l) v e = cases (eqb c a)
-    (λ q. let h : some 0 ≡ some v = rw (q, position) at e in let z : v ≡ 0 = cc in rw z (record { at = sym (eqb-true c a q); inside = omega arith }))
+    (λ q. let h : Some 0 ≡ Some v = rw (q, position) at e in let z : v ≡ 0 = cc in rw z (record { at = sym (eqb-true c a q); inside = omega arith }))
     (λ q. go (λ w p. stands c l w p) (position (eqb c) l) refl (rw (q, position) at e))
   where
-    go : ((w : ℕ) → position (eqb c) l ≡ some w → Stands c l w) → (o : Option ℕ) → position (eqb c) l ≡ o → one_more (position (eqb c) l) ≡ some v
+    go : ((w : ℕ) → position (eqb c) l ≡ Some w → Stands c l w) → (o : Option ℕ) → position (eqb c) l ≡ o → one_more (position (eqb c) l) ≡ Some v
         → Stands c (a ∷ l) v
-    go ih none q h = no_some {x = v} (rw q at h)
-    go ih (some w) q h = let k : some (suc w) ≡ some v = rw q at h in let z : v ≡ suc w = cc in rw z (next (ih w q))
+    go ih None q h = no_some {x = v} (rw q at h)
+    go ih (Some w) q h = let k : Some (suc w) ≡ Some v = rw q at h in let z : v ≡ suc w = cc in rw z (next (ih w q))
 
-digit_stands : (c v : ℕ) → digit c ≡ some v → (hex_digit v ≡ c) × (v < 16)
+digit_stands : (c v : ℕ) → digit c ≡ Some v → (hex_digit v ≡ c) × (v < 16)
 unfolding digit digits ascii
 digit_stands c v e = let s = stands c digits v e in (digit_at v s.inside ∙ s.at, s.inside)
 
-same_some : {A : Type 0} {x y : A} → some x ≡ some y → x ≡ y
+same_some : {A : Type 0} {x y : A} → Some x ≡ Some y → x ≡ y
 same_some e = cc
 
 -- ---- Lines of digits
@@ -90,7 +90,7 @@ unfolding hex_line hexes
 line_hexes [] = refl
 line_hexes (b ∷ s) = ap (λ t. hex_digit (b / 16) ∷ hex_digit (b % 16) ∷ t) (line_hexes s)
 
-pub decoded_hex : (s : List ℕ) → All Byte s → decoded (hexes s) ≡ some s
+pub decoded_hex : (s : List ℕ) → All Byte s → decoded (hexes s) ≡ Some s
 unfolding hexes decoded pair
 decoded_hex [] a = refl
 decoded_hex (b ∷ s) a = rw (digit_of (b / 16) (omega (arith, a.0)), digit_of (b % 16) (omega arith), decoded_hex s a.1, div-add-mod' b 16)
@@ -104,7 +104,7 @@ pub record Hex (l s : List ℕ) : Type 0 where
   pub is : l ≡ hexes s
   pub bytes : All Byte s
 
-byte_hex : (h l v w : ℕ) (t s : List ℕ) → digit h ≡ some v → digit l ≡ some w → Hex t s → Hex (h ∷ l ∷ t) ((v * 16 + w) ∷ s)
+byte_hex : (h l v w : ℕ) (t s : List ℕ) → digit h ≡ Some v → digit l ≡ Some w → Hex t s → Hex (h ∷ l ∷ t) ((v * 16 + w) ∷ s)
 unfolding hexes
 byte_hex h l v w t s p q r =
     let a = digit_stands h v p in
@@ -116,15 +116,15 @@ byte_hex h l v w t s p q r =
       bytes = (omega (arith, a.1, b.1), r.bytes);
     }
 
-pub hex_decoded : (l s : List ℕ) → decoded l ≡ some s → Hex l s
+pub hex_decoded : (l s : List ℕ) → decoded l ≡ Some s → Hex l s
 unfolding decoded pair hexes
 hex_decoded [] s e = let z : s ≡ [] = cc in rw z (record { is = refl; bytes = tt })
 hex_decoded (h ∷ []) s e = no_some e
 hex_decoded (h ∷ l ∷ t) s e = go (λ r q. hex_decoded t r q) (digit h) refl (digit l) refl (decoded t) refl e
   where
-    go : ((r : List ℕ) → decoded t ≡ some r → Hex t r) → (x : Option ℕ) → digit h ≡ x → (y : Option ℕ) → digit l ≡ y → (z : Option (List ℕ))
-        → decoded t ≡ z → pair x y z ≡ some s → Hex (h ∷ l ∷ t) s
-    go ih none p y q z r c = no_some c
-    go ih (some v) p none q z r c = no_some c
-    go ih (some v) p (some w) q none r c = no_some c
-    go ih (some v) p (some w) q (some x) r c = rw (sym (same_some c)) (byte_hex h l v w t x p q (ih x r))
+    go : ((r : List ℕ) → decoded t ≡ Some r → Hex t r) → (x : Option ℕ) → digit h ≡ x → (y : Option ℕ) → digit l ≡ y → (z : Option (List ℕ))
+        → decoded t ≡ z → pair x y z ≡ Some s → Hex (h ∷ l ∷ t) s
+    go ih None p y q z r c = no_some c
+    go ih (Some v) p None q z r c = no_some c
+    go ih (Some v) p (Some w) q None r c = no_some c
+    go ih (Some v) p (Some w) q (Some x) r c = rw (sym (same_some c)) (byte_hex h l v w t x p q (ih x r))

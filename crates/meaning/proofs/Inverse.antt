@@ -1,15 +1,15 @@
 -- Reading and writing undo each other: the parts of the grammar in Frame.antt, against the bytes of Writing.antt.
 use mathlib.Core.List.{List, [], ◌∷◌, ◌++◌, flat_map, append-nil, append_assoc}
-use mathlib.Core.Option.{Option, none, some}
 use mathlib.Core.Path.{◌≡◌, refl, sym, ap, ◌∙◌}
 use Prim.Native.Nat.{ℕ, zero, suc, ◌+◌, ◌*◌, ◌/◌, ◌%◌, ◌<◌, ◌≤◌}
 use native.Mathlib.Nat.{div-add-mod', add-zero, add-suc, suc-add, zero-add}
 use native.Mathlib.Omega.{arith}
-use lib.ListN.{length, get_elem?, length-append}
+use lib.ListN.{length, length-append}
 use Rattle.meaning.specs.Frame.{Got, got, fails, Reader, and_then, nothing, one, pair, triple, byte, two, four, many_in, many, entry, choice}
 use Rattle.meaning.specs.All.{All}
 use Rattle.meaning.specs.Writing.{Byte, InTwo, InFour}
 use Rattle.meaning.specs.Answer.{bytes₂, bytes₄}
+use Rattle.std.specs.Prelude.{None, Option, Some, slice_get}
 
 -- ---- What a reading took
 
@@ -314,7 +314,7 @@ module _ {B : Type 0} (w : B → List ℕ) (F : B → Type 0) where
     end : {n : ℕ} → Entries n []
     ◌then◌ : {n : ℕ} {q : Reader B} {qs : List (Reader B)} → Entry n q → Entries (suc n) qs → Entries n (q ∷ qs)
 
-  entry_at : (n i : ℕ) (table : List (Reader B)) (q : Reader B) → Entries n table → get_elem? table i ≡ some q → Entry (n + i) q
+  entry_at : (n i : ℕ) (table : List (Reader B)) (q : Reader B) → Entries n table → slice_get table i ≡ Some q → Entry (n + i) q
   entry_at n i [] q end e = let z : ◌≡◌ {A = ℕ} 0 1 = cc in absurd (omega arith)
   entry_at n zero (p ∷ table) q (a then rest) e = let same : p ≡ q = cc in rw (← same, add-zero) a
   entry_at n (suc i) (p ∷ table) q (a then rest) e = rw (add-suc, ← suc-add n i) (entry_at (suc n) i table q rest e)
@@ -322,11 +322,11 @@ module _ {B : Type 0} (w : B → List ℕ) (F : B → Type 0) where
   pub choice_forth : (table : List (Reader B)) → Entries 0 table → (s : List ℕ) (b : B) (t : List ℕ) → All Byte s → choice table s ≡ got b t → Took w F s b t
   unfolding choice entry
   choice_forth table a [] b t h e = let z : ◌≡◌ {A = ℕ} 0 1 = cc in absurd (omega arith)
-  choice_forth table a (x ∷ s) b t h e = go (get_elem? table x) refl e
+  choice_forth table a (x ∷ s) b t h e = go (slice_get table x) refl e
     where
-      go : (o : Option (Reader B)) → get_elem? table x ≡ o → entry o s ≡ got b t → Took w F (x ∷ s) b t
-      go none q c = let z : ◌≡◌ {A = ℕ} 0 1 = cc in absurd (omega arith)
-      go (some r) q c = rw zero-add at (entry_at 0 x table r a q s b t h.1 c)
+      go : (o : Option (Reader B)) → slice_get table x ≡ o → entry o s ≡ got b t → Took w F (x ∷ s) b t
+      go None q c = let z : ◌≡◌ {A = ℕ} 0 1 = cc in absurd (omega arith)
+      go (Some r) q c = rw zero-add at (entry_at 0 x table r a q s b t h.1 c)
 
   pub entry_nothing : (n : ℕ) (b : B) → w b ≡ n ∷ [] → F b → Entry n (nothing b)
   unfolding nothing

@@ -1,6 +1,5 @@
 -- What the rules keep, line by line: the parts of `Kept` that a frame changes follow from what it obeys.
 use mathlib.Core.List.{List, [], ◌∷◌, ◌++◌, map, flat_map, append-nil, append_assoc}
-use mathlib.Core.Option.{Option, none, some}
 use mathlib.Core.Path.{◌≡◌, refl, sym, ap, subst, ◌∙◌}
 use Prim.Native.Nat.{ℕ, suc, ◌+◌, ◌<◌}
 use native.Mathlib.Nat.{zero-add}
@@ -19,6 +18,7 @@ use Rattle.meaning.specs.All.{All, Absent, Distinct, Below}
 use Rattle.meaning.proofs.Obeys.{Obeys, Rules, done, next}
 use Rattle.meaning.specs.Sound.{DeclaredOption, DeclaredPredicate, Lower, nodes_named, LawfulQuery, Kept}
 use Rattle.meaning.proofs.Lists.{all_snoc, all_map, all_at, distinct_append, length_snoc}
+use Rattle.std.specs.Prelude.{None, Option, Some}
 
 more_room : {A : Type 0} (s : List A) (x : A) (n : ℕ) → n < length s → n < length (s ++ x ∷ [])
 more_room s x n h = omega (arith, length_snoc s x)
@@ -31,8 +31,8 @@ declared_at ts n a h = all_at Declared ts n Error a h
 
 declared_value : (ts : List Ty) (v : Option ℕ) → All Declared ts → All (λ n. n < length ts) (optional v) → DeclaredOption (value_ty ts v)
 unfolding value_ty optional
-declared_value ts none a h = tt
-declared_value ts (some n) a h = declared_at ts n a h.0
+declared_value ts None a h = tt
+declared_value ts (Some n) a h = declared_at ts n a h.0
 
 field_lacks : (ts : List Ty) (k : ℕ) (fs : List Field) → Absent k (field_names fs) → Lacks k (field_row ts fs)
 unfolding field_row field_names
@@ -104,7 +104,7 @@ query_more_names so s a q = record {
 }
 
 -- no query's line: what is said of a last 06 is nothing
-other : {X : Type 0} (k : Kind) → kind_byte k < kind_byte Kind.query → some k ≡ some Kind.query → X
+other : {X : Type 0} (k : Kind) → kind_byte k < kind_byte Kind.query → Some k ≡ Some Kind.query → X
 unfolding kind_byte
 other k h e = let same : k ≡ Kind.query = cc in let less : kind_byte Kind.query < kind_byte Kind.query = subst (λ j. kind_byte j < kind_byte Kind.query)
     same h in absurd (omega arith)
@@ -256,7 +256,7 @@ kept_start = record {
   closed = λ e. refl;
 }
   where
-    no_query : {X : Type 0} → none ≡ some Kind.query → X
+    no_query : {X : Type 0} → None ≡ Some Kind.query → X
     no_query e = let z : ◌≡◌ {A = ℕ} 0 1 = cc in absurd (omega arith)
 
 kept_from : {so end : SoFar} {fs : List Frame} → Rules so fs end → Kept so → Kept end

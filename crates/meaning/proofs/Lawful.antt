@@ -1,7 +1,6 @@
 -- Lawful content is written in frames that obey the rules: kind by kind, each from the state that the kinds before it leave.
 use mathlib.Core.Bool.{true}
 use mathlib.Core.List.{List, [], ◌∷◌, ◌++◌, map, flat_map, append-nil, append_assoc}
-use mathlib.Core.Option.{Option, some}
 use mathlib.Core.Path.{◌≡◌, refl, sym, subst, ◌∙◌}
 use Prim.Native.Nat.{ℕ, ◌+◌, ◌<◌, ◌≤◌}
 use native.Mathlib.Nat.{not-suc-le-zero}
@@ -22,6 +21,7 @@ use Rattle.meaning.specs.Sound.{Lower, nodes_named, LawfulQuery}
 use Rattle.meaning.specs.Content.{PredicateFrame, predicate_frame, Content, query_frames, schema_frames, frames_of, TypesBefore, Lawful, types_from}
 use Rattle.meaning.specs.Content.{predicate_with}
 use Rattle.meaning.proofs.Lists.{all_left, distinct_left, distinct_right, distinct_across, length_snoc}
+use Rattle.std.specs.Prelude.{Option, Some}
 
 pub rules_append : {so mid end : SoFar} {fs gs : List Frame} → Rules so fs mid → Rules mid gs end → Rules so (fs ++ gs) end
 rules_append done s = s
@@ -33,7 +33,7 @@ rules_append (next o r) s = next o (rules_append r s)
 Ready : Kind → Option Kind → Type 0
 Ready k p = (j : Kind) → kind_byte k ≤ kind_byte j → may_stand p j ≡ true
 
-ready_limits : Ready name (some limits)
+ready_limits : Ready name (Some limits)
 unfolding Ready may_stand follows rises kind_byte repeatable
 ready_limits limits h = absurd (omega arith)
 ready_limits name h = refl
@@ -42,7 +42,7 @@ ready_limits predicate h = refl
 ready_limits node h = refl
 ready_limits query h = refl
 
-ready_name : Ready name (some name)
+ready_name : Ready name (Some name)
 unfolding Ready may_stand follows rises kind_byte repeatable
 ready_name limits h = absurd (omega arith)
 ready_name name h = refl
@@ -51,7 +51,7 @@ ready_name predicate h = refl
 ready_name node h = refl
 ready_name query h = refl
 
-ready_type : Ready schema_type (some schema_type)
+ready_type : Ready schema_type (Some schema_type)
 unfolding Ready may_stand follows rises kind_byte repeatable
 ready_type limits h = absurd (omega arith)
 ready_type name h = absurd (omega arith)
@@ -60,7 +60,7 @@ ready_type predicate h = refl
 ready_type node h = refl
 ready_type query h = refl
 
-ready_predicate : Ready predicate (some predicate)
+ready_predicate : Ready predicate (Some predicate)
 unfolding Ready may_stand follows rises kind_byte repeatable
 ready_predicate limits h = absurd (omega arith)
 ready_predicate name h = absurd (omega arith)
@@ -132,7 +132,7 @@ module _ (d t : ℕ) where
         once = tt;
         keys = tt;
       })
-      (rw (← append_assoc ns (s ∷ []) more) (name_rules (ns ++ s ∷ []) more (some name) ready_name a.1 (rw append_assoc u)
+      (rw (← append_assoc ns (s ∷ []) more) (name_rules (ns ++ s ∷ []) more (Some name) ready_name a.1 (rw append_assoc u)
       (omega (arith, length_snoc ns s))))
 
   type_rules : (ns : List (List ℕ)) (ts : List Ty) (more : List TypeShape) (p : Option Kind) → Ready schema_type p
@@ -155,7 +155,7 @@ module _ (d t : ℕ) where
         once = tt;
         keys = u.0;
       })
-      (type_rules ns (ts ++ ty_of ts s ∷ []) more (some schema_type) ready_type a.1 (rw length_snoc b.1) u.1 (omega (arith, length_snoc ts (ty_of ts s))))
+      (type_rules ns (ts ++ ty_of ts s ∷ []) more (Some schema_type) ready_type a.1 (rw length_snoc b.1) u.1 (omega (arith, length_snoc ts (ty_of ts s))))
 
   predicate_rules : (ns : List (List ℕ)) (ts : List Ty) (ps : List Predicate) (more : List PredicateFrame) (p : Option Kind) → Ready predicate p
       → All (λ x. x.name < length ns) more
@@ -178,7 +178,7 @@ module _ (d t : ℕ) where
         keys = tt;
       })
       (rw (← append_assoc ps (predicate_with ts x ∷ []) (map (predicate_with ts) more))
-      (predicate_rules ns ts (ps ++ predicate_with ts x ∷ []) more (some predicate) ready_predicate a.1 b.1
+      (predicate_rules ns ts (ps ++ predicate_with ts x ∷ []) more (Some predicate) ready_predicate a.1 b.1
       (omega (arith, length_snoc ps (predicate_with ts x)))))
 
   module _ (ns : List (List ℕ)) (ts : List Ty) (ps : List Predicate) (qs : List Ast) where
@@ -205,12 +205,12 @@ module _ (d t : ℕ) where
     node_rules : (xs : List Node) (n : Node) (more : List Node) (m later : List ℕ) (p : Option Kind) → may_stand p node ≡ true
         → All (λ n. Below (length ns) (expr_names n.kind)) (n ∷ more) → Lower (length xs) (n ∷ more)
         → Distinct (m ++ (nodes_named (n ∷ more) ++ later)) → length xs + length (n ∷ more) ≤ max_nodes
-        → Rules (state ns ts ps xs m qs p) (map a_node (n ∷ more)) (state ns ts ps (xs ++ n ∷ more) (m ++ nodes_named (n ∷ more)) qs (some node))
+        → Rules (state ns ts ps xs m qs p) (map a_node (n ∷ more)) (state ns ts ps (xs ++ n ∷ more) (m ++ nodes_named (n ∷ more)) qs (Some node))
     unfolding state add nodes_named flat_map may_stand follows rises kind_byte repeatable
     node_rules xs n [] m later p r a l u h =
         let e = expr_nodes n.kind in
         let split : Distinct (m ++ (e ++ later)) = rw (append-nil e) at u in
-        let step : Rules (state ns ts ps xs m qs p) (a_node n ∷ []) (state ns ts ps (xs ++ n ∷ []) (m ++ e) qs (some node)) = next
+        let step : Rules (state ns ts ps xs m qs p) (a_node n ∷ []) (state ns ts ps (xs ++ n ∷ []) (m ++ e) qs (Some node)) = next
         (node_obeys xs n m later p r a.0 l.0 split (omega arith)) done in
         rw (append-nil e) step
     node_rules xs n (x ∷ more) m later p r a l u h =
@@ -219,14 +219,14 @@ module _ (d t : ℕ) where
         let split : Distinct (m ++ (e ++ rest)) = rw (append_assoc e (nodes_named (x ∷ more)) later) at u in
         rw (← append_assoc xs (n ∷ []) (x ∷ more), ← append_assoc m e (nodes_named (x ∷ more)))
         (next (node_obeys xs n m rest p r a.0 l.0 split (omega arith))
-        (node_rules (xs ++ n ∷ []) x more (m ++ e) later (some node) refl a.1 (rw length_snoc l.1) (rw (append_assoc m e rest) split)
+        (node_rules (xs ++ n ∷ []) x more (m ++ e) later (Some node) refl a.1 (rw length_snoc l.1) (rw (append_assoc m e rest) split)
         (omega (arith, length_snoc xs n))))
 
     -- A query has a node at least: its head.
     query_rules : (xs : List Node) (q : Query) (p : Option Kind) → may_stand p node ≡ true → LawfulQuery (length ns) (record { nodes = xs; query = q })
         → length qs < max_queries
         → Rules (state ns ts ps [] [] qs p) (query_frames (record { nodes = xs; query = q }))
-        (state ns ts ps [] [] (qs ++ record { nodes = xs; query = q } ∷ []) (some query))
+        (state ns ts ps [] [] (qs ++ record { nodes = xs; query = q } ∷ []) (Some query))
     unfolding query_frames query_nodes add may_stand follows rises kind_byte repeatable state frame_kind texts_of name_refs type_refs node_refs keys_of
     query_rules [] q p r l h = absurd (not-suc-le-zero l.query_below.0)
     query_rules (n ∷ more) q p r l h =
@@ -234,7 +234,7 @@ module _ (d t : ℕ) where
         (node_rules [] n more [] (query_nodes q) p r l.node_names l.node_nodes l.once (omega (arith, l.nodes_max)))
         (next last done)
       where
-        last : Obeys (state ns ts ps (n ∷ more) (nodes_named (n ∷ more)) qs (some node)) (the_query q)
+        last : Obeys (state ns ts ps (n ∷ more) (nodes_named (n ∷ more)) qs (Some node)) (the_query q)
         last =
             record {
               placed = refl;
@@ -253,12 +253,12 @@ module _ (d t : ℕ) where
   queries_rules : (ns : List (List ℕ)) (ts : List Ty) (ps : List Predicate) (qs : List Ast) (a : Ast) (more : List Ast) (p : Option Kind)
       → may_stand p node ≡ true
       → All (LawfulQuery (length ns)) (a ∷ more) → length qs + length (a ∷ more) ≤ max_queries
-      → Rules (state ns ts ps [] [] qs p) (flat_map query_frames (a ∷ more)) (state ns ts ps [] [] (qs ++ a ∷ more) (some query))
+      → Rules (state ns ts ps [] [] qs p) (flat_map query_frames (a ∷ more)) (state ns ts ps [] [] (qs ++ a ∷ more) (Some query))
   unfolding flat_map may_stand follows kind_byte
   queries_rules ns ts ps qs a [] p r l h = rw append-nil (query_rules ns ts ps qs a.nodes a.query p r l.0 (omega arith))
   queries_rules ns ts ps qs a (b ∷ more) p r l h =
       rules_append (query_rules ns ts ps qs a.nodes a.query p r l.0 (omega arith))
-      (rw (← append_assoc qs (a ∷ []) (b ∷ more)) (queries_rules ns ts ps (qs ++ a ∷ []) b more (some query) refl l.1 (omega (arith, length_snoc qs a))))
+      (rw (← append_assoc qs (a ∷ []) (b ∷ more)) (queries_rules ns ts ps (qs ++ a ∷ []) b more (Some query) refl l.1 (omega (arith, length_snoc qs a))))
 
 pub types_length : (ts : List Ty) (more : List TypeShape) → length (types_from ts more) ≡ length ts + length more
 unfolding types_from
@@ -269,7 +269,7 @@ types_length ts (s ∷ more) = types_length (ts ++ ty_of ts s ∷ []) more ∙ o
 
 unfoldable pub end_of : Content → SoFar
 end_of c = record {
-  previous = some query;
+  previous = Some query;
   max_distance = c.max_distance;
   max_term_chars = c.max_term_chars;
   names = c.names;
@@ -292,7 +292,7 @@ lawful_rules c h =
     let ts = types_from [] c.types in
     let ps = map (predicate_with ts) c.predicates in
     let as_long : length ts ≡ length c.types = omega (arith, types_length [] c.types) in
-    let a = name_rules d t [] c.names (some limits) ready_limits h.texts h.distinct (omega (arith, h.names_max)) in
+    let a = name_rules d t [] c.names (Some limits) ready_limits h.texts h.distinct (omega (arith, h.names_max)) in
     let b = type_rules d t c.names [] c.types a.previous (ready_later name schema_type a.previous types_later a.ready) h.type_names
     h.type_types h.type_keys (omega (arith, h.types_max)) in
     let e = predicate_rules d t c.names ts [] c.predicates b.previous
@@ -304,6 +304,6 @@ lawful_rules c h =
     queries : (qs : List Ast) (ts : List Ty) (ps : List Predicate) (p : Option Kind) → may_stand p node ≡ true → 1 ≤ length qs → length qs ≤ max_queries
         → All (LawfulQuery (length c.names)) qs
         → Rules (state c.max_distance c.max_term_chars c.names ts ps [] [] [] p) (flat_map query_frames qs)
-        (state c.max_distance c.max_term_chars c.names ts ps [] [] qs (some query))
+        (state c.max_distance c.max_term_chars c.names ts ps [] [] qs (Some query))
     queries [] ts ps p r i j l = absurd (not-suc-le-zero i)
     queries (a ∷ more) ts ps p r i j l = queries_rules c.max_distance c.max_term_chars c.names ts ps [] a more p r l (omega (arith, j))

@@ -2,7 +2,6 @@
 -- read from its own bytes and from no others (Written.antt); one that does not decode is odd or has another character.
 use mathlib.Core.List.{List, [], ◌∷◌, ◌++◌, append-nil, head-eq_of_cons-eq, tail-eq_of_cons-eq}
 use mathlib.Core.Logic.{◌⊎◌, inl, inr, ◌↔◌}
-use mathlib.Core.Option.{Option, none, some}
 use mathlib.Core.Path.{◌≡◌, refl, sym, ap, subst, ◌∙◌}
 use Prim.Native.Nat.{ℕ, ◌*◌, ◌%◌, ◌<◌, ◌≤◌}
 use native.Mathlib.Omega.{arith}
@@ -22,37 +21,38 @@ use Rattle.meaning.proofs.Hex.{hexes, line_hexes, decoded_hex, hex_no_LF, Hex, h
 use Rattle.meaning.proofs.Lines.{lines_closed}
 use Rattle.meaning.proofs.Bytes.{written_bytes}
 use Rattle.meaning.proofs.Written.{byte_kind, kind_byte_lem, frame_back, frame_forth, at_most_lem, says, said_line}
+use Rattle.std.specs.Prelude.{None, Option, Some}
 
 -- ---- Lines that do not decode
 
 abbrev Other : List ℕ → Type 0
 Other s = Any (λ c. Absent c digits) s
 
-no_place : (c : ℕ) (l : List ℕ) → position (eqb c) l ≡ none → Absent c l
+no_place : (c : ℕ) (l : List ℕ) → position (eqb c) l ≡ None → Absent c l
 unfolding position
 no_place c [] e = tt
 no_place c (a ∷ l) e = cases (eqb c a)
-    (λ q. let h : some 0 ≡ none = rw (q, position) at e in let z : ◌≡◌ {A = ℕ} 0 1 = cc in absurd (omega arith))
+    (λ q. let h : Some 0 ≡ None = rw (q, position) at e in let z : ◌≡◌ {A = ℕ} 0 1 = cc in absurd (omega arith))
     (λ q. (eqb-false c a q, no_place c l (left (position (eqb c) l) (rw (q, position) at e))))
   where
-    left : (o : Option ℕ) → one_more o ≡ none → o ≡ none
-    left none h = refl
-    left (some n) h = let z : ◌≡◌ {A = ℕ} 0 1 = cc in absurd (omega arith)
+    left : (o : Option ℕ) → one_more o ≡ None → o ≡ None
+    left None h = refl
+    left (Some n) h = let z : ◌≡◌ {A = ℕ} 0 1 = cc in absurd (omega arith)
 
-place_none : (c : ℕ) (l : List ℕ) → Absent c l → position (eqb c) l ≡ none
+place_none : (c : ℕ) (l : List ℕ) → Absent c l → position (eqb c) l ≡ None
 unfolding position
 place_none c [] a = refl
 place_none c (b ∷ l) a = rw (ne_eqb c b a.0, position) (ap one_more (place_none c l a.1))
 
-no_digit : (c : ℕ) → digit c ≡ none → Absent c digits
+no_digit : (c : ℕ) → digit c ≡ None → Absent c digits
 unfolding digit
 no_digit c e = no_place c digits e
 
-digit_none : (c : ℕ) → Absent c digits → digit c ≡ none
+digit_none : (c : ℕ) → Absent c digits → digit c ≡ None
 unfolding digit
 digit_none c a = place_none c digits a
 
-undecoded : (s : List ℕ) → decoded s ≡ none → (length s % 2 ≡ 1) ⊎ Other s
+undecoded : (s : List ℕ) → decoded s ≡ None → (length s % 2 ≡ 1) ⊎ Other s
 unfolding decoded pair
 undecoded [] e = let z : ◌≡◌ {A = ℕ} 0 1 = cc in absurd (omega arith)
 undecoded (h ∷ []) e = inl refl
@@ -62,36 +62,36 @@ undecoded (h ∷ l ∷ t) e = go (λ q. undecoded t q) (digit h) refl (digit l) 
     further (inl o) = inl (omega (arith, o))
     further (inr o) = inr (inr (inr o))
 
-    go : (decoded t ≡ none → (length t % 2 ≡ 1) ⊎ Other t) → (x : Option ℕ) → digit h ≡ x → (y : Option ℕ) → digit l ≡ y → (z : Option (List ℕ))
-        → decoded t ≡ z → pair x y z ≡ none
+    go : (decoded t ≡ None → (length t % 2 ≡ 1) ⊎ Other t) → (x : Option ℕ) → digit h ≡ x → (y : Option ℕ) → digit l ≡ y → (z : Option (List ℕ))
+        → decoded t ≡ z → pair x y z ≡ None
         → (length (h ∷ l ∷ t) % 2 ≡ 1) ⊎ Other (h ∷ l ∷ t)
-    go ih none p y q z r c = inr (inl (no_digit h p))
-    go ih (some v) p none q z r c = inr (inr (inl (no_digit l q)))
-    go ih (some v) p (some w) q none r c = further (ih r)
-    go ih (some v) p (some w) q (some x) r c = let o : ◌≡◌ {A = ℕ} 0 1 = cc in absurd (omega arith)
+    go ih None p y q z r c = inr (inl (no_digit h p))
+    go ih (Some v) p None q z r c = inr (inr (inl (no_digit l q)))
+    go ih (Some v) p (Some w) q None r c = further (ih r)
+    go ih (Some v) p (Some w) q (Some x) r c = let o : ◌≡◌ {A = ℕ} 0 1 = cc in absurd (omega arith)
 
-pair_none : (x y : Option ℕ) → pair x y none ≡ none
+pair_none : (x y : Option ℕ) → pair x y None ≡ None
 unfolding pair
-pair_none none y = refl
-pair_none (some v) none = refl
-pair_none (some v) (some w) = refl
+pair_none None y = refl
+pair_none (Some v) None = refl
+pair_none (Some v) (Some w) = refl
 
-odd_undecoded : (s : List ℕ) → length s % 2 ≡ 1 → decoded s ≡ none
+odd_undecoded : (s : List ℕ) → length s % 2 ≡ 1 → decoded s ≡ None
 unfolding decoded
 odd_undecoded [] e = absurd (omega (arith, e))
 odd_undecoded (h ∷ []) e = refl
 odd_undecoded (h ∷ l ∷ t) e = ap (pair (digit h) (digit l)) (odd_undecoded t (omega (arith, e))) ∙ pair_none (digit h) (digit l)
 
-other_undecoded : (s : List ℕ) → Other s → decoded s ≡ none
+other_undecoded : (s : List ℕ) → Other s → decoded s ≡ None
 unfolding decoded pair
 other_undecoded [] o = absurd o
 other_undecoded (h ∷ []) o = refl
 other_undecoded (h ∷ l ∷ t) (inl a) = rw (digit_none h a)
 other_undecoded (h ∷ l ∷ t) (inr (inl a)) = rw (digit_none l a) (second (digit h))
   where
-    second : (x : Option ℕ) → pair x none (decoded t) ≡ none
-    second none = refl
-    second (some v) = refl
+    second : (x : Option ℕ) → pair x None (decoded t) ≡ None
+    second None = refl
+    second (Some v) = refl
 other_undecoded (h ∷ l ∷ t) (inr (inr o)) = ap (pair (digit h) (digit l)) (other_undecoded t o) ∙ pair_none (digit h) (digit l)
 
 -- ---- Lines that do
@@ -122,9 +122,9 @@ module _ (ed : Edition) where
   -- ---- From what is said to what it means
 
   same_kind : (k : Kind) (f : Frame) → kind_byte (frame_kind f) ≡ kind_byte k → frame_kind f ≡ k
-  same_kind k f e = let h : some (frame_kind f) ≡ some k = sym (byte_kind (frame_kind f)) ∙ ap kind_of e ∙ byte_kind k in cc
+  same_kind k f e = let h : Some (frame_kind f) ≡ Some k = sym (byte_kind (frame_kind f)) ∙ ap kind_of e ∙ byte_kind k in cc
 
-  read_back : (k : Kind) (t : List ℕ) (f : Frame) → Writable ed f → written ed f ≡ kind_byte k ∷ t → frame_of ed k t ≡ some f
+  read_back : (k : Kind) (t : List ℕ) (f : Frame) → Writable ed f → written ed f ≡ kind_byte k ∷ t → frame_of ed k t ≡ Some f
   unfolding written
   read_back k t f w e =
       let kind = same_kind k f (head-eq_of_cons-eq e) in
@@ -148,27 +148,27 @@ module _ (ed : Edition) where
           })
 
       of_kind_lem : (b : ℕ) (t : List ℕ) → WrittenAs (closed s) (b ∷ t) → (o : Option Kind) → kind_of b ≡ o → Means ed (closed s) (said_in ed o t)
-      of_kind_lem b t h none q = is_unknown_lem b t h (λ k e. let z : some k ≡ none = sym (byte_kind k) ∙ ap kind_of e ∙ q in let o : ◌≡◌ {A = ℕ} 0 1 = cc in
+      of_kind_lem b t h None q = is_unknown_lem b t h (λ k e. let z : Some k ≡ None = sym (byte_kind k) ∙ ap kind_of e ∙ q in let o : ◌≡◌ {A = ℕ} 0 1 = cc in
           omega arith)
-      of_kind_lem b t h (some k) q = content (frame_of ed k t) refl
+      of_kind_lem b t h (Some k) q = content (frame_of ed k t) refl
         where
           here : WrittenAs (closed s) (kind_byte k ∷ t)
           here = subst (λ x. WrittenAs (closed s) (x ∷ t)) (kind_byte_lem b k q) h
 
           content : (o : Option Frame) → frame_of ed k t ≡ o → Means ed (closed s) (said_of k o)
-          content none r = is_no_frame_lem k t here (λ f fits e. let w : Writable ed f = record
-              { fits = fits; short = subst (λ x. length x ≤ max_bytes) (sym e) here.short } in let z : none ≡ some f = sym r ∙ read_back k t f w e
+          content None r = is_no_frame_lem k t here (λ f fits e. let w : Writable ed f = record
+              { fits = fits; short = subst (λ x. length x ≤ max_bytes) (sym e) here.short } in let z : None ≡ Some f = sym r ∙ read_back k t f w e
               in let o : ◌≡◌ {A = ℕ} 0 1 = cc in omega arith)
-          content (some f) r = a_frame f (holds_said b t h ∙ ap (λ x. said_in ed x t) q ∙ ap (said_of k) r)
+          content (Some f) r = a_frame f (holds_said b t h ∙ ap (λ x. said_in ed x t) q ∙ ap (said_of k) r)
 
       go : (o : Option (List ℕ)) → decoded s ≡ o → Means ed (closed s) (said_by ed (some_bytes o))
-      go none q = is_malformed_lem (bad (undecoded s q))
+      go None q = is_malformed_lem (bad (undecoded s q))
         where
           bad : (length s % 2 ≡ 1) ⊎ Other s → Malformed (closed s)
           bad (inl o) = odd o
           bad (inr o) = other_character o
-      go (some []) q = rw (hex_decoded s [] q).is (is_malformed_lem empty)
-      go (some (b ∷ t)) q = cases (leb (length (b ∷ t)) max_bytes)
+      go (Some []) q = rw (hex_decoded s [] q).is (is_malformed_lem empty)
+      go (Some (b ∷ t)) q = cases (leb (length (b ∷ t)) max_bytes)
           (λ r. rw (r, at_most) (of_kind_lem b t (holds s (b ∷ t) (hex_decoded s (b ∷ t) q) (leb-true (length (b ∷ t)) max_bytes r)) (kind_of b) refl))
           (λ r. rw (r, at_most) (is_malformed_lem (over (long (leb-false (length (b ∷ t)) max_bytes r)))))
         where
@@ -192,9 +192,9 @@ module _ (ed : Edition) where
   malformed_said (over {s = s} m) = go (decoded s) refl
     where
       go : (o : Option (List ℕ)) → decoded s ≡ o → said_by ed (some_bytes o) ≡ malformed
-      go none q = refl
-      go (some []) q = refl
-      go (some (b ∷ t)) q =
+      go None q = refl
+      go (Some []) q = refl
+      go (Some (b ∷ t)) q =
           let n = ap length (hex_decoded s (b ∷ t) q).is ∙ hexes_length (b ∷ t) in
           rw (lt-leb (length (b ∷ t)) max_bytes (omega (arith, n, m)), at_most)
   malformed_said without_lf = refl
@@ -205,13 +205,13 @@ module _ (ed : Edition) where
   says_so (is_unknown_lem b t h n) = holds_said b t h ∙ go (kind_of b) refl
     where
       go : (o : Option Kind) → kind_of b ≡ o → said_in ed o t ≡ unknown_kind
-      go none q = refl
-      go (some k) q = absurd (n k (sym (kind_byte_lem b k q)))
+      go None q = refl
+      go (Some k) q = absurd (n k (sym (kind_byte_lem b k q)))
   says_so (is_no_frame_lem k t h n) = holds_said (kind_byte k) t h ∙ ap (λ x. said_in ed x t) (byte_kind k) ∙ go (frame_of ed k t) refl
     where
       go : (o : Option Frame) → frame_of ed k t ≡ o → said_of k o ≡ no_frame k
-      go none q = refl
-      go (some f) q =
+      go None q = refl
+      go (Some f) q =
           let r = frame_forth ed k t f h.each.1 q in
           let same : written ed f ≡ kind_byte k ∷ t = took k t f r.kind r.bytes in
           absurd (n f r.fits same)

@@ -2,7 +2,6 @@
 -- and how many diagnostics a step may make; the grades of steps add up. Every step keeps the state in order and is a list of
 -- demand 3's calls.
 use mathlib.Core.List.{List, [], ◌++◌, append_assoc}
-use mathlib.Core.Option.{Option, none}
 use mathlib.Core.Path.{◌≡◌, refl, sym, ◌∙◌, ap}
 use Prim.Native.Nat.{ℕ, ◌+◌, ◌≤◌}
 use native.Mathlib.Omega.{arith}
@@ -16,6 +15,7 @@ use Rattle.meaning.specs.Check.{Checker, Entry, Step, goes, out, Does, and_then}
 use Rattle.meaning.specs.All.{All}
 use Rattle.meaning.specs.Run.{Led, EntryLed}
 use Rattle.meaning.specs.Grades.{Grade, plus, Fits, unknowns, Orderly, Ready}
+use Rattle.std.specs.Prelude.{None, Option}
 
 -- From the first checker to the second no more was made than the grade allows.
 pub record Made (g : Grade) (c c' : Checker) : Type 0 where
@@ -29,7 +29,7 @@ pub record Made (g : Grade) (c c' : Checker) : Type 0 where
   pub reported : List Diagnostic
   pub diagnostics : c'.diagnostics ≡ reported ++ c.diagnostics
   pub few : length reported ≤ g.diagnostics
-  pub elsewhere : (x : ℕ) → g.nodes x ≡ 0 → get_or c'.state.tys x none ≡ get_or c.state.tys x none
+  pub elsewhere : (x : ℕ) → g.nodes x ≡ 0 → get_or c'.state.tys x None ≡ get_or c.state.tys x None
   pub nodes : length c'.state.tys ≡ length c.state.tys
   pub until : c'.until ≡ c.until
 

@@ -1,7 +1,6 @@
 -- No byte of an answer is zero: it is digits and LF. So an answer ends at the first zero of its slice, by which the bindings for C and Rust find
 -- its length.
 use mathlib.Core.List.{List, [], ◌∷◌, ◌++◌}
-use mathlib.Core.Option.{Option}
 use Prim.Native.Nat.{ℕ, suc, ◌/◌, ◌%◌, ◌<◌}
 use native.Mathlib.Omega.{arith}
 use lib.Dec.{ltb}
@@ -14,6 +13,7 @@ use Rattle.meaning.specs.Answer.{diagnostic_line, bytes₂, bytes₄, hex_digit,
 use Rattle.meaning.specs.Answer.{unused_line, unused_lines, answer_lines, numbered, form_lines}
 use Rattle.meaning.proofs.Lists.{all_append}
 use Rattle.meaning.proofs.Tests.{cases}
+use Rattle.std.specs.Prelude.{Option}
 
 abbrev Nonzero : List ℕ → Type 0
 Nonzero s = All (λ b. 0 < b) s

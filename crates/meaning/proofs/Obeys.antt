@@ -1,7 +1,6 @@
 -- The rules as they are met line by line: what a frame obeys after what was read so far, and a file of such frames. A means to `says_exactly`.
 use mathlib.Core.Bool.{true}
 use mathlib.Core.List.{List, [], ◌∷◌}
-use mathlib.Core.Option.{some}
 use mathlib.Core.Path.{◌≡◌}
 use Prim.Native.Nat.{ℕ, ◌<◌, ◌≤◌}
 use lib.ListN.{length}
@@ -13,6 +12,7 @@ use Rattle.meaning.specs.Conditions.{max_names, max_types, max_predicates, max_n
 use Rattle.meaning.specs.File.{Form, describe, max_file}
 use Rattle.meaning.specs.All.{All, Absent, Distinct, Below}
 use Rattle.meaning.specs.Writing.{Writable, file_of}
+use Rattle.std.specs.Prelude.{Some}
 
 -- one more of the kind is allowed
 abbrev pub Room : SoFar → Kind → Type 0
@@ -49,5 +49,5 @@ pub record Written (e : Edition) (file : List ℕ) (d : Form) : Type 0 where
   pub writable : All (Writable e) these
   pub end : SoFar
   pub rules : Rules start these end
-  pub last : end.previous ≡ some Kind.query
+  pub last : end.previous ≡ Some Kind.query
   pub describes : d ≡ describe end

@@ -2,7 +2,6 @@
 use mathlib.Core.Bool.{false, not}
 use mathlib.Core.List.{List, [], ◌∷◌, map}
 use mathlib.Core.Logic.{◌≢◌}
-use mathlib.Core.Option.{Option, none, some}
 use mathlib.Core.Path.{◌≡◌, refl, sym, ap, subst, ◌∙◌}
 use Prim.Native.Nat.{ℕ}
 use native.Mathlib.Omega.{arith}
@@ -25,6 +24,7 @@ use Rattle.meaning.specs.OneQuery.{ReadingBefore, refused_before, described_befo
 use Rattle.meaning.specs.OneQuery.{decide_checked_before, decide_read_before, decide_before, outcome_before, kind_in, QueryLast}
 use Rattle.meaning.proofs.Tests.{cases}
 use Rattle.meaning.proofs.Refused.{read_next}
+use Rattle.std.specs.Prelude.{None, Option, Some}
 
 -- ---- The conditions
 
@@ -39,7 +39,7 @@ skip c cs so l q = rw (q, first_of)
 swap : (c d : Condition) (cs : List Condition) (so : SoFar) (l : Said) → c.refusal ≡ d.refusal → c.holds so l ≡ d.holds so l
     → first_of (c ∷ cs) so l ≡ first_of (d ∷ cs) so l
 unfolding first_of
-swap c d cs so l r h = cases (d.holds so l) (λ q. rw (h ∙ q, q, first_of) (ap some r)) (λ q. rw (h ∙ q, q, first_of))
+swap c d cs so l r h = cases (d.holds so l) (λ q. rw (h ∙ q, q, first_of) (ap Some r)) (λ q. rw (h ∙ q, q, first_of))
 
 same_conditions : (so : SoFar) (l : Said) → is_misplaced so l ≡ is_misplaced_before so l → is_query_too_many so l ≡ false
     → first_of conditions so l ≡ first_of conditions_before so l
@@ -53,18 +53,18 @@ same_conditions so l m q =
 
 -- No query has been read.
 record Open (b : SoFarBefore) : Type 0 where
-  query : b.query ≡ none
-  previous : b.previous ≢ some Kind.query
+  query : b.query ≡ None
+  previous : b.previous ≢ Some Kind.query
 
-same_places : (o : Option Kind) (k : Kind) → o ≢ some Kind.query → may_stand o k ≡ may_stand_before o k
+same_places : (o : Option Kind) (k : Kind) → o ≢ Some Kind.query → may_stand o k ≡ may_stand_before o k
 unfolding may_stand may_stand_before follows kind_byte
-same_places none k h = refl
-same_places (some limits) k h = refl
-same_places (some name) k h = refl
-same_places (some schema_type) k h = refl
-same_places (some predicate) k h = refl
-same_places (some node) k h = refl
-same_places (some query) k h = absurd (h refl)
+same_places None k h = refl
+same_places (Some limits) k h = refl
+same_places (Some name) k h = refl
+same_places (Some schema_type) k h = refl
+same_places (Some predicate) k h = refl
+same_places (Some node) k h = refl
+same_places (Some query) k h = absurd (h refl)
 
 same_misplaced : (b : SoFarBefore) (l : Said) → Open b → is_misplaced (as_now b) l ≡ is_misplaced_before (as_now b) l
 unfolding is_misplaced is_misplaced_before as_now
@@ -94,7 +94,7 @@ same_first b l o = same_conditions (as_now b) l (same_misplaced b l o) (not_too_
 
 -- ---- A line that is no 06 line
 
-same_after : (b : SoFarBefore) (l : Said) → kind_in l ≢ some Kind.query → after (as_now b) l ≡ as_now (after_before b l)
+same_after : (b : SoFarBefore) (l : Said) → kind_in l ≢ Some Kind.query → after (as_now b) l ≡ as_now (after_before b l)
 unfolding after after_before add add_before as_now frame_kind
 same_after b malformed h = refl
 same_after b unknown_kind h = refl
@@ -106,7 +106,7 @@ same_after b (frames (a_predicate n k v)) h = refl
 same_after b (frames (a_node n)) h = refl
 same_after b (frames (the_query q)) h = absurd (h refl)
 
-open_after : (b : SoFarBefore) (l : Said) → kind_in l ≢ some Kind.query → Open b → Open (after_before b l)
+open_after : (b : SoFarBefore) (l : Said) → kind_in l ≢ Some Kind.query → Open b → Open (after_before b l)
 unfolding after_before add_before frame_kind
 open_after b malformed h o = o
 open_after b unknown_kind h o = o
@@ -131,14 +131,14 @@ not_ended : (b : SoFarBefore) → Open b → Alike (at_end (as_now b) b.previous
 unfolding at_end at_end_before
 not_ended b o = rw o.query (go b.previous o.previous)
   where
-    go : (k : Option Kind) → k ≢ some Kind.query → Alike (at_end (as_now b) k) (at_end_before b none)
-    go none h = both_refused _
-    go (some limits) h = both_refused _
-    go (some name) h = both_refused _
-    go (some schema_type) h = both_refused _
-    go (some predicate) h = both_refused _
-    go (some node) h = both_refused _
-    go (some query) h = absurd (h refl)
+    go : (k : Option Kind) → k ≢ Some Kind.query → Alike (at_end (as_now b) k) (at_end_before b None)
+    go None h = both_refused _
+    go (Some limits) h = both_refused _
+    go (Some name) h = both_refused _
+    go (Some schema_type) h = both_refused _
+    go (Some predicate) h = both_refused _
+    go (Some node) h = both_refused _
+    go (Some query) h = absurd (h refl)
 
 last_line : (b : SoFarBefore) (l : Said) → Open b → Alike (read_from (after (as_now b) l) []) (read_from_before (after_before b l) [])
 unfolding read_from read_from_before after after_before add add_before as_now at_end at_end_before describe describe_before schema_of
@@ -152,12 +152,12 @@ last_line b (frames (a_predicate n k v)) o = rw o.query (both_refused _)
 last_line b (frames (a_node n)) o = rw o.query (both_refused _)
 last_line b (frames (the_query q)) o = both_described b.names (schema_of (as_now b)) (record { nodes = b.nodes; query = q })
 
-next_before : (b : SoFarBefore) (l : Said) (ls : List Said) → first_of conditions_before (as_now b) l ≡ none
+next_before : (b : SoFarBefore) (l : Said) (ls : List Said) → first_of conditions_before (as_now b) l ≡ None
     → read_from_before b (l ∷ ls) ≡ read_from_before (after_before b l) ls
 unfolding read_from_before
 next_before b l ls q = rw (q, read_from_before)
 
-one_more : (b : SoFarBefore) (l : Said) (ls : List Said) → Open b → kind_in l ≢ some Kind.query → first_of conditions_before (as_now b) l ≡ none
+one_more : (b : SoFarBefore) (l : Said) (ls : List Said) → Open b → kind_in l ≢ Some Kind.query → first_of conditions_before (as_now b) l ≡ None
     → Alike (read_from (as_now (after_before b l)) ls) (read_from_before (after_before b l) ls)
     → Alike (read_from (as_now b) (l ∷ ls)) (read_from_before b (l ∷ ls))
 one_more b l ls o h q ih =
@@ -171,14 +171,14 @@ alike b [] o h = not_ended b o
 alike b (l ∷ []) o h = go (first_of conditions_before (as_now b) l) refl
   where
     go : (r : Option Refusal) → first_of conditions_before (as_now b) l ≡ r → Alike (read_from (as_now b) (l ∷ [])) (read_from_before b (l ∷ []))
-    go (some i) q = rw (same_first b l o ∙ q, q, read_from, read_from_before) (both_refused i)
-    go none q = rw (same_first b l o ∙ q, q, read_from, read_from_before) (last_line b l o)
+    go (Some i) q = rw (same_first b l o ∙ q, q, read_from, read_from_before) (both_refused i)
+    go None q = rw (same_first b l o ∙ q, q, read_from, read_from_before) (last_line b l o)
 alike b (l ∷ m ∷ ls) o h = go (alike (after_before b l) (m ∷ ls) (open_after b l h.0 o) h.1) (first_of conditions_before (as_now b) l) refl
   where
     go : Alike (read_from (as_now (after_before b l)) (m ∷ ls)) (read_from_before (after_before b l) (m ∷ ls)) → (r : Option Refusal)
         → first_of conditions_before (as_now b) l ≡ r → Alike (read_from (as_now b) (l ∷ m ∷ ls)) (read_from_before b (l ∷ m ∷ ls))
-    go ih (some i) q = rw (same_first b l o ∙ q, q, read_from, read_from_before) (both_refused i)
-    go ih none q = one_more b l (m ∷ ls) o h.0 q ih
+    go ih (Some i) q = rw (same_first b l o ∙ q, q, read_from, read_from_before) (both_refused i)
+    go ih None q = one_more b l (m ∷ ls) o h.0 q ih
 
 -- ---- The file
 
@@ -197,7 +197,7 @@ alike_files file h = cases (is_too_long file)
     (λ q. rw (q, reading_of, reading_before) (both_refused _))
     (λ q. rw (q, reading_of, reading_before) (alike start_before (map (said wide) (lines file)) (record { query = refl; previous = no_kind }) h))
   where
-    no_kind : none ≢ some Kind.query
+    no_kind : None ≢ Some Kind.query
     no_kind e = let z : ◌≡◌ {A = ℕ} 0 1 = cc in omega arith
 
 pub decided_as_before : (file : List ℕ) (words : ℕ) → QueryLast (map (said wide) (lines file)) → decide file words ≡ decide_before file words

@@ -3,7 +3,6 @@
 use mathlib.Core.Bool.{false}
 use mathlib.Core.List.{List, [], ◌∷◌, ◌++◌, map}
 use mathlib.Core.Logic.{◌↔◌, ◌≢◌}
-use mathlib.Core.Option.{Option, none, some}
 use mathlib.Core.Path.{◌≡◌, refl, sym, ap, subst, ◌∙◌}
 use Prim.Native.Nat.{ℕ, ◌≤◌}
 use native.Mathlib.Omega.{arith}
@@ -20,28 +19,29 @@ use Rattle.meaning.specs.All.{All}
 use Rattle.meaning.specs.Refused.{First, here, later, Pass, none_left, more, AtLine, Refused, too_long, at_line, missing_query}
 use Rattle.meaning.proofs.Tests.{cases}
 use Rattle.meaning.proofs.Conditions.{none_holds, holds_none}
+use Rattle.std.specs.Prelude.{None, Option, Some}
 
 -- ---- One line
 
-pub some_first : (cs : List Condition) (so : SoFar) (l : Said) (i : Refusal) → first_of cs so l ≡ some i → First cs so l i
+pub some_first : (cs : List Condition) (so : SoFar) (l : Said) (i : Refusal) → first_of cs so l ≡ Some i → First cs so l i
 unfolding first_of
 some_first [] so l i e = let z : ◌≡◌ {A = ℕ} 0 1 = cc in absurd (omega arith)
 some_first (c ∷ cs) so l i e = cases (c.holds so l)
-    (λ q. let h : some c.refusal ≡ some i = rw (q, first_of) at e in let same : i ≡ c.refusal = cc in rw same (here q))
+    (λ q. let h : Some c.refusal ≡ Some i = rw (q, first_of) at e in let same : i ≡ c.refusal = cc in rw same (here q))
     (λ q. later q (some_first cs so l i (rw (q, first_of) at e)))
 
-pub first_some : {cs : List Condition} {so : SoFar} {l : Said} {i : Refusal} → First cs so l i → first_of cs so l ≡ some i
+pub first_some : {cs : List Condition} {so : SoFar} {l : Said} {i : Refusal} → First cs so l i → first_of cs so l ≡ Some i
 unfolding first_of
 first_some (here q) = rw (q, first_of)
 first_some (later q f) = rw (q, first_of) (first_some f)
 
 -- ---- The lines
 
-pub read_refused : (so : SoFar) (l : Said) (ls : List Said) (i : Refusal) → first_of conditions so l ≡ some i → read_from so (l ∷ ls) ≡ refused i
+pub read_refused : (so : SoFar) (l : Said) (ls : List Said) (i : Refusal) → first_of conditions so l ≡ Some i → read_from so (l ∷ ls) ≡ refused i
 unfolding read_from
 read_refused so l ls i q = rw (q, read_from)
 
-pub read_next : (so : SoFar) (l : Said) (ls : List Said) → first_of conditions so l ≡ none → read_from so (l ∷ ls) ≡ read_from (after so l) ls
+pub read_next : (so : SoFar) (l : Said) (ls : List Said) → first_of conditions so l ≡ None → read_from so (l ∷ ls) ≡ read_from (after so l) ls
 unfolding read_from
 read_next so l ls q = rw (q, read_from)
 
@@ -68,22 +68,22 @@ ends so (l ∷ ls) = go (λ h. ends (after so l) ls) (first_of conditions so l) 
   where
     go : (Unit {0} → Ends (after so l) ls (read_from (after so l) ls)) → (o : Option Refusal) → first_of conditions so l ≡ o
         → Ends so (l ∷ ls) (read_from so (l ∷ ls))
-    go ih none q = rw (q, read_from) (ahead (none_holds conditions so l q) (ih tt))
-    go ih (some i) q = rw (q, read_from) (stopped
+    go ih None q = rw (q, read_from) (ahead (none_holds conditions so l q) (ih tt))
+    go ih (Some i) q = rw (q, read_from) (stopped
         (record { before = []; line = l; rest = ls; read = so; split = refl; pass = none_left; first = some_first conditions so l i q }))
 
 -- ---- The file
 
 abbrev Other : Option Kind → Type 0
-Other none = Unit {0}
-Other (some limits) = Unit {0}
-Other (some name) = Unit {0}
-Other (some schema_type) = Unit {0}
-Other (some predicate) = Unit {0}
-Other (some node) = Unit {0}
-Other (some query) = ⊥
+Other None = Unit {0}
+Other (Some limits) = Unit {0}
+Other (Some name) = Unit {0}
+Other (Some schema_type) = Unit {0}
+Other (Some predicate) = Unit {0}
+Other (Some node) = Unit {0}
+Other (Some query) = ⊥
 
-other_kind : {o : Option Kind} → o ≡ some Kind.query → Other o → ⊥
+other_kind : {o : Option Kind} → o ≡ Some Kind.query → Other o → ⊥
 other_kind e h = subst Other e h
 
 stops : {so : SoFar} {ls : List Said} {i : Refusal} → AtLine so ls i → read_from so ls ≡ refused i
@@ -95,15 +95,15 @@ unfolding read_from
 to_the_end none_left = refl
 to_the_end (more {so = so} {l = l} {ls = ls} a p) = read_next so l ls (holds_none conditions so l a) ∙ to_the_end p
 
-pub not_ended : (end : SoFar) (o : Option Kind) → o ≢ some Kind.query → at_end end o ≡ refused misplaced_kind
+pub not_ended : (end : SoFar) (o : Option Kind) → o ≢ Some Kind.query → at_end end o ≡ refused misplaced_kind
 unfolding at_end
-not_ended end none h = refl
-not_ended end (some limits) h = refl
-not_ended end (some name) h = refl
-not_ended end (some schema_type) h = refl
-not_ended end (some predicate) h = refl
-not_ended end (some node) h = refl
-not_ended end (some query) h = absurd (h refl)
+not_ended end None h = refl
+not_ended end (Some limits) h = refl
+not_ended end (Some name) h = refl
+not_ended end (Some schema_type) h = refl
+not_ended end (Some predicate) h = refl
+not_ended end (Some node) h = refl
+not_ended end (Some query) h = absurd (h refl)
 
 module _ (ed : Edition) where
   pub within : (file : List ℕ) → length file ≤ max_file → reading_of ed file ≡ read_from start (map (said ed) (lines file))
@@ -113,7 +113,7 @@ module _ (ed : Edition) where
   -- The ways a file can be read.
   pub data Read (file : List ℕ) : Reading → Type 0 where
     turned_down : {i : Refusal} → Refused ed file i → Read file (refused i)
-    passed : (end : SoFar) → length file ≤ max_file → Pass start (map (said ed) (lines file)) end → end.previous ≡ some Kind.query
+    passed : (end : SoFar) → length file ≤ max_file → Pass start (map (said ed) (lines file)) end → end.previous ≡ Some Kind.query
         → Read file (described (describe end))
 
   pub read : (file : List ℕ) → Read file (reading_of ed file)
@@ -124,13 +124,13 @@ module _ (ed : Edition) where
     where
       end_of : length file ≤ max_file → (end : SoFar) → Pass start (map (said ed) (lines file)) end → (o : Option Kind) → end.previous ≡ o
           → Read file (at_end end o)
-      end_of h end p none q = turned_down (missing_query end h p (λ e. other_kind (sym q ∙ e) tt))
-      end_of h end p (some limits) q = turned_down (missing_query end h p (λ e. other_kind (sym q ∙ e) tt))
-      end_of h end p (some name) q = turned_down (missing_query end h p (λ e. other_kind (sym q ∙ e) tt))
-      end_of h end p (some schema_type) q = turned_down (missing_query end h p (λ e. other_kind (sym q ∙ e) tt))
-      end_of h end p (some predicate) q = turned_down (missing_query end h p (λ e. other_kind (sym q ∙ e) tt))
-      end_of h end p (some node) q = turned_down (missing_query end h p (λ e. other_kind (sym q ∙ e) tt))
-      end_of h end p (some query) q = passed end h p q
+      end_of h end p None q = turned_down (missing_query end h p (λ e. other_kind (sym q ∙ e) tt))
+      end_of h end p (Some limits) q = turned_down (missing_query end h p (λ e. other_kind (sym q ∙ e) tt))
+      end_of h end p (Some name) q = turned_down (missing_query end h p (λ e. other_kind (sym q ∙ e) tt))
+      end_of h end p (Some schema_type) q = turned_down (missing_query end h p (λ e. other_kind (sym q ∙ e) tt))
+      end_of h end p (Some predicate) q = turned_down (missing_query end h p (λ e. other_kind (sym q ∙ e) tt))
+      end_of h end p (Some node) q = turned_down (missing_query end h p (λ e. other_kind (sym q ∙ e) tt))
+      end_of h end p (Some query) q = passed end h p q
 
       go : length file ≤ max_file → {r : Reading} → Ends start (map (said ed) (lines file)) r → Read file r
       go h (stopped s) = turned_down (at_line h s)
@@ -151,7 +151,7 @@ module _ (ed : Edition) where
   refused_when file i = (λ e. why i (read file) e, λ h. turned_down_lem file h)
 
   -- Described exactly where all lines pass and the last is a query.
-  pub accepted : (file : List ℕ) (end : SoFar) → length file ≤ max_file → Pass start (map (said ed) (lines file)) end → end.previous ≡ some Kind.query
+  pub accepted : (file : List ℕ) (end : SoFar) → length file ≤ max_file → Pass start (map (said ed) (lines file)) end → end.previous ≡ Some Kind.query
       → reading_of ed file ≡ described (describe end)
   unfolding at_end
   accepted file end h p e = within file h ∙ to_the_end p ∙ ap (at_end end) e
@@ -161,7 +161,7 @@ module _ (ed : Edition) where
     pub end : SoFar
     pub size : length file ≤ max_file
     pub pass : Pass start (map (said ed) (lines file)) end
-    pub last : end.previous ≡ some Kind.query
+    pub last : end.previous ≡ Some Kind.query
     pub is : d ≡ describe end
 
   pub described_when : (file : List ℕ) (d : Form) → reading_of ed file ≡ described d → Accepted file d

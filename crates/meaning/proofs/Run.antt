@@ -5,7 +5,6 @@
 -- `occurs_depth` in Occurs.antt, `unify_depth` in Depth.antt.
 use mathlib.Core.List.{List, [], ◌∷◌}
 use mathlib.Core.Logic.{by_cases}
-use mathlib.Core.Option.{Option, none}
 use mathlib.Core.Path.{◌≡◌, refl}
 use Prim.Native.Nat.{ℕ, zero, suc, ◌+◌, ◌≤◌, ◌<◌}
 use native.Mathlib.Decide.{dec_lt}
@@ -36,6 +35,7 @@ use Rattle.meaning.proofs.Meets.{Reached, Stopped, Meets, went, ended, going}
 use Rattle.meaning.proofs.Steps.{IsSide}
 use Rattle.meaning.proofs.Visits.{query_meets}
 use Rattle.meaning.proofs.Weights.{weight_once, once_times, total_ones, total_past, total_same, records_size, fields_size}
+use Rattle.std.specs.Prelude.{None, Option}
 
 -- ---- What a list of calls that led somewhere says
 led_claim : (v : ℕ) (tys : List (Option Ty)) (st : State) → Led v tys st → Claim Assignment st
@@ -66,7 +66,7 @@ begin_orderly ceiling n = record {
   awaits = tt;
 }
   where
-    empty : (n m : ℕ) → get_or (replicate {A = Option Ty} n none) m none ≡ none
+    empty : (n m : ℕ) → get_or (replicate {A = Option Ty} n None) m None ≡ None
     empty zero m = refl
     empty (suc n) zero = refl
     empty (suc n) (suc m) = empty n m
@@ -107,8 +107,8 @@ module _ (schema : Schema) (ast : Ast) (wf : WellFormed schema ast) where
   unfolding begin
   begin_ready ceiling = record {
     once = λ x. omega (arith, query_weight (λ n. same x n), total_same x (length nodes));
-    there = λ x h. omega (arith, length-replicate {A = Option Ty} (length nodes) none, inside x h);
-    bare = λ x h. get_or-replicate (length nodes) x none none (inside x h);
+    there = λ x h. omega (arith, length-replicate {A = Option Ty} (length nodes) None, inside x h);
+    bare = λ x h. get_or-replicate (length nodes) x None None (inside x h);
   }
     where
       inside : (x : ℕ) → 0 < sum_of (λ n. weight nodes (λ m. same x m) (length nodes) n) (query_nodes ast.query) → x < length nodes
@@ -122,24 +122,24 @@ module _ (schema : Schema) (ast : Ast) (wf : WellFormed schema ast) where
       (begin_orderly ceiling (length nodes)) (begin_ready ceiling)
 
   -- The run is a list of calls.
-  run_led : (ceiling : ℕ) → Led ceiling (replicate (length nodes) none) (ending (run schema ast ceiling)).state
+  run_led : (ceiling : ℕ) → Led ceiling (replicate (length nodes) None) (ending (run schema ast ceiling)).state
   unfolding begin Calls.begin
-  run_led ceiling = meets_led IsSide _ _ ceiling (replicate (length nodes) none) [] (run schema ast ceiling) none_yet (run_meets ceiling)
+  run_led ceiling = meets_led IsSide _ _ ceiling (replicate (length nodes) None) [] (run schema ast ceiling) none_yet (run_meets ceiling)
 
   -- Each entry of a run that went to its end.
   pub run_entries : (ceiling : ℕ) (ty : Ty) (c : Checker) → run schema ast ceiling ≡ goes ty c
-      → All (EntryLed ceiling (replicate (length nodes) none)) c.entries
+      → All (EntryLed ceiling (replicate (length nodes) None)) c.entries
   unfolding begin Calls.begin Reached
-  run_entries ceiling ty c e = ((going (rw e at (run_meets ceiling))).reached ceiling (replicate (length nodes) none) [] none_yet).2 tt
+  run_entries ceiling ty c e = ((going (rw e at (run_meets ceiling))).reached ceiling (replicate (length nodes) None) [] none_yet).2 tt
 
   pub run_demand_3 : (ceiling : ℕ) → RunDemand3 schema ast ceiling
   run_demand_3 ceiling = record {
     calls = run_led ceiling;
-    claim = led_claim ceiling (replicate (length nodes) none) (ending (run schema ast ceiling)).state (run_led ceiling);
+    claim = led_claim ceiling (replicate (length nodes) None) (ending (run schema ast ceiling)).state (run_led ceiling);
   }
 
   pub run_robinson : (ceiling : ℕ) → RunAsRobinson schema ast ceiling
-  run_robinson ceiling = led_robinson ceiling (replicate (length nodes) none) (ending (run schema ast ceiling)).state (run_led ceiling)
+  run_robinson ceiling = led_robinson ceiling (replicate (length nodes) None) (ending (run schema ast ceiling)).state (run_led ceiling)
 
 -- ---- For every query of a file that passes
 pub sound_well_formed : (d : Described) → Sound d → WellFormed d.schema d.ast

@@ -3,7 +3,6 @@
 use mathlib.Core.Bool.{Bool, true, false}
 use mathlib.Core.List.{List, [], ◌∷◌, ◌++◌}
 use mathlib.Core.Logic.{◌≢◌, by_cases}
-use mathlib.Core.Option.{Option, none, some}
 use mathlib.Core.Path.{◌≡◌, refl, sym, ◌∙◌, ap}
 use Prim.Native.Nat.{ℕ, zero, ◌+◌, ◌-◌, ◌≤◌, ◌<◌}
 use native.Mathlib.Decide.{ℕ_discrete}
@@ -41,6 +40,7 @@ use Rattle.meaning.proofs.Tests.{cases}
 use Rattle.meaning.proofs.Marked.{total_more, present_more}
 use Rattle.meaning.specs.Grades.{Grade, unknowns, present, marks_below, Orderly, Ready, no_thing, one_diagnostic, one_unknown, one_node, Known}
 use Rattle.meaning.proofs.Meets.{Made, Reached, Stopped, Went, Meets, went, ended, meets, made_more, made_trans, stays, meets_then}
+use Rattle.std.specs.Prelude.{None, Option, Some}
 
 -- ---- The same node
 pub same_self : (x : ℕ) → same x x ≡ 1
@@ -169,22 +169,22 @@ fresh_var_id_meets c o = meets (fresh_var_id c) (record {
 })
 
 -- ---- A variable
-lookup_below : (n : ℕ) (es : List Entry) (x : ℕ) (v : Entry) → All (λ e. e.unknown < n) es → lookup_in es x ≡ some v → v.unknown < n
+lookup_below : (n : ℕ) (es : List Entry) (x : ℕ) (v : Entry) → All (λ e. e.unknown < n) es → lookup_in es x ≡ Some v → v.unknown < n
 unfolding lookup_in
 lookup_below n [] x v h e = let z : ◌≡◌ {A = ℕ} 0 1 = cc in absurd (omega arith)
 lookup_below n (a ∷ es) x v h e = go (eqb a.symbol x) refl (lookup_below n es x v h.1)
   where
-    go : (b : Bool) → eqb a.symbol x ≡ b → (lookup_in es x ≡ some v → v.unknown < n) → v.unknown < n
-    go true q ih = let p : a ≡ v = (let i : some a ≡ some v = rw (q, lookup_in) at e in cc) in rw (← p) h.0
+    go : (b : Bool) → eqb a.symbol x ≡ b → (lookup_in es x ≡ Some v → v.unknown < n) → v.unknown < n
+    go true q ih = let p : a ≡ v = (let i : Some a ≡ Some v = rw (q, lookup_in) at e in cc) in rw (← p) h.0
     go false q ih = ih (rw (q, lookup_in) at e)
 
 -- More entries in front hide no variable.
-pub known_more : (x : ℕ) (es more : List Entry) (v : Entry) → lookup_in es x ≡ some v → (w : Entry) × (lookup_in (more ++ es) x ≡ some w)
+pub known_more : (x : ℕ) (es more : List Entry) (v : Entry) → lookup_in es x ≡ Some v → (w : Entry) × (lookup_in (more ++ es) x ≡ Some w)
 unfolding lookup_in
 known_more x es [] v e = (v, e)
 known_more x es (a ∷ more) v e = go (eqb a.symbol x) refl (known_more x es more v e)
   where
-    go : (b : Bool) → eqb a.symbol x ≡ b → (w : Entry) × (lookup_in (more ++ es) x ≡ some w) → (w : Entry) × (lookup_in (a ∷ more ++ es) x ≡ some w)
+    go : (b : Bool) → eqb a.symbol x ≡ b → (w : Entry) × (lookup_in (more ++ es) x ≡ Some w) → (w : Entry) × (lookup_in (a ∷ more ++ es) x ≡ Some w)
     go true q ih = (a, rw (q, lookup_in))
     go false q ih = (ih.0, rw (q, lookup_in) ih.1)
 
@@ -244,7 +244,7 @@ mark_made g node e c = record {
 
 module _ (node x : ℕ) (c : Checker) (o : Orderly c) where
   -- It is found.
-  introduce_found : (g : Grade) (e : Entry) → lookup_in c.env x ≡ some e → Meets (IsUnknown x) g c (introduce node x c)
+  introduce_found : (g : Grade) (e : Entry) → lookup_in c.env x ≡ Some e → Meets (IsUnknown x) g c (introduce node x c)
   unfolding introduce lookup mark with_marks and_then Reached
   introduce_found g e q =
       let lt = lookup_below (unknowns c) c.env x e o.env q in
@@ -263,8 +263,8 @@ module _ (node x : ℕ) (c : Checker) (o : Orderly c) where
   introduce_meets = go (lookup_in c.env x) refl
     where
       go : (k : Option Entry) → lookup_in c.env x ≡ k → Meets (IsUnknown x) one_unknown c (introduce node x c)
-      go (some e) q = introduce_found one_unknown e q
-      go none q =
+      go (Some e) q = introduce_found one_unknown e q
+      go None q =
           let new : Entry = record { symbol = x; unknown = unknowns c; maker = node } in
           rw (q, introduce) (meets (goes (unknowns c) (with_env (with_state c (Bindings.fresh c.state)) (new ∷ c.env))) (record {
             orderly = fresh_orderly c (new ∷ c.env) o (omega arith, env_more c o) (omega (arith, o.few));
@@ -285,9 +285,9 @@ annotate_meets n t c o r h =
         few = o.few;
         marks = o.marks;
         sides = λ m u e. by_cases (ℕ_discrete m n)
-            (λ p. let q : t ≡ u = (let i : get_or (set c.state.tys n (some t)) n none ≡ some u = sym
-            (ap (λ k. get_or (set c.state.tys n (some t)) k none) p) ∙ e in cc (get_or-set_same c.state.tys n (some t) none lt)) in rw (← q) h)
-            (λ p. o.sides m u (sym (get_or-set_other c.state.tys n m (some t) none p) ∙ e));
+            (λ p. let q : t ≡ u = (let i : get_or (set c.state.tys n (Some t)) n None ≡ Some u = sym
+            (ap (λ k. get_or (set c.state.tys n (Some t)) k None) p) ∙ e in cc (get_or-set_same c.state.tys n (Some t) None lt)) in rw (← q) h)
+            (λ p. o.sides m u (sym (get_or-set_other c.state.tys n m (Some t) None p) ∙ e));
         awaits = o.awaits;
       };
       made = record {
@@ -301,8 +301,8 @@ annotate_meets n t c o r h =
         reported = [];
         diagnostics = refl;
         few = omega arith;
-        elsewhere = λ x e. get_or-set_other c.state.tys n x (some t) none (λ p. let z : same n n ≡ 0 = rw p at e in omega (arith, same_self n));
-        nodes = length-set c.state.tys n (some t);
+        elsewhere = λ x e. get_or-set_other c.state.tys n x (Some t) None (λ p. let z : same n n ≡ 0 = rw p at e in omega (arith, same_self n));
+        nodes = length-set c.state.tys n (Some t);
         until = refl;
       };
       reached = λ v tys ts cs. ([], then_call cs (annotation n t), λ h. h);
@@ -423,9 +423,9 @@ unify_at_meets schema nodes n a b c o r i j =
     (λ r'. unify_meets a b c o i j) (λ f c' w r'. after f c' w.orderly)
   where
     after : (f : Option TyError) (c' : Checker) → Orderly c' → Meets Nothing one_diagnostic c'
-        ((elim f as (λ f. Does (Unit {0})) [ none ↦ (λ c. goes tt c) | some err ↦ report schema nodes n err ]) c')
-    after none c' o' = stays Nothing one_diagnostic c' tt o' tt
-    after (some err) c' o' = reject_meets schema nodes n _ c' o'
+        ((elim f as (λ f. Does (Unit {0})) [ None ↦ (λ c. goes tt c) | Some err ↦ report schema nodes n err ]) c')
+    after None c' o' = stays Nothing one_diagnostic c' tt o' tt
+    after (Some err) c' o' = reject_meets schema nodes n _ c' o'
 
 ordered_meets : (c : Checker) (a : Answer) → Orderly c → Fewer c.state.left a → Meets Nothing no_thing c (ordered c a)
 unfolding ordered with_state Bindings.with_left Reached Stopped
@@ -464,7 +464,7 @@ module _ (g : Grade) (c c' : Checker) (o : Orderly c) (o' : Orderly c') (m : Mad
   older : length c.env ≤ length c'.env
   older = omega (arith, ap length m.env ∙ length-append m.pushed c.env)
 
-  back_subst : (Bindings.rollback c'.state (Bindings.snapshot c.state)).subst ≡ c.state.subst ++ replicate m.new none
+  back_subst : (Bindings.rollback c'.state (Bindings.snapshot c.state)).subst ≡ c.state.subst ++ replicate m.new None
   back_subst = rollback_subst m.since
 
   back_more : length (Bindings.rollback c'.state (Bindings.snapshot c.state)).subst ≡ unknowns c + m.new

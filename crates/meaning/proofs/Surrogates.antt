@@ -2,7 +2,6 @@
 -- names read so far have none either, so that each counts the same characters.
 use mathlib.Core.Bool.{Bool, true, false}
 use mathlib.Core.List.{List, [], ◌∷◌, ◌++◌, map}
-use mathlib.Core.Option.{Option, none, some}
 use mathlib.Core.Path.{◌≡◌, refl, ap, ◌∙◌}
 use Prim.Native.Nat.{ℕ, ◌<◌, ◌≤◌}
 use lib.Dec.{ltb}
@@ -27,14 +26,15 @@ use Rattle.meaning.specs.Surrogates.{decide_open, outcome_open, NoSurrogate, NoS
 use Rattle.meaning.specs.Refused.{Pass}
 use Rattle.meaning.proofs.Lists.{all_snoc}
 use Rattle.meaning.proofs.Demands.{demand_1}
+use Rattle.std.specs.Prelude.{None, Option, Some}
 
 same_broken : (s : List ℕ) → NoSurrogate s → broken s ≡ broken_open s
 unfolding broken broken_open
 same_broken s w = go (characters_open s) refl
   where
     go : (o : Option ℕ) → characters_open s ≡ o → broken s ≡ broken_open s
-    go none q = rw (kept s w ∙ q, q, broken, broken_open)
-    go (some n) q = rw (kept s w ∙ q, q, broken, broken_open)
+    go None q = rw (kept s w ∙ q, q, broken, broken_open)
+    go (Some n) q = rw (kept s w ∙ q, q, broken, broken_open)
 
 same_any : (ts : List (List ℕ)) → All NoSurrogate ts → any_of broken ts ≡ any_of broken_open ts
 unfolding any_of
@@ -61,7 +61,7 @@ same_among [] ds r p q so l e = go (q so l) refl
     go : (b : Bool) → q so l ≡ b → first_of (record { refusal = r; holds = p } ∷ ds) so l ≡ first_of (record { refusal = r; holds = q } ∷ ds) so l
     go true h = rw (e, h, first_of)
     go false h = rw (e, h, first_of)
-same_among (c ∷ cs) ds r p q so l e = ap (λ o. elim (c.holds so l) [ true ↦ some c.refusal | false ↦ o ]) (same_among cs ds r p q so l e)
+same_among (c ∷ cs) ds r p q so l e = ap (λ o. elim (c.holds so l) [ true ↦ Some c.refusal | false ↦ o ]) (same_among cs ds r p q so l e)
 
 same_first : (so : SoFar) (l : Said) → NoSurrogateOn l → first_of conditions so l ≡ first_of conditions_open so l
 unfolding conditions conditions_open
@@ -102,13 +102,13 @@ same_counts (s ∷ ts) w =
 
 same_end : (so : SoFar) (k : Option Kind) → All NoSurrogate so.names → at_end so k ≡ at_end_open so k
 unfolding at_end at_end_open describe describe_open schema_of schema_open
-same_end so none h = refl
-same_end so (some limits) h = refl
-same_end so (some name) h = refl
-same_end so (some schema_type) h = refl
-same_end so (some predicate) h = refl
-same_end so (some node) h = refl
-same_end so (some query) h = rw (same_counts so.names h)
+same_end so None h = refl
+same_end so (Some limits) h = refl
+same_end so (Some name) h = refl
+same_end so (Some schema_type) h = refl
+same_end so (Some predicate) h = refl
+same_end so (Some node) h = refl
+same_end so (Some query) h = rw (same_counts so.names h)
 
 -- ---- Line after line
 
@@ -119,8 +119,8 @@ same_from so (l ∷ ls) h w = go (same_from (after so l) ls (names_after so l h 
   where
     go : read_from (after so l) ls ≡ read_from_open (after so l) ls → (o : Option Refusal) → first_of conditions_open so l ≡ o
         → read_from so (l ∷ ls) ≡ read_from_open so (l ∷ ls)
-    go ih none q = rw (same_first so l w.0 ∙ q, q, read_from, read_from_open) ih
-    go ih (some r) q = rw (same_first so l w.0 ∙ q, q, read_from, read_from_open)
+    go ih None q = rw (same_first so l w.0 ∙ q, q, read_from, read_from_open) ih
+    go ih (Some r) q = rw (same_first so l w.0 ∙ q, q, read_from, read_from_open)
 
 pub reads_as_before : (file : List ℕ) → NoSurrogateIn file → reading file ≡ reading_open file
 unfolding reading_of reading_open start

@@ -2,12 +2,11 @@
 -- itself and the nodes under it; it makes at most one unknown and three diagnostics of its own.
 use mathlib.Core.Bool.{Bool, true, false}
 use mathlib.Core.List.{List, [], ◌∷◌}
-use mathlib.Core.Option.{Option, none, some}
 use mathlib.Core.Path.{◌≡◌, refl, ap}
 use Prim.Native.Nat.{ℕ, zero, suc, ◌+◌, ◌-◌, ◌*◌, ◌≤◌}
 use native.Mathlib.Omega.{arith}
 use lib.Dec.{eqb, ltb}
-use lib.ListN.{length, get_or, get_elem?}
+use lib.ListN.{length, get_or}
 use Rattle.unification.specs.Ty.{Leaf, Kind, Ty, Row}
 use Rattle.unification.specs.Bindings as Bindings
 use Rattle.unification.specs.Unify.{TyError, find_key, find_label}
@@ -36,6 +35,7 @@ use Rattle.meaning.proofs.Meets.{Made, Went, Meets, going, made_more, made_side,
 use Rattle.meaning.proofs.Meets.{went_with, meets_nest}
 use Rattle.meaning.proofs.Steps.{Nothing, IsSide, IsUnknown, reject_meets, reject_if, reject_unless, fresh_var_id_meets, made_known, introduce_known}
 use Rattle.meaning.proofs.Steps.{introduce_meets, annotate_meets, unify_meets, unify_at_meets, orderable_meets, rolled_meets, leave_meets}
+use Rattle.std.specs.Prelude.{None, Option, Some, slice_get}
 
 pub size_pos : (nodes : List Node) (d n : ℕ) → 1 ≤ size nodes d n
 unfolding weight
@@ -59,10 +59,10 @@ pub record Good (nodes : List Node) (d : ℕ) (below : Walk) : Type 0 where
 -- ---- Types of the schema, and parts of sides
 module _ (schema : Schema) (nodes : List Node) (declared : All DeclaredPredicate schema.predicates) where
   abbrev DeclaredIn : Option Predicate → Type 0
-  DeclaredIn none = Unit {0}
-  DeclaredIn (some p) = DeclaredPredicate p
+  DeclaredIn None = Unit {0}
+  DeclaredIn (Some p) = DeclaredPredicate p
 
-  got : (ps : List Predicate) (p : ℕ) → All DeclaredPredicate ps → DeclaredIn (get_elem? ps p)
+  got : (ps : List Predicate) (p : ℕ) → All DeclaredPredicate ps → DeclaredIn (slice_get ps p)
   got [] p h = tt
   got (a ∷ ps) zero h = h.0
   got (a ∷ ps) (suc p) h = got ps p h.1
@@ -72,20 +72,20 @@ module _ (schema : Schema) (nodes : List Node) (declared : All DeclaredPredicate
   key_declared p = go (get schema p) refl (got schema.predicates p declared)
     where
       go : (o : Option Predicate) → get schema p ≡ o → DeclaredIn o → DeclaredOption (key_ty schema nodes p)
-      go none e h = rw (e, key_ty) tt
-      go (some q) e h = rw (e, key_ty) h.0
+      go None e h = rw (e, key_ty) tt
+      go (Some q) e h = rw (e, key_ty) h.0
 
   pub value_declared : (p : ℕ) → DeclaredOption (value_ty schema nodes p)
   unfolding value_ty get
   value_declared p = go (get schema p) refl (got schema.predicates p declared)
     where
       go : (o : Option Predicate) → get schema p ≡ o → DeclaredIn o → DeclaredOption (value_ty schema nodes p)
-      go none e h = rw (e, value_ty) tt
-      go (some q) e h = rw (e, value_ty) h.1
+      go None e h = rw (e, value_ty) tt
+      go (Some q) e h = rw (e, value_ty) h.1
 
 abbrev pub SideOption : ℕ → Option Ty → Type 0
-SideOption n none = Unit {0}
-SideOption n (some t) = Side n t
+SideOption n None = Unit {0}
+SideOption n (Some t) = Side n t
 
 field_side : (n : ℕ) (t : Ty) (name : ℕ) → Side n t → SideOption n (field_of t name)
 unfolding field_of
@@ -93,8 +93,8 @@ field_side n (Ty.leaf p) name h = tt
 field_side n (Ty.node Kind.Record r) name h = go (find_key name r) refl (find_part (Field n) name r (fields n r h))
   where
     go : (o : Option (ℕ × Ty)) → find_key name r ≡ o → Part (Field n) o → SideOption n (field_of (Ty.node Kind.Record r) name)
-    go none e p = rw (e, field_of) tt
-    go (some f) e p = rw (e, field_of) p.1
+    go None e p = rw (e, field_of) tt
+    go (Some f) e p = rw (e, field_of) p.1
 field_side n (Ty.node Kind.Union r) name h = tt
 field_side n (Ty.Var x) name h = tt
 field_side n Ty.Error name h = tt
@@ -127,8 +127,8 @@ module _ (schema : Schema) (nodes : List Node) (declared : All DeclaredPredicate
   field_at_meets name t h = go (field_of t name) refl (field_side (unknowns c) t name h)
     where
       go : (f : Option Ty) → field_of t name ≡ f → SideOption (unknowns c) f → Meets IsSide one_diagnostic c (field_at schema nodes id name t c)
-      go none e p = rw (e, field_at) (reject_ty_meets _)
-      go (some u) e p = rw (e, field_at) (stays IsSide one_diagnostic c u o p)
+      go None e p = rw (e, field_at) (reject_ty_meets _)
+      go (Some u) e p = rw (e, field_at) (stays IsSide one_diagnostic c u o p)
 
   key_of_meets : (name : ℕ) (t : Ty) → Side (unknowns c) t → Meets IsSide one_diagnostic c (key_of schema nodes id name t c)
   unfolding key_of unresolved
@@ -136,8 +136,8 @@ module _ (schema : Schema) (nodes : List Node) (declared : All DeclaredPredicate
   key_of_meets name (Ty.leaf (Leaf.Fact p)) h = go (key_ty schema nodes p) refl (key_declared schema nodes declared p)
     where
       go : (k : Option Ty) → key_ty schema nodes p ≡ k → DeclaredOption k → Meets IsSide one_diagnostic c (key_of schema nodes id name (Ty.leaf (Leaf.Fact p)) c)
-      go none e q = rw (e, key_of) (stays IsSide one_diagnostic c Ty.Error o tt)
-      go (some key) e q = rw (e, key_of) (field_at_meets name key (declared_side (unknowns c) key q))
+      go None e q = rw (e, key_of) (stays IsSide one_diagnostic c Ty.Error o tt)
+      go (Some key) e q = rw (e, key_of) (field_at_meets name key (declared_side (unknowns c) key q))
   key_of_meets name (Ty.leaf Leaf.Int) h = reject_ty_meets _
   key_of_meets name (Ty.leaf Leaf.String) h = reject_ty_meets _
   key_of_meets name (Ty.leaf Leaf.Bytes) h = reject_ty_meets _
@@ -153,8 +153,8 @@ module _ (schema : Schema) (nodes : List Node) (declared : All DeclaredPredicate
       go : (b : Bool) → key_shadows_value schema nodes p ≡ b → (v : Option Ty) → value_ty schema nodes p ≡ v → DeclaredOption v
           → Meets IsSide one_diagnostic c (value_of schema nodes id (Ty.leaf (Leaf.Fact p)) c)
       go true e v f q = rw (e, value_of) (reject_ty_meets _)
-      go false e none f q = rw (e, value_of, f) (reject_ty_meets _)
-      go false e (some t) f q = rw (e, value_of, f) (stays IsSide one_diagnostic c t o (declared_side (unknowns c) t q))
+      go false e None f q = rw (e, value_of, f) (reject_ty_meets _)
+      go false e (Some t) f q = rw (e, value_of, f) (stays IsSide one_diagnostic c t o (declared_side (unknowns c) t q))
   value_of_meets (Ty.leaf Leaf.Int) = reject_ty_meets _
   value_of_meets (Ty.leaf Leaf.String) = reject_ty_meets _
   value_of_meets (Ty.leaf Leaf.Bytes) = reject_ty_meets _
@@ -173,8 +173,8 @@ module _ (schema : Schema) (nodes : List Node) (declared : All DeclaredPredicate
     where
       go : (p : Option Ty) → find_label name r ≡ p → SideOption (unknowns c) p
           → Meets IsSide one_diagnostic c (select_of schema nodes id name (Ty.node Kind.Union r) c)
-      go none e q = rw (e, select_of) (reject_ty_meets _)
-      go (some t) e q = rw (e, select_of) (stays IsSide one_diagnostic c t o q)
+      go None e q = rw (e, select_of) (reject_ty_meets _)
+      go (Some t) e q = rw (e, select_of) (stays IsSide one_diagnostic c t o q)
   select_of_meets name (Ty.node Kind.Record r) h = reject_ty_meets _
   select_of_meets name (Ty.leaf p) h = reject_ty_meets _
   select_of_meets name (Ty.Var x) h = reject_ty_meets _
@@ -276,8 +276,8 @@ module _ (schema : Schema) (nodes : List Node) (declared : All DeclaredPredicate
   fact_meets p key c o r = go (key_ty schema nodes p) refl (key_declared schema nodes declared p)
     where
       go : (k : Option Ty) → key_ty schema nodes p ≡ k → DeclaredOption k → Meets IsSide (within nodes d (key ∷ [])) c (fact schema nodes below p key c)
-      go none e q = rw (e, fact) (stays IsSide (within nodes d (key ∷ [])) c _ o tt)
-      go (some t) e q =
+      go None e q = rw (e, fact) (stays IsSide (within nodes d (key ∷ [])) c _ o tt)
+      go (Some t) e q =
           rw (e, fact) (meets_then Nothing IsSide (checking nodes d key) no_thing (within nodes d (key ∷ [])) c (omega arith) (below.check key t c) _ r
           (λ r'. good.check key t c o r' (declared_side (unknowns c) t q)) (λ u b w r'. stays IsSide no_thing b _ w.orderly tt))
 
@@ -477,9 +477,9 @@ module _ (schema : Schema) (nodes : List Node) (declared : All DeclaredPredicate
     where
       after : (failed : Option TyError) (t : Ty) (b : Checker) → Orderly b → Ready one_diagnostic b
           → Meets Nothing one_diagnostic b ((elim failed as (λ f. Does (Unit {0}))
-          [ some err ↦ report schema nodes r err | none ↦ compare_order schema nodes l t ]) b)
-      after none t b o' y' = compare_order_meets l t b o' y'
-      after (some err) t b o' y' = unfold report in reject_meets schema nodes r _ b o'
+          [ Some err ↦ report schema nodes r err | None ↦ compare_order schema nodes l t ]) b)
+      after None t b o' y' = compare_order_meets l t b o' y'
+      after (Some err) t b o' y' = unfold report in reject_meets schema nodes r _ b o'
 
   generate_meets : (n : ℕ) (c : Checker) → Orderly c → Ready (inferring nodes d n) c → Meets Nothing (inferring nodes d n) c (generate schema nodes below n c)
   unfolding generate
@@ -594,13 +594,13 @@ module _ (schema : Schema) (nodes : List Node) (declared : All DeclaredPredicate
       after : (failed : Option TyError) (b : Checker) → Went Nothing (inferring nodes (suc d) id) c failed b
           → Meets Nothing (checking nodes (suc d) id) c
           ((elim failed as (λ f. Does (Unit {0})) [
-            | none ↦ (λ c. goes tt c)
-            | some err ↦
+            | None ↦ (λ c. goes tt c)
+            | Some err ↦
                 (λ b. and_then (rollback (record { state = Bindings.snapshot c.state; env = length c.env; marks = length c.marks }) b)
                 (λ u. report schema nodes id err))
           ]) b)
-      after none b w = meets_fits Nothing (inferring nodes (suc d) id) (checking nodes (suc d) id) c (omega arith) (went_with Nothing tt w tt)
-      after (some err) b w =
+      after None b w = meets_fits Nothing (inferring nodes (suc d) id) (checking nodes (suc d) id) c (omega arith) (went_with Nothing tt w tt)
+      after (Some err) b w =
           meets_then Nothing Nothing (inferring nodes (suc d) id) one_diagnostic (checking nodes (suc d) id) c
           (omega (arith, size_pos nodes (suc d) id))
           (rollback (record { state = Bindings.snapshot c.state; env = length c.env; marks = length c.marks }) b)
@@ -636,9 +636,9 @@ module _ (schema : Schema) (nodes : List Node) (declared : All DeclaredPredicate
     where
       mentioned : (p : Option (ℕ × Ty)) → Part (Field (unknowns c)) p → Ready (checking nodes d f.value) c
           → Meets Nothing (checking nodes d f.value) c (check_mentioned schema nodes below f p c)
-      mentioned none q y' = meets_fits Nothing one_diagnostic (checking nodes d f.value) c (omega (arith, size_pos nodes d f.value))
+      mentioned None q y' = meets_fits Nothing one_diagnostic (checking nodes d f.value) c (omega (arith, size_pos nodes d f.value))
           (reject_meets schema nodes f.value _ c o)
-      mentioned (some p) q y' = check_field_meets f.value p.1 c o y' q.1
+      mentioned (Some p) q y' = check_field_meets f.value p.1 c o y' q.1
 
   -- One alternative of a union: its payload, then the node itself, or one diagnostic.
   abbrev choosing : ℕ → List Syntax.Field → Grade
@@ -652,8 +652,8 @@ module _ (schema : Schema) (nodes : List Node) (declared : All DeclaredPredicate
     where
       go : (p : Option Ty) → find_label f.name row ≡ p → SideOption (unknowns c) p
           → Meets Nothing (choosing id (f ∷ [])) c (check_alternative schema nodes below id f row c)
-      go none e q = rw (e, check_alternative) (meets_fits Nothing one_diagnostic (choosing id (f ∷ [])) c (omega arith) (reject_meets schema nodes id _ c o))
-      go (some t) e q =
+      go None e q = rw (e, check_alternative) (meets_fits Nothing one_diagnostic (choosing id (f ∷ [])) c (omega arith) (reject_meets schema nodes id _ c o))
+      go (Some t) e q =
           rw (e, check_alternative) (meets_then Nothing Nothing (checking nodes d f.value) (one_node id) (choosing id (f ∷ [])) c (omega arith)
           (below.check f.value t c) _ y (λ y'. good.check f.value t c o y' q)
           (λ u b w y'. annotate_meets id (Ty.node Kind.Union row) b w.orderly y' h))

@@ -1,7 +1,6 @@
 -- The files that pass are exactly the writings of frames that obey the rules: a line says a frame exactly where it is that frame's line.
 use mathlib.Core.List.{List, [], ◌∷◌, ◌++◌, map, flat_map, append-nil, append_assoc, head-eq_of_cons-eq, tail-eq_of_cons-eq}
 use mathlib.Core.Logic.{◌↔◌}
-use mathlib.Core.Option.{Option, none, some}
 use mathlib.Core.Path.{◌≡◌, refl, sym, ap, ap₂, subst, ◌∙◌}
 use Prim.Native.Nat.{ℕ, zero, suc, ◌≤◌}
 use native.Mathlib.Omega.{arith}
@@ -22,10 +21,11 @@ use Rattle.meaning.proofs.Grammar.{content_back, FrameTook, content_forth}
 use Rattle.meaning.proofs.Bytes.{written_bytes}
 use Rattle.meaning.proofs.Frames.{pass_rules, rules_pass}
 use Rattle.meaning.proofs.Refused.{accepted, described_when}
+use Rattle.std.specs.Prelude.{None, Option, Some}
 
 -- ---- Kinds
 
-pub byte_kind : (k : Kind) → kind_of (kind_byte k) ≡ some k
+pub byte_kind : (k : Kind) → kind_of (kind_byte k) ≡ Some k
 unfolding kind_of kind_byte
 byte_kind Kind.limits = refl
 byte_kind Kind.name = refl
@@ -34,10 +34,10 @@ byte_kind Kind.predicate = refl
 byte_kind Kind.node = refl
 byte_kind Kind.query = refl
 
-is_byte : (k k' : Kind) (b : ℕ) → kind_byte k ≡ b → some k ≡ some k' → b ≡ kind_byte k'
+is_byte : (k k' : Kind) (b : ℕ) → kind_byte k ≡ b → Some k ≡ Some k' → b ≡ kind_byte k'
 is_byte k k' b p e = let same : k ≡ k' = cc in sym p ∙ ap kind_byte same
 
-pub kind_byte_lem : (b : ℕ) (k : Kind) → kind_of b ≡ some k → b ≡ kind_byte k
+pub kind_byte_lem : (b : ℕ) (k : Kind) → kind_of b ≡ Some k → b ≡ kind_byte k
 unfolding kind_of kind_byte
 kind_byte_lem zero k e = let z : ◌≡◌ {A = ℕ} 0 1 = cc in absurd (omega arith)
 kind_byte_lem (suc zero) k e = is_byte Kind.limits k 1 refl e
@@ -50,20 +50,20 @@ kind_byte_lem (suc (suc (suc (suc (suc (suc (suc b))))))) k e = let z : ◌≡�
 
 -- ---- A line
 
-pub at_most_lem : (n : ℕ) (s : List ℕ) → length s ≤ n → at_most n s ≡ some s
+pub at_most_lem : (n : ℕ) (s : List ℕ) → length s ≤ n → at_most n s ≡ Some s
 unfolding at_most
 at_most_lem n s h = rw (le-leb (length s) n h, at_most)
 
-is_frame_lem : (k : Kind) (o : Option Frame) (f : Frame) → said_of k o ≡ frames f → o ≡ some f
+is_frame_lem : (k : Kind) (o : Option Frame) (f : Frame) → said_of k o ≡ frames f → o ≡ Some f
 unfolding said_of
-is_frame_lem k none f e = let z : ◌≡◌ {A = ℕ} 0 1 = cc in absurd (omega arith)
-is_frame_lem k (some f') f e = let same : f' ≡ f = cc in ap some same
+is_frame_lem k None f e = let z : ◌≡◌ {A = ℕ} 0 1 = cc in absurd (omega arith)
+is_frame_lem k (Some f') f e = let same : f' ≡ f = cc in ap Some same
 
 module _ (ed : Edition) where
   abbrev pub line_of : Frame → Line
   line_of f = closed (hexes (written ed f))
 
-  pub frame_back : (f : Frame) → Writable ed f → frame_of ed (frame_kind f) (as_content ed f) ≡ some f
+  pub frame_back : (f : Frame) → Writable ed f → frame_of ed (frame_kind f) (as_content ed f) ≡ Some f
   unfolding frame_of whole
   frame_back f w = ap (λ s. whole (frame ed (frame_kind f) s)) (sym (append-nil (as_content ed f))) ∙ ap whole (content_back ed f w.fits)
 
@@ -81,11 +81,11 @@ module _ (ed : Edition) where
     pub writable : Writable ed f
 
   -- from the frame back to the bytes, a step at a time
-  pub frame_forth : (k : Kind) (s : List ℕ) (f : Frame) → All Byte s → frame_of ed k s ≡ some f → FrameTook ed k s f []
+  pub frame_forth : (k : Kind) (s : List ℕ) (f : Frame) → All Byte s → frame_of ed k s ≡ Some f → FrameTook ed k s f []
   unfolding frame_of whole
   frame_forth k s f h e = go (frame ed k s) refl e
     where
-      go : (g : Got Frame) → frame ed k s ≡ g → whole g ≡ some f → FrameTook ed k s f []
+      go : (g : Got Frame) → frame ed k s ≡ g → whole g ≡ Some f → FrameTook ed k s f []
       go (got f' []) q c = let same : f' ≡ f = cc in content_forth ed k s f [] h (rw same at q)
       go (got f' (b ∷ t)) q c = let z : ◌≡◌ {A = ℕ} 0 1 = cc in absurd (omega arith)
       go fails q c = let z : ◌≡◌ {A = ℕ} 0 1 = cc in absurd (omega arith)
@@ -95,8 +95,8 @@ module _ (ed : Edition) where
   is_written b s f h e = go (kind_of b) refl e
     where
       go : (o : Option Kind) → kind_of b ≡ o → said_in ed o s ≡ frames f → (b ∷ s ≡ written ed f) × Fits ed f
-      go none q c = let z : ◌≡◌ {A = ℕ} 0 1 = cc in absurd (omega arith)
-      go (some k) q c =
+      go None q c = let z : ◌≡◌ {A = ℕ} 0 1 = cc in absurd (omega arith)
+      go (Some k) q c =
           let t = frame_forth k s f h (is_frame_lem k (frame_of ed k s) f c) in
           let first : b ≡ kind_byte (frame_kind f) = kind_byte_lem b k q ∙ ap kind_byte (sym t.kind) in
           let later : s ≡ as_content ed f = t.bytes ∙ append-nil (as_content ed f) in
@@ -117,9 +117,9 @@ module _ (ed : Edition) where
   said_line (closed s) f e = go (decoded s) refl e
     where
       go : (o : Option (List ℕ)) → decoded s ≡ o → said_by ed (some_bytes o) ≡ frames f → IsLine (closed s) f
-      go none q c = let z : ◌≡◌ {A = ℕ} 0 1 = cc in absurd (omega arith)
-      go (some []) q c = let z : ◌≡◌ {A = ℕ} 0 1 = cc in absurd (omega arith)
-      go (some (b ∷ t)) q c = is_line s b t f (hex_decoded s (b ∷ t) q) c
+      go None q c = let z : ◌≡◌ {A = ℕ} 0 1 = cc in absurd (omega arith)
+      go (Some []) q c = let z : ◌≡◌ {A = ℕ} 0 1 = cc in absurd (omega arith)
+      go (Some (b ∷ t)) q c = is_line s b t f (hex_decoded s (b ∷ t) q) c
 
   -- ---- The lines of a file
 

@@ -1,8 +1,7 @@
 -- The bytes of the answer (document 01, "Frame lines", "The answer"): for each node a line 07, for each diagnostic a line
 -- 08 and one 0a with the text of its message, in lower-case hexadecimal, each closed by LF. Then card 9's lines 0c and card 7's 09.
-use Rattle.std.specs.Prelude.{true, false, ℕ, suc, ◌+◌, ◌/◌, ◌%◌, ltb}
+use Rattle.std.specs.Prelude.{true, false, ℕ, suc, ◌+◌, ◌/◌, ◌%◌, ltb, None, Option, Some}
 use mathlib.Core.List.{List, [], ◌∷◌, ◌++◌}
-use Rattle.std.proofs.Math.Option.{Option, none, some}
 use Rattle.unification.specs.Ty.{Leaf, Kind, Ty, Row, row_len}
 use Rattle.meaning.specs.Syntax.{Span}
 use Rattle.meaning.specs.Diag.{Message, Diagnostic, ascii, as_str, code_of}
@@ -50,8 +49,8 @@ unfoldable mutual
 
 unfoldable pub slot_bytes : Option Ty → List ℕ
 unfolding ty_bytes
-slot_bytes none = 0xff ∷ []
-slot_bytes (some t) = ty_bytes t
+slot_bytes None = 0xff ∷ []
+slot_bytes (Some t) = ty_bytes t
 
 -- ---- Lines
 

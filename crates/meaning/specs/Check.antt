@@ -1,9 +1,8 @@
 -- `check` of ty.rs, function by function, over the tree. A diagnostic has its message in numbers and types; the texts are those of
 -- Messages.antt.
-use Rattle.std.specs.Prelude.{Bool, eqb, ltb, length, get_or, take, drop, replicate}
+use Rattle.std.specs.Prelude.{Bool, eqb, ltb, length, get_or, take, drop, replicate, None, Option, Some}
 use Rattle.std.proofs.Math.Bool.{true, false}
 use mathlib.Core.List.{List, [], ◌∷◌, map}
-use Rattle.std.proofs.Math.Option.{Option, none, some}
 use Prim.Native.Nat.{ℕ, zero, suc, ◌-◌}
 use Rattle.unification.specs.Ty.{Leaf, Kind, Ty, Row}
 use Rattle.unification.specs.Bindings as Bindings
@@ -100,8 +99,8 @@ fresh_var = do
 
 -- `lookup`, newest first; it tells which entry was found
 unfoldable pub lookup_in : List Entry → ℕ → Option Entry
-lookup_in [] symbol = none
-lookup_in (e ∷ es) symbol = elim (eqb e.symbol symbol) [ true ↦ some e | false ↦ lookup_in es symbol ]
+lookup_in [] symbol = None
+lookup_in (e ∷ es) symbol = elim (eqb e.symbol symbol) [ true ↦ Some e | false ↦ lookup_in es symbol ]
 
 unfoldable pub lookup : ℕ → Does (Option Entry)
 unfolding lookup_in
@@ -131,10 +130,10 @@ unfolding lookup mark fresh_var_id push_env and_then
 introduce node symbol = do
   known ← lookup symbol
   elim known [
-    | some e ↦ do
+    | Some e ↦ do
       mark node e
       return e.unknown
-    | none ↦ do
+    | None ↦ do
       var ← fresh_var_id
       push_env node symbol var
       return var
@@ -152,8 +151,8 @@ repr ty c = goes (Bindings.repr c.state.subst ty) c
 -- `unify`, with the error as a value
 unfoldable pub unified : Checker → Unified → Step (Option TyError)
 unfolding with_state
-unified c (Unified.Ok st) = goes none (with_state c st)
-unified c (Unified.Err e st) = goes (some e) (with_state c st)
+unified c (Unified.Ok st) = goes None (with_state c st)
+unified c (Unified.Err e st) = goes (Some e) (with_state c st)
 unified c (Unified.Spent st) = out (with_state c st)
 
 unfoldable pub united : Ty → Ty → Does (Option TyError)
@@ -269,8 +268,8 @@ unfoldable pub reported : Does (Unit {0})
 reported c = elim c.until [ the_end ↦ goes tt c | first_diagnostic ↦ out c | entry n ↦ goes tt c ]
 
 unfoldable pub is_some : {A : Type 0} → Option A → Bool
-is_some none = false
-is_some (some a) = true
+is_some None = false
+is_some (Some a) = true
 
 -- The three ways to visit a node.
 pub record Walk : Type 0 where
@@ -328,7 +327,7 @@ module _ (schema : Schema) (nodes : List Node) where
   unfolding unify report and_then
   unify_at node got expected = do
     failed ← unify got expected
-    elim failed [ none ↦ return tt | some err ↦ report node err ]
+    elim failed [ None ↦ return tt | Some err ↦ report node err ]
 
   -- `unresolved`
   unfoldable pub unresolved : ℕ → Does Ty
@@ -339,18 +338,18 @@ module _ (schema : Schema) (nodes : List Node) where
 
   unfoldable pub key_ty : ℕ → Option Ty
   unfolding get
-  key_ty p = elim (get schema p) [ none ↦ none | some d ↦ some d.key ]
+  key_ty p = elim (get schema p) [ None ↦ None | Some d ↦ Some d.key ]
 
   unfoldable pub value_ty : ℕ → Option Ty
   unfolding get
-  value_ty p = elim (get schema p) [ none ↦ none | some d ↦ d.value ]
+  value_ty p = elim (get schema p) [ None ↦ None | Some d ↦ d.value ]
 
   -- `key_shadows_value`: a key field called `value`
   unfoldable pub key_shadows_value : ℕ → Bool
   unfolding key_ty field_of is_some
   key_shadows_value p = elim (key_ty p) [
-    | none ↦ false
-    | some key ↦ elim schema.value_field [ none ↦ false | some value ↦ is_some (field_of key value) ]
+    | None ↦ false
+    | Some key ↦ elim schema.value_field [ None ↦ false | Some value ↦ is_some (field_of key value) ]
   ]
 
   -- ---- `access`, on the resolved base
@@ -361,7 +360,7 @@ module _ (schema : Schema) (nodes : List Node) where
   value_of id Ty.Error = return Ty.Error
   value_of id (Ty.leaf (Leaf.Fact p)) = elim (key_shadows_value p) [
     | true ↦ reject_ty id Message.value_shadowed
-    | false ↦ elim (value_ty p) [ some ty ↦ return ty | none ↦ reject_ty id Message.no_value ]
+    | false ↦ elim (value_ty p) [ Some ty ↦ return ty | None ↦ reject_ty id Message.no_value ]
   ]
   value_of id (Ty.leaf Leaf.Int) = reject_ty id (Message.not_afact (Ty.leaf Leaf.Int))
   value_of id (Ty.leaf Leaf.String) = reject_ty id (Message.not_afact (Ty.leaf Leaf.String))
@@ -371,13 +370,13 @@ module _ (schema : Schema) (nodes : List Node) where
 
   unfoldable pub field_at : ℕ → ℕ → Ty → Does Ty
   unfolding field_of reject_ty
-  field_at id name ty = elim (field_of ty name) [ some field ↦ return field | none ↦ reject_ty id (Message.no_field name) ]
+  field_at id name ty = elim (field_of ty name) [ Some field ↦ return field | None ↦ reject_ty id (Message.no_field name) ]
 
   -- `.field`; on a fact it is the key's field, and a fact of an absent predicate is Error without a diagnostic
   unfoldable pub key_of : ℕ → ℕ → Ty → Does Ty
   unfolding key_ty field_at reject_ty unresolved
   key_of id name Ty.Error = return Ty.Error
-  key_of id name (Ty.leaf (Leaf.Fact p)) = elim (key_ty p) [ some key ↦ field_at id name key | none ↦ return Ty.Error ]
+  key_of id name (Ty.leaf (Leaf.Fact p)) = elim (key_ty p) [ Some key ↦ field_at id name key | None ↦ return Ty.Error ]
   key_of id name (Ty.leaf Leaf.Int) = reject_ty id (Message.no_fields (Ty.leaf Leaf.Int))
   key_of id name (Ty.leaf Leaf.String) = reject_ty id (Message.no_fields (Ty.leaf Leaf.String))
   key_of id name (Ty.leaf Leaf.Bytes) = reject_ty id (Message.no_fields (Ty.leaf Leaf.Bytes))
@@ -389,7 +388,7 @@ module _ (schema : Schema) (nodes : List Node) where
   unfoldable pub select_of : ℕ → ℕ → Ty → Does Ty
   unfolding find_label reject_ty unresolved
   select_of id name Ty.Error = return Ty.Error
-  select_of id name (Ty.node Kind.Union r) = elim (find_label name r) [ some payload ↦ return payload | none ↦ reject_ty id (Message.no_alternative name) ]
+  select_of id name (Ty.node Kind.Union r) = elim (find_label name r) [ Some payload ↦ return payload | None ↦ reject_ty id (Message.no_alternative name) ]
   select_of id name (Ty.node Kind.Record r) = reject_ty id (Message.not_aunion (Ty.node Kind.Record r))
   select_of id name (Ty.leaf p) = reject_ty id (Message.not_aunion (Ty.leaf p))
   select_of id name (Ty.Var x) = unresolved id
@@ -453,10 +452,10 @@ module _ (schema : Schema) (nodes : List Node) where
   unfoldable pub fact : Walk → ℕ → ℕ → Does Ty
   unfolding key_ty and_then
   fact below p key = elim (key_ty p) [
-    | some ty ↦ do
+    | Some ty ↦ do
       below.check key ty
       return (Ty.leaf (Leaf.Fact p))
-    | none ↦ return (Ty.leaf (Leaf.Fact p))
+    | None ↦ return (Ty.leaf (Leaf.Fact p))
   ]
 
   -- `bind` and `deny` with a variable on the left; it is introduced before the right side is inferred.
@@ -556,7 +555,7 @@ module _ (schema : Schema) (nodes : List Node) where
     left ← below.infer lhs
     right ← below.infer rhs
     failed ← unify right left
-    elim failed [ some err ↦ report rhs err | none ↦ compare_order lhs left ]
+    elim failed [ Some err ↦ report rhs err | None ↦ compare_order lhs left ]
 
   unfoldable pub generate : Walk → ℕ → Does (Unit {0})
   unfolding and_then
@@ -637,8 +636,8 @@ module _ (schema : Schema) (nodes : List Node) where
     inferred ← infer_at below id
     failed ← unify inferred expected
     elim failed [
-      | none ↦ return tt
-      | some err ↦ do
+      | None ↦ return tt
+      | Some err ↦ do
         rollback at
         report id err
     ]
@@ -656,8 +655,8 @@ module _ (schema : Schema) (nodes : List Node) where
   -- An unknown field is reported at the value, which stays unvisited.
   unfoldable pub check_mentioned : Walk → Field → Option (ℕ × Ty) → Does (Unit {0})
   unfolding check_field reject
-  check_mentioned below f (some field) = check_field below f.value field.1
-  check_mentioned below f none = reject f.value (Message.no_field f.name)
+  check_mentioned below f (Some field) = check_field below f.value field.1
+  check_mentioned below f None = reject f.value (Message.no_field f.name)
 
   -- Only the fields that the pattern mentions are checked.
   unfoldable pub check_fields : Walk → List Field → Row → Does (Unit {0})
@@ -671,10 +670,10 @@ module _ (schema : Schema) (nodes : List Node) where
   unfoldable pub check_alternative : Walk → ℕ → Field → Row → Does (Unit {0})
   unfolding find_label annotate reject and_then
   check_alternative below id f row = elim (find_label f.name row) [
-    | some payload ↦ do
+    | Some payload ↦ do
       below.check f.value payload
       annotate id (Ty.node Kind.Union row)
-    | none ↦ reject id (Message.no_alternative f.name)
+    | None ↦ reject id (Message.no_alternative f.name)
   ]
 
   unfoldable pub check_union : Walk → ℕ → List Field → Row → Does (Unit {0})
@@ -797,7 +796,7 @@ pub data Checked : Type 0 where
 -- No unknown, no diagnostic, and so many visits.
 unfoldable pub begin_until : Until → ℕ → ℕ → Checker
 begin_until until ceiling n = record {
-  state = record { subst = []; tys = replicate n none; undo = []; left = ceiling; history = History.start };
+  state = record { subst = []; tys = replicate n None; undo = []; left = ceiling; history = History.start };
   env = [];
   diagnostics = [];
   entries = [];
@@ -811,8 +810,8 @@ unfolding begin_until
 begin ceiling n = begin_until the_end ceiling n
 
 unfoldable pub zonked : State → Option Ty → Option Ty
-zonked st none = none
-zonked st (some ty) = some (Bindings.zonk st.subst ty)
+zonked st None = None
+zonked st (Some ty) = Some (Bindings.zonk st.subst ty)
 
 unfoldable pub reversed : {A : Type 0} → List A → List A → List A
 reversed [] done = done

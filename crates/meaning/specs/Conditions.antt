@@ -1,7 +1,6 @@
 -- Document 01, "When a file is turned down": conditions 3 to 10 of a line and 13 of card 3, each by itself, and their order. They are tests of what a
 -- line says; Means.antt has what that is, and `obeys` and `no_condition` in proofs/Conditions.antt say what a frame obeys that meets none.
-use Rattle.std.specs.Prelude.{Bool, true, false, not, ◌||◌, List, [], ◌∷◌, ℕ, eqb, leb, ltb, length}
-use Rattle.std.proofs.Math.Option.{Option, none, some}
+use Rattle.std.specs.Prelude.{Bool, true, false, not, ◌||◌, List, [], ◌∷◌, ℕ, eqb, leb, ltb, length, None, Option, Some}
 use Rattle.text.specs.Utf8.{characters, both}
 use Rattle.meaning.specs.Refusal.{Refusal, malformed_line, misplaced_kind, too_many, malformed_frame, broken_text, name_given_before, bad_reference, repeated_key, too_many_queries}
 use Rattle.meaning.specs.Frame.{Kind, limits, name, schema_type, predicate, node, query, may_stand, Frame, frame_kind}
@@ -120,7 +119,7 @@ of_frame test (frames f) = test f
 
 unfoldable pub broken : List ℕ → Bool
 unfolding characters
-broken s = elim (characters s) [ none ↦ true | some n ↦ false ]
+broken s = elim (characters s) [ None ↦ true | Some n ↦ false ]
 
 -- 7: "text breaks the rule"
 unfoldable pub is_broken_text : SoFar → Said → Bool
@@ -173,5 +172,5 @@ conditions =
 
 -- the first that holds of a line
 unfoldable pub first_of : List Condition → SoFar → Said → Option Refusal
-first_of [] so l = none
-first_of (c ∷ cs) so l = elim (c.holds so l) [ true ↦ some c.refusal | false ↦ first_of cs so l ]
+first_of [] so l = None
+first_of (c ∷ cs) so l = elim (c.holds so l) [ true ↦ Some c.refusal | false ↦ first_of cs so l ]

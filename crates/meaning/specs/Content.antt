@@ -1,8 +1,7 @@
 -- Document 01, "Frame lines", from the writer's side: what a file holds, kind by kind, the rules that this obeys, how it is written, and the
 -- schema and trees that it describes. `says_exactly` in proofs/Content.antt: the files that pass 2 to 10 and 13 are exactly these, and describe that.
 use mathlib.Core.List.{List, [], ◌∷◌, ◌++◌, map, flat_map}
-use Rattle.std.proofs.Math.Option.{Option}
-use Rattle.std.specs.Prelude.{◌≡◌, ℕ, suc, ◌<◌, ◌≤◌, length}
+use Rattle.std.specs.Prelude.{◌≡◌, ℕ, suc, ◌<◌, ◌≤◌, length, Option}
 use Rattle.text.specs.Utf8.{Text, characters}
 use Rattle.unification.specs.Ty.{Ty}
 use Rattle.meaning.specs.Syntax.{Ast}

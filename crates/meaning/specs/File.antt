@@ -1,7 +1,6 @@
 -- Document 01, "Frame lines" and "When a file is turned down": what a file describes, and refusals 2 to 10 and 13. "1, 2, then lines in file
 -- order, in each the lowest number, then the missing 06".
-use Rattle.std.specs.Prelude.{Bool, true, false, List, [], ◌∷◌, map, ℕ, ltb, length, get_or}
-use Rattle.std.proofs.Math.Option.{Option, none, some}
+use Rattle.std.specs.Prelude.{Bool, true, false, List, [], ◌∷◌, map, ℕ, ltb, length, get_or, None, Option, Some}
 use Rattle.text.specs.Utf8.{characters}
 use Rattle.unification.specs.Ty.{Ty}
 use Rattle.meaning.specs.Syntax.{Ast}
@@ -39,8 +38,8 @@ unfolding view_of no_ast
 view_at f k = view_of f (get_or f.queries k no_ast)
 
 unfoldable pub count_of : Option ℕ → ℕ
-count_of none = 0
-count_of (some n) = n
+count_of None = 0
+count_of (Some n) = n
 
 -- `VALUE_FIELD` of lower.rs
 unfoldable pub value_text : List ℕ
@@ -68,19 +67,19 @@ pub data Reading : Type 0 where
 -- 4: "file ends without 06"; card 3: "06 must still be last"
 unfoldable pub at_end : SoFar → Option Kind → Reading
 unfolding describe
-at_end so none = refused misplaced_kind
-at_end so (some limits) = refused misplaced_kind
-at_end so (some name) = refused misplaced_kind
-at_end so (some schema_type) = refused misplaced_kind
-at_end so (some predicate) = refused misplaced_kind
-at_end so (some node) = refused misplaced_kind
-at_end so (some query) = described (describe so)
+at_end so None = refused misplaced_kind
+at_end so (Some limits) = refused misplaced_kind
+at_end so (Some name) = refused misplaced_kind
+at_end so (Some schema_type) = refused misplaced_kind
+at_end so (Some predicate) = refused misplaced_kind
+at_end so (Some node) = refused misplaced_kind
+at_end so (Some query) = described (describe so)
 
 -- line after line
 unfoldable pub read_from : SoFar → List Said → Reading
 unfolding first_of conditions after at_end
 read_from so [] = at_end so so.previous
-read_from so (l ∷ ls) = elim (first_of conditions so l) [ some r ↦ refused r | none ↦ read_from (after so l) ls ]
+read_from so (l ∷ ls) = elim (first_of conditions so l) [ Some r ↦ refused r | None ↦ read_from (after so l) ls ]
 
 unfoldable pub max_file : ℕ
 max_file = 65536

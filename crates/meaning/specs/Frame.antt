@@ -1,8 +1,6 @@
 -- Document 01, "Frame lines": the six kinds, which may follow which, and what each kind holds, in either edition of card 6. A reference is a
 -- number here, whatever it refers to. What is no frame meets condition 6: "unknown shape, flag or statement byte, or frame length wrong for it".
-use Rattle.std.specs.Prelude.{Bool, true, false, List, [], ◌∷◌, ℕ, zero, suc, ◌+◌, ◌*◌, eqb, ltb, length, get_or}
-use Rattle.std.proofs.Math.Option.{Option, none, some}
-use Rattle.std.proofs.Math.ListN.{get_elem?}
+use Rattle.std.specs.Prelude.{Bool, true, false, List, [], ◌∷◌, ℕ, zero, suc, ◌+◌, ◌*◌, eqb, ltb, length, get_or, None, Option, Some, slice_get}
 use Rattle.unification.specs.Ty.{Leaf, Int, String, Bytes, Fact}
 use Rattle.meaning.specs.Syntax.{Field, QueryStmt, Query, FieldRef, Literal, ExprKind, Node}
 
@@ -24,7 +22,7 @@ kind_byte node = 0x05
 kind_byte query = 0x06
 
 unfoldable pub kind_of : ℕ → Option Kind
-kind_of b = get_or (none ∷ some limits ∷ some name ∷ some schema_type ∷ some predicate ∷ some node ∷ some query ∷ []) b none
+kind_of b = get_or (None ∷ Some limits ∷ Some name ∷ Some schema_type ∷ Some predicate ∷ Some node ∷ Some query ∷ []) b None
 
 -- Limits stand exactly once, and no query follows a query.
 unfoldable pub repeatable : Kind → Bool
@@ -48,8 +46,8 @@ follows p k = elim (eqb (kind_byte p) (kind_byte query)) [ true ↦ eqb (kind_by
 -- A frame of this kind may stand after one of that kind, if any: the first is the limits.
 unfoldable pub may_stand : Option Kind → Kind → Bool
 unfolding follows kind_byte
-may_stand none k = eqb (kind_byte k) (kind_byte limits)
-may_stand (some p) k = follows p k
+may_stand None k = eqb (kind_byte k) (kind_byte limits)
+may_stand (Some p) k = follows p k
 
 -- ---- Frames
 
@@ -140,14 +138,14 @@ unfolding many_in
 many r s = many_in (length s) r s
 
 unfoldable pub entry : {A : Type 0} → Option (Reader A) → Reader A
-entry none s = fails
-entry (some r) s = r s
+entry None s = fails
+entry (Some r) s = r s
 
 -- A byte says how to go on: it is a place in the table.
 unfoldable pub choice : {A : Type 0} → List (Reader A) → Reader A
 unfolding entry
 choice table [] = fails
-choice table (b ∷ s) = entry (get_elem? table b) s
+choice table (b ∷ s) = entry (slice_get table b) s
 
 -- ---- The grammar
 
@@ -181,7 +179,7 @@ type_shapes e =
 -- 00 none, 01 one
 unfoldable pub value_types : List (Reader (Option ℕ))
 unfolding nothing one two
-value_types = nothing none ∷ one some two ∷ []
+value_types = nothing None ∷ one Some two ∷ []
 
 unfoldable pub statements : List (Reader QueryStmt)
 unfolding one pair two
@@ -242,9 +240,9 @@ frame e query = one the_query head_and_body
 
 -- a frame has no byte left over
 unfoldable pub whole : {A : Type 0} → Got A → Option A
-whole (got a []) = some a
-whole (got a (b ∷ s)) = none
-whole fails = none
+whole (got a []) = Some a
+whole (got a (b ∷ s)) = None
+whole fails = None
 
 -- The frame that a kind's content is; none where condition 6 is met.
 unfoldable pub frame_of : Edition → Kind → List ℕ → Option Frame

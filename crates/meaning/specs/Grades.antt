@@ -1,7 +1,6 @@
 -- What a step of the checker may make. A grade says how often each node may be annotated, how many unknowns and how many diagnostics a step may
 -- make; the grades of steps add up.
-use Rattle.std.specs.Prelude.{true, false, List, ◌≡◌, ℕ, ◌+◌, ◌-◌, ◌*◌, ◌≤◌, ◌<◌, length, get_or}
-use Rattle.std.proofs.Math.Option.{none, some}
+use Rattle.std.specs.Prelude.{true, false, List, ◌≡◌, ℕ, ◌+◌, ◌-◌, ◌*◌, ◌≤◌, ◌<◌, length, get_or, None, Some}
 use Rattle.unification.specs.Ty.{Ty}
 use Rattle.unification.specs.Calls.{Side}
 use Rattle.unification.specs.Log.{Log}
@@ -46,14 +45,14 @@ pub record Orderly (c : Checker) : Type 0 where
   pub env : All (λ e. e.unknown < unknowns c) c.env
   pub few : length c.env + length c.unused ≤ unknowns c
   pub marks : length c.marks ≤ marks_below c.marks (unknowns c)
-  pub sides : (n : ℕ) (t : Ty) → get_or c.state.tys n none ≡ some t → Side (unknowns c) t
+  pub sides : (n : ℕ) (t : Ty) → get_or c.state.tys n None ≡ Some t → Side (unknowns c) t
   pub awaits : NotYet c.until c.diagnostics c.entries
 
 -- The nodes of a grade exist, have no type yet, and are each annotated at most once.
 pub record Ready (g : Grade) (c : Checker) : Type 0 where
   pub once : (x : ℕ) → g.nodes x ≤ 1
   pub there : (x : ℕ) → 0 < g.nodes x → x < length c.state.tys
-  pub bare : (x : ℕ) → 0 < g.nodes x → get_or c.state.tys x none ≡ none
+  pub bare : (x : ℕ) → 0 < g.nodes x → get_or c.state.tys x None ≡ None
 
 -- ---- Grades of one thing
 abbrev pub no_thing : Grade
@@ -70,7 +69,7 @@ one_node n = record { nodes = λ x. same x n; unknowns = 0; diagnostics = 0 }
 
 -- The environment has this variable.
 abbrev pub Known : ℕ → Checker → Type 0
-Known x c = (e : Entry) × (lookup_in c.env x ≡ some e)
+Known x c = (e : Entry) × (lookup_in c.env x ≡ Some e)
 
 -- ---- Grades of visits
 

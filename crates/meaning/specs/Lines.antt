@@ -1,7 +1,6 @@
 -- Document 01, "Frame lines": "A file is lines of lower-case hexadecimal, one frame a line, each closed by LF"; and condition 3 of
 -- "When a file is turned down": "line empty, odd, other characters, over 512 bytes decoded, or without LF".
-use Rattle.std.specs.Prelude.{Bool, true, false, List, [], ◌∷◌, ℕ, ◌+◌, ◌*◌, eqb, leb, length}
-use Rattle.std.proofs.Math.Option.{Option, none, some}
+use Rattle.std.specs.Prelude.{Bool, true, false, List, [], ◌∷◌, ℕ, ◌+◌, ◌*◌, eqb, leb, length, None, Option, Some}
 use Rattle.text.specs.Utf8.{one_more}
 use Rattle.meaning.specs.Diag.{ascii}
 
@@ -27,8 +26,8 @@ lines (b ∷ s) = elim (eqb b LF) [ true ↦ closed [] ∷ lines s | false ↦ i
 
 -- where in the list the first element stands that passes the test
 unfoldable pub position : {A : Type 0} → (A → Bool) → List A → Option ℕ
-position test [] = none
-position test (a ∷ l) = elim (test a) [ true ↦ some 0 | false ↦ one_more (position test l) ]
+position test [] = None
+position test (a ∷ l) = elim (test a) [ true ↦ Some 0 | false ↦ one_more (position test l) ]
 
 -- A digit's value is its place here.
 unfoldable pub digits : List ℕ
@@ -41,16 +40,16 @@ digit c = position (eqb c) digits
 
 -- the byte of two digits, in front of the bytes after it
 unfoldable pub pair : Option ℕ → Option ℕ → Option (List ℕ) → Option (List ℕ)
-pair (some h) (some l) (some s) = some ((h * 16 + l) ∷ s)
-pair (some h) (some l) none = none
-pair (some h) none s = none
-pair none l s = none
+pair (Some h) (Some l) (Some s) = Some ((h * 16 + l) ∷ s)
+pair (Some h) (Some l) None = None
+pair (Some h) None s = None
+pair None l s = None
 
 -- none where the number of characters is odd or one is no digit
 unfoldable pub decoded : List ℕ → Option (List ℕ)
 unfolding pair digit
-decoded [] = some []
-decoded (h ∷ []) = none
+decoded [] = Some []
+decoded (h ∷ []) = None
 decoded (h ∷ l ∷ s) = pair (digit h) (digit l) (decoded s)
 
 -- ---- Condition 3
@@ -60,16 +59,16 @@ unfoldable pub max_bytes : ℕ
 max_bytes = 512
 
 unfoldable pub at_most : ℕ → List ℕ → Option (List ℕ)
-at_most n s = elim (leb (length s) n) [ true ↦ some s | false ↦ none ]
+at_most n s = elim (leb (length s) n) [ true ↦ Some s | false ↦ None ]
 
 unfoldable pub some_bytes : Option (List ℕ) → Option (List ℕ)
 unfolding at_most max_bytes
-some_bytes none = none
-some_bytes (some []) = none
-some_bytes (some (b ∷ s)) = at_most max_bytes (b ∷ s)
+some_bytes None = None
+some_bytes (Some []) = None
+some_bytes (Some (b ∷ s)) = at_most max_bytes (b ∷ s)
 
 -- What a line holds; none where condition 3 is met.
 unfoldable pub bytes_of : Line → Option (List ℕ)
 unfolding some_bytes decoded
 bytes_of (closed s) = some_bytes (decoded s)
-bytes_of (unclosed s) = none
+bytes_of (unclosed s) = None

@@ -1,9 +1,7 @@
 -- The text of each message: ty.rs, "diagnostics", `render`, `name_of`, and the texts where they are reported. Names stand as the file has
 -- them; numbers are decimal.
-use Rattle.std.specs.Prelude.{true, false, ℕ, zero, suc, ◌+◌, ◌/◌, ◌%◌, ltb}
+use Rattle.std.specs.Prelude.{true, false, ℕ, zero, suc, ◌+◌, ◌/◌, ◌%◌, ltb, None, Option, Some, slice_get}
 use mathlib.Core.List.{List, [], ◌∷◌, ◌++◌}
-use Rattle.std.proofs.Math.Option.{Option, none, some}
-use Rattle.std.proofs.Math.ListN.{get_elem?}
 use Rattle.unification.specs.Ty.{Leaf, Kind, Ty, Row}
 use Rattle.unification.specs.Unify.{UnionDiff}
 use Rattle.meaning.specs.Schema.{Schema, get}
@@ -29,25 +27,25 @@ dash = 32 ∷ 0xe2 ∷ 0x80 ∷ 0x94 ∷ 32 ∷ []
 
 -- `unwrap_or("?")`
 unfoldable pub or_mark : Option (List ℕ) → List ℕ
-or_mark none = 63 ∷ []
-or_mark (some s) = s
+or_mark None = 63 ∷ []
+or_mark (Some s) = s
 
 -- A fact's predicate by its name, where it has one.
 unfoldable pub or_fact : Option (List ℕ) → List ℕ
 unfolding quoted ascii
-or_fact none = ascii "a fact"
-or_fact (some s) = quoted s
+or_fact None = ascii "a fact"
+or_fact (Some s) = quoted s
 
 module _ (names : List (List ℕ)) (schema : Schema) where
   -- `name_of`
   unfoldable pub name_of : ℕ → List ℕ
   unfolding or_mark
-  name_of x = or_mark (get_elem? names x)
+  name_of x = or_mark (slice_get names x)
 
   -- `self.schema.get(predicate).and_then(|p| p.name())`
   unfoldable pub fact_name : ℕ → Option (List ℕ)
   unfolding get
-  fact_name p = elim (get schema p) [ none ↦ none | some d ↦ get_elem? names d.name ]
+  fact_name p = elim (get schema p) [ None ↦ None | Some d ↦ slice_get names d.name ]
 
   -- ---- `render`, which follows no binding
 

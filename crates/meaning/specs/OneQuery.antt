@@ -1,7 +1,6 @@
 -- The call before card 3 of 02-change-requests.md: one query, nothing after it, and no 13. A name that ends in `Before` is what the one without it
 -- was; what did not move is used as it stands. `as_before` in proofs/OneQuery.antt says what the card keeps.
-use Rattle.std.specs.Prelude.{Bool, true, false, not, List, [], ◌∷◌, ◌++◌, map, ◌≢◌, ℕ, eqb, ltb}
-use Rattle.std.proofs.Math.Option.{Option, none, some}
+use Rattle.std.specs.Prelude.{Bool, true, false, not, List, [], ◌∷◌, ◌++◌, map, ◌≢◌, ℕ, eqb, ltb, None, Option, Some}
 use Rattle.unification.specs.Ty.{Ty}
 use Rattle.meaning.specs.Syntax.{Query, Node}
 use Rattle.meaning.specs.Schema.{Predicate}
@@ -30,16 +29,16 @@ pub record SoFarBefore : Type 0 where
   pub query : Option Query
 
 unfoldable pub start_before : SoFarBefore
-start_before = record { previous = none; max_distance = 0; max_term_chars = 0; names = []; types = []; predicates = []; nodes = []; named = []; query = none }
+start_before = record { previous = None; max_distance = 0; max_term_chars = 0; names = []; types = []; predicates = []; nodes = []; named = []; query = None }
 
 unfoldable pub add_before : SoFarBefore → Frame → SoFarBefore
 unfolding ty_of predicate_of expr_nodes query_nodes
-add_before so (the_limits d t) = record { previous = some limits; max_distance = d; max_term_chars = t; names = so.names; types = so.types; predicates = so.predicates; nodes = so.nodes; named = so.named; query = so.query }
-add_before so (a_name s) = record { previous = some name; max_distance = so.max_distance; max_term_chars = so.max_term_chars; names = so.names ++ s ∷ []; types = so.types; predicates = so.predicates; nodes = so.nodes; named = so.named; query = so.query }
-add_before so (a_type t) = record { previous = some schema_type; max_distance = so.max_distance; max_term_chars = so.max_term_chars; names = so.names; types = so.types ++ ty_of so.types t ∷ []; predicates = so.predicates; nodes = so.nodes; named = so.named; query = so.query }
-add_before so (a_predicate n k v) = record { previous = some predicate; max_distance = so.max_distance; max_term_chars = so.max_term_chars; names = so.names; types = so.types; predicates = so.predicates ++ predicate_of so.types n k v ∷ []; nodes = so.nodes; named = so.named; query = so.query }
-add_before so (a_node n) = record { previous = some node; max_distance = so.max_distance; max_term_chars = so.max_term_chars; names = so.names; types = so.types; predicates = so.predicates; nodes = so.nodes ++ n ∷ []; named = so.named ++ expr_nodes n.kind; query = so.query }
-add_before so (the_query q) = record { previous = some query; max_distance = so.max_distance; max_term_chars = so.max_term_chars; names = so.names; types = so.types; predicates = so.predicates; nodes = so.nodes; named = so.named ++ query_nodes q; query = some q }
+add_before so (the_limits d t) = record { previous = Some limits; max_distance = d; max_term_chars = t; names = so.names; types = so.types; predicates = so.predicates; nodes = so.nodes; named = so.named; query = so.query }
+add_before so (a_name s) = record { previous = Some name; max_distance = so.max_distance; max_term_chars = so.max_term_chars; names = so.names ++ s ∷ []; types = so.types; predicates = so.predicates; nodes = so.nodes; named = so.named; query = so.query }
+add_before so (a_type t) = record { previous = Some schema_type; max_distance = so.max_distance; max_term_chars = so.max_term_chars; names = so.names; types = so.types ++ ty_of so.types t ∷ []; predicates = so.predicates; nodes = so.nodes; named = so.named; query = so.query }
+add_before so (a_predicate n k v) = record { previous = Some predicate; max_distance = so.max_distance; max_term_chars = so.max_term_chars; names = so.names; types = so.types; predicates = so.predicates ++ predicate_of so.types n k v ∷ []; nodes = so.nodes; named = so.named; query = so.query }
+add_before so (a_node n) = record { previous = Some node; max_distance = so.max_distance; max_term_chars = so.max_term_chars; names = so.names; types = so.types; predicates = so.predicates; nodes = so.nodes ++ n ∷ []; named = so.named ++ expr_nodes n.kind; query = so.query }
+add_before so (the_query q) = record { previous = Some query; max_distance = so.max_distance; max_term_chars = so.max_term_chars; names = so.names; types = so.types; predicates = so.predicates; nodes = so.nodes; named = so.named ++ query_nodes q; query = Some q }
 
 unfoldable pub after_before : SoFarBefore → Said → SoFarBefore
 unfolding add_before
@@ -55,8 +54,8 @@ as_now so = record { previous = so.previous; max_distance = so.max_distance; max
 -- "The kinds never fall, and one that stands once does not follow itself. So nothing follows the query."
 unfoldable pub may_stand_before : Option Kind → Kind → Bool
 unfolding rises kind_byte
-may_stand_before none k = eqb (kind_byte k) (kind_byte limits)
-may_stand_before (some p) k = rises p k
+may_stand_before None k = eqb (kind_byte k) (kind_byte limits)
+may_stand_before (Some p) k = rises p k
 
 unfoldable pub is_misplaced_before : SoFar → Said → Bool
 unfolding may_stand_before frame_kind
@@ -88,13 +87,13 @@ describe_before so q = record { names = so.names; schema = schema_of (as_now so)
 
 unfoldable pub at_end_before : SoFarBefore → Option Query → ReadingBefore
 unfolding describe_before
-at_end_before so none = refused_before misplaced_kind
-at_end_before so (some q) = described_before (describe_before so q)
+at_end_before so None = refused_before misplaced_kind
+at_end_before so (Some q) = described_before (describe_before so q)
 
 unfoldable pub read_from_before : SoFarBefore → List Said → ReadingBefore
 unfolding first_of conditions_before as_now after_before at_end_before
 read_from_before so [] = at_end_before so so.query
-read_from_before so (l ∷ ls) = elim (first_of conditions_before (as_now so) l) [ some r ↦ refused_before r | none ↦ read_from_before (after_before so l) ls ]
+read_from_before so (l ∷ ls) = elim (first_of conditions_before (as_now so) l) [ Some r ↦ refused_before r | None ↦ read_from_before (after_before so l) ls ]
 
 unfoldable pub reading_before : List ℕ → ReadingBefore
 unfolding is_too_long read_from_before start_before said lines
@@ -122,13 +121,13 @@ outcome_before file words bytes = finish (decide_before file words) words bytes
 
 -- the kind of a line that has one
 abbrev pub kind_in : Said → Option Kind
-kind_in malformed = none
-kind_in unknown_kind = none
-kind_in (no_frame k) = some k
-kind_in (frames f) = some (frame_kind f)
+kind_in malformed = None
+kind_in unknown_kind = None
+kind_in (no_frame k) = Some k
+kind_in (frames f) = Some (frame_kind f)
 
 -- No line but the last is a 06 line.
 abbrev pub QueryLast : List Said → Type 0
 QueryLast [] = Unit {0}
 QueryLast (l ∷ []) = Unit {0}
-QueryLast (l ∷ m ∷ ls) = (kind_in l ≢ some query) × QueryLast (m ∷ ls)
+QueryLast (l ∷ m ∷ ls) = (kind_in l ≢ Some query) × QueryLast (m ∷ ls)

@@ -1,8 +1,7 @@
 -- The whole call (document 01, "When a file is turned down"; "Contract and case"): the outcome and both slices at exit,
 -- from the file and the lengths of the two slices alone. "1, 2, then lines in file order, in each the lowest number, then
 -- the missing 06, then 11, then 12. After a refusal both slices are zero throughout."
-use Rattle.std.specs.Prelude.{true, false, List, [], ◌∷◌, ◌++◌, ℕ, ◌-◌, ltb, length, replicate}
-use Rattle.std.proofs.Math.Option.{Option, none, some}
+use Rattle.std.specs.Prelude.{true, false, List, [], ◌∷◌, ◌++◌, ℕ, ◌-◌, ltb, length, replicate, None, Option, Some}
 use Rattle.meaning.specs.Syntax.{Ast}
 use Rattle.meaning.specs.Schema.{Schema}
 use Rattle.meaning.specs.Refusal.{Refusal, work_too_short, too_many_visits, answer_too_long, number}
@@ -25,20 +24,20 @@ pub data Decided : Type 0 where
   answered : List ℕ → Decided
 
 unfoldable pub with_checked : Checked → Option (List Typed) → Option (List Typed)
-with_checked exhausted ts = none
-with_checked (typed t) none = none
-with_checked (typed t) (some ts) = some (t ∷ ts)
+with_checked exhausted ts = None
+with_checked (typed t) None = None
+with_checked (typed t) (Some ts) = Some (t ∷ ts)
 
 -- Each query's run, from no node, no unknown and no visit; none where one of them runs out of visits.
 unfoldable pub run_all : Schema → List Ast → Option (List Typed)
 unfolding with_checked check max_visits
-run_all schema [] = some []
+run_all schema [] = Some []
 run_all schema (a ∷ more) = with_checked (check max_visits schema a) (run_all schema more)
 
 unfoldable pub decide_run : (Message → List ℕ) → Option (List Typed) → Decided
 unfolding form_lines
-decide_run text none = turned_down too_many_visits
-decide_run text (some ts) = answered (form_lines text ts)
+decide_run text None = turned_down too_many_visits
+decide_run text (Some ts) = answered (form_lines text ts)
 
 -- "All lines are read before the first query runs, and one refusal turns down the whole file."
 unfoldable pub decide_read : Reading → Decided

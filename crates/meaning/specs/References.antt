@@ -1,7 +1,6 @@
 -- What a frame refers to, gives and may not repeat: document 01, "When a file is turned down", conditions 7 to 10. References to
 -- predicates are left out, since they "need not exist".
-use Rattle.std.specs.Prelude.{List, [], ◌∷◌, map, ℕ}
-use Rattle.std.proofs.Math.Option.{Option, none, some}
+use Rattle.std.specs.Prelude.{List, [], ◌∷◌, map, ℕ, None, Option, Some}
 use Rattle.meaning.specs.Syntax.{Field, QueryStmt, Query, FieldRef, ExprKind}
 use Rattle.meaning.specs.Frame.{TypeShape, a_leaf, a_record, a_union, Frame, the_limits, a_name, a_type, a_predicate, a_node, the_query}
 
@@ -24,8 +23,8 @@ shape_types (a_record fs) = field_values fs
 shape_types (a_union alts) = map (λ a. a.type) alts
 
 unfoldable pub optional : Option ℕ → List ℕ
-optional none = []
-optional (some n) = n ∷ []
+optional None = []
+optional (Some n) = n ∷ []
 
 unfoldable pub stmt_nodes : List QueryStmt → List ℕ
 stmt_nodes [] = []

@@ -2,8 +2,7 @@
 -- missing 06", for 2 to 10 and 13. `refused_when` in proofs/Refused.antt says that `reading_of` refuses exactly so. A condition is a test of what a
 -- line says (Conditions.antt); `means` in proofs/Means.antt says what that is without the reader: 3 where the line is `Malformed`, 6 where no
 -- frame of its kind is written so; `line_Refused` and `Frame-refused` in proofs/Reasons.antt have both of a whole call.
-use Rattle.std.specs.Prelude.{true, false, List, [], ◌∷◌, ◌++◌, map, ◌≢◌, ◌≡◌, ℕ, ◌<◌, ◌≤◌, length}
-use Rattle.std.proofs.Math.Option.{some}
+use Rattle.std.specs.Prelude.{true, false, List, [], ◌∷◌, ◌++◌, map, ◌≢◌, ◌≡◌, ℕ, ◌<◌, ◌≤◌, length, Some}
 use Rattle.text.specs.Utf8.{Text}
 use Rattle.meaning.specs.Refusal.{Refusal, file_too_long, misplaced_kind}
 use Rattle.meaning.specs.Lines.{lines}
@@ -36,7 +35,7 @@ pub record AtLine (so : SoFar) (ls : List Said) (i : Refusal) : Type 0 where
 pub data Refused (e : Edition) (file : List ℕ) : Refusal → Type 0 where
   too_long : max_file < length file → Refused e file file_too_long
   at_line : {i : Refusal} → length file ≤ max_file → AtLine start (map (said e) (lines file)) i → Refused e file i
-  missing_query : (end : SoFar) → length file ≤ max_file → Pass start (map (said e) (lines file)) end → end.previous ≢ some Kind.query → Refused e file misplaced_kind
+  missing_query : (end : SoFar) → length file ≤ max_file → Pass start (map (said e) (lines file)) end → end.previous ≢ Some Kind.query → Refused e file misplaced_kind
 
 -- 7 in full: lines that pass, and then a name that may stand there, is not one too many, and whose text is not in RFC 3629's grammar.
 pub record BrokenText (e : Edition) (file : List ℕ) : Type 0 where

@@ -1,6 +1,5 @@
 -- The run of `check` as a list of demand 3's calls (document 01, "What demand 3 speaks of").
-use Rattle.std.specs.Prelude.{List, [], ◌≡◌, ℕ, ◌≤◌, length, replicate}
-use Rattle.std.proofs.Math.Option.{Option, none}
+use Rattle.std.specs.Prelude.{List, [], ◌≡◌, ℕ, ◌≤◌, length, replicate, None, Option}
 use Rattle.unification.specs.Ty.{Ty}
 use Rattle.unification.specs.Bindings.{State}
 use Rattle.unification.specs.Unify.{Spent, unify}
@@ -46,7 +45,7 @@ run schema ast ceiling = query schema ast.nodes ast.query (begin ceiling (length
 -- Demand 3 of the run: it is a list of calls, and the clauses hold at its end and, by the history, at every moment of it, (d) of every
 -- rollback among them; whether the run goes to its end or passes the visit limit.
 pub record RunDemand3 (schema : Schema) (ast : Ast) (ceiling : ℕ) : Type 0 where
-  pub calls : Led ceiling (replicate (length ast.nodes) none) (ending (run schema ast ceiling)).state
+  pub calls : Led ceiling (replicate (length ast.nodes) None) (ending (run schema ast ceiling)).state
   pub claim : Claim Assignment (ending (run schema ast ceiling)).state
 
 -- Of every unification of the run, inner ones too, that demand 3's proviso admits: success found a most general unifier of the sides

@@ -1,8 +1,6 @@
 -- The schema: schema.rs, `Predicate`, `Schema::get`, `PredicateTyRef::find_field`. A declared type is a `Ty` without
 -- unknowns, as `schema_ty` of ty.rs makes it.
-use Rattle.std.specs.Prelude.{List, ℕ}
-use Rattle.std.proofs.Math.Option.{Option, none, some}
-use Rattle.std.proofs.Math.ListN.{get_elem?}
+use Rattle.std.specs.Prelude.{List, ℕ, None, Option, Some, slice_get}
 use Rattle.unification.specs.Ty.{Ty, leaf, node, Var, Error, Record, Union}
 use Rattle.unification.specs.Unify.{find_key}
 
@@ -22,13 +20,13 @@ pub record Schema : Type 0 where
 
 -- `Schema::get`: a predicate's position is its number.
 unfoldable pub get : Schema → ℕ → Option Predicate
-get s p = get_elem? s.predicates p
+get s p = slice_get s.predicates p
 
 -- `field_of` of ty.rs
 unfoldable pub field_of : Ty → ℕ → Option Ty
 unfolding find_key
-field_of (leaf p) n = none
-field_of (node Record r) n = elim (find_key n r) [ none ↦ none | some f ↦ some f.1 ]
-field_of (node Union r) n = none
-field_of (Var x) n = none
-field_of Error n = none
+field_of (leaf p) n = None
+field_of (node Record r) n = elim (find_key n r) [ None ↦ None | Some f ↦ Some f.1 ]
+field_of (node Union r) n = None
+field_of (Var x) n = None
+field_of Error n = None

@@ -1,8 +1,7 @@
 -- Document 01, "Frame lines": what one line says, what has been read so far, and what a frame adds to it. After a 06 line the nodes
 -- start anew (card 3: "Nodes, unknowns and visits start at 0 for each query").
 use mathlib.Core.List.{List, [], ◌∷◌, ◌++◌, map, flat_map}
-use Rattle.std.proofs.Math.Option.{Option, none, some}
-use Rattle.std.specs.Prelude.{ℕ, get_or}
+use Rattle.std.specs.Prelude.{ℕ, get_or, None, Option, Some}
 use Rattle.unification.specs.Ty.{Record, Union, Ty, leaf, Error, Row, ε, cell}
 use Rattle.meaning.specs.Syntax.{Field, Node, Ast}
 use Rattle.meaning.specs.Schema.{Predicate}
@@ -21,19 +20,19 @@ pub data Said : Type 0 where
   frames : Frame → Said
 
 unfoldable pub said_of : Kind → Option Frame → Said
-said_of k none = no_frame k
-said_of k (some f) = frames f
+said_of k None = no_frame k
+said_of k (Some f) = frames f
 
 unfoldable pub said_in : Edition → Option Kind → List ℕ → Said
 unfolding said_of frame_of
-said_in e none content = unknown_kind
-said_in e (some k) content = said_of k (frame_of e k content)
+said_in e None content = unknown_kind
+said_in e (Some k) content = said_of k (frame_of e k content)
 
 unfoldable pub said_by : Edition → Option (List ℕ) → Said
 unfolding said_in kind_of
-said_by e none = malformed
-said_by e (some []) = malformed
-said_by e (some (k ∷ content)) = said_in e (kind_of k) content
+said_by e None = malformed
+said_by e (Some []) = malformed
+said_by e (Some (k ∷ content)) = said_in e (kind_of k) content
 
 unfoldable pub said : Edition → Line → Said
 unfolding said_by bytes_of
@@ -70,7 +69,7 @@ pub record SoFar : Type 0 where
   pub queries : List Ast
 
 unfoldable pub start : SoFar
-start = record { previous = none; max_distance = 0; max_term_chars = 0; names = []; types = []; predicates = []; nodes = []; named = []; queries = [] }
+start = record { previous = None; max_distance = 0; max_term_chars = 0; names = []; types = []; predicates = []; nodes = []; named = []; queries = [] }
 
 -- ---- What a frame adds
 
@@ -96,8 +95,8 @@ ty_of ts (a_union alts) = Ty.node Union (alternative_row ts alts)
 
 unfoldable pub value_ty : List Ty → Option ℕ → Option Ty
 unfolding type_at
-value_ty ts none = none
-value_ty ts (some t) = some (type_at ts t)
+value_ty ts None = None
+value_ty ts (Some t) = Some (type_at ts t)
 
 unfoldable pub predicate_of : List Ty → ℕ → ℕ → Option ℕ → Predicate
 unfolding type_at value_ty
@@ -105,12 +104,12 @@ predicate_of ts n k v = record { name = n; key = type_at ts k; value = value_ty 
 
 unfoldable pub add : SoFar → Frame → SoFar
 unfolding ty_of predicate_of expr_nodes
-add so (the_limits d t) = record { previous = some limits; max_distance = d; max_term_chars = t; names = so.names; types = so.types; predicates = so.predicates; nodes = so.nodes; named = so.named; queries = so.queries }
-add so (a_name s) = record { previous = some name; max_distance = so.max_distance; max_term_chars = so.max_term_chars; names = so.names ++ s ∷ []; types = so.types; predicates = so.predicates; nodes = so.nodes; named = so.named; queries = so.queries }
-add so (a_type t) = record { previous = some schema_type; max_distance = so.max_distance; max_term_chars = so.max_term_chars; names = so.names; types = so.types ++ ty_of so.types t ∷ []; predicates = so.predicates; nodes = so.nodes; named = so.named; queries = so.queries }
-add so (a_predicate n k v) = record { previous = some predicate; max_distance = so.max_distance; max_term_chars = so.max_term_chars; names = so.names; types = so.types; predicates = so.predicates ++ predicate_of so.types n k v ∷ []; nodes = so.nodes; named = so.named; queries = so.queries }
-add so (a_node n) = record { previous = some node; max_distance = so.max_distance; max_term_chars = so.max_term_chars; names = so.names; types = so.types; predicates = so.predicates; nodes = so.nodes ++ n ∷ []; named = so.named ++ expr_nodes n.kind; queries = so.queries }
-add so (the_query q) = record { previous = some query; max_distance = so.max_distance; max_term_chars = so.max_term_chars; names = so.names; types = so.types; predicates = so.predicates; nodes = []; named = []; queries = so.queries ++ record { nodes = so.nodes; query = q } ∷ [] }
+add so (the_limits d t) = record { previous = Some limits; max_distance = d; max_term_chars = t; names = so.names; types = so.types; predicates = so.predicates; nodes = so.nodes; named = so.named; queries = so.queries }
+add so (a_name s) = record { previous = Some name; max_distance = so.max_distance; max_term_chars = so.max_term_chars; names = so.names ++ s ∷ []; types = so.types; predicates = so.predicates; nodes = so.nodes; named = so.named; queries = so.queries }
+add so (a_type t) = record { previous = Some schema_type; max_distance = so.max_distance; max_term_chars = so.max_term_chars; names = so.names; types = so.types ++ ty_of so.types t ∷ []; predicates = so.predicates; nodes = so.nodes; named = so.named; queries = so.queries }
+add so (a_predicate n k v) = record { previous = Some predicate; max_distance = so.max_distance; max_term_chars = so.max_term_chars; names = so.names; types = so.types; predicates = so.predicates ++ predicate_of so.types n k v ∷ []; nodes = so.nodes; named = so.named; queries = so.queries }
+add so (a_node n) = record { previous = Some node; max_distance = so.max_distance; max_term_chars = so.max_term_chars; names = so.names; types = so.types; predicates = so.predicates; nodes = so.nodes ++ n ∷ []; named = so.named ++ expr_nodes n.kind; queries = so.queries }
+add so (the_query q) = record { previous = Some query; max_distance = so.max_distance; max_term_chars = so.max_term_chars; names = so.names; types = so.types; predicates = so.predicates; nodes = []; named = []; queries = so.queries ++ record { nodes = so.nodes; query = q } ∷ [] }
 
 unfoldable pub after : SoFar → Said → SoFar
 unfolding add

@@ -1,8 +1,7 @@
 -- What holds of every file that passes 1 to 10 and 13 (document 01, "Frame lines"): "a node is named at most once", its parts stand before it,
 -- and no type repeats a field name or a discriminant.
 use mathlib.Core.List.{List, [], ◌∷◌, ◌++◌, flat_map}
-use Rattle.std.proofs.Math.Option.{Option, none, some}
-use Rattle.std.specs.Prelude.{◌≡◌, ℕ, suc, ◌≤◌, length}
+use Rattle.std.specs.Prelude.{◌≡◌, ℕ, suc, ◌≤◌, length, None, Option, Some}
 use Rattle.text.specs.Utf8.{Text}
 use Rattle.unification.specs.Ty.{Ty}
 use Rattle.unification.specs.Calls.{Declared}
@@ -16,8 +15,8 @@ use Rattle.meaning.specs.File.{Described}
 use Rattle.meaning.specs.All.{All, Distinct, Below}
 
 abbrev pub DeclaredOption : Option Ty → Type 0
-DeclaredOption none = Unit {0}
-DeclaredOption (some t) = Declared t
+DeclaredOption None = Unit {0}
+DeclaredOption (Some t) = Declared t
 
 abbrev pub DeclaredPredicate : Predicate → Type 0
 DeclaredPredicate p = Declared p.key × DeclaredOption p.value
@@ -57,8 +56,8 @@ pub record Kept (so : SoFar) : Type 0 where
   pub queries : All (LawfulQuery (length so.names)) so.queries
   pub queries_max : length so.queries ≤ max_queries
   -- after a 06 line there is a query, and no node of the next one
-  pub one_ended : so.previous ≡ some Kind.query → 1 ≤ length so.queries
-  pub closed : so.previous ≡ some Kind.query → so.nodes ≡ []
+  pub one_ended : so.previous ≡ Some Kind.query → 1 ≤ length so.queries
+  pub closed : so.previous ≡ Some Kind.query → so.nodes ≡ []
 
 -- The same of each query that a file describes, with the schema.
 pub record Sound (d : Described) : Type 0 where

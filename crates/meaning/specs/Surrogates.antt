@@ -1,8 +1,7 @@
 -- The call before card 2 of 02-change-requests.md: with the open grammar, which let the values d800 to dfff pass (crate text, Surrogates.antt), and
 -- all else as it stands. A name that ends in `Open` is the one without it, over that grammar. `answers_as_before` in proofs/Surrogates.antt says what
 -- the card keeps.
-use Rattle.std.specs.Prelude.{Bool, true, false, List, [], ◌∷◌, map, ℕ, ltb}
-use Rattle.std.proofs.Math.Option.{Option, none, some}
+use Rattle.std.specs.Prelude.{Bool, true, false, List, [], ◌∷◌, map, ℕ, ltb, None, Option, Some}
 use Rattle.text.specs.Surrogates.{HasSurrogate, characters_open}
 use Rattle.meaning.specs.All.{All}
 use Rattle.meaning.specs.Schema.{Schema}
@@ -17,7 +16,7 @@ use Rattle.meaning.specs.Outcome.{Decided, turned_down, decide_read, min_words, 
 
 unfoldable pub broken_open : List ℕ → Bool
 unfolding characters_open
-broken_open s = elim (characters_open s) [ none ↦ true | some n ↦ false ]
+broken_open s = elim (characters_open s) [ None ↦ true | Some n ↦ false ]
 
 unfoldable pub is_broken_open : SoFar → Said → Bool
 unfolding of_frame any_of broken_open texts_of
@@ -53,18 +52,18 @@ describe_open so = record { names = so.names; schema = schema_open so; queries =
 
 unfoldable pub at_end_open : SoFar → Option Kind → Reading
 unfolding describe_open
-at_end_open so none = refused misplaced_kind
-at_end_open so (some limits) = refused misplaced_kind
-at_end_open so (some name) = refused misplaced_kind
-at_end_open so (some schema_type) = refused misplaced_kind
-at_end_open so (some predicate) = refused misplaced_kind
-at_end_open so (some node) = refused misplaced_kind
-at_end_open so (some query) = described (describe_open so)
+at_end_open so None = refused misplaced_kind
+at_end_open so (Some limits) = refused misplaced_kind
+at_end_open so (Some name) = refused misplaced_kind
+at_end_open so (Some schema_type) = refused misplaced_kind
+at_end_open so (Some predicate) = refused misplaced_kind
+at_end_open so (Some node) = refused misplaced_kind
+at_end_open so (Some query) = described (describe_open so)
 
 unfoldable pub read_from_open : SoFar → List Said → Reading
 unfolding first_of conditions_open after at_end_open
 read_from_open so [] = at_end_open so so.previous
-read_from_open so (l ∷ ls) = elim (first_of conditions_open so l) [ some r ↦ refused r | none ↦ read_from_open (after so l) ls ]
+read_from_open so (l ∷ ls) = elim (first_of conditions_open so l) [ Some r ↦ refused r | None ↦ read_from_open (after so l) ls ]
 
 unfoldable pub reading_open : List ℕ → Reading
 unfolding is_too_long read_from_open start said lines

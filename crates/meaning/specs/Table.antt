@@ -2,8 +2,7 @@
 -- case, the list of "Contract and case", and the table of refusals but 11, whose row takes more visits than can be computed; our own; each
 -- message; forms of several queries. Each row is a file, the lengths of the two slices, what the program prints and, of an accepted file, its
 -- visits. Then whole outcomes: the result and both slices.
-use Rattle.std.specs.Prelude.{Bool, true, List, [], ◌∷◌, ◌++◌, ◌≡◌, ℕ, zero, suc, ◌+◌, ◌/◌, ◌%◌, eqb, replicate}
-use Rattle.std.proofs.Math.Option.{Option, none, some}
+use Rattle.std.specs.Prelude.{Bool, true, List, [], ◌∷◌, ◌++◌, ◌≡◌, ℕ, zero, suc, ◌+◌, ◌/◌, ◌%◌, eqb, replicate, None, Option, Some}
 use Prim.Native.String.{String}
 use Rattle.text.specs.Utf8.{both}
 use Rattle.meaning.specs.Diag.{ascii}
@@ -1268,9 +1267,9 @@ at_limits =
 
 -- of all queries together
 unfoldable pub visits_in : Option (List Typed) → ℕ
-visits_in none = 0
-visits_in (some []) = 0
-visits_in (some (t ∷ ts)) = t.visits + visits_in (some ts)
+visits_in None = 0
+visits_in (Some []) = 0
+visits_in (Some (t ∷ ts)) = t.visits + visits_in (Some ts)
 
 unfoldable pub visits_of : Reading → ℕ
 unfolding visits_in run_all

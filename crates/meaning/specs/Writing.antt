@@ -1,8 +1,7 @@
 -- Document 01, "Frame lines", from the writer's side: the bytes of a frame in an edition, the line that it is written as, and
 -- which frames can be written.
 use mathlib.Core.List.{List, [], ◌∷◌, ◌++◌, flat_map}
-use Rattle.std.proofs.Math.Option.{Option, none, some}
-use Rattle.std.specs.Prelude.{ℕ, ◌<◌, ◌≤◌, length}
+use Rattle.std.specs.Prelude.{ℕ, ◌<◌, ◌≤◌, length, None, Option, Some}
 use Rattle.unification.specs.Ty.{Int, String, Bytes, Fact}
 use Rattle.meaning.specs.Syntax.{Field, QueryStmt, Query, FieldRef, Literal, ExprKind, Node}
 use Rattle.meaning.specs.Lines.{max_bytes}
@@ -37,8 +36,8 @@ as_shape e (a_union alts) = 0x05 ∷ flat_map as_alternative alts
 
 unfoldable pub as_value_type : Option ℕ → List ℕ
 unfolding bytes₂
-as_value_type none = 0x00 ∷ []
-as_value_type (some t) = 0x01 ∷ bytes₂ t
+as_value_type None = 0x00 ∷ []
+as_value_type (Some t) = 0x01 ∷ bytes₂ t
 
 unfoldable pub as_statement : QueryStmt → List ℕ
 unfolding bytes₂
@@ -123,8 +122,8 @@ ShapeFits e (a_record fs) = All FieldFits fs
 ShapeFits e (a_union alts) = All AlternativeFits alts
 
 abbrev pub ValueTypeFits : Option ℕ → Type 0
-ValueTypeFits none = Unit {0}
-ValueTypeFits (some t) = InTwo t
+ValueTypeFits None = Unit {0}
+ValueTypeFits (Some t) = InTwo t
 
 abbrev pub StatementFits : QueryStmt → Type 0
 StatementFits (QueryStmt.Bind l r) = InTwo l × InTwo r

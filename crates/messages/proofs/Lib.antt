@@ -1,4 +1,3 @@
-pub mod Cut
 pub mod Showing
 pub mod Decimals
 pub mod Names

@@ -7,34 +7,29 @@ use native.Mathlib.Omega.{arith}
 use lib.Dec.{ltb}
 use lib.ListN.{length}
 use borrow.Author.Tests.{ltb-true, ltb-false}
-use types.Run.{OneOf, miss}
-use denote.Enum.Declared.{tag_of}
 use Rattle.unification.specs.Ty as Tree
 use Rattle.unification.specs.Ty.{Row, ε, cell, app_row}
 use Rattle.unification.specs.Bindings.{Subst, zonk}
 use Rattle.unification.proofs.Chain.{repr_resolved}
 use Rattle.unification.proofs.Zonk.{zonk_repr, zonk_leaf, zonk_error, zonk_node, zonk_unbound, zonk_replaces}
 use Rattle.cells.specs.declared.Ty.{Ty}
-use Rattle.cells.specs.declared.Ty.TheVariants.{Int, Str, Bytes, Fact, Record, Union, Var, Error}
+use Rattle.cells.specs.declared.Ty.TheVariants.{Record, Union}
 use Rattle.cells.specs.declared.Kind.{Kind}
 use Rattle.cells.specs.declared.Kind.TheVariants.{Fields, Alternatives}
 use Rattle.cells.specs.declared.Part.{Part}
-use Rattle.cells.specs.contracts.Ty as ty
 use Rattle.cells.specs.Words.{count_w, part_w}
 use Rattle.cells.specs.Stands.{Rows, tree, IsCell, Ok}
 use Rattle.cells.specs.Promises.{Reprs}
 use Rattle.cells.proofs.Parts.{rest, rest_whole, rest_cell, rest_none, part_ok}
 use Rattle.meaning.specs.Diag.{ascii}
 use Rattle.meaning.specs.Messages.{decimal, render, render_row, separator, part}
-use Rattle.writer.specs.declared.Wrote.{Wrote}
-use Rattle.writer.specs.declared.Wrote.TheVariants.{To, Full}
 use Rattle.writer.specs.Writes.{Writes, WritesText, hex_of}
 use Rattle.writer.proofs.Writing.{writes_to}
-use Rattle.messages.specs.Pieces.{pieces, piece_of}
-use Rattle.messages.specs.Shown.{Sight, Seen, Shows, Always, NoCell, kind_of, shown, shown_row, render_text, cell_text, before_text, parted_by, after_text}
+use Rattle.messages.specs.Shown.{Sight, Seen, Shows, Always, kind_of, shown, shown_row, render_text, cell_text, before_text, parted_by, after_text}
 use Rattle.messages.specs.Shown.{name_text, Ended, Looks}
 use Rattle.messages.proofs.Showing.{shows_as, shows_where, shows_text, shows_writes, shows_then, shows_full, Showing, showing_start, showing_next}
 use Rattle.messages.proofs.Showing.{showing_full, showing_last}
+use Rattle.std.specs.Prelude.{None, Option, Some}
 
 -- ---- The end of a chain
 
@@ -45,42 +40,19 @@ look_follows {w} {t} {u} rep = record {
   end = λ T s B A. rw (← rep.is T s B) at (repr_resolved s A (tree T t));
 }
 
-pub look_stays : {w : List ℕ} {t : Ty} → Looks w t false t
-look_stays = record { is = λ T s B A. refl; ok = λ T s B o. o; end = λ T s B A. tt }
-
 -- ---- A type without parts
 
-pub leaf_error : (u : Ty) → OneOf (4 ∷ 5 ∷ 7 ∷ []) (tag_of ty.the_type u) → (v : Sight) → NoCell u → piece_of 50 ≡ render_text false u v
-unfolding piece_of pieces ascii render
-leaf_error Int o v n = absurd (miss (4 ∷ 5 ∷ 7 ∷ []) 0 tt o)
-leaf_error Str o v n = absurd (miss (4 ∷ 5 ∷ 7 ∷ []) 1 tt o)
-leaf_error Bytes o v n = absurd (miss (4 ∷ 5 ∷ 7 ∷ []) 2 tt o)
-leaf_error (Fact p) o v n = absurd (miss (4 ∷ 5 ∷ 7 ∷ []) 3 tt o)
-leaf_error (Record c) o v n = absurd n
-leaf_error (Union c) o v n = absurd n
-leaf_error (Var x) o v n = absurd (miss (4 ∷ 5 ∷ 7 ∷ []) 6 tt o)
-leaf_error Error o v n = refl
+pub leaf_shown : (b : Bool) (s : Subst) (p : Tree.Leaf) → shown b s (Tree.leaf p) ≡ Tree.leaf p
+leaf_shown true s p = zonk_leaf s p
+leaf_shown false s p = refl
 
-no_cell : (u : Ty) → OneOf (0 ∷ 1 ∷ 2 ∷ 3 ∷ 6 ∷ 7 ∷ []) (tag_of ty.the_type u) → NoCell u
-no_cell Int o = tt
-no_cell Str o = tt
-no_cell Bytes o = tt
-no_cell (Fact p) o = tt
-no_cell (Record c) o = absurd (miss (0 ∷ 1 ∷ 2 ∷ 3 ∷ 6 ∷ 7 ∷ []) 4 tt o)
-no_cell (Union c) o = absurd (miss (0 ∷ 1 ∷ 2 ∷ 3 ∷ 6 ∷ 7 ∷ []) 5 tt o)
-no_cell (Var x) o = tt
-no_cell Error o = tt
+pub var_shown : (b : Bool) (s : Subst) (x : ℕ) → Ended b s (Tree.Var x) → shown b s (Tree.Var x) ≡ Tree.Var x
+var_shown true s x e = zonk_unbound s x e
+var_shown false s x e = refl
 
-shown_leaf : (b : Bool) (s : Subst) (T : Rows) (u : Ty) → NoCell u → Ended b s (tree T u) → shown b s (tree T u) ≡ tree T u
-shown_leaf false s T u n e = refl
-shown_leaf true s T Int n e = zonk_leaf s Tree.Int
-shown_leaf true s T Str n e = zonk_leaf s Tree.String
-shown_leaf true s T Bytes n e = zonk_leaf s Tree.Bytes
-shown_leaf true s T (Fact p) n e = zonk_leaf s (Tree.Fact p)
-shown_leaf true s T (Record c) n e = absurd n
-shown_leaf true s T (Union c) n e = absurd n
-shown_leaf true s T (Var x) n e = zonk_unbound s x e
-shown_leaf true s T Error n e = zonk_error s
+pub error_shown : (b : Bool) (s : Subst) → shown b s Tree.Error ≡ Tree.Error
+error_shown true s = zonk_error s
+error_shown false s = refl
 
 -- ---- A type is shown by the end of its chain
 
@@ -102,21 +74,16 @@ shown_as : {f w : List ℕ} {t : Ty} {b : Bool} {u : Ty} → Looks w t b u → (
     → render v.names v.schema x ≡ render_text b t v
 shown_as L v S x e = ap (render v.names v.schema) (sym (L.is v.rows v.subst S.binds S.acyclic ∙ e))
 
-module _ {f w out : List ℕ} {at : ℕ} {t : Ty} {b : Bool} {u : Ty} (L : Looks w t b u) {out' : List ℕ} {r : Wrote} where
-  pub render_leaf_lem : OneOf (0 ∷ 1 ∷ 2 ∷ 3 ∷ 6 ∷ 7 ∷ []) (tag_of ty.the_type u) → Shows f w out at (NoCell u) (render_text false u) out' r
-      → Shows f w out at (Ok w t) (render_text b t) out' r
-  render_leaf_lem o g =
-      let n = no_cell u o in
-      shows_as (λ v S k. shown_as L v S (tree v.rows u)
-      (shown_leaf b v.subst v.rows u n (L.end v.rows v.subst S.binds S.acyclic))) (shows_where (λ v S k. n) g)
+module _ {f w out : List ℕ} {at : ℕ} {t : Ty} {b : Bool} {out' : List ℕ} {r : Option ℕ} where
+  pub render_as : {u : Ty} → Looks w t b u → ((v : Sight) → Ended b v.subst (tree v.rows u) → shown b v.subst (tree v.rows u) ≡ tree v.rows u)
+      → Shows f w out at (Ok w t) (render_text false u) out' r → Shows f w out at (Ok w t) (render_text b t) out' r
+  render_as {u} L e g = shows_as (λ v S o. shown_as L v S (tree v.rows u) (e v (L.end v.rows v.subst S.binds S.acyclic))) g
 
-  pub render_cell : (k : Kind) (c : ℕ) → u ≡ cell_ty k c → Shows f w out at (IsCell w k c) (cell_text b k c) out' r
+  pub render_cell : (k : Kind) (c : ℕ) → Looks w t b (cell_ty k c) → Shows f w out at (IsCell w k c) (cell_text b k c) out' r
       → Shows f w out at (Ok w t) (render_text b t) out' r
-  render_cell k c e g =
-      shows_as
-      (λ v S o. shown_as L v S (Tree.node (kind_of k) (shown_row b v.subst (v.rows c)))
-      (ap (λ (x : Ty). shown b v.subst (tree v.rows x)) e ∙ shown_cell b v.subst v.rows k c))
-      (shows_where (λ v S o. cell_ok w k c (rw e at (L.ok v.rows v.subst S.binds o))) g)
+  render_cell k c L g =
+      shows_as (λ v S o. shown_as L v S (Tree.node (kind_of k) (shown_row b v.subst (v.rows c))) (shown_cell b v.subst v.rows k c))
+      (shows_where (λ v S o. cell_ok w k c (L.ok v.rows v.subst S.binds o)) g)
 
 -- ---- The parts of a cell
 
@@ -177,7 +144,7 @@ cell_start f w out at b k c n e = record {
 }
 
 module _ {f w out₀ : List ℕ} {at : ℕ} {b : Bool} {k : Kind} {c n : ℕ} {out : List ℕ} {j to : ℕ} (g : Celling f w out₀ at b k c n out j to) where
-  module _ (p : Part) (l : j < n) (e : p ≡ part_w w k c j) {mid : List ℕ} {x : Wrote}
+  module _ (p : Part) (l : j < n) (e : p ≡ part_w w k c j) {mid : List ℕ} {x : Option ℕ}
       (before : Shows f w out to Always (before_text k p.key p.label) mid x) where
     parted : (v : Sight) → separator v.names v.schema (kind_of k) (shown_row b v.subst (rest v.rows w k c n (j + 1))) ≡ parted_by k (ltb (j + 1) n)
     parted v = go (ltb (j + 1) n) refl
@@ -194,34 +161,34 @@ module _ {f w out₀ : List ℕ} {at : ℕ} {b : Bool} {k : Kind} {c n : ℕ} {o
     split v = ap (λ (r : Row). row_text b k r v) (rest_cell v.rows w k c n j p l e) ∙ one_part b k v p.key p.label (tree v.rows p.ty)
         (rest v.rows w k c n (j + 1)) (ltb (j + 1) n) (parted v)
 
-    pub before_full : x ≡ Full → Shows f w out₀ at (IsCell w k c) (λ v. row_text b k (v.rows c) v) mid Full
+    pub before_full : x ≡ None → Shows f w out₀ at (IsCell w k c) (λ v. row_text b k (v.rows c) v) mid None
     before_full q = showing_full g.showing (shows_where (λ v S o. tt) before) (λ v. render_text b p.ty v ++ behind v) (λ v S o. split v) q
 
-    module _ {m : ℕ} (q : x ≡ To m) {mid₂ : List ℕ} {y : Wrote} (shown : Shows f w mid m (Ok w p.ty) (render_text b p.ty) mid₂ y) where
+    module _ {m : ℕ} (q : x ≡ Some m) {mid₂ : List ℕ} {y : Option ℕ} (shown : Shows f w mid m (Ok w p.ty) (render_text b p.ty) mid₂ y) where
       typed : Shows f w mid m (IsCell w k c) (render_text b p.ty) mid₂ y
       typed = shows_where (λ v S o. part_ok S.cells k c n j p g.all o l e) shown
 
       to_type : Showing f w out₀ at (IsCell w k c) (λ v. row_text b k (v.rows c) v) mid m (λ v. render_text b p.ty v ++ behind v)
       to_type = showing_next g.showing (shows_where (λ v S o. tt) before) (λ v. render_text b p.ty v ++ behind v) (λ v S o. split v) q
 
-      pub type_full : y ≡ Full → Shows f w out₀ at (IsCell w k c) (λ v. row_text b k (v.rows c) v) mid₂ Full
+      pub type_full : y ≡ None → Shows f w out₀ at (IsCell w k c) (λ v. row_text b k (v.rows c) v) mid₂ None
       type_full z = showing_full to_type typed behind (λ v S o. refl) z
 
-      module _ {i : ℕ} (z : y ≡ To i) {out' : List ℕ} {r : Wrote} (after : WritesText mid₂ i (after_text k p.key (ltb (j + 1) n)) out' r) where
+      module _ {i : ℕ} (z : y ≡ Some i) {out' : List ℕ} {r : Option ℕ} (after : WritesText mid₂ i (after_text k p.key (ltb (j + 1) n)) out' r) where
         to_after : Showing f w out₀ at (IsCell w k c) (λ v. row_text b k (v.rows c) v) mid₂ i behind
         to_after = showing_next to_type typed behind (λ v S o. refl) z
 
-        pub after_full : r ≡ Full → Shows f w out₀ at (IsCell w k c) (λ v. row_text b k (v.rows c) v) out' Full
+        pub after_full : r ≡ None → Shows f w out₀ at (IsCell w k c) (λ v. row_text b k (v.rows c) v) out' None
         after_full u = showing_full to_after (shows_text after) (λ v. row_text b k (rest v.rows w k c n (j + 1)) v) (λ v S o. refl) u
 
-        pub part_next : {h : ℕ} → r ≡ To h → Celling f w out₀ at b k c n out' (j + 1) h
+        pub part_next : {h : ℕ} → r ≡ Some h → Celling f w out₀ at b k c n out' (j + 1) h
         part_next u = record {
           within = omega arith;
           all = g.all;
           showing = showing_next to_after (shows_text after) (λ v. row_text b k (rest v.rows w k c n (j + 1)) v) (λ v S o. refl) u;
         }
 
-  pub parts_done : n ≤ j → {out' : List ℕ} {r : Wrote} → Writes out to (hex_of (125 ∷ [])) out' r
+  pub parts_done : n ≤ j → {out' : List ℕ} {r : Option ℕ} → Writes out to (hex_of (125 ∷ [])) out' r
       → Shows f w out₀ at (IsCell w k c) (λ v. row_text b k (v.rows c) v) out' r
   unfolding render_row
   parts_done l h = showing_last g.showing (shows_as (λ v S o. sym (rw (rest_none v.rows w k c n j l, shown_nil b v.subst))) (shows_writes h))
@@ -229,16 +196,16 @@ module _ {f w out₀ : List ℕ} {at : ℕ} {b : Bool} {k : Kind} {c n : ℕ} {o
 -- ---- The whole cell
 
 -- Where the parts start there is less room.
-pub brace_moves : {out : List ℕ} {at : ℕ} {mid : List ℕ} {h : Wrote} {n : ℕ} → Writes out at (hex_of (123 ∷ [])) mid h → h ≡ To n → (at < n) × (n ≤ length out)
+pub brace_moves : {out : List ℕ} {at : ℕ} {mid : List ℕ} {h : Option ℕ} {n : ℕ} → Writes out at (hex_of (123 ∷ [])) mid h → h ≡ Some n → (at < n) × (n ≤ length out)
 unfolding hex_of
 brace_moves f e = let g = writes_to f e in (omega (arith, g.0), g.1)
 
-module _ (b : Bool) (k : Kind) (c : ℕ) {f w out : List ℕ} {at : ℕ} {mid : List ℕ} {h : Wrote} (brace : Writes out at (hex_of (123 ∷ [])) mid h) where
-  pub brace_full : h ≡ Full → Shows f w out at (IsCell w k c) (cell_text b k c) mid Full
+module _ (b : Bool) (k : Kind) (c : ℕ) {f w out : List ℕ} {at : ℕ} {mid : List ℕ} {h : Option ℕ} (brace : Writes out at (hex_of (123 ∷ [])) mid h) where
+  pub brace_full : h ≡ None → Shows f w out at (IsCell w k c) (cell_text b k c) mid None
   unfolding render ascii
   brace_full e = shows_as (λ v S o. refl) (shows_full (shows_writes brace) e (λ v. row_text b k (v.rows c) v))
 
-  pub brace_then : {n : ℕ} → h ≡ To n → {out' : List ℕ} {r : Wrote} → Shows f w mid n (IsCell w k c) (λ v. row_text b k (v.rows c) v) out' r
+  pub brace_then : {n : ℕ} → h ≡ Some n → {out' : List ℕ} {r : Option ℕ} → Shows f w mid n (IsCell w k c) (λ v. row_text b k (v.rows c) v) out' r
       → Shows f w out at (IsCell w k c) (cell_text b k c) out' r
   unfolding render ascii
   brace_then e g = shows_as (λ v S o. refl) (shows_then (shows_writes brace) e g)

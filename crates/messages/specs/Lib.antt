@@ -1,4 +1,2 @@
-pub mod Pieces
 pub mod Shown
 pub mod Said
-pub mod Parts

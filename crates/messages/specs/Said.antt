@@ -1,6 +1,6 @@
 -- What a message in hand says: the message of meaning/specs/Diag.antt, over the rows of the cells. A type without order is shown resolved, with
 -- the bindings of this moment; the others as they are.
-use Rattle.std.specs.Prelude.{List, ◌≡◌, ℕ, ◌≤◌, length}
+use Rattle.std.specs.Prelude.{List, ◌≡◌, ℕ, ◌≤◌, length, Option}
 use Rattle.unification.specs.Bindings.{Subst, State, zonk}
 use Rattle.cells.specs.Stands.{Rows, tree, Ok, Holds}
 use Rattle.cells.specs.Promises.{diff_of}
@@ -9,9 +9,7 @@ use Rattle.meaning.specs.Diag.{ascii, as_str, code_of}
 use Rattle.meaning.specs.File.{Described}
 use Rattle.meaning.specs.Messages.{message_text}
 use Rattle.tree.specs.Stands.{Stands}
-use Rattle.writer.specs.declared.Wrote.{Wrote}
 use Rattle.writer.specs.Writes.{Writes, WritesText, Moves, hex_of}
-use Rattle.messages.specs.Pieces.{piece_of}
 use Rattle.messages.specs.declared.Message.{Message}
 
 abbrev pub said : Rows → Subst → Message → Diag.Message
@@ -60,14 +58,14 @@ OkMessage w (Message.UnionMismatch d e g) = Ok w e × Ok w g
 OkMessage w Message.Infinite = Unit {0}
 
 -- The code does not depend on rows and bindings.
-pub record CodeIs (m : Message) (k : ℕ) : Type 0 where
-  pub is : (T : Rows) (s : Subst) → piece_of k ≡ ascii (as_str (code_of (said T s m)))
+abbrev pub CodeIs : Message → List ℕ → Type 0
+CodeIs m code = (T : Rows) (s : Subst) → code ≡ ascii (as_str (code_of (said T s m)))
 
-pub record WritesCode (out : List ℕ) (at : ℕ) (m : Message) (out' : List ℕ) (r : Wrote) : Type 0 where
+pub record WritesCode (out : List ℕ) (at : ℕ) (m : Message) (out' : List ℕ) (r : Option ℕ) : Type 0 where
   pub is : (T : Rows) (s : Subst) → WritesText out at (ascii (as_str (code_of (said T s m)))) out' r
 
 -- The text of a message. Whatever the words are, the writer goes forward and stays in the slice.
-pub record WritesMessage (f w out : List ℕ) (at : ℕ) (m : Message) (out' : List ℕ) (r : Wrote) : Type 0 where
+pub record WritesMessage (f w out : List ℕ) (at : ℕ) (m : Message) (out' : List ℕ) (r : Option ℕ) : Type 0 where
   pub is : (T : Rows) (d : Described) (st : State) → Stands f w T d → Holds w T st → OkMessage w m → at ≤ length out
       → Writes out at (hex_of (message_text d.names d.schema (said T st.subst m))) out' r
   pub moves : Moves out at out' r

@@ -1,22 +1,19 @@
 -- What messages show of numbers, names and types: the texts of meaning/specs/Messages.antt, for whatever the file and the work slice stand for.
-use Rattle.std.specs.Prelude.{Bool, true, false, List, [], ◌∷◌, ◌++◌, ◌≡◌, ℕ, ◌≤◌, eqb, length, drop}
+use Rattle.std.specs.Prelude.{Bool, true, false, List, [], ◌∷◌, ◌++◌, ◌≡◌, ℕ, ◌≤◌, length, Option}
 use Rattle.unification.specs.Ty as Tree
 use Rattle.unification.specs.Ty.{Row, app_row}
 use Rattle.unification.specs.Bindings.{Subst, zonk, Resolved}
 use Rattle.unification.specs.Acyclic.{Acyclic}
 use Rattle.cells.specs.declared.Ty.{Ty}
-use Rattle.cells.specs.declared.Ty.TheVariants.{Int, Str, Bytes, Fact, Record, Union, Var, Error}
 use Rattle.cells.specs.declared.Kind.{Kind}
 use Rattle.cells.specs.declared.Kind.TheVariants.{Fields, Alternatives}
 use Rattle.cells.specs.Stands.{Rows, tree, Ok, Cells, Binds}
 use Rattle.meaning.specs.Diag.{ascii}
-use Rattle.meaning.specs.Lines.{LF}
 use Rattle.meaning.specs.Messages.{decimal, quoted, or_fact, name_of, fact_name, render}
 use Rattle.meaning.specs.Schema.{Schema}
 use Rattle.tree.specs.Stands.{SchemaStands}
-use Rattle.writer.specs.declared.Wrote.{Wrote}
 use Rattle.writer.specs.Writes.{Writes, Moves, hex_of}
-use Rattle.messages.specs.Pieces.{piece_of}
+use Rattle.messages.specs.declared.shown.Piece.{Piece}
 
 -- What the file and the work slice stand for, as far as a text depends on it.
 pub record Sight : Type 0 where
@@ -32,7 +29,7 @@ pub record Seen (f w : List ℕ) (v : Sight) : Type 0 where
   pub acyclic : Acyclic v.subst
 
 -- A text is written where what it shows exists; whatever the words are, the writer goes forward and stays in the slice.
-pub record Shows (f w out : List ℕ) (at : ℕ) (ok : Type 0) (text : Sight → List ℕ) (out' : List ℕ) (r : Wrote) : Type 0 where
+pub record Shows (f w out : List ℕ) (at : ℕ) (ok : Type 0) (text : Sight → List ℕ) (out' : List ℕ) (r : Option ℕ) : Type 0 where
   pub is : (v : Sight) → Seen f w v → ok → at ≤ length out → Writes out at (hex_of (text v)) out' r
   pub moves : Moves out at out' r
 
@@ -41,14 +38,6 @@ abbrev pub Always : Type 0
 Always = Unit {0}
 
 -- ---- Names
-
-unfoldable pub to_lf : List ℕ → List ℕ
-to_lf [] = []
-to_lf (b ∷ s) = elim (eqb b LF) [ true ↦ [] | false ↦ b ∷ to_lf s ]
-
-pub record WritesDigits (f : List ℕ) (from : ℕ) (out : List ℕ) (at : ℕ) (out' : List ℕ) (r : Wrote) : Type 0 where
-  pub is : at ≤ length out → Writes out at (to_lf (drop from f)) out' r
-  pub moves : Moves out at out' r
 
 abbrev pub name_text : ℕ → Sight → List ℕ
 name_text x v = name_of v.names v.schema x
@@ -59,25 +48,11 @@ quoted_text x v = quoted (name_text x v)
 abbrev pub fact_text : ℕ → Sight → List ℕ
 fact_text p v = or_fact (fact_name v.names v.schema p)
 
--- a name and the piece after it
-abbrev pub named_text : ℕ → ℕ → Sight → List ℕ
-named_text x k v = name_text x v ++ piece_of k
-
 -- ---- Types
 
 abbrev pub kind_of : Kind → Tree.Kind
 kind_of Fields = Tree.Record
 kind_of Alternatives = Tree.Union
-
-abbrev pub NoCell : Ty → Type 0
-NoCell Int = Unit {0}
-NoCell Str = Unit {0}
-NoCell Bytes = Unit {0}
-NoCell (Fact p) = Unit {0}
-NoCell (Record c) = ⊥
-NoCell (Union c) = ⊥
-NoCell (Var x) = Unit {0}
-NoCell Error = Unit {0}
 
 -- A type, resolved where that is asked; the parts of a cell likewise.
 abbrev pub shown : Bool → Subst → Tree.Ty → Tree.Ty
@@ -118,3 +93,28 @@ pub record Looks (w : List ℕ) (t : Ty) (b : Bool) (u : Ty) : Type 0 where
   pub is : (T : Rows) (s : Subst) → Binds w T s → Acyclic s → shown b s (tree T t) ≡ shown b s (tree T u)
   pub ok : (T : Rows) (s : Subst) → Binds w T s → Ok w t → Ok w u
   pub end : (T : Rows) (s : Subst) → Binds w T s → Acyclic s → Ended b s (tree T u)
+
+-- ---- Pieces
+
+abbrev pub piece_text : Piece → Sight → List ℕ
+piece_text (Piece.Text s) v = s.now
+piece_text (Piece.Number n) v = decimal n
+piece_text (Piece.Name x) v = quoted_text x v
+piece_text (Piece.Type t) v = render_text false t v
+piece_text (Piece.Resolved t) v = render_text true t v
+
+-- the types that it shows exist
+abbrev pub ok_piece : List ℕ → Piece → Type 0
+ok_piece w (Piece.Text s) = Unit {0}
+ok_piece w (Piece.Number n) = Unit {0}
+ok_piece w (Piece.Name x) = Unit {0}
+ok_piece w (Piece.Type t) = Ok w t
+ok_piece w (Piece.Resolved t) = Ok w t
+
+abbrev pub pieces_text : List Piece → Sight → List ℕ
+pieces_text [] v = []
+pieces_text (p ∷ ps) v = piece_text p v ++ pieces_text ps v
+
+abbrev pub ok_pieces : List ℕ → List Piece → Type 0
+ok_pieces w [] = Unit {0}
+ok_pieces w (p ∷ ps) = ok_piece w p × ok_pieces w ps

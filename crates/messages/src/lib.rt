@@ -1,20 +1,14 @@
 // What a diagnostic says, and how it is written.
 #![tactic(auto)]
 
-ghost use Rattle.messages.specs.Parts.{arg_text, ok_arg, pair_text, phrase_text, OkPhrase, parts_text, OkParts};
-ghost use Rattle.messages.specs.Shown.{Shows};
 ghost use Rattle.messages.specs.Said.{CodeIs, WritesCode, WritesMessage};
 
-mod parts;
-mod pieces;
 mod shown;
 
 use cells::{Ty, UnionDiff};
-use parts::{Arg, Parts, Phrase, parts_of};
-use pieces::piece;
-use shown::{number, quoted, render};
+use shown::Piece::{Name, Number, Resolved, Text, Type};
+use shown::View;
 use work::word;
-use writer::Wrote;
 
 // One for each text of ty.rs, with the numbers and types in hand that it shows.
 #[derive(Clone, Copy)]
@@ -41,103 +35,129 @@ pub enum Message {
     Infinite,
 }
 
-// Which piece the code of a message is.
-fn code_of(m: Message) -> usize
-    ensures { CodeIs m result }
+#[tactic(auto, unfolding(meaning::specs::Diag::ascii, meaning::specs::Diag::as_str, meaning::specs::Diag::code_of))]
+fn code_of(m: Message) -> &'static str
+    ensures { CodeIs m result.now }
 {
     match m {
-        Message::WildcardHead => 1,
-        Message::BoundConstant => 2,
-        Message::DeniedConstant => 2,
-        Message::MatchedPatterns => 3,
-        Message::DeniedPattern => 3,
-        Message::DistanceOutside(_) => 4,
-        Message::TermTooLong(_) => 5,
-        Message::UnknownType => 6,
-        Message::ValueShadowed => 7,
-        Message::NoValue => 8,
-        Message::NoAlternative(_) => 9,
-        Message::NoField(_) => 10,
-        Message::NotOneAlternative(_) => 11,
-        Message::NotAUnion(_) => 12,
-        Message::Infinite => 13,
-        Message::NotAFact(_) => 14,
-        Message::NoFields(_) => 14,
-        Message::NoOrder(_) => 14,
-        Message::Mismatch(_, _) => 14,
-        Message::UnionMismatch(_, _, _) => 14,
+        Message::WildcardHead => "reject/wildcard-in-head",
+        Message::BoundConstant | Message::DeniedConstant => "reject/bind-lhs",
+        Message::MatchedPatterns | Message::DeniedPattern => "nyi/bind-unification",
+        Message::DistanceOutside(_) => "reject/fuzzy-distance",
+        Message::TermTooLong(_) => "reject/fuzzy-term",
+        Message::UnknownType => "reject/unresolved-access",
+        Message::ValueShadowed => "reject/value-shadowed",
+        Message::NoValue => "reject/no-value",
+        Message::NoAlternative(_) => "reject/unknown-alternative",
+        Message::NoField(_) => "reject/unknown-field",
+        Message::NotOneAlternative(_) => "reject/union-arity",
+        Message::NotAUnion(_) => "reject/not-a-union",
+        Message::NotAFact(_)
+        | Message::NoFields(_)
+        | Message::NoOrder(_)
+        | Message::Mismatch(_, _)
+        | Message::UnionMismatch(_, _, _) => "reject/type-mismatch",
+        Message::Infinite => "reject/infinite-type",
     }
 }
 
 // The code of a message.
-pub fn code_text(out: &mut [u8], at: usize, m: Message) -> Wrote
+pub fn code_text(out: &mut [u8], at: usize, m: Message) -> Option<usize>
     ensures { WritesCode out.old at m out.new result }
 {
-    piece(out, at, code_of(m))
-}
-
-fn arg(f: &[u8], w: &[u32], out: &mut [u8], at: usize, a: Arg) -> Wrote
-    ensures { Shows f.now w.now out.old at (ok_arg w.now a) (arg_text a) out.new result }
-{
-    match a {
-        Arg::Nothing => Wrote::To(at),
-        Arg::Number(n) => number(out, at, n),
-        Arg::MaxDistance => number(out, at, word(w, work::MAX_DISTANCE)),
-        Arg::MaxTerm => number(out, at, word(w, work::MAX_TERM)),
-        Arg::Name(x) => quoted(f, w, out, at, x),
-        Arg::Type(t) => render(f, w, out, at, t, false),
-        Arg::Resolved(t) => render(f, w, out, at, t, true),
-    }
-}
-
-// A piece and what follows it.
-fn pair(f: &[u8], w: &[u32], out: &mut [u8], at: usize, k: usize, a: Arg) -> Wrote
-    ensures { Shows f.now w.now out.old at (ok_arg w.now a) (pair_text k a) out.new result }
-{
-    let r = piece(out, at, k);
-    match r {
-        Wrote::To(n) => arg(f, w, out, n, a),
-        Wrote::Full => Wrote::Full,
-    }
-}
-
-fn phrase(f: &[u8], w: &[u32], out: &mut [u8], at: usize, p: Phrase) -> Wrote
-    ensures { Shows f.now w.now out.old at (OkPhrase w.now p) (phrase_text p) out.new result }
-{
-    let a = p.a;
-    let b = p.b;
-    let c = p.c;
-    let q = p.q;
-    let r = p.r;
-    let x = pair(f, w, out, at, p.p, a);
-    let n = match x {
-        Wrote::To(n) => n,
-        Wrote::Full => {
-            return Wrote::Full;
-        }
-    };
-    let y = pair(f, w, out, n, q, b);
-    match y {
-        Wrote::To(m) => pair(f, w, out, m, r, c),
-        Wrote::Full => Wrote::Full,
-    }
-}
-
-fn write(f: &[u8], w: &[u32], out: &mut [u8], at: usize, p: Parts) -> Wrote
-    ensures { Shows f.now w.now out.old at (OkParts w.now p) (parts_text p) out.new result }
-{
-    let first = p.first;
-    let second = p.second;
-    let r = phrase(f, w, out, at, first);
-    match r {
-        Wrote::To(n) => phrase(f, w, out, n, second),
-        Wrote::Full => Wrote::Full,
-    }
+    shown::text(out, at, code_of(m))
 }
 
 // What a message says, in the file's names, with the bindings of this moment where a type is resolved.
-pub fn text(f: &[u8], w: &[u32], out: &mut [u8], at: usize, m: Message) -> Wrote
+pub fn text(f: &[u8], w: &[u32], out: &mut [u8], at: usize, m: Message) -> Option<usize>
     ensures { WritesMessage f.now w.now out.old at m out.new result }
 {
-    write(f, w, out, at, parts_of(m))
+    macro_rules! say {
+        ($($piece:expr),+) => { View { f, w }.write(out, at, &[$($piece),+]) };
+    }
+    match m {
+        Message::WildcardHead => say!(Text("a wildcard head projects nothing")),
+        Message::BoundConstant => say!(Text(
+            "a literal cannot be bound to; put the variable on the left"
+        )),
+        Message::DeniedConstant => say!(Text(
+            "nothing here can be denied; put the variable on the left"
+        )),
+        Message::MatchedPatterns => say!(Text(
+            "matching two patterns against each other is not implemented yet"
+        )),
+        Message::DeniedPattern => say!(Text(
+            "denying anything but a variable is not implemented yet"
+        )),
+        Message::DistanceOutside(d) => say!(
+            Text("an edit distance of "),
+            Number(d),
+            Text(" is outside 1..="),
+            Number(word(w, work::MAX_DISTANCE))
+        ),
+        Message::TermTooLong(n) => say!(
+            Text("a fuzzy term of "),
+            Number(n),
+            Text(" characters is longer than the "),
+            Number(word(w, work::MAX_TERM)),
+            Text(" a match is built for")
+        ),
+        Message::UnknownType => say!(Text(
+            "the type of this value is not known here, so its field cannot be resolved"
+        )),
+        Message::ValueShadowed => say!(Text(
+            "this predicate has a key field called `value`, so `.value` is ambiguous"
+        )),
+        Message::NoValue => say!(Text("this predicate has no value")),
+        Message::NoAlternative(x) => say!(Name(x), Text(" is not an alternative of this union")),
+        Message::NoField(x) => say!(Name(x), Text(" is not a field here")),
+        Message::NotOneAlternative(n) => say!(
+            Text("a union value is one alternative, and this names "),
+            Number(n)
+        ),
+        Message::NotAUnion(t) => say!(Text("only a union has alternatives; this is "), Type(t)),
+        Message::NotAFact(t) => say!(Text("only a fact has a value; this is "), Type(t)),
+        Message::NoFields(t) => say!(Type(t), Text(" has no fields")),
+        Message::NoOrder(t) => say!(
+            Resolved(t),
+            Text(
+                " has no order — it holds a reference, and a reference compares by which fact was written first"
+            )
+        ),
+        Message::Mismatch(e, g) => say!(Text("expected "), Type(e), Text(", found "), Type(g)),
+        Message::UnionMismatch(UnionDiff::Absent(n, k), e, g) => say!(
+            Text("expected "),
+            Type(e),
+            Text(", found "),
+            Type(g),
+            Text(": only one of them declares "),
+            Name(n),
+            Text(" = "),
+            Number(k)
+        ),
+        Message::UnionMismatch(UnionDiff::Renamed(x, y, k), e, g) => say!(
+            Text("expected "),
+            Type(e),
+            Text(", found "),
+            Type(g),
+            Text(": discriminant "),
+            Number(k),
+            Text(" is "),
+            Name(x),
+            Text(", not "),
+            Name(y)
+        ),
+        Message::UnionMismatch(UnionDiff::Payload(n, k), e, g) => say!(
+            Text("expected "),
+            Type(e),
+            Text(", found "),
+            Type(g),
+            Text(": alternative "),
+            Name(n),
+            Text(" = "),
+            Number(k),
+            Text(" carries a different payload")
+        ),
+        Message::Infinite => say!(Text("this pattern would have to contain itself")),
+    }
 }

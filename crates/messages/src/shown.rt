@@ -1,228 +1,176 @@
 // Numbers, names and types, as messages show them.
-ghost use Rattle.std.specs.Prelude.{false};
+ghost use Rattle.std.specs.Prelude.{◌≡◌, ◌==◌, drop};
+ghost use Rattle.std.specs.List.{before_first};
 ghost use Rattle.meaning.specs.Messages.{decimal};
-ghost use Rattle.writer.specs.Writes.{Writes, WritesText, hex_of};
+ghost use Rattle.writer.specs.Writes.{WritesText};
 ghost use Rattle.cells.specs.Stands.{Ok, IsCell};
-ghost use Rattle.messages.specs.Shown.{Always, Shows, WritesDigits, NoCell, Looks, name_text, quoted_text, fact_text, named_text, before_text, after_text, render_text, cell_text};
+ghost use Rattle.messages.specs.Shown.{Always, Shows, Looks, ok_piece, ok_pieces, piece_text, pieces_text, name_text, quoted_text, fact_text, before_text, after_text, render_text, cell_text};
 
-use crate::pieces::piece;
-use cells::{Kind, Ty};
+use cells::{Kind, Part, Ty};
 use work::{wide, word};
-use writer::{Wrote, byte};
+use writer::byte;
 
-pub fn number(out: &mut [u8], at: usize, x: u32) -> Wrote
-    ensures { Writes out.old at (hex_of (decimal x)) out.new result }
-{
-    if x < 10 {
-        return byte(out, at, 48 + x);
-    }
-    let r = number(out, at, x / 10);
-    match r {
-        Wrote::To(n) => byte(out, n, 48 + x % 10),
-        Wrote::Full => Wrote::Full,
-    }
+// A piece of a text.
+#[derive(Clone, Copy)]
+pub enum Piece {
+    Text(&'static str),
+    Number(u32),
+    Name(u32),
+    Type(Ty),
+    // with what unknowns are bound to at this moment
+    Resolved(Ty),
 }
 
-// The digits of a line of the file from a place to its LF.
-fn digits(f: &[u8], from: usize, out: &mut [u8], at: usize) -> Wrote
-    ensures { WritesDigits f.now from out.old at out.new result }
+pub fn text(out: &mut [u8], at: usize, s: &str) -> Option<usize>
+    ensures { WritesText out.old at s.now out.new result }
 {
-    let mut i = from;
-    let mut to = at;
-    while i < f.len() {
-        let b = f[i];
-        if b == 10 {
-            return Wrote::To(to);
-        }
-        let r = writer::one(out, to, b);
-        match r {
-            Wrote::To(n) => {
-                to = n;
-            }
-            Wrote::Full => {
-                return Wrote::Full;
-            }
-        }
-        i += 1;
-    }
-    Wrote::To(to)
+    writer::text(out, at, s.as_bytes())
 }
 
-// The name's line has its text after the kind's two digits.
-fn name(f: &[u8], w: &[u32], out: &mut [u8], at: usize, x: u32) -> Wrote
-    ensures { Shows f.now w.now out.old at Always (name_text x) out.new result }
+fn number(out: &mut [u8], at: usize, x: u32) -> Option<usize>
+    ensures { WritesText out.old at (decimal x) out.new result }
 {
-    if x < word(w, work::NAME_COUNT) {
-        let place = work::name_place(word(w, work::NAMES + wide(x)));
-        return digits(f, wide(place) + 2, out, at);
-    }
-    piece(out, at, 54)
+    text(out, at, itoa::Buffer::new().format(x))
 }
 
-pub fn quoted(f: &[u8], w: &[u32], out: &mut [u8], at: usize, x: u32) -> Wrote
-    ensures { Shows f.now w.now out.old at Always (quoted_text x) out.new result }
+fn before_lf(s: &[u8]) -> &[u8]
+    ensures { result.now ≡ before_first (λ b. b == 10) s.now }
 {
-    let a = byte(out, at, 96);
-    let from = match a {
-        Wrote::To(n) => n,
-        Wrote::Full => {
-            return Wrote::Full;
-        }
-    };
-    let b = name(f, w, out, from, x);
-    match b {
-        Wrote::To(n) => byte(out, n, 96),
-        Wrote::Full => Wrote::Full,
-    }
+    let end = s.iter().position(|&b| b == b'\n').unwrap_or(s.len());
+    &s[..end]
 }
 
-// A fact by the name of its predicate, where it has one.
-fn fact(f: &[u8], w: &[u32], out: &mut [u8], at: usize, p: u32) -> Wrote
-    ensures { Shows f.now w.now out.old at Always (fact_text p) out.new result }
+// The file's line from a place to its LF.
+fn line(f: &[u8], from: usize) -> &[u8]
+    ensures { result.now ≡ before_first (λ b. b == 10) (drop from f.now) }
 {
-    if word(w, work::PREDICATE_COUNT) <= p {
-        return piece(out, at, 48);
-    }
-    let x = work::predicate_name(word(w, work::PREDICATES + wide(p)));
-    if x < word(w, work::NAME_COUNT) {
-        return quoted(f, w, out, at, x);
-    }
-    piece(out, at, 48)
+    before_lf(f.get(from..).unwrap_or(&[]))
 }
 
-// A type that is no cell.
-fn leaf(f: &[u8], w: &[u32], out: &mut [u8], at: usize, u: Ty) -> Wrote
-    ensures { Shows f.now w.now out.old at (NoCell u) (render_text false u) out.new result }
-{
-    match u {
-        Ty::Int => piece(out, at, 45),
-        Ty::Str => piece(out, at, 46),
-        Ty::Bytes => piece(out, at, 47),
-        Ty::Fact(p) => fact(f, w, out, at, p),
-        Ty::Var(_) => piece(out, at, 49),
-        _ => piece(out, at, 50),
-    }
-}
-
-fn named(f: &[u8], w: &[u32], out: &mut [u8], at: usize, x: u32, k: usize) -> Wrote
-    ensures { Shows f.now w.now out.old at Always (named_text x k) out.new result }
-{
-    let r = name(f, w, out, at, x);
-    match r {
-        Wrote::To(n) => piece(out, n, k),
-        Wrote::Full => Wrote::Full,
-    }
-}
-
-// What stands before the type of a part: `name = ` in a record, `name : ` in a union.
-fn before(f: &[u8], w: &[u32], out: &mut [u8], at: usize, k: Kind, key: u32, label: u32) -> Wrote
-    ensures { Shows f.now w.now out.old at Always (before_text k key label) out.new result }
-{
-    match k {
-        Kind::Fields => named(f, w, out, at, key, 38),
-        Kind::Alternatives => named(f, w, out, at, label, 53),
-    }
-}
-
-// What stands after it: ` = discriminant` in a union; and what parts it from the next, if there is one.
-fn after(out: &mut [u8], at: usize, k: Kind, key: u32, more: bool) -> Wrote
+// What stands after the type of a part: ` = discriminant` in a union; and what parts it from the next, if there is one.
+fn after(out: &mut [u8], at: usize, k: Kind, key: u32, more: bool) -> Option<usize>
     ensures { WritesText out.old at (after_text k key more) out.new result }
 {
     match k {
-        Kind::Fields => {
-            if more {
-                return piece(out, at, 51);
-            }
-            Wrote::To(at)
-        }
+        Kind::Fields => text(out, at, if more { ", " } else { "" }),
         Kind::Alternatives => {
-            let a = piece(out, at, 38);
-            let m = match a {
-                Wrote::To(n) => n,
-                Wrote::Full => {
-                    return Wrote::Full;
-                }
-            };
-            let b = number(out, m, key);
-            match b {
-                Wrote::To(n) => {
-                    if more {
-                        return piece(out, n, 52);
-                    }
-                    Wrote::To(n)
-                }
-                Wrote::Full => Wrote::Full,
-            }
+            let at = text(out, at, " = ")?;
+            let at = number(out, at, key)?;
+            text(out, at, if more { " | " } else { "" })
         }
     }
 }
 
-// The type at the end of its chain, where bindings are followed.
-fn look(w: &[u32], t: Ty, resolve: bool) -> Ty
-    ensures { Looks w.now t resolve result }
-{
-    if resolve {
-        return cells::repr(w, t);
-    }
-    t
+// What is shown stands in the file and in the words.
+#[derive(Clone, Copy)]
+pub struct View<'a> {
+    pub f: &'a [u8],
+    pub w: &'a [u32],
 }
 
-// `render`: bindings are followed only where `resolve` says so. A cell's brace is written before its parts, so the room left falls.
-#[cycle(rendering)]
-pub fn render(f: &[u8], w: &[u32], out: &mut [u8], at: usize, t: Ty, resolve: bool) -> Wrote
-    ensures { Shows f.now w.now out.old at (Ok w.now t) (render_text resolve t) out.new result }
-{
-    let u = look(w, t, resolve);
-    match u {
-        Ty::Record(c) => cell(f, w, out, at, Kind::Fields, c, resolve),
-        Ty::Union(c) => cell(f, w, out, at, Kind::Alternatives, c, resolve),
-        _ => leaf(f, w, out, at, u),
-    }
-}
-
-#[cycle(rendering)]
-fn cell(f: &[u8], w: &[u32], out: &mut [u8], at: usize, k: Kind, c: u32, resolve: bool) -> Wrote
-    ensures { Shows f.now w.now out.old at (IsCell w.now k c) (cell_text resolve k c) out.new result }
-{
-    let h = byte(out, at, 123);
-    let from = match h {
-        Wrote::To(n) => n,
-        Wrote::Full => {
-            return Wrote::Full;
+impl View<'_> {
+    // The name's line has its text after the kind's two digits.
+    fn name(&self, out: &mut [u8], at: usize, x: u32) -> Option<usize>
+        ensures { Shows self.now.f.now self.now.w.now out.old at Always (name_text x) out.new result }
+    {
+        if x < word(self.w, work::NAME_COUNT) {
+            let place = work::name_place(word(self.w, work::NAMES + wide(x)));
+            return writer::copy(out, at, line(self.f, wide(place) + 2));
         }
-    };
-    let n = cells::count(w, c);
-    let mut j: u32 = 0;
-    let mut to = from;
-    while j < n {
-        let p = cells::part_at(w, k, c, j);
-        let key = p.key;
-        let label = p.label;
-        let q = p.ty;
-        let a = before(f, w, out, to, k, key, label);
-        let m = match a {
-            Wrote::To(m) => m,
-            Wrote::Full => {
-                return Wrote::Full;
+        text(out, at, "?")
+    }
+
+    fn quoted(&self, out: &mut [u8], at: usize, x: u32) -> Option<usize>
+        ensures { Shows self.now.f.now self.now.w.now out.old at Always (quoted_text x) out.new result }
+    {
+        let at = text(out, at, "`")?;
+        let at = self.name(out, at, x)?;
+        text(out, at, "`")
+    }
+
+    // A fact by the name of its predicate, where it has one.
+    fn fact(&self, out: &mut [u8], at: usize, p: u32) -> Option<usize>
+        ensures { Shows self.now.f.now self.now.w.now out.old at Always (fact_text p) out.new result }
+    {
+        if p < word(self.w, work::PREDICATE_COUNT) {
+            let x = work::predicate_name(word(self.w, work::PREDICATES + wide(p)));
+            if x < word(self.w, work::NAME_COUNT) {
+                return self.quoted(out, at, x);
             }
+        }
+        text(out, at, "a fact")
+    }
+
+    // What stands before the type of a part: `name = ` in a record, `name : ` in a union.
+    fn before(&self, out: &mut [u8], at: usize, k: Kind, p: &Part) -> Option<usize>
+        ensures { Shows self.now.f.now self.now.w.now out.old at Always (before_text k p.now.key p.now.label) out.new result }
+    {
+        let (name, mark) = match k {
+            Kind::Fields => (p.key, " = "),
+            Kind::Alternatives => (p.label, " : "),
         };
-        let b = render(f, w, out, m, q, resolve);
-        let l = match b {
-            Wrote::To(l) => l,
-            Wrote::Full => {
-                return Wrote::Full;
-            }
-        };
-        j += 1;
-        let e = after(out, l, k, key, j < n);
-        match e {
-            Wrote::To(i) => {
-                to = i;
-            }
-            Wrote::Full => {
-                return Wrote::Full;
-            }
+        let at = self.name(out, at, name)?;
+        text(out, at, mark)
+    }
+
+    // The type at the end of its chain, where bindings are followed.
+    fn look(&self, t: Ty, resolve: bool) -> Ty
+        ensures { Looks self.now.w.now t resolve result }
+    {
+        if resolve { cells::repr(self.w, t) } else { t }
+    }
+
+    // `render`: bindings are followed only where `resolve` says so. A cell's brace is written before its parts, so the room left falls.
+    #[cycle(rendering)]
+    fn render(&self, out: &mut [u8], at: usize, t: Ty, resolve: bool) -> Option<usize>
+        ensures { Shows self.now.f.now self.now.w.now out.old at (Ok self.now.w.now t) (render_text resolve t) out.new result }
+    {
+        match self.look(t, resolve) {
+            Ty::Int => text(out, at, "an integer"),
+            Ty::Str => text(out, at, "a string"),
+            Ty::Bytes => text(out, at, "bytes"),
+            Ty::Fact(p) => self.fact(out, at, p),
+            Ty::Record(c) => self.cell(out, at, Kind::Fields, c, resolve),
+            Ty::Union(c) => self.cell(out, at, Kind::Alternatives, c, resolve),
+            Ty::Var(_) => text(out, at, "an unknown type"),
+            Ty::Error => text(out, at, "(already reported)"),
         }
     }
-    byte(out, to, 125)
+
+    #[cycle(rendering)]
+    fn cell(&self, out: &mut [u8], at: usize, k: Kind, c: u32, resolve: bool) -> Option<usize>
+        ensures { Shows self.now.f.now self.now.w.now out.old at (IsCell self.now.w.now k c) (cell_text resolve k c) out.new result }
+    {
+        let mut to = byte(out, at, u32::from(b'{'))?;
+        let n = cells::count(self.w, c);
+        for j in 0..n {
+            let p = cells::part_at(self.w, k, c, j);
+            to = self.before(out, to, k, &p)?;
+            to = self.render(out, to, p.ty, resolve)?;
+            to = after(out, to, k, p.key, j + 1 < n)?;
+        }
+        byte(out, to, u32::from(b'}'))
+    }
+
+    fn piece(&self, out: &mut [u8], at: usize, p: Piece) -> Option<usize>
+        ensures { Shows self.now.f.now self.now.w.now out.old at (ok_piece self.now.w.now p) (piece_text p) out.new result }
+    {
+        match p {
+            Piece::Text(s) => text(out, at, s),
+            Piece::Number(n) => number(out, at, n),
+            Piece::Name(x) => self.quoted(out, at, x),
+            Piece::Type(t) => self.render(out, at, t, false),
+            Piece::Resolved(t) => self.render(out, at, t, true),
+        }
+    }
+
+    pub fn write(&self, out: &mut [u8], at: usize, pieces: &[Piece]) -> Option<usize>
+        ensures { Shows self.now.f.now self.now.w.now out.old at (ok_pieces self.now.w.now pieces.now) (pieces_text pieces.now) out.new result }
+    {
+        let mut to = at;
+        for &p in pieces {
+            to = self.piece(out, to, p)?;
+        }
+        Some(to)
+    }
 }

@@ -1,138 +1,92 @@
--- A row is searched cell by cell: what is sought in the row is what is sought in the rest from i on.
-use mathlib.Core.Bool.{Bool, true, false}
-use mathlib.Core.List.{List, ◌∷◌, ◌++◌}
-use mathlib.Core.Option.{some}
-use mathlib.Core.Path.{◌≡◌, refl, sym, ap, ◌∙◌}
-use Prim.Native.Nat.{ℕ, suc, ◌+◌, ◌-◌, ◌≤◌, ◌<◌}
-use native.Mathlib.Omega.{arith}
+-- A row is searched cell by cell: what is sought in the row is what is sought in the rest from here on.
+use Rattle.std.proofs.Common.{List, ◌≡◌, ◌++◌, ℕ, suc, ◌+◌, ◌≤◌, ◌<◌, refl, sym, ap, ◌∙◌, arith}
+use Rattle.std.specs.Prelude.{None, Some}
 use borrow.Author.Tests.{eq-eqb, ne_eqb}
-use lib.Dec.{eqb}
-use lib.ListN.{length, get_or, length-append}
-use Rattle.plain.specs.Slices.{slice}
-use Rattle.unification.specs.Ty.{Kind, Record, Union, Ty, Row, ε, cell, row_len}
+use Rattle.unification.specs.Ty.{Kind, Ty, Row, ε, cell, row_len}
 use Rattle.unification.specs.Unify.{find_key}
-use Rattle.plain_theory.specs.Words.{kind_tag, head_spelled, spelled, row_spelled}
-use Rattle.plain.specs.Tokens.{head_size, EndsAt, FoundAt, FindsAt}
-use Rattle.plain.proofs.Slices.{slice_long, slice_rest, slice_word}
+use Rattle.plain_theory.specs.Words.{spelled, row_spelled}
+use Rattle.plain.specs.Tokens.{behind, label_of, NoCell, FirstCell, Absent, FoundAt}
+use Rattle.plain.proofs.Types.{past_type}
 
--- ---- The words before a cell's type
+-- ---- The first cell of a row
 
-pub head_long : (k : Kind) (key label tag : ℕ) → kind_tag k ≡ tag → length (head_spelled k key label) ≡ head_size tag
-unfolding head_spelled head_size kind_tag
-head_long Record key label tag e = ap head_size e
-head_long Union key label tag e = ap head_size e
+pub record Held (k : Kind) (r : Row) (key label : ℕ) (ws : List ℕ) : Type 0 where
+  pub name : ℕ
+  pub ty : Ty
+  pub others : Row
+  pub is : r ≡ cell key name ty others
+  pub named : label ≡ label_of k name
+  pub words : ws ≡ spelled ty ++ row_spelled others k
 
-pub key_in : (k : Kind) (key label tag : ℕ) (ws : List ℕ) → kind_tag k ≡ tag → get_or (head_spelled k key label ++ ws) (head_size tag - 1) 0 ≡ key
-unfolding head_spelled head_size kind_tag
-key_in Record key label tag ws e = ap (λ (n : ℕ). get_or (9 ∷ key ∷ ws) (head_size n - 1) 0) (sym e)
-key_in Union key label tag ws e = ap (λ (n : ℕ). get_or (10 ∷ label ∷ 9 ∷ key ∷ ws) (head_size n - 1) 0) (sym e)
+module _ {row : List ℕ} (k : Kind) where
+  pub held : {key label : ℕ} {ws : List ℕ} → FirstCell row key label ws → (r : Row) → row ≡ row_spelled r k → 0 < row_len r → Held k r key label ws
+  unfolding row_spelled row_len
+  held f ε e some = absurd (omega arith)
+  held f (cell x y t r) e some =
+      let g = f k x y (spelled t ++ row_spelled r k) e in
+      record { name = y; ty = t; others = r; is = ap (λ (n : ℕ). cell n y t r) (sym g.0); named = g.1; words = g.2 }
 
-pub head_two : (tag : ℕ) → 2 ≤ head_size tag
-unfolding head_size
-head_two tag = go (eqb tag 6) refl
-  where
-    go : (b : Bool) → eqb tag 6 ≡ b → 2 ≤ head_size tag
-    go true q = rw q (omega arith)
-    go false q = rw q (omega arith)
+  pub not_held : NoCell row → (r : Row) → row ≡ row_spelled r k → 0 < row_len r → ⊥
+  unfolding row_spelled row_len
+  not_held f ε e some = absurd (omega arith)
+  not_held f (cell x y t r) e some = f k x y (spelled t ++ row_spelled r k) e
 
--- ---- The search that has come to the j-th cell, at i
+pub held_behind : {k : Kind} {r : Row} {key label : ℕ} {ws : List ℕ} (c : Held k r key label ws) → behind ws 1 ≡ Some (row_spelled c.others k)
+held_behind {k} c = ap (λ (l : List ℕ). behind l 1) c.words ∙ past_type c.ty (row_spelled c.others k)
 
-pub record Finding (l : List ℕ) (tag from n to key h i j : ℕ) : Type 0 where
-  pub inside : to ≤ length l
-  pub head : h ≡ head_size tag
-  pub within : j ≤ n
-  pub rest : (k : Kind) (s : Row) → kind_tag k ≡ tag → row_len s ≡ n → slice from to l ≡ row_spelled s k
-      → (s' : Row) × (slice i to l ≡ row_spelled s' k) × (find_key key s ≡ find_key key s') × (row_len s' + j ≡ n)
+pub held_many : {k : Kind} {r : Row} {key label : ℕ} {ws : List ℕ} (c : Held k r key label ws) → row_len r ≡ suc (row_len c.others)
+unfolding row_len
+held_many c = ap row_len c.is
 
-pub find_start : (l : List ℕ) (tag from n to key h : ℕ) → to ≤ length l → h ≡ head_size tag → Finding l tag from n to key h from 0
-find_start l tag from n to key h p e = record { inside = p; head = e; within = omega arith; rest = λ k s t m q. (s, q, refl, omega arith) }
+-- ---- The search that has come to the j-th cell
 
--- The cell there, and the rest of its row.
-record Held (l : List ℕ) (to key n i j : ℕ) (k : Kind) (s : Row) : Type 0 where
-  name : ℕ
-  label : ℕ
-  ty : Ty
-  others : Row
-  stands : slice i to l ≡ head_spelled k name label ++ (spelled ty ++ row_spelled others k)
-  same : find_key key s ≡ find_key key (cell name label ty others)
-  many : suc (row_len others) + j ≡ n
+pub record Sought (n key : ℕ) (rest : List ℕ) (j : ℕ) (k : Kind) (s : Row) : Type 0 where
+  pub row : Row
+  pub stands : rest ≡ row_spelled row k
+  pub same : find_key key s ≡ find_key key row
+  pub many : row_len row + j ≡ n
 
-module _ {l : List ℕ} {tag from n to key h i j : ℕ} (g : Finding l tag from n to key h i j) where
-  pub find_none : n ≤ j → FindsAt l tag from n to key to
+pub record Finding (row : List ℕ) (n key : ℕ) (rest : List ℕ) (j : ℕ) : Type 0 where
+  pub to : (k : Kind) (s : Row) → row_len s ≡ n → row ≡ row_spelled s k → Sought n key rest j k s
+
+pub find_start : (row : List ℕ) (n key : ℕ) → Finding row n key row 0
+find_start row n key = record { to = λ k s m e. record { row = s; stands = e; same = refl; many = omega arith } }
+
+module _ {row : List ℕ} {n key : ℕ} {rest : List ℕ} {j : ℕ} (g : Finding row n key rest j) where
+  pub find_none : n ≤ j → Absent row n key
   unfolding find_key row_len
-  find_none le = record { is = λ k s t m q. let x = g.rest k s t m q in go k s x.0 x.2 x.3; within = omega arith }
+  find_none le k s m e = let x = g.to k s m e in go s x.row x.same x.many
     where
-      go : (k : Kind) (s s' : Row) → find_key key s ≡ find_key key s' → row_len s' + j ≡ n → FoundAt l k key to to (find_key key s)
-      go k s ε e m = rw e refl
-      go k s (cell a b u r) e m = absurd (omega arith)
+      go : (s s' : Row) → find_key key s ≡ find_key key s' → row_len s' + j ≡ n → find_key key s ≡ None
+      go s ε e m = e
+      go s (cell a b u r) e m = absurd (omega arith)
 
   module _ (lt : j < n) where
-    held : (k : Kind) (s : Row) → kind_tag k ≡ tag → row_len s ≡ n → slice from to l ≡ row_spelled s k → Held l to key n i j k s
-    unfolding row_spelled row_len
-    held k s t m q = let x = g.rest k s t m q in go x.0 x.1 x.2 x.3
-      where
-        go : (s' : Row) → slice i to l ≡ row_spelled s' k → find_key key s ≡ find_key key s' → row_len s' + j ≡ n → Held l to key n i j k s
-        go ε a b c = absurd (omega arith)
-        go (cell x y u r) a b c = record { name = x; label = y; ty = u; others = r; stands = a; same = b; many = c }
+    pub find_cut : NoCell rest → Absent row n key
+    find_cut f k s m e = let x = g.to k s m e in absurd (not_held k f x.row x.stands (omega (arith, x.many)))
 
-    room : (k : Kind) (s : Row) → kind_tag k ≡ tag → row_len s ≡ n → slice from to l ≡ row_spelled s k → (h ≤ to - i) × (2 ≤ h)
-    room k s t m q =
-        let c = held k s t m q in
-        let w = spelled c.ty ++ row_spelled c.others k in
-        let long : length (head_spelled k c.name c.label ++ w) ≡ head_size tag + length w = length-append (head_spelled k c.name c.label) w
-        ∙ ap (λ (a : ℕ). a + length w) (head_long k c.name c.label tag t) in
-        (omega (arith, slice_long l i to g.inside, ap length c.stands, long, g.head), omega (arith, head_two tag, g.head))
+    module _ {a label : ℕ} {ws : List ℕ} (f : FirstCell rest a label ws) where
+      here : (k : Kind) (s : Row) (m : row_len s ≡ n) (e : row ≡ row_spelled s k) → Held k (g.to k s m e).row a label ws
+      here k s m e = let x = g.to k s m e in held k f x.row x.stands (omega (arith, x.many))
 
-    pub find_cut : to - i < h → FindsAt l tag from n to key to
-    find_cut s = record { is = λ k r t m q. absurd (omega (arith, room k r t m q)); within = omega arith }
+      pub find_broken : behind ws 1 ≡ None → Absent row n key
+      find_broken q k s m e = let z : None ≡ Some (row_spelled (here k s m e).others k) = sym q ∙ held_behind (here k s m e) in absurd (cc)
 
-    pub find_past_end : to ≤ i → FindsAt l tag from n to key to
-    find_past_end s = record { is = λ k r t m q. absurd (omega (arith, room k r t m q)); within = omega arith }
-
-    module _ (inner : i < to) {a : ℕ} (e : a ≡ get_or l (i + h - 1) 0) where
-      name_is : (k : Kind) (s : Row) (t : kind_tag k ≡ tag) (m : row_len s ≡ n) (q : slice from to l ≡ row_spelled s k) → a ≡ (held k s t m q).name
-      name_is k s t m q =
-          let c = held k s t m q in
-          let w = spelled c.ty ++ row_spelled c.others k in
-          let long : length (head_spelled k c.name c.label ++ w) ≡ head_size tag + length w = length-append (head_spelled k c.name c.label) w
-          ∙ ap (λ (b : ℕ). b + length w) (head_long k c.name c.label tag t) in
-          let place : i + h - 1 ≡ i + (head_size tag - 1) = omega (arith, g.head, room k s t m q) in
-          e ∙ ap (λ (b : ℕ). get_or l b 0) place
-          ∙ slice_word l i to (head_spelled k c.name c.label ++ w) g.inside c.stands (head_size tag - 1) (omega (arith, long, head_two tag))
-          ∙ key_in k c.name c.label tag w t
-
-      pub find_here : a ≡ key → FindsAt l tag from n to key i
+      pub find_here : a ≡ key → FoundAt row n key label ws
       unfolding find_key
-      find_here p = record {
-        is = λ k s t m q.
-            let c = held k s t m q in
-            let same_key : key ≡ c.name = sym p ∙ name_is k s t m q in
-            let found : find_key key s ≡ some (c.label, c.ty) = c.same ∙ rw (eq-eqb key c.name same_key, find_key) in
-            rw found (
-              inner,
-              (
-                row_spelled c.others k,
-                c.stands
-                    ∙ ap (λ (z : ℕ). head_spelled k z c.label ++ (spelled c.ty ++ row_spelled c.others k)) (sym same_key),
-              ),
-            );
-        within = omega arith;
-      }
+      find_here p k s m e =
+          let c = here k s m e in
+          let found : find_key key s ≡ Some (c.name, c.ty) =
+          (g.to k s m e).same ∙ ap (find_key key) c.is ∙ rw (eq-eqb key a (sym p), find_key) in
+          record { cell = (c.name, c.ty); is = found; named = c.named; behind = row_spelled c.others k; words = c.words }
 
-      pub find_next : (a ≡ key → ⊥) → {r : ℕ} → EndsAt l (i + h) to r → Finding l tag from n to key h r (j + 1)
+      pub find_next : (a ≡ key → ⊥) → {more : List ℕ} → behind ws 1 ≡ Some more → Finding row n key more (j + 1)
       unfolding find_key
-      find_next p {r} ends = record {
-        inside = g.inside;
-        head = g.head;
-        within = omega arith;
-        rest = λ k s t m q.
-            let c = held k s t m q in
-            let w = row_spelled c.others k in
-            let start : i + length (head_spelled k c.name c.label) ≡ i + h = omega (arith, head_long k c.name c.label tag t, g.head) in
-            let type-there : slice (i + h) to l ≡ spelled c.ty ++ w =
-            rw start at (slice_rest l i to (head_spelled k c.name c.label) (spelled c.ty ++ w) c.stands) in
-            let end : r ≡ i + h + length (spelled c.ty) = ends.is c.ty w type-there in
-            let other : find_key key (cell c.name c.label c.ty c.others) ≡ find_key key c.others =
-            rw (ne_eqb key c.name (λ y. p (name_is k s t m q ∙ sym y)), find_key) in
-            (c.others, rw end (slice_rest l (i + h) to (spelled c.ty) w type-there), c.same ∙ other, omega (arith, c.many));
+      find_next p {more} q = record {
+        to = λ k s m e.
+            let c = here k s m e in
+            let x = g.to k s m e in
+            let z : Some more ≡ Some (row_spelled c.others k) = sym q ∙ held_behind c in
+            let other : find_key key (cell a c.name c.ty c.others) ≡ find_key key c.others = rw (ne_eqb key a (λ y. p (sym y)), find_key) in
+            record { row = c.others; stands = cc; same = x.same ∙ ap (find_key key) c.is ∙ other; many = omega (arith, x.many, held_many c) };
       }

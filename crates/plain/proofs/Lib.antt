@@ -1,12 +1,13 @@
-pub mod Slices
-pub mod Copying
 pub mod Tokens
 pub mod Swaps
+pub mod Copying
 pub mod Passes
+pub mod Types
+pub mod Cells
 pub mod Finding
 pub mod Aliking
-pub mod Staging
-pub mod Lowering
 pub mod Pairing
 pub mod Stepping
+pub mod Slices
+pub mod Staging
 pub mod Running

@@ -1,31 +1,32 @@
 -- The run: the stage that stands in the slice has the result of the first. Each turn leaves fewer unknowns in the pairs, or as
 -- many and fewer words on the left sides; both are at most the words of the stage, so neither count runs out.
-use mathlib.Core.List.{List, [], ◌∷◌, ◌++◌, append_assoc, map}
-use mathlib.Core.Logic.{inl, inr, ⊎_elim, ⊎_map}
-use mathlib.Core.Path.{◌≡◌, refl, sym, ap, ◌∙◌}
-use Prim.Native.Nat.{ℕ, suc, ◌+◌, ◌-◌, ◌*◌, ◌≤◌, ◌<◌}
-use native.Mathlib.Nat.{suc-mul}
-use native.Mathlib.Omega.{arith}
-use lib.ListN.{length, length-append}
+use Rattle.std.proofs.Common.{List, [], ◌∷◌, ◌++◌, append_assoc, map, ◌≡◌, ℕ, suc, ◌+◌, ◌-◌, ◌*◌, ◌≤◌, ◌<◌, length, take, drop, refl, sym, ap, ◌∙◌, inl, inr, ⊎_elim, arith, length-append, length-drop}
+use Rattle.std.proofs.lemmas.List.{take_at, take-append-le, length-take, length-take-le}
+use Rattle.std.proofs.lemmas.Slice.{between_is}
+use Rattle.std.proofs.Math.Seq.{drop-drop}
+use Rattle.std.proofs.Math.Nat.{suc-mul}
+use Rattle.std.specs.Prelude.{Err, None, Ok, Option, Result, Some}
+use Rattle.std.specs.Borrow.{Bor}
+use Rattle.std.specs.Option.{ok_or}
+use Rattle.std.specs.Result.{IsErrAnd}
+use Rattle.std.proofs.lemmas.Result.{err_from_is_err_and}
 use Rattle.plain.specs.Slices.{slice}
 use Rattle.unification.specs.Ty.{Kind, Ty, leaf, node, Var, Error, Row, ε, cell}
 use Rattle.unification.specs.Robinson.{Equation}
 use Rattle.unification.proofs.Tests.{clash}
-use Rattle.plain_theory.specs.Plain.{Stage, in_pair, in_binding, Step, drops, fails, splits, binds, step, needs, done, on, after, next_of, next, full}
+use Rattle.plain_theory.specs.Plain as Theory
+use Rattle.plain_theory.specs.Plain.{Stage, solved, failed, in_pair, in_binding, Step, drops, fails, splits, binds, step, needs, done, on, after, next_of, next, full}
 use Rattle.plain_theory.specs.Words.{head_spelled, spelled, row_spelled, pairs_spelled, bindings_spelled}
 use Rattle.plain_theory.specs.Falls.{in_pairs_append, lefts, lefts_append, words_some, replaced_pairs, StepFalls, step_falls}
 use Rattle.plain_theory.specs.Solve.{without, mem_without, without_fewer, Lists, unknowns, row_unknowns, all_unknowns, all_listed, solve}
 use Rattle.plain_theory.proofs.Runs.{solve_next, solve_done, solve_stuck, solve_full}
 use Rattle.plain_theory.proofs.Words.{spelled_words, needs_words}
-use Rattle.plain.specs.declared.Plain.{Plain}
-use Rattle.plain.specs.declared.Plain.TheVariants.{Success, Failure, TooFew}
 use Rattle.plain.specs.declared.Next.{Next}
 use Rattle.plain.specs.declared.Next.TheVariants.{Done, Stuck, Drop, Bind, Split}
-use Rattle.plain.specs.declared.Staged.{Staged}
-use Rattle.plain.specs.declared.Staged.TheVariants.{At, Full}
+use Rattle.plain.specs.declared.Unsolved.{Unsolved}
 use Rattle.plain.specs.Tokens.{swapped}
-use Rattle.plain.specs.Stages.{RowsAt, ToldOf, Told, Tells, Lays, Binds, Splits, Lowers, Runs}
-use Rattle.plain.proofs.Slices.{slice_long}
+use Rattle.plain.specs.Stages.{Rows, ToldOf, Told, Tells, Lays, Stays, Gives, Runs}
+use Rattle.plain.proofs.Slices.{slice_long, slice_low, slice_rest, part_is}
 use Rattle.plain.proofs.Swaps.{swap_pairs, swap_bindings}
 
 -- ---- The counts at the start
@@ -91,71 +92,40 @@ pairs_append (q ∷ qs) ps =
 
 -- ---- The measure
 
-pub less_words : (u h w : ℕ) → (w ≡ 0 → ⊥) → u * (h + 1) + (w - 1) < u * (h + 1) + w
-less_words u h w n = omega arith
+pub less_words : (u h : ℕ) {w v : ℕ} → (1 ≤ w) × (v ≡ w - 1) → u * (h + 1) + v < u * (h + 1) + w
+less_words u h t = omega (arith, t)
 
-pub less_unknowns : (u h w : ℕ) → (u ≡ 0 → ⊥) → (u - 1) * (h + 1) + h < u * (h + 1) + w
-less_unknowns u h w n =
-    let one : u ≡ suc (u - 1) = omega arith in
-    let all : u * (h + 1) ≡ (u - 1) * (h + 1) + (h + 1) = ap (λ (k : ℕ). k * (h + 1)) one ∙ suc-mul (u - 1) (h + 1) in
+pub less_unknowns : {u x : ℕ} (h w : ℕ) {v : ℕ} → (1 ≤ u) × (x ≡ u - 1) → v ≡ h → x * (h + 1) + v < u * (h + 1) + w
+less_unknowns {u} {x} h w t e =
+    let one : u ≡ suc x = omega (arith, t) in
+    let all : u * (h + 1) ≡ x * (h + 1) + (h + 1) = ap (λ (k : ℕ). k * (h + 1)) one ∙ suc-mul x (h + 1) in
     omega arith
+
+-- A turn that cannot go on tells that it is too few words.
+pub too_few : {A : Type 0} (r : Result ℕ Unsolved) {f : Unsolved} (o : Option A) → IsErrAnd r (λ e. e ≡ f) → o ≡ None
+    → ◌≡◌ {A = Result A Unsolved} (Err f) (ok_or o Unsolved.TooFew) → r ≡ Err Unsolved.TooFew
+too_few {A} r {f} o h e g =
+    let p = err_from_is_err_and r h in
+    let z : ◌≡◌ {A = Result A Unsolved} (Err f) (Err Unsolved.TooFew) = g ∙ ap (λ (x : Option A). ok_or x Unsolved.TooFew) e in
+    let same : f ≡ Unsolved.TooFew = cc in
+    p.1 ∙ ap Err (p.2 ∙ same)
 
 -- ---- What is told says what comes next
 
-module _ (l : List ℕ) (p m q : ℕ) where
-  told_done : (st : Step) → ToldOf l p m q st Done → ⊥
-  told_done drops e = clash (cc)
-  told_done fails e = clash (cc)
-  told_done (splits qs) e = let z = e.0 in clash (cc)
-  told_done (binds x t) e = let z = e.2 in clash (cc)
-
-  told_stuck : (st : Step) → ToldOf l p m q st Stuck → st ≡ fails
-  told_stuck drops e = clash (cc)
-  told_stuck fails e = refl
-  told_stuck (splits qs) e = let z = e.0 in clash (cc)
-  told_stuck (binds x t) e = let z = e.2 in clash (cc)
-
-  told_drop : (st : Step) (o : ℕ) → ToldOf l p m q st (Drop o) → (st ≡ drops) × (o ≡ q)
-  told_drop drops o e = (refl, cc)
-  told_drop fails o e = clash (cc)
-  told_drop (splits qs) o e = let z = e.0 in clash (cc)
-  told_drop (binds x t) o e = let z = e.2 in clash (cc)
-
-  told_bind : (st : Step) (x f o u : ℕ) → ToldOf l p m q st (Bind x f o u) → (t : Ty) × (st ≡ binds x t) × (u ≡ q) × (slice f o l ≡ spelled t)
-  told_bind drops x f o u e = clash (cc)
-  told_bind fails x f o u e = clash (cc)
-  told_bind (splits qs) x f o u e = let z = e.0 in clash (cc)
-  told_bind (binds y t) x f o u e =
-      let z : Bind x f o u ≡ Bind y e.0 e.1 q = e.2 in
-      let a : f ≡ e.0 = cc in
-      let b : o ≡ e.1 = cc in
-      let c : y ≡ x = cc in
-      (t, ap (λ (v : ℕ). binds v t) c, cc, rw (a, b) e.3)
-
-  told_split : (st : Step) (i u : ℕ) → ToldOf l p m q st (Split i u) → (qs : List Equation) × (st ≡ splits qs) × (u ≡ q) × RowsAt l p i u qs
-  told_split drops i u e = clash (cc)
-  told_split fails i u e = clash (cc)
-  told_split (splits qs) i u e = let z : Split i u ≡ Split m q = e.0 in let a : i ≡ m = cc in let b : u ≡ q = cc in (qs, refl, b, rw (a, b) e.1)
-  told_split (binds x t) i u e = let z = e.2 in clash (cc)
-
 -- The first pair, and what is told of it.
-record Taken (l : List ℕ) (p e : ℕ) (ps : List Equation) (r : Next) : Type 0 where
+record Taken (ps : List Equation) (r : Next) : Type 0 where
   first : Equation
   rest : List Equation
   are : ps ≡ first ∷ rest
-  m : ℕ
-  q : ℕ
-  onward : p ≤ q
-  behind : slice q e l ≡ pairs_spelled rest
-  told : ToldOf l p m q (step first.left first.right) r
+  told : ToldOf r (pairs_spelled rest) (step first.left first.right)
 
-taken : {l : List ℕ} {p e : ℕ} {r : Next} (ps : List Equation) → (r ≡ Done → ⊥) → Told l p e ps r → Taken l p e ps r
+taken : {r : Next} (ps : List Equation) → (r ≡ Done → ⊥) → Told r ps → Taken ps r
 taken [] n t = absurd (n t)
-taken (c ∷ ps) n t = record { first = c; rest = ps; are = refl; m = t.0; q = t.1; onward = t.2; behind = t.3; told = t.4 }
+taken (c ∷ ps) n t = record { first = c; rest = ps; are = refl; told = t }
 
-none_left : (l : List ℕ) (p e : ℕ) (ps : List Equation) → Told l p e ps Done → ps ≡ []
-none_left l p e [] t = refl
-none_left l p e (c ∷ ps) t = absurd (told_done l p t.0 t.1 (step c.left c.right) t.4)
+none_left : (ps : List Equation) → Told Done ps → ps ≡ []
+none_left [] t = refl
+none_left (c ∷ ps) t = absurd t
 
 next_none : (g : Stage) → g.pairs ≡ [] → next g ≡ done
 unfolding next next_of
@@ -166,42 +136,46 @@ next_after : (g : Stage) (c : Equation) (ps : List Equation) → g.pairs ≡ c �
 unfolding next next_of
 next_after g c ps e st f = ap (λ (qs : List Equation). next_of qs g.bindings) e ∙ ap (λ (s : Step). after s ps g.bindings) f
 
+lays_as : {a b out out' : List ℕ} {r r' : Option (ℕ × ℕ)} → r ≡ r' → Lays a b out out' r → Lays a b out out' r'
+lays_as e f = rw e at f
+
+pub stays_as : {out out' : List ℕ} {r r' : Option (ℕ × ℕ)} → r ≡ r' → Stays out out' r → Stays out out' r'
+stays_as e f = rw e at f
+
 -- ---- The stage that stands there
 
 pub record Standing (lent : ℕ) (g₀ : Stage) (l : List ℕ) (b p e unknowns words : ℕ) : Type 0 where
   pub stage : Stage
   pub same : solve lent g₀ ≡ solve lent stage
   pub bound : slice 0 b l ≡ bindings_spelled stage.bindings
-  pub behind : b ≤ p
   pub pairs : slice p e l ≡ pairs_spelled stage.pairs
   pub fewer : lefts stage.pairs ≤ words
   pub list : List ℕ
   pub lists : Lists list stage.pairs
   pub few : length list ≤ unknowns
 
-pub record Running (l₀ : List ℕ) (h b₀ e₀ : ℕ) (l : List ℕ) (b p e unknowns words : ℕ) : Type 0 where
-  pub half : length l ≡ h + h
+pub record Running (l₀ : List ℕ) (b₀ e₀ : ℕ) (l room : List ℕ) (b p e unknowns words : ℕ) : Type 0 where
   pub long : length l ≡ length l₀
-  pub low_b : b ≤ h
-  pub low_p : p ≤ h
-  pub low_e : e ≤ h
-  pub stands : (lent : ℕ) (g : Stage) → h + h ≤ lent → lent ≤ h + h + 1 → slice 0 b₀ l₀ ≡ bindings_spelled g.bindings
+  pub room_long : length room ≡ length l₀
+  pub b_p : b ≤ p
+  pub p_e : p ≤ e
+  pub e_in : e ≤ length l
+  pub stands : (lent : ℕ) (g : Stage) → length l₀ + length l₀ ≤ lent → lent ≤ length l₀ + length l₀ + 1 → slice 0 b₀ l₀ ≡ bindings_spelled g.bindings
       → slice b₀ e₀ l₀ ≡ pairs_spelled g.pairs → Standing lent g l b p e unknowns words
 
-pub run_start : (l : List ℕ) (h b e : ℕ) → b ≤ e → e ≤ h → length l ≡ h + h → Running l h b e l b b e h h
-run_start l h b e i j n = record {
-  half = n;
+pub run_start : (l room : List ℕ) (b e : ℕ) → (b ≤ e) × (e ≤ length l) × (length room ≡ length l) → Running l b e l room b b e (length l) (length l)
+run_start l room b e h = record {
   long = refl;
-  low_b = omega arith;
-  low_p = omega arith;
-  low_e = j;
+  room_long = h.2;
+  b_p = omega arith;
+  p_e = h.0;
+  e_in = h.1;
   stands = λ lent g lo hi eb ep.
-      let words : length (pairs_spelled g.pairs) ≡ e - b = ap length (sym ep) ∙ slice_long l b e (omega arith) in
+      let words : length (pairs_spelled g.pairs) ≡ e - b = ap length (sym ep) ∙ slice_long l b e h.1 in
       record {
         stage = g;
         same = refl;
         bound = eb;
-        behind = omega arith;
         pairs = ep;
         fewer = omega (arith, words, lefts_few g.pairs);
         list = all_unknowns g.pairs;
@@ -210,194 +184,209 @@ run_start l h b e i j n = record {
       };
 }
 
--- The next stage, laid out in the slice or too long for it.
-module _ {lent h : ℕ} {g₀ : Stage} (lo : h + h ≤ lent) (hi : lent ≤ h + h + 1) {l : List ℕ} {b p e u w : ℕ} (half : length l ≡ h + h) (low_b : b ≤ h)
-    (low_e : e ≤ h) (s : Standing lent g₀ l b p e u w) where
-  fits : needs s.stage ≤ lent
-  fits =
-      let bs : length (bindings_spelled s.stage.bindings) ≡ b - 0 = ap length (sym s.bound) ∙ slice_long l 0 b (omega arith) in
-      let ps : length (pairs_spelled s.stage.pairs) ≡ e - p = ap length (sym s.pairs) ∙ slice_long l p e (omega arith) in
-      omega (arith, needs_words s.stage, s.behind)
+module _ {l₀ : List ℕ} {b₀ e₀ : ℕ} {l room : List ℕ} {b p e u w : ℕ} (g : Running l₀ b₀ e₀ l room b p e u w) where
+  fits : {lent : ℕ} {g₀ : Stage} → length l₀ + length l₀ ≤ lent → (s : Standing lent g₀ l b p e u w) → needs s.stage ≤ lent
+  fits lo s =
+      let bs : length (bindings_spelled s.stage.bindings) ≡ b - 0 = ap length (sym s.bound) ∙ slice_long l 0 b (omega (arith, g.b_p, g.p_e, g.e_in)) in
+      let ps : length (pairs_spelled s.stage.pairs) ≡ e - p = ap length (sym s.pairs) ∙ slice_long l p e g.e_in in
+      omega (arith, needs_words s.stage, g.b_p, g.p_e, g.e_in, g.long)
 
-  over_full : (g' : Stage) → next s.stage ≡ on g' → {out : List ℕ} {r : Staged} → Lays h (bindings_spelled g'.bindings) (pairs_spelled g'.pairs) out r
-      → r ≡ Full → solve lent g₀ ≡ full
-  over_full g' nx L f = s.same ∙ solve_next lent s.stage g' fits nx ∙ solve_full lent g' (omega (arith, needs_words g', L.over f))
-
-  landed : (g' : Stage) → next s.stage ≡ on g' → {out : List ℕ} {r : Staged} → Lays h (bindings_spelled g'.bindings) (pairs_spelled g'.pairs) out r
-      → {i k : ℕ} → r ≡ At i k
-      → {u' w' : ℕ} → lefts g'.pairs ≤ w' → (us : List ℕ) → Lists us g'.pairs → length us ≤ u' → Standing lent g₀ out i i k u' w'
-  landed g' nx L {i} {k} f le us ls few = record {
-    stage = g';
-    same = s.same ∙ solve_next lent s.stage g' fits nx;
-    bound = (L.there i k f).0;
-    behind = omega arith;
-    pairs = (L.there i k f).1;
-    fewer = le;
-    list = us;
-    lists = ls;
-    few = few;
-  }
-
-module _ {l₀ : List ℕ} {h b₀ e₀ : ℕ} {l : List ℕ} {b p e u w : ℕ} (g : Running l₀ h b₀ e₀ l b p e u w) {t : Next} (T : Tells l p e t) where
   -- what is told of the stage that stands there
-  telling : {lent : ℕ} {g₀ : Stage} (s : Standing lent g₀ l b p e u w) {r : Next} → t ≡ r → Told l p e s.stage.pairs r
-  telling s q = rw q at (T.is s.stage.pairs s.pairs)
+  telling : {t : Next} → Tells (take (e - p) (drop p l)) t → {lent : ℕ} {g₀ : Stage} (s : Standing lent g₀ l b p e u w) → Told t s.stage.pairs
+  telling T s = T.is s.stage.pairs (part_is l p e ∙ s.pairs)
 
-  pub run_done : t ≡ Done → Runs l₀ h 0 b₀ e₀ l (Success b)
-  run_done q = record {
+  pub run_done : Tells (take (e - p) (drop p l)) Done → Runs l₀ (length l₀) 0 b₀ e₀ l (Ok b)
+  run_done T = record {
     is = λ lent g₀ lo hi eb ep.
         let s = g.stands lent g₀ lo hi eb ep in
-        let bs : length (bindings_spelled s.stage.bindings) ≡ b - 0 = ap length (sym s.bound) ∙ slice_long l 0 b (omega (arith, g.low_b, g.half)) in
+        let bs : length (bindings_spelled s.stage.bindings) ≡ b - 0 =
+        ap length (sym s.bound) ∙ slice_long l 0 b (omega (arith, g.b_p, g.p_e, g.e_in)) in
         let same : b ≡ length (bindings_spelled s.stage.bindings) = omega arith in
-        rw (s.same ∙ solve_done lent s.stage (fits lo hi g.half g.low_b g.low_e s)
-        (next_none s.stage (none_left l p e s.stage.pairs (telling s q))))
-        (ap Success same, ap (λ (k : ℕ). slice 0 k l) (sym same) ∙ s.bound);
+        rw (s.same ∙ solve_done lent s.stage (fits lo s) (next_none s.stage (none_left s.stage.pairs (telling T s))))
+        (ap Ok same, ap (λ (k : ℕ). slice 0 k l) (sym same) ∙ s.bound);
     long = g.long;
   }
 
-  pub run_stuck : t ≡ Stuck → Runs l₀ h 0 b₀ e₀ l Failure
+  pub run_stuck : Tells (take (e - p) (drop p l)) Stuck → Runs l₀ (length l₀) 0 b₀ e₀ l (Err Unsolved.Failure)
   unfolding after
-  run_stuck q = record {
+  run_stuck T = record {
     is = λ lent g₀ lo hi eb ep.
         let s = g.stands lent g₀ lo hi eb ep in
-        let c = taken s.stage.pairs (λ z. clash (cc)) (telling s q) in
-        let f = told_stuck l p c.m c.q (step c.first.left c.first.right) c.told in
-        rw (s.same ∙ solve_stuck lent s.stage (fits lo hi g.half g.low_b g.low_e s)
-        (next_after s.stage c.first c.rest c.are fails f)) refl;
+        let c = taken s.stage.pairs (λ z. clash (cc)) (telling T s) in
+        rw (s.same ∙ solve_stuck lent s.stage (fits lo s) (next_after s.stage c.first c.rest c.are fails c.told)) refl;
     long = g.long;
   }
 
   -- a pair is left where there is something to be done
-  some_words : {lent : ℕ} {g₀ : Stage} (s : Standing lent g₀ l b p e u w) {r : Next} → Taken l p e s.stage.pairs r → w ≡ 0 → ⊥
+  some_words : {lent : ℕ} {g₀ : Stage} (s : Standing lent g₀ l b p e u w) {r : Next} → Taken s.stage.pairs r → 0 < w
   unfolding lefts
-  some_words s c z = omega (arith, s.fewer, ap lefts c.are, words_some c.first.left)
+  some_words s c = omega (arith, s.fewer, ap lefts c.are, words_some c.first.left)
 
-  never_out : {r : Next} → t ≡ r → (r ≡ Done → ⊥) → w ≡ 0 → Runs l₀ h 0 b₀ e₀ l TooFew
-  never_out q n z = record {
-    is = λ lent g₀ lo hi eb ep. let s = g.stands lent g₀ lo hi eb ep in absurd (some_words s (taken s.stage.pairs n (telling s q)) z);
+  pub never_out : {t : Next} → Tells (take (e - p) (drop p l)) t → (t ≡ Done → ⊥) → (1 ≤ w → ⊥) → Runs l₀ (length l₀) 0 b₀ e₀ l (Err Unsolved.TooFew)
+  never_out T n z = record {
+    is = λ lent g₀ lo hi eb ep.
+        let s = g.stands lent g₀ lo hi eb ep in
+        absurd (omega (arith, some_words s (taken s.stage.pairs n (telling T s))));
     long = g.long;
   }
 
   -- ---- A pair is dropped
 
-  module _ {o : ℕ} (q : t ≡ Drop o) where
-    pub run_drop_none : w ≡ 0 → Runs l₀ h 0 b₀ e₀ l TooFew
-    run_drop_none z = never_out q (λ y. clash (cc)) z
+  pub run_drop : (o : Bor (List ℕ)) → Tells (take (e - p) (drop p l)) (Drop o) → {w' : ℕ} → w' ≡ w - 1
+      → Running l₀ b₀ e₀ l room b (e - length o.now) e u w'
+  unfolding after lefts pairs_spelled
+  run_drop o T {w'} le = record {
+    long = g.long;
+    room_long = g.room_long;
+    b_p = omega (arith, shorter, g.b_p, g.p_e);
+    p_e = omega arith;
+    e_in = g.e_in;
+    stands = λ lent g₀ lo hi eb ep.
+        let s = g.stands lent g₀ lo hi eb ep in
+        let c = taken s.stage.pairs (λ z. clash (cc)) (telling T s) in
+        let ls : Lists s.list (c.first ∷ c.rest) = rw c.are at s.lists in
+        let front = spelled c.first.left ++ spelled c.first.right in
+        let whole : slice p e l ≡ front ++ pairs_spelled c.rest =
+        s.pairs ∙ ap pairs_spelled c.are ∙ sym (append_assoc (spelled c.first.left) (spelled c.first.right) (pairs_spelled c.rest)) in
+        let place : p + length front ≡ e - length o.now = omega
+        (arith, ap length whole ∙ length-append front (pairs_spelled c.rest), slice_long l p e g.e_in, ap length c.told.1) in
+        record {
+          stage = record { pairs = c.rest; bindings = s.stage.bindings };
+          same = s.same ∙ solve_next lent s.stage (record { pairs = c.rest; bindings = s.stage.bindings }) (fits lo s)
+              (next_after s.stage c.first c.rest c.are drops c.told.0);
+          bound = s.bound;
+          pairs = ap (λ (k : ℕ). slice k e l) (sym place) ∙ slice_rest l p e front (pairs_spelled c.rest) whole;
+          fewer = omega (arith, s.fewer, ap lefts c.are, words_some c.first.left);
+          list = s.list;
+          lists = λ y i. ls y (inr i);
+          few = s.few;
+        };
+  }
+    where
+      shorter : length o.now ≤ e - p
+      shorter = omega (arith, T.within, ap length (part_is l p e) ∙ slice_long l p e g.e_in)
 
-    pub run_drop : Running l₀ h b₀ e₀ l b o e u (w - 1)
-    unfolding after lefts
-    run_drop = record {
-      half = g.half;
-      long = g.long;
-      low_b = g.low_b;
-      low_p = let le = rw q at T.within in omega (arith, le, g.low_e);
-      low_e = g.low_e;
-      stands = λ lent g₀ lo hi eb ep.
-          let s = g.stands lent g₀ lo hi eb ep in
-          let c = taken s.stage.pairs (λ z. clash (cc)) (telling s q) in
-          let f = told_drop l p c.m c.q (step c.first.left c.first.right) o c.told in
-          let ls : Lists s.list (c.first ∷ c.rest) = rw c.are at s.lists in
-          record {
-            stage = record { pairs = c.rest; bindings = s.stage.bindings };
-            same = s.same ∙ solve_next lent s.stage (record { pairs = c.rest; bindings = s.stage.bindings })
-                (fits lo hi g.half g.low_b g.low_e s)
-                (next_after s.stage c.first c.rest c.are drops f.0);
-            bound = s.bound;
-            behind = omega (arith, s.behind, c.onward, f.1);
-            pairs = ap (λ (k : ℕ). slice k e l) f.1 ∙ c.behind;
-            fewer = omega (arith, s.fewer, ap lefts c.are, words_some c.first.left);
-            list = s.list;
-            lists = λ y i. ls y (inr i);
-            few = s.few;
-          };
+  -- ---- The next stage, laid out in the room or too long for it
+
+  over_full : {lent : ℕ} {g₀ : Stage} → length l₀ + length l₀ ≤ lent → lent ≤ length l₀ + length l₀ + 1 → (s : Standing lent g₀ l b p e u w) (g' : Stage)
+      → next s.stage ≡ on g' → {room' : List ℕ} → Lays (bindings_spelled g'.bindings) (pairs_spelled g'.pairs) room room' None → solve lent g₀ ≡ full
+  over_full {lent} lo hi s g' nx L =
+      s.same ∙ solve_next lent s.stage g' (fits lo s) nx ∙ solve_full lent g' (omega (arith, needs_words g', L.over refl, g.room_long))
+
+  module _ {room' copied : List ℕ} {j k : ℕ} (stays : Stays room room' (Some (j, k))) (e' : copied ≡ take k room') where
+    k_in : k ≤ length room'
+    k_in = omega (arith, stays.long, (stays.inside j k refl).1)
+
+    there : take k (copied ++ drop k l) ≡ take k room'
+    there = ap (λ (x : List ℕ). take k (x ++ drop k l)) e' ∙ take_at (take k room') (drop k l) k (length-take-le k room' k_in)
+
+    pub copied_long : length (copied ++ drop k l) ≡ length l₀
+    copied_long = omega (arith, length-append copied (drop k l), length-drop k l, ap length e', length-take-le k room' k_in, k_in, stays.long, g.room_long, g.long)
+
+    landed : {lent : ℕ} {g₀ : Stage} → length l₀ + length l₀ ≤ lent → (s : Standing lent g₀ l b p e u w) (g' : Stage) → next s.stage ≡ on g'
+        → Lays (bindings_spelled g'.bindings) (pairs_spelled g'.pairs) room room' (Some (j, k))
+        → {u' w' : ℕ} → lefts g'.pairs ≤ w' → (us : List ℕ) → Lists us g'.pairs → length us ≤ u'
+        → Standing lent g₀ (copied ++ drop k l) j j k u' w'
+    landed {lent} lo s g' nx L le us ls few = record {
+      stage = g';
+      same = s.same ∙ solve_next lent s.stage g' (fits lo s) nx;
+      bound = slice_low room' (copied ++ drop k l) k there 0 j (stays.inside j k refl).0 ∙ (L.there j k refl).0;
+      pairs = slice_low room' (copied ++ drop k l) k there j k (omega arith) ∙ (L.there j k refl).1;
+      fewer = le;
+      list = us;
+      lists = ls;
+      few = few;
+    }
+
+    runs_on : {u' w' : ℕ} → ((lent : ℕ) (g₀ : Stage) → length l₀ + length l₀ ≤ lent → lent ≤ length l₀ + length l₀ + 1
+        → slice 0 b₀ l₀ ≡ bindings_spelled g₀.bindings → slice b₀ e₀ l₀ ≡ pairs_spelled g₀.pairs → Standing lent g₀ (copied ++ drop k l) j j k u' w')
+        → Running l₀ b₀ e₀ (copied ++ drop k l) room' j j k u' w'
+    runs_on f = record {
+      long = copied_long;
+      room_long = stays.long ∙ g.room_long;
+      b_p = omega arith;
+      p_e = (stays.inside j k refl).0;
+      e_in = omega (arith, (stays.inside j k refl).1, g.room_long, copied_long);
+      stands = f;
     }
 
   -- ---- A pair is taken apart
 
-  module _ {i o : ℕ} (q : t ≡ Split i o) where
-    pub run_split_none : w ≡ 0 → Runs l₀ h 0 b₀ e₀ l TooFew
-    run_split_none z = never_out q (λ y. clash (cc)) z
+  module _ {n : ℕ} {left right rest : Bor (List ℕ)} (T : Tells (take (e - p) (drop p l)) (Split n left right rest)) {room' : List ℕ} {r : Option (ℕ × ℕ)}
+      (S : (qs : List Equation) → Rows n left.now right.now qs → Lays (take b l) (pairs_spelled qs ++ rest.now) room room' r) where
+    take_is : slice 0 b l ≡ take b l
+    unfolding slice
+    take_is = refl
 
-    pub run_split_place : (b ≤ h) × (p ≤ h) × (i ≤ h) × (o ≤ h) × (e ≤ h) × (length l ≡ h + h)
-    run_split_place = let le = rw q at T.within in (g.low_b, g.low_p, omega (arith, le, g.low_e), omega (arith, le, g.low_e), g.low_e, g.half)
+    record Parting {lent : ℕ} {g₀ : Stage} (s : Standing lent g₀ l b p e u w) : Type 0 where
+      to : Stage
+      goes : next s.stage ≡ on to
+      lays : Lays (bindings_spelled to.bindings) (pairs_spelled to.pairs) room room' r
+      fewer : lefts to.pairs ≤ w - 1
+      lists : Lists s.list to.pairs
 
-    module _ {out : List ℕ} {r : Staged} (S : Splits l h b p i o e out r) where
-      record Parting {lent : ℕ} {g₀ : Stage} (s : Standing lent g₀ l b p e u w) : Type 0 where
-        to : Stage
-        goes : next s.stage ≡ on to
-        lays : Lays h (bindings_spelled to.bindings) (pairs_spelled to.pairs) out r
-        fewer : lefts to.pairs ≤ w - 1
-        lists : Lists s.list to.pairs
+    parting : {lent : ℕ} {g₀ : Stage} (s : Standing lent g₀ l b p e u w) → Parting s
+    unfolding after lefts
+    parting s =
+        let c = taken s.stage.pairs (λ z. clash (cc)) (telling T s) in
+        let f = c.told in
+        let down : StepFalls c.first.left c.first.right (splits f.0) = rw f.1.0 at (step_falls c.first.left c.first.right) in
+        let ls : Lists s.list (c.first ∷ c.rest) = rw c.are at s.lists in
+        let text : pairs_spelled f.0 ++ rest.now ≡ pairs_spelled (f.0 ++ c.rest) =
+        ap (λ (x : List ℕ). pairs_spelled f.0 ++ x) f.1.2 ∙ sym (pairs_append f.0 c.rest) in
+        record {
+          to = record { pairs = f.0 ++ c.rest; bindings = s.stage.bindings };
+          goes = next_after s.stage c.first c.rest c.are (splits f.0) f.1.0;
+          lays = rw (← s.bound, ← text, take_is) (S f.0 f.1.1);
+          fewer = omega (arith, lefts_append f.0 c.rest, down.0, s.fewer, ap lefts c.are);
+          lists = λ y j. ls y (⊎_elim (λ i. inl (down.1 y i)) inr (in_pairs_append y f.0 c.rest j));
+        }
 
-      parting : {lent : ℕ} {g₀ : Stage} (s : Standing lent g₀ l b p e u w) → Parting s
-      unfolding after lefts
-      parting s =
-          let c = taken s.stage.pairs (λ z. clash (cc)) (telling s q) in
-          let f = told_split l p c.m c.q (step c.first.left c.first.right) i o c.told in
-          let down : StepFalls c.first.left c.first.right (splits f.0) = rw f.1 at (step_falls c.first.left c.first.right) in
-          let ls : Lists s.list (c.first ∷ c.rest) = rw c.are at s.lists in
-          let text : pairs_spelled f.0 ++ slice o e l ≡ pairs_spelled (f.0 ++ c.rest) =
-          ap (λ (k : ℕ). pairs_spelled f.0 ++ slice k e l) f.2 ∙ ap (λ (x : List ℕ). pairs_spelled f.0 ++ x) c.behind
-          ∙ sym (pairs_append f.0 c.rest) in
-          record {
-            to = record { pairs = f.0 ++ c.rest; bindings = s.stage.bindings };
-            goes = next_after s.stage c.first c.rest c.are (splits f.0) f.1;
-            lays = rw (← s.bound, ← text) (S.is f.0 f.3);
-            fewer = omega (arith, lefts_append f.0 c.rest, down.0, s.fewer, ap lefts c.are);
-            lists = λ y j. ls y (⊎_map (down.1 y) (λ k. k) (in_pairs_append y f.0 c.rest j));
-          }
+    pub run_split_full : r ≡ None → Runs l₀ (length l₀) 0 b₀ e₀ l (Err Unsolved.TooFew)
+    run_split_full f = record {
+      is = λ lent g₀ lo hi eb ep.
+          let s = g.stands lent g₀ lo hi eb ep in
+          let c = parting s in
+          rw (over_full lo hi s c.to c.goes (lays_as f c.lays)) refl;
+      long = g.long;
+    }
 
-      pub run_split_full : r ≡ Full → Runs l₀ h 0 b₀ e₀ out TooFew
-      run_split_full f = record {
-        is = λ lent g₀ lo hi eb ep.
-            let s = g.stands lent g₀ lo hi eb ep in
-            let c = parting s in
-            rw (over_full lo hi g.half g.low_b g.low_e s c.to c.goes c.lays f) refl;
-        long = S.stays.long ∙ g.long;
-      }
-
-      pub run_split : {j k : ℕ} → r ≡ At j k → Running l₀ h b₀ e₀ out j j k u (w - 1)
-      run_split {j} {k} f = record {
-        half = S.stays.long ∙ g.half;
-        long = S.stays.long ∙ g.long;
-        low_b = omega (arith, S.stays.inside j k f);
-        low_p = omega (arith, S.stays.inside j k f);
-        low_e = (S.stays.inside j k f).1;
-        stands = λ lent g₀ lo hi eb ep.
-            let s = g.stands lent g₀ lo hi eb ep in
-            let c = parting s in
-            landed lo hi g.half g.low_b g.low_e s c.to c.goes c.lays f c.fewer s.list c.lists s.few;
-      }
+    pub run_split : {j k : ℕ} → r ≡ Some (j, k) → Stays room room' r → {copied : List ℕ} → copied ≡ take k room' → {w' : ℕ} → w' ≡ w - 1
+        → Running l₀ b₀ e₀ (copied ++ drop k l) room' j j k u w'
+    run_split {j} {k} f stays e' z = runs_on (stays_as f stays) e' (λ lent g₀ lo hi eb ep.
+        let s = g.stands lent g₀ lo hi eb ep in
+        let c = parting s in
+        landed (stays_as f stays) e' lo s c.to c.goes (lays_as f c.lays) (omega (arith, c.fewer)) s.list c.lists s.few)
 
   -- ---- An unknown is bound
 
-  module _ {x first last o : ℕ} (q : t ≡ Bind x first last o) where
+  module _ {x : ℕ} {ts rest : Bor (List ℕ)} (T : Tells (take (e - p) (drop p l)) (Bind x ts rest)) where
     record BindingNow {lent : ℕ} {g₀ : Stage} (s : Standing lent g₀ l b p e u w) : Type 0 where
       ty : Ty
-      rest : List Equation
+      others : List Equation
       goes : next s.stage ≡ on (record {
-        pairs = map (in_pair x ty) rest;
+        pairs = map (in_pair x ty) others;
         bindings = record { unknown = x; to = ty } ∷ map (in_binding x ty)
             s.stage.bindings;
       })
-      stands : slice first last l ≡ spelled ty
-      behind : slice o e l ≡ pairs_spelled rest
+      stands : ts.now ≡ spelled ty
+      behind : rest.now ≡ pairs_spelled others
       fewer : length (without x s.list) < length s.list
-      lists : Lists (without x s.list) (map (in_pair x ty) rest)
+      lists : Lists (without x s.list) (map (in_pair x ty) others)
 
     binding_now : {lent : ℕ} {g₀ : Stage} (s : Standing lent g₀ l b p e u w) → BindingNow s
     unfolding after
     binding_now s =
-        let c = taken s.stage.pairs (λ z. clash (cc)) (telling s q) in
-        let f = told_bind l p c.m c.q (step c.first.left c.first.right) x first last o c.told in
-        let down : StepFalls c.first.left c.first.right (binds x f.0) = rw f.1 at (step_falls c.first.left c.first.right) in
+        let c = taken s.stage.pairs (λ z. clash (cc)) (telling T s) in
+        let f = c.told in
+        let down : StepFalls c.first.left c.first.right (binds x f.0) = rw f.1.0 at (step_falls c.first.left c.first.right) in
         let ls : Lists s.list (c.first ∷ c.rest) = rw c.are at s.lists in
         record {
           ty = f.0;
-          rest = c.rest;
-          goes = next_after s.stage c.first c.rest c.are (binds x f.0) f.1;
-          stands = f.3;
-          behind = ap (λ (k : ℕ). slice k e l) f.2 ∙ c.behind;
+          others = c.rest;
+          goes = next_after s.stage c.first c.rest c.are (binds x f.0) f.1.0;
+          stands = f.1.1;
+          behind = f.1.2;
           fewer = without_fewer x s.list (ls x (inl down.0));
           lists = λ y j. ⊎_elim
               (λ i. mem_without x y s.list (ls y (inr i.0)) i.1)
@@ -405,62 +394,94 @@ module _ {l₀ : List ℕ} {h b₀ e₀ : ℕ} {l : List ℕ} {b p e u w : ℕ} 
               (replaced_pairs x f.0 y c.rest j);
         }
 
-    pub run_bind_none : u ≡ 0 → Runs l₀ h 0 b₀ e₀ l TooFew
+    pub run_bind_none : (1 ≤ u → ⊥) → Runs l₀ (length l₀) 0 b₀ e₀ l (Err Unsolved.TooFew)
     run_bind_none z = record {
       is = λ lent g₀ lo hi eb ep. let s = g.stands lent g₀ lo hi eb ep in absurd (omega (arith, (binding_now s).fewer, s.few));
       long = g.long;
     }
 
-    pub run_bind_place : (b ≤ h) × (e ≤ h) × (last ≤ h) × (length l ≡ h + h)
-    run_bind_place = let le = rw q at T.within in (g.low_b, g.low_e, omega (arith, le, g.low_e), g.half)
-
-    module _ {out : List ℕ} {r : Staged} (B : Binds l h b o e x first last out r) where
+    module _ {room' : List ℕ} {r : Option (ℕ × ℕ)}
+        (B : Lays (11 ∷ x ∷ (ts.now ++ swapped x ts.now (take b l))) (swapped x ts.now rest.now) room room' r) where
       laid : {lent : ℕ} {g₀ : Stage} (s : Standing lent g₀ l b p e u w) (c : BindingNow s)
-          → Lays h (bindings_spelled (record { unknown = x; to = c.ty } ∷ map (in_binding x c.ty) s.stage.bindings))
-          (pairs_spelled (map (in_pair x c.ty) c.rest)) out r
-      unfolding bindings_spelled
+          → Lays (bindings_spelled (record { unknown = x; to = c.ty } ∷ map (in_binding x c.ty) s.stage.bindings))
+          (pairs_spelled (map (in_pair x c.ty) c.others)) room room' r
+      unfolding bindings_spelled slice
       laid s c =
-          let bs : slice first last l ++ swapped x (slice first last l) (slice 0 b l) ≡ spelled c.ty ++ bindings_spelled
-          (map (in_binding x c.ty) s.stage.bindings) =
-          rw (c.stands, s.bound) (ap (λ (y : List ℕ). spelled c.ty ++ y) (swap_bindings x c.ty s.stage.bindings)) in
-          let ps : swapped x (slice first last l) (slice o e l) ≡ pairs_spelled (map (in_pair x c.ty) c.rest) = rw (c.stands, c.behind)
-          (swap_pairs x c.ty c.rest) in
-          rw (← bs, ← ps) B.is
+          let bound : take b l ≡ bindings_spelled s.stage.bindings = s.bound in
+          let bs : ts.now ++ swapped x ts.now (take b l) ≡ spelled c.ty ++ bindings_spelled (map (in_binding x c.ty) s.stage.bindings) =
+          rw (c.stands, bound) (ap (λ (y : List ℕ). spelled c.ty ++ y) (swap_bindings x c.ty s.stage.bindings)) in
+          let ps : swapped x ts.now rest.now ≡ pairs_spelled (map (in_pair x c.ty) c.others) =
+          rw (c.stands, c.behind) (swap_pairs x c.ty c.others) in
+          rw (← bs, ← ps) B
 
-      pub run_bind_full : r ≡ Full → Runs l₀ h 0 b₀ e₀ out TooFew
+      pub run_bind_full : r ≡ None → Runs l₀ (length l₀) 0 b₀ e₀ l (Err Unsolved.TooFew)
       run_bind_full f = record {
         is = λ lent g₀ lo hi eb ep.
             let s = g.stands lent g₀ lo hi eb ep in
             let c = binding_now s in
-            rw (over_full lo hi g.half g.low_b g.low_e s _ c.goes (laid s c) f) refl;
-        long = B.stays.long ∙ g.long;
+            rw (over_full lo hi s _ c.goes (lays_as f (laid s c))) refl;
+        long = g.long;
       }
 
-      pub run_bind : {j k : ℕ} → r ≡ At j k → Running l₀ h b₀ e₀ out j j k (u - 1) h
-      run_bind {j} {k} f = record {
-        half = B.stays.long ∙ g.half;
-        long = B.stays.long ∙ g.long;
-        low_b = omega (arith, B.stays.inside j k f);
-        low_p = omega (arith, B.stays.inside j k f);
-        low_e = (B.stays.inside j k f).1;
-        stands = λ lent g₀ lo hi eb ep.
-            let s = g.stands lent g₀ lo hi eb ep in
-            let c = binding_now s in
-            let L = laid s c in
-            let words : length (pairs_spelled (map (in_pair x c.ty) c.rest)) ≡ k - j =
-            ap length (sym (L.there j k f).1) ∙ slice_long out j k (omega (arith, B.stays.inside j k f, B.stays.long, g.half)) in
-            landed lo hi g.half g.low_b g.low_e s _ c.goes L f
-            (omega (arith, words, lefts_few (map (in_pair x c.ty) c.rest), B.stays.inside j k f))
-            (without x s.list) c.lists (omega (arith, c.fewer, s.few));
-      }
+      pub run_bind : {j k : ℕ} → r ≡ Some (j, k) → Stays room room' r → {copied : List ℕ} → copied ≡ take k room' → {u' w' : ℕ} → u' ≡ u - 1
+          → w' ≡ length l₀ → Running l₀ b₀ e₀ (copied ++ drop k l) room' j j k u' w'
+      run_bind {j} {k} f stays {copied} e' {u'} {w'} y z = runs_on (stays_as f stays) e' (λ lent g₀ lo hi eb ep.
+          let s = g.stands lent g₀ lo hi eb ep in
+          let c = binding_now s in
+          let L = lays_as f (laid s c) in
+          let words : length (pairs_spelled (map (in_pair x c.ty) c.others)) ≡ k - j =
+          ap length (sym (L.there j k refl).1) ∙ slice_long room' j k (k_in (stays_as f stays) e') in
+          landed (stays_as f stays) e' lo s _ c.goes L
+          (omega (arith, words, lefts_few (map (in_pair x c.ty) c.others), (stays_as f stays).inside j k refl, g.room_long))
+          (without x s.list) c.lists (omega (arith, c.fewer, s.few)))
 
 -- ---- From h on
 
-pub run_lowered : {l : List ℕ} {h b e : ℕ} → h ≤ b → b ≤ e → {mid : List ℕ} → Lowers l h e mid → {out : List ℕ} {r : Plain}
-    → Runs mid h 0 (b - h) (e - h) out r → Runs l h h b e out r
-run_lowered {l} {h} {b} {e} i j low R = record {
-  is = λ lent g lo hi eb ep. R.is lent g lo hi
-      (low.is h b (omega arith) i j 0 (b - h) (omega arith) (omega arith) ∙ eb)
-      (low.is b e i j (omega arith) (b - h) (e - h) (omega arith) (omega arith) ∙ ep);
-  long = R.long ∙ low.long;
+slice_behind : (l : List ℕ) (h i j : ℕ) → slice i j (drop h l) ≡ slice (h + i) (h + j) l
+unfolding slice
+slice_behind l h i j =
+    let near : h + j - h ≡ j = omega arith in
+    ap (drop i) (ap (λ (k : ℕ). take k (drop h l)) (sym near) ∙ between_is l h (h + j)) ∙ drop-drop i h (take (h + j) l)
+
+pub gives_front : (a b : List ℕ) (r : Result ℕ Unsolved) (t : Theory.Result) → Gives a r t → Gives (a ++ b) r t
+unfolding slice
+gives_front a b r (solved bs) g =
+    let n = length (bindings_spelled bs) in
+    (g.0, take-append-le n a b (omega (arith, ap length g.1, length-take n a)) ∙ g.1)
+gives_front a b r failed g = g
+gives_front a b r full g = g
+
+pub run_lowered : {l : List ℕ} {h b e : ℕ} → (h ≤ b) × (b ≤ e) × (e ≤ length l) × (length l ≡ h + h)
+    → {stage room copied : List ℕ} → stage ≡ take h l → room ≡ drop h l → copied ≡ take (e - h) room
+    → {stage' : List ℕ} (room' : List ℕ) {r : Result ℕ Unsolved} → length room' ≡ length room
+    → Runs (copied ++ drop (e - h) stage) (length (copied ++ drop (e - h) stage)) 0 (b - h) (e - h) stage' r → Runs l h h b e (stage' ++ room') r
+run_lowered {l} {h} {b} {e} pre {stage} {room} {copied} es er ec {stage'} room' {r} kept R = record {
+  is = λ lent g lo hi eb ep. gives_front stage' room' r (solve lent g)
+      (R.is lent g (omega (arith, moved_long)) (omega (arith, moved_long)) (rw h_h at (part h b (omega arith) pre.0 pre.1) ∙ eb) (part b e pre.0 pre.1 (omega arith) ∙ ep));
+  long = omega (arith, length-append stage' room', R.long, moved_long, kept, room_long, pre.3);
 }
+  where
+    room_long : length room ≡ h
+    room_long = omega (arith, ap length er, length-drop h l, pre.3)
+
+    stage_long : length stage ≡ h
+    stage_long = omega (arith, ap length es, length-take h l, pre.3)
+
+    copied_is : length copied ≡ e - h
+    copied_is = omega (arith, ap length ec, length-take (e - h) room, room_long, pre.2, pre.3)
+
+    moved_long : length (copied ++ drop (e - h) stage) ≡ h
+    moved_long = omega (arith, length-append copied (drop (e - h) stage), length-drop (e - h) stage, copied_is, stage_long, pre.2, pre.3)
+
+    h_h : h - h ≡ 0
+    h_h = omega arith
+
+    low : take (e - h) (copied ++ drop (e - h) stage) ≡ take (e - h) (drop h l)
+    low = take_at copied (drop (e - h) stage) (e - h) copied_is ∙ ec ∙ ap (take (e - h)) er
+
+    part : (i j : ℕ) → h ≤ i → i ≤ j → j ≤ e → slice (i - h) (j - h) (copied ++ drop (e - h) stage) ≡ slice i j l
+    part i j x y z =
+        let one : h + (i - h) ≡ i = omega arith in
+        let two : h + (j - h) ≡ j = omega arith in
+        slice_low (drop h l) (copied ++ drop (e - h) stage) (e - h) low (i - h) (j - h) (omega arith)
+        ∙ slice_behind l h (i - h) (j - h) ∙ rw (one, two)

@@ -1,15 +1,11 @@
--- What is told of the first pair is what the definition does with it: by the first words of its two types, which are what
--- they are and the number that belongs to it.
-use mathlib.Core.Bool.{Bool, true, false}
-use mathlib.Core.List.{List, [], ◌∷◌, ◌++◌}
-use mathlib.Core.Path.{◌≡◌, refl, sym, ap, ◌∙◌}
-use Prim.Native.Nat.{ℕ, ◌+◌, ◌≤◌, ◌<◌}
-use native.Mathlib.Decide.{ℕ_discrete}
-use native.Mathlib.Omega.{arith}
+-- What is told of the first pair is what the definition does with it.
+use Rattle.std.proofs.Common.{true, false, List, [], ◌∷◌, ◌++◌, ◌≡◌, ℕ, ◌≤◌, nat_eq, length, get_or, refl, sym, ap, ◌∙◌, arith, length-append}
+use Rattle.std.proofs.Math.Decide.{ℕ_discrete}
+use Rattle.std.specs.Prelude.{MatchOption, None, Option, Some, eqb, drop}
+use Rattle.std.specs.Option.{option_eq}
+use Rattle.std.specs.Borrow.{Bor}
 use borrow.Author.Tests.{eq-eqb, eqb-true}
-use lib.Dec.{eqb}
-use lib.ListN.{length, get_or, length-append}
-use Rattle.plain.specs.Slices.{slice}
+use Rattle.cells.specs.Words.{pick}
 use Rattle.unification.specs.Ty.{Leaf, Int, String, Bytes, Fact, Leaf-discrete, Kind, Record, Union, Ty, leaf, node, Var, Error, Row, row_len}
 use Rattle.unification.specs.Robinson.{Equation}
 use Rattle.unification.proofs.Tests.{clash}
@@ -19,141 +15,69 @@ use Rattle.plain_theory.specs.Falls.{words_some}
 use Rattle.plain_theory.proofs.Words.{spelled_words}
 use Rattle.plain.specs.declared.Next.{Next}
 use Rattle.plain.specs.declared.Next.TheVariants.{Done, Stuck, Drop, Bind, Split}
-use Rattle.plain.specs.Tokens.{short, is_unknown, among, EndsAt, TwoRows, Like, Alike}
-use Rattle.plain.specs.Stages.{RowsAt, ToldOf, Told, Before, TellsApart, Tells}
-use Rattle.plain.proofs.Slices.{slice_long, slice_none, slice_rest, slice_front, slice_word}
+use Rattle.plain.specs.Tokens.{among, NoType, FirstType, NoUnknown, NoNode, TwoRows, Like, Alike}
+use Rattle.plain.specs.Stages.{ToldOf, Told, Within, TellsBound, TellsApart, Tells}
 use Rattle.plain.proofs.Swaps.{bind_occurs, bind_free}
 
--- ---- The first words of a type
+-- ---- Which type the words are
 
-unfoldable leaf_tag : Leaf → ℕ
-leaf_tag Int = 1
-leaf_tag String = 2
-leaf_tag Bytes = 3
-leaf_tag (Fact p) = 4
+head_is : {l v : List ℕ} → l ≡ v → get_or l 0 0 ≡ get_or v 0 0
+head_is e = ap (λ (l : List ℕ). get_or l 0 0) e
 
-unfoldable leaf_number : Leaf → ℕ
-leaf_number Int = 0
-leaf_number String = 0
-leaf_number Bytes = 0
-leaf_number (Fact p) = p
+-- The type of no cells that the words are.
+flat : List ℕ → Ty
+flat ws = let a = get_or ws 0 0 in let n = get_or ws 1 0 in
+    pick (eqb a 1) (leaf Int) (pick (eqb a 2) (leaf String) (pick (eqb a 3) (leaf Bytes) (pick (eqb a 4) (leaf (Fact n)) (pick (eqb a 7) (Var n) Error))))
 
-unfoldable tag_of : Ty → ℕ
-unfolding leaf_tag kind_tag
-tag_of (leaf p) = leaf_tag p
-tag_of (node k r) = kind_tag k
-tag_of (Var x) = 7
-tag_of Error = 8
+flat_is : (t : Ty) → NoNode (spelled t) → flat (spelled t) ≡ t
+unfolding flat spelled leaf_spelled
+flat_is (leaf Int) h = refl
+flat_is (leaf String) h = refl
+flat_is (leaf Bytes) h = refl
+flat_is (leaf (Fact p)) h = refl
+flat_is (node k r) h = absurd (h k (row_len r) (row_spelled r k) refl)
+flat_is (Var x) h = refl
+flat_is Error h = refl
 
-unfoldable number_of : Ty → ℕ
-unfolding leaf_number row_len
-number_of (leaf p) = leaf_number p
-number_of (node k r) = row_len r
-number_of (Var x) = x
-number_of Error = 0
+same_flat : (a b : Ty) → NoNode (spelled a) → spelled a ≡ spelled b → a ≡ b
+same_flat a b h e = sym (flat_is a h) ∙ ap flat e ∙ flat_is b (rw e at h)
 
-spelled_some : (t : Ty) → 1 ≤ length (spelled t)
-spelled_some t = omega (arith, spelled_words t, words_some t)
+is_var : (t : Ty) (x : ℕ) → spelled t ≡ 7 ∷ x ∷ [] → t ≡ Var x
+unfolding spelled leaf_spelled kind_tag
+is_var (leaf Int) x e = absurd (omega (arith, head_is e))
+is_var (leaf String) x e = absurd (omega (arith, head_is e))
+is_var (leaf Bytes) x e = absurd (omega (arith, head_is e))
+is_var (leaf (Fact p)) x e = absurd (omega (arith, head_is e))
+is_var (node Record r) x e = absurd (omega (arith, head_is e))
+is_var (node Union r) x e = absurd (omega (arith, head_is e))
+is_var (Var y) x e = ap (λ (l : List ℕ). Var (get_or l 1 0)) e
+is_var Error x e = absurd (omega (arith, head_is e))
 
-first_word : (t : Ty) → get_or (spelled t) 0 0 ≡ tag_of t
-unfolding spelled leaf_spelled tag_of leaf_tag
-first_word (leaf Int) = refl
-first_word (leaf String) = refl
-first_word (leaf Bytes) = refl
-first_word (leaf (Fact p)) = refl
-first_word (node k r) = refl
-first_word (Var x) = refl
-first_word Error = refl
+-- A record or a union.
+record IsNode (t : Ty) (tag n : ℕ) (cells : List ℕ) : Type 0 where
+  kind : Kind
+  row : Row
+  is : t ≡ node kind row
+  tagged : tag ≡ kind_tag kind
+  many : n ≡ row_len row
+  words : cells ≡ row_spelled row kind
 
-abbrev SecondWord : Ty → Type 0
-SecondWord t = (2 ≤ length (spelled t)) × (get_or (spelled t) 1 0 ≡ number_of t)
-
-second_word : (t : Ty) → short (tag_of t) ≡ false → SecondWord t
-unfolding spelled leaf_spelled tag_of leaf_tag number_of leaf_number short
-second_word (leaf Int) e = clash (cc)
-second_word (leaf String) e = clash (cc)
-second_word (leaf Bytes) e = clash (cc)
-second_word (leaf (Fact p)) e = (omega arith, refl)
-second_word (node k r) e = (omega arith, refl)
-second_word (Var x) e = (omega arith, refl)
-second_word Error e = clash (cc)
-
-module _ (l : List ℕ) (i j : ℕ) (h : j ≤ length l) (t : Ty) (e : slice i j l ≡ spelled t) where
-  tag_there : get_or l i 0 ≡ tag_of t
-  tag_there =
-      let none : i ≡ i + 0 = omega arith in
-      ap (λ (k : ℕ). get_or l k 0) none ∙ slice_word l i j (spelled t) h e 0 (omega (arith, spelled_some t)) ∙ first_word t
-
-  number_there : short (tag_of t) ≡ false → get_or l (i + 1) 0 ≡ number_of t
-  number_there s = slice_word l i j (spelled t) h e 1 (omega (arith, (second_word t s).0)) ∙ (second_word t s).1
-
--- ---- Which type it is
-
-kind_tag_lem : (k : Kind) → (5 ≤ kind_tag k) × (kind_tag k ≤ 6)
-unfolding kind_tag
-kind_tag_lem Record = (omega arith, omega arith)
-kind_tag_lem Union = (omega arith, omega arith)
-
-node_long : (k : Kind) → short (kind_tag k) ≡ false
-unfolding kind_tag short
-node_long Record = refl
-node_long Union = refl
-
-leaf_tag_lem : (p : Leaf) → leaf_tag p ≤ 4
-unfolding leaf_tag
-leaf_tag_lem Int = omega arith
-leaf_tag_lem String = omega arith
-leaf_tag_lem Bytes = omega arith
-leaf_tag_lem (Fact p) = omega arith
-
-var_long : short 7 ≡ false
-unfolding short
-var_long = refl
-
-is_var : (t : Ty) → tag_of t ≡ 7 → t ≡ Var (number_of t)
-unfolding tag_of number_of
-is_var (leaf p) e = absurd (omega (arith, leaf_tag_lem p))
-is_var (node k r) e = absurd (omega (arith, kind_tag_lem k))
-is_var (Var x) e = refl
-is_var Error e = absurd (omega arith)
-
-not_var : (t : Ty) → (tag_of t ≡ 7 → ⊥) → (x : ℕ) → ¬ (t ≡ Var x)
-unfolding tag_of
-not_var t n x e = n (ap tag_of e)
-
-leaf_same : (p q : Leaf) → leaf_tag p ≡ leaf_tag q → leaf_number p ≡ leaf_number q → p ≡ q
-unfolding leaf_tag leaf_number
-leaf_same Int Int e f = refl
-leaf_same Int String e f = absurd (omega arith)
-leaf_same Int Bytes e f = absurd (omega arith)
-leaf_same Int (Fact q) e f = absurd (omega arith)
-leaf_same String Int e f = absurd (omega arith)
-leaf_same String String e f = refl
-leaf_same String Bytes e f = absurd (omega arith)
-leaf_same String (Fact q) e f = absurd (omega arith)
-leaf_same Bytes Int e f = absurd (omega arith)
-leaf_same Bytes String e f = absurd (omega arith)
-leaf_same Bytes Bytes e f = refl
-leaf_same Bytes (Fact q) e f = absurd (omega arith)
-leaf_same (Fact p) Int e f = absurd (omega arith)
-leaf_same (Fact p) String e f = absurd (omega arith)
-leaf_same (Fact p) Bytes e f = absurd (omega arith)
-leaf_same (Fact p) (Fact q) e f = ap Fact f
-
--- of one word: no number
-leaf_short : (p : Leaf) → short (leaf_tag p) ≡ true → leaf_number p ≡ 0
-unfolding leaf_tag leaf_number short
-leaf_short Int e = refl
-leaf_short String e = refl
-leaf_short Bytes e = refl
-leaf_short (Fact p) e = clash (cc)
-
-leaf_long : (p : Leaf) → short (leaf_tag p) ≡ false → leaf_tag p ≡ 4
-unfolding leaf_tag short
-leaf_long Int e = clash (cc)
-leaf_long String e = clash (cc)
-leaf_long Bytes e = clash (cc)
-leaf_long (Fact p) e = refl
+is_node : (t : Ty) {tag n : ℕ} {cells : List ℕ} → (5 ≤ tag) × (tag ≤ 6) × (spelled t ≡ tag ∷ n ∷ cells) → IsNode t tag n cells
+unfolding spelled leaf_spelled kind_tag
+is_node (leaf Int) h = absurd (omega (arith, h, head_is h.2))
+is_node (leaf String) h = absurd (omega (arith, h, head_is h.2))
+is_node (leaf Bytes) h = absurd (omega (arith, h, head_is h.2))
+is_node (leaf (Fact p)) h = absurd (omega (arith, h, head_is h.2))
+is_node (node k r) h = record {
+  kind = k;
+  row = r;
+  is = refl;
+  tagged = sym (head_is h.2);
+  many = ap (λ (l : List ℕ). get_or l 1 0) (sym h.2);
+  words = ap (drop 2) (sym h.2);
+}
+is_node (Var x) h = absurd (omega (arith, h, head_is h.2))
+is_node Error h = absurd (omega (arith, h, head_is h.2))
 
 -- ---- What the definition does
 
@@ -172,262 +96,6 @@ leaves_differ p q n = go (Leaf-discrete ℕ_discrete p q) refl
     go : (d : Dec (p ≡ q)) → Leaf-discrete ℕ_discrete p q ≡ d → step (leaf p) (leaf q) ≡ fails
     go (yes i) o = absurd (n i)
     go (no m) o = rw (o, step)
-
-rows_same : (k : Kind) (r s : Row) → row_len r ≡ row_len s → rows k r s ≡ matched k r s
-unfolding rows
-rows_same k r s e = go (ℕ_discrete (row_len r) (row_len s)) refl
-  where
-    go : (d : Dec (row_len r ≡ row_len s)) → ℕ_discrete (row_len r) (row_len s) ≡ d → rows k r s ≡ matched k r s
-    go (yes i) o = rw (o, rows)
-    go (no n) o = absurd (n e)
-
-rows_differ : (k : Kind) (r s : Row) → (row_len r ≡ row_len s → ⊥) → rows k r s ≡ unlike
-unfolding rows
-rows_differ k r s n = go (ℕ_discrete (row_len r) (row_len s)) refl
-  where
-    go : (d : Dec (row_len r ≡ row_len s)) → ℕ_discrete (row_len r) (row_len s) ≡ d → rows k r s ≡ unlike
-    go (yes i) o = absurd (n i)
-    go (no m) o = rw (o, rows)
-
-abbrev NoVar : Ty → Type 0
-NoVar t = (x : ℕ) → ¬ (t ≡ Var x)
-
-tags_differ : (a b : Ty) → NoVar a → NoVar b → (tag_of a ≡ tag_of b → ⊥) → step a b ≡ fails
-unfolding step nodes tag_of
-tags_differ (leaf p) (leaf q) v w n = leaves_differ p q (λ e. n (ap leaf_tag e))
-tags_differ (leaf p) (node k s) v w n = refl
-tags_differ (leaf p) (Var y) v w n = absurd (w y refl)
-tags_differ (leaf p) Error v w n = refl
-tags_differ (node k r) (leaf q) v w n = refl
-tags_differ (node Record r) (node Record s) v w n = absurd (n refl)
-tags_differ (node Record r) (node Union s) v w n = refl
-tags_differ (node Union r) (node Record s) v w n = refl
-tags_differ (node Union r) (node Union s) v w n = absurd (n refl)
-tags_differ (node k r) (Var y) v w n = absurd (w y refl)
-tags_differ (node k r) Error v w n = refl
-tags_differ (Var x) b v w n = absurd (v x refl)
-tags_differ Error (leaf q) v w n = refl
-tags_differ Error (node k s) v w n = refl
-tags_differ Error (Var y) v w n = absurd (w y refl)
-tags_differ Error Error v w n = absurd (n refl)
-
-shorts_same : (a b : Ty) → tag_of a ≡ tag_of b → short (tag_of a) ≡ true → step a b ≡ drops
-unfolding step tag_of
-shorts_same (leaf p) (leaf q) e s = leaves_same p q (leaf_same p q e (leaf_short p s ∙ sym (leaf_short q (ap short (sym e) ∙ s))))
-shorts_same (leaf p) (node k r) e s = absurd (omega (arith, leaf_tag_lem p, kind_tag_lem k))
-shorts_same (leaf p) (Var y) e s = absurd (omega (arith, leaf_tag_lem p))
-shorts_same (leaf p) Error e s = absurd (omega (arith, leaf_tag_lem p))
-shorts_same (node k r) b e s = let z : false ≡ true = sym (node_long k) ∙ s in clash (cc)
-shorts_same (Var x) b e s = let z : false ≡ true = sym var_long ∙ s in clash (cc)
-shorts_same Error (leaf q) e s = absurd (omega (arith, leaf_tag_lem q))
-shorts_same Error (node k r) e s = absurd (omega (arith, kind_tag_lem k))
-shorts_same Error (Var y) e s = absurd (omega arith)
-shorts_same Error Error e s = refl
-
-numbers_differ : (a b : Ty) → NoVar a → NoVar b → short (tag_of a) ≡ false → (number_of a ≡ number_of b → ⊥) → step a b ≡ fails
-unfolding step nodes split tag_of number_of short
-numbers_differ (leaf p) (leaf q) v w s n = leaves_differ p q (λ e. n (ap leaf_number e))
-numbers_differ (leaf p) (node k r) v w s n = refl
-numbers_differ (leaf p) (Var y) v w s n = absurd (w y refl)
-numbers_differ (leaf p) Error v w s n = refl
-numbers_differ (node k r) (leaf q) v w s n = refl
-numbers_differ (node Record r) (node Record o) v w s n = ap split (rows_differ Record r o n)
-numbers_differ (node Record r) (node Union o) v w s n = refl
-numbers_differ (node Union r) (node Record o) v w s n = refl
-numbers_differ (node Union r) (node Union o) v w s n = ap split (rows_differ Union r o n)
-numbers_differ (node k r) (Var y) v w s n = absurd (w y refl)
-numbers_differ (node k r) Error v w s n = refl
-numbers_differ (Var x) b v w s n = absurd (v x refl)
-numbers_differ Error b v w s n = clash (cc)
-
-facts_same : (a b : Ty) → tag_of a ≡ 4 → tag_of a ≡ tag_of b → number_of a ≡ number_of b → step a b ≡ drops
-unfolding tag_of number_of
-facts_same (leaf p) (leaf q) f e n = leaves_same p q (leaf_same p q e n)
-facts_same (leaf p) (node k r) f e n = absurd (omega (arith, kind_tag_lem k))
-facts_same (leaf p) (Var y) f e n = absurd (omega arith)
-facts_same (leaf p) Error f e n = absurd (omega arith)
-facts_same (node k r) b f e n = absurd (omega (arith, kind_tag_lem k))
-facts_same (Var x) b f e n = absurd (omega arith)
-facts_same Error b f e n = absurd (omega arith)
-
--- Two of a kind, with as many cells.
-record Nodes (a b : Ty) : Type 0 where
-  kind : Kind
-  left : Row
-  right : Row
-  first : a ≡ node kind left
-  second : b ≡ node kind right
-  many : row_len left ≡ row_len right
-  does : step a b ≡ split (matched kind left right)
-
-two_nodes : (a b : Ty) → NoVar a → NoVar b → tag_of a ≡ tag_of b → short (tag_of a) ≡ false → (tag_of a ≡ 4 → ⊥) → number_of a ≡ number_of b → Nodes a b
-unfolding step nodes tag_of number_of kind_tag short
-two_nodes (leaf p) b v w e s f n = absurd (f (leaf_long p s))
-two_nodes (node k r) (leaf q) v w e s f n = absurd (omega (arith, leaf_tag_lem q, kind_tag_lem k))
-two_nodes (node Record r) (node Record o) v w e s f n = record {
-  kind = Record;
-  left = r;
-  right = o;
-  first = refl;
-  second = refl;
-  many = n;
-  does = ap split
-      (rows_same Record r o n);
-}
-two_nodes (node Record r) (node Union o) v w e s f n = absurd (omega arith)
-two_nodes (node Union r) (node Record o) v w e s f n = absurd (omega arith)
-two_nodes (node Union r) (node Union o) v w e s f n = record {
-  kind = Union;
-  left = r;
-  right = o;
-  first = refl;
-  second = refl;
-  many = n;
-  does = ap split
-      (rows_same Union r o n);
-}
-two_nodes (node k r) (Var y) v w e s f n = absurd (w y refl)
-two_nodes (node k r) Error v w e s f n = absurd (omega (arith, kind_tag_lem k))
-two_nodes (Var x) b v w e s f n = absurd (v x refl)
-two_nodes Error b v w e s f n = clash (cc)
-
-like_parts : (ps : Parts) → true ≡ Like ps → (qs : List Equation) × (ps ≡ parts qs)
-like_parts (parts qs) e = (qs, refl)
-like_parts unlike e = clash (cc)
-
-like_unlike : (ps : Parts) → false ≡ Like ps → ps ≡ unlike
-like_unlike (parts qs) e = clash (cc)
-like_unlike unlike e = refl
-
--- ---- The row of a node behind its two words
-
-module _ (l : List ℕ) (i j : ℕ) (h : j ≤ length l) (k : Kind) (r : Row) (e : slice i j l ≡ spelled (node k r)) where
-  row_there : slice (i + 2) j l ≡ row_spelled r k
-  unfolding spelled
-  row_there = slice_rest l i j (kind_tag k ∷ row_len r ∷ []) (row_spelled r k) e
-
-  row_place : i + 2 ≤ j
-  unfolding spelled
-  row_place = omega (arith, slice_long l i j h, ap length e)
-
--- ---- Two types that are no unknowns
-
-module _ (l : List ℕ) (p m q : ℕ) (pre : (m ≤ q) × (q + q ≤ length l) × (p < m)) {a b : ℕ} (wa : a ≡ get_or l p 0) (wb : b ≡ get_or l m 0) where
-  in_m : m ≤ length l
-  in_m = omega (arith, pre.0, pre.1)
-
-  in_q : q ≤ length l
-  in_q = omega (arith, pre.1)
-
-  module _ (s t : Ty) (e : slice p m l ≡ spelled s) (f : slice m q l ≡ spelled t) where
-    tag_a : a ≡ tag_of s
-    tag_a = wa ∙ tag_there l p m in_m s e
-
-    tag_b : b ≡ tag_of t
-    tag_b = wb ∙ tag_there l m q in_q t f
-
-  pub apart_tags : (a ≡ b → ⊥) → TellsApart l p m q Stuck
-  apart_tags n = record {
-    is = λ s t e f v w. rw (tags_differ s t v w (λ z. n (tag_a s t e f ∙ z ∙ sym (tag_b s t e f)))) refl;
-    within = tt;
-  }
-
-  module _ (same : a ≡ b) where
-    tags : (s t : Ty) → slice p m l ≡ spelled s → slice m q l ≡ spelled t → tag_of s ≡ tag_of t
-    tags s t e f = sym (tag_a s t e f) ∙ same ∙ tag_b s t e f
-
-    pub apart_short : short a ≡ true → TellsApart l p m q (Drop q)
-    apart_short c = record {
-      is = λ s t e f v w. rw (shorts_same s t (tags s t e f) (ap short (sym (tag_a s t e f)) ∙ c)) refl;
-      within = omega arith;
-    }
-
-    module _ (c : short a ≡ false) {n n' : ℕ} (wn : n ≡ get_or l (p + 1) 0) (wn' : n' ≡ get_or l (m + 1) 0) where
-      module _ (s t : Ty) (e : slice p m l ≡ spelled s) (f : slice m q l ≡ spelled t) where
-        long_s : short (tag_of s) ≡ false
-        long_s = ap short (sym (tag_a s t e f)) ∙ c
-
-        number_s : n ≡ number_of s
-        number_s = wn ∙ number_there l p m in_m s e long_s
-
-        number_t : n' ≡ number_of t
-        number_t = wn' ∙ number_there l m q in_q t f (ap short (sym (tags s t e f)) ∙ long_s)
-
-      pub apart_numbers : (n ≡ n' → ⊥) → TellsApart l p m q Stuck
-      apart_numbers d = record {
-        is = λ s t e f v w. rw (numbers_differ s t v w (long_s s t e f) (λ z. d (number_s s t e f ∙ z ∙ sym (number_t s t e f)))) refl;
-        within = tt;
-      }
-
-      module _ (alike : n ≡ n') where
-        numbers : (s t : Ty) → slice p m l ≡ spelled s → slice m q l ≡ spelled t → number_of s ≡ number_of t
-        numbers s t e f = sym (number_s s t e f) ∙ alike ∙ number_t s t e f
-
-        pub apart_facts : a ≡ 4 → TellsApart l p m q (Drop q)
-        apart_facts d = record {
-          is = λ s t e f v w. rw (facts_same s t (sym (tag_a s t e f) ∙ d) (tags s t e f) (numbers s t e f)) refl;
-          within = omega arith;
-        }
-
-        module _ (d : a ≡ 4 → ⊥) where
-          both_nodes : (s t : Ty) → slice p m l ≡ spelled s → slice m q l ≡ spelled t → NoVar s → NoVar t → Nodes s t
-          both_nodes s t e f v w = two_nodes s t v w (tags s t e f) (long_s s t e f) (λ z. d (tag_a s t e f ∙ z)) (numbers s t e f)
-
-          module _ (s t : Ty) (e : slice p m l ≡ spelled s) (f : slice m q l ≡ spelled t) (N : Nodes s t) where
-            first_row : slice p m l ≡ spelled (node N.kind N.left)
-            first_row = e ∙ ap spelled N.first
-
-            second_row : slice m q l ≡ spelled (node N.kind N.right)
-            second_row = f ∙ ap spelled N.second
-
-            two_rows : TwoRows l a (p + 2) m n (m + 2) q N.kind N.left N.right
-            unfolding tag_of number_of
-            two_rows = record {
-              kind = sym (tag_a s t e f ∙ ap tag_of N.first);
-              first = row_there l p m in_m N.kind N.left first_row;
-              second = row_there l m q in_q N.kind N.right second_row;
-              many = sym (number_s s t e f ∙ ap number_of N.first);
-              as_many = sym (number_s s t e f ∙ ap number_of N.first ∙ N.many);
-            }
-
-            rows_there : (qs : List Equation) → matched N.kind N.left N.right ≡ parts qs → RowsAt l p m q qs
-            rows_there qs g = record {
-              place = row_place l p m in_m N.kind N.left first_row;
-              kind = N.kind;
-              left = N.left;
-              right = N.right;
-              rows = record {
-                kind = two_rows.kind ∙ wa;
-                first = two_rows.first;
-                second = two_rows.second;
-                many = two_rows.many ∙ wn;
-                as_many = two_rows.as_many ∙ wn;
-              };
-              are = g;
-            }
-
-          module _ {o : Bool} (A : Alike l a (p + 2) m n (m + 2) q o) where
-            pub apart_split : o ≡ true → TellsApart l p m q (Split m q)
-            unfolding split
-            apart_split y = record {
-              is = λ s t e f v w.
-                  let N = both_nodes s t e f v w in
-                  let g = like_parts (matched N.kind N.left N.right) (sym y ∙ A.is N.kind N.left N.right (two_rows s t e f N)) in
-                  rw (N.does ∙ ap split g.1) (refl, rows_there s t e f N g.0 g.1);
-              within = (pre.0, omega arith);
-            }
-
-            pub apart_unlike : o ≡ false → TellsApart l p m q Stuck
-            unfolding split
-            apart_unlike y = record {
-              is = λ s t e f v w.
-                  let N = both_nodes s t e f v w in
-                  let g = like_unlike (matched N.kind N.left N.right) (sym y ∙ A.is N.kind N.left N.right (two_rows s t e f N)) in
-                  rw (N.does ∙ ap split g) refl;
-              within = tt;
-            }
-
--- ---- With an unknown
 
 vars_same : (x : ℕ) → step (Var x) (Var x) ≡ drops
 unfolding step
@@ -448,165 +116,279 @@ var_other x (Var y) n = go (ℕ_discrete x y) refl
     go (no m) q = rw (q, step, bind)
 var_other x Error n = refl
 
-other_var : (s : Ty) (y : ℕ) → NoVar s → step s (Var y) ≡ bind y s
+abbrev NoVar : Ty → Type 0
+NoVar t = (x : ℕ) → ¬ (t ≡ Var x)
+
+-- The unknown is the second.
+other_var : (s : Ty) (y : ℕ) → NoVar s → step (Var y) s ≡ step s (Var y)
 unfolding step bind
 other_var (leaf p) y v = refl
 other_var (node k r) y v = refl
 other_var (Var x) y v = absurd (v x refl)
 other_var Error y v = refl
 
+rows_same : (k : Kind) (r s : Row) → row_len r ≡ row_len s → rows k r s ≡ matched k r s
+unfolding rows
+rows_same k r s e = go (ℕ_discrete (row_len r) (row_len s)) refl
+  where
+    go : (d : Dec (row_len r ≡ row_len s)) → ℕ_discrete (row_len r) (row_len s) ≡ d → rows k r s ≡ matched k r s
+    go (yes i) o = rw (o, rows)
+    go (no n) o = absurd (n e)
+
+rows_differ : (k : Kind) (r s : Row) → (row_len r ≡ row_len s → ⊥) → rows k r s ≡ unlike
+unfolding rows
+rows_differ k r s n = go (ℕ_discrete (row_len r) (row_len s)) refl
+  where
+    go : (d : Dec (row_len r ≡ row_len s)) → ℕ_discrete (row_len r) (row_len s) ≡ d → rows k r s ≡ unlike
+    go (yes i) o = absurd (n i)
+    go (no m) o = rw (o, rows)
+
+nodes_same : (k : Kind) (r s : Row) → step (node k r) (node k s) ≡ split (rows k r s)
+unfolding step nodes
+nodes_same Record r s = refl
+nodes_same Union r s = refl
+
+nodes_differ : (j k : Kind) (r s : Row) → (kind_tag j ≡ kind_tag k → ⊥) → step (node j r) (node k s) ≡ fails
+unfolding step nodes
+nodes_differ Record Record r s n = absurd (n refl)
+nodes_differ Record Union r s n = refl
+nodes_differ Union Record r s n = refl
+nodes_differ Union Union r s n = absurd (n refl)
+
+same_kind : (j k : Kind) → kind_tag j ≡ kind_tag k → j ≡ k
+unfolding kind_tag
+same_kind Record Record e = refl
+same_kind Record Union e = absurd (omega arith)
+same_kind Union Record e = absurd (omega arith)
+same_kind Union Union e = refl
+
+like_parts : (ps : Parts) → true ≡ Like ps → (qs : List Equation) × (ps ≡ parts qs)
+like_parts (parts qs) e = (qs, refl)
+like_parts unlike e = clash (cc)
+
+like_unlike : (ps : Parts) → false ≡ Like ps → ps ≡ unlike
+like_unlike (parts qs) e = clash (cc)
+like_unlike unlike e = refl
+
+-- ---- Two types that are no unknowns
+
+flat_self : (a : Ty) → NoNode (spelled a) → step a a ≡ drops
+unfolding step spelled
+flat_self (leaf p) h = leaves_same p p refl
+flat_self (node k r) h = absurd (h k (row_len r) (row_spelled r k) refl)
+flat_self (Var x) h = vars_same x
+flat_self Error h = refl
+
+flat_differ : (a b : Ty) → NoVar a → NoVar b → NoNode (spelled a) → (spelled a ≡ spelled b → ⊥) → step a b ≡ fails
+unfolding step spelled
+flat_differ (leaf p) (leaf q) v w h n = leaves_differ p q (λ e. n (ap leaf_spelled e))
+flat_differ (leaf p) (node k s) v w h n = refl
+flat_differ (leaf p) (Var y) v w h n = absurd (w y refl)
+flat_differ (leaf p) Error v w h n = refl
+flat_differ (node k r) b v w h n = absurd (h k (row_len r) (row_spelled r k) refl)
+flat_differ (Var x) b v w h n = absurd (v x refl)
+flat_differ Error (leaf q) v w h n = refl
+flat_differ Error (node k s) v w h n = refl
+flat_differ Error (Var y) v w h n = absurd (w y refl)
+flat_differ Error Error v w h n = absurd (n refl)
+
+node_flat : (k : Kind) (r : Row) (b : Ty) → NoVar b → NoNode (spelled b) → step (node k r) b ≡ fails
+unfolding step spelled
+node_flat k r (leaf q) w h = refl
+node_flat k r (node j s) w h = absurd (h j (row_len s) (row_spelled s j) refl)
+node_flat k r (Var y) w h = absurd (w y refl)
+node_flat k r Error w h = refl
+
+module _ (left right : List ℕ) (rest : Bor (List ℕ)) where
+  pub apart_same : NoNode left → left ≡ right → TellsApart left right rest.now (Drop rest)
+  apart_same h e = record {
+    is = λ a b p q v w.
+        let none : NoNode (spelled a) = rw p at h in
+        let same : a ≡ b = same_flat a b none (sym p ∙ e ∙ q) in
+        (ap (step a) (sym same) ∙ flat_self a none, refl);
+    within = omega arith;
+  }
+
+  pub apart_flat : NoNode left → (left ≡ right → ⊥) → TellsApart left right rest.now Stuck
+  apart_flat h n = record { is = λ a b p q v w. flat_differ a b v w (rw p at h) (λ e. n (p ∙ e ∙ sym q)); within = tt }
+
+  module _ {tag n : ℕ} {cells : List ℕ} (l : (5 ≤ tag) × (tag ≤ 6) × (left ≡ tag ∷ n ∷ cells)) where
+    first_node : (a : Ty) → left ≡ spelled a → IsNode a tag n cells
+    first_node a p = is_node a (l.0, l.1, sym p ∙ l.2)
+
+    pub apart_node : NoNode right → TellsApart left right rest.now Stuck
+    apart_node h = record {
+      is = λ a b p q v w. let s = first_node a p in ap (λ (t : Ty). step t b) s.is ∙ node_flat s.kind s.row b w (rw q at h);
+      within = tt;
+    }
+
+    module _ {tag' n' : ℕ} {cells' : List ℕ} (r : (5 ≤ tag') × (tag' ≤ 6) × (right ≡ tag' ∷ n' ∷ cells')) where
+      second_node : (b : Ty) → right ≡ spelled b → IsNode b tag' n' cells'
+      second_node b q = is_node b (r.0, r.1, sym q ∙ r.2)
+
+      pub apart_kinds : (tag ≡ tag' → ⊥) → TellsApart left right rest.now Stuck
+      apart_kinds d = record {
+        is = λ a b p q v w.
+            let s = first_node a p in
+            let t = second_node b q in
+            rw (s.is, t.is) (nodes_differ s.kind t.kind s.row t.row (λ e. d (s.tagged ∙ e ∙ sym t.tagged)));
+        within = tt;
+      }
+
+      module _ (k : tag ≡ tag') where
+        -- both of one kind
+        both : (a b : Ty) (s : IsNode a tag n cells) (t : IsNode b tag' n' cells') → step a b ≡ split (rows s.kind s.row t.row)
+        both a b s t =
+            let same : t.kind ≡ s.kind = same_kind t.kind s.kind (sym t.tagged ∙ sym k ∙ s.tagged) in
+            rw (s.is, t.is, same) (nodes_same s.kind s.row t.row)
+
+        pub apart_counts : (n ≡ n' → ⊥) → TellsApart left right rest.now Stuck
+        unfolding split
+        apart_counts d = record {
+          is = λ a b p q v w.
+              let s = first_node a p in
+              let t = second_node b q in
+              both a b s t ∙ ap split (rows_differ s.kind s.row t.row (λ e. d (s.many ∙ e ∙ sym t.many)));
+          within = tt;
+        }
+
+        module _ (m : n ≡ n') where
+          two_rows : (a b : Ty) (s : IsNode a tag n cells) (t : IsNode b tag' n' cells') → TwoRows n cells cells' s.kind s.row t.row
+          two_rows a b s t =
+              let same : t.kind ≡ s.kind = same_kind t.kind s.kind (sym t.tagged ∙ sym k ∙ s.tagged) in
+              record {
+                first = s.words;
+                second = t.words ∙ ap (row_spelled t.row) same;
+                many = sym s.many;
+                as_many = sym t.many ∙ sym m;
+              }
+
+          does : (a b : Ty) (s : IsNode a tag n cells) (t : IsNode b tag' n' cells') → step a b ≡ split (matched s.kind s.row t.row)
+          does a b s t = both a b s t ∙ ap split (rows_same s.kind s.row t.row (sym s.many ∙ m ∙ t.many))
+
+          pub apart_unlike : Alike n cells cells' false → TellsApart left right rest.now Stuck
+          unfolding split
+          apart_unlike f = record {
+            is = λ a b p q v w.
+                let s = first_node a p in
+                let t = second_node b q in
+                does a b s t ∙ ap split (like_unlike (matched s.kind s.row t.row) (f s.kind s.row t.row (two_rows a b s t)));
+            within = tt;
+          }
+
+pub apart_split : (left right : List ℕ) (cells cells' rest : Bor (List ℕ)) {tag n tag' n' : ℕ} → (5 ≤ tag) × (tag ≤ 6) × (left ≡ tag ∷ n ∷ cells.now)
+    → (5 ≤ tag') × (tag' ≤ 6) × (right ≡ tag' ∷ n' ∷ cells'.now) → tag ≡ tag' → n ≡ n' → Alike n cells.now cells'.now true
+    → TellsApart left right rest.now (Split n cells cells' rest)
+unfolding split
+apart_split left right cells cells' rest l r k m f = record {
+  is = λ a b p q v w.
+      let s = first_node left right rest l a p in
+      let t = second_node left right rest l r b q in
+      let two = two_rows left right rest l r k m a b s t in
+      let g = like_parts (matched s.kind s.row t.row) (f s.kind s.row t.row two) in
+      (g.0, (does left right rest l r k m a b s t ∙ ap split g.1, record { kind = s.kind; first = s.row; second = t.row; rows = two; are = g.1 }, refl));
+  within = tt;
+}
+
+-- ---- An unknown and a type
+
+module _ (x : ℕ) (ty : Bor (List ℕ)) (rest : Bor (List ℕ)) (o : Option ℕ) (u : MatchOption o (NoUnknown ty.now) (λ y. ty.now ≡ 7 ∷ y ∷ [])) where
+  pub bound_same : true ≡ option_eq nat_eq o (Some x) → TellsBound x ty.now rest.now (Drop rest)
+  bound_same e = record { is = λ t p. (ap (step (Var x)) (is_var t x (sym p ∙ go o u e)) ∙ vars_same x, refl); within = omega arith }
+    where
+      go : (o : Option ℕ) → MatchOption o (NoUnknown ty.now) (λ y. ty.now ≡ 7 ∷ y ∷ []) → true ≡ option_eq nat_eq o (Some x) → ty.now ≡ 7 ∷ x ∷ []
+      go None v e = clash (cc)
+      go (Some y) v e = rw (← eqb-true y x (sym e)) v
+
+  module _ (e : false ≡ option_eq nat_eq o (Some x)) where
+    other : (t : Ty) → ty.now ≡ spelled t → ¬ (t ≡ Var x)
+    unfolding spelled
+    other t p q = go o u e
+      where
+        is : ty.now ≡ 7 ∷ x ∷ []
+        is = p ∙ ap spelled q
+
+        go : (o : Option ℕ) → MatchOption o (NoUnknown ty.now) (λ y. ty.now ≡ 7 ∷ y ∷ []) → false ≡ option_eq nat_eq o (Some x) → ⊥
+        go None v e = v x is
+        go (Some y) v e =
+            let same : y ≡ x = ap (λ (l : List ℕ). get_or l 1 0) (sym v ∙ is) in
+            let z : false ≡ true = e ∙ eq-eqb y x same in
+            clash (cc)
+
+    pub bound_occurs : true ≡ among x ty.now → TellsBound x ty.now rest.now Stuck
+    bound_occurs f = record { is = λ t p. var_other x t (other t p) ∙ bind_occurs x t (ap (among x) (sym p) ∙ sym f); within = tt }
+
+    pub bound_free : false ≡ among x ty.now → TellsBound x ty.now rest.now (Bind x ty rest)
+    bound_free f = record {
+      is = λ t p. (t, (var_other x t (other t p) ∙ bind_free x t (ap (among x) (sym p) ∙ sym f), p, refl));
+      within = tt;
+    }
+
 -- ---- The first pair
 
-pub step_done : (l : List ℕ) (p e : ℕ) → e ≤ p → Tells l p e Done
+no_var : {ty : List ℕ} → NoUnknown ty → (t : Ty) → ty ≡ spelled t → NoVar t
+unfolding spelled
+no_var n t p x q = n x (p ∙ ap spelled q)
+
+spelled_some : (t : Ty) → 1 ≤ length (spelled t)
+spelled_some t = omega (arith, spelled_words t, words_some t)
+
+pub step_done : (pairs : List ℕ) → length pairs ≡ 0 → Tells pairs Done
 unfolding pairs_spelled
-step_done l p e h = record { is = go; within = tt }
+step_done pairs h = record { is = go; within = tt }
   where
-    go : (ps : List Equation) → slice p e l ≡ pairs_spelled ps → Told l p e ps Done
-    go [] q = refl
-    go (c ∷ ps) q =
-        let long : length (pairs_spelled (c ∷ ps)) ≡ 0 = ap length (sym q ∙ slice_none l p e h) in
-        absurd (omega (arith, long, spelled_some c.left, length-append (spelled c.left) (spelled c.right ++ pairs_spelled ps)))
+    go : (ps : List Equation) → pairs ≡ pairs_spelled ps → Told Done ps
+    go [] e = refl
+    go (c ∷ ps) e = absurd (omega (arith, ap length e, spelled_some c.left, length-append (spelled c.left) (spelled c.right ++ pairs_spelled ps)))
 
-module _ (l : List ℕ) (p e : ℕ) (half : e + e ≤ length l) (lt : p < e) where
-  in_e : e ≤ length l
-  in_e = omega arith
-
-  -- there is a first pair
-  tells : {r : Next} → Before e r
-      → ((c : Equation) (ps : List Equation) → slice p e l ≡ spelled c.left ++ (spelled c.right ++ pairs_spelled ps) → Told l p e (c ∷ ps) r)
-      → Tells l p e r
+module _ (pairs : List ℕ) (some : length pairs ≡ 0 → ⊥) where
+  pub step_no_left : NoType pairs → Tells pairs Stuck
   unfolding pairs_spelled
-  tells {r} b f = record { is = go; within = b }
+  step_no_left h = record { is = go; within = tt }
     where
-      go : (ps : List Equation) → slice p e l ≡ pairs_spelled ps → Told l p e ps r
-      go [] q = absurd (omega (arith, slice_long l p e in_e, ap length q))
-      go (c ∷ ps) q = f c ps q
+      go : (ps : List Equation) → pairs ≡ pairs_spelled ps → Told Stuck ps
+      go [] e = absurd (some (ap length e))
+      go (c ∷ ps) e = absurd (h c.left _ e)
 
-  module _ {m : ℕ} (E : EndsAt l p e m) where
-    module _ (c : Equation) (ps : List Equation) (q : slice p e l ≡ spelled c.left ++ (spelled c.right ++ pairs_spelled ps)) where
-      m_is : m ≡ p + length (spelled c.left)
-      m_is = E.is c.left (spelled c.right ++ pairs_spelled ps) q
+  module _ {left rest : List ℕ} (F : FirstType pairs left rest) where
+    pub step_no_right : NoType rest → Tells pairs Stuck
+    unfolding pairs_spelled
+    step_no_right h = record { is = go; within = tt }
+      where
+        go : (ps : List Equation) → pairs ≡ pairs_spelled ps → Told Stuck ps
+        go [] e = absurd (some (ap length e))
+        go (c ∷ ps) e = absurd (h c.right _ (F.is c.left _ e).1)
 
-      left_there : slice p m l ≡ spelled c.left
-      left_there = ap (λ (k : ℕ). slice p k l) m_is ∙ slice_front l p e (spelled c.left) (spelled c.right ++ pairs_spelled ps) in_e (omega arith) q
-
-      right_on : slice m e l ≡ spelled c.right ++ pairs_spelled ps
-      right_on = ap (λ (k : ℕ). slice k e l) m_is ∙ slice_rest l p e (spelled c.left) (spelled c.right ++ pairs_spelled ps) q
-
-      m_between : (p < m) × (m < e)
-      m_between = (
-        omega (arith, m_is, spelled_some c.left),
-        omega (arith, slice_long l m e in_e, ap length right_on, length-append (spelled c.right) (pairs_spelled ps), spelled_some c.right),
-      )
-
-    pub step_no_left : m ≤ p → Tells l p e Stuck
-    step_no_left h = tells tt (λ c ps q. absurd (omega (arith, m_between c ps q)))
-
-    pub step_no_right : e ≤ m → Tells l p e Stuck
-    step_no_right h = tells tt (λ c ps q. absurd (omega (arith, m_between c ps q)))
-
-    module _ (pm : p < m) (me : m < e) {q : ℕ} (F : EndsAt l m e q) where
-      in_m' : m ≤ length l
-      in_m' = omega arith
-
-      q_in : q ≤ e
-      q_in = F.within (omega arith)
-
-      in_q' : q ≤ length l
-      in_q' = omega (arith, q_in)
-
-      module _ (c : Equation) (ps : List Equation) (w : slice p e l ≡ spelled c.left ++ (spelled c.right ++ pairs_spelled ps)) where
-        q_is : q ≡ m + length (spelled c.right)
-        q_is = F.is c.right (pairs_spelled ps) (right_on c ps w)
-
-        right_there : slice m q l ≡ spelled c.right
-        right_there = ap (λ (k : ℕ). slice m k l) q_is ∙ slice_front l m e (spelled c.right) (pairs_spelled ps) in_e (omega arith) (right_on c ps w)
-
-        rest_there : slice q e l ≡ pairs_spelled ps
-        rest_there = ap (λ (k : ℕ). slice k e l) q_is ∙ slice_rest l m e (spelled c.right) (pairs_spelled ps) (right_on c ps w)
-
-      pub step_no_end : q < m → Tells l p e Stuck
-      step_no_end h = tells tt (λ c ps w. absurd (omega (arith, q_is c ps w)))
-
+    module _ {right rest' : List ℕ} (S : FirstType rest right rest') {r : Next} where
       -- what is told of the first two types is told of the pairs
-      told : {r : Next} → Before e r →
-          ((c : Equation) (ps : List Equation) → slice p m l ≡ spelled c.left → slice m q l ≡ spelled c.right
-          → ToldOf l p m q (step c.left c.right) r) → Tells l p e r
-      told b f = tells b (λ c ps w. (m, q, omega (arith, q_is c ps w), rest_there c ps w, f c ps (left_there c ps w) (right_there c ps w)))
+      tells : Within (length rest') r → ((a b : Ty) → left ≡ spelled a → right ≡ spelled b → ToldOf r rest' (step a b)) → Tells pairs r
+      unfolding pairs_spelled
+      tells w f = record { is = go; within = inner r w }
+        where
+          go : (ps : List Equation) → pairs ≡ pairs_spelled ps → Told r ps
+          go [] e = absurd (some (ap length e))
+          go (c ∷ ps) e =
+              let one = F.is c.left _ e in
+              let two = S.is c.right _ one.1 in
+              rw (← two.1) (f c.left c.right one.0 two.0)
 
-      module _ {a b : ℕ} (wa : a ≡ get_or l p 0) (wb : b ≡ get_or l m 0) where
-        module _ (ia : a ≡ 7) {x : ℕ} (wx : x ≡ get_or l (p + 1) 0) where
-          left_var : (s : Ty) → slice p m l ≡ spelled s → s ≡ Var x
-          left_var s i =
-              let t : tag_of s ≡ 7 = sym (tag_there l p m in_m' s i) ∙ sym wa ∙ ia in
-              is_var s t ∙ ap Var (sym (wx ∙ number_there l p m in_m' s i (ap short t ∙ var_long)))
+          shorter : length rest' ≤ length pairs
+          shorter = omega (arith, ap length F.parts ∙ length-append left rest, ap length S.parts ∙ length-append right rest')
 
-          module _ {y : ℕ} (wy : y ≡ get_or l (m + 1) 0) where
-            right_words : (t : Ty) → slice m q l ≡ spelled t → b ≡ tag_of t
-            right_words t j = wb ∙ tag_there l m q in_q' t j
+          inner : (r : Next) → Within (length rest') r → Within (length pairs) r
+          inner Done w = tt
+          inner Stuck w = tt
+          inner (Drop o) w = omega (arith, shorter)
+          inner (Bind x ts o) w = tt
+          inner (Split n a b o) w = tt
 
-            pub step_same : is_unknown x b y ≡ true → Tells l p e (Drop q)
-            unfolding is_unknown
-            step_same u = told q_in (λ c ps i j. rw (left_var c.left i, same c.right j (eqb b 7) refl) (rw (vars_same x) refl))
-              where
-                same : (t : Ty) → slice m q l ≡ spelled t → (d : Bool) → eqb b 7 ≡ d → t ≡ Var x
-                same t j true o =
-                    let g : tag_of t ≡ 7 = sym (right_words t j) ∙ eqb-true b 7 o in
-                    let n : y ≡ number_of t = wy ∙ number_there l m q in_q' t j (ap short g ∙ var_long) in
-                    let h : eqb y x ≡ true = rw o at u in
-                    is_var t g ∙ ap Var (sym n ∙ eqb-true y x h)
-                same t j false o = let z : false ≡ true = rw o at u in clash (cc)
+      pub step_left : {x : ℕ} → left ≡ 7 ∷ x ∷ [] → TellsBound x right rest' r → Tells pairs r
+      step_left {x} e B = tells B.within (λ a b p q. rw (is_var a x (sym p ∙ e)) (B.is b q))
 
-            module _ (u : is_unknown x b y ≡ false) where
-              right_other : (t : Ty) → slice m q l ≡ spelled t → ¬ (t ≡ Var x)
-              unfolding is_unknown tag_of number_of
-              right_other t j g =
-                  let d : b ≡ 7 = right_words t j ∙ ap tag_of g in
-                  let n : y ≡ x = wy ∙ number_there l m q in_q' t j (ap short (ap tag_of g) ∙ var_long) ∙ ap number_of g in
-                  let z : true ≡ false = sym (eq-eqb y x n) ∙ (rw (eq-eqb b 7 d) at u) in
-                  clash (cc)
+      module _ (n : NoUnknown left) where
+        pub step_right : {y : ℕ} → right ≡ 7 ∷ y ∷ [] → TellsBound y left rest' r → Tells pairs r
+        step_right {y} e B = tells B.within (λ a b p q.
+            rw (is_var b y (sym q ∙ e)) (rw (← other_var a y (no_var n a p)) (B.is a p)))
 
-              pub step_occurs : {o : Bool} → o ≡ among x (slice m q l) → o ≡ true → Tells l p e Stuck
-              step_occurs {o} g h = told tt (λ c ps i j.
-                  rw (
-                    left_var c.left i,
-                    var_other x c.right (right_other c.right j),
-                    bind_occurs x c.right
-                        (ap (among x) (sym j) ∙ sym g ∙ h),
-                  ) refl)
-
-              pub step_binds : {o : Bool} → o ≡ among x (slice m q l) → o ≡ false → Tells l p e (Bind x m q q)
-              step_binds {o} g h = told (q_in, q_in) (λ c ps i j.
-                  rw (left_var c.left i, var_other x c.right (right_other c.right j), bind_free x c.right (ap (among x) (sym j) ∙ sym g ∙ h))
-                  (m, q, refl, j))
-
-        module _ (na : a ≡ 7 → ⊥) where
-          left_other : (s : Ty) → slice p m l ≡ spelled s → NoVar s
-          left_other s i = not_var s (λ z. na (wa ∙ tag_there l p m in_m' s i ∙ z))
-
-          module _ (ib : b ≡ 7) {y : ℕ} (wy : y ≡ get_or l (m + 1) 0) where
-            right_var : (t : Ty) → slice m q l ≡ spelled t → t ≡ Var y
-            right_var t j =
-                let g : tag_of t ≡ 7 = sym (tag_there l m q in_q' t j) ∙ sym wb ∙ ib in
-                is_var t g ∙ ap Var (sym (wy ∙ number_there l m q in_q' t j (ap short g ∙ var_long)))
-
-            pub step_occurs_left : {o : Bool} → o ≡ among y (slice p m l) → o ≡ true → Tells l p e Stuck
-            step_occurs_left {o} g h = told tt (λ c ps i j.
-                rw (right_var c.right j, other_var c.left y (left_other c.left i), bind_occurs y c.left (ap (among y) (sym i) ∙ sym g ∙ h)) refl)
-
-            pub step_binds_left : {o : Bool} → o ≡ among y (slice p m l) → o ≡ false → Tells l p e (Bind y p m q)
-            step_binds_left {o} g h = told (omega arith, q_in) (λ c ps i j.
-                rw (right_var c.right j, other_var c.left y (left_other c.left i), bind_free y c.left (ap (among y) (sym i) ∙ sym g ∙ h))
-                (p, m, refl, i))
-
-          module _ (nb : b ≡ 7 → ⊥) where
-            pub step_apart : {r : Next} → TellsApart l p m q r → Tells l p e r
-            step_apart {r} g = told (go r g.within) (λ c ps i j.
-                g.is c.left c.right i j (left_other c.left i) (not_var c.right (λ z. nb (wb ∙ tag_there l m q in_q' c.right j ∙ z))))
-              where
-                go : (r : Next) → Before q r → Before e r
-                go Done h = tt
-                go Stuck h = tt
-                go (Drop o) h = omega (arith, q_in)
-                go (Bind x f o u) h = (omega (arith, q_in, h), omega (arith, q_in, h))
-                go (Split f u) h = (omega (arith, q_in, h), omega (arith, q_in, h))
+        pub step_apart : NoUnknown right → TellsApart left right rest' r → Tells pairs r
+        step_apart m A = tells A.within (λ a b p q. A.is a b p q (no_var n a p) (no_var m b q))

@@ -2,7 +2,6 @@
 -- in it, and what is left after it is what stands behind it.
 use mathlib.Core.Bool.{Bool, true, false}
 use mathlib.Core.List.{List, [], ◌∷◌, ◌++◌, append_assoc}
-use mathlib.Core.Option.{Option, none, some}
 use mathlib.Core.Path.{◌≡◌, refl, ap, ◌∙◌}
 use Prim.Native.Nat.{ℕ, zero, suc, ◌+◌, ◌≤◌}
 use native.Mathlib.Omega.{arith}
@@ -10,6 +9,7 @@ use lib.ListN.{length}
 use Rattle.unification.specs.Ty.{Leaf, Int, String, Bytes, Fact, Kind, Record, Union, Ty, leaf, node, Var, Error, Row, ε, cell, row_len}
 use Rattle.plain_theory.specs.Words.{leaf_spelled, kind_tag, head_spelled, spelled, row_spelled}
 use Rattle.plain.specs.Tokens.{short, owed, instead_of, swapped, among, behind}
+use Rattle.std.specs.Prelude.{None, Option, Some}
 
 -- ---- One token
 
@@ -27,7 +27,7 @@ among_short x a b ws e = rw e
 
 -- ---- What is left after so many
 
-pub behind_none : (ws : List ℕ) → behind ws 0 ≡ some ws
+pub behind_none : (ws : List ℕ) → behind ws 0 ≡ Some ws
 unfolding behind
 behind_none [] = refl
 behind_none (a ∷ []) = refl
@@ -42,21 +42,21 @@ pub behind_long : (a b : ℕ) (ws : List ℕ) (n : ℕ) → short a ≡ false �
 unfolding behind
 behind_long a b ws n e = rw e
 
-pub behind_cut : (a n : ℕ) → short a ≡ false → behind (a ∷ []) (suc n) ≡ none
+pub behind_cut : (a n : ℕ) → short a ≡ false → behind (a ∷ []) (suc n) ≡ None
 unfolding behind
 behind_cut a n e = rw e
 
-pub behind_empty : (n : ℕ) → behind [] (suc n) ≡ none
+pub behind_empty : (n : ℕ) → behind [] (suc n) ≡ None
 unfolding behind
 behind_empty n = refl
 
 abbrev pub Enough : List ℕ → ℕ → Option (List ℕ) → Type 0
-Enough ws n none = Unit {0}
-Enough ws n (some v) = n + length v ≤ length ws
+Enough ws n None = Unit {0}
+Enough ws n (Some v) = n + length v ≤ length ws
 
 more_enough : (a : ℕ) (ws : List ℕ) (n m : ℕ) (o : Option (List ℕ)) → n ≤ m + 1 → Enough ws m o → Enough (a ∷ ws) n o
-more_enough a ws n m none h e = tt
-more_enough a ws n m (some v) h e = omega arith
+more_enough a ws n m None h e = tt
+more_enough a ws n m (Some v) h e = omega arith
 
 enough_none : (n : ℕ) → Enough [] n (behind [] n)
 enough_none zero = rw (behind_none []) (omega arith)

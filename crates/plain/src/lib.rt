@@ -1,600 +1,410 @@
-// The plain solver (card 12): a list of pairs to be made equal and a list of bindings, in a lent slice of words. Nothing of
+// The plain solver (card 12): a list of pairs to be made equal and a list of bindings, as words in a lent slice. Nothing of
 // `unify` is called.
 #![tactic(auto)]
 
-ghost use Rattle.std.specs.Prelude.{true, false, [], ◌∷◌, ◌++◌, ◌≡◌, ◌+◌, ◌<◌, ◌≤◌, length, get_or};
-ghost use Rattle.plain.specs.Slices.{slice};
+ghost use Rattle.std.specs.Prelude.{List, [], ◌∷◌, ◌++◌, ◌≡◌, ◌+◌, ◌<◌, ◌≤◌, length, MatchOption, None, Some};
+ghost use Rattle.unification.specs.Robinson.{Equation};
+ghost use Rattle.plain_theory.specs.Words.{pairs_spelled};
 ghost use Rattle.writer.specs.Writes.{Writes};
-ghost use Rattle.plain.specs.Tokens.{short, is_unknown, owed, instead_of, swapped, among, head_size, same_label, EndsAt, FindsAt, Alike, Pairs};
-ghost use Rattle.plain.specs.Stages.{TellsApart, Tells, Parted, Binds, Splits, Lowers, Runs};
+ghost use Rattle.plain.specs.Tokens.{short, is_unknown, owed, instead_of, swapped, among, behind, NoType, FirstType, NoCell, FirstCell, Absent, FoundAt, FirstUnlike, FirstAlike, Alike, Pairs, NoUnknown, NoNode};
+ghost use Rattle.plain.specs.Stages.{Rows, TellsBound, TellsApart, Tells, Lays, Stays, Runs};
 
-use work::{wide, word};
-use writer::Wrote;
+use writer::{one, two};
 
-// How a question to the solver ends; after a success with the words that the bindings take.
-#[derive(Drop)]
-pub enum Plain {
-    Success(usize),
+// Tokens: of the leaves 1 to 3 and an error this one word alone, of the others a number follows.
+const FACT: u32 = 4;
+
+const RECORD: u32 = 5;
+
+const UNION: u32 = 6;
+
+const UNKNOWN: u32 = 7;
+
+const ERROR: u32 = 8;
+
+// A cell starts with its key; an alternative has its label before that.
+const KEY: u32 = 9;
+
+const LABEL: u32 = 10;
+
+const BINDING: u32 = 11;
+
+// Why a run comes to no bindings: there are none, demand 3 shuts its types out, or the slice is too short.
+#[derive(Clone, Copy)]
+pub enum Unsolved {
     Failure,
     ShutOut,
     TooFew,
 }
 
-// A word, if there is room.
-fn one(l: &mut [u32], at: usize, a: u32) -> Wrote
-    ensures { Writes l.old at (a ∷ []) l.new result }
+// Words, if there is room.
+fn copy(out: &mut [u32], at: usize, ws: &[u32]) -> Option<usize>
+    ensures { Writes out.old at ws.now out.new result }
 {
-    if at < l.len() {
-        l[at] = a;
-        return Wrote::To(at + 1);
+    if out.len().checked_sub(at)? < ws.len() {
+        return None;
     }
-    Wrote::Full
-}
-
-fn two(l: &mut [u32], at: usize, a: u32, b: u32) -> Wrote
-    ensures { Writes l.old at (a ∷ b ∷ []) l.new result }
-{
-    let r = one(l, at, a);
-    match r {
-        Wrote::To(n) => one(l, n, b),
-        Wrote::Full => Wrote::Full,
-    }
-}
-
-// The words from a place up to another, written behind them.
-fn copy(l: &mut [u32], from: usize, to: usize, at: usize) -> Wrote
-    requires { (to ≤ at) × (at ≤ length l.old) }
-    ensures { Writes l.old at (slice from to l.old) l.new result }
-{
-    let mut i = from;
-    let mut n = at;
-    while i < to {
-        let a = word(l, i);
-        let r = one(l, n, a);
-        match r {
-            Wrote::To(m) => {
-                n = m;
-            }
-            Wrote::Full => {
-                return Wrote::Full;
-            }
-        }
-        i += 1;
-    }
-    Wrote::To(n)
+    let to = at + ws.len();
+    out[at..to].copy_from_slice(ws);
+    Some(to)
 }
 
 // Whether a token is this one word, and else a second one follows.
+#[tactic(auto, unfolding(crate::specs::Tokens::short))]
 fn is_short(a: u32) -> bool
     ensures { result ≡ short a }
 {
-    if a < 4 {
-        return true;
-    }
-    a == 8
+    a < FACT || a == ERROR
 }
 
 // Whether a token is this unknown.
+#[tactic(auto, unfolding(crate::specs::Tokens::is_unknown))]
 fn is_unknown(a: u32, b: u32, x: u32) -> bool
     ensures { result ≡ is_unknown x a b }
 {
-    if a == 7 {
-        return b == x;
-    }
-    false
+    a == UNKNOWN && b == x
 }
 
-// The words from a place up to another, with the words from `first` to `last` for each token of x.
-fn replace(
-    l: &mut [u32],
-    from: usize,
-    to: usize,
-    x: u32,
-    first: usize,
-    last: usize,
-    at: usize,
-) -> Wrote
-    requires { (to ≤ at) × (last ≤ at) × (at ≤ length l.old) }
-    ensures { Writes l.old at (swapped x (slice first last l.old) (slice from to l.old)) l.new result }
-{
-    let mut i = from;
-    let mut n = at;
-    while i < to {
-        let a = word(l, i);
-        if to - i < 2 {
-            return one(l, n, a);
-        }
-        if is_short(a) {
-            let r = one(l, n, a);
-            match r {
-                Wrote::To(m) => {
-                    n = m;
-                }
-                Wrote::Full => {
-                    return Wrote::Full;
-                }
-            }
-            i += 1;
-        } else {
-            let b = word(l, i + 1);
-            let r = instead(l, n, a, b, x, first, last);
-            match r {
-                Wrote::To(m) => {
-                    n = m;
-                }
-                Wrote::Full => {
-                    return Wrote::Full;
-                }
-            }
-            i += 2;
-        }
-    }
-    Wrote::To(n)
-}
-
-// One token of two words, or what stands for it.
-fn instead(l: &mut [u32], at: usize, a: u32, b: u32, x: u32, first: usize, last: usize) -> Wrote
-    requires { (last ≤ at) × (at ≤ length l.old) }
-    ensures { Writes l.old at (instead_of x (slice first last l.old) a b) l.new result }
+// One token of two words, or the words that stand for it.
+#[tactic(auto, unfolding(crate::specs::Tokens::instead_of))]
+fn instead(out: &mut [u32], at: usize, a: u32, b: u32, x: u32, ts: &[u32]) -> Option<usize>
+    ensures { Writes out.old at (instead_of x ts.now a b) out.new result }
 {
     if is_unknown(a, b, x) {
-        return copy(l, first, last, at);
+        copy(out, at, ts)
+    } else {
+        two(out, at, a, b)
     }
-    two(l, at, a, b)
+}
+
+// The words, with the words ts for each token of x.
+fn replace(out: &mut [u32], at: usize, ws: &[u32], x: u32, ts: &[u32]) -> Option<usize>
+    ensures { Writes out.old at (swapped x ts.now ws.now) out.new result }
+{
+    let mut to = at;
+    let mut rest = ws;
+    while let [a, b, more @ ..] = rest {
+        if is_short(*a) {
+            to = one(out, to, *a)?;
+            rest = &rest[1..];
+        } else {
+            to = instead(out, to, *a, *b, x, ts)?;
+            rest = more;
+        }
+    }
+    copy(out, to, rest)
 }
 
 // The occurs check.
-fn occurs(l: &[u32], from: usize, to: usize, x: u32) -> bool
-    requires { to ≤ length l.now }
-    ensures { result ≡ among x (slice from to l.now) }
+fn occurs(x: u32, ws: &[u32]) -> bool
+    ensures { result ≡ among x ws.now }
 {
-    let mut i = from;
-    while i < to {
-        if to - i < 2 {
-            return false;
-        }
-        let a = word(l, i);
-        if is_short(a) {
-            i += 1;
+    let mut rest = ws;
+    while let [a, b, more @ ..] = rest {
+        if is_short(*a) {
+            rest = &rest[1..];
+        } else if is_unknown(*a, *b, x) {
+            return true;
         } else {
-            let b = word(l, i + 1);
-            if is_unknown(a, b, x) {
-                return true;
-            }
-            i += 2;
+            rest = more;
         }
     }
     false
 }
 
 // How many types or cells a token of two words owes.
+#[tactic(auto, unfolding(crate::specs::Tokens::owed))]
 fn owed_by(a: u32, b: u32) -> usize
     ensures { (result ≡ owed a b) × (result < 4294967296) }
 {
-    if a == 5 {
-        return wide(b);
+    match a {
+        RECORD | UNION => b as usize,
+        KEY | LABEL => 1,
+        _ => 0,
     }
-    if a == 6 {
-        return wide(b);
-    }
-    if a == 9 {
-        return 1;
-    }
-    if a == 10 {
-        return 1;
-    }
-    0
 }
 
-// Where the type that starts at a place ends, by counting what is owed.
-fn type_end(l: &[u32], from: usize, to: usize) -> usize
-    requires { to ≤ length l.now }
-    ensures { EndsAt l.now from to result }
+// What is left after so many types or cells.
+fn behind(ws: &[u32], n: usize) -> Option<&[u32]>
+    ensures { MatchOption result (behind ws.now n ≡ None) (λ rest. behind ws.now n ≡ Some rest.now) }
 {
-    if to <= from {
-        return to;
-    }
-    let mut i = from;
-    let mut n: usize = 1;
-    while 0 < n {
-        if to - i < n {
-            return to;
+    let mut rest = ws;
+    let mut owes = n;
+    while owes > 0 {
+        if rest.len() < owes {
+            return None;
         }
-        let a = word(l, i);
-        if is_short(a) {
-            n -= 1;
-            i += 1;
+        let (a, more) = rest.split_first()?;
+        if is_short(*a) {
+            owes -= 1;
+            rest = more;
         } else {
-            if to - i < 2 {
-                return to;
-            }
-            n = owed_by(a, word(l, i + 1)) + (n - 1);
-            i += 2;
+            let (b, more) = more.split_first()?;
+            owes = owed_by(*a, *b) + (owes - 1);
+            rest = more;
         }
     }
-    i
+    Some(rest)
 }
 
-// The words before the type of a cell: a field's name, or an alternative's name and discriminant.
-fn head(tag: u32) -> usize
-    ensures { result ≡ head_size tag }
+// The words of the first type, and those behind it.
+fn first_type(ws: &[u32]) -> Option<(&[u32], &[u32])>
+    ensures { MatchOption result (NoType ws.now) (λ p. FirstType ws.now p.0.now p.1.now) }
 {
-    if tag == 6 {
-        return 4;
-    }
-    2
+    let rest = behind(ws, 1)?;
+    Some(ws.split_at(ws.len() - rest.len()))
 }
 
-// Where the first cell with this key starts.
-fn find(l: &[u32], tag: u32, from: usize, n: u32, to: usize, key: u32) -> usize
-    requires { to ≤ length l.now }
-    ensures { FindsAt l.now tag from n to key result }
-{
-    let h = head(tag);
-    let mut i = from;
-    let mut j: u32 = 0;
-    while j < n {
-        if to <= i {
-            return to;
-        }
-        if to - i < h {
-            return to;
-        }
-        if word(l, i + h - 1) == key {
-            return i;
-        }
-        i = type_end(l, i + h, to);
-        j += 1;
-    }
-    to
+// The key and the discriminant of a cell, of a field 0, and the words from its type on.
+#[derive(Clone, Copy)]
+struct Cell<'a> {
+    key: u32,
+    label: u32,
+    ty: &'a [u32],
 }
 
-// Whether two cells have the same label; a field has none.
-fn same_label(l: &[u32], tag: u32, i: usize, r: usize) -> bool
-    requires { (i < length l.now) × (r < length l.now) }
-    ensures { result ≡ same_label tag (get_or l.now (i + 1) 0) (get_or l.now (r + 1) 0) }
+fn first_cell(row: &[u32]) -> Option<Cell<'_>>
+    ensures { MatchOption result (NoCell row.now) (λ c. FirstCell row.now c.key c.label c.ty.now) }
 {
-    if tag == 6 {
-        return word(l, i + 1) == word(l, r + 1);
+    let [tag, x, ws @ ..] = row else {
+        return None;
+    };
+    match *tag {
+        KEY => Some(Cell {
+            key: *x,
+            label: 0,
+            ty: ws,
+        }),
+        LABEL => {
+            let [_, key, ty @ ..] = ws else {
+                return None;
+            };
+            Some(Cell {
+                key: *key,
+                label: *x,
+                ty,
+            })
+        }
+        _ => None,
     }
-    true
+}
+
+// The first cell with this key.
+fn find(row: &[u32], n: u32, key: u32) -> Option<Cell<'_>>
+    ensures { MatchOption result (Absent row.now n key) (λ c. FoundAt row.now n key c.label c.ty.now) }
+{
+    let mut rest = row;
+    for _ in 0..n {
+        let cell = first_cell(rest)?;
+        if cell.key == key {
+            return Some(cell);
+        }
+        rest = behind(cell.ty, 1)?;
+    }
+    None
 }
 
 // Whether each cell of the first row has its cell in the second.
-fn alike(l: &[u32], tag: u32, left: usize, middle: usize, n: u32, right: usize, end: usize) -> bool
-    requires { (middle ≤ length l.now) × (end ≤ length l.now) }
-    ensures { Alike l.now tag left middle n right end result }
+fn alike(n: u32, left: &[u32], right: &[u32]) -> bool
+    ensures { Alike n left.now right.now result }
 {
-    let h = head(tag);
-    let mut i = left;
-    let mut j: u32 = 0;
-    while j < n {
-        if middle <= i {
+    let mut rest = left;
+    for _ in 0..n {
+        let Some(more) = past_alike(n, rest, right) else {
             return false;
-        }
-        if middle - i < h {
-            return false;
-        }
-        let r = find(l, tag, right, n, end, word(l, i + h - 1));
-        if end <= r {
-            return false;
-        }
-        if !same_label(l, tag, i, r) {
-            return false;
-        }
-        i = type_end(l, i + h, middle);
-        j += 1;
+        };
+        rest = more;
     }
     true
 }
 
+// The row behind its first cell, if that has its cell in the other row.
+fn past_alike<'a>(n: u32, row: &'a [u32], other: &[u32]) -> Option<&'a [u32]>
+    ensures { MatchOption result (FirstUnlike n row.now other.now) (λ rest. FirstAlike n row.now other.now rest.now) }
+{
+    let cell = first_cell(row)?;
+    let partner = find(other, n, cell.key)?;
+    if partner.label != cell.label {
+        return None;
+    }
+    behind(cell.ty, 1)
+}
+
 // The pairs of cells of two rows, where each has its cell. On other words what is written is anything.
-fn pair_up(
-    l: &mut [u32],
-    tag: u32,
-    left: usize,
-    middle: usize,
-    n: u32,
-    right: usize,
-    end: usize,
-    at: usize,
-) -> Wrote
-    requires { (middle ≤ at) × (end ≤ at) × (at ≤ length l.old) }
-    ensures { Pairs l.old tag left middle n right end at l.new result }
+fn pair_up(out: &mut [u32], at: usize, n: u32, left: &[u32], right: &[u32]) -> Option<usize>
+    requires { at ≤ length out.old }
+    ensures { Pairs n left.now right.now out.old at out.new result }
 {
-    let h = head(tag);
-    let mut i = left;
-    let mut j: u32 = 0;
     let mut to = at;
-    while j < n {
-        if middle <= i {
-            return Wrote::Full;
-        }
-        if middle - i < h {
-            return Wrote::Full;
-        }
-        let r = find(l, tag, right, n, end, word(l, i + h - 1));
-        if end <= r {
-            return Wrote::Full;
-        }
-        if end - r < h {
-            return Wrote::Full;
-        }
-        let e = type_end(l, i + h, middle);
-        let f = type_end(l, r + h, end);
-        let w = both(l, i + h, e, r + h, f, to);
-        match w {
-            Wrote::To(m) => {
-                to = m;
-            }
-            Wrote::Full => {
-                return Wrote::Full;
-            }
-        }
-        i = e;
-        j += 1;
+    let mut rest = left;
+    for _ in 0..n {
+        let cell = first_cell(rest)?;
+        let (a, more) = first_type(cell.ty)?;
+        let partner = find(right, n, cell.key)?;
+        let (b, _) = first_type(partner.ty)?;
+        to = copy(out, to, a)?;
+        to = copy(out, to, b)?;
+        rest = more;
     }
-    Wrote::To(to)
+    Some(to)
 }
 
-// Two parts, one behind the other.
-fn both(l: &mut [u32], from: usize, to: usize, first: usize, last: usize, at: usize) -> Wrote
-    requires { (to ≤ at) × (last ≤ at) × (at ≤ length l.old) }
-    ensures { Writes l.old at (slice from to l.old ++ slice first last l.old) l.new result }
-{
-    let r = copy(l, from, to, at);
-    match r {
-        Wrote::To(n) => copy(l, first, last, n),
-        Wrote::Full => Wrote::Full,
-    }
-}
-
-// Where the bindings of a stage end, and where its pairs end; or it is too long.
-#[derive(Drop)]
-enum Staged {
-    At(usize, usize),
-    Full,
-}
-
-// The words from a place on, moved to the start.
-fn lower(l: &mut [u32], from: usize, to: usize)
-    requires { (to ≤ from + from) × (to ≤ length l.old) }
-    ensures { Lowers l.old from to l.new }
-{
-    let mut i = from;
-    while i < to {
-        let a = word(l, i);
-        l[i - from] = a;
-        i += 1;
-    }
-}
-
-// The binding of x to the words from `first` to `last`, and behind it the bindings up to b, in which x is replaced.
-fn bound(l: &mut [u32], b: usize, x: u32, first: usize, last: usize, at: usize) -> Wrote
-    requires { (b ≤ at) × (last ≤ at) × (at ≤ length l.old) }
-    ensures { Writes l.old at
-        (11 ∷ x ∷ (slice first last l.old ++ swapped x (slice first last l.old) (slice 0 b l.old)))
-        l.new result }
-{
-    let r = two(l, at, 11, x);
-    let n = match r {
-        Wrote::To(n) => n,
-        Wrote::Full => {
-            return Wrote::Full;
-        }
-    };
-    let s = copy(l, first, last, n);
-    match s {
-        Wrote::To(m) => replace(l, 0, b, x, first, last, m),
-        Wrote::Full => Wrote::Full,
-    }
-}
-
-// The stage after x is bound to the words from `first` to `last`, written from h on and moved down. What is longer than h words
-// is full.
-fn bind(
-    l: &mut [u32],
-    h: usize,
-    b: usize,
-    q: usize,
-    e: usize,
-    x: u32,
-    first: usize,
-    last: usize,
-) -> Staged
-    requires { (b ≤ h) × (e ≤ h) × (last ≤ h) × (length l.old ≡ h + h) }
-    ensures { Binds l.old h b q e x first last l.new result }
-{
-    let r = bound(l, b, x, first, last, h);
-    let n = match r {
-        Wrote::To(n) => n,
-        Wrote::Full => {
-            return Staged::Full;
-        }
-    };
-    let s = replace(l, q, e, x, first, last, n);
-    match s {
-        Wrote::To(m) => {
-            lower(l, h, m);
-            Staged::At(n - h, m - h)
-        }
-        Wrote::Full => Staged::Full,
-    }
-}
-
-// The pairs of cells of the pair from p to q, and the pairs behind it.
-fn parted(l: &mut [u32], p: usize, m: usize, q: usize, e: usize, at: usize) -> Wrote
-    requires { (m ≤ at) × (q ≤ at) × (e ≤ at) × (at ≤ length l.old) × (p + p ≤ length l.old) × (m + m ≤ length l.old) }
-    ensures { Parted l.old p m q e at l.new result }
-{
-    let tag = word(l, p);
-    let n = word(l, p + 1);
-    let r = pair_up(l, tag, p + 2, m, n, m + 2, q, at);
-    match r {
-        Wrote::To(k) => copy(l, q, e, k),
-        Wrote::Full => Wrote::Full,
-    }
-}
-
-// The stage after the pair from p to q, whose second type starts at m, is taken apart: written from h on and moved down.
-fn split(l: &mut [u32], h: usize, b: usize, p: usize, m: usize, q: usize, e: usize) -> Staged
-    requires { (b ≤ h) × (p ≤ h) × (m ≤ h) × (q ≤ h) × (e ≤ h) × (length l.old ≡ h + h) }
-    ensures { Splits l.old h b p m q e l.new result }
-{
-    let r = copy(l, 0, b, h);
-    let n = match r {
-        Wrote::To(n) => n,
-        Wrote::Full => {
-            return Staged::Full;
-        }
-    };
-    let s = parted(l, p, m, q, e, n);
-    match s {
-        Wrote::To(k) => {
-            lower(l, h, k);
-            Staged::At(n - h, k - h)
-        }
-        Wrote::Full => Staged::Full,
-    }
-}
-
-// What is to be done with the first pair.
-#[derive(Drop)]
-enum Next {
+// What is to be done with the first pair, and the pairs behind it: an unknown bound to the words of a type, or two rows of
+// n cells paired.
+#[derive(Clone, Copy)]
+enum Next<'a> {
     Done,
     Stuck,
-    Drop(usize),
-    Bind(u32, usize, usize, usize),
-    Split(usize, usize),
+    Drop(&'a [u32]),
+    Bind(u32, &'a [u32], &'a [u32]),
+    Split(u32, &'a [u32], &'a [u32], &'a [u32]),
 }
 
-// Two types that are no unknowns, from p and from m on.
-fn apart(l: &[u32], p: usize, m: usize, q: usize) -> Next
-    requires { (m ≤ q) × (q + q ≤ length l.now) × (p < m) }
-    ensures { TellsApart l.now p m q result }
+// The unknown that a type is.
+fn unknown(ty: &[u32]) -> Option<u32>
+    ensures { MatchOption result (NoUnknown ty.now) (λ x. ty.now ≡ 7 ∷ x ∷ []) }
 {
-    let a = word(l, p);
-    if a != word(l, m) {
-        return Next::Stuck;
+    match ty {
+        [UNKNOWN, x] => Some(*x),
+        _ => None,
     }
-    if is_short(a) {
-        return Next::Drop(q);
-    }
-    let n = word(l, p + 1);
-    if n != word(l, m + 1) {
-        return Next::Stuck;
-    }
-    if a == 4 {
-        return Next::Drop(q);
-    }
-    if alike(l, a, p + 2, m, n, m + 2, q) {
-        return Next::Split(m, q);
-    }
-    Next::Stuck
 }
 
-// The first of the pairs from p to e.
-fn step(l: &[u32], p: usize, e: usize) -> Next
-    requires { e + e ≤ length l.now }
-    ensures { Tells l.now p e result }
+// The kind of a record or a union, how many cells it has, and their words.
+fn node(ty: &[u32]) -> Option<(u32, u32, &[u32])>
+    ensures { MatchOption result (NoNode ty.now) (λ p. (5 ≤ p.0) × (p.0 ≤ 6) × (ty.now ≡ p.0 ∷ p.1 ∷ p.2.now)) }
 {
-    if e <= p {
+    let [kind, n, cells @ ..] = ty else {
+        return None;
+    };
+    match *kind {
+        RECORD | UNION => Some((*kind, *n, cells)),
+        _ => None,
+    }
+}
+
+// An unknown made equal to a type. It is not bound to a type that it stands in.
+fn bound<'a>(x: u32, ty: &'a [u32], rest: &'a [u32]) -> Next<'a>
+    ensures { TellsBound x ty.now rest.now result }
+{
+    if unknown(ty) == Some(x) {
+        Next::Drop(rest)
+    } else if occurs(x, ty) {
+        Next::Stuck
+    } else {
+        Next::Bind(x, ty, rest)
+    }
+}
+
+// Two types that are no unknowns.
+fn apart<'a>(left: &'a [u32], right: &'a [u32], rest: &'a [u32]) -> Next<'a>
+    ensures { TellsApart left.now right.now rest.now result }
+{
+    let Some((kind, n, first)) = node(left) else {
+        return if left == right {
+            Next::Drop(rest)
+        } else {
+            Next::Stuck
+        };
+    };
+    let Some((other, m, second)) = node(right) else {
+        return Next::Stuck;
+    };
+    if kind == other && n == m && alike(n, first, second) {
+        Next::Split(n, first, second, rest)
+    } else {
+        Next::Stuck
+    }
+}
+
+// The first of the pairs.
+fn step(pairs: &[u32]) -> Next<'_>
+    ensures { Tells pairs.now result }
+{
+    if pairs.is_empty() {
         return Next::Done;
     }
-    let m = type_end(l, p, e);
-    if m <= p {
+    let Some((left, rest)) = first_type(pairs) else {
         return Next::Stuck;
-    }
-    if e <= m {
+    };
+    let Some((right, rest)) = first_type(rest) else {
         return Next::Stuck;
+    };
+    if let Some(x) = unknown(left) {
+        bound(x, right, rest)
+    } else if let Some(y) = unknown(right) {
+        bound(y, left, rest)
+    } else {
+        apart(left, right, rest)
     }
-    let q = type_end(l, m, e);
-    if q < m {
-        return Next::Stuck;
-    }
-    let a = word(l, p);
-    let b = word(l, m);
-    if a == 7 {
-        let x = word(l, p + 1);
-        if is_unknown(b, word(l, m + 1), x) {
-            return Next::Drop(q);
-        }
-        if occurs(l, m, q, x) {
-            return Next::Stuck;
-        }
-        return Next::Bind(x, m, q, q);
-    }
-    if b == 7 {
-        let y = word(l, m + 1);
-        if occurs(l, p, m, y) {
-            return Next::Stuck;
-        }
-        return Next::Bind(y, p, m, q);
-    }
-    apart(l, p, m, q)
 }
 
-// The run from the stage at the start, its bindings up to `b0` and its pairs up to `e0`. It ends on any words: each turn leaves
-// fewer unknowns that can still be bound, or as many and fewer words on the left sides.
-fn turns(l: &mut [u32], h: usize, b0: usize, e0: usize) -> Plain
-    requires { (b0 ≤ e0) × (e0 ≤ h) × (length l.old ≡ h + h) }
-    ensures { Runs l.old h 0 b0 e0 l.new result }
+// The stage after x is bound to the words ts.
+fn bind(
+    out: &mut [u32],
+    bindings: &[u32],
+    pairs: &[u32],
+    x: u32,
+    ts: &[u32],
+) -> Option<(usize, usize)>
+    ensures lays { Lays (11 ∷ x ∷ (ts.now ++ swapped x ts.now bindings.now)) (swapped x ts.now pairs.now) out.old out.new result }
+    ensures stays { Stays out.old out.new result }
 {
-    let mut b = b0;
-    let mut p = b0;
-    let mut e = e0;
-    let mut unknowns = h;
-    let mut words = h;
+    let at = two(out, 0, BINDING, x)?;
+    let at = copy(out, at, ts)?;
+    let b = replace(out, at, bindings, x, ts)?;
+    let e = replace(out, b, pairs, x, ts)?;
+    Some((b, e))
+}
+
+// The stage after two rows of n cells are paired.
+fn split(
+    out: &mut [u32],
+    bindings: &[u32],
+    n: u32,
+    left: &[u32],
+    right: &[u32],
+    pairs: &[u32],
+) -> Option<(usize, usize)>
+    ensures lays { (qs : List Equation) → Rows n left.now right.now qs → Lays bindings.now (pairs_spelled qs ++ pairs.now) out.old out.new result }
+    ensures stays { Stays out.old out.new result }
+{
+    let b = copy(out, 0, bindings)?;
+    let at = pair_up(out, b, n, left, right)?;
+    let e = copy(out, at, pairs)?;
+    Some((b, e))
+}
+
+// The run from a stage, its bindings up to b and its pairs up to e; the next one is written into as many words of room. It ends
+// on any words: each turn leaves fewer unknowns that can still be bound, or as many and fewer words on the left sides.
+fn turns(stage: &mut [u32], room: &mut [u32], mut b: usize, mut e: usize) -> Result<usize, Unsolved>
+    requires { (b ≤ e) × (e ≤ length stage.old) × (length room.old ≡ length stage.old) }
+    ensures { Runs stage.old (length stage.old) 0 b e stage.new result }
+{
+    let mut p = b;
+    let mut unknowns = stage.len();
+    let mut words = stage.len();
     loop {
-        let t = step(l, p, e);
-        match t {
-            Next::Done => {
-                return Plain::Success(b);
+        let now = &*stage;
+        match step(&now[p..e]) {
+            Next::Done => return Ok(b),
+            Next::Stuck => return Err(Unsolved::Failure),
+            Next::Drop(rest) => {
+                words = words.checked_sub(1).ok_or(Unsolved::TooFew)?;
+                p = e - rest.len();
             }
-            Next::Stuck => {
-                return Plain::Failure;
+            Next::Bind(x, ts, rest) => {
+                unknowns = unknowns.checked_sub(1).ok_or(Unsolved::TooFew)?;
+                (b, e) = bind(room, &now[..b], rest, x, ts).ok_or(Unsolved::TooFew)?;
+                stage[..e].copy_from_slice(&room[..e]);
+                p = b;
+                words = stage.len();
             }
-            Next::Drop(q) => {
-                if words == 0 {
-                    return Plain::TooFew;
-                }
-                words -= 1;
-                p = q;
-            }
-            Next::Bind(x, first, last, q) => {
-                if unknowns == 0 {
-                    return Plain::TooFew;
-                }
-                let s = bind(l, h, b, q, e, x, first, last);
-                match s {
-                    Staged::At(i, k) => {
-                        b = i;
-                        p = i;
-                        e = k;
-                    }
-                    Staged::Full => {
-                        return Plain::TooFew;
-                    }
-                }
-                unknowns -= 1;
-                words = h;
-            }
-            Next::Split(m, q) => {
-                if words == 0 {
-                    return Plain::TooFew;
-                }
-                let s = split(l, h, b, p, m, q, e);
-                match s {
-                    Staged::At(i, k) => {
-                        b = i;
-                        p = i;
-                        e = k;
-                    }
-                    Staged::Full => {
-                        return Plain::TooFew;
-                    }
-                }
-                words -= 1;
+            Next::Split(n, left, right, rest) => {
+                words = words.checked_sub(1).ok_or(Unsolved::TooFew)?;
+                (b, e) = split(room, &now[..b], n, left, right, rest).ok_or(Unsolved::TooFew)?;
+                stage[..e].copy_from_slice(&room[..e]);
+                p = b;
             }
         }
     }
@@ -602,10 +412,11 @@ fn turns(l: &mut [u32], h: usize, b0: usize, e0: usize) -> Plain
 
 // The run from the stage that stands from h on, its bindings up to `b` and its pairs up to `e`. After a success the slice
 // starts with the bindings.
-pub fn run(l: &mut [u32], h: usize, b: usize, e: usize) -> Plain
+pub fn run(l: &mut [u32], h: usize, b: usize, e: usize) -> Result<usize, Unsolved>
     requires { (h ≤ b) × (b ≤ e) × (e ≤ length l.old) × (length l.old ≡ h + h) }
     ensures { Runs l.old h h b e l.new result }
 {
-    lower(l, h, e);
-    turns(l, h, b - h, e - h)
+    let (stage, room) = l.split_at_mut(h);
+    stage[..e - h].copy_from_slice(&room[..e - h]);
+    turns(stage, room, b - h, e - h)
 }

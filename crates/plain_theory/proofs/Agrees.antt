@@ -4,7 +4,6 @@
 -- bindings are then a most general one.
 use mathlib.Core.List.{List, [], ◌∷◌}
 use mathlib.Core.Logic.{◌↔◌}
-use mathlib.Core.Option.{Option}
 use mathlib.Core.Path.{◌≡◌, refl}
 use Prim.Native.Nat.{ℕ}
 use lib.ListN.{length}
@@ -25,6 +24,7 @@ use Rattle.plain_theory.specs.Solve.{solve}
 use Rattle.plain_theory.specs.Claims.{Respected, Ends, Succeeds, Fails}
 use Rattle.plain_theory.proofs.Runs.{Says, run_says, solve_runs}
 use Rattle.plain_theory.proofs.Start.{resolving, start_holds, start_unifiable, start_clean}
+use Rattle.std.specs.Prelude.{Option}
 
 -- ---- A most general unifier is respected by the unifiers, and by nothing else
 

@@ -2,7 +2,6 @@
 -- ShutOut just where a side reaches what demand 3 shuts out, and of the other answers the laws of Agrees.antt hold.
 use mathlib.Core.List.{List}
 use mathlib.Core.Logic.{◌↔◌, inl, inr}
-use mathlib.Core.Option.{Option}
 use mathlib.Core.Path.{◌≡◌, refl, sym, ◌∙◌}
 use Prim.Native.Nat.{ℕ, zero, suc, ◌<◌}
 use lib.ListN.{length}
@@ -24,6 +23,7 @@ use Rattle.plain_theory.specs.Claims.{Ends, AsUnify}
 use Rattle.plain_theory.proofs.Start.{in_reaches}
 use Rattle.plain_theory.proofs.Runs.{full_exactly}
 use Rattle.plain_theory.proofs.Agrees.{fails_exactly, same_bindings}
+use Rattle.std.specs.Prelude.{Option}
 
 -- ---- Admitted, so pure
 

@@ -4,7 +4,6 @@
 use mathlib.Core.Bool.{Bool, true, false}
 use mathlib.Core.List.{List, [], ◌∷◌, ◌++◌}
 use mathlib.Core.Logic.{◌≢◌}
-use mathlib.Core.Option.{Option, none, some}
 use mathlib.Core.Path.{◌≡◌, refl, sym, ◌∙◌}
 use Prim.Native.Nat.{ℕ, ◌+◌, ◌*◌, ◌≤◌}
 use native.Mathlib.Decide.{ℕ_discrete}
@@ -19,6 +18,7 @@ use Rattle.unification.proofs.Rows.{find_tail, find_under}
 use Rattle.plain_theory.specs.Plain.{Binding, in?, In, Parts, parts, unlike, with_part, Named, named?, part, matched, rows, Step, drops, fails}
 use Rattle.plain_theory.specs.Plain.{splits, binds, bind, split, nodes, step, head_words, words, row_words, pair_words, sum, needs}
 use Rattle.plain_theory.specs.Claims.{Clean}
+use Rattle.std.specs.Prelude.{None, Option, Some}
 
 -- ---- A row without the cell that was found
 
@@ -36,8 +36,8 @@ find_remove j k (cell m l t s) n = go (eqb k m) refl (find_remove j k s n)
     go false q h = rw (q, remove) (find_under j m l t s (remove k s) h)
 
 abbrev RemoveWords : Kind → ℕ → Row → Option (ℕ × Ty) → Type 0
-RemoveWords kind k s none = Unit {0}
-RemoveWords kind k s (some u) = row_words s kind ≡ head_words kind + words u.1 + row_words (remove k s) kind
+RemoveWords kind k s None = Unit {0}
+RemoveWords kind k s (Some u) = row_words s kind ≡ head_words kind + words u.1 + row_words (remove k s) kind
 
 words_remove : (kind : Kind) (k : ℕ) (s : Row) → RemoveWords kind k s (find_key k s)
 unfolding remove find_key row_words
@@ -49,8 +49,8 @@ words_remove kind k (cell m l t s) = go (eqb k m) refl (find_key k s) refl (word
     go true q o e h =
         let gone : row_words (remove k (cell m l t s)) kind ≡ row_words s kind = rw (q, remove) in
         rw (q, find_key) (omega (arith, gone))
-    go false q none e h = rw (q, find_key, e) tt
-    go false q (some u) e h =
+    go false q None e h = rw (q, find_key, e) tt
+    go false q (Some u) e h =
         let kept : row_words (remove k (cell m l t s)) kind ≡ head_words kind + words t + row_words (remove k s) kind = rw (q, remove) in
         rw (q, find_key, e) (omega (arith, h, kept))
 
@@ -73,11 +73,11 @@ PartsRoom kind r s unlike = Unit {0}
 part_room : (kind : Kind) (m l : ℕ) (t : Ty) (r s : Row) (o : Option (ℕ × Ty)) (ps : Parts) → RemoveWords kind m s o
     → PartsRoom kind r (remove m s) ps → PartsRoom kind (cell m l t r) s (part kind l t o ps)
 unfolding part with_part sum pair_words row_words
-part_room kind m l t r s none ps e h = tt
-part_room kind m l t r s (some u) ps e h = go (named? kind l u.0) refl ps h
+part_room kind m l t r s None ps e h = tt
+part_room kind m l t r s (Some u) ps e h = go (named? kind l u.0) refl ps h
   where
     go : (d : Dec (Named kind l u.0)) → named? kind l u.0 ≡ d → (ps : Parts) → PartsRoom kind r (remove m s) ps
-        → PartsRoom kind (cell m l t r) s (part kind l t (some u) ps)
+        → PartsRoom kind (cell m l t r) s (part kind l t (Some u) ps)
     go (yes i) q (parts qs) h = rw (q, part) (omega (arith, e, h, head_some kind))
     go (yes i) q unlike h = rw (q, part) tt
     go (no n) q ps h = rw (q, part) tt

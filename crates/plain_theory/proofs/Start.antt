@@ -2,7 +2,6 @@
 -- sides that demand 3 admits no row of the pair has a key twice.
 use mathlib.Core.List.{[], ◌∷◌}
 use mathlib.Core.Logic.{◌↔◌, inl, inr}
-use mathlib.Core.Option.{Option, none, some}
 use mathlib.Core.Path.{◌≡◌, refl}
 use Prim.Native.Nat.{ℕ, zero, suc, ◌+◌}
 use native.Mathlib.Nat.{zero-add, add-zero}
@@ -25,6 +24,7 @@ use Rattle.unification.proofs.Robinson.{unifies_respects, unifies_then, solution
 use Rattle.plain_theory.specs.Plain.{In, InRow, resolved_from, start}
 use Rattle.plain_theory.specs.Claims.{Respected, Satisfies, Clean, CleanRow, CleanPairs}
 use Rattle.plain_theory.proofs.Steps.{clean_replaced, Unifiable}
+use Rattle.std.specs.Prelude.{None, Option, Some}
 
 -- ---- Resolving, for what respects the bindings
 
@@ -41,28 +41,28 @@ shift : (x y : ℕ) → suc x + y ≡ x + suc y
 shift x y = omega arith
 
 module _ (σ : ℕ → Ty) (s : Subst) where
-  to_list : (x : ℕ) (us : Subst) → ((y : ℕ) (t : Ty) → get_or us y none ≡ some t → Resolves σ s (x + y)) → Respected σ (resolved_from x us s)
+  to_list : (x : ℕ) (us : Subst) → ((y : ℕ) (t : Ty) → get_or us y None ≡ Some t → Resolves σ s (x + y)) → Respected σ (resolved_from x us s)
   unfolding resolved_from
   to_list x [] h = tt
-  to_list x (none ∷ us) h = to_list (suc x) us (λ y t e. rw (shift x y) (h (suc y) t e))
-  to_list x (some t ∷ us) h = (rw (add-zero x) at (h zero t refl), to_list (suc x) us (λ y u e. rw (shift x y) (h (suc y) u e)))
+  to_list x (None ∷ us) h = to_list (suc x) us (λ y t e. rw (shift x y) (h (suc y) t e))
+  to_list x (Some t ∷ us) h = (rw (add-zero x) at (h zero t refl), to_list (suc x) us (λ y u e. rw (shift x y) (h (suc y) u e)))
 
-  of_list : (x : ℕ) (us : Subst) → Respected σ (resolved_from x us s) → (y : ℕ) (t : Ty) → get_or us y none ≡ some t → Resolves σ s (x + y)
+  of_list : (x : ℕ) (us : Subst) → Respected σ (resolved_from x us s) → (y : ℕ) (t : Ty) → get_or us y None ≡ Some t → Resolves σ s (x + y)
   unfolding resolved_from
   of_list x [] h y t e = clash (cc)
-  of_list x (none ∷ us) h zero t e = clash (cc)
-  of_list x (none ∷ us) h (suc y) t e = rw (← shift x y) (of_list (suc x) us h y t e)
-  of_list x (some w ∷ us) h zero t e = rw (add-zero x) h.0
-  of_list x (some w ∷ us) h (suc y) t e = rw (← shift x y) (of_list (suc x) us h.1 y t e)
+  of_list x (None ∷ us) h zero t e = clash (cc)
+  of_list x (None ∷ us) h (suc y) t e = rw (← shift x y) (of_list (suc x) us h y t e)
+  of_list x (Some w ∷ us) h zero t e = rw (add-zero x) h.0
+  of_list x (Some w ∷ us) h (suc y) t e = rw (← shift x y) (of_list (suc x) us h.1 y t e)
 
   -- If every bound unknown resolves, every unknown does, and then the bindings are respected.
-  all_resolve : ((x : ℕ) (t : Ty) → bound s x ≡ some t → Resolves σ s x) → (x : ℕ) → Resolves σ s x
+  all_resolve : ((x : ℕ) (t : Ty) → bound s x ≡ Some t → Resolves σ s x) → (x : ℕ) → Resolves σ s x
   unfolding app
   all_resolve h x = go (bound s x) refl
     where
       go : (o : Option Ty) → bound s x ≡ o → Resolves σ s x
-      go none e = rw (zonk_unbound s x e) (same_refl (σ x))
-      go (some t) e = h x t e
+      go None e = rw (zonk_unbound s x e) (same_refl (σ x))
+      go (Some t) e = h x t e
 
   resolves_respects : Acyclic s → ((x : ℕ) → Resolves σ s x) → Respects σ s
   unfolding Respects solution

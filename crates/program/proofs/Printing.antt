@@ -16,9 +16,9 @@ use Rattle.meaning.specs.Outcome.{Decided, turned_down, answered, min_words, ref
 use Rattle.meaning.proofs.Tests.{cases}
 use Rattle.reading.specs.Promises.{refusal}
 use Rattle.reading.specs.declared.Refusal.{Refusal}
-use Rattle.desk.specs.declared.Outcome.{Outcome}
 use Rattle.desk.specs.Promises.{Finishes}
 use Rattle.program.specs.Promises.{Prints}
+use Rattle.std.specs.Prelude.{Err, Ok}
 
 abbrev zeros : ℕ → List ℕ
 zeros n = replicate n 0
@@ -51,7 +51,7 @@ unfolding min_words
 here by {n} {w'} {out'} {r} words h = subst (λ n. Prints (by n) w' out' r) words h
 
 module _ (by : ℕ → Decided) {w out w' out₁ : List ℕ} (words : length w ≡ 16384) (bytes : length out ≡ 65536) where
-  pub answer_printed : (n : ℕ) → Finishes (by (length w)) w out w' out₁ (Outcome.Accepted n) → Prints (by min_words) w' out₁ n
+  pub answer_printed : (n : ℕ) → Finishes (by (length w)) w out w' out₁ (Ok n) → Prints (by min_words) w' out₁ n
   unfolding min_words finish accept printed_lines
   answer_printed n h =
       let x = by (length w) in
@@ -73,7 +73,7 @@ module _ (by : ℕ → Decided) {w out w' out₁ : List ℕ} (words : length w �
       })
 
   pub line_printed : (e : Refusal) {line out' : List ℕ} {r : ℕ} → line ≡ hex_line (0x0f ∷ number (refusal e) ∷ [])
-      → Finishes (by (length w)) w out w' out₁ (Outcome.Refused e)
+      → Finishes (by (length w)) w out w' out₁ (Err e)
       → length line ≤ length out → r ≡ length line → out' ≡ take (length line) line ++ drop (length line) out₁ → Prints (by min_words) w' out' r
   unfolding min_words refuse
   line_printed e {line} {out'} {r} spelt h fits long copied =

@@ -6,8 +6,8 @@ ghost use Rattle.meaning.specs.Outcome.{min_words};
 ghost use Rattle.desk.specs.Promises.{Finishes};
 ghost use Rattle.program.specs.Promises.{decided_by, Prints, PrintsLamp};
 
-use desk::Outcome;
 use input::Input;
+use reading::Refusal;
 use std::io::Read;
 
 // What a program does with its file.
@@ -18,7 +18,7 @@ pub enum Job {
     Narrow,
 }
 
-fn done(job: Job, file: &[u8], work: &mut [u32], out: &mut [u8]) -> Outcome
+fn done(job: Job, file: &[u8], work: &mut [u32], out: &mut [u8]) -> Result<usize, Refusal>
     ensures { Finishes (decided_by job file.now (length work.old)) work.old out.old work.new out.new result }
 {
     match job {
@@ -45,8 +45,8 @@ pub fn printed(job: Job, file: &[u8], work: &mut [u32; 16384], out: &mut [u8; 65
 {
     let r = done(job, file, work, out);
     match r {
-        Outcome::Accepted(n) => n,
-        Outcome::Refused(e) => {
+        Ok(n) => n,
+        Err(e) => {
             let line = desk::refusal_line(e);
             copy(&line, out)
         }

@@ -1,4 +1,1 @@
 pub mod Moving
-pub mod Locals
-pub mod Thin
-pub mod Chain

@@ -2,7 +2,7 @@
 -- number by number.
 use Rattle.std.specs.Prelude.{◌≡◌, ℕ, ◌+◌, ◌<◌, List, Bool, true, false, length, ltb}
 use Rattle.frames.specs.Promises.{byte_w, half_w, full_w}
-use Rattle.reader.specs.declared.Taken.{Taken}
+use Rattle.reader.specs.declared.Reader.{Reader}
 use Rattle.reader.specs.declared.Limits.{Limits}
 use Rattle.reader.specs.declared.Field.{Field}
 use Rattle.reader.specs.declared.Alternative.{Alternative}
@@ -16,25 +16,20 @@ moved false at size = at
 abbrev pub past : List ℕ → ℕ → ℕ → ℕ
 past line at size = moved (ltb at (length line)) at size
 
-abbrev pub byte_from : List ℕ → ℕ → Taken
-byte_from line at = record { value = byte_w line at; at = past line at 1 }
-
-abbrev pub half_from : List ℕ → ℕ → Taken
-half_from line at = record { value = half_w line at; at = past line at 2 }
-
-abbrev pub full_from : List ℕ → ℕ → Taken
-full_from line at = record { value = full_w line at; at = past line at 4 }
-
 -- ---- Numbers
 
-abbrev pub TakesByte : List ℕ → ℕ → Taken → Type 0
-TakesByte line at t = t ≡ byte_from line at
+-- the reader goes on behind so many bytes
+abbrev pub Passes : Reader → ℕ → Reader → Type 0
+Passes r size r' = (r'.line ≡ r.line) × (r'.at ≡ past r.line.now r.at size)
 
-abbrev pub TakesHalf : List ℕ → ℕ → Taken → Type 0
-TakesHalf line at t = (t ≡ half_from line at) × (t.value < 65536)
+abbrev pub TakesByte : Reader → Reader → ℕ → Type 0
+TakesByte r r' n = (n ≡ byte_w r.line.now r.at) × Passes r 1 r'
 
-abbrev pub TakesFull : List ℕ → ℕ → Taken → Type 0
-TakesFull line at t = t ≡ full_from line at
+abbrev pub TakesHalf : Reader → Reader → ℕ → Type 0
+TakesHalf r r' n = (n ≡ half_w r.line.now r.at) × (n < 65536) × Passes r 2 r'
+
+abbrev pub TakesFull : Reader → Reader → ℕ → Type 0
+TakesFull r r' n = (n ≡ full_w r.line.now r.at) × Passes r 4 r'
 
 -- ---- Parts of frames
 

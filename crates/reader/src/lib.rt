@@ -1,7 +1,8 @@
-// One frame, read through a struct that refers to the line's bytes: a byte, 16 bits and 32 bits.
+// One frame, read number after number: a byte, 16 bits and 32 bits.
 #![tactic(auto)]
 
-ghost use Rattle.reader.specs.Taking.{TakesByte, TakesHalf, TakesFull, ReadsLimits, ReadsField, ReadsAlternative, ReadsPredicate};
+ghost use Rattle.std.specs.Prelude.{◌≤◌};
+ghost use Rattle.reader.specs.Taking.{Passes, TakesByte, TakesHalf, TakesFull, ReadsLimits, ReadsField, ReadsAlternative, ReadsPredicate};
 
 #[derive(Drop)]
 pub struct Reader<'a> {
@@ -9,67 +10,42 @@ pub struct Reader<'a> {
     pub at: usize,
 }
 
-// A number, and where the next one starts.
-#[derive(Drop)]
-pub struct Taken {
-    pub value: u32,
-    pub at: usize,
-}
+impl<'a> Reader<'a> {
+    // Past the end every number is 0 and the place stays, so it cannot run over.
+    fn pass(&mut self, size: usize)
+        requires { size ≤ 4 }
+        ensures { Passes self.old size self.new }
+    {
+        if self.at < self.line.len() {
+            self.at += size;
+        }
+    }
 
-// The work, on a slice and an index. Past the end every number is 0 and the index stays, so it cannot run over.
-fn byte_at(line: &[u8], at: usize) -> Taken
-    ensures { TakesByte line.now at result }
-{
-    let value = frames::byte(line, at);
-    if at < line.len() {
-        Taken { value, at: at + 1 }
-    } else {
-        Taken { value, at }
+    pub fn byte(&mut self) -> u32
+        ensures { TakesByte self.old self.new result }
+    {
+        let value = frames::byte(self.line, self.at);
+        self.pass(1);
+        value
+    }
+
+    pub fn half(&mut self) -> u32
+        ensures { TakesHalf self.old self.new result }
+    {
+        let value = frames::half(self.line, self.at);
+        self.pass(2);
+        value
+    }
+
+    pub fn full(&mut self) -> u32
+        ensures { TakesFull self.old self.new result }
+    {
+        let value = frames::full(self.line, self.at);
+        self.pass(4);
+        value
     }
 }
 
-fn half_at(line: &[u8], at: usize) -> Taken
-    ensures { TakesHalf line.now at result }
-{
-    let value = frames::half(line, at);
-    if at < line.len() {
-        Taken { value, at: at + 2 }
-    } else {
-        Taken { value, at }
-    }
-}
-
-fn full_at(line: &[u8], at: usize) -> Taken
-    ensures { TakesFull line.now at result }
-{
-    let value = frames::full(line, at);
-    if at < line.len() {
-        Taken { value, at: at + 4 }
-    } else {
-        Taken { value, at }
-    }
-}
-
-// The struct is taken apart, and the function on the slice and the index is called.
-pub fn byte<'a>(r: Reader<'a>) -> Taken
-    ensures { TakesByte r.entry.line.now r.entry.at result }
-{
-    byte_at(r.line, r.at)
-}
-
-pub fn half<'a>(r: Reader<'a>) -> Taken
-    ensures { TakesHalf r.entry.line.now r.entry.at result }
-{
-    half_at(r.line, r.at)
-}
-
-pub fn full<'a>(r: Reader<'a>) -> Taken
-    ensures { TakesFull r.entry.line.now r.entry.at result }
-{
-    full_at(r.line, r.at)
-}
-
-// Whoever calls the functions below needs no walk by hand. Each reads from a place on, one number after the other.
 #[derive(Drop)]
 pub struct Limits {
     pub distance: u32,
@@ -79,14 +55,10 @@ pub struct Limits {
 pub fn read_limits(line: &[u8], at: usize) -> Limits
     ensures { ReadsLimits line.now at result }
 {
-    let distance = byte(Reader { line, at });
-    let term = half(Reader {
-        line,
-        at: distance.at,
-    });
+    let mut r = Reader { line, at };
     Limits {
-        distance: distance.value,
-        term: term.value,
+        distance: r.byte(),
+        term: r.half(),
     }
 }
 
@@ -100,11 +72,10 @@ pub struct Field {
 pub fn read_field(line: &[u8], at: usize) -> Field
     ensures { ReadsField line.now at result }
 {
-    let name = half(Reader { line, at });
-    let ty = half(Reader { line, at: name.at });
+    let mut r = Reader { line, at };
     Field {
-        name: name.value,
-        ty: ty.value,
+        name: r.half(),
+        ty: r.half(),
     }
 }
 
@@ -119,16 +90,11 @@ pub struct Alternative {
 pub fn read_alternative(line: &[u8], at: usize) -> Alternative
     ensures { ReadsAlternative line.now at result }
 {
-    let name = half(Reader { line, at });
-    let discriminant = full(Reader { line, at: name.at });
-    let ty = half(Reader {
-        line,
-        at: discriminant.at,
-    });
+    let mut r = Reader { line, at };
     Alternative {
-        name: name.value,
-        discriminant: discriminant.value,
-        ty: ty.value,
+        name: r.half(),
+        discriminant: r.full(),
+        ty: r.half(),
     }
 }
 
@@ -144,14 +110,11 @@ pub struct Predicate {
 pub fn read_predicate(line: &[u8], at: usize) -> Predicate
     ensures { ReadsPredicate line.now at result }
 {
-    let name = half(Reader { line, at });
-    let key = half(Reader { line, at: name.at });
-    let flag = byte(Reader { line, at: key.at });
-    let value = half(Reader { line, at: flag.at });
+    let mut r = Reader { line, at };
     Predicate {
-        name: name.value,
-        key: key.value,
-        flag: flag.value,
-        value: value.value,
+        name: r.half(),
+        key: r.half(),
+        flag: r.byte(),
+        value: r.half(),
     }
 }

@@ -1,7 +1,6 @@
 -- One more of a kind: the older ones read other words, and the new one reads what was written for it.
 use mathlib.Core.Bool.{Bool, true, false}
 use mathlib.Core.List.{List, [], ◌∷◌, ◌++◌}
-use mathlib.Core.Option.{Option, none, some}
 use mathlib.Core.Path.{◌≡◌, ap, subst, ◌∙◌}
 use Prim.Native.Nat.{ℕ, ◌+◌, ◌*◌, ◌/◌, ◌%◌, ◌<◌, ◌≤◌}
 use native.Mathlib.Omega.{arith}
@@ -25,10 +24,11 @@ use Rattle.meaning.specs.Conditions.{any_of, same_text, given}
 use Rattle.meaning.specs.File.{value_text, count_of}
 use Rattle.meaning.proofs.Tests.{cases, clash, same_text_lem}
 use Rattle.sigla_hex.specs.Digits.{line_at}
-use Rattle.tree.specs.Stands.{NameIs, NodeIn, QueryIs, PredicateIs, no_predicate, numbered}
+use Rattle.tree.specs.Stands.{NameIs, NodeIn, QueryIs, PredicateIs, no_predicate}
 use Rattle.reading.specs.Held.{NamesHeld, TypesHeld, PredicatesHeld, NodesHeld}
 use Rattle.reading.proofs.Regions.{snoc}
 use Rattle.reading.proofs.Kept.{node_kept}
+use Rattle.std.specs.Prelude.{None, Option, Some}
 
 length_snoc : {A : Type 0} (l : List A) (a : A) → length (l ++ a ∷ []) ≡ length l + 1
 length_snoc l a = length-append l (a ∷ [])
@@ -40,23 +40,23 @@ unfolding position
 position_older test [] a q = rw q
 position_older test (b ∷ l) a q = cases (test b) (λ p. rw (p, position)) (λ p. rw (p, position) (ap one_more (position_older test l a q)))
 
-position_newer : {A : Type 0} (test : A → Bool) (l : List A) (a : A) → any_of test l ≡ false → test a ≡ true → position test (l ++ a ∷ []) ≡ some (length l)
+position_newer : {A : Type 0} (test : A → Bool) (l : List A) (a : A) → any_of test l ≡ false → test a ≡ true → position test (l ++ a ∷ []) ≡ Some (length l)
 unfolding position any_of
 position_newer test [] a n q = rw q
 position_newer test (b ∷ l) a n q = cases (test b)
     (λ p. clash (rw (p, any_of) at n))
     (λ p. rw (p, position) (ap one_more (position_newer test l a (rw (p, any_of) at n) q)))
 
-module _ {f w : List ℕ} {n v : ℕ} {names : List (List ℕ)} (h : NamesHeld f w n v names) (s : List ℕ) where
-  value_added : given names s ≡ false → pick (same_text value_text s) (n + 1) v ≡ numbered (position (same_text value_text) (names ++ s ∷ []))
+module _ {f w : List ℕ} {n : ℕ} {v : Option ℕ} {names : List (List ℕ)} (h : NamesHeld f w n v names) (s : List ℕ) where
+  value_added : given names s ≡ false → pick (same_text value_text s) (Some n) v ≡ position (same_text value_text) (names ++ s ∷ [])
   unfolding given
   value_added g = cases (same_text value_text s)
-      (λ q. rw (q, position_newer (same_text value_text) names s (rw (← same_text_lem value_text s q) at g) q) (omega (arith, h.count)))
+      (λ q. rw (q, position_newer (same_text value_text) names s (rw (← same_text_lem value_text s q) at g) q) (ap Some h.count))
       (λ q. rw (q, position_older (same_text value_text) names s q) h.valued)
 
-  pub name_added : (at chars : ℕ) → 16384 ≤ length w → length names < 256 → line_at f at ≡ some (0x02 ∷ s) → characters s ≡ some chars → chars < 512
+  pub name_added : (at chars : ℕ) → 16384 ≤ length w → length names < 256 → line_at f at ≡ Some (0x02 ∷ s) → characters s ≡ Some chars → chars < 512
       → given names s ≡ false
-      → NamesHeld f (set w (NAMES + n) (at * 512 + chars)) (n + 1) (pick (same_text value_text s) (n + 1) v) (names ++ s ∷ [])
+      → NamesHeld f (set w (NAMES + n) (at * 512 + chars)) (n + 1) (pick (same_text value_text s) (Some n) v) (names ++ s ∷ [])
   unfolding count_of
   name_added at chars long room line text small g = record {
     count = rw (length_snoc names s) (omega (arith, h.count));
@@ -84,10 +84,10 @@ module _ {f w : List ℕ} {n v : ℕ} {names : List (List ℕ)} (h : NamesHeld f
 
 -- ---- Nodes and the query
 
-module _ (at size kind : ℕ) (content : List ℕ) {f : List ℕ} (line : line_at f at ≡ some (kind ∷ content)) (long : size ≡ length (kind ∷ content))
+module _ (at size kind : ℕ) (content : List ℕ) {f : List ℕ} (line : line_at f at ≡ Some (kind ∷ content)) (long : size ≡ length (kind ∷ content))
     (small : size ≤ 512) where
   pub node_added : {e : Edition} {w : List ℕ} {n : ℕ} {nodes : List Node} (nd : Node) → NodesHeld e f w n nodes → 16384 ≤ length w
-      → length nodes < 512 → kind ≡ 0x05 → frame_of e node content ≡ some (a_node nd)
+      → length nodes < 512 → kind ≡ 0x05 → frame_of e node content ≡ Some (a_node nd)
       → NodesHeld e f (set w (NODES + n) ((at * 1024 + size) * 2)) (n + 1) (nodes ++ nd ∷ [])
   unfolding node_at
   node_added {e} {w} {n} {nodes} nd h wide room k frame = record {
@@ -100,7 +100,7 @@ module _ (at size kind : ℕ) (content : List ℕ) {f : List ℕ} (line : line_a
         (record {
           content = content;
           line = record
-              { line = rw (here, place) (line ∙ ap (λ b. some (b ∷ content)) k); long = rw here (omega arith) };
+              { line = rw (here, place) (line ∙ ap (λ b. Some (b ∷ content)) k); long = rw here (omega arith) };
           frame = frame;
         }));
   }
@@ -114,12 +114,12 @@ module _ (at size kind : ℕ) (content : List ℕ) {f : List ℕ} (line : line_a
       place : x / 2048 ≡ at
       place = omega arith
 
-  pub query_added : (w : List ℕ) (q : Query) → 16384 ≤ length w → kind ≡ 0x06 → frame_of Frame.wide query content ≡ some (the_query q)
+  pub query_added : (w : List ℕ) (q : Query) → 16384 ≤ length w → kind ≡ 0x06 → frame_of Frame.wide query content ≡ Some (the_query q)
       → QueryIs f (set w QUERY (at * 1024 + size)) q
   query_added w q wide k frame = record {
     content = content;
     line = record
-        { line = rw (here, place) (line ∙ ap (λ b. some (b ∷ content)) k); long = rw here (omega arith) };
+        { line = rw (here, place) (line ∙ ap (λ b. Some (b ∷ content)) k); long = rw here (omega arith) };
     frame = frame;
   }
     where
@@ -135,19 +135,19 @@ module _ (at size kind : ℕ) (content : List ℕ) {f : List ℕ} (line : line_a
 -- ---- Predicates
 
 abbrev pub value_word : Option ℕ → ℕ
-value_word none = 0
-value_word (some t) = t * 2 + 1
+value_word None = 0
+value_word (Some t) = t * 2 + 1
 
 module _ {w : List ℕ} {T : Rows} {m fields : ℕ} {types : List Tree.Ty} (h : TypesHeld w T m fields types) where
   predicate_is : (p name key : ℕ) (value : Option ℕ) → get_or w (PREDICATES + p) 0 ≡ name * 131072 + key * 512 + value_word value → key < length types
       → Below (length types) (optional value)
       → PredicateIs w T (length types) p (predicate_of types name key value)
   unfolding predicate_of type_at value_ty optional
-  predicate_is p name key none x k v =
+  predicate_is p name key None x k v =
       let e : get_or w (PREDICATES + p) 0 / 512 % 256 ≡ key = omega (arith, h.few) in
       let z : get_or w (PREDICATES + p) 0 % 2 ≡ 0 = omega arith in
       record { name = omega (arith, h.few); key = rw e (h.type key k); value = rw z; key_there = rw e k; value_there = rw z (λ q. omega arith) }
-  predicate_is p name key (some t) x k v =
+  predicate_is p name key (Some t) x k v =
       let e : get_or w (PREDICATES + p) 0 / 512 % 256 ≡ key = omega (arith, h.few, v.0) in
       let q : get_or w (PREDICATES + p) 0 / 2 ≡ name * 65536 + key * 256 + t = omega arith in
       let o : get_or w (PREDICATES + p) 0 % 2 ≡ 1 = omega arith in
@@ -156,7 +156,7 @@ module _ {w : List ℕ} {T : Rows} {m fields : ℕ} {types : List Tree.Ty} (h : 
       record {
         name = omega (arith, h.few, v.0);
         key = rw e (h.type key k);
-        value = rw (o, u) (ap some (h.type t v.0));
+        value = rw (o, u) (ap Some (h.type t v.0));
         key_there = rw e k;
         value_there = λ q. rw u v.0;
       }

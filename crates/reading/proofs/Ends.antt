@@ -1,7 +1,6 @@
--- The two ends of reading: before the first line nothing is held, and after the query and the counts the slice stands for what
--- was read.
+-- The two ends of reading: before the first line nothing is held, and after the query and the counts the slice stands
+-- for what was read.
 use mathlib.Core.List.{List, [], map}
-use mathlib.Core.Option.{some}
 use mathlib.Core.Path.{◌≡◌, refl, sym, ap, subst, ◌∙◌}
 use Prim.Native.Nat.{ℕ, ◌+◌, ◌*◌, ◌%◌, ◌<◌, ◌≤◌}
 use native.Mathlib.Omega.{arith}
@@ -23,7 +22,7 @@ use Rattle.meaning.specs.SoFar.{SoFar, start}
 use Rattle.meaning.specs.File.{count_of, schema_of, describe}
 use Rattle.meaning.specs.Sound.{Kept}
 use Rattle.meaning.proofs.Lists.{all_at}
-use Rattle.tree.specs.Stands.{TypeCells, SchemaStands}
+use Rattle.tree.specs.Stands.{TypeCells, SchemaStands, numbered}
 use Rattle.work.specs.declared.Counters.{Counters}
 use Rattle.work.specs.Counted.{no_counters}
 use Rattle.reading.specs.Promises.{counts, counted}
@@ -32,10 +31,11 @@ use Rattle.reading.proofs.Regions.{over, keeps_sets, WordsAt, sets_words}
 use Rattle.reading.proofs.Lines.{types_same, predicates_same}
 use Rattle.reading.proofs.Kept.{field_is}
 use Rattle.meaning.specs.Frame.{Edition}
+use Rattle.std.specs.Prelude.{None, Option, Some}
 
 -- ---- Before the first line
 
-pub nothing_held : (ed : Edition) (f w : List ℕ) → length f ≤ 65536 → 16384 ≤ length w → Held ed f 0 w (λ t. ε) no_counters 6 start
+pub nothing_held : (ed : Edition) (f w : List ℕ) → length f ≤ 65536 → 16384 ≤ length w → Held ed f 0 w (λ t. ε) no_counters None start
 unfolding start position among any_of
 nothing_held ed f w small long = record {
   long = long;
@@ -81,25 +81,25 @@ no_characters : count_of (characters []) ≡ 0
 unfolding count_of characters count
 no_characters = refl
 
-module _ (ed : Edition) {f : List ℕ} {at : ℕ} {w : List ℕ} {T : Rows} {c : Counters} {previous : ℕ} {so : SoFar} (h : Held ed f at w T c previous so) where
+module _ (ed : Edition) {f : List ℕ} {at : ℕ} {w : List ℕ} {T : Rows} {c : Counters} {previous : Option Frame.Kind} {so : SoFar} (h : Held ed f at w T c previous so) where
   kept : Keeps NAME-COUNT MAX-DISTANCE w (counted w c)
   kept = keeps_sets w NAME-COUNT (counts c) (omega arith) (omega arith)
 
   there : WordsAt (counted w c) NAME-COUNT (counts c)
   there = sets_words w NAME-COUNT (counts c) (omega (arith, h.long))
 
-  pub schema_held : (k : Frame.Kind) → so.previous ≡ some k → SchemaStands f (counted w c) T (describe so).names (describe so).schema
+  pub schema_held : (k : Frame.Kind) → so.previous ≡ Some k → SchemaStands f (counted w c) T (describe so).names (describe so).schema
   unfolding describe schema_of count_of
   schema_held k begun =
       let types : get_or (counted w c) TYPE-COUNT 0 ≡ length so.types = there.at 1 (omega arith) ∙ h.types.count in
       let e : get_or (counted w c) PREDICATE-COUNT 0 ≡ length so.predicates = there.at 2 (omega arith) ∙ h.predicates.count in
-      let l : LimitsHeld w (some k) so.max_distance so.max_term_chars = rw begun at h.limits in
+      let l : LimitsHeld w (Some k) so.max_distance so.max_term_chars = rw begun at h.limits in
       record {
         types = rw types h.types.few;
         cells = rw types (cells_held (omega (arith, h.room, h.place, h.small)) (types_same ed h (over kept (omega arith)) (over kept (omega arith))));
         predicates = e;
         predicate = rw types (predicates_same ed h (over kept (omega arith)) (over kept (omega arith)) (over kept (omega arith))).predicate;
-        value = there.at 4 (omega arith) ∙ h.names.valued;
+        value = there.at 4 (omega arith) ∙ ap numbered h.names.valued;
         names = there.at 0 (omega arith) ∙ h.names.count ∙ sym (length-map so.names (λ s. count_of (characters s)));
         texts = sym (length-map so.names (λ s. count_of (characters s)));
         name = λ n l. rw (kept.above (NAMES + n) (omega arith)) (h.names.name n l);

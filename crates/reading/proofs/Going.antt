@@ -1,145 +1,110 @@
--- Loops over items of one size from byte 10 on, each of which refers to names and nodes: what the items passed refer to is there and
--- marked, and the items left fill the line.
+-- Loops over items that refer to names and nodes: what the items passed refer to is there and marked.
 use mathlib.Core.Bool.{Bool, true, false}
-use mathlib.Core.List.{List, [], ◌∷◌, ◌++◌, append_assoc, append-nil}
-use mathlib.Core.Path.{◌≡◌, refl, sym, ap, ◌∙◌}
-use Prim.Native.Nat.{ℕ, zero, suc, ◌+◌, ◌*◌, ◌<◌, ◌≤◌}
-use native.Mathlib.Nat.{zero-mul, suc-mul}
-use native.Mathlib.Omega.{arith}
-use lib.ListN.{length}
-use borrow.Author.Tests.{lt-ltb, le-ltb}
-use Rattle.frames.specs.Items.{items_at}
+use mathlib.Core.List.{List, [], ◌∷◌, ◌++◌, map, append_assoc, append-nil}
+use mathlib.Core.Path.{◌≡◌, refl, sym, ap, subst, ◌∙◌}
+use Prim.Native.Nat.{ℕ, ◌+◌, ◌<◌, ◌≤◌}
+use lib.ListN.{length, get_or, take, drop}
+use lib.Seq.{take_all}
+use lib.Dec.{ltb}
+use Rattle.std.proofs.lemmas.List.{take_more, take-append-drop}
 use Rattle.frames.specs.Promises.{half_w}
 use Rattle.reading.specs.Marks.{Refers, NamesNode, NamesFields, NamesItems}
 use Rattle.reading.proofs.Marking.{refers_none, refers_name, refers_then, refers_stop}
 
--- What k items refer to, one after the other.
-unfoldable pub gather : (ℕ → List ℕ) → ℕ → ℕ → ℕ → List ℕ
-gather g n i zero = []
-gather g n i (suc k) = g i ++ gather g n (i + n) k
+-- What items refer to, one after the other.
+abbrev gather : {X : Type 0} → (X → List ℕ) → List X → List ℕ
+gather g [] = []
+gather g (x ∷ xs) = g x ++ gather g xs
 
-pub gather_one : (v : ℕ → ℕ) (n i k : ℕ) → gather (λ j. v j ∷ []) n i k ≡ items_at v n i k
-unfolding gather items_at
-gather_one v n i zero = refl
-gather_one v n i (suc k) = ap (λ l. v i ∷ l) (gather_one v n (i + n) k)
+gather_append : {X : Type 0} (g : X → List ℕ) (xs ys : List X) → gather g (xs ++ ys) ≡ gather g xs ++ gather g ys
+gather_append g [] ys = refl
+gather_append g (x ∷ xs) ys = rw (gather_append g xs ys) (sym (append_assoc (g x) (gather g xs) (gather g ys)))
 
-pub gather_none : (n i k : ℕ) → gather (λ j. []) n i k ≡ []
-unfolding gather
-gather_none n i zero = refl
-gather_none n i (suc k) = gather_none n (i + n) k
+gather_one : {X : Type 0} (f : X → ℕ) (xs : List X) → gather (λ x. f x ∷ []) xs ≡ map f xs
+gather_one f [] = refl
+gather_one f (x ∷ xs) = ap (λ l. f x ∷ l) (gather_one f xs)
 
-gather_add : (g : ℕ → List ℕ) (n i j m : ℕ) → gather g n i (j + m) ≡ gather g n i j ++ gather g n (i + j * n) m
-unfolding gather
-gather_add g n i zero m =
-    let a : 0 + m ≡ m = omega arith in
-    let b : i + 0 * n ≡ i = omega (arith, zero-mul n) in
-    rw (a, b)
-gather_add g n i (suc j) m =
-    let a : suc j + m ≡ suc (j + m) = omega arith in
-    let b : i + n + j * n ≡ i + suc j * n = omega (arith, suc-mul j n) in
-    rw a (ap (λ l. g i ++ l) (rw b at (gather_add g n (i + n) j m)) ∙ sym (append_assoc (g i) (gather g n (i + n) j) (gather g n (i + suc j * n) m)))
+gather_none : {X : Type 0} (xs : List X) → gather (λ (x : X). []) xs ≡ []
+gather_none [] = refl
+gather_none (x ∷ xs) = gather_none xs
 
-module _ (w₀ : List ℕ) (names nodes size end : ℕ) (gx gn : ℕ → List ℕ) where
-  pub record Going (i : ℕ) (w : List ℕ) : Type 0 where
-    pub past : ℕ
-    pub at : i ≡ 10 + past * size
-    pub left : (k : ℕ) → 10 + k * size ≡ end → (m : ℕ) × (k ≡ past + m) × (i + m * size ≡ end)
-    pub so_far : Refers w₀ names (gather gx size 10 past) nodes (gather gn size 10 past) w true
+module _ {X : Type 0} (w₀ : List ℕ) (names nodes : ℕ) (xs : List X) (gx gn : X → List ℕ) where
+  abbrev Going : ℕ → List ℕ → Type 0
+  Going i w = Refers w₀ names (gather gx (take i xs)) nodes (gather gn (take i xs)) w true
 
-  pub go_start : Going 10 w₀
-  unfolding gather
-  go_start = record { past = 0; at = omega (arith, zero-mul size); left = λ k e. (k, omega arith, e); so_far = refers_none names nodes w₀ }
+  module _ {i : ℕ} {w : List ℕ} (t : Going i w) (d : X) (l : i < length xs) where
+    one : (g : X → List ℕ) → gather g (take (i + 1) xs) ≡ gather g (take i xs) ++ g (get_or xs i d)
+    one g = ap (gather g) (take_more xs i d l) ∙ gather_append g (take i xs) (get_or xs i d ∷ []) ∙ ap (λ l. gather g (take i xs) ++ l)
+        (append-nil (g (get_or xs i d)))
 
-  module _ {i : ℕ} {w : List ℕ} (g : Going i w) where
-    one_left : i < end → (k : ℕ) → 10 + k * size ≡ end → (m : ℕ) × (k ≡ suc g.past + m) × (i + size + m * size ≡ end)
-    one_left l k e = go (g.left k e).0 (g.left k e).1 (g.left k e).2
-      where
-        go : (m : ℕ) → k ≡ g.past + m → i + m * size ≡ end → (m : ℕ) × (k ≡ suc g.past + m) × (i + size + m * size ≡ end)
-        go zero p q = absurd (omega (arith, zero-mul size))
-        go (suc m) p q = (m, omega arith, omega (arith, suc-mul m size))
+    all : (g : X → List ℕ) → gather g xs ≡ (gather g (take i xs) ++ g (get_or xs i d)) ++ gather g (drop (i + 1) xs)
+    all g = ap (gather g) (sym (take-append-drop (i + 1) xs)) ∙ gather_append g (take (i + 1) xs) (drop (i + 1) xs) ∙ ap (λ l. l ++ gather g (drop (i + 1) xs)) (one g)
 
-    last : (h : ℕ → List ℕ) → gather h size 10 g.past ++ h i ≡ gather h size 10 (suc g.past)
-    unfolding gather
-    last h =
-        let one : g.past + 1 ≡ suc g.past = omega arith in
-        ap (λ l. gather h size 10 g.past ++ l) (sym (append-nil (h i)) ∙ ap (λ j. h j ++ []) g.at) ∙ rw one at (sym (gather_add h size 10 g.past 1))
+    module _ {v : List ℕ} {r : Bool} (h : Refers w names (gx (get_or xs i d)) nodes (gn (get_or xs i d)) v r) where
+      go_next : r ≡ true → Going (i + 1) v
+      go_next e = rw (one gx, one gn) (refers_then names nodes t (rw e at h))
 
-    pub go_next : {v : List ℕ} → i < end → Refers w names (gx i) nodes (gn i) v true → Going (i + size) v
-    go_next l r = record {
-      past = suc g.past;
-      at = omega (arith, g.at, suc-mul g.past size);
-      left = one_left l;
-      so_far = rw (← last gx, ← last gn) (refers_then names nodes g.so_far r);
-    }
+      go_stop : r ≡ false → Refers w₀ names (gather gx xs) nodes (gather gn xs) v false
+      go_stop e = rw (all gx, all gn) (refers_stop names nodes (refers_then names nodes t (rw e at h)) (gather gx (drop (i + 1) xs)) (gather gn (drop (i + 1) xs)))
 
-    pub go_stop : {v : List ℕ} → i < end → Refers w names (gx i) nodes (gn i) v false → (k : ℕ) → 10 + k * size ≡ end
-        → Refers w₀ names (gather gx size 10 k) nodes (gather gn size 10 k) v false
-    go_stop {v} l r k e =
-        let m = one_left l k e in
-        let all : Refers w₀ names (gather gx size 10 (suc g.past)) nodes (gather gn size 10 (suc g.past)) v false = rw (← last gx, ← last gn)
-        (refers_then names nodes g.so_far r) in
-        rw (m.1, gather_add gx size 10 (suc g.past) m.0, gather_add gn size 10 (suc g.past) m.0) (refers_stop names nodes all _ _)
-
-    pub go_end : end ≤ i → 0 < size → (k : ℕ) → 10 + k * size ≡ end → Refers w₀ names (gather gx size 10 k) nodes (gather gn size 10 k) w true
-    go_end l z k e = go (g.left k e).0 (g.left k e).1 (g.left k e).2
-      where
-        go : (m : ℕ) → k ≡ g.past + m → i + m * size ≡ end → Refers w₀ names (gather gx size 10 k) nodes (gather gn size 10 k) w true
-        go zero p q = let s : k ≡ g.past = omega arith in rw s g.so_far
-        go (suc m) p q = absurd (omega (arith, suc-mul m size))
+  go_end : {i : ℕ} {w : List ℕ} → Going i w → length xs ≤ i → Refers w₀ names (gather gx xs) nodes (gather gn xs) w true
+  go_end {i} {w} t l = subst (λ ys. Refers w₀ names (gather gx ys) nodes (gather gn ys) w true) (take_all i xs l) t
 
 -- ---- The fields of a record
-module _ (s w₀ : List ℕ) (names nodes : ℕ) where
+module _ (fields : List (List ℕ)) (w₀ : List ℕ) (names nodes : ℕ) where
   abbrev pub FieldsGoing : ℕ → List ℕ → Type 0
-  FieldsGoing i w = Going w₀ names nodes 4 (length s) (λ j. half_w s j ∷ []) (λ j. half_w s (j + 2) ∷ []) i w
+  FieldsGoing = Going w₀ names nodes fields (λ p. half_w p 0 ∷ []) (λ p. half_w p 2 ∷ [])
 
-  pub fields_start : FieldsGoing 10 w₀
-  fields_start = go_start w₀ names nodes 4 (length s) (λ j. half_w s j ∷ []) (λ j. half_w s (j + 2) ∷ [])
+  pub fields_start : FieldsGoing 0 w₀
+  fields_start = refers_none names nodes w₀
 
-  fields_are : (v : List ℕ) (r : Bool) → ((k : ℕ) → 10 + k * 4 ≡ length s
-      → Refers w₀ names (gather (λ j. half_w s j ∷ []) 4 10 k) nodes (gather (λ j. half_w s (j + 2) ∷ []) 4 10 k) v r) → NamesFields s w₀ names nodes v r
-  fields_are v r h = record { is = λ k e. rw (← gather_one (half_w s) 4 10 k, ← gather_one (λ j. half_w s (j + 2)) 4 10 k) (h k e) }
+  fields_are : (v : List ℕ) (r : Bool) → Refers w₀ names (gather (λ p. half_w p 0 ∷ []) fields) nodes (gather (λ p. half_w p 2 ∷ []) fields) v r
+      → NamesFields fields w₀ names nodes v r
+  fields_are v r h = rw (← gather_one (λ p. half_w p 0) fields, ← gather_one (λ p. half_w p 2) fields) h
 
-  module _ {i : ℕ} {w : List ℕ} (g : FieldsGoing i w) where
-    pub fields_end : length s ≤ i → NamesFields s w₀ names nodes w true
-    fields_end l = fields_are w true (go_end w₀ names nodes 4 (length s) (λ j. half_w s j ∷ []) (λ j. half_w s (j + 2) ∷ []) g l (omega arith))
+  module _ {i : ℕ} {w : List ℕ} (t : FieldsGoing i w) where
+    pub fields_end : length fields ≤ i → NamesFields fields w₀ names nodes w true
+    fields_end l = fields_are w true (go_end w₀ names nodes fields (λ p. half_w p 0 ∷ []) (λ p. half_w p 2 ∷ []) t l)
 
-    module _ (l : i < length s) where
-      stops : (v : List ℕ) → Refers w names (half_w s i ∷ []) nodes (half_w s (i + 2) ∷ []) v false → NamesFields s w₀ names nodes v false
-      stops v r = fields_are v false (go_stop w₀ names nodes 4 (length s) (λ j. half_w s j ∷ []) (λ j. half_w s (j + 2) ∷ []) g l r)
+    module _ (l : i < length fields) where
+      abbrev p : List ℕ
+      p = get_or fields i []
 
-      pub fields_no_name : names ≤ half_w s i → NamesFields s w₀ names nodes w false
-      fields_no_name h = stops w (refers_stop names nodes (refers_name names nodes w (half_w s i) false (sym (le-ltb (half_w s i) names h))) []
-          (half_w s (i + 2) ∷ []))
+      stops : (v : List ℕ) → Refers w names (half_w p 0 ∷ []) nodes (half_w p 2 ∷ []) v false → NamesFields fields w₀ names nodes v false
+      stops v r = fields_are v false (go_stop w₀ names nodes fields (λ p. half_w p 0 ∷ []) (λ p. half_w p 2 ∷ []) t [] l r refl)
 
-      field_refers : (v : List ℕ) (r : Bool) → half_w s i < names → NamesNode w (half_w s (i + 2)) nodes v r
-          → Refers w names (half_w s i ∷ []) nodes (half_w s (i + 2) ∷ []) v r
-      field_refers v r h n = refers_then names nodes (refers_name names nodes w (half_w s i) true (sym (lt-ltb (half_w s i) names h))) (n.is names)
+      pub fields_no_name : false ≡ ltb (half_w p 0) names → NamesFields fields w₀ names nodes w false
+      fields_no_name h = stops w (refers_stop names nodes (refers_name names nodes w (half_w p 0) false h) [] (half_w p 2 ∷ []))
 
-      pub fields_no_node : (v : List ℕ) → half_w s i < names → NamesNode w (half_w s (i + 2)) nodes v false → NamesFields s w₀ names nodes v false
-      fields_no_node v h n = stops v (field_refers v false h n)
+      module _ (h : true ≡ ltb (half_w p 0) names) (v : List ℕ) where
+        field_refers : {r : Bool} → NamesNode w (half_w p 2) nodes v r → Refers w names (half_w p 0 ∷ []) nodes (half_w p 2 ∷ []) v r
+        field_refers n = refers_then names nodes (refers_name names nodes w (half_w p 0) true h) (n.is names)
 
-      pub fields_next : (v : List ℕ) → half_w s i < names → NamesNode w (half_w s (i + 2)) nodes v true → FieldsGoing (i + 4) v
-      fields_next v h n = go_next w₀ names nodes 4 (length s) (λ j. half_w s j ∷ []) (λ j. half_w s (j + 2) ∷ []) g l (field_refers v true h n)
+        pub fields_no_node : NamesNode w (half_w p 2) nodes v false → NamesFields fields w₀ names nodes v false
+        fields_no_node n = stops v (field_refers n)
+
+        pub fields_next : NamesNode w (half_w p 2) nodes v true → FieldsGoing (i + 1) v
+        fields_next n = go_next w₀ names nodes fields (λ p. half_w p 0 ∷ []) (λ p. half_w p 2 ∷ []) t [] l (field_refers n) refl
 
 -- ---- Branches and operands, whatever the number of names
-module _ (s w₀ : List ℕ) (nodes : ℕ) where
+module _ (items : List (List ℕ)) (w₀ : List ℕ) (nodes : ℕ) where
   abbrev pub ItemsGoing : ℕ → List ℕ → Type 0
-  ItemsGoing i w = (names : ℕ) → Going w₀ names nodes 2 (length s) (λ j. []) (λ j. half_w s j ∷ []) i w
+  ItemsGoing i w = (names : ℕ) → Going w₀ names nodes items (λ p. []) (λ p. half_w p 0 ∷ []) i w
 
-  pub items_start : ItemsGoing 10 w₀
-  items_start names = go_start w₀ names nodes 2 (length s) (λ j. []) (λ j. half_w s j ∷ [])
+  pub items_start : ItemsGoing 0 w₀
+  items_start names = refers_none names nodes w₀
 
-  items_are : (v : List ℕ) (r : Bool) → ((names k : ℕ) → 10 + k * 2 ≡ length s
-      → Refers w₀ names (gather (λ j. []) 2 10 k) nodes (gather (λ j. half_w s j ∷ []) 2 10 k) v r) → NamesItems s w₀ nodes v r
-  items_are v r h = record { is = λ names k e. rw (gather_none 2 10 k, gather_one (half_w s) 2 10 k) at (h names k e) }
+  items_are : (v : List ℕ) (r : Bool) → ((names : ℕ) → Refers w₀ names (gather (λ (p : List ℕ). []) items) nodes (gather (λ p. half_w p 0 ∷ []) items) v r)
+      → NamesItems items w₀ nodes v r
+  items_are v r h = record { is = λ names. rw (gather_none items, gather_one (λ p. half_w p 0) items) at (h names) }
 
-  module _ {i : ℕ} {w : List ℕ} (g : ItemsGoing i w) where
-    pub items_end : length s ≤ i → NamesItems s w₀ nodes w true
-    items_end l = items_are w true (λ names. go_end w₀ names nodes 2 (length s) (λ j. []) (λ j. half_w s j ∷ []) (g names) l (omega arith))
+  module _ {i : ℕ} {w : List ℕ} (t : ItemsGoing i w) where
+    pub items_end : length items ≤ i → NamesItems items w₀ nodes w true
+    items_end l = items_are w true (λ names. go_end w₀ names nodes items (λ p. []) (λ p. half_w p 0 ∷ []) (t names) l)
 
-    module _ (l : i < length s) (v : List ℕ) where
-      pub items_no_node : NamesNode w (half_w s i) nodes v false → NamesItems s w₀ nodes v false
-      items_no_node n = items_are v false (λ names. go_stop w₀ names nodes 2 (length s) (λ j. []) (λ j. half_w s j ∷ []) (g names) l (n.is names))
+    module _ (l : i < length items) (v : List ℕ) where
+      pub items_no_node : NamesNode w (half_w (get_or items i []) 0) nodes v false → NamesItems items w₀ nodes v false
+      items_no_node n = items_are v false (λ names. go_stop w₀ names nodes items (λ p. []) (λ p. half_w p 0 ∷ []) (t names) [] l (n.is names) refl)
 
-      pub items_next : NamesNode w (half_w s i) nodes v true → ItemsGoing (i + 2) v
-      items_next n names = go_next w₀ names nodes 2 (length s) (λ j. []) (λ j. half_w s j ∷ []) (g names) l (n.is names)
+      pub items_next : NamesNode w (half_w (get_or items i []) 0) nodes v true → ItemsGoing (i + 1) v
+      items_next n names = go_next w₀ names nodes items (λ p. []) (λ p. half_w p 0 ∷ []) (t names) [] l (n.is names) refl

@@ -1,8 +1,7 @@
--- What is held of one kind reads its own region alone, so it holds of any words that are the same there. A type's row reads the words of
--- its own parts and the types that these name, which are earlier.
+-- What is held of one kind reads its own region alone, so it holds of any words that are the same there. A type's row
+-- reads the words of its own parts and the types that these name, which are earlier.
 use mathlib.Core.Bool.{Bool, true, false}
 use mathlib.Core.List.{List}
-use mathlib.Core.Option.{Option, none, some}
 use mathlib.Core.Path.{◌≡◌, refl, sym, ap, ◌∙◌}
 use Prim.Native.Nat.{ℕ, zero, suc, ◌+◌, ◌*◌, ◌/◌, ◌%◌, ◌<◌, ◌≤◌}
 use native.Mathlib.Omega.{arith}
@@ -27,15 +26,16 @@ use Rattle.tree.specs.Stands.{NodeIn, QueryIs, PredicateIs, no_predicate, value_
 use Rattle.meaning.proofs.Tests.{clash}
 use Rattle.reading.specs.Held.{LimitsHeld, NamesHeld, words_of, part_type, IsOf, TypesHeld, PredicatesHeld, NodesHeld, flag, Marked}
 use Rattle.reading.proofs.Regions.{Same}
+use Rattle.std.specs.Prelude.{None, Option, Some}
 
 -- ---- Limits, names, nodes and the query
 
 pub limits_kept : {w w' : List ℕ} → Same MAX-DISTANCE QUERY w w' → (p : Option Frame.Kind) (d t : ℕ) → LimitsHeld w p d t → LimitsHeld w' p d t
-limits_kept s none d t h = tt
-limits_kept s (some k) d t h = (s.at MAX-DISTANCE (omega arith) (omega arith) ∙ h.0, s.at MAX-TERM (omega arith) (omega arith) ∙ h.1)
+limits_kept s None d t h = tt
+limits_kept s (Some k) d t h = (s.at MAX-DISTANCE (omega arith) (omega arith) ∙ h.0, s.at MAX-TERM (omega arith) (omega arith) ∙ h.1)
 
 module _ {f w w' : List ℕ} where
-  pub names_kept : {n v : ℕ} {names : List (List ℕ)} → Same NAMES TYPES w w' → NamesHeld f w n v names → NamesHeld f w' n v names
+  pub names_kept : {n : ℕ} {v : Option ℕ} {names : List (List ℕ)} → Same NAMES TYPES w w' → NamesHeld f w n v names → NamesHeld f w' n v names
   names_kept s h = record {
     count = h.count;
     few = h.few;
@@ -192,7 +192,7 @@ module _ (n fields : ℕ) (w w' : List ℕ) (T T' : Rows) (words : Same TYPES (T
   value_kept x h = go (eqb (x % 2) 1) refl
     where
       go : (b : Bool) → eqb (x % 2) 1 ≡ b → value_of T' w' x ≡ value_of T w x
-      go true q = rw q (ap some (type_kept (x / 2 % 256) (h (eqb-true (x % 2) 1 q))))
+      go true q = rw q (ap Some (type_kept (x / 2 % 256) (h (eqb-true (x % 2) 1 q))))
       go false q = rw q
 
   predicate_kept : (m p : ℕ) (d : Predicate) → n ≤ m → get_or w' (PREDICATES + p) 0 ≡ get_or w (PREDICATES + p) 0 → PredicateIs w T n p d → PredicateIs w' T' m p d

@@ -8,6 +8,7 @@ pub mod Texts
 pub mod Order
 pub mod Stepping
 pub mod Naming
+pub mod Cuts
 pub mod Walks
 pub mod Typing
 pub mod Predicates

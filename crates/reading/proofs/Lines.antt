@@ -1,8 +1,7 @@
--- What is held after a line of each kind that meets no condition. A line changes the words of its own kind; of the other kinds
--- the same is held as before.
+-- What is held after a line of each kind that meets no condition. A line changes the words of its own kind; of the
+-- other kinds the same is held as before.
 use mathlib.Core.Bool.{true, false}
 use mathlib.Core.List.{List, [], ◌∷◌, ◌++◌}
-use mathlib.Core.Option.{Option, some}
 use mathlib.Core.Path.{◌≡◌, refl, ap, subst, ◌∙◌}
 use Prim.Native.Nat.{ℕ, ◌+◌, ◌*◌, ◌/◌, ◌<◌, ◌≤◌}
 use native.Mathlib.Omega.{arith}
@@ -31,8 +30,9 @@ use Rattle.reading.proofs.Kept.{limits_kept, names_kept, marked_kept, marked_mor
 use Rattle.reading.proofs.Added.{name_added, value_word, predicate_added, node_added}
 use Rattle.reading.proofs.Shapes.{shape_words, shape_head, shape_second, shape_row, with_row, older_row, new_row, shape_added}
 use Rattle.meaning.specs.Frame.{Edition}
+use Rattle.std.specs.Prelude.{Option, Some}
 
-module _ (ed : Edition) {f : List ℕ} {at : ℕ} {w : List ℕ} {T : Rows} {c : Counters} {previous : ℕ} {so : SoFar} (h : Held ed f at w T c previous so) where
+module _ (ed : Edition) {f : List ℕ} {at : ℕ} {w : List ℕ} {T : Rows} {c : Counters} {previous : Option Frame.Kind} {so : SoFar} (h : Held ed f at w T c previous so) where
   -- ---- What is held of the kinds that a line is not of
   module _ {w' : List ℕ} where
     pub types_same : Same TYPES PREDICATES w w' → Same FIELDS (FIELDS + c.fields) w w' → TypesHeld w' T c.types c.fields so.types
@@ -54,14 +54,14 @@ module _ (ed : Edition) {f : List ℕ} {at : ℕ} {w : List ℕ} {T : Rows} {c :
     long_same : {a e : ℕ} → Keeps a e w w' → 16384 ≤ length w'
     long_same k = rw k.long h.long
 
-    limits_same : Same MAX-DISTANCE QUERY w w' → (k j : Frame.Kind) → so.previous ≡ some j → LimitsHeld w' (some k) so.max_distance so.max_term_chars
-    limits_same s k j e = limits_kept s (some k) so.max_distance so.max_term_chars (rw e at h.limits)
+    limits_same : Same MAX-DISTANCE QUERY w w' → (k j : Frame.Kind) → so.previous ≡ Some j → LimitsHeld w' (Some k) so.max_distance so.max_term_chars
+    limits_same s k j e = limits_kept s (Some k) so.max_distance so.max_term_chars (rw e at h.limits)
 
   module _ (next : ℕ) (on : at ≤ next) (within : next ≤ length f) where
     -- ---- Limits
     pub limits_held : (d t : ℕ) → may_stand so.previous Frame.limits ≡ true
-        → Held ed f next (set (set w MAX-DISTANCE d) MAX-TERM t) T c 0 (add so (the_limits d t))
-    unfolding add Frame.kind_byte
+        → Held ed f next (set (set w MAX-DISTANCE d) MAX-TERM t) T c (Some Frame.limits) (add so (the_limits d t))
+    unfolding add
     limits_held d t stands =
         let one : Keeps MAX-DISTANCE MAX-TERM w (set w MAX-DISTANCE d) = keeps_set w MAX-DISTANCE d (omega arith) (omega arith) in
         let two : Keeps MAX-TERM QUERY (set w MAX-DISTANCE d) (set (set w MAX-DISTANCE d) MAX-TERM t) = keeps_set (set w MAX-DISTANCE d) MAX-TERM t
@@ -88,11 +88,11 @@ module _ (ed : Edition) {f : List ℕ} {at : ℕ} {w : List ℕ} {T : Rows} {c :
         }
 
     -- ---- A name
-    pub name_held : (s : List ℕ) (chars : ℕ) (j : Frame.Kind) → may_stand so.previous Frame.name ≡ true → so.previous ≡ some j → length so.names < 256
-        → line_at f at ≡ some (0x02 ∷ s) → characters s ≡ some chars → chars < 512 → given so.names s ≡ false
-        → Held ed f next (set w (NAMES + c.names) (at * 512 + chars)) T (with_name c (pick (same_text value_text s) (c.names + 1) c.value)) 1
+    pub name_held : (s : List ℕ) (chars : ℕ) (j : Frame.Kind) → may_stand so.previous Frame.name ≡ true → so.previous ≡ Some j → length so.names < 256
+        → line_at f at ≡ Some (0x02 ∷ s) → characters s ≡ Some chars → chars < 512 → given so.names s ≡ false
+        → Held ed f next (set w (NAMES + c.names) (at * 512 + chars)) T (with_name c (pick (same_text value_text s) (Some c.names) c.value)) (Some Frame.name)
         (add so (a_name s))
-    unfolding add Frame.kind_byte
+    unfolding add
     name_held s chars j stands begun room line text small new =
         let k : Keeps NAMES TYPES w (set w (NAMES + c.names) (at * 512 + chars)) = keeps_set w (NAMES + c.names) (at * 512 + chars) (omega arith)
         (omega (arith, h.names.count)) in
@@ -113,12 +113,12 @@ module _ (ed : Edition) {f : List ℕ} {at : ℕ} {w : List ℕ} {T : Rows} {c :
         }
 
     -- ---- A type
-    pub type_held : (s : TypeShape) (j : Frame.Kind) → may_stand so.previous Frame.schema_type ≡ true → so.previous ≡ some j → length so.types < 256
+    pub type_held : (s : TypeShape) (j : Frame.Kind) → may_stand so.previous Frame.schema_type ≡ true → so.previous ≡ Some j → length so.types < 256
         → Below (length so.types) (shape_types s) → 8 * (c.fields + length (shape_words s)) ≤ next
         → Held ed f next (set (set (sets w (FIELDS + c.fields) (shape_words s)) (TYPES + 2 * c.types) (shape_head s)) (TYPES + 2 * c.types + 1)
         (shape_second c.fields s))
-        (with_row T (length so.types) (shape_row so.types s)) (with_type c (length (shape_words s))) 2 (add so (a_type s))
-    unfolding add Frame.kind_byte
+        (with_row T (length so.types) (shape_row so.types s)) (with_type c (length (shape_words s))) (Some Frame.schema_type) (add so (a_type s))
+    unfolding add
     type_held s j stands begun room below fits = record {
       long = rw (head_second.long, parts.long) h.long;
       place = within;
@@ -192,12 +192,12 @@ module _ (ed : Edition) {f : List ℕ} {at : ℕ} {w : List ℕ} {T : Rows} {c :
         words = words_kept (over head_second (omega (arith, h.types.count))) (sets_words w (FIELDS + c.fields) (shape_words s) fitting)
 
     -- ---- A predicate
-    pub predicate_held : (name key : ℕ) (value : Option ℕ) (j : Frame.Kind) → may_stand so.previous Frame.predicate ≡ true → so.previous ≡ some j
+    pub predicate_held : (name key : ℕ) (value : Option ℕ) (j : Frame.Kind) → may_stand so.previous Frame.predicate ≡ true → so.previous ≡ Some j
         → length so.predicates < 128
         → key < length so.types → Below (length so.types) (optional value)
-        → Held ed f next (set w (PREDICATES + c.predicates) (name * 131072 + key * 512 + value_word value)) T (with_predicate c) 3
+        → Held ed f next (set w (PREDICATES + c.predicates) (name * 131072 + key * 512 + value_word value)) T (with_predicate c) (Some Frame.predicate)
         (add so (a_predicate name key value))
-    unfolding add Frame.kind_byte
+    unfolding add
     predicate_held name key value j stands begun room kt vt =
         let x = name * 131072 + key * 512 + value_word value in
         let k : Keeps (PREDICATES + c.predicates) NODES w (set w (PREDICATES + c.predicates) x) = keeps_set w (PREDICATES + c.predicates) x
@@ -224,11 +224,11 @@ module _ (ed : Edition) {f : List ℕ} {at : ℕ} {w : List ℕ} {T : Rows} {c :
 
     -- ---- A node and the query, whose line has size bytes; v are the words after the nodes that it names were marked.
     module _ (size : ℕ) (content : List ℕ) (small : size ≤ 512) (v : List ℕ) (marks : Marks w v) where
-      pub node_held : (nd : Node) (j : Frame.Kind) → may_stand so.previous Frame.node ≡ true → so.previous ≡ some j → length so.nodes < 512
-          → line_at f at ≡ some (0x05 ∷ content) → size ≡ length (0x05 ∷ content) → frame_of ed Frame.node content ≡ some (a_node nd)
+      pub node_held : (nd : Node) (j : Frame.Kind) → may_stand so.previous Frame.node ≡ true → so.previous ≡ Some j → length so.nodes < 512
+          → line_at f at ≡ Some (0x05 ∷ content) → size ≡ length (0x05 ∷ content) → frame_of ed Frame.node content ≡ Some (a_node nd)
           → Marked v (length so.nodes) (so.named ++ expr_nodes nd.kind)
-          → Held ed f next (set v (NODES + c.nodes) ((at * 1024 + size) * 2)) T (with_node c) 4 (add so (a_node nd))
-      unfolding add Frame.kind_byte
+          → Held ed f next (set v (NODES + c.nodes) ((at * 1024 + size) * 2)) T (with_node c) (Some Frame.node) (add so (a_node nd))
+      unfolding add
       node_held nd j stands begun room line sized frame marked =
           let x = (at * 1024 + size) * 2 in
           let set_here : Keeps (NODES + c.nodes) FIELDS v (set v (NODES + c.nodes) x) = keeps_set v (NODES + c.nodes) x (omega arith)
@@ -253,9 +253,9 @@ module _ (ed : Edition) {f : List ℕ} {at : ℕ} {w : List ℕ} {T : Rows} {c :
             turns = h.turns;
           }
 
-      pub query_held : (q : Query) (j : Frame.Kind) → so.previous ≡ some j → length so.queries < 64
-          → Held ed f next v T (with_query c) 5 (add so (the_query q))
-      unfolding add Frame.kind_byte among any_of
+      pub query_held : (q : Query) (j : Frame.Kind) → so.previous ≡ Some j → length so.queries < 64
+          → Held ed f next v T (with_query c) (Some Frame.query) (add so (the_query q))
+      unfolding add among any_of
       query_held q j begun turn =
           let k = marks.keeps in
           let more = length-append so.queries (record { nodes = so.nodes; query = q } ∷ []) in

@@ -1,12 +1,12 @@
--- Naming nodes one after the other: what the first refer to and what the rest refer to make what all refer to, and the first failure is
--- the failure of all.
+-- Naming nodes one after the other: what the first refer to and what the rest refer to make what all refer to, and the
+-- first failure is the failure of all.
 use mathlib.Core.Bool.{Bool, true, false, not}
 use mathlib.Core.List.{List, [], ◌∷◌, ◌++◌, append_assoc, append-nil}
 use mathlib.Core.Path.{◌≡◌, refl, sym, ap, subst, ◌∙◌}
 use Prim.Native.Nat.{ℕ, ◌+◌, ◌/◌, ◌%◌, ◌<◌, ◌≤◌}
 use native.Mathlib.Omega.{arith}
 use lib.Dec.{eqb, ltb}
-use lib.ListN.{length, get_or, set}
+use lib.ListN.{get_or, set}
 use lib.Seq.{get_or-set_same, get_or-set_other}
 use borrow.Author.Tests.{eq-eqb, ne_eqb, eqb-true, eqb-false, lt-ltb, le-ltb}
 use Rattle.text.specs.Utf8.{both}
@@ -16,7 +16,9 @@ use Rattle.cells.proofs.Frame.{keeps_refl, keeps_trans, keeps_set}
 use Rattle.meaning.specs.Conditions.{any_of, all_below, among, again}
 use Rattle.meaning.proofs.Tests.{cases, clash}
 use Rattle.reading.specs.Held.{flag, Marked}
-use Rattle.reading.specs.Marks.{Marks, Refers, NamesNode}
+use Rattle.reading.specs.declared.Refusal.{Refusal}
+use Rattle.reading.specs.Marks.{told, Told, Marks, Roomy, Refers, NamesNode}
+use Rattle.std.specs.Prelude.{Err, Ok, Result}
 use Rattle.reading.proofs.Walks.{again_same, again_next, again_here, among_last, both_none}
 
 -- ---- Lists put together
@@ -56,31 +58,35 @@ marks_none = record { keeps = keeps_refl; half = λ i. refl }
 marks_trans : {w v u : List ℕ} → Marks w v → Marks v u → Marks w u
 marks_trans p q = record { keeps = keeps_trans p.keeps q.keeps; half = λ i. q.half i ∙ p.half i }
 
+room_on : {w v : List ℕ} {nodes : ℕ} → Roomy w nodes → Marks w v → Roomy v nodes
+room_on m p = record { few = m.few; long = rw p.keeps.long m.long }
+
 module _ (names nodes : ℕ) where
   pub refers_none : (w : List ℕ) → Refers w names [] nodes [] w true
   unfolding all_below again
-  refers_none w = record { is = λ named h. refl; marks = λ e. marks_none; marked = λ e named h. subst (Marked w nodes) (sym (append-nil named)) h }
+  refers_none w = record { is = λ m named h. refl; marks = λ m e. marks_none; marked = λ m e named h. subst (Marked w nodes) (sym (append-nil named)) h }
 
   pub refers_name : (w : List ℕ) (m : ℕ) (r : Bool) → r ≡ ltb m names → Refers w names (m ∷ []) nodes [] w r
   unfolding all_below again
   refers_name w m r e = record {
-    is = λ named h. cases (ltb m names) (λ q. e ∙ q ∙ sym (rw q)) (λ q. e ∙ q ∙ sym (rw q));
-    marks = λ e. marks_none;
-    marked = λ e named h. subst (Marked w nodes) (sym (append-nil named)) h;
+    is = λ o named h. cases (ltb m names) (λ q. e ∙ q ∙ sym (rw q)) (λ q. e ∙ q ∙ sym (rw q));
+    marks = λ o e. marks_none;
+    marked = λ o e named h. subst (Marked w nodes) (sym (append-nil named)) h;
   }
 
   module _ {w v u : List ℕ} {xs ns ys ms : List ℕ} where
     pub refers_then : {r : Bool} → Refers w names xs nodes ns v true → Refers v names ys nodes ms u r → Refers w names (xs ++ ys) nodes (ns ++ ms) u r
     refers_then {r} p q = record {
-      is = λ named h.
-          let t = sym (p.is named h) in
+      is = λ m named h.
+          let t = sym (p.is m named h) in
           let a = both_left (all_below names xs) _ t in
           let b = both_right (all_below names xs) _ t in
           let c = both_left (all_below nodes ns) _ b in
           let d : again named ns ≡ false = not_back (again named ns) (both_right (all_below nodes ns) _ b) in
-          q.is (named ++ ns) (p.marked refl named h) ∙ sym (rw (below_append names xs ys, below_append nodes ns ms, a, c, again_append named ns ms d));
-      marks = λ e. marks_trans (p.marks refl) (q.marks e);
-      marked = λ e named h. subst (Marked u nodes) (append_assoc named ns ms) (q.marked e (named ++ ns) (p.marked refl named h));
+          q.is (room_on m (p.marks m refl)) (named ++ ns) (p.marked m refl named h) ∙ sym (rw (below_append names xs ys, below_append nodes ns ms, a, c, again_append named ns ms d));
+      marks = λ m e. marks_trans (p.marks m refl) (q.marks (room_on m (p.marks m refl)) e);
+      marked = λ m e named h. subst (Marked u nodes) (append_assoc named ns ms)
+          (q.marked (room_on m (p.marks m refl)) e (named ++ ns) (p.marked m refl named h));
     }
       where
         not_back : (b : Bool) → not b ≡ true → b ≡ false
@@ -88,21 +94,21 @@ module _ (names nodes : ℕ) where
         not_back false e = refl
 
   module _ {w v xs ns : List ℕ} (p : Refers w names xs nodes ns v false) (ys ms : List ℕ) where
-    fails_on : (named : List ℕ) → Marked w nodes named → false ≡ both (both (all_below names xs) (all_below names ys))
+    fails_on : Roomy w nodes → (named : List ℕ) → Marked w nodes named → false ≡ both (both (all_below names xs) (all_below names ys))
         (both (both (all_below nodes ns) (all_below nodes ms)) (not (again named (ns ++ ms))))
-    fails_on named h = cases (all_below names xs)
+    fails_on m named h = cases (all_below names xs)
         (λ a. cases (all_below nodes ns)
         (λ b. cases (again named ns)
         (λ c. rw (a, b, again_more named ns ms c) (sym (ap (both (all_below names ys)) (both_none (all_below nodes ms)) ∙ both_none (all_below names ys))))
-        (λ c. clash (sym (rw (a, b, c) at (p.is named h)))))
+        (λ c. clash (sym (rw (a, b, c) at (p.is m named h)))))
         (λ b. rw (a, b) (sym (both_none (all_below names ys)))))
         (λ a. rw a)
 
     pub refers_stop : Refers w names (xs ++ ys) nodes (ns ++ ms) v false
     refers_stop = record {
-      is = λ named h. rw (below_append names xs ys, below_append nodes ns ms) (fails_on named h);
-      marks = λ e. clash (sym e);
-      marked = λ e. clash (sym e);
+      is = λ m named h. rw (below_append names xs ys, below_append nodes ns ms) (fails_on m named h);
+      marks = λ m e. clash (sym e);
+      marked = λ m e. clash (sym e);
     }
 
 -- ---- One node
@@ -130,41 +136,41 @@ again_one named m = cases (among m named) (λ q. again_here named m [] q ∙ sym
 module _ (w : List ℕ) (m nodes : ℕ) where
   pub node_none : nodes ≤ m → NamesNode w m nodes w false
   unfolding all_below
-  node_none l = record { is = λ names. record { is = λ named h. rw (le-ltb m nodes l); marks = λ e. clash (sym e); marked = λ e. clash (sym e) } }
+  node_none l = record { is = λ names. record { is = λ o named h. rw (le-ltb m nodes l); marks = λ o e. clash (sym e); marked = λ o e. clash (sym e) } }
 
   module _ (l : m < nodes) where
     pub node_again : get_or w (NODES + m) 0 % 2 ≡ 1 → NamesNode w m nodes w false
     unfolding all_below
     node_again e = record {
       is = λ names. record {
-        is = λ named h. rw (lt-ltb m nodes l, again_one named m, flag_one (among m named) (sym (h.mark m l) ∙ e));
-        marks = λ e. clash (sym e);
-        marked = λ e. clash (sym e);
+        is = λ o named h. rw (lt-ltb m nodes l, again_one named m, flag_one (among m named) (sym (h.mark m l) ∙ e));
+        marks = λ o e. clash (sym e);
+        marked = λ o e. clash (sym e);
       };
     }
 
-    module _ (free : get_or w (NODES + m) 0 % 2 ≡ 1 → ⊥) (few : nodes ≤ 512) (long : 16384 ≤ length w) where
+    module _ (free : get_or w (NODES + m) 0 % 2 ≡ 1 → ⊥) where
       abbrev w' : List ℕ
       w' = set w (NODES + m) (get_or w (NODES + m) 0 + 1)
 
-      here : get_or w' (NODES + m) 0 ≡ get_or w (NODES + m) 0 + 1
-      here = get_or-set_same w (NODES + m) (get_or w (NODES + m) 0 + 1) 0 (omega arith)
+      here : Roomy w nodes → get_or w' (NODES + m) 0 ≡ get_or w (NODES + m) 0 + 1
+      here o = get_or-set_same w (NODES + m) (get_or w (NODES + m) 0 + 1) 0 (omega arith)
 
       there : (i : ℕ) → (i ≡ m → ⊥) → get_or w' (NODES + i) 0 ≡ get_or w (NODES + i) 0
       there i n = get_or-set_other w (NODES + m) (NODES + i) (get_or w (NODES + m) 0 + 1) 0 (λ q. n (omega arith))
 
-      marks_one : Marks w w'
-      marks_one = record {
+      marks_one : Roomy w nodes → Marks w w'
+      marks_one o = record {
         keeps = keeps_set w (NODES + m) (get_or w (NODES + m) 0 + 1) (omega arith) (omega arith);
         half = λ i. cases (eqb i m)
-            (λ q. let e = eqb-true i m q in rw (e, here) (omega (arith, free)))
+            (λ q. let e = eqb-true i m q in rw (e, here o) (omega (arith, free)))
             (λ q. ap (λ x. x / 2) (there i (eqb-false i m q)));
       }
 
-      marked_one : (named : List ℕ) → Marked w nodes named → Marked w' nodes (named ++ m ∷ [])
-      marked_one named h = record {
+      marked_one : Roomy w nodes → (named : List ℕ) → Marked w nodes named → Marked w' nodes (named ++ m ∷ [])
+      marked_one o named h = record {
         mark = λ i b. cases (eqb i m)
-            (λ q. let e = eqb-true i m q in rw (e, here, ← among_last m m named, among_own m named) (omega (arith, free)))
+            (λ q. let e = eqb-true i m q in rw (e, here o, ← among_last m m named, among_own m named) (omega (arith, free)))
             (λ q. let n = eqb-false i m q in rw (there i n, ← among_last i m named, among_rest i m named n) (h.mark i b));
         later = λ i b. sym (among_last i m named) ∙ among_rest i m named (λ q. omega arith) ∙ h.later i b;
       }
@@ -173,8 +179,33 @@ module _ (w : List ℕ) (m nodes : ℕ) where
       unfolding all_below
       node_marks v e = record {
         is = λ names. record {
-          is = λ named h. rw (lt-ltb m nodes l, again_one named m, flag_none (among m named) (λ q. free (h.mark m l ∙ q)));
-          marks = λ q. rw e marks_one;
-          marked = λ q named h. rw e (marked_one named h);
+          is = λ o named h. rw (lt-ltb m nodes l, again_one named m, flag_none (among m named) (λ q. free (h.mark m l ∙ q)));
+          marks = λ o q. rw e (marks_one o);
+          marked = λ o q named h. rw e (marked_one o named h);
         };
       }
+
+-- ---- What a refusal says
+
+pub told_there : {P : Bool → Type 0} {r : Result (Unit {0}) Refusal} → Told P r → r ≡ Ok tt → P true
+told_there {P} {r} t e = go t.there t.is t.holds
+  where
+    go : (b : Bool) → r ≡ told b → P b → P true
+    go true q h = h
+    go false q h = let x : ◌≡◌ {A = Result (Unit {0}) Refusal} (Ok tt) (Err Refusal.BadReference) = sym e ∙ q in let z : ◌≡◌ {A = ℕ} 0 1 = cc in absurd (omega arith)
+
+pub told_missing : {P : Bool → Type 0} {r : Result (Unit {0}) Refusal} {e : Refusal} → Told P r → r ≡ Err e → (e ≡ Refusal.BadReference) × P false
+told_missing {P} {r} {e} t q = go t.there t.is t.holds
+  where
+    go : (b : Bool) → r ≡ told b → P b → (e ≡ Refusal.BadReference) × P false
+    go true p h = let x : ◌≡◌ {A = Result (Unit {0}) Refusal} (Ok tt) (Err e) = sym p ∙ q in let z : ◌≡◌ {A = ℕ} 0 1 = cc in absurd (omega arith)
+    go false p h = let x : ◌≡◌ {A = Result (Unit {0}) Refusal} (Err e) (Err Refusal.BadReference) = sym q ∙ p in (cc, h)
+
+pub told_by : {P Q : Bool → Type 0} {r : Result (Unit {0}) Refusal} → ((b : Bool) → P b → Q b) → Told P r → Told Q r
+told_by f t = record { there = t.there; is = t.is; holds = f t.there t.holds }
+
+pub missing : {P : Bool → Type 0} {e : Refusal} → e ≡ Refusal.BadReference → P false → Told P (Err e)
+missing q h = record { there = false; is = ap Err q; holds = h }
+
+pub all_there : {P : Bool → Type 0} → P true → Told P (Ok tt)
+all_there h = record { there = true; is = refl; holds = h }

@@ -1,12 +1,11 @@
 -- A predicate line: its frame by places of the line, refused by its references, or one more predicate is held.
 use mathlib.Core.Bool.{Bool, true, false, not}
 use mathlib.Core.List.{List, []}
-use mathlib.Core.Option.{Option, none, some}
 use mathlib.Core.Path.{◌≡◌, refl, sym, ap, subst, ◌∙◌}
 use Prim.Native.Nat.{ℕ, zero, suc, ◌+◌, ◌*◌, ◌<◌, ◌≤◌}
 use native.Mathlib.Omega.{arith}
 use lib.Dec.{ltb}
-use lib.ListN.{length, drop, set, get_elem?}
+use lib.ListN.{length, drop, set}
 use borrow.Author.Tests.{ltb-true, lt-ltb, le-ltb}
 use Rattle.text.specs.Utf8.{both}
 use Rattle.text.proofs.Every.{both_left, both_right}
@@ -24,10 +23,7 @@ use Rattle.meaning.proofs.Tests.{below_all}
 use Rattle.frames.specs.Promises.{byte_w, half_w, value_type}
 use Rattle.frames.proofs.Readers.{sized_one, sized_two}
 use Rattle.frames.proofs.Statements.{choice_at}
-use Rattle.reading.specs.declared.Refusal.TheVariants as Refusal
 use Rattle.work.specs.declared.Counters.{Counters}
-use Rattle.reading.specs.declared.Step.{Step}
-use Rattle.reading.specs.declared.Step.TheVariants.{Off}
 use Rattle.reading.specs.Held.{Held}
 use Rattle.reading.specs.Promises.{with_predicate, Comes, TakesAnywhere, AddsPredicate}
 use Rattle.reading.proofs.Added.{value_word}
@@ -37,14 +33,16 @@ use Rattle.reading.proofs.Stepping.{refuses, goes_on, begun, predicates_room}
 use Rattle.reading.proofs.Typing.{one_made, whole_made, sized_got, both_all, or_none}
 use Rattle.reading.proofs.Walks.{both_none}
 use Rattle.meaning.specs.Frame.{Edition}
+use Rattle.std.specs.Prelude.{Err, None, Option, Result, Some, slice_get}
+use Rattle.reading.specs.declared.Refusal.{Refusal}
 
 -- What the bytes from 5 on say of the value type.
 pub data ValueAt (s : List ℕ) : Option ℕ → Type 0 where
-  absent : byte_w s 5 ≡ 0 → ValueAt s none
-  present : byte_w s 5 ≡ 1 → ValueAt s (some (half_w s 6))
+  absent : byte_w s 5 ≡ 0 → ValueAt s None
+  present : byte_w s 5 ≡ 1 → ValueAt s (Some (half_w s 6))
 
 module _ (ed : Edition) (so : SoFar) (s : List ℕ) (fr : Frame) (long : 6 ≤ length s) (k : Comes ed so Frame.predicate s fr) where
-  chosen : (v : Option ℕ) × (entry (get_elem? value_types (byte_w s 5)) (drop 6 s) ≡ got v []) × (fr ≡ a_predicate (half_w s 1) (half_w s 3) v)
+  chosen : (v : Option ℕ) × (entry (slice_get value_types (byte_w s 5)) (drop 6 s) ≡ got v []) × (fr ≡ a_predicate (half_w s 1) (half_w s 3) v)
   unfolding frame_of frame triple pair one and_then
   chosen =
       let a = sized_two.reads s 1 (omega arith) in
@@ -58,16 +56,16 @@ module _ (ed : Edition) (so : SoFar) (s : List ℕ) (fr : Frame) (long : 6 ≤ l
   unfolding entry value_types nothing
   value_at = go (byte_w s 5) refl chosen
     where
-      go : (b : ℕ) → byte_w s 5 ≡ b → (v : Option ℕ) × (entry (get_elem? value_types (byte_w s 5)) (drop 6 s) ≡ got v []) ×
+      go : (b : ℕ) → byte_w s 5 ≡ b → (v : Option ℕ) × (entry (slice_get value_types (byte_w s 5)) (drop 6 s) ≡ got v []) ×
           (fr ≡ a_predicate (half_w s 1) (half_w s 3) v) → (v : Option ℕ) × (fr ≡ a_predicate (half_w s 1) (half_w s 3) v) × ValueAt s v
       go zero e c =
-          let x : got none (drop 6 s) ≡ got c.0 [] = rw (e, entry) at c.1 in
-          let z : c.0 ≡ none = cc in
-          (none, c.2 ∙ ap (a_predicate (half_w s 1) (half_w s 3)) z, absent e)
+          let x : got None (drop 6 s) ≡ got c.0 [] = rw (e, entry) at c.1 in
+          let z : c.0 ≡ None = cc in
+          (None, c.2 ∙ ap (a_predicate (half_w s 1) (half_w s 3)) z, absent e)
       go (suc zero) e c =
-          let x : one some two (drop 6 s) ≡ got c.0 [] = rw (e, entry) at c.1 in
-          let z = sized_got (sized_one some sized_two) s 6 c.0 [] long x in
-          (some (half_w s 6), c.2 ∙ ap (a_predicate (half_w s 1) (half_w s 3)) z, present e)
+          let x : one Some two (drop 6 s) ≡ got c.0 [] = rw (e, entry) at c.1 in
+          let z = sized_got (sized_one Some sized_two) s 6 c.0 [] long x in
+          (Some (half_w s 6), c.2 ∙ ap (a_predicate (half_w s 1) (half_w s 3)) z, present e)
       go (suc (suc n)) e c =
           let x : fails ≡ got c.0 [] = rw (e, entry) at c.1 in
           let z : ◌≡◌ {A = ℕ} 0 1 = cc in
@@ -84,13 +82,13 @@ predicate_refers so n key v =
     (both_all (ltb n (length so.names))) ∙ ap (both (ltb n (length so.names)))
     (both_all (both (ltb key (length so.types)) (all_below (length so.types) (optional v)))))
 
-pub value_none : (s : List ℕ) → byte_w s 5 ≡ 0 → (u : Option ℕ) → ValueAt s u → u ≡ none
-value_none s e none (absent a) = refl
-value_none s e (some t) (present a) = absurd (omega arith)
+pub value_none : (s : List ℕ) → byte_w s 5 ≡ 0 → (u : Option ℕ) → ValueAt s u → u ≡ None
+value_none s e None (absent a) = refl
+value_none s e (Some t) (present a) = absurd (omega arith)
 
-pub value_some : (s : List ℕ) → (byte_w s 5 ≡ 0 → ⊥) → (u : Option ℕ) → ValueAt s u → u ≡ some (half_w s 6)
-value_some s n none (absent a) = absurd (n a)
-value_some s n (some t) (present a) = refl
+pub value_some : (s : List ℕ) → (byte_w s 5 ≡ 0 → ⊥) → (u : Option ℕ) → ValueAt s u → u ≡ Some (half_w s 6)
+value_some s n None (absent a) = absurd (n a)
+value_some s n (Some t) (present a) = refl
 
 -- ---- The ends of a predicate line
 
@@ -99,28 +97,28 @@ module _ (ed : Edition) (s w : List ℕ) (c : Counters) (long : 6 ≤ length s) 
   abbrev there : Option ℕ → Bool
   there v = both (ltb (half_w s 1) c.names) (both (ltb (half_w s 3) c.types) (all_below c.types (optional v)))
 
-  refers : {f : List ℕ} {at : ℕ} {T : Rows} {previous : ℕ} {so : SoFar} → Held ed f at w T c previous so → (v : Option ℕ) (b : Bool) → there v ≡ b
+  refers : {f : List ℕ} {at : ℕ} {T : Rows} {previous : Option Frame.Kind} {so : SoFar} → Held ed f at w T c previous so → (v : Option ℕ) (b : Bool) → there v ≡ b
       → refers_badly so (a_predicate (half_w s 1) (half_w s 3) v) ≡ not b
   refers {so = so} h v b e =
       let q : both (ltb (half_w s 1) (length so.names)) (both (ltb (half_w s 3) (length so.types)) (all_below (length so.types) (optional v))) ≡
       b = rw (← h.names.count, ← h.types.count) e in
       predicate_refers so (half_w s 1) (half_w s 3) v ∙ ap not q
 
-  pub predicate_bad : ((v : Option ℕ) → ValueAt s v → there v ≡ false) → TakesAnywhere ed Frame.predicate s w c w (Off Refusal.BadReference)
-  unfolding frame_kind texts_of any_of kind_byte
+  pub predicate_bad : ((v : Option ℕ) → ValueAt s v → there v ≡ false) → TakesAnywhere ed Frame.predicate s w c w (Err Refusal.BadReference)
+  unfolding frame_kind texts_of any_of
   predicate_bad e = record {
     is = λ f at. record {
       is = λ next T previous so fr h l k.
           let x = value_at ed so s fr long k in
-          refuses ed f next w 3 (add so fr) Refusal.BadReference _
-          (subst (λ y. first_of conditions so (frames y) ≡ some Refused.bad_reference) (sym x.1)
+          refuses ed f next w (Some Frame.predicate) (add so fr) Refusal.BadReference _
+          (subst (λ y. first_of conditions so (frames y) ≡ Some Refused.bad_reference) (sym x.1)
           (first_bad so (a_predicate (half_w s 1) (half_w s 3) x.0) k.placed k.room k.turn refl refl (refers h x.0 false (e x.0 x.2))));
     };
   }
 
-  pub predicate_takes : (v : Option ℕ) → ((u : Option ℕ) → ValueAt s u → u ≡ v) → there v ≡ true → (w' : List ℕ) (r : Step) (x : ℕ)
+  pub predicate_takes : (v : Option ℕ) → ((u : Option ℕ) → ValueAt s u → u ≡ v) → there v ≡ true → (w' : List ℕ) (r : Result Counters Refusal) (x : ℕ)
       → x ≡ half_w s 1 * 131072 + half_w s 3 * 512 + value_word v → AddsPredicate w c x w' r → TakesAnywhere ed Frame.predicate s w c w' r
-  unfolding frame_kind texts_of any_of kind_byte keys_of again may_stand
+  unfolding frame_kind texts_of any_of keys_of again may_stand
   predicate_takes v va e w' r y z a = record {
     is = λ f at. record {
       is = λ next T previous so fr h l k.
@@ -131,7 +129,7 @@ module _ (ed : Edition) (s w : List ℕ) (c : Counters) (long : 6 ≤ length s) 
           let key = ltb-true (half_w s 3) c.types (both_left (ltb (half_w s 3) c.types) (all_below c.types (optional v)) types) in
           let value = below_all c.types (optional v) (both_right (ltb (half_w s 3) c.types) (all_below c.types (optional v)) types) in
           rw (a.step, a.words, z, same)
-          (goes_on ed f next (set w (PREDICATES + c.predicates) (half_w s 1 * 131072 + half_w s 3 * 512 + value_word v)) 3
+          (goes_on ed f next (set w (PREDICATES + c.predicates) (half_w s 1 * 131072 + half_w s 3 * 512 + value_word v)) (Some Frame.predicate)
           (add so (a_predicate (half_w s 1) (half_w s 3) v)) (with_predicate c) T _
           (first_none so (a_predicate (half_w s 1) (half_w s 3) v) k.placed k.room k.turn refl refl (refers h v true e) refl)
           (predicate_held ed h next (omega (arith, l.on)) l.within (half_w s 1) (half_w s 3) v b.0 k.placed b.1
@@ -147,17 +145,17 @@ module _ (ed : Edition) (s w : List ℕ) (c : Counters) (long : 6 ≤ length s) 
 
   pub no_value_lem : (byte_w s 5 ≡ 0 → ⊥) → c.types ≤ half_w s 6 → (v : Option ℕ) → ValueAt s v → there v ≡ false
   unfolding all_below optional
-  no_value_lem n h none (absent a) = absurd (n a)
-  no_value_lem n h (some t) (present a) = rw (le-ltb (half_w s 6) c.types h)
+  no_value_lem n h None (absent a) = absurd (n a)
+  no_value_lem n h (Some t) (present a) = rw (le-ltb (half_w s 6) c.types h)
       (ap (both (ltb (half_w s 1) c.names)) (both_none (ltb (half_w s 3) c.types)) ∙ both_none (ltb (half_w s 1) c.names))
 
   all_there : half_w s 1 < c.names → half_w s 3 < c.types → (v : Option ℕ) → all_below c.types (optional v) ≡ true → there v ≡ true
   all_there a b v e = rw (lt-ltb (half_w s 1) c.names a, lt-ltb (half_w s 3) c.types b) e
 
-  pub none_there : half_w s 1 < c.names → half_w s 3 < c.types → there none ≡ true
+  pub none_there : half_w s 1 < c.names → half_w s 3 < c.types → there None ≡ true
   unfolding all_below optional
-  none_there a b = all_there a b none refl
+  none_there a b = all_there a b None refl
 
-  pub some_there : half_w s 1 < c.names → half_w s 3 < c.types → half_w s 6 < c.types → there (some (half_w s 6)) ≡ true
+  pub some_there : half_w s 1 < c.names → half_w s 3 < c.types → half_w s 6 < c.types → there (Some (half_w s 6)) ≡ true
   unfolding all_below optional
-  some_there a b t = all_there a b (some (half_w s 6)) (rw (lt-ltb (half_w s 6) c.types t))
+  some_there a b t = all_there a b (Some (half_w s 6)) (rw (lt-ltb (half_w s 6) c.types t))

@@ -2,29 +2,37 @@
 use mathlib.Core.Bool.{Bool, true, false}
 use mathlib.Core.List.{List, [], ◌∷◌}
 use mathlib.Core.Logic.{◌⊎◌, inl, inr, ⊎_elim}
-use mathlib.Core.Option.{some}
-use mathlib.Core.Path.{◌≡◌, sym, subst}
-use Prim.Native.Nat.{ℕ, ◌<◌, ◌≤◌, ◌+◌}
+use mathlib.Core.Path.{◌≡◌, ap, subst, ◌∙◌}
+use Prim.Native.Nat.{ℕ, ◌<◌, ◌≤◌, ◌+◌, ◌-◌, ◌/◌}
 use native.Mathlib.Omega.{arith}
 use lib.Dec.{eqb, ltb}
-use lib.ListN.{length, drop}
-use borrow.Author.Tests.{lt-ltb, le-ltb, ltb-true, ltb-false, eqb-true, eqb-false}
+use lib.ListN.{length, drop, length-drop}
+use borrow.Author.Tests.{ltb-true, ltb-false, eqb-true, eqb-false}
 use Rattle.meaning.specs.Syntax.{Node}
 use Rattle.meaning.specs.Frame as Frame
 use Rattle.meaning.specs.Frame.{a_node, frame_of}
 use Rattle.meaning.specs.References.{stmt_nodes}
 use Rattle.meaning.proofs.Tests.{cases}
 use Rattle.frames.specs.Promises.{byte_w, half_w, reference_size}
-use Rattle.frames.proofs.Shapes.{up}
+use Rattle.std.specs.Simd.{first_chunks}
 use Rattle.reading.specs.Marks.{Refers, NamesNode, NamesFields, NamesItems, NamesStatements, NamesAll}
 use Rattle.reading.proofs.Marking.{refers_none, refers_name, refers_then, refers_stop}
 use Rattle.reading.proofs.Refs.{RefsAre, plain_refs, var_refs, prefix_refs, fuzzy_refs, key_refs, value_refs, fact_refs, select_refs, error_refs}
 use Rattle.reading.proofs.Refs.{wildcard_refs, never_refs, no_refs, record_refs, branches_refs, operands_refs, subquery_refs}
 use Rattle.meaning.specs.Frame.{Edition}
+use Rattle.std.specs.Prelude.{Some}
 
 module _ (ed : Edition) (s w : List ℕ) (names nodes : ℕ) (long : 10 ≤ length s) where
+  -- the bytes from 10 on in pieces of n
+  abbrev pub pieces : ℕ → List (List ℕ)
+  pieces n = first_chunks n ((length s - 10) / n) (drop 10 s)
+
+  -- which are those that the code cuts
+  pub cut_pieces : (n : ℕ) (t : List ℕ) (parts : List (List ℕ)) → t ≡ drop 10 s → parts ≡ first_chunks n (length t / n) t → parts ≡ pieces n
+  cut_pieces n t parts q e = e ∙ ap (λ l. first_chunks n (length l / n) l) q ∙ ap (λ m. first_chunks n (m / n) (drop 10 s)) (length-drop 10 s)
+
   -- what the frame refers to is these
-  all_by : (xs ns v : List ℕ) (r : Bool) → ((nd : Node) → frame_of ed Frame.node (drop 1 s) ≡ some (a_node nd) → RefsAre nd.kind xs ns)
+  all_by : (xs ns v : List ℕ) (r : Bool) → ((nd : Node) → frame_of ed Frame.node (drop 1 s) ≡ Some (a_node nd) → RefsAre nd.kind xs ns)
       → Refers w names xs nodes ns v r → NamesAll ed s w names nodes v r
   all_by xs ns v r a q = record { is = λ nd e. let p = a nd e in rw (p.names, p.nodes) q }
 
@@ -33,20 +41,20 @@ module _ (ed : Edition) (s w : List ℕ) (names nodes : ℕ) (long : 10 ≤ leng
       (λ nd f. ⊎_elim (var_refs ed s nd long f) (⊎_elim (prefix_refs ed s nd long f) (fuzzy_refs ed s nd long f)) b)
       (refers_name names nodes w (half_w s 10) r e)
 
-  pub all_fields_lem : byte_w s 9 ≡ 8 → (v : List ℕ) (r : Bool) → NamesFields s w names nodes v r → NamesAll ed s w names nodes v r
-  all_fields_lem b v r n = record { is = λ nd f. let k = record_refs ed s nd long f b in rw (k.2.names, k.2.nodes) (n.is k.0 k.1) }
+  pub all_fields_lem : byte_w s 9 ≡ 8 → (v : List ℕ) (r : Bool) → NamesFields (pieces 4) w names nodes v r → NamesAll ed s w names nodes v r
+  all_fields_lem b v r n = record { is = λ nd f. let k = record_refs ed s nd long f b in rw (k.names, k.nodes) n }
 
   module _ (b : (byte_w s 9 ≡ 9) ⊎ (byte_w s 9 ≡ 16)) where
-    both_refs : (nd : Node) → frame_of ed Frame.node (drop 1 s) ≡ some (a_node nd) → RefsAre nd.kind (half_w s 10 ∷ []) (half_w s 12 ∷ [])
+    both_refs : (nd : Node) → frame_of ed Frame.node (drop 1 s) ≡ Some (a_node nd) → RefsAre nd.kind (half_w s 10 ∷ []) (half_w s 12 ∷ [])
     both_refs nd f = ⊎_elim (key_refs ed s nd long f) (select_refs ed s nd long f) b
 
-    pub all_no_name : names ≤ half_w s 10 → NamesAll ed s w names nodes w false
+    pub all_no_name : false ≡ ltb (half_w s 10) names → NamesAll ed s w names nodes w false
     all_no_name h = all_by (half_w s 10 ∷ []) (half_w s 12 ∷ []) w false both_refs
-        (refers_stop names nodes (refers_name names nodes w (half_w s 10) false (sym (le-ltb (half_w s 10) names h))) [] (half_w s 12 ∷ []))
+        (refers_stop names nodes (refers_name names nodes w (half_w s 10) false h) [] (half_w s 12 ∷ []))
 
-    pub all_named : half_w s 10 < names → (v : List ℕ) (r : Bool) → NamesNode w (half_w s 12) nodes v r → NamesAll ed s w names nodes v r
+    pub all_named : true ≡ ltb (half_w s 10) names → (v : List ℕ) (r : Bool) → NamesNode w (half_w s 12) nodes v r → NamesAll ed s w names nodes v r
     all_named h v r n = all_by (half_w s 10 ∷ []) (half_w s 12 ∷ []) v r both_refs
-        (refers_then names nodes (refers_name names nodes w (half_w s 10) true (sym (lt-ltb (half_w s 10) names h))) (n.is names))
+        (refers_then names nodes (refers_name names nodes w (half_w s 10) true h) (n.is names))
 
   pub all_value : byte_w s 9 ≡ 10 → (v : List ℕ) (r : Bool) → NamesNode w (half_w s 10) nodes v r → NamesAll ed s w names nodes v r
   all_value b v r n = all_by [] (half_w s 10 ∷ []) v r (λ nd f. value_refs ed s nd long f b) (n.is names)
@@ -56,10 +64,9 @@ module _ (ed : Edition) (s w : List ℕ) (names nodes : ℕ) (long : 10 ≤ leng
   all_fact b m q v r n = all_by [] (half_w s (10 + reference_size ed) ∷ []) v r (λ nd f. fact_refs ed s nd long f b)
       ((subst (λ k. NamesNode w (half_w s (10 + k)) nodes v r) q n).is names)
 
-  pub all_items : (byte_w s 9 ≡ 11) ⊎ (byte_w s 9 ≡ 14) → (v : List ℕ) (r : Bool) → NamesItems s w nodes v r → NamesAll ed s w names nodes v r
+  pub all_items : (byte_w s 9 ≡ 11) ⊎ (byte_w s 9 ≡ 14) → (v : List ℕ) (r : Bool) → NamesItems (pieces 2) w nodes v r → NamesAll ed s w names nodes v r
   all_items b v r n = record {
-    is = λ nd f. let k = ⊎_elim (branches_refs ed s nd long f) (operands_refs ed s nd long f) b in rw
-        (k.2.names, k.2.nodes) (n.is names k.0 k.1);
+    is = λ nd f. let k = ⊎_elim (branches_refs ed s nd long f) (operands_refs ed s nd long f) b in rw (k.names, k.nodes) (n.is names);
   }
 
   module _ (b : byte_w s 9 ≡ 12) (v : List ℕ) where
@@ -69,34 +76,30 @@ module _ (ed : Edition) (s w : List ℕ) (names nodes : ℕ) (long : 10 ≤ leng
           (refers_stop names nodes (n.is names) [] (stmt_nodes k.0));
     }
 
-    pub all_subquery : NamesNode w (half_w s 10) nodes v true → (u : List ℕ) (r : Bool) → NamesStatements s v 12 nodes u r → NamesAll ed s w names nodes u r
+    pub all_subquery : NamesNode w (half_w s 10) nodes v true → (u : List ℕ) (r : Bool) → NamesStatements (drop 12 s) v nodes u r → NamesAll ed s w names nodes u r
     all_subquery n u r m = record {
       is = λ nd f. let k = subquery_refs ed s nd long f b in rw (k.2.names, k.2.nodes)
           (refers_then names nodes (n.is names) (m.is names k.0 k.1));
     }
 
   -- any other shape refers to nothing
-  pub all_none : (byte_w s 9 ≡ 3 → ⊥) → (byte_w s 9 < 6) ⊎ (8 ≤ byte_w s 9) → (byte_w s 9 ≡ 8 → ⊥) → ((byte_w s 9 ≡ 9) ⊎ (byte_w s 9 ≡ 16) → ⊥) → (byte_w s 9 ≡ 10 → ⊥)
-      → ((byte_w s 9 ≡ 11) ⊎ (byte_w s 9 ≡ 14) → ⊥) → (byte_w s 9 ≡ 12 → ⊥) → (byte_w s 9 ≡ 13 → ⊥) → NamesAll ed s w names nodes w true
-  all_none three apart eight nines ten elevens twelve thirteen = record
-      { is = λ nd q. let p = refs nd q in rw (p.names, p.nodes) (refers_none names nodes w) }
+  pub all_none : (byte_w s 9 ≡ 3 → ⊥) → (byte_w s 9 ≡ 6 → ⊥) → (byte_w s 9 ≡ 7 → ⊥) → (byte_w s 9 ≡ 8 → ⊥) → (byte_w s 9 ≡ 9 → ⊥) → (byte_w s 9 ≡ 10 → ⊥)
+      → (byte_w s 9 ≡ 11 → ⊥) → (byte_w s 9 ≡ 12 → ⊥) → (byte_w s 9 ≡ 13 → ⊥) → (byte_w s 9 ≡ 14 → ⊥) → (byte_w s 9 ≡ 16 → ⊥) → NamesAll ed s w names nodes w true
+  all_none a b c d e f g h i j k = record { is = λ nd q. let p = refs nd q in rw (p.names, p.nodes) (refers_none names nodes w) }
     where
-      past : 3 ≤ byte_w s 9 → (byte_w s 9 ≡ 4 → ⊥) → (byte_w s 9 ≡ 5 → ⊥) → (byte_w s 9 ≡ 15 → ⊥) → 17 ≤ byte_w s 9
-      past h four five fifteen =
-          let six = up 5 (up 4 (up 3 h three) four) five in
-          let from = ⊎_elim (λ (l : byte_w s 9 < 6). absurd (omega (arith, six))) (λ (l : 8 ≤ byte_w s 9). l) apart in
-          let eleven = up 10 (up 9 (up 8 from eight) (λ e. nines (inl e))) ten in
-          let fourteen = up 13 (up 12 (up 11 eleven (λ e. elevens (inl e))) twelve) thirteen in
-          up 16 (up 15 (up 14 fourteen (λ e. elevens (inr e))) fifteen) (λ e. nines (inr e))
-
-      refs : (nd : Node) → frame_of ed Frame.node (drop 1 s) ≡ some (a_node nd) → RefsAre nd.kind [] []
+      refs : (nd : Node) → frame_of ed Frame.node (drop 1 s) ≡ Some (a_node nd) → RefsAre nd.kind [] []
       refs nd q =
-          cases (ltb (byte_w s 9) 3) (λ t. plain_refs ed s nd long q (ltb-true (byte_w s 9) 3 t)) λ h.
-          cases (eqb (byte_w s 9) 4) (λ t. wildcard_refs ed s nd long q (eqb-true (byte_w s 9) 4 t)) λ i.
-          cases (eqb (byte_w s 9) 5) (λ t. never_refs ed s nd long q (eqb-true (byte_w s 9) 5 t)) λ j.
-          cases (eqb (byte_w s 9) 15) (λ t. error_refs ed s nd long q (eqb-true (byte_w s 9) 15 t)) λ k.
-          absurd (no_refs ed s nd long q (past (ltb-false (byte_w s 9) 3 h) (eqb-false (byte_w s 9) 4 i) (eqb-false (byte_w s 9) 5 j)
-          (eqb-false (byte_w s 9) 15 k)))
+          cases (ltb (byte_w s 9) 3) (λ t. plain_refs ed s nd long q (ltb-true (byte_w s 9) 3 t)) λ l.
+          cases (eqb (byte_w s 9) 4) (λ t. wildcard_refs ed s nd long q (eqb-true (byte_w s 9) 4 t)) λ m.
+          cases (eqb (byte_w s 9) 5) (λ t. never_refs ed s nd long q (eqb-true (byte_w s 9) 5 t)) λ n.
+          cases (eqb (byte_w s 9) 15) (λ t. error_refs ed s nd long q (eqb-true (byte_w s 9) 15 t)) λ o.
+          absurd (no_refs ed s nd long q (omega (
+            arith,
+            ltb-false (byte_w s 9) 3 l,
+            eqb-false (byte_w s 9) 4 m,
+            eqb-false (byte_w s 9) 5 n,
+            eqb-false (byte_w s 9) 15 o,
+          )))
 
 pub six_or_seven : (b : ℕ) → 6 ≤ b → b < 8 → (b ≡ 6) ⊎ (b ≡ 7)
 six_or_seven b l h = cases (eqb b 6) (λ q. inl (eqb-true b 6 q)) (λ q. let n = eqb-false b 6 q in inr (omega arith))

@@ -1,11 +1,11 @@
 -- What a node's frame refers to, by its shape byte and places of the line.
 use mathlib.Core.Bool.{true, false}
 use mathlib.Core.List.{List, [], ◌∷◌, map}
-use mathlib.Core.Option.{some}
 use mathlib.Core.Path.{◌≡◌, refl, sym, ap, subst, ◌∙◌}
-use Prim.Native.Nat.{ℕ, zero, suc, ◌+◌, ◌*◌, ◌<◌, ◌≤◌}
+use Prim.Native.Nat.{ℕ, zero, suc, ◌+◌, ◌-◌, ◌/◌, ◌<◌, ◌≤◌}
+use native.Mathlib.Nat.{add-zero}
 use native.Mathlib.Omega.{arith}
-use lib.ListN.{length, drop, get_elem?}
+use lib.ListN.{length, drop}
 use lib.Dec.{ltb}
 use borrow.Author.Tests.{ltb-true, ltb-false}
 use Rattle.meaning.proofs.Tests.{cases}
@@ -18,8 +18,11 @@ use Rattle.frames.specs.Promises.{reference_size, reference_w, byte_w, half_w, f
 use Rattle.frames.specs.Items.{items_at, field_at, Fill}
 use Rattle.frames.proofs.Readers.{sized_reference, Sized, sized_one, sized_pair, sized_two, sized_four, sized_byte, fields_are, numbers_are}
 use Rattle.frames.proofs.Statements.{choice_at, statements_are}
+use Rattle.std.specs.Simd.{first_chunks}
+use Rattle.reading.proofs.Cuts.{half_cut, cut_items}
 use Rattle.reading.proofs.Typing.{one_made, whole_made, sized_got, map_items, past_end}
 use Rattle.meaning.specs.Frame.{Edition}
+use Rattle.std.specs.Prelude.{Some, slice_get}
 
 -- The names and the nodes that a kind refers to are these.
 pub record RefsAre (k : ExprKind) (xs ns : List ℕ) : Type 0 where
@@ -30,7 +33,7 @@ abbrev made : ℕ → ℕ → ExprKind → Node
 made start end kind = record { span = record { start = start; end = end }; kind = kind }
 
 span_kind : (ed : Edition) (s : List ℕ) → 10 ≤ length s → (n : Node) → span_and_kind ed (drop 1 s) ≡ got n []
-    → entry (get_elem? (expr_kinds ed) (byte_w s 9)) (drop 10 s) ≡ got n.kind []
+    → entry (slice_get (expr_kinds ed) (byte_w s 9)) (drop 10 s) ≡ got n.kind []
 unfolding span_and_kind triple pair one and_then
 span_kind ed s long n e =
     let a = sized_four.reads s 1 (omega arith) in
@@ -44,7 +47,7 @@ span_kind ed s long n e =
 pub record HeadIs (s : List ℕ) (i : ℕ) (q : Query) : Type 0 where
   pub room : i + 2 ≤ length s
   pub head : q.head ≡ half_w s i
-  pub body : Fill s (i + 2) q.body
+  pub body : Fill (drop (i + 2) s) 0 q.body
 
 pub head_is : (s : List ℕ) (i : ℕ) (q : Query) → i ≤ length s → head_and_body (drop i s) ≡ got q [] → HeadIs s i q
 unfolding head_and_body pair one and_then
@@ -66,12 +69,19 @@ head_is s i q l e = cases (ltb (length s) (i + 2)) short whole_head
         record {
           room = room;
           head = ap (λ y. y.head) o.2;
-          body = subst (Fill s (i + 2)) (sym (ap (λ y. y.body) o.2)) (statements_are s (i + 2) room o.0 [] o.1).0;
+          body = subst (Fill (drop (i + 2) s) 0) (sym (ap (λ y. y.body) o.2)) (statements_are (drop (i + 2) s) 0 (omega arith) o.0 [] o.1).0;
         }
 
-module _ (ed : Edition) (s : List ℕ) (nd : Node) (long : 10 ≤ length s) (is : frame_of ed Frame.node (drop 1 s) ≡ some (a_node nd)) where
+module _ (ed : Edition) (s : List ℕ) (nd : Node) (long : 10 ≤ length s) (is : frame_of ed Frame.node (drop 1 s) ≡ Some (a_node nd)) where
+  -- the bytes from 10 on in pieces of n
+  abbrev pub cuts : ℕ → List (List ℕ)
+  cuts n = first_chunks n ((length s - 10) / n) (drop 10 s)
+
+  cut_first : (n : ℕ) → 2 ≤ n → (k : ℕ) → map (λ p. half_w p 0) (first_chunks n k (drop 10 s)) ≡ items_at (half_w s) n 10 k
+  cut_first n h k = cut_items half_w n (λ s i. half_cut n 0 s i (omega arith) ∙ ap (half_w s) (add-zero i)) s 10 k
+
   -- the reader that the byte chooses made the kind
-  chosen : entry (get_elem? (expr_kinds ed) (byte_w s 9)) (drop 10 s) ≡ got nd.kind []
+  chosen : entry (slice_get (expr_kinds ed) (byte_w s 9)) (drop 10 s) ≡ got nd.kind []
   unfolding frame_of frame one
   chosen =
       let m = one_made a_node (span_and_kind ed (drop 1 s)) (a_node nd) [] (whole_made (and_then (span_and_kind ed (drop 1 s)) (λ n. got (a_node n))) (a_node nd) is) in
@@ -79,7 +89,7 @@ module _ (ed : Edition) (s : List ℕ) (nd : Node) (long : 10 ≤ length s) (is 
       span_kind ed s long nd (m.1 ∙ ap (λ n. got n []) same)
 
   -- the shapes that hold nothing but themselves
-  nothing_refs : (k : ExprKind) → entry (some (nothing k)) (drop 10 s) ≡ got nd.kind [] → expr_names k ≡ [] → expr_nodes k ≡ [] → RefsAre nd.kind [] []
+  nothing_refs : (k : ExprKind) → entry (Some (nothing k)) (drop 10 s) ≡ got nd.kind [] → expr_names k ≡ [] → expr_nodes k ≡ [] → RefsAre nd.kind [] []
   unfolding entry nothing
   nothing_refs k e x n = let q : k ≡ nd.kind = cc in record { names = rw q at x; nodes = rw q at n }
 
@@ -87,14 +97,14 @@ module _ (ed : Edition) (s : List ℕ) (nd : Node) (long : 10 ≤ length s) (is 
   unfolding entry expr_kinds expr_names expr_nodes
   plain_refs h = go (byte_w s 9) refl h chosen
     where
-      go : (b : ℕ) → byte_w s 9 ≡ b → b < 3 → entry (get_elem? (expr_kinds ed) (byte_w s 9)) (drop 10 s) ≡ got nd.kind [] → RefsAre nd.kind [] []
+      go : (b : ℕ) → byte_w s 9 ≡ b → b < 3 → entry (slice_get (expr_kinds ed) (byte_w s 9)) (drop 10 s) ≡ got nd.kind [] → RefsAre nd.kind [] []
       go zero e l c = nothing_refs (ExprKind.Lit Literal.Int) (rw e at c) refl refl
       go (suc zero) e l c = nothing_refs (ExprKind.Lit Literal.Str) (rw e at c) refl refl
       go (suc (suc zero)) e l c = nothing_refs (ExprKind.Lit Literal.Bytes) (rw e at c) refl refl
       go (suc (suc (suc n))) e l c = absurd (omega arith)
 
   -- a reader of one size made the kind
-  sized_kind : {r : Reader ExprKind} {n : ℕ} {v : List ℕ → ℕ → ExprKind} (b : ℕ) → Sized r n v → byte_w s 9 ≡ b → get_elem? (expr_kinds ed) b ≡ some r
+  sized_kind : {r : Reader ExprKind} {n : ℕ} {v : List ℕ → ℕ → ExprKind} (b : ℕ) → Sized r n v → byte_w s 9 ≡ b → slice_get (expr_kinds ed) b ≡ Some r
       → nd.kind ≡ v s 10
   unfolding entry
   sized_kind {r} b p e q =
@@ -153,37 +163,46 @@ module _ (ed : Edition) (s : List ℕ) (nd : Node) (long : 10 ≤ length s) (is 
       let z : ◌≡◌ {A = ℕ} 0 1 = cc in
       omega arith
 
-  pub record_refs : byte_w s 9 ≡ 8 → (k : ℕ) × (10 + k * 4 ≡ length s) × RefsAre nd.kind (items_at (half_w s) 4 10 k) (items_at (λ i. half_w s (i + 2)) 4 10 k)
+  pub record_refs : byte_w s 9 ≡ 8 → RefsAre nd.kind (map (λ p. half_w p 0) (cuts 4)) (map (λ p. half_w p 2) (cuts 4))
   unfolding entry expr_kinds one expr_names expr_nodes field_names field_values
   record_refs e =
       let x : one ExprKind.Record (many field) (drop 10 s) ≡ got nd.kind [] = rw (e, entry) at chosen in
       let o = one_made ExprKind.Record (many field (drop 10 s)) nd.kind [] x in
-      let f = fields_are s 10 o.0 [] long o.1 in (
-        length o.0,
-        f.fit,
-        record {
-          names = ap expr_names o.2 ∙ ap (map (λ a. a.name)) f.are ∙ map_items (λ a. a.name) (field_at s) 4 10 (length o.0);
-          nodes = ap expr_nodes o.2 ∙ ap (map (λ a. a.value)) f.are ∙ map_items (λ a. a.value) (field_at s) 4 10 (length o.0);
-        },
-      )
+      let f = fields_are s 10 o.0 [] long o.1 in
+      let n : length o.0 ≡ (length s - 10) / 4 = omega (arith, f.fit) in
+      record {
+        names = ap expr_names o.2 ∙ ap (map (λ a. a.name)) f.are ∙ map_items (λ a. a.name) (field_at s) 4 10 (length o.0)
+            ∙ ap (items_at (half_w s) 4 10) n ∙ sym (cut_first 4 (omega arith) ((length s - 10) / 4));
+        nodes = ap expr_nodes o.2 ∙ ap (map (λ a. a.value)) f.are ∙ map_items (λ a. a.value) (field_at s) 4 10 (length o.0)
+            ∙ ap (items_at (λ i. half_w s (i + 2)) 4 10) n
+            ∙ sym (cut_items (λ s i. half_w s (i + 2)) 4 (λ s i. half_cut 4 2 s i (omega arith)) s 10 ((length s - 10) / 4));
+      }
 
-  pub branches_refs : byte_w s 9 ≡ 11 → (k : ℕ) × (10 + k * 2 ≡ length s) × RefsAre nd.kind [] (items_at (half_w s) 2 10 k)
+  pub branches_refs : byte_w s 9 ≡ 11 → RefsAre nd.kind [] (map (λ p. half_w p 0) (cuts 2))
   unfolding entry expr_kinds one expr_names expr_nodes
   branches_refs e =
       let x : one ExprKind.Disjunction (many two) (drop 10 s) ≡ got nd.kind [] = rw (e, entry) at chosen in
       let o = one_made ExprKind.Disjunction (many two (drop 10 s)) nd.kind [] x in
       let f = numbers_are s 10 o.0 [] long o.1 in
-      (length o.0, f.fit, record { names = ap expr_names o.2; nodes = ap expr_nodes o.2 ∙ f.are })
+      let n : length o.0 ≡ (length s - 10) / 2 = omega (arith, f.fit) in
+      record {
+        names = ap expr_names o.2;
+        nodes = ap expr_nodes o.2 ∙ f.are ∙ ap (items_at (half_w s) 2 10) n ∙ sym (cut_first 2 (omega arith) ((length s - 10) / 2));
+      }
 
-  pub operands_refs : byte_w s 9 ≡ 14 → (k : ℕ) × (10 + k * 2 ≡ length s) × RefsAre nd.kind [] (items_at (half_w s) 2 10 k)
+  pub operands_refs : byte_w s 9 ≡ 14 → RefsAre nd.kind [] (map (λ p. half_w p 0) (cuts 2))
   unfolding entry expr_kinds one expr_names expr_nodes
   operands_refs e =
       let x : one ExprKind.Arith (many two) (drop 10 s) ≡ got nd.kind [] = rw (e, entry) at chosen in
       let o = one_made ExprKind.Arith (many two (drop 10 s)) nd.kind [] x in
       let f = numbers_are s 10 o.0 [] long o.1 in
-      (length o.0, f.fit, record { names = ap expr_names o.2; nodes = ap expr_nodes o.2 ∙ f.are })
+      let n : length o.0 ≡ (length s - 10) / 2 = omega (arith, f.fit) in
+      record {
+        names = ap expr_names o.2;
+        nodes = ap expr_nodes o.2 ∙ f.are ∙ ap (items_at (half_w s) 2 10) n ∙ sym (cut_first 2 (omega arith) ((length s - 10) / 2));
+      }
 
-  pub subquery_refs : byte_w s 9 ≡ 12 → (stmts : List QueryStmt) × Fill s 12 stmts × RefsAre nd.kind [] (half_w s 10 ∷ stmt_nodes stmts)
+  pub subquery_refs : byte_w s 9 ≡ 12 → (stmts : List QueryStmt) × Fill (drop 12 s) 0 stmts × RefsAre nd.kind [] (half_w s 10 ∷ stmt_nodes stmts)
   unfolding entry expr_kinds one expr_names expr_nodes query_nodes
   subquery_refs e =
       let x : one ExprKind.Subquery head_and_body (drop 10 s) ≡ got nd.kind [] = rw (e, entry) at chosen in

@@ -1,4 +1,5 @@
--- A word that is written leaves every region that it does not lie in; and what holds of each element of a list and of one more holds of the longer list.
+-- A word that is written leaves every region that it does not lie in; and what holds of each element of a list and of
+-- one more holds of the longer list.
 use mathlib.Core.Bool.{Bool, true, false}
 use mathlib.Core.List.{List, [], ◌∷◌, ◌++◌}
 use mathlib.Core.Path.{◌≡◌, refl, sym, subst, ◌∙◌}

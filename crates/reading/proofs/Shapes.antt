@@ -1,5 +1,5 @@
--- One more type. The older ones read other words and rows; a new record or union has a new row, which is that of the words
--- written for its parts, and these name earlier types.
+-- One more type. The older ones read other words and rows; a new record or union has a new row, which is that of the
+-- words written for its parts, and these name earlier types.
 use mathlib.Core.List.{List, [], ◌∷◌, ◌++◌, map}
 use mathlib.Core.Path.{◌≡◌, refl, sym, subst, ◌∙◌}
 use Prim.Native.Nat.{ℕ, zero, suc, ◌+◌, ◌*◌, ◌/◌, ◌%◌, ◌<◌, ◌≤◌}
@@ -19,10 +19,18 @@ use Rattle.meaning.specs.Frame.{Alternative, TypeShape, a_leaf, a_record, a_unio
 use Rattle.meaning.specs.References.{field_values, shape_types}
 use Rattle.meaning.specs.SoFar.{type_at, field_row, alternative_row, ty_of}
 use Rattle.meaning.specs.All.{Below}
-use Rattle.reading.specs.Parts.{field_word, alternative_words}
 use Rattle.reading.specs.Held.{words_of, part_type, IsOf, TypesHeld}
 use Rattle.reading.proofs.Regions.{WordsAt, words_head, words_tail, snoc}
 use Rattle.reading.proofs.Kept.{first_is, count_is, field_is}
+
+-- ---- The words of parts
+
+abbrev pub field_word : Field → ℕ
+field_word f = f.name * 256 + f.value
+
+abbrev pub alternative_words : List Alternative → List ℕ
+alternative_words [] = []
+alternative_words (a ∷ alts) = a.discriminant ∷ (a.name * 256 + a.type) ∷ alternative_words alts
 
 -- ---- A type's first word without the number of parts, and its second, where it has none
 

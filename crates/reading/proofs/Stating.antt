@@ -1,10 +1,16 @@
--- The loop over statements: the nodes of the statements passed are there and marked, and the statements left fill the line.
+-- The loop over statements: the nodes of the statements passed are there and marked, and the statements left fill the
+-- line.
 use mathlib.Core.Bool.{Bool, true, false}
 use mathlib.Core.List.{List, [], ◌∷◌, ◌++◌, append_assoc, append-nil}
-use mathlib.Core.Path.{◌≡◌, refl, sym, ap, ◌∙◌}
-use Prim.Native.Nat.{ℕ, zero, suc, ◌+◌, ◌<◌, ◌≤◌}
+use mathlib.Core.Path.{◌≡◌, refl, sym, ap, subst, ◌∙◌}
+use Prim.Native.Nat.{ℕ, zero, suc, ◌+◌, ◌-◌, ◌<◌, ◌≤◌, min}
 use native.Mathlib.Omega.{arith}
-use lib.ListN.{length}
+use lib.ListN.{length, get_or, take, drop, length-drop}
+use lib.Seq.{get_or-drop, take_all}
+use native.Mathlib.Nat.{add-zero}
+use Rattle.std.proofs.lemmas.List.{drop-drop}
+use Rattle.std.proofs.lemmas.Bool.Decides.{nat_tests}
+use Rattle.std.specs.Ordering.{ord_min, nat_cmp}
 use Rattle.meaning.specs.Syntax.{QueryStmt}
 use Rattle.meaning.specs.References.{stmt_nodes}
 use Rattle.frames.specs.Promises.{byte_w, half_w, size_w}
@@ -64,28 +70,29 @@ pub record Left (s w₀ : List ℕ) (names nodes : ℕ) (all : List ℕ) (at : �
   pub is : all ≡ done ++ stmt_nodes rest
   pub so_far : Refers w₀ names [] nodes done w true
 
-pub record Stating (s w₀ : List ℕ) (from nodes at : ℕ) (w : List ℕ) : Type 0 where
-  pub to : (names : ℕ) (stmts : List QueryStmt) → Fill s from stmts → Left s w₀ names nodes (stmt_nodes stmts) at w
+pub record Stating (s w₀ : List ℕ) (nodes at : ℕ) (w : List ℕ) : Type 0 where
+  pub to : (names : ℕ) (stmts : List QueryStmt) → Fill s 0 stmts → Left s w₀ names nodes (stmt_nodes stmts) at w
 
-pub state_start : (s w : List ℕ) (from nodes : ℕ) → Stating s w from nodes from w
-state_start s w from nodes = record { to = λ names stmts f. record { done = []; rest = stmts; fill = f; is = refl; so_far = refers_none names nodes w } }
+pub state_start : (s w : List ℕ) (nodes : ℕ) → Stating s w nodes 0 w
+state_start s w nodes = record { to = λ names stmts f. record { done = []; rest = stmts; fill = f; is = refl; so_far = refers_none names nodes w } }
 
 -- The next statement.
 record Opens (s : List ℕ) (at : ℕ) (all done : List ℕ) : Type 0 where
   more : List QueryStmt
   size : 0 < size_w (byte_w s at)
+  fits : at + size_w (byte_w s at) ≤ length s
   fill : Fill s (at + size_w (byte_w s at)) more
   is : all ≡ done ++ stmt_nodes (statement_at s at ∷ more)
 
 opens : (s : List ℕ) (at : ℕ) (all done : List ℕ) (rest : List QueryStmt) → at < length s → Fill s at rest → all ≡ done ++ stmt_nodes rest → Opens s at all done
 opens s at all done [] l (end e) q = absurd (omega arith)
-opens s at all done (x ∷ xs) l (then p h f) q = record { more = xs; size = p; fill = f; is = q }
+opens s at all done (x ∷ xs) l (then p h f) q = record { more = xs; size = p; fits = h; fill = f; is = q }
 
-module _ {s w₀ : List ℕ} {from nodes at : ℕ} {w : List ℕ} (t : Stating s w₀ from nodes at w) (l : at < length s) where
+module _ {s w₀ : List ℕ} {nodes at : ℕ} {w : List ℕ} (t : Stating s w₀ nodes at w) (l : at < length s) where
   -- a failure after some of the next statement's nodes is the failure of all
   fails_with : (ns : List ℕ) (v : List ℕ) → ((names : ℕ) → Refers w names [] nodes ns v false)
       → ((xs : List QueryStmt) → 0 < size_w (byte_w s at) → (more : List ℕ) × (stmt_nodes (statement_at s at ∷ xs) ≡ ns ++ more))
-      → NamesStatements s w₀ from nodes v false
+      → NamesStatements s w₀ nodes v false
   fails_with ns v r first = record {
     is = λ names stmts f.
         let g = t.to names stmts f in
@@ -95,14 +102,14 @@ module _ {s w₀ : List ℕ} {from nodes at : ℕ} {w : List ℕ} (t : Stating s
         rw all (refers_stop names nodes (refers_then names nodes g.so_far (r names)) [] m.0);
   }
 
-  pub state_no_first : (v : List ℕ) → NamesNode w (half_w s (at + 1)) nodes v false → NamesStatements s w₀ from nodes v false
+  pub state_no_first : (v : List ℕ) → NamesNode w (half_w s (at + 1)) nodes v false → NamesStatements s w₀ nodes v false
   state_no_first v n = fails_with (half_w s (at + 1) ∷ []) v n.is (λ xs h. first_node (byte_w s at) (half_w s (at + 1)) (half_w s (at + 3)) xs h)
 
-  -- the walk goes on after the statement's nodes
-  goes_with : (ns : List ℕ) (v : List ℕ) (step : ℕ) → ((names : ℕ) → Refers w names [] nodes ns v true)
+  -- the walk goes on after the statement's nodes, as far as there are bytes
+  goes_with : (ns : List ℕ) (v : List ℕ) (step to : ℕ) → (at + step ≤ length s → to ≡ at + step) → ((names : ℕ) → Refers w names [] nodes ns v true)
       → ((xs : List QueryStmt) → 0 < size_w (byte_w s at) → (size_w (byte_w s at) ≡ step) × (stmt_nodes (statement_at s at ∷ xs) ≡ ns ++ stmt_nodes xs))
-      → Stating s w₀ from nodes (at + step) v
-  goes_with ns v step r all = record {
+      → Stating s w₀ nodes to v
+  goes_with ns v step to on r all = record {
     to = λ names stmts f.
         let g = t.to names stmts f in
         let o = opens s at (stmt_nodes stmts) g.done g.rest l g.fill g.is in
@@ -110,31 +117,32 @@ module _ {s w₀ : List ℕ} {from nodes at : ℕ} {w : List ℕ} (t : Stating s
         record {
           done = g.done ++ ns;
           rest = o.more;
-          fill = rw m.0 at o.fill;
+          fill = subst (λ i. Fill s i o.more) (ap (λ n. at + n) m.0 ∙ sym (on (subst (λ n. at + n ≤ length s) m.0 o.fits))) o.fill;
           is = o.is ∙ ap (λ x. g.done ++ x) m.1 ∙ sym (append_assoc g.done ns (stmt_nodes o.more));
           so_far = refers_then names nodes g.so_far (r names);
         };
   }
 
-  pub state_one : (v : List ℕ) → 1 ≤ byte_w s at → byte_w s at < 3 → NamesNode w (half_w s (at + 1)) nodes v true → Stating s w₀ from nodes (at + 3) v
-  state_one v a b n = goes_with (half_w s (at + 1) ∷ []) v 3 n.is
+  pub state_one : (v : List ℕ) → 1 ≤ byte_w s at → byte_w s at < 3 → NamesNode w (half_w s (at + 1)) nodes v true → (to : ℕ) → (at + 3 ≤ length s → to ≡ at + 3)
+      → Stating s w₀ nodes to v
+  state_one v a b n to on = goes_with (half_w s (at + 1) ∷ []) v 3 to on n.is
       (λ xs h. (size_one (byte_w s at) a b, nodes_one (byte_w s at) (half_w s (at + 1)) (half_w s (at + 3)) xs a b))
 
   module _ (a : byte_w s at ≡ 1 → ⊥) (b : byte_w s at ≡ 2 → ⊥) (v : List ℕ) (n : NamesNode w (half_w s (at + 1)) nodes v true) (u : List ℕ) where
     both_nodes : (r : Bool) → NamesNode v (half_w s (at + 3)) nodes u r → (names : ℕ) → Refers w names [] nodes (half_w s (at + 1) ∷ half_w s (at + 3) ∷ []) u r
     both_nodes r m names = refers_then names nodes (n.is names) (m.is names)
 
-    pub state_no_second : NamesNode v (half_w s (at + 3)) nodes u false → NamesStatements s w₀ from nodes u false
+    pub state_no_second : NamesNode v (half_w s (at + 3)) nodes u false → NamesStatements s w₀ nodes u false
     state_no_second m = fails_with (half_w s (at + 1) ∷ half_w s (at + 3) ∷ []) u (both_nodes false m)
         (λ xs h. (stmt_nodes xs, nodes_two (byte_w s at) (half_w s (at + 1)) (half_w s (at + 3)) xs a b h))
 
-    pub state_two : NamesNode v (half_w s (at + 3)) nodes u true → Stating s w₀ from nodes (at + 5) u
-    state_two m = goes_with (half_w s (at + 1) ∷ half_w s (at + 3) ∷ []) u 5 (both_nodes true m)
+    pub state_two : NamesNode v (half_w s (at + 3)) nodes u true → (to : ℕ) → (at + 5 ≤ length s → to ≡ at + 5) → Stating s w₀ nodes to u
+    state_two m to on = goes_with (half_w s (at + 1) ∷ half_w s (at + 3) ∷ []) u 5 to on (both_nodes true m)
         (λ xs h. (size_two (byte_w s at) a b h, nodes_two (byte_w s at) (half_w s (at + 1)) (half_w s (at + 3)) xs a b h))
 
-pub state_end : {s w₀ : List ℕ} {from nodes at : ℕ} {w : List ℕ} → Stating s w₀ from nodes at w → length s ≤ at → NamesStatements s w₀ from nodes w true
+pub state_end : {s w₀ : List ℕ} {nodes at : ℕ} {w : List ℕ} → Stating s w₀ nodes at w → length s ≤ at → NamesStatements s w₀ nodes w true
 unfolding stmt_nodes
-state_end {s} {w₀} {from} {nodes} {at} {w} t l = record { is = λ names stmts f. go names (t.to names stmts f) }
+state_end {s} {w₀} {nodes} {at} {w} t l = record { is = λ names stmts f. go names (t.to names stmts f) }
   where
     nothing : (rest : List QueryStmt) → Fill s at rest → rest ≡ []
     nothing [] (end e) = refl
@@ -142,3 +150,61 @@ state_end {s} {w₀} {from} {nodes} {at} {w} t l = record { is = λ names stmts 
 
     go : (names : ℕ) {all : List ℕ} → Left s w₀ names nodes all at w → Refers w₀ names [] nodes all w true
     go names g = rw (g.is ∙ ap (λ r. g.done ++ stmt_nodes r) (nothing g.rest g.fill) ∙ append-nil g.done) g.so_far
+
+-- ---- The bytes that are left
+
+pub least : (a b : ℕ) → ord_min nat_cmp a b ≡ min a b
+least a b = grind (arith, nat_tests)
+
+-- After so many bytes these are left.
+pub record Rest (s : List ℕ) (at : ℕ) (rest : List ℕ) : Type 0 where
+  pub is : rest ≡ drop at s
+  pub within : at ≤ length s
+
+module _ {s rest : List ℕ} {at : ℕ} (r : Rest s at rest) where
+  pub rest_byte : (i : ℕ) → byte_w rest i ≡ byte_w s (at + i)
+  rest_byte i = ap (λ l. get_or l i 0) r.is ∙ get_or-drop at s i 0
+
+  pub rest_half : (i : ℕ) → half_w rest i ≡ half_w s (at + i)
+  unfolding half_w
+  rest_half i = let z : at + (i + 1) ≡ at + i + 1 = omega arith in rw (rest_byte i, rest_byte (i + 1), z)
+
+  pub rest_left : length rest ≡ length s - at
+  rest_left = ap length r.is ∙ length-drop at s
+
+  -- n bytes on, or as many as there are
+  pub rest_on : (n m : ℕ) → m ≡ min n (length rest) → Rest s (at + m) (take (length rest - m) (drop m rest))
+  rest_on n m e = record {
+    is = take_all (length rest - m) (drop m rest) (omega (arith, length-drop m rest)) ∙ ap (drop m) r.is ∙ drop-drop m at s;
+    within = omega (arith, rest_left, r.within);
+  }
+
+  pub as_far : (n m : ℕ) → m ≡ min n (length rest) → at + n ≤ length s → at + m ≡ at + n
+  as_far n m e h = omega (arith, rest_left)
+
+  module _ {w₀ w : List ℕ} {nodes : ℕ} (t : Stating s w₀ nodes at w) (l : 0 < length rest) where
+    there : at < length s
+    there = omega (arith, rest_left)
+
+    tag : byte_w rest 0 ≡ byte_w s at
+    tag = rest_byte 0 ∙ ap (byte_w s) (add-zero at)
+
+    pub rest_no_first : (v : List ℕ) → NamesNode w (half_w rest 1) nodes v false → NamesStatements s w₀ nodes v false
+    rest_no_first v n = state_no_first t there v (rw (rest_half 1) at n)
+
+    pub rest_one : (v : List ℕ) → 1 ≤ byte_w rest 0 → byte_w rest 0 < 3 → NamesNode w (half_w rest 1) nodes v true → (m : ℕ) → m ≡ min 3 (length rest)
+        → Stating s w₀ nodes (at + m) v
+    rest_one v a b n m e = state_one t there v (rw tag at a) (rw tag at b) (rw (rest_half 1) at n) (at + m) (as_far 3 m e)
+
+    module _ (a : byte_w rest 0 ≡ 1 → ⊥) (b : byte_w rest 0 ≡ 2 → ⊥) (v : List ℕ) (n : NamesNode w (half_w rest 1) nodes v true) (u : List ℕ) where
+      pub rest_no_second : NamesNode v (half_w rest 3) nodes u false → NamesStatements s w₀ nodes u false
+      rest_no_second o = state_no_second t there (rw tag at a) (rw tag at b) v (rw (rest_half 1) at n) u (rw (rest_half 3) at o)
+
+      pub rest_two : NamesNode v (half_w rest 3) nodes u true → (m : ℕ) → m ≡ min 5 (length rest) → Stating s w₀ nodes (at + m) u
+      rest_two o m e = state_two t there (rw tag at a) (rw tag at b) v (rw (rest_half 1) at n) u (rw (rest_half 3) at o) (at + m) (as_far 5 m e)
+
+  pub rest_end : {w₀ w : List ℕ} {nodes : ℕ} → Stating s w₀ nodes at w → length rest < 1 → NamesStatements s w₀ nodes w true
+  rest_end t l = state_end t (omega (arith, rest_left))
+
+pub rest_start : (s : List ℕ) → Rest s 0 s
+rest_start s = record { is = refl; within = omega arith }

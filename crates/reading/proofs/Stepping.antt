@@ -1,9 +1,10 @@
--- How a line's step follows from the first condition that holds of it, and what a kind that may come says of the lines before.
+-- How a line's step follows from the first condition that holds of it, and what a kind that may come says of the lines
+-- before.
 use mathlib.Core.Bool.{true, false}
 use mathlib.Core.List.{List}
-use mathlib.Core.Option.{Option, none, some}
-use mathlib.Core.Path.{◌≡◌, refl, sym, subst, ◌∙◌}
+use mathlib.Core.Path.{◌≡◌, refl, sym, ap, subst, ◌∙◌}
 use Prim.Native.Nat.{ℕ, ◌<◌}
+use native.Mathlib.Omega.{arith}
 use lib.ListN.{length}
 use borrow.Author.Tests.{leb-false}
 use Rattle.cells.specs.Stands.{Rows}
@@ -14,22 +15,32 @@ use Rattle.meaning.specs.Conditions.{max_names, max_types, max_predicates, max_n
 use Rattle.meaning.proofs.Tests.{clash}
 use Rattle.reading.specs.declared.Refusal.{Refusal}
 use Rattle.work.specs.declared.Counters.{Counters}
-use Rattle.reading.specs.declared.Step.TheVariants.{On, Off}
 use Rattle.reading.specs.Held.{Held}
 use Rattle.reading.specs.Promises.{refusal, Steps}
 use Rattle.meaning.specs.Frame.{Edition}
+use Rattle.std.specs.Option.{ok_or}
+use Rattle.std.specs.Prelude.{Err, None, Ok, Option, Result, Some}
 
-module _ (ed : Edition) (f : List ℕ) (next : ℕ) (w : List ℕ) (kind : ℕ) (so : SoFar) where
-  pub refuses : (e : Refusal) (o : Option Refused.Refusal) → o ≡ some (refusal e) → Steps ed f next w kind so (Off e) o
-  refuses e o q = subst (Steps ed f next w kind so (Off e)) (sym q) (e, refl, refl)
+module _ (ed : Edition) (f : List ℕ) (next : ℕ) (w : List ℕ) (kind : Option Kind) (so : SoFar) where
+  pub refuses : (e : Refusal) (o : Option Refused.Refusal) → o ≡ Some (refusal e) → Steps ed f next w kind so (Err e) o
+  refuses e o q = subst (Steps ed f next w kind so (Err e)) (sym q) (e, refl, refl)
 
-  pub goes_on : (c : Counters) (T : Rows) (o : Option Refused.Refusal) → o ≡ none → Held ed f next w T c kind so → Steps ed f next w kind so (On c) o
-  goes_on c T o q h = subst (Steps ed f next w kind so (On c)) (sym q) (c, refl, (T, h))
+  pub goes_on : (c : Counters) (T : Rows) (o : Option Refused.Refusal) → o ≡ None → Held ed f next w T c kind so → Steps ed f next w kind so (Ok c) o
+  goes_on c T o q h = subst (Steps ed f next w kind so (Ok c)) (sym q) (c, refl, (T, h))
+
+-- What `ok_or` and a failure say, or a success.
+pub no_value : {A : Type 0} (o : Option A) (e x : Refusal) → ◌≡◌ {A = Result A Refusal} (Err x) (ok_or o e) → (x ≡ e) × (o ≡ None)
+no_value None e x q = (cc, refl)
+no_value (Some a) e x q = let z : ◌≡◌ {A = ℕ} 0 1 = cc in absurd (omega arith)
+
+pub the_value : {A : Type 0} (o : Option A) (e : Refusal) (a : A) → ◌≡◌ {A = Result A Refusal} (Ok a) (ok_or o e) → o ≡ Some a
+the_value None e a q = let z : ◌≡◌ {A = ℕ} 0 1 = cc in absurd (omega arith)
+the_value (Some b) e a q = let z : a ≡ b = cc in ap Some (sym z)
 
 -- A kind that may not come first comes after another.
-pub begun : (p : Option Kind) (k : Kind) → may_stand p k ≡ true → may_stand none k ≡ false → (j : Kind) × (p ≡ some j)
-begun none k e f = clash (sym e ∙ f)
-begun (some j) k e f = (j, refl)
+pub begun : (p : Option Kind) (k : Kind) → may_stand p k ≡ true → may_stand None k ≡ false → (j : Kind) × (p ≡ Some j)
+begun None k e f = clash (sym e ∙ f)
+begun (Some j) k e f = (j, refl)
 
 module _ (so : SoFar) where
   pub names_room : is_full so name ≡ false → length so.names < 256

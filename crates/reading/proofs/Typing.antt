@@ -1,20 +1,24 @@
--- A type line: its shape byte says what its frame is, by places of the line; the frame is refused by its references or keys, or one more
--- type is held.
+-- A type line: its shape byte says what its frame is, by places of the line; the frame is refused by its references or
+-- keys, or one more type is held.
 use mathlib.Core.Bool.{Bool, true, false, not, ◌||◌}
 use mathlib.Core.List.{List, [], ◌∷◌, map}
-use mathlib.Core.Option.{Option, none, some}
 use mathlib.Core.Path.{◌≡◌, refl, sym, ap, subst, ◌∙◌}
 use Prim.Native.Nat.{ℕ, zero, suc, ◌+◌, ◌-◌, ◌*◌, ◌/◌, ◌≤◌}
+use native.Mathlib.Nat.{add-zero, zero-mul}
 use native.Mathlib.Omega.{arith}
 use lib.Dec.{ltb}
-use lib.ListN.{length, drop, set, get_elem?, length-map}
-use lib.Seq.{sets}
+use lib.ListN.{length, take, drop, set, length-drop}
+use lib.Seq.{sets, take_all}
 use borrow.Author.Tests.{ltb-true, ltb-false, not-false}
 use Rattle.text.specs.Utf8.{both}
 use Rattle.text.proofs.Every.{both_right}
 use Rattle.unification.specs.Ty.{Leaf, Int, String, Bytes, Fact}
 use Rattle.work.specs.Layout.{TYPES, FIELDS}
-use Rattle.cells.specs.Stands.{Rows}
+use Rattle.cells.specs.declared.Kind.{Kind}
+use Rattle.cells.specs.declared.Kind.TheVariants.{Fields, Alternatives}
+use Rattle.cells.specs.Stands.{Rows, tag_of, part_words}
+use Rattle.std.specs.Simd.{first_chunks}
+use Rattle.std.proofs.lemmas.List.{drop-drop}
 use Rattle.meaning.specs.Syntax.{Field}
 use Rattle.meaning.specs.Refusal as Refused
 use Rattle.meaning.specs.Frame as Frame
@@ -24,22 +28,24 @@ use Rattle.meaning.specs.References.{field_names, field_values, shape_names, sha
 use Rattle.meaning.specs.SoFar.{SoFar, add, frames}
 use Rattle.meaning.specs.Conditions.{any_of, all_below, again, refers_earlier, refers_badly, conditions, first_of}
 use Rattle.meaning.proofs.Tests.{cases, below_all}
-use Rattle.frames.specs.Promises.{reference_w, byte_w, half_w, type_shape}
+use Rattle.frames.specs.Promises.{reference_w, byte_w, half_w, full_w, type_shape}
 use Rattle.frames.specs.Items.{items_at, field_at, alternative_at}
 use Rattle.frames.proofs.Readers.{sized_reference, Sized, sized_one, Items, fields_are, alternatives_are}
 use Rattle.frames.proofs.Statements.{choice_at}
-use Rattle.reading.specs.declared.Refusal.TheVariants as Refusal
 use Rattle.work.specs.declared.Counters.{Counters}
-use Rattle.reading.specs.declared.Step.{Step}
-use Rattle.reading.specs.declared.Step.TheVariants.{On, Off}
 use Rattle.reading.specs.Held.{Held}
-use Rattle.reading.specs.Parts.{field_word, alternative_words, type_w, key_w, PartsEarlier, KeysDistinct, PutsFields, PutsAlternatives}
+use Rattle.reading.specs.Parts.{size_of, shape_of, type_w, key_w, names_of, types_of, words_of}
+use Rattle.reading.specs.Parts as Parts
 use Rattle.reading.specs.Promises.{with_type, Line, Comes, Steps, TakesAnywhere, AddsType, TakesType}
-use Rattle.reading.proofs.Shapes.{leaf_tag, leaf_payload, shape_words, shape_head, shape_second, shape_row, with_row, alternative_words_lem}
+use Rattle.reading.proofs.Shapes.{field_word, alternative_words, leaf_tag, leaf_payload, shape_words, shape_head, shape_second, shape_row, with_row}
+use Rattle.reading.proofs.Cuts.{half_cut, full_cut, cut_items, length_cuts}
+use Rattle.reading.proofs.Walks.{earlier}
 use Rattle.reading.proofs.Lines.{type_held}
 use Rattle.reading.proofs.Order.{first_bad, first_repeated, first_none}
 use Rattle.reading.proofs.Stepping.{refuses, goes_on, begun, types_room}
 use Rattle.meaning.specs.Frame.{Edition}
+use Rattle.std.specs.Prelude.{Err, None, Ok, Option, Result, Some, slice_get}
+use Rattle.reading.specs.declared.Refusal.{Refusal}
 
 -- ---- Items said otherwise
 
@@ -57,20 +63,27 @@ sized_got {n = n} p s i a t l e = cases (ltb (length s) (i + n))
 
 -- ---- What the shape byte says
 
--- The parts of a shape, of one size, fill the line from byte 2 on.
-pub record PartsAre (s : List ℕ) (size : ℕ) (t : TypeShape) : Type 0 where
+-- So many parts of one kind, cut from the line from byte 2 on.
+abbrev pub cut : Kind → ℕ → List ℕ → List (List ℕ)
+cut k n s = first_chunks (size_of k) n (drop 2 s)
+
+-- The parts of a shape fill the line, and make what is written for it.
+pub record PartsAre (s : List ℕ) (k : Kind) (t : TypeShape) : Type 0 where
   pub count : ℕ
-  pub fit : 2 + count * size ≡ length s
-  pub names : shape_names t ≡ items_at (half_w s) size 2 count
-  pub types : shape_types t ≡ items_at (type_w s size) size 2 count
-  pub keys : shape_keys t ≡ items_at (key_w s size) size 2 count
+  pub fit : 2 + count * size_of k ≡ length s
+  pub names : shape_names t ≡ names_of (cut k count s)
+  pub types : shape_types t ≡ types_of k (cut k count s)
+  pub keys : shape_keys t ≡ Parts.keys_of k (cut k count s)
+  pub words : shape_words t ≡ words_of k (cut k count s)
+  pub head : shape_head t ≡ count * 16 + tag_of k
+  pub second : (n : ℕ) → shape_second n t ≡ n
 
 pub one_made : {A B : Type 0} (make : A → B) (g : Got A) (b : B) (t : List ℕ) → and_then g (λ a. got (make a)) ≡ got b t → (a : A) × (g ≡ got a t) × (b ≡ make a)
 unfolding and_then
 one_made make (got a u) b t e = (a, cc, cc)
 one_made make fails b t e = let z : ◌≡◌ {A = ℕ} 0 1 = cc in absurd (omega arith)
 
-pub whole_made : {A : Type 0} (g : Got A) (a : A) → whole g ≡ some a → g ≡ got a []
+pub whole_made : {A : Type 0} (g : Got A) (a : A) → whole g ≡ Some a → g ≡ got a []
 unfolding whole
 whole_made (got a []) b e = cc
 whole_made (got a (c ∷ t)) b e = let z : ◌≡◌ {A = ℕ} 0 1 = cc in absurd (omega arith)
@@ -78,17 +91,17 @@ whole_made fails b e = let z : ◌≡◌ {A = ℕ} 0 1 = cc in absurd (omega ari
 
 module _ (ed : Edition) (so : SoFar) (s : List ℕ) (fr : Frame) (long : 2 ≤ length s) (k : Comes ed so Frame.schema_type s fr) where
   -- the reader that the byte chooses made the shape
-  chosen : (t : TypeShape) × (entry (get_elem? (type_shapes ed) (byte_w s 1)) (drop 2 s) ≡ got t []) × (fr ≡ a_type t)
+  chosen : (t : TypeShape) × (entry (slice_get (type_shapes ed) (byte_w s 1)) (drop 2 s) ≡ got t []) × (fr ≡ a_type t)
   unfolding frame_of frame one
   chosen =
       let o = one_made a_type (type_shape ed (drop 1 s)) fr [] (whole_made (and_then (type_shape ed (drop 1 s)) (λ t. got (a_type t))) fr k.is) in
       (o.0, sym (choice_at (type_shapes ed) s 1 (omega arith)) ∙ o.1, o.2)
 
-  pub leaf_is : (p : Leaf) (n : ℕ) → byte_w s 1 ≡ n → get_elem? (type_shapes ed) n ≡ some (nothing (a_leaf p)) → fr ≡ a_type (a_leaf p)
+  pub leaf_is : (p : Leaf) (n : ℕ) → byte_w s 1 ≡ n → slice_get (type_shapes ed) n ≡ Some (nothing (a_leaf p)) → fr ≡ a_type (a_leaf p)
   unfolding entry nothing
   leaf_is p n e q =
       let c = chosen in
-      let x : entry (some (nothing (a_leaf p))) (drop 2 s) ≡ got c.0 [] = rw (e, q) at c.1 in
+      let x : entry (Some (nothing (a_leaf p))) (drop 2 s) ≡ got c.0 [] = rw (e, q) at c.1 in
       c.2 ∙ ap a_type (cc x)
 
   pub fact_is : byte_w s 1 ≡ 3 → fr ≡ a_type (a_leaf (Fact (reference_w ed s 2)))
@@ -114,24 +127,62 @@ module _ (ed : Edition) (so : SoFar) (s : List ℕ) (fr : Frame) (long : 2 ≤ l
       let o = one_made a_union (many alternative (drop 2 s)) c.0 [] x in
       (o.0, c.2 ∙ ap a_type o.2, alternatives_are s 2 o.0 [] long o.1)
 
-fields_parts : (s : List ℕ) (fs : List Field) → Items (field_at s) 4 s 2 fs [] → PartsAre s 4 (a_record fs)
-unfolding shape_names shape_types shape_keys field_names field_values type_w key_w
+cut_names : (k : Kind) (s : List ℕ) (n : ℕ) → names_of (cut k n s) ≡ items_at (half_w s) (size_of k) 2 n
+cut_names Fields s n = cut_items half_w 4 (λ s i. half_cut 4 0 s i (omega arith) ∙ ap (half_w s) (add-zero i)) s 2 n
+cut_names Alternatives s n = cut_items half_w 8 (λ s i. half_cut 8 0 s i (omega arith) ∙ ap (half_w s) (add-zero i)) s 2 n
+
+cut_types : (k : Kind) (s : List ℕ) (n : ℕ) → types_of k (cut k n s) ≡ items_at (type_w k s) (size_of k) 2 n
+cut_types Fields s n = cut_items (type_w Fields) 4 (λ s i. half_cut 4 2 s i (omega arith)) s 2 n
+cut_types Alternatives s n = cut_items (type_w Alternatives) 8 (λ s i. half_cut 8 6 s i (omega arith)) s 2 n
+
+cut_keys : (k : Kind) (s : List ℕ) (n : ℕ) → Parts.keys_of k (cut k n s) ≡ items_at (key_w k s) (size_of k) 2 n
+cut_keys Fields s n = cut_items (key_w Fields) 4 (λ s i. half_cut 4 0 s i (omega arith) ∙ ap (half_w s) (add-zero i)) s 2 n
+cut_keys Alternatives s n = cut_items (key_w Alternatives) 8 (λ s i. full_cut 8 2 s i (omega arith)) s 2 n
+
+-- the words of parts, wherever they stand
+field_words : (s : List ℕ) (i n : ℕ) → words_of Fields (first_chunks 4 n (drop i s)) ≡ map field_word (items_at (field_at s) 4 i n)
+unfolding items_at
+field_words s i zero = refl
+field_words s i (suc n) =
+    let a = half_cut 4 0 s i (omega arith) in
+    let b = half_cut 4 2 s i (omega arith) in
+    rw (a, b, add-zero i, drop-drop 4 i s) (ap (λ l. field_word (field_at s i) ∷ l) (field_words s (i + 4) n))
+
+alternatives_words : (s : List ℕ) (i n : ℕ) → words_of Alternatives (first_chunks 8 n (drop i s)) ≡ alternative_words (items_at (alternative_at s) 8 i n)
+unfolding items_at
+alternatives_words s i zero = refl
+alternatives_words s i (suc n) =
+    let a = half_cut 8 0 s i (omega arith) in
+    let b = half_cut 8 6 s i (omega arith) in
+    let d = full_cut 8 2 s i (omega arith) in
+    rw (a, b, d, add-zero i, drop-drop 8 i s)
+    (ap (λ l. full_w s (i + 2) ∷ (half_w s i * 256 + half_w s (i + 6)) ∷ l) (alternatives_words s (i + 8) n))
+
+fields_parts : (s : List ℕ) (fs : List Field) → Items (field_at s) 4 s 2 fs [] → PartsAre s Fields (a_record fs)
+unfolding shape_names shape_types shape_keys field_names field_values
 fields_parts s fs h = record {
   count = length fs;
   fit = h.fit;
-  names = ap (map (λ f. f.name)) h.are ∙ map_items (λ f. f.name) (field_at s) 4 2 (length fs);
-  types = ap (map (λ f. f.value)) h.are ∙ map_items (λ f. f.value) (field_at s) 4 2 (length fs);
-  keys = ap (map (λ f. f.name)) h.are ∙ map_items (λ f. f.name) (field_at s) 4 2 (length fs);
+  names = ap (map (λ f. f.name)) h.are ∙ map_items (λ f. f.name) (field_at s) 4 2 (length fs) ∙ sym (cut_names Fields s (length fs));
+  types = ap (map (λ f. f.value)) h.are ∙ map_items (λ f. f.value) (field_at s) 4 2 (length fs) ∙ sym (cut_types Fields s (length fs));
+  keys = ap (map (λ f. f.name)) h.are ∙ map_items (λ f. f.name) (field_at s) 4 2 (length fs) ∙ sym (cut_keys Fields s (length fs));
+  words = ap (map field_word) h.are ∙ sym (field_words s 2 (length fs));
+  head = refl;
+  second = λ n. refl;
 }
 
-alternatives_parts : (s : List ℕ) (alts : List Alternative) → Items (alternative_at s) 8 s 2 alts [] → PartsAre s 8 (a_union alts)
-unfolding shape_names shape_types shape_keys type_w key_w
+alternatives_parts : (s : List ℕ) (alts : List Alternative) → Items (alternative_at s) 8 s 2 alts [] → PartsAre s Alternatives (a_union alts)
+unfolding shape_names shape_types shape_keys
 alternatives_parts s alts h = record {
   count = length alts;
   fit = h.fit;
-  names = ap (map (λ a. a.name)) h.are ∙ map_items (λ a. a.name) (alternative_at s) 8 2 (length alts);
-  types = ap (map (λ a. a.type)) h.are ∙ map_items (λ a. a.type) (alternative_at s) 8 2 (length alts);
-  keys = ap (map (λ a. a.discriminant)) h.are ∙ map_items (λ a. a.discriminant) (alternative_at s) 8 2 (length alts);
+  names = ap (map (λ a. a.name)) h.are ∙ map_items (λ a. a.name) (alternative_at s) 8 2 (length alts) ∙ sym (cut_names Alternatives s (length alts));
+  types = ap (map (λ a. a.type)) h.are ∙ map_items (λ a. a.type) (alternative_at s) 8 2 (length alts) ∙ sym (cut_types Alternatives s (length alts));
+  keys = ap (map (λ a. a.discriminant)) h.are ∙ map_items (λ a. a.discriminant) (alternative_at s) 8 2 (length alts)
+      ∙ sym (cut_keys Alternatives s (length alts));
+  words = ap alternative_words h.are ∙ sym (alternatives_words s 2 (length alts));
+  head = refl;
+  second = λ n. refl;
 }
 
 -- ---- References and keys of a type
@@ -151,7 +202,7 @@ unfolding refers_badly refers_earlier name_refs type_refs node_refs all_below ag
 type_refers so t = or_none (not (both (all_below (length so.names) (shape_names t)) (both (all_below (length so.types) (shape_types t)) true))) ∙ ap
     (λ b. not (both (all_below (length so.names) (shape_names t)) b)) (both_all (all_below (length so.types) (shape_types t)))
 
-module _ (ed : Edition) {f : List ℕ} {at next : ℕ} {s w : List ℕ} {T : Rows} {c : Counters} {previous : ℕ} {so : SoFar} {fr : Frame}
+module _ (ed : Edition) {f : List ℕ} {at next : ℕ} {s w : List ℕ} {T : Rows} {c : Counters} {previous : Option Frame.Kind} {so : SoFar} {fr : Frame}
     (h : Held ed f at w T c previous so) (l : Line f at next s) (k : Comes ed so Frame.schema_type s fr) (t : TypeShape) (is : fr ≡ a_type t) where
   as_type : (o : Option Refused.Refusal) → first_of conditions so (frames (a_type t)) ≡ o → first_of conditions so (frames fr) ≡ o
   as_type o e = subst (λ x. first_of conditions so (frames x) ≡ o) (sym is) e
@@ -159,47 +210,41 @@ module _ (ed : Edition) {f : List ℕ} {at next : ℕ} {s w : List ℕ} {T : Row
   -- nothing holds of it
   type_goes : (w' : List ℕ) → refers_badly so (a_type t) ≡ false → again [] (shape_keys t) ≡ false → 8 * (c.fields + length (shape_words t)) ≤ next
       → w' ≡ set (set (sets w (FIELDS + c.fields) (shape_words t)) (TYPES + 2 * c.types) (shape_head t)) (TYPES + 2 * c.types + 1) (shape_second c.fields t)
-      → Steps ed f next w' 2 (add so fr) (On (with_type c (length (shape_words t)))) (first_of conditions so (frames fr))
-  unfolding frame_kind texts_of any_of keys_of may_stand kind_byte
+      → Steps ed f next w' (Some Frame.schema_type) (add so fr) (Ok (with_type c (length (shape_words t)))) (first_of conditions so (frames fr))
+  unfolding frame_kind texts_of any_of keys_of may_stand
   type_goes w' r q fits e =
       let b = begun so.previous Frame.schema_type k.placed refl in
       let there : all_below (length so.types) (shape_types t) ≡ true = both_right (all_below (length so.names) (shape_names t))
       (all_below (length so.types) (shape_types t)) (not-false _ (sym (type_refers so t) ∙ r)) in
-      goes_on ed f next w' 2 (add so fr) (with_type c (length (shape_words t))) (with_row T (length so.types) (shape_row so.types t)) _
-      (as_type none (first_none so (a_type t) k.placed k.room k.turn refl refl r q))
+      goes_on ed f next w' (Some Frame.schema_type) (add so fr) (with_type c (length (shape_words t))) (with_row T (length so.types) (shape_row so.types t)) _
+      (as_type None (first_none so (a_type t) k.placed k.room k.turn refl refl r q))
       (rw (is, e) (type_held ed h next (omega (arith, l.on)) l.within t b.0 k.placed b.1 (types_room so k.room)
       (below_all (length so.types) (shape_types t) there) fits))
 
-  module _ (size : ℕ) (p : PartsAre s size t) where
-    earlier_is : (r : Bool) → PartsEarlier s size c.names c.types r → refers_badly so (a_type t) ≡ not r
-    earlier_is r e =
-        let q : both (all_below (length so.names) (shape_names t)) (all_below (length so.types) (shape_types t)) ≡ r = rw
-        (p.names, p.types, ← h.names.count, ← h.types.count) (sym (e.is p.count p.fit)) in
-        type_refers so t ∙ ap not q
+  module _ (kind : Kind) (p : PartsAre s kind t) where
+    abbrev parts : List (List ℕ)
+    parts = cut kind p.count s
 
-    keys_are : (r : Bool) → KeysDistinct s size r → again [] (shape_keys t) ≡ not r
-    keys_are r e = rw p.keys (twice (again [] (items_at (key_w s size) size 2 p.count)) ∙ ap not (sym (e.is p.count p.fit)))
-      where
-        twice : (b : Bool) → b ≡ not (not b)
-        twice true = refl
-        twice false = refl
+    earlier_is : refers_badly so (a_type t) ≡ not (earlier kind c.names c.types parts)
+    earlier_is = type_refers so t ∙ ap not (rw (p.names, p.types, ← h.names.count, ← h.types.count))
 
-    type_bad : PartsEarlier s size c.names c.types false → Steps ed f next w 2 (add so fr) (Off Refusal.BadReference) (first_of conditions so (frames fr))
+    type_bad : earlier kind c.names c.types parts ≡ false
+        → Steps ed f next w (Some Frame.schema_type) (add so fr) (Err Refusal.BadReference) (first_of conditions so (frames fr))
     unfolding frame_kind texts_of any_of
-    type_bad e = refuses ed f next w 2 (add so fr) Refusal.BadReference _
-        (as_type _ (first_bad so (a_type t) k.placed k.room k.turn refl refl (earlier_is false e)))
+    type_bad e = refuses ed f next w (Some Frame.schema_type) (add so fr) Refusal.BadReference _
+        (as_type _ (first_bad so (a_type t) k.placed k.room k.turn refl refl (earlier_is ∙ ap not e)))
 
-    type_repeats : PartsEarlier s size c.names c.types true → KeysDistinct s size false
-        → Steps ed f next w 2 (add so fr) (Off Refusal.RepeatedKey) (first_of conditions so (frames fr))
+    type_repeats : earlier kind c.names c.types parts ≡ true → again [] (Parts.keys_of kind parts) ≡ true
+        → Steps ed f next w (Some Frame.schema_type) (add so fr) (Err Refusal.RepeatedKey) (first_of conditions so (frames fr))
     unfolding frame_kind texts_of any_of keys_of
-    type_repeats e d = refuses ed f next w 2 (add so fr) Refusal.RepeatedKey _
-        (as_type _ (first_repeated so (a_type t) k.placed k.room k.turn refl refl (earlier_is true e) (keys_are false d)))
+    type_repeats e d = refuses ed f next w (Some Frame.schema_type) (add so fr) Refusal.RepeatedKey _
+        (as_type _ (first_repeated so (a_type t) k.placed k.room k.turn refl refl (earlier_is ∙ ap not e) (rw p.keys d)))
 
 -- ---- The ends of a type line
 
 -- One more type whose words are these.
-module _ (ed : Edition) (s w : List ℕ) (c : Counters) (w' : List ℕ) (r : Step) where
-  pub leaf_takes : (p : Leaf) (shape : ℕ) → get_elem? (type_shapes ed) shape ≡ some (nothing (a_leaf p)) → 2 ≤ length s
+module _ (ed : Edition) (s w : List ℕ) (c : Counters) (w' : List ℕ) (r : Result Counters Refusal) where
+  pub leaf_takes : (p : Leaf) (shape : ℕ) → slice_get (type_shapes ed) shape ≡ Some (nothing (a_leaf p)) → 2 ≤ length s
       → AddsType w c (leaf_tag p) (leaf_payload p) 0 w' r → TakesType ed shape s w c w' r
   unfolding shape_keys again refers_badly refers_earlier name_refs type_refs node_refs shape_names shape_types all_below kind_byte
   leaf_takes p shape q long a = record {
@@ -219,87 +264,92 @@ module _ (ed : Edition) (s w : List ℕ) (c : Counters) (w' : List ℕ) (r : Ste
     };
   }
 
-module _ (ed : Edition) (s w : List ℕ) (c : Counters) (long : 2 ≤ length s) where
-  pub record_bad : PartsEarlier s 4 c.names c.types false → TakesType ed 4 s w c w (Off Refusal.BadReference)
-  unfolding kind_byte
-  record_bad e = record {
-    is = λ f at b. record {
-      is = λ next T previous so fr h l k. let x = record_is ed so s fr long k b in type_bad ed h l k (a_record x.0) x.1 4
-          (fields_parts s x.0 x.2) e;
-    };
-  }
+-- The pieces that the code cuts.
+pub cut_all : (kind : Kind) (s t : List ℕ) (size : ℕ) (parts : List (List ℕ)) → size ≡ size_of kind → t ≡ take (length s - 2) (drop 2 s)
+    → parts ≡ first_chunks size (length t / size) t → parts ≡ cut kind ((length s - 2) / size_of kind) s
+cut_all kind s t size parts z q e =
+    let w : t ≡ drop 2 s = q ∙ take_all (length s - 2) (drop 2 s) (omega (arith, length-drop 2 s)) in
+    e ∙ ap (λ n. first_chunks n (length t / n) t) z ∙ ap (λ l. first_chunks (size_of kind) (length l / size_of kind) l) w
+    ∙ ap (λ n. first_chunks (size_of kind) (n / size_of kind) (drop 2 s)) (length-drop 2 s)
 
-  pub record_repeats : PartsEarlier s 4 c.names c.types true → KeysDistinct s 4 false → TakesType ed 4 s w c w (Off Refusal.RepeatedKey)
-  unfolding kind_byte
-  record_repeats e d = record {
-    is = λ f at b. record {
-      is = λ next T previous so fr h l k. let x = record_is ed so s fr long k b in type_repeats ed h l k (a_record x.0) x.1 4
-          (fields_parts s x.0 x.2) e d;
-    };
-  }
+pub adds_as : {v v' : List ℕ} {c : Counters} {h h' p n n' : ℕ} {w' : List ℕ} {r : Result Counters Refusal} → v ≡ v' → h ≡ h' → n ≡ n'
+    → AddsType v c h p n w' r → AddsType v' c h' p n' w' r
+adds_as e q m a = rw (← e, ← q, ← m) a
 
-  pub record_takes : (v w' : List ℕ) (r : Step) (n : ℕ) → n ≡ (length s - 2) / 4 → PartsEarlier s 4 c.names c.types true → KeysDistinct s 4 true
-      → PutsFields s w c.fields v → AddsType v c (n * 16 + 5) c.fields n w' r → TakesType ed 4 s w c w' r
-  unfolding kind_byte
-  record_takes v w' r n m e d p a = record {
+-- What the parts of the line are, in so many pieces.
+shape_is : (ed : Edition) (so : SoFar) (s : List ℕ) (fr : Frame) → 2 ≤ length s → Comes ed so Frame.schema_type s fr → (kind : Kind) → byte_w s 1 ≡ shape_of kind
+    → (t : TypeShape) × (fr ≡ a_type t) × PartsAre s kind t
+shape_is ed so s fr long k Fields b = let x = record_is ed so s fr long k b in (a_record x.0, x.1, fields_parts s x.0 x.2)
+shape_is ed so s fr long k Alternatives b = let x = union_is ed so s fr long k b in (a_union x.0, x.1, alternatives_parts s x.0 x.2)
+
+words_long : (kind : Kind) (parts : List (List ℕ)) → length (words_of kind parts) ≡ length parts * part_words kind
+words_long kind [] = sym (zero-mul (part_words kind))
+words_long Fields (p ∷ parts) = omega (arith, words_long Fields parts)
+words_long Alternatives (p ∷ parts) = omega (arith, words_long Alternatives parts)
+
+room_for : (kind : Kind) (n fields at len next : ℕ) → 2 + n * size_of kind ≡ len → 8 * fields ≤ at → next ≡ at + 2 * len + 1
+    → 8 * (fields + n * part_words kind) ≤ next
+room_for Fields n fields at len next e h o = omega arith
+room_for Alternatives n fields at len next e h o = omega arith
+
+fit_count : (kind : Kind) (n len : ℕ) → 2 + n * size_of kind ≡ len → (len - 2) / size_of kind ≡ n
+fit_count Fields n len e = omega arith
+fit_count Alternatives n len e = omega arith
+
+module _ (ed : Edition) (s w : List ℕ) (c : Counters) (long : 2 ≤ length s) (kind : Kind) where
+  -- as many pieces as the line has
+  abbrev all : List (List ℕ)
+  all = cut kind ((length s - 2) / size_of kind) s
+
+  same_cut : (n : ℕ) → 2 + n * size_of kind ≡ length s → cut kind n s ≡ all
+  same_cut n e = ap (λ m. cut kind m s) (sym (fit_count kind n (length s) e))
+
+  pub parts_bad : earlier kind c.names c.types all ≡ false → TakesType ed (shape_of kind) s w c w (Err Refusal.BadReference)
+  parts_bad e = record {
     is = λ f at b. record {
       is = λ next T previous so fr h l k.
-          let x = record_is ed so s fr long k b in
-          let fs = x.0 in
-          let y = fields_parts s fs x.2 in
-          let fit = x.2.fit in
-          let count : n ≡ length fs = omega arith in
-          let len : length (map field_word fs) ≡ length fs = length-map fs field_word in
-          let words : v ≡ sets w (FIELDS + c.fields) (map field_word fs) = p.is (length fs) fit ∙ ap
-          (λ t. sets w (FIELDS + c.fields) (map field_word t)) (sym x.2.are) in
-          let q = type_goes ed h l k (a_record fs) x.1 w' (earlier_is ed h l k (a_record fs) x.1 4 y true e)
-          (keys_are ed h l k (a_record fs) x.1 4 y true d) (omega (arith, h.room, l.on)) (rw (words, count) at a.words) in
-          rw (a.step, count, ← len) q;
+          let x = shape_is ed so s fr long k kind b in
+          type_bad ed h l k x.0 x.1 kind x.2 (ap (earlier kind c.names c.types) (same_cut x.2.count x.2.fit) ∙ e);
     };
   }
 
-  pub union_bad : PartsEarlier s 8 c.names c.types false → TakesType ed 5 s w c w (Off Refusal.BadReference)
-  unfolding kind_byte
-  union_bad e = record {
-    is = λ f at b. record {
-      is = λ next T previous so fr h l k. let x = union_is ed so s fr long k b in type_bad ed h l k (a_union x.0) x.1 8
-          (alternatives_parts s x.0 x.2) e;
-    };
-  }
-
-  pub union_repeats : PartsEarlier s 8 c.names c.types true → KeysDistinct s 8 false → TakesType ed 5 s w c w (Off Refusal.RepeatedKey)
-  unfolding kind_byte
-  union_repeats e d = record {
-    is = λ f at b. record {
-      is = λ next T previous so fr h l k. let x = union_is ed so s fr long k b in type_repeats ed h l k (a_union x.0) x.1 8
-          (alternatives_parts s x.0 x.2) e d;
-    };
-  }
-
-  pub union_takes : (v w' : List ℕ) (r : Step) (n : ℕ) → n ≡ (length s - 2) / 8 → PartsEarlier s 8 c.names c.types true → KeysDistinct s 8 true
-      → PutsAlternatives s w c.fields v → AddsType v c (n * 16 + 6) c.fields (n * 2) w' r → TakesType ed 5 s w c w' r
-  unfolding kind_byte
-  union_takes v w' r n m e d p a = record {
+  pub parts_repeat : earlier kind c.names c.types all ≡ true → again [] (Parts.keys_of kind all) ≡ true
+      → TakesType ed (shape_of kind) s w c w (Err Refusal.RepeatedKey)
+  parts_repeat e d = record {
     is = λ f at b. record {
       is = λ next T previous so fr h l k.
-          let x = union_is ed so s fr long k b in
-          let alts = x.0 in
-          let y = alternatives_parts s alts x.2 in
-          let fit = x.2.fit in
-          let count : n ≡ length alts = omega arith in
-          let len = alternative_words_lem alts in
-          let twice : n * 2 ≡ length (alternative_words alts) = omega arith in
-          let words : v ≡ sets w (FIELDS + c.fields) (alternative_words alts) = p.is (length alts) fit ∙ ap
-          (λ t. sets w (FIELDS + c.fields) (alternative_words t)) (sym x.2.are) in
-          let q = type_goes ed h l k (a_union alts) x.1 w' (earlier_is ed h l k (a_union alts) x.1 8 y true e)
-          (keys_are ed h l k (a_union alts) x.1 8 y true d) (omega (arith, h.room, l.on)) (rw (words, count) at a.words) in
-          rw (a.step, twice) q;
+          let x = shape_is ed so s fr long k kind b in
+          let q = same_cut x.2.count x.2.fit in
+          type_repeats ed h l k x.0 x.1 kind x.2 (ap (earlier kind c.names c.types) q ∙ e) (ap (λ p. again [] (Parts.keys_of kind p)) q ∙ d);
+    };
+  }
+
+  pub parts_taken : earlier kind c.names c.types all ≡ true → again [] (Parts.keys_of kind all) ≡ false → (w' : List ℕ) (r : Result Counters Refusal) (n : ℕ)
+      → n ≡ (length s - 2) / size_of kind
+      → AddsType (sets w (FIELDS + c.fields) (words_of kind all)) c (n * 16 + tag_of kind) c.fields (n * part_words kind) w' r
+      → TakesType ed (shape_of kind) s w c w' r
+  parts_taken e d w' r n m a = record {
+    is = λ f at b. record {
+      is = λ next T previous so fr h l k.
+          let x = shape_is ed so s fr long k kind b in
+          let t = x.0 in
+          let p = x.2 in
+          let q = same_cut p.count p.fit in
+          let count : n ≡ p.count = m ∙ fit_count kind p.count (length s) p.fit in
+          let words : shape_words t ≡ words_of kind all = p.words ∙ ap (words_of kind) q in
+          let many : length (shape_words t) ≡ n * part_words kind = ap length p.words ∙ words_long kind (cut kind p.count s) ∙ ap
+          (λ m. m * part_words kind) (length_cuts (size_of kind) p.count (drop 2 s) ∙ sym count) in
+          let fits : 8 * (c.fields + length (shape_words t)) ≤ next = rw (many, count) (room_for kind p.count c.fields at (length s) next p.fit h.room l.on) in
+          let head : shape_head t ≡ n * 16 + tag_of kind = rw count p.head in
+          rw (a.step, ← many)
+          (type_goes ed h l k t x.1 w' (earlier_is ed h l k t x.1 kind p ∙ ap not (ap (earlier kind c.names c.types) q ∙ e))
+          (rw (p.keys, q) d) fits (rw (words, head, p.second c.fields) a.words));
     };
   }
 
 -- ---- By the shape byte
 
-pub past_end : {A : Type 0} (l : List A) (n : ℕ) → length l ≤ n → get_elem? l n ≡ none
+pub past_end : {A : Type 0} (l : List A) (n : ℕ) → length l ≤ n → slice_get l n ≡ None
 past_end [] n h = refl
 past_end (a ∷ l) zero h = absurd (omega arith)
 past_end (a ∷ l) (suc n) h = past_end l n (omega arith)
@@ -312,7 +362,7 @@ no_shape ed so s fr long k h =
     let z : ◌≡◌ {A = ℕ} 0 1 = cc in
     omega arith
 
-pub other_takes : (ed : Edition) (s w : List ℕ) (c : Counters) (w' : List ℕ) (r : Step) → 2 ≤ length s → 5 ≤ byte_w s 1 → TakesType ed 5 s w c w' r
+pub other_takes : (ed : Edition) (s w : List ℕ) (c : Counters) (w' : List ℕ) (r : Result Counters Refusal) → 2 ≤ length s → 5 ≤ byte_w s 1 → TakesType ed 5 s w c w' r
     → TakesAnywhere ed Frame.schema_type s w c w' r
 other_takes ed s w c w' r long h t = record {
   is = λ f at. cases (ltb 5 (byte_w s 1))
@@ -320,18 +370,18 @@ other_takes ed s w c w' r long h t = record {
       (λ q. t.is f at (omega (arith, ltb-false 5 (byte_w s 1) q)));
 }
 
-pub shape_takes : (ed : Edition) (shape : ℕ) (s w : List ℕ) (c : Counters) (w' : List ℕ) (r : Step) → byte_w s 1 ≡ shape
+pub shape_takes : (ed : Edition) (shape : ℕ) (s w : List ℕ) (c : Counters) (w' : List ℕ) (r : Result Counters Refusal) → byte_w s 1 ≡ shape
     → TakesType ed shape s w c w' r → TakesAnywhere ed Frame.schema_type s w c w' r
 shape_takes ed shape s w c w' r e t = record { is = λ f at. t.is f at e }
 
-pub int_takes : (ed : Edition) (s w : List ℕ) (c : Counters) (w' : List ℕ) (r : Step) → 2 ≤ length s → AddsType w c 1 0 0 w' r → TakesType ed 0 s w c w' r
+pub int_takes : (ed : Edition) (s w : List ℕ) (c : Counters) (w' : List ℕ) (r : Result Counters Refusal) → 2 ≤ length s → AddsType w c 1 0 0 w' r → TakesType ed 0 s w c w' r
 unfolding type_shapes
 int_takes ed s w c w' r long a = leaf_takes ed s w c w' r Int 0 refl long a
 
-pub string_takes : (ed : Edition) (s w : List ℕ) (c : Counters) (w' : List ℕ) (r : Step) → 2 ≤ length s → AddsType w c 2 0 0 w' r → TakesType ed 1 s w c w' r
+pub string_takes : (ed : Edition) (s w : List ℕ) (c : Counters) (w' : List ℕ) (r : Result Counters Refusal) → 2 ≤ length s → AddsType w c 2 0 0 w' r → TakesType ed 1 s w c w' r
 unfolding type_shapes
 string_takes ed s w c w' r long a = leaf_takes ed s w c w' r String 1 refl long a
 
-pub bytes_takes : (ed : Edition) (s w : List ℕ) (c : Counters) (w' : List ℕ) (r : Step) → 2 ≤ length s → AddsType w c 3 0 0 w' r → TakesType ed 2 s w c w' r
+pub bytes_takes : (ed : Edition) (s w : List ℕ) (c : Counters) (w' : List ℕ) (r : Result Counters Refusal) → 2 ≤ length s → AddsType w c 3 0 0 w' r → TakesType ed 2 s w c w' r
 unfolding type_shapes
 bytes_takes ed s w c w' r long a = leaf_takes ed s w c w' r Bytes 2 refl long a

@@ -1,7 +1,6 @@
 -- What the work slice and the counters hold in the midst of reading: what has been read so far (`SoFar` of
 -- meaning/specs/SoFar.antt), kind by kind. `at` is where the next line starts.
-use Rattle.std.specs.Prelude.{Bool, true, false, List, [], ◌≡◌, ℕ, ◌+◌, ◌*◌, ◌%◌, ◌≤◌, ◌<◌, length, get_or}
-use Rattle.std.proofs.Math.Option.{Option, none, some}
+use Rattle.std.specs.Prelude.{Bool, true, false, List, [], ◌≡◌, ℕ, ◌+◌, ◌*◌, ◌%◌, ◌≤◌, ◌<◌, length, get_or, None, Option, Some}
 use Rattle.unification.specs.Ty as Tree
 use Rattle.work.specs.Layout.{NAMES, TYPES, NODES, FIELDS, MAX-DISTANCE, MAX-TERM}
 use Rattle.cells.specs.declared.Kind.{Kind}
@@ -17,25 +16,24 @@ use Rattle.meaning.specs.SoFar.{SoFar}
 use Rattle.meaning.specs.Conditions.{among, same_text}
 use Rattle.meaning.specs.File.{value_text, count_of}
 use Rattle.text.specs.Utf8.{characters}
-use Rattle.frames.specs.Promises.{number_of}
-use Rattle.tree.specs.Stands.{NameIs, NodeIn, PredicateIs, no_predicate, numbered}
+use Rattle.tree.specs.Stands.{NameIs, NodeIn, PredicateIs, no_predicate}
 use Rattle.work.specs.declared.Counters.{Counters}
 
 -- ---- Limits
 
 abbrev pub LimitsHeld : List ℕ → Option Frame.Kind → ℕ → ℕ → Type 0
-LimitsHeld w none d t = Unit {0}
-LimitsHeld w (some k) d t = (get_or w MAX-DISTANCE 0 ≡ d) × (get_or w MAX-TERM 0 ≡ t)
+LimitsHeld w None d t = Unit {0}
+LimitsHeld w (Some k) d t = (get_or w MAX-DISTANCE 0 ≡ d) × (get_or w MAX-TERM 0 ≡ t)
 
 -- ---- Names
 
 -- A name's word: where its line starts times 512, and the number of its characters.
-pub record NamesHeld (f w : List ℕ) (n value : ℕ) (names : List (List ℕ)) : Type 0 where
+pub record NamesHeld (f w : List ℕ) (n : ℕ) (value : Option ℕ) (names : List (List ℕ)) : Type 0 where
   pub count : n ≡ length names
   pub few : length names ≤ 256
   pub name : (i : ℕ) → i < length names → NameIs f w i (get_or names i [])
   pub characters : (i : ℕ) → i < length names → get_or w (NAMES + i) 0 % 512 ≡ count_of (characters (get_or names i []))
-  pub valued : value ≡ numbered (position (same_text value_text) names)
+  pub valued : value ≡ position (same_text value_text) names
 
 -- ---- Types
 
@@ -87,11 +85,11 @@ pub record Marked (w : List ℕ) (m : ℕ) (named : List ℕ) : Type 0 where
   pub later : (i : ℕ) → m ≤ i → among i named ≡ false
 
 -- ---- The whole
-pub record Held (e : Edition) (f : List ℕ) (at : ℕ) (w : List ℕ) (T : Rows) (c : Counters) (previous : ℕ) (so : SoFar) : Type 0 where
+pub record Held (e : Edition) (f : List ℕ) (at : ℕ) (w : List ℕ) (T : Rows) (c : Counters) (previous : Option Frame.Kind) (so : SoFar) : Type 0 where
   pub long : 16384 ≤ length w
   pub place : at ≤ length f
   pub small : length f ≤ 65536
-  pub kind : previous ≡ number_of so.previous
+  pub kind : previous ≡ so.previous
   -- each word of parts took eight digits
   pub room : 8 * c.fields ≤ at
   pub limits : LimitsHeld w so.previous so.max_distance so.max_term_chars

@@ -1,50 +1,46 @@
--- A type's parts, by places of the line: how they are read, what is written for them, and what the loops over them answer.
-use Rattle.std.specs.Prelude.{Bool, not, List, [], ◌∷◌, map, ◌≡◌, ℕ, ◌+◌, ◌*◌, eqb, length}
-use Rattle.std.proofs.lemmas.List.Edits.{sets}
-use Rattle.text.specs.Utf8.{both}
-use Rattle.work.specs.Layout.{FIELDS}
-use Rattle.cells.specs.Words.{pick}
-use Rattle.meaning.specs.Syntax.{Field}
-use Rattle.meaning.specs.Frame.{Alternative}
-use Rattle.meaning.specs.Conditions.{all_below, among, again}
+-- A type's parts, each by its bytes: a record's fields of 4, a union's alternatives of 8. What is read of them and what
+-- is written for them.
+use Rattle.std.specs.Prelude.{List, [], ◌∷◌, ◌++◌, map, ℕ, ◌+◌, ◌*◌}
+use Rattle.cells.specs.declared.Kind.{Kind}
+use Rattle.cells.specs.declared.Kind.TheVariants.{Fields, Alternatives}
 use Rattle.frames.specs.Promises.{half_w, full_w}
-use Rattle.frames.specs.Items.{items_at, field_at, alternative_at}
-use Rattle.reading.specs.declared.types.Part.{Part}
 
--- ---- Words
+-- how many bytes a part has, and the shape byte before the parts
+abbrev pub size_of : Kind → ℕ
+size_of Fields = 4
+size_of Alternatives = 8
 
-abbrev pub field_word : Field → ℕ
-field_word f = f.name * 256 + f.value
+abbrev pub shape_of : Kind → ℕ
+shape_of Fields = 4
+shape_of Alternatives = 5
 
-abbrev pub alternative_words : List Alternative → List ℕ
-alternative_words [] = []
-alternative_words (a ∷ alts) = a.discriminant ∷ (a.name * 256 + a.type) ∷ alternative_words alts
+-- ---- The part at a place
 
--- ---- Parts of a size from byte 2 to the line's end
-
--- the type at the end of the part at i: behind the name, or behind name and discriminant
-unfoldable pub type_w : List ℕ → ℕ → ℕ → ℕ
-type_w s size i = pick (eqb size 4) (half_w s (i + 2)) (half_w s (i + 6))
+-- the type, behind the name, or behind name and discriminant
+abbrev pub type_w : Kind → List ℕ → ℕ → ℕ
+type_w Fields s i = half_w s (i + 2)
+type_w Alternatives s i = half_w s (i + 6)
 
 -- what may not repeat
-unfoldable pub key_w : List ℕ → ℕ → ℕ → ℕ
-key_w s size i = pick (eqb size 4) (half_w s i) (full_w s (i + 2))
+abbrev pub key_w : Kind → List ℕ → ℕ → ℕ
+key_w Fields s i = half_w s i
+key_w Alternatives s i = full_w s (i + 2)
 
-pub record ReadsPart (s : List ℕ) (size i : ℕ) (r : Part) : Type 0 where
-  pub name : r.name ≡ half_w s i
-  pub ty : r.ty ≡ type_w s size i
+abbrev pub words_w : Kind → List ℕ → ℕ → List ℕ
+words_w Fields s i = (half_w s i * 256 + half_w s (i + 2)) ∷ []
+words_w Alternatives s i = full_w s (i + 2) ∷ (half_w s i * 256 + half_w s (i + 6)) ∷ []
 
-pub record PartsEarlier (s : List ℕ) (size names types : ℕ) (r : Bool) : Type 0 where
-  pub is : (k : ℕ) → 2 + k * size ≡ length s → r ≡ both (all_below names (items_at (half_w s) size 2 k)) (all_below types (items_at (type_w s size) size 2 k))
+-- ---- Parts, each from its first byte
 
-pub record KeyBefore (s : List ℕ) (size i : ℕ) (r : Bool) : Type 0 where
-  pub is : (k : ℕ) → 2 + k * size ≡ i → r ≡ among (key_w s size i) (items_at (key_w s size) size 2 k)
+abbrev pub names_of : List (List ℕ) → List ℕ
+names_of parts = map (λ p. half_w p 0) parts
 
-pub record KeysDistinct (s : List ℕ) (size : ℕ) (r : Bool) : Type 0 where
-  pub is : (k : ℕ) → 2 + k * size ≡ length s → r ≡ not (again [] (items_at (key_w s size) size 2 k))
+abbrev pub types_of : Kind → List (List ℕ) → List ℕ
+types_of k parts = map (λ p. type_w k p 0) parts
 
-pub record PutsFields (s w : List ℕ) (from : ℕ) (w' : List ℕ) : Type 0 where
-  pub is : (k : ℕ) → 2 + k * 4 ≡ length s → w' ≡ sets w (FIELDS + from) (map field_word (items_at (field_at s) 4 2 k))
+abbrev pub keys_of : Kind → List (List ℕ) → List ℕ
+keys_of k parts = map (λ p. key_w k p 0) parts
 
-pub record PutsAlternatives (s w : List ℕ) (from : ℕ) (w' : List ℕ) : Type 0 where
-  pub is : (k : ℕ) → 2 + k * 8 ≡ length s → w' ≡ sets w (FIELDS + from) (alternative_words (items_at (alternative_at s) 8 2 k))
+abbrev pub words_of : Kind → List (List ℕ) → List ℕ
+words_of k [] = []
+words_of k (p ∷ parts) = words_w k p 0 ++ words_of k parts

@@ -1,27 +1,24 @@
 -- What the functions of src/ promise.
-use Rattle.std.specs.Prelude.{Bool, true, false, List, [], ◌∷◌, ◌≡◌, ℕ, ◌+◌, ◌*◌, ◌/◌, ◌%◌, ◌<◌, ◌≤◌, leb, ltb, length, get_or, drop, set, replicate}
-use Rattle.std.proofs.Math.Option.{Option, none, some}
+use Rattle.std.specs.Prelude.{Bool, true, false, List, [], ◌∷◌, ◌≡◌, ℕ, ◌+◌, ◌*◌, ◌<◌, ◌≤◌, leb, ltb, length, get_or, take, drop, set, replicate, Err, None, Ok, Option, Result, Some}
 use Rattle.std.proofs.lemmas.List.Edits.{sets}
-use Rattle.work.specs.Layout.{NAME-COUNT, NAMES, TYPES, PREDICATES}
+use Rattle.work.specs.Layout.{NAME-COUNT, TYPES, PREDICATES}
 use Rattle.meaning.specs.Refusal as Refused
 use Rattle.meaning.specs.Frame as Frame
 use Rattle.meaning.specs.Frame.{Edition, may_stand, kind_byte, kind_of, frame_of}
 use Rattle.meaning.specs.SoFar.{SoFar, frames, said_by, add, after}
-use Rattle.meaning.specs.Conditions.{same_text, given, is_full, is_last_query_past, conditions, first_of}
-use Rattle.meaning.specs.File.{Reading, refused, described, reading_of, types_of, count_of}
+use Rattle.meaning.specs.Conditions.{given, is_full, is_last_query_past, conditions, first_of}
+use Rattle.meaning.specs.File.{Reading, refused, described, reading_of, types_of}
 use Rattle.meaning.specs.Outcome.{min_words}
 use Rattle.text.specs.Utf8.{characters}
 use Rattle.sigla_hex.specs.Digits.{line_at}
-use Rattle.frames.specs.Promises.{number_of}
+use Rattle.frames.specs.Promises.{kind_meant, known}
+use Rattle.frames.specs.declared.Kind.{Kind}
 use Rattle.cells.specs.CodeCalls.{Declares}
-use Rattle.cells.specs.Words.{pick}
 use Rattle.cells.specs.Stands.{Rows}
 use Rattle.reading.specs.declared.Refusal.{Refusal}
-use Rattle.reading.specs.declared.Read.{Read}
 use Rattle.work.specs.declared.Counters.{Counters}
-use Rattle.reading.specs.declared.Step.{Step}
 use Rattle.reading.specs.Held.{NamesHeld, Held}
-use Rattle.tree.specs.Stands.{SchemaStands}
+use Rattle.tree.specs.Stands.{SchemaStands, numbered}
 
 -- Document 01's refusals, as the definitions have them.
 abbrev pub refusal : Refusal → Refused.Refusal
@@ -45,7 +42,7 @@ refusal Refusal.OutsideTheRules = Refused.outside_the_rules
 
 -- ---- The counters after a line of each kind
 
-abbrev pub with_name : Counters → ℕ → Counters
+abbrev pub with_name : Counters → Option ℕ → Counters
 with_name c value = record { names = c.names + 1; types = c.types; predicates = c.predicates; nodes = c.nodes; fields = c.fields; value = value; queries = c.queries }
 
 abbrev pub with_type : Counters → ℕ → Counters
@@ -65,7 +62,7 @@ with_query c = record { names = c.names; types = c.types; predicates = c.predica
 
 -- The line at a place has these bytes, and the next one starts at `next`.
 pub record Line (f : List ℕ) (at next : ℕ) (s : List ℕ) : Type 0 where
-  pub is : line_at f at ≡ some s
+  pub is : line_at f at ≡ Some s
   pub on : next ≡ at + 2 * length s + 1
   pub within : next ≤ length f
   pub some : 0 < length s
@@ -81,117 +78,112 @@ pub record Comes (e : Edition) (so : SoFar) (k : Frame.Kind) (s : List ℕ) (fra
   pub room : is_full so k ≡ false
   pub turn : is_last_query_past so k ≡ false
   pub first : s ≡ kind_byte k ∷ drop 1 s
-  pub is : frame_of e k (drop 1 s) ≡ some frame
+  pub is : frame_of e k (drop 1 s) ≡ Some frame
 
 -- How a line ends by the first condition that holds of it, if any.
-abbrev pub Steps : (e : Edition) (f : List ℕ) (next : ℕ) (w' : List ℕ) (kind : ℕ) → SoFar → Step → Option Refused.Refusal → Type 0
-Steps e f next w' kind so r (some i) = (i' : Refusal) × (r ≡ Step.Off i') × (refusal i' ≡ i)
-Steps e f next w' kind so r none = (c' : Counters) × (r ≡ Step.On c') × ((T' : Rows) × Held e f next w' T' c' kind so)
+abbrev pub Steps : (e : Edition) (f : List ℕ) (next : ℕ) (w' : List ℕ) (kind : Option Frame.Kind) → SoFar → Result Counters Refusal → Option Refused.Refusal → Type 0
+Steps e f next w' kind so r (Some i) = (i' : Refusal) × (r ≡ Err i') × (refusal i' ≡ i)
+Steps e f next w' kind so r None = (c' : Counters) × (r ≡ Ok c') × ((T' : Rows) × Held e f next w' T' c' kind so)
 
-pub record Takes (e : Edition) (f : List ℕ) (at : ℕ) (k : Frame.Kind) (s w : List ℕ) (c : Counters) (w' : List ℕ) (r : Step) : Type 0 where
-  pub is : (next : ℕ) (T : Rows) (previous : ℕ) (so : SoFar) (frame : Frame.Frame) → Held e f at w T c previous so → Line f at next s → Comes e so k s frame
-      → Steps e f next w' (number_of (some k)) (add so frame) r (first_of conditions so (frames frame))
+pub record Takes (e : Edition) (f : List ℕ) (at : ℕ) (k : Frame.Kind) (s w : List ℕ) (c : Counters) (w' : List ℕ) (r : Result Counters Refusal) : Type 0 where
+  pub is : (next : ℕ) (T : Rows) (previous : Option Frame.Kind) (so : SoFar) (frame : Frame.Frame) → Held e f at w T c previous so → Line f at next s
+      → Comes e so k s frame → Steps e f next w' (Some k) (add so frame) r (first_of conditions so (frames frame))
 
 -- Wherever the line stands.
-pub record TakesAnywhere (e : Edition) (k : Frame.Kind) (s w : List ℕ) (c : Counters) (w' : List ℕ) (r : Step) : Type 0 where
+pub record TakesAnywhere (e : Edition) (k : Frame.Kind) (s w : List ℕ) (c : Counters) (w' : List ℕ) (r : Result Counters Refusal) : Type 0 where
   pub is : (f : List ℕ) (at : ℕ) → Takes e f at k s w c w' r
 
 -- At this place of whatever file.
-pub record TakesThere (e : Edition) (at : ℕ) (k : Frame.Kind) (s w : List ℕ) (c : Counters) (w' : List ℕ) (r : Step) : Type 0 where
+pub record TakesThere (e : Edition) (at : ℕ) (k : Frame.Kind) (s w : List ℕ) (c : Counters) (w' : List ℕ) (r : Result Counters Refusal) : Type 0 where
   pub is : (f : List ℕ) → Takes e f at k s w c w' r
 
 -- ---- Names
 
--- The bytes at i as one number.
-unfoldable pub four_at : List ℕ → ℕ → ℕ
-four_at f i = get_or f i 0 + 256 * get_or f (i + 1) 0 + 65536 * get_or f (i + 2) 0 + 16777216 * get_or f (i + 3) 0
+-- Where a place is told, t is not what s begins with. Nothing is said of others.
+pub record Unlike (s t : List ℕ) (r : Option ℕ) : Type 0 where
+  pub is : (i : ℕ) → r ≡ Some i → take (length t) s ≡ t → ⊥
 
-unfoldable pub eight_at : List ℕ → ℕ → ℕ
-eight_at f i = four_at f i + 4294967296 * four_at f (i + 4)
+-- The text of a name's line, by its characters.
+pub record NameLine (f : List ℕ) (at : ℕ) (bytes : List ℕ) (chars : ℕ) (s : List ℕ) : Type 0 where
+  pub line : line_at f at ≡ Some bytes
+  pub is : bytes ≡ 0x02 ∷ s
+  pub characters : characters s ≡ Some chars
 
--- Lines of at least n digits that were found to differ before that are not the same. Nothing is said of others.
-pub record Differ (f : List ℕ) (a b n r : ℕ) : Type 0 where
-  pub is : r < n → (s : List ℕ) → n ≤ 2 * length s → line_at f a ≡ some s → line_at f b ≡ some s → ⊥
-
-pub record SameLine (f : List ℕ) (a b : ℕ) (r : Bool) : Type 0 where
-  pub is : (s t : List ℕ) → line_at f a ≡ some s → line_at f b ≡ some t → r ≡ same_text s t
-
--- A text's line, by its characters and digits.
-pub record NameLine (f : List ℕ) (at chars digits : ℕ) (s : List ℕ) : Type 0 where
-  pub line : line_at f at ≡ some (0x02 ∷ s)
-  pub characters : characters s ≡ some chars
-  pub long : digits ≡ 2 * length (0x02 ∷ s)
-
-pub record SameName (f : List ℕ) (x at chars digits : ℕ) (r : Bool) : Type 0 where
-  pub is : (s t : List ℕ) → line_at f (x / 512) ≡ some (0x02 ∷ s) → x % 512 ≡ count_of (characters s) → NameLine f at chars digits t → r ≡ same_text s t
-
-pub record GivenBefore (f w : List ℕ) (n at chars digits : ℕ) (r : Bool) : Type 0 where
-  pub is : (value : ℕ) (names : List (List ℕ)) (s : List ℕ) → NamesHeld f w n value names → NameLine f at chars digits s → r ≡ given names s
-
-pub record AddsName (at chars : ℕ) (value : Bool) (w : List ℕ) (c : Counters) (w' : List ℕ) (r : Step) : Type 0 where
-  pub words : w' ≡ set w (NAMES + c.names) (at * 512 + chars)
-  pub step : r ≡ Step.On (with_name c (pick value (c.names + 1) c.value))
+pub record GivenBefore (f : List ℕ) (at : ℕ) (bytes w : List ℕ) (n chars : ℕ) (r : Bool) : Type 0 where
+  pub is : (value : Option ℕ) (names : List (List ℕ)) (s : List ℕ) → NamesHeld f w n value names → NameLine f at bytes chars s → r ≡ given names s
 
 -- ---- Types and predicates
 
-pub record AddsType (w : List ℕ) (c : Counters) (head payload n : ℕ) (w' : List ℕ) (r : Step) : Type 0 where
+pub record AddsType (w : List ℕ) (c : Counters) (head payload n : ℕ) (w' : List ℕ) (r : Result Counters Refusal) : Type 0 where
   pub words : w' ≡ set (set w (TYPES + 2 * c.types) head) (TYPES + 2 * c.types + 1) payload
-  pub step : r ≡ Step.On (with_type c n)
+  pub step : r ≡ Ok (with_type c n)
 
 -- A type line whose shape byte is this.
-pub record TakesType (e : Edition) (shape : ℕ) (s w : List ℕ) (c : Counters) (w' : List ℕ) (r : Step) : Type 0 where
+pub record TakesType (e : Edition) (shape : ℕ) (s w : List ℕ) (c : Counters) (w' : List ℕ) (r : Result Counters Refusal) : Type 0 where
   pub is : (f : List ℕ) (at : ℕ) → get_or s 1 0 ≡ shape → Takes e f at Frame.schema_type s w c w' r
 
-pub record AddsPredicate (w : List ℕ) (c : Counters) (entry : ℕ) (w' : List ℕ) (r : Step) : Type 0 where
+pub record AddsPredicate (w : List ℕ) (c : Counters) (entry : ℕ) (w' : List ℕ) (r : Result Counters Refusal) : Type 0 where
   pub words : w' ≡ set w (PREDICATES + c.predicates) entry
-  pub step : r ≡ Step.On (with_predicate c)
+  pub step : r ≡ Ok (with_predicate c)
 
 -- ---- Any line
 
 -- Whether one more of a kind is too many, by the counters.
-abbrev pub full_of : Counters → ℕ → Bool
-full_of c kind = get_or (false ∷ leb 256 c.names ∷ leb 256 c.types ∷ leb 128 c.predicates ∷ leb 512 c.nodes ∷ []) kind false
+abbrev pub full_of : Counters → Frame.Kind → Bool
+full_of c Frame.limits = false
+full_of c Frame.name = leb 256 c.names
+full_of c Frame.schema_type = leb 256 c.types
+full_of c Frame.predicate = leb 128 c.predicates
+full_of c Frame.node = leb 512 c.nodes
+full_of c Frame.query = false
 
 -- Whether one more query is too many, by the counters.
-abbrev pub past_of : Counters → ℕ → Bool
-past_of c kind = get_or (false ∷ false ∷ false ∷ false ∷ false ∷ leb 64 c.queries ∷ []) kind false
+abbrev pub past_of : Counters → Frame.Kind → Bool
+past_of c Frame.limits = false
+past_of c Frame.name = false
+past_of c Frame.schema_type = false
+past_of c Frame.predicate = false
+past_of c Frame.node = false
+past_of c Frame.query = leb 64 c.queries
 
 -- The line is refused by the first condition that holds of what it says, or that is added to what was read.
-pub record TakesLine (e : Edition) (f : List ℕ) (at : ℕ) (s w : List ℕ) (c : Counters) (previous kind : ℕ) (w' : List ℕ) (r : Step) : Type 0 where
-  pub is : (next : ℕ) (T : Rows) (so : SoFar) → Held e f at w T c previous so → Line f at next s → kind ≡ number_of (kind_of (get_or s 0 0))
-      → Steps e f next w' kind (after so (said_by e (some s))) r (first_of conditions so (said_by e (some s)))
+pub record TakesLine (e : Edition) (f : List ℕ) (at : ℕ) (s w : List ℕ) (c : Counters) (previous : Option Kind) (kind : Kind) (w' : List ℕ)
+    (r : Result Counters Refusal) : Type 0 where
+  pub is : (next : ℕ) (T : Rows) (so : SoFar) → Held e f at w T c (known previous) so → Line f at next s → Some (kind_meant kind) ≡ kind_of (get_or s 0 0)
+      → Steps e f next w' (Some (kind_meant kind)) (after so (said_by e (Some s))) r (first_of conditions so (said_by e (Some s)))
 
 -- ---- All lines
 
 -- The counts in the order of their words, and the words with these written.
 abbrev pub counts : Counters → List ℕ
-counts c = c.names ∷ c.types ∷ c.predicates ∷ c.nodes ∷ c.value ∷ []
+counts c = c.names ∷ c.types ∷ c.predicates ∷ c.nodes ∷ numbered c.value ∷ []
 
 abbrev pub counted : List ℕ → Counters → List ℕ
 counted w c = sets w NAME-COUNT (counts c)
 
--- Refused exactly as the definition says, or the schema and the names that the definition describes stand in the slice, and every type of
--- the file by its number.
-unfoldable pub Ends : Edition → List ℕ → List ℕ → Read → Reading → Type 0
-Ends e f w' r (refused i) = (i' : Refusal) × (r ≡ Read.Refused i') × (refusal i' ≡ i)
-Ends e f w' r (described d) = (r ≡ Read.Accepted) × (16384 ≤ length w') × ((T : Rows) × SchemaStands f w' T d.names d.schema × Declares w' T (types_of e f))
+-- Refused exactly as the definition says, or the schema and the names that the definition describes stand in the slice,
+-- and every type of the file by its number.
+unfoldable pub Ends : Edition → List ℕ → List ℕ → Result (Unit {0}) Refusal → Reading → Type 0
+Ends e f w' r (refused i) = (i' : Refusal) × (r ≡ Err i') × (refusal i' ≡ i)
+Ends e f w' r (described d) = (r ≡ Ok tt) × (16384 ≤ length w') × ((T : Rows) × SchemaStands f w' T d.names d.schema × Declares w' T (types_of e f))
 
-pub record TakesLines (e : Edition) (f w w' : List ℕ) (r : Read) : Type 0 where
+pub record TakesLines (e : Edition) (f w w' : List ℕ) (r : Result (Unit {0}) Refusal) : Type 0 where
   pub ends : Ends e f w' r (reading_of e f)
 
 -- ---- The file
 
--- Refusals 1 to 10 in document 01's order, with so many words lent: the part of `decide` (meaning/specs/Outcome.antt) before the check.
+-- Refusals 1 to 10 in document 01's order, with so many words lent: the part of `decide` (meaning/specs/Outcome.antt)
+-- before the check.
 unfoldable pub reading_in : Edition → List ℕ → ℕ → Reading
 unfolding reading_of min_words
 reading_in e f words = elim (ltb words min_words) [ true ↦ refused Refused.work_too_short | false ↦ reading_of e f ]
 
-pub record ReadsFile (e : Edition) (f w w' : List ℕ) (r : Read) : Type 0 where
+pub record ReadsFile (e : Edition) (f w w' : List ℕ) (r : Result (Unit {0}) Refusal) : Type 0 where
   pub ends : Ends e f w' r (reading_in e f (length w))
   pub long : length w' ≡ length w
 
 -- The same, with zeros throughout after a refusal.
-pub record Reads (e : Edition) (f w w' : List ℕ) (r : Read) : Type 0 where
+pub record Reads (e : Edition) (f w w' : List ℕ) (r : Result (Unit {0}) Refusal) : Type 0 where
   pub ends : Ends e f w' r (reading_in e f (length w))
   pub long : length w' ≡ length w
-  pub cleared : (i : Refusal) → r ≡ Read.Refused i → w' ≡ replicate (length w) 0
+  pub cleared : (i : Refusal) → r ≡ Err i → w' ≡ replicate (length w) 0

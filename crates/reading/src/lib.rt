@@ -1,16 +1,18 @@
 // Reading a file: its lines, and what they say, into the work slice; or the refusal that document 01 gives.
 #![tactic(auto)]
 
-ghost use Rattle.std.specs.Prelude.{◌≡◌, ℕ, ◌+◌, ◌<◌, ◌≤◌, length};
+ghost use Rattle.std.specs.Prelude.{◌≡◌, ℕ, ◌+◌, ◌*◌, ◌<◌, ◌≤◌, length, take, drop, IfSome};
 ghost use Rattle.meaning.specs.Frame.{limits};
-ghost use Rattle.frames.specs.Promises.{edition};
+ghost use Rattle.frames.specs.Promises.{kind_meant, edition_of};
 ghost use Rattle.reading.specs.Promises.{InEither, TakesAnywhere, full_of, past_of, TakesLine, counted, TakesLines, ReadsFile, Reads};
 
 mod names;
 mod nodes;
+mod parts;
 mod types;
 
-use frames::Decoded;
+pub use frames::Edition;
+use frames::Kind;
 pub use work::Counters;
 use work::put;
 
@@ -36,160 +38,152 @@ pub enum Refusal {
     OutsideTheRules,
 }
 
-// What a line did: the counters after it, or the refusal.
-#[derive(Drop)]
-pub enum Step {
-    On(Counters),
-    Off(Refusal),
+// A line of the file, decoded, and where it starts.
+#[derive(Clone, Copy)]
+struct Line<'a> {
+    file: &'a [u8],
+    at: usize,
+    bytes: &'a [u8],
+    ghost placed: { at < 65536 },
+    ghost some: { 0 < length bytes.now },
+    ghost short: { length bytes.now ≤ 512 },
+    ghost within: { at + 2 * length bytes.now < length file.now },
 }
 
-#[derive(Drop)]
-pub enum Read {
-    Accepted,
-    Refused(Refusal),
+impl<'a> Line<'a> {
+    // Its digits, and the end of the line.
+    fn digits(self) -> &'a [u8]
+        ensures { result.now ≡ take (2 * length self.entry.bytes.now + 1) (drop self.entry.at self.entry.file.now) }
+    {
+        &self.file[self.at..=self.at + 2 * self.bytes.len()]
+    }
 }
 
 // Whether one more of this kind is too many.
-fn is_full(c: Counters, kind: usize) -> bool
-    ensures { result ≡ full_of c kind }
+fn is_full(c: Counters, kind: Kind) -> bool
+    ensures { result ≡ full_of c (kind_meant kind) }
 {
     match kind {
-        1 => Counters::NAMES <= c.names,
-        2 => Counters::TYPES <= c.types,
-        3 => Counters::PREDICATES <= c.predicates,
-        4 => Counters::NODES <= c.nodes,
-        _ => false,
+        Kind::Name => Counters::NAMES <= c.names,
+        Kind::SchemaType => Counters::TYPES <= c.types,
+        Kind::Predicate => Counters::PREDICATES <= c.predicates,
+        Kind::Node => Counters::NODES <= c.nodes,
+        Kind::Limits | Kind::Query => false,
     }
 }
 
 // Whether one more query is too many.
-fn is_past(c: Counters, kind: usize) -> bool
-    ensures { result ≡ past_of c kind }
+fn is_past(c: Counters, kind: Kind) -> bool
+    ensures { result ≡ past_of c (kind_meant kind) }
 {
-    match kind {
-        5 => Counters::QUERIES <= c.queries,
-        _ => false,
-    }
+    kind == Kind::Query && Counters::QUERIES <= c.queries
 }
 
-fn take_limits(s: &[u8], w: &mut [u32], c: Counters) -> Step
+fn take_limits(s: &[u8], w: &mut [u32], c: Counters) -> Result<Counters, Refusal>
     ensures { InEither (λ e. TakesAnywhere e limits s.now w.old c w.new result) }
 {
     let limits = reader::read_limits(s, 1);
     put(w, work::MAX_DISTANCE, limits.distance);
     put(w, work::MAX_TERM, limits.term);
-    Step::On(c)
+    Ok(c)
 }
 
-// One line, decoded: the lowest refusal that applies to it, or the counters after it. Kinds count from 0 here; before the
-// first line the previous kind is 6, and an unknown kind is 6 too.
+// One line: the lowest refusal that applies to it, or the counters after it.
 fn take_line(
-    file: &[u8],
-    at: usize,
-    s: &[u8],
+    line: Line,
     w: &mut [u32],
     c: Counters,
-    previous: usize,
-    kind: usize,
-    wide: bool,
-) -> Step
-    requires { (at < 65536) × (0 < length s.now) × (length s.now ≤ 512) × (16384 ≤ length w.old) × (c.names ≤ 256) × (c.types ≤ 256) × (c.fields ≤ 8192) × (c.nodes ≤ 512) × (c.queries ≤ 64) }
-    ensures { TakesLine (edition wide) file.now at s.now w.old c previous kind w.new result }
+    previous: Option<Kind>,
+    kind: Kind,
+    edition: Edition,
+) -> Result<Counters, Refusal>
+    requires { (c.names ≤ 256) × (c.types ≤ 256) × (c.fields ≤ 8192) }
+    ensures { TakesLine (edition_of edition) line.entry.file.now line.entry.at line.entry.bytes.now w.old c previous kind w.new result }
 {
-    if !frames::may_stand(previous, kind) {
-        return Step::Off(Refusal::MisplacedKind);
+    if !frames::may_stand(previous, Some(kind)) {
+        return Err(Refusal::MisplacedKind);
     }
     if is_full(c, kind) {
-        return Step::Off(Refusal::TooMany);
+        return Err(Refusal::TooMany);
     }
     if is_past(c, kind) {
-        return Step::Off(Refusal::TooManyQueries);
+        return Err(Refusal::TooManyQueries);
     }
-    if !frames::is_frame(s, kind, wide) {
-        return Step::Off(Refusal::MalformedFrame);
+    let s = line.bytes;
+    if !frames::is_frame(s, Some(kind), edition) {
+        return Err(Refusal::MalformedFrame);
     }
     match kind {
-        0 => take_limits(s, w, c),
-        1 => names::take_name(file, at, s, w, c),
-        2 => types::take_type(s, w, c, wide),
-        3 => types::take_predicate(s, w, c),
-        4 => nodes::take_node(at, s, w, c, wide),
-        _ => nodes::take_query(at, s, w, c),
+        Kind::Limits => take_limits(s, w, c),
+        Kind::Name => names::take_name(line, w, c),
+        Kind::SchemaType => types::take_type(s, w, c, edition),
+        Kind::Predicate => types::take_predicate(s, w, c),
+        Kind::Node => nodes::take_node(line, w, c, edition),
+        Kind::Query => nodes::take_query(s, w, c),
     }
 }
 
 fn put_counts(w: &mut [u32], c: Counters)
+    requires { IfSome c.value (λ n. n < 256) }
     ensures { w.new ≡ counted w.old c }
 {
     put(w, work::NAME_COUNT, c.names);
     put(w, work::TYPE_COUNT, c.types);
     put(w, work::PREDICATE_COUNT, c.predicates);
     put(w, work::NODE_COUNT, c.nodes);
-    put(w, work::VALUE_NAME, c.value);
+    put(w, work::VALUE_NAME, c.value.map_or(0, |n| n + 1));
 }
 
-// The lines in file order, then the missing query. After each query the nodes start anew: `load` finds them again.
-fn take_lines(file: &[u8], w: &mut [u32], wide: bool) -> Read
+// The lines in file order, each where the one before it ended, then the missing query. After each query the nodes start
+// anew: `load` finds them again.
+fn take_lines(file: &[u8], w: &mut [u32], edition: Edition) -> Result<(), Refusal>
     requires { (length file.now ≤ 65536) × (16384 ≤ length w.old) }
-    ensures { TakesLines (edition wide) file.now w.old w.new result }
+    ensures { TakesLines (edition_of edition) file.now w.old w.new result }
 {
-    let mut line = [0u8; Counters::LINE];
+    let mut bytes = [0u8; Counters::LINE];
     let mut c = Counters::new();
-    let mut previous: usize = 6;
-    let mut at: usize = 0;
+    let mut previous = None;
+    let mut at = 0;
     while at < file.len() {
-        let got = frames::decode(file, at, &mut line);
-        match got {
-            Decoded::Bad => {
-                return Read::Refused(Refusal::MalformedLine);
-            }
-            Decoded::Bytes(n, next) => {
-                let kind = frames::kind_of(line[0]);
-                let r = take_line(file, at, &line[0..n], w, c, previous, kind, wide);
-                match r {
-                    Step::On(d) => {
-                        c = d;
-                    }
-                    Step::Off(e) => {
-                        return Read::Refused(e);
-                    }
-                }
-                previous = kind;
-                at = next;
-            }
-        }
+        let (n, next) = frames::decode(file, at, &mut bytes).ok_or(Refusal::MalformedLine)?;
+        let kind = frames::kind_of(bytes[0]).ok_or(Refusal::MisplacedKind)?;
+        let line = Line {
+            file,
+            at,
+            bytes: &bytes[..n],
+        };
+        c = take_line(line, w, c, previous, kind, edition)?;
+        previous = Some(kind);
+        at = next;
     }
-    if previous == 5 {
-        put_counts(w, c);
-        return Read::Accepted;
+    if previous != Some(Kind::Query) {
+        return Err(Refusal::MisplacedKind);
     }
-    Read::Refused(Refusal::MisplacedKind)
+    put_counts(w, c);
+    Ok(())
 }
 
-// A file of this edition past refusals 1 to 10 stands in the work slice afterwards. After a refusal the slice holds anything: whoever lends it
-// clears it.
-pub fn read_file(file: &[u8], w: &mut [u32], wide: bool) -> Read
-    ensures { ReadsFile (edition wide) file.now w.old w.new result }
+// A file of this edition past refusals 1 to 10 stands in the work slice afterwards. After a refusal the slice holds
+// anything: whoever lends it clears it.
+pub fn read_file(file: &[u8], w: &mut [u32], edition: Edition) -> Result<(), Refusal>
+    ensures { ReadsFile (edition_of edition) file.now w.old w.new result }
 {
     if w.len() < Counters::WORDS {
-        return Read::Refused(Refusal::WorkTooShort);
+        return Err(Refusal::WorkTooShort);
     }
     if Counters::FILE < file.len() {
-        return Read::Refused(Refusal::FileTooLong);
+        return Err(Refusal::FileTooLong);
     }
-    take_lines(file, w, wide)
+    take_lines(file, w, edition)
 }
 
 // The same, with zeros throughout after a refusal.
-pub fn read_or_clear(file: &[u8], w: &mut [u32], wide: bool) -> Read
-    ensures { Reads (edition wide) file.now w.old w.new result }
+pub fn read_or_clear(file: &[u8], w: &mut [u32], edition: Edition) -> Result<(), Refusal>
+    ensures { Reads (edition_of edition) file.now w.old w.new result }
 {
-    let r = read_file(file, w, wide);
-    match r {
-        Read::Accepted => {}
-        Read::Refused(_) => {
-            work::clear(w);
-        }
+    let r = read_file(file, w, edition);
+    if r.is_err() {
+        work::clear(w);
     }
     r
 }

@@ -1,146 +1,138 @@
 // Node and query lines: what they name.
-ghost use Rattle.std.specs.Prelude.{◌≡◌, ℕ, ◌+◌, ◌<◌, ◌≤◌, length};
+ghost use Rattle.std.specs.Prelude.{◌≡◌, ℕ, ◌+◌, ◌<◌, ◌≤◌, length, drop, ltb};
 ghost use Rattle.meaning.specs.Frame.{node, query};
-ghost use Rattle.reading.specs.Promises.{InEither, TakesThere};
-ghost use Rattle.frames.specs.Promises.{edition};
-ghost use Rattle.reading.specs.Marks.{NamesNode, NamesFields, NamesItems, NamesStatements, NamesAll};
+ghost use Rattle.reading.specs.Promises.{InEither, TakesAnywhere, TakesThere};
+ghost use Rattle.frames.specs.Promises.{edition_of};
+ghost use Rattle.reading.specs.Marks.{Told, NamesNode, NamesFields, NamesItems, NamesStatements, NamesAll};
 
-use crate::{Counters, Refusal, Step};
-use frames::{byte, half, reference_size};
-use work::{is_named, node_word, put, wide, word};
+use crate::{Counters, Line, Refusal};
+use frames::{Edition, byte, half, reference_size};
+use work::{is_named, node_word, put, word};
 
-// Marks a node as named; false where there is none yet or it was named before.
-fn name_node(w: &mut [u32], m: u32, nodes: u32) -> bool
-    requires { (nodes ≤ 512) × (16384 ≤ length w.old) }
-    ensures { NamesNode w.old m nodes w.new result }
+// The bytes from n on; none past the end.
+#[tactic(auto, using(frames::proofs::Shapes::to_end))]
+fn past(s: &[u8], n: usize) -> &[u8]
+    ensures { result.now ≡ drop n s.now }
 {
-    if nodes <= m {
-        return false;
+    s.get(n..).unwrap_or(&[])
+}
+
+// A name is there.
+fn find_name(name: u32, names: u32) -> Result<(), Refusal>
+    ensures { Told (λ b. b ≡ ltb name names) result }
+{
+    if name < names {
+        Ok(())
+    } else {
+        Err(Refusal::BadReference)
     }
-    let at = work::NODES + wide(m);
+}
+
+// Marks a node as named: it is there, and was not named before.
+fn name_node(w: &mut [u32], m: u32, nodes: u32) -> Result<(), Refusal>
+    ensures { Told (NamesNode w.old m nodes w.new) result }
+{
+    let at = work::NODES + m as usize;
     let x = word(w, at);
-    if is_named(x) {
-        return false;
+    if nodes <= m || is_named(x) {
+        return Err(Refusal::BadReference);
     }
     put(w, at, x + 1);
-    true
+    Ok(())
 }
 
-// The fields of a record from byte 10 on.
-fn name_fields(s: &[u8], w: &mut [u32], names: u32, nodes: u32) -> bool
-    requires { (length s.now ≤ 512) × (nodes ≤ 512) × (16384 ≤ length w.old) }
-    ensures { NamesFields s.now w.old names nodes w.new result }
+// The fields of a record.
+fn name_fields(fields: &[[u8; 4]], w: &mut [u32], names: u32, nodes: u32) -> Result<(), Refusal>
+    ensures { Told (NamesFields fields.now w.old names nodes w.new) result }
 {
-    let mut i: usize = 10;
-    while i < s.len() {
-        if names <= half(s, i) {
-            return false;
-        }
-        if !name_node(w, half(s, i + 2), nodes) {
-            return false;
-        }
-        i += 4;
+    for field in fields {
+        find_name(half(field, 0), names)?;
+        name_node(w, half(field, 2), nodes)?;
     }
-    true
+    Ok(())
 }
 
-// The branches or operands from byte 10 on.
-fn name_items(s: &[u8], w: &mut [u32], nodes: u32) -> bool
-    requires { (length s.now ≤ 512) × (nodes ≤ 512) × (16384 ≤ length w.old) }
-    ensures { NamesItems s.now w.old nodes w.new result }
+// The branches or operands.
+fn name_items(items: &[[u8; 2]], w: &mut [u32], nodes: u32) -> Result<(), Refusal>
+    ensures { Told (NamesItems items.now w.old nodes w.new) result }
 {
-    let mut i: usize = 10;
-    while i < s.len() {
-        if !name_node(w, half(s, i), nodes) {
-            return false;
-        }
-        i += 2;
+    for item in items {
+        name_node(w, half(item, 0), nodes)?;
     }
-    true
+    Ok(())
 }
 
-// The statements from a byte on.
-fn name_statements(s: &[u8], w: &mut [u32], from: usize, nodes: u32) -> bool
-    requires { (length s.now ≤ 512) × (from ≤ 512) × (nodes ≤ 512) × (16384 ≤ length w.old) }
-    ensures { NamesStatements s.now w.old from nodes w.new result }
+fn name_statements(s: &[u8], w: &mut [u32], nodes: u32) -> Result<(), Refusal>
+    ensures { Told (NamesStatements s.now w.old nodes w.new) result }
 {
-    let mut at = from;
-    while at < s.len() {
-        let tag = s[at];
-        if !name_node(w, half(s, at + 1), nodes) {
-            return false;
-        }
-        if tag == 1 {
-            at += 3;
-            continue;
-        }
-        if tag == 2 {
-            at += 3;
-            continue;
-        }
-        if !name_node(w, half(s, at + 3), nodes) {
-            return false;
-        }
-        at += 5;
+    let mut rest = s;
+    while let [tag, ..] = rest {
+        name_node(w, half(rest, 1), nodes)?;
+        let size = match *tag {
+            1 | 2 => 3,
+            _ => {
+                name_node(w, half(rest, 3), nodes)?;
+                5
+            }
+        };
+        rest = &rest[size.min(rest.len())..];
     }
-    true
+    Ok(())
 }
 
-fn name_all(s: &[u8], w: &mut [u32], c: Counters, wide: bool) -> bool
-    requires { (10 ≤ length s.now) × (length s.now ≤ 512) × (c.nodes ≤ 512) × (16384 ≤ length w.old) }
-    ensures { NamesAll (edition wide) s.now w.old c.names c.nodes w.new result }
+fn name_all(s: &[u8], w: &mut [u32], c: Counters, edition: Edition) -> Result<(), Refusal>
+    requires { 10 ≤ length s.now }
+    ensures { Told (NamesAll (edition_of edition) s.now w.old c.names c.nodes w.new) result }
 {
-    let shape = byte(s, 9);
-    let names = c.names;
-    let nodes = c.nodes;
-    match shape {
-        3 | 6 | 7 => half(s, 10) < names,
-        8 => name_fields(s, w, names, nodes),
+    let rest = past(s, 10);
+    match byte(s, 9) {
+        3 | 6 | 7 => find_name(half(s, 10), c.names),
+        8 => name_fields(rest.as_chunks().0, w, c.names, c.nodes),
         9 | 16 => {
-            if names <= half(s, 10) {
-                return false;
-            }
-            name_node(w, half(s, 12), nodes)
+            find_name(half(s, 10), c.names)?;
+            name_node(w, half(s, 12), c.nodes)
         }
-        10 => name_node(w, half(s, 10), nodes),
-        11 | 14 => name_items(s, w, nodes),
+        10 => name_node(w, half(s, 10), c.nodes),
+        11 | 14 => name_items(rest.as_chunks().0, w, c.nodes),
         12 => {
-            if !name_node(w, half(s, 10), nodes) {
-                return false;
-            }
-            name_statements(s, w, 12, nodes)
+            name_node(w, half(s, 10), c.nodes)?;
+            name_statements(past(s, 12), w, c.nodes)
         }
-        13 => name_node(w, half(s, 10 + reference_size(wide)), nodes),
-        _ => true,
+        13 => name_node(w, half(s, 10 + reference_size(edition)), c.nodes),
+        _ => Ok(()),
     }
 }
 
-pub fn take_node(at: usize, s: &[u8], w: &mut [u32], c: Counters, wide: bool) -> Step
-    requires { (at < 65536) × (10 ≤ length s.now) × (length s.now ≤ 512) × (c.nodes < 512) × (16384 ≤ length w.old) }
-    ensures { TakesThere (edition wide) at node s.now w.old c w.new result }
+pub fn take_node(
+    line: Line,
+    w: &mut [u32],
+    c: Counters,
+    edition: Edition,
+) -> Result<Counters, Refusal>
+    requires { (10 ≤ length line.bytes.now) × (c.nodes < 512) }
+    ensures { TakesThere (edition_of edition) line.entry.at node line.entry.bytes.now w.old c w.new result }
 {
-    if !name_all(s, w, c, wide) {
-        return Step::Off(Refusal::BadReference);
-    }
-    let n = c.nodes;
-    put(w, work::NODES + work::wide(n), node_word(at, s.len()));
-    let mut next = c;
-    next.nodes = n + 1;
-    Step::On(next)
+    name_all(line.bytes, w, c, edition)?;
+    put(
+        w,
+        work::NODES + c.nodes as usize,
+        node_word(line.at, line.bytes.len()),
+    );
+    Ok(Counters {
+        nodes: c.nodes + 1,
+        ..c
+    })
 }
 
-pub fn take_query(at: usize, s: &[u8], w: &mut [u32], c: Counters) -> Step
-    requires { (at < 65536) × (length s.now ≤ 512) × (c.nodes ≤ 512) × (16384 ≤ length w.old) × (c.queries < 64) }
-    ensures { InEither (λ e. TakesThere e at query s.now w.old c w.new result) }
+pub fn take_query(s: &[u8], w: &mut [u32], c: Counters) -> Result<Counters, Refusal>
+    requires { c.queries < 64 }
+    ensures { InEither (λ e. TakesAnywhere e query s.now w.old c w.new result) }
 {
-    if !name_node(w, half(s, 1), c.nodes) {
-        return Step::Off(Refusal::BadReference);
-    }
-    if !name_statements(s, w, 3, c.nodes) {
-        return Step::Off(Refusal::BadReference);
-    }
-    let mut next = c;
-    next.nodes = 0;
-    next.queries = c.queries + 1;
-    Step::On(next)
+    name_node(w, half(s, 1), c.nodes)?;
+    name_statements(past(s, 3), w, c.nodes)?;
+    Ok(Counters {
+        nodes: 0,
+        queries: c.queries + 1,
+        ..c
+    })
 }

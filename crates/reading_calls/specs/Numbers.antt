@@ -1,15 +1,15 @@
 -- How the reading's answer goes as a number: 0, or document 01's number of the refusal.
-use Rattle.std.specs.Prelude.{List, ◌≡◌, ℕ}
+use Rattle.std.specs.Prelude.{List, ◌≡◌, ℕ, Err, Ok, Result}
 use Rattle.meaning.specs.Refusal.{number}
-use Rattle.reading.specs.declared.Read.{Read}
 use Rattle.meaning.specs.Frame.{wide}
 use Rattle.reading.specs.Promises.{refusal, Reads}
+use Rattle.reading.specs.declared.Refusal.{Refusal}
 
-abbrev pub read_number : Read → ℕ
-read_number Read.Accepted = 0
-read_number (Read.Refused e) = number (refusal e)
+abbrev pub read_number : Result (Unit {0}) Refusal → ℕ
+read_number (Ok tt) = 0
+read_number (Err e) = number (refusal e)
 
 pub record CallsRead (f w w' : List ℕ) (r : ℕ) : Type 0 where
-  pub answer : Read
+  pub answer : Result (Unit {0}) Refusal
   pub reads : Reads wide f w w' answer
   pub number : r ≡ read_number answer

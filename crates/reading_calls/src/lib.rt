@@ -1,19 +1,20 @@
-// The reading alone, for the comparison with the Rust (tools/oracle): a program that embeds the checker has no use for it.
+// The reading alone, for the comparison with the Rust (tools/oracle): a program that embeds the checker has no use for
+// it.
 #![tactic(auto)]
 
 ghost use Rattle.reading_calls.specs.Numbers.{CallsRead};
 
-use reading::Read;
+use reading::Edition;
 
-// 0 where the file passes refusals 1 to 10: what it says then stands in the slice (`Stands` of crates/tree/specs/Stands.antt), and words
-// that this does not speak of hold anything. Else the refusal's number, and the slice is zero throughout.
+// 0 where the file passes refusals 1 to 10: what it says then stands in the slice (`Stands` of
+// crates/tree/specs/Stands.antt), and words that this does not speak of hold anything. Else the refusal's number, and
+// the slice is zero throughout.
 #[unsafe(no_mangle)]
 pub extern "C" fn sigla_read(file: &[u8], work: &mut [u32]) -> u8
     ensures { CallsRead file.now work.old work.new result }
 {
-    let r = reading::read_or_clear(file, work, true);
-    match r {
-        Read::Accepted => 0,
-        Read::Refused(e) => desk::refusal_number(e),
+    match reading::read_or_clear(file, work, Edition::Wide) {
+        Ok(()) => 0,
+        Err(e) => desk::refusal_number(e),
     }
 }

@@ -19,12 +19,11 @@ use Rattle.cells.specs.Words.{count_w, part_w, parts_w, part_of_w}
 use Rattle.cells.specs.Stands.{Rows, tree, row_from, row_w, IsCell, Ok}
 use Rattle.cells.specs.Promises.{Reprs}
 use Rattle.cells.proofs.Parts.{rest, rest_whole, rest_cell, rest_none, part_ok}
-use Rattle.writer.specs.declared.Wrote.{Wrote}
-use Rattle.writer.specs.declared.Wrote.TheVariants.{To, Full}
 use Rattle.writer.specs.Writes.{Writes, Moves}
 use Rattle.writer.proofs.Writing.{writes_as, writes_to, writes_then, writes_full, writes_moves, full_moves, moves_then, moves_none, moves_next}
 use Rattle.writer.proofs.Writing.{Goes, goes_start, goes_next, goes_full, goes_done}
 use Rattle.resolving.specs.Scripts.{Script, written, written_row, kind_of, head_of, part_head_of, Resolves, resolved, WritesTy, WritesPart, WritesRow}
+use Rattle.std.specs.Prelude.{None, Option, Some}
 
 -- ---- The parts that are counted are those that are written
 
@@ -56,14 +55,14 @@ cell_ok w Fields c o = o
 cell_ok w Alternatives c o = o
 
 -- ---- Where a loop over the parts has come to
-pub record Rowing (S : Script) (w out₀ : List ℕ) (at : ℕ) (k : Kind) (c n : ℕ) (out : List ℕ) (j to : ℕ) : Type 0 where
+pub record Rowing {A : Type 0} (S : Script A) (w : List ℕ) (out₀ : List A) (at : ℕ) (k : Kind) (c n : ℕ) (out : List A) (j to : ℕ) : Type 0 where
   pub within : j ≤ n
   pub all : n ≡ count_w w c
-  pub moves : Moves out₀ at out (To to)
+  pub moves : Moves out₀ at out (Some to)
   pub go : (T : Rows) (s : Subst) → Resolves w T s → IsCell w k c → at ≤ length out₀
       → Goes out₀ at (written_row S (resolved s (T c)) (kind_of k)) out to (written_row S (resolved s (rest T w k c n j)) (kind_of k))
 
-abbrev pub Along : Script → List ℕ → List ℕ → ℕ → Ty → ℕ → List ℕ → ℕ → ℕ → Type 0
+abbrev pub Along : {A : Type 0} → Script A → List ℕ → List A → ℕ → Ty → ℕ → List A → ℕ → ℕ → Type 0
 Along S w mid from Int n out j to = (n ≡ 0) × (mid ≡ out) × (from ≡ to)
 Along S w mid from Str n out j to = (n ≡ 0) × (mid ≡ out) × (from ≡ to)
 Along S w mid from Bytes n out j to = (n ≡ 0) × (mid ≡ out) × (from ≡ to)
@@ -73,16 +72,16 @@ Along S w mid from (Union c) n out j to = Rowing S w mid from Alternatives c n o
 Along S w mid from (Var x) n out j to = (n ≡ 0) × (mid ≡ out) × (from ≡ to)
 Along S w mid from Error n out j to = (n ≡ 0) × (mid ≡ out) × (from ≡ to)
 
-pub record Typing (S : Script) (w mid : List ℕ) (from : ℕ) (u : Ty) (n : ℕ) (out : List ℕ) (j to : ℕ) : Type 0 where
-  pub moves : Moves mid from out (To to)
+pub record Typing {A : Type 0} (S : Script A) (w : List ℕ) (mid : List A) (from : ℕ) (u : Ty) (n : ℕ) (out : List A) (j to : ℕ) : Type 0 where
+  pub moves : Moves mid from out (Some to)
   pub along : Along S w mid from u n out j to
 
 none_there : {A : Type 0} {n j : ℕ} → n ≡ 0 → j < n → A
 none_there e h = absurd (omega arith)
 
-module _ (S : Script) where
-  module _ {w out : List ℕ} {at : ℕ} {t u : Ty} (rep : Reprs w t u) where
-    end_of_chain : {out' : List ℕ} {r : Wrote} → Moves out at out' r
+module _ {A : Type 0} (S : Script A) where
+  module _ {w : List ℕ} {out : List A} {at : ℕ} {t u : Ty} (rep : Reprs w t u) where
+    end_of_chain : {out' : List A} {r : Option ℕ} → Moves out at out' r
         → ((T : Rows) (s : Subst) → Resolves w T s → Ok w u → Resolved s (tree T u) → Writes out at (written S (zonk s (tree T u))) out' r)
         → WritesTy S w out at t out' r
     end_of_chain m f = record {
@@ -92,44 +91,44 @@ module _ (S : Script) where
       moves = m;
     }
 
-    pub ty_leaf : (p : Tree.Leaf) → ((T : Rows) → tree T u ≡ Tree.leaf p) → {out' : List ℕ} {r : Wrote} → Writes out at (S.leaf p) out' r
+    pub ty_leaf : (p : Tree.Leaf) → ((T : Rows) → tree T u ≡ Tree.leaf p) → {out' : List A} {r : Option ℕ} → Writes out at (S.leaf p) out' r
         → WritesTy S w out at t out' r
     unfolding written
     ty_leaf p e f = end_of_chain (writes_moves f) (λ T s R o v. rw (e T, zonk_leaf s p) f)
 
-    pub ty_var : (x : ℕ) → u ≡ Var x → {out' : List ℕ} {r : Wrote} → Writes out at (S.unknown x) out' r → WritesTy S w out at t out' r
+    pub ty_var : (x : ℕ) → u ≡ Var x → {out' : List A} {r : Option ℕ} → Writes out at (S.unknown x) out' r → WritesTy S w out at t out' r
     unfolding written
     ty_var x e f = end_of_chain (writes_moves f) (λ T s R o v. rw (e, zonk_unbound s x (rw e at v)) f)
 
-    pub ty_error : u ≡ Error → {out' : List ℕ} {r : Wrote} → Writes out at S.error out' r → WritesTy S w out at t out' r
+    pub ty_error : u ≡ Error → {out' : List A} {r : Option ℕ} → Writes out at S.error out' r → WritesTy S w out at t out' r
     unfolding written
     ty_error e f = end_of_chain (writes_moves f) (λ T s R o v. rw (e, zonk_error s) f)
 
-    module _ (k : Kind) (c : ℕ) (e : u ≡ cell_ty k c) (m : ℕ) (q : m ≡ count_w w c) {mid : List ℕ} {h : Wrote}
+    module _ (k : Kind) (c : ℕ) (e : u ≡ cell_ty k c) (m : ℕ) (q : m ≡ count_w w c) {mid : List A} {h : Option ℕ}
         (f : Writes out at (S.node (kind_of k) m) mid h) where
       node_text : (T : Rows) (s : Subst) → Resolves w T s → Ok w u
           → written S (zonk s (tree T u)) ≡ S.node (kind_of k) m ++ written_row S (resolved s (T c)) (kind_of k)
       unfolding written
       node_text T s R o = rw (e, cell_tree T k c, zonk_node s (kind_of k) (T c), q, counted R k c (cell_ok w k c (rw e at o)))
 
-      pub ty_cell : {n : ℕ} → h ≡ To n → {out' : List ℕ} {r : Wrote} → WritesRow S w mid n k c out' r → WritesTy S w out at t out' r
+      pub ty_cell : {n : ℕ} → h ≡ Some n → {out' : List A} {r : Option ℕ} → WritesRow S w mid n k c out' r → WritesTy S w out at t out' r
       ty_cell {n} p g = end_of_chain (moves_then (writes_moves f) p g.moves) (λ T s R o v. writes_as (sym (node_text T s R o))
           (writes_then f p (g.is T s R (cell_ok w k c (rw e at o)) (omega (arith, (writes_to f p).1, f.long)))))
 
-      pub ty_cell_full : h ≡ Full → WritesTy S w out at t mid Full
+      pub ty_cell_full : h ≡ None → WritesTy S w out at t mid None
       ty_cell_full p = end_of_chain (full_moves f.long) (λ T s R o v. writes_as (sym (node_text T s R o)) (writes_full f p _))
 
   -- ---- A part
-  module _ {w out : List ℕ} {at : ℕ} {k : Kind} {p : Part} {mid : List ℕ} {h : Wrote}
+  module _ {w : List ℕ} {out : List A} {at : ℕ} {k : Kind} {p : Part} {mid : List A} {h : Option ℕ}
       (f : Writes out at (S.part (kind_of k) p.key p.label) mid h) where
-    pub part_then : {n : ℕ} → h ≡ To n → {out' : List ℕ} {r : Wrote} → WritesTy S w mid n p.ty out' r → WritesPart S w out at k p out' r
+    pub part_then : {n : ℕ} → h ≡ Some n → {out' : List A} {r : Option ℕ} → WritesTy S w mid n p.ty out' r → WritesPart S w out at k p out' r
     part_then e g = record { is = λ T s R o. writes_then f e (g.is T s R o); moves = moves_then (writes_moves f) e g.moves }
 
-    pub part_full : h ≡ Full → WritesPart S w out at k p mid Full
+    pub part_full : h ≡ None → WritesPart S w out at k p mid None
     part_full e = record { is = λ T s R o. writes_full f e _; moves = full_moves f.long }
 
   -- ---- The parts of a cell
-  pub row_start : (w out : List ℕ) (at : ℕ) (k : Kind) (c n : ℕ) → n ≡ count_w w c → Rowing S w out at k c n out 0 at
+  pub row_start : (w : List ℕ) (out : List A) (at : ℕ) (k : Kind) (c n : ℕ) → n ≡ count_w w c → Rowing S w out at k c n out 0 at
   row_start w out at k c n e = record {
     within = omega arith;
     all = e;
@@ -137,14 +136,14 @@ module _ (S : Script) where
     go = λ T s R i b. goes_start out at _ _ b (ap (λ (x : Row). written_row S (resolved s x) (kind_of k)) (sym (rest_whole T w k c n e R.cells i)));
   }
 
-  module _ {w out₀ : List ℕ} {at : ℕ} {k : Kind} {c n : ℕ} {out : List ℕ} {j to : ℕ} (g : Rowing S w out₀ at k c n out j to) where
-    module _ (p : Part) (l : j < n) (e : p ≡ part_w w k c j) {out' : List ℕ} {r : Wrote} (f : WritesPart S w out to k p out' r) where
+  module _ {w : List ℕ} {out₀ : List A} {at : ℕ} {k : Kind} {c n : ℕ} {out : List A} {j to : ℕ} (g : Rowing S w out₀ at k c n out j to) where
+    module _ (p : Part) (l : j < n) (e : p ≡ part_w w k c j) {out' : List A} {r : Option ℕ} (f : WritesPart S w out to k p out' r) where
       cell_text_lem : (T : Rows) (s : Subst) → written_row S (resolved s (rest T w k c n j)) (kind_of k)
           ≡ (S.part (kind_of k) p.key p.label ++ written S (zonk s (tree T p.ty))) ++ written_row S (resolved s (rest T w k c n (j + 1))) (kind_of k)
       unfolding written_row app_row
       cell_text_lem T s = rw (rest_cell T w k c n j p l e, zonk_replaces s (tree T p.ty), append_assoc)
 
-      pub row_next : {m : ℕ} → r ≡ To m → Rowing S w out₀ at k c n out' (j + 1) m
+      pub row_next : {m : ℕ} → r ≡ Some m → Rowing S w out₀ at k c n out' (j + 1) m
       row_next {m} q = record {
         within = omega arith;
         all = g.all;
@@ -152,13 +151,13 @@ module _ (S : Script) where
         go = λ T s R i b. goes_next (g.go T s R i b) _ _ (cell_text_lem T s) (f.is T s R (part_ok R.cells k c n j p g.all i l e)) q;
       }
 
-      pub row_stops : r ≡ Full → WritesRow S w out₀ at k c out' Full
+      pub row_stops : r ≡ None → WritesRow S w out₀ at k c out' None
       row_stops q = record {
         is = λ T s R i b. goes_full (g.go T s R i b) _ _ (cell_text_lem T s) (f.is T s R (part_ok R.cells k c n j p g.all i l e)) q;
         moves = full_moves (f.moves.long ∙ g.moves.long);
       }
 
-    pub row_done : n ≤ j → WritesRow S w out₀ at k c out (To to)
+    pub row_done : n ≤ j → WritesRow S w out₀ at k c out (Some to)
     unfolding written_row app_row
     row_done l = record {
       is = λ T s R i b. goes_done (g.go T s R i b) (rw (rest_none T w k c n j l));
@@ -167,11 +166,11 @@ module _ (S : Script) where
 
   -- ---- A type, its parts in a loop
   -- Where the parts start there is less room.
-  pub head_moves : (w : List ℕ) (u : Ty) → 1 ≤ length (head_of S w u) → {out : List ℕ} {at : ℕ} {mid : List ℕ} {h : Wrote} {n : ℕ}
-      → Writes out at (head_of S w u) mid h → h ≡ To n → (at < n) × (n ≤ length out)
+  pub head_moves : (w : List ℕ) (u : Ty) → 1 ≤ length (head_of S w u) → {out : List A} {at : ℕ} {mid : List A} {h : Option ℕ} {n : ℕ}
+      → Writes out at (head_of S w u) mid h → h ≡ Some n → (at < n) × (n ≤ length out)
   head_moves w u some f e = let g = writes_to f e in (omega (arith, g.0, some), g.1)
 
-  pub typing_start : (w mid : List ℕ) (from : ℕ) (u : Ty) (n : ℕ) → n ≡ parts_w w u → Typing S w mid from u n mid 0 from
+  pub typing_start : (w : List ℕ) (mid : List A) (from : ℕ) (u : Ty) (n : ℕ) → n ≡ parts_w w u → Typing S w mid from u n mid 0 from
   typing_start w mid from u n e = record { moves = moves_none mid from; along = go u e }
     where
       go : (u : Ty) → n ≡ parts_w w u → Along S w mid from u n mid 0 from
@@ -184,10 +183,10 @@ module _ (S : Script) where
       go (Var x) e = (e, refl, refl)
       go Error e = (e, refl, refl)
 
-  module _ {w mid : List ℕ} {from n : ℕ} {out : List ℕ} {j to : ℕ} (p : Part) (l : j < n) {half : List ℕ} {b : Wrote} {m : ℕ} (q : b ≡ To m)
-      {out' : List ℕ} {r : Wrote} (x : WritesTy S w half m p.ty out' r) where
+  module _ {w : List ℕ} {mid : List A} {from n : ℕ} {out : List A} {j to : ℕ} (p : Part) (l : j < n) {half : List A} {b : Option ℕ} {m : ℕ} (q : b ≡ Some m)
+      {out' : List A} {r : Option ℕ} (x : WritesTy S w half m p.ty out' r) where
     pub typing_next : (u : Ty) → Typing S w mid from u n out j to → p ≡ part_of_w w u j → Writes out to (part_head_of S u p.key p.label) half b
-        → {k : ℕ} → r ≡ To k → Typing S w mid from u n out' (j + 1) k
+        → {k : ℕ} → r ≡ Some k → Typing S w mid from u n out' (j + 1) k
     typing_next u g e f {k} z = record { moves = moves_next g.moves (moves_then (writes_moves f) q x.moves) z; along = go u g.along e f }
       where
         go : (u : Ty) → Along S w mid from u n out j to → p ≡ part_of_w w u j → Writes out to (part_head_of S u p.key p.label) half b
@@ -201,8 +200,8 @@ module _ (S : Script) where
         go (Var y) g e f = none_there g.0 l
         go Error g e f = none_there g.0 l
 
-  module _ {w out : List ℕ} {at : ℕ} {t : Ty} {mid : List ℕ} {h : Wrote} where
-    pub typing_full : (u : Ty) → Reprs w t u → Writes out at (head_of S w u) mid h → h ≡ Full → WritesTy S w out at t mid Full
+  module _ {w : List ℕ} {out : List A} {at : ℕ} {t : Ty} {mid : List A} {h : Option ℕ} where
+    pub typing_full : (u : Ty) → Reprs w t u → Writes out at (head_of S w u) mid h → h ≡ None → WritesTy S w out at t mid None
     typing_full Int rep f e = ty_leaf rep Tree.Int (λ T. refl) (rw e at f)
     typing_full Str rep f e = ty_leaf rep Tree.String (λ T. refl) (rw e at f)
     typing_full Bytes rep f e = ty_leaf rep Tree.Bytes (λ T. refl) (rw e at f)
@@ -212,9 +211,9 @@ module _ (S : Script) where
     typing_full (Var x) rep f e = ty_var rep x refl (rw e at f)
     typing_full Error rep f e = ty_error rep refl (rw e at f)
 
-    module _ {from : ℕ} (z : h ≡ To from) {n : ℕ} {now : List ℕ} {j to : ℕ} where
+    module _ {from : ℕ} (z : h ≡ Some from) {n : ℕ} {now : List A} {j to : ℕ} where
       pub typing_done : (u : Ty) → Reprs w t u → Writes out at (head_of S w u) mid h → Typing S w mid from u n now j to → n ≤ j
-          → WritesTy S w out at t now (To to)
+          → WritesTy S w out at t now (Some to)
       typing_done Int rep f g l = ty_leaf rep Tree.Int (λ T. refl) (rw (← g.along.1, ← g.along.2) (rw z at f))
       typing_done Str rep f g l = ty_leaf rep Tree.String (λ T. refl) (rw (← g.along.1, ← g.along.2) (rw z at f))
       typing_done Bytes rep f g l = ty_leaf rep Tree.Bytes (λ T. refl) (rw (← g.along.1, ← g.along.2) (rw z at f))
@@ -224,9 +223,9 @@ module _ (S : Script) where
       typing_done (Var x) rep f g l = ty_var rep x refl (rw (← g.along.1, ← g.along.2) (rw z at f))
       typing_done Error rep f g l = ty_error rep refl (rw (← g.along.1, ← g.along.2) (rw z at f))
 
-      module _ (p : Part) (l : j < n) {half : List ℕ} {b : Wrote} where
+      module _ (p : Part) (l : j < n) {half : List A} {b : Option ℕ} where
         pub typing_stops : (u : Ty) → Reprs w t u → Writes out at (head_of S w u) mid h → Typing S w mid from u n now j to → p ≡ part_of_w w u j
-            → Writes now to (part_head_of S u p.key p.label) half b → b ≡ Full → WritesTy S w out at t half Full
+            → Writes now to (part_head_of S u p.key p.label) half b → b ≡ None → WritesTy S w out at t half None
         typing_stops Int rep f g e s q = none_there g.along.0 l
         typing_stops Str rep f g e s q = none_there g.along.0 l
         typing_stops Bytes rep f g e s q = none_there g.along.0 l
@@ -237,8 +236,8 @@ module _ (S : Script) where
         typing_stops Error rep f g e s q = none_there g.along.0 l
 
         pub typing_ends : (u : Ty) → Reprs w t u → Writes out at (head_of S w u) mid h → Typing S w mid from u n now j to → p ≡ part_of_w w u j
-            → Writes now to (part_head_of S u p.key p.label) half b → {m : ℕ} → b ≡ To m → {out' : List ℕ} {r : Wrote}
-            → WritesTy S w half m p.ty out' r → r ≡ Full → WritesTy S w out at t out' Full
+            → Writes now to (part_head_of S u p.key p.label) half b → {m : ℕ} → b ≡ Some m → {out' : List A} {r : Option ℕ}
+            → WritesTy S w half m p.ty out' r → r ≡ None → WritesTy S w out at t out' None
         typing_ends Int rep f g e s q x y = none_there g.along.0 l
         typing_ends Str rep f g e s q x y = none_there g.along.0 l
         typing_ends Bytes rep f g e s q x y = none_there g.along.0 l

@@ -1,6 +1,6 @@
 -- A way to write types: what stands for a shape without parts, before the parts of one that has some, and before a part.
 -- And what it is to write a type in hand so, with every bound unknown replaced.
-use Rattle.std.specs.Prelude.{List, [], ◌++◌, ℕ, ◌≤◌, length}
+use Rattle.std.specs.Prelude.{List, [], ◌++◌, ℕ, ◌≤◌, length, Option}
 use Rattle.unification.specs.Ty as Tree
 use Rattle.unification.specs.Ty.{Row, ε, cell, row_len, app_row}
 use Rattle.unification.specs.Bindings.{Subst, zonk}
@@ -12,28 +12,27 @@ use Rattle.cells.specs.declared.Kind.{Kind}
 use Rattle.cells.specs.declared.Kind.TheVariants.{Fields, Alternatives}
 use Rattle.cells.specs.declared.Part.{Part}
 use Rattle.cells.specs.Stands.{Rows, tree, IsCell, Ok, Cells, Binds}
-use Rattle.writer.specs.declared.Wrote.{Wrote}
 use Rattle.writer.specs.Writes.{Writes, Moves}
 
-pub record Script : Type 0 where
-  pub leaf : Tree.Leaf → List ℕ
+pub record Script (A : Type 0) : Type 0 where
+  pub leaf : Tree.Leaf → List A
   -- how many parts there are
-  pub node : Tree.Kind → ℕ → List ℕ
-  pub unknown : ℕ → List ℕ
-  pub error : List ℕ
+  pub node : Tree.Kind → ℕ → List A
+  pub unknown : ℕ → List A
+  pub error : List A
   -- a part's key and label
-  pub part : Tree.Kind → ℕ → ℕ → List ℕ
+  pub part : Tree.Kind → ℕ → ℕ → List A
 
 unfoldable mutual
   unfolding row_len
 
-  pub written : Script → Tree.Ty → List ℕ
+  pub written : {A : Type 0} → Script A → Tree.Ty → List A
   written S (Tree.leaf p) = S.leaf p
   written S (Tree.node k r) = S.node k (row_len r) ++ written_row S r k
   written S (Tree.Var x) = S.unknown x
   written S Tree.Error = S.error
 
-  pub written_row : Script → Row → Tree.Kind → List ℕ
+  pub written_row : {A : Type 0} → Script A → Row → Tree.Kind → List A
   written_row S ε k = []
   written_row S (cell key label t r) k = S.part k key label ++ (written S t ++ written_row S r k)
 
@@ -43,7 +42,7 @@ kind_of Fields = Tree.Record
 kind_of Alternatives = Tree.Union
 
 -- What stands before the parts of a resolved type, and before the type of a part of it.
-abbrev pub head_of : Script → List ℕ → Ty → List ℕ
+abbrev pub head_of : {A : Type 0} → Script A → List ℕ → Ty → List A
 head_of S w Int = S.leaf Tree.Int
 head_of S w Str = S.leaf Tree.String
 head_of S w Bytes = S.leaf Tree.Bytes
@@ -53,7 +52,7 @@ head_of S w (Union c) = S.node Tree.Union (count_w w c)
 head_of S w (Var x) = S.unknown x
 head_of S w Error = S.error
 
-abbrev pub part_head_of : Script → Ty → ℕ → ℕ → List ℕ
+abbrev pub part_head_of : {A : Type 0} → Script A → Ty → ℕ → ℕ → List A
 part_head_of S Int key label = S.part Tree.Record key label
 part_head_of S Str key label = S.part Tree.Record key label
 part_head_of S Bytes key label = S.part Tree.Record key label
@@ -72,16 +71,16 @@ pub record Resolves (w : List ℕ) (T : Rows) (s : Subst) : Type 0 where
 abbrev pub resolved : Subst → Row → Row
 resolved s r = app_row (λ x. zonk s (Tree.Var x)) r
 
-pub record WritesTy (S : Script) (w out : List ℕ) (at : ℕ) (t : Ty) (out' : List ℕ) (r : Wrote) : Type 0 where
+pub record WritesTy {A : Type 0} (S : Script A) (w : List ℕ) (out : List A) (at : ℕ) (t : Ty) (out' : List A) (r : Option ℕ) : Type 0 where
   pub is : (T : Rows) (s : Subst) → Resolves w T s → Ok w t → Writes out at (written S (zonk s (tree T t))) out' r
   pub moves : Moves out at out' r
 
-pub record WritesPart (S : Script) (w out : List ℕ) (at : ℕ) (k : Kind) (p : Part) (out' : List ℕ) (r : Wrote) : Type 0 where
+pub record WritesPart {A : Type 0} (S : Script A) (w : List ℕ) (out : List A) (at : ℕ) (k : Kind) (p : Part) (out' : List A) (r : Option ℕ) : Type 0 where
   pub is : (T : Rows) (s : Subst) → Resolves w T s → Ok w p.ty
       → Writes out at (S.part (kind_of k) p.key p.label ++ written S (zonk s (tree T p.ty))) out' r
   pub moves : Moves out at out' r
 
 -- A cell may have no parts, and then nothing is written.
-pub record WritesRow (S : Script) (w out : List ℕ) (at : ℕ) (k : Kind) (c : ℕ) (out' : List ℕ) (r : Wrote) : Type 0 where
+pub record WritesRow {A : Type 0} (S : Script A) (w : List ℕ) (out : List A) (at : ℕ) (k : Kind) (c : ℕ) (out' : List A) (r : Option ℕ) : Type 0 where
   pub is : (T : Rows) (s : Subst) → Resolves w T s → IsCell w k c → at ≤ length out → Writes out at (written_row S (resolved s (T c)) (kind_of k)) out' r
   pub moves : Moves out at out' r

@@ -24,16 +24,16 @@ use Rattle.state.proofs.Standing.{cells_start, schema_stands}
 use Rattle.steps.specs.Outside.{StartsRun}
 use Rattle.calls.specs.Beginning.{begun_w}
 use Rattle.calls.proofs.Beginning.{declares_kept, begun_keeps, begun_records, begun_fields, list_begins}
-use Rattle.reading.specs.declared.Read.TheVariants as Read
 use Rattle.reading.specs.Promises.{Ends, reading_in, ReadsFile}
 use Rattle.runs.specs.Beginning.{SameSchema, AfterReading}
+use Rattle.std.specs.Prelude.{Ok}
 
 -- `read_file` leaves it, where it accepts.
-pub accepted : {f w₀ w : List ℕ} {form : Form} → min_words ≤ length w₀ → reading f ≡ described form → ReadsFile wide f w₀ w Read.Accepted
+pub accepted : {f w₀ w : List ℕ} {form : Form} → min_words ≤ length w₀ → reading f ≡ described form → ReadsFile wide f w₀ w (Ok tt)
     → AfterReading f w form
 unfolding Ends reading_in min_words
 accepted {f} {w₀} {w} {form} enough is R =
-    let x : Ends wide f w Read.Accepted (described form) = subst (Ends wide f w Read.Accepted) (past ∙ is) R.ends in
+    let x : Ends wide f w (Ok tt) (described form) = subst (Ends wide f w (Ok tt)) (past ∙ is) R.ends in
     record { long = x.1; rows = x.2.0; schema = x.2.1; types = x.2.2 }
   where
     past : reading_in wide f (length w₀) ≡ reading f

@@ -1,7 +1,6 @@
 -- One count over the queries: what is sought among all is sought among those that are left, fewer by the entries of those that were run; and a
 -- run that is to last until an entry keeps to it.
 use mathlib.Core.List.{List, [], ◌∷◌, ◌++◌}
-use mathlib.Core.Option.{Option, none, some}
 use mathlib.Core.Path.{◌≡◌, refl, ap, ◌∙◌}
 use Prim.Native.Nat.{ℕ, ◌+◌, ◌-◌, ◌<◌, ◌≤◌}
 use native.Mathlib.Omega.{arith}
@@ -21,28 +20,29 @@ use Rattle.laws.proofs.Walk.{query_agrees}
 use Rattle.laws.proofs.Run.{begin_fine, same_self}
 use Rattle.entries.specs.Entries.{entries_of, entries_all, nth, Sought, turned_down, among, sought_run}
 use Rattle.entries.proofs.Entries.{length_reversed, nth_first, nth_later, entries_are}
+use Rattle.std.specs.Prelude.{None, Option, Some}
 
 -- ---- What is left
 
 -- An entry, unless a query that is still to be run runs out of visits.
 unfoldable pub unless_out : Option Entry → Option (List Typed) → Sought
 unfolding among
-unless_out o none = turned_down too_many_visits
-unless_out o (some ts) = among o
+unless_out o None = turned_down too_many_visits
+unless_out o (Some ts) = among o
 
 pub sought_is : (schema : Schema) (qs : List Ast) (n : ℕ) (x : Option (List Typed)) → sought_run schema qs n x ≡ unless_out (nth (entries_all schema qs) n) x
 unfolding sought_run unless_out
-sought_is schema qs n none = refl
-sought_is schema qs n (some ts) = refl
+sought_is schema qs n None = refl
+sought_is schema qs n (Some ts) = refl
 
 unless_typed : (o : Option Entry) (t : Typed) (x : Option (List Typed)) → unless_out o (with_checked (typed t) x) ≡ unless_out o x
 unfolding unless_out with_checked
-unless_typed o t none = refl
-unless_typed o t (some ts) = refl
+unless_typed o t None = refl
+unless_typed o t (Some ts) = refl
 
 module _ (schema : Schema) (a : Ast) (qs : List Ast) where
   -- Its visits run out, whatever the others do.
-  pub out_first : {c : Checker} → run schema a max_visits ≡ out c → run_all schema (a ∷ qs) ≡ none
+  pub out_first : {c : Checker} → run schema a max_visits ≡ out c → run_all schema (a ∷ qs) ≡ None
   unfolding run_all with_checked check checked run
   out_first {c} e = ap (λ s. with_checked (checked max_visits s) (run_all schema qs)) e
 

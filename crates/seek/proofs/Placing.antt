@@ -1,11 +1,7 @@
 -- The query in which the n-th entry is: the count falls by the entries of each query before it, and the queries after it are run too.
-use mathlib.Core.Bool.{Bool, true, false}
-use mathlib.Core.List.{List, [], ◌∷◌}
-use mathlib.Core.Option.{Option, none, some}
-use mathlib.Core.Path.{◌≡◌, refl, sym, ap, ◌∙◌}
-use Prim.Native.Nat.{ℕ, ◌-◌, ◌≤◌, ◌<◌}
-use native.Mathlib.Omega.{arith}
-use lib.ListN.{length}
+use Rattle.std.proofs.Common.{List, [], ◌∷◌, ◌≡◌, ℕ, ◌-◌, ◌≤◌, ◌<◌, length, refl, sym, ap, ◌∙◌, arith}
+use Rattle.std.specs.Prelude.{Err, None, Ok, Option, Result, Some}
+use Rattle.reading.specs.declared.Refusal.{Refusal}
 use Rattle.unification.specs.Ty as Tree
 use Rattle.unification.specs.Calls.{Entry}
 use Rattle.unification.proofs.Tests.{clash}
@@ -24,9 +20,8 @@ use Rattle.entries.specs.Entries.{entries_of, entries_all, nth, fewer, turned_do
 use Rattle.tree.specs.Stands.{SchemaStands}
 use Rattle.loading.specs.Promises.{Ahead}
 use Rattle.loading.proofs.Lines.{query_ahead, all_ahead}
-use Rattle.seek.specs.declared.Turn.{Turn}
-use Rattle.seek.specs.declared.Place.TheVariants as Place
 use Rattle.seek.specs.Promises.{SchemaIn, Turned, Turns, RanOn, RunsOn, Within, Places}
+use Rattle.seek.proofs.Running.{ok_parts}
 use Rattle.seek.proofs.Counting.{unless_out, sought_is, out_first, many, in_first, in_later}
 
 -- Those that are left, with the entries that are still to come before the one that is sought.
@@ -60,7 +55,7 @@ place_start f n w small = record {
 
 module _ {f : List ℕ} {n : ℕ} {w₀ w : List ℕ} {at rest : ℕ} (P : Placing f n w₀ w at rest) where
   -- All were run, and it was in none.
-  pub place_end : length f ≤ at → Places f n w₀ w Place.Fewer
+  pub place_end : length f ≤ at → Places f n w₀ w (Ok None)
   unfolding unless_out entries_all nth run_all among
   place_end end = record { is = λ T form e l S. let b = P.is T form e l S in go form b.qs b.ahead b.is; words = P.words }
     where
@@ -69,7 +64,7 @@ module _ {f : List ℕ} {n : ℕ} {w₀ w : List ℕ} {at rest : ℕ} (P : Placi
       go form [] a p = p
       go form (y ∷ qs) a p = absurd (omega (arith, query_ahead a))
 
-  module _ (here : at < length f) {w₁ : List ℕ} {t : Turn} (G : Turns f at w w₁ t) where
+  module _ (here : at < length f) {w₁ : List ℕ} {t : Result (ℕ × ℕ) Refusal} (G : Turns f at w w₁ t) where
     -- The query that is run, and what is left after it.
     record First (form : Form) (x : Defined.Sought) : Type 0 where
       a : Ast
@@ -91,20 +86,20 @@ module _ {f : List ℕ} {n : ℕ} {w₀ w : List ℕ} {at rest : ℕ} (P : Placi
             let enough : min_words ≤ length w = omega (arith, P.words, l) in
             record { a = y; qs = qs; fine = s.0; sound = s.1; ahead = a; is = p; turned = G.is b.stands.0 form y qs s.0 enough b.stands.1 a }
 
-    pub place_out : t ≡ Turn.Out → Places f n w₀ w₁ Place.Out
+    pub place_out : {fault : Refusal} → t ≡ Err fault → Places f n w₀ w₁ (Err fault)
     unfolding Turned unless_out
-    place_out e = record {
+    place_out {fault} e = record {
       is = λ T form q l S. let b = first T form q l S in go b (run form.schema b.a max_visits) refl b.turned;
       words = G.words ∙ P.words;
     }
       where
         go : {form : Form} {x : Defined.Sought} (b : First form x) (s : Step Tree.Ty) → run form.schema b.a max_visits ≡ s → Turned f w₁ form b.qs t s
-            → x ≡ turned_down too_many_visits
+            → (fault ≡ Refusal.TooManyVisits) × (x ≡ turned_down too_many_visits)
         go b (goes ty c) q h = clash (cc (h.1, e))
         go {form} b (out c) q h =
-            b.is ∙ ap (unless_out (nth (entries_all form.schema (b.a ∷ b.qs)) rest)) (out_first form.schema b.a b.qs q)
+            (cc (h, e), b.is ∙ ap (unless_out (nth (entries_all form.schema (b.a ∷ b.qs)) rest)) (out_first form.schema b.a b.qs q))
 
-    module _ {next m : ℕ} (e : t ≡ Turn.On next m) where
+    module _ {next m : ℕ} (e : t ≡ Ok (next, m)) where
       pub place_next : m ≤ rest → Placing f n w₀ w₁ next (rest - m)
       unfolding Turned
       place_next before = record {
@@ -115,8 +110,8 @@ module _ {f : List ℕ} {n : ℕ} {w₀ w : List ℕ} {at rest : ℕ} (P : Placi
           go : {form : Form} {x : Defined.Sought} (b : First form x) (s : Step Tree.Ty) → run form.schema b.a max_visits ≡ s
               → Turned f w₁ form b.qs t s → Left f w₁ form next (rest - m) x
           go {form} b (goes ty c) q h =
-              let place : h.0 ≡ next = cc (h.1, e) in
-              let count : length c.entries ≡ m = cc (h.1, e) in
+              let place : h.0 ≡ next = (ok_parts (sym h.1 ∙ e)).0 in
+              let count : length c.entries ≡ m = (ok_parts (sym h.1 ∙ e)).1 in
               record {
                 qs = b.qs;
                 sound = b.sound;
@@ -127,7 +122,7 @@ module _ {f : List ℕ} {n : ℕ} {w₀ w : List ℕ} {at rest : ℕ} (P : Placi
               }
           go b (out c) q h = clash (cc (h, e))
 
-      module _ (within : rest < m) {w₂ : List ℕ} {r : Bool} (O : RunsOn f next w₁ w₂ r) where
+      module _ (within : rest < m) {w₂ : List ℕ} {r : Result (Unit {0}) Refusal} (O : RunsOn f next w₁ w₂ r) where
         -- It is in this one, by what becomes of the others.
         record Here (form : Form) (x : Defined.Sought) : Type 0 where
           first : First form x
@@ -145,8 +140,8 @@ module _ {f : List ℕ} {n : ℕ} {w₀ w : List ℕ} {at rest : ℕ} (P : Placi
             go : (b : First form (sought form n)) (s : Step Tree.Ty) → run form.schema b.a max_visits ≡ s → Turned f w₁ form b.qs t s
                 → Here form (sought form n)
             go b (goes ty c) q h =
-                let place : h.0 ≡ next = cc (h.1, e) in
-                let count : length c.entries ≡ m = cc (h.1, e) in
+                let place : h.0 ≡ next = (ok_parts (sym h.1 ∙ e)).0 in
+                let count : length c.entries ≡ m = (ok_parts (sym h.1 ∙ e)).1 in
                 let enough : min_words ≤ length w₁ = omega (arith, G.words, P.words, l) in
                 record {
                   first = b;
@@ -159,21 +154,22 @@ module _ {f : List ℕ} {n : ℕ} {w₀ w : List ℕ} {at rest : ℕ} (P : Placi
             go b (out c) q h = clash (cc (h, e))
 
         -- In a later query the visits ran out.
-        pub place_late : r ≡ false → Places f n w₀ w₂ Place.Out
+        pub place_late : {fault : Refusal} → r ≡ Err fault → Places f n w₀ w₂ (Err fault)
         unfolding RanOn unless_out
-        place_late z = record {
+        place_late {fault} z = record {
           is = λ T form q l S. let y = here_is T form q l S in
               let b = y.first in
-              b.is ∙ in_first form.schema b.a b.qs y.ran rest y.few ∙ go form (nth (entries_of form.schema b.a) rest)
-              (run_all form.schema b.qs) y.others;
+              let g = go form (nth (entries_of form.schema b.a) rest) (run_all form.schema b.qs) y.others in
+              (g.0, b.is ∙ in_first form.schema b.a b.qs y.ran rest y.few ∙ g.1);
           words = O.words ∙ G.words ∙ P.words;
         }
           where
-            go : (form : Form) (d : Option Entry) (o : Option (List Typed)) → RanOn f w₂ form r o → unless_out d o ≡ turned_down too_many_visits
-            go form d none h = refl
-            go form d (some ts) h = clash (cc (h.0, z))
+            go : (form : Form) (d : Option Entry) (o : Option (List Typed)) → RanOn f w₂ form r o
+                → (fault ≡ Refusal.TooManyVisits) × (unless_out d o ≡ turned_down too_many_visits)
+            go form d None h = (cc (h, z), refl)
+            go form d (Some ts) h = clash (cc (h.0, z))
 
-        pub place_here : r ≡ true → Places f n w₀ w₂ (Place.At at rest)
+        pub place_here : r ≡ Ok tt → Places f n w₀ w₂ (Ok (Some (at, rest)))
         unfolding RanOn unless_out
         place_here z = record {
           is = λ T form q l S. let y = here_is T form q l S in
@@ -184,8 +180,8 @@ module _ {f : List ℕ} {n : ℕ} {w₀ w : List ℕ} {at rest : ℕ} (P : Placi
           where
             go : {form : Form} {x : Defined.Sought} (y : Here form x) (o : Option (List Typed))
                 → x ≡ unless_out (nth (entries_of form.schema y.first.a) rest) o → RanOn f w₂ form r o → Within f w₂ form at rest x
-            go y none p h = clash (cc (h, z))
-            go {form} y (some ts) p h = record {
+            go y None p h = clash (cc (h, z))
+            go {form} y (Some ts) p h = record {
               query = y.first.a;
               more = y.first.qs;
               sound = y.first.fine;

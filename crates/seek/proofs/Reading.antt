@@ -14,31 +14,25 @@ use Rattle.meaning.proofs.Content.{says_exactly}
 use Rattle.entries.specs.Entries.{sought_run, sought_read, entry_at}
 use Rattle.reading.specs.Promises.{refusal, Ends, reading_in, ReadsFile}
 use Rattle.reading.specs.declared.Refusal.{Refusal}
-use Rattle.reading.specs.declared.Read.{Read}
-use Rattle.seek.specs.declared.Place.{Place}
-use Rattle.seek.specs.declared.Sought.{Sought}
 use Rattle.seek.specs.Promises.{Places, Told, Stops, Finds, Seeks}
+use Rattle.std.specs.Prelude.{Err, None, Ok, Option, Result, Some}
+use Rattle.cells.specs.declared.Ty.{Ty}
 
 -- ---- Of a file that was read
 
-module _ {f : List ℕ} {n : ℕ} {w w₁ : List ℕ} {p : Place} (P : Places f n w w₁ p) where
-  pub find_at : {at rest : ℕ} → p ≡ Place.At at rest → {w₂ : List ℕ} {r : Sought} → Stops f at rest w₁ w₂ r → Finds f n w w₂ r
-  find_at e S = record {
-    is = λ T form q l s. S.is form (sought_run form.schema form.queries n (run_all form.schema form.queries)) (rw P.words l)
-        ((rw e at P).is T form q l s);
+module _ {f : List ℕ} {n : ℕ} {w w₁ : List ℕ} where
+  pub find_at : {at rest : ℕ} → Places f n w w₁ (Ok (Some (at, rest))) → {w₂ : List ℕ} {r : Ty × Ty} → Stops f at rest w₁ w₂ r → Finds f n w w₂ (Ok (Some r))
+  find_at P S = record {
+    is = λ T form q l s. S.is form (sought_run form.schema form.queries n (run_all form.schema form.queries)) (rw P.words l) (P.is T form q l s);
     words = S.words ∙ P.words;
   }
 
-  pub find_fewer : p ≡ Place.Fewer → Finds f n w w₁ Sought.Fewer
-  find_fewer e = record {
-    is = λ T form q l s. let h = (rw e at P).is T form q l s in subst (Told w₁ Sought.Fewer) (sym h) refl;
-    words = P.words;
-  }
+  pub find_fewer : Places f n w w₁ (Ok None) → Finds f n w w₁ (Ok None)
+  find_fewer P = record { is = λ T form q l s. subst (Told w₁ (Ok None)) (sym (P.is T form q l s)) refl; words = P.words }
 
-  pub find_out : p ≡ Place.Out → Finds f n w w₁ (Sought.Refused Refusal.TooManyVisits)
-  find_out e = record {
-    is = λ T form q l s. let h = (rw e at P).is T form q l s in
-        subst (Told w₁ (Sought.Refused Refusal.TooManyVisits)) (sym h) (Refusal.TooManyVisits, refl, refl);
+  pub find_out : {e : Refusal} → Places f n w w₁ (Err e) → Finds f n w w₁ (Err e)
+  find_out {e} P = record {
+    is = λ T form q l s. let h = P.is T form q l s in subst (Told w₁ (Err e)) (sym h.1) (e, refl, ap refusal h.0);
     words = P.words;
   }
 
@@ -54,8 +48,8 @@ unfolding reading_in
 enough_words f words d e = cases (ltb words min_words)
     (λ q. let h : refused Meaning.work_too_short ≡ described d = rw (q, reading_in) at e in clash (cc h)) (λ q. rw (q, reading_in) at e)
 
-module _ {f w w₁ : List ℕ} {x : Read} (h : ReadsFile wide f w w₁ x) where
-  pub read_small : x ≡ Read.Accepted → length f ≤ 65536
+module _ {f w w₁ : List ℕ} {x : Result (Unit {0}) Refusal} (h : ReadsFile wide f w w₁ x) where
+  pub read_small : x ≡ Ok tt → length f ≤ 65536
   unfolding Ends max_file
   read_small q = go (reading_in wide f (length w)) refl h.ends
     where
@@ -63,18 +57,18 @@ module _ {f w w₁ : List ℕ} {x : Read} (h : ReadsFile wide f w w₁ x) where
       go (refused i) e g = clash (cc (q, g.1))
       go (described d) e g = ((says_exactly wide f d).0 (enough_words f (length w) d e)).size
 
-  pub not_read : {e : Refusal} (n : ℕ) → x ≡ Read.Refused e → Seeks f n w w₁ (Sought.Refused e)
+  pub not_read : {e : Refusal} (n : ℕ) → x ≡ Err e → Seeks f n w w₁ (Err e)
   unfolding Ends sought_read
   not_read {e} n q = record {
-    is = subst (Told w₁ (Sought.Refused e)) (sym (sought_by f n (length w))) (go (reading_in wide f (length w)) h.ends);
+    is = subst (Told w₁ (Err e)) (sym (sought_by f n (length w))) (go (reading_in wide f (length w)) h.ends);
     words = h.long;
   }
     where
-      go : (y : Reading) → Ends wide f w₁ x y → Told w₁ (Sought.Refused e) (sought_read n y)
+      go : (y : Reading) → Ends wide f w₁ x y → Told w₁ (Err e) (sought_read n y)
       go (refused i) g = let same : e ≡ g.0 = cc (q, g.1) in (e, refl, ap refusal same ∙ g.2)
       go (described d) g = clash (cc (q, g.0))
 
-  pub was_read : {n : ℕ} {w₂ : List ℕ} {r : Sought} → x ≡ Read.Accepted → Finds f n w₁ w₂ r → Seeks f n w w₂ r
+  pub was_read : {n : ℕ} {w₂ : List ℕ} {r : Result (Option (Ty × Ty)) Refusal} → x ≡ Ok tt → Finds f n w₁ w₂ r → Seeks f n w w₂ r
   unfolding Ends sought_read min_words
   was_read {n} {w₂} {r} q F = record {
     is = subst (Told w₂ r) (sym (sought_by f n (length w))) (go (reading_in wide f (length w)) refl h.ends);

@@ -1,12 +1,11 @@
 -- A query's whole run with its entries counted, and the queries from a place on, one after the other.
-use mathlib.Core.Bool.{Bool, true, false}
-use mathlib.Core.List.{List, [], ◌∷◌}
-use mathlib.Core.Option.{Option, none, some}
-use mathlib.Core.Path.{◌≡◌, refl, sym, ap, ◌∙◌, subst}
-use Prim.Native.Nat.{ℕ, ◌≤◌, ◌<◌}
-use native.Mathlib.Omega.{arith}
-use lib.ListN.{length, get_or}
+use Rattle.std.proofs.Common.{List, [], ◌∷◌, ◌≡◌, ℕ, ◌≤◌, ◌<◌, length, get_or, refl, sym, ap, ◌∙◌, subst, arith}
+use Rattle.std.specs.Prelude.{Err, None, Ok, Option, Result, Some}
+use Rattle.std.specs.Option.{ok_or}
+use Rattle.std.specs.Result.{IsErrAnd}
+use Rattle.std.proofs.lemmas.Result.{err_from_is_err_and}
 use borrow.Author.Tests.{lt-ltb}
+use Rattle.reading.specs.declared.Refusal.{Refusal}
 use Rattle.unification.specs.Ty as Tree
 use Rattle.unification.proofs.Tests.{clash}
 use Rattle.work.specs.Layout.{ENTERED}
@@ -21,14 +20,31 @@ use Rattle.meaning.specs.Outcome.{min_words, max_visits, with_checked, run_all}
 use Rattle.laws.proofs.Until.{run_few}
 use Rattle.tree.specs.Stands.{SchemaStands}
 use Rattle.state.specs.Lines.{capped}
-use Rattle.state.specs.declared.Done.{Done}
 use Rattle.state.specs.declared.Until.TheVariants as Until
 use Rattle.checker.specs.Promises.{Ran, to_the_end, ended_early, run_until, Queries}
 use Rattle.loading.specs.Promises.{Ahead, Loads}
 use Rattle.loading.proofs.Lines.{query_ahead}
-use Rattle.seek.specs.declared.Turn.{Turn}
 use Rattle.seek.specs.Promises.{SchemaIn, Turned, Turns, RanOn, RunsOn}
 use Rattle.seek.proofs.Counting.{out_first, goes_first}
+
+-- ---- What comes through a `?`
+
+-- The callee's refusal.
+pub passed_on : {A : Type 0} (r : Result A Refusal) {e : Refusal} → IsErrAnd r (λ x. x ≡ e) → r ≡ Err e
+passed_on r h = let p = err_from_is_err_and r h in p.1 ∙ ap Err p.2
+
+-- The refusal that stands for None.
+pub turned_to : {A B : Type 0} (r : Result A Refusal) {e : Refusal} (o : Option B) (refusal : Refusal) → IsErrAnd r (λ x. x ≡ e) → o ≡ None
+    → ◌≡◌ {A = Result B Refusal} (Err e) (ok_or o refusal) → r ≡ Err refusal
+turned_to {A} {B} r {e} o refusal h n v =
+    let z : ◌≡◌ {A = Result B Refusal} (Err e) (Err refusal) = v ∙ ap (λ (x : Option B). ok_or x refusal) n in
+    let same : e ≡ refusal = cc in
+    passed_on r h ∙ ap Err same
+
+pub ok_parts : {a b x y : ℕ} → ◌≡◌ {A = Result (ℕ × ℕ) Refusal} (Ok (a, b)) (Ok (x, y)) → (a ≡ x) × (b ≡ y)
+ok_parts {a} {b} {x} {y} e =
+    let z : ◌≡◌ {A = ℕ × ℕ} (a, b) (x, y) = cc in
+    (ap (λ (p : ℕ × ℕ). p.0) z, ap (λ (p : ℕ × ℕ). p.1) z)
 
 -- ---- A query
 
@@ -41,28 +57,28 @@ run_is : (form : Form) (a : Ast) → run_until the_end (view_of form a) 1048576 
 unfolding run begin run_until view_of max_visits
 run_is form a = refl
 
-module _ {f w w₁ o w₂ o' : List ℕ} {at next : ℕ} {x : Done} (L : Loads f at w w₁ next) (Q : Queries f w₁ o Until.TheEnd 1048576 w₂ o' x) where
+module _ {f w w₁ o w₂ o' : List ℕ} {at next : ℕ} {x : Option ℕ} (L : Loads f at w w₁ next) (Q : Queries f w₁ o Until.TheEnd 1048576 w₂ o' x) where
   ran : (T : Rows) (form : Form) (a : Ast) (qs : List Ast) → Sound (view_of form a) → min_words ≤ length w → SchemaStands f w T form.names form.schema
       → Ahead f at (a ∷ qs) → Ran f w₂ o' (view_of form a) x (run form.schema a max_visits)
   unfolding view_of
   ran T form a qs s l S A = rw (sym (run_is form a)) (Q.is T (view_of form a) s (L.stands T (view_of form a) qs s l S A))
 
-  pub query_on : {left m : ℕ} → x ≡ Done.On left → m ≡ get_or w₂ ENTERED 0 → Turns f at w w₂ (Turn.On next m)
+  pub query_on : {left m : ℕ} → x ≡ Some left → m ≡ get_or w₂ ENTERED 0 → Turns f at w w₂ (Ok (next, m))
   unfolding Turned view_of max_visits
   query_on {left} {m} e count = record {
     is = λ T form a qs s l S A. go form a qs (L.ahead (view_of form a) qs s l A) (run form.schema a max_visits) refl (ran T form a qs s l S A);
-    onward = λ n k q. let same : n ≡ next = cc q in rw same (L.onward, L.within);
+    onward = λ n k q. let same : n ≡ next = sym (ok_parts q).0 in rw same (L.onward, L.within);
     words = Q.words ∙ L.words.long;
   }
     where
       go : (form : Form) (a : Ast) (qs : List Ast) → Ahead f next qs → (s : Step Tree.Ty) → run form.schema a max_visits ≡ s → Ran f w₂ o' (view_of form a) x s
-          → Turned f w₂ form qs (Turn.On next m) s
+          → Turned f w₂ form qs (Ok (next, m)) s
       go form a qs A (goes ty c) q (to_the_end T R t p) =
           let few : length c.entries ≤ 1048576 = run_few form.schema a max_visits ty c q in
-          (next, ap (Turn.On next) (count ∙ t.entered ∙ capped_few (length c.entries) few), A, (T, R.stands.schema))
+          (next, ap (λ m. Ok (next, m)) (count ∙ t.entered ∙ capped_few (length c.entries) few), A, (T, R.stands.schema))
       go form a qs A (out c) q (ended_early T R t k p) = clash (cc (e, p))
 
-  pub query_out : x ≡ Done.Out → Turns f at w w₂ Turn.Out
+  pub query_out : x ≡ None → Turns f at w w₂ (Err Refusal.TooManyVisits)
   unfolding Turned
   query_out e = record {
     is = λ T form a qs s l S A. go form a qs (run form.schema a max_visits) (ran T form a qs s l S A);
@@ -70,7 +86,7 @@ module _ {f w w₁ o w₂ o' : List ℕ} {at next : ℕ} {x : Done} (L : Loads f
     words = Q.words ∙ L.words.long;
   }
     where
-      go : (form : Form) (a : Ast) (qs : List Ast) (s : Step Tree.Ty) → Ran f w₂ o' (view_of form a) x s → Turned f w₂ form qs Turn.Out s
+      go : (form : Form) (a : Ast) (qs : List Ast) (s : Step Tree.Ty) → Ran f w₂ o' (view_of form a) x s → Turned f w₂ form qs (Err Refusal.TooManyVisits) s
       go form a qs (goes ty c) (to_the_end T R t p) = clash (cc (e, p))
       go form a qs (out c) (ended_early T R t k p) = refl
 
@@ -82,7 +98,7 @@ record Left (f w : List ℕ) (form : Form) (at : ℕ) (o : Option (List Typed)) 
   sound : All (λ a. Sound (view_of form a)) qs
   ahead : Ahead f at qs
   stands : SchemaIn f w form
-  back : (b : Bool) (w' : List ℕ) → RanOn f w' form b (run_all form.schema qs) → RanOn f w' form b o
+  back : (b : Result (Unit {0}) Refusal) (w' : List ℕ) → RanOn f w' form b (run_all form.schema qs) → RanOn f w' form b o
 
 pub record Running (f : List ℕ) (from : ℕ) (w₀ w : List ℕ) (at : ℕ) : Type 0 where
   pub words : length w ≡ length w₀
@@ -95,13 +111,13 @@ run_start f from w = record {
   is = λ T form qs s l S A. record { qs = qs; sound = s; ahead = A; stands = (T, S); back = λ b w' r. r };
 }
 
-typed_on : (f w : List ℕ) (form : Form) (b : Bool) (t : Typed) (o : Option (List Typed)) → RanOn f w form b o → RanOn f w form b (with_checked (typed t) o)
+typed_on : (f w : List ℕ) (form : Form) (b : Result (Unit {0}) Refusal) (t : Typed) (o : Option (List Typed)) → RanOn f w form b o → RanOn f w form b (with_checked (typed t) o)
 unfolding RanOn with_checked
-typed_on f w form b t none r = r
-typed_on f w form b t (some ts) r = r
+typed_on f w form b t None r = r
+typed_on f w form b t (Some ts) r = r
 
 module _ {f : List ℕ} {from : ℕ} {w₀ w : List ℕ} {at : ℕ} (R : Running f from w₀ w at) where
-  pub run_end : length f ≤ at → RunsOn f from w₀ w true
+  pub run_end : length f ≤ at → RunsOn f from w₀ w (Ok tt)
   unfolding RanOn run_all
   run_end end = record {
     is = λ T form qs s l S A. let b = R.is T form qs s l S A in go b b.qs b.ahead b.back;
@@ -109,12 +125,12 @@ module _ {f : List ℕ} {from : ℕ} {w₀ w : List ℕ} {at : ℕ} (R : Running
   }
     where
       go : {form : Form} {o : Option (List Typed)} → Left f w form at o → (qs : List Ast) → Ahead f at qs
-          → ((b : Bool) (w' : List ℕ) → RanOn f w' form b (run_all form.schema qs) → RanOn f w' form b o) → RanOn f w form true o
-      go b [] a k = k true w (refl, b.stands)
+          → ((b : Result (Unit {0}) Refusal) (w' : List ℕ) → RanOn f w' form b (run_all form.schema qs) → RanOn f w' form b o) → RanOn f w form (Ok tt) o
+      go b [] a k = k (Ok tt) w (refl, b.stands)
       go b (x ∷ qs) a k = absurd (omega (arith, query_ahead a))
 
-  module _ (here : at < length f) {w₁ : List ℕ} {t : Turn} (G : Turns f at w w₁ t) where
-    pub run_next : {next m : ℕ} → t ≡ Turn.On next m → Running f from w₀ w₁ next
+  module _ (here : at < length f) {w₁ : List ℕ} {t : Result (ℕ × ℕ) Refusal} (G : Turns f at w w₁ t) where
+    pub run_next : {next m : ℕ} → t ≡ Ok (next, m) → Running f from w₀ w₁ next
     unfolding Turned
     run_next {next} {m} e = record {
       words = G.words ∙ R.words;
@@ -122,14 +138,14 @@ module _ {f : List ℕ} {from : ℕ} {w₀ w : List ℕ} {at : ℕ} (R : Running
     }
       where
         go : {form : Form} {o : Option (List Typed)} → Left f w form at o → min_words ≤ length w → (qs : List Ast) → All (λ a. Sound (view_of form a)) qs
-            → Ahead f at qs → ((b : Bool) (w' : List ℕ) → RanOn f w' form b (run_all form.schema qs) → RanOn f w' form b o) → Left f w₁ form next o
+            → Ahead f at qs → ((b : Result (Unit {0}) Refusal) (w' : List ℕ) → RanOn f w' form b (run_all form.schema qs) → RanOn f w' form b o) → Left f w₁ form next o
         go b l [] s a k = absurd (omega (arith, a.ended refl))
         go {form} {o} b l (x ∷ qs) s a k =
             step (run form.schema x max_visits) refl (G.is b.stands.0 form x qs s.0 l b.stands.1 a)
           where
             step : (y : Step Tree.Ty) → run form.schema x max_visits ≡ y → Turned f w₁ form qs t y → Left f w₁ form next o
             step (goes ty c) q h =
-                let same : h.0 ≡ next = cc (h.1, e) in
+                let same : h.0 ≡ next = (ok_parts (sym h.1 ∙ e)).0 in
                 let g = goes_first form.schema x qs q in
                 record {
                   qs = qs;
@@ -140,19 +156,21 @@ module _ {f : List ℕ} {from : ℕ} {w₀ w : List ℕ} {at : ℕ} (R : Running
                 }
             step (out c) q h = clash (cc (h, e))
 
-    pub run_out : t ≡ Turn.Out → RunsOn f from w₀ w₁ false
+    pub run_out : {fault : Refusal} → t ≡ Err fault → RunsOn f from w₀ w₁ (Err fault)
     unfolding Turned RanOn
-    run_out e = record {
+    run_out {fault} e = record {
       is = λ T form qs s l S A. let b = R.is T form qs s l S A in go b (omega (arith, R.words, l)) b.qs b.sound b.ahead b.back;
       words = G.words ∙ R.words;
     }
       where
         go : {form : Form} {o : Option (List Typed)} → Left f w form at o → min_words ≤ length w → (qs : List Ast) → All (λ a. Sound (view_of form a)) qs
-            → Ahead f at qs → ((b : Bool) (w' : List ℕ) → RanOn f w' form b (run_all form.schema qs) → RanOn f w' form b o) → RanOn f w₁ form false o
+            → Ahead f at qs → ((b : Result (Unit {0}) Refusal) (w' : List ℕ) → RanOn f w' form b (run_all form.schema qs) → RanOn f w' form b o) → RanOn f w₁ form (Err fault) o
         go b l [] s a k = absurd (omega (arith, a.ended refl))
         go {form} {o} b l (x ∷ qs) s a k =
             step (run form.schema x max_visits) refl (G.is b.stands.0 form x qs s.0 l b.stands.1 a)
           where
-            step : (y : Step Tree.Ty) → run form.schema x max_visits ≡ y → Turned f w₁ form qs t y → RanOn f w₁ form false o
+            step : (y : Step Tree.Ty) → run form.schema x max_visits ≡ y → Turned f w₁ form qs t y → RanOn f w₁ form (Err fault) o
             step (goes ty c) q h = clash (cc (h.1, e))
-            step (out c) q h = k false w₁ (subst (RanOn f w₁ form false) (sym (out_first form.schema x qs q)) refl)
+            step (out c) q h =
+                let same : fault ≡ Refusal.TooManyVisits = cc in
+                k (Err fault) w₁ (subst (RanOn f w₁ form (Err fault)) (sym (out_first form.schema x qs q)) (ap Err same))

@@ -21,13 +21,12 @@ use Rattle.entries.specs.Entries as Defined
 use Rattle.entries.specs.Entries.{entries_of, nth, found, among}
 use Rattle.entries.proofs.Entries.{StopsAt, stops_at}
 use Rattle.state.specs.Lines.{side_w, Sides, AtEntry}
-use Rattle.state.specs.declared.Done.{Done}
 use Rattle.state.specs.declared.Until.TheVariants as Until
 use Rattle.checker.specs.Promises.{Ran, ended_early, run_until, Queries}
 use Rattle.loading.specs.Promises.{Loads}
-use Rattle.seek.specs.declared.Sought.TheVariants as Sought
 use Rattle.seek.specs.Promises.{Within, Told, Stops}
 use Rattle.seek.proofs.Counting.{until_kept}
+use Rattle.std.specs.Prelude.{Ok, Option, Some}
 
 -- A type read from two words.
 pub side_is : (w : List ℕ) (at : ℕ) {tag payload : ℕ} {t : Ty} → t ≡ ty_w tag payload → tag ≡ get_or w at 0 → payload ≡ get_or w (at + 1) 0 → t ≡ side_w w at
@@ -45,23 +44,23 @@ run_is : (form : Form) (a : Ast) (n : ℕ) → run_until (Check.entry n) (view_o
 unfolding run_until view_of max_visits
 run_is form a n = refl
 
-module _ {f w w₁ o w₂ o' : List ℕ} {at n next : ℕ} {x : Done} (L : Loads f at w w₁ next) (Q : Queries f w₁ o (Until.Entry n) 1048576 w₂ o' x) where
-  pub stops : {a b : Ty} → a ≡ side_w w₂ GOT → b ≡ side_w w₂ EXPECTED → Stops f at n w w₂ (Sought.Entry a b)
+module _ {f w w₁ o w₂ o' : List ℕ} {at n next : ℕ} {x : Option ℕ} (L : Loads f at w w₁ next) (Q : Queries f w₁ o (Until.Entry n) 1048576 w₂ o' x) where
+  pub stops : {a b : Ty} → a ≡ side_w w₂ GOT → b ≡ side_w w₂ EXPECTED → Stops f at n w w₂ (a, b)
   unfolding view_of among ending
   stops {a} {b} got expected = record { is = go; words = Q.words ∙ L.words.long }
     where
-      go : (form : Form) (s : Defined.Sought) → min_words ≤ length w → Within f w form at n s → Told w₂ (Sought.Entry a b) s
+      go : (form : Form) (s : Defined.Sought) → min_words ≤ length w → Within f w form at n s → Told w₂ (Ok (Some (a, b))) s
       go form s l W =
           let d = view_of form W.query in
           let S = stops_at form.schema W.query W.ty W.last W.ran n W.here in
           let ends : run_until (Check.entry n) d 1048576 ≡ out S.at = run_is form W.query n ∙ S.is in
           let kept : S.at.until ≡ Check.entry n = sym (ap (λ y. (ending y).until) S.is) ∙ until_kept form.schema W.query (Check.entry n) max_visits in
           let it : s ≡ found S.here = W.is ∙ ap among S.nth_is in
-          subst (Told w₂ (Sought.Entry a b)) (sym it) (by (run_until (Check.entry n) d 1048576) S ends kept
+          subst (Told w₂ (Ok (Some (a, b)))) (sym it) (by (run_until (Check.entry n) d 1048576) S ends kept
           (Q.is W.rows d W.sound (L.stands W.rows d W.more W.sound l W.stands W.ahead)))
         where
           by : (y : Step Tree.Ty) (S : StopsAt form.schema W.query n) → y ≡ out S.at → S.at.until ≡ Check.entry n
-              → Ran f w₂ o' (view_of form W.query) x y → Told w₂ (Sought.Entry a b) (found S.here)
+              → Ran f w₂ o' (view_of form W.query) x y → Told w₂ (Ok (Some (a, b))) (found S.here)
           by (goes ty c) S e u r = clash (cc e)
           by (out c) S e u (ended_early T R t k p) =
               let same : c ≡ S.at = cc e in

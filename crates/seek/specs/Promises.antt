@@ -1,7 +1,6 @@
 -- What the functions of src/ promise: the entry is `entry_at` of crates/entries, for every file and every work slice; where it is found the
 -- words hold the state right before it.
-use Rattle.std.specs.Prelude.{Bool, true, false, List, ◌∷◌, ◌≡◌, ℕ, ◌≤◌, ◌<◌, length}
-use Rattle.std.proofs.Math.Option.{Option, none, some}
+use Rattle.std.specs.Prelude.{List, ◌∷◌, ◌≡◌, ℕ, ◌≤◌, ◌<◌, length, Err, None, Option, Result, Some}
 use Rattle.unification.specs.Ty as Tree
 use Rattle.unification.specs.Bindings.{State}
 use Rattle.unification.specs.Calls.{Entry}
@@ -21,9 +20,6 @@ use Rattle.tree.specs.Stands.{SchemaStands}
 use Rattle.loading.specs.Promises.{Ahead}
 use Rattle.reading.specs.Promises.{refusal}
 use Rattle.reading.specs.declared.Refusal.{Refusal}
-use Rattle.seek.specs.declared.Turn.{Turn}
-use Rattle.seek.specs.declared.Place.{Place}
-use Rattle.seek.specs.declared.Sought.{Sought}
 
 -- The schema and the names stand in the words, with whatever rows.
 abbrev pub SchemaIn : List ℕ → List ℕ → Form → Type 0
@@ -32,23 +28,23 @@ SchemaIn f w form = (T : Rows) × SchemaStands f w T form.names form.schema
 -- ---- The queries' whole runs
 
 -- As the definition's run ends; where it went to its end its entries are counted and the others lie ahead.
-unfoldable pub Turned : List ℕ → List ℕ → Form → List Ast → Turn → Step Tree.Ty → Type 0
-Turned f w' form qs r (goes ty c) = (next : ℕ) × (r ≡ Turn.On next (length c.entries)) × Ahead f next qs × SchemaIn f w' form
-Turned f w' form qs r (out c) = r ≡ Turn.Out
+unfoldable pub Turned : List ℕ → List ℕ → Form → List Ast → Result (ℕ × ℕ) Refusal → Step Tree.Ty → Type 0
+Turned f w' form qs r (goes ty c) = (next : ℕ) × (r ≡ Result.Ok (next, length c.entries)) × Ahead f next qs × SchemaIn f w' form
+Turned f w' form qs r (out c) = r ≡ Err Refusal.TooManyVisits
 
-pub record Turns (f : List ℕ) (at : ℕ) (w w' : List ℕ) (r : Turn) : Type 0 where
+pub record Turns (f : List ℕ) (at : ℕ) (w w' : List ℕ) (r : Result (ℕ × ℕ) Refusal) : Type 0 where
   pub is : (T : Rows) (form : Form) (a : Ast) (qs : List Ast) → Sound (view_of form a) → min_words ≤ length w → SchemaStands f w T form.names form.schema
       → Ahead f at (a ∷ qs) → Turned f w' form qs r (run form.schema a max_visits)
-  pub onward : (next m : ℕ) → r ≡ Turn.On next m → (at < length f → at < next) × (next ≤ length f)
+  pub onward : (next m : ℕ) → r ≡ Result.Ok (next, m) → (at < length f → at < next) × (next ≤ length f)
   pub words : length w' ≡ length w
 
-unfoldable pub RanOn : List ℕ → List ℕ → Form → Bool → Option (List Typed) → Type 0
-RanOn f w' form b none = b ≡ false
-RanOn f w' form b (some ts) = (b ≡ true) × SchemaIn f w' form
+unfoldable pub RanOn : List ℕ → List ℕ → Form → Result (Unit {0}) Refusal → Option (List Typed) → Type 0
+RanOn f w' form r None = r ≡ Err Refusal.TooManyVisits
+RanOn f w' form r (Some ts) = (r ≡ Result.Ok tt) × SchemaIn f w' form
 
-pub record RunsOn (f : List ℕ) (from : ℕ) (w w' : List ℕ) (b : Bool) : Type 0 where
+pub record RunsOn (f : List ℕ) (from : ℕ) (w w' : List ℕ) (r : Result (Unit {0}) Refusal) : Type 0 where
   pub is : (T : Rows) (form : Form) (qs : List Ast) → All (λ a. Sound (view_of form a)) qs → min_words ≤ length w
-      → SchemaStands f w T form.names form.schema → Ahead f from qs → RanOn f w' form b (run_all form.schema qs)
+      → SchemaStands f w T form.names form.schema → Ahead f from qs → RanOn f w' form r (run_all form.schema qs)
   pub words : length w' ≡ length w
 
 -- ---- The query in which the entry is
@@ -67,12 +63,13 @@ pub record Within (f w : List ℕ) (form : Form) (at rest : ℕ) (s : Defined.So
   pub here : rest < length (entries_of form.schema query)
   pub is : s ≡ among (nth (entries_of form.schema query) rest)
 
-abbrev pub Placed : List ℕ → List ℕ → Form → Place → Defined.Sought → Type 0
-Placed f w' form (Place.At at rest) s = Within f w' form at rest s
-Placed f w' form Place.Fewer s = s ≡ fewer
-Placed f w' form Place.Out s = s ≡ turned_down too_many_visits
+-- There is such an entry, there are fewer, or a query's visits ran out.
+abbrev pub Placed : List ℕ → List ℕ → Form → Result (Option (ℕ × ℕ)) Refusal → Defined.Sought → Type 0
+Placed f w' form (Result.Ok (Some place)) s = Within f w' form place.0 place.1 s
+Placed f w' form (Result.Ok None) s = s ≡ fewer
+Placed f w' form (Err e) s = (e ≡ Refusal.TooManyVisits) × (s ≡ turned_down too_many_visits)
 
-pub record Places (f : List ℕ) (n : ℕ) (w w' : List ℕ) (r : Place) : Type 0 where
+pub record Places (f : List ℕ) (n : ℕ) (w w' : List ℕ) (r : Result (Option (ℕ × ℕ)) Refusal) : Type 0 where
   pub is : (T : Rows) (form : Form) → reading f ≡ described form → min_words ≤ length w → SchemaStands f w T form.names form.schema
       → Placed f w' form r (sought_run form.schema form.queries n (run_all form.schema form.queries))
   pub words : length w' ≡ length w
@@ -91,22 +88,22 @@ pub record Shows (w : List ℕ) (a b : Ty) (e : Entry) : Type 0 where
   pub expected : tree rows b ≡ e.expected
 
 -- What was found, beside what the definition finds.
-abbrev pub Told : List ℕ → Sought → Defined.Sought → Type 0
-Told w r (found e) = (a : Ty) × (b : Ty) × (r ≡ Sought.Entry a b) × Shows w a b e
-Told w r fewer = r ≡ Sought.Fewer
-Told w r (turned_down i) = (i' : Refusal) × (r ≡ Sought.Refused i') × (refusal i' ≡ i)
+abbrev pub Told : List ℕ → Result (Option (Ty × Ty)) Refusal → Defined.Sought → Type 0
+Told w r (found e) = (a : Ty) × (b : Ty) × (r ≡ Result.Ok (Some (a, b))) × Shows w a b e
+Told w r fewer = r ≡ Result.Ok None
+Told w r (turned_down i) = (i' : Refusal) × (r ≡ Err i') × (refusal i' ≡ i)
 
-pub record Stops (f : List ℕ) (at n : ℕ) (w w' : List ℕ) (r : Sought) : Type 0 where
-  pub is : (form : Form) (s : Defined.Sought) → min_words ≤ length w → Within f w form at n s → Told w' r s
+pub record Stops (f : List ℕ) (at n : ℕ) (w w' : List ℕ) (r : Ty × Ty) : Type 0 where
+  pub is : (form : Form) (s : Defined.Sought) → min_words ≤ length w → Within f w form at n s → Told w' (Result.Ok (Some r)) s
   pub words : length w' ≡ length w
 
 -- ---- The whole
 
-pub record Finds (f : List ℕ) (n : ℕ) (w w' : List ℕ) (r : Sought) : Type 0 where
+pub record Finds (f : List ℕ) (n : ℕ) (w w' : List ℕ) (r : Result (Option (Ty × Ty)) Refusal) : Type 0 where
   pub is : (T : Rows) (form : Form) → reading f ≡ described form → min_words ≤ length w → SchemaStands f w T form.names form.schema
       → Told w' r (sought_run form.schema form.queries n (run_all form.schema form.queries))
   pub words : length w' ≡ length w
 
-pub record Seeks (f : List ℕ) (n : ℕ) (w w' : List ℕ) (r : Sought) : Type 0 where
+pub record Seeks (f : List ℕ) (n : ℕ) (w w' : List ℕ) (r : Result (Option (Ty × Ty)) Refusal) : Type 0 where
   pub is : Told w' r (entry_at f n (length w))
   pub words : length w' ≡ length w

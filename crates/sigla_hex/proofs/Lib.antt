@@ -1,3 +1,3 @@
-pub mod Values
 pub mod Line
+pub mod Values
 pub mod Bytes

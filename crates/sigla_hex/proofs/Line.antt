@@ -1,7 +1,6 @@
 -- A line is read two characters at a time: what stands at a place says what the line holds from there on, by what it holds two places on.
 use mathlib.Core.Bool.{Bool, true, false}
 use mathlib.Core.List.{List, [], ◌∷◌, ◌++◌, append_assoc}
-use mathlib.Core.Option.{Option, none, some}
 use mathlib.Core.Path.{◌≡◌, refl, sym, ap, ◌∙◌}
 use Prim.Native.Nat.{ℕ, suc, ◌+◌, ◌*◌, ◌<◌, ◌≤◌}
 use native.Mathlib.Numerals.{add-one}
@@ -13,86 +12,87 @@ use borrow.Author.Tests.{eq-eqb, ne_eqb, eqb-true, eqb-false, lt-ltb, le-ltb, lt
 use Rattle.text.specs.Utf8.{one_more}
 use Rattle.meaning.specs.Diag.{ascii}
 use Rattle.meaning.specs.Lines.{Line, closed, unclosed, LF, in_front, lines, position, digits, digit, pair, decoded}
-use Rattle.sigla_hex.specs.Digits.{or_else, digit_w, byte_of, pair_at}
+use Rattle.sigla_hex.specs.Digits.{digit_w, byte_of, pair_at}
+use Rattle.std.specs.Prelude.{None, Option, Some, unwrap_or}
 
 -- ---- Digits
 
 -- nothing is `some` and `none`
-pub no_some : {A B : Type 0} {x : A} → none ≡ some x → B
+pub no_some : {A B : Type 0} {x : A} → None ≡ Some x → B
 no_some e = let z : ◌≡◌ {A = ℕ} 0 1 = cc in absurd (omega arith)
 
-one_later : (b : Bool) (o : Option ℕ) (k n : ℕ) → ((m : ℕ) → o ≡ some m → m < k) → elim b [ true ↦ some 0 | false ↦ one_more o ] ≡ some n → n < suc k
+one_later : (b : Bool) (o : Option ℕ) (k n : ℕ) → ((m : ℕ) → o ≡ Some m → m < k) → elim b [ true ↦ Some 0 | false ↦ one_more o ] ≡ Some n → n < suc k
 one_later true o k n below e = let z : 0 ≡ n = cc in omega arith
-one_later false none k n below e = no_some e
-one_later false (some m) k n below e = let s : suc m ≡ n = cc in omega (arith, below m refl)
+one_later false None k n below e = no_some e
+one_later false (Some m) k n below e = let s : suc m ≡ n = cc in omega (arith, below m refl)
 
-place_below : {A : Type 0} (test : A → Bool) (l : List A) (n : ℕ) → position test l ≡ some n → n < length l
+pub place_below : {A : Type 0} (test : A → Bool) (l : List A) (n : ℕ) → position test l ≡ Some n → n < length l
 unfolding position
 place_below test [] n e = no_some e
 place_below test (a ∷ l) n e = one_later (test a) (position test l) (length l) n (λ m q. place_below test l m q) e
 
-pub digit_below : (c n : ℕ) → digit c ≡ some n → n < 16
+pub digit_below : (c n : ℕ) → digit c ≡ Some n → n < 16
 unfolding digit digits ascii
 digit_below c n e = place_below (eqb c) digits n e
 
-character : (c : ℕ) (l : List ℕ) (n : ℕ) → position (eqb c) l ≡ some n → c ≡ get_or l n 0
+character : (c : ℕ) (l : List ℕ) (n : ℕ) → position (eqb c) l ≡ Some n → c ≡ get_or l n 0
 unfolding position
 character c [] n e = no_some e
 character c (a ∷ l) n e = go (eqb c a) refl (position (eqb c) l) (λ m q. character c l m q) e
   where
-    go : (b : Bool) → eqb c a ≡ b → (o : Option ℕ) → ((m : ℕ) → o ≡ some m → c ≡ get_or l m 0) → elim b [ true ↦ some 0 | false ↦ one_more o ] ≡ some n
+    go : (b : Bool) → eqb c a ≡ b → (o : Option ℕ) → ((m : ℕ) → o ≡ Some m → c ≡ get_or l m 0) → elim b [ true ↦ Some 0 | false ↦ one_more o ] ≡ Some n
         → c ≡ get_or (a ∷ l) n 0
     go true t o at e = let z : n ≡ 0 = cc in rw z (eqb-true c a t)
-    go false t none at e = no_some e
-    go false t (some m) at e = let z : n ≡ suc m = cc in rw z (at m refl)
+    go false t None at e = no_some e
+    go false t (Some m) at e = let z : n ≡ suc m = cc in rw z (at m refl)
 
 -- A digit's value says which digit it is.
-pub digit_same : (c d n : ℕ) → digit c ≡ some n → digit d ≡ some n → c ≡ d
+pub digit_same : (c d n : ℕ) → digit c ≡ Some n → digit d ≡ Some n → c ≡ d
 unfolding digit
 digit_same c d n p q = character c digits n p ∙ sym (character d digits n q)
 
-digit_LF : digit LF ≡ none
+digit_LF : digit LF ≡ None
 unfolding digit digits ascii position
 digit_LF = refl
 
-pub digit_other : (c n : ℕ) → digit c ≡ some n → c ≡ LF → ⊥
+pub digit_other : (c n : ℕ) → digit c ≡ Some n → c ≡ LF → ⊥
 digit_other c n e q = no_some (sym digit_LF ∙ ap digit (sym q) ∙ e)
 
 -- The code's digit tells whether there is one.
-pub is_digit_lem : (c : ℕ) → digit_w c < 16 → digit c ≡ some (digit_w c)
+pub is_digit_lem : (c : ℕ) → digit_w c < 16 → digit c ≡ Some (digit_w c)
 unfolding digit_w
 is_digit_lem c h = go (digit c) h
   where
-    go : (o : Option ℕ) → or_else 16 o < 16 → o ≡ some (or_else 16 o)
-    go none h = absurd (omega arith)
-    go (some n) h = refl
+    go : (o : Option ℕ) → unwrap_or o 16 < 16 → o ≡ Some (unwrap_or o 16)
+    go None h = absurd (omega arith)
+    go (Some n) h = refl
 
-pub no_digit : (c : ℕ) → 16 ≤ digit_w c → digit c ≡ none
+pub no_digit : (c : ℕ) → 16 ≤ digit_w c → digit c ≡ None
 unfolding digit_w
 no_digit c h = go (digit c) refl h
   where
-    go : (o : Option ℕ) → digit c ≡ o → 16 ≤ or_else 16 o → o ≡ none
-    go none e h = refl
-    go (some n) e h = absurd (omega (arith, digit_below c n e))
+    go : (o : Option ℕ) → digit c ≡ o → 16 ≤ unwrap_or o 16 → o ≡ None
+    go None e h = refl
+    go (Some n) e h = absurd (omega (arith, digit_below c n e))
 
 pub pair_within : (f : List ℕ) (i : ℕ) → i + 1 < length f → pair_at f i ≡ byte_of (digit (get_or f i 0)) (digit (get_or f (i + 1) 0))
 unfolding pair_at
-pair_within f i h = ap (λ t. elim t [ true ↦ byte_of (digit (get_or f i 0)) (digit (get_or f (i + 1) 0)) | false ↦ none ]) (lt-ltb (i + 1) (length f) h)
+pair_within f i h = ap (λ t. elim t [ true ↦ byte_of (digit (get_or f i 0)) (digit (get_or f (i + 1) 0)) | false ↦ None ]) (lt-ltb (i + 1) (length f) h)
 
-pub pair_past : (f : List ℕ) (i : ℕ) → length f ≤ i + 1 → pair_at f i ≡ none
+pub pair_past : (f : List ℕ) (i : ℕ) → length f ≤ i + 1 → pair_at f i ≡ None
 unfolding pair_at
-pair_past f i h = ap (λ t. elim t [ true ↦ byte_of (digit (get_or f i 0)) (digit (get_or f (i + 1) 0)) | false ↦ none ]) (le-ltb (i + 1) (length f) h)
+pair_past f i h = ap (λ t. elim t [ true ↦ byte_of (digit (get_or f i 0)) (digit (get_or f (i + 1) 0)) | false ↦ None ]) (le-ltb (i + 1) (length f) h)
 
-pub pair_below : (f : List ℕ) (i n : ℕ) → pair_at f i ≡ some n → n < 256
+pub pair_below : (f : List ℕ) (i n : ℕ) → pair_at f i ≡ Some n → n < 256
 unfolding pair_at byte_of
 pair_below f i n e = go (ltb (i + 1) (length f)) (digit (get_or f i 0)) (digit (get_or f (i + 1) 0)) (digit_below (get_or f i 0)) (digit_below (get_or f (i + 1) 0)) e
   where
-    go : (b : Bool) (o p : Option ℕ) → ((m : ℕ) → o ≡ some m → m < 16) → ((m : ℕ) → p ≡ some m → m < 16)
-        → elim b [ true ↦ byte_of o p | false ↦ none ] ≡ some n → n < 256
+    go : (b : Bool) (o p : Option ℕ) → ((m : ℕ) → o ≡ Some m → m < 16) → ((m : ℕ) → p ≡ Some m → m < 16)
+        → elim b [ true ↦ byte_of o p | false ↦ None ] ≡ Some n → n < 256
     go false o p h l e = no_some e
-    go true none p h l e = no_some e
-    go true (some x) none h l e = no_some e
-    go true (some x) (some y) h l e = let q : x * 16 + y ≡ n = cc in omega (arith, h x refl, l y refl)
+    go true None p h l e = no_some e
+    go true (Some x) None h l e = no_some e
+    go true (Some x) (Some y) h l e = let q : x * 16 + y ≡ n = cc in omega (arith, h x refl, l y refl)
 
 -- ---- The line at a place
 
@@ -111,7 +111,7 @@ longer b (unclosed s) = unclosed (b ∷ s)
 -- what the digits of a line say, however many they are
 abbrev pub decoded_line : Line → Option (List ℕ)
 decoded_line (closed s) = decoded s
-decoded_line (unclosed s) = none
+decoded_line (unclosed s) = None
 
 in_front_lem : (b : ℕ) (ls : List Line) → in_front b ls ≡ longer b (head_line ls) ∷ others ls
 unfolding in_front
@@ -129,35 +129,35 @@ lines_other b s n = rw (ne_eqb b LF n, lines) (in_front_lem b (lines s))
 
 -- bytes in front of those that follow, if those are any
 abbrev pub prefixed : List ℕ → Option (List ℕ) → Option (List ℕ)
-prefixed s none = none
-prefixed s (some t) = some (s ++ t)
+prefixed s None = None
+prefixed s (Some t) = Some (s ++ t)
 
 pub prefixed_nil : (o : Option (List ℕ)) → prefixed [] o ≡ o
-prefixed_nil none = refl
-prefixed_nil (some t) = refl
+prefixed_nil None = refl
+prefixed_nil (Some t) = refl
 
 pub prefixed_twice : (r s : List ℕ) (o : Option (List ℕ)) → prefixed r (prefixed s o) ≡ prefixed (r ++ s) o
-prefixed_twice r s none = refl
-prefixed_twice r s (some t) = ap some (sym (append_assoc r s t))
+prefixed_twice r s None = refl
+prefixed_twice r s (Some t) = ap Some (sym (append_assoc r s t))
 
-two_digits : (h l : ℕ) (o : Option (List ℕ)) → pair (some h) (some l) o ≡ prefixed ((h * 16 + l) ∷ []) o
+two_digits : (h l : ℕ) (o : Option (List ℕ)) → pair (Some h) (Some l) o ≡ prefixed ((h * 16 + l) ∷ []) o
 unfolding pair
-two_digits h l none = refl
-two_digits h l (some t) = refl
+two_digits h l None = refl
+two_digits h l (Some t) = refl
 
-no_digits : (o p : Option ℕ) (q : Option (List ℕ)) → byte_of o p ≡ none → pair o p q ≡ none
+no_digits : (o p : Option ℕ) (q : Option (List ℕ)) → byte_of o p ≡ None → pair o p q ≡ None
 unfolding pair byte_of
-no_digits none p q e = refl
-no_digits (some h) none q e = refl
-no_digits (some h) (some l) q e = no_some (sym e)
+no_digits None p q e = refl
+no_digits (Some h) None q e = refl
+no_digits (Some h) (Some l) q e = no_some (sym e)
 
-longer_two : (x y h l : ℕ) (ln : Line) → digit x ≡ some h → digit y ≡ some l
+longer_two : (x y h l : ℕ) (ln : Line) → digit x ≡ Some h → digit y ≡ Some l
     → decoded_line (longer x (longer y ln)) ≡ prefixed ((h * 16 + l) ∷ []) (decoded_line ln)
 unfolding decoded
 longer_two x y h l (closed s) e q = rw (e, q) (two_digits h l (decoded s))
 longer_two x y h l (unclosed s) e q = refl
 
-longer_none : (x y : ℕ) (ln : Line) → byte_of (digit x) (digit y) ≡ none → decoded_line (longer x (longer y ln)) ≡ none
+longer_none : (x y : ℕ) (ln : Line) → byte_of (digit x) (digit y) ≡ None → decoded_line (longer x (longer y ln)) ≡ None
 unfolding decoded
 longer_none x y (closed s) e = no_digits (digit x) (digit y) (decoded s) e
 longer_none x y (unclosed s) e = refl
@@ -175,20 +175,20 @@ pub record DigitsAt (f : List ℕ) (i b : ℕ) : Type 0 where
   pub room : i + 1 < length f
   pub h : ℕ
   pub l : ℕ
-  pub high : digit (get_or f i 0) ≡ some h
-  pub low : digit (get_or f (i + 1) 0) ≡ some l
+  pub high : digit (get_or f i 0) ≡ Some h
+  pub low : digit (get_or f (i + 1) 0) ≡ Some l
   pub is : h * 16 + l ≡ b
 
-pub pair_digits : (f : List ℕ) (i b : ℕ) → pair_at f i ≡ some b → DigitsAt f i b
+pub pair_digits : (f : List ℕ) (i b : ℕ) → pair_at f i ≡ Some b → DigitsAt f i b
 unfolding pair_at byte_of
 pair_digits f i b e = go (ltb (i + 1) (length f)) refl (digit (get_or f i 0)) refl (digit (get_or f (i + 1) 0)) refl e
   where
     go : (t : Bool) → ltb (i + 1) (length f) ≡ t → (o : Option ℕ) → digit (get_or f i 0) ≡ o → (p : Option ℕ) → digit (get_or f (i + 1) 0) ≡ p
-        → elim t [ true ↦ byte_of o p | false ↦ none ] ≡ some b → DigitsAt f i b
+        → elim t [ true ↦ byte_of o p | false ↦ None ] ≡ Some b → DigitsAt f i b
     go false t o h p l e = no_some e
-    go true t none h p l e = no_some e
-    go true t (some x) h none l e = no_some e
-    go true t (some x) h (some y) l e = record { room = ltb-true (i + 1) (length f) t; h = x; l = y; high = h; low = l; is = cc }
+    go true t None h p l e = no_some e
+    go true t (Some x) h None l e = no_some e
+    go true t (Some x) h (Some y) l e = record { room = ltb-true (i + 1) (length f) t; h = x; l = y; high = h; low = l; is = cc }
 
 module _ (f : List ℕ) (i : ℕ) where
   pub from_here : i < length f → drop i f ≡ get_or f i 0 ∷ drop (i + 1) f
@@ -226,7 +226,7 @@ module _ (f : List ℕ) (i : ℕ) where
       let second = rw two_on at (lines_at_other f (i + 1) h y) in
       rw second at first
 
-  module _ {b : ℕ} (e : pair_at f i ≡ some b) where
+  module _ {b : ℕ} (e : pair_at f i ≡ Some b) where
     lines_at_pair : lines (drop i f) ≡ longer (get_or f i 0) (longer (get_or f (i + 1) 0) (head_line (lines (drop (i + 2) f)))) ∷ others_at f (i + 2)
     lines_at_pair =
         let d = pair_digits f i b e in
@@ -242,20 +242,20 @@ module _ (f : List ℕ) (i : ℕ) where
     pub others_on : others_at f i ≡ others_at f (i + 2)
     others_on = ap others lines_at_pair
 
-  pub decoded_none : i < length f → (get_or f i 0 ≡ LF → ⊥) → pair_at f i ≡ none → decoded_at f i ≡ none
+  pub decoded_none : i < length f → (get_or f i 0 ≡ LF → ⊥) → pair_at f i ≡ None → decoded_at f i ≡ None
   unfolding pair_at decoded
   decoded_none h n e = go (ltb (i + 1) (length f)) refl e
     where
-      odd : lines (drop (i + 1) f) ≡ closed [] ∷ lines (drop (i + 1 + 1) f) → decoded_at f i ≡ none
+      odd : lines (drop (i + 1) f) ≡ closed [] ∷ lines (drop (i + 1 + 1) f) → decoded_at f i ≡ None
       odd q = ap (λ ls. decoded_line (head_line ls)) (rw q at (lines_at_other f i h n))
 
-      close : (t : Bool) → eqb (get_or f (i + 1) 0) LF ≡ t → i + 1 < length f → byte_of (digit (get_or f i 0)) (digit (get_or f (i + 1) 0)) ≡ none
-          → decoded_at f i ≡ none
+      close : (t : Bool) → eqb (get_or f (i + 1) 0) LF ≡ t → i + 1 < length f → byte_of (digit (get_or f i 0)) (digit (get_or f (i + 1) 0)) ≡ None
+          → decoded_at f i ≡ None
       close true q l none_here = odd (lines_at_LF f (i + 1) l (eqb-true (get_or f (i + 1) 0) LF q))
       close false q l none_here = ap (λ ls. decoded_line (head_line ls)) (lines_at_two l n (eqb-false (get_or f (i + 1) 0) LF q)) ∙ longer_none
           (get_or f i 0) (get_or f (i + 1) 0) (head_line (lines (drop (i + 2) f))) none_here
 
       go : (t : Bool) → ltb (i + 1) (length f) ≡ t → ◌≡◌ {A = Option ℕ}
-          (elim t [ true ↦ byte_of (digit (get_or f i 0)) (digit (get_or f (i + 1) 0)) | false ↦ none ]) none → decoded_at f i ≡ none
+          (elim t [ true ↦ byte_of (digit (get_or f i 0)) (digit (get_or f (i + 1) 0)) | false ↦ None ]) None → decoded_at f i ≡ None
       go true q e = close (eqb (get_or f (i + 1) 0) LF) refl (ltb-true (i + 1) (length f) q) e
       go false q e = ap (λ ls. decoded_line (head_line ls)) (rw (lines_at_end f (i + 1) (ltb-false (i + 1) (length f) q)) at (lines_at_other f i h n))

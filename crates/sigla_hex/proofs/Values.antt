@@ -5,8 +5,11 @@ use Prim.Native.Nat.{ℕ, ◌+◌, ◌-◌, ◌<◌, ◌≤◌}
 use native.Mathlib.Omega.{arith}
 use lib.Dec.{eqb}
 use borrow.Author.Tests.{eqb-true}
+use Rattle.std.specs.Prelude.{Some, None}
 use Rattle.text.proofs.Every.{below, every}
+use Rattle.meaning.specs.Lines.{digit}
 use Rattle.sigla_hex.specs.Digits.{digit_w}
+use Rattle.sigla_hex.proofs.Line.{is_digit_lem, no_digit}
 
 -- the n numbers from a on, of which f gives the k-th v k
 pub run : (f : ℕ → ℕ) (a n : ℕ) (v : ℕ → ℕ) → below (λ k. eqb (f (a + k)) (v k)) n ≡ true → (c : ℕ) → a ≤ c → c < a + n → v (c - a) ≡ f c
@@ -14,24 +17,30 @@ run f a n v t c l h =
     let at : a + (c - a) ≡ c = omega arith in
     sym (eqb-true _ _ (every (λ k. eqb (f (a + k)) (v k)) n t (c - a) (omega arith))) ∙ ap f at
 
-pub low : (c : ℕ) → c < 48 → 16 ≡ digit_w c
-unfolding digit_w
-low c h = run digit_w 0 48 (λ _. 16) refl c (omega arith) h
+some : (c n : ℕ) → n < 16 → n ≡ digit_w c → Some n ≡ digit c
+some c n l e = ap Some e ∙ sym (is_digit_lem c (omega (arith, e)))
 
-pub decimal : (c : ℕ) → 48 ≤ c → c < 58 → c - 48 ≡ digit_w c
-unfolding digit_w
-decimal c l h = run digit_w 48 10 (λ k. k) refl c l h
+none : (c : ℕ) → 16 ≡ digit_w c → None ≡ digit c
+none c e = sym (no_digit c (omega (arith, e)))
 
-pub between : (c : ℕ) → 58 ≤ c → c < 97 → 16 ≡ digit_w c
+pub low : (c : ℕ) → c < 48 → None ≡ digit c
 unfolding digit_w
-between c l h = run digit_w 58 39 (λ _. 16) refl c l h
+low c h = none c (run digit_w 0 48 (λ _. 16) refl c (omega arith) h)
 
-pub letter : (c : ℕ) → 97 ≤ c → c < 103 → c - 87 ≡ digit_w c
+pub decimal : (c : ℕ) → 48 ≤ c → c < 58 → Some (c - 48) ≡ digit c
 unfolding digit_w
-letter c l h =
-    let on : c - 87 ≡ 10 + (c - 97) = omega arith in
-    on ∙ run digit_w 97 6 (λ k. 10 + k) refl c l h
+decimal c l h = some c (c - 48) (omega arith) (run digit_w 48 10 (λ k. k) refl c l h)
 
-pub high : (c : ℕ) → 103 ≤ c → c < 256 → 16 ≡ digit_w c
+pub between : (c : ℕ) → 58 ≤ c → c < 97 → None ≡ digit c
 unfolding digit_w
-high c l h = run digit_w 103 153 (λ _. 16) refl c l h
+between c l h = none c (run digit_w 58 39 (λ _. 16) refl c l h)
+
+pub letter : (c : ℕ) → 97 ≤ c → c < 103 → Some (c - 97 + 10) ≡ digit c
+unfolding digit_w
+letter c l h = some c (c - 97 + 10) (omega arith) (run digit_w 97 6 (λ k. k + 10) refl c l h)
+
+pub high : (c : ℕ) → 103 ≤ c → c < 256 → None ≡ digit c
+unfolding digit_w
+high c l h = none c (run digit_w 103 153 (λ _. 16) refl c l h)
+
+pub ruleset digit_values = (low, decimal, between, letter, high)

@@ -1,24 +1,18 @@
 // Lower-case hexadecimal digits.
 #![tactic(auto)]
 
-ghost use Rattle.std.specs.Prelude.{◌≡◌, ◌<◌};
-ghost use Rattle.sigla_hex.specs.Digits.{digit_w};
+ghost use Rattle.std.specs.Prelude.{◌≡◌, ◌<◌, IfSome};
+ghost use Rattle.meaning.specs.Lines.{digit};
 
-// The value of a digit, and 16 for any other byte.
-pub fn digit(c: u8) -> u8
-    ensures { (result ≡ digit_w c) × (result < 17) }
+// The value of a digit.
+#[tactic(auto, using(crate::proofs::Values::digit_values))]
+pub fn digit(b: u8) -> Option<u8>
+    ensures is { result ≡ digit b }
+    ensures below { IfSome result (λ d. d < 16) }
 {
-    if c < 48 {
-        return 16;
+    match b {
+        b'0'..=b'9' => Some(b - b'0'),
+        b'a'..=b'f' => Some(b - b'a' + 10),
+        _ => None,
     }
-    if c < 58 {
-        return c - 48;
-    }
-    if c < 97 {
-        return 16;
-    }
-    if c < 103 {
-        return c - 87;
-    }
-    16
 }

@@ -1,23 +1,34 @@
 // The calls for programs in other languages: every slice goes as a pointer and a length, an array as a pointer. Each gives back 0, or the
 // number of the refusal.
-#![tactic(auto)]
+#![tactic(auto, unfolding(meaning::specs::Refusal::number))]
 
-ghost use Rattle.sigla_lib.specs.Numbers.{CallsCheck, CallsLamp, CallsInspect, CallsWiden, CallsNarrow, CallsTally, CallsSetUp, CallsCeiling, CallsNewDay, CallsCheckAt, CallsGrowth, CallsLoad, outcome_number};
+ghost use Rattle.sigla_lib.specs.Numbers.{CallsCheck, CallsLamp, CallsInspect, CallsWiden, CallsNarrow, CallsTally, CallsSetUp, CallsCeiling, CallsNewDay, CallsCheckAt, CallsGrowth, CallsLoad, outcome_number, or_else};
+ghost use Rattle.cabinet.specs.Promises.{left};
+ghost use Rattle.meaning.specs.Refusal.{number};
+ghost use Rattle.reading.specs.Promises.{refusal};
 ghost use Rattle.std.specs.Prelude.{◌≡◌};
 
-use cabinet::Allowance;
-use desk::Outcome;
+use cabinet::Group;
 use inspect::Inspected;
-use lamp::Signal;
 use reading::Refusal;
-use writer::Wrote;
 
-fn number(r: Outcome) -> u8
+fn number(r: Result<usize, Refusal>) -> u8
     ensures { result ≡ outcome_number r }
 {
     match r {
-        Outcome::Accepted(_) => 0,
-        Outcome::Refused(e) => desk::refusal_number(e),
+        Ok(_) => 0,
+        Err(e) => desk::refusal_number(e),
+    }
+}
+
+// What a call leaves, whether it was refused or not, with the number of the refusal or 0.
+fn left<T>(r: Result<T, T>, e: Refusal) -> (T, u8)
+    ensures value { result.0 ≡ left r }
+    ensures number { result.1 ≡ or_else r (number (refusal e)) }
+{
+    match r {
+        Ok(x) => (x, 0),
+        Err(x) => (x, desk::refusal_number(e)),
     }
 }
 
@@ -39,15 +50,15 @@ pub extern "C" fn sigla_lamp(file: &[u8], work: &mut [u32], lit: &mut u32) -> u8
     let l = lamp::lamp(file, work);
     let shown = l.signal;
     match shown {
-        Signal::Yes => {
+        Ok(true) => {
             *lit = 1;
             0
         }
-        Signal::No => {
+        Ok(false) => {
             *lit = 0;
             0
         }
-        Signal::Refused(e) => {
+        Err(e) => {
             *lit = 0;
             desk::refusal_number(e)
         }
@@ -134,11 +145,11 @@ pub extern "C" fn sigla_load(seed: u32, out: &mut [u8], length: &mut usize) -> u
 {
     let r = generator::make(seed, out);
     match r {
-        Wrote::To(n) => {
+        Some(n) => {
             *length = n;
             0
         }
-        Wrote::Full => {
+        None => {
             *length = 0;
             12
         }
@@ -152,13 +163,12 @@ pub extern "C" fn sigla_load(seed: u32, out: &mut [u8], length: &mut usize) -> u
 pub extern "C" fn sigla_tally(tally: &mut [u32; 3], visits: u32, price: u16) -> u8
     ensures { CallsTally tally.old visits price tally.new result }
 {
-    let t = tariff::add(ledger::tally(tally), visits, price);
-    ledger::put_tally(tally, t.tally);
-    if t.refused {
-        desk::refusal_number(Refusal::TallyTooLarge)
-    } else {
-        0
-    }
+    let (t, number) = left(
+        ledger::tally(tally).add(visits, price),
+        Refusal::TallyTooLarge,
+    );
+    ledger::put_tally(tally, t);
+    number
 }
 
 // ---- The desks of a cabinet
@@ -167,13 +177,9 @@ pub extern "C" fn sigla_tally(tally: &mut [u32; 3], visits: u32, price: u16) -> 
 pub extern "C" fn sigla_set_up(group: &mut [u32; 50], pool: u32, shares: &[u32], caps: &[u32]) -> u8
     ensures { CallsSetUp pool shares.now caps.now group.new result }
 {
-    let c = cabinet::setup(pool, shares, caps);
-    ledger::put_group(group, c.group);
-    if c.refused {
-        desk::refusal_number(Refusal::OutsideTheRules)
-    } else {
-        0
-    }
+    let (g, number) = left(Group::set_up(pool, shares, caps), Refusal::OutsideTheRules);
+    ledger::put_group(group, g);
+    number
 }
 
 // The visits that a desk may make now.
@@ -181,13 +187,12 @@ pub extern "C" fn sigla_set_up(group: &mut [u32; 50], pool: u32, shares: &[u32],
 pub extern "C" fn sigla_ceiling(group: &[u32; 50], desk: usize, visits: &mut u32) -> u8
     ensures { CallsCeiling group.now desk visits.new result }
 {
-    let a = cabinet::ceiling(ledger::group(group), desk);
-    match a {
-        Allowance::Visits(n) => {
+    match ledger::group(group).ceiling(desk) {
+        Some(n) => {
             *visits = n;
             0
         }
-        Allowance::Refused => {
+        None => {
             *visits = 0;
             desk::refusal_number(Refusal::OutsideTheRules)
         }
@@ -198,13 +203,9 @@ pub extern "C" fn sigla_ceiling(group: &[u32; 50], desk: usize, visits: &mut u32
 pub extern "C" fn sigla_new_day(group: &mut [u32; 50]) -> u8
     ensures { CallsNewDay group.old group.new result }
 {
-    let c = cabinet::new_day(ledger::group(group));
-    ledger::put_group(group, c.group);
-    if c.refused {
-        desk::refusal_number(Refusal::OutsideTheRules)
-    } else {
-        0
-    }
+    let (g, number) = left(ledger::group(group).new_day(), Refusal::OutsideTheRules);
+    ledger::put_group(group, g);
+    number
 }
 
 // As `sigla_check`, at a desk, which is charged for the visits.

@@ -1,21 +1,15 @@
 // Prints the file of the seed that the first argument is: decimal digits, a number below 2^32.
 #![tactic(auto)]
 
-use generator::Seed;
 use std::env::Env;
-use writer::Wrote;
 
 // No file is longer than the slice (crates/testload/proofs/Promise.antt, `load_short`).
 fn print(rt: &(impl Print + Eprint), seed: u32) {
-    let mut out = [0u8; 8255];
-    let r = generator::make(seed, &mut out);
-    match r {
-        Wrote::Full => {}
-        Wrote::To(m) => {
-            if rt.write_all(&out[0..m]).is_err() {
-                tell(rt, "writing standard output failed");
-            }
-        }
+    let mut out = [0; 8255];
+    if let Some(n) = generator::make(seed, &mut out)
+        && rt.write_all(&out[..n]).is_err()
+    {
+        tell(rt, "writing standard output failed");
     }
 }
 
@@ -25,13 +19,10 @@ fn tell(rt: &impl Eprint, line: &str) {
 }
 
 fn main(rt: HostRuntime) {
-    let mut word = [0u8; 4096];
-    let seed = match rt.arg(1, &mut word) {
-        Ok(n) => generator::read_seed(&word[..n]),
-        Err(_) => Seed::None,
-    };
-    match seed {
-        Seed::None => tell(&rt, "usage: sigla_load SEED"),
-        Seed::Is(s) => print(&rt, s),
+    let mut word = [0; 4096];
+    let n = rt.arg(1, &mut word).ok();
+    match n.and_then(|n| generator::read_seed(&word[..n])) {
+        Some(seed) => print(&rt, seed),
+        None => tell(&rt, "usage: sigla_load SEED"),
     }
 }

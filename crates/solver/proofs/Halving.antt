@@ -1,18 +1,11 @@
 -- The engine in two halves of the lent slice: the first stage stands in the upper one, or is longer than half of what was lent, which is
 -- where the definition's run needs too many words at once.
-use mathlib.Core.List.{List, ◌++◌, append_assoc}
-use mathlib.Core.Path.{◌≡◌, refl, sym, ap, ◌∙◌}
-use Prim.Native.Nat.{ℕ, ◌+◌, ◌-◌, ◌/◌, ◌≤◌, ◌<◌}
-use native.Mathlib.Decide.{dec_le}
-use native.Mathlib.Omega.{arith}
-use lib.ListN.{length, take, drop, length-append, length-take, take-append-drop}
-use lib.Seq.{length-take-le, take_at, drop_at}
-use borrow.Rule.Slice.PartMut.{mid_of, post_of, put_mid}
+use Rattle.std.proofs.Common.{◌≡◌, ℕ, ◌+◌, ◌/◌, ◌≤◌, ◌<◌, List, ◌++◌, length, take, drop, None, Option, Some, Err, Result, refl, sym, ap, ◌∙◌, append_assoc, arith, length-append, length-take, length-take-le, length-drop, take-append-drop, take_at}
+use Rattle.std.proofs.lemmas.List.{drop_at}
+use Rattle.std.proofs.Math.Decide.{dec_le}
 use Rattle.plain.specs.Slices.{slice}
-use Rattle.unification.proofs.Tests.{clash}
 use Rattle.cells.specs.declared.Ty.{Ty}
 use Rattle.cells.specs.Stands.{tree}
-use Rattle.writer.specs.declared.Wrote.TheVariants.{To}
 use Rattle.writer.specs.Writes.{placed, Writes}
 use Rattle.plain_theory.specs.Plain as Theory
 use Rattle.plain_theory.specs.Plain.{start, needs, solved, failed, full}
@@ -20,13 +13,11 @@ use Rattle.plain_theory.specs.Solve.{solve}
 use Rattle.plain_theory.specs.Words.{bindings_spelled}
 use Rattle.plain_theory.proofs.Words.{needs_words}
 use Rattle.plain_theory.proofs.Runs.{solve_full}
-use Rattle.plain.specs.declared.Plain.{Plain}
-use Rattle.plain.specs.declared.Plain.TheVariants.{TooFew}
 use Rattle.plain.specs.Stages.{Gives, Runs}
-use Rattle.spelling.specs.declared.Staged.{Staged}
 use Rattle.spelling.specs.Tokens.{spelled_stage, Starts}
 use Rattle.spelling.proofs.Staging.{start_needs}
 use Rattle.solver.specs.Promises.{RunsHalves, RunsEngine}
+use Rattle.plain.specs.declared.Unsolved.{Unsolved}
 
 -- ---- What a text that was written leaves
 
@@ -49,13 +40,13 @@ placed_slice l front a b rest e =
     )
 
 -- It fits: each part stands where it is said to.
-module _ {l : List ℕ} {at : ℕ} {a b l' : List ℕ} {e : ℕ} (W : Writes l at (a ++ b) l' (To e)) (low : at ≤ length l) where
+module _ {l : List ℕ} {at : ℕ} {a b l' : List ℕ} {e : ℕ} (W : Writes l at (a ++ b) l' (Some e)) (low : at ≤ length l) where
   written_there : (slice at (at + length a) l' ≡ a) × (slice (at + length a) e l' ≡ b)
   unfolding placed
   written_there = go (dec_le (at + length (a ++ b)) (length l))
     where
       go : Dec (at + length (a ++ b) ≤ length l) → (slice at (at + length a) l' ≡ a) × (slice (at + length a) e l' ≡ b)
-      go (no o) = clash (cc (W.over (omega arith)))
+      go (no o) = cc (W.over (omega arith))
       go (yes o) =
           let f = W.fits o in
           let to : e ≡ at + length (a ++ b) = cc f.0 in
@@ -64,20 +55,20 @@ module _ {l : List ℕ} {at : ℕ} {a b l' : List ℕ} {e : ℕ} (W : Writes l a
           let x = placed_slice l' (take at l) a b (drop (at + length (a ++ b)) l) f.1 in
           rw end (rw n at x)
 
-module _ {w l : List ℕ} {got expected : Ty} {h : ℕ} (twice : length l ≡ h + h) {l₁ : List ℕ} {s : Staged} (S : Starts w l h got expected l₁ s) where
-  pub halves_run : {b e : ℕ} → s ≡ Staged.At b e → {l₂ : List ℕ} {r : Plain} → Runs l₁ h h b e l₂ r → RunsHalves w got expected h l l₂ r
+module _ {w l : List ℕ} {got expected : Ty} {h : ℕ} (twice : length l ≡ h + h) {l₁ : List ℕ} {s : Option (ℕ × ℕ)} (S : Starts w l h got expected l₁ s) where
+  pub halves_run : {b e : ℕ} → s ≡ Some (b, e) → {l₂ : List ℕ} {r : Result ℕ Unsolved} → Runs l₁ h h b e l₂ r → RunsHalves w got expected h l l₂ r
   halves_run {b} {e} q R = record {
     is = λ T st H o p lent low high.
         let g = start st.subst (tree T got) (tree T expected) in
         let room : h ≤ length l = omega arith in
-        let W : Writes l h (spelled_stage g) l₁ (To e) = rw q at (S.is T st H o p room) in
+        let W : Writes l h (spelled_stage g) l₁ (Some e) = rw q at (S.is T st H o p room) in
         let m : b ≡ h + length (bindings_spelled g.bindings) = S.between T st H o p room b e q in
         let x = written_there W room in
         R.is lent g low high (rw m x.0) (rw m x.1);
     long = R.long ∙ S.long;
   }
 
-  pub halves_full : s ≡ Staged.Full → RunsHalves w got expected h l l₁ TooFew
+  pub halves_full : s ≡ None → RunsHalves w got expected h l l₁ (Err Unsolved.TooFew)
   halves_full q = record {
     is = λ T st H o p lent low high.
         let g = start st.subst (tree T got) (tree T expected) in
@@ -87,7 +78,7 @@ module _ {w l : List ℕ} {got expected : Ty} {h : ℕ} (twice : length l ≡ h 
   }
 
 -- ---- The lower part of the slice, put back
-gives_part : (l rest : List ℕ) (r : Plain) (x : Theory.Result) → Gives l r x → Gives (l ++ rest) r x
+gives_part : (l rest : List ℕ) (r : Result ℕ Unsolved) (x : Theory.Result) → Gives l r x → Gives (l ++ rest) r x
 unfolding slice
 gives_part l rest r (solved bs) g =
     let n = length (bindings_spelled bs) in
@@ -102,12 +93,11 @@ gives_part l rest r (solved bs) g =
 gives_part l rest r failed g = g
 gives_part l rest r full g = g
 
-pub engine_runs : {w l part : List ℕ} {got expected : Ty} {h m : ℕ} {r : Plain} → h ≡ length l / 2 → m ≡ h + h
-    → RunsHalves w got expected h (mid_of 0 (m - 0) l) part r → length (put_mid 0 (m - 0) l part) ≡ length l
-    → RunsEngine w got expected l (put_mid 0 (m - 0) l part) r
-engine_runs {w} {l} {part} {got} {expected} {h} {m} {r} e d R long = record {
+pub engine_runs : {w l part : List ℕ} {got expected : Ty} {r : Result ℕ Unsolved} → let h = length l / 2 in RunsHalves w got expected h (take (h + h) l) part r
+    → RunsEngine w got expected l (part ++ drop (h + h) l) r
+engine_runs {w} {l} {part} {got} {expected} {r} R = record {
   is = λ T st H o p.
-      gives_part part (post_of 0 (m - 0) l) r (solve (length l) (start st.subst (tree T got) (tree T expected)))
-      (R.is T st H o p (length l) (omega (arith, e)) (omega (arith, e)));
-  long = long;
+      gives_part part (drop (length l / 2 + length l / 2) l) r (solve (length l) (start st.subst (tree T got) (tree T expected)))
+      (R.is T st H o p (length l) (omega arith) (omega arith));
+  long = simp (length-append, length-drop) (omega (arith, R.long, length-take (length l / 2 + length l / 2) l));
 }

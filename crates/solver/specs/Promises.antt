@@ -1,5 +1,5 @@
 -- What the plain solver promises: the definition's answer, and what the two slices then hold.
-use Rattle.std.specs.Prelude.{List, ◌++◌, ◌≡◌, ℕ, ◌+◌, ◌-◌, ◌≤◌, length, replicate}
+use Rattle.std.specs.Prelude.{List, ◌++◌, ◌≡◌, ℕ, ◌+◌, ◌-◌, ◌≤◌, length, replicate, Err, Result}
 use Rattle.unification.specs.Bindings.{State}
 use Rattle.work.specs.Layout.{ENV, TYS}
 use Rattle.cells.specs.declared.Ty.{Ty}
@@ -9,19 +9,18 @@ use Rattle.plain_theory.specs.Solve.{solve}
 use Rattle.plain_theory.specs.Answer as Answer
 use Rattle.plain_theory.specs.Answer.{answer}
 use Rattle.plain_theory.specs.Words.{bindings_spelled}
-use Rattle.plain.specs.declared.Plain.{Plain}
-use Rattle.plain.specs.declared.Plain.TheVariants.{Success, Failure, ShutOut, TooFew}
 use Rattle.plain.specs.Stages.{Gives}
+use Rattle.plain.specs.declared.Unsolved.{Unsolved}
 
 -- ---- The engine on sides that are not shut out
 
 -- In a slice of twice h words; an odd word that was lent is left over.
-pub record RunsHalves (w : List ℕ) (got expected : Ty) (h : ℕ) (l l' : List ℕ) (r : Plain) : Type 0 where
+pub record RunsHalves (w : List ℕ) (got expected : Ty) (h : ℕ) (l l' : List ℕ) (r : Result ℕ Unsolved) : Type 0 where
   pub is : (T : Rows) (st : State) → Holds w T st → Ok w got → Ok w expected → (lent : ℕ) → h + h ≤ lent → lent ≤ h + h + 1
       → Gives l' r (solve lent (start st.subst (tree T got) (tree T expected)))
   pub long : length l' ≡ length l
 
-pub record RunsEngine (w : List ℕ) (got expected : Ty) (l l' : List ℕ) (r : Plain) : Type 0 where
+pub record RunsEngine (w : List ℕ) (got expected : Ty) (l l' : List ℕ) (r : Result ℕ Unsolved) : Type 0 where
   pub is : (T : Rows) (st : State) → Holds w T st → Ok w got → Ok w expected
       → Gives l' r (solve (length l) (start st.subst (tree T got) (tree T expected)))
   pub long : length l' ≡ length l
@@ -29,15 +28,15 @@ pub record RunsEngine (w : List ℕ) (got expected : Ty) (l l' : List ℕ) (r : 
 -- ---- The whole
 
 -- After a success the lent slice holds the bindings and then zeros, and the words that they take are told; else zeros throughout.
-abbrev pub Left : List ℕ → ℕ → Plain → Answer.Answer → Type 0
-Left l n r (Answer.Success bs) = (r ≡ Success (length (bindings_spelled bs))) × (l ≡ bindings_spelled bs ++ replicate (n - length (bindings_spelled bs)) 0)
-Left l n r Answer.Failure = (r ≡ Failure) × (l ≡ replicate n 0)
-Left l n r Answer.ShutOut = (r ≡ ShutOut) × (l ≡ replicate n 0)
-Left l n r Answer.TooFew = (r ≡ TooFew) × (l ≡ replicate n 0)
+abbrev pub Left : List ℕ → ℕ → Result ℕ Unsolved → Answer.Answer → Type 0
+Left l n r (Answer.Success bs) = (r ≡ Result.Ok (length (bindings_spelled bs))) × (l ≡ bindings_spelled bs ++ replicate (n - length (bindings_spelled bs)) 0)
+Left l n r Answer.Failure = (r ≡ Err Unsolved.Failure) × (l ≡ replicate n 0)
+Left l n r Answer.ShutOut = (r ≡ Err Unsolved.ShutOut) × (l ≡ replicate n 0)
+Left l n r Answer.TooFew = (r ≡ Err Unsolved.TooFew) × (l ≡ replicate n 0)
 
 -- w and l are the work slice and the lent slice before, w' and l' after. What is written of the work slice stands where the
 -- environment was and behind it, up to the node types.
-pub record Solves (w : List ℕ) (got expected : Ty) (l w' l' : List ℕ) (r : Plain) : Type 0 where
+pub record Solves (w : List ℕ) (got expected : Ty) (l w' l' : List ℕ) (r : Result ℕ Unsolved) : Type 0 where
   pub is : (T : Rows) (st : State) → Holds w T st → Ok w got → Ok w expected
       → Left l' (length l) r (answer (length l) st.subst (tree T got) (tree T expected))
   pub long : length l' ≡ length l

@@ -23,11 +23,11 @@ use Rattle.meaning.specs.Check as Check
 use Rattle.meaning.specs.Check.{Checker, Step, goes, out, entered, with_entries, arrived}
 use Rattle.meaning.specs.Run.{NotYet}
 use Rattle.meaning.proofs.Tests.{cases}
-use Rattle.state.specs.declared.Done.{Done}
 use Rattle.state.specs.Runs.{Runs, Grew}
 use Rattle.state.specs.Lines.{AFTER-SIDES, capped, until_w, stop_w, Keeping, Told, entered_w, sides_w, side_w, Enters, enters, enters_before, stops_here}
 use Rattle.state.proofs.Lining.{lines_same}
 use Rattle.state.proofs.Lined.{place_runs, place_grew}
+use Rattle.std.specs.Prelude.{None, Some}
 
 -- ---- The count
 
@@ -53,7 +53,7 @@ entered_now w n long q = entered_cases w
 -- ---- The test is the definition's
 module _ {w o s : List ℕ} {u : Check.Until} {m : ℕ} (K : Keeping w o s u m 0) (x : Checker) (n : length x.entries ≡ suc m) where
   module _ {got expected : Ty} {left : ℕ} where
-    pub goes_past : {w' : List ℕ} {l : ℕ} → Enters w got expected left w' (Done.On l) → arrived u x ≡ goes tt x
+    pub goes_past : {w' : List ℕ} {l : ℕ} → Enters w got expected left w' (Some l) → arrived u x ≡ goes tt x
     unfolding arrived
     goes_past (enters z) = go u refl
       where
@@ -72,7 +72,7 @@ module _ {w o s : List ℕ} {u : Check.Until} {m : ℕ} (K : Keeping w o s u m 0
             rw (le-ltb k (length x.entries) (omega (arith, n)), arrived)
 
     -- What it is to last until has still not come.
-    pub still_not : {w' : List ℕ} {l : ℕ} (ds : List Diagnostic) (es : List Entry) → NotYet u ds es → Enters w got expected left w' (Done.On l)
+    pub still_not : {w' : List ℕ} {l : ℕ} (ds : List Diagnostic) (es : List Entry) → NotYet u ds es → Enters w got expected left w' (Some l)
         → NotYet u ds x.entries
     still_not ds es h (enters z) = go u refl h
       where
@@ -90,7 +90,7 @@ module _ {w o s : List ℕ} {u : Check.Until} {m : ℕ} (K : Keeping w o s u m 0
             let under : m < k = capped_cases m (λ i j. omega (arith, K.entered)) (λ i j. absurd (omega (arith, K.entered))) in
             omega (arith, n)
 
-    pub stops_there : {w' : List ℕ} → Enters w got expected left w' Done.Out → arrived u x ≡ out x
+    pub stops_there : {w' : List ℕ} → Enters w got expected left w' None → arrived u x ≡ out x
     unfolding arrived
     stops_there (stops_here z l) = go u refl
       where

@@ -1,6 +1,6 @@
 -- Variables as entries of words: a search through the environment keeps that what is sought in the whole is sought in what is older
 -- than the entries seen; a search through the marks, that what is sought stands in all of them if it stands in the older ones.
-use mathlib.Core.Bool.{Bool, true, false, not, not-not}
+use mathlib.Core.Bool.{Bool, true, false}
 use mathlib.Core.List.{List, ◌∷◌}
 use mathlib.Core.Path.{◌≡◌, refl, sym, ◌∙◌, ap}
 use native.Mathlib.Omega.{arith}
@@ -10,8 +10,8 @@ use borrow.Author.Tests.{eq-eqb, ne_eqb}
 use Rattle.work.specs.Layout.{ENV-LEN, UNKNOWNS, MARK-COUNT, UNUSED-COUNT, ENV, MARKS, UNUSED}
 use Rattle.cells.specs.Words.{fresh_w}
 use Rattle.meaning.specs.Check.{Entry, lookup_in, is_in}
-use Rattle.state.specs.declared.Known.{Known}
 use Rattle.state.specs.Words.{entry_w, env_of, known_as, push_env_w, numbers_of, marks_of, is_marked_w, push_w, mark_w, leave_entry_w, left_w, leave_w, Introduces}
+use Rattle.std.specs.Prelude.{None, Option, Some}
 
 entries : (w : List ℕ) (i : ℕ) → 0 < i → env_of w i ≡ entry_w (get_or w (ENV + (i - 1)) 0) ∷ env_of w (i - 1)
 unfolding env_of
@@ -26,7 +26,7 @@ pub seek_start : (w : List ℕ) (symbol n : ℕ) → n ≡ get_or w ENV-LEN 0 �
 seek_start w symbol n e = record { to = rw e refl }
 
 module _ {w : List ℕ} {symbol i : ℕ} (s : Seeking w symbol i) where
-  pub seek_none : i ≤ 0 → known_as Known.Nothing ≡ lookup_in (env_of w (get_or w ENV-LEN 0)) symbol
+  pub seek_none : i ≤ 0 → known_as None ≡ lookup_in (env_of w (get_or w ENV-LEN 0)) symbol
   unfolding env_of lookup_in
   seek_none h = let z : i ≡ 0 = omega arith in sym (s.to ∙ rw z refl)
 
@@ -34,7 +34,7 @@ module _ {w : List ℕ} {symbol i : ℕ} (s : Seeking w symbol i) where
     here : lookup_in (env_of w i) symbol ≡ lookup_in (entry_w e ∷ env_of w (i - 1)) symbol
     here = rw (is, place) (ap (λ (es : List Entry). lookup_in es symbol) (entries w i more))
 
-    pub seek_here : e / 262144 ≡ symbol → known_as (Known.As e) ≡ lookup_in (env_of w (get_or w ENV-LEN 0)) symbol
+    pub seek_here : e / 262144 ≡ symbol → known_as (Some e) ≡ lookup_in (env_of w (get_or w ENV-LEN 0)) symbol
     unfolding lookup_in
     seek_here q = sym (s.to ∙ here ∙ rw (eq-eqb (e / 262144) symbol q, lookup_in))
 
@@ -43,11 +43,11 @@ module _ {w : List ℕ} {symbol i : ℕ} (s : Seeking w symbol i) where
     seek_past q = record { to = s.to ∙ here ∙ rw (ne_eqb (e / 262144) symbol q, lookup_in) }
 
 -- ---- A variable that was found, and a new one
-module _ (w : List ℕ) (node symbol : ℕ) (k : Known) (q : known_as k ≡ lookup_in (env_of w (get_or w ENV-LEN 0)) symbol) where
-  pub introduce_known : (e : ℕ) → k ≡ Known.As e → {w' : List ℕ} → w' ≡ mark_w w node e → Introduces w node symbol w' (e % 512)
+module _ (w : List ℕ) (node symbol : ℕ) (k : Option ℕ) (q : known_as k ≡ lookup_in (env_of w (get_or w ENV-LEN 0)) symbol) where
+  pub introduce_known : (e : ℕ) → k ≡ Some e → {w' : List ℕ} → w' ≡ mark_w w node e → Introduces w node symbol w' (e % 512)
   introduce_known e is m = record { known = k; found = q; is = rw is; words = m ∙ rw is }
 
-  pub introduce_new : k ≡ Known.Nothing → {x : ℕ} {u w' : List ℕ} → x ≡ get_or w UNKNOWNS 0 → u ≡ fresh_w w → w' ≡ push_env_w u node symbol x
+  pub introduce_new : k ≡ None → {x : ℕ} {u w' : List ℕ} → x ≡ get_or w UNKNOWNS 0 → u ≡ fresh_w w → w' ≡ push_env_w u node symbol x
       → Introduces w node symbol w' x
   introduce_new e new fresh push = record { known = k; found = q; is = rw e new; words = push ∙ rw (e, fresh, new) }
 
@@ -80,30 +80,24 @@ module _ {w : List ℕ} {x i : ℕ} (s : Sought w x i) where
     unfolding is_in
     sought_past q = record { to = s.to ∙ this ∙ rw (ne_eqb m x q, is_in) }
 
-unmarked : {b : Bool} → not b ≡ true → b ≡ false
-unmarked {b} z = sym (not-not b) ∙ ap not z
-
-used : {b : Bool} → not b ≡ false → b ≡ true
-used {b} z = sym (not-not b) ∙ ap not z
-
 -- ---- An entry that was found is marked, once, unless its maker looks; one that leaves unmarked is noted
 module _ (w : List ℕ) (e : ℕ) {b : Bool} (q : b ≡ is_marked_w w (e % 512)) where
   module _ (node : ℕ) (other : ¬ (e / 512 % 512 ≡ node)) where
-    pub mark_new : not b ≡ true → {w' : List ℕ} → w' ≡ push_w MARKS MARK-COUNT w (e % 512) → w' ≡ mark_w w node e
+    pub mark_new : b ≡ false → {w' : List ℕ} → w' ≡ push_w MARKS MARK-COUNT w (e % 512) → w' ≡ mark_w w node e
     unfolding mark_w
-    mark_new z p = let y : is_marked_w w (e % 512) ≡ false = sym q ∙ unmarked z in p ∙ rw (ne_eqb (e / 512 % 512) node other, y)
+    mark_new z p = let y : is_marked_w w (e % 512) ≡ false = sym q ∙ z in p ∙ rw (ne_eqb (e / 512 % 512) node other, y)
 
-    pub mark_again : not b ≡ false → w ≡ mark_w w node e
+    pub mark_again : b ≡ true → w ≡ mark_w w node e
     unfolding mark_w
-    mark_again z = let y : is_marked_w w (e % 512) ≡ true = sym q ∙ used z in rw (ne_eqb (e / 512 % 512) node other, y)
+    mark_again z = let y : is_marked_w w (e % 512) ≡ true = sym q ∙ z in rw (ne_eqb (e / 512 % 512) node other, y)
 
-  pub leave_new : not b ≡ true → {w' : List ℕ} → w' ≡ push_w UNUSED UNUSED-COUNT w (e / 512 % 512) → w' ≡ leave_entry_w w e
+  pub leave_new : b ≡ false → {w' : List ℕ} → w' ≡ push_w UNUSED UNUSED-COUNT w (e / 512 % 512) → w' ≡ leave_entry_w w e
   unfolding leave_entry_w
-  leave_new z p = let y : is_marked_w w (e % 512) ≡ false = sym q ∙ unmarked z in p ∙ rw y
+  leave_new z p = let y : is_marked_w w (e % 512) ≡ false = sym q ∙ z in p ∙ rw y
 
-  pub leave_used : not b ≡ false → w ≡ leave_entry_w w e
+  pub leave_used : b ≡ true → w ≡ leave_entry_w w e
   unfolding leave_entry_w
-  leave_used z = let y : is_marked_w w (e % 512) ≡ true = sym q ∙ used z in rw y
+  leave_used z = let y : is_marked_w w (e % 512) ≡ true = sym q ∙ z in rw y
 
 pub mark_own : (w : List ℕ) (node e : ℕ) → e / 512 % 512 ≡ node → w ≡ mark_w w node e
 unfolding mark_w

@@ -19,7 +19,6 @@ use Rattle.meaning.specs.Messages.{message_text}
 use Rattle.meaning.specs.Answer.{diagnostic_line, diagnostic_lines}
 use Rattle.messages.specs.declared.Message.{Message}
 use Rattle.messages.specs.Said.{OkMessage}
-use Rattle.state.specs.declared.Done.{Done}
 use Rattle.state.specs.Words.{counted_w}
 use Rattle.state.specs.Runs.{Runs, Grew}
 use Rattle.state.specs.Lines.{AFTER-SIDES, diagnosed, Lines, within, until_w, Told, Halts, goes_on, ends_here, Rejected}
@@ -27,6 +26,7 @@ use Rattle.state.proofs.Running.{grew_trans, same_grew, Unscoped, scopes_same, r
 use Rattle.state.proofs.Reporting.{count_other, count_runs, count_grew}
 use Rattle.state.proofs.Telling.{span_at}
 use Rattle.state.proofs.Lining.{Unlined, lines_same, told_same}
+use Rattle.std.specs.Prelude.{None, Option, Some}
 
 pub keeps_unlined : {a e : ℕ} {w w' : List ℕ} → AFTER-SIDES ≤ a → Keeps a e w w' → Unlined w w'
 keeps_unlined h K = record { at = λ i l k. K.below i (omega arith) }
@@ -84,12 +84,12 @@ module _ (text : Diag.Message → List ℕ) where
       ∙ ap (λ (l : List ℕ). diagnostic_lines text (reversed ds []) ++ l) (append-nil (diagnostic_line text d))
 
 -- ---- `reject`
-halts_keeps : {w w' : List ℕ} {left : ℕ} {r : Done} → Halts w left w' r → Keeps PLACE AFTER-SIDES w w'
+halts_keeps : {w w' : List ℕ} {left : ℕ} {r : Option ℕ} → Halts w left w' r → Keeps PLACE AFTER-SIDES w w'
 halts_keeps (goes_on q) = keeps_refl
 halts_keeps {w} {left = left} (ends_here q) = keeps_set w LEFT left (omega arith) (omega arith)
 
 module _ {f w o w' o' : List ℕ} {T : Rows} {d : Described} {c : Checker} (sound : Sound d) (R : Runs f w T d c)
-    {n : ℕ} {m : Message} {left : ℕ} {r : Done} (X : Rejected f w o n m left w' o' r) (room : get_or w DIAGNOSTIC-COUNT 0 < 1536) where
+    {n : ℕ} {m : Message} {left : ℕ} {r : Option ℕ} (X : Rejected f w o n m left w' o' r) (room : get_or w DIAGNOSTIC-COUNT 0 < 1536) where
   newest : Diagnostic
   newest = diagnosed T c.state.subst m (node_at d.ast.nodes n).span
 
@@ -130,23 +130,23 @@ module _ {f w o w' o' : List ℕ} {T : Rows} {d : Described} {c : Checker} (soun
     })
 
     -- The run goes on.
-    pub rejected_on : ¬ (until_w c.until ≡ 1) → (r ≡ Done.On left) × Told d w' o' after 0
+    pub rejected_on : ¬ (until_w c.until ≡ 1) → (r ≡ Some left) × Told d w' o' after 0
     unfolding with_diagnostics
     rejected_on q = go X.halts
       where
-        go : {w' : List ℕ} {r : Done} → Halts (counted_w X.between) left w' r → (r ≡ Done.On left) × Told d w' o' after 0
+        go : {w' : List ℕ} {r : Option ℕ} → Halts (counted_w X.between) left w' r → (r ≡ Some left) × Told d w' o' after 0
         go (goes_on z) = (refl, counted_told)
         go (ends_here z) = absurd (q (sym counted_told.until ∙ z))
 
     -- It was to last until here.
-    pub rejected_out : c.until ≡ first_diagnostic → (r ≡ Done.Out) × Told d w' o' after left
+    pub rejected_out : c.until ≡ first_diagnostic → (r ≡ None) × Told d w' o' after left
     unfolding with_diagnostics
     rejected_out q = go X.halts
       where
         one : get_or (counted_w X.between) UNTIL 0 ≡ 1
         one = rw q at counted_told.until
 
-        go : {w' : List ℕ} {r : Done} → Halts (counted_w X.between) left w' r → (r ≡ Done.Out) × Told d w' o' after left
+        go : {w' : List ℕ} {r : Option ℕ} → Halts (counted_w X.between) left w' r → (r ≡ None) × Told d w' o' after left
         go (goes_on z) = absurd (z one)
         go (ends_here z) =
             let K : Keeps LEFT STOP (counted_w X.between) (set (counted_w X.between) LEFT left) = keeps_set (counted_w X.between) LEFT left

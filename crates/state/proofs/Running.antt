@@ -2,7 +2,6 @@
 -- the words of the others are as they were.
 use mathlib.Core.List.{List, map}
 use mathlib.Core.Logic.{◌≢◌}
-use mathlib.Core.Option.{none, some}
 use mathlib.Core.Path.{◌≡◌, refl, sym, ap, ◌∙◌}
 use native.Mathlib.Omega.{arith}
 use Prim.Native.Nat.{ℕ, zero, suc, ◌+◌, ◌<◌, ◌≤◌}
@@ -25,6 +24,7 @@ use Rattle.meaning.specs.Check.{Checker, with_state}
 use Rattle.state.specs.Words.{env_of, numbers_of, unused_of}
 use Rattle.state.specs.Runs.{span_of, Scopes, Runs, Grew}
 use Rattle.state.proofs.Standing.{stands_more}
+use Rattle.std.specs.Prelude.{None, Some}
 
 -- ---- What was made
 pub grew_refl : {w : List ℕ} → Grew w w 0 0
@@ -127,10 +127,10 @@ module _ {f w : List ℕ} {T : Rows} {d : Described} {c : Checker} (sound : Soun
   pub grew_slots : {w' : List ℕ} → Keeps TYS END w w' → Grew w w' 0 0
   grew_slots K = same_grew R.holds (keeps_cells (omega arith) K) (keeps_wider (omega arith) (omega arith) K)
 
-  pub annotate_runs : (n : ℕ) (t : Ty) → n < length c.state.tys → get_or c.state.tys n none ≡ none → Ok w t
+  pub annotate_runs : (n : ℕ) (t : Ty) → n < length c.state.tys → get_or c.state.tys n None ≡ None → Ok w t
       → Runs f (annotate_w w n t) T d (with_state c (Bindings.annotate c.state n (tree T t)))
   unfolding Bindings.annotate
-  annotate_runs n t lt free o = runs_slots (annotate_keeps w n t) (annotate_holds R.holds n t lt free o) (length-set c.state.tys n (some (tree T t)))
+  annotate_runs n t lt free o = runs_slots (annotate_keeps w n t) (annotate_holds R.holds n t lt free o) (length-set c.state.tys n (Some (tree T t)))
 
   -- ---- `fresh_var_id`
   module _ (few : length c.state.subst < 512) where

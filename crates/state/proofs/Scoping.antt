@@ -3,7 +3,6 @@
 use mathlib.Core.Bool.{Bool, true, false}
 use mathlib.Core.List.{List, [], ◌∷◌, map}
 use mathlib.Core.Logic.{◌≢◌}
-use mathlib.Core.Option.{none, some}
 use mathlib.Core.Path.{◌≡◌, refl, sym, ◌∙◌, ap}
 use native.Mathlib.Numerals.{add-one}
 use native.Mathlib.Omega.{arith}
@@ -25,12 +24,12 @@ use Rattle.meaning.specs.Sound.{Sound}
 use Rattle.meaning.specs.File.{Described}
 use Rattle.meaning.specs.Check as Check
 use Rattle.meaning.specs.Check.{Entry, Checker, Step, goes, and_then, lookup_in, is_in, marked, with_state, with_env, with_marks}
-use Rattle.state.specs.declared.Known.{Known}
 use Rattle.state.specs.Words.{entry_w, env_of, known_as, numbers_of, push_w, push_env_w, marks_of, unused_of, is_marked_w, mark_w, Introduces}
 use Rattle.state.specs.Runs.{span_of, Scopes, Runs, Grew}
 use Rattle.state.proofs.Lining.{Unlined, unlined_trans}
 use Rattle.state.proofs.Running.{env_same, numbers_same, grew_trans, same_grew, runs_slots, grew_slots, fresh_word, fresh_runs}
 use Rattle.state.proofs.Running.{fresh_grew, runs_aside}
+use Rattle.std.specs.Prelude.{None, Option, Some}
 
 pub env_length : (w : List ℕ) (n : ℕ) → length (env_of w n) ≡ n
 unfolding env_of
@@ -416,7 +415,7 @@ pub record Gives {A : Type 0} (f w w' : List ℕ) (T : Rows) (d : Described) (be
 module _ {f w : List ℕ} {T : Rows} {d : Described} {c : Checker} {node symbol : ℕ} (sound : Sound d) (R : Runs f w T d c) (name : symbol < 16384)
     (there : node < length d.ast.nodes) where
   -- It is found.
-  found_runs : (e : ℕ) → lookup_in c.env symbol ≡ some (entry_w e) → (is_in (e % 512) c.marks ≡ false → get_or w MARK-COUNT 0 < 512)
+  found_runs : (e : ℕ) → lookup_in c.env symbol ≡ Some (entry_w e) → (is_in (e % 512) c.marks ≡ false → get_or w MARK-COUNT 0 < 512)
       → Gives f w (mark_w w node e) T d c (Check.introduce node symbol c) (e % 512)
   unfolding Check.introduce Check.lookup Check.mark and_then with_marks
   found_runs e q room =
@@ -433,7 +432,7 @@ module _ {f w : List ℕ} {T : Rows} {d : Described} {c : Checker} {node symbol 
       }
 
   -- There is none.
-  new_runs : lookup_in c.env symbol ≡ none → length c.state.subst < 512 → get_or w ENV-LEN 0 < 512
+  new_runs : lookup_in c.env symbol ≡ None → length c.state.subst < 512 → get_or w ENV-LEN 0 < 512
       → Gives f w (push_env_w (fresh_w w) node symbol (get_or w UNKNOWNS 0)) T d c (Check.introduce node symbol c) (get_or w UNKNOWNS 0)
   unfolding Check.introduce Check.lookup Check.fresh_var_id Check.push_env with_state with_env and_then Bindings.fresh_id
   new_runs q few room =
@@ -453,22 +452,22 @@ module _ {f w : List ℕ} {T : Rows} {d : Described} {c : Checker} {node symbol 
         grew = grew_trans (fresh_grew sound R few) (push_env_grew sound F node symbol (get_or w UNKNOWNS 0) space name there small);
       }
 
-  pub introduce_runs : {w' : List ℕ} {r : ℕ} → (lookup_in c.env symbol ≡ none → (length c.state.subst < 512) × (get_or w ENV-LEN 0 < 512))
-      → ((e : Entry) → lookup_in c.env symbol ≡ some e → is_in e.unknown c.marks ≡ false → get_or w MARK-COUNT 0 < 512)
+  pub introduce_runs : {w' : List ℕ} {r : ℕ} → (lookup_in c.env symbol ≡ None → (length c.state.subst < 512) × (get_or w ENV-LEN 0 < 512))
+      → ((e : Entry) → lookup_in c.env symbol ≡ Some e → is_in e.unknown c.marks ≡ false → get_or w MARK-COUNT 0 < 512)
       → Introduces w node symbol w' r → Gives f w w' T d c (Check.introduce node symbol c) r
   introduce_runs {w'} {r} room marks I = go I.known refl
     where
       sought : known_as I.known ≡ lookup_in c.env symbol
       sought = I.found ∙ ap (λ (es : List Entry). lookup_in es symbol) (sym R.scopes.env)
 
-      go : (k : Known) → I.known ≡ k → Gives f w w' T d c (Check.introduce node symbol c) r
-      go (Known.As e) q =
+      go : (k : Option ℕ) → I.known ≡ k → Gives f w w' T d c (Check.introduce node symbol c) r
+      go (Some e) q =
           let is : r ≡ e % 512 = rw q at I.is in
           let words : w' ≡ mark_w w node e = rw q at I.words in
-          let there : lookup_in c.env symbol ≡ some (entry_w e) = sym (rw q at sought) in
+          let there : lookup_in c.env symbol ≡ Some (entry_w e) = sym (rw q at sought) in
           rw (is, words) (found_runs e there (marks (entry_w e) there))
-      go Known.Nothing q =
+      go None q =
           let is : r ≡ get_or w UNKNOWNS 0 = rw q at I.is in
           let words : w' ≡ push_env_w (fresh_w w) node symbol (get_or w UNKNOWNS 0) = rw q at I.words in
-          let none : lookup_in c.env symbol ≡ none = sym (rw q at sought) in
-          rw (is, words) (new_runs none (room none).0 (room none).1)
+          let None : lookup_in c.env symbol ≡ None = sym (rw q at sought) in
+          rw (is, words) (new_runs None (room None).0 (room None).1)

@@ -2,7 +2,6 @@
 -- was. A schema type is no unknown, so it exists whatever the run made; where the run made nothing, the schema types are all cells.
 use mathlib.Core.Bool.{Bool, true, false}
 use mathlib.Core.List.{List}
-use mathlib.Core.Option.{none, some}
 use mathlib.Core.Path.{◌≡◌, refl, sym, ◌∙◌, ap}
 use native.Mathlib.Omega.{arith}
 use Prim.Native.Nat.{ℕ, zero, suc, ◌+◌, ◌*◌, ◌/◌, ◌%◌, ◌<◌, ◌≤◌}
@@ -25,6 +24,7 @@ use Rattle.meaning.specs.Conditions.{max_names, max_predicates}
 use Rattle.meaning.specs.Sound.{Sound}
 use Rattle.meaning.specs.File.{Described}
 use Rattle.tree.specs.Stands.{TypeCells, value_of, PredicateIs, SchemaStands, Stands}
+use Rattle.std.specs.Prelude.{None, Some}
 
 -- ---- Schema types
 ok_pick : (w : List ℕ) (b : Bool) (t u : Ty) → Ok w t → Ok w u → Ok w (pick b t u)
@@ -165,9 +165,9 @@ module _ (w w' : List ℕ) (said : (i : ℕ) → i < NODES → (i ≡ NODE-COUNT
       value_stands : (x : ℕ) → (x % 2 ≡ 1 → x / 2 % 256 < get_or w TYPE-COUNT 0) → value_of T w x ≡ value_of T' w' x
       value_stands x there = go (eqb (x % 2) 1) refl
         where
-          go : (b : Bool) → eqb (x % 2) 1 ≡ b → pick b (some (tree T (declared_w w (x / 2 % 256)))) none ≡ pick b
-              (some (tree T' (declared_w w' (x / 2 % 256)))) none
-          go true q = ap some (sym (declared_stands (x / 2 % 256) (there (eqb-true (x % 2) 1 q))))
+          go : (b : Bool) → eqb (x % 2) 1 ≡ b → pick b (Some (tree T (declared_w w (x / 2 % 256)))) None ≡ pick b
+              (Some (tree T' (declared_w w' (x / 2 % 256)))) None
+          go true q = ap Some (sym (declared_stands (x / 2 % 256) (there (eqb-true (x % 2) 1 q))))
           go false q = refl
 
       predicate_stands : (p : ℕ) (d : Predicate) → p < 128 → PredicateIs w T (get_or w TYPE-COUNT 0) p d → PredicateIs w' T' (get_or w TYPE-COUNT 0) p d

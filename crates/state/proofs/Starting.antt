@@ -1,7 +1,6 @@
 -- The start of a run: all counters are 0 and no node has a type. The words stand for the run that `begin_until` of
 -- meaning/specs/Check.antt gives, over the file that was read.
 use mathlib.Core.List.{List}
-use mathlib.Core.Option.{Option, none}
 use mathlib.Core.Path.{◌≡◌, sym}
 use native.Mathlib.Omega.{arith}
 use Prim.Native.Nat.{ℕ, ◌+◌, ◌*◌, ◌<◌}
@@ -19,6 +18,7 @@ use Rattle.tree.specs.Stands.{Stands}
 use Rattle.state.specs.Words.{env_of, numbers_of}
 use Rattle.state.specs.Runs.{Runs}
 use Rattle.state.proofs.Standing.{cells_start, stands_more}
+use Rattle.std.specs.Prelude.{None, Option}
 
 -- What `begin` leaves of the words.
 pub record Started (w w' : List ℕ) : Type 0 where
@@ -43,7 +43,7 @@ start_runs {f} {w} {w'} {T} {d} u ceiling sound before B =
       stands = S;
       holds = start_holds n ceiling History.start S.long S.few (cells_start S.schema B.records B.fields) B.unknowns B.undo
           (λ i lt. B.untyped i (omega (arith, S.few)));
-      nodes = length-replicate {A = Option Tree.Ty} n none;
+      nodes = length-replicate {A = Option Tree.Ty} n None;
       scopes = record {
         env = rw B.env;
         few_env = omega (arith, B.env);

@@ -1,7 +1,7 @@
 -- The lines of the diagnostics so far, in the answer slice: they stand from its start to the place that two words keep, or they are
 -- longer than the slice, and a word says so. More words have what ends the run early and, where that came, the visits left and the sides
 -- of the entry to `unify`.
-use Rattle.std.specs.Prelude.{List, [], ◌∷◌, ◌++◌, ◌≡◌, ℕ, ◌+◌, ◌*◌, ◌/◌, ◌%◌, ◌<◌, ◌≤◌, length, get_or, set, take, drop, ltb}
+use Rattle.std.specs.Prelude.{List, [], ◌∷◌, ◌++◌, ◌≡◌, ℕ, ◌+◌, ◌*◌, ◌/◌, ◌%◌, ◌<◌, ◌≤◌, length, get_or, set, take, drop, ltb, None, Option, Some}
 use Rattle.work.specs.Layout.{PLACE, PLACE-HIGH, FULL, UNTIL, LEFT, STOP, ENTERED, GOT, EXPECTED}
 use Rattle.unification.specs.Bindings.{Subst, State}
 use Rattle.unification.specs.Calls.{Entry}
@@ -16,13 +16,11 @@ use Rattle.meaning.specs.Check as Check
 use Rattle.meaning.specs.Check.{Checker, reversed}
 use Rattle.meaning.specs.Messages.{message_text}
 use Rattle.meaning.specs.Answer.{bytes₄, hex_line, diagnostic_bytes, unused_line, diagnostic_line, diagnostic_lines}
-use Rattle.writer.specs.declared.Wrote.{Wrote}
 use Rattle.writer.specs.Writes.{Writes, hex_of}
 use Rattle.tree.specs.Nodes.{line_start_w}
 use Rattle.tree.specs.Stands.{Stands}
 use Rattle.messages.specs.declared.Message.{Message}
 use Rattle.messages.specs.Said.{said, OkMessage}
-use Rattle.state.specs.declared.Done.{Done}
 use Rattle.state.specs.declared.Until.{Until}
 use Rattle.state.specs.Words.{counted_w}
 
@@ -52,30 +50,30 @@ diagnosed T s m p = record { message = said T s m; span = p }
 abbrev pub line_of : Described → Diagnostic → List ℕ
 line_of d x = diagnostic_line (message_text d.names d.schema) x
 
-pub record WritesSpan (f out : List ℕ) (at line : ℕ) (out' : List ℕ) (r : Wrote) : Type 0 where
+pub record WritesSpan (f out : List ℕ) (at line : ℕ) (out' : List ℕ) (r : Option ℕ) : Type 0 where
   pub is : line + 18 ≤ length f → at ≤ length out → Writes out at (take 16 (drop (line + 2) f)) out' r
   pub long : length out' ≡ length out
 
 -- The line's kind and the span.
-pub record WritesHead (f out : List ℕ) (at kind line : ℕ) (out' : List ℕ) (r : Wrote) : Type 0 where
+pub record WritesHead (f out : List ℕ) (at kind line : ℕ) (out' : List ℕ) (r : Option ℕ) : Type 0 where
   pub is : (s : Span) → SpanAt f line s → Writes out at (hex_of (kind ∷ bytes₄ s.start ++ bytes₄ s.end)) out' r
   pub long : length out' ≡ length out
 
 -- The line of a node whose entry left unmarked, without LF and with it.
-pub record WritesUnusedHead (f w out : List ℕ) (at n : ℕ) (out' : List ℕ) (r : Wrote) : Type 0 where
+pub record WritesUnusedHead (f w out : List ℕ) (at n : ℕ) (out' : List ℕ) (r : Option ℕ) : Type 0 where
   pub is : (s : Span) → SpanAt f (line_start_w w n) s → Writes out at (hex_of (0x0c ∷ bytes₄ s.start ++ bytes₄ s.end)) out' r
   pub long : length out' ≡ length out
 
-pub record WritesUnusedLine (f w out : List ℕ) (at n : ℕ) (out' : List ℕ) (r : Wrote) : Type 0 where
+pub record WritesUnusedLine (f w out : List ℕ) (at n : ℕ) (out' : List ℕ) (r : Option ℕ) : Type 0 where
   pub is : (s : Span) → SpanAt f (line_start_w w n) s → Writes out at (unused_line s) out' r
   pub long : length out' ≡ length out
 
 -- At the node n, whose span is p.
-pub record WritesDiagnostic (f w out : List ℕ) (at n : ℕ) (m : Message) (out' : List ℕ) (r : Wrote) : Type 0 where
+pub record WritesDiagnostic (f w out : List ℕ) (at n : ℕ) (m : Message) (out' : List ℕ) (r : Option ℕ) : Type 0 where
   pub is : (T : Rows) (s : Subst) (p : Span) → SpanAt f (line_start_w w n) p → Writes out at (hex_of (diagnostic_bytes (diagnosed T s m p))) out' r
   pub long : length out' ≡ length out
 
-pub record WritesCodeLine (f w out : List ℕ) (at n : ℕ) (m : Message) (out' : List ℕ) (r : Wrote) : Type 0 where
+pub record WritesCodeLine (f w out : List ℕ) (at n : ℕ) (m : Message) (out' : List ℕ) (r : Option ℕ) : Type 0 where
   pub is : (T : Rows) (s : Subst) (p : Span) → SpanAt f (line_start_w w n) p → Writes out at (hex_line (diagnostic_bytes (diagnosed T s m p))) out' r
   pub long : length out' ≡ length out
 
@@ -83,16 +81,16 @@ pub record WritesCodeLine (f w out : List ℕ) (at n : ℕ) (m : Message) (out' 
 abbrev pub said_bytes : Described → Diag.Message → List ℕ
 said_bytes d x = 0x0a ∷ message_text d.names d.schema x
 
-pub record WritesSaid (f w out : List ℕ) (at : ℕ) (m : Message) (out' : List ℕ) (r : Wrote) : Type 0 where
+pub record WritesSaid (f w out : List ℕ) (at : ℕ) (m : Message) (out' : List ℕ) (r : Option ℕ) : Type 0 where
   pub is : (T : Rows) (d : Described) (st : State) → Stands f w T d → Holds w T st → OkMessage w m → Writes out at (hex_of (said_bytes d (said T st.subst m))) out' r
   pub long : length out' ≡ length out
 
-pub record WritesMessageLine (f w out : List ℕ) (at : ℕ) (m : Message) (out' : List ℕ) (r : Wrote) : Type 0 where
+pub record WritesMessageLine (f w out : List ℕ) (at : ℕ) (m : Message) (out' : List ℕ) (r : Option ℕ) : Type 0 where
   pub is : (T : Rows) (d : Described) (st : State) → Stands f w T d → Holds w T st → OkMessage w m → Writes out at (hex_line (said_bytes d (said T st.subst m))) out' r
   pub long : length out' ≡ length out
 
 -- Both.
-pub record WritesLine (f w out : List ℕ) (at n : ℕ) (m : Message) (out' : List ℕ) (r : Wrote) : Type 0 where
+pub record WritesLine (f w out : List ℕ) (at n : ℕ) (m : Message) (out' : List ℕ) (r : Option ℕ) : Type 0 where
   pub is : (T : Rows) (d : Described) (st : State) (p : Span) → Stands f w T d → Holds w T st → OkMessage w m → SpanAt f (line_start_w w n) p
       → Writes out at (line_of d (diagnosed T st.subst m p)) out' r
   pub long : length out' ≡ length out
@@ -120,6 +118,12 @@ stop_w Check.the_end = 0
 stop_w Check.first_diagnostic = 0
 stop_w (Check.entry n) = n
 
+-- The words say so.
+pub data UntilIs (w : List ℕ) : Until → Type 0 where
+  at_end : ¬ (get_or w UNTIL 0 ≡ 1) → ¬ (get_or w UNTIL 0 ≡ 2) → UntilIs w Until.TheEnd
+  at_diagnostic : get_or w UNTIL 0 ≡ 1 → UntilIs w Until.FirstDiagnostic
+  at_entry : get_or w UNTIL 0 ≡ 2 → get_or w STOP 0 < 4294967296 → UntilIs w (Until.Entry (get_or w STOP 0))
+
 -- A number in a word, and the greatest word for more.
 unfoldable pub capped : ℕ → ℕ
 capped n = pick (ltb n 4294967295) n 4294967295
@@ -145,11 +149,11 @@ pub record Tells (f w o : List ℕ) (n : ℕ) (m : Message) (w' o' : List ℕ) :
   pub long : length o' ≡ length o
 
 -- The run goes on; or it was to last until here, and the visits left are kept.
-pub data Halts (w : List ℕ) (left : ℕ) : List ℕ → Done → Type 0 where
-  goes_on : ¬ (get_or w UNTIL 0 ≡ 1) → Halts w left w (Done.On left)
-  ends_here : get_or w UNTIL 0 ≡ 1 → Halts w left (set w LEFT left) Done.Out
+pub data Halts (w : List ℕ) (left : ℕ) : List ℕ → Option ℕ → Type 0 where
+  goes_on : ¬ (get_or w UNTIL 0 ≡ 1) → Halts w left w (Some left)
+  ends_here : get_or w UNTIL 0 ≡ 1 → Halts w left (set w LEFT left) None
 
-pub record Rejected (f w o : List ℕ) (n : ℕ) (m : Message) (left : ℕ) (w' o' : List ℕ) (r : Done) : Type 0 where
+pub record Rejected (f w o : List ℕ) (n : ℕ) (m : Message) (left : ℕ) (w' o' : List ℕ) (r : Option ℕ) : Type 0 where
   pub between : List ℕ
   pub tells : Tells f w o n m between o'
   pub halts : Halts (counted_w between) left w' r
@@ -165,10 +169,10 @@ unfolding put_ty
 sides_w w got expected left = set (put_ty (put_ty w GOT got) EXPECTED expected) LEFT left
 
 -- It is counted, and the run goes on; or it was to last until here.
-pub data Enters (w : List ℕ) (got expected : Ty) (left : ℕ) : List ℕ → Done → Type 0 where
-  enters : ¬ (get_or w UNTIL 0 ≡ 2) → Enters w got expected left (entered_w w) (Done.On left)
-  enters_before : get_or w ENTERED 0 < get_or w STOP 0 → get_or w STOP 0 < 4294967296 → Enters w got expected left (entered_w w) (Done.On left)
-  stops_here : get_or w UNTIL 0 ≡ 2 → get_or w STOP 0 ≤ get_or w ENTERED 0 → Enters w got expected left (sides_w (entered_w w) got expected left) Done.Out
+pub data Enters (w : List ℕ) (got expected : Ty) (left : ℕ) : List ℕ → Option ℕ → Type 0 where
+  enters : ¬ (get_or w UNTIL 0 ≡ 2) → Enters w got expected left (entered_w w) (Some left)
+  enters_before : get_or w ENTERED 0 < get_or w STOP 0 → get_or w STOP 0 < 4294967296 → Enters w got expected left (entered_w w) (Some left)
+  stops_here : get_or w UNTIL 0 ≡ 2 → get_or w STOP 0 ≤ get_or w ENTERED 0 → Enters w got expected left (sides_w (entered_w w) got expected left) None
 
 -- A type in two words.
 unfoldable pub side_w : List ℕ → ℕ → Ty

@@ -1,12 +1,10 @@
 -- The words of a run besides those of types: how diagnostics are counted, and variables, marks and what left unmarked are written and
 -- read (src/lib.rt). There are at most 1,536 diagnostics and 512 of each other; past it nothing is written, and that it never comes to
 -- that is shown where the run is.
-use Rattle.std.specs.Prelude.{Bool, List, [], ◌∷◌, ◌≡◌, ℕ, zero, suc, ◌+◌, ◌-◌, ◌*◌, ◌/◌, ◌%◌, eqb, ltb, get_or, set}
-use Rattle.std.proofs.Math.Option.{Option, none, some}
+use Rattle.std.specs.Prelude.{Bool, List, [], ◌∷◌, ◌≡◌, ℕ, zero, suc, ◌+◌, ◌-◌, ◌*◌, ◌/◌, ◌%◌, eqb, ltb, get_or, set, None, Option, Some}
 use Rattle.work.specs.Layout.{ENV-LEN, DIAGNOSTIC-COUNT, UNKNOWNS, MARK-COUNT, UNUSED-COUNT, ENV, MARKS, UNUSED}
 use Rattle.cells.specs.Words.{pick, fresh_w}
 use Rattle.meaning.specs.Check.{Entry, lookup_in, is_in}
-use Rattle.state.specs.declared.Known.{Known}
 
 -- ---- The number of diagnostics
 unfoldable pub counted_w : List ℕ → List ℕ
@@ -20,9 +18,9 @@ unfoldable pub env_of : List ℕ → ℕ → List Entry
 env_of w zero = []
 env_of w (suc n) = entry_w (get_or w (ENV + n) 0) ∷ env_of w n
 
-abbrev pub known_as : Known → Option Entry
-known_as (Known.As e) = some (entry_w e)
-known_as Known.Nothing = none
+abbrev pub known_as : Option ℕ → Option Entry
+known_as (Some e) = Some (entry_w e)
+known_as None = None
 
 -- ---- Numbers in a region, a word each, newest last in the slice and first in the list
 unfoldable pub numbers_of : ℕ → List ℕ → ℕ → List ℕ
@@ -61,16 +59,16 @@ unfoldable pub mark_w : List ℕ → ℕ → ℕ → List ℕ
 mark_w w node e = pick (eqb (e / 512 % 512) node) w (pick (is_marked_w w (e % 512)) w (push_mark_w w (e % 512)))
 
 -- ---- What was found is marked; else there is a new one.
-abbrev pub introduced_w : Known → List ℕ → ℕ → ℕ → List ℕ
-introduced_w (Known.As e) w node symbol = mark_w w node e
-introduced_w Known.Nothing w node symbol = push_env_w (fresh_w w) node symbol (get_or w UNKNOWNS 0)
+abbrev pub introduced_w : Option ℕ → List ℕ → ℕ → ℕ → List ℕ
+introduced_w (Some e) w node symbol = mark_w w node e
+introduced_w None w node symbol = push_env_w (fresh_w w) node symbol (get_or w UNKNOWNS 0)
 
-abbrev pub introduced_as : Known → List ℕ → ℕ
-introduced_as (Known.As e) w = e % 512
-introduced_as Known.Nothing w = get_or w UNKNOWNS 0
+abbrev pub introduced_as : Option ℕ → List ℕ → ℕ
+introduced_as (Some e) w = e % 512
+introduced_as None w = get_or w UNKNOWNS 0
 
 pub record Introduces (w : List ℕ) (node symbol : ℕ) (w' : List ℕ) (r : ℕ) : Type 0 where
-  pub known : Known
+  pub known : Option ℕ
   pub found : known_as known ≡ lookup_in (env_of w (get_or w ENV-LEN 0)) symbol
   pub is : r ≡ introduced_as known w
   pub words : w' ≡ introduced_w known w node symbol

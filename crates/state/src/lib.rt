@@ -2,31 +2,15 @@
 // of its diagnostics end in the answer slice, and what ends it early.
 #![tactic(auto)]
 
-ghost use Rattle.std.specs.Prelude.{◌≡◌, get_or, set, ◌<◌};
-ghost use Rattle.cells.specs.Words.{put_ty};
+ghost use Rattle.std.specs.Prelude.{◌≡◌, ◌+◌, ◌*◌, get_or, set, ◌<◌};
 ghost use Rattle.work.specs.Layout.{ENV-LEN, MARK-COUNT};
 ghost use Rattle.meaning.specs.Check.{lookup_in, is_in};
-ghost use Rattle.state.specs.Words.{counted_w, env_of, known_as, push_w, push_env_w, marks_of, mark_w, leave_entry_w, leave_w, Introduces};
-ghost use Rattle.state.specs.Lines.{place_w, set_place_w, WritesSpan, WritesHead, WritesUnusedHead, WritesUnusedLine, WritesDiagnostic, WritesCodeLine, WritesSaid, WritesMessageLine, WritesLine, until_of, until_w, stop_w, Tells, Halts, Rejected, entered_w, sides_w, Enters};
+ghost use Rattle.state.specs.Words.{counted_w, entry_w, env_of, known_as, push_w, push_env_w, marks_of, mark_w, leave_entry_w, leave_w, Introduces};
+ghost use Rattle.state.specs.Lines.{place_w, set_place_w, WritesSpan, WritesHead, WritesUnusedHead, WritesUnusedLine, WritesDiagnostic, WritesCodeLine, WritesSaid, WritesMessageLine, WritesLine, until_of, until_w, stop_w, UntilIs, Tells, Halts, Rejected, entered_w, sides_w, Enters};
 
 use cells::Ty;
 use messages::Message;
 use work::{Counters, put, wide, word};
-use writer::Wrote;
-
-// The word of the entry that was found.
-#[derive(Drop)]
-pub enum Known {
-    As(u32),
-    Nothing,
-}
-
-// The visits left; or the run ended, since they ran out or since what it was to last until has come.
-#[derive(Drop)]
-pub enum Done {
-    On(u32),
-    Out,
-}
 
 // What ends a run early besides its visits: nothing, its first diagnostic, or its n-th entry to `unify` from outside, counted from 0.
 #[derive(Clone, Copy)]
@@ -52,6 +36,7 @@ fn set_place(w: &mut [u32], at: usize)
     put(w, work::PLACE_HIGH, (at / 4294967296) as u32);
 }
 
+// `Until` in two words, and out of them.
 fn until_word(until: Until) -> u32
     ensures { result ≡ until_w (until_of until) }
 {
@@ -66,9 +51,18 @@ fn stop_word(until: Until) -> u32
     ensures { result ≡ stop_w (until_of until) }
 {
     match until {
-        Until::TheEnd => 0,
-        Until::FirstDiagnostic => 0,
+        Until::TheEnd | Until::FirstDiagnostic => 0,
         Until::Entry(n) => n,
+    }
+}
+
+fn until_in(w: &[u32]) -> Until
+    ensures { UntilIs w.now result }
+{
+    match word(w, work::UNTIL) {
+        1 => Until::FirstDiagnostic,
+        2 => Until::Entry(word(w, work::STOP)),
+        _ => Until::TheEnd,
     }
 }
 
@@ -92,111 +86,74 @@ pub fn begin_entries(w: &mut [u32], until: Until)
 }
 
 // The span stands in the node's line as the answer has it: sixteen digits, after the two of the line's kind.
-fn span(f: &[u8], out: &mut [u8], at: usize, line: usize) -> Wrote
+fn span(f: &[u8], out: &mut [u8], at: usize, line: usize) -> Option<usize>
     ensures { WritesSpan f.now out.old at line out.new result }
 {
-    if f.len() < 18 {
-        return Wrote::Full;
+    let digits = f.get(line..)?.get(2..18)?;
+    if out.len().checked_sub(at)? < 16 {
+        return None;
     }
-    if f.len() - 18 < line {
-        return Wrote::Full;
-    }
-    let from = line + 2;
-    let mut i: usize = 0;
-    let mut to = at;
-    while i < 16 {
-        let r = writer::one(out, to, f[from + i]);
-        match r {
-            Wrote::To(m) => {
-                to = m;
-            }
-            Wrote::Full => {
-                return Wrote::Full;
-            }
-        }
-        i += 1;
-    }
-    Wrote::To(to)
+    out[at..at + 16].copy_from_slice(digits);
+    Some(at + 16)
 }
 
 // A line's kind, and the span.
-fn head(f: &[u8], out: &mut [u8], at: usize, kind: u32, line: usize) -> Wrote
+fn head(f: &[u8], out: &mut [u8], at: usize, kind: u32, line: usize) -> Option<usize>
     requires { kind < 256 }
     ensures { WritesHead f.now out.old at kind line out.new result }
 {
-    let r = writer::byte(out, at, kind);
-    match r {
-        Wrote::To(m) => span(f, out, m, line),
-        Wrote::Full => Wrote::Full,
-    }
+    let m = writer::byte(out, at, kind)?;
+    span(f, out, m, line)
 }
 
-fn diagnostic(f: &[u8], w: &[u32], out: &mut [u8], at: usize, n: u32, m: Message) -> Wrote
+fn diagnostic(f: &[u8], w: &[u32], out: &mut [u8], at: usize, n: u32, m: Message) -> Option<usize>
     ensures { WritesDiagnostic f.now w.now out.old at n m out.new result }
 {
-    let r = head(f, out, at, 8, tree::line_start(w, n));
-    match r {
-        Wrote::To(e) => messages::code_text(out, e, m),
-        Wrote::Full => Wrote::Full,
-    }
+    let e = head(f, out, at, 8, tree::line_start(w, n))?;
+    messages::code_text(out, e, m)
 }
 
-fn unused_head(f: &[u8], w: &[u32], out: &mut [u8], at: usize, n: u32) -> Wrote
+fn unused_head(f: &[u8], w: &[u32], out: &mut [u8], at: usize, n: u32) -> Option<usize>
     ensures { WritesUnusedHead f.now w.now out.old at n out.new result }
 {
     head(f, out, at, 12, tree::line_start(w, n))
 }
 
 // The line of a node whose entry left unmarked.
-pub fn unused_line(f: &[u8], w: &[u32], out: &mut [u8], at: usize, n: u32) -> Wrote
+pub fn unused_line(f: &[u8], w: &[u32], out: &mut [u8], at: usize, n: u32) -> Option<usize>
     ensures { WritesUnusedLine f.now w.now out.old at n out.new result }
 {
-    let r = unused_head(f, w, out, at, n);
-    match r {
-        Wrote::To(e) => writer::close(out, e),
-        Wrote::Full => Wrote::Full,
-    }
+    let e = unused_head(f, w, out, at, n)?;
+    writer::close(out, e)
 }
 
-fn code_line(f: &[u8], w: &[u32], out: &mut [u8], at: usize, n: u32, m: Message) -> Wrote
+fn code_line(f: &[u8], w: &[u32], out: &mut [u8], at: usize, n: u32, m: Message) -> Option<usize>
     ensures { WritesCodeLine f.now w.now out.old at n m out.new result }
 {
-    let r = diagnostic(f, w, out, at, n, m);
-    match r {
-        Wrote::To(e) => writer::close(out, e),
-        Wrote::Full => Wrote::Full,
-    }
+    let e = diagnostic(f, w, out, at, n, m)?;
+    writer::close(out, e)
 }
 
-fn message(f: &[u8], w: &[u32], out: &mut [u8], at: usize, m: Message) -> Wrote
+fn message(f: &[u8], w: &[u32], out: &mut [u8], at: usize, m: Message) -> Option<usize>
     ensures { WritesSaid f.now w.now out.old at m out.new result }
 {
-    let r = writer::byte(out, at, 10);
-    match r {
-        Wrote::To(e) => messages::text(f, w, out, e, m),
-        Wrote::Full => Wrote::Full,
-    }
+    let e = writer::byte(out, at, 10)?;
+    messages::text(f, w, out, e, m)
 }
 
-fn message_line(f: &[u8], w: &[u32], out: &mut [u8], at: usize, m: Message) -> Wrote
+fn message_line(f: &[u8], w: &[u32], out: &mut [u8], at: usize, m: Message) -> Option<usize>
     ensures { WritesMessageLine f.now w.now out.old at m out.new result }
 {
-    let r = message(f, w, out, at, m);
-    match r {
-        Wrote::To(e) => writer::close(out, e),
-        Wrote::Full => Wrote::Full,
-    }
+    let e = message(f, w, out, at, m)?;
+    writer::close(out, e)
 }
 
 // Both lines: the code with the span, and the text.
-fn line(f: &[u8], w: &[u32], out: &mut [u8], at: usize, n: u32, m: Message) -> Wrote
+fn line(f: &[u8], w: &[u32], out: &mut [u8], at: usize, n: u32, m: Message) -> Option<usize>
     ensures { WritesLine f.now w.now out.old at n m out.new result }
 {
-    let r = code_line(f, w, out, at, n, m);
-    match r {
-        Wrote::To(e) => message_line(f, w, out, e, m),
-        Wrote::Full => Wrote::Full,
-    }
+    let e = code_line(f, w, out, at, n, m)?;
+    message_line(f, w, out, e, m)
 }
 
 // Its lines behind the lines before it; where there is no room, that is noted and no line is written from then on.
@@ -204,10 +161,9 @@ fn tell(f: &[u8], w: &mut [u32], n: u32, m: Message, out: &mut [u8])
     ensures { Tells f.now w.old out.old n m w.new out.new }
 {
     if word(w, work::FULL) == 0 {
-        let r = line(f, w, out, place(w), n, m);
-        match r {
-            Wrote::To(e) => set_place(w, e),
-            Wrote::Full => put(w, work::FULL, 1),
+        match line(f, w, out, place(w), n, m) {
+            Some(e) => set_place(w, e),
+            None => put(w, work::FULL, 1),
         }
     }
 }
@@ -221,18 +177,18 @@ fn count(w: &mut [u32])
     }
 }
 
-fn halt(w: &mut [u32], left: u32) -> Done
+fn halt(w: &mut [u32], left: u32) -> Option<u32>
     ensures { Halts w.old left w.new result }
 {
-    if word(w, work::UNTIL) != 1 {
-        return Done::On(left);
+    if let Until::FirstDiagnostic = until_in(w) {
+        put(w, work::LEFT, left);
+        return None;
     }
-    put(w, work::LEFT, left);
-    Done::Out
+    Some(left)
 }
 
 // A diagnostic at a node, and whether the run goes on.
-pub fn reject(f: &[u8], w: &mut [u32], n: u32, m: Message, left: u32, out: &mut [u8]) -> Done
+pub fn reject(f: &[u8], w: &mut [u32], n: u32, m: Message, left: u32, out: &mut [u8]) -> Option<u32>
     ensures { Rejected f.now w.old out.old n m left w.new out.new result }
 {
     tell(f, w, n, m, out);
@@ -251,55 +207,70 @@ fn count_entry(w: &mut [u32])
     }
 }
 
-fn put_ty(w: &mut [u32], at: usize, t: Ty)
-    requires { at < 16384 }
-    ensures { w.new ≡ put_ty w.old at t }
-{
-    put(w, at, cells::tag_of(t));
-    put(w, at + 1, cells::payload_of(t));
-}
-
 fn keep_sides(w: &mut [u32], got: Ty, expected: Ty, left: u32)
     ensures { w.new ≡ sides_w w.old got expected left }
 {
-    put_ty(w, work::GOT, got);
-    put_ty(w, work::EXPECTED, expected);
+    cells::put_ty(w, work::GOT, got);
+    cells::put_ty(w, work::EXPECTED, expected);
     put(w, work::LEFT, left);
 }
 
 // An entry from outside is about to be made: it is counted, and the run goes on, or it was to last until here.
-pub fn enter(w: &mut [u32], got: Ty, expected: Ty, left: u32) -> Done
+pub fn enter(w: &mut [u32], got: Ty, expected: Ty, left: u32) -> Option<u32>
     ensures { Enters w.old got expected left w.new result }
 {
-    let until = word(w, work::UNTIL);
-    let stop = wide(word(w, work::STOP));
-    let n = wide(word(w, work::ENTERED));
+    let until = until_in(w);
+    let n = word(w, work::ENTERED);
     count_entry(w);
-    if until != 2 {
-        return Done::On(left);
+    match until {
+        Until::TheEnd | Until::FirstDiagnostic => Some(left),
+        Until::Entry(stop) if n < stop => Some(left),
+        Until::Entry(_) => {
+            keep_sides(w, got, expected, left);
+            None
+        }
     }
-    if n < stop {
-        return Done::On(left);
-    }
-    keep_sides(w, got, expected, left);
-    Done::Out
 }
 
 // ---- Variables
 
+// An entry in a word: the variable, the node that made it, and the unknown.
+fn entry(symbol: u32, node: u32, var: u32) -> u32
+    requires { (symbol < 16384) × (node < 512) × (var < 512) }
+    ensures { result ≡ symbol * 262144 + (node * 512 + var) }
+{
+    symbol * 262144 + (node * 512 + var)
+}
+
+fn symbol_of(e: u32) -> u32
+    ensures { result ≡ (entry_w e).symbol }
+{
+    e / 262144
+}
+
+fn maker_of(e: u32) -> u32
+    ensures { result ≡ (entry_w e).maker }
+{
+    e / 512 % 512
+}
+
+fn unknown_of(e: u32) -> u32
+    ensures { result ≡ (entry_w e).unknown }
+{
+    e % 512
+}
+
 // Newest first.
-pub fn lookup(w: &[u32], symbol: u32) -> Known
+pub fn lookup(w: &[u32], symbol: u32) -> Option<u32>
     ensures { known_as result ≡ lookup_in (env_of w.now (get_or w.now ENV-LEN 0)) symbol }
 {
-    let mut i = word(w, work::ENV_LEN);
-    while 0 < i {
-        i -= 1;
+    for i in (0..word(w, work::ENV_LEN)).rev() {
         let e = word(w, work::ENV + wide(i));
-        if e / 262144 == symbol {
-            return Known::As(e);
+        if symbol_of(e) == symbol {
+            return Some(e);
         }
     }
-    Known::Nothing
+    None
 }
 
 // One more number, in a region with this counter.
@@ -317,26 +288,15 @@ fn push(w: &mut [u32], from: usize, count: usize, x: u32)
 fn push_env(w: &mut [u32], node: u32, symbol: u32, var: u32)
     ensures { w.new ≡ push_env_w w.old node symbol var }
 {
-    if symbol < 16384 {
-        if node < 512 {
-            if var < 512 {
-                push(
-                    w,
-                    work::ENV,
-                    work::ENV_LEN,
-                    symbol * 262144 + (node * 512 + var),
-                );
-            }
-        }
+    if symbol < 16384 && node < 512 && var < 512 {
+        push(w, work::ENV, work::ENV_LEN, entry(symbol, node, var));
     }
 }
 
 fn is_marked(w: &[u32], var: u32) -> bool
     ensures { result ≡ is_in var (marks_of w.now (get_or w.now MARK-COUNT 0)) }
 {
-    let mut i = word(w, work::MARK_COUNT);
-    while 0 < i {
-        i -= 1;
+    for i in (0..word(w, work::MARK_COUNT)).rev() {
         if word(w, work::MARKS + wide(i)) == var {
             return true;
         }
@@ -348,10 +308,8 @@ fn is_marked(w: &[u32], var: u32) -> bool
 fn mark(w: &mut [u32], node: u32, e: u32)
     ensures { w.new ≡ mark_w w.old node e }
 {
-    if e / 512 % 512 != node {
-        if !is_marked(w, e % 512) {
-            push(w, work::MARKS, work::MARK_COUNT, e % 512);
-        }
+    if maker_of(e) != node && !is_marked(w, unknown_of(e)) {
+        push(w, work::MARKS, work::MARK_COUNT, unknown_of(e));
     }
 }
 
@@ -359,13 +317,12 @@ fn mark(w: &mut [u32], node: u32, e: u32)
 pub fn introduce(w: &mut [u32], node: u32, symbol: u32) -> u32
     ensures { Introduces w.old node symbol w.new result }
 {
-    let known = lookup(w, symbol);
-    match known {
-        Known::As(e) => {
+    match lookup(w, symbol) {
+        Some(e) => {
             mark(w, node, e);
-            e % 512
+            unknown_of(e)
         }
-        Known::Nothing => {
+        None => {
             let var = cells::fresh_var_id(w);
             push_env(w, node, symbol, var);
             var
@@ -376,8 +333,8 @@ pub fn introduce(w: &mut [u32], node: u32, symbol: u32) -> u32
 fn leave_entry(w: &mut [u32], e: u32)
     ensures { w.new ≡ leave_entry_w w.old e }
 {
-    if !is_marked(w, e % 512) {
-        push(w, work::UNUSED, work::UNUSED_COUNT, e / 512 % 512);
+    if !is_marked(w, unknown_of(e)) {
+        push(w, work::UNUSED, work::UNUSED_COUNT, maker_of(e));
     }
 }
 
@@ -386,11 +343,9 @@ pub fn leave(w: &mut [u32], scope: u32)
     ensures { w.new ≡ leave_w w.old scope }
 {
     let n = word(w, work::ENV_LEN);
-    let mut i = scope;
-    while i < n {
+    for i in scope..n {
         let e = word(w, work::ENV + wide(i));
         leave_entry(w, e);
-        i += 1;
     }
     put(w, work::ENV_LEN, scope);
 }

@@ -2,7 +2,6 @@
 -- a fuzzy pattern, a unification. Each goes beside its namesake of meaning/specs/Check.antt.
 use mathlib.Core.Bool.{Bool, true, false}
 use mathlib.Core.List.{List}
-use mathlib.Core.Option.{some}
 use mathlib.Core.Path.{◌≡◌, refl, sym, ◌∙◌, ap, subst}
 use native.Mathlib.Omega.{arith}
 use Prim.Native.Nat.{ℕ, zero, suc, ◌+◌, ◌-◌, ◌<◌, ◌≤◌}
@@ -19,7 +18,6 @@ use Rattle.work.specs.Layout.{RECORD-COUNT, RECORD-FIELD-COUNT, ENV-LEN, MARK-CO
 use Rattle.cells.specs.declared.Ty.{Ty}
 use Rattle.cells.specs.declared.Ty.TheVariants.{Str}
 use Rattle.cells.specs.declared.TyError.{TyError}
-use Rattle.cells.specs.declared.Unified.{Unified}
 use Rattle.cells.specs.Stands.{Rows, tree, Ok, Keeps}
 use Rattle.cells.specs.Promises as Cells
 use Rattle.cells.specs.Promises.{error_of, OkError, RollsBack, Unifies}
@@ -46,8 +44,6 @@ use Rattle.state.proofs.Leaving.{leave_runs, leave_unlined, leave_grew}
 use Rattle.state.specs.Words.{leave_w}
 use Rattle.state.proofs.Lining.{told_same}
 use Rattle.state.proofs.Lined.{keeps_unlined}
-use Rattle.state.specs.declared.Done.{Done}
-use Rattle.steps.specs.declared.Typed.TheVariants as Typed
 use Rattle.steps.specs.Ends.{done, silent, unified, Gone, Ends, went, spent}
 use Rattle.steps.specs.Loads.{Load, only, both, FitsIn, Begins, Beside}
 use Rattle.steps.specs.Promises.{nodes_of, Reports, RollsTo, Leaves, fuzzy, Fuzzes, UnifiesOutside, typed_after}
@@ -57,6 +53,8 @@ use Rattle.steps.proofs.Growing.{ok_kept}
 use Rattle.steps.proofs.Sequel.{gone_on}
 use Rattle.steps.proofs.Ending.{reject_ends}
 use Rattle.steps.proofs.Results.{on_here, then_done, stop_done, done_typed}
+use Rattle.std.specs.Prelude.{Err, None, Option, Result, Some, ℕ}
+use Rattle.cells.specs.declared.Failure.{Failure}
 
 -- ---- `report`
 report_said : (T : Rows) (s : Subst) (err : TyError) → Check.message_of (error_of T err) ≡ said T s (report_message err)
@@ -72,7 +70,7 @@ report_ok w (TyError.UnionMismatch d e g) ok = ok
 report_ok w (TyError.UnknownField n) ok = tt
 report_ok w TyError.Infinite ok = tt
 
-pub reports : (f w : List ℕ) {ou w' ou' : List ℕ} (n : ℕ) (err : TyError) (left : ℕ) {r : Done} → Rejected f w ou n (report_message err) left w' ou' r
+pub reports : (f w : List ℕ) {ou w' ou' : List ℕ} (n : ℕ) (err : TyError) (left : ℕ) {r : Option ℕ} → Rejected f w ou n (report_message err) left w' ou' r
     → Reports f w ou n err left w' ou' r
 unfolding Check.report
 reports f w n err left x d there = record
@@ -125,20 +123,20 @@ rolls f w {ou} {w' = w'} X d left at p q r = rw (← q, ← r) (back (rw (← p)
 module _ {f w ou : List ℕ} {T : Rows} {d : Described} {left : ℕ} {c : Checker} (B : Begins f w ou T d (only one_diagnostic) left c) (n : ℕ)
     (there : n < length (nodes_of d)) where
   -- By a test.
-  reject_if_ends : (m : Message) → OkMessage w m → {w' ou' : List ℕ} {r : Done} (b : Bool) → RejectedIf f w ou n m left w' ou' r b
+  reject_if_ends : (m : Message) → OkMessage w m → {w' ou' : List ℕ} {r : Option ℕ} (b : Bool) → RejectedIf f w ou n m left w' ou' r b
       → Ends f w ou w' ou' T d 0 0 (done r) ((elim b as (λ b. Does (Unit {0}))
       [ true ↦ Check.reject d.schema (nodes_of d) n (said T c.state.subst m) | false ↦ (λ c. goes tt c) ]) c)
   reject_if_ends m ok true (reported x) = reject_ends B n there m ok x
   reject_if_ends m ok false (stayed p q z) = rw (p, q, z) (on_here B.runs B.lines B.visits)
 
-  distance_ends : (distance : ℕ) {w' ou' : List ℕ} {r : Done} → RejectedIf f w ou n (Message.DistanceOutside distance) left w' ou' r (far_w w distance)
+  distance_ends : (distance : ℕ) {w' ou' : List ℕ} {r : Option ℕ} → RejectedIf f w ou n (Message.DistanceOutside distance) left w' ou' r (far_w w distance)
       → Ends f w ou w' ou' T d 0 0 (done r) (Check.fuzzy_distance d.schema (nodes_of d) n distance c)
   unfolding Check.fuzzy_distance
   distance_ends zero (reported x) = reject_ends B n there (Message.DistanceOutside zero) tt x
   distance_ends (suc e) x = reject_if_ends (Message.DistanceOutside (suc e)) tt (ltb d.schema.max_distance (suc e))
       (rw (ne_eqb (suc e) 0 (λ q. omega arith), B.runs.stands.schema.distance) at x)
 
-  term_ends : (term : ℕ) → term < length d.schema.characters → {w' ou' : List ℕ} {r : Done}
+  term_ends : (term : ℕ) → term < length d.schema.characters → {w' ou' : List ℕ} {r : Option ℕ}
       → RejectedIf f w ou n (Message.TermTooLong (characters_w w term)) left w' ou' r (long_w w term)
       → Ends f w ou w' ou' T d 0 0 (done r) (Check.fuzzy_term d.schema (nodes_of d) n term c)
   unfolding Check.fuzzy_term
@@ -152,7 +150,7 @@ unfolding Check.fuzzy_distance
 distance_meets d n zero c o = reject_meets d.schema (nodes_of d) n _ c o
 distance_meets d n (suc e) c o = reject_if d.schema (nodes_of d) n _ c o (ltb d.schema.max_distance (suc e))
 
-module _ {f w ou w₁ ou₁ : List ℕ} (n term distance : ℕ) {left : ℕ} {r : Done}
+module _ {f w ou w₁ ou₁ : List ℕ} (n term distance : ℕ) {left : ℕ} {r : Option ℕ}
     (X : RejectedIf f w ou n (Message.DistanceOutside distance) left w₁ ou₁ r (far_w w distance)) where
   abbrev one : Load
   one = only one_diagnostic
@@ -167,7 +165,7 @@ module _ {f w ou w₁ ou₁ : List ℕ} (n term distance : ℕ) {left : ℕ} {r 
     fields = omega arith;
   }
 
-  pub fuzzy_on : {l : ℕ} {w₂ ou₂ : List ℕ} {x : Done} → r ≡ Done.On l
+  pub fuzzy_on : {l : ℕ} {w₂ ou₂ : List ℕ} {x : Option ℕ} → r ≡ Some l
       → RejectedIf f w₁ ou₁ n (Message.TermTooLong (characters_w w₁ term)) l w₂ ou₂ x (long_w w₁ term)
       → Fuzzes f w ou n term distance left w₂ ou₂ (typed_after Str x)
   unfolding fuzzy
@@ -181,7 +179,7 @@ module _ {f w ou w₁ ou₁ : List ℕ} (n term distance : ℕ) {left : ℕ} {r 
     };
   }
 
-  pub fuzzy_out : r ≡ Done.Out → Fuzzes f w ou n term distance left w₁ ou₁ Typed.Out
+  pub fuzzy_out : r ≡ None → Fuzzes f w ou n term distance left w₁ ou₁ None
   unfolding fuzzy
   fuzzy_out e = record {
     is = λ d there name. record {
@@ -200,7 +198,7 @@ not_come Check.the_end w T ds es h = tt
 not_come Check.first_diagnostic w T ds es h = tt
 not_come (Check.entry n) w T ds es h = λ l. absurd (omega arith)
 
-module _ {f w ou w' : List ℕ} {T : Rows} {d : Described} {left : ℕ} {c : Checker} {r : Unified} (B : Begins f w ou T d (only no_thing) left c) where
+module _ {f w ou w' : List ℕ} {T : Rows} {d : Described} {left : ℕ} {c : Checker} {r : Result ℕ Failure} (B : Begins f w ou T d (only no_thing) left c) where
   unified_ends : (res : Unify.Unified) → Cells.Ends w w' T r res → Kept.After (Kept.Kept c.state) res
       → Ends f w ou w' ou T d 0 0 (unified w' r) (Check.unified c res)
   unfolding Check.unified Check.with_state Cells.Ends
@@ -216,7 +214,7 @@ module _ {f w ou w' : List ℕ} {T : Rows} {d : Described} {left : ℕ} {c : Che
       })
   unified_ends (Unify.Err x st) e k =
       let K : Keeps TYS END w w' = keeps_wider (omega arith) (omega arith) e.3.keeps in
-      went {a = some x} (record {
+      went {a = Some x} (record {
         T' = T;
         more = more_refl;
         runs = runs_slots B.sound B.runs K e.3.holds (ap length k.tys);
@@ -248,7 +246,7 @@ module _ {f w ou : List ℕ} {T : Rows} {d : Described} {left : ℕ} {c : Checke
   unfolding Check.entered Check.with_entries
   one_more = refl
 
-  noted : {got expected : Ty} {l : ℕ} {w' : List ℕ} → Enters w got expected left w' (Done.On l)
+  noted : {got expected : Ty} {l : ℕ} {w' : List ℕ} → Enters w got expected left w' (Some l)
       → Begins f (entered_w w) ou T d (only no_thing) left (Check.entered a b c)
   unfolding Check.entered Check.with_entries
   noted E = record {
@@ -280,7 +278,7 @@ module _ {f w ou : List ℕ} {T : Rows} {d : Described} {left : ℕ} {c : Checke
     fields = omega arith;
   }
 
-  made : {got expected : Ty} {l : ℕ} {w₁ w' : List ℕ} {r : Unified} → Enters w got expected left w₁ (Done.On l)
+  made : {got expected : Ty} {l : ℕ} {w₁ w' : List ℕ} {r : Result ℕ Failure} → Enters w got expected left w₁ (Some l)
       → Ends f (entered_w w) ou w' ou T d 0 0 (unified w' r) (Check.united a b (Check.entered a b c))
       → Ends f w ou w' ou T d 0 0 (unified w' r) (Check.unify a b c)
   unfolding Check.unify Check.enter and_then
@@ -297,16 +295,16 @@ module _ {f w ou : List ℕ} {T : Rows} {d : Described} {left : ℕ} {c : Checke
       (sym (goes_past B.lines (Check.entered a b c) one_more E))
       (gone_on (only no_thing) (only no_thing) (only no_thing) no_more g h)
 
-  unmade : {got expected : Ty} {w' : List ℕ} → Enters w got expected left w' Done.Out → tree T got ≡ a → tree T expected ≡ b → Ok w got
-      → Ok w expected → Ends f w ou w' ou T d 0 0 (unified w' Unified.Spent) (Check.unify a b c)
+  unmade : {got expected : Ty} {w' : List ℕ} → Enters w got expected left w' None → tree T got ≡ a → tree T expected ≡ b → Ok w got
+      → Ok w expected → Ends f w ou w' ou T d 0 0 (unified w' (Err Failure.Spent)) (Check.unify a b c)
   unfolding Check.unify Check.enter and_then
   unmade {got} {expected} (stops_here z l) p q i j =
       let S = sides_w (entered_w w) got expected left in
-      let E : Enters w got expected left (sides_w (entered_w w) got expected left) Done.Out = stops_here z l in
+      let E : Enters w got expected left (sides_w (entered_w w) got expected left) None = stops_here z l in
       let G = stopped_grew B.sound B.runs B.lines a b got expected left in
       let s = got_side B.sound B.runs B.lines a b got expected left in
       let t = expected_side B.sound B.runs B.lines a b got expected left in
-      subst (λ (s : Step (Unit {0})). Ends f w ou S ou T d 0 0 (unified S Unified.Spent) (and_then s (λ _. Check.united a b)))
+      subst (λ (s : Step (Unit {0})). Ends f w ou S ou T d 0 0 (unified S (Err Failure.Spent)) (and_then s (λ _. Check.united a b)))
       (sym (stops_there B.lines (Check.entered a b c) one_more E))
       (spent (record {
         T' = T;
@@ -325,13 +323,13 @@ module _ {f w ou : List ℕ} {T : Rows} {d : Described} {left : ℕ} {c : Checke
 
 -- `unify_outside`
 module _ (w : List ℕ) {got expected : Ty} {left : ℕ} where
-  counted_on : {w₁ : List ℕ} {l : ℕ} {x : Done} → Enters w got expected left w₁ x → x ≡ Done.On l
-      → (w₁ ≡ entered_w w) × (left ≡ l) × Enters w got expected left (entered_w w) (Done.On left)
+  counted_on : {w₁ : List ℕ} {l : ℕ} {x : Option ℕ} → Enters w got expected left w₁ x → x ≡ Some l
+      → (w₁ ≡ entered_w w) × (left ≡ l) × Enters w got expected left (entered_w w) (Some left)
   counted_on (enters z) e = (refl, cc e, enters z)
   counted_on (enters_before z s) e = (refl, cc e, enters_before z s)
   counted_on (stops_here z l) e = clash (cc e)
 
-  pub outside_made : {w₁ w' : List ℕ} {l : ℕ} {x : Done} {r : Unified} → Enters w got expected left w₁ x → x ≡ Done.On l
+  pub outside_made : {w₁ w' : List ℕ} {l : ℕ} {x : Option ℕ} {r : Result ℕ Failure} → Enters w got expected left w₁ x → x ≡ Some l
       → Unifies w₁ got expected l w' r → UnifiesOutside w got expected left w' r
   outside_made {w' = w'} {l} {r = r} F e U =
       let h = counted_on F e in
@@ -345,7 +343,7 @@ module _ (w : List ℕ) {got expected : Ty} {left : ℕ} where
         };
       }
 
-  pub outside_out : {w' : List ℕ} {x : Done} → Enters w got expected left w' x → x ≡ Done.Out → UnifiesOutside w got expected left w' Unified.Spent
+  pub outside_out : {w' : List ℕ} {x : Option ℕ} → Enters w got expected left w' x → x ≡ None → UnifiesOutside w got expected left w' (Err Failure.Spent)
   outside_out (enters z) e = clash (cc e)
   outside_out (enters_before z s) e = clash (cc e)
   outside_out (stops_here z l) e = record {

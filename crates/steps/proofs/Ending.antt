@@ -1,7 +1,6 @@
 -- How the steps outside of the cycle end: at once with a type in hand, or after one diagnostic. The room for it is the load's.
 use mathlib.Core.Bool.{false}
 use mathlib.Core.List.{List, ◌∷◌}
-use mathlib.Core.Option.{Option, none, some}
 use mathlib.Core.Path.{◌≡◌, refl, sym, ◌∙◌, ap}
 use native.Mathlib.Omega.{arith}
 use Prim.Native.Nat.{ℕ, ◌<◌}
@@ -26,29 +25,28 @@ use Rattle.meaning.proofs.Steps.{same_self, introduce_known}
 use Rattle.messages.specs.declared.Message.{Message}
 use Rattle.messages.specs.Said.{said, OkMessage}
 use Rattle.state.specs.Words.{Introduces}
-use Rattle.state.specs.declared.Done.{Done}
 use Rattle.state.specs.Lines.{Told, until_w, Rejected}
 use Rattle.state.proofs.Running.{grew_refl, annotate_runs, grew_slots, fresh_word, fresh_runs, fresh_grew}
 use Rattle.state.proofs.Scoping.{runs_env_length, runs_marks_length, Gives, introduce_runs}
 use Rattle.state.proofs.Lining.{told_same}
 use Rattle.state.proofs.Lined.{rejected_runs, rejected_grew, rejected_on, rejected_out}
-use Rattle.steps.specs.declared.Typed.{Typed}
 use Rattle.steps.specs.Ends.{typed, done, numbered, Ends, went, spent}
 use Rattle.steps.specs.Loads.{Load, only, Begins}
 use Rattle.steps.specs.Promises.{nodes_of, Rejects, Notes, Freshens, Brings}
 use Rattle.steps.specs.Outside.{RejectsTy}
 use Rattle.steps.proofs.Results.{done_typed}
+use Rattle.std.specs.Prelude.{None, Option, Some, ℕ}
 
 module _ {f w ou : List ℕ} {T : Rows} {d : Described} {left : ℕ} {c : Checker} (B : Begins f w ou T d (only one_diagnostic) left c) where
   -- A type in hand comes back.
-  pub ends_with : (t : Ty) (ty : Tree.Ty) → Ok w t → tree T t ≡ ty → Ends f w ou w ou T d 0 0 (typed w (Typed.Got t left)) (goes ty c)
+  pub ends_with : (t : Ty) (ty : Tree.Ty) → Ok w t → tree T t ≡ ty → Ends f w ou w ou T d 0 0 (typed w (Some (t, left))) (goes ty c)
   ends_with t ty o e = went (record {
     T' = T;
     more = more_refl;
     runs = B.runs;
     lines = B.lines;
     grew = grew_refl;
-    is = record { t = t; res = ap (Typed.Got t) (sym B.visits); ok = o; is = e };
+    is = record { t = t; res = ap (λ l. Some (t, l)) (sym B.visits); ok = o; is = e };
   })
 
   module _ (n : ℕ) (there : n < length (nodes_of d)) (m : Message) (ok : OkMessage w m) where
@@ -56,7 +54,7 @@ module _ {f w ou : List ℕ} {T : Rows} {d : Described} {left : ℕ} {c : Checke
     room = omega (arith, B.runs.diagnostics, B.free.diagnostics)
 
     -- By what the run is to last until.
-    pub reject_ends : {w' ou' : List ℕ} {r : Done} → Rejected f w ou n m left w' ou' r
+    pub reject_ends : {w' ou' : List ℕ} {r : Option ℕ} → Rejected f w ou n m left w' ou' r
         → Ends f w ou w' ou' T d 0 0 (done r) (Check.reject d.schema (nodes_of d) n (said T c.state.subst m) c)
     unfolding Check.reject Check.diagnosed Check.with_diagnostics Check.reported
     reject_ends {w'} {ou'} {r} x = go c.until refl
@@ -71,7 +69,7 @@ module _ {f w ou : List ℕ} {T : Rows} {d : Described} {left : ℕ} {c : Checke
               runs = rejected_runs B.sound B.runs x room;
               lines = h.1;
               grew = rejected_grew B.sound B.runs x room;
-              is = h.0 ∙ ap Done.On (sym B.visits);
+              is = h.0 ∙ ap Some (sym B.visits);
             })
 
         go : (u : Check.Until) → c.until ≡ u → Ends f w ou w' ou' T d 0 0 (done r) (Check.reject d.schema (nodes_of d) n (said T c.state.subst m) c)
@@ -89,12 +87,12 @@ module _ {f w ou : List ℕ} {T : Rows} {d : Described} {left : ℕ} {c : Checke
             }))
 
     -- `reject_ty`
-    pub reject_ty_ends : {w' ou' : List ℕ} {r : Typed} → RejectsTy f w ou n m left w' ou' r
+    pub reject_ty_ends : {w' ou' : List ℕ} {r : Option (Ty × ℕ)} → RejectsTy f w ou n m left w' ou' r
         → Ends f w ou w' ou' T d 0 0 (typed w' r) (Check.reject_ty d.schema (nodes_of d) n (said T c.state.subst m) c)
     unfolding Check.reject_ty
     reject_ty_ends x = rw x.is (done_typed Error tt (reject_ends x.rejected))
 
-pub rejects : (f w : List ℕ) {ou w' ou' : List ℕ} (n : ℕ) (m : Message) (left : ℕ) {r : Done} → Rejected f w ou n m left w' ou' r
+pub rejects : (f w : List ℕ) {ou w' ou' : List ℕ} (n : ℕ) (m : Message) (left : ℕ) {r : Option ℕ} → Rejected f w ou n m left w' ou' r
     → Rejects f w ou n m left w' ou' r
 rejects f w n m left x d there = record { is = λ T c B ok. reject_ends B n there m ok x }
 
@@ -149,17 +147,17 @@ unfolding Check.introduce Check.lookup Check.mark Check.with_marks Check.fresh_v
 introduce_left n symbol x c b e = go (lookup_in c.env symbol) refl
   where
     go : (o : Option Check.Entry) → lookup_in c.env symbol ≡ o → b.state.left ≡ c.state.left
-    go (some v) q = let z = rw (q, Check.introduce) at e in
+    go (Some v) q = let z = rw (q, Check.introduce) at e in
         let k : Check.with_marks c (Check.marked n v c.marks) ≡ b = cc z in
         ap (λ (k : Checker). k.state.left) (sym k)
-    go none q = let z = rw (q, Check.introduce) at e in
+    go None q = let z = rw (q, Check.introduce) at e in
         let k : Check.with_env (Check.with_state c (Bindings.fresh c.state))
         (record { symbol = symbol; unknown = Bindings.fresh_id c.state; maker = n } ∷ c.env) ≡ b = cc z in
         ap (λ (k : Checker). k.state.left) (sym k)
 
 -- There is room for one mark more: fewer are marked than there are unknowns.
 mark_room : {f w ou : List ℕ} {T : Rows} {d : Described} {G : Load} {left : ℕ} {c : Checker} → Begins f w ou T d G left c
-    → (symbol : ℕ) (e : Check.Entry) → lookup_in c.env symbol ≡ some e
+    → (symbol : ℕ) (e : Check.Entry) → lookup_in c.env symbol ≡ Some e
     → Check.is_in e.unknown c.marks ≡ false → get_or w MARK-COUNT 0 < 512
 unfolding Check.introduce Check.lookup Check.mark Check.with_marks and_then
 mark_room {c = c} B symbol e q new =
@@ -177,7 +175,7 @@ pub brings : (f w : List ℕ) {ou : List ℕ} (n symbol left : ℕ) (w' : List �
 brings f w n symbol left w' x I = record {
   is = λ d small there. record {
     is = λ T c B u.
-        let room : lookup_in c.env symbol ≡ none → (length c.state.subst < 512) × (get_or w ENV-LEN 0 < 512) = λ q.
+        let room : lookup_in c.env symbol ≡ None → (length c.state.subst < 512) × (get_or w ENV-LEN 0 < 512) = λ q.
         (omega (arith, B.free.unknowns), omega (arith, B.free.unknowns, B.orderly.few, runs_env_length B.runs)) in
         given c (Check.introduce n symbol c) B.visits B.lines
         (introduce_runs B.sound B.runs (omega arith) there room (mark_room B symbol) I) (introduce_left n symbol x c);

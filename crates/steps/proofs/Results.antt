@@ -1,6 +1,7 @@
 -- The laws of Sequel.antt for what the code gives back: a type with the visits left, the visits left, or that they ran out.
 use mathlib.Core.List.{List}
-use mathlib.Core.Path.{◌≡◌, refl, sym, ap}
+use mathlib.Core.Path.{◌≡◌, refl, sym, ap, ◌∙◌}
+use Rattle.std.proofs.lemmas.Option.{some_pair_parts}
 use native.Mathlib.Omega.{arith}
 use Prim.Native.Nat.{ℕ}
 use Rattle.unification.specs.Ty as Tree
@@ -15,23 +16,22 @@ use Rattle.meaning.proofs.Steps.{IsSide}
 use Rattle.cells.specs.Inferred.{More}
 use Rattle.state.specs.Lines.{Told}
 use Rattle.state.specs.Runs.{Runs, Grew}
-use Rattle.steps.specs.declared.Typed.{Typed}
-use Rattle.state.specs.declared.Done.{Done}
-use Rattle.steps.specs.Ends.{Result, IsTyped, typed, done, silent, numbered, Gone, Ends, went, spent}
+use Rattle.steps.specs.Ends.{Gives, IsTyped, typed, done, silent, numbered, Gone, Ends, went, spent}
 use Rattle.steps.specs.Loads.{Load, both, FitsIn, Begins}
 use Rattle.steps.specs.Promises.{Fine, only_w, typed_after}
 use Rattle.cells.proofs.Frame.{tree_more}
 use Rattle.steps.proofs.Growing.{ok_kept}
 use Rattle.steps.proofs.Sequel.{then_ends, stop_ends, ends_here, gone_as}
+use Rattle.std.specs.Prelude.{None, Option, Some, ℕ}
 
 -- ---- What comes back at once
 pub type_here : {f w ou : List ℕ} {T : Rows} {d : Described} {n m left : ℕ} {c : Checker} (t : Ty) → Runs f w T d c → Told d w ou c 0
-    → c.state.left ≡ left → Ok w t → Ends f w ou w ou T d n m (typed w (Typed.Got t left)) (goes (tree T t) c)
-type_here {T = T} {c = c} t r k v o = ends_here (tree T t) c r k (record { t = t; res = ap (Typed.Got t) (sym v); ok = o; is = refl })
+    → c.state.left ≡ left → Ok w t → Ends f w ou w ou T d n m (typed w (Some (t, left))) (goes (tree T t) c)
+type_here {T = T} {c = c} t r k v o = ends_here (tree T t) c r k (record { t = t; res = ap (λ l. Some (t, l)) (sym v); ok = o; is = refl })
 
 pub on_here : {f w ou : List ℕ} {T : Rows} {d : Described} {n m left : ℕ} {c : Checker} → Runs f w T d c → Told d w ou c 0 → c.state.left ≡ left
-    → Ends f w ou w ou T d n m (done (Done.On left)) (goes tt c)
-on_here {c = c} r k v = ends_here tt c r k (ap Done.On (sym v))
+    → Ends f w ou w ou T d n m (done (Some left)) (goes tt c)
+on_here {c = c} r k v = ends_here tt c r k (ap Some (sym v))
 
 pub with_visits : {f w ou : List ℕ} {T : Rows} {d : Described} {L : Load} {v l : ℕ} {c : Checker} → c.state.left ≡ l → Begins f w ou T d L v c
     → Begins f w ou T d L l c
@@ -54,13 +54,13 @@ module _ {f w ou w₁ ou₁ : List ℕ} {T : Rows} {d : Described} {G H : Load} 
   fine_after t x = record { ok = ok_kept a.grew.adds t x.ok; side = rw (tree_after t x.ok) (made_side G.grade c b (tree T t) a.made x.side) }
 
 -- ---- A type, and then
-pub got_same : {w : List ℕ} {r : Typed} {T : Rows} {ty : Tree.Ty} {left l : ℕ} {t : Ty} → r ≡ Typed.Got t l → IsTyped w r T ty left
+pub got_same : {w : List ℕ} {r : Option (Ty × ℕ)} {T : Rows} {ty : Tree.Ty} {left l : ℕ} {t : Ty} → r ≡ Some (t, l) → IsTyped w r T ty left
     → (Ok w t) × (tree T t ≡ ty) × (left ≡ l)
-got_same {t = t} e i = let p : i.t ≡ t = cc (e, i.res) in (rw (← p) i.ok, rw (← p) i.is, cc (e, i.res))
+got_same {t = t} e i = let same = some_pair_parts _ _ _ _ (sym i.res ∙ e) in (rw (← same.0) i.ok, rw (← same.0) i.is, same.1)
 
 module _ {B : Type 0} {f w ou w₁ ou₁ : List ℕ} {T : Rows} {d : Described} {left : ℕ} {c : Checker} (G H K : Load) (fits : FitsIn (both G H) K)
-    {r : Typed} {E : Result B} where
-  pub then_typed : {w₂ ou₂ : List ℕ} {t : Ty} {l : ℕ} (m : Step Tree.Ty) (next : Tree.Ty → Does B) → r ≡ Typed.Got t l → Begins f w ou T d K left c
+    {r : Option (Ty × ℕ)} {E : Gives B} where
+  pub then_typed : {w₂ ou₂ : List ℕ} {t : Ty} {l : ℕ} (m : Step Tree.Ty) (next : Tree.Ty → Does B) → r ≡ Some (t, l) → Begins f w ou T d K left c
       → (Ready G.grade c → Meets IsSide G.grade c m)
       → (Begins f w ou T d G left c → Ends f w ou w₁ ou₁ T d G.records G.fields (typed w₁ r) m)
       → ((T₁ : Rows) (b : Checker) → After f w ou w₁ ou₁ T d G H l c T₁ b → Fine w₁ t T₁ b
@@ -75,14 +75,14 @@ module _ {B : Type 0} {f w ou w₁ ou₁ : List ℕ} {T : Rows} {d : Described} 
           rw (← i.1) (rest g.T' b (record { more = g.more; grew = g.grew; made = v.made; begins = with_visits i.2 s₁ })
           (record { ok = i.0; side = rw i.1 v.holds }))
 
-  pub stop_typed : (m : Step Tree.Ty) (next : Tree.Ty → Does B) → r ≡ Typed.Out → E.Out → Begins f w ou T d K left c
+  pub stop_typed : (m : Step Tree.Ty) (next : Tree.Ty → Does B) → r ≡ None → E.Out → Begins f w ou T d K left c
       → (Begins f w ou T d G left c → Ends f w ou w₁ ou₁ T d G.records G.fields (typed w₁ r) m)
       → Ends f w ou w₁ ou₁ T d K.records K.fields E (and_then m next)
   stop_typed m next e o s first = stop_ends G H K fits m next (λ R a v i. clash (cc (e, i.res))) (λ p. o) s first
 
 module _ {B : Type 0} {f w ou w₁ ou₁ : List ℕ} {T : Rows} {d : Described} {left : ℕ} {c : Checker} (G H K : Load) (fits : FitsIn (both G H) K)
-    (P : Unit {0} → Checker → Type 0) {r : Done} {E : Result B} where
-  pub then_done : {w₂ ou₂ : List ℕ} {l : ℕ} (m : Step (Unit {0})) (next : Unit {0} → Does B) → r ≡ Done.On l → Begins f w ou T d K left c
+    (P : Unit {0} → Checker → Type 0) {r : Option ℕ} {E : Gives B} where
+  pub then_done : {w₂ ou₂ : List ℕ} {l : ℕ} (m : Step (Unit {0})) (next : Unit {0} → Does B) → r ≡ Some l → Begins f w ou T d K left c
       → (Ready G.grade c → Meets P G.grade c m)
       → (Begins f w ou T d G left c → Ends f w ou w₁ ou₁ T d G.records G.fields (done r) m)
       → ((T₁ : Rows) (b : Checker) → After f w ou w₁ ou₁ T d G H l c T₁ b → Ends f w₁ ou₁ w₂ ou₂ T₁ d H.records H.fields E (next tt b))
@@ -95,14 +95,14 @@ module _ {B : Type 0} {f w ou w₁ ou₁ : List ℕ} {T : Rows} {d : Described} 
           let q : b.state.left ≡ l = cc (e, g.is) in
           rest g.T' b (record { more = g.more; grew = g.grew; made = v.made; begins = with_visits q s₁ })
 
-  pub stop_done : (m : Step (Unit {0})) (next : Unit {0} → Does B) → r ≡ Done.Out → E.Out → Begins f w ou T d K left c
+  pub stop_done : (m : Step (Unit {0})) (next : Unit {0} → Does B) → r ≡ None → E.Out → Begins f w ou T d K left c
       → (Begins f w ou T d G left c → Ends f w ou w₁ ou₁ T d G.records G.fields (done r) m)
       → Ends f w ou w₁ ou₁ T d K.records K.fields E (and_then m next)
   stop_done m next e o s first = stop_ends G H K fits m next (λ R a v i. clash (cc (e, i))) (λ p. o) s first
 
 -- ---- A step that always goes on, and then
 module _ {B : Type 0} {f w ou w₁ ou₁ : List ℕ} {T : Rows} {d : Described} {left : ℕ} {c : Checker} (G H K : Load) (fits : FitsIn (both G H) K)
-    {E : Result B} where
+    {E : Gives B} where
   pub then_silent : {w₂ ou₂ : List ℕ} {v : ℕ} (P : Unit {0} → Checker → Type 0) (m : Step (Unit {0})) (next : Unit {0} → Does B)
       → Begins f w ou T d K left c → (Ready G.grade c → Meets P G.grade c m)
       → (Begins f w ou T d G left c → Ends f w ou w₁ ou₁ T d G.records G.fields (silent v) m)
@@ -121,7 +121,7 @@ module _ {B : Type 0} {f w ou w₁ ou₁ : List ℕ} {T : Rows} {d : Described} 
       (rw g.is.0 v.holds)))
 
 -- ---- The visits of a type alone
-pub only_ends : {f w ou w' ou' : List ℕ} {T : Rows} {d : Described} {n m : ℕ} {r : Typed} (s : Step Tree.Ty)
+pub only_ends : {f w ou w' ou' : List ℕ} {T : Rows} {d : Described} {n m : ℕ} {r : Option (Ty × ℕ)} (s : Step Tree.Ty)
     → Ends f w ou w' ou' T d n m (typed w' r) s → Ends f w ou w' ou' T d n m (done (only_w r)) (and_then s (λ ty b. goes tt b))
 unfolding and_then
 only_ends s (went g) = went (gone_as (omega arith) (omega arith) (λ R x. ap only_w x.res) g)
@@ -129,12 +129,12 @@ only_ends s (spent g) = spent (gone_as (omega arith) (omega arith) (λ R x. (ap 
 
 -- ---- A silent step is one that goes on
 pub silent_on : {f w ou w' ou' : List ℕ} {T : Rows} {d : Described} {n m left : ℕ} {s : Step (Unit {0})} → Ends f w ou w' ou' T d n m (silent left) s
-    → Ends f w ou w' ou' T d n m (done (Done.On left)) s
-silent_on (went g) = went (gone_as (omega arith) (omega arith) (λ R x. ap Done.On (sym x)) g)
+    → Ends f w ou w' ou' T d n m (done (Some left)) s
+silent_on (went g) = went (gone_as (omega arith) (omega arith) (λ R x. ap Some (sym x)) g)
 silent_on (spent g) = absurd g.is.0
 
 -- A type in hand outlives a step.
-pub done_typed : {f w ou w' ou' : List ℕ} {T : Rows} {d : Described} {n m : ℕ} {x : Done} {s : Step (Unit {0})} (t : Ty) → Ok w t
+pub done_typed : {f w ou w' ou' : List ℕ} {T : Rows} {d : Described} {n m : ℕ} {x : Option ℕ} {s : Step (Unit {0})} (t : Ty) → Ok w t
     → Ends f w ou w' ou' T d n m (done x) s
     → Ends f w ou w' ou' T d n m (typed w' (typed_after t x)) (and_then s (λ u b. goes (tree T t) b))
 unfolding and_then

@@ -1,7 +1,6 @@
 -- `unify_at`, `compare_order`, `compare_types`: a unification or the question for an order, and one diagnostic where it fails.
 use mathlib.Core.Bool.{false}
 use mathlib.Core.List.{List}
-use mathlib.Core.Option.{Option, none, some}
 use mathlib.Core.Path.{◌≡◌, refl, sym, ◌∙◌, ap}
 use native.Mathlib.Omega.{arith}
 use Prim.Native.Nat.{ℕ}
@@ -11,8 +10,6 @@ use Rattle.unification.specs.Unify as Unify
 use Rattle.unification.proofs.Tests.{clash}
 use Rattle.cells.specs.declared.Ty.{Ty}
 use Rattle.cells.specs.declared.TyError.{TyError}
-use Rattle.cells.specs.declared.Asked.{Asked}
-use Rattle.cells.specs.declared.Unified.{Unified}
 use Rattle.cells.specs.Stands.{Rows, tree}
 use Rattle.cells.specs.Promises.{error_of, OkError, answer_of, IsOrderable}
 use Rattle.cells.proofs.Frame.{more_refl, keeps_refl}
@@ -27,7 +24,6 @@ use Rattle.messages.specs.declared.Message.TheVariants as Message
 use Rattle.state.specs.Lines.{Rejected}
 use Rattle.state.specs.Runs.{Runs}
 use Rattle.state.proofs.Running.{runs_slots}
-use Rattle.state.specs.declared.Done.{Done}
 use Rattle.steps.specs.Ends.{IsUnified, unified, done, silent, Gone, Ends, spent}
 use Rattle.steps.specs.Loads.{only, both, FitsIn, Begins}
 use Rattle.steps.specs.Promises.{Fine, UnifiesTo, UnifiesOutside, compare_types, UnifiesAt, ComparesTypes}
@@ -37,6 +33,8 @@ use Rattle.steps.proofs.Sequel.{then_ends, stop_ends, ends_here, begins_after}
 use Rattle.steps.proofs.Results.{After, tree_after, fine_after, with_visits, on_here}
 use Rattle.steps.proofs.Ending.{reject_ends}
 use Rattle.steps.proofs.Besides.{reports, not_come}
+use Rattle.std.specs.Prelude.{Bool, Err, None, Ok, Option, Result, Some, true, ℕ}
+use Rattle.cells.specs.declared.Failure.{Failure}
 
 -- A step that makes nothing, and then one diagnostic at most.
 then_one : FitsIn (both (only no_thing) (only one_diagnostic)) (only one_diagnostic)
@@ -47,7 +45,7 @@ then_one = record {
 }
 
 -- ---- A unification, and then
-module _ {f w ou w₁ ou₁ : List ℕ} {got expected : Ty} {left : ℕ} {r : Unified} (U : UnifiesTo f w ou got expected left w₁ ou₁ r) {T : Rows}
+module _ {f w ou w₁ ou₁ : List ℕ} {got expected : Ty} {left : ℕ} {r : Result ℕ Failure} (U : UnifiesTo f w ou got expected left w₁ ou₁ r) {T : Rows}
     {d : Described} {c : Checker}
     (B : Begins f w ou T d (only one_diagnostic) left c) (fine : Fine w got T c × Fine w expected T c) where
   abbrev first : Step (Option Unify.TyError)
@@ -56,59 +54,59 @@ module _ {f w ou w₁ ou₁ : List ℕ} {got expected : Ty} {left : ℕ} {r : Un
   meets : Meets Nothing no_thing c first
   meets = unify_meets (tree T got) (tree T expected) c B.orderly fine.0.side fine.1.side
 
-  then_good : {w₂ ou₂ : List ℕ} {x : Done} (next : Option Unify.TyError → Does (Unit {0})) {l : ℕ} → r ≡ Unified.Good l
+  then_good : {w₂ ou₂ : List ℕ} {x : Option ℕ} (next : Option Unify.TyError → Does (Unit {0})) {l : ℕ} → r ≡ Ok l
       → ((T₁ : Rows) (b : Checker) → After f w ou w₁ ou₁ T d (only no_thing) (only one_diagnostic) l c T₁ b
-      → Ends f w₁ ou₁ w₂ ou₂ T₁ d 0 0 (done x) (next none b)) → Ends f w ou w₂ ou₂ T d 0 0 (done x) (and_then first next)
+      → Ends f w₁ ou₁ w₂ ou₂ T₁ d 0 0 (done x) (next None b)) → Ends f w ou w₂ ou₂ T d 0 0 (done x) (and_then first next)
   then_good {w₂} {ou₂} {x} next {l} e rest = then_ends (only no_thing) (only one_diagnostic) (only one_diagnostic) then_one Nothing first next
       (λ o. clash (cc (e, o))) B (λ y. meets) (λ s. (U d).is T c s fine) on
     where
       on : (a : Option Unify.TyError) (b : Checker) (g : Gone f w ou w₁ ou₁ T d 0 0 (unified w₁ r) a b 0) → Went Nothing no_thing c a b
           → Begins f w₁ ou₁ g.T' d (only one_diagnostic) b.state.left b → Ends f w₁ ou₁ w₂ ou₂ g.T' d 0 0 (done x) (next a b)
-      on none b g v s = let q : b.state.left ≡ l = cc (e, g.is) in rest g.T' b
+      on None b g v s = let q : b.state.left ≡ l = cc (e, g.is) in rest g.T' b
           (record { more = g.more; grew = g.grew; made = v.made; begins = with_visits q s })
-      on (some y) b g v s = clash (cc (e, g.is.1))
+      on (Some y) b g v s = clash (cc (e, g.is.1))
 
-  then_bad : {w₂ ou₂ : List ℕ} {x : Done} (next : Option Unify.TyError → Does (Unit {0})) {err : TyError} {l : ℕ} → r ≡ Unified.Bad err l
+  then_bad : {w₂ ou₂ : List ℕ} {x : Option ℕ} (next : Option Unify.TyError → Does (Unit {0})) {err : TyError} {l : ℕ} → r ≡ Err (Failure.Bad err l)
       → ((T₁ : Rows) (b : Checker) → After f w ou w₁ ou₁ T d (only no_thing) (only one_diagnostic) l c T₁ b → OkError w₁ err
-      → Ends f w₁ ou₁ w₂ ou₂ T₁ d 0 0 (done x) (next (some (error_of T₁ err)) b)) → Ends f w ou w₂ ou₂ T d 0 0 (done x) (and_then first next)
+      → Ends f w₁ ou₁ w₂ ou₂ T₁ d 0 0 (done x) (next (Some (error_of T₁ err)) b)) → Ends f w ou w₂ ou₂ T d 0 0 (done x) (and_then first next)
   then_bad {w₂} {ou₂} {x} next {err} {l} e rest = then_ends (only no_thing) (only one_diagnostic) (only one_diagnostic) then_one Nothing first next
       (λ o. clash (cc (e, o))) B (λ y. meets) (λ s. (U d).is T c s fine) on
     where
       on : (a : Option Unify.TyError) (b : Checker) (g : Gone f w ou w₁ ou₁ T d 0 0 (unified w₁ r) a b 0) → Went Nothing no_thing c a b
           → Begins f w₁ ou₁ g.T' d (only one_diagnostic) b.state.left b → Ends f w₁ ou₁ w₂ ou₂ g.T' d 0 0 (done x) (next a b)
-      on none b g v s = clash (cc (e, g.is))
-      on (some y) b g v s =
+      on None b g v s = clash (cc (e, g.is))
+      on (Some y) b g v s =
           let q : b.state.left ≡ l = cc (e, g.is.1) in
           let p : g.is.0 ≡ err = cc (e, g.is.1) in
           let z : error_of g.T' err ≡ y = ap (error_of g.T') (sym p) ∙ g.is.2.is in
           let ok : OkError w₁ err = rw p at g.is.2.ok in
           rw (← z) (rest g.T' b (record { more = g.more; grew = g.grew; made = v.made; begins = with_visits q s }) ok)
 
-  then_spent : {x : Done} (next : Option Unify.TyError → Does (Unit {0})) → r ≡ Unified.Spent → x ≡ Done.Out
+  then_spent : {x : Option ℕ} (next : Option Unify.TyError → Does (Unit {0})) → r ≡ Err Failure.Spent → x ≡ None
       → Ends f w ou w₁ ou₁ T d 0 0 (done x) (and_then first next)
   then_spent next e o = stop_ends (only no_thing) (only one_diagnostic) (only one_diagnostic) then_one first next never (λ p. o) B (λ s. (U d).is T c s fine)
     where
       never : (R : Rows) (a : Option Unify.TyError) (v : ℕ) → ¬ (IsUnified w₁ r R a v)
-      never R none v i = clash (cc (e, i))
-      never R (some y) v i = clash (cc (e, i.1))
+      never R None v i = clash (cc (e, i))
+      never R (Some y) v i = clash (cc (e, i.1))
 
 -- ---- `unify_at`
-module _ {f w ou w₁ : List ℕ} (n : ℕ) {got expected : Ty} {left : ℕ} {r : Unified} (U : UnifiesOutside w got expected left w₁ r) where
-  pub unite_good : {l : ℕ} → r ≡ Unified.Good l → UnifiesAt f w ou n got expected left w₁ ou (Done.On l)
+module _ {f w ou w₁ : List ℕ} (n : ℕ) {got expected : Ty} {left : ℕ} {r : Result ℕ Failure} (U : UnifiesOutside w got expected left w₁ r) where
+  pub unite_good : {l : ℕ} → r ≡ Ok l → UnifiesAt f w ou n got expected left w₁ ou (Some l)
   unfolding Check.unify_at
   unite_good e = record {
     is = λ d there. record
         { is = λ T c B fine. then_good (U.is f ou) B fine _ e (λ T₁ b a. on_here a.begins.runs a.begins.lines a.begins.visits) };
   }
 
-  pub unite_bad : {err : TyError} {l : ℕ} → r ≡ Unified.Bad err l → {w₂ ou₂ : List ℕ} {x : Done} → Rejected f w₁ ou n (report_message err) l w₂ ou₂ x
+  pub unite_bad : {err : TyError} {l : ℕ} → r ≡ Err (Failure.Bad err l) → {w₂ ou₂ : List ℕ} {x : Option ℕ} → Rejected f w₁ ou n (report_message err) l w₂ ou₂ x
       → UnifiesAt f w ou n got expected left w₂ ou₂ x
   unfolding Check.unify_at
   unite_bad {err} {l} e q = (record {
     is = λ d there. record { is = λ T c B fine. then_bad (U.is f ou) B fine _ e (λ T₁ b a ok. (reports f w₁ n err l q d there).is T₁ b a.begins ok) };
   })
 
-  pub unite_spent : r ≡ Unified.Spent → UnifiesAt f w ou n got expected left w₁ ou Done.Out
+  pub unite_spent : r ≡ Err Failure.Spent → UnifiesAt f w ou n got expected left w₁ ou None
   unfolding Check.unify_at
   unite_spent e = record { is = λ d there. record { is = λ T c B fine. then_spent (U.is f ou) B fine _ e refl } }
 
@@ -123,13 +121,13 @@ module _ {f w ou : List ℕ} {T : Rows} {d : Described} {left : ℕ} {c : Checke
   unfolding Check.with_state Bindings.with_left
   leaving_runs = runs_slots B.sound B.runs keeps_refl (holds_left B.runs.holds v) refl
 
-module _ {f w ou : List ℕ} (lhs : ℕ) {t : Ty} {left : ℕ} {r : Asked} (O : IsOrderable w t left r) where
+module _ {f w ou : List ℕ} (lhs : ℕ) {t : Ty} {left : ℕ} {r : Option (Bool × ℕ)} (O : IsOrderable w t left r) where
   answered : {T : Rows} {d : Described} {c : Checker} → Begins f w ou T d (only one_diagnostic) left c → Fine w t T c
       → answer_of r ≡ Unify.orderable (Bindings.zonk c.state.subst (tree T t)) c.state.left
   answered {T = T} {c = c} B fine = rw B.visits
       (O.is T c.state.subst B.runs.holds.cells B.runs.holds.binds B.runs.holds.acyclic fine.ok)
 
-  pub order_yes : {l : ℕ} → r ≡ Asked.Yes l → ComparesOrder f w ou lhs t left w ou (Done.On l)
+  pub order_yes : {l : ℕ} → r ≡ Some (true, l) → ComparesOrder f w ou lhs t left w ou (Some l)
   unfolding Check.compare_order Check.orderable Check.ordered Check.zonk Check.with_state and_then Bindings.with_left
   order_yes {l} e = record {
     is = λ d there. record {
@@ -139,7 +137,7 @@ module _ {f w ou : List ℕ} (lhs : ℕ) {t : Ty} {left : ℕ} {r : Asked} (O : 
     };
   }
 
-  pub order_no : {l : ℕ} → r ≡ Asked.No l → {w' ou' : List ℕ} {x : Done} → Rejected f w ou lhs (Message.NoOrder t) l w' ou' x
+  pub order_no : {l : ℕ} → r ≡ Some (false, l) → {w' ou' : List ℕ} {x : Option ℕ} → Rejected f w ou lhs (Message.NoOrder t) l w' ou' x
       → ComparesOrder f w ou lhs t left w' ou' x
   unfolding Check.compare_order Check.orderable Check.ordered Check.zonk Check.with_state and_then Bindings.with_left
   order_no {l} e p = (record {
@@ -159,7 +157,7 @@ module _ {f w ou : List ℕ} (lhs : ℕ) {t : Ty} {left : ℕ} {r : Asked} (O : 
       begun B g v = begins_after (only no_thing) (only one_diagnostic) (only one_diagnostic) Nothing then_one g
           (record { orderly = v.orderly; made = v.made; reached = v.reached; holds = tt }) B
 
-  pub order_spent : r ≡ Asked.Spent → ComparesOrder f w ou lhs t left w ou Done.Out
+  pub order_spent : r ≡ None → ComparesOrder f w ou lhs t left w ou None
   unfolding Check.compare_order Check.orderable Check.ordered Check.zonk Check.with_state and_then Bindings.with_left
   order_spent e = record {
     is = λ d there. record {
@@ -177,8 +175,8 @@ module _ {f w ou : List ℕ} (lhs : ℕ) {t : Ty} {left : ℕ} {r : Asked} (O : 
   }
 
 -- ---- `compare_types`
-module _ {f w ou w₁ : List ℕ} (lhs rhs : ℕ) {a b : Ty} {left : ℕ} {r : Unified} (U : UnifiesOutside w b a left w₁ r) where
-  pub compare_good : {l : ℕ} → r ≡ Unified.Good l → {w₂ ou₂ : List ℕ} {x : Done} → ComparesOrder f w₁ ou lhs a l w₂ ou₂ x
+module _ {f w ou w₁ : List ℕ} (lhs rhs : ℕ) {a b : Ty} {left : ℕ} {r : Result ℕ Failure} (U : UnifiesOutside w b a left w₁ r) where
+  pub compare_good : {l : ℕ} → r ≡ Ok l → {w₂ ou₂ : List ℕ} {x : Option ℕ} → ComparesOrder f w₁ ou lhs a l w₂ ou₂ x
       → ComparesTypes f w ou lhs rhs a b left w₂ ou₂ x
   unfolding compare_types
   compare_good e O = record {
@@ -188,7 +186,7 @@ module _ {f w ou w₁ : List ℕ} (lhs rhs : ℕ) {a b : Ty} {left : ℕ} {r : U
     };
   }
 
-  pub compare_bad : {err : TyError} {l : ℕ} → r ≡ Unified.Bad err l → {w₂ ou₂ : List ℕ} {x : Done}
+  pub compare_bad : {err : TyError} {l : ℕ} → r ≡ Err (Failure.Bad err l) → {w₂ ou₂ : List ℕ} {x : Option ℕ}
       → Rejected f w₁ ou rhs (report_message err) l w₂ ou₂ x → ComparesTypes f w ou lhs rhs a b left w₂ ou₂ x
   unfolding compare_types
   compare_bad {err} {l} e q = (record {
@@ -198,6 +196,6 @@ module _ {f w ou w₁ : List ℕ} (lhs rhs : ℕ) {a b : Ty} {left : ℕ} {r : U
     };
   })
 
-  pub compare_spent : r ≡ Unified.Spent → ComparesTypes f w ou lhs rhs a b left w₁ ou Done.Out
+  pub compare_spent : r ≡ Err Failure.Spent → ComparesTypes f w ou lhs rhs a b left w₁ ou None
   unfolding compare_types
   compare_spent e = record { is = λ d here there. record { is = λ T c B fine. then_spent (U.is f ou) B (fine.1, fine.0) _ e refl } }

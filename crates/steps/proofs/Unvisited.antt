@@ -22,7 +22,6 @@ use Rattle.tree.specs.contracts.Node.{the_type}
 use Rattle.tree.proofs.Lowering.{lower_below}
 use Rattle.messages.specs.declared.Message.TheVariants as Message
 use Rattle.state.specs.Words.{Introduces}
-use Rattle.state.specs.declared.Done.{Done}
 use Rattle.state.specs.Lines.{Rejected}
 use Rattle.state.specs.Runs.{Runs}
 use Rattle.steps.specs.Ends.{silent, numbered, Ends, went, spent}
@@ -33,6 +32,7 @@ use Rattle.steps.proofs.Sequel.{ends_here}
 use Rattle.steps.proofs.Results.{on_here}
 use Rattle.steps.proofs.Reading.{kind_is, kind_read, form_read, name_small, fields_some, fields_none}
 use Rattle.steps.proofs.Forms.{ByForm, by_form, whole_kind}
+use Rattle.std.specs.Prelude.{Option, Some}
 
 -- ---- `introduce_side`
 abbrev form_at : Described → ℕ → Form
@@ -100,7 +100,7 @@ head_stays d n c = record {
 }
 
 module _ {f w ou : List ℕ} {n left : ℕ} {nd : Node} (i : IsNode f w n nd) where
-  pub head_other : OneOf no_wildcard (tag_of the_type nd) → ChecksHead f w ou n left w ou (Done.On left)
+  pub head_other : OneOf no_wildcard (tag_of the_type nd) → ChecksHead f w ou n left w ou (Some left)
   head_other x = record {
     is = λ d there. record {
       is = λ T c s u.
@@ -109,7 +109,7 @@ module _ {f w ou : List ℕ} {n left : ℕ} {nd : Node} (i : IsNode f w n nd) wh
     };
   }
 
-  pub head_wildcard : nd ≡ Node.Wildcard → {w' ou' : List ℕ} {r : Done} → Rejected f w ou n Message.WildcardHead left w' ou' r
+  pub head_wildcard : nd ≡ Node.Wildcard → {w' ou' : List ℕ} {r : Option ℕ} → Rejected f w ou n Message.WildcardHead left w' ou' r
       → ChecksHead f w ou n left w' ou' r
   unfolding kind_w form_of head_form
   head_wildcard e x = record {

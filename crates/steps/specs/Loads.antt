@@ -12,7 +12,7 @@ use Rattle.meaning.specs.Weights.{sum_of, records_of, records, fields_of, record
 use Rattle.meaning.specs.Grades.{Grade, unknowns, Orderly, Ready, Fits, plus, inferring, finding, checking, visiting, within}
 use Rattle.state.specs.Runs.{Runs}
 use Rattle.state.specs.Lines.{Told}
-use Rattle.steps.specs.Ends.{Result, Ends}
+use Rattle.steps.specs.Ends.{Gives, Ends}
 
 -- ---- Loads
 pub record Load : Type 0 where
@@ -73,5 +73,5 @@ pub record Begins (f w ou : List ℕ) (T : Rows) (d : Described) (L : Load) (lef
 
 -- A step of the code beside one of the definition: from words that stand for a checker of which P holds, to words that stand for
 -- what the definition gives.
-pub record Beside {A : Type 0} (f w ou : List ℕ) (left : ℕ) (w' ou' : List ℕ) (E : Result A) (d : Described) (L : Load) (P : Rows → Checker → Type 0) (m : Rows → Does A) : Type 0 where
+pub record Beside {A : Type 0} (f w ou : List ℕ) (left : ℕ) (w' ou' : List ℕ) (E : Gives A) (d : Described) (L : Load) (P : Rows → Checker → Type 0) (m : Rows → Does A) : Type 0 where
   pub is : (T : Rows) (c : Checker) → Begins f w ou T d L left c → P T c → Ends f w ou w' ou' T d L.records L.fields E (m T c)

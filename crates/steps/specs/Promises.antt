@@ -1,7 +1,6 @@
 -- What the steps outside of the cycle promise, as the cycle asks for them: each goes beside its namesake of meaning/specs/Check.antt,
 -- for every described file.
-use Rattle.std.specs.Prelude.{Bool, List, ◌≡◌, ℕ, ◌≤◌, ◌<◌, length, get_or}
-use Rattle.std.proofs.Math.Option.{none, some}
+use Rattle.std.specs.Prelude.{Bool, List, ◌≡◌, ℕ, ◌≤◌, ◌<◌, length, get_or, None, Option, Result, Some}
 use Rattle.unification.specs.Ty as Tree
 use Rattle.unification.specs.Calls.{Side, SideRow}
 use Rattle.cells.specs.declared.Ty.{Ty}
@@ -21,16 +20,13 @@ use Rattle.messages.specs.Said.{said, OkMessage}
 use Rattle.state.specs.Runs.{Runs}
 use Rattle.state.specs.Lines.{Told, until_of}
 use Rattle.state.specs.declared.Until.{Until}
-use Rattle.cells.specs.declared.Bound.{Bound}
 use Rattle.cells.specs.declared.TyError.{TyError}
-use Rattle.cells.specs.declared.Unified.{Unified}
 use Rattle.cells.specs.Promises.{error_of, OkError}
 use Rattle.tree.specs.declared.Items.{Items}
 use Rattle.tree.specs.Nodes.{fields_from}
-use Rattle.steps.specs.declared.Typed.{Typed}
-use Rattle.state.specs.declared.Done.{Done}
 use Rattle.steps.specs.Ends.{typed, done, silent, numbered, unified}
 use Rattle.steps.specs.Loads.{only, Beside}
+use Rattle.cells.specs.declared.Failure.{Failure}
 
 abbrev pub nodes_of : Described → List Node
 nodes_of d = d.ast.nodes
@@ -74,7 +70,7 @@ abbrev pub Notes : List ℕ → List ℕ → List ℕ → ℕ → Ty → ℕ →
 Notes f w ou n t left w' ou' = (d : Described) → n < length (nodes_of d) → Beside f w ou left w' ou' (silent left) d (only (one_node n)) (Fine w t) (λ T. Check.annotate n (tree T t))
 
 -- `reject`; the types that the message shows exist
-abbrev pub Rejects : List ℕ → List ℕ → List ℕ → ℕ → Message → ℕ → List ℕ → List ℕ → Done → Type 0
+abbrev pub Rejects : List ℕ → List ℕ → List ℕ → ℕ → Message → ℕ → List ℕ → List ℕ → Option ℕ → Type 0
 Rejects f w ou n m left w' ou' r = (d : Described) → n < length (nodes_of d)
     → Beside f w ou left w' ou' (done r) d (only one_diagnostic) (λ T c. OkMessage w m) (λ T c. Check.reject d.schema (nodes_of d) n (said T c.state.subst m) c)
 
@@ -101,20 +97,20 @@ fuzzy d n term distance = do
   Check.fuzzy_term d.schema (nodes_of d) n term
   Check.return (Tree.leaf Tree.String)
 
-pub record Fuzzes (f w ou : List ℕ) (n term distance left : ℕ) (w' ou' : List ℕ) (r : Typed) : Type 0 where
+pub record Fuzzes (f w ou : List ℕ) (n term distance left : ℕ) (w' ou' : List ℕ) (r : Option (Ty × ℕ)) : Type 0 where
   pub is : (d : Described) → n < length (nodes_of d) → term < length d.schema.characters
       → Beside f w ou left w' ou' (typed w' r) d (only (record { nodes = λ x. 0; unknowns = 0; diagnostics = 2 })) Always (λ T. fuzzy d n term distance)
 
 -- `unify`
-abbrev pub UnifiesTo : List ℕ → List ℕ → List ℕ → Ty → Ty → ℕ → List ℕ → List ℕ → Unified → Type 0
+abbrev pub UnifiesTo : List ℕ → List ℕ → List ℕ → Ty → Ty → ℕ → List ℕ → List ℕ → Result ℕ Failure → Type 0
 UnifiesTo f w ou got expected left w' ou' r = (d : Described) → Beside f w ou left w' ou' (unified w' r) d (only no_thing) (λ T c. Fine w got T c × Fine w expected T c) (λ T. Check.unify (tree T got) (tree T expected))
 
 -- The answer slice is not lent.
-pub record UnifiesOutside (w : List ℕ) (got expected : Ty) (left : ℕ) (w' : List ℕ) (r : Unified) : Type 0 where
+pub record UnifiesOutside (w : List ℕ) (got expected : Ty) (left : ℕ) (w' : List ℕ) (r : Result ℕ Failure) : Type 0 where
   pub is : (f ou : List ℕ) → UnifiesTo f w ou got expected left w' ou r
 
 -- `report`; the types that the error shows exist
-abbrev pub Reports : List ℕ → List ℕ → List ℕ → ℕ → TyError → ℕ → List ℕ → List ℕ → Done → Type 0
+abbrev pub Reports : List ℕ → List ℕ → List ℕ → ℕ → TyError → ℕ → List ℕ → List ℕ → Option ℕ → Type 0
 Reports f w ou n err left w' ou' r = (d : Described) → n < length (nodes_of d) → Beside f w ou left w' ou' (done r) d (only one_diagnostic) (λ T c. OkError w err) (λ T. Check.report d.schema (nodes_of d) n (error_of T err))
 
 -- `rollback`, to lengths of the undo log, of the environment and of the marks
@@ -123,7 +119,7 @@ RollsTo f w ou undo env marks w' ou' = (d : Described) (left : ℕ) (at : Check.
     → Beside f w ou left w' ou' (silent left) d (only no_thing) (λ T c. (env ≤ length c.env) × (marks ≤ length c.marks)) (λ T. Check.rollback at)
 
 -- `unify_at`
-pub record UnifiesAt (f w ou : List ℕ) (n : ℕ) (got expected : Ty) (left : ℕ) (w' ou' : List ℕ) (r : Done) : Type 0 where
+pub record UnifiesAt (f w ou : List ℕ) (n : ℕ) (got expected : Ty) (left : ℕ) (w' ou' : List ℕ) (r : Option ℕ) : Type 0 where
   pub is : (d : Described) → n < length (nodes_of d)
       → Beside f w ou left w' ou' (done r) d (only one_diagnostic) (λ T c. Fine w got T c × Fine w expected T c) (λ T. Check.unify_at d.schema (nodes_of d) n (tree T got) (tree T expected))
 
@@ -137,30 +133,30 @@ unfoldable pub compare_types : Described → ℕ → ℕ → Tree.Ty → Tree.Ty
 unfolding and_then
 compare_types d lhs rhs left right = do
   failed ← Check.unify right left
-  elim failed [ some err ↦ Check.report d.schema (nodes_of d) rhs err | none ↦ Check.compare_order d.schema (nodes_of d) lhs left ]
+  elim failed [ Some err ↦ Check.report d.schema (nodes_of d) rhs err | None ↦ Check.compare_order d.schema (nodes_of d) lhs left ]
 
-pub record ComparesTypes (f w ou : List ℕ) (lhs rhs : ℕ) (a b : Ty) (left : ℕ) (w' ou' : List ℕ) (r : Done) : Type 0 where
+pub record ComparesTypes (f w ou : List ℕ) (lhs rhs : ℕ) (a b : Ty) (left : ℕ) (w' ou' : List ℕ) (r : Option ℕ) : Type 0 where
   pub is : (d : Described) → lhs < length (nodes_of d) → rhs < length (nodes_of d)
       → Beside f w ou left w' ou' (done r) d (only one_diagnostic) (λ T c. Fine w a T c × Fine w b T c) (λ T. compare_types d lhs rhs (tree T a) (tree T b))
 
 -- `key_ty`
-pub record KeyIs (f w : List ℕ) (p : ℕ) (r : Bound) : Type 0 where
+pub record KeyIs (f w : List ℕ) (p : ℕ) (r : Option Ty) : Type 0 where
   pub is : (T : Rows) (d : Described) (c : Checker) → Runs f w T d c → bound_tree T r ≡ Check.key_ty d.schema (nodes_of d) p
   pub ok : (T : Rows) (d : Described) (c : Checker) → Runs f w T d c → OkBound w r
 
 -- `key_of`, `value_of`, `select_of`: m is the definition's step on the head.
-pub record OnType (m : Described → Tree.Ty → Does Tree.Ty) (f w ou : List ℕ) (n : ℕ) (t : Ty) (left : ℕ) (w' ou' : List ℕ) (r : Typed) : Type 0 where
+pub record OnType (m : Described → Tree.Ty → Does Tree.Ty) (f w ou : List ℕ) (n : ℕ) (t : Ty) (left : ℕ) (w' ou' : List ℕ) (r : Option (Ty × ℕ)) : Type 0 where
   pub is : (d : Described) → n < length (nodes_of d) → Beside f w ou left w' ou' (typed w' r) d (only one_diagnostic) (Fine w t) (λ T. m d (tree T t))
 
 -- ---- The end of a type, without the type
-abbrev pub only_w : Typed → Done
-only_w (Typed.Got t left) = Done.On left
-only_w Typed.Out = Done.Out
+abbrev pub only_w : Option (Ty × ℕ) → Option ℕ
+only_w (Some (t, left)) = Some left
+only_w None = None
 
 -- The type that follows a step, or that the run ended in it.
-abbrev pub typed_after : Ty → Done → Typed
-typed_after t (Done.On left) = Typed.Got t left
-typed_after t Done.Out = Typed.Out
+abbrev pub typed_after : Ty → Option ℕ → Option (Ty × ℕ)
+typed_after t (Some left) = Some (t, left)
+typed_after t None = None
 
 -- `begin`: nothing is made yet.
 pub record Starts (f w : List ℕ) (u : Until) (w' : List ℕ) : Type 0 where
@@ -171,7 +167,7 @@ pub record Starts (f w : List ℕ) (u : Until) (w' : List ℕ) : Type 0 where
   pub keeps : Keeps RECORD-COUNT END w w'
 
 -- A wildcard head is rejected.
-abbrev pub Heads : List ℕ → List ℕ → List ℕ → ℕ → ℕ → List ℕ → List ℕ → Done → Type 0
+abbrev pub Heads : List ℕ → List ℕ → List ℕ → ℕ → ℕ → List ℕ → List ℕ → Option ℕ → Type 0
 Heads f w ou head left w' ou' r = (d : Described) → head < length (nodes_of d)
     → Beside f w ou left w' ou' (done r) d (only one_diagnostic) Always (λ T. Check.head_form d.schema (nodes_of d) head (form d.schema (nodes_of d) head))
 

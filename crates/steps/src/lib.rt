@@ -8,38 +8,42 @@ ghost use Rattle.messages.specs.declared.Message.TheVariants as Message;
 ghost use Rattle.steps.specs.Outside.{report_message, key_ty_w, value_ty_w, RejectsTy, RejectedIf, far_w, characters_w, long_w, Takes, Rewinds, FieldIs, Shadows, ValueOf, FieldAt, KeyOf, SelectOf, ComparesOrder, IntroducesSides, ChecksHead, counters_w, Untypes, StartsRun};
 ghost use Rattle.steps.specs.Promises.{Fuzzes, UnifiesOutside, UnifiesAt, ComparesTypes, typed_after, Asks, AsksAll};
 
-use cells::{Asked, Bound, Found, Kind, Ty, TyError, Unified};
+use cells::{Failure, Kind, Ty, TyError};
 use messages::Message;
-use state::{Done, Until, introduce, reject};
+use state::{Until, introduce, reject};
 use tree::{Items, Node};
 use work::{Counters, put, wide, word};
 
-// A type with the visits left, or the run ended.
-#[derive(Drop)]
-pub enum Typed {
-    Got(Ty, u32),
-    Out,
-}
-
 // A type in hand, after a step.
-fn typed_after(t: Ty, d: Done) -> Typed
+fn typed_after(t: Ty, d: Option<u32>) -> Option<(Ty, u32)>
     ensures { result ≡ typed_after t d }
 {
-    match d {
-        Done::On(left) => Typed::Got(t, left),
-        Done::Out => Typed::Out,
-    }
+    d.map(|left| (t, left))
 }
 
 // ---- State
 
-pub fn reject_ty(f: &[u8], w: &mut [u32], n: u32, m: Message, left: u32, out: &mut [u8]) -> Typed
+pub fn reject_ty(
+    f: &[u8],
+    w: &mut [u32],
+    n: u32,
+    m: Message,
+    left: u32,
+    out: &mut [u8],
+) -> Option<(Ty, u32)>
     ensures { RejectsTy f.now w.old out.old n m left w.new out.new result }
 {
     typed_after(Ty::Error, reject(f, w, n, m, left, out))
 }
 
-pub fn report(f: &[u8], w: &mut [u32], n: u32, err: TyError, left: u32, out: &mut [u8]) -> Done
+pub fn report(
+    f: &[u8],
+    w: &mut [u32],
+    n: u32,
+    err: TyError,
+    left: u32,
+    out: &mut [u8],
+) -> Option<u32>
     ensures { Rejected f.now w.old out.old n (report_message err) left w.new out.new result }
 {
     match err {
@@ -79,14 +83,13 @@ pub fn rollback(w: &mut [u32], at: Mark)
 }
 
 // `unify` from outside it; an entry that the run was to last until is not made.
-pub fn unify_outside(w: &mut [u32], got: Ty, expected: Ty, left: u32) -> Unified
+pub fn unify_outside(w: &mut [u32], got: Ty, expected: Ty, left: u32) -> Result<u32, Failure>
     ensures { UnifiesOutside w.old got expected left w.new result }
 {
-    let d = state::enter(w, got, expected, left);
-    match d {
-        Done::On(l) => unify::unify(w, got, expected, l),
-        Done::Out => Unified::Spent,
-    }
+    let Some(l) = state::enter(w, got, expected, left) else {
+        return Err(Failure::Spent);
+    };
+    unify::unify(w, got, expected, l)
 }
 
 // Unifies, and reports a failure at a node.
@@ -98,27 +101,32 @@ pub fn unify_at(
     expected: Ty,
     left: u32,
     out: &mut [u8],
-) -> Done
+) -> Option<u32>
     ensures { UnifiesAt f.now w.old out.old n got expected left w.new out.new result }
 {
-    let r = unify_outside(w, got, expected, left);
-    match r {
-        Unified::Good(l) => Done::On(l),
-        Unified::Bad(err, l) => report(f, w, n, err, l, out),
-        Unified::Spent => Done::Out,
+    match unify_outside(w, got, expected, left) {
+        Ok(l) => Some(l),
+        Err(Failure::Bad(err, l)) => report(f, w, n, err, l, out),
+        Err(Failure::Spent) => None,
     }
 }
 
 // The two sides of a comparison agree: the type must have an order.
-pub fn compare_order(f: &[u8], w: &mut [u32], lhs: u32, t: Ty, left: u32, out: &mut [u8]) -> Done
+pub fn compare_order(
+    f: &[u8],
+    w: &mut [u32],
+    lhs: u32,
+    t: Ty,
+    left: u32,
+    out: &mut [u8],
+) -> Option<u32>
     ensures { ComparesOrder f.now w.old out.old lhs t left w.new out.new result }
 {
-    let o = unify::orderable(w, t, left);
-    match o {
-        Asked::Yes(l) => Done::On(l),
-        Asked::No(l) => reject(f, w, lhs, Message::NoOrder(t), l, out),
-        Asked::Spent => Done::Out,
+    let (ordered, l) = unify::orderable(w, t, left)?;
+    if ordered {
+        return Some(l);
     }
+    reject(f, w, lhs, Message::NoOrder(t), l, out)
 }
 
 pub fn compare_types(
@@ -130,57 +138,50 @@ pub fn compare_types(
     b: Ty,
     left: u32,
     out: &mut [u8],
-) -> Done
+) -> Option<u32>
     ensures { ComparesTypes f.now w.old out.old lhs rhs a b left w.new out.new result }
 {
-    let u = unify_outside(w, b, a, left);
-    match u {
-        Unified::Good(l) => compare_order(f, w, lhs, a, l, out),
-        Unified::Bad(err, l) => report(f, w, rhs, err, l, out),
-        Unified::Spent => Done::Out,
+    match unify_outside(w, b, a, left) {
+        Ok(l) => compare_order(f, w, lhs, a, l, out),
+        Err(Failure::Bad(err, l)) => report(f, w, rhs, err, l, out),
+        Err(Failure::Spent) => None,
     }
 }
 
 // ---- Schema
 
-pub fn key_ty(w: &[u32], p: u32) -> Bound
+pub fn key_ty(w: &[u32], p: u32) -> Option<Ty>
     ensures { result ≡ key_ty_w w.now p }
 {
     if p < word(w, work::PREDICATE_COUNT) {
         let x = word(w, work::PREDICATES + wide(p));
-        return Bound::To(cells::declared(w, work::predicate_key(x)));
+        return Some(cells::declared(w, work::predicate_key(x)));
     }
-    Bound::Free
+    None
 }
 
-pub fn value_ty(w: &[u32], p: u32) -> Bound
+pub fn value_ty(w: &[u32], p: u32) -> Option<Ty>
     ensures { result ≡ value_ty_w w.now p }
 {
     if p < word(w, work::PREDICATE_COUNT) {
         let x = word(w, work::PREDICATES + wide(p));
         if work::has_value(x) {
-            return Bound::To(cells::declared(w, work::predicate_value(x)));
+            return Some(cells::declared(w, work::predicate_value(x)));
         }
-        return Bound::Free;
+        return None;
     }
-    Bound::Free
+    None
 }
 
-pub fn field_of(w: &[u32], t: Ty, name: u32) -> Bound
+pub fn field_of(w: &[u32], t: Ty, name: u32) -> Option<Ty>
     ensures { FieldIs w.now t name result }
 {
     match t {
         Ty::Record(c) => {
-            let found = cells::find_key(w, Kind::Fields, c, name);
-            match found {
-                Found::At(p) => {
-                    let u = p.ty;
-                    Bound::To(u)
-                }
-                Found::Nothing => Bound::Free,
-            }
+            let p = cells::find_key(w, Kind::Fields, c, name)?;
+            Some(p.ty)
         }
-        _ => Bound::Free,
+        _ => None,
     }
 }
 
@@ -192,34 +193,34 @@ pub fn key_shadows_value(w: &[u32], p: u32) -> bool
     if value == 0 {
         return false;
     }
-    let key = key_ty(w, p);
-    match key {
-        Bound::To(t) => {
-            let found = field_of(w, t, value - 1);
-            match found {
-                Bound::To(_) => true,
-                Bound::Free => false,
-            }
-        }
-        Bound::Free => false,
-    }
+    let Some(t) = key_ty(w, p) else {
+        return false;
+    };
+    field_of(w, t, value - 1).is_some()
 }
 
 // ---- Access and select, on the resolved base
 
-pub fn value_of(f: &[u8], w: &mut [u32], n: u32, base: Ty, left: u32, out: &mut [u8]) -> Typed
+pub fn value_of(
+    f: &[u8],
+    w: &mut [u32],
+    n: u32,
+    base: Ty,
+    left: u32,
+    out: &mut [u8],
+) -> Option<(Ty, u32)>
     ensures { ValueOf f.now w.old out.old n base left w.new out.new result }
 {
     match base {
-        Ty::Error => Typed::Got(Ty::Error, left),
+        Ty::Error => Some((Ty::Error, left)),
         Ty::Fact(p) => {
             if key_shadows_value(w, p) {
                 return reject_ty(f, w, n, Message::ValueShadowed, left, out);
             }
             let value = value_ty(w, p);
             match value {
-                Bound::To(t) => Typed::Got(t, left),
-                Bound::Free => reject_ty(f, w, n, Message::NoValue, left, out),
+                Some(t) => Some((t, left)),
+                None => reject_ty(f, w, n, Message::NoValue, left, out),
             }
         }
         Ty::Var(_) => reject_ty(f, w, n, Message::UnknownType, left, out),
@@ -235,13 +236,13 @@ pub fn field_at(
     t: Ty,
     left: u32,
     out: &mut [u8],
-) -> Typed
+) -> Option<(Ty, u32)>
     ensures { FieldAt f.now w.old out.old n name t left w.new out.new result }
 {
     let found = field_of(w, t, name);
     match found {
-        Bound::To(u) => Typed::Got(u, left),
-        Bound::Free => reject_ty(f, w, n, Message::NoField(name), left, out),
+        Some(u) => Some((u, left)),
+        None => reject_ty(f, w, n, Message::NoField(name), left, out),
     }
 }
 
@@ -254,16 +255,16 @@ pub fn key_of(
     base: Ty,
     left: u32,
     out: &mut [u8],
-) -> Typed
+) -> Option<(Ty, u32)>
     ensures { KeyOf f.now w.old out.old n name base left w.new out.new result }
 {
     match base {
-        Ty::Error => Typed::Got(Ty::Error, left),
+        Ty::Error => Some((Ty::Error, left)),
         Ty::Fact(p) => {
             let key = key_ty(w, p);
             match key {
-                Bound::To(t) => field_at(f, w, n, name, t, left, out),
-                Bound::Free => Typed::Got(Ty::Error, left),
+                Some(t) => field_at(f, w, n, name, t, left, out),
+                None => Some((Ty::Error, left)),
             }
         }
         Ty::Record(_) => field_at(f, w, n, name, base, left, out),
@@ -280,19 +281,19 @@ pub fn select_of(
     base: Ty,
     left: u32,
     out: &mut [u8],
-) -> Typed
+) -> Option<(Ty, u32)>
     ensures { SelectOf f.now w.old out.old n name base left w.new out.new result }
 {
     match base {
-        Ty::Error => Typed::Got(Ty::Error, left),
+        Ty::Error => Some((Ty::Error, left)),
         Ty::Union(c) => {
             let found = cells::find_name(w, c, name);
             match found {
-                Found::At(p) => {
+                Some(p) => {
                     let t = p.ty;
-                    Typed::Got(t, left)
+                    Some((t, left))
                 }
-                Found::Nothing => reject_ty(f, w, n, Message::NoAlternative(name), left, out),
+                None => reject_ty(f, w, n, Message::NoAlternative(name), left, out),
             }
         }
         Ty::Var(_) => reject_ty(f, w, n, Message::UnknownType, left, out),
@@ -302,26 +303,30 @@ pub fn select_of(
 
 // ---- Both bounds of a fuzzy pattern
 
-fn fuzzy_distance(f: &[u8], w: &mut [u32], n: u32, distance: u32, left: u32, out: &mut [u8]) -> Done
+fn fuzzy_distance(
+    f: &[u8],
+    w: &mut [u32],
+    n: u32,
+    distance: u32,
+    left: u32,
+    out: &mut [u8],
+) -> Option<u32>
     ensures { RejectedIf f.now w.old out.old n (Message.DistanceOutside distance) left w.new out.new result (far_w w.old distance) }
 {
-    if distance == 0 {
+    if distance == 0 || word(w, work::MAX_DISTANCE) < distance {
         return reject(f, w, n, Message::DistanceOutside(distance), left, out);
     }
-    if word(w, work::MAX_DISTANCE) < distance {
-        return reject(f, w, n, Message::DistanceOutside(distance), left, out);
-    }
-    Done::On(left)
+    Some(left)
 }
 
-fn fuzzy_term(f: &[u8], w: &mut [u32], n: u32, term: u32, left: u32, out: &mut [u8]) -> Done
+fn fuzzy_term(f: &[u8], w: &mut [u32], n: u32, term: u32, left: u32, out: &mut [u8]) -> Option<u32>
     ensures { RejectedIf f.now w.old out.old n (Message.TermTooLong (characters_w w.old term)) left w.new out.new result (long_w w.old term) }
 {
     let characters = work::name_chars(word(w, work::NAMES + wide(term)));
     if word(w, work::MAX_TERM) < characters {
         return reject(f, w, n, Message::TermTooLong(characters), left, out);
     }
-    Done::On(left)
+    Some(left)
 }
 
 // The distance first.
@@ -333,14 +338,11 @@ pub fn fuzzy(
     distance: u32,
     left: u32,
     out: &mut [u8],
-) -> Typed
+) -> Option<(Ty, u32)>
     ensures { Fuzzes f.now w.old out.old n term distance left w.new out.new result }
 {
-    let d = fuzzy_distance(f, w, n, distance, left, out);
-    match d {
-        Done::On(l) => typed_after(Ty::Str, fuzzy_term(f, w, n, term, l, out)),
-        Done::Out => Typed::Out,
-    }
+    let l = fuzzy_distance(f, w, n, distance, left, out)?;
+    typed_after(Ty::Str, fuzzy_term(f, w, n, term, l, out))
 }
 
 // ---- Nodes that are looked at, not visited
@@ -349,23 +351,19 @@ pub fn fuzzy(
 pub fn introduce_side(f: &[u8], w: &mut [u32], n: u32)
     ensures { IntroducesSides f.now w.old n w.new }
 {
-    let e = tree::node_at(f, w, n);
-    match e {
-        Node::Var(symbol) => {
-            introduce(w, n, symbol);
-        }
-        _ => {}
+    if let Node::Var(symbol) = tree::node_at(f, w, n) {
+        introduce(w, n, symbol);
     }
 }
 
 // A wildcard has no type of its own that the head could have.
-pub fn check_head(f: &[u8], w: &mut [u32], n: u32, left: u32, out: &mut [u8]) -> Done
+pub fn check_head(f: &[u8], w: &mut [u32], n: u32, left: u32, out: &mut [u8]) -> Option<u32>
     ensures { ChecksHead f.now w.old out.old n left w.new out.new result }
 {
     let e = tree::node_at(f, w, n);
     match e {
         Node::Wildcard => reject(f, w, n, Message::WildcardHead, left, out),
-        _ => Done::On(left),
+        _ => Some(left),
     }
 }
 
@@ -375,8 +373,7 @@ pub fn destructurable(f: &[u8], w: &[u32], n: u32) -> bool
 {
     let e = tree::node_at(f, w, n);
     match e {
-        Node::Var(_) => true,
-        Node::Wildcard => true,
+        Node::Var(_) | Node::Wildcard => true,
         Node::Record(items) => all_destructurable(f, w, items),
         _ => false,
     }
@@ -388,14 +385,11 @@ fn all_destructurable(f: &[u8], w: &[u32], items: Items) -> bool
     requires { LowerItems items.below items }
     ensures { AsksAll f.now w.now items result }
 {
-    let n = items.n;
-    let mut i: u32 = 0;
-    while i < n {
+    for i in 0..items.n {
         let e = tree::field_at(f, items, i);
         if !destructurable(f, w, e.value) {
             return false;
         }
-        i += 1;
     }
     true
 }
@@ -418,10 +412,8 @@ fn begin_counters(w: &mut [u32])
 fn begin_types(w: &mut [u32])
     ensures { Untypes w.old 512 w.new }
 {
-    let mut n: u32 = 0;
-    while n < Counters::NODES {
+    for n in 0..Counters::NODES {
         put(w, work::TYS + 2 * wide(n), 0);
-        n += 1;
     }
 }
 

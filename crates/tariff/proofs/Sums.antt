@@ -1,8 +1,5 @@
 -- Over any run from zero, what the tally says is what the visits and prices add up to.
-use mathlib.Core.List.{List, ◌∷◌}
-use mathlib.Core.Path.{◌≡◌, refl}
-use Prim.Native.Nat.{ℕ, ◌+◌, ◌/◌, ◌-◌}
-use native.Mathlib.Omega.{arith}
+use Rattle.std.proofs.Common.{List, ◌∷◌, ◌≡◌, refl, ℕ, ◌+◌, ◌/◌, ◌-◌, arith}
 use Rattle.tariff.specs.declared.Tally.{Tally}
 use Rattle.tariff.specs.Tariff.{filled, next}
 use Rattle.tariff.specs.Sums.{Query, Run, start, counts, refuses, all_visits, all_cents, Sums}
@@ -19,5 +16,5 @@ module _ (qs : List Query) (t : Tally) (visits price : ℕ) (s : Sums qs t) wher
 pub sums : {qs : List Query} {t : Tally} → Run qs t → Sums qs t
 unfolding all_visits all_cents
 sums start = record { visits = refl; below = omega arith; cents = refl }
-sums (counts {qs} {t} visits price r run a f) = rw (a.counted f) (counted qs t visits price (sums run))
-sums (refuses visits price r run a f) = rw (a.unchanged f) (sums run)
+sums (counts {qs} {t} visits price run a) = rw a.counted (counted qs t visits price (sums run))
+sums (refuses visits price run a) = rw a.unchanged (sums run)

@@ -1,20 +1,19 @@
 -- What a tally is worth after any run of queries from zero, by their visits and prices alone.
-use Rattle.std.specs.Prelude.{true, false, List, [], ◌∷◌, ◌≡◌, ℕ, ◌+◌, ◌*◌, ◌/◌, ◌-◌, ◌≤◌}
+use Rattle.std.specs.Prelude.{Ok, Err, List, [], ◌∷◌, ◌≡◌, ℕ, ◌+◌, ◌*◌, ◌/◌, ◌-◌, ◌≤◌}
 use Rattle.tariff.specs.declared.Tally.{Tally}
-use Rattle.tariff.specs.declared.Tallied.{Tallied}
 use Rattle.tariff.specs.Tariff.{zero, Adds}
 
 pub record Query : Type 0 where
   pub visits : ℕ
   pub price : ℕ
 
--- The queries that a run of calls counted, the last first, and the tally after it. One that is refused is not among them, and the run
--- goes on with the tally that came back.
+-- The queries that a run of calls counted, the last first, and the tally after it. One that is refused is not among them,
+-- and the run goes on with the tally that came back.
 pub data Run : List Query → Tally → Type 0 where
   start : Run [] zero
-  counts : {qs : List Query} {t : Tally} (visits price : ℕ) (r : Tallied) → Run qs t → Adds t visits price r → r.refused ≡ false
-      → Run (record { visits = visits; price = price } ∷ qs) r.tally
-  refuses : {qs : List Query} {t : Tally} (visits price : ℕ) (r : Tallied) → Run qs t → Adds t visits price r → r.refused ≡ true → Run qs r.tally
+  counts : {qs : List Query} {t u : Tally} (visits price : ℕ) → Run qs t → Adds t visits price (Ok u)
+      → Run (record { visits = visits; price = price } ∷ qs) u
+  refuses : {qs : List Query} {t u : Tally} (visits price : ℕ) → Run qs t → Adds t visits price (Err u) → Run qs u
 
 unfoldable pub all_visits : List Query → ℕ
 all_visits [] = 0

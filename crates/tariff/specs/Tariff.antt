@@ -1,7 +1,7 @@
--- Card 7's tally: "Each query's visits join the remainder; every full 1,000 becomes a unit, charged at that query's price in cents".
-use Rattle.std.specs.Prelude.{true, false, ◌↔◌, ◌≡◌, ℕ, ◌+◌, ◌*◌, ◌/◌, ◌%◌, ◌<◌}
+-- Card 7's tally: "Each query's visits join the remainder; every full 1,000 becomes a unit, charged at that query's price
+-- in cents".
+use Rattle.std.specs.Prelude.{Result, IsErr, IfOk, IfErr, ◌↔◌, ◌≡◌, ℕ, ◌+◌, ◌*◌, ◌/◌, ◌%◌, ◌<◌}
 use Rattle.tariff.specs.declared.Tally.{Tally}
-use Rattle.tariff.specs.declared.Tallied.{Tallied}
 
 -- "A tally starts at zero"
 abbrev pub zero : Tally
@@ -24,7 +24,7 @@ pub data Over (t : Tally) (visits price : ℕ) : Type 0 where
   units_over : 4294967295 < (next t visits price).units → Over t visits price
   cents_over : 4294967295 < (next t visits price).cents → Over t visits price
 
-pub record Adds (t : Tally) (visits price : ℕ) (r : Tallied) : Type 0 where
-  pub refused_exactly : (r.refused ≡ true) ↔ Over t visits price
-  pub unchanged : r.refused ≡ true → r.tally ≡ t
-  pub counted : r.refused ≡ false → r.tally ≡ next t visits price
+pub record Adds (t : Tally) (visits price : ℕ) (r : Result Tally Tally) : Type 0 where
+  pub refused_exactly : IsErr r ↔ Over t visits price
+  pub unchanged : IfErr r (λ u. u ≡ t)
+  pub counted : IfOk r (λ u. u ≡ next t visits price)

@@ -1,80 +1,45 @@
 // The capture tariff: what archive customers pay for the visits of their queries.
 #![tactic(auto)]
 
-ghost use Rattle.tariff.specs.Tariff.{zero, Adds};
-ghost use Rattle.std.specs.Prelude.{true, ◌≡◌, ◌<◌};
+ghost use Rattle.tariff.specs.Tariff.{zero, next, Over, Adds};
+ghost use Rattle.std.specs.Prelude.{IsNone, IfSome, ◌↔◌, ◌≡◌};
 
 // Full thousands of visits, what they cost, and the visits that fill no thousand yet.
-#[derive(Drop)]
+#[derive(Clone, Copy, Default)]
 pub struct Tally {
     pub units: u32,
     pub cents: u32,
     pub remainder: u32,
 }
 
-// The tally after a query; or the query is refused, and the tally is the one that was handed in.
-#[derive(Drop)]
-pub struct Tallied {
-    pub tally: Tally,
-    pub refused: bool,
-}
-
 impl Tally {
-    pub fn new() -> Tally
+    pub fn new() -> Self
         ensures { result ≡ zero }
     {
-        Tally {
-            units: 0,
-            cents: 0,
-            remainder: 0,
+        Self::default()
+    }
+
+    // The tally with a query's visits at its price, if its totals have 32 bits.
+    fn with(self, visits: u32, price: u16) -> Option<Self>
+        ensures refused { IsNone result ↔ Over self visits price }
+        ensures counted { IfSome result (λ t. t ≡ next self visits price) }
+    {
+        if self.remainder > 999 {
+            return None;
         }
-    }
-}
-
-fn wide(x: u32) -> u64
-    ensures { (result ≡ x) × (result < 4294967296) }
-{
-    x as u64
-}
-
-fn wide_price(x: u16) -> u64
-    ensures { (result ≡ x) × (result < 65536) }
-{
-    x as u64
-}
-
-fn refuse(t: Tally) -> Tallied
-    ensures { (result.tally ≡ t) × (result.refused ≡ true) }
-{
-    Tallied {
-        tally: t,
-        refused: true,
-    }
-}
-
-// A query's visits at its price.
-pub fn add(t: Tally, visits: u32, price: u16) -> Tallied
-    ensures { Adds t visits price result }
-{
-    if 999 < t.remainder {
-        return refuse(t);
-    }
-    let n = wide(t.remainder) + wide(visits);
-    let full = n / 1000;
-    let units = wide(t.units) + full;
-    let cents = wide(t.cents) + full * wide_price(price);
-    if 4294967295 < units {
-        return refuse(t);
-    }
-    if 4294967295 < cents {
-        return refuse(t);
-    }
-    Tallied {
-        tally: Tally {
-            units: units as u32,
-            cents: cents as u32,
+        let n = u64::from(self.remainder) + u64::from(visits);
+        let full = n / 1000;
+        Some(Tally {
+            units: u32::try_from(u64::from(self.units) + full).ok()?,
+            cents: u32::try_from(u64::from(self.cents) + full * u64::from(price)).ok()?,
             remainder: (n % 1000) as u32,
-        },
-        refused: false,
+        })
+    }
+
+    // The tally after a query; or the query is refused, and the tally is the one that was handed in.
+    pub fn add(self, visits: u32, price: u16) -> Result<Self, Self>
+        ensures { Adds self visits price result }
+    {
+        self.with(visits, price).ok_or(self)
     }
 }

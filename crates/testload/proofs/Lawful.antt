@@ -1,6 +1,5 @@
 -- Whatever 32-bit words it is made of, the content obeys the rules: each choice is one of sixteen rows, and each row obeys them (Tables.antt).
 use mathlib.Core.List.{List, [], ◌∷◌, ◌++◌, map, flat_map}
-use mathlib.Core.Option.{Option, none, some}
 use mathlib.Core.Path.{◌≡◌, refl, sym, ap, ap₂, subst, ◌∙◌}
 use Prim.Native.Nat.{ℕ, zero, suc, ◌+◌, ◌-◌, ◌*◌, ◌<◌, ◌≤◌}
 use native.Mathlib.Omega.{arith}
@@ -22,6 +21,7 @@ use Rattle.testload.specs.Rule.{Limits, limit, limits, names, base, simple, comp
 use Rattle.testload.specs.Rule.{node_of, no_plan, plan_of, query_of, limits_of, simple_of, compound_of, predicate_of, count_of, content_of}
 use Rattle.testload.proofs.Tables.{TypeRow, PredicateRow, LimitsRow, NameRow, ExprRow, PlanRow, base_rows, simple_rows, compound_rows, limits_rows}
 use Rattle.testload.proofs.Tables.{predicates_rows, names_rows, names_distinct, named_at, named_in, expr_at_lem, queries_rows, counts_rows, named_lower}
+use Rattle.std.specs.Prelude.{None, Option, Some}
 
 -- ---- Lists
 
@@ -76,8 +76,8 @@ unfolding written as_content bytes₂ as_value_type optional
 predicate_short p r = go p.value refl
   where
     go : (v : Option ℕ) → p.value ≡ v → Short (a_predicate p.name p.key p.value)
-    go none e = rw e (record { fits = (omega (arith, r.name), omega (arith, r.types.0), tt); short = omega arith })
-    go (some t) e =
+    go None e = rw e (record { fits = (omega (arith, r.name), omega (arith, r.types.0), tt); short = omega arith })
+    go (Some t) e =
         let b : Below 9 (p.key ∷ t ∷ []) = rw e at r.types in
         rw e (record { fits = (omega (arith, r.name), omega (arith, r.types.0), omega (arith, b.1.0)); short = omega arith })
 
@@ -129,7 +129,7 @@ module _ (ws : List ℕ) (small : (n : ℕ) → get_or ws n 0 < 0x1_0000_0000) w
 
   predicate_of_lem : (l : ℕ) → PredicateRow (predicate_of ws l)
   unfolding predicate_of predicates
-  predicate_of_lem l = picked PredicateRow predicates (predicate 0 0 none) predicates_rows refl l
+  predicate_of_lem l = picked PredicateRow predicates (predicate 0 0 None) predicates_rows refl l
 
   plan_of_lem : (q : ℕ) → PlanRow (plan_of ws q)
   unfolding plan_of queries

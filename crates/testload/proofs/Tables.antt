@@ -9,7 +9,6 @@ use lib.Dec.{leb}
 use lib.ListN.{length, get_or}
 use borrow.Author.Tests.{leb-true}
 use borrow.Author.Rules.{rules}
-use mathlib.Core.Option.{Option, none, some}
 use Rattle.text.specs.Utf8.{Text, characters, both}
 use Rattle.text.proofs.Every.{both_left, both_right, below, every}
 use Rattle.text.proofs.Grammar.{counts as counted}
@@ -27,6 +26,7 @@ use Rattle.meaning.proofs.Lists.{all_at}
 use Rattle.meaning.proofs.Tests.{clash, below_all, again_distinct, given_absent}
 use Rattle.testload.specs.Rule.{Limits, limits, names, base, simple, compound, predicates, leaves, pairs, singles, exprs, expr_at, Plan, queries}
 use Rattle.testload.specs.Rule.{counts, from}
+use Rattle.std.specs.Prelude.{None, Option, Some}
 
 -- ---- What is asked of a row
 
@@ -132,8 +132,8 @@ predicates_rows = search rules
 
 -- a text of so many bytes at the most
 is_text : Option ℕ → Bool
-is_text none = false
-is_text (some n) = true
+is_text None = false
+is_text (Some n) = true
 
 name_test : List ℕ → Bool
 name_test s = both (all_below 0x100 s) (both (leb (length s) 23) (is_text (characters s)))
@@ -152,8 +152,8 @@ name_row s u h =
     }
   where
     go : (o : Option ℕ) → characters s ≡ o → is_text o ≡ true → (n : ℕ) × Text s n
-    go none e t = clash (sym t)
-    go (some n) e t = (n, (counted s n).1 e)
+    go None e t = clash (sym t)
+    go (Some n) e t = (n, (counted s n).1 e)
 
 pub names_rows : All NameRow names
 unfolding names ascii all_of name_test is_text all_below characters

@@ -2,8 +2,7 @@
 -- and picks one of sixteen by the word's four high bits; what a line refers to does not depend on the words. docs/FORMAT.md ("Test load") has the
 -- same rule line by line.
 use mathlib.Core.List.{List, [], ◌∷◌, ◌++◌, map}
-use Rattle.std.proofs.Math.Option.{Option, none, some}
-use Rattle.std.specs.Prelude.{ℕ, zero, suc, ◌+◌, ◌-◌, ◌*◌, ◌/◌, ◌%◌}
+use Rattle.std.specs.Prelude.{ℕ, zero, suc, ◌+◌, ◌-◌, ◌*◌, ◌/◌, ◌%◌, None, Option, Some}
 use Rattle.std.proofs.Math.ListN.{get_or}
 use Rattle.unification.specs.Ty.{Int, String, Bytes, Fact}
 use Rattle.meaning.specs.Syntax.{Field, QueryStmt, Query, Literal, ExprKind, Node, Ast}
@@ -130,22 +129,22 @@ compound =
 
 unfoldable pub predicates : List PredicateFrame
 predicates =
-    predicate 5 6 none ∷
-    predicate 6 6 (some 7) ∷
-    predicate 7 7 (some 8) ∷
-    predicate 8 8 none ∷
-    predicate 9 3 (some 4) ∷
-    predicate 10 4 (some 3) ∷
-    predicate 8 0 (some 1) ∷
-    predicate 9 1 (some 0) ∷
-    predicate 10 5 (some 6) ∷
-    predicate 11 6 (some 6) ∷
-    predicate 5 7 none ∷
-    predicate 6 8 (some 8) ∷
-    predicate 12 3 none ∷
-    predicate 4 5 (some 0) ∷
-    predicate 7 4 none ∷
-    predicate 0 2 (some 5) ∷
+    predicate 5 6 None ∷
+    predicate 6 6 (Some 7) ∷
+    predicate 7 7 (Some 8) ∷
+    predicate 8 8 None ∷
+    predicate 9 3 (Some 4) ∷
+    predicate 10 4 (Some 3) ∷
+    predicate 8 0 (Some 1) ∷
+    predicate 9 1 (Some 0) ∷
+    predicate 10 5 (Some 6) ∷
+    predicate 11 6 (Some 6) ∷
+    predicate 5 7 None ∷
+    predicate 6 8 (Some 8) ∷
+    predicate 12 3 None ∷
+    predicate 4 5 (Some 0) ∷
+    predicate 7 4 None ∷
+    predicate 0 2 (Some 5) ∷
     []
 
 -- a node that names none
@@ -303,7 +302,7 @@ module _ (ws : List ℕ) where
 
   unfoldable pub predicate_of : ℕ → PredicateFrame
   unfolding predicates choice
-  predicate_of l = get_or predicates (choice l) (predicate 0 0 none)
+  predicate_of l = get_or predicates (choice l) (predicate 0 0 None)
 
   unfoldable pub count_of : ℕ
   unfolding counts choice

@@ -1,59 +1,54 @@
--- The rule of 01-scope.md and the grammar of RFC 3629 have the same characters, and so the same texts. A computed test says which bytes
--- have two, three or four leading ones, and what such a byte holds after them; the rest is arithmetic on the value.
-use Prim.Native.Nat.{ℕ, zero, suc, ◌+◌, ◌-◌, ◌*◌, ◌%◌, ◌≤◌, ◌<◌}
-use native.Mathlib.Omega.{arith}
-use native.Mathlib.Nat.{le_trans, not-suc-le-zero, le_of_suc-le-suc}
+-- The rule of 01-scope.md and the grammar of RFC 3629 have the same characters, and so the same texts. A computed test
+-- says which bytes have two, three or four leading ones, and what such a byte holds after them; the rest is arithmetic
+-- on the value.
+use Rattle.std.proofs.Common.{◌≡◌, refl, sym, ◌∙◌, ◌↔◌, ℕ, zero, suc, ◌+◌, ◌-◌, ◌*◌, ◌%◌, ◌≤◌, ◌<◌, Bool, true, ◌&&◌, T, eqb, leb, ltb, lit<, List, [], ◌∷◌, ◌++◌, length, get_or, arith}
+use Rattle.std.proofs.Math.Dec.{leb→le}
+use Rattle.std.proofs.Math.Nat.{le_trans, le_of_suc-le-suc, not-suc-le-zero}
+use Rattle.std.proofs.lemmas.Bool.{agree_below, agree_below_at, and_parts, eq-eqb, eqb-true}
 use native.Mathlib.Decide.{dec_le}
-use mathlib.Core.Bool.{Bool, true}
-use mathlib.Core.Logic.{◌↔◌}
-use mathlib.Core.Path.{◌≡◌, refl, sym, ◌∙◌}
-use mathlib.Core.List.{List, [], ◌∷◌, ◌++◌}
-use lib.Dec.{T, eqb, leb, ltb, lit<, leb→le}
-use lib.ListN.{length, get_or}
-use borrow.Author.Tests.{eq-eqb, eqb-true}
 use Rattle.text.specs.Star.{Each, Star, none as nil, more}
 use Rattle.text.specs.Utf8 as utf8
-use Rattle.text.specs.Utf8.{Range, ◌to◌, In, Fits, end, then, OneOf, this, later, both, inside}
+use Rattle.text.specs.Utf8.{Range, ◌to◌, In, Fits, end, then, OneOf, this, later, inside}
 use Rattle.text.specs.Rule as rule
 use Rattle.text.specs.Rule.{ones_of, ones, head, value, least, Later, Scalar, Sequence, alone, several}
-use Rattle.text.proofs.Every.{both_left, both_right, same, same_eq, below, every}
 use Rattle.text.proofs.Grammar.{range, inside_in, in_inside}
 
 -- the bytes with n leading ones are those from low to high, and hold what is above low
-lead : ℕ → ℕ → ℕ → ℕ → Bool
-lead n low high b = both (same (eqb (ones b) n) (inside (low to high) b)) (same (both (eqb (ones b) n) (eqb (head b) (b - low))) (eqb (ones b) n))
-
 record Lead (n low high : ℕ) : Type 0 where
   found : (b : ℕ) → b < 256 → ones b ≡ n → In (low to high) b
   given : (b : ℕ) → b < 256 → In (low to high) b → ones b ≡ n
   holds : (b : ℕ) → b < 256 → ones b ≡ n → head b ≡ b - low
 
-leads : (n low high : ℕ) → below (lead n low high) 256 ≡ true → Lead n low high
-unfolding lead
-leads n low high t =
+has : ℕ → ℕ → Bool
+has n b = eqb (ones b) n
+
+above : ℕ → ℕ → Bool
+above low b = eqb (head b) (b - low)
+
+leads : (n low high : ℕ) → agree_below (has n) (inside (low to high)) 256 ≡ true
+    → agree_below (λ b. has n b && above low b) (has n) 256 ≡ true → Lead n low high
+unfolding has above
+leads n low high t u =
     record {
       found = λ b l e. inside_in (low to high) b (sym (which b l) ∙ eq-eqb (ones b) n e);
       given = λ b l i. eqb-true (ones b) n (which b l ∙ in_inside (low to high) b i);
-      holds = λ b l e. eqb-true (head b) (b - low) (both_right (eqb (ones b) n) _ (bits b l ∙ eq-eqb (ones b) n e));
+      holds = λ b l e. eqb-true _ _ (and_parts _ _ (agree_below_at (λ b. has n b && above low b) (has n) 256 b u l ∙ eq-eqb (ones b) n e)).1;
     }
   where
     which : (b : ℕ) → b < 256 → eqb (ones b) n ≡ inside (low to high) b
-    which b l = same_eq (eqb (ones b) n) (inside (low to high) b) (both_left _ _ (every (lead n low high) 256 t b l))
-
-    bits : (b : ℕ) → b < 256 → both (eqb (ones b) n) (eqb (head b) (b - low)) ≡ eqb (ones b) n
-    bits b l = same_eq _ _ (both_right (same (eqb (ones b) n) (inside (low to high) b)) _ (every (lead n low high) 256 t b l))
+    which b l = agree_below_at (has n) (inside (low to high)) 256 b t l
 
 two : Lead 2 0xc0 0xdf
-unfolding lead ones_of ones head
-two = leads 2 0xc0 0xdf refl
+unfolding has above ones_of ones head
+two = leads 2 0xc0 0xdf refl refl
 
 three : Lead 3 0xe0 0xef
-unfolding lead ones_of ones head
-three = leads 3 0xe0 0xef refl
+unfolding has above ones_of ones head
+three = leads 3 0xe0 0xef refl refl
 
 four : Lead 4 0xf0 0xf7
-unfolding lead ones_of ones head
-four = leads 4 0xf0 0xf7 refl
+unfolding has above ones_of ones head
+four = leads 4 0xf0 0xf7 refl refl
 
 module _ {n low high : ℕ} (lead : Lead n low high) (b : ℕ) (byte : b < 256) (t : List ℕ) where
   make : 2 ≤ n → n ≤ 4 → In (low to high) b → 1 + length t ≡ n → Each Later t → least n ≤ value (b - low) t → value (b - low) t ≤ 0x10ffff

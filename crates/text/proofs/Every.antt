@@ -1,22 +1,17 @@
--- A test that antt computes at every number below n, and what it says of each.
-use Prim.Native.Nat.{ℕ, zero, suc, ◌<◌}
-use native.Mathlib.Nat.{not-suc-le-zero, le_of_suc-le-suc, eq-or-lt_of_le}
-use mathlib.Core.Bool.{Bool, true, false}
-use mathlib.Core.Logic.{⊎_elim}
-use mathlib.Core.Path.{◌≡◌, refl}
+-- Tests that antt computes, under the names that the crates above cite; std has them as `and_parts`, `and_right` and
+-- `agree_below`.
+use Rattle.std.proofs.Common.{◌≡◌, refl, ℕ, ◌<◌, Bool, true, false}
+use Rattle.std.proofs.lemmas.Bool.{agree_below, agree_below_at, and_parts, and_right}
 use Rattle.text.specs.Utf8.{both}
 
 pub both_left : (a b : Bool) → both a b ≡ true → a ≡ true
-both_left true b h = refl
-both_left false b h = h
+both_left a b h = (and_parts a b h).0
 
 pub both_right : (a b : Bool) → both a b ≡ true → b ≡ true
-both_right true b h = h
-both_right false b h = cc
+both_right a b h = (and_parts a b h).1
 
 pub both_false : (a : Bool) → both a false ≡ false
-both_false true = refl
-both_false false = refl
+both_false a = and_right a false refl
 
 abbrev pub same : Bool → Bool → Bool
 same true b = b
@@ -28,14 +23,9 @@ same_eq true b h = cc
 same_eq false true h = h
 same_eq false false h = refl
 
+-- true of each number below n
 abbrev pub below : (ℕ → Bool) → ℕ → Bool
-below f zero = true
-below f (suc n) = both (f n) (below f n)
+below f n = agree_below f (λ _. true) n
 
 pub every : (f : ℕ → Bool) (n : ℕ) → below f n ≡ true → (k : ℕ) → k < n → f k ≡ true
-every f zero t k h = absurd (not-suc-le-zero h)
-every f (suc n) t k h =
-    ⊎_elim
-    (λ e. rw e (both_left (f n) (below f n) t))
-    (λ l. every f n (both_right (f n) (below f n) t) k l)
-    (eq-or-lt_of_le (le_of_suc-le-suc h))
+every f n t k h = agree_below_at f (λ _. true) n k t h

@@ -1,30 +1,23 @@
--- `characters` counts what the grammar says. The first ranges of the alternatives rise, so a first byte fits one alternative at most and
--- the function can choose by it; reading on, the ranges that are still owed are used up one by one.
-use Prim.Native.Nat.{ℕ, suc, ◌≤◌, ◌<◌}
-use native.Mathlib.Omega.{arith}
-use mathlib.Core.Bool.{Bool, true, false}
-use mathlib.Core.Path.{◌≡◌, refl, ap, ◌∙◌}
-use mathlib.Core.List.{List, [], ◌∷◌, ◌++◌}
-use mathlib.Core.Logic.{◌↔◌}
-use mathlib.Core.Option.{Option, none, some}
-use lib.Dec.{leb, lit≤}
-use borrow.Author.Tests.{leb-true, le-leb, lt-leb}
-use Rattle.text.proofs.Every.{both_left, both_right, both_false}
+-- `characters` counts what the grammar says. The first ranges of the alternatives rise, so a first byte fits one
+-- alternative at most and the function can choose by it; reading on, the ranges that are still owed are used up one by
+-- one.
+use Rattle.std.proofs.Common.{◌≡◌, refl, ap, ◌∙◌, ◌↔◌, ℕ, suc, ◌≤◌, ◌<◌, Bool, true, false, List, [], ◌∷◌, ◌++◌, leb, lit≤, arith}
+use Rattle.std.proofs.lemmas.Bool.{and_parts, and_from, and_right, leb-true, le-leb, lt-leb}
 use Rattle.text.specs.Star.{none as nil, more}
-use Rattle.text.specs.Utf8.{Range, ◌to◌, In, Fits, end, then, OneOf, this, later, inside, following, one_more, count, utf8_char, Character, Text}
-use Rattle.text.specs.Utf8.{characters}
+use Rattle.text.specs.Utf8.{Range, ◌to◌, In, Fits, end, then, OneOf, this, later, inside, following, one_more, count, utf8_char, Character, Text, characters}
+use Rattle.std.specs.Prelude.{None, Option, Some}
 
-pub clash : {A X : Type 0} {x : A} → none ≡ some x → X
-clash e = let z : ◌≡◌ {A = ℕ} 0 1 = cc in absurd (omega arith)
+pub clash : {A X : Type 0} {x : A} → None ≡ Some x → X
+clash e = cc
 
 pub range : (low high b : ℕ) → low ≤ b → b ≤ high → In (low to high) b
 range low high b l h = record { low = l; high = h }
 
 pub inside_in : (r : Range) (b : ℕ) → inside r b ≡ true → In r b
-inside_in r b h = record { low = leb-true _ _ (both_left _ _ h); high = leb-true _ _ (both_right (leb r.low b) _ h) }
+inside_in r b h = let p = and_parts _ _ h in record { low = leb-true _ _ p.0; high = leb-true _ _ p.1 }
 
 pub in_inside : (r : Range) (b : ℕ) → In r b → inside r b ≡ true
-in_inside r b h = rw (le-leb r.low b h.low, le-leb b r.high h.high)
+in_inside r b h = and_from _ _ (le-leb _ _ h.low) (le-leb _ _ h.high)
 
 -- no alternative is empty, and each starts above the one before it
 data Rising : ℕ → List (List Range) → Type 0 where
@@ -51,12 +44,12 @@ not_empty c = filled rises c
 -- past the alternatives that end below b
 passed : (r : Range) (rs : List Range) (g : List (List Range)) (b : ℕ) → r.high < b → following ((r ∷ rs) ∷ g) b ≡ following g b
 unfolding following
-passed r rs g b h = rw (lt-leb b r.high h, both_false (leb r.low b), following)
+passed r rs g b h = rw (and_right (leb r.low b) _ (lt-leb b r.high h), following)
 
 -- the alternative that the first byte chooses, and what the bytes after it fit
 record Chosen (g : List (List Range)) (b : ℕ) (s : List ℕ) : Type 0 where
   ranges : List Range
-  is : following g b ≡ some ranges
+  is : following g b ≡ Some ranges
   fit : Fits ranges s
 
 chosen : {l b : ℕ} {g : List (List Range)} {s : List ℕ} → Rising l g → OneOf g (b ∷ s) → Chosen g b s
@@ -81,7 +74,7 @@ step (b ∷ a) t o =
     let c = chosen rises o in
     rw (c.is, count) (ap one_more (read utf8_char t c.fit))
 
-forth : {s : List ℕ} {n : ℕ} → Text s n → characters s ≡ some n
+forth : {s : List ℕ} {n : ℕ} → Text s n → characters s ≡ Some n
 unfolding characters count
 forth nil = refl
 forth (more {a = a} {t = t} c r) = step a t c ∙ ap one_more (forth r)
@@ -90,44 +83,44 @@ forth (more {a = a} {t = t} c r) = step a t c ∙ ap one_more (forth r)
 data Split (rs : List Range) : List ℕ → ℕ → Type 0 where
   split : {a t : List ℕ} {n : ℕ} → Fits rs a → Text t n → Split rs (a ++ t) n
 
-begins : (g : List (List Range)) (b : ℕ) {rs : List Range} {a : List ℕ} → following g b ≡ some rs → Fits rs a → OneOf g (b ∷ a)
+begins : (g : List (List Range)) (b : ℕ) {rs : List Range} {a : List ℕ} → following g b ≡ Some rs → Fits rs a → OneOf g (b ∷ a)
 unfolding following
 begins [] b e f = clash e
 begins ([] ∷ g) b e f = later (begins g b e f)
 begins ((r ∷ rs) ∷ g) b {rs = x} {a = a} e f = go (λ h. begins g b h f) (inside r b) refl
   where
-    go : (following g b ≡ some x → OneOf g (b ∷ a)) → (i : Bool) → inside r b ≡ i → OneOf ((r ∷ rs) ∷ g) (b ∷ a)
+    go : (following g b ≡ Some x → OneOf g (b ∷ a)) → (i : Bool) → inside r b ≡ i → OneOf ((r ∷ rs) ∷ g) (b ∷ a)
     go ih true q =
-        let h : some rs ≡ some x = rw (q, following) at e in
+        let h : Some rs ≡ Some x = rw (q, following) at e in
         let same : x ≡ rs = cc in
         this (then (inside_in r b q) (rw same at f))
     go ih false q = later (ih (rw (q, following) at e))
 
 -- a first byte before a split, and a byte that was owed
-start : {b : ℕ} {rs : List Range} {s : List ℕ} {n : ℕ} → following utf8_char b ≡ some rs → Split rs s n → Split [] (b ∷ s) (suc n)
+start : {b : ℕ} {rs : List Range} {s : List ℕ} {n : ℕ} → following utf8_char b ≡ Some rs → Split rs s n → Split [] (b ∷ s) (suc n)
 start {b} q (split f t) = split end (more (begins utf8_char b q f) t)
 
 join : {r : Range} {b : ℕ} {rs : List Range} {s : List ℕ} {n : ℕ} → In r b → Split rs s n → Split (r ∷ rs) (b ∷ s) n
 join i (split f t) = split (then i f) t
 
-back : (rs : List Range) (s : List ℕ) (n : ℕ) → count utf8_char rs s ≡ some n → Split rs s n
+back : (rs : List Range) (s : List ℕ) (n : ℕ) → count utf8_char rs s ≡ Some n → Split rs s n
 unfolding count
 back [] [] n e = let z : n ≡ 0 = cc in rw z (split end nil)
 back (r ∷ rs) [] n e = clash e
 back [] (b ∷ s) n e = first (λ rs m h. back rs s m h) (following utf8_char b) refl
   where
-    rest : ((rs : List Range) (m : ℕ) → count utf8_char rs s ≡ some m → Split rs s m)
-        → (rs : List Range) → following utf8_char b ≡ some rs → (o : Option ℕ) → count utf8_char rs s ≡ o → one_more o ≡ some n → Split [] (b ∷ s) n
-    rest ih rs q none p h = clash h
-    rest ih rs q (some m) p h = let z : n ≡ suc m = cc in rw z (start q (ih rs m p))
+    rest : ((rs : List Range) (m : ℕ) → count utf8_char rs s ≡ Some m → Split rs s m)
+        → (rs : List Range) → following utf8_char b ≡ Some rs → (o : Option ℕ) → count utf8_char rs s ≡ o → one_more o ≡ Some n → Split [] (b ∷ s) n
+    rest ih rs q None p h = clash h
+    rest ih rs q (Some m) p h = let z : n ≡ suc m = cc in rw z (start q (ih rs m p))
 
-    first : ((rs : List Range) (m : ℕ) → count utf8_char rs s ≡ some m → Split rs s m)
+    first : ((rs : List Range) (m : ℕ) → count utf8_char rs s ≡ Some m → Split rs s m)
         → (o : Option (List Range)) → following utf8_char b ≡ o → Split [] (b ∷ s) n
-    first ih none q = clash (rw (q, count) at e)
-    first ih (some rs) q = rest ih rs q (count utf8_char rs s) refl (rw (q, count) at e)
+    first ih None q = clash (rw (q, count) at e)
+    first ih (Some rs) q = rest ih rs q (count utf8_char rs s) refl (rw (q, count) at e)
 back (r ∷ rs) (b ∷ s) n e = go (λ h. back rs s n h) (inside r b) refl
   where
-    go : (count utf8_char rs s ≡ some n → Split rs s n) → (i : Bool) → inside r b ≡ i → Split (r ∷ rs) (b ∷ s) n
+    go : (count utf8_char rs s ≡ Some n → Split rs s n) → (i : Bool) → inside r b ≡ i → Split (r ∷ rs) (b ∷ s) n
     go ih true q = join (inside_in r b q) (ih (rw (q, count) at e))
     go ih false q = clash (rw (q, count) at e)
 
@@ -136,6 +129,6 @@ whole : {s : List ℕ} {n : ℕ} → Split [] s n → Text s n
 whole (split end t) = t
 
 -- The function and the grammar say the same.
-pub counts : (s : List ℕ) (n : ℕ) → Text s n ↔ (characters s ≡ some n)
+pub counts : (s : List ℕ) (n : ℕ) → Text s n ↔ (characters s ≡ Some n)
 unfolding characters count
 counts s n = (forth, λ e. whole (back [] s n e))

@@ -1,10 +1,11 @@
 pub mod Every
 pub mod Grammar
 pub mod Agree
-pub mod Reading
-pub mod First
-pub mod Walk
-pub mod Laws
 pub mod Surrogates
 pub mod Machine
+pub mod Walk
 pub mod Tabled
+pub mod Reading
+pub mod First
+pub mod Bytes
+pub mod Laws

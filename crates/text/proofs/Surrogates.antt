@@ -1,20 +1,12 @@
 -- Card 2: a text with a value from d800 to dfff is none any more, and every other one is what it was.
-use Prim.Native.Nat.{ℕ}
-use native.Mathlib.Omega.{arith}
-use mathlib.Core.Bool.{Bool, true, false, true≢false}
-use mathlib.Core.Logic.{◌↔◌}
-use mathlib.Core.Path.{◌≡◌, refl, ap, sym, ◌∙◌}
-use mathlib.Core.List.{List, [], ◌∷◌, ◌++◌}
-use mathlib.Core.Option.{Option, none, some}
+use Rattle.std.proofs.Common.{◌≡◌, refl, ap, sym, ◌∙◌, ◌↔◌, ℕ, Bool, true, false, ◌&&◌, eqb, ltb, List, [], ◌∷◌, ◌++◌, arith}
+use Rattle.std.proofs.lemmas.Bool.{and_parts, and_right, eqb-true, eqb-false, lt-leb, ltb-true, false_from_ne_true}
 use native.Mathlib.Decide.{dec_le}
-use lib.Dec.{eqb, leb, ltb}
-use borrow.Author.Tests.{eqb-true, eqb-false, lt-leb, ltb-true}
-use Rattle.text.specs.Utf8.{Range, ◌to◌, only, tail, In, Text, utf8_1, utf8_2, utf8_4, utf8_char, both, inside, following, one_more, count}
-use Rattle.text.specs.Utf8.{characters}
+use Rattle.text.specs.Utf8.{Range, ◌to◌, only, tail, In, Text, utf8_1, utf8_2, utf8_4, utf8_char, inside, following, one_more, count, characters}
 use Rattle.text.specs.Rule.{ones_of, ones, head, value}
 use Rattle.text.specs.Surrogates.{utf8_char_open, characters_open, HasSurrogate, here, later}
-use Rattle.text.proofs.Every.{both_left, both_right, both_false}
 use Rattle.text.proofs.Grammar.{clash, range, inside_in, in_inside, counts}
+use Rattle.std.specs.Prelude.{None, Option, Some}
 
 -- ---- Which bytes they are
 
@@ -33,14 +25,10 @@ elsewhere : (g h : List (List Range)) (r : Range) (rs rs' : List Range) (b : ℕ
 unfolding following
 elsewhere [] h r rs rs' b e = rw (e, following)
 elsewhere ([] ∷ g) h r rs rs' b e = elsewhere g h r rs rs' b e
-elsewhere ((q ∷ qs) ∷ g) h r rs rs' b e = ap (λ o. elim (inside q b) [ true ↦ some qs | false ↦ o ]) (elsewhere g h r rs rs' b e)
+elsewhere ((q ∷ qs) ∷ g) h r rs rs' b e = ap (λ o. elim (inside q b) [ true ↦ Some qs | false ↦ o ]) (elsewhere g h r rs rs' b e)
 
 outside_ed : (b : ℕ) → (b ≡ 0xed → ⊥) → inside (only 0xed) b ≡ false
-outside_ed b n = go (inside (only 0xed) b) refl
-  where
-    go : (i : Bool) → inside (only 0xed) b ≡ i → inside (only 0xed) b ≡ false
-    go true q = let i = inside_in (only 0xed) b q in absurd (n (omega (arith, i)))
-    go false q = q
+outside_ed b n = false_from_ne_true _ (λ q. n (omega (arith, inside_in (only 0xed) b q)))
 
 same_following : (b : ℕ) → (b ≡ 0xed → ⊥) → following utf8_char b ≡ following utf8_char_open b
 same_following b n =
@@ -52,12 +40,12 @@ same_following b n =
 above_9f : (x : ℕ) → inside (0x80 to 0x9f) x ≡ false → In (0x80 to 0xbf) x → In (0xa0 to 0xbf) x
 above_9f x e i =
     elim (dec_le x 0x9f) [
-      | yes h ↦ absurd (true≢false (sym (in_inside (0x80 to 0x9f) x (range 0x80 0x9f x i.low h)) ∙ e))
+      | yes h ↦ cc (in_inside (0x80 to 0x9f) x (range 0x80 0x9f x i.low h))
       | no h ↦ range 0xa0 0xbf x (omega arith) i.high
     ]
 
 outside_9f : (x : ℕ) → In (0xa0 to 0xbf) x → inside (0x80 to 0x9f) x ≡ false
-outside_9f x i = rw (lt-leb x 0x9f (omega (arith, i))) (both_false (leb 0x80 x))
+outside_9f x i = and_right _ _ (lt-leb x 0x9f (omega (arith, i)))
 
 -- the two counts of s, and the two counts of s after ed
 record Same (s : List ℕ) : Type 0 where
@@ -67,13 +55,13 @@ record Same (s : List ℕ) : Type 0 where
 module _ (b : ℕ) (s : List ℕ) (ih : Same s) where
   owing_more : (HasSurrogate (b ∷ s) → ⊥) → (rs : List Range) → count utf8_char rs (b ∷ s) ≡ count utf8_char_open rs (b ∷ s)
   unfolding count following
-  owing_more n (r ∷ rs) = ap (λ o. elim (inside r b) [ true ↦ o | false ↦ none ]) (ih.owing (λ h. n (later h)) rs)
+  owing_more n (r ∷ rs) = ap (λ o. elim (inside r b) [ true ↦ o | false ↦ None ]) (ih.owing (λ h. n (later h)) rs)
   owing_more n [] = first (eqb b 0xed) refl
     where
       chosen : (o : Option (List Range)) → following utf8_char b ≡ o → following utf8_char_open b ≡ o
           → count utf8_char [] (b ∷ s) ≡ count utf8_char_open [] (b ∷ s)
-      chosen none p q = rw (p, q, count)
-      chosen (some rs) p q = rw (p, q, count) (ap one_more (ih.owing (λ h. n (later h)) rs))
+      chosen None p q = rw (p, q, count)
+      chosen (Some rs) p q = rw (p, q, count) (ap one_more (ih.owing (λ h. n (later h)) rs))
 
       first : (e : Bool) → eqb b 0xed ≡ e → count utf8_char [] (b ∷ s) ≡ count utf8_char_open [] (b ∷ s)
       first true q = rw (eqb-true b 0xed q) (ap one_more (ih.after_ed (rw (eqb-true b 0xed q) at n)))
@@ -84,11 +72,11 @@ module _ (b : ℕ) (s : List ℕ) (ih : Same s) where
   unfolding count
   after_ed_more n = go (inside (0x80 to 0x9f) b) refl (inside (0x80 to 0xbf) b) refl
     where
-      third : (s : List ℕ) → (HasSurrogate (0xed ∷ b ∷ s) → ⊥) → In (0xa0 to 0xbf) b → none ≡ count utf8_char_open (tail ∷ []) s
+      third : (s : List ℕ) → (HasSurrogate (0xed ∷ b ∷ s) → ⊥) → In (0xa0 to 0xbf) b → None ≡ count utf8_char_open (tail ∷ []) s
       third [] n i = refl
       third (y ∷ s) n i = last (inside tail y) refl
         where
-          last : (t : Bool) → inside tail y ≡ t → none ≡ count utf8_char_open (tail ∷ []) (y ∷ s)
+          last : (t : Bool) → inside tail y ≡ t → None ≡ count utf8_char_open (tail ∷ []) (y ∷ s)
           last true q = absurd (n (here i (inside_in tail y q)))
           last false q = rw (q, count)
 
@@ -97,7 +85,7 @@ module _ (b : ℕ) (s : List ℕ) (ih : Same s) where
       go true p true q = rw (p, q, count) (ih.owing (λ h. n (later (later h))) (tail ∷ []))
       go true p false q =
           let i = inside_in (0x80 to 0x9f) b p in
-          absurd (true≢false (sym (in_inside (0x80 to 0xbf) b (range 0x80 0xbf b i.low (omega (arith, i)))) ∙ q))
+          cc (in_inside (0x80 to 0xbf) b (range 0x80 0xbf b i.low (omega (arith, i))))
       go false p true q = rw (p, q, count) (third s n (above_9f b p (inside_in (0x80 to 0xbf) b q)))
       go false p false q = rw (p, q, count)
 
@@ -119,48 +107,48 @@ kept s n = (same_counts s).owing n []
 -- No range that is owed reaches up to ed, so ed only starts a character.
 abbrev low : List Range → Bool
 low [] = true
-low (r ∷ rs) = both (ltb r.high 0xed) (low rs)
+low (r ∷ rs) = ltb r.high 0xed && low rs
 
 abbrev low_after : List (List Range) → Bool
 low_after [] = true
 low_after ([] ∷ g) = low_after g
-low_after ((r ∷ rs) ∷ g) = both (low rs) (low_after g)
+low_after ((r ∷ rs) ∷ g) = low rs && low_after g
 
-low_following : (g : List (List Range)) (b : ℕ) (rs : List Range) → low_after g ≡ true → following g b ≡ some rs → low rs ≡ true
+low_following : (g : List (List Range)) (b : ℕ) (rs : List Range) → low_after g ≡ true → following g b ≡ Some rs → low rs ≡ true
 unfolding following
 low_following [] b rs h e = clash e
 low_following ([] ∷ g) b rs h e = low_following g b rs h e
-low_following ((r ∷ ts) ∷ g) b rs h e = go (λ k. low_following g b rs (both_right (low ts) (low_after g) h) k) (inside r b) refl
+low_following ((r ∷ ts) ∷ g) b rs h e = go (λ k. low_following g b rs ((and_parts _ _ h).1) k) (inside r b) refl
   where
-    go : (following g b ≡ some rs → low rs ≡ true) → (i : Bool) → inside r b ≡ i → low rs ≡ true
+    go : (following g b ≡ Some rs → low rs ≡ true) → (i : Bool) → inside r b ≡ i → low rs ≡ true
     go ih true q =
-        let k : some ts ≡ some rs = rw (q, following) at e in
+        let k : Some ts ≡ Some rs = rw (q, following) at e in
         let same : rs ≡ ts = cc in
-        rw same (both_left (low ts) (low_after g) h)
+        rw same ((and_parts _ _ h).0)
     go ih false q = ih (rw (q, following) at e)
 
 outside_low : (r : Range) → ltb r.high 0xed ≡ true → inside r 0xed ≡ false
-outside_low r h = rw (lt-leb 0xed r.high (ltb-true r.high 0xed h)) (both_false (leb r.low 0xed))
+outside_low r h = and_right _ _ (lt-leb 0xed r.high (ltb-true r.high 0xed h))
 
-none_counted : {s : List ℕ} → HasSurrogate s → (rs : List Range) → low rs ≡ true → count utf8_char rs s ≡ none
+none_counted : {s : List ℕ} → HasSurrogate s → (rs : List Range) → low rs ≡ true → count utf8_char rs s ≡ None
 unfolding count following
 none_counted (here {x = x} {y = y} {t = t} i j) [] l =
-    let inner : count utf8_char (0x80 to 0x9f ∷ tail ∷ []) (x ∷ y ∷ t) ≡ none = rw (outside_9f x i, count) in ap one_more inner
-none_counted (here i j) (r ∷ rs) l = rw (outside_low r (both_left _ _ l), count)
-none_counted (later {b = b} {s = s} h) (r ∷ rs) l = go (none_counted h rs (both_right (ltb r.high 0xed) (low rs) l)) (inside r b) refl
+    let inner : count utf8_char (0x80 to 0x9f ∷ tail ∷ []) (x ∷ y ∷ t) ≡ None = rw (outside_9f x i, count) in ap one_more inner
+none_counted (here i j) (r ∷ rs) l = rw (outside_low r (and_parts _ _ l).0, count)
+none_counted (later {b = b} {s = s} h) (r ∷ rs) l = go (none_counted h rs (and_parts _ _ l).1) (inside r b) refl
   where
-    go : count utf8_char rs s ≡ none → (i : Bool) → inside r b ≡ i → count utf8_char (r ∷ rs) (b ∷ s) ≡ none
+    go : count utf8_char rs s ≡ None → (i : Bool) → inside r b ≡ i → count utf8_char (r ∷ rs) (b ∷ s) ≡ None
     go ih true q = rw (q, count) ih
     go ih false q = rw (q, count)
 none_counted (later {b = b} {s = s} h) [] l = go (λ rs k. none_counted h rs k) (following utf8_char b) refl
   where
-    go : ((rs : List Range) → low rs ≡ true → count utf8_char rs s ≡ none) → (o : Option (List Range)) → following utf8_char b ≡ o
-        → count utf8_char [] (b ∷ s) ≡ none
-    go ih none q = rw (q, count)
-    go ih (some rs) q = rw (q, count) (ap one_more (ih rs (low_following utf8_char b rs refl q)))
+    go : ((rs : List Range) → low rs ≡ true → count utf8_char rs s ≡ None) → (o : Option (List Range)) → following utf8_char b ≡ o
+        → count utf8_char [] (b ∷ s) ≡ None
+    go ih None q = rw (q, count)
+    go ih (Some rs) q = rw (q, count) (ap one_more (ih rs (low_following utf8_char b rs refl q)))
 
 -- "Text with such a value is turned down from now on."
-pub turned_down : (s : List ℕ) → HasSurrogate s → characters s ≡ none
+pub turned_down : (s : List ℕ) → HasSurrogate s → characters s ≡ None
 unfolding characters
 turned_down s h = none_counted h [] refl
 
@@ -168,9 +156,10 @@ turned_down s h = none_counted h [] refl
 pub surrogate_no_text : (s : List ℕ) → HasSurrogate s → (n : ℕ) → Text s n → ⊥
 surrogate_no_text s h n t = clash (sym (turned_down s h) ∙ (counts s n).0 t)
 
--- What the card changes, in one sentence: the texts are those of before that have no such value, with the same number of characters.
-pub exactly : (s : List ℕ) (n : ℕ) → (characters s ≡ some n) ↔ ((characters_open s ≡ some n) × (HasSurrogate s → ⊥))
+-- What the card changes, in one sentence: the texts are those of before that have no such value, with the same number
+-- of characters.
+pub exactly : (s : List ℕ) (n : ℕ) → (characters s ≡ Some n) ↔ ((characters_open s ≡ Some n) × (HasSurrogate s → ⊥))
 exactly s n = (λ e. (sym (kept s (without e)) ∙ e, without e), λ p. kept s p.1 ∙ p.0)
   where
-    without : characters s ≡ some n → HasSurrogate s → ⊥
+    without : characters s ≡ Some n → HasSurrogate s → ⊥
     without e h = clash (sym (turned_down s h) ∙ e)

@@ -1,7 +1,8 @@
--- The rule for texts in the words of 01-scope.md, "Frame lines": "a byte below 80 stands alone; otherwise the number of leading one
--- bits of the first byte, 2 to 4, is the length, later bytes are 80 to bf, and the value is not below 80, 800 or 10000 for that length and
--- not above 10ffff (hexadecimal)"; and of 02-change-requests.md, card 2: "RFC 3629 forbids the values d800 to dfff (hexadecimal)". `same_text_lem`
--- in proofs/Agree.antt shows that it is the grammar of Utf8.antt.
+-- The rule for texts in the words of 01-scope.md, "Frame lines": "a byte below 80 stands alone; otherwise the number of
+-- leading one bits of the first byte, 2 to 4, is the length, later bytes are 80 to bf, and the value is not below 80,
+-- 800 or 10000 for that length and not above 10ffff (hexadecimal)"; and of 02-change-requests.md, card 2: "RFC 3629
+-- forbids the values d800 to dfff (hexadecimal)". `same_text_lem` in proofs/Agree.antt shows that it is the grammar of
+-- Utf8.antt.
 use Rattle.std.specs.Prelude.{ℕ, zero, suc, ◌+◌, ◌-◌, ◌*◌, ◌%◌, ◌^◌, ◌≤◌, ◌<◌, true, false, ◌≡◌, List, [], ◌∷◌, leb, length, get_or}
 use Rattle.text.specs.Star.{Each, Star}
 

@@ -9,8 +9,7 @@
 --     UTF8-4      = %xF0 %x90-BF 2( UTF8-tail ) / %xF1-F3 3( UTF8-tail ) /
 --                   %xF4 %x80-8F 2( UTF8-tail )
 --     UTF8-tail   = %x80-BF
-use Rattle.std.specs.Prelude.{ℕ, suc, ◌≤◌, Bool, true, false, List, [], ◌∷◌, ◌++◌, leb}
-use Rattle.std.proofs.Math.Option.{Option, none, some}
+use Rattle.std.specs.Prelude.{ℕ, suc, ◌≤◌, Bool, true, false, ◌&&◌, List, [], ◌∷◌, ◌++◌, leb, None, Option, Some}
 use Rattle.text.specs.Star.{Star}
 
 -- `%xLOW-HIGH`, here `LOW to HIGH`
@@ -76,32 +75,33 @@ Character s = OneOf utf8_char s
 abbrev pub Text : List ℕ → ℕ → Type 0
 Text s n = Star Character s n
 
--- The same as a function: the number of characters, or none where the bytes are no text. `counts` in proofs/Grammar.antt ties the two.
-
-abbrev pub both : Bool → Bool → Bool
-both true b = b
-both false b = false
+-- The same as a function: the number of characters, or none where the bytes are no text. `counts` in
+-- proofs/Grammar.antt ties the two.
 
 abbrev pub inside : Range → ℕ → Bool
-inside r b = both (leb r.low b) (leb b r.high)
+inside r b = leb r.low b && leb b r.high
+
+-- `&&`, as the crates above name it
+abbrev pub both : Bool → Bool → Bool
+both a b = a && b
 
 -- what has to follow the first byte of a character
 unfoldable pub following : List (List Range) → ℕ → Option (List Range)
-following [] b = none
+following [] b = None
 following ([] ∷ g) b = following g b
-following ((r ∷ rs) ∷ g) b = elim (inside r b) [ true ↦ some rs | false ↦ following g b ]
+following ((r ∷ rs) ∷ g) b = elim (inside r b) [ true ↦ Some rs | false ↦ following g b ]
 
 abbrev pub one_more : Option ℕ → Option ℕ
-one_more none = none
-one_more (some n) = some (suc n)
+one_more None = None
+one_more (Some n) = Some (suc n)
 
 -- the number of characters that begin in s, where the last one before it still wants bytes in these ranges
 unfoldable pub count : List (List Range) → List Range → List ℕ → Option ℕ
 unfolding following
-count g [] [] = some 0
-count g (r ∷ rs) [] = none
-count g [] (b ∷ s) = elim (following g b) [ none ↦ none | some rs ↦ one_more (count g rs s) ]
-count g (r ∷ rs) (b ∷ s) = elim (inside r b) [ true ↦ count g rs s | false ↦ none ]
+count g [] [] = Some 0
+count g (r ∷ rs) [] = None
+count g [] (b ∷ s) = elim (following g b) [ None ↦ None | Some rs ↦ one_more (count g rs s) ]
+count g (r ∷ rs) (b ∷ s) = elim (inside r b) [ true ↦ count g rs s | false ↦ None ]
 
 unfoldable pub characters : List ℕ → Option ℕ
 unfolding count following

@@ -1,16 +1,12 @@
 // UTF-8: whether bytes are a text, and of how many characters.
 #![tactic(auto)]
 
-ghost use Rattle.std.specs.Prelude.{◌≡◌, ◌<◌, length, drop};
-ghost use Rattle.text.specs.Rule.{ones, head};
-ghost use Rattle.text.specs.Width.{Width, Room, SequenceAt, Decides};
+ghost use Rattle.std.specs.Prelude.{◌≡◌, ◌<◌, ◌≤◌, ◌+◌, ◌↔◌, length, IsTrue, MatchOption};
+ghost use Rattle.text.specs.Machine.{Steps, Stops};
+ghost use Rattle.text.specs.Rule.{ones, head, Later, Scalar, Sequence};
+ghost use Rattle.text.specs.Star.{Each};
+ghost use Rattle.text.specs.Width.{StartsWith, StartsWithNone, HasValue};
 ghost use Rattle.text.specs.Answer.{Tests};
-
-#[derive(Drop)]
-pub enum Text {
-    Chars(usize),
-    Broken,
-}
 
 // The least value that a sequence of each length may have: a lower one has a shorter form.
 const LEAST: [u32; 5] = [0, 0, 0x80, 0x800, 0x10000];
@@ -19,93 +15,84 @@ const LEAST: [u32; 5] = [0, 0, 0x80, 0x800, 0x10000];
 fn ones(b: u8) -> usize
     ensures { result ≡ ones b }
 {
-    u8::leading_zeros(!b) as usize
+    b.leading_ones() as usize
 }
 
 // What a first byte with n leading ones holds after them.
-fn head(b: u8, n: usize) -> u32
-    requires { (n ≡ ones b) × (n < 8) }
+fn head(b: u8, n: usize) -> u8
+    requires ones { n ≡ ones b }
+    requires short { n < 8 }
     ensures { result ≡ head b }
 {
-    (b & (0x7f >> n)) as u32
+    b & (0x7f >> n)
 }
 
-// Whether the n bytes at i are a sequence.
-fn sequence(s: &[u8], i: usize, n: usize) -> bool
-    requires { Room s.now i n }
-    ensures { Decides (SequenceAt s.now i n) result }
+// What the first byte holds, then six bits of each byte after it.
+fn value(head: u8, later: &[u8]) -> Option<u32>
+    requires { length later.now ≤ 3 }
+    ensures { MatchOption result (Each Later later.now → ⊥) (HasValue head later.now) }
 {
-    let mut value = head(s[i], n);
-    let from = i + 1;
-    let more = n - 1;
-    let mut k: usize = 0;
-    while k < more {
-        let b = s[from + k];
-        if b < 0x80 {
-            return false;
+    let mut value = u32::from(head);
+    for &b in later {
+        match b {
+            0x80..=0xbf => value = value * 64 + u32::from(b % 64),
+            _ => return None,
         }
-        if 0xbf < b {
-            return false;
-        }
-        value = value * 64 + (b - 0x80) as u32;
-        k += 1;
     }
-    if value < LEAST[n] {
-        return false;
-    }
-    if 0x10ffff < value {
-        return false;
-    }
-    if value < 0xd800 {
-        return true;
-    }
-    0xdfff < value
+    Some(value)
 }
 
-// How many bytes the character at i takes; 0 where there is none.
-fn width(s: &[u8], i: usize) -> usize
-    requires { i < length s.now }
-    ensures { Width (drop i s.now) result }
+// Whether the value is a character's: not a half of UTF-16's pairs, and not past the last one.
+fn is_scalar(value: u32) -> bool
+    ensures { IsTrue result ↔ ((value ≤ 0x10ffff) × Scalar value) }
 {
-    let first = s[i];
+    matches!(value, 0..=0xd7ff | 0xe000..=0x10ffff)
+}
+
+// Whether the first byte and those that it asks for are a sequence.
+fn is_sequence(first: u8, later: &[u8]) -> bool
+    requires { 1 + length later.now ≡ ones first }
+    ensures { IsTrue result ↔ Sequence first later.now }
+{
+    let n = 1 + later.len();
+    if !matches!(n, 2..=4) {
+        return false;
+    }
+    let Some(value) = value(head(first, n), later) else {
+        return false;
+    };
+    LEAST[n] <= value && is_scalar(value)
+}
+
+// How many bytes the character at the start takes.
+fn width(s: &[u8]) -> Option<usize>
+    ensures { MatchOption result (StartsWithNone s.now) (StartsWith s.now) }
+{
+    let (&first, rest) = s.split_first()?;
     if first < 0x80 {
-        return 1;
+        return Some(1);
     }
     let n = ones(first);
-    if n < 2 {
-        return 0;
-    }
-    if 4 < n {
-        return 0;
-    }
-    if s.len() - i < n {
-        return 0;
-    }
-    if sequence(s, i, n) {
-        return n;
-    }
-    0
+    let later = rest.get(..n - 1)?;
+    is_sequence(first, later).then_some(n)
 }
 
 // The characters are counted in the same walk that tests them.
-pub fn characters(s: &[u8]) -> Text
+pub fn characters(s: &[u8]) -> Option<usize>
     ensures { Tests s.now result }
 {
-    let mut i: usize = 0;
-    let mut count: usize = 0;
-    while i < s.len() {
-        let n = width(s, i);
-        if n == 0 {
-            return Text::Broken;
-        }
-        i += n;
+    let mut rest = s;
+    let mut count = 0;
+    while !rest.is_empty() {
+        let n = width(rest)?;
+        rest = &rest[n..];
         count += 1;
     }
-    Text::Chars(count)
+    Some(count)
 }
 
 // The class of each byte: the bytes of a class lie in the same ranges of the grammar.
-const CLASS: [u8; 256] = [
+static CLASS: [u8; 256] = [
     0, 0, 0, 0, 0, 0, 0, 0, 0, 0, 0, 0, 0, 0, 0, 0, 0, 0, 0, 0, 0, 0, 0, 0, 0, 0, 0, 0, 0, 0, 0, 0,
     0, 0, 0, 0, 0, 0, 0, 0, 0, 0, 0, 0, 0, 0, 0, 0, 0, 0, 0, 0, 0, 0, 0, 0, 0, 0, 0, 0, 0, 0, 0, 0,
     0, 0, 0, 0, 0, 0, 0, 0, 0, 0, 0, 0, 0, 0, 0, 0, 0, 0, 0, 0, 0, 0, 0, 0, 0, 0, 0, 0, 0, 0, 0, 0,
@@ -117,9 +104,10 @@ const CLASS: [u8; 256] = [
     11, 11, 11, 11,
 ];
 
-// The state after a byte of each class. A state is what the character begun still wants: 0 nothing, 1 to 3 so many later bytes, 4 to 7 what
-// follows e0, ed, f0 and f4; 8 is no text.
-const NEXT: [[u8; 12]; 8] = [
+// The state after a byte of each class. A state is what the character begun still wants: 0 nothing, 1 to 3 so many
+// later bytes, 4 to 7 what follows e0, ed, f0 and f4; 8 is no text. States and classes stay numbers, since names
+// would make the rows no plainer: a state is its row's number, a class its column's.
+static NEXT: [[u8; 12]; 8] = [
     [0, 8, 8, 8, 1, 4, 2, 5, 6, 3, 7, 8],
     [8, 0, 0, 0, 8, 8, 8, 8, 8, 8, 8, 8],
     [8, 1, 1, 1, 8, 8, 8, 8, 8, 8, 8, 8],
@@ -130,28 +118,28 @@ const NEXT: [[u8; 12]; 8] = [
     [8, 2, 8, 8, 8, 8, 8, 8, 8, 8, 8, 8],
 ];
 
-// The same test by the table. Both tables are locals, made once: a constant that is read in the loop would be made anew for each byte.
-pub fn characters_by_table(s: &[u8]) -> Text
+// The state after one more byte.
+#[inline]
+fn step(state: usize, b: u8) -> Option<usize>
+    requires { state < 8 }
+    ensures { MatchOption result (Stops state b) (λ next. (next < 8) × Steps state b next) }
+{
+    let class = usize::from(CLASS[usize::from(b)]);
+    let next = usize::from(NEXT[state][class]);
+    (next < 8).then_some(next)
+}
+
+// The same test by the tables.
+pub fn characters_by_table(s: &[u8]) -> Option<usize>
     ensures { Tests s.now result }
 {
-    let classes = CLASS;
-    let next = NEXT;
-    let mut state: usize = 0;
-    let mut i: usize = 0;
-    let mut chars: usize = 0;
-    while i < s.len() {
+    let mut state = 0;
+    let mut chars = 0;
+    for &b in s {
         if state == 0 {
             chars += 1;
         }
-        let class = classes[s[i] as usize] as usize;
-        state = next[state][class] as usize;
-        if state == 8 {
-            return Text::Broken;
-        }
-        i += 1;
+        state = step(state, b)?;
     }
-    if state == 0 {
-        return Text::Chars(chars);
-    }
-    Text::Broken
+    (state == 0).then_some(chars)
 }

@@ -4,16 +4,11 @@
 ghost use Rattle.std.specs.Prelude.{◌≡◌};
 ghost use Rattle.text_calls.specs.Numbers.{number_of, CallsTest};
 
-use text::Text;
-
-// The number of characters, or the largest number where the bytes are no text.
-fn number(t: Text) -> u64
-    ensures { result ≡ number_of t }
+// The number of characters, or the largest number where the bytes are no text: C has no `Option`.
+fn number(characters: Option<usize>) -> u64
+    ensures { result ≡ number_of characters }
 {
-    match t {
-        Text::Chars(n) => n as u64,
-        Text::Broken => 0xffffffffffffffff,
-    }
+    characters.map_or(u64::MAX, |n| n as u64)
 }
 
 #[unsafe(no_mangle)]

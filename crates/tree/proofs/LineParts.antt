@@ -1,7 +1,6 @@
 -- A node's line and the query's line, taken apart: which readers ran, on what bytes, and where those stand. From that the kind of the
 -- node is what each arm of `node_at_lem` makes of the shape byte and the digits after it.
 use mathlib.Core.List.{List, [], ◌∷◌}
-use mathlib.Core.Option.{some}
 use mathlib.Core.Path.{◌≡◌, sym, ◌∙◌, ap}
 use Prim.Native.Nat.{ℕ, ◌+◌, ◌*◌, ◌/◌, ◌%◌, ◌<◌}
 use native.Mathlib.Omega.{arith}
@@ -23,9 +22,10 @@ use Rattle.tree.specs.Stands.{LineIs, NodeIs, QueryIs}
 use Rattle.tree.specs.Nodes.{stmt_size_w, lower_w, stmts_w}
 use Rattle.tree.proofs.Readers.{Stand, stand, Reads, no_got, went, reads_pair, reads_two, Listed, listed}
 use Rattle.tree.proofs.Below.{first_below, others_below, lower_is, stmt_at, reads_statement, stmts_are}
+use Rattle.std.specs.Prelude.{Some}
 
 -- A frame that was read whole left nothing.
-whole_got : {A : Type 0} (g : Got A) (a : A) → whole g ≡ some a → g ≡ got a []
+whole_got : {A : Type 0} (g : Got A) (a : A) → whole g ≡ Some a → g ≡ got a []
 unfolding whole
 whole_got (got b []) a e = cc
 whole_got (got b (c ∷ s)) a e = no_some e
@@ -34,7 +34,7 @@ whole_got fails a e = no_some e
 line_stands : (f : List ℕ) (at size kind : ℕ) (content : List ℕ) → LineIs f at size kind content → Stand f (at + 2) content
 line_stands f at size kind content l = (stand f at (kind ∷ content) (λ k h. digits_of_line f at (kind ∷ content) l.line k h)).1
 
-line_small : (f : List ℕ) (at : ℕ) (s : List ℕ) → line_at f at ≡ some s → (i : ℕ) → i < length s → digits_w f (at + 2 * i) < 256
+line_small : (f : List ℕ) (at : ℕ) (s : List ℕ) → line_at f at ≡ Some s → (i : ℕ) → i < length s → digits_w f (at + 2 * i) < 256
 line_small f at s e i l = rw (digits_of_line f at s e i l) (byte_of_line f at s e i l)
 
 -- ---- A node's line
@@ -85,7 +85,7 @@ parts_of nd s e =
       span = sym (ap (λ (n : Syntax.Node). n.span) m);
     }
 
-pub parts : (nd : Syntax.Node) (s : List ℕ) → frame_of wide node s ≡ some (a_node nd) → Parts nd s
+pub parts : (nd : Syntax.Node) (s : List ℕ) → frame_of wide node s ≡ Some (a_node nd) → Parts nd s
 unfolding frame_of frame one
 parts nd s e =
     let w = went (span_and_kind wide s) (λ a. got (a_node a)) (a_node nd) [] (whole_got (frame wide node s) (a_node nd) e) in

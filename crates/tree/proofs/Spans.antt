@@ -2,7 +2,6 @@
 -- its bytes, and the first eight of a node's content are its span's.
 use mathlib.Core.Bool.{Bool, true, false}
 use mathlib.Core.List.{List, [], ◌∷◌, ◌++◌, append_assoc}
-use mathlib.Core.Option.{some}
 use mathlib.Core.Path.{◌≡◌, refl, sym, ◌∙◌, ap}
 use Prim.Native.Nat.{ℕ, suc, ◌+◌, ◌-◌, ◌*◌, ◌/◌, ◌%◌, ◌≤◌, ◌<◌}
 use native.Mathlib.Nat.{zero-lt-suc}
@@ -16,40 +15,38 @@ use Rattle.meaning.specs.Lines.{digit}
 use Rattle.meaning.specs.Syntax.{Node}
 use Rattle.meaning.specs.Frame.{got, four, two, byte, pair, one, and_then}
 use Rattle.meaning.specs.Answer.{bytes₂, bytes₄, hex_digit, hex_line}
-use Rattle.sigla_hex.specs.Digits.{digit_w, pair_at}
+use Rattle.sigla_hex.specs.Digits.{pair_at}
 use Rattle.sigla_hex.proofs.Values.{decimal, letter}
-use Rattle.sigla_hex.proofs.Line.{digit_below, digit_same, is_digit_lem, pair_digits}
+use Rattle.sigla_hex.proofs.Line.{digit_below, digit_same, pair_digits}
 use Rattle.sigla_hex.proofs.Bytes.{line_spells, byte_of_line}
 use Rattle.tree.specs.Stands.{NodeIs}
 use Rattle.tree.specs.Nodes.{line_start_w}
 use Rattle.tree.proofs.Readers.{no_got}
 use Rattle.tree.proofs.LineParts.{parts, kind_at}
+use Rattle.std.specs.Prelude.{Some}
 
 -- ---- Digits
 
-digit_of : (c h : ℕ) → h ≡ digit_w c → h < 16 → digit c ≡ some h
-digit_of c h e l = is_digit_lem c (omega (arith, e)) ∙ ap some (sym e)
-
-digit_written : (h : ℕ) → h < 16 → digit (hex_digit h) ≡ some h
+digit_written : (h : ℕ) → h < 16 → digit (hex_digit h) ≡ Some h
 unfolding hex_digit
 digit_written h l = go (ltb h 10) refl
   where
-    go : (t : Bool) → ltb h 10 ≡ t → digit (elim t [ true ↦ 48 + h | false ↦ 87 + h ]) ≡ some h
+    go : (t : Bool) → ltb h 10 ≡ t → digit (elim t [ true ↦ 48 + h | false ↦ 87 + h ]) ≡ Some h
     go true e =
         let s = ltb-true h 10 e in
         let z : 48 + h - 48 ≡ h = omega arith in
-        digit_of (48 + h) h (sym z ∙ decimal (48 + h) (omega arith) (omega arith)) l
+        rw z at (sym (decimal (48 + h) (omega arith) (omega arith)))
     go false e =
         let s = ltb-false h 10 e in
-        let z : 87 + h - 87 ≡ h = omega arith in
-        digit_of (87 + h) h (sym z ∙ letter (87 + h) (omega arith) (omega arith)) l
+        let z : 87 + h - 97 + 10 ≡ h = omega arith in
+        rw z at (sym (letter (87 + h) (omega arith) (omega arith)))
 
-pub digit_is_written : (c h : ℕ) → digit c ≡ some h → c ≡ hex_digit h
+pub digit_is_written : (c h : ℕ) → digit c ≡ Some h → c ≡ hex_digit h
 digit_is_written c h e = digit_same c (hex_digit h) h e (digit_written h (digit_below c h e))
 
 -- ---- Bytes
 
-pair_written : (f : List ℕ) (i b : ℕ) → pair_at f i ≡ some b → drop i f ≡ hex_digit (b / 16) ∷ hex_digit (b % 16) ∷ drop (i + 2) f
+pair_written : (f : List ℕ) (i b : ℕ) → pair_at f i ≡ Some b → drop i f ≡ hex_digit (b / 16) ∷ hex_digit (b % 16) ∷ drop (i + 2) f
 pair_written f i b e =
     let d = pair_digits f i b e in
     let h : d.h ≡ b / 16 = omega (arith, d.is, digit_below (get_or f (i + 1) 0) d.l d.low) in
@@ -63,7 +60,7 @@ pair_written f i b e =
     cc
 
 abbrev Pairs : List ℕ → ℕ → List ℕ → Type 0
-Pairs f at s = (k : ℕ) → k < length s → pair_at f (at + 2 * k) ≡ some (get_or s k 0)
+Pairs f at s = (k : ℕ) → k < length s → pair_at f (at + 2 * k) ≡ Some (get_or s k 0)
 
 others : (f : List ℕ) (at b : ℕ) (s : List ℕ) → Pairs f at (b ∷ s) → Pairs f (at + 2) s
 others f at b s h k l = let z : at + 2 * suc k ≡ at + 2 + 2 * k = omega arith in rw z at (h (suc k) (omega arith))

@@ -1,7 +1,6 @@
 -- What the work slice holds after a file was read, together with the file's text: the schema and the tree that it describes.
 -- The checker builds on this.
-use Rattle.std.specs.Prelude.{List, [], ◌∷◌, ◌≡◌, ℕ, suc, ◌+◌, ◌*◌, ◌/◌, ◌%◌, ◌≤◌, ◌<◌, T, eqb, length, get_or}
-use Rattle.std.proofs.Math.Option.{Option, none, some}
+use Rattle.std.specs.Prelude.{List, [], ◌∷◌, ◌≡◌, ℕ, suc, ◌+◌, ◌*◌, ◌/◌, ◌%◌, ◌≤◌, ◌<◌, T, eqb, length, get_or, None, Option, Some}
 use Rattle.unification.specs.Ty as Tree
 use Rattle.work.specs.Layout.{NAME-COUNT, TYPE-COUNT, PREDICATE-COUNT, NODE-COUNT, VALUE-NAME, MAX-DISTANCE, MAX-TERM, QUERY, NAMES, TYPES, PREDICATES, NODES, FIELDS, RECORD-COUNT, END}
 use Rattle.cells.specs.declared.Kind.{Kind}
@@ -17,14 +16,14 @@ use Rattle.sigla_hex.specs.Digits.{line_at}
 
 -- A line of this kind and content stands at a place, and has so many bytes.
 pub record LineIs (f : List ℕ) (at size kind : ℕ) (content : List ℕ) : Type 0 where
-  pub line : line_at f at ≡ some (kind ∷ content)
+  pub line : line_at f at ≡ Some (kind ∷ content)
   pub long : size ≡ length (kind ∷ content)
 
 -- in a file of this edition
 pub record NodeIn (e : Edition) (f w : List ℕ) (n : ℕ) (nd : Node) : Type 0 where
   pub content : List ℕ
   pub line : LineIs f (get_or w (NODES + n) 0 / 2048) (get_or w (NODES + n) 0 / 2 % 1024) 0x05 content
-  pub frame : frame_of e node content ≡ some (a_node nd)
+  pub frame : frame_of e node content ≡ Some (a_node nd)
 
 abbrev pub NodeIs : List ℕ → List ℕ → ℕ → Node → Type 0
 NodeIs f w n nd = NodeIn wide f w n nd
@@ -32,7 +31,7 @@ NodeIs f w n nd = NodeIn wide f w n nd
 pub record QueryIs (f w : List ℕ) (q : Query) : Type 0 where
   pub content : List ℕ
   pub line : LineIs f (get_or w QUERY 0 / 1024) (get_or w QUERY 0 % 1024) 0x06 content
-  pub frame : frame_of wide query content ≡ some (the_query q)
+  pub frame : frame_of wide query content ≡ Some (the_query q)
 
 -- ---- The schema
 
@@ -45,7 +44,7 @@ pub record TypeCells (w : List ℕ) (T : Rows) (n : ℕ) : Type 0 where
   pub tags : (c : ℕ) → c < n → get_or w (TYPES + 2 * c) 0 % 16 < 7
 
 abbrev pub value_of : Rows → List ℕ → ℕ → Option Tree.Ty
-value_of T w x = pick (eqb (x % 2) 1) (some (tree T (declared_w w (x / 2 % 256)))) none
+value_of T w x = pick (eqb (x % 2) 1) (Some (tree T (declared_w w (x / 2 % 256)))) None
 
 pub record PredicateIs (w : List ℕ) (T : Rows) (n : ℕ) (p : ℕ) (d : Predicate) : Type 0 where
   pub name : d.name ≡ get_or w (PREDICATES + p) 0 / 131072
@@ -55,16 +54,16 @@ pub record PredicateIs (w : List ℕ) (T : Rows) (n : ℕ) (p : ℕ) (d : Predic
   pub value_there : get_or w (PREDICATES + p) 0 % 2 ≡ 1 → get_or w (PREDICATES + p) 0 / 2 % 256 < n
 
 unfoldable pub no_predicate : Predicate
-no_predicate = record { name = 0; key = Tree.Error; value = none }
+no_predicate = record { name = 0; key = Tree.Error; value = None }
 
 -- one more than a number, or 0 for none
 abbrev pub numbered : Option ℕ → ℕ
-numbered none = 0
-numbered (some n) = suc n
+numbered None = 0
+numbered (Some n) = suc n
 
 -- A name's word has the place of its line, which has its text.
 abbrev pub NameIs : List ℕ → List ℕ → ℕ → List ℕ → Type 0
-NameIs f w n text = line_at f (get_or w (NAMES + n) 0 / 512) ≡ some (0x02 ∷ text)
+NameIs f w n text = line_at f (get_or w (NAMES + n) 0 / 512) ≡ Some (0x02 ∷ text)
 
 -- The schema and the names' texts.
 pub record SchemaStands (f w : List ℕ) (T : Rows) (ts : List (List ℕ)) (s : Schema) : Type 0 where

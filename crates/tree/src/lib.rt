@@ -2,10 +2,18 @@
 #![tactic(auto)]
 
 ghost use Rattle.std.specs.Prelude.{◌≡◌, ℕ, ◌+◌, ◌*◌, ◌<◌, ◌≤◌};
-ghost use Rattle.sigla_hex.specs.Digits.{digits_w, half_at};
+ghost use Rattle.sigla_hex.specs.Digits.{digit_w, digits_w, half_at};
 ghost use Rattle.tree.specs.Nodes.{lower_w, full_at, field_w, item_w, stmt_w, stmt_size_w, line_start_w, items_w, parent_w, IsNode, head_w, body_w};
 
 use work::{line_place, line_size, node_line, wide, word};
+
+// A digit's value, and 16 for any other byte.
+#[tactic(auto, unfolding(sigla_hex::specs::Digits::digit_w))]
+fn digit(b: u8) -> u32
+    ensures { (result ≡ digit_w b) × (result < 17) }
+{
+    sigla_hex::digit(b).map_or(16, u32::from)
+}
 
 // The byte of two digits, and 0 past the end. A place is below 2^40, so that what is added to it fits.
 fn hex_byte(f: &[u8], i: usize) -> u32
@@ -16,7 +24,7 @@ fn hex_byte(f: &[u8], i: usize) -> u32
     if f.len() <= j {
         return 0;
     }
-    (sigla_hex::digit(f[i]) as u32) * 16 + (sigla_hex::digit(f[j]) as u32)
+    digit(f[i]) * 16 + digit(f[j])
 }
 
 fn hex_half(f: &[u8], i: usize) -> u32

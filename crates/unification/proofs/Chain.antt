@@ -2,7 +2,6 @@
 -- rest of the chain does without that binding, and there is one fewer. So `repr` ends at no bound unknown.
 use mathlib.Core.Logic.{◌≢◌, ◌⊎◌, inl, inr, by_cases}
 use mathlib.Core.List.{[], ◌∷◌}
-use mathlib.Core.Option.{Option, none, some}
 use mathlib.Core.Path.{◌≡◌, refl, sym, ◌∙◌, ap}
 use Prim.Native.Nat.{ℕ, zero, suc, ◌≤◌}
 use native.Mathlib.Decide.{ℕ_discrete}
@@ -15,8 +14,9 @@ use Rattle.unification.proofs.Tests.{clash}
 use Rattle.unification.proofs.Reach.{bound_other, follow_reaches}
 use Rattle.unification.specs.Acyclic.{Acyclic}
 use Rattle.unification.proofs.Acyclic.{no_loop, Among, acyclic_among}
+use Rattle.std.specs.Prelude.{None, Option, Some}
 
-pub not_behind : (s : Subst) → Acyclic s → (x : ℕ) (t : Ty) → bound s x ≡ some t → ¬ Reaches s t (Var x)
+pub not_behind : (s : Subst) → Acyclic s → (x : ℕ) (t : Ty) → bound s x ≡ Some t → ¬ Reaches s t (Var x)
 unfolding NoLoop LeadsBack
 not_behind s A x t e h = no_loop s A x (t, e, h)
 
@@ -40,31 +40,31 @@ cell_reaches s k l t r z (later h) = inr h
 -- ---- One binding fewer
 pub count : Subst → ℕ
 count [] = zero
-count (none ∷ s) = count s
-count (some t ∷ s) = suc (count s)
+count (None ∷ s) = count s
+count (Some t ∷ s) = suc (count s)
 
 pub count_le : (s : Subst) → count s ≤ length s
 unfolding count
 count_le [] = omega arith
-count_le (none ∷ s) = omega (arith, count_le s)
-count_le (some t ∷ s) = omega (arith, count_le s)
+count_le (None ∷ s) = omega (arith, count_le s)
+count_le (Some t ∷ s) = omega (arith, count_le s)
 
 unfoldable pub unset : Subst → ℕ → Subst
-unset s x = set s x none
+unset s x = set s x None
 
-pub count_unset : (s : Subst) (x : ℕ) (t : Ty) → bound s x ≡ some t → count s ≡ suc (count (unset s x))
+pub count_unset : (s : Subst) (x : ℕ) (t : Ty) → bound s x ≡ Some t → count s ≡ suc (count (unset s x))
 unfolding count unset bound
 count_unset [] x t e = clash (cc)
-count_unset (none ∷ s) zero t e = clash (cc)
-count_unset (some u ∷ s) zero t e = refl
-count_unset (none ∷ s) (suc x) t e = count_unset s x t e
-count_unset (some u ∷ s) (suc x) t e = ap suc (count_unset s x t e)
+count_unset (None ∷ s) zero t e = clash (cc)
+count_unset (Some u ∷ s) zero t e = refl
+count_unset (None ∷ s) (suc x) t e = count_unset s x t e
+count_unset (Some u ∷ s) (suc x) t e = ap suc (count_unset s x t e)
 
 pub unset_other : (s : Subst) (x y : ℕ) → y ≢ x → bound (unset s x) y ≡ bound s y
 unfolding unset
-unset_other s x y n = bound_other s x y none n
+unset_other s x y n = bound_other s x y None n
 
-unset_same : (s : Subst) (x : ℕ) → bound (unset s x) x ≡ none
+unset_same : (s : Subst) (x : ℕ) → bound (unset s x) x ≡ None
 unfolding bound unset
 unset_same [] x = refl
 unset_same (o ∷ s) zero = refl
@@ -92,12 +92,12 @@ mutual
 
 -- ---- `repr`
 
-follow_free : (k : ℕ) (s : Subst) (x : ℕ) → bound s x ≡ none → follow k s (Var x) ≡ Var x
+follow_free : (k : ℕ) (s : Subst) (x : ℕ) → bound s x ≡ None → follow k s (Var x) ≡ Var x
 unfolding follow
 follow_free zero s x e = refl
 follow_free (suc k) s x e = rw (e, follow)
 
-follow_bound : (k : ℕ) (s : Subst) (x : ℕ) (t : Ty) → bound s x ≡ some t → follow (suc k) s (Var x) ≡ follow k s t
+follow_bound : (k : ℕ) (s : Subst) (x : ℕ) (t : Ty) → bound s x ≡ Some t → follow (suc k) s (Var x) ≡ follow k s t
 unfolding follow
 follow_bound k s x t e = rw (e, follow)
 
@@ -121,8 +121,8 @@ follow_unset (suc k) s x (Var y) off = go (bound s y) refl (λ t. follow_unset k
 
     go : (o : Option Ty) → bound s y ≡ o → ((t : Ty) → ¬ Reaches s t (Var x) → follow k (unset s x) t ≡ follow k s t)
         → follow (suc k) (unset s x) (Var y) ≡ follow (suc k) s (Var y)
-    go none e ih = rw (same, e, follow)
-    go (some t) e ih = rw (same, e, follow) (ih t (λ h. off (through e h)))
+    go None e ih = rw (same, e, follow)
+    go (Some t) e ih = rw (same, e, follow) (ih t (λ h. off (through e h)))
 
 resolved_set : (s : Subst) (x : ℕ) (t : Ty) → ¬ Reaches s t (Var x) → Resolved (unset s x) t → Resolved s t
 resolved_set s x (leaf p) off h = tt
@@ -139,8 +139,8 @@ follow_resolved zero s le A Error = tt
 follow_resolved zero s le A (Var x) = go (bound s x) refl
   where
     go : (o : Option Ty) → bound s x ≡ o → Resolved s (follow 1 s (Var x))
-    go none e = rw (follow_free 1 s x e) e
-    go (some t) e = absurd (omega (arith, count_unset s x t e))
+    go None e = rw (follow_free 1 s x e) e
+    go (Some t) e = absurd (omega (arith, count_unset s x t e))
 follow_resolved (suc c) s le A (leaf p) = tt
 follow_resolved (suc c) s le A (node k r) = tt
 follow_resolved (suc c) s le A Error = tt
@@ -148,8 +148,8 @@ follow_resolved (suc c) s le A (Var x) = go (bound s x) refl (λ s' l A' t. foll
   where
     go : (o : Option Ty) → bound s x ≡ o → ((s' : Subst) → count s' ≤ c → Acyclic s' → (t : Ty) → Resolved s' (follow (suc c) s' t))
         → Resolved s (follow (suc (suc c)) s (Var x))
-    go none e ih = rw (follow_free (suc (suc c)) s x e) e
-    go (some t) e ih =
+    go None e ih = rw (follow_free (suc (suc c)) s x e) e
+    go (Some t) e ih =
         let off = not_behind s A x t e in
         let there = ih (unset s x) (omega (arith, count_unset s x t e)) (unset_acyclic s x A) t in
         rw (follow_bound (suc c) s x t e)
@@ -175,5 +175,5 @@ follow_settled (suc k) (suc j) s (Var x) le h = go (bound s x) refl (λ t. follo
   where
     go : (o : Option Ty) → bound s x ≡ o → ((t : Ty) → Resolved s (follow k s t) → follow j s t ≡ follow k s t)
         → follow (suc j) s (Var x) ≡ follow (suc k) s (Var x)
-    go none e ih = follow_free (suc j) s x e ∙ sym (follow_free (suc k) s x e)
-    go (some t) e ih = follow_bound j s x t e ∙ ih t (rw (follow_bound k s x t e) at h) ∙ sym (follow_bound k s x t e)
+    go None e ih = follow_free (suc j) s x e ∙ sym (follow_free (suc k) s x e)
+    go (Some t) e ih = follow_bound j s x t e ∙ ih t (rw (follow_bound k s x t e) at h) ∙ sym (follow_bound k s x t e)

@@ -2,7 +2,6 @@
 -- snapshot keeps the state of then, from which the present one is a stretch that a rollback undoes.
 use mathlib.Core.Bool.{Bool, true, false}
 use mathlib.Core.List.{List, [], ◌∷◌, ◌++◌, append_assoc}
-use mathlib.Core.Option.{Option, none}
 use mathlib.Core.Path.{◌≡◌, refl, ◌∙◌, ap}
 use mathlib.Core.WellFounded.Acc
 use Prim.Native.Nat.{ℕ, ◌+◌, ◌-◌, ◌≤◌}
@@ -25,39 +24,40 @@ use Rattle.unification.proofs.Undo.{rollback_subst, rollback_tys, rollback_undo,
 use Rattle.unification.proofs.Kept.{After, Kept, unify_kept}
 use Rattle.unification.proofs.Post.{Any, Moments, Known, Post}
 use Rattle.unification.proofs.Sound.{noted_end, unify_post}
+use Rattle.std.specs.Prelude.{None, Option}
 
 -- ---- What holds of a state
 pub record Sound (st : State) : Type 0 where
   pub wf : Wf st.subst
   pub known : Known st.subst st.history
 
-claim_pad : (s : Subst) (n : ℕ) (h : History) → BindingsClaim Any s h → BindingsClaim Any (s ++ replicate n none) h
+claim_pad : (s : Subst) (n : ℕ) (h : History) → BindingsClaim Any s h → BindingsClaim Any (s ++ replicate n None) h
 unfolding BindingsClaim
 claim_pad s n h c m σ any =
     let e = c m σ tt in (
-      λ R. e.0 (respects_among σ s (s ++ replicate n none) (λ x t q. bound_pad s n x ∙ q) R),
-      λ q. respects_among σ (s ++ replicate n none) s (pad_among s n) (e.1 q),
+      λ R. e.0 (respects_among σ s (s ++ replicate n None) (λ x t q. bound_pad s n x ∙ q) R),
+      λ q. respects_among σ (s ++ replicate n None) s (pad_among s n) (e.1 q),
     )
 
 -- Free unknowns after free unknowns.
-pad_pad : (then s : Subst) (k n : ℕ) → s ≡ then ++ replicate k none → s ++ replicate n none ≡ then ++ replicate (k + n) none
+pad_pad : (then s : Subst) (k n : ℕ) → s ≡ then ++ replicate k None → s ++ replicate n None ≡ then ++ replicate (k + n) None
 pad_pad then s k n e =
-    ap {B = Subst} (λ r. r ++ replicate n none) e ∙ append_assoc then (replicate k none) (replicate n none)
-    ∙ ap {B = Subst} (λ r. then ++ r) (replicate-append-replicate k n none)
+    ap {B = Subst} (λ r. r ++ replicate n None) e ∙ append_assoc then (replicate k None) (replicate n None)
+    ∙ ap {B = Subst} (λ r. then ++ r) (replicate-append-replicate k n None)
 
-pad_length : (s : Subst) (n : ℕ) → length (s ++ replicate n none) ≡ length s + n
-pad_length s n = omega (arith, length-append s (replicate n none), length-replicate {A = Option Ty} n none)
+pad_length : (s : Subst) (n : ℕ) → length (s ++ replicate n None) ≡ length s + n
+pad_length s n = omega (arith, length-append s (replicate n None), length-replicate {A = Option Ty} n None)
 
 noted_long : (s : Subst) (h : History) → Noted s h → length (bindings_at h) ≤ length s
 unfolding Noted
 noted_long s h e = omega (arith, ap length e, pad_length (bindings_at h) (length s - length (bindings_at h)))
 
-noted_pad : (s : Subst) (n : ℕ) (h : History) → Noted s h → Noted (s ++ replicate n none) h
+noted_pad : (s : Subst) (n : ℕ) (h : History) → Noted s h → Noted (s ++ replicate n None) h
 unfolding Noted
 noted_pad s n h e =
     let b = bindings_at h in
-    let more : length s - length b + n ≡ length (s ++ replicate n none) - length b = omega (arith, pad_length s n, noted_long s h e) in
-    pad_pad b s (length s - length b) n e ∙ ap {B = Subst} (λ k. b ++ replicate k none) more
+    let more : length s - length b + n ≡ length (s ++ replicate n None) - length b = omega (arith, pad_length s n, noted_long s h e) in
+    pad_pad b s (length s - length b) n e ∙ ap {B = Subst} (λ k. b ++ replicate k None) more
 
 sound_after : (st : State) (A : Type 0) (C : (ℕ → Ty) → Type 0) (res : Unified) → Sound st → Post st.subst st.history A C res → After Sound res
 sound_after st A C (Ok b) h p = record { wf = p.step.wf; known = record { moments = p.step.moments h.known; here = p.here h.known } }
@@ -97,7 +97,7 @@ module _ (n : ℕ) (then st : State) (p : Since n then st) where
       let b = bindings_at then.history in
       let e = h.known.here.noted in
       let more : length s - length b + n ≡ length st.subst - length b = omega (arith, since_length p, noted_long s then.history e) in
-      rollback_subst p ∙ pad_pad b s (length s - length b) n e ∙ ap {B = Subst} (λ k. b ++ replicate k none) more
+      rollback_subst p ∙ pad_pad b s (length s - length b) n e ∙ ap {B = Subst} (λ k. b ++ replicate k None) more
 
   rolled_sound : Sound then → Sound st → Sound (rollback st (snapshot then))
   unfolding rollback snapshot with_history BindingsClaim live Noted
@@ -114,8 +114,8 @@ module _ (n : ℕ) (then st : State) (p : Since n then st) where
   rolled_since = record {
     new = [];
     undo = rollback_undo p;
-    subst = λ k. rw (rollback_subst p) (append_assoc then.subst (replicate n none) (replicate k none) ∙ ap {B = Subst} (λ r. then.subst ++ r)
-        (replicate-append-replicate n k none));
+    subst = λ k. rw (rollback_subst p) (append_assoc then.subst (replicate n None) (replicate k None) ∙ ap {B = Subst} (λ r. then.subst ++ r)
+        (replicate-append-replicate n k None));
     tys = rollback_tys p;
     left = omega (arith, rollback_left p, p.left);
   }

@@ -1,7 +1,6 @@
 -- Each entry costs a visit and visits never grow, so any depth not below the visits left gives the same unification.
 use mathlib.Core.Bool.{Bool, true, false}
 use mathlib.Core.List.{List, [], ◌∷◌}
-use mathlib.Core.Option.{Option, none, some}
 use mathlib.Core.Path.{◌≡◌, refl, sym, ◌∙◌, ap}
 use Prim.Native.Nat.{ℕ, zero, suc, ◌≤◌}
 use native.Mathlib.Omega.{arith}
@@ -12,6 +11,7 @@ use Rattle.unification.specs.Unify.{UnionDiff, TyError, Unified, Ok, Err, Spent,
 use Rattle.unification.specs.Unify.{discriminants, unify_alternative, unify_alternatives, unify_union, unify_nodes, unify_heads, note, unify_in, unify}
 use Rattle.unification.proofs.Occurs.{occurs_depth}
 use Rattle.unification.proofs.Kept.{After, Kept, heads_in, unify_in_spent, unify_in_visit, unify_in_kept, kept_field, kept_alternative}
+use Rattle.std.specs.Prelude.{None, Option, Some}
 
 bind_var_depth : (d e : ℕ) (st : State) (x : ℕ) (t : Ty) → st.left ≤ d → st.left ≤ e → bind_var d st x t ≡ bind_var e st x t
 unfolding bind_var
@@ -33,8 +33,8 @@ module _ (u u' : State → Ty → Ty → Unified) (m : ℕ) (rec : (st : State) 
     (agree : (st : State) (a b : Ty) → st.left ≤ m → u st a b ≡ u' st a b) where
   field_depth : (st : State) (k : ℕ) (x : Ty) (o : Option (ℕ × Ty)) → st.left ≤ m → unify_field u st k x o ≡ unify_field u' st k x o
   unfolding unify_field
-  field_depth st k x none le = refl
-  field_depth st k x (some y) le = agree st x y.1 le
+  field_depth st k x None le = refl
+  field_depth st k x (Some y) le = agree st x y.1 le
 
   fields_depth : (st : State) (xs ys : Row) → st.left ≤ m → unify_fields u st xs ys ≡ unify_fields u' st xs ys
   unfolding unify_fields
@@ -53,12 +53,12 @@ module _ (u u' : State → Ty → Ty → Unified) (m : ℕ) (rec : (st : State) 
   alternative_depth : (st : State) (differ : UnionDiff → TyError) (k : ℕ) (o o' : Option (ℕ × Ty)) → st.left ≤ m
       → unify_alternative u st differ k o o' ≡ unify_alternative u' st differ k o o'
   unfolding unify_alternative
-  alternative_depth st differ k none none le = refl
-  alternative_depth st differ k none (some y) le = refl
-  alternative_depth st differ k (some x) none le = refl
-  alternative_depth st differ k (some x) (some y) le = go (eqb x.0 y.0) refl
+  alternative_depth st differ k None None le = refl
+  alternative_depth st differ k None (Some y) le = refl
+  alternative_depth st differ k (Some x) None le = refl
+  alternative_depth st differ k (Some x) (Some y) le = go (eqb x.0 y.0) refl
     where
-      go : (b : Bool) → eqb x.0 y.0 ≡ b → unify_alternative u st differ k (some x) (some y) ≡ unify_alternative u' st differ k (some x) (some y)
+      go : (b : Bool) → eqb x.0 y.0 ≡ b → unify_alternative u st differ k (Some x) (Some y) ≡ unify_alternative u' st differ k (Some x) (Some y)
       go true q = rw (q, unify_alternative, agree st x.1 y.1 le)
       go false q = rw (q, unify_alternative)
 

@@ -2,7 +2,6 @@
 -- left never growing among it. So a depth not below the visits left is as good as any other.
 use mathlib.Core.Bool.{Bool, true, false}
 use mathlib.Core.List.{List, [], ◌∷◌}
-use mathlib.Core.Option.{Option, none, some}
 use mathlib.Core.Path.{◌≡◌, refl, ◌∙◌, ap}
 use Prim.Native.Nat.{ℕ, zero, suc, ◌≤◌}
 use native.Mathlib.Decide.{ℕ_discrete}
@@ -17,6 +16,7 @@ use Rattle.unification.specs.Unify.{unify_record, discriminants, unify_alternati
 use Rattle.unification.specs.Unify.{unify_in, unify}
 use Rattle.unification.proofs.Occurs.{Fewer, occurs_fewer}
 use Rattle.unification.proofs.Undo.{Since, since_refl, since_trans, since_length, since_history, since_set_var, since_left}
+use Rattle.std.specs.Prelude.{None, Option, Some}
 
 -- Of the state in which a unification ended, however it ended.
 abbrev pub After : (State → Type 0) → Unified → Type 0
@@ -77,8 +77,8 @@ kept_bind_var d st x t = go (occurs d st.subst x st.left t) refl (occurs_fewer d
 module _ (u : State → Ty → Ty → Unified) (rec : (st : State) (a b : Ty) → After (Kept st) (u st a b)) where
   pub kept_field : (st : State) (k : ℕ) (x : Ty) (o : Option (ℕ × Ty)) → After (Kept st) (unify_field u st k x o)
   unfolding unify_field
-  kept_field st k x none = kept_refl st
-  kept_field st k x (some y) = rec st x y.1
+  kept_field st k x None = kept_refl st
+  kept_field st k x (Some y) = rec st x y.1
 
   kept_fields : (st : State) (xs ys : Row) → After (Kept st) (unify_fields u st xs ys)
   unfolding unify_fields
@@ -96,12 +96,12 @@ module _ (u : State → Ty → Ty → Unified) (rec : (st : State) (a b : Ty) �
 
   pub kept_alternative : (st : State) (differ : UnionDiff → TyError) (k : ℕ) (o o' : Option (ℕ × Ty)) → After (Kept st) (unify_alternative u st differ k o o')
   unfolding unify_alternative
-  kept_alternative st differ k none none = kept_refl st
-  kept_alternative st differ k none (some y) = kept_refl st
-  kept_alternative st differ k (some x) none = kept_refl st
-  kept_alternative st differ k (some x) (some y) = go (eqb x.0 y.0) refl
+  kept_alternative st differ k None None = kept_refl st
+  kept_alternative st differ k None (Some y) = kept_refl st
+  kept_alternative st differ k (Some x) None = kept_refl st
+  kept_alternative st differ k (Some x) (Some y) = go (eqb x.0 y.0) refl
     where
-      go : (b : Bool) → eqb x.0 y.0 ≡ b → After (Kept st) (unify_alternative u st differ k (some x) (some y))
+      go : (b : Bool) → eqb x.0 y.0 ≡ b → After (Kept st) (unify_alternative u st differ k (Some x) (Some y))
       go true q = rw (q, unify_alternative) (kept_map_err st _ (u st x.1 y.1) (rec st x.1 y.1))
       go false q = rw (q, unify_alternative) (kept_refl st)
 

@@ -3,7 +3,6 @@
 use mathlib.Core.List.{[], ◌∷◌, ◌++◌}
 use mathlib.Core.Bool.{true}
 use mathlib.Core.Logic.{◌↔◌}
-use mathlib.Core.Option.{none, some}
 use mathlib.Core.Path.{◌≡◌, refl, sym, ◌∙◌, ap}
 use Prim.Native.Nat.{ℕ, suc, ◌-◌}
 use native.Mathlib.Omega.{arith}
@@ -22,6 +21,7 @@ use Rattle.unification.proofs.Undo.{rewind_subst, unbind_length}
 use Rattle.unification.proofs.Kept.{heads_in, unify_in_visit}
 use Rattle.unification.proofs.Depth.{unify_depth}
 use Rattle.unification.proofs.Demand3.{demand_3}
+use Rattle.std.specs.Prelude.{None, Some}
 
 -- What is seen of an end: the error, the bindings, the visits left.
 pub data Seen : Type 0 where
@@ -45,13 +45,13 @@ unify_resolved st v a b e p q =
     ∙ rw (repr_resolved_is st.subst a p, repr_resolved_is st.subst b q)
 
 -- An unbound unknown beside Error becomes Error, on either side, with no occurs check.
-pub var_beside_error : (st : State) (x v : ℕ) → st.left ≡ suc v → bound st.subst x ≡ none
-    → seen (unify st (Var x) Error) ≡ succeeds (set st.subst x (some Error)) v
+pub var_beside_error : (st : State) (x v : ℕ) → st.left ≡ suc v → bound st.subst x ≡ None
+    → seen (unify st (Var x) Error) ≡ succeeds (set st.subst x (Some Error)) v
 unfolding seen note unify_heads with_left set_var
 var_beside_error st x v e free = ap seen (unify_resolved st v (Var x) Error e free tt)
 
-pub error_beside_var : (st : State) (x v : ℕ) → st.left ≡ suc v → bound st.subst x ≡ none
-    → seen (unify st Error (Var x)) ≡ succeeds (set st.subst x (some Error)) v
+pub error_beside_var : (st : State) (x v : ℕ) → st.left ≡ suc v → bound st.subst x ≡ None
+    → seen (unify st Error (Var x)) ≡ succeeds (set st.subst x (Some Error)) v
 unfolding seen note unify_heads with_left set_var
 error_beside_var st x v e free = ap seen (unify_resolved st v Error (Var x) e tt free)
 
@@ -93,7 +93,7 @@ pub fresh_next : (st : State) → fresh_id (fresh st) ≡ suc (fresh_id st)
 unfolding fresh_id fresh
 fresh_next st = go st.subst
   where
-    go : (s : Subst) → length (s ++ none ∷ []) ≡ suc (length s)
+    go : (s : Subst) → length (s ++ None ∷ []) ≡ suc (length s)
     go [] = refl
     go (o ∷ s) = ap suc (go s)
 
@@ -120,15 +120,15 @@ two k t k' t' = node Record (cell k 0 t (cell k' 0 t' ε))
 abbrev alternatives : ℕ → ℕ → Ty → ℕ → ℕ → Ty → Ty
 alternatives name k t name' k' t' = node Union (cell k name t (cell k' name' t' ε))
 
-unknown_takes_error : try (none ∷ []) 9 (Var 0) Error ≡ succeeds (some Error ∷ []) 8
+unknown_takes_error : try (None ∷ []) 9 (Var 0) Error ≡ succeeds (Some Error ∷ []) 8
 unfolding try
 unknown_takes_error = refl
 
-error_given_unknown : try (none ∷ []) 9 Error (Var 0) ≡ succeeds (some Error ∷ []) 8
+error_given_unknown : try (None ∷ []) 9 Error (Var 0) ≡ succeeds (Some Error ∷ []) 8
 unfolding try
 error_given_unknown = refl
 
-int_beside_error : try (none ∷ []) 9 int Error ≡ succeeds (none ∷ []) 8
+int_beside_error : try (None ∷ []) 9 int Error ≡ succeeds (None ∷ []) 8
 unfolding try
 int_beside_error = refl
 
@@ -150,30 +150,30 @@ unfolding try
 counts_first = refl
 
 -- A failure keeps the bindings made so far.
-failure_keeps_bindings : try (none ∷ []) 9 (two 1 (Var 0) 2 int) (two 1 int 2 string) ≡ fails (Mismatch string int) (some int ∷ []) 5
+failure_keeps_bindings : try (None ∷ []) 9 (two 1 (Var 0) 2 int) (two 1 int 2 string) ≡ fails (Mismatch string int) (Some int ∷ []) 5
 unfolding try
 failure_keeps_bindings = refl
 
 -- An unknown is bound to what stands opposite, at the end of its chain; one visit for the entry, one for the occurs check.
-binds_found_side : try (none ∷ none ∷ []) 9 (Var 0) (Var 1) ≡ succeeds (some (Var 1) ∷ none ∷ []) 7
+binds_found_side : try (None ∷ None ∷ []) 9 (Var 0) (Var 1) ≡ succeeds (Some (Var 1) ∷ None ∷ []) 7
 unfolding try
 binds_found_side = refl
 
-binds_chain_end : try (some (Var 1) ∷ none ∷ []) 9 int (Var 0) ≡ succeeds (some (Var 1) ∷ some int ∷ []) 7
+binds_chain_end : try (Some (Var 1) ∷ None ∷ []) 9 int (Var 0) ≡ succeeds (Some (Var 1) ∷ Some int ∷ []) 7
 unfolding try
 binds_chain_end = refl
 
-same_unknown : try (none ∷ []) 9 (Var 0) (Var 0) ≡ succeeds (none ∷ []) 8
+same_unknown : try (None ∷ []) 9 (Var 0) (Var 0) ≡ succeeds (None ∷ []) 8
 unfolding try
 same_unknown = refl
 
 -- The occurs check goes through bindings and visits each part.
-infinite : try (none ∷ some (Var 0) ∷ []) 9 (Var 0) (two 1 int 2 (Var 1)) ≡ fails Infinite (none ∷ some (Var 0) ∷ []) 5
+infinite : try (None ∷ Some (Var 0) ∷ []) 9 (Var 0) (two 1 int 2 (Var 1)) ≡ fails Infinite (None ∷ Some (Var 0) ∷ []) 5
 unfolding try
 infinite = refl
 
 -- Discriminants ascending; for each its presence, then the name, then the payload.
-alternatives_in_any_order : try (none ∷ []) 9 (alternatives 7 2 int 7 1 string) (alternatives 7 1 string 7 2 (Var 0)) ≡ succeeds (some int ∷ []) 5
+alternatives_in_any_order : try (None ∷ []) 9 (alternatives 7 2 int 7 1 string) (alternatives 7 1 string 7 2 (Var 0)) ≡ succeeds (Some int ∷ []) 5
 unfolding try
 alternatives_in_any_order = refl
 
@@ -197,36 +197,36 @@ no_visit : try [] 0 int string ≡ stops [] 0
 unfolding try
 no_visit = refl
 
-stops_in_fields : try (none ∷ none ∷ []) 3 (two 1 (Var 0) 2 (Var 1)) (two 1 int 2 int) ≡ stops (some int ∷ none ∷ []) 0
+stops_in_fields : try (None ∷ None ∷ []) 3 (two 1 (Var 0) 2 (Var 1)) (two 1 int 2 int) ≡ stops (Some int ∷ None ∷ []) 0
 unfolding try
 stops_in_fields = refl
 
-stops_in_occurs : try (none ∷ []) 2 (Var 0) (one 1 (Var 0)) ≡ stops (none ∷ []) 0
+stops_in_occurs : try (None ∷ []) 2 (Var 0) (one 1 (Var 0)) ≡ stops (None ∷ []) 0
 unfolding try
 stops_in_occurs = refl
 
-last_visit : try (none ∷ []) 3 (Var 0) (one 1 (Var 0)) ≡ fails Infinite (none ∷ []) 0
+last_visit : try (None ∷ []) 3 (Var 0) (one 1 (Var 0)) ≡ fails Infinite (None ∷ []) 0
 unfolding try
 last_visit = refl
 
 -- A rollback past a new unknown: both bindings go, both unknowns stay, the annotation goes.
 unfoldable made : State
 unfolding fresh
-made = fresh (record { subst = []; tys = none ∷ []; undo = []; left = 9; history = start })
+made = fresh (record { subst = []; tys = None ∷ []; undo = []; left = 9; history = start })
 
 unfoldable later : State
 unfolding made fresh set_var annotate
 later = annotate (set_var (set_var (fresh made) 1 int) 0 (Var 1)) 0 int
 
-rollback_past_unknown : (rollback later (snapshot made)).subst ≡ none ∷ none ∷ []
+rollback_past_unknown : (rollback later (snapshot made)).subst ≡ None ∷ None ∷ []
 unfolding later rollback snapshot
 rollback_past_unknown = refl
 
-rollback_annotation : (rollback later (snapshot made)).tys ≡ none ∷ []
+rollback_annotation : (rollback later (snapshot made)).tys ≡ None ∷ []
 unfolding later rollback snapshot
 rollback_annotation = refl
 
-zonks_every_depth : zonk (some (one 1 (Var 1)) ∷ some (Var 2) ∷ none ∷ []) (two 1 (Var 0) 2 int) ≡ two 1 (one 1 (Var 2)) 2 int
+zonks_every_depth : zonk (Some (one 1 (Var 1)) ∷ Some (Var 2) ∷ None ∷ []) (two 1 (Var 0) 2 int) ≡ two 1 (one 1 (Var 2)) 2 int
 unfolding zonk
 zonks_every_depth = refl
 
@@ -235,7 +235,7 @@ admitted_int : (s : Subst) → Admitted s int
 unfolding Admitted
 admitted_int s u itself = tt
 
-admitted_free : (s : Subst) (x : ℕ) → bound s x ≡ none → Admitted s (Var x)
+admitted_free : (s : Subst) (x : ℕ) → bound s x ≡ None → Admitted s (Var x)
 unfolding Admitted
 admitted_free s x free u itself = tt
 admitted_free s x free u (through e h) = clash (cc)
@@ -246,7 +246,7 @@ first_unknown = record { state = fresh (begin 9 []).state; taken = [] }
 
 unfoldable united : State
 unfolding first_unknown set_var with_left
-united = with_history (set_var (with_left first_unknown.state 7) 0 int) (ended (none ∷ []) (Var 0) int true (some int ∷ []) start)
+united = with_history (set_var (with_left first_unknown.state 7) 0 int) (ended (None ∷ []) (Var 0) int true (Some int ∷ []) start)
 
 calls_united : Calls 9 [] (record { state = united; taken = [] })
 unfolding united first_unknown unify fresh begin with_history set_var with_left
@@ -255,4 +255,4 @@ calls_united = then_call (then_call none_yet unknown) (unification {m = first_un
 -- So demand 3 says of it that exactly the assignments of Int to the unknown respect the bindings.
 united_means : (σ : ℕ → Ty) → Assignment σ → Respects σ united.subst ↔ (Same (σ 0) int × Unit {0})
 unfolding BindingsClaim live united app with_history set_var with_left first_unknown fresh begin
-united_means σ a = (demand_3 9 [] _ calls_united).between_calls.bindings (admitted_free (none ∷ []) 0 refl, admitted_int (none ∷ []), tt) σ a
+united_means σ a = (demand_3 9 [] _ calls_united).between_calls.bindings (admitted_free (None ∷ []) 0 refl, admitted_int (None ∷ []), tt) σ a

@@ -2,7 +2,6 @@
 -- notes that nothing stood there before, and the log is as long as there are bound unknowns and annotated nodes.
 use mathlib.Core.Bool.{Bool, true, false}
 use mathlib.Core.List.{List, [], ◌∷◌, ◌++◌}
-use mathlib.Core.Option.{Option, none, some}
 use mathlib.Core.Path.{◌≡◌, refl, ◌∙◌, ap}
 use Prim.Native.Nat.{ℕ, zero, suc, ◌+◌, ◌≤◌, ◌<◌}
 use native.Mathlib.Decide.{ℕ_discrete}
@@ -22,33 +21,34 @@ use Rattle.unification.proofs.Occurs.{occurs_no}
 use Rattle.unification.specs.Log.{taken, Log}
 use Rattle.unification.proofs.Sides.{Parts, Part, find_part, parts_map, Field, Alternative, fields, alternatives, side_follow, wf_bind}
 use Rattle.unification.proofs.Kept.{After, heads_in, unify_in_spent, unify_in_visit}
+use Rattle.std.specs.Prelude.{None, Option, Some}
 
 -- ---- How many places of a list are taken
 
-pub taken_set : (s : List (Option Ty)) (x : ℕ) (t : Ty) → x < length s → get_or s x none ≡ none → taken (set s x (some t)) ≡ suc (taken s)
+pub taken_set : (s : List (Option Ty)) (x : ℕ) (t : Ty) → x < length s → get_or s x None ≡ None → taken (set s x (Some t)) ≡ suc (taken s)
 unfolding taken
 taken_set [] x t h e = absurd (omega arith)
-taken_set (none ∷ s) zero t h e = refl
-taken_set (some u ∷ s) zero t h e = clash (cc)
-taken_set (none ∷ s) (suc x) t h e = taken_set s x t (omega arith) e
-taken_set (some u ∷ s) (suc x) t h e = ap suc (taken_set s x t (omega arith) e)
+taken_set (None ∷ s) zero t h e = refl
+taken_set (Some u ∷ s) zero t h e = clash (cc)
+taken_set (None ∷ s) (suc x) t h e = taken_set s x t (omega arith) e
+taken_set (Some u ∷ s) (suc x) t h e = ap suc (taken_set s x t (omega arith) e)
 
-pub taken_pad : (s : List (Option Ty)) (n : ℕ) → taken (s ++ replicate n none) ≡ taken s
+pub taken_pad : (s : List (Option Ty)) (n : ℕ) → taken (s ++ replicate n None) ≡ taken s
 unfolding taken
 taken_pad [] zero = refl
 taken_pad [] (suc n) = taken_pad [] n
-taken_pad (none ∷ s) n = taken_pad s n
-taken_pad (some t ∷ s) n = ap suc (taken_pad s n)
+taken_pad (None ∷ s) n = taken_pad s n
+taken_pad (Some t ∷ s) n = ap suc (taken_pad s n)
 
 pub taken_length : (s : List (Option Ty)) → taken s ≤ length s
 unfolding taken
 taken_length [] = omega arith
-taken_length (none ∷ s) = omega (arith, taken_length s)
-taken_length (some t ∷ s) = omega (arith, taken_length s)
+taken_length (None ∷ s) = omega (arith, taken_length s)
+taken_length (Some t ∷ s) = omega (arith, taken_length s)
 
 -- A free place leaves room for one more.
-pub taken_free : (s : List (Option Ty)) (x : ℕ) → x < length s → get_or s x none ≡ none → taken s < length s
-taken_free s x h e = omega (arith, taken_set s x Error h e, taken_length (set s x (some Error)), length-set s x (some Error))
+pub taken_free : (s : List (Option Ty)) (x : ℕ) → x < length s → get_or s x None ≡ None → taken s < length s
+taken_free s x h e = omega (arith, taken_set s x Error h e, taken_length (set s x (Some Error)), length-set s x (Some Error))
 
 -- ---- The log
 
@@ -57,16 +57,16 @@ pub log_room : (st : State) → Log st → length st.undo ≤ length st.subst + 
 log_room st h = omega (arith, h.exact, taken_length st.subst, taken_length st.tys)
 
 -- Before a free unknown is bound, or a node without a type annotated, there is room for the entry.
-pub log_room_unknown : (st : State) (x : ℕ) → x < length st.subst → bound st.subst x ≡ none → Log st
+pub log_room_unknown : (st : State) (x : ℕ) → x < length st.subst → bound st.subst x ≡ None → Log st
     → length st.undo < length st.subst + length st.tys
 unfolding bound
 log_room_unknown st x h free l = omega (arith, l.exact, taken_free st.subst x h free, taken_length st.tys)
 
-pub log_room_node : (st : State) (n : ℕ) → n < length st.tys → get_or st.tys n none ≡ none → Log st
+pub log_room_node : (st : State) (n : ℕ) → n < length st.tys → get_or st.tys n None ≡ None → Log st
     → length st.undo < length st.subst + length st.tys
 log_room_node st n h free l = omega (arith, l.exact, taken_free st.tys n h free, taken_length st.subst)
 
-pub log_annotate : (st : State) (n : ℕ) (t : Ty) → n < length st.tys → get_or st.tys n none ≡ none → Log st → Log (annotate st n t)
+pub log_annotate : (st : State) (n : ℕ) (t : Ty) → n < length st.tys → get_or st.tys n None ≡ None → Log st → Log (annotate st n t)
 unfolding annotate
 log_annotate st n t h free l = record { wf = l.wf; blank = (free, l.blank); exact = omega (arith, l.exact, taken_set st.tys n t h free) }
 
@@ -81,7 +81,7 @@ pub logged_left : (n : ℕ) (st : State) (v : ℕ) → Logged n st → Logged n 
 unfolding with_left
 logged_left n st v h = record { log = record { wf = h.log.wf; blank = h.log.blank; exact = h.log.exact }; len = h.len }
 
-pub logged_set_var : (n : ℕ) (st : State) (x : ℕ) (t : Ty) → bound st.subst x ≡ none → x < n → Side n t → ¬ Reaches st.subst t (Var x)
+pub logged_set_var : (n : ℕ) (st : State) (x : ℕ) (t : Ty) → bound st.subst x ≡ None → x < n → Side n t → ¬ Reaches st.subst t (Var x)
     → Logged n st → Logged n (set_var st x t)
 unfolding set_var bound
 logged_set_var n st x t free lt side off h =
@@ -93,7 +93,7 @@ logged_set_var n st x t free lt side off h =
         blank = (free, h.log.blank);
         exact = omega (arith, h.log.exact, taken_set st.subst x t lt' free);
       };
-      len = length-set st.subst x (some t) ∙ h.len;
+      len = length-set st.subst x (Some t) ∙ h.len;
     }
 
 module _ (n : ℕ) where
@@ -116,7 +116,7 @@ module _ (n : ℕ) where
   logged_note s a b (Err e c) p = record { log = record { wf = p.log.wf; blank = p.log.blank; exact = p.log.exact }; len = p.len }
   logged_note s a b (Spent c) p = p
 
-  pub logged_bind_var : (d : ℕ) (st : State) (x : ℕ) (t : Ty) → bound st.subst x ≡ none → x < n → Side n t → Logged n st → After (Logged n) (bind_var d st x t)
+  pub logged_bind_var : (d : ℕ) (st : State) (x : ℕ) (t : Ty) → bound st.subst x ≡ None → x < n → Side n t → Logged n st → After (Logged n) (bind_var d st x t)
   unfolding bind_var with_left
   logged_bind_var d st x t free lt side h = go (occurs d st.subst x st.left t) refl
     where
@@ -138,8 +138,8 @@ module _ (n : ℕ) where
         (field (find_key k ys) (find_part (Alternative n) k ys g)) (λ b i. logged_fields b xs ys f.1 g i)
       where
         field : (o : Option (ℕ × Ty)) → Part (Alternative n) o → After (Logged n) (unify_field u st k x o)
-        field none p = h
-        field (some y) p = rec st x y.1 f.0 p h
+        field None p = h
+        field (Some y) p = rec st x y.1 f.0 p h
 
     pub logged_record : (st : State) (xs ys : Row) → Parts (Alternative n) xs → Parts (Alternative n) ys → Logged n st
         → After (Logged n) (unify_record u st xs ys)
@@ -153,12 +153,12 @@ module _ (n : ℕ) where
     pub logged_alternative : (st : State) (differ : UnionDiff → TyError) (k : ℕ) (o o' : Option (ℕ × Ty)) → Part (Alternative n) o
         → Part (Alternative n) o' → Logged n st → After (Logged n) (unify_alternative u st differ k o o')
     unfolding unify_alternative
-    logged_alternative st differ k none none f g h = h
-    logged_alternative st differ k none (some y) f g h = h
-    logged_alternative st differ k (some x) none f g h = h
-    logged_alternative st differ k (some x) (some y) f g h = go (eqb x.0 y.0) refl
+    logged_alternative st differ k None None f g h = h
+    logged_alternative st differ k None (Some y) f g h = h
+    logged_alternative st differ k (Some x) None f g h = h
+    logged_alternative st differ k (Some x) (Some y) f g h = go (eqb x.0 y.0) refl
       where
-        go : (b : Bool) → eqb x.0 y.0 ≡ b → After (Logged n) (unify_alternative u st differ k (some x) (some y))
+        go : (b : Bool) → eqb x.0 y.0 ≡ b → After (Logged n) (unify_alternative u st differ k (Some x) (Some y))
         go true q = rw (q, unify_alternative) (logged_map_err _ (u st x.1 y.1) (rec st x.1 y.1 f g h))
         go false q = rw (q, unify_alternative) h
 

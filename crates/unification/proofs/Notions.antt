@@ -1,7 +1,6 @@
 -- Small examples of the notions of demand 3, computed and proved, that a weaker or a stronger notion would fail: what the proviso
 -- leaves out, how often, what is not undone, what a rollback gives back, what Robinson's notions say of a list of calls.
 use mathlib.Core.List.{[], ◌∷◌}
-use mathlib.Core.Option.{none, some}
 use mathlib.Core.Path.{◌≡◌, refl}
 use Prim.Native.Nat.{ℕ}
 use native.Mathlib.Omega.{arith}
@@ -16,6 +15,7 @@ use Rattle.unification.specs.Tie.{solution, Together}
 use Rattle.unification.proofs.Tests.{clash}
 use Rattle.unification.proofs.Demand3.{demand_3}
 use Rattle.unification.proofs.Robinson.{robinson}
+use Rattle.std.specs.Prelude.{None, Some}
 
 abbrev int : Ty
 int = leaf Int
@@ -36,7 +36,7 @@ twice_left_out : (s : Subst) → ¬ Admitted s (two 1 int 1 int)
 unfolding Admitted
 twice_left_out s a = (a _ itself).0.0 refl
 
-error_left_out : ¬ Admitted (some Error ∷ []) (Var 0)
+error_left_out : ¬ Admitted (Some Error ∷ []) (Var 0)
 unfolding Admitted bound
 error_left_out a = a Error (through refl itself)
 
@@ -52,17 +52,17 @@ string_admitted : (s : Subst) → Admitted s string
 unfolding Admitted
 string_admitted s u itself = tt
 
-free_admitted : Admitted (none ∷ []) (Var 0)
+free_admitted : Admitted (None ∷ []) (Var 0)
 unfolding Admitted bound
 free_admitted u itself = tt
 free_admitted u (through e h) = clash (cc)
 
-bound_admitted : (s : Subst) → Admitted (some int ∷ s) (Var 0)
+bound_admitted : (s : Subst) → Admitted (Some int ∷ s) (Var 0)
 unfolding Admitted bound
 bound_admitted s u itself = tt
 bound_admitted s u (through {t = t} e h) = let q : int ≡ t = cc in go (rw (← q) at h)
   where
-    go : {u : Ty} → Reaches (some int ∷ s) int u → Allowed u
+    go : {u : Ty} → Reaches (Some int ∷ s) int u → Allowed u
     go itself = tt
 
 -- ---- Equal up to order: repeated fields in any order, as often.
@@ -91,13 +91,13 @@ as_often h = let q = h.1 in one_int q.0 q.1 q.2 q.4 q.3
 abbrev from : Subst → ℕ → State
 from s v = record { subst = s; tys = []; undo = []; left = v; history = start }
 
-inner_stays : live (end_of (unify (from (none ∷ []) 9) (two 1 (Var 0) 2 int) (two 1 int 2 string))).history
-    ≡ record { before = none ∷ []; got = Var 0; expected = int } ∷ []
+inner_stays : live (end_of (unify (from (None ∷ []) 9) (two 1 (Var 0) 2 int) (two 1 int 2 string))).history
+    ≡ record { before = None ∷ []; got = Var 0; expected = int } ∷ []
 unfolding live unify
 inner_stays = refl
 
-limit_stays : live (end_of (unify (from (none ∷ none ∷ []) 3) (two 1 (Var 0) 2 (Var 1)) (two 1 int 2 int))).history
-    ≡ record { before = none ∷ none ∷ []; got = Var 0; expected = int } ∷ []
+limit_stays : live (end_of (unify (from (None ∷ None ∷ []) 3) (two 1 (Var 0) 2 (Var 1)) (two 1 int 2 int))).history
+    ≡ record { before = None ∷ None ∷ []; got = Var 0; expected = int } ∷ []
 unfolding live unify
 limit_stays = refl
 
@@ -149,15 +149,15 @@ unfolding take_snapshot
 calls_rolled = then_call calls_refused (rolling_back {m = since one_refused} [] [] (take_snapshot one_bound) refl)
 
 -- What the first unification bound is a most general unifier; there is none for the third.
-finds : MostGeneral (solution (some int ∷ [])) (Together (none ∷ []) (Var 0) int)
+finds : MostGeneral (solution (Some int ∷ [])) (Together (None ∷ []) (Var 0) int)
 unfolding one_bound one_made unify fresh begin
-finds = (robinson 9 [] _ calls_bound).0 free_admitted (int_admitted (none ∷ []))
+finds = (robinson 9 [] _ calls_bound).0 free_admitted (int_admitted (None ∷ []))
 
-finds_none : (θ : Substitution) → ¬ Unifies θ (Together (some int ∷ some string ∷ none ∷ []) (Var 0) string)
+finds_none : (θ : Substitution) → ¬ Unifies θ (Together (Some int ∷ Some string ∷ None ∷ []) (Var 0) string)
 unfolding one_refused three_made two_bound two_made one_bound one_made unify fresh begin bound
-finds_none = (robinson 9 [] _ calls_refused).0 (bound_admitted (some string ∷ none ∷ [])) (string_admitted (some int ∷ some string ∷ none ∷ []))
+finds_none = (robinson 9 [] _ calls_refused).0 (bound_admitted (Some string ∷ None ∷ [])) (string_admitted (Some int ∷ Some string ∷ None ∷ []))
 
 -- The rollback, by the claim: the first unknown is bound as at the snapshot, the other two are there and free.
-gave_back : BackTo (some int ∷ []) (some int ∷ some string ∷ none ∷ []) (some int ∷ none ∷ none ∷ [])
+gave_back : BackTo (Some int ∷ []) (Some int ∷ Some string ∷ None ∷ []) (Some int ∷ None ∷ None ∷ [])
 unfolding one_refused three_made two_bound two_made one_bound one_made unify fresh begin rollback snapshot bindings_at
 gave_back = (demand_3 9 [] _ calls_rolled).between_calls.moments.0

@@ -3,7 +3,6 @@
 -- reach the unknown. A depth not below the visits left is as good as any other.
 use mathlib.Core.Bool.{Bool, true, false}
 use mathlib.Core.Logic.{⊎_elim}
-use mathlib.Core.Option.{none}
 use mathlib.Core.Path.{◌≡◌, refl, sym, ap}
 use Prim.Native.Nat.{ℕ, zero, suc, ◌≤◌}
 use native.Mathlib.Omega.{arith}
@@ -20,6 +19,7 @@ use Rattle.unification.proofs.Reach.{reaches_var, reaches_follow}
 use Rattle.unification.specs.Acyclic.{Acyclic}
 use Rattle.unification.proofs.Chain.{leaf_reaches, error_reaches, node_reaches, nil_reaches, cell_reaches, repr_resolved, repr_resolved_is}
 use Rattle.unification.proofs.Respects.{repr_same}
+use Rattle.std.specs.Prelude.{None}
 
 -- A row's answer is that of its first cell that says yes, or of the last.
 any_cell : (ask : ℕ → Ty → Answer) (v k l : ℕ) (t : Ty) (r : Row) (a : Answer) (Q : Type 0) → any_row ask v (cell k l t r) ≡ a
@@ -108,7 +108,7 @@ occurs_in_no ask s x h v (Var y) w c e = go (eqb x y) refl
     go true q i = let e' : yes_left v ≡ no_left w = rw (q, occurs_in) at e in clash (cc)
     go false q i = ⊎_elim (λ p. eqb_false x y q (cc (p))) (λ p. clash (cc (c, p.1))) (reaches_var s y (Var x) i)
 
-pub occurs_no : (s : Subst) (x : ℕ) → bound s x ≡ none → Acyclic s → (d v : ℕ) (t : Ty) (w : ℕ) → occurs d s x v t ≡ no_left w → ¬ Reaches s t (Var x)
+pub occurs_no : (s : Subst) (x : ℕ) → bound s x ≡ None → Acyclic s → (d v : ℕ) (t : Ty) (w : ℕ) → occurs d s x v t ≡ no_left w → ¬ Reaches s t (Var x)
 unfolding occurs repr
 occurs_no s x free A zero v t w e = clash (cc)
 occurs_no s x free A (suc d) zero t w e = clash (cc)

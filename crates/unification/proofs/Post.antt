@@ -3,7 +3,6 @@
 use mathlib.Core.Bool.{Bool, true, false}
 use mathlib.Core.List.{List, [], ◌∷◌}
 use mathlib.Core.Logic.{◌↔◌}
-use mathlib.Core.Option.{Option, none, some}
 use mathlib.Core.Path.{◌≡◌, refl, sym, ◌∙◌}
 use Prim.Native.Nat.{ℕ}
 use lib.Dec.{eqb}
@@ -21,6 +20,7 @@ use Rattle.unification.proofs.Rows.{Both, Match, AgreeAt, match_same, same_match
 use Rattle.unification.proofs.Rows.{find_app, distinct_app, row_len_app, discriminants_app}
 use Rattle.unification.specs.Log.{Wf}
 use Rattle.unification.proofs.Sides.{Parts, Part, find_part, parts_map, Field, Alternative, fields, alternatives, Permits, admitted_parts}
+use Rattle.std.specs.Prelude.{None, Option, Some}
 
 -- Every substitution.
 abbrev pub Any : (ℕ → Ty) → Type 0
@@ -186,10 +186,10 @@ permits_map s s' f r h = parts_map (Permits s) (Permits s') (λ l t g. f t g) r 
 module _ (u : State → Ty → Ty → Unified) (rec : Entry u) (A : Type 0) where
   field_post : (st : State) (k l : ℕ) (t : Ty) (o : Option (ℕ × Ty)) → Wf st.subst → Field (length st.subst) l t → Part (Field (length st.subst)) o
       → (A → Admitted st.subst t × Part (Permits st.subst) o)
-      → Post st.subst st.history A (λ σ. Both (some (l, app σ t)) (app_cell σ o)) (unify_field u st k t o)
+      → Post st.subst st.history A (λ σ. Both (Some (l, app σ t)) (app_cell σ o)) (unify_field u st k t o)
   unfolding unify_field
-  field_post st k l t none w f g a = stop st A _ w (λ p σ c. c)
-  field_post st k l t (some y) w f g a =
+  field_post st k l t None w f g a = stop st A _ w (λ p σ c. c)
+  field_post st k l t (Some y) w f g a =
       change st.subst st.history A _ _ (u st t y.1) (λ p σ R. (λ e. (f.0 ∙ sym g.0, e), λ e. e.1)) (rec A st t y.1 w f.1 g.1 a)
 
   fields_post : (st : State) (xs ys : Row) → Wf st.subst → Parts (Field (length st.subst)) xs → Parts (Field (length st.subst)) ys
@@ -198,9 +198,9 @@ module _ (u : State → Ty → Ty → Unified) (rec : Entry u) (A : Type 0) wher
   unfolding unify_fields app_row
   fields_post st ε ys w f g a = stay st A _ w (λ p σ. tt)
   fields_post st (cell k l t r) ys w f g a =
-      seq st.subst st.history A (λ σ. Both (some (l, app σ t)) (find_key k (app_row σ ys))) (λ σ. Match (app_row σ r) (app_row σ ys))
+      seq st.subst st.history A (λ σ. Both (Some (l, app σ t)) (find_key k (app_row σ ys))) (λ σ. Match (app_row σ r) (app_row σ ys))
       (unify_field u st k t (find_key k ys)) (λ b. unify_fields u b r ys)
-      (change st.subst st.history A (λ σ. Both (some (l, app σ t)) (app_cell σ (find_key k ys))) _ (unify_field u st k t (find_key k ys))
+      (change st.subst st.history A (λ σ. Both (Some (l, app σ t)) (app_cell σ (find_key k ys))) _ (unify_field u st k t (find_key k ys))
       (λ p σ R. (λ c. rw (find_app σ k ys) c, λ c. rw (find_app σ k ys) at c))
       (field_post st k l t (find_key k ys) w f.0 (find_part (Field (length st.subst)) k ys g)
       (λ p. let x = a p in (x.0.0, find_part (Permits st.subst) k ys x.1))))
@@ -228,13 +228,13 @@ module _ (u : State → Ty → Ty → Unified) (rec : Entry u) (A : Type 0) wher
       → (A → Part (Permits st.subst) o × Part (Permits st.subst) o')
       → Post st.subst st.history A (λ σ. Both (app_cell σ o) (app_cell σ o')) (unify_alternative u st differ k o o')
   unfolding unify_alternative
-  alternative_post st differ k none none w f g a = stay st A _ w (λ p σ. tt)
-  alternative_post st differ k none (some y) w f g a = stop st A _ w (λ p σ c. c)
-  alternative_post st differ k (some x) none w f g a = stop st A _ w (λ p σ c. c)
-  alternative_post st differ k (some x) (some y) w f g a = go (eqb x.0 y.0) refl
+  alternative_post st differ k None None w f g a = stay st A _ w (λ p σ. tt)
+  alternative_post st differ k None (Some y) w f g a = stop st A _ w (λ p σ c. c)
+  alternative_post st differ k (Some x) None w f g a = stop st A _ w (λ p σ c. c)
+  alternative_post st differ k (Some x) (Some y) w f g a = go (eqb x.0 y.0) refl
     where
-      go : (b : Bool) → eqb x.0 y.0 ≡ b → Post st.subst st.history A (λ σ. Both (app_cell σ (some x)) (app_cell σ (some y)))
-          (unify_alternative u st differ k (some x) (some y))
+      go : (b : Bool) → eqb x.0 y.0 ≡ b → Post st.subst st.history A (λ σ. Both (app_cell σ (Some x)) (app_cell σ (Some y)))
+          (unify_alternative u st differ k (Some x) (Some y))
       go true q = rw (q, unify_alternative) (post_map_err st.subst st.history A _ _ (u st x.1 y.1)
           (change st.subst st.history A _ _ (u st x.1 y.1) (λ p σ R. (λ e. (eqb_true x.0 y.0 q, e), λ e. e.1))
           (rec A st x.1 y.1 w f g a)))

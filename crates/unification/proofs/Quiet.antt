@@ -2,7 +2,6 @@
 -- stopped where fewer visits are left, and again nothing is bound.
 use mathlib.Core.Bool.{Bool, true, false}
 use mathlib.Core.List.{List, [], ◌∷◌}
-use mathlib.Core.Option.{Option, none, some}
 use mathlib.Core.Path.{◌≡◌, refl, ◌∙◌, ap}
 use Prim.Native.Nat.{ℕ, zero, suc, ◌+◌, ◌<◌, ◌≤◌}
 use native.Mathlib.Decide.{ℕ_discrete}
@@ -14,17 +13,10 @@ use Rattle.unification.specs.Bindings.{Subst, follow, repr, Answer, yes_left, no
 use Rattle.unification.specs.Unify.{UnionDiff, TyError, Unified, Ok, Err, Spent, and_then, map_err, bind_var, find_key, unify_field, unify_fields}
 use Rattle.unification.specs.Unify.{unify_record, discriminants, unify_alternative, unify_alternatives, unify_union, unify_nodes, unify_heads, note}
 use Rattle.unification.specs.Unify.{unify_in}
+use Rattle.unification.specs.Quiet.{resting, Quiet, ends, stops}
 use Rattle.unification.proofs.Tests.{clash}
 use Rattle.unification.proofs.Kept.{After, heads_in, unify_in_spent, unify_in_visit}
-
--- The state with other visits left and another history.
-abbrev pub resting : State → ℕ → History → State
-resting st v h = record { subst = st.subst; tys = st.tys; undo = st.undo; left = v; history = h }
-
--- How something ends that binds nothing and costs k visits.
-pub data Quiet (k : ℕ) (st : State) : Unified → Type 0 where
-  ends : (v : ℕ) (h : History) → st.left ≡ v + k → Quiet k st (Ok (resting st v h))
-  stops : (h : History) → st.left < k → Quiet k st (Spent (resting st zero h))
+use Rattle.std.specs.Prelude.{None, Option, Some}
 
 abbrev pub Quiets : Subst → ℕ → (State → Unified) → Type 0
 Quiets s k f = (st : State) → st.subst ≡ s → Quiet k st (f st)
@@ -155,8 +147,8 @@ note_quiet s a b k st v e res (stops h l) = stops h (omega arith)
 module _ (s : Subst) (u : State → Ty → Ty → Unified) (rec : (a b : Ty) → Calm s (λ st. u st a b)) where
   calm_field : (m : ℕ) (x : Ty) (o : Option (ℕ × Ty)) → Calm s (λ st. unify_field u st m x o)
   unfolding unify_field
-  calm_field m x none = calm_err s _
-  calm_field m x (some y) = rec x y.1
+  calm_field m x None = calm_err s _
+  calm_field m x (Some y) = rec x y.1
 
   calm_fields : (xs ys : Row) → Calm s (λ st. unify_fields u st xs ys)
   unfolding unify_fields
@@ -174,12 +166,12 @@ module _ (s : Subst) (u : State → Ty → Ty → Unified) (rec : (a b : Ty) →
 
   calm_alternative : (differ : UnionDiff → TyError) (m : ℕ) (o o' : Option (ℕ × Ty)) → Calm s (λ st. unify_alternative u st differ m o o')
   unfolding unify_alternative
-  calm_alternative differ m none none = calm_ok s
-  calm_alternative differ m none (some y) = calm_err s _
-  calm_alternative differ m (some x) none = calm_err s _
-  calm_alternative differ m (some x) (some y) = go (eqb x.0 y.0) refl
+  calm_alternative differ m None None = calm_ok s
+  calm_alternative differ m None (Some y) = calm_err s _
+  calm_alternative differ m (Some x) None = calm_err s _
+  calm_alternative differ m (Some x) (Some y) = go (eqb x.0 y.0) refl
     where
-      go : (b : Bool) → eqb x.0 y.0 ≡ b → Calm s (λ st. unify_alternative u st differ m (some x) (some y))
+      go : (b : Bool) → eqb x.0 y.0 ≡ b → Calm s (λ st. unify_alternative u st differ m (Some x) (Some y))
       go true e = rw (e, unify_alternative) (calm_map_err s _ (λ st. u st x.1 y.1) (rec x.1 y.1))
       go false e = rw (e, unify_alternative) (calm_err s _)
 
@@ -285,7 +277,7 @@ unify_calm (suc d) s a b = calm_entry d (λ s' a' b'. unify_calm d s' a' b') a b
 -- Two errors cost one visit.
 pub errors_quiet : (d : ℕ) (st : State) → st.left ≤ d → Quiet 1 st (unify_in d st Error Error)
 unfolding unify_in heads_in unify_heads repr follow note with_left
-errors_quiet zero st h = let none : st.left ≡ zero = omega arith in rw (ap (λ (v : ℕ). Spent (resting st v st.history)) none)
+errors_quiet zero st h = let None : st.left ≡ zero = omega arith in rw (ap (λ (v : ℕ). Spent (resting st v st.history)) None)
     (stops st.history (omega arith))
 errors_quiet (suc d) st h = go st.left refl
   where

@@ -1,7 +1,6 @@
 -- Substitutions that respect bindings: binding a free unknown adds the one equation, and following a chain keeps a type
 -- the same.
 use mathlib.Core.Logic.{◌↔◌, by_cases}
-use mathlib.Core.Option.{Option, none, some}
 use mathlib.Core.Path.{◌≡◌, refl, sym, ◌∙◌}
 use Prim.Native.Nat.{ℕ, zero, suc, ◌<◌}
 use native.Mathlib.Decide.{ℕ_discrete}
@@ -14,24 +13,25 @@ use Rattle.unification.proofs.Tests.{clash}
 use Rattle.unification.proofs.Order.{same_refl, same_trans}
 use Rattle.unification.proofs.Reach.{bound_same, bound_other}
 use Rattle.unification.proofs.Acyclic.{Among}
+use Rattle.std.specs.Prelude.{None, Option, Some}
 
 pub respects_among : (σ : ℕ → Ty) (s' s : Subst) → Among s' s → Respects σ s → Respects σ s'
 unfolding Respects
 respects_among σ s' s a R x t e = R x t (a x t e)
 
-pub respects_bind : (σ : ℕ → Ty) (s : Subst) (x : ℕ) (t : Ty) → x < length s → bound s x ≡ none
-    → Respects σ (set s x (some t)) ↔ (Respects σ s × Same (σ x) (app σ t))
+pub respects_bind : (σ : ℕ → Ty) (s : Subst) (x : ℕ) (t : Ty) → x < length s → bound s x ≡ None
+    → Respects σ (set s x (Some t)) ↔ (Respects σ s × Same (σ x) (app σ t))
 unfolding Respects
 respects_bind σ s x t lt free = (
   λ R. (
     λ y u e. by_cases (ℕ_discrete y x)
         (λ p. clash (cc))
-        (λ n. R y u (bound_other s x y (some t) n ∙ e)),
-    R x t (bound_same s x (some t) lt),
+        (λ n. R y u (bound_other s x y (Some t) n ∙ e)),
+    R x t (bound_same s x (Some t) lt),
   ),
   λ R y u e. by_cases (ℕ_discrete y x)
-      (λ p. let q : t ≡ u = cc (bound_same s x (some t) lt) in rw (p, ← q) R.1)
-      (λ n. R.0 y u (sym (bound_other s x y (some t) n) ∙ e)),
+      (λ p. let q : t ≡ u = cc (bound_same s x (Some t) lt) in rw (p, ← q) R.1)
+      (λ n. R.0 y u (sym (bound_other s x y (Some t) n) ∙ e)),
 )
 
 follow_same : (k : ℕ) (σ : ℕ → Ty) (s : Subst) (t : Ty) → Respects σ s → Same (app σ t) (app σ (follow k s t))
@@ -43,8 +43,8 @@ follow_same (suc k) σ s Error R = tt
 follow_same (suc k) σ s (Var x) R = go (bound s x) refl (λ t. follow_same k σ s t R)
   where
     go : (o : Option Ty) → bound s x ≡ o → ((t : Ty) → Same (app σ t) (app σ (follow k s t))) → Same (σ x) (app σ (follow (suc k) s (Var x)))
-    go none e ih = rw (e, follow) (same_refl (σ x))
-    go (some t) e ih = rw (e, follow) (same_trans (σ x) (app σ t) (app σ (follow k s t)) (R x t e) (ih t))
+    go None e ih = rw (e, follow) (same_refl (σ x))
+    go (Some t) e ih = rw (e, follow) (same_trans (σ x) (app σ t) (app σ (follow k s t)) (R x t e) (ih t))
 
 pub repr_same : (σ : ℕ → Ty) (s : Subst) (t : Ty) → Respects σ s → Same (app σ t) (app σ (repr s t))
 unfolding repr

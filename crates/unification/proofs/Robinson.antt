@@ -3,7 +3,6 @@
 use mathlib.Core.Bool.{Bool, true, false}
 use mathlib.Core.List.{List, [], ◌∷◌}
 use mathlib.Core.Logic.{◌↔◌}
-use mathlib.Core.Option.{Option, none, some}
 use mathlib.Core.Path.{◌≡◌, refl, sym, ◌∙◌}
 use Prim.Native.Nat.{ℕ, zero, suc, ◌+◌}
 use native.Mathlib.Nat.{zero-add, add-zero}
@@ -22,6 +21,7 @@ use Rattle.unification.specs.Acyclic.{Acyclic}
 use Rattle.unification.proofs.Zonk.{zonk_none, zonk_bound, zonk_app, zonk_var, zonk_more, zonk_is}
 use Rattle.unification.proofs.Post.{Any, Moments}
 use Rattle.unification.proofs.Demand3.{Sound, unify_sound, calls_inv}
+use Rattle.std.specs.Prelude.{None, Option, Some}
 
 -- ---- An instance of a unifier is a unifier
 pub unifies_then : (θ μ : Substitution) (es : List Equation) → Unifies θ es → Unifies (◌then◌ θ μ) es
@@ -34,19 +34,19 @@ shift : (x y : ℕ) → suc x + y ≡ x + suc y
 shift x y = omega arith
 
 module _ (θ : Substitution) where
-  from_respects : (x : ℕ) (s : Subst) → ((y : ℕ) (t : Ty) → get_or s y none ≡ some t → Same (θ (x + y)) (app θ t)) → Unifies θ (equations_from x s)
+  from_respects : (x : ℕ) (s : Subst) → ((y : ℕ) (t : Ty) → get_or s y None ≡ Some t → Same (θ (x + y)) (app θ t)) → Unifies θ (equations_from x s)
   unfolding equations_from app
   from_respects x [] h = tt
-  from_respects x (none ∷ s) h = from_respects (suc x) s (λ y t e. rw (shift x y) (h (suc y) t e))
-  from_respects x (some t ∷ s) h = (rw (add-zero x) at (h zero t refl), from_respects (suc x) s (λ y u e. rw (shift x y) (h (suc y) u e)))
+  from_respects x (None ∷ s) h = from_respects (suc x) s (λ y t e. rw (shift x y) (h (suc y) t e))
+  from_respects x (Some t ∷ s) h = (rw (add-zero x) at (h zero t refl), from_respects (suc x) s (λ y u e. rw (shift x y) (h (suc y) u e)))
 
-  to_respects : (x : ℕ) (s : Subst) → Unifies θ (equations_from x s) → (y : ℕ) (t : Ty) → get_or s y none ≡ some t → Same (θ (x + y)) (app θ t)
+  to_respects : (x : ℕ) (s : Subst) → Unifies θ (equations_from x s) → (y : ℕ) (t : Ty) → get_or s y None ≡ Some t → Same (θ (x + y)) (app θ t)
   unfolding equations_from app
   to_respects x [] u y t e = clash (cc)
-  to_respects x (none ∷ s) u zero t e = clash (cc)
-  to_respects x (none ∷ s) u (suc y) t e = rw (← shift x y) (to_respects (suc x) s u y t e)
-  to_respects x (some w ∷ s) u zero t e = let q : w ≡ t = cc in rw (add-zero x, ← q) u.0
-  to_respects x (some w ∷ s) u (suc y) t e = rw (← shift x y) (to_respects (suc x) s u.1 y t e)
+  to_respects x (None ∷ s) u zero t e = clash (cc)
+  to_respects x (None ∷ s) u (suc y) t e = rw (← shift x y) (to_respects (suc x) s u y t e)
+  to_respects x (Some w ∷ s) u zero t e = let q : w ≡ t = cc in rw (add-zero x, ← q) u.0
+  to_respects x (Some w ∷ s) u (suc y) t e = rw (← shift x y) (to_respects (suc x) s u.1 y t e)
 
   pub unifies_respects : (s : Subst) → Unifies θ (equations s) ↔ Respects θ s
   unfolding equations Respects bound

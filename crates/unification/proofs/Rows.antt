@@ -3,7 +3,6 @@
 use mathlib.Core.Bool.{Bool, true, false}
 use mathlib.Core.List.{List, [], ◌∷◌}
 use mathlib.Core.Logic.{◌↔◌, ◌≢◌, ◌⊎◌, inl, inr, by_cases}
-use mathlib.Core.Option.{Option, none, some}
 use mathlib.Core.Path.{◌≡◌, refl, sym, ◌∙◌, ap}
 use Prim.Native.Nat.{ℕ, suc}
 use native.Mathlib.Decide.{ℕ_discrete}
@@ -14,13 +13,14 @@ use Rattle.unification.specs.Order.{Same, SameRow, Inserted, here, there}
 use Rattle.unification.specs.Unify.{find_key, insert_once, with_keys, discriminants}
 use Rattle.unification.specs.Calls.{Lacks, Distinct}
 use Rattle.unification.proofs.Tests.{eqb_true, eqb_false}
+use Rattle.std.specs.Prelude.{None, Option, Some}
 
 -- ---- Look-up
-find_head : (k l : ℕ) (t : Ty) (r : Row) → find_key k (cell k l t r) ≡ some (l, t)
+find_head : (k l : ℕ) (t : Ty) (r : Row) → find_key k (cell k l t r) ≡ Some (l, t)
 unfolding find_key
 find_head k l t r = go (eqb k k) refl
   where
-    go : (b : Bool) → eqb k k ≡ b → find_key k (cell k l t r) ≡ some (l, t)
+    go : (b : Bool) → eqb k k ≡ b → find_key k (cell k l t r) ≡ Some (l, t)
     go true q = rw (q, find_key)
     go false q = absurd (eqb_false k k q refl)
 
@@ -32,11 +32,11 @@ find_tail k m l t r n = go (eqb k m) refl
     go true q = absurd (n (eqb_true k m q))
     go false q = rw (q, find_key)
 
-find_nil : (k : ℕ) → find_key k ε ≡ none
+find_nil : (k : ℕ) → find_key k ε ≡ None
 unfolding find_key
 find_nil k = refl
 
-find_lacks : (k : ℕ) (r : Row) → Lacks k r → find_key k r ≡ none
+find_lacks : (k : ℕ) (r : Row) → Lacks k r → find_key k r ≡ None
 find_lacks k ε h = find_nil k
 find_lacks k (cell m l t r) h = find_tail k m l t r h.0 ∙ find_lacks k r h.1
 
@@ -67,28 +67,28 @@ inserted_distinct (there i) h =
     let y = inserted_lacks _ i h.0 in
     (((λ e. y.0 (sym e)), x.0), (y.1, x.1))
 
-inserted_found : {k l : ℕ} {t : Ty} {r s : Row} → Inserted k l t r s → Distinct s → find_key k s ≡ some (l, t)
+inserted_found : {k l : ℕ} {t : Ty} {r s : Row} → Inserted k l t r s → Distinct s → find_key k s ≡ Some (l, t)
 inserted_found {k} {l} {t} {r} here h = find_head k l t r
 inserted_found {k} (there {m} {n} {u} {s} i) h =
     find_tail k m n u s (λ q. (inserted_lacks m i h.0).0 (sym q)) ∙ inserted_found i h.1
 
 -- ---- What two look-ups agree on: the label, and the type up to order
 abbrev pub Both : Option (ℕ × Ty) → Option (ℕ × Ty) → Type 0
-Both none none = Unit {0}
-Both none (some q) = ⊥
-Both (some p) none = ⊥
-Both (some p) (some q) = (p.0 ≡ q.0) × Same p.1 q.1
+Both None None = Unit {0}
+Both None (Some q) = ⊥
+Both (Some p) None = ⊥
+Both (Some p) (Some q) = (p.0 ≡ q.0) × Same p.1 q.1
 
 abbrev pub Agree : Row → Row → Type 0
 Agree r s = (k : ℕ) → Both (find_key k r) (find_key k s)
 
 -- A cell that a look-up agrees with has its partner there.
-both_pick : (k l : ℕ) (t : Ty) (s : Row) → Both (some (l, t)) (find_key k s) → (t' : Ty) × (s' : Row) × Same t t' × Inserted k l t' s' s
+both_pick : (k l : ℕ) (t : Ty) (s : Row) → Both (Some (l, t)) (find_key k s) → (t' : Ty) × (s' : Row) × Same t t' × Inserted k l t' s' s
 unfolding find_key
 both_pick k l t ε b = absurd b
 both_pick k l t (cell m n u s) b = go (eqb k m) refl (λ b'. both_pick k l t s b')
   where
-    go : (c : Bool) → eqb k m ≡ c → (Both (some (l, t)) (find_key k s) → (t' : Ty) × (s' : Row) × Same t t' × Inserted k l t' s' s)
+    go : (c : Bool) → eqb k m ≡ c → (Both (Some (l, t)) (find_key k s) → (t' : Ty) × (s' : Row) × Same t t' × Inserted k l t' s' s)
         → (t' : Ty) × (s' : Row) × Same t t' × Inserted k l t' s' (cell m n u s)
     go true q ih =
         let c : (l ≡ n) × Same t u = rw (q, find_key) at b in
@@ -122,7 +122,7 @@ same_agree (cell m l t r) s d e h k = by_cases (ℕ_discrete k m)
 -- Each cell of the first row agrees with the look-up of its key in the second.
 abbrev pub Match : Row → Row → Type 0
 Match ε s = Unit {0}
-Match (cell k l t r) s = Both (some (l, t)) (find_key k s) × Match r s
+Match (cell k l t r) s = Both (Some (l, t)) (find_key k s) × Match r s
 
 -- A row without the key does not notice its cell.
 match_less : {k l : ℕ} {t : Ty} {s' s : Row} → Inserted k l t s' s → (r : Row) → Lacks k r → Match r s ↔ Match r s'
@@ -187,12 +187,12 @@ keys_old j ε ks h = h
 keys_old j (cell k l t r) ks h = insert_old j k (with_keys r ks) (keys_old j r ks h)
 
 -- A key is listed, or nothing is found by it.
-keys_all : (j : ℕ) (r : Row) (ks : List ℕ) → Mem j (with_keys r ks) ⊎ (find_key j r ≡ none)
+keys_all : (j : ℕ) (r : Row) (ks : List ℕ) → Mem j (with_keys r ks) ⊎ (find_key j r ≡ None)
 unfolding with_keys
 keys_all j ε ks = inr (find_nil j)
 keys_all j (cell k l t r) ks = go (ℕ_discrete j k) (keys_all j r ks)
   where
-    go : Dec (j ≡ k) → Mem j (with_keys r ks) ⊎ (find_key j r ≡ none) → Mem j (with_keys (cell k l t r) ks) ⊎ (find_key j (cell k l t r) ≡ none)
+    go : Dec (j ≡ k) → Mem j (with_keys r ks) ⊎ (find_key j r ≡ None) → Mem j (with_keys (cell k l t r) ks) ⊎ (find_key j (cell k l t r) ≡ None)
     go (yes e) h = inl (rw e (insert_new k (with_keys r ks)))
     go (no n) (inl m) = inl (insert_old j k (with_keys r ks) m)
     go (no n) (inr q) = inr (find_tail j k l t r n ∙ q)
@@ -210,7 +210,7 @@ pub agree_discriminants : (r s : Row) → AgreeAt (discriminants r s) r s ↔ Ag
 unfolding discriminants
 agree_discriminants r s = (λ h k. go h k (keys_all k r (with_keys s [])) (keys_all k s []), agree_only (discriminants r s) r s)
   where
-    go : AgreeAt (discriminants r s) r s → (k : ℕ) → Mem k (discriminants r s) ⊎ (find_key k r ≡ none) → Mem k (with_keys s []) ⊎ (find_key k s ≡ none)
+    go : AgreeAt (discriminants r s) r s → (k : ℕ) → Mem k (discriminants r s) ⊎ (find_key k r ≡ None) → Mem k (with_keys s []) ⊎ (find_key k s ≡ None)
         → Both (find_key k r) (find_key k s)
     go h k (inl m) q = agree_at (discriminants r s) r s h k m
     go h k (inr p) (inl m) = agree_at (discriminants r s) r s h k (keys_old k r (with_keys s []) m)
@@ -218,8 +218,8 @@ agree_discriminants r s = (λ h k. go h k (keys_all k r (with_keys s [])) (keys_
 
 -- ---- Under a substitution
 abbrev pub app_cell : (ℕ → Ty) → Option (ℕ × Ty) → Option (ℕ × Ty)
-app_cell σ none = none
-app_cell σ (some p) = some (p.0, app σ p.1)
+app_cell σ None = None
+app_cell σ (Some p) = Some (p.0, app σ p.1)
 
 pub find_app : (σ : ℕ → Ty) (k : ℕ) (r : Row) → find_key k (app_row σ r) ≡ app_cell σ (find_key k r)
 unfolding find_key app_row

@@ -3,7 +3,6 @@
 use mathlib.Core.Bool.{Bool, true, false}
 use mathlib.Core.List.{[], ◌∷◌, ◌++◌}
 use mathlib.Core.Logic.{by_cases}
-use mathlib.Core.Option.{Option, none, some}
 use mathlib.Core.Path.{◌≡◌, refl, sym, ◌∙◌}
 use Prim.Native.Nat.{ℕ, zero, suc, ◌≤◌, ◌<◌}
 use native.Mathlib.Decide.{ℕ_discrete}
@@ -17,6 +16,7 @@ use Rattle.unification.specs.Calls.{Declared, DeclaredRow, Side, SideRow, Reache
 use Rattle.unification.proofs.Reach.{bound_same, bound_other}
 use Rattle.unification.specs.Log.{Wf}
 use Rattle.unification.proofs.Acyclic.{acyclic_bind, Among, acyclic_among}
+use Rattle.std.specs.Prelude.{None, Option, Some}
 
 -- ---- More unknowns, and the schema's types
 mutual
@@ -49,8 +49,8 @@ Parts Q ε = Unit {0}
 Parts Q (cell k l t r) = Q l t × Parts Q r
 
 abbrev pub Part : (ℕ → Ty → Type 0) → Option (ℕ × Ty) → Type 0
-Part Q none = Unit {0}
-Part Q (some p) = Q p.0 p.1
+Part Q None = Unit {0}
+Part Q (Some p) = Q p.0 p.1
 
 pub find_part : (Q : ℕ → Ty → Type 0) (k : ℕ) (r : Row) → Parts Q r → Part Q (find_key k r)
 unfolding find_key
@@ -102,19 +102,19 @@ side_follow (suc k) s Error w h = h
 side_follow (suc k) s (Var x) w h = go (bound s x) refl (λ t. side_follow k s t w)
   where
     go : (o : Option Ty) → bound s x ≡ o → ((t : Ty) → Side (length s) t → Side (length s) (follow k s t)) → Side (length s) (follow (suc k) s (Var x))
-    go none e ih = rw (e, follow) h
-    go (some t) e ih = rw (e, follow) (ih t (w.sides x t e))
+    go None e ih = rw (e, follow) h
+    go (Some t) e ih = rw (e, follow) (ih t (w.sides x t e))
 
-pub wf_bind : (s : Subst) (x : ℕ) (t : Ty) → x < length s → Side (length s) t → ¬ Reaches s t (Var x) → Wf s → Wf (set s x (some t))
+pub wf_bind : (s : Subst) (x : ℕ) (t : Ty) → x < length s → Side (length s) t → ¬ Reaches s t (Var x) → Wf s → Wf (set s x (Some t))
 wf_bind s x t lt side off w = record {
   acyclic = acyclic_bind s x t lt off w.acyclic;
-  sides = λ y u e. rw (length-set s x (some t)) (by_cases (ℕ_discrete y x)
-      (λ p. let q : t ≡ u = cc (bound_same s x (some t) lt) in rw (← q) side)
-      (λ n. w.sides y u (sym (bound_other s x y (some t) n) ∙ e)));
+  sides = λ y u e. rw (length-set s x (Some t)) (by_cases (ℕ_discrete y x)
+      (λ p. let q : t ≡ u = cc (bound_same s x (Some t) lt) in rw (← q) side)
+      (λ n. w.sides y u (sym (bound_other s x y (Some t) n) ∙ e)));
 }
 
 -- Free unknowns made since change nothing.
-pub bound_pad : (s : Subst) (n x : ℕ) → bound (s ++ replicate n none) x ≡ bound s x
+pub bound_pad : (s : Subst) (n x : ℕ) → bound (s ++ replicate n None) x ≡ bound s x
 unfolding bound
 bound_pad [] zero x = refl
 bound_pad [] (suc n) zero = refl
@@ -122,12 +122,12 @@ bound_pad [] (suc n) (suc x) = bound_pad [] n x
 bound_pad (o ∷ s) n zero = refl
 bound_pad (o ∷ s) n (suc x) = bound_pad s n x
 
-pub pad_among : (s : Subst) (n : ℕ) → Among (s ++ replicate n none) s
+pub pad_among : (s : Subst) (n : ℕ) → Among (s ++ replicate n None) s
 pad_among s n x t e = sym (bound_pad s n x) ∙ e
 
-pub wf_pad : (s : Subst) (n : ℕ) → Wf s → Wf (s ++ replicate n none)
+pub wf_pad : (s : Subst) (n : ℕ) → Wf s → Wf (s ++ replicate n None)
 wf_pad s n w = record {
-  acyclic = acyclic_among (s ++ replicate n none) s (pad_among s n) w.acyclic;
-  sides = λ x t e. side_more (length s) (length (s ++ replicate n none)) (omega (arith, length-append s (replicate n none))) t
+  acyclic = acyclic_among (s ++ replicate n None) s (pad_among s n) w.acyclic;
+  sides = λ x t e. side_more (length s) (length (s ++ replicate n None)) (omega (arith, length-append s (replicate n None))) t
       (w.sides x t (pad_among s n x t e));
 }

@@ -4,7 +4,6 @@
 use mathlib.Core.Bool.{Bool, true, false}
 use mathlib.Core.List.{◌++◌, append-nil}
 use mathlib.Core.Logic.{◌↔◌}
-use mathlib.Core.Option.{none, some}
 use mathlib.Core.Path.{◌≡◌, refl, sym, subst}
 use Prim.Native.Nat.{ℕ, zero, suc, ◌-◌, ◌<◌}
 use native.Mathlib.Decide.{ℕ_discrete}
@@ -26,6 +25,7 @@ use Rattle.unification.specs.Log.{Wf}
 use Rattle.unification.proofs.Sides.{side_follow, wf_bind}
 use Rattle.unification.proofs.Kept.{After, heads_in, unify_in_spent, unify_in_visit}
 use Rattle.unification.proofs.Post.{Any, Known, Step, Closing, Post, Inside, step_refl, stay, stop, under, loosen, Entry, nodes_post}
+use Rattle.std.specs.Prelude.{None, Some}
 
 -- ---- Binding
 set_var_step : (st : State) (x : ℕ) (t : Ty) → Wf st.subst → x < length st.subst → Side (length st.subst) t → ¬ Reaches st.subst t (Var x)
@@ -33,13 +33,13 @@ set_var_step : (st : State) (x : ℕ) (t : Ty) → Wf st.subst → x < length st
 unfolding set_var
 set_var_step st x t w lt side off = record {
   wf = wf_bind st.subst x t lt side off w;
-  len = length-set st.subst x (some t);
+  len = length-set st.subst x (Some t);
   moments = λ k. k.moments;
   older = λ a. a;
   held = λ σ m. m;
 }
 
-bind_var_post : (d : ℕ) (A : Type 0) (st : State) (x : ℕ) (t : Ty) → Wf st.subst → bound st.subst x ≡ none → Resolved st.subst t → ¬ (t ≡ Var x)
+bind_var_post : (d : ℕ) (A : Type 0) (st : State) (x : ℕ) (t : Ty) → Wf st.subst → bound st.subst x ≡ None → Resolved st.subst t → ¬ (t ≡ Var x)
     → x < length st.subst → Side (length st.subst) t → (A → Admitted st.subst t)
     → Inside st.subst st.history A (λ σ. Same (σ x) (app σ t)) (bind_var d st x t)
 unfolding bind_var set_var with_left BindingsClaim
@@ -84,7 +84,7 @@ module _ (d : ℕ) (u : State → Ty → Ty → Unified) (rec : Entry u) (A : Ty
   no_error g = g Error itself
 
   -- The unknown on the right takes what is on the left.
-  right_var : (a : Ty) (y : ℕ) → bound st.subst y ≡ none → Resolved st.subst a → ¬ (a ≡ Var y) → y < length st.subst
+  right_var : (a : Ty) (y : ℕ) → bound st.subst y ≡ None → Resolved st.subst a → ¬ (a ≡ Var y) → y < length st.subst
       → Side (length st.subst) a → (A → Admitted st.subst a)
       → Inside st.subst st.history A (λ σ. Same (app σ a) (σ y)) (bind_var d st y a)
   right_var a y free res n lt side p =
@@ -123,7 +123,7 @@ module _ (d : ℕ) (u : State → Ty → Ty → Unified) (rec : Entry u) (A : Ty
   heads_post (node k r) (node k' r') e f i j p = loosen _ _ A _ (unify_nodes u st k r k' r') (nodes_post u rec A st k r k' r' w i j p)
 
 -- ---- An entry ends and is noted
-pub noted_end : (s : Subst) → s ≡ s ++ replicate (length s - length s) none
+pub noted_end : (s : Subst) → s ≡ s ++ replicate (length s - length s) None
 noted_end s = let e : length s - length s ≡ 0 = omega arith in rw e (sym (append-nil s))
 
 module _ (s : Subst) (h : History) (a b : Ty) where

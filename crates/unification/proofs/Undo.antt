@@ -2,7 +2,6 @@
 -- earlier state, and unknowns made since stay behind, free. `Since` says this of a stretch of a run, over any padding with
 -- free unknowns, so that stretches join.
 use mathlib.Core.List.{List, [], ◌∷◌, ◌++◌, append_assoc, append-nil}
-use mathlib.Core.Option.{Option, none, some}
 use mathlib.Core.Path.{◌≡◌, refl, sym, ◌∙◌, ap}
 use Prim.Native.Nat.{ℕ, zero, suc, ◌+◌, ◌-◌, ◌≤◌}
 use native.Mathlib.Nat.{zero-add, add-zero, add_assoc}
@@ -12,6 +11,7 @@ use lib.Seq.{set-set, set-get_or, take_at, drop_at}
 use Rattle.unification.specs.Ty.{Ty}
 use Rattle.unification.specs.Bindings.{Subst, bound, Undo, Binding, Annotation, History, State, with_left, with_history, fresh, set_var, annotate}
 use Rattle.unification.specs.Bindings.{snapshot, revert, rewind, rollback}
+use Rattle.std.specs.Prelude.{None, Option, Some}
 
 -- Changes of bindings taken back, newest first, and those of annotations.
 unfoldable pub unbind : List Undo → Subst → Subst
@@ -85,7 +85,7 @@ rewind_nodes (suc k) (Annotation n prev ∷ us) st = rewind_nodes k us (revert (
 pub record Since (n : ℕ) (st₀ st : State) : Type 0 where
   pub new : List Undo
   pub undo : st.undo ≡ new ++ st₀.undo
-  pub subst : (k : ℕ) → unbind new (st.subst ++ replicate k none) ≡ st₀.subst ++ replicate (n + k) none
+  pub subst : (k : ℕ) → unbind new (st.subst ++ replicate k None) ≡ st₀.subst ++ replicate (n + k) None
   pub tys : unannotate new st.tys ≡ st₀.tys
   pub left : st.left ≤ st₀.left
 
@@ -97,20 +97,20 @@ pub since_trans : {n m : ℕ} {a b c : State} → Since n a b → Since m b c �
 since_trans {n} {m} {a} {b} {c} p q = record {
   new = q.new ++ p.new;
   undo = q.undo ∙ ap {B = List Undo} (λ us. q.new ++ us) p.undo ∙ sym (append_assoc q.new p.new a.undo);
-  subst = λ k. unbind_append q.new p.new (c.subst ++ replicate k none) ∙ ap (unbind p.new) (q.subst k) ∙ p.subst (m + k) ∙ ap {B = Subst}
-      (λ j. a.subst ++ replicate j none) (sym (add_assoc n m k));
+  subst = λ k. unbind_append q.new p.new (c.subst ++ replicate k None) ∙ ap (unbind p.new) (q.subst k) ∙ p.subst (m + k) ∙ ap {B = Subst}
+      (λ j. a.subst ++ replicate j None) (sym (add_assoc n m k));
   tys = unannotate_append q.new p.new c.tys ∙ ap (unannotate p.new) q.tys ∙ p.tys;
   left = omega (arith, p.left, q.left);
 }
 
 pub since_length : {n : ℕ} {st₀ st : State} → Since n st₀ st → length st.subst ≡ length st₀.subst + n
 since_length {n} {st₀} {st} p =
-    let e : length (st.subst ++ replicate 0 none) ≡ length (st₀.subst ++ replicate (n + 0) none) = sym (unbind_length p.new _) ∙ ap length (p.subst 0) in
+    let e : length (st.subst ++ replicate 0 None) ≡ length (st₀.subst ++ replicate (n + 0) None) = sym (unbind_length p.new _) ∙ ap length (p.subst 0) in
     omega (
       arith,
-      length-append st.subst (replicate 0 none),
-      length-append st₀.subst (replicate (n + 0) none),
-      length-replicate {A = Option Ty} (n + 0) none,
+      length-append st.subst (replicate 0 None),
+      length-append st₀.subst (replicate (n + 0) None),
+      length-replicate {A = Option Ty} (n + 0) None,
     )
 
 pub since_history : {n : ℕ} {st₀ st : State} (h : History) → Since n st₀ st → Since n st₀ (with_history st h)
@@ -120,13 +120,13 @@ since_history h p = record { new = p.new; undo = p.undo; subst = p.subst; tys = 
 -- ---- Each call is such a stretch
 
 -- Giving a place back what stood there, over free unknowns made since.
-set_back : (s : Subst) (x k : ℕ) (o : Option Ty) → set (set s x o ++ replicate k none) x (get_or s x none) ≡ s ++ replicate k none
+set_back : (s : Subst) (x k : ℕ) (o : Option Ty) → set (set s x o ++ replicate k None) x (get_or s x None) ≡ s ++ replicate k None
 set_back [] x k o = free k x
   where
-    free : (k x : ℕ) → set (replicate k none) x none ≡ replicate {A = Option Ty} k none
+    free : (k x : ℕ) → set (replicate k None) x None ≡ replicate {A = Option Ty} k None
     free zero x = refl
     free (suc k) zero = refl
-    free (suc k) (suc x) = ap {B = Subst} (λ r. none ∷ r) (free k x)
+    free (suc k) (suc x) = ap {B = Subst} (λ r. None ∷ r) (free k x)
 set_back (a ∷ s) zero k o = refl
 set_back (a ∷ s) (suc x) k o = ap {B = Subst} (λ r. a ∷ r) (set_back s x k o)
 
@@ -135,7 +135,7 @@ unfolding set_var unbind unannotate bound
 since_set_var st x t = record {
   new = Binding x (bound st.subst x) ∷ [];
   undo = refl;
-  subst = λ k. rw (zero-add k) (set_back st.subst x k (some t));
+  subst = λ k. rw (zero-add k) (set_back st.subst x k (Some t));
   tys = refl;
   left = omega arith;
 }
@@ -143,10 +143,10 @@ since_set_var st x t = record {
 pub since_annotate : (st : State) (n : ℕ) (t : Ty) → Since 0 st (annotate st n t)
 unfolding annotate unbind unannotate
 since_annotate st n t = record {
-  new = Annotation n (get_or st.tys n none) ∷ [];
+  new = Annotation n (get_or st.tys n None) ∷ [];
   undo = refl;
   subst = λ k. rw (zero-add k);
-  tys = set-set st.tys n (some t) (get_or st.tys n none) ∙ set-get_or st.tys n none;
+  tys = set-set st.tys n (Some t) (get_or st.tys n None) ∙ set-get_or st.tys n None;
   left = omega arith;
 }
 
@@ -155,7 +155,7 @@ unfolding fresh unbind unannotate
 since_fresh st = record {
   new = [];
   undo = refl;
-  subst = λ k. append_assoc st.subst (none ∷ []) (replicate k none) ∙ ap {B = Subst} (λ r. st.subst ++ r) (replicate-append-replicate 1 k none);
+  subst = λ k. append_assoc st.subst (None ∷ []) (replicate k None) ∙ ap {B = Subst} (λ r. st.subst ++ r) (replicate-append-replicate 1 k None);
   tys = refl;
   left = omega arith;
 }
@@ -175,10 +175,10 @@ module _ {n : ℕ} {st₀ st : State} (p : Since n st₀ st) where
   oldest : drop (length st.undo - length st₀.undo) st.undo ≡ st₀.undo
   oldest = rw (steps, p.undo) (drop_at p.new st₀.undo (length p.new) refl)
 
-  unbound : unbind p.new st.subst ≡ st₀.subst ++ replicate n none
+  unbound : unbind p.new st.subst ≡ st₀.subst ++ replicate n None
   unbound = rw (append-nil, add-zero) at (p.subst 0)
 
-  pub rollback_subst : (rollback st (snapshot st₀)).subst ≡ st₀.subst ++ replicate n none
+  pub rollback_subst : (rollback st (snapshot st₀)).subst ≡ st₀.subst ++ replicate n None
   unfolding rollback snapshot with_history
   rollback_subst = rewind_subst (length st.undo - length st₀.undo) st.undo st ∙ ap (λ us. unbind us st.subst) newest ∙ unbound
 

@@ -2,7 +2,6 @@
 -- without that binding, of which there is one fewer. So one step more changes nothing, and `zonk` is the application of the
 -- substitution that resolves each unknown.
 use mathlib.Core.Logic.{⊎_elim}
-use mathlib.Core.Option.{Option, none, some}
 use mathlib.Core.Path.{◌≡◌, refl, sym, ◌∙◌, ap}
 use Prim.Native.Nat.{ℕ, zero, suc, ◌+◌, ◌≤◌}
 use native.Mathlib.Omega.{arith}
@@ -17,23 +16,24 @@ use Rattle.unification.proofs.Reach.{reaches_trans, reaches_var}
 use Rattle.unification.specs.Acyclic.{Acyclic}
 use Rattle.unification.proofs.Chain.{leaf_reaches, error_reaches, node_reaches, nil_reaches, cell_reaches, not_behind, count, count_le, unset}
 use Rattle.unification.proofs.Chain.{count_unset, unset_other, unset_acyclic, unset_reaches}
+use Rattle.std.specs.Prelude.{None, Option, Some}
 
 -- All unknowns in it are free.
 unfoldable pub Solved : Subst → Ty → Type 0
-Solved s t = (x : ℕ) → Reaches s t (Var x) → bound s x ≡ none
+Solved s t = (x : ℕ) → Reaches s t (Var x) → bound s x ≡ None
 
 pub zonk_none : (s : Subst) (t : Ty) → zonk_in zero s t ≡ t
 unfolding zonk_in
 zonk_none s t = refl
 
-pub zonk_free : (k : ℕ) (s : Subst) (x : ℕ) → bound s x ≡ none → zonk_in k s (Var x) ≡ Var x
+pub zonk_free : (k : ℕ) (s : Subst) (x : ℕ) → bound s x ≡ None → zonk_in k s (Var x) ≡ Var x
 unfolding zonk_in app
 zonk_free zero s x e = refl
-zonk_free (suc k) s x e = ap {B = Ty} (λ (o : Option Ty). elim o [ none ↦ Var x | some u ↦ zonk_in k s u ]) e
+zonk_free (suc k) s x e = ap {B = Ty} (λ (o : Option Ty). elim o [ None ↦ Var x | Some u ↦ zonk_in k s u ]) e
 
-pub zonk_bound : (k : ℕ) (s : Subst) (x : ℕ) (t : Ty) → bound s x ≡ some t → zonk_in (suc k) s (Var x) ≡ zonk_in k s t
+pub zonk_bound : (k : ℕ) (s : Subst) (x : ℕ) (t : Ty) → bound s x ≡ Some t → zonk_in (suc k) s (Var x) ≡ zonk_in k s t
 unfolding zonk_in app
-zonk_bound k s x t e = ap {B = Ty} (λ (o : Option Ty). elim o [ none ↦ Var x | some u ↦ zonk_in k s u ]) e
+zonk_bound k s x t e = ap {B = Ty} (λ (o : Option Ty). elim o [ None ↦ Var x | Some u ↦ zonk_in k s u ]) e
 
 pub zonk_app : (k : ℕ) (s : Subst) (t : Ty) → zonk_in (suc k) s t ≡ app (λ x. zonk_in (suc k) s (Var x)) t
 unfolding zonk_in app
@@ -71,13 +71,13 @@ mutual
   app_row_ext s f g (cell k l t r) h = rw (app_ext s f g t (λ x i. h x (first i)), app_row_ext s f g r (λ x i. h x (later i)))
 
 -- `zonk` at an unknown, by its binding.
-pub zonk_var : (k : ℕ) (s : Subst) (x : ℕ) (Q : Ty → Type 0) → (bound s x ≡ none → Q (Var x)) → ((t : Ty) → bound s x ≡ some t → Q (zonk_in k s t))
+pub zonk_var : (k : ℕ) (s : Subst) (x : ℕ) (Q : Ty → Type 0) → (bound s x ≡ None → Q (Var x)) → ((t : Ty) → bound s x ≡ Some t → Q (zonk_in k s t))
     → Q (zonk_in (suc k) s (Var x))
 zonk_var k s x Q f g = go (bound s x) refl
   where
     go : (o : Option Ty) → bound s x ≡ o → Q (zonk_in (suc k) s (Var x))
-    go none e = rw (zonk_free (suc k) s x e) (f e)
-    go (some t) e = rw (zonk_bound k s x t e) (g t e)
+    go None e = rw (zonk_free (suc k) s x e) (f e)
+    go (Some t) e = rw (zonk_bound k s x t e) (g t e)
 
 zonk_reaches : (k : ℕ) (s : Subst) (t : Ty) (z : ℕ) → Reaches s (zonk_in k s t) (Var z) → Reaches s t (Var z)
 unfolding zonk_in
@@ -105,16 +105,16 @@ solved_set : (s : Subst) (x : ℕ) (t : Ty) → ¬ Reaches s t (Var x) → Solve
 unfolding Solved
 solved_set s x t off h z i = sym (unset_other s x z (λ p. off (rw (← p) i))) ∙ h z (unset_reaches s x off i)
 
-solved_free : (s : Subst) (x : ℕ) → bound s x ≡ none → Solved s (Var x)
+solved_free : (s : Subst) (x : ℕ) → bound s x ≡ None → Solved s (Var x)
 unfolding Solved
 solved_free s x e z i = ⊎_elim (λ q. let p : x ≡ z = cc (q) in rw (← p) e) (λ c. clash (cc c.1)) (reaches_var s x (Var z) i)
 
 -- At an unknown, if it is so behind its binding without that binding.
-solved_var : (k : ℕ) (s : Subst) (x : ℕ) → Acyclic s → ((t : Ty) → bound s x ≡ some t → Solved (unset s x) (zonk_in k (unset s x) t))
+solved_var : (k : ℕ) (s : Subst) (x : ℕ) → Acyclic s → ((t : Ty) → bound s x ≡ Some t → Solved (unset s x) (zonk_in k (unset s x) t))
     → Solved s (zonk_in (suc k) s (Var x))
 solved_var k s x A ih = zonk_var k s x (Solved s) (solved_free s x) behind
   where
-    behind : (t : Ty) → bound s x ≡ some t → Solved s (zonk_in k s t)
+    behind : (t : Ty) → bound s x ≡ Some t → Solved s (zonk_in k s t)
     behind t e =
         let off = not_behind s A x t e in
         solved_set s x (zonk_in k s t) (λ i. off (zonk_reaches k s t x i)) (rw (zonk_unset k s x t off) at (ih t e))
@@ -123,9 +123,9 @@ zonk_in_solved : (k : ℕ) (s : Subst) → count s ≤ k → Acyclic s → (t : 
 unfolding zonk_in Solved
 zonk_in_solved zero s le A t z h = go (bound s z) refl
   where
-    go : (o : Option Ty) → bound s z ≡ o → bound s z ≡ none
-    go none e = e
-    go (some u) e = absurd (omega (arith, count_unset s z u e))
+    go : (o : Option Ty) → bound s z ≡ o → bound s z ≡ None
+    go None e = e
+    go (Some u) e = absurd (omega (arith, count_unset s z u e))
 zonk_in_solved (suc k) s le A t z h =
     let x = app_reaches s (λ y. zonk_in (suc k) s (Var y)) t z (rw (zonk_app k s t) at h) in
     solved_var k s x.0 A (λ u e. zonk_in_solved k (unset s x.0) (omega (arith, count_unset s x.0 u e)) (unset_acyclic s x.0 A) u) z x.2
@@ -153,8 +153,8 @@ zonk_last (suc k) s t =
     each y ih = go (bound s y) refl
       where
         go : (o : Option Ty) → bound s y ≡ o → zonk_in (suc (suc k)) s (Var y) ≡ zonk_in 1 s (zonk_in (suc k) s (Var y))
-        go none e = zonk_free (suc (suc k)) s y e ∙ sym (ap (zonk_in 1 s) (zonk_free (suc k) s y e) ∙ zonk_free 1 s y e)
-        go (some u) e = zonk_bound (suc k) s y u e ∙ ih u ∙ sym (ap (zonk_in 1 s) (zonk_bound k s y u e))
+        go None e = zonk_free (suc (suc k)) s y e ∙ sym (ap (zonk_in 1 s) (zonk_free (suc k) s y e) ∙ zonk_free 1 s y e)
+        go (Some u) e = zonk_bound (suc k) s y u e ∙ ih u ∙ sym (ap (zonk_in 1 s) (zonk_bound k s y u e))
 
 -- A resolved type has nothing left to resolve.
 pub zonk_more : (s : Subst) → Acyclic s → (t : Ty) → zonk_in (suc (length s)) s t ≡ zonk s t
@@ -187,17 +187,17 @@ pub zonk_node : (s : Subst) (k : Kind) (r : Row) → zonk s (node k r) ≡ node 
 unfolding app
 zonk_node s k r = zonk_replaces s (node k r)
 
-pub zonk_unbound : (s : Subst) (x : ℕ) → bound s x ≡ none → zonk s (Var x) ≡ Var x
+pub zonk_unbound : (s : Subst) (x : ℕ) → bound s x ≡ None → zonk s (Var x) ≡ Var x
 unfolding zonk
 zonk_unbound s x e = zonk_free (length s) s x e
 
 -- ---- What `zonk` gives, by the shape of the type
 module _ (s : Subst) (A : Acyclic s) where
-  pub zonk_of_free : (x : ℕ) → bound s x ≡ none → zonk s (Var x) ≡ Var x
+  pub zonk_of_free : (x : ℕ) → bound s x ≡ None → zonk s (Var x) ≡ Var x
   unfolding zonk
   zonk_of_free x e = zonk_free (length s) s x e
 
-  pub zonk_of_bound : (x : ℕ) (t : Ty) → bound s x ≡ some t → zonk s (Var x) ≡ zonk s t
+  pub zonk_of_bound : (x : ℕ) (t : Ty) → bound s x ≡ Some t → zonk s (Var x) ≡ zonk s t
   unfolding zonk
   zonk_of_bound x t e = sym (zonk_more s A (Var x)) ∙ zonk_bound (length s) s x t e
 
@@ -214,8 +214,8 @@ module _ (s : Subst) (A : Acyclic s) where
   follow_zonk (suc j) (Var x) = go (bound s x) refl (λ t. follow_zonk j t)
     where
       go : (o : Option Ty) → bound s x ≡ o → ((t : Ty) → zonk s (follow j s t) ≡ zonk s t) → zonk s (follow (suc j) s (Var x)) ≡ zonk s (Var x)
-      go none e ih = rw (e, follow)
-      go (some t) e ih = rw (e, follow) (ih t ∙ sym (zonk_of_bound x t e))
+      go None e ih = rw (e, follow)
+      go (Some t) e ih = rw (e, follow) (ih t ∙ sym (zonk_of_bound x t e))
 
   pub zonk_repr : (t : Ty) → zonk s (repr s t) ≡ zonk s t
   unfolding repr

@@ -1,7 +1,6 @@
 -- The substitution of ty.rs: `subst`, `undo`, `repr`, `zonk`, `occurs`, `set_var`, `fresh_var_id`, `annotate`,
 -- `snapshot`, `rollback`, with the visits that document 01 counts.
-use Rattle.std.specs.Prelude.{Bool, true, false, List, [], ◌∷◌, ◌++◌, ◌≡◌, ℕ, zero, suc, ◌-◌, eqb, length, get_or, set}
-use Rattle.std.proofs.Math.Option.{Option, none, some}
+use Rattle.std.specs.Prelude.{Bool, true, false, List, [], ◌∷◌, ◌++◌, ◌≡◌, ℕ, zero, suc, ◌-◌, eqb, length, get_or, set, None, Option, Some}
 use Rattle.unification.specs.Ty.{Ty, leaf, node, Var, Error, Row, ε, cell, app}
 
 -- What each unknown is bound to.
@@ -10,7 +9,7 @@ Subst = List (Option Ty)
 
 -- `var_ty`
 unfoldable pub bound : Subst → ℕ → Option Ty
-bound s x = get_or s x none
+bound s x = get_or s x None
 
 -- `repr`: along the chain of bound unknowns, at most one step more than there are unknowns.
 unfoldable pub follow : ℕ → Subst → Ty → Ty
@@ -18,7 +17,7 @@ unfolding bound
 follow zero s t = t
 follow (suc k) s (leaf p) = leaf p
 follow (suc k) s (node c r) = node c r
-follow (suc k) s (Var x) = elim (bound s x) [ none ↦ Var x | some t ↦ follow k s t ]
+follow (suc k) s (Var x) = elim (bound s x) [ None ↦ Var x | Some t ↦ follow k s t ]
 follow (suc k) s Error = Error
 
 unfoldable pub repr : Subst → Ty → Ty
@@ -29,7 +28,7 @@ repr s t = follow (suc (length s)) s t
 abbrev pub Resolved : Subst → Ty → Type 0
 Resolved s (leaf p) = Unit {0}
 Resolved s (node k r) = Unit {0}
-Resolved s (Var x) = bound s x ≡ none
+Resolved s (Var x) = bound s x ≡ None
 Resolved s Error = Unit {0}
 
 -- `zonk`: every bound unknown replaced, at every depth. Bindings lead from unknown to unknown at most as often as
@@ -37,7 +36,7 @@ Resolved s Error = Unit {0}
 unfoldable pub zonk_in : ℕ → Subst → Ty → Ty
 unfolding bound app
 zonk_in zero s t = t
-zonk_in (suc k) s t = app (λ x. elim (bound s x) [ none ↦ Var x | some u ↦ zonk_in k s u ]) t
+zonk_in (suc k) s t = app (λ x. elim (bound s x) [ None ↦ Var x | Some u ↦ zonk_in k s u ]) t
 
 unfoldable pub zonk : Subst → Ty → Ty
 unfolding zonk_in
@@ -100,13 +99,13 @@ unfoldable pub fresh_id : State → ℕ
 fresh_id st = length st.subst
 
 unfoldable pub fresh : State → State
-fresh st = record { subst = st.subst ++ none ∷ []; tys = st.tys; undo = st.undo; left = st.left; history = st.history }
+fresh st = record { subst = st.subst ++ None ∷ []; tys = st.tys; undo = st.undo; left = st.left; history = st.history }
 
 -- `set_var`
 unfoldable pub set_var : State → ℕ → Ty → State
 unfolding bound
 set_var st x t = record {
-  subst = set st.subst x (some t);
+  subst = set st.subst x (Some t);
   tys = st.tys;
   undo = Binding x (bound st.subst x) ∷ st.undo;
   left = st.left;
@@ -117,8 +116,8 @@ set_var st x t = record {
 unfoldable pub annotate : State → ℕ → Ty → State
 annotate st n t = record {
   subst = st.subst;
-  tys = set st.tys n (some t);
-  undo = Annotation n (get_or st.tys n none) ∷ st.undo;
+  tys = set st.tys n (Some t);
+  undo = Annotation n (get_or st.tys n None) ∷ st.undo;
   left = st.left;
   history = st.history;
 }

@@ -1,7 +1,6 @@
 -- What demand 3 speaks of (document 01, "What demand 3 speaks of"): lists of calls, reaching, respecting, and the four
 -- clauses of the claim.
-use Rattle.std.specs.Prelude.{Bool, true, false, List, [], ◌∷◌, ◌++◌, ◌↔◌, ◌≢◌, ◌≡◌, ℕ, ◌-◌, ◌<◌, ◌≤◌, length, replicate}
-use Rattle.std.proofs.Math.Option.{Option, none, some}
+use Rattle.std.specs.Prelude.{Bool, true, false, List, [], ◌∷◌, ◌++◌, ◌↔◌, ◌≢◌, ◌≡◌, ℕ, ◌-◌, ◌<◌, ◌≤◌, length, replicate, None, Option, Some}
 use Rattle.unification.specs.Ty.{Kind, Record, Union, Ty, leaf, node, Var, Error, Row, ε, cell, app}
 use Rattle.unification.specs.Order.{Same, Finite}
 use Rattle.unification.specs.Bindings.{Subst, bound, History, start, ended, rolled, State, with_left, fresh, annotate, Snapshot, snapshot, rollback}
@@ -54,7 +53,7 @@ mutual
   pub data Reaches (s : Subst) : Ty → Ty → Type 0 where
     itself : {t : Ty} → Reaches s t t
     inside : {k : Kind} {r : Row} {u : Ty} → ReachesRow s r u → Reaches s (node k r) u
-    through : {x : ℕ} {t u : Ty} → bound s x ≡ some t → Reaches s t u → Reaches s (Var x) u
+    through : {x : ℕ} {t u : Ty} → bound s x ≡ Some t → Reaches s t u → Reaches s (Var x) u
 
   pub data ReachesRow (s : Subst) : Row → Ty → Type 0 where
     first : {k l : ℕ} {t u : Ty} {r : Row} → Reaches s t u → ReachesRow s (cell k l t r) u
@@ -74,7 +73,7 @@ Admitted s t = (u : Ty) → Reaches s t u → Allowed u
 
 -- An unknown leads back to itself.
 unfoldable pub LeadsBack : Subst → ℕ → Type 0
-LeadsBack s x = (t : Ty) × (bound s x ≡ some t) × Reaches s t (Var x)
+LeadsBack s x = (t : Ty) × (bound s x ≡ Some t) × Reaches s t (Var x)
 
 -- ---- Assignments
 
@@ -84,7 +83,7 @@ Assignment σ = (x : ℕ) → Finite (σ x)
 
 -- A binding is respected when the unknown and what it is bound to become equal up to order.
 unfoldable pub Respects : (ℕ → Ty) → Subst → Type 0
-Respects σ s = (x : ℕ) (t : Ty) → bound s x ≡ some t → Same (σ x) (app σ t)
+Respects σ s = (x : ℕ) (t : Ty) → bound s x ≡ Some t → Same (σ x) (app σ t)
 
 -- ---- The list of calls
 
@@ -162,7 +161,7 @@ NoLoop s = (x : ℕ) → ¬ LeadsBack s x
 
 -- (d) A rollback from the bindings s leaves s': each unknown of its snapshot has its binding of then, the later ones are there and free.
 unfoldable pub BackTo : Subst → Subst → Subst → Type 0
-BackTo then s s' = s' ≡ then ++ replicate (length s - length then) none
+BackTo then s s' = s' ≡ then ++ replicate (length s - length then) None
 
 -- The bindings that a moment left.
 unfoldable pub bindings_at : History → Subst
@@ -173,7 +172,7 @@ bindings_at (rolled past s s' h) = s'
 -- Nobody else writes bindings: they are those of the last moment, and the unknowns made since are free.
 unfoldable pub Noted : Subst → History → Type 0
 unfolding bindings_at
-Noted s h = s ≡ bindings_at h ++ replicate (length s - length (bindings_at h)) none
+Noted s h = s ≡ bindings_at h ++ replicate (length s - length (bindings_at h)) None
 
 -- At every moment of a history, also inside an outer unification: (a) of the unification that ended there, (d) of the rollback, (b) and (c).
 abbrev pub AtEveryMoment : ((ℕ → Ty) → Type 0) → History → Type 0

@@ -3,6 +3,7 @@ pub mod Order
 pub mod Robinson
 pub mod Bindings
 pub mod Unify
+pub mod Quiet
 pub mod Calls
 pub mod Acyclic
 pub mod Tie

@@ -1,7 +1,6 @@
 -- Where `unify` of ty.rs meets Robinson's notions: it unifies its two sides together with the bindings, which are
 -- equations, and what it binds is a most general unifier of them.
-use Rattle.std.specs.Prelude.{Bool, true, false, List, [], ◌∷◌, ℕ, zero, suc}
-use Rattle.std.proofs.Math.Option.{none, some}
+use Rattle.std.specs.Prelude.{Bool, true, false, List, [], ◌∷◌, ℕ, zero, suc, None, Some}
 use Rattle.unification.specs.Ty.{Ty, Var}
 use Rattle.unification.specs.Bindings.{Subst, zonk, History, start, ended, rolled}
 use Rattle.unification.specs.Calls.{Admitted}
@@ -10,8 +9,8 @@ use Rattle.unification.specs.Robinson.{Substitution, Equation, Unifies, MostGene
 -- The bindings from the x-th unknown on: each bound one equals what it is bound to.
 unfoldable pub equations_from : ℕ → Subst → List Equation
 equations_from x [] = []
-equations_from x (none ∷ s) = equations_from (suc x) s
-equations_from x (some t ∷ s) = record { left = Var x; right = t } ∷ equations_from (suc x) s
+equations_from x (None ∷ s) = equations_from (suc x) s
+equations_from x (Some t ∷ s) = record { left = Var x; right = t } ∷ equations_from (suc x) s
 
 unfoldable pub equations : Subst → List Equation
 unfolding equations_from

@@ -1,7 +1,6 @@
 -- `unify` of ty.rs with `unify_shapes`, `unify_union` and `bind_var`, and `orderable`. An entry costs a visit, and none
 -- is made when no visit is left.
-use Rattle.std.specs.Prelude.{true, false, List, [], ◌∷◌, ℕ, zero, suc, eqb, ltb}
-use Rattle.std.proofs.Math.Option.{Option, none, some}
+use Rattle.std.specs.Prelude.{true, false, List, [], ◌∷◌, ℕ, zero, suc, eqb, ltb, None, Option, Some}
 use Rattle.std.proofs.Math.Decide.{ℕ_discrete}
 use Rattle.unification.specs.Ty.{Leaf, Int, String, Bytes, Fact, Leaf-discrete, Kind, Record, Union, Ty, leaf, node, Var, Error, Row, ε, cell, row_len}
 use Rattle.unification.specs.Bindings.{Subst, repr, Answer, yes_left, no_left, spent, occurs, State, with_left, set_var, ended}
@@ -53,18 +52,18 @@ bind_var d st x t = elim (occurs d st.subst x st.left t) [ yes_left v ↦ Err In
 
 -- The first cell with this key: its label and its type.
 unfoldable pub find_key : ℕ → Row → Option (ℕ × Ty)
-find_key k ε = none
-find_key k (cell m l t r) = elim (eqb k m) [ true ↦ some (l, t) | false ↦ find_key k r ]
+find_key k ε = None
+find_key k (cell m l t r) = elim (eqb k m) [ true ↦ Some (l, t) | false ↦ find_key k r ]
 
 -- The first cell with this label: its type. (In a union the label is the alternative's name.)
 unfoldable pub find_label : ℕ → Row → Option Ty
-find_label n ε = none
-find_label n (cell k l t r) = elim (eqb n l) [ true ↦ some t | false ↦ find_label n r ]
+find_label n ε = None
+find_label n (cell k l t r) = elim (eqb n l) [ true ↦ Some t | false ↦ find_label n r ]
 
 -- Each name of the found side is sought in the expected; `u` is `unify` one level down.
 unfoldable pub unify_field : (State → Ty → Ty → Unified) → State → ℕ → Ty → Option (ℕ × Ty) → Unified
-unify_field u st k x none = Err (UnknownField k) st
-unify_field u st k x (some y) = u st x y.1
+unify_field u st k x None = Err (UnknownField k) st
+unify_field u st k x (Some y) = u st x y.1
 
 unfoldable pub unify_fields : (State → Ty → Ty → Unified) → State → Row → Row → Unified
 unfolding and_then unify_field find_key
@@ -94,10 +93,10 @@ discriminants xs ys = with_keys xs (with_keys ys [])
 -- declares is never asked for.)
 unfoldable pub unify_alternative : (State → Ty → Ty → Unified) → State → (UnionDiff → TyError) → ℕ → Option (ℕ × Ty) → Option (ℕ × Ty) → Unified
 unfolding map_err
-unify_alternative u st differ k none none = Ok st
-unify_alternative u st differ k none (some y) = Err (differ (Absent y.0 k)) st
-unify_alternative u st differ k (some x) none = Err (differ (Absent x.0 k)) st
-unify_alternative u st differ k (some x) (some y) = elim (eqb x.0 y.0) [ true ↦ map_err (differ (Payload x.0 k)) (u st x.1 y.1) | false ↦ Err (differ (Renamed y.0 x.0 k)) st ]
+unify_alternative u st differ k None None = Ok st
+unify_alternative u st differ k None (Some y) = Err (differ (Absent y.0 k)) st
+unify_alternative u st differ k (Some x) None = Err (differ (Absent x.0 k)) st
+unify_alternative u st differ k (Some x) (Some y) = elim (eqb x.0 y.0) [ true ↦ map_err (differ (Payload x.0 k)) (u st x.1 y.1) | false ↦ Err (differ (Renamed y.0 x.0 k)) st ]
 
 unfoldable pub unify_alternatives : (State → Ty → Ty → Unified) → State → (UnionDiff → TyError) → List ℕ → Row → Row → Unified
 unfolding unify_alternative and_then find_key

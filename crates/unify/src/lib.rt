@@ -1,176 +1,160 @@
 // `unify` and `orderable` over the cells, as ty.rs has them. A visit is counted at each entry.
 #![tactic(auto)]
 
-ghost use Rattle.std.specs.Prelude.{◌≡◌, ◌<◌};
-ghost use Rattle.cells.specs.Words.{first_w, part_w, after_w, again_w};
-ghost use Rattle.cells.specs.Promises.{IsOrderable, Lowers, LeastFrom, NextFrom, Passed, part_at, FindsKey, Unifies, BindsVar, UnifiesHeads, UnifiesRecord, UnifiesFields, UnifiesUnion, UnifiesPayload};
+ghost use Rattle.std.specs.Prelude.{◌≡◌, ◌<◌, ◌↔◌, IsTrue, get_or};
+ghost use Rattle.work.specs.Layout.{UNDO-LEN};
+ghost use Rattle.unify.specs.Last.{Remembers};
+ghost use Rattle.cells.specs.Words.{first_w, part_w, after_w};
+ghost use Rattle.cells.specs.Promises.{IsOrderable, Lowers, LeastFrom, NextFrom, Passed, part_at, FindsKey, Unifies, BindsVar, UnifiesHeads, UnifiesShapes, UnifiesRecord, UnifiesFields, UnifiesUnion, UnifiesNext};
 ghost use Rattle.cells.specs.declared.Kind.TheVariants.{Alternatives};
 ghost use Rattle.cells.specs.declared.Ty.TheVariants as Ty;
 ghost use Rattle.cells.specs.declared.TyError.TheVariants as TyError;
-ghost use Rattle.cells.specs.declared.Unified.TheVariants as Unified;
+ghost use Rattle.cells.specs.declared.Failure.TheVariants as Failure;
 
 use cells::{
-    Asked, Kind, Next, Place, Ty, TyError, Unified, UnionDiff, alternative, count, field, first,
-    occurs, part_count, part_ty, place_of, repr, same_ty, set_var, snapshot,
+    Failure, Kind, Ty, TyError, UnionDiff, alternative, count, field, first, occurs, part_count,
+    part_ty, place_of, repr, set_var, snapshot,
 };
 use work::{wide, word};
 
-fn bind_var(w: &mut [u32], x: u32, t: Ty, left: u32) -> Unified
+fn bind_var(w: &mut [u32], x: u32, t: Ty, left: u32) -> Result<u32, Failure>
     ensures { BindsVar w.old x t left w.new result }
 {
-    let o = occurs(w, x, t, left);
-    match o {
-        Asked::Yes(l) => Unified::Bad(TyError::Infinite, l),
-        Asked::No(l) => {
-            set_var(w, x, t);
-            Unified::Good(l)
-        }
-        Asked::Spent => Unified::Spent,
+    let (found, l) = occurs(w, x, t, left).ok_or(Failure::Spent)?;
+    if found {
+        return Err(Failure::Bad(TyError::Infinite, l));
     }
+    set_var(w, x, t);
+    Ok(l)
 }
 
 // `got` is the type of the node that the caller reports at.
 #[cycle(unifying)]
-pub fn unify(w: &mut [u32], got: Ty, expected: Ty, left: u32) -> Unified
+pub fn unify(w: &mut [u32], got: Ty, expected: Ty, left: u32) -> Result<u32, Failure>
     ensures { Unifies w.old got expected left w.new result }
 {
-    if left == 0 {
-        return Unified::Spent;
-    }
+    let rest = left.checked_sub(1).ok_or(Failure::Spent)?;
     let a = repr(w, got);
     let b = repr(w, expected);
-    unify_heads(w, a, b, left - 1)
+    unify_heads(w, a, b, rest)
 }
 
 #[cycle(unifying)]
-fn unify_heads(w: &mut [u32], a: Ty, b: Ty, left: u32) -> Unified
+fn unify_heads(w: &mut [u32], a: Ty, b: Ty, left: u32) -> Result<u32, Failure>
     ensures { UnifiesHeads w.old a b left w.new result }
 {
-    match a {
-        Ty::Error => match b {
-            Ty::Var(y) => {
-                set_var(w, y, Ty::Error);
-                Unified::Good(left)
-            }
-            _ => Unified::Good(left),
-        },
-        Ty::Var(x) => match b {
-            Ty::Error => {
-                set_var(w, x, Ty::Error);
-                Unified::Good(left)
-            }
-            Ty::Var(y) => {
-                if x == y {
-                    Unified::Good(left)
-                } else {
-                    bind_var(w, x, b, left)
-                }
-            }
-            _ => bind_var(w, x, b, left),
-        },
-        Ty::Record(c) => match b {
-            Ty::Error => Unified::Good(left),
-            Ty::Var(y) => bind_var(w, y, a, left),
-            Ty::Record(d) => unify_record(w, c, d, left),
-            _ => Unified::Bad(TyError::Mismatch(b, a), left),
-        },
-        Ty::Union(c) => match b {
-            Ty::Error => Unified::Good(left),
-            Ty::Var(y) => bind_var(w, y, a, left),
-            Ty::Union(d) => unify_union(w, c, d, left),
-            _ => Unified::Bad(TyError::Mismatch(b, a), left),
-        },
-        _ => match b {
-            Ty::Error => Unified::Good(left),
-            Ty::Var(y) => bind_var(w, y, a, left),
-            _ => {
-                if same_ty(a, b) {
-                    Unified::Good(left)
-                } else {
-                    Unified::Bad(TyError::Mismatch(b, a), left)
-                }
-            }
-        },
+    match (a, b) {
+        (Ty::Error, Ty::Var(x)) | (Ty::Var(x), Ty::Error) => {
+            set_var(w, x, Ty::Error);
+            Ok(left)
+        }
+        (Ty::Error, _) | (_, Ty::Error) => Ok(left),
+        (Ty::Var(x), Ty::Var(y)) if x == y => Ok(left),
+        (Ty::Var(x), _) => bind_var(w, x, b, left),
+        (_, Ty::Var(y)) => bind_var(w, y, a, left),
+        _ => unify_shapes(w, a, b, left),
     }
 }
 
 #[cycle(unifying)]
-fn unify_record(w: &mut [u32], c: u32, d: u32, left: u32) -> Unified
+fn unify_shapes(w: &mut [u32], a: Ty, b: Ty, left: u32) -> Result<u32, Failure>
+    ensures { UnifiesShapes w.old a b left w.new result }
+{
+    match (a, b) {
+        (Ty::Record(c), Ty::Record(d)) => unify_record(w, c, d, left),
+        (Ty::Union(c), Ty::Union(d)) => unify_union(w, c, d, left),
+        _ if a == b => Ok(left),
+        _ => Err(Failure::Bad(TyError::Mismatch(b, a), left)),
+    }
+}
+
+#[cycle(unifying)]
+fn unify_record(w: &mut [u32], c: u32, d: u32, left: u32) -> Result<u32, Failure>
     ensures { UnifiesRecord w.old c d left w.new result }
 {
     let n = count(w, c);
     if n == count(w, d) {
         unify_fields(w, c, d, n, left)
     } else {
-        Unified::Bad(TyError::Mismatch(Ty::Record(d), Ty::Record(c)), left)
+        Err(Failure::Bad(TyError::Mismatch(Ty::Record(d), Ty::Record(c)), left))
     }
 }
 
-// Whether these two are the last two that were unified, and nothing was bound since before that.
-fn again(w: &[u32], x: Ty, y: Ty, got: Ty, expected: Ty, log: u32) -> bool
-    ensures { result ≡ again_w w.now x y got expected log }
-{
-    if same_ty(x, got) {
-        if same_ty(y, expected) {
-            snapshot(w) == log
-        } else {
-            false
+// The last two types that were unified, what that cost, and how long the undo log was before it.
+#[derive(Clone, Copy)]
+struct Last {
+    got: Ty,
+    expected: Ty,
+    cost: u32,
+    log: u32,
+}
+
+impl Last {
+    // Two errors cost a visit, whatever is bound.
+    fn new() -> Self
+        ensures { result ≡ record { got = Ty.Error; expected = Ty.Error; cost = 1; log = 0 } }
+    {
+        Self {
+            got: Ty::Error,
+            expected: Ty::Error,
+            cost: 1,
+            log: 0,
         }
-    } else {
-        false
+    }
+
+    // Whether these two are the same, and nothing was bound since.
+    fn is(self, w: &[u32], got: Ty, expected: Ty) -> bool
+        ensures { IsTrue result ↔ ((got ≡ self.got) × (expected ≡ self.expected) × (get_or w.now UNDO-LEN 0 ≡ self.log)) }
+    {
+        got == self.got && expected == self.expected && snapshot(w) == self.log
     }
 }
 
-// Each name of the found side is sought in the expected. Two types that were just unified, and nothing was bound in it, cost
-// the same again, and are not walked.
+// The last two once more, where nothing was bound in it, cost the same again, and are not walked.
+#[inline(always)]
 #[cycle(unifying)]
-fn unify_fields(w: &mut [u32], c: u32, d: u32, n: u32, left: u32) -> Unified
+fn unify_next(
+    w: &mut [u32],
+    last: &mut Last,
+    got: Ty,
+    expected: Ty,
+    left: u32,
+) -> Result<u32, Failure>
+    ensures { UnifiesNext w.old (Remembers last.old) got expected left w.new (Remembers last.new) result }
+{
+    if last.is(w, got, expected) {
+        return left.checked_sub(last.cost).ok_or(Failure::Spent);
+    }
+    let log = snapshot(w);
+    let rest = unify(w, got, expected, left)?;
+    *last = Last {
+        got,
+        expected,
+        cost: left - rest,
+        log,
+    };
+    Ok(rest)
+}
+
+// Each name of the found side is sought in the expected.
+#[cycle(unifying)]
+fn unify_fields(w: &mut [u32], c: u32, d: u32, n: u32, left: u32) -> Result<u32, Failure>
     ensures { UnifiesFields w.old c d n left w.new result }
 {
-    let mut j: u32 = 0;
     let mut rest = left;
-    let mut got = Ty::Error;
-    let mut expected = Ty::Error;
-    let mut cost: u32 = 1;
-    let mut log: u32 = 0;
-    while j < n {
+    let mut last = Last::new();
+    for j in 0..n {
         let p = field(w, c, j);
-        let place = place_of(w, Kind::Fields, d, p.key);
-        let i = match place {
-            Place::At(i) => i,
-            Place::Nowhere => {
-                return Unified::Bad(TyError::UnknownField(p.key), rest);
-            }
+        let Some(i) = place_of(w, Kind::Fields, d, p.key) else {
+            return Err(Failure::Bad(TyError::UnknownField(p.key), rest));
         };
-        let q = field(w, d, i);
-        let x = p.ty;
-        let y = q.ty;
-        if again(w, x, y, got, expected, log) {
-            if rest < cost {
-                return Unified::Spent;
-            }
-            rest -= cost;
-        } else {
-            log = snapshot(w);
-            let r = unify(w, x, y, rest);
-            match r {
-                Unified::Good(l) => {
-                    got = x;
-                    expected = y;
-                    cost = rest - l;
-                    rest = l;
-                }
-                _ => {
-                    return r;
-                }
-            }
-        }
-        j += 1;
+        rest = unify_next(w, &mut last, p.ty, field(w, d, i).ty, rest)?;
     }
-    Unified::Good(rest)
+    Ok(rest)
 }
 
 // The discriminant of the alternative at j, of a union whose alternatives start at f.
+#[tactic(auto, unfolding(cells::specs::Words::alternative_w))]
 fn discriminant(w: &[u32], c: u32, f: usize, j: u32) -> u32
     requires { (f ≡ first_w w.now c) × (f < 4294967296) }
     ensures { result ≡ (part_w w.now Alternatives c j).key }
@@ -180,223 +164,138 @@ fn discriminant(w: &[u32], c: u32, f: usize, j: u32) -> u32
 
 // The least discriminant of one union that is not below `from`, or `best` where that is less. The first i alternatives are
 // below it; none is less than `from` itself.
-fn least_from(w: &[u32], c: u32, i: u32, from: u64, best: Next) -> Next
+fn least_from(w: &[u32], c: u32, i: u32, from: u64, best: Option<u32>) -> Option<u32>
     requires { Passed w.now c i from }
     ensures { LeastFrom w.now c from best result }
 {
-    let n = count(w, c);
     let f = first(w, c);
-    let mut j = i;
     let mut least = best;
-    while j < n {
+    for j in i..count(w, c) {
         let key = discriminant(w, c, f, j);
         least = lower(key, from, least);
-        if (key as u64) == from {
-            return least;
+        if u64::from(key) == from {
+            break;
         }
-        j += 1;
     }
     least
 }
 
-fn lower(key: u32, from: u64, best: Next) -> Next
+#[tactic(auto, unfolding(cells::specs::Words::lower_w))]
+fn lower(key: u32, from: u64, best: Option<u32>) -> Option<u32>
     ensures { Lowers key from best result }
 {
-    if (key as u64) < from {
-        return best;
-    }
-    match best {
-        Next::Nothing => Next::Is(key),
-        Next::Is(b) => { if key < b { Next::Is(key) } else { best } }
+    if u64::from(key) < from {
+        best
+    } else {
+        Some(best.map_or(key, |b| b.min(key)))
     }
 }
 
 // The least discriminant of either that is not below `from`. The first i and j alternatives are below it.
-fn next_discriminant(w: &[u32], c: u32, d: u32, i: u32, j: u32, from: u64) -> Next
+fn next_discriminant(w: &[u32], c: u32, d: u32, i: u32, j: u32, from: u64) -> Option<u32>
     requires { Passed w.now c i from × Passed w.now d j from }
     ensures { NextFrom w.now c d from result }
 {
-    let first = least_from(w, c, i, from, Next::Nothing);
-    match first {
-        Next::Is(k) => {
-            if (k as u64) == from {
-                return first;
-            }
-        }
-        Next::Nothing => {}
+    let first = least_from(w, c, i, from, None);
+    if first.map(u64::from) == Some(from) {
+        first
+    } else {
+        least_from(w, d, j, from, first)
     }
-    least_from(w, d, j, from, first)
 }
 
 // Where the first alternative with this discriminant stands: none of the first i has it.
-fn place_after(w: &[u32], c: u32, i: u32, k: u32) -> Place
+fn place_after(w: &[u32], c: u32, i: u32, k: u32) -> Option<u32>
     requires { Passed w.now c i k }
     ensures { FindsKey w.now Alternatives c k (part_at w.now Alternatives c result) }
 {
-    let n = count(w, c);
     let f = first(w, c);
-    let mut j = i;
-    while j < n {
-        let x = discriminant(w, c, f, j);
-        if x == k {
-            return Place::At(j);
-        }
-        j += 1;
-    }
-    Place::Nowhere
+    (i..count(w, c)).find(|j| discriminant(w, c, f, *j) == k)
 }
 
 // One alternative more is passed where the one at a is the next.
+#[tactic(auto, unfolding(cells::specs::Words::after_w))]
 fn after(a: u32, i: u32) -> u32
     ensures { result ≡ after_w a i }
 {
-    if a == i {
-        if i < 65536 { i + 1 } else { i }
-    } else {
-        i
-    }
+    if a == i && i < 65536 { i + 1 } else { i }
 }
 
 // Discriminants ascending: presence on both sides, then the name, then the payload; each is compared whole before the next.
-// Two payloads that were just unified, and nothing was bound in it, cost the same again, and are not walked.
+// A failure inside becomes a difference of the payload.
 #[cycle(unifying)]
-fn unify_union(w: &mut [u32], c: u32, d: u32, left: u32) -> Unified
+fn unify_union(w: &mut [u32], c: u32, d: u32, left: u32) -> Result<u32, Failure>
     ensures { UnifiesUnion w.old c d left w.new result }
 {
     let mut from: u64 = 0;
     let mut rest = left;
     let mut i: u32 = 0;
     let mut j: u32 = 0;
-    let mut got = Ty::Error;
-    let mut expected = Ty::Error;
-    let mut cost: u32 = 1;
-    let mut log: u32 = 0;
-    while from < 4294967296 {
-        let next = next_discriminant(w, c, d, i, j, from);
-        let k = match next {
-            Next::Is(k) => k,
-            Next::Nothing => {
-                return Unified::Good(rest);
+    let mut last = Last::new();
+    while let Some(k) = next_discriminant(w, c, d, i, j, from) {
+        let (a, b) = match (place_after(w, c, i, k), place_after(w, d, j, k)) {
+            (Some(a), Some(b)) => (a, b),
+            (Some(a), None) => {
+                let diff = UnionDiff::Absent(alternative(w, c, a).label, k);
+                return Err(differ(c, d, diff, rest));
             }
-        };
-        let found = place_after(w, c, i, k);
-        let other = place_after(w, d, j, k);
-        let a = match found {
-            Place::At(a) => a,
-            Place::Nowhere => {
-                match other {
-                    Place::At(b) => {
-                        let q = alternative(w, d, b);
-                        return differ(c, d, UnionDiff::Absent(q.label, k), rest);
-                    }
-                    Place::Nowhere => {
-                        return Unified::Good(rest);
-                    }
-                }
+            (None, Some(b)) => {
+                let diff = UnionDiff::Absent(alternative(w, d, b).label, k);
+                return Err(differ(c, d, diff, rest));
             }
+            (None, None) => return Ok(rest),
         };
         let p = alternative(w, c, a);
-        let b = match other {
-            Place::At(b) => b,
-            Place::Nowhere => {
-                return differ(c, d, UnionDiff::Absent(p.label, k), rest);
-            }
-        };
         let q = alternative(w, d, b);
         if p.label != q.label {
-            return differ(c, d, UnionDiff::Renamed(q.label, p.label, k), rest);
+            return Err(differ(c, d, UnionDiff::Renamed(q.label, p.label, k), rest));
         }
-        let x = p.ty;
-        let y = q.ty;
-        if again(w, x, y, got, expected, log) {
-            if rest < cost {
-                return Unified::Spent;
-            }
-            rest -= cost;
-        } else {
-            log = snapshot(w);
-            let r = unify_payload(w, c, d, UnionDiff::Payload(p.label, k), x, y, rest);
-            match r {
-                Unified::Good(l) => {
-                    got = x;
-                    expected = y;
-                    cost = rest - l;
-                    rest = l;
-                }
-                _ => {
-                    return r;
-                }
-            }
-        }
+        let diff = UnionDiff::Payload(p.label, k);
+        rest = unify_next(w, &mut last, p.ty, q.ty, rest).map_err(|e| match e {
+            Failure::Bad(_, l) => differ(c, d, diff, l),
+            Failure::Spent => e,
+        })?;
         i = after(a, i);
         j = after(b, j);
-        from = (k as u64) + 1;
+        from = u64::from(k) + 1;
     }
-    Unified::Good(rest)
+    Ok(rest)
 }
 
-fn differ(c: u32, d: u32, diff: UnionDiff, left: u32) -> Unified
-    ensures { result ≡ Unified.Bad (TyError.UnionMismatch diff (Ty.Union d) (Ty.Union c)) left }
+fn differ(c: u32, d: u32, diff: UnionDiff, left: u32) -> Failure
+    ensures { result ≡ Failure.Bad (TyError.UnionMismatch diff (Ty.Union d) (Ty.Union c)) left }
 {
-    Unified::Bad(
+    Failure::Bad(
         TyError::UnionMismatch(diff, Ty::Union(d), Ty::Union(c)),
         left,
     )
 }
 
-// A failure inside becomes a difference of the payload.
-#[cycle(unifying)]
-fn unify_payload(w: &mut [u32], c: u32, d: u32, diff: UnionDiff, a: Ty, b: Ty, left: u32) -> Unified
-    ensures { UnifiesPayload w.old c d diff a b left w.new result }
-{
-    let r = unify(w, a, b, left);
-    match r {
-        Unified::Bad(_, l) => differ(c, d, diff, l),
-        _ => r,
-    }
-}
-
 // `orderable` of the resolved type: unknowns are looked up on the way; to the first no. As in `occurs`, a part of the same
 // type as the last one costs what that cost.
-pub fn orderable(w: &[u32], t: Ty, left: u32) -> Asked
+pub fn orderable(w: &[u32], t: Ty, left: u32) -> Option<(bool, u32)>
     ensures { IsOrderable w.now t left result }
 {
-    if left == 0 {
-        return Asked::Spent;
-    }
+    let mut rest = left.checked_sub(1)?;
     let u = repr(w, t);
-    let mut rest = left - 1;
-    match u {
-        Ty::Fact(_) => {
-            return Asked::No(rest);
-        }
-        _ => {}
+    if let Ty::Fact(_) = u {
+        return Some((false, rest));
     }
-    let n = part_count(w, u);
-    let mut j: u32 = 0;
     let mut last = Ty::Error;
     let mut cost: u32 = 1;
-    while j < n {
+    for j in 0..part_count(w, u) {
         let q = part_ty(w, u, j);
-        if same_ty(q, last) {
-            if rest < cost {
-                return Asked::Spent;
-            }
-            rest -= cost;
+        if q == last {
+            rest = rest.checked_sub(cost)?;
         } else {
-            let r = orderable(w, q, rest);
-            match r {
-                Asked::Yes(l) => {
-                    last = q;
-                    cost = rest - l;
-                    rest = l;
-                }
-                _ => {
-                    return r;
-                }
+            let (yes, l) = orderable(w, q, rest)?;
+            if !yes {
+                return Some((false, l));
             }
+            last = q;
+            cost = rest - l;
+            rest = l;
         }
-        j += 1;
     }
-    Asked::Yes(rest)
+    Some((true, rest))
 }

@@ -1,5 +1,5 @@
--- Where the regions of the work slice stand: the numbers of the constants in src/lib.rt. Each region starts where the one
--- before it ends; the last ends at 15,793 of 16,384 words.
+-- Where the regions of the work slice stand: the numbers of the constants in src/lib.rt. Each region starts where the
+-- one before it ends; the last ends at 15,793 of 16,384 words.
 use Rattle.std.specs.Prelude.{ℕ}
 
 -- ---- What a file said, written once by the reading
@@ -38,7 +38,8 @@ NAMES = 16
 abbrev pub TYPES : ℕ
 TYPES = 272
 
--- 128 predicates, a word each: the name times 131,072, the key's type times 512, twice the value's type and 1 if there is one
+-- 128 predicates, a word each: the name times 131,072, the key's type times 512, twice the value's type and 1 if there
+-- is one
 abbrev pub PREDICATES : ℕ
 PREDICATES = 784
 
@@ -78,14 +79,16 @@ PLACE-HIGH = 9622
 abbrev pub FULL : ℕ
 FULL = 9623
 
--- what ends the run early besides its visits: 0 nothing, 1 its first diagnostic, 2 an entry to `unify`; and where it ended so, the visits left
+-- what ends the run early besides its visits: 0 nothing, 1 its first diagnostic, 2 an entry to `unify`; and where it
+-- ended so, the visits left
 abbrev pub UNTIL : ℕ
 UNTIL = 9624
 
 abbrev pub LEFT : ℕ
 LEFT = 9625
 
--- before which entry it is to end, how many there were, and where it ended so the entry's two sides, two words each: the tag and the payload
+-- before which entry it is to end, how many there were, and where it ended so the entry's two sides, two words each:
+-- the tag and the payload
 abbrev pub STOP : ℕ
 STOP = 9626
 

@@ -1,19 +1,20 @@
-// The work slice: where its regions stand, and reads and writes of one word that are total, so that no caller owes a bound.
+// The work slice: where its regions stand, and reads and writes of one word that are total, so that no caller owes a
+// bound.
 #![tactic(auto)]
 
 ghost use Rattle.std.specs.Prelude.{◌≡◌, ◌<◌, length, get_or, set, take, replicate, ◌++◌, ◌-◌};
 ghost use Rattle.work.specs.Counted.{no_counters};
 
-// The run's counters, and its limits. `fields` counts the words of schema types' parts; `value` is one more than the number
-// of the name `value`, or 0.
-#[derive(Clone, Copy)]
+// The run's counters, and its limits. `fields` counts the words of schema types' parts; `value` is the number of the
+// name `value`.
+#[derive(Clone, Copy, Default)]
 pub struct Counters {
     pub names: u32,
     pub types: u32,
     pub predicates: u32,
     pub nodes: u32,
     pub fields: u32,
-    pub value: u32,
+    pub value: Option<u32>,
     pub queries: u32,
 }
 
@@ -59,15 +60,7 @@ impl Counters {
     pub fn new() -> Self
         ensures { result ≡ no_counters }
     {
-        Self {
-            names: 0,
-            types: 0,
-            predicates: 0,
-            nodes: 0,
-            fields: 0,
-            value: 0,
-            queries: 0,
-        }
+        Self::default()
     }
 }
 
@@ -114,8 +107,8 @@ pub const PLACE: usize = RECORD_COUNT + 5;
 pub const PLACE_HIGH: usize = RECORD_COUNT + 6;
 
 pub const FULL: usize = RECORD_COUNT + 7;
-// What ends the run early besides its visits: 0 nothing, 1 its first diagnostic, 2 an entry to `unify`; and where it ended so, the
-// visits left.
+// What ends the run early besides its visits: 0 nothing, 1 its first diagnostic, 2 an entry to `unify`; and where it
+// ended so, the visits left.
 pub const UNTIL: usize = RECORD_COUNT + 8;
 
 pub const LEFT: usize = RECORD_COUNT + 9;
@@ -171,7 +164,7 @@ pub fn wide(x: u32) -> usize
 pub fn word(w: &[u32], i: usize) -> u32
     ensures { result ≡ get_or w.now i 0 }
 {
-    if i < w.len() { w[i] } else { 0 }
+    w.get(i).copied().unwrap_or(0)
 }
 
 // Nothing is written past the end.
@@ -186,20 +179,13 @@ pub fn put(w: &mut [u32], i: usize, x: u32)
 pub fn clear(w: &mut [u32])
     ensures { w.new ≡ replicate (length w.old) 0 }
 {
-    let mut i: usize = 0;
-    while i < w.len() {
-        w[i] = 0;
-        i += 1;
-    }
+    w.fill(0);
 }
 
 // Zeros from a place on.
 pub fn clear_bytes(s: &mut [u8], from: usize)
     ensures { s.new ≡ take from s.old ++ replicate (length s.old - from) 0 }
 {
-    let mut i = from;
-    while i < s.len() {
-        s[i] = 0;
-        i += 1;
-    }
+    let from = from.min(s.len());
+    s[from..].fill(0);
 }

@@ -1,4 +1,5 @@
 // Several numbers in a word, made and taken apart here alone.
+// Each number has a function of its own name, as document 01 asks: one over the size would call them high and low.
 ghost use Rattle.std.specs.Prelude.{◌≡◌, ◌+◌, ◌*◌, ◌/◌, ◌%◌, ◌<◌, ◌≤◌, eqb};
 
 // A number above a type's tag: of a schema type how many parts it has, of an inferred field its name.
@@ -145,7 +146,7 @@ pub fn node_word(place: usize, size: usize) -> u32
     requires { (place < 65536) × (size ≤ 512) }
     ensures { result ≡ (place * 1024 + size) * 2 }
 {
-    ((place * 1024 + size) * 2) as u32
+    line_word(place, size) * 2
 }
 
 pub fn node_line(x: u32) -> u32

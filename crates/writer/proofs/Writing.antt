@@ -1,20 +1,15 @@
 -- One writer after another is the writer of the joined text: the first leaves the place where the second starts, and what
 -- the first could not finish the two cannot.
-use mathlib.Core.List.{List, [], ◌∷◌, ◌++◌, append_assoc, append-nil}
-use mathlib.Core.Path.{◌≡◌, refl, sym, ap, ◌∙◌}
-use Prim.Native.Nat.{ℕ, suc, ◌+◌, ◌≤◌, ◌<◌}
-use native.Mathlib.Decide.{dec_le}
-use native.Mathlib.Numerals.{add-one}
-use native.Mathlib.Omega.{arith}
-use lib.ListN.{length, take, drop, set, length-append, length-take, length-drop, length-set, take-append-drop}
-use lib.Seq.{length-take-le, take_at, drop-append-add, drop-drop, set_split, append_snoc}
-use Rattle.writer.specs.declared.Wrote.{Wrote}
-use Rattle.writer.specs.declared.Wrote.TheVariants.{To, Full}
+use Rattle.std.proofs.Common.{◌≡◌, ℕ, suc, ◌+◌, ◌-◌, ◌≤◌, ◌<◌, List, [], ◌∷◌, ◌++◌, length, take, drop, set, None, Option, Some, refl, sym, ap, ◌∙◌, append_assoc, append-nil, add-one, arith, length-append, length-take, length-drop, length-set, take-append-drop, replicate, drop_of_length-le}
+use Rattle.std.proofs.Math.Decide.{dec_le}
+use Rattle.std.proofs.lemmas.Slice.{put_mid-paste}
+use Rattle.std.proofs.Math.Seq.{take-length, length-take-le, take_at, drop-append-add, drop-drop, set_split, append_snoc}
+use borrow.Rule.Slice.PartMut.{put_mid}
 use Rattle.writer.specs.Writes.{placed, Writes, Moves}
 
 -- ---- A text in its place
 
-module _ (at : ℕ) (a out : List ℕ) (h : at + length a ≤ length out) where
+module _ {A : Type 0} (at : ℕ) (a out : List A) (h : at + length a ≤ length out) where
   pub placed_long : length (placed at a out) ≡ length out
   unfolding placed
   placed_long = simp (length-append, length-take, length-drop) (omega arith)
@@ -33,25 +28,25 @@ module _ (at : ℕ) (a out : List ℕ) (h : at + length a ≤ length out) where
       ∙ drop-append-add (take at out ++ a) (drop (at + length a) out) n
       ∙ drop-drop n (at + length a) out
 
-  pub placed_then : (b : List ℕ) → placed (at + length a) b (placed at a out) ≡ placed at (a ++ b) out
+  pub placed_then : (b : List A) → placed (at + length a) b (placed at a out) ≡ placed at (a ++ b) out
   unfolding placed
   placed_then b =
       let sum : at + length a + length b ≡ at + (length a + length b) = omega arith in
-      ap (λ (l : List ℕ). l ++ b ++ drop (at + length a + length b) (placed at a out)) take_placed
-      ∙ ap (λ (l : List ℕ). take at out ++ a ++ b ++ l) (drop_placed (length b))
+      ap (λ (l : List A). l ++ b ++ drop (at + length a + length b) (placed at a out)) take_placed
+      ∙ ap (λ (l : List A). take at out ++ a ++ b ++ l) (drop_placed (length b))
       ∙ rw (append_assoc (take at out) a b, length-append a b, sum)
 
 -- ---- Writers
 
-pub writes_none : (out : List ℕ) (at : ℕ) → at ≤ length out → Writes out at [] out (To at)
+pub writes_none : {A : Type 0} (out : List A) (at : ℕ) → at ≤ length out → Writes out at [] out (Some at)
 unfolding placed
 writes_none out at b = record {
-  fits = λ h. let none : at + 0 ≡ at = omega arith in (ap To (sym none), sym (rw (append-nil (take at out), none) (take-append-drop at out)));
+  fits = λ h. let none : at + 0 ≡ at = omega arith in (ap Some (sym none), sym (rw (append-nil (take at out), none) (take-append-drop at out)));
   over = λ h. absurd (omega arith);
   long = refl;
 }
 
-pub writes_one : (out : List ℕ) (at b : ℕ) → at < length out → Writes out at (b ∷ []) (set out at b) (To (at + 1))
+pub writes_one : {A : Type 0} (out : List A) (at : ℕ) (b : A) → at < length out → Writes out at (b ∷ []) (set out at b) (Some (at + 1))
 unfolding placed
 writes_one out at b h = record {
   fits = λ _. (refl, rw (set_split out at b h, add-one at) (sym (append_snoc (take at out) b (drop (suc at) out))));
@@ -59,23 +54,32 @@ writes_one out at b h = record {
   long = simp length-set;
 }
 
-pub full_one : (out : List ℕ) (at b : ℕ) → length out ≤ at → Writes out at (b ∷ []) out Full
+pub full_one : {A : Type 0} (out : List A) (at : ℕ) (b : A) → length out ≤ at → Writes out at (b ∷ []) out None
 full_one out at b h = record { fits = λ l. absurd (omega arith); over = λ o. refl; long = refl }
 
+-- a part, copied to its place
+module _ {A : Type 0} (out s new : List A) (at : ℕ) (room : at + length s ≤ length out) (e : new ≡ s) where
+  part_placed : put_mid at (at + length s - at) out new ≡ placed at s out
+  unfolding placed
+  part_placed = put_mid-paste at (at + length s - at) out new s (length s) e (omega arith) refl
+      ∙ ap (λ l. take at out ++ l ++ drop (at + length s) out) (take-length s)
+
+  pub writes_part : Writes out at s (put_mid at (at + length s - at) out new) (Some (at + length s))
+  writes_part = record { fits = λ _. (refl, part_placed); over = λ o. absurd (omega arith); long = ap length part_placed ∙ placed_long at s out room }
+
 -- What follows a text that did not fit does not fit.
-pub writes_full : {out : List ℕ} {at : ℕ} {a : List ℕ} {mid : List ℕ} {r : Wrote} → Writes out at a mid r → r ≡ Full → (b : List ℕ)
-    → Writes out at (a ++ b) mid Full
+pub writes_full : {A : Type 0} {out : List A} {at : ℕ} {a : List A} {mid : List A} {r : Option ℕ} → Writes out at a mid r → r ≡ None → (b : List A)
+    → Writes out at (a ++ b) mid None
 writes_full {out} {at} {a} {mid} {r} f e b = record {
   fits = λ h. let l : length (a ++ b) ≡ length a + length b = length-append a b in
-      let g : r ≡ To (at + length a) = (f.fits (omega arith)).0 in
-      let z : ◌≡◌ {A = ℕ} 0 1 = cc in
-      absurd (omega arith);
+      let g : r ≡ Some (at + length a) = (f.fits (omega arith)).0 in
+      cc;
   over = λ o. refl;
   long = f.long;
 }
 
-pub writes_then : {out : List ℕ} {at : ℕ} {a : List ℕ} {mid : List ℕ} {r : Wrote} {n : ℕ} {b : List ℕ} {out' : List ℕ} {r' : Wrote}
-    → Writes out at a mid r → r ≡ To n → Writes mid n b out' r' → Writes out at (a ++ b) out' r'
+pub writes_then : {A : Type 0} {out : List A} {at : ℕ} {a : List A} {mid : List A} {r : Option ℕ} {n : ℕ} {b : List A} {out' : List A} {r' : Option ℕ}
+    → Writes out at a mid r → r ≡ Some n → Writes mid n b out' r' → Writes out at (a ++ b) out' r'
 writes_then {out} {at} {a} {mid} {r} {n} {b} {out'} {r'} f e g = record {
   fits = λ h. went (omega (arith, whole)) (omega (arith, whole));
   over = λ h. ran_out (omega (arith, whole)) (dec_le (at + length a) (length out));
@@ -86,35 +90,35 @@ writes_then {out} {at} {a} {mid} {r} {n} {b} {out'} {r'} f e g = record {
     whole = length-append a b
 
     next : at + length a ≤ length out → n ≡ at + length a
-    next h = let p : r ≡ To (at + length a) = (f.fits h).0 in cc
+    next h = let p : r ≡ Some (at + length a) = (f.fits h).0 in cc
 
-    went : at + length a ≤ length out → at + length a + length b ≤ length out → (r' ≡ To (at + length (a ++ b))) × (out' ≡ placed at (a ++ b) out)
+    went : at + length a ≤ length out → at + length a + length b ≤ length out → (r' ≡ Some (at + length (a ++ b))) × (out' ≡ placed at (a ++ b) out)
     went h k =
         let m : n ≡ at + length a = next h in
         let p = g.fits (omega (arith, f.long)) in
         let sum : n + length b ≡ at + length (a ++ b) = omega (arith, whole) in
-        (p.0 ∙ ap To sum, p.1 ∙ rw (m, (f.fits h).1) (placed_then at a out h b))
+        (p.0 ∙ ap Some sum, p.1 ∙ rw (m, (f.fits h).1) (placed_then at a out h b))
 
-    ran_out : length out < at + length a + length b → Dec (at + length a ≤ length out) → r' ≡ Full
-    ran_out h (no o) = let p : r ≡ Full = f.over (omega arith) in let z : ◌≡◌ {A = ℕ} 0 1 = cc in absurd (omega arith)
+    ran_out : length out < at + length a + length b → Dec (at + length a ≤ length out) → r' ≡ None
+    ran_out h (no o) = let p : r ≡ None = f.over (omega arith) in cc
     ran_out h (yes o) = let m : n ≡ at + length a = next o in g.over (omega (arith, f.long))
 
 -- the same text, said in another way
-pub writes_as : {out : List ℕ} {at : ℕ} {a b : List ℕ} {out' : List ℕ} {r : Wrote} → a ≡ b → Writes out at a out' r → Writes out at b out' r
+pub writes_as : {A : Type 0} {out : List A} {at : ℕ} {a b : List A} {out' : List A} {r : Option ℕ} → a ≡ b → Writes out at a out' r → Writes out at b out' r
 writes_as e f = rw (← e) f
 
 -- ---- Where a writer has come to
 
-pub writes_to : {out : List ℕ} {at : ℕ} {a : List ℕ} {out' : List ℕ} {r : Wrote} {n : ℕ} → Writes out at a out' r → r ≡ To n
+pub writes_to : {A : Type 0} {out : List A} {at : ℕ} {a : List A} {out' : List A} {r : Option ℕ} {n : ℕ} → Writes out at a out' r → r ≡ Some n
     → (n ≡ at + length a) × (n ≤ length out)
 writes_to {out} {at} {a} {out'} {r} {n} f e = at_end_lem (dec_le (at + length a) (length out))
   where
     at_end_lem : Dec (at + length a ≤ length out) → (n ≡ at + length a) × (n ≤ length out)
-    at_end_lem (no o) = let p : r ≡ Full = f.over (omega arith) in let z : ◌≡◌ {A = ℕ} 0 1 = cc in absurd (omega arith)
-    at_end_lem (yes o) = let p : r ≡ To (at + length a) = (f.fits o).0 in let q : n ≡ at + length a = cc in (q, omega arith)
+    at_end_lem (no o) = let p : r ≡ None = f.over (omega arith) in cc
+    at_end_lem (yes o) = let p : r ≡ Some (at + length a) = (f.fits o).0 in let q : n ≡ at + length a = cc in (q, omega arith)
 
 -- What the caller of a whole text is told: it stands at the slice's start and ends where it is said, or it is longer than the slice.
-pub whole_there : {out a out' : List ℕ} {r : Wrote} {n : ℕ} → Writes out 0 a out' r → r ≡ To n → (n ≡ length a) × (n ≤ length out) × (take n out' ≡ a)
+pub whole_there : {A : Type 0} {out a out' : List A} {r : Option ℕ} {n : ℕ} → Writes out 0 a out' r → r ≡ Some n → (n ≡ length a) × (n ≤ length out) × (take n out' ≡ a)
 unfolding placed
 whole_there {out} {a} {out'} {r} {n} f e =
     let h = writes_to f e in
@@ -122,31 +126,31 @@ whole_there {out} {a} {out'} {r} {n} f e =
     let m : n ≡ length a = omega (arith, h.0) in
     (m, h.1, rw ((f.fits (omega (arith, h.0, h.1))).1, m) (take_at a (drop (0 + length a) out) (length a) refl))
 
-pub writes_over : {out : List ℕ} {at : ℕ} {a out' : List ℕ} {r : Wrote} → Writes out at a out' r → r ≡ Full → length out < at + length a
+pub writes_over : {A : Type 0} {out : List A} {at : ℕ} {a out' : List A} {r : Option ℕ} → Writes out at a out' r → r ≡ None → length out < at + length a
 writes_over {out} {at} {a} {out'} {r} f e = go (dec_le (at + length a) (length out))
   where
     go : Dec (at + length a ≤ length out) → length out < at + length a
     go (no o) = omega arith
-    go (yes o) = let p : r ≡ To (at + length a) = (f.fits o).0 in let z : ◌≡◌ {A = ℕ} 0 1 = cc in absurd (omega arith)
+    go (yes o) = let p : r ≡ Some (at + length a) = (f.fits o).0 in cc
 
-pub whole_over : {out a out' : List ℕ} {r : Wrote} → Writes out 0 a out' r → r ≡ Full → length out < length a
+pub whole_over : {A : Type 0} {out a out' : List A} {r : Option ℕ} → Writes out 0 a out' r → r ≡ None → length out < length a
 whole_over f e = omega (arith, writes_over f e)
 
-pub writes_moves : {out : List ℕ} {at : ℕ} {a : List ℕ} {out' : List ℕ} {r : Wrote} → Writes out at a out' r → Moves out at out' r
+pub writes_moves : {A : Type 0} {out : List A} {at : ℕ} {a : List A} {out' : List A} {r : Option ℕ} → Writes out at a out' r → Moves out at out' r
 writes_moves f = record {
   onward = λ n e. omega (arith, (writes_to f e).0);
   inside = λ n e l. (writes_to f e).1;
   long = f.long;
 }
 
-pub full_moves : {out : List ℕ} {at : ℕ} {out' : List ℕ} → length out' ≡ length out → Moves out at out' Full
+pub full_moves : {A : Type 0} {out : List A} {at : ℕ} {out' : List A} → length out' ≡ length out → Moves out at out' None
 full_moves l = record {
-  onward = λ n e. let z : ◌≡◌ {A = ℕ} 0 1 = cc in absurd (omega arith);
-  inside = λ n e b. let z : ◌≡◌ {A = ℕ} 0 1 = cc in absurd (omega arith);
+  onward = λ n e. cc;
+  inside = λ n e b. cc;
   long = l;
 }
 
-pub moves_then : {out : List ℕ} {at : ℕ} {mid : List ℕ} {r : Wrote} {n : ℕ} {out' : List ℕ} {r' : Wrote} → Moves out at mid r → r ≡ To n
+pub moves_then : {A : Type 0} {out : List A} {at : ℕ} {mid : List A} {r : Option ℕ} {n : ℕ} {out' : List A} {r' : Option ℕ} → Moves out at mid r → r ≡ Some n
     → Moves mid n out' r' → Moves out at out' r'
 moves_then {out} {at} {mid} {r} {n} f e g = record {
   onward = λ m p. omega (arith, f.onward n e, g.onward m p);
@@ -157,38 +161,46 @@ moves_then {out} {at} {mid} {r} {n} f e g = record {
 -- ---- A loop of writers
 
 -- What it has done: it went forward and stayed in the slice.
-pub moves_none : (out : List ℕ) (at : ℕ) → Moves out at out (To at)
+pub moves_none : {A : Type 0} (out : List A) (at : ℕ) → Moves out at out (Some at)
 moves_none out at = record {
   onward = λ n e. let q : at ≡ n = cc in omega arith;
   inside = λ n e l. let q : at ≡ n = cc in omega arith;
   long = refl;
 }
 
-pub moves_next : {out₀ : List ℕ} {at : ℕ} {out : List ℕ} {to : ℕ} {out' : List ℕ} {r : Wrote} {n : ℕ} → Moves out₀ at out (To to)
-    → Moves out to out' r → r ≡ To n → Moves out₀ at out' (To n)
+pub moves_next : {A : Type 0} {out₀ : List A} {at : ℕ} {out : List A} {to : ℕ} {out' : List A} {r : Option ℕ} {n : ℕ} → Moves out₀ at out (Some to)
+    → Moves out to out' r → r ≡ Some n → Moves out₀ at out' (Some n)
 moves_next c f e = rw e at (moves_then c refl f)
 
 -- What is left: to write the rest from here is to write the whole from the start.
-pub record Goes (out₀ : List ℕ) (at : ℕ) (whole out : List ℕ) (to : ℕ) (rest : List ℕ) : Type 0 where
+pub record Goes {A : Type 0} (out₀ : List A) (at : ℕ) (whole out : List A) (to : ℕ) (rest : List A) : Type 0 where
   pub inside : to ≤ length out
-  pub go : (out' : List ℕ) (r : Wrote) → Writes out to rest out' r → Writes out₀ at whole out' r
+  pub go : (out' : List A) (r : Option ℕ) → Writes out to rest out' r → Writes out₀ at whole out' r
 
-pub goes_start : (out : List ℕ) (at : ℕ) (whole rest : List ℕ) → at ≤ length out → rest ≡ whole → Goes out at whole out at rest
+pub goes_start : {A : Type 0} (out : List A) (at : ℕ) (whole rest : List A) → at ≤ length out → rest ≡ whole → Goes out at whole out at rest
 goes_start out at whole rest l e = record { inside = l; go = λ out' r f. writes_as e f }
 
-module _ {out₀ : List ℕ} {at : ℕ} {whole out : List ℕ} {to : ℕ} {rest : List ℕ} (g : Goes out₀ at whole out to rest) where
-  pub goes_next : (a b : List ℕ) → rest ≡ a ++ b → {mid : List ℕ} {r : Wrote} {n : ℕ} → Writes out to a mid r → r ≡ To n → Goes out₀ at whole mid n b
+module _ {A : Type 0} {out₀ : List A} {at : ℕ} {whole out : List A} {to : ℕ} {rest : List A} (g : Goes out₀ at whole out to rest) where
+  pub goes_next : (a b : List A) → rest ≡ a ++ b → {mid : List A} {r : Option ℕ} {n : ℕ} → Writes out to a mid r → r ≡ Some n → Goes out₀ at whole mid n b
   goes_next a b e f p = record { inside = omega (arith, (writes_to f p).1, f.long); go = λ out' r' h. g.go out' r' (writes_as (sym e) (writes_then f p h)) }
 
-  pub goes_full : (a b : List ℕ) → rest ≡ a ++ b → {mid : List ℕ} {r : Wrote} → Writes out to a mid r → r ≡ Full → Writes out₀ at whole mid Full
-  goes_full a b e {mid} f p = g.go mid Full (writes_as (sym e) (writes_full f p b))
+  pub goes_full : (a b : List A) → rest ≡ a ++ b → {mid : List A} {r : Option ℕ} → Writes out to a mid r → r ≡ None → Writes out₀ at whole mid None
+  goes_full a b e {mid} f p = g.go mid None (writes_as (sym e) (writes_full f p b))
 
-  pub goes_done : rest ≡ [] → Writes out₀ at whole out (To to)
-  goes_done e = g.go out (To to) (writes_as (sym e) (writes_none out to g.inside))
+  pub goes_done : rest ≡ [] → Writes out₀ at whole out (Some to)
+  goes_done e = g.go out (Some to) (writes_as (sym e) (writes_none out to g.inside))
 
 -- ---- A part of a slice
 
+-- zeros from n on
+pub cleared : (l zeros : List ℕ) (n : ℕ) → zeros ≡ replicate (length (take (length l - n) (drop n l))) 0
+    → put_mid n (length l - n) l zeros ≡ take n l ++ replicate (length l - n) 0
+cleared l zeros n e =
+    let none : drop (length l - n) (drop n l) ≡ [] = drop_of_length-le (drop n l) (omega (arith, length-drop n l)) in
+    let all : length (take (length l - n) (drop n l)) ≡ length l - n = simp (length-take, length-drop) (omega arith) in
+    rw (none, append-nil, e, all)
+
 -- What a writer to the part that starts at n has come to in the whole.
-abbrev pub shifted : ℕ → Wrote → Wrote
-shifted n (To m) = To (n + m)
-shifted n Full = Full
+abbrev pub shifted : ℕ → Option ℕ → Option ℕ
+shifted n (Some m) = Some (n + m)
+shifted n None = None

@@ -11,8 +11,5 @@ loop-i-preserved c = elim c.if-mark.branch [
   | else-mark w ↦ rw w.some-is (passing_on c.loop-i.invariant c.loop-i-test.true c.mark.ensures w.if-mark.false)
 ]
 
-pub shape_of-w : goal.shape_of-w
-shape_of-w c = c.loop-i.invariant.keeps.long
-
 pub returns : goal.returns
 returns c = passing_end c.loop-i.invariant c.loop-i-test.false

@@ -1,10 +1,6 @@
 -- A mark more, or one item more that has none to set.
-use Prim.Native.Nat.{◌-◌}
 use Rattle.admitted.proofs.Passing.{Passing}
 use Rattle.admitted.proofs.pass.Given as goal
 
 abbrev pub invariant-loop-i : goal.invariant-loop-i
 invariant-loop-i l = Passing l.initial.w l.w l.i l.some
-
-abbrev pub decreases-loop-i : goal.decreases-loop-i
-decreases-loop-i l = 1280 - l.i

@@ -8,10 +8,10 @@ pub loop-init : goal.loop-init
 loop-init c = settling_start c.if-w-lt-TYS.false c.unmark.ensures
 
 pub loop-smaller : goal.loop-smaller
-loop-smaller c = settling_less c.loop.invariant c.pass.ensures c.if-not-pass.false
+loop-smaller c = settling_less c.loop.invariant c.pass.ensures c.loop-test.true
 
 pub loop-preserved : goal.loop-preserved
 loop-preserved c = settling_next c.loop.invariant c.pass.ensures
 
-pub returns-then-not-pass : goal.returns-then-not-pass
-returns-then-not-pass c = settling_end c.loop.invariant c.pass.ensures c.unmark.ensures c.if-not-pass.true
+pub returns : goal.returns
+returns c = settling_end c.loop.invariant c.pass.ensures c.unmark.ensures c.loop-test.false

@@ -1,10 +1,6 @@
--- To write the lines from i on is to write them all; the measure is the nodes that are left.
-use Prim.Native.Nat.{◌-◌}
+-- To write the lines from n on is to write them all.
 use Rattle.answer.proofs.Noding.{Noding}
 use Rattle.answer.proofs.node_lines.Given as goal
 
-abbrev pub invariant-loop-i : goal.invariant-loop-i
-invariant-loop-i l = Noding l.w l.initial.out l.at l.n l.out l.i l.to
-
-abbrev pub decreases-loop-i : goal.decreases-loop-i
-decreases-loop-i l = l.n - l.i
+abbrev pub invariant-loop-n : goal.invariant-loop-n
+invariant-loop-n l = Noding l.w l.fn.out l.fn.at l.n-end l.out l.n l.at

@@ -1,11 +1,9 @@
--- The digits, then LF.
-use mathlib.Core.List.{◌∷◌}
-use Rattle.meaning.specs.Answer.{bytes₂}
+-- The line's bytes and LF.
 use Rattle.writer.proofs.Digits.{line_then, line_full}
 use Rattle.answer.proofs.number_line.Goals as goal
 
-pub returns-in-To : goal.returns-in-To
-returns-in-To c = line_then (11 ∷ bytes₂ c.args.k) c.tagged-r.ensures c.in-To.is c.close.ensures
+pub returns-in_err-at : goal.returns-in_err-at
+returns-in_err-at c = rw c.from_residual.ensures (line_full _ c.tagged.ensures c.in_err-at.was)
 
-pub returns-in-Full : goal.returns-in-Full
-returns-in-Full c = line_full (11 ∷ bytes₂ c.args.k) c.tagged-r.ensures c.in-Full.is
+pub returns : goal.returns
+returns c = line_then _ c.tagged.ensures c.in_ok-at.was c.close.ensures

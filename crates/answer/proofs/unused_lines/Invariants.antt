@@ -1,10 +1,6 @@
--- To write the lines from i on is to write them all; the measure is the lines that are left.
-use Prim.Native.Nat.{◌-◌}
+-- To write the lines from i on is to write them all.
 use Rattle.answer.proofs.Unusing.{Unusing}
 use Rattle.answer.proofs.unused_lines.Given as goal
 
 abbrev pub invariant-loop-i : goal.invariant-loop-i
-invariant-loop-i l = Unusing l.f l.w l.initial.out l.at l.n l.out l.i l.to
-
-abbrev pub decreases-loop-i : goal.decreases-loop-i
-decreases-loop-i l = l.n - l.i
+invariant-loop-i l = Unusing l.f l.w l.fn.out l.fn.at l.i-end l.out l.i l.at

@@ -2,11 +2,11 @@
 use Rattle.answer.proofs.Answering.{answer_visits, answer_unused_none, answer_none}
 use Rattle.answer.proofs.write.Goals as goal
 
-pub returns-in-To-u : goal.returns-in-To-u
-returns-in-To-u c = answer_visits c.lines-r.ensures c.args.visits c.in-To.is c.unused_lines-u.ensures c.in-To-u.is c.visits_line.ensures
+pub returns-in_err-at : goal.returns-in_err-at
+returns-in_err-at c = rw c.from_residual.ensures (answer_none c.lines.ensures c.args.visits c.in_err-at.was)
 
-pub returns-in-Full-u : goal.returns-in-Full-u
-returns-in-Full-u c = answer_unused_none c.lines-r.ensures c.args.visits c.in-To.is c.unused_lines-u.ensures c.in-Full-u.is
+pub returns-in_err-at-2 : goal.returns-in_err-at-2
+returns-in_err-at-2 c = rw c.from_residual-in_err-at-2.ensures (answer_unused_none c.lines.ensures c.args.visits c.in_ok-at.was c.unused_lines.ensures c.in_err-at-2.was)
 
-pub returns-in-Full : goal.returns-in-Full
-returns-in-Full c = answer_none c.lines-r.ensures c.args.visits c.in-Full.is
+pub returns : goal.returns
+returns c = answer_visits c.lines.ensures c.args.visits c.in_ok-at.was c.unused_lines.ensures c.in_ok-at-2.was c.visits_line.ensures

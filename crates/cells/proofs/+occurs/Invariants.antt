@@ -8,7 +8,4 @@ abbrev pub decreases-occurs : goal.decreases-occurs
 decreases-occurs l = l.left
 
 abbrev pub invariant-loop-j : goal.invariant-loop-j
-invariant-loop-j l = Asking Any (asks l.x) l.w l.u (l.left - 1) l.n l.j l.rest × Outside l.w l.x l.last l.cost
-
-abbrev pub decreases-loop-j : goal.decreases-loop-j
-decreases-loop-j l = l.n - l.j
+invariant-loop-j l = Asking Any (asks l.x) l.w l.u (l.left - 1) l.j-end l.j l.rest × Outside l.w l.x l.last l.cost

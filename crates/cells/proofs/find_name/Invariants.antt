@@ -1,12 +1,7 @@
--- What is sought in the row is what is sought in the rest from j on; the measure is what is left of the parts.
-use Prim.Native.Nat.{◌-◌}
-use Rattle.unification.specs.Unify.{find_label}
-use Rattle.cells.specs.declared.Kind.TheVariants.{Alternatives}
-use Rattle.cells.proofs.Parts.{Seeking}
+-- None of the first j has the name.
+use Rattle.std.proofs.Common.{◌≡◌, ℕ, ◌<◌}
+use Rattle.cells.specs.Words.{alternative_w}
 use Rattle.cells.proofs.find_name.Given as goal
 
 abbrev pub invariant-loop-j : goal.invariant-loop-j
-invariant-loop-j l = Seeking (find_label l.name) l.w Alternatives l.c l.n l.j
-
-abbrev pub decreases-loop-j : goal.decreases-loop-j
-decreases-loop-j l = l.n - l.j
+invariant-loop-j l = (i : ℕ) → i < l.j → (alternative_w l.w l.c i).label ≡ l.name → ⊥

@@ -1,20 +1,18 @@
-use borrow.Enum.Refused.{opened}
-use borrow.Author.Rules.{rules}
-use mathlib.Core.Path.{sym, ◌∙◌}
-use Rattle.cells.proofs.Follow.{follow_start, not_unknown, ends_shape, ends_free, follow_next, ends_last}
+use Rattle.std.proofs.Common.{arith, sym, ◌∙◌}
+use Rattle.cells.proofs.Follow.{follow_start, ends_shape, ends_free, follow_next, ends_last}
 use Rattle.cells.proofs.follow_any.Goals as goal
 
-pub loop-k-init : goal.loop-k-init
-loop-k-init c = follow_start _ _ _
+pub loop-init : goal.loop-init
+loop-init c = follow_start _ _
 
 pub returns-in_default : goal.returns-in_default
-returns-in_default c = ends_shape c.loop-k.invariant (c.wide-n.ensures.0 ∙ c.word.ensures) (search rules) (not_unknown c.loop-k.at ((opened c.in_default.in_default-own.keys2)))
+returns-in_default c = ends_shape c.loop.invariant c.in_default.not-Var
 
-pub returns-in-Free : goal.returns-in-Free
-returns-in-Free c = ends_free c.loop-k.invariant (c.wide-n.ensures.0 ∙ c.word.ensures) c.in-Var.x c.in-Var.is (search rules) (sym c.var_ty-b.ensures ∙ c.in-Free.is)
+pub returns-in_default-var_ty : goal.returns-in_default-var_ty
+returns-in_default-var_ty c = ends_free c.loop.invariant c.in-Var.x c.in-Var.is (omega arith) (sym c.var_ty.ensures ∙ c.in_default-var_ty.is)
 
-pub loop-k-preserved : goal.loop-k-preserved
-loop-k-preserved c = follow_next c.loop-k.invariant (c.wide-n.ensures.0 ∙ c.word.ensures) c.in-Var.x c.in-Var.is (search rules) c.in-To.u (sym c.var_ty-b.ensures ∙ c.in-To.is)
+pub loop-preserved : goal.loop-preserved
+loop-preserved c = follow_next c.loop.invariant c.in-Var.x c.in-Var.is (omega arith) c.in-Some.u (sym c.var_ty.ensures ∙ c.in-Some.is)
 
 pub returns : goal.returns
-returns c = ends_last c.loop-k.invariant (c.wide-n.ensures.0 ∙ c.word.ensures) (search rules)
+returns c = ends_last c.loop.invariant (omega arith)

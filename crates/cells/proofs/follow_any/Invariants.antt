@@ -1,10 +1,6 @@
--- What is left to follow from `at` is what the whole would follow; the measure is the number of steps left.
-use Prim.Native.Nat.{suc, ◌-◌}
+-- What is left to follow from `at` is what the whole would follow.
 use Rattle.cells.proofs.Follow.{Following}
 use Rattle.cells.proofs.follow_any.Given as goal
 
-abbrev pub invariant-loop-k : goal.invariant-loop-k
-invariant-loop-k l = Following l.w l.initial.at l.n l.k l.at
-
-abbrev pub decreases-loop-k : goal.decreases-loop-k
-decreases-loop-k l = suc l.n - l.k
+abbrev pub invariant-loop : goal.invariant-loop
+invariant-loop l = Following l.w l.fn.t l.counter l.at

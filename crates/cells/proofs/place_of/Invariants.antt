@@ -1,11 +1,7 @@
--- What is sought in the row is what is sought in the rest from j on; the measure is what is left of the parts.
-use Prim.Native.Nat.{◌-◌}
-use Rattle.unification.specs.Unify.{find_key}
-use Rattle.cells.proofs.Parts.{Seeking}
+-- None of the first j has the key.
+use Rattle.std.proofs.Common.{◌≡◌, ℕ, ◌<◌}
+use Rattle.cells.specs.Words.{part_w}
 use Rattle.cells.proofs.place_of.Given as goal
 
 abbrev pub invariant-loop-j : goal.invariant-loop-j
-invariant-loop-j l = Seeking (find_key l.key) l.w l.k l.c l.n l.j
-
-abbrev pub decreases-loop-j : goal.decreases-loop-j
-decreases-loop-j l = l.n - l.j
+invariant-loop-j l = (i : ℕ) → i < l.j → (part_w l.w l.k l.c i).key ≡ l.key → ⊥

@@ -74,26 +74,14 @@ decreases-subquery l = 16 * l.body.below + 2
 abbrev pub invariant-branches-loop-i : goal.invariant-branches-loop-i
 invariant-branches-loop-i l = BranchesGoing l.f l.initial.w l.initial.out l.items l.left l.w l.out l.last l.i l.rest × SameLengths l.w l.initial.w l.out l.initial.out
 
-abbrev pub decreases-branches-loop-i : goal.decreases-branches-loop-i
-decreases-branches-loop-i l = l.n - l.i
-
 abbrev pub invariant-check_fields-loop-i : goal.invariant-check_fields-loop-i
 invariant-check_fields-loop-i l = FieldsGoing l.f l.initial.w l.initial.out l.items l.c l.left l.w l.out l.i l.rest × SameLengths l.w l.initial.w l.out l.initial.out
-
-abbrev pub decreases-check_fields-loop-i : goal.decreases-check_fields-loop-i
-decreases-check_fields-loop-i l = l.n - l.i
 
 abbrev pub invariant-infer_all-loop-i : goal.invariant-infer_all-loop-i
 invariant-infer_all-loop-i l = AllGoing l.f l.initial.w l.initial.out l.items l.with l.left l.w l.out l.i l.rest × SameLengths l.w l.initial.w l.out l.initial.out
 
-abbrev pub decreases-infer_all-loop-i : goal.decreases-infer_all-loop-i
-decreases-infer_all-loop-i l = l.n - l.i
-
 abbrev pub invariant-infer_record-loop-i : goal.invariant-infer_record-loop-i
 invariant-infer_record-loop-i l = RecordGoing l.f l.initial.w l.initial.out l.items l.left l.from l.w l.out l.i l.rest × SameLengths l.w l.initial.w l.out l.initial.out
-
-abbrev pub decreases-infer_record-loop-i : goal.decreases-infer_record-loop-i
-decreases-infer_record-loop-i l = l.n - l.i
 
 abbrev pub invariant-stmts-loop-at : goal.invariant-stmts-loop-at
 invariant-stmts-loop-at l = StmtsGoing l.f l.initial.w l.initial.out (record { at = l.initial.at; end = l.end; below = l.below }) l.left l.w l.out l.at l.rest × SameLengths l.w l.initial.w l.out l.initial.out

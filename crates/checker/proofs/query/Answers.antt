@@ -5,23 +5,17 @@ use Rattle.checker.proofs.Callees.{leaves_by}
 use Rattle.checker.proofs.Querying.{body_lower, queried_on, queried_infer_out, queried_head_out, queried_out}
 use Rattle.checker.proofs.query.Goals as goal
 
-pub stmts-d-requires : goal.stmts-d-requires
-stmts-d-requires c = (body_lower _ c.query_body.ensures.0, c.query_body.ensures.1)
+pub stmts-requires : goal.stmts-requires
+stmts-requires c = (body_lower _ c.query_body.ensures.0, c.query_body.ensures.1)
 
-pub returns-in-Got : goal.returns-in-Got
-returns-in-Got c = queried_on _ c.begin.ensures c.query_head-head.ensures c.query_body.ensures.0 c.stmts-d.ensures c.in-On.is c.check_head-e.ensures c.in-On-e.is c.infer-r.ensures c.in-Got.is (leaves_by c.leave.ensures) (c.leave.auto.w ∙ c.infer-r.auto.w ∙ c.check_head-e.auto.w ∙ c.stmts-d.auto.w ∙ c.begin.auto.w) (search rules)
+pub returns : goal.returns
+returns c = queried_on _ c.begin.ensures c.query_head-head.ensures c.query_body.ensures.0 c.stmts.ensures c.in_ok-l.was c.check_head.ensures c.in_ok-m.was c.infer.ensures c.in_ok-v.was (leaves_by c.leave.ensures) (c.leave.auto.w ∙ c.infer.auto.w ∙ c.check_head.auto.w ∙ c.stmts.auto.w ∙ c.begin.auto.w) (search rules)
 
-pub returns-in-Out-r : goal.returns-in-Out-r
-returns-in-Out-r c = queried_infer_out _ c.begin.ensures c.query_head-head.ensures c.query_body.ensures.0 c.stmts-d.ensures c.in-On.is c.check_head-e.ensures c.in-On-e.is c.infer-r.ensures c.in-Out-r.is (c.infer-r.auto.w ∙ c.check_head-e.auto.w ∙ c.stmts-d.auto.w ∙ c.begin.auto.w) (search rules)
+pub returns-in_err-v : goal.returns-in_err-v
+returns-in_err-v c = rw c.from_residual-in_err-v.ensures (queried_infer_out _ c.begin.ensures c.query_head-head.ensures c.query_body.ensures.0 c.stmts.ensures c.in_ok-l.was c.check_head.ensures c.in_ok-m.was c.infer.ensures c.in_err-v.was (c.infer.auto.w ∙ c.check_head.auto.w ∙ c.stmts.auto.w ∙ c.begin.auto.w) (search rules))
 
-pub returns-in-Out-e : goal.returns-in-Out-e
-returns-in-Out-e c = queried_head_out _ c.begin.ensures c.query_head-head.ensures c.query_body.ensures.0 c.stmts-d.ensures c.in-On.is c.check_head-e.ensures c.in-Out-e.is (c.check_head-e.auto.w ∙ c.stmts-d.auto.w ∙ c.begin.auto.w) (search rules)
+pub returns-in_err-m : goal.returns-in_err-m
+returns-in_err-m c = rw c.from_residual-in_err-m.ensures (queried_head_out _ c.begin.ensures c.query_head-head.ensures c.query_body.ensures.0 c.stmts.ensures c.in_ok-l.was c.check_head.ensures c.in_err-m.was (c.check_head.auto.w ∙ c.stmts.auto.w ∙ c.begin.auto.w) (search rules))
 
-pub returns-in-Out : goal.returns-in-Out
-returns-in-Out c = queried_out _ c.begin.ensures c.query_head-head.ensures c.query_body.ensures.0 c.stmts-d.ensures c.in-Out.is (search rules) (search rules)
-
-pub shape_of-w-in-Got : goal.shape_of-w-in-Got
-shape_of-w-in-Got c = c.leave.auto.w ∙ c.infer-r.auto.w ∙ c.check_head-e.auto.w ∙ c.stmts-d.auto.w ∙ c.begin.auto.w
-
-pub shape_of-w-in-Out-r : goal.shape_of-w-in-Out-r
-shape_of-w-in-Out-r c = c.infer-r.auto.w ∙ c.check_head-e.auto.w ∙ c.stmts-d.auto.w ∙ c.begin.auto.w
+pub returns-in_err-l : goal.returns-in_err-l
+returns-in_err-l c = rw c.from_residual.ensures (queried_out _ c.begin.ensures c.query_head-head.ensures c.query_body.ensures.0 c.stmts.ensures c.in_err-l.was (search rules) (search rules))

@@ -1,25 +1,18 @@
-use borrow.Author.Rules.{rules}
-use native.Mathlib.Omega.{arith}
+use mathlib.Core.Path.{refl}
 use Rattle.convert.proofs.Walking.{converting_start, converting_bad, converting_done, converting_next, converting_full}
 use Rattle.convert.proofs.convert.Goals as goal
 
 pub loop-at-init : goal.loop-at-init
-loop-at-init c = (search rules, converting_start _ _ _)
+loop-at-init c = converting_start _ _ _
 
-pub returns-in-Bad : goal.returns-in-Bad
-returns-in-Bad c = converting_bad _ c.loop-at.invariant.1 (c.decode-got.ensures.fails c.in-Bad.is c.loop-at-test.true)
+pub returns-in_err-n : goal.returns-in_err-n
+returns-in_err-n c = rw c.from_residual.ensures (converting_bad _ c.loop-at.invariant (c.in_err-n.ensures.fails refl c.loop-at-test.true))
 
-pub slice_bounds-convert_line-end : goal.slice_bounds-convert_line-end
-slice_bounds-convert_line-end c = let h = c.decode-got.ensures.holds _ _ c.in-Bytes.is in omega (arith, h.most)
-
-pub returns-in-Full : goal.returns-in-Full
-returns-in-Full c = converting_full _ c.loop-at.invariant.1 (c.decode-got.ensures.holds _ _ c.in-Bytes.is) c.convert_line-r.ensures c.in-Full.is
-
-pub loop-at-smaller : goal.loop-at-smaller
-loop-at-smaller c = let h = c.decode-got.ensures.holds _ _ c.in-Bytes.is in omega (arith, h.on, h.within)
+pub returns-in_err-to : goal.returns-in_err-to
+returns-in_err-to c = rw c.from_residual-in_err-to.ensures (converting_full _ c.loop-at.invariant c.in_ok-n.ensures.holds c.in_err-to.ensures refl)
 
 pub loop-at-preserved : goal.loop-at-preserved
-loop-at-preserved c = (c.decode-got.ensures.room, converting_next _ c.loop-at.invariant.1 (c.decode-got.ensures.holds _ _ c.in-Bytes.is) c.convert_line-r.ensures c.in-To.is)
+loop-at-preserved c = converting_next _ c.loop-at.invariant c.in_ok-n.ensures.holds c.in_ok-to.ensures refl
 
 pub returns : goal.returns
-returns c = converting_done _ c.loop-at.invariant.1 c.loop-at-test.false
+returns c = converting_done _ c.loop-at.invariant c.loop-at-test.false

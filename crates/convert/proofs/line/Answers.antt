@@ -2,14 +2,15 @@
 use Rattle.convert.proofs.Joining.{text_full, text_then, close_then, line_joined}
 use Rattle.convert.proofs.line.Goals as goal
 
-pub returns-in-Full : goal.returns-in-Full
-returns-in-Full c = line_joined c.args.a.now c.args.b.now c.args.c.now (text_full c.text-x.ensures c.in-Full.is _)
+pub returns-in_err-i : goal.returns-in_err-i
+returns-in_err-i c = rw c.from_residual.ensures (line_joined c.args.a.now c.args.b.now c.args.c.now (text_full c.in_err-i.ensures _))
 
-pub returns-in-Full-y : goal.returns-in-Full-y
-returns-in-Full-y c = line_joined c.args.a.now c.args.b.now c.args.c.now (text_then c.text-x.ensures c.in-To.is (text_full c.text-y.ensures c.in-Full-y.is _))
+pub returns-in_err-j : goal.returns-in_err-j
+returns-in_err-j c = rw c.from_residual-in_err-j.ensures (line_joined c.args.a.now c.args.b.now c.args.c.now (text_then c.in_ok-i.ensures (text_full c.in_err-j.ensures _)))
 
-pub returns-in-Full-z : goal.returns-in-Full-z
-returns-in-Full-z c = line_joined c.args.a.now c.args.b.now c.args.c.now (text_then c.text-x.ensures c.in-To.is (text_then c.text-y.ensures c.in-To-y.is (text_full c.text-z.ensures c.in-Full-z.is _)))
+pub returns-in_err-k : goal.returns-in_err-k
+returns-in_err-k c =
+    rw c.from_residual-in_err-k.ensures (line_joined c.args.a.now c.args.b.now c.args.c.now (text_then c.in_ok-i.ensures (text_then c.in_ok-j.ensures (text_full c.in_err-k.ensures _))))
 
-pub returns-in-To-z : goal.returns-in-To-z
-returns-in-To-z c = line_joined c.args.a.now c.args.b.now c.args.c.now (text_then c.text-x.ensures c.in-To.is (text_then c.text-y.ensures c.in-To-y.is (text_then c.text-z.ensures c.in-To-z.is (close_then c.close.ensures))))
+pub returns : goal.returns
+returns c = line_joined c.args.a.now c.args.b.now c.args.c.now (text_then c.in_ok-i.ensures (text_then c.in_ok-j.ensures (text_then c.in_ok-k.ensures (close_then c.close.ensures))))

@@ -1,9 +1,6 @@
--- `convert::names_from` meets its contract: the number is the four bytes at the line's place for it.
-use Rattle.convert.proofs.Places.{from_by, names_none}
+use borrow.Author.Rules.{rules}
+use Rattle.convert.proofs.Places.{named_by}
 use Rattle.convert.proofs.names_from.Goals as goal
 
-pub returns-then-i-eq0 : goal.returns-then-i-eq0
-returns-then-i-eq0 c = names_none c.place-i.ensures _ c.if-i-eq0.true
-
 pub returns : goal.returns
-returns c = from_by c.place-i.ensures c.if-i-eq0.false _ _ c.full.ensures
+returns c = named_by _ _ c.place.ensures _ _ (search rules)

@@ -2,8 +2,8 @@
 use Rattle.desk.proofs.Turning.{run_out, run_on}
 use Rattle.desk.proofs.answer_query.Goals as goal
 
-pub returns-in-Out : goal.returns-in-Out
-returns-in-Out c = run_out c.query-d.ensures c.in-Out.is
+pub returns-in_err-left : goal.returns-in_err-left
+returns-in_err-left c = rw c.from_residual.ensures (run_out c.query.ensures c.in_err-left.was)
 
-pub returns-in-On : goal.returns-in-On
-returns-in-On c = run_on c.query-d.ensures _ c.in-On.is _ c.made-visits.ensures c.write.ensures
+pub returns : goal.returns
+returns c = run_on c.query.ensures _ c.in_ok-left.was _ c.made-visits.ensures c.write.ensures

@@ -3,17 +3,17 @@ use borrow.Author.Rules.{rules}
 use Rattle.desk.proofs.Turning.{turn_out, turn_on, lines_to, lines_full, page_full}
 use Rattle.desk.proofs.one_query.Goals as goal
 
-pub returns-in-To-a : goal.returns-in-To-a
-returns-in-To-a c = turn_on c.load-next.ensures c.answer_query-e.ensures _ _ c.in-Lines.is c.is_one_of_several-several.ensures _ _ _ _
-    (λ text g. lines_to c.heading-head.ensures c.place-from.ensures g _ _ _ c.in-To.is c.in-To-a.is c.least.ensures)
+pub returns-in-Some-lines : goal.returns-in-Some-lines
+returns-in-Some-lines c = turn_on c.load-next.ensures c.answer_query.ensures _ _ c.in_ok-lines.was c.is_one_of_several-several.ensures _ _ _ _
+    (λ text g. lines_to c.heading-head.ensures c.place-from.ensures g _ _ _ c.in-Some.is c.in-Some-lines.is c.min.ensures)
 
-pub returns-in-Full-a : goal.returns-in-Full-a
-returns-in-Full-a c = turn_on c.load-next.ensures c.answer_query-e.ensures _ _ c.in-Lines.is c.is_one_of_several-several.ensures _ _ _ _
-    (λ text g. lines_full c.heading-head.ensures c.place-from.ensures g _ c.in-To.is c.in-Full-a.is)
+pub returns-in-None-lines : goal.returns-in-None-lines
+returns-in-None-lines c = turn_on c.load-next.ensures c.answer_query.ensures _ _ c.in_ok-lines.was c.is_one_of_several-several.ensures _ _ _ _
+    (λ text g. lines_full c.heading-head.ensures c.place-from.ensures g _ c.in-Some.is c.in-None-lines.is)
 
-pub returns-in-Full : goal.returns-in-Full
-returns-in-Full c = turn_on c.load-next.ensures c.answer_query-e.ensures _ _ c.in-Lines.is c.is_one_of_several-several.ensures _ _ _ _
-    (λ text g. page_full c.heading-head.ensures c.place-from.ensures g c.in-Full.is)
+pub returns-in-None : goal.returns-in-None
+returns-in-None c = turn_on c.load-next.ensures c.answer_query.ensures _ _ c.in_ok-lines.was c.is_one_of_several-several.ensures _ _ _ _
+    (λ text g. page_full c.heading-head.ensures c.place-from.ensures g c.in-None.is)
 
-pub returns-in-Out : goal.returns-in-Out
-returns-in-Out c = turn_out c.load-next.ensures c.answer_query-e.ensures _ _ _ _ c.in-Out.is
+pub returns-in_err-lines : goal.returns-in_err-lines
+returns-in_err-lines c = rw c.from_residual.ensures (turn_out c.load-next.ensures c.answer_query.ensures _ _ _ _ c.in_err-lines.was)

@@ -4,10 +4,10 @@ use Rattle.desk.proofs.Deciding.{not_read, read_small, was_read}
 use Rattle.desk.proofs.run.Goals as goal
 
 pub all_queries-requires : goal.all_queries-requires
-all_queries-requires c = (read_small _ _ _ _ c.read_file-r.ensures c.in-Accepted.is, c.requires)
+all_queries-requires c = read_small _ _ _ _ c.read_file-r.ensures c.in-Ok.is
 
-pub returns-in-Refused : goal.returns-in-Refused
-returns-in-Refused c = not_read _ _ _ _ _ _ _ c.read_file-r.ensures c.in-Refused.is
+pub returns-in-Err : goal.returns-in-Err
+returns-in-Err c = not_read _ _ _ _ _ _ _ c.read_file-r.ensures c.in-Err.is
 
-pub returns-in-Accepted : goal.returns-in-Accepted
-returns-in-Accepted c = was_read _ _ _ _ _ _ _ _ _ c.read_file-r.ensures c.in-Accepted.is c.all_queries.ensures c.all_queries.auto.work (search rules)
+pub returns-in-Ok : goal.returns-in-Ok
+returns-in-Ok c = was_read _ _ _ _ _ _ _ _ _ c.read_file-r.ensures c.in-Ok.is c.all_queries.ensures c.all_queries.auto.work (search rules)

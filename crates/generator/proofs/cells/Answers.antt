@@ -1,26 +1,14 @@
-use Rattle.std.proofs.Common.{arith}
-use Rattle.generator.proofs.Rows.{left_start, left_next, left_full, left_last, cells_start, cells_next, cells_end}
+-- The rows are the rule's tables, by one computation over all of them.
+use Rattle.std.proofs.Common.{List, ℕ, Bor, refl}
+use Rattle.std.proofs.Math.ListN.{get_or-map}
+use mathlib.Core.List.{flat_map}
+use Rattle.meaning.specs.Answer.{bytes₂, bytes₄}
+use Rattle.meaning.specs.Diag.{ascii}
+use Rattle.meaning.specs.Writing.{as_field, as_alternative, as_reference, as_shape, as_value_type, as_statement, as_query, as_expr}
+use Rattle.testload.specs.Rule.{limits, names, base, simple, compound, predicates, leaves, pairs, singles, queries}
+use Rattle.generator.specs.Promises.{cell_bytes, as_limits, as_predicate, tables, joined, content}
 use Rattle.generator.proofs.cells.Goals as goal
 
-pub loop-k-init : goal.loop-k-init
-loop-k-init c = (c.requires.0, c.requires.1, left_start _ _ _ _ (cells_start c.args.i _ c.args.end c.args.from))
-
-pub bounds-s-k : goal.bounds-s-k
-bounds-s-k c = omega (arith, c.loop-k-test.true, c.loop-k.invariant.1)
-
-pub returns-in-Full : goal.returns-in-Full
-returns-in-Full c = left_full c.loop-k.invariant.2 _ _
-    (cells_next c.args.i _ c.args.end c.loop-k.k c.loop-k-test.true c.loop-k.invariant.1) c.cell-r.ensures c.in-Full.is
-
-pub loop-k-smaller : goal.loop-k-smaller
-loop-k-smaller c = omega (arith, c.loop-k-test.true)
-
-pub loop-k-preserved : goal.loop-k-preserved
-loop-k-preserved c = (
-  omega (arith, c.loop-k-test.true),
-  c.loop-k.invariant.1,
-  left_next c.loop-k.invariant.2 _ _ (cells_next c.args.i _ c.args.end c.loop-k.k c.loop-k-test.true c.loop-k.invariant.1) c.cell-r.ensures c.in-To.is,
-)
-
 pub returns : goal.returns
-returns c = left_last c.loop-k.invariant.2 _ (cells_end c.args.i _ c.args.end c.loop-k.k c.loop-k-test.false) c.close.ensures
+unfolding cell_bytes flat_map content joined tables limits names base simple compound predicates leaves pairs singles queries ascii as_limits as_predicate as_shape as_field as_alternative as_reference as_value_type as_statement as_query as_expr bytes₂ bytes₄
+returns c = λ i. rw (← (get_or-map (λ (r : Bor (List ℕ)). flat_map (cell_bytes i) r.now))) refl

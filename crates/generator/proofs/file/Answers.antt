@@ -5,10 +5,10 @@ use Rattle.generator.proofs.Nodes.{file_is}
 use Rattle.generator.proofs.file.Goals as goal
 
 pub queries-requires : goal.queries-requires
-queries-requires c = omega (arith, (writes_to c.schema-r.ensures c.in-To.is).1, c.schema-r.ensures.long)
+queries-requires c = omega (arith, (writes_to c.schema.ensures c.in_ok-at.was).1, c.schema.ensures.long)
 
-pub returns-in-To : goal.returns-in-To
-returns-in-To c = writes_as (sym (file_is c.args.w.now)) (writes_then c.schema-r.ensures c.in-To.is c.queries.ensures)
+pub returns-in_err-at : goal.returns-in_err-at
+returns-in_err-at c = rw c.from_residual.ensures (writes_as (sym (file_is c.args.w.now)) (writes_full c.schema.ensures c.in_err-at.was _))
 
-pub returns-in-Full : goal.returns-in-Full
-returns-in-Full c = writes_as (sym (file_is c.args.w.now)) (writes_full c.schema-r.ensures c.in-Full.is _)
+pub returns : goal.returns
+returns c = writes_as (sym (file_is c.args.w.now)) (writes_then c.schema.ensures c.in_ok-at.was c.queries.ensures)

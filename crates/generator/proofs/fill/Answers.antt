@@ -1,12 +1,11 @@
-use Rattle.std.proofs.Common.{rules}
-use Rattle.generator.proofs.Filling.{filling_start, filling_next, filling_all}
+use Rattle.testload.specs.Words.{words}
+use Rattle.std.proofs.Common.{◌<◌, length, refl, arith}
+use Rattle.generator.proofs.Filling.{filled}
 use Rattle.generator.proofs.fill.Goals as goal
 
 pub loop-i-init : goal.loop-i-init
-loop-i-init c = filling_start _ _
+unfolding words
+loop-i-init c = refl
 
 pub loop-i-preserved : goal.loop-i-preserved
-loop-i-preserved c = filling_next c.loop-i.invariant _ c.loop-i-test.true c.next-v.ensures
-
-pub returns : goal.returns
-returns c = filling_all c.loop-i.invariant (search rules)
+loop-i-preserved c = let h : c.loop-i.i < length c.loop-i.w = omega arith in rw c.next.ensures (filled c.args.seed c.loop-i.i c.loop-i.w h c.loop-i.invariant)

@@ -1,33 +1,26 @@
 -- The kind, the span and the row, one after the other.
-use Rattle.std.proofs.Common.{◌++◌}
-use Rattle.meaning.specs.Answer.{hex_line, bytes₄}
-use Rattle.writer.specs.Writes.{hex_of}
-use Rattle.writer.proofs.Writing.{writes_then, writes_full, writes_as}
-use Rattle.generator.specs.Promises.{content}
-use Rattle.generator.proofs.Lines.{node_line}
+use Rattle.std.proofs.Common.{[], ◌∷◌}
+use Rattle.meaning.specs.Answer.{bytes₂, bytes₄}
+use Rattle.generator.proofs.Lines.{line_after, line_cut}
 use Rattle.generator.proofs.node.Goals as goal
 
-pub row-requires : goal.row-requires
-row-requires c = c.requires
+pub returns-in_err-at : goal.returns-in_err-at
+unfolding bytes₂ bytes₄
+returns-in_err-at c = rw c.from_residual.ensures (line_cut (5 ∷ []) _ c.byte.ensures c.in_err-at.was)
 
-pub returns-in-Full : goal.returns-in-Full
-returns-in-Full c = writes_as (node_line c.args.start c.args.end (content c.args.i c.args.n))
-    (writes_full c.byte-a.ensures c.in-Full.is
-    (hex_of (bytes₄ c.args.start) ++ (hex_of (bytes₄ c.args.end) ++ hex_line (content c.args.i c.args.n))))
+pub returns-in_err-at-2 : goal.returns-in_err-at-2
+unfolding bytes₂ bytes₄
+returns-in_err-at-2 c = rw c.from_residual-in_err-at-2.ensures
+    (line_after (5 ∷ []) _ c.byte.ensures c.in_ok-at.was (line_cut (bytes₄ c.args.start) _ c.full.ensures c.in_err-at-2.was))
 
-pub returns-in-Full-b : goal.returns-in-Full-b
-returns-in-Full-b c = writes_as (node_line c.args.start c.args.end (content c.args.i c.args.n))
-    (writes_then c.byte-a.ensures c.in-To.is
-    (writes_full c.full-b.ensures c.in-Full-b.is (hex_of (bytes₄ c.args.end) ++ hex_line (content c.args.i c.args.n))))
+pub returns-in_err-at-3 : goal.returns-in_err-at-3
+unfolding bytes₂ bytes₄
+returns-in_err-at-3 c = rw c.from_residual-in_err-at-3.ensures
+    (line_after (5 ∷ []) _ c.byte.ensures c.in_ok-at.was
+    (line_after (bytes₄ c.args.start) _ c.full.ensures c.in_ok-at-2.was (line_cut (bytes₄ c.args.end) _ c.full-2.ensures c.in_err-at-3.was)))
 
-pub returns-in-Full-c : goal.returns-in-Full-c
-returns-in-Full-c c = writes_as (node_line c.args.start c.args.end (content c.args.i c.args.n))
-    (writes_then c.byte-a.ensures c.in-To.is
-    (writes_then c.full-b.ensures c.in-To-b.is
-    (writes_full c.full-c.ensures c.in-Full-c.is (hex_line (content c.args.i c.args.n)))))
-
-pub returns-in-To-c : goal.returns-in-To-c
-returns-in-To-c c = writes_as (node_line c.args.start c.args.end (content c.args.i c.args.n))
-    (writes_then c.byte-a.ensures c.in-To.is
-    (writes_then c.full-b.ensures c.in-To-b.is
-    (writes_then c.full-c.ensures c.in-To-c.is c.row.ensures)))
+pub returns : goal.returns
+unfolding bytes₂ bytes₄
+returns c =
+    line_after (5 ∷ []) _ c.byte.ensures c.in_ok-at.was
+    (line_after (bytes₄ c.args.start) _ c.full.ensures c.in_ok-at-2.was (line_after (bytes₄ c.args.end) _ c.full-2.ensures c.in_ok-at-3.was c.row.ensures))

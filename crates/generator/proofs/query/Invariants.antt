@@ -1,5 +1,4 @@
--- To write the nodes from i on and the query is to write the whole; the measure is what is left of the nodes.
-use Rattle.std.proofs.Common.{◌-◌, ◌≤◌}
+-- To write the nodes from i on and the query is to write the whole.
 use Rattle.meaning.specs.Frame.{wide}
 use Rattle.meaning.specs.Content.{query_frames}
 use Rattle.meaning.specs.Writing.{file_of}
@@ -9,7 +8,4 @@ use Rattle.generator.proofs.Nodes.{query_from}
 use Rattle.generator.proofs.query.Given as goal
 
 abbrev pub invariant-loop-i : goal.invariant-loop-i
-invariant-loop-i l = (l.n ≤ 24) × Left l.initial.out l.at (file_of wide (query_frames (query_of l.w l.q))) l.out l.to (query_from l.w l.q l.n l.i)
-
-abbrev pub decreases-loop-i : goal.decreases-loop-i
-decreases-loop-i l = l.n - l.i
+invariant-loop-i l = Left l.fn.out l.fn.at (file_of wide (query_frames (query_of l.w l.q))) l.out l.at (query_from l.w l.q l.i-end l.i)

@@ -1,40 +1,34 @@
-use Rattle.std.proofs.Common.{sym, ◌∙◌, arith, rules}
-use Rattle.generator.proofs.Digits.{digits_start, digits_none, digits_next, digits_low, digits_high, digits_over, digits_end}
+use Rattle.std.proofs.Common.{sym, ◌∙◌, arith, eqb-true}
+use Rattle.std.proofs.lemmas.Bool.{eqb-false}
+use Rattle.generator.proofs.Digits.{digits_start, digits_none, digits_next, digits_stop, digits_end}
 use Rattle.generator.proofs.read_seed.Goals as goal
 
-pub returns-then-s-eq0 : goal.returns-then-s-eq0
-returns-then-s-eq0 c = sym (digits_none _ c.if-s-eq0.true)
+pub returns-then-is_empty : goal.returns-then-is_empty
+returns-then-is_empty c = sym (digits_none _ (eqb-true _ _ (sym c.if-is_empty.ensures)))
 
-pub loop-i-init : goal.loop-i-init
-loop-i-init c = digits_start _ c.if-s-eq0.false
+pub loop-b-init : goal.loop-b-init
+loop-b-init c = digits_start _ (eqb-false _ _ (sym c.if-is_empty.ensures))
 
-pub bounds-s-i : goal.bounds-s-i
-bounds-s-i c = search rules
+pub returns-then-not-is_ascii_digit : goal.returns-then-not-is_ascii_digit
+returns-then-not-is_ascii_digit c =
+    sym (digits_stop _ c.loop-b.v c.loop-b.b-index c.loop-b-test.true (λ a b d. omega (arith, c.if-not-is_ascii_digit.ensures.cases))) ∙ c.loop-b.invariant
 
-pub overflow_cast-b : goal.overflow_cast-b
-overflow_cast-b c = record { fits = omega (arith, (c.type_inv.s c.loop-i.i).fits) }
+pub returns-in_err-checked_mul : goal.returns-in_err-checked_mul
+returns-in_err-checked_mul c = rw c.from_residual.ensures
+    (sym (digits_stop _ c.loop-b.v c.loop-b.b-index c.loop-b-test.true (λ a b d. omega (arith, c.in_err-checked_mul.ensures))) ∙ c.loop-b.invariant)
 
-pub returns-then-b-lt48 : goal.returns-then-b-lt48
-returns-then-b-lt48 c = sym (digits_low _ c.loop-i.v c.loop-i.i c.loop-i-test.true c.if-b-lt48.true) ∙ c.loop-i.invariant
+pub returns-in_err-v : goal.returns-in_err-v
+returns-in_err-v c = rw c.from_residual-in_err-v.ensures
+    (sym (digits_stop _ c.loop-b.v c.loop-b.b-index c.loop-b-test.true (λ a b d. omega (arith, c.in_err-v.ensures, c.in_ok-checked_mul.ensures, c.from.ensures)))
+    ∙ c.loop-b.invariant)
 
-pub returns-then-b-gt57 : goal.returns-then-b-gt57
-returns-then-b-gt57 c = sym (digits_high _ c.loop-i.v c.loop-i.i c.loop-i-test.true c.if-b-gt57.true) ∙ c.loop-i.invariant
-
-pub returns-then-d-v : goal.returns-then-d-v
-returns-then-d-v c = sym (digits_over _ c.loop-i.v c.loop-i.i c.loop-i-test.true (omega (arith, c.if-b-lt48.false)) (omega (arith, c.if-b-gt57.false)) c.if-d-v.true) ∙ c.loop-i.invariant
-
-pub overflow_mul-v : goal.overflow_mul-v
-overflow_mul-v c = record { fits = omega (arith, c.if-d-v.false) }
-
-pub overflow_add-v : goal.overflow_add-v
-overflow_add-v c = record { fits = omega (arith, c.if-d-v.false) }
-
-pub loop-i-smaller : goal.loop-i-smaller
-loop-i-smaller c = omega (arith, c.loop-i-test.true)
-
-pub loop-i-preserved : goal.loop-i-preserved
-loop-i-preserved c = sym (digits_next _ c.loop-i.v c.loop-i.i c.loop-i-test.true
-    (omega (arith, c.if-b-lt48.false)) (omega (arith, c.if-b-gt57.false)) (omega (arith, c.if-d-v.false))) ∙ c.loop-i.invariant
+pub loop-b-preserved : goal.loop-b-preserved
+loop-b-preserved c =
+    let d = c.if-not-is_ascii_digit.ensures.cases in
+    let m = c.in_ok-checked_mul.ensures in
+    let v = c.in_ok-v.ensures in
+    sym (digits_next _ c.loop-b.v c.loop-b.b-index c.loop-b-test.true (omega (arith, d)) (omega (arith, d)) c.in_ok-v.v (omega (arith, c.from.ensures)) (omega arith))
+    ∙ c.loop-b.invariant
 
 pub returns : goal.returns
-returns c = sym (digits_end _ c.loop-i.v c.loop-i.i c.loop-i-test.false) ∙ c.loop-i.invariant
+returns c = sym (digits_end _ c.loop-b.v c.loop-b.b-index c.loop-b-test.false) ∙ c.loop-b.invariant

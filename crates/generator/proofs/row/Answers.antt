@@ -1,14 +1,16 @@
--- What stands between two places is the row, by the computed table.
-use Rattle.std.proofs.Common.{ap}
+use Rattle.std.proofs.Common.{ap, ◌∙◌}
 use Rattle.meaning.specs.Answer.{hex_line}
-use Rattle.writer.proofs.Writing.{writes_as}
-use Rattle.generator.proofs.Rows.{rows, flat, row_content, row_within}
+use Rattle.generator.proofs.Rows.{left_start, left_next, left_full, left_last, cells_start, cells_next, cells_end}
 use Rattle.generator.proofs.row.Goals as goal
 
-pub cells-requires : goal.cells-requires
-unfolding rows flat
-cells-requires c = row_within c.args.n c.requires
+pub loop-x-init : goal.loop-x-init
+loop-x-init c = left_start _ _ _ _ (cells_start c.args.i _ ∙ ap hex_line (c.cells-x-items.ensures c.args.i))
+
+pub returns-in_err-at : goal.returns-in_err-at
+returns-in_err-at c = rw c.from_residual.ensures (left_full c.loop-x.invariant _ _ (cells_next c.args.i _ c.loop-x.x-index c.loop-x-test.true) c.cell.ensures c.in_err-at.was)
+
+pub loop-x-preserved : goal.loop-x-preserved
+loop-x-preserved c = left_next c.loop-x.invariant _ _ (cells_next c.args.i _ c.loop-x.x-index c.loop-x-test.true) c.cell.ensures c.in_ok-at.was
 
 pub returns : goal.returns
-unfolding rows flat
-returns c = writes_as (ap hex_line (row_content c.args.i c.args.n c.requires)) c.cells.ensures
+returns c = left_last c.loop-x.invariant _ (cells_end c.args.i _ c.loop-x.x-index c.loop-x-test.false) c.close.ensures

@@ -1,5 +1,4 @@
--- To write the lines from l on is to write the schema; the measure is what is left of them.
-use Rattle.std.proofs.Common.{◌≡◌, ◌-◌, length}
+-- To write the lines from l on is to write the schema.
 use Rattle.meaning.specs.Frame.{wide}
 use Rattle.meaning.specs.Content.{schema_frames}
 use Rattle.meaning.specs.Writing.{file_of}
@@ -9,7 +8,4 @@ use Rattle.generator.proofs.Lines.{schema_from}
 use Rattle.generator.proofs.schema.Given as goal
 
 abbrev pub invariant-loop-l : goal.invariant-loop-l
-invariant-loop-l l = (length l.out ≡ length l.initial.out) × Goes l.initial.out 0 (file_of wide (schema_frames (content_of l.w))) l.out l.to (schema_from l.w l.l)
-
-abbrev pub decreases-loop-l : goal.decreases-loop-l
-decreases-loop-l l = 27 - l.l
+invariant-loop-l l = Goes l.initial.out 0 (file_of wide (schema_frames (content_of l.w))) l.out l.at (schema_from l.w l.l)

@@ -1,19 +1,20 @@
--- `growth::line_beside` meets its contract: equal bytes are one frame, and a kind is told by its byte.
 use native.Mathlib.Omega.{arith}
-use Rattle.growth.proofs.Walking.{beside_same, beside_added, beside_other}
+use Rattle.std.proofs.lemmas.Bool.Decides.{Decides-eqb}
+use Rattle.std.proofs.lemmas.Slice.Eq.{slice_eq-Decides}
+use Rattle.growth.proofs.Walking.{unequal, beside_same, beside_added, beside_other}
 use Rattle.growth.proofs.line_beside.Goals as goal
 
-pub returns-then-same : goal.returns-then-same
-returns-then-same c = beside_same c.same.ensures c.if-same.true
+pub returns-then-eq : goal.returns-then-eq
+returns-then-eq c = beside_same ((slice_eq-Decides Decides-eqb _ _ _ c.eq.ensures).0 c.if-eq.true)
 
-pub returns-then-kind-lt2 : goal.returns-then-kind-lt2
-returns-then-kind-lt2 c = beside_other c.same.ensures c.if-same.false (λ l m k. omega (arith, l, c.if-kind-lt2.true, c.byte-kind.ensures.0))
+pub returns-in-2-to-4 : goal.returns-in-2-to-4
+returns-in-2-to-4 c = beside_added (omega (arith, c.byte.ensures.0)) (omega (arith, c.byte.ensures.0)) (omega (arith, c.byte.ensures.0, c.byte-then-this-lt5.ensures.0))
 
-pub returns-then-kind-gt4 : goal.returns-then-kind-gt4
-returns-then-kind-gt4 c = beside_other c.same.ensures c.if-same.false (λ l m k. omega (arith, m, c.if-kind-gt4.true, c.byte-kind.ensures.0))
+pub returns-in_default : goal.returns-in_default
+returns-in_default c = beside_other (unequal c.eq.ensures c.if-eq.false) (λ l m k. omega (arith, c.byte.ensures.0))
 
-pub returns-then-kind-byte : goal.returns-then-kind-byte
-returns-then-kind-byte c = beside_added (omega (arith, c.if-kind-lt2.false, c.byte-kind.ensures.0)) (omega (arith, c.if-kind-gt4.false, c.byte-kind.ensures.0)) (omega (arith, c.if-kind-byte.true, c.byte-kind.ensures.0, c.byte.ensures.0))
+pub returns-in_default-2 : goal.returns-in_default-2
+returns-in_default-2 c = beside_other (unequal c.eq.ensures c.if-eq.false) (λ l m k. omega (arith, c.byte.ensures.0, c.byte-then-this-lt5.ensures.0))
 
-pub returns : goal.returns
-returns c = beside_other c.same.ensures c.if-same.false (λ l m k. omega (arith, k, c.if-kind-byte.false, c.byte-kind.ensures.0, c.byte.ensures.0))
+pub returns-in_default-3 : goal.returns-in_default-3
+returns-in_default-3 c = beside_other (unequal c.eq.ensures c.if-eq.false) (λ l m k. omega (arith, c.byte.ensures.0))

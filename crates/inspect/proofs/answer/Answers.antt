@@ -1,12 +1,14 @@
--- `inspect::answer` meets its contract: by what was found (Answering.antt).
+-- By what was found (Answering.antt).
+use mathlib.Core.Path.{ap, ◌∙◌}
+use Rattle.std.specs.Prelude.{Ok}
 use Rattle.inspect.proofs.Answering.{solved, none_there, refused}
 use Rattle.inspect.proofs.answer.Goals as goal
 
-pub returns-in-Entry : goal.returns-in-Entry
-returns-in-Entry c = solved c.seek-s.ensures _ c.in-Entry.is c.solve-p.ensures c.told.ensures
+pub returns-in-Some : goal.returns-in-Some
+returns-in-Some c = solved c.seek.ensures _ (c.in-Ok.is ∙ ap Ok c.in-Some.is) c.solve.ensures c.from.ensures
 
-pub returns-in-Fewer : goal.returns-in-Fewer
-returns-in-Fewer c = none_there c.seek-s.ensures _ c.clear.ensures c.in-Fewer.is
+pub returns-in-None : goal.returns-in-None
+returns-in-None c = none_there c.seek.ensures _ c.clear.ensures (c.in-Ok.is ∙ ap Ok c.in-None.is)
 
-pub returns-in-Refused : goal.returns-in-Refused
-returns-in-Refused c = refused c.seek-s.ensures _ c.clear-in-Refused.ensures c.in-Refused.is
+pub returns-in-Err : goal.returns-in-Err
+returns-in-Err c = refused c.seek.ensures _ c.clear-in-Err.ensures c.in-Err.is

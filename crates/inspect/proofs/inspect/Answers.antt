@@ -1,6 +1,6 @@
--- `inspect::inspect` meets its contract: what was answered on a cleared work slice, which is cleared again.
+-- What was answered on a cleared work slice, which is cleared again.
 use Rattle.inspect.proofs.Answering.{inspects}
 use Rattle.inspect.proofs.inspect.Goals as goal
 
 pub returns : goal.returns
-returns c = inspects c.clear.ensures c.answer-r.ensures c.clear-2.ensures
+returns c = inspects c.clear.ensures c.answer-answered.ensures c.clear-2.ensures

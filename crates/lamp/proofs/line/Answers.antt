@@ -3,14 +3,14 @@ use Rattle.meaning.specs.Answer.{hex_line, hex_digit}
 use Rattle.lamp.specs.Promises.{lamp_line}
 use Rattle.lamp.proofs.line.Goals as goal
 
-pub returns-in-Yes : goal.returns-in-Yes
+pub returns-in-Ok-true : goal.returns-in-Ok-true
 unfolding lamp_line hex_line hex_digit
-returns-in-Yes c = rw c.in-Yes.is
+returns-in-Ok-true c = rw (c.in-Ok-true.is, c.in-Ok-true.field-0-test)
 
-pub returns-in-No : goal.returns-in-No
+pub returns-in-Ok-false : goal.returns-in-Ok-false
 unfolding lamp_line hex_line hex_digit
-returns-in-No c = rw c.in-No.is
+returns-in-Ok-false c = rw (c.in-Ok-false.is, c.in-Ok-false.field-0-test)
 
-pub returns-in-Refused : goal.returns-in-Refused
+pub returns-in-Err : goal.returns-in-Err
 unfolding lamp_line
-returns-in-Refused c = rw c.in-Refused.is c.refusal_line.ensures
+returns-in-Err c = rw c.in-Err.is c.refusal_line.ensures

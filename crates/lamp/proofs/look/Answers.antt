@@ -5,10 +5,10 @@ use Rattle.lamp.proofs.Looking.{not_read, was_read}
 use Rattle.lamp.proofs.look.Goals as goal
 
 pub ask-requires : goal.ask-requires
-ask-requires c = read_small _ _ _ _ c.read_file-r.ensures c.in-Accepted.is
+ask-requires c = read_small _ _ _ _ c.read_file-r.ensures c.in-Ok.is
 
-pub returns-in-Refused : goal.returns-in-Refused
-returns-in-Refused c = not_read c.read_file-r.ensures c.in-Refused.is
+pub returns-in-Err : goal.returns-in-Err
+returns-in-Err c = not_read c.read_file-r.ensures c.in-Err.is
 
-pub returns-in-Accepted : goal.returns-in-Accepted
-returns-in-Accepted c = was_read c.read_file-r.ensures c.in-Accepted.is c.ask.ensures (search rules)
+pub returns-in-Ok : goal.returns-in-Ok
+returns-in-Ok c = was_read c.read_file-r.ensures c.in-Ok.is c.ask.ensures (search rules)

@@ -1,13 +1,8 @@
-use borrow.Author.Rules.{rules}
-use mathlib.Core.Path.{refl}
-use Rattle.cabinet.proofs.Places.{filling_start, filling_on, filling_end}
+use Rattle.std.proofs.Common.{ap, get_or, rules}
+use Rattle.cabinet.proofs.Places.{places_from_fn}
+use Rattle.ledger.specs.Words.{desk_at}
 use Rattle.ledger.proofs.group.Goals as goal
 
-pub loop-i-init : goal.loop-i-init
-loop-i-init c = (search rules, filling_start)
-
-pub loop-i-preserved : goal.loop-i-preserved
-loop-i-preserved c = (search rules, filling_on c.loop-i.invariant.1 (search rules) _ refl)
-
 pub returns : goal.returns
-returns c = cc (filling_end c.loop-i.invariant.1 refl c.loop-i-test.false)
+returns c = ap (λ ds. record { count = get_or c.args.words.now 0 0; pool = get_or c.args.words.now 1 0; desks = ds })
+    (places_from_fn _ _ (desk_at c.args.words.now) (λ i d q k. search rules) _ _ c.from_fn.ensures.items)

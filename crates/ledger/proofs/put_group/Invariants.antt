@@ -1,11 +1,13 @@
--- `ledger::put_group` meets its contract, word by word.
-use Prim.Native.Nat.{◌+◌, ◌*◌, ◌-◌, ◌≤◌}
-use Rattle.ledger.specs.Words.{group_words}
-use Rattle.ledger.proofs.Words.{Putting, with_desks}
+-- The first two words stand, and those of the desks below i.
+use Rattle.std.proofs.Common.{◌≡◌, ℕ, ◌<◌, length, get_or}
+use Rattle.cabinet.specs.Cabinet.{desk}
+use Rattle.ledger.specs.Words.{desk_at}
 use Rattle.ledger.proofs.put_group.Given as goal
 
 abbrev pub invariant-loop-i : goal.invariant-loop-i
-invariant-loop-i l = (l.i ≤ 16) × Putting (group_words (with_desks l.initial.all l.ds)) (2 + 3 * l.i) l.all
-
-abbrev pub decreases-loop-i : goal.decreases-loop-i
-decreases-loop-i l = 16 - l.i
+invariant-loop-i l = record {
+  long : length l.words ≡ 50;
+  count : get_or l.words 0 0 ≡ l.fn.g.count;
+  pool : get_or l.words 1 0 ≡ l.fn.g.pool;
+  desks : (k : ℕ) → k < l.i → desk_at l.words k ≡ desk l.fn.g k;
+}

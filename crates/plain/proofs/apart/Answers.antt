@@ -1,22 +1,24 @@
--- By the tests of the two first words.
-use mathlib.Core.Path.{sym, ◌∙◌}
-use Rattle.plain.proofs.Stepping.{apart_tags, apart_short, apart_numbers, apart_facts, apart_split, apart_unlike}
+use Rattle.std.specs.Cmp.Lexicographic.{same_text, other_text}
+use Rattle.plain.proofs.Stepping.{apart_same, apart_flat, apart_node, apart_kinds, apart_counts, apart_unlike, apart_split}
 use Rattle.plain.proofs.apart.Goals as goal
+use Rattle.plain.proofs.apart.Goals.{else-kind-other-via-then-kind-other+then-n-m+else-alike, else-kind-other-via-then-kind-other+else-n-m, else-kind-other-via-else-kind-other}
 
-pub returns-then-a-word : goal.returns-then-a-word
-returns-then-a-word c = apart_tags _ c.args.p c.args.m c.args.q c.requires c.word-a.ensures c.word.ensures c.if-a-word.true
+pub returns-then-eq : goal.returns-then-eq
+returns-then-eq c = apart_same _ _ c.args.rest c.in_default.ensures (same_text _ _ c.if-eq.ensures)
 
-pub returns-then-is_short : goal.returns-then-is_short
-returns-then-is_short c = apart_short _ c.args.p c.args.m c.args.q c.requires c.word-a.ensures c.word.ensures c.if-a-word.false (sym c.is_short.ensures ∙ c.if-is_short.true)
+pub returns-else-eq : goal.returns-else-eq
+returns-else-eq c = apart_flat _ _ c.args.rest c.in_default.ensures (other_text _ _ c.if-eq.ensures)
 
-pub returns-then-n-word : goal.returns-then-n-word
-returns-then-n-word c = apart_numbers _ c.args.p c.args.m c.args.q c.requires c.word-a.ensures c.word.ensures c.if-a-word.false (sym c.is_short.ensures ∙ c.if-is_short.false) c.word-n.ensures c.word-2.ensures c.if-n-word.true
-
-pub returns-then-a-eq4 : goal.returns-then-a-eq4
-returns-then-a-eq4 c = apart_facts _ c.args.p c.args.m c.args.q c.requires c.word-a.ensures c.word.ensures c.if-a-word.false (sym c.is_short.ensures ∙ c.if-is_short.false) c.word-n.ensures c.word-2.ensures c.if-n-word.false c.if-a-eq4.true
+pub returns-in_default-node : goal.returns-in_default-node
+returns-in_default-node c = apart_node _ _ c.args.rest c.in-Some.ensures c.in_default-node.ensures
 
 pub returns-then-alike : goal.returns-then-alike
-returns-then-alike c = apart_split _ c.args.p c.args.m c.args.q c.requires c.word-a.ensures c.word.ensures c.if-a-word.false (sym c.is_short.ensures ∙ c.if-is_short.false) c.word-n.ensures c.word-2.ensures c.if-n-word.false c.if-a-eq4.false c.alike.ensures c.if-alike.true
+returns-then-alike c = apart_split _ _ c.in-Some.first c.in-Some-node.second c.args.rest c.in-Some.ensures c.in-Some-node.ensures c.if-kind-other.true c.if-n-m.true c.if-alike.ensures
 
-pub returns : goal.returns
-returns c = apart_unlike _ c.args.p c.args.m c.args.q c.requires c.word-a.ensures c.word.ensures c.if-a-word.false (sym c.is_short.ensures ∙ c.if-is_short.false) c.word-n.ensures c.word-2.ensures c.if-n-word.false c.if-a-eq4.false c.alike.ensures c.if-alike.false
+pub returns-else-kind-other : goal.returns-else-kind-other
+returns-else-kind-other c = elim c.else-kind-other.branch [
+  | else-kind-other-via-then-kind-other+then-n-m+else-alike w ↦
+      apart_unlike _ _ c.args.rest c.in-Some.ensures c.in-Some-node.ensures w.if-kind-other.true w.if-n-m.true w.if-alike.ensures
+  | else-kind-other-via-then-kind-other+else-n-m w ↦ apart_counts _ _ c.args.rest c.in-Some.ensures c.in-Some-node.ensures w.if-kind-other.true w.if-n-m.false
+  | else-kind-other-via-else-kind-other w ↦ apart_kinds _ _ c.args.rest c.in-Some.ensures c.in-Some-node.ensures w.if-kind-other.false
+]

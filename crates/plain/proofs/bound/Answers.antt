@@ -1,20 +1,11 @@
--- One writer after the other.
-use native.Mathlib.Omega.{arith}
-use Rattle.plain.proofs.Staging.{after_place, after_copy, after_replace}
-use Rattle.writer.proofs.Writing.{writes_full}
+use Rattle.plain.proofs.Stepping.{bound_same, bound_occurs, bound_free}
 use Rattle.plain.proofs.bound.Goals as goal
 
-pub returns-in-Full : goal.returns-in-Full
-returns-in-Full c = writes_full c.two-r.ensures c.in-Full.is _
+pub returns-then-eq : goal.returns-then-eq
+returns-then-eq c = bound_same _ c.args.ty c.args.rest _ c.unknown.ensures c.if-eq.ensures
 
-pub copy-s-requires : goal.copy-s-requires
-copy-s-requires c = (omega (arith, c.requires.1, after_place c.two-r.ensures c.in-To.is), (after_place c.two-r.ensures c.in-To.is).1)
+pub returns-then-occurs : goal.returns-then-occurs
+returns-then-occurs c = bound_occurs _ c.args.ty c.args.rest _ c.unknown.ensures c.if-eq.ensures c.if-occurs.ensures
 
-pub replace-requires : goal.replace-requires
-replace-requires c = (omega (arith, c.requires.0, after_place c.two-r.ensures c.in-To.is, after_place c.copy-s.ensures c.in-To-s.is), omega (arith, c.requires.1, after_place c.two-r.ensures c.in-To.is, after_place c.copy-s.ensures c.in-To-s.is), (after_place c.copy-s.ensures c.in-To-s.is).1)
-
-pub returns-in-To-s : goal.returns-in-To-s
-returns-in-To-s c = after_replace (after_copy c.two-r.ensures c.in-To.is _ _ c.requires.1 c.copy-s.ensures) c.in-To-s.is _ _ _ _ _ c.requires.1 c.requires.0 c.replace.ensures
-
-pub returns-in-Full-s : goal.returns-in-Full-s
-returns-in-Full-s c = writes_full (after_copy c.two-r.ensures c.in-To.is _ _ c.requires.1 c.copy-s.ensures) c.in-Full-s.is _
+pub returns-else-occurs : goal.returns-else-occurs
+returns-else-occurs c = bound_free _ c.args.ty c.args.rest _ c.unknown.ensures c.if-eq.ensures c.if-occurs.ensures

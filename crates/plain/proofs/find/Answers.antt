@@ -1,37 +1,21 @@
-use borrow.Author.Rules.{rules}
-use native.Mathlib.Omega.{arith}
-use Rattle.plain.proofs.Finding.{head_two, find_start, find_none, find_past_end, find_cut, find_here, find_next}
+use Rattle.plain.proofs.Finding.{find_start, find_none, find_cut, find_broken, find_here, find_next}
 use Rattle.plain.proofs.find.Goals as goal
 
-pub loop-j-init : goal.loop-j-init
-loop-j-init c = find_start _ _ _ _ _ _ _ c.requires c.head-h.ensures
+pub loop-init : goal.loop-init
+loop-init c = find_start _ _ _
 
-pub returns-then-to-i : goal.returns-then-to-i
-returns-then-to-i c = find_past_end c.loop-j.invariant c.loop-j-test.true c.if-to-i.true
+pub returns-in_err-cell : goal.returns-in_err-cell
+returns-in_err-cell c = rw c.from_residual.ensures (find_cut c.loop.invariant c.loop-test.true c.in_err-cell.ensures)
 
-pub returns-then-to-i-2 : goal.returns-then-to-i-2
-returns-then-to-i-2 c = find_cut c.loop-j.invariant c.loop-j-test.true c.if-to-i-2.true
+pub returns-then-cell-key : goal.returns-then-cell-key
+returns-then-cell-key c = find_here c.loop.invariant c.loop-test.true c.in_ok-cell.ensures c.if-cell-key.true
 
-pub overflow_add-i : goal.overflow_add-i
-overflow_add-i c = search (rules, c.if-to-i.false, c.if-to-i-2.false, c.requires)
+pub returns-in_err-rest : goal.returns-in_err-rest
+returns-in_err-rest c =
+    rw c.from_residual-in_err-rest.ensures (find_broken c.loop.invariant c.loop-test.true c.in_ok-cell.ensures c.in_err-rest.ensures)
 
-pub overflow_sub-i : goal.overflow_sub-i
-overflow_sub-i c = search (rules, head_two c.args.tag, c.head-h.ensures)
-
-pub returns-then-word-key : goal.returns-then-word-key
-returns-then-word-key c = find_here c.loop-j.invariant c.loop-j-test.true c.if-to-i.false c.word.ensures c.if-word-key.true
-
-pub overflow_add-i-in-loop-j : goal.overflow_add-i-in-loop-j
-overflow_add-i-in-loop-j c = search (rules, c.if-to-i.false, c.if-to-i-2.false, c.requires)
-
-pub type_end-i-requires : goal.type_end-i-requires
-type_end-i-requires c = c.requires
-
-pub loop-j-smaller : goal.loop-j-smaller
-loop-j-smaller c = omega arith
-
-pub loop-j-preserved : goal.loop-j-preserved
-loop-j-preserved c = find_next c.loop-j.invariant c.loop-j-test.true c.if-to-i.false c.word.ensures c.if-word-key.false c.type_end-i.ensures
+pub loop-preserved : goal.loop-preserved
+loop-preserved c = find_next c.loop.invariant c.loop-test.true c.in_ok-cell.ensures c.if-cell-key.false c.in_ok-rest.ensures
 
 pub returns : goal.returns
-returns c = find_none c.loop-j.invariant c.loop-j-test.false
+returns c = find_none c.loop.invariant c.loop-test.false

@@ -1,10 +1,10 @@
--- To seek in the words from i on is to seek in all.
-use Prim.Native.Nat.{◌-◌}
-use Rattle.plain.proofs.Passes.{Seeking}
+-- To seek in the words from here on is to seek in all.
+use Rattle.std.proofs.Common.{◌≡◌, length}
+use Rattle.plain.specs.Tokens.{among}
 use Rattle.plain.proofs.occurs.Given as goal
 
-abbrev pub invariant-loop-i : goal.invariant-loop-i
-invariant-loop-i l = Seeking l.l l.from l.to l.x l.i
+abbrev pub invariant-loop-rest : goal.invariant-loop-rest
+invariant-loop-rest l = among l.x l.ws ≡ among l.x l.rest
 
-abbrev pub decreases-loop-i : goal.decreases-loop-i
-decreases-loop-i l = l.to - l.i
+abbrev pub decreases-loop-rest : goal.decreases-loop-rest
+decreases-loop-rest l = length l.rest

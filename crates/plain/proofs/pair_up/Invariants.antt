@@ -1,10 +1,6 @@
--- To write the pairs of the rest from i on is to write the pairs of the whole row.
-use Prim.Native.Nat.{◌-◌}
+-- To write the pairs of the rest from here on is to write the pairs of the whole row.
 use Rattle.plain.proofs.Pairing.{Pairing}
 use Rattle.plain.proofs.pair_up.Given as goal
 
-abbrev pub invariant-loop-j : goal.invariant-loop-j
-invariant-loop-j l = Pairing l.initial.l l.tag l.left l.middle l.n l.right l.end l.at l.l l.h l.i l.j l.to
-
-abbrev pub decreases-loop-j : goal.decreases-loop-j
-decreases-loop-j l = l.n - l.j
+abbrev pub invariant-loop : goal.invariant-loop
+invariant-loop l = Pairing l.n l.left l.right l.initial.out l.at l.out l.rest l.counter l.to

@@ -1,10 +1,11 @@
--- To replace in the words from i on is to replace in all; what is read stands below what is written.
-use Prim.Native.Nat.{◌-◌}
-use Rattle.plain.proofs.Passes.{Replacing}
+-- To replace in the words from here on is to replace in all.
+use Rattle.std.proofs.Common.{length}
+use Rattle.plain.specs.Tokens.{swapped}
+use Rattle.plain.proofs.Passes.{Left}
 use Rattle.plain.proofs.replace.Given as goal
 
-abbrev pub invariant-loop-i : goal.invariant-loop-i
-invariant-loop-i l = Replacing l.initial.l l.from l.to l.x l.first l.last l.at l.l l.i l.n
+abbrev pub invariant-loop-rest : goal.invariant-loop-rest
+invariant-loop-rest l = Left l.initial.out l.at (swapped l.x l.ts l.ws) l.out l.to (swapped l.x l.ts l.rest)
 
-abbrev pub decreases-loop-i : goal.decreases-loop-i
-decreases-loop-i l = l.to - l.i
+abbrev pub decreases-loop-rest : goal.decreases-loop-rest
+decreases-loop-rest l = length l.rest

@@ -1,76 +1,88 @@
-use native.Mathlib.Omega.{arith}
-use mathlib.Core.Path.{◌∙◌}
-use Rattle.plain.proofs.Running.{less_words, less_unknowns, run_start, run_done, run_stuck, run_drop_none, run_drop, run_split_none, run_split_place, run_split_full, run_split, run_bind_none, run_bind_place, run_bind_full, run_bind}
+use Rattle.std.proofs.Common.{rules, sym, arith}
+use Rattle.std.proofs.lemmas.List.{length-take-le}
+use Rattle.unification.proofs.Tests.{clash}
+use Rattle.plain.proofs.Running.{less_words, less_unknowns, too_few, stays_as, run_start, run_done, run_stuck, never_out, run_drop, copied_long, run_split_full, run_split, run_bind_none, run_bind_full, run_bind}
 use Rattle.plain.proofs.turns.Goals as goal
 
-pub loop-q-init : goal.loop-q-init
-loop-q-init c = run_start _ _ _ _ c.requires.0 c.requires.1 c.requires.2
+pub loop-rest-init : goal.loop-rest-init
+loop-rest-init c = run_start _ _ _ _ c.requires
 
-pub step-t-requires : goal.step-t-requires
-step-t-requires c = omega (arith, c.loop-q.invariant.low_e, c.loop-q.invariant.half)
+pub offset_bounds-now-p : goal.offset_bounds-now-p
+offset_bounds-now-p c = search (rules, c.loop-rest.invariant.p_e, c.loop-rest.invariant.e_in)
 
-pub shape_of-l-in-Done : goal.shape_of-l-in-Done
-shape_of-l-in-Done c = c.loop-q.invariant.long
+pub slice_bounds-step-count : goal.slice_bounds-step-count
+slice_bounds-step-count c = c.loop-rest.invariant.p_e
+
+pub slice_bounds-step-start : goal.slice_bounds-step-start
+slice_bounds-step-start c = omega (arith, c.loop-rest.invariant.p_e, c.loop-rest.invariant.e_in)
+
+pub slice_bounds-step-end : goal.slice_bounds-step-end
+slice_bounds-step-end c = omega (arith, c.loop-rest.invariant.e_in)
 
 pub returns-in-Done : goal.returns-in-Done
-returns-in-Done c = run_done c.loop-q.invariant c.step-t.ensures c.in-Done.is
-
-pub shape_of-l-in-Stuck : goal.shape_of-l-in-Stuck
-shape_of-l-in-Stuck c = c.loop-q.invariant.long
+returns-in-Done c = run_done c.loop-rest.invariant c.in-Done.ensures
 
 pub returns-in-Stuck : goal.returns-in-Stuck
-returns-in-Stuck c = run_stuck c.loop-q.invariant c.step-t.ensures c.in-Stuck.is
+returns-in-Stuck c = run_stuck c.loop-rest.invariant c.in-Stuck.ensures
 
-pub shape_of-l-then-words-eq0 : goal.shape_of-l-then-words-eq0
-shape_of-l-then-words-eq0 c = c.loop-q.invariant.long
+pub returns-in_err-words-in-Drop : goal.returns-in_err-words-in-Drop
+returns-in_err-words-in-Drop c =
+    let e = c.in_err-words-in-Drop.ensures in
+    rw (too_few _ _ c.from_residual.ensures.1 e.ok_part e.value)
+    (never_out c.loop-rest.invariant c.in-Drop.ensures (λ z. clash (cc)) (rw e.ok_part at c.checked_sub.ensures))
 
-pub returns-then-words-eq0 : goal.returns-then-words-eq0
-returns-then-words-eq0 c = run_drop_none c.loop-q.invariant c.step-t.ensures c.in-Drop.is c.if-words-eq0.true
+pub loop-rest-smaller-in-Drop : goal.loop-rest-smaller-in-Drop
+loop-rest-smaller-in-Drop c = less_words _ _ (rw c.in_ok-words-in-Drop.ensures.ok_part at c.checked_sub.ensures)
 
-pub loop-q-smaller-in-Drop : goal.loop-q-smaller-in-Drop
-loop-q-smaller-in-Drop c = less_words _ _ _ c.if-words-eq0.false
+pub loop-rest-preserved-in-Drop : goal.loop-rest-preserved-in-Drop
+loop-rest-preserved-in-Drop c =
+    run_drop c.loop-rest.invariant c.in-Drop.rest c.in-Drop.ensures (rw c.in_ok-words-in-Drop.ensures.ok_part at c.checked_sub.ensures).1
 
-pub loop-q-preserved-in-Drop : goal.loop-q-preserved-in-Drop
-loop-q-preserved-in-Drop c = run_drop c.loop-q.invariant c.step-t.ensures c.in-Drop.is
+pub returns-in_err-unknowns-in-Bind : goal.returns-in_err-unknowns-in-Bind
+returns-in_err-unknowns-in-Bind c =
+    let e = c.in_err-unknowns-in-Bind.ensures in
+    rw (too_few _ _ c.from_residual-in_err-unknowns-in-Bind.ensures.1 e.ok_part e.value)
+    (run_bind_none c.loop-rest.invariant c.in-Bind.ensures (rw e.ok_part at c.checked_sub-in-Bind.ensures))
 
-pub shape_of-l-then-unknowns-eq0 : goal.shape_of-l-then-unknowns-eq0
-shape_of-l-then-unknowns-eq0 c = c.loop-q.invariant.long
+pub slice_bounds-bind-end : goal.slice_bounds-bind-end
+slice_bounds-bind-end c = sym (length-take-le _ _ (omega (arith, c.loop-rest.invariant.b_p, c.loop-rest.invariant.p_e, c.loop-rest.invariant.e_in)))
 
-pub returns-then-unknowns-eq0 : goal.returns-then-unknowns-eq0
-returns-then-unknowns-eq0 c = run_bind_none c.loop-q.invariant c.step-t.ensures c.in-Bind.is c.if-unknowns-eq0.true
+pub returns-in_err-b-in-Bind : goal.returns-in_err-b-in-Bind
+returns-in_err-b-in-Bind c =
+    let e = c.in_err-b-in-Bind.ensures in
+    rw (too_few _ _ c.from_residual-in_err-b-in-Bind.ensures.1 e.ok_part e.value)
+    (run_bind_full c.loop-rest.invariant c.in-Bind.ensures c.bind.ensures.lays e.ok_part)
 
-pub bind-s-requires : goal.bind-s-requires
-bind-s-requires c = run_bind_place c.loop-q.invariant c.step-t.ensures c.in-Bind.is
+pub loop-rest-smaller-in-Bind : goal.loop-rest-smaller-in-Bind
+loop-rest-smaller-in-Bind c = less_unknowns _ _ (rw c.in_ok-unknowns-in-Bind.ensures.ok_part at c.checked_sub-in-Bind.ensures)
+    (copied_long c.loop-rest.invariant (stays_as c.in_ok-b-in-Bind.ensures.ok_part c.bind.ensures.stays) c.copy_from_slice.ensures.after)
 
-pub shape_of-l-in-Full : goal.shape_of-l-in-Full
-shape_of-l-in-Full c = c.bind-s.ensures.stays.long ∙ c.loop-q.invariant.long
+pub loop-rest-preserved-in-Bind : goal.loop-rest-preserved-in-Bind
+loop-rest-preserved-in-Bind c =
+    let e = c.in_ok-b-in-Bind.ensures.ok_part in
+    run_bind c.loop-rest.invariant c.in-Bind.ensures c.bind.ensures.lays e c.bind.ensures.stays c.copy_from_slice.ensures.after
+    (rw c.in_ok-unknowns-in-Bind.ensures.ok_part at c.checked_sub-in-Bind.ensures).1
+    (copied_long c.loop-rest.invariant (stays_as e c.bind.ensures.stays) c.copy_from_slice.ensures.after)
 
-pub returns-in-Full : goal.returns-in-Full
-returns-in-Full c = run_bind_full c.loop-q.invariant c.step-t.ensures c.in-Bind.is c.bind-s.ensures c.in-Full.is
+pub returns-in_err-words-in-Split : goal.returns-in_err-words-in-Split
+returns-in_err-words-in-Split c =
+    let e = c.in_err-words-in-Split.ensures in
+    rw (too_few _ _ c.from_residual-in_err-words-in-Split.ensures.1 e.ok_part e.value)
+    (never_out c.loop-rest.invariant c.in-Split.ensures (λ z. clash (cc)) (rw e.ok_part at c.checked_sub-in-Split.ensures))
 
-pub loop-q-smaller-in-Bind : goal.loop-q-smaller-in-Bind
-loop-q-smaller-in-Bind c = less_unknowns _ _ _ c.if-unknowns-eq0.false
+pub slice_bounds-split-end : goal.slice_bounds-split-end
+slice_bounds-split-end c = sym (length-take-le _ _ (omega (arith, c.loop-rest.invariant.b_p, c.loop-rest.invariant.p_e, c.loop-rest.invariant.e_in)))
 
-pub loop-q-preserved-in-Bind : goal.loop-q-preserved-in-Bind
-loop-q-preserved-in-Bind c = run_bind c.loop-q.invariant c.step-t.ensures c.in-Bind.is c.bind-s.ensures c.in-At.is
+pub returns-in_err-b-in-Split : goal.returns-in_err-b-in-Split
+returns-in_err-b-in-Split c =
+    let e = c.in_err-b-in-Split.ensures in
+    rw (too_few _ _ c.from_residual-in_err-b-in-Split.ensures.1 e.ok_part e.value)
+    (run_split_full c.loop-rest.invariant c.in-Split.ensures c.split.ensures.lays e.ok_part)
 
-pub shape_of-l-then-words-eq0-2 : goal.shape_of-l-then-words-eq0-2
-shape_of-l-then-words-eq0-2 c = c.loop-q.invariant.long
+pub loop-rest-smaller : goal.loop-rest-smaller
+loop-rest-smaller c = less_words _ _ (rw c.in_ok-words-in-Split.ensures.ok_part at c.checked_sub-in-Split.ensures)
 
-pub returns-then-words-eq0-2 : goal.returns-then-words-eq0-2
-returns-then-words-eq0-2 c = run_split_none c.loop-q.invariant c.step-t.ensures c.in-Split.is c.if-words-eq0-2.true
-
-pub split-s-requires : goal.split-s-requires
-split-s-requires c = run_split_place c.loop-q.invariant c.step-t.ensures c.in-Split.is
-
-pub shape_of-l-in-Full-s : goal.shape_of-l-in-Full-s
-shape_of-l-in-Full-s c = c.split-s.ensures.stays.long ∙ c.loop-q.invariant.long
-
-pub returns-in-Full-s : goal.returns-in-Full-s
-returns-in-Full-s c = run_split_full c.loop-q.invariant c.step-t.ensures c.in-Split.is c.split-s.ensures c.in-Full-s.is
-
-pub loop-q-smaller : goal.loop-q-smaller
-loop-q-smaller c = less_words _ _ _ c.if-words-eq0-2.false
-
-pub loop-q-preserved : goal.loop-q-preserved
-loop-q-preserved c = run_split c.loop-q.invariant c.step-t.ensures c.in-Split.is c.split-s.ensures c.in-At-s.is
+pub loop-rest-preserved : goal.loop-rest-preserved
+loop-rest-preserved c =
+    run_split c.loop-rest.invariant c.in-Split.ensures c.split.ensures.lays c.in_ok-b-in-Split.ensures.ok_part c.split.ensures.stays
+    c.copy_from_slice-in-Split.ensures.after (rw c.in_ok-words-in-Split.ensures.ok_part at c.checked_sub-in-Split.ensures).1

@@ -1,10 +1,10 @@
 -- The stage that stands there has the result of the first; the measure is unknowns first, then words.
-use Prim.Native.Nat.{◌+◌, ◌*◌}
+use Rattle.std.proofs.Common.{◌+◌, ◌*◌, length}
 use Rattle.plain.proofs.Running.{Running}
 use Rattle.plain.proofs.turns.Given as goal
 
-abbrev pub invariant-loop-q : goal.invariant-loop-q
-invariant-loop-q l = Running l.initial.l l.h l.b0 l.e0 l.l l.b l.p l.e l.unknowns l.words
+abbrev pub invariant-loop-rest : goal.invariant-loop-rest
+invariant-loop-rest l = Running l.initial.stage l.fn.b l.fn.e l.stage l.room l.b l.p l.e l.unknowns l.words
 
-abbrev pub decreases-loop-q : goal.decreases-loop-q
-decreases-loop-q l = l.unknowns * (l.h + 1) + l.words
+abbrev pub decreases-loop-rest : goal.decreases-loop-rest
+decreases-loop-rest l = l.unknowns * (length l.initial.stage + 1) + l.words

@@ -3,4 +3,4 @@ use Rattle.reader.proofs.Moving.{alternative_read}
 use Rattle.reader.proofs.read_alternative.Goals as goal
 
 pub returns : goal.returns
-returns c = alternative_read c.args.line.now c.half-name.ensures c.full-discriminant.ensures c.half-ty.ensures
+returns c = alternative_read c.half.ensures c.full.ensures c.half-2.ensures

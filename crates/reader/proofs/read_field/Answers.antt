@@ -3,4 +3,4 @@ use Rattle.reader.proofs.Moving.{field_read}
 use Rattle.reader.proofs.read_field.Goals as goal
 
 pub returns : goal.returns
-returns c = field_read c.args.line.now c.half-name.ensures c.half-ty.ensures
+returns c = field_read c.half.ensures c.half-2.ensures

@@ -3,4 +3,4 @@ use Rattle.reader.proofs.Moving.{limits_read}
 use Rattle.reader.proofs.read_limits.Goals as goal
 
 pub returns : goal.returns
-returns c = limits_read c.args.line.now c.byte-distance.ensures c.half-term.ensures
+returns c = limits_read c.byte.ensures c.half.ensures

@@ -3,4 +3,4 @@ use Rattle.reader.proofs.Moving.{predicate_read}
 use Rattle.reader.proofs.read_predicate.Goals as goal
 
 pub returns : goal.returns
-returns c = predicate_read c.args.line.now c.half-name.ensures c.half-key.ensures c.byte-flag.ensures c.half-value.ensures
+returns c = predicate_read c.half.ensures c.half-2.ensures c.byte.ensures c.half-3.ensures

@@ -1,12 +1,13 @@
--- `seek::find` meets its contract: by where the entry is.
+-- By where the entry is.
+use Rattle.seek.proofs.Running.{passed_on}
 use Rattle.seek.proofs.Reading.{find_at, find_fewer, find_out}
 use Rattle.seek.proofs.find.Goals as goal
 
-pub returns-in-At : goal.returns-in-At
-returns-in-At c = find_at c.place_of-p.ensures c.in-At.is c.sides_at.ensures
+pub returns-in_err-at : goal.returns-in_err-at
+returns-in_err-at c = rw (passed_on _ c.from_residual.ensures.1) (find_out c.in_err-at.ensures)
 
-pub returns-in-Fewer : goal.returns-in-Fewer
-returns-in-Fewer c = find_fewer c.place_of-p.ensures c.in-Fewer.is
+pub returns-in_default : goal.returns-in_default
+returns-in_default c = find_fewer (rw c.in_default.is at c.in_ok-at.ensures)
 
-pub returns-in-Out : goal.returns-in-Out
-returns-in-Out c = find_out c.place_of-p.ensures c.in-Out.is
+pub returns : goal.returns
+returns c = find_at (rw c.in-Some.is at c.in_ok-at.ensures) c.sides_at.ensures

@@ -1,9 +1,11 @@
--- `seek::one_query` meets its contract: by the end of the run, with the word of its entries (Running.antt).
-use Rattle.seek.proofs.Running.{query_on, query_out}
+-- By the end of the run, with the word of its entries.
+use Rattle.seek.proofs.Running.{turned_to, query_on, query_out}
 use Rattle.seek.proofs.one_query.Goals as goal
 
-pub returns-in-On : goal.returns-in-On
-returns-in-On c = query_on c.load-next.ensures c.query-d.ensures c.in-On.is c.word.ensures
+pub returns-in_err-ok_or : goal.returns-in_err-ok_or
+returns-in_err-ok_or c =
+    let e = c.in_err-ok_or.ensures in
+    rw (turned_to _ _ _ c.from_residual.ensures.1 e.ok_part e.value) (query_out c.load-next.ensures c.query.ensures e.ok_part)
 
-pub returns-in-Out : goal.returns-in-Out
-returns-in-Out c = query_out c.load-next.ensures c.query-d.ensures c.in-Out.is
+pub returns : goal.returns
+returns c = query_on c.load-next.ensures c.query.ensures c.in_ok-ok_or.ensures.ok_part c.word.ensures

@@ -1,6 +1,5 @@
--- `seek::place_of` meets its contract, query by query (Placing.antt). The measure is what is left of the file.
-use Prim.Native.Nat.{◌-◌}
-use lib.ListN.{length}
+-- Query by query (Placing.antt). The measure is what is left of the file.
+use Rattle.std.proofs.Common.{◌-◌, length}
 use Rattle.seek.proofs.Placing.{Placing}
 use Rattle.seek.proofs.place_of.Given as goal
 

@@ -1,14 +1,17 @@
 -- The first stage is spelled into the upper half, and the engine runs from there.
-use native.Mathlib.Omega.{arith}
-use mathlib.Core.Path.{◌∙◌}
+use Rattle.std.proofs.Common.{◌≡◌}
+use Rattle.plain.specs.declared.Unsolved.{Unsolved}
+use Rattle.std.proofs.lemmas.Result.{err_from_is_err_and}
 use Rattle.solver.proofs.Halving.{halves_run, halves_full}
 use Rattle.solver.proofs.halves.Goals as goal
 
-pub run-requires : goal.run-requires
-run-requires c = let i = c.start-s.ensures.inside _ _ c.in-At.is (omega (arith, c.requires)) in (i.0, i.1, omega (arith, i.2, c.start-s.ensures.long), c.start-s.ensures.long ∙ c.requires)
+pub returns-in_err-sides : goal.returns-in_err-sides
+returns-in_err-sides c =
+    let f = c.in_err-sides.ensures in
+    let p = err_from_is_err_and c.from_residual.result c.from_residual.ensures.1 in
+    let v = rw f.ok_part at f.value in
+    let e : c.in_err-sides.field-0.0 ≡ Unsolved.TooFew = cc v in
+    rw (p.1, p.2, e) (halves_full c.requires c.start.ensures f.ok_part)
 
-pub returns-in-At : goal.returns-in-At
-returns-in-At c = halves_run c.requires c.start-s.ensures c.in-At.is c.run.ensures
-
-pub returns-in-Full : goal.returns-in-Full
-returns-in-Full c = halves_full c.requires c.start-s.ensures c.in-Full.is
+pub returns : goal.returns
+returns c = halves_run c.requires c.start.ensures c.in_ok-sides.ensures.ok_part c.run.ensures

@@ -1,23 +1,19 @@
 -- Shut out where a mark is missing; else as the engine ends.
-use borrow.Author.Rules.{rules}
-use Rattle.unification.proofs.Tests.{clash}
-use Rattle.solver.proofs.Solving.{got_shut_out, expected_shut_out, solve_success, solve_other}
+use Rattle.std.proofs.Common.{◌≡◌, min, length}
+use Rattle.std.specs.Result.{result_unwrap_or}
+use Rattle.writer.proofs.Writing.{cleared}
+use Rattle.solver.proofs.Solving.{got_shut, expected_shut, solve_runs}
 use Rattle.solver.proofs.solve.Goals as goal
+use Rattle.solver.proofs.solve.Goals.{then-good+then-good-2, else-good, else-good-via-then-good+else-good-2, else-good-via-else-good}
 
-pub returns-then-not-good : goal.returns-then-not-good
-returns-then-not-good c = got_shut_out c.settle.ensures c.good.ensures c.if-not-good.true c.clear.ensures
-
-pub returns-then-not-good-2 : goal.returns-then-not-good-2
-returns-then-not-good-2 c = expected_shut_out c.settle.ensures c.good-2.ensures c.if-not-good-2.true c.clear-then-not-good-2.ensures
-
-pub returns-in-Success : goal.returns-in-Success
-returns-in-Success c = solve_success c.settle.ensures c.good.ensures c.if-not-good.false c.good-2.ensures c.if-not-good-2.false c.engine-r.ensures c.in-Success.is c.clear_from.ensures (search rules)
-
-pub returns-in-Failure : goal.returns-in-Failure
-returns-in-Failure c = solve_other c.settle.ensures c.good.ensures c.if-not-good.false c.good-2.ensures c.if-not-good-2.false c.engine-r.ensures _ c.in-Failure.is (λ n e. clash (cc e)) c.clear-in-Failure.ensures
-
-pub returns-in-ShutOut : goal.returns-in-ShutOut
-returns-in-ShutOut c = solve_other c.settle.ensures c.good.ensures c.if-not-good.false c.good-2.ensures c.if-not-good-2.false c.engine-r.ensures _ c.in-ShutOut.is (λ n e. clash (cc e)) c.clear-in-ShutOut.ensures
-
-pub returns-in-TooFew : goal.returns-in-TooFew
-returns-in-TooFew c = solve_other c.settle.ensures c.good.ensures c.if-not-good.false c.good-2.ensures c.if-not-good-2.false c.engine-r.ensures _ c.in-TooFew.is (λ n e. clash (cc e)) c.clear-in-TooFew.ensures
+pub returns : goal.returns
+returns c =
+    let zeros = cleared c.if-good.l c.fill.new.self c.min-end.result (c.fill.ensures.after (λ y e. e)) in
+    let end : c.min-end.result ≡ min (result_unwrap_or c.if-good.solved 0) (length c.if-good.l) = rw (← c.unwrap_or.ensures) c.min-end.ensures in
+    elim c.if-good.branch [
+      | then-good+then-good-2 w ↦ solve_runs c.settle.ensures c.if-good.l end zeros c.good.ensures w.if-good.true w.good-then-good.ensures w.if-good-2.true (rw (w.l-is, w.solved-is) w.engine-solved.ensures)
+      | else-good w ↦ elim w.else-good.branch [
+        | else-good-via-then-good+else-good-2 w' ↦ expected_shut c.settle.ensures c.if-good.l end zeros w.l-is w.solved-is w'.good-then-good.ensures w'.if-good-2.false
+        | else-good-via-else-good w' ↦ got_shut c.settle.ensures c.if-good.l end zeros w.l-is w.solved-is c.good.ensures w'.if-good.false
+      ]
+    ]

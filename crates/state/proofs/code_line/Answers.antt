@@ -2,8 +2,8 @@
 use Rattle.state.proofs.Telling.{code_then, code_full}
 use Rattle.state.proofs.code_line.Goals as goal
 
-pub returns-in-To : goal.returns-in-To
-returns-in-To c = code_then c.diagnostic-r.ensures c.in-To.is c.close.ensures
+pub returns-in_err-e : goal.returns-in_err-e
+returns-in_err-e c = rw c.from_residual.ensures (code_full c.diagnostic.ensures c.in_err-e.was)
 
-pub returns-in-Full : goal.returns-in-Full
-returns-in-Full c = code_full c.diagnostic-r.ensures c.in-Full.is
+pub returns : goal.returns
+returns c = code_then c.diagnostic.ensures c.in_ok-e.was c.close.ensures

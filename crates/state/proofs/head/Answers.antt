@@ -2,8 +2,8 @@
 use Rattle.state.proofs.Telling.{head_then, head_full}
 use Rattle.state.proofs.head.Goals as goal
 
-pub returns-in-To : goal.returns-in-To
-returns-in-To c = head_then c.byte-r.ensures c.in-To.is c.span.ensures
+pub returns-in_err-m : goal.returns-in_err-m
+returns-in_err-m c = rw c.from_residual.ensures (head_full c.byte.ensures c.in_err-m.was)
 
-pub returns-in-Full : goal.returns-in-Full
-returns-in-Full c = head_full c.byte-r.ensures c.in-Full.is
+pub returns : goal.returns
+returns c = head_then c.byte.ensures c.in_ok-m.was c.span.ensures

@@ -2,8 +2,8 @@
 use Rattle.state.proofs.Telling.{both_then, both_full}
 use Rattle.state.proofs.line.Goals as goal
 
-pub returns-in-To : goal.returns-in-To
-returns-in-To c = both_then c.code_line-r.ensures c.in-To.is c.message_line.ensures
+pub returns-in_err-e : goal.returns-in_err-e
+returns-in_err-e c = rw c.from_residual.ensures (both_full c.code_line.ensures c.in_err-e.was)
 
-pub returns-in-Full : goal.returns-in-Full
-returns-in-Full c = both_full c.code_line-r.ensures c.in-Full.is
+pub returns : goal.returns
+returns c = both_then c.code_line.ensures c.in_ok-e.was c.message_line.ensures

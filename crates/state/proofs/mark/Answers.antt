@@ -1,14 +1,16 @@
--- The tests are those of `markW`.
-use mathlib.Core.Bool.{not}
-use mathlib.Core.Path.{ap}
+-- The tests are those of `mark_w`.
 use Rattle.state.proofs.Entries.{mark_new, mark_again, mark_own}
 use Rattle.state.proofs.mark.Goals as goal
+use Rattle.state.proofs.mark.Goals.{else-maker_of-node-via-then-maker_of-node+else-not-is_marked, else-maker_of-node-via-else-maker_of-node}
 
 pub returns-then-not-is_marked : goal.returns-then-not-is_marked
-returns-then-not-is_marked c = mark_new _ _ c.is_marked.ensures _ c.if-e-node.true (ap not c.if-not-is_marked.true) c.push.ensures
+returns-then-not-is_marked c =
+    mark_new _ _ (rw c.unknown_of.ensures at c.is_marked.ensures) _ (rw c.maker_of.ensures at c.if-maker_of-node.true) c.if-not-is_marked.true
+    (rw c.unknown_of-then-not-is_marked.ensures at c.push.ensures)
 
-pub returns-else-not-is_marked : goal.returns-else-not-is_marked
-returns-else-not-is_marked c = mark_again _ _ c.is_marked.ensures _ c.if-e-node.true (ap not c.if-not-is_marked.false)
-
-pub returns-else-e-node : goal.returns-else-e-node
-returns-else-e-node c = mark_own _ _ _ c.if-e-node.false
+pub returns-else-maker_of-node : goal.returns-else-maker_of-node
+returns-else-maker_of-node c = elim c.else-maker_of-node.branch [
+  | else-maker_of-node-via-then-maker_of-node+else-not-is_marked w ↦
+      mark_again _ _ (rw w.unknown_of.ensures at w.is_marked.ensures) _ (rw c.maker_of.ensures at w.if-maker_of-node.true) w.if-not-is_marked.false
+  | else-maker_of-node-via-else-maker_of-node w ↦ mark_own _ _ _ (rw c.maker_of.ensures at w.if-maker_of-node.false)
+]

@@ -2,8 +2,8 @@
 use Rattle.state.proofs.Telling.{said_then, said_full}
 use Rattle.state.proofs.message.Goals as goal
 
-pub returns-in-To : goal.returns-in-To
-returns-in-To c = said_then c.byte-r.ensures c.in-To.is c.text.ensures
+pub returns-in_err-e : goal.returns-in_err-e
+returns-in_err-e c = rw c.from_residual.ensures (said_full c.byte.ensures c.in_err-e.was)
 
-pub returns-in-Full : goal.returns-in-Full
-returns-in-Full c = said_full c.byte-r.ensures c.in-Full.is
+pub returns : goal.returns
+returns c = said_then c.byte.ensures c.in_ok-e.was c.text.ensures

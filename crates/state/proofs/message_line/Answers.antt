@@ -2,8 +2,8 @@
 use Rattle.state.proofs.Telling.{message_then, message_full}
 use Rattle.state.proofs.message_line.Goals as goal
 
-pub returns-in-To : goal.returns-in-To
-returns-in-To c = message_then c.message-r.ensures c.in-To.is c.close.ensures
+pub returns-in_err-e : goal.returns-in_err-e
+returns-in_err-e c = rw c.from_residual.ensures (message_full c.message.ensures c.in_err-e.was)
 
-pub returns-in-Full : goal.returns-in-Full
-returns-in-Full c = message_full c.message-r.ensures c.in-Full.is
+pub returns : goal.returns
+returns c = message_then c.message.ensures c.in_ok-e.was c.close.ensures

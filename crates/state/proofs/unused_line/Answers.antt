@@ -2,8 +2,8 @@
 use Rattle.state.proofs.Telling.{unused_then, unused_full}
 use Rattle.state.proofs.unused_line.Goals as goal
 
-pub returns-in-To : goal.returns-in-To
-returns-in-To c = unused_then c.unused_head-r.ensures c.in-To.is c.close.ensures
+pub returns-in_err-e : goal.returns-in_err-e
+returns-in_err-e c = rw c.from_residual.ensures (unused_full c.unused_head.ensures c.in_err-e.was)
 
-pub returns-in-Full : goal.returns-in-Full
-returns-in-Full c = unused_full c.unused_head-r.ensures c.in-Full.is
+pub returns : goal.returns
+returns c = unused_then c.unused_head.ensures c.in_ok-e.was c.close.ensures

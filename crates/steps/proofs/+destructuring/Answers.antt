@@ -1,3 +1,4 @@
+use Rattle.std.proofs.Common.{inl, inr}
 use mathlib.Core.Bool.{not}
 use mathlib.Core.Path.{ap}
 use borrow.Enum.Refused.{opened}
@@ -24,13 +25,10 @@ pub destructurable-all_destructurable-requires : goal.destructurable-all_destruc
 destructurable-all_destructurable-requires t c = (omega (arith, items_below c.node_at-e.ensures _ c.in-Record.is), items_lower c.node_at-e.ensures _ c.in-Record.is)
 
 pub destructurable-returns-in-Var : goal.destructurable-returns-in-Var
-destructurable-returns-in-Var t c = asks_variable c.node_at-e.ensures _ c.in-Var.is
-
-pub destructurable-returns-in-Wildcard : goal.destructurable-returns-in-Wildcard
-destructurable-returns-in-Wildcard t c = asks_wildcard c.node_at-e.ensures c.in-Wildcard.is
+destructurable-returns-in-Var t c = elim c.in-Var.is [ inl v ↦ asks_variable c.node_at-e.ensures _ v.1 | inr w ↦ asks_wildcard c.node_at-e.ensures w ]
 
 pub destructurable-returns-in-Record : goal.destructurable-returns-in-Record
 destructurable-returns-in-Record t c = asks_record c.node_at-e.ensures _ c.in-Record.is c.all_destructurable.ensures
 
 pub destructurable-returns-in_default : goal.destructurable-returns-in_default
-destructurable-returns-in_default t c = asks_other c.node_at-e.ensures ((opened c.in_default.in_default-own.keys4))
+destructurable-returns-in_default t c = asks_other c.node_at-e.ensures ((opened c.in_default.in_default-own.keys3))

@@ -1,6 +1,6 @@
 -- A record's fields are lower nodes, so the node number falls; the walk over the fields stands below the record. The answer for all
 -- fields is that for the fields from i on.
-use Prim.Native.Nat.{◌+◌, ◌-◌, ◌*◌}
+use Prim.Native.Nat.{◌+◌, ◌*◌}
 use Rattle.steps.proofs.Unvisited.{Asking}
 use Rattle.steps.proofs.+destructuring.Given as goal
 
@@ -12,6 +12,3 @@ decreases-all_destructurable l = 2 * l.items.below
 
 abbrev pub invariant-all_destructurable-loop-i : goal.invariant-all_destructurable-loop-i
 invariant-all_destructurable-loop-i l = Asking l.f l.w l.items l.i
-
-abbrev pub decreases-all_destructurable-loop-i : goal.decreases-all_destructurable-loop-i
-decreases-all_destructurable-loop-i l = l.items.n - l.i

@@ -2,8 +2,8 @@
 use Rattle.steps.proofs.Accessing.{field_at_found, field_at_none}
 use Rattle.steps.proofs.field_at.Goals as goal
 
-pub returns-in-To : goal.returns-in-To
-returns-in-To c = field_at_found c.field_of-found.ensures _ c.in-To.is
+pub returns-in-Some : goal.returns-in-Some
+returns-in-Some c = field_at_found c.field_of-found.ensures _ c.in-Some.is
 
-pub returns-in-Free : goal.returns-in-Free
-returns-in-Free c = field_at_none c.field_of-found.ensures c.in-Free.is c.reject_ty.ensures
+pub returns-in-None : goal.returns-in-None
+returns-in-None c = field_at_none c.field_of-found.ensures c.in-None.is c.reject_ty.ensures

@@ -5,11 +5,11 @@ use Rattle.steps.proofs.key_of.Goals as goal
 pub returns-in-Error : goal.returns-in-Error
 returns-in-Error c = key_error _ _ c.in-Error.is
 
-pub returns-in-To : goal.returns-in-To
-returns-in-To c = key_found _ _ c.in-Fact.is c.key_ty-key.ensures _ c.in-To.is c.field_at.ensures
+pub returns-in-Some : goal.returns-in-Some
+returns-in-Some c = key_found _ _ c.in-Fact.is c.key_ty-key.ensures _ c.in-Some.is c.field_at.ensures
 
-pub returns-in-Free : goal.returns-in-Free
-returns-in-Free c = key_absent _ _ c.in-Fact.is c.key_ty-key.ensures c.in-Free.is
+pub returns-in-None : goal.returns-in-None
+returns-in-None c = key_absent _ _ c.in-Fact.is c.key_ty-key.ensures c.in-None.is
 
 pub returns-in-Record : goal.returns-in-Record
 returns-in-Record c = key_record _ _ _ c.in-Record.is c.field_at-in-Record.ensures

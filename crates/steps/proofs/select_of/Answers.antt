@@ -6,11 +6,11 @@ use Rattle.steps.proofs.select_of.Goals as goal
 pub returns-in-Error : goal.returns-in-Error
 returns-in-Error c = select_error _ _ c.in-Error.is
 
-pub returns-in-At : goal.returns-in-At
-returns-in-At c = select_found _ _ c.find_name-found.ensures c.in-Union.is _ c.in-At.is
+pub returns-in-Some : goal.returns-in-Some
+returns-in-Some c = select_found _ _ c.find_name-found.ensures c.in-Union.is _ c.in-Some.is
 
-pub returns-in-Nothing : goal.returns-in-Nothing
-returns-in-Nothing c = select_none _ _ c.find_name-found.ensures c.in-Union.is c.in-Nothing.is c.reject_ty.ensures
+pub returns-in-None : goal.returns-in-None
+returns-in-None c = select_none _ _ c.find_name-found.ensures c.in-Union.is c.in-None.is c.reject_ty.ensures
 
 pub returns-in-Var : goal.returns-in-Var
 returns-in-Var c = select_unknown _ _ _ c.in-Var.is c.reject_ty-in-Var.ensures

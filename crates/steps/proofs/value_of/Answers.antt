@@ -9,11 +9,11 @@ returns-then-key_shadows_value c = value_shadowed_lem _ c.in-Fact.is c.key_shado
 pub returns-in-Error : goal.returns-in-Error
 returns-in-Error c = value_error _ c.in-Error.is
 
-pub returns-in-To : goal.returns-in-To
-returns-in-To c = value_found _ c.in-Fact.is c.key_shadows_value.ensures c.if-key_shadows_value.false c.value_ty-value.ensures _ c.in-To.is
+pub returns-in-Some : goal.returns-in-Some
+returns-in-Some c = value_found _ c.in-Fact.is c.key_shadows_value.ensures c.if-key_shadows_value.false c.value_ty-value.ensures _ c.in-Some.is
 
-pub returns-in-Free : goal.returns-in-Free
-returns-in-Free c = value_absent _ c.in-Fact.is c.key_shadows_value.ensures c.if-key_shadows_value.false c.value_ty-value.ensures c.in-Free.is c.reject_ty-in-Free.ensures
+pub returns-in-None : goal.returns-in-None
+returns-in-None c = value_absent _ c.in-Fact.is c.key_shadows_value.ensures c.if-key_shadows_value.false c.value_ty-value.ensures c.in-None.is c.reject_ty-in-None.ensures
 
 pub returns-in-Var : goal.returns-in-Var
 returns-in-Var c = value_unknown _ _ c.in-Var.is c.reject_ty-in-Var.ensures

@@ -1,13 +1,17 @@
--- What is counted, added to the count of the bytes that are left, is the count of all. The measure is the number of bytes that are left.
-use Prim.Native.Nat.{◌≤◌, ◌-◌}
-use mathlib.Core.Path.{◌≡◌}
-use lib.ListN.{length, drop}
+-- What is counted, added to the count of the bytes that are left, is the count of all.
+use Rattle.std.proofs.Common.{◌≡◌, ◌+◌, ◌≤◌, length}
+use Rattle.text.specs.Star.{Each}
 use Rattle.text.specs.Utf8.{characters}
+use Rattle.text.proofs.Agree.{Byte}
 use Rattle.text.proofs.Walk.{plus}
 use Rattle.text.proofs.characters.Given as goal
 
-abbrev pub invariant-loop-i : goal.invariant-loop-i
-invariant-loop-i l = (l.i ≤ length l.s) × (l.count ≤ l.i) × (characters l.s ≡ plus l.count (characters (drop l.i l.s)))
+abbrev pub invariant-loop-rest : goal.invariant-loop-rest
+invariant-loop-rest l = record {
+  room : l.count + length l.rest ≤ length l.s;
+  bytes : Each Byte l.rest;
+  counted : characters l.s ≡ plus l.count (characters l.rest);
+}
 
-abbrev pub decreases-loop-i : goal.decreases-loop-i
-decreases-loop-i l = length l.s - l.i
+abbrev pub decreases-loop-rest : goal.decreases-loop-rest
+decreases-loop-rest l = length l.rest

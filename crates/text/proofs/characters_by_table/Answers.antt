@@ -1,52 +1,34 @@
-use native.Mathlib.Omega.{arith}
-use mathlib.Core.Logic.{inl, inr}
-use mathlib.Core.Path.{ap, ◌∙◌, sym}
-use Prim.Native.Nat.{◌<◌}
-use lib.ListN.{get_or}
-use Rattle.text.specs.Machine.{Steps}
-use Rattle.text.specs.Answer.{answer}
-use Rattle.text.proofs.Machine.{classes, next, next_of, class_small, steps}
-use Rattle.text.proofs.Tabled.{Counts, few, start, on, broken, unbroken, whole, halfway}
+use Rattle.std.proofs.Common.{◌≡◌, ◌+◌, drop, get_or, inl, inr, ◌∙◌, sym, arith}
+use Rattle.text.specs.Machine.{wanted, after}
+use Rattle.text.specs.Utf8.{characters}
+use Rattle.text.proofs.Walk.{plus}
+use Rattle.text.proofs.Tabled.{rest, start, on, ended}
 use Rattle.text.proofs.characters_by_table.Goals as goal
-use Rattle.text.proofs.characters_by_table.Goals.{then-state-eq0, else-state-eq0}
+use Rattle.text.proofs.characters_by_table.Goals.{then-state-eq0, else-state-eq0, Joined-state-eq0}
 
-pub loop-i-init : goal.loop-i-init
-loop-i-init c = (omega arith, omega arith, omega arith, start _)
+pub loop-b-init : goal.loop-b-init
+loop-b-init c = record { few = omega arith; in_table = omega arith; counted = start c.args.s.now }
 
-pub bounds-next-class : goal.bounds-next-class
-unfolding classes
-bounds-next-class c = class_small _ (c.type_inv.s c.loop-i.i).fits
-
-pub returns-then-state-eq8 : goal.returns-then-state-eq8
-unfolding classes next
-returns-then-state-eq8 c =
-    let s = c.args.s.now in
-    let i = c.loop-i.i in
-    let counted : Counts c.loop-i.state c.loop-i.chars c.if-state-eq0.chars = elim c.if-state-eq0.branch [
+counted : (c : Joined-state-eq0) → characters c.args.s.now
+    ≡ plus c.if-state-eq0.chars (rest (after (wanted c.loop-b.state) (get_or c.args.s.now c.loop-b.b-index 0)) (drop (c.loop-b.b-index + 1) c.args.s.now))
+counted c =
+    c.loop-b.invariant.counted ∙ on c.args.s.now c.loop-b.b-index c.loop-b.state c.loop-b.chars c.if-state-eq0.chars c.loop-b-test.true c.loop-b.invariant.in_table
+    (elim c.if-state-eq0.branch [
       | then-state-eq0 w ↦ inl (w.if-state-eq0.true, w.chars-is)
       | else-state-eq0 w ↦ inr (w.if-state-eq0.false, w.chars-is)
-    ] in
-    let byte : get_or s i 0 < 256 = (c.type_inv.s i).fits in
-    let stepped : Steps c.loop-i.state (get_or s i 0) (next_of c.loop-i.state (get_or classes (get_or s i 0) 0)) = steps _ _ c.loop-i.invariant.2 byte in
-    let counted_on = c.loop-i.invariant.3 ∙ on _ _ _ _ _ _ c.loop-i-test.true c.loop-i.invariant.2 counted stepped in
-    sym (ap answer (counted_on ∙ broken _ _ _ c.if-state-eq8.true))
+    ])
 
-pub loop-i-preserved : goal.loop-i-preserved
-unfolding classes next
-loop-i-preserved c =
-    let s = c.args.s.now in
-    let i = c.loop-i.i in
-    let counted : Counts c.loop-i.state c.loop-i.chars c.if-state-eq0.chars = elim c.if-state-eq0.branch [
-      | then-state-eq0 w ↦ inl (w.if-state-eq0.true, w.chars-is)
-      | else-state-eq0 w ↦ inr (w.if-state-eq0.false, w.chars-is)
-    ] in
-    let byte : get_or s i 0 < 256 = (c.type_inv.s i).fits in
-    let stepped : Steps c.loop-i.state (get_or s i 0) (next_of c.loop-i.state (get_or classes (get_or s i 0) 0)) = steps _ _ c.loop-i.invariant.2 byte in
-    let counted_on = c.loop-i.invariant.3 ∙ on _ _ _ _ _ _ c.loop-i-test.true c.loop-i.invariant.2 counted stepped in
-    (omega arith, omega (arith, few counted), unbroken stepped.small c.if-state-eq8.false, counted_on)
+pub returns-in_err-state : goal.returns-in_err-state
+returns-in_err-state c = rw (c.from_residual.ensures, counted (goal.at.returns-in_err-state c).Joined-state-eq0, c.in_err-state.ensures)
 
-pub returns-then-state-eq0-2 : goal.returns-then-state-eq0-2
-returns-then-state-eq0-2 c = sym (ap answer (c.loop-i.invariant.3 ∙ whole _ _ _ _ c.loop-i-test.false c.if-state-eq0-2.true))
+pub loop-b-preserved : goal.loop-b-preserved
+loop-b-preserved c =
+    let steps = c.in_ok-state.ensures in
+    record {
+      few = elim c.if-state-eq0.branch [ then-state-eq0 w ↦ omega arith | else-state-eq0 w ↦ omega arith ];
+      in_table = steps.0;
+      counted = rw steps.1.is (counted (goal.at.loop-b-preserved c).Joined-state-eq0);
+    }
 
 pub returns : goal.returns
-returns c = sym (ap answer (c.loop-i.invariant.3 ∙ halfway _ _ _ _ c.loop-i-test.false c.loop-i.invariant.2 c.if-state-eq0-2.false))
+returns c = rw (c.then_some.ensures, c.loop-b.invariant.counted) (sym (ended _ _ _ _ c.loop-b-test.false c.loop-b.invariant.in_table))

@@ -1,23 +1,30 @@
--- A first byte of 80 or more starts one sequence at most, so each refusal shows that it is none.
-use native.Mathlib.Omega.{arith}
-use lib.ListN.{length-take, length-drop}
-use Rattle.text.proofs.First.{refused, single, found}
+use Rattle.std.proofs.Common.{◌≡◌, ◌<◌, ◌-◌, ℕ, take, length, length-take, arith}
+use Rattle.std.proofs.lemmas.Grind.{common_steps}
+use Rattle.text.specs.Rule.{alone}
+use Rattle.text.proofs.First.{none_starts, some_one, decided}
 use Rattle.text.proofs.width.Goals as goal
 
 pub returns-then-first-lt128 : goal.returns-then-first-lt128
-returns-then-first-lt128 c = single _ _ c.requires c.if-first-lt128.true
+returns-then-first-lt128 c = rw c.in_ok-first.ensures.cases.0 (record { within = omega arith; whole = alone c.if-first-lt128.true })
 
-pub returns-then-n-lt2 : goal.returns-then-n-lt2
-returns-then-n-lt2 c = refused _ _ c.requires _ c.ones-n.ensures c.if-first-lt128.false (λ q. omega arith)
+pub overflow_sub-n : goal.overflow_sub-n
+overflow_sub-n c = omega (arith, some_one)
 
-pub returns-then-n-gt4 : goal.returns-then-n-gt4
-returns-then-n-gt4 c = refused _ _ c.requires _ c.ones-n.ensures c.if-first-lt128.false (λ q. omega arith)
+pub is_sequence-requires : goal.is_sequence-requires
+is_sequence-requires c = omega (arith, some_one, c.in_ok-later.ensures.lookup)
 
-pub returns-then-s-i : goal.returns-then-s-i
-returns-then-s-i c = refused _ _ c.requires _ c.ones-n.ensures c.if-first-lt128.false (λ q. omega (arith, simp (length-take, length-drop) at q.long))
-
-pub returns-then-sequence : goal.returns-then-sequence
-returns-then-sequence c = found _ _ c.requires _ (omega arith) (omega arith) (c.sequence.ensures.yes c.if-sequence.true)
+pub returns-in_err-later : goal.returns-in_err-later
+returns-in_err-later c =
+    let first = c.in_ok-first.ensures.cases.0 in
+    let lookup = c.in_err-later.ensures.lookup in
+    let short : length c.in_ok-first.rest.now < c.ones-n.result - 1 = grind (arith, lookup) in
+    rw (c.from_residual-in_err-later.ensures, first)
+    (none_starts _ _ _ c.ones-n.ensures c.if-first-lt128.false (λ q. omega (arith, q.long, length-take {A = ℕ})))
 
 pub returns : goal.returns
-returns c = refused _ _ c.requires _ c.ones-n.ensures c.if-first-lt128.false (c.sequence.ensures.no c.if-sequence.false)
+returns c =
+    let first = c.in_ok-first.ensures.cases.0 in
+    let lookup = c.in_ok-later.ensures.lookup.0 in
+    let later : c.in_ok-later.later.now ≡ take (c.ones-n.result - 1) c.in_ok-first.rest.now = grind (arith, common_steps, lookup) in
+    rw (c.then_some.ensures, first)
+    (decided _ _ _ c.ones-n.ensures c.if-first-lt128.false lookup.1 _ (rw later at c.is_sequence.ensures))

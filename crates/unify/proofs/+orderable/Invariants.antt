@@ -9,7 +9,4 @@ abbrev pub decreases-orderable : goal.decreases-orderable
 decreases-orderable l = l.left
 
 abbrev pub invariant-loop-j : goal.invariant-loop-j
-invariant-loop-j l = Asking Acyclic orders l.w l.u (l.left - 1) l.n l.j l.rest × Ordered l.w l.last l.cost
-
-abbrev pub decreases-loop-j : goal.decreases-loop-j
-decreases-loop-j l = l.n - l.j
+invariant-loop-j l = Asking Acyclic orders l.w l.u (l.left - 1) l.j-end l.j l.rest × Ordered l.w l.last l.cost

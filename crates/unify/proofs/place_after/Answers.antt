@@ -1,17 +1,8 @@
-use Rattle.cells.proofs.Parts.{seek_after, key_here, key_past, key_none}
+use Rattle.std.proofs.Common.{rules}
+use Rattle.std.proofs.lemmas.Iterator.{first_from_Range}
+use Rattle.cells.proofs.Parts.{seek_after, first_key}
 use Rattle.unify.proofs.place_after.Goals as goal
 
-pub loop-j-init : goal.loop-j-init
-loop-j-init c = seek_after c.requires c.count-n.ensures
-
-pub discriminant-x-requires : goal.discriminant-x-requires
-discriminant-x-requires c = c.first-f.ensures
-
-pub returns-then-x-k : goal.returns-then-x-k
-returns-then-x-k c = key_here c.loop-j.invariant c.discriminant-x.result c.loop-j-test.true c.discriminant-x.ensures c.if-x-k.true
-
-pub loop-j-preserved : goal.loop-j-preserved
-loop-j-preserved c = key_past c.loop-j.invariant c.discriminant-x.result c.loop-j-test.true c.discriminant-x.ensures c.if-x-k.false
-
 pub returns : goal.returns
-returns c = key_none c.loop-j.invariant c.loop-j-test.false
+returns c = first_key (seek_after c.requires c.count.ensures) c.find.result
+    (first_from_Range _ _ _ _ _ _ c.find.ensures.ran (λ x q k. search rules) (λ x q k. search rules))

@@ -1,13 +1,12 @@
 -- The high half, then the low one.
-use Prim.Native.Nat.{◌/◌}
-use Rattle.meaning.specs.Answer.{bytes₂, bytes₄}
+use Rattle.meaning.specs.Answer.{bytes₄}
 use Rattle.writer.proofs.Digits.{hex_then, hex_full}
 use Rattle.writer.proofs.full.Goals as goal
 
-pub returns-in-To : goal.returns-in-To
+pub returns-in_err-at : goal.returns-in_err-at
 unfolding bytes₄
-returns-in-To c = hex_then (bytes₂ (c.args.x / 65536)) (bytes₂ c.args.x) c.half-r.ensures c.in-To.is c.half.ensures
+returns-in_err-at c = rw c.from_residual.ensures (hex_full _ _ c.half.ensures c.in_err-at.was)
 
-pub returns-in-Full : goal.returns-in-Full
+pub returns : goal.returns
 unfolding bytes₄
-returns-in-Full c = hex_full (bytes₂ (c.args.x / 65536)) (bytes₂ c.args.x) c.half-r.ensures c.in-Full.is
+returns c = hex_then _ _ c.half.ensures c.in_ok-at.was c.half-2.ensures

@@ -1,14 +1,11 @@
--- One byte after the other.
-use mathlib.Core.List.{[], ◌∷◌}
-use Prim.Native.Nat.{◌/◌, ◌%◌}
 use Rattle.meaning.specs.Answer.{bytes₂}
 use Rattle.writer.proofs.Digits.{hex_then, hex_full}
 use Rattle.writer.proofs.half.Goals as goal
 
-pub returns-in-To : goal.returns-in-To
+pub returns-in_err-at : goal.returns-in_err-at
 unfolding bytes₂
-returns-in-To c = hex_then (c.args.x / 256 % 256 ∷ []) (c.args.x % 256 ∷ []) c.byte-r.ensures c.in-To.is c.byte.ensures
+returns-in_err-at c = rw c.from_residual.ensures (hex_full _ _ c.byte.ensures c.in_err-at.was)
 
-pub returns-in-Full : goal.returns-in-Full
+pub returns : goal.returns
 unfolding bytes₂
-returns-in-Full c = hex_full (c.args.x / 256 % 256 ∷ []) (c.args.x % 256 ∷ []) c.byte-r.ensures c.in-Full.is
+returns c = hex_then _ _ c.byte.ensures c.in_ok-at.was c.byte-2.ensures

@@ -1,9 +1,8 @@
--- One byte is stored, or there is no room for it.
 use Rattle.writer.proofs.Writing.{writes_one, full_one}
 use Rattle.writer.proofs.one.Goals as goal
 
 pub returns-then-at-out : goal.returns-then-at-out
-returns-then-at-out c = writes_one _ c.args.at c.args.b c.if-at-out.true
+returns-then-at-out g c = writes_one _ c.args.at c.args.x c.if-at-out.true
 
-pub returns : goal.returns
-returns c = full_one _ c.args.at c.args.b c.if-at-out.false
+pub returns-else-at-out : goal.returns-else-at-out
+returns-else-at-out g c = full_one _ c.args.at c.args.x c.if-at-out.false

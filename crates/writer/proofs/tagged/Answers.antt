@@ -1,11 +1,10 @@
 -- The byte, then the number.
-use mathlib.Core.List.{[], ◌∷◌}
-use Rattle.meaning.specs.Answer.{bytes₂}
+use Rattle.std.proofs.Common.{[], ◌∷◌}
 use Rattle.writer.proofs.Digits.{hex_then, hex_full}
 use Rattle.writer.proofs.tagged.Goals as goal
 
-pub returns-in-To : goal.returns-in-To
-returns-in-To c = hex_then (c.args.tag ∷ []) (bytes₂ c.args.x) c.byte-r.ensures c.in-To.is c.half.ensures
+pub returns-in_err-at : goal.returns-in_err-at
+returns-in_err-at c = rw c.from_residual.ensures (hex_full (c.args.tag ∷ []) _ c.byte.ensures c.in_err-at.was)
 
-pub returns-in-Full : goal.returns-in-Full
-returns-in-Full c = hex_full (c.args.tag ∷ []) (bytes₂ c.args.x) c.byte-r.ensures c.in-Full.is
+pub returns : goal.returns
+returns c = hex_then (c.args.tag ∷ []) _ c.byte.ensures c.in_ok-at.was c.half.ensures

@@ -5,8 +5,8 @@ use lib.ListN.{length}
 use Rattle.frames.proofs.Decoding.{SoFar}
 use Rattle.frames.proofs.lines.decode.Given as goal
 
-abbrev pub invariant-loop-i : goal.invariant-loop-i
-invariant-loop-i l = SoFar l.file l.at l.line l.i l.n
+abbrev pub invariant-loop-b : goal.invariant-loop-b
+invariant-loop-b l = SoFar l.file l.at l.line l.i l.n
 
-abbrev pub decreases-loop-i : goal.decreases-loop-i
-decreases-loop-i l = length l.file - l.i
+abbrev pub decreases-loop-b : goal.decreases-loop-b
+decreases-loop-b l = length l.file - l.i

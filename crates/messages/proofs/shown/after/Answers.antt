@@ -1,32 +1,35 @@
 -- By the kind, and whether a part follows.
-use mathlib.Core.List.{◌++◌}
+use Rattle.std.proofs.Common.{◌++◌}
 use Rattle.cells.specs.declared.Kind.TheVariants.{Alternatives}
 use Rattle.meaning.specs.Diag.{ascii}
 use Rattle.meaning.specs.Messages.{decimal}
-use Rattle.messages.specs.Pieces.{pieces, piece_of}
 use Rattle.messages.specs.Shown.{parted_by}
-use Rattle.messages.proofs.Showing.{text_none, text_writes, text_then, text_full}
+use Rattle.messages.proofs.Showing.{text_then, text_full}
 use Rattle.messages.proofs.shown.after.Goals as goal
+use Rattle.messages.proofs.shown.after.Goals.{then-more, else-more, then-more-2, else-more-2}
 
-pub returns-then-more : goal.returns-then-more
-unfolding piece_of pieces ascii
-returns-then-more c = rw (c.in-Fields.is, c.if-more.true) c.piece.ensures
+pub returns-in_err-at-in-Alternatives : goal.returns-in_err-at-in-Alternatives
+unfolding ascii
+returns-in_err-at-in-Alternatives c = rw (c.from_residual.ensures, c.in-Alternatives.is)
+    (text_full c.text-in-Alternatives.ensures c.in_err-at-in-Alternatives.was (decimal c.args.key ++ parted_by Alternatives c.args.more))
 
-pub returns-in-Full : goal.returns-in-Full
-unfolding piece_of pieces ascii
-returns-in-Full c = rw c.in-Alternatives.is (text_full c.piece-a.ensures c.in-Full.is (decimal c.args.key ++ parted_by Alternatives c.args.more))
+pub returns-in_err-at-in-Alternatives-2 : goal.returns-in_err-at-in-Alternatives-2
+unfolding ascii
+returns-in_err-at-in-Alternatives-2 c = rw (c.from_residual-in_err-at-in-Alternatives-2.ensures, c.in-Alternatives.is)
+    (text_then c.text-in-Alternatives.ensures c.in_ok-at-in-Alternatives.was (text_full c.number.ensures c.in_err-at-in-Alternatives-2.was (parted_by Alternatives c.args.more)))
 
-pub returns-then-more-2 : goal.returns-then-more-2
-unfolding piece_of pieces ascii
-returns-then-more-2 c = rw (c.in-Alternatives.is, c.if-more-2.true) (text_then c.piece-a.ensures c.in-To.is (text_then (text_writes c.number-b.ensures) c.in-To-b.is c.piece-then-more-2.ensures))
+pub returns-after-more : goal.returns-after-more
+unfolding ascii
+returns-after-more c = elim c.if-more.branch [
+  | then-more w ↦ rw (c.in-Fields.is, w.if-more.true) (rw w.text-is at c.text.ensures)
+  | else-more w ↦ rw (c.in-Fields.is, w.if-more.false) (rw w.text-is at c.text.ensures)
+]
 
-pub returns-else-more : goal.returns-else-more
-returns-else-more c = rw (c.in-Fields.is, c.if-more.false) text_none
-
-pub returns-else-more-2 : goal.returns-else-more-2
-unfolding piece_of pieces ascii
-returns-else-more-2 c = rw (c.in-Alternatives.is, c.if-more-2.false) (text_then c.piece-a.ensures c.in-To.is (text_then (text_writes c.number-b.ensures) c.in-To-b.is text_none))
-
-pub returns-in-Full-b : goal.returns-in-Full-b
-unfolding piece_of pieces ascii
-returns-in-Full-b c = rw c.in-Alternatives.is (text_then c.piece-a.ensures c.in-To.is (text_full (text_writes c.number-b.ensures) c.in-Full-b.is (parted_by Alternatives c.args.more)))
+pub returns-after-more-2 : goal.returns-after-more-2
+unfolding ascii
+returns-after-more-2 c =
+    let both = text_then c.text-in-Alternatives.ensures c.in_ok-at-in-Alternatives.was (text_then c.number.ensures c.in_ok-at-in-Alternatives-2.was c.text-in-Alternatives-2.ensures) in
+    elim c.if-more-2.branch [
+      | then-more-2 w ↦ rw (c.in-Alternatives.is, w.if-more-2.true) (rw w.text-is at both)
+      | else-more-2 w ↦ rw (c.in-Alternatives.is, w.if-more-2.false) (rw w.text-is at both)
+    ]

@@ -1,23 +1,36 @@
-use mathlib.Core.Path.{refl}
-use Rattle.reading.proofs.Texts.{name_other_count, name_other_digits, name_line, look_start, look_found, look_next, look_none}
+use mathlib.Core.Bool.{not}
+use mathlib.Core.Logic.{⊎_elim}
+use mathlib.Core.Path.{refl, ap, ◌∙◌}
+use native.Mathlib.Omega.{arith}
+use Rattle.reading.proofs.Texts.{name_other_count, name_nowhere, name_compared, name_differs, look_start, look_found, look_next, look_none}
 use Rattle.reading.proofs.names.given_before.Goals as goal
-use Rattle.reading.proofs.names.given_before.Goals.{then-wide-chars+then-n-place+else-same_line, then-wide-chars+else-n-place, else-wide-chars}
+use Rattle.reading.proofs.names.given_before.Goals.{else-is_none-via-then-is_none+else-starts_with, else-is_none-via-else-is_none}
 
 pub loop-j-init : goal.loop-j-init
 loop-j-init c = look_start _ _ _ _ _ _
 
-pub returns-then-same_line : goal.returns-then-same_line
-returns-then-same_line c = look_found c.loop-j.invariant c.loop-j-test.true (name_line _ _ _ _ _ (rw (c.wide-a.ensures.0, c.name_place.ensures, c.word-x.ensures, c.wide.ensures.0) at c.same_line.ensures)) c.if-same_line.true
+pub loop-j-preserved-then-name_chars-chars : goal.loop-j-preserved-then-name_chars-chars
+loop-j-preserved-then-name_chars-chars c = look_next c.loop-j.invariant c.loop-j-test.true
+    (rw (← c.word-x.ensures) (name_other_count c.args.line.file.now _ c.args.line.at c.args.line.bytes.now _ (λ q. c.if-name_chars-chars.true (c.name_chars.ensures ∙ q)))) refl
+
+pub loop-j-preserved-in_default : goal.loop-j-preserved-in_default
+loop-j-preserved-in_default c = let h = c.in_default.ensures.lookup.0 in look_next c.loop-j.invariant c.loop-j-test.true
+    (rw (← c.word-x.ensures) (name_nowhere c.args.line.file.now _ c.args.line.at c.args.line.bytes.now _ (⊎_elim (λ l. omega (arith, c.name_place.ensures)) (λ l. absurd (omega arith)) h))) refl
+
+pub returns-then-starts_with : goal.returns-then-starts_with
+returns-then-starts_with c = look_found c.loop-j.invariant c.loop-j-test.true
+    (rw (← c.word-x.ensures) (name_compared c.args.line.file.now _ c.args.line.at c.args.line.bytes.now _ _ _ c.digits-digits.ensures
+    (rw c.name_place.ensures at c.in-Some.ensures.lookup.0.2) _ c.starts_with.ensures.value)) c.if-starts_with.true
 
 pub loop-j-preserved : goal.loop-j-preserved
-loop-j-preserved c =
-    look_next c.loop-j.invariant c.loop-j-test.true
-    (elim c.if-wide-chars.branch [
-      | then-wide-chars+then-n-place+else-same_line w ↦ name_line _ _ _ _ _ (rw (w.wide-a.ensures.0, w.name_place.ensures, c.word-x.ensures, c.wide.ensures.0, w.if-same_line.false) at w.same_line.ensures)
-      | then-wide-chars+else-n-place w ↦ name_other_digits _ _ _ _ _ _ (rw (w.wide-a.ensures.0, w.name_place.ensures, c.word-x.ensures, c.wide.ensures.0) at w.differ-place.ensures) w.if-n-place.false
-      | else-wide-chars w ↦ name_other_count _ _ _ _ _ (λ e. w.if-wide-chars.false (rw (c.wide-in-loop-j.ensures.0, c.name_chars.ensures, c.word-x.ensures, c.wide.ensures.0) e))
-    ])
-    refl
+loop-j-preserved c = elim c.else-is_none.branch [
+  | else-is_none-via-then-is_none+else-starts_with w ↦ look_next c.loop-j.invariant c.loop-j-test.true
+      (rw (← c.word-x.ensures) (name_compared c.args.line.file.now _ c.args.line.at c.args.line.bytes.now _ _ _ c.digits-digits.ensures
+      (rw c.name_place.ensures at c.in-Some.ensures.lookup.0.2) _ w.starts_with.ensures.value)) w.if-starts_with.false
+  | else-is_none-via-else-is_none w ↦ look_next c.loop-j.invariant c.loop-j-test.true
+      (rw (← c.word-x.ensures) (name_differs c.args.line.file.now _ c.args.line.at c.args.line.bytes.now _ _ _ c.digits-digits.ensures
+      (rw c.name_place.ensures at c.in-Some.ensures.lookup.0.2) _ c.differ-place.ensures (c.is_none.ensures ∙ ap not w.if-is_none.false))) refl
+]
 
 pub returns : goal.returns
 returns c = look_none c.loop-j.invariant c.loop-j-test.false

@@ -1,17 +1,29 @@
--- `reading::take_name` meets its contract: each end is one of a name line's.
-use Rattle.reading.proofs.Naming.{text_broken, text_whole, few_characters, name_broken, name_given, name_adds}
+use Rattle.std.proofs.lemmas.Result.{err_from_is_err_and}
+use Rattle.reading.proofs.Naming.{text_none, text_some, few_characters, value_true, value_false, name_broken, name_given, name_adds}
 use Rattle.reading.proofs.names.take_name.Goals as goal
 
+pub returns-in_err-chars : goal.returns-in_err-chars
+returns-in_err-chars c =
+    let p = err_from_is_err_and c.from_residual.result c.from_residual.ensures.1 in
+    let t = text_none c.args.line.bytes.now _ c.characters.ensures _ _ c.in_err-chars.ensures.value in
+    rw (p.1, p.2, t.0) (record { is = λ e. name_broken e c.args.line.file.now _ c.args.line.bytes.now _ _ t.1 })
+
 pub returns-then-given_before : goal.returns-then-given_before
-returns-then-given_before c = record { is = λ e. name_given e _ _ c.args.s.now _ _ _ (text_whole c.args.s.now _ c.characters-got.ensures _ c.in-Chars.is) (rw c.if-given_before.true at c.given_before.ensures) }
+returns-then-given_before c = record { is = λ e. name_given e c.args.line.file.now _ c.args.line.bytes.now _ _ _ (text_some c.args.line.bytes.now _ c.characters.ensures _ _ c.in_ok-chars.ensures.value) (rw c.if-given_before.true at c.given_before.ensures) }
 
-pub add_name-requires : goal.add_name-requires
-add_name-requires c =
-    let few = few_characters c.args.s.now _ (text_whole c.args.s.now _ c.characters-got.ensures _ c.in-Chars.is) c.requires.2 c.requires.3 in
-    (c.requires.0, few, c.requires.1)
+pub name_word-requires : goal.name_word-requires
+name_word-requires c = (c.args.line.placed, few_characters c.args.line.bytes.now _ (text_some _ _ c.characters.ensures _ _ c.in_ok-chars.ensures.value) c.args.line.some c.args.line.short)
 
-pub returns-in-Broken : goal.returns-in-Broken
-returns-in-Broken c = record { is = λ e. name_broken e _ _ c.args.s.now _ _ (text_broken c.args.s.now _ c.characters-got.ensures c.in-Broken.is) }
+pub returns-then-eq : goal.returns-then-eq
+returns-then-eq c = record {
+  is = λ e. name_adds e c.args.line.file.now _ c.args.line.bytes.now _ _ _ (text_some _ _ c.characters.ensures _ _ c.in_ok-chars.ensures.value)
+      (rw c.if-given_before.false at c.given_before.ensures) _
+      (value_true c.args.line.bytes.now c.args.c.names c.args.c.value _ c.as_slice.ensures _ c.eq.ensures c.if-eq.true) _ (rw c.name_word.ensures at c.put.ensures);
+}
 
-pub returns-else-given_before : goal.returns-else-given_before
-returns-else-given_before c = record { is = λ e. name_adds e _ _ c.args.s.now _ _ _ (text_whole c.args.s.now _ c.characters-got.ensures _ c.in-Chars.is) _ _ _ (rw c.if-given_before.false at c.given_before.ensures) (c.is_value.ensures c.requires.2) c.add_name.ensures }
+pub returns-else-eq : goal.returns-else-eq
+returns-else-eq c = record {
+  is = λ e. name_adds e c.args.line.file.now _ c.args.line.bytes.now _ _ _ (text_some _ _ c.characters.ensures _ _ c.in_ok-chars.ensures.value)
+      (rw c.if-given_before.false at c.given_before.ensures) _
+      (value_false c.args.line.bytes.now c.args.c.names c.args.c.value _ c.as_slice.ensures _ c.eq.ensures c.if-eq.false) _ (rw c.name_word.ensures at c.put.ensures);
+}

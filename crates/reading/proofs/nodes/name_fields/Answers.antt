@@ -1,20 +1,33 @@
-use borrow.Author.Rules.{rules}
-use native.Mathlib.Omega.{arith}
 use mathlib.Core.Path.{refl}
-use Rattle.reading.proofs.Going.{fields_start, fields_no_name, fields_no_node, fields_next, fields_end}
+use Rattle.std.proofs.lemmas.Result.{err_from_is_err_and}
+use Rattle.reading.proofs.Marking.{told_there, told_missing, missing, all_there}
+use Rattle.reading.proofs.Going.{fields_start, fields_end, fields_no_name, fields_no_node, fields_next}
 use Rattle.reading.proofs.nodes.name_fields.Goals as goal
 
-pub loop-i-init : goal.loop-i-init
-loop-i-init c = (search rules, refl, fields_start _ _ _ _)
+pub loop-field-init : goal.loop-field-init
+loop-field-init c = fields_start c.args.fields.now c.args.w.now c.args.names c.args.nodes
 
-pub returns-then-names-half : goal.returns-then-names-half
-returns-then-names-half c = fields_no_name c.args.s.now _ _ _ c.loop-i.invariant.2 c.loop-i-test.true (rw c.half.ensures.0 at c.if-names-half.true)
+pub returns-in_err-find_name : goal.returns-in_err-find_name
+returns-in_err-find_name c =
+    let m = told_missing c.in_err-find_name.ensures refl in
+    let p = err_from_is_err_and c.from_residual.result c.from_residual.ensures.1 in
+    rw (p.1, p.2) (missing m.0 (fields_no_name c.args.fields.now c.args.w.now c.args.names c.args.nodes c.loop-field.invariant c.loop-field-test.true
+    (rw c.half.ensures.0 at m.1)))
 
-pub returns-then-not-name_node : goal.returns-then-not-name_node
-returns-then-not-name_node c = fields_no_node c.args.s.now _ _ _ c.loop-i.invariant.2 c.loop-i-test.true _ (rw c.half.ensures.0 at c.if-names-half.false) (rw (c.if-not-name_node.true, c.half-in-loop-i.ensures.0) at c.name_node.ensures)
+pub returns-in_err-name_node : goal.returns-in_err-name_node
+returns-in_err-name_node c =
+    let m = told_missing c.in_err-name_node.ensures refl in
+    let n = told_there c.in_ok-find_name.ensures refl in
+    let p = err_from_is_err_and c.from_residual-in_err-name_node.result c.from_residual-in_err-name_node.ensures.1 in
+    rw (p.1, p.2) (missing m.0 (fields_no_node c.args.fields.now c.args.w.now c.args.names c.args.nodes c.loop-field.invariant c.loop-field-test.true
+    (rw c.half.ensures.0 at n) _ (rw c.half-in-loop-field.ensures.0 at m.1)))
 
-pub loop-i-preserved : goal.loop-i-preserved
-loop-i-preserved c = (omega arith, search rules, fields_next c.args.s.now _ _ _ c.loop-i.invariant.2 c.loop-i-test.true _ (rw c.half.ensures.0 at c.if-names-half.false) (rw (c.if-not-name_node.false, c.half-in-loop-i.ensures.0) at c.name_node.ensures))
+pub loop-field-preserved : goal.loop-field-preserved
+loop-field-preserved c =
+    let m = told_there c.in_ok-name_node.ensures refl in
+    let n = told_there c.in_ok-find_name.ensures refl in
+    fields_next c.args.fields.now c.args.w.now c.args.names c.args.nodes c.loop-field.invariant c.loop-field-test.true
+    (rw c.half.ensures.0 at n) _ (rw c.half-in-loop-field.ensures.0 at m)
 
 pub returns : goal.returns
-returns c = fields_end c.args.s.now _ _ _ c.loop-i.invariant.2 c.loop-i-test.false
+returns c = all_there (fields_end c.args.fields.now c.args.w.now c.args.names c.args.nodes c.loop-field.invariant c.loop-field-test.false)

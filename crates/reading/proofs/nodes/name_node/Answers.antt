@@ -1,19 +1,17 @@
--- `reading::name_node` meets its contract.
-use borrow.Author.Rules.{rules}
+use mathlib.Core.Path.{refl, sym, ap, ◌∙◌}
 use Prim.Native.Nat.{◌%◌}
-use mathlib.Core.Path.{sym, ◌∙◌}
 use borrow.Author.Tests.{eqb-true, eqb-false}
-use Rattle.reading.proofs.Marking.{node_none, node_again, node_marks}
+use Rattle.reading.proofs.Marking.{node_none, node_again, node_marks, missing, all_there}
 use Rattle.reading.proofs.nodes.name_node.Goals as goal
-
-pub overflow_add-x : goal.overflow_add-x
-overflow_add-x c = search (rules, eqb-false (c.word-x.result % 2) 1 (sym c.is_named.ensures ∙ c.if-is_named.false))
+use Rattle.reading.proofs.nodes.name_node.Goals.{then-nodes-m-via-then-nodes-m, then-nodes-m-via-else-nodes-m+then-is_named}
 
 pub returns-then-nodes-m : goal.returns-then-nodes-m
-returns-then-nodes-m c = node_none _ _ _ c.if-nodes-m.true
-
-pub returns-then-is_named : goal.returns-then-is_named
-returns-then-is_named c = node_again _ _ _ c.if-nodes-m.false (rw (c.word-x.ensures, c.wide-at.ensures.0) at (eqb-true (c.word-x.result % 2) 1 (sym c.is_named.ensures ∙ c.if-is_named.true)))
+returns-then-nodes-m c = missing refl (elim c.then-nodes-m.branch [
+  | then-nodes-m-via-then-nodes-m w ↦ node_none _ _ _ w.if-nodes-m.true
+  | then-nodes-m-via-else-nodes-m+then-is_named w ↦ node_again _ _ _ w.if-nodes-m.false
+      (rw c.word-x.ensures at (eqb-true _ 1 (sym w.is_named.ensures ∙ w.if-is_named.true)))
+])
 
 pub returns : goal.returns
-returns c = node_marks _ _ _ c.if-nodes-m.false (rw (c.word-x.ensures, c.wide-at.ensures.0) at (eqb-false (c.word-x.result % 2) 1 (sym c.is_named.ensures ∙ c.if-is_named.false))) c.requires.0 c.requires.1 _ (rw (c.word-x.ensures, c.wide-at.ensures.0) at c.put.ensures)
+returns c = all_there (node_marks c.args.w.now c.args.m c.args.nodes c.if-nodes-m.false
+    (λ q. eqb-false _ 1 (sym c.is_named.ensures ∙ c.if-is_named.false) (ap (λ x. x % 2) c.word-x.ensures ∙ q)) _ (rw c.word-x.ensures at c.put.ensures))

@@ -1,26 +1,52 @@
-use borrow.Author.Rules.{rules}
+use mathlib.Core.Path.{refl, sym, ap, subst, ◌∙◌}
+use Prim.Native.Nat.{ℕ, ◌+◌, min}
 use native.Mathlib.Omega.{arith}
-use mathlib.Core.Path.{refl}
-use Rattle.reading.proofs.Stating.{state_start, state_no_first, state_one, state_no_second, state_two, state_end}
+use lib.ListN.{length}
+use Rattle.std.proofs.lemmas.Result.{err_from_is_err_and}
+use Rattle.reading.proofs.Marking.{told_there, told_missing, missing, all_there}
+use Rattle.reading.proofs.Stating.{Stating, least, state_start, rest_start, rest_on, rest_no_first, rest_one, rest_no_second, rest_two, rest_end}
 use Rattle.reading.proofs.nodes.name_statements.Goals as goal
+use Rattle.reading.proofs.nodes.name_statements.Goals.{in-1, in_default-tag+in_ok-name_node-in_default-tag, in_default-tag-via-then-tag-lt1, in_default-tag-via-else-tag-lt1+else-tag-lt3}
 
-pub loop-at-init : goal.loop-at-init
-loop-at-init c = (omega arith, refl, state_start _ _ _ _)
+pub loop-rest-init : goal.loop-rest-init
+loop-rest-init c = (0, rest_start _, state_start _ _ _)
 
-pub returns-then-not-name_node : goal.returns-then-not-name_node
-returns-then-not-name_node c = state_no_first c.loop-at.invariant.2 c.loop-at-test.true _ (rw (c.if-not-name_node.true, c.half.ensures.0) at c.name_node.ensures)
+pub returns-in_err-name_node : goal.returns-in_err-name_node
+returns-in_err-name_node c =
+    let m = told_missing c.in_err-name_node.ensures refl in
+    let p = err_from_is_err_and c.from_residual.result c.from_residual.ensures.1 in
+    rw (p.1, p.2) (missing m.0 (rest_no_first c.loop-rest.invariant.1 c.loop-rest.invariant.2 (omega (arith, c.in-len1-up.len_at_least)) _ (rw c.half.ensures.0 at m.1)))
 
-pub loop-at-preserved-then-tag-eq1 : goal.loop-at-preserved-then-tag-eq1
-loop-at-preserved-then-tag-eq1 c = (omega arith, search rules, state_one c.loop-at.invariant.2 c.loop-at-test.true _ (omega (arith, c.if-tag-eq1.true)) (omega (arith, c.if-tag-eq1.true)) (rw (c.if-not-name_node.false, c.half.ensures.0) at c.name_node.ensures))
+pub returns-in_err-name_node-in_default-tag : goal.returns-in_err-name_node-in_default-tag
+returns-in_err-name_node-in_default-tag c =
+    let m = told_missing c.in_err-name_node-in_default-tag.ensures refl in
+    let n = told_there c.in_ok-name_node.ensures refl in
+    let p = err_from_is_err_and c.from_residual-in_err-name_node-in_default-tag.result c.from_residual-in_err-name_node-in_default-tag.ensures.1 in
+    rw (p.1, p.2) (missing m.0 (rest_no_second c.loop-rest.invariant.1 c.loop-rest.invariant.2 (omega (arith, c.in-len1-up.len_at_least))
+    (λ q. elim c.in_default-tag.branch [ in_default-tag-via-then-tag-lt1 w ↦ omega arith | in_default-tag-via-else-tag-lt1+else-tag-lt3 w ↦ omega arith ])
+    (λ q. elim c.in_default-tag.branch [ in_default-tag-via-then-tag-lt1 w ↦ omega arith | in_default-tag-via-else-tag-lt1+else-tag-lt3 w ↦ omega arith ])
+    _ (rw c.half.ensures.0 at n) _ (rw c.half-in_default-tag.ensures.0 at m.1)))
 
-pub loop-at-preserved-then-tag-eq2 : goal.loop-at-preserved-then-tag-eq2
-loop-at-preserved-then-tag-eq2 c = (omega arith, search rules, state_one c.loop-at.invariant.2 c.loop-at-test.true _ (omega (arith, c.if-tag-eq2.true)) (omega (arith, c.if-tag-eq2.true)) (rw (c.if-not-name_node.false, c.half.ensures.0) at c.name_node.ensures))
-
-pub returns-then-not-name_node-2 : goal.returns-then-not-name_node-2
-returns-then-not-name_node-2 c = state_no_second c.loop-at.invariant.2 c.loop-at-test.true c.if-tag-eq1.false c.if-tag-eq2.false _ (rw (c.if-not-name_node.false, c.half.ensures.0) at c.name_node.ensures) _ (rw (c.if-not-name_node-2.true, c.half-in-loop-at.ensures.0) at c.name_node-in-loop-at.ensures)
-
-pub loop-at-preserved : goal.loop-at-preserved
-loop-at-preserved c = (omega arith, search rules, state_two c.loop-at.invariant.2 c.loop-at-test.true c.if-tag-eq1.false c.if-tag-eq2.false _ (rw (c.if-not-name_node.false, c.half.ensures.0) at c.name_node.ensures) _ (rw (c.if-not-name_node-2.false, c.half-in-loop-at.ensures.0) at c.name_node-in-loop-at.ensures))
+pub loop-rest-preserved : goal.loop-rest-preserved
+loop-rest-preserved c = (
+  c.loop-rest.invariant.0 + c.min.result,
+  rest_on c.loop-rest.invariant.1 c.if-tag-lt1.size _ (c.min.ensures ∙ least _ _),
+  elim c.if-tag-lt1.branch [
+    | in-1 w ↦
+        let n = told_there c.in_ok-name_node.ensures refl in
+        subst (λ v. Stating c.args.s.now c.args.w.now c.args.nodes (c.loop-rest.invariant.0 + c.min.result) v) (sym w.w-is)
+        (rest_one c.loop-rest.invariant.1 c.loop-rest.invariant.2 (omega (arith, c.in-len1-up.len_at_least)) _ (omega arith) (omega arith)
+        (rw c.half.ensures.0 at n) c.min.result (c.min.ensures ∙ least _ _ ∙ ap (λ (x : ℕ). min x (length c.loop-rest.rest.now)) w.size-is))
+    | in_default-tag+in_ok-name_node-in_default-tag w ↦
+        let n = told_there c.in_ok-name_node.ensures refl in
+        let m = told_there w.in_ok-name_node-in_default-tag.ensures refl in
+        subst (λ v. Stating c.args.s.now c.args.w.now c.args.nodes (c.loop-rest.invariant.0 + c.min.result) v) (sym w.w-is)
+        (rest_two c.loop-rest.invariant.1 c.loop-rest.invariant.2 (omega (arith, c.in-len1-up.len_at_least))
+        (λ q. elim w.in_default-tag.branch [ in_default-tag-via-then-tag-lt1 v ↦ omega arith | in_default-tag-via-else-tag-lt1+else-tag-lt3 v ↦ omega arith ])
+        (λ q. elim w.in_default-tag.branch [ in_default-tag-via-then-tag-lt1 v ↦ omega arith | in_default-tag-via-else-tag-lt1+else-tag-lt3 v ↦ omega arith ])
+        _ (rw c.half.ensures.0 at n) _ (rw w.half-in_default-tag.ensures.0 at m) c.min.result (c.min.ensures ∙ least _ _ ∙ ap (λ (x : ℕ). min x (length c.loop-rest.rest.now)) w.size-is))
+  ],
+)
 
 pub returns : goal.returns
-returns c = state_end c.loop-at.invariant.2 c.loop-at-test.false
+returns c = all_there (rest_end c.loop-rest.invariant.1 c.loop-rest.invariant.2 c.in_default.len_below)

@@ -1,9 +1,14 @@
--- `reading::take_node` meets its contract: what the frame refers to is not all there, or one more node is held.
+use mathlib.Core.Path.{refl}
+use Rattle.std.proofs.lemmas.Result.{err_from_is_err_and}
+use Rattle.reading.proofs.Marking.{told_there, told_missing}
 use Rattle.reading.proofs.NodeLines.{node_bad, node_takes}
 use Rattle.reading.proofs.nodes.take_node.Goals as goal
 
-pub returns-then-not-name_all : goal.returns-then-not-name_all
-returns-then-not-name_all c = node_bad _ _ c.args.s.now _ c.args.c _ (rw c.if-not-name_all.true at c.name_all.ensures)
+pub returns-in_err-name_all : goal.returns-in_err-name_all
+returns-in_err-name_all c =
+    let m = told_missing c.in_err-name_all.ensures refl in
+    let p = err_from_is_err_and c.from_residual.result c.from_residual.ensures.1 in
+    rw (p.1, p.2, m.0) (node_bad _ _ c.args.line.bytes.now _ c.args.c _ m.1)
 
 pub returns : goal.returns
-returns c = node_takes _ _ c.args.s.now _ c.args.c _ (rw c.if-not-name_all.false at c.name_all.ensures) _ (rw (c.wide.ensures.0, c.node_word.ensures) at c.put.ensures)
+returns c = node_takes _ _ c.args.line.bytes.now _ c.args.c _ (told_there c.in_ok-name_all.ensures refl) _ (rw c.node_word.ensures at c.put.ensures)

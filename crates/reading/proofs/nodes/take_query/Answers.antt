@@ -1,12 +1,24 @@
--- `reading::take_query` meets its contract: the head or a statement's node is not there, or the query is held.
+use mathlib.Core.Path.{refl}
+use Rattle.std.proofs.lemmas.Result.{err_from_is_err_and}
+use Rattle.reading.proofs.Marking.{told_there, told_missing}
 use Rattle.reading.proofs.NodeLines.{query_no_head, query_no_body, query_takes}
 use Rattle.reading.proofs.nodes.take_query.Goals as goal
 
-pub returns-then-not-name_node : goal.returns-then-not-name_node
-returns-then-not-name_node c = record { is = λ e. query_no_head e _ c.args.s.now _ c.args.c _ (rw (c.if-not-name_node.true, c.half.ensures.0) at c.name_node.ensures) }
+pub returns-in_err-name_node : goal.returns-in_err-name_node
+returns-in_err-name_node c =
+    let m = told_missing c.in_err-name_node.ensures refl in
+    let p = err_from_is_err_and c.from_residual.result c.from_residual.ensures.1 in
+    rw (p.1, p.2, m.0) (record { is = λ e. query_no_head e c.args.s.now _ c.args.c _ (rw c.half.ensures.0 at m.1) })
 
-pub returns-then-not-name_statements : goal.returns-then-not-name_statements
-returns-then-not-name_statements c = record { is = λ e. query_no_body e _ c.args.s.now _ c.args.c _ _ (rw (c.if-not-name_node.false, c.half.ensures.0) at c.name_node.ensures) (rw c.if-not-name_statements.true at c.name_statements.ensures) }
+pub returns-in_err-name_statements : goal.returns-in_err-name_statements
+returns-in_err-name_statements c =
+    let m = told_missing c.in_err-name_statements.ensures refl in
+    let n = told_there c.in_ok-name_node.ensures refl in
+    let p = err_from_is_err_and c.from_residual-in_err-name_statements.result c.from_residual-in_err-name_statements.ensures.1 in
+    rw (p.1, p.2, m.0) (record { is = λ e. query_no_body e c.args.s.now _ c.args.c _ _ (rw c.half.ensures.0 at n) (rw c.past.ensures at m.1) })
 
 pub returns : goal.returns
-returns c = record { is = λ e. query_takes e _ c.args.s.now _ c.args.c _ _ (rw (c.if-not-name_node.false, c.half.ensures.0) at c.name_node.ensures) (rw c.if-not-name_statements.false at c.name_statements.ensures) }
+returns c =
+    let m = told_there c.in_ok-name_statements.ensures refl in
+    let n = told_there c.in_ok-name_node.ensures refl in
+    record { is = λ e. query_takes e c.args.s.now _ c.args.c _ _ (rw c.half.ensures.0 at n) (rw c.past.ensures at m) }

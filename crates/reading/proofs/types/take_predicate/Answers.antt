@@ -1,29 +1,29 @@
 -- `reading::take_predicate` meets its contract: each end is one of a predicate line's.
 use native.Mathlib.Omega.{arith}
 use mathlib.Core.Path.{sym, ◌∙◌}
-use mathlib.Core.Option.{none}
 use Rattle.reading.proofs.Predicates.{predicate_bad, predicate_takes, no_name, no_key, no_value_lem, value_none, value_some, none_there, some_there}
 use Rattle.reading.proofs.types.take_predicate.Goals as goal
+use Rattle.std.specs.Prelude.{None}
 
-pub returns-then-c-name : goal.returns-then-c-name
-returns-then-c-name c = record { is = λ e. predicate_bad e c.args.s.now _ _ c.requires.0 (λ v a. no_name e c.args.s.now c.args.w.now c.args.c c.requires.0 (rw c.read_predicate-p.ensures.name at c.if-c-name.true) v) }
+pub returns-then-c-p : goal.returns-then-c-p
+returns-then-c-p c = record { is = λ e. predicate_bad e c.args.s.now _ _ c.requires.0 (λ v a. no_name e c.args.s.now c.args.w.now c.args.c c.requires.0 (rw c.read_predicate-p.ensures.name at c.if-c-p.true) v) }
 
-pub returns-then-c-key : goal.returns-then-c-key
-returns-then-c-key c = record { is = λ e. predicate_bad e c.args.s.now _ _ c.requires.0 (λ v a. no_key e c.args.s.now c.args.w.now c.args.c c.requires.0 (rw c.read_predicate-p.ensures.key at c.if-c-key.true) v) }
+pub returns-then-c-p-2 : goal.returns-then-c-p-2
+returns-then-c-p-2 c = record { is = λ e. predicate_bad e c.args.s.now _ _ c.requires.0 (λ v a. no_key e c.args.s.now c.args.w.now c.args.c c.requires.0 (rw c.read_predicate-p.ensures.key at c.if-c-p-2.true) v) }
 
 pub returns-then-p-eq0 : goal.returns-then-p-eq0
 returns-then-p-eq0 c = record {
-  is = λ e. predicate_takes e c.args.s.now _ _ c.requires.0 none (value_none c.args.s.now (sym c.read_predicate-p.ensures.flag ∙ c.if-p-eq0.true))
-      (none_there e c.args.s.now c.args.w.now c.args.c c.requires.0 (rw c.read_predicate-p.ensures.name at c.if-c-name.false) (rw c.read_predicate-p.ensures.key at c.if-c-key.false)) _ _ _
+  is = λ e. predicate_takes e c.args.s.now _ _ c.requires.0 None (value_none c.args.s.now (sym c.read_predicate-p.ensures.flag ∙ c.if-p-eq0.true))
+      (none_there e c.args.s.now c.args.w.now c.args.c c.requires.0 (rw c.read_predicate-p.ensures.name at c.if-c-p.false) (rw c.read_predicate-p.ensures.key at c.if-c-p-2.false)) _ _ _
       (omega (arith, c.read_predicate-p.ensures.name, c.read_predicate-p.ensures.key, c.predicate_word-entry.ensures)) c.add_predicate.ensures;
 }
 
-pub returns-then-c-value : goal.returns-then-c-value
-returns-then-c-value c = record { is = λ e. predicate_bad e c.args.s.now _ _ c.requires.0 (λ v a. no_value_lem e c.args.s.now c.args.w.now c.args.c c.requires.0 (λ q. c.if-p-eq0.false (c.read_predicate-p.ensures.flag ∙ q)) (rw c.read_predicate-p.ensures.value at c.if-c-value.true) v a) }
+pub returns-then-c-p-3 : goal.returns-then-c-p-3
+returns-then-c-p-3 c = record { is = λ e. predicate_bad e c.args.s.now _ _ c.requires.0 (λ v a. no_value_lem e c.args.s.now c.args.w.now c.args.c c.requires.0 (λ q. c.if-p-eq0.false (c.read_predicate-p.ensures.flag ∙ q)) (rw c.read_predicate-p.ensures.value at c.if-c-p-3.true) v a) }
 
 pub returns : goal.returns
 returns c = record {
   is = λ e. predicate_takes e c.args.s.now _ _ c.requires.0 _ (value_some c.args.s.now (λ q. c.if-p-eq0.false (c.read_predicate-p.ensures.flag ∙ q)))
-      (some_there e c.args.s.now c.args.w.now c.args.c c.requires.0 (rw c.read_predicate-p.ensures.name at c.if-c-name.false) (rw c.read_predicate-p.ensures.key at c.if-c-key.false) (rw c.read_predicate-p.ensures.value at c.if-c-value.false)) _ _ _
+      (some_there e c.args.s.now c.args.w.now c.args.c c.requires.0 (rw c.read_predicate-p.ensures.name at c.if-c-p.false) (rw c.read_predicate-p.ensures.key at c.if-c-p-2.false) (rw c.read_predicate-p.ensures.value at c.if-c-p-3.false)) _ _ _
       (omega (arith, c.read_predicate-p.ensures.name, c.read_predicate-p.ensures.key, c.read_predicate-p.ensures.value, c.predicate_word-entry.ensures, c.with_value.ensures)) c.add_predicate-2.ensures;
 }

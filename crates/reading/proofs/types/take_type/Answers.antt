@@ -5,19 +5,19 @@ use Rattle.reading.proofs.Typing.{int_takes, string_takes, bytes_takes, fact_tak
 use Rattle.reading.proofs.types.take_type.Goals as goal
 
 pub returns-in-0 : goal.returns-in-0
-returns-in-0 c = shape_takes _ 0 c.args.s.now _ _ _ _ (sym c.byte-shape.ensures.0 ∙ c.in-0.is) (int_takes _ _ _ _ _ _ c.requires.0 c.add_type.ensures)
+returns-in-0 c = shape_takes _ 0 c.args.s.now _ _ _ _ (sym c.byte.ensures.0 ∙ c.in-0.is) (int_takes _ _ _ _ _ _ c.requires.0 c.add_type.ensures)
 
 pub returns-in-1 : goal.returns-in-1
-returns-in-1 c = shape_takes _ 1 c.args.s.now _ _ _ _ (sym c.byte-shape.ensures.0 ∙ c.in-1.is) (string_takes _ _ _ _ _ _ c.requires.0 c.add_type-in-1.ensures)
+returns-in-1 c = shape_takes _ 1 c.args.s.now _ _ _ _ (sym c.byte.ensures.0 ∙ c.in-1.is) (string_takes _ _ _ _ _ _ c.requires.0 c.add_type-in-1.ensures)
 
 pub returns-in-2 : goal.returns-in-2
-returns-in-2 c = shape_takes _ 2 c.args.s.now _ _ _ _ (sym c.byte-shape.ensures.0 ∙ c.in-2.is) (bytes_takes _ _ _ _ _ _ c.requires.0 c.add_type-in-2.ensures)
+returns-in-2 c = shape_takes _ 2 c.args.s.now _ _ _ _ (sym c.byte.ensures.0 ∙ c.in-2.is) (bytes_takes _ _ _ _ _ _ c.requires.0 c.add_type-in-2.ensures)
 
 pub returns-in-3 : goal.returns-in-3
-returns-in-3 c = shape_takes _ 3 c.args.s.now _ _ _ _ (sym c.byte-shape.ensures.0 ∙ c.in-3.is) (fact_takes _ _ _ _ _ _ _ c.reference.ensures c.requires.0 c.add_type-in-3.ensures)
+returns-in-3 c = shape_takes _ 3 c.args.s.now _ _ _ _ (sym c.byte.ensures.0 ∙ c.in-3.is) (fact_takes _ _ _ _ _ _ _ c.reference.ensures c.requires.0 c.add_type-in-3.ensures)
 
 pub returns-in-4 : goal.returns-in-4
-returns-in-4 c = shape_takes _ 4 c.args.s.now _ _ _ _ (sym c.byte-shape.ensures.0 ∙ c.in-4.is) (c.take_record.ensures.is _)
+returns-in-4 c = shape_takes _ 4 c.args.s.now _ _ _ _ (sym c.byte.ensures.0 ∙ c.in-4.is) (c.take_parts.ensures.is _)
 
 pub returns-in_default : goal.returns-in_default
-returns-in_default c = other_takes _ c.args.s.now _ _ _ _ c.requires.0 (omega (arith, c.byte-shape.ensures.0, c.in_default.in_default-own.rest.1, c.in_default.in_default-own.rest.0.1, c.in_default.in_default-own.rest.0.0.1, c.in_default.in_default-own.rest.0.0.0.1, c.in_default.in_default-own.rest.0.0.0.0)) (c.take_union.ensures.is _)
+returns-in_default c = other_takes _ c.args.s.now _ _ _ _ c.requires.0 (omega (arith, c.byte.ensures.0)) (c.take_parts-in_default.ensures.is _)

@@ -1,9 +1,0 @@
--- `reader::byte_at` meets its contract: the index moves where the line goes on.
-use Rattle.reader.proofs.Moving.{taken_within, taken_past}
-use Rattle.reader.proofs.byte_at.Goals as goal
-
-pub returns-then-at-line : goal.returns-then-at-line
-returns-then-at-line c = taken_within c.args.line.now c.args.at 1 c.byte-value.ensures.0 c.if-at-line.true
-
-pub returns-else-at-line : goal.returns-else-at-line
-returns-else-at-line c = taken_past c.args.line.now c.args.at 1 c.byte-value.ensures.0 c.if-at-line.false

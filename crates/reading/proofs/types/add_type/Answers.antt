@@ -1,6 +1,0 @@
--- `reading::add_type` meets its contract.
-use borrow.Author.Rules.{rules}
-use Rattle.reading.proofs.types.add_type.Goals as goal
-
-pub returns : goal.returns
-returns c = record { words = rw (c.put-2.ensures, c.put.ensures, c.wide.ensures.0); step = search rules }

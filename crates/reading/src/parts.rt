@@ -1,0 +1,228 @@
+// The parts of record and union types, each by its bytes in the line.
+ghost use Rattle.std.specs.Prelude.{◌≡◌, ℕ, List, ◌+◌, ◌<◌, ◌≤◌, length, not, map, [], ◌∷◌, ◌*◌, refl};
+ghost use Rattle.std.proofs.lemmas.List.Edits.{sets};
+ghost use Rattle.work.specs.Layout.{FIELDS};
+ghost use Rattle.cells.specs.declared.Kind.{Kind};
+ghost use Rattle.cells.specs.declared.Kind.TheVariants.{Fields, Alternatives};
+ghost use Rattle.cells.specs.Stands.{tag_of, part_words};
+ghost use Rattle.text.specs.Utf8.{both};
+ghost use Rattle.meaning.specs.Conditions.{all_below, among, again};
+ghost use Rattle.frames.specs.Promises.{half_w, full_w};
+ghost use Rattle.reading.specs.Parts.{size_of, type_w, words_w, names_of, types_of, keys_of, words_of};
+
+use frames::{full, half};
+use reader::{Alternative, Field};
+use work::{part, put};
+
+// What may not repeat: a field's name, an alternative's discriminant.
+trait Keyed<const SIZE: usize> {
+    ghost key: { List ℕ → ℕ };
+
+    fn key(bytes: &[u8; SIZE]) -> u32
+        ensures { result ≡ key bytes.now };
+}
+
+impl Keyed<4> for Field {
+    ghost key = { λ p. half_w p 0 };
+
+    fn key(bytes: &[u8; 4]) -> u32 {
+        half(bytes, 0)
+    }
+}
+
+impl Keyed<8> for Alternative {
+    ghost key = { λ p. full_w p 2 };
+
+    fn key(bytes: &[u8; 8]) -> u32 {
+        full(bytes, 2)
+    }
+}
+
+// A part of a record or union type: so many bytes of the line, so many words of the slice.
+pub trait Part<const SIZE: usize>: Drop {
+    const WORDS: usize;
+
+    const TAG: u32;
+
+    ghost kind: { Kind };
+
+    ghost WORDS: { ℕ };
+
+    ghost TAG: { ℕ };
+
+    ghost name: { Self → ℕ };
+
+    ghost ty: { Self → ℕ };
+
+    ghost words: { Self → List ℕ };
+
+    fn read(bytes: &[u8; SIZE]) -> Self
+        ensures name { name result ≡ half_w bytes.now 0 }
+        ensures ty { ty result ≡ type_w kind bytes.now 0 }
+        ensures words { words result ≡ words_w kind bytes.now 0 }
+        ensures small { (name result < 65536) × (ty result < 65536) };
+
+    fn name(&self) -> u32
+        ensures { result ≡ name self.now };
+
+    fn ty(&self) -> u32
+        ensures { result ≡ ty self.now };
+
+    fn put(&self, w: &mut [u32], at: usize)
+        requires { (name self.now < 65536) × (ty self.now < 65536) × (at < 4294967296) }
+        ensures { w.new ≡ sets w.old at (words self.now) };
+
+    fn are_distinct(parts: &[[u8; SIZE]]) -> bool
+        ensures { result ≡ not (again [] (keys_of kind parts.now)) };
+
+    ghost sizes: { (SIZE ≡ size_of kind) × (WORDS ≡ part_words kind) × (TAG ≡ tag_of kind) };
+}
+
+impl Part<4> for Field {
+    const WORDS: usize = 1;
+
+    const TAG: u32 = 5;
+
+    ghost kind = { Fields };
+
+    ghost WORDS = { 1 };
+
+    ghost TAG = { 5 };
+
+    ghost name = { λ f. f.name };
+
+    ghost ty = { λ f. f.ty };
+
+    ghost words = { λ f. (f.name * 256 + f.ty) ∷ [] };
+
+    ghost sizes = { (refl, refl, refl) };
+
+    fn read(bytes: &[u8; 4]) -> Field {
+        reader::read_field(bytes, 0)
+    }
+
+    fn name(&self) -> u32 {
+        self.name
+    }
+
+    fn ty(&self) -> u32 {
+        self.ty
+    }
+
+    fn put(&self, w: &mut [u32], at: usize) {
+        put(w, at, part(self.name, self.ty));
+    }
+
+    fn are_distinct(fields: &[[u8; 4]]) -> bool {
+        names_distinct(fields)
+    }
+}
+
+impl Part<8> for Alternative {
+    const WORDS: usize = 2;
+
+    const TAG: u32 = 6;
+
+    ghost kind = { Alternatives };
+
+    ghost WORDS = { 2 };
+
+    ghost TAG = { 6 };
+
+    ghost name = { λ a. a.name };
+
+    ghost ty = { λ a. a.ty };
+
+    ghost words = { λ a. a.discriminant ∷ (a.name * 256 + a.ty) ∷ [] };
+
+    ghost sizes = { (refl, refl, refl) };
+
+    fn read(bytes: &[u8; 8]) -> Alternative {
+        reader::read_alternative(bytes, 0)
+    }
+
+    fn name(&self) -> u32 {
+        self.name
+    }
+
+    fn ty(&self) -> u32 {
+        self.ty
+    }
+
+    fn put(&self, w: &mut [u32], at: usize) {
+        put(w, at, self.discriminant);
+        put(w, at + 1, part(self.name, self.ty));
+    }
+
+    fn are_distinct(alternatives: &[[u8; 8]]) -> bool {
+        keys_distinct::<8, Alternative>(alternatives)
+    }
+}
+
+// Whether each part names a name and an earlier type.
+pub fn are_earlier<const SIZE: usize, P: Part<SIZE>>(
+    parts: &[[u8; SIZE]],
+    names: u32,
+    types: u32,
+) -> bool
+    ensures { result ≡ both (all_below names (names_of parts.now)) (all_below types (types_of P.kind parts.now)) }
+{
+    for bytes in parts {
+        let part = P::read(bytes);
+        if names <= part.name() || types <= part.ty() {
+            return false;
+        }
+    }
+    true
+}
+
+fn has_key<const SIZE: usize, K: Keyed<SIZE>>(parts: &[[u8; SIZE]], key: u32) -> bool
+    ensures { result ≡ among key (map K.key parts.now) }
+{
+    for bytes in parts {
+        if K::key(bytes) == key {
+            return true;
+        }
+    }
+    false
+}
+
+fn keys_distinct<const SIZE: usize, K: Keyed<SIZE>>(parts: &[[u8; SIZE]]) -> bool
+    ensures { result ≡ not (again [] (map K.key parts.now)) }
+{
+    for (i, bytes) in parts.iter().enumerate() {
+        if has_key::<SIZE, K>(&parts[..i], K::key(bytes)) {
+            return false;
+        }
+    }
+    true
+}
+
+// The same for a record's fields, whose names were found to be numbers below 256: each is marked where it stands first.
+fn names_distinct(fields: &[[u8; 4]]) -> bool
+    ensures { result ≡ not (again [] (names_of fields.now)) }
+{
+    let mut seen = [false; 256];
+    for bytes in fields {
+        let name = half(bytes, 0) as usize;
+        if 256 <= name {
+            return keys_distinct::<4, Field>(fields);
+        }
+        if seen[name] {
+            return false;
+        }
+        seen[name] = true;
+    }
+    true
+}
+
+pub fn put_parts<const SIZE: usize, P: Part<SIZE>>(parts: &[[u8; SIZE]], w: &mut [u32], from: u32)
+    requires { (length parts.now ≤ 512) × (from ≤ 8192) }
+    ensures { w.new ≡ sets w.old (FIELDS + from) (words_of P.kind parts.now) }
+{
+    let mut at = work::FIELDS + from as usize;
+    for bytes in parts {
+        P::read(bytes).put(w, at);
+        at += P::WORDS;
+    }
+}
