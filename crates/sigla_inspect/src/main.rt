@@ -2,180 +2,76 @@
 // success its bindings too, each in a line of its own.
 #![tactic(auto)]
 
-ghost use Rattle.std.specs.Prelude.{◌≤◌};
-
 use input::Input;
 use inspect::Inspected;
 use std::env::Env;
 use std::io;
 use std::io::Read;
-use work::word;
 
-// What an argument says in decimal digits.
-#[derive(Drop)]
-enum Number {
-    Is(u32),
-    Not,
+// What an argument says in decimal digits. A sign is none.
+fn read_number(text: &[u8]) -> Option<u32> {
+    let digits = std::str::from_utf8(text).ok()?;
+    if digits.starts_with('+') {
+        return None;
+    }
+    digits.parse().ok()
 }
 
-fn read_number(text: &[u8]) -> Number {
-    if text.len() == 0 {
-        return Number::Not;
-    }
-    let mut n: u64 = 0;
-    let mut i: usize = 0;
-    while i < text.len() {
-        let b = text[i];
-        if b < 48 {
-            return Number::Not;
-        }
-        if 57 < b {
-            return Number::Not;
-        }
-        n = n * 10 + (b - 48) as u64;
-        if 4294967295 < n {
-            return Number::Not;
-        }
-        i += 1;
-    }
-    Number::Is(n as u32)
-}
-
-fn argument(rt: &HostRuntime) -> Number {
+fn argument(rt: &HostRuntime) -> Option<u32> {
     let mut text = [0u8; 4096];
-    match rt.arg(1, &mut text) {
-        Ok(n) => read_number(&text[..n]),
-        Err(_) => Number::Not,
-    }
+    let n = rt.arg(1, &mut text).ok()?;
+    read_number(&text[..n])
 }
 
-fn digit(x: u32) -> u8 {
-    (48 + x % 10) as u8
-}
-
-// The zeros in front of a number of ten digits, but for its last.
-fn zeros(x: u32) -> usize
-    ensures { result ≤ 9 }
-{
-    if x < 10 {
-        return 9;
-    }
-    if x < 100 {
-        return 8;
-    }
-    if x < 1000 {
-        return 7;
-    }
-    if x < 10000 {
-        return 6;
-    }
-    if x < 100000 {
-        return 5;
-    }
-    if x < 1000000 {
-        return 4;
-    }
-    if x < 10000000 {
-        return 3;
-    }
-    if x < 100000000 {
-        return 2;
-    }
-    if x < 1000000000 {
-        return 1;
-    }
-    0
-}
-
-// In decimal.
-fn say_number(rt: &impl Print, x: u32) -> io::Result<()> {
-    let d = [
-        digit(x / 1000000000),
-        digit(x / 100000000),
-        digit(x / 10000000),
-        digit(x / 1000000),
-        digit(x / 100000),
-        digit(x / 10000),
-        digit(x / 1000),
-        digit(x / 100),
-        digit(x / 10),
-        digit(x),
-    ];
-    let k = zeros(x);
-    rt.write_all(&d[k..10])
-}
-
-fn say_numbered(rt: &impl Print, text: &[u8], x: u32) -> io::Result<()> {
-    rt.write_all(text)?;
-    say_number(rt, x)
-}
-
-// One of the words that follow the unknown of a binding.
-fn say_token(rt: &impl Print, a: u32, b: u32) -> io::Result<()> {
+// A token of one word.
+fn one_word(a: u32) -> Option<&'static str> {
     match a {
-        1 => rt.write_all(b" Int"),
-        2 => rt.write_all(b" String"),
-        3 => rt.write_all(b" Bytes"),
-        4 => say_numbered(rt, b" fact ", b),
-        5 => say_numbered(rt, b" record ", b),
-        6 => say_numbered(rt, b" union ", b),
-        7 => say_numbered(rt, b" ?", b),
-        8 => rt.write_all(b" Error"),
-        9 => say_numbered(rt, b" .", b),
-        _ => say_numbered(rt, b" |", b),
+        1 => Some("Int"),
+        2 => Some("String"),
+        3 => Some("Bytes"),
+        8 => Some("Error"),
+        _ => None,
     }
 }
 
-// An unknown, whose type follows.
-fn say_binding(rt: &impl Print, x: u32) -> io::Result<()> {
-    say_numbered(rt, b"?", x)?;
-    rt.write_all(b" =")
+// What stands before the second word of another token.
+fn two_words(a: u32) -> &'static str {
+    match a {
+        4 => "fact ",
+        5 => "record ",
+        6 => "union ",
+        7 => "?",
+        9 => ".",
+        _ => "|",
+    }
 }
 
-// Whether a token is this one word, and else a second one follows.
-fn is_short(a: u32) -> bool {
-    if a < 4 {
-        return true;
+// The tokens of the bindings. Each starts with an 11 and its unknown.
+fn say_bindings(rt: &impl Print, words: &[u32]) -> io::Result<()> {
+    let mut rest = words;
+    while let [a, more @ ..] = rest {
+        if let Some(name) = one_word(*a) {
+            print!(rt; " {name}")?;
+            rest = more;
+            continue;
+        }
+        let [b, more @ ..] = more else {
+            break;
+        };
+        match *a {
+            11 if rest.len() == words.len() => print!(rt; "?{b} =")?,
+            11 => print!(rt; "\n?{b} =")?,
+            tag => print!(rt; " {}{b}", two_words(tag))?,
+        }
+        rest = more;
     }
-    a == 8
-}
-
-// The bindings in the first n words.
-fn say_bindings(rt: &impl Print, l: &[u32], n: usize) -> io::Result<()> {
-    let mut i: usize = 0;
-    while i < l.len() {
-        if n <= i {
-            return rt.write_all(b"\n");
-        }
-        let a = word(l, i);
-        let b = word(l, i + 1);
-        if a == 11 {
-            if 0 < i {
-                rt.write_all(b"\n")?;
-            }
-            say_binding(rt, b)?;
-        } else {
-            say_token(rt, a, b)?;
-        }
-        if is_short(a) {
-            i += 1;
-        } else {
-            i += 2;
-        }
-    }
-    rt.write_all(b"\n")
+    println!(rt)
 }
 
 fn say_inspected(rt: &impl Print, r: Inspected, lent: &[u32]) -> io::Result<()> {
-    let line = inspect::line(r);
-    rt.write_all(&line)?;
+    rt.write_all(&inspect::line(r))?;
     match r {
-        Inspected::Success(n) => {
-            if n == 0 {
-                return Ok(());
-            }
-            say_bindings(rt, lent, n)
-        }
+        Inspected::Success(n) if n > 0 => say_bindings(rt, &lent[..n.min(lent.len())]),
         _ => Ok(()),
     }
 }
@@ -193,7 +89,7 @@ fn run(rt: &(impl Print + Eprint), from: &mut impl Read, n: u32) {
     match input::read_all(from, &mut file) {
         Input::Failed => tell(rt, "reading standard input failed"),
         Input::Bytes(m) => {
-            let r = inspect::inspect(&file[0..m], n, &mut work, &mut lent);
+            let r = inspect::inspect(&file[..m], n, &mut work, &mut lent);
             if say_inspected(rt, r, &lent).is_err() {
                 tell(rt, "writing standard output failed");
             }
@@ -203,7 +99,7 @@ fn run(rt: &(impl Print + Eprint), from: &mut impl Read, n: u32) {
 
 fn main(rt: HostRuntime) {
     match argument(&rt) {
-        Number::Is(k) => run(&rt, &mut rt.stdin(), k),
-        Number::Not => tell(&rt, "usage: sigla_inspect NUMBER < FILE"),
+        Some(n) => run(&rt, &mut rt.stdin(), n),
+        None => tell(&rt, "usage: sigla_inspect NUMBER < FILE"),
     }
 }
