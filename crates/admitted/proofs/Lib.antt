@@ -1,3 +1,4 @@
 pub mod Telling
 pub mod Reaching
 pub mod Passing
+pub mod Each

@@ -1,7 +1,7 @@
--- A pass over all items. Each mark that it sets is one of an admitted type, and there is one fewer that does not stand; a
--- pass that set none has asked every item.
+-- A pass over all items. Each mark that it sets is one of an admitted type, and there is one fewer that does not stand;
+-- a pass that set none has asked every item.
 use mathlib.Core.Bool.{Bool, true, false}
-use mathlib.Core.List.{List, [], ◌∷◌}
+use mathlib.Core.List.{List}
 use mathlib.Core.Path.{◌≡◌, refl, sym, ◌∙◌, ap}
 use Prim.Native.Nat.{ℕ, zero, suc, ◌+◌, ◌<◌, ◌≤◌}
 use native.Mathlib.Decide.{ℕ_discrete}
@@ -16,7 +16,9 @@ use Rattle.unification.specs.Bindings.{State}
 use Rattle.unification.specs.Calls.{Admitted}
 use Rattle.unification.proofs.Tests.{clash}
 use Rattle.work.specs.Layout.{ENV, TYS}
-use Rattle.std.specs.Prelude.{cond}
+use Rattle.std.specs.Prelude.{cond, replicate}
+use Rattle.std.proofs.lemmas.List.{places}
+use borrow.Rule.Slice.PartMut.{put_mid}
 use Rattle.cells.specs.declared.Ty.{Ty}
 use Rattle.cells.specs.declared.Ty.TheVariants.{Int, Str, Bytes, Fact, Record, Union, Var, Error}
 use Rattle.cells.specs.Stands.{Rows, tree, Ok, Holds, Keeps}
@@ -58,21 +60,29 @@ unmarked_one w i (suc n) l q h = go (ℕ_discrete n i) (λ m. unmarked_one w i n
     go (no d) f = rw (marked_other w i 1 n d) (omega (arith, f (omega arith)))
 
 -- ---- No mark
-zero_there : (w : List ℕ) (i : ℕ) → get_or (set w i 0) i 0 ≡ 0
-zero_there [] i = refl
-zero_there (x ∷ w) zero = refl
-zero_there (x ∷ w) (suc i) = zero_there w i
+module _ (w : List ℕ) (a k : ℕ) (l : a + k ≤ length w) where
+  zeros_below : (i : ℕ) → i < a → get_or (put_mid a k w (replicate k 0)) i 0 ≡ get_or w i 0
+  zeros_below i h = grind (arith, places)
 
-pub unmark_next : {w₀ w : List ℕ} {i : ℕ} → i < 1280 → Keeps ENV TYS w₀ w × ((j : ℕ) → j < i → marked w j ≡ false)
-    → {w' : List ℕ} → w' ≡ set w (ENV + i) 0 → Keeps ENV TYS w₀ w' × ((j : ℕ) → j < i + 1 → marked w' j ≡ false)
+  zeros_above : (i : ℕ) → a + k ≤ i → get_or (put_mid a k w (replicate k 0)) i 0 ≡ get_or w i 0
+  zeros_above i h = grind (arith, places)
+
+  zeros_there : (i : ℕ) → i < k → get_or (put_mid a k w (replicate k 0)) (a + i) 0 ≡ 0
+  zeros_there i h = grind (arith, places)
+
+  zeros_long : length (put_mid a k w (replicate k 0)) ≡ length w
+  zeros_long = grind (arith, places)
+
+pub unmarked_all : {w : List ℕ} {n : ℕ} {z : List ℕ} → TYS ≤ length w → n ≡ 1280 → z ≡ replicate n 0 → Unmarks w (put_mid ENV n w z)
 unfolding marked
-unmark_next {w₀} {w} {i} l h e = rw e (
-  keeps_trans h.0 (keeps_set w (ENV + i) 0 (omega arith) (omega arith)),
-  below_more _ i (λ j m. marked_other w i 0 j (λ q. absurd (omega arith)) ∙ h.1 j m) zeroed,
-)
-  where
-    zeroed : marked (set w (ENV + i) 0) i ≡ false
-    zeroed = ap (λ (x : ℕ). eqb x 1) (zero_there w (ENV + i))
+unmarked_all {w} {n} l e q = rw q (record {
+  keeps = record {
+    below = zeros_below w ENV n (omega arith);
+    above = λ i h. zeros_above w ENV n (omega arith) i (omega arith);
+    long = zeros_long w ENV n (omega arith);
+  };
+  none = λ i h. ap (λ (x : ℕ). eqb x 1) (zeros_there w ENV n (omega arith) i (omega arith));
+})
 
 -- ---- A mark more
 module _ {w : List ℕ} {T : Rows} {st : State} (H : Holds w T st) (S : Sound w T st.subst) (i : ℕ) (l : i < 1280) (h : Holding w (item_w w i)) where

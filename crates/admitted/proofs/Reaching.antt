@@ -1,5 +1,6 @@
--- Marks and reaching. What holds only admitted types is admitted; and where nothing is left to mark, all that is admitted is
--- marked: by the bindings, which lead from unknown to unknown in no circle, and between two of them by the tree.
+-- Marks and reaching. What holds only admitted types is admitted; and where nothing is left to mark, all that is
+-- admitted is marked: by the bindings, which lead from unknown to unknown in no circle, and between two of them by the
+-- tree.
 use mathlib.Core.Bool.{Bool, true, false}
 use mathlib.Core.List.{List}
 use mathlib.Core.Logic.{◌↔◌}

@@ -1,5 +1,5 @@
--- Which types in hand reach an Error or a record that names a field twice, told by marks. There is a mark for each cell and
--- each unknown, and once they are settled it stands exactly where demand 3 admits the type.
+-- Which types in hand reach an Error or a record that names a field twice, told by marks. There is a mark for each cell
+-- and each unknown, and once they are settled it stands exactly where demand 3 admits the type.
 use Rattle.std.specs.Prelude.{Bool, true, false, cond, List, ◌↔◌, ◌≡◌, ℕ, zero, suc, ◌+◌, ◌-◌, ◌≤◌, ◌<◌, eqb, ltb, length, get_or, set, None, Option, Some}
 use Rattle.unification.specs.Bindings.{Subst, State}
 use Rattle.unification.specs.Calls.{Admitted}

@@ -3,7 +3,8 @@
 // environment was, and passes over all of them mark what holds only good types, until one marks nothing.
 #![tactic(auto)]
 
-ghost use Rattle.std.specs.Prelude.{◌≡◌, ◌<◌, ◌↔◌, IsTrue};
+ghost use Rattle.std.specs.Prelude.{◌≡◌, ◌<◌, ◌≤◌, ◌↔◌, IsTrue, length};
+ghost use Rattle.work.specs.Layout.{TYS};
 ghost use Rattle.cells.specs.declared.Ty.TheVariants as Ty;
 ghost use Rattle.admitted.specs.Marks.{marked, item_w, good_w, AllGood, Lacks, Distinct, Holding, BoundGood, Marks, Passes, Unmarks, Settles};
 ghost use Rattle.cells.specs.Words.{bound_w};
@@ -38,35 +39,20 @@ pub fn good(w: &[u32], t: Ty) -> bool
 fn parts_good(w: &[u32], t: Ty) -> bool
     ensures { IsTrue result ↔ AllGood w.now t }
 {
-    for j in 0..cells::part_count(w, t) {
-        if !good(w, cells::part_ty(w, t, j)) {
-            return false;
-        }
-    }
-    true
+    (0..cells::part_count(w, t)).all(|j| good(w, cells::part_ty(w, t, j)))
 }
 
-// Whether no field from this number on has the name.
+// Whether no field from this number on has the name. They stand in no order.
 fn lacks(w: &[u32], c: u32, key: u32, from: u32) -> bool
     ensures { IsTrue result ↔ Lacks w.now c key from }
 {
-    for j in from..cells::count(w, c) {
-        if cells::key_at(w, Kind::Fields, c, j) == key {
-            return false;
-        }
-    }
-    true
+    cells::place_from(w, Kind::Fields, c, from, key).is_none()
 }
 
 fn distinct(w: &[u32], c: u32) -> bool
     ensures { IsTrue result ↔ Distinct w.now c }
 {
-    for i in 0..cells::count(w, c) {
-        if !lacks(w, c, cells::key_at(w, Kind::Fields, c, i), i + 1) {
-            return false;
-        }
-    }
-    true
+    (0..cells::count(w, c)).all(|i| lacks(w, c, cells::key_at(w, Kind::Fields, c, i), i + 1))
 }
 
 fn bound_good(w: &[u32], x: u32) -> bool
@@ -112,7 +98,7 @@ fn mark(w: &mut [u32], i: u32) -> bool
     true
 }
 
-// Whether there was one to mark.
+// Whether there was one to mark. Each is tried, so no `any`, which would stop at the first.
 fn pass(w: &mut [u32]) -> bool
     ensures { Passes w.old w.new result }
 {
@@ -126,11 +112,10 @@ fn pass(w: &mut [u32]) -> bool
 }
 
 fn unmark(w: &mut [u32])
+    requires { TYS ≤ length w.old }
     ensures { Unmarks w.old w.new }
 {
-    for i in 0..ITEMS {
-        put(w, work::ENV + wide(i), 0);
-    }
+    w[work::ENV..work::ENV + wide(ITEMS)].fill(0);
 }
 
 // Marks exactly the cells and unknowns that are admitted. The words stand for the same state as before.

@@ -10,15 +10,12 @@ use Rattle.cells.specs.Stands.{Rows, Holds}
 use Rattle.meaning.specs.Check.{zonked}
 use Rattle.meaning.specs.Answer.{bytes₂, slot_bytes, hex_line, node_lines}
 use Rattle.writer.specs.Writes.{Writes, Moves, hex_of}
-use Rattle.resolving.specs.Scripts.{Resolves}
+use Rattle.resolving.proofs.Typing.{resolves}
 use Rattle.answer.specs.Types.{WritesTy}
 use Rattle.answer.specs.Lines.{node_bytes, WritesSlot, WritesNodeLine, WritesNodeLines}
 use Rattle.writer.proofs.Writing.{writes_moves, full_moves, moves_then, moves_none, moves_next, Goes, goes_start}
 use Rattle.writer.proofs.Writing.{goes_next, goes_full, goes_done}
 use Rattle.writer.proofs.Digits.{hex_then, hex_full, line_then, line_full}
-
-resolves : {w : List ℕ} {T : Rows} {st : State} → Holds w T st → Resolves w T st.subst
-resolves H = record { cells = H.cells; binds = H.binds; acyclic = H.acyclic }
 
 -- ---- A slot
 slot_free : (w : List ℕ) (i : ℕ) → get_or w i 0 ≡ 0 → slot_w w i ≡ None

@@ -1,9 +1,9 @@
 // The answer's lines, written into a lent slice.
 #![tactic(auto)]
 
-ghost use Rattle.std.specs.Prelude.{◌∷◌};
+ghost use Rattle.std.specs.Prelude.{◌∷◌, ◌++◌, ◌≡◌, ◌≤◌, length, take, drop};
 ghost use Rattle.meaning.specs.Answer.{hex_line, bytes₂, bytes₄};
-ghost use Rattle.writer.specs.Writes.{Writes};
+ghost use Rattle.writer.specs.Writes.{Writes, hex_of};
 ghost use Rattle.answer.specs.Types.{digits, head_some};
 ghost use Rattle.answer.specs.Lines.{WritesSlot, WritesNodeLine, WritesNodeLines, WritesLines, WritesUnusedLines, WritesAnswer};
 
@@ -12,7 +12,19 @@ use resolving::{Script, ty};
 use work::{wide, word};
 use writer::{byte, close, full, half, tagged};
 
-// The digits of a type's bytes.
+// `out` and `at` are two parameters: crate writer says why. So are `f` and `w`, where a line is made of both: the run
+// that held them (crate state) is over.
+
+// A fact: its shape and its predicate's number, four bytes (card 6). Written out in `head`, it made the writing of
+// types take 6 % more instructions.
+fn fact(out: &mut [u8], at: usize, p: u32) -> Option<usize>
+    ensures { Writes out.old at (hex_of (3 ∷ bytes₄ p)) out.new result }
+{
+    let at = byte(out, at, 3)?;
+    full(out, at, p)
+}
+
+// The digits of a type's bytes: shape by shape what spelling writes in words. That is what a `Script` consists of.
 pub struct Digits;
 
 #[tactic(auto, unfolding(crate::specs::Types::digits, meaning::specs::Answer::leaf_bytes, meaning::specs::Answer::kind_byte, meaning::specs::Answer::cell_head))]
@@ -26,11 +38,7 @@ impl Script for Digits {
             Ty::Int => byte(out, at, 0),
             Ty::Str => byte(out, at, 1),
             Ty::Bytes => byte(out, at, 2),
-            // its predicate's number, four bytes (card 6)
-            Ty::Fact(p) => {
-                let at = byte(out, at, 3)?;
-                full(out, at, p)
-            }
+            Ty::Fact(p) => fact(out, at, p),
             Ty::Record(c) => tagged(out, at, 4, cells::count(w, c)),
             Ty::Union(c) => tagged(out, at, 5, cells::count(w, c)),
             Ty::Var(x) => tagged(out, at, 6, x),
@@ -70,6 +78,8 @@ fn node_line(w: &[u32], out: &mut [u8], at: usize, n: u32) -> Option<usize>
     close(out, at)
 }
 
+// A `for` around one call, as `bindings` of spelling: shared, it would take the call as a function, with a contract for
+// it.
 fn node_lines(w: &[u32], out: &mut [u8], mut at: usize) -> Option<usize>
     ensures { WritesNodeLines w.now out.old at out.new result }
 {
@@ -79,7 +89,7 @@ fn node_lines(w: &[u32], out: &mut [u8], mut at: usize) -> Option<usize>
     Some(at)
 }
 
-// The line before a query's own lines where the file has several.
+// The line before a query's own lines where the file has several. Two writers in a row, as `full` of writer is.
 pub fn number_line(out: &mut [u8], at: usize, k: u32) -> Option<usize>
     ensures { Writes out.old at (hex_line (0x0b ∷ bytes₂ k)) out.new result }
 {
@@ -87,8 +97,19 @@ pub fn number_line(out: &mut [u8], at: usize, k: u32) -> Option<usize>
     close(out, at)
 }
 
-// The lines of the nodes go behind those of the diagnostics, which the run left in the slice; then the two blocks change
-// places. Where they end.
+// The part up to mid and the part after it change places, by reversals: `rotate_left` takes 4 KiB of stack and memmove,
+// and the library for C gets along with memcpy and memset.
+fn exchange(out: &mut [u8], mid: usize)
+    requires { mid ≤ length out.old }
+    ensures { out.new ≡ drop mid out.old ++ take mid out.old }
+{
+    out[..mid].reverse();
+    out[mid..].reverse();
+    out.reverse();
+}
+
+// The lines of the nodes go behind those of the diagnostics, which the run left in the slice; then the two blocks
+// change places. Where they end.
 fn lines(w: &[u32], out: &mut [u8]) -> Option<usize>
     ensures { WritesLines w.now out.old out.new result }
 {
@@ -97,7 +118,7 @@ fn lines(w: &[u32], out: &mut [u8]) -> Option<usize>
         return None;
     }
     let end = node_lines(w, out, at)?;
-    out[..end].rotate_left(at);
+    exchange(&mut out[..end], at);
     Some(end)
 }
 

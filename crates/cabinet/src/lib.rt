@@ -74,6 +74,7 @@ impl Group {
         ensures { Made pool shares.now caps.now result }
     {
         Group {
+            // At most 16, so it fits: `try_from` would say that it may not.
             count: shares.len() as u32,
             pool,
             desks: array::from_fn(|i| Desk {
@@ -84,7 +85,8 @@ impl Group {
         }
     }
 
-    // A desk for each share and cap; or 17, and no desks.
+    // A desk for each share and cap, which C hands in as two arrays; or refusal 17, and no desks. Here and in `new_day`
+    // the caller goes on with a group either way, so Err has one too.
     pub fn set_up(pool: u32, shares: &[u32], caps: &[u32]) -> Result<Self, Self>
         ensures { SetsUp pool shares.now caps.now result }
     {
@@ -103,6 +105,7 @@ impl Group {
     pub fn is_valid(&self) -> bool
         ensures { Validates self.now result }
     {
+        // By `as`, here and below: u32 has no `From` into usize, and a u32 fits.
         match self.desks.get(..self.count as usize) {
             None | Some([]) => false,
             Some(desks) => are_within_caps(desks) && held(desks) <= u64::from(self.pool),
@@ -145,7 +148,7 @@ impl Group {
         }
     }
 
-    // The day's end: the uses are forgotten; or 17, and the group stays.
+    // The day's end: the uses are forgotten; or refusal 17, and the group stays.
     pub fn new_day(self) -> Result<Self, Self>
         ensures { Rests self result }
     {
@@ -199,6 +202,7 @@ impl Seat {
     {
         let d = self.group.desks[self.desk];
         let rest = u64::from(self.group.pool) - u64::from(d.used) - self.others();
+        // No more than the pool is left, so it fits: `try_from` would say that it may not.
         Counters::VISITS.min(d.cap - d.used).min(rest as u32)
     }
 
@@ -213,7 +217,8 @@ impl Seat {
     }
 }
 
-// What the queries of a file are charged to: nothing, and each has the visits of a query alone; or a desk.
+// What the queries of a file are charged to: nothing, and each has the visits of a query alone; or a desk. No Option of
+// a seat: the methods are this type's, and `Open` says what None would leave to be guessed.
 #[derive(Clone, Copy)]
 pub enum Account {
     Open,

@@ -1,5 +1,5 @@
--- After `sigla_begin` the words are where a list of the code's calls begins: what it wrote are the four zeros that the start asks for, and
--- the schema types stand below them.
+-- After `sigla_begin` the words are where a list of the code's calls begins: what it wrote are the four zeros that the
+-- start asks for, and the schema types stand below them.
 use mathlib.Core.List.{List, []}
 use mathlib.Core.Path.{◌≡◌, ◌∙◌}
 use Prim.Native.Nat.{ℕ, ◌+◌, ◌*◌, ◌<◌, ◌≤◌}

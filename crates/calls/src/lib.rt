@@ -1,6 +1,6 @@
-// Demand 3's calls on numbers, for the comparison with the Rust (tools/oracle), which crate calls_c exports; a program that embeds
-// the checker has no use for them. A type goes as its tag and its payload (crates/cells/specs/Words.antt). Every function takes any words: what they stand for
-// is its caller's to keep.
+// Demand 3's calls on numbers, for the comparison with the Rust (tools/oracle), which crate calls_c exports; a program
+// that embeds the checker has no use for them. A type goes as its tag and its payload (crates/cells/specs/Words.antt).
+// Every function takes any words: what they stand for is its caller's to keep.
 #![tactic(auto)]
 
 ghost use Rattle.std.specs.Prelude.{◌≡◌, get_or};
@@ -13,7 +13,8 @@ ghost use Rattle.calls.specs.Numbers.{reason_of, field_of, two, CallsUnify};
 
 use cells::{Failure, Ty, TyError};
 
-// A list of calls starts here: no unknown, no inferred record, nothing to take back. The schema types that a reading left stay.
+// A list of calls starts here: no unknown, no inferred record, nothing to take back. The schema types that a reading
+// left stay.
 #[tactic(auto, unfolding(crate::specs::Beginning::begun_w))]
 pub fn sigla_begin(w: &mut [u32])
     ensures { w.new ≡ begun_w w.old }
@@ -38,6 +39,7 @@ pub fn sigla_reserve(w: &mut [u32], n: u32) -> u32
     cells::reserve(w, n)
 }
 
+// C hands in a type as its tag and its payload, here and in `sigla_unify`.
 pub fn sigla_put_field(w: &mut [u32], i: u32, name: u32, tag: u32, payload: u32)
     ensures { w.new ≡ put_field_w w.old i name (ty_w tag payload) }
 {
@@ -63,7 +65,8 @@ pub fn sigla_rollback(w: &mut [u32], mark: u32)
     cells::rollback(w, mark);
 }
 
-// A field's name or 0, and why a unification failed: 1 mismatch, 2 union mismatch, 3 unknown field, 4 infinite.
+// For C: a field's name or 0, and why a unification failed: 1 mismatch, 2 union mismatch, 3 unknown field, 4 infinite.
+// By `match`: the variants hold types and names, so `as` does not number them.
 fn reason(e: TyError) -> u32
     ensures { result ≡ reason_of e }
 {
@@ -91,7 +94,8 @@ fn put_two(out: &mut [u32], a: u32, b: u32)
     work::put(out, 1, b);
 }
 
-// 0 for success, the reason of a failure, or 5 where the visits ran out. `out` gets the visits left and the field's name.
+// 0 for success, the reason of a failure, or 5 where the visits ran out. `out` gets the visits left and the field's
+// name.
 pub fn sigla_unify(
     w: &mut [u32],
     gtag: u32,

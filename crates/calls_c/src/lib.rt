@@ -9,7 +9,8 @@ ghost use Rattle.cells.specs.Promises.{RollsBack};
 ghost use Rattle.calls.specs.Beginning.{begun_w};
 ghost use Rattle.calls.specs.Numbers.{CallsUnify};
 
-// A list of calls starts here: no unknown, no inferred record, nothing to take back. The schema types that a reading left stay.
+// A list of calls starts here: no unknown, no inferred record, nothing to take back. The schema types that a reading
+// left stay.
 #[unsafe(no_mangle)]
 pub extern "C" fn sigla_begin(w: &mut [u32])
     ensures { w.new ≡ begun_w w.old }
@@ -33,6 +34,7 @@ pub extern "C" fn sigla_reserve(w: &mut [u32], n: u32) -> u32
     calls::sigla_reserve(w, n)
 }
 
+// C hands in a type as its tag and its payload, here and in `sigla_unify`.
 #[unsafe(no_mangle)]
 pub extern "C" fn sigla_put_field(w: &mut [u32], i: u32, name: u32, tag: u32, payload: u32)
     ensures { w.new ≡ put_field_w w.old i name (ty_w tag payload) }
@@ -62,7 +64,8 @@ pub extern "C" fn sigla_rollback(w: &mut [u32], mark: u32)
     calls::sigla_rollback(w, mark);
 }
 
-// 0 for success, the reason of a failure, or 5 where the visits ran out. `out` gets the visits left and the field's name.
+// 0 for success, the reason of a failure, or 5 where the visits ran out. `out` gets the visits left and the field's
+// name.
 #[unsafe(no_mangle)]
 pub extern "C" fn sigla_unify(
     w: &mut [u32],

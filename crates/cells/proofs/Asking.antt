@@ -1,5 +1,5 @@
--- Questions over the parts of a type, as `occurs` and `orderable` ask them: the answer for the row is the answer for the rest of
--- it with the visits left. A question is put to each part in turn until one ends it.
+-- Questions over the parts of a type, as `occurs` and `orderable` ask them: the answer for the row is the answer for
+-- the rest of it with the visits left. A question is put to each part in turn until one ends it.
 use mathlib.Core.Bool.{true, false}
 use mathlib.Core.List.{List}
 use mathlib.Core.Path.{◌≡◌, refl, sym, ◌∙◌, ap}
@@ -143,7 +143,8 @@ module _ {P : Subst → Type 0} {f : ℕ → Subst → ℕ → Row → Answer} {
     };
   }
 
--- A part that did not end the walk: as often as it is asked it costs the same, and where fewer visits are left they run out.
+-- A part that did not end the walk: as often as it is asked it costs the same, and where fewer visits are left they run
+-- out.
 pub record Costs (asked : ℕ → Option (Bool × ℕ) → Type 0) (goes : ℕ → Option (Bool × ℕ)) (cost : ℕ) : Type 0 where
   pub enough : (v : ℕ) → cost ≤ v → asked v (goes (v - cost))
   pub short : (v : ℕ) → v < cost → asked v None

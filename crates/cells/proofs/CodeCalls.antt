@@ -1,6 +1,6 @@
--- Demand 3 of the code's calls. Each call's contract says that the words after it stand for the state that the definition gives,
--- and that state is one that a list of demand 3's calls leads to; what a type in hand stands for is a permitted side, since every
--- cell is. How the definition's unification ended is read off what the code gave back.
+-- Demand 3 of the code's calls. Each call's contract says that the words after it stand for the state that the
+-- definition gives, and that state is one that a list of demand 3's calls leads to; what a type in hand stands for is a
+-- permitted side, since every cell is. How the definition's unification ended is read off what the code gave back.
 use mathlib.Core.Bool.{Bool, true, false}
 use mathlib.Core.List.{List, [], ◌∷◌, ◌++◌, map}
 use mathlib.Core.Logic.{⊎_elim}
@@ -305,8 +305,8 @@ module _ {v nodes : ℕ} where
         nodes_are = length-set m.state.tys n (Some (tree T t)) ∙ b.nodes_are;
       }
 
-  -- Wherever a list of the code's calls has led, the limit included, the words stand for a state of which demand 3's clauses hold and all
-  -- unifications went as Robinson's notions say.
+  -- Wherever a list of the code's calls has led, the limit included, the words stand for a state of which demand 3's
+  -- clauses hold and all unifications went as Robinson's notions say.
   pub code_demand_3 : {w : List ℕ} {T : Rows} {st : State} → CodeLed v nodes w T st → Holds w T st × Claim Assignment st × AllAsRobinson st.history
   code_demand_3 (between_calls {m = m} k) =
       let b = code_calls k in

@@ -1,5 +1,5 @@
--- Discriminants ascending without a list of them: the least that is not below `from` of either union is the first of the
--- ascending list from `from` on, and what follows it there is the list from one more on.
+-- Discriminants ascending without a list of them: the least that is not below `from` of either union is the first of
+-- the ascending list from `from` on, and what follows it there is the list from one more on.
 use mathlib.Core.Bool.{Bool, true, false}
 use mathlib.Core.List.{List, [], ◌∷◌}
 use mathlib.Core.Path.{◌≡◌, refl, sym, ◌∙◌, ap}

@@ -1,5 +1,5 @@
--- A change of words that the state is not read from: the environment, the diagnostics and their counts, or a new cell. The
--- words stand for the same state.
+-- A change of words that the state is not read from: the environment, the diagnostics and their counts, or a new cell.
+-- The words stand for the same state.
 use mathlib.Core.List.{List}
 use mathlib.Core.Path.{◌≡◌, sym, ◌∙◌, ap}
 use Prim.Native.Nat.{ℕ, ◌+◌, ◌*◌, ◌<◌, ◌≤◌}

@@ -1,5 +1,5 @@
--- What a change of words leaves as it was. `Keeps` says that only one region changed; what is read from other words stands
--- for the same: cells (`SameCells`), a slot, the undo log.
+-- What a change of words leaves as it was. `Keeps` says that only one region changed; what is read from other words
+-- stands for the same: cells (`SameCells`), a slot, the undo log.
 use mathlib.Core.Bool.{Bool, true, false}
 use mathlib.Core.List.{List}
 use mathlib.Core.Logic.{◌⊎◌, inl, ⊎_elim}

@@ -1,5 +1,6 @@
--- `bind_var` and the arms of `unify_heads`, and an entry of `unify`. What stands at the end of a chain is no bound unknown, so
--- an unknown there is free; where the occurs check says no, the type does not reach it, and bindings stay without a loop.
+-- `bind_var` and the arms of `unify_heads`, and an entry of `unify`. What stands at the end of a chain is no bound
+-- unknown, so an unknown there is free; where the occurs check says no, the type does not reach it, and bindings stay
+-- without a loop.
 use mathlib.Core.Bool.{Bool, true, false}
 use mathlib.Core.List.{List}
 use mathlib.Core.Path.{◌≡◌, refl, sym, ◌∙◌, ap}

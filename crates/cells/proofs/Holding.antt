@@ -1,5 +1,5 @@
--- The words stand for the state after `set_var`, `annotate`, `fresh_var_id` and after one entry of the log is taken back.
--- Binding a free unknown to a type that does not reach it, and freeing one, keep bindings without a loop.
+-- The words stand for the state after `set_var`, `annotate`, `fresh_var_id` and after one entry of the log is taken
+-- back. Binding a free unknown to a type that does not reach it, and freeing one, keep bindings without a loop.
 use mathlib.Core.Bool.{Bool, true, false}
 use mathlib.Core.List.{List, [], ◌∷◌, ◌++◌}
 use mathlib.Core.Logic.{◌≢◌, by_cases}

@@ -1,5 +1,6 @@
--- An inferred record in the making. Its fields are given away first and filled one by one, while other records are made; no
--- cell has a field among them (`Reserved`), so filling one changes no cell. A new record is one more cell: rows of before stand.
+-- An inferred record in the making. Its fields are given away first and filled one by one, while other records are
+-- made; no cell has a field among them (`Reserved`), so filling one changes no cell. A new record is one more cell:
+-- rows of before stand.
 use mathlib.Core.Bool.{Bool, true, false}
 use mathlib.Core.List.{List}
 use mathlib.Core.Logic.{◌≢◌, ◌⊎◌, inl, inr, ⊎_elim, by_cases}

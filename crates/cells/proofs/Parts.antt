@@ -1,5 +1,5 @@
--- The parts of a cell one by one: the row from number j on is the part at j and the row from j + 1 on. A loop that looks for the
--- first part of a kind keeps that what is sought in the row is what is sought in the rest of it.
+-- The parts of a cell one by one: the row from number j on is the part at j and the row from j + 1 on. A loop that
+-- looks for the first part of a kind keeps that what is sought in the row is what is sought in the rest of it.
 use mathlib.Core.List.{List}
 use mathlib.Core.Path.{◌≡◌, refl, sym, ◌∙◌, ap}
 use native.Mathlib.Nat.{sub-zero}
@@ -16,8 +16,8 @@ use Rattle.cells.specs.declared.Kind.TheVariants.{Alternatives}
 use Rattle.cells.specs.declared.Part.{Part}
 use Rattle.cells.specs.Words.{count_w, part_w}
 use Rattle.cells.specs.Stands.{Rows, tree, row_from, row_w, IsCell, Ok, Cells}
-use Rattle.cells.specs.Promises.{part_at, FindsKey, FindsName, Passed}
-use Rattle.std.specs.Prelude.{None, Option, Some, MatchOption}
+use Rattle.cells.specs.Promises.{FirstPlace, part_at, FindsKey, FindsName, Passed}
+use Rattle.std.specs.Prelude.{None, Option, Some}
 use Rattle.std.proofs.Common.{add-zero}
 
 -- ---- The row of a cell
@@ -60,10 +60,7 @@ module _ {A : Type 0} {f : Row → A} {w : List ℕ} {k : Kind} {c n j : ℕ} (g
   seek_none : n ≤ j → (T : Rows) → Cells w T → IsCell w k c → f (T c) ≡ f ε
   seek_none h T C i = g.to T C i ∙ ap f (rest_none T w k c n j h)
 
--- ---- The first place from i on with a property, or none
-abbrev pub FirstPlace : (ℕ → Type 0) → ℕ → ℕ → Option ℕ → Type 0
-FirstPlace P i n r = MatchOption r ((j : ℕ) → i ≤ j → j < n → ¬ P j) (λ j. (i ≤ j) × (j < n) × P j × ((m : ℕ) → i ≤ m → m < j → ¬ P m))
-
+-- ---- What a search finds
 module _ {A : Type 0} {f : Row → A} {w : List ℕ} {k : Kind} {c n : ℕ} (P : ℕ → Type 0)
     (past : (j : ℕ) → Seeking f w k c n j → j < n → ¬ P j → Seeking f w k c n (j + 1)) {i : ℕ} (g : Seeking f w k c n i) where
   passes : (d : ℕ) → ((m : ℕ) → i ≤ m → m < i + d → (m < n) × ¬ P m) → Seeking f w k c n (i + d)

@@ -1,4 +1,5 @@
--- The alternatives that a comparison of two unions has passed: the first i are below what is next, so no look-up starts before them.
+-- The alternatives that a comparison of two unions has passed: the first i are below what is next, so no look-up starts
+-- before them.
 use mathlib.Core.Bool.{Bool, true, false}
 use mathlib.Core.List.{List}
 use mathlib.Core.Path.{◌≡◌, refl, sym, ◌∙◌, ap}

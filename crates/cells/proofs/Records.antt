@@ -1,5 +1,5 @@
--- `unify_record` and its loop: the fields from number j on are what is left to do. The words that fields are read from do not
--- change on the way, so a field read now is the field of the cell as it was.
+-- `unify_record` and its loop: the fields from number j on are what is left to do. The words that fields are read from
+-- do not change on the way, so a field read now is the field of the cell as it was.
 use mathlib.Core.List.{List}
 use mathlib.Core.Path.{◌≡◌, refl, sym, ◌∙◌, ap}
 use Prim.Native.Nat.{ℕ, zero, suc, ◌+◌, ◌<◌, ◌≤◌}

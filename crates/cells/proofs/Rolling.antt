@@ -1,5 +1,5 @@
--- `rollback`. Each turn takes the newest entry of the log back, in the words and in the state; what `rewind` gives of the
--- state before the loop is what it gives of the state reached, so at the mark nothing is left to take back.
+-- `rollback`. Each turn takes the newest entry of the log back, in the words and in the state; what `rewind` gives of
+-- the state before the loop is what it gives of the state reached, so at the mark nothing is left to take back.
 use mathlib.Core.Bool.{Bool, true, false}
 use mathlib.Core.List.{List, [], ◌∷◌}
 use mathlib.Core.Path.{◌≡◌, refl, sym, ◌∙◌}

@@ -1,5 +1,5 @@
--- The state at the start of a run: no unknown, no node typed, nothing logged. The words stand for it as soon as they stand for
--- the cells.
+-- The state at the start of a run: no unknown, no node typed, nothing logged. The words stand for it as soon as they
+-- stand for the cells.
 use mathlib.Core.List.{List, []}
 use mathlib.Core.Path.{◌≡◌, refl, sym}
 use mathlib.Core.WellFounded.Acc

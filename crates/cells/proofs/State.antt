@@ -1,6 +1,6 @@
--- What each write does to the state that the words stand for. A write sets or frees one slot, of a binding or of a node's
--- type, and changes the undo log (`Change`): the slot's value is the written one, every other stands, and cells are not
--- touched.
+-- What each write does to the state that the words stand for. A write sets or frees one slot, of a binding or of a
+-- node's type, and changes the undo log (`Change`): the slot's value is the written one, every other stands, and cells
+-- are not touched.
 use mathlib.Core.Bool.{Bool, true, false}
 use mathlib.Core.List.{List, ◌∷◌}
 use mathlib.Core.Logic.{◌≢◌, by_cases}

@@ -1,5 +1,5 @@
--- Steps of a unification: one that changes nothing, one that fails, one that sets an unknown, one that is another; and a loop
--- of them, of which is kept that what is to be done of the whole is what is left to do of the state reached.
+-- Steps of a unification: one that changes nothing, one that fails, one that sets an unknown, one that is another; and
+-- a loop of them, of which is kept that what is to be done of the whole is what is left to do of the state reached.
 use mathlib.Core.List.{List}
 use mathlib.Core.Path.{◌≡◌, refl, sym, ◌∙◌, ap}
 use Prim.Native.Nat.{ℕ, ◌-◌, ◌<◌, ◌≤◌}

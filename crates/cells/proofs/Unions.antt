@@ -1,5 +1,5 @@
--- `unify_union`: the discriminants from `from` on are what is left to do, and the next of them is the least that either side
--- declares. A payload's failure becomes a difference of the unions.
+-- `unify_union`: the discriminants from `from` on are what is left to do, and the next of them is the least that either
+-- side declares. A payload's failure becomes a difference of the unions.
 use mathlib.Core.Bool.{Bool, true, false}
 use mathlib.Core.List.{List}
 use mathlib.Core.Logic.{◌⊎◌, inl, inr, ⊎_elim}

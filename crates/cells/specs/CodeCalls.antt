@@ -1,5 +1,5 @@
--- Demand 3's lists of calls, made by the code. A list goes by what the code gives back: the visits left, the marks of snapshots, how a
--- unification ended. Beside it goes the machine of unification/specs/Calls.antt.
+-- Demand 3's lists of calls, made by the code. A list goes by what the code gives back: the visits left, the marks of
+-- snapshots, how a unification ended. Beside it goes the machine of unification/specs/Calls.antt.
 use Rattle.std.specs.Prelude.{true, false, List, [], ◌∷◌, ◌++◌, ◌≡◌, ℕ, ◌+◌, ◌*◌, ◌≤◌, ◌<◌, length, get_or, drop, replicate, Err, None, Option, Result}
 use Rattle.unification.specs.Ty as Tree
 use Rattle.unification.specs.Bindings as Bindings
@@ -54,14 +54,15 @@ rolled_to st (to ∷ older) = record { state = Bindings.rollback st to.at; taken
 
 -- ---- The list
 
--- The words with the rows of their cells, the visits left and the marks at hand, newest first, after a list of the code's calls that
--- begins with v visits left and no unknown; and the machine beside it.
+-- The words with the rows of their cells, the visits left and the marks at hand, newest first, after a list of the
+-- code's calls that begins with v visits left and no unknown; and the machine beside it.
 pub data CodeCalls (v nodes : ℕ) : List ℕ → Rows → ℕ → List ℕ → Machine → Type 0 where
   none_yet : {w : List ℕ} {T : Rows} → Holds w T (begin v (untyped nodes)).state → Permitted w T → CodeCalls v nodes w T v [] (begin v (untyped nodes))
   -- `fresh_var_id`
   unknown : {w : List ℕ} {T : Rows} {left : ℕ} {marks : List ℕ} {m : Machine} → CodeCalls v nodes w T left marks m → get_or w UNKNOWNS 0 < 512
       → CodeCalls v nodes (fresh_w w) T left marks (with_state_lem m (Bindings.fresh m.state))
-  -- An inferred record, in three calls that change no binding: `reserve`, `put_field` of a field that was given to no record yet, and `new_record`
+  -- An inferred record, in three calls that change no binding: `reserve`, `put_field` of a field that was given to no
+  -- record yet, and `new_record`
   reserving : {w : List ℕ} {T : Rows} {left : ℕ} {marks : List ℕ} {m : Machine} (n : ℕ) → CodeCalls v nodes w T left marks m
       → get_or w RECORD-FIELD-COUNT 0 + n ≤ 512 → CodeCalls v nodes (reserve_w w n) T left marks m
   filling : {w : List ℕ} {T : Rows} {left : ℕ} {marks : List ℕ} {m : Machine} (i name : ℕ) (t : Ty) (from n : ℕ) → CodeCalls v nodes w T left marks m
@@ -96,7 +97,8 @@ pub data CodeLed (v nodes : ℕ) : List ℕ → Rows → State → Type 0 where
 
 -- ---- What the code gives back
 
--- `unify`, of a unification from the bindings s to s': clause (a) of demand 3, and Robinson's notions. Where the visits ran out nothing is said.
+-- `unify`, of a unification from the bindings s to s': clause (a) of demand 3, and Robinson's notions. Where the visits
+-- ran out nothing is said.
 abbrev pub Returned : Subst → Tree.Ty → Tree.Ty → Subst → Result ℕ Failure → Type 0
 Returned s a b s' (Result.Ok left) = EntryClaim Assignment s a b true s' × (Admitted s a → Admitted s b → AsRobinson s a b true s')
 Returned s a b s' (Err (Failure.Bad e left)) = EntryClaim Assignment s a b false s' × (Admitted s a → Admitted s b → AsRobinson s a b false s')

@@ -1,5 +1,5 @@
--- The words after each step of making an inferred record (src/inferred.rt). There is room for 512 fields and 512 records; past
--- it nothing is written, and that it never comes to that is shown where the run is.
+-- The words after each step of making an inferred record (src/inferred.rt). There is room for 512 fields and 512
+-- records; past it nothing is written, and that it never comes to that is shown where the run is.
 use Rattle.std.specs.Prelude.{List, ◌⊎◌, ◌≡◌, ℕ, zero, suc, ◌+◌, ◌-◌, ◌*◌, ◌<◌, ◌≤◌, ltb, eqb, get_or, set}
 use Rattle.unification.specs.Ty.{Row, ε, cell}
 use Rattle.work.specs.Layout.{RECORD-COUNT, RECORD-FIELD-COUNT, UNKNOWNS, RECORDS, RECORD-FIELDS}
@@ -40,7 +40,8 @@ new_record_ty w from n =
 pub record More (w : List ℕ) (T T' : Rows) : Type 0 where
   pub same : (k : Kind) (c : ℕ) → IsCell w k c → T' c ≡ T c
 
--- No cell and no field that was given away was written over; there may be more of each, and the fields of new cells are new.
+-- No cell and no field that was given away was written over; there may be more of each, and the fields of new cells are
+-- new.
 pub record Adds (w w' : List ℕ) : Type 0 where
   pub said : (i : ℕ) → i < RECORD-COUNT → get_or w' i 0 ≡ get_or w i 0
   pub records : get_or w RECORD-COUNT 0 ≤ get_or w' RECORD-COUNT 0

@@ -1,6 +1,6 @@
--- What the functions of src/lib.rt promise. Each that walks types or changes the state says: for all rows and every state
--- that the words stand for, the words after stand for what the definition gives.
-use Rattle.std.specs.Prelude.{List, ◌≡◌, ℕ, ◌≤◌, ◌<◌, length, Bool, Err, None, Option, Result, Some, false, true}
+-- What the functions of src/lib.rt promise. Each that walks types or changes the state says: for all rows and every
+-- state that the words stand for, the words after stand for what the definition gives.
+use Rattle.std.specs.Prelude.{List, ◌≡◌, ℕ, ◌≤◌, ◌<◌, length, Bool, Err, None, Option, Result, Some, MatchOption, false, true}
 use Rattle.unification.specs.Ty as Tree
 use Rattle.unification.specs.Ty.{Row, ε, cell, app_row}
 use Rattle.unification.specs.Bindings as Bindings
@@ -47,6 +47,10 @@ HasKey key None = Unit {0}
 abbrev pub HasName : ℕ → Option Part → Type 0
 HasName name (Some p) = p.label ≡ name
 HasName name None = Unit {0}
+
+-- The first place from i on with a property, below n, or none.
+abbrev pub FirstPlace : (ℕ → Type 0) → ℕ → ℕ → Option ℕ → Type 0
+FirstPlace P i n r = MatchOption r ((j : ℕ) → i ≤ j → j < n → ¬ P j) (λ j. (i ≤ j) × (j < n) × P j × ((m : ℕ) → i ≤ m → m < j → ¬ P m))
 
 -- What is found has the key, or the name, whatever the words are.
 pub record FindsKey (w : List ℕ) (k : Kind) (c key : ℕ) (r : Option Part) : Type 0 where
@@ -123,8 +127,8 @@ pub record IsOrderable (w : List ℕ) (t : Ty) (left : ℕ) (r : Option (Bool ×
 
 -- ---- The state
 
--- Back to a length of the undo log, whatever history the snapshot noted. Whatever the words are, only node types, bindings and the
--- log change.
+-- Back to a length of the undo log, whatever history the snapshot noted. Whatever the words are, only node types,
+-- bindings and the log change.
 pub record RollsBack (w : List ℕ) (mark : ℕ) (w' : List ℕ) : Type 0 where
   pub is : (T : Rows) (st : State) → Holds w T st → (past : History) → Holds w' T (Bindings.rollback st (record { undo = mark; past = past }))
   pub keeps : Keeps TYS END w w'
@@ -159,7 +163,8 @@ unified_left (Result.Ok l) = l
 unified_left (Err (Failure.Bad e l)) = l
 unified_left (Err Failure.Spent) = 0
 
--- How the words and the answer after a unification stand for how it ends over trees. Only bindings and the undo log change.
+-- How the words and the answer after a unification stand for how it ends over trees. Only bindings and the undo log
+-- change.
 pub record Stays (w w' : List ℕ) (T : Rows) (st : State) : Type 0 where
   pub holds : Holds w' T st
   pub keeps : Keeps UNDO-LEN END w w'
@@ -206,8 +211,8 @@ pub record UnifiesShapes (w : List ℕ) (a b : Ty) (left : ℕ) (w' : List ℕ) 
 pub record UnifiesRecord (w : List ℕ) (c e left : ℕ) (w' : List ℕ) (r : Result ℕ Failure) : Type 0 where
   pub step : Step (λ T st. IsCell w Fields c × IsCell w Fields e) (λ d T st. Unify.unify_record (unifier d) st (T c) (T e)) w left w' r
 
--- Two types once more: while the log has this length nothing was bound, so they cost this, or are stopped where fewer visits
--- are left.
+-- Two types once more: while the log has this length nothing was bound, so they cost this, or are stopped where fewer
+-- visits are left.
 pub record Settled (got expected : Ty) (cost log d : ℕ) (T : Rows) (s : State) : Type 0 where
   pub quiet : length s.undo ≡ log → (st : State) → st.subst ≡ s.subst → st.left ≤ d → Quiet cost st (unifier d st (tree T got) (tree T expected))
 

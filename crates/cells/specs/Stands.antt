@@ -1,5 +1,5 @@
--- What the words of the work slice stand for: types as trees, and the state of unification/specs/Bindings.antt. This is the one
--- relation between the code's words and the definitions.
+-- What the words of the work slice stand for: types as trees, and the state of unification/specs/Bindings.antt. This is
+-- the one relation between the code's words and the definitions.
 use Rattle.std.specs.Prelude.{List, [], ◌∷◌, ◌≡◌, ℕ, zero, suc, ◌+◌, ◌-◌, ◌*◌, ◌%◌, ◌≤◌, ◌<◌, ltb, length, get_or, set, None, Option, Some}
 use Rattle.unification.specs.Ty as Tree
 use Rattle.unification.specs.Ty.{Row, ε, cell}

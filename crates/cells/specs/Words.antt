@@ -122,8 +122,8 @@ bound_w w x = pick (ltb x (get_or w UNKNOWNS 0)) (slot_w w (BINDINGS + 2 * x)) N
 unfoldable pub put_ty : List ℕ → ℕ → Ty → List ℕ
 put_ty w at t = set (set w at (tag_w t)) (at + 1) (payload_w t)
 
--- There is room for 1,024 undo entries, 512 unknowns and 512 nodes; past it nothing is written, and that it never comes to
--- that is shown where the state is.
+-- There is room for 1,024 undo entries, 512 unknowns and 512 nodes; past it nothing is written, and that it never comes
+-- to that is shown where the state is.
 unfoldable pub push_undo_w : List ℕ → ℕ → List ℕ
 push_undo_w w e = pick (ltb (get_or w UNDO-LEN 0) 1024) (set (set w (UNDO + get_or w UNDO-LEN 0) e) UNDO-LEN (get_or w UNDO-LEN 0 + 1)) w
 

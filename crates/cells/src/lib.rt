@@ -1,11 +1,11 @@
-// Types as numbered cells in the work slice: bindings, `repr`, `occurs`, `set_var`, `snapshot`, `rollback`, as ty.rs has
-// them. A visit is counted at each entry of `occurs`.
+// Types as numbered cells in the work slice: bindings, `repr`, `occurs`, `set_var`, `snapshot`, `rollback`, as ty.rs
+// has them. A visit is counted at each entry of `occurs`.
 #![tactic(auto)]
 
 ghost use Rattle.std.specs.Prelude.{◌≡◌, ℕ, ◌+◌, ◌*◌, ◌<◌, ◌≤◌, length, get_or, set};
 ghost use Rattle.work.specs.Layout.{UNKNOWNS, UNDO, UNDO-LEN};
 ghost use Rattle.cells.specs.Words.{ty_w, tag_w, payload_w, declared_w, count_w, first_w, field_w, alternative_w, part_w, slot_w, bound_w, put_ty, push_undo_w, set_var_w, annotate_w, fresh_w, revert_w, parts_w, part_of_w};
-ghost use Rattle.cells.specs.Promises.{part_at, FindsKey, FindsName, Reprs, Occurs, RollsBack};
+ghost use Rattle.cells.specs.Promises.{part_at, FirstPlace, FindsKey, FindsName, Reprs, Occurs, RollsBack};
 ghost use Rattle.cells.specs.declared.Ty.TheVariants as Ty;
 
 mod inferred;
@@ -29,6 +29,7 @@ pub enum Ty {
     Error,
 }
 
+// Beside a cell's number; a `Ty` holds the number alone, so a struct of both would be taken apart at every use.
 #[derive(Clone, Copy)]
 pub enum Kind {
     Fields,
@@ -67,6 +68,7 @@ pub enum TyError {
 }
 
 impl Ty {
+    // From the two words that hold it: a slice of words has no types.
     #[tactic(auto, unfolding(crate::specs::Words::ty_w))]
     pub fn from_words(tag: u32, payload: u32) -> Self
         ensures { result ≡ ty_w tag payload }
@@ -98,6 +100,7 @@ impl Ty {
         }
     }
 
+    // The word beside the tag; 0 where a type has nothing to say there.
     pub fn payload(self) -> u32
         ensures { result ≡ payload_w self }
     {
@@ -133,6 +136,7 @@ pub fn count(w: &[u32], c: u32) -> u32
     }
 }
 
+// Each is asked without the other: a pair would read a word more.
 #[tactic(auto, unfolding(crate::specs::Words::first_w))]
 pub fn first(w: &[u32], c: u32) -> usize
     ensures { (result ≡ first_w w.now c) × (result < 4294967296) }
@@ -179,6 +183,7 @@ pub fn alternative(w: &[u32], c: u32, j: u32) -> Part
     }
 }
 
+// By `Kind`, as its promise and those of the searches are said of both: a checker that knows a cell has no type in hand.
 pub fn part_at(w: &[u32], k: Kind, c: u32, j: u32) -> Part
     ensures { result ≡ part_w w.now k c j }
 {
@@ -188,33 +193,44 @@ pub fn part_at(w: &[u32], k: Kind, c: u32, j: u32) -> Part
     }
 }
 
-// The key alone.
+// The key alone, in a cell whose parts start at f: a search asks for each part's key and for nothing else of it, and
+// reads once where they start. A record of 120 fields takes a fifth fewer instructions so.
 #[tactic(auto, unfolding(crate::specs::Words::field_w, crate::specs::Words::declared_field, crate::specs::Words::made_field, crate::specs::Words::alternative_w))]
-pub fn key_at(w: &[u32], k: Kind, c: u32, j: u32) -> u32
+pub fn key_from(w: &[u32], k: Kind, c: u32, f: usize, j: u32) -> u32
+    requires { (f ≡ first_w w.now c) × (f < 4294967296) }
     ensures { result ≡ (part_w w.now k c j).key }
 {
     match k {
         Kind::Fields => {
             if c < Counters::TYPES {
-                part_name(word(w, work::FIELDS + first(w, c) + wide(j)))
+                part_name(word(w, work::FIELDS + f + wide(j)))
             } else {
-                above_tag(word(w, work::RECORD_FIELDS + 2 * (first(w, c) + wide(j))))
+                above_tag(word(w, work::RECORD_FIELDS + 2 * (f + wide(j))))
             }
         }
-        Kind::Alternatives => word(w, work::FIELDS + first(w, c) + 2 * wide(j)),
+        Kind::Alternatives => word(w, work::FIELDS + f + 2 * wide(j)),
     }
+}
+
+pub fn key_at(w: &[u32], k: Kind, c: u32, j: u32) -> u32
+    ensures { result ≡ (part_w w.now k c j).key }
+{
+    key_from(w, k, c, first(w, c), j)
+}
+
+// Where the first part with this key stands, of those from the i-th on.
+pub fn place_from(w: &[u32], k: Kind, c: u32, i: u32, key: u32) -> Option<u32>
+    ensures { FirstPlace (λ j. (part_w w.now k c j).key ≡ key) i (count_w w.now c) result }
+{
+    let f = first(w, c);
+    (i..count(w, c)).find(|j| key_from(w, k, c, f, *j) == key)
 }
 
 // Where the first part with this key stands.
 pub fn place_of(w: &[u32], k: Kind, c: u32, key: u32) -> Option<u32>
     ensures { FindsKey w.now k c key (part_at w.now k c result) }
 {
-    for j in 0..count(w, c) {
-        if key_at(w, k, c, j) == key {
-            return Some(j);
-        }
-    }
-    None
+    place_from(w, k, c, 0, key)
 }
 
 // The first part with this key.
@@ -229,13 +245,8 @@ pub fn find_key(w: &[u32], k: Kind, c: u32, key: u32) -> Option<Part>
 pub fn find_name(w: &[u32], c: u32, name: u32) -> Option<Part>
     ensures { FindsName w.now c name result }
 {
-    for j in 0..count(w, c) {
-        let p = alternative(w, c, j);
-        if p.label == name {
-            return Some(p);
-        }
-    }
-    None
+    let j = (0..count(w, c)).find(|j| alternative(w, c, *j).label == name)?;
+    Some(alternative(w, c, j))
 }
 
 // The type in two words; tag 0 stands for none.
@@ -286,7 +297,8 @@ fn inside(w: &[u32], i: usize) -> u32
     w[i]
 }
 
-// The same from an unknown on, where all bindings are within the slice: no read is tested.
+// The same from an unknown on, where all bindings are within the slice: no read is tested. `follow_any` tests each,
+// which makes long chains slow.
 fn follow_within(w: &[u32], from: u32, n: u32) -> Ty
     requires { (n ≡ get_or w.now UNKNOWNS 0) × (n ≤ 512) × (UNDO ≤ length w.now) }
     ensures { Reprs w.now (Ty.Var from) result }
@@ -318,7 +330,8 @@ fn follow_far(w: &[u32], x: u32) -> Ty
     }
 }
 
-// `repr`: mostly the first binding tells. The slice is lent anew to the call, so that it can stay in registers otherwise.
+// `repr`: mostly the first binding tells. `&w[..]`, not `w`: lent anew to the call, the slice stays in registers where
+// there is none.
 pub fn repr(w: &[u32], t: Ty) -> Ty
     ensures { Reprs w.now t result }
 {
@@ -332,7 +345,7 @@ pub fn repr(w: &[u32], t: Ty) -> Ty
     }
 }
 
-// How many parts a type in hand has, and its part at j.
+// How many parts a type in hand has, and its part at j. Over the type and not over `Kind`: what is walked has any type.
 pub fn part_count(w: &[u32], t: Ty) -> u32
     ensures { result ≡ parts_w w.now t }
 {
@@ -342,6 +355,7 @@ pub fn part_count(w: &[u32], t: Ty) -> u32
     }
 }
 
+// A type without parts promises field 0's, as it always did: its callers stay below `part_count`.
 pub fn part_of(w: &[u32], t: Ty, j: u32) -> Part
     ensures { result ≡ part_of_w w.now t j }
 {
@@ -352,7 +366,8 @@ pub fn part_of(w: &[u32], t: Ty, j: u32) -> Part
     }
 }
 
-// Its type alone.
+// Its type alone, here and below: by the whole part, unions of 63 and files of many visits take up to 3 per cent more
+// instructions, which docs/PERFORMANCE.md has the bar for.
 #[tactic(auto, unfolding(crate::specs::Words::field_w, crate::specs::Words::declared_field, crate::specs::Words::made_field))]
 fn field_ty(w: &[u32], c: u32, j: u32) -> Ty
     ensures { result ≡ (field_w w.now c j).ty }
@@ -408,19 +423,15 @@ pub fn occurs(w: &[u32], x: u32, t: Ty, left: u32) -> Option<(bool, u32)>
     Some((false, rest))
 }
 
-// The undo log holds an unknown as its number and a node as its number and this: what stood there before is always none,
-// since an unknown is bound only while it is free and a node is annotated once.
+// The undo log holds an unknown as its number and a node as its number and this: what stood there before is always
+// none, since an unknown is bound only while it is free and a node is annotated once.
 const NODE: u32 = 65536;
 
 #[tactic(auto, unfolding(crate::specs::Words::push_undo_w))]
 fn push_undo(w: &mut [u32], entry: u32)
     ensures { w.new ≡ push_undo_w w.old entry }
 {
-    let n = word(w, work::UNDO_LEN);
-    if n < Counters::UNDO {
-        put(w, work::UNDO + wide(n), entry);
-        put(w, work::UNDO_LEN, n + 1);
-    }
+    work::push(w, work::UNDO, work::UNDO_LEN, Counters::UNDO, entry);
 }
 
 // A new unknown, free, and its number.
@@ -436,6 +447,7 @@ pub fn fresh_var_id(w: &mut [u32]) -> u32
     x
 }
 
+// A type in two words.
 #[tactic(auto, unfolding(crate::specs::Words::put_ty))]
 pub fn put_ty(w: &mut [u32], at: usize, t: Ty)
     requires { at < 16384 }
@@ -455,6 +467,7 @@ pub fn set_var(w: &mut [u32], x: u32, t: Ty)
     }
 }
 
+// Unknowns and nodes have a limit, a region and an entry of the log of their own; only the writes are alike.
 #[tactic(auto, unfolding(crate::specs::Words::annotate_w))]
 pub fn annotate(w: &mut [u32], n: u32, t: Ty)
     ensures { w.new ≡ annotate_w w.old n t }

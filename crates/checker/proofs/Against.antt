@@ -1,5 +1,5 @@
--- `check` by the head of what is expected and by the node's form: nothing against Error, a note for a wildcard, fields or an alternative
--- for a record, and else what is inferred unified.
+-- `check` by the head of what is expected and by the node's form: nothing against Error, a note for a wildcard, fields
+-- or an alternative for a record, and else what is inferred unified.
 use mathlib.Core.List.{List, [], ◌∷◌}
 use mathlib.Core.Logic.{◌≢◌}
 use mathlib.Core.Path.{◌≡◌, refl, sym, ◌∙◌, ap}
@@ -26,7 +26,7 @@ use Rattle.meaning.proofs.Steps.{Nothing}
 use Rattle.meaning.proofs.Visits.{size_pos, own_weight, payload_side, check_fields_meets}
 use Rattle.messages.specs.declared.Message.{Message}
 use Rattle.messages.specs.Said.{said, OkMessage}
-use Rattle.tree.specs.declared.Items.{Items}
+use Rattle.tree.specs.declared.items.Items.{Items}
 use Rattle.tree.specs.declared.Node.{Node}
 use Rattle.tree.specs.Nodes.{field_w, field_of, fields_from, kind_w, IsNode}
 use Rattle.steps.specs.Ends.{done, Ends}

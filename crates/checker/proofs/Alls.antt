@@ -1,5 +1,5 @@
--- `infer_all`: each operand or branch is inferred and unified with one type. A turn of the loop is one step of the definition's list;
--- what it gives from item i on, from here, is what it gives on all from the start.
+-- `infer_all`: each operand or branch is inferred and unified with one type. A turn of the loop is one step of the
+-- definition's list; what it gives from item i on, from here, is what it gives on all from the start.
 use mathlib.Core.List.{List, [], ◌∷◌}
 use mathlib.Core.Path.{◌≡◌, refl}
 use Prim.Native.Nat.{ℕ, suc, ◌+◌, ◌-◌, ◌≤◌, ◌<◌}
@@ -15,7 +15,7 @@ use Rattle.meaning.specs.Grades.{Ready, one_diagnostic, inferring, visiting}
 use Rattle.meaning.proofs.Meets.{Meets, meets_then, made_side}
 use Rattle.meaning.proofs.Steps.{Nothing, IsSide, unify_at_meets}
 use Rattle.meaning.proofs.Visits.{size_pos}
-use Rattle.tree.specs.declared.Items.{Items}
+use Rattle.tree.specs.declared.items.Items.{Items}
 use Rattle.tree.specs.Nodes.{item_w, items_from}
 use Rattle.steps.specs.Ends.{typed, done, Ends}
 use Rattle.steps.specs.Loads.{Load, only, both, FitsIn, infers, visits, Begins, Beside}

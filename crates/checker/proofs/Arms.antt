@@ -1,5 +1,5 @@
--- The arms of `infer_kind` that visit nodes below: a base and then its field, value or alternative; a fact's key; operands and branches;
--- a subquery. What a kind's parts make and what it makes of its own is the load of the arm.
+-- The arms of `infer_kind` that visit nodes below: a base and then its field, value or alternative; a fact's key;
+-- operands and branches; a subquery. What a kind's parts make and what it makes of its own is the load of the arm.
 use mathlib.Core.List.{List, [], ◌∷◌}
 use mathlib.Core.Path.{◌≡◌, refl, sym, ◌∙◌, ap}
 use Prim.Native.Nat.{ℕ, ◌<◌}
@@ -26,7 +26,7 @@ use Rattle.meaning.specs.Grades.{unknowns, no_thing, one_diagnostic, one_unknown
 use Rattle.meaning.proofs.Steps.{Nothing, fresh_var_id_meets}
 use Rattle.meaning.proofs.Visits.{repr_side, size_pos, key_declared}
 use Rattle.tree.specs.declared.Node.{Node}
-use Rattle.tree.specs.declared.Items.{Items}
+use Rattle.tree.specs.declared.items.Items.{Items}
 use Rattle.tree.specs.declared.Stmts.{Stmts}
 use Rattle.tree.specs.Nodes.{fields_from, items_from, stmts_w, kind_w, IsNode}
 use Rattle.steps.specs.Loads.{Load, only, both, FitsIn, infers, checks, visits, parts, Begins}

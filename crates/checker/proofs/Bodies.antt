@@ -1,7 +1,8 @@
--- `bind` and `deny` by the form of the left side, `stmt`, the statements of a body one by one, and a subquery, whose variables are gone
--- after it.
+-- `bind` and `deny` by the form of the left side, `stmt`, the statements of a body one by one, and a subquery, whose
+-- variables are gone after it.
 use mathlib.Core.Bool.{Bool, true, false}
 use mathlib.Core.List.{List, [], ◌∷◌}
+use mathlib.Core.Logic.{◌⊎◌, inl, inr}
 use mathlib.Core.Path.{◌≡◌, refl, sym, ◌∙◌, ap}
 use Prim.Native.Nat.{ℕ, zero, suc, ◌+◌, ◌-◌, ◌≤◌, ◌<◌}
 use native.Mathlib.Omega.{arith}
@@ -30,7 +31,7 @@ use Rattle.work.specs.Layout.{ENV-LEN}
 use Rattle.state.proofs.Scoping.{runs_env_length}
 use Rattle.sigla_hex.specs.Digits.{digits_w}
 use Rattle.messages.specs.declared.Message.TheVariants as Message
-use Rattle.tree.specs.declared.Items.{Items}
+use Rattle.tree.specs.declared.items.Items.{Items}
 use Rattle.tree.specs.declared.Stmts.{Stmts}
 use Rattle.tree.specs.declared.Node.{Node}
 use Rattle.tree.specs.declared.Stmt.{Stmt}
@@ -193,6 +194,12 @@ module _ {f w ou w' ou' : List ℕ} {at under left : ℕ} where
           let z : s ≡ QueryStmt.Negation n = q ∙ ap statement e in rw z (generated n G d k (rw z at named).0 T c (rw z at b));
     };
   }
+
+  -- Either is its node alone.
+  pub stmt_visits : {n : ℕ} {s : Stmt} {r : Option (Ty × ℕ)} → s ≡ stmt_w f at under → (s ≡ Stmt.Implicit n) ⊎ (s ≡ Stmt.Negation n)
+      → Generates f w ou n left w' ou' r → States f w ou at under left w' ou' (only_w r)
+  stmt_visits p (inl e) G = stmt_implicit (sym p ∙ e) G
+  stmt_visits p (inr e) G = stmt_negation (sym p ∙ e) G
 
   pub stmt_bind : {x y : ℕ} {r : Option ℕ} → stmt_w f at under ≡ Stmt.Bind x y → Binds f w ou x y left w' ou' r → States f w ou at under left w' ou' r
   unfolding stmt stmt_nodes

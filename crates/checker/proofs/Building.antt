@@ -1,5 +1,5 @@
--- `infer_record` beside the definition's list of fields: the row is built from behind there and from the front in the slice, so midway
--- the whole is the rest with the cells so far put in front of its row.
+-- `infer_record` beside the definition's list of fields: the row is built from behind there and from the front in the
+-- slice, so midway the whole is the rest with the cells so far put in front of its row.
 use mathlib.Core.List.{List, [], ◌∷◌}
 use mathlib.Core.Path.{◌≡◌, refl}
 use Prim.Native.Nat.{ℕ, ◌+◌}

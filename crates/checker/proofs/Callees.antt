@@ -1,5 +1,6 @@
 -- What the callees' contracts say, as the laws of the cycle ask for it.
 use mathlib.Core.List.{List}
+use mathlib.Core.Logic.{◌⊎◌, inl, inr}
 use mathlib.Core.Path.{◌≡◌, sym, subst, ◌∙◌}
 use Prim.Native.Nat.{ℕ, ◌<◌, ◌≤◌}
 use native.Mathlib.Omega.{arith}
@@ -12,10 +13,11 @@ use Rattle.cells.specs.Words.{annotate_w, fresh_w}
 use Rattle.meaning.specs.Syntax.{FieldRef}
 use Rattle.meaning.specs.Check as Check
 use Rattle.messages.specs.declared.Message.{Message}
+use Rattle.messages.specs.Said.{report_message}
 use Rattle.state.specs.Words.{leave_w}
 use Rattle.state.specs.Lines.{Rejected}
 use Rattle.tree.specs.declared.Node.{Node}
-use Rattle.tree.specs.declared.Items.{Items}
+use Rattle.tree.specs.declared.items.Items.{Items}
 use Rattle.tree.specs.declared.Field.{Field}
 use Rattle.tree.specs.declared.Stmt.{Stmt}
 use Rattle.tree.specs.Nodes.{IsNode, item_w, field_w, stmt_w, stmt_size_w}
@@ -23,7 +25,7 @@ use Rattle.tree.proofs.Below.{stmt_size}
 use Rattle.tree.proofs.Steps.{field_lower, item_lower, LowerStmt, stmt_lower}
 use Rattle.steps.specs.Promises.{nodes_of, Rejects, Notes, Freshens, Reports, RollsTo, Leaves, KeyIs, OnType}
 use Rattle.steps.specs.declared.Mark.{Mark}
-use Rattle.steps.specs.Outside.{report_message, key_ty_w, Takes, Rewinds, KeyOf, ValueOf}
+use Rattle.steps.specs.Outside.{key_ty_w, Takes, Rewinds, KeyOf, ValueOf}
 use Rattle.steps.proofs.Ending.{rejects, notes, freshens}
 use Rattle.steps.proofs.Looking.{key_is}
 use Rattle.steps.proofs.Besides.{reports, rolls, leaves}
@@ -74,14 +76,18 @@ unfolding Check.access_of
 value_on v = v
 
 -- ---- Parts read from the file
-pub item_falls : (f : List ℕ) (l : Items) (i : ℕ) {e : ℕ} → (0 < l.n → 0 < l.below) → i < l.n → e ≡ item_w f l i → e < l.below
-item_falls f l i some h q = rw q (item_lower f l i (some (omega arith)))
+pub item_falls : (f : List ℕ) (l : Items) (i : ℕ) {e : ℕ} → i < l.n → e ≡ item_w f l i → e < l.below
+item_falls f l i h q = rw q (item_lower f l i (l.lower (omega arith)))
 
-pub field_falls : (f : List ℕ) (l : Items) (i : ℕ) {e : Field} → (0 < l.n → 0 < l.below) → i < l.n → e ≡ field_w f l i → e.value < l.below
-field_falls f l i some h q = rw q (field_lower f l i (some (omega arith)))
+pub field_falls : (f : List ℕ) (l : Items) (i : ℕ) {e : Field} → i < l.n → e ≡ field_w f l i → e.value < l.below
+field_falls f l i h q = rw q (field_lower f l i (l.lower (omega arith)))
 
 pub stmt_falls : (f : List ℕ) (at : ℕ) {n : ℕ} {s s' : Stmt} → 0 < n → s ≡ stmt_w f at n → s ≡ s' → LowerStmt n s'
 stmt_falls f at {n} h p q = subst (λ (x : Stmt). LowerStmt n x) (sym p ∙ q) (stmt_lower f at n h)
+
+pub alone_falls : (f : List ℕ) (at : ℕ) {n x : ℕ} {s : Stmt} → 0 < n → s ≡ stmt_w f at n → (s ≡ Stmt.Implicit x) ⊎ (s ≡ Stmt.Negation x) → x < n
+alone_falls f at h p (inl e) = stmt_falls f at h p e
+alone_falls f at h p (inr e) = stmt_falls f at h p e
 
 pub turn_at : {f w ou w' ou' : List ℕ} {e x left : ℕ} {t : Ty} {r : Option ℕ} → e ≡ x → Turn f w ou e t left w' ou' r → Turn f w ou x t left w' ou' r
 turn_at {f} {w} {ou} {w'} {ou'} {left = left} {t = t} {r = r} q u = subst (λ (y : ℕ). Turn f w ou y t left w' ou' r) q u

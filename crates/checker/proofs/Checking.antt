@@ -1,5 +1,5 @@
--- `check`: what is inferred is unified with what is expected. Where that fails, and where a diagnostic arose inside a field, the stretch
--- is rolled back to where it began: only its unknowns, its diagnostics and what left it stay.
+-- `check`: what is inferred is unified with what is expected. Where that fails, and where a diagnostic arose inside a
+-- field, the stretch is rolled back to where it began: only its unknowns, its diagnostics and what left it stay.
 use mathlib.Core.Bool.{Bool, true, false}
 use mathlib.Core.List.{List}
 use mathlib.Core.Path.{◌≡◌, refl, sym}

@@ -13,7 +13,7 @@ use Rattle.meaning.specs.Diag as Diag
 use Rattle.meaning.specs.Check.{form_of, deny_form, bad_target}
 use Rattle.messages.specs.declared.Message.TheVariants as Message
 use Rattle.tree.specs.declared.Node.{Node}
-use Rattle.tree.specs.declared.Items.{Items}
+use Rattle.tree.specs.declared.items.Items.{Items}
 use Rattle.tree.specs.Nodes.{IsNode, kind_w}
 use Rattle.tree.specs.contracts.Node.{the_type}
 use Rattle.steps.specs.Promises.{nodes_of}

@@ -1,5 +1,5 @@
--- `compare`: each side that is a variable is introduced first, so that it is found when the side is inferred; then the types are
--- compared. An unknown is paid for once: early where the side is a variable, and else when it is inferred.
+-- `compare`: each side that is a variable is introduced first, so that it is found when the side is inferred; then the
+-- types are compared. An unknown is paid for once: early where the side is a variable, and else when it is inferred.
 use mathlib.Core.List.{List, [], ◌∷◌}
 use mathlib.Core.Path.{◌≡◌, refl}
 use Prim.Native.Nat.{ℕ}

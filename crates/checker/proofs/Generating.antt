@@ -1,5 +1,5 @@
--- `generator`: the branches of a disjunction are generators in turn, and the last one's type is the node's; every other node is
--- inferred.
+-- `generator`: the branches of a disjunction are generators in turn, and the last one's type is the node's; every other
+-- node is inferred.
 use mathlib.Core.List.{List, [], ◌∷◌}
 use mathlib.Core.Path.{◌≡◌, refl}
 use Prim.Native.Nat.{ℕ, zero, suc, ◌+◌, ◌-◌, ◌≤◌, ◌<◌}
@@ -17,7 +17,7 @@ use Rattle.meaning.specs.Weights.{sum_of, weight}
 use Rattle.meaning.specs.Grades.{one_node}
 use Rattle.meaning.proofs.Steps.{IsSide}
 use Rattle.meaning.proofs.Visits.{size_pos, generate_branches_meets}
-use Rattle.tree.specs.declared.Items.{Items}
+use Rattle.tree.specs.declared.items.Items.{Items}
 use Rattle.tree.specs.declared.Node.{Node}
 use Rattle.tree.specs.Nodes.{item_w, items_from, kind_w, IsNode}
 use Rattle.steps.specs.Ends.{typed, Ends}

@@ -1,5 +1,5 @@
--- `infer`: a node's kind gives its type, which is then noted. Each arm of `infer_kind` goes beside the definition's arm of the kind
--- that was read; a variable's arm also for one that the environment has.
+-- `infer`: a node's kind gives its type, which is then noted. Each arm of `infer_kind` goes beside the definition's arm
+-- of the kind that was read; a variable's arm also for one that the environment has.
 use mathlib.Core.List.{List}
 use mathlib.Core.Path.{◌≡◌, refl, sym, ◌∙◌}
 use Prim.Native.Nat.{ℕ, zero, suc, ◌<◌}

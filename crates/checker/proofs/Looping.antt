@@ -1,10 +1,10 @@
--- A loop midway: the words stand for a checker from which the rest of the definition's list gives what the whole list gives from the
--- start. A turn that goes on keeps this; the end of the rest is the end of the whole, and so is a turn in which the visits run out.
+-- A loop midway: the words stand for a checker from which the rest of the definition's list gives what the whole list
+-- gives from the start. A turn that goes on keeps this; the end of the rest is the end of the whole, and so is a turn
+-- in which the visits run out.
 use mathlib.Core.List.{List}
 use mathlib.Core.Path.{◌≡◌, ◌∙◌, ap}
 use Prim.Native.Nat.{ℕ, ◌+◌, ◌≤◌}
 use native.Mathlib.Omega.{arith}
-use lib.ListN.{length}
 use Rattle.unification.proofs.Sides.{side_more}
 use Rattle.cells.specs.declared.Ty.{Ty}
 use Rattle.cells.specs.Stands.{Rows, tree, Ok}
@@ -21,10 +21,11 @@ use Rattle.cells.proofs.Frame.{tree_more, more_refl}
 use Rattle.steps.proofs.Growing.{ok_kept, more_trans, grew_refl, grew_trans}
 use Rattle.steps.proofs.Sequel.{free_after, begins_part, holds_left, Led, led}
 
--- The lent slices are as long as they were.
-pub record SameLengths (w w₀ o o₀ : List ℕ) : Type 0 where
-  pub words : length w ≡ length w₀
-  pub out : length o ≡ length o₀
+-- What is lent on is what was lent, and as long (`Lent`).
+pub lent_on : {A B C : Type 0} {a a' a'' : A} {b b' b'' : B} {c c' c'' : C} {m m' m'' n n' n'' : ℕ}
+    → (a' ≡ a) × (b' ≡ b) × (c' ≡ c) × (m' ≡ m) × (n' ≡ n) → (a'' ≡ a') × (b'' ≡ b') × (c'' ≡ c') × (m'' ≡ m') × (n'' ≡ n')
+    → (a'' ≡ a) × (b'' ≡ b) × (c'' ≡ c) × (m'' ≡ m) × (n'' ≡ n)
+lent_on h k = (k.0 ∙ h.0, k.1 ∙ h.1, k.2 ∙ h.2, k.3 ∙ h.3, k.4 ∙ h.4)
 
 -- Of the load K, H is left for the rest.
 pub record Midway {A : Type 0} (f w₀ ou₀ w ou : List ℕ) (T : Rows) (d : Described) (K H : Load) (left : ℕ) (c : Checker) (whole : Step A)

@@ -1,5 +1,5 @@
--- `check_fields`: the fields that a pattern mentions, one by one. A turn finds the field's type and checks its value in a scope of its
--- own, or reports at the value that there is no such field.
+-- `check_fields`: the fields that a pattern mentions, one by one. A turn finds the field's type and checks its value in
+-- a scope of its own, or reports at the value that there is no such field.
 use mathlib.Core.List.{List, [], ◌∷◌}
 use mathlib.Core.Path.{◌≡◌, refl, sym, ◌∙◌, ap}
 use Prim.Native.Nat.{ℕ, ◌+◌, ◌-◌, ◌≤◌, ◌<◌}
@@ -24,7 +24,7 @@ use Rattle.meaning.proofs.Meets.{Meets, meets_fits}
 use Rattle.meaning.proofs.Steps.{Nothing, reject_meets}
 use Rattle.meaning.proofs.Visits.{size_pos, check_field_meets}
 use Rattle.messages.specs.declared.Message.TheVariants as Message
-use Rattle.tree.specs.declared.Items.{Items}
+use Rattle.tree.specs.declared.items.Items.{Items}
 use Rattle.tree.specs.Nodes.{field_w, field_of, fields_from}
 use Rattle.steps.specs.Ends.{done, Ends}
 use Rattle.steps.specs.Loads.{Load, both, FitsIn, checks, visits, Begins}

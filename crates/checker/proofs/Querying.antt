@@ -261,3 +261,8 @@ module _ {f w w₁ : List ℕ} {u : Code.Until} (ceiling : ℕ) {head : ℕ} {b 
           words = words;
           slice = slice;
         }
+
+-- The slices that come back are those that the run had.
+pub queried_as : {f w ou w₁ ou₁ w₂ ou₂ : List ℕ} {u : Code.Until} {ceiling : ℕ} {r : Option ℕ} → Queries f w ou u ceiling w₁ ou₁ r → w₂ ≡ w₁ → ou₂ ≡ ou₁
+    → Queries f w ou u ceiling w₂ ou₂ r
+queried_as Q p q = rw (p, q) Q

@@ -1,5 +1,6 @@
--- `infer_record`: its fields are given away first, and each part's type is put among them as it is inferred. Midway the definition's row
--- has the fields put so far in front; other records are made meanwhile, but none has a field among these.
+-- `infer_record`: its fields are given away first, and each part's type is put among them as it is inferred. Midway the
+-- definition's row has the fields put so far in front; other records are made meanwhile, but none has a field among
+-- these.
 use mathlib.Core.List.{List, [], ◌∷◌}
 use mathlib.Core.Logic.{by_cases}
 use mathlib.Core.Path.{◌≡◌, refl, sym, ◌∙◌, ap}
@@ -28,10 +29,10 @@ use Rattle.meaning.specs.Check.{Checker, Step, Does}
 use Rattle.meaning.proofs.Meets.{made_refl}
 use Rattle.meaning.proofs.Steps.{IsSide}
 use Rattle.meaning.specs.Grades.{visiting}
-use Rattle.tree.specs.declared.Items.{Items}
+use Rattle.tree.specs.declared.items.Items.{Items}
 use Rattle.tree.specs.declared.Field.{Field}
 use Rattle.tree.specs.Nodes.{field_w, field_of, fields_from}
-use Rattle.tree.proofs.Steps.{fields_next, fields_end, fields_length, field_lower}
+use Rattle.tree.proofs.Steps.{fields_next, fields_end, fields_length}
 use Rattle.state.proofs.Lining.{told_same}
 use Rattle.state.proofs.Recording.{reserve_runs, reserve_grew, put_field_runs, new_record_runs, within}
 use Rattle.steps.specs.Ends.{typed, Ends, went}
@@ -350,10 +351,6 @@ module _ {f w₁ ou₁ w ou : List ℕ} {l : Items} {left from i rest : ℕ} (A 
           rw (built_start d k id fs c, x, y) (recorded_end (rw (whole, fields_end f l l.n) at (A.to w₀ p q d k fs e named small T c s)));
     };
   }
-
-  -- a part is under the record
-  pub record_lower : i < l.n → {x : Field} → x ≡ field_w f l i → (0 < l.n → 0 < l.below) → x.value < l.below
-  record_lower h e some = rw e (field_lower f l i (some (omega arith)))
 
   module _ (h : i < l.n) {x : Field} (x-is : x ≡ field_w f l i) {w₂ ou₂ : List ℕ} {r : Option (Ty × ℕ)} (I : Infers f w ou x.value rest w₂ ou₂ r) where
     turn_named : (d : Described) (k : ℕ) → AllNamed d k (field_values (fields_from f l 0 l.n))

@@ -1,5 +1,5 @@
--- Parts of functions that go beside a step of their own in meaning/specs/Check.antt: a field's value checked in a scope of its own, a
--- record against a type, a left side that cannot be bound.
+-- Parts of functions that go beside a step of their own in meaning/specs/Check.antt: a field's value checked in a scope
+-- of its own, a record against a type, a left side that cannot be bound.
 use mathlib.Core.List.{List}
 use mathlib.Core.Path.{◌≡◌}
 use Prim.Native.Nat.{ℕ, suc}
@@ -13,7 +13,7 @@ use Rattle.meaning.specs.Check as Check
 use Rattle.meaning.specs.Check.{Does, Walk}
 use Rattle.messages.specs.declared.Message.{Message}
 use Rattle.messages.specs.Said.{said, OkMessage}
-use Rattle.tree.specs.declared.Items.{Items}
+use Rattle.tree.specs.declared.items.Items.{Items}
 use Rattle.tree.specs.Nodes.{fields_from}
 use Rattle.steps.specs.Ends.{done}
 use Rattle.steps.specs.Loads.{checks, Beside}

@@ -1,12 +1,13 @@
--- What the functions of the cycle promise (src/lib.rt): each goes beside the step of meaning/specs/Check.antt that its contract names,
--- for every described file and every depth above the nodes that it visits.
+-- What the functions of the cycle promise (src/lib.rt): each goes beside the step of meaning/specs/Check.antt that its
+-- contract names, for every described file and every depth above the nodes that it visits.
 --
--- The cycle ends since the node falls, and on one node the rank: a call's measure is 16 * n + rank, where n is the node, the greater
--- of two, or for items and statements their `below`, under which stands all that they name. Ranks:
---   0 infer_record infer_all branches check_fields stmt   1 stmts   2 subquery   3 infer_kind   4 infer
---   5 infer_then_unify generator bind_name not_yet destructure   6 check_union bind deny compare   8 check   9 check_field fact
--- For it the functions over items need `0 < n → 0 < below`, `subquery` that its head is under `below`, and those that take a node with
--- its items that `below` is the node: `Lower` of tree/specs/Nodes.antt says so, whatever the file holds.
+-- The cycle ends since the node falls, and on one node the rank: a call's measure is 16 * n + rank, where n is the
+-- node, the greater of two, or for items and statements their `below`, under which stands all that they name. Ranks:
+-- 0 infer_record infer_all branches check_fields stmt   1 stmts   2 subquery   3 infer_kind   4 infer   5
+-- infer_then_unify generator bind_name not_yet destructure   6 check_union bind deny compare   8 check   9 check_field
+-- fact For it the functions over items need `0 < n → 0 < below`, `subquery` that its head is under `below`, and those
+-- that take a node with its items that `below` is the node: `Lower` of tree/specs/Nodes.antt says so, whatever the file
+-- holds.
 use Rattle.std.specs.Prelude.{List, [], ◌∷◌, ◌≡◌, ℕ, suc, ◌<◌, length, None, Option, Some}
 use Rattle.unification.specs.Ty as Tree
 use Rattle.unification.specs.Unify.{find_key}
@@ -27,7 +28,7 @@ use Rattle.messages.specs.Said.{said, OkMessage}
 use Rattle.state.specs.Runs.{Runs}
 use Rattle.state.specs.Lines.{Told, AtEntry, until_of}
 use Rattle.state.specs.declared.Until.{Until}
-use Rattle.tree.specs.declared.Items.{Items}
+use Rattle.tree.specs.declared.items.Items.{Items}
 use Rattle.tree.specs.declared.Stmts.{Stmts}
 use Rattle.tree.specs.Nodes.{fields_from, items_from, statement, stmt_w, stmts_w}
 use Rattle.steps.specs.Ends.{typed, done}
@@ -144,8 +145,9 @@ pub record StatesAll (f w ou : List ℕ) (body : Stmts) (left : ℕ) (w' ou' : L
 
 -- ---- The whole
 
--- `query`, from words that a file was read into: the words after stand for where the run ends, or for where it ended early, and then the
--- visits left are kept; where it was to last until an entry to `unify` that came, so are the entry's sides.
+-- `query`, from words that a file was read into: the words after stand for where the run ends, or for where it ended
+-- early, and then the visits left are kept; where it was to last until an entry to `unify` that came, so are the
+-- entry's sides.
 pub data Ran (f w' ou' : List ℕ) (d : Described) (r : Option ℕ) : Step Tree.Ty → Type 0 where
   to_the_end : {ty : Tree.Ty} {c : Checker} (T : Rows) → Runs f w' T d c → Told d w' ou' c 0 → r ≡ Some c.state.left → Ran f w' ou' d r (goes ty c)
   ended_early : {c : Checker} (T : Rows) → Runs f w' T d c → Told d w' ou' c c.state.left → AtEntry w' T c.until c.entries → r ≡ None → Ran f w' ou' d r (out c)

@@ -1,458 +1,399 @@
-// `check` of ty.rs over the work slice: infer, check, stmt, generator and bind call each other in a cycle; the node number
-// falls, and a rank orders calls on one node.
+// `check` of ty.rs over the work slice: infer, check, stmt, generator and bind call each other in a cycle; the node
+// number falls, and a rank orders calls on one node.
 #![tactic(auto)]
 
 ghost use Rattle.std.specs.Prelude.{◌≡◌, ◌<◌};
-ghost use Rattle.tree.specs.Nodes.{LowerItems};
-ghost use Rattle.steps.specs.Promises.{only_w};
+ghost use Rattle.state.specs.Running.{with_left, left_if, Lent};
 ghost use Rattle.checker.specs.Promises.{InfersRecord, InfersAll, Subqueries, Facts, InfersKind, Infers, InfersThenUnifies, Mentions, ChecksFields, ChecksUnion, Checks, Generates, Branches, BindsVariable, NotYets, Destructures, Binds, Denies, Compares, States, StatesAll, Queries};
 
-use cells::{Failure, Kind, Ty};
+use cells::{Kind, Ty};
 use messages::Message;
-use state::{Until, introduce, reject};
+use state::{Run, Until};
 use tree::{Items, Node, Stmt, Stmts};
 use work::{Counters, word};
 
 #[cycle(checking)]
-fn infer_record(
-    f: &[u8],
-    w: &mut [u32],
-    items: Items,
-    left: u32,
-    out: &mut [u8],
-) -> Option<(Ty, u32)>
-    requires { (0 < items.n → 0 < items.below) × (items.at < 2147483648) }
-    ensures { InfersRecord f.now w.old out.old items left w.new out.new result }
+fn infer_record(run: &mut Run, items: Items) -> Option<Ty>
+    ensures is { InfersRecord run.old.file.now run.old.words.now run.old.out.now items run.old.left run.new.words.now run.new.out.now (with_left result run.new.left) }
+    ensures lent { Lent run.old run.new }
 {
     let n = items.n;
-    let from = cells::reserve(w, n);
+    let from = cells::reserve(run.words, n);
     // It never comes to that: there is room in every run.
     if from > Counters::RECORD_FIELDS || n > Counters::RECORD_FIELDS - from {
         return None;
     }
-    let mut rest = left;
     for i in 0..n {
-        let e = tree::field_at(f, items, i);
-        let (t, l) = infer(f, w, e.value, rest, out)?;
-        cells::put_field(w, from + i, e.name, t);
-        rest = l;
+        let e = tree::field_at(run.file, items, i);
+        let t = infer(run, e.value)?;
+        cells::put_field(run.words, from + i, e.name, t);
     }
-    Some((cells::new_record(w, from, n), rest))
+    Some(cells::new_record(run.words, from, n))
 }
 
 // Each operand or branch, unified with one type.
 #[cycle(checking)]
-fn infer_all(
-    f: &[u8],
-    w: &mut [u32],
-    items: Items,
-    with: Ty,
-    left: u32,
-    out: &mut [u8],
-) -> Option<(Ty, u32)>
-    requires { (0 < items.n → 0 < items.below) × (items.at < 2147483648) }
-    ensures { InfersAll f.now w.old out.old items with left w.new out.new result }
+fn infer_all(run: &mut Run, items: Items, with: Ty) -> Option<Ty>
+    ensures is { InfersAll run.old.file.now run.old.words.now run.old.out.now items with run.old.left run.new.words.now run.new.out.now (with_left result run.new.left) }
+    ensures lent { Lent run.old run.new }
 {
-    let mut rest = left;
     for i in 0..items.n {
-        let e = tree::item_at(f, items, i);
-        let (t, l) = infer(f, w, e, rest, out)?;
-        rest = steps::unify_at(f, w, e, t, with, l, out)?;
+        let e = tree::item_at(run.file, items, i);
+        let t = infer(run, e)?;
+        steps::unify_at(run, e, t, with)?;
     }
-    Some((with, rest))
+    Some(with)
 }
 
 #[cycle(checking)]
-fn subquery(
-    f: &[u8],
-    w: &mut [u32],
-    head: u32,
-    body: Stmts,
-    left: u32,
-    out: &mut [u8],
-) -> Option<(Ty, u32)>
+fn subquery(run: &mut Run, head: u32, body: Stmts) -> Option<Ty>
     requires { (head < body.below) × (body.end < 2147483648) }
-    ensures { Subqueries f.now w.old out.old head body left w.new out.new result }
+    ensures is { Subqueries run.old.file.now run.old.words.now run.old.out.now head body run.old.left run.new.words.now run.new.out.now (with_left result run.new.left) }
+    ensures lent { Lent run.old run.new }
 {
-    let scope = word(w, work::ENV_LEN);
-    let l = stmts(f, w, body, left, out)?;
-    let (t, m) = infer(f, w, head, l, out)?;
-    state::leave(w, scope);
-    Some((t, m))
+    let scope = word(run.view(), work::ENV_LEN);
+    stmts(run, body)?;
+    let t = infer(run, head)?;
+    state::leave(run.words, scope);
+    Some(t)
 }
 
 #[cycle(checking)]
-fn fact(f: &[u8], w: &mut [u32], p: u32, key: u32, left: u32, out: &mut [u8]) -> Option<(Ty, u32)>
-    ensures { Facts f.now w.old out.old p key left w.new out.new result }
+fn fact(run: &mut Run, p: u32, key: u32) -> Option<Ty>
+    ensures is { Facts run.old.file.now run.old.words.now run.old.out.now p key run.old.left run.new.words.now run.new.out.now (with_left result run.new.left) }
+    ensures lent { Lent run.old run.new }
 {
-    let Some(t) = steps::key_ty(w, p) else {
-        return Some((Ty::Fact(p), left));
+    let Some(t) = steps::key_ty(run.view(), p) else {
+        return Some(Ty::Fact(p));
     };
-    let l = check(f, w, key, t, left, out)?;
-    Some((Ty::Fact(p), l))
+    check(run, key, t)?;
+    Some(Ty::Fact(p))
 }
 
 #[cycle(checking)]
-fn infer_kind(f: &[u8], w: &mut [u32], n: u32, left: u32, out: &mut [u8]) -> Option<(Ty, u32)>
-    ensures { InfersKind f.now w.old out.old n left w.new out.new result }
+fn infer_kind(run: &mut Run, n: u32) -> Option<Ty>
+    ensures is { InfersKind run.old.file.now run.old.words.now run.old.out.now n run.old.left run.new.words.now run.new.out.now (with_left result run.new.left) }
+    ensures lent { Lent run.old run.new }
 {
-    let e = tree::node_at(f, w, n);
-    match e {
-        Node::Int => Some((Ty::Int, left)),
-        Node::Bytes => Some((Ty::Bytes, left)),
-        Node::Str => Some((Ty::Str, left)),
-        Node::Prefix(_) => Some((Ty::Str, left)),
-        Node::Fuzzy(term, distance) => { steps::fuzzy(f, w, n, term, distance, left, out) }
-        Node::Wildcard => Some((Ty::Var(cells::fresh_var_id(w)), left)),
-        Node::Never => Some((Ty::Var(cells::fresh_var_id(w)), left)),
-        Node::Error => Some((Ty::Error, left)),
-        Node::Var(symbol) => Some((Ty::Var(introduce(w, n, symbol)), left)),
-        Node::Arith(items) => infer_all(f, w, items, Ty::Int, left, out),
-        Node::Record(items) => infer_record(f, w, items, left, out),
+    match run.node(n) {
+        Node::Int => Some(Ty::Int),
+        Node::Bytes => Some(Ty::Bytes),
+        Node::Str => Some(Ty::Str),
+        Node::Prefix(_) => Some(Ty::Str),
+        Node::Fuzzy(term, distance) => steps::fuzzy(run, n, term, distance),
+        Node::Wildcard => Some(Ty::Var(cells::fresh_var_id(run.words))),
+        Node::Never => Some(Ty::Var(cells::fresh_var_id(run.words))),
+        Node::Error => Some(Ty::Error),
+        Node::Var(symbol) => Some(Ty::Var(run.introduce(n, symbol))),
+        Node::Arith(items) => infer_all(run, items, Ty::Int),
+        Node::Record(items) => infer_record(run, items),
+        // These three begin alike. A function for the two lines would be one more of the cycle, with clauses of its own.
         Node::Key(name, base) => {
-            let (t, l) = infer(f, w, base, left, out)?;
-            steps::key_of(f, w, n, name, cells::repr(w, t), l, out)
+            let t = infer(run, base)?;
+            let u = cells::repr(run.view(), t);
+            steps::key_of(run, n, name, u)
         }
         Node::Value(base) => {
-            let (t, l) = infer(f, w, base, left, out)?;
-            steps::value_of(f, w, n, cells::repr(w, t), l, out)
+            let t = infer(run, base)?;
+            let u = cells::repr(run.view(), t);
+            steps::value_of(run, n, u)
         }
         Node::Select(name, base) => {
-            let (t, l) = infer(f, w, base, left, out)?;
-            steps::select_of(f, w, n, name, cells::repr(w, t), l, out)
+            let t = infer(run, base)?;
+            let u = cells::repr(run.view(), t);
+            steps::select_of(run, n, name, u)
         }
-        Node::Fact(p, key) => fact(f, w, p, key, left, out),
+        Node::Fact(p, key) => fact(run, p, key),
         Node::Disjunction(items) => {
-            let result = Ty::Var(cells::fresh_var_id(w));
-            infer_all(f, w, items, result, left, out)
+            let result = Ty::Var(cells::fresh_var_id(run.words));
+            infer_all(run, items, result)
         }
-        Node::Subquery(head, body) => subquery(f, w, head, body, left, out),
+        Node::Subquery(head, body) => subquery(run, head, body),
     }
 }
 
 #[cycle(checking)]
-pub fn infer(f: &[u8], w: &mut [u32], n: u32, left: u32, out: &mut [u8]) -> Option<(Ty, u32)>
-    ensures { Infers f.now w.old out.old n left w.new out.new result }
+pub fn infer(run: &mut Run, n: u32) -> Option<Ty>
+    ensures is { Infers run.old.file.now run.old.words.now run.old.out.now n run.old.left run.new.words.now run.new.out.now (with_left result run.new.left) }
+    ensures lent { Lent run.old run.new }
 {
-    let (t, l) = infer_kind(f, w, n, left, out)?;
-    cells::annotate(w, n, t);
-    Some((t, l))
+    let t = infer_kind(run, n)?;
+    cells::annotate(run.words, n, t);
+    Some(t)
 }
 
 #[cycle(checking)]
-fn infer_then_unify(
-    f: &[u8],
-    w: &mut [u32],
-    n: u32,
-    expected: Ty,
-    left: u32,
-    out: &mut [u8],
-) -> Option<u32>
-    ensures { InfersThenUnifies f.now w.old out.old n expected left w.new out.new result }
+fn infer_then_unify(run: &mut Run, n: u32, expected: Ty) -> Option<()>
+    ensures is { InfersThenUnifies run.old.file.now run.old.words.now run.old.out.now n expected run.old.left run.new.words.now run.new.out.now (left_if result run.new.left) }
+    ensures lent { Lent run.old run.new }
 {
-    let at = steps::snapshot(w);
-    let (t, l) = infer(f, w, n, left, out)?;
-    match steps::unify_outside(w, t, expected, l) {
-        Ok(m) => Some(m),
-        Err(Failure::Bad(err, m)) => {
-            steps::rollback(w, at);
-            steps::report(f, w, n, err, m, out)
+    let at = steps::snapshot(run.view());
+    let t = infer(run, n)?;
+    match steps::unify_outside(run, t, expected)? {
+        Ok(()) => Some(()),
+        Err(err) => {
+            steps::rollback(run.words, at);
+            steps::report(run, n, err)
         }
-        Err(Failure::Spent) => None,
     }
 }
 
 // A field in a scope of its own: whatever diagnostic arose inside it, it is rolled back.
 #[cycle(checking)]
-fn check_field(
-    f: &[u8],
-    w: &mut [u32],
-    c: u32,
-    name: u32,
-    value: u32,
-    left: u32,
-    out: &mut [u8],
-) -> Option<u32>
-    ensures { Mentions f.now w.old out.old name value c left w.new out.new result }
+fn check_field(run: &mut Run, c: u32, name: u32, value: u32) -> Option<()>
+    ensures is { Mentions run.old.file.now run.old.words.now run.old.out.now name value c run.old.left run.new.words.now run.new.out.now (left_if result run.new.left) }
+    ensures lent { Lent run.old run.new }
 {
-    let Some(p) = cells::find_key(w, Kind::Fields, c, name) else {
-        return reject(f, w, value, Message::NoField(name), left, out);
+    let Some(p) = cells::find_key(run.view(), Kind::Fields, c, name) else {
+        return run.reject(value, Message::NoField(name));
     };
-    let before = word(w, work::DIAGNOSTIC_COUNT);
-    let mark = steps::snapshot(w);
-    let l = check(f, w, value, p.ty, left, out)?;
-    if before < word(w, work::DIAGNOSTIC_COUNT) {
-        steps::rollback(w, mark);
+    let before = word(run.view(), work::DIAGNOSTIC_COUNT);
+    let mark = steps::snapshot(run.view());
+    check(run, value, p.ty)?;
+    if before < word(run.view(), work::DIAGNOSTIC_COUNT) {
+        steps::rollback(run.words, mark);
     }
-    Some(l)
+    Some(())
 }
 
 #[cycle(checking)]
-fn check_fields(
-    f: &[u8],
-    w: &mut [u32],
-    items: Items,
-    c: u32,
-    left: u32,
-    out: &mut [u8],
-) -> Option<u32>
-    requires { (0 < items.n → 0 < items.below) × (items.at < 2147483648) }
-    ensures { ChecksFields f.now w.old out.old items c left w.new out.new result }
+fn check_fields(run: &mut Run, items: Items, c: u32) -> Option<()>
+    ensures is { ChecksFields run.old.file.now run.old.words.now run.old.out.now items c run.old.left run.new.words.now run.new.out.now (left_if result run.new.left) }
+    ensures lent { Lent run.old run.new }
 {
-    let mut rest = left;
     for i in 0..items.n {
-        let e = tree::field_at(f, items, i);
-        rest = check_field(f, w, c, e.name, e.value, rest, out)?;
+        let e = tree::field_at(run.file, items, i);
+        check_field(run, c, e.name, e.value)?;
     }
-    Some(rest)
+    Some(())
 }
 
 #[cycle(checking)]
-fn check_union(
-    f: &[u8],
-    w: &mut [u32],
-    n: u32,
-    items: Items,
-    c: u32,
-    left: u32,
-    out: &mut [u8],
-) -> Option<u32>
-    requires { LowerItems n items }
-    ensures { ChecksUnion f.now w.old out.old n items c left w.new out.new result }
+fn check_union(run: &mut Run, n: u32, items: Items, c: u32) -> Option<()>
+    requires { items.below ≡ n }
+    ensures is { ChecksUnion run.old.file.now run.old.words.now run.old.out.now n items c run.old.left run.new.words.now run.new.out.now (left_if result run.new.left) }
+    ensures lent { Lent run.old run.new }
 {
     if items.n != 1 {
-        return reject(f, w, n, Message::NotOneAlternative(items.n), left, out);
+        return run.reject(n, Message::NotOneAlternative(items.n));
     }
-    let e = tree::field_at(f, items, 0);
-    let Some(p) = cells::find_name(w, c, e.name) else {
-        return reject(f, w, n, Message::NoAlternative(e.name), left, out);
+    let e = tree::field_at(run.file, items, 0);
+    let Some(p) = cells::find_name(run.view(), c, e.name) else {
+        return run.reject(n, Message::NoAlternative(e.name));
     };
-    let l = check(f, w, e.value, p.ty, left, out)?;
-    cells::annotate(w, n, Ty::Union(c));
-    Some(l)
+    check(run, e.value, p.ty)?;
+    cells::annotate(run.words, n, Ty::Union(c));
+    Some(())
 }
 
 // Against Error nothing is visited.
 #[cycle(checking)]
-pub fn check(
-    f: &[u8],
-    w: &mut [u32],
-    n: u32,
-    expected: Ty,
-    left: u32,
-    out: &mut [u8],
-) -> Option<u32>
-    ensures { Checks f.now w.old out.old n expected left w.new out.new result }
+pub fn check(run: &mut Run, n: u32, expected: Ty) -> Option<()>
+    ensures is { Checks run.old.file.now run.old.words.now run.old.out.now n expected run.old.left run.new.words.now run.new.out.now (left_if result run.new.left) }
+    ensures lent { Lent run.old run.new }
 {
-    let t = cells::repr(w, expected);
+    let t = cells::repr(run.view(), expected);
     if let Ty::Error = t {
-        return Some(left);
+        return Some(());
     }
-    let e = tree::node_at(f, w, n);
-    match e {
+    match run.node(n) {
         Node::Wildcard => {
-            cells::annotate(w, n, t);
-            Some(left)
+            cells::annotate(run.words, n, t);
+            Some(())
         }
         Node::Record(items) => match t {
             Ty::Record(c) => {
-                let l = check_fields(f, w, items, c, left, out)?;
-                cells::annotate(w, n, t);
-                Some(l)
+                check_fields(run, items, c)?;
+                cells::annotate(run.words, n, t);
+                Some(())
             }
-            Ty::Union(c) => check_union(f, w, n, items, c, left, out),
-            _ => infer_then_unify(f, w, n, t, left, out),
+            Ty::Union(c) => check_union(run, n, items, c),
+            _ => infer_then_unify(run, n, t),
         },
-        _ => infer_then_unify(f, w, n, t, left, out),
+        _ => infer_then_unify(run, n, t),
     }
 }
 
 // Branches are not unified.
 #[cycle(checking)]
-pub fn generator(f: &[u8], w: &mut [u32], n: u32, left: u32, out: &mut [u8]) -> Option<(Ty, u32)>
-    ensures { Generates f.now w.old out.old n left w.new out.new result }
+pub fn generator(run: &mut Run, n: u32) -> Option<Ty>
+    ensures is { Generates run.old.file.now run.old.words.now run.old.out.now n run.old.left run.new.words.now run.new.out.now (with_left result run.new.left) }
+    ensures lent { Lent run.old run.new }
 {
-    let e = tree::node_at(f, w, n);
-    match e {
+    match run.node(n) {
         Node::Disjunction(items) => {
-            let (t, l) = branches(f, w, items, left, out)?;
-            cells::annotate(w, n, t);
-            Some((t, l))
+            let t = branches(run, items)?;
+            cells::annotate(run.words, n, t);
+            Some(t)
         }
-        _ => infer(f, w, n, left, out),
+        _ => infer(run, n),
     }
 }
 
 #[cycle(checking)]
-fn branches(f: &[u8], w: &mut [u32], items: Items, left: u32, out: &mut [u8]) -> Option<(Ty, u32)>
-    requires { (0 < items.n → 0 < items.below) × (items.at < 2147483648) }
-    ensures { Branches f.now w.old out.old items left w.new out.new result }
+fn branches(run: &mut Run, items: Items) -> Option<Ty>
+    ensures is { Branches run.old.file.now run.old.words.now run.old.out.now items run.old.left run.new.words.now run.new.out.now (with_left result run.new.left) }
+    ensures lent { Lent run.old run.new }
 {
-    let mut rest = left;
     let mut last = Ty::Error;
     for i in 0..items.n {
-        let e = tree::item_at(f, items, i);
-        let (t, l) = generator(f, w, e, rest, out)?;
-        last = t;
-        rest = l;
+        last = generator(run, tree::item_at(run.file, items, i))?;
     }
-    Some((last, rest))
+    Some(last)
 }
 
-fn only(r: Option<(Ty, u32)>) -> Option<u32>
-    ensures { result ≡ only_w r }
-{
-    r.map(|(_, left)| left)
-}
-
-// `bind` and `deny` with a variable on the left.
+// `bind` and `deny` with a variable on the left. Here and below the sides of a statement are two parameters: a type of
+// both would be taken apart again in each function.
 #[cycle(checking)]
-fn bind_name(
-    f: &[u8],
-    w: &mut [u32],
-    symbol: u32,
-    lhs: u32,
-    rhs: u32,
-    left: u32,
-    out: &mut [u8],
-) -> Option<u32>
-    ensures { BindsVariable f.now w.old out.old symbol lhs rhs left w.new out.new result }
+fn bind_name(run: &mut Run, symbol: u32, lhs: u32, rhs: u32) -> Option<()>
+    ensures is { BindsVariable run.old.file.now run.old.words.now run.old.out.now symbol lhs rhs run.old.left run.new.words.now run.new.out.now (left_if result run.new.left) }
+    ensures lent { Lent run.old run.new }
 {
-    let var = introduce(w, lhs, symbol);
-    cells::annotate(w, lhs, Ty::Var(var));
-    let (t, l) = infer(f, w, rhs, left, out)?;
-    steps::unify_at(f, w, rhs, t, Ty::Var(var), l, out)
+    let var = run.introduce(lhs, symbol);
+    cells::annotate(run.words, lhs, Ty::Var(var));
+    let t = infer(run, rhs)?;
+    steps::unify_at(run, rhs, t, Ty::Var(var))
 }
 
 #[cycle(checking)]
-fn not_yet(
-    f: &[u8],
-    w: &mut [u32],
-    lhs: u32,
-    rhs: u32,
-    left: u32,
-    m: Message,
-    out: &mut [u8],
-) -> Option<u32>
-    ensures { NotYets m f.now w.old out.old lhs rhs left w.new out.new result }
+fn not_yet(run: &mut Run, lhs: u32, rhs: u32, m: Message) -> Option<()>
+    ensures is { NotYets m run.old.file.now run.old.words.now run.old.out.now lhs rhs run.old.left run.new.words.now run.new.out.now (left_if result run.new.left) }
+    ensures lent { Lent run.old run.new }
 {
-    let v = reject(f, w, lhs, m, left, out)?;
-    let (_, l) = infer(f, w, lhs, v, out)?;
-    only(infer(f, w, rhs, l, out))
+    run.reject(lhs, m)?;
+    infer(run, lhs)?;
+    infer(run, rhs)?;
+    Some(())
+}
+
+// `compare` begins alike, but both types go on from there: one function for both beginnings would be as long.
+#[cycle(checking)]
+fn destructure(run: &mut Run, lhs: u32, rhs: u32) -> Option<()>
+    ensures is { Destructures run.old.file.now run.old.words.now run.old.out.now lhs rhs run.old.left run.new.words.now run.new.out.now (left_if result run.new.left) }
+    ensures lent { Lent run.old run.new }
+{
+    let pattern = infer(run, lhs)?;
+    let value = infer(run, rhs)?;
+    steps::unify_at(run, rhs, value, pattern)
 }
 
 #[cycle(checking)]
-fn destructure(
-    f: &[u8],
-    w: &mut [u32],
-    lhs: u32,
-    rhs: u32,
-    left: u32,
-    out: &mut [u8],
-) -> Option<u32>
-    ensures { Destructures f.now w.old out.old lhs rhs left w.new out.new result }
+fn bind(run: &mut Run, lhs: u32, rhs: u32) -> Option<()>
+    ensures is { Binds run.old.file.now run.old.words.now run.old.out.now lhs rhs run.old.left run.new.words.now run.new.out.now (left_if result run.new.left) }
+    ensures lent { Lent run.old run.new }
 {
-    let (pattern, l) = infer(f, w, lhs, left, out)?;
-    let (value, m) = infer(f, w, rhs, l, out)?;
-    steps::unify_at(f, w, rhs, value, pattern, m, out)
-}
-
-#[cycle(checking)]
-fn bind(f: &[u8], w: &mut [u32], lhs: u32, rhs: u32, left: u32, out: &mut [u8]) -> Option<u32>
-    ensures { Binds f.now w.old out.old lhs rhs left w.new out.new result }
-{
-    let e = tree::node_at(f, w, lhs);
-    match e {
+    match run.node(lhs) {
         Node::Wildcard => {
-            let (t, l) = infer(f, w, rhs, left, out)?;
-            cells::annotate(w, lhs, t);
-            Some(l)
+            let t = infer(run, rhs)?;
+            cells::annotate(run.words, lhs, t);
+            Some(())
         }
-        Node::Var(symbol) => bind_name(f, w, symbol, lhs, rhs, left, out),
+        Node::Var(symbol) => bind_name(run, symbol, lhs, rhs),
         Node::Record(_) => {
-            if steps::destructurable(f, w, lhs) {
-                destructure(f, w, lhs, rhs, left, out)
+            if steps::destructurable(run, lhs) {
+                destructure(run, lhs, rhs)
             } else {
-                not_yet(f, w, lhs, rhs, left, Message::MatchedPatterns, out)
+                not_yet(run, lhs, rhs, Message::MatchedPatterns)
             }
         }
         Node::Int | Node::Str | Node::Bytes | Node::Prefix(_) => {
-            let l = reject(f, w, lhs, Message::BoundConstant, left, out)?;
-            only(infer(f, w, rhs, l, out))
+            run.reject(lhs, Message::BoundConstant)?;
+            infer(run, rhs)?;
+            Some(())
         }
-        Node::Error => only(infer(f, w, rhs, left, out)),
-        _ => not_yet(f, w, lhs, rhs, left, Message::MatchedPatterns, out),
+        Node::Error => {
+            infer(run, rhs)?;
+            Some(())
+        }
+        _ => not_yet(run, lhs, rhs, Message::MatchedPatterns),
     }
 }
 
+// `bind` has arms like these two, but for the message: a function for them would be one more of the cycle.
 #[cycle(checking)]
-fn deny(f: &[u8], w: &mut [u32], lhs: u32, rhs: u32, left: u32, out: &mut [u8]) -> Option<u32>
-    ensures { Denies f.now w.old out.old lhs rhs left w.new out.new result }
+fn deny(run: &mut Run, lhs: u32, rhs: u32) -> Option<()>
+    ensures is { Denies run.old.file.now run.old.words.now run.old.out.now lhs rhs run.old.left run.new.words.now run.new.out.now (left_if result run.new.left) }
+    ensures lent { Lent run.old run.new }
 {
-    let e = tree::node_at(f, w, lhs);
-    match e {
-        Node::Var(symbol) => bind_name(f, w, symbol, lhs, rhs, left, out),
+    match run.node(lhs) {
+        Node::Var(symbol) => bind_name(run, symbol, lhs, rhs),
         Node::Wildcard | Node::Int | Node::Str | Node::Bytes | Node::Prefix(_) => {
-            let l = reject(f, w, lhs, Message::DeniedConstant, left, out)?;
-            only(infer(f, w, rhs, l, out))
+            run.reject(lhs, Message::DeniedConstant)?;
+            infer(run, rhs)?;
+            Some(())
         }
-        Node::Error => only(infer(f, w, rhs, left, out)),
-        _ => not_yet(f, w, lhs, rhs, left, Message::DeniedPattern, out),
+        Node::Error => {
+            infer(run, rhs)?;
+            Some(())
+        }
+        _ => not_yet(run, lhs, rhs, Message::DeniedPattern),
     }
 }
 
 #[cycle(checking)]
-fn compare(f: &[u8], w: &mut [u32], lhs: u32, rhs: u32, left: u32, out: &mut [u8]) -> Option<u32>
-    ensures { Compares f.now w.old out.old lhs rhs left w.new out.new result }
+fn compare(run: &mut Run, lhs: u32, rhs: u32) -> Option<()>
+    ensures is { Compares run.old.file.now run.old.words.now run.old.out.now lhs rhs run.old.left run.new.words.now run.new.out.now (left_if result run.new.left) }
+    ensures lent { Lent run.old run.new }
 {
-    steps::introduce_side(f, w, lhs);
-    steps::introduce_side(f, w, rhs);
-    let (a, l) = infer(f, w, lhs, left, out)?;
-    let (b, m) = infer(f, w, rhs, l, out)?;
-    steps::compare_types(f, w, lhs, rhs, a, b, m, out)
+    steps::introduce_side(run, lhs);
+    steps::introduce_side(run, rhs);
+    let a = infer(run, lhs)?;
+    let b = infer(run, rhs)?;
+    steps::compare_types(run, lhs, rhs, a, b)
 }
 
+// The place is below 2^31, as `stmt_at` and `stmt_size` ask: a type that says so would be made anew at each statement.
 #[cycle(checking)]
-fn stmt(f: &[u8], w: &mut [u32], at: usize, below: u32, left: u32, out: &mut [u8]) -> Option<u32>
+fn stmt(run: &mut Run, at: usize, below: u32) -> Option<()>
     requires { (0 < below) × (at < 2147483648) }
-    ensures { States f.now w.old out.old at below left w.new out.new result }
+    ensures is { States run.old.file.now run.old.words.now run.old.out.now at below run.old.left run.new.words.now run.new.out.now (left_if result run.new.left) }
+    ensures lent { Lent run.old run.new }
 {
-    let s = tree::stmt_at(f, at, below);
-    match s {
-        Stmt::Implicit(n) => only(generator(f, w, n, left, out)),
-        Stmt::Negation(n) => only(generator(f, w, n, left, out)),
-        Stmt::Bind(lhs, rhs) => bind(f, w, lhs, rhs, left, out),
-        Stmt::Deny(lhs, rhs) => deny(f, w, lhs, rhs, left, out),
-        Stmt::Compare(lhs, rhs) => compare(f, w, lhs, rhs, left, out),
+    match tree::stmt_at(run.file, at, below) {
+        Stmt::Implicit(n) | Stmt::Negation(n) => {
+            generator(run, n)?;
+            Some(())
+        }
+        Stmt::Bind(lhs, rhs) => bind(run, lhs, rhs),
+        Stmt::Deny(lhs, rhs) => deny(run, lhs, rhs),
+        Stmt::Compare(lhs, rhs) => compare(run, lhs, rhs),
     }
 }
 
 #[cycle(checking)]
-fn stmts(f: &[u8], w: &mut [u32], body: Stmts, left: u32, out: &mut [u8]) -> Option<u32>
+fn stmts(run: &mut Run, body: Stmts) -> Option<()>
     requires { (0 < body.below) × (body.end < 2147483648) }
-    ensures { StatesAll f.now w.old out.old body left w.new out.new result }
+    ensures is { StatesAll run.old.file.now run.old.words.now run.old.out.now body run.old.left run.new.words.now run.new.out.now (left_if result run.new.left) }
+    ensures lent { Lent run.old run.new }
 {
     let end = body.end;
     let below = body.below;
     let mut at = body.at;
-    let mut rest = left;
+    // How far the next is depends on the statement's kind.
     while at < end {
-        rest = stmt(f, w, at, below, rest, out)?;
-        at += tree::stmt_size(f, at);
+        stmt(run, at, below)?;
+        at += tree::stmt_size(run.file, at);
     }
-    Some(rest)
+    Some(())
 }
 
-// The query of the file that was read: every type and diagnostic is then in the slice. The head is inferred last, and then every entry
-// leaves.
+// The query of the file that was read: every type and diagnostic is then in the slice. The head is inferred last, and
+// then every entry leaves.
 pub fn query(f: &[u8], w: &mut [u32], until: Until, ceiling: u32, out: &mut [u8]) -> Option<u32>
     ensures { Queries f.now w.old out.old until ceiling w.new out.new result }
 {
     steps::begin(w, until);
     let head = tree::query_head(f, w);
-    let l = stmts(f, w, tree::query_body(w), ceiling, out)?;
-    let m = steps::check_head(f, w, head, l, out)?;
-    let (_, v) = infer(f, w, head, m, out)?;
-    state::leave(w, 0);
-    Some(v)
+    let body = tree::query_body(w);
+    let mut run = Run {
+        file: f,
+        words: w,
+        out,
+        left: ceiling,
+    };
+    stmts(&mut run, body)?;
+    steps::check_head(&mut run, head)?;
+    infer(&mut run, head)?;
+    state::leave(run.words, 0);
+    Some(run.left)
 }

@@ -1,5 +1,6 @@
 // Card 6: the lines of a file in the other edition. A line that names a predicate has two bytes more in the wide
-// edition, the number's upper half; every other line is the same in both.
+// edition, the number's upper half; every other line is the same in both. `out` and `at` are two parameters: crate
+// writer says why.
 #![tactic(auto)]
 
 ghost use Rattle.std.specs.Prelude.{◌++◌, ◌≡◌};
@@ -10,7 +11,8 @@ use frames::{Edition, byte, full};
 use work::Counters;
 use writer::{close, text};
 
-// Where the line's predicate number starts, if it has one: after the shape byte of a type or of a node.
+// Where the line's predicate number starts, if it has one: after the shape byte of a type or of a node. By the file's
+// bytes: of lines that were read it has each to tell kind and shape at once.
 #[tactic(auto, using(crate::proofs::Places::placing))]
 fn place(s: &[u8]) -> Option<usize>
     ensures { Placed s.now result }
@@ -53,6 +55,7 @@ pub fn convert(file: &[u8], out: &mut [u8], edition: Edition) -> Option<usize>
     let mut line = [0u8; Counters::LINE];
     let mut at = 0;
     let mut to = 0;
+    // Each line starts where `decode` says that the one before ends.
     while at < file.len() {
         let (n, next) = frames::decode(file, at, &mut line)?;
         to = convert_line(out, to, &line[..n], edition)?;
@@ -75,6 +78,7 @@ pub fn some_from(file: &[u8], least: u32) -> bool
 {
     let mut line = [0u8; Counters::LINE];
     let mut at = 0;
+    // The place goes on by what `decode` gives, as above.
     while let Some((n, next)) = frames::decode(file, at, &mut line) {
         if names_from(&line[..n], least) {
             return true;

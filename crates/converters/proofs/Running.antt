@@ -29,7 +29,10 @@ use Rattle.desk.proofs.Deciding as Deciding
 use Rattle.editions.specs.Converted.{frames_in, some_above, widened, narrowed, widen_read, narrow_read, decide_widen, decide_narrow}
 use Rattle.editions.proofs.Same.{frames_are, all_narrow}
 use Rattle.convert.specs.Lines.{LinesAre, ConvertsLines, SomeAbove}
-use Rattle.converters.specs.Promises.{RunsTo}
+use Rattle.converters.specs.Promises.{decide_from, RunsTo}
+use Rattle.frames.specs.declared.Edition as Declared
+use Rattle.frames.specs.declared.Edition.TheVariants as Code
+use Rattle.frames.specs.Promises.{edition_of}
 use Rattle.std.specs.Prelude.{Err, None, Ok, Option, Result, Some, ℕ, ok_or}
 
 -- ---- What is decided goes by the reading
@@ -79,7 +82,7 @@ written_told {out} {ls} {out'} (Some n) w =
 written_told {out} {ls} {out'} None w = (λ l. absurd (omega (arith, l, whole_over w refl)), λ l. refl)
 
 module _ {f w w' out : List ℕ} where
-  pub widen_refused : {r : Result (Unit {0}) Refusal} (e : Refusal) → ReadsFile narrow f w w' r → r ≡ Err e
+  widen_refused : {r : Result (Unit {0}) Refusal} (e : Refusal) → ReadsFile narrow f w w' r → r ≡ Err e
       → RunsTo (decide_widen f (length w)) w out w' out (Err e)
   unfolding widen_read
   widen_refused {r} e h q = record {
@@ -89,7 +92,7 @@ module _ {f w w' out : List ℕ} where
     bytes = refl;
   }
 
-  pub narrow_refused : {r : Result (Unit {0}) Refusal} (e : Refusal) → ReadsFile wide f w w' r → r ≡ Err e
+  narrow_refused : {r : Result (Unit {0}) Refusal} (e : Refusal) → ReadsFile wide f w w' r → r ≡ Err e
       → RunsTo (decide_narrow f (length w)) w out w' out (Err e)
   unfolding narrow_read
   narrow_refused {r} e h q = record {
@@ -98,6 +101,11 @@ module _ {f w w' out : List ℕ} where
     words = h.long;
     bytes = refl;
   }
+
+  pub not_read : (from : Declared.Edition) {r : Result (Unit {0}) Refusal} (e : Refusal) → ReadsFile (edition_of from) f w w' r → r ≡ Err e
+      → RunsTo (decide_from from f (length w)) w out w' out (Err e)
+  not_read Code.Narrow e h q = widen_refused e h q
+  not_read Code.Wide e h q = narrow_refused e h q
 
   pub widen_written : {r : Result (Unit {0}) Refusal} {out' : List ℕ} (x : Option ℕ) → ReadsFile narrow f w w' r → r ≡ Ok tt → ConvertsLines narrow f out out' x
       → RunsTo (decide_widen f (length w)) w out w' out' (ok_or x Refusal.AnswerTooLong)

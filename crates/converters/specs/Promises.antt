@@ -3,13 +3,22 @@ use Rattle.std.specs.Prelude.{List, ◌≡◌, ℕ, length, take, Err, None, Ok,
 use Rattle.meaning.specs.Outcome.{Decided}
 use Rattle.desk.specs.Promises.{Told, Finishes}
 use Rattle.editions.specs.Converted.{decide_widen, decide_narrow}
+use Rattle.frames.specs.declared.Edition.{Edition}
 use Rattle.reading.specs.declared.Refusal.{Refusal}
+
+-- What is decided of a file of this edition, which is turned into the other one.
+abbrev pub decide_from : Edition → List ℕ → ℕ → Decided
+decide_from Edition.Narrow f words = decide_widen f words
+decide_from Edition.Wide f words = decide_narrow f words
 
 -- before the slices are cleared
 pub record RunsTo (x : Decided) (w out w' out' : List ℕ) (r : Result ℕ Refusal) : Type 0 where
   pub told : Told out out' r x
   pub words : length w' ≡ length w
   pub bytes : length out' ≡ length out
+
+abbrev pub Converts : Edition → List ℕ → List ℕ → List ℕ → List ℕ → List ℕ → Result ℕ Refusal → Type 0
+Converts from f w out w' out' r = Finishes (decide_from from f (length w)) w out w' out' r
 
 abbrev pub Widens : List ℕ → List ℕ → List ℕ → List ℕ → List ℕ → Result ℕ Refusal → Type 0
 Widens f w out w' out' r = Finishes (decide_widen f (length w)) w out w' out' r

@@ -30,7 +30,8 @@ use Rattle.reading.specs.declared.Refusal.{Refusal}
 use Rattle.desk.specs.Promises.{kept}
 use Rattle.desk.specs.Turns.{head_line, several, Continues, Follows, Place, OneOfSeveral, Answered, Answers, Turned, Turns}
 use Rattle.desk.proofs.Continuing.{no_page, continues, continues_none, continues_start, continues_to, continues_then, after_full, part_continues}
-use Rattle.std.specs.Prelude.{None, Option, Some, ℕ}
+use Rattle.std.specs.Prelude.{None, Option, Some, ℕ, MatchOption, IsSomeAnd}
+use Rattle.std.specs.Option.{option_and}
 
 -- ---- The line before
 
@@ -95,17 +96,33 @@ module _ {out out₁ : List ℕ} {page head : Option ℕ} {line : List ℕ} (f :
       λ q. no_page (sym e ∙ f.2 q),
     )
 
-    pub lines_full : (m : ℕ) → head ≡ Some m → a ≡ None → Follows out page (line ++ text) (back part) None
+    lines_full : (m : ℕ) → head ≡ Some m → a ≡ None → Follows out page (line ++ text) (back part) None
     lines_full m e q = subst (Follows out page (line ++ text) (back part)) (ap (shifted place) q) (joined m e)
 
-    pub lines_to : (m n l : ℕ) → head ≡ Some m → a ≡ Some n → l ≡ min n (length out₁ - place) → Follows out page (line ++ text) (back part) (Some (place + l))
+    lines_to : (m n l : ℕ) → head ≡ Some m → a ≡ Some n → l ≡ min n (length out₁ - place) → Follows out page (line ++ text) (back part) (Some (place + l))
     lines_to m n l e q least =
         let to = continues_to g q in
         let small : n ≤ length out₁ - place = omega (arith, to.1, length-take (length out₁ - place) (drop place out₁)) in
         subst (Follows out page (line ++ text) (back part)) (ap (shifted place) q ∙ ap (λ i. Some (place + i)) (sym (omega (arith, least, small)))) (joined m e)
 
-    pub page_full : head ≡ None → Follows out page (line ++ text) (back part) None
+    page_full : head ≡ None → Follows out page (line ++ text) (back part) None
     page_full e = (same_long, (λ n q l. after_full (f.1 n q l) e text (back part) same_long), λ q. refl)
+
+    -- both had room, or the page is full
+    pub lines_after : {z r : Option ℕ} {P : ℕ → ℕ → Type 0} → z ≡ option_and head a → MatchOption z (r ≡ None) (λ n. IsSomeAnd r (P n))
+        → ((n v : ℕ) → P n v → v ≡ place + min n (length out₁ - place)) → Follows out page (line ++ text) (back part) r
+    lines_after {z} {r} {P} e x v = go head refl a refl (subst (λ y. MatchOption y (r ≡ None) (λ n. IsSomeAnd r (P n))) e x)
+      where
+        go : (h : Option ℕ) → head ≡ h → (b : Option ℕ) → a ≡ b → MatchOption (option_and h b) (r ≡ None) (λ n. IsSomeAnd r (P n))
+            → Follows out page (line ++ text) (back part) r
+        go None q b q' y = subst (Follows out page (line ++ text) (back part)) (sym y) (page_full q)
+        go (Some m) q None q' y = subst (Follows out page (line ++ text) (back part)) (sym y) (lines_full m q q')
+        go (Some m) q (Some n) q' y = by r y
+          where
+            by : (s : Option ℕ) → IsSomeAnd s (P n) → Follows out page (line ++ text) (back part) s
+            by None i = absurd i
+            by (Some l) i = subst (Follows out page (line ++ text) (back part)) (ap Some (sym (v n l i)))
+                (lines_to m n (min n (length out₁ - place)) q q' refl)
 
 -- ---- The run and its lines
 

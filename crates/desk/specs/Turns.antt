@@ -46,6 +46,12 @@ pub record Continues (out : List ℕ) (at : ℕ) (text out' : List ℕ) (r : Opt
 abbrev pub Follows : List ℕ → Option ℕ → List ℕ → List ℕ → Option ℕ → Type 0
 Follows out page text out' r = (length out' ≡ length out) × ((n : ℕ) → page ≡ Some n → n ≤ length out → Continues out n text out' r) × (page ≡ None → r ≡ None)
 
+-- The line before is written, if there are several.
+pub record Heads (k next end : ℕ) (out : List ℕ) (page : Option ℕ) (out' : List ℕ) (r : Option ℕ) : Type 0 where
+  pub there_are : Bool
+  pub tells : OneOfSeveral k next end there_are
+  pub follows : Follows out page (head_line there_are k) out' r
+
 -- ---- The run and its lines
 
 -- The visits ran out; or the answer's lines stand at the start of the slice, and the schema stands as before.

@@ -1,11 +1,11 @@
-// The whole call: a file, a work slice and an answer slice.
+// The whole call: a file, a work slice and an answer slice, three parameters as document 01 and C have them.
 #![tactic(auto)]
 
 ghost use Rattle.std.specs.Prelude.{[], ◌∷◌, ◌≡◌, ◌-◌, ◌<◌, ◌≤◌, length};
 ghost use Rattle.meaning.specs.Refusal.{number};
 ghost use Rattle.meaning.specs.Answer.{hex_line};
 ghost use Rattle.reading.specs.Promises.{refusal};
-ghost use Rattle.desk.specs.Turns.{head_line, Follows, Place, OneOfSeveral, Answers, Turns};
+ghost use Rattle.desk.specs.Turns.{OneOfSeveral, Heads, Place, Answers, Turns};
 ghost use Rattle.desk.specs.At.{stop_at};
 ghost use Rattle.desk.specs.Promises.{RunsQueries, RunsFile, Clears, ChecksFile, ChecksAt};
 
@@ -20,7 +20,7 @@ pub struct Settled {
     pub outcome: Result<usize, Refusal>,
 }
 
-// How a call at a desk ends, and the group after it.
+// How a call at a desk ends, and the group after it. No generic of both: it would call account and group by one name.
 #[derive(Drop)]
 pub struct Desked {
     pub group: Group,
@@ -45,21 +45,14 @@ fn is_one_of_several(k: u32, next: usize, end: usize) -> bool
 }
 
 // The line with the query's number, if there are several.
-fn heading(out: &mut [u8], page: Option<usize>, k: u32, several: bool) -> Option<usize>
-    ensures { Follows out.old page (head_line several k) out.new result }
+fn heading(out: &mut [u8], page: Option<usize>, k: u32, next: usize, end: usize) -> Option<usize>
+    ensures { Heads k next end out.old page out.new result }
 {
-    if several {
+    if is_one_of_several(k, next, end) {
         answer::number_line(out, page?, k)
     } else {
         page
     }
-}
-
-// The visits that a run made, by those that it was given and those that it left.
-pub fn made(ceiling: u32, left: u32) -> u32
-    ensures { result ≡ ceiling - left }
-{
-    ceiling.saturating_sub(left)
 }
 
 // The run of the query that is loaded, and its answer from the start of the slice on.
@@ -72,7 +65,7 @@ fn answer_query(
     ensures { Answers file.now work.old ceiling out.old work.new out.new result }
 {
     let left = checker::query(file, work, Until::TheEnd, ceiling, out)?;
-    let visits = made(ceiling, left);
+    let visits = ceiling.saturating_sub(left);
     Some((answer::write(file, work, out, visits), visits))
 }
 
@@ -89,18 +82,11 @@ fn one_query(
     ensures { Turns file.now at k ceiling work.old out.old page work.new out.new result }
 {
     let next = loading::load(file, at, work);
-    let several = is_one_of_several(k, next, file.len());
-    let head = heading(out, page, k, several);
+    let head = heading(out, page, k, next, file.len());
     let from = place(head, out.len());
     let rest = out.len() - from;
     let (lines, visits) = answer_query(file, work, ceiling, &mut out[from..])?;
-    match head {
-        Some(_) => match lines {
-            Some(n) => Some((next, Some(from + n.min(rest)), visits)),
-            None => Some((next, None, visits)),
-        },
-        None => Some((next, None, visits)),
-    }
+    Some((next, head.and(lines).map(|n| from + n.min(rest)), visits))
 }
 
 // Why a query that ran out of visits is refused.
@@ -114,8 +100,9 @@ fn stop(ceiling: u32) -> Refusal
     }
 }
 
-// The queries of a file that was read, one after the other, each under the ceiling that those before it left: 11 or 16 of any of them, then
-// 12 of them all.
+// The queries of a file that was read, one after the other, each under the ceiling that those before it left: refusal
+// 11 or 16 of any of them, then 12 of them all. A file that was read is short: that is why `k` has room to grow. It is
+// owed by `run`, which has just read it: a type for such a file would be made for this one call.
 fn all_queries(file: &[u8], work: &mut [u32], out: &mut [u8], account: Account) -> Settled
     requires { length file.now ≤ 65536 }
     ensures { RunsQueries file.now work.old out.old account out.new result }
@@ -124,6 +111,8 @@ fn all_queries(file: &[u8], work: &mut [u32], out: &mut [u8], account: Account) 
     let mut at: usize = 0;
     let mut k: u32 = 0;
     let mut page = Some(0);
+    // No `for`: where the next query starts is what `load` gives back. The walks of lamp and seek end at other places
+    // and with other things in hand: one walk for all would be a closure over the slices.
     while at < file.len() {
         let ceiling = charged.next_ceiling();
         let Some((next, written, visits)) = one_query(file, at, k, ceiling, work, out, page) else {
@@ -196,28 +185,11 @@ pub fn check_at(g: Group, desk: usize, file: &[u8], work: &mut [u32], out: &mut 
     }
 }
 
+#[tactic(auto, unfolding(meaning::specs::Refusal::number))]
 pub fn refusal_number(e: Refusal) -> u8
     ensures { result ≡ number (refusal e) }
 {
-    match e {
-        Refusal::WorkTooShort => 1,
-        Refusal::FileTooLong => 2,
-        Refusal::MalformedLine => 3,
-        Refusal::MisplacedKind => 4,
-        Refusal::TooMany => 5,
-        Refusal::MalformedFrame => 6,
-        Refusal::BrokenText => 7,
-        Refusal::NameGivenBefore => 8,
-        Refusal::BadReference => 9,
-        Refusal::RepeatedKey => 10,
-        Refusal::TooManyVisits => 11,
-        Refusal::AnswerTooLong => 12,
-        Refusal::TooManyQueries => 13,
-        Refusal::NumberTooWide => 14,
-        Refusal::TallyTooLarge => 15,
-        Refusal::CeilingPassed => 16,
-        Refusal::OutsideTheRules => 17,
-    }
+    e as u8
 }
 
 // The line that the program prints for a refusal: 0f, its number, LF.
@@ -225,7 +197,7 @@ pub fn refusal_line(e: Refusal) -> [u8; 5]
     ensures { result ≡ hex_line (0x0f ∷ number (refusal e) ∷ []) }
 {
     let n = refusal_number(e);
-    let high = writer::hex_digit((n / 16) as u32);
-    let low = writer::hex_digit((n % 16) as u32);
+    let high = writer::hex_digit(n / 16);
+    let low = writer::hex_digit(n % 16);
     [48, 102, high, low, 10]
 }

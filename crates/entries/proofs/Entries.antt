@@ -1,6 +1,6 @@
--- The n-th entry of a file. It is refused as the full check is, its length left aside (`sought_refused`); where it is found, a list of demand 3's calls
--- leads to it and `unify` ends there (`sought_led`); and a query's run that is to last until it ends right before it, with its sides and bindings
--- (`stops_at`).
+-- The n-th entry of a file. It is refused as the full check is, its length left aside (`sought_refused`); where it is
+-- found, a list of demand 3's calls leads to it and `unify` ends there (`sought_led`); and a query's run that is to
+-- last until it ends right before it, with its sides and bindings (`stops_at`).
 use mathlib.Core.List.{List, [], ◌∷◌, ◌++◌}
 use mathlib.Core.Logic.{◌↔◌}
 use mathlib.Core.Path.{◌≡◌, refl, sym, ap, ◌∙◌, subst}
@@ -72,7 +72,8 @@ module _ (schema : Schema) (a : Ast) where
   abbrev run_to : ℕ → Step Ty
   run_to n = query schema a.nodes a.query (begin_until (entry n) max_visits (length a.nodes))
 
-  -- Where it stopped: before the n-th entry of the whole run, whose sides were noted and whose bindings are those of that moment.
+  -- Where it stopped: before the n-th entry of the whole run, whose sides were noted and whose bindings are those of
+  -- that moment.
   pub record StopsAt (n : ℕ) : Type 0 where
     pub at : Checker
     pub is : run_to n ≡ out at

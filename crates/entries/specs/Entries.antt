@@ -1,6 +1,6 @@
--- Card 12: "the n-th entry to `unify` from outside it, counted from 0 over the file's run". The run of a file is its queries' runs in order, with one
--- count; each entry has its sides and the bindings right before it. Entries that fail, that are rolled back later, or that have Error on a side are
--- entries too.
+-- Card 12: "the n-th entry to `unify` from outside it, counted from 0 over the file's run". The run of a file is its
+-- queries' runs in order, with one count; each entry has its sides and the bindings right before it. Entries that fail,
+-- that are rolled back later, or that have Error on a side are entries too.
 use Rattle.std.specs.Prelude.{true, false, List, [], ◌∷◌, ◌++◌, ℕ, zero, suc, ltb, None, Option, Some}
 use Rattle.unification.specs.Calls.{Entry}
 use Rattle.meaning.specs.Syntax.{Ast}

@@ -1,4 +1,5 @@
--- Reading a line from its start: the bytes read so far, in front of what the line holds from here on, are what it holds.
+-- Reading a line from its start: the bytes read so far, in front of what the line holds from here on, are what it
+-- holds.
 use mathlib.Core.Bool.{Bool, true, false}
 use mathlib.Core.List.{List, [], ◌∷◌, ◌++◌, append-nil}
 use mathlib.Core.Path.{◌≡◌, refl, sym, ap, ◌∙◌}

@@ -1,5 +1,5 @@
--- The readers of frames by places of the bytes: a reader of one size gives what stands at its place and goes on behind it, and a list of
--- such items is read exactly where their size divides what is left.
+-- The readers of frames by places of the bytes: a reader of one size gives what stands at its place and goes on behind
+-- it, and a list of such items is read exactly where their size divides what is left.
 use mathlib.Core.Bool.{Bool, true, false}
 use mathlib.Core.List.{List, [], ◌∷◌}
 use mathlib.Core.Path.{◌≡◌, refl, sym, ap, ◌∙◌}

@@ -1,5 +1,5 @@
--- Whether content is a frame, as a test of its length: a reader of one size wants that size, a list wants a multiple of its items', and a
--- byte that says how to go on picks the test from a list.
+-- Whether content is a frame, as a test of its length: a reader of one size wants that size, a list wants a multiple of
+-- its items', and a byte that says how to go on picks the test from a list.
 use mathlib.Core.Bool.{Bool, true, false}
 use mathlib.Core.List.{List, [], ◌∷◌}
 use mathlib.Core.Path.{◌≡◌, refl, sym, ap, ◌∙◌}
@@ -8,7 +8,6 @@ use native.Mathlib.Omega.{arith}
 use lib.Dec.{eqb, ltb, leb}
 use lib.ListN.{length, get_or, drop, drop_of_length-le, get_or-eq_default}
 use borrow.Author.Tests.{ne_eqb, eqb-true, eqb-false, ltb-true, ltb-false, le-leb, lt-leb}
-use Rattle.text.specs.Utf8.{both}
 use Rattle.sigla_hex.proofs.Line.{from_here}
 use Rattle.meaning.specs.Frame.{Edition, limits, name, schema_type, predicate, node, query, the_limits, a_type, a_predicate, a_node, the_query, Got, got, fails}
 use Rattle.meaning.specs.Frame.{Reader, and_then, nothing, one, pair, triple, byte, two, many, entry, choice, type_shapes, value_types}
@@ -18,7 +17,7 @@ use Rattle.frames.proofs.Readers.{Sized, sized_nothing, sized_byte, sized_two, s
 use Rattle.frames.proofs.Readers.{sized_alternative, many_end, many_stop, items_test}
 use Rattle.frames.specs.Items.{statement_at}
 use Rattle.frames.proofs.Statements.{choice_at, choice_past, statement_none, statement_lacks, statements_step}
-use Rattle.std.specs.Prelude.{Some, slice_get, slice_range}
+use Rattle.std.specs.Prelude.{◌&&◌, Some, slice_get, slice_range}
 use Rattle.std.proofs.lemmas.List.{take_all, length-drop}
 
 -- ---- One reader
@@ -202,7 +201,7 @@ module _ (ed : Edition) (s : List ℕ) where
   pub predicate_short : length s < 6 → is_frame ed (Some predicate) (drop 1 s) ≡ false
   predicate_short h = predicate_value ∙ value_short (omega arith)
 
-  pub body_test : (i : ℕ) → wholly (head_and_body (drop i s)) ≡ both (leb (i + 2) (length s)) (wholly (many statement (drop (i + 2) s)))
+  pub body_test : (i : ℕ) → wholly (head_and_body (drop i s)) ≡ (leb (i + 2) (length s) && wholly (many statement (drop (i + 2) s)))
   unfolding head_and_body pair
   body_test i =
       after_test
@@ -210,16 +209,16 @@ module _ (ed : Edition) (s : List ℕ) where
       s
       i
       (λ n. one (λ body. record { head = n; body = body }) (many statement))
-      (both (leb (i + 2) (length s)) (wholly (many statement (drop (i + 2) s))))
-      (λ h. one_test _ (many statement) (drop (i + 2) s) ∙ ap (λ t. both t (wholly (many statement (drop (i + 2) s)))) (sym (le-leb (i + 2) (length s) h)))
-      (λ h. ap (λ t. both t (wholly (many statement (drop (i + 2) s)))) (lt-leb (i + 2) (length s) h))
+      (leb (i + 2) (length s) && wholly (many statement (drop (i + 2) s)))
+      (λ h. one_test _ (many statement) (drop (i + 2) s) ∙ ap (λ t. (t && wholly (many statement (drop (i + 2) s)))) (sym (le-leb (i + 2) (length s) h)))
+      (λ h. ap (λ t. (t && wholly (many statement (drop (i + 2) s)))) (lt-leb (i + 2) (length s) h))
 
-  pub query_test : is_frame ed (Some query) (drop 1 s) ≡ both (leb 3 (length s)) (wholly (many statement (drop 3 s)))
+  pub query_test : is_frame ed (Some query) (drop 1 s) ≡ (leb 3 (length s) && wholly (many statement (drop 3 s)))
   unfolding frame_of frame
   query_test = one_test the_query head_and_body (drop 1 s) ∙ body_test 1
 
   pub query_body : 3 ≤ length s → wholly (many statement (slice_range s 3 (length s))) ≡ is_frame ed (Some query) (drop 1 s)
-  query_body h = ap (λ t. wholly (many statement t)) (to_end s 3) ∙ sym (query_test ∙ ap (λ t. both t (wholly (many statement (drop 3 s)))) (le-leb 3 (length s) h))
+  query_body h = ap (λ t. wholly (many statement t)) (to_end s 3) ∙ sym (query_test ∙ ap (λ t. (t && wholly (many statement (drop 3 s)))) (le-leb 3 (length s) h))
 
   -- 00 to 10
   abbrev pub node_tests : List Bool
@@ -227,7 +226,7 @@ module _ (ed : Edition) (s : List ℕ) where
       eqb (length s) 10 ∷ eqb (length s) 10 ∷ eqb (length s) 10 ∷ eqb (length s) 12 ∷
       eqb (length s) 10 ∷ eqb (length s) 10 ∷ eqb (length s) 12 ∷ eqb (length s) 13 ∷
       eqb ((length s - 10) % 4) 0 ∷ eqb (length s) 14 ∷ eqb (length s) 12 ∷ eqb ((length s - 10) % 2) 0 ∷
-      both (leb 12 (length s)) (wholly (many statement (drop 12 s))) ∷ eqb (length s) (10 + (reference_size ed + 2)) ∷ eqb ((length s - 10) % 2) 0 ∷
+      (leb 12 (length s) && wholly (many statement (drop 12 s))) ∷ eqb (length s) (10 + (reference_size ed + 2)) ∷ eqb ((length s - 10) % 2) 0 ∷
       eqb (length s) 10 ∷
       eqb (length s) 14 ∷ []
 
@@ -266,7 +265,7 @@ module _ (ed : Edition) (s : List ℕ) where
 
   pub node_body : 12 ≤ length s → byte_w s 9 ≡ 12 → wholly (many statement (slice_range s 12 (length s))) ≡ is_frame ed (Some node) (drop 1 s)
   node_body h e =
-      ap (λ t. wholly (many statement t)) (to_end s 12) ∙ sym (ap (λ t. both t (wholly (many statement (drop 12 s)))) (le-leb 12 (length s) h))
+      ap (λ t. wholly (many statement t)) (to_end s 12) ∙ sym (ap (λ t. (t && wholly (many statement (drop 12 s)))) (le-leb 12 (length s) h))
       ∙ sym (node_test (omega arith) ∙ ap (λ b. get_or node_tests b false) e)
 
   pub node_short : length s < 10 → is_frame ed (Some node) (drop 1 s) ≡ false

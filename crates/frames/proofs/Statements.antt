@@ -1,4 +1,5 @@
--- Statements by places of the bytes: a tag says how many bytes one takes, and a list of them is read exactly where they fill what is left.
+-- Statements by places of the bytes: a tag says how many bytes one takes, and a list of them is read exactly where they
+-- fill what is left.
 use Rattle.std.specs.Prelude.{slice_get}
 use mathlib.Core.Bool.{Bool, true, false}
 use mathlib.Core.List.{List, [], ◌∷◌}

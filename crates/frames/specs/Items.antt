@@ -1,4 +1,5 @@
--- Parts of a frame by their places: fields and alternatives of a type, items of one size, and statements that fill a line.
+-- Parts of a frame by their places: fields and alternatives of a type, items of one size, and statements that fill a
+-- line.
 use Rattle.std.specs.Prelude.{List, [], ◌∷◌, ◌≡◌, ℕ, zero, suc, ◌+◌, ◌<◌, ◌≤◌, length, get_or}
 use Rattle.meaning.specs.Syntax.{Field, QueryStmt}
 use Rattle.meaning.specs.Frame.{Alternative}

@@ -5,7 +5,8 @@ ghost use Rattle.frames.specs.Promises.{known, stands, byte_w, half_w, full_w, e
 
 use crate::{Edition, Kind};
 
-// A row for each kind that came before, a column for each that comes.
+// A row for each kind that came before, a column for each that comes: a table as document 01 asks, read by the places
+// that `as` gives the kinds, as no `From` leads from an enum to usize.
 const FOLLOWS: [[bool; 6]; 6] = [
     [false, true, true, true, true, true], // limits
     [false, true, true, true, true, true], // name
@@ -15,6 +16,7 @@ const FOLLOWS: [[bool; 6]; 6] = [
     [false, false, false, false, true, false], // query
 ];
 
+// None says it all, so no `TryFrom`: its error would be a type with nothing in it, which each caller drops.
 #[tactic(auto, unfolding(meaning::specs::Frame::kind_of), using(crate::proofs::Following::no_kind))]
 pub fn kind_of(b: u8) -> Option<Kind>
     ensures { known result ≡ kind_of b }
@@ -43,7 +45,8 @@ pub fn may_stand(previous: Option<Kind>, kind: Option<Kind>) -> bool
     }
 }
 
-// Numbers, with 0 for each byte past the end.
+// Numbers, with 0 for each byte past the end, so no array is cut out for `from_be_bytes`. Each is two of the one before
+// it: one function over the size would be a loop with a bound of its own.
 pub fn byte(s: &[u8], i: usize) -> u32
     ensures { (result ≡ byte_w s.now i) × (result < 256) }
 {
@@ -91,7 +94,8 @@ pub fn reference(s: &[u8], i: usize, edition: Edition) -> u32
     }
 }
 
-// How many bytes a statement takes by its first; none for a byte that starts none.
+// How many bytes a statement takes by its first; none for a byte that starts none. The byte is the file's own, and
+// nothing but the size is asked of it, so no enum stands between.
 fn statement_size(tag: u8) -> Option<usize>
     ensures { MatchOption result (size_w tag ≡ 0) (λ n. (n ≡ size_w tag) × (0 < n) × (n ≤ 5)) }
 {
@@ -102,6 +106,7 @@ fn statement_size(tag: u8) -> Option<usize>
     }
 }
 
+// Each takes three bytes or five, so the rest is walked, and not chunks of one size.
 #[tactic(auto, using(crate::proofs::Shapes::filling))]
 fn are_statements(s: &[u8]) -> bool
     ensures { result ≡ wholly (many statement s.now) }
@@ -173,7 +178,8 @@ fn query_frame(s: &[u8]) -> bool
     3 <= s.len() && are_statements(&s[3..])
 }
 
-// Whether the line, its kind byte first, has its kind's form.
+// Whether the line, its kind byte first, has its kind's form. The kinds are these six, so an arm tells each: functions
+// handed in would hide that none is left out.
 #[tactic(auto, using(crate::proofs::Shapes::kinds))]
 pub fn is_frame(s: &[u8], kind: Option<Kind>, edition: Edition) -> bool
     ensures { result ≡ is_frame (edition_of edition) (known kind) (drop 1 s.now) }

@@ -15,7 +15,8 @@ fn pair(file: &[u8], i: usize) -> Option<u8>
 }
 
 // The line at a place, decoded into `line`: how many bytes it has, and where the next one starts; none under condition
-// 3, and past the end.
+// 3, and past the end. By places: over `chunks(2)` it took up to half as long again, and the reading of a file 3 to 8 %
+// longer; the bar is what reading took before (docs/PERFORMANCE.md, style `long-file`).
 #[tactic(auto, using(crate::proofs::Decoding::walking))]
 pub fn decode(file: &[u8], at: usize, line: &mut [u8; 512]) -> Option<(usize, usize)>
     ensures { Decodes file.now at line.new result }

@@ -1,8 +1,7 @@
 -- A seed digit by digit: what the digits from here on go to is what all of them go to.
 use Rattle.std.proofs.Common.{◌≡◌, ℕ, suc, ◌+◌, ◌-◌, ◌*◌, ◌<◌, ◌≤◌, Bool, true, false, ltb, leb, List, [], ◌∷◌, length, get_or, drop, None, Some, refl, ap, add-one, arith, drop_of_length-le, drop-cons, lt-ltb, le-leb, leb-true, ltb-true}
-use Rattle.text.specs.Utf8.{both}
-use Rattle.text.proofs.Every.{both_left, both_right}
-use Rattle.meaning.proofs.Tests.{both_true}
+use Rattle.std.specs.Prelude.{◌&&◌}
+use Rattle.std.proofs.lemmas.Bool.{and_parts, and_from}
 use Rattle.generator.specs.Promises.{digits_from, decimal}
 
 pub digits_start : (s : List ℕ) → (length s ≡ 0 → ⊥) → digits_from 0 (drop 0 s) ≡ decimal s
@@ -17,7 +16,7 @@ digits_none (b ∷ s) h = absurd (omega arith)
 
 -- The digit b goes on from v.
 goes_on : ℕ → ℕ → Bool
-goes_on v b = both (both (leb 48 b) (leb b 57)) (ltb (10 * v + (b - 48)) 0x1_0000_0000)
+goes_on v b = (leb 48 b && leb b 57) && ltb (10 * v + (b - 48)) 0x1_0000_0000
 
 module _ (s : List ℕ) (v i : ℕ) (l : i < length s) where
   here : drop i s ≡ get_or s i 0 ∷ drop (suc i) s
@@ -28,7 +27,7 @@ module _ (s : List ℕ) (v i : ℕ) (l : i < length s) where
   unfolding digits_from
   digits_next a b v' e c =
       let d = get_or s i 0 in
-      let on = both_true _ _ (both_true _ _ (le-leb 48 d a) (le-leb d 57 b)) (lt-ltb (10 * v + (d - 48)) 0x1_0000_0000 (rw e at c)) in
+      let on = and_from _ _ (and_from _ _ (le-leb 48 d a) (le-leb d 57 b)) (lt-ltb (10 * v + (d - 48)) 0x1_0000_0000 (rw e at c)) in
       rw (here, digits_from, on, e, add-one i)
 
   pub digits_stop : (48 ≤ get_or s i 0 → get_or s i 0 ≤ 57 → 10 * v + (get_or s i 0 - 48) < 0x1_0000_0000 → ⊥) → digits_from v (drop i s) ≡ None
@@ -38,8 +37,8 @@ module _ (s : List ℕ) (v i : ℕ) (l : i < length s) where
       go : (t : Bool) → goes_on v (get_or s i 0) ≡ t → digits_from v (get_or s i 0 ∷ drop (suc i) s) ≡ None
       go false e = rw (e, digits_from)
       go true e =
-          let d = both_left _ _ e in
-          absurd (h (leb-true _ _ (both_left _ _ d)) (leb-true _ _ (both_right _ _ d)) (ltb-true _ _ (both_right _ _ e)))
+          let d = (and_parts _ _ e).0 in
+          absurd (h (leb-true _ _ (and_parts _ _ d).0) (leb-true _ _ (and_parts _ _ d).1) (ltb-true _ _ (and_parts _ _ e).1))
 
 pub digits_end : (s : List ℕ) (v i : ℕ) → length s ≤ i → digits_from v (drop i s) ≡ Some v
 unfolding digits_from

@@ -1,9 +1,9 @@
 -- What each line of the code is in the rule: the schema's by their numbers, a node by its place in a block, a query by its row.
-use Rattle.std.proofs.Common.{◌≡◌, ℕ, suc, ◌+◌, ◌-◌, ◌*◌, ◌%◌, ◌<◌, ◌≤◌, Bool, true, false, eqb, ltb, leb, ◌⊎◌, List, [], ◌∷◌, ◌++◌, map, length, get_or, drop, None, Option, Some, sym, refl, ap, ◌∙◌, subst, ⊎_elim, append_assoc, add-one, arith, drop_of_length-le, drop-cons, ltb-true, eq-eqb, ne_eqb, eqb-true, leb-true}
+use Rattle.std.proofs.Common.{◌≡◌, ℕ, suc, ◌+◌, ◌-◌, ◌*◌, ◌%◌, ◌<◌, ◌≤◌, Bool, true, false, eqb, leb, ◌⊎◌, List, [], ◌∷◌, ◌++◌, map, length, get_or, drop, None, Option, Some, sym, refl, ap, ◌∙◌, subst, ⊎_elim, append_assoc, add-one, arith, drop_of_length-le, drop-cons, eq-eqb, ne_eqb, eqb-true, leb-true}
 use mathlib.Core.List.{flat_map}
 use Rattle.std.proofs.lemmas.List.{get_or-map}
-use Rattle.text.specs.Utf8.{both}
-use Rattle.text.proofs.Every.{below, every, both_left, both_right}
+use Rattle.std.specs.Prelude.{◌&&◌}
+use Rattle.std.proofs.lemmas.Bool.{and_parts, agree_below, agree_below_at}
 use Rattle.meaning.specs.Syntax.{ExprKind}
 use Rattle.meaning.specs.Diag.{ascii}
 use Rattle.meaning.specs.Frame.{wide, kind_byte, a_record, Frame, a_name, a_node, frame_kind}
@@ -19,7 +19,8 @@ use Rattle.writer.proofs.Writing.{writes_then, writes_full, writes_as}
 use Rattle.writer.proofs.Digits.{hex_append, line_is}
 use Rattle.generator.specs.Promises.{as_limits, as_predicate, joined, tables, content}
 use Rattle.generator.specs.declared.TheConstants.{LINES, SLOTS}
-use Rattle.generator.proofs.Rows.{from_at, from_long, content_at}
+use Rattle.generator.proofs.Rows.{from_at, content_at}
+use Rattle.testload.proofs.Lawful.{length_from}
 
 -- ---- Digits of a line in pieces
 
@@ -76,32 +77,26 @@ chosen_long = refl
 
 right : ℕ → Bool
 right l =
-    both (both (leb (table_at l) 4) (ltb (kind_at l) 256))
-    (elim (eqb (table_at l) 1) [ true ↦ both (leb 1 l) (leb l 16) | false ↦ eqb (get_or chosen_places (l - 16) 0) l ])
+    leb (table_at l) 4
+    && (elim (eqb (table_at l) 1) [ true ↦ (leb 1 l && leb l 16) | false ↦ eqb (get_or chosen_places (l - 16) 0) l ])
 
-all_right : below right 27 ≡ true
-unfolding right kind_at table_at chosen_places
+all_right : agree_below right (λ _. true) 27 ≡ true
+unfolding right table_at chosen_places
 all_right = refl
 
 module _ (l : ℕ) (h : l < 27) where
-  places : both (leb (table_at l) 4) (ltb (kind_at l) 256) ≡ true
-  unfolding right
-  places = both_left (both (leb (table_at l) 4) (ltb (kind_at l) 256)) _ (every right 27 all_right l h)
-
   pub table_small : table_at l ≤ 4
-  table_small = leb-true (table_at l) 4 (both_left (leb (table_at l) 4) _ places)
-
-  pub kind_small : kind_at l < 256
-  kind_small = ltb-true (kind_at l) 256 (both_right (leb (table_at l) 4) _ places)
-
-  other : elim (eqb (table_at l) 1) [ true ↦ both (leb 1 l) (leb l 16) | false ↦ eqb (get_or chosen_places (l - 16) 0) l ] ≡ true
   unfolding right
-  other = both_right (both (leb (table_at l) 4) (ltb (kind_at l) 256)) _ (every right 27 all_right l h)
+  table_small = leb-true (table_at l) 4 (and_parts (leb (table_at l) 4) _ (agree_below_at right (λ _. true) 27 l all_right h)).0
+
+  other : elim (eqb (table_at l) 1) [ true ↦ (leb 1 l && leb l 16) | false ↦ eqb (get_or chosen_places (l - 16) 0) l ] ≡ true
+  unfolding right
+  other = (and_parts (leb (table_at l) 4) _ (agree_below_at right (λ _. true) 27 l all_right h)).1
 
   pub fixed_within : table_at l ≡ 1 → (1 ≤ l) × (l ≤ 16)
   fixed_within e =
-      let b : both (leb 1 l) (leb l 16) ≡ true = rw (eq-eqb (table_at l) 1 e) at other in
-      (leb-true 1 l (both_left (leb 1 l) (leb l 16) b), leb-true l 16 (both_right (leb 1 l) (leb l 16) b))
+      let b : (leb 1 l && leb l 16) ≡ true = rw (eq-eqb (table_at l) 1 e) at other in
+      (leb-true 1 l (and_parts (leb 1 l) (leb l 16) b).0, leb-true l 16 (and_parts (leb 1 l) (leb l 16) b).1)
 
   chosen_place : (table_at l ≡ 1 → ⊥) → get_or chosen_places (l - 16) 0 ≡ l
   chosen_place n =
@@ -183,7 +178,7 @@ module _ (ws : List ℕ) where
   fixed_line l w =
       subst Fixed {y = l}
       (from_at 1 16 (l - 1) (omega (arith, w)) ∙ omega (arith, w))
-      (all_at Fixed (from 1 16) (l - 1) 0 fixed_lines (omega (arith, w, from_long 1 16)))
+      (all_at Fixed (from 1 16) (l - 1) 0 fixed_lines (omega (arith, w, length_from 1 16)))
 
   chosen_line : (l : ℕ) → l < 27 → (table_at l ≡ 1 → ⊥) → choice ws l < 16 → HasRow l (choice ws l)
   unfolding Chosen
@@ -250,7 +245,7 @@ module _ (ws : List ℕ) where
   slot_is i =
       subst (SlotIs i) {y = i % 8}
       (from_at 0 8 (i % 8) (omega arith) ∙ omega arith)
-      (all_at (SlotIs i) (from 0 8) (i % 8) 0 (all_slots i) (omega (arith, from_long 0 8)))
+      (all_at (SlotIs i) (from 0 8) (i % 8) 0 (all_slots i) (omega (arith, length_from 0 8)))
 
   pub node_content : (i v : ℕ) → v < 16 → content i (16 * get_or slots (i % 8) 0 + v) ≡ as_expr wide (expr_at ws i v)
   unfolding SlotIs expr_at

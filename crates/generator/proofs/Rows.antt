@@ -10,11 +10,6 @@ use Rattle.writer.proofs.Writing.{writes_then, writes_full, writes_as}
 use Rattle.writer.proofs.Digits.{hex_append, line_is}
 use Rattle.generator.specs.Promises.{cell_bytes, tables, joined, content}
 
-pub from_long : (i n : ℕ) → length (from i n) ≡ n
-unfolding from
-from_long i zero = refl
-from_long i (suc n) = ap suc (from_long (suc i) n)
-
 pub from_at : (i n k : ℕ) → k < n → get_or (from i n) k 0 ≡ i + k
 unfolding from
 from_at i zero k h = absurd (not-suc-le-zero h)
@@ -29,14 +24,15 @@ plain i x n m = sym (rw (ne_eqb x 254 n, ne_eqb x 253 m, cell_bytes))
 
 -- What is left: to write the rest from here is to write the whole from the start.
 pub record Left (out₀ : List ℕ) (at : ℕ) (whole out : List ℕ) (to : ℕ) (rest : List ℕ) : Type 0 where
+  pub long : length out ≡ length out₀
   pub go : (out' : List ℕ) (r : Option ℕ) → Writes out to rest out' r → Writes out₀ at whole out' r
 
 pub left_start : (out : List ℕ) (at : ℕ) (whole rest : List ℕ) → rest ≡ whole → Left out at whole out at rest
-left_start out at whole rest e = record { go = λ out' r f. writes_as e f }
+left_start out at whole rest e = record { long = refl; go = λ out' r f. writes_as e f }
 
 module _ {out₀ : List ℕ} {at : ℕ} {whole out : List ℕ} {to : ℕ} {rest : List ℕ} (g : Left out₀ at whole out to rest) where
   pub left_next : (a b : List ℕ) → rest ≡ a ++ b → {mid : List ℕ} {r : Option ℕ} {n : ℕ} → Writes out to a mid r → r ≡ Some n → Left out₀ at whole mid n b
-  left_next a b e f p = record { go = λ out' r' h. g.go out' r' (writes_as (sym e) (writes_then f p h)) }
+  left_next a b e f p = record { long = f.long ∙ g.long; go = λ out' r' h. g.go out' r' (writes_as (sym e) (writes_then f p h)) }
 
   pub left_full : (a b : List ℕ) → rest ≡ a ++ b → {mid : List ℕ} {r : Option ℕ} → Writes out to a mid r → r ≡ None → Writes out₀ at whole mid None
   left_full a b e {mid} f p = g.go mid None (writes_as (sym e) (writes_full f p b))

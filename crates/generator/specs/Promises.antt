@@ -1,6 +1,5 @@
 -- What the functions of src/ promise: `make` writes the file of the seed, as the rule of crates/testload/specs/Rule.antt has it.
-use Rattle.std.specs.Prelude.{◌≡◌, ℕ, ◌+◌, ◌-◌, ◌*◌, ◌≤◌, true, false, List, [], ◌∷◌, ◌++◌, map, length, ◌==◌, nat_le, nat_lt, slice_index_or, None, Option, Some}
-use Rattle.text.specs.Utf8.{both}
+use Rattle.std.specs.Prelude.{◌&&◌, ◌≡◌, ℕ, ◌+◌, ◌-◌, ◌*◌, ◌≤◌, true, false, List, [], ◌∷◌, ◌++◌, map, length, ◌==◌, nat_le, nat_lt, slice_index_or, None, Option, Some}
 use Rattle.meaning.specs.Refusal.{answer_too_long}
 use Rattle.meaning.specs.Frame.{wide}
 use Rattle.meaning.specs.Answer.{bytes₂}
@@ -14,7 +13,7 @@ use Rattle.testload.specs.Rule.{Limits, limits, names, base, simple, compound, p
 -- the number that decimal digits go on to from v; none where one is no digit, or the number has more than 32 bits
 unfoldable pub digits_from : ℕ → List ℕ → Option ℕ
 digits_from v [] = Some v
-digits_from v (b ∷ s) = elim (both (both (nat_le 48 b) (nat_le b 57)) (nat_lt (10 * v + (b - 48)) 0x1_0000_0000)) [ true ↦ digits_from (10 * v + (b - 48)) s | false ↦ None ]
+digits_from v (b ∷ s) = elim ((nat_le 48 b && nat_le b 57) && nat_lt (10 * v + (b - 48)) 0x1_0000_0000) [ true ↦ digits_from (10 * v + (b - 48)) s | false ↦ None ]
 
 unfoldable pub decimal : List ℕ → Option ℕ
 unfolding digits_from

@@ -14,7 +14,7 @@ ghost use Rattle.generator.specs.Promises.{decimal, cell_bytes, content, Makes};
 
 // ---- Seeds
 
-// A seed in decimal digits.
+// A seed in decimal digits. `parse` would take a plus sign too.
 pub fn read_seed(s: &[u8]) -> Option<u32>
     ensures { result ≡ decimal s.now }
 {
@@ -55,7 +55,7 @@ fn fill(seed: u32, w: &mut [u32])
     }
 }
 
-// One of sixteen, by the four high bits of its word.
+// One of sixteen, by the four high bits of its word. `as` here and below: no `From` leads from u32 to usize, or back.
 #[tactic(auto, unfolding(testload::specs::Rule::choice))]
 fn choice(w: &[u32; 1440], c: usize) -> usize
     requires { c < 160 }
@@ -65,7 +65,7 @@ fn choice(w: &[u32; 1440], c: usize) -> usize
     (w[1280 + c] >> 28) as usize
 }
 
-// ---- Rows
+// ---- Rows. `out` and `at` are two parameters: crate writer says why.
 
 fn cell(out: &mut [u8], at: usize, x: u8, i: u32) -> Option<usize>
     ensures { Writes out.old at (hex_of (cell_bytes i x)) out.new result }
@@ -73,13 +73,13 @@ fn cell(out: &mut [u8], at: usize, x: u8, i: u32) -> Option<usize>
     match x {
         0xfe => writer::half(out, at, i.saturating_sub(1)),
         0xfd => writer::half(out, at, i.saturating_sub(2)),
-        _ => writer::byte(out, at, u32::from(x)),
+        _ => writer::byte(out, at, x),
     }
 }
 
 // The rule's tables, sixteen rows each, one after the other: limits, what is fixed (names, types 0 to 2), types 3 to 5,
-// types 6 to 8, predicates, leaves, pairs, singles, queries. A byte to a cell; fe is the node before the row's own, fd the
-// one before that.
+// types 6 to 8, predicates, leaves, pairs, singles, queries. A byte to a cell; fe is the node before the row's own, fd
+// the one before that. One list and not nine: the rule is held against it row by row, in one computed test.
 static ROWS: [&[u8]; 144] = [
     b"\x02\x00\x20",
     b"\x02\x00\x20",
@@ -227,7 +227,7 @@ static ROWS: [&[u8]; 144] = [
     b"\x00\x13\x00\x00\x17\x00\x16\x03\x00\x0f\x00\x0e\x01\x00\x06",
 ];
 
-// The cells of row n.
+// The cells of row n. Only here a row is a number; below it is its cells.
 fn cells(n: usize) -> &'static [u8]
     requires { n < 144 }
     ensures { (i : ℕ) → flat_map (cell_bytes i) result.now ≡ content i n }
@@ -235,12 +235,11 @@ fn cells(n: usize) -> &'static [u8]
     ROWS[n]
 }
 
-// Row n, of node i, and LF.
-fn row(out: &mut [u8], mut at: usize, n: usize, i: u32) -> Option<usize>
-    requires { n < 144 }
-    ensures { Writes out.old at (hex_line (content i n)) out.new result }
+// A row's cells, of node i, and LF.
+fn row(out: &mut [u8], mut at: usize, xs: &[u8], i: u32) -> Option<usize>
+    ensures { Writes out.old at (hex_line (flat_map (cell_bytes i) xs.now)) out.new result }
 {
-    for x in cells(n) {
+    for x in xs {
         at = cell(out, at, *x, i)?;
     }
     writer::close(out, at)
@@ -248,29 +247,27 @@ fn row(out: &mut [u8], mut at: usize, n: usize, i: u32) -> Option<usize>
 
 // ---- Lines
 
-fn line(out: &mut [u8], at: usize, kind: u32, n: usize) -> Option<usize>
-    requires kind_bound { kind < 256 }
-    requires n_bound { n < 144 }
-    ensures { Writes out.old at (hex_line (kind ∷ content 0 n)) out.new result }
+// The kind is the byte that the line starts with.
+fn line(out: &mut [u8], at: usize, kind: u8, xs: &[u8]) -> Option<usize>
+    ensures { Writes out.old at (hex_line (kind ∷ flat_map (cell_bytes 0) xs.now)) out.new result }
 {
     let at = writer::byte(out, at, kind)?;
-    row(out, at, n, 0)
+    row(out, at, xs, 0)
 }
 
-fn node(out: &mut [u8], at: usize, start: u32, end: u32, n: usize, i: u32) -> Option<usize>
-    requires { n < 144 }
-    ensures { Writes out.old at (hex_line (5 ∷ bytes₄ start ++ bytes₄ end ++ content i n)) out.new result }
+fn node(out: &mut [u8], at: usize, start: u32, end: u32, xs: &[u8], i: u32) -> Option<usize>
+    ensures { Writes out.old at (hex_line (5 ∷ bytes₄ start ++ bytes₄ end ++ flat_map (cell_bytes i) xs.now)) out.new result }
 {
     let at = writer::byte(out, at, 5)?;
     let at = writer::full(out, at, start)?;
     let at = writer::full(out, at, end)?;
-    row(out, at, n, i)
+    row(out, at, xs, i)
 }
 
 // ---- The schema
 
 // The schema's lines: the kind of each, and the table of its row.
-static LINES: [(u32, usize); 27] = [
+static LINES: [(u8, usize); 27] = [
     (1, 0),
     (2, 1),
     (2, 1),
@@ -306,7 +303,7 @@ fn schema(w: &[u32; 1440], out: &mut [u8]) -> Option<usize>
     let mut at = 0;
     for (l, (kind, table)) in LINES.iter().enumerate() {
         let v = if *table == 1 { l - 1 } else { choice(w, l) };
-        at = line(out, at, *kind, 16 * *table + v)?;
+        at = line(out, at, *kind, cells(16 * *table + v))?;
     }
     Some(at)
 }
@@ -327,9 +324,9 @@ fn query(w: &[u32; 1440], q: usize, out: &mut [u8], mut at: usize) -> Option<usi
     for i in 0..8 * BLOCKS[v] {
         let p = 55 + 64 * q + 2 * i;
         let n = 16 * SLOTS[i % 8] + choice(w, 33 + 32 * q + i);
-        at = node(out, at, w[p], w[p + 1], n, i as u32)?;
+        at = node(out, at, w[p], w[p + 1], cells(n), i as u32)?;
     }
-    line(out, at, 6, 128 + v)
+    line(out, at, 6, cells(128 + v))
 }
 
 // How many queries there are, by choice.

@@ -27,6 +27,7 @@ pub enum Beside {
 }
 
 // An added line is a name, a type or a predicate, of a kind that the old file has left behind.
+// The order of lines is that of their kinds' bytes, as card 14 has it.
 fn line_beside(a: &[u8], b: &[u8]) -> Beside
     ensures { TellsBeside a.now b.now result }
 {
@@ -48,6 +49,7 @@ fn only_added(old: &[u8], new: &[u8]) -> bool
     let mut b = [0u8; Counters::LINE];
     let mut i = 0;
     let mut j = 0;
+    // Each line starts where `decode` says that the one before ends, and the old file may stand still.
     while let Some((m, after)) = frames::decode(new, j, &mut b) {
         let Some((n, next)) = frames::decode(old, i, &mut a) else {
             return false;
@@ -86,6 +88,7 @@ pub fn check_growth(old: &[u8], new: &[u8], work: &mut [u32]) -> Result<(), Prem
     r
 }
 
+// The card's number, which the library in C gives too: 0 where no premise fails.
 pub fn premises_number(p: Result<(), Premise>) -> u8
     ensures { result ≡ number p }
 {

@@ -1,29 +1,23 @@
 // What the programs read.
 #![tactic(auto)]
 
-ghost use Rattle.std.specs.Prelude.{length};
-ghost use Rattle.input.specs.Within.{Within};
+ghost use Rattle.std.specs.Prelude.{◌≤◌, length, IfOk};
 
+use std::io;
 use std::io::Read;
 
-// How many bytes stand at the start of a slice; or a read failed, and the slice holds anything.
-#[derive(Drop)]
-pub enum Input {
-    Bytes(usize),
-    Failed,
-}
-
-// A reader's bytes to their end, or as many as the slice holds.
-pub fn read_all<R: Read>(from: &mut R, into: &mut [u8]) -> Input
-    ensures { Within (length into.new) result }
+// A reader's bytes to their end, or as many as the slice holds: how many stand at its start, and not that part, so that
+// the slice comes back to its owner. After an error it holds anything.
+pub fn read_all<R: Read>(from: &mut R, into: &mut [u8]) -> io::Result<usize>
+    ensures { IfOk result (λ n. n ≤ length into.new) }
 {
-    let mut n: usize = 0;
+    let mut n = 0;
+    // A read gives as many bytes as it likes, and `read_exact` takes an end before the slice's for an error.
     while n < into.len() {
-        match from.read(&mut into[n..]) {
-            Ok(0) => return Input::Bytes(n),
-            Ok(more) => n += more,
-            Err(_) => return Input::Failed,
+        match from.read(&mut into[n..])? {
+            0 => break,
+            more => n += more,
         }
     }
-    Input::Bytes(n)
+    Ok(n)
 }

@@ -9,7 +9,8 @@ use reading::Refusal;
 use work::clear;
 
 // After a success with the words that the bindings take in the lent slice; `TooFewWords` is refusal 18.
-// No Result: the definition's six answers one to one; as a Result they would be two types, and each use would join them again.
+// No Result: the definition's six answers one to one; as a Result they would be two types, and each use would join them
+// again.
 #[derive(Clone, Copy)]
 pub enum Inspected {
     Success(usize),

@@ -14,7 +14,6 @@ use Rattle.meaning.specs.Diag.{Diagnostic}
 use Rattle.meaning.specs.File.{Described, Form, view_of, described, reading, max_file}
 use Rattle.meaning.specs.All.{All}
 use Rattle.meaning.specs.Sound.{Sound}
-use Rattle.meaning.specs.Refusal.{too_many_visits}
 use Rattle.meaning.specs.Check.{Step, goes, out, first_diagnostic}
 use Rattle.meaning.specs.Outcome.{min_words, max_visits}
 use Rattle.meaning.specs.Lamp as Defined
@@ -26,57 +25,77 @@ use Rattle.checker.specs.Promises.{Ran, to_the_end, ended_early, run_until, Quer
 use Rattle.loading.specs.Promises.{Ahead, Loads}
 use Rattle.loading.proofs.Lines.{query_ahead, all_ahead}
 use Rattle.reading.specs.declared.Refusal.TheVariants as Refusal
-use Rattle.lamp.specs.declared.Glow.{Glow}
-use Rattle.lamp.specs.declared.Glow.TheVariants as Glow
-use Rattle.lamp.specs.Promises.{glow_of, Glowed, Glows, Asks}
-use Rattle.std.specs.Prelude.{Err, None, Ok, Option, Some, false, true}
+use Rattle.reading.specs.declared.Refusal as Declared
+use Rattle.lamp.specs.declared.Lit.{Lit}
+use Rattle.lamp.specs.Promises.{signal_of, glow_of, Glowed, Glows, Asks}
+use Rattle.std.specs.Result.{result_unwrap_or}
+use Rattle.std.specs.Prelude.{Bool, Err, None, Ok, Option, Result, Some, false, true}
 
 -- ---- A query
+
+abbrev dark : ℕ → Lit
+dark v = record { signal = Ok false; visits = v }
 
 lit_is : (d : Described) → lit_run d.schema d.ast max_visits ≡ run_until first_diagnostic d 1048576
 unfolding lit_run run_until max_visits
 lit_is d = refl
 
 module _ {f w o w' o' : List ℕ} {x : Option ℕ} (Q : Queries f w o Until.FirstDiagnostic 1048576 w' o' x) where
-  module _ (g : Glow) (ends : (d : Described) (s : Step Tree.Ty) → Ran f w' o' d x s → Glowed f w' d g s) where
+  module _ (g : Lit) (ends : (d : Described) (s : Step Tree.Ty) → Ran f w' o' d x s → Glowed f w' d g s) where
     glowed : (T : Rows) (d : Described) → Sound d → Stands f w T d → Glowed f w' d g (lit_run d.schema d.ast max_visits)
     glowed T d s S = rw (lit_is d) (ends d (run_until first_diagnostic d 1048576) (Q.is T d s S))
 
   -- It went through.
-  pub glow_dark : {left v : ℕ} → x ≡ Some left → v ≡ 1048576 - left → Glows f w w' (Glow.Dark v)
+  pub glow_dark : {left v : ℕ} → x ≡ Some left → v ≡ 1048576 - left → Glows f w w' (record { signal = Ok false; visits = v })
   unfolding Glowed max_visits
-  glow_dark {left} {v} e m = record { is = glowed (Glow.Dark v) go; few = omega arith; words = Q.words }
+  glow_dark {left} {v} e m = record { is = glowed (dark v) go; few = omega arith; words = Q.words }
     where
-      go : (d : Described) (s : Step Tree.Ty) → Ran f w' o' d x s → Glowed f w' d (Glow.Dark v) s
+      go : (d : Described) (s : Step Tree.Ty) → Ran f w' o' d x s → Glowed f w' d (dark v) s
       go d (goes ty c) (to_the_end T R t p) = let same : left ≡ c.state.left = cc (e, p) in
-          (ap Glow.Dark (m ∙ ap (λ n. 1048576 - n) same), (T, R.stands.schema))
+          (ap dark (m ∙ ap (λ n. 1048576 - n) same), (T, R.stands.schema))
       go d (out c) (ended_early T R t k p) = clash (cc (e, p))
 
   module _ (e : x ≡ None) {left count v : ℕ} (l : left ≡ get_or w' LEFT 0) (m : v ≡ 1048576 - left) (n : count ≡ get_or w' DIAGNOSTIC-COUNT 0) where
-    module _ (g : Glow) (by : (ds : List Diagnostic) → length ds ≡ count → g ≡ glow_of ds v) where
+    module _ (g : Lit) (by : (ds : List Diagnostic) → length ds ≡ count → g ≡ glow_of ds v) where
       ended : (d : Described) (s : Step Tree.Ty) → Ran f w' o' d x s → Glowed f w' d g s
       unfolding Glowed max_visits
       ended d (goes ty c) (to_the_end T R t p) = clash (cc (e, p))
       ended d (out c) (ended_early T R t k p) =
           by c.diagnostics (R.diagnostics ∙ sym n) ∙ ap (glow_of c.diagnostics) (m ∙ ap (λ k. 1048576 - k) (l ∙ t.left))
 
-    pub glow_out : count ≡ 0 → Glows f w w' (Glow.Out v)
-    glow_out z = record { is = glowed (Glow.Out v) (ended (Glow.Out v) by); few = omega arith; words = Q.words }
+    pub glow_out : count ≡ 0 → Glows f w w' (record { signal = Err Refusal.TooManyVisits; visits = v })
+    glow_out z = record { is = glowed it (ended it by); few = omega arith; words = Q.words }
       where
-        by : (ds : List Diagnostic) → length ds ≡ count → Glow.Out v ≡ glow_of ds v
+        it : Lit
+        it = record { signal = Err Refusal.TooManyVisits; visits = v }
+
+        by : (ds : List Diagnostic) → length ds ≡ count → it ≡ glow_of ds v
         by [] h = refl
         by (d ∷ ds) h = absurd (omega (arith, h, z))
 
-    pub glow_shown : ¬ (count ≡ 0) → Glows f w w' (Glow.Shown v)
-    glow_shown z = record { is = glowed (Glow.Shown v) (ended (Glow.Shown v) by); few = omega arith; words = Q.words }
+    pub glow_shown : ¬ (count ≡ 0) → Glows f w w' (record { signal = Ok true; visits = v })
+    glow_shown z = record { is = glowed it (ended it by); few = omega arith; words = Q.words }
       where
-        by : (ds : List Diagnostic) → length ds ≡ count → Glow.Shown v ≡ glow_of ds v
+        it : Lit
+        it = record { signal = Ok true; visits = v }
+
+        by : (ds : List Diagnostic) → length ds ≡ count → it ≡ glow_of ds v
         by [] h = absurd (z (sym h))
         by (d ∷ ds) h = refl
 
-not_dark : (ds : List Diagnostic) (u : ℕ) {g : Glow} {v : ℕ} → g ≡ glow_of ds u → g ≡ Glow.Dark v → ⊥
-not_dark [] u h e = clash (cc (h, e))
-not_dark (d ∷ ds) u h e = clash (cc (h, e))
+not_dark : (ds : List Diagnostic) (u : ℕ) {g : Lit} → g ≡ glow_of ds u → g.signal ≡ Ok false → ⊥
+not_dark [] u h e = let s : ◌≡◌ {A = Result Bool Declared.Refusal} (Ok false) (Err Refusal.TooManyVisits) = sym e ∙ ap (λ (x : Lit). x.signal) h in clash (cc s)
+not_dark (d ∷ ds) u h e = let s : ◌≡◌ {A = Result Bool Declared.Refusal} (Ok false) (Ok true) = sym e ∙ ap (λ (x : Lit). x.signal) h in clash (cc s)
+
+-- Whether it stopped is read off what it shows.
+pub went_through : (s : Result Bool Declared.Refusal) {b : Bool} → b ≡ result_unwrap_or s true → b ≡ false → s ≡ Ok false
+went_through (Ok false) e q = refl
+went_through (Ok true) e q = let z : ◌≡◌ {A = Bool} true false = sym e ∙ q in clash (cc z)
+went_through (Err i) e q = let z : ◌≡◌ {A = Bool} true false = sym e ∙ q in clash (cc z)
+
+pub stopped_short : (s : Result Bool Declared.Refusal) {b : Bool} → b ≡ result_unwrap_or s true → b ≡ true → s ≡ Ok false → ⊥
+stopped_short s e q h = let z : ◌≡◌ {A = Bool} true false = sym q ∙ e ∙ ap (λ (x : Result Bool Declared.Refusal). result_unwrap_or x true) h in
+    clash (cc z)
 
 -- ---- Between two queries
 
@@ -127,7 +146,7 @@ module _ {f w₀ w : List ℕ} {at visits : ℕ} (A : Asking f w₀ w at visits)
       go b [] a p q = (sym p, omega (arith, q))
       go b (x ∷ qs) a p q = absurd (omega (arith, query_ahead a))
 
-  module _ (here : at < length f) {w₁ : List ℕ} {next : ℕ} (L : Loads f at w w₁ next) {w₂ : List ℕ} {g : Glow} (G : Glows f w₁ w₂ g) where
+  module _ (here : at < length f) {w₁ : List ℕ} {next : ℕ} (L : Loads f at w w₁ next) {w₂ : List ℕ} {g : Lit} (G : Glows f w₁ w₂ g) where
     -- The query that is asked, and what is left after it.
     record Turn (form : Form) : Type 0 where
       a : Ast
@@ -159,11 +178,11 @@ module _ {f w₀ w : List ℕ} {at visits : ℕ} (A : Asking f w₀ w at visits)
             }
 
     -- It had no diagnostic.
-    pub ask_next : {v : ℕ} → g ≡ Glow.Dark v → length w₂ ≡ length w₁ → Asking f w₀ w₂ next (visits + v)
+    pub ask_next : g.signal ≡ Ok false → length w₂ ≡ length w₁ → Asking f w₀ w₂ next (visits + g.visits)
     unfolding Glowed lamp_after visits_after view_of
-    ask_next {v} e long = record {
+    ask_next e long = record {
       words = long ∙ L.words.long ∙ A.words;
-      few = let h : v ≤ 1048576 = rw e at G.few in omega (arith, h, A.few, L.onward here);
+      few = omega (arith, G.few, A.few, L.onward here);
       within = L.within;
       small = A.small;
       is = λ T form q l S. let t = turn T form q l S in go t (lit_run form.schema t.a max_visits) t.lamp t.made t.glowed;
@@ -171,38 +190,28 @@ module _ {f w₀ w : List ℕ} {at visits : ℕ} (A : Asking f w₀ w at visits)
       where
         go : {form : Form} (t : Turn form) (s : Step Tree.Ty) → lamp_all form.schema form.queries ≡ lamp_after s (lamp_all form.schema t.qs)
             → visits_all form.schema form.queries ≡ visits + visits_after s (visits_all form.schema t.qs)
-            → Glowed f w₂ (view_of form t.a) g s → Between f form w₂ next (visits + v)
+            → Glowed f w₂ (view_of form t.a) g s → Between f form w₂ next (visits + g.visits)
         go t (goes ty c) p q h =
-            let same : max_visits - c.state.left ≡ v = cc (e, h.0) in
+            let same : g.visits ≡ max_visits - c.state.left = ap (λ (x : Lit). x.visits) h.0 in
             record { left = t.qs; ahead = t.ahead; sound = t.sound; rows = h.1.0; stands = h.1.1; lamp = p; made = omega (arith, q, same) }
         go t (out c) p q h = absurd (not_dark c.diagnostics (max_visits - c.state.left) h e)
 
     -- It stopped.
-    module _ {k : Defined.Lamp} {total : ℕ} (by : (ds : List Diagnostic) (u : ℕ) → g ≡ glow_of ds u → (k ≡ stopped ds) × (total ≡ visits + u))
-        (light : (u : ℕ) → ¬ (g ≡ Glow.Dark u)) where
-      asked : (T : Rows) (form : Form) → reading f ≡ described form → min_words ≤ length w₀ → SchemaStands f w₀ T form.names form.schema
-          → (k ≡ lamp_all form.schema form.queries) × (total ≡ visits_all form.schema form.queries)
-      unfolding Glowed lamp_after visits_after
-      asked T form q l S = let t = turn T form q l S in go t (lit_run form.schema t.a max_visits) t.lamp t.made t.glowed
-        where
-          go : (t : Turn form) (s : Step Tree.Ty) → lamp_all form.schema form.queries ≡ lamp_after s (lamp_all form.schema t.qs)
-              → visits_all form.schema form.queries ≡ visits + visits_after s (visits_all form.schema t.qs) → Glowed f w₂ (view_of form t.a) g s
-              → (k ≡ lamp_all form.schema form.queries) × (total ≡ visits_all form.schema form.queries)
-          go t (goes ty c) p q h = absurd (light (max_visits - c.state.left) h.0)
-          go t (out c) p q h = let x = by c.diagnostics (max_visits - c.state.left) h in (x.0 ∙ sym p, x.1 ∙ sym q)
-
-    pub ask_shown : {v total : ℕ} → g ≡ Glow.Shown v → total ≡ visits + v → Asks f w₀ (record { signal = (Ok true); visits = total })
+    stops : (ds : List Diagnostic) (u : ℕ) → g ≡ glow_of ds u → (signal_of g.signal ≡ stopped ds) × (g.visits ≡ u)
     unfolding stopped
-    ask_shown {v} {total} e t = record { is = asked by (λ u h. clash (cc (e, h))) }
-      where
-        by : (ds : List Diagnostic) (u : ℕ) → g ≡ glow_of ds u → (Defined.Yes ≡ stopped ds) × (total ≡ visits + u)
-        by [] u h = clash (cc (e, h))
-        by (d ∷ ds) u h = let same : u ≡ v = cc (e, h) in (refl, omega (arith, t, same))
+    stops [] u h = (ap (λ (x : Lit). signal_of x.signal) h, ap (λ (x : Lit). x.visits) h)
+    stops (d ∷ ds) u h = (ap (λ (x : Lit). signal_of x.signal) h, ap (λ (x : Lit). x.visits) h)
 
-    pub ask_out : {v total : ℕ} → g ≡ Glow.Out v → total ≡ visits + v → Asks f w₀ (record { signal = Err Refusal.TooManyVisits; visits = total })
-    unfolding stopped
-    ask_out {v} {total} e t = record { is = asked by (λ u h. clash (cc (e, h))) }
+    pub ask_stopped : ¬ (g.signal ≡ Ok false) → Asks f w₀ (record { signal = g.signal; visits = visits + g.visits })
+    unfolding Glowed lamp_after visits_after
+    ask_stopped light = record {
+      is = λ T form q l S. let t = turn T form q l S in go t (lit_run form.schema t.a max_visits) t.lamp t.made t.glowed;
+    }
       where
-        by : (ds : List Diagnostic) (u : ℕ) → g ≡ glow_of ds u → (Defined.Refused too_many_visits ≡ stopped ds) × (total ≡ visits + u)
-        by [] u h = let same : u ≡ v = cc (e, h) in (refl, omega (arith, t, same))
-        by (d ∷ ds) u h = clash (cc (e, h))
+        go : {form : Form} (t : Turn form) (s : Step Tree.Ty) → lamp_all form.schema form.queries ≡ lamp_after s (lamp_all form.schema t.qs)
+            → visits_all form.schema form.queries ≡ visits + visits_after s (visits_all form.schema t.qs) → Glowed f w₂ (view_of form t.a) g s
+            → (signal_of g.signal ≡ lamp_all form.schema form.queries) × (visits + g.visits ≡ visits_all form.schema form.queries)
+        go t (goes ty c) p q h = absurd (light (ap (λ (x : Lit). x.signal) h.0))
+        go t (out c) p q h =
+            let x = stops c.diagnostics (max_visits - c.state.left) h in
+            (x.0 ∙ sym p, ap (λ n. visits + n) x.1 ∙ sym q)

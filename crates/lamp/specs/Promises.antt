@@ -14,10 +14,9 @@ use Rattle.meaning.specs.Lamp as Defined
 use Rattle.meaning.specs.Lamp.{lit_run, lamp_all, visits_all, lamp, lamp_visits}
 use Rattle.tree.specs.Stands.{SchemaStands, Stands}
 use Rattle.reading.specs.Promises.{refusal}
-use Rattle.lamp.specs.declared.Glow.{Glow}
-use Rattle.lamp.specs.declared.Glow.TheVariants as Glow
 use Rattle.lamp.specs.declared.Lit.{Lit}
 use Rattle.reading.specs.declared.Refusal.{Refusal}
+use Rattle.reading.specs.declared.Refusal.TheVariants as Refusal
 
 abbrev pub signal_of : Result Bool Refusal → Defined.Lamp
 signal_of (Ok true) = Defined.Yes
@@ -34,23 +33,18 @@ lamp_line (Defined.Refused i) = hex_line (0x0f ∷ number i ∷ [])
 -- ---- A query
 
 -- A run that stopped, by its diagnostics.
-abbrev pub glow_of : List Diagnostic → ℕ → Glow
-glow_of [] v = Glow.Out v
-glow_of (d ∷ ds) v = Glow.Shown v
-
-abbrev pub glow_visits : Glow → ℕ
-glow_visits (Glow.Shown v) = v
-glow_visits (Glow.Dark v) = v
-glow_visits (Glow.Out v) = v
+abbrev pub glow_of : List Diagnostic → ℕ → Lit
+glow_of [] v = record { signal = Err Refusal.TooManyVisits; visits = v }
+glow_of (d ∷ ds) v = record { signal = Ok true; visits = v }
 
 -- As the definition's run ends; where it went through, the schema stands as before.
-unfoldable pub Glowed : List ℕ → List ℕ → Described → Glow → Step Tree.Ty → Type 0
-Glowed f w' d g (goes ty c) = (g ≡ Glow.Dark (max_visits - c.state.left)) × ((T : Rows) × SchemaStands f w' T d.names d.schema)
+unfoldable pub Glowed : List ℕ → List ℕ → Described → Lit → Step Tree.Ty → Type 0
+Glowed f w' d g (goes ty c) = (g ≡ record { signal = Ok false; visits = max_visits - c.state.left }) × ((T : Rows) × SchemaStands f w' T d.names d.schema)
 Glowed f w' d g (out c) = g ≡ glow_of c.diagnostics (max_visits - c.state.left)
 
-pub record Glows (f w w' : List ℕ) (g : Glow) : Type 0 where
+pub record Glows (f w w' : List ℕ) (g : Lit) : Type 0 where
   pub is : (T : Rows) (d : Described) → Sound d → Stands f w T d → Glowed f w' d g (lit_run d.schema d.ast max_visits)
-  pub few : glow_visits g ≤ 1048576
+  pub few : g.visits ≤ 1048576
   pub words : length w' ≡ length w
 
 -- ---- The whole

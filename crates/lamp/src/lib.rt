@@ -1,84 +1,79 @@
-// Card 4's call: whether a query of a file has a diagnostic. Each query runs until its first one, and no answer is written.
+// Card 4's call: whether a query of a file has a diagnostic. Each query runs until its first one, and no answer is
+// written.
 #![tactic(auto)]
 
 ghost use Rattle.std.specs.Prelude.{◌≡◌, ◌≤◌, length};
 ghost use Rattle.lamp.specs.Promises.{signal_of, lamp_line, Glows, Asks, Looks, Lights};
 
-use desk::made;
 use reading::{Counters, Edition, Refusal};
 use state::Until;
 use work::{wide, word};
 
-// How a query's run ended, with the visits that it made: at a diagnostic, at its end without one, or they ran out before one came.
-#[derive(Drop)]
-pub enum Glow {
-    Shown(u32),
-    Dark(u32),
-    Out(u32),
-}
-
-// What the lamp shows, and the visits of the queries that were asked.
+// What the lamp shows, of one query or of a file, and the visits of the queries that were asked.
 #[derive(Drop)]
 pub struct Lit {
     pub signal: Result<bool, Refusal>,
     pub visits: usize,
 }
 
-// The run of the query that is loaded. The answer slice that is lent to it is empty.
-fn one_query(file: &[u8], work: &mut [u32]) -> Glow
+// The run of the query that is loaded: it goes to its end, the visits run out, or it stops at a diagnostic. The answer
+// slice that is lent to it is empty.
+fn one_query(file: &[u8], work: &mut [u32]) -> Lit
     ensures { Glows file.now work.old work.new result }
 {
-    let mut none = [0u8; 1];
     let d = checker::query(
         file,
         work,
         Until::FirstDiagnostic,
         Counters::VISITS,
-        &mut none[0..0],
+        &mut [],
     );
     if let Some(left) = d {
-        return Glow::Dark(made(Counters::VISITS, left));
+        return Lit {
+            signal: Ok(false),
+            visits: wide(Counters::VISITS.saturating_sub(left)),
+        };
     }
-    let visits = made(Counters::VISITS, word(work, work::LEFT));
+    let visits = wide(Counters::VISITS.saturating_sub(word(work, work::LEFT)));
     if word(work, work::DIAGNOSTIC_COUNT) == 0 {
-        Glow::Out(visits)
+        Lit {
+            signal: Err(Refusal::TooManyVisits),
+            visits,
+        }
     } else {
-        Glow::Shown(visits)
+        Lit {
+            signal: Ok(true),
+            visits,
+        }
     }
 }
 
-// The queries of a file that was read, one after the other, until one stops.
+// The queries of a file that was read, one after the other, until one stops. Such a file is short: that is why the sum
+// of the visits has room; `look` owes it, as `run` of desk does.
 fn ask(file: &[u8], work: &mut [u32]) -> Lit
     requires { length file.now ≤ 65536 }
     ensures { Asks file.now work.old result }
 {
     let mut at: usize = 0;
     let mut visits: usize = 0;
+    // No `for`: where the next query starts is what `load` gives back.
     while at < file.len() {
         let next = loading::load(file, at, work);
-        let g = one_query(file, work);
-        match g {
-            Glow::Dark(v) => {
-                visits += wide(v);
-            }
-            Glow::Shown(v) => {
-                return Lit {
-                    signal: Ok(true),
-                    visits: visits + wide(v),
-                };
-            }
-            Glow::Out(v) => {
-                return Lit {
-                    signal: Err(Refusal::TooManyVisits),
-                    visits: visits + wide(v),
-                };
-            }
+        let one = one_query(file, work);
+        visits += one.visits;
+        // A diagnostic ends the walk, and so does a run that had too few visits. Of two fields one is new: `..one` would
+        // say no more.
+        if one.signal.unwrap_or(true) {
+            return Lit {
+                signal: one.signal,
+                visits,
+            };
         }
         at = next;
     }
     Lit {
         signal: Ok(false),
-        visits: visits,
+        visits,
     }
 }
 

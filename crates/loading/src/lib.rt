@@ -1,4 +1,5 @@
-// A query of a file that was read: where its lines stand goes into the work slice, beside the schema that the reading left there.
+// A query of a file that was read: where its lines stand goes into the work slice, beside the schema that the reading
+// left there.
 #![tactic(auto)]
 
 ghost use Rattle.loading.specs.Promises.{Loads};
@@ -7,8 +8,9 @@ use frames::Kind;
 use reading::Counters;
 use work::{line_word, node_word, put, wide};
 
-// The next query from `at` on; what comes back is where the lines after its 06 line start. Lines 01 to 04 are passed over, and where no
-// query is found that is the file's end.
+// The next query from `at` on; what comes back is where the lines after its 06 line start. Lines 01 to 04 are passed
+// over, and where no query is found that is the file's end, where each walk over the queries stops: it can't fail, so
+// it gives no Option.
 #[tactic(auto, using(crate::proofs::Loading::loading))]
 pub fn load(file: &[u8], at: usize, w: &mut [u32]) -> usize
     ensures { Loads file.now at w.old w.new result }
@@ -19,6 +21,7 @@ pub fn load(file: &[u8], at: usize, w: &mut [u32]) -> usize
     let mut line = [0u8; Counters::LINE];
     let mut nodes = 0;
     let mut i = at;
+    // Each line starts where `decode` says that the one before ends.
     while let Some((n, next)) = frames::decode(file, i, &mut line) {
         match frames::kind_of(line[0]) {
             Some(Kind::Query) => {

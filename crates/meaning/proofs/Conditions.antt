@@ -7,7 +7,6 @@ use native.Mathlib.Omega.{arith}
 use lib.ListN.{length}
 use borrow.Author.Tests.{leb-false, lt-leb, not-false}
 use Rattle.text.specs.Utf8.{Text, characters}
-use Rattle.text.proofs.Every.{both_left, both_right}
 use Rattle.text.proofs.Grammar.{counts}
 use Rattle.meaning.specs.Frame.{Kind, limits, name, schema_type, predicate, node, query, may_stand, Frame, frame_kind}
 use Rattle.meaning.specs.References.{name_refs, type_refs, node_refs, texts_of, keys_of}
@@ -18,9 +17,10 @@ use Rattle.meaning.specs.Conditions.{is_name_given_before, refers_earlier, refer
 use Rattle.meaning.specs.All.{All, Absent}
 use Rattle.meaning.proofs.Obeys.{Room, Obeys}
 use Rattle.meaning.proofs.Lists.{empty_absent}
-use Rattle.meaning.proofs.Tests.{cases, clash, both_true, none_passes, passes_none, below_all, all_below_lem, again_new, again_distinct, new_again}
+use Rattle.meaning.proofs.Tests.{cases, clash, none_passes, passes_none, below_all, all_below_lem, again_new, again_distinct, new_again}
 use Rattle.meaning.proofs.Tests.{given_absent, absent_given}
 use Rattle.std.specs.Prelude.{None, Option, Some}
+use Rattle.std.proofs.lemmas.Bool.{and_parts, and_from}
 
 -- ---- No condition of a list holds
 
@@ -98,10 +98,10 @@ obeys so f e =
       room = room so (frame_kind f) a.1.1.0 a.1.1.1.0;
       text = none_passes broken Readable readable (texts_of f) a.1.1.1.1.1.0;
       new = none_passes (given so.names) (λ s. Absent s so.names) (given_absent so.names) (texts_of f) a.1.1.1.1.1.1.0;
-      names = below_all (length so.names) (name_refs f) (both_left _ _ earlier);
-      types = below_all (length so.types) (type_refs f) (both_left _ _ (both_right (all_below (length so.names) (name_refs f)) _ earlier));
+      names = below_all (length so.names) (name_refs f) (and_parts _ _ earlier).0;
+      types = below_all (length so.types) (type_refs f) (and_parts _ _ ((and_parts (all_below (length so.names) (name_refs f)) _ earlier).1)).0;
       nodes = below_all (length so.nodes) (node_refs f)
-          (both_right (all_below (length so.types) (type_refs f)) _ (both_right (all_below (length so.names) (name_refs f)) _ earlier));
+          ((and_parts (all_below (length so.types) (type_refs f)) _ ((and_parts (all_below (length so.names) (name_refs f)) _ earlier).1)).1);
       unnamed = again_new so.named (node_refs f) once;
       once = again_distinct so.named (node_refs f) once;
       keys = again_distinct [] (keys_of f) a.1.1.1.1.1.1.1.1.0;
@@ -125,8 +125,8 @@ no_condition so f o =
     )
   where
     earlier : refers_earlier so f ≡ true
-    earlier = both_true _ _ (all_below_lem (length so.names) (name_refs f) o.names)
-        (both_true _ _ (all_below_lem (length so.types) (type_refs f) o.types) (all_below_lem (length so.nodes) (node_refs f) o.nodes))
+    earlier = and_from _ _ (all_below_lem (length so.names) (name_refs f) o.names)
+        (and_from _ _ (all_below_lem (length so.types) (type_refs f) o.types) (all_below_lem (length so.nodes) (node_refs f) o.nodes))
 
     text : is_broken_text so (frames f) ≡ false
     text = passes_none broken Readable unbroken (texts_of f) o.text

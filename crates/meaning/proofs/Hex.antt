@@ -8,8 +8,7 @@ use native.Mathlib.Omega.{arith}
 use lib.Dec.{eqb}
 use lib.ListN.{length, get_or}
 use borrow.Author.Tests.{eqb-true, eqb-false, not-true}
-use Rattle.text.specs.Utf8.{both, one_more}
-use Rattle.text.proofs.Every.{both_left, both_right, below, every}
+use Rattle.text.specs.Utf8.{one_more}
 use Rattle.text.proofs.Grammar.{clash as no_some}
 use Rattle.meaning.specs.Diag.{ascii}
 use Rattle.meaning.specs.Lines.{LF, position, digits, digit, pair, decoded}
@@ -17,7 +16,8 @@ use Rattle.meaning.specs.All.{All, Absent}
 use Rattle.meaning.specs.Writing.{Byte}
 use Rattle.meaning.specs.Answer.{hex_digit, hex_line}
 use Rattle.meaning.proofs.Tests.{cases, clash}
-use Rattle.std.specs.Prelude.{None, Option, Some}
+use Rattle.std.specs.Prelude.{◌&&◌, None, Option, Some}
+use Rattle.std.proofs.lemmas.Bool.{and_parts, agree_below, agree_below_at}
 
 -- ---- One digit
 
@@ -32,24 +32,24 @@ is_some (Some w) v h = ap Some (eqb-true w v h)
 
 reads_back : ℕ → Bool
 unfolding is digit digits ascii hex_digit
-reads_back v = both (both (is (digit (hex_digit v)) v) (eqb (hex_digit v) (get_or digits v 0))) (not (eqb (hex_digit v) LF))
+reads_back v = (is (digit (hex_digit v)) v && eqb (hex_digit v) (get_or digits v 0)) && not (eqb (hex_digit v) LF)
 
-each_reads_back : below reads_back 16 ≡ true
+each_reads_back : agree_below reads_back (λ _. true) 16 ≡ true
 unfolding reads_back
 each_reads_back = refl
 
 digit_of : (v : ℕ) → v < 16 → digit (hex_digit v) ≡ Some v
 unfolding reads_back
-digit_of v h = is_some _ v (both_left _ _ (both_left _ _ (every reads_back 16 each_reads_back v h)))
+digit_of v h = is_some _ v (and_parts _ _ ((and_parts _ _ (agree_below_at reads_back (λ _. true) 16 v each_reads_back h)).0)).0
 
 digit_at : (v : ℕ) → v < 16 → hex_digit v ≡ get_or digits v 0
 unfolding reads_back
-digit_at v h = eqb-true _ _ (both_right (is (digit (hex_digit v)) v) _ (both_left _ _ (every reads_back 16 each_reads_back v h)))
+digit_at v h = eqb-true _ _ (and_parts (is (digit (hex_digit v)) v) _ ((and_parts _ _ (agree_below_at reads_back (λ _. true) 16 v each_reads_back h)).0)).1
 
 digit_no_LF : (v : ℕ) → v < 16 → LF ≡ hex_digit v → ⊥
 unfolding reads_back
 digit_no_LF v h e = eqb-false (hex_digit v) LF
-    (not-true _ (both_right (both (is (digit (hex_digit v)) v) (eqb (hex_digit v) (get_or digits v 0))) _ (every reads_back 16 each_reads_back v h))) (sym e)
+    (not-true _ (and_parts (is (digit (hex_digit v)) v && eqb (hex_digit v) (get_or digits v 0)) _ (agree_below_at reads_back (λ _. true) 16 v each_reads_back h)).1) (sym e)
 
 -- where an element stands, it is
 record Stands (c : ℕ) (l : List ℕ) (v : ℕ) : Type 0 where

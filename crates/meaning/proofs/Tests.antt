@@ -4,10 +4,10 @@ use mathlib.Core.List.{List, [], ◌∷◌}
 use mathlib.Core.Logic.{◌≢◌}
 use mathlib.Core.Path.{◌≡◌, refl, sym, ap, ◌∙◌}
 use Prim.Native.Nat.{ℕ, ◌<◌}
+use Rattle.std.specs.Prelude.{◌&&◌}
+use Rattle.std.proofs.lemmas.Bool.{and_parts, and_from}
 use lib.Dec.{eqb, ltb}
 use borrow.Author.Tests.{ltb-true, lt-ltb, eqb-true, eqb-false, eq-eqb, ne_eqb}
-use Rattle.text.specs.Utf8.{both}
-use Rattle.text.proofs.Every.{both_left, both_right}
 use Rattle.meaning.specs.Conditions.{any_of, all_below, among, again, same_text, given}
 use Rattle.meaning.specs.All.{All, Absent, Distinct}
 use Rattle.meaning.proofs.Lists.{all_map, not_first, none_first}
@@ -20,19 +20,15 @@ cases false t f = f refl
 pub clash : {X : Type 0} → true ≡ false → X
 clash e = absurd (true≢false e)
 
-pub both_true : (a b : Bool) → a ≡ true → b ≡ true → both a b ≡ true
-both_true true b p q = q
-both_true false b p q = p
-
 pub below_all : (n : ℕ) (ms : List ℕ) → all_below n ms ≡ true → All (λ m. m < n) ms
 unfolding all_below
 below_all n [] h = tt
-below_all n (m ∷ ms) h = (ltb-true m n (both_left (ltb m n) (all_below n ms) h), below_all n ms (both_right (ltb m n) (all_below n ms) h))
+below_all n (m ∷ ms) h = (ltb-true m n (and_parts (ltb m n) (all_below n ms) h).0, below_all n ms (and_parts (ltb m n) (all_below n ms) h).1)
 
 pub all_below_lem : (n : ℕ) (ms : List ℕ) → All (λ m. m < n) ms → all_below n ms ≡ true
 unfolding all_below
 all_below_lem n [] h = refl
-all_below_lem n (m ∷ ms) h = both_true (ltb m n) (all_below n ms) (lt-ltb m n h.0) (all_below_lem n ms h.1)
+all_below_lem n (m ∷ ms) h = and_from (ltb m n) (all_below n ms) (lt-ltb m n h.0) (all_below_lem n ms h.1)
 
 -- no element passes the test
 pub none_passes : {A : Type 0} (test : A → Bool) (P : A → Type 0) → ((a : A) → test a ≡ false → P a) → (l : List A) → any_of test l ≡ false → All P l
@@ -86,14 +82,14 @@ same_text_lem [] [] h = refl
 same_text_lem [] (b ∷ t) h = clash (sym h)
 same_text_lem (a ∷ s) [] h = clash (sym h)
 same_text_lem (a ∷ s) (b ∷ t) h =
-    let p : a ≡ b = eqb-true a b (both_left (eqb a b) (same_text s t) h) in
-    let q : s ≡ t = same_text_lem s t (both_right (eqb a b) (same_text s t) h) in
+    let p : a ≡ b = eqb-true a b (and_parts (eqb a b) (same_text s t) h).0 in
+    let q : s ≡ t = same_text_lem s t (and_parts (eqb a b) (same_text s t) h).1 in
     cc
 
 pub text_same : (s : List ℕ) → same_text s s ≡ true
 unfolding same_text
 text_same [] = refl
-text_same (a ∷ s) = both_true (eqb a a) (same_text s s) (eq-eqb a a refl) (text_same s)
+text_same (a ∷ s) = and_from (eqb a a) (same_text s s) (eq-eqb a a refl) (text_same s)
 
 different : (s t : List ℕ) → same_text s t ≡ false → s ≢ t
 different s t q e = true≢false (sym (text_same s) ∙ ap (same_text s) e ∙ q)

@@ -1,7 +1,7 @@
 -- Document 01, "When a file is turned down": conditions 3 to 10 of a line and 13 of card 3, each by itself, and their order. They are tests of what a
 -- line says; Means.antt has what that is, and `obeys` and `no_condition` in proofs/Conditions.antt say what a frame obeys that meets none.
-use Rattle.std.specs.Prelude.{Bool, true, false, not, ◌||◌, List, [], ◌∷◌, ℕ, eqb, leb, ltb, length, None, Option, Some}
-use Rattle.text.specs.Utf8.{characters, both}
+use Rattle.std.specs.Prelude.{◌&&◌, Bool, true, false, not, ◌||◌, List, [], ◌∷◌, ℕ, eqb, leb, ltb, length, None, Option, Some}
+use Rattle.text.specs.Utf8.{characters}
 use Rattle.meaning.specs.Refusal.{Refusal, malformed_line, misplaced_kind, too_many, malformed_frame, broken_text, name_given_before, bad_reference, repeated_key, too_many_queries}
 use Rattle.meaning.specs.Frame.{Kind, limits, name, schema_type, predicate, node, query, may_stand, Frame, frame_kind}
 use Rattle.meaning.specs.References.{name_refs, type_refs, node_refs, texts_of, keys_of}
@@ -15,7 +15,7 @@ any_of test (a ∷ l) = elim (test a) [ true ↦ true | false ↦ any_of test l 
 
 unfoldable pub all_below : ℕ → List ℕ → Bool
 all_below n [] = true
-all_below n (m ∷ ms) = both (ltb m n) (all_below n ms)
+all_below n (m ∷ ms) = ltb m n && all_below n ms
 
 unfoldable pub among : ℕ → List ℕ → Bool
 unfolding any_of
@@ -31,7 +31,7 @@ unfoldable pub same_text : List ℕ → List ℕ → Bool
 same_text [] [] = true
 same_text [] (b ∷ t) = false
 same_text (a ∷ s) [] = false
-same_text (a ∷ s) (b ∷ t) = both (eqb a b) (same_text s t)
+same_text (a ∷ s) (b ∷ t) = eqb a b && same_text s t
 
 unfoldable pub given : List (List ℕ) → List ℕ → Bool
 unfolding any_of same_text
@@ -134,7 +134,7 @@ is_name_given_before so l = of_frame (λ f. any_of (given so.names) (texts_of f)
 -- Items are numbered from 0, so an earlier one is one below the number of items so far.
 unfoldable pub refers_earlier : SoFar → Frame → Bool
 unfolding all_below name_refs type_refs node_refs
-refers_earlier so f = both (all_below (length so.names) (name_refs f)) (both (all_below (length so.types) (type_refs f)) (all_below (length so.nodes) (node_refs f)))
+refers_earlier so f = all_below (length so.names) (name_refs f) && (all_below (length so.types) (type_refs f) && all_below (length so.nodes) (node_refs f))
 
 unfoldable pub refers_badly : SoFar → Frame → Bool
 unfolding refers_earlier again node_refs

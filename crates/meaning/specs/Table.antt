@@ -2,9 +2,8 @@
 -- case, the list of "Contract and case", and the table of refusals but 11, whose row takes more visits than can be computed; our own; each
 -- message; forms of several queries. Each row is a file, the lengths of the two slices, what the program prints and, of an accepted file, its
 -- visits. Then whole outcomes: the result and both slices.
-use Rattle.std.specs.Prelude.{Bool, true, List, [], ◌∷◌, ◌++◌, ◌≡◌, ℕ, zero, suc, ◌+◌, ◌/◌, ◌%◌, eqb, replicate, None, Option, Some}
+use Rattle.std.specs.Prelude.{◌&&◌, Bool, true, List, [], ◌∷◌, ◌++◌, ◌≡◌, ℕ, zero, suc, ◌+◌, ◌/◌, ◌%◌, eqb, replicate, None, Option, Some}
 use Prim.Native.String.{String}
-use Rattle.text.specs.Utf8.{both}
 use Rattle.meaning.specs.Diag.{ascii}
 use Rattle.meaning.specs.Conditions.{same_text}
 use Rattle.meaning.specs.File.{Reading, refused, described, reading_of, reading}
@@ -1278,7 +1277,7 @@ visits_of (described f) = visits_in (run_all f.schema f.queries)
 
 unfoldable pub holds : Example → Bool
 unfolding same_text decide printed_lines visits_of reading_of
-holds e = both (same_text (printed_lines (decide e.file e.words) e.bytes) e.prints) (eqb (visits_of (reading e.file)) e.visits)
+holds e = same_text (printed_lines (decide e.file e.words) e.bytes) e.prints && eqb (visits_of (reading e.file)) e.visits
 
 -- Each row passes its test.
 infixr 30 ◌then◌
@@ -1347,7 +1346,7 @@ result_number (Refused r) = number r
 
 unfoldable pub is_outcome : Whole → Outcome → Bool
 unfolding result_number same_text
-is_outcome w o = both (eqb (result_number o.result) w.result) (both (same_text o.work (replicate w.words 0)) (same_text o.answer w.answer))
+is_outcome w o = eqb (result_number o.result) w.result && (same_text o.work (replicate w.words 0) && same_text o.answer w.answer)
 
 unfoldable pub ends : Whole → Bool
 unfolding is_outcome outcome

@@ -1,12 +1,12 @@
 -- To show a type is to show the one at the end of its chain, where chains are followed: at once, or a cell between braces, part by part.
 use mathlib.Core.Bool.{Bool, true, false}
-use mathlib.Core.List.{List, [], ◌∷◌, ◌++◌, append_assoc}
+use mathlib.Core.List.{List, [], ◌∷◌, ◌++◌, append_assoc, append-nil}
 use mathlib.Core.Path.{◌≡◌, refl, sym, ap, ◌∙◌}
 use Prim.Native.Nat.{ℕ, ◌+◌, ◌≤◌, ◌<◌}
 use native.Mathlib.Omega.{arith}
 use lib.Dec.{ltb}
 use lib.ListN.{length}
-use borrow.Author.Tests.{ltb-true, ltb-false}
+use borrow.Author.Tests.{ltb-true, ltb-false, lt-ltb, le-ltb}
 use Rattle.unification.specs.Ty as Tree
 use Rattle.unification.specs.Ty.{Row, ε, cell, app_row}
 use Rattle.unification.specs.Bindings.{Subst, zonk}
@@ -26,14 +26,16 @@ use Rattle.meaning.specs.Messages.{decimal, render, render_row, separator, part}
 use Rattle.writer.specs.Writes.{Writes, WritesText, hex_of}
 use Rattle.writer.proofs.Writing.{writes_to}
 use Rattle.messages.specs.Shown.{Sight, Seen, Shows, Always, kind_of, shown, shown_row, render_text, cell_text, before_text, parted_by, after_text}
-use Rattle.messages.specs.Shown.{name_text, Ended, Looks}
-use Rattle.messages.proofs.Showing.{shows_as, shows_where, shows_text, shows_writes, shows_then, shows_full, Showing, showing_start, showing_next}
+use Rattle.messages.specs.Shown.{name_text, discriminant_text, Ended, Looks}
+use Rattle.messages.specs.declared.shown.Bindings.{Bindings}
+use Rattle.messages.specs.declared.shown.Bindings.TheVariants.{Ignored, Followed}
+use Rattle.messages.proofs.Showing.{shows_as, shows_where, shows_text, shows_writes, shows_then, shows_full, text_then, text_full, Showing, showing_start, showing_next}
 use Rattle.messages.proofs.Showing.{showing_full, showing_last}
 use Rattle.std.specs.Prelude.{None, Option, Some}
 
 -- ---- The end of a chain
 
-pub look_follows : {w : List ℕ} {t u : Ty} → Reprs w t u → Looks w t true u
+pub look_follows : {w : List ℕ} {t u : Ty} → Reprs w t u → Looks w t Followed u
 look_follows {w} {t} {u} rep = record {
   is = λ T s B A. sym (ap (zonk s) (rep.is T s B) ∙ zonk_repr s A (tree T t));
   ok = rep.ok;
@@ -42,17 +44,17 @@ look_follows {w} {t} {u} rep = record {
 
 -- ---- A type without parts
 
-pub leaf_shown : (b : Bool) (s : Subst) (p : Tree.Leaf) → shown b s (Tree.leaf p) ≡ Tree.leaf p
-leaf_shown true s p = zonk_leaf s p
-leaf_shown false s p = refl
+pub leaf_shown : (b : Bindings) (s : Subst) (p : Tree.Leaf) → shown b s (Tree.leaf p) ≡ Tree.leaf p
+leaf_shown Followed s p = zonk_leaf s p
+leaf_shown Ignored s p = refl
 
-pub var_shown : (b : Bool) (s : Subst) (x : ℕ) → Ended b s (Tree.Var x) → shown b s (Tree.Var x) ≡ Tree.Var x
-var_shown true s x e = zonk_unbound s x e
-var_shown false s x e = refl
+pub var_shown : (b : Bindings) (s : Subst) (x : ℕ) → Ended b s (Tree.Var x) → shown b s (Tree.Var x) ≡ Tree.Var x
+var_shown Followed s x e = zonk_unbound s x e
+var_shown Ignored s x e = refl
 
-pub error_shown : (b : Bool) (s : Subst) → shown b s Tree.Error ≡ Tree.Error
-error_shown true s = zonk_error s
-error_shown false s = refl
+pub error_shown : (b : Bindings) (s : Subst) → shown b s Tree.Error ≡ Tree.Error
+error_shown Followed s = zonk_error s
+error_shown Ignored s = refl
 
 -- ---- A type is shown by the end of its chain
 
@@ -64,19 +66,19 @@ cell_ok : (w : List ℕ) (k : Kind) (c : ℕ) → Ok w (cell_ty k c) → IsCell 
 cell_ok w Fields c o = o
 cell_ok w Alternatives c o = o
 
-shown_cell : (b : Bool) (s : Subst) (T : Rows) (k : Kind) (c : ℕ) → shown b s (tree T (cell_ty k c)) ≡ Tree.node (kind_of k) (shown_row b s (T c))
-shown_cell true s T Fields c = zonk_node s Tree.Record (T c)
-shown_cell true s T Alternatives c = zonk_node s Tree.Union (T c)
-shown_cell false s T Fields c = refl
-shown_cell false s T Alternatives c = refl
+shown_cell : (b : Bindings) (s : Subst) (T : Rows) (k : Kind) (c : ℕ) → shown b s (tree T (cell_ty k c)) ≡ Tree.node (kind_of k) (shown_row b s (T c))
+shown_cell Followed s T Fields c = zonk_node s Tree.Record (T c)
+shown_cell Followed s T Alternatives c = zonk_node s Tree.Union (T c)
+shown_cell Ignored s T Fields c = refl
+shown_cell Ignored s T Alternatives c = refl
 
-shown_as : {f w : List ℕ} {t : Ty} {b : Bool} {u : Ty} → Looks w t b u → (v : Sight) → Seen f w v → (x : Tree.Ty) → shown b v.subst (tree v.rows u) ≡ x
+shown_as : {f w : List ℕ} {t : Ty} {b : Bindings} {u : Ty} → Looks w t b u → (v : Sight) → Seen f w v → (x : Tree.Ty) → shown b v.subst (tree v.rows u) ≡ x
     → render v.names v.schema x ≡ render_text b t v
 shown_as L v S x e = ap (render v.names v.schema) (sym (L.is v.rows v.subst S.binds S.acyclic ∙ e))
 
-module _ {f w out : List ℕ} {at : ℕ} {t : Ty} {b : Bool} {out' : List ℕ} {r : Option ℕ} where
+module _ {f w out : List ℕ} {at : ℕ} {t : Ty} {b : Bindings} {out' : List ℕ} {r : Option ℕ} where
   pub render_as : {u : Ty} → Looks w t b u → ((v : Sight) → Ended b v.subst (tree v.rows u) → shown b v.subst (tree v.rows u) ≡ tree v.rows u)
-      → Shows f w out at (Ok w t) (render_text false u) out' r → Shows f w out at (Ok w t) (render_text b t) out' r
+      → Shows f w out at (Ok w t) (render_text Ignored u) out' r → Shows f w out at (Ok w t) (render_text b t) out' r
   render_as {u} L e g = shows_as (λ v S o. shown_as L v S (tree v.rows u) (e v (L.end v.rows v.subst S.binds S.acyclic))) g
 
   pub render_cell : (k : Kind) (c : ℕ) → Looks w t b (cell_ty k c) → Shows f w out at (IsCell w k c) (cell_text b k c) out' r
@@ -87,18 +89,18 @@ module _ {f w out : List ℕ} {at : ℕ} {t : Ty} {b : Bool} {out' : List ℕ} {
 
 -- ---- The parts of a cell
 
-shown_cons : (b : Bool) (s : Subst) (key label : ℕ) (t : Tree.Ty) (r : Row) → shown_row b s (cell key label t r) ≡ cell key label (shown b s t) (shown_row b s r)
+shown_cons : (b : Bindings) (s : Subst) (key label : ℕ) (t : Tree.Ty) (r : Row) → shown_row b s (cell key label t r) ≡ cell key label (shown b s t) (shown_row b s r)
 unfolding app_row
-shown_cons true s key label t r = rw (zonk_replaces s t)
-shown_cons false s key label t r = refl
+shown_cons Followed s key label t r = rw (zonk_replaces s t)
+shown_cons Ignored s key label t r = refl
 
-shown_nil : (b : Bool) (s : Subst) → shown_row b s ε ≡ ε
+shown_nil : (b : Bindings) (s : Subst) → shown_row b s ε ≡ ε
 unfolding app_row
-shown_nil true s = refl
-shown_nil false s = refl
+shown_nil Followed s = refl
+shown_nil Ignored s = refl
 
 -- the rest of the parts, from number j on, and the brace
-abbrev row_text : Bool → Kind → Row → Sight → List ℕ
+abbrev row_text : Bindings → Kind → Row → Sight → List ℕ
 row_text b k r v = render_row v.names v.schema (shown_row b v.subst r) (kind_of k) ++ 125 ∷ []
 
 in_record : (n e t p r z : List ℕ) → ((n ++ (e ++ t)) ++ (p ++ r)) ++ z ≡ (n ++ e) ++ (t ++ (p ++ (r ++ z)))
@@ -107,7 +109,7 @@ in_record n e t p r z = simp append_assoc
 in_union : (n e t q d p r z : List ℕ) → ((n ++ (e ++ (t ++ (q ++ d)))) ++ (p ++ r)) ++ z ≡ (n ++ e) ++ (t ++ ((q ++ (d ++ p)) ++ (r ++ z)))
 in_union n e t q d p r z = simp append_assoc
 
-one_part : (b : Bool) (k : Kind) (v : Sight) (key label : ℕ) (t : Tree.Ty) (r : Row) (m : Bool)
+one_part : (b : Bindings) (k : Kind) (v : Sight) (key label : ℕ) (t : Tree.Ty) (r : Row) (m : Bool)
     → separator v.names v.schema (kind_of k) (shown_row b v.subst r) ≡ parted_by k m
     → row_text b k (cell key label t r) v
     ≡ before_text k key label v ++ (render v.names v.schema (shown b v.subst t) ++ (after_text k key m ++ row_text b k r v))
@@ -119,31 +121,51 @@ one_part b Alternatives v key label t r m e = rw (shown_cons b v.subst key label
     (in_union (name_text label v) (ascii " : ") (render v.names v.schema (shown b v.subst t)) (ascii " = ") (decimal key) (parted_by Alternatives m)
     (render_row v.names v.schema (shown_row b v.subst r) Tree.Union) (125 ∷ []))
 
-parted_some : (b : Bool) (k : Kind) (v : Sight) (key label : ℕ) (t : Tree.Ty) (r : Row)
+parted_some : (b : Bindings) (k : Kind) (v : Sight) (key label : ℕ) (t : Tree.Ty) (r : Row)
     → separator v.names v.schema (kind_of k) (shown_row b v.subst (cell key label t r)) ≡ parted_by k true
 unfolding separator
 parted_some b Fields v key label t r = rw (shown_cons b v.subst key label t r)
 parted_some b Alternatives v key label t r = rw (shown_cons b v.subst key label t r)
 
-parted_none : (b : Bool) (k : Kind) (v : Sight) → separator v.names v.schema (kind_of k) (shown_row b v.subst ε) ≡ parted_by k false
+parted_none : (b : Bindings) (k : Kind) (v : Sight) → separator v.names v.schema (kind_of k) (shown_row b v.subst ε) ≡ parted_by k false
 unfolding separator
 parted_none b Fields v = rw (shown_nil b v.subst)
 parted_none b Alternatives v = rw (shown_nil b v.subst)
 
+-- What stands after a type: the discriminant, and what parts it from the next part.
+after_is : (k : Kind) (key : ℕ) (m : Bool) → discriminant_text k key ++ parted_by k m ≡ after_text k key m
+after_is Fields key m = refl
+after_is Alternatives key m = append_assoc (ascii " = ") (decimal key) (parted_by Alternatives m)
+
+not_parted : (k : Kind) → parted_by k false ≡ []
+not_parted Fields = refl
+not_parted Alternatives = refl
+
+module _ (k : Kind) (key : ℕ) {out : List ℕ} {at : ℕ} {mid : List ℕ} {r : Option ℕ} (g : WritesText out at (discriminant_text k key) mid r) where
+  pub after_cut : (m : Bool) → r ≡ None → WritesText out at (after_text k key m) mid None
+  after_cut m e = rw (after_is k key m) at (text_full g e (parted_by k m))
+
+  pub after_parted : {n : ℕ} → r ≡ Some n → (i c : ℕ) → i < c → {out' : List ℕ} {r' : Option ℕ} → WritesText mid n (parted_by k true) out' r'
+      → WritesText out at (after_text k key (ltb i c)) out' r'
+  after_parted e i c l h = rw (lt-ltb i c l, ← after_is k key true) (text_then g e h)
+
+  pub after_last : (i c : ℕ) → c ≤ i → WritesText out at (after_text k key (ltb i c)) mid r
+  after_last i c l = rw (le-ltb i c l, ← after_is k key false, not_parted k, append-nil (discriminant_text k key)) g
+
 -- What is written after the opening brace, as far as number j.
-pub record Celling (f w out₀ : List ℕ) (at : ℕ) (b : Bool) (k : Kind) (c n : ℕ) (out : List ℕ) (j to : ℕ) : Type 0 where
+pub record Celling (f w out₀ : List ℕ) (at : ℕ) (b : Bindings) (k : Kind) (c n : ℕ) (out : List ℕ) (j to : ℕ) : Type 0 where
   pub within : j ≤ n
   pub all : n ≡ count_w w c
   pub showing : Showing f w out₀ at (IsCell w k c) (λ v. row_text b k (v.rows c) v) out to (λ v. row_text b k (rest v.rows w k c n j) v)
 
-pub cell_start : (f w out : List ℕ) (at : ℕ) (b : Bool) (k : Kind) (c n : ℕ) → n ≡ count_w w c → Celling f w out at b k c n out 0 at
+pub cell_start : (f w out : List ℕ) (at : ℕ) (b : Bindings) (k : Kind) (c n : ℕ) → n ≡ count_w w c → Celling f w out at b k c n out 0 at
 cell_start f w out at b k c n e = record {
   within = omega arith;
   all = e;
   showing = showing_start _ _ (λ v S o. ap (λ (x : Row). row_text b k x v) (sym (rest_whole v.rows w k c n e S.cells o)));
 }
 
-module _ {f w out₀ : List ℕ} {at : ℕ} {b : Bool} {k : Kind} {c n : ℕ} {out : List ℕ} {j to : ℕ} (g : Celling f w out₀ at b k c n out j to) where
+module _ {f w out₀ : List ℕ} {at : ℕ} {b : Bindings} {k : Kind} {c n : ℕ} {out : List ℕ} {j to : ℕ} (g : Celling f w out₀ at b k c n out j to) where
   module _ (p : Part) (l : j < n) (e : p ≡ part_w w k c j) {mid : List ℕ} {x : Option ℕ}
       (before : Shows f w out to Always (before_text k p.key p.label) mid x) where
     parted : (v : Sight) → separator v.names v.schema (kind_of k) (shown_row b v.subst (rest v.rows w k c n (j + 1))) ≡ parted_by k (ltb (j + 1) n)
@@ -200,7 +222,7 @@ pub brace_moves : {out : List ℕ} {at : ℕ} {mid : List ℕ} {h : Option ℕ} 
 unfolding hex_of
 brace_moves f e = let g = writes_to f e in (omega (arith, g.0), g.1)
 
-module _ (b : Bool) (k : Kind) (c : ℕ) {f w out : List ℕ} {at : ℕ} {mid : List ℕ} {h : Option ℕ} (brace : Writes out at (hex_of (123 ∷ [])) mid h) where
+module _ (b : Bindings) (k : Kind) (c : ℕ) {f w out : List ℕ} {at : ℕ} {mid : List ℕ} {h : Option ℕ} (brace : Writes out at (hex_of (123 ∷ [])) mid h) where
   pub brace_full : h ≡ None → Shows f w out at (IsCell w k c) (cell_text b k c) mid None
   unfolding render ascii
   brace_full e = shows_as (λ v S o. refl) (shows_full (shows_writes brace) e (λ v. row_text b k (v.rows c) v))

@@ -12,6 +12,10 @@ use Rattle.std.specs.Prelude.{None, Option, Some}
 
 -- ---- Texts that depend on nothing
 
+pub text_none : {out : List ℕ} {at : ℕ} → WritesText out at [] out (Some at)
+unfolding hex_of
+text_none {out} {at} = record { is = λ b. writes_none out at b; moves = moves_none out at }
+
 module _ {out : List ℕ} {at : ℕ} {a mid : List ℕ} {r : Option ℕ} (g : WritesText out at a mid r) where
   pub text_then : {n : ℕ} → r ≡ Some n → {b out' : List ℕ} {r' : Option ℕ} → WritesText mid n b out' r' → WritesText out at (a ++ b) out' r'
   text_then {n} e {b} h = record {

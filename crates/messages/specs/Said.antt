@@ -11,6 +11,7 @@ use Rattle.meaning.specs.Messages.{message_text}
 use Rattle.tree.specs.Stands.{Stands}
 use Rattle.writer.specs.Writes.{Writes, WritesText, Moves, hex_of}
 use Rattle.messages.specs.declared.Message.{Message}
+use Rattle.cells.specs.declared.TyError.{TyError}
 
 abbrev pub said : Rows → Subst → Message → Diag.Message
 said T s Message.WildcardHead = Diag.wildcard_head
@@ -33,6 +34,13 @@ said T s (Message.NoOrder t) = Diag.no_order (zonk s (tree T t))
 said T s (Message.Mismatch e g) = Diag.mismatch (tree T e) (tree T g)
 said T s (Message.UnionMismatch d e g) = Diag.union_mismatch (diff_of d) (tree T e) (tree T g)
 said T s Message.Infinite = Diag.infinite
+
+-- The message of a unification's failure.
+abbrev pub report_message : TyError → Message
+report_message (TyError.Mismatch e g) = Message.Mismatch e g
+report_message (TyError.UnionMismatch d e g) = Message.UnionMismatch d e g
+report_message (TyError.UnknownField n) = Message.NoField n
+report_message TyError.Infinite = Message.Infinite
 
 -- The types that it shows exist.
 abbrev pub OkMessage : List ℕ → Message → Type 0

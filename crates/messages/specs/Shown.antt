@@ -14,6 +14,8 @@ use Rattle.meaning.specs.Schema.{Schema}
 use Rattle.tree.specs.Stands.{SchemaStands}
 use Rattle.writer.specs.Writes.{Writes, Moves, hex_of}
 use Rattle.messages.specs.declared.shown.Piece.{Piece}
+use Rattle.messages.specs.declared.shown.Bindings.{Bindings}
+use Rattle.messages.specs.declared.shown.Bindings.TheVariants.{Ignored, Followed}
 
 -- What the file and the work slice stand for, as far as a text depends on it.
 pub record Sight : Type 0 where
@@ -55,18 +57,18 @@ kind_of Fields = Tree.Record
 kind_of Alternatives = Tree.Union
 
 -- A type, resolved where that is asked; the parts of a cell likewise.
-abbrev pub shown : Bool → Subst → Tree.Ty → Tree.Ty
-shown true s t = zonk s t
-shown false s t = t
+abbrev pub shown : Bindings → Subst → Tree.Ty → Tree.Ty
+shown Followed s t = zonk s t
+shown Ignored s t = t
 
-abbrev pub shown_row : Bool → Subst → Row → Row
-shown_row true s r = app_row (λ x. zonk s (Tree.Var x)) r
-shown_row false s r = r
+abbrev pub shown_row : Bindings → Subst → Row → Row
+shown_row Followed s r = app_row (λ x. zonk s (Tree.Var x)) r
+shown_row Ignored s r = r
 
-abbrev pub render_text : Bool → Ty → Sight → List ℕ
+abbrev pub render_text : Bindings → Ty → Sight → List ℕ
 render_text b t v = render v.names v.schema (shown b v.subst (tree v.rows t))
 
-abbrev pub cell_text : Bool → Kind → ℕ → Sight → List ℕ
+abbrev pub cell_text : Bindings → Kind → ℕ → Sight → List ℕ
 cell_text b k c v = render v.names v.schema (Tree.node (kind_of k) (shown_row b v.subst (v.rows c)))
 
 -- What stands before and after the type of a part, the latter with what parts it from the next.
@@ -80,16 +82,20 @@ parted_by Fields false = []
 parted_by Alternatives true = ascii " | "
 parted_by Alternatives false = []
 
+abbrev pub discriminant_text : Kind → ℕ → List ℕ
+discriminant_text Fields key = []
+discriminant_text Alternatives key = ascii " = " ++ decimal key
+
 abbrev pub after_text : Kind → ℕ → Bool → List ℕ
 after_text Fields key more = parted_by Fields more
 after_text Alternatives key more = ascii " = " ++ (decimal key ++ parted_by Alternatives more)
 
 -- The end of a chain, where chains are followed.
-abbrev pub Ended : Bool → Subst → Tree.Ty → Type 0
-Ended true s t = Resolved s t
-Ended false s t = Unit {0}
+abbrev pub Ended : Bindings → Subst → Tree.Ty → Type 0
+Ended Followed s t = Resolved s t
+Ended Ignored s t = Unit {0}
 
-pub record Looks (w : List ℕ) (t : Ty) (b : Bool) (u : Ty) : Type 0 where
+pub record Looks (w : List ℕ) (t : Ty) (b : Bindings) (u : Ty) : Type 0 where
   pub is : (T : Rows) (s : Subst) → Binds w T s → Acyclic s → shown b s (tree T t) ≡ shown b s (tree T u)
   pub ok : (T : Rows) (s : Subst) → Binds w T s → Ok w t → Ok w u
   pub end : (T : Rows) (s : Subst) → Binds w T s → Acyclic s → Ended b s (tree T u)
@@ -100,8 +106,8 @@ abbrev pub piece_text : Piece → Sight → List ℕ
 piece_text (Piece.Text s) v = s.now
 piece_text (Piece.Number n) v = decimal n
 piece_text (Piece.Name x) v = quoted_text x v
-piece_text (Piece.Type t) v = render_text false t v
-piece_text (Piece.Resolved t) v = render_text true t v
+piece_text (Piece.Type t) v = render_text Ignored t v
+piece_text (Piece.Resolved t) v = render_text Followed t v
 
 -- the types that it shows exist
 abbrev pub ok_piece : List ℕ → Piece → Type 0

@@ -1,11 +1,12 @@
 // What a diagnostic says, and how it is written.
 #![tactic(auto)]
 
-ghost use Rattle.messages.specs.Said.{CodeIs, WritesCode, WritesMessage};
+ghost use Rattle.std.specs.Prelude.{◌≡◌};
+ghost use Rattle.messages.specs.Said.{CodeIs, WritesCode, WritesMessage, report_message};
 
 mod shown;
 
-use cells::{Ty, UnionDiff};
+use cells::{Ty, TyError, UnionDiff};
 use shown::Piece::{Name, Number, Resolved, Text, Type};
 use shown::View;
 use work::word;
@@ -33,6 +34,19 @@ pub enum Message {
     Mismatch(Ty, Ty),
     UnionMismatch(UnionDiff, Ty, Ty),
     Infinite,
+}
+
+impl From<TyError> for Message {
+    ghost from_gives = { λ err m. m ≡ report_message err };
+
+    fn from(err: TyError) -> Message {
+        match err {
+            TyError::Mismatch(e, g) => Message::Mismatch(e, g),
+            TyError::UnionMismatch(d, e, g) => Message::UnionMismatch(d, e, g),
+            TyError::UnknownField(name) => Message::NoField(name),
+            TyError::Infinite => Message::Infinite,
+        }
+    }
 }
 
 #[tactic(auto, unfolding(meaning::specs::Diag::ascii, meaning::specs::Diag::as_str, meaning::specs::Diag::code_of))]
@@ -68,12 +82,19 @@ pub fn code_text(out: &mut [u8], at: usize, m: Message) -> Option<usize>
     shown::text(out, at, code_of(m))
 }
 
-// What a message says, in the file's names, with the bindings of this moment where a type is resolved.
+// What a message says, in the file's names, with the bindings of this moment where a type is resolved. The view is made
+// here: no caller has another use of it.
 pub fn text(f: &[u8], w: &[u32], out: &mut [u8], at: usize, m: Message) -> Option<usize>
     ensures { WritesMessage f.now w.now out.old at m out.new result }
 {
     macro_rules! say {
         ($($piece:expr),+) => { View { f, w }.write(out, at, &[$($piece),+]) };
+    }
+    // What a mismatch says first.
+    macro_rules! found {
+        ($e:expr, $g:expr $(, $piece:expr)*) => {
+            say!(Text("expected "), Type($e), Text(", found "), Type($g) $(, $piece)*)
+        };
     }
     match m {
         Message::WildcardHead => say!(Text("a wildcard head projects nothing")),
@@ -124,22 +145,18 @@ pub fn text(f: &[u8], w: &[u32], out: &mut [u8], at: usize, m: Message) -> Optio
                 " has no order — it holds a reference, and a reference compares by which fact was written first"
             )
         ),
-        Message::Mismatch(e, g) => say!(Text("expected "), Type(e), Text(", found "), Type(g)),
-        Message::UnionMismatch(UnionDiff::Absent(n, k), e, g) => say!(
-            Text("expected "),
-            Type(e),
-            Text(", found "),
-            Type(g),
+        Message::Mismatch(e, g) => found!(e, g),
+        Message::UnionMismatch(UnionDiff::Absent(n, k), e, g) => found!(
+            e,
+            g,
             Text(": only one of them declares "),
             Name(n),
             Text(" = "),
             Number(k)
         ),
-        Message::UnionMismatch(UnionDiff::Renamed(x, y, k), e, g) => say!(
-            Text("expected "),
-            Type(e),
-            Text(", found "),
-            Type(g),
+        Message::UnionMismatch(UnionDiff::Renamed(x, y, k), e, g) => found!(
+            e,
+            g,
             Text(": discriminant "),
             Number(k),
             Text(" is "),
@@ -147,11 +164,9 @@ pub fn text(f: &[u8], w: &[u32], out: &mut [u8], at: usize, m: Message) -> Optio
             Text(", not "),
             Name(y)
         ),
-        Message::UnionMismatch(UnionDiff::Payload(n, k), e, g) => say!(
-            Text("expected "),
-            Type(e),
-            Text(", found "),
-            Type(g),
+        Message::UnionMismatch(UnionDiff::Payload(n, k), e, g) => found!(
+            e,
+            g,
             Text(": alternative "),
             Name(n),
             Text(" = "),

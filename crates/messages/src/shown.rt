@@ -1,14 +1,24 @@
-// Numbers, names and types, as messages show them.
-ghost use Rattle.std.specs.Prelude.{◌≡◌, ◌==◌, drop};
+// Numbers, names and types, as messages show them. No `Display`: a text goes into the lent slice as digits, two a byte,
+// and a name is copied as the digits that the file has.
+ghost use Rattle.std.specs.Prelude.{true, ◌≡◌, ◌==◌, drop};
 ghost use Rattle.std.specs.List.{before_first};
 ghost use Rattle.meaning.specs.Messages.{decimal};
 ghost use Rattle.writer.specs.Writes.{WritesText};
 ghost use Rattle.cells.specs.Stands.{Ok, IsCell};
-ghost use Rattle.messages.specs.Shown.{Always, Shows, Looks, ok_piece, ok_pieces, piece_text, pieces_text, name_text, quoted_text, fact_text, before_text, after_text, render_text, cell_text};
+ghost use Rattle.messages.specs.Shown.{Always, Shows, Looks, ok_piece, ok_pieces, piece_text, pieces_text, name_text, quoted_text, fact_text, before_text, parted_by, discriminant_text, render_text, cell_text};
 
 use cells::{Kind, Part, Ty};
 use work::{wide, word};
 use writer::byte;
+
+// `out` and `at` are two parameters: crate writer says why.
+
+// Whether an unknown is shown as one, or as what it is bound to at this moment.
+#[derive(Clone, Copy)]
+pub enum Bindings {
+    Ignored,
+    Followed,
+}
 
 // A piece of a text.
 #[derive(Clone, Copy)]
@@ -17,7 +27,7 @@ pub enum Piece {
     Number(u32),
     Name(u32),
     Type(Ty),
-    // with what unknowns are bound to at this moment
+    // with the bindings of this moment
     Resolved(Ty),
 }
 
@@ -27,6 +37,7 @@ pub fn text(out: &mut [u8], at: usize, s: &str) -> Option<usize>
     writer::text(out, at, s.as_bytes())
 }
 
+// The digits are itoa's.
 fn number(out: &mut [u8], at: usize, x: u32) -> Option<usize>
     ensures { WritesText out.old at (decimal x) out.new result }
 {
@@ -47,17 +58,27 @@ fn line(f: &[u8], from: usize) -> &[u8]
     before_lf(f.get(from..).unwrap_or(&[]))
 }
 
-// What stands after the type of a part: ` = discriminant` in a union; and what parts it from the next, if there is one.
-fn after(out: &mut [u8], at: usize, k: Kind, key: u32, more: bool) -> Option<usize>
-    ensures { WritesText out.old at (after_text k key more) out.new result }
+// What stands after the type of a part: ` = discriminant` in a union.
+fn after(out: &mut [u8], at: usize, k: Kind, key: u32) -> Option<usize>
+    ensures { WritesText out.old at (discriminant_text k key) out.new result }
 {
     match k {
-        Kind::Fields => text(out, at, if more { ", " } else { "" }),
+        Kind::Fields => Some(at),
         Kind::Alternatives => {
             let at = text(out, at, " = ")?;
-            let at = number(out, at, key)?;
-            text(out, at, if more { " | " } else { "" })
+            number(out, at, key)
         }
+    }
+}
+
+// What stands between two parts. What a record and a union show differs, here and above and in `before`: so a `match`.
+#[tactic(auto, unfolding(meaning::specs::Diag::ascii))]
+fn between(k: Kind) -> &'static str
+    ensures { result.now ≡ parted_by k true }
+{
+    match k {
+        Kind::Fields => ", ",
+        Kind::Alternatives => " | ",
     }
 }
 
@@ -114,42 +135,48 @@ impl View<'_> {
     }
 
     // The type at the end of its chain, where bindings are followed.
-    fn look(&self, t: Ty, resolve: bool) -> Ty
-        ensures { Looks self.now.w.now t resolve result }
+    fn look(&self, t: Ty, b: Bindings) -> Ty
+        ensures { Looks self.now.w.now t b result }
     {
-        if resolve { cells::repr(self.w, t) } else { t }
+        match b {
+            Bindings::Ignored => t,
+            Bindings::Followed => cells::repr(self.w, t),
+        }
     }
 
-    // `render`: bindings are followed only where `resolve` says so. A cell's brace is written before its parts, so the room left falls.
+    // `render`. A cell's brace is written before its parts, so the room left falls.
     #[cycle(rendering)]
-    fn render(&self, out: &mut [u8], at: usize, t: Ty, resolve: bool) -> Option<usize>
-        ensures { Shows self.now.f.now self.now.w.now out.old at (Ok self.now.w.now t) (render_text resolve t) out.new result }
+    fn render(&self, out: &mut [u8], at: usize, t: Ty, b: Bindings) -> Option<usize>
+        ensures { Shows self.now.f.now self.now.w.now out.old at (Ok self.now.w.now t) (render_text b t) out.new result }
     {
-        match self.look(t, resolve) {
+        match self.look(t, b) {
             Ty::Int => text(out, at, "an integer"),
             Ty::Str => text(out, at, "a string"),
             Ty::Bytes => text(out, at, "bytes"),
             Ty::Fact(p) => self.fact(out, at, p),
-            Ty::Record(c) => self.cell(out, at, Kind::Fields, c, resolve),
-            Ty::Union(c) => self.cell(out, at, Kind::Alternatives, c, resolve),
+            Ty::Record(c) => self.cell(out, at, Kind::Fields, c, b),
+            Ty::Union(c) => self.cell(out, at, Kind::Alternatives, c, b),
             Ty::Var(_) => text(out, at, "an unknown type"),
             Ty::Error => text(out, at, "(already reported)"),
         }
     }
 
     #[cycle(rendering)]
-    fn cell(&self, out: &mut [u8], at: usize, k: Kind, c: u32, resolve: bool) -> Option<usize>
-        ensures { Shows self.now.f.now self.now.w.now out.old at (IsCell self.now.w.now k c) (cell_text resolve k c) out.new result }
+    fn cell(&self, out: &mut [u8], at: usize, k: Kind, c: u32, b: Bindings) -> Option<usize>
+        ensures { Shows self.now.f.now self.now.w.now out.old at (IsCell self.now.w.now k c) (cell_text b k c) out.new result }
     {
-        let mut to = byte(out, at, u32::from(b'{'))?;
+        let mut to = byte(out, at, b'{')?;
         let n = cells::count(self.w, c);
         for j in 0..n {
             let p = cells::part_at(self.w, k, c, j);
             to = self.before(out, to, k, &p)?;
-            to = self.render(out, to, p.ty, resolve)?;
-            to = after(out, to, k, p.key, j + 1 < n)?;
+            to = self.render(out, to, p.ty, b)?;
+            to = after(out, to, k, p.key)?;
+            if j + 1 < n {
+                to = text(out, to, between(k))?;
+            }
         }
-        byte(out, to, u32::from(b'}'))
+        byte(out, to, b'}')
     }
 
     fn piece(&self, out: &mut [u8], at: usize, p: Piece) -> Option<usize>
@@ -159,8 +186,8 @@ impl View<'_> {
             Piece::Text(s) => text(out, at, s),
             Piece::Number(n) => number(out, at, n),
             Piece::Name(x) => self.quoted(out, at, x),
-            Piece::Type(t) => self.render(out, at, t, false),
-            Piece::Resolved(t) => self.render(out, at, t, true),
+            Piece::Type(t) => self.render(out, at, t, Bindings::Ignored),
+            Piece::Resolved(t) => self.render(out, at, t, Bindings::Followed),
         }
     }
 

@@ -1,6 +1,5 @@
 pub mod Tokens
 pub mod Swaps
-pub mod Copying
 pub mod Passes
 pub mod Types
 pub mod Cells

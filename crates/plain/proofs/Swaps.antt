@@ -14,7 +14,7 @@ use Rattle.unification.proofs.Tests.{clash}
 use Rattle.plain_theory.specs.Plain.{Binding, In, InRow, in?, only, in_pair, in_binding, bind, fails, binds}
 use Rattle.plain_theory.specs.Words.{leaf_spelled, kind_tag, head_spelled, spelled, row_spelled, pairs_spelled, bindings_spelled}
 use Rattle.plain.specs.Tokens.{short, is_unknown, instead_of, swapped, among}
-use Rattle.plain.proofs.Tokens.{swapped_short, swapped_long, among_short}
+use Rattle.plain.proofs.Tokens.{swapped_short, swapped_long, among_short, var_long, error_short}
 
 -- ---- Replacing
 
@@ -48,14 +48,6 @@ module _ (x : ℕ) (ts : List ℕ) where
   swap_bound : (y : ℕ) (ws : List ℕ) → swapped x ts (11 ∷ y ∷ ws) ≡ 11 ∷ y ∷ swapped x ts ws
   unfolding short
   swap_bound y ws = swap_other 11 y ws refl refl
-
-var_long : short 7 ≡ false
-unfolding short
-var_long = refl
-
-error_short : short 8 ≡ true
-unfolding short
-error_short = refl
 
 module _ (x : ℕ) (t : Ty) where
   swap_unknown : (y : ℕ) (ws : List ℕ) → swapped x (spelled t) (7 ∷ y ∷ ws) ≡ spelled (only x t y) ++ swapped x (spelled t) ws

@@ -108,7 +108,7 @@ unfolding kind_tag short owed
 node_behind Record m ws n = behind_long 5 m ws n refl
 node_behind Union m ws n = behind_long 6 m ws n refl
 
-var_long : short 7 ≡ false
+pub var_long : short 7 ≡ false
 unfolding short
 var_long = refl
 
@@ -116,7 +116,7 @@ var_owes : (x : ℕ) → owed 7 x ≡ 0
 unfolding owed
 var_owes x = refl
 
-error_short : short 8 ≡ true
+pub error_short : short 8 ≡ true
 unfolding short
 error_short = refl
 

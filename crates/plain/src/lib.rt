@@ -1,5 +1,5 @@
-// The plain solver (card 12): a list of pairs to be made equal and a list of bindings, as words in a lent slice. Nothing of
-// `unify` is called.
+// The plain solver (card 12): a list of pairs to be made equal and a list of bindings, as words in a lent slice.
+// Nothing of `unify` is called.
 #![tactic(auto)]
 
 ghost use Rattle.std.specs.Prelude.{List, [], ◌∷◌, ◌++◌, ◌≡◌, ◌+◌, ◌<◌, ◌≤◌, length, MatchOption, None, Some};
@@ -9,9 +9,13 @@ ghost use Rattle.writer.specs.Writes.{Writes};
 ghost use Rattle.plain.specs.Tokens.{short, is_unknown, owed, instead_of, swapped, among, behind, NoType, FirstType, NoCell, FirstCell, Absent, FoundAt, FirstUnlike, FirstAlike, Alike, Pairs, NoUnknown, NoNode};
 ghost use Rattle.plain.specs.Stages.{Rows, TellsBound, TellsApart, Tells, Lays, Stays, Runs};
 
-use writer::{one, two};
+use work::wide;
+use writer::{copy, one, two};
 
-// Tokens: of the leaves 1 to 3 and an error this one word alone, of the others a number follows.
+// `out` and `at` are two parameters: crate writer says why.
+
+// Tokens: of the leaves 1 to 3 and an error this one word alone, of the others a number follows. A stage is words, so
+// numbers are compared, and no enum.
 const FACT: u32 = 4;
 
 const RECORD: u32 = 5;
@@ -29,24 +33,13 @@ const LABEL: u32 = 10;
 
 const BINDING: u32 = 11;
 
-// Why a run comes to no bindings: there are none, demand 3 shuts its types out, or the slice is too short.
+// The errors of a run that comes to no bindings: there are none, demand 3 shuts its types out, or the slice is too
+// short.
 #[derive(Clone, Copy)]
 pub enum Unsolved {
     Failure,
     ShutOut,
     TooFew,
-}
-
-// Words, if there is room.
-fn copy(out: &mut [u32], at: usize, ws: &[u32]) -> Option<usize>
-    ensures { Writes out.old at ws.now out.new result }
-{
-    if out.len().checked_sub(at)? < ws.len() {
-        return None;
-    }
-    let to = at + ws.len();
-    out[at..to].copy_from_slice(ws);
-    Some(to)
 }
 
 // Whether a token is this one word, and else a second one follows.
@@ -77,7 +70,8 @@ fn instead(out: &mut [u32], at: usize, a: u32, b: u32, x: u32, ts: &[u32]) -> Op
     }
 }
 
-// The words, with the words ts for each token of x.
+// The words, with the words ts for each token of x. A token has one word or two, so no chunks go over them: the loops
+// here and in `occurs` take one off by a pattern.
 fn replace(out: &mut [u32], at: usize, ws: &[u32], x: u32, ts: &[u32]) -> Option<usize>
     ensures { Writes out.old at (swapped x ts.now ws.now) out.new result }
 {
@@ -112,19 +106,19 @@ fn occurs(x: u32, ws: &[u32]) -> bool
     false
 }
 
-// How many types or cells a token of two words owes.
+// How many types or cells a token of two words owes: an unknown and a fact owe none.
 #[tactic(auto, unfolding(crate::specs::Tokens::owed))]
 fn owed_by(a: u32, b: u32) -> usize
     ensures { (result ≡ owed a b) × (result < 4294967296) }
 {
     match a {
-        RECORD | UNION => b as usize,
+        RECORD | UNION => wide(b),
         KEY | LABEL => 1,
         _ => 0,
     }
 }
 
-// What is left after so many types or cells.
+// What is left after so many types or cells. Each token may owe more, so how many there are only the loop finds.
 fn behind(ws: &[u32], n: usize) -> Option<&[u32]>
     ensures { MatchOption result (behind ws.now n ≡ None) (λ rest. behind ws.now n ≡ Some rest.now) }
 {
@@ -155,7 +149,7 @@ fn first_type(ws: &[u32]) -> Option<(&[u32], &[u32])>
     Some(ws.split_at(ws.len() - rest.len()))
 }
 
-// The key and the discriminant of a cell, of a field 0, and the words from its type on.
+// The key and the label of a cell, and the words from its type on. A field's label is 0, as the cells' `Part` has it.
 #[derive(Clone, Copy)]
 struct Cell<'a> {
     key: u32,
@@ -189,7 +183,7 @@ fn first_cell(row: &[u32]) -> Option<Cell<'_>>
     }
 }
 
-// The first cell with this key.
+// The first cell with this key. Where a cell ends its type says: std's `find` has nothing to go over.
 fn find(row: &[u32], n: u32, key: u32) -> Option<Cell<'_>>
     ensures { MatchOption result (Absent row.now n key) (λ c. FoundAt row.now n key c.label c.ty.now) }
 {
@@ -204,7 +198,9 @@ fn find(row: &[u32], n: u32, key: u32) -> Option<Cell<'_>>
     None
 }
 
-// Whether each cell of the first row has its cell in the second.
+// Whether each cell of the first row has its cell in the second. Here and below `n` says how many cells are the rows':
+// words of other rows may stand behind them. The left row is gone through and the right one stays whole, so a struct of
+// both would be taken apart at each cell.
 fn alike(n: u32, left: &[u32], right: &[u32]) -> bool
     ensures { Alike n left.now right.now result }
 {
@@ -230,7 +226,7 @@ fn past_alike<'a>(n: u32, row: &'a [u32], other: &[u32]) -> Option<&'a [u32]>
     behind(cell.ty, 1)
 }
 
-// The pairs of cells of two rows, where each has its cell. On other words what is written is anything.
+// The pairs of cells of two rows of n, where each has its cell. On other words what is written is anything.
 fn pair_up(out: &mut [u32], at: usize, n: u32, left: &[u32], right: &[u32]) -> Option<usize>
     requires { at ≤ length out.old }
     ensures { Pairs n left.now right.now out.old at out.new result }
@@ -249,8 +245,8 @@ fn pair_up(out: &mut [u32], at: usize, n: u32, left: &[u32], right: &[u32]) -> O
     Some(to)
 }
 
-// What is to be done with the first pair, and the pairs behind it: an unknown bound to the words of a type, or two rows of
-// n cells paired.
+// What is to be done with the first pair, and the pairs behind it: an unknown bound to the words of a type, or two rows
+// of n cells paired.
 #[derive(Clone, Copy)]
 enum Next<'a> {
     Done,
@@ -375,8 +371,9 @@ fn split(
     Some((b, e))
 }
 
-// The run from a stage, its bindings up to b and its pairs up to e; the next one is written into as many words of room. It ends
-// on any words: each turn leaves fewer unknowns that can still be bound, or as many and fewer words on the left sides.
+// The run from a stage, its bindings up to b and its pairs up to e; the next one is written into as many words of room.
+// It ends on any words: each turn leaves fewer unknowns that can still be bound, or as many and fewer words on the left
+// sides. Only its step says whether a turn is the last.
 fn turns(stage: &mut [u32], room: &mut [u32], mut b: usize, mut e: usize) -> Result<usize, Unsolved>
     requires { (b ≤ e) × (e ≤ length stage.old) × (length room.old ≡ length stage.old) }
     ensures { Runs stage.old (length stage.old) 0 b e stage.new result }
@@ -410,8 +407,8 @@ fn turns(stage: &mut [u32], room: &mut [u32], mut b: usize, mut e: usize) -> Res
     }
 }
 
-// The run from the stage that stands from h on, its bindings up to `b` and its pairs up to `e`. After a success the slice
-// starts with the bindings.
+// The run from the stage that stands from h on, its bindings up to `b` and its pairs up to `e`. After a success the
+// slice starts with the bindings.
 pub fn run(l: &mut [u32], h: usize, b: usize, e: usize) -> Result<usize, Unsolved>
     requires { (h ≤ b) × (b ≤ e) × (e ≤ length l.old) × (length l.old ≡ h + h) }
     ensures { Runs l.old h h b e l.new result }

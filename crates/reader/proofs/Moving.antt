@@ -1,4 +1,5 @@
--- What a reader's numbers say of its line. Past the end all numbers are 0, so a place that stays there finds what one that moves on would find.
+-- What a reader's numbers say of its line. Past the end all numbers are 0, so a place that stays there finds what one
+-- that moves on would find.
 use mathlib.Core.Path.{◌≡◌, refl, sym, ap, ◌∙◌}
 use Prim.Native.Nat.{ℕ, ◌+◌, ◌≤◌}
 use mathlib.Core.List.{List}

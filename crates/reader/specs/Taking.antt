@@ -1,5 +1,5 @@
--- What a reader takes from a line at an index: the number that stands there, and where the next one starts; and the frames' parts that are read
--- number by number.
+-- What a reader takes from a line at an index: the number that stands there, and where the next one starts; and the
+-- frames' parts that are read number by number.
 use Rattle.std.specs.Prelude.{◌≡◌, ℕ, ◌+◌, ◌<◌, List, Bool, true, false, length, ltb}
 use Rattle.frames.specs.Promises.{byte_w, half_w, full_w}
 use Rattle.reader.specs.declared.Reader.{Reader}

@@ -11,41 +11,42 @@ pub struct Reader<'a> {
 }
 
 impl<'a> Reader<'a> {
-    // Past the end every number is 0 and the place stays, so it cannot run over.
-    fn pass(&mut self, size: usize)
-        requires { size ≤ 4 }
-        ensures { Passes self.old size self.new }
+    // The number that so many bytes make. Past the end every number is 0 and the place stays, so it cannot run over.
+    fn take<F: FnOnce(&[u8], usize) -> u32>(&mut self, size: usize, number: F) -> u32
+        requires size { size ≤ 4 }
+        requires number { F.IsAlwaysCallable number }
+        ensures value { F.post number self.old.line self.old.at result }
+        ensures passes { Passes self.old size self.new }
     {
+        let value = number(self.line, self.at);
         if self.at < self.line.len() {
             self.at += size;
         }
+        value
     }
 
+    // Three, by their names, as document 01 asks.
     pub fn byte(&mut self) -> u32
         ensures { TakesByte self.old self.new result }
     {
-        let value = frames::byte(self.line, self.at);
-        self.pass(1);
-        value
+        self.take(1, |line, at| frames::byte(line, at))
     }
 
     pub fn half(&mut self) -> u32
         ensures { TakesHalf self.old self.new result }
     {
-        let value = frames::half(self.line, self.at);
-        self.pass(2);
-        value
+        self.take(2, |line, at| frames::half(line, at))
     }
 
     pub fn full(&mut self) -> u32
         ensures { TakesFull self.old self.new result }
     {
-        let value = frames::full(self.line, self.at);
-        self.pass(4);
-        value
+        self.take(4, |line, at| frames::full(line, at))
     }
 }
 
+// The parts of frames, each with its own numbers in the order in which they stand: the reader is all that they share.
+// Each is read by a reader made for it, so who asks for one has the line and the place, and no reader.
 #[derive(Drop)]
 pub struct Limits {
     pub distance: u32,
@@ -98,7 +99,8 @@ pub fn read_alternative(line: &[u8], at: usize) -> Alternative
     }
 }
 
-// A predicate: without a value type its flag is 0, and the value's number, past the end, is 0 too.
+// A predicate: without a value type its flag is 0, and the value's number, past the end, is 0 too. The flag is the
+// file's byte as it stands, no Option: of lines that are no frames it has other values.
 #[derive(Drop)]
 pub struct Predicate {
     pub name: u32,

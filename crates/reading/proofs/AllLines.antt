@@ -16,8 +16,10 @@ use Rattle.meaning.proofs.Conditions.{none_holds}
 use Rattle.meaning.proofs.Sound.{pass_kept}
 use Rattle.meaning.specs.Conditions.{same_text, conditions, first_of}
 use Rattle.meaning.specs.File.{value_text, max_file, Reading, refused, described, at_end, read_from, is_too_long, reading_of, last_of, types_of}
-use Rattle.meaning.specs.Outcome.{min_words}
-use Rattle.meaning.proofs.Tests.{clash}
+use Rattle.meaning.specs.Frame.{wide}
+use Rattle.meaning.specs.Outcome.{min_words, decide_read, decide}
+use Rattle.meaning.proofs.Tests.{cases, clash}
+use lib.Dec.{ltb}
 use Rattle.std.specs.Result.{is_err}
 use Rattle.meaning.proofs.Refused.{read_refused, read_next, within, not_ended}
 use Rattle.sigla_hex.proofs.Line.{lines_at_end, place_below}
@@ -222,6 +224,11 @@ module _ (ed : Edition) (f w : List ℕ) where
 
     pub file_taken : (w' : List ℕ) (r : Result (Unit {0}) Refusal) → TakesLines ed f w w' r → Ends ed f w' r (reading_in ed f (length w))
     file_taken w' r t = subst (Ends ed f w' r) (sym enough) t.ends
+
+-- The whole call decides by this reading.
+pub decided : (f : List ℕ) (words : ℕ) → decide f words ≡ decide_read (reading_in wide f words)
+unfolding decide decide_read reading_in
+decided f words = cases (ltb words min_words) (λ q. rw (q, decide, reading_in)) (λ q. rw (q, decide, reading_in))
 
 -- A refusal says nothing of the slice.
 pub ends_cleared : (ed : Edition) (f w w' : List ℕ) (r : Result (Unit {0}) Refusal) (e : Refusal) (d : Reading) → r ≡ Err e → Ends ed f w r d → Ends ed f w' r d

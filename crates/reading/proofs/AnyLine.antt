@@ -32,15 +32,16 @@ use Rattle.reading.specs.Promises.{Comes, Steps, Takes, TakesAnywhere, full_of, 
 use Rattle.reading.proofs.Lines.{limits_held}
 use Rattle.reading.proofs.Order.{first_unknown, first_misplaced, first_too_many, first_too_many_queries, first_no_frame, first_none}
 use Rattle.reading.proofs.Stepping.{refuses, goes_on}
-use Rattle.reading.proofs.Typing.{whole_made, sized_got}
+use Rattle.reading.proofs.Typing.{sized_got}
 use Rattle.meaning.specs.Frame.{Edition}
 use Rattle.std.specs.Prelude.{Err, None, Ok, Option, Result, Some}
+use Rattle.tree.proofs.LineParts.{whole_got}
 
 -- ---- The limits
 
 limits_frame : (ed : Edition) (s : List ℕ) (fr : Frame) → 0 < length s → frame_of ed Frame.limits (drop 1 s) ≡ Some fr → fr ≡ the_limits (byte_w s 1) (half_w s 2)
 unfolding frame_of frame
-limits_frame ed s fr l e = sized_got (sized_pair the_limits sized_byte sized_two) s 1 fr [] l (whole_made (pair the_limits byte two (drop 1 s)) fr e)
+limits_frame ed s fr l e = sized_got (sized_pair the_limits sized_byte sized_two) s 1 fr [] l (whole_got (pair the_limits byte two (drop 1 s)) fr e)
 
 pub limits_takes : (ed : Edition) (s w w' : List ℕ) (c : Counters) (d t : ℕ) → d ≡ byte_w s 1 → t ≡ half_w s 2
     → w' ≡ set (set w MAX-DISTANCE d) MAX-TERM t → TakesAnywhere ed Frame.limits s w c w' (Ok c)
@@ -84,7 +85,7 @@ frame_made ed Frame.query s = made_one _ the_query head_and_body s (λ a. refl)
 
 pub frame_kind_lem : (ed : Edition) (k : Kind) (s : List ℕ) (fr : Frame) → frame_of ed k s ≡ Some fr → frame_kind fr ≡ k
 unfolding frame_of Made
-frame_kind_lem ed k s fr e = frame_made ed k s fr [] (whole_made (frame ed k s) fr e)
+frame_kind_lem ed k s fr e = frame_made ed k s fr [] (whole_got (frame ed k s) fr e)
 
 -- ---- What a line says, by its first byte
 

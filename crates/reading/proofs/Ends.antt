@@ -29,7 +29,7 @@ use Rattle.reading.specs.Promises.{counts, counted}
 use Rattle.reading.specs.Held.{LimitsHeld, part_type, IsOf, TypesHeld, Held}
 use Rattle.reading.proofs.Regions.{over, keeps_sets, WordsAt, sets_words}
 use Rattle.reading.proofs.Lines.{types_same, predicates_same}
-use Rattle.reading.proofs.Kept.{field_is}
+use Rattle.cells.proofs.Frame.{field_declared}
 use Rattle.meaning.specs.Frame.{Edition}
 use Rattle.std.specs.Prelude.{None, Option, Some}
 
@@ -68,7 +68,7 @@ unfolding declared_field alternative_w
 cells_held {w} {T} {n} {fields} {types} fits h = record { row = h.row; earlier = earlier; fits = room; tags = h.tags }
   where
     typed : (k : Kind) (c j : ℕ) → c < 256 → (part_w w k c j).ty ≡ declared_w w (part_type w k c j)
-    typed Fields c j l = rw (field_is w c j l)
+    typed Fields c j l = rw (field_declared w c j l)
     typed Alternatives c j l = refl
 
     earlier : (k : Kind) (c j : ℕ) → c < length types → IsOf w k c → j < count_w w c → (t : ℕ) × (t < c) × ((part_w w k c j).ty ≡ declared_w w t)

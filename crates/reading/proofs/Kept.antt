@@ -15,7 +15,8 @@ use Rattle.cells.specs.declared.Ty.{Ty}
 use Rattle.cells.specs.declared.Kind.{Kind}
 use Rattle.cells.specs.declared.Kind.TheVariants.{Fields, Alternatives}
 use Rattle.cells.specs.declared.Part.{Part}
-use Rattle.cells.specs.Words.{pick, ty_w, declared_w, count_w, first_w, declared_field, field_w, alternative_w, part_w}
+use Rattle.cells.proofs.Frame.{field_declared}
+use Rattle.cells.specs.Words.{pick, ty_w, declared_w, count_w, first_w, declared_field, alternative_w, part_w}
 use Rattle.cells.specs.Stands.{Rows, tree, row_from, row_w}
 use Rattle.meaning.specs.Syntax.{Node, Query}
 use Rattle.meaning.specs.Schema.{Predicate}
@@ -78,10 +79,6 @@ first_is w c h = rw (lt-ltb c 256 h)
 pub count_is : (w : List ℕ) (c : ℕ) → c < 256 → count_w w c ≡ get_or w (TYPES + 2 * c) 0 / 16
 unfolding count_w
 count_is w c h = rw (lt-ltb c 256 h)
-
-pub field_is : (w : List ℕ) (c j : ℕ) → c < 256 → field_w w c j ≡ declared_field w (get_or w (FIELDS + first_w w c + j) 0)
-unfolding field_w
-field_is w c j h = rw (lt-ltb c 256 h)
 
 -- Rows that agree below a number make the same trees of the types below it.
 module _ (T T' : Rows) where
@@ -158,7 +155,7 @@ module _ (n fields : ℕ) (w w' : List ℕ) (T T' : Rows) (words : Same TYPES (T
     unfolding declared_field alternative_w
     part_kept Fields j b h e =
         let x = word_kept Fields (FIELDS + first_w w t + j) j b (omega arith) refl in
-        rw (field_is w t j (omega arith), field_is w' t j (omega arith), first_kept t l)
+        rw (field_declared w t j (omega arith), field_declared w' t j (omega arith), first_kept t l)
         (record { key = rw x; label = refl; type = rw x (type_kept (part_type w Fields t j) (omega arith)) })
     part_kept Alternatives j b h e =
         let x = word_kept Alternatives (FIELDS + first_w w t + 2 * j) (2 * j) b (omega arith) refl in

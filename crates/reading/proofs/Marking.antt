@@ -9,8 +9,6 @@ use lib.Dec.{eqb, ltb}
 use lib.ListN.{get_or, set}
 use lib.Seq.{get_or-set_same, get_or-set_other}
 use borrow.Author.Tests.{eq-eqb, ne_eqb, eqb-true, eqb-false, lt-ltb, le-ltb}
-use Rattle.text.specs.Utf8.{both}
-use Rattle.text.proofs.Every.{both_left, both_right}
 use Rattle.work.specs.Layout.{NODES}
 use Rattle.cells.proofs.Frame.{keeps_refl, keeps_trans, keeps_set}
 use Rattle.meaning.specs.Conditions.{any_of, all_below, among, again}
@@ -18,12 +16,13 @@ use Rattle.meaning.proofs.Tests.{cases, clash}
 use Rattle.reading.specs.Held.{flag, Marked}
 use Rattle.reading.specs.declared.Refusal.{Refusal}
 use Rattle.reading.specs.Marks.{told, Told, Marks, Roomy, Refers, NamesNode}
-use Rattle.std.specs.Prelude.{Err, Ok, Result}
-use Rattle.reading.proofs.Walks.{again_same, again_next, again_here, among_last, both_none}
+use Rattle.std.specs.Prelude.{◌&&◌, Err, Ok, Result}
+use Rattle.std.proofs.lemmas.Bool.{and_parts, and_right}
+use Rattle.reading.proofs.Walks.{again_same, again_next, again_here, among_last}
 
 -- ---- Lists put together
 
-below_append : (n : ℕ) (a b : List ℕ) → all_below n (a ++ b) ≡ both (all_below n a) (all_below n b)
+below_append : (n : ℕ) (a b : List ℕ) → all_below n (a ++ b) ≡ (all_below n a && all_below n b)
 unfolding all_below
 below_append n [] b = refl
 below_append n (m ∷ a) b = cases (ltb m n) (λ q. rw (q, all_below) (below_append n a b)) (λ q. rw (q, all_below))
@@ -79,10 +78,10 @@ module _ (names nodes : ℕ) where
     refers_then {r} p q = record {
       is = λ m named h.
           let t = sym (p.is m named h) in
-          let a = both_left (all_below names xs) _ t in
-          let b = both_right (all_below names xs) _ t in
-          let c = both_left (all_below nodes ns) _ b in
-          let d : again named ns ≡ false = not_back (again named ns) (both_right (all_below nodes ns) _ b) in
+          let a = (and_parts (all_below names xs) _ t).0 in
+          let b = (and_parts (all_below names xs) _ t).1 in
+          let c = (and_parts (all_below nodes ns) _ b).0 in
+          let d : again named ns ≡ false = not_back (again named ns) (and_parts (all_below nodes ns) _ b).1 in
           q.is (room_on m (p.marks m refl)) (named ++ ns) (p.marked m refl named h) ∙ sym (rw (below_append names xs ys, below_append nodes ns ms, a, c, again_append named ns ms d));
       marks = λ m e. marks_trans (p.marks m refl) (q.marks (room_on m (p.marks m refl)) e);
       marked = λ m e named h. subst (Marked u nodes) (append_assoc named ns ms)
@@ -94,14 +93,14 @@ module _ (names nodes : ℕ) where
         not_back false e = refl
 
   module _ {w v xs ns : List ℕ} (p : Refers w names xs nodes ns v false) (ys ms : List ℕ) where
-    fails_on : Roomy w nodes → (named : List ℕ) → Marked w nodes named → false ≡ both (both (all_below names xs) (all_below names ys))
-        (both (both (all_below nodes ns) (all_below nodes ms)) (not (again named (ns ++ ms))))
+    fails_on : Roomy w nodes → (named : List ℕ) → Marked w nodes named → false ≡ ((all_below names xs && all_below names ys)
+        && ((all_below nodes ns && all_below nodes ms) && not (again named (ns ++ ms))))
     fails_on m named h = cases (all_below names xs)
         (λ a. cases (all_below nodes ns)
         (λ b. cases (again named ns)
-        (λ c. rw (a, b, again_more named ns ms c) (sym (ap (both (all_below names ys)) (both_none (all_below nodes ms)) ∙ both_none (all_below names ys))))
+        (λ c. rw (a, b, again_more named ns ms c) (sym (ap (λ b. all_below names ys && b) (and_right (all_below nodes ms) false refl) ∙ and_right (all_below names ys) false refl)))
         (λ c. clash (sym (rw (a, b, c) at (p.is m named h)))))
-        (λ b. rw (a, b) (sym (both_none (all_below names ys)))))
+        (λ b. rw (a, b) (sym (and_right (all_below names ys) false refl))))
         (λ a. rw a)
 
     pub refers_stop : Refers w names (xs ++ ys) nodes (ns ++ ms) v false

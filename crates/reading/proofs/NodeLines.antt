@@ -5,7 +5,6 @@ use mathlib.Core.Path.{◌≡◌, refl, sym, ap, subst, ◌∙◌}
 use Prim.Native.Nat.{ℕ, ◌+◌, ◌*◌, ◌<◌}
 use native.Mathlib.Omega.{arith}
 use lib.ListN.{length, drop, set}
-use Rattle.text.specs.Utf8.{both}
 use Rattle.work.specs.Layout.{NODES}
 use Rattle.cells.specs.Stands.{Rows}
 use Rattle.meaning.specs.Syntax.{Node, Query}
@@ -24,29 +23,30 @@ use Rattle.reading.specs.Promises.{with_node, with_query, TakesAnywhere, TakesTh
 use Rattle.reading.proofs.Lines.{node_held, query_held}
 use Rattle.reading.proofs.Order.{first_bad, first_none}
 use Rattle.reading.proofs.Stepping.{refuses, goes_on, begun, nodes_room, queries_room}
-use Rattle.reading.proofs.Typing.{one_made, whole_made}
+use Rattle.reading.proofs.Typing.{one_made}
 use Rattle.reading.proofs.Marking.{refers_then, refers_stop}
 use Rattle.reading.proofs.Refs.{HeadIs, head_is}
 use Rattle.meaning.specs.Frame.{Edition}
-use Rattle.std.specs.Prelude.{Err, Ok, Option, Some}
+use Rattle.std.specs.Prelude.{◌&&◌, Err, Ok, Option, Some}
+use Rattle.tree.proofs.LineParts.{whole_got}
 
 -- ---- What a frame without types refers to
 
-de_morgan : (a b g : Bool) → (not (both a (both true b)) || g) ≡ not (both a (both b (not g)))
+de_morgan : (a b g : Bool) → (not (a && (true && b)) || g) ≡ not (a && (b && not g))
 de_morgan true true true = refl
 de_morgan true true false = refl
 de_morgan true false g = refl
 de_morgan false b g = refl
 
 node_refers : (so : SoFar) (nd : Node) → refers_badly so (a_node nd) ≡ not
-    (both (all_below (length so.names) (expr_names nd.kind))
-    (both (all_below (length so.nodes) (expr_nodes nd.kind)) (not (again so.named (expr_nodes nd.kind)))))
+    (all_below (length so.names) (expr_names nd.kind)
+    && (all_below (length so.nodes) (expr_nodes nd.kind) && not (again so.named (expr_nodes nd.kind))))
 unfolding refers_badly refers_earlier name_refs type_refs node_refs all_below
 node_refers so nd = de_morgan (all_below (length so.names) (expr_names nd.kind)) (all_below (length so.nodes) (expr_nodes nd.kind))
     (again so.named (expr_nodes nd.kind))
 
 query_refers : (so : SoFar) (q : Query) → refers_badly so (the_query q) ≡ not
-    (both (all_below (length so.names) []) (both (all_below (length so.nodes) (query_nodes q)) (not (again so.named (query_nodes q)))))
+    (all_below (length so.names) [] && (all_below (length so.nodes) (query_nodes q) && not (again so.named (query_nodes q))))
 unfolding refers_badly refers_earlier name_refs type_refs node_refs all_below
 query_refers so q = de_morgan true (all_below (length so.nodes) (query_nodes q)) (again so.named (query_nodes q))
 
@@ -56,7 +56,7 @@ module _ (ed : Edition) {f : List ℕ} {at : ℕ} {w : List ℕ} {T : Rows} {c :
   roomy : Roomy w c.nodes
   roomy = record { few = omega (arith, h.nodes.count, h.nodes.few); long = h.long }
 
-  answered : r ≡ both (all_below (length so.names) xs) (both (all_below (length so.nodes) ns) (not (again so.named ns)))
+  answered : r ≡ (all_below (length so.names) xs && (all_below (length so.nodes) ns && not (again so.named ns)))
   answered = rw (← h.names.count, ← h.nodes.count) (a.is roomy so.named (subst (λ n. Marked w n so.named) (sym h.nodes.count) h.named))
 
   marked_after : r ≡ true → Marked v (length so.nodes) (so.named ++ ns)
@@ -68,7 +68,7 @@ module _ (ed : Edition) {f : List ℕ} {at : ℕ} {w : List ℕ} {T : Rows} {c :
 node_frame : (ed : Edition) (s : List ℕ) (fr : Frame) → frame_of ed Frame.node (drop 1 s) ≡ Some fr → (nd : Node) × (fr ≡ a_node nd)
 unfolding frame_of frame one
 node_frame ed s fr e = let o = one_made a_node (span_and_kind ed (drop 1 s)) fr []
-    (whole_made (and_then (span_and_kind ed (drop 1 s)) (λ n. got (a_node n))) fr e) in (o.0, o.2)
+    (whole_got (and_then (span_and_kind ed (drop 1 s)) (λ n. got (a_node n))) fr e) in (o.0, o.2)
 
 module _ (ed : Edition) (at : ℕ) (s w : List ℕ) (c : Counters) (v : List ℕ) where
   pub node_bad : NamesAll ed s w c.names c.nodes v false → TakesThere ed at Frame.node s w c v (Err Refusal.BadReference)
@@ -108,7 +108,7 @@ query_frame : (ed : Edition) (s : List ℕ) (fr : Frame) → 0 < length s → fr
     → (q : Query) × (fr ≡ the_query q) × HeadIs s 1 q
 unfolding frame_of frame one
 query_frame ed s fr l e =
-    let o = one_made the_query (head_and_body (drop 1 s)) fr [] (whole_made (and_then (head_and_body (drop 1 s)) (λ q. got (the_query q))) fr e) in
+    let o = one_made the_query (head_and_body (drop 1 s)) fr [] (whole_got (and_then (head_and_body (drop 1 s)) (λ q. got (the_query q))) fr e) in
     (o.0, o.2, head_is s 1 o.0 l o.1)
 
 query_nodes_lem : (s : List ℕ) (q : Query) → HeadIs s 1 q → query_nodes q ≡ half_w s 1 ∷ stmt_nodes q.body

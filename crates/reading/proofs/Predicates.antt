@@ -7,8 +7,6 @@ use native.Mathlib.Omega.{arith}
 use lib.Dec.{ltb}
 use lib.ListN.{length, drop, set}
 use borrow.Author.Tests.{ltb-true, lt-ltb, le-ltb}
-use Rattle.text.specs.Utf8.{both}
-use Rattle.text.proofs.Every.{both_left, both_right}
 use Rattle.work.specs.Layout.{PREDICATES}
 use Rattle.cells.specs.Stands.{Rows}
 use Rattle.meaning.specs.Refusal as Refused
@@ -30,11 +28,12 @@ use Rattle.reading.proofs.Added.{value_word}
 use Rattle.reading.proofs.Lines.{predicate_held}
 use Rattle.reading.proofs.Order.{first_bad, first_none}
 use Rattle.reading.proofs.Stepping.{refuses, goes_on, begun, predicates_room}
-use Rattle.reading.proofs.Typing.{one_made, whole_made, sized_got, both_all, or_none}
-use Rattle.reading.proofs.Walks.{both_none}
+use Rattle.reading.proofs.Typing.{one_made, sized_got, and_true, or_none}
 use Rattle.meaning.specs.Frame.{Edition}
-use Rattle.std.specs.Prelude.{Err, None, Option, Result, Some, slice_get}
+use Rattle.std.specs.Prelude.{◌&&◌, Err, None, Option, Result, Some, slice_get}
+use Rattle.std.proofs.lemmas.Bool.{and_parts, and_right}
 use Rattle.reading.specs.declared.Refusal.{Refusal}
+use Rattle.tree.proofs.LineParts.{whole_got}
 
 -- What the bytes from 5 on say of the value type.
 pub data ValueAt (s : List ℕ) : Option ℕ → Type 0 where
@@ -47,7 +46,7 @@ module _ (ed : Edition) (so : SoFar) (s : List ℕ) (fr : Frame) (long : 6 ≤ l
   chosen =
       let a = sized_two.reads s 1 (omega arith) in
       let b = sized_two.reads s 3 (omega arith) in
-      let e = whole_made (triple a_predicate two two value_type (drop 1 s)) fr k.is in
+      let e = whole_got (triple a_predicate two two value_type (drop 1 s)) fr k.is in
       let f : and_then (value_type (drop 5 s)) (λ v. got (a_predicate (half_w s 1) (half_w s 3) v)) ≡ got fr [] = rw (a, b) at e in
       let o = one_made (a_predicate (half_w s 1) (half_w s 3)) (value_type (drop 5 s)) fr [] f in
       (o.0, sym (choice_at value_types s 5 (omega arith)) ∙ o.1, o.2)
@@ -74,13 +73,13 @@ module _ (ed : Edition) (so : SoFar) (s : List ℕ) (fr : Frame) (long : 6 ≤ l
 -- ---- References
 
 predicate_refers : (so : SoFar) (n key : ℕ) (v : Option ℕ) → refers_badly so (a_predicate n key v) ≡ not
-    (both (ltb n (length so.names)) (both (ltb key (length so.types)) (all_below (length so.types) (optional v))))
+    (ltb n (length so.names) && (ltb key (length so.types) && all_below (length so.types) (optional v)))
 unfolding refers_badly refers_earlier name_refs type_refs node_refs all_below again
 predicate_refers so n key v =
-    or_none (not (both (both (ltb n (length so.names)) true) (both (both (ltb key (length so.types)) (all_below (length so.types) (optional v))) true)))
-    ∙ ap not (ap (λ b. both b (both (both (ltb key (length so.types)) (all_below (length so.types) (optional v))) true))
-    (both_all (ltb n (length so.names))) ∙ ap (both (ltb n (length so.names)))
-    (both_all (both (ltb key (length so.types)) (all_below (length so.types) (optional v)))))
+    or_none (not ((ltb n (length so.names) && true) && ((ltb key (length so.types) && all_below (length so.types) (optional v)) && true)))
+    ∙ ap not (ap (λ b. (b && ((ltb key (length so.types) && all_below (length so.types) (optional v)) && true)))
+    (and_true (ltb n (length so.names))) ∙ ap (λ b. ltb n (length so.names) && b)
+    (and_true (ltb key (length so.types) && all_below (length so.types) (optional v))))
 
 pub value_none : (s : List ℕ) → byte_w s 5 ≡ 0 → (u : Option ℕ) → ValueAt s u → u ≡ None
 value_none s e None (absent a) = refl
@@ -95,12 +94,12 @@ value_some s n (Some t) (present a) = refl
 module _ (ed : Edition) (s w : List ℕ) (c : Counters) (long : 6 ≤ length s) where
   -- what is there, by the counters
   abbrev there : Option ℕ → Bool
-  there v = both (ltb (half_w s 1) c.names) (both (ltb (half_w s 3) c.types) (all_below c.types (optional v)))
+  there v = ltb (half_w s 1) c.names && (ltb (half_w s 3) c.types && all_below c.types (optional v))
 
   refers : {f : List ℕ} {at : ℕ} {T : Rows} {previous : Option Frame.Kind} {so : SoFar} → Held ed f at w T c previous so → (v : Option ℕ) (b : Bool) → there v ≡ b
       → refers_badly so (a_predicate (half_w s 1) (half_w s 3) v) ≡ not b
   refers {so = so} h v b e =
-      let q : both (ltb (half_w s 1) (length so.names)) (both (ltb (half_w s 3) (length so.types)) (all_below (length so.types) (optional v))) ≡
+      let q : (ltb (half_w s 1) (length so.names) && (ltb (half_w s 3) (length so.types) && all_below (length so.types) (optional v))) ≡
       b = rw (← h.names.count, ← h.types.count) e in
       predicate_refers so (half_w s 1) (half_w s 3) v ∙ ap not q
 
@@ -125,9 +124,9 @@ module _ (ed : Edition) (s w : List ℕ) (c : Counters) (long : 6 ≤ length s) 
           let x = value_at ed so s fr long k in
           let same : fr ≡ a_predicate (half_w s 1) (half_w s 3) v = x.1 ∙ ap (a_predicate (half_w s 1) (half_w s 3)) (va x.0 x.2) in
           let b = begun so.previous Frame.predicate k.placed refl in
-          let types = both_right (ltb (half_w s 1) c.names) (both (ltb (half_w s 3) c.types) (all_below c.types (optional v))) e in
-          let key = ltb-true (half_w s 3) c.types (both_left (ltb (half_w s 3) c.types) (all_below c.types (optional v)) types) in
-          let value = below_all c.types (optional v) (both_right (ltb (half_w s 3) c.types) (all_below c.types (optional v)) types) in
+          let types = (and_parts (ltb (half_w s 1) c.names) (ltb (half_w s 3) c.types && all_below c.types (optional v)) e).1 in
+          let key = ltb-true (half_w s 3) c.types (and_parts (ltb (half_w s 3) c.types) (all_below c.types (optional v)) types).0 in
+          let value = below_all c.types (optional v) (and_parts (ltb (half_w s 3) c.types) (all_below c.types (optional v)) types).1 in
           rw (a.step, a.words, z, same)
           (goes_on ed f next (set w (PREDICATES + c.predicates) (half_w s 1 * 131072 + half_w s 3 * 512 + value_word v)) (Some Frame.predicate)
           (add so (a_predicate (half_w s 1) (half_w s 3) v)) (with_predicate c) T _
@@ -141,13 +140,13 @@ module _ (ed : Edition) (s w : List ℕ) (c : Counters) (long : 6 ≤ length s) 
   no_name h v = rw (le-ltb (half_w s 1) c.names h)
 
   pub no_key : c.types ≤ half_w s 3 → (v : Option ℕ) → there v ≡ false
-  no_key h v = rw (le-ltb (half_w s 3) c.types h) (both_none (ltb (half_w s 1) c.names))
+  no_key h v = rw (le-ltb (half_w s 3) c.types h) (and_right (ltb (half_w s 1) c.names) false refl)
 
   pub no_value_lem : (byte_w s 5 ≡ 0 → ⊥) → c.types ≤ half_w s 6 → (v : Option ℕ) → ValueAt s v → there v ≡ false
   unfolding all_below optional
   no_value_lem n h None (absent a) = absurd (n a)
   no_value_lem n h (Some t) (present a) = rw (le-ltb (half_w s 6) c.types h)
-      (ap (both (ltb (half_w s 1) c.names)) (both_none (ltb (half_w s 3) c.types)) ∙ both_none (ltb (half_w s 1) c.names))
+      (ap (λ b. ltb (half_w s 1) c.names && b) (and_right (ltb (half_w s 3) c.types) false refl) ∙ and_right (ltb (half_w s 1) c.names) false refl)
 
   all_there : half_w s 1 < c.names → half_w s 3 < c.types → (v : Option ℕ) → all_below c.types (optional v) ≡ true → there v ≡ true
   all_there a b v e = rw (lt-ltb (half_w s 1) c.names a, lt-ltb (half_w s 3) c.types b) e

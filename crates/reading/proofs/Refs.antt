@@ -20,9 +20,10 @@ use Rattle.frames.proofs.Readers.{sized_reference, Sized, sized_one, sized_pair,
 use Rattle.frames.proofs.Statements.{choice_at, statements_are}
 use Rattle.std.specs.Simd.{first_chunks}
 use Rattle.reading.proofs.Cuts.{half_cut, cut_items}
-use Rattle.reading.proofs.Typing.{one_made, whole_made, sized_got, map_items, past_end}
+use Rattle.reading.proofs.Typing.{one_made, sized_got, map_items, past_end}
 use Rattle.meaning.specs.Frame.{Edition}
 use Rattle.std.specs.Prelude.{Some, slice_get}
+use Rattle.tree.proofs.LineParts.{whole_got}
 
 -- The names and the nodes that a kind refers to are these.
 pub record RefsAre (k : ExprKind) (xs ns : List ℕ) : Type 0 where
@@ -84,7 +85,7 @@ module _ (ed : Edition) (s : List ℕ) (nd : Node) (long : 10 ≤ length s) (is 
   chosen : entry (slice_get (expr_kinds ed) (byte_w s 9)) (drop 10 s) ≡ got nd.kind []
   unfolding frame_of frame one
   chosen =
-      let m = one_made a_node (span_and_kind ed (drop 1 s)) (a_node nd) [] (whole_made (and_then (span_and_kind ed (drop 1 s)) (λ n. got (a_node n))) (a_node nd) is) in
+      let m = one_made a_node (span_and_kind ed (drop 1 s)) (a_node nd) [] (whole_got (and_then (span_and_kind ed (drop 1 s)) (λ n. got (a_node n))) (a_node nd) is) in
       let same : m.0 ≡ nd = cc m.2 in
       span_kind ed s long nd (m.1 ∙ ap (λ n. got n []) same)
 

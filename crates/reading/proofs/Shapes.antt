@@ -21,7 +21,8 @@ use Rattle.meaning.specs.SoFar.{type_at, field_row, alternative_row, ty_of}
 use Rattle.meaning.specs.All.{Below}
 use Rattle.reading.specs.Held.{words_of, part_type, IsOf, TypesHeld}
 use Rattle.reading.proofs.Regions.{WordsAt, words_head, words_tail, snoc}
-use Rattle.reading.proofs.Kept.{first_is, count_is, field_is}
+use Rattle.cells.proofs.Frame.{field_declared}
+use Rattle.reading.proofs.Kept.{first_is, count_is}
 
 -- ---- The words of parts
 
@@ -111,7 +112,7 @@ module _ {w : List ℕ} {T : Rows} {m fields : ℕ} {types : List Tree.Ty} (h : 
       let q : (f.name * 256 + f.value) / 256 ≡ f.name = omega (arith, h.few, b.0) in
       let r : (f.name * 256 + f.value) % 256 ≡ f.value = omega (arith, h.few, b.0) in
       let z : FIELDS + first_w w c + j + 1 ≡ FIELDS + first_w w c + (j + 1) = omega arith in
-      rw (field_is w c j small, x, q, r, ← h.type f.value b.0, fields_row fs (j + 1) b.1 (rw z at (words_tail ws)))
+      rw (field_declared w c j small, x, q, r, ← h.type f.value b.0, fields_row fs (j + 1) b.1 (rw z at (words_tail ws)))
 
   alternatives_row : (alts : List Alternative) (j : ℕ) → Below (length types) (map (λ a. a.type) alts)
       → WordsAt w (FIELDS + first_w w c + 2 * j) (alternative_words alts) → row_from T w Alternatives c j (length alts) ≡ alternative_row types alts

@@ -5,12 +5,10 @@ use mathlib.Core.List.{List, [], ◌∷◌, ◌++◌, append_assoc, append-nil}
 use mathlib.Core.Path.{◌≡◌, refl, sym, ap, subst, ◌∙◌}
 use Prim.Native.Nat.{ℕ, zero, suc, ◌+◌, ◌-◌, ◌<◌, ◌≤◌, min}
 use native.Mathlib.Omega.{arith}
-use lib.ListN.{length, get_or, take, drop, length-drop}
-use lib.Seq.{get_or-drop, take_all}
+use lib.ListN.{length, get_or, drop, length-drop}
+use lib.Seq.{get_or-drop}
 use native.Mathlib.Nat.{add-zero}
 use Rattle.std.proofs.lemmas.List.{drop-drop}
-use Rattle.std.proofs.lemmas.Bool.Decides.{nat_tests}
-use Rattle.std.specs.Ordering.{ord_min, nat_cmp}
 use Rattle.meaning.specs.Syntax.{QueryStmt}
 use Rattle.meaning.specs.References.{stmt_nodes}
 use Rattle.frames.specs.Promises.{byte_w, half_w, size_w}
@@ -153,8 +151,10 @@ state_end {s} {w₀} {nodes} {at} {w} t l = record { is = λ names stmts f. go n
 
 -- ---- The bytes that are left
 
-pub least : (a b : ℕ) → ord_min nat_cmp a b ≡ min a b
-least a b = grind (arith, nat_tests)
+drop_least : (n : ℕ) (l : List ℕ) → drop n l ≡ drop (min n (length l)) l
+drop_least zero l = let z : min 0 (length l) ≡ 0 = omega arith in rw z
+drop_least (suc n) [] = let z : min (suc n) 0 ≡ 0 = omega arith in rw z
+drop_least (suc n) (x ∷ l) = let z : min (suc n) (suc (length l)) ≡ suc (min n (length l)) = omega arith in rw z (drop_least n l)
 
 -- After so many bytes these are left.
 pub record Rest (s : List ℕ) (at : ℕ) (rest : List ℕ) : Type 0 where
@@ -173,9 +173,9 @@ module _ {s rest : List ℕ} {at : ℕ} (r : Rest s at rest) where
   rest_left = ap length r.is ∙ length-drop at s
 
   -- n bytes on, or as many as there are
-  pub rest_on : (n m : ℕ) → m ≡ min n (length rest) → Rest s (at + m) (take (length rest - m) (drop m rest))
-  rest_on n m e = record {
-    is = take_all (length rest - m) (drop m rest) (omega (arith, length-drop m rest)) ∙ ap (drop m) r.is ∙ drop-drop m at s;
+  pub rest_on : (n m : ℕ) (v : List ℕ) → m ≡ min n (length rest) → v ≡ drop n rest → Rest s (at + m) v
+  rest_on n m v e d = record {
+    is = d ∙ drop_least n rest ∙ ap (λ k. drop k rest) (sym e) ∙ ap (drop m) r.is ∙ drop-drop m at s;
     within = omega (arith, rest_left, r.within);
   }
 

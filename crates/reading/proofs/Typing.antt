@@ -10,8 +10,6 @@ use lib.Dec.{ltb}
 use lib.ListN.{length, take, drop, set, length-drop}
 use lib.Seq.{sets, take_all}
 use borrow.Author.Tests.{ltb-true, ltb-false, not-false}
-use Rattle.text.specs.Utf8.{both}
-use Rattle.text.proofs.Every.{both_right}
 use Rattle.unification.specs.Ty.{Leaf, Int, String, Bytes, Fact}
 use Rattle.work.specs.Layout.{TYPES, FIELDS}
 use Rattle.cells.specs.declared.Kind.{Kind}
@@ -23,7 +21,7 @@ use Rattle.meaning.specs.Syntax.{Field}
 use Rattle.meaning.specs.Refusal as Refused
 use Rattle.meaning.specs.Frame as Frame
 use Rattle.meaning.specs.Frame.{Frame, a_type, TypeShape, a_leaf, a_record, a_union, Alternative, Got, got, fails, Reader, and_then, nothing, one, two, many}
-use Rattle.meaning.specs.Frame.{field, alternative, entry, type_shapes, may_stand, kind_byte, frame_kind, frame, whole, frame_of}
+use Rattle.meaning.specs.Frame.{field, alternative, entry, type_shapes, may_stand, kind_byte, frame_kind, frame, frame_of}
 use Rattle.meaning.specs.References.{field_names, field_values, shape_names, shape_types, shape_keys, texts_of, name_refs, type_refs, node_refs, keys_of}
 use Rattle.meaning.specs.SoFar.{SoFar, add, frames}
 use Rattle.meaning.specs.Conditions.{any_of, all_below, again, refers_earlier, refers_badly, conditions, first_of}
@@ -44,8 +42,10 @@ use Rattle.reading.proofs.Lines.{type_held}
 use Rattle.reading.proofs.Order.{first_bad, first_repeated, first_none}
 use Rattle.reading.proofs.Stepping.{refuses, goes_on, begun, types_room}
 use Rattle.meaning.specs.Frame.{Edition}
-use Rattle.std.specs.Prelude.{Err, None, Ok, Option, Result, Some, slice_get}
+use Rattle.std.specs.Prelude.{◌&&◌, Err, None, Ok, Option, Result, Some, slice_get}
+use Rattle.std.proofs.lemmas.Bool.{and_parts}
 use Rattle.reading.specs.declared.Refusal.{Refusal}
+use Rattle.tree.proofs.LineParts.{whole_got}
 
 -- ---- Items said otherwise
 
@@ -83,18 +83,12 @@ unfolding and_then
 one_made make (got a u) b t e = (a, cc, cc)
 one_made make fails b t e = let z : ◌≡◌ {A = ℕ} 0 1 = cc in absurd (omega arith)
 
-pub whole_made : {A : Type 0} (g : Got A) (a : A) → whole g ≡ Some a → g ≡ got a []
-unfolding whole
-whole_made (got a []) b e = cc
-whole_made (got a (c ∷ t)) b e = let z : ◌≡◌ {A = ℕ} 0 1 = cc in absurd (omega arith)
-whole_made fails b e = let z : ◌≡◌ {A = ℕ} 0 1 = cc in absurd (omega arith)
-
 module _ (ed : Edition) (so : SoFar) (s : List ℕ) (fr : Frame) (long : 2 ≤ length s) (k : Comes ed so Frame.schema_type s fr) where
   -- the reader that the byte chooses made the shape
   chosen : (t : TypeShape) × (entry (slice_get (type_shapes ed) (byte_w s 1)) (drop 2 s) ≡ got t []) × (fr ≡ a_type t)
   unfolding frame_of frame one
   chosen =
-      let o = one_made a_type (type_shape ed (drop 1 s)) fr [] (whole_made (and_then (type_shape ed (drop 1 s)) (λ t. got (a_type t))) fr k.is) in
+      let o = one_made a_type (type_shape ed (drop 1 s)) fr [] (whole_got (and_then (type_shape ed (drop 1 s)) (λ t. got (a_type t))) fr k.is) in
       (o.0, sym (choice_at (type_shapes ed) s 1 (omega arith)) ∙ o.1, o.2)
 
   pub leaf_is : (p : Leaf) (n : ℕ) → byte_w s 1 ≡ n → slice_get (type_shapes ed) n ≡ Some (nothing (a_leaf p)) → fr ≡ a_type (a_leaf p)
@@ -187,9 +181,9 @@ alternatives_parts s alts h = record {
 
 -- ---- References and keys of a type
 
-pub both_all : (b : Bool) → both b true ≡ b
-both_all true = refl
-both_all false = refl
+pub and_true : (b : Bool) → (b && true) ≡ b
+and_true true = refl
+and_true false = refl
 
 pub or_none : (b : Bool) → (b || false) ≡ b
 or_none true = refl
@@ -197,10 +191,10 @@ or_none false = refl
 
 -- A type refers badly exactly where a part's name or type is not there.
 type_refers : (so : SoFar) (t : TypeShape) → refers_badly so (a_type t) ≡ not
-    (both (all_below (length so.names) (shape_names t)) (all_below (length so.types) (shape_types t)))
+    (all_below (length so.names) (shape_names t) && all_below (length so.types) (shape_types t))
 unfolding refers_badly refers_earlier name_refs type_refs node_refs all_below again
-type_refers so t = or_none (not (both (all_below (length so.names) (shape_names t)) (both (all_below (length so.types) (shape_types t)) true))) ∙ ap
-    (λ b. not (both (all_below (length so.names) (shape_names t)) b)) (both_all (all_below (length so.types) (shape_types t)))
+type_refers so t = or_none (not (all_below (length so.names) (shape_names t) && (all_below (length so.types) (shape_types t) && true))) ∙ ap
+    (λ b. not (all_below (length so.names) (shape_names t) && b)) (and_true (all_below (length so.types) (shape_types t)))
 
 module _ (ed : Edition) {f : List ℕ} {at next : ℕ} {s w : List ℕ} {T : Rows} {c : Counters} {previous : Option Frame.Kind} {so : SoFar} {fr : Frame}
     (h : Held ed f at w T c previous so) (l : Line f at next s) (k : Comes ed so Frame.schema_type s fr) (t : TypeShape) (is : fr ≡ a_type t) where
@@ -214,8 +208,8 @@ module _ (ed : Edition) {f : List ℕ} {at next : ℕ} {s w : List ℕ} {T : Row
   unfolding frame_kind texts_of any_of keys_of may_stand
   type_goes w' r q fits e =
       let b = begun so.previous Frame.schema_type k.placed refl in
-      let there : all_below (length so.types) (shape_types t) ≡ true = both_right (all_below (length so.names) (shape_names t))
-      (all_below (length so.types) (shape_types t)) (not-false _ (sym (type_refers so t) ∙ r)) in
+      let there : all_below (length so.types) (shape_types t) ≡ true = (and_parts (all_below (length so.names) (shape_names t))
+      (all_below (length so.types) (shape_types t)) (not-false _ (sym (type_refers so t) ∙ r))).1 in
       goes_on ed f next w' (Some Frame.schema_type) (add so fr) (with_type c (length (shape_words t))) (with_row T (length so.types) (shape_row so.types t)) _
       (as_type None (first_none so (a_type t) k.placed k.room k.turn refl refl r q))
       (rw (is, e) (type_held ed h next (omega (arith, l.on)) l.within t b.0 k.placed b.1 (types_room so k.room)

@@ -1,5 +1,6 @@
 -- Loops over the parts of a type: what is asked of all parts is what is asked of the parts left.
-use mathlib.Core.Bool.{Bool, true, false}
+use mathlib.Core.Bool.{Bool, true, false, true≢false}
+use mathlib.Core.Logic.{◌⊎◌, inl, inr, ⊎_elim}
 use mathlib.Core.List.{List, [], ◌∷◌, ◌++◌, map}
 use mathlib.Core.Path.{◌≡◌, refl, sym, ap, ◌∙◌}
 use Prim.Native.Nat.{ℕ, zero, suc, ◌+◌, ◌<◌, ◌≤◌}
@@ -8,16 +9,18 @@ use native.Mathlib.Omega.{arith}
 use lib.Dec.{eqb, ltb}
 use lib.ListN.{length, get_or, set, take, drop, replicate, length-set, length-replicate, drop_of_length-le}
 use lib.Seq.{sets, drop-cons, get_or-set_same, get_or-set_other}
-use borrow.Author.Tests.{eqb-true, eqb-false, eq-eqb, ne_eqb, lt-ltb, le-ltb}
+use borrow.Author.Tests.{eqb-true, eqb-false, eq-eqb, ne_eqb, lt-ltb, le-ltb, ltb-true, ltb-false}
 use Rattle.std.proofs.lemmas.List.{take_more}
+use Rattle.std.specs.Prelude.{◌&&◌, ◌≢◌, MatchBool, HoldsAt}
+use Rattle.std.specs.List.{AllWithin}
+use Rattle.std.proofs.lemmas.Bool.{and_right}
 use Rattle.cells.specs.declared.Kind.{Kind}
 use Rattle.cells.specs.declared.Kind.TheVariants.{Fields, Alternatives}
 use Rattle.cells.specs.Stands.{part_words}
-use Rattle.text.specs.Utf8.{both}
 use Rattle.meaning.specs.Conditions.{any_of, all_below, among, again}
 use Rattle.meaning.proofs.Tests.{cases}
 use Rattle.frames.specs.Promises.{half_w}
-use Rattle.reading.specs.Parts.{type_w, words_w, names_of, types_of, words_of}
+use Rattle.reading.specs.Parts.{type_w, words_w, names_of, types_of, is_early, words_of}
 
 pub front : {X : Type 0} (xs : List X) (i : ℕ) (d : X) → i < length xs → drop i xs ≡ get_or xs i d ∷ drop (i + 1) xs
 front xs i d l = rw add-one (drop-cons xs i d l)
@@ -30,13 +33,9 @@ no_more xs i l = drop_of_length-le xs l
 
 -- ---- Names and types that are there
 
-pub both_none : (b : Bool) → both b false ≡ false
-both_none true = refl
-both_none false = refl
-
 module _ (k : Kind) (names types : ℕ) where
   abbrev pub earlier : List (List ℕ) → Bool
-  earlier parts = both (all_below names (names_of parts)) (all_below types (types_of k parts))
+  earlier parts = all_below names (names_of parts) && all_below types (types_of k parts)
 
   pub earlier_next : (p : List ℕ) (parts : List (List ℕ)) → half_w p 0 < names → type_w k p 0 < types → earlier (p ∷ parts) ≡ earlier parts
   unfolding all_below
@@ -48,7 +47,46 @@ module _ (k : Kind) (names types : ℕ) where
 
   pub earlier_no_type : (p : List ℕ) (parts : List (List ℕ)) → types ≤ type_w k p 0 → earlier (p ∷ parts) ≡ false
   unfolding all_below
-  earlier_no_type p parts b = rw (le-ltb (type_w k p 0) types b) (both_none (both (ltb (half_w p 0) names) (all_below names (names_of parts))))
+  earlier_no_type p parts b = rw (le-ltb (type_w k p 0) types b) (and_right (ltb (half_w p 0) names && all_below names (names_of parts)) false refl)
+
+  both : (a b : Bool) → (a && b) ≡ true → (a ≡ true) × (b ≡ true)
+  both true b e = (refl, e)
+  both false b e = absurd (true≢false (sym e))
+
+  neither : (a b : Bool) → (a && b) ≡ false → (a ≡ false) ⊎ (b ≡ false)
+  neither true b e = inr e
+  neither false b e = inl refl
+
+  early_on : (p : List ℕ) (parts : List (List ℕ)) → is_early k names types p ≡ true → earlier (p ∷ parts) ≡ earlier parts
+  early_on p parts e =
+      let b = both (ltb (half_w p 0) names) (ltb (type_w k p 0) types) e in
+      earlier_next p parts (ltb-true (half_w p 0) names b.0) (ltb-true (type_w k p 0) types b.1)
+
+  early_off : (p : List ℕ) (parts : List (List ℕ)) → is_early k names types p ≡ false → earlier (p ∷ parts) ≡ false
+  early_off p parts e = ⊎_elim
+      (λ q. earlier_no_name p parts (ltb-false (half_w p 0) names q))
+      (λ q. earlier_no_type p parts (ltb-false (type_w k p 0) types q))
+      (neither (ltb (half_w p 0) names) (ltb (type_w k p 0) types) e)
+
+  early_all : (parts : List (List ℕ)) → AllWithin (λ p. is_early k names types p ≡ true) parts 0 (length parts) → earlier parts ≡ true
+  unfolding all_below
+  early_all [] h = refl
+  early_all (p ∷ parts) h = early_on p parts (h 0 p (omega arith) (omega arith)) ∙ early_all parts (λ j d a b. h (suc j) d (omega arith) (omega arith))
+
+  early_none : (parts : List (List ℕ)) (j : ℕ) (d : List ℕ) → j < length parts → is_early k names types (get_or parts j d) ≡ false → earlier parts ≡ false
+  early_none [] j d l e = absurd (omega arith)
+  early_none (p ∷ parts) zero d l e = early_off p parts e
+  early_none (p ∷ parts) (suc j) d l e = cases (is_early k names types p)
+      (λ q. early_on p parts q ∙ early_none parts j d (omega arith) e)
+      (early_off p parts)
+
+  -- what `all` gives
+  pub all_early : (parts : List (List ℕ)) (r : Bool)
+      → MatchBool r (AllWithin (λ p. is_early k names types p ≡ true) parts 0 (length parts)) ((j : ℕ) × (j < length parts) × HoldsAt (λ p. is_early k names types p ≡ false) parts j)
+      → r ≡ earlier parts
+  all_early parts true m = sym (early_all parts m)
+  all_early [] false m = absurd (omega (arith, m.1))
+  all_early (p ∷ parts) false m = sym (early_none (p ∷ parts) m.0 p m.1 (m.2 p))
 
 -- ---- Words
 
@@ -78,6 +116,27 @@ again_next earlier n ns q = rw (q, again)
 pub again_here : (earlier : List ℕ) (n : ℕ) (ns : List ℕ) → among n earlier ≡ true → again earlier (n ∷ ns) ≡ true
 unfolding again
 again_here earlier n ns q = rw (q, again)
+
+-- What `any` gives over the keys.
+module _ {X : Type 0} (key : X → ℕ) (n : ℕ) where
+  among_one : (xs : List X) (k : ℕ) (d : X) → k < length xs → key (get_or xs k d) ≡ n → among n (map key xs) ≡ true
+  among_one [] k d l e = absurd (omega arith)
+  among_one (x ∷ xs) zero d l e = among_here n (key x) (map key xs) e
+  among_one (x ∷ xs) (suc k) d l e = cases (eqb n (key x))
+      (λ q. among_here n (key x) (map key xs) (sym (eqb-true n (key x) q)))
+      (λ q. among_next n (key x) (map key xs) (λ p. eqb-false n (key x) q (sym p)) ∙ among_one xs k d (omega arith) e)
+
+  among_none : (xs : List X) → AllWithin (λ x. key x ≢ n) xs 0 (length xs) → among n (map key xs) ≡ false
+  unfolding among any_of
+  among_none [] h = refl
+  among_none (x ∷ xs) h = among_next n (key x) (map key xs) (h 0 x (omega arith) (omega arith))
+      ∙ among_none xs (λ k d a b. h (suc k) d (omega arith) (omega arith))
+
+  pub any_among : (xs : List X) (r : Bool) → MatchBool r ((k : ℕ) × (k < length xs) × HoldsAt (λ x. key x ≡ n) xs k) (AllWithin (λ x. key x ≢ n) xs 0 (length xs))
+      → r ≡ among n (map key xs)
+  any_among [] true m = absurd (omega (arith, m.1))
+  any_among (x ∷ xs) true m = sym (among_one (x ∷ xs) m.0 x m.1 (m.2 x))
+  any_among xs false m = sym (among_none xs m)
 
 -- A list's order does not matter to what is among it.
 pub again_same : (a b ns : List ℕ) → ((n : ℕ) → among n a ≡ among n b) → again a ns ≡ again b ns

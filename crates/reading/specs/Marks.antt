@@ -1,7 +1,6 @@
 -- What a node or query line refers to, and what naming nodes does to the words: of the nodes' words the marks alone may
 -- change.
-use Rattle.std.specs.Prelude.{Bool, true, false, not, List, [], ◌∷◌, ◌++◌, map, ◌≡◌, ℕ, ◌+◌, ◌/◌, ◌≤◌, length, get_or, drop, Err, Ok, Result, Some}
-use Rattle.text.specs.Utf8.{both}
+use Rattle.std.specs.Prelude.{◌&&◌, Bool, true, false, not, List, [], ◌∷◌, ◌++◌, map, ◌≡◌, ℕ, ◌+◌, ◌/◌, ◌≤◌, length, get_or, drop, Err, Ok, Result, Some}
 use Rattle.work.specs.Layout.{NODES, FIELDS}
 use Rattle.cells.specs.Stands.{Keeps}
 use Rattle.meaning.specs.Syntax.{QueryStmt, Node}
@@ -39,7 +38,7 @@ pub record Roomy (w : List ℕ) (nodes : ℕ) : Type 0 where
 
 -- The names xs and the nodes ns are there and no node is named again; then each is marked.
 pub record Refers (w : List ℕ) (names : ℕ) (xs : List ℕ) (nodes : ℕ) (ns w' : List ℕ) (r : Bool) : Type 0 where
-  pub is : Roomy w nodes → (named : List ℕ) → Marked w nodes named → r ≡ both (all_below names xs) (both (all_below nodes ns) (not (again named ns)))
+  pub is : Roomy w nodes → (named : List ℕ) → Marked w nodes named → r ≡ (all_below names xs && (all_below nodes ns && not (again named ns)))
   pub marks : Roomy w nodes → r ≡ true → Marks w w'
   pub marked : Roomy w nodes → r ≡ true → (named : List ℕ) → Marked w nodes named → Marked w' nodes (named ++ ns)
 

@@ -1,6 +1,6 @@
 -- A type's parts, each by its bytes: a record's fields of 4, a union's alternatives of 8. What is read of them and what
 -- is written for them.
-use Rattle.std.specs.Prelude.{List, [], ◌∷◌, ◌++◌, map, ℕ, ◌+◌, ◌*◌}
+use Rattle.std.specs.Prelude.{Bool, ltb, ◌&&◌, List, [], ◌∷◌, ◌++◌, map, ℕ, ◌+◌, ◌*◌}
 use Rattle.cells.specs.declared.Kind.{Kind}
 use Rattle.cells.specs.declared.Kind.TheVariants.{Fields, Alternatives}
 use Rattle.frames.specs.Promises.{half_w, full_w}
@@ -37,6 +37,10 @@ names_of parts = map (λ p. half_w p 0) parts
 
 abbrev pub types_of : Kind → List (List ℕ) → List ℕ
 types_of k parts = map (λ p. type_w k p 0) parts
+
+-- the part's name and its type are numbers below these
+abbrev pub is_early : Kind → ℕ → ℕ → List ℕ → Bool
+is_early k names types p = ltb (half_w p 0) names && ltb (type_w k p 0) types
 
 abbrev pub keys_of : Kind → List (List ℕ) → List ℕ
 keys_of k parts = map (λ p. key_w k p 0) parts

@@ -1,4 +1,5 @@
 -- What the functions of src/ promise.
+use Rattle.std.specs.Int.{from_le_bytes, w64}
 use Rattle.std.specs.Prelude.{Bool, true, false, List, [], ◌∷◌, ◌≡◌, ℕ, ◌+◌, ◌*◌, ◌<◌, ◌≤◌, leb, ltb, length, get_or, take, drop, set, replicate, Err, None, Ok, Option, Result, Some}
 use Rattle.std.proofs.lemmas.List.Edits.{sets}
 use Rattle.work.specs.Layout.{NAME-COUNT, TYPES, PREDICATES}
@@ -98,6 +99,12 @@ pub record TakesThere (e : Edition) (at : ℕ) (k : Frame.Kind) (s w : List ℕ)
   pub is : (f : List ℕ) → Takes e f at k s w c w' r
 
 -- ---- Names
+
+-- The bytes at i as one number.
+unfoldable pub eight_at : List ℕ → ℕ → ℕ
+eight_at s i = from_le_bytes w64
+    (get_or s i 0 ∷ get_or s (i + 1) 0 ∷ get_or s (i + 2) 0 ∷ get_or s (i + 3) 0 ∷ get_or s (i + 4) 0 ∷ get_or s (i + 5) 0 ∷ get_or s (i + 6) 0
+    ∷ get_or s (i + 7) 0 ∷ [])
 
 -- Where a place is told, t is not what s begins with. Nothing is said of others.
 pub record Unlike (s t : List ℕ) (r : Option ℕ) : Type 0 where

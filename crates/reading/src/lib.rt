@@ -16,26 +16,26 @@ use frames::Kind;
 pub use work::Counters;
 use work::put;
 
-// The refusals of document 01, by meaning: `refusal` of specs/Promises.antt.
+// The refusals of document 01, by meaning (`refusal` of specs/Promises.antt), with their numbers.
 #[derive(Clone, Copy)]
 pub enum Refusal {
-    WorkTooShort,
-    FileTooLong,
-    MalformedLine,
-    MisplacedKind,
-    TooMany,
-    MalformedFrame,
-    BrokenText,
-    NameGivenBefore,
-    BadReference,
-    RepeatedKey,
-    TooManyVisits,
-    AnswerTooLong,
-    TooManyQueries,
-    NumberTooWide,
-    TallyTooLarge,
-    CeilingPassed,
-    OutsideTheRules,
+    WorkTooShort = 1,
+    FileTooLong = 2,
+    MalformedLine = 3,
+    MisplacedKind = 4,
+    TooMany = 5,
+    MalformedFrame = 6,
+    BrokenText = 7,
+    NameGivenBefore = 8,
+    BadReference = 9,
+    RepeatedKey = 10,
+    TooManyVisits = 11,
+    AnswerTooLong = 12,
+    TooManyQueries = 13,
+    NumberTooWide = 14,
+    TallyTooLarge = 15,
+    CeilingPassed = 16,
+    OutsideTheRules = 17,
 }
 
 // A line of the file, decoded, and where it starts.
@@ -51,7 +51,7 @@ struct Line<'a> {
 }
 
 impl<'a> Line<'a> {
-    // Its digits, and the end of the line.
+    // Its digits, and the end of the line, as they stand in the file.
     fn digits(self) -> &'a [u8]
         ensures { result.now ≡ take (2 * length self.entry.bytes.now + 1) (drop self.entry.at self.entry.file.now) }
     {
@@ -59,7 +59,7 @@ impl<'a> Line<'a> {
     }
 }
 
-// Whether one more of this kind is too many.
+// Whether one more of this kind is too many. Each kind is counted in a field of its own, so an arm tells which.
 fn is_full(c: Counters, kind: Kind) -> bool
     ensures { result ≡ full_of c (kind_meant kind) }
 {
@@ -88,7 +88,10 @@ fn take_limits(s: &[u8], w: &mut [u32], c: Counters) -> Result<Counters, Refusal
     Ok(c)
 }
 
-// One line: the lowest refusal that applies to it, or the counters after it.
+// One line: the lowest refusal that applies to it, or the counters after it. The slice is lent, while the counters go
+// through by value, as a refusal leaves none: what takes a line takes both, beside one another. The kinds are these
+// six, each taken in its own way, so an arm tells each. The counters' bounds are of the run and no type's: only after
+// the tests is there room for one more, as `Room` has it.
 fn take_line(
     line: Line,
     w: &mut [u32],
@@ -116,7 +119,7 @@ fn take_line(
     match kind {
         Kind::Limits => take_limits(s, w, c),
         Kind::Name => names::take_name(line, w, c),
-        Kind::SchemaType => types::take_type(s, w, c, edition),
+        Kind::SchemaType => types::take_type(s, w, types::Room { c }, edition),
         Kind::Predicate => types::take_predicate(s, w, c),
         Kind::Node => nodes::take_node(line, w, c, edition),
         Kind::Query => nodes::take_query(s, w, c),
@@ -134,8 +137,8 @@ fn put_counts(w: &mut [u32], c: Counters)
     put(w, work::VALUE_NAME, c.value.map_or(0, |n| n + 1));
 }
 
-// The lines in file order, each where the one before it ended, then the missing query. After each query the nodes start
-// anew: `load` finds them again.
+// The lines in file order, then the missing query. Each line says where the next one starts, and the loop follows that
+// place. After each query the nodes start anew: `load` finds them again. Both lengths were tested in `read_file`.
 fn take_lines(file: &[u8], w: &mut [u32], edition: Edition) -> Result<(), Refusal>
     requires { (length file.now ≤ 65536) × (16384 ≤ length w.old) }
     ensures { TakesLines (edition_of edition) file.now w.old w.new result }

@@ -1,22 +1,51 @@
 // Name lines: the text, and whether it was given before.
 ghost use Rattle.std.specs.Prelude.{◌≡◌, ℕ, ◌+◌, ◌<◌, ◌≤◌, length, drop, take, true};
+ghost use Rattle.std.specs.List.{starts_with};
+ghost use Rattle.std.proofs.Math.Dec.{eqb};
 ghost use Rattle.meaning.specs.Frame.{name};
-ghost use Rattle.reading.specs.Promises.{Unlike, GivenBefore, InEither, Takes};
+ghost use Rattle.reading.specs.Promises.{eight_at, Unlike, GivenBefore, InEither, Takes};
 
 use crate::{Counters, Line, Refusal};
-use work::{name_chars, name_place, name_word, put, word};
+use work::{name_chars, name_place, name_word, put, wide, word};
+
+// The eight digits at i as one number: a `first_chunk` would test once more that they are there.
+#[tactic(auto, unfolding(crate::specs::Promises::eight_at))]
+fn eight(s: &[u8], i: usize) -> u64
+    requires { i + 8 ≤ length s.now }
+    ensures { result ≡ eight_at s.now i }
+{
+    u64::from_le_bytes([
+        s[i],
+        s[i + 1],
+        s[i + 2],
+        s[i + 3],
+        s[i + 4],
+        s[i + 5],
+        s[i + 6],
+        s[i + 7],
+    ])
+}
 
 // Whether the eight digits at i differ.
 fn unlike(s: &[u8], t: &[u8], i: usize) -> bool
     requires { (i + 8 ≤ length s.now) × (i + 8 ≤ length t.now) }
     ensures { result ≡ true → s.now ≡ t.now → ⊥ }
 {
-    s[i..i + 8] != t[i..i + 8]
+    eight(s, i) != eight(t, i)
+}
+
+// Out of line, so that the loop over names keeps its registers.
+#[inline(never)]
+fn begins(s: &[u8], t: &[u8]) -> bool
+    ensures { result ≡ starts_with eqb s.now t.now }
+{
+    s.starts_with(t)
 }
 
 // A place where eight digits of t differ from those that s begins with: where it is found the lines differ, so that all
 // of a line is seldom compared. The place where other lines differed comes first, then the last eight: names alike
-// often differ there.
+// often differ there. A loop over the others, as its place is within both: the closure of a `find` would need that as a
+// clause.
 fn differ(s: &[u8], t: &[u8], first: Option<usize>) -> Option<usize>
     ensures { Unlike s.now t.now result }
 {
@@ -38,22 +67,22 @@ fn differ(s: &[u8], t: &[u8], first: Option<usize>) -> Option<usize>
     None
 }
 
-// The line has so many characters.
+// The line has so many characters. No `any` over the names: the place where one differed is carried to the next.
 fn given_before(line: Line, w: &[u32], names: u32, chars: usize) -> bool
     ensures { GivenBefore line.entry.file.now line.entry.at line.entry.bytes.now w.now names chars result }
 {
     let digits = line.digits();
     let mut place = None;
     for j in 0..names {
-        let x = word(w, work::NAMES + j as usize);
-        if name_chars(x) as usize != chars {
+        let x = word(w, work::NAMES + wide(j));
+        if wide(name_chars(x)) != chars {
             continue;
         }
-        let Some(earlier) = line.file.get(name_place(x) as usize..) else {
+        let Some(earlier) = line.file.get(wide(name_place(x))..) else {
             continue;
         };
         place = differ(earlier, digits, place);
-        if place.is_none() && earlier.starts_with(digits) {
+        if place.is_none() && begins(earlier, digits) {
             return true;
         }
     }
@@ -70,7 +99,7 @@ pub fn take_name(line: Line, w: &mut [u32], c: Counters) -> Result<Counters, Ref
         return Err(Refusal::NameGivenBefore);
     }
     let n = c.names;
-    put(w, work::NAMES + n as usize, name_word(line.at, chars));
+    put(w, work::NAMES + wide(n), name_word(line.at, chars));
     Ok(Counters {
         names: n + 1,
         value: if text == b"value".as_slice() {

@@ -7,7 +7,7 @@ ghost use Rattle.reading.specs.Marks.{Told, NamesNode, NamesFields, NamesItems, 
 
 use crate::{Counters, Line, Refusal};
 use frames::{Edition, byte, half, reference_size};
-use work::{is_named, node_word, put, word};
+use work::{is_named, node_word, put, wide, word};
 
 // The bytes from n on; none past the end.
 #[tactic(auto, using(frames::proofs::Shapes::to_end))]
@@ -17,8 +17,8 @@ fn past(s: &[u8], n: usize) -> &[u8]
     s.get(n..).unwrap_or(&[])
 }
 
-// A name is there.
-fn find_name(name: u32, names: u32) -> Result<(), Refusal>
+// A name is there: it is a number below their count.
+fn check_name(name: u32, names: u32) -> Result<(), Refusal>
     ensures { Told (λ b. b ≡ ltb name names) result }
 {
     if name < names {
@@ -32,7 +32,7 @@ fn find_name(name: u32, names: u32) -> Result<(), Refusal>
 fn name_node(w: &mut [u32], m: u32, nodes: u32) -> Result<(), Refusal>
     ensures { Told (NamesNode w.old m nodes w.new) result }
 {
-    let at = work::NODES + m as usize;
+    let at = work::NODES + wide(m);
     let x = word(w, at);
     if nodes <= m || is_named(x) {
         return Err(Refusal::BadReference);
@@ -46,7 +46,7 @@ fn name_fields(fields: &[[u8; 4]], w: &mut [u32], names: u32, nodes: u32) -> Res
     ensures { Told (NamesFields fields.now w.old names nodes w.new) result }
 {
     for field in fields {
-        find_name(half(field, 0), names)?;
+        check_name(half(field, 0), names)?;
         name_node(w, half(field, 2), nodes)?;
     }
     Ok(())
@@ -62,6 +62,8 @@ fn name_items(items: &[[u8; 2]], w: &mut [u32], nodes: u32) -> Result<(), Refusa
     Ok(())
 }
 
+// Each takes three bytes or five, so the rest is walked, and not chunks of one size. What they take stands once more in
+// `tree::stmt_size`, in digits, and in crate frames, which refuses the other tags: here an arm names the nodes with it.
 fn name_statements(s: &[u8], w: &mut [u32], nodes: u32) -> Result<(), Refusal>
     ensures { Told (NamesStatements s.now w.old nodes w.new) result }
 {
@@ -75,7 +77,7 @@ fn name_statements(s: &[u8], w: &mut [u32], nodes: u32) -> Result<(), Refusal>
                 5
             }
         };
-        rest = &rest[size.min(rest.len())..];
+        rest = past(rest, size);
     }
     Ok(())
 }
@@ -86,10 +88,10 @@ fn name_all(s: &[u8], w: &mut [u32], c: Counters, edition: Edition) -> Result<()
 {
     let rest = past(s, 10);
     match byte(s, 9) {
-        3 | 6 | 7 => find_name(half(s, 10), c.names),
+        3 | 6 | 7 => check_name(half(s, 10), c.names),
         8 => name_fields(rest.as_chunks().0, w, c.names, c.nodes),
         9 | 16 => {
-            find_name(half(s, 10), c.names)?;
+            check_name(half(s, 10), c.names)?;
             name_node(w, half(s, 12), c.nodes)
         }
         10 => name_node(w, half(s, 10), c.nodes),
@@ -115,7 +117,7 @@ pub fn take_node(
     name_all(line.bytes, w, c, edition)?;
     put(
         w,
-        work::NODES + c.nodes as usize,
+        work::NODES + wide(c.nodes),
         node_word(line.at, line.bytes.len()),
     );
     Ok(Counters {

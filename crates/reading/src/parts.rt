@@ -1,18 +1,17 @@
 // The parts of record and union types, each by its bytes in the line.
-ghost use Rattle.std.specs.Prelude.{◌≡◌, ℕ, List, ◌+◌, ◌<◌, ◌≤◌, length, not, map, [], ◌∷◌, ◌*◌, refl};
+ghost use Rattle.std.specs.Prelude.{◌&&◌, ◌≡◌, ℕ, List, ◌+◌, ◌<◌, ◌≤◌, length, not, map, eqb, [], ◌∷◌, ◌*◌, refl};
 ghost use Rattle.std.proofs.lemmas.List.Edits.{sets};
 ghost use Rattle.work.specs.Layout.{FIELDS};
 ghost use Rattle.cells.specs.declared.Kind.{Kind};
 ghost use Rattle.cells.specs.declared.Kind.TheVariants.{Fields, Alternatives};
 ghost use Rattle.cells.specs.Stands.{tag_of, part_words};
-ghost use Rattle.text.specs.Utf8.{both};
 ghost use Rattle.meaning.specs.Conditions.{all_below, among, again};
 ghost use Rattle.frames.specs.Promises.{half_w, full_w};
-ghost use Rattle.reading.specs.Parts.{size_of, type_w, words_w, names_of, types_of, keys_of, words_of};
+ghost use Rattle.reading.specs.Parts.{size_of, type_w, words_w, names_of, types_of, is_early, keys_of, words_of};
 
 use frames::{full, half};
 use reader::{Alternative, Field};
-use work::{part, put};
+use work::{part, put, wide};
 
 // What may not repeat: a field's name, an alternative's discriminant.
 trait Keyed<const SIZE: usize> {
@@ -62,6 +61,7 @@ pub trait Part<const SIZE: usize>: Drop {
         ensures words { words result ≡ words_w kind bytes.now 0 }
         ensures small { (name result < 65536) × (ty result < 65536) };
 
+    // A trait has no fields, so either type hands out its own.
     fn name(&self) -> u32
         ensures { result ≡ name self.now };
 
@@ -165,28 +165,29 @@ pub fn are_earlier<const SIZE: usize, P: Part<SIZE>>(
     names: u32,
     types: u32,
 ) -> bool
-    ensures { result ≡ both (all_below names (names_of parts.now)) (all_below types (types_of P.kind parts.now)) }
+    ensures { result ≡ (all_below names (names_of parts.now) && all_below types (types_of P.kind parts.now)) }
 {
-    for bytes in parts {
-        let part = P::read(bytes);
-        if names <= part.name() || types <= part.ty() {
-            return false;
-        }
-    }
-    true
+    parts.iter().all(
+        |bytes|
+            ensures { result ≡ is_early P.kind names types bytes.now }
+        {
+            let part = P::read(bytes);
+            part.name() < names && part.ty() < types
+        },
+    )
 }
 
 fn has_key<const SIZE: usize, K: Keyed<SIZE>>(parts: &[[u8; SIZE]], key: u32) -> bool
     ensures { result ≡ among key (map K.key parts.now) }
 {
-    for bytes in parts {
-        if K::key(bytes) == key {
-            return true;
-        }
-    }
-    false
+    parts.iter().any(
+        |bytes|
+            ensures { result ≡ eqb (K.key bytes.now) key }
+        { K::key(bytes) == key },
+    )
 }
 
+// A loop, as its place bounds the parts before it: a closure handed to `any` would need that bound as a clause.
 fn keys_distinct<const SIZE: usize, K: Keyed<SIZE>>(parts: &[[u8; SIZE]]) -> bool
     ensures { result ≡ not (again [] (map K.key parts.now)) }
 {
@@ -199,12 +200,13 @@ fn keys_distinct<const SIZE: usize, K: Keyed<SIZE>>(parts: &[[u8; SIZE]]) -> boo
 }
 
 // The same for a record's fields, whose names were found to be numbers below 256: each is marked where it stands first.
+// A loop, as the closure of an `all` would change the marks.
 fn names_distinct(fields: &[[u8; 4]]) -> bool
     ensures { result ≡ not (again [] (names_of fields.now)) }
 {
     let mut seen = [false; 256];
     for bytes in fields {
-        let name = half(bytes, 0) as usize;
+        let name = wide(half(bytes, 0));
         if 256 <= name {
             return keys_distinct::<4, Field>(fields);
         }
@@ -216,11 +218,13 @@ fn names_distinct(fields: &[[u8; 4]]) -> bool
     true
 }
 
+// The place goes along: how many words a part has is its type's to say, and no array's length, so the region is not cut
+// into `as_chunks`; and nothing is written past the end, as `put` has it.
 pub fn put_parts<const SIZE: usize, P: Part<SIZE>>(parts: &[[u8; SIZE]], w: &mut [u32], from: u32)
     requires { (length parts.now ≤ 512) × (from ≤ 8192) }
     ensures { w.new ≡ sets w.old (FIELDS + from) (words_of P.kind parts.now) }
 {
-    let mut at = work::FIELDS + from as usize;
+    let mut at = work::FIELDS + wide(from);
     for bytes in parts {
         P::read(bytes).put(w, at);
         at += P::WORDS;

@@ -9,20 +9,38 @@ use crate::parts::{Part, are_earlier, put_parts};
 use crate::{Counters, Refusal};
 use frames::{Edition, byte, reference};
 use reader::{Alternative, Field};
-use work::{predicate_word, put, with_tag, with_value};
+use work::{predicate_word, put, wide, with_tag, with_value};
+
+// The tags of the types with no parts; those with parts have theirs in `Part`.
+const INT: u32 = 1;
+
+const STRING: u32 = 2;
+
+const BYTES: u32 = 3;
+
+const FACT: u32 = 4;
+
+// Counters with room for one more type and the words of its parts.
+#[derive(Clone, Copy)]
+pub struct Room {
+    pub c: Counters,
+    ghost types: { c.types < 256 },
+    ghost fields: { c.fields ≤ 8192 },
+}
 
 // One more type, with so many words of parts.
 fn add_type(
     w: &mut [u32],
-    c: Counters,
+    room: Room,
     head: u32,
     payload: u32,
     words: u32,
 ) -> Result<Counters, Refusal>
-    requires { (c.types < 256) × (c.fields ≤ 8192) × (words ≤ 8192) }
-    ensures { AddsType w.old c head payload words w.new result }
+    requires { words ≤ 8192 }
+    ensures { AddsType w.old room.c head payload words w.new result }
 {
-    let at = work::TYPES + 2 * c.types as usize;
+    let c = room.c;
+    let at = work::TYPES + 2 * wide(c.types);
     put(w, at, head);
     put(w, at + 1, payload);
     Ok(Counters {
@@ -32,14 +50,16 @@ fn add_type(
     })
 }
 
+// `as`: a line has at most 255 parts of at most two words.
 fn take_parts<const SIZE: usize, P: Part<SIZE>>(
     s: &[u8],
     w: &mut [u32],
-    c: Counters,
+    room: Room,
 ) -> Result<Counters, Refusal>
-    requires { (2 ≤ length s.now) × (length s.now ≤ 512) × (c.types < 256) × (c.fields ≤ 8192) }
-    ensures { InEither (λ e. TakesType e (shape_of P.kind) s.now w.old c w.new result) }
+    requires { (2 ≤ length s.now) × (length s.now ≤ 512) }
+    ensures { InEither (λ e. TakesType e (shape_of P.kind) s.now w.old room.c w.new result) }
 {
+    let c = room.c;
     let (parts, _) = s[2..].as_chunks::<SIZE>();
     if !are_earlier::<SIZE, P>(parts, c.names, c.types) {
         return Err(Refusal::BadReference);
@@ -50,25 +70,20 @@ fn take_parts<const SIZE: usize, P: Part<SIZE>>(
     put_parts::<SIZE, P>(parts, w, c.fields);
     let n = parts.len();
     let head = with_tag(n as u32, P::TAG);
-    add_type(w, c, head, c.fields, (n * P::WORDS) as u32)
+    add_type(w, room, head, c.fields, (n * P::WORDS) as u32)
 }
 
-pub fn take_type(
-    s: &[u8],
-    w: &mut [u32],
-    c: Counters,
-    edition: Edition,
-) -> Result<Counters, Refusal>
-    requires { (2 ≤ length s.now) × (length s.now ≤ 512) × (c.types < 256) × (c.fields ≤ 8192) }
-    ensures { TakesAnywhere (edition_of edition) schema_type s.now w.old c w.new result }
+pub fn take_type(s: &[u8], w: &mut [u32], room: Room, edition: Edition) -> Result<Counters, Refusal>
+    requires { (2 ≤ length s.now) × (length s.now ≤ 512) }
+    ensures { TakesAnywhere (edition_of edition) schema_type s.now w.old room.c w.new result }
 {
     match byte(s, 1) {
-        0 => add_type(w, c, 1, 0, 0),
-        1 => add_type(w, c, 2, 0, 0),
-        2 => add_type(w, c, 3, 0, 0),
-        3 => add_type(w, c, 4, reference(s, 2, edition), 0),
-        4 => take_parts::<4, Field>(s, w, c),
-        _ => take_parts::<8, Alternative>(s, w, c),
+        0 => add_type(w, room, INT, 0, 0),
+        1 => add_type(w, room, STRING, 0, 0),
+        2 => add_type(w, room, BYTES, 0, 0),
+        3 => add_type(w, room, FACT, reference(s, 2, edition), 0),
+        4 => take_parts::<4, Field>(s, w, room),
+        _ => take_parts::<8, Alternative>(s, w, room),
     }
 }
 
@@ -76,22 +91,21 @@ fn add_predicate(w: &mut [u32], c: Counters, entry: u32) -> Result<Counters, Ref
     requires { c.predicates < 128 }
     ensures { AddsPredicate w.old c entry w.new result }
 {
-    put(w, work::PREDICATES + c.predicates as usize, entry);
+    put(w, work::PREDICATES + wide(c.predicates), entry);
     Ok(Counters {
         predicates: c.predicates + 1,
         ..c
     })
 }
 
+// The counters' bounds are asked here as in `take_line`: what names and types may name fits in an entry's eight bits,
+// and `Room` says another thing, that one more fits.
 pub fn take_predicate(s: &[u8], w: &mut [u32], c: Counters) -> Result<Counters, Refusal>
     requires { (6 ≤ length s.now) × (c.names ≤ 256) × (c.types ≤ 256) × (c.predicates < 128) }
     ensures { InEither (λ e. TakesAnywhere e predicate s.now w.old c w.new result) }
 {
     let p = reader::read_predicate(s, 1);
-    if c.names <= p.name {
-        return Err(Refusal::BadReference);
-    }
-    if c.types <= p.key {
+    if c.names <= p.name || c.types <= p.key {
         return Err(Refusal::BadReference);
     }
     let entry = predicate_word(p.name, p.key);

@@ -6,7 +6,7 @@ ghost use Rattle.reading_calls.specs.Numbers.{CallsRead};
 
 use reading::Edition;
 
-// 0 where the file passes refusals 1 to 10: what it says then stands in the slice (`Stands` of
+// In C's numbers: 0 where the file passes refusals 1 to 10. What it says then stands in the slice (`Stands` of
 // crates/tree/specs/Stands.antt), and words that this does not speak of hold anything. Else the refusal's number, and
 // the slice is zero throughout.
 #[unsafe(no_mangle)]

@@ -7,7 +7,7 @@ use native.Mathlib.Omega.{arith}
 use lib.ListN.{length}
 use Rattle.unification.specs.Ty as Tree
 use Rattle.unification.specs.Ty.{Row, ε, cell, row_len, app_row}
-use Rattle.unification.specs.Bindings.{Subst, zonk, Resolved}
+use Rattle.unification.specs.Bindings.{State, Subst, zonk, Resolved}
 use Rattle.unification.proofs.Chain.{repr_resolved}
 use Rattle.unification.proofs.Zonk.{zonk_repr, zonk_leaf, zonk_error, zonk_node, zonk_unbound, zonk_replaces}
 use Rattle.cells.specs.declared.Ty.{Ty}
@@ -16,7 +16,7 @@ use Rattle.cells.specs.declared.Kind.{Kind}
 use Rattle.cells.specs.declared.Kind.TheVariants.{Fields, Alternatives}
 use Rattle.cells.specs.declared.Part.{Part}
 use Rattle.cells.specs.Words.{count_w, part_w, parts_w, part_of_w}
-use Rattle.cells.specs.Stands.{Rows, tree, row_from, row_w, IsCell, Ok}
+use Rattle.cells.specs.Stands.{Rows, Holds, tree, row_from, row_w, IsCell, Ok}
 use Rattle.cells.specs.Promises.{Reprs}
 use Rattle.cells.proofs.Parts.{rest, rest_whole, rest_cell, rest_none, part_ok}
 use Rattle.writer.specs.Writes.{Writes, Moves}
@@ -42,6 +42,10 @@ unfolding row_w
 counted {w} {T} {s} R k c i = app_long _ (T c) ∙ rw (R.cells.row k c i) (from_long T w k c 0 (count_w w c))
 
 -- ---- A type
+-- The words of a state say what its bindings resolve to.
+pub resolves : {w : List ℕ} {T : Rows} {st : State} → Holds w T st → Resolves w T st.subst
+resolves H = record { cells = H.cells; binds = H.binds; acyclic = H.acyclic }
+
 abbrev pub cell_ty : Kind → ℕ → Ty
 cell_ty Fields c = Record c
 cell_ty Alternatives c = Union c

@@ -26,6 +26,8 @@ pub trait Script {
     ghost head_some: { (w : List ℕ) (u : Ty) → 1 ≤ length (head_of script w u) };
 }
 
+// The slice and the place go beside one another, as in crate writer, which says why.
+
 // A type, resolved on the way. What stands before its parts is written first, so the room left falls.
 pub fn ty<S: Script>(w: &[u32], out: &mut [S::Cell], at: usize, t: Ty) -> Option<usize>
     ensures { WritesTy S.script w.now out.old at t out.new result }

@@ -8,13 +8,15 @@ use Rattle.unification.proofs.Tests.{clash}
 use Rattle.cells.specs.Stands.{Rows}
 use Rattle.meaning.specs.Syntax.{Ast}
 use Rattle.meaning.specs.All.{All}
-use Rattle.meaning.specs.File.{Form, view_of, described, reading, max_file}
+use Rattle.meaning.specs.Frame.{wide}
+use Rattle.meaning.specs.File.{Form, view_of, described, reading}
 use Rattle.meaning.specs.Sound.{Sound}
 use Rattle.meaning.specs.Check.{Checker, Step, goes, out, Typed}
 use Rattle.meaning.specs.Run.{run}
 use Rattle.meaning.specs.Outcome.{min_words, max_visits, run_all}
 use Rattle.meaning.specs.Refusal.{too_many_visits}
 use Rattle.meaning.proofs.Sound.{sound}
+use Rattle.meaning.proofs.Content.{says_exactly}
 use Rattle.entries.specs.Entries as Defined
 use Rattle.entries.specs.Entries.{entries_of, entries_all, nth, fewer, turned_down, among, sought_run}
 use Rattle.tree.specs.Stands.{SchemaStands}
@@ -40,14 +42,13 @@ pub record Placing (f : List ℕ) (n : ℕ) (w₀ w : List ℕ) (at rest : ℕ) 
   is : (T : Rows) (form : Form) → reading f ≡ described form → min_words ≤ length w₀ → SchemaStands f w₀ T form.names form.schema
       → Left f w form at rest (sought form n)
 
-pub place_start : (f : List ℕ) (n : ℕ) (w : List ℕ) → length f ≤ 65536 → Placing f n w w 0 n
-unfolding max_file
-place_start f n w small = record {
+pub place_start : (f : List ℕ) (n : ℕ) (w : List ℕ) → Placing f n w w 0 n
+place_start f n w = record {
   words = refl;
   is = λ T form e l S. record {
     qs = form.queries;
     sound = sound f form e;
-    ahead = all_ahead f form small e;
+    ahead = all_ahead f form ((says_exactly wide f form).0 e).size e;
     stands = (T, S);
     is = sought_is form.schema form.queries n (run_all form.schema form.queries);
   };

@@ -1,16 +1,15 @@
 -- The reading, and then the queries of what was read: what is sought, by what the reading comes to in so many words.
 use mathlib.Core.List.{List}
 use mathlib.Core.Path.{◌≡◌, refl, sym, ap, ◌∙◌, subst}
-use Prim.Native.Nat.{ℕ, ◌≤◌}
+use Prim.Native.Nat.{ℕ}
 use lib.Dec.{ltb}
 use lib.ListN.{length}
 use Rattle.unification.proofs.Tests.{clash}
 use Rattle.meaning.specs.Frame.{wide}
 use Rattle.meaning.specs.Refusal as Meaning
-use Rattle.meaning.specs.File.{Form, Reading, refused, described, reading, max_file}
+use Rattle.meaning.specs.File.{Form, Reading, refused, described, reading}
 use Rattle.meaning.specs.Outcome.{min_words, run_all}
 use Rattle.meaning.proofs.Tests.{cases}
-use Rattle.meaning.proofs.Content.{says_exactly}
 use Rattle.entries.specs.Entries.{sought_run, sought_read, entry_at}
 use Rattle.reading.specs.Promises.{refusal, Ends, reading_in, ReadsFile}
 use Rattle.reading.specs.declared.Refusal.{Refusal}
@@ -49,14 +48,6 @@ enough_words f words d e = cases (ltb words min_words)
     (λ q. let h : refused Meaning.work_too_short ≡ described d = rw (q, reading_in) at e in clash (cc h)) (λ q. rw (q, reading_in) at e)
 
 module _ {f w w₁ : List ℕ} {x : Result (Unit {0}) Refusal} (h : ReadsFile wide f w w₁ x) where
-  pub read_small : x ≡ Ok tt → length f ≤ 65536
-  unfolding Ends max_file
-  read_small q = go (reading_in wide f (length w)) refl h.ends
-    where
-      go : (y : Reading) → reading_in wide f (length w) ≡ y → Ends wide f w₁ x y → length f ≤ 65536
-      go (refused i) e g = clash (cc (q, g.1))
-      go (described d) e g = ((says_exactly wide f d).0 (enough_words f (length w) d e)).size
-
   pub not_read : {e : Refusal} (n : ℕ) → x ≡ Err e → Seeks f n w w₁ (Err e)
   unfolding Ends sought_read
   not_read {e} n q = record {

@@ -1,8 +1,7 @@
-// Card 12: the n-th entry to `unify` of a file's run. The whole file is run first, so that 11 is told wherever the visits run out, and
-// then the entry's query again, up to the entry.
+// Card 12: the n-th entry to `unify` of a file's run. The whole file is run first, so that 11 is told wherever the
+// visits run out, and then the entry's query again, up to the entry.
 #![tactic(auto)]
 
-ghost use Rattle.std.specs.Prelude.{◌≡◌, ◌≤◌, length};
 ghost use Rattle.seek.specs.Promises.{Turns, RunsOn, Places, Stops, Finds, Seeks};
 
 use cells::Ty;
@@ -10,7 +9,8 @@ use reading::{Counters, Edition, Refusal};
 use state::Until;
 use work::word;
 
-// The run of the query from `at` on: where the next one starts, and this one's entries. The answer slice that is lent to it is empty.
+// The run of the query from `at` on: where the next one starts, and this one's entries. The answer slice that is lent
+// to it is empty.
 fn one_query(file: &[u8], at: usize, work: &mut [u32]) -> Result<(usize, u32), Refusal>
     ensures { Turns file.now at work.old work.new result }
 {
@@ -21,7 +21,8 @@ fn one_query(file: &[u8], at: usize, work: &mut [u32]) -> Result<(usize, u32), R
     Ok((next, word(work, work::ENTERED)))
 }
 
-// The queries from a place on, as long as they come to their ends.
+// The queries from a place on, as long as they come to their ends. No `for`, here and in `place_of`: where the next
+// query starts is what the run of this one gives back.
 fn run_on(file: &[u8], from: usize, work: &mut [u32]) -> Result<(), Refusal>
     ensures { RunsOn file.now from work.old work.new result }
 {
@@ -32,10 +33,9 @@ fn run_on(file: &[u8], from: usize, work: &mut [u32]) -> Result<(), Refusal>
     Ok(())
 }
 
-// Where the entry's query starts, and which of that query's entries it is. One count over all queries; those after the entry's are run
-// too.
+// Where the entry's query starts, and which of that query's entries it is. One count over all queries; those after the
+// entry's are run too. No `find` over queries: each is run to be counted, and a run may fail.
 fn place_of(file: &[u8], n: u32, work: &mut [u32]) -> Result<Option<(usize, u32)>, Refusal>
-    requires { length file.now ≤ 65536 }
     ensures { Places file.now n work.old work.new result }
 {
     let mut at: usize = 0;
@@ -65,7 +65,6 @@ fn sides_at(file: &[u8], at: usize, n: u32, work: &mut [u32]) -> (Ty, Ty)
 
 // Of a file that was read.
 fn find(file: &[u8], n: u32, work: &mut [u32]) -> Result<Option<(Ty, Ty)>, Refusal>
-    requires { length file.now ≤ 65536 }
     ensures { Finds file.now n work.old work.new result }
 {
     let Some((at, rest)) = place_of(file, n, work)? else {

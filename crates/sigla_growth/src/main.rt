@@ -4,7 +4,6 @@
 
 ghost use Rattle.std.specs.Prelude.{◌≤◌, length, IfSome};
 
-use input::Input;
 use std::env::Env;
 use std::fs::{Files, OpenOptions};
 use std::str;
@@ -17,10 +16,7 @@ fn read_named(rt: &HostRuntime, i: usize, into: &mut [u8]) -> Option<usize>
     let n = rt.arg(i, &mut path).ok()?;
     let name = str::from_utf8(&path[..n]).ok()?;
     let mut file = rt.open_file(OpenOptions::new().read(true), name).ok()?;
-    match input::read_all(&mut file, into) {
-        Input::Bytes(m) => Some(m),
-        Input::Failed => None,
-    }
+    input::read_all(&mut file, into).ok()
 }
 
 // One byte more is read than a file may have, so that a longer one is refused. A file that can't be read counts as

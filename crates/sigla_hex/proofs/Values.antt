@@ -6,16 +6,16 @@ use native.Mathlib.Omega.{arith}
 use lib.Dec.{eqb}
 use borrow.Author.Tests.{eqb-true}
 use Rattle.std.specs.Prelude.{Some, None}
-use Rattle.text.proofs.Every.{below, every}
+use Rattle.std.proofs.lemmas.Bool.{agree_below, agree_below_at}
 use Rattle.meaning.specs.Lines.{digit}
 use Rattle.sigla_hex.specs.Digits.{digit_w}
 use Rattle.sigla_hex.proofs.Line.{is_digit_lem, no_digit}
 
 -- the n numbers from a on, of which f gives the k-th v k
-pub run : (f : ℕ → ℕ) (a n : ℕ) (v : ℕ → ℕ) → below (λ k. eqb (f (a + k)) (v k)) n ≡ true → (c : ℕ) → a ≤ c → c < a + n → v (c - a) ≡ f c
+pub run : (f : ℕ → ℕ) (a n : ℕ) (v : ℕ → ℕ) → agree_below (λ k. eqb (f (a + k)) (v k)) (λ _. true) n ≡ true → (c : ℕ) → a ≤ c → c < a + n → v (c - a) ≡ f c
 run f a n v t c l h =
     let at : a + (c - a) ≡ c = omega arith in
-    sym (eqb-true _ _ (every (λ k. eqb (f (a + k)) (v k)) n t (c - a) (omega arith))) ∙ ap f at
+    sym (eqb-true _ _ (agree_below_at (λ k. eqb (f (a + k)) (v k)) (λ _. true) n (c - a) t (omega arith))) ∙ ap f at
 
 some : (c n : ℕ) → n < 16 → n ≡ digit_w c → Some n ≡ digit c
 some c n l e = ap Some e ∙ sym (is_digit_lem c (omega (arith, e)))

@@ -4,7 +4,7 @@
 ghost use Rattle.std.specs.Prelude.{◌≡◌, ◌<◌, IfSome};
 ghost use Rattle.meaning.specs.Lines.{digit};
 
-// The value of a digit.
+// The value of a digit. std's `to_digit` takes upper case too.
 #[tactic(auto, using(crate::proofs::Values::digit_values))]
 pub fn digit(b: u8) -> Option<u8>
     ensures is { result ≡ digit b }

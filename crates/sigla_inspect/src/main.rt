@@ -2,13 +2,12 @@
 // success its bindings too, each in a line of its own.
 #![tactic(auto)]
 
-use input::Input;
 use inspect::Inspected;
 use std::env::Env;
 use std::io;
 use std::io::Read;
 
-// What an argument says in decimal digits. A sign is none.
+// What an argument says in decimal digits. `parse` takes a sign too, which is none.
 fn read_number(text: &[u8]) -> Option<u32> {
     let digits = std::str::from_utf8(text).ok()?;
     if digits.starts_with('+') {
@@ -23,7 +22,7 @@ fn argument(rt: &HostRuntime) -> Option<u32> {
     read_number(&text[..n])
 }
 
-// A token of one word.
+// A token of one word. A kind is the number that stands in the words which C is given too.
 fn one_word(a: u32) -> Option<&'static str> {
     match a {
         1 => Some("Int"),
@@ -46,7 +45,8 @@ fn two_words(a: u32) -> &'static str {
     }
 }
 
-// The tokens of the bindings. Each starts with an 11 and its unknown.
+// The tokens of the bindings, each of one word or two, so that no `for` goes over them. Each binding starts with an 11
+// and its unknown.
 fn say_bindings(rt: &impl Print, words: &[u32]) -> io::Result<()> {
     let mut rest = words;
     while let [a, more @ ..] = rest {
@@ -76,30 +76,21 @@ fn say_inspected(rt: &impl Print, r: Inspected, lent: &[u32]) -> io::Result<()> 
     }
 }
 
-// A line on standard error: where that fails too, there is no one left to tell.
-fn tell(rt: &impl Eprint, line: &str) {
-    let _ = rt.eprintln(line);
-}
-
-// One byte more is read than a file may have, so that a longer input is refused.
-fn run(rt: &(impl Print + Eprint), from: &mut impl Read, n: u32) {
-    let mut file = [0u8; 65537];
-    let mut work = [0u32; 16384];
-    let mut lent = [0u32; 65536];
-    match input::read_all(from, &mut file) {
-        Input::Failed => tell(rt, "reading standard input failed"),
-        Input::Bytes(m) => {
-            let r = inspect::inspect(&file[..m], n, &mut work, &mut lent);
-            if say_inspected(rt, r, &lent).is_err() {
-                tell(rt, "writing standard output failed");
-            }
-        }
-    }
+// One byte more is read than a file may have, so that a longer input is refused. What failed comes back as a line to
+// tell.
+fn answer(rt: &HostRuntime, from: &mut impl Read) -> Result<(), &'static str> {
+    let number = argument(rt).ok_or("usage: sigla_inspect NUMBER < FILE")?;
+    let mut file = [0; 65537];
+    let mut work = [0; 16384];
+    let mut lent = [0; 65536];
+    let n = input::read_all(from, &mut file).or(Err("reading standard input failed"))?;
+    let r = inspect::inspect(&file[..n], number, &mut work, &mut lent);
+    say_inspected(rt, r, &lent).or(Err("writing standard output failed"))
 }
 
 fn main(rt: HostRuntime) {
-    match argument(&rt) {
-        Some(n) => run(&rt, &mut rt.stdin(), n),
-        None => tell(&rt, "usage: sigla_inspect NUMBER < FILE"),
+    if let Err(line) = answer(&rt, &mut rt.stdin()) {
+        // Where that fails too, there is no one left to tell.
+        let _ = rt.eprintln(line);
     }
 }

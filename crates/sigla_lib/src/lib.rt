@@ -1,5 +1,5 @@
-// The calls for programs in other languages: every slice goes as a pointer and a length, an array as a pointer. Each gives back 0, or the
-// number of the refusal.
+// The calls for programs in other languages: every slice goes as a pointer and a length, an array as a pointer. Each
+// gives back 0, or the number of the refusal.
 #![tactic(auto, unfolding(meaning::specs::Refusal::number))]
 
 ghost use Rattle.sigla_lib.specs.Numbers.{CallsCheck, CallsLamp, CallsInspect, CallsWiden, CallsNarrow, CallsTally, CallsSetUp, CallsCeiling, CallsNewDay, CallsCheckAt, CallsGrowth, CallsLoad, outcome_number, or_else};
@@ -12,6 +12,8 @@ use cabinet::Group;
 use inspect::Inspected;
 use reading::Refusal;
 
+// For C, 0 is no refusal. `sigla_check`, `sigla_widen` and `sigla_narrow` are alike in this: each is a name that C
+// links.
 fn number(r: Result<usize, Refusal>) -> u8
     ensures { result ≡ outcome_number r }
 {
@@ -42,7 +44,9 @@ pub extern "C" fn sigla_check(file: &[u8], work: &mut [u32], out: &mut [u8]) -> 
 
 // ---- The lamp
 
-// Whether a query of the file has a diagnostic: then `lit` is 1, and else 0. Each query runs until its first one.
+// Whether a query of the file has a diagnostic: then `lit` is 1, and else 0. Each query runs until its first one. Here,
+// in `sigla_load` and in `sigla_ceiling` a number goes to C where there is one, each of another width from another
+// answer: one function for the three would be told the width, the zero and the refusal.
 #[unsafe(no_mangle)]
 pub extern "C" fn sigla_lamp(file: &[u8], work: &mut [u32], lit: &mut u32) -> u8
     ensures { CallsLamp file.now work.old work.new lit.new result }
@@ -67,8 +71,9 @@ pub extern "C" fn sigla_lamp(file: &[u8], work: &mut [u32], lit: &mut u32) -> u8
 
 // ---- The plain solver
 
-// The n-th unification of the file's run in another way: `told` is 1 where it succeeds and 0 where it fails, 2 where a side is shut out, 3 where
-// there are fewer. After a success `lent` holds the bindings, up to the first zero in the place of an 11.
+// The n-th unification of the file's run in another way: `told` is 1 where it succeeds and 0 where it fails, 2 where a
+// side is shut out, 3 where there are fewer. After a success `lent` holds the bindings, up to the first zero in the
+// place of an 11.
 #[unsafe(no_mangle)]
 pub extern "C" fn sigla_inspect(
     file: &[u8],
@@ -128,7 +133,8 @@ pub extern "C" fn sigla_narrow(file: &[u8], work: &mut [u32], out: &mut [u8]) ->
 
 // ---- Schema growth
 
-// Whether the queries of the old file keep their answers in the new one: 0, or the first of card 14's premises that fails.
+// Whether the queries of the old file keep their answers in the new one: 0, or the first of card 14's premises that
+// fails.
 #[unsafe(no_mangle)]
 pub extern "C" fn sigla_growth(old: &[u8], new: &[u8], work: &mut [u32]) -> u8
     ensures { CallsGrowth old.now new.now work.old work.new result }
@@ -138,7 +144,8 @@ pub extern "C" fn sigla_growth(old: &[u8], new: &[u8], work: &mut [u32]) -> u8
 
 // ---- The test load
 
-// The file of the seed and its length; or 12 for a slice that is shorter, and 0.
+// The file of the seed and its length; or 12 for a slice that is shorter, and 0. The number itself, as C has it: no
+// refusal comes to here.
 #[unsafe(no_mangle)]
 pub extern "C" fn sigla_load(seed: u32, out: &mut [u8], length: &mut usize) -> u8
     ensures { CallsLoad seed out.old out.new length.new result }

@@ -3,26 +3,25 @@
 
 use std::env::Env;
 
-// No file is longer than the slice (crates/testload/proofs/Promise.antt, `load_short`).
-fn print(rt: &(impl Print + Eprint), seed: u32) {
-    let mut out = [0; 8255];
-    if let Some(n) = generator::make(seed, &mut out)
-        && rt.write_all(&out[..n]).is_err()
-    {
-        tell(rt, "writing standard output failed");
-    }
-}
+const USAGE: &str = "usage: sigla_load SEED";
 
-// A line on standard error: where that fails too, there is no one left to tell.
-fn tell(rt: &impl Eprint, line: &str) {
-    let _ = rt.eprintln(line);
+// What failed comes back as a line to tell.
+fn print(rt: &HostRuntime) -> Result<(), &'static str> {
+    let mut word = [0; 4096];
+    let n = rt.arg(1, &mut word).or(Err(USAGE))?;
+    let seed = generator::read_seed(&word[..n]).ok_or(USAGE)?;
+    let mut out = [0; 8255];
+    // No file is longer than the slice (crates/testload/proofs/Promise.antt, `load_short`).
+    let Some(n) = generator::make(seed, &mut out) else {
+        return Ok(());
+    };
+    rt.write_all(&out[..n])
+        .or(Err("writing standard output failed"))
 }
 
 fn main(rt: HostRuntime) {
-    let mut word = [0; 4096];
-    let n = rt.arg(1, &mut word).ok();
-    match n.and_then(|n| generator::read_seed(&word[..n])) {
-        Some(seed) => print(&rt, seed),
-        None => tell(&rt, "usage: sigla_load SEED"),
+    if let Err(line) = print(&rt) {
+        // Where that fails too, there is no one left to tell.
+        let _ = rt.eprintln(line);
     }
 }

@@ -1,5 +1,5 @@
-// The plain solver (card 12) asked about two types in hand: what demand 3 shuts out is told first, then the bindings and
-// the sides are spelled into the lent slice, and the engine runs there. Nothing of `unify` is called.
+// The plain solver (card 12) asked about two types in hand: what demand 3 shuts out is told first, then the bindings
+// and the sides are spelled into the lent slice, and the engine runs there. Nothing of `unify` is called.
 #![tactic(auto)]
 
 ghost use Rattle.std.specs.Prelude.{◌≡◌, ◌+◌, length};
@@ -8,7 +8,7 @@ ghost use Rattle.solver.specs.Promises.{RunsHalves, RunsEngine, Solves};
 use cells::Ty;
 use plain::Unsolved;
 
-// The first stage is written into the upper half.
+// The first stage is written into the upper half. `got` and `expected` are two parameters, here as in `unify`.
 fn halves(w: &[u32], got: Ty, expected: Ty, h: usize, l: &mut [u32]) -> Result<usize, Unsolved>
     requires { length l.old ≡ h + h }
     ensures { RunsHalves w.now got expected h l.old l.new result }

@@ -12,6 +12,7 @@ use Rattle.writer.specs.Writes.{Writes, Moves}
 use Rattle.writer.proofs.Writing.{writes_none, writes_then, writes_full, writes_to, writes_over, writes_moves, full_moves, moves_then, moves_none, moves_next}
 use Rattle.writer.proofs.Writing.{Goes, goes_start, goes_next, goes_full, goes_done}
 use Rattle.resolving.specs.Scripts.{Resolves}
+use Rattle.resolving.proofs.Typing.{resolves}
 use Rattle.plain_theory.specs.Plain.{Stage, needs, resolved_from, start}
 use Rattle.plain_theory.specs.Words.{spelled, pairs_spelled, bindings_spelled}
 use Rattle.plain_theory.proofs.Words.{needs_words}
@@ -101,9 +102,6 @@ module _ {w l : List ℕ} {at : ℕ} {a b : Ty} {mid : List ℕ} {h : Option ℕ
   pair_full q = record { is = λ T s R o p. writes_full (f.is T s R o) q _; moves = full_moves f.moves.long }
 
 -- ---- The stage
-resolves : {w : List ℕ} {T : Rows} {st : State} → Holds w T st → Resolves w T st.subst
-resolves H = record { cells = H.cells; binds = H.binds; acyclic = H.acyclic }
-
 module _ {w l : List ℕ} {at : ℕ} {a b : Ty} {mid : List ℕ} {h : Option ℕ} (f : SpellsBindings w l at mid h) where
   pub start_full : h ≡ None → Starts w l at a b mid None
   unfolding start

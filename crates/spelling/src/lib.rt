@@ -1,5 +1,5 @@
-// Types from the cells as words, written into a lent slice: the first stage of the plain solver (card 12), which is every
-// binding, resolved, by ascending unknown, and the two sides, resolved.
+// Types from the cells as words, written into a lent slice: the first stage of the plain solver (card 12), which is
+// every binding, resolved, by ascending unknown, and the two sides, resolved.
 #![tactic(auto)]
 
 ghost use Rattle.spelling.specs.Tokens.{tokens, head_some, SpellsBinding, SpellsBindings, SpellsPair, Starts};
@@ -9,7 +9,10 @@ use resolving::{Script, ty};
 use work::word;
 use writer::{one, two};
 
-// The words of a type: what each part of it is, and the number that belongs to it.
+// `l` and `at` are two parameters: crate writer says why.
+
+// The words of a type: what each part of it is, and the number that belongs to it; shape by shape what answer writes in
+// bytes. The numbers stand as they are: their names are crate plain's, which reads them and knows nothing of types.
 pub struct Tokens;
 
 #[tactic(auto, unfolding(crate::specs::Tokens::tokens, plain_theory::specs::Words::leaf_spelled, plain_theory::specs::Words::kind_tag, plain_theory::specs::Words::head_spelled))]
@@ -57,6 +60,7 @@ fn binding(w: &[u32], l: &mut [u32], at: usize, x: u32) -> Option<usize>
     }
 }
 
+// A `for` around one call, as `node_lines` of answer, which says why it is not shared.
 fn bindings(w: &[u32], l: &mut [u32], mut at: usize) -> Option<usize>
     ensures { SpellsBindings w.now l.old at l.new result }
 {

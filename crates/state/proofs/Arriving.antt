@@ -1,5 +1,5 @@
--- An entry to `unify` from outside it: it is counted, and the run goes on, or it was to last until here. The count stops at the greatest word, which
--- no number of an entry passes, so the test on words is the definition's.
+-- An entry to `unify` from outside it: it is counted, and the run goes on, or it was to last until here. The count
+-- stops at the greatest word, which no number of an entry passes, so the test on words is the definition's.
 use mathlib.Core.List.{List}
 use mathlib.Core.Path.{◌≡◌, refl, sym, ◌∙◌, ap}
 use native.Mathlib.Omega.{arith}

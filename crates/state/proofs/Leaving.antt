@@ -1,4 +1,5 @@
--- Entries leave: the words that the code leaves after so many of them stand for the definition's spans of those that were unmarked.
+-- Entries leave: the words that the code leaves after so many of them stand for the definition's spans of those that
+-- were unmarked.
 use mathlib.Core.Bool.{Bool, true, false}
 use mathlib.Core.List.{List, [], ◌∷◌, map}
 use mathlib.Core.Logic.{◌≢◌, by_cases}

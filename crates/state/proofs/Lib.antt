@@ -1,3 +1,4 @@
+pub mod Searching
 pub mod Entries
 pub mod Standing
 pub mod Running
@@ -10,3 +11,4 @@ pub mod Recording
 pub mod Starting
 pub mod Lined
 pub mod Arriving
+pub mod Lefts

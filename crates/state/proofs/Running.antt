@@ -1,5 +1,5 @@
--- The words stand for a run: what each step of the state does to it. A step changes the state, the environment or the diagnostics;
--- the words of the others are as they were.
+-- The words stand for a run: what each step of the state does to it. A step changes the state, the environment or the
+-- diagnostics; the words of the others are as they were.
 use mathlib.Core.List.{List, map}
 use mathlib.Core.Logic.{◌≢◌}
 use mathlib.Core.Path.{◌≡◌, refl, sym, ap, ◌∙◌}

@@ -1,5 +1,5 @@
--- The environment and the marks: one more, and cut back to a length; a variable's unknown; and a rollback, which goes back in the state,
--- in the environment and in the marks.
+-- The environment and the marks: one more, and cut back to a length; a variable's unknown; and a rollback, which goes
+-- back in the state, in the environment and in the marks.
 use mathlib.Core.Bool.{Bool, true, false}
 use mathlib.Core.List.{List, [], ◌∷◌, map}
 use mathlib.Core.Logic.{◌≢◌}

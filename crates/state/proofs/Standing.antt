@@ -1,5 +1,6 @@
--- What a file said stands in the words below the run's: a change above them, over rows that hold those of before, leaves it as it
--- was. A schema type is no unknown, so it exists whatever the run made; where the run made nothing, the schema types are all cells.
+-- What a file said stands in the words below the run's: a change above them, over rows that hold those of before,
+-- leaves it as it was. A schema type is no unknown, so it exists whatever the run made; where the run made nothing, the
+-- schema types are all cells.
 use mathlib.Core.Bool.{Bool, true, false}
 use mathlib.Core.List.{List}
 use mathlib.Core.Path.{◌≡◌, refl, sym, ◌∙◌, ap}

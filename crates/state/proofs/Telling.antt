@@ -1,51 +1,38 @@
--- The digits of a span are one part of the file, copied. A diagnostic's line is its kind and span, then its code, then LF; the line with its
--- text follows.
+-- The digits of a span are one part of the file, copied. A diagnostic's line is its kind and span, then its code, then
+-- LF; the line with its text follows.
 use mathlib.Core.List.{List, [], ◌∷◌, ◌++◌}
 use mathlib.Core.Path.{◌≡◌, sym, ap, ◌∙◌}
 use Prim.Native.Nat.{ℕ, ◌+◌, ◌-◌, ◌≤◌}
 use native.Mathlib.Omega.{arith}
 use lib.ListN.{length, take, drop, length-drop}
 use lib.Seq.{length-take-le, take_at, drop-drop}
-use Rattle.std.proofs.Common.{append_assoc}
 use Rattle.std.proofs.lemmas.List.{take_rest}
 use Rattle.unification.specs.Ty.{Row}
-use Rattle.meaning.specs.Syntax.{Node}
+use Rattle.unification.specs.Bindings.{Subst, State}
+use Rattle.cells.specs.Stands.{Rows, Holds}
+use Rattle.meaning.specs.Syntax.{Node, Span}
+use Rattle.meaning.specs.File.{Described}
 use Rattle.meaning.specs.Messages.{message_text}
 use Rattle.meaning.specs.Answer.{bytes₂, bytes₄, hex_line, diagnostic_bytes, unused_line, diagnostic_line}
-use borrow.Rule.Slice.PartMut.{put_mid}
-use Rattle.writer.specs.Writes.{Writes, hex_of, placed}
-use Rattle.writer.proofs.Writing.{placed_long, writes_as, writes_to, writes_then, writes_full}
+use Rattle.writer.specs.Writes.{Writes, hex_of}
+use Rattle.writer.proofs.Writing.{writes_as, writes_to, writes_then, writes_full}
 use Rattle.writer.proofs.Digits.{hex_then, hex_full, line_then, line_full}
 use Rattle.tree.specs.Nodes.{line_start_w}
-use Rattle.tree.specs.Stands.{NodeIs}
+use Rattle.tree.specs.Stands.{NodeIs, Stands}
 use Rattle.tree.proofs.Spans.{span_written, span_there}
 use Rattle.messages.specs.declared.Message.{Message}
-use Rattle.messages.specs.Said.{said, WritesCode, WritesMessage}
-use Rattle.state.specs.Lines.{SpanAt, WritesSpan, WritesHead, WritesUnusedHead, WritesUnusedLine, WritesDiagnostic, WritesCodeLine, said_bytes}
-use Rattle.state.specs.Lines.{WritesSaid, WritesMessageLine, WritesLine}
+use Rattle.messages.specs.Said.{said, OkMessage, WritesCode, WritesMessage}
+use Rattle.state.specs.Lines.{SpanAt, diagnosed, WritesSpan, WritesUnusedLine, WritesCodeLine, said_bytes, WritesMessageLine, WritesLine}
 use Rattle.std.specs.Prelude.{None, Option, Some}
 
 -- ---- A span
-module _ (out digits : List ℕ) (at : ℕ) (size : length digits ≡ 16) where
-  copied : put_mid at (at + 16 - at) out digits ≡ placed at digits out
-  unfolding placed
-  copied =
-      let n : at + 16 - at ≡ 16 = omega arith in
-      rw (n, size) (ap (λ (l : List ℕ). take at out ++ (digits ++ l)) (drop-drop 16 at out) ∙ sym (append_assoc (take at out) digits (drop (at + 16) out)))
 
 -- part is the file from the line's start on
-pub span_copied : {f out part digits : List ℕ} {at line : ℕ} → part ≡ take (length f - line) (drop line f) → digits ≡ take 16 (drop 2 part) → line + 18 ≤ length f
-    → at + 16 ≤ length out → WritesSpan f out at line (put_mid at (at + 16 - at) out digits) (Some (at + 16))
-span_copied {f} {out} {part} {digits} {at} {line} p d there room =
-    let e : digits ≡ take 16 (drop (line + 2) f) =
-    d ∙ ap (λ (l : List ℕ). take 16 (drop 2 l)) (p ∙ take_rest f line) ∙ ap (take 16) (drop-drop 2 line f) in
-    let size : length digits ≡ 16 = rw e (length-take-le 16 (drop (line + 2) f) (simp length-drop (omega (arith, there)))) in
-    let same = copied out digits at size in
-    let long : length (put_mid at (at + 16 - at) out digits) ≡ length out = ap length same ∙ placed_long at digits out (omega (arith, size, room)) in
-    record {
-      is = λ t b. writes_as e record { fits = λ h. (ap (λ (n : ℕ). Some (at + n)) (sym size), same); over = λ h. absurd (omega (arith, size, room)); long = long };
-      long = long;
-    }
+pub span_copied : {f out part digits out' : List ℕ} {at line : ℕ} {r : Option ℕ} → part ≡ take (length f - line) (drop line f) → digits ≡ take 16 (drop 2 part)
+    → Writes out at digits out' r → WritesSpan f out at line out' r
+span_copied {f} {line = line} p d g =
+    let e = d ∙ ap (λ (l : List ℕ). take 16 (drop 2 l)) (p ∙ take_rest f line) ∙ ap (take 16) (drop-drop 2 line f) in
+    record { is = λ t b. writes_as e g; long = g.long }
 
 -- The span of a node that was read stands in the node's line.
 pub span_at : (f w : List ℕ) (n : ℕ) (nd : Node) → NodeIs f w n nd → SpanAt f (line_start_w w n) nd.span
@@ -59,6 +46,12 @@ span_at f w n nd h = record {
 }
 
 -- ---- A line
+
+-- The line's kind and the span.
+pub record WritesHead (f out : List ℕ) (at kind line : ℕ) (out' : List ℕ) (r : Option ℕ) : Type 0 where
+  pub is : (s : Span) → SpanAt f line s → Writes out at (hex_of (kind ∷ bytes₄ s.start ++ bytes₄ s.end)) out' r
+  pub long : length out' ≡ length out
+
 module _ {f out : List ℕ} {at kind line : ℕ} {mid : List ℕ} {h : Option ℕ} (p : Writes out at (hex_of (kind ∷ [])) mid h) where
   pub head_then : {n : ℕ} → h ≡ Some n → {out' : List ℕ} {r : Option ℕ} → WritesSpan f mid n line out' r → WritesHead f out at kind line out' r
   head_then e g = record {
@@ -71,18 +64,25 @@ module _ {f out : List ℕ} {at kind line : ℕ} {mid : List ℕ} {h : Option �
   head_full e = record { is = λ s t. hex_full (kind ∷ []) (bytes₄ s.start ++ bytes₄ s.end) p e; long = p.long }
 
 -- ---- The line of an entry that left unmarked
-pub unused_head : {f w out : List ℕ} {at n : ℕ} {mid : List ℕ} {h : Option ℕ} (line : ℕ) → line ≡ line_start_w w n → WritesHead f out at 12 line mid h
-    → WritesUnusedHead f w out at n mid h
-unused_head line q p = record { is = λ s t. p.is s (rw q t); long = p.long }
-
-module _ {f w out : List ℕ} {at n : ℕ} {mid : List ℕ} {h : Option ℕ} (p : WritesUnusedHead f w out at n mid h) where
+module _ {f w out : List ℕ} {at n : ℕ} {mid : List ℕ} {h : Option ℕ} (line : ℕ) (q : line ≡ line_start_w w n) (p : WritesHead f out at 12 line mid h) where
   pub unused_then : {e : ℕ} → h ≡ Some e → {out' : List ℕ} {r : Option ℕ} → Writes mid e (10 ∷ []) out' r → WritesUnusedLine f w out at n out' r
   unfolding unused_line
-  unused_then e g = record { is = λ s t. line_then _ (p.is s t) e g; long = g.long ∙ p.long }
+  unused_then e g = record { is = λ s t. line_then _ (p.is s (rw q t)) e g; long = g.long ∙ p.long }
 
   pub unused_full : h ≡ None → WritesUnusedLine f w out at n mid None
   unfolding unused_line
-  unused_full e = record { is = λ s t. line_full _ (p.is s t) e; long = p.long }
+  unused_full e = record { is = λ s t. line_full _ (p.is s (rw q t)) e; long = p.long }
+
+-- ---- The lines of a diagnostic, without LF and with it
+
+-- At the node n, whose span is p.
+pub record WritesDiagnostic (f w out : List ℕ) (at n : ℕ) (m : Message) (out' : List ℕ) (r : Option ℕ) : Type 0 where
+  pub is : (T : Rows) (s : Subst) (p : Span) → SpanAt f (line_start_w w n) p → Writes out at (hex_of (diagnostic_bytes (diagnosed T s m p))) out' r
+  pub long : length out' ≡ length out
+
+pub record WritesSaid (f w out : List ℕ) (at : ℕ) (m : Message) (out' : List ℕ) (r : Option ℕ) : Type 0 where
+  pub is : (T : Rows) (d : Described) (st : State) → Stands f w T d → Holds w T st → OkMessage w m → Writes out at (hex_of (said_bytes d (said T st.subst m))) out' r
+  pub long : length out' ≡ length out
 
 module _ {f w out : List ℕ} {at : ℕ} {m : Message} {mid : List ℕ} {h : Option ℕ} where
   module _ (p : Writes out at (hex_of (10 ∷ [])) mid h) where

@@ -1,6 +1,6 @@
--- The lines of the diagnostics so far, in the answer slice: they stand from its start to the place that two words keep, or they are
--- longer than the slice, and a word says so. More words have what ends the run early and, where that came, the visits left and the sides
--- of the entry to `unify`.
+-- The lines of the diagnostics so far, in the answer slice: they stand from its start to the place that two words keep,
+-- or they are longer than the slice, and a word says so. More words have what ends the run early and, where that came,
+-- the visits left and the sides of the entry to `unify`.
 use Rattle.std.specs.Prelude.{List, [], ◌∷◌, ◌++◌, ◌≡◌, ℕ, ◌+◌, ◌*◌, ◌/◌, ◌%◌, ◌<◌, ◌≤◌, length, get_or, set, take, drop, ltb, None, Option, Some}
 use Rattle.work.specs.Layout.{PLACE, PLACE-HIGH, FULL, UNTIL, LEFT, STOP, ENTERED, GOT, EXPECTED}
 use Rattle.unification.specs.Bindings.{Subst, State}
@@ -54,25 +54,12 @@ pub record WritesSpan (f out : List ℕ) (at line : ℕ) (out' : List ℕ) (r : 
   pub is : line + 18 ≤ length f → at ≤ length out → Writes out at (take 16 (drop (line + 2) f)) out' r
   pub long : length out' ≡ length out
 
--- The line's kind and the span.
-pub record WritesHead (f out : List ℕ) (at kind line : ℕ) (out' : List ℕ) (r : Option ℕ) : Type 0 where
-  pub is : (s : Span) → SpanAt f line s → Writes out at (hex_of (kind ∷ bytes₄ s.start ++ bytes₄ s.end)) out' r
-  pub long : length out' ≡ length out
-
--- The line of a node whose entry left unmarked, without LF and with it.
-pub record WritesUnusedHead (f w out : List ℕ) (at n : ℕ) (out' : List ℕ) (r : Option ℕ) : Type 0 where
-  pub is : (s : Span) → SpanAt f (line_start_w w n) s → Writes out at (hex_of (0x0c ∷ bytes₄ s.start ++ bytes₄ s.end)) out' r
-  pub long : length out' ≡ length out
-
+-- The line of a node whose entry left unmarked.
 pub record WritesUnusedLine (f w out : List ℕ) (at n : ℕ) (out' : List ℕ) (r : Option ℕ) : Type 0 where
   pub is : (s : Span) → SpanAt f (line_start_w w n) s → Writes out at (unused_line s) out' r
   pub long : length out' ≡ length out
 
 -- At the node n, whose span is p.
-pub record WritesDiagnostic (f w out : List ℕ) (at n : ℕ) (m : Message) (out' : List ℕ) (r : Option ℕ) : Type 0 where
-  pub is : (T : Rows) (s : Subst) (p : Span) → SpanAt f (line_start_w w n) p → Writes out at (hex_of (diagnostic_bytes (diagnosed T s m p))) out' r
-  pub long : length out' ≡ length out
-
 pub record WritesCodeLine (f w out : List ℕ) (at n : ℕ) (m : Message) (out' : List ℕ) (r : Option ℕ) : Type 0 where
   pub is : (T : Rows) (s : Subst) (p : Span) → SpanAt f (line_start_w w n) p → Writes out at (hex_line (diagnostic_bytes (diagnosed T s m p))) out' r
   pub long : length out' ≡ length out
@@ -80,10 +67,6 @@ pub record WritesCodeLine (f w out : List ℕ) (at n : ℕ) (m : Message) (out' 
 -- The bytes of the line with the text.
 abbrev pub said_bytes : Described → Diag.Message → List ℕ
 said_bytes d x = 0x0a ∷ message_text d.names d.schema x
-
-pub record WritesSaid (f w out : List ℕ) (at : ℕ) (m : Message) (out' : List ℕ) (r : Option ℕ) : Type 0 where
-  pub is : (T : Rows) (d : Described) (st : State) → Stands f w T d → Holds w T st → OkMessage w m → Writes out at (hex_of (said_bytes d (said T st.subst m))) out' r
-  pub long : length out' ≡ length out
 
 pub record WritesMessageLine (f w out : List ℕ) (at : ℕ) (m : Message) (out' : List ℕ) (r : Option ℕ) : Type 0 where
   pub is : (T : Rows) (d : Described) (st : State) → Stands f w T d → Holds w T st → OkMessage w m → Writes out at (hex_line (said_bytes d (said T st.subst m))) out' r
@@ -136,8 +119,9 @@ pub record Keeping (w o s : List ℕ) (u : Check.Until) (m l : ℕ) : Type 0 whe
   pub entered : get_or w ENTERED 0 ≡ capped m
   pub left : get_or w LEFT 0 ≡ l
 
--- The lines of a checker's diagnostics stand in the slice, the oldest first. While the run goes on the word of the visits left is 0;
--- where it ended early, by its visits or by what it was to last until, those that were left stand there.
+-- The lines of a checker's diagnostics stand in the slice, the oldest first. While the run goes on the word of the
+-- visits left is 0; where it ended early, by its visits or by what it was to last until, those that were left stand
+-- there.
 abbrev pub Told : Described → List ℕ → List ℕ → Checker → ℕ → Type 0
 Told d w o c l = Keeping w o (diagnostic_lines (message_text d.names d.schema) (reversed c.diagnostics [])) c.until (length c.entries) l
 

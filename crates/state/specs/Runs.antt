@@ -1,4 +1,5 @@
--- What the work slice stands for in the midst of a run: the checker of meaning/specs/Check.antt, over a file that was read.
+-- What the work slice stands for in the midst of a run: the checker of meaning/specs/Check.antt, over a file that was
+-- read.
 use Rattle.std.specs.Prelude.{List, map, ◌≡◌, ℕ, ◌+◌, ◌≤◌, ◌<◌, length, get_or}
 use Rattle.work.specs.Layout.{RECORD-COUNT, RECORD-FIELD-COUNT, ENV-LEN, DIAGNOSTIC-COUNT, MARK-COUNT, UNUSED-COUNT, END}
 use Rattle.cells.specs.Stands.{Rows, Holds, Keeps}

@@ -1,12 +1,16 @@
--- The words of a run besides those of types: how diagnostics are counted, and variables, marks and what left unmarked are written and
--- read (src/lib.rt). There are at most 1,536 diagnostics and 512 of each other; past it nothing is written, and that it never comes to
--- that is shown where the run is.
+-- The words of a run besides those of types: how diagnostics are counted, and variables, marks and what left unmarked
+-- are written and read (src/lib.rt). There are at most 1,536 diagnostics and 512 of each other; past it nothing is
+-- written, and that it never comes to that is shown where the run is.
 use Rattle.std.specs.Prelude.{Bool, List, [], ◌∷◌, ◌≡◌, ℕ, zero, suc, ◌+◌, ◌-◌, ◌*◌, ◌/◌, ◌%◌, eqb, ltb, get_or, set, None, Option, Some}
 use Rattle.work.specs.Layout.{ENV-LEN, DIAGNOSTIC-COUNT, UNKNOWNS, MARK-COUNT, UNUSED-COUNT, ENV, MARKS, UNUSED}
 use Rattle.cells.specs.Words.{pick, fresh_w}
 use Rattle.meaning.specs.Check.{Entry, lookup_in, is_in}
 
 -- ---- The number of diagnostics
+-- One more in a counter, up to a limit.
+abbrev pub bumped_w : ℕ → ℕ → List ℕ → List ℕ
+bumped_w counter limit w = pick (ltb (get_or w counter 0) limit) (set w counter (get_or w counter 0 + 1)) w
+
 unfoldable pub counted_w : List ℕ → List ℕ
 counted_w w = pick (ltb (get_or w DIAGNOSTIC-COUNT 0) 1536) (set w DIAGNOSTIC-COUNT (get_or w DIAGNOSTIC-COUNT 0 + 1)) w
 

@@ -1,23 +1,129 @@
-// What a run keeps in the slice besides types: the environment, which entries are marked as used and which left unmarked, where the lines
-// of its diagnostics end in the answer slice, and what ends it early.
+// What a run keeps in the slice besides types: the environment, which entries are marked as used and which left
+// unmarked, where the lines of its diagnostics end in the answer slice, and what ends it early.
 #![tactic(auto)]
 
 ghost use Rattle.std.specs.Prelude.{◌≡◌, ◌+◌, ◌*◌, get_or, set, ◌<◌};
-ghost use Rattle.work.specs.Layout.{ENV-LEN, MARK-COUNT};
+ghost use Rattle.work.specs.Layout.{PLACE, PLACE-HIGH, FULL, UNTIL, LEFT, STOP, ENTERED, ENV-LEN, MARK-COUNT};
 ghost use Rattle.meaning.specs.Check.{lookup_in, is_in};
-ghost use Rattle.state.specs.Words.{counted_w, entry_w, env_of, known_as, push_w, push_env_w, marks_of, mark_w, leave_entry_w, leave_w, Introduces};
-ghost use Rattle.state.specs.Lines.{place_w, set_place_w, WritesSpan, WritesHead, WritesUnusedHead, WritesUnusedLine, WritesDiagnostic, WritesCodeLine, WritesSaid, WritesMessageLine, WritesLine, until_of, until_w, stop_w, UntilIs, Tells, Halts, Rejected, entered_w, sides_w, Enters};
+ghost use Rattle.state.specs.Words.{bumped_w, counted_w, entry_w, env_of, known_as, push_w, push_env_w, marks_of, mark_w, leave_entry_w, leave_w, Introduces};
+ghost use Rattle.state.specs.Lines.{place_w, set_place_w, WritesSpan, WritesUnusedLine, WritesCodeLine, WritesMessageLine, WritesLine, until_of, until_w, stop_w, UntilIs, Tells, Halts, Rejected, entered_w, sides_w, Enters};
+ghost use Rattle.state.specs.Running.{left_if, Lent};
+ghost use Rattle.tree.specs.Nodes.{IsNode};
 
 use cells::Ty;
 use messages::Message;
+use tree::Node;
 use work::{Counters, put, wide, word};
 
-// What ends a run early besides its visits: nothing, its first diagnostic, or its n-th entry to `unify` from outside, counted from 0.
+// What ends a run early besides its visits: nothing, its first diagnostic, or its n-th entry to `unify` from outside,
+// counted from 0.
 #[derive(Clone, Copy)]
 pub enum Until {
     TheEnd,
     FirstDiagnostic,
     Entry(u32),
+}
+
+// The file that was read, the work slice, the answer slice, and the visits left.
+#[derive(Drop)]
+pub struct Run<'a> {
+    pub file: &'a [u8],
+    pub words: &'a mut [u32],
+    pub out: &'a mut [u8],
+    pub left: u32,
+}
+
+impl Run<'_> {
+    // The words, to read: where the field itself is lent, no clause says what it holds afterwards.
+    pub fn view(&self) -> &[u32]
+        ensures { result.now ≡ self.now.words.now }
+    {
+        self.words
+    }
+
+    // Its lines behind the lines before it; where there is no room, that is noted and no line is written from then on.
+    fn tell(&mut self, n: u32, m: Message)
+        ensures is { Tells self.old.file.now self.old.words.now self.old.out.now n m self.new.words.now self.new.out.now }
+        ensures left { self.new.left ≡ self.old.left }
+        ensures lent { Lent self.old self.new }
+    {
+        let w: &mut [u32] = self.words;
+        if word(w, work::FULL) == 0 {
+            let at = place(w);
+            match line(self.file, w, self.out, at, n, m) {
+                Some(e) => set_place(w, e),
+                None => put(w, work::FULL, 1),
+            }
+        }
+    }
+
+    fn halt(&mut self) -> Option<()>
+        ensures is { Halts self.old.words.now self.old.left self.new.words.now (left_if result self.new.left) }
+        ensures out { self.new.out ≡ self.old.out }
+        ensures lent { Lent self.old self.new }
+    {
+        if let Until::FirstDiagnostic = until_in(self.view()) {
+            put(self.words, work::LEFT, self.left);
+            return None;
+        }
+        Some(())
+    }
+
+    // A diagnostic at a node, and whether the run goes on.
+    pub fn reject(&mut self, n: u32, m: Message) -> Option<()>
+        ensures is { Rejected self.old.file.now self.old.words.now self.old.out.now n m self.old.left self.new.words.now self.new.out.now (left_if result self.new.left) }
+        ensures lent { Lent self.old self.new }
+    {
+        self.tell(n, m);
+        count(self.words);
+        self.halt()
+    }
+
+    // An entry to `unify` from outside is about to be made: it is counted, and the run goes on, or it was to last until
+    // here. Its sides are two parameters, by the names of ty.rs.
+    pub fn enter(&mut self, got: Ty, expected: Ty) -> Option<()>
+        ensures is { Enters self.old.words.now got expected self.old.left self.new.words.now (left_if result self.new.left) }
+        ensures out { self.new.out ≡ self.old.out }
+        ensures lent { Lent self.old self.new }
+    {
+        let until = until_in(self.view());
+        let n = word(self.view(), work::ENTERED);
+        count_entry(self.words);
+        match until {
+            Until::TheEnd | Until::FirstDiagnostic => Some(()),
+            Until::Entry(stop) if n < stop => Some(()),
+            Until::Entry(_) => {
+                keep_sides(self.words, got, expected, self.left);
+                None
+            }
+        }
+    }
+
+    // The unknown of a variable that a node names; one that is new is introduced.
+    pub fn introduce(&mut self, node: u32, symbol: u32) -> u32
+        ensures is { Introduces self.old.words.now node symbol self.new.words.now result }
+        ensures left { self.new.left ≡ self.old.left }
+        ensures out { self.new.out ≡ self.old.out }
+        ensures lent { Lent self.old self.new }
+    {
+        match lookup(self.view(), symbol) {
+            Some(e) => {
+                mark(self.words, node, e);
+                unknown_of(e)
+            }
+            None => {
+                let var = cells::fresh_var_id(self.words);
+                push_env(self.words, node, symbol, var);
+                var
+            }
+        }
+    }
+
+    pub fn node(&self, n: u32) -> Node
+        ensures { IsNode self.now.file.now self.now.words.now n result }
+    {
+        tree::node_at(self.file, self.words, n)
+    }
 }
 
 // ---- The lines of the diagnostics, in the answer slice
@@ -29,6 +135,7 @@ pub fn place(w: &[u32]) -> usize
     wide(word(w, work::PLACE)) + wide(word(w, work::PLACE_HIGH)) * 4294967296
 }
 
+// Both parts fit a word; `try_from` would give a Result that is never an Err.
 fn set_place(w: &mut [u32], at: usize)
     ensures { w.new ≡ set_place_w w.old at }
 {
@@ -36,7 +143,7 @@ fn set_place(w: &mut [u32], at: usize)
     put(w, work::PLACE_HIGH, (at / 4294967296) as u32);
 }
 
-// `Until` in two words, and out of them.
+// `Until` in two words, and out of them: the slice holds words alone.
 fn until_word(until: Until) -> u32
     ensures { result ≡ until_w (until_of until) }
 {
@@ -68,7 +175,7 @@ fn until_in(w: &[u32]) -> Until
 
 // No line yet.
 pub fn begin_lines(w: &mut [u32], until: Until)
-    ensures { w.new ≡ set (set (set (set (set w.old 9621 0) 9622 0) 9623 0) 9624 (until_w (until_of until))) 9625 0 }
+    ensures { w.new ≡ set (set (set (set (set w.old PLACE 0) PLACE-HIGH 0) FULL 0) UNTIL (until_w (until_of until))) LEFT 0 }
 {
     put(w, work::PLACE, 0);
     put(w, work::PLACE_HIGH, 0);
@@ -79,73 +186,56 @@ pub fn begin_lines(w: &mut [u32], until: Until)
 
 // No entry yet.
 pub fn begin_entries(w: &mut [u32], until: Until)
-    ensures { w.new ≡ set (set w.old 9626 (stop_w (until_of until))) 9627 0 }
+    ensures { w.new ≡ set (set w.old STOP (stop_w (until_of until))) ENTERED 0 }
 {
     put(w, work::STOP, stop_word(until));
     put(w, work::ENTERED, 0);
 }
+
+// The kinds of the lines: each line begins with its kind.
+const CODE_LINE: u8 = 8;
+
+const TEXT_LINE: u8 = 10;
+
+const UNUSED_LINE: u8 = 12;
 
 // The span stands in the node's line as the answer has it: sixteen digits, after the two of the line's kind.
 fn span(f: &[u8], out: &mut [u8], at: usize, line: usize) -> Option<usize>
     ensures { WritesSpan f.now out.old at line out.new result }
 {
     let digits = f.get(line..)?.get(2..18)?;
-    if out.len().checked_sub(at)? < 16 {
-        return None;
-    }
-    out[at..at + 16].copy_from_slice(digits);
-    Some(at + 16)
+    writer::copy(out, at, digits)
 }
 
-// A line's kind, and the span.
-fn head(f: &[u8], out: &mut [u8], at: usize, kind: u32, line: usize) -> Option<usize>
-    requires { kind < 256 }
-    ensures { WritesHead f.now out.old at kind line out.new result }
-{
-    let m = writer::byte(out, at, kind)?;
-    span(f, out, m, line)
-}
-
-fn diagnostic(f: &[u8], w: &[u32], out: &mut [u8], at: usize, n: u32, m: Message) -> Option<usize>
-    ensures { WritesDiagnostic f.now w.now out.old at n m out.new result }
-{
-    let e = head(f, out, at, 8, tree::line_start(w, n))?;
-    messages::code_text(out, e, m)
-}
-
-fn unused_head(f: &[u8], w: &[u32], out: &mut [u8], at: usize, n: u32) -> Option<usize>
-    ensures { WritesUnusedHead f.now w.now out.old at n out.new result }
-{
-    head(f, out, at, 12, tree::line_start(w, n))
-}
+// Each line is a list of its parts, and no two have the same: one function for all would be told each part again. They
+// take what they read and write one by one: the words of a run change while its lines do not, and a place in the slice
+// is no part of a run (crate writer says why it is a parameter).
 
 // The line of a node whose entry left unmarked.
 pub fn unused_line(f: &[u8], w: &[u32], out: &mut [u8], at: usize, n: u32) -> Option<usize>
     ensures { WritesUnusedLine f.now w.now out.old at n out.new result }
 {
-    let e = unused_head(f, w, out, at, n)?;
-    writer::close(out, e)
+    let at = writer::byte(out, at, UNUSED_LINE)?;
+    let at = span(f, out, at, tree::line_start(w, n))?;
+    writer::close(out, at)
 }
 
+// The span of the node, and the code.
 fn code_line(f: &[u8], w: &[u32], out: &mut [u8], at: usize, n: u32, m: Message) -> Option<usize>
     ensures { WritesCodeLine f.now w.now out.old at n m out.new result }
 {
-    let e = diagnostic(f, w, out, at, n, m)?;
-    writer::close(out, e)
-}
-
-fn message(f: &[u8], w: &[u32], out: &mut [u8], at: usize, m: Message) -> Option<usize>
-    ensures { WritesSaid f.now w.now out.old at m out.new result }
-{
-    let e = writer::byte(out, at, 10)?;
-    messages::text(f, w, out, e, m)
+    let at = writer::byte(out, at, CODE_LINE)?;
+    let at = span(f, out, at, tree::line_start(w, n))?;
+    let at = messages::code_text(out, at, m)?;
+    writer::close(out, at)
 }
 
 fn message_line(f: &[u8], w: &[u32], out: &mut [u8], at: usize, m: Message) -> Option<usize>
     ensures { WritesMessageLine f.now w.now out.old at m out.new result }
 {
-    let e = message(f, w, out, at, m)?;
-    writer::close(out, e)
+    let at = writer::byte(out, at, TEXT_LINE)?;
+    let at = messages::text(f, w, out, at, m)?;
+    writer::close(out, at)
 }
 
 // Both lines: the code with the span, and the text.
@@ -156,55 +246,30 @@ fn line(f: &[u8], w: &[u32], out: &mut [u8], at: usize, n: u32, m: Message) -> O
     message_line(f, w, out, e, m)
 }
 
-// Its lines behind the lines before it; where there is no room, that is noted and no line is written from then on.
-fn tell(f: &[u8], w: &mut [u32], n: u32, m: Message, out: &mut [u8])
-    ensures { Tells f.now w.old out.old n m w.new out.new }
+// One more in a counter, up to a limit.
+fn bump(w: &mut [u32], counter: usize, limit: u32)
+    ensures { w.new ≡ bumped_w counter limit w.old }
 {
-    if word(w, work::FULL) == 0 {
-        match line(f, w, out, place(w), n, m) {
-            Some(e) => set_place(w, e),
-            None => put(w, work::FULL, 1),
-        }
+    let n = word(w, counter);
+    if n < limit {
+        put(w, counter, n + 1);
     }
 }
 
+#[tactic(auto, unfolding(crate::specs::Words::counted_w))]
 fn count(w: &mut [u32])
     ensures { w.new ≡ counted_w w.old }
 {
-    let i = word(w, work::DIAGNOSTIC_COUNT);
-    if i < Counters::DIAGNOSTICS {
-        put(w, work::DIAGNOSTIC_COUNT, i + 1);
-    }
-}
-
-fn halt(w: &mut [u32], left: u32) -> Option<u32>
-    ensures { Halts w.old left w.new result }
-{
-    if let Until::FirstDiagnostic = until_in(w) {
-        put(w, work::LEFT, left);
-        return None;
-    }
-    Some(left)
-}
-
-// A diagnostic at a node, and whether the run goes on.
-pub fn reject(f: &[u8], w: &mut [u32], n: u32, m: Message, left: u32, out: &mut [u8]) -> Option<u32>
-    ensures { Rejected f.now w.old out.old n m left w.new out.new result }
-{
-    tell(f, w, n, m, out);
-    count(w);
-    halt(w, left)
+    bump(w, work::DIAGNOSTIC_COUNT, Counters::DIAGNOSTICS);
 }
 
 // ---- Entries to `unify`
 
+#[tactic(auto, unfolding(crate::specs::Lines::entered_w))]
 fn count_entry(w: &mut [u32])
     ensures { w.new ≡ entered_w w.old }
 {
-    let n = word(w, work::ENTERED);
-    if n < 4294967295 {
-        put(w, work::ENTERED, n + 1);
-    }
+    bump(w, work::ENTERED, u32::MAX);
 }
 
 fn keep_sides(w: &mut [u32], got: Ty, expected: Ty, left: u32)
@@ -215,26 +280,10 @@ fn keep_sides(w: &mut [u32], got: Ty, expected: Ty, left: u32)
     put(w, work::LEFT, left);
 }
 
-// An entry from outside is about to be made: it is counted, and the run goes on, or it was to last until here.
-pub fn enter(w: &mut [u32], got: Ty, expected: Ty, left: u32) -> Option<u32>
-    ensures { Enters w.old got expected left w.new result }
-{
-    let until = until_in(w);
-    let n = word(w, work::ENTERED);
-    count_entry(w);
-    match until {
-        Until::TheEnd | Until::FirstDiagnostic => Some(left),
-        Until::Entry(stop) if n < stop => Some(left),
-        Until::Entry(_) => {
-            keep_sides(w, got, expected, left);
-            None
-        }
-    }
-}
-
 // ---- Variables
 
-// An entry in a word: the variable, the node that made it, and the unknown.
+// An entry in a word: the variable, the node that made it, and the unknown. A word it stays where it is found: a search
+// asks for the variable alone, and `mark` and `leave_entry` for the two others.
 fn entry(symbol: u32, node: u32, var: u32) -> u32
     requires { (symbol < 16384) × (node < 512) × (var < 512) }
     ensures { result ≡ symbol * 262144 + (node * 512 + var) }
@@ -242,6 +291,7 @@ fn entry(symbol: u32, node: u32, var: u32) -> u32
     symbol * 262144 + (node * 512 + var)
 }
 
+// Each part by its own name: one function over the size would call them high and low.
 fn symbol_of(e: u32) -> u32
     ensures { result ≡ (entry_w e).symbol }
 {
@@ -264,16 +314,13 @@ fn unknown_of(e: u32) -> u32
 pub fn lookup(w: &[u32], symbol: u32) -> Option<u32>
     ensures { known_as result ≡ lookup_in (env_of w.now (get_or w.now ENV-LEN 0)) symbol }
 {
-    for i in (0..word(w, work::ENV_LEN)).rev() {
-        let e = word(w, work::ENV + wide(i));
-        if symbol_of(e) == symbol {
-            return Some(e);
-        }
-    }
-    None
+    (0..word(w, work::ENV_LEN))
+        .rev()
+        .map(|i| word(w, work::ENV + wide(i)))
+        .find(|e| symbol_of(*e) == symbol)
 }
 
-// One more number, in a region with this counter.
+// One more number, in a region with this counter. The undo log of crate cells grows likewise, but lies below this one.
 fn push(w: &mut [u32], from: usize, count: usize, x: u32)
     requires { from < 65536 }
     ensures { w.new ≡ push_w from count w.old x }
@@ -293,15 +340,13 @@ fn push_env(w: &mut [u32], node: u32, symbol: u32, var: u32)
     }
 }
 
+// Newest first too, as the marks' list has them.
 fn is_marked(w: &[u32], var: u32) -> bool
     ensures { result ≡ is_in var (marks_of w.now (get_or w.now MARK-COUNT 0)) }
 {
-    for i in (0..word(w, work::MARK_COUNT)).rev() {
-        if word(w, work::MARKS + wide(i)) == var {
-            return true;
-        }
-    }
-    false
+    (0..word(w, work::MARK_COUNT))
+        .rev()
+        .any(|i| word(w, work::MARKS + wide(i)) == var)
 }
 
 // An entry that a node finds is marked, once, unless the node made it.
@@ -310,23 +355,6 @@ fn mark(w: &mut [u32], node: u32, e: u32)
 {
     if maker_of(e) != node && !is_marked(w, unknown_of(e)) {
         push(w, work::MARKS, work::MARK_COUNT, unknown_of(e));
-    }
-}
-
-// The unknown of a variable that a node names; one that is new is introduced.
-pub fn introduce(w: &mut [u32], node: u32, symbol: u32) -> u32
-    ensures { Introduces w.old node symbol w.new result }
-{
-    match lookup(w, symbol) {
-        Some(e) => {
-            mark(w, node, e);
-            unknown_of(e)
-        }
-        None => {
-            let var = cells::fresh_var_id(w);
-            push_env(w, node, symbol, var);
-            var
-        }
     }
 }
 

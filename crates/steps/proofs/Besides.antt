@@ -1,5 +1,5 @@
--- The steps that the cycle asks for besides those on the head of a type: a report, a rollback, entries that leave, both bounds of
--- a fuzzy pattern, a unification. Each goes beside its namesake of meaning/specs/Check.antt.
+-- The steps that the cycle asks for besides those on the head of a type: a report, a rollback, entries that leave, both
+-- bounds of a fuzzy pattern, a unification. Each goes beside its namesake of meaning/specs/Check.antt.
 use mathlib.Core.Bool.{Bool, true, false}
 use mathlib.Core.List.{List}
 use mathlib.Core.Path.{◌≡◌, refl, sym, ◌∙◌, ap, subst}
@@ -34,7 +34,7 @@ use Rattle.unification.specs.Calls.{Entry}
 use Rattle.unification.proofs.Tests.{clash}
 use Rattle.unification.specs.Bindings.{Subst}
 use Rattle.messages.specs.declared.Message.{Message}
-use Rattle.messages.specs.Said.{said, OkMessage}
+use Rattle.messages.specs.Said.{said, report_message, OkMessage}
 use Rattle.state.specs.Lines.{Rejected, entered_w, sides_w, Sides, AtEntry, Enters, enters, enters_before, stops_here}
 use Rattle.state.proofs.Arriving.{goes_past, still_not, stops_there, entered_keeps, entered_runs, entered_grew, entered_told, stopped_runs, stopped_grew}
 use Rattle.state.proofs.Arriving.{stopped_told, got_side, expected_side}
@@ -48,7 +48,7 @@ use Rattle.steps.specs.Ends.{done, silent, unified, Gone, Ends, went, spent}
 use Rattle.steps.specs.Loads.{Load, only, both, FitsIn, Begins, Beside}
 use Rattle.steps.specs.Promises.{nodes_of, Reports, RollsTo, Leaves, fuzzy, Fuzzes, UnifiesOutside, typed_after}
 use Rattle.steps.specs.declared.Mark.{Mark}
-use Rattle.steps.specs.Outside.{report_message, RejectedIf, reported, stayed, far_w, characters_w, long_w, Rewinds}
+use Rattle.steps.specs.Outside.{RejectedIf, reported, stayed, far_w, characters_w, long_w, Rewinds}
 use Rattle.steps.proofs.Growing.{ok_kept}
 use Rattle.steps.proofs.Sequel.{gone_on}
 use Rattle.steps.proofs.Ending.{reject_ends}

@@ -1,4 +1,5 @@
--- How the steps outside of the cycle end: at once with a type in hand, or after one diagnostic. The room for it is the load's.
+-- How the steps outside of the cycle end: at once with a type in hand, or after one diagnostic. The room for it is the
+-- load's.
 use mathlib.Core.Bool.{false}
 use mathlib.Core.List.{List, ◌∷◌}
 use mathlib.Core.Path.{◌≡◌, refl, sym, ◌∙◌, ap}

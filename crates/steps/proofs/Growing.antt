@@ -1,5 +1,5 @@
--- What grew stays: a cell or an unknown that was there is there after more was made, and its tree is the same over the new rows. So
--- two stretches of a run are one.
+-- What grew stays: a cell or an unknown that was there is there after more was made, and its tree is the same over the
+-- new rows. So two stretches of a run are one.
 use mathlib.Core.List.{List}
 use mathlib.Core.Path.{◌∙◌}
 use Prim.Native.Nat.{ℕ, ◌+◌, ◌≤◌}

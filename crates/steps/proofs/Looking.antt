@@ -1,5 +1,5 @@
--- Look-up in what the file said: a predicate's key and value, and a field of a record. The words of a predicate stand for the
--- schema's, so what is read from them is what the definition looks up.
+-- Look-up in what the file said: a predicate's key and value, and a field of a record. The words of a predicate stand
+-- for the schema's, so what is read from them is what the definition looks up.
 use mathlib.Core.Bool.{Bool, true, false}
 use mathlib.Core.List.{List, [], ◌∷◌}
 use mathlib.Core.Path.{◌≡◌, refl, sym, ◌∙◌, ap}
@@ -29,8 +29,33 @@ use Rattle.tree.specs.Stands.{PredicateIs, no_predicate, numbered, SchemaStands}
 use Rattle.state.specs.Runs.{Runs}
 use Rattle.state.proofs.Standing.{declared_ok}
 use Rattle.steps.specs.Promises.{nodes_of, KeyIs}
-use Rattle.steps.specs.Outside.{key_ty_w, value_ty_w, FieldIs, Shadows}
+use Rattle.steps.specs.Outside.{predicate_w, key_ty_w, value_ty_w, FieldIs, Shadows}
 use Rattle.std.specs.Prelude.{None, Option, Some, slice_get}
+use Rattle.std.proofs.lemmas.Option.{none-some, cond_some}
+
+-- ---- The word of a predicate, and what it says
+none_by : (b : Bool) (y : ℕ) → pick b (Some y) None ≡ None → b ≡ false
+none_by true y e = absurd (none-some y (sym e))
+none_by false y e = refl
+
+module _ (w : List ℕ) (p : ℕ) {o : Option ℕ} (q : o ≡ predicate_w w p) where
+  module _ {x : ℕ} (e : o ≡ Some x) where
+    there_as : (ltb p (get_or w PREDICATE-COUNT 0) ≡ true) × (get_or w (PREDICATES + p) 0 ≡ x)
+    unfolding predicate_w
+    there_as = cond_some (ltb p (get_or w PREDICATE-COUNT 0)) (get_or w (PREDICATES + p) 0) x (sym q ∙ e)
+
+    pub key_there : Some (declared_w w (x / 512 % 256)) ≡ key_ty_w w p
+    unfolding key_ty_w
+    key_there = rw (there_as.0, there_as.1)
+
+  module _ (e : o ≡ None) where
+    not_there : ltb p (get_or w PREDICATE-COUNT 0) ≡ false
+    unfolding predicate_w
+    not_there = none_by (ltb p (get_or w PREDICATE-COUNT 0)) (get_or w (PREDICATES + p) 0) (sym q ∙ e)
+
+    pub key_past : None ≡ key_ty_w w p
+    unfolding key_ty_w
+    key_past = rw not_there
 
 -- ---- A field
 module _ {w : List ℕ} {t : Ty} {c name : ℕ} {r : Option Part} (F : FindsKey w Fields c name r) (e : t ≡ Record c) where

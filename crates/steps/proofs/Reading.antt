@@ -1,5 +1,5 @@
--- What a node in hand is: `node_at_lem` gives the kind that the tree has, and what the kind names is lower, so that any depth above the
--- node is above its parts.
+-- What a node in hand is: `node_at` gives the kind that the tree has, and what the kind names is lower, so that any
+-- depth above the node is above its parts.
 use mathlib.Core.List.{List, [], ◌∷◌}
 use mathlib.Core.Path.{◌≡◌, refl, sym, ap}
 use Prim.Native.Nat.{ℕ, suc, ◌+◌, ◌-◌, ◌≤◌, ◌<◌}
@@ -16,7 +16,7 @@ use Rattle.meaning.specs.Check.{Checker, kind, form, form_of}
 use Rattle.meaning.proofs.Lists.{all_map, all_at}
 use Rattle.meaning.proofs.Tests.{all_below_lem}
 use Rattle.meaning.proofs.Sound.{lower_at}
-use Rattle.tree.specs.declared.Items.{Items}
+use Rattle.tree.specs.declared.items.Items.{Items}
 use Rattle.tree.specs.declared.Node.{Node}
 use Rattle.tree.specs.Nodes.{field_w, field_of, fields_from, kind_w, IsNode}
 use Rattle.state.specs.Runs.{Runs}

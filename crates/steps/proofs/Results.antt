@@ -1,4 +1,5 @@
--- The laws of Sequel.antt for what the code gives back: a type with the visits left, the visits left, or that they ran out.
+-- The laws of Sequel.antt for what the code gives back: a type with the visits left, the visits left, or that they ran
+-- out.
 use mathlib.Core.List.{List}
 use mathlib.Core.Path.{◌≡◌, refl, sym, ap, ◌∙◌}
 use Rattle.std.proofs.lemmas.Option.{some_pair_parts}

@@ -1,5 +1,6 @@
--- One step after another. If the first step of the code ends beside the definition's first, and the second beside what follows, the two
--- end beside `and_then`: rows and words grew twice, and what the first step made of a load leaves the rest of it free for the second.
+-- One step after another. If the first step of the code ends beside the definition's first, and the second beside what
+-- follows, the two end beside `and_then`: rows and words grew twice, and what the first step made of a load leaves the
+-- rest of it free for the second.
 use mathlib.Core.List.{List}
 use mathlib.Core.Path.{◌≡◌, refl, ◌∙◌, ap}
 use Prim.Native.Nat.{ℕ, ◌+◌, ◌≤◌}

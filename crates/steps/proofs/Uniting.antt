@@ -1,4 +1,5 @@
--- `unify_at`, `compare_order`, `compare_types`: a unification or the question for an order, and one diagnostic where it fails.
+-- `unify_at`, `compare_order`, `compare_types`: a unification or the question for an order, and one diagnostic where it
+-- fails.
 use mathlib.Core.Bool.{false}
 use mathlib.Core.List.{List}
 use mathlib.Core.Path.{◌≡◌, refl, sym, ◌∙◌, ap}
@@ -21,13 +22,14 @@ use Rattle.meaning.proofs.Meets.{Went, Meets, going}
 use Rattle.meaning.specs.Grades.{no_thing, one_diagnostic}
 use Rattle.meaning.proofs.Steps.{Nothing, unify_meets, orderable_meets}
 use Rattle.messages.specs.declared.Message.TheVariants as Message
+use Rattle.messages.specs.Said.{report_message}
 use Rattle.state.specs.Lines.{Rejected}
 use Rattle.state.specs.Runs.{Runs}
 use Rattle.state.proofs.Running.{runs_slots}
 use Rattle.steps.specs.Ends.{IsUnified, unified, done, silent, Gone, Ends, spent}
 use Rattle.steps.specs.Loads.{only, both, FitsIn, Begins}
 use Rattle.steps.specs.Promises.{Fine, UnifiesTo, UnifiesOutside, compare_types, UnifiesAt, ComparesTypes}
-use Rattle.steps.specs.Outside.{report_message, ComparesOrder}
+use Rattle.steps.specs.Outside.{ComparesOrder}
 use Rattle.steps.proofs.Growing.{grew_refl}
 use Rattle.steps.proofs.Sequel.{then_ends, stop_ends, ends_here, begins_after}
 use Rattle.steps.proofs.Results.{After, tree_after, fine_after, with_visits, on_here}

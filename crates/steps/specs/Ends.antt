@@ -1,5 +1,5 @@
--- How a step of the code ends beside a step of the definition: the words after stand for the checker after, over rows that hold
--- those of before.
+-- How a step of the code ends beside a step of the definition: the words after stand for the checker after, over rows
+-- that hold those of before.
 use Rattle.std.specs.Prelude.{List, ◌≡◌, ℕ, Err, None, Option, Result, Some}
 use Rattle.unification.specs.Ty as Tree
 use Rattle.unification.specs.Unify as Unify
@@ -65,13 +65,13 @@ pub record Gone {A : Type 0} (f w ou w' ou' : List ℕ) (T : Rows) (d : Describe
   pub grew : Grew w w' n m
   pub is : E.Is T' a c.state.left
 
--- The run ended in this checker: no value comes back, and the code says so; where it was to last until an entry that came, its sides stand
--- in the words.
+-- The run ended in this checker: no value comes back, and the code says so; where it was to last until an entry that
+-- came, its sides stand in the words.
 abbrev pub stopped : {A : Type 0} → List ℕ → Checker → Gives A → Gives (Unit {0})
 stopped w c E = record { Is = λ T u left. E.Out × AtEntry w T c.until c.entries; Out = ⊥ }
 
--- Also where the run ended, by its visits or by what it was to last until, the words stand for the checker in which the step stopped, and
--- the visits that it had left are kept.
+-- Also where the run ended, by its visits or by what it was to last until, the words stand for the checker in which the
+-- step stopped, and the visits that it had left are kept.
 pub data Ends {A : Type 0} (f w ou w' ou' : List ℕ) (T : Rows) (d : Described) (n m : ℕ) (E : Gives A) : Step A → Type 0 where
   went : {a : A} {c : Checker} → Gone f w ou w' ou' T d n m E a c 0 → Ends f w ou w' ou' T d n m E (goes a c)
   spent : {c : Checker} → Gone f w ou w' ou' T d n m (stopped w' c E) tt c c.state.left → Ends f w ou w' ou' T d n m E (out c)

@@ -1,5 +1,5 @@
--- What a step may make, and where it begins. A load is a grade of the definition's (meaning/proofs/Meets.antt) with the records and
--- the fields of records that the code makes in the slice; the loads of steps add up as their grades do.
+-- What a step may make, and where it begins. A load is a grade of the definition's (meaning/proofs/Meets.antt) with the
+-- records and the fields of records that the code makes in the slice; the loads of steps add up as their grades do.
 use Rattle.std.specs.Prelude.{List, ◌≡◌, ℕ, ◌+◌, ◌≤◌, length, get_or}
 use Rattle.work.specs.Layout.{RECORD-COUNT, RECORD-FIELD-COUNT}
 use Rattle.cells.specs.Stands.{Rows}
@@ -71,7 +71,7 @@ pub record Begins (f w ou : List ℕ) (T : Rows) (d : Described) (L : Load) (lef
   pub visits : c.state.left ≡ left
   pub free : Free L w c
 
--- A step of the code beside one of the definition: from words that stand for a checker of which P holds, to words that stand for
--- what the definition gives.
+-- A step of the code beside one of the definition: from words that stand for a checker of which P holds, to words that
+-- stand for what the definition gives.
 pub record Beside {A : Type 0} (f w ou : List ℕ) (left : ℕ) (w' ou' : List ℕ) (E : Gives A) (d : Described) (L : Load) (P : Rows → Checker → Type 0) (m : Rows → Does A) : Type 0 where
   pub is : (T : Rows) (c : Checker) → Begins f w ou T d L left c → P T c → Ends f w ou w' ou' T d L.records L.fields E (m T c)

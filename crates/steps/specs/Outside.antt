@@ -1,9 +1,8 @@
--- What the steps outside of the cycle promise (src/steps.rt): those that read or write words say which; the others go beside their
--- namesakes of meaning/specs/Check.antt.
+-- What the steps outside of the cycle promise (src/lib.rt): those that read or write words say which; the others go
+-- beside their namesakes of meaning/specs/Check.antt.
 use Rattle.std.specs.Prelude.{Bool, true, false, List, ◌≡◌, ℕ, ◌+◌, ◌*◌, ◌/◌, ◌%◌, ◌<◌, eqb, ltb, length, get_or, set, None, Option, Some}
 use Rattle.work.specs.Layout.{PREDICATE-COUNT, MAX-DISTANCE, MAX-TERM, NAMES, PREDICATES, RECORD-COUNT, RECORD-FIELD-COUNT, ENV-LEN, DIAGNOSTIC-COUNT, UNKNOWNS, MARK-COUNT, UNUSED-COUNT, TYS, UNDO-LEN}
 use Rattle.cells.specs.declared.Ty.{Ty}
-use Rattle.cells.specs.declared.TyError.{TyError}
 use Rattle.cells.specs.Words.{pick, declared_w}
 use Rattle.cells.specs.Stands.{Rows, tree, bound_tree, Ok, OkBound, Cells, Keeps}
 use Rattle.cells.specs.Promises.{RollsBack}
@@ -22,11 +21,8 @@ use Rattle.steps.specs.Loads.{only, Beside}
 use Rattle.steps.specs.Promises.{nodes_of, Fine, OnType, BringsSide, typed_after, Heads, Starts}
 
 -- ---- Words
-abbrev pub report_message : TyError → Message
-report_message (TyError.Mismatch e g) = Message.Mismatch e g
-report_message (TyError.UnionMismatch d e g) = Message.UnionMismatch d e g
-report_message (TyError.UnknownField n) = Message.NoField n
-report_message TyError.Infinite = Message.Infinite
+unfoldable pub predicate_w : List ℕ → ℕ → Option ℕ
+predicate_w w p = pick (ltb p (get_or w PREDICATE-COUNT 0)) (Some (get_or w (PREDICATES + p) 0)) None
 
 unfoldable pub key_ty_w : List ℕ → ℕ → Option Ty
 unfolding declared_w
@@ -99,7 +95,7 @@ pub record ComparesOrder (f w ou : List ℕ) (lhs : ℕ) (t : Ty) (left : ℕ) (
 pub record IntroducesSide (f w ou : List ℕ) (n : ℕ) (w' ou' : List ℕ) : Type 0 where
   pub is : (left : ℕ) → BringsSide f w ou n left w' ou'
 
--- The answer slice is not lent.
+-- The answer slice stays as it is, whatever it holds.
 pub record IntroducesSides (f w : List ℕ) (n : ℕ) (w' : List ℕ) : Type 0 where
   pub is : (ou : List ℕ) → IntroducesSide f w ou n w' ou
 

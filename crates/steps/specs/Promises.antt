@@ -1,5 +1,5 @@
--- What the steps outside of the cycle promise, as the cycle asks for them: each goes beside its namesake of meaning/specs/Check.antt,
--- for every described file.
+-- What the steps outside of the cycle promise, as the cycle asks for them: each goes beside its namesake of
+-- meaning/specs/Check.antt, for every described file.
 use Rattle.std.specs.Prelude.{Bool, List, ◌≡◌, ℕ, ◌≤◌, ◌<◌, length, get_or, None, Option, Result, Some}
 use Rattle.unification.specs.Ty as Tree
 use Rattle.unification.specs.Calls.{Side, SideRow}
@@ -22,7 +22,7 @@ use Rattle.state.specs.Lines.{Told, until_of}
 use Rattle.state.specs.declared.Until.{Until}
 use Rattle.cells.specs.declared.TyError.{TyError}
 use Rattle.cells.specs.Promises.{error_of, OkError}
-use Rattle.tree.specs.declared.Items.{Items}
+use Rattle.tree.specs.declared.items.Items.{Items}
 use Rattle.tree.specs.Nodes.{fields_from}
 use Rattle.steps.specs.Ends.{typed, done, silent, numbered, unified}
 use Rattle.steps.specs.Loads.{only, Beside}
@@ -105,7 +105,7 @@ pub record Fuzzes (f w ou : List ℕ) (n term distance left : ℕ) (w' ou' : Lis
 abbrev pub UnifiesTo : List ℕ → List ℕ → List ℕ → Ty → Ty → ℕ → List ℕ → List ℕ → Result ℕ Failure → Type 0
 UnifiesTo f w ou got expected left w' ou' r = (d : Described) → Beside f w ou left w' ou' (unified w' r) d (only no_thing) (λ T c. Fine w got T c × Fine w expected T c) (λ T. Check.unify (tree T got) (tree T expected))
 
--- The answer slice is not lent.
+-- The answer slice stays as it is, whatever it holds.
 pub record UnifiesOutside (w : List ℕ) (got expected : Ty) (left : ℕ) (w' : List ℕ) (r : Result ℕ Failure) : Type 0 where
   pub is : (f ou : List ℕ) → UnifiesTo f w ou got expected left w' ou r
 

@@ -2,58 +2,34 @@
 #![tactic(auto)]
 
 ghost use Rattle.std.specs.Prelude.{◌≡◌, get_or};
-ghost use Rattle.tree.specs.Nodes.{LowerItems};
 ghost use Rattle.state.specs.Lines.{Rejected};
+ghost use Rattle.state.specs.Running.{with_left, left_if, ok_left, Lent};
 ghost use Rattle.messages.specs.declared.Message.TheVariants as Message;
-ghost use Rattle.steps.specs.Outside.{report_message, key_ty_w, value_ty_w, RejectsTy, RejectedIf, far_w, characters_w, long_w, Takes, Rewinds, FieldIs, Shadows, ValueOf, FieldAt, KeyOf, SelectOf, ComparesOrder, IntroducesSides, ChecksHead, counters_w, Untypes, StartsRun};
-ghost use Rattle.steps.specs.Promises.{Fuzzes, UnifiesOutside, UnifiesAt, ComparesTypes, typed_after, Asks, AsksAll};
+ghost use Rattle.messages.specs.Said.{report_message};
+ghost use Rattle.steps.specs.Outside.{predicate_w, key_ty_w, value_ty_w, RejectsTy, RejectedIf, far_w, characters_w, long_w, Takes, Rewinds, FieldIs, Shadows, ValueOf, FieldAt, KeyOf, SelectOf, ComparesOrder, IntroducesSides, ChecksHead, counters_w, Untypes, StartsRun};
+ghost use Rattle.steps.specs.Promises.{Fuzzes, UnifiesOutside, UnifiesAt, ComparesTypes, Asks, AsksAll};
 
 use cells::{Failure, Kind, Ty, TyError};
 use messages::Message;
-use state::{Until, introduce, reject};
+use state::{Run, Until};
 use tree::{Items, Node};
 use work::{Counters, put, wide, word};
 
-// A type in hand, after a step.
-fn typed_after(t: Ty, d: Option<u32>) -> Option<(Ty, u32)>
-    ensures { result ≡ typed_after t d }
-{
-    d.map(|left| (t, left))
-}
-
 // ---- State
 
-pub fn reject_ty(
-    f: &[u8],
-    w: &mut [u32],
-    n: u32,
-    m: Message,
-    left: u32,
-    out: &mut [u8],
-) -> Option<(Ty, u32)>
-    ensures { RejectsTy f.now w.old out.old n m left w.new out.new result }
+pub fn reject_ty(run: &mut Run, n: u32, m: Message) -> Option<Ty>
+    ensures is { RejectsTy run.old.file.now run.old.words.now run.old.out.now n m run.old.left run.new.words.now run.new.out.now (with_left result run.new.left) }
+    ensures lent { Lent run.old run.new }
 {
-    typed_after(Ty::Error, reject(f, w, n, m, left, out))
+    run.reject(n, m)?;
+    Some(Ty::Error)
 }
 
-pub fn report(
-    f: &[u8],
-    w: &mut [u32],
-    n: u32,
-    err: TyError,
-    left: u32,
-    out: &mut [u8],
-) -> Option<u32>
-    ensures { Rejected f.now w.old out.old n (report_message err) left w.new out.new result }
+pub fn report(run: &mut Run, n: u32, err: TyError) -> Option<()>
+    ensures is { Rejected run.old.file.now run.old.words.now run.old.out.now n (report_message err) run.old.left run.new.words.now run.new.out.now (left_if result run.new.left) }
+    ensures lent { Lent run.old run.new }
 {
-    match err {
-        TyError::Mismatch(e, g) => reject(f, w, n, Message::Mismatch(e, g), left, out),
-        TyError::UnionMismatch(d, e, g) => {
-            reject(f, w, n, Message::UnionMismatch(d, e, g), left, out)
-        }
-        TyError::UnknownField(name) => reject(f, w, n, Message::NoField(name), left, out),
-        TyError::Infinite => reject(f, w, n, Message::Infinite, left, out),
-    }
+    run.reject(n, Message::from(err))
 }
 
 // What a rollback comes back to: the lengths of the undo log, of the environment and of its marks.
@@ -82,95 +58,85 @@ pub fn rollback(w: &mut [u32], at: Mark)
     put(w, work::MARK_COUNT, at.marks);
 }
 
-// `unify` from outside it; an entry that the run was to last until is not made.
-pub fn unify_outside(w: &mut [u32], got: Ty, expected: Ty, left: u32) -> Result<u32, Failure>
-    ensures { UnifiesOutside w.old got expected left w.new result }
+// `unify` from outside it, its two sides by the names of ty.rs; an entry that the run was to last until is not made.
+pub fn unify_outside(run: &mut Run, got: Ty, expected: Ty) -> Option<Result<(), TyError>>
+    ensures is { UnifiesOutside run.old.words.now got expected run.old.left run.new.words.now (ok_left result run.new.left) }
+    ensures out { run.new.out ≡ run.old.out }
+    ensures lent { Lent run.old run.new }
 {
-    let Some(l) = state::enter(w, got, expected, left) else {
-        return Err(Failure::Spent);
-    };
-    unify::unify(w, got, expected, l)
+    run.enter(got, expected)?;
+    match unify::unify(run.words, got, expected, run.left) {
+        Ok(l) => {
+            run.left = l;
+            Some(Ok(()))
+        }
+        Err(Failure::Bad(err, l)) => {
+            run.left = l;
+            Some(Err(err))
+        }
+        Err(Failure::Spent) => None,
+    }
 }
 
 // Unifies, and reports a failure at a node.
-pub fn unify_at(
-    f: &[u8],
-    w: &mut [u32],
-    n: u32,
-    got: Ty,
-    expected: Ty,
-    left: u32,
-    out: &mut [u8],
-) -> Option<u32>
-    ensures { UnifiesAt f.now w.old out.old n got expected left w.new out.new result }
+pub fn unify_at(run: &mut Run, n: u32, got: Ty, expected: Ty) -> Option<()>
+    ensures is { UnifiesAt run.old.file.now run.old.words.now run.old.out.now n got expected run.old.left run.new.words.now run.new.out.now (left_if result run.new.left) }
+    ensures lent { Lent run.old run.new }
 {
-    match unify_outside(w, got, expected, left) {
-        Ok(l) => Some(l),
-        Err(Failure::Bad(err, l)) => report(f, w, n, err, l, out),
-        Err(Failure::Spent) => None,
+    match unify_outside(run, got, expected)? {
+        Ok(()) => Some(()),
+        Err(err) => report(run, n, err),
     }
 }
 
 // The two sides of a comparison agree: the type must have an order.
-pub fn compare_order(
-    f: &[u8],
-    w: &mut [u32],
-    lhs: u32,
-    t: Ty,
-    left: u32,
-    out: &mut [u8],
-) -> Option<u32>
-    ensures { ComparesOrder f.now w.old out.old lhs t left w.new out.new result }
+pub fn compare_order(run: &mut Run, lhs: u32, t: Ty) -> Option<()>
+    ensures is { ComparesOrder run.old.file.now run.old.words.now run.old.out.now lhs t run.old.left run.new.words.now run.new.out.now (left_if result run.new.left) }
+    ensures lent { Lent run.old run.new }
 {
-    let (ordered, l) = unify::orderable(w, t, left)?;
+    let left = run.left;
+    let (ordered, l) = unify::orderable(run.view(), t, left)?;
+    run.left = l;
     if ordered {
-        return Some(l);
+        return Some(());
     }
-    reject(f, w, lhs, Message::NoOrder(t), l, out)
+    run.reject(lhs, Message::NoOrder(t))
 }
 
-pub fn compare_types(
-    f: &[u8],
-    w: &mut [u32],
-    lhs: u32,
-    rhs: u32,
-    a: Ty,
-    b: Ty,
-    left: u32,
-    out: &mut [u8],
-) -> Option<u32>
-    ensures { ComparesTypes f.now w.old out.old lhs rhs a b left w.new out.new result }
+// Not `unify_at`, since after a report the order is not asked for.
+pub fn compare_types(run: &mut Run, lhs: u32, rhs: u32, a: Ty, b: Ty) -> Option<()>
+    ensures is { ComparesTypes run.old.file.now run.old.words.now run.old.out.now lhs rhs a b run.old.left run.new.words.now run.new.out.now (left_if result run.new.left) }
+    ensures lent { Lent run.old run.new }
 {
-    match unify_outside(w, b, a, left) {
-        Ok(l) => compare_order(f, w, lhs, a, l, out),
-        Err(Failure::Bad(err, l)) => report(f, w, rhs, err, l, out),
-        Err(Failure::Spent) => None,
+    match unify_outside(run, b, a)? {
+        Ok(()) => compare_order(run, lhs, a),
+        Err(err) => report(run, rhs, err),
     }
 }
 
 // ---- Schema
 
+// The word of a predicate of the file.
+#[tactic(auto, unfolding(crate::specs::Outside::predicate_w))]
+fn predicate(w: &[u32], p: u32) -> Option<u32>
+    ensures { result ≡ predicate_w w.now p }
+{
+    (p < word(w, work::PREDICATE_COUNT)).then(|| word(w, work::PREDICATES + wide(p)))
+}
+
 pub fn key_ty(w: &[u32], p: u32) -> Option<Ty>
     ensures { result ≡ key_ty_w w.now p }
 {
-    if p < word(w, work::PREDICATE_COUNT) {
-        let x = word(w, work::PREDICATES + wide(p));
-        return Some(cells::declared(w, work::predicate_key(x)));
-    }
-    None
+    let x = predicate(w, p)?;
+    Some(cells::declared(w, work::predicate_key(x)))
 }
 
+#[tactic(auto, unfolding(crate::specs::Outside::predicate_w, crate::specs::Outside::value_ty_w))]
 pub fn value_ty(w: &[u32], p: u32) -> Option<Ty>
     ensures { result ≡ value_ty_w w.now p }
 {
-    if p < word(w, work::PREDICATE_COUNT) {
-        let x = word(w, work::PREDICATES + wide(p));
-        if work::has_value(x) {
-            return Some(cells::declared(w, work::predicate_value(x)));
-        }
-        return None;
-    }
-    None
+    let x = predicate(w, p)?;
+    work::has_value(x).then(|| cells::declared(w, work::predicate_value(x)))
 }
 
 pub fn field_of(w: &[u32], t: Ty, name: u32) -> Option<Ty>
@@ -189,205 +155,157 @@ pub fn field_of(w: &[u32], t: Ty, name: u32) -> Option<Ty>
 pub fn key_shadows_value(w: &[u32], p: u32) -> bool
     ensures { Shadows w.now p result }
 {
-    let value = word(w, work::VALUE_NAME);
-    if value == 0 {
+    let Some(name) = word(w, work::VALUE_NAME).checked_sub(1) else {
         return false;
-    }
+    };
     let Some(t) = key_ty(w, p) else {
         return false;
     };
-    field_of(w, t, value - 1).is_some()
+    field_of(w, t, name).is_some()
 }
 
 // ---- Access and select, on the resolved base
 
-pub fn value_of(
-    f: &[u8],
-    w: &mut [u32],
-    n: u32,
-    base: Ty,
-    left: u32,
-    out: &mut [u8],
-) -> Option<(Ty, u32)>
-    ensures { ValueOf f.now w.old out.old n base left w.new out.new result }
+pub fn value_of(run: &mut Run, n: u32, base: Ty) -> Option<Ty>
+    ensures is { ValueOf run.old.file.now run.old.words.now run.old.out.now n base run.old.left run.new.words.now run.new.out.now (with_left result run.new.left) }
+    ensures lent { Lent run.old run.new }
 {
     match base {
-        Ty::Error => Some((Ty::Error, left)),
+        Ty::Error => Some(Ty::Error),
         Ty::Fact(p) => {
-            if key_shadows_value(w, p) {
-                return reject_ty(f, w, n, Message::ValueShadowed, left, out);
+            if key_shadows_value(run.view(), p) {
+                return reject_ty(run, n, Message::ValueShadowed);
             }
-            let value = value_ty(w, p);
-            match value {
-                Some(t) => Some((t, left)),
-                None => reject_ty(f, w, n, Message::NoValue, left, out),
+            match value_ty(run.view(), p) {
+                Some(t) => Some(t),
+                None => reject_ty(run, n, Message::NoValue),
             }
         }
-        Ty::Var(_) => reject_ty(f, w, n, Message::UnknownType, left, out),
-        _ => reject_ty(f, w, n, Message::NotAFact(base), left, out),
+        Ty::Var(_) => reject_ty(run, n, Message::UnknownType),
+        _ => reject_ty(run, n, Message::NotAFact(base)),
     }
 }
 
-pub fn field_at(
-    f: &[u8],
-    w: &mut [u32],
-    n: u32,
-    name: u32,
-    t: Ty,
-    left: u32,
-    out: &mut [u8],
-) -> Option<(Ty, u32)>
-    ensures { FieldAt f.now w.old out.old n name t left w.new out.new result }
+pub fn field_at(run: &mut Run, n: u32, name: u32, t: Ty) -> Option<Ty>
+    ensures is { FieldAt run.old.file.now run.old.words.now run.old.out.now n name t run.old.left run.new.words.now run.new.out.now (with_left result run.new.left) }
+    ensures lent { Lent run.old run.new }
 {
-    let found = field_of(w, t, name);
-    match found {
-        Some(u) => Some((u, left)),
-        None => reject_ty(f, w, n, Message::NoField(name), left, out),
+    match field_of(run.view(), t, name) {
+        Some(u) => Some(u),
+        None => reject_ty(run, n, Message::NoField(name)),
     }
 }
 
 // On a fact it is the key's field, and a fact of an absent predicate is an error without a diagnostic.
-pub fn key_of(
-    f: &[u8],
-    w: &mut [u32],
-    n: u32,
-    name: u32,
-    base: Ty,
-    left: u32,
-    out: &mut [u8],
-) -> Option<(Ty, u32)>
-    ensures { KeyOf f.now w.old out.old n name base left w.new out.new result }
+pub fn key_of(run: &mut Run, n: u32, name: u32, base: Ty) -> Option<Ty>
+    ensures is { KeyOf run.old.file.now run.old.words.now run.old.out.now n name base run.old.left run.new.words.now run.new.out.now (with_left result run.new.left) }
+    ensures lent { Lent run.old run.new }
 {
     match base {
-        Ty::Error => Some((Ty::Error, left)),
-        Ty::Fact(p) => {
-            let key = key_ty(w, p);
-            match key {
-                Some(t) => field_at(f, w, n, name, t, left, out),
-                None => Some((Ty::Error, left)),
-            }
-        }
-        Ty::Record(_) => field_at(f, w, n, name, base, left, out),
-        Ty::Var(_) => reject_ty(f, w, n, Message::UnknownType, left, out),
-        _ => reject_ty(f, w, n, Message::NoFields(base), left, out),
+        Ty::Error => Some(Ty::Error),
+        Ty::Fact(p) => match key_ty(run.view(), p) {
+            Some(t) => field_at(run, n, name, t),
+            None => Some(Ty::Error),
+        },
+        Ty::Record(_) => field_at(run, n, name, base),
+        Ty::Var(_) => reject_ty(run, n, Message::UnknownType),
+        _ => reject_ty(run, n, Message::NoFields(base)),
     }
 }
 
-pub fn select_of(
-    f: &[u8],
-    w: &mut [u32],
-    n: u32,
-    name: u32,
-    base: Ty,
-    left: u32,
-    out: &mut [u8],
-) -> Option<(Ty, u32)>
-    ensures { SelectOf f.now w.old out.old n name base left w.new out.new result }
+pub fn select_of(run: &mut Run, n: u32, name: u32, base: Ty) -> Option<Ty>
+    ensures is { SelectOf run.old.file.now run.old.words.now run.old.out.now n name base run.old.left run.new.words.now run.new.out.now (with_left result run.new.left) }
+    ensures lent { Lent run.old run.new }
 {
     match base {
-        Ty::Error => Some((Ty::Error, left)),
-        Ty::Union(c) => {
-            let found = cells::find_name(w, c, name);
-            match found {
-                Some(p) => {
-                    let t = p.ty;
-                    Some((t, left))
-                }
-                None => reject_ty(f, w, n, Message::NoAlternative(name), left, out),
-            }
-        }
-        Ty::Var(_) => reject_ty(f, w, n, Message::UnknownType, left, out),
-        _ => reject_ty(f, w, n, Message::NotAUnion(base), left, out),
+        Ty::Error => Some(Ty::Error),
+        Ty::Union(c) => match cells::find_name(run.view(), c, name) {
+            Some(p) => Some(p.ty),
+            None => reject_ty(run, n, Message::NoAlternative(name)),
+        },
+        Ty::Var(_) => reject_ty(run, n, Message::UnknownType),
+        _ => reject_ty(run, n, Message::NotAUnion(base)),
     }
 }
 
 // ---- Both bounds of a fuzzy pattern
 
-fn fuzzy_distance(
-    f: &[u8],
-    w: &mut [u32],
-    n: u32,
-    distance: u32,
-    left: u32,
-    out: &mut [u8],
-) -> Option<u32>
-    ensures { RejectedIf f.now w.old out.old n (Message.DistanceOutside distance) left w.new out.new result (far_w w.old distance) }
+fn fuzzy_distance(run: &mut Run, n: u32, distance: u32) -> Option<()>
+    ensures is { RejectedIf run.old.file.now run.old.words.now run.old.out.now n (Message.DistanceOutside distance) run.old.left run.new.words.now run.new.out.now (left_if result run.new.left) (far_w run.old.words.now distance) }
+    ensures lent { Lent run.old run.new }
 {
-    if distance == 0 || word(w, work::MAX_DISTANCE) < distance {
-        return reject(f, w, n, Message::DistanceOutside(distance), left, out);
+    if distance == 0 || word(run.view(), work::MAX_DISTANCE) < distance {
+        return run.reject(n, Message::DistanceOutside(distance));
     }
-    Some(left)
+    Some(())
 }
 
-fn fuzzy_term(f: &[u8], w: &mut [u32], n: u32, term: u32, left: u32, out: &mut [u8]) -> Option<u32>
-    ensures { RejectedIf f.now w.old out.old n (Message.TermTooLong (characters_w w.old term)) left w.new out.new result (long_w w.old term) }
+fn fuzzy_term(run: &mut Run, n: u32, term: u32) -> Option<()>
+    ensures is { RejectedIf run.old.file.now run.old.words.now run.old.out.now n (Message.TermTooLong (characters_w run.old.words.now term)) run.old.left run.new.words.now run.new.out.now (left_if result run.new.left) (long_w run.old.words.now term) }
+    ensures lent { Lent run.old run.new }
 {
-    let characters = work::name_chars(word(w, work::NAMES + wide(term)));
-    if word(w, work::MAX_TERM) < characters {
-        return reject(f, w, n, Message::TermTooLong(characters), left, out);
+    let characters = work::name_chars(word(run.view(), work::NAMES + wide(term)));
+    if word(run.view(), work::MAX_TERM) < characters {
+        return run.reject(n, Message::TermTooLong(characters));
     }
-    Some(left)
+    Some(())
 }
 
 // The distance first.
-pub fn fuzzy(
-    f: &[u8],
-    w: &mut [u32],
-    n: u32,
-    term: u32,
-    distance: u32,
-    left: u32,
-    out: &mut [u8],
-) -> Option<(Ty, u32)>
-    ensures { Fuzzes f.now w.old out.old n term distance left w.new out.new result }
+pub fn fuzzy(run: &mut Run, n: u32, term: u32, distance: u32) -> Option<Ty>
+    ensures is { Fuzzes run.old.file.now run.old.words.now run.old.out.now n term distance run.old.left run.new.words.now run.new.out.now (with_left result run.new.left) }
+    ensures lent { Lent run.old run.new }
 {
-    let l = fuzzy_distance(f, w, n, distance, left, out)?;
-    typed_after(Ty::Str, fuzzy_term(f, w, n, term, l, out))
+    fuzzy_distance(run, n, distance)?;
+    fuzzy_term(run, n, term)?;
+    Some(Ty::Str)
 }
 
 // ---- Nodes that are looked at, not visited
 
 // A side that is a variable is introduced before either side is inferred.
-pub fn introduce_side(f: &[u8], w: &mut [u32], n: u32)
-    ensures { IntroducesSides f.now w.old n w.new }
+pub fn introduce_side(run: &mut Run, n: u32)
+    ensures is { IntroducesSides run.old.file.now run.old.words.now n run.new.words.now }
+    ensures left { run.new.left ≡ run.old.left }
+    ensures out { run.new.out ≡ run.old.out }
+    ensures lent { Lent run.old run.new }
 {
-    if let Node::Var(symbol) = tree::node_at(f, w, n) {
-        introduce(w, n, symbol);
+    if let Node::Var(symbol) = run.node(n) {
+        run.introduce(n, symbol);
     }
 }
 
 // A wildcard has no type of its own that the head could have.
-pub fn check_head(f: &[u8], w: &mut [u32], n: u32, left: u32, out: &mut [u8]) -> Option<u32>
-    ensures { ChecksHead f.now w.old out.old n left w.new out.new result }
+pub fn check_head(run: &mut Run, n: u32) -> Option<()>
+    ensures is { ChecksHead run.old.file.now run.old.words.now run.old.out.now n run.old.left run.new.words.now run.new.out.now (left_if result run.new.left) }
+    ensures lent { Lent run.old run.new }
 {
-    let e = tree::node_at(f, w, n);
-    match e {
-        Node::Wildcard => reject(f, w, n, Message::WildcardHead, left, out),
-        _ => Some(left),
+    match run.node(n) {
+        Node::Wildcard => run.reject(n, Message::WildcardHead),
+        _ => Some(()),
     }
 }
 
 #[cycle(destructuring)]
-pub fn destructurable(f: &[u8], w: &[u32], n: u32) -> bool
-    ensures { Asks f.now w.now n result }
+pub fn destructurable(run: &Run, n: u32) -> bool
+    ensures { Asks run.now.file.now run.now.words.now n result }
 {
-    let e = tree::node_at(f, w, n);
-    match e {
+    match run.node(n) {
         Node::Var(_) | Node::Wildcard => true,
-        Node::Record(items) => all_destructurable(f, w, items),
+        Node::Record(items) => all_destructurable(run, items),
         _ => false,
     }
 }
 
-// `all` over the fields of a record: to the first that is not.
+// The fields of a record, to the first that is not. `all` takes a closure, and one that calls this cycle would need
+// clauses of its own.
 #[cycle(destructuring)]
-fn all_destructurable(f: &[u8], w: &[u32], items: Items) -> bool
-    requires { LowerItems items.below items }
-    ensures { AsksAll f.now w.now items result }
+fn all_destructurable(run: &Run, items: Items) -> bool
+    ensures { AsksAll run.now.file.now run.now.words.now items result }
 {
     for i in 0..items.n {
-        let e = tree::field_at(f, items, i);
-        if !destructurable(f, w, e.value) {
+        let e = tree::field_at(run.file, items, i);
+        if !destructurable(run, e.value) {
             return false;
         }
     }

@@ -13,6 +13,7 @@ pub struct Tally {
 }
 
 impl Tally {
+    // "A tally starts at zero" (card 7): `default` under that card's name.
     pub fn new() -> Self
         ensures { result ≡ zero }
     {
@@ -32,11 +33,13 @@ impl Tally {
         Some(Tally {
             units: u32::try_from(u64::from(self.units) + full).ok()?,
             cents: u32::try_from(u64::from(self.cents) + full * u64::from(price)).ok()?,
+            // Below 1000, so it fits: `try_from` would say that it may not.
             remainder: (n % 1000) as u32,
         })
     }
 
-    // The tally after a query; or the query is refused, and the tally is the one that was handed in.
+    // The tally after a query; or the query is refused, and the tally is the one that was handed in: both are one to go
+    // on with, as `binary_search` gives a place either way.
     pub fn add(self, visits: u32, price: u16) -> Result<Self, Self>
         ensures { Adds self visits price result }
     {

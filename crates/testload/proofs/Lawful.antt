@@ -40,7 +40,7 @@ unfolding from
 all_from f P i zero g = tt
 all_from f P i (suc n) g = (g i (omega arith), all_from f P (suc i) n (λ j h. g j (omega arith)))
 
-length_from : (i n : ℕ) → length (from i n) ≡ n
+pub length_from : (i n : ℕ) → length (from i n) ≡ n
 unfolding from
 length_from i zero = refl
 length_from i (suc n) = ap suc (length_from (suc i) n)

@@ -9,8 +9,7 @@ use lib.Dec.{leb}
 use lib.ListN.{length, get_or}
 use borrow.Author.Tests.{leb-true}
 use borrow.Author.Rules.{rules}
-use Rattle.text.specs.Utf8.{Text, characters, both}
-use Rattle.text.proofs.Every.{both_left, both_right, below, every}
+use Rattle.text.specs.Utf8.{Text, characters}
 use Rattle.text.proofs.Grammar.{counts as counted}
 use Rattle.meaning.specs.Syntax.{ExprKind}
 use Rattle.meaning.specs.References.{shape_names, shape_types, shape_keys, optional, field_names, field_values, stmt_nodes, query_nodes, expr_names, expr_nodes}
@@ -26,7 +25,8 @@ use Rattle.meaning.proofs.Lists.{all_at}
 use Rattle.meaning.proofs.Tests.{clash, below_all, again_distinct, given_absent}
 use Rattle.testload.specs.Rule.{Limits, limits, names, base, simple, compound, predicates, leaves, pairs, singles, exprs, expr_at, Plan, queries}
 use Rattle.testload.specs.Rule.{counts, from}
-use Rattle.std.specs.Prelude.{None, Option, Some}
+use Rattle.std.specs.Prelude.{◌&&◌, None, Option, Some}
+use Rattle.std.proofs.lemmas.Bool.{and_parts, agree_below, agree_below_at}
 
 -- ---- What is asked of a row
 
@@ -62,13 +62,13 @@ pub record ExprRow (named : List ℕ) (e : ExprKind) : Type 0 where
 
 all_of : {A : Type 0} → (A → Bool) → List A → Bool
 all_of test [] = true
-all_of test (a ∷ l) = both (test a) (all_of test l)
+all_of test (a ∷ l) = test a && all_of test l
 
 -- what fits and passes the test is as is asked
 rows : {A : Type 0} (F P : A → Type 0) (test : A → Bool) → ((a : A) → F a → test a ≡ true → P a) → (l : List A) → All F l → all_of test l ≡ true → All P l
 unfolding all_of
 rows F P test f [] a h = tt
-rows F P test f (x ∷ l) a h = (f x a.0 (both_left (test x) (all_of test l) h), rows F P test f l a.1 (both_right (test x) (all_of test l) h))
+rows F P test f (x ∷ l) a h = (f x a.0 (and_parts (test x) (all_of test l) h).0, rows F P test f l a.1 (and_parts (test x) (all_of test l) h).1)
 
 unnot : (b : Bool) → not b ≡ true → b ≡ false
 unnot true h = clash (sym h)
@@ -77,7 +77,7 @@ unnot false h = refl
 -- ---- Types
 
 type_test : ℕ → TypeShape → Bool
-type_test n t = both (all_below 13 (shape_names t)) (both (all_below n (shape_types t)) (both (not (again [] (shape_keys t))) (leb (length (as_shape wide t)) 23)))
+type_test n t = all_below 13 (shape_names t) && (all_below n (shape_types t) && (not (again [] (shape_keys t)) && leb (length (as_shape wide t)) 23))
 
 type_row : (n : ℕ) (t : TypeShape) → ShapeFits wide t → type_test n t ≡ true → TypeRow n t
 unfolding type_test
@@ -86,14 +86,14 @@ type_row n t f h =
     let b = all_below n (shape_types t) in
     let c = not (again [] (shape_keys t)) in
     let d = leb (length (as_shape wide t)) 23 in
-    let h₁ = both_right a (both b (both c d)) h in
-    let h₂ = both_right b (both c d) h₁ in
+    let h₁ = (and_parts a (b && (c && d)) h).1 in
+    let h₂ = (and_parts b (c && d) h₁).1 in
     record {
       fits = f;
-      names = below_all 13 (shape_names t) (both_left a (both b (both c d)) h);
-      types = below_all n (shape_types t) (both_left b (both c d) h₁);
-      keys = again_distinct [] (shape_keys t) (unnot (again [] (shape_keys t)) (both_left c d h₂));
-      short = leb-true (length (as_shape wide t)) 23 (both_right c d h₂);
+      names = below_all 13 (shape_names t) (and_parts a (b && (c && d)) h).0;
+      types = below_all n (shape_types t) (and_parts b (c && d) h₁).0;
+      keys = again_distinct [] (shape_keys t) (unnot (again [] (shape_keys t)) (and_parts c d h₂).0);
+      short = leb-true (length (as_shape wide t)) 23 (and_parts c d h₂).1;
     }
 
 base_fits : All (ShapeFits wide) base
@@ -136,7 +136,7 @@ is_text None = false
 is_text (Some n) = true
 
 name_test : List ℕ → Bool
-name_test s = both (all_below 0x100 s) (both (leb (length s) 23) (is_text (characters s)))
+name_test s = all_below 0x100 s && (leb (length s) 23 && is_text (characters s))
 
 name_row : (s : List ℕ) → Unit {0} → name_test s ≡ true → NameRow s
 unfolding name_test is_text
@@ -144,11 +144,11 @@ name_row s u h =
     let a = all_below 0x100 s in
     let b = leb (length s) 23 in
     let c = is_text (characters s) in
-    let h₁ = both_right a (both b c) h in
+    let h₁ = (and_parts a (b && c) h).1 in
     record {
-      text = go (characters s) refl (both_right b c h₁);
-      bytes = below_all 0x100 s (both_left a (both b c) h);
-      short = leb-true (length s) 23 (both_left b c h₁);
+      text = go (characters s) refl (and_parts b c h₁).1;
+      bytes = below_all 0x100 s (and_parts a (b && c) h).0;
+      short = leb-true (length s) 23 (and_parts b c h₁).0;
     }
   where
     go : (o : Option ℕ) → characters s ≡ o → is_text o ≡ true → (n : ℕ) × Text s n
@@ -161,14 +161,14 @@ names_rows = rows (λ s. Unit {0}) NameRow name_test name_row names (search rule
 
 apart : List (List ℕ) → Bool
 apart [] = true
-apart (s ∷ ss) = both (not (given ss s)) (apart ss)
+apart (s ∷ ss) = not (given ss s) && apart ss
 
 distinct_apart : (ss : List (List ℕ)) → apart ss ≡ true → Distinct ss
 unfolding apart
 distinct_apart [] h = tt
 distinct_apart (s ∷ ss) h =
     let a = not (given ss s) in
-    (given_absent ss s (unnot (given ss s) (both_left a (apart ss) h)), distinct_apart ss (both_right a (apart ss) h))
+    (given_absent ss s (unnot (given ss s) (and_parts a (apart ss) h).0), distinct_apart ss (and_parts a (apart ss) h).1)
 
 pub names_distinct : Distinct names
 unfolding names ascii apart given any_of same_text
@@ -177,14 +177,14 @@ names_distinct = distinct_apart names refl
 -- ---- Expressions
 
 expr_test : ExprKind → Bool
-expr_test e = both (all_below 13 (expr_names e)) (leb (length (as_expr wide e)) 23)
+expr_test e = all_below 13 (expr_names e) && leb (length (as_expr wide e)) 23
 
 expr_row : (named : List ℕ) (e : ExprKind) → ExprFits wide e × (expr_nodes e ≡ named) → expr_test e ≡ true → ExprRow named e
 unfolding expr_test
 expr_row named e f h =
     let a = all_below 13 (expr_names e) in
     let b = leb (length (as_expr wide e)) 23 in
-    record { fits = f.0; nodes = f.1; names = below_all 13 (expr_names e) (both_left a b h); short = leb-true (length (as_expr wide e)) 23 (both_right a b h) }
+    record { fits = f.0; nodes = f.1; names = below_all 13 (expr_names e) (and_parts a b h).0; short = leb-true (length (as_expr wide e)) 23 (and_parts a b h).1 }
 
 both_all : {A : Type 0} (P Q : A → Type 0) (l : List A) → All P l → All Q l → All (λ a. P a × Q a) l
 both_all P Q [] a b = tt
@@ -423,27 +423,27 @@ pub record PlanRow (p : Plan) : Type 0 where
   pub short : length (as_query p.query) ≤ 23
 
 plan_test : Plan → Bool
-plan_test p = both (both (leb 1 p.blocks) (leb p.blocks 3))
-    (both (all_below (8 * p.blocks) (query_nodes p.query))
-    (both (not (again [] (named_in (8 * p.blocks) ++ query_nodes p.query))) (leb (length (as_query p.query)) 23)))
+plan_test p = (leb 1 p.blocks && leb p.blocks 3)
+    && (all_below (8 * p.blocks) (query_nodes p.query)
+    && (not (again [] (named_in (8 * p.blocks) ++ query_nodes p.query)) && leb (length (as_query p.query)) 23))
 
 plan_row : (p : Plan) → QueryFits p.query → plan_test p ≡ true → PlanRow p
 unfolding plan_test
 plan_row p f h =
     let once = named_in (8 * p.blocks) ++ query_nodes p.query in
-    let a = both (leb 1 p.blocks) (leb p.blocks 3) in
+    let a = (leb 1 p.blocks && leb p.blocks 3) in
     let b = all_below (8 * p.blocks) (query_nodes p.query) in
     let c = not (again [] once) in
     let d = leb (length (as_query p.query)) 23 in
-    let h₁ = both_right a (both b (both c d)) h in
-    let h₂ = both_right b (both c d) h₁ in
+    let h₁ = (and_parts a (b && (c && d)) h).1 in
+    let h₂ = (and_parts b (c && d) h₁).1 in
     record {
       fits = f;
-      some = leb-true 1 p.blocks (both_left (leb 1 p.blocks) (leb p.blocks 3) (both_left a (both b (both c d)) h));
-      blocks = leb-true p.blocks 3 (both_right (leb 1 p.blocks) (leb p.blocks 3) (both_left a (both b (both c d)) h));
-      below = below_all (8 * p.blocks) (query_nodes p.query) (both_left b (both c d) h₁);
-      once = again_distinct [] once (unnot (again [] once) (both_left c d h₂));
-      short = leb-true (length (as_query p.query)) 23 (both_right c d h₂);
+      some = leb-true 1 p.blocks (and_parts (leb 1 p.blocks) (leb p.blocks 3) ((and_parts a (b && (c && d)) h).0)).0;
+      blocks = leb-true p.blocks 3 (and_parts (leb 1 p.blocks) (leb p.blocks 3) ((and_parts a (b && (c && d)) h).0)).1;
+      below = below_all (8 * p.blocks) (query_nodes p.query) (and_parts b (c && d) h₁).0;
+      once = again_distinct [] once (unnot (again [] once) (and_parts c d h₂).0);
+      short = leb-true (length (as_query p.query)) 23 (and_parts c d h₂).1;
     }
 
 queries_fit : All (λ p. QueryFits p.query) queries
@@ -507,10 +507,10 @@ counts_rows = search rules
 lower_test : ℕ → Bool
 lower_test i = all_below i (named_at i)
 
-lower_tested : below lower_test 24 ≡ true
+lower_tested : agree_below lower_test (λ _. true) 24 ≡ true
 unfolding lower_test all_below named_at named_by
 lower_tested = refl
 
 pub named_lower : (i : ℕ) → i < 24 → Below i (named_at i)
 unfolding lower_test
-named_lower i h = below_all i (named_at i) (every lower_test 24 lower_tested i h)
+named_lower i h = below_all i (named_at i) (agree_below_at lower_test (λ _. true) 24 i lower_tested h)

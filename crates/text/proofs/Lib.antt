@@ -1,4 +1,3 @@
-pub mod Every
 pub mod Grammar
 pub mod Agree
 pub mod Surrogates

@@ -81,10 +81,6 @@ Text s n = Star Character s n
 abbrev pub inside : Range → ℕ → Bool
 inside r b = leb r.low b && leb b r.high
 
--- `&&`, as the crates above name it
-abbrev pub both : Bool → Bool → Bool
-both a b = a && b
-
 -- what has to follow the first byte of a character
 unfoldable pub following : List (List Range) → ℕ → Option (List Range)
 following [] b = None

@@ -11,7 +11,7 @@ ghost use Rattle.text.specs.Answer.{Tests};
 // The least value that a sequence of each length may have: a lower one has a shorter form.
 const LEAST: [u32; 5] = [0, 0, 0x80, 0x800, 0x10000];
 
-// How many one bits the byte starts with.
+// How many one bits the byte starts with. `as`: no `From` leads from u32 to usize.
 fn ones(b: u8) -> usize
     ensures { result ≡ ones b }
 {
@@ -77,7 +77,8 @@ fn width(s: &[u8]) -> Option<usize>
     is_sequence(first, later).then_some(n)
 }
 
-// The characters are counted in the same walk that tests them.
+// The characters are counted in the same walk that tests them. Each says itself how many bytes it takes, so the rest is
+// walked and not the places.
 pub fn characters(s: &[u8]) -> Option<usize>
     ensures { Tests s.now result }
 {
@@ -129,7 +130,7 @@ fn step(state: usize, b: u8) -> Option<usize>
     (next < 8).then_some(next)
 }
 
-// The same test by the tables.
+// The same test by the tables; two tests, so that each is compared with the other.
 pub fn characters_by_table(s: &[u8]) -> Option<usize>
     ensures { Tests s.now result }
 {

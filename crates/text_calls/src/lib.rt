@@ -1,4 +1,4 @@
-// Both text tests for programs in other languages, for comparison only.
+// Both text tests for programs in other languages, for comparison only: each is a call of its own.
 #![tactic(auto)]
 
 ghost use Rattle.std.specs.Prelude.{◌≡◌};

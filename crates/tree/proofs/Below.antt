@@ -1,4 +1,5 @@
--- References that are all lower are read as they stand: items, fields and statements, each list by its elements' places.
+-- References that are all lower are read as they stand: items, fields and statements, each list by its elements'
+-- places.
 use mathlib.Core.Bool.{Bool, true, false}
 use mathlib.Core.List.{List, [], ◌∷◌}
 use mathlib.Core.Path.{◌≡◌, refl, ◌∙◌, ap}
@@ -15,7 +16,7 @@ use Rattle.meaning.specs.References.{field_values, stmt_nodes}
 use Rattle.meaning.specs.Frame.{got, field, choice, entry}
 use Rattle.meaning.specs.Frame as Frame
 use Rattle.sigla_hex.specs.Digits.{digits_w, half_at}
-use Rattle.tree.specs.declared.Items.{Items}
+use Rattle.tree.specs.declared.items.Items.{Items}
 use Rattle.tree.specs.declared.Stmt.TheVariants as Stmt
 use Rattle.tree.specs.Nodes.{lower_w, field_w, field_of, fields_from, item_w, items_from, stmt_of, stmt_w, stmt_size_w, statement, stmts_from}
 use Rattle.tree.proofs.Lowering.{lower_stays}

@@ -1,5 +1,5 @@
--- A node's line and the query's line, taken apart: which readers ran, on what bytes, and where those stand. From that the kind of the
--- node is what each arm of `node_at_lem` makes of the shape byte and the digits after it.
+-- A node's line and the query's line, taken apart: which readers ran, on what bytes, and where those stand. From that
+-- the kind of the node is what each arm of `node_at` makes of the shape byte and the digits after it.
 use mathlib.Core.List.{List, [], ◌∷◌}
 use mathlib.Core.Path.{◌≡◌, sym, ◌∙◌, ap}
 use Prim.Native.Nat.{ℕ, ◌+◌, ◌*◌, ◌/◌, ◌%◌, ◌<◌}
@@ -25,7 +25,7 @@ use Rattle.tree.proofs.Below.{first_below, others_below, lower_is, stmt_at, read
 use Rattle.std.specs.Prelude.{Some}
 
 -- A frame that was read whole left nothing.
-whole_got : {A : Type 0} (g : Got A) (a : A) → whole g ≡ Some a → g ≡ got a []
+pub whole_got : {A : Type 0} (g : Got A) (a : A) → whole g ≡ Some a → g ≡ got a []
 unfolding whole
 whole_got (got b []) a e = cc
 whole_got (got b (c ∷ s)) a e = no_some e

@@ -1,4 +1,5 @@
--- Each arm of `node_at`: where the shape byte is this, the node made of the digits after it is the one that the line says.
+-- Each arm of `node_at`: where the shape byte is this, the node made of the digits after it is the one that the line
+-- says.
 use mathlib.Core.Bool.{Bool, true, false}
 use mathlib.Core.List.{List, [], ◌∷◌}
 use mathlib.Core.Path.{◌≡◌, refl, sym, ◌∙◌, ap, ap₂}
@@ -16,14 +17,14 @@ use Rattle.frames.specs.Promises.{expr_kind}
 use Rattle.meaning.specs.References.{field_values, query_nodes, expr_nodes}
 use Rattle.meaning.specs.Conditions.{all_below}
 use Rattle.sigla_hex.specs.Digits.{digits_w, half_at}
-use Rattle.tree.specs.declared.Items.{Items}
+use Rattle.tree.specs.declared.items.Items.{Items}
 use Rattle.tree.specs.declared.Node.{Node}
 use Rattle.tree.specs.Stands.{NodeIs}
-use Rattle.tree.specs.Nodes.{lower_w, full_at, items_w, parent_w, fields_from, items_from, stmts_w, kind_w, LowerItems, Lower, IsNode}
+use Rattle.tree.specs.Nodes.{lower_w, full_at, ItemsAre, parent_w, fields_from, items_from, stmts_w, kind_w, Lower, IsNode}
 use Rattle.tree.proofs.Lowering.{lower_stays, lower_below}
 use Rattle.tree.proofs.Readers.{Reads, no_got, went, reads_nothing, reads_byte, reads_one, reads_pair, reads_two, Listed, listed, listed_length}
 use Rattle.tree.proofs.Below.{first_below, items_are, field_at, reads_field, fields_are}
-use Rattle.tree.proofs.ItemsOf.{items_at_lem, items_below, items_some, items_count}
+use Rattle.tree.proofs.ItemsOf.{items_count}
 use Rattle.tree.proofs.LineParts.{KindAt, four_at, reads_four, kind_at, QueryAt, query_at, head_is, body_is}
 
 -- x is none of them
@@ -108,18 +109,12 @@ module _ (f w : List ℕ) (n start size shape : ℕ) (p : At f w n start size sh
 
   -- ---- Lists of nodes
 
-  items_lower : (each : ℕ) → LowerItems n (items_w (start + 20) size each n)
-  items_lower each = record {
-    below = items_below (start + 20) size each n;
-    some = items_some (start + 20) size each n;
-    place = rw (items_at_lem (start + 20) size each n) (omega (arith, p.near));
-  }
-
   some_below : (l : List ℕ) → T (all_below n l) → 0 < length l → 0 < n
   some_below [] b h = absurd (omega arith)
   some_below (x ∷ l) b h = omega (arith, first_below n x l b)
 
-  -- A list of items of so many bytes, each read as v says; `from` reads them with `lower`, and `refs` are the nodes that they name.
+  -- A list of items of so many bytes, each read as v says; `from` reads them with `lower`, and `refs` are the nodes
+  -- that they name.
   module _ {A : Type 0} (m each : ℕ) (make : List A → ExprKind) (r : Reader A) (v : ℕ → A) (refs : List A → List ℕ) (from : Items → ℕ → ℕ → List A) where
     record ListOf : Type 0 where
       some_bytes_lem : 0 < each
@@ -130,31 +125,28 @@ module _ (f w : List ℕ) (n start size shape : ℕ) (p : At f w n start size sh
       are : (it : Items) (i end : ℕ) (l : List A) → Listed (λ _. 2 * each) v (it.at + 2 * each * i) end l → T (all_below it.below (refs l))
           → from it i (length l) ≡ l
 
-    list_is : ListOf → shape ≡ m → (nd : Syntax.Node) → NodeIs f w n nd → T (all_below n (expr_nodes nd.kind))
-        → make (from (items_w (start + 20) size each n) 0 (items_w (start + 20) size each n).n) ≡ nd.kind
+    list_is : ListOf → {it : Items} → ItemsAre (start + 20) size each n it → shape ≡ m → (nd : Syntax.Node) → NodeIs f w n nd
+        → T (all_below n (expr_nodes nd.kind)) → make (from it 0 it.n) ≡ nd.kind
     unfolding one
-    list_is L e nd h b =
+    list_is L {it} I e nd h b =
         let a = after m (one make (many r)) L.same e nd h in
         let x = went (many r a.line.rest) (λ l. got (make l)) nd.kind [] a.ran in
         let k : make x.a ≡ nd.kind = cc x.after in
         go a.line.rest x.a a.line.long k (rw (← k, L.nodes x.a) at b)
         (listed f L.reads (start + 20) a.line.rest x.a x.s a.line.stands x.first)
       where
-        it : Items
-        it = items_w (start + 20) size each n
-
         go : (rest : List ℕ) (l : List A) → size ≡ 10 + length rest → make l ≡ nd.kind → T (all_below n (refs l))
             → Listed (λ _. 2 * each) v (start + 20) (start + 20 + 2 * length rest) l → make (from it 0 it.n) ≡ nd.kind
         go rest l long k low ls =
             let taken = listed_length (2 * each) v (start + 20) (start + 20 + 2 * length rest) l ls in
-            let count = items_count (start + 20) size each n (length l) L.some_bytes_lem (omega (arith, taken))
+            let count = I.n ∙ items_count size each n (length l) L.some_bytes_lem (omega (arith, taken))
             (λ h. some_below (refs l) low (rw (L.lengths l) h)) in
-            let z : start + 20 ≡ it.at + 2 * each * 0 = omega (arith, items_at_lem (start + 20) size each n) in
-            ap make (ap (from it 0) count ∙ L.are it 0 _ l (rw z at ls) (rw (items_below (start + 20) size each n) low)) ∙ k
+            let z : start + 20 ≡ it.at + 2 * each * 0 = omega (arith, I.at) in
+            ap make (ap (from it 0) count ∙ L.are it 0 _ l (rw z at ls) (rw I.below low)) ∙ k
 
-  pub fields : shape ≡ 8 → IsNode f w n (Node.Record (items_w (start + 20) size 4 n))
+  pub fields : {it : Items} → ItemsAre (start + 20) size 4 n it → shape ≡ 8 → IsNode f w n (Node.Record it)
   unfolding expr_kinds choice entry kind_w expr_nodes field_values
-  fields e = record {
+  fields I e = record {
     is = list_is 8 4 ExprKind.Record field (field_at f) field_values (fields_from f)
         (record {
           some_bytes_lem = omega arith;
@@ -163,8 +155,8 @@ module _ (f w : List ℕ) (n start size shape : ℕ) (p : At f w n start size sh
           nodes = λ l. refl;
           lengths = λ l. length-map l (λ e. e.value);
           are = fields_are f;
-        }) e;
-    lower = items_lower 4;
+        }) I e;
+    lower = I.below;
   }
 
   -- nodes alone
@@ -172,20 +164,20 @@ module _ (f w : List ℕ) (n start size shape : ℕ) (p : At f w n start size sh
       → ((l : List ℕ) → expr_nodes (make l) ≡ l) → ListOf m 2 make two (half_at f) (λ l. l) (items_from f)
   nodes_are m make same nodes = record { some_bytes_lem = omega arith; same = same; reads = reads_two f; nodes = nodes; lengths = λ l. refl; are = items_are f }
 
-  pub disjunction : shape ≡ 11 → IsNode f w n (Node.Disjunction (items_w (start + 20) size 2 n))
+  pub disjunction : {it : Items} → ItemsAre (start + 20) size 2 n it → shape ≡ 11 → IsNode f w n (Node.Disjunction it)
   unfolding expr_kinds choice entry kind_w expr_nodes
-  disjunction e = record {
+  disjunction I e = record {
     is = list_is 11 2 ExprKind.Disjunction two (half_at f) (λ l. l) (items_from f)
-        (nodes_are 11 ExprKind.Disjunction (λ s. refl) (λ l. refl)) e;
-    lower = items_lower 2;
+        (nodes_are 11 ExprKind.Disjunction (λ s. refl) (λ l. refl)) I e;
+    lower = I.below;
   }
 
-  pub arithmetic : shape ≡ 14 → IsNode f w n (Node.Arith (items_w (start + 20) size 2 n))
+  pub arithmetic : {it : Items} → ItemsAre (start + 20) size 2 n it → shape ≡ 14 → IsNode f w n (Node.Arith it)
   unfolding expr_kinds choice entry kind_w expr_nodes
-  arithmetic e = record {
+  arithmetic I e = record {
     is = list_is 14 2 ExprKind.Arith two (half_at f) (λ l. l) (items_from f) (nodes_are 14 ExprKind.Arith (λ s. refl) (λ l. refl))
-        e;
-    lower = items_lower 2;
+        I e;
+    lower = I.below;
   }
 
   -- ---- Nodes with one node right below them, and subqueries

@@ -1,4 +1,5 @@
--- `query_head` and `query_body` give the head and the body of the query that the file says, where what it names is among its nodes.
+-- `query_head` and `query_body` give the head and the body of the query that the file says, where what it names is
+-- among its nodes.
 use mathlib.Core.List.{List}
 use mathlib.Core.Path.{◌≡◌}
 use Prim.Native.Nat.{ℕ, ◌+◌, ◌*◌, ◌/◌, ◌%◌, ◌≤◌}

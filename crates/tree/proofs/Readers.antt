@@ -1,5 +1,5 @@
--- What a reader of the frame grammar gives is what the file's digits say where its bytes stand: for each reader, how many digits it
--- takes and its value as a function of the place.
+-- What a reader of the frame grammar gives is what the file's digits say where its bytes stand: for each reader, how
+-- many digits it takes and its value as a function of the place.
 use mathlib.Core.List.{List, [], ◌∷◌}
 use mathlib.Core.Path.{◌≡◌, refl, ◌∙◌, ap}
 use Prim.Native.Nat.{ℕ, zero, suc, ◌+◌, ◌*◌, ◌<◌}

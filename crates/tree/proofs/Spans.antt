@@ -1,5 +1,5 @@
--- A node's span stands in the file as the answer writes it: a byte's digits are those of its two halves, so a line's text is `hex_line` of
--- its bytes, and the first eight of a node's content are its span's.
+-- A node's span stands in the file as the answer writes it: a byte's digits are those of its two halves, so a line's
+-- text is `hex_line` of its bytes, and the first eight of a node's content are its span's.
 use mathlib.Core.Bool.{Bool, true, false}
 use mathlib.Core.List.{List, [], ◌∷◌, ◌++◌, append_assoc}
 use mathlib.Core.Path.{◌≡◌, refl, sym, ◌∙◌, ap}

@@ -1,4 +1,5 @@
--- Fields, items and statements one at a time: what is left from number i on is the i-th and what is left after it. What each names is lower.
+-- Fields, items and statements one at a time: what is left from number i on is the i-th and what is left after it. What
+-- each names is lower.
 use mathlib.Core.List.{List, [], ◌∷◌}
 use mathlib.Core.Path.{◌≡◌, refl, sym, ◌∙◌, ap}
 use mathlib.Core.Bool.{Bool, true, false}
@@ -9,7 +10,7 @@ use lib.ListN.{length}
 use borrow.Author.Tests.{ltb-true, ltb-false}
 use Rattle.cells.specs.Words.{pick}
 use Rattle.sigla_hex.specs.Digits.{digits_w, half_at}
-use Rattle.tree.specs.declared.Items.{Items}
+use Rattle.tree.specs.declared.items.Items.{Items}
 use Rattle.tree.specs.declared.Stmts.{Stmts}
 use Rattle.tree.specs.declared.Stmt.{Stmt}
 use Rattle.tree.specs.Nodes.{field_w, field_of, fields_from, item_w, items_from, stmt_of, stmt_w, stmt_size_w, statement, stmts_from, stmts_w}

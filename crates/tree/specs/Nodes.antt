@@ -6,7 +6,7 @@ use Rattle.meaning.specs.Syntax as Syntax
 use Rattle.meaning.specs.Syntax.{ExprKind, QueryStmt, FieldRef, Literal}
 use Rattle.meaning.specs.References.{expr_nodes}
 use Rattle.meaning.specs.Conditions.{all_below}
-use Rattle.tree.specs.declared.Items.{Items}
+use Rattle.tree.specs.declared.items.Items.{Items}
 use Rattle.tree.specs.declared.Stmts.{Stmts}
 use Rattle.tree.specs.declared.Field.{Field}
 use Rattle.tree.specs.declared.Node.{Node}
@@ -17,8 +17,8 @@ use Rattle.tree.specs.Stands.{NodeIs}
 unfoldable pub lower_w : ℕ → ℕ → ℕ
 lower_w x below = pick (ltb x below) x 0
 
--- The number of the eight digits at i, a predicate's. A character that is no digit counts 16, so each half is kept below 65,536; in a line that was
--- read it is.
+-- The number of the eight digits at i, a predicate's. A character that is no digit counts 16, so each half is kept
+-- below 65,536; in a line that was read it is.
 unfoldable pub full_at : List ℕ → ℕ → ℕ
 unfolding half_at
 full_at f i = half_at f i % 65536 * 65536 + half_at f (i + 4) % 65536
@@ -45,8 +45,15 @@ stmt_size_w f at = pick (eqb (digits_w f at) 1) 6 (pick (eqb (digits_w f at) 2) 
 unfoldable pub line_start_w : List ℕ → ℕ → ℕ
 line_start_w w n = get_or w (NODES + n) 0 / 2048
 
-unfoldable pub items_w : ℕ → ℕ → ℕ → ℕ → Items
-items_w at size each below = pick (ltb size 10) (record { at = at; n = 0; below = below }) (pick (eqb below 0) (record { at = at; n = 0; below = below }) (record { at = at; n = (size - 10) / each; below = below }))
+-- How many items of so many bytes a line has behind its first ten; none where no node is lower.
+unfoldable pub count_w : ℕ → ℕ → ℕ → ℕ
+count_w size each below = pick (ltb size 10) 0 (pick (eqb below 0) 0 ((size - 10) / each))
+
+-- The items from a place on, of a line of so many bytes, which name nodes under this one.
+pub record ItemsAre (from size each under : ℕ) (l : Items) : Type 0 where
+  pub at : l.at ≡ from
+  pub n : l.n ≡ count_w size each under
+  pub below : l.below ≡ under
 
 unfoldable pub parent_w : List ℕ → ℕ → ℕ → ℕ → ℕ → Node
 unfolding half_at full_at lower_w
@@ -119,12 +126,7 @@ kind_w f (Node.Arith l) = ExprKind.Arith (items_from f l 0 l.n)
 kind_w f Node.Error = ExprKind.Error
 kind_w f (Node.Select x e) = ExprKind.Select x e
 
--- What a node names is lower, whatever the file holds.
-pub record LowerItems (n : ℕ) (l : Items) : Type 0 where
-  pub below : l.below ≡ n
-  pub some : 0 < l.n → 0 < n
-  pub place : l.at < 2147483648
-
+-- What a node names is lower, whatever the file holds; that there is a lower one where there is an item, its Items say.
 abbrev pub Lower : ℕ → Node → Type 0
 Lower n Node.Int = Unit {0}
 Lower n Node.Str = Unit {0}
@@ -134,13 +136,13 @@ Lower n Node.Wildcard = Unit {0}
 Lower n Node.Never = Unit {0}
 Lower n (Node.Prefix x) = Unit {0}
 Lower n (Node.Fuzzy x d) = Unit {0}
-Lower n (Node.Record l) = LowerItems n l
+Lower n (Node.Record l) = l.below ≡ n
 Lower n (Node.Key x e) = e < n
 Lower n (Node.Value e) = e < n
-Lower n (Node.Disjunction l) = LowerItems n l
+Lower n (Node.Disjunction l) = l.below ≡ n
 Lower n (Node.Subquery h b) = (h < n) × (b.below ≡ n) × (b.end < 2147483648)
 Lower n (Node.Fact p e) = e < n
-Lower n (Node.Arith l) = LowerItems n l
+Lower n (Node.Arith l) = l.below ≡ n
 Lower n Node.Error = Unit {0}
 Lower n (Node.Select x e) = e < n
 

@@ -1,5 +1,5 @@
--- What the work slice holds after a file was read, together with the file's text: the schema and the tree that it describes.
--- The checker builds on this.
+-- What the work slice holds after a file was read, together with the file's text: the schema and the tree that it
+-- describes. The checker builds on this.
 use Rattle.std.specs.Prelude.{List, [], ◌∷◌, ◌≡◌, ℕ, suc, ◌+◌, ◌*◌, ◌/◌, ◌%◌, ◌≤◌, ◌<◌, T, eqb, length, get_or, None, Option, Some}
 use Rattle.unification.specs.Ty as Tree
 use Rattle.work.specs.Layout.{NAME-COUNT, TYPE-COUNT, PREDICATE-COUNT, NODE-COUNT, VALUE-NAME, MAX-DISTANCE, MAX-TERM, QUERY, NAMES, TYPES, PREDICATES, NODES, FIELDS, RECORD-COUNT, END}

@@ -3,11 +3,15 @@
 
 ghost use Rattle.std.specs.Prelude.{◌≡◌, ℕ, ◌+◌, ◌*◌, ◌<◌, ◌≤◌};
 ghost use Rattle.sigla_hex.specs.Digits.{digit_w, digits_w, half_at};
-ghost use Rattle.tree.specs.Nodes.{lower_w, full_at, field_w, item_w, stmt_w, stmt_size_w, line_start_w, items_w, parent_w, IsNode, head_w, body_w};
+ghost use Rattle.tree.specs.Nodes.{lower_w, full_at, field_w, item_w, stmt_w, stmt_size_w, line_start_w, ItemsAre, parent_w, IsNode, head_w, body_w};
 
+mod items;
+
+pub use items::Items;
 use work::{line_place, line_size, node_line, wide, word};
 
-// A digit's value, and 16 for any other byte.
+// A digit's value, and 16 for any other byte: a file that was read has none there, and from an Option each caller
+// would make a number again.
 #[tactic(auto, unfolding(sigla_hex::specs::Digits::digit_w))]
 fn digit(b: u8) -> u32
     ensures { (result ≡ digit_w b) × (result < 17) }
@@ -15,7 +19,8 @@ fn digit(b: u8) -> u32
     sigla_hex::digit(b).map_or(16, u32::from)
 }
 
-// The byte of two digits, and 0 past the end. A place is below 2^40, so that what is added to it fits.
+// The byte of two digits, and 0 past the end, where no line of a file that was read goes. A place is below 2^40, so
+// that what is added to it fits.
 fn hex_byte(f: &[u8], i: usize) -> u32
     requires { i < 1099511627776 }
     ensures { (result ≡ digits_w f.now i) × (result < 512) }
@@ -40,14 +45,6 @@ fn hex_full(f: &[u8], i: usize) -> u32
     ensures { result ≡ full_at f.now i }
 {
     hex_half(f, i) % 65536 * 65536 + hex_half(f, i + 4) % 65536
-}
-
-// So many items from a place in the file on; each names a node below `below`.
-#[derive(Clone, Copy)]
-pub struct Items {
-    pub at: usize,
-    pub n: u32,
-    pub below: u32,
 }
 
 // The statements from a place in the file up to another; each names nodes below `below`.
@@ -103,25 +100,19 @@ fn lower(x: u32, below: u32) -> u32
 }
 
 pub fn field_at(f: &[u8], l: Items, i: u32) -> Field
-    requires { l.at < 2147483648 }
     ensures { result ≡ field_w f.now l i }
 {
-    let at = l.at;
-    let below = l.below;
-    let from = at + 8 * wide(i);
+    let from = l.at + 8 * wide(i);
     Field {
         name: hex_half(f, from),
-        value: lower(hex_half(f, from + 4), below),
+        value: lower(hex_half(f, from + 4), l.below),
     }
 }
 
 pub fn item_at(f: &[u8], l: Items, i: u32) -> u32
-    requires { l.at < 2147483648 }
     ensures { result ≡ item_w f.now l i }
 {
-    let at = l.at;
-    let below = l.below;
-    lower(hex_half(f, at + 4 * wide(i)), below)
+    lower(hex_half(f, l.at + 4 * wide(i)), l.below)
 }
 
 pub fn stmt_at(f: &[u8], at: usize, below: u32) -> Stmt
@@ -140,15 +131,15 @@ pub fn stmt_at(f: &[u8], at: usize, below: u32) -> Stmt
     }
 }
 
-// How many digits the statement takes.
+// How many digits the statement takes. Crates frames and reading have it in bytes, for lines not yet read, frames with
+// the tags that it refuses: of those none asks here.
 pub fn stmt_size(f: &[u8], at: usize) -> usize
     requires { at < 2147483648 }
     ensures { result ≡ stmt_size_w f.now at }
 {
     let tag = hex_byte(f, at);
     match tag {
-        1 => 6,
-        2 => 6,
+        1 | 2 => 6,
         _ => 10,
     }
 }
@@ -160,6 +151,7 @@ pub fn line_start(w: &[u32], n: u32) -> usize
     wide(line_place(node_line(word(w, work::NODES + wide(n)))))
 }
 
+// A node as the file has it. The file and the words are two parameters: a run (crate state) holds both, and asks here.
 pub fn node_at(f: &[u8], w: &[u32], n: u32) -> Node
     ensures { IsNode f.now w.now n result }
 {
@@ -187,24 +179,20 @@ pub fn node_at(f: &[u8], w: &[u32], n: u32) -> Node
 
 // The items of a node line of so many bytes; they start at byte 10.
 fn items_of(at: usize, size: u32, each: u32, below: u32) -> Items
-    requires { 0 < each }
-    ensures { result ≡ items_w at size each below }
+    requires { (0 < each) × (at < 2147483648) }
+    ensures { ItemsAre at size each below result }
 {
-    if size < 10 || below == 0 {
-        return Items {
-            at: at,
-            n: 0,
-            below: below,
-        };
-    }
-    Items {
-        at: at,
-        n: (size - 10) / each,
-        below: below,
-    }
+    let n = if below == 0 {
+        0
+    } else {
+        size.saturating_sub(10) / each
+    };
+    Items { at, n, below }
 }
 
-// A node with one node right below it, a subquery, or Error.
+// A node with one node right below it, a subquery, or Error. `shape` is the file's byte: `node_at` began to match it,
+// and an enum of its values would be matched once more. In one match with those above, `_ if n == 0` would stand among
+// the shapes, and both halves below would be made in each arm.
 fn parent(f: &[u8], start: usize, size: u32, shape: u32, n: u32) -> Node
     requires { (start < 2147483648) × (size < 1024) }
     ensures { result ≡ parent_w f.now start size shape n }

@@ -1,10 +1,10 @@
 // `unify` and `orderable` over the cells, as ty.rs has them. A visit is counted at each entry.
 #![tactic(auto)]
 
-ghost use Rattle.std.specs.Prelude.{◌≡◌, ◌<◌, ◌↔◌, IsTrue, get_or};
+ghost use Rattle.std.specs.Prelude.{◌≡◌, ◌↔◌, IsTrue, get_or};
 ghost use Rattle.work.specs.Layout.{UNDO-LEN};
 ghost use Rattle.unify.specs.Last.{Remembers};
-ghost use Rattle.cells.specs.Words.{first_w, part_w, after_w};
+ghost use Rattle.cells.specs.Words.{after_w};
 ghost use Rattle.cells.specs.Promises.{IsOrderable, Lowers, LeastFrom, NextFrom, Passed, part_at, FindsKey, Unifies, BindsVar, UnifiesHeads, UnifiesShapes, UnifiesRecord, UnifiesFields, UnifiesUnion, UnifiesNext};
 ghost use Rattle.cells.specs.declared.Kind.TheVariants.{Alternatives};
 ghost use Rattle.cells.specs.declared.Ty.TheVariants as Ty;
@@ -12,10 +12,9 @@ ghost use Rattle.cells.specs.declared.TyError.TheVariants as TyError;
 ghost use Rattle.cells.specs.declared.Failure.TheVariants as Failure;
 
 use cells::{
-    Failure, Kind, Ty, TyError, UnionDiff, alternative, count, field, first, occurs, part_count,
-    part_ty, place_of, repr, set_var, snapshot,
+    Failure, Kind, Ty, TyError, UnionDiff, alternative, count, field, first, key_from, occurs,
+    part_count, part_ty, place_from, place_of, repr, set_var, snapshot,
 };
-use work::{wide, word};
 
 fn bind_var(w: &mut [u32], x: u32, t: Ty, left: u32) -> Result<u32, Failure>
     ensures { BindsVar w.old x t left w.new result }
@@ -28,7 +27,8 @@ fn bind_var(w: &mut [u32], x: u32, t: Ty, left: u32) -> Result<u32, Failure>
     Ok(l)
 }
 
-// `got` is the type of the node that the caller reports at.
+// `got` is the type of the node that the caller reports at. Two parameters of these names: by a rule of the project they
+// follow ty.rs.
 #[cycle(unifying)]
 pub fn unify(w: &mut [u32], got: Ty, expected: Ty, left: u32) -> Result<u32, Failure>
     ensures { Unifies w.old got expected left w.new result }
@@ -102,7 +102,7 @@ impl Last {
         }
     }
 
-    // Whether these two are the same, and nothing was bound since.
+    // Whether these two are the same, and nothing was bound since. What they cost is not compared: no `==`.
     fn is(self, w: &[u32], got: Ty, expected: Ty) -> bool
         ensures { IsTrue result ↔ ((got ≡ self.got) × (expected ≡ self.expected) × (get_or w.now UNDO-LEN 0 ≡ self.log)) }
     {
@@ -153,17 +153,8 @@ fn unify_fields(w: &mut [u32], c: u32, d: u32, n: u32, left: u32) -> Result<u32,
     Ok(rest)
 }
 
-// The discriminant of the alternative at j, of a union whose alternatives start at f.
-#[tactic(auto, unfolding(cells::specs::Words::alternative_w))]
-fn discriminant(w: &[u32], c: u32, f: usize, j: u32) -> u32
-    requires { (f ≡ first_w w.now c) × (f < 4294967296) }
-    ensures { result ≡ (part_w w.now Alternatives c j).key }
-{
-    word(w, work::FIELDS + f + 2 * wide(j))
-}
-
-// The least discriminant of one union that is not below `from`, or `best` where that is less. The first i alternatives are
-// below it; none is less than `from` itself.
+// The least discriminant of one union that is not below `from`, or `best` where that is less. The first i alternatives
+// are below it; none is less than `from` itself, so the scan ends there, which no `fold` or `min` does.
 fn least_from(w: &[u32], c: u32, i: u32, from: u64, best: Option<u32>) -> Option<u32>
     requires { Passed w.now c i from }
     ensures { LeastFrom w.now c from best result }
@@ -171,7 +162,7 @@ fn least_from(w: &[u32], c: u32, i: u32, from: u64, best: Option<u32>) -> Option
     let f = first(w, c);
     let mut least = best;
     for j in i..count(w, c) {
-        let key = discriminant(w, c, f, j);
+        let key = key_from(w, Kind::Alternatives, c, f, j);
         least = lower(key, from, least);
         if u64::from(key) == from {
             break;
@@ -204,13 +195,13 @@ fn next_discriminant(w: &[u32], c: u32, d: u32, i: u32, j: u32, from: u64) -> Op
     }
 }
 
-// Where the first alternative with this discriminant stands: none of the first i has it.
+// Where the first alternative with this discriminant stands: none of the first i has it, which only two unions compared
+// side by side know. Alternatives are in no order.
 fn place_after(w: &[u32], c: u32, i: u32, k: u32) -> Option<u32>
     requires { Passed w.now c i k }
     ensures { FindsKey w.now Alternatives c k (part_at w.now Alternatives c result) }
 {
-    let f = first(w, c);
-    (i..count(w, c)).find(|j| discriminant(w, c, f, *j) == k)
+    place_from(w, Kind::Alternatives, c, i, k)
 }
 
 // One alternative more is passed where the one at a is the next.
@@ -221,8 +212,8 @@ fn after(a: u32, i: u32) -> u32
     if a == i && i < 65536 { i + 1 } else { i }
 }
 
-// Discriminants ascending: presence on both sides, then the name, then the payload; each is compared whole before the next.
-// A failure inside becomes a difference of the payload.
+// Discriminants ascending: presence on both sides, then the name, then the payload; each is compared whole before the
+// next. A failure inside becomes a difference of the payload. The next is sought from the last one on: no range has it.
 #[cycle(unifying)]
 fn unify_union(w: &mut [u32], c: u32, d: u32, left: u32) -> Result<u32, Failure>
     ensures { UnifiesUnion w.old c d left w.new result }
@@ -271,8 +262,10 @@ fn differ(c: u32, d: u32, diff: UnionDiff, left: u32) -> Failure
     )
 }
 
-// `orderable` of the resolved type: unknowns are looked up on the way; to the first no. As in `occurs`, a part of the same
-// type as the last one costs what that cost.
+// `orderable` of the resolved type: unknowns are looked up on the way; to the first no. As in `occurs`, a part of the
+// same type as the last one costs what that cost. It is no one function with `occurs`: that is defined over the
+// bindings, this over the type that is left when they are replaced, and a walk of both would need a third definition
+// with its two ties.
 pub fn orderable(w: &[u32], t: Ty, left: u32) -> Option<(bool, u32)>
     ensures { IsOrderable w.now t left result }
 {

@@ -1,8 +1,9 @@
 // The work slice: where its regions stand, and reads and writes of one word that are total, so that no caller owes a
-// bound.
+// bound. There is no heap: the caller, C mostly, lends one slice of words, and all that a run keeps are words in it. So
+// a flag is 0 or 1 there, what may be missing is 0 or one more than its number, and a choice is a number.
 #![tactic(auto)]
 
-ghost use Rattle.std.specs.Prelude.{◌≡◌, ◌<◌, length, get_or, set, take, replicate, ◌++◌, ◌-◌};
+ghost use Rattle.std.specs.Prelude.{◌≡◌, ◌<◌, ltb, cond, length, get_or, set, take, replicate, ◌++◌, ◌-◌, ◌+◌};
 ghost use Rattle.work.specs.Counted.{no_counters};
 
 // The run's counters, and its limits. `fields` counts the words of schema types' parts; `value` is the number of the
@@ -48,7 +49,8 @@ impl Counters {
 
     pub const RECORD_FIELDS: u32 = 512;
 
-    // each with an unknown of its own; so many marks, and so many that leave unmarked
+    // Entries of the environment, each with an unknown of its own. There are as many marks, one for each unknown, and at
+    // most as many entries leave unmarked.
     pub const ENTRIES: u32 = 512;
 
     // A visit of a node reports at most three.
@@ -57,6 +59,7 @@ impl Counters {
     // Each unknown is bound once and each node annotated once.
     pub const UNDO: u32 = Self::UNKNOWNS + Self::NODES;
 
+    // All of them 0. Every type here is begun by a `new`; this one has a default to begin with.
     pub fn new() -> Self
         ensures { result ≡ no_counters }
     {
@@ -81,6 +84,7 @@ pub const MAX_TERM: usize = 6;
 // Where the query's line starts, and its length.
 pub const QUERY: usize = 7;
 
+// `as` here and below: a constant can't call `usize::from`, and no `From` leads from u32 to usize.
 pub const NAMES: usize = 16;
 
 pub const TYPES: usize = NAMES + Counters::NAMES as usize;
@@ -107,8 +111,8 @@ pub const PLACE: usize = RECORD_COUNT + 5;
 pub const PLACE_HIGH: usize = RECORD_COUNT + 6;
 
 pub const FULL: usize = RECORD_COUNT + 7;
-// What ends the run early besides its visits: 0 nothing, 1 its first diagnostic, 2 an entry to `unify`; and where it
-// ended so, the visits left.
+// What ends the run early besides its visits, as a number: 0 nothing, 1 its first diagnostic, 2 an entry to `unify`; and
+// where it ended so, the visits left.
 pub const UNTIL: usize = RECORD_COUNT + 8;
 
 pub const LEFT: usize = RECORD_COUNT + 9;
@@ -154,6 +158,7 @@ pub use packed::{
     predicate_value, predicate_word, run_first, run_of, run_size, tag_in, with_tag, with_value,
 };
 
+// A word as a place. No `From` leads from u32 to usize, and `try_from` asks for an answer where none is.
 pub fn wide(x: u32) -> usize
     ensures { (result ≡ x) × (result < 4294967296) }
 {
@@ -173,6 +178,18 @@ pub fn put(w: &mut [u32], i: usize, x: u32)
 {
     if i < w.len() {
         w[i] = x;
+    }
+}
+
+// A word more in the region from a place on, which `count` counts. Past the limit nothing is written.
+pub fn push(w: &mut [u32], from: usize, count: usize, limit: u32, x: u32)
+    requires { from < 65536 }
+    ensures { w.new ≡ cond (ltb (get_or w.old count 0) limit) (set (set w.old (from + get_or w.old count 0) x) count (get_or w.old count 0 + 1)) w.old }
+{
+    let n = word(w, count);
+    if n < limit {
+        put(w, from + wide(n), x);
+        put(w, count, n + 1);
     }
 }
 

@@ -1,5 +1,7 @@
 // Several numbers in a word, made and taken apart here alone.
-// Each number has a function of its own name, as document 01 asks: one over the size would call them high and low.
+// Each number has a function of its own name: one over the size would call them high and low. A place's and a size's
+// bounds are owed by those that pack them, who have just tested them; a type for each would be taken apart again in the
+// same line. `as u32`: no `From` leads from usize to u32, and `try_from` asks for an answer where none is.
 ghost use Rattle.std.specs.Prelude.{◌≡◌, ◌+◌, ◌*◌, ◌/◌, ◌%◌, ◌<◌, ◌≤◌, eqb};
 
 // A number above a type's tag: of a schema type how many parts it has, of an inferred field its name.
@@ -109,6 +111,7 @@ pub fn predicate_key(x: u32) -> u32
     x / 512 % 256
 }
 
+// The flag and the number apart: who asks makes one Option of both, with the type in it, by `then` in one line.
 pub fn has_value(x: u32) -> bool
     ensures { result ≡ eqb (x % 2) 1 }
 {

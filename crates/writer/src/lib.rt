@@ -1,13 +1,14 @@
-// Bytes, numbers and texts as hexadecimal digits, written into a lent slice from a place on. All that is written is written
-// here.
+// Bytes, numbers and texts as hexadecimal digits, written into a lent slice from a place on. All that is written is
+// written here.
 #![tactic(auto)]
 
 ghost use Rattle.std.specs.Prelude.{[], ◌∷◌, ◌<◌, ◌≡◌};
 ghost use Rattle.meaning.specs.Answer.{hex_digit, bytes₂, bytes₄};
 ghost use Rattle.writer.specs.Writes.{Writes, WritesText, hex_of};
 
-// The slice and the place are two parameters: with a struct of both, writing took 2.5 times as long, as a store of a byte may
-// be one of the place.
+// The slice and the place are two parameters: with a struct of both, writing took 2.5 times as long, as a store of a
+// byte may be one of the place. The bar for this and for the table of digits is what answers took before
+// (docs/PERFORMANCE.md, style `long-answer`).
 
 // A byte or a word, if there is room.
 pub fn one<T: Copy>(out: &mut [T], at: usize, x: T) -> Option<usize>
@@ -40,30 +41,31 @@ pub fn copy<T: Copy>(out: &mut [T], at: usize, s: &[T]) -> Option<usize>
     Some(to)
 }
 
-#[tactic(auto, unfolding(meaning::specs::Answer::hex_digit))]
-pub fn hex_digit(n: u32) -> u8
+// By a table: by two additions, the writing of types took a fifth more instructions.
+const DIGITS: &[u8; 16] = b"0123456789abcdef";
+
+pub fn hex_digit(n: u8) -> u8
     requires { n < 16 }
     ensures { result ≡ hex_digit n }
 {
-    match n {
-        0..10 => b'0' + n as u8,
-        _ => b'a' - 10 + n as u8,
-    }
+    DIGITS[usize::from(n)]
 }
 
-pub fn byte(out: &mut [u8], at: usize, b: u32) -> Option<usize>
-    requires { b < 256 }
+pub fn byte(out: &mut [u8], at: usize, b: u8) -> Option<usize>
     ensures { Writes out.old at (hex_of (b ∷ [])) out.new result }
 {
-    two(out, at, hex_digit(b / 16), hex_digit(b % 16))
+    let at = one(out, at, hex_digit(b / 16))?;
+    one(out, at, hex_digit(b % 16))
 }
 
-// Numbers, the high byte first.
+// Numbers, the high byte first. `half`, `full` and `tagged` are two writers in a row each: all that they share is the
+// `?`. Nor are they `text` of the number's bytes: those would be laid out as a slice, and gone over one by one.
 pub fn half(out: &mut [u8], at: usize, x: u32) -> Option<usize>
     ensures { Writes out.old at (hex_of (bytes₂ x)) out.new result }
 {
-    let at = byte(out, at, x / 256 % 256)?;
-    byte(out, at, x % 256)
+    let [_, _, high, low] = x.to_be_bytes();
+    let at = byte(out, at, high)?;
+    byte(out, at, low)
 }
 
 pub fn full(out: &mut [u8], at: usize, x: u32) -> Option<usize>
@@ -80,15 +82,15 @@ pub fn close(out: &mut [u8], at: usize) -> Option<usize>
 }
 
 // A byte and a number of two bytes.
-pub fn tagged(out: &mut [u8], at: usize, tag: u32, x: u32) -> Option<usize>
-    requires { tag < 256 }
-    ensures { Writes out.old at (hex_of (tag ∷ bytes₂ x)) out.new result }
+pub fn tagged(out: &mut [u8], at: usize, b: u8, x: u32) -> Option<usize>
+    ensures { Writes out.old at (hex_of (b ∷ bytes₂ x)) out.new result }
 {
-    let at = byte(out, at, tag)?;
+    let at = byte(out, at, b)?;
     half(out, at, x)
 }
 
-// The bytes of a text. The room is looked for once, so that nothing is asked for each byte.
+// The bytes of a text. The room is looked for once, so that nothing is asked for each byte. By the place, which is the
+// answer too: over `as_chunks_mut` the part would be cut out first, and its end counted a second time.
 pub fn text(out: &mut [u8], at: usize, s: &[u8]) -> Option<usize>
     ensures { WritesText out.old at s.now out.new result }
 {
@@ -97,8 +99,8 @@ pub fn text(out: &mut [u8], at: usize, s: &[u8]) -> Option<usize>
     }
     let mut to = at;
     for &b in s {
-        out[to] = hex_digit(u32::from(b / 16));
-        out[to + 1] = hex_digit(u32::from(b % 16));
+        out[to] = hex_digit(b / 16);
+        out[to + 1] = hex_digit(b % 16);
         to += 2;
     }
     Some(to)

@@ -11,4 +11,4 @@ returns-in_err-end c = rw c.from_residual.ensures (answer_full c.word.ensures c.
 
 pub returns : goal.returns
 returns c = answer_exchanged c.word.ensures c.if-word-ne0.false c.place-at.ensures c.node_lines.ensures c.in_ok-end.was (search rules)
-    (ap (λ l. l ++ drop c.in_ok-end.end c.node_lines.new.out) c.rotate_left.ensures.after)
+    (ap (λ l. l ++ drop c.in_ok-end.end c.node_lines.new.out) c.exchange.ensures)

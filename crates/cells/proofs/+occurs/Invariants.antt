@@ -1,5 +1,5 @@
--- A call costs a visit, so the visits left fall. The answer for the row is the answer for the rest from j on. What the last part
--- that was asked cost is kept beside it.
+-- A call costs a visit, so the visits left fall. The answer for the row is the answer for the rest from j on. What the
+-- last part that was asked cost is kept beside it.
 use Prim.Native.Nat.{◌-◌}
 use Rattle.cells.proofs.Asking.{Any, asks, Asking, Outside}
 use Rattle.cells.proofs.+occurs.Given as goal

@@ -1,11 +1,12 @@
--- What a node names is lower, so the node falls, and on one node the rank of specs/Contracts.antt. Each arm is a law of its own.
+-- What a node names is lower, so the node falls, and on one node the number that a measure adds ranks the calls. Each
+-- arm is a law of its own.
 use Prim.Native.Nat.{◌+◌, ◌-◌, ◌*◌}
 use Rattle.checker.proofs.Alls.{AllGoing}
 use Rattle.checker.proofs.Generating.{BranchesGoing}
 use Rattle.checker.proofs.Bodies.{StmtsGoing}
 use Rattle.checker.proofs.Mentioning.{FieldsGoing}
-use Rattle.checker.proofs.Looping.{SameLengths}
 use Rattle.checker.proofs.Recording.{RecordGoing}
+use Rattle.state.specs.Running.{Lent}
 use Rattle.checker.proofs.+checking.Given as goal
 
 abbrev pub decreases-bind : goal.decreases-bind
@@ -72,19 +73,19 @@ abbrev pub decreases-subquery : goal.decreases-subquery
 decreases-subquery l = 16 * l.body.below + 2
 
 abbrev pub invariant-branches-loop-i : goal.invariant-branches-loop-i
-invariant-branches-loop-i l = BranchesGoing l.f l.initial.w l.initial.out l.items l.left l.w l.out l.last l.i l.rest × SameLengths l.w l.initial.w l.out l.initial.out
+invariant-branches-loop-i l = BranchesGoing l.initial.run.file.now l.initial.run.words.now l.initial.run.out.now l.items l.initial.run.left l.run.words.now l.run.out.now l.last l.i l.run.left × Lent l.initial.run l.run
 
 abbrev pub invariant-check_fields-loop-i : goal.invariant-check_fields-loop-i
-invariant-check_fields-loop-i l = FieldsGoing l.f l.initial.w l.initial.out l.items l.c l.left l.w l.out l.i l.rest × SameLengths l.w l.initial.w l.out l.initial.out
+invariant-check_fields-loop-i l = FieldsGoing l.initial.run.file.now l.initial.run.words.now l.initial.run.out.now l.items l.c l.initial.run.left l.run.words.now l.run.out.now l.i l.run.left × Lent l.initial.run l.run
 
 abbrev pub invariant-infer_all-loop-i : goal.invariant-infer_all-loop-i
-invariant-infer_all-loop-i l = AllGoing l.f l.initial.w l.initial.out l.items l.with l.left l.w l.out l.i l.rest × SameLengths l.w l.initial.w l.out l.initial.out
+invariant-infer_all-loop-i l = AllGoing l.initial.run.file.now l.initial.run.words.now l.initial.run.out.now l.items l.with l.initial.run.left l.run.words.now l.run.out.now l.i l.run.left × Lent l.initial.run l.run
 
 abbrev pub invariant-infer_record-loop-i : goal.invariant-infer_record-loop-i
-invariant-infer_record-loop-i l = RecordGoing l.f l.initial.w l.initial.out l.items l.left l.from l.w l.out l.i l.rest × SameLengths l.w l.initial.w l.out l.initial.out
+invariant-infer_record-loop-i l = RecordGoing l.initial.run.file.now l.initial.run.words.now l.initial.run.out.now l.items l.initial.run.left l.from l.run.words.now l.run.out.now l.i l.run.left × Lent l.initial.run l.run
 
 abbrev pub invariant-stmts-loop-at : goal.invariant-stmts-loop-at
-invariant-stmts-loop-at l = StmtsGoing l.f l.initial.w l.initial.out (record { at = l.initial.at; end = l.end; below = l.below }) l.left l.w l.out l.at l.rest × SameLengths l.w l.initial.w l.out l.initial.out
+invariant-stmts-loop-at l = StmtsGoing l.initial.run.file.now l.initial.run.words.now l.initial.run.out.now (record { at = l.initial.at; end = l.end; below = l.below }) l.initial.run.left l.run.words.now l.run.out.now l.at l.run.left × Lent l.initial.run l.run
 
 abbrev pub decreases-stmts-loop-at : goal.decreases-stmts-loop-at
 decreases-stmts-loop-at l = l.end - l.at

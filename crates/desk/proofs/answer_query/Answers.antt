@@ -6,4 +6,4 @@ pub returns-in_err-left : goal.returns-in_err-left
 returns-in_err-left c = rw c.from_residual.ensures (run_out c.query.ensures c.in_err-left.was)
 
 pub returns : goal.returns
-returns c = run_on c.query.ensures _ c.in_ok-left.was _ c.made-visits.ensures c.write.ensures
+returns c = run_on c.query.ensures _ c.in_ok-left.was _ c.saturating_sub-visits.ensures c.write.ensures

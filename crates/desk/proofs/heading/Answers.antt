@@ -1,9 +1,24 @@
 -- `desk::heading` meets its contract.
-use Rattle.desk.proofs.Turning.{no_heading, heading_after}
+use Rattle.desk.proofs.Turning.{no_heading, heading_after, heading_full}
 use Rattle.desk.proofs.heading.Goals as goal
 
-pub returns-else-several : goal.returns-else-several
-returns-else-several c = no_heading _ _ _ c.if-several.false
+pub returns-else-is_one_of_several : goal.returns-else-is_one_of_several
+returns-else-is_one_of_several c = record {
+  there_are = _;
+  tells = c.is_one_of_several.ensures;
+  follows = no_heading _ _ _ c.if-is_one_of_several.false;
+}
 
 pub returns-in_ok-page : goal.returns-in_ok-page
-returns-in_ok-page c = heading_after _ c.if-several.true c.in_ok-page.was c.number_line.ensures
+returns-in_ok-page c = record {
+  there_are = _;
+  tells = c.is_one_of_several.ensures;
+  follows = heading_after _ c.if-is_one_of_several.true c.in_ok-page.was c.number_line.ensures;
+}
+
+pub returns-in_err-page : goal.returns-in_err-page
+returns-in_err-page c = rw c.from_residual.ensures (record {
+  there_are = _;
+  tells = c.is_one_of_several.ensures;
+  follows = heading_full _ c.if-is_one_of_several.true _ _ c.in_err-page.was;
+})

@@ -13,4 +13,4 @@ unfolding cell_bytes
 returns-in-253 c = rw (c.in-253.is, ← c.saturating_sub-in-253.ensures) c.half-in-253.ensures
 
 pub returns-in_default : goal.returns-in_default
-returns-in_default c = rw (← (plain c.args.i c.args.x (λ e. omega arith) (λ e. omega arith)), ← c.from.ensures) c.byte.ensures
+returns-in_default c = rw (← (plain c.args.i c.args.x (λ e. omega arith) (λ e. omega arith))) c.byte.ensures

@@ -1,6 +1,6 @@
 use Rattle.std.proofs.Common.{inl, inr, arith, ◌∙◌}
 use Rattle.writer.proofs.Writing.{goes_start, goes_next, goes_full, goes_done}
-use Rattle.generator.proofs.Lines.{kind_at, table_at, kind_small, table_small, row_there, schema_start, schema_row, schema_end}
+use Rattle.generator.proofs.Lines.{kind_at, table_at, table_small, row_there, schema_start, schema_row, schema_end}
 use Rattle.generator.proofs.schema.Goals as goal
 use Rattle.generator.proofs.schema.Goals.{then-table-eq1, else-table-eq1}
 
@@ -11,20 +11,16 @@ pub overflow_mul-table : goal.overflow_mul-table
 unfolding table_at
 overflow_mul-table c = record { fits = omega (arith, table_small c.loop-l.l c.loop-l-test.true) }
 
-pub line-requires-clause-n_bound : goal.line-requires-clause-n_bound
+pub cells-requires : goal.cells-requires
 unfolding table_at
-line-requires-clause-n_bound c = row_there c.args.w.now c.loop-l.l c.if-table-eq1.v c.loop-l-test.true
+cells-requires c = row_there c.args.w.now c.loop-l.l c.if-table-eq1.v c.loop-l-test.true
     (elim c.if-table-eq1.branch [
       | then-table-eq1 w ↦ inl (w.if-table-eq1.true, w.v-is)
       | else-table-eq1 w ↦ inr (w.if-table-eq1.false, w.v-is ∙ w.choice-v.ensures.value, rw w.v-is w.choice-v.ensures.upper_bound)
     ])
 
 pub overflow_add-table : goal.overflow_add-table
-overflow_add-table c = record { fits = omega (arith, line-requires-clause-n_bound c) }
-
-pub line-requires-clause-kind_bound : goal.line-requires-clause-kind_bound
-unfolding kind_at
-line-requires-clause-kind_bound c = kind_small c.loop-l.l c.loop-l-test.true
+overflow_add-table c = record { fits = omega (arith, cells-requires c) }
 
 pub returns-in_err-at : goal.returns-in_err-at
 unfolding kind_at table_at
@@ -33,7 +29,7 @@ returns-in_err-at c = rw c.from_residual.ensures (goes_full c.loop-l.invariant _
       | then-table-eq1 w ↦ inl (w.if-table-eq1.true, w.v-is)
       | else-table-eq1 w ↦ inr (w.if-table-eq1.false, w.v-is ∙ w.choice-v.ensures.value, rw w.v-is w.choice-v.ensures.upper_bound)
     ]))
-    c.line.ensures c.in_err-at.was)
+    (rw (c.cells.ensures 0) at c.line.ensures) c.in_err-at.was)
 
 pub loop-l-preserved : goal.loop-l-preserved
 unfolding kind_at table_at
@@ -42,7 +38,7 @@ loop-l-preserved c = goes_next c.loop-l.invariant _ _
       | then-table-eq1 w ↦ inl (w.if-table-eq1.true, w.v-is)
       | else-table-eq1 w ↦ inr (w.if-table-eq1.false, w.v-is ∙ w.choice-v.ensures.value, rw w.v-is w.choice-v.ensures.upper_bound)
     ]))
-    c.line.ensures c.in_ok-at.was
+    (rw (c.cells.ensures 0) at c.line.ensures) c.in_ok-at.was
 
 pub returns : goal.returns
 returns c = goes_done c.loop-l.invariant (schema_end _ c.loop-l.l c.loop-l-test.false)

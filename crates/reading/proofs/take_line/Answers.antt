@@ -2,7 +2,7 @@
 use mathlib.Core.Path.{sym, ap, ◌∙◌}
 use Rattle.meaning.specs.Frame as Frame
 use Rattle.frames.specs.Promises.{kind_meant, edition_of}
-use Rattle.reading.proofs.AnyLine.{line_misplaced, line_too_many, line_too_many_queries, line_no_frame, line_takes, room_for_type, room_for_predicate, room_for_node, long_type, long_predicate, long_node}
+use Rattle.reading.proofs.AnyLine.{line_misplaced, line_too_many, line_too_many_queries, line_no_frame, line_takes, room_for_predicate, room_for_node, long_type, long_predicate, long_node}
 use Rattle.reading.proofs.take_line.Goals as goal
 
 pub returns-then-not-may_stand : goal.returns-then-not-may_stand
@@ -21,8 +21,6 @@ pub take_type-requires : goal.take_type-requires
 take_type-requires c = (
   long_type (edition_of c.args.edition) c.args.line.bytes.now _ (sym c.is_frame.ensures ∙ c.if-not-is_frame.false) c.in-SchemaType.is,
   c.args.line.short,
-  room_for_type c.args.c _ (sym c.is_full.ensures ∙ c.if-is_full.false) c.in-SchemaType.is,
-  c.requires.2,
 )
 
 pub take_predicate-requires : goal.take_predicate-requires

@@ -4,7 +4,7 @@ use Rattle.seek.proofs.Placing.{place_start, place_next, place_here, place_late,
 use Rattle.seek.proofs.place_of.Goals as goal
 
 pub loop-at-init : goal.loop-at-init
-loop-at-init c = place_start _ _ _ c.requires
+loop-at-init c = place_start _ _ _
 
 pub returns-in_err-next : goal.returns-in_err-next
 returns-in_err-next c = rw (passed_on _ c.from_residual.ensures.1) (place_out c.loop-at.invariant c.loop-at-test.true c.in_err-next.ensures refl)

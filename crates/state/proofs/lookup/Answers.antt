@@ -1,14 +1,11 @@
-use Rattle.state.proofs.Entries.{seek_start, seek_here, seek_past, seek_none}
+use mathlib.Core.List.{map-id}
+use Rattle.std.proofs.Common.{rules, ◌≡◌, ◌/◌}
+use Rattle.std.proofs.lemmas.Iterator.{YieldsList-from_map, first_from_find}
+use Rattle.work.specs.Layout.{ENV}
+use Rattle.state.proofs.Searching.{newest, find_is}
 use Rattle.state.proofs.lookup.Goals as goal
 
-pub loop-i-init : goal.loop-i-init
-loop-i-init c = seek_start _ _ _ c.word-i.ensures
-
-pub returns-then-symbol_of-symbol : goal.returns-then-symbol_of-symbol
-returns-then-symbol_of-symbol c = seek_here c.loop-i.invariant c.loop-i-test.true c.word-e.ensures c.wide.ensures.0 (rw c.symbol_of.ensures at c.if-symbol_of-symbol.true)
-
-pub loop-i-preserved : goal.loop-i-preserved
-loop-i-preserved c = seek_past c.loop-i.invariant c.loop-i-test.true c.word-e.ensures c.wide.ensures.0 (rw c.symbol_of.ensures at c.if-symbol_of-symbol.false)
-
 pub returns : goal.returns
-returns c = seek_none c.loop-i.invariant c.loop-i-test.false
+returns c = rw c.word.ensures at (find_is c.args.w.now c.args.symbol _ (map-id _) c.find.result (first_from_find _ _ c.find.result (λ e. e / 262144 ≡ c.args.symbol) (λ e. ¬ (e / 262144 ≡ c.args.symbol)) c.find.ensures.ran
+    (YieldsList-from_map _ (λ y. y) (rw (← c.map.ensures.source) at (newest ENV c.args.w.now _ c.rev.ensures.source)) c.map.ensures.closure (λ x r q k. search rules))
+    (λ x q k. search rules) (λ x q k. search rules)))

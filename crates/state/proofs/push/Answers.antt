@@ -1,4 +1,4 @@
--- The test is the one of `pushW`.
+-- The test is the one of `push_w`.
 use borrow.Author.Tests.{lt-ltb, le-ltb}
 use Rattle.state.specs.Words.{push_w}
 use Rattle.state.proofs.push.Goals as goal

@@ -1,4 +1,4 @@
--- Eight zeros, in the order of `countersW`.
+-- Eight zeros, in the order of `counters_w`.
 use mathlib.Core.Path.{◌∙◌}
 use Rattle.steps.specs.Outside.{counters_w}
 use Rattle.steps.proofs.begin_counters.Goals as goal

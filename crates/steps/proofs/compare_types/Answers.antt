@@ -1,14 +1,13 @@
 -- The definition's unification, and then the order; where it fails one diagnostic.
-use mathlib.Core.Path.{ap, ◌∙◌}
-use Rattle.std.specs.Prelude.{Err}
+use Rattle.state.proofs.Lefts.{succeeded, failed, ended}
 use Rattle.steps.proofs.Uniting.{compare_good, compare_bad, compare_spent}
 use Rattle.steps.proofs.compare_types.Goals as goal
 
-pub returns-in-Ok : goal.returns-in-Ok
-returns-in-Ok c = compare_good _ _ c.unify_outside.ensures c.in-Ok.is c.compare_order.ensures
+pub returns-in-Ok-clause-is : goal.returns-in-Ok-clause-is
+returns-in-Ok-clause-is c = compare_good _ _ c.unify_outside.ensures.is (succeeded c.in_ok-unify_outside.was c.in-Ok.is) (rw (c.unify_outside.ensures.lent.0, c.unify_outside.ensures.out) at c.compare_order.ensures.is)
 
-pub returns-in-Err-Bad : goal.returns-in-Err-Bad
-returns-in-Err-Bad c = compare_bad _ _ c.unify_outside.ensures (c.in-Err-Bad.is ∙ ap Err c.in-Err-Bad.field-0-is) (rw (c.in-Err-Bad.err-is, c.in-Err-Bad.l-is) at c.report.ensures)
+pub returns-in-Err-clause-is : goal.returns-in-Err-clause-is
+returns-in-Err-clause-is c = compare_bad _ _ c.unify_outside.ensures.is (failed c.in_ok-unify_outside.was _ c.in-Err.is) (rw (c.unify_outside.ensures.lent.0, c.unify_outside.ensures.out) at c.report.ensures.is)
 
-pub returns-in-Err-Spent : goal.returns-in-Err-Spent
-returns-in-Err-Spent c = compare_spent _ _ c.unify_outside.ensures (c.in-Err-Spent.is ∙ ap Err c.in-Err-Spent.field-0-is)
+pub returns-in_err-unify_outside-clause-is : goal.returns-in_err-unify_outside-clause-is
+returns-in_err-unify_outside-clause-is c = rw (c.from_residual.ensures, c.unify_outside.ensures.out) (compare_spent _ _ c.unify_outside.ensures.is (ended _ c.in_err-unify_outside.was))

@@ -2,20 +2,20 @@
 use Rattle.steps.proofs.Accessing.{key_error, key_unknown, key_record, key_found, key_absent, key_other}
 use Rattle.steps.proofs.key_of.Goals as goal
 
-pub returns-in-Error : goal.returns-in-Error
-returns-in-Error c = key_error _ _ c.in-Error.is
+pub returns-in-Error-clause-is : goal.returns-in-Error-clause-is
+returns-in-Error-clause-is c = key_error _ _ c.in-Error.is
 
-pub returns-in-Some : goal.returns-in-Some
-returns-in-Some c = key_found _ _ c.in-Fact.is c.key_ty-key.ensures _ c.in-Some.is c.field_at.ensures
+pub returns-in-Some-clause-is : goal.returns-in-Some-clause-is
+returns-in-Some-clause-is c = key_found _ _ c.in-Fact.is (rw c.view.ensures at c.key_ty.ensures) _ c.in-Some.is c.field_at.ensures.is
 
-pub returns-in-None : goal.returns-in-None
-returns-in-None c = key_absent _ _ c.in-Fact.is c.key_ty-key.ensures c.in-None.is
+pub returns-in-None-clause-is : goal.returns-in-None-clause-is
+returns-in-None-clause-is c = key_absent _ _ c.in-Fact.is (rw c.view.ensures at c.key_ty.ensures) c.in-None.is
 
-pub returns-in-Record : goal.returns-in-Record
-returns-in-Record c = key_record _ _ _ c.in-Record.is c.field_at-in-Record.ensures
+pub returns-in-Record-clause-is : goal.returns-in-Record-clause-is
+returns-in-Record-clause-is c = key_record _ _ _ c.in-Record.is c.field_at-in-Record.ensures.is
 
-pub returns-in-Var : goal.returns-in-Var
-returns-in-Var c = key_unknown _ _ _ c.in-Var.is c.reject_ty.ensures
+pub returns-in-Var-clause-is : goal.returns-in-Var-clause-is
+returns-in-Var-clause-is c = key_unknown _ _ _ c.in-Var.is c.reject_ty.ensures.is
 
-pub returns-in_default : goal.returns-in_default
-returns-in_default c = key_other _ _ c.in_default.in_default-own.keys5 c.reject_ty-in_default.ensures
+pub returns-in_default-clause-is : goal.returns-in_default-clause-is
+returns-in_default-clause-is c = key_other _ _ c.in_default.in_default-own.keys5 c.reject_ty-in_default.ensures.is

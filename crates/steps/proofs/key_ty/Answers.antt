@@ -1,12 +1,8 @@
--- The test is the one of `keyTyW`.
-use borrow.Author.Tests.{lt-ltb, le-ltb}
-use Rattle.steps.specs.Outside.{key_ty_w}
+use Rattle.steps.proofs.Looking.{key_there, key_past}
 use Rattle.steps.proofs.key_ty.Goals as goal
 
-pub returns-then-p-word : goal.returns-then-p-word
-unfolding key_ty_w
-returns-then-p-word c = simp (c.declared.ensures, c.predicate_key.ensures, c.word-x.ensures, c.wide.ensures.0, lt-ltb _ _ (rw c.word.ensures at c.if-p-word.true))
+pub returns-in_err-x : goal.returns-in_err-x
+returns-in_err-x c = rw c.from_residual.ensures (key_past c.args.w.now c.args.p c.predicate.ensures c.in_err-x.was)
 
 pub returns : goal.returns
-unfolding key_ty_w
-returns c = simp (le-ltb _ _ (rw c.word.ensures at c.if-p-word.false))
+returns c = rw (c.declared.ensures, c.predicate_key.ensures) (key_there c.args.w.now c.args.p c.predicate.ensures c.in_ok-x.was)

@@ -1,14 +1,13 @@
 -- The definition's unification, and where it fails one diagnostic.
-use mathlib.Core.Path.{ap, ◌∙◌}
-use Rattle.std.specs.Prelude.{Err}
+use Rattle.state.proofs.Lefts.{succeeded, failed, ended}
 use Rattle.steps.proofs.Uniting.{unite_good, unite_bad, unite_spent}
 use Rattle.steps.proofs.unify_at.Goals as goal
 
-pub returns-in-Ok : goal.returns-in-Ok
-returns-in-Ok c = unite_good _ c.unify_outside.ensures c.in-Ok.is
+pub returns-in-Ok-clause-is : goal.returns-in-Ok-clause-is
+returns-in-Ok-clause-is c = rw c.unify_outside.ensures.out (unite_good _ c.unify_outside.ensures.is (succeeded c.in_ok-unify_outside.was c.in-Ok.is))
 
-pub returns-in-Err-Bad : goal.returns-in-Err-Bad
-returns-in-Err-Bad c = unite_bad _ c.unify_outside.ensures (c.in-Err-Bad.is ∙ ap Err c.in-Err-Bad.field-0-is) c.report.ensures
+pub returns-in-Err-clause-is : goal.returns-in-Err-clause-is
+returns-in-Err-clause-is c = unite_bad _ c.unify_outside.ensures.is (failed c.in_ok-unify_outside.was _ c.in-Err.is) (rw (c.unify_outside.ensures.lent.0, c.unify_outside.ensures.out) at c.report.ensures.is)
 
-pub returns-in-Err-Spent : goal.returns-in-Err-Spent
-returns-in-Err-Spent c = unite_spent _ c.unify_outside.ensures (c.in-Err-Spent.is ∙ ap Err c.in-Err-Spent.field-0-is)
+pub returns-in_err-unify_outside-clause-is : goal.returns-in_err-unify_outside-clause-is
+returns-in_err-unify_outside-clause-is c = rw (c.from_residual.ensures, c.unify_outside.ensures.out) (unite_spent _ c.unify_outside.ensures.is (ended _ c.in_err-unify_outside.was))

@@ -1,4 +1,4 @@
--- `tree::field_at` meets its contract: the calls give `fieldW`'s parts.
+-- `tree::field_at` meets its contract: the calls give `field_w`'s parts.
 use Rattle.tree.specs.Nodes.{field_w}
 use Rattle.tree.proofs.field_at.Goals as goal
 

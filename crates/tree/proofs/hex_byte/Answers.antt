@@ -1,4 +1,4 @@
--- `tree::hex_byte` meets its contract: the test is `digitsW`'s own, and each digit is below 17.
+-- `tree::hex_byte` meets its contract: the test is `digits_w`'s own, and each digit is below 17.
 use native.Mathlib.Omega.{arith}
 use mathlib.Core.Path.{sym}
 use Rattle.sigla_hex.proofs.Bytes.{digits_past, digits_there}

@@ -1,4 +1,4 @@
--- `tree::hex_full` meets its contract: two halves, as `fullAt` joins them.
+-- `tree::hex_full` meets its contract: two halves, as `full_at` joins them.
 use native.Mathlib.Omega.{arith}
 use Rattle.tree.specs.Nodes.{full_at}
 use Rattle.tree.proofs.hex_full.Goals as goal

@@ -1,4 +1,4 @@
--- `tree::hex_half` meets its contract: two bytes, as `halfAt` joins them.
+-- `tree::hex_half` meets its contract: two bytes, as `half_at` joins them.
 use native.Mathlib.Omega.{arith}
 use Rattle.sigla_hex.specs.Digits.{half_at}
 use Rattle.tree.proofs.hex_half.Goals as goal

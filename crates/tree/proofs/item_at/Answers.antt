@@ -1,4 +1,4 @@
--- `tree::item_at` meets its contract: the calls give `itemW`'s parts.
+-- `tree::item_at` meets its contract: the calls give `item_w`'s parts.
 use Rattle.tree.specs.Nodes.{item_w}
 use Rattle.tree.proofs.item_at.Goals as goal
 

@@ -1,4 +1,5 @@
--- `tree::node_at` meets its contract: each arm is a law of NodeArms at the node's line, whose place, length and shape byte the calls before the match read.
+-- `tree::node_at` meets its contract: each arm is a law of NodeArms at the node's line, whose place, length and shape
+-- byte the calls before the match read.
 use Rattle.std.specs.Prelude.{◌≡◌, ℕ, List, get_or, ◌+◌, ◌<◌, ◌/◌, ◌%◌}
 use native.Mathlib.Omega.{arith}
 use Rattle.work.specs.Layout.{NODES}
@@ -37,13 +38,13 @@ pub returns-in-7 : goal.returns-in-7
 returns-in-7 c = rw (c.hex_half-a.ensures.0, c.hex_byte.ensures.0) (fuzzy _ _ _ _ _ _ (line c.wide.ensures.0 c.word.ensures c.word.type_inv c.node_line-x.ensures c.line_place.ensures c.wide-start.ensures.0 c.line_size-size.ensures c.hex_byte-shape.ensures.0) c.in-7.is)
 
 pub returns-in-8 : goal.returns-in-8
-returns-in-8 c = rw c.items_of.ensures (fields _ _ _ _ _ _ (line c.wide.ensures.0 c.word.ensures c.word.type_inv c.node_line-x.ensures c.line_place.ensures c.wide-start.ensures.0 c.line_size-size.ensures c.hex_byte-shape.ensures.0) c.in-8.is)
+returns-in-8 c = fields _ _ _ _ _ _ (line c.wide.ensures.0 c.word.ensures c.word.type_inv c.node_line-x.ensures c.line_place.ensures c.wide-start.ensures.0 c.line_size-size.ensures c.hex_byte-shape.ensures.0) c.items_of.ensures c.in-8.is
 
 pub returns-in-11 : goal.returns-in-11
-returns-in-11 c = rw c.items_of-in-11.ensures (disjunction _ _ _ _ _ _ (line c.wide.ensures.0 c.word.ensures c.word.type_inv c.node_line-x.ensures c.line_place.ensures c.wide-start.ensures.0 c.line_size-size.ensures c.hex_byte-shape.ensures.0) c.in-11.is)
+returns-in-11 c = disjunction _ _ _ _ _ _ (line c.wide.ensures.0 c.word.ensures c.word.type_inv c.node_line-x.ensures c.line_place.ensures c.wide-start.ensures.0 c.line_size-size.ensures c.hex_byte-shape.ensures.0) c.items_of-in-11.ensures c.in-11.is
 
 pub returns-in-14 : goal.returns-in-14
-returns-in-14 c = rw c.items_of-in-14.ensures (arithmetic _ _ _ _ _ _ (line c.wide.ensures.0 c.word.ensures c.word.type_inv c.node_line-x.ensures c.line_place.ensures c.wide-start.ensures.0 c.line_size-size.ensures c.hex_byte-shape.ensures.0) c.in-14.is)
+returns-in-14 c = arithmetic _ _ _ _ _ _ (line c.wide.ensures.0 c.word.ensures c.word.type_inv c.node_line-x.ensures c.line_place.ensures c.wide-start.ensures.0 c.line_size-size.ensures c.hex_byte-shape.ensures.0) c.items_of-in-14.ensures c.in-14.is
 
 pub returns-in_default : goal.returns-in_default
 returns-in_default c = rw c.parent.ensures (parents _ _ _ _ _ _ (line c.wide.ensures.0 c.word.ensures c.word.type_inv c.node_line-x.ensures c.line_place.ensures c.wide-start.ensures.0 c.line_size-size.ensures c.hex_byte-shape.ensures.0) c.in_default.in_default-own.rest)

@@ -1,4 +1,4 @@
--- `tree::parent` meets its contract: the shape picks the arm as `parentW` picks, after the test for node 0.
+-- `tree::parent` meets its contract: the shape picks the arm as `parent_w` picks, after the test for node 0.
 use borrow.Author.Tests.{eq-eqb, ne_eqb}
 use Rattle.tree.specs.Nodes.{parent_w}
 use Rattle.tree.proofs.parent.Goals as goal

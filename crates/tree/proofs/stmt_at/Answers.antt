@@ -1,4 +1,4 @@
--- `tree::stmt_at` meets its contract: the tag byte picks the arm as `stmtOf` picks.
+-- `tree::stmt_at` meets its contract: the tag byte picks the arm as `stmt_of` picks.
 use borrow.Author.Tests.{ne_eqb}
 use Rattle.tree.specs.Nodes.{stmt_w, stmt_of}
 use Rattle.tree.proofs.stmt_at.Goals as goal

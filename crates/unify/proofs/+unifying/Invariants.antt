@@ -1,5 +1,5 @@
--- An entry costs a visit, and the visits left never grow: the measure is the visits left, and among calls with as many left
--- the place of a function on the way down from `unify_heads` to the next `unify`. Each arm is a law of its own.
+-- An entry costs a visit, and the visits left never grow: the measure is the visits left, and among calls with as many
+-- left the place of a function on the way down from `unify_heads` to the next `unify`. Each arm is a law of its own.
 use Prim.Native.Nat.{◌+◌, ◌-◌, ◌*◌}
 use Rattle.cells.proofs.Records.{FieldsGoing}
 use Rattle.cells.proofs.Unions.{UnionGoing}

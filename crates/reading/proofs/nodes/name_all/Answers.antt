@@ -10,9 +10,9 @@ use Rattle.reading.proofs.Referring.{all_names, all_fields_lem, all_no_name, all
 use Rattle.reading.proofs.nodes.name_all.Goals as goal
 use Rattle.reading.proofs.nodes.name_all.Goals.{in-3-1, in_default+else-this-lt6+then-this-lt8}
 
-pub returns-in_err-find_name-in-9 : goal.returns-in_err-find_name-in-9
-returns-in_err-find_name-in-9 c =
-    let m = told_missing c.in_err-find_name-in-9.ensures refl in
+pub returns-in_err-check_name-in-9 : goal.returns-in_err-check_name-in-9
+returns-in_err-check_name-in-9 c =
+    let m = told_missing c.in_err-check_name-in-9.ensures refl in
     let p = err_from_is_err_and c.from_residual.result c.from_residual.ensures.1 in
     rw (p.1, p.2) (missing m.0 (all_no_name _ c.args.s.now _ _ _ c.requires (rw c.byte.ensures.0 at c.in-9.is) (rw c.half.ensures.0 at m.1)))
 
@@ -27,9 +27,9 @@ returns-in-8 c = told_by
     (λ b n. all_fields_lem _ c.args.s.now _ _ _ c.requires (sym c.byte.ensures.0 ∙ c.in-8.is) _ b
     (rw (cut_pieces (edition_of c.args.edition) c.args.s.now c.args.w.now c.args.c.names c.args.c.nodes c.requires 4 _ _ c.past-rest.ensures c.as_chunks.ensures.front) at n)) c.name_fields.ensures
 
-pub returns-in_ok-find_name-in-9 : goal.returns-in_ok-find_name-in-9
-returns-in_ok-find_name-in-9 c =
-    let h = told_there c.in_ok-find_name-in-9.ensures refl in
+pub returns-in_ok-check_name-in-9 : goal.returns-in_ok-check_name-in-9
+returns-in_ok-check_name-in-9 c =
+    let h = told_there c.in_ok-check_name-in-9.ensures refl in
     told_by (λ b n. all_named _ c.args.s.now _ _ _ c.requires (rw c.byte.ensures.0 at c.in-9.is) (rw c.half.ensures.0 at h) _ b (rw c.half-in-9.ensures.0 at n))
     c.name_node.ensures
 
@@ -73,4 +73,4 @@ returns-in-3 c = told_by
       | in-3-1 w ↦ inl (omega (arith, c.byte.ensures.0))
       | in_default+else-this-lt6+then-this-lt8 w ↦ inr (six_or_seven _ (omega (arith, c.byte.ensures.0)) (omega (arith, c.byte.ensures.0)))
     ])
-    b (n ∙ ap (λ n. ltb n c.args.c.names) c.half-in-3.ensures.0)) c.find_name-in-3.ensures
+    b (n ∙ ap (λ n. ltb n c.args.c.names) c.half-in-3.ensures.0)) c.check_name-in-3.ensures

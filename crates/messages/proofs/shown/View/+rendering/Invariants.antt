@@ -10,4 +10,4 @@ abbrev pub decreases-render : goal.decreases-render
 decreases-render l = 2 * (length l.out.now - l.at) + 1
 
 abbrev pub invariant-cell-loop-j : goal.invariant-cell-loop-j
-invariant-cell-loop-j l = Celling l.self.f.now l.self.w.now l.initial.out l.initial.to l.resolve l.k l.c l.n l.out l.j l.to
+invariant-cell-loop-j l = Celling l.self.f.now l.self.w.now l.initial.out l.initial.to l.b l.k l.c l.n l.out l.j l.to

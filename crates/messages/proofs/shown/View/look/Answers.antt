@@ -1,6 +1,6 @@
--- By the flag.
+-- By whether bindings are followed.
 use Rattle.messages.proofs.Rendering.{look_follows}
 use Rattle.messages.proofs.shown.View.look.Goals as goal
 
-pub returns-then-resolve : goal.returns-then-resolve
-returns-then-resolve c = rw c.if-resolve.true (look_follows c.repr.ensures)
+pub returns-in-Followed : goal.returns-in-Followed
+returns-in-Followed c = rw c.in-Followed.is (look_follows c.repr.ensures)
