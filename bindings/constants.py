@@ -28,7 +28,7 @@ header, crate, python = text("bindings/c/sigla.h"), text("bindings/rust/src/refu
 tool = text("bindings/tool/src/explain.rs")
 
 # refusals: the variants of the enum in order, from 1
-variants = re.findall(r"^    ([A-Z]\w+),", re.search(r"pub enum Refusal \{(.*?)\}", text("crates/reading/src/lib.rt"), re.S)[1], re.M)
+variants = re.findall(r"^    ([A-Z]\w+)(?: = \d+)?,", re.search(r"pub enum Refusal \{(.*?)\}", text("crates/reading/src/lib.rt"), re.S)[1], re.M)
 numbers = text("crates/sigla_lib/specs/Numbers.antt")
 variants += re.findall(r"^inspect_number Inspected\.(\w+) = 18$", numbers, re.M)  # the plain solver's own, no refusal of the reading
 refusals = list(enumerate(variants, 1))
@@ -76,7 +76,7 @@ solver = text("bindings/rust/src/inspect.rs")
 same("inspect.rs, told", [(int(n), name) for n, name in re.findall(r"^        (\d) => Inspected::(\w+)", solver, re.M)], inspected)
 told = re.findall(r"\"(.*?)\"", re.search(r"^TOLD = \((.*?)\)", python, re.M)[1])
 same("sigla.py, told", [(n, camel(name.replace(" ", "_"))) for n, name in enumerate(told)], inspected)
-words = int(re.search(r"let mut lent = \[0u32; (\d+)\]", text("crates/sigla_inspect/src/main.rt"))[1])
+words = int(re.search(r"let mut lent = \[0(?:u32)?; (\d+)\]", text("crates/sigla_inspect/src/main.rt"))[1])
 same("sigla.h, LENT_WORDS", defines["LENT_WORDS"], words)
 same("inspect.rs, LENT", int(re.search(r"pub const LENT: usize = (\d+);", solver)[1]), words)
 same("sigla.py, LENT", of_python["LENT"], words)

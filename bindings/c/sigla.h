@@ -2,7 +2,7 @@
  * is `static inline` below is tested, not proved. docs/FORMAT.md has files, answers and refusals, sigla_answer.h a reader of answers.
  *
  * What do I link?         libsigla_lib.a, which `tools/build sigla_lib` makes in target/staticlib; installed it is libsigla.a, and
- *                         `pkg-config --cflags --libs sigla` has the words. Of the C library it needs memcpy and memset alone.
+ *                         `pkg-config --cflags --libs sigla` has the words. Of the C library it needs memcpy, memmove and memset.
  * What do I lend?         A work slice of SIGLA_WORDS words and a slice for the answer, SIGLA_BYTES bytes where you have no reason for
  *                         another length. They may hold anything before a call. The library allocates nothing and keeps no pointer.
  * What do I get back?     0, and the answer's lines stand in the slice, zeros after the last LF; or the refusal's number. After a refusal
