@@ -97,8 +97,7 @@ pub fn number_line(out: &mut [u8], at: usize, k: u32) -> Option<usize>
     close(out, at)
 }
 
-// The part up to mid and the part after it change places, by reversals: `rotate_left` takes 4 KiB of stack and memmove,
-// and the library for C gets along with memcpy and memset.
+// The part up to mid and the part after it change places, by reversals: `rotate_left` takes 4 KiB of stack.
 fn exchange(out: &mut [u8], mid: usize)
     requires { mid ≤ length out.old }
     ensures { out.new ≡ drop mid out.old ++ take mid out.old }
