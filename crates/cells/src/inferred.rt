@@ -6,8 +6,8 @@ ghost use Rattle.cells.specs.Inferred.{reserve_w, put_field_w, new_record_w, new
 use crate::Ty;
 use work::{Counters, put, run_of, wide, with_tag, word};
 
-// Room for n fields of a record that is being inferred: where they start. Here, in `new_record` and in `fresh_var_id` the
-// answer is a number also where there was no room: C calls them, and they can't fail there.
+// Room for n fields of a record that is being inferred: where they start. Here, in `new_record` and in `fresh_var_id`
+// something is answered also where there was no room: C calls them, and they can't fail there.
 #[tactic(auto, unfolding(crate::specs::Inferred::reserve_w))]
 pub fn reserve(w: &mut [u32], n: u32) -> u32
     ensures { (result ≡ get_or w.old RECORD-FIELD-COUNT 0) × (w.new ≡ reserve_w w.old n) }

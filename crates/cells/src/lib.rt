@@ -183,7 +183,8 @@ pub fn alternative(w: &[u32], c: u32, j: u32) -> Part
     }
 }
 
-// By `Kind`, as its promise and those of the searches are said of both: a checker that knows a cell has no type in hand.
+// By `Kind`, as its promise and those of the searches are said of both: a checker that knows a cell has no type in
+// hand.
 pub fn part_at(w: &[u32], k: Kind, c: u32, j: u32) -> Part
     ensures { result ≡ part_w w.now k c j }
 {

@@ -27,8 +27,8 @@ fn bind_var(w: &mut [u32], x: u32, t: Ty, left: u32) -> Result<u32, Failure>
     Ok(l)
 }
 
-// `got` is the type of the node that the caller reports at. Two parameters of these names: by a rule of the project they
-// follow ty.rs.
+// `got` is the type of the node that the caller reports at. Two parameters of these names: by a rule of the project
+// they follow ty.rs.
 #[cycle(unifying)]
 pub fn unify(w: &mut [u32], got: Ty, expected: Ty, left: u32) -> Result<u32, Failure>
     ensures { Unifies w.old got expected left w.new result }

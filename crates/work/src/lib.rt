@@ -49,8 +49,8 @@ impl Counters {
 
     pub const RECORD_FIELDS: u32 = 512;
 
-    // Entries of the environment, each with an unknown of its own. There are as many marks, one for each unknown, and at
-    // most as many entries leave unmarked.
+    // Entries of the environment, each with an unknown of its own. There are as many marks, one for each unknown, and
+    // at most as many entries leave unmarked.
     pub const ENTRIES: u32 = 512;
 
     // A visit of a node reports at most three.
@@ -111,8 +111,8 @@ pub const PLACE: usize = RECORD_COUNT + 5;
 pub const PLACE_HIGH: usize = RECORD_COUNT + 6;
 
 pub const FULL: usize = RECORD_COUNT + 7;
-// What ends the run early besides its visits, as a number: 0 nothing, 1 its first diagnostic, 2 an entry to `unify`; and
-// where it ended so, the visits left.
+// What ends the run early besides its visits, as a number: 0 nothing, 1 its first diagnostic, 2 an entry to `unify`;
+// and where it ended so, the visits left.
 pub const UNTIL: usize = RECORD_COUNT + 8;
 
 pub const LEFT: usize = RECORD_COUNT + 9;
