@@ -2,7 +2,7 @@
  * is `static inline` below is tested, not proved. docs/FORMAT.md has files, answers and refusals, sigla_answer.h a reader of answers.
  *
  * What do I link?         libsigla_lib.a, which `tools/build sigla_lib` makes in target/staticlib; installed it is libsigla.a, and
- *                         `pkg-config --cflags --libs sigla` has the words. Of the C library it needs memcpy, memmove and memset.
+ *                         `pkg-config --cflags --libs sigla` has the words. Of the C library it needs memcpy and memset alone.
  * What do I lend?         A work slice of SIGLA_WORDS words and a slice for the answer, SIGLA_BYTES bytes where you have no reason for
  *                         another length. They may hold anything before a call. The library allocates nothing and keeps no pointer.
  * What do I get back?     0, and the answer's lines stand in the slice, zeros after the last LF; or the refusal's number. After a refusal
@@ -32,7 +32,7 @@
 #define SIGLA_BYTES 65536       /* the answer bytes that the program lends */
 #define SIGLA_QUERIES 64        /* the most queries of a file */
 #define SIGLA_LENT_WORDS 65536  /* the words that the program lends to the plain solver */
-#define SIGLA_STACK 1048576     /* bytes of stack that suffice for every file tried (448,792 were used) */
+#define SIGLA_STACK 1048576     /* bytes of stack that suffice for every file tried (448,856 were used) */
 
 /* The limits of a file. */
 #define SIGLA_FILE_BYTES 65536

@@ -15,6 +15,7 @@ use Rattle.unification.specs.Ty as Tree
 use Rattle.unification.specs.Bindings.{State}
 use Rattle.unification.specs.Calls.{Admitted}
 use Rattle.unification.proofs.Tests.{clash}
+use Rattle.unification.proofs.Reach.{admitted_leaf}
 use Rattle.work.specs.Layout.{ENV, TYS}
 use Rattle.std.specs.Prelude.{cond, replicate}
 use Rattle.std.proofs.lemmas.List.{places}
@@ -26,7 +27,7 @@ use Rattle.cells.proofs.Frame.{keeps_refl, keeps_trans, keeps_sym, keeps_set, ke
 use Rattle.cells.proofs.Elsewhere.{keeps_env, holds_same}
 use Rattle.admitted.specs.Marks.{marked, item_w, good_w, Settles, Sound, Holding, Marks, unmarked, Passes, Unmarks}
 use Rattle.admitted.proofs.Telling.{Tells}
-use Rattle.admitted.proofs.Reaching.{leaf_admitted, holding_admitted, item_record, item_union, item_var, few, admitted_good}
+use Rattle.admitted.proofs.Reaching.{holding_admitted, item_record, item_union, item_var, few, admitted_good}
 
 -- ---- One mark
 marked_other : (w : List ℕ) (i v j : ℕ) → ¬ (j ≡ i) → marked (set w (ENV + i) v) j ≡ marked w j
@@ -185,10 +186,10 @@ settling_start {u} {w} l U = record { keeps = keeps_refl; long = omega (arith, U
     none i h g = let q = U.none i h in clash (cc)
 
     nothing : (T : Rows) (st : State) → Holds w T st → Sound w T st.subst
-    nothing T st H Int o g = leaf_admitted st.subst Tree.Int
-    nothing T st H Str o g = leaf_admitted st.subst Tree.String
-    nothing T st H Bytes o g = leaf_admitted st.subst Tree.Bytes
-    nothing T st H (Fact p) o g = leaf_admitted st.subst (Tree.Fact p)
+    nothing T st H Int o g = admitted_leaf st.subst Tree.Int
+    nothing T st H Str o g = admitted_leaf st.subst Tree.String
+    nothing T st H Bytes o g = admitted_leaf st.subst Tree.Bytes
+    nothing T st H (Fact p) o g = admitted_leaf st.subst (Tree.Fact p)
     nothing T st H (Record c) o g = none c (omega (arith, (item_record H c o).1)) g
     nothing T st H (Union c) o g = none c (omega (arith, (item_union H c o).1)) g
     nothing T st H (Var x) o g = none (768 + x) (few H x o) g

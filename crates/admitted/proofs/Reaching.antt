@@ -18,6 +18,7 @@ use Rattle.unification.specs.Calls as Calls
 use Rattle.unification.specs.Calls.{Reaches, itself, inside, through, ReachesRow, first, later, Allowed, Admitted}
 use Rattle.unification.specs.Acyclic.{Behind, Acyclic}
 use Rattle.unification.proofs.Tests.{clash}
+use Rattle.unification.proofs.Reach.{admitted_leaf}
 use Rattle.unification.proofs.Reach.{reaches_trans}
 use Rattle.work.specs.Layout.{TYPES, UNKNOWNS}
 use Rattle.cells.specs.declared.Ty.{Ty}
@@ -77,10 +78,6 @@ module _ (T : Rows) (w : List ℕ) (k : Kind) (c : ℕ) where
 
 -- ---- What a type reaches
 module _ (s : Subst) where
-  pub leaf_admitted : (p : Tree.Leaf) → Admitted s (Tree.leaf p)
-  unfolding Admitted
-  leaf_admitted p u itself = tt
-
   node_admitted : (k : Tree.Kind) (r : Row) → Allowed (Tree.node k r) → ((u : Tree.Ty) → ReachesRow s r u → Allowed u) → Admitted s (Tree.node k r)
   unfolding Admitted
   node_admitted k r a h u itself = a
@@ -119,10 +116,10 @@ module _ {w : List ℕ} {T : Rows} {st : State} (H : Holds w T st) where
     bound_sound x (Some u) q o g t e = let z : tree T u ≡ t = cc (bound_is x u q) in rw (← z) (S u o g)
 
     pub holding_admitted : (t : Ty) → Ok w t → Holding w t → Admitted st.subst (tree T t)
-    holding_admitted Int o h = leaf_admitted st.subst Tree.Int
-    holding_admitted Str o h = leaf_admitted st.subst Tree.String
-    holding_admitted Bytes o h = leaf_admitted st.subst Tree.Bytes
-    holding_admitted (Fact p) o h = leaf_admitted st.subst (Tree.Fact p)
+    holding_admitted Int o h = admitted_leaf st.subst Tree.Int
+    holding_admitted Str o h = admitted_leaf st.subst Tree.String
+    holding_admitted Bytes o h = admitted_leaf st.subst Tree.Bytes
+    holding_admitted (Fact p) o h = admitted_leaf st.subst (Tree.Fact p)
     holding_admitted (Record c) o h = node_admitted st.subst Tree.Record (T c) ((cell_distinct c o).0 h.1) (cell_sound Fields c o h.0)
     holding_admitted (Union c) o h = node_admitted st.subst Tree.Union (T c) tt (cell_sound Alternatives c o h)
     holding_admitted (Var x) o h = var_admitted st.subst x (bound_sound x (bound_w w x) refl (H.binds.ok x) h)

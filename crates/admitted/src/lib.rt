@@ -58,7 +58,7 @@ fn distinct(w: &[u32], c: u32) -> bool
 fn bound_good(w: &[u32], x: u32) -> bool
     ensures { IsTrue result ↔ BoundGood w.now (bound_w w.now x) }
 {
-    cells::var_ty(w, x).map_or(true, |t| good(w, t))
+    cells::var_ty(w, x).is_none_or(|t| good(w, t))
 }
 
 // Whether all that a type holds at once is good.

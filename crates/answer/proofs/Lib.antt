@@ -2,3 +2,4 @@ pub mod Resolving
 pub mod Noding
 pub mod Unusing
 pub mod Answering
+pub mod Exchanging

@@ -1,11 +1,11 @@
 -- The slot of a node holds no type or the type that it was found to be. To write the lines of the nodes from i on is to write
 -- them all.
-use Rattle.std.proofs.Common.{◌≡◌, ℕ, ◌+◌, ◌*◌, ◌≤◌, ◌<◌, List, [], ◌∷◌, ◌++◌, map, length, get_or, drop, None, Option, Some, refl, sym, ap, ◌∙◌, add-one, arith, drop_of_length-le, drop-cons, eq-eqb, ne_eqb}
+use Rattle.std.proofs.Common.{◌≡◌, ℕ, ◌+◌, ◌*◌, ◌≤◌, ◌<◌, List, [], ◌∷◌, ◌++◌, map, length, get_or, drop, None, Option, Some, refl, ◌∙◌, add-one, arith, drop_of_length-le, drop-cons}
 use Rattle.std.proofs.Math.ListN.{length-map, get_or-map}
 use Rattle.unification.specs.Bindings.{State}
 use Rattle.work.specs.Layout.{NODE-COUNT, TYS}
 use Rattle.cells.specs.declared.Ty.{Ty}
-use Rattle.cells.specs.Words.{ty_w, slot_w}
+use Rattle.cells.specs.Words.{slot_w}
 use Rattle.cells.specs.Stands.{Rows, Holds}
 use Rattle.meaning.specs.Check.{zonked}
 use Rattle.meaning.specs.Answer.{bytes₂, slot_bytes, hex_line, node_lines}
@@ -13,31 +13,21 @@ use Rattle.writer.specs.Writes.{Writes, Moves, hex_of}
 use Rattle.resolving.proofs.Typing.{resolves}
 use Rattle.answer.specs.Types.{WritesTy}
 use Rattle.answer.specs.Lines.{node_bytes, WritesSlot, WritesNodeLine, WritesNodeLines}
-use Rattle.writer.proofs.Writing.{writes_moves, full_moves, moves_then, moves_none, moves_next, Goes, goes_start}
+use Rattle.writer.proofs.Writing.{writes_moves, full_moves, moves_then, moves_next, Goes}
 use Rattle.writer.proofs.Writing.{goes_next, goes_full, goes_done}
 use Rattle.writer.proofs.Digits.{hex_then, hex_full, line_then, line_full}
 
 -- ---- A slot
-slot_free : (w : List ℕ) (i : ℕ) → get_or w i 0 ≡ 0 → slot_w w i ≡ None
-unfolding slot_w
-slot_free w i e = rw (eq-eqb _ _ e)
-
-slot_bound : (w : List ℕ) (i : ℕ) → ¬ (get_or w i 0 ≡ 0) → slot_w w i ≡ Some (ty_w (get_or w i 0) (get_or w (i + 1) 0))
-unfolding slot_w
-slot_bound w i e = rw (ne_eqb _ _ e)
-
-pub slot_none : {w out : List ℕ} {at n : ℕ} {out' : List ℕ} {r : Option ℕ} → get_or w (TYS + 2 * n) 0 ≡ 0 → Writes out at (hex_of (255 ∷ [])) out' r
+pub slot_none : {w out : List ℕ} {at n : ℕ} {out' : List ℕ} {r : Option ℕ} → slot_w w (TYS + 2 * n) ≡ None → Writes out at (hex_of (255 ∷ [])) out' r
     → WritesSlot w out at n out' r
 unfolding slot_bytes zonked
-slot_none {w} {out} {at} {n} e f = record { is = λ T st H l. rw (H.types.at n l, slot_free w (TYS + 2 * n) e) f; moves = writes_moves f }
+slot_none {w} {out} {at} {n} e f = record { is = λ T st H l. rw (H.types.at n l, e) f; moves = writes_moves f }
 
-pub slot_some : {w out : List ℕ} {at n : ℕ} {out' : List ℕ} {r : Option ℕ} (t : Ty) → ¬ (get_or w (TYS + 2 * n) 0 ≡ 0)
-    → t ≡ ty_w (get_or w (TYS + 2 * n) 0) (get_or w (TYS + 2 * n + 1) 0) → WritesTy w out at t out' r → WritesSlot w out at n out' r
+pub slot_some : {w out : List ℕ} {at n : ℕ} {out' : List ℕ} {r : Option ℕ} (t : Ty) → slot_w w (TYS + 2 * n) ≡ Some t → WritesTy w out at t out' r
+    → WritesSlot w out at n out' r
 unfolding slot_bytes zonked
-slot_some {w} {out} {at} {n} {out'} {r} t e q f = record {
-  is = λ T st H l.
-      let b : slot_w w (TYS + 2 * n) ≡ Some t = slot_bound w (TYS + 2 * n) e ∙ ap Some (sym q) in
-      rw (H.types.at n l, b) (f.is T st.subst (resolves H) (rw b at (H.types.ok n l)));
+slot_some {w} {out} {at} {n} {out'} {r} t e f = record {
+  is = λ T st H l. rw (H.types.at n l, e) (f.is T st.subst (resolves H) (rw e at (H.types.ok n l)));
   moves = f.moves;
 }
 
@@ -82,9 +72,6 @@ pub record Noding (w out₀ : List ℕ) (at n : ℕ) (out : List ℕ) (i to : �
   pub moves : Moves out₀ at out (Some to)
   pub go : (T : Rows) (st : State) → Holds w T st → get_or w NODE-COUNT 0 ≡ length st.tys → at ≤ length out₀
       → Goes out₀ at (lines_from st 0) out to (lines_from st i)
-
-pub nodes_start : (w out : List ℕ) (at n : ℕ) → n ≡ get_or w NODE-COUNT 0 → Noding w out at n out 0 at
-nodes_start w out at n e = record { within = omega arith; all = e; moves = moves_none out at; go = λ T st H c l. goes_start out at _ _ l refl }
 
 module _ {w out₀ : List ℕ} {at n : ℕ} {out : List ℕ} {i to : ℕ} (g : Noding w out₀ at n out i to) where
   module _ (l : i < n) {out' : List ℕ} {r : Option ℕ} (f : WritesNodeLine w out to i out' r) where

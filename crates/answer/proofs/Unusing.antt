@@ -19,7 +19,7 @@ use Rattle.state.specs.Runs.{span_of, Runs}
 use Rattle.state.specs.Lines.{WritesUnusedLine}
 use Rattle.state.proofs.Telling.{span_at}
 use Rattle.writer.specs.Writes.{Writes}
-use Rattle.writer.proofs.Writing.{writes_as, Goes, goes_start, goes_next, goes_full, goes_done}
+use Rattle.writer.proofs.Writing.{writes_as, Goes, goes_next, goes_full, goes_done}
 use Rattle.answer.specs.Lines.{WritesUnusedLines}
 use Rattle.std.specs.Prelude.{None, Option, Some}
 
@@ -70,14 +70,6 @@ pub record Unusing (f w out₀ : List ℕ) (at n : ℕ) (out : List ℕ) (i to :
   pub all : n ≡ get_or w UNUSED-COUNT 0
   pub long : length out ≡ length out₀
   pub go : (T : Rows) (d : Described) (c : Checker) → Runs f w T d c → at ≤ length out₀ → Goes out₀ at (lines_from d w 0 n) out to (lines_from d w i (n - i))
-
-pub unused_start : (f w out : List ℕ) (at n : ℕ) → n ≡ get_or w UNUSED-COUNT 0 → Unusing f w out at n out 0 at
-unused_start f w out at n e = record {
-  within = omega arith;
-  all = e;
-  long = refl;
-  go = λ T d c R l. let z : n - 0 ≡ n = omega arith in goes_start out at _ _ l (rw z);
-}
 
 module _ {f w out₀ : List ℕ} {at n : ℕ} {out : List ℕ} {i to : ℕ} (g : Unusing f w out₀ at n out i to) where
   module _ (l : i < n) {node place : ℕ} (q : node ≡ get_or w (UNUSED + place) 0) (p : place ≡ i) {out' : List ℕ} {r : Option ℕ}

@@ -7,7 +7,7 @@ ghost use Rattle.cabinet.specs.Promises.{At, IsAt, Validates, SetsUp, Ceils, Res
 
 use std::array;
 use std::marker::Model;
-use work::Counters;
+use work::{Counters, wide};
 
 // The most desks of a group.
 pub const DESKS: usize = 16;
@@ -41,11 +41,7 @@ fn held(desks: &[Desk]) -> u64
     requires { length desks.now ≤ 16 }
     ensures { result ≡ sum_by larger desks.now }
 {
-    let mut sum = 0;
-    for d in desks {
-        sum += u64::from(d.kept());
-    }
-    sum
+    desks.iter().map(|d| u64::from(d.kept())).sum()
 }
 
 // The first `count` places are the desks. An array and a count: there is no heap, and C hands in any count.
@@ -105,8 +101,7 @@ impl Group {
     pub fn is_valid(&self) -> bool
         ensures { Validates self.now result }
     {
-        // By `as`, here and below: u32 has no `From` into usize, and a u32 fits.
-        match self.desks.get(..self.count as usize) {
+        match self.desks.get(..wide(self.count)) {
             None | Some([]) => false,
             Some(desks) => are_within_caps(desks) && held(desks) <= u64::from(self.pool),
         }
@@ -116,7 +111,7 @@ impl Group {
     pub fn is_at(&self, desk: usize) -> bool
         ensures { IsAt self.now desk result }
     {
-        self.is_valid() && desk < self.count as usize
+        self.is_valid() && desk < wide(self.count)
     }
 
     // The desk of this number, if the group obeys the rules and has it.
@@ -188,12 +183,19 @@ impl Seat {
         self.group
     }
 
+    // Its number in the group. That the group has it, the first clause of `group` says.
+    pub fn desk(self) -> usize
+        ensures { result ≡ self.desk }
+    {
+        self.desk
+    }
+
     // What every other desk keeps.
     fn others(&self) -> u64
         ensures { result ≡ total (but self.now.desk (λ i. larger (desk self.now.group i))) self.now.group.count }
     {
         let g = &self.group;
-        held(&g.desks[..g.count as usize]) - u64::from(g.desks[self.desk].kept())
+        held(&g.desks[..wide(g.count)]) - u64::from(g.desks[self.desk].kept())
     }
 
     // The smallest of the card's three numbers.

@@ -1,4 +1,6 @@
-// Crate calls for programs in other languages: every slice goes as a pointer and a length.
+// Crate calls for programs in other languages: every slice goes as a pointer and a length. A static library exports the
+// C names, and no crate can use one, so the functions that crate runs speaks of are those of crate calls: the same
+// eight, with the same clauses.
 #![tactic(auto)]
 
 ghost use Rattle.std.specs.Prelude.{◌≡◌, get_or};

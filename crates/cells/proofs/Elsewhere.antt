@@ -6,7 +6,7 @@ use Prim.Native.Nat.{ℕ, ◌+◌, ◌*◌, ◌<◌, ◌≤◌}
 use native.Mathlib.Omega.{arith}
 use lib.ListN.{length, get_or}
 use Rattle.unification.specs.Bindings.{State}
-use Rattle.work.specs.Layout.{ENV-LEN, UNKNOWNS, ENV, TYS, BINDINGS, UNDO, UNDO-LEN, END}
+use Rattle.work.specs.Layout.{UNKNOWNS, ENV, TYS, BINDINGS, UNDO, UNDO-LEN, END}
 use Rattle.cells.specs.Words.{slot_w, bound_w}
 use Rattle.cells.specs.Stands.{Rows, bound_tree, Cells, Holds, Keeps}
 use Rattle.cells.specs.Inferred.{More}
@@ -71,14 +71,4 @@ keeps_env lo hi k = record {
     unknowns = omega (arith, k.below UNKNOWNS (omega arith));
   };
   slots = record { unknowns = k.below UNKNOWNS (omega arith); at = λ i l h. k.above i (omega arith); long = k.long };
-}
-
-pub keeps_counts : {a e : ℕ} {w w' : List ℕ} → ENV-LEN ≤ a → e ≤ UNKNOWNS → Keeps a e w w' → SameState w w'
-keeps_counts lo hi k = record {
-  cells = record {
-    said = λ i h. k.below i (omega arith);
-    made = λ i l h. k.above i (omega arith);
-    unknowns = omega (arith, k.above UNKNOWNS (omega arith));
-  };
-  slots = record { unknowns = k.above UNKNOWNS (omega arith); at = λ i l h. k.above i (omega arith); long = k.long };
 }

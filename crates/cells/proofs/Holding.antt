@@ -30,9 +30,8 @@ use Rattle.std.specs.Prelude.{None, Option, Some}
 
 -- ---- Visits and history are in no word
 module _ {w : List ℕ} {T : Rows} {st : State} (H : Holds w T st) where
-  pub holds_left : (v : ℕ) → Holds w T (with_left st v)
-  unfolding with_left
-  holds_left v = record {
+  holds_beside : (v : ℕ) (h : History) → Holds w T (record st { left = v; history = h })
+  holds_beside v h = record {
     long = H.long;
     cells = H.cells;
     binds = H.binds;
@@ -44,19 +43,13 @@ module _ {w : List ℕ} {T : Rows} {st : State} (H : Holds w T st) where
     few_nodes = H.few_nodes;
   }
 
+  pub holds_left : (v : ℕ) → Holds w T (with_left st v)
+  unfolding with_left
+  holds_left v = holds_beside v st.history
+
   pub holds_history : (h : History) → Holds w T (with_history st h)
   unfolding with_history
-  holds_history h = record {
-    long = H.long;
-    cells = H.cells;
-    binds = H.binds;
-    types = H.types;
-    undo = H.undo;
-    logged = H.logged;
-    acyclic = H.acyclic;
-    few_unknowns = H.few_unknowns;
-    few_nodes = H.few_nodes;
-  }
+  holds_history h = holds_beside st.left h
 
 pub undo_length : (w : List ℕ) (n : ℕ) → length (undo_of w n) ≡ n
 unfolding undo_of

@@ -31,7 +31,7 @@ unfolding row_len row_from
 row_length T w k c zero j = refl
 row_length T w k c (suc n) j = ap suc (row_length T w k c n (j + 1))
 
-cell_length : {w : List ℕ} {T : Rows} → Cells w T → (k : Kind) (c : ℕ) → IsCell w k c → row_len (T c) ≡ count_w w c
+pub cell_length : {w : List ℕ} {T : Rows} → Cells w T → (k : Kind) (c : ℕ) → IsCell w k c → row_len (T c) ≡ count_w w c
 unfolding row_w
 cell_length {w} {T} C k c i = ap row_len (C.row k c i) ∙ row_length T w k c (count_w w c) 0
 

@@ -3,13 +3,14 @@
 use mathlib.Core.List.{List, []}
 use mathlib.Core.Path.{◌≡◌, refl, sym}
 use mathlib.Core.WellFounded.Acc
-use Prim.Native.Nat.{ℕ, zero, suc, ◌+◌, ◌*◌, ◌<◌, ◌≤◌}
+use Prim.Native.Nat.{ℕ, ◌+◌, ◌*◌, ◌<◌, ◌≤◌}
 use native.Mathlib.Omega.{arith}
 use lib.ListN.{length, get_or, replicate, length-replicate}
 use borrow.Author.Tests.{le-ltb}
 use Rattle.unification.specs.Ty as Tree
 use Rattle.unification.specs.Bindings.{bound, History, State}
 use Rattle.unification.proofs.Tests.{clash}
+use Rattle.unification.proofs.Sides.{bound_pad}
 use Rattle.unification.specs.Acyclic.{Behind, Acyclic}
 use Rattle.work.specs.Layout.{UNKNOWNS, TYS, UNDO-LEN, END}
 use Rattle.cells.specs.Words.{slot_w, bound_w}
@@ -20,11 +21,6 @@ use Rattle.std.specs.Prelude.{None, Option}
 acyclic_none : Acyclic []
 unfolding Acyclic Behind bound
 acyclic_none x = Acc.intro x (λ y b. clash (cc b.1))
-
-replicate_none : (n i : ℕ) → get_or (replicate {A = Option Tree.Ty} n None) i None ≡ None
-replicate_none zero i = refl
-replicate_none (suc n) zero = refl
-replicate_none (suc n) (suc i) = replicate_none n i
 
 no_bound : (w : List ℕ) (x : ℕ) → get_or w UNKNOWNS 0 ≡ 0 → bound_w w x ≡ None
 unfolding bound_w
@@ -41,11 +37,11 @@ start_holds {w} {T} n v h long few C unknowns log free = record {
   cells = C;
   binds = record { unknowns = sym unknowns; at = λ x. rw (no_bound w x unknowns); ok = λ x. rw (no_bound w x unknowns) tt };
   types = record {
-    at = λ i lt. rw (slot i lt) (replicate_none n i);
+    at = λ i lt. rw (slot i lt) (bound_pad [] n i);
     ok = λ i lt. rw (slot i lt) tt;
   };
   undo = rw log;
-  logged = none_set (λ x. refl) (λ i. replicate_none n i);
+  logged = none_set (λ x. refl) (λ i. bound_pad [] n i);
   acyclic = acyclic_none;
   few_unknowns = omega arith;
   few_nodes = omega (arith, length-replicate {A = Option Tree.Ty} n None);

@@ -44,7 +44,8 @@ pub enum Failure {
 }
 
 // A cell's field or alternative: in a record the key is the name and the label 0, in a union the key is the
-// discriminant and the label the name.
+// discriminant and the label the name. The label is no Option: whoever asks for an alternative's would unwrap it, and
+// for a field's nobody asks.
 #[derive(Drop)]
 pub struct Part {
     pub key: u32,
@@ -85,6 +86,7 @@ impl Ty {
         }
     }
 
+    // The variants hold numbers, so `as` gives none.
     pub fn tag(self) -> u32
         ensures { result ≡ tag_w self }
     {
@@ -136,7 +138,7 @@ pub fn count(w: &[u32], c: u32) -> u32
     }
 }
 
-// Each is asked without the other: a pair would read a word more.
+// Each is asked without the other: a pair would be taken apart at each call.
 #[tactic(auto, unfolding(crate::specs::Words::first_w))]
 pub fn first(w: &[u32], c: u32) -> usize
     ensures { (result ≡ first_w w.now c) × (result < 4294967296) }
@@ -195,7 +197,8 @@ pub fn part_at(w: &[u32], k: Kind, c: u32, j: u32) -> Part
 }
 
 // The key alone, in a cell whose parts start at f: a search asks for each part's key and for nothing else of it, and
-// reads once where they start. A record of 120 fields takes a fifth fewer instructions so.
+// reads once where they start. By `key_at` a record of 120 fields takes a quarter more instructions; the bar is what it
+// took before.
 #[tactic(auto, unfolding(crate::specs::Words::field_w, crate::specs::Words::declared_field, crate::specs::Words::made_field, crate::specs::Words::alternative_w))]
 pub fn key_from(w: &[u32], k: Kind, c: u32, f: usize, j: u32) -> u32
     requires { (f ≡ first_w w.now c) × (f < 4294967296) }
@@ -299,7 +302,7 @@ fn inside(w: &[u32], i: usize) -> u32
 }
 
 // The same from an unknown on, where all bindings are within the slice: no read is tested. `follow_any` tests each,
-// which makes long chains slow.
+// which makes long chains slow: the bench's `chain-50` to `chain-400` (docs/BENCH.md).
 fn follow_within(w: &[u32], from: u32, n: u32) -> Ty
     requires { (n ≡ get_or w.now UNKNOWNS 0) × (n ≤ 512) × (UNDO ≤ length w.now) }
     ensures { Reprs w.now (Ty.Var from) result }
@@ -368,7 +371,7 @@ pub fn part_of(w: &[u32], t: Ty, j: u32) -> Part
 }
 
 // Its type alone, here and below: by the whole part, unions of 63 and files of many visits take up to 3 per cent more
-// instructions, which docs/PERFORMANCE.md has the bar for.
+// instructions; the bar is what they took before.
 #[tactic(auto, unfolding(crate::specs::Words::field_w, crate::specs::Words::declared_field, crate::specs::Words::made_field))]
 fn field_ty(w: &[u32], c: u32, j: u32) -> Ty
     ensures { result ≡ (field_w w.now c j).ty }
@@ -448,7 +451,7 @@ pub fn fresh_var_id(w: &mut [u32]) -> u32
     x
 }
 
-// A type in two words.
+// A type in two words. No `From` and no struct of both: the slice holds words alone, as at `from_words`.
 #[tactic(auto, unfolding(crate::specs::Words::put_ty))]
 pub fn put_ty(w: &mut [u32], at: usize, t: Ty)
     requires { at < 16384 }

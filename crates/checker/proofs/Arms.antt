@@ -27,7 +27,7 @@ use Rattle.meaning.proofs.Steps.{Nothing, fresh_var_id_meets}
 use Rattle.meaning.proofs.Visits.{repr_side, size_pos, key_declared}
 use Rattle.tree.specs.declared.Node.{Node}
 use Rattle.tree.specs.declared.items.Items.{Items}
-use Rattle.tree.specs.declared.Stmts.{Stmts}
+use Rattle.tree.specs.declared.items.Stmts.{Stmts}
 use Rattle.tree.specs.Nodes.{fields_from, items_from, stmts_w, kind_w, IsNode}
 use Rattle.steps.specs.Loads.{Load, only, both, FitsIn, infers, checks, visits, parts, Begins}
 use Rattle.steps.specs.Promises.{nodes_of, Fine, Freshens, fuzzy, Fuzzes, KeyIs, OnType}

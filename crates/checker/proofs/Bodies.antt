@@ -32,7 +32,7 @@ use Rattle.state.proofs.Scoping.{runs_env_length}
 use Rattle.sigla_hex.specs.Digits.{digits_w}
 use Rattle.messages.specs.declared.Message.TheVariants as Message
 use Rattle.tree.specs.declared.items.Items.{Items}
-use Rattle.tree.specs.declared.Stmts.{Stmts}
+use Rattle.tree.specs.declared.items.Stmts.{Stmts}
 use Rattle.tree.specs.declared.Node.{Node}
 use Rattle.tree.specs.declared.Stmt.{Stmt}
 use Rattle.tree.specs.Nodes.{kind_w, IsNode, statement, stmt_w, stmt_size_w, stmts_from, stmts_w}

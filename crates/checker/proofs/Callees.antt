@@ -16,11 +16,10 @@ use Rattle.messages.specs.declared.Message.{Message}
 use Rattle.messages.specs.Said.{report_message}
 use Rattle.state.specs.Words.{leave_w}
 use Rattle.state.specs.Lines.{Rejected}
-use Rattle.tree.specs.declared.Node.{Node}
 use Rattle.tree.specs.declared.items.Items.{Items}
 use Rattle.tree.specs.declared.Field.{Field}
 use Rattle.tree.specs.declared.Stmt.{Stmt}
-use Rattle.tree.specs.Nodes.{IsNode, item_w, field_w, stmt_w, stmt_size_w}
+use Rattle.tree.specs.Nodes.{LowerItems, item_w, field_w, stmt_w, stmt_size_w}
 use Rattle.tree.proofs.Below.{stmt_size}
 use Rattle.tree.proofs.Steps.{field_lower, item_lower, LowerStmt, stmt_lower}
 use Rattle.steps.specs.Promises.{nodes_of, Rejects, Notes, Freshens, Reports, RollsTo, Leaves, KeyIs, OnType}
@@ -29,13 +28,10 @@ use Rattle.steps.specs.Outside.{key_ty_w, Takes, Rewinds, KeyOf, ValueOf}
 use Rattle.steps.proofs.Ending.{rejects, notes, freshens}
 use Rattle.steps.proofs.Looking.{key_is}
 use Rattle.steps.proofs.Besides.{reports, rolls, leaves}
-use Rattle.checker.specs.Promises.{Infers, Checks, Generates, Mentions}
+use Rattle.checker.specs.Promises.{Checks, Generates, Mentions}
 use Rattle.checker.proofs.Alls.{Turn}
 use Rattle.std.specs.Prelude.{Option, ℕ}
 use Rattle.cells.specs.declared.Part.{Part}
-
-pub as_node_lem : {f w : List ℕ} {n : ℕ} {r nd : Node} → r ≡ nd → IsNode f w n r → IsNode f w n nd
-as_node_lem {f} {w} {n} e i = subst (λ (x : Node). IsNode f w n x) e i
 
 pub rejects_by : {f w ou w' ou' : List ℕ} {n left : ℕ} {m : Message} {r : Option ℕ} → Rejected f w ou n m left w' ou' r → Rejects f w ou n m left w' ou' r
 rejects_by {f} {w} {n = n} {left = left} {m = m} x = rejects f w n m left x
@@ -76,11 +72,14 @@ unfolding Check.access_of
 value_on v = v
 
 -- ---- Parts read from the file
-pub item_falls : (f : List ℕ) (l : Items) (i : ℕ) {e : ℕ} → i < l.n → e ≡ item_w f l i → e < l.below
-item_falls f l i h q = rw q (item_lower f l i (l.lower (omega arith)))
+pub items_some : {n : ℕ} {l : Items} → LowerItems n l → 0 < l.n → 0 < l.below
+items_some low h = omega (arith, low.some h, low.below)
 
-pub field_falls : (f : List ℕ) (l : Items) (i : ℕ) {e : Field} → i < l.n → e ≡ field_w f l i → e.value < l.below
-field_falls f l i h q = rw q (field_lower f l i (l.lower (omega arith)))
+pub item_falls : (f : List ℕ) (l : Items) (i : ℕ) {e : ℕ} → (0 < l.n → 0 < l.below) → i < l.n → e ≡ item_w f l i → e < l.below
+item_falls f l i some h q = rw q (item_lower f l i (some (omega arith)))
+
+pub field_falls : (f : List ℕ) (l : Items) (i : ℕ) {e : Field} → (0 < l.n → 0 < l.below) → i < l.n → e ≡ field_w f l i → e.value < l.below
+field_falls f l i some h q = rw q (field_lower f l i (some (omega arith)))
 
 pub stmt_falls : (f : List ℕ) (at : ℕ) {n : ℕ} {s s' : Stmt} → 0 < n → s ≡ stmt_w f at n → s ≡ s' → LowerStmt n s'
 stmt_falls f at {n} h p q = subst (λ (x : Stmt). LowerStmt n x) (sym p ∙ q) (stmt_lower f at n h)
@@ -98,10 +97,6 @@ generates_at {f} {w} {ou} {w'} {ou'} {left = left} {r = r} q u = subst (λ (y : 
 pub mentions_at : {f w ou w' ou' : List ℕ} {e left : ℕ} {x y : Field} {r : Option ℕ} → x ≡ y → Mentions f w ou x.name x.value e left w' ou' r
     → Mentions f w ou y.name y.value e left w' ou' r
 mentions_at {f} {w} {ou} {w'} {ou'} {e} {left} {r = r} q u = subst (λ (z : Field). Mentions f w ou z.name z.value e left w' ou' r) q u
-
-pub infers_at : {f w ou w' ou' : List ℕ} {left : ℕ} {x y : Field} {r : Option (Ty × ℕ)} → x ≡ y → Infers f w ou x.value left w' ou' r
-    → Infers f w ou y.value left w' ou' r
-infers_at {f} {w} {ou} {w'} {ou'} {left} {r = r} q u = subst (λ (z : Field). Infers f w ou z.value left w' ou' r) q u
 
 pub checks_at : {f w ou w' ou' : List ℕ} {left : ℕ} {t : Ty} {x y : Field} {r : Option ℕ} → x ≡ y → Checks f w ou x.value t left w' ou' r
     → Checks f w ou y.value t left w' ou' r

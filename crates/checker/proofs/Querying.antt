@@ -22,8 +22,8 @@ use Rattle.tree.specs.Stands.{Stands}
 use Rattle.meaning.specs.Grades.{Grade, Orderly, Ready, no_thing, one_diagnostic}
 use Rattle.meaning.proofs.Steps.{Nothing, IsSide}
 use Rattle.meaning.proofs.Visits.{size_pos, stmts_meets, head_form_meets, infer_query_meets}
-use Rattle.tree.specs.declared.Stmts.{Stmts}
-use Rattle.tree.specs.Nodes.{stmts_w, head_w, body_w}
+use Rattle.tree.specs.declared.items.Stmts.{Stmts}
+use Rattle.tree.specs.Nodes.{stmts_w, head_w, BodyIs}
 use Rattle.tree.proofs.QuerySays.{query_head_is, query_body_is}
 use Rattle.meaning.proofs.Lists.{all_map}
 use Rattle.meaning.proofs.Tests.{all_below_lem}
@@ -191,11 +191,7 @@ ran (spent g) = ended_early g.T' g.runs g.lines g.is.1 g.is.0
 query_named : (d : Described) → Sound d → AllNamed d (depth d) (query_nodes d.ast.query)
 query_named d sound = all_map (λ m. m < depth d) (Named d (depth d)) (query_nodes d.ast.query) (λ m l. record { there = l; under = l }) sound.query
 
-pub body_lower : (w : List ℕ) {b : Stmts} → b ≡ body_w w → 0 < b.below
-unfolding body_w
-body_lower w q = rw q (omega arith)
-
-module _ {f w w₁ : List ℕ} {u : Code.Until} (ceiling : ℕ) {head : ℕ} {b : Stmts} (S : StartsRun w u w₁) (hd : head ≡ head_w f w₁) (bd : b ≡ body_w w₁) where
+module _ {f w w₁ : List ℕ} {u : Code.Until} (ceiling : ℕ) {head : ℕ} {b : Stmts} (S : StartsRun w u w₁) (hd : head ≡ head_w f w₁) (bd : BodyIs w₁ b) where
   module _ (ou : List ℕ) (T : Rows) (d : Described) (sound : Sound d) (stands : Stands f w T d) where
     starts : Begins f w₁ ou T d (visits (nodes_of d) (depth d) (query_nodes d.ast.query)) ceiling (begin_until (until_of u) ceiling (depth d))
     starts = query_begins u T d ceiling (S.is f) sound stands
@@ -204,7 +200,7 @@ module _ {f w w₁ : List ℕ} {u : Code.Until} (ceiling : ℕ) {head : ℕ} {b 
     head_is = hd ∙ query_head_is f w₁ d.ast.query starts.runs.stands.query
 
     body_says : d.ast.query.body ≡ stmts_w f b
-    body_says = sym (ap (stmts_w f) bd ∙ query_body_is f w₁ d.ast.query starts.runs.stands.query (depth d) starts.runs.stands.few
+    body_says = sym (query_body_is f w₁ d.ast.query starts.runs.stands.query bd (depth d) starts.runs.stands.few
         (rw (all_below_lem (depth d) (query_nodes d.ast.query) sound.query) tt))
 
   module _ {ou w₂ ou₂ : List ℕ} {x : Option ℕ} (D : StatesAll f w₁ ou b ceiling w₂ ou₂ x) where

@@ -5,7 +5,7 @@
 -- node, the greater of two, or for items and statements their `below`, under which stands all that they name. Ranks:
 -- 0 infer_record infer_all branches check_fields stmt   1 stmts   2 subquery   3 infer_kind   4 infer   5
 -- infer_then_unify generator bind_name not_yet destructure   6 check_union bind deny compare   8 check   9 check_field
--- fact For it the functions over items need `0 < n → 0 < below`, `subquery` that its head is under `below`, and those
+-- fact. For it the functions over items need `0 < n → 0 < below`, `subquery` that its head is under `below`, and those
 -- that take a node with its items that `below` is the node: `Lower` of tree/specs/Nodes.antt says so, whatever the file
 -- holds.
 use Rattle.std.specs.Prelude.{List, [], ◌∷◌, ◌≡◌, ℕ, suc, ◌<◌, length, None, Option, Some}
@@ -29,7 +29,7 @@ use Rattle.state.specs.Runs.{Runs}
 use Rattle.state.specs.Lines.{Told, AtEntry, until_of}
 use Rattle.state.specs.declared.Until.{Until}
 use Rattle.tree.specs.declared.items.Items.{Items}
-use Rattle.tree.specs.declared.Stmts.{Stmts}
+use Rattle.tree.specs.declared.items.Stmts.{Stmts}
 use Rattle.tree.specs.Nodes.{fields_from, items_from, statement, stmt_w, stmts_w}
 use Rattle.steps.specs.Ends.{typed, done}
 use Rattle.steps.specs.Loads.{only, infers, finds, checks, visits, parts, Beside}

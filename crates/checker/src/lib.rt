@@ -3,6 +3,7 @@
 #![tactic(auto)]
 
 ghost use Rattle.std.specs.Prelude.{◌≡◌, ◌<◌};
+ghost use Rattle.tree.specs.Nodes.{LowerItems};
 ghost use Rattle.state.specs.Running.{with_left, left_if, Lent};
 ghost use Rattle.checker.specs.Promises.{InfersRecord, InfersAll, Subqueries, Facts, InfersKind, Infers, InfersThenUnifies, Mentions, ChecksFields, ChecksUnion, Checks, Generates, Branches, BindsVariable, NotYets, Destructures, Binds, Denies, Compares, States, StatesAll, Queries};
 
@@ -12,8 +13,10 @@ use state::{Run, Until};
 use tree::{Items, Node, Stmt, Stmts};
 use work::{Counters, word};
 
+// That a lower node is there is asked here, not in the type: `tree::field_at` and `item_at` do without it.
 #[cycle(checking)]
 fn infer_record(run: &mut Run, items: Items) -> Option<Ty>
+    requires { 0 < items.n → 0 < items.below }
     ensures is { InfersRecord run.old.file.now run.old.words.now run.old.out.now items run.old.left run.new.words.now run.new.out.now (with_left result run.new.left) }
     ensures lent { Lent run.old run.new }
 {
@@ -34,6 +37,7 @@ fn infer_record(run: &mut Run, items: Items) -> Option<Ty>
 // Each operand or branch, unified with one type.
 #[cycle(checking)]
 fn infer_all(run: &mut Run, items: Items, with: Ty) -> Option<Ty>
+    requires { 0 < items.n → 0 < items.below }
     ensures is { InfersAll run.old.file.now run.old.words.now run.old.out.now items with run.old.left run.new.words.now run.new.out.now (with_left result run.new.left) }
     ensures lent { Lent run.old run.new }
 {
@@ -47,7 +51,7 @@ fn infer_all(run: &mut Run, items: Items, with: Ty) -> Option<Ty>
 
 #[cycle(checking)]
 fn subquery(run: &mut Run, head: u32, body: Stmts) -> Option<Ty>
-    requires { (head < body.below) × (body.end < 2147483648) }
+    requires { head < body.below }
     ensures is { Subqueries run.old.file.now run.old.words.now run.old.out.now head body run.old.left run.new.words.now run.new.out.now (with_left result run.new.left) }
     ensures lent { Lent run.old run.new }
 {
@@ -158,6 +162,7 @@ fn check_field(run: &mut Run, c: u32, name: u32, value: u32) -> Option<()>
 
 #[cycle(checking)]
 fn check_fields(run: &mut Run, items: Items, c: u32) -> Option<()>
+    requires { 0 < items.n → 0 < items.below }
     ensures is { ChecksFields run.old.file.now run.old.words.now run.old.out.now items c run.old.left run.new.words.now run.new.out.now (left_if result run.new.left) }
     ensures lent { Lent run.old run.new }
 {
@@ -170,7 +175,7 @@ fn check_fields(run: &mut Run, items: Items, c: u32) -> Option<()>
 
 #[cycle(checking)]
 fn check_union(run: &mut Run, n: u32, items: Items, c: u32) -> Option<()>
-    requires { items.below ≡ n }
+    requires { LowerItems n items }
     ensures is { ChecksUnion run.old.file.now run.old.words.now run.old.out.now n items c run.old.left run.new.words.now run.new.out.now (left_if result run.new.left) }
     ensures lent { Lent run.old run.new }
 {
@@ -232,6 +237,7 @@ pub fn generator(run: &mut Run, n: u32) -> Option<Ty>
 
 #[cycle(checking)]
 fn branches(run: &mut Run, items: Items) -> Option<Ty>
+    requires { 0 < items.n → 0 < items.below }
     ensures is { Branches run.old.file.now run.old.words.now run.old.out.now items run.old.left run.new.words.now run.new.out.now (with_left result run.new.left) }
     ensures lent { Lent run.old run.new }
 {
@@ -290,7 +296,7 @@ fn bind(run: &mut Run, lhs: u32, rhs: u32) -> Option<()>
         }
         Node::Var(symbol) => bind_name(run, symbol, lhs, rhs),
         Node::Record(_) => {
-            if steps::destructurable(run, lhs) {
+            if steps::destructurable(run.file, run.view(), lhs) {
                 destructure(run, lhs, rhs)
             } else {
                 not_yet(run, lhs, rhs, Message::MatchedPatterns)
@@ -362,7 +368,6 @@ fn stmt(run: &mut Run, at: usize, below: u32) -> Option<()>
 
 #[cycle(checking)]
 fn stmts(run: &mut Run, body: Stmts) -> Option<()>
-    requires { (0 < body.below) × (body.end < 2147483648) }
     ensures is { StatesAll run.old.file.now run.old.words.now run.old.out.now body run.old.left run.new.words.now run.new.out.now (left_if result run.new.left) }
     ensures lent { Lent run.old run.new }
 {
@@ -378,7 +383,7 @@ fn stmts(run: &mut Run, body: Stmts) -> Option<()>
 }
 
 // The query of the file that was read: every type and diagnostic is then in the slice. The head is inferred last, and
-// then every entry leaves.
+// then every entry leaves. What crate desk lends becomes a run here.
 pub fn query(f: &[u8], w: &mut [u32], until: Until, ceiling: u32, out: &mut [u8]) -> Option<u32>
     ensures { Queries f.now w.old out.old until ceiling w.new out.new result }
 {

@@ -17,7 +17,6 @@ use Rattle.meaning.specs.Conditions.{any_of}
 use Rattle.meaning.specs.Answer.{bytes₂, bytes₄}
 use Rattle.meaning.specs.Writing.{as_reference, as_shape, as_expr, as_node, as_content, written, ExprFits, Fits}
 use Rattle.meaning.proofs.Tests.{cases}
-use Rattle.sigla_hex.proofs.Line.{no_some}
 use Rattle.frames.specs.Promises.{byte_w, half_w, full_w}
 use Rattle.frames.proofs.Shapes.{to_end}
 use Rattle.editions.specs.Converted.{shape_predicates, expr_predicates, predicates}
@@ -97,7 +96,7 @@ names g {i} h = go g (view g) h
     go : (g : Frame) → View g → Some i ≡ place_of g → Names g i
     go g (a_type_lem p) h = subst (Names (a_type (a_leaf (Fact p)))) (same_Some 2 i (sym (h ∙ type_place p))) (in_type p)
     go g (a_node_lem n p x q) h = subst (Names (a_node n)) (same_Some 10 i (sym (h ∙ node_place n p x q))) (in_node n p x q)
-    go g (plain y) h = no_some (sym (h ∙ nowhere g y.none))
+    go g (plain y) h = cc (h, nowhere g y.none)
 
 -- A line that names one is long enough.
 place_long : (e : Edition) (g : Frame) {i : ℕ} → Names g i → i + 2 ≤ length (written e g)
@@ -116,11 +115,11 @@ told_some kind shape below {i} e = first (eqb kind 3) refl e
   where
     at : {n : ℕ} (b : Bool) → when b n ≡ Some i → (b ≡ true) × (i ≡ n)
     at true q = (refl, sym (same_Some _ _ q))
-    at false q = no_some q
+    at false q = cc
 
     second : (b : Bool) → eqb kind 5 ≡ b → elim b [ true ↦ when (eqb below 13) 10 | false ↦ None ] ≡ Some i → (kind ≡ 5) × (below ≡ 13) × (i ≡ 10)
     second true k q = let h = at _ q in (eqb-true kind 5 k, eqb-true below 13 h.0, h.1)
-    second false k q = no_some q
+    second false k q = cc
 
     first : (b : Bool) → eqb kind 3 ≡ b
         → elim b [ true ↦ when (eqb shape 3) 2 | false ↦ elim (eqb kind 5) [ true ↦ when (eqb below 13) 10 | false ↦ None ] ] ≡ Some i
@@ -169,8 +168,8 @@ left_alone : (g : Frame) → None ≡ place_of g → written wide g ≡ written 
 left_alone g h = go g (view g) h
   where
     go : (g : Frame) → View g → None ≡ place_of g → written wide g ≡ written narrow g
-    go g (a_type_lem p) h = no_some (h ∙ type_place p)
-    go g (a_node_lem n p x q) h = no_some (h ∙ node_place n p x q)
+    go g (a_type_lem p) h = cc (h, type_place p)
+    go g (a_node_lem n p x q) h = cc (h, node_place n p x q)
     go g (plain y) h = y.same
 
 -- ---- The number that a line names
@@ -198,8 +197,8 @@ module _ (least : ℕ) where
   no_number g h = go g (view g) h
     where
       go : (g : Frame) → View g → None ≡ place_of g → false ≡ any_of (leb least) (predicates g)
-      go g (a_type_lem p) h = no_some (h ∙ type_place p)
-      go g (a_node_lem n p x q) h = no_some (h ∙ node_place n p x q)
+      go g (a_type_lem p) h = cc (h, type_place p)
+      go g (a_node_lem n p x q) h = cc (h, node_place n p x q)
       go g (plain y) h = sym (ap (any_of (leb least)) y.none)
 
 -- ---- A line in the other edition

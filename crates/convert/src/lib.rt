@@ -55,7 +55,7 @@ pub fn convert(file: &[u8], out: &mut [u8], edition: Edition) -> Option<usize>
     let mut line = [0u8; Counters::LINE];
     let mut at = 0;
     let mut to = 0;
-    // Each line starts where `decode` says that the one before ends.
+    // Each line starts where `decode` says that the one before ends: no iterator, as crate reading says.
     while at < file.len() {
         let (n, next) = frames::decode(file, at, &mut line)?;
         to = convert_line(out, to, &line[..n], edition)?;

@@ -3,17 +3,13 @@
 use mathlib.Core.List.{List, [], ◌++◌, append_assoc, append-nil}
 use mathlib.Core.Path.{◌≡◌, refl, sym, ap, ◌∙◌}
 use Prim.Native.Nat.{ℕ, ◌+◌, ◌-◌, ◌≤◌, ◌<◌}
-use native.Mathlib.Decide.{dec_le}
 use native.Mathlib.Omega.{arith}
 use lib.ListN.{length, take, drop, length-append, length-take, length-drop, take-append-drop, drop_of_length-le}
 use lib.Seq.{length-take-le, take_all, take_at}
 use Rattle.writer.specs.Writes.{placed, Writes}
-use Rattle.writer.proofs.Writing.{writes_none, shifted}
+use Rattle.writer.proofs.Writing.{writes_none, shifted, ends_there, ends_over}
 use Rattle.desk.specs.Turns.{Continues}
 use Rattle.std.specs.Prelude.{None, Option, Some}
-
-pub no_page : {X : Type 0} {n : ℕ} → Some n ≡ None → X
-no_page e = let z : ◌≡◌ {A = ℕ} 0 1 = cc in absurd (omega arith)
 
 pub continues : {out : List ℕ} {at : ℕ} {a out' : List ℕ} {r : Option ℕ} → Writes out at a out' r → Continues out at a out' r
 unfolding placed
@@ -38,18 +34,10 @@ continues_start e f = record { fits = λ h. f.fits (omega (arith, e)); over = λ
 
 module _ {out : List ℕ} {at : ℕ} {a out' : List ℕ} {r : Option ℕ} (f : Continues out at a out' r) where
   pub continues_to : {n : ℕ} → r ≡ Some n → (n ≡ at + length a) × (n ≤ length out)
-  continues_to {n} e = go (dec_le (at + length a) (length out))
-    where
-      go : Dec (at + length a ≤ length out) → (n ≡ at + length a) × (n ≤ length out)
-      go (no o) = no_page (sym e ∙ f.over (omega arith))
-      go (yes o) = let p = (f.fits o).0 in let same : n ≡ at + length a = cc in (same, omega arith)
+  continues_to e = ends_there (λ h. (f.fits h).0) f.over e
 
   pub continues_over : r ≡ None → length out < at + length a
-  continues_over e = go (dec_le (at + length a) (length out))
-    where
-      go : Dec (at + length a ≤ length out) → length out < at + length a
-      go (no o) = omega arith
-      go (yes o) = no_page (sym (f.fits o).0 ∙ e)
+  continues_over e = ends_over (λ h. (f.fits h).0) f.over e
 
   pub continues_then : {n : ℕ} → r ≡ Some n → {b out'' : List ℕ} {r' : Option ℕ} → Continues out' n b out'' r' → Continues out at (a ++ b) out'' r'
   continues_then {n} e {b} {out''} {r'} g =

@@ -1,5 +1,4 @@
 -- What the reading and the queries' turns come to is what the definition decides, and clearing the slices makes it the definition's outcome.
-use mathlib.Core.Bool.{Bool, true, false}
 use mathlib.Core.List.{List, ◌++◌}
 use mathlib.Core.Path.{◌≡◌, refl, sym, ap, ◌∙◌, subst}
 use Prim.Native.Nat.{ℕ, ◌-◌, ◌≤◌}
@@ -17,7 +16,6 @@ use Rattle.meaning.proofs.Tests.{cases}
 use Rattle.meaning.proofs.Content.{says_exactly}
 use Rattle.reading.specs.Promises.{refusal, Ends, reading_in, ReadsFile}
 use Rattle.reading.specs.declared.Refusal.{Refusal}
-use Rattle.reading.specs.declared.Refusal.TheVariants as Refusal
 use Rattle.desk.specs.Promises.{Told, RunsQueries, RunsFile, Clears, Finishes, ChecksFile, ChecksAt}
 use Rattle.desk.specs.At.{decide_read_at, decide_at, desk_account}
 use Rattle.desk.specs.declared.Settled.{Settled}

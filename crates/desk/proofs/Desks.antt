@@ -1,5 +1,4 @@
 -- A call at a desk is refused exactly under its conditions, and 17 is told of what is outside of the rules alone.
-use mathlib.Core.Bool.{Bool, true, false}
 use mathlib.Core.List.{List, [], ◌∷◌}
 use mathlib.Core.Logic.{◌↔◌}
 use mathlib.Core.Path.{◌≡◌, refl, sym, ap, subst, ◌∙◌}
@@ -15,7 +14,7 @@ use Rattle.cabinet.specs.Accounts.{ceiling_in, charged_to}
 use Rattle.meaning.specs.All.{All}
 use Rattle.meaning.specs.Syntax.{Ast}
 use Rattle.meaning.specs.Schema.{Schema}
-use Rattle.meaning.specs.Refusal.{Refusal, work_too_short, answer_too_long, ceiling_passed, too_many_visits, outside_the_rules, number}
+use Rattle.meaning.specs.Refusal.{Refusal, work_too_short, answer_too_long, outside_the_rules, number}
 use Rattle.meaning.specs.Refused.{Refused, First, here, later, too_long, at_line, missing_query}
 use Rattle.meaning.specs.Frame.{wide}
 use Rattle.meaning.specs.SoFar.{SoFar, Said}

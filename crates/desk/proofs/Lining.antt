@@ -1,6 +1,6 @@
 -- The line of a number has its two digits.
 use mathlib.Core.List.{[], ◌∷◌}
-use mathlib.Core.Path.{◌≡◌, refl, ap}
+use mathlib.Core.Path.{◌≡◌, ap}
 use Prim.Native.Nat.{ℕ, ◌/◌, ◌%◌}
 use Rattle.meaning.specs.Answer.{hex_digit, hex_line}
 

@@ -2,7 +2,7 @@
 use mathlib.Core.Bool.{Bool, true, false}
 use mathlib.Core.List.{List, [], ◌∷◌, ◌++◌}
 use mathlib.Core.Path.{◌≡◌, refl, sym, ap, subst, ◌∙◌}
-use Prim.Native.Nat.{ℕ, zero, suc, ◌+◌, ◌-◌, ◌≤◌, ◌<◌}
+use Prim.Native.Nat.{ℕ, zero, suc, ◌+◌, ◌-◌, ◌≤◌}
 use native.Mathlib.Omega.{arith}
 use lib.ListN.{length, take, drop, length-take}
 use borrow.Author.Tests.{lt-ltb, le-ltb}
@@ -29,9 +29,9 @@ use Rattle.std.specs.Result.{result_unwrap_or}
 use Rattle.reading.specs.declared.Refusal.{Refusal}
 use Rattle.desk.specs.Promises.{kept}
 use Rattle.desk.specs.Turns.{head_line, several, Continues, Follows, Place, OneOfSeveral, Answered, Answers, Turned, Turns}
-use Rattle.desk.proofs.Continuing.{no_page, continues, continues_none, continues_start, continues_to, continues_then, after_full, part_continues}
+use Rattle.desk.proofs.Continuing.{continues, continues_none, continues_start, continues_to, continues_then, after_full, part_continues}
 use Rattle.std.specs.Prelude.{None, Option, Some, ℕ, MatchOption, IsSomeAnd}
-use Rattle.std.specs.Option.{option_and}
+use Rattle.std.specs.Option.{option_and, unwrap_or}
 
 -- ---- The line before
 
@@ -44,10 +44,10 @@ module _ (k : ℕ) {b : Bool} (needed : b ≡ true) where
       → Follows out page (head_line b k) out' r
   heading_after {out} {out'} {page} {r} {n} q f =
       subst (λ b. Follows out page (head_line b k) out' r) (sym needed)
-      (f.long, (λ m e l. let same : m ≡ n = cc in subst (λ i. Continues out i (head_line true k) out' r) (sym same) (continues f)), λ e. no_page (sym q ∙ e))
+      (f.long, (λ m e l. let same : m ≡ n = cc in subst (λ i. Continues out i (head_line true k) out' r) (sym same) (continues f)), λ e. cc)
 
   pub heading_full : (out : List ℕ) (page : Option ℕ) → page ≡ None → Follows out page (head_line b k) out None
-  heading_full out page q = subst (λ b. Follows out page (head_line b k) out None) (sym needed) (refl, (λ m e l. no_page (sym e ∙ q)), λ e. refl)
+  heading_full out page q = subst (λ b. Follows out page (head_line b k) out None) (sym needed) (refl, (λ m e l. cc), λ e. refl)
 
 pub triple_parts : {A B C : Type 0} {a x : A} {b y : B} {c z : C} → ◌≡◌ {A = Option (A × B × C)} (Some (a, b, c)) (Some (x, y, z)) → (a ≡ x) × (b ≡ y) × (c ≡ z)
 triple_parts e = let p = same_Some _ _ e in (ap (λ q. q.0) p, ap (λ q. q.1) p, ap (λ q. q.2) p)
@@ -56,11 +56,9 @@ pub kept_is : (r : Result ℕ Refusal) → kept r ≡ result_unwrap_or r 0
 kept_is (Ok n) = refl
 kept_is (Err e) = refl
 
-pub place_to : {page : Option ℕ} {n room r : ℕ} → page ≡ Some n → r ≡ min n room → Place page room r
-place_to {page} {n} q l = record { within = omega (arith, l); is = λ m e h. let same : m ≡ n = cc in omega (arith, l) }
-
-pub place_full : {page : Option ℕ} (room : ℕ) → page ≡ None → Place page room room
-place_full room q = record { within = omega arith; is = λ m e h. no_page (sym e ∙ q) }
+pub placed : (page : Option ℕ) {n room r : ℕ} → n ≡ unwrap_or page room → r ≡ min n room → Place page room r
+placed (Some k) q l = record { within = omega (arith, l); is = λ m e h. let same : m ≡ k = cc in omega (arith, l, q, same) }
+placed None q l = record { within = omega (arith, l); is = λ m e h. cc }
 
 -- By the place after the query, as by the queries after it.
 pub several_is : {f : List ℕ} {next k : ℕ} {qs : List Ast} {b : Bool} → OneOfSeveral k next (length f) b → Ahead f next qs → b ≡ several k qs
@@ -93,7 +91,7 @@ module _ {out out₁ : List ℕ} {page head : Option ℕ} {line : List ℕ} (f :
           let to = continues_to first e in
           let here : place ≡ m = p.is m e (omega (arith, to.1, f.0)) in
           continues_then first (e ∙ ap Some (sym here)) whole),
-      λ q. no_page (sym e ∙ f.2 q),
+      λ q. cc (f.2 q),
     )
 
     lines_full : (m : ℕ) → head ≡ Some m → a ≡ None → Follows out page (line ++ text) (back part) None

@@ -9,7 +9,6 @@ use Rattle.meaning.specs.Outcome.{Decided, turned_down, answered, Result, min_wo
 use Rattle.tree.specs.Stands.{SchemaStands}
 use Rattle.reading.specs.Promises.{refusal}
 use Rattle.reading.specs.declared.Refusal.{Refusal}
-use Rattle.reading.specs.declared.Refusal.TheVariants as Refusal
 use Rattle.meaning.specs.Refusal.{outside_the_rules}
 use Rattle.cabinet.specs.declared.Account.{Account}
 use Rattle.cabinet.specs.declared.Group.{Group}

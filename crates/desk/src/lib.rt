@@ -27,14 +27,19 @@ pub struct Desked {
     pub outcome: Result<usize, Refusal>,
 }
 
+// The query whose turn it is: where its lines start, its number, and where its answer goes, unless the slice is full.
+#[derive(Clone, Copy)]
+struct Turn {
+    at: usize,
+    k: u32,
+    page: Option<usize>,
+}
+
 // Where the next byte goes in a slice of this room; a full one has no room left.
 fn place(page: Option<usize>, room: usize) -> usize
     ensures { Place page room result }
 {
-    match page {
-        Some(n) => n.min(room),
-        None => room,
-    }
+    page.unwrap_or(room).min(room)
 }
 
 // Whether there are several queries: this is not the first, or another comes after it.
@@ -45,13 +50,13 @@ fn is_one_of_several(k: u32, next: usize, end: usize) -> bool
 }
 
 // The line with the query's number, if there are several.
-fn heading(out: &mut [u8], page: Option<usize>, k: u32, next: usize, end: usize) -> Option<usize>
-    ensures { Heads k next end out.old page out.new result }
+fn heading(out: &mut [u8], turn: Turn, next: usize, end: usize) -> Option<usize>
+    ensures { Heads turn.k next end out.old turn.page out.new result }
 {
-    if is_one_of_several(k, next, end) {
-        answer::number_line(out, page?, k)
+    if is_one_of_several(turn.k, next, end) {
+        answer::number_line(out, turn.page?, turn.k)
     } else {
-        page
+        turn.page
     }
 }
 
@@ -72,17 +77,15 @@ fn answer_query(
 // One query, from its lines to its answer. Where the slice is full it still runs, for its visits.
 fn one_query(
     file: &[u8],
-    at: usize,
-    k: u32,
+    turn: Turn,
     ceiling: u32,
     work: &mut [u32],
     out: &mut [u8],
-    page: Option<usize>,
 ) -> Option<(usize, Option<usize>, u32)>
-    ensures { Turns file.now at k ceiling work.old out.old page work.new out.new result }
+    ensures { Turns file.now turn.at turn.k ceiling work.old out.old turn.page work.new out.new result }
 {
-    let next = loading::load(file, at, work);
-    let head = heading(out, page, k, next, file.len());
+    let next = loading::load(file, turn.at, work);
+    let head = heading(out, turn, next, file.len());
     let from = place(head, out.len());
     let rest = out.len() - from;
     let (lines, visits) = answer_query(file, work, ceiling, &mut out[from..])?;
@@ -102,20 +105,23 @@ fn stop(ceiling: u32) -> Refusal
 
 // The queries of a file that was read, one after the other, each under the ceiling that those before it left: refusal
 // 11 or 16 of any of them, then 12 of them all. A file that was read is short: that is why `k` has room to grow. It is
-// owed by `run`, which has just read it: a type for such a file would be made for this one call.
+// owed by `run`, which has just read it, as lamp's `look` and reading's `read_file` owe it, each right after a test: a
+// type for such a file would be made for one call in each.
 fn all_queries(file: &[u8], work: &mut [u32], out: &mut [u8], account: Account) -> Settled
     requires { length file.now ≤ 65536 }
     ensures { RunsQueries file.now work.old out.old account out.new result }
 {
     let mut charged = account;
-    let mut at: usize = 0;
-    let mut k: u32 = 0;
-    let mut page = Some(0);
+    let mut turn = Turn {
+        at: 0,
+        k: 0,
+        page: Some(0),
+    };
     // No `for`: where the next query starts is what `load` gives back. The walks of lamp and seek end at other places
     // and with other things in hand: one walk for all would be a closure over the slices.
-    while at < file.len() {
+    while turn.at < file.len() {
         let ceiling = charged.next_ceiling();
-        let Some((next, written, visits)) = one_query(file, at, k, ceiling, work, out, page) else {
+        let Some((next, page, visits)) = one_query(file, turn, ceiling, work, out) else {
             let last = charged.charge(ceiling);
             return Settled {
                 account: last,
@@ -123,13 +129,15 @@ fn all_queries(file: &[u8], work: &mut [u32], out: &mut [u8], account: Account) 
             };
         };
         charged = charged.charge(visits);
-        at = next;
-        page = written;
-        k += 1;
+        turn = Turn {
+            at: next,
+            k: turn.k + 1,
+            page,
+        };
     }
     Settled {
         account: charged,
-        outcome: page.ok_or(Refusal::AnswerTooLong),
+        outcome: turn.page.ok_or(Refusal::AnswerTooLong),
     }
 }
 
@@ -140,7 +148,7 @@ fn run(file: &[u8], work: &mut [u32], out: &mut [u8], account: Account) -> Settl
     let r = reading::read_file(file, work, Edition::Wide);
     match r {
         Err(e) => Settled {
-            account: account,
+            account,
             outcome: Err(e),
         },
         Ok(()) => all_queries(file, work, out, account),
@@ -164,7 +172,8 @@ pub fn check_file(file: &[u8], work: &mut [u32], out: &mut [u8]) -> Result<usize
     r
 }
 
-// The call at a desk, which is charged for the visits.
+// The call at a desk, which is charged for the visits. The group and the desk's number are two parameters, as C hands
+// them in: `seat` makes one of them.
 pub fn check_at(g: Group, desk: usize, file: &[u8], work: &mut [u32], out: &mut [u8]) -> Desked
     ensures { ChecksAt g desk file.now work.old out.old work.new out.new result }
 {
@@ -185,6 +194,8 @@ pub fn check_at(g: Group, desk: usize, file: &[u8], work: &mut [u32], out: &mut 
     }
 }
 
+// Document 01's number is the discriminant, and no `From` leads from an enum to u8; docs/PROMISE.md has the function by
+// this name.
 #[tactic(auto, unfolding(meaning::specs::Refusal::number))]
 pub fn refusal_number(e: Refusal) -> u8
     ensures { result ≡ number (refusal e) }
@@ -199,5 +210,5 @@ pub fn refusal_line(e: Refusal) -> [u8; 5]
     let n = refusal_number(e);
     let high = writer::hex_digit(n / 16);
     let low = writer::hex_digit(n % 16);
-    [48, 102, high, low, 10]
+    [b'0', b'f', high, low, b'\n']
 }

@@ -2,7 +2,7 @@
 use mathlib.Core.Bool.{false}
 use mathlib.Core.List.{List, [], ◌∷◌, ◌++◌, map, flat_map}
 use mathlib.Core.Path.{◌≡◌, refl, sym, ap, subst, ◌∙◌}
-use Prim.Native.Nat.{ℕ, ◌+◌, ◌*◌, ◌≤◌}
+use Prim.Native.Nat.{ℕ, ◌≤◌}
 use native.Mathlib.Omega.{arith}
 use lib.ListN.{length, length-append}
 use Rattle.meaning.specs.Frame.{Edition, narrow, wide, Frame}
@@ -15,6 +15,8 @@ use Rattle.meaning.specs.Answer.{hex_line}
 use Rattle.meaning.specs.Writing.{written, file_of, Writable}
 use Rattle.meaning.specs.Content.{Content, frames_of, Lawful, Says}
 use Rattle.meaning.proofs.Tests.{cases, clash}
+use Rattle.meaning.proofs.Hex.{line_length}
+use Rattle.meaning.proofs.Alone.{lawful_with}
 use Rattle.meaning.proofs.Written.{file_lines}
 use Rattle.meaning.proofs.Content.{says_exactly}
 use Rattle.editions.specs.Converted.{frames_on, frames_in, widened, narrowed, is_above, predicates, some_above}
@@ -64,29 +66,9 @@ all_narrow (f ∷ fs) w h = (
 )
 
 as_lawful : {from to : Edition} (c : Content) → Lawful from c → All (Writable to) (frames_of c) → Lawful to c
-as_lawful c h w = record {
-  names_max = h.names_max;
-  types_max = h.types_max;
-  predicates_max = h.predicates_max;
-  texts = h.texts;
-  distinct = h.distinct;
-  type_names = h.type_names;
-  type_types = h.type_types;
-  type_keys = h.type_keys;
-  predicate_names = h.predicate_names;
-  predicate_types = h.predicate_types;
-  queries = h.queries;
-  queries_min = h.queries_min;
-  queries_max = h.queries_max;
-  writable = w;
-}
+as_lawful c h w = lawful_with c c.queries h h.queries h.queries_min h.queries_max w
 
 -- ---- Lengths
-
-hex_long : (s : List ℕ) → length (hex_line s) ≡ 2 * length s + 1
-unfolding hex_line
-hex_long [] = refl
-hex_long (b ∷ s) = omega (arith, hex_long s)
 
 pub narrow_short : (fs : List Frame) → length (file_of narrow fs) ≤ length (file_of wide fs)
 unfolding file_of flat_map
@@ -94,7 +76,7 @@ narrow_short [] = omega arith
 narrow_short (f ∷ fs) =
     let a = length-append (hex_line (written narrow f)) (file_of narrow fs) in
     let b = length-append (hex_line (written wide f)) (file_of wide fs) in
-    omega (arith, a, b, hex_long (written narrow f), hex_long (written wide f), shorter f, narrow_short fs)
+    omega (arith, a, b, line_length (written narrow f), line_length (written wide f), shorter f, narrow_short fs)
 
 -- ---- The same content
 

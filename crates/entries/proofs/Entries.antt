@@ -22,11 +22,13 @@ use Rattle.meaning.specs.Check.{Checker, Step, goes, out, entry, begin_until, qu
 use Rattle.meaning.specs.Run.{EntryLed, ending, run}
 use Rattle.meaning.specs.Outcome as Outcome
 use Rattle.meaning.specs.Outcome.{min_words, max_visits, answered, decide_run, decide_read, decide, run_all}
+use Rattle.meaning.proofs.Lists.{all_append, all_map}
 use Rattle.meaning.proofs.Tests.{cases}
 use Rattle.meaning.proofs.Forms.{Ran, Runs, all_ran, one_out, runs}
 use Rattle.meaning.proofs.Run.{sound_well_formed, run_entries}
 use Rattle.meaning.proofs.Sound.{sound}
 use Rattle.laws.proofs.Agree.{Lit, dark_goes, dark_out, shines}
+use Rattle.laws.proofs.Run.{reversed_all}
 use Rattle.laws.proofs.Until.{run_until_lem}
 use Rattle.entries.specs.Entries.{entries_of, entries_all, nth, found, turned_down, among, sought_run, sought_read, entry_at}
 use Rattle.std.specs.Prelude.{None, Option, Some}
@@ -43,7 +45,7 @@ unfolding reversed nth
 nth_behind [] ys k = let e : 0 + k ≡ k = omega arith in rw e
 nth_behind (x ∷ xs) ys k = let e : length (x ∷ xs) + k ≡ length xs + suc k = omega arith in rw e (nth_behind xs (x ∷ ys) (suc k))
 
-pub length_reversed : {A : Type 0} (xs ys : List A) → length (reversed xs ys) ≡ length xs + length ys
+length_reversed : {A : Type 0} (xs ys : List A) → length (reversed xs ys) ≡ length xs + length ys
 unfolding reversed
 length_reversed [] ys = omega arith
 length_reversed (x ∷ xs) ys = omega (arith, length_reversed xs (x ∷ ys))
@@ -90,15 +92,15 @@ module _ (schema : Schema) (a : Ast) where
     unfolding entries_of ending
     entries_are = rw e
 
+    pub entries_many : length (entries_of schema a) ≡ length c.entries
+    entries_many = ap length entries_are ∙ omega (arith, length_reversed c.entries [])
+
     pub stops_at : (n : ℕ) → n < length (entries_of schema a) → StopsAt n
     unfolding ending reversed nth
     stops_at n h = go (run schema a max_visits) (run_to n) refl e (run_until_lem schema a (entry n) max_visits)
       where
-        many : length (entries_of schema a) ≡ length c.entries
-        many = ap length entries_are ∙ omega (arith, length_reversed c.entries [])
-
         go : (s s' : Step Ty) → run_to n ≡ s' → s ≡ goes ty c → Lit (entry n) s s' → StopsAt n
-        go s s' is q (dark_goes t b z) = let same : b ≡ c = cc q in absurd (omega (arith, many, ap (λ (x : Checker). length x.entries) same))
+        go s s' is q (dark_goes t b z) = let same : b ≡ c = cc q in absurd (omega (arith, entries_many, ap (λ (x : Checker). length x.entries) same))
         go s s' is q (dark_out b z) = clash (cc q)
         go s s' is q (shines _ b (x, older, p, m, f) l) =
             let all : c.entries ≡ l.entered ++ x ∷ older = sym (ap (λ (k : Step Ty). (ending k).entries) q) ∙ l.entries ∙ ap {B = List Entry}
@@ -122,24 +124,11 @@ module _ (schema : Schema) (a : Ast) where
 abbrev pub Reached : Entry → Type 0
 Reached e = (nodes : ℕ) × EntryLed max_visits (replicate nodes None) e
 
-all_reversed : {A : Type 0} (P : A → Type 0) (xs ys : List A) → All P xs → All P ys → All P (reversed xs ys)
-unfolding reversed
-all_reversed P [] ys h i = i
-all_reversed P (x ∷ xs) ys h i = all_reversed P xs (x ∷ ys) h.1 (h.0, i)
-
-all_append : {A : Type 0} (P : A → Type 0) (xs ys : List A) → All P xs → All P ys → All P (xs ++ ys)
-all_append P [] ys h i = i
-all_append P (x ∷ xs) ys h i = (h.0, all_append P xs ys h.1 i)
-
 all_nth : {A : Type 0} (P : A → Type 0) (xs : List A) (n : ℕ) (x : A) → All P xs → nth xs n ≡ Some x → P x
 unfolding nth
 all_nth P [] n x h e = clash (cc e)
 all_nth P (y ∷ ys) zero x h e = let q : y ≡ x = cc e in subst P q h.0
 all_nth P (y ∷ ys) (suc n) x h e = all_nth P ys n x h.1 e
-
-all_with_lem : {A : Type 0} (P Q : A → Type 0) (xs : List A) → ((x : A) → P x → Q x) → All P xs → All Q xs
-all_with_lem P Q [] f h = tt
-all_with_lem P Q (x ∷ xs) f h = (f x h.0, all_with_lem P Q xs f h.1)
 
 module _ (form : Form) where
   query_led : (a : Ast) (t : Typed) → Sound (view_of form a) → Ran form.schema a t → All Reached (entries_of form.schema a)
@@ -148,8 +137,8 @@ module _ (form : Form) where
     where
       go : (x : Step Ty) → run form.schema a max_visits ≡ x → All Reached (entries_of form.schema a)
       go (goes ty c) e =
-          rw (entries_are form.schema a ty c e) (all_reversed Reached c.entries []
-          (all_with_lem (EntryLed max_visits (replicate (length a.nodes) None)) Reached c.entries (λ x h. (length a.nodes, h))
+          rw (entries_are form.schema a ty c e) (reversed_all Reached c.entries []
+          (all_map (EntryLed max_visits (replicate (length a.nodes) None)) Reached c.entries (λ x h. (length a.nodes, h))
           (run_entries form.schema a (sound_well_formed (view_of form a) s) max_visits ty c e)) tt)
       go (out c) e = let z : checked max_visits (out c) ≡ typed t = ap (checked max_visits) (sym e) ∙ r in clash (cc z)
 

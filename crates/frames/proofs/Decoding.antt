@@ -11,7 +11,7 @@ use lib.ListN.{length, get_or, take, drop, set, length-append, length-set}
 use lib.Seq.{take-suc-set, length-take-le}
 use Rattle.meaning.specs.Lines.{LF, lines, digit, decoded, some_bytes}
 use Rattle.sigla_hex.specs.Digits.{byte_of, pair_at, first_line, line_at}
-use Rattle.sigla_hex.proofs.Line.{no_some, pair_within, pair_past, decoded_none, lines_at_end, head_line, others, decoded_line, decoded_at, others_at, prefixed}
+use Rattle.sigla_hex.proofs.Line.{pair_within, pair_past, decoded_none, lines_at_end, head_line, others, decoded_line, decoded_at, others_at, prefixed}
 use Rattle.sigla_hex.proofs.Line.{prefixed_nil, prefixed_twice, lines_at_LF, lines_split, decoded_on, others_on}
 use Rattle.sigla_hex.proofs.Bytes.{From, ends, from, bytes_of_lem, bytes_enough, bytes_too_many}
 use Rattle.frames.specs.Promises.{BytesAt, Malformed, Decodes}
@@ -20,22 +20,22 @@ use Rattle.std.specs.Prelude.{None, Option, Some}
 -- ---- Two digits
 
 module _ (f : List ℕ) (i : ℕ) where
-  pub no_high : digit (get_or f i 0) ≡ None → None ≡ pair_at f i
-  unfolding pair_at byte_of
-  no_high e = go (ltb (i + 1) (length f))
+  no_pair : byte_of (digit (get_or f i 0)) (digit (get_or f (i + 1) 0)) ≡ None → None ≡ pair_at f i
+  unfolding pair_at
+  no_pair e = go (ltb (i + 1) (length f))
     where
       go : (t : Bool) → ◌≡◌ {A = Option ℕ} None (elim t [ true ↦ byte_of (digit (get_or f i 0)) (digit (get_or f (i + 1) 0)) | false ↦ None ])
-      go true = rw e
+      go true = sym e
       go false = refl
+
+  pub no_high : digit (get_or f i 0) ≡ None → None ≡ pair_at f i
+  unfolding byte_of
+  no_high e = no_pair (rw e)
 
   module _ {h : ℕ} (high : digit (get_or f i 0) ≡ Some h) where
     pub no_low : digit (get_or f (i + 1) 0) ≡ None → None ≡ pair_at f i
-    unfolding pair_at byte_of
-    no_low e = go (ltb (i + 1) (length f))
-      where
-        go : (t : Bool) → ◌≡◌ {A = Option ℕ} None (elim t [ true ↦ byte_of (digit (get_or f i 0)) (digit (get_or f (i + 1) 0)) | false ↦ None ])
-        go true = rw (high, e)
-        go false = refl
+    unfolding byte_of
+    no_low e = no_pair (rw (high, e))
 
     pub both_digits : {l : ℕ} → i + 1 < length f → digit (get_or f (i + 1) 0) ≡ Some l → Some (h * 16 + l) ≡ pair_at f i
     unfolding byte_of
@@ -128,7 +128,7 @@ pub bad : {f : List ℕ} {at : ℕ} {line : List ℕ} {i n : ℕ} → SoFar f at
 bad r m = record { room = r.room; holds = tt; fails = λ _. m }
 
 pub good : {f : List ℕ} {at : ℕ} {line : List ℕ} {i n next : ℕ} → SoFar f at line i n → BytesAt f at line n next → Decodes f at line (Some (n, next))
-good r h = record { room = r.room; holds = h; fails = λ e _. no_some (sym e) }
+good r h = record { room = r.room; holds = h; fails = λ e _. cc }
 
 pub ruleset pairs = (pair_past, no_high, no_low, both_digits)
 

@@ -15,7 +15,6 @@ use Rattle.frames.specs.contracts.Kind.{the_type, as_values}
 use Rattle.frames.specs.declared.Kind.{Kind}
 use Rattle.frames.specs.declared.Kind.TheVariants.{Limits, Name, SchemaType, Predicate, Node, Query}
 use Rattle.frames.specs.Promises.{kind_meant, known, stands}
-use Rattle.sigla_hex.proofs.Line.{no_some}
 use Rattle.std.specs.Prelude.{None, Option, Some}
 use Rattle.std.proofs.lemmas.Option.{same_Some}
 
@@ -59,7 +58,7 @@ meant_by query = Query
 
 -- A kind is known by what it means.
 pub same_known : (o : Option Kind) (k : Kind) → known o ≡ Some (kind_meant k) → o ≡ Some k
-same_known None k e = no_some e
+same_known None k e = cc
 same_known (Some j) k e = ap Some (sym (back j) ∙ ap meant_by (same_Some _ _ e) ∙ back k)
   where
     back : (k : Kind) → meant_by (kind_meant k) ≡ k

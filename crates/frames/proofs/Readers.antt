@@ -207,16 +207,7 @@ module _ {A : Type 0} {r : Reader A} {m : ℕ} {v : List ℕ → ℕ → A} (p :
   pub filled : (s : List ℕ) (i : ℕ) → i ≤ length s → Filled r (suc m) v s i
   filled s i h = filled_in (length s) s i h (omega arith)
 
-  -- k items that reach the end are read
-  pub items_of : (s : List ℕ) (i k : ℕ) → i + k * suc m ≡ length s → many r (drop i s) ≡ got (items_at (v s) (suc m) i k) []
-  unfolding items_at one and_then
-  items_of s i zero e = many_end r s i (omega (arith, e, zero-mul (suc m)))
-  items_of s i (suc k) e =
-      let room : i + suc m ≤ length s = omega (arith, e, suc-mul k (suc m)) in
-      many_step r s i (omega arith) sized_shrinks (v s i) (i + suc m) (omega arith) (p.reads s i room)
-      ∙ ap (λ g. and_then g (λ more. got (v s i ∷ more))) (items_of s (i + suc m) k (omega (arith, e, suc-mul k (suc m))))
-
-  -- and whatever is read is such items
+  -- whatever is read is such items
   pub items_are : (s : List ℕ) (i : ℕ) (xs : List A) (t : List ℕ) → i ≤ length s → many r (drop i s) ≡ got xs t → Items (v s) (suc m) s i xs t
   items_are s i xs t h e = go (filled s i h)
     where
@@ -238,20 +229,11 @@ module _ {A : Type 0} {r : Reader A} {m : ℕ} {v : List ℕ → ℕ → A} (p :
       go (misfits n is) = ap wholly is ∙ sym (ne_eqb ((length s - i) % suc m) 0 n)
 
 -- The lists of the grammar, by the place where they start.
-pub fields_of_lem : (s : List ℕ) (i k : ℕ) → i + k * 4 ≡ length s → many field (drop i s) ≡ got (items_at (field_at s) 4 i k) []
-fields_of_lem s i k e = items_of sized_field s i k e
-
 pub fields_are : (s : List ℕ) (i : ℕ) (xs : List Field) (t : List ℕ) → i ≤ length s → many field (drop i s) ≡ got xs t → Items (field_at s) 4 s i xs t
 fields_are s i xs t h e = items_are sized_field s i xs t h e
 
-pub numbers_of_lem : (s : List ℕ) (i k : ℕ) → i + k * 2 ≡ length s → many two (drop i s) ≡ got (items_at (half_w s) 2 i k) []
-numbers_of_lem s i k e = items_of sized_two s i k e
-
 pub numbers_are : (s : List ℕ) (i : ℕ) (xs t : List ℕ) → i ≤ length s → many two (drop i s) ≡ got xs t → Items (half_w s) 2 s i xs t
 numbers_are s i xs t h e = items_are sized_two s i xs t h e
-
-pub alternatives_of : (s : List ℕ) (i k : ℕ) → i + k * 8 ≡ length s → many alternative (drop i s) ≡ got (items_at (alternative_at s) 8 i k) []
-alternatives_of s i k e = items_of sized_alternative s i k e
 
 pub alternatives_are : (s : List ℕ) (i : ℕ) (xs : List Alternative) (t : List ℕ) → i ≤ length s → many alternative (drop i s) ≡ got xs t
     → Items (alternative_at s) 8 s i xs t

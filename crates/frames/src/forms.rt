@@ -32,6 +32,8 @@ pub fn kind_of(b: u8) -> Option<Kind>
     }
 }
 
+// A line of no kind may stand nowhere, and has no form (`is_frame`). The one caller of each hands in `Some(kind)`, but
+// a `Kind` alone would ask that of every caller.
 #[tactic(auto, using(crate::proofs::Following::standing))]
 pub fn may_stand(previous: Option<Kind>, kind: Option<Kind>) -> bool
     ensures { result ≡ stands (known previous) (known kind) }
@@ -124,6 +126,9 @@ fn are_statements(s: &[u8]) -> bool
     true
 }
 
+// The shape, and a predicate's flag, is the file's byte, here and in the two below: unlike a kind it is matched once in
+// each crate, and by other groups in each, so an enum would only be matched once more (`statement_size`, and `parent` of
+// crate tree).
 #[tactic(auto, using(crate::proofs::Shapes::types))]
 fn type_frame(s: &[u8], edition: Edition) -> bool
     ensures { result ≡ is_frame (edition_of edition) (Some schema_type) (drop 1 s.now) }

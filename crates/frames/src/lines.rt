@@ -3,7 +3,8 @@ ghost use Rattle.std.specs.Prelude.{◌≡◌, ◌<◌, length};
 ghost use Rattle.sigla_hex.specs.Digits.{pair_at};
 ghost use Rattle.frames.specs.Promises.{Decodes};
 
-// The byte of two digits; none where they are no digits or the file ends.
+// The byte of two digits; none where they are no digits or the file ends. In lines that have digits alone `hex_byte` of
+// crate tree and `byte` of load_counts read two: there any other byte counts 16, or 0.
 #[tactic(auto, using(crate::proofs::Decoding::pairs))]
 fn pair(file: &[u8], i: usize) -> Option<u8>
     requires { i < length file.now }

@@ -20,7 +20,7 @@ use Rattle.writer.proofs.Digits.{hex_append, line_is}
 use Rattle.generator.specs.Promises.{as_limits, as_predicate, joined, tables, content}
 use Rattle.generator.specs.declared.TheConstants.{LINES, SLOTS}
 use Rattle.generator.proofs.Rows.{from_at, content_at}
-use Rattle.testload.proofs.Lawful.{length_from}
+use Rattle.testload.proofs.Lawful.{length_from, schema_long}
 
 -- ---- Digits of a line in pieces
 
@@ -166,7 +166,7 @@ module _ (ws : List ℕ) where
   abbrev pub Picked : ℕ → ℕ → Type 0
   Picked l v = ((table_at l ≡ 1) × (v ≡ l - 1)) ⊎ ((table_at l ≡ 1 → ⊥) × (v ≡ choice ws l) × (v < 16))
 
-  pub row_there : (l v : ℕ) → l < 27 → Picked l v → 16 * table_at l + v < 144
+  pub row_there : (l v : ℕ) → l < 27 → Picked l v → 16 * table_at l + v < 128
   row_there l v h p =
       ⊎_elim
       (λ e. omega (arith, table_small l h, fixed_within l h e.0, e.1))
@@ -191,10 +191,6 @@ module _ (ws : List ℕ) where
       (λ e. subst (HasRow l) (sym e.1) (chosen_line l h e.0 (rw e.1 at e.2)))
       p
 
-  schema_long : length (schema_frames (content_of ws)) ≡ 27
-  unfolding schema_frames content_of names base from
-  schema_long = refl
-
   -- the lines from l on
   pub schema_from : ℕ → List ℕ
   schema_from l = file_of wide (drop l (schema_frames (content_of ws)))
@@ -202,7 +198,7 @@ module _ (ws : List ℕ) where
   schema_next : (l : ℕ) → l < 27 → schema_from l ≡ hex_line (written wide (get_or (schema_frames (content_of ws)) l no_frame)) ++ schema_from (l + 1)
   unfolding schema_from
   schema_next l h =
-      ap (file_of wide) (drop-cons (schema_frames (content_of ws)) l no_frame (omega (arith, schema_long)))
+      ap (file_of wide) (drop-cons (schema_frames (content_of ws)) l no_frame (omega (arith, schema_long ws)))
       ∙ file_cons (get_or (schema_frames (content_of ws)) l no_frame) (drop (suc l) (schema_frames (content_of ws)))
       ∙ rw (add-one l)
 
@@ -212,7 +208,7 @@ module _ (ws : List ℕ) where
 
   pub schema_end : (l : ℕ) → 27 ≤ l → schema_from l ≡ []
   unfolding schema_from file_of flat_map
-  schema_end l h = ap (file_of wide) (drop_of_length-le (schema_frames (content_of ws)) {i = l} (omega (arith, schema_long)))
+  schema_end l h = ap (file_of wide) (drop_of_length-le (schema_frames (content_of ws)) {i = l} (omega (arith, schema_long ws)))
 
   pub schema_row : (l v : ℕ) → l < 27 → Picked l v → schema_from l ≡ hex_line (kind_at l ∷ content 0 (16 * table_at l + v)) ++ schema_from (l + 1)
   unfolding HasRow

@@ -1,5 +1,5 @@
 -- A query line by line, and the queries one after the other: what is left from here on.
-use Rattle.std.proofs.Common.{◌≡◌, ℕ, suc, ◌+◌, ◌-◌, ◌*◌, ◌%◌, ◌<◌, ◌≤◌, List, [], ◌∷◌, ◌++◌, map, get_or, sym, refl, ap, ◌∙◌, subst, append_assoc, append-nil, add-one, arith}
+use Rattle.std.proofs.Common.{◌≡◌, ℕ, suc, ◌+◌, ◌-◌, ◌*◌, ◌%◌, ◌<◌, ◌≤◌, List, [], ◌∷◌, ◌++◌, map, get_or, sym, ap, ◌∙◌, subst, append_assoc, append-nil, add-one, arith}
 use mathlib.Core.List.{flat_map}
 use Rattle.std.proofs.lemmas.List.{get_or-map}
 use Rattle.meaning.specs.Frame.{wide, kind_byte, a_node, the_query, frame_kind}
@@ -7,8 +7,7 @@ use Rattle.meaning.specs.Answer.{bytes₄, hex_line}
 use Rattle.meaning.specs.Content.{query_frames, schema_frames, frames_of}
 use Rattle.meaning.specs.Writing.{as_query, as_content, written, file_of}
 use Rattle.testload.specs.Rule.{queries, counts, from, choice, node_of, no_plan, plan_of, query_of, count_of, content_of}
-use Rattle.generator.specs.Promises.{tables, content}
-use Rattle.generator.specs.declared.TheConstants.{BLOCKS}
+use Rattle.generator.specs.Promises.{tables, content, blocks}
 use Rattle.generator.proofs.Rows.{content_at}
 use Rattle.generator.proofs.Lines.{file_cons, file_append, slots, node_frame}
 
@@ -20,20 +19,11 @@ from_end : (i n : ℕ) → n ≤ i → from i (n - i) ≡ []
 unfolding from
 from_end i n h = let none : n - i ≡ 0 = omega arith in ap (from i) none
 
-unfoldable pub blocks : List ℕ
-blocks = BLOCKS
-
-blocks_are : map (λ p. p.blocks) queries ≡ blocks
-unfolding queries blocks
-blocks_are = refl
-
 module _ (ws : List ℕ) where
   module _ (q : ℕ) where
     planned : choice ws (32 + 32 * q) < 16 → get_or blocks (choice ws (32 + 32 * q)) 0 ≡ (plan_of ws q).blocks
-    unfolding plan_of queries
-    planned h =
-        ap (λ l. get_or l (choice ws (32 + 32 * q)) 0) (sym blocks_are)
-        ∙ get_or-map (λ p. p.blocks) queries (choice ws (32 + 32 * q)) (no_plan ws) 0 h
+    unfolding plan_of queries blocks
+    planned h = get_or-map (λ p. p.blocks) queries (choice ws (32 + 32 * q)) (no_plan ws) 0 h
 
     -- the nodes from i on, of n, and the 06 line
     pub query_from : ℕ → ℕ → List ℕ

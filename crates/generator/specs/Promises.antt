@@ -1,5 +1,5 @@
 -- What the functions of src/ promise: `make` writes the file of the seed, as the rule of crates/testload/specs/Rule.antt has it.
-use Rattle.std.specs.Prelude.{◌&&◌, ◌≡◌, ℕ, ◌+◌, ◌-◌, ◌*◌, ◌≤◌, true, false, List, [], ◌∷◌, ◌++◌, map, length, ◌==◌, nat_le, nat_lt, slice_index_or, None, Option, Some}
+use Rattle.std.specs.Prelude.{◌≡◌, ℕ, ◌-◌, ◌≤◌, true, false, List, [], ◌∷◌, ◌++◌, map, length, ◌==◌, slice_index_or, None, Option, Some}
 use Rattle.meaning.specs.Refusal.{answer_too_long}
 use Rattle.meaning.specs.Frame.{wide}
 use Rattle.meaning.specs.Answer.{bytes₂}
@@ -7,18 +7,6 @@ use Rattle.meaning.specs.Content.{PredicateFrame}
 use Rattle.meaning.specs.Writing.{as_shape, as_value_type, as_query, as_expr}
 use Rattle.meaning.specs.Outcome.{Result, Accepted, Refused, answered, finish}
 use Rattle.testload.specs.Rule.{Limits, limits, names, base, simple, compound, predicates, leaves, pairs, singles, queries, load_file}
-
--- ---- Seeds
-
--- the number that decimal digits go on to from v; none where one is no digit, or the number has more than 32 bits
-unfoldable pub digits_from : ℕ → List ℕ → Option ℕ
-digits_from v [] = Some v
-digits_from v (b ∷ s) = elim ((nat_le 48 b && nat_le b 57) && nat_lt (10 * v + (b - 48)) 0x1_0000_0000) [ true ↦ digits_from (10 * v + (b - 48)) s | false ↦ None ]
-
-unfoldable pub decimal : List ℕ → Option ℕ
-unfolding digits_from
-decimal [] = None
-decimal (b ∷ s) = digits_from 0 (b ∷ s)
 
 -- ---- Cells
 
@@ -59,6 +47,10 @@ joined (t ∷ ts) = t ++ joined ts
 unfoldable pub content : ℕ → ℕ → List ℕ
 unfolding joined tables
 content i n = slice_index_or (joined (tables i)) n []
+
+-- how many blocks of eight nodes the rows of the last table have
+unfoldable pub blocks : List ℕ
+blocks = map (λ p. p.blocks) queries
 
 -- ---- The call
 

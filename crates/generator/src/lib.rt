@@ -1,7 +1,7 @@
 // Card 11: the file of a seed, written into a lent slice. The rule is crates/testload/specs/Rule.antt.
 #![tactic(auto)]
 
-ghost use Rattle.std.specs.Prelude.{◌≡◌, ℕ, ◌-◌, ◌/◌, ◌<◌, ◌≤◌, ◌∷◌, ◌++◌, length, take, drop};
+ghost use Rattle.std.specs.Prelude.{◌≡◌, ℕ, ◌-◌, ◌/◌, ◌<◌, ◌≤◌, ◌∷◌, ◌++◌, ◌+◌, length, take, drop, slice_index};
 ghost use mathlib.Core.List.{flat_map};
 ghost use Rattle.meaning.specs.Frame.{wide};
 ghost use Rattle.meaning.specs.Answer.{bytes₄, hex_line};
@@ -10,26 +10,7 @@ ghost use Rattle.meaning.specs.Content.{schema_frames, query_frames, frames_of};
 ghost use Rattle.testload.specs.Words.{next, words};
 ghost use Rattle.testload.specs.Rule.{choice, query_of, content_of};
 ghost use Rattle.writer.specs.Writes.{Writes, hex_of};
-ghost use Rattle.generator.specs.Promises.{decimal, cell_bytes, content, Makes};
-
-// ---- Seeds
-
-// A seed in decimal digits. `parse` would take a plus sign too.
-pub fn read_seed(s: &[u8]) -> Option<u32>
-    ensures { result ≡ decimal s.now }
-{
-    if s.is_empty() {
-        return None;
-    }
-    let mut v: u32 = 0;
-    for b in s {
-        if !b.is_ascii_digit() {
-            return None;
-        }
-        v = v.checked_mul(10)?.checked_add(u32::from(*b - b'0'))?;
-    }
-    Some(v)
-}
+ghost use Rattle.generator.specs.Promises.{cell_bytes, content, blocks, Makes};
 
 // ---- The words
 
@@ -77,10 +58,11 @@ fn cell(out: &mut [u8], at: usize, x: u8, i: u32) -> Option<usize>
     }
 }
 
-// The rule's tables, sixteen rows each, one after the other: limits, what is fixed (names, types 0 to 2), types 3 to 5,
-// types 6 to 8, predicates, leaves, pairs, singles, queries. A byte to a cell; fe is the node before the row's own, fd
-// the one before that. One list and not nine: the rule is held against it row by row, in one computed test.
-static ROWS: [&[u8]; 144] = [
+// The rule's tables but the last, sixteen rows each, one after the other: limits, what is fixed (names, types 0 to 2),
+// types 3 to 5, types 6 to 8, predicates, leaves, pairs, singles. A byte to a cell; fe is the node before the row's own,
+// fd the one before that: neither is another cell's byte, and an enum would make each row a list of its variants. One
+// list and not eight: the rule is held against it row by row, in one computed test.
+static ROWS: [&[u8]; 128] = [
     b"\x02\x00\x20",
     b"\x02\x00\x20",
     b"\x02\x00\x04",
@@ -209,27 +191,11 @@ static ROWS: [&[u8]; 144] = [
     b"\x08\x00\x01\xfe",
     b"\x0c\xfe",
     b"\x0c\xfe",
-    b"\x00\x06",
-    b"\x00\x07\x01\x00\x06",
-    b"\x00\x03",
-    b"\x00\x07\x01\x00\x03",
-    b"\x00\x03\x00\x00\x07\x00\x06",
-    b"\x00\x06\x00\x00\x07\x00\x03",
-    b"\x00\x07\x00\x00\x03\x00\x06",
-    b"\x00\x07\x02\x00\x03\x01\x00\x06",
-    b"\x00\x0f\x00\x00\x07\x00\x06\x04\x00\x03\x00\x0e\x01\x00\x0b",
-    b"\x00\x0e\x00\x00\x07\x00\x06\x00\x00\x0f\x00\x0b\x01\x00\x03",
-    b"\x00\x07\x01\x00\x06\x01\x00\x0e\x00\x00\x0f\x00\x03",
-    b"\x00\x03\x03\x00\x07\x00\x06\x00\x00\x0f\x00\x0e\x02\x00\x0b",
-    b"\x00\x0b\x01\x00\x06\x01\x00\x0e\x04\x00\x07\x00\x0f",
-    b"\x00\x17\x00\x00\x07\x00\x06\x00\x00\x0f\x00\x0e\x01\x00\x16\x01\x00\x03",
-    b"\x00\x16\x00\x00\x07\x00\x06\x04\x00\x0f\x00\x0e\x00\x00\x17\x00\x13",
-    b"\x00\x13\x00\x00\x17\x00\x16\x03\x00\x0f\x00\x0e\x01\x00\x06",
 ];
 
-// The cells of row n. Only here a row is a number; below it is its cells.
+// The cells of row n. Only here and in `plan` a row is a number; below it is its cells.
 fn cells(n: usize) -> &'static [u8]
-    requires { n < 144 }
+    requires { n < 128 }
     ensures { (i : ℕ) → flat_map (cell_bytes i) result.now ≡ content i n }
 {
     ROWS[n]
@@ -310,8 +276,52 @@ fn schema(w: &[u32; 1440], out: &mut [u8]) -> Option<usize>
 
 // ---- Queries
 
-// The blocks of eight nodes of each row of the last table.
-static BLOCKS: [usize; 16] = [1, 1, 1, 1, 1, 1, 1, 1, 2, 2, 2, 2, 2, 3, 3, 3];
+// The last of the rule's tables: so many blocks of eight nodes, and the cells of the query's own line.
+static PLANS: [(usize, &[u8]); 16] = [
+    (1, b"\x00\x06"),
+    (1, b"\x00\x07\x01\x00\x06"),
+    (1, b"\x00\x03"),
+    (1, b"\x00\x07\x01\x00\x03"),
+    (1, b"\x00\x03\x00\x00\x07\x00\x06"),
+    (1, b"\x00\x06\x00\x00\x07\x00\x03"),
+    (1, b"\x00\x07\x00\x00\x03\x00\x06"),
+    (1, b"\x00\x07\x02\x00\x03\x01\x00\x06"),
+    (
+        2,
+        b"\x00\x0f\x00\x00\x07\x00\x06\x04\x00\x03\x00\x0e\x01\x00\x0b",
+    ),
+    (
+        2,
+        b"\x00\x0e\x00\x00\x07\x00\x06\x00\x00\x0f\x00\x0b\x01\x00\x03",
+    ),
+    (2, b"\x00\x07\x01\x00\x06\x01\x00\x0e\x00\x00\x0f\x00\x03"),
+    (
+        2,
+        b"\x00\x03\x03\x00\x07\x00\x06\x00\x00\x0f\x00\x0e\x02\x00\x0b",
+    ),
+    (2, b"\x00\x0b\x01\x00\x06\x01\x00\x0e\x04\x00\x07\x00\x0f"),
+    (
+        3,
+        b"\x00\x17\x00\x00\x07\x00\x06\x00\x00\x0f\x00\x0e\x01\x00\x16\x01\x00\x03",
+    ),
+    (
+        3,
+        b"\x00\x16\x00\x00\x07\x00\x06\x04\x00\x0f\x00\x0e\x00\x00\x17\x00\x13",
+    ),
+    (
+        3,
+        b"\x00\x13\x00\x00\x17\x00\x16\x03\x00\x0f\x00\x0e\x01\x00\x06",
+    ),
+];
+
+fn plan(v: usize) -> (usize, &'static [u8])
+    requires { v < 16 }
+    ensures count { result.0 ≡ slice_index blocks v }
+    ensures few { result.0 ≤ 3 }
+    ensures cells { (i : ℕ) → flat_map (cell_bytes i) result.1.now ≡ content i (128 + v) }
+{
+    PLANS[v]
+}
 
 // The table of each node of a block.
 static SLOTS: [usize; 8] = [5, 5, 6, 7, 5, 7, 7, 5];
@@ -321,12 +331,13 @@ fn query(w: &[u32; 1440], q: usize, out: &mut [u8], mut at: usize) -> Option<usi
     ensures { Writes out.old at (file_of wide (query_frames (query_of w.now q))) out.new result }
 {
     let v = choice(w, 32 + 32 * q);
-    for i in 0..8 * BLOCKS[v] {
+    let (blocks, last) = plan(v);
+    for i in 0..8 * blocks {
         let p = 55 + 64 * q + 2 * i;
         let n = 16 * SLOTS[i % 8] + choice(w, 33 + 32 * q + i);
         at = node(out, at, w[p], w[p + 1], cells(n), i as u32)?;
     }
-    line(out, at, 6, cells(128 + v))
+    line(out, at, 6, last)
 }
 
 // How many queries there are, by choice.

@@ -3,7 +3,7 @@ use mathlib.Core.Bool.{Bool, true, false}
 use mathlib.Core.List.{List, [], ◌∷◌, map, flat_map}
 use mathlib.Core.Logic.{inl, inr}
 use mathlib.Core.Path.{◌≡◌, refl, sym, ap, subst, ◌∙◌}
-use Prim.Native.Nat.{ℕ, ◌+◌, ◌≤◌}
+use Prim.Native.Nat.{ℕ, ◌+◌}
 use native.Mathlib.Omega.{arith}
 use lib.Dec.{leb, ltb}
 use lib.ListN.{length, get_or, replicate, length-map}
@@ -156,14 +156,6 @@ pub cleared : {old new w w₁ w' : List ℕ} {r : Result (Unit {0}) Premise} →
 cleared h z = record { told = h.told; work = z ∙ ap (λ n. replicate n 0) h.long }
 
 -- ---- The line
-
--- its second digit does not overflow a byte
-pub number_low : (p : Result (Unit {0}) Premise) (n : ℕ) → n ≡ number p → n ≤ 4
-number_low (Ok tt) n e = omega (arith, e)
-number_low (Err Premise.OldRefused) n e = omega (arith, e)
-number_low (Err Premise.NewRefused) n e = omega (arith, e)
-number_low (Err Premise.OtherChange) n e = omega (arith, e)
-number_low (Err Premise.NamesAbsent) n e = omega (arith, e)
 
 pub line_is : (p : Result (Unit {0}) Premise) (n : ℕ) → n ≡ number p → 48 ∷ (48 + n) ∷ 10 ∷ [] ≡ hex_line (number p ∷ [])
 unfolding hex_line

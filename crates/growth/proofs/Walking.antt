@@ -75,9 +75,6 @@ pub record Left (old new : List ℕ) (i j : ℕ) (fs gs : List Frame) : Type 0 w
 pub record Walking (old new : List ℕ) (i j : ℕ) : Type 0 where
   pub left : (fs gs : List Frame) → LinesAre wide old fs → LinesAre wide new gs → Left old new i j fs gs
 
-pub walking_start : (old new : List ℕ) → Walking old new 0 0
-walking_start old new = record { left = λ fs gs a b. record { olds = fs; news = gs; old_are = a; new_are = b; to = λ h. h; back = λ h. h } }
-
 some_line : (s : List ℕ) → 0 < length s → lines s ≡ [] → ⊥
 unfolding lines in_front
 some_line [] l e = omega arith

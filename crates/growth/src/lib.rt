@@ -1,4 +1,5 @@
-// Card 14: whether the queries of an old file keep their answers in a new one.
+// Card 14: whether the queries of an old file keep their answers in a new one. Files and slice are parameters, as in
+// crate desk.
 #![tactic(auto)]
 
 ghost use Rattle.std.specs.Prelude.{[], ◌∷◌, ◌≡◌};
@@ -49,7 +50,8 @@ fn only_added(old: &[u8], new: &[u8]) -> bool
     let mut b = [0u8; Counters::LINE];
     let mut i = 0;
     let mut j = 0;
-    // Each line starts where `decode` says that the one before ends, and the old file may stand still.
+    // Each line starts where `decode` says that the one before ends, and the old file may stand still: no iterator, as
+    // crate reading says.
     while let Some((m, after)) = frames::decode(new, j, &mut b) {
         let Some((n, next)) = frames::decode(old, i, &mut a) else {
             return false;

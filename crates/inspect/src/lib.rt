@@ -39,13 +39,11 @@ fn answer(file: &[u8], n: u32, work: &mut [u32], lent: &mut [u32]) -> Inspected
     ensures { Answers file.now n work.old lent.old work.new lent.new result }
 {
     match seek::seek(file, n, work) {
-        Ok(found) => match found {
-            Some((got, expected)) => Inspected::from(solver::solve(work, got, expected, lent)),
-            None => {
-                work::clear(lent);
-                Inspected::Fewer
-            }
-        },
+        Ok(Some((got, expected))) => Inspected::from(solver::solve(work, got, expected, lent)),
+        Ok(None) => {
+            work::clear(lent);
+            Inspected::Fewer
+        }
         Err(e) => {
             work::clear(lent);
             Inspected::Refused(e)

@@ -1,5 +1,5 @@
 // Card 4's call: whether a query of a file has a diagnostic. Each query runs until its first one, and no answer is
-// written.
+// written. The file and the slices are parameters, as in crate desk.
 #![tactic(auto)]
 
 ghost use Rattle.std.specs.Prelude.{◌≡◌, ◌≤◌, length};
@@ -61,8 +61,8 @@ fn ask(file: &[u8], work: &mut [u32]) -> Lit
         let next = loading::load(file, at, work);
         let one = one_query(file, work);
         visits += one.visits;
-        // A diagnostic ends the walk, and so does a run that had too few visits. Of two fields one is new: `..one` would
-        // say no more.
+        // A diagnostic ends the walk, and so does a run that had too few visits. Of two fields one is new: `..one`
+        // would say no more.
         if one.signal.unwrap_or(true) {
             return Lit {
                 signal: one.signal,
@@ -104,8 +104,8 @@ pub fn line(l: Result<bool, Refusal>) -> [u8; 5]
     ensures { result ≡ lamp_line (signal_of l) }
 {
     match l {
-        Ok(true) => [48, 100, 48, 49, 10],
-        Ok(false) => [48, 100, 48, 48, 10],
+        Ok(true) => *b"0d01\n",
+        Ok(false) => *b"0d00\n",
         Err(e) => desk::refusal_line(e),
     }
 }

@@ -5,11 +5,10 @@ use mathlib.Core.Path.{◌≡◌, refl, sym, ◌∙◌, ap}
 use Prim.Native.Nat.{ℕ, ◌-◌, ◌≤◌}
 use lib.Dec.{ltb}
 use lib.ListN.{length}
-use borrow.Author.Tests.{le-ltb, ltb-false}
+use borrow.Author.Tests.{le-ltb, ltb-true, ltb-false}
 use Rattle.meaning.specs.All.{All, Each}
 use Rattle.meaning.specs.Syntax.{Ast}
 use Rattle.meaning.specs.Schema.{Schema}
-use Rattle.meaning.specs.Refusal.{work_too_short}
 use Rattle.meaning.specs.Frame.{wide}
 use Rattle.meaning.specs.File.{Form, described, reading}
 use Rattle.meaning.specs.Frame.{TypeShape}
@@ -18,11 +17,12 @@ use Rattle.meaning.specs.Content.{PredicateFrame, Content, Lawful, Says, describ
 use Rattle.meaning.specs.Messages.{text_in}
 use Rattle.meaning.specs.Answer.{form_lines}
 use Rattle.meaning.specs.Check.{Typed, Checked, typed, exhausted, check}
-use Rattle.meaning.specs.Outcome.{min_words, max_visits, turned_down, answered, with_checked, run_all, decide_run, decide_read, decide, refuse, accept, finish}
+use Rattle.meaning.specs.Outcome.{min_words, max_visits, answered, with_checked, run_all, decide_run, decide_read, decide, refuse, accept, finish}
 use Rattle.meaning.specs.Outcome.{outcome}
 use Rattle.meaning.proofs.Lists.{all_map}
 use Rattle.meaning.proofs.Tests.{cases}
 use Rattle.meaning.proofs.Content.{says_exactly}
+use Rattle.meaning.proofs.Demands.{short_decides}
 use Rattle.meaning.proofs.Forms.{Ran, each_ran}
 use Rattle.laws.specs.Over.{Language, MessageOver, CheckedOver}
 use Rattle.laws.specs.Names.{Renamed, lines_but, SameBeside, Fits}
@@ -72,10 +72,6 @@ lower_ceiling file f read ts h words enough =
 long_enough : (file : List ℕ) (f : Form) → Says wide file f → (words : ℕ) → min_words ≤ words → decide file words ≡ decide_read (described f)
 unfolding decide
 long_enough file f says words l = rw (le-ltb words min_words l, decide) (ap decide_read ((says_exactly wide file f).1 says))
-
-too_short : (file : List ℕ) (words : ℕ) → ltb words min_words ≡ true → decide file words ≡ turned_down work_too_short
-unfolding decide
-too_short file words e = rw (e, decide)
 
 -- ---- Card 10
 
@@ -165,7 +161,7 @@ unfolding outcome
 grown_files f g d e p q n h words bytes = ap (λ x. finish x words bytes) (cases (ltb words min_words) short long)
   where
     short : ltb words min_words ≡ true → decide f words ≡ decide g words
-    short z = too_short f words z ∙ sym (too_short g words z)
+    short z = let h = ltb-true words min_words z in short_decides f words h ∙ sym (short_decides g words h)
 
     long : ltb words min_words ≡ false → decide f words ≡ decide g words
     long z = grown_decisions f g d e p q n h words words (ltb-false words min_words z) (ltb-false words min_words z)

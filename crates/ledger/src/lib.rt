@@ -25,6 +25,7 @@ pub fn group(words: &[u32; 50]) -> Group
     }
 }
 
+// The places are counted: what a slice holds after `as_chunks_mut` or `chunks_mut` no clause of std says.
 pub fn put_group(words: &mut [u32; 50], g: Group)
     ensures { words.new ≡ group_words g }
 {

@@ -5,24 +5,6 @@
 
 use std::io;
 
-// What is counted of them stands in `Counts`, at the same places: a constant holds no counts.
-const CODES: [&str; 14] = [
-    "nyi/bind-unification",
-    "reject/bind-lhs",
-    "reject/fuzzy-distance",
-    "reject/fuzzy-term",
-    "reject/infinite-type",
-    "reject/no-value",
-    "reject/not-a-union",
-    "reject/type-mismatch",
-    "reject/union-arity",
-    "reject/unknown-alternative",
-    "reject/unknown-field",
-    "reject/unresolved-access",
-    "reject/value-shadowed",
-    "reject/wildcard-in-head",
-];
-
 // What a line has to be counted: two digits are a byte. A node's shape is the number that the file has for it.
 enum Line<'a> {
     Node { start: u32, shape: u8 },
@@ -30,12 +12,12 @@ enum Line<'a> {
     Diagnostic(&'a [[u8; 2]]),
 }
 
-// How often each thing was seen: shapes of nodes and kinds of statements by their numbers, codes as they stand in CODES.
-#[derive(Default, Drop)]
+// How often each thing was seen: shapes of nodes and kinds of statements by their numbers, codes by their names.
+#[derive(Drop)]
 struct Counts {
     shapes: [usize; 17],
     statements: [usize; 5],
-    codes: [usize; 14],
+    codes: [(&'static str, usize); 14],
     accepted: usize,
     with_diagnostic: usize,
     without: usize,
@@ -66,6 +48,32 @@ fn add_one(count: Option<&mut usize>) {
 }
 
 impl Counts {
+    fn new() -> Counts {
+        Counts {
+            shapes: [0; 17],
+            statements: [0; 5],
+            codes: [
+                ("nyi/bind-unification", 0),
+                ("reject/bind-lhs", 0),
+                ("reject/fuzzy-distance", 0),
+                ("reject/fuzzy-term", 0),
+                ("reject/infinite-type", 0),
+                ("reject/no-value", 0),
+                ("reject/not-a-union", 0),
+                ("reject/type-mismatch", 0),
+                ("reject/union-arity", 0),
+                ("reject/unknown-alternative", 0),
+                ("reject/unknown-field", 0),
+                ("reject/unresolved-access", 0),
+                ("reject/value-shadowed", 0),
+                ("reject/wildcard-in-head", 0),
+            ],
+            accepted: 0,
+            with_diagnostic: 0,
+            without: 0,
+        }
+    }
+
     // A statement is its kind and two bytes or four, so that no `for` goes over them.
     fn count_statements(&mut self, statements: &[[u8; 2]]) {
         let mut rest = statements;
@@ -81,12 +89,11 @@ impl Counts {
     }
 
     fn count_code(&mut self, code: &[[u8; 2]]) {
-        let place = CODES
-            .iter()
-            .position(|text| code.iter().map(byte).eq(text.bytes()));
-        if let Some(i) = place {
-            add_one(self.codes.get_mut(i));
-        }
+        let seen = self
+            .codes
+            .iter_mut()
+            .find(|(text, _)| code.iter().map(byte).eq(text.bytes()));
+        add_one(seen.map(|(_, n)| n));
     }
 
     // The lines of a file and of its answer. Gives the start of the first span.
@@ -154,7 +161,7 @@ fn report(rt: &impl Print, counts: &Counts, alike: usize) -> io::Result<()> {
     println!(rt; "pairs with the same first span: {alike}")?;
     print_counts(rt, "nodes of shape", &counts.shapes)?;
     print_counts(rt, "statements of kind", &counts.statements)?;
-    for (code, n) in CODES.iter().zip(&counts.codes) {
+    for (code, n) in &counts.codes {
         println!(rt; "{code}: {n}")?;
     }
     Ok(())
@@ -163,7 +170,7 @@ fn report(rt: &impl Print, counts: &Counts, alike: usize) -> io::Result<()> {
 fn main(rt: HostRuntime) -> io::Result<()> {
     let mut work = [0; 16384];
     let mut out = [0; 65536];
-    let mut counts = Counts::default();
+    let mut counts = Counts::new();
     let mut starts = [None; 10000];
     for (seed, start) in (0..10000).zip(&mut starts) {
         *start = counts.count_seed(seed, &mut work, &mut out);

@@ -9,8 +9,8 @@ use reading::Counters;
 use work::{line_word, node_word, put, wide};
 
 // The next query from `at` on; what comes back is where the lines after its 06 line start. Lines 01 to 04 are passed
-// over, and where no query is found that is the file's end, where each walk over the queries stops: it can't fail, so
-// it gives no Option.
+// over, and where no query is found that is the file's end. No Option: it never failed, and a public function must not
+// begin to; each walk over the queries compares the place with the file's length.
 #[tactic(auto, using(crate::proofs::Loading::loading))]
 pub fn load(file: &[u8], at: usize, w: &mut [u32]) -> usize
     ensures { Loads file.now at w.old w.new result }
@@ -21,7 +21,7 @@ pub fn load(file: &[u8], at: usize, w: &mut [u32]) -> usize
     let mut line = [0u8; Counters::LINE];
     let mut nodes = 0;
     let mut i = at;
-    // Each line starts where `decode` says that the one before ends.
+    // Each line starts where `decode` says that the one before ends: no iterator, as crate reading says.
     while let Some((n, next)) = frames::decode(file, i, &mut line) {
         match frames::kind_of(line[0]) {
             Some(Kind::Query) => {

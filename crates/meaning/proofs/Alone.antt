@@ -7,6 +7,7 @@ use Prim.Native.Nat.{ℕ, suc, ◌+◌, ◌≤◌}
 use native.Mathlib.Omega.{arith}
 use lib.Dec.{ltb}
 use lib.ListN.{length, length-append}
+use borrow.Author.Tests.{ltb-true}
 use Rattle.meaning.specs.Syntax.{Ast}
 use Rattle.meaning.specs.Schema.{Schema}
 use Rattle.meaning.specs.Refusal.{Refusal, work_too_short, too_many_visits}
@@ -27,6 +28,7 @@ use Rattle.meaning.proofs.Lists.{all_append, all_left, all_right, all_map}
 use Rattle.meaning.proofs.Tests.{cases}
 use Rattle.meaning.proofs.Forms.{Ran, RanOut, Runs, all_ran, one_out, runs}
 use Rattle.meaning.proofs.Content.{says_exactly}
+use Rattle.meaning.proofs.Demands.{short_decides}
 use Rattle.std.specs.Prelude.{Option, Some}
 
 -- ---- The file of one query alone passes
@@ -68,26 +70,31 @@ writable_queries (a ∷ qs) w = (
   writable_queries qs (all_right (Writable wide) (query_frames a) (flat_map query_frames qs) w),
 )
 
+-- The same names, types and predicates, with other queries or in the other edition.
+pub lawful_with : {from to : Edition} (c : Content) (qs : List Ast) → Lawful from c → All (LawfulQuery (length c.names)) qs → 1 ≤ length qs
+    → length qs ≤ max_queries → All (Writable to) (frames_of (record c { queries = qs })) → Lawful to (record c { queries = qs })
+lawful_with c qs h queries min max w = record {
+  names_max = h.names_max;
+  types_max = h.types_max;
+  predicates_max = h.predicates_max;
+  texts = h.texts;
+  distinct = h.distinct;
+  type_names = h.type_names;
+  type_types = h.type_types;
+  type_keys = h.type_keys;
+  predicate_names = h.predicate_names;
+  predicate_types = h.predicate_types;
+  queries = queries;
+  queries_min = min;
+  queries_max = max;
+  writable = w;
+}
+
 lawful_alone : (c : Content) (a : Ast) → Lawful wide c → LawfulQuery (length c.names) a → All (Writable wide) (query_frames a) → Lawful wide (alone c a)
 unfolding alone frames_of schema_frames flat_map max_queries
-lawful_alone c a h q w =
-    record {
-      names_max = h.names_max;
-      types_max = h.types_max;
-      predicates_max = h.predicates_max;
-      texts = h.texts;
-      distinct = h.distinct;
-      type_names = h.type_names;
-      type_types = h.type_types;
-      type_keys = h.type_keys;
-      predicate_names = h.predicate_names;
-      predicate_types = h.predicate_types;
-      queries = (q, tt);
-      queries_min = omega arith;
-      queries_max = omega arith;
-      writable = all_append (Writable wide) (schema_frames c) (query_frames a ++ [])
-          (all_left (Writable wide) (schema_frames c) (flat_map query_frames c.queries) h.writable) (rw append-nil w);
-    }
+lawful_alone c a h q w = lawful_with c (a ∷ []) h (q, tt) (omega arith) (omega arith)
+    (all_append (Writable wide) (schema_frames c) (query_frames a ++ [])
+    (all_left (Writable wide) (schema_frames c) (flat_map query_frames c.queries) h.writable) (rw append-nil w))
 
 -- "the answer of a file with that query alone": that file passes 1 to 10 and 13
 pub alone_passes : (c : Content) → Lawful wide c → length (file_of wide (frames_of c)) ≤ max_file
@@ -237,12 +244,9 @@ module _ (c : Content) (lawful : Lawful wide c) (size : length (file_of wide (fr
           → decide (file_of wide (frames_of c)) words ≡ turned_down too_many_visits
       back a = cases (ltb words min_words) (λ q. absurd (short_all q c.queries a)) (λ q. is_decided q ∙ go q (runs (describes c).schema c.queries))
         where
-          short_one : ltb words min_words ≡ true → (file : List ℕ) → decide file words ≡ turned_down work_too_short
-          short_one q file = rw (q, decide)
-
           short_all : ltb words min_words ≡ true → (qs : List Ast) → Any (λ a. decide (file_alone c a) words ≡ turned_down too_many_visits) qs → ⊥
           short_all q [] x = x
-          short_all q (b ∷ qs) (inl x) = not_short (sym x ∙ short_one q (file_alone c b))
+          short_all q (b ∷ qs) (inl x) = not_short (sym x ∙ short_decides (file_alone c b) words (ltb-true words min_words q))
           short_all q (b ∷ qs) (inr x) = short_all q qs x
 
           go : ltb words min_words ≡ false → {o : Option (List Typed)} → Runs (describes c).schema c.queries o

@@ -36,6 +36,11 @@ unfolding first_of
 holds_none [] so l a = refl
 holds_none (c ∷ cs) so l a = rw (a.0, first_of) (holds_none cs so l a.1)
 
+-- One that does not hold leaves it to those after it.
+pub passed : (c : Condition) (cs : List Condition) (so : SoFar) (l : Said) → c.holds so l ≡ false → first_of (c ∷ cs) so l ≡ first_of cs so l
+unfolding first_of
+passed c cs so l e = rw (e, first_of)
+
 -- ---- The parts of the rules
 
 room : (so : SoFar) (k : Kind) → is_full so k ≡ false → is_last_query_past so k ≡ false → Room so k

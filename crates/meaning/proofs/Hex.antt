@@ -9,7 +9,6 @@ use lib.Dec.{eqb}
 use lib.ListN.{length, get_or}
 use borrow.Author.Tests.{eqb-true, eqb-false, not-true}
 use Rattle.text.specs.Utf8.{one_more}
-use Rattle.text.proofs.Grammar.{clash as no_some}
 use Rattle.meaning.specs.Diag.{ascii}
 use Rattle.meaning.specs.Lines.{LF, position, digits, digit, pair, decoded}
 use Rattle.meaning.specs.All.{All, Absent}
@@ -38,7 +37,7 @@ each_reads_back : agree_below reads_back (λ _. true) 16 ≡ true
 unfolding reads_back
 each_reads_back = refl
 
-digit_of : (v : ℕ) → v < 16 → digit (hex_digit v) ≡ Some v
+pub digit_of : (v : ℕ) → v < 16 → digit (hex_digit v) ≡ Some v
 unfolding reads_back
 digit_of v h = is_some _ v (and_parts _ _ ((and_parts _ _ (agree_below_at reads_back (λ _. true) 16 v each_reads_back h)).0)).0
 
@@ -61,14 +60,14 @@ next s = record { at = s.at; inside = omega (arith, s.inside) }
 
 stands : (c : ℕ) (l : List ℕ) (v : ℕ) → position (eqb c) l ≡ Some v → Stands c l v
 unfolding position
-stands c [] v e = no_some e
+stands c [] v e = cc
 stands c (a ∷ l) v e = cases (eqb c a)
     (λ q. let h : Some 0 ≡ Some v = rw (q, position) at e in let z : v ≡ 0 = cc in rw z (record { at = sym (eqb-true c a q); inside = omega arith }))
     (λ q. go (λ w p. stands c l w p) (position (eqb c) l) refl (rw (q, position) at e))
   where
     go : ((w : ℕ) → position (eqb c) l ≡ Some w → Stands c l w) → (o : Option ℕ) → position (eqb c) l ≡ o → one_more (position (eqb c) l) ≡ Some v
         → Stands c (a ∷ l) v
-    go ih None q h = no_some {x = v} (rw q at h)
+    go ih None q h = cc (rw q at h)
     go ih (Some w) q h = let k : Some (suc w) ≡ Some v = rw q at h in let z : v ≡ suc w = cc in rw z (next (ih w q))
 
 digit_stands : (c v : ℕ) → digit c ≡ Some v → (hex_digit v ≡ c) × (v < 16)
@@ -89,6 +88,11 @@ pub line_hexes : (s : List ℕ) → hex_line s ≡ hexes s ++ LF ∷ []
 unfolding hex_line hexes
 line_hexes [] = refl
 line_hexes (b ∷ s) = ap (λ t. hex_digit (b / 16) ∷ hex_digit (b % 16) ∷ t) (line_hexes s)
+
+pub line_length : (s : List ℕ) → length (hex_line s) ≡ 2 * length s + 1
+unfolding hex_line
+line_length [] = refl
+line_length (b ∷ s) = omega (arith, line_length s)
 
 pub decoded_hex : (s : List ℕ) → All Byte s → decoded (hexes s) ≡ Some s
 unfolding hexes decoded pair
@@ -119,12 +123,12 @@ byte_hex h l v w t s p q r =
 pub hex_decoded : (l s : List ℕ) → decoded l ≡ Some s → Hex l s
 unfolding decoded pair hexes
 hex_decoded [] s e = let z : s ≡ [] = cc in rw z (record { is = refl; bytes = tt })
-hex_decoded (h ∷ []) s e = no_some e
+hex_decoded (h ∷ []) s e = cc
 hex_decoded (h ∷ l ∷ t) s e = go (λ r q. hex_decoded t r q) (digit h) refl (digit l) refl (decoded t) refl e
   where
     go : ((r : List ℕ) → decoded t ≡ Some r → Hex t r) → (x : Option ℕ) → digit h ≡ x → (y : Option ℕ) → digit l ≡ y → (z : Option (List ℕ))
         → decoded t ≡ z → pair x y z ≡ Some s → Hex (h ∷ l ∷ t) s
-    go ih None p y q z r c = no_some c
-    go ih (Some v) p None q z r c = no_some c
-    go ih (Some v) p (Some w) q None r c = no_some c
+    go ih None p y q z r c = cc
+    go ih (Some v) p None q z r c = cc
+    go ih (Some v) p (Some w) q None r c = cc
     go ih (Some v) p (Some w) q (Some x) r c = rw (sym (same_some c)) (byte_hex h l v w t x p q (ih x r))

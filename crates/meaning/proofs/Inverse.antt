@@ -31,13 +31,13 @@ abbrev pub Nothing : List ℕ → Type 0
 Nothing t = t ≡ []
 
 -- a reading that went on had something to go on from
-record Went {A B : Type 0} (g : Got A) (f : A → Reader B) (b : B) (t : List ℕ) : Type 0 where
-  value : A
-  after : List ℕ
-  first : g ≡ got value after
-  then : f value after ≡ got b t
+pub record Went {A B : Type 0} (g : Got A) (f : A → Reader B) (b : B) (t : List ℕ) : Type 0 where
+  pub value : A
+  pub after : List ℕ
+  pub first : g ≡ got value after
+  pub then : f value after ≡ got b t
 
-went : {A B : Type 0} (g : Got A) (f : A → Reader B) (b : B) (t : List ℕ) → and_then g f ≡ got b t → Went g f b t
+pub went : {A B : Type 0} (g : Got A) (f : A → Reader B) (b : B) (t : List ℕ) → and_then g f ≡ got b t → Went g f b t
 unfolding and_then
 went (got a s) f b t e = record { value = a; after = s; first = refl; then = e }
 went fails f b t e = let z : ◌≡◌ {A = ℕ} 0 1 = cc in absurd (omega arith)

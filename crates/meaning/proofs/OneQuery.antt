@@ -23,6 +23,7 @@ use Rattle.meaning.specs.OneQuery.{SoFarBefore, start_before, add_before, after_
 use Rattle.meaning.specs.OneQuery.{ReadingBefore, refused_before, described_before, describe_before, at_end_before, read_from_before, reading_before}
 use Rattle.meaning.specs.OneQuery.{decide_checked_before, decide_read_before, decide_before, outcome_before, kind_in, QueryLast}
 use Rattle.meaning.proofs.Tests.{cases}
+use Rattle.meaning.proofs.Conditions.{passed}
 use Rattle.meaning.proofs.Refused.{read_next}
 use Rattle.std.specs.Prelude.{None, Option, Some}
 
@@ -31,10 +32,6 @@ use Rattle.std.specs.Prelude.{None, Option, Some}
 keep : (c : Condition) (cs ds : List Condition) (so : SoFar) (l : Said) → first_of cs so l ≡ first_of ds so l → first_of (c ∷ cs) so l ≡ first_of (c ∷ ds) so l
 unfolding first_of
 keep c cs ds so l e = cases (c.holds so l) (λ q. rw (q, first_of)) (λ q. rw (q, first_of) e)
-
-skip : (c : Condition) (cs : List Condition) (so : SoFar) (l : Said) → c.holds so l ≡ false → first_of (c ∷ cs) so l ≡ first_of cs so l
-unfolding first_of
-skip c cs so l q = rw (q, first_of)
 
 swap : (c d : Condition) (cs : List Condition) (so : SoFar) (l : Said) → c.refusal ≡ d.refusal → c.holds so l ≡ d.holds so l
     → first_of (c ∷ cs) so l ≡ first_of (d ∷ cs) so l
@@ -49,7 +46,7 @@ same_conditions so l m q =
     (swap _ _ _ so l refl m
     ∙ keep _ _ _ so l
     (keep _ _ _ so l
-    (skip _ _ so l q)))
+    (passed _ _ so l q)))
 
 -- No query has been read.
 record Open (b : SoFarBefore) : Type 0 where

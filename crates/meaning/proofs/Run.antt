@@ -6,18 +6,19 @@
 use mathlib.Core.List.{List, [], ◌∷◌}
 use mathlib.Core.Logic.{by_cases}
 use mathlib.Core.Path.{◌≡◌, refl}
-use Prim.Native.Nat.{ℕ, zero, suc, ◌+◌, ◌≤◌, ◌<◌}
+use Prim.Native.Nat.{ℕ, ◌+◌, ◌≤◌, ◌<◌}
 use native.Mathlib.Decide.{dec_lt}
 use native.Mathlib.Omega.{arith}
-use lib.ListN.{length, get_or, replicate, length-replicate, get_or-replicate}
+use lib.ListN.{length, replicate, length-replicate, get_or-replicate}
 use Rattle.unification.specs.Ty.{Ty}
-use Rattle.unification.specs.Bindings.{State}
+use Rattle.unification.specs.Bindings.{bound, State}
 use Rattle.unification.specs.Calls as Calls
 use Rattle.unification.specs.Calls.{Assignment, Claim, none_yet}
 use Rattle.unification.specs.Tie.{AllAsRobinson}
 use Rattle.unification.proofs.Tests.{clash}
 use Rattle.unification.specs.Log.{taken}
 use Rattle.unification.proofs.Log.{taken_pad}
+use Rattle.unification.proofs.Sides.{bound_pad}
 use Rattle.unification.proofs.Demand3.{calls_inv, demand_3}
 use Rattle.unification.proofs.Robinson.{robinson, robinson_at_the_limit}
 use Rattle.meaning.specs.Syntax.{Node, Ast}
@@ -56,20 +57,15 @@ module _ {A : Type 0} (P : A → Checker → Type 0) (g : Grade) (c : Checker) w
 
 -- ---- The start
 pub begin_orderly : (ceiling n : ℕ) → Orderly (begin ceiling n)
-unfolding begin taken Calls.begin
+unfolding begin taken Calls.begin bound
 begin_orderly ceiling n = record {
   log = record { wf = (calls_inv ceiling [] (Calls.begin ceiling []) none_yet).sound.wf; blank = tt; exact = omega (arith, taken_pad [] n) };
   env = tt;
   few = omega arith;
   marks = omega arith;
-  sides = λ m t e. clash (cc (empty n m));
+  sides = λ m t e. clash (cc (bound_pad [] n m));
   awaits = tt;
 }
-  where
-    empty : (n m : ℕ) → get_or (replicate {A = Option Ty} n None) m None ≡ None
-    empty zero m = refl
-    empty (suc n) zero = refl
-    empty (suc n) (suc m) = empty n m
 
 module _ (schema : Schema) (ast : Ast) (wf : WellFormed schema ast) where
   abbrev nodes : List Node

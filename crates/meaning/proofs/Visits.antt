@@ -12,7 +12,7 @@ use Rattle.unification.specs.Bindings as Bindings
 use Rattle.unification.specs.Unify.{TyError, find_key, find_label}
 use Rattle.unification.specs.Calls.{Declared, DeclaredRow, Side, SideRow}
 use Rattle.unification.proofs.Tests.{clash}
-use Rattle.unification.proofs.Sides.{side_more, declared_side, Part, find_part, Field, fields, side_follow}
+use Rattle.unification.proofs.Sides.{side_row_more, declared_side, Part, find_part, Field, fields, side_follow}
 use Rattle.meaning.specs.Syntax.{QueryStmt, Query, FieldRef, Literal, ExprKind, Node, node_at, is_destructurable}
 use Rattle.meaning.specs.Syntax as Syntax
 use Rattle.meaning.specs.Schema.{Predicate, Schema, get, field_of}
@@ -111,9 +111,6 @@ payload_side n name (Row.cell k l t r) h = go (eqb name l) refl (payload_side n 
 pub repr_side : (c : Checker) (t : Ty) → Orderly c → Side (unknowns c) t → Side (unknowns c) (Bindings.repr c.state.subst t)
 unfolding Bindings.repr
 repr_side c t o h = side_follow (suc (unknowns c)) c.state.subst t o.log.wf h
-
-row_more : (n m : ℕ) (r : Row) → n ≤ m → SideRow n r → SideRow m r
-row_more n m r le h = side_more n m le (Ty.node Kind.Record r) h
 
 -- ---- Access and selection
 module _ (schema : Schema) (nodes : List Node) (declared : All DeclaredPredicate schema.predicates) (id : ℕ) (c : Checker) (o : Orderly c) where
@@ -632,7 +629,7 @@ module _ (schema : Schema) (nodes : List Node) (declared : All DeclaredPredicate
       meets_then Nothing Nothing (checking nodes d f.value) (visiting nodes d (field_values fs)) (visiting nodes d (field_values (f ∷ fs))) c
       (omega arith) (check_mentioned schema nodes below f (find_key f.name row) c) _ y
       (λ y'. mentioned (find_key f.name row) (find_part (Field (unknowns c)) f.name row (fields (unknowns c) row h)) y')
-      (λ u b w y'. check_fields_meets fs row b w.orderly y' (row_more (unknowns c) (unknowns b) row (made_more _ c b w.made) h))
+      (λ u b w y'. check_fields_meets fs row b w.orderly y' (side_row_more (unknowns c) (unknowns b) (made_more _ c b w.made) row h))
     where
       mentioned : (p : Option (ℕ × Ty)) → Part (Field (unknowns c)) p → Ready (checking nodes d f.value) c
           → Meets Nothing (checking nodes d f.value) c (check_mentioned schema nodes below f p c)
@@ -682,7 +679,7 @@ module _ (schema : Schema) (nodes : List Node) (declared : All DeclaredPredicate
         meets_then Nothing Nothing (visiting nodes d (field_values fs)) (one_node id) (checking nodes (suc d) id) c
         (record { nodes = λ x. record_fits.nodes x; unknowns = record_fits.unknowns; diagnostics = omega (arith, record_fits.diagnostics) })
         (check_fields schema nodes below fs row c) _ y (λ y'. check_fields_meets fs row c o y' h)
-        (λ u b w y'. annotate_meets id (Ty.node Kind.Record row) b w.orderly y' (row_more (unknowns c) (unknowns b) row (made_more _ c b w.made) h))
+        (λ u b w y'. annotate_meets id (Ty.node Kind.Record row) b w.orderly y' (side_row_more (unknowns c) (unknowns b) (made_more _ c b w.made) row h))
     check_record_meets (Ty.node Kind.Union row) c o y h = meets_fits Nothing (choosing id fs) (checking nodes (suc d) id) c record_fits
         (check_union_meets id fs row c o (ready_fits (choosing id fs) (checking nodes (suc d) id) c record_fits y) h)
     check_record_meets (Ty.leaf p) c o y h = infer_then_unify_meets id (Ty.leaf p) c o y h

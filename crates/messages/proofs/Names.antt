@@ -9,7 +9,7 @@ use Rattle.meaning.specs.Lines.{Line, closed, unclosed, in_front, lines}
 use Rattle.meaning.specs.Messages.{name_of, or_mark, or_fact, fact_name}
 use Rattle.meaning.specs.Schema.{get}
 use Rattle.meaning.proofs.Hex.{hexes, hex_decoded}
-use Rattle.sigla_hex.proofs.Line.{no_some, head_line, decoded_line, decoded_at}
+use Rattle.sigla_hex.proofs.Line.{head_line, decoded_line, decoded_at}
 use Rattle.sigla_hex.proofs.Bytes.{From, more, from, line_takes}
 use Rattle.tree.specs.Stands.{no_predicate}
 use Rattle.writer.specs.Writes.{Writes, WritesText, hex_of}
@@ -60,7 +60,7 @@ line_digits f i s e = go (head_line (lines (drop i f))) refl e
   where
     go : (l : Line) → head_line (lines (drop i f)) ≡ l → decoded_line l ≡ Some s → before_first is_LF (drop i f) ≡ hex_of s
     go (closed t) q e = to_LF (drop i f) t q ∙ (hex_decoded t s e).is ∙ hexes_are s
-    go (unclosed t) q e = no_some e
+    go (unclosed t) q e = cc
 
 -- ---- Names
 

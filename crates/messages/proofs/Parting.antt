@@ -32,3 +32,9 @@ message_shown e k g = record {
       writes_as (ap hex_of (e v S)) (g.is v S (k o) b);
   moves = g.moves;
 }
+
+-- a message that is one text, and asks for nothing
+pub text_shown : {f w out : List ℕ} {at : ℕ} {m n : Message} {s : Sight → List ℕ} {out' : List ℕ} {r : Option ℕ}
+    → m ≡ n → s ≡ (λ v. message_text v.names v.schema (said v.rows v.subst n)) → Shows f w out at (Unit {0} × Unit {0}) s out' r
+    → WritesMessage f w out at m out' r
+text_shown q e g = rw q (message_shown (λ v S. ap (λ t. t v) e) (λ o. (tt, tt)) g)

@@ -13,14 +13,13 @@ use Rattle.unification.specs.Bindings.{Subst, zonk}
 use Rattle.unification.proofs.Chain.{repr_resolved}
 use Rattle.unification.proofs.Zonk.{zonk_repr, zonk_leaf, zonk_error, zonk_node, zonk_unbound, zonk_replaces}
 use Rattle.cells.specs.declared.Ty.{Ty}
-use Rattle.cells.specs.declared.Ty.TheVariants.{Record, Union}
 use Rattle.cells.specs.declared.Kind.{Kind}
 use Rattle.cells.specs.declared.Kind.TheVariants.{Fields, Alternatives}
 use Rattle.cells.specs.declared.Part.{Part}
 use Rattle.cells.specs.Words.{count_w, part_w}
 use Rattle.cells.specs.Stands.{Rows, tree, IsCell, Ok}
 use Rattle.cells.specs.Promises.{Reprs}
-use Rattle.cells.proofs.Parts.{rest, rest_whole, rest_cell, rest_none, part_ok}
+use Rattle.cells.proofs.Parts.{rest, rest_whole, rest_cell, rest_none, cell_ty, cell_ok, part_ok}
 use Rattle.meaning.specs.Diag.{ascii}
 use Rattle.meaning.specs.Messages.{decimal, render, render_row, separator, part}
 use Rattle.writer.specs.Writes.{Writes, WritesText, hex_of}
@@ -57,14 +56,6 @@ error_shown Followed s = zonk_error s
 error_shown Ignored s = refl
 
 -- ---- A type is shown by the end of its chain
-
-abbrev cell_ty : Kind → ℕ → Ty
-cell_ty Fields c = Record c
-cell_ty Alternatives c = Union c
-
-cell_ok : (w : List ℕ) (k : Kind) (c : ℕ) → Ok w (cell_ty k c) → IsCell w k c
-cell_ok w Fields c o = o
-cell_ok w Alternatives c o = o
 
 shown_cell : (b : Bindings) (s : Subst) (T : Rows) (k : Kind) (c : ℕ) → shown b s (tree T (cell_ty k c)) ≡ Tree.node (kind_of k) (shown_row b s (T c))
 shown_cell Followed s T Fields c = zonk_node s Tree.Record (T c)

@@ -75,7 +75,7 @@ fn code_of(m: Message) -> &'static str
     }
 }
 
-// The code of a message.
+// The code of a message. The slice and the place are two parameters, as in crate writer.
 pub fn code_text(out: &mut [u8], at: usize, m: Message) -> Option<usize>
     ensures { WritesCode out.old at m out.new result }
 {

@@ -82,7 +82,8 @@ fn between(k: Kind) -> &'static str
     }
 }
 
-// What is shown stands in the file and in the words.
+// The file and the words of a run, in which what is shown stands. Elsewhere the two go as two parameters, since a pair
+// would be made for one call and taken apart in it.
 #[derive(Clone, Copy)]
 pub struct View<'a> {
     pub f: &'a [u8],

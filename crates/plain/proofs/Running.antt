@@ -273,25 +273,37 @@ module _ {l₀ : List ℕ} {b₀ e₀ : ℕ} {l room : List ℕ} {b p e u w : �
   over_full {lent} lo hi s g' nx L =
       s.same ∙ solve_next lent s.stage g' (fits lo s) nx ∙ solve_full lent g' (omega (arith, needs_words g', L.over refl, g.room_long))
 
-  module _ {room' copied : List ℕ} {j k : ℕ} (stays : Stays room room' (Some (j, k))) (e' : copied ≡ take k room') where
+  module _ {room' lowered : List ℕ} {j k : ℕ} (stays : Stays room room' (Some (j, k)))
+      (e' : lowered ≡ take k room' ++ drop (length (take k room')) l) where
     k_in : k ≤ length room'
     k_in = omega (arith, stays.long, (stays.inside j k refl).1)
 
-    there : take k (copied ++ drop k l) ≡ take k room'
-    there = ap (λ (x : List ℕ). take k (x ++ drop k l)) e' ∙ take_at (take k room') (drop k l) k (length-take-le k room' k_in)
+    there : take k lowered ≡ take k room'
+    there = ap (take k) e' ∙ take_at (take k room') (drop (length (take k room')) l) k (length-take-le k room' k_in)
 
-    pub copied_long : length (copied ++ drop k l) ≡ length l₀
-    copied_long = omega (arith, length-append copied (drop k l), length-drop k l, ap length e', length-take-le k room' k_in, k_in, stays.long, g.room_long, g.long)
+    pub lowered_long : length lowered ≡ length l₀
+    lowered_long =
+        omega (
+          arith,
+          ap length e',
+          length-append (take k room') (drop (length (take k room')) l),
+          length-drop (length (take k room')) l,
+          length-take-le k room' k_in,
+          k_in,
+          stays.long,
+          g.room_long,
+          g.long,
+        )
 
     landed : {lent : ℕ} {g₀ : Stage} → length l₀ + length l₀ ≤ lent → (s : Standing lent g₀ l b p e u w) (g' : Stage) → next s.stage ≡ on g'
         → Lays (bindings_spelled g'.bindings) (pairs_spelled g'.pairs) room room' (Some (j, k))
         → {u' w' : ℕ} → lefts g'.pairs ≤ w' → (us : List ℕ) → Lists us g'.pairs → length us ≤ u'
-        → Standing lent g₀ (copied ++ drop k l) j j k u' w'
+        → Standing lent g₀ lowered j j k u' w'
     landed {lent} lo s g' nx L le us ls few = record {
       stage = g';
       same = s.same ∙ solve_next lent s.stage g' (fits lo s) nx;
-      bound = slice_low room' (copied ++ drop k l) k there 0 j (stays.inside j k refl).0 ∙ (L.there j k refl).0;
-      pairs = slice_low room' (copied ++ drop k l) k there j k (omega arith) ∙ (L.there j k refl).1;
+      bound = slice_low room' lowered k there 0 j (stays.inside j k refl).0 ∙ (L.there j k refl).0;
+      pairs = slice_low room' lowered k there j k (omega arith) ∙ (L.there j k refl).1;
       fewer = le;
       list = us;
       lists = ls;
@@ -299,14 +311,14 @@ module _ {l₀ : List ℕ} {b₀ e₀ : ℕ} {l room : List ℕ} {b p e u w : �
     }
 
     runs_on : {u' w' : ℕ} → ((lent : ℕ) (g₀ : Stage) → length l₀ + length l₀ ≤ lent → lent ≤ length l₀ + length l₀ + 1
-        → slice 0 b₀ l₀ ≡ bindings_spelled g₀.bindings → slice b₀ e₀ l₀ ≡ pairs_spelled g₀.pairs → Standing lent g₀ (copied ++ drop k l) j j k u' w')
-        → Running l₀ b₀ e₀ (copied ++ drop k l) room' j j k u' w'
+        → slice 0 b₀ l₀ ≡ bindings_spelled g₀.bindings → slice b₀ e₀ l₀ ≡ pairs_spelled g₀.pairs → Standing lent g₀ lowered j j k u' w')
+        → Running l₀ b₀ e₀ lowered room' j j k u' w'
     runs_on f = record {
-      long = copied_long;
+      long = lowered_long;
       room_long = stays.long ∙ g.room_long;
       b_p = omega arith;
       p_e = (stays.inside j k refl).0;
-      e_in = omega (arith, (stays.inside j k refl).1, g.room_long, copied_long);
+      e_in = omega (arith, (stays.inside j k refl).1, g.room_long, lowered_long);
       stands = f;
     }
 
@@ -351,8 +363,9 @@ module _ {l₀ : List ℕ} {b₀ e₀ : ℕ} {l room : List ℕ} {b p e u w : �
       long = g.long;
     }
 
-    pub run_split : {j k : ℕ} → r ≡ Some (j, k) → Stays room room' r → {copied : List ℕ} → copied ≡ take k room' → {w' : ℕ} → w' ≡ w - 1
-        → Running l₀ b₀ e₀ (copied ++ drop k l) room' j j k u w'
+    pub run_split : {j k : ℕ} → r ≡ Some (j, k) → Stays room room' r → {lowered : List ℕ}
+        → lowered ≡ take k room' ++ drop (length (take k room')) l → {w' : ℕ} → w' ≡ w - 1
+        → Running l₀ b₀ e₀ lowered room' j j k u w'
     run_split {j} {k} f stays e' z = runs_on (stays_as f stays) e' (λ lent g₀ lo hi eb ep.
         let s = g.stands lent g₀ lo hi eb ep in
         let c = parting s in
@@ -423,9 +436,10 @@ module _ {l₀ : List ℕ} {b₀ e₀ : ℕ} {l room : List ℕ} {b p e u w : �
         long = g.long;
       }
 
-      pub run_bind : {j k : ℕ} → r ≡ Some (j, k) → Stays room room' r → {copied : List ℕ} → copied ≡ take k room' → {u' w' : ℕ} → u' ≡ u - 1
-          → w' ≡ length l₀ → Running l₀ b₀ e₀ (copied ++ drop k l) room' j j k u' w'
-      run_bind {j} {k} f stays {copied} e' {u'} {w'} y z = runs_on (stays_as f stays) e' (λ lent g₀ lo hi eb ep.
+      pub run_bind : {j k : ℕ} → r ≡ Some (j, k) → Stays room room' r → {lowered : List ℕ}
+          → lowered ≡ take k room' ++ drop (length (take k room')) l → {u' w' : ℕ} → u' ≡ u - 1
+          → w' ≡ length l₀ → Running l₀ b₀ e₀ lowered room' j j k u' w'
+      run_bind {j} {k} f stays {lowered} e' {u'} {w'} y z = runs_on (stays_as f stays) e' (λ lent g₀ lo hi eb ep.
           let s = g.stands lent g₀ lo hi eb ep in
           let c = binding_now s in
           let L = lays_as f (laid s c) in
@@ -435,7 +449,7 @@ module _ {l₀ : List ℕ} {b₀ e₀ : ℕ} {l room : List ℕ} {b p e u w : �
           (omega (arith, words, lefts_few (map (in_pair x c.ty) c.others), (stays_as f stays).inside j k refl, g.room_long))
           (without x s.list) c.lists (omega (arith, c.fewer, s.few)))
 
--- ---- From h on
+-- ---- From the half on
 
 slice_behind : (l : List ℕ) (h i j : ℕ) → slice i j (drop h l) ≡ slice (h + i) (h + j) l
 unfolding slice
@@ -451,37 +465,47 @@ gives_front a b r (solved bs) g =
 gives_front a b r failed g = g
 gives_front a b r full g = g
 
-pub run_lowered : {l : List ℕ} {h b e : ℕ} → (h ≤ b) × (b ≤ e) × (e ≤ length l) × (length l ≡ h + h)
-    → {stage room copied : List ℕ} → stage ≡ take h l → room ≡ drop h l → copied ≡ take (e - h) room
-    → {stage' : List ℕ} (room' : List ℕ) {r : Result ℕ Unsolved} → length room' ≡ length room
-    → Runs (copied ++ drop (e - h) stage) (length (copied ++ drop (e - h) stage)) 0 (b - h) (e - h) stage' r → Runs l h h b e (stage' ++ room') r
-run_lowered {l} {h} {b} {e} pre {stage} {room} {copied} es er ec {stage'} room' {r} kept R = record {
-  is = λ lent g lo hi eb ep. gives_front stage' room' r (solve lent g)
+pub run_lowered : {l : List ℕ} {h b e : ℕ} → h + h ≤ length l → (h ≤ b) × (b ≤ e) × (e ≤ h + h)
+    → {stage room lowered : List ℕ} → stage ≡ take h l → room ≡ drop h l
+    → lowered ≡ take (e - h) room ++ drop (length (take (e - h) room)) stage
+    → {stage' : List ℕ} (room' : List ℕ) {r : Result ℕ Unsolved} → length room' ≡ length (take h room)
+    → Runs lowered (length lowered) 0 (b - h) (e - h) stage' r → Runs l h h b e (stage' ++ (room' ++ drop h room)) r
+run_lowered {l} {h} {b} {e} twice pre {stage} {room} {lowered} es er ec {stage'} room' {r} kept R = record {
+  is = λ lent g lo hi eb ep. gives_front stage' (room' ++ drop h room) r (solve lent g)
       (R.is lent g (omega (arith, moved_long)) (omega (arith, moved_long)) (rw h_h at (part h b (omega arith) pre.0 pre.1) ∙ eb) (part b e pre.0 pre.1 (omega arith) ∙ ep));
-  long = omega (arith, length-append stage' room', R.long, moved_long, kept, room_long, pre.3);
+  long = simp (length-append, length-drop) (omega (arith, R.long, moved_long, kept, length-take h room, room_long, twice));
 }
   where
-    room_long : length room ≡ h
-    room_long = omega (arith, ap length er, length-drop h l, pre.3)
+    room_long : length room ≡ length l - h
+    room_long = ap length er ∙ length-drop h l
 
     stage_long : length stage ≡ h
-    stage_long = omega (arith, ap length es, length-take h l, pre.3)
+    stage_long = omega (arith, ap length es, length-take h l, twice)
 
-    copied_is : length copied ≡ e - h
-    copied_is = omega (arith, ap length ec, length-take (e - h) room, room_long, pre.2, pre.3)
+    low_long : length (take (e - h) room) ≡ e - h
+    low_long = omega (arith, length-take (e - h) room, room_long, pre.2, twice)
 
-    moved_long : length (copied ++ drop (e - h) stage) ≡ h
-    moved_long = omega (arith, length-append copied (drop (e - h) stage), length-drop (e - h) stage, copied_is, stage_long, pre.2, pre.3)
+    moved_long : length lowered ≡ h
+    moved_long =
+        omega (
+          arith,
+          ap length ec,
+          length-append (take (e - h) room) (drop (length (take (e - h) room)) stage),
+          length-drop (length (take (e - h) room)) stage,
+          low_long,
+          stage_long,
+          pre.2,
+        )
 
     h_h : h - h ≡ 0
     h_h = omega arith
 
-    low : take (e - h) (copied ++ drop (e - h) stage) ≡ take (e - h) (drop h l)
-    low = take_at copied (drop (e - h) stage) (e - h) copied_is ∙ ec ∙ ap (take (e - h)) er
+    low : take (e - h) lowered ≡ take (e - h) (drop h l)
+    low = ap (take (e - h)) ec ∙ take_at (take (e - h) room) (drop (length (take (e - h) room)) stage) (e - h) low_long ∙ ap (take (e - h)) er
 
-    part : (i j : ℕ) → h ≤ i → i ≤ j → j ≤ e → slice (i - h) (j - h) (copied ++ drop (e - h) stage) ≡ slice i j l
+    part : (i j : ℕ) → h ≤ i → i ≤ j → j ≤ e → slice (i - h) (j - h) lowered ≡ slice i j l
     part i j x y z =
         let one : h + (i - h) ≡ i = omega arith in
         let two : h + (j - h) ≡ j = omega arith in
-        slice_low (drop h l) (copied ++ drop (e - h) stage) (e - h) low (i - h) (j - h) (omega arith)
+        slice_low (drop h l) lowered (e - h) low (i - h) (j - h) (omega arith)
         ∙ slice_behind l h (i - h) (j - h) ∙ rw (one, two)

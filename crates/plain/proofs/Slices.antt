@@ -21,13 +21,6 @@ pub slice_rest : (l : List ℕ) (from to : ℕ) (a b : List ℕ) → slice from 
 unfolding slice
 slice_rest l from to a b e = sym (drop-drop (length a) from (take to l)) ∙ ap (drop (length a)) e ∙ drop_at a b (length a) refl
 
--- The first.
-pub slice_front : (l : List ℕ) (from to : ℕ) (a b : List ℕ) → length a ≤ to - from → slice from to l ≡ a ++ b → slice from (from + length a) l ≡ a
-slice_front l from to a b h e =
-    let long : from + length a - from ≡ length a = omega arith in
-    sym (part_is l from (from + length a)) ∙ ap (λ (k : ℕ). take k (drop from l)) long ∙ sym (take-take (length a) (to - from) (drop from l) h)
-    ∙ ap (take (length a)) (part_is l from to ∙ e) ∙ take_at a b (length a) refl
-
 -- The same words up to a place, the same parts up to it.
 pub slice_low : (l l' : List ℕ) (at : ℕ) → take at l' ≡ take at l → (from to : ℕ) → to ≤ at → slice from to l' ≡ slice from to l
 unfolding slice
@@ -55,3 +48,10 @@ writes_there {l} {at} {a} {l'} {r} {n} f e =
     let both : length (take at l ++ a) ≡ n = omega (arith, low, length-append (take at l) a, g.0) in
     ap (drop at) (ap (take n) (f.fits (omega (arith, g.0, g.1))).1 ∙ take_at (take at l ++ a) (drop (at + length a) l) n both)
     ∙ drop_at (take at l) a at low
+
+-- What is written at the start.
+pub writes_first : {l a l' : List ℕ} {r : Option ℕ} → length a ≤ length l → Writes l 0 a l' r → l' ≡ a ++ drop (length a) l
+unfolding placed
+writes_first {l} {a} h f =
+    let all : 0 + length a ≡ length a = omega arith in
+    (f.fits (omega (arith, h))).1 ∙ ap (λ (k : ℕ). a ++ drop k l) all

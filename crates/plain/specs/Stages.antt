@@ -1,6 +1,6 @@
 -- A stage in the lent slice: the bindings from its start on and behind them the pairs. What is told of the first pair, what a
 -- step leaves, and what the run gives.
-use Rattle.std.specs.Prelude.{List, [], ◌∷◌, ◌≡◌, ℕ, ◌+◌, ◌≤◌, ◌<◌, length, Err, None, Ok, Option, Result, Some}
+use Rattle.std.specs.Prelude.{List, [], ◌∷◌, ◌≡◌, ℕ, ◌+◌, ◌/◌, ◌≤◌, ◌<◌, length, Err, None, Ok, Option, Result, Some}
 use Rattle.plain.specs.Slices.{slice}
 use Rattle.unification.specs.Ty.{Kind, Ty, Var, Row}
 use Rattle.unification.specs.Robinson.{Equation}
@@ -74,6 +74,10 @@ abbrev pub Gives : List ℕ → Result ℕ Unsolved → Theory.Result → Type 0
 Gives l r (solved bs) = (r ≡ Ok (length (bindings_spelled bs))) × (slice 0 (length (bindings_spelled bs)) l ≡ bindings_spelled bs)
 Gives l r failed = r ≡ Err Unsolved.Failure
 Gives l r full = r ≡ Err Unsolved.TooFew
+
+-- How many words each half of a slice has.
+abbrev pub half : List ℕ → ℕ
+half l = length l / 2
 
 -- In a slice of twice h words the stage stands from a place on, its bindings up to b and its pairs up to e. Of the words that
 -- were lent an odd one is left over.

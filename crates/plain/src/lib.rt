@@ -2,12 +2,12 @@
 // Nothing of `unify` is called.
 #![tactic(auto)]
 
-ghost use Rattle.std.specs.Prelude.{List, [], ◌∷◌, ◌++◌, ◌≡◌, ◌+◌, ◌<◌, ◌≤◌, length, MatchOption, None, Some};
+ghost use Rattle.std.specs.Prelude.{List, [], ◌∷◌, ◌++◌, ◌≡◌, ◌+◌, ◌<◌, ◌≤◌, length, drop, MatchOption, None, Some};
 ghost use Rattle.unification.specs.Robinson.{Equation};
 ghost use Rattle.plain_theory.specs.Words.{pairs_spelled};
 ghost use Rattle.writer.specs.Writes.{Writes};
 ghost use Rattle.plain.specs.Tokens.{short, is_unknown, owed, instead_of, swapped, among, behind, NoType, FirstType, NoCell, FirstCell, Absent, FoundAt, FirstUnlike, FirstAlike, Alike, Pairs, NoUnknown, NoNode};
-ghost use Rattle.plain.specs.Stages.{Rows, TellsBound, TellsApart, Tells, Lays, Stays, Runs};
+ghost use Rattle.plain.specs.Stages.{Rows, TellsBound, TellsApart, Tells, Lays, Stays, half, Runs};
 
 use work::wide;
 use writer::{copy, one, two};
@@ -58,7 +58,8 @@ fn is_unknown(a: u32, b: u32, x: u32) -> bool
     a == UNKNOWN && b == x
 }
 
-// One token of two words, or the words that stand for it.
+// One token of two words, or the words that stand for it. An unknown and what stands for it are two parameters, as
+// `Next::Bind` hands them out: a struct would be made and taken apart in each turn.
 #[tactic(auto, unfolding(crate::specs::Tokens::instead_of))]
 fn instead(out: &mut [u32], at: usize, a: u32, b: u32, x: u32, ts: &[u32]) -> Option<usize>
     ensures { Writes out.old at (instead_of x ts.now a b) out.new result }
@@ -371,9 +372,18 @@ fn split(
     Some((b, e))
 }
 
+// The words of the room, moved to the start of the stage, where they fit.
+fn lower(stage: &mut [u32], words: &[u32])
+    requires { length words.now ≤ length stage.old }
+    ensures { stage.new ≡ words.now ++ drop (length words.now) stage.old }
+{
+    copy(stage, 0, words);
+}
+
 // The run from a stage, its bindings up to b and its pairs up to e; the next one is written into as many words of room.
 // It ends on any words: each turn leaves fewer unknowns that can still be bound, or as many and fewer words on the left
 // sides. Only its step says whether a turn is the last.
+// Here and in `run`, `b` and `e` are places, since the next stage is written by its places.
 fn turns(stage: &mut [u32], room: &mut [u32], mut b: usize, mut e: usize) -> Result<usize, Unsolved>
     requires { (b ≤ e) × (e ≤ length stage.old) × (length room.old ≡ length stage.old) }
     ensures { Runs stage.old (length stage.old) 0 b e stage.new result }
@@ -393,27 +403,28 @@ fn turns(stage: &mut [u32], room: &mut [u32], mut b: usize, mut e: usize) -> Res
             Next::Bind(x, ts, rest) => {
                 unknowns = unknowns.checked_sub(1).ok_or(Unsolved::TooFew)?;
                 (b, e) = bind(room, &now[..b], rest, x, ts).ok_or(Unsolved::TooFew)?;
-                stage[..e].copy_from_slice(&room[..e]);
+                lower(stage, &room[..e]);
                 p = b;
                 words = stage.len();
             }
             Next::Split(n, left, right, rest) => {
                 words = words.checked_sub(1).ok_or(Unsolved::TooFew)?;
                 (b, e) = split(room, &now[..b], n, left, right, rest).ok_or(Unsolved::TooFew)?;
-                stage[..e].copy_from_slice(&room[..e]);
+                lower(stage, &room[..e]);
                 p = b;
             }
         }
     }
 }
 
-// The run from the stage that stands from h on, its bindings up to `b` and its pairs up to `e`. After a success the
-// slice starts with the bindings.
-pub fn run(l: &mut [u32], h: usize, b: usize, e: usize) -> Result<usize, Unsolved>
-    requires { (h ≤ b) × (b ≤ e) × (e ≤ length l.old) × (length l.old ≡ h + h) }
-    ensures { Runs l.old h h b e l.new result }
+// The run from the stage that stands from the half of the slice on, its bindings up to `b` and its pairs up to `e`. An
+// odd word is left over. After a success the slice starts with the bindings.
+pub fn run(l: &mut [u32], b: usize, e: usize) -> Result<usize, Unsolved>
+    requires { (half l.old ≤ b) × (b ≤ e) × (e ≤ half l.old + half l.old) }
+    ensures { Runs l.old (half l.old) (half l.old) b e l.new result }
 {
+    let h = l.len() / 2;
     let (stage, room) = l.split_at_mut(h);
-    stage[..e - h].copy_from_slice(&room[..e - h]);
-    turns(stage, room, b - h, e - h)
+    lower(stage, &room[..e - h]);
+    turns(stage, &mut room[..h], b - h, e - h)
 }

@@ -13,12 +13,12 @@ use Rattle.unification.specs.Ty.{Leaf-discrete, Kind, Record, Union, Ty, leaf, n
 use Rattle.unification.specs.Unify.{find_key}
 use Rattle.unification.specs.Calls.{Lacks, Distinct}
 use Rattle.unification.specs.Robinson.{Equation}
-use Rattle.unification.proofs.Tests.{eqb_true}
 use Rattle.unification.proofs.Rows.{find_tail, find_under}
 use Rattle.plain_theory.specs.Plain.{Binding, in?, In, Parts, parts, unlike, with_part, Named, named?, part, matched, rows, Step, drops, fails}
 use Rattle.plain_theory.specs.Plain.{splits, binds, bind, split, nodes, step, head_words, words, row_words, pair_words, sum, needs}
 use Rattle.plain_theory.specs.Claims.{Clean}
 use Rattle.std.specs.Prelude.{None, Option, Some}
+use Rattle.std.proofs.lemmas.Bool.{eqb-true}
 
 -- ---- A row without the cell that was found
 
@@ -32,7 +32,7 @@ find_remove j k ε n = refl
 find_remove j k (cell m l t s) n = go (eqb k m) refl (find_remove j k s n)
   where
     go : (b : Bool) → eqb k m ≡ b → find_key j (remove k s) ≡ find_key j s → find_key j (remove k (cell m l t s)) ≡ find_key j (cell m l t s)
-    go true q h = rw (q, remove) (sym (find_tail j m l t s (λ e. n (e ∙ sym (eqb_true k m q)))))
+    go true q h = rw (q, remove) (sym (find_tail j m l t s (λ e. n (e ∙ sym (eqb-true k m q)))))
     go false q h = rw (q, remove) (find_under j m l t s (remove k s) h)
 
 abbrev RemoveWords : Kind → ℕ → Row → Option (ℕ × Ty) → Type 0

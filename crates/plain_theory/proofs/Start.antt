@@ -5,7 +5,6 @@ use mathlib.Core.Logic.{◌↔◌, inl, inr}
 use mathlib.Core.Path.{◌≡◌, refl}
 use Prim.Native.Nat.{ℕ, zero, suc, ◌+◌}
 use native.Mathlib.Nat.{zero-add, add-zero}
-use native.Mathlib.Omega.{arith}
 use lib.ListN.{length, get_or}
 use Rattle.unification.specs.Ty.{Kind, Record, Union, Ty, leaf, node, Var, Error, Row, ε, cell, app}
 use Rattle.unification.specs.Order.{Same}
@@ -20,7 +19,7 @@ use Rattle.unification.proofs.Order.{same_refl, same_sym, same_trans, same_both,
 use Rattle.unification.proofs.Reach.{reaches_trans}
 use Rattle.unification.proofs.Zonk.{zonk_none, zonk_app, zonk_var, zonk_is, zonk_unbound, zonk_of_bound}
 use Rattle.unification.specs.Log.{Wf}
-use Rattle.unification.proofs.Robinson.{unifies_respects, unifies_then, solution_respects, zonk_same}
+use Rattle.unification.proofs.Robinson.{shift, unifies_respects, unifies_then, solution_respects, zonk_same}
 use Rattle.plain_theory.specs.Plain.{In, InRow, resolved_from, start}
 use Rattle.plain_theory.specs.Claims.{Respected, Satisfies, Clean, CleanRow, CleanPairs}
 use Rattle.plain_theory.proofs.Steps.{clean_replaced, Unifiable}
@@ -36,9 +35,6 @@ resolving σ s t R = zonk_same (length s) σ s t R
 
 abbrev Resolves : (ℕ → Ty) → Subst → ℕ → Type 0
 Resolves σ s x = Same (σ x) (app σ (zonk s (Var x)))
-
-shift : (x y : ℕ) → suc x + y ≡ x + suc y
-shift x y = omega arith
 
 module _ (σ : ℕ → Ty) (s : Subst) where
   to_list : (x : ℕ) (us : Subst) → ((y : ℕ) (t : Ty) → get_or us y None ≡ Some t → Resolves σ s (x + y)) → Respected σ (resolved_from x us s)

@@ -91,7 +91,7 @@ fn write(rt: &impl Print, bytes: &[u8]) -> Result<(), &'static str> {
 }
 
 // What failed is a line on standard error: where that fails too, there is no one left to tell. sigla_load and
-// sigla_inspect have this line too: a public function would be without a contract, as none can say what was printed.
+// sigla_inspect have this line too: for it alone they would stand on this crate, and on all that it uses.
 fn tell(rt: &impl Eprint, outcome: Result<(), &'static str>) {
     if let Err(line) = outcome {
         let _ = rt.eprintln(line);

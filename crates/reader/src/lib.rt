@@ -4,6 +4,8 @@
 ghost use Rattle.std.specs.Prelude.{◌≤◌};
 ghost use Rattle.reader.specs.Taking.{Passes, TakesByte, TakesHalf, TakesFull, ReadsLimits, ReadsField, ReadsAlternative, ReadsPredicate};
 
+// The line and a place in it: crate frames reads a number at a place, and a line that shrinks would be cut once more
+// after each.
 #[derive(Drop)]
 pub struct Reader<'a> {
     pub line: &'a [u8],

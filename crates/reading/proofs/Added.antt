@@ -4,7 +4,7 @@ use mathlib.Core.List.{List, [], ◌∷◌, ◌++◌}
 use mathlib.Core.Path.{◌≡◌, ap, subst, ◌∙◌}
 use Prim.Native.Nat.{ℕ, ◌+◌, ◌*◌, ◌/◌, ◌%◌, ◌<◌, ◌≤◌}
 use native.Mathlib.Omega.{arith}
-use lib.ListN.{length, get_or, set, length-append}
+use lib.ListN.{length, get_or, set}
 use lib.Seq.{get_or-set_same}
 use Rattle.text.specs.Utf8.{characters, one_more}
 use Rattle.work.specs.Layout.{QUERY, NAMES, TYPES, PREDICATES, NODES, FIELDS}
@@ -29,9 +29,7 @@ use Rattle.reading.specs.Held.{NamesHeld, TypesHeld, PredicatesHeld, NodesHeld}
 use Rattle.reading.proofs.Regions.{snoc}
 use Rattle.reading.proofs.Kept.{node_kept}
 use Rattle.std.specs.Prelude.{None, Option, Some}
-
-length_snoc : {A : Type 0} (l : List A) (a : A) → length (l ++ a ∷ []) ≡ length l + 1
-length_snoc l a = length-append l (a ∷ [])
+use Rattle.std.proofs.lemmas.List.{length_push}
 
 -- ---- Names
 
@@ -59,8 +57,8 @@ module _ {f w : List ℕ} {n : ℕ} {v : Option ℕ} {names : List (List ℕ)} (
       → NamesHeld f (set w (NAMES + n) (at * 512 + chars)) (n + 1) (pick (same_text value_text s) (Some n) v) (names ++ s ∷ [])
   unfolding count_of
   name_added at chars long room line text small g = record {
-    count = rw (length_snoc names s) (omega (arith, h.count));
-    few = rw (length_snoc names s) (omega arith);
+    count = rw (length_push names s) (omega (arith, h.count));
+    few = rw (length_push names s) (omega arith);
     name = snoc (λ i t. NameIs f (set w (NAMES + n) x) i t) [] names s
         (λ i l. rw (older i l) (h.name i l))
         (subst (λ i. NameIs f (set w (NAMES + n) x) i s) h.count (rw (here, place) line));
@@ -91,8 +89,8 @@ module _ (at size kind : ℕ) (content : List ℕ) {f : List ℕ} (line : line_a
       → NodesHeld e f (set w (NODES + n) ((at * 1024 + size) * 2)) (n + 1) (nodes ++ nd ∷ [])
   unfolding node_at
   node_added {e} {w} {n} {nodes} nd h wide room k frame = record {
-    count = rw (length_snoc nodes nd) (omega (arith, h.count));
-    few = rw (length_snoc nodes nd) (omega arith);
+    count = rw (length_push nodes nd) (omega (arith, h.count));
+    few = rw (length_push nodes nd) (omega arith);
     node = snoc (λ i t. NodeIn e f (set w (NODES + n) x) i t) no_node nodes nd
         (λ i l. node_kept (ap (λ y. y / 2) ((keeps_set {a = NODES + n} {e = FIELDS} w (NODES + n) x (omega arith) (omega (arith, h.count))).below
         (NODES + i) (omega (arith, h.count)))) (h.node i l))
@@ -166,8 +164,8 @@ module _ {w : List ℕ} {T : Rows} {m fields : ℕ} {types : List Tree.Ty} (h : 
       → get_or w (PREDICATES + n) 0 ≡ name * 131072 + key * 512 + value_word value → key < length types → Below (length types) (optional value)
       → PredicatesHeld w T (length types) (n + 1) (ps ++ predicate_of types name key value ∷ [])
   predicate_added {n} {ps} name key value o room x k v = record {
-    count = rw (length_snoc ps (predicate_of types name key value)) (omega (arith, o.count));
-    few = rw (length_snoc ps (predicate_of types name key value)) (omega arith);
+    count = rw (length_push ps (predicate_of types name key value)) (omega (arith, o.count));
+    few = rw (length_push ps (predicate_of types name key value)) (omega arith);
     predicate = snoc (λ i d. PredicateIs w T (length types) i d) no_predicate ps (predicate_of types name key value)
         o.predicate
         (subst (λ i. PredicateIs w T (length types) i (predicate_of types name key value)) o.count (predicate_is n name key value x k v));

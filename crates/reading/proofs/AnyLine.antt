@@ -220,9 +220,6 @@ module _ (ed : Edition) (f : List ℕ) (at : ℕ) (s w : List ℕ) (c : Counters
 -- ---- What the functions for each kind ask
 
 module _ (c : Counters) (kind : Coded.Kind) (u : full_of c (kind_meant kind) ≡ false) where
-  pub room_for_type : kind ≡ Code.SchemaType → c.types < 256
-  room_for_type e = leb-false 256 c.types (rw e at u)
-
   pub room_for_predicate : kind ≡ Code.Predicate → c.predicates < 128
   room_for_predicate e = leb-false 128 c.predicates (rw e at u)
 

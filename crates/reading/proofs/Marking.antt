@@ -8,7 +8,7 @@ use native.Mathlib.Omega.{arith}
 use lib.Dec.{eqb, ltb}
 use lib.ListN.{get_or, set}
 use lib.Seq.{get_or-set_same, get_or-set_other}
-use borrow.Author.Tests.{eq-eqb, ne_eqb, eqb-true, eqb-false, lt-ltb, le-ltb}
+use borrow.Author.Tests.{eq-eqb, ne_eqb, eqb-true, eqb-false, lt-ltb, le-ltb, not-true}
 use Rattle.work.specs.Layout.{NODES}
 use Rattle.cells.proofs.Frame.{keeps_refl, keeps_trans, keeps_set}
 use Rattle.meaning.specs.Conditions.{any_of, all_below, among, again}
@@ -81,16 +81,12 @@ module _ (names nodes : ℕ) where
           let a = (and_parts (all_below names xs) _ t).0 in
           let b = (and_parts (all_below names xs) _ t).1 in
           let c = (and_parts (all_below nodes ns) _ b).0 in
-          let d : again named ns ≡ false = not_back (again named ns) (and_parts (all_below nodes ns) _ b).1 in
+          let d : again named ns ≡ false = not-true (again named ns) (and_parts (all_below nodes ns) _ b).1 in
           q.is (room_on m (p.marks m refl)) (named ++ ns) (p.marked m refl named h) ∙ sym (rw (below_append names xs ys, below_append nodes ns ms, a, c, again_append named ns ms d));
       marks = λ m e. marks_trans (p.marks m refl) (q.marks (room_on m (p.marks m refl)) e);
       marked = λ m e named h. subst (Marked u nodes) (append_assoc named ns ms)
           (q.marked (room_on m (p.marks m refl)) e (named ++ ns) (p.marked m refl named h));
     }
-      where
-        not_back : (b : Bool) → not b ≡ true → b ≡ false
-        not_back true e = sym e
-        not_back false e = refl
 
   module _ {w v xs ns : List ℕ} (p : Refers w names xs nodes ns v false) (ys ms : List ℕ) where
     fails_on : Roomy w nodes → (named : List ℕ) → Marked w nodes named → false ≡ ((all_below names xs && all_below names ys)

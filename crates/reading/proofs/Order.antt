@@ -11,11 +11,8 @@ use Rattle.meaning.specs.SoFar.{SoFar, Said, malformed, unknown_kind, said_of, f
 use Rattle.meaning.specs.Conditions.{any_of, again, given, is_malformed, is_misplaced, is_full, is_one_too_many, is_last_query_past, is_query_too_many, is_no_frame}
 use Rattle.meaning.specs.Conditions.{of_frame, broken, is_broken_text, is_name_given_before, refers_badly, is_bad_reference, is_repeated_key, Condition, conditions}
 use Rattle.meaning.specs.Conditions.{first_of}
+use Rattle.meaning.proofs.Conditions.{passed}
 use Rattle.std.specs.Prelude.{None, Option, Some}
-
-passed : (c : Condition) (cs : List Condition) (so : SoFar) (l : Said) → c.holds so l ≡ false → first_of (c ∷ cs) so l ≡ first_of cs so l
-unfolding first_of
-passed c cs so l e = ap (λ b. elim b [ true ↦ Some c.refusal | false ↦ first_of cs so l ]) e
 
 met : (c : Condition) (cs : List Condition) (so : SoFar) (l : Said) → c.holds so l ≡ true → first_of (c ∷ cs) so l ≡ Some c.refusal
 unfolding first_of

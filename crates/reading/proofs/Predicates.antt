@@ -28,7 +28,8 @@ use Rattle.reading.proofs.Added.{value_word}
 use Rattle.reading.proofs.Lines.{predicate_held}
 use Rattle.reading.proofs.Order.{first_bad, first_none}
 use Rattle.reading.proofs.Stepping.{refuses, goes_on, begun, predicates_room}
-use Rattle.reading.proofs.Typing.{one_made, sized_got, and_true, or_none}
+use Rattle.reading.proofs.Typing.{one_made, sized_got}
+use Rattle.std.proofs.Math.Bool.{and-true, or-false}
 use Rattle.meaning.specs.Frame.{Edition}
 use Rattle.std.specs.Prelude.{◌&&◌, Err, None, Option, Result, Some, slice_get}
 use Rattle.std.proofs.lemmas.Bool.{and_parts, and_right}
@@ -76,10 +77,10 @@ predicate_refers : (so : SoFar) (n key : ℕ) (v : Option ℕ) → refers_badly 
     (ltb n (length so.names) && (ltb key (length so.types) && all_below (length so.types) (optional v)))
 unfolding refers_badly refers_earlier name_refs type_refs node_refs all_below again
 predicate_refers so n key v =
-    or_none (not ((ltb n (length so.names) && true) && ((ltb key (length so.types) && all_below (length so.types) (optional v)) && true)))
+    or-false (not ((ltb n (length so.names) && true) && ((ltb key (length so.types) && all_below (length so.types) (optional v)) && true)))
     ∙ ap not (ap (λ b. (b && ((ltb key (length so.types) && all_below (length so.types) (optional v)) && true)))
-    (and_true (ltb n (length so.names))) ∙ ap (λ b. ltb n (length so.names) && b)
-    (and_true (ltb key (length so.types) && all_below (length so.types) (optional v))))
+    (and-true (ltb n (length so.names))) ∙ ap (λ b. ltb n (length so.names) && b)
+    (and-true (ltb key (length so.types) && all_below (length so.types) (optional v))))
 
 pub value_none : (s : List ℕ) → byte_w s 5 ≡ 0 → (u : Option ℕ) → ValueAt s u → u ≡ None
 value_none s e None (absent a) = refl

@@ -20,7 +20,8 @@ use Rattle.frames.proofs.Readers.{sized_reference, Sized, sized_one, sized_pair,
 use Rattle.frames.proofs.Statements.{choice_at, statements_are}
 use Rattle.std.specs.Simd.{first_chunks}
 use Rattle.reading.proofs.Cuts.{half_cut, cut_items}
-use Rattle.reading.proofs.Typing.{one_made, sized_got, map_items, past_end}
+use Rattle.reading.proofs.Typing.{one_made, sized_got, map_items}
+use Rattle.std.proofs.lemmas.Option.{slice_get_past}
 use Rattle.meaning.specs.Frame.{Edition}
 use Rattle.std.specs.Prelude.{Some, slice_get}
 use Rattle.tree.proofs.LineParts.{whole_got}
@@ -160,7 +161,7 @@ module _ (ed : Edition) (s : List ℕ) (nd : Node) (long : 10 ≤ length s) (is 
   pub no_refs : 17 ≤ byte_w s 9 → ⊥
   unfolding entry expr_kinds
   no_refs h =
-      let x : fails ≡ got nd.kind [] = rw (past_end (expr_kinds ed) (byte_w s 9) h, entry) at chosen in
+      let x : fails ≡ got nd.kind [] = rw (slice_get_past (expr_kinds ed) (byte_w s 9) h, entry) at chosen in
       let z : ◌≡◌ {A = ℕ} 0 1 = cc in
       omega arith
 

@@ -1,6 +1,6 @@
 -- A type line: its shape byte says what its frame is, by places of the line; the frame is refused by its references or
 -- keys, or one more type is held.
-use mathlib.Core.Bool.{Bool, true, false, not, ◌||◌}
+use mathlib.Core.Bool.{true, false, not}
 use mathlib.Core.List.{List, [], ◌∷◌, map}
 use mathlib.Core.Path.{◌≡◌, refl, sym, ap, subst, ◌∙◌}
 use Prim.Native.Nat.{ℕ, zero, suc, ◌+◌, ◌-◌, ◌*◌, ◌/◌, ◌≤◌}
@@ -17,6 +17,8 @@ use Rattle.cells.specs.declared.Kind.TheVariants.{Fields, Alternatives}
 use Rattle.cells.specs.Stands.{Rows, tag_of, part_words}
 use Rattle.std.specs.Simd.{first_chunks}
 use Rattle.std.proofs.lemmas.List.{drop-drop}
+use Rattle.std.proofs.lemmas.Option.{slice_get_past}
+use Rattle.std.proofs.Math.Bool.{and-true, or-false}
 use Rattle.meaning.specs.Syntax.{Field}
 use Rattle.meaning.specs.Refusal as Refused
 use Rattle.meaning.specs.Frame as Frame
@@ -181,20 +183,12 @@ alternatives_parts s alts h = record {
 
 -- ---- References and keys of a type
 
-pub and_true : (b : Bool) → (b && true) ≡ b
-and_true true = refl
-and_true false = refl
-
-pub or_none : (b : Bool) → (b || false) ≡ b
-or_none true = refl
-or_none false = refl
-
 -- A type refers badly exactly where a part's name or type is not there.
 type_refers : (so : SoFar) (t : TypeShape) → refers_badly so (a_type t) ≡ not
     (all_below (length so.names) (shape_names t) && all_below (length so.types) (shape_types t))
 unfolding refers_badly refers_earlier name_refs type_refs node_refs all_below again
-type_refers so t = or_none (not (all_below (length so.names) (shape_names t) && (all_below (length so.types) (shape_types t) && true))) ∙ ap
-    (λ b. not (all_below (length so.names) (shape_names t) && b)) (and_true (all_below (length so.types) (shape_types t)))
+type_refers so t = or-false (not (all_below (length so.names) (shape_names t) && (all_below (length so.types) (shape_types t) && true))) ∙ ap
+    (λ b. not (all_below (length so.names) (shape_names t) && b)) (and-true (all_below (length so.types) (shape_types t)))
 
 module _ (ed : Edition) {f : List ℕ} {at next : ℕ} {s w : List ℕ} {T : Rows} {c : Counters} {previous : Option Frame.Kind} {so : SoFar} {fr : Frame}
     (h : Held ed f at w T c previous so) (l : Line f at next s) (k : Comes ed so Frame.schema_type s fr) (t : TypeShape) (is : fr ≡ a_type t) where
@@ -343,16 +337,11 @@ module _ (ed : Edition) (s w : List ℕ) (c : Counters) (long : 2 ≤ length s) 
 
 -- ---- By the shape byte
 
-pub past_end : {A : Type 0} (l : List A) (n : ℕ) → length l ≤ n → slice_get l n ≡ None
-past_end [] n h = refl
-past_end (a ∷ l) zero h = absurd (omega arith)
-past_end (a ∷ l) (suc n) h = past_end l n (omega arith)
-
 no_shape : (ed : Edition) (so : SoFar) (s : List ℕ) (fr : Frame) → 2 ≤ length s → Comes ed so Frame.schema_type s fr → 6 ≤ byte_w s 1 → ⊥
 unfolding entry type_shapes
 no_shape ed so s fr long k h =
     let c = chosen ed so s fr long k in
-    let x : fails ≡ got c.0 [] = rw (past_end (type_shapes ed) (byte_w s 1) h, entry) at c.1 in
+    let x : fails ≡ got c.0 [] = rw (slice_get_past (type_shapes ed) (byte_w s 1) h, entry) at c.1 in
     let z : ◌≡◌ {A = ℕ} 0 1 = cc in
     omega arith
 

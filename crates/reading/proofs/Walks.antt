@@ -1,6 +1,6 @@
 -- Loops over the parts of a type: what is asked of all parts is what is asked of the parts left.
-use mathlib.Core.Bool.{Bool, true, false, true≢false}
-use mathlib.Core.Logic.{◌⊎◌, inl, inr, ⊎_elim}
+use mathlib.Core.Bool.{Bool, true, false}
+use mathlib.Core.Logic.{⊎_elim}
 use mathlib.Core.List.{List, [], ◌∷◌, ◌++◌, map}
 use mathlib.Core.Path.{◌≡◌, refl, sym, ap, ◌∙◌}
 use Prim.Native.Nat.{ℕ, zero, suc, ◌+◌, ◌<◌, ◌≤◌}
@@ -13,7 +13,7 @@ use borrow.Author.Tests.{eqb-true, eqb-false, eq-eqb, ne_eqb, lt-ltb, le-ltb, lt
 use Rattle.std.proofs.lemmas.List.{take_more}
 use Rattle.std.specs.Prelude.{◌&&◌, ◌≢◌, MatchBool, HoldsAt}
 use Rattle.std.specs.List.{AllWithin}
-use Rattle.std.proofs.lemmas.Bool.{and_right}
+use Rattle.std.proofs.lemmas.Bool.{and_parts, and_cases, and_right}
 use Rattle.cells.specs.declared.Kind.{Kind}
 use Rattle.cells.specs.declared.Kind.TheVariants.{Fields, Alternatives}
 use Rattle.cells.specs.Stands.{part_words}
@@ -27,9 +27,6 @@ front xs i d l = rw add-one (drop-cons xs i d l)
 
 pub front_is : {X : Type 0} (xs : List X) (i : ℕ) (p : X) → i < length xs → p ≡ get_or xs i p → drop i xs ≡ p ∷ drop (i + 1) xs
 front_is xs i p l e = front xs i p l ∙ ap (λ q. q ∷ drop (i + 1) xs) (sym e)
-
-pub no_more : {X : Type 0} (xs : List X) (i : ℕ) → length xs ≤ i → drop i xs ≡ []
-no_more xs i l = drop_of_length-le xs l
 
 -- ---- Names and types that are there
 
@@ -49,24 +46,16 @@ module _ (k : Kind) (names types : ℕ) where
   unfolding all_below
   earlier_no_type p parts b = rw (le-ltb (type_w k p 0) types b) (and_right (ltb (half_w p 0) names && all_below names (names_of parts)) false refl)
 
-  both : (a b : Bool) → (a && b) ≡ true → (a ≡ true) × (b ≡ true)
-  both true b e = (refl, e)
-  both false b e = absurd (true≢false (sym e))
-
-  neither : (a b : Bool) → (a && b) ≡ false → (a ≡ false) ⊎ (b ≡ false)
-  neither true b e = inr e
-  neither false b e = inl refl
-
   early_on : (p : List ℕ) (parts : List (List ℕ)) → is_early k names types p ≡ true → earlier (p ∷ parts) ≡ earlier parts
   early_on p parts e =
-      let b = both (ltb (half_w p 0) names) (ltb (type_w k p 0) types) e in
+      let b = and_parts (ltb (half_w p 0) names) (ltb (type_w k p 0) types) e in
       earlier_next p parts (ltb-true (half_w p 0) names b.0) (ltb-true (type_w k p 0) types b.1)
 
   early_off : (p : List ℕ) (parts : List (List ℕ)) → is_early k names types p ≡ false → earlier (p ∷ parts) ≡ false
   early_off p parts e = ⊎_elim
       (λ q. earlier_no_name p parts (ltb-false (half_w p 0) names q))
       (λ q. earlier_no_type p parts (ltb-false (type_w k p 0) types q))
-      (neither (ltb (half_w p 0) names) (ltb (type_w k p 0) types) e)
+      (and_cases (ltb (half_w p 0) names) (ltb (type_w k p 0) types) e)
 
   early_all : (parts : List (List ℕ)) → AllWithin (λ p. is_early k names types p ≡ true) parts 0 (length parts) → earlier parts ≡ true
   unfolding all_below

@@ -91,7 +91,7 @@ fn take_limits(s: &[u8], w: &mut [u32], c: Counters) -> Result<Counters, Refusal
 // One line: the lowest refusal that applies to it, or the counters after it. The slice is lent, while the counters go
 // through by value, as a refusal leaves none: what takes a line takes both, beside one another. The kinds are these
 // six, each taken in its own way, so an arm tells each. The counters' bounds are of the run and no type's: only after
-// the tests is there room for one more, as `Room` has it.
+// the tests is there room for one more, as `Vacancy` has it.
 fn take_line(
     line: Line,
     w: &mut [u32],
@@ -119,7 +119,7 @@ fn take_line(
     match kind {
         Kind::Limits => take_limits(s, w, c),
         Kind::Name => names::take_name(line, w, c),
-        Kind::SchemaType => types::take_type(s, w, types::Room { c }, edition),
+        Kind::SchemaType => types::take_type(s, w, types::Vacancy { c }, edition),
         Kind::Predicate => types::take_predicate(s, w, c),
         Kind::Node => nodes::take_node(line, w, c, edition),
         Kind::Query => nodes::take_query(s, w, c),
@@ -138,7 +138,10 @@ fn put_counts(w: &mut [u32], c: Counters)
 }
 
 // The lines in file order, then the missing query. Each line says where the next one starts, and the loop follows that
-// place. After each query the nodes start anew: `load` finds them again. Both lengths were tested in `read_file`.
+// place. No iterator over `decode`, here or in loading, convert and growth: each walk stops on other grounds and keeps
+// other counts, and the line that it reads into would be lent, which std's `Iterator` can't. After each query the nodes
+// start anew: `load` finds them again. Both lengths were tested in `read_file`, which alone asks: a type that says so
+// would be made for this one call.
 fn take_lines(file: &[u8], w: &mut [u32], edition: Edition) -> Result<(), Refusal>
     requires { (length file.now ≤ 65536) × (16384 ≤ length w.old) }
     ensures { TakesLines (edition_of edition) file.now w.old w.new result }

@@ -8,7 +8,8 @@ ghost use Rattle.reading.specs.Promises.{eight_at, Unlike, GivenBefore, InEither
 use crate::{Counters, Line, Refusal};
 use work::{name_chars, name_place, name_word, put, wide, word};
 
-// The eight digits at i as one number: a `first_chunk` would test once more that they are there.
+// The eight digits at i as one number: two slices of eight are compared by a function for any length, some 25
+// instructions for 3. A `first_chunk` would test once more that they are there.
 #[tactic(auto, unfolding(crate::specs::Promises::eight_at))]
 fn eight(s: &[u8], i: usize) -> u64
     requires { i + 8 ≤ length s.now }

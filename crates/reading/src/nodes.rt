@@ -87,6 +87,7 @@ fn name_all(s: &[u8], w: &mut [u32], c: Counters, edition: Edition) -> Result<()
     ensures { Told (NamesAll (edition_of edition) s.now w.old c.names c.nodes w.new) result }
 {
     let rest = past(s, 10);
+    // The shape is the file's byte, as in `type_frame` of crate frames.
     match byte(s, 9) {
         3 | 6 | 7 => check_name(half(s, 10), c.names),
         8 => name_fields(rest.as_chunks().0, w, c.names, c.nodes),

@@ -1,5 +1,5 @@
 // The parts of record and union types, each by its bytes in the line.
-ghost use Rattle.std.specs.Prelude.{◌&&◌, ◌≡◌, ℕ, List, ◌+◌, ◌<◌, ◌≤◌, length, not, map, eqb, [], ◌∷◌, ◌*◌, refl};
+ghost use Rattle.std.specs.Prelude.{◌&&◌, ◌≡◌, ℕ, List, ◌+◌, ◌<◌, ◌≤◌, length, not, map, eqb, [], refl};
 ghost use Rattle.std.proofs.lemmas.List.Edits.{sets};
 ghost use Rattle.work.specs.Layout.{FIELDS};
 ghost use Rattle.cells.specs.declared.Kind.{Kind};
@@ -7,7 +7,7 @@ ghost use Rattle.cells.specs.declared.Kind.TheVariants.{Fields, Alternatives};
 ghost use Rattle.cells.specs.Stands.{tag_of, part_words};
 ghost use Rattle.meaning.specs.Conditions.{all_below, among, again};
 ghost use Rattle.frames.specs.Promises.{half_w, full_w};
-ghost use Rattle.reading.specs.Parts.{size_of, type_w, words_w, names_of, types_of, is_early, keys_of, words_of};
+ghost use Rattle.reading.specs.Parts.{size_of, words_w, names_of, types_of, is_early, keys_of, words_of};
 
 use frames::{full, half};
 use reader::{Alternative, Field};
@@ -37,8 +37,9 @@ impl Keyed<8> for Alternative {
     }
 }
 
-// A part of a record or union type: so many bytes of the line, so many words of the slice.
-pub trait Part<const SIZE: usize>: Drop {
+// A part of a record or union type: so many bytes of the line, so many words of the slice. A part is given by its bytes,
+// so how large the numbers in them are is said by `reader` alone.
+pub trait Part<const SIZE: usize> {
     const WORDS: usize;
 
     const TAG: u32;
@@ -49,28 +50,13 @@ pub trait Part<const SIZE: usize>: Drop {
 
     ghost TAG: { ℕ };
 
-    ghost name: { Self → ℕ };
+    // Whether a part names a name and an earlier type. `Counters` has six numbers: these two alone are asked for.
+    fn is_early(bytes: &[u8; SIZE], names: u32, types: u32) -> bool
+        ensures { result ≡ is_early kind names types bytes.now };
 
-    ghost ty: { Self → ℕ };
-
-    ghost words: { Self → List ℕ };
-
-    fn read(bytes: &[u8; SIZE]) -> Self
-        ensures name { name result ≡ half_w bytes.now 0 }
-        ensures ty { ty result ≡ type_w kind bytes.now 0 }
-        ensures words { words result ≡ words_w kind bytes.now 0 }
-        ensures small { (name result < 65536) × (ty result < 65536) };
-
-    // A trait has no fields, so either type hands out its own.
-    fn name(&self) -> u32
-        ensures { result ≡ name self.now };
-
-    fn ty(&self) -> u32
-        ensures { result ≡ ty self.now };
-
-    fn put(&self, w: &mut [u32], at: usize)
-        requires { (name self.now < 65536) × (ty self.now < 65536) × (at < 4294967296) }
-        ensures { w.new ≡ sets w.old at (words self.now) };
+    fn put(bytes: &[u8; SIZE], w: &mut [u32], at: usize)
+        requires { at < 4294967296 }
+        ensures { w.new ≡ sets w.old at (words_w kind bytes.now 0) };
 
     fn are_distinct(parts: &[[u8; SIZE]]) -> bool
         ensures { result ≡ not (again [] (keys_of kind parts.now)) };
@@ -81,6 +67,7 @@ pub trait Part<const SIZE: usize>: Drop {
 impl Part<4> for Field {
     const WORDS: usize = 1;
 
+    // `Ty::tag` has it too: a constant can't call it. The law `sizes` ties both tags.
     const TAG: u32 = 5;
 
     ghost kind = { Fields };
@@ -89,28 +76,16 @@ impl Part<4> for Field {
 
     ghost TAG = { 5 };
 
-    ghost name = { λ f. f.name };
-
-    ghost ty = { λ f. f.ty };
-
-    ghost words = { λ f. (f.name * 256 + f.ty) ∷ [] };
-
     ghost sizes = { (refl, refl, refl) };
 
-    fn read(bytes: &[u8; 4]) -> Field {
-        reader::read_field(bytes, 0)
+    fn is_early(bytes: &[u8; 4], names: u32, types: u32) -> bool {
+        let field = reader::read_field(bytes, 0);
+        field.name < names && field.ty < types
     }
 
-    fn name(&self) -> u32 {
-        self.name
-    }
-
-    fn ty(&self) -> u32 {
-        self.ty
-    }
-
-    fn put(&self, w: &mut [u32], at: usize) {
-        put(w, at, part(self.name, self.ty));
+    fn put(bytes: &[u8; 4], w: &mut [u32], at: usize) {
+        let field = reader::read_field(bytes, 0);
+        put(w, at, part(field.name, field.ty));
     }
 
     fn are_distinct(fields: &[[u8; 4]]) -> bool {
@@ -129,29 +104,17 @@ impl Part<8> for Alternative {
 
     ghost TAG = { 6 };
 
-    ghost name = { λ a. a.name };
-
-    ghost ty = { λ a. a.ty };
-
-    ghost words = { λ a. a.discriminant ∷ (a.name * 256 + a.ty) ∷ [] };
-
     ghost sizes = { (refl, refl, refl) };
 
-    fn read(bytes: &[u8; 8]) -> Alternative {
-        reader::read_alternative(bytes, 0)
+    fn is_early(bytes: &[u8; 8], names: u32, types: u32) -> bool {
+        let alternative = reader::read_alternative(bytes, 0);
+        alternative.name < names && alternative.ty < types
     }
 
-    fn name(&self) -> u32 {
-        self.name
-    }
-
-    fn ty(&self) -> u32 {
-        self.ty
-    }
-
-    fn put(&self, w: &mut [u32], at: usize) {
-        put(w, at, self.discriminant);
-        put(w, at + 1, part(self.name, self.ty));
+    fn put(bytes: &[u8; 8], w: &mut [u32], at: usize) {
+        let alternative = reader::read_alternative(bytes, 0);
+        put(w, at, alternative.discriminant);
+        put(w, at + 1, part(alternative.name, alternative.ty));
     }
 
     fn are_distinct(alternatives: &[[u8; 8]]) -> bool {
@@ -159,7 +122,7 @@ impl Part<8> for Alternative {
     }
 }
 
-// Whether each part names a name and an earlier type.
+// Whether each part names a name and an earlier type; the counts are two parameters, as in `is_early`.
 pub fn are_earlier<const SIZE: usize, P: Part<SIZE>>(
     parts: &[[u8; SIZE]],
     names: u32,
@@ -170,10 +133,7 @@ pub fn are_earlier<const SIZE: usize, P: Part<SIZE>>(
     parts.iter().all(
         |bytes|
             ensures { result ≡ is_early P.kind names types bytes.now }
-        {
-            let part = P::read(bytes);
-            part.name() < names && part.ty() < types
-        },
+        { P::is_early(bytes, names, types) },
     )
 }
 
@@ -226,7 +186,7 @@ pub fn put_parts<const SIZE: usize, P: Part<SIZE>>(parts: &[[u8; SIZE]], w: &mut
 {
     let mut at = work::FIELDS + wide(from);
     for bytes in parts {
-        P::read(bytes).put(w, at);
+        P::put(bytes, w, at);
         at += P::WORDS;
     }
 }

@@ -7,22 +7,14 @@ ghost use Rattle.reading.specs.Promises.{InEither, TakesAnywhere, AddsType, Take
 
 use crate::parts::{Part, are_earlier, put_parts};
 use crate::{Counters, Refusal};
+use cells::Ty;
 use frames::{Edition, byte, reference};
 use reader::{Alternative, Field};
 use work::{predicate_word, put, wide, with_tag, with_value};
 
-// The tags of the types with no parts; those with parts have theirs in `Part`.
-const INT: u32 = 1;
-
-const STRING: u32 = 2;
-
-const BYTES: u32 = 3;
-
-const FACT: u32 = 4;
-
 // Counters with room for one more type and the words of its parts.
 #[derive(Clone, Copy)]
-pub struct Room {
+pub struct Vacancy {
     pub c: Counters,
     ghost types: { c.types < 256 },
     ghost fields: { c.fields ≤ 8192 },
@@ -31,7 +23,7 @@ pub struct Room {
 // One more type, with so many words of parts.
 fn add_type(
     w: &mut [u32],
-    room: Room,
+    room: Vacancy,
     head: u32,
     payload: u32,
     words: u32,
@@ -54,7 +46,7 @@ fn add_type(
 fn take_parts<const SIZE: usize, P: Part<SIZE>>(
     s: &[u8],
     w: &mut [u32],
-    room: Room,
+    room: Vacancy,
 ) -> Result<Counters, Refusal>
     requires { (2 ≤ length s.now) × (length s.now ≤ 512) }
     ensures { InEither (λ e. TakesType e (shape_of P.kind) s.now w.old room.c w.new result) }
@@ -73,15 +65,24 @@ fn take_parts<const SIZE: usize, P: Part<SIZE>>(
     add_type(w, room, head, c.fields, (n * P::WORDS) as u32)
 }
 
-pub fn take_type(s: &[u8], w: &mut [u32], room: Room, edition: Edition) -> Result<Counters, Refusal>
+pub fn take_type(
+    s: &[u8],
+    w: &mut [u32],
+    room: Vacancy,
+    edition: Edition,
+) -> Result<Counters, Refusal>
     requires { (2 ≤ length s.now) × (length s.now ≤ 512) }
     ensures { TakesAnywhere (edition_of edition) schema_type s.now w.old room.c w.new result }
 {
+    // The shape is the file's byte, as in `type_frame` of crate frames.
     match byte(s, 1) {
-        0 => add_type(w, room, INT, 0, 0),
-        1 => add_type(w, room, STRING, 0, 0),
-        2 => add_type(w, room, BYTES, 0, 0),
-        3 => add_type(w, room, FACT, reference(s, 2, edition), 0),
+        0 => add_type(w, room, Ty::Int.tag(), 0, 0),
+        1 => add_type(w, room, Ty::Str.tag(), 0, 0),
+        2 => add_type(w, room, Ty::Bytes.tag(), 0, 0),
+        3 => {
+            let p = reference(s, 2, edition);
+            add_type(w, room, Ty::Fact(p).tag(), p, 0)
+        }
         4 => take_parts::<4, Field>(s, w, room),
         _ => take_parts::<8, Alternative>(s, w, room),
     }
@@ -99,7 +100,7 @@ fn add_predicate(w: &mut [u32], c: Counters, entry: u32) -> Result<Counters, Ref
 }
 
 // The counters' bounds are asked here as in `take_line`: what names and types may name fits in an entry's eight bits,
-// and `Room` says another thing, that one more fits.
+// and `Vacancy` says another thing, that one more fits.
 pub fn take_predicate(s: &[u8], w: &mut [u32], c: Counters) -> Result<Counters, Refusal>
     requires { (6 ≤ length s.now) × (c.names ≤ 256) × (c.types ≤ 256) × (c.predicates < 128) }
     ensures { InEither (λ e. TakesAnywhere e predicate s.now w.old c w.new result) }

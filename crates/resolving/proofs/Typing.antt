@@ -2,12 +2,13 @@
 -- stands before its parts, and then part by part, where to write the parts from j on is to write them all.
 use mathlib.Core.List.{List, ◌++◌, append_assoc}
 use mathlib.Core.Path.{◌≡◌, refl, sym, ap, ◌∙◌}
-use Prim.Native.Nat.{ℕ, zero, suc, ◌+◌, ◌≤◌, ◌<◌}
+use Prim.Native.Nat.{ℕ, ◌+◌, ◌≤◌, ◌<◌}
 use native.Mathlib.Omega.{arith}
 use lib.ListN.{length}
 use Rattle.unification.specs.Ty as Tree
 use Rattle.unification.specs.Ty.{Row, ε, cell, row_len, app_row}
 use Rattle.unification.specs.Bindings.{State, Subst, zonk, Resolved}
+use Rattle.unification.proofs.Rows.{row_len_app}
 use Rattle.unification.proofs.Chain.{repr_resolved}
 use Rattle.unification.proofs.Zonk.{zonk_repr, zonk_leaf, zonk_error, zonk_node, zonk_unbound, zonk_replaces}
 use Rattle.cells.specs.declared.Ty.{Ty}
@@ -16,9 +17,10 @@ use Rattle.cells.specs.declared.Kind.{Kind}
 use Rattle.cells.specs.declared.Kind.TheVariants.{Fields, Alternatives}
 use Rattle.cells.specs.declared.Part.{Part}
 use Rattle.cells.specs.Words.{count_w, part_w, parts_w, part_of_w}
-use Rattle.cells.specs.Stands.{Rows, Holds, tree, row_from, row_w, IsCell, Ok}
+use Rattle.cells.specs.Stands.{Rows, Holds, tree, IsCell, Ok}
 use Rattle.cells.specs.Promises.{Reprs}
-use Rattle.cells.proofs.Parts.{rest, rest_whole, rest_cell, rest_none, part_ok}
+use Rattle.cells.proofs.Parts.{rest, rest_whole, rest_cell, rest_none, cell_ty, cell_ok, part_ok}
+use Rattle.cells.proofs.Records.{cell_length}
 use Rattle.writer.specs.Writes.{Writes, Moves}
 use Rattle.writer.proofs.Writing.{writes_as, writes_to, writes_then, writes_full, writes_moves, full_moves, moves_then, moves_none, moves_next}
 use Rattle.writer.proofs.Writing.{Goes, goes_start, goes_next, goes_full, goes_done}
@@ -27,36 +29,17 @@ use Rattle.std.specs.Prelude.{None, Option, Some}
 
 -- ---- The parts that are counted are those that are written
 
-app_long : (f : ℕ → Tree.Ty) (r : Row) → row_len (app_row f r) ≡ row_len r
-unfolding row_len app_row
-app_long f ε = refl
-app_long f (cell k l t r) = ap suc (app_long f r)
-
-from_long : (T : Rows) (w : List ℕ) (k : Kind) (c j n : ℕ) → row_len (row_from T w k c j n) ≡ n
-unfolding row_len row_from
-from_long T w k c j zero = refl
-from_long T w k c j (suc n) = ap suc (from_long T w k c (j + 1) n)
-
 counted : {w : List ℕ} {T : Rows} {s : Subst} → Resolves w T s → (k : Kind) (c : ℕ) → IsCell w k c → row_len (resolved s (T c)) ≡ count_w w c
-unfolding row_w
-counted {w} {T} {s} R k c i = app_long _ (T c) ∙ rw (R.cells.row k c i) (from_long T w k c 0 (count_w w c))
+counted {w} {T} {s} R k c i = row_len_app _ (T c) ∙ cell_length R.cells k c i
 
 -- ---- A type
 -- The words of a state say what its bindings resolve to.
 pub resolves : {w : List ℕ} {T : Rows} {st : State} → Holds w T st → Resolves w T st.subst
 resolves H = record { cells = H.cells; binds = H.binds; acyclic = H.acyclic }
 
-abbrev pub cell_ty : Kind → ℕ → Ty
-cell_ty Fields c = Record c
-cell_ty Alternatives c = Union c
-
 cell_tree : (T : Rows) (k : Kind) (c : ℕ) → tree T (cell_ty k c) ≡ Tree.node (kind_of k) (T c)
 cell_tree T Fields c = refl
 cell_tree T Alternatives c = refl
-
-cell_ok : (w : List ℕ) (k : Kind) (c : ℕ) → Ok w (cell_ty k c) → IsCell w k c
-cell_ok w Fields c o = o
-cell_ok w Alternatives c o = o
 
 -- ---- Where a loop over the parts has come to
 pub record Rowing {A : Type 0} (S : Script A) (w : List ℕ) (out₀ : List A) (at : ℕ) (k : Kind) (c n : ℕ) (out : List A) (j to : ℕ) : Type 0 where
@@ -169,11 +152,6 @@ module _ {A : Type 0} (S : Script A) where
     }
 
   -- ---- A type, its parts in a loop
-  -- Where the parts start there is less room.
-  pub head_moves : (w : List ℕ) (u : Ty) → 1 ≤ length (head_of S w u) → {out : List A} {at : ℕ} {mid : List A} {h : Option ℕ} {n : ℕ}
-      → Writes out at (head_of S w u) mid h → h ≡ Some n → (at < n) × (n ≤ length out)
-  head_moves w u some f e = let g = writes_to f e in (omega (arith, g.0, some), g.1)
-
   pub typing_start : (w : List ℕ) (mid : List A) (from : ℕ) (u : Ty) (n : ℕ) → n ≡ parts_w w u → Typing S w mid from u n mid 0 from
   typing_start w mid from u n e = record { moves = moves_none mid from; along = go u e }
     where

@@ -1,6 +1,6 @@
 -- One count over the queries: what is sought among all is sought among those that are left, fewer by the entries of those that were run; and a
 -- run that is to last until an entry keeps to it.
-use mathlib.Core.List.{List, [], ◌∷◌, ◌++◌}
+use mathlib.Core.List.{List, ◌∷◌, ◌++◌}
 use mathlib.Core.Path.{◌≡◌, refl, ap, ◌∙◌}
 use Prim.Native.Nat.{ℕ, ◌+◌, ◌-◌, ◌<◌, ◌≤◌}
 use native.Mathlib.Omega.{arith}
@@ -19,7 +19,7 @@ use Rattle.laws.proofs.Over.{predicate_everything, names_everything}
 use Rattle.laws.proofs.Walk.{query_agrees}
 use Rattle.laws.proofs.Run.{begin_fine, same_self}
 use Rattle.entries.specs.Entries.{entries_of, entries_all, nth, Sought, turned_down, among, sought_run}
-use Rattle.entries.proofs.Entries.{length_reversed, nth_first, nth_later, entries_are}
+use Rattle.entries.proofs.Entries.{entries_many, nth_first, nth_later}
 use Rattle.std.specs.Prelude.{None, Option, Some}
 
 -- ---- What is left
@@ -47,9 +47,6 @@ module _ (schema : Schema) (a : Ast) (qs : List Ast) where
   out_first {c} e = ap (λ s. with_checked (checked max_visits s) (run_all schema qs)) e
 
   module _ {ty : Ty} {c : Checker} (e : run schema a max_visits ≡ goes ty c) where
-    pub many : length (entries_of schema a) ≡ length c.entries
-    many = ap length (entries_are schema a ty c e) ∙ omega (arith, length_reversed c.entries [])
-
     -- It goes to its end.
     pub goes_first : (t : Typed) × (run_all schema (a ∷ qs) ≡ with_checked (typed t) (run_all schema qs))
     unfolding run_all check checked run
@@ -67,14 +64,14 @@ module _ (schema : Schema) (a : Ast) (qs : List Ast) where
     unfolding entries_all
     in_first n h =
         left_by (nth (entries_all schema (a ∷ qs)) n) ∙ ap (λ o. unless_out o (run_all schema qs))
-        (nth_first (entries_of schema a) (entries_all schema qs) n (omega (arith, many)))
+        (nth_first (entries_of schema a) (entries_all schema qs) n (omega (arith, entries_many schema a ty c e)))
 
     pub in_later : (n : ℕ) → length c.entries ≤ n
         → unless_out (nth (entries_all schema (a ∷ qs)) n) (run_all schema (a ∷ qs))
         ≡ unless_out (nth (entries_all schema qs) (n - length c.entries)) (run_all schema qs)
     unfolding entries_all
     in_later n h =
-        let k : n ≡ length (entries_of schema a) + (n - length c.entries) = omega (arith, many) in
+        let k : n ≡ length (entries_of schema a) + (n - length c.entries) = omega (arith, entries_many schema a ty c e) in
         left_by (nth (entries_all schema (a ∷ qs)) n) ∙ ap (λ o. unless_out o (run_all schema qs))
         (ap {B = Option Entry} (λ m. nth (entries_of schema a ++ entries_all schema qs) m) k
         ∙ nth_later (entries_of schema a) (entries_all schema qs) (n - length c.entries))

@@ -17,6 +17,7 @@ use Rattle.meaning.specs.Outcome.{min_words, max_visits, run_all}
 use Rattle.meaning.specs.Refusal.{too_many_visits}
 use Rattle.meaning.proofs.Sound.{sound}
 use Rattle.meaning.proofs.Content.{says_exactly}
+use Rattle.entries.proofs.Entries.{entries_many}
 use Rattle.entries.specs.Entries as Defined
 use Rattle.entries.specs.Entries.{entries_of, entries_all, nth, fewer, turned_down, among, sought_run}
 use Rattle.tree.specs.Stands.{SchemaStands}
@@ -24,7 +25,7 @@ use Rattle.loading.specs.Promises.{Ahead}
 use Rattle.loading.proofs.Lines.{query_ahead, all_ahead}
 use Rattle.seek.specs.Promises.{SchemaIn, Turned, Turns, RanOn, RunsOn, Within, Places}
 use Rattle.seek.proofs.Running.{ok_parts}
-use Rattle.seek.proofs.Counting.{unless_out, sought_is, out_first, many, in_first, in_later}
+use Rattle.seek.proofs.Counting.{unless_out, sought_is, out_first, in_first, in_later}
 
 -- Those that are left, with the entries that are still to come before the one that is sought.
 record Left (f w : List ℕ) (form : Form) (at rest : ℕ) (x : Defined.Sought) : Type 0 where
@@ -192,6 +193,6 @@ module _ {f : List ℕ} {n : ℕ} {w₀ w : List ℕ} {at rest : ℕ} (P : Placi
               ty = y.ty;
               last = y.last;
               ran = y.ran;
-              here = omega (arith, many form.schema y.first.a y.first.qs y.ran, y.few);
+              here = omega (arith, entries_many form.schema y.first.a _ _ y.ran, y.few);
               is = p;
             }

@@ -1,5 +1,6 @@
 // Card 12: the n-th entry to `unify` of a file's run. The whole file is run first, so that 11 is told wherever the
-// visits run out, and then the entry's query again, up to the entry.
+// visits run out, and then the entry's query again, up to the entry. File and slice are two parameters, as in crate
+// desk.
 #![tactic(auto)]
 
 ghost use Rattle.seek.specs.Promises.{Turns, RunsOn, Places, Stops, Finds, Seeks};

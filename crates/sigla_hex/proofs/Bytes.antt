@@ -11,7 +11,7 @@ use lib.Seq.{ext_get_or}
 use borrow.Author.Tests.{eqb-true, eqb-false, lt-ltb, le-ltb, le-leb, lt-leb, leb-true, ltb-true, ltb-false}
 use Rattle.meaning.specs.Lines.{Line, closed, unclosed, LF, lines, digit, decoded, max_bytes, at_most, some_bytes, bytes_of}
 use Rattle.sigla_hex.specs.Digits.{digit_w, digits_w, pair_at, first_line, line_at}
-use Rattle.sigla_hex.proofs.Line.{no_some, digit_below, digit_same, digit_other, pair_below, head_line, decoded_line, decoded_at, prefixed, pair_digits}
+use Rattle.sigla_hex.proofs.Line.{digit_below, digit_same, digit_other, pair_below, head_line, decoded_line, decoded_at, prefixed, pair_digits}
 use Rattle.sigla_hex.proofs.Line.{lines_at_LF, lines_at_end, decoded_on, decoded_none}
 use Rattle.std.specs.Prelude.{None, Option, Some, unwrap_or}
 
@@ -30,13 +30,13 @@ module _ (f : List ℕ) (i : ℕ) (s : List ℕ) (e : decoded_at f i ≡ Some s)
       subst (From f i) z (ends h q)
 
   at_pair : (b : ℕ) → pair_at f i ≡ Some b → (o : Option (List ℕ)) → decoded_at f (i + 2) ≡ o → From f i s
-  at_pair b q None r = no_some (sym (decoded_on f i q ∙ ap (prefixed (b ∷ [])) r) ∙ e)
+  at_pair b q None r = cc (decoded_on f i q, ap (prefixed (b ∷ [])) r)
   at_pair b q (Some t) r =
       let z : b ∷ t ≡ s = cc (decoded_on f i q ∙ ap (prefixed (b ∷ [])) r) in
       subst (From f i) z (more q r)
 
   at_other : i < length f → (get_or f i 0 ≡ LF → ⊥) → (o : Option ℕ) → pair_at f i ≡ o → From f i s
-  at_other h n None q = no_some (sym (decoded_none f i h n q) ∙ e)
+  at_other h n None q = cc (decoded_none f i h n q)
   at_other h n (Some b) q = at_pair b q (decoded_at f (i + 2)) refl
 
   pub from : From f i s
@@ -48,7 +48,7 @@ module _ (f : List ℕ) (i : ℕ) (s : List ℕ) (e : decoded_at f i ≡ Some s)
 
       within : (t : Bool) → ltb i (length f) ≡ t → From f i s
       within true q = here (eqb (get_or f i 0) LF) refl (ltb-true i (length f) q)
-      within false q = no_some (sym (ap (λ ls. decoded_line (head_line ls)) (lines_at_end f i (ltb-false i (length f) q))) ∙ e)
+      within false q = cc (ap (λ ls. decoded_line (head_line ls)) (lines_at_end f i (ltb-false i (length f) q)))
 
 -- ---- The whole line
 
@@ -107,12 +107,12 @@ pub record Takes (o : Option (List ℕ)) (s : List ℕ) : Type 0 where
 
 pub takes : (o : Option (List ℕ)) (s : List ℕ) → some_bytes o ≡ Some s → Takes o s
 unfolding some_bytes at_most max_bytes
-takes None s e = no_some e
-takes (Some []) s e = no_some e
+takes None s e = cc
+takes (Some []) s e = cc
 takes (Some (b ∷ t)) s e = go (leb (length (b ∷ t)) 512) refl e
   where
     go : (u : Bool) → leb (length (b ∷ t)) 512 ≡ u → ◌≡◌ {A = Option (List ℕ)} (elim u [ true ↦ Some (b ∷ t) | false ↦ None ]) (Some s) → Takes (Some (b ∷ t)) s
-    go false u q = no_some q
+    go false u q = cc
     go true u q =
         let z : b ∷ t ≡ s = cc in
         let l = ap length z in

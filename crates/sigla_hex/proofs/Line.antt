@@ -19,16 +19,16 @@ use Rattle.std.specs.Prelude.{None, Option, Some, unwrap_or}
 
 -- nothing is `some` and `none`
 pub no_some : {A B : Type 0} {x : A} → None ≡ Some x → B
-no_some e = let z : ◌≡◌ {A = ℕ} 0 1 = cc in absurd (omega arith)
+no_some e = cc
 
 one_later : (b : Bool) (o : Option ℕ) (k n : ℕ) → ((m : ℕ) → o ≡ Some m → m < k) → elim b [ true ↦ Some 0 | false ↦ one_more o ] ≡ Some n → n < suc k
 one_later true o k n below e = let z : 0 ≡ n = cc in omega arith
-one_later false None k n below e = no_some e
+one_later false None k n below e = cc
 one_later false (Some m) k n below e = let s : suc m ≡ n = cc in omega (arith, below m refl)
 
 pub place_below : {A : Type 0} (test : A → Bool) (l : List A) (n : ℕ) → position test l ≡ Some n → n < length l
 unfolding position
-place_below test [] n e = no_some e
+place_below test [] n e = cc
 place_below test (a ∷ l) n e = one_later (test a) (position test l) (length l) n (λ m q. place_below test l m q) e
 
 pub digit_below : (c n : ℕ) → digit c ≡ Some n → n < 16
@@ -37,13 +37,13 @@ digit_below c n e = place_below (eqb c) digits n e
 
 character : (c : ℕ) (l : List ℕ) (n : ℕ) → position (eqb c) l ≡ Some n → c ≡ get_or l n 0
 unfolding position
-character c [] n e = no_some e
+character c [] n e = cc
 character c (a ∷ l) n e = go (eqb c a) refl (position (eqb c) l) (λ m q. character c l m q) e
   where
     go : (b : Bool) → eqb c a ≡ b → (o : Option ℕ) → ((m : ℕ) → o ≡ Some m → c ≡ get_or l m 0) → elim b [ true ↦ Some 0 | false ↦ one_more o ] ≡ Some n
         → c ≡ get_or (a ∷ l) n 0
     go true t o at e = let z : n ≡ 0 = cc in rw z (eqb-true c a t)
-    go false t None at e = no_some e
+    go false t None at e = cc
     go false t (Some m) at e = let z : n ≡ suc m = cc in rw z (at m refl)
 
 -- A digit's value says which digit it is.
@@ -56,7 +56,7 @@ unfolding digit digits ascii position
 digit_LF = refl
 
 pub digit_other : (c n : ℕ) → digit c ≡ Some n → c ≡ LF → ⊥
-digit_other c n e q = no_some (sym digit_LF ∙ ap digit (sym q) ∙ e)
+digit_other c n e q = cc (digit_LF)
 
 -- The code's digit tells whether there is one.
 pub is_digit_lem : (c : ℕ) → digit_w c < 16 → digit c ≡ Some (digit_w c)
@@ -89,9 +89,9 @@ pair_below f i n e = go (ltb (i + 1) (length f)) (digit (get_or f i 0)) (digit (
   where
     go : (b : Bool) (o p : Option ℕ) → ((m : ℕ) → o ≡ Some m → m < 16) → ((m : ℕ) → p ≡ Some m → m < 16)
         → elim b [ true ↦ byte_of o p | false ↦ None ] ≡ Some n → n < 256
-    go false o p h l e = no_some e
-    go true None p h l e = no_some e
-    go true (Some x) None h l e = no_some e
+    go false o p h l e = cc
+    go true None p h l e = cc
+    go true (Some x) None h l e = cc
     go true (Some x) (Some y) h l e = let q : x * 16 + y ≡ n = cc in omega (arith, h x refl, l y refl)
 
 -- ---- The line at a place
@@ -149,7 +149,7 @@ no_digits : (o p : Option ℕ) (q : Option (List ℕ)) → byte_of o p ≡ None 
 unfolding pair byte_of
 no_digits None p q e = refl
 no_digits (Some h) None q e = refl
-no_digits (Some h) (Some l) q e = no_some (sym e)
+no_digits (Some h) (Some l) q e = cc
 
 longer_two : (x y h l : ℕ) (ln : Line) → digit x ≡ Some h → digit y ≡ Some l
     → decoded_line (longer x (longer y ln)) ≡ prefixed ((h * 16 + l) ∷ []) (decoded_line ln)
@@ -185,9 +185,9 @@ pair_digits f i b e = go (ltb (i + 1) (length f)) refl (digit (get_or f i 0)) re
   where
     go : (t : Bool) → ltb (i + 1) (length f) ≡ t → (o : Option ℕ) → digit (get_or f i 0) ≡ o → (p : Option ℕ) → digit (get_or f (i + 1) 0) ≡ p
         → elim t [ true ↦ byte_of o p | false ↦ None ] ≡ Some b → DigitsAt f i b
-    go false t o h p l e = no_some e
-    go true t None h p l e = no_some e
-    go true t (Some x) h None l e = no_some e
+    go false t o h p l e = cc
+    go true t None h p l e = cc
+    go true t (Some x) h None l e = cc
     go true t (Some x) h (Some y) l e = record { room = ltb-true (i + 1) (length f) t; h = x; l = y; high = h; low = l; is = cc }
 
 module _ (f : List ℕ) (i : ℕ) where

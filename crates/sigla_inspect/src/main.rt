@@ -7,19 +7,10 @@ use std::env::Env;
 use std::io;
 use std::io::Read;
 
-// What an argument says in decimal digits. `parse` takes a sign too, which is none.
-fn read_number(text: &[u8]) -> Option<u32> {
-    let digits = std::str::from_utf8(text).ok()?;
-    if digits.starts_with('+') {
-        return None;
-    }
-    digits.parse().ok()
-}
-
 fn argument(rt: &HostRuntime) -> Option<u32> {
     let mut text = [0u8; 4096];
     let n = rt.arg(1, &mut text).ok()?;
-    read_number(&text[..n])
+    input::number(&text[..n])
 }
 
 // A token of one word. A kind is the number that stands in the words which C is given too.

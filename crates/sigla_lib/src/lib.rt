@@ -44,9 +44,8 @@ pub extern "C" fn sigla_check(file: &[u8], work: &mut [u32], out: &mut [u8]) -> 
 
 // ---- The lamp
 
-// Whether a query of the file has a diagnostic: then `lit` is 1, and else 0. Each query runs until its first one. Here,
-// in `sigla_load` and in `sigla_ceiling` a number goes to C where there is one, each of another width from another
-// answer: one function for the three would be told the width, the zero and the refusal.
+// Whether a query of the file has a diagnostic: then `lit` is 1, and else 0. Each query runs until its first one. Not
+// by `left`: here the call says which refusal it is, and a bool goes out as a word.
 #[unsafe(no_mangle)]
 pub extern "C" fn sigla_lamp(file: &[u8], work: &mut [u32], lit: &mut u32) -> u8
     ensures { CallsLamp file.now work.old work.new lit.new result }
@@ -54,12 +53,8 @@ pub extern "C" fn sigla_lamp(file: &[u8], work: &mut [u32], lit: &mut u32) -> u8
     let l = lamp::lamp(file, work);
     let shown = l.signal;
     match shown {
-        Ok(true) => {
-            *lit = 1;
-            0
-        }
-        Ok(false) => {
-            *lit = 0;
+        Ok(lit_up) => {
+            *lit = u32::from(lit_up);
             0
         }
         Err(e) => {
@@ -144,23 +139,14 @@ pub extern "C" fn sigla_growth(old: &[u8], new: &[u8], work: &mut [u32]) -> u8
 
 // ---- The test load
 
-// The file of the seed and its length; or 12 for a slice that is shorter, and 0. The number itself, as C has it: no
-// refusal comes to here.
+// The file of the seed and its length; or 12 for a slice that is shorter, and 0.
 #[unsafe(no_mangle)]
 pub extern "C" fn sigla_load(seed: u32, out: &mut [u8], length: &mut usize) -> u8
     ensures { CallsLoad seed out.old out.new length.new result }
 {
-    let r = generator::make(seed, out);
-    match r {
-        Some(n) => {
-            *length = n;
-            0
-        }
-        None => {
-            *length = 0;
-            12
-        }
-    }
+    let (n, number) = left(generator::make(seed, out).ok_or(0), Refusal::AnswerTooLong);
+    *length = n;
+    number
 }
 
 // ---- The capture tariff
@@ -194,16 +180,12 @@ pub extern "C" fn sigla_set_up(group: &mut [u32; 50], pool: u32, shares: &[u32],
 pub extern "C" fn sigla_ceiling(group: &[u32; 50], desk: usize, visits: &mut u32) -> u8
     ensures { CallsCeiling group.now desk visits.new result }
 {
-    match ledger::group(group).ceiling(desk) {
-        Some(n) => {
-            *visits = n;
-            0
-        }
-        None => {
-            *visits = 0;
-            desk::refusal_number(Refusal::OutsideTheRules)
-        }
-    }
+    let (n, number) = left(
+        ledger::group(group).ceiling(desk).ok_or(0),
+        Refusal::OutsideTheRules,
+    );
+    *visits = n;
+    number
 }
 
 #[unsafe(no_mangle)]

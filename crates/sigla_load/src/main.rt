@@ -5,11 +5,11 @@ use std::env::Env;
 
 const USAGE: &str = "usage: sigla_load SEED";
 
-// What failed comes back as a line to tell.
+// What failed comes back as a line to tell. sigla_inspect reads its argument in these lines too, and tells another one.
 fn print(rt: &HostRuntime) -> Result<(), &'static str> {
     let mut word = [0; 4096];
     let n = rt.arg(1, &mut word).or(Err(USAGE))?;
-    let seed = generator::read_seed(&word[..n]).ok_or(USAGE)?;
+    let seed = input::number(&word[..n]).ok_or(USAGE)?;
     let mut out = [0; 8255];
     // No file is longer than the slice (crates/testload/proofs/Promise.antt, `load_short`).
     let Some(n) = generator::make(seed, &mut out) else {

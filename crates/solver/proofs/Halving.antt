@@ -1,22 +1,22 @@
 -- The engine in two halves of the lent slice: the first stage stands in the upper one, or is longer than half of what was lent, which is
 -- where the definition's run needs too many words at once.
-use Rattle.std.proofs.Common.{◌≡◌, ℕ, ◌+◌, ◌/◌, ◌≤◌, ◌<◌, List, ◌++◌, length, take, drop, None, Option, Some, Err, Result, refl, sym, ap, ◌∙◌, append_assoc, arith, length-append, length-take, length-take-le, length-drop, take-append-drop, take_at}
+use Rattle.std.proofs.Common.{◌≡◌, ℕ, ◌+◌, ◌≤◌, ◌<◌, List, ◌++◌, length, take, drop, None, Option, Some, Err, Result, refl, sym, ap, ◌∙◌, append_assoc, arith, length-append, length-take-le, length-drop, take_at}
 use Rattle.std.proofs.lemmas.List.{drop_at}
 use Rattle.std.proofs.Math.Decide.{dec_le}
 use Rattle.plain.specs.Slices.{slice}
 use Rattle.cells.specs.declared.Ty.{Ty}
 use Rattle.cells.specs.Stands.{tree}
 use Rattle.writer.specs.Writes.{placed, Writes}
-use Rattle.plain_theory.specs.Plain as Theory
-use Rattle.plain_theory.specs.Plain.{start, needs, solved, failed, full}
+use Rattle.plain_theory.specs.Plain.{start, needs}
 use Rattle.plain_theory.specs.Solve.{solve}
 use Rattle.plain_theory.specs.Words.{bindings_spelled}
 use Rattle.plain_theory.proofs.Words.{needs_words}
 use Rattle.plain_theory.proofs.Runs.{solve_full}
-use Rattle.plain.specs.Stages.{Gives, Runs}
+use Rattle.plain.proofs.Running.{gives_front}
+use Rattle.plain.specs.Stages.{half, Runs}
 use Rattle.spelling.specs.Tokens.{spelled_stage, Starts}
 use Rattle.spelling.proofs.Staging.{start_needs}
-use Rattle.solver.specs.Promises.{RunsHalves, RunsEngine}
+use Rattle.solver.specs.Promises.{RunsEngine}
 use Rattle.plain.specs.declared.Unsolved.{Unsolved}
 
 -- ---- What a text that was written leaves
@@ -55,49 +55,30 @@ module _ {l : List ℕ} {at : ℕ} {a b l' : List ℕ} {e : ℕ} (W : Writes l a
           let x = placed_slice l' (take at l) a b (drop (at + length (a ++ b)) l) f.1 in
           rw end (rw n at x)
 
-module _ {w l : List ℕ} {got expected : Ty} {h : ℕ} (twice : length l ≡ h + h) {l₁ : List ℕ} {s : Option (ℕ × ℕ)} (S : Starts w l h got expected l₁ s) where
-  pub halves_run : {b e : ℕ} → s ≡ Some (b, e) → {l₂ : List ℕ} {r : Result ℕ Unsolved} → Runs l₁ h h b e l₂ r → RunsHalves w got expected h l l₂ r
-  halves_run {b} {e} q R = record {
-    is = λ T st H o p lent low high.
+-- ---- From the upper half on
+module _ {w l : List ℕ} {got expected : Ty} {h : ℕ} (low : h + h ≤ length l) (high : length l ≤ h + h + 1) {l₁ : List ℕ} {s : Option (ℕ × ℕ)}
+    (S : Starts w (take (h + h) l) h got expected l₁ s) where
+  pub engine_runs : {b e : ℕ} → s ≡ Some (b, e) → {l₂ : List ℕ} {r : Result ℕ Unsolved} → Runs l₁ (half l₁) (half l₁) b e l₂ r
+      → RunsEngine w got expected l (l₂ ++ drop (h + h) l) r
+  engine_runs {b} {e} q {l₂} {r} R = record {
+    is = λ T st H o p.
+        let even = length-take-le (h + h) l low in
         let g = start st.subst (tree T got) (tree T expected) in
-        let room : h ≤ length l = omega arith in
-        let W : Writes l h (spelled_stage g) l₁ (Some e) = rw q at (S.is T st H o p room) in
+        let room : h ≤ length (take (h + h) l) = omega (arith, even) in
+        let W : Writes (take (h + h) l) h (spelled_stage g) l₁ (Some e) = rw q at (S.is T st H o p room) in
         let m : b ≡ h + length (bindings_spelled g.bindings) = S.between T st H o p room b e q in
+        let n : half l₁ ≡ h = omega (arith, S.long, even) in
         let x = written_there W room in
-        R.is lent g low high (rw m x.0) (rw m x.1);
-    long = R.long ∙ S.long;
+        gives_front l₂ (drop (h + h) l) r (solve (length l) g) (R.is (length l) g (rw n low) (rw n high) (rw (n, m) x.0) (rw m x.1));
+    long = simp (length-append, length-drop) (omega (arith, R.long, S.long, length-take-le (h + h) l low));
   }
 
-  pub halves_full : s ≡ None → RunsHalves w got expected h l l₁ (Err Unsolved.TooFew)
-  halves_full q = record {
-    is = λ T st H o p lent low high.
+  pub engine_full : s ≡ None → RunsEngine w got expected l (l₁ ++ drop (h + h) l) (Err Unsolved.TooFew)
+  engine_full q = record {
+    is = λ T st H o p.
+        let even = length-take-le (h + h) l low in
         let g = start st.subst (tree T got) (tree T expected) in
-        let more : length l < needs g = (start_needs S H o p (omega arith)).0 q in
-        rw (solve_full lent g (omega (arith, more, needs_words g))) refl;
-    long = S.long;
+        let more : length (take (h + h) l) < needs g = (start_needs S H o p (omega (arith, even))).0 q in
+        rw (solve_full (length l) g (omega (arith, more, even, needs_words g))) refl;
+    long = simp (length-append, length-drop) (omega (arith, S.long, length-take-le (h + h) l low));
   }
-
--- ---- The lower part of the slice, put back
-gives_part : (l rest : List ℕ) (r : Result ℕ Unsolved) (x : Theory.Result) → Gives l r x → Gives (l ++ rest) r x
-unfolding slice
-gives_part l rest r (solved bs) g =
-    let n = length (bindings_spelled bs) in
-    let short : n ≤ length l = omega (arith, ap length g.1, length-take n l) in
-    (g.0, cut n short ∙ g.1)
-  where
-    cut : (n : ℕ) → n ≤ length l → take n (l ++ rest) ≡ take n l
-    cut n h =
-        let front : length (take n l) ≡ n = length-take-le n l h in
-        ap (λ (z : List ℕ). take n (z ++ rest)) (sym (take-append-drop n l)) ∙ ap (take n) (append_assoc (take n l) (drop n l) rest)
-        ∙ take_at (take n l) (drop n l ++ rest) n front
-gives_part l rest r failed g = g
-gives_part l rest r full g = g
-
-pub engine_runs : {w l part : List ℕ} {got expected : Ty} {r : Result ℕ Unsolved} → let h = length l / 2 in RunsHalves w got expected h (take (h + h) l) part r
-    → RunsEngine w got expected l (part ++ drop (h + h) l) r
-engine_runs {w} {l} {part} {got} {expected} {r} R = record {
-  is = λ T st H o p.
-      gives_part part (drop (length l / 2 + length l / 2) l) r (solve (length l) (start st.subst (tree T got) (tree T expected)))
-      (R.is T st H o p (length l) (omega arith) (omega arith));
-  long = simp (length-append, length-drop) (omega (arith, R.long, length-take (length l / 2 + length l / 2) l));
-}

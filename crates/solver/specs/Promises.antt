@@ -1,5 +1,5 @@
 -- What the plain solver promises: the definition's answer, and what the two slices then hold.
-use Rattle.std.specs.Prelude.{List, ◌++◌, ◌≡◌, ℕ, ◌+◌, ◌-◌, ◌≤◌, length, replicate, Err, Result}
+use Rattle.std.specs.Prelude.{List, ◌++◌, ◌≡◌, ℕ, ◌-◌, length, replicate, Err, Result}
 use Rattle.unification.specs.Bindings.{State}
 use Rattle.work.specs.Layout.{ENV, TYS}
 use Rattle.cells.specs.declared.Ty.{Ty}
@@ -14,12 +14,7 @@ use Rattle.plain.specs.declared.Unsolved.{Unsolved}
 
 -- ---- The engine on sides that are not shut out
 
--- In a slice of twice h words; an odd word that was lent is left over.
-pub record RunsHalves (w : List ℕ) (got expected : Ty) (h : ℕ) (l l' : List ℕ) (r : Result ℕ Unsolved) : Type 0 where
-  pub is : (T : Rows) (st : State) → Holds w T st → Ok w got → Ok w expected → (lent : ℕ) → h + h ≤ lent → lent ≤ h + h + 1
-      → Gives l' r (solve lent (start st.subst (tree T got) (tree T expected)))
-  pub long : length l' ≡ length l
-
+-- In two halves of the slice; an odd word that was lent is left over.
 pub record RunsEngine (w : List ℕ) (got expected : Ty) (l l' : List ℕ) (r : Result ℕ Unsolved) : Type 0 where
   pub is : (T : Rows) (st : State) → Holds w T st → Ok w got → Ok w expected
       → Gives l' r (solve (length l) (start st.subst (tree T got) (tree T expected)))

@@ -2,26 +2,21 @@
 // and the sides are spelled into the lent slice, and the engine runs there. Nothing of `unify` is called.
 #![tactic(auto)]
 
-ghost use Rattle.std.specs.Prelude.{◌≡◌, ◌+◌, length};
-ghost use Rattle.solver.specs.Promises.{RunsHalves, RunsEngine, Solves};
+ghost use Rattle.std.specs.Prelude.{◌≡◌};
+ghost use Rattle.solver.specs.Promises.{RunsEngine, Solves};
 
 use cells::Ty;
 use plain::Unsolved;
 
-// The first stage is written into the upper half. `got` and `expected` are two parameters, here as in `unify`.
-fn halves(w: &[u32], got: Ty, expected: Ty, h: usize, l: &mut [u32]) -> Result<usize, Unsolved>
-    requires { length l.old ≡ h + h }
-    ensures { RunsHalves w.now got expected h l.old l.new result }
-{
-    let (sides, end) = spelling::start(w, l, h, got, expected).ok_or(Unsolved::TooFew)?;
-    plain::run(l, h, sides, end)
-}
-
+// The first stage is written into the upper half; an odd word is left over. `got` and `expected` are two parameters,
+// here as in `unify`.
 fn engine(w: &[u32], got: Ty, expected: Ty, l: &mut [u32]) -> Result<usize, Unsolved>
     ensures { RunsEngine w.now got expected l.old l.new result }
 {
     let h = l.len() / 2;
-    halves(w, got, expected, h, &mut l[..h + h])
+    let even = &mut l[..h + h];
+    let (sides, end) = spelling::start(w, even, h, got, expected).ok_or(Unsolved::TooFew)?;
+    plain::run(even, sides, end)
 }
 
 // What was lent holds the bindings and then zeros, or zeros throughout.

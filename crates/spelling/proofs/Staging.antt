@@ -10,7 +10,7 @@ use Rattle.cells.specs.Words.{bound_w}
 use Rattle.cells.specs.Stands.{Rows, tree, Ok, Holds}
 use Rattle.writer.specs.Writes.{Writes, Moves}
 use Rattle.writer.proofs.Writing.{writes_none, writes_then, writes_full, writes_to, writes_over, writes_moves, full_moves, moves_then, moves_none, moves_next}
-use Rattle.writer.proofs.Writing.{Goes, goes_start, goes_next, goes_full, goes_done}
+use Rattle.writer.proofs.Writing.{Goes, goes_next, goes_full, goes_done}
 use Rattle.resolving.specs.Scripts.{Resolves}
 use Rattle.resolving.proofs.Typing.{resolves}
 use Rattle.plain_theory.specs.Plain.{Stage, needs, resolved_from, start}
@@ -60,9 +60,6 @@ pub record Listing (w l₀ : List ℕ) (at n : ℕ) (l : List ℕ) (x to : ℕ) 
   pub all : n ≡ get_or w UNKNOWNS 0
   pub moves : Moves l₀ at l (Some to)
   pub go : (T : Rows) (s : Subst) → Resolves w T s → at ≤ length l₀ → Goes l₀ at (bindings_spelled (resolved_from zero s s)) l to (from s x)
-
-pub listing_start : (w l : List ℕ) (at n : ℕ) → n ≡ get_or w UNKNOWNS 0 → Listing w l at n l 0 at
-listing_start w l at n e = record { all = e; moves = moves_none l at; go = λ T s R b. goes_start l at _ _ b refl }
 
 module _ {w l₀ : List ℕ} {at n : ℕ} {l : List ℕ} {x to : ℕ} (g : Listing w l₀ at n l x to) where
   module _ (h : x < n) {l' : List ℕ} {r : Option ℕ} (f : SpellsBinding w l to x l' r) where

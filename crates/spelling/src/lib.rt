@@ -12,7 +12,8 @@ use writer::{one, two};
 // `l` and `at` are two parameters: crate writer says why.
 
 // The words of a type: what each part of it is, and the number that belongs to it; shape by shape what answer writes in
-// bytes. The numbers stand as they are: their names are crate plain's, which reads them and knows nothing of types.
+// bytes. The numbers stand as they are: their names are crate plain's, which reads them and knows nothing of types, and
+// for the names alone this crate would stand on it.
 pub struct Tokens;
 
 #[tactic(auto, unfolding(crate::specs::Tokens::tokens, plain_theory::specs::Words::leaf_spelled, plain_theory::specs::Words::kind_tag, plain_theory::specs::Words::head_spelled))]

@@ -31,9 +31,6 @@ use Rattle.std.specs.Prelude.{None, Option, Some}
 pub keeps_unlined : {a e : ℕ} {w w' : List ℕ} → AFTER-SIDES ≤ a → Keeps a e w w' → Unlined w w'
 keeps_unlined h K = record { at = λ i l k. K.below i (omega arith) }
 
-pub same_unlined : {w : List ℕ} → Unlined w w
-same_unlined = record { at = λ i l k. refl }
-
 -- ---- Words of the lines alone changed
 module _ {f w w' : List ℕ} {T : Rows} {d : Described} {c : Checker} (sound : Sound d) (R : Runs f w T d c) (K : Keeps PLACE AFTER-SIDES w w') where
   place_aside : SameState w w'

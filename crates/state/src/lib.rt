@@ -5,7 +5,7 @@
 ghost use Rattle.std.specs.Prelude.{◌≡◌, ◌+◌, ◌*◌, get_or, set, ◌<◌};
 ghost use Rattle.work.specs.Layout.{PLACE, PLACE-HIGH, FULL, UNTIL, LEFT, STOP, ENTERED, ENV-LEN, MARK-COUNT};
 ghost use Rattle.meaning.specs.Check.{lookup_in, is_in};
-ghost use Rattle.state.specs.Words.{bumped_w, counted_w, entry_w, env_of, known_as, push_w, push_env_w, marks_of, mark_w, leave_entry_w, leave_w, Introduces};
+ghost use Rattle.state.specs.Words.{bumped_w, counted_w, entry_w, env_of, known_as, push_env_w, marks_of, mark_w, leave_entry_w, leave_w, Introduces};
 ghost use Rattle.state.specs.Lines.{place_w, set_place_w, WritesSpan, WritesUnusedLine, WritesCodeLine, WritesMessageLine, WritesLine, until_of, until_w, stop_w, UntilIs, Tells, Halts, Rejected, entered_w, sides_w, Enters};
 ghost use Rattle.state.specs.Running.{left_if, Lent};
 ghost use Rattle.tree.specs.Nodes.{IsNode};
@@ -24,7 +24,9 @@ pub enum Until {
     Entry(u32),
 }
 
-// The file that was read, the work slice, the answer slice, and the visits left.
+// The file that was read, the work slice, the answer slice, and the visits left; any will do, empty slices too. That
+// the file and both slices are still those that were lent is a clause of each function over a run (`Lent`): no type
+// speaks of before and after.
 #[derive(Drop)]
 pub struct Run<'a> {
     pub file: &'a [u8],
@@ -320,23 +322,12 @@ pub fn lookup(w: &[u32], symbol: u32) -> Option<u32>
         .find(|e| symbol_of(*e) == symbol)
 }
 
-// One more number, in a region with this counter. The undo log of crate cells grows likewise, but lies below this one.
-fn push(w: &mut [u32], from: usize, count: usize, x: u32)
-    requires { from < 65536 }
-    ensures { w.new ≡ push_w from count w.old x }
-{
-    let n = word(w, count);
-    if n < Counters::ENTRIES {
-        put(w, from + wide(n), x);
-        put(w, count, n + 1);
-    }
-}
-
 fn push_env(w: &mut [u32], node: u32, symbol: u32, var: u32)
     ensures { w.new ≡ push_env_w w.old node symbol var }
 {
     if symbol < 16384 && node < 512 && var < 512 {
-        push(w, work::ENV, work::ENV_LEN, entry(symbol, node, var));
+        let e = entry(symbol, node, var);
+        work::push(w, work::ENV, work::ENV_LEN, Counters::ENTRIES, e);
     }
 }
 
@@ -354,7 +345,8 @@ fn mark(w: &mut [u32], node: u32, e: u32)
     ensures { w.new ≡ mark_w w.old node e }
 {
     if maker_of(e) != node && !is_marked(w, unknown_of(e)) {
-        push(w, work::MARKS, work::MARK_COUNT, unknown_of(e));
+        let var = unknown_of(e);
+        work::push(w, work::MARKS, work::MARK_COUNT, Counters::ENTRIES, var);
     }
 }
 
@@ -362,7 +354,8 @@ fn leave_entry(w: &mut [u32], e: u32)
     ensures { w.new ≡ leave_entry_w w.old e }
 {
     if !is_marked(w, unknown_of(e)) {
-        push(w, work::UNUSED, work::UNUSED_COUNT, maker_of(e));
+        let node = maker_of(e);
+        work::push(w, work::UNUSED, work::UNUSED_COUNT, Counters::ENTRIES, node);
     }
 }
 

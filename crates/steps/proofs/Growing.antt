@@ -8,9 +8,10 @@ use Rattle.cells.specs.declared.Ty.{Ty}
 use Rattle.cells.specs.declared.Kind.{Kind}
 use Rattle.cells.specs.Stands.{Rows, IsCell, Ok}
 use Rattle.cells.specs.Inferred.{More, Adds}
-use Rattle.cells.proofs.Frame.{keeps_refl, keeps_trans, cell_by, ok_by}
-use Rattle.cells.proofs.Making.{adds_refl, adds_trans}
+use Rattle.cells.proofs.Frame.{cell_by, ok_by}
 use Rattle.state.specs.Runs.{Grew}
+use Rattle.state.proofs.Running as Running
+use Rattle.state.proofs.Running.{grew_less}
 
 -- ---- Cells that were there
 pub cell_kept : {w w' : List ℕ} {k : Kind} {c : ℕ} → Adds w w' → IsCell w k c → IsCell w' k c
@@ -24,15 +25,7 @@ pub more_trans : {w w' : List ℕ} {T T' T'' : Rows} → Adds w w' → More w T 
 more_trans a p q = record { same = λ k c h. q.same k c (cell_kept a h) ∙ p.same k c h }
 
 pub grew_refl : {w : List ℕ} {n m : ℕ} → Grew w w n m
-grew_refl = record { adds = adds_refl; keeps = keeps_refl; records = omega arith; fields = omega arith }
+grew_refl = grew_less (omega arith) (omega arith) Running.grew_refl
 
 pub grew_trans : {u v w : List ℕ} {n m n' m' k l : ℕ} → n + n' ≤ k → m + m' ≤ l → Grew u v n m → Grew v w n' m' → Grew u w k l
-grew_trans i j p q = record {
-  adds = adds_trans p.adds q.adds;
-  keeps = keeps_trans p.keeps q.keeps;
-  records = omega (arith, i, p.records, q.records);
-  fields = omega (arith, j, p.fields, q.fields);
-}
-
-pub grew_wider : {w w' : List ℕ} {n m k l : ℕ} → n ≤ k → m ≤ l → Grew w w' n m → Grew w w' k l
-grew_wider i j p = record { adds = p.adds; keeps = p.keeps; records = omega (arith, i, p.records); fields = omega (arith, j, p.fields) }
+grew_trans i j p q = grew_less i j (Running.grew_trans p q)

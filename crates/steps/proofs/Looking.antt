@@ -4,11 +4,11 @@ use mathlib.Core.Bool.{Bool, true, false}
 use mathlib.Core.List.{List, [], ◌∷◌}
 use mathlib.Core.Path.{◌≡◌, refl, sym, ◌∙◌, ap}
 use native.Mathlib.Omega.{arith}
-use Prim.Native.Nat.{ℕ, zero, suc, ◌+◌, ◌-◌, ◌/◌, ◌%◌, ◌<◌, ◌≤◌}
+use Prim.Native.Nat.{ℕ, ◌+◌, ◌-◌, ◌/◌, ◌%◌, ◌<◌, ◌≤◌}
 use types.Run.{OneOf, miss}
 use denote.Enum.Declared.{tag_of}
 use lib.Dec.{eqb, ltb}
-use lib.ListN.{length, get_or}
+use lib.ListN.{get_or}
 use borrow.Author.Tests.{ltb-true, ltb-false, eqb-true}
 use Rattle.unification.specs.Ty as Tree
 use Rattle.unification.specs.Unify.{find_key}
@@ -21,7 +21,7 @@ use Rattle.cells.specs.Words.{pick, declared_w}
 use Rattle.cells.specs.Stands.{Rows, tree, bound_tree, Ok, OkBound}
 use Rattle.cells.specs.Promises.{FindsKey}
 use Rattle.cells.specs.contracts.Ty.{the_type}
-use Rattle.meaning.specs.Schema.{Predicate, Schema, get, field_of}
+use Rattle.meaning.specs.Schema.{Schema, get, field_of}
 use Rattle.meaning.specs.File.{Described}
 use Rattle.std.specs.Prelude as Std
 use Rattle.meaning.specs.Check.{Checker, is_some, key_ty, value_ty, key_shadows_value}
@@ -31,7 +31,7 @@ use Rattle.state.proofs.Standing.{declared_ok}
 use Rattle.steps.specs.Promises.{nodes_of, KeyIs}
 use Rattle.steps.specs.Outside.{predicate_w, key_ty_w, value_ty_w, FieldIs, Shadows}
 use Rattle.std.specs.Prelude.{None, Option, Some, slice_get}
-use Rattle.std.proofs.lemmas.Option.{none-some, cond_some}
+use Rattle.std.proofs.lemmas.Option.{none-some, cond_some, slice_get-get_or, slice_get_past}
 
 -- ---- The word of a predicate, and what it says
 none_by : (b : Bool) (y : ℕ) → pick b (Some y) None ≡ None → b ≡ false
@@ -88,16 +88,6 @@ field_other {w} {t} {name} x = record { is = λ T C o. go T t x; ok = λ T C o. 
     go T Error x = refl
 
 -- ---- A predicate
-get_there : (ps : List Predicate) (p : ℕ) → p < length ps → slice_get ps p ≡ Some (get_or ps p no_predicate)
-get_there [] p h = absurd (omega arith)
-get_there (a ∷ ps) zero h = refl
-get_there (a ∷ ps) (suc p) h = get_there ps p (omega arith)
-
-get_past : (ps : List Predicate) (p : ℕ) → length ps ≤ p → slice_get ps p ≡ None
-get_past [] p h = refl
-get_past (a ∷ ps) zero h = absurd (omega arith)
-get_past (a ∷ ps) (suc p) h = get_past ps p (omega arith)
-
 module _ {f w : List ℕ} {T : Rows} {d : Described} {c : Checker} (R : Runs f w T d c) (p : ℕ) where
   abbrev schema : Schema
   schema = d.schema
@@ -113,11 +103,11 @@ module _ {f w : List ℕ} {T : Rows} {d : Described} {c : Checker} (R : Runs f w
 
   there : p < get_or w PREDICATE-COUNT 0 → get d.schema p ≡ Some (get_or d.schema.predicates p no_predicate)
   unfolding get
-  there h = get_there d.schema.predicates p (omega (arith, S.predicates))
+  there h = slice_get-get_or d.schema.predicates p no_predicate (omega (arith, S.predicates))
 
   past : get_or w PREDICATE-COUNT 0 ≤ p → get d.schema p ≡ None
   unfolding get
-  past h = get_past d.schema.predicates p (omega (arith, S.predicates))
+  past h = slice_get_past d.schema.predicates p (omega (arith, S.predicates))
 
   pub key_stands : bound_tree T (key_ty_w w p) ≡ key_ty d.schema (nodes_of d) p
   unfolding key_ty_w key_ty

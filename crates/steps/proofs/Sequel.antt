@@ -17,7 +17,8 @@ use Rattle.state.specs.Lines.{Told}
 use Rattle.steps.specs.Ends.{Gives, Gone, Ends, went, spent}
 use Rattle.steps.specs.Loads.{Load, both, FitsIn, Free, Begins}
 use Rattle.cells.proofs.Frame.{more_refl}
-use Rattle.steps.proofs.Growing.{more_trans, grew_refl, grew_trans, grew_wider}
+use Rattle.steps.proofs.Growing.{more_trans, grew_refl, grew_trans}
+use Rattle.state.proofs.Running.{grew_less}
 
 -- ---- Steps one after another, grouped otherwise
 pub and_then_assoc : {A B C : Type 0} (m : Step A) (f : A → Does B) (g : B → Does C) → and_then (and_then m f) g ≡ and_then m (λ a c. and_then (f a c) g)
@@ -82,7 +83,7 @@ pub gone_as : {A B : Type 0} {f w ou w' ou' : List ℕ} {T : Rows} {d : Describe
     {c : Checker} {h : ℕ}
     → n ≤ k → m ≤ l → ((R : Rows) → E.Is R a c.state.left → E'.Is R a' c.state.left) → Gone f w ou w' ou' T d n m E a c h
     → Gone f w ou w' ou' T d k l E' a' c h
-gone_as i j to g = record { T' = g.T'; more = g.more; runs = g.runs; lines = g.lines; grew = grew_wider i j g.grew; is = to g.T' g.is }
+gone_as i j to g = record { T' = g.T'; more = g.more; runs = g.runs; lines = g.lines; grew = grew_less i j g.grew; is = to g.T' g.is }
 
 pub ends_wider : {A : Type 0} {f w ou w' ou' : List ℕ} {T : Rows} {d : Described} {n m k l : ℕ} {E : Gives A} {s : Step A} → n ≤ k → m ≤ l
     → Ends f w ou w' ou' T d n m E s → Ends f w ou w' ou' T d k l E s

@@ -25,9 +25,11 @@ use Rattle.messages.specs.declared.Message.TheVariants as Message
 use Rattle.messages.specs.Said.{report_message}
 use Rattle.state.specs.Lines.{Rejected}
 use Rattle.state.specs.Runs.{Runs}
+use Rattle.state.specs.Running.{left_if, ok_left}
+use Rattle.state.proofs.Lefts.{ended}
 use Rattle.state.proofs.Running.{runs_slots}
 use Rattle.steps.specs.Ends.{IsUnified, unified, done, silent, Gone, Ends, spent}
-use Rattle.steps.specs.Loads.{only, both, FitsIn, Begins}
+use Rattle.steps.specs.Loads.{only, both, FitsIn, Begins, Beside}
 use Rattle.steps.specs.Promises.{Fine, UnifiesTo, UnifiesOutside, compare_types, UnifiesAt, ComparesTypes}
 use Rattle.steps.specs.Outside.{ComparesOrder}
 use Rattle.steps.proofs.Growing.{grew_refl}
@@ -92,6 +94,14 @@ module _ {f w ou w₁ ou₁ : List ℕ} {got expected : Ty} {left : ℕ} {r : Re
       never R None v i = clash (cc (e, i))
       never R (Some y) v i = clash (cc (e, i.1))
 
+-- Where the visits run out in it, in `unify_at` and `compare_types`, what comes next is not done and the answer stays.
+pub outside_spent : {f w ou w₁ : List ℕ} {got expected : Ty} {left : ℕ} {o : Option (Result (Unit {0}) TyError)} {x : Option (Unit {0})}
+    {d : Described} {P : Rows → Checker → Type 0} (l : ℕ) (next : Rows → Option Unify.TyError → Does (Unit {0}))
+    → UnifiesOutside w got expected left w₁ (ok_left o l) → o ≡ None → x ≡ None
+    → ((T : Rows) (c : Checker) → P T c → Fine w got T c × Fine w expected T c)
+    → Beside f w ou left w₁ ou (done (left_if x l)) d (only one_diagnostic) P (λ T c. and_then (Check.unify (tree T got) (tree T expected) c) (next T))
+outside_spent {f} {ou = ou} l next U e z fine = rw z (record { is = λ T c B p. then_spent (U.is f ou) B (fine T c p) (next T) (ended l e) refl })
+
 -- ---- `unify_at`
 module _ {f w ou w₁ : List ℕ} (n : ℕ) {got expected : Ty} {left : ℕ} {r : Result ℕ Failure} (U : UnifiesOutside w got expected left w₁ r) where
   pub unite_good : {l : ℕ} → r ≡ Ok l → UnifiesAt f w ou n got expected left w₁ ou (Some l)
@@ -107,10 +117,6 @@ module _ {f w ou w₁ : List ℕ} (n : ℕ) {got expected : Ty} {left : ℕ} {r 
   unite_bad {err} {l} e q = (record {
     is = λ d there. record { is = λ T c B fine. then_bad (U.is f ou) B fine _ e (λ T₁ b a ok. (reports f w₁ n err l q d there).is T₁ b a.begins ok) };
   })
-
-  pub unite_spent : r ≡ Err Failure.Spent → UnifiesAt f w ou n got expected left w₁ ou None
-  unfolding Check.unify_at
-  unite_spent e = record { is = λ d there. record { is = λ T c B fine. then_spent (U.is f ou) B fine _ e refl } }
 
 -- ---- `compare_order`
 
@@ -197,7 +203,3 @@ module _ {f w ou w₁ : List ℕ} (lhs rhs : ℕ) {a b : Ty} {left : ℕ} {r : R
           (λ T₁ b₁ s ok. (reports f w₁ rhs err l q d there).is T₁ b₁ s.begins ok);
     };
   })
-
-  pub compare_spent : r ≡ Err Failure.Spent → ComparesTypes f w ou lhs rhs a b left w₁ ou None
-  unfolding compare_types
-  compare_spent e = record { is = λ d here there. record { is = λ T c B fine. then_spent (U.is f ou) B (fine.1, fine.0) _ e refl } }

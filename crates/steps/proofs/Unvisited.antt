@@ -17,7 +17,7 @@ use Rattle.meaning.proofs.Depth.{lower_falls, destructurable_is}
 use Rattle.tree.specs.declared.items.Items.{Items}
 use Rattle.tree.specs.declared.Field.{Field}
 use Rattle.tree.specs.declared.Node.{Node}
-use Rattle.tree.specs.Nodes.{field_w, field_of, fields_from, kind_w, IsNode}
+use Rattle.tree.specs.Nodes.{field_w, field_of, fields_from, kind_w, LowerItems, IsNode}
 use Rattle.tree.specs.contracts.Node.{the_type}
 use Rattle.tree.proofs.Lowering.{lower_below}
 use Rattle.messages.specs.declared.Message.TheVariants as Message
@@ -132,12 +132,12 @@ module _ {f w : List ℕ} {n : ℕ} {nd : Node} (i : IsNode f w n nd) where
   unfolding is_destructurable destructurable_in destructurable_kind kind_w
   asks_record l e A = record {
     is = λ T d c s R there.
-        let low : l.below ≡ n = rw e at i.lower in
-        rw (kind_is s R there (rw e at i), destructurable_kind) (A.is T d c s R (omega (arith, low)) n (omega (arith, low)));
+        let low : LowerItems n l = rw e at i.lower in
+        rw (kind_is s R there (rw e at i), destructurable_kind) (A.is T d c s R (omega (arith, low.below)) n (omega (arith, low.below)));
   }
 
-  pub items_below : (l : Items) → nd ≡ Node.Record l → l.below ≡ n
-  items_below l e = rw e at i.lower
+  pub items_lower : (l : Items) → nd ≡ Node.Record l → LowerItems n l
+  items_lower l e = rw e at i.lower
 
   pub asks_other : OneOf (0 ∷ 1 ∷ 2 ∷ 5 ∷ 6 ∷ 7 ∷ 9 ∷ 10 ∷ 11 ∷ 12 ∷ 13 ∷ 14 ∷ 15 ∷ 16 ∷ []) (tag_of the_type nd) → Asks f w n false
   unfolding is_destructurable destructurable_in
@@ -154,23 +154,23 @@ pub record Asking (f w : List ℕ) (l : Items) (i : ℕ) : Type 0 where
 pub asking_start : (f w : List ℕ) (l : Items) → Asking f w l 0
 asking_start f w l = let z : l.n - 0 ≡ l.n = omega arith in record { within = omega arith; is = λ T d c s R few k above. rw z refl }
 
-field_lower : (f : List ℕ) (l : Items) (i : ℕ) → i < l.n → (field_w f l i).value < l.below
+field_lower : (f : List ℕ) (l : Items) (i : ℕ) → (0 < l.n → 0 < l.below) → i < l.n → (field_w f l i).value < l.below
 unfolding field_w
-field_lower f l i h = lower_below _ _ (λ z. omega (arith, l.lower (omega arith)))
+field_lower f l i low h = lower_below _ _ (λ z. omega (arith, low (omega arith)))
 
 module _ {f w : List ℕ} {l : Items} {i : ℕ} (A : Asking f w l i) where
   pub asking_done : l.n ≤ i → AsksAll f w l true
   unfolding all_fields
   asking_done h = record { is = λ T d c s R few k above. sym (A.is T d c s R few k above ∙ rw (fields_none f l i h) refl) }
 
-  pub field_falls : i < l.n → {e : Field} → e ≡ field_w f l i → e.value < l.below
-  field_falls h q = rw q (field_lower f l i h)
+  pub field_falls : (0 < l.n → 0 < l.below) → i < l.n → {e : Field} → e ≡ field_w f l i → e.value < l.below
+  field_falls low h q = rw q (field_lower f l i low h)
 
-  module _ (h : i < l.n) {e : Field} (q : e ≡ field_w f l i) {b : Bool} (D : Asks f w e.value b) where
+  module _ (low : 0 < l.n → 0 < l.below) (h : i < l.n) {e : Field} (q : e ≡ field_w f l i) {b : Bool} (D : Asks f w e.value b) where
     asked : {T : Rows} {d : Described} {c : Checker} → Sound d → Runs f w T d c → l.below ≤ length (nodes_of d) → (k : ℕ) → l.below ≤ k
         → destructurable_in k (nodes_of d) (field_w f l i).value ≡ b
     asked {T} {d} {c} s R few k above =
-        let v = field_lower f l i h in
+        let v = field_lower f l i low h in
         let D' : Asks f w (field_w f l i).value b = rw q at D in
         destructurable_is (nodes_of d) (lower_falls (nodes_of d) s.lower) k (field_w f l i).value (omega (arith, v)) ∙ sym
         (D'.is T d c s R (omega (arith, v)))

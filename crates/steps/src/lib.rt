@@ -1,7 +1,7 @@
 // The steps of `check` outside of its cycle: they visit no node.
 #![tactic(auto)]
 
-ghost use Rattle.std.specs.Prelude.{◌≡◌, get_or};
+ghost use Rattle.std.specs.Prelude.{◌≡◌, ◌<◌, get_or};
 ghost use Rattle.state.specs.Lines.{Rejected};
 ghost use Rattle.state.specs.Running.{with_left, left_if, ok_left, Lent};
 ghost use Rattle.messages.specs.declared.Message.TheVariants as Message;
@@ -103,7 +103,7 @@ pub fn compare_order(run: &mut Run, lhs: u32, t: Ty) -> Option<()>
     run.reject(lhs, Message::NoOrder(t))
 }
 
-// Not `unify_at`, since after a report the order is not asked for.
+// Not `unify_at`, since after a report the order is not asked for. The sides are two parameters, as in crate checker.
 pub fn compare_types(run: &mut Run, lhs: u32, rhs: u32, a: Ty, b: Ty) -> Option<()>
     ensures is { ComparesTypes run.old.file.now run.old.words.now run.old.out.now lhs rhs a b run.old.left run.new.words.now run.new.out.now (left_if result run.new.left) }
     ensures lent { Lent run.old run.new }
@@ -186,6 +186,8 @@ pub fn value_of(run: &mut Run, n: u32, base: Ty) -> Option<Ty>
     }
 }
 
+// Here, above and in `select_of` a `match`: the closure of an `or_else` would take the run, and say all that `reject_ty`
+// says once more.
 pub fn field_at(run: &mut Run, n: u32, name: u32, t: Ty) -> Option<Ty>
     ensures is { FieldAt run.old.file.now run.old.words.now run.old.out.now n name t run.old.left run.new.words.now run.new.out.now (with_left result run.new.left) }
     ensures lent { Lent run.old run.new }
@@ -286,26 +288,29 @@ pub fn check_head(run: &mut Run, n: u32) -> Option<()>
     }
 }
 
+// The file and the words are two parameters: a pair of both, as `View` of crate messages, would be made for this one
+// call and taken apart in it.
 #[cycle(destructuring)]
-pub fn destructurable(run: &Run, n: u32) -> bool
-    ensures { Asks run.now.file.now run.now.words.now n result }
+pub fn destructurable(f: &[u8], w: &[u32], n: u32) -> bool
+    ensures { Asks f.now w.now n result }
 {
-    match run.node(n) {
+    match tree::node_at(f, w, n) {
         Node::Var(_) | Node::Wildcard => true,
-        Node::Record(items) => all_destructurable(run, items),
+        Node::Record(items) => all_destructurable(f, w, items),
         _ => false,
     }
 }
 
 // The fields of a record, to the first that is not. `all` takes a closure, and one that calls this cycle would need
-// clauses of its own.
+// clauses of its own. That a lower node is there is asked here, not in the type: `tree::field_at` does without it.
 #[cycle(destructuring)]
-fn all_destructurable(run: &Run, items: Items) -> bool
-    ensures { AsksAll run.now.file.now run.now.words.now items result }
+fn all_destructurable(f: &[u8], w: &[u32], items: Items) -> bool
+    requires { 0 < items.n → 0 < items.below }
+    ensures { AsksAll f.now w.now items result }
 {
     for i in 0..items.n {
-        let e = tree::field_at(run.file, items, i);
-        if !destructurable(run, e.value) {
+        let e = tree::field_at(f, items, i);
+        if !destructurable(f, w, e.value) {
             return false;
         }
     }

@@ -17,6 +17,7 @@ use Rattle.meaning.specs.Content.{PredicateFrame, predicate_frame, query_frames,
 use Rattle.meaning.specs.Sound.{Lower, nodes_named, LawfulQuery}
 use Rattle.meaning.specs.Writing.{as_value_type, as_content, as_node, written, file_of, Fits, Writable}
 use Rattle.meaning.proofs.Lists.{all_append, all_map, all_at}
+use Rattle.meaning.proofs.Hex.{line_length}
 use Rattle.testload.specs.Rule.{Limits, limit, limits, names, base, simple, compound, predicates, predicate, Plan, queries, counts, from, choice}
 use Rattle.testload.specs.Rule.{node_of, no_plan, plan_of, query_of, limits_of, simple_of, compound_of, predicate_of, count_of, content_of}
 use Rattle.testload.proofs.Tables.{TypeRow, PredicateRow, LimitsRow, NameRow, ExprRow, PlanRow, base_rows, simple_rows, compound_rows, limits_rows}
@@ -91,11 +92,6 @@ query_short p r = record { fits = r.fits; short = omega (arith, r.short) }
 
 -- ---- The file's length
 
-line_length : (s : List ℕ) → length (hex_line s) ≡ 2 * length s + 1
-unfolding hex_line
-line_length [] = refl
-line_length (b ∷ s) = ap (λ n. suc (suc n)) (line_length s) ∙ omega arith
-
 file_most : (fs : List Frame) → All Short fs → length (file_of wide fs) ≤ 65 * length fs
 unfolding file_of flat_map
 file_most [] a = omega arith
@@ -106,6 +102,10 @@ file_most (f ∷ fs) a =
     omega (arith, a.0.short, file_most fs a.1, l, s)
 
 -- ---- The content
+
+pub schema_long : (ws : List ℕ) → length (schema_frames (content_of ws)) ≡ 27
+unfolding schema_frames content_of names base from
+schema_long ws = refl
 
 module _ (ws : List ℕ) (small : (n : ℕ) → get_or ws n 0 < 0x1_0000_0000) where
   choice_low : (c : ℕ) → choice ws c < 16
@@ -283,15 +283,11 @@ module _ (ws : List ℕ) (small : (n : ℕ) → get_or ws n 0 < 0x1_0000_0000) w
   unfolding frames_of
   all_short = all_append Short (schema_frames (content_of ws)) (flat_map query_frames (content_of ws).queries) schema_lines query_frames_lem
 
-  schema_long : length (schema_frames (content_of ws)) ≡ 27
-  unfolding schema_frames content_of names base from
-  schema_long = refl
-
   frames_most : length (frames_of (content_of ws)) ≤ 127
   unfolding frames_of content_of
   frames_most =
       let a = length-append (schema_frames (content_of ws)) (flat_map query_frames (map (query_of ws) (from 0 (count_of ws)))) in
-      omega (arith, a, schema_long, queries_most 0 (count_of ws), count_of_lem.1)
+      omega (arith, a, schema_long ws, queries_most 0 (count_of ws), count_of_lem.1)
 
   pub file_short : length (file_of wide (frames_of (content_of ws))) ≤ 8255
   file_short = omega (arith, file_most (frames_of (content_of ws)) all_short, frames_most)

@@ -7,7 +7,7 @@ use native.Mathlib.Nat.{not-suc-le-zero, le_of_suc-le-suc}
 use native.Mathlib.Omega.{arith}
 use lib.Dec.{leb}
 use lib.ListN.{length, get_or}
-use borrow.Author.Tests.{leb-true}
+use borrow.Author.Tests.{leb-true, not-true}
 use borrow.Author.Rules.{rules}
 use Rattle.text.specs.Utf8.{Text, characters}
 use Rattle.text.proofs.Grammar.{counts as counted}
@@ -70,10 +70,6 @@ unfolding all_of
 rows F P test f [] a h = tt
 rows F P test f (x ∷ l) a h = (f x a.0 (and_parts (test x) (all_of test l) h).0, rows F P test f l a.1 (and_parts (test x) (all_of test l) h).1)
 
-unnot : (b : Bool) → not b ≡ true → b ≡ false
-unnot true h = clash (sym h)
-unnot false h = refl
-
 -- ---- Types
 
 type_test : ℕ → TypeShape → Bool
@@ -92,7 +88,7 @@ type_row n t f h =
       fits = f;
       names = below_all 13 (shape_names t) (and_parts a (b && (c && d)) h).0;
       types = below_all n (shape_types t) (and_parts b (c && d) h₁).0;
-      keys = again_distinct [] (shape_keys t) (unnot (again [] (shape_keys t)) (and_parts c d h₂).0);
+      keys = again_distinct [] (shape_keys t) (not-true (again [] (shape_keys t)) (and_parts c d h₂).0);
       short = leb-true (length (as_shape wide t)) 23 (and_parts c d h₂).1;
     }
 
@@ -168,7 +164,7 @@ unfolding apart
 distinct_apart [] h = tt
 distinct_apart (s ∷ ss) h =
     let a = not (given ss s) in
-    (given_absent ss s (unnot (given ss s) (and_parts a (apart ss) h).0), distinct_apart ss (and_parts a (apart ss) h).1)
+    (given_absent ss s (not-true (given ss s) (and_parts a (apart ss) h).0), distinct_apart ss (and_parts a (apart ss) h).1)
 
 pub names_distinct : Distinct names
 unfolding names ascii apart given any_of same_text
@@ -442,7 +438,7 @@ plan_row p f h =
       some = leb-true 1 p.blocks (and_parts (leb 1 p.blocks) (leb p.blocks 3) ((and_parts a (b && (c && d)) h).0)).0;
       blocks = leb-true p.blocks 3 (and_parts (leb 1 p.blocks) (leb p.blocks 3) ((and_parts a (b && (c && d)) h).0)).1;
       below = below_all (8 * p.blocks) (query_nodes p.query) (and_parts b (c && d) h₁).0;
-      once = again_distinct [] once (unnot (again [] once) (and_parts c d h₂).0);
+      once = again_distinct [] once (not-true (again [] once) (and_parts c d h₂).0);
       short = leb-true (length (as_query p.query)) 23 (and_parts c d h₂).1;
     }
 

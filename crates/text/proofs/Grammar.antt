@@ -7,9 +7,6 @@ use Rattle.text.specs.Star.{none as nil, more}
 use Rattle.text.specs.Utf8.{Range, ◌to◌, In, Fits, end, then, OneOf, this, later, inside, following, one_more, count, utf8_char, Character, Text, characters}
 use Rattle.std.specs.Prelude.{None, Option, Some}
 
-pub clash : {A X : Type 0} {x : A} → None ≡ Some x → X
-clash e = cc
-
 pub range : (low high b : ℕ) → low ≤ b → b ≤ high → In (low to high) b
 range low high b l h = record { low = l; high = h }
 
@@ -85,7 +82,7 @@ data Split (rs : List Range) : List ℕ → ℕ → Type 0 where
 
 begins : (g : List (List Range)) (b : ℕ) {rs : List Range} {a : List ℕ} → following g b ≡ Some rs → Fits rs a → OneOf g (b ∷ a)
 unfolding following
-begins [] b e f = clash e
+begins [] b e f = cc
 begins ([] ∷ g) b e f = later (begins g b e f)
 begins ((r ∷ rs) ∷ g) b {rs = x} {a = a} e f = go (λ h. begins g b h f) (inside r b) refl
   where
@@ -106,23 +103,23 @@ join i (split f t) = split (then i f) t
 back : (rs : List Range) (s : List ℕ) (n : ℕ) → count utf8_char rs s ≡ Some n → Split rs s n
 unfolding count
 back [] [] n e = let z : n ≡ 0 = cc in rw z (split end nil)
-back (r ∷ rs) [] n e = clash e
+back (r ∷ rs) [] n e = cc
 back [] (b ∷ s) n e = first (λ rs m h. back rs s m h) (following utf8_char b) refl
   where
     rest : ((rs : List Range) (m : ℕ) → count utf8_char rs s ≡ Some m → Split rs s m)
         → (rs : List Range) → following utf8_char b ≡ Some rs → (o : Option ℕ) → count utf8_char rs s ≡ o → one_more o ≡ Some n → Split [] (b ∷ s) n
-    rest ih rs q None p h = clash h
+    rest ih rs q None p h = cc
     rest ih rs q (Some m) p h = let z : n ≡ suc m = cc in rw z (start q (ih rs m p))
 
     first : ((rs : List Range) (m : ℕ) → count utf8_char rs s ≡ Some m → Split rs s m)
         → (o : Option (List Range)) → following utf8_char b ≡ o → Split [] (b ∷ s) n
-    first ih None q = clash (rw (q, count) at e)
+    first ih None q = cc (rw (q, count) at e)
     first ih (Some rs) q = rest ih rs q (count utf8_char rs s) refl (rw (q, count) at e)
 back (r ∷ rs) (b ∷ s) n e = go (λ h. back rs s n h) (inside r b) refl
   where
     go : (count utf8_char rs s ≡ Some n → Split rs s n) → (i : Bool) → inside r b ≡ i → Split (r ∷ rs) (b ∷ s) n
     go ih true q = join (inside_in r b q) (ih (rw (q, count) at e))
-    go ih false q = clash (rw (q, count) at e)
+    go ih false q = cc (rw (q, count) at e)
 
 -- nothing is owed at the start
 whole : {s : List ℕ} {n : ℕ} → Split [] s n → Text s n

@@ -1,13 +1,9 @@
--- What callers cite: what the answer's two cases say in the grammar's terms, and how many characters there can be.
-use Rattle.std.proofs.Common.{◌≡◌, refl, ap, sym, ◌∙◌, ℕ, ◌≤◌, ◌<◌, List, [], ◌∷◌, length, length-append, arith, Option, Some, None}
+-- What callers cite: what the answer None says in the grammar's terms, and how many characters there can be.
+use Rattle.std.proofs.Common.{◌≡◌, refl, sym, ◌∙◌, ℕ, ◌≤◌, ◌<◌, List, [], ◌∷◌, length, length-append, arith, Option, Some, None}
 use Rattle.text.specs.Star.{Each, none as nil, more}
 use Rattle.text.specs.Utf8.{this, then, end, Character, Text, count, characters}
 use Rattle.text.specs.Answer.{Tests}
 use Rattle.text.proofs.Grammar.{range, not_empty, counts}
-
--- `Some n`: a text of n characters
-pub answer_some : (s : List ℕ) (n : ℕ) → Some n ≡ characters s → Text s n
-answer_some s n e = (counts s n).1 (sym e)
 
 -- `None`: no text
 pub answer_none : (s : List ℕ) → None ≡ characters s → (n : ℕ) → Text s n → ⊥

@@ -5,7 +5,7 @@ use native.Mathlib.Decide.{dec_le}
 use Rattle.text.specs.Utf8.{Range, ◌to◌, only, tail, In, Text, utf8_1, utf8_2, utf8_4, utf8_char, inside, following, one_more, count, characters}
 use Rattle.text.specs.Rule.{ones_of, ones, head, value}
 use Rattle.text.specs.Surrogates.{utf8_char_open, characters_open, HasSurrogate, here, later}
-use Rattle.text.proofs.Grammar.{clash, range, inside_in, in_inside, counts}
+use Rattle.text.proofs.Grammar.{range, inside_in, in_inside, counts}
 use Rattle.std.specs.Prelude.{None, Option, Some}
 
 -- ---- Which bytes they are
@@ -116,7 +116,7 @@ low_after ((r ∷ rs) ∷ g) = low rs && low_after g
 
 low_following : (g : List (List Range)) (b : ℕ) (rs : List Range) → low_after g ≡ true → following g b ≡ Some rs → low rs ≡ true
 unfolding following
-low_following [] b rs h e = clash e
+low_following [] b rs h e = cc
 low_following ([] ∷ g) b rs h e = low_following g b rs h e
 low_following ((r ∷ ts) ∷ g) b rs h e = go (λ k. low_following g b rs ((and_parts _ _ h).1) k) (inside r b) refl
   where
@@ -154,7 +154,7 @@ turned_down s h = none_counted h [] refl
 
 -- Such a text is not in RFC 3629's grammar.
 pub surrogate_no_text : (s : List ℕ) → HasSurrogate s → (n : ℕ) → Text s n → ⊥
-surrogate_no_text s h n t = clash (sym (turned_down s h) ∙ (counts s n).0 t)
+surrogate_no_text s h n t = cc (turned_down s h, (counts s n).0 t)
 
 -- What the card changes, in one sentence: the texts are those of before that have no such value, with the same number
 -- of characters.
@@ -162,4 +162,4 @@ pub exactly : (s : List ℕ) (n : ℕ) → (characters s ≡ Some n) ↔ ((chara
 exactly s n = (λ e. (sym (kept s (without e)) ∙ e, without e), λ p. kept s p.1 ∙ p.0)
   where
     without : characters s ≡ Some n → HasSurrogate s → ⊥
-    without e h = clash (sym (turned_down s h) ∙ e)
+    without e h = cc (turned_down s h)

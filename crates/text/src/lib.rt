@@ -8,7 +8,8 @@ ghost use Rattle.text.specs.Star.{Each};
 ghost use Rattle.text.specs.Width.{StartsWith, StartsWithNone, HasValue};
 ghost use Rattle.text.specs.Answer.{Tests};
 
-// The least value that a sequence of each length may have: a lower one has a shorter form.
+// The least value that a sequence of each length may have: a lower one has a shorter form. By the length, of which
+// no sequence has the first two: a `match` would be the same numbers with an arm each.
 const LEAST: [u32; 5] = [0, 0, 0x80, 0x800, 0x10000];
 
 // How many one bits the byte starts with. `as`: no `From` leads from u32 to usize.

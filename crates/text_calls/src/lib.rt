@@ -4,7 +4,8 @@
 ghost use Rattle.std.specs.Prelude.{◌≡◌};
 ghost use Rattle.text_calls.specs.Numbers.{number_of, CallsTest};
 
-// The number of characters, or the largest number where the bytes are no text: C has no `Option`.
+// The number of characters, or the largest number where the bytes are no text: C has no `Option`. `as`:
+// no `From` leads from usize to u64.
 fn number(characters: Option<usize>) -> u64
     ensures { result ≡ number_of characters }
 {

@@ -19,8 +19,9 @@ use Rattle.sigla_hex.specs.Digits.{digits_w, half_at, line_at}
 use Rattle.sigla_hex.proofs.Line.{no_some}
 use Rattle.sigla_hex.proofs.Bytes.{digits_of_line, byte_of_line}
 use Rattle.tree.specs.Stands.{LineIs, NodeIs, QueryIs}
-use Rattle.tree.specs.Nodes.{stmt_size_w, lower_w, stmts_w}
-use Rattle.tree.proofs.Readers.{Stand, stand, Reads, no_got, went, reads_pair, reads_two, Listed, listed}
+use Rattle.tree.specs.Nodes.{stmt_size_w, lower_w, stmts_from}
+use Rattle.meaning.proofs.Inverse.{went}
+use Rattle.tree.proofs.Readers.{Stand, stand, Reads, no_got, reads_pair, reads_two, Listed, listed}
 use Rattle.tree.proofs.Below.{first_below, others_below, lower_is, stmt_at, reads_statement, stmts_are}
 use Rattle.std.specs.Prelude.{Some}
 
@@ -69,16 +70,16 @@ parts_of : (nd : Syntax.Node) (s : List ℕ) → span_and_kind wide s ≡ got nd
 unfolding span_and_kind triple pair one
 parts_of nd s e =
     let u = went (four s) (λ a. pair (λ b k. record { span = record { start = a; end = b }; kind = k }) four (expr_kind wide)) nd [] e in
-    let v = went (four u.s) (λ b. one (λ k. record { span = record { start = u.a; end = b }; kind = k }) (expr_kind wide)) nd [] u.after in
-    let x = went (expr_kind wide v.s) (λ k. got (record { span = record { start = u.a; end = v.a }; kind = k })) nd [] v.after in
-    let m : record { span = record { start = u.a; end = v.a }; kind = x.a } ≡ nd = cc x.after in
-    let y : x.s ≡ [] = cc x.after in
-    let k : x.a ≡ nd.kind = ap (λ (n : Syntax.Node). n.kind) m in
+    let v = went (four u.after) (λ b. one (λ k. record { span = record { start = u.value; end = b }; kind = k }) (expr_kind wide)) nd [] u.then in
+    let x = went (expr_kind wide v.after) (λ k. got (record { span = record { start = u.value; end = v.value }; kind = k })) nd [] v.then in
+    let m : record { span = record { start = u.value; end = v.value }; kind = x.value } ≡ nd = cc x.then in
+    let y : x.after ≡ [] = cc x.then in
+    let k : x.value ≡ nd.kind = ap (λ (n : Syntax.Node). n.kind) m in
     record {
-      start = u.a;
-      end = v.a;
-      s₁ = u.s;
-      s₂ = v.s;
+      start = u.value;
+      end = v.value;
+      s₁ = u.after;
+      s₂ = v.after;
       first = u.first;
       second = v.first;
       third = rw (k, y) at x.first;
@@ -89,8 +90,8 @@ pub parts : (nd : Syntax.Node) (s : List ℕ) → frame_of wide node s ≡ Some 
 unfolding frame_of frame one
 parts nd s e =
     let w = went (span_and_kind wide s) (λ a. got (a_node a)) (a_node nd) [] (whole_got (frame wide node s) (a_node nd) e) in
-    let n : w.a ≡ nd = cc w.after in
-    let z : w.s ≡ [] = cc w.after in
+    let n : w.value ≡ nd = cc w.then in
+    let z : w.after ≡ [] = cc w.then in
     parts_of nd s (rw (n, z) at w.first)
 
 pub kind_at : (f w : List ℕ) (n : ℕ) (nd : Syntax.Node) → NodeIs f w n nd → KindAt f (get_or w (NODES + n) 0 / 2048) (get_or w (NODES + n) 0 / 2 % 1024) nd.kind
@@ -124,21 +125,21 @@ pub query_at : (f : List ℕ) (at end : ℕ) (s : List ℕ) (q : Query) (t : Lis
 unfolding head_and_body pair one
 query_at f at end s q t st l e =
     let w = went (two s) (λ head. one (λ body. record { head = head; body = body }) (many (Frame.choice Frame.statements))) q t e in
-    let ran = (reads_two f).run at s w.a w.s st w.first in
-    let x = went (many (Frame.choice Frame.statements) w.s) (λ body. got (record { head = w.a; body = body })) q t w.after in
-    let m : record { head = w.a; body = x.a } ≡ q = cc x.after in
-    let h : w.a ≡ q.head = ap (λ (q : Query). q.head) m in
-    let b : x.a ≡ q.body = ap (λ (q : Query). q.body) m in
-    let z : at + 4 + 2 * length w.s ≡ end = omega (arith, ran.long, l) in
-    record { head = ran.value ∙ h; body = rw (b, z) at (listed f (reads_statement f) (at + 4) w.s x.a x.s ran.rest x.first) }
+    let ran = (reads_two f).run at s w.value w.after st w.first in
+    let x = went (many (Frame.choice Frame.statements) w.after) (λ body. got (record { head = w.value; body = body })) q t w.then in
+    let m : record { head = w.value; body = x.value } ≡ q = cc x.then in
+    let h : w.value ≡ q.head = ap (λ (q : Query). q.head) m in
+    let b : x.value ≡ q.body = ap (λ (q : Query). q.body) m in
+    let z : at + 4 + 2 * length w.after ≡ end = omega (arith, ran.long, l) in
+    record { head = ran.value ∙ h; body = rw (b, z) at (listed f (reads_statement f) (at + 4) w.after x.value x.after ran.rest x.first) }
 
 module _ (f : List ℕ) (at end n : ℕ) (q : Query) (h : QueryAt f at end q) (b : T (all_below n (query_nodes q))) where
   pub head_is : lower_w (half_at f at) n ≡ q.head
   unfolding query_nodes
   head_is = lower_is n h.head (first_below n q.head _ b)
 
-  pub body_is : stmts_w f (record { at = at + 4; end = end; below = n }) ≡ q.body
-  unfolding query_nodes stmts_w
+  pub body_is : stmts_from end f (at + 4) end n ≡ q.body
+  unfolding query_nodes
   body_is = stmts_are f end n end (at + 4) q.body h.body (omega arith) (others_below n q.head _ b)
 
 -- ---- The query's line
@@ -147,6 +148,6 @@ pub query_line : (f w : List ℕ) (q : Query) → QueryIs f w q → QueryAt f (g
 unfolding frame_of frame one
 query_line f w q h =
     let x = went (head_and_body h.content) (λ a. got (the_query a)) (the_query q) [] (whole_got (frame wide query h.content) (the_query q) h.frame) in
-    let m : x.a ≡ q = cc x.after in
-    query_at f (get_or w QUERY 0 / 1024 + 2) (get_or w QUERY 0 / 1024 + 2 * (get_or w QUERY 0 % 1024)) h.content q x.s
+    let m : x.value ≡ q = cc x.then in
+    query_at f (get_or w QUERY 0 / 1024 + 2) (get_or w QUERY 0 / 1024 + 2 * (get_or w QUERY 0 % 1024)) h.content q x.after
     (line_stands f (get_or w QUERY 0 / 1024) (get_or w QUERY 0 % 1024) 0x06 h.content h.line) (omega (arith, h.line.long)) (rw m at x.first)

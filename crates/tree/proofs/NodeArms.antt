@@ -20,11 +20,12 @@ use Rattle.sigla_hex.specs.Digits.{digits_w, half_at}
 use Rattle.tree.specs.declared.items.Items.{Items}
 use Rattle.tree.specs.declared.Node.{Node}
 use Rattle.tree.specs.Stands.{NodeIs}
-use Rattle.tree.specs.Nodes.{lower_w, full_at, ItemsAre, parent_w, fields_from, items_from, stmts_w, kind_w, Lower, IsNode}
+use Rattle.tree.specs.Nodes.{lower_w, full_at, ItemsAre, parent_w, SubqueryIs, ParentIs, fields_from, items_from, stmts_from, stmts_w, kind_w, LowerItems, Lower, IsNode}
 use Rattle.tree.proofs.Lowering.{lower_stays, lower_below}
-use Rattle.tree.proofs.Readers.{Reads, no_got, went, reads_nothing, reads_byte, reads_one, reads_pair, reads_two, Listed, listed, listed_length}
+use Rattle.meaning.proofs.Inverse.{went}
+use Rattle.tree.proofs.Readers.{Reads, no_got, reads_nothing, reads_byte, reads_one, reads_pair, reads_two, Listed, listed, listed_length}
 use Rattle.tree.proofs.Below.{first_below, items_are, field_at, reads_field, fields_are}
-use Rattle.tree.proofs.ItemsOf.{items_count}
+use Rattle.tree.proofs.ItemsOf.{items_count, items_some}
 use Rattle.tree.proofs.LineParts.{KindAt, four_at, reads_four, kind_at, QueryAt, query_at, head_is, body_is}
 
 -- x is none of them
@@ -51,7 +52,6 @@ shape_past m s = refl
 pub record At (f w : List ℕ) (n start size shape : ℕ) : Type 0 where
   pub begins : start ≡ get_or w (NODES + n) 0 / 2048
   pub long : size ≡ get_or w (NODES + n) 0 / 2 % 1024
-  pub near : start < 2147480000
   pub says : shape ≡ digits_w f (start + 18)
 
 module _ (f w : List ℕ) (n start size shape : ℕ) (p : At f w n start size shape) where
@@ -109,6 +109,9 @@ module _ (f w : List ℕ) (n start size shape : ℕ) (p : At f w n start size sh
 
   -- ---- Lists of nodes
 
+  items_lower : {it : Items} {each : ℕ} → ItemsAre (start + 20) size each n it → LowerItems n it
+  items_lower I = record { below = I.below; some = λ h. items_some _ _ _ (rw I.n at h) }
+
   some_below : (l : List ℕ) → T (all_below n l) → 0 < length l → 0 < n
   some_below [] b h = absurd (omega arith)
   some_below (x ∷ l) b h = omega (arith, first_below n x l b)
@@ -131,9 +134,9 @@ module _ (f w : List ℕ) (n start size shape : ℕ) (p : At f w n start size sh
     list_is L {it} I e nd h b =
         let a = after m (one make (many r)) L.same e nd h in
         let x = went (many r a.line.rest) (λ l. got (make l)) nd.kind [] a.ran in
-        let k : make x.a ≡ nd.kind = cc x.after in
-        go a.line.rest x.a a.line.long k (rw (← k, L.nodes x.a) at b)
-        (listed f L.reads (start + 20) a.line.rest x.a x.s a.line.stands x.first)
+        let k : make x.value ≡ nd.kind = cc x.then in
+        go a.line.rest x.value a.line.long k (rw (← k, L.nodes x.value) at b)
+        (listed f L.reads (start + 20) a.line.rest x.value x.after a.line.stands x.first)
       where
         go : (rest : List ℕ) (l : List A) → size ≡ 10 + length rest → make l ≡ nd.kind → T (all_below n (refs l))
             → Listed (λ _. 2 * each) v (start + 20) (start + 20 + 2 * length rest) l → make (from it 0 it.n) ≡ nd.kind
@@ -156,7 +159,7 @@ module _ (f w : List ℕ) (n start size shape : ℕ) (p : At f w n start size sh
           lengths = λ l. length-map l (λ e. e.value);
           are = fields_are f;
         }) I e;
-    lower = I.below;
+    lower = items_lower I;
   }
 
   -- nodes alone
@@ -169,7 +172,7 @@ module _ (f w : List ℕ) (n start size shape : ℕ) (p : At f w n start size sh
   disjunction I e = record {
     is = list_is 11 2 ExprKind.Disjunction two (half_at f) (λ l. l) (items_from f)
         (nodes_are 11 ExprKind.Disjunction (λ s. refl) (λ l. refl)) I e;
-    lower = I.below;
+    lower = items_lower I;
   }
 
   pub arithmetic : {it : Items} → ItemsAre (start + 20) size 2 n it → shape ≡ 14 → IsNode f w n (Node.Arith it)
@@ -177,18 +180,18 @@ module _ (f w : List ℕ) (n start size shape : ℕ) (p : At f w n start size sh
   arithmetic I e = record {
     is = list_is 14 2 ExprKind.Arith two (half_at f) (λ l. l) (items_from f) (nodes_are 14 ExprKind.Arith (λ s. refl) (λ l. refl))
         I e;
-    lower = I.below;
+    lower = items_lower I;
   }
 
   -- ---- Nodes with one node right below them, and subqueries
 
-  -- what a parent's line says
-  abbrev Is : Type 0
-  Is = (nd : Syntax.Node) → NodeIs f w n nd → T (all_below n (expr_nodes nd.kind)) → kind_w f (parent_w f start size shape n) ≡ nd.kind
+  -- The node is what the line says.
+  abbrev Is : Node → Type 0
+  Is r = (nd : Syntax.Node) → NodeIs f w n nd → T (all_below n (expr_nodes nd.kind)) → kind_w f r ≡ nd.kind
 
-  parent_lower : Lower n (parent_w f start size shape n)
+  parent_lower : Lower n (parent_w f start shape n)
   unfolding parent_w
-  parent_lower = go (eqb n 0) refl (eqb shape 9) (eqb shape 10) (eqb shape 12) (eqb shape 13) (eqb shape 16)
+  parent_lower = go (eqb n 0) refl (eqb shape 9) (eqb shape 10) (eqb shape 13) (eqb shape 16)
     where
       a : ℕ
       a = lower_w (half_at f (start + 20)) n
@@ -199,22 +202,20 @@ module _ (f w : List ℕ) (n start size shape : ℕ) (p : At f w n start size sh
       c : ℕ
       c = lower_w (half_at f (start + 28)) n
 
-      go : (first : Bool) → eqb n 0 ≡ first → (p q r s t : Bool) → Lower n
+      go : (first : Bool) → eqb n 0 ≡ first → (p q s t : Bool) → Lower n
           (pick first Node.Error (pick p (Node.Key (half_at f (start + 20)) b)
-          (pick q (Node.Value a) (pick r (Node.Subquery a (record { at = start + 24; end = start + 2 * size; below = n }))
-          (pick s (Node.Fact (full_at f (start + 20)) c) (pick t (Node.Select (half_at f (start + 20)) b) Node.Error))))))
-      go true e p q r s t = tt
-      go false e true q r s t = lower_below (half_at f (start + 24)) n (eqb-false n 0 e)
-      go false e false true r s t = lower_below (half_at f (start + 20)) n (eqb-false n 0 e)
-      go false e false false true s t = (lower_below (half_at f (start + 20)) n (eqb-false n 0 e), refl, omega (arith, p.long, p.near))
-      go false e false false false true t = lower_below (half_at f (start + 28)) n (eqb-false n 0 e)
-      go false e false false false false true = lower_below (half_at f (start + 24)) n (eqb-false n 0 e)
-      go false e false false false false false = tt
+          (pick q (Node.Value a) (pick s (Node.Fact (full_at f (start + 20)) c) (pick t (Node.Select (half_at f (start + 20)) b) Node.Error)))))
+      go true e p q s t = tt
+      go false e true q s t = lower_below (half_at f (start + 24)) n (eqb-false n 0 e)
+      go false e false true s t = lower_below (half_at f (start + 20)) n (eqb-false n 0 e)
+      go false e false false true t = lower_below (half_at f (start + 28)) n (eqb-false n 0 e)
+      go false e false false false true = lower_below (half_at f (start + 24)) n (eqb-false n 0 e)
+      go false e false false false false = tt
 
   -- What the node names is lower, so it is not node 0.
-  module _ (m : ℕ) (e : shape ≡ m) where
+  module _ (m : ℕ) (r : Node) (e : shape ≡ m) where
     pair_is : (make : ℕ → ℕ → ExprKind) → ((s : List ℕ) → expr_kind wide (m ∷ s) ≡ pair make two two s) → ((a b : ℕ) → expr_nodes (make a b) ≡ b ∷ [])
-        → ((n ≡ 0 → ⊥) → kind_w f (parent_w f start size shape n) ≡ make (half_at f (start + 20)) (lower_w (half_at f (start + 24)) n)) → Is
+        → ((n ≡ 0 → ⊥) → kind_w f r ≡ make (half_at f (start + 20)) (lower_w (half_at f (start + 24)) n)) → Is r
     pair_is make same nodes made nd h b =
         let z : start + 20 + 4 ≡ start + 24 = omega arith in
         let k = rw z at (says m same (reads_pair f make (reads_two f) (reads_two f)) e nd h) in
@@ -222,15 +223,14 @@ module _ (f w : List ℕ) (n start size shape : ℕ) (p : At f w n start size sh
         made (λ q. omega (arith, low)) ∙ ap (make (half_at f (start + 20))) (lower_stays (half_at f (start + 24)) n low) ∙ k
 
     one_is : (make : ℕ → ExprKind) → ((s : List ℕ) → expr_kind wide (m ∷ s) ≡ one make two s) → ((a : ℕ) → expr_nodes (make a) ≡ a ∷ [])
-        → ((n ≡ 0 → ⊥) → kind_w f (parent_w f start size shape n) ≡ make (lower_w (half_at f (start + 20)) n)) → Is
+        → ((n ≡ 0 → ⊥) → kind_w f r ≡ make (lower_w (half_at f (start + 20)) n)) → Is r
     one_is make same nodes made nd h b =
         let k = says m same (reads_one f make (reads_two f)) e nd h in
         let low = first_below n (half_at f (start + 20)) [] (rw (← k, nodes (half_at f (start + 20))) at b) in
         made (λ q. omega (arith, low)) ∙ ap make (lower_stays (half_at f (start + 20)) n low) ∙ k
 
   asked : Query
-  unfolding stmts_w
-  asked = record { head = lower_w (half_at f (start + 20)) n; body = stmts_w f (record { at = start + 24; end = start + 2 * size; below = n }) }
+  asked = record { head = lower_w (half_at f (start + 20)) n; body = stmts_from (start + 2 * size) f (start + 24) (start + 2 * size) n }
 
   asked_is : (q : Query) → QueryAt f (start + 20) (start + 2 * size) q → T (all_below n (query_nodes q)) → asked ≡ q
   unfolding asked
@@ -240,15 +240,15 @@ module _ (f w : List ℕ) (n start size shape : ℕ) (p : At f w n start size sh
       let body = rw z at (body_is f (start + 20) (start + 2 * size) n q h b) in
       ap (λ x. record { head = x; body = asked.body }) head ∙ ap (λ x. record { head = q.head; body = x }) body
 
-  subquery_is : shape ≡ 12 → ((n ≡ 0 → ⊥) → kind_w f (parent_w f start size shape n) ≡ ExprKind.Subquery asked) → Is
+  subquery_is : (r : Node) → shape ≡ 12 → ((n ≡ 0 → ⊥) → kind_w f r ≡ ExprKind.Subquery asked) → Is r
   unfolding expr_kinds choice entry one expr_nodes query_nodes
-  subquery_is e made nd h b =
+  subquery_is r e made nd h b =
       let a = after 12 (one ExprKind.Subquery head_and_body) (λ s. refl) e nd h in
       let x = went (head_and_body a.line.rest) (λ q. got (ExprKind.Subquery q)) nd.kind [] a.ran in
-      let k : ExprKind.Subquery x.a ≡ nd.kind = cc x.after in
-      let q = query_at f (start + 20) (start + 2 * size) a.line.rest x.a x.s a.line.stands (omega (arith, a.line.long)) x.first in
-      let low : T (all_below n (query_nodes x.a)) = rw (← k) at b in
-      made (λ q. omega (arith, first_below n x.a.head _ low)) ∙ ap ExprKind.Subquery (asked_is x.a q low) ∙ k
+      let k : ExprKind.Subquery x.value ≡ nd.kind = cc x.then in
+      let q = query_at f (start + 20) (start + 2 * size) a.line.rest x.value x.after a.line.stands (omega (arith, a.line.long)) x.first in
+      let low : T (all_below n (query_nodes x.value)) = rw (← k) at b in
+      made (λ q. omega (arith, first_below n x.value.head _ low)) ∙ ap ExprKind.Subquery (asked_is x.value q low) ∙ k
 
   -- no half of it passes 16 bits
   fact_whole : 14 ≤ size → ((i : ℕ) → i < size → digits_w f (start + 2 * i) < 256) → full_at f (start + 20) ≡ four_at f (start + 20)
@@ -260,9 +260,9 @@ module _ (f w : List ℕ) (n start size shape : ℕ) (p : At f w n start size sh
       let o : start + 20 ≡ start + 2 * 10 = omega arith in
       rw (p, q, r, o) (omega (arith, small 10 (omega arith), small 11 (omega arith), small 12 (omega arith), small 13 (omega arith)))
 
-  fact_is : shape ≡ 13 → ((n ≡ 0 → ⊥) → kind_w f (parent_w f start size shape n) ≡ ExprKind.Fact (full_at f (start + 20)) (lower_w (half_at f (start + 28)) n)) → Is
+  fact_is : (r : Node) → shape ≡ 13 → ((n ≡ 0 → ⊥) → kind_w f r ≡ ExprKind.Fact (full_at f (start + 20)) (lower_w (half_at f (start + 28)) n)) → Is r
   unfolding expr_kinds choice entry expr_nodes
-  fact_is e made nd h b =
+  fact_is r e made nd h b =
       let a = after 13 (pair ExprKind.Fact four two) (λ s. refl) e nd h in
       let ran = (reads_pair f ExprKind.Fact (reads_four f) (reads_two f)).run (start + 20) a.line.rest nd.kind [] a.line.stands a.ran in
       let z : start + 20 + 8 ≡ start + 28 = omega arith in
@@ -271,7 +271,7 @@ module _ (f w : List ℕ) (n start size shape : ℕ) (p : At f w n start size sh
       made (λ q. omega (arith, low)) ∙ ap₂ ExprKind.Fact (fact_whole (omega (arith, ran.long, a.line.long)) a.line.small)
       (lower_stays (half_at f (start + 28)) n low) ∙ k
 
-  error_is : shape ≡ 15 → Is
+  error_is : shape ≡ 15 → Is (parent_w f start shape n)
   unfolding expr_kinds choice entry kind_w parent_w
   error_is e nd h b = rw e (go (eqb n 0)) ∙ says 15 (λ s. refl) (reads_nothing f ExprKind.Error) e nd h
     where
@@ -279,29 +279,38 @@ module _ (f w : List ℕ) (n start size shape : ℕ) (p : At f w n start size sh
       go true = refl
       go false = refl
 
-  none_is : 17 ≤ shape → Is
-  none_is l nd h b = no_got (after _ (λ s. fails) (shape_past (shape - 17)) (omega arith) nd h).ran
+  none_is : (r : Node) → 17 ≤ shape → Is r
+  none_is r l nd h b = no_got (after _ (λ s. fails) (shape_past (shape - 17)) (omega arith) nd h).ran
 
-  pub parents : Others (14 ∷ 11 ∷ down 9) shape → IsNode f w n (parent_w f start size shape n)
-  unfolding expr_kinds choice entry kind_w parent_w expr_nodes asked
-  parents o = record {
+  -- A subquery, where a node is lower.
+  subquery : {r : Node} → shape ≡ 12 → 0 < n → SubqueryIs f start size n r → IsNode f w n r
+  unfolding kind_w asked stmts_w
+  subquery e h S = rw S.is (record {
+    is = subquery_is (Node.Subquery (lower_w (half_at f (start + 20)) n) S.body) e (λ _. rw (S.stmts.at, S.stmts.end, S.stmts.below) refl);
+    lower = (lower_below (half_at f (start + 20)) n (λ q. omega arith), S.stmts.below);
+  })
+
+  -- No subquery: none of node 0 stands in a file where what is named is lower.
+  no_subquery : Others (14 ∷ 11 ∷ down 9) shape → (shape ≡ 12 → n ≡ 0) → IsNode f w n (parent_w f start shape n)
+  unfolding expr_kinds choice entry kind_w parent_w expr_nodes
+  no_subquery o first = record {
     is = go (eqb shape 9) refl (eqb shape 10) refl (eqb shape 12) refl (eqb shape 13) refl (eqb shape 15) refl (eqb shape 16) refl;
     lower = parent_lower;
   }
     where
       go : (p : Bool) → eqb shape 9 ≡ p → (q : Bool) → eqb shape 10 ≡ q → (r : Bool) → eqb shape 12 ≡ r → (s : Bool) → eqb shape 13 ≡ s → (t : Bool)
-          → eqb shape 15 ≡ t → (u : Bool) → eqb shape 16 ≡ u → Is
-      go true e q e₁ r e₂ s e₃ t e₄ u e₅ = let e = eqb-true shape 9 e in pair_is 9 e (λ x e. ExprKind.Access (FieldRef.Key x) e) (λ s. refl)
+          → eqb shape 15 ≡ t → (u : Bool) → eqb shape 16 ≡ u → Is (parent_w f start shape n)
+      go true e q e₁ r e₂ s e₃ t e₄ u e₅ = let e = eqb-true shape 9 e in pair_is 9 _ e (λ x e. ExprKind.Access (FieldRef.Key x) e) (λ s. refl)
           (λ a b. refl) (λ h. rw (e, ne_eqb n 0 h))
-      go false e₀ true e r e₂ s e₃ t e₄ u e₅ = let e = eqb-true shape 10 e in one_is 10 e (ExprKind.Access FieldRef.Value) (λ s. refl) (λ a. refl)
+      go false e₀ true e r e₂ s e₃ t e₄ u e₅ = let e = eqb-true shape 10 e in one_is 10 _ e (ExprKind.Access FieldRef.Value) (λ s. refl) (λ a. refl)
           (λ h. rw (e, ne_eqb n 0 h))
-      go false e₀ false e₁ true e s e₃ t e₄ u e₅ = let e = eqb-true shape 12 e in subquery_is e (λ h. rw (e, ne_eqb n 0 h))
-      go false e₀ false e₁ false e₂ true e t e₄ u e₅ = let e = eqb-true shape 13 e in fact_is e (λ h. rw (e, ne_eqb n 0 h))
+      go false e₀ false e₁ true e s e₃ t e₄ u e₅ = let e = eqb-true shape 12 e in subquery_is _ e (λ h. absurd (h (first e)))
+      go false e₀ false e₁ false e₂ true e t e₄ u e₅ = let e = eqb-true shape 13 e in fact_is _ e (λ h. rw (e, ne_eqb n 0 h))
       go false e₀ false e₁ false e₂ false e₃ true e u e₅ = error_is (eqb-true shape 15 e)
-      go false e₀ false e₁ false e₂ false e₃ false e₄ true e = let e = eqb-true shape 16 e in pair_is 16 e ExprKind.Select (λ s. refl) (λ a b. refl)
+      go false e₀ false e₁ false e₂ false e₃ false e₄ true e = let e = eqb-true shape 16 e in pair_is 16 _ e ExprKind.Select (λ s. refl) (λ a b. refl)
           (λ h. rw (e, ne_eqb n 0 h))
       go false e₀ false e₁ false e₂ false e₃ false e₄ false e₅ =
-          none_is (beyond 17 shape (
+          none_is _ (beyond 17 shape (
             (
               (
                 (
@@ -314,3 +323,14 @@ module _ (f w : List ℕ) (n start size shape : ℕ) (p : At f w n start size sh
             ),
             eqb-false shape 16 e₅,
           ))
+
+  pub parents : Others (14 ∷ 11 ∷ down 9) shape → {r : Node} → ParentIs f start size shape n r → IsNode f w n r
+  parents o {r} P = go (eqb shape 12) refl (eqb n 0) refl
+    where
+      go : (s : Bool) → eqb shape 12 ≡ s → (z : Bool) → eqb n 0 ≡ z → IsNode f w n r
+      go false e z e₁ = let h : shape ≡ 12 → n ≡ 0 = λ q. absurd (eqb-false shape 12 e q) in rw (P.other h) (no_subquery o h)
+      go true e true e₁ = let h : shape ≡ 12 → n ≡ 0 = λ q. eqb-true n 0 e₁ in rw (P.other h) (no_subquery o h)
+      go true e false e₁ =
+          let q = eqb-true shape 12 e in
+          let h : 0 < n = let z = eqb-false n 0 e₁ in omega arith in
+          subquery q h (P.subquery q h)

@@ -11,7 +11,8 @@ use Rattle.meaning.specs.Syntax.{Query}
 use Rattle.meaning.specs.References.{query_nodes}
 use Rattle.meaning.specs.Conditions.{all_below}
 use Rattle.tree.specs.Stands.{QueryIs}
-use Rattle.tree.specs.Nodes.{stmts_w, head_w, body_w}
+use Rattle.tree.specs.declared.items.Stmts.{Stmts}
+use Rattle.tree.specs.Nodes.{stmts_w, head_w, BodyIs}
 use Rattle.tree.proofs.Below.{below_more}
 use Rattle.tree.proofs.LineParts.{body_is, query_line}
 
@@ -20,9 +21,9 @@ module _ (f w : List ℕ) (q : Query) (h : QueryIs f w q) where
   unfolding head_w
   query_head_is = (query_line f w q h).head
 
-  pub query_body_is : (n : ℕ) → n ≤ 512 → T (all_below n (query_nodes q)) → stmts_w f (body_w w) ≡ q.body
-  unfolding body_w
-  query_body_is n few b =
+  pub query_body_is : {s : Stmts} → BodyIs w s → (n : ℕ) → n ≤ 512 → T (all_below n (query_nodes q)) → stmts_w f s ≡ q.body
+  unfolding stmts_w
+  query_body_is B n few b =
       let z : get_or w QUERY 0 / 1024 + 2 + 4 ≡ get_or w QUERY 0 / 1024 + 6 = omega arith in
-      rw z at (body_is f (get_or w QUERY 0 / 1024 + 2) (get_or w QUERY 0 / 1024 + 2 * (get_or w QUERY 0 % 1024)) 512 q (query_line f w q h)
-      (below_more n 512 few (query_nodes q) b))
+      rw (B.at, B.end, B.below) (rw z at (body_is f (get_or w QUERY 0 / 1024 + 2) (get_or w QUERY 0 / 1024 + 2 * (get_or w QUERY 0 % 1024)) 512 q
+      (query_line f w q h) (below_more n 512 few (query_nodes q) b)))

@@ -1,12 +1,13 @@
 -- What a reader of the frame grammar gives is what the file's digits say where its bytes stand: for each reader, how
 -- many digits it takes and its value as a function of the place.
 use mathlib.Core.List.{List, [], ◌∷◌}
-use mathlib.Core.Path.{◌≡◌, refl, ◌∙◌, ap}
+use mathlib.Core.Path.{◌≡◌, ◌∙◌, ap}
 use Prim.Native.Nat.{ℕ, zero, suc, ◌+◌, ◌*◌, ◌<◌}
 use native.Mathlib.Nat.{zero-lt-suc}
 use native.Mathlib.Omega.{arith}
 use lib.ListN.{length, get_or}
-use Rattle.meaning.specs.Frame.{Got, got, fails, Reader, and_then, nothing, one, pair, byte, two, many_in, many}
+use Rattle.meaning.specs.Frame.{got, fails, Reader, nothing, one, pair, byte, two, many_in, many}
+use Rattle.meaning.proofs.Inverse.{Went, went}
 use Rattle.sigla_hex.specs.Digits.{digits_w, half_at}
 
 -- ---- Bytes that stand at a place
@@ -38,18 +39,6 @@ pub record Reads {A : Type 0} (f : List ℕ) (r : Reader A) (size : ℕ → ℕ)
 pub no_got : {A B : Type 0} {a : A} {s : List ℕ} → fails ≡ got a s → B
 no_got e = let z : ◌≡◌ {A = ℕ} 0 1 = cc in absurd (omega arith)
 
--- Of two in a row, what the first gave and what the second went on with.
-pub record Went {A B : Type 0} (g : Got A) (k : A → Reader B) (b : B) (t : List ℕ) : Type 0 where
-  pub a : A
-  pub s : List ℕ
-  pub first : g ≡ got a s
-  pub after : k a s ≡ got b t
-
-pub went : {A B : Type 0} (g : Got A) (k : A → Reader B) (b : B) (t : List ℕ) → and_then g k ≡ got b t → Went g k b t
-unfolding and_then
-went (got a s) k b t e = record { a = a; s = s; first = refl; after = e }
-went fails k b t e = no_got e
-
 module _ (f : List ℕ) where
   pub reads_nothing : {A : Type 0} (a : A) → Reads f (nothing a) (λ _. 0) (λ _. a)
   unfolding nothing
@@ -80,9 +69,9 @@ module _ (f : List ℕ) where
         run : (at : ℕ) (s : List ℕ) (b : B) (t : List ℕ) → Stand f at s → one make r s ≡ got b t → Ran f m (λ at. make (v at)) at s b t
         run at s b t st e =
             let w = went (r s) (λ a. got (make a)) b t e in
-            let ran = R.run at s w.a w.s st w.first in
-            let p : w.s ≡ t = cc w.after in
-            let q : make w.a ≡ b = cc w.after in
+            let ran = R.run at s w.value w.after st w.first in
+            let p : w.after ≡ t = cc w.then in
+            let q : make w.value ≡ b = cc w.then in
             record { value = ap make ran.value ∙ q; rest = rw p at ran.rest; long = rw p at ran.long }
 
   module _ {A B C : Type 0} (make : A → B → C) {r : Reader A} {m : ℕ → ℕ} {v : ℕ → A} {q : Reader B} {n : ℕ → ℕ} {u : ℕ → B} (R : Reads f r m v)
@@ -95,8 +84,8 @@ module _ (f : List ℕ) where
             → Ran f (λ at. m at + n (at + m at)) (λ at. make (v at) (u (at + m at))) at s c t
         run at s c t st e =
             let w = went (r s) (λ a. one (make a) q) c t e in
-            let ran = R.run at s w.a w.s st w.first in
-            let on = (reads_one (make w.a) Q).run (at + m at) w.s c t ran.rest w.after in
+            let ran = R.run at s w.value w.after st w.first in
+            let on = (reads_one (make w.value) Q).run (at + m at) w.after c t ran.rest w.then in
             let z : at + m at + n (at + m at) ≡ at + (m at + n (at + m at)) = omega arith in
             record { value = ap (λ a. make a (u (at + m at))) ran.value ∙ on.value; rest = rw z at on.rest; long = omega (arith, ran.long, on.long) }
 
@@ -119,17 +108,17 @@ module _ (f : List ℕ) {A : Type 0} {r : Reader A} {m : ℕ → ℕ} {v : ℕ �
   listed_in (suc n) at [] l t st e = let p : [] ≡ l = cc in rw (← p) (omega arith)
   listed_in (suc n) at (b ∷ s) l t st e =
       let w = went (r (b ∷ s)) (λ a. one (λ more. a ∷ more) (λ t. many_in n r t)) l t e in
-      let ran = R.run at (b ∷ s) w.a w.s st w.first in
-      step w ran (λ more u q. listed_in n (at + m at) w.s more u ran.rest q)
+      let ran = R.run at (b ∷ s) w.value w.after st w.first in
+      step w ran (λ more u q. listed_in n (at + m at) w.after more u ran.rest q)
     where
-      step : (w : Went (r (b ∷ s)) (λ a. one (λ more. a ∷ more) (λ t. many_in n r t)) l t) → Ran f m v at (b ∷ s) w.a w.s
-          → ((more : List A) (u : List ℕ) → many_in n r w.s ≡ got more u → Listed m v (at + m at) (at + m at + 2 * length w.s) more)
+      step : (w : Went (r (b ∷ s)) (λ a. one (λ more. a ∷ more) (λ t. many_in n r t)) l t) → Ran f m v at (b ∷ s) w.value w.after
+          → ((more : List A) (u : List ℕ) → many_in n r w.after ≡ got more u → Listed m v (at + m at) (at + m at + 2 * length w.after) more)
           → Listed m v at (at + 2 * length (b ∷ s)) l
       step w ran on =
-          let x = went (many_in n r w.s) (λ more. got (w.a ∷ more)) l t w.after in
-          let p : w.a ∷ x.a ≡ l = cc x.after in
-          let z : at + m at + 2 * length w.s ≡ at + 2 * length (b ∷ s) = omega (arith, ran.long) in
-          rw (← p) (ran.value, omega arith, rw z at (on x.a x.s x.first))
+          let x = went (many_in n r w.after) (λ more. got (w.value ∷ more)) l t w.then in
+          let p : w.value ∷ x.value ≡ l = cc x.then in
+          let z : at + m at + 2 * length w.after ≡ at + 2 * length (b ∷ s) = omega (arith, ran.long) in
+          rw (← p) (ran.value, omega arith, rw z at (on x.value x.after x.first))
 
   pub listed : (at : ℕ) (s : List ℕ) (l : List A) (t : List ℕ) → Stand f at s → many r s ≡ got l t → Listed m v at (at + 2 * length s) l
   unfolding many

@@ -1,22 +1,19 @@
 -- A node's span stands in the file as the answer writes it: a byte's digits are those of its two halves, so a line's
 -- text is `hex_line` of its bytes, and the first eight of a node's content are its span's.
-use mathlib.Core.Bool.{Bool, true, false}
 use mathlib.Core.List.{List, [], ◌∷◌, ◌++◌, append_assoc}
 use mathlib.Core.Path.{◌≡◌, refl, sym, ◌∙◌, ap}
-use Prim.Native.Nat.{ℕ, suc, ◌+◌, ◌-◌, ◌*◌, ◌/◌, ◌%◌, ◌≤◌, ◌<◌}
+use Prim.Native.Nat.{ℕ, suc, ◌+◌, ◌*◌, ◌/◌, ◌%◌, ◌≤◌, ◌<◌}
 use native.Mathlib.Nat.{zero-lt-suc}
 use native.Mathlib.Omega.{arith}
-use lib.Dec.{ltb}
 use lib.ListN.{length, get_or, take, drop}
 use lib.Seq.{drop-cons}
-use borrow.Author.Tests.{ltb-true, ltb-false}
 use Rattle.work.specs.Layout.{NODES}
 use Rattle.meaning.specs.Lines.{digit}
 use Rattle.meaning.specs.Syntax.{Node}
 use Rattle.meaning.specs.Frame.{got, four, two, byte, pair, one, and_then}
 use Rattle.meaning.specs.Answer.{bytes₂, bytes₄, hex_digit, hex_line}
+use Rattle.meaning.proofs.Hex.{digit_of}
 use Rattle.sigla_hex.specs.Digits.{pair_at}
-use Rattle.sigla_hex.proofs.Values.{decimal, letter}
 use Rattle.sigla_hex.proofs.Line.{digit_below, digit_same, pair_digits}
 use Rattle.sigla_hex.proofs.Bytes.{line_spells, byte_of_line}
 use Rattle.tree.specs.Stands.{NodeIs}
@@ -27,22 +24,8 @@ use Rattle.std.specs.Prelude.{Some}
 
 -- ---- Digits
 
-digit_written : (h : ℕ) → h < 16 → digit (hex_digit h) ≡ Some h
-unfolding hex_digit
-digit_written h l = go (ltb h 10) refl
-  where
-    go : (t : Bool) → ltb h 10 ≡ t → digit (elim t [ true ↦ 48 + h | false ↦ 87 + h ]) ≡ Some h
-    go true e =
-        let s = ltb-true h 10 e in
-        let z : 48 + h - 48 ≡ h = omega arith in
-        rw z at (sym (decimal (48 + h) (omega arith) (omega arith)))
-    go false e =
-        let s = ltb-false h 10 e in
-        let z : 87 + h - 97 + 10 ≡ h = omega arith in
-        rw z at (sym (letter (87 + h) (omega arith) (omega arith)))
-
 pub digit_is_written : (c h : ℕ) → digit c ≡ Some h → c ≡ hex_digit h
-digit_is_written c h e = digit_same c (hex_digit h) h e (digit_written h (digit_below c h e))
+digit_is_written c h e = digit_same c (hex_digit h) h e (digit_of h (digit_below c h e))
 
 -- ---- Bytes
 

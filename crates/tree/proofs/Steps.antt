@@ -11,7 +11,7 @@ use borrow.Author.Tests.{ltb-true, ltb-false}
 use Rattle.cells.specs.Words.{pick}
 use Rattle.sigla_hex.specs.Digits.{digits_w, half_at}
 use Rattle.tree.specs.declared.items.Items.{Items}
-use Rattle.tree.specs.declared.Stmts.{Stmts}
+use Rattle.tree.specs.declared.items.Stmts.{Stmts}
 use Rattle.tree.specs.declared.Stmt.{Stmt}
 use Rattle.tree.specs.Nodes.{field_w, field_of, fields_from, item_w, items_from, stmt_of, stmt_w, stmt_size_w, statement, stmts_from, stmts_w}
 use Rattle.tree.proofs.Lowering.{lower_below}
@@ -69,16 +69,14 @@ stmts_enough f end below (suc j) (suc k) at p q = go (ltb at end) refl
     go true e on = stmts_next f end below j at (ltb-true at end e) ∙ ap (λ m. statement (stmt_w f at below) ∷ m) on ∙ sym
         (stmts_next f end below k at (ltb-true at end e))
 
--- the statements after the first
-abbrev pub later_stmts : List ℕ → Stmts → Stmts
-later_stmts f b = record { at = b.at + stmt_size_w f b.at; end = b.end; below = b.below }
-
 module _ (f : List ℕ) (b : Stmts) where
   pub stmts_end : b.end ≤ b.at → stmts_w f b ≡ []
   unfolding stmts_w
   stmts_end h = stmts_done f b.end b.below b.end b.at h
 
-  pub stmts_first : b.at < b.end → stmts_w f b ≡ statement (stmt_w f b.at b.below) ∷ stmts_w f (later_stmts f b)
+  -- the first, and those after it
+  pub stmts_first : b.at < b.end
+      → stmts_w f b ≡ statement (stmt_w f b.at b.below) ∷ stmts_from b.end f (b.at + stmt_size_w f b.at) b.end b.below
   unfolding stmts_w
   stmts_first h =
       stmts_enough f b.end b.below b.end (suc b.end) b.at (omega arith) (omega arith)

@@ -7,7 +7,7 @@ use Rattle.meaning.specs.Syntax.{ExprKind, QueryStmt, FieldRef, Literal}
 use Rattle.meaning.specs.References.{expr_nodes}
 use Rattle.meaning.specs.Conditions.{all_below}
 use Rattle.tree.specs.declared.items.Items.{Items}
-use Rattle.tree.specs.declared.Stmts.{Stmts}
+use Rattle.tree.specs.declared.items.Stmts.{Stmts}
 use Rattle.tree.specs.declared.Field.{Field}
 use Rattle.tree.specs.declared.Node.{Node}
 use Rattle.tree.specs.declared.Stmt.{Stmt}
@@ -55,23 +55,40 @@ pub record ItemsAre (from size each under : ℕ) (l : Items) : Type 0 where
   pub n : l.n ≡ count_w size each under
   pub below : l.below ≡ under
 
-unfoldable pub parent_w : List ℕ → ℕ → ℕ → ℕ → ℕ → Node
+-- The statements between two places, which name nodes under this one.
+pub record StmtsAre (from to under : ℕ) (b : Stmts) : Type 0 where
+  pub at : b.at ≡ from
+  pub end : b.end ≡ to
+  pub below : b.below ≡ under
+
+-- A node with one node right below it, or Error.
+unfoldable pub parent_w : List ℕ → ℕ → ℕ → ℕ → Node
 unfolding half_at full_at lower_w
-parent_w f start size shape n =
+parent_w f start shape n =
     pick (eqb n 0) Node.Error
     (pick (eqb shape 9) (Node.Key (half_at f (start + 20)) (lower_w (half_at f (start + 24)) n))
     (pick (eqb shape 10) (Node.Value (lower_w (half_at f (start + 20)) n))
-    (pick (eqb shape 12) (Node.Subquery (lower_w (half_at f (start + 20)) n) (record { at = start + 24; end = start + 2 * size; below = n }))
     (pick (eqb shape 13) (Node.Fact (full_at f (start + 20)) (lower_w (half_at f (start + 28)) n))
     (pick (eqb shape 16) (Node.Select (half_at f (start + 20)) (lower_w (half_at f (start + 24)) n))
-    Node.Error)))))
+    Node.Error))))
+
+-- A subquery: its head, and the statements up to the end of a line of so many bytes.
+pub record SubqueryIs (f : List ℕ) (start size n : ℕ) (r : Node) : Type 0 where
+  pub body : Stmts
+  pub is : r ≡ Node.Subquery (lower_w (half_at f (start + 20)) n) body
+  pub stmts : StmtsAre (start + 24) (start + 2 * size) n body
+
+-- A subquery where the shape is its and a node is lower, else what `parent_w` says.
+pub record ParentIs (f : List ℕ) (start size shape n : ℕ) (r : Node) : Type 0 where
+  pub subquery : shape ≡ 12 → 0 < n → SubqueryIs f start size n r
+  pub other : (shape ≡ 12 → n ≡ 0) → r ≡ parent_w f start shape n
 
 unfoldable pub head_w : List ℕ → List ℕ → ℕ
 unfolding half_at
 head_w f w = half_at f (get_or w QUERY 0 / 1024 + 2)
 
-unfoldable pub body_w : List ℕ → Stmts
-body_w w = record { at = get_or w QUERY 0 / 1024 + 6; end = get_or w QUERY 0 / 1024 + 2 * (get_or w QUERY 0 % 1024); below = 512 }
+abbrev pub BodyIs : List ℕ → Stmts → Type 0
+BodyIs w b = StmtsAre (get_or w QUERY 0 / 1024 + 6) (get_or w QUERY 0 / 1024 + 2 * (get_or w QUERY 0 % 1024)) 512 b
 
 -- ---- What they stand for
 
@@ -126,7 +143,12 @@ kind_w f (Node.Arith l) = ExprKind.Arith (items_from f l 0 l.n)
 kind_w f Node.Error = ExprKind.Error
 kind_w f (Node.Select x e) = ExprKind.Select x e
 
--- What a node names is lower, whatever the file holds; that there is a lower one where there is an item, its Items say.
+-- What these items name is lower than n, and there is a lower node where there is an item.
+pub record LowerItems (n : ℕ) (l : Items) : Type 0 where
+  pub below : l.below ≡ n
+  pub some : 0 < l.n → 0 < n
+
+-- What a node names is lower, whatever the file holds.
 abbrev pub Lower : ℕ → Node → Type 0
 Lower n Node.Int = Unit {0}
 Lower n Node.Str = Unit {0}
@@ -136,13 +158,13 @@ Lower n Node.Wildcard = Unit {0}
 Lower n Node.Never = Unit {0}
 Lower n (Node.Prefix x) = Unit {0}
 Lower n (Node.Fuzzy x d) = Unit {0}
-Lower n (Node.Record l) = l.below ≡ n
+Lower n (Node.Record l) = LowerItems n l
 Lower n (Node.Key x e) = e < n
 Lower n (Node.Value e) = e < n
-Lower n (Node.Disjunction l) = l.below ≡ n
-Lower n (Node.Subquery h b) = (h < n) × (b.below ≡ n) × (b.end < 2147483648)
+Lower n (Node.Disjunction l) = LowerItems n l
+Lower n (Node.Subquery h b) = (h < n) × (b.below ≡ n)
 Lower n (Node.Fact p e) = e < n
-Lower n (Node.Arith l) = l.below ≡ n
+Lower n (Node.Arith l) = LowerItems n l
 Lower n Node.Error = Unit {0}
 Lower n (Node.Select x e) = e < n
 

@@ -7,5 +7,14 @@ pub struct Items {
     pub n: u32,
     pub below: u32,
     pub ghost near: { at < 2147483648 },
-    pub ghost lower: { 0 < n → 0 < below },
+}
+
+// The statements from a place in the file up to another; each names nodes below `below`, and there is one.
+#[derive(Drop)]
+pub struct Stmts {
+    pub at: usize,
+    pub end: usize,
+    pub below: u32,
+    pub ghost near: { end < 2147483648 },
+    pub ghost lower: { 0 < below },
 }

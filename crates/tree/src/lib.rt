@@ -3,15 +3,15 @@
 
 ghost use Rattle.std.specs.Prelude.{◌≡◌, ℕ, ◌+◌, ◌*◌, ◌<◌, ◌≤◌};
 ghost use Rattle.sigla_hex.specs.Digits.{digit_w, digits_w, half_at};
-ghost use Rattle.tree.specs.Nodes.{lower_w, full_at, field_w, item_w, stmt_w, stmt_size_w, line_start_w, ItemsAre, parent_w, IsNode, head_w, body_w};
+ghost use Rattle.tree.specs.Nodes.{lower_w, full_at, field_w, item_w, stmt_w, stmt_size_w, line_start_w, ItemsAre, ParentIs, IsNode, head_w, BodyIs};
 
 mod items;
 
-pub use items::Items;
+pub use items::{Items, Stmts};
 use work::{line_place, line_size, node_line, wide, word};
 
-// A digit's value, and 16 for any other byte: a file that was read has none there, and from an Option each caller
-// would make a number again.
+// A digit's value, and 16 for any other byte, which a file that was read has not: `hex_byte` adds up both digits, and
+// of an Option it would make a number again.
 #[tactic(auto, unfolding(sigla_hex::specs::Digits::digit_w))]
 fn digit(b: u8) -> u32
     ensures { (result ≡ digit_w b) × (result < 17) }
@@ -32,6 +32,7 @@ fn hex_byte(f: &[u8], i: usize) -> u32
     digit(f[i]) * 16 + digit(f[j])
 }
 
+// Over digits, two to a byte: with `half` and `full` of crate frames it and the next share the factors alone.
 fn hex_half(f: &[u8], i: usize) -> u32
     requires { i < 1099511627774 }
     ensures { (result ≡ half_at f.now i) × (result < 262144) }
@@ -45,14 +46,6 @@ fn hex_full(f: &[u8], i: usize) -> u32
     ensures { result ≡ full_at f.now i }
 {
     hex_half(f, i) % 65536 * 65536 + hex_half(f, i + 4) % 65536
-}
-
-// The statements from a place in the file up to another; each names nodes below `below`.
-#[derive(Drop)]
-pub struct Stmts {
-    pub at: usize,
-    pub end: usize,
-    pub below: u32,
 }
 
 #[derive(Drop)]
@@ -85,7 +78,7 @@ pub enum Stmt {
     Compare(u32, u32),
 }
 
-// The name and the node of a record's field.
+// The name and the node of a record's field; a field of a record type, of crate reader, has a type.
 #[derive(Drop)]
 pub struct Field {
     pub name: u32,
@@ -115,6 +108,7 @@ pub fn item_at(f: &[u8], l: Items, i: u32) -> u32
     lower(hex_half(f, l.at + 4 * wide(i)), l.below)
 }
 
+// Here and in `stmt_size` the place is below 2^31: `stmt` of crate checker says why no type says so.
 pub fn stmt_at(f: &[u8], at: usize, below: u32) -> Stmt
     requires { at < 2147483648 }
     ensures { result ≡ stmt_w f.now at below }
@@ -190,12 +184,12 @@ fn items_of(at: usize, size: u32, each: u32, below: u32) -> Items
     Items { at, n, below }
 }
 
-// A node with one node right below it, a subquery, or Error. `shape` is the file's byte: `node_at` began to match it,
-// and an enum of its values would be matched once more. In one match with those above, `_ if n == 0` would stand among
-// the shapes, and both halves below would be made in each arm.
+// A node with one node right below it, a subquery, or Error. The line ends near, as statements do. `shape` is the file's
+// byte: `node_at` began to match it, and an enum of its values would be matched once more. In one match with those
+// above, `_ if n == 0` would stand among the shapes, and both halves below would be made in each arm.
 fn parent(f: &[u8], start: usize, size: u32, shape: u32, n: u32) -> Node
-    requires { (start < 2147483648) × (size < 1024) }
-    ensures { result ≡ parent_w f.now start size shape n }
+    requires { start + 2 * size < 2147483648 }
+    ensures { ParentIs f.now start size shape n result }
 {
     if n == 0 {
         return Node::Error;
@@ -226,7 +220,7 @@ pub fn query_head(f: &[u8], w: &[u32]) -> u32
 }
 
 pub fn query_body(w: &[u32]) -> Stmts
-    ensures { (result ≡ body_w w.now) × (result.end < 2147483648) }
+    ensures { BodyIs w.now result }
 {
     let x = word(w, work::QUERY);
     let start = wide(line_place(x));

@@ -13,9 +13,9 @@ use Rattle.unification.specs.Bindings.{snapshot, rollback, Resolved}
 use Rattle.unification.specs.Unify.{Absent, Renamed, Payload, TyError, Mismatch, UnionMismatch, UnknownField, Infinite, Unified, Ok, Err, Spent}
 use Rattle.unification.specs.Unify.{unify_heads, note, unify_in, unify}
 use Rattle.unification.specs.Order.{Same}
-use Rattle.unification.specs.Calls.{itself, through, Admitted, Assignment, Respects, Machine, begin, unknown, unification, Calls, none_yet}
+use Rattle.unification.specs.Calls.{Assignment, Respects, Machine, begin, unknown, unification, Calls, none_yet}
 use Rattle.unification.specs.Calls.{then_call, live, BindingsClaim}
-use Rattle.unification.proofs.Tests.{clash}
+use Rattle.unification.proofs.Reach.{admitted_leaf, admitted_free}
 use Rattle.unification.proofs.Chain.{repr_resolved_is}
 use Rattle.unification.proofs.Undo.{rewind_subst, unbind_length}
 use Rattle.unification.proofs.Kept.{heads_in, unify_in_visit}
@@ -231,20 +231,11 @@ unfolding zonk
 zonks_every_depth = refl
 
 -- ---- A list of calls whose sides meet the proviso
-admitted_int : (s : Subst) → Admitted s int
-unfolding Admitted
-admitted_int s u itself = tt
-
-admitted_free : (s : Subst) (x : ℕ) → bound s x ≡ None → Admitted s (Var x)
-unfolding Admitted
-admitted_free s x free u itself = tt
-admitted_free s x free u (through e h) = clash (cc)
-
-unfoldable first_unknown : Machine
+unfoldable pub first_unknown : Machine
 unfolding begin fresh
 first_unknown = record { state = fresh (begin 9 []).state; taken = [] }
 
-unfoldable united : State
+unfoldable pub united : State
 unfolding first_unknown set_var with_left
 united = with_history (set_var (with_left first_unknown.state 7) 0 int) (ended (None ∷ []) (Var 0) int true (Some int ∷ []) start)
 
@@ -255,4 +246,4 @@ calls_united = then_call (then_call none_yet unknown) (unification {m = first_un
 -- So demand 3 says of it that exactly the assignments of Int to the unknown respect the bindings.
 united_means : (σ : ℕ → Ty) → Assignment σ → Respects σ united.subst ↔ (Same (σ 0) int × Unit {0})
 unfolding BindingsClaim live united app with_history set_var with_left first_unknown fresh begin
-united_means σ a = (demand_3 9 [] _ calls_united).between_calls.bindings (admitted_free (None ∷ []) 0 refl, admitted_int (None ∷ []), tt) σ a
+united_means σ a = (demand_3 9 [] _ calls_united).between_calls.bindings (admitted_free (None ∷ []) 0 refl, admitted_leaf (None ∷ []) Int, tt) σ a

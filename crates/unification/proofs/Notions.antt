@@ -13,6 +13,7 @@ use Rattle.unification.specs.Calls.{Reaches, itself, through, Allowed, Admitted,
 use Rattle.unification.specs.Calls.{unification, failure, snapping, rolling_back, live, BackTo, bindings_at}
 use Rattle.unification.specs.Tie.{solution, Together}
 use Rattle.unification.proofs.Tests.{clash}
+use Rattle.unification.proofs.Reach.{admitted_leaf, admitted_free}
 use Rattle.unification.proofs.Demand3.{demand_3}
 use Rattle.unification.proofs.Robinson.{robinson}
 use Rattle.std.specs.Prelude.{None, Some}
@@ -41,21 +42,7 @@ unfolding Admitted bound
 error_left_out a = a Error (through refl itself)
 
 fact_admitted : (s : Subst) (p : ℕ) → Admitted s (leaf (Fact p))
-unfolding Admitted
-fact_admitted s p u itself = tt
-
-int_admitted : (s : Subst) → Admitted s int
-unfolding Admitted
-int_admitted s u itself = tt
-
-string_admitted : (s : Subst) → Admitted s string
-unfolding Admitted
-string_admitted s u itself = tt
-
-free_admitted : Admitted (None ∷ []) (Var 0)
-unfolding Admitted bound
-free_admitted u itself = tt
-free_admitted u (through e h) = clash (cc)
+fact_admitted s p = admitted_leaf s (Fact p)
 
 bound_admitted : (s : Subst) → Admitted (Some int ∷ s) (Var 0)
 unfolding Admitted bound
@@ -151,11 +138,11 @@ calls_rolled = then_call calls_refused (rolling_back {m = since one_refused} [] 
 -- What the first unification bound is a most general unifier; there is none for the third.
 finds : MostGeneral (solution (Some int ∷ [])) (Together (None ∷ []) (Var 0) int)
 unfolding one_bound one_made unify fresh begin
-finds = (robinson 9 [] _ calls_bound).0 free_admitted (int_admitted (None ∷ []))
+finds = (robinson 9 [] _ calls_bound).0 (admitted_free (None ∷ []) 0 refl) (admitted_leaf (None ∷ []) Int)
 
 finds_none : (θ : Substitution) → ¬ Unifies θ (Together (Some int ∷ Some string ∷ None ∷ []) (Var 0) string)
 unfolding one_refused three_made two_bound two_made one_bound one_made unify fresh begin bound
-finds_none = (robinson 9 [] _ calls_refused).0 (bound_admitted (Some string ∷ None ∷ [])) (string_admitted (Some int ∷ Some string ∷ None ∷ []))
+finds_none = (robinson 9 [] _ calls_refused).0 (bound_admitted (Some string ∷ None ∷ [])) (admitted_leaf (Some int ∷ Some string ∷ None ∷ []) String)
 
 -- The rollback, by the claim: the first unknown is bound as at the snapshot, the other two are there and free.
 gave_back : BackTo (Some int ∷ []) (Some int ∷ Some string ∷ None ∷ []) (Some int ∷ None ∷ None ∷ [])

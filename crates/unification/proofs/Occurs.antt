@@ -13,13 +13,14 @@ use Rattle.unification.specs.Order.{Same}
 use Rattle.unification.specs.Bindings.{Subst, bound, repr, Answer, yes_left, no_left, spent, any_row, occurs_in, occurs, Resolved}
 use Rattle.unification.specs.Unify.{visited, leaf_orderable, orderable, all_orderable}
 use Rattle.unification.specs.Calls.{Reaches, ReachesRow, Respects}
-use Rattle.unification.proofs.Tests.{clash, eqb_true, eqb_false}
+use Rattle.unification.proofs.Tests.{clash}
 use Rattle.unification.proofs.Order.{size, row_size, same_size}
 use Rattle.unification.proofs.Reach.{reaches_var, reaches_follow}
 use Rattle.unification.specs.Acyclic.{Acyclic}
 use Rattle.unification.proofs.Chain.{leaf_reaches, error_reaches, node_reaches, nil_reaches, cell_reaches, repr_resolved, repr_resolved_is}
 use Rattle.unification.proofs.Respects.{repr_same}
 use Rattle.std.specs.Prelude.{None}
+use Rattle.std.proofs.lemmas.Bool.{eqb-true, eqb-false}
 
 -- A row's answer is that of its first cell that says yes, or of the last.
 any_cell : (ask : ℕ → Ty → Answer) (v k l : ℕ) (t : Ty) (r : Row) (a : Answer) (Q : Type 0) → any_row ask v (cell k l t r) ≡ a
@@ -51,7 +52,7 @@ occurs_in_yes ask σ x h v Error w e = clash (cc)
 occurs_in_yes ask σ x h v (Var y) w e = go (eqb x y) refl
   where
     go : (b : Bool) → eqb x y ≡ b → size (σ x) ≤ size (σ y)
-    go true q = rw (eqb_true x y q) (omega arith)
+    go true q = rw (eqb-true x y q) (omega arith)
     go false q = let e' : no_left v ≡ yes_left w = rw (q, occurs_in) at e in clash (cc)
 
 occurs_yes : (σ : ℕ → Ty) (s : Subst) (x : ℕ) → Respects σ s → (d v : ℕ) (t : Ty) (w : ℕ) → occurs d s x v t ≡ yes_left w → size (σ x) ≤ size (app σ t)
@@ -67,7 +68,7 @@ unfolding occurs_in
 occurs_in_var ask x v y w e = go (eqb x y) refl
   where
     go : (b : Bool) → eqb x y ≡ b → x ≡ y
-    go true q = eqb_true x y q
+    go true q = eqb-true x y q
     go false q = let e' : no_left v ≡ yes_left w = rw (q, occurs_in) at e in clash (cc)
 
 never_same : (σ : ℕ → Ty) (s : Subst) (x d v : ℕ) (t : Ty) (w : ℕ) → Respects σ s → ¬ (t ≡ Var x)
@@ -106,7 +107,7 @@ occurs_in_no ask s x h v (Var y) w c e = go (eqb x y) refl
   where
     go : (b : Bool) → eqb x y ≡ b → ¬ Reaches s (Var y) (Var x)
     go true q i = let e' : yes_left v ≡ no_left w = rw (q, occurs_in) at e in clash (cc)
-    go false q i = ⊎_elim (λ p. eqb_false x y q (cc (p))) (λ p. clash (cc (c, p.1))) (reaches_var s y (Var x) i)
+    go false q i = ⊎_elim (λ p. eqb-false x y q (cc (p))) (λ p. clash (cc (c, p.1))) (reaches_var s y (Var x) i)
 
 pub occurs_no : (s : Subst) (x : ℕ) → bound s x ≡ None → Acyclic s → (d v : ℕ) (t : Ty) (w : ℕ) → occurs d s x v t ≡ no_left w → ¬ Reaches s t (Var x)
 unfolding occurs repr

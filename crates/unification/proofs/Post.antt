@@ -15,12 +15,13 @@ use Rattle.unification.specs.Unify.{discriminants, unify_alternative, unify_alte
 use Rattle.unification.specs.Calls.{Distinct, Side, itself, Admitted, Respects, live, AllAdmitted, MakesEqual, EntryClaim, BindingsClaim, BackTo}
 use Rattle.unification.specs.Calls.{bindings_at, Noted}
 use Rattle.unification.specs.Acyclic.{Acyclic}
-use Rattle.unification.proofs.Tests.{clash, eqb_true, eqb_false}
+use Rattle.unification.proofs.Tests.{clash}
 use Rattle.unification.proofs.Rows.{Both, Match, AgreeAt, match_same, same_match, same_len, agree_same, same_agree, agree_discriminants, app_cell}
 use Rattle.unification.proofs.Rows.{find_app, distinct_app, row_len_app, discriminants_app}
 use Rattle.unification.specs.Log.{Wf}
 use Rattle.unification.proofs.Sides.{Parts, Part, find_part, parts_map, Field, Alternative, fields, alternatives, Permits, admitted_parts}
 use Rattle.std.specs.Prelude.{None, Option, Some}
+use Rattle.std.proofs.lemmas.Bool.{eqb-true, eqb-false}
 
 -- Every substitution.
 abbrev pub Any : (ℕ → Ty) → Type 0
@@ -216,12 +217,12 @@ module _ (u : State → Ty → Ty → Unified) (rec : Entry u) (A : Type 0) wher
       go : (b : Bool) → eqb (row_len xs) (row_len ys) ≡ b → Post st.subst st.history A (λ σ. SameRow (app_row σ xs) (app_row σ ys)) (unify_record u st xs ys)
       go true q = rw (q, unify_record) (change st.subst st.history A _ _ (unify_fields u st xs ys)
           (λ p σ R. (
-            match_same (app_row σ xs) (app_row σ ys) (distinct_app σ xs (d p).0) (row_len_app σ xs ∙ eqb_true (row_len xs) (row_len ys) q ∙ sym (row_len_app σ ys)),
+            match_same (app_row σ xs) (app_row σ ys) (distinct_app σ xs (d p).0) (row_len_app σ xs ∙ eqb-true (row_len xs) (row_len ys) q ∙ sym (row_len_app σ ys)),
             same_match (app_row σ xs) (app_row σ ys) (distinct_app σ xs (d p).0) (distinct_app σ ys (d p).1),
           ))
           (fields_post st xs ys w f g a))
       go false q = rw (q, unify_record) (stop st A _ w
-          (λ p σ c. eqb_false (row_len xs) (row_len ys) q (sym (row_len_app σ xs) ∙ same_len (app_row σ xs) (app_row σ ys) c ∙ row_len_app σ ys)))
+          (λ p σ c. eqb-false (row_len xs) (row_len ys) q (sym (row_len_app σ xs) ∙ same_len (app_row σ xs) (app_row σ ys) c ∙ row_len_app σ ys)))
 
   alternative_post : (st : State) (differ : UnionDiff → TyError) (k : ℕ) (o o' : Option (ℕ × Ty)) → Wf st.subst
       → Part (Alternative (length st.subst)) o → Part (Alternative (length st.subst)) o'
@@ -236,9 +237,9 @@ module _ (u : State → Ty → Ty → Unified) (rec : Entry u) (A : Type 0) wher
       go : (b : Bool) → eqb x.0 y.0 ≡ b → Post st.subst st.history A (λ σ. Both (app_cell σ (Some x)) (app_cell σ (Some y)))
           (unify_alternative u st differ k (Some x) (Some y))
       go true q = rw (q, unify_alternative) (post_map_err st.subst st.history A _ _ (u st x.1 y.1)
-          (change st.subst st.history A _ _ (u st x.1 y.1) (λ p σ R. (λ e. (eqb_true x.0 y.0 q, e), λ e. e.1))
+          (change st.subst st.history A _ _ (u st x.1 y.1) (λ p σ R. (λ e. (eqb-true x.0 y.0 q, e), λ e. e.1))
           (rec A st x.1 y.1 w f g a)))
-      go false q = rw (q, unify_alternative) (stop st A _ w (λ p σ c. eqb_false x.0 y.0 q c.0))
+      go false q = rw (q, unify_alternative) (stop st A _ w (λ p σ c. eqb-false x.0 y.0 q c.0))
 
   alternatives_post : (st : State) (differ : UnionDiff → TyError) (ks : List ℕ) (xs ys : Row) → Wf st.subst
       → Parts (Alternative (length st.subst)) xs → Parts (Alternative (length st.subst)) ys

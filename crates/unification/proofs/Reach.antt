@@ -6,7 +6,7 @@ use Prim.Native.Nat.{ℕ, zero, suc, ◌<◌}
 use native.Mathlib.Decide.{ℕ_discrete}
 use lib.ListN.{length, set}
 use lib.Seq.{get_or-set_same, get_or-set_other}
-use Rattle.unification.specs.Ty.{Ty, leaf, node, Var, Error, Row}
+use Rattle.unification.specs.Ty.{Leaf, Ty, leaf, node, Var, Error, Row}
 use Rattle.unification.specs.Bindings.{Subst, bound, follow}
 use Rattle.unification.specs.Calls.{Reaches, itself, inside, through, ReachesRow, first, later, Admitted}
 use Rattle.unification.proofs.Tests.{clash}
@@ -34,6 +34,16 @@ mutual
 pub reaches_var : (s : Subst) (x : ℕ) (u : Ty) → Reaches s (Var x) u → (Var x ≡ u) ⊎ ((t : Ty) × (bound s x ≡ Some t) × Reaches s t u)
 reaches_var s x u itself = inl refl
 reaches_var s x u (through e h) = inr (_, e, h)
+
+-- A type without parts is admitted, and so is a free unknown: each reaches itself alone.
+pub admitted_leaf : (s : Subst) (p : Leaf) → Admitted s (leaf p)
+unfolding Admitted
+admitted_leaf s p u itself = tt
+
+pub admitted_free : (s : Subst) (x : ℕ) → bound s x ≡ None → Admitted s (Var x)
+unfolding Admitted
+admitted_free s x free u itself = tt
+admitted_free s x free u (through e h) = clash (cc)
 
 -- ---- Following
 pub follow_reaches : (k : ℕ) (s : Subst) (t u : Ty) → Reaches s (follow k s t) u → Reaches s t u

@@ -30,7 +30,7 @@ unifies_then θ μ (e ∷ es) u =
     (rw (← app_app θ μ e.left, ← app_app θ μ e.right) (same_app μ (app θ e.left) (app θ e.right) u.0), unifies_then θ μ es u.1)
 
 -- ---- Bindings as equations
-shift : (x y : ℕ) → suc x + y ≡ x + suc y
+pub shift : (x y : ℕ) → suc x + y ≡ x + suc y
 shift x y = omega arith
 
 module _ (θ : Substitution) where

@@ -12,8 +12,8 @@ use Rattle.unification.specs.Ty.{Ty, Row, ε, cell, row_len, app, app_row}
 use Rattle.unification.specs.Order.{Same, SameRow, Inserted, here, there}
 use Rattle.unification.specs.Unify.{find_key, insert_once, with_keys, discriminants}
 use Rattle.unification.specs.Calls.{Lacks, Distinct}
-use Rattle.unification.proofs.Tests.{eqb_true, eqb_false}
 use Rattle.std.specs.Prelude.{None, Option, Some}
+use Rattle.std.proofs.lemmas.Bool.{eqb-true, eqb-false}
 
 -- ---- Look-up
 find_head : (k l : ℕ) (t : Ty) (r : Row) → find_key k (cell k l t r) ≡ Some (l, t)
@@ -22,14 +22,14 @@ find_head k l t r = go (eqb k k) refl
   where
     go : (b : Bool) → eqb k k ≡ b → find_key k (cell k l t r) ≡ Some (l, t)
     go true q = rw (q, find_key)
-    go false q = absurd (eqb_false k k q refl)
+    go false q = absurd (eqb-false k k q refl)
 
 pub find_tail : (k m l : ℕ) (t : Ty) (r : Row) → k ≢ m → find_key k (cell m l t r) ≡ find_key k r
 unfolding find_key
 find_tail k m l t r n = go (eqb k m) refl
   where
     go : (b : Bool) → eqb k m ≡ b → find_key k (cell m l t r) ≡ find_key k r
-    go true q = absurd (n (eqb_true k m q))
+    go true q = absurd (n (eqb-true k m q))
     go false q = rw (q, find_key)
 
 find_nil : (k : ℕ) → find_key k ε ≡ None
@@ -92,7 +92,7 @@ both_pick k l t (cell m n u s) b = go (eqb k m) refl (λ b'. both_pick k l t s b
         → (t' : Ty) × (s' : Row) × Same t t' × Inserted k l t' s' (cell m n u s)
     go true q ih =
         let c : (l ≡ n) × Same t u = rw (q, find_key) at b in
-        (u, s, c.1, rw (eqb_true k m q, c.0) here)
+        (u, s, c.1, rw (eqb-true k m q, c.0) here)
     go false q ih = let x = ih (rw (q, find_key) at b) in (x.0, cell m n u x.1, x.2, there x.3)
 
 pub agree_same : (r s : Row) → Distinct r → Distinct s → Agree r s → SameRow r s
@@ -166,7 +166,7 @@ insert_new k [] = inl refl
 insert_new k (m ∷ ms) = go (eqb k m) refl (ltb k m) refl (insert_new k ms)
   where
     go : (b : Bool) → eqb k m ≡ b → (c : Bool) → ltb k m ≡ c → Mem k (insert_once k ms) → Mem k (insert_once k (m ∷ ms))
-    go true q c p h = rw (q, insert_once) (inl (eqb_true k m q))
+    go true q c p h = rw (q, insert_once) (inl (eqb-true k m q))
     go false q true p h = rw (q, p, insert_once) (inl refl)
     go false q false p h = rw (q, p, insert_once) (inr h)
 

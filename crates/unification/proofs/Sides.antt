@@ -27,7 +27,7 @@ mutual
   side_more n m le (Var x) h = omega arith
   side_more n m le Error h = tt
 
-  side_row_more : (n m : ℕ) → n ≤ m → (r : Row) → SideRow n r → SideRow m r
+  pub side_row_more : (n m : ℕ) → n ≤ m → (r : Row) → SideRow n r → SideRow m r
   side_row_more n m le ε h = tt
   side_row_more n m le (cell k l t r) h = (h.0, side_more n m le t h.1, side_row_more n m le r h.2)
 

@@ -15,7 +15,7 @@ use Rattle.unification.specs.Order.{Same}
 use Rattle.unification.specs.Bindings.{Subst, bound, repr, Answer, yes_left, no_left, spent, occurs, History, ended, State, with_left, set_var, Resolved}
 use Rattle.unification.specs.Unify.{Unified, Ok, Err, Spent, bind_var, unify_nodes, unify_heads, note, unify_in, unify}
 use Rattle.unification.specs.Calls.{Side, Reaches, itself, Admitted, Respects, live, EntryClaim, BindingsClaim, Noted}
-use Rattle.unification.proofs.Tests.{clash, eqb_true, eqb_false}
+use Rattle.unification.proofs.Tests.{clash}
 use Rattle.unification.proofs.Order.{same_refl, same_sym, same_both}
 use Rattle.unification.proofs.Reach.{admitted_bind, admitted_follow}
 use Rattle.unification.proofs.Chain.{error_reaches, repr_resolved}
@@ -26,6 +26,7 @@ use Rattle.unification.proofs.Sides.{side_follow, wf_bind}
 use Rattle.unification.proofs.Kept.{After, heads_in, unify_in_spent, unify_in_visit}
 use Rattle.unification.proofs.Post.{Any, Known, Step, Closing, Post, Inside, step_refl, stay, stop, under, loosen, Entry, nodes_post}
 use Rattle.std.specs.Prelude.{None, Some}
+use Rattle.std.proofs.lemmas.Bool.{eqb-true, eqb-false}
 
 -- ---- Binding
 set_var_step : (st : State) (x : ℕ) (t : Ty) → Wf st.subst → x < length st.subst → Side (length st.subst) t → ¬ Reaches st.subst t (Var x)
@@ -107,8 +108,8 @@ module _ (d : ℕ) (u : State → Ty → Ty → Unified) (rec : Entry u) (A : Ty
   heads_post (Var x) (Var y) e f i j p = go (eqb x y) refl
     where
       go : (b : Bool) → eqb x y ≡ b → Inside st.subst st.history A (λ σ. Same (σ x) (σ y)) (unify_heads d u st (Var x) (Var y))
-      go true q = rw (q, unify_heads) (loosen _ _ A _ (Ok st) (stay st A _ w (λ o σ. subst (λ (z : ℕ). Same (σ x) (σ z)) (eqb_true x y q) (same_refl (σ x)))))
-      go false q = rw (q, unify_heads) (bind_var_post d A st x (Var y) w e f (λ o. eqb_false x y q (cc)) i j (λ o. (p o).1))
+      go true q = rw (q, unify_heads) (loosen _ _ A _ (Ok st) (stay st A _ w (λ o σ. subst (λ (z : ℕ). Same (σ x) (σ z)) (eqb-true x y q) (same_refl (σ x)))))
+      go false q = rw (q, unify_heads) (bind_var_post d A st x (Var y) w e f (λ o. eqb-false x y q (cc)) i j (λ o. (p o).1))
   heads_post (Var x) (leaf y) e f i j p = bind_var_post d A st x (leaf y) w e f (λ q. clash (cc)) i j (λ o. (p o).1)
   heads_post (Var x) (node k r) e f i j p = bind_var_post d A st x (node k r) w e f (λ q. clash (cc)) i j (λ o. (p o).1)
   heads_post (leaf x) (Var y) e f i j p = right_var (leaf x) y f e (λ q. clash (cc)) j i (λ o. (p o).0)

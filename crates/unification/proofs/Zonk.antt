@@ -193,10 +193,6 @@ zonk_unbound s x e = zonk_free (length s) s x e
 
 -- ---- What `zonk` gives, by the shape of the type
 module _ (s : Subst) (A : Acyclic s) where
-  pub zonk_of_free : (x : ℕ) → bound s x ≡ None → zonk s (Var x) ≡ Var x
-  unfolding zonk
-  zonk_of_free x e = zonk_free (length s) s x e
-
   pub zonk_of_bound : (x : ℕ) (t : Ty) → bound s x ≡ Some t → zonk s (Var x) ≡ zonk s t
   unfolding zonk
   zonk_of_bound x t e = sym (zonk_more s A (Var x)) ∙ zonk_bound (length s) s x t e

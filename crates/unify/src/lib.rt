@@ -16,6 +16,9 @@ use cells::{
     part_count, part_ty, place_from, place_of, repr, set_var, snapshot,
 };
 
+// The words and the visits left are two parameters all through: the visits come back in each result, with a failure
+// too, so that `?` hands both on; a struct of both would be taken out of a run (crate state), which stands above this,
+// at each entry. The two cells that are compared, `c` and `d`, part again in the first call below.
 fn bind_var(w: &mut [u32], x: u32, t: Ty, left: u32) -> Result<u32, Failure>
     ensures { BindsVar w.old x t left w.new result }
 {
@@ -27,8 +30,8 @@ fn bind_var(w: &mut [u32], x: u32, t: Ty, left: u32) -> Result<u32, Failure>
     Ok(l)
 }
 
-// `got` is the type of the node that the caller reports at. Two parameters of these names: by a rule of the project
-// they follow ty.rs.
+// `got` is the type of the node that the caller reports at. Two parameters, by the names of ty.rs: each is looked up by
+// itself at once.
 #[cycle(unifying)]
 pub fn unify(w: &mut [u32], got: Ty, expected: Ty, left: u32) -> Result<u32, Failure>
     ensures { Unifies w.old got expected left w.new result }
@@ -154,7 +157,8 @@ fn unify_fields(w: &mut [u32], c: u32, d: u32, n: u32, left: u32) -> Result<u32,
 }
 
 // The least discriminant of one union that is not below `from`, or `best` where that is less. The first i alternatives
-// are below it; none is less than `from` itself, so the scan ends there, which no `fold` or `min` does.
+// are below it; none is less than `from` itself, so the scan ends there, which no `fold` or `min` does. A type of a cell
+// and what is passed of it would be made anew for each discriminant, which passes more.
 fn least_from(w: &[u32], c: u32, i: u32, from: u64, best: Option<u32>) -> Option<u32>
     requires { Passed w.now c i from }
     ensures { LeastFrom w.now c from best result }
@@ -263,9 +267,9 @@ fn differ(c: u32, d: u32, diff: UnionDiff, left: u32) -> Failure
 }
 
 // `orderable` of the resolved type: unknowns are looked up on the way; to the first no. As in `occurs`, a part of the
-// same type as the last one costs what that cost. It is no one function with `occurs`: that is defined over the
-// bindings, this over the type that is left when they are replaced, and a walk of both would need a third definition
-// with its two ties.
+// same type as the last one costs what that cost. It is no one function with `occurs`: document 01 asks for that by
+// name, with its loop inside (docs/DECISIONS.md, Forms), and it is defined over the bindings, this over the type that
+// is left when they are replaced.
 pub fn orderable(w: &[u32], t: Ty, left: u32) -> Option<(bool, u32)>
     ensures { IsOrderable w.now t left result }
 {

@@ -59,7 +59,7 @@ impl Counters {
     // Each unknown is bound once and each node annotated once.
     pub const UNDO: u32 = Self::UNKNOWNS + Self::NODES;
 
-    // All of them 0. Every type here is begun by a `new`; this one has a default to begin with.
+    // All of them 0, as the default is: document 01 asks for limits with a constructor (docs/DECISIONS.md).
     pub fn new() -> Self
         ensures { result ≡ no_counters }
     {

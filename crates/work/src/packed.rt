@@ -1,4 +1,5 @@
-// Several numbers in a word, made and taken apart here alone.
+// Several numbers in a word, made and taken apart here, but for an entry of the environment (crate state) and one of
+// the undo log (crate cells). That a node is named crate reading notes by adding 1.
 // Each number has a function of its own name: one over the size would call them high and low. A place's and a size's
 // bounds are owed by those that pack them, who have just tested them; a type for each would be taken apart again in the
 // same line. `as u32`: no `From` leads from usize to u32, and `try_from` asks for an answer where none is.

@@ -1,9 +1,9 @@
 -- One writer after another is the writer of the joined text: the first leaves the place where the second starts, and what
 -- the first could not finish the two cannot.
-use Rattle.std.proofs.Common.{◌≡◌, ℕ, suc, ◌+◌, ◌-◌, ◌≤◌, ◌<◌, List, [], ◌∷◌, ◌++◌, length, take, drop, set, None, Option, Some, refl, sym, ap, ◌∙◌, append_assoc, append-nil, add-one, arith, length-append, length-take, length-drop, length-set, take-append-drop, replicate, drop_of_length-le}
+use Rattle.std.proofs.Common.{◌≡◌, ℕ, suc, ◌+◌, ◌-◌, ◌≤◌, ◌<◌, List, [], ◌∷◌, ◌++◌, length, take, drop, get_or, set, None, Option, Some, refl, sym, ap, ◌∙◌, append_assoc, append-nil, add-one, arith, length-append, length-take, length-drop, length-set, take-append-drop, replicate, drop_of_length-le}
 use Rattle.std.proofs.Math.Decide.{dec_le}
-use Rattle.std.proofs.lemmas.Slice.{put_mid-paste}
-use Rattle.std.proofs.Math.Seq.{take-length, length-take-le, take_at, drop-append-add, drop-drop, set_split, append_snoc}
+use Rattle.std.proofs.lemmas.List.{take_more, take_all}
+use Rattle.std.proofs.Math.Seq.{length-take-le, take_at, drop-append-add, drop-drop, set_split, append_snoc}
 use borrow.Rule.Slice.PartMut.{put_mid}
 use Rattle.writer.specs.Writes.{placed, Writes, Moves}
 
@@ -57,16 +57,6 @@ writes_one out at b h = record {
 pub full_one : {A : Type 0} (out : List A) (at : ℕ) (b : A) → length out ≤ at → Writes out at (b ∷ []) out None
 full_one out at b h = record { fits = λ l. absurd (omega arith); over = λ o. refl; long = refl }
 
--- a part, copied to its place
-module _ {A : Type 0} (out s new : List A) (at : ℕ) (room : at + length s ≤ length out) (e : new ≡ s) where
-  part_placed : put_mid at (at + length s - at) out new ≡ placed at s out
-  unfolding placed
-  part_placed = put_mid-paste at (at + length s - at) out new s (length s) e (omega arith) refl
-      ∙ ap (λ l. take at out ++ l ++ drop (at + length s) out) (take-length s)
-
-  pub writes_part : Writes out at s (put_mid at (at + length s - at) out new) (Some (at + length s))
-  writes_part = record { fits = λ _. (refl, part_placed); over = λ o. absurd (omega arith); long = ap length part_placed ∙ placed_long at s out room }
-
 -- What follows a text that did not fit does not fit.
 pub writes_full : {A : Type 0} {out : List A} {at : ℕ} {a : List A} {mid : List A} {r : Option ℕ} → Writes out at a mid r → r ≡ None → (b : List A)
     → Writes out at (a ++ b) mid None
@@ -107,15 +97,50 @@ writes_then {out} {at} {a} {mid} {r} {n} {b} {out'} {r'} f e g = record {
 pub writes_as : {A : Type 0} {out : List A} {at : ℕ} {a b : List A} {out' : List A} {r : Option ℕ} → a ≡ b → Writes out at a out' r → Writes out at b out' r
 writes_as e f = rw (← e) f
 
+-- A part, copied one by one: what stands before the index is written.
+pub record Copying {A : Type 0} (s out₀ : List A) (at : ℕ) (out : List A) (i : ℕ) : Type 0 where
+  pub done : Writes out₀ at (take i s) out (Some (at + i))
+  pub room : at + length s ≤ length out₀
+
+pub copy_start : {A : Type 0} (s out : List A) (at : ℕ) → at ≤ length out → length s ≤ length out - at → Copying s out at out 0
+copy_start s out at l h =
+    let none : at + 0 ≡ at = omega arith in
+    record { done = rw none (writes_none out at l); room = omega arith }
+
+module _ {A : Type 0} {s out₀ : List A} {at : ℕ} {out : List A} {i : ℕ} (g : Copying s out₀ at out i) where
+  pub copy_next : i < length s → {x : A} → x ≡ get_or s i x → Copying s out₀ at (set out (at + i) x) (i + 1)
+  copy_next h {x} e =
+      let on : at + i + 1 ≡ at + (i + 1) = omega arith in
+      let more : take i s ++ x ∷ [] ≡ take (i + 1) s = sym (rw (← e) at (take_more s i x h)) in
+      let one = writes_one out (at + i) x (omega (arith, g.done.long, g.room)) in
+      record { done = rw on at (writes_as more (writes_then g.done refl one)); room = g.room }
+
+  pub copy_done : length s ≤ i → Writes out₀ at s out (Some (at + length s))
+  copy_done h =
+      let all = rw (take_all i s h) at g.done in
+      rw (all.fits g.room).0 at all
+
 -- ---- Where a writer has come to
+
+-- What ends within the slice, or is left out, stands where it is said to end, or would end past the slice.
+module _ {r : Option ℕ} {end size : ℕ} (fits : end ≤ size → r ≡ Some end) (over : size < end → r ≡ None) where
+  pub ends_there : {n : ℕ} → r ≡ Some n → (n ≡ end) × (n ≤ size)
+  ends_there {n} e = go (dec_le end size)
+    where
+      go : Dec (end ≤ size) → (n ≡ end) × (n ≤ size)
+      go (no o) = cc (over (omega arith))
+      go (yes o) = let q : n ≡ end = cc (fits o) in (q, omega arith)
+
+  pub ends_over : r ≡ None → size < end
+  ends_over e = go (dec_le end size)
+    where
+      go : Dec (end ≤ size) → size < end
+      go (no o) = omega arith
+      go (yes o) = cc (fits o)
 
 pub writes_to : {A : Type 0} {out : List A} {at : ℕ} {a : List A} {out' : List A} {r : Option ℕ} {n : ℕ} → Writes out at a out' r → r ≡ Some n
     → (n ≡ at + length a) × (n ≤ length out)
-writes_to {out} {at} {a} {out'} {r} {n} f e = at_end_lem (dec_le (at + length a) (length out))
-  where
-    at_end_lem : Dec (at + length a ≤ length out) → (n ≡ at + length a) × (n ≤ length out)
-    at_end_lem (no o) = let p : r ≡ None = f.over (omega arith) in cc
-    at_end_lem (yes o) = let p : r ≡ Some (at + length a) = (f.fits o).0 in let q : n ≡ at + length a = cc in (q, omega arith)
+writes_to f e = ends_there (λ h. (f.fits h).0) f.over e
 
 -- What the caller of a whole text is told: it stands at the slice's start and ends where it is said, or it is longer than the slice.
 pub whole_there : {A : Type 0} {out a out' : List A} {r : Option ℕ} {n : ℕ} → Writes out 0 a out' r → r ≡ Some n → (n ≡ length a) × (n ≤ length out) × (take n out' ≡ a)
@@ -127,11 +152,7 @@ whole_there {out} {a} {out'} {r} {n} f e =
     (m, h.1, rw ((f.fits (omega (arith, h.0, h.1))).1, m) (take_at a (drop (0 + length a) out) (length a) refl))
 
 pub writes_over : {A : Type 0} {out : List A} {at : ℕ} {a out' : List A} {r : Option ℕ} → Writes out at a out' r → r ≡ None → length out < at + length a
-writes_over {out} {at} {a} {out'} {r} f e = go (dec_le (at + length a) (length out))
-  where
-    go : Dec (at + length a ≤ length out) → length out < at + length a
-    go (no o) = omega arith
-    go (yes o) = let p : r ≡ Some (at + length a) = (f.fits o).0 in cc
+writes_over f e = ends_over (λ h. (f.fits h).0) f.over e
 
 pub whole_over : {A : Type 0} {out a out' : List A} {r : Option ℕ} → Writes out 0 a out' r → r ≡ None → length out < length a
 whole_over f e = omega (arith, writes_over f e)

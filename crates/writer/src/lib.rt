@@ -36,9 +36,11 @@ pub fn copy<T: Copy>(out: &mut [T], at: usize, s: &[T]) -> Option<usize>
     if out.len().checked_sub(at)? < s.len() {
         return None;
     }
-    let to = at + s.len();
-    out[at..to].copy_from_slice(s);
-    Some(to)
+    // `copy_from_slice` asks for memmove, and C gives the library memcpy and memset alone.
+    for (i, &x) in s.iter().enumerate() {
+        out[at + i] = x;
+    }
+    Some(at + s.len())
 }
 
 // By a table: by two additions, the writing of types took a fifth more instructions.

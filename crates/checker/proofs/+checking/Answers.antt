@@ -1,3 +1,4 @@
+-- What the check doesn't find alone: that a measure falls, by `omega arith` of what falls; what a loop keeps; and each way out, by the law of its step.
 use borrow.Enum.Refused.{opened}
 use native.Mathlib.Omega.{arith}
 use mathlib.Core.Path.{refl, sym, ap, ◌∙◌}
@@ -7,7 +8,7 @@ use Rattle.tree.specs.Nodes.{kind_w}
 use Rattle.steps.proofs.Ending.{brings}
 use Rattle.steps.proofs.Forms.{constant_form}
 use Rattle.state.proofs.Lefts.{took, took_none, went_on, went_none, succeeded, failed, ended}
-use Rattle.checker.proofs.Callees.{as_node_lem, rejects_by, notes_by, freshens_by, reports_by, rolls_by, leaves_by, key_by, key_on, value_on, item_falls, field_falls, stmt_falls, alone_falls, size_small, turn_at, generates_at, mentions_at, checks_at, finds_at, unknown_at}
+use Rattle.checker.proofs.Callees.{rejects_by, notes_by, freshens_by, reports_by, rolls_by, leaves_by, key_by, key_on, value_on, items_some, item_falls, field_falls, stmt_falls, alone_falls, size_small, turn_at, generates_at, mentions_at, checks_at, finds_at, unknown_at}
 use Rattle.checker.proofs.Choosing.{later, denied_later, inferred, deny_target, no_disjunction, no_error, record_whole}
 use Rattle.checker.proofs.Inferring.{infer_typed, infer_out, int_arm, bytes_arm, str_arm, prefix_arm, error_arm, wildcard_arm, never_arm, variable_arm}
 use Rattle.checker.proofs.Arms.{head_arm, head_out, key_head, value_head, select_head, fact_free, fact_on, fact_out, fact_arm, record_arm, subquery_arm, arith_arm, disjunction_arm, fuzzy_arm}
@@ -43,17 +44,17 @@ pub bind-not_yet-requires-in_default : goal.bind-not_yet-requires-in_default
 bind-not_yet-requires-in_default t c = omega arith
 
 pub bind-returns-else-destructurable-clause-is : goal.bind-returns-else-destructurable-clause-is
-bind-returns-else-destructurable-clause-is t c = bind_whole (as_node_lem c.in-Record.is c.node.ensures) c.destructurable.ensures c.if-destructurable.false c.not_yet.ensures.is
+bind-returns-else-destructurable-clause-is t c = bind_whole (rw c.in-Record.is at c.node.ensures) (rw c.view.ensures at c.destructurable.ensures) c.if-destructurable.false c.not_yet.ensures.is
 
 pub bind-returns-in-Var-clause-is : goal.bind-returns-in-Var-clause-is
-bind-returns-in-Var-clause-is t c = bind_variable_lem (as_node_lem c.in-Var.is c.node.ensures) c.bind_name.ensures.is
+bind-returns-in-Var-clause-is t c = bind_variable_lem (rw c.in-Var.is at c.node.ensures) c.bind_name.ensures.is
 
 pub bind-returns-in_default-clause-is : goal.bind-returns-in_default-clause-is
 bind-returns-in_default-clause-is t c = bind_later c.node.ensures (later _ _ ((opened c.in_default.in_default-own.keys6))) c.not_yet-in_default.ensures.is
 
 pub bind-returns-in_err-infer-in-Error-clause-is : goal.bind-returns-in_err-infer-in-Error-clause-is
 unfolding kind_w form_of
-bind-returns-in_err-infer-in-Error-clause-is t c = rw c.from_residual-in_err-infer-in-Error.ensures (rw c.in_err-infer-in-Error.was at (bind_error (as_node_lem c.in-Error.is c.node.ensures) refl (only_right_lem c.infer-in-Error.ensures.is)))
+bind-returns-in_err-infer-in-Error-clause-is t c = rw c.from_residual-in_err-infer-in-Error.ensures (rw c.in_err-infer-in-Error.was at (bind_error (rw c.in-Error.is at c.node.ensures) refl (only_right_lem c.infer-in-Error.ensures.is)))
 
 pub bind-returns-in_err-infer-in-Int-clause-is : goal.bind-returns-in_err-infer-in-Int-clause-is
 bind-returns-in_err-infer-in-Int-clause-is t c = rw c.from_residual-in_err-infer-in-Int.ensures (rw c.in_err-infer-in-Int.was at (bind_constant c.node.ensures (constant_form _ _ c.in-Int.in-Int-own.keys4) (bad_target_lem (rejects_by c.reject.ensures.is) (went_on c.in_ok-reject-in-Int.was) (rw c.reject.ensures.lent.0 at c.infer-in-Int.ensures.is))))
@@ -63,21 +64,21 @@ bind-returns-in_err-reject-in-Int-clause-is t c = rw c.from_residual-in_err-reje
 
 pub bind-returns-in_err-t-in-Wildcard-clause-is : goal.bind-returns-in_err-t-in-Wildcard-clause-is
 unfolding kind_w form_of
-bind-returns-in_err-t-in-Wildcard-clause-is t c = rw c.from_residual.ensures (bind_wildcard_lem (as_node_lem c.in-Wildcard.is c.node.ensures) refl (wildcard_out c.infer.ensures.is (took_none _ c.in_err-t-in-Wildcard.was)))
+bind-returns-in_err-t-in-Wildcard-clause-is t c = rw c.from_residual.ensures (bind_wildcard_lem (rw c.in-Wildcard.is at c.node.ensures) refl (wildcard_out c.infer.ensures.is (took_none _ c.in_err-t-in-Wildcard.was)))
 
 pub bind-returns-in_ok-infer-in-Error-clause-is : goal.bind-returns-in_ok-infer-in-Error-clause-is
 unfolding kind_w form_of
-bind-returns-in_ok-infer-in-Error-clause-is t c = rw c.in_ok-infer-in-Error.was at (bind_error (as_node_lem c.in-Error.is c.node.ensures) refl (only_right_lem c.infer-in-Error.ensures.is))
+bind-returns-in_ok-infer-in-Error-clause-is t c = rw c.in_ok-infer-in-Error.was at (bind_error (rw c.in-Error.is at c.node.ensures) refl (only_right_lem c.infer-in-Error.ensures.is))
 
 pub bind-returns-in_ok-infer-in-Int-clause-is : goal.bind-returns-in_ok-infer-in-Int-clause-is
 bind-returns-in_ok-infer-in-Int-clause-is t c = rw c.in_ok-infer-in-Int.was at (bind_constant c.node.ensures (constant_form _ _ c.in-Int.in-Int-own.keys4) (bad_target_lem (rejects_by c.reject.ensures.is) (went_on c.in_ok-reject-in-Int.was) (rw c.reject.ensures.lent.0 at c.infer-in-Int.ensures.is)))
 
 pub bind-returns-in_ok-t-in-Wildcard-clause-is : goal.bind-returns-in_ok-t-in-Wildcard-clause-is
 unfolding kind_w form_of
-bind-returns-in_ok-t-in-Wildcard-clause-is t c = bind_wildcard_lem (as_node_lem c.in-Wildcard.is c.node.ensures) refl (wildcard_noted c.infer.ensures.is (took c.in_ok-t-in-Wildcard.was) (notes_by c.annotate.ensures))
+bind-returns-in_ok-t-in-Wildcard-clause-is t c = bind_wildcard_lem (rw c.in-Wildcard.is at c.node.ensures) refl (wildcard_noted c.infer.ensures.is (took c.in_ok-t-in-Wildcard.was) (notes_by c.annotate.ensures))
 
 pub bind-returns-then-destructurable-clause-is : goal.bind-returns-then-destructurable-clause-is
-bind-returns-then-destructurable-clause-is t c = bind_apart (as_node_lem c.in-Record.is c.node.ensures) c.destructurable.ensures c.if-destructurable.true c.destructure.ensures.is
+bind-returns-then-destructurable-clause-is t c = bind_apart (rw c.in-Record.is at c.node.ensures) (rw c.view.ensures at c.destructurable.ensures) c.if-destructurable.true c.destructure.ensures.is
 
 pub bind_name-returns-clause-is : goal.bind_name-returns-clause-is
 bind_name-returns-clause-is t c = variable_unified (brings _ _ _ _ _ _ _ c.introduce-var.ensures.is) (notes_by c.annotate.ensures) (rw (c.introduce-var.ensures.lent.0, c.introduce-var.ensures.out, c.introduce-var.ensures.left) at c.infer.ensures.is) (took c.in_ok-t.was) (rw (c.infer.ensures.lent.0, c.introduce-var.ensures.lent.0) at c.unify_at.ensures.is)
@@ -86,7 +87,7 @@ pub bind_name-returns-in_err-t-clause-is : goal.bind_name-returns-in_err-t-claus
 bind_name-returns-in_err-t-clause-is t c = rw c.from_residual.ensures (variable_out (brings _ _ _ _ _ _ _ c.introduce-var.ensures.is) (notes_by c.annotate.ensures) (rw (c.introduce-var.ensures.lent.0, c.introduce-var.ensures.out, c.introduce-var.ensures.left) at c.infer.ensures.is) (took_none _ c.in_err-t.was))
 
 pub branches-generator-requires : goal.branches-generator-requires
-branches-generator-requires t c = omega (arith, item_falls _ _ _ c.loop-i-test.true c.item_at.ensures)
+branches-generator-requires t c = omega (arith, item_falls _ _ _ c.requires c.loop-i-test.true c.item_at.ensures)
 
 pub branches-loop-i-init : goal.branches-loop-i-init
 branches-loop-i-init t c = (branches_start _ _ _ _, (refl, refl, refl, refl, refl))
@@ -104,10 +105,10 @@ pub branches-returns-in_err-last-clause-is : goal.branches-returns-in_err-last-c
 branches-returns-in_err-last-clause-is t c = rw c.from_residual.ensures (branches_out c.loop-i.invariant.0 c.loop-i-test.true (generates_at (rw c.loop-i.invariant.1.0 at c.item_at.ensures) (rw c.loop-i.invariant.1.0 at c.generator.ensures.is)) (took_none _ c.in_err-last.was))
 
 pub check-check_fields-requires : goal.check-check_fields-requires
-check-check_fields-requires t c = omega (arith, (as_node_lem c.in-Record.is c.node.ensures).lower)
+check-check_fields-requires t c = let low = (rw c.in-Record.is at c.node.ensures).lower in (omega (arith, low.below), items_some low)
 
 pub check-check_union-requires : goal.check-check_union-requires
-check-check_union-requires t c = (omega arith, (as_node_lem c.in-Record.is c.node.ensures).lower)
+check-check_union-requires t c = (omega arith, (rw c.in-Record.is at c.node.ensures).lower)
 
 pub check-infer_then_unify-requires : goal.check-infer_then_unify-requires
 check-infer_then_unify-requires t c = omega arith
@@ -119,22 +120,22 @@ pub check-returns-in-Error-clause-is : goal.check-returns-in-Error-clause-is
 check-returns-in-Error-clause-is t c = check_nothing (rw c.view.ensures at c.repr-t.ensures) (ap tag_w c.in-Error.is)
 
 pub check-returns-in-Union-clause-is : goal.check-returns-in-Union-clause-is
-check-returns-in-Union-clause-is t c = check_record_lem (rw c.view.ensures at c.repr-t.ensures) (no_error c.repr-t.result ((opened c.in_default.in_default-own.keys2))) (as_node_lem c.in-Record.is c.node.ensures) (rw c.in-Union.is (record_union c.check_union.ensures.is))
+check-returns-in-Union-clause-is t c = check_record_lem (rw c.view.ensures at c.repr-t.ensures) (no_error c.repr-t.result ((opened c.in_default.in_default-own.keys2))) (rw c.in-Record.is at c.node.ensures) (rw c.in-Union.is (record_union c.check_union.ensures.is))
 
 pub check-returns-in-Wildcard-clause-is : goal.check-returns-in-Wildcard-clause-is
-check-returns-in-Wildcard-clause-is t c = check_wildcard (rw c.view.ensures at c.repr-t.ensures) (no_error c.repr-t.result ((opened c.in_default.in_default-own.keys2))) (as_node_lem c.in-Wildcard.is c.node.ensures) (notes_by c.annotate.ensures)
+check-returns-in-Wildcard-clause-is t c = check_wildcard (rw c.view.ensures at c.repr-t.ensures) (no_error c.repr-t.result ((opened c.in_default.in_default-own.keys2))) (rw c.in-Wildcard.is at c.node.ensures) (notes_by c.annotate.ensures)
 
 pub check-returns-in_default-node-clause-is : goal.check-returns-in_default-node-clause-is
 check-returns-in_default-node-clause-is t c = check_inferred (rw c.view.ensures at c.repr-t.ensures) (no_error c.repr-t.result ((opened c.in_default.in_default-own.keys2))) (inferred _ _ ((opened c.in_default-node.in_default-node-own.keys3))) c.node.ensures c.infer_then_unify-in_default-node.ensures.is
 
 pub check-returns-in_default-t-clause-is : goal.check-returns-in_default-t-clause-is
-check-returns-in_default-t-clause-is t c = check_record_lem (rw c.view.ensures at c.repr-t.ensures) (no_error c.repr-t.result ((opened c.in_default.in_default-own.keys2))) (as_node_lem c.in-Record.is c.node.ensures) (record_whole c.infer_then_unify.ensures.is ((opened c.in_default-t.in_default-t-own.keys3)))
+check-returns-in_default-t-clause-is t c = check_record_lem (rw c.view.ensures at c.repr-t.ensures) (no_error c.repr-t.result ((opened c.in_default.in_default-own.keys2))) (rw c.in-Record.is at c.node.ensures) (record_whole c.infer_then_unify.ensures.is ((opened c.in_default-t.in_default-t-own.keys3)))
 
 pub check-returns-in_err-check_fields-in-Record-t-clause-is : goal.check-returns-in_err-check_fields-in-Record-t-clause-is
-check-returns-in_err-check_fields-in-Record-t-clause-is t c = rw c.from_residual.ensures (check_record_lem (rw c.view.ensures at c.repr-t.ensures) (no_error c.repr-t.result ((opened c.in_default.in_default-own.keys2))) (as_node_lem c.in-Record.is c.node.ensures) (rw c.in-Record-t.is (record_out c.check_fields.ensures.is (went_none _ c.in_err-check_fields-in-Record-t.was))))
+check-returns-in_err-check_fields-in-Record-t-clause-is t c = rw c.from_residual.ensures (check_record_lem (rw c.view.ensures at c.repr-t.ensures) (no_error c.repr-t.result ((opened c.in_default.in_default-own.keys2))) (rw c.in-Record.is at c.node.ensures) (rw c.in-Record-t.is (record_out c.check_fields.ensures.is (went_none _ c.in_err-check_fields-in-Record-t.was))))
 
 pub check-returns-in_ok-check_fields-in-Record-t-clause-is : goal.check-returns-in_ok-check_fields-in-Record-t-clause-is
-check-returns-in_ok-check_fields-in-Record-t-clause-is t c = check_record_lem (rw c.view.ensures at c.repr-t.ensures) (no_error c.repr-t.result ((opened c.in_default.in_default-own.keys2))) (as_node_lem c.in-Record.is c.node.ensures) (rw c.in-Record-t.is (record_noted c.check_fields.ensures.is (went_on c.in_ok-check_fields-in-Record-t.was) (notes_by c.annotate-in-Record-t.ensures)))
+check-returns-in_ok-check_fields-in-Record-t-clause-is t c = check_record_lem (rw c.view.ensures at c.repr-t.ensures) (no_error c.repr-t.result ((opened c.in_default.in_default-own.keys2))) (rw c.in-Record.is at c.node.ensures) (rw c.in-Record-t.is (record_noted c.check_fields.ensures.is (went_on c.in_ok-check_fields-in-Record-t.was) (notes_by c.annotate-in-Record-t.ensures)))
 
 pub check_field-returns-else-before-word-clause-is : goal.check_field-returns-else-before-word-clause-is
 check_field-returns-else-before-word-clause-is t c = mentions_field (rw c.view.ensures at c.find_key.ensures) c.in-Some.is (field_kept c.check.ensures.is (went_on c.in_ok-check.was) (omega (arith, rw c.view-2.ensures at c.word-before.ensures, rw c.view-4.ensures at c.word.ensures, c.if-before-word.false)))
@@ -149,7 +150,7 @@ pub check_field-returns-then-before-word-clause-is : goal.check_field-returns-th
 check_field-returns-then-before-word-clause-is t c = mentions_field (rw c.view.ensures at c.find_key.ensures) c.in-Some.is (field_rolled c.check.ensures.is (went_on c.in_ok-check.was) (omega (arith, rw c.view-2.ensures at c.word-before.ensures, rw c.view-4.ensures at c.word.ensures, c.if-before-word.true)) (rolls_by (rw c.view-3.ensures at c.snapshot-mark.ensures) c.rollback.ensures))
 
 pub check_fields-check_field-requires : goal.check_fields-check_field-requires
-check_fields-check_field-requires t c = omega (arith, field_falls _ _ _ c.loop-i-test.true c.field_at-e.ensures)
+check_fields-check_field-requires t c = omega (arith, field_falls _ _ _ c.requires c.loop-i-test.true c.field_at-e.ensures)
 
 pub check_fields-loop-i-init : goal.check_fields-loop-i-init
 check_fields-loop-i-init t c = (fields_start _ _ _ _ _, (refl, refl, refl, refl, refl))
@@ -167,7 +168,7 @@ pub check_fields-returns-in_err-check_field-clause-is : goal.check_fields-return
 check_fields-returns-in_err-check_field-clause-is t c = rw c.from_residual.ensures (fields_out c.loop-i.invariant.0 c.loop-i-test.true (mentions_at (rw c.loop-i.invariant.1.0 at c.field_at-e.ensures) (rw c.loop-i.invariant.1.0 at c.check_field.ensures.is)) (went_none _ c.in_err-check_field.was))
 
 pub check_union-check-requires : goal.check_union-check-requires
-check_union-check-requires t c = omega (arith, c.requires, field_falls _ _ _ (omega (arith, c.if-items-ne1.false)) c.field_at-e.ensures)
+check_union-check-requires t c = omega (arith, c.requires.below, field_falls _ _ _ (items_some c.requires) (omega (arith, c.if-items-ne1.false)) c.field_at-e.ensures)
 
 pub check_union-returns-clause-is : goal.check_union-returns-clause-is
 check_union-returns-clause-is t c = union_noted c.if-items-ne1.false (finds_at c.field_at-e.ensures (rw c.view.ensures at c.find_name.ensures)) c.in-Some.is (checks_at c.field_at-e.ensures c.check.ensures.is) (went_on c.in_ok-check.was) (notes_by c.annotate.ensures)
@@ -203,14 +204,14 @@ pub deny-not_yet-requires : goal.deny-not_yet-requires
 deny-not_yet-requires t c = omega arith
 
 pub deny-returns-in-Var-clause-is : goal.deny-returns-in-Var-clause-is
-deny-returns-in-Var-clause-is t c = deny_variable (as_node_lem c.in-Var.is c.node.ensures) c.bind_name.ensures.is
+deny-returns-in-Var-clause-is t c = deny_variable (rw c.in-Var.is at c.node.ensures) c.bind_name.ensures.is
 
 pub deny-returns-in_default-clause-is : goal.deny-returns-in_default-clause-is
 deny-returns-in_default-clause-is t c = deny_later c.node.ensures (denied_later _ _ ((opened c.in_default.in_default-own.keys4))) c.not_yet.ensures.is
 
 pub deny-returns-in_err-infer-in-Error-clause-is : goal.deny-returns-in_err-infer-in-Error-clause-is
 unfolding kind_w form_of
-deny-returns-in_err-infer-in-Error-clause-is t c = rw c.from_residual-in_err-infer-in-Error.ensures (rw c.in_err-infer-in-Error.was at (deny_error (as_node_lem c.in-Error.is c.node.ensures) refl (only_right_lem c.infer-in-Error.ensures.is)))
+deny-returns-in_err-infer-in-Error-clause-is t c = rw c.from_residual-in_err-infer-in-Error.ensures (rw c.in_err-infer-in-Error.was at (deny_error (rw c.in-Error.is at c.node.ensures) refl (only_right_lem c.infer-in-Error.ensures.is)))
 
 pub deny-returns-in_err-infer-in-Wildcard-clause-is : goal.deny-returns-in_err-infer-in-Wildcard-clause-is
 deny-returns-in_err-infer-in-Wildcard-clause-is t c = rw c.from_residual-in_err-infer-in-Wildcard.ensures (rw c.in_err-infer-in-Wildcard.was at (deny_target c.in-Wildcard.in-Wildcard-own.keys2 c.node.ensures (bad_target_lem (rejects_by c.reject.ensures.is) (went_on c.in_ok-reject-in-Wildcard.was) (rw c.reject.ensures.lent.0 at c.infer.ensures.is))))
@@ -220,7 +221,7 @@ deny-returns-in_err-reject-in-Wildcard-clause-is t c = rw c.from_residual.ensure
 
 pub deny-returns-in_ok-infer-in-Error-clause-is : goal.deny-returns-in_ok-infer-in-Error-clause-is
 unfolding kind_w form_of
-deny-returns-in_ok-infer-in-Error-clause-is t c = rw c.in_ok-infer-in-Error.was at (deny_error (as_node_lem c.in-Error.is c.node.ensures) refl (only_right_lem c.infer-in-Error.ensures.is))
+deny-returns-in_ok-infer-in-Error-clause-is t c = rw c.in_ok-infer-in-Error.was at (deny_error (rw c.in-Error.is at c.node.ensures) refl (only_right_lem c.infer-in-Error.ensures.is))
 
 pub deny-returns-in_ok-infer-in-Wildcard-clause-is : goal.deny-returns-in_ok-infer-in-Wildcard-clause-is
 deny-returns-in_ok-infer-in-Wildcard-clause-is t c = rw c.in_ok-infer-in-Wildcard.was at (deny_target c.in-Wildcard.in-Wildcard-own.keys2 c.node.ensures (bad_target_lem (rejects_by c.reject.ensures.is) (went_on c.in_ok-reject-in-Wildcard.was) (rw c.reject.ensures.lent.0 at c.infer.ensures.is)))
@@ -244,7 +245,7 @@ pub fact-returns-in_err-check-clause-is : goal.fact-returns-in_err-check-clause-
 fact-returns-in_err-check-clause-is t c = rw c.from_residual.ensures (fact_out (key_by (rw c.view.ensures at c.key_ty.ensures)) c.in-Some.is c.check.ensures.is (went_none _ c.in_err-check.was))
 
 pub generator-branches-requires : goal.generator-branches-requires
-generator-branches-requires t c = omega (arith, (as_node_lem c.in-Disjunction.is c.node.ensures).lower)
+generator-branches-requires t c = let low = (rw c.in-Disjunction.is at c.node.ensures).lower in (omega (arith, low.below), items_some low)
 
 pub generator-infer-requires : goal.generator-infer-requires
 generator-infer-requires t c = omega arith
@@ -253,10 +254,10 @@ pub generator-returns-in_default-clause-is : goal.generator-returns-in_default-c
 generator-returns-in_default-clause-is t c = generator_inferred c.node.ensures (no_disjunction ((opened c.in_default.in_default-own.keys2))) c.infer.ensures.is
 
 pub generator-returns-in_err-t-in-Disjunction-clause-is : goal.generator-returns-in_err-t-in-Disjunction-clause-is
-generator-returns-in_err-t-in-Disjunction-clause-is t c = rw c.from_residual.ensures (generator_out (as_node_lem c.in-Disjunction.is c.node.ensures) c.branches.ensures.is (took_none _ c.in_err-t-in-Disjunction.was))
+generator-returns-in_err-t-in-Disjunction-clause-is t c = rw c.from_residual.ensures (generator_out (rw c.in-Disjunction.is at c.node.ensures) c.branches.ensures.is (took_none _ c.in_err-t-in-Disjunction.was))
 
 pub generator-returns-in_ok-t-in-Disjunction-clause-is : goal.generator-returns-in_ok-t-in-Disjunction-clause-is
-generator-returns-in_ok-t-in-Disjunction-clause-is t c = generator_branched (as_node_lem c.in-Disjunction.is c.node.ensures) c.branches.ensures.is (took c.in_ok-t-in-Disjunction.was) (notes_by c.annotate.ensures)
+generator-returns-in_ok-t-in-Disjunction-clause-is t c = generator_branched (rw c.in-Disjunction.is at c.node.ensures) c.branches.ensures.is (took c.in_ok-t-in-Disjunction.was) (notes_by c.annotate.ensures)
 
 pub infer-returns-clause-is : goal.infer-returns-clause-is
 infer-returns-clause-is t c = infer_typed c.infer_kind.ensures.is (took c.in_ok-t.was) (notes_by c.annotate.ensures)
@@ -265,7 +266,7 @@ pub infer-returns-in_err-t-clause-is : goal.infer-returns-in_err-t-clause-is
 infer-returns-in_err-t-clause-is t c = rw c.from_residual.ensures (infer_out c.infer_kind.ensures.is (took_none _ c.in_err-t.was))
 
 pub infer_all-infer-requires : goal.infer_all-infer-requires
-infer_all-infer-requires t c = omega (arith, item_falls _ _ _ c.loop-i-test.true c.item_at-e.ensures)
+infer_all-infer-requires t c = omega (arith, item_falls _ _ _ c.requires c.loop-i-test.true c.item_at-e.ensures)
 
 pub infer_all-loop-i-init : goal.infer_all-loop-i-init
 infer_all-loop-i-init t c = (all_start _ _ _ _ _, (refl, refl, refl, refl, refl))
@@ -286,91 +287,91 @@ pub infer_all-returns-in_err-unify_at-clause-is : goal.infer_all-returns-in_err-
 infer_all-returns-in_err-unify_at-clause-is t c = rw c.from_residual-in_err-unify_at.ensures (all_out c.loop-i.invariant.0 c.loop-i-test.true (turn_at (rw c.loop-i.invariant.1.0 at c.item_at-e.ensures) (turn_unified (rw c.loop-i.invariant.1.0 at c.infer.ensures.is) (took c.in_ok-t.was) (rw (c.infer.ensures.lent.0, c.loop-i.invariant.1.0) at c.unify_at.ensures.is))) (went_none _ c.in_err-unify_at.was))
 
 pub infer_kind-fact-requires : goal.infer_kind-fact-requires
-infer_kind-fact-requires t c = omega (arith, (as_node_lem c.in-Fact.is c.node.ensures).lower)
+infer_kind-fact-requires t c = omega (arith, (rw c.in-Fact.is at c.node.ensures).lower)
 
 pub infer_kind-infer-requires : goal.infer_kind-infer-requires
-infer_kind-infer-requires t c = omega (arith, (as_node_lem c.in-Key.is c.node.ensures).lower)
+infer_kind-infer-requires t c = omega (arith, (rw c.in-Key.is at c.node.ensures).lower)
 
 pub infer_kind-infer-requires-in-Select : goal.infer_kind-infer-requires-in-Select
-infer_kind-infer-requires-in-Select t c = omega (arith, (as_node_lem c.in-Select.is c.node.ensures).lower)
+infer_kind-infer-requires-in-Select t c = omega (arith, (rw c.in-Select.is at c.node.ensures).lower)
 
 pub infer_kind-infer-requires-in-Value : goal.infer_kind-infer-requires-in-Value
-infer_kind-infer-requires-in-Value t c = omega (arith, (as_node_lem c.in-Value.is c.node.ensures).lower)
+infer_kind-infer-requires-in-Value t c = omega (arith, (rw c.in-Value.is at c.node.ensures).lower)
 
 pub infer_kind-infer_all-requires : goal.infer_kind-infer_all-requires
-infer_kind-infer_all-requires t c = omega (arith, (as_node_lem c.in-Arith.is c.node.ensures).lower)
+infer_kind-infer_all-requires t c = let low = (rw c.in-Arith.is at c.node.ensures).lower in (omega (arith, low.below), items_some low)
 
 pub infer_kind-infer_all-requires-in-Disjunction : goal.infer_kind-infer_all-requires-in-Disjunction
-infer_kind-infer_all-requires-in-Disjunction t c = omega (arith, (as_node_lem c.in-Disjunction.is c.node.ensures).lower)
+infer_kind-infer_all-requires-in-Disjunction t c = let low = (rw c.in-Disjunction.is at c.node.ensures).lower in (omega (arith, low.below), items_some low)
 
 pub infer_kind-infer_record-requires : goal.infer_kind-infer_record-requires
-infer_kind-infer_record-requires t c = omega (arith, (as_node_lem c.in-Record.is c.node.ensures).lower)
+infer_kind-infer_record-requires t c = let low = (rw c.in-Record.is at c.node.ensures).lower in (omega (arith, low.below), items_some low)
 
 pub infer_kind-returns-in-Arith-clause-is : goal.infer_kind-returns-in-Arith-clause-is
-infer_kind-returns-in-Arith-clause-is t c = arith_arm (as_node_lem c.in-Arith.is c.node.ensures) c.infer_all.ensures.is
+infer_kind-returns-in-Arith-clause-is t c = arith_arm (rw c.in-Arith.is at c.node.ensures) c.infer_all.ensures.is
 
 pub infer_kind-returns-in-Bytes-clause-is : goal.infer_kind-returns-in-Bytes-clause-is
-infer_kind-returns-in-Bytes-clause-is t c = bytes_arm (as_node_lem c.in-Bytes.is c.node.ensures)
+infer_kind-returns-in-Bytes-clause-is t c = bytes_arm (rw c.in-Bytes.is at c.node.ensures)
 
 pub infer_kind-returns-in-Disjunction-clause-is : goal.infer_kind-returns-in-Disjunction-clause-is
-infer_kind-returns-in-Disjunction-clause-is t c = disjunction_arm (freshens_by c.fresh_var_id-in-Disjunction.ensures) (as_node_lem c.in-Disjunction.is c.node.ensures) c.infer_all-in-Disjunction.ensures.is
+infer_kind-returns-in-Disjunction-clause-is t c = disjunction_arm (freshens_by c.fresh_var_id-in-Disjunction.ensures) (rw c.in-Disjunction.is at c.node.ensures) c.infer_all-in-Disjunction.ensures.is
 
 pub infer_kind-returns-in-Error-clause-is : goal.infer_kind-returns-in-Error-clause-is
-infer_kind-returns-in-Error-clause-is t c = error_arm (as_node_lem c.in-Error.is c.node.ensures)
+infer_kind-returns-in-Error-clause-is t c = error_arm (rw c.in-Error.is at c.node.ensures)
 
 pub infer_kind-returns-in-Fact-clause-is : goal.infer_kind-returns-in-Fact-clause-is
-infer_kind-returns-in-Fact-clause-is t c = fact_arm (as_node_lem c.in-Fact.is c.node.ensures) c.fact.ensures.is
+infer_kind-returns-in-Fact-clause-is t c = fact_arm (rw c.in-Fact.is at c.node.ensures) c.fact.ensures.is
 
 pub infer_kind-returns-in-Fuzzy-clause-is : goal.infer_kind-returns-in-Fuzzy-clause-is
-infer_kind-returns-in-Fuzzy-clause-is t c = fuzzy_arm (as_node_lem c.in-Fuzzy.is c.node.ensures) c.fuzzy.ensures.is
+infer_kind-returns-in-Fuzzy-clause-is t c = fuzzy_arm (rw c.in-Fuzzy.is at c.node.ensures) c.fuzzy.ensures.is
 
 pub infer_kind-returns-in-Int-clause-is : goal.infer_kind-returns-in-Int-clause-is
-infer_kind-returns-in-Int-clause-is t c = int_arm (as_node_lem c.in-Int.is c.node.ensures)
+infer_kind-returns-in-Int-clause-is t c = int_arm (rw c.in-Int.is at c.node.ensures)
 
 pub infer_kind-returns-in-Never-clause-is : goal.infer_kind-returns-in-Never-clause-is
-infer_kind-returns-in-Never-clause-is t c = never_arm (freshens_by c.fresh_var_id-in-Never.ensures) (as_node_lem c.in-Never.is c.node.ensures)
+infer_kind-returns-in-Never-clause-is t c = never_arm (freshens_by c.fresh_var_id-in-Never.ensures) (rw c.in-Never.is at c.node.ensures)
 
 pub infer_kind-returns-in-Prefix-clause-is : goal.infer_kind-returns-in-Prefix-clause-is
-infer_kind-returns-in-Prefix-clause-is t c = prefix_arm (as_node_lem c.in-Prefix.is c.node.ensures)
+infer_kind-returns-in-Prefix-clause-is t c = prefix_arm (rw c.in-Prefix.is at c.node.ensures)
 
 pub infer_kind-returns-in-Record-clause-is : goal.infer_kind-returns-in-Record-clause-is
-infer_kind-returns-in-Record-clause-is t c = record_arm (as_node_lem c.in-Record.is c.node.ensures) c.infer_record.ensures.is
+infer_kind-returns-in-Record-clause-is t c = record_arm (rw c.in-Record.is at c.node.ensures) c.infer_record.ensures.is
 
 pub infer_kind-returns-in-Str-clause-is : goal.infer_kind-returns-in-Str-clause-is
-infer_kind-returns-in-Str-clause-is t c = str_arm (as_node_lem c.in-Str.is c.node.ensures)
+infer_kind-returns-in-Str-clause-is t c = str_arm (rw c.in-Str.is at c.node.ensures)
 
 pub infer_kind-returns-in-Subquery-clause-is : goal.infer_kind-returns-in-Subquery-clause-is
-infer_kind-returns-in-Subquery-clause-is t c = subquery_arm (as_node_lem c.in-Subquery.is c.node.ensures) c.subquery.ensures.is
+infer_kind-returns-in-Subquery-clause-is t c = subquery_arm (rw c.in-Subquery.is at c.node.ensures) c.subquery.ensures.is
 
 pub infer_kind-returns-in-Var-clause-is : goal.infer_kind-returns-in-Var-clause-is
-infer_kind-returns-in-Var-clause-is t c = rw (c.introduce.ensures.out, c.introduce.ensures.left) (variable_arm (brings _ _ _ _ _ _ _ c.introduce.ensures.is) (as_node_lem c.in-Var.is c.node.ensures))
+infer_kind-returns-in-Var-clause-is t c = rw (c.introduce.ensures.out, c.introduce.ensures.left) (variable_arm (brings _ _ _ _ _ _ _ c.introduce.ensures.is) (rw c.in-Var.is at c.node.ensures))
 
 pub infer_kind-returns-in-Wildcard-clause-is : goal.infer_kind-returns-in-Wildcard-clause-is
-infer_kind-returns-in-Wildcard-clause-is t c = wildcard_arm (freshens_by c.fresh_var_id.ensures) (as_node_lem c.in-Wildcard.is c.node.ensures)
+infer_kind-returns-in-Wildcard-clause-is t c = wildcard_arm (freshens_by c.fresh_var_id.ensures) (rw c.in-Wildcard.is at c.node.ensures)
 
 pub infer_kind-returns-in_err-t-in-Key-clause-is : goal.infer_kind-returns-in_err-t-in-Key-clause-is
-infer_kind-returns-in_err-t-in-Key-clause-is t c = rw c.from_residual.ensures (head_out key_head (as_node_lem c.in-Key.is c.node.ensures) c.infer.ensures.is (took_none _ c.in_err-t-in-Key.was))
+infer_kind-returns-in_err-t-in-Key-clause-is t c = rw c.from_residual.ensures (head_out key_head (rw c.in-Key.is at c.node.ensures) c.infer.ensures.is (took_none _ c.in_err-t-in-Key.was))
 
 pub infer_kind-returns-in_err-t-in-Select-clause-is : goal.infer_kind-returns-in_err-t-in-Select-clause-is
-infer_kind-returns-in_err-t-in-Select-clause-is t c = rw c.from_residual-in_err-t-in-Select.ensures (head_out select_head (as_node_lem c.in-Select.is c.node.ensures) c.infer-in-Select.ensures.is (took_none _ c.in_err-t-in-Select.was))
+infer_kind-returns-in_err-t-in-Select-clause-is t c = rw c.from_residual-in_err-t-in-Select.ensures (head_out select_head (rw c.in-Select.is at c.node.ensures) c.infer-in-Select.ensures.is (took_none _ c.in_err-t-in-Select.was))
 
 pub infer_kind-returns-in_err-t-in-Value-clause-is : goal.infer_kind-returns-in_err-t-in-Value-clause-is
-infer_kind-returns-in_err-t-in-Value-clause-is t c = rw c.from_residual-in_err-t-in-Value.ensures (head_out value_head (as_node_lem c.in-Value.is c.node.ensures) c.infer-in-Value.ensures.is (took_none _ c.in_err-t-in-Value.was))
+infer_kind-returns-in_err-t-in-Value-clause-is t c = rw c.from_residual-in_err-t-in-Value.ensures (head_out value_head (rw c.in-Value.is at c.node.ensures) c.infer-in-Value.ensures.is (took_none _ c.in_err-t-in-Value.was))
 
 pub infer_kind-returns-in_ok-t-in-Key-clause-is : goal.infer_kind-returns-in_ok-t-in-Key-clause-is
-infer_kind-returns-in_ok-t-in-Key-clause-is t c = head_arm key_head (as_node_lem c.in-Key.is c.node.ensures) c.infer.ensures.is (took c.in_ok-t-in-Key.was) (rw c.view.ensures at c.repr-u.ensures) (key_on _ (rw c.infer.ensures.lent.0 at c.key_of.ensures.is))
+infer_kind-returns-in_ok-t-in-Key-clause-is t c = head_arm key_head (rw c.in-Key.is at c.node.ensures) c.infer.ensures.is (took c.in_ok-t-in-Key.was) (rw c.view.ensures at c.repr-u.ensures) (key_on _ (rw c.infer.ensures.lent.0 at c.key_of.ensures.is))
 
 pub infer_kind-returns-in_ok-t-in-Select-clause-is : goal.infer_kind-returns-in_ok-t-in-Select-clause-is
-infer_kind-returns-in_ok-t-in-Select-clause-is t c = head_arm select_head (as_node_lem c.in-Select.is c.node.ensures) c.infer-in-Select.ensures.is (took c.in_ok-t-in-Select.was) (rw c.view-in-Select.ensures at c.repr-u-in-Select.ensures) (rw c.infer-in-Select.ensures.lent.0 at c.select_of.ensures.is)
+infer_kind-returns-in_ok-t-in-Select-clause-is t c = head_arm select_head (rw c.in-Select.is at c.node.ensures) c.infer-in-Select.ensures.is (took c.in_ok-t-in-Select.was) (rw c.view-in-Select.ensures at c.repr-u-in-Select.ensures) (rw c.infer-in-Select.ensures.lent.0 at c.select_of.ensures.is)
 
 pub infer_kind-returns-in_ok-t-in-Value-clause-is : goal.infer_kind-returns-in_ok-t-in-Value-clause-is
-infer_kind-returns-in_ok-t-in-Value-clause-is t c = head_arm value_head (as_node_lem c.in-Value.is c.node.ensures) c.infer-in-Value.ensures.is (took c.in_ok-t-in-Value.was) (rw c.view-in-Value.ensures at c.repr-u-in-Value.ensures) (value_on (rw c.infer-in-Value.ensures.lent.0 at c.value_of.ensures.is))
+infer_kind-returns-in_ok-t-in-Value-clause-is t c = head_arm value_head (rw c.in-Value.is at c.node.ensures) c.infer-in-Value.ensures.is (took c.in_ok-t-in-Value.was) (rw c.view-in-Value.ensures at c.repr-u-in-Value.ensures) (value_on (rw c.infer-in-Value.ensures.lent.0 at c.value_of.ensures.is))
 
 pub infer_kind-subquery-requires : goal.infer_kind-subquery-requires
-infer_kind-subquery-requires t c = let low = (as_node_lem c.in-Subquery.is c.node.ensures).lower in (omega (arith, low.1), (omega (arith, low.0, low.1), low.2))
+infer_kind-subquery-requires t c = let low = (rw c.in-Subquery.is at c.node.ensures).lower in (omega (arith, low.1), omega (arith, low.0, low.1))
 
 pub infer_record-infer-requires : goal.infer_record-infer-requires
-infer_record-infer-requires t c = omega (arith, field_falls _ _ _ c.loop-i-test.true c.field_at-e.ensures)
+infer_record-infer-requires t c = omega (arith, field_falls _ _ _ c.requires c.loop-i-test.true c.field_at-e.ensures)
 
 pub infer_record-loop-i-init : goal.infer_record-loop-i-init
 infer_record-loop-i-init t c = (record_start _ _ _ _ _, (refl, refl, refl, refl, refl))
@@ -462,7 +463,7 @@ pub stmts-loop-at-smaller : goal.stmts-loop-at-smaller
 stmts-loop-at-smaller t c = omega (arith, c.loop-at-test.true, (size_small _ _ c.stmt_size-at.ensures).0)
 
 pub stmts-overflow_add-at : goal.stmts-overflow_add-at
-stmts-overflow_add-at t c = omega (arith, c.requires.1, c.loop-at-test.true, (size_small _ _ c.stmt_size-at.ensures).1)
+stmts-overflow_add-at t c = omega (arith, c.args.body.near, c.loop-at-test.true, (size_small _ _ c.stmt_size-at.ensures).1)
 
 pub stmts-returns-clause-is : goal.stmts-returns-clause-is
 stmts-returns-clause-is t c = stmts_end c.loop-at.invariant.0 c.loop-at-test.false
@@ -471,7 +472,7 @@ pub stmts-returns-in_err-stmt-clause-is : goal.stmts-returns-in_err-stmt-clause-
 stmts-returns-in_err-stmt-clause-is t c = rw c.from_residual.ensures (stmts_out c.loop-at.invariant.0 c.loop-at-test.true (rw c.loop-at.invariant.1.0 at c.stmt.ensures.is) (went_none _ c.in_err-stmt.was))
 
 pub stmts-stmt_size-at-requires : goal.stmts-stmt_size-at-requires
-stmts-stmt_size-at-requires t c = omega (arith, c.requires.1, c.loop-at-test.true)
+stmts-stmt_size-at-requires t c = omega (arith, c.args.body.near, c.loop-at-test.true)
 
 pub subquery-returns-clause-is : goal.subquery-returns-clause-is
 subquery-returns-clause-is t c = subquery_ends c.stmts.ensures.is (went_on c.in_ok-stmts.was) (rw c.stmts.ensures.lent.0 at c.infer.ensures.is) (took c.in_ok-t.was) (rw c.view.ensures at c.word-scope.ensures) (leaves_by c.leave.ensures)

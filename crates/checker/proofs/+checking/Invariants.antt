@@ -85,7 +85,7 @@ abbrev pub invariant-infer_record-loop-i : goal.invariant-infer_record-loop-i
 invariant-infer_record-loop-i l = RecordGoing l.initial.run.file.now l.initial.run.words.now l.initial.run.out.now l.items l.initial.run.left l.from l.run.words.now l.run.out.now l.i l.run.left × Lent l.initial.run l.run
 
 abbrev pub invariant-stmts-loop-at : goal.invariant-stmts-loop-at
-invariant-stmts-loop-at l = StmtsGoing l.initial.run.file.now l.initial.run.words.now l.initial.run.out.now (record { at = l.initial.at; end = l.end; below = l.below }) l.initial.run.left l.run.words.now l.run.out.now l.at l.run.left × Lent l.initial.run l.run
+invariant-stmts-loop-at l = StmtsGoing l.initial.run.file.now l.initial.run.words.now l.initial.run.out.now l.fn.body l.initial.run.left l.run.words.now l.run.out.now l.at l.run.left × Lent l.initial.run l.run
 
 abbrev pub decreases-stmts-loop-at : goal.decreases-stmts-loop-at
 decreases-stmts-loop-at l = l.end - l.at

@@ -2,20 +2,17 @@
 use borrow.Author.Rules.{rules}
 use Rattle.checker.proofs.Callees.{leaves_by}
 use Rattle.state.proofs.Lefts.{took, took_none, went_on, went_none}
-use Rattle.checker.proofs.Querying.{body_lower, queried_as, queried_on, queried_infer_out, queried_head_out, queried_out}
+use Rattle.checker.proofs.Querying.{queried_as, queried_on, queried_infer_out, queried_head_out, queried_out}
 use Rattle.checker.proofs.query.Goals as goal
 
-pub stmts-requires : goal.stmts-requires
-stmts-requires c = (body_lower _ c.query_body-body.ensures.0, c.query_body-body.ensures.1)
-
 pub returns : goal.returns
-returns c = queried_as (queried_on _ c.begin.ensures c.query_head-head.ensures c.query_body-body.ensures.0 c.stmts.ensures.is (went_on c.in_ok-stmts.was) (rw c.stmts.ensures.lent.0 at c.check_head.ensures.is) (went_on c.in_ok-check_head.was) (rw (c.check_head.ensures.lent.0, c.stmts.ensures.lent.0) at c.infer.ensures.is) (took c.in_ok-infer.was) (leaves_by c.leave.ensures) (search rules) (search rules)) (search rules) (search rules)
+returns c = queried_as (queried_on _ c.begin.ensures c.query_head-head.ensures c.query_body-body.ensures c.stmts.ensures.is (went_on c.in_ok-stmts.was) (rw c.stmts.ensures.lent.0 at c.check_head.ensures.is) (went_on c.in_ok-check_head.was) (rw (c.check_head.ensures.lent.0, c.stmts.ensures.lent.0) at c.infer.ensures.is) (took c.in_ok-infer.was) (leaves_by c.leave.ensures) (search rules) (search rules)) (search rules) (search rules)
 
 pub returns-in_err-infer : goal.returns-in_err-infer
-returns-in_err-infer c = rw c.from_residual-in_err-infer.ensures (queried_as (queried_infer_out _ c.begin.ensures c.query_head-head.ensures c.query_body-body.ensures.0 c.stmts.ensures.is (went_on c.in_ok-stmts.was) (rw c.stmts.ensures.lent.0 at c.check_head.ensures.is) (went_on c.in_ok-check_head.was) (rw (c.check_head.ensures.lent.0, c.stmts.ensures.lent.0) at c.infer.ensures.is) (took_none _ c.in_err-infer.was) (search rules) (search rules)) (search rules) (search rules))
+returns-in_err-infer c = rw c.from_residual-in_err-infer.ensures (queried_as (queried_infer_out _ c.begin.ensures c.query_head-head.ensures c.query_body-body.ensures c.stmts.ensures.is (went_on c.in_ok-stmts.was) (rw c.stmts.ensures.lent.0 at c.check_head.ensures.is) (went_on c.in_ok-check_head.was) (rw (c.check_head.ensures.lent.0, c.stmts.ensures.lent.0) at c.infer.ensures.is) (took_none _ c.in_err-infer.was) (search rules) (search rules)) (search rules) (search rules))
 
 pub returns-in_err-check_head : goal.returns-in_err-check_head
-returns-in_err-check_head c = rw c.from_residual-in_err-check_head.ensures (queried_as (queried_head_out _ c.begin.ensures c.query_head-head.ensures c.query_body-body.ensures.0 c.stmts.ensures.is (went_on c.in_ok-stmts.was) (rw c.stmts.ensures.lent.0 at c.check_head.ensures.is) (went_none _ c.in_err-check_head.was) (search rules) (search rules)) (search rules) (search rules))
+returns-in_err-check_head c = rw c.from_residual-in_err-check_head.ensures (queried_as (queried_head_out _ c.begin.ensures c.query_head-head.ensures c.query_body-body.ensures c.stmts.ensures.is (went_on c.in_ok-stmts.was) (rw c.stmts.ensures.lent.0 at c.check_head.ensures.is) (went_none _ c.in_err-check_head.was) (search rules) (search rules)) (search rules) (search rules))
 
 pub returns-in_err-stmts : goal.returns-in_err-stmts
-returns-in_err-stmts c = rw c.from_residual.ensures (queried_as (queried_out _ c.begin.ensures c.query_head-head.ensures c.query_body-body.ensures.0 c.stmts.ensures.is (went_none _ c.in_err-stmts.was) (search rules) (search rules)) (search rules) (search rules))
+returns-in_err-stmts c = rw c.from_residual.ensures (queried_as (queried_out _ c.begin.ensures c.query_head-head.ensures c.query_body-body.ensures c.stmts.ensures.is (went_none _ c.in_err-stmts.was) (search rules) (search rules)) (search rules) (search rules))

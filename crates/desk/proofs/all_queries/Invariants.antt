@@ -5,8 +5,8 @@ use lib.ListN.{length}
 use Rattle.desk.proofs.Telling.{Midway}
 use Rattle.desk.proofs.all_queries.Given as goal
 
-abbrev pub invariant-loop-at : goal.invariant-loop-at
-invariant-loop-at l = (length l.out ≡ length l.initial.out) × Midway l.file l.initial.charged l.initial.work l.initial.out l.work l.out l.at l.k l.page l.charged
+abbrev pub invariant-loop-turn : goal.invariant-loop-turn
+invariant-loop-turn l = (length l.out ≡ length l.initial.out) × Midway l.file l.initial.charged l.initial.work l.initial.out l.work l.out l.turn.at l.turn.k l.turn.page l.charged
 
-abbrev pub decreases-loop-at : goal.decreases-loop-at
-decreases-loop-at l = length l.file - l.at
+abbrev pub decreases-loop-turn : goal.decreases-loop-turn
+decreases-loop-turn l = length l.file - l.turn.at

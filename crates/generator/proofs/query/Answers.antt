@@ -1,11 +1,10 @@
 use Rattle.generator.proofs.Rows.{left_start, left_next, left_full, left_last}
 use Rattle.generator.proofs.Lines.{slots}
-use Rattle.generator.proofs.Nodes.{blocks, query_start, query_next, query_last}
+use Rattle.generator.proofs.Nodes.{query_start, query_next, query_last}
 use Rattle.generator.proofs.query.Goals as goal
 
 pub loop-i-init : goal.loop-i-init
-unfolding blocks
-loop-i-init c = left_start _ _ _ _ (query_start _ c.args.q _ c.choice-v.ensures.value c.choice-v.ensures.upper_bound)
+loop-i-init c = left_start _ _ _ _ (rw (← c.plan-blocks.ensures.count) at (query_start _ c.args.q _ c.choice-v.ensures.value c.choice-v.ensures.upper_bound))
 
 pub returns-in_err-at : goal.returns-in_err-at
 unfolding slots
@@ -19,4 +18,4 @@ loop-i-preserved c = left_next c.loop-i.invariant _ _
 
 pub returns : goal.returns
 returns c = left_last c.loop-i.invariant _
-    (query_last _ c.args.q _ c.choice-v.ensures.value c.choice-v.ensures.upper_bound _ c.loop-i.i c.loop-i-test.false) (rw (c.cells-2.ensures 0) at c.line.ensures)
+    (query_last _ c.args.q _ c.choice-v.ensures.value c.choice-v.ensures.upper_bound _ c.loop-i.i c.loop-i-test.false) (rw (c.plan-blocks.ensures.cells 0) at c.line.ensures)

@@ -1,7 +1,7 @@
 use Rattle.std.proofs.Common.{rules, sym, arith}
 use Rattle.std.proofs.lemmas.List.{length-take-le}
 use Rattle.unification.proofs.Tests.{clash}
-use Rattle.plain.proofs.Running.{less_words, less_unknowns, too_few, stays_as, run_start, run_done, run_stuck, never_out, run_drop, copied_long, run_split_full, run_split, run_bind_none, run_bind_full, run_bind}
+use Rattle.plain.proofs.Running.{less_words, less_unknowns, too_few, stays_as, run_start, run_done, run_stuck, never_out, run_drop, lowered_long, run_split_full, run_split, run_bind_none, run_bind_full, run_bind}
 use Rattle.plain.proofs.turns.Goals as goal
 
 pub loop-rest-init : goal.loop-rest-init
@@ -55,14 +55,14 @@ returns-in_err-b-in-Bind c =
 
 pub loop-rest-smaller-in-Bind : goal.loop-rest-smaller-in-Bind
 loop-rest-smaller-in-Bind c = less_unknowns _ _ (rw c.in_ok-unknowns-in-Bind.ensures.ok_part at c.checked_sub-in-Bind.ensures)
-    (copied_long c.loop-rest.invariant (stays_as c.in_ok-b-in-Bind.ensures.ok_part c.bind.ensures.stays) c.copy_from_slice.ensures.after)
+    (lowered_long c.loop-rest.invariant (stays_as c.in_ok-b-in-Bind.ensures.ok_part c.bind.ensures.stays) c.lower.ensures)
 
 pub loop-rest-preserved-in-Bind : goal.loop-rest-preserved-in-Bind
 loop-rest-preserved-in-Bind c =
     let e = c.in_ok-b-in-Bind.ensures.ok_part in
-    run_bind c.loop-rest.invariant c.in-Bind.ensures c.bind.ensures.lays e c.bind.ensures.stays c.copy_from_slice.ensures.after
+    run_bind c.loop-rest.invariant c.in-Bind.ensures c.bind.ensures.lays e c.bind.ensures.stays c.lower.ensures
     (rw c.in_ok-unknowns-in-Bind.ensures.ok_part at c.checked_sub-in-Bind.ensures).1
-    (copied_long c.loop-rest.invariant (stays_as e c.bind.ensures.stays) c.copy_from_slice.ensures.after)
+    (lowered_long c.loop-rest.invariant (stays_as e c.bind.ensures.stays) c.lower.ensures)
 
 pub returns-in_err-words-in-Split : goal.returns-in_err-words-in-Split
 returns-in_err-words-in-Split c =
@@ -85,4 +85,4 @@ loop-rest-smaller c = less_words _ _ (rw c.in_ok-words-in-Split.ensures.ok_part 
 pub loop-rest-preserved : goal.loop-rest-preserved
 loop-rest-preserved c =
     run_split c.loop-rest.invariant c.in-Split.ensures c.split.ensures.lays c.in_ok-b-in-Split.ensures.ok_part c.split.ensures.stays
-    c.copy_from_slice-in-Split.ensures.after (rw c.in_ok-words-in-Split.ensures.ok_part at c.checked_sub-in-Split.ensures).1
+    c.lower-in-Split.ensures (rw c.in_ok-words-in-Split.ensures.ok_part at c.checked_sub-in-Split.ensures).1

@@ -11,4 +11,4 @@ abbrev pub decreases-all_destructurable : goal.decreases-all_destructurable
 decreases-all_destructurable l = 2 * l.items.below
 
 abbrev pub invariant-all_destructurable-loop-i : goal.invariant-all_destructurable-loop-i
-invariant-all_destructurable-loop-i l = Asking l.run.file.now l.run.words.now l.items l.i
+invariant-all_destructurable-loop-i l = Asking l.f l.w l.items l.i
