@@ -138,7 +138,7 @@ pub fn count(w: &[u32], c: u32) -> u32
     }
 }
 
-// Each is asked without the other: a pair would be taken apart at each call.
+// Each is asked without the other, but for two searches: a pair would be taken apart at each call.
 #[tactic(auto, unfolding(crate::specs::Words::first_w))]
 pub fn first(w: &[u32], c: u32) -> usize
     ensures { (result ≡ first_w w.now c) × (result < 4294967296) }

@@ -126,9 +126,9 @@ fn are_statements(s: &[u8]) -> bool
     true
 }
 
-// The shape, and a predicate's flag, is the file's byte, here and in the two below: unlike a kind it is matched once in
-// each crate, and by other groups in each, so an enum would only be matched once more (`statement_size`, and `parent` of
-// crate tree).
+// The shape, and a predicate's flag, is the file's byte, here and in the two below: nothing but the form is asked of
+// it, and other crates group the shapes otherwise, so an enum would be matched once more (`statement_size`, and `parent`
+// of crate tree).
 #[tactic(auto, using(crate::proofs::Shapes::types))]
 fn type_frame(s: &[u8], edition: Edition) -> bool
     ensures { result ≡ is_frame (edition_of edition) (Some schema_type) (drop 1 s.now) }

@@ -67,7 +67,7 @@ pub trait Part<const SIZE: usize> {
 impl Part<4> for Field {
     const WORDS: usize = 1;
 
-    // `Ty::tag` has it too: a constant can't call it. The law `sizes` ties both tags.
+    // As `Ty::tag` of crate cells has it, which a constant can't call; the law `sizes` ties it to the kind.
     const TAG: u32 = 5;
 
     ghost kind = { Fields };

@@ -171,7 +171,7 @@ pub fn node_at(f: &[u8], w: &[u32], n: u32) -> Node
     }
 }
 
-// The items of a node line of so many bytes; they start at byte 10.
+// The items of a node line of so many bytes; they start at byte 10. `node_at` owes the place, and `Items` has it on.
 fn items_of(at: usize, size: u32, each: u32, below: u32) -> Items
     requires { (0 < each) × (at < 2147483648) }
     ensures { ItemsAre at size each below result }
