@@ -3,7 +3,7 @@
 use mathlib.Core.List.{List, [], ◌∷◌}
 use mathlib.Core.Logic.{◌≢◌}
 use mathlib.Core.Path.{◌≡◌, refl, sym, ◌∙◌, ap}
-use Prim.Native.Nat.{ℕ, zero, suc, ◌+◌, ◌<◌}
+use Prim.Native.Nat.{ℕ, zero, suc, ◌<◌}
 use native.Mathlib.Omega.{arith}
 use lib.ListN.{length}
 use Rattle.unification.specs.Ty as Tree
@@ -29,6 +29,7 @@ use Rattle.messages.specs.Said.{said, OkMessage}
 use Rattle.tree.specs.declared.items.Items.{Items}
 use Rattle.tree.specs.declared.Node.{Node}
 use Rattle.tree.specs.Nodes.{field_w, field_of, fields_from, kind_w, IsNode}
+use Rattle.tree.proofs.Steps.{fields_length}
 use Rattle.steps.specs.Ends.{done, Ends}
 use Rattle.steps.specs.Loads.{Load, only, both, FitsIn, checks, visits, Begins, Beside}
 use Rattle.steps.specs.Promises.{nodes_of, Fine, FineRecord, FineUnion, Notes, Rejects, Named, AllNamed, NodeAt}
@@ -235,17 +236,12 @@ arity d b n [] row c h = refl
 arity d b n (x ∷ []) row c h = absurd (h refl)
 arity d b n (x ∷ y ∷ fs) row c h = refl
 
-fields_length : (f : List ℕ) (l : Items) (i n : ℕ) → length (fields_from f l i n) ≡ n
-unfolding fields_from
-fields_length f l i zero = refl
-fields_length f l i (suc n) = ap suc (fields_length f l (i + 1) n)
-
 pub union_arity : {f w ou w' ou' : List ℕ} {n e left : ℕ} {l : Items} {r : Option ℕ} → l.n ≢ 1
     → Rejects f w ou n (Message.NotOneAlternative l.n) left w' ou' r → ChecksUnion f w ou n l e left w' ou' r
 union_arity {f = f} {n = n} {e = e} {l = l} h R = record {
   is = λ d k fs z at q. record {
     is = λ T c s fine.
-        let long : length fs ≡ l.n = ap length z ∙ fields_length f l 0 l.n in
+        let long : length fs ≡ l.n = ap length z ∙ fields_length f l l.n 0 in
         rw (arity d (below d k) n fs (T e) c (λ p. h (sym long ∙ p)), long) (rejected (suc k) (Message.NotOneAlternative l.n) tt R at.there s);
   };
 }

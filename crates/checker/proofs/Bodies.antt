@@ -4,11 +4,10 @@ use mathlib.Core.Bool.{Bool, true, false}
 use mathlib.Core.List.{List, [], ◌∷◌}
 use mathlib.Core.Logic.{◌⊎◌, inl, inr}
 use mathlib.Core.Path.{◌≡◌, refl, sym, ◌∙◌, ap}
-use Prim.Native.Nat.{ℕ, zero, suc, ◌+◌, ◌-◌, ◌≤◌, ◌<◌}
+use Prim.Native.Nat.{ℕ, suc, ◌+◌, ◌-◌, ◌≤◌, ◌<◌}
 use native.Mathlib.Omega.{arith}
 use lib.Dec.{eqb}
 use lib.ListN.{length, get_or, length-append}
-use borrow.Author.Tests.{lt-ltb, le-ltb}
 use Rattle.unification.proofs.Tests.{clash}
 use Rattle.cells.specs.declared.Ty.{Ty}
 use Rattle.cells.specs.Words.{pick}
@@ -36,6 +35,7 @@ use Rattle.tree.specs.declared.items.Stmts.{Stmts}
 use Rattle.tree.specs.declared.Node.{Node}
 use Rattle.tree.specs.declared.Stmt.{Stmt}
 use Rattle.tree.specs.Nodes.{kind_w, IsNode, statement, stmt_w, stmt_size_w, stmts_from, stmts_w}
+use Rattle.tree.proofs.Below as Below
 use Rattle.steps.specs.Ends.{typed, done, Ends}
 use Rattle.steps.specs.Loads.{Load, only, both, FitsIn, infers, visits, parts, Begins}
 use Rattle.steps.specs.Promises.{nodes_of, only_w, Leaves, Named, AllNamed, Asks}
@@ -321,16 +321,6 @@ stmts_start f w body left = record {
   to = λ d k ss q all T c s. rw (← q) (mid_start (saying_all d k ss c) (saying_all d k ss) s refl);
 }
 
-from_none : (n : ℕ) (f : List ℕ) (at end under : ℕ) → end ≤ at → stmts_from n f at end under ≡ []
-unfolding stmts_from
-from_none zero f at end under h = refl
-from_none (suc n) f at end under h = rw (le-ltb at end h, stmts_from) refl
-
-from_some : (n : ℕ) (f : List ℕ) (at end under : ℕ) → at < end
-    → stmts_from (suc n) f at end under ≡ statement (stmt_w f at under) ∷ stmts_from n f (at + stmt_size_w f at) end under
-unfolding stmts_from
-from_some n f at end under h = rw (lt-ltb at end h, stmts_from) refl
-
 size_some : (f : List ℕ) (at : ℕ) → 1 ≤ stmt_size_w f at
 unfolding stmt_size_w
 size_some f at = go (eqb (digits_w f at) 1) (eqb (digits_w f at) 2)
@@ -344,7 +334,7 @@ module _ {f w₀ ou₀ w ou : List ℕ} {body : Stmts} {left at rest : ℕ} (A :
   pub stmts_end : body.end ≤ at → StatesAll f w₀ ou₀ body left w ou (Some rest)
   stmts_end h = record {
     is = λ d k ss q named. record
-        { is = λ T c s u. stmts_done k (rw (from_none A.fuel f at body.end body.below h) at (A.to d k ss q named T c s)) };
+        { is = λ T c s u. stmts_done k (rw (Below.stmts_done f body.end body.below A.fuel at h) at (A.to d k ss q named T c s)) };
   }
 
   module _ (h : at < body.end) {w' ou' : List ℕ} {r : Option ℕ} (S : States f w ou at body.below rest w' ou' r) where
@@ -353,8 +343,8 @@ module _ {f w₀ ou₀ w ou : List ℕ} {body : Stmts} {left at rest : ℕ} (A :
 
     first_rest : stmts_from A.fuel f at body.end body.below ≡ statement (stmt_w f at body.below) ∷ stmts_from less f (at + stmt_size_w f at)
         body.end body.below
-    first_rest = let e : A.fuel ≡ suc (A.fuel - 1) = omega (arith, A.enough) in ap (λ n. stmts_from n f at body.end body.below) e ∙ from_some
-        (A.fuel - 1) f at body.end body.below h
+    first_rest = let e : A.fuel ≡ suc (A.fuel - 1) = omega (arith, A.enough) in ap (λ n. stmts_from n f at body.end body.below) e
+        ∙ Below.stmts_next f body.end body.below (A.fuel - 1) at h
 
     both_named : (d : Described) (k : ℕ) → AllNamed d k (stmt_nodes (stmts_w f body))
         → AllNamed d k (stmt_nodes (statement (stmt_w f at body.below) ∷ [])) × AllNamed d k

@@ -7,34 +7,29 @@ use native.Mathlib.Omega.{arith}
 use lib.ListN.{get_or}
 use Rattle.work.specs.Layout.{UNKNOWNS, ENV-LEN, MARK-COUNT, UNDO-LEN}
 use Rattle.cells.specs.declared.Ty.{Ty}
-use Rattle.cells.specs.declared.TyError.{TyError}
 use Rattle.cells.specs.Promises.{FindsName}
 use Rattle.cells.specs.Words.{annotate_w, fresh_w}
 use Rattle.meaning.specs.Syntax.{FieldRef}
 use Rattle.meaning.specs.Check as Check
 use Rattle.messages.specs.declared.Message.{Message}
-use Rattle.messages.specs.Said.{report_message}
 use Rattle.state.specs.Words.{leave_w}
 use Rattle.state.specs.Lines.{Rejected}
 use Rattle.tree.specs.declared.items.Items.{Items}
 use Rattle.tree.specs.declared.Field.{Field}
 use Rattle.tree.specs.declared.Stmt.{Stmt}
-use Rattle.tree.specs.Nodes.{LowerItems, item_w, field_w, stmt_w, stmt_size_w}
+use Rattle.tree.specs.Nodes.{LowerItems, item_w, stmt_w, stmt_size_w}
 use Rattle.tree.proofs.Below.{stmt_size}
-use Rattle.tree.proofs.Steps.{field_lower, item_lower, LowerStmt, stmt_lower}
-use Rattle.steps.specs.Promises.{nodes_of, Rejects, Notes, Freshens, Reports, RollsTo, Leaves, KeyIs, OnType}
+use Rattle.tree.proofs.Steps.{item_lower, LowerStmt, stmt_lower}
+use Rattle.steps.specs.Promises.{nodes_of, Rejects, Notes, Freshens, RollsTo, Leaves, KeyIs, OnType}
 use Rattle.steps.specs.declared.Mark.{Mark}
 use Rattle.steps.specs.Outside.{key_ty_w, Takes, Rewinds, KeyOf, ValueOf}
 use Rattle.steps.proofs.Ending.{rejects, notes, freshens}
 use Rattle.steps.proofs.Looking.{key_is}
-use Rattle.steps.proofs.Besides.{reports, rolls, leaves}
+use Rattle.steps.proofs.Besides.{rolls, leaves}
 use Rattle.checker.specs.Promises.{Checks, Generates, Mentions}
 use Rattle.checker.proofs.Alls.{Turn}
 use Rattle.std.specs.Prelude.{Option, ℕ}
 use Rattle.cells.specs.declared.Part.{Part}
-
-pub rejects_by : {f w ou w' ou' : List ℕ} {n left : ℕ} {m : Message} {r : Option ℕ} → Rejected f w ou n m left w' ou' r → Rejects f w ou n m left w' ou' r
-rejects_by {f} {w} {n = n} {left = left} {m = m} x = rejects f w n m left x
 
 pub notes_by : {f w ou w' : List ℕ} {n left : ℕ} {t : Ty} → w' ≡ annotate_w w n t → Notes f w ou n t left w' ou
 notes_by {f} {w} {ou} {w'} {n} {left} {t} e = subst (λ (v : List ℕ). Notes f w ou n t left v ou) (sym e) (notes f w n t left)
@@ -42,10 +37,6 @@ notes_by {f} {w} {ou} {w'} {n} {left} {t} e = subst (λ (v : List ℕ). Notes f 
 pub freshens_by : {f w ou w' : List ℕ} {left x : ℕ} → (x ≡ get_or w UNKNOWNS 0) × (w' ≡ fresh_w w) → Freshens f w ou left w' ou x
 freshens_by {f} {w} {ou} {w'} {left} {x} e =
     subst (λ (v : List ℕ). Freshens f w ou left v ou x) (sym e.1) (subst (λ (y : ℕ). Freshens f w ou left (fresh_w w) ou y) (sym e.0) (freshens f w left))
-
-pub reports_by : {f w ou w' ou' : List ℕ} {n left : ℕ} {r : Option ℕ} (err : TyError) → Rejected f w ou n (report_message err) left w' ou' r
-    → Reports f w ou n err left w' ou' r
-reports_by {f} {w} {n = n} {left = left} err x = reports f w n err left x
 
 pub rolls_by : {f w ou w₀ w' : List ℕ} {m : Mark} → Takes w₀ m → Rewinds w m w'
     → RollsTo f w ou (get_or w₀ UNDO-LEN 0) (get_or w₀ ENV-LEN 0) (get_or w₀ MARK-COUNT 0) w' ou
@@ -78,9 +69,6 @@ items_some low h = omega (arith, low.some h, low.below)
 pub item_falls : (f : List ℕ) (l : Items) (i : ℕ) {e : ℕ} → (0 < l.n → 0 < l.below) → i < l.n → e ≡ item_w f l i → e < l.below
 item_falls f l i some h q = rw q (item_lower f l i (some (omega arith)))
 
-pub field_falls : (f : List ℕ) (l : Items) (i : ℕ) {e : Field} → (0 < l.n → 0 < l.below) → i < l.n → e ≡ field_w f l i → e.value < l.below
-field_falls f l i some h q = rw q (field_lower f l i (some (omega arith)))
-
 pub stmt_falls : (f : List ℕ) (at : ℕ) {n : ℕ} {s s' : Stmt} → 0 < n → s ≡ stmt_w f at n → s ≡ s' → LowerStmt n s'
 stmt_falls f at {n} h p q = subst (λ (x : Stmt). LowerStmt n x) (sym p ∙ q) (stmt_lower f at n h)
 
@@ -108,7 +96,7 @@ finds_at {w} {c} {found = found} q u = subst (λ (z : Field). FindsName w c z.na
 -- the alternative that the field names
 pub unknown_at : {f w ou w' ou' : List ℕ} {n left : ℕ} {r : Option ℕ} {x y : Field} → x ≡ y
     → Rejected f w ou n (Message.NoAlternative x.name) left w' ou' r → Rejects f w ou n (Message.NoAlternative y.name) left w' ou' r
-unknown_at {f} {w} {ou} {w'} {ou'} {n} {left} {r} q u = rejects_by
+unknown_at {f} {w} {ou} {w'} {ou'} {n} {left} {r} q u = rejects _ _ _ _ _
     (subst (λ (z : Field). Rejected f w ou n (Message.NoAlternative z.name) left w' ou' r) q u)
 
 pub size_small : (f : List ℕ) (at : ℕ) {s : ℕ} → s ≡ stmt_size_w f at → (6 ≤ s) × (s ≤ 10)

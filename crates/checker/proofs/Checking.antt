@@ -36,6 +36,7 @@ use Rattle.steps.specs.Promises.{nodes_of, Fine, UnifiesTo, Reports, RollsTo, Na
 use Rattle.checker.specs.Promises.{below, Infers, InfersThenUnifies, Checks}
 use Rattle.checker.proofs.Within.{ChecksField}
 use Rattle.steps.proofs.Growing.{ok_kept}
+use Rattle.steps.proofs.Uniting.{then_one}
 use Rattle.steps.proofs.Sequel.{begins_part, begins_after, gone_trans, gone_on, holds_left, Led, led, then_ends, stop_ends}
 use Rattle.steps.proofs.Results.{After, with_visits, fine_after, tree_after, got_same, on_here, then_typed, stop_typed, then_done, stop_done, silent_on}
 use Rattle.checker.proofs.Inferring.{good}
@@ -96,9 +97,6 @@ carried x i (spent g) = absurd g.is.0
 checks_fits : (d : Described) (k n : ℕ) → FitsIn (both (infers (nodes_of d) k n) (only one_diagnostic)) (checks (nodes_of d) k n)
 checks_fits d k n = record { grade = omega (arith, size_pos (nodes_of d) k n); records = omega arith; fields = omega arith }
 
-unify_fits : FitsIn (both (only no_thing) (only one_diagnostic)) (only one_diagnostic)
-unify_fits = record { grade = omega arith; records = omega arith; fields = omega arith }
-
 -- What follows a unification.
 abbrev following : Described → ℕ → Mark → Option Unify.TyError → Does (Unit {0})
 following d n m None c = goes tt c
@@ -155,7 +153,7 @@ module _ {f w ou w₁ ou₁ : List ℕ} {n left : ℕ} {t : Ty} {r : Option (Ty 
             (λ ty b. and_then (unify ty (tree T t) b) (following d n (mark_of c))) g s (λ y. (good s (suc k)).infer n c s.orderly y)
             (λ s₁. (I.is d (suc k) (visited at)).is T c s₁ tt)
             (λ T₁ b a fine₁. let fine₂ = fine_after a t fine in
-            then_ends (only no_thing) (only one_diagnostic) (only one_diagnostic) unify_fits Nothing (unify (tree T₁ u) (tree T t) b)
+            then_ends (only no_thing) (only one_diagnostic) (only one_diagnostic) then_one Nothing (unify (tree T₁ u) (tree T t) b)
             (following d n (mark_of c)) (λ o. clash (cc (z, o))) a.begins
             (λ y. rw (← tree_after a t fine.ok) (unify_meets (tree T₁ u) (tree T₁ t) b a.begins.orderly fine₁.side fine₂.side))
             (unify_ends a fine fine₁)
@@ -176,7 +174,7 @@ module _ {f w ou w₁ ou₁ : List ℕ} {n left : ℕ} {t : Ty} {r : Option (Ty 
             (checks_fits d (suc k) n) ((below d (suc k)).infer n c)
             (λ ty b. and_then (unify ty (tree T t) b) (following d n (mark_of c))) g s (λ y. (good s (suc k)).infer n c s.orderly y)
             (λ s₁. (I.is d (suc k) (visited at)).is T c s₁ tt)
-            (λ T₁ b a fine₁. stop_ends (only no_thing) (only one_diagnostic) (only one_diagnostic) unify_fits (unify (tree T₁ u) (tree T t) b)
+            (λ T₁ b a fine₁. stop_ends (only no_thing) (only one_diagnostic) (only one_diagnostic) then_one (unify (tree T₁ u) (tree T t) b)
             (following d n (mark_of c)) (λ R o v i. unsucceeded R o v i) (λ o. refl) a.begins (unify_ends a fine fine₁)));
       };
     }
@@ -247,7 +245,7 @@ module _ {f w ou w₁ ou₁ : List ℕ} {n left : ℕ} {t : Ty} {r : Option (Ty 
               failing k at s fine L (rw (← i.1) (led (only no_thing) Nothing (λ o. clash (cc (z, o)))
               (rw (← tree_after a t fine.ok) (unify_meets (tree L.gone.T' u) (tree L.gone.T' t) L.b s₂.orderly fine₁.side fine₂.side))
               (unify_ends a fine fine₁ (begins_part (only no_thing) (only one_diagnostic)
-              (holds_left (only no_thing) (only one_diagnostic) (only one_diagnostic) unify_fits) s₂))))
+              (holds_left (only no_thing) (only one_diagnostic) (only one_diagnostic) then_one) s₂))))
 
 -- ---- A field in a scope of its own
 -- Whether a diagnostic arose.

@@ -41,7 +41,7 @@ use Rattle.std.specs.Prelude.{Bool, Err, None, Ok, Option, Result, Some, true, â
 use Rattle.cells.specs.declared.Failure.{Failure}
 
 -- A step that makes nothing, and then one diagnostic at most.
-then_one : FitsIn (both (only no_thing) (only one_diagnostic)) (only one_diagnostic)
+pub then_one : FitsIn (both (only no_thing) (only one_diagnostic)) (only one_diagnostic)
 then_one = record {
   grade = record { nodes = Î» x. omega arith; unknowns = omega arith; diagnostics = omega arith };
   records = omega arith;

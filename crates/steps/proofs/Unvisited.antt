@@ -158,13 +158,13 @@ field_lower : (f : List ℕ) (l : Items) (i : ℕ) → (0 < l.n → 0 < l.below)
 unfolding field_w
 field_lower f l i low h = lower_below _ _ (λ z. omega (arith, low (omega arith)))
 
+pub field_falls : (f : List ℕ) (l : Items) (i : ℕ) {e : Field} → (0 < l.n → 0 < l.below) → i < l.n → e ≡ field_w f l i → e.value < l.below
+field_falls f l i low h q = rw q (field_lower f l i low h)
+
 module _ {f w : List ℕ} {l : Items} {i : ℕ} (A : Asking f w l i) where
   pub asking_done : l.n ≤ i → AsksAll f w l true
   unfolding all_fields
   asking_done h = record { is = λ T d c s R few k above. sym (A.is T d c s R few k above ∙ rw (fields_none f l i h) refl) }
-
-  pub field_falls : (0 < l.n → 0 < l.below) → i < l.n → {e : Field} → e ≡ field_w f l i → e.value < l.below
-  field_falls low h q = rw q (field_lower f l i low h)
 
   module _ (low : 0 < l.n → 0 < l.below) (h : i < l.n) {e : Field} (q : e ≡ field_w f l i) {b : Bool} (D : Asks f w e.value b) where
     asked : {T : Rows} {d : Described} {c : Checker} → Sound d → Runs f w T d c → l.below ≤ length (nodes_of d) → (k : ℕ) → l.below ≤ k

@@ -5,10 +5,12 @@ use mathlib.Core.Path.{refl, sym, ap, ◌∙◌}
 use Rattle.cells.specs.Words.{tag_w}
 use Rattle.meaning.specs.Check.{form_of}
 use Rattle.tree.specs.Nodes.{kind_w}
-use Rattle.steps.proofs.Ending.{brings}
+use Rattle.steps.proofs.Ending.{rejects, brings}
+use Rattle.steps.proofs.Besides.{reports}
+use Rattle.steps.proofs.Unvisited.{field_falls}
 use Rattle.steps.proofs.Forms.{constant_form}
 use Rattle.state.proofs.Lefts.{took, took_none, went_on, went_none, succeeded, failed, ended}
-use Rattle.checker.proofs.Callees.{rejects_by, notes_by, freshens_by, reports_by, rolls_by, leaves_by, key_by, key_on, value_on, items_some, item_falls, field_falls, stmt_falls, alone_falls, size_small, turn_at, generates_at, mentions_at, checks_at, finds_at, unknown_at}
+use Rattle.checker.proofs.Callees.{notes_by, freshens_by, rolls_by, leaves_by, key_by, key_on, value_on, items_some, item_falls, stmt_falls, alone_falls, size_small, turn_at, generates_at, mentions_at, checks_at, finds_at, unknown_at}
 use Rattle.checker.proofs.Choosing.{later, denied_later, inferred, deny_target, no_disjunction, no_error, record_whole}
 use Rattle.checker.proofs.Inferring.{infer_typed, infer_out, int_arm, bytes_arm, str_arm, prefix_arm, error_arm, wildcard_arm, never_arm, variable_arm}
 use Rattle.checker.proofs.Arms.{head_arm, head_out, key_head, value_head, select_head, fact_free, fact_on, fact_out, fact_arm, record_arm, subquery_arm, arith_arm, disjunction_arm, fuzzy_arm}
@@ -57,10 +59,10 @@ unfolding kind_w form_of
 bind-returns-in_err-infer-in-Error-clause-is t c = rw c.from_residual-in_err-infer-in-Error.ensures (rw c.in_err-infer-in-Error.was at (bind_error (rw c.in-Error.is at c.node.ensures) refl (only_right_lem c.infer-in-Error.ensures.is)))
 
 pub bind-returns-in_err-infer-in-Int-clause-is : goal.bind-returns-in_err-infer-in-Int-clause-is
-bind-returns-in_err-infer-in-Int-clause-is t c = rw c.from_residual-in_err-infer-in-Int.ensures (rw c.in_err-infer-in-Int.was at (bind_constant c.node.ensures (constant_form _ _ c.in-Int.in-Int-own.keys4) (bad_target_lem (rejects_by c.reject.ensures.is) (went_on c.in_ok-reject-in-Int.was) (rw c.reject.ensures.lent.0 at c.infer-in-Int.ensures.is))))
+bind-returns-in_err-infer-in-Int-clause-is t c = rw c.from_residual-in_err-infer-in-Int.ensures (rw c.in_err-infer-in-Int.was at (bind_constant c.node.ensures (constant_form _ _ c.in-Int.in-Int-own.keys4) (bad_target_lem (rejects _ _ _ _ _ c.reject.ensures.is) (went_on c.in_ok-reject-in-Int.was) (rw c.reject.ensures.lent.0 at c.infer-in-Int.ensures.is))))
 
 pub bind-returns-in_err-reject-in-Int-clause-is : goal.bind-returns-in_err-reject-in-Int-clause-is
-bind-returns-in_err-reject-in-Int-clause-is t c = rw c.from_residual-in_err-reject-in-Int.ensures (bind_constant c.node.ensures (constant_form _ _ c.in-Int.in-Int-own.keys4) (bad_target_out (rejects_by c.reject.ensures.is) (went_none _ c.in_err-reject-in-Int.was)))
+bind-returns-in_err-reject-in-Int-clause-is t c = rw c.from_residual-in_err-reject-in-Int.ensures (bind_constant c.node.ensures (constant_form _ _ c.in-Int.in-Int-own.keys4) (bad_target_out (rejects _ _ _ _ _ c.reject.ensures.is) (went_none _ c.in_err-reject-in-Int.was)))
 
 pub bind-returns-in_err-t-in-Wildcard-clause-is : goal.bind-returns-in_err-t-in-Wildcard-clause-is
 unfolding kind_w form_of
@@ -71,7 +73,7 @@ unfolding kind_w form_of
 bind-returns-in_ok-infer-in-Error-clause-is t c = rw c.in_ok-infer-in-Error.was at (bind_error (rw c.in-Error.is at c.node.ensures) refl (only_right_lem c.infer-in-Error.ensures.is))
 
 pub bind-returns-in_ok-infer-in-Int-clause-is : goal.bind-returns-in_ok-infer-in-Int-clause-is
-bind-returns-in_ok-infer-in-Int-clause-is t c = rw c.in_ok-infer-in-Int.was at (bind_constant c.node.ensures (constant_form _ _ c.in-Int.in-Int-own.keys4) (bad_target_lem (rejects_by c.reject.ensures.is) (went_on c.in_ok-reject-in-Int.was) (rw c.reject.ensures.lent.0 at c.infer-in-Int.ensures.is)))
+bind-returns-in_ok-infer-in-Int-clause-is t c = rw c.in_ok-infer-in-Int.was at (bind_constant c.node.ensures (constant_form _ _ c.in-Int.in-Int-own.keys4) (bad_target_lem (rejects _ _ _ _ _ c.reject.ensures.is) (went_on c.in_ok-reject-in-Int.was) (rw c.reject.ensures.lent.0 at c.infer-in-Int.ensures.is)))
 
 pub bind-returns-in_ok-t-in-Wildcard-clause-is : goal.bind-returns-in_ok-t-in-Wildcard-clause-is
 unfolding kind_w form_of
@@ -141,7 +143,7 @@ pub check_field-returns-else-before-word-clause-is : goal.check_field-returns-el
 check_field-returns-else-before-word-clause-is t c = mentions_field (rw c.view.ensures at c.find_key.ensures) c.in-Some.is (field_kept c.check.ensures.is (went_on c.in_ok-check.was) (omega (arith, rw c.view-2.ensures at c.word-before.ensures, rw c.view-4.ensures at c.word.ensures, c.if-before-word.false)))
 
 pub check_field-returns-in_default-clause-is : goal.check_field-returns-in_default-clause-is
-check_field-returns-in_default-clause-is t c = mentions_none (rw c.view.ensures at c.find_key.ensures) c.in_default.is (rejects_by c.reject.ensures.is)
+check_field-returns-in_default-clause-is t c = mentions_none (rw c.view.ensures at c.find_key.ensures) c.in_default.is (rejects _ _ _ _ _ c.reject.ensures.is)
 
 pub check_field-returns-in_err-check-clause-is : goal.check_field-returns-in_err-check-clause-is
 check_field-returns-in_err-check-clause-is t c = rw c.from_residual.ensures (mentions_field (rw c.view.ensures at c.find_key.ensures) c.in-Some.is (field_out c.check.ensures.is (went_none _ c.in_err-check.was)))
@@ -180,7 +182,7 @@ pub check_union-returns-in_err-check-clause-is : goal.check_union-returns-in_err
 check_union-returns-in_err-check-clause-is t c = rw c.from_residual.ensures (union_out c.if-items-ne1.false (finds_at c.field_at-e.ensures (rw c.view.ensures at c.find_name.ensures)) c.in-Some.is (checks_at c.field_at-e.ensures c.check.ensures.is) (went_none _ c.in_err-check.was))
 
 pub check_union-returns-then-items-ne1-clause-is : goal.check_union-returns-then-items-ne1-clause-is
-check_union-returns-then-items-ne1-clause-is t c = union_arity c.if-items-ne1.true (rejects_by c.reject.ensures.is)
+check_union-returns-then-items-ne1-clause-is t c = union_arity c.if-items-ne1.true (rejects _ _ _ _ _ c.reject.ensures.is)
 
 pub compare-returns-clause-is : goal.compare-returns-clause-is
 compare-returns-clause-is t c = compare_types_lem ((c.introduce_side.ensures.is.is _).is _) (((rw c.introduce_side.ensures.lent.0 at c.introduce_side-2.ensures.is).is _).is _) (rw (c.introduce_side-2.ensures.lent.0, c.introduce_side.ensures.lent.0, c.introduce_side-2.ensures.out, c.introduce_side.ensures.out, c.introduce_side-2.ensures.left, c.introduce_side.ensures.left) at c.infer.ensures.is) (took c.in_ok-a.was) (rw (c.infer.ensures.lent.0, c.introduce_side-2.ensures.lent.0, c.introduce_side.ensures.lent.0) at c.infer-2.ensures.is) (took c.in_ok-b.was) (rw (c.infer-2.ensures.lent.0, c.infer.ensures.lent.0, c.introduce_side-2.ensures.lent.0, c.introduce_side.ensures.lent.0) at c.compare_types.ensures.is)
@@ -214,17 +216,17 @@ unfolding kind_w form_of
 deny-returns-in_err-infer-in-Error-clause-is t c = rw c.from_residual-in_err-infer-in-Error.ensures (rw c.in_err-infer-in-Error.was at (deny_error (rw c.in-Error.is at c.node.ensures) refl (only_right_lem c.infer-in-Error.ensures.is)))
 
 pub deny-returns-in_err-infer-in-Wildcard-clause-is : goal.deny-returns-in_err-infer-in-Wildcard-clause-is
-deny-returns-in_err-infer-in-Wildcard-clause-is t c = rw c.from_residual-in_err-infer-in-Wildcard.ensures (rw c.in_err-infer-in-Wildcard.was at (deny_target c.in-Wildcard.in-Wildcard-own.keys2 c.node.ensures (bad_target_lem (rejects_by c.reject.ensures.is) (went_on c.in_ok-reject-in-Wildcard.was) (rw c.reject.ensures.lent.0 at c.infer.ensures.is))))
+deny-returns-in_err-infer-in-Wildcard-clause-is t c = rw c.from_residual-in_err-infer-in-Wildcard.ensures (rw c.in_err-infer-in-Wildcard.was at (deny_target c.in-Wildcard.in-Wildcard-own.keys2 c.node.ensures (bad_target_lem (rejects _ _ _ _ _ c.reject.ensures.is) (went_on c.in_ok-reject-in-Wildcard.was) (rw c.reject.ensures.lent.0 at c.infer.ensures.is))))
 
 pub deny-returns-in_err-reject-in-Wildcard-clause-is : goal.deny-returns-in_err-reject-in-Wildcard-clause-is
-deny-returns-in_err-reject-in-Wildcard-clause-is t c = rw c.from_residual.ensures (deny_target c.in-Wildcard.in-Wildcard-own.keys2 c.node.ensures (bad_target_out (rejects_by c.reject.ensures.is) (went_none _ c.in_err-reject-in-Wildcard.was)))
+deny-returns-in_err-reject-in-Wildcard-clause-is t c = rw c.from_residual.ensures (deny_target c.in-Wildcard.in-Wildcard-own.keys2 c.node.ensures (bad_target_out (rejects _ _ _ _ _ c.reject.ensures.is) (went_none _ c.in_err-reject-in-Wildcard.was)))
 
 pub deny-returns-in_ok-infer-in-Error-clause-is : goal.deny-returns-in_ok-infer-in-Error-clause-is
 unfolding kind_w form_of
 deny-returns-in_ok-infer-in-Error-clause-is t c = rw c.in_ok-infer-in-Error.was at (deny_error (rw c.in-Error.is at c.node.ensures) refl (only_right_lem c.infer-in-Error.ensures.is))
 
 pub deny-returns-in_ok-infer-in-Wildcard-clause-is : goal.deny-returns-in_ok-infer-in-Wildcard-clause-is
-deny-returns-in_ok-infer-in-Wildcard-clause-is t c = rw c.in_ok-infer-in-Wildcard.was at (deny_target c.in-Wildcard.in-Wildcard-own.keys2 c.node.ensures (bad_target_lem (rejects_by c.reject.ensures.is) (went_on c.in_ok-reject-in-Wildcard.was) (rw c.reject.ensures.lent.0 at c.infer.ensures.is)))
+deny-returns-in_ok-infer-in-Wildcard-clause-is t c = rw c.in_ok-infer-in-Wildcard.was at (deny_target c.in-Wildcard.in-Wildcard-own.keys2 c.node.ensures (bad_target_lem (rejects _ _ _ _ _ c.reject.ensures.is) (went_on c.in_ok-reject-in-Wildcard.was) (rw c.reject.ensures.lent.0 at c.infer.ensures.is)))
 
 pub destructure-returns-clause-is : goal.destructure-returns-clause-is
 destructure-returns-clause-is t c = destructure_unified c.infer.ensures.is (took c.in_ok-pattern.was) (rw c.infer.ensures.lent.0 at c.infer-2.ensures.is) (took c.in_ok-value.was) (rw (c.infer-2.ensures.lent.0, c.infer.ensures.lent.0) at c.unify_at.ensures.is)
@@ -397,7 +399,7 @@ pub infer_record-returns-then-from-gt-RECORD_FIELDS-clause-is : goal.infer_recor
 infer_record-returns-then-from-gt-RECORD_FIELDS-clause-is t c = record_full c.reserve-from.ensures.0 (omega arith)
 
 pub infer_then_unify-returns-in-Err-clause-is : goal.infer_then_unify-returns-in-Err-clause-is
-infer_then_unify-returns-in-Err-clause-is t c = unify_bad c.infer.ensures.is (took c.in_ok-t.was) (c.unify_outside.ensures.is.is _ _) (failed c.in_ok-unify_outside.was _ c.in-Err.is) (rolls_by (rw c.view.ensures at c.snapshot-at.ensures) c.rollback.ensures) (rw (c.unify_outside.ensures.lent.0, c.infer.ensures.lent.0, c.unify_outside.ensures.out) at (reports_by _ c.report.ensures.is))
+infer_then_unify-returns-in-Err-clause-is t c = unify_bad c.infer.ensures.is (took c.in_ok-t.was) (c.unify_outside.ensures.is.is _ _) (failed c.in_ok-unify_outside.was _ c.in-Err.is) (rolls_by (rw c.view.ensures at c.snapshot-at.ensures) c.rollback.ensures) (rw (c.unify_outside.ensures.lent.0, c.infer.ensures.lent.0, c.unify_outside.ensures.out) at (reports _ _ _ _ _ c.report.ensures.is))
 
 pub infer_then_unify-returns-in-Ok-clause-is : goal.infer_then_unify-returns-in-Ok-clause-is
 infer_then_unify-returns-in-Ok-clause-is t c = rw c.unify_outside.ensures.out (unify_good c.infer.ensures.is (took c.in_ok-t.was) (c.unify_outside.ensures.is.is _ _) (succeeded c.in_ok-unify_outside.was c.in-Ok.is))
@@ -412,16 +414,16 @@ pub not_yet-infer-requires : goal.not_yet-infer-requires
 not_yet-infer-requires t c = omega arith
 
 pub not_yet-returns-clause-is : goal.not_yet-returns-clause-is
-not_yet-returns-clause-is t c = rw c.in_ok-infer-2.was at (not_yet_lem (rejects_by c.reject.ensures.is) (went_on c.in_ok-reject.was) (rw c.reject.ensures.lent.0 at c.infer.ensures.is) (took c.in_ok-infer.was) (rw (c.infer.ensures.lent.0, c.reject.ensures.lent.0) at c.infer-2.ensures.is))
+not_yet-returns-clause-is t c = rw c.in_ok-infer-2.was at (not_yet_lem (rejects _ _ _ _ _ c.reject.ensures.is) (went_on c.in_ok-reject.was) (rw c.reject.ensures.lent.0 at c.infer.ensures.is) (took c.in_ok-infer.was) (rw (c.infer.ensures.lent.0, c.reject.ensures.lent.0) at c.infer-2.ensures.is))
 
 pub not_yet-returns-in_err-infer-2-clause-is : goal.not_yet-returns-in_err-infer-2-clause-is
-not_yet-returns-in_err-infer-2-clause-is t c = rw c.from_residual-in_err-infer-2.ensures (rw c.in_err-infer-2.was at (not_yet_lem (rejects_by c.reject.ensures.is) (went_on c.in_ok-reject.was) (rw c.reject.ensures.lent.0 at c.infer.ensures.is) (took c.in_ok-infer.was) (rw (c.infer.ensures.lent.0, c.reject.ensures.lent.0) at c.infer-2.ensures.is)))
+not_yet-returns-in_err-infer-2-clause-is t c = rw c.from_residual-in_err-infer-2.ensures (rw c.in_err-infer-2.was at (not_yet_lem (rejects _ _ _ _ _ c.reject.ensures.is) (went_on c.in_ok-reject.was) (rw c.reject.ensures.lent.0 at c.infer.ensures.is) (took c.in_ok-infer.was) (rw (c.infer.ensures.lent.0, c.reject.ensures.lent.0) at c.infer-2.ensures.is)))
 
 pub not_yet-returns-in_err-infer-clause-is : goal.not_yet-returns-in_err-infer-clause-is
-not_yet-returns-in_err-infer-clause-is t c = rw c.from_residual-in_err-infer.ensures (not_yet_out (rejects_by c.reject.ensures.is) (went_on c.in_ok-reject.was) (rw c.reject.ensures.lent.0 at c.infer.ensures.is) (took_none _ c.in_err-infer.was))
+not_yet-returns-in_err-infer-clause-is t c = rw c.from_residual-in_err-infer.ensures (not_yet_out (rejects _ _ _ _ _ c.reject.ensures.is) (went_on c.in_ok-reject.was) (rw c.reject.ensures.lent.0 at c.infer.ensures.is) (took_none _ c.in_err-infer.was))
 
 pub not_yet-returns-in_err-reject-clause-is : goal.not_yet-returns-in_err-reject-clause-is
-not_yet-returns-in_err-reject-clause-is t c = rw c.from_residual.ensures (not_yet_stops (rejects_by c.reject.ensures.is) (went_none _ c.in_err-reject.was))
+not_yet-returns-in_err-reject-clause-is t c = rw c.from_residual.ensures (not_yet_stops (rejects _ _ _ _ _ c.reject.ensures.is) (went_none _ c.in_err-reject.was))
 
 pub stmt-bind-requires : goal.stmt-bind-requires
 stmt-bind-requires t c = let low = stmt_falls _ _ c.requires.0 c.stmt_at.ensures c.in-Bind.is in omega (arith, low.0, low.1)

@@ -10,7 +10,7 @@ pub all_destructurable-loop-i-init : goal.all_destructurable-loop-i-init
 all_destructurable-loop-i-init t c = asking_start _ _ _
 
 pub all_destructurable-destructurable-requires : goal.all_destructurable-destructurable-requires
-all_destructurable-destructurable-requires t c = omega (arith, field_falls c.loop-i.invariant c.requires c.loop-i-test.true c.field_at-e.ensures)
+all_destructurable-destructurable-requires t c = omega (arith, field_falls _ _ _ c.requires c.loop-i-test.true c.field_at-e.ensures)
 
 pub all_destructurable-returns-then-not-destructurable : goal.all_destructurable-returns-then-not-destructurable
 all_destructurable-returns-then-not-destructurable t c = asking_stops c.loop-i.invariant c.requires c.loop-i-test.true c.field_at-e.ensures c.destructurable.ensures (ap not c.if-not-destructurable.true)
