@@ -190,7 +190,7 @@ impl Show {
             }
             Err(fault) => return Err(format!("{}: {fault}", self.file)),
         };
-        let file = File::parse(&bytes).map_err(|fault| format!("{}: {fault}", self.file))?;
+        let file = File::parse(&bytes).map_err(|fault| no_file(&self.file, &bytes, &fault))?;
         let nodes = file.queries.iter().map(|query| query.nodes.len());
         if !nodes.eq(answer.queries.iter().map(|query| query.types.len())) {
             return Err(format!("{}: the answer is another file's", self.file));
@@ -231,15 +231,27 @@ fn assemble(path: &str) -> Result<u8, String> {
 
 fn disassemble(path: &str) -> Result<u8, String> {
     let bytes = read(path)?;
-    let file = File::parse(&bytes).map_err(|fault| format!("{path}: {fault}"))?;
+    let file = File::parse(&bytes).map_err(|fault| no_file(path, &bytes, &fault))?;
     let text = notation::disassemble(&file);
     match notation::assemble(&text) {
         Ok(again) if again.write() == bytes => said(&text),
-        _ => Err(match sigla::answer(&bytes) {
-            Err(Failure::Refused(refusal)) => format!("{path}: the notation has no words for it; {refusal}"),
-            _ => format!("{path}: the notation has no words for it"),
-        }),
+        _ => {
+            let place = sigla::refused_line(&bytes).map_or(String::new(), |line| format!(":{line}:1"));
+            Err(match sigla::answer(&bytes) {
+                Err(Failure::Refused(refusal)) => format!("{path}{place}: the notation has no words for it; {refusal}"),
+                _ => format!("{path}{place}: the notation has no words for it"),
+            })
+        }
     }
+}
+
+/// What is no file, with its line and the column of the first byte that is no digit, or after the last of an odd number of digits; of
+/// another fault column 1.
+fn no_file(path: &str, bytes: &[u8], fault: &sigla::NoFile) -> String {
+    let line = bytes.split(|&byte| byte == b'\n').nth(fault.line - 1).unwrap_or(b"");
+    let digits = line.iter().take_while(|byte| matches!(byte, b'0'..=b'9' | b'a'..=b'f')).count();
+    let column = if fault.what == "not hexadecimal" { digits + 1 } else { 1 };
+    format!("{path}:{}:{column}: {}", fault.line, fault.what)
 }
 
 /// A bar on standard error, if that is a terminal.

@@ -150,13 +150,18 @@ fn what_is_taken_apart_is_put_together_again() {
 #[test]
 fn what_the_notation_has_no_words_for_is_told() {
     for (file, fault) in [
-        (&b"01020020\n0278\n0278\n05000000000000000000\n060000\n"[..], "-: the notation has no words for it; refused (8)"),
-        (b"01020020\n050000000000000000030007\n060000\n", "-: the notation has no words for it; refused (9)"),
-        (b"01020020\n05000000000000000000\n060007\n", "-: the notation has no words for it; refused (9)"),
+        (&b"01020020\n0278\n0278\n05000000000000000000\n060000\n"[..], "-:3:1: the notation has no words for it; refused (8)"),
+        (b"01020020\n050000000000000000030007\n060000\n", "-:2:1: the notation has no words for it; refused (9)"),
+        (b"01020020\n05000000000000000000\n060007\n", "-:3:1: the notation has no words for it; refused (9)"),
         (b"01020020\n05000000000000000000\n", "-: the notation has no words for it; refused (4)"),
-        (b"01020020\n0300\n0278\n05000000000000000000\n060000\n", "-: the notation has no words for it; refused (4)"),
-        (b"01020020\n0511\n", "-: line 2: not a frame of its kind"),
-        (b"0102002\n", "-: line 1: not hexadecimal"),
+        (b"01020020\n0300\n0278\n05000000000000000000\n060000\n", "-:3:1: the notation has no words for it; refused (4)"),
+        (b"01020020\n0511\n", "-:2:1: not a frame of its kind"),
+        (b"0102002\n", "-:1:8: not hexadecimal"),
+        (b"01020020\n02zz78\n", "-:2:3: not hexadecimal"),
+        (b"01020020\r\n", "-:1:9: not hexadecimal"),
+        (b"01020020\n027A\n", "-:2:4: not hexadecimal"),
+        (b"01020020\n\n", "-:2:1: empty"),
+        (b"01020020\n027x", "-:2:1: no LF"),
     ] {
         let done = tool(&["disassemble", "-"], file);
         assert_eq!(done.status.code(), Some(2));
