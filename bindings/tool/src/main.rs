@@ -310,8 +310,8 @@ fn check(paths: &[&str]) -> Result<u8, String> {
             Ok((_, Ok(answer))) => {
                 diagnosed += 1;
                 let count = answer.queries.iter().map(|query| query.diagnostics.len()).sum();
-                let first = answer.queries.iter().flat_map(|query| &query.diagnostics).next();
-                format!("{path}: {}, the first {}", counted(count, "diagnostic"), first.map_or(String::new(), ToString::to_string))
+                let first = answer.queries.iter().flat_map(|query| &query.diagnostics).next().map_or(String::new(), ToString::to_string);
+                format!("{path}: {}, the first {}", counted(count, "diagnostic"), notation::visible(&first))
             }
         };
         bar.clear();

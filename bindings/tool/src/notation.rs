@@ -494,7 +494,7 @@ impl Assembler {
 }
 
 /// A name as the notation has it.
-fn spelled(text: &str) -> String {
+pub fn spelled(text: &str) -> String {
     let mut chars = text.chars();
     let word = chars.next().is_some_and(|c| c.is_alphabetic() || c == '_') && chars.all(|c| c.is_alphanumeric() || c == '_');
     if word {
@@ -505,14 +505,28 @@ fn spelled(text: &str) -> String {
         match c {
             '"' => spelled.push_str("\\\""),
             '\\' => spelled.push_str("\\\\"),
-            '\n' => spelled.push_str("\\n"),
-            '\t' => spelled.push_str("\\t"),
-            c if c.is_control() => write!(spelled, "\\u{{{:x}}}", u32::from(c)).expect("a string takes all"),
-            c => spelled.push(c),
+            c => put_visible(&mut spelled, c),
         }
     }
     spelled.push('"');
     spelled
+}
+
+/// A character, a control character by the notation's escape.
+fn put_visible(out: &mut String, c: char) {
+    match c {
+        '\n' => out.push_str("\\n"),
+        '\t' => out.push_str("\\t"),
+        c if c.is_control() => write!(out, "\\u{{{:x}}}", u32::from(c)).expect("a string takes all"),
+        c => out.push(c),
+    }
+}
+
+/// A text whose control characters are escaped as in a quoted name.
+pub fn visible(text: &str) -> String {
+    let mut out = String::new();
+    text.chars().for_each(|c| put_visible(&mut out, c));
+    out
 }
 
 /// The text of a file. Assembled again it is the same file, if its references are to something.

@@ -16,9 +16,10 @@ const PLAIN: &str = "\u{1b}[0m";
 const WIDTH: usize = 100;
 
 /// The schema, then each query's nodes with their types, its diagnostics, under the text where there is one, and its names written once.
-/// A source is a text with its file's name.
+/// A source is a text with its file's name. Control characters of names, messages and texts are escaped.
 pub fn shown(file: &File, answer: &Answer, sources: &[(String, String)], tree: bool, colour: bool) -> String {
-    let names = file.texts();
+    let mut names = file.texts();
+    names.names.iter_mut().for_each(|name| *name = notation::spelled(name));
     let mut out = notation::limits_text(file) + &notation::schema_text(file);
     for (k, (query, typed)) in file.queries.iter().zip(&answer.queries).enumerate() {
         let number = if file.queries.len() > 1 { format!(" {k}") } else { String::new() };
@@ -99,7 +100,8 @@ impl Said<'_> {
         let paint = |code: &'static str| if colour { code } else { "" };
         let own = if colour { self.colour } else { "" };
         let (blue, bold, plain) = (paint(BLUE), paint(BOLD), paint(PLAIN));
-        let mut out = format!("{own}{}{plain}{bold}: {}{plain}\n", self.title, self.message);
+        let (title, message) = (notation::visible(self.title), notation::visible(self.message));
+        let mut out = format!("{own}{title}{plain}{bold}: {message}{plain}\n");
         let place = source.and_then(|(path, text)| Some((path, Place::of(text, self.span)?)));
         let Some((path, place)) = place else {
             put(&mut out, format_args!("  at {}..{}\n", self.span.start, self.span.end));
@@ -115,33 +117,39 @@ impl Said<'_> {
     }
 }
 
-/// Where a span stands in a text: its first line and column, what stands before it as blanks, and how many characters of that line it
-/// covers, at least one.
+/// Where a span stands in a text: its first line and column, the line as it is shown, what stands before the span there as blanks, and how
+/// many characters there it covers, at least one.
 #[derive(Debug, PartialEq, Eq)]
-struct Place<'a> {
+struct Place {
     line: usize,
     column: usize,
-    text: &'a str,
+    text: String,
     margin: String,
     carets: usize,
     goes_on: bool,
 }
 
-impl Place<'_> {
+/// A piece of a line as it is shown: a tab stays one, so that the carets stand where the text does.
+fn shown_piece(piece: &str) -> String {
+    piece.split('\t').map(notation::visible).collect::<Vec<_>>().join("\t")
+}
+
+impl Place {
     /// Nothing where the span does not start at a character of the text, or at its end.
-    fn of(source: &str, span: Span) -> Option<Place<'_>> {
+    fn of(source: &str, span: Span) -> Option<Place> {
         let start = usize::try_from(span.start).ok()?;
         let before = source.get(..start)?;
         let from = before.rfind('\n').map_or(0, |i| i + 1);
         let text = source[from..].lines().next().unwrap_or("");
-        // a tab stays one, so that the carets stand where the text does
-        let margin: String = source[from..start].chars().map(|c| if c == '\t' { '\t' } else { ' ' }).collect();
+        let margin: String = shown_piece(&before[from..]).chars().map(|c| if c == '\t' { '\t' } else { ' ' }).collect();
         let end = usize::try_from(span.end).ok()?.clamp(start, source.len());
-        let within: Vec<char> = source[start..].char_indices().take_while(|(i, _)| start + i < end).map(|(_, c)| c).collect();
-        let first = within.iter().position(|&c| c == '\n').unwrap_or(within.len());
+        // the end may stand in the midst of a character, which is then covered
+        let end = (end..=source.len()).find(|&end| source.is_char_boundary(end))?;
+        let line_end = (from + text.len()).clamp(start, end);
+        let carets = shown_piece(&source[start..line_end]).chars().count().max(1);
+        let goes_on = source[line_end..end].chars().any(|c| !c.is_whitespace());
         let column = before[from..].chars().count() + 1;
-        let goes_on = within[first..].iter().any(|c| !c.is_whitespace());
-        Some(Place { line: before.matches('\n').count() + 1, column, text, margin, carets: first.max(1), goes_on })
+        Some(Place { line: before.matches('\n').count() + 1, column, text: shown_piece(text), margin, carets, goes_on })
     }
 }
 
@@ -174,6 +182,13 @@ mod tests {
         assert_eq!(place("ab", 3, 4), None);
         assert_eq!(place("é", 1, 2), None);
         assert_eq!(place("", u32::MAX, u32::MAX), None);
+    }
+
+    #[test]
+    fn a_control_character_is_as_wide_as_its_escape() {
+        assert_eq!(place("a\u{1b}b", 1, 3), Some((1, 2, "a\\u{1b}b".to_string(), 7, false)));
+        assert_eq!(Place::of("\u{7}\tx", Span::new(2, 3)).map(|place| place.margin), Some("     \t".to_string()));
+        assert_eq!(place("ab\r\nc", 0, 5), Some((1, 1, "ab".to_string(), 2, true)));
     }
 
     #[test]

@@ -263,6 +263,37 @@ fn nodes_are_shown_with_span_shape_and_type() {
     assert!(tree.contains("record { pen = n0 }  record\n                                     pen: string\n"), "{tree}");
 }
 
+/// A name that would colour the terminal and begin a line of its own.
+#[test]
+fn control_characters_are_escaped() {
+    let text = "limits 1 1\ntype s = string\ntype r = record { \"\\u{1b}[31mred\\n\": s }\npredicate \"\\u{1b}[31mred\\n\": r\nquery\n\
+                  a = variable x @ 0..1\n  b = fact \"\\u{1b}[31mred\\n\" of a @ 2..13\n  c = variable x @ 13..14\n\
+                  d = field \"\\u{1b}[31mred\\n\" of c @ 13..24\n  e = wildcard @ 0..1\n  f = variable y @ 0..1\n\
+                  g = variable x @ 0..1\n  h = alternative \"\\u{1b}[31mred\\n\" of g @ 2..8\n  holds b\n  bind f d\n  holds h\n  head e\n";
+    let file = tool(&["assemble", "-"], text.as_bytes());
+    assert_eq!(String::from_utf8_lossy(&file.stderr), "");
+    let path = std::env::temp_dir().join(format!("sigla-tool-source-{}.txt", std::process::id()));
+    std::fs::write(&path, "a \u{1b}[31mred\n").expect("a file can be written");
+    let source = path.to_str().expect("a path");
+    let shown = [&["show", "-", "--source", source][..], &["show", "-", "--source", source, "--tree"], &["check", "-"]].map(|arguments| {
+        let done = tool(arguments, &file.stdout);
+        assert_eq!(done.status.code(), Some(1), "{}", String::from_utf8_lossy(&done.stderr));
+        String::from_utf8(done.stdout).expect("text")
+    });
+    std::fs::remove_file(&path).expect("it was written");
+    for text in &shown {
+        assert!(!text.contains(|c: char| c.is_control() && c != '\n') && !text.contains("red\n\"") && !text.contains("red\n`"), "{text}");
+    }
+    let [plain, tree, check] = shown;
+    let message = "reject/not-a-union: only a union has alternatives; this is {\\u{1b}[31mred\\n = a string}\n";
+    let under = "1 | a \\u{1b}[31mred\n  |   ^^^^^^^^^^^\n";
+    assert!(plain.contains("variable x                           {\"\\u{1b}[31mred\\n\" = a string}\n"), "{plain}");
+    assert!(plain.contains("of n0         `\"\\u{1b}[31mred\\n\"`\n") && plain.contains(message) && plain.contains(under), "{plain}");
+    assert!(tree.contains("\n                                                     \"\\u{1b}[31mred\\n\": string\n"), "{tree}");
+    assert!(tree.contains(message) && tree.contains(under), "{tree}");
+    assert!(check.contains(message.trim_end()), "{check}");
+}
+
 #[test]
 fn an_answer_from_elsewhere_is_shown() {
     let file = assembled("slip");
