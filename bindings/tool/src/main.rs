@@ -22,8 +22,8 @@ usage: sigla-tool COMMAND ..
   help [COMMAND]           this text, or a command's own
   version                  the version
 
-A FILE of `-` is standard input. Exit status: 0 where all is well, 1 where a file has a diagnostic, 3 where a file is turned down, 2 where a
-command can't be carried out.";
+A FILE of `-` is standard input. The texts, the answers and what `disassemble` reads have 1,048,576 bytes at most. Exit status: 0 where all
+is well, 1 where a file has a diagnostic, 3 where a file is turned down, 2 where a command can't be carried out.";
 
 const SHOW: &str = "\
 usage: sigla-tool show FILE [--source TEXT].. [--answer ANSWER] [--tree]
@@ -79,6 +79,11 @@ const DIAGNOSED: u8 = 1;
 const UNDONE: u8 = 2;
 const REFUSED: u8 = 3;
 
+/// The most bytes of a file of frames.
+const FRAMES: u64 = sigla::Form::FILE as u64;
+/// The most bytes of a text in the notation, of a query's text, of an answer, and of a file that is only written as text.
+const TEXT: u64 = 1_048_576;
+
 fn main() -> ExitCode {
     let arguments: Vec<String> = env::args().skip(1).collect();
     let words: Vec<&str> = arguments.iter().map(String::as_str).collect();
@@ -133,10 +138,26 @@ fn said(text: &str) -> Result<u8, String> {
     put(format!("{}\n", text.trim_end_matches('\n')).as_bytes())
 }
 
-fn read(path: &str) -> Result<Vec<u8>, String> {
+/// The first bytes of a file.
+fn first_bytes(path: &str, most: u64) -> Result<Vec<u8>, String> {
     let mut bytes = Vec::new();
-    let got = if path == "-" { io::stdin().read_to_end(&mut bytes).map(|_| bytes) } else { fs::read(path) };
-    got.map_err(|fault| format!("{path}: {fault}"))
+    let got = if path == "-" {
+        io::stdin().take(most).read_to_end(&mut bytes)
+    } else {
+        fs::File::open(path).and_then(|file| file.take(most).read_to_end(&mut bytes))
+    };
+    got.map(|_| bytes).map_err(|fault| format!("{path}: {fault}"))
+}
+
+/// A file of frames for the check. What is longer than a file may be is not read to its end; it is turned down for its length anyway.
+fn read_frames(path: &str) -> Result<Vec<u8>, String> {
+    first_bytes(path, FRAMES + 1)
+}
+
+/// Anything else; a file of frames that is only written as text too, which may be longer.
+fn read(path: &str) -> Result<Vec<u8>, String> {
+    let bytes = first_bytes(path, TEXT + 1)?;
+    if bytes.len() as u64 > TEXT { Err(format!("{path}: longer than 1,048,576 bytes")) } else { Ok(bytes) }
 }
 
 fn read_text(path: &str) -> Result<String, String> {
@@ -175,7 +196,7 @@ impl Show {
     }
 
     fn run(&self) -> Result<u8, String> {
-        let bytes = read(&self.file)?;
+        let bytes = read_frames(&self.file)?;
         let sources: Vec<(String, String)> =
             self.sources.iter().map(|path| Ok((path.clone(), read_text(path)?))).collect::<Result<_, String>>()?;
         let answer = match &self.answer {
@@ -287,7 +308,7 @@ fn check(paths: &[&str]) -> Result<u8, String> {
     let (mut clean, mut diagnosed, mut refused, mut unread) = (0, 0, 0, 0);
     for (i, path) in paths.iter().enumerate() {
         bar.at(i);
-        let outcome = read(path).map(|bytes| {
+        let outcome = read_frames(path).map(|bytes| {
             let answer = sigla::answer(&bytes);
             (bytes, answer)
         });

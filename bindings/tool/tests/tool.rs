@@ -344,6 +344,61 @@ fn many_files_are_summed_up() {
     }
 }
 
+/// Runs the tool on an input that does not end after these bytes; it is to end all the same.
+fn endless(arguments: &[&str], input: &[u8]) -> (Option<i32>, String) {
+    let mut child = Command::new(env!("CARGO_BIN_EXE_sigla-tool"))
+        .args(arguments)
+        .stdin(Stdio::piped())
+        .stdout(Stdio::piped())
+        .stderr(Stdio::piped())
+        .spawn()
+        .expect("the tool starts");
+    let mut pipe = child.stdin.take().expect("it is piped");
+    pipe.write_all(input).expect("the tool reads so much");
+    for _ in 0..1000 {
+        if child.try_wait().expect("it can be asked").is_some() {
+            drop(pipe);
+            let done = child.wait_with_output().expect("it has ended");
+            return (done.status.code(), String::from_utf8([done.stdout, done.stderr].concat()).expect("text"));
+        }
+        std::thread::sleep(std::time::Duration::from_millis(10));
+    }
+    child.kill().expect("it runs");
+    panic!("{arguments:?} still reads")
+}
+
+#[test]
+fn no_more_is_read_than_needed() {
+    let refused = "-: refused (2): the file has more than 65,536 bytes\n";
+    let summary = "1 file: 0 clean, 0 with diagnostics, 1 turned down, 0 not read\n";
+    assert_eq!(endless(&["show", "-"], &[0; 65_537]), (Some(3), refused.to_string()));
+    assert_eq!(endless(&["check", "-"], &[0; 65_537]), (Some(3), format!("{refused}{summary}")));
+    let long = "-: longer than 1,048,576 bytes\n";
+    let blanks = vec![b' '; 1_048_577];
+    let form = samples().join("form.hex").to_str().expect("a path").to_string();
+    for arguments in [&["assemble", "-"][..], &["disassemble", "-"], &["show", &form, "--source", "-"], &["show", &form, "--answer", "-"]] {
+        assert_eq!(endless(arguments, &blanks), (Some(2), long.to_string()), "{arguments:?}");
+    }
+}
+
+/// A file of good lines that is too long is turned down for its length, by little or by much, and still written as text.
+#[test]
+fn a_file_that_is_too_long_is_told() {
+    let nodes = |count: usize| [&b"01020020\n"[..], &b"05000000000000000000\n".repeat(count), b"060000\n"].concat();
+    for count in [3121, 10_000] {
+        let file = nodes(count);
+        assert!(file.len() > 65_537);
+        assert_eq!(sigla::answer(&file).map_err(|fault| fault.to_string()), sigla::answer(&file[..65_537]).map_err(|fault| fault.to_string()));
+        let done = tool(&["show", "-"], &file);
+        assert_eq!((done.status.code(), done.stdout), (Some(3), b"-: refused (2): the file has more than 65,536 bytes\n".to_vec()));
+        let done = tool(&["disassemble", "-"], &file);
+        assert_eq!(tool(&["assemble", "-"], &done.stdout).stdout, file);
+    }
+    // the last byte that is read decides
+    assert!(tool(&["show", "-"], &[b'0'; 65_536]).stdout.starts_with(b"-:1: refused (3)"));
+    assert!(tool(&["show", "-"], &[b'0'; 65_537]).stdout.starts_with(b"-: refused (2)"));
+}
+
 #[test]
 fn the_line_at_fault_is_told() {
     let done = tool(&["show", "-"], &assembled("refused"));
