@@ -2,7 +2,8 @@
 //!
 //! Names are written as texts and numbered here. Types, predicates and nodes are handed out as handles, each of the form or the query that
 //! made it; a node's handle is used up where the node is named, so no node is named twice. What the file's limits would refuse is told when
-//! it is added, as a [`Limit`]; only visits and the answer's length are known by running the file.
+//! it is added, as a [`Limit`], but the file's length, a predicate without types and a form without queries ([`Limit::File`],
+//! [`Limit::Undefined`], [`Limit::NoQuery`]) by [`Form::file`]; only visits and the answer's length are known by running the file.
 //!
 //! ```
 //! use sigla::{Form, Span, Statement};
