@@ -22,7 +22,7 @@ use Rattle.cells.specs.declared.Kind.{Kind}
 use Rattle.cells.specs.declared.Kind.TheVariants.{Fields, Alternatives}
 use Rattle.cells.specs.declared.Part.{Part}
 use Rattle.cells.specs.Words.{count_w, part_w, parts_w, part_of_w}
-use Rattle.cells.specs.Stands.{Rows, tree, IsCell, Ok, Cells, Binds}
+use Rattle.cells.specs.Stands.{Rows, tree, kind_tree, IsCell, Ok, Cells, Binds}
 use Rattle.cells.specs.Promises.{Reprs, answer_of, asked_left, Occurs, IsOrderable}
 use Rattle.std.proofs.lemmas.Option.{none-some}
 use Rattle.cells.proofs.Parts.{rest, rest_whole, rest_cell, rest_none, part_ok}
@@ -96,11 +96,7 @@ cell_of : {w : List ℕ} {u : Ty} {k : Kind} {c : ℕ} → HasParts u k c → Ok
 cell_of fields o = o
 cell_of alternatives o = o
 
-abbrev kind_of : Kind → Tree.Kind
-kind_of Fields = Tree.Record
-kind_of Alternatives = Tree.Union
-
-tree_of : (T : Rows) {u : Ty} {k : Kind} {c : ℕ} → HasParts u k c → tree T u ≡ Tree.node (kind_of k) (T c)
+tree_of : (T : Rows) {u : Ty} {k : Kind} {c : ℕ} → HasParts u k c → tree T u ≡ Tree.node (kind_tree k) (T c)
 tree_of T fields = refl
 tree_of T alternatives = refl
 
@@ -352,7 +348,7 @@ module _ {w : List ℕ} {t u : Ty} {left : ℕ} (some : ¬ (left ≡ 0)) (rep : 
       → IsOrderable w t left a
   unfolding app_row
   ordering_ends q h e {a} o z = by_parts u
-      (λ k c i. order some rep a (omega (arith, g.fewer, o.fewer)) (λ T s C B A p. order_node some rep (kind_of k) a T s c (tree_of T i)
+      (λ k c i. order some rep a (omega (arith, g.fewer, o.fewer)) (λ T s C B A p. order_node some rep (kind_tree k) a T s c (tree_of T i)
       (walk_here (g.walks k c i) q h (here g i e) T s C B A (cell_of i p) (left - 1) (omega arith)
       ∙ all_ends a z v _ _ _ _ (said g q o T s C B A (walk_ok (g.walks k c i) q h (here g i e) T C (cell_of i p))))))
       (λ none. absurd (omega (arith, g.all, none_of w u none)))
@@ -360,7 +356,7 @@ module _ {w : List ℕ} {t u : Ty} {left : ℕ} (some : ¬ (left ≡ 0)) (rep : 
   pub ordering_none : ((q : ℕ) → u ≡ Fact q → ⊥) → n ≤ j → IsOrderable w t left (Some (true, v))
   unfolding app_row Unify.all_orderable Unify.orderable Unify.leaf_orderable
   ordering_none f h = by_parts u
-      (λ k c i. order some rep (Some (true, v)) g.fewer (λ T s C B A p. order_node some rep (kind_of k) (Some (true, v)) T s c (tree_of T i)
+      (λ k c i. order some rep (Some (true, v)) g.fewer (λ T s C B A p. order_node some rep (kind_tree k) (Some (true, v)) T s c (tree_of T i)
       (walk_none (g.walks k c i) h T s C B A (cell_of i p) (left - 1) (omega arith))))
       (λ none. rw (g.unmoved (omega (arith, g.all, g.within, none_of w u none)))
       (order some rep (Some (true, (left - 1))) (omega arith) (λ T s C B A o. yes_at T s u f none (rw (← rep.is T s B) at (repr_resolved s A (tree T t))))))

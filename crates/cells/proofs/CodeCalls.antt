@@ -28,9 +28,9 @@ use Rattle.cells.specs.declared.Kind.{Kind}
 use Rattle.cells.specs.declared.Kind.TheVariants.{Fields, Alternatives}
 use Rattle.cells.specs.Words.{declared_w, made_field, fresh_w}
 use Rattle.cells.specs.Inferred.{new_record_w, new_record_ty, row_made, rows_with, Filled}
-use Rattle.cells.specs.Stands.{Rows, tree, bound_tree, tag_of, IsCell, declared, made, Ok, Holds}
+use Rattle.cells.specs.Stands.{Rows, tree, kind_tree, bound_tree, tag_of, IsCell, declared, made, Ok, Holds}
 use Rattle.cells.specs.Promises.{Stays, Ends, Unifies}
-use Rattle.cells.specs.CodeCalls.{kind_tree, Declares, Permitted, untyped, with_state_lem, united, CodeCalls, none_yet, unknown, reserving, filling}
+use Rattle.cells.specs.CodeCalls.{Declares, Permitted, untyped, with_state_lem, united, CodeCalls, none_yet, unknown, reserving, filling}
 use Rattle.cells.specs.CodeCalls.{record_cell, success, failure, snapping, rolling_back, spending, annotation, CodeLed, between_calls, at_the_limit}
 use Rattle.cells.specs.CodeCalls.{Returned}
 use Rattle.cells.proofs.Frame.{SameCells, keeps_cells, cell_before, cell_by}

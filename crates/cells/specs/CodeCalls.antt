@@ -10,19 +10,14 @@ use Rattle.unification.specs.Tie.{AsRobinson}
 use Rattle.work.specs.Layout.{TYPE-COUNT, UNKNOWNS, RECORD-COUNT, RECORD-FIELD-COUNT, TYS, UNDO-LEN}
 use Rattle.cells.specs.declared.Ty.{Ty}
 use Rattle.cells.specs.declared.Kind.{Kind}
-use Rattle.cells.specs.declared.Kind.TheVariants.{Fields, Alternatives}
 use Rattle.cells.specs.declared.TyError.{TyError}
 use Rattle.cells.specs.Words.{declared_w, slot_w, fresh_w, annotate_w}
-use Rattle.cells.specs.Stands.{Rows, tree, IsCell, Ok, Holds}
+use Rattle.cells.specs.Stands.{Rows, tree, kind_tree, IsCell, Ok, Holds}
 use Rattle.cells.specs.Inferred.{reserve_w, put_field_w, new_record_w, Reserved, Filled, rows_with}
 use Rattle.cells.specs.Promises.{Unifies, RollsBack}
 use Rattle.cells.specs.declared.Failure.{Failure}
 
 -- ---- Where a list begins
-
-abbrev pub kind_tree : Kind → Tree.Kind
-kind_tree Fields = Tree.Record
-kind_tree Alternatives = Tree.Union
 
 -- The schema types of the words, by number: each is the one of the list, and one that a file past 1 to 10 can have.
 pub record Declares (w : List ℕ) (T : Rows) (types : List Tree.Ty) : Type 0 where

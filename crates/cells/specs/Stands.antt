@@ -27,6 +27,10 @@ tree T (Union c) = Tree.node Tree.Union (T c)
 tree T (Var x) = Tree.Var x
 tree T Error = Tree.Error
 
+abbrev pub kind_tree : Kind → Tree.Kind
+kind_tree Fields = Tree.Record
+kind_tree Alternatives = Tree.Union
+
 abbrev pub bound_tree : Rows → Option Ty → Option Tree.Ty
 bound_tree T None = None
 bound_tree T (Some t) = Some (tree T t)

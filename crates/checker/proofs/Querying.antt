@@ -1,5 +1,5 @@
 -- `query`: the statements, then the head, which reads variables that they bind.
-use mathlib.Core.List.{List, []}
+use mathlib.Core.List.{List}
 use mathlib.Core.Path.{◌≡◌, refl, sym, subst, ◌∙◌, ap}
 use Prim.Native.Nat.{ℕ, ◌<◌}
 use native.Mathlib.Omega.{arith}
@@ -11,13 +11,12 @@ use Rattle.cells.specs.Stands.{Rows}
 use Rattle.meaning.specs.Syntax.{Query}
 use Rattle.meaning.specs.References.{stmt_nodes, query_nodes}
 use Rattle.meaning.specs.File.{Described}
-use Rattle.meaning.specs.Check.{Until, the_end, first_diagnostic, entry, Checker, Step, goes, and_then, form, head_form, leave, infer_query, query, begin}
+use Rattle.meaning.specs.Check.{Until, Checker, Step, goes, and_then, form, head_form, leave, infer_query, query, begin}
 use Rattle.meaning.specs.Check.{begin_until}
-use Rattle.meaning.specs.Run.{NotYet}
 use Rattle.meaning.specs.Weights.{sum_of}
 use Rattle.meaning.specs.Conditions.{max_nodes}
 use Rattle.meaning.specs.Sound.{Sound}
-use Rattle.meaning.proofs.Run.{begin_orderly, begin_ready, query_size, query_records, query_fields, sound_well_formed}
+use Rattle.meaning.proofs.Run.{nothing_yet, begin_orderly, begin_ready, query_size, query_records, query_fields, sound_well_formed}
 use Rattle.tree.specs.Stands.{Stands}
 use Rattle.meaning.specs.Grades.{Grade, Orderly, Ready, no_thing, one_diagnostic}
 use Rattle.meaning.proofs.Steps.{Nothing, IsSide}
@@ -146,13 +145,7 @@ module _ {f w ou : List ℕ} {left : ℕ} (T : Rows) (d : Described) (c : Checke
 
 -- ---- The start: no node has a type, and all that the query's nodes make fits
 
--- What the run is to last until is asked nowhere but at a diagnostic and at an entry to `unify`.
 module _ (u : Until) (ceiling : ℕ) where
-  nothing_yet : (v : Until) → NotYet v [] []
-  nothing_yet the_end = tt
-  nothing_yet first_diagnostic = refl
-  nothing_yet (entry k) = omega arith
-
   until_orderly : (n : ℕ) → Orderly (begin_until u ceiling n)
   unfolding begin begin_until
   until_orderly n = let o = begin_orderly ceiling n in record

@@ -27,8 +27,8 @@ use Rattle.meaning.specs.References.{stmt_nodes, query_nodes}
 use Rattle.meaning.specs.File.{Described}
 use Rattle.meaning.specs.All.{All}
 use Rattle.meaning.specs.Sound.{Sound}
-use Rattle.meaning.specs.Check.{Checker, Step, goes, begin}
-use Rattle.meaning.specs.Run.{Led, EntryLed, between_calls, at_the_limit, ending, run, RunDemand3, RunAsRobinson}
+use Rattle.meaning.specs.Check.{Until, the_end, first_diagnostic, entry, Checker, Step, goes, begin}
+use Rattle.meaning.specs.Run.{Led, EntryLed, between_calls, at_the_limit, ending, NotYet, run, RunDemand3, RunAsRobinson}
 use Rattle.meaning.specs.Weights.{WellFormed, same, sum_of, total, weight, size, records, record_fields}
 use Rattle.meaning.proofs.Depth.{lower_falls}
 use Rattle.meaning.specs.Grades.{Grade, Orderly, Ready, visiting}
@@ -56,6 +56,13 @@ module _ {A : Type 0} (P : A → Checker → Type 0) (g : Grade) (c : Checker) w
   meets_led v tys ts s cs (ended w) = w.stopped v tys ts cs
 
 -- ---- The start
+
+-- What a run is to last until is asked nowhere but at a diagnostic and at an entry to `unify`.
+pub nothing_yet : (u : Until) → NotYet u [] []
+nothing_yet the_end = tt
+nothing_yet first_diagnostic = refl
+nothing_yet (entry n) = omega arith
+
 pub begin_orderly : (ceiling n : ℕ) → Orderly (begin ceiling n)
 unfolding begin taken Calls.begin bound
 begin_orderly ceiling n = record {

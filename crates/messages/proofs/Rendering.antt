@@ -17,14 +17,14 @@ use Rattle.cells.specs.declared.Kind.{Kind}
 use Rattle.cells.specs.declared.Kind.TheVariants.{Fields, Alternatives}
 use Rattle.cells.specs.declared.Part.{Part}
 use Rattle.cells.specs.Words.{count_w, part_w}
-use Rattle.cells.specs.Stands.{Rows, tree, IsCell, Ok}
+use Rattle.cells.specs.Stands.{Rows, tree, kind_tree, IsCell, Ok}
 use Rattle.cells.specs.Promises.{Reprs}
 use Rattle.cells.proofs.Parts.{rest, rest_whole, rest_cell, rest_none, cell_ty, cell_ok, part_ok}
 use Rattle.meaning.specs.Diag.{ascii}
 use Rattle.meaning.specs.Messages.{decimal, render, render_row, separator, part}
 use Rattle.writer.specs.Writes.{Writes, WritesText, hex_of}
 use Rattle.writer.proofs.Writing.{writes_to}
-use Rattle.messages.specs.Shown.{Sight, Seen, Shows, Always, kind_of, shown, shown_row, render_text, cell_text, before_text, parted_by, after_text}
+use Rattle.messages.specs.Shown.{Sight, Seen, Shows, Always, shown, shown_row, render_text, cell_text, before_text, parted_by, after_text}
 use Rattle.messages.specs.Shown.{name_text, discriminant_text, Ended, Looks}
 use Rattle.messages.specs.declared.shown.Bindings.{Bindings}
 use Rattle.messages.specs.declared.shown.Bindings.TheVariants.{Ignored, Followed}
@@ -57,7 +57,7 @@ error_shown Ignored s = refl
 
 -- ---- A type is shown by the end of its chain
 
-shown_cell : (b : Bindings) (s : Subst) (T : Rows) (k : Kind) (c : ℕ) → shown b s (tree T (cell_ty k c)) ≡ Tree.node (kind_of k) (shown_row b s (T c))
+shown_cell : (b : Bindings) (s : Subst) (T : Rows) (k : Kind) (c : ℕ) → shown b s (tree T (cell_ty k c)) ≡ Tree.node (kind_tree k) (shown_row b s (T c))
 shown_cell Followed s T Fields c = zonk_node s Tree.Record (T c)
 shown_cell Followed s T Alternatives c = zonk_node s Tree.Union (T c)
 shown_cell Ignored s T Fields c = refl
@@ -75,7 +75,7 @@ module _ {f w out : List ℕ} {at : ℕ} {t : Ty} {b : Bindings} {out' : List �
   pub render_cell : (k : Kind) (c : ℕ) → Looks w t b (cell_ty k c) → Shows f w out at (IsCell w k c) (cell_text b k c) out' r
       → Shows f w out at (Ok w t) (render_text b t) out' r
   render_cell k c L g =
-      shows_as (λ v S o. shown_as L v S (Tree.node (kind_of k) (shown_row b v.subst (v.rows c))) (shown_cell b v.subst v.rows k c))
+      shows_as (λ v S o. shown_as L v S (Tree.node (kind_tree k) (shown_row b v.subst (v.rows c))) (shown_cell b v.subst v.rows k c))
       (shows_where (λ v S o. cell_ok w k c (L.ok v.rows v.subst S.binds o)) g)
 
 -- ---- The parts of a cell
@@ -92,7 +92,7 @@ shown_nil Ignored s = refl
 
 -- the rest of the parts, from number j on, and the brace
 abbrev row_text : Bindings → Kind → Row → Sight → List ℕ
-row_text b k r v = render_row v.names v.schema (shown_row b v.subst r) (kind_of k) ++ 125 ∷ []
+row_text b k r v = render_row v.names v.schema (shown_row b v.subst r) (kind_tree k) ++ 125 ∷ []
 
 in_record : (n e t p r z : List ℕ) → ((n ++ (e ++ t)) ++ (p ++ r)) ++ z ≡ (n ++ e) ++ (t ++ (p ++ (r ++ z)))
 in_record n e t p r z = simp append_assoc
@@ -101,7 +101,7 @@ in_union : (n e t q d p r z : List ℕ) → ((n ++ (e ++ (t ++ (q ++ d)))) ++ (p
 in_union n e t q d p r z = simp append_assoc
 
 one_part : (b : Bindings) (k : Kind) (v : Sight) (key label : ℕ) (t : Tree.Ty) (r : Row) (m : Bool)
-    → separator v.names v.schema (kind_of k) (shown_row b v.subst r) ≡ parted_by k m
+    → separator v.names v.schema (kind_tree k) (shown_row b v.subst r) ≡ parted_by k m
     → row_text b k (cell key label t r) v
     ≡ before_text k key label v ++ (render v.names v.schema (shown b v.subst t) ++ (after_text k key m ++ row_text b k r v))
 unfolding render_row part
@@ -113,12 +113,12 @@ one_part b Alternatives v key label t r m e = rw (shown_cons b v.subst key label
     (render_row v.names v.schema (shown_row b v.subst r) Tree.Union) (125 ∷ []))
 
 parted_some : (b : Bindings) (k : Kind) (v : Sight) (key label : ℕ) (t : Tree.Ty) (r : Row)
-    → separator v.names v.schema (kind_of k) (shown_row b v.subst (cell key label t r)) ≡ parted_by k true
+    → separator v.names v.schema (kind_tree k) (shown_row b v.subst (cell key label t r)) ≡ parted_by k true
 unfolding separator
 parted_some b Fields v key label t r = rw (shown_cons b v.subst key label t r)
 parted_some b Alternatives v key label t r = rw (shown_cons b v.subst key label t r)
 
-parted_none : (b : Bindings) (k : Kind) (v : Sight) → separator v.names v.schema (kind_of k) (shown_row b v.subst ε) ≡ parted_by k false
+parted_none : (b : Bindings) (k : Kind) (v : Sight) → separator v.names v.schema (kind_tree k) (shown_row b v.subst ε) ≡ parted_by k false
 unfolding separator
 parted_none b Fields v = rw (shown_nil b v.subst)
 parted_none b Alternatives v = rw (shown_nil b v.subst)
@@ -159,10 +159,10 @@ cell_start f w out at b k c n e = record {
 module _ {f w out₀ : List ℕ} {at : ℕ} {b : Bindings} {k : Kind} {c n : ℕ} {out : List ℕ} {j to : ℕ} (g : Celling f w out₀ at b k c n out j to) where
   module _ (p : Part) (l : j < n) (e : p ≡ part_w w k c j) {mid : List ℕ} {x : Option ℕ}
       (before : Shows f w out to Always (before_text k p.key p.label) mid x) where
-    parted : (v : Sight) → separator v.names v.schema (kind_of k) (shown_row b v.subst (rest v.rows w k c n (j + 1))) ≡ parted_by k (ltb (j + 1) n)
+    parted : (v : Sight) → separator v.names v.schema (kind_tree k) (shown_row b v.subst (rest v.rows w k c n (j + 1))) ≡ parted_by k (ltb (j + 1) n)
     parted v = go (ltb (j + 1) n) refl
       where
-        go : (m : Bool) → ltb (j + 1) n ≡ m → separator v.names v.schema (kind_of k) (shown_row b v.subst (rest v.rows w k c n (j + 1))) ≡
+        go : (m : Bool) → ltb (j + 1) n ≡ m → separator v.names v.schema (kind_tree k) (shown_row b v.subst (rest v.rows w k c n (j + 1))) ≡
             parted_by k m
         go true q = rw (rest_cell v.rows w k c n (j + 1) (part_w w k c (j + 1)) (ltb-true (j + 1) n q) refl) (parted_some b k v _ _ _ _)
         go false q = rw (rest_none v.rows w k c n (j + 1) (ltb-false (j + 1) n q)) (parted_none b k v)

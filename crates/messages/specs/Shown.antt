@@ -7,7 +7,7 @@ use Rattle.unification.specs.Acyclic.{Acyclic}
 use Rattle.cells.specs.declared.Ty.{Ty}
 use Rattle.cells.specs.declared.Kind.{Kind}
 use Rattle.cells.specs.declared.Kind.TheVariants.{Fields, Alternatives}
-use Rattle.cells.specs.Stands.{Rows, tree, Ok, Cells, Binds}
+use Rattle.cells.specs.Stands.{Rows, tree, kind_tree, Ok, Cells, Binds}
 use Rattle.meaning.specs.Diag.{ascii}
 use Rattle.meaning.specs.Messages.{decimal, quoted, or_fact, name_of, fact_name, render}
 use Rattle.meaning.specs.Schema.{Schema}
@@ -52,10 +52,6 @@ fact_text p v = or_fact (fact_name v.names v.schema p)
 
 -- ---- Types
 
-abbrev pub kind_of : Kind → Tree.Kind
-kind_of Fields = Tree.Record
-kind_of Alternatives = Tree.Union
-
 -- A type, resolved where that is asked; the parts of a cell likewise.
 abbrev pub shown : Bindings → Subst → Tree.Ty → Tree.Ty
 shown Followed s t = zonk s t
@@ -69,7 +65,7 @@ abbrev pub render_text : Bindings → Ty → Sight → List ℕ
 render_text b t v = render v.names v.schema (shown b v.subst (tree v.rows t))
 
 abbrev pub cell_text : Bindings → Kind → ℕ → Sight → List ℕ
-cell_text b k c v = render v.names v.schema (Tree.node (kind_of k) (shown_row b v.subst (v.rows c)))
+cell_text b k c v = render v.names v.schema (Tree.node (kind_tree k) (shown_row b v.subst (v.rows c)))
 
 -- What stands before and after the type of a part, the latter with what parts it from the next.
 abbrev pub before_text : Kind → ℕ → ℕ → Sight → List ℕ

@@ -13,7 +13,7 @@ use Rattle.work.specs.Layout.{TYPES, FIELDS}
 use Rattle.cells.specs.declared.Kind.{Kind}
 use Rattle.cells.specs.declared.Kind.TheVariants.{Fields, Alternatives}
 use Rattle.cells.specs.Words.{pick, ty_w, declared_w, count_w, first_w, declared_field, alternative_w}
-use Rattle.cells.specs.Stands.{Rows, tree, tag_of, row_from, row_w}
+use Rattle.cells.specs.Stands.{Rows, tree, kind_tree, tag_of, row_from, row_w}
 use Rattle.meaning.specs.Syntax.{Field}
 use Rattle.meaning.specs.Frame.{Alternative, TypeShape, a_leaf, a_record, a_union}
 use Rattle.meaning.specs.References.{field_values, shape_types}
@@ -151,11 +151,7 @@ module _ {w : List ℕ} {T : Rows} {m fields : ℕ} {types : List Tree.Ty} (h : 
 
 -- ---- One more record or union
 
-abbrev pub tree_kind : Kind → Tree.Kind
-tree_kind Fields = Tree.Record
-tree_kind Alternatives = Tree.Union
-
-cell_tree : (T : Rows) (w : List ℕ) (n : ℕ) (k : Kind) → IsOf w k n → Tree.node (tree_kind k) (T n) ≡ tree T (declared_w w n)
+cell_tree : (T : Rows) (w : List ℕ) (n : ℕ) (k : Kind) → IsOf w k n → Tree.node (kind_tree k) (T n) ≡ tree T (declared_w w n)
 unfolding declared_w
 cell_tree T w n Fields i = rw i
 cell_tree T w n Alternatives i = rw i
@@ -180,9 +176,9 @@ module _ {w : List ℕ} {T : Rows} {m fields : ℕ} {types : List Tree.Ty} (h : 
 
   cell_added : (k : Kind) (count : ℕ) → get_or w (TYPES + 2 * n) 0 ≡ count * 16 + tag_of k → T n ≡ row_from T w k n 0 count
       → ((j : ℕ) → j < count → part_type w k n j < n)
-      → TypesHeld w T (m + 1) (fields + words_of k count) (types ++ Tree.node (tree_kind k) (T n) ∷ [])
+      → TypesHeld w T (m + 1) (fields + words_of k count) (types ++ Tree.node (kind_tree k) (T n) ∷ [])
   unfolding row_w
-  cell_added k count e r below = type_added h (Tree.node (tree_kind k) (T n)) (fields + words_of k count) (omega arith) room
+  cell_added k count e r below = type_added h (Tree.node (kind_tree k) (T n)) (fields + words_of k count) (omega arith) room
       (cell_tree T w n k (is k e)) held (rw (is k e) (cell_small k))
     where
       is : (k : Kind) → get_or w (TYPES + 2 * n) 0 ≡ count * 16 + tag_of k → IsOf w k n

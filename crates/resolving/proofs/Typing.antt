@@ -17,14 +17,14 @@ use Rattle.cells.specs.declared.Kind.{Kind}
 use Rattle.cells.specs.declared.Kind.TheVariants.{Fields, Alternatives}
 use Rattle.cells.specs.declared.Part.{Part}
 use Rattle.cells.specs.Words.{count_w, part_w, parts_w, part_of_w}
-use Rattle.cells.specs.Stands.{Rows, Holds, tree, IsCell, Ok}
+use Rattle.cells.specs.Stands.{Rows, Holds, tree, kind_tree, IsCell, Ok}
 use Rattle.cells.specs.Promises.{Reprs}
 use Rattle.cells.proofs.Parts.{rest, rest_whole, rest_cell, rest_none, cell_ty, cell_ok, part_ok}
 use Rattle.cells.proofs.Records.{cell_length}
 use Rattle.writer.specs.Writes.{Writes, Moves}
 use Rattle.writer.proofs.Writing.{writes_as, writes_to, writes_then, writes_full, writes_moves, full_moves, moves_then, moves_none, moves_next}
 use Rattle.writer.proofs.Writing.{Goes, goes_start, goes_next, goes_full, goes_done}
-use Rattle.resolving.specs.Scripts.{Script, written, written_row, kind_of, head_of, part_head_of, Resolves, resolved, WritesTy, WritesPart, WritesRow}
+use Rattle.resolving.specs.Scripts.{Script, written, written_row, head_of, part_head_of, Resolves, resolved, WritesTy, WritesPart, WritesRow}
 use Rattle.std.specs.Prelude.{None, Option, Some}
 
 -- ---- The parts that are counted are those that are written
@@ -37,7 +37,7 @@ counted {w} {T} {s} R k c i = row_len_app _ (T c) ∙ cell_length R.cells k c i
 pub resolves : {w : List ℕ} {T : Rows} {st : State} → Holds w T st → Resolves w T st.subst
 resolves H = record { cells = H.cells; binds = H.binds; acyclic = H.acyclic }
 
-cell_tree : (T : Rows) (k : Kind) (c : ℕ) → tree T (cell_ty k c) ≡ Tree.node (kind_of k) (T c)
+cell_tree : (T : Rows) (k : Kind) (c : ℕ) → tree T (cell_ty k c) ≡ Tree.node (kind_tree k) (T c)
 cell_tree T Fields c = refl
 cell_tree T Alternatives c = refl
 
@@ -47,7 +47,7 @@ pub record Rowing {A : Type 0} (S : Script A) (w : List ℕ) (out₀ : List A) (
   pub all : n ≡ count_w w c
   pub moves : Moves out₀ at out (Some to)
   pub go : (T : Rows) (s : Subst) → Resolves w T s → IsCell w k c → at ≤ length out₀
-      → Goes out₀ at (written_row S (resolved s (T c)) (kind_of k)) out to (written_row S (resolved s (rest T w k c n j)) (kind_of k))
+      → Goes out₀ at (written_row S (resolved s (T c)) (kind_tree k)) out to (written_row S (resolved s (rest T w k c n j)) (kind_tree k))
 
 abbrev pub Along : {A : Type 0} → Script A → List ℕ → List A → ℕ → Ty → ℕ → List A → ℕ → ℕ → Type 0
 Along S w mid from Int n out j to = (n ≡ 0) × (mid ≡ out) × (from ≡ to)
@@ -92,11 +92,11 @@ module _ {A : Type 0} (S : Script A) where
     ty_error e f = end_of_chain (writes_moves f) (λ T s R o v. rw (e, zonk_error s) f)
 
     module _ (k : Kind) (c : ℕ) (e : u ≡ cell_ty k c) (m : ℕ) (q : m ≡ count_w w c) {mid : List A} {h : Option ℕ}
-        (f : Writes out at (S.node (kind_of k) m) mid h) where
+        (f : Writes out at (S.node (kind_tree k) m) mid h) where
       node_text : (T : Rows) (s : Subst) → Resolves w T s → Ok w u
-          → written S (zonk s (tree T u)) ≡ S.node (kind_of k) m ++ written_row S (resolved s (T c)) (kind_of k)
+          → written S (zonk s (tree T u)) ≡ S.node (kind_tree k) m ++ written_row S (resolved s (T c)) (kind_tree k)
       unfolding written
-      node_text T s R o = rw (e, cell_tree T k c, zonk_node s (kind_of k) (T c), q, counted R k c (cell_ok w k c (rw e at o)))
+      node_text T s R o = rw (e, cell_tree T k c, zonk_node s (kind_tree k) (T c), q, counted R k c (cell_ok w k c (rw e at o)))
 
       pub ty_cell : {n : ℕ} → h ≡ Some n → {out' : List A} {r : Option ℕ} → WritesRow S w mid n k c out' r → WritesTy S w out at t out' r
       ty_cell {n} p g = end_of_chain (moves_then (writes_moves f) p g.moves) (λ T s R o v. writes_as (sym (node_text T s R o))
@@ -107,7 +107,7 @@ module _ {A : Type 0} (S : Script A) where
 
   -- ---- A part
   module _ {w : List ℕ} {out : List A} {at : ℕ} {k : Kind} {p : Part} {mid : List A} {h : Option ℕ}
-      (f : Writes out at (S.part (kind_of k) p.key p.label) mid h) where
+      (f : Writes out at (S.part (kind_tree k) p.key p.label) mid h) where
     pub part_then : {n : ℕ} → h ≡ Some n → {out' : List A} {r : Option ℕ} → WritesTy S w mid n p.ty out' r → WritesPart S w out at k p out' r
     part_then e g = record { is = λ T s R o. writes_then f e (g.is T s R o); moves = moves_then (writes_moves f) e g.moves }
 
@@ -120,13 +120,13 @@ module _ {A : Type 0} (S : Script A) where
     within = omega arith;
     all = e;
     moves = moves_none out at;
-    go = λ T s R i b. goes_start out at _ _ b (ap (λ (x : Row). written_row S (resolved s x) (kind_of k)) (sym (rest_whole T w k c n e R.cells i)));
+    go = λ T s R i b. goes_start out at _ _ b (ap (λ (x : Row). written_row S (resolved s x) (kind_tree k)) (sym (rest_whole T w k c n e R.cells i)));
   }
 
   module _ {w : List ℕ} {out₀ : List A} {at : ℕ} {k : Kind} {c n : ℕ} {out : List A} {j to : ℕ} (g : Rowing S w out₀ at k c n out j to) where
     module _ (p : Part) (l : j < n) (e : p ≡ part_w w k c j) {out' : List A} {r : Option ℕ} (f : WritesPart S w out to k p out' r) where
-      cell_text_lem : (T : Rows) (s : Subst) → written_row S (resolved s (rest T w k c n j)) (kind_of k)
-          ≡ (S.part (kind_of k) p.key p.label ++ written S (zonk s (tree T p.ty))) ++ written_row S (resolved s (rest T w k c n (j + 1))) (kind_of k)
+      cell_text_lem : (T : Rows) (s : Subst) → written_row S (resolved s (rest T w k c n j)) (kind_tree k)
+          ≡ (S.part (kind_tree k) p.key p.label ++ written S (zonk s (tree T p.ty))) ++ written_row S (resolved s (rest T w k c n (j + 1))) (kind_tree k)
       unfolding written_row app_row
       cell_text_lem T s = rw (rest_cell T w k c n j p l e, zonk_replaces s (tree T p.ty), append_assoc)
 

@@ -9,9 +9,8 @@ use Rattle.cells.specs.declared.Ty.{Ty}
 use Rattle.cells.specs.declared.Ty.TheVariants.{Int, Str, Bytes, Fact, Record, Union, Var, Error}
 use Rattle.cells.specs.Words.{count_w}
 use Rattle.cells.specs.declared.Kind.{Kind}
-use Rattle.cells.specs.declared.Kind.TheVariants.{Fields, Alternatives}
 use Rattle.cells.specs.declared.Part.{Part}
-use Rattle.cells.specs.Stands.{Rows, tree, IsCell, Ok, Cells, Binds}
+use Rattle.cells.specs.Stands.{Rows, tree, kind_tree, IsCell, Ok, Cells, Binds}
 use Rattle.writer.specs.Writes.{Writes, Moves}
 
 pub record Script (A : Type 0) : Type 0 where
@@ -37,10 +36,6 @@ unfoldable mutual
   written_row S (cell key label t r) k = S.part k key label ++ (written S t ++ written_row S r k)
 
 -- ---- A type in hand
-abbrev pub kind_of : Kind → Tree.Kind
-kind_of Fields = Tree.Record
-kind_of Alternatives = Tree.Union
-
 -- What stands before the parts of a resolved type, and before the type of a part of it.
 abbrev pub head_of : {A : Type 0} → Script A → List ℕ → Ty → List A
 head_of S w Int = S.leaf Tree.Int
@@ -77,10 +72,10 @@ pub record WritesTy {A : Type 0} (S : Script A) (w : List ℕ) (out : List A) (a
 
 pub record WritesPart {A : Type 0} (S : Script A) (w : List ℕ) (out : List A) (at : ℕ) (k : Kind) (p : Part) (out' : List A) (r : Option ℕ) : Type 0 where
   pub is : (T : Rows) (s : Subst) → Resolves w T s → Ok w p.ty
-      → Writes out at (S.part (kind_of k) p.key p.label ++ written S (zonk s (tree T p.ty))) out' r
+      → Writes out at (S.part (kind_tree k) p.key p.label ++ written S (zonk s (tree T p.ty))) out' r
   pub moves : Moves out at out' r
 
 -- A cell may have no parts, and then nothing is written.
 pub record WritesRow {A : Type 0} (S : Script A) (w : List ℕ) (out : List A) (at : ℕ) (k : Kind) (c : ℕ) (out' : List A) (r : Option ℕ) : Type 0 where
-  pub is : (T : Rows) (s : Subst) → Resolves w T s → IsCell w k c → at ≤ length out → Writes out at (written_row S (resolved s (T c)) (kind_of k)) out' r
+  pub is : (T : Rows) (s : Subst) → Resolves w T s → IsCell w k c → at ≤ length out → Writes out at (written_row S (resolved s (T c)) (kind_tree k)) out' r
   pub moves : Moves out at out' r

@@ -17,10 +17,6 @@ use Rattle.std.specs.Prelude.{None, Option, Some, unwrap_or}
 
 -- ---- Digits
 
--- nothing is `some` and `none`
-pub no_some : {A B : Type 0} {x : A} → None ≡ Some x → B
-no_some e = cc
-
 one_later : (b : Bool) (o : Option ℕ) (k n : ℕ) → ((m : ℕ) → o ≡ Some m → m < k) → elim b [ true ↦ Some 0 | false ↦ one_more o ] ≡ Some n → n < suc k
 one_later true o k n below e = let z : 0 ≡ n = cc in omega arith
 one_later false None k n below e = cc

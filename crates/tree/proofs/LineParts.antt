@@ -16,7 +16,6 @@ use Rattle.meaning.specs.Frame as Frame
 use Rattle.meaning.specs.References.{query_nodes}
 use Rattle.meaning.specs.Conditions.{all_below}
 use Rattle.sigla_hex.specs.Digits.{digits_w, half_at, line_at}
-use Rattle.sigla_hex.proofs.Line.{no_some}
 use Rattle.sigla_hex.proofs.Bytes.{digits_of_line, byte_of_line}
 use Rattle.tree.specs.Stands.{LineIs, NodeIs, QueryIs}
 use Rattle.tree.specs.Nodes.{stmt_size_w, lower_w, stmts_from}
@@ -29,8 +28,8 @@ use Rattle.std.specs.Prelude.{Some}
 pub whole_got : {A : Type 0} (g : Got A) (a : A) → whole g ≡ Some a → g ≡ got a []
 unfolding whole
 whole_got (got b []) a e = cc
-whole_got (got b (c ∷ s)) a e = no_some e
-whole_got fails a e = no_some e
+whole_got (got b (c ∷ s)) a e = cc
+whole_got fails a e = cc
 
 line_stands : (f : List ℕ) (at size kind : ℕ) (content : List ℕ) → LineIs f at size kind content → Stand f (at + 2) content
 line_stands f at size kind content l = (stand f at (kind ∷ content) (λ k h. digits_of_line f at (kind ∷ content) l.line k h)).1
