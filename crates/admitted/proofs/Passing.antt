@@ -25,7 +25,7 @@ use Rattle.cells.specs.declared.Ty.TheVariants.{Int, Str, Bytes, Fact, Record, U
 use Rattle.cells.specs.Stands.{Rows, tree, Ok, Holds, Keeps}
 use Rattle.cells.proofs.Frame.{keeps_refl, keeps_trans, keeps_sym, keeps_set, keeps_cells, ok_same}
 use Rattle.cells.proofs.Elsewhere.{keeps_env, holds_same}
-use Rattle.admitted.specs.Marks.{marked, item_w, good_w, Settles, Sound, Holding, Marks, unmarked, Passes, Unmarks}
+use Rattle.admitted.specs.Marks.{marked, item_w, good_w, Settles, MarksSound, Holding, MarksItem, unmarked, PassesItems, Unmarks}
 use Rattle.admitted.proofs.Telling.{Tells}
 use Rattle.admitted.proofs.Reaching.{holding_admitted, item_record, item_union, item_var, few, admitted_good}
 
@@ -86,7 +86,7 @@ unmarked_all {w} {n} l e q = rw q (record {
 })
 
 -- ---- A mark more
-module _ {w : List ℕ} {T : Rows} {st : State} (H : Holds w T st) (S : Sound w T st.subst) (i : ℕ) (l : i < 1280) (h : Holding w (item_w w i)) where
+module _ {w : List ℕ} {T : Rows} {st : State} (H : Holds w T st) (S : MarksSound w T st.subst) (i : ℕ) (l : i < 1280) (h : Holding w (item_w w i)) where
   kept : Keeps ENV TYS w (set w (ENV + i) 1)
   kept = keeps_set w (ENV + i) 1 (omega arith) (omega arith)
 
@@ -102,7 +102,7 @@ module _ {w : List ℕ} {T : Rows} {st : State} (H : Holds w T st) (S : Sound w 
       go false q = new_admitted t j o e (marked_new w i j g q)
 
   still : (t : Ty) → Ok w t → good_w (set w (ENV + i) 1) t ≡ true → Admitted st.subst (tree T t)
-  unfolding Sound
+  unfolding MarksSound
   still Int o g = S Int o refl
   still Str o g = S Str o refl
   still Bytes o g = S Bytes o refl
@@ -112,15 +112,15 @@ module _ {w : List ℕ} {T : Rows} {st : State} (H : Holds w T st) (S : Sound w 
   still (Var x) o g = by_mark (Var x) (768 + x) o (item_var H x) (S (Var x) o) g
   still Error o g = clash (cc)
 
-  sound_set : Sound (set w (ENV + i) 1) T st.subst
-  unfolding Sound
+  sound_set : MarksSound (set w (ENV + i) 1) T st.subst
+  unfolding MarksSound
   sound_set t o g = still t (ok_same (keeps_cells (omega arith) (keeps_sym kept)) t o) g
 
 -- ---- A pass that has come to item i
 pub record Passing (w₀ w : List ℕ) (i : ℕ) (some : Bool) : Type 0 where
   pub within : i ≤ 1280
   pub keeps : Keeps ENV TYS w₀ w
-  pub sound : (T : Rows) (st : State) → Holds w₀ T st → Sound w₀ T st.subst → Sound w T st.subst
+  pub sound : (T : Rows) (st : State) → Holds w₀ T st → MarksSound w₀ T st.subst → MarksSound w T st.subst
   pub fewer : TYS ≤ length w₀ → unmarked w 1280 + cond some 1 0 ≤ unmarked w₀ 1280
   pub rests : some ≡ false → (w ≡ w₀) × ((j : ℕ) → j < i → marked w₀ j ≡ false → ¬ Holding w₀ (item_w w₀ j))
 
@@ -136,7 +136,7 @@ passing_start w = record {
 holds_kept : {w w' : List ℕ} {T : Rows} {st : State} → Keeps ENV TYS w w' → Holds w T st → Holds w' T st
 holds_kept k H = holds_same (keeps_env (omega arith) (omega arith) k) H
 
-module _ {w₀ w : List ℕ} {i : ℕ} {some : Bool} (P : Passing w₀ w i some) (l : i < 1280) {w' : List ℕ} {r : Bool} (M : Marks w i w' r) where
+module _ {w₀ w : List ℕ} {i : ℕ} {some : Bool} (P : Passing w₀ w i some) (l : i < 1280) {w' : List ℕ} {r : Bool} (M : MarksItem w i w' r) where
   pub passing_marked : r ≡ true → Passing w₀ w' (i + 1) true
   passing_marked e =
       let m = M.new e in
@@ -164,7 +164,7 @@ module _ {w₀ w : List ℕ} {i : ℕ} {some : Bool} (P : Passing w₀ w i some)
         rests = λ q. let p = P.rests q in (p.0, below_more _ i p.1 (rw p.0 at m.1));
       })
 
-pub passing_end : {w₀ w : List ℕ} {i : ℕ} {some : Bool} → Passing w₀ w i some → 1280 ≤ i → Passes w₀ w some
+pub passing_end : {w₀ w : List ℕ} {i : ℕ} {some : Bool} → Passing w₀ w i some → 1280 ≤ i → PassesItems w₀ w some
 passing_end {w₀} {w} {i} {some} P l = record {
   keeps = P.keeps;
   sound = P.sound;
@@ -176,16 +176,16 @@ passing_end {w₀} {w} {i} {some} P l = record {
 pub record Settling (w₀ w : List ℕ) : Type 0 where
   pub keeps : Keeps ENV TYS w₀ w
   pub long : TYS ≤ length w
-  pub sound : (T : Rows) (st : State) → Holds w T st → Sound w T st.subst
+  pub sound : (T : Rows) (st : State) → Holds w T st → MarksSound w T st.subst
 
 pub settling_start : {u w : List ℕ} → TYS ≤ length u → Unmarks u w → Settling w w
-unfolding Sound
+unfolding MarksSound
 settling_start {u} {w} l U = record { keeps = keeps_refl; long = omega (arith, U.keeps.long); sound = nothing }
   where
     none : (i : ℕ) {A : Type 0} → i < 1280 → marked w i ≡ true → A
     none i h g = let q = U.none i h in clash (cc)
 
-    nothing : (T : Rows) (st : State) → Holds w T st → Sound w T st.subst
+    nothing : (T : Rows) (st : State) → Holds w T st → MarksSound w T st.subst
     nothing T st H Int o g = admitted_leaf st.subst Tree.Int
     nothing T st H Str o g = admitted_leaf st.subst Tree.String
     nothing T st H Bytes o g = admitted_leaf st.subst Tree.Bytes
@@ -195,8 +195,8 @@ settling_start {u} {w} l U = record { keeps = keeps_refl; long = omega (arith, U
     nothing T st H (Var x) o g = none (768 + x) (few H x o) g
     nothing T st H Error o g = clash (cc)
 
-module _ {w₀ w : List ℕ} (S : Settling w₀ w) {w' : List ℕ} {r : Bool} (P : Passes w w' r) where
-  after : (T : Rows) (st : State) → Holds w' T st → Sound w' T st.subst
+module _ {w₀ w : List ℕ} (S : Settling w₀ w) {w' : List ℕ} {r : Bool} (P : PassesItems w w' r) where
+  after : (T : Rows) (st : State) → Holds w' T st → MarksSound w' T st.subst
   after T st H = let B = holds_kept (keeps_sym P.keeps) H in P.sound T st B (S.sound T st B)
 
   pub settling_next : Settling w₀ w'
@@ -206,7 +206,7 @@ module _ {w₀ w : List ℕ} (S : Settling w₀ w) {w' : List ℕ} {r : Bool} (P
   settling_less e = P.fewer S.long e
 
   pub settling_end : {u : List ℕ} → Unmarks u w₀ → r ≡ false → Settles u w'
-  unfolding Sound
+  unfolding MarksSound
   settling_end U e = record {
     keeps = keeps_trans U.keeps (keeps_trans S.keeps P.keeps);
     settled = record { exactly = λ T st H t o. (after T st H t o, admitted_good H (P.rests e) t o) };

@@ -15,7 +15,7 @@ use Rattle.unification.specs.Ty as Tree
 use Rattle.unification.specs.Ty.{Row, ε, cell}
 use Rattle.unification.specs.Bindings.{Subst, bound, State}
 use Rattle.unification.specs.Calls as Calls
-use Rattle.unification.specs.Calls.{Reaches, itself, inside, through, ReachesRow, first, later, Allowed, Admitted}
+use Rattle.unification.specs.Calls.{LeadsTo, itself, inside, through, RowLeadsTo, first, later, Allowed, Admitted}
 use Rattle.unification.specs.Acyclic.{Behind, Acyclic}
 use Rattle.unification.proofs.Tests.{clash}
 use Rattle.unification.proofs.Reach.{admitted_leaf}
@@ -27,7 +27,7 @@ use Rattle.cells.specs.declared.Kind.{Kind}
 use Rattle.cells.specs.declared.Kind.TheVariants.{Fields, Alternatives}
 use Rattle.cells.specs.Words.{declared_w, count_w, part_w, bound_w}
 use Rattle.cells.specs.Stands.{Rows, tree, bound_tree, row_from, row_w, IsCell, declared, made, Ok, OkBound, Holds}
-use Rattle.admitted.specs.Marks.{marked, item_w, good_w, Sound, Distinct, BoundGood, Holding}
+use Rattle.admitted.specs.Marks.{marked, item_w, good_w, MarksSound, DistinctFields, BoundGood, Holding}
 use Rattle.std.specs.Prelude.{None, Option, Some}
 
 -- ---- A row, by the numbers of its cells
@@ -47,14 +47,14 @@ module _ (T : Rows) (w : List ℕ) (k : Kind) (c : ℕ) where
       go (no q) f = f (omega arith)
 
   distinct_row : (j n : ℕ) → ((i : ℕ) → j ≤ i → (m : ℕ) → i + 1 ≤ m → m < j + n → ¬ ((part_w w k c i).key ≡ (part_w w k c m).key))
-      → Calls.Distinct (row_from T w k c j n)
+      → Calls.DistinctKeys (row_from T w k c j n)
   unfolding row_from
   distinct_row j zero h = tt
   distinct_row j (suc n) h =
       let first = lacks_row (part_w w k c j).key (j + 1) n (λ m a b. h j (omega arith) m a (omega arith)) in
       (first, distinct_row (j + 1) n (λ i a m b d. h i (omega arith) m b (omega arith)))
 
-  row_distinct : (j n : ℕ) → Calls.Distinct (row_from T w k c j n) → (i : ℕ) → j ≤ i → (m : ℕ) → i + 1 ≤ m → m < j + n
+  row_distinct : (j n : ℕ) → Calls.DistinctKeys (row_from T w k c j n) → (i : ℕ) → j ≤ i → (m : ℕ) → i + 1 ≤ m → m < j + n
       → ¬ ((part_w w k c i).key ≡ (part_w w k c m).key)
   unfolding row_from
   row_distinct j zero h i a m b d = absurd (omega arith)
@@ -67,18 +67,18 @@ module _ (T : Rows) (w : List ℕ) (k : Kind) (c : ℕ) where
   module _ (s : Subst) where
     -- What a row reaches one of its types reaches.
     row_allowed : (j n : ℕ) → ((i : ℕ) → j ≤ i → i < j + n → Admitted s (tree T (part_w w k c i).ty)) → (u : Tree.Ty)
-        → ReachesRow s (row_from T w k c j n) u → Allowed u
+        → RowLeadsTo s (row_from T w k c j n) u → Allowed u
     unfolding row_from Admitted
     row_allowed j zero h u i = absurd (nil i)
       where
-        nil : ReachesRow s ε u → ⊥
+        nil : RowLeadsTo s ε u → ⊥
         nil = elim [ ]
     row_allowed j (suc n) h u (first i) = h j (omega arith) (omega arith) u i
     row_allowed j (suc n) h u (later i) = row_allowed (j + 1) n (λ m a b. h m (omega arith) (omega arith)) u i
 
 -- ---- What a type reaches
 module _ (s : Subst) where
-  node_admitted : (k : Tree.Kind) (r : Row) → Allowed (Tree.node k r) → ((u : Tree.Ty) → ReachesRow s r u → Allowed u) → Admitted s (Tree.node k r)
+  node_admitted : (k : Tree.Kind) (r : Row) → Allowed (Tree.node k r) → ((u : Tree.Ty) → RowLeadsTo s r u → Allowed u) → Admitted s (Tree.node k r)
   unfolding Admitted
   node_admitted k r a h u itself = a
   node_admitted k r a h u (inside i) = h u i
@@ -93,7 +93,7 @@ module _ {w : List ℕ} {T : Rows} {st : State} (H : Holds w T st) where
   unfolding row_w
   cell_row k c i = H.cells.row k c i
 
-  cell_distinct : (c : ℕ) → IsCell w Fields c → Distinct w c ↔ Calls.Distinct (T c)
+  cell_distinct : (c : ℕ) → IsCell w Fields c → DistinctFields w c ↔ Calls.DistinctKeys (T c)
   cell_distinct c i = (
     λ d. rw (cell_row Fields c i) (distinct_row T w Fields c 0 (count_w w c) (λ a l m h b. d a (omega arith) m (omega arith) h)),
     λ d a l m b h. row_distinct T w Fields c 0 (count_w w c) (rw (cell_row Fields c i) at d) a (omega arith) m h (omega arith),
@@ -103,15 +103,15 @@ module _ {w : List ℕ} {T : Rows} {st : State} (H : Holds w T st) where
   bound_is x u q = H.binds.at x ∙ rw q
 
   -- ---- Sound
-  module _ (S : Sound w T st.subst) where
+  module _ (S : MarksSound w T st.subst) where
     cell_sound : (k : Kind) (c : ℕ) → IsCell w k c → ((j : ℕ) → j < count_w w c → good_w w (part_w w k c j).ty ≡ true) → (u : Tree.Ty)
-        → ReachesRow st.subst (T c) u → Allowed u
-    unfolding Sound
+        → RowLeadsTo st.subst (T c) u → Allowed u
+    unfolding MarksSound
     cell_sound k c i h u r = row_allowed T w k c st.subst 0 (count_w w c)
         (λ j a b. S (part_w w k c j).ty (H.cells.ok k c j i (omega arith)) (h j (omega arith))) u (rw (cell_row k c i) at r)
 
     bound_sound : (x : ℕ) (b : Option Ty) → bound_w w x ≡ b → OkBound w b → BoundGood w b → (t : Tree.Ty) → bound st.subst x ≡ Some t → Admitted st.subst t
-    unfolding Sound
+    unfolding MarksSound
     bound_sound x None q o g t e = let z : bound_tree T (bound_w w x) ≡ Some t = sym (H.binds.at x) ∙ e in clash (cc)
     bound_sound x (Some u) q o g t e = let z : tree T u ≡ t = cc (bound_is x u q) in rw (← z) (S u o g)
 
@@ -185,7 +185,7 @@ module _ {w : List ℕ} {T : Rows} {st : State} (H : Holds w T st) where
     node_good kind r p a Bytes e o = refl
     node_good kind r p a (Fact q) e o = refl
     node_good kind r p a (Record c) e o =
-        let d : Calls.Distinct (T c) = (rw (← e) at a) (Tree.node Tree.Record (T c)) itself in
+        let d : Calls.DistinctKeys (T c) = (rw (← e) at a) (Tree.node Tree.Record (T c)) itself in
         good_holding (Record c) o (p Fields c (cc) o, (cell_distinct c o).1 d)
     node_good kind r p a (Union c) e o = good_holding (Union c) o (p Alternatives c (cc) o)
     node_good kind r p a (Var x) e o = clash (cc)
@@ -214,7 +214,7 @@ module _ {w : List ℕ} {T : Rows} {st : State} (H : Holds w T st) where
     mutual
       unfolding Admitted row_from
 
-      tree_good : (v : Tree.Ty) → ((y : ℕ) → Reaches st.subst v (Tree.Var y) → Ok w (Var y) → good_w w (Var y) ≡ true)
+      tree_good : (v : Tree.Ty) → ((y : ℕ) → LeadsTo st.subst v (Tree.Var y) → Ok w (Var y) → good_w w (Var y) ≡ true)
           → Admitted st.subst v → (t : Ty) → tree T t ≡ v → Ok w t → good_w w t ≡ true
       tree_good (Tree.leaf p) b a t e o = leaf_is p t e
       tree_good (Tree.node kind r) b a t e o = node_good kind r (λ k c q i j l.
@@ -223,8 +223,8 @@ module _ {w : List ℕ} {T : Rows} {st : State} (H : Holds w T st) where
       tree_good (Tree.Var x) b a t e o = var_is x (b x itself) t e o
       tree_good Tree.Error b a t e o = absurd (a Tree.Error itself)
 
-      row_good : (r : Row) → ((y : ℕ) → ReachesRow st.subst r (Tree.Var y) → Ok w (Var y) → good_w w (Var y) ≡ true)
-          → ((u : Tree.Ty) → ReachesRow st.subst r u → Allowed u) → (k : Kind) (c : ℕ) → IsCell w k c → (j n : ℕ) → row_from T w k c j n ≡ r
+      row_good : (r : Row) → ((y : ℕ) → RowLeadsTo st.subst r (Tree.Var y) → Ok w (Var y) → good_w w (Var y) ≡ true)
+          → ((u : Tree.Ty) → RowLeadsTo st.subst r u → Allowed u) → (k : Kind) (c : ℕ) → IsCell w k c → (j n : ℕ) → row_from T w k c j n ≡ r
           → j + n ≤ count_w w c → (i : ℕ) → j ≤ i → i < j + n → good_w w (part_w w k c i).ty ≡ true
       row_good ε b a k c o j zero e f i l m = absurd (omega arith)
       row_good ε b a k c o j (suc n) e f i l m = clash (cc)

@@ -33,28 +33,28 @@ good_w w Error = false
 -- ---- What the marks promise
 
 -- The marks are settled: a type in hand is good exactly where it is admitted.
-pub record Settled (w : List ℕ) : Type 0 where
+pub record MarksSettled (w : List ℕ) : Type 0 where
   pub exactly : (T : Rows) (st : State) → Holds w T st → (t : Ty) → Ok w t → (good_w w t ≡ true) ↔ Admitted st.subst (tree T t)
 
 pub record Settles (w w' : List ℕ) : Type 0 where
   pub keeps : Keeps ENV TYS w w'
-  pub settled : Settled w'
+  pub settled : MarksSettled w'
 
 -- ---- On the way
 
 -- Nothing is good that is not admitted.
-unfoldable pub Sound : List ℕ → Rows → Subst → Type 0
-Sound w T s = (t : Ty) → Ok w t → good_w w t ≡ true → Admitted s (tree T t)
+unfoldable pub MarksSound : List ℕ → Rows → Subst → Type 0
+MarksSound w T s = (t : Ty) → Ok w t → good_w w t ≡ true → Admitted s (tree T t)
 
 -- What a type holds at once is good, and a record names no field twice.
 abbrev pub AllGood : List ℕ → Ty → Type 0
 AllGood w t = (j : ℕ) → j < parts_w w t → good_w w (part_of_w w t j).ty ≡ true
 
-abbrev pub Lacks : List ℕ → ℕ → ℕ → ℕ → Type 0
-Lacks w c key from = (j : ℕ) → j < count_w w c → from ≤ j → ¬ (key ≡ (field_w w c j).key)
+abbrev pub LacksFrom : List ℕ → ℕ → ℕ → ℕ → Type 0
+LacksFrom w c key from = (j : ℕ) → j < count_w w c → from ≤ j → ¬ (key ≡ (field_w w c j).key)
 
-abbrev pub Distinct : List ℕ → ℕ → Type 0
-Distinct w c = (i : ℕ) → i < count_w w c → Lacks w c (field_w w c i).key (i + 1)
+abbrev pub DistinctFields : List ℕ → ℕ → Type 0
+DistinctFields w c = (i : ℕ) → i < count_w w c → LacksFrom w c (field_w w c i).key (i + 1)
 
 abbrev pub BoundGood : List ℕ → Option Ty → Type 0
 BoundGood w None = Unit {0}
@@ -65,13 +65,13 @@ Holding w Int = Unit {0}
 Holding w Str = Unit {0}
 Holding w Bytes = Unit {0}
 Holding w (Fact p) = Unit {0}
-Holding w (Record c) = AllGood w (Record c) × Distinct w c
+Holding w (Record c) = AllGood w (Record c) × DistinctFields w c
 Holding w (Union c) = AllGood w (Union c)
 Holding w (Var x) = BoundGood w (bound_w w x)
 Holding w Error = ⊥
 
 -- One item, marked where it is unmarked and holds.
-pub record Marks (w : List ℕ) (i : ℕ) (w' : List ℕ) (r : Bool) : Type 0 where
+pub record MarksItem (w : List ℕ) (i : ℕ) (w' : List ℕ) (r : Bool) : Type 0 where
   pub new : r ≡ true → (w' ≡ set w (ENV + i) 1) × (marked w i ≡ false) × Holding w (item_w w i)
   pub old : r ≡ false → (w' ≡ w) × (marked w i ≡ false → ¬ Holding w (item_w w i))
 
@@ -82,9 +82,9 @@ unmarked w zero = 0
 unmarked w (suc n) = cond (marked w n) 0 1 + unmarked w n
 
 -- All items in turn.
-pub record Passes (w w' : List ℕ) (r : Bool) : Type 0 where
+pub record PassesItems (w w' : List ℕ) (r : Bool) : Type 0 where
   pub keeps : Keeps ENV TYS w w'
-  pub sound : (T : Rows) (st : State) → Holds w T st → Sound w T st.subst → Sound w' T st.subst
+  pub sound : (T : Rows) (st : State) → Holds w T st → MarksSound w T st.subst → MarksSound w' T st.subst
   pub fewer : TYS ≤ length w → r ≡ true → unmarked w' 1280 < unmarked w 1280
   pub rests : r ≡ false → (i : ℕ) → i < 1280 → marked w' i ≡ false → ¬ Holding w' (item_w w' i)
 

@@ -6,7 +6,7 @@
 ghost use Rattle.std.specs.Prelude.{◌≡◌, ◌<◌, ◌≤◌, ◌↔◌, IsTrue, length};
 ghost use Rattle.work.specs.Layout.{TYS};
 ghost use Rattle.cells.specs.declared.Ty.TheVariants as Ty;
-ghost use Rattle.admitted.specs.Marks.{marked, item_w, good_w, AllGood, Lacks, Distinct, Holding, BoundGood, Marks, Passes, Unmarks, Settles};
+ghost use Rattle.admitted.specs.Marks.{marked, item_w, good_w, AllGood, LacksFrom, DistinctFields, Holding, BoundGood, MarksItem, PassesItems, Unmarks, Settles};
 ghost use Rattle.cells.specs.Words.{bound_w};
 
 use cells::{Kind, Ty};
@@ -44,13 +44,13 @@ fn parts_good(w: &[u32], t: Ty) -> bool
 
 // Whether no field from this number on has the name. They stand in no order.
 fn lacks(w: &[u32], c: u32, key: u32, from: u32) -> bool
-    ensures { IsTrue result ↔ Lacks w.now c key from }
+    ensures { IsTrue result ↔ LacksFrom w.now c key from }
 {
     cells::place_from(w, Kind::Fields, c, from, key).is_none()
 }
 
 fn distinct(w: &[u32], c: u32) -> bool
-    ensures { IsTrue result ↔ Distinct w.now c }
+    ensures { IsTrue result ↔ DistinctFields w.now c }
 {
     (0..cells::count(w, c)).all(|i| lacks(w, c, cells::key_at(w, Kind::Fields, c, i), i + 1))
 }
@@ -89,7 +89,7 @@ fn item(w: &[u32], i: u32) -> Ty
 }
 
 fn mark(w: &mut [u32], i: u32) -> bool
-    ensures { Marks w.old i w.new result }
+    ensures { MarksItem w.old i w.new result }
 {
     if is_marked(w, wide(i)) || !holding(w, item(w, i)) {
         return false;
@@ -100,7 +100,7 @@ fn mark(w: &mut [u32], i: u32) -> bool
 
 // Whether there was one to mark. Each is tried, so no `any`, which would stop at the first.
 fn pass(w: &mut [u32]) -> bool
-    ensures { Passes w.old w.new result }
+    ensures { PassesItems w.old w.new result }
 {
     let mut some = false;
     for i in 0..ITEMS {

@@ -1,14 +1,16 @@
 -- The run left the lines of the diagnostics at the slice's start. The lines of the nodes are written behind them, and the two blocks
 -- change places: what then stands at the start is the answer.
-use Rattle.std.proofs.Common.{◌≡◌, ℕ, ◌+◌, ◌-◌, ◌≤◌, ◌<◌, List, [], ◌∷◌, ◌++◌, map, length, get_or, take, drop, None, Option, Some, refl, sym, ap, ◌∙◌, arith, length-append, take_at}
+use Rattle.std.proofs.Common.{◌≡◌, ℕ, ◌+◌, ◌-◌, ◌≤◌, ◌<◌, List, [], ◌∷◌, ◌++◌, map, length, get_or, take, drop, None, Option, Some, refl, sym, ap, ◌∙◌, arith}
+use Rattle.std.proofs.Common.{length-append, take_at}
 use Rattle.std.proofs.lemmas.List.{drop_at}
 use Rattle.unification.specs.Ty as Tree
 use Rattle.work.specs.Layout.{FULL}
 use Rattle.cells.specs.Stands.{Rows}
-use Rattle.meaning.specs.File.{Described}
+use Rattle.format.specs.File.{Described}
 use Rattle.meaning.specs.Check.{Checker, Typed, goes, typed, checked, reversed, zonked}
 use Rattle.meaning.specs.Messages.{message_text}
-use Rattle.meaning.specs.Answer.{bytes₄, hex_line, node_lines, diagnostic_lines, unused_lines, answer_lines}
+use Rattle.format.specs.Bytes.{bytes₄, hex_line}
+use Rattle.meaning.specs.Answer.{node_lines, diagnostic_lines, unused_lines, answer_lines}
 use Rattle.state.specs.Runs.{Runs}
 use Rattle.state.specs.Lines.{place_w, Lines, within, beyond, Told}
 use Rattle.writer.specs.Writes.{placed, Writes}

@@ -1,5 +1,6 @@
 -- Two blocks change places by three reversals: reverse (reverse x ++ reverse y) is y ++ x.
-use Rattle.std.proofs.Common.{ℕ, ◌+◌, ◌-◌, ◌≤◌, ◌≡◌, List, ◌++◌, length, take, drop, reverse, append-nil, drop_of_length-le, drop_at, le_refl, take_all, take_at, arith, ap, sym, ◌∙◌}
+use Rattle.std.proofs.Common.{ℕ, ◌+◌, ◌-◌, ◌≤◌, ◌≡◌, List, ◌++◌, length, take, drop, reverse, append-nil, drop_of_length-le, drop_at, le_refl, take_all}
+use Rattle.std.proofs.Common.{take_at, arith, ap, sym, ◌∙◌}
 use Rattle.std.proofs.lemmas.List.{drop-take, reverse-append, reverse-reverse}
 use lib.Seq.{slice}
 use borrow.Rule.Slice.PartMut.{put_mid, post_of, Post-is}

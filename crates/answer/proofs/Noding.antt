@@ -1,6 +1,7 @@
 -- The slot of a node holds no type or the type that it was found to be. To write the lines of the nodes from i on is to write
 -- them all.
-use Rattle.std.proofs.Common.{◌≡◌, ℕ, ◌+◌, ◌*◌, ◌≤◌, ◌<◌, List, [], ◌∷◌, ◌++◌, map, length, get_or, drop, None, Option, Some, refl, ◌∙◌, add-one, arith, drop_of_length-le, drop-cons}
+use Rattle.std.proofs.Common.{◌≡◌, ℕ, ◌+◌, ◌*◌, ◌≤◌, ◌<◌, List, [], ◌∷◌, ◌++◌, map, length, get_or, drop, None, Option, Some, refl, ◌∙◌, add-one, arith}
+use Rattle.std.proofs.Common.{drop_of_length-le, drop-cons}
 use Rattle.std.proofs.Math.ListN.{length-map, get_or-map}
 use Rattle.unification.specs.Bindings.{State}
 use Rattle.work.specs.Layout.{NODE-COUNT, TYS}
@@ -8,10 +9,11 @@ use Rattle.cells.specs.declared.Ty.{Ty}
 use Rattle.cells.specs.Words.{slot_w}
 use Rattle.cells.specs.Stands.{Rows, Holds}
 use Rattle.meaning.specs.Check.{zonked}
-use Rattle.meaning.specs.Answer.{bytes₂, slot_bytes, hex_line, node_lines}
+use Rattle.format.specs.Bytes.{bytes₂, hex_line}
+use Rattle.meaning.specs.Answer.{slot_bytes, node_lines}
 use Rattle.writer.specs.Writes.{Writes, Moves, hex_of}
 use Rattle.resolving.proofs.Typing.{resolves}
-use Rattle.answer.specs.Types.{WritesTy}
+use Rattle.answer.specs.Types.{WritesHexTy}
 use Rattle.answer.specs.Lines.{node_bytes, WritesSlot, WritesNodeLine, WritesNodeLines}
 use Rattle.writer.proofs.Writing.{writes_moves, full_moves, moves_then, moves_next, Goes}
 use Rattle.writer.proofs.Writing.{goes_next, goes_full, goes_done}
@@ -23,7 +25,7 @@ pub slot_none : {w out : List ℕ} {at n : ℕ} {out' : List ℕ} {r : Option �
 unfolding slot_bytes zonked
 slot_none {w} {out} {at} {n} e f = record { is = λ T st H l. rw (H.types.at n l, e) f; moves = writes_moves f }
 
-pub slot_some : {w out : List ℕ} {at n : ℕ} {out' : List ℕ} {r : Option ℕ} (t : Ty) → slot_w w (TYS + 2 * n) ≡ Some t → WritesTy w out at t out' r
+pub slot_some : {w out : List ℕ} {at n : ℕ} {out' : List ℕ} {r : Option ℕ} (t : Ty) → slot_w w (TYS + 2 * n) ≡ Some t → WritesHexTy w out at t out' r
     → WritesSlot w out at n out' r
 unfolding slot_bytes zonked
 slot_some {w} {out} {at} {n} {out'} {r} t e f = record {

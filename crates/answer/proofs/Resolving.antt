@@ -5,13 +5,14 @@ use Rattle.unification.specs.Ty.{Row, ε, cell, row_len}
 use Rattle.unification.specs.Bindings.{zonk}
 use Rattle.cells.specs.declared.Ty.{Ty}
 use Rattle.cells.specs.Stands.{tree}
-use Rattle.meaning.specs.Answer.{bytes₂, kind_byte, cell_head, ty_bytes, row_bytes}
+use Rattle.format.specs.Bytes.{bytes₂}
+use Rattle.meaning.specs.Answer.{kind_byte, cell_head, ty_bytes, row_bytes}
 use Rattle.writer.specs.Writes.{hex_of}
 use Rattle.writer.proofs.Writing.{writes_as}
 use Rattle.writer.proofs.Digits.{hex_append}
 use Rattle.resolving.specs.Scripts as Scripts
 use Rattle.resolving.specs.Scripts.{written, written_row}
-use Rattle.answer.specs.Types.{digits, WritesTy}
+use Rattle.answer.specs.Types.{digits, WritesHexTy}
 
 mutual
   unfolding digits written ty_bytes hex_of
@@ -31,5 +32,5 @@ mutual
       rw (written_hex t, row_hex r k, hex_append (head ++ ty_bytes t) (row_bytes r k), hex_append head (ty_bytes t), append_assoc)
 
 module _ {w out : List ℕ} {at : ℕ} {t : Ty} {out' : List ℕ} {r : Option ℕ} where
-  pub in_digits : Scripts.WritesTy digits w out at t out' r → WritesTy w out at t out' r
+  pub in_digits : Scripts.WritesTy digits w out at t out' r → WritesHexTy w out at t out' r
   in_digits f = record { is = λ T s R o. writes_as (written_hex (zonk s (tree T t))) (f.is T s R o); moves = f.moves }

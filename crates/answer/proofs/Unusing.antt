@@ -9,9 +9,9 @@ use native.Mathlib.Omega.{arith}
 use lib.ListN.{length, get_or}
 use Rattle.work.specs.Layout.{UNUSED-COUNT, UNUSED}
 use Rattle.cells.specs.Stands.{Rows}
-use Rattle.meaning.specs.All.{All}
-use Rattle.meaning.specs.Syntax.{Span, node_at}
-use Rattle.meaning.specs.File.{Described}
+use Rattle.format.specs.All.{All}
+use Rattle.format.specs.Syntax.{Span, node_at}
+use Rattle.format.specs.File.{Described}
 use Rattle.meaning.specs.Check.{Checker, reversed}
 use Rattle.meaning.specs.Answer.{unused_line, unused_lines}
 use Rattle.state.specs.Words.{numbers_of, unused_of}

@@ -5,10 +5,11 @@ use Rattle.unification.specs.Ty as Tree
 use Rattle.unification.specs.Bindings.{State}
 use Rattle.work.specs.Layout.{NODE-COUNT}
 use Rattle.cells.specs.Stands.{Rows, Holds}
-use Rattle.meaning.specs.File.{Described}
+use Rattle.format.specs.File.{Described}
 use Rattle.meaning.specs.Check.{Checker, Typed, goes, typed, checked, reversed, zonked}
 use Rattle.meaning.specs.Messages.{message_text}
-use Rattle.meaning.specs.Answer.{bytes₂, slot_bytes, hex_line, node_lines, diagnostic_lines, unused_lines, answer_lines}
+use Rattle.format.specs.Bytes.{bytes₂, hex_line}
+use Rattle.meaning.specs.Answer.{slot_bytes, node_lines, diagnostic_lines, unused_lines, answer_lines}
 use Rattle.writer.specs.Writes.{Writes, Moves, hex_of}
 use Rattle.state.specs.Runs.{Runs}
 use Rattle.state.specs.Lines.{Told}
@@ -38,7 +39,8 @@ pub record WritesNodeLines (w out : List ℕ) (at : ℕ) (out' : List ℕ) (r : 
 -- the nodes and of the diagnostics:
 pub record WritesLines (w out out' : List ℕ) (r : Option ℕ) : Type 0 where
   pub is : (f : List ℕ) (T : Rows) (d : Described) (c : Checker) → Runs f w T d c → Told d w out c 0
-      → (ceiling : ℕ) (ty : Tree.Ty) (t : Typed) → checked ceiling (goes ty c) ≡ typed t → Writes out 0 (node_lines 0 t.tys ++ diagnostic_lines (message_text d.names d.schema) t.diagnostics) out' r
+      → (ceiling : ℕ) (ty : Tree.Ty) (t : Typed) → checked ceiling (goes ty c) ≡ typed t
+      → Writes out 0 (node_lines 0 t.tys ++ diagnostic_lines (message_text d.names d.schema) t.diagnostics) out' r
   pub long : length out' ≡ length out
 
 -- The lines of the entries that left unmarked, in order of leaving:

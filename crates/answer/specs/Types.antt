@@ -6,7 +6,8 @@ use Rattle.unification.specs.Bindings.{Subst, zonk}
 use Rattle.cells.specs.declared.Ty.{Ty}
 use Rattle.cells.specs.declared.Ty.TheVariants.{Int, Str, Bytes, Fact, Record, Union, Var, Error}
 use Rattle.cells.specs.Stands.{Rows, tree, Ok}
-use Rattle.meaning.specs.Answer.{bytes₂, leaf_bytes, kind_byte, ty_bytes, cell_head}
+use Rattle.format.specs.Bytes.{bytes₂}
+use Rattle.meaning.specs.Answer.{leaf_bytes, kind_byte, ty_bytes, cell_head}
 use Rattle.writer.specs.Writes.{Writes, Moves, hex_of}
 use Rattle.resolving.specs.Scripts.{Script, head_of, Resolves}
 
@@ -31,6 +32,6 @@ head_some w (Union c) = omega arith
 head_some w (Var x) = omega arith
 head_some w Error = omega arith
 
-pub record WritesTy (w out : List ℕ) (at : ℕ) (t : Ty) (out' : List ℕ) (r : Option ℕ) : Type 0 where
+pub record WritesHexTy (w out : List ℕ) (at : ℕ) (t : Ty) (out' : List ℕ) (r : Option ℕ) : Type 0 where
   pub is : (T : Rows) (s : Subst) → Resolves w T s → Ok w t → Writes out at (hex_of (ty_bytes (zonk s (tree T t)))) out' r
   pub moves : Moves out at out' r

@@ -2,7 +2,7 @@
 #![tactic(auto)]
 
 ghost use Rattle.std.specs.Prelude.{◌∷◌, ◌++◌, ◌≡◌, ◌≤◌, length, take, drop};
-ghost use Rattle.meaning.specs.Answer.{hex_line, bytes₂, bytes₄};
+ghost use Rattle.format.specs.Bytes.{hex_line, bytes₂, bytes₄};
 ghost use Rattle.writer.specs.Writes.{Writes, hex_of};
 ghost use Rattle.answer.specs.Types.{digits, head_some};
 ghost use Rattle.answer.specs.Lines.{WritesSlot, WritesNodeLine, WritesNodeLines, WritesLines, WritesUnusedLines, WritesAnswer};

@@ -2,8 +2,8 @@
 use Rattle.std.proofs.Common.{Ok, List, [], ◌∷◌, get_or, ◌≡◌, refl, ℕ, zero, suc, ◌<◌, ◌≤◌, arith}
 use Rattle.cabinet.specs.declared.Group.{Group}
 use Rattle.cabinet.specs.Cabinet.{total, places, ceiling_of, charged, set_up, rested}
-use Rattle.cabinet.specs.Promises.{Allowed}
-use Rattle.cabinet.specs.Days.{Led, set_up_lem, query, new_day, Assured}
+use Rattle.cabinet.specs.Promises.{AllowedShares}
+use Rattle.cabinet.specs.Days.{LedToGroup, set_up_lem, query, new_day, Assured}
 use Rattle.cabinet.proofs.Days.{always, assured}
 
 abbrev shares : List ℕ
@@ -15,7 +15,7 @@ caps = 900 ∷ 200 ∷ 500 ∷ []
 abbrev three : Group
 three = set_up 1000 shares caps
 
-allowed : Allowed 1000 shares caps
+allowed : AllowedShares 1000 shares caps
 unfolding total
 allowed = record { pairs = refl; rules = record { some = omega arith; few = omega arith; shares = omega arith; caps = enough } }
   where
@@ -25,7 +25,7 @@ allowed = record { pairs = refl; rules = record { some = omega arith; few = omeg
     enough (suc (suc zero)) l = omega arith
     enough (suc (suc (suc i))) l = omega arith
 
-begun : Led three
+begun : LedToGroup three
 begun = set_up_lem 1000 shares caps (record { exactly = (λ _. allowed, λ _. refl); made = refl; turned_down = tt })
 
 -- 1,000 less the 200 and the 100 that the others are sure of
@@ -33,7 +33,7 @@ pub first_may : ceiling_of three 0 ≡ 700
 unfolding total places
 first_may = refl
 
-used : Led (charged three 0 700)
+used : LedToGroup (charged three 0 700)
 used = query begun 0 700 (omega arith) (rw first_may (omega arith))
 
 pub third_may : ceiling_of (charged three 0 700) 2 ≡ 100

@@ -5,7 +5,7 @@ use Rattle.std.proofs.lemmas.Bool.Decides.{nat_tests}
 use Rattle.cabinet.specs.declared.Desk.{Desk}
 use Rattle.cabinet.specs.declared.Group.{Group}
 use Rattle.cabinet.specs.Cabinet.{absent, desk, total, larger, but, Rules, Valid, ceiling_of, charged, rested, set_up}
-use Rattle.cabinet.specs.Promises.{Allowed}
+use Rattle.cabinet.specs.Promises.{AllowedShares}
 use Rattle.cabinet.proofs.Totals.{total_same, total_split, total_taken}
 use Rattle.cabinet.proofs.Places.{get_or-places}
 
@@ -52,14 +52,16 @@ module _ (g : Group) (d visits : ℕ) where
       caps = λ i k. omega (arith, (grown i).share, (grown i).cap, v.rules.caps i k);
     };
     uses = λ i k. grind (arith, common_steps, within, v.uses);
-    held = omega (arith, total_split d (λ i. larger (desk (charged g d visits) i)) g.count at, others_stay, (grown d).share, (grown d).used, beside g v d at, l);
+    held =
+        omega (arith, total_split d (λ i. larger (desk (charged g d visits) i)) g.count at, others_stay, (grown d).share, (grown d).used, beside g v d at, l);
   }
 
 -- ---- No use yet
 
 module _ (g : Group) (share cap : ℕ → ℕ) (unused : (i : ℕ) → i < 16 → desk g i ≡ record { share = share i; cap = cap i; used = 0 }) where
   -- A fact of each of the first desks, by what it is.
-  each : (n : ℕ) → n ≤ 16 → (P : ℕ → Desk → Type 0) → ((i : ℕ) → i < n → P i (record { share = share i; cap = cap i; used = 0 })) → (i : ℕ) → i < n → P i (desk g i)
+  each : (n : ℕ) → n ≤ 16 → (P : ℕ → Desk → Type 0) → ((i : ℕ) → i < n → P i (record { share = share i; cap = cap i; used = 0 })) → (i : ℕ) → i < n
+      → P i (desk g i)
   each n few P h i l = rw (unused i (omega arith)) (h i l)
 
   pub unused_valid : Rules g.count g.pool share cap → Valid g
@@ -89,8 +91,8 @@ module _ (pool : ℕ) (shares caps : List ℕ) where
   set_up_at : (i : ℕ) → i < 16 → desk (set_up pool shares caps) i ≡ record { share = get_or shares i 0; cap = get_or caps i 0; used = 0 }
   set_up_at i k = get_or-places _ 16 i k
 
-  pub set_up_valid : Allowed pool shares caps → Valid (set_up pool shares caps)
+  pub set_up_valid : AllowedShares pool shares caps → Valid (set_up pool shares caps)
   set_up_valid a = unused_valid (set_up pool shares caps) (λ i. get_or shares i 0) (λ i. get_or caps i 0) set_up_at a.rules
 
-  pub set_up_allowed : length shares ≡ length caps → Valid (set_up pool shares caps) → Allowed pool shares caps
+  pub set_up_allowed : length shares ≡ length caps → Valid (set_up pool shares caps) → AllowedShares pool shares caps
   set_up_allowed e v = record { pairs = e; rules = unused_rules (set_up pool shares caps) (λ i. get_or shares i 0) (λ i. get_or caps i 0) set_up_at v }

@@ -76,4 +76,5 @@ rested g = record { count = g.count; pool = g.pool; desks = places (λ i. record
 
 -- The places after the last desk hold zeros.
 abbrev pub set_up : ℕ → List ℕ → List ℕ → Group
-set_up pool shares caps = record { count = length shares; pool = pool; desks = places (λ i. record { share = get_or shares i 0; cap = get_or caps i 0; used = 0 }) 16 }
+set_up pool shares caps =
+    record { count = length shares; pool = pool; desks = places (λ i. record { share = get_or shares i 0; cap = get_or caps i 0; used = 0 }) 16 }

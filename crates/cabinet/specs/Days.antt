@@ -6,10 +6,10 @@ use Rattle.cabinet.specs.Promises.{Rests, SetsUp, left}
 
 -- Any list of calls from a set-up that is not turned down: queries at any desks, each charged at most its ceiling of that
 -- moment, and new days.
-pub data Led : Group → Type 0 where
-  set_up_lem : (pool : ℕ) (shares caps : List ℕ) {g : Group} → SetsUp pool shares caps (Ok g) → Led g
-  query : {g : Group} → Led g → (d visits : ℕ) → d < g.count → visits ≤ ceiling_of g d → Led (charged g d visits)
-  new_day : {g : Group} → Led g → (r : Result Group Group) → Rests g r → Led (left r)
+pub data LedToGroup : Group → Type 0 where
+  set_up_lem : (pool : ℕ) (shares caps : List ℕ) {g : Group} → SetsUp pool shares caps (Ok g) → LedToGroup g
+  query : {g : Group} → LedToGroup g → (d visits : ℕ) → d < g.count → visits ≤ ceiling_of g d → LedToGroup (charged g d visits)
+  new_day : {g : Group} → LedToGroup g → (r : Result Group Group) → Rests g r → LedToGroup (left r)
 
 -- "a desk's ceiling is never under the smaller of 1,048,576 and the unused rest of its share, and no use passes its
 -- cap"

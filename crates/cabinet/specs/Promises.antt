@@ -31,12 +31,12 @@ pub record Rests (g : Group) (r : Result Group Group) : Type 0 where
   pub unchanged : IfErr r (λ h. h ≡ g)
 
 -- Shares and caps that a group can be set up with.
-pub record Allowed (pool : ℕ) (shares caps : List ℕ) : Type 0 where
+pub record AllowedShares (pool : ℕ) (shares caps : List ℕ) : Type 0 where
   pub pairs : length shares ≡ length caps
   pub rules : Rules (length shares) pool (λ i. get_or shares i 0) (λ i. get_or caps i 0)
 
 pub record SetsUp (pool : ℕ) (shares caps : List ℕ) (r : Result Group Group) : Type 0 where
-  pub exactly : IsOk r ↔ Allowed pool shares caps
+  pub exactly : IsOk r ↔ AllowedShares pool shares caps
   pub made : IfOk r (λ g. g ≡ set_up pool shares caps)
   pub turned_down : IfErr r (λ g. g ≡ nobody)
 

@@ -201,7 +201,8 @@ not_inside x T ask v (Var y) n o = rw (ne_eqb x y (λ e. n (ap Var (sym e))), oc
 not_inside x T ask v Error n o = refl
 
 module _ {w : List ℕ} {x : ℕ} {u : Ty} {left n j v : ℕ} (g : Asking Any (asks x) w u left n j v) where
-  pub occurring_next : (t : Ty) → j < n → t ≡ (part_of_w w u j).ty → {a : Option (Bool × ℕ)} → Occurs w x t v a → (l : ℕ) → a ≡ Some (false, l) → Asking Any (asks x) w u left n (j + 1) l
+  pub occurring_next : (t : Ty) → j < n → t ≡ (part_of_w w u j).ty → {a : Option (Bool × ℕ)} → Occurs w x t v a → (l : ℕ) → a ≡ Some (false, l)
+      → Asking Any (asks x) w u left n (j + 1) l
   occurring_next t h e o l q = asking_next g t h e l (rw q at o.fewer) (λ T s C B A i d b k m r.
       any_next (λ u t. Bindings.occurs d s x u t) v l k m _ r (sym (rw q at (o.is T s C B i d (omega (arith, g.fewer))))))
 

@@ -29,7 +29,7 @@ use Rattle.cells.specs.declared.Kind.TheVariants.{Fields, Alternatives}
 use Rattle.cells.specs.Words.{declared_w, made_field, fresh_w}
 use Rattle.cells.specs.Inferred.{new_record_w, new_record_ty, row_made, rows_with, Filled}
 use Rattle.cells.specs.Stands.{Rows, tree, kind_tree, bound_tree, tag_of, IsCell, declared, made, Ok, Holds}
-use Rattle.cells.specs.Promises.{Stays, Ends, Unifies}
+use Rattle.cells.specs.Promises.{Stays, UnifyEnds, Unifies}
 use Rattle.cells.specs.CodeCalls.{Declares, Permitted, untyped, with_state_lem, united, CodeCalls, none_yet, unknown, reserving, filling}
 use Rattle.cells.specs.CodeCalls.{record_cell, success, failure, snapping, rolling_back, spending, annotation, CodeLed, between_calls, at_the_limit}
 use Rattle.cells.specs.CodeCalls.{Returned}
@@ -167,7 +167,7 @@ module _ {v nodes : ℕ} where
     expected_side : Side (length m.state.subst) y
     expected_side = ok_side b.holds b.permitted expected oe
 
-    ends : Ends w w' T r (Unify.unify m.state x y)
+    ends : UnifyEnds w w' T r (Unify.unify m.state x y)
     unfolding Unify.unify
     ends = U.is T m.state b.holds b.visits og oe m.state.left (omega (arith, b.visits))
 
@@ -191,9 +191,9 @@ module _ {v nodes : ℕ} where
         let rob : AllAsRobinson last = rw e at (robinson v (untyped nodes) _ calls) in
         (claim.0, rob.0)
 
-    go : (u : Unify.Unified) → Unify.unify m.state x y ≡ u → Ends w w' T r u → After (Kept m.state) u → Notes m.state.subst x y u
+    go : (u : Unify.Unified) → Unify.unify m.state x y ≡ u → UnifyEnds w w' T r u → After (Kept m.state) u → Notes m.state.subst x y u
         → Goes v nodes w' T marks m x y r (Unify.end_of u)
-    unfolding Ends
+    unfolding UnifyEnds
     go (Unify.Ok st) q e kept n =
         let calls = Calls.then_call b.calls (Calls.unification x y got_side expected_side q) in
         rw e.0 (stayed st calls e.1 (ap length kept.tys), told true st n.0 calls n.1)
@@ -236,7 +236,7 @@ module _ {v nodes : ℕ} where
       }
   code_calls (filling {w} i name t from n k lt small R low high) =
       let b = code_calls k in
-      let K = put_field_keeps w i name t lt small in
+      let K = put_field_keeps w i name t in
       record {
         calls = b.calls;
         holds = put_field_holds w i name t lt small R low high b.holds.cells.few_records b.holds;

@@ -109,7 +109,8 @@ module _ {w : List ℕ} {c from : ℕ} {best : Option ℕ} {n j : ℕ} {least : 
     }
 
 -- A key that is `from` itself ends the scan.
-pub scan_stop : {w : List ℕ} {c from : ℕ} {best : Option ℕ} {n j : ℕ} {least : Option ℕ} → Lowering w c from best n j least → ((i : ℕ) → get_or w i 0 < 4294967296)
+pub scan_stop : {w : List ℕ} {c from : ℕ} {best : Option ℕ} {n j : ℕ} {least : Option ℕ} → Lowering w c from best n j least
+    → ((i : ℕ) → get_or w i 0 < 4294967296)
     → (p : Part) (r : Option ℕ) → j < n → p ≡ part_w w Alternatives c j → Lowers p.key from least r → p.key ≡ from → LeastFrom w c from best r
 scan_stop {w} {c} {from} {best} {n} {j} {least} g fits p r h e l q =
     let G = scan_next g p r h e l in

@@ -41,6 +41,10 @@ keeps_set w i v lo hi = record {
   long = length-set w i v;
 }
 
+pub keeps_pick : {a e : ℕ} {w u v : List ℕ} (b : Bool) → (b ≡ true → Keeps a e w u) → (b ≡ false → Keeps a e w v) → Keeps a e w (pick b u v)
+keeps_pick true f g = f refl
+keeps_pick false f g = g refl
+
 -- ---- Cells
 
 -- The words that the cells of before are read from are as they were, and no unknown went.
@@ -60,7 +64,8 @@ pub field_made : (w : List ℕ) (c j : ℕ) → 256 ≤ c → field_w w c j ≡ 
 unfolding field_w
 field_made w c j le = rw (le-ltb c 256 le)
 
-pub made_field_same : (w w' : List ℕ) (at : ℕ) → get_or w' at 0 ≡ get_or w at 0 → get_or w' (at + 1) 0 ≡ get_or w (at + 1) 0 → made_field w' at ≡ made_field w at
+pub made_field_same : (w w' : List ℕ) (at : ℕ) → get_or w' at 0 ≡ get_or w at 0 → get_or w' (at + 1) 0 ≡ get_or w (at + 1) 0
+    → made_field w' at ≡ made_field w at
 unfolding made_field
 made_field_same w w' at p q = rw (p, q)
 

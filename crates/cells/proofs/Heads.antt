@@ -23,7 +23,8 @@ use Rattle.cells.specs.declared.Ty.TheVariants.{Int, Str, Bytes, Fact, Record, U
 use Rattle.cells.specs.declared.TyError.TheVariants.{Mismatch, Infinite}
 use Rattle.cells.specs.Words.{set_var_w}
 use Rattle.cells.specs.Stands.{Rows, tree, Ok, Holds}
-use Rattle.cells.specs.Promises.{Reprs, answer_of, Occurs, Ends, unifier, BindsVar, IsShape, UnifiesHeads, UnifiesShapes, UnifiesRecord, UnifiesUnion, Unifies}
+use Rattle.cells.specs.Promises.{Reprs, answer_of, Occurs, UnifyEnds, unifier, BindsVar, IsShape, UnifiesHeads, UnifiesShapes, UnifiesRecord, UnifiesUnion}
+use Rattle.cells.specs.Promises.{Unifies}
 use Rattle.cells.proofs.Holding.{holds_left, holds_history, set_var_keeps, set_var_holds}
 use Rattle.cells.proofs.Frame.{keeps_refl}
 use Rattle.cells.proofs.Steps.{stay, goes_on, fails, is_other, sets}
@@ -37,7 +38,7 @@ module _ {w : List ℕ} {x : ℕ} {t : Ty} {left : ℕ} {o : Option (Bool × ℕ
   answer T st H q k d h = rw q (sym (O.is T st.subst H.cells H.binds k d h))
 
   pub bind_occurs : (l : ℕ) → o ≡ Some (true, l) → BindsVar w x t left w (Err (Failure.Bad Infinite l))
-  unfolding Ends bind_var with_left
+  unfolding UnifyEnds bind_var with_left
   bind_occurs l e = record {
     step = record {
       is = λ T st H q p d h. rw (answer T st H q p.2 d h, e, bind_var) (Infinite, refl, record { is = refl; ok = tt }, stay (holds_left H l));
@@ -47,7 +48,7 @@ module _ {w : List ℕ} {x : ℕ} {t : Ty} {left : ℕ} {o : Option (Bool × ℕ
   }
 
   pub bind_sets : (l : ℕ) → o ≡ Some (false, l) → (w' : List ℕ) → w' ≡ set_var_w w x t → BindsVar w x t left w' (Result.Ok l)
-  unfolding Ends bind_var with_left Bindings.set_var
+  unfolding UnifyEnds bind_var with_left Bindings.set_var
   bind_sets l e w' s = rw s record {
     step = record {
       is = λ T st H q p d h.
@@ -66,7 +67,7 @@ module _ {w : List ℕ} {x : ℕ} {t : Ty} {left : ℕ} {o : Option (Bool × ℕ
   }
 
   pub bind_spent : o ≡ None → BindsVar w x t left w (Err Failure.Spent)
-  unfolding Ends bind_var with_left
+  unfolding UnifyEnds bind_var with_left
   bind_spent e = record {
     step = record {
       is = λ T st H q p d h. rw (answer T st H q p.2 d h, e, bind_var) (refl, refl, stay (holds_left H 0));
@@ -234,7 +235,8 @@ module _ (d : ℕ) (u : State → Tree.Ty → Tree.Ty → Unify.Unified) (st : S
   differ _ _ (is_union c) (is_union e) n z = absurd (n.1 c e refl refl)
 
 module _ {w : List ℕ} {a b : Ty} {left : ℕ} where
-  pub record_record : (c e : ℕ) {w' : List ℕ} {r : Result ℕ Failure} → a ≡ Record c → b ≡ Record e → UnifiesRecord w c e left w' r → UnifiesShapes w a b left w' r
+  pub record_record : (c e : ℕ) {w' : List ℕ} {r : Result ℕ Failure} → a ≡ Record c → b ≡ Record e → UnifiesRecord w c e left w' r
+      → UnifiesShapes w a b left w' r
   unfolding unify_heads Unify.unify_nodes
   record_record c e p q R = record { step = is_other (λ T st k. (rw p at k.0, rw q at k.1)) (λ T st d H k. rw (p, q)) R.step }
 
@@ -252,15 +254,16 @@ module _ {w : List ℕ} {a b : Ty} {left : ℕ} where
 
 -- ---- An entry
 pub unify_none : {w : List ℕ} {a b : Ty} {left : ℕ} → left ≡ 0 → Unifies w a b left w (Err Failure.Spent)
-unfolding Ends Unify.unify_in
+unfolding UnifyEnds Unify.unify_in
 unify_none {w} {a} {b} {left} z = record { is = λ T st H q k m d h. one T st H d (q ∙ z); fewer = omega arith; keeps = keeps_refl }
   where
-    one : (T : Rows) (st : State) → Holds w T st → (d : ℕ) → st.left ≡ 0 → Ends w w T (Err Failure.Spent) (Unify.unify_in d st (tree T a) (tree T b))
+    one : (T : Rows) (st : State) → Holds w T st → (d : ℕ) → st.left ≡ 0 → UnifyEnds w w T (Err Failure.Spent) (Unify.unify_in d st (tree T a) (tree T b))
     one T st H zero e = (refl, e, stay H)
     one T st H (suc d) e = rw (unify_in_spent d st (tree T a) (tree T b) e) (refl, e, stay H)
 
-ends_note : (w w' : List ℕ) (T : Rows) (r : Result ℕ Failure) (s : Subst) (a b : Tree.Ty) (o : Unify.Unified) → Ends w w' T r o → Ends w w' T r (note s a b o)
-unfolding Ends note with_history
+ends_note : (w w' : List ℕ) (T : Rows) (r : Result ℕ Failure) (s : Subst) (a b : Tree.Ty) (o : Unify.Unified) → UnifyEnds w w' T r o
+    → UnifyEnds w w' T r (note s a b o)
+unfolding UnifyEnds note with_history
 ends_note w w' T r s a b (Unify.Ok st) e =
     (e.0, record { holds = holds_history e.1.holds (ended s a b true st.subst st.history); keeps = e.1.keeps })
 ends_note w w' T r s a b (Unify.Err x st) e =
@@ -274,7 +277,7 @@ unify_enter {w} {got} {expected} {a} {b} {left} {v} {w'} {r} z ra rb U = record
     { is = λ T st H q k m d h. one T st H q k m d h; fewer = omega (arith, U.step.fewer); keeps = U.step.keeps }
   where
     one : (T : Rows) (st : State) → Holds w T st → st.left ≡ left → Ok w got → Ok w expected → (d : ℕ) → left ≤ d
-        → Ends w w' T r (Unify.unify_in d st (tree T got) (tree T expected))
+        → UnifyEnds w w' T r (Unify.unify_in d st (tree T got) (tree T expected))
     one T st H q k m zero h = absurd (omega arith)
     one T st H q k m (suc d) h =
         let e : st.left ≡ suc v = q ∙ z in

@@ -14,15 +14,15 @@ use borrow.Author.Tests.{lt-ltb, le-ltb, ltb-true, ltb-false}
 use Rattle.unification.specs.Ty as Tree
 use Rattle.unification.specs.Bindings as Bindings
 use Rattle.unification.specs.Bindings.{bound, Undo, Binding, Annotation, History, State, with_left, with_history}
-use Rattle.unification.specs.Calls.{Reaches}
+use Rattle.unification.specs.Calls.{LeadsTo}
 use Rattle.unification.specs.Acyclic.{Acyclic}
 use Rattle.unification.proofs.Acyclic.{acyclic_among, acyclic_bind}
 use Rattle.unification.proofs.Chain.{unset, unset_acyclic}
-use Rattle.work.specs.Layout.{UNKNOWNS, TYS, UNDO-LEN, BINDINGS, UNDO, END}
+use Rattle.work.specs.Layout.{RECORD-COUNT, UNKNOWNS, TYS, UNDO-LEN, BINDINGS, UNDO, END}
 use Rattle.cells.specs.declared.Ty.{Ty}
 use Rattle.cells.specs.Words.{pick, slot_w, bound_w, put_ty, push_undo_w, set_var_w, annotate_w, fresh_w}
 use Rattle.cells.specs.Stands.{Rows, tree, bound_tree, Ok, OkBound, undo_of, Logged, Holds, Keeps}
-use Rattle.cells.proofs.Frame.{keeps_refl, keeps_trans, keeps_wider, SameCells, ok_bound_same, cells_same, slot_same, undo_same}
+use Rattle.cells.proofs.Frame.{keeps_refl, keeps_trans, keeps_set, keeps_pick, keeps_wider, SameCells, ok_bound_same, cells_same, slot_same, undo_same}
 use Rattle.cells.proofs.Logged.{logged_bind, logged_annotate, room_to_bind, room_to_annotate, Unbound, Unannotated, get_d_end, logged_fresh}
 use Rattle.cells.proofs.State.{entry_binding, entry_annotation, put_keeps, push_keeps, Change, binding_slot, type_slot, set_change, set_undo}
 use Rattle.cells.proofs.State.{pop_change, pop_undo, slot_free, cells, binds_other, types_other, binds_at, types_at}
@@ -108,7 +108,7 @@ module _ {w : List ℕ} {T : Rows} {st : State} (H : Holds w T st) (x : ℕ) (t 
   unfolding set_var_w
   set_var_is = rw (lt-ltb x 512 (omega (arith, H.few_unknowns)))
 
-  pub set_var_holds : ¬ Reaches st.subst (tree T t) (Tree.Var x) → Holds (set_var_w w x t) T (Bindings.set_var st x (tree T t))
+  pub set_var_holds : ¬ LeadsTo st.subst (tree T t) (Tree.Var x) → Holds (set_var_w w x t) T (Bindings.set_var st x (tree T t))
   unfolding Bindings.set_var bound
   set_var_holds away =
       let room : get_or w UNDO-LEN 0 < 1024 = omega (arith, room_to_bind H.logged (tree T t) x lt free, holds_log H, H.few_unknowns, H.few_nodes) in
@@ -155,6 +155,17 @@ module _ {w : List ℕ} {T : Rows} {st : State} (H : Holds w T st) (n : ℕ) (t 
       (logged_annotate H.logged (tree T t) n lt free))
 
 -- ---- `fresh_var_id`
+
+-- Whatever the words are.
+pub fresh_keeps : (w : List ℕ) → Keeps RECORD-COUNT END w (fresh_w w)
+unfolding fresh_w
+fresh_keeps w = keeps_pick (ltb (get_or w UNKNOWNS 0) 512)
+    (λ q.
+    let h = ltb-true (get_or w UNKNOWNS 0) 512 q in
+    let at = BINDINGS + 2 * get_or w UNKNOWNS 0 in
+    keeps_trans (keeps_set w at 0 (omega arith) (omega arith)) (keeps_set (set w at 0) UNKNOWNS (get_or w UNKNOWNS 0 + 1) (omega arith) (omega arith)))
+    (λ q. keeps_refl)
+
 module _ {w : List ℕ} {T : Rows} {st : State} (H : Holds w T st) (few : length st.subst < 512) where
   abbrev next : ℕ
   next = get_or w UNKNOWNS 0
@@ -167,7 +178,8 @@ module _ {w : List ℕ} {T : Rows} {st : State} (H : Holds w T st) (few : length
   fresh_is = rw (lt-ltb next 512 next_few)
 
   pub fresh_other : (i : ℕ) → i ≢ UNKNOWNS → i ≢ BINDINGS + 2 * next → get_or (fresh_w w) i 0 ≡ get_or w i 0
-  fresh_other i n m = rw fresh_is (get_or-set_other (set w (BINDINGS + 2 * next) 0) UNKNOWNS i (next + 1) 0 n ∙ get_or-set_other w (BINDINGS + 2 * next) i 0 0 m)
+  fresh_other i n m =
+      rw fresh_is (get_or-set_other (set w (BINDINGS + 2 * next) 0) UNKNOWNS i (next + 1) 0 n ∙ get_or-set_other w (BINDINGS + 2 * next) i 0 0 m)
 
   pub fresh_length : length (fresh_w w) ≡ length w
   fresh_length = rw fresh_is (simp length-set)

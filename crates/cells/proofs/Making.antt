@@ -20,8 +20,9 @@ use Rattle.cells.specs.declared.Kind.{Kind}
 use Rattle.cells.specs.declared.Kind.TheVariants.{Fields}
 use Rattle.cells.specs.Words.{tag_w, payload_w, count_w, first_w, made_field, field_w}
 use Rattle.cells.specs.Stands.{Rows, row_from, row_w, IsCell, declared, made, Cells, Holds, Keeps}
-use Rattle.cells.specs.Inferred.{reserve_w, put_field_w, new_record_w, new_record_ty, More, Adds, Reserved, row_made, rows_with, Filled}
-use Rattle.cells.proofs.Frame.{keeps_trans, keeps_set, cell_by, OldCells, SameCells, NewCell, more_refl, ok_old, count_old, first_old, cells_more}
+use Rattle.cells.specs.Inferred.{reserve_w, put_field_w, new_record_w, new_record_ty, More, AddsCells, Reserved, row_made, rows_with, Filled}
+use Rattle.cells.proofs.Frame.{keeps_refl, keeps_trans, keeps_set, keeps_pick, cell_by, OldCells, SameCells, NewCell, more_refl, ok_old, count_old, first_old}
+use Rattle.cells.proofs.Frame.{cells_more}
 use Rattle.cells.proofs.Frame.{tree_more, field_made, made_field_same}
 use Rattle.cells.proofs.Elsewhere.{SameSlots, holds_moved}
 use Rattle.cells.proofs.State.{read_back}
@@ -53,7 +54,7 @@ module _ (w w' : List ℕ) (c : ℕ) (le : 256 ≤ c) (same : get_or w' (RECORDS
   count_kept = rw (count_made w' c le, count_made w c le, same)
 
 -- ---- No cell is written over
-pub adds_refl : {w : List ℕ} → Adds w w
+pub adds_refl : {w : List ℕ} → AddsCells w w
 adds_refl = record {
   said = λ i h. refl;
   records = omega arith;
@@ -64,7 +65,7 @@ adds_refl = record {
   unknowns = omega arith;
 }
 
-pub adds_trans : {u v w : List ℕ} → Adds u v → Adds v w → Adds u w
+pub adds_trans : {u v w : List ℕ} → AddsCells u v → AddsCells v w → AddsCells u w
 adds_trans {u} {v} {w} p q = record {
   said = λ i h. q.said i h ∙ p.said i h;
   records = omega (arith, p.records, q.records);
@@ -82,7 +83,7 @@ adds_trans {u} {v} {w} p q = record {
         omega (arith, p.new c l lt, first_kept v w c (omega arith) (q.places (RECORDS + (c - 256)) (omega arith) (omega arith)))
     go c l h false e = omega (arith, q.new c (ltb-false c (256 + get_or v RECORD-COUNT 0) e) h, p.fields)
 
-pub same_adds : {w w' : List ℕ} → get_or w RECORD-COUNT 0 ≤ 512 → get_or w RECORD-FIELD-COUNT 0 ≤ 512 → SameCells w w' → Adds w w'
+pub same_adds : {w w' : List ℕ} → get_or w RECORD-COUNT 0 ≤ 512 → get_or w RECORD-FIELD-COUNT 0 ≤ 512 → SameCells w w' → AddsCells w w'
 same_adds {w} {w'} few many S = record {
   said = λ i h. S.said i (omega arith);
   records = omega (arith, S.said RECORD-COUNT (omega arith));
@@ -93,7 +94,7 @@ same_adds {w} {w'} few many S = record {
   unknowns = S.unknowns;
 }
 
-pub adds_old : {w w' : List ℕ} {T : Rows} → Cells w T → Adds w w' → OldCells w w'
+pub adds_old : {w w' : List ℕ} {T : Rows} → Cells w T → AddsCells w w' → OldCells w w'
 adds_old C A = record {
   said = A.said;
   records = A.records;
@@ -102,7 +103,7 @@ adds_old C A = record {
   unknowns = A.unknowns;
 }
 
-pub reserved_kept : {w w' : List ℕ} {T : Rows} {from n : ℕ} → Cells w T → Adds w w' → Reserved w from n → Reserved w' from n
+pub reserved_kept : {w w' : List ℕ} {T : Rows} {from n : ℕ} → Cells w T → AddsCells w w' → Reserved w from n → Reserved w' from n
 reserved_kept {w} {w'} {T} {from} {n} C A R = record {
   given = omega (arith, R.given, A.fields);
   apart = λ c i le. go c i le (ltb (c - 256) (get_or w RECORD-COUNT 0)) refl;
@@ -127,6 +128,37 @@ holds_old O S records more few H =
     (omega (arith, H.cells.few_records)) few in
     holds_moved O S more_refl C H
 
+-- ---- Which words change, whatever they are
+
+pub reserve_keeps : (w : List ℕ) (n : ℕ) → Keeps RECORD-COUNT END w (reserve_w w n)
+unfolding reserve_w
+reserve_keeps w n = keeps_pick (ltb 512 (get_or w RECORD-FIELD-COUNT 0)) (λ a. keeps_refl)
+    (λ a. keeps_pick (ltb (512 - get_or w RECORD-FIELD-COUNT 0) n) (λ b. keeps_refl)
+    (λ b. keeps_set w RECORD-FIELD-COUNT (get_or w RECORD-FIELD-COUNT 0 + n) (omega arith) (omega arith)))
+
+pub put_field_keeps : (w : List ℕ) (i name : ℕ) (t : Ty) → Keeps RECORD-FIELDS ENV w (put_field_w w i name t)
+unfolding put_field_w
+put_field_keeps w i name t = keeps_pick (ltb i 512)
+    (λ a. keeps_pick (ltb name 65536)
+    (λ b.
+    let h = ltb-true i 512 a in
+    let at = RECORD-FIELDS + 2 * i in
+    keeps_trans (keeps_set w at (name * 16 + tag_w t) (omega arith) (omega arith))
+    (keeps_set (set w at (name * 16 + tag_w t)) (at + 1) (payload_w t) (omega arith) (omega arith)))
+    (λ b. keeps_refl)) (λ a. keeps_refl)
+
+pub new_record_keeps : (w : List ℕ) (from n : ℕ) → Keeps RECORD-COUNT END w (new_record_w w from n)
+unfolding new_record_w
+new_record_keeps w from n = keeps_pick (ltb (get_or w RECORD-COUNT 0) 512)
+    (λ a. keeps_pick (ltb 512 from) (λ b. keeps_refl)
+    (λ b. keeps_pick (ltb 512 n) (λ c. keeps_refl)
+    (λ c.
+    let h = ltb-true (get_or w RECORD-COUNT 0) 512 a in
+    let at = RECORDS + get_or w RECORD-COUNT 0 in
+    keeps_trans (keeps_set w at (from * 1024 + n) (omega arith) (omega arith))
+    (keeps_set (set w at (from * 1024 + n)) RECORD-COUNT (get_or w RECORD-COUNT 0 + 1) (omega arith) (omega arith)))))
+    (λ a. keeps_refl)
+
 -- ---- `reserve`
 module _ (w : List ℕ) (n : ℕ) (room : get_or w RECORD-FIELD-COUNT 0 + n ≤ 512) where
   reserve_is : reserve_w w n ≡ set w RECORD-FIELD-COUNT (get_or w RECORD-FIELD-COUNT 0 + n)
@@ -136,14 +168,11 @@ module _ (w : List ℕ) (n : ℕ) (room : get_or w RECORD-FIELD-COUNT 0 + n ≤ 
   pub reserve_other : (i : ℕ) → i ≢ RECORD-FIELD-COUNT → get_or (reserve_w w n) i 0 ≡ get_or w i 0
   reserve_other i h = rw reserve_is (get_or-set_other w RECORD-FIELD-COUNT i (get_or w RECORD-FIELD-COUNT 0 + n) 0 h)
 
-  pub reserve_keeps : Keeps RECORD-COUNT END w (reserve_w w n)
-  reserve_keeps = rw reserve_is (keeps_set w RECORD-FIELD-COUNT (get_or w RECORD-FIELD-COUNT 0 + n) (omega arith) (omega arith))
-
   module _ (long : END ≤ length w) where
     pub reserve_count : get_or (reserve_w w n) RECORD-FIELD-COUNT 0 ≡ get_or w RECORD-FIELD-COUNT 0 + n
     reserve_count = rw reserve_is (get_or-set_same w RECORD-FIELD-COUNT (get_or w RECORD-FIELD-COUNT 0 + n) 0 (omega arith))
 
-    pub reserve_adds : Adds w (reserve_w w n)
+    pub reserve_adds : AddsCells w (reserve_w w n)
     reserve_adds = record {
       said = λ i h. reserve_other i (λ q. omega arith);
       records = omega (arith, reserve_other RECORD-COUNT (λ q. omega arith));
@@ -157,7 +186,7 @@ module _ (w : List ℕ) (n : ℕ) (room : get_or w RECORD-FIELD-COUNT 0 + n ≤ 
   module _ {T : Rows} {st : State} (H : Holds w T st) where
     pub reserve_holds : Holds (reserve_w w n) T st
     reserve_holds = holds_old (adds_old H.cells (reserve_adds H.long))
-        (record { unknowns = reserve_other UNKNOWNS (λ q. omega arith); at = λ i l h. reserve_other i (λ q. omega arith); long = reserve_keeps.long })
+        (record { unknowns = reserve_other UNKNOWNS (λ q. omega arith); at = λ i l h. reserve_other i (λ q. omega arith); long = (reserve_keeps w n).long })
         (reserve_other RECORD-COUNT (λ q. omega arith)) (omega (arith, reserve_count H.long)) (omega (arith, reserve_count H.long)) H
 
     pub reserve_reserved : Reserved (reserve_w w n) (get_or w RECORD-FIELD-COUNT 0) n
@@ -181,11 +210,6 @@ module _ (w : List ℕ) (i name : ℕ) (t : Ty) (lt : i < 512) (small : name < 6
       (get_or-set_other (set w (RECORD-FIELDS + 2 * i) (name * 16 + tag_w t)) (RECORD-FIELDS + 2 * i + 1) j (payload_w t) 0 m ∙ get_or-set_other w
       (RECORD-FIELDS + 2 * i) j (name * 16 + tag_w t) 0 n)
 
-  pub put_field_keeps : Keeps RECORD-FIELDS ENV w (put_field_w w i name t)
-  put_field_keeps = rw put_field_is
-      (keeps_trans (keeps_set w (RECORD-FIELDS + 2 * i) (name * 16 + tag_w t) (omega arith) (omega arith))
-      (keeps_set (set w (RECORD-FIELDS + 2 * i) (name * 16 + tag_w t)) (RECORD-FIELDS + 2 * i + 1) (payload_w t) (omega arith) (omega arith)))
-
   -- the field is read back, and others stand
   pub put_field_here : END ≤ length w → made_field (put_field_w w i name t) (RECORD-FIELDS + 2 * i) ≡ record { key = name; label = 0; ty = t }
   unfolding made_field
@@ -208,18 +232,18 @@ module _ (w : List ℕ) (i name : ℕ) (t : Ty) (lt : i < 512) (small : name < 6
   module _ {from n : ℕ} (R : Reserved w from n) (low : from ≤ i) (high : i < from + n) (few : get_or w RECORD-COUNT 0 ≤ 512) where
     pub put_field_old : OldCells w (put_field_w w i name t)
     put_field_old = record {
-      said = λ j h. put_field_keeps.below j (omega arith);
-      records = omega (arith, put_field_keeps.below RECORD-COUNT (omega arith));
-      places = λ c le many. put_field_keeps.below (RECORDS + (c - 256)) (omega arith);
+      said = λ j h. (put_field_keeps w i name t).below j (omega arith);
+      records = omega (arith, (put_field_keeps w i name t).below RECORD-COUNT (omega arith));
+      places = λ c le many. (put_field_keeps w i name t).below (RECORDS + (c - 256)) (omega arith);
       fields = λ c le many j lo hi. ⊎_elim
           (λ h. put_field_other j (λ q. omega arith) (λ q. omega arith))
           (λ h. put_field_other j (λ q. omega arith) (λ q. omega arith)) (R.apart c (made le many) le);
-      unknowns = omega (arith, put_field_keeps.below UNKNOWNS (omega arith));
+      unknowns = omega (arith, (put_field_keeps w i name t).below UNKNOWNS (omega arith));
     }
 
     pub put_field_holds : {T : Rows} {st : State} → Holds w T st → Holds (put_field_w w i name t) T st
     put_field_holds H =
-        let K = put_field_keeps in
+        let K = put_field_keeps w i name t in
         let fields = K.below RECORD-FIELD-COUNT (omega arith) in
         holds_old put_field_old (record { unknowns = K.below UNKNOWNS (omega arith); at = λ j l h. K.above j (omega arith); long = K.long })
         (K.below RECORD-COUNT (omega arith))
@@ -227,21 +251,22 @@ module _ (w : List ℕ) (i name : ℕ) (t : Ty) (lt : i < 512) (small : name < 6
 
     pub put_field_reserved : Reserved (put_field_w w i name t) from n
     put_field_reserved = record {
-      given = omega (arith, R.given, put_field_keeps.below RECORD-FIELD-COUNT (omega arith));
+      given = omega (arith, R.given, (put_field_keeps w i name t).below RECORD-FIELD-COUNT (omega arith));
       apart = λ c j le. go c j le;
     }
       where
         go : (c : ℕ) → IsCell (put_field_w w i name t) Fields c → 256 ≤ c
             → (first_w (put_field_w w i name t) c + count_w (put_field_w w i name t) c ≤ from) ⊎ (from + n ≤ first_w (put_field_w w i name t) c)
         go c j le =
-            let old : IsCell w Fields c = cell_by (λ k h. sym (put_field_keeps.below k (omega arith)))
-            (omega (arith, put_field_keeps.below RECORD-COUNT (omega arith))) j in
+            let old : IsCell w Fields c = cell_by (λ k h. sym ((put_field_keeps w i name t).below k (omega arith)))
+            (omega (arith, (put_field_keeps w i name t).below RECORD-COUNT (omega arith))) j in
             rw (first_old put_field_old old, count_old put_field_old old) (R.apart c old le)
 
   -- In a run of which w₀ was the beginning, the field was given away since.
-  pub put_field_adds : {w₀ : List ℕ} → get_or w RECORD-COUNT 0 ≤ 512 → get_or w₀ RECORD-FIELD-COUNT 0 ≤ i → Adds w₀ w → Adds w₀ (put_field_w w i name t)
+  pub put_field_adds : {w₀ : List ℕ} → get_or w RECORD-COUNT 0 ≤ 512 → get_or w₀ RECORD-FIELD-COUNT 0 ≤ i → AddsCells w₀ w
+      → AddsCells w₀ (put_field_w w i name t)
   put_field_adds {w₀} few low A =
-      let K = put_field_keeps in
+      let K = put_field_keeps w i name t in
       record {
         said = λ j h. K.below j (omega arith) ∙ A.said j h;
         records = omega (arith, K.below RECORD-COUNT (omega arith), A.records);
@@ -269,12 +294,8 @@ module _ (w : List ℕ) (from n : ℕ) (room : get_or w RECORD-COUNT 0 < 512) (g
 
   pub new_record_other : (i : ℕ) → i ≢ RECORD-COUNT → i ≢ RECORDS + count → get_or (new_record_w w from n) i 0 ≡ get_or w i 0
   new_record_other i p q = rw new_record_is
-      (get_or-set_other (set w (RECORDS + count) (from * 1024 + n)) RECORD-COUNT i (count + 1) 0 p ∙ get_or-set_other w (RECORDS + count) i (from * 1024 + n) 0 q)
-
-  pub new_record_keeps : Keeps RECORD-COUNT END w (new_record_w w from n)
-  new_record_keeps = rw new_record_is
-      (keeps_trans (keeps_set w (RECORDS + count) (from * 1024 + n) (omega arith) (omega arith))
-      (keeps_set (set w (RECORDS + count) (from * 1024 + n)) RECORD-COUNT (count + 1) (omega arith) (omega arith)))
+      (get_or-set_other (set w (RECORDS + count) (from * 1024 + n)) RECORD-COUNT i (count + 1) 0 p ∙ get_or-set_other w (RECORDS + count) i
+      (from * 1024 + n) 0 q)
 
   module _ (long : END ≤ length w) where
     pub new_record_count : get_or (new_record_w w from n) RECORD-COUNT 0 ≡ count + 1
@@ -307,7 +328,7 @@ module _ (w : List ℕ) (from n : ℕ) (room : get_or w RECORD-COUNT 0 < 512) (g
       unknowns = omega (arith, new_record_other UNKNOWNS (λ q. omega arith) (λ q. omega arith));
     }
 
-    pub new_record_adds : {w₀ : List ℕ} → get_or w₀ RECORD-FIELD-COUNT 0 ≤ from → Adds w₀ w → Adds w₀ (new_record_w w from n)
+    pub new_record_adds : {w₀ : List ℕ} → get_or w₀ RECORD-FIELD-COUNT 0 ≤ from → AddsCells w₀ w → AddsCells w₀ (new_record_w w from n)
     new_record_adds {w₀} low A = record {
       said = λ j h. new_record_other j (λ q. omega arith) (λ q. omega arith) ∙ A.said j h;
       records = omega (arith, new_record_count, A.records);
@@ -392,6 +413,6 @@ module _ (w : List ℕ) (from n : ℕ) (room : get_or w RECORD-COUNT 0 < 512) (g
           (record {
             unknowns = new_record_other UNKNOWNS (λ q. omega arith) (λ q. omega arith);
             at = λ i l h. new_record_other i (λ q. omega arith) (λ q. omega arith);
-            long = new_record_keeps.long;
+            long = (new_record_keeps w from n).long;
           })
           (new_record_more T) C H

@@ -64,7 +64,8 @@ pub record FieldsGoing (w₀ : List ℕ) (c e n left : ℕ) (w : List ℕ) (j le
   pub going : Going (λ T st. IsCell w₀ Fields c × IsCell w₀ Fields e × (n ≡ count_w w₀ c)) (λ d T st. unify_fields (unifier d) st (T c) (T e)) w₀ left w
       left' (λ d T st. fields_from w₀ c e n j d T st) K
 
-pub fields_start : {w : List ℕ} {c e n left : ℕ} {K : ℕ → Rows → State → Type 0} → ((d : ℕ) (T : Rows) (s : State) → K d T s) → FieldsGoing w c e n left w 0 left K
+pub fields_start : {w : List ℕ} {c e n left : ℕ} {K : ℕ → Rows → State → Type 0} → ((d : ℕ) (T : Rows) (s : State) → K d T s)
+    → FieldsGoing w c e n left w 0 left K
 fields_start {w} {c} {e} {n} known = record {
   within = omega arith;
   going = go_start (λ T st d H k. ap (λ (r : Row). unify_fields (unifier d) st r (T e)) (rest_whole T w Fields c n k.2 H.cells k.0)) (λ T st d. known d T st);

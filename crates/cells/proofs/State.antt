@@ -113,7 +113,8 @@ module _ (w : List ℕ) (e : ℕ) where
     module _ (long : END ≤ length w) where
       push_count : get_or (push_undo_w w e) UNDO-LEN 0 ≡ suc (get_or w UNDO-LEN 0)
       push_count = rw (push_is, ← add-one (get_or w UNDO-LEN 0))
-          (get_or-set_same (set w (UNDO + get_or w UNDO-LEN 0) e) UNDO-LEN (get_or w UNDO-LEN 0 + 1) 0 (omega (arith, length-set w (UNDO + get_or w UNDO-LEN 0) e)))
+          (get_or-set_same (set w (UNDO + get_or w UNDO-LEN 0) e) UNDO-LEN (get_or w UNDO-LEN 0 + 1) 0
+          (omega (arith, length-set w (UNDO + get_or w UNDO-LEN 0) e)))
 
       push_top : get_or (push_undo_w w e) (UNDO + get_or w UNDO-LEN 0) 0 ≡ e
       push_top = rw push_is

@@ -8,7 +8,7 @@ use lib.ListN.{length, get_or}
 use Rattle.unification.specs.Ty as Tree
 use Rattle.unification.specs.Bindings as Bindings
 use Rattle.unification.specs.Bindings.{bound, State}
-use Rattle.unification.specs.Calls.{Reaches}
+use Rattle.unification.specs.Calls.{LeadsTo}
 use Rattle.unification.specs.Unify as Unify
 use Rattle.unification.specs.Unify.{and_then}
 use Rattle.unification.proofs.Tests.{clash}
@@ -20,7 +20,7 @@ use Rattle.cells.specs.declared.Ty.TheVariants.{Error}
 use Rattle.cells.specs.declared.TyError.{TyError}
 use Rattle.cells.specs.Words.{set_var_w}
 use Rattle.cells.specs.Stands.{Rows, tree, Ok, Holds, Keeps}
-use Rattle.cells.specs.Promises.{error_of, OkError, Stays, Ends, Step, Settled, Unifies, UnifiesNext, unified_left}
+use Rattle.cells.specs.Promises.{error_of, OkError, Stays, UnifyEnds, UnifyStep, SettledPair, Unifies, UnifiesNext, unified_left}
 use Rattle.cells.proofs.Frame.{keeps_refl, keeps_trans}
 use Rattle.cells.proofs.Holding.{holds_left, holds_history, holds_log, set_var_keeps, set_var_holds}
 use Rattle.std.specs.Prelude.{Err, None, Some, Option, SomeIff, Result, ok_or, ℕ}
@@ -33,35 +33,37 @@ stay H = record { holds = H; keeps = keeps_refl }
 pub stays_after : {u v w : List ℕ} {T : Rows} {st : State} → Keeps UNDO-LEN END u v → Stays v w T st → Stays u w T st
 stays_after k s = record { holds = s.holds; keeps = keeps_trans k s.keeps }
 
-pub ends_after : {u v : List ℕ} (w : List ℕ) (T : Rows) (r : Result ℕ Failure) (o : Unify.Unified) → Keeps UNDO-LEN END u v → Ends v w T r o → Ends u w T r o
-unfolding Ends
+pub ends_after : {u v : List ℕ} (w : List ℕ) (T : Rows) (r : Result ℕ Failure) (o : Unify.Unified) → Keeps UNDO-LEN END u v → UnifyEnds v w T r o
+    → UnifyEnds u w T r o
+unfolding UnifyEnds
 ends_after w T r (Unify.Ok st) k e = (e.0, stays_after k e.1)
 ends_after w T r (Unify.Err x st) k e = (e.0, e.1, e.2, stays_after k e.3)
 ends_after w T r (Unify.Spent st) k e = (e.0, e.1, stays_after k e.2)
 
 -- ---- Steps that do little
 module _ {P : Rows → State → Type 0} {f : ℕ → Rows → State → Unify.Unified} {w : List ℕ} {left : ℕ} where
-  pub goes_on : ((T : Rows) (st : State) (d : ℕ) → P T st → f d T st ≡ Unify.Ok st) → Step P f w left w (Result.Ok left)
-  unfolding Ends
+  pub goes_on : ((T : Rows) (st : State) (d : ℕ) → P T st → f d T st ≡ Unify.Ok st) → UnifyStep P f w left w (Result.Ok left)
+  unfolding UnifyEnds
   goes_on e = record { is = λ T st H q p d h. rw (e T st d p) (ap Result.Ok (sym q), stay H); fewer = omega arith; keeps = keeps_refl }
 
   pub fails : (x : TyError) → ((T : Rows) (st : State) → P T st → OkError w x)
-      → ((T : Rows) (st : State) (d : ℕ) → Holds w T st → P T st → f d T st ≡ Unify.Err (error_of T x) st) → Step P f w left w (Err (Failure.Bad x left))
-  unfolding Ends
+      → ((T : Rows) (st : State) (d : ℕ) → Holds w T st → P T st → f d T st ≡ Unify.Err (error_of T x) st) → UnifyStep P f w left w (Err (Failure.Bad x left))
+  unfolding UnifyEnds
   fails x ok e = record {
     is = λ T st H q p d h. rw (e T st d H p) (x, ap (λ l. Err (Failure.Bad x l)) (sym q), record { is = refl; ok = ok T st p }, stay H);
     fewer = omega arith;
     keeps = keeps_refl;
   }
 
-  pub is_other : {Q : Rows → State → Type 0} {g : ℕ → Rows → State → Unify.Unified} {w' : List ℕ} {r : Result ℕ Failure} → ((T : Rows) (st : State) → P T st → Q T st)
-      → ((T : Rows) (st : State) (d : ℕ) → Holds w T st → P T st → f d T st ≡ g d T st) → Step Q g w left w' r → Step P f w left w' r
+  pub is_other : {Q : Rows → State → Type 0} {g : ℕ → Rows → State → Unify.Unified} {w' : List ℕ} {r : Result ℕ Failure}
+      → ((T : Rows) (st : State) → P T st → Q T st)
+      → ((T : Rows) (st : State) (d : ℕ) → Holds w T st → P T st → f d T st ≡ g d T st) → UnifyStep Q g w left w' r → UnifyStep P f w left w' r
   is_other c e s = record { is = λ T st H q p d h. rw (e T st d H p) (s.is T st H q (c T st p) d h); fewer = s.fewer; keeps = s.keeps }
 
   pub sets : (x : ℕ) (t : Ty) (w' : List ℕ) → w' ≡ set_var_w w x t
-      → ((T : Rows) (st : State) → P T st → Ok w t × (x < get_or w UNKNOWNS 0) × (bound st.subst x ≡ None) × (¬ Reaches st.subst (tree T t) (Tree.Var x)))
-      → ((T : Rows) (st : State) (d : ℕ) → P T st → f d T st ≡ Unify.Ok (Bindings.set_var st x (tree T t))) → Step P f w left w' (Result.Ok left)
-  unfolding Ends Bindings.set_var
+      → ((T : Rows) (st : State) → P T st → Ok w t × (x < get_or w UNKNOWNS 0) × (bound st.subst x ≡ None) × (¬ LeadsTo st.subst (tree T t) (Tree.Var x)))
+      → ((T : Rows) (st : State) (d : ℕ) → P T st → f d T st ≡ Unify.Ok (Bindings.set_var st x (tree T t))) → UnifyStep P f w left w' (Result.Ok left)
+  unfolding UnifyEnds Bindings.set_var
   sets x t w' q c e = rw q record {
     is = λ T st H l p d h.
         let b = c T st p in
@@ -77,12 +79,13 @@ module _ {P : Rows → State → Type 0} {f : ℕ → Rows → State → Unify.U
 pub record KnownStep (K : ℕ → Rows → State → Type 0) (Q : Rows → State → Type 0) (u : ℕ → Rows → State → Unify.Unified) (w : List ℕ) (left : ℕ) (w' : List ℕ)
     (K' : ℕ → Rows → State → Type 0) (r : Result ℕ Failure) : Type 0 where
   pub is : (T : Rows) (st : State) → Holds w T st → st.left ≡ left → Q T st → (d : ℕ) → left ≤ d → K d T st
-      → Ends w w' T r (u d T st) × ((st' : State) → u d T st ≡ Unify.Ok st' → K' d T st')
+      → UnifyEnds w w' T r (u d T st) × ((st' : State) → u d T st ≡ Unify.Ok st' → K' d T st')
   pub fewer : unified_left r ≤ left
   pub keeps : Keeps UNDO-LEN END w w'
 
-pub known_step : {K : ℕ → Rows → State → Type 0} {Q : Rows → State → Type 0} {u : ℕ → Rows → State → Unify.Unified} {w : List ℕ} {left : ℕ} {w' : List ℕ} {r : Result ℕ Failure}
-    → Step Q u w left w' r → KnownStep K Q u w left w' (λ d T s. Unit {0}) r
+pub known_step : {K : ℕ → Rows → State → Type 0} {Q : Rows → State → Type 0} {u : ℕ → Rows → State → Unify.Unified} {w : List ℕ} {left : ℕ} {w' : List ℕ}
+    {r : Result ℕ Failure}
+    → UnifyStep Q u w left w' r → KnownStep K Q u w left w' (λ d T s. Unit {0}) r
 known_step S = record { is = λ T st H q k d h z. (S.is T st H q k d h, λ s e. tt); fewer = S.fewer; keeps = S.keeps }
 
 -- The state that the words w stand for now, that the rest of the work from it is the whole, and what is known of it.
@@ -109,8 +112,9 @@ go_start e k = record {
 }
 
 -- how a step that was good ended
-good : (w w' : List ℕ) (T : Rows) (l : ℕ) (o : Unify.Unified) → Ends w w' T (Result.Ok l) o → (st : State) × (o ≡ Unify.Ok st) × (st.left ≡ l) × Stays w w' T st
-unfolding Ends
+good : (w w' : List ℕ) (T : Rows) (l : ℕ) (o : Unify.Unified) → UnifyEnds w w' T (Result.Ok l) o → (st : State) × (o ≡ Unify.Ok st) × (st.left ≡ l)
+    × Stays w w' T st
+unfolding UnifyEnds
 good w w' T l (Unify.Ok st) e = (st, refl, cc e.0, e.1)
 good w w' T l (Unify.Err x st) e = clash (cc e.1)
 good w w' T l (Unify.Spent st) e = clash (cc e.0)
@@ -119,8 +123,9 @@ abbrev pub NotGood : Result ℕ Failure → Type 0
 NotGood r = (l : ℕ) → r ≡ Result.Ok l → ⊥
 
 -- what is not good ends the whole
-cut : (w w' : List ℕ) (T : Rows) (r : Result ℕ Failure) → NotGood r → (o : Unify.Unified) (f : State → Unify.Unified) → Ends w w' T r o → Ends w w' T r (and_then o f)
-unfolding Ends and_then
+cut : (w w' : List ℕ) (T : Rows) (r : Result ℕ Failure) → NotGood r → (o : Unify.Unified) (f : State → Unify.Unified) → UnifyEnds w w' T r o
+    → UnifyEnds w w' T r (and_then o f)
+unfolding UnifyEnds and_then
 cut w w' T r x (Unify.Ok st) f e = absurd (x _ e.0)
 cut w w' T r x (Unify.Err y st) f e = e
 cut w w' T r x (Unify.Spent st) f e = e
@@ -131,8 +136,8 @@ module _ {P : Rows → State → Type 0} {f : ℕ → Rows → State → Unify.U
   abbrev pub Here : (Rows → State → ℕ → Type 0) → Type 0
   Here Q = (T : Rows) (st : State) → Holds w₀ T st → P T st → Keeps UNDO-LEN END w₀ w → (s : State) → Holds w T s → (d : ℕ) → Q T s d
 
-  pub go_end : Here (λ T s d. g d T s ≡ Unify.Ok s) → Step P f w₀ left w (Result.Ok rest)
-  unfolding Ends
+  pub go_end : Here (λ T s d. g d T s ≡ Unify.Ok s) → UnifyStep P f w₀ left w (Result.Ok rest)
+  unfolding UnifyEnds
   go_end e = record {
     is = λ T st H q p d h. let R = G.to T st H q p d h in rw (R.same, e T st H p G.keeps R.state R.holds d)
         (ap Result.Ok (sym R.visits), record { holds = R.holds; keeps = G.keeps });
@@ -140,8 +145,8 @@ module _ {P : Rows → State → Type 0} {f : ℕ → Rows → State → Unify.U
     keeps = G.keeps;
   }
 
-  pub go_fail : (x : TyError) → OkError w x → Here (λ T s d. g d T s ≡ Unify.Err (error_of T x) s) → Step P f w₀ left w (Err (Failure.Bad x rest))
-  unfolding Ends
+  pub go_fail : (x : TyError) → OkError w x → Here (λ T s d. g d T s ≡ Unify.Err (error_of T x) s) → UnifyStep P f w₀ left w (Err (Failure.Bad x rest))
+  unfolding UnifyEnds
   go_fail x ok e = record {
     is = λ T st H q p d h.
         let R = G.to T st H q p d h in
@@ -156,7 +161,7 @@ module _ {P : Rows → State → Type 0} {f : ℕ → Rows → State → Unify.U
       {K' : ℕ → Rows → State → Type 0} (S : KnownStep K Q u w rest w' K' r)
       (has : Here (λ T s d. Q T s)) (turn : Here (λ T s d. g d T s ≡ and_then (u d T s) (λ s'. g' d T s'))) where
     ends_so : (T : Rows) (st : State) → Holds w₀ T st → P T st → (d : ℕ) → left ≤ d → (R : Reached w T rest (f d T st) (λ s. g d T s) (K d T))
-        → Ends w w' T r (u d T R.state) × ((s' : State) → u d T R.state ≡ Unify.Ok s' → K' d T s')
+        → UnifyEnds w w' T r (u d T R.state) × ((s' : State) → u d T R.state ≡ Unify.Ok s' → K' d T s')
     ends_so T st H p d h R = S.is T R.state R.holds R.visits (has T st H p G.keeps R.state R.holds d) d (omega (arith, G.fewer)) R.known
 
     pub go_next : (l : ℕ) → r ≡ Result.Ok l → Going P f w₀ left w' l g' K'
@@ -177,7 +182,7 @@ module _ {P : Rows → State → Type 0} {f : ℕ → Rows → State → Unify.U
           };
     }
 
-    pub go_stop : NotGood r → Step P f w₀ left w' r
+    pub go_stop : NotGood r → UnifyStep P f w₀ left w' r
     go_stop x = record {
       is = λ T st H q p d h.
           let R = G.to T st H q p d h in
@@ -188,7 +193,7 @@ module _ {P : Rows → State → Type 0} {f : ℕ → Rows → State → Unify.U
     }
 
 -- ---- The same two types again
-pub settled_errors : (log d : ℕ) (T : Rows) (s : State) → Settled Error Error 1 log d T s
+pub settled_errors : (log d : ℕ) (T : Rows) (s : State) → SettledPair Error Error 1 log d T s
 settled_errors log d T s = record { quiet = λ e st q h. errors_quiet d st h }
 
 rested : {w : List ℕ} {T : Rows} {s : State} → Holds w T s → (v : ℕ) (h : Bindings.History) → Holds w T (resting s v h)
@@ -197,8 +202,8 @@ rested H v h = holds_history (holds_left H v) h
 
 -- Where nothing was bound since, they go as before.
 pub next_again : {w : List ℕ} {a b : Ty} {left cost log : ℕ} → get_or w UNDO-LEN 0 ≡ log → (o : Option ℕ) → SomeIff o (cost ≤ left) (left - cost)
-    → UnifiesNext w (Settled a b cost log) a b left w (Settled a b cost log) (ok_or o Failure.Spent)
-unfolding Ends
+    → UnifiesNext w (SettledPair a b cost log) a b left w (SettledPair a b cost log) (ok_or o Failure.Spent)
+unfolding UnifyEnds
 next_again {w} {a} {b} {left} {cost} {log} same o m = record {
   is = λ T st H q k k' d h K. one T st H q d K (Unify.unify_in d st (tree T a) (tree T b)) (K.quiet (sym (holds_log H) ∙ same) st refl (omega arith)) o m;
   fewer = few o m;
@@ -209,8 +214,9 @@ next_again {w} {a} {b} {left} {cost} {log} same o m = record {
     few None m = omega arith
     few (Some v) m = omega (arith, m.1)
 
-    one : (T : Rows) (st : State) → Holds w T st → st.left ≡ left → (d : ℕ) → Settled a b cost log d T st → (u : Unify.Unified) → Quiet cost st u
-        → (o : Option ℕ) → SomeIff o (cost ≤ left) (left - cost) → Ends w w T (ok_or o Failure.Spent) u × ((s : State) → u ≡ Unify.Ok s → Settled a b cost log d T s)
+    one : (T : Rows) (st : State) → Holds w T st → st.left ≡ left → (d : ℕ) → SettledPair a b cost log d T st → (u : Unify.Unified) → Quiet cost st u
+        → (o : Option ℕ) → SomeIff o (cost ≤ left) (left - cost) → UnifyEnds w w T (ok_or o Failure.Spent) u
+        × ((s : State) → u ≡ Unify.Ok s → SettledPair a b cost log d T s)
     one T st H q d K _ (ends v h l) (Some x) m =
         let same : x ≡ v = omega (arith, m.1) in
         ((ap Result.Ok same, stay (rested H v h)), λ s e. let same : resting st v h ≡ s = cc e in rw (← same) (record { quiet = K.quiet }))
@@ -219,17 +225,19 @@ next_again {w} {a} {b} {left} {cost} {log} same o m = record {
     one T st H q d K _ (stops h l) None m = ((refl, refl, stay (rested H 0 h)), λ s e. clash (cc e))
 
 -- What they cost when they were unified.
-pub next_new : {K : ℕ → Rows → State → Type 0} {w w' : List ℕ} {a b : Ty} {left l cost log : ℕ} → Unifies w a b left w' (Result.Ok l) → log ≡ get_or w UNDO-LEN 0
-    → cost ≡ left - l → UnifiesNext w K a b left w' (Settled a b cost log) (Result.Ok l)
-unfolding Ends
+pub next_new : {K : ℕ → Rows → State → Type 0} {w w' : List ℕ} {a b : Ty} {left l cost log : ℕ} → Unifies w a b left w' (Result.Ok l)
+    → log ≡ get_or w UNDO-LEN 0
+    → cost ≡ left - l → UnifiesNext w K a b left w' (SettledPair a b cost log) (Result.Ok l)
+unfolding UnifyEnds
 next_new {K} {w} {w'} {a} {b} {left} {l} {cost} {log} U n c = record {
-  is = λ T st H q k k' d h K. let E = U.is T st H q k k' d h in (E, λ s e. settled T st s d H q e (let F : Ends w w' T (Result.Ok l) (Unify.Ok s) = rw e at E in cc F.0));
+  is = λ T st H q k k' d h K. let E = U.is T st H q k k' d h in
+      (E, λ s e. settled T st s d H q e (let F : UnifyEnds w w' T (Result.Ok l) (Unify.Ok s) = rw e at E in cc F.0));
   fewer = U.fewer;
   keeps = U.keeps;
 }
   where
     settled : (T : Rows) (s s' : State) (d : ℕ) → Holds w T s → s.left ≡ left → Unify.unify_in d s (tree T a) (tree T b) ≡ Unify.Ok s' → l ≡ s'.left
-        → Settled a b cost log d T s'
+        → SettledPair a b cost log d T s'
     settled T s s' d H v e v' = record {
       quiet = λ same.
           let long = holds_log H in
@@ -239,10 +247,11 @@ next_new {K} {w} {w'} {a} {b} {left} {l} {cost} {log} U n c = record {
           λ st q h. rw (← k) (Q.2 st (q ∙ before));
     }
 
-pub next_fails : {K K' : ℕ → Rows → State → Type 0} {w w' : List ℕ} {a b : Ty} {left : ℕ} {e : Failure} → Unifies w a b left w' (Err e) → UnifiesNext w K a b left w' K' (Err e)
-unfolding Ends
+pub next_fails : {K K' : ℕ → Rows → State → Type 0} {w w' : List ℕ} {a b : Ty} {left : ℕ} {e : Failure} → Unifies w a b left w' (Err e)
+    → UnifiesNext w K a b left w' K' (Err e)
+unfolding UnifyEnds
 next_fails {w} {w'} {e = x} U = record {
-  is = λ T st H q k k' d h K. let E = U.is T st H q k k' d h in (E, λ s e. let F : Ends w w' T (Err x) (Unify.Ok s) = rw e at E in clash (cc F.0));
+  is = λ T st H q k k' d h K. let E = U.is T st H q k k' d h in (E, λ s e. let F : UnifyEnds w w' T (Err x) (Unify.Ok s) = rw e at E in clash (cc F.0));
   fewer = U.fewer;
   keeps = U.keeps;
 }

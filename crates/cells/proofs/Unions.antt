@@ -24,7 +24,8 @@ use Rattle.cells.specs.declared.UnionDiff.TheVariants.{Absent, Renamed, Payload}
 use Rattle.cells.specs.declared.TyError.TheVariants.{UnionMismatch}
 use Rattle.cells.specs.Stands as Are
 use Rattle.cells.specs.Stands.{Rows, tree, IsCell, Holds, Keeps}
-use Rattle.cells.specs.Promises.{found_part, FindsKey, NextFrom, diff_of, Ends, unifier, differs, unified_left, UnifiesNext, UnifiesUnion, UnifiesAlternative}
+use Rattle.cells.specs.Promises.{found_part, FindsKey, NextFrom, diff_of, UnifyEnds, unifier, differs, unified_left, UnifiesNext, UnifiesUnion}
+use Rattle.cells.specs.Promises.{UnifiesAlternative}
 use Rattle.cells.proofs.Frame.{keeps_cells, cell_same}
 use Rattle.cells.proofs.Picked.{Has, next_is_least}
 use Rattle.cells.proofs.Remaining.{remaining, remaining_all, remaining_none, remaining_next}
@@ -42,7 +43,7 @@ payload_step : {w : List ℕ} {K : ℕ → Rows → State → Type 0} {a b : Ty}
     → UnifiesNext w K a b left w' K' r → (c e : ℕ) (diff : UnionDiff)
     → KnownStep K (λ T st. Are.Ok w a × Are.Ok w b × IsCell w Alternatives c × IsCell w Alternatives e)
     (λ d T st. map_err (differs T c e (diff_of diff)) (Unify.unify_in d st (tree T a) (tree T b))) w left w' K' (in_payload c e diff r)
-unfolding Ends map_err
+unfolding UnifyEnds map_err
 payload_step {w} {K} {a} {b} {left} {w'} {K'} {r} U c e diff = record {
   is = λ T st H v k d h z.
       let E = U.is T st H v k.0 k.1 d h z in
@@ -56,8 +57,8 @@ payload_step {w} {K} {a} {b} {left} {w'} {K'} {r} U c e diff = record {
     few (Err (Failure.Bad x l)) h = h
     few (Err Failure.Spent) h = h
 
-    one : (T : Rows) → IsCell w Alternatives c → IsCell w Alternatives e → (r : Result ℕ Failure) → (o : Unify.Unified) → Ends w w' T r o
-        → Ends w w' T (in_payload c e diff r) (map_err (differs T c e (diff_of diff)) o)
+    one : (T : Rows) → IsCell w Alternatives c → IsCell w Alternatives e → (r : Result ℕ Failure) → (o : Unify.Unified) → UnifyEnds w w' T r o
+        → UnifyEnds w w' T (in_payload c e diff r) (map_err (differs T c e (diff_of diff)) o)
     one T i j r (Unify.Ok st) z = rw z.0 (refl, z.1)
     one T i j r (Unify.Err y st) z =
         let same = keeps_cells (omega arith) z.3.keeps in
@@ -80,7 +81,8 @@ module _ {w : List ℕ} {c e k : ℕ} {x y : Option Part} (X : FindsKey w Altern
         (λ T st d H i. sides T st d H i p q);
   }
 
-  pub in_found : (o : Part) {left : ℕ} {r : Result ℕ Failure} → x ≡ Some o → y ≡ None → r ≡ Err (Failure.Bad (UnionMismatch (Absent o.label k) (Union e) (Union c)) left)
+  pub in_found : (o : Part) {left : ℕ} {r : Result ℕ Failure} → x ≡ Some o → y ≡ None
+      → r ≡ Err (Failure.Bad (UnionMismatch (Absent o.label k) (Union e) (Union c)) left)
       → UnifiesAlternative w c e k left w r
   unfolding unify_alternative
   in_found o p q z = rw z record {

@@ -82,7 +82,8 @@ pub data CodeCalls (v nodes : ℕ) : List ℕ → Rows → ℕ → List ℕ → 
       → CodeCalls v nodes w T u marks (with_state_lem m (Bindings.with_left m.state u))
   -- `annotate`, of a node without a type
   annotation : {w : List ℕ} {T : Rows} {left : ℕ} {marks : List ℕ} {m : Machine} (n : ℕ) (t : Ty) → CodeCalls v nodes w T left marks m
-      → Ok w t → n < nodes → slot_w w (TYS + 2 * n) ≡ None → CodeCalls v nodes (annotate_w w n t) T left marks (with_state_lem m (Bindings.annotate m.state n (tree T t)))
+      → Ok w t → n < nodes → slot_w w (TYS + 2 * n) ≡ None
+      → CodeCalls v nodes (annotate_w w n t) T left marks (with_state_lem m (Bindings.annotate m.state n (tree T t)))
 
 -- Where a list has led: between two calls, or to where a unification passed the visit limit, which ends the list.
 pub data CodeLed (v nodes : ℕ) : List ℕ → Rows → State → Type 0 where

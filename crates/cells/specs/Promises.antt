@@ -1,6 +1,6 @@
 -- What the functions of src/lib.rt promise. Each that walks types or changes the state says: for all rows and every
 -- state that the words stand for, the words after stand for what the definition gives.
-use Rattle.std.specs.Prelude.{List, ◌≡◌, ℕ, ◌≤◌, ◌<◌, length, Bool, Err, None, Option, Result, Some, MatchOption, false, true}
+use Rattle.std.specs.Prelude.{List, ◌≡◌, ◌+◌, ◌*◌, ℕ, ◌≤◌, ◌<◌, length, Bool, Err, None, Option, Result, Some, MatchOption, false, true}
 use Rattle.unification.specs.Ty as Tree
 use Rattle.unification.specs.Ty.{Row, ε, cell, app_row}
 use Rattle.unification.specs.Bindings as Bindings
@@ -9,14 +9,14 @@ use Rattle.unification.specs.Unify as Unify
 use Rattle.unification.specs.Unify.{find_key, find_label}
 use Rattle.unification.specs.Quiet.{Quiet}
 use Rattle.unification.specs.Acyclic.{Acyclic}
-use Rattle.work.specs.Layout.{TYS, UNDO-LEN, END}
+use Rattle.work.specs.Layout.{FIELDS, RECORD-FIELDS, TYS, UNDO-LEN, END}
 use Rattle.cells.specs.declared.Ty.{Ty}
 use Rattle.cells.specs.declared.Ty.TheVariants.{Var, Error}
 use Rattle.cells.specs.declared.Kind.{Kind}
 use Rattle.cells.specs.declared.Kind.TheVariants.{Fields, Alternatives}
 use Rattle.cells.specs.declared.UnionDiff.{UnionDiff}
 use Rattle.cells.specs.declared.TyError.{TyError}
-use Rattle.cells.specs.Words.{count_w, part_w, lower_w}
+use Rattle.cells.specs.Words.{count_w, first_w, part_w, lower_w}
 use Rattle.cells.specs.Stands.{Rows, tree, IsCell, Ok, Cells, Binds, Holds, Keeps}
 use Rattle.cells.specs.declared.Failure.{Failure}
 use Rattle.cells.specs.declared.Part.{Part}
@@ -51,6 +51,10 @@ HasName name None = Unit {0}
 -- The first place from i on with a property, below n, or none.
 abbrev pub FirstPlace : (ℕ → Type 0) → ℕ → ℕ → Option ℕ → Type 0
 FirstPlace P i n r = MatchOption r ((j : ℕ) → i ≤ j → j < n → ¬ P j) (λ j. (i ≤ j) × (j < n) × P j × ((m : ℕ) → i ≤ m → m < j → ¬ P m))
+
+-- All parts of a cell are within the words.
+abbrev pub PartsWithin : List ℕ → ℕ → Type 0
+PartsWithin w c = (FIELDS + first_w w c + 2 * count_w w c ≤ length w) × (256 ≤ c → RECORD-FIELDS + 2 * (first_w w c + count_w w c) ≤ length w)
 
 -- What is found has the key, or the name, whatever the words are.
 pub record FindsKey (w : List ℕ) (k : Kind) (c key : ℕ) (r : Option Part) : Type 0 where
@@ -169,22 +173,23 @@ pub record Stays (w w' : List ℕ) (T : Rows) (st : State) : Type 0 where
   pub holds : Holds w' T st
   pub keeps : Keeps UNDO-LEN END w w'
 
-unfoldable pub Ends : List ℕ → List ℕ → Rows → Result ℕ Failure → Unify.Unified → Type 0
-Ends w w' T r (Unify.Ok st) = (r ≡ Result.Ok st.left) × Stays w w' T st
-Ends w w' T r (Unify.Err e st) = (e' : TyError) × (r ≡ Err (Failure.Bad e' st.left)) × IsError w' T e' e × Stays w w' T st
-Ends w w' T r (Unify.Spent st) = (r ≡ Err Failure.Spent) × (st.left ≡ 0) × Stays w w' T st
+unfoldable pub UnifyEnds : List ℕ → List ℕ → Rows → Result ℕ Failure → Unify.Unified → Type 0
+UnifyEnds w w' T r (Unify.Ok st) = (r ≡ Result.Ok st.left) × Stays w w' T st
+UnifyEnds w w' T r (Unify.Err e st) = (e' : TyError) × (r ≡ Err (Failure.Bad e' st.left)) × IsError w' T e' e × Stays w w' T st
+UnifyEnds w w' T r (Unify.Spent st) = (r ≡ Err Failure.Spent) × (st.left ≡ 0) × Stays w w' T st
 
 -- Whatever the words are, the visits left do not rise, and only bindings and the undo log change.
 pub record Unifies (w : List ℕ) (got expected : Ty) (left : ℕ) (w' : List ℕ) (r : Result ℕ Failure) : Type 0 where
   pub is : (T : Rows) (st : State) → Holds w T st → st.left ≡ left → Ok w got → Ok w expected → (d : ℕ) → left ≤ d
-      → Ends w w' T r (Unify.unify_in d st (tree T got) (tree T expected))
+      → UnifyEnds w w' T r (Unify.unify_in d st (tree T got) (tree T expected))
   pub fewer : unified_left r ≤ left
   pub keeps : Keeps UNDO-LEN END w w'
 
 -- A step inside it, from a state of which P holds, to what `f` gives over trees. The depth is any that is not below the
 -- visits left.
-pub record Step (P : Rows → State → Type 0) (f : ℕ → Rows → State → Unify.Unified) (w : List ℕ) (left : ℕ) (w' : List ℕ) (r : Result ℕ Failure) : Type 0 where
-  pub is : (T : Rows) (st : State) → Holds w T st → st.left ≡ left → P T st → (d : ℕ) → left ≤ d → Ends w w' T r (f d T st)
+pub record UnifyStep (P : Rows → State → Type 0) (f : ℕ → Rows → State → Unify.Unified) (w : List ℕ) (left : ℕ) (w' : List ℕ)
+    (r : Result ℕ Failure) : Type 0 where
+  pub is : (T : Rows) (st : State) → Holds w T st → st.left ≡ left → P T st → (d : ℕ) → left ≤ d → UnifyEnds w w' T r (f d T st)
   pub fewer : unified_left r ≤ left
   pub keeps : Keeps UNDO-LEN END w w'
 
@@ -193,7 +198,7 @@ unifier d st a b = Unify.unify_in d st a b
 
 -- x is a free unknown.
 pub record BindsVar (w : List ℕ) (x : ℕ) (t : Ty) (left : ℕ) (w' : List ℕ) (r : Result ℕ Failure) : Type 0 where
-  pub step : Step (λ T st. (bound st.subst x ≡ None) × Ok w (Var x) × Ok w t) (λ d T st. Unify.bind_var d st x (tree T t)) w left w' r
+  pub step : UnifyStep (λ T st. (bound st.subst x ≡ None) × Ok w (Var x) × Ok w t) (λ d T st. Unify.bind_var d st x (tree T t)) w left w' r
 
 -- No unknown and not Error.
 abbrev pub IsShape : Ty → Type 0
@@ -201,40 +206,41 @@ IsShape t = ((x : ℕ) → t ≡ Var x → ⊥) × (t ≡ Error → ⊥)
 
 -- Both sides are at the end of their chains.
 pub record UnifiesHeads (w : List ℕ) (a b : Ty) (left : ℕ) (w' : List ℕ) (r : Result ℕ Failure) : Type 0 where
-  pub step : Step (λ T st. Ok w a × Ok w b × Resolved st.subst (tree T a) × Resolved st.subst (tree T b))
+  pub step : UnifyStep (λ T st. Ok w a × Ok w b × Resolved st.subst (tree T a) × Resolved st.subst (tree T b))
       (λ d T st. Unify.unify_heads d (unifier d) st (tree T a) (tree T b)) w left w' r
 
 -- Neither side is an unknown or Error.
 pub record UnifiesShapes (w : List ℕ) (a b : Ty) (left : ℕ) (w' : List ℕ) (r : Result ℕ Failure) : Type 0 where
-  pub step : Step (λ T st. Ok w a × Ok w b × IsShape a × IsShape b) (λ d T st. Unify.unify_heads d (unifier d) st (tree T a) (tree T b)) w left w' r
+  pub step : UnifyStep (λ T st. Ok w a × Ok w b × IsShape a × IsShape b) (λ d T st. Unify.unify_heads d (unifier d) st (tree T a) (tree T b)) w left w' r
 
 pub record UnifiesRecord (w : List ℕ) (c e left : ℕ) (w' : List ℕ) (r : Result ℕ Failure) : Type 0 where
-  pub step : Step (λ T st. IsCell w Fields c × IsCell w Fields e) (λ d T st. Unify.unify_record (unifier d) st (T c) (T e)) w left w' r
+  pub step : UnifyStep (λ T st. IsCell w Fields c × IsCell w Fields e) (λ d T st. Unify.unify_record (unifier d) st (T c) (T e)) w left w' r
 
 -- Two types once more: while the log has this length nothing was bound, so they cost this, or are stopped where fewer
 -- visits are left.
-pub record Settled (got expected : Ty) (cost log d : ℕ) (T : Rows) (s : State) : Type 0 where
+pub record SettledPair (got expected : Ty) (cost log d : ℕ) (T : Rows) (s : State) : Type 0 where
   pub quiet : length s.undo ≡ log → (st : State) → st.subst ≡ s.subst → st.left ≤ d → Quiet cost st (unifier d st (tree T got) (tree T expected))
 
 -- `unify`, where K is known of the state before, and K' after a success.
 pub record UnifiesNext (w : List ℕ) (K : ℕ → Rows → State → Type 0) (got expected : Ty) (left : ℕ) (w' : List ℕ) (K' : ℕ → Rows → State → Type 0)
     (r : Result ℕ Failure) : Type 0 where
   pub is : (T : Rows) (st : State) → Holds w T st → st.left ≡ left → Ok w got → Ok w expected → (d : ℕ) → left ≤ d → K d T st
-      → Ends w w' T r (unifier d st (tree T got) (tree T expected)) × ((st' : State) → unifier d st (tree T got) (tree T expected) ≡ Unify.Ok st' → K' d T st')
+      → UnifyEnds w w' T r (unifier d st (tree T got) (tree T expected))
+      × ((st' : State) → unifier d st (tree T got) (tree T expected) ≡ Unify.Ok st' → K' d T st')
   pub fewer : unified_left r ≤ left
   pub keeps : Keeps UNDO-LEN END w w'
 
 -- n is the number of fields of c.
 pub record UnifiesFields (w : List ℕ) (c e n left : ℕ) (w' : List ℕ) (r : Result ℕ Failure) : Type 0 where
-  pub step : Step (λ T st. IsCell w Fields c × IsCell w Fields e × (n ≡ count_w w c)) (λ d T st. Unify.unify_fields (unifier d) st (T c) (T e)) w left w' r
+  pub step : UnifyStep (λ T st. IsCell w Fields c × IsCell w Fields e × (n ≡ count_w w c)) (λ d T st. Unify.unify_fields (unifier d) st (T c) (T e)) w left w' r
 
 pub record UnifiesUnion (w : List ℕ) (c e left : ℕ) (w' : List ℕ) (r : Result ℕ Failure) : Type 0 where
-  pub step : Step (λ T st. IsCell w Alternatives c × IsCell w Alternatives e) (λ d T st. Unify.unify_union (unifier d) st (T c) (T e)) w left w' r
+  pub step : UnifyStep (λ T st. IsCell w Alternatives c × IsCell w Alternatives e) (λ d T st. Unify.unify_union (unifier d) st (T c) (T e)) w left w' r
 
 -- c is the found union, e the expected.
 abbrev pub differs : Rows → ℕ → ℕ → Unify.UnionDiff → Unify.TyError
 differs T c e diff = Unify.UnionMismatch diff (Tree.node Tree.Union (T e)) (Tree.node Tree.Union (T c))
 
 pub record UnifiesAlternative (w : List ℕ) (c e k left : ℕ) (w' : List ℕ) (r : Result ℕ Failure) : Type 0 where
-  pub step : Step (λ T st. IsCell w Alternatives c × IsCell w Alternatives e)
+  pub step : UnifyStep (λ T st. IsCell w Alternatives c × IsCell w Alternatives e)
       (λ d T st. Unify.unify_alternative (unifier d) st (differs T c e) k (find_key k (T c)) (find_key k (T e))) w left w' r

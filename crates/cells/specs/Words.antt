@@ -12,7 +12,9 @@ pick = cond
 
 -- ---- A type is a tag and a payload.
 unfoldable pub ty_w : ℕ → ℕ → Ty
-ty_w tag p = pick (eqb tag 1) Int (pick (eqb tag 2) Str (pick (eqb tag 3) Bytes (pick (eqb tag 4) (Fact p) (pick (eqb tag 5) (Record p) (pick (eqb tag 6) (Union p) (pick (eqb tag 7) (Var p) Error))))))
+ty_w tag p =
+    pick (eqb tag 1) Int (pick (eqb tag 2) Str (pick (eqb tag 3) Bytes
+    (pick (eqb tag 4) (Fact p) (pick (eqb tag 5) (Record p) (pick (eqb tag 6) (Union p) (pick (eqb tag 7) (Var p) Error))))))
 
 abbrev pub tag_w : Ty → ℕ
 tag_w Int = 1

@@ -14,12 +14,14 @@ use Rattle.cells.specs.Words.{tag_w}
 use Rattle.cells.specs.Stands.{Rows, tree}
 use Rattle.cells.specs.declared.Part.{Part}
 use Rattle.cells.specs.Promises.{found_ty, FindsName, Reprs}
-use Rattle.meaning.specs.Syntax.{Field, ExprKind, node_at}
-use Rattle.meaning.specs.References.{field_values, expr_nodes}
+use Rattle.format.specs.Syntax.{Field, ExprKind, node_at}
+use Rattle.format.specs.References.{field_values, expr_nodes}
 use Rattle.meaning.specs.Diag as Diag
-use Rattle.meaning.specs.File.{Described}
-use Rattle.meaning.specs.Check.{Checker, Walk, walk, Form, a_wildcard, a_variable, a_constant, a_record, a_disjunction, an_error, another, form, form_of, repr}
-use Rattle.meaning.specs.Check.{annotate, reject, infer_then_unify, check_fields, check_alternative, check_union, check_record, check_form, check_against, check_at}
+use Rattle.format.specs.File.{Described}
+use Rattle.meaning.specs.Check.{Checker, Walk, walk, NodeForm, a_wildcard, a_variable, a_constant, a_record, a_disjunction, an_error, another, form, form_of}
+use Rattle.meaning.specs.Check.{repr}
+use Rattle.meaning.specs.Check.{annotate, reject, infer_then_unify, check_fields, check_alternative, check_union, check_record, check_form, check_against}
+use Rattle.meaning.specs.Check.{check_at}
 use Rattle.meaning.specs.Weights.{same, sum_of, weight}
 use Rattle.meaning.specs.Grades.{unknowns, one_diagnostic, one_node}
 use Rattle.meaning.proofs.Steps.{Nothing}
@@ -30,7 +32,7 @@ use Rattle.tree.specs.declared.items.Items.{Items}
 use Rattle.tree.specs.declared.Node.{Node}
 use Rattle.tree.specs.Nodes.{field_w, field_of, fields_from, kind_w, IsNode}
 use Rattle.tree.proofs.Steps.{fields_length}
-use Rattle.steps.specs.Ends.{done, Ends}
+use Rattle.steps.specs.Ends.{done, StepEnds}
 use Rattle.steps.specs.Loads.{Load, only, both, FitsIn, checks, visits, Begins, Beside}
 use Rattle.steps.specs.Promises.{nodes_of, Fine, FineRecord, FineUnion, Notes, Rejects, Named, AllNamed, NodeAt}
 use Rattle.checker.specs.Promises.{below, InfersThenUnifies, ChecksFields, ChecksUnion, Checks}
@@ -83,7 +85,7 @@ module _ {f w ou : List ℕ} {n left : ℕ} {e t : Ty} (R : Reprs w e t) where
   pub check_as : {w' ou' : List ℕ} {r : Option ℕ} {nd : Node} → tag_w t ≢ 8 → IsNode f w n nd
       → ((d : Described) (k : ℕ) (T : Rows) (c : Checker) → NodeAt d k n → (node_at (nodes_of d) n).kind ≡ kind_w f nd
       → Begins f w ou T d (checks (nodes_of d) (suc k) n) left c → Fine w t T c
-      → Ends f w ou w' ou' T d (checks (nodes_of d) (suc k) n).records (checks (nodes_of d) (suc k) n).fields (done r)
+      → StepEnds f w ou w' ou' T d (checks (nodes_of d) (suc k) n).records (checks (nodes_of d) (suc k) n).fields (done r)
       (check_form d.schema (nodes_of d) (below d k) n (form_of (kind_w f nd)) (tree T t) c))
       → Checks f w ou n e left w' ou' r
   unfolding walk check_at repr
@@ -108,7 +110,7 @@ note_fits d k n = record {
 }
 
 -- Forms that are inferred and unified.
-abbrev pub Inferred : Form → Type 0
+abbrev pub Inferred : NodeForm → Type 0
 Inferred (a_variable x) = Unit {0}
 Inferred a_constant = Unit {0}
 Inferred an_error = Unit {0}
@@ -117,7 +119,7 @@ Inferred another = Unit {0}
 Inferred a_wildcard = ⊥
 Inferred (a_record fs) = ⊥
 
-inferred_form : (q : Form) → Inferred q → (d : Described) (b : Walk) (n : ℕ) (t : Tree.Ty) (c : Checker)
+inferred_form : (q : NodeForm) → Inferred q → (d : Described) (b : Walk) (n : ℕ) (t : Tree.Ty) (c : Checker)
     → check_form d.schema (nodes_of d) b n q t c ≡ infer_then_unify d.schema (nodes_of d) b n t c
 unfolding check_form
 inferred_form (a_variable x) h d b n t c = refl
@@ -223,7 +225,7 @@ reject_fits d k n = record { grade = omega (arith, size_pos (nodes_of d) k n); r
 
 pub rejected : {f w ou w' ou' : List ℕ} {n left : ℕ} {T : Rows} {d : Described} {c : Checker} {r : Option ℕ} (k : ℕ) (m : Message) → OkMessage w m
     → Rejects f w ou n m left w' ou' r → n < length (nodes_of d) → Begins f w ou T d (checks (nodes_of d) k n) left c
-    → Ends f w ou w' ou' T d (checks (nodes_of d) k n).records (checks (nodes_of d) k n).fields (done r)
+    → StepEnds f w ou w' ou' T d (checks (nodes_of d) k n).records (checks (nodes_of d) k n).fields (done r)
     (reject d.schema (nodes_of d) n (said T c.state.subst m) c)
 rejected {n = n} {T = T} {d = d} {c = c} k m ok R there s =
     ends_wider (omega arith) (omega arith) ((R d there).is T c (begins_part (only one_diagnostic) (checks (nodes_of d) k n) (reject_fits d k n) s) ok)

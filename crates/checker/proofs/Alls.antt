@@ -8,7 +8,7 @@ use Rattle.unification.specs.Ty as Tree
 use Rattle.unification.proofs.Tests.{clash}
 use Rattle.cells.specs.declared.Ty.{Ty}
 use Rattle.cells.specs.Stands.{Rows, tree}
-use Rattle.meaning.specs.File.{Described}
+use Rattle.format.specs.File.{Described}
 use Rattle.meaning.specs.Check.{Checker, Step, goes, and_then, infer_all, unify_at}
 use Rattle.meaning.specs.Weights.{sum_of}
 use Rattle.meaning.specs.Grades.{Ready, one_diagnostic, inferring, visiting}
@@ -17,7 +17,7 @@ use Rattle.meaning.proofs.Steps.{Nothing, IsSide, unify_at_meets}
 use Rattle.meaning.proofs.Visits.{size_pos}
 use Rattle.tree.specs.declared.items.Items.{Items}
 use Rattle.tree.specs.Nodes.{item_w, items_from}
-use Rattle.steps.specs.Ends.{typed, done, Ends}
+use Rattle.steps.specs.Ends.{typed, done, StepEnds}
 use Rattle.steps.specs.Loads.{Load, only, both, FitsIn, infers, visits, Begins, Beside}
 use Rattle.steps.specs.Promises.{nodes_of, Fine, UnifiesAt, Named, AllNamed}
 use Rattle.checker.specs.Promises.{below, Infers, InfersAll, all_with}
@@ -86,14 +86,15 @@ unfolding all_with infer_all
 all_some d k t e es c = and_then_first ((below d k).infer e c) (λ ty. unify_at d.schema (nodes_of d) e ty t)
     (λ u. infer_all d.schema (nodes_of d) (below d k) t es) (λ u b. goes t b)
 
-pub some_fits : (d : Described) (k e : ℕ) (es : List ℕ) → FitsIn (both (visits (nodes_of d) k (e ∷ [])) (visits (nodes_of d) k es)) (visits (nodes_of d) k (e ∷ es))
+pub some_fits : (d : Described) (k e : ℕ) (es : List ℕ) → FitsIn (both (visits (nodes_of d) k (e ∷ [])) (visits (nodes_of d) k es))
+    (visits (nodes_of d) k (e ∷ es))
 unfolding sum_of
 some_fits d k e es = record { grade = omega arith; records = omega arith; fields = omega arith }
 
 module _ {f w₀ ou₀ w ou : List ℕ} {T : Rows} {d : Described} {K : Load} {rest : ℕ} {c : Checker} {whole : Step Tree.Ty} (k : ℕ) (t : Ty)
     (fine : Fine w₀ t T c) where
   all_done : Midway f w₀ ou₀ w ou T d K (visits (nodes_of d) k []) rest c whole (all_with d k (tree T t) [])
-      → Ends f w₀ ou₀ w ou T d K.records K.fields (typed w (Some (t, rest))) whole
+      → StepEnds f w₀ ou₀ w ou T d K.records K.fields (typed w (Some (t, rest))) whole
   unfolding all_with infer_all
   all_done M = mid_ends M (rw (← mid_tree M t fine.ok) (type_here t M.begins.runs M.begins.lines M.begins.visits (mid_fine M t fine).ok))
 
@@ -101,7 +102,7 @@ module _ {f w₀ ou₀ w ou : List ℕ} {T : Rows} {d : Described} {K : Load} {r
       (M : Midway f w₀ ou₀ w ou T d K (visits (nodes_of d) k (e ∷ es)) rest c whole (all_with d k (tree T t) (e ∷ es))) (named : Named d k e)
       (U : Turn f w ou e t rest w' ou' r) where
     turn_ends : Begins f w ou M.T₁ d (visits (nodes_of d) k (e ∷ [])) rest M.b
-        → Ends f w ou w' ou' M.T₁ d (visits (nodes_of d) k (e ∷ [])).records (visits (nodes_of d) k (e ∷ [])).fields (done r)
+        → StepEnds f w ou w' ou' M.T₁ d (visits (nodes_of d) k (e ∷ [])).records (visits (nodes_of d) k (e ∷ [])).fields (done r)
         (and_then ((below d k).infer e M.b) (λ ty. unify_at d.schema (nodes_of d) e ty (tree T t)))
     turn_ends s = rw (← mid_tree M t fine.ok) ((U.is d k named).is M.T₁ M.b s (mid_fine M t fine))
 
@@ -113,7 +114,7 @@ module _ {f w₀ ou₀ w ou : List ℕ} {T : Rows} {d : Described} {K : Load} {r
         mid_after M (visits (nodes_of d) k (e ∷ [])) (visits (nodes_of d) k es) (some_fits d k e es) Nothing m L (λ u. all_with d k (tree T t) es) l
         (all_some d k (tree T t) e es M.b) (cc (g, L.gone.is))
 
-    all_stop : r ≡ None → Ends f w₀ ou₀ w' ou' T d K.records K.fields (typed w' None) whole
+    all_stop : r ≡ None → StepEnds f w₀ ou₀ w' ou' T d K.records K.fields (typed w' None) whole
     all_stop g = mid_ends M (rw (all_some d k (tree T t) e es M.b)
         (stop_done (visits (nodes_of d) k (e ∷ [])) (visits (nodes_of d) k es) (visits (nodes_of d) k (e ∷ es)) (some_fits d k e es) Nothing
         (and_then ((below d k).infer e M.b) (λ ty. unify_at d.schema (nodes_of d) e ty (tree T t))) (λ u. all_with d k (tree T t) es) g refl

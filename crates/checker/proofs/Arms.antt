@@ -13,14 +13,15 @@ use Rattle.cells.specs.declared.Ty.{Ty}
 use Rattle.cells.specs.declared.Ty.TheVariants.{Int, Fact, Var}
 use Rattle.cells.specs.Stands.{Rows, tree, bound_tree}
 use Rattle.cells.specs.Promises.{Reprs}
-use Rattle.meaning.specs.Syntax.{ExprKind, Field, FieldRef, no_node, node_at}
-use Rattle.meaning.specs.References.{field_names, expr_names, expr_nodes}
-use Rattle.meaning.specs.All.{Below}
-use Rattle.meaning.specs.Conditions.{max_names}
-use Rattle.meaning.specs.Sound.{Sound}
-use Rattle.meaning.proofs.Lists.{all_at, all_map}
-use Rattle.meaning.specs.File.{Described}
-use Rattle.meaning.specs.Check.{Checker, goes, Does, and_then, repr, Walk, key_ty, access_of, access, select_of, select, fact, infer_kind, disjunction, fresh_var_id}
+use Rattle.format.specs.Syntax.{ExprKind, Field, FieldRef, no_node, node_at}
+use Rattle.format.specs.References.{field_names, expr_names, expr_nodes}
+use Rattle.format.specs.All.{Below}
+use Rattle.format.specs.Conditions.{max_names}
+use Rattle.format.specs.Sound.{Sound}
+use Rattle.format.proofs.Lists.{all_at, all_map}
+use Rattle.format.specs.File.{Described}
+use Rattle.meaning.specs.Check.{Checker, goes, Does, and_then, repr, Walk, key_ty, access_of, access, select_of, select, fact, infer_kind, disjunction}
+use Rattle.meaning.specs.Check.{fresh_var_id}
 use Rattle.meaning.specs.Weights.{sum_of, records_of, fields_of}
 use Rattle.meaning.specs.Grades.{unknowns, no_thing, one_diagnostic, one_unknown}
 use Rattle.meaning.proofs.Steps.{Nothing, fresh_var_id_meets}

@@ -12,12 +12,12 @@ use Rattle.unification.proofs.Tests.{clash}
 use Rattle.cells.specs.declared.Ty.{Ty}
 use Rattle.cells.specs.Words.{pick}
 use Rattle.cells.specs.Stands.{Rows}
-use Rattle.meaning.specs.Syntax.{QueryStmt, Query, ExprKind, is_destructurable}
-use Rattle.meaning.specs.References.{stmt_nodes, query_nodes, expr_nodes}
-use Rattle.meaning.specs.All.{All}
+use Rattle.format.specs.Syntax.{QueryStmt, Query, ExprKind, is_destructurable}
+use Rattle.format.specs.References.{stmt_nodes, query_nodes, expr_nodes}
+use Rattle.format.specs.All.{All}
 use Rattle.meaning.specs.Diag as Diag
-use Rattle.meaning.specs.File.{Described}
-use Rattle.meaning.specs.Check.{Checker, Step, goes, out, Does, and_then, Walk, Form, a_wildcard, a_variable, a_constant, a_record, a_disjunction, an_error}
+use Rattle.format.specs.File.{Described}
+use Rattle.meaning.specs.Check.{Checker, Step, goes, out, Does, and_then, Walk, NodeForm, a_wildcard, a_variable, a_constant, a_record, a_disjunction, an_error}
 use Rattle.meaning.specs.Check.{another, form_of, bind_form, deny_form, generate, stmt, stmts, bad_target, only_right, not_yet, bind_wildcard, env_len, leave}
 use Rattle.meaning.specs.Check.{subquery}
 use Rattle.meaning.specs.Weights as Weights
@@ -36,10 +36,10 @@ use Rattle.tree.specs.declared.Node.{Node}
 use Rattle.tree.specs.declared.Stmt.{Stmt}
 use Rattle.tree.specs.Nodes.{kind_w, IsNode, statement, stmt_w, stmt_size_w, stmts_from, stmts_w}
 use Rattle.tree.proofs.Below as Below
-use Rattle.steps.specs.Ends.{typed, done, Ends}
+use Rattle.steps.specs.Ends.{typed, done, StepEnds}
 use Rattle.steps.specs.Loads.{Load, only, both, FitsIn, infers, visits, parts, Begins}
-use Rattle.steps.specs.Promises.{nodes_of, only_w, Leaves, Named, AllNamed, Asks}
-use Rattle.checker.specs.Promises.{below, Infers, Generates, Sides, Binds, Denies, Compares, NotYets, Destructures, BindsVariable, States}
+use Rattle.steps.specs.Promises.{nodes_of, only_w, Leaves, Named, AllNamed, TellsDestructurable}
+use Rattle.checker.specs.Promises.{below, Infers, Generates, Sides, BindsSides, Denies, Compares, NotYets, Destructures, BindsVariable, States}
 use Rattle.checker.specs.Promises.{StatesAll, Subqueries}
 use Rattle.checker.proofs.Within.{BadTargets, plainly}
 use Rattle.steps.proofs.Sequel.{begins_part, ends_wider}
@@ -54,7 +54,7 @@ use Rattle.std.specs.Prelude.{None, Option, Some, ℕ}
 module _ {f w ou w' ou' : List ℕ} {lhs rhs left : ℕ} {r : Option ℕ} {nd : Node} (i : IsNode f w lhs nd) (m : Described → Walk → ℕ → ℕ → Does (Unit {0})) where
   -- By the form that was read.
   pub bind_as : ((d : Described) (b : Walk) (c : Checker) → bind_form d.schema (nodes_of d) b (form_of (kind_w f nd)) lhs rhs c ≡ m d b lhs rhs c)
-      → Sides m f w ou lhs rhs left w' ou' r → Binds f w ou lhs rhs left w' ou' r
+      → Sides m f w ou lhs rhs left w' ou' r → BindsSides f w ou lhs rhs left w' ou' r
   bind_as e S = record { is = λ d k nl nr. record { is = λ T c s u. rw (form_read s nl.there i, e d (below d k) c) ((S.is d k nl nr).is T c s tt) } }
 
   pub deny_as : ((d : Described) (b : Walk) (c : Checker) → deny_form d.schema (nodes_of d) b (form_of (kind_w f nd)) lhs rhs c ≡ m d b lhs rhs c)
@@ -62,7 +62,7 @@ module _ {f w ou w' ou' : List ℕ} {lhs rhs left : ℕ} {r : Option ℕ} {nd : 
   deny_as e S = record { is = λ d k nl nr. record { is = λ T c s u. rw (form_read s nl.there i, e d (below d k) c) ((S.is d k nl nr).is T c s tt) } }
 
 -- Left sides of which the binding comes later, in a binding and in a denial.
-abbrev pub Later : Form → Type 0
+abbrev pub Later : NodeForm → Type 0
 Later (a_disjunction es) = Unit {0}
 Later another = Unit {0}
 Later (a_record fs) = ⊥
@@ -71,7 +71,7 @@ Later (a_variable x) = ⊥
 Later a_constant = ⊥
 Later an_error = ⊥
 
-abbrev pub DeniedLater : Form → Type 0
+abbrev pub DeniedLater : NodeForm → Type 0
 DeniedLater (a_record fs) = Unit {0}
 DeniedLater (a_disjunction es) = Unit {0}
 DeniedLater another = Unit {0}
@@ -80,7 +80,7 @@ DeniedLater (a_variable x) = ⊥
 DeniedLater a_constant = ⊥
 DeniedLater an_error = ⊥
 
-later_bind : (q : Form) → Later q → (d : Described) (b : Walk) (x y : ℕ) (c : Checker)
+later_bind : (q : NodeForm) → Later q → (d : Described) (b : Walk) (x y : ℕ) (c : Checker)
     → bind_form d.schema (nodes_of d) b q x y c ≡ not_yet d.schema (nodes_of d) b Diag.matched_patterns x y c
 unfolding bind_form
 later_bind (a_disjunction es) h d b x y c = refl
@@ -91,7 +91,7 @@ later_bind (a_variable v) h d b x y c = absurd h
 later_bind a_constant h d b x y c = absurd h
 later_bind an_error h d b x y c = absurd h
 
-later_deny : (q : Form) → DeniedLater q → (d : Described) (b : Walk) (x y : ℕ) (c : Checker)
+later_deny : (q : NodeForm) → DeniedLater q → (d : Described) (b : Walk) (x y : ℕ) (c : Checker)
     → deny_form d.schema (nodes_of d) b q x y c ≡ not_yet d.schema (nodes_of d) b Diag.denied_pattern x y c
 unfolding deny_form
 later_deny (a_record fs) h d b x y c = refl
@@ -103,21 +103,23 @@ later_deny a_constant h d b x y c = absurd h
 later_deny an_error h d b x y c = absurd h
 
 module _ {f w ou w' ou' : List ℕ} {lhs rhs left : ℕ} {r : Option ℕ} {nd : Node} (i : IsNode f w lhs nd) where
-  pub bind_wildcard_lem : form_of (kind_w f nd) ≡ a_wildcard → Wildcards f w ou lhs rhs left w' ou' r → Binds f w ou lhs rhs left w' ou' r
+  pub bind_wildcard_lem : form_of (kind_w f nd) ≡ a_wildcard → Wildcards f w ou lhs rhs left w' ou' r → BindsSides f w ou lhs rhs left w' ou' r
   unfolding bind_form
   bind_wildcard_lem q S = bind_as i (λ d b x y. bind_wildcard d.schema (nodes_of d) b x y) (λ d b c. rw q refl) S
 
-  pub bind_constant : form_of (kind_w f nd) ≡ a_constant → BadTargets Message.BoundConstant f w ou lhs rhs left w' ou' r → Binds f w ou lhs rhs left w' ou' r
+  pub bind_constant : form_of (kind_w f nd) ≡ a_constant → BadTargets Message.BoundConstant f w ou lhs rhs left w' ou' r
+      → BindsSides f w ou lhs rhs left w' ou' r
   unfolding bind_form
   bind_constant q S = bind_as i (λ d b x y. bad_target d.schema (nodes_of d) b Diag.bound_constant x y) (λ d b c. rw q refl)
       (plainly Diag.bound_constant (λ T s. refl) tt S)
 
-  pub bind_error : form_of (kind_w f nd) ≡ an_error → OnlyRights f w ou lhs rhs left w' ou' r → Binds f w ou lhs rhs left w' ou' r
+  pub bind_error : form_of (kind_w f nd) ≡ an_error → OnlyRights f w ou lhs rhs left w' ou' r → BindsSides f w ou lhs rhs left w' ou' r
   unfolding bind_form
   bind_error q S = bind_as i (λ d b x y. only_right d.schema (nodes_of d) b y) (λ d b c. rw q refl) S
 
-  pub bind_later : Later (form_of (kind_w f nd)) → NotYets Message.MatchedPatterns f w ou lhs rhs left w' ou' r → Binds f w ou lhs rhs left w' ou' r
-  bind_later h S = bind_as i (λ d b x y. not_yet d.schema (nodes_of d) b Diag.matched_patterns x y) (λ d b c. later_bind (form_of (kind_w f nd)) h d b lhs rhs c)
+  pub bind_later : Later (form_of (kind_w f nd)) → NotYets Message.MatchedPatterns f w ou lhs rhs left w' ou' r → BindsSides f w ou lhs rhs left w' ou' r
+  bind_later h S =
+      bind_as i (λ d b x y. not_yet d.schema (nodes_of d) b Diag.matched_patterns x y) (λ d b c. later_bind (form_of (kind_w f nd)) h d b lhs rhs c)
       (plainly Diag.matched_patterns (λ T s. refl) tt S)
 
   pub deny_error : form_of (kind_w f nd) ≡ an_error → OnlyRights f w ou lhs rhs left w' ou' r → Denies f w ou lhs rhs left w' ou' r
@@ -129,8 +131,9 @@ module _ {f w ou w' ou' : List ℕ} {lhs rhs left : ℕ} {r : Option ℕ} {nd : 
       (plainly Diag.denied_pattern (λ T s. refl) tt S)
 
 -- A record is taken apart where that can be done.
-module _ {f w ou w' ou' : List ℕ} {lhs rhs left : ℕ} {r : Option ℕ} {l : Items} (i : IsNode f w lhs (Node.Record l)) {b : Bool} (D : Asks f w lhs b) where
-  pub bind_apart : b ≡ true → Destructures f w ou lhs rhs left w' ou' r → Binds f w ou lhs rhs left w' ou' r
+module _ {f w ou w' ou' : List ℕ} {lhs rhs left : ℕ} {r : Option ℕ} {l : Items} (i : IsNode f w lhs (Node.Record l)) {b : Bool}
+    (D : TellsDestructurable f w lhs b) where
+  pub bind_apart : b ≡ true → Destructures f w ou lhs rhs left w' ou' r → BindsSides f w ou lhs rhs left w' ou' r
   unfolding kind_w form_of bind_form
   bind_apart e S = record {
     is = λ d k nl nr. record {
@@ -140,7 +143,7 @@ module _ {f w ou w' ou' : List ℕ} {lhs rhs left : ℕ} {r : Option ℕ} {l : I
     };
   }
 
-  pub bind_whole : b ≡ false → NotYets Message.MatchedPatterns f w ou lhs rhs left w' ou' r → Binds f w ou lhs rhs left w' ou' r
+  pub bind_whole : b ≡ false → NotYets Message.MatchedPatterns f w ou lhs rhs left w' ou' r → BindsSides f w ou lhs rhs left w' ou' r
   unfolding kind_w form_of bind_form
   bind_whole e S = record {
     is = λ d k nl nr. record {
@@ -152,7 +155,7 @@ module _ {f w ou w' ou' : List ℕ} {lhs rhs left : ℕ} {r : Option ℕ} {l : I
 
 -- A variable, introduced before the right side is inferred.
 module _ {f w ou w' ou' : List ℕ} {lhs rhs left x : ℕ} {r : Option ℕ} (i : IsNode f w lhs (Node.Var x)) (B : BindsVariable f w ou x lhs rhs left w' ou' r) where
-  pub bind_variable_lem : Binds f w ou lhs rhs left w' ou' r
+  pub bind_variable_lem : BindsSides f w ou lhs rhs left w' ou' r
   unfolding kind_w form_of bind_form
   bind_variable_lem = record {
     is = λ d k nl nr. record
@@ -169,7 +172,7 @@ module _ {f w ou w' ou' : List ℕ} {lhs rhs left x : ℕ} {r : Option ℕ} (i :
 -- ---- `stmt`
 generated : {f w ou w' ou' : List ℕ} {left : ℕ} {r : Option (Ty × ℕ)} (n : ℕ) → Generates f w ou n left w' ou' r → (d : Described) (k : ℕ) → Named d k n
     → (T : Rows) (c : Checker) → Begins f w ou T d (visits (nodes_of d) k (n ∷ [])) left c
-    → Ends f w ou w' ou' T d (visits (nodes_of d) k (n ∷ [])).records (visits (nodes_of d) k (n ∷ [])).fields (done (only_w r))
+    → StepEnds f w ou w' ou' T d (visits (nodes_of d) k (n ∷ [])).records (visits (nodes_of d) k (n ∷ [])).fields (done (only_w r))
     (generate d.schema (nodes_of d) (below d k) n c)
 unfolding generate sum_of
 generated n G d k named T c s = ends_wider (omega arith) (omega arith) (only_ends ((below d k).generator n c)
@@ -177,7 +180,8 @@ generated n G d k named T c s = ends_wider (omega arith) (omega arith) (only_end
     (record { grade = omega arith; records = omega arith; fields = omega arith }) s) tt))
 
 module _ {f w ou w' ou' : List ℕ} {at under left : ℕ} where
-  pub stmt_implicit : {n : ℕ} {r : Option (Ty × ℕ)} → stmt_w f at under ≡ Stmt.Implicit n → Generates f w ou n left w' ou' r → States f w ou at under left w' ou' (only_w r)
+  pub stmt_implicit : {n : ℕ} {r : Option (Ty × ℕ)} → stmt_w f at under ≡ Stmt.Implicit n → Generates f w ou n left w' ou' r
+      → States f w ou at under left w' ou' (only_w r)
   unfolding stmt stmt_nodes
   stmt_implicit {n} e G = record {
     is = λ d k s q named. record {
@@ -186,7 +190,8 @@ module _ {f w ou w' ou' : List ℕ} {at under left : ℕ} where
     };
   }
 
-  pub stmt_negation : {n : ℕ} {r : Option (Ty × ℕ)} → stmt_w f at under ≡ Stmt.Negation n → Generates f w ou n left w' ou' r → States f w ou at under left w' ou' (only_w r)
+  pub stmt_negation : {n : ℕ} {r : Option (Ty × ℕ)} → stmt_w f at under ≡ Stmt.Negation n → Generates f w ou n left w' ou' r
+      → States f w ou at under left w' ou' (only_w r)
   unfolding stmt stmt_nodes
   stmt_negation {n} e G = record {
     is = λ d k s q named. record {
@@ -201,7 +206,7 @@ module _ {f w ou w' ou' : List ℕ} {at under left : ℕ} where
   stmt_visits p (inl e) G = stmt_implicit (sym p ∙ e) G
   stmt_visits p (inr e) G = stmt_negation (sym p ∙ e) G
 
-  pub stmt_bind : {x y : ℕ} {r : Option ℕ} → stmt_w f at under ≡ Stmt.Bind x y → Binds f w ou x y left w' ou' r → States f w ou at under left w' ou' r
+  pub stmt_bind : {x y : ℕ} {r : Option ℕ} → stmt_w f at under ≡ Stmt.Bind x y → BindsSides f w ou x y left w' ou' r → States f w ou at under left w' ou' r
   unfolding stmt stmt_nodes
   stmt_bind {x} {y} e B = record {
     is = λ d k s q named. record {
@@ -279,7 +284,7 @@ stmt_meets {d = d} {c = c} b k s y = rw (← and_then_unit (saying d k s c))
 
 module _ {f w₀ ou₀ w ou : List ℕ} {T : Rows} {d : Described} {K : Load} {rest : ℕ} {c : Checker} {whole : Step (Unit {0})} (k : ℕ) where
   stmts_done : Midway f w₀ ou₀ w ou T d K (visits (nodes_of d) k (stmt_nodes [])) rest c whole (saying_all d k [])
-      → Ends f w₀ ou₀ w ou T d K.records K.fields (done (Some rest)) whole
+      → StepEnds f w₀ ou₀ w ou T d K.records K.fields (done (Some rest)) whole
   unfolding stmts
   stmts_done M = mid_ends M (on_here M.begins.runs M.begins.lines M.begins.visits)
 
@@ -295,7 +300,7 @@ module _ {f w₀ ou₀ w ou : List ℕ} {T : Rows} {d : Described} {K : Load} {r
         mid_after M (visits (nodes_of d) k (stmt_nodes (s ∷ []))) (visits (nodes_of d) k (stmt_nodes ss)) (stmt_fits d k s ss) Nothing
         (saying d k s M.b) L (λ u. saying_all d k ss) l refl (cc (g, L.gone.is))
 
-    stmts_stop : r ≡ None → Ends f w₀ ou₀ w' ou' T d K.records K.fields (done None) whole
+    stmts_stop : r ≡ None → StepEnds f w₀ ou₀ w' ou' T d K.records K.fields (done None) whole
     unfolding stmts
     stmts_stop g = mid_ends M (stop_done (visits (nodes_of d) k (stmt_nodes (s ∷ []))) (visits (nodes_of d) k (stmt_nodes ss))
         (visits (nodes_of d) k (stmt_nodes (s ∷ ss))) (stmt_fits d k s ss) Nothing (saying d k s M.b)
@@ -400,7 +405,7 @@ module _ {f w ou w₁ ou₁ : List ℕ} {head left : ℕ} {body : Stmts} {x : Op
     subquery_then : {w₃ ou₃ : List ℕ} {r : Option (Ty × ℕ)}
         → ((d : Described) (k : ℕ) → Named d k head → (T₁ : Rows) (c b : Checker) → length c.env ≡ get_or w ENV-LEN 0
         → length c.env ≤ length b.env → Begins f w₁ ou₁ T₁ d (infers (nodes_of d) k head) l b
-        → Ends f w₁ ou₁ w₃ ou₃ T₁ d (infers (nodes_of d) k head).records (infers (nodes_of d) k head).fields (typed w₃ r)
+        → StepEnds f w₁ ou₁ w₃ ou₃ T₁ d (infers (nodes_of d) k head).records (infers (nodes_of d) k head).fields (typed w₃ r)
         (and_then ((below d k).infer head b) (λ ty e. and_then (leave d.schema (nodes_of d) (length c.env) e) (λ u z. goes ty z))))
         → Subqueries f w ou head body left w₃ ou₃ r
     unfolding subquery env_len expr_nodes query_nodes

@@ -6,9 +6,9 @@ use Prim.Native.Nat.{ℕ, ◌+◌}
 use native.Mathlib.Omega.{arith}
 use lib.ListN.{length}
 use Rattle.unification.specs.Ty as Tree
-use Rattle.meaning.specs.Syntax.{Field, ExprKind}
-use Rattle.meaning.specs.References.{field_values, expr_nodes}
-use Rattle.meaning.specs.File.{Described}
+use Rattle.format.specs.Syntax.{Field, ExprKind}
+use Rattle.format.specs.References.{field_values, expr_nodes}
+use Rattle.format.specs.File.{Described}
 use Rattle.meaning.specs.Check.{Checker, Step, goes, out, Does, and_then, infer_fields, infer_kind}
 use Rattle.meaning.specs.Weights.{sum_of, records, records_of, record_fields, fields_of}
 use Rattle.meaning.specs.Grades.{visiting}

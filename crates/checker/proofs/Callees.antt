@@ -9,7 +9,7 @@ use Rattle.work.specs.Layout.{UNKNOWNS, ENV-LEN, MARK-COUNT, UNDO-LEN}
 use Rattle.cells.specs.declared.Ty.{Ty}
 use Rattle.cells.specs.Promises.{FindsName}
 use Rattle.cells.specs.Words.{annotate_w, fresh_w}
-use Rattle.meaning.specs.Syntax.{FieldRef}
+use Rattle.format.specs.Syntax.{FieldRef}
 use Rattle.meaning.specs.Check as Check
 use Rattle.messages.specs.declared.Message.{Message}
 use Rattle.state.specs.Words.{leave_w}
@@ -22,7 +22,7 @@ use Rattle.tree.proofs.Below.{stmt_size}
 use Rattle.tree.proofs.Steps.{item_lower, LowerStmt, stmt_lower}
 use Rattle.steps.specs.Promises.{nodes_of, Rejects, Notes, Freshens, RollsTo, Leaves, KeyIs, OnType}
 use Rattle.steps.specs.declared.Mark.{Mark}
-use Rattle.steps.specs.Outside.{key_ty_w, Takes, Rewinds, KeyOf, ValueOf}
+use Rattle.steps.specs.Outside.{key_ty_w, TakesMark, Rewinds, KeyOf, ValueOf}
 use Rattle.steps.proofs.Ending.{rejects, notes, freshens}
 use Rattle.steps.proofs.Looking.{key_is}
 use Rattle.steps.proofs.Besides.{rolls, leaves}
@@ -38,7 +38,7 @@ pub freshens_by : {f w ou w' : List ℕ} {left x : ℕ} → (x ≡ get_or w UNKN
 freshens_by {f} {w} {ou} {w'} {left} {x} e =
     subst (λ (v : List ℕ). Freshens f w ou left v ou x) (sym e.1) (subst (λ (y : ℕ). Freshens f w ou left (fresh_w w) ou y) (sym e.0) (freshens f w left))
 
-pub rolls_by : {f w ou w₀ w' : List ℕ} {m : Mark} → Takes w₀ m → Rewinds w m w'
+pub rolls_by : {f w ou w₀ w' : List ℕ} {m : Mark} → TakesMark w₀ m → Rewinds w m w'
     → RollsTo f w ou (get_or w₀ UNDO-LEN 0) (get_or w₀ ENV-LEN 0) (get_or w₀ MARK-COUNT 0) w' ou
 rolls_by {f} {w} {ou} {w₀} {w'} {m} t r =
     subst (λ (x : ℕ). RollsTo f w ou x (get_or w₀ ENV-LEN 0) (get_or w₀ MARK-COUNT 0) w' ou) t.undo

@@ -17,10 +17,10 @@ use Rattle.cells.specs.declared.Ty.{Ty}
 use Rattle.cells.specs.declared.TyError.{TyError}
 use Rattle.cells.specs.Stands.{Rows, tree}
 use Rattle.cells.specs.Promises.{IsError}
-use Rattle.cells.specs.Inferred.{More, Adds}
+use Rattle.cells.specs.Inferred.{More, AddsCells}
 use Rattle.cells.proofs.Frame.{tree_more}
 use Rattle.cells.proofs.Holding.{holds_log}
-use Rattle.meaning.specs.File.{Described}
+use Rattle.format.specs.File.{Described}
 use Rattle.meaning.specs.Check.{Checker, Step, goes, out, Does, and_then, walk, Mark, report, unify, rollback, snapshot, diagnostics_len, infer_at}
 use Rattle.meaning.specs.Check.{infer_then_unify, check_field}
 use Rattle.meaning.proofs.Meets.{Went, made_trans, reached_trans}
@@ -30,7 +30,7 @@ use Rattle.meaning.proofs.Visits.{size_pos}
 use Rattle.state.specs.Lines.{Told}
 use Rattle.state.specs.Runs.{Runs}
 use Rattle.state.proofs.Scoping.{runs_env_length, runs_marks_length}
-use Rattle.steps.specs.Ends.{Gives, typed, done, silent, unified, IsUnified, Gone, Ends, went, spent}
+use Rattle.steps.specs.Ends.{StepGives, typed, done, silent, unified, IsUnified, Gone, StepEnds, went, spent}
 use Rattle.steps.specs.Loads.{Load, only, both, FitsIn, infers, checks, Begins}
 use Rattle.steps.specs.Promises.{nodes_of, Fine, UnifiesTo, Reports, RollsTo, Named, NodeAt}
 use Rattle.checker.specs.Promises.{below, Infers, InfersThenUnifies, Checks}
@@ -51,12 +51,12 @@ mark_of c = record { state = Bindings.snapshot c.state; env = length c.env; mark
 same_load : (G : Load) → FitsIn (both G (only no_thing)) G
 same_load G = record { grade = omega arith; records = omega arith; fields = omega arith }
 
-module _ {f w ou w₂ ou₂ w₃ ou₃ : List ℕ} {T : Rows} {d : Described} {left v : ℕ} {c b : Checker} (G : Load) {A : Type 0} {E : Gives A} {a : A}
+module _ {f w ou w₂ ou₂ w₃ ou₃ : List ℕ} {T : Rows} {d : Described} {left v : ℕ} {c b : Checker} (G : Load) {A : Type 0} {E : StepGives A} {a : A}
     (P : A → Checker → Type 0)
     (s : Begins f w ou T d G left c) (g : Gone f w ou w₂ ou₂ T d G.records G.fields E a b 0) (x : Went P G.grade c a b) (e : b.state.left ≡ v)
     (R : RollsTo f w₂ ou₂ (get_or w UNDO-LEN 0) (get_or w ENV-LEN 0) (get_or w MARK-COUNT 0) w₃ ou₃) where
   -- The code's rollback, from the end of the stretch.
-  rolled_back : Ends f w₂ ou₂ w₃ ou₃ g.T' d 0 0 (silent v) (rollback (mark_of c) b)
+  rolled_back : StepEnds f w₂ ou₂ w₃ ou₃ g.T' d 0 0 (silent v) (rollback (mark_of c) b)
   unfolding Bindings.snapshot
   rolled_back =
       (R d v (mark_of c) (sym (holds_log s.runs.holds)) (runs_env_length s.runs) (runs_marks_length s.runs)).is g.T' b
@@ -66,11 +66,11 @@ module _ {f w ou w₂ ou₂ w₃ ou₃ : List ℕ} {T : Rows} {d : Described} {l
       )
 
   -- From its start.
-  rolled_ends : Ends f w ou w₃ ou₃ T d G.records G.fields (silent v) (rollback (mark_of c) b)
+  rolled_ends : StepEnds f w ou w₃ ou₃ T d G.records G.fields (silent v) (rollback (mark_of c) b)
   rolled_ends = gone_on G (only no_thing) G (same_load G) g rolled_back
 
 -- An error in hand outlives a rollback.
-error_kept : {w w' : List ℕ} {T T' : Rows} → Adds w w' → More w T T' → (x : TyError) {e : Unify.TyError} → IsError w T x e → IsError w' T' x e
+error_kept : {w w' : List ℕ} {T T' : Rows} → AddsCells w w' → More w T T' → (x : TyError) {e : Unify.TyError} → IsError w T x e → IsError w' T' x e
 error_kept a M (TyError.Mismatch p q) i = record
     { is = rw (tree_more M p i.ok.0, tree_more M q i.ok.1) i.is; ok = (ok_kept a p i.ok.0, ok_kept a q i.ok.1) }
 error_kept a M (TyError.UnionMismatch u p q) i = record
@@ -78,11 +78,11 @@ error_kept a M (TyError.UnionMismatch u p q) i = record
 error_kept a M (TyError.UnknownField n) i = record { is = i.is; ok = tt }
 error_kept a M TyError.Infinite i = record { is = i.is; ok = tt }
 
-abbrev carrying : List ℕ → ℕ → TyError → Unify.TyError → Gives (Unit {0})
+abbrev carrying : List ℕ → ℕ → TyError → Unify.TyError → StepGives (Unit {0})
 carrying w v x e = record { Is = λ R u l. (l ≡ v) × IsError w R x e; Out = ⊥ }
 
 carried : {f w ou w' ou' : List ℕ} {T : Rows} {d : Described} {n m v : ℕ} {s : Step (Unit {0})} (x : TyError) {e : Unify.TyError} → IsError w T x e
-    → Ends f w ou w' ou' T d n m (silent v) s → Ends f w ou w' ou' T d n m (carrying w' v x e) s
+    → StepEnds f w ou w' ou' T d n m (silent v) s → StepEnds f w ou w' ou' T d n m (carrying w' v x e) s
 carried x i (went g) = went (record {
   T' = g.T';
   more = g.more;
@@ -141,7 +141,7 @@ module _ {f w ou w₁ ou₁ : List ℕ} {n left : ℕ} {t : Ty} {r : Option (Ty 
     -- The unification, after the visit.
     unify_ends : {T : Rows} {d : Described} {G H : Load} {c : Checker} {T₁ : Rows} {b : Checker} (a : After f w ou w₁ ou₁ T d G H l c T₁ b)
         → Fine w t T c → Fine w₁ u T₁ b → Begins f w₁ ou₁ T₁ d (only no_thing) l b
-        → Ends f w₁ ou₁ w₂ ou₂ T₁ d 0 0 (unified w₂ x) (unify (tree T₁ u) (tree T t) b)
+        → StepEnds f w₁ ou₁ w₂ ou₂ T₁ d 0 0 (unified w₂ x) (unify (tree T₁ u) (tree T t) b)
     unify_ends {d = d} {T₁ = T₁} {b = b} a fine fine₁ s = rw (← tree_after a t fine.ok) ((U d).is T₁ b s (fine₁, fine_after a t fine))
 
     pub unify_good : {v : ℕ} → x ≡ Ok v → InfersThenUnifies f w ou n t left w₂ ou₂ (Some v)
@@ -162,7 +162,7 @@ module _ {f w ou w₁ ou₁ : List ℕ} {n left : ℕ} {t : Ty} {r : Option (Ty 
     }
       where
         succeeded : {T₂ : Rows} (d : Described) (n : ℕ) (m : Mark) (o : Option Unify.TyError) (e : Checker) → IsUnified w₂ x T₂ o e.state.left
-            → Runs f w₂ T₂ d e → Told d w₂ ou₂ e 0 → Ends f w₂ ou₂ w₂ ou₂ T₂ d 0 0 (done (Some v)) (following d n m o e)
+            → Runs f w₂ T₂ d e → Told d w₂ ou₂ e 0 → StepEnds f w₂ ou₂ w₂ ou₂ T₂ d 0 0 (done (Some v)) (following d n m o e)
         succeeded d n m None e i runs told = on_here runs told (cc (z, i))
         succeeded d n m (Some err) e i runs told = clash (cc (z, i.1))
 
@@ -190,7 +190,7 @@ module _ {f w ou w₁ ou₁ : List ℕ} {n left : ℕ} {t : Ty} {r : Option (Ty 
           → Begins f w ou T d (checks (nodes_of d) (suc k) n) left c
           → (g : Gone f w ou w₂ ou₂ T d (infers (nodes_of d) (suc k) n).records (infers (nodes_of d) (suc k) n).fields (unified w₂ x) o b 0)
           → Went Nothing (infers (nodes_of d) (suc k) n).grade c o b
-          → Ends f w ou w₄ ou₄ T d (checks (nodes_of d) (suc k) n).records (checks (nodes_of d) (suc k) n).fields (done y) (following d n (mark_of c) o b)
+          → StepEnds f w ou w₄ ou₄ T d (checks (nodes_of d) (suc k) n).records (checks (nodes_of d) (suc k) n).fields (done y) (following d n (mark_of c) o b)
       failed k None at s q h = clash (cc (z, q.is))
       failed {T} {d} {c} {b} k (Some e) at s q h =
           let G = infers (nodes_of d) (suc k) n in
@@ -205,7 +205,7 @@ module _ {f w ou w₁ ou₁ : List ℕ} {n left : ℕ} {t : Ty} {r : Option (Ty 
       failing : {T : Rows} {d : Described} {c : Checker} (k : ℕ) → NodeAt d k n → Begins f w ou T d (checks (nodes_of d) (suc k) n) left c
           → Fine w t T c → (L : Led f w ou w₁ ou₁ T d (infers (nodes_of d) (suc k) n) (typed w₁ r) IsSide c ((below d (suc k)).infer n c))
           → Led f w₁ ou₁ w₂ ou₂ L.gone.T' d (only no_thing) (unified w₂ x) Nothing L.b (unify L.a (tree T t) L.b)
-          → Ends f w ou w₄ ou₄ T d (checks (nodes_of d) (suc k) n).records (checks (nodes_of d) (suc k) n).fields (done y)
+          → StepEnds f w ou w₄ ou₄ T d (checks (nodes_of d) (suc k) n).records (checks (nodes_of d) (suc k) n).fields (done y)
           (infer_then_unify d.schema (nodes_of d) (below d k) n (tree T t) c)
       unfolding and_then
       failing {T} {d} {c} k at s fine L M =
@@ -231,7 +231,7 @@ module _ {f w ou w₁ ou₁ : List ℕ} {n left : ℕ} {t : Ty} {r : Option (Ty 
         where
           unified_after : {T : Rows} {d : Described} {c : Checker} (k : ℕ) → NodeAt d k n → Begins f w ou T d (checks (nodes_of d) (suc k) n) left c
               → Fine w t T c → Led f w ou w₁ ou₁ T d (infers (nodes_of d) (suc k) n) (typed w₁ r) IsSide c ((below d (suc k)).infer n c)
-              → Ends f w ou w₄ ou₄ T d (checks (nodes_of d) (suc k) n).records (checks (nodes_of d) (suc k) n).fields (done y)
+              → StepEnds f w ou w₄ ou₄ T d (checks (nodes_of d) (suc k) n).records (checks (nodes_of d) (suc k) n).fields (done y)
               (infer_then_unify d.schema (nodes_of d) (below d k) n (tree T t) c)
           unified_after {T} {d} {c} k at s fine L =
               let G = infers (nodes_of d) (suc k) n in
@@ -309,7 +309,7 @@ module _ {f w ou w₁ ou₁ : List ℕ} {n left : ℕ} {t : Ty} {r : Option ℕ}
       where
         back : {T : Rows} {d : Described} {c : Checker} (k : ℕ) → Begins f w ou T d (checks (nodes_of d) k n) left c
             → Led f w ou w₁ ou₁ T d (checks (nodes_of d) k n) (done r) Nothing c ((below d k).check n (tree T t) c)
-            → Ends f w ou w₂ ou₂ T d (checks (nodes_of d) k n).records (checks (nodes_of d) k n).fields (done (Some l))
+            → StepEnds f w ou w₂ ou₂ T d (checks (nodes_of d) k n).records (checks (nodes_of d) k n).fields (done (Some l))
             (check_field d.schema (nodes_of d) (below d k) n (tree T t) c)
         back {T} {d} {c} k s L =
             rw (

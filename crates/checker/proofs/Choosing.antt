@@ -35,7 +35,8 @@ later f nd x = by_form f (5 ∷ 7 ∷ 9 ∷ 10 ∷ 11 ∷ 12 ∷ 13 ∷ 14 ∷ 1
   other = λ h. tt;
 }) nd x
 
-pub denied_later : (f : List ℕ) (nd : Node) → OneOf (5 ∷ 7 ∷ 8 ∷ 9 ∷ 10 ∷ 11 ∷ 12 ∷ 13 ∷ 14 ∷ 16 ∷ []) (tag_of the_type nd) → DeniedLater (form_of (kind_w f nd))
+pub denied_later : (f : List ℕ) (nd : Node) → OneOf (5 ∷ 7 ∷ 8 ∷ 9 ∷ 10 ∷ 11 ∷ 12 ∷ 13 ∷ 14 ∷ 16 ∷ []) (tag_of the_type nd)
+    → DeniedLater (form_of (kind_w f nd))
 denied_later f nd x = by_form f (5 ∷ 7 ∷ 8 ∷ 9 ∷ 10 ∷ 11 ∷ 12 ∷ 13 ∷ 14 ∷ 16 ∷ []) DeniedLater (record {
   wildcard = λ h. h;
   variable = λ v h. h;

@@ -6,14 +6,14 @@ use Prim.Native.Nat.{ℕ}
 use native.Mathlib.Omega.{arith}
 use Rattle.cells.specs.declared.Ty.{Ty}
 use Rattle.cells.specs.Stands.{Rows, tree}
-use Rattle.meaning.specs.Syntax.{node_at}
-use Rattle.meaning.specs.File.{Described}
-use Rattle.meaning.specs.Check.{Checker, and_then, Form, a_wildcard, a_variable, a_constant, a_record, a_disjunction, an_error, another, form, kind}
+use Rattle.format.specs.Syntax.{node_at}
+use Rattle.format.specs.File.{Described}
+use Rattle.meaning.specs.Check.{Checker, and_then, NodeForm, a_wildcard, a_variable, a_constant, a_record, a_disjunction, an_error, another, form, kind}
 use Rattle.meaning.specs.Check.{introduce_side, compare}
 use Rattle.meaning.specs.Weights.{sum_of, size, records, record_fields}
 use Rattle.meaning.specs.Grades.{one_diagnostic, introducing}
 use Rattle.meaning.proofs.Visits.{size_pos, late, early_late, inferring_late, Introduced, made_introduced, introduce_side_meets, infer_late, variable_kind}
-use Rattle.steps.specs.Ends.{typed, done, Ends}
+use Rattle.steps.specs.Ends.{typed, done, StepEnds}
 use Rattle.steps.specs.Loads.{Load, only, both, FitsIn, visits, Begins}
 use Rattle.steps.specs.Promises.{nodes_of, BringsSide, compare_types, ComparesTypes, Named}
 use Rattle.checker.specs.Promises.{below, Infers, Compares}
@@ -21,15 +21,15 @@ use Rattle.steps.proofs.Results.{fine_after, tree_after, then_typed, stop_typed,
 use Rattle.checker.proofs.Inferring.{good}
 use Rattle.std.specs.Prelude.{None, Option, Some, ℕ}
 
-abbrev lates : Described → ℕ → ℕ → Form → Load
+abbrev lates : Described → ℕ → ℕ → NodeForm → Load
 lates d k n q = record { grade = inferring_late (nodes_of d) k n q; records = records (nodes_of d) k n; fields = record_fields (nodes_of d) k n }
 
-abbrev form_at : Described → ℕ → Form
+abbrev form_at : Described → ℕ → NodeForm
 form_at d n = form d.schema (nodes_of d) n
 
-late_ends : {f w ou w' ou' : List ℕ} {n left : ℕ} {r : Option (Ty × ℕ)} {T : Rows} {d : Described} {c : Checker} (k : ℕ) (q : Form) → form_at d n ≡ q
+late_ends : {f w ou w' ou' : List ℕ} {n left : ℕ} {r : Option (Ty × ℕ)} {T : Rows} {d : Described} {c : Checker} (k : ℕ) (q : NodeForm) → form_at d n ≡ q
     → Infers f w ou n left w' ou' r → Named d k n → Begins f w ou T d (lates d k n q) left c → Introduced q c
-    → Ends f w ou w' ou' T d (records (nodes_of d) k n) (record_fields (nodes_of d) k n) (typed w' r) ((below d k).infer n c)
+    → StepEnds f w ou w' ou' T d (records (nodes_of d) k n) (record_fields (nodes_of d) k n) (typed w' r) ((below d k).infer n c)
 unfolding form kind late
 late_ends {n = n} {T = T} {d = d} {c = c} k (a_variable x) e I named s h = (I.found d k x named (variable_kind (node_at (nodes_of d) n).kind x e)).is T c s h
 late_ends {T = T} {d = d} {c = c} k a_wildcard e I named s h = (I.is d k named).is T c s tt
@@ -70,7 +70,7 @@ module _ {f w ou w₁ ou₁ w₂ ou₂ w₃ ou₃ : List ℕ} {lhs rhs left : �
   introduced : {w₄ ou₄ : List ℕ} {x : Option ℕ} →
       ((d : Described) (k : ℕ) → Named d k lhs → Named d k rhs → (T : Rows) (c : Checker) → Begins f w₂ ou₂ T d (sides d k lhs rhs) left c
       → Introduced (form_at d lhs) c → Introduced (form_at d rhs) c
-      → Ends f w₂ ou₂ w₄ ou₄ T d (sides d k lhs rhs).records (sides d k lhs rhs).fields (done x)
+      → StepEnds f w₂ ou₂ w₄ ou₄ T d (sides d k lhs rhs).records (sides d k lhs rhs).fields (done x)
       (and_then ((below d k).infer lhs c) (λ a b. and_then ((below d k).infer rhs b) (λ y. compare_types d lhs rhs a y))))
       → Compares f w ou lhs rhs left w₄ ou₄ x
   unfolding compare compare_types

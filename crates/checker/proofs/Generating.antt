@@ -9,9 +9,9 @@ use Rattle.unification.proofs.Tests.{clash}
 use Rattle.cells.specs.declared.Ty.{Ty}
 use Rattle.cells.specs.declared.Ty.TheVariants.{Error}
 use Rattle.cells.specs.Stands.{Rows, tree}
-use Rattle.meaning.specs.Syntax.{ExprKind, node_at}
-use Rattle.meaning.specs.References.{expr_nodes}
-use Rattle.meaning.specs.File.{Described}
+use Rattle.format.specs.Syntax.{ExprKind, node_at}
+use Rattle.format.specs.References.{expr_nodes}
+use Rattle.format.specs.File.{Described}
 use Rattle.meaning.specs.Check.{Checker, Step, goes, Does, and_then, Walk, walk, annotate, form_of, infer_at, generate_branches, generator_form, generator_at}
 use Rattle.meaning.specs.Weights.{sum_of, weight}
 use Rattle.meaning.specs.Grades.{one_node}
@@ -20,7 +20,7 @@ use Rattle.meaning.proofs.Visits.{size_pos, generate_branches_meets}
 use Rattle.tree.specs.declared.items.Items.{Items}
 use Rattle.tree.specs.declared.Node.{Node}
 use Rattle.tree.specs.Nodes.{item_w, items_from, kind_w, IsNode}
-use Rattle.steps.specs.Ends.{typed, Ends}
+use Rattle.steps.specs.Ends.{typed, StepEnds}
 use Rattle.steps.specs.Loads.{Load, only, both, FitsIn, infers, visits, Begins, Beside}
 use Rattle.steps.specs.Promises.{nodes_of, Always, Fine, Notes, Named, AllNamed}
 use Rattle.checker.specs.Promises.{below, Infers, Generates, Branches}
@@ -49,7 +49,7 @@ unfolding sum_of
 branch_fits d k e es = record { grade = omega (arith, size_pos (nodes_of d) k e); records = omega arith; fields = omega arith }
 
 module _ {f w₀ ou₀ w ou : List ℕ} {T : Rows} {d : Described} {K : Load} {rest : ℕ} {c : Checker} {whole : Step Tree.Ty} (k : ℕ) {t : Ty} where
-  last_done : Last f w₀ ou₀ w ou T d k K rest c whole t [] → Ends f w₀ ou₀ w ou T d K.records K.fields (typed w (Some (t, rest))) whole
+  last_done : Last f w₀ ou₀ w ou T d k K rest c whole t [] → StepEnds f w₀ ou₀ w ou T d K.records K.fields (typed w (Some (t, rest))) whole
   unfolding generate_branches
   last_done L = let M = L.mid in mid_ends M (rw (← L.is) (type_here t M.begins.runs M.begins.lines M.begins.visits L.fine.ok))
 
@@ -75,7 +75,7 @@ module _ {f w₀ ou₀ w ou : List ℕ} {T : Rows} {d : Described} {K : Load} {r
         (λ o. clash (cc (g, o)))
         (λ y. (good M.begins k).generator e M.b M.begins.orderly y) (λ s. (U.is d k named).is M.T₁ M.b s tt))
 
-    last_stop : r ≡ None → Ends f w₀ ou₀ w' ou' T d K.records K.fields (typed w' None) whole
+    last_stop : r ≡ None → StepEnds f w₀ ou₀ w' ou' T d K.records K.fields (typed w' None) whole
     unfolding generate_branches
     last_stop g =
         let M = L.mid in
@@ -164,7 +164,8 @@ module _ {f w ou w₁ ou₁ : List ℕ} {n left : ℕ} {r : Option (Ty × ℕ)} 
   unfolding walk generator_at
   generator_inferred {nd} i h I = record { is = λ d k. at_depth d k }
     where
-      at_depth : (d : Described) (k : ℕ) → Named d k n → Beside f w ou left w₁ ou₁ (typed w₁ r) d (infers (nodes_of d) k n) Always (λ T. (below d k).generator n)
+      at_depth : (d : Described) (k : ℕ) → Named d k n → Beside f w ou left w₁ ou₁ (typed w₁ r) d (infers (nodes_of d) k n) Always
+          (λ T. (below d k).generator n)
       at_depth d zero m = absurd (omega (arith, m.under))
       at_depth d (suc k) m = record { is = λ T c s u. rw (form_read s m.there i, generator_other f nd h d (below d k) n c) ((I.is d (suc k) m).is T c s tt) }
 
@@ -174,7 +175,7 @@ module _ {f w ou w₁ ou₁ : List ℕ} {n left : ℕ} {r : Option (Ty × ℕ)} 
 
     branched : {T : Rows} {d : Described} {k : ℕ} {c : Checker} → Named d (suc k) n → Begins f w ou T d (infers (nodes_of d) (suc k) n) left c
         → Begins f w ou T d (visits (nodes_of d) k items) left c
-        → Ends f w ou w₁ ou₁ T d (visits (nodes_of d) k items).records (visits (nodes_of d) k items).fields (typed w₁ r) (branching d k Tree.Error items c)
+        → StepEnds f w ou w₁ ou₁ T d (visits (nodes_of d) k items).records (visits (nodes_of d) k items).fields (typed w₁ r) (branching d k Tree.Error items c)
     unfolding kind_w expr_nodes
     branched {T} {d} {k} {c} m s s₁ = (B.is d k items refl
         (rw (kind_read s m.there i) at (parts_named s.sound m.there k (omega (arith, m.under))))).is T c s₁ tt

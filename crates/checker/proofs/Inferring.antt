@@ -10,9 +10,9 @@ use Rattle.unification.proofs.Tests.{clash}
 use Rattle.cells.specs.declared.Ty.{Ty}
 use Rattle.cells.specs.declared.Ty.TheVariants.{Int, Str, Bytes, Var, Error}
 use Rattle.cells.specs.Stands.{Rows, tree, Ok}
-use Rattle.meaning.specs.Syntax.{ExprKind, node_at}
-use Rattle.meaning.specs.References.{expr_nodes}
-use Rattle.meaning.specs.File.{Described}
+use Rattle.format.specs.Syntax.{ExprKind, node_at}
+use Rattle.format.specs.References.{expr_nodes}
+use Rattle.format.specs.File.{Described}
 use Rattle.meaning.specs.Check.{Checker, goes, and_then, fresh_var_id, fresh_var, introduce, annotate, infer_kind, infer_at, kind, Walk, walk}
 use Rattle.meaning.specs.Weights.{same, sum_of, weight, records_of, fields_of}
 use Rattle.meaning.specs.Grades.{unknowns, Orderly, no_thing, one_unknown, one_node, Known}
@@ -22,7 +22,7 @@ use Rattle.meaning.proofs.Visits.{Good, infer_kind_meets, walk_good, own_weight}
 use Rattle.state.specs.Runs.{Runs}
 use Rattle.tree.specs.declared.Node.{Node}
 use Rattle.tree.specs.Nodes.{kind_w, IsNode}
-use Rattle.steps.specs.Ends.{typed, numbered, Ends}
+use Rattle.steps.specs.Ends.{typed, numbered, StepEnds}
 use Rattle.steps.specs.Loads.{Load, only, both, FitsIn, infers, finds, parts, Begins, Beside}
 use Rattle.steps.specs.Promises.{nodes_of, Always, Fine, Notes, Freshens, Brings, Named, AllNamed, NodeAt}
 use Rattle.checker.specs.Promises.{below, Infers, InfersKind}
@@ -39,7 +39,7 @@ good {d = d} b k = walk_good d.schema (nodes_of d) b.sound.predicates k
 
 pub noted : {f w ou w' ou' : List ℕ} {T : Rows} {d : Described} {n left : ℕ} {c : Checker} {t : Ty} → n < length (nodes_of d)
     → Notes f w ou n t left w' ou' → Begins f w ou T d (only (one_node n)) left c → Fine w t T c
-    → Ends f w ou w' ou' T d 0 0 (typed w' (Some (t, left))) (and_then (annotate n (tree T t) c) (λ u b. goes (tree T t) b))
+    → StepEnds f w ou w' ou' T d 0 0 (typed w' (Some (t, left))) (and_then (annotate n (tree T t) c) (λ u b. goes (tree T t) b))
 noted {T = T} {d = d} {n = n} {c = c} {t = t} there ann s fine =
     then_silent (only (one_node n)) (only no_thing) (only (one_node n)) (record { grade = omega arith; records = omega arith; fields = omega arith })
     Nothing (annotate n (tree T t) c) (λ u b. goes (tree T t) b) s
@@ -126,7 +126,7 @@ module _ {f w ou w' ou' : List ℕ} {n left : ℕ} {res : Option (Ty × ℕ)} {n
   pub arm : ((x : ℕ) → ¬ (kind_w f nd ≡ ExprKind.Var x))
       → ((d : Described) (k : ℕ) (T : Rows) (c : Checker) → NodeAt d k n → AllNamed d k (expr_nodes (kind_w f nd))
       → Begins f w ou T d (parts (nodes_of d) k (kind_w f nd)) left c
-      → Ends f w ou w' ou' T d (parts (nodes_of d) k (kind_w f nd)).records (parts (nodes_of d) k (kind_w f nd)).fields (typed w' res)
+      → StepEnds f w ou w' ou' T d (parts (nodes_of d) k (kind_w f nd)).records (parts (nodes_of d) k (kind_w f nd)).fields (typed w' res)
       (infer_kind d.schema (nodes_of d) (below d k) n (kind_w f nd) c))
       → InfersKind f w ou n left w' ou' res
   arm other h = record {
@@ -170,7 +170,7 @@ ok_unknown r h = omega (arith, h, r.holds.binds.unknowns)
 
 fresh_ends : {f w ou w' ou' : List ℕ} {T : Rows} {d : Described} {left x : ℕ} {c : Checker} → Freshens f w ou left w' ou' x
     → Begins f w ou T d (only one_unknown) left c
-    → Ends f w ou w' ou' T d 0 0 (typed w' (Some ((Var x), left))) (fresh_var c)
+    → StepEnds f w ou w' ou' T d 0 0 (typed w' (Some ((Var x), left))) (fresh_var c)
 unfolding fresh_var
 fresh_ends {T = T} {d = d} {x = x} {c = c} new s =
     then_numbered (only one_unknown) (only no_thing) (only one_unknown) (record { grade = omega arith; records = omega arith; fields = omega arith })
@@ -195,8 +195,8 @@ module _ {f w ou w' ou' : List ℕ} {n left x : ℕ} (new : Freshens f w ou left
 -- ---- A variable
 introduced_ends : {f w ou w' ou' : List ℕ} {T : Rows} {d : Described} {left v : ℕ} {c : Checker} (n x : ℕ) (G : Load) → Begins f w ou T d G left c
     → Meets (IsUnknown x) G.grade c (introduce n x c)
-    → (Begins f w ou T d G left c → Ends f w ou w' ou' T d G.records G.fields (numbered v left) (introduce n x c))
-    → Ends f w ou w' ou' T d G.records G.fields (typed w' (Some ((Var v), left))) (and_then (introduce n x c) (λ v b. goes (Tree.Var v) b))
+    → (Begins f w ou T d G left c → StepEnds f w ou w' ou' T d G.records G.fields (numbered v left) (introduce n x c))
+    → StepEnds f w ou w' ou' T d G.records G.fields (typed w' (Some ((Var v), left))) (and_then (introduce n x c) (λ v b. goes (Tree.Var v) b))
 introduced_ends {v = v} {c = c} n x G s meets first =
     then_numbered G (only no_thing) G (record { grade = omega arith; records = omega arith; fields = omega arith }) (IsUnknown x) (introduce n x c)
     (λ v b. goes (Tree.Var v) b) s (λ y. meets) first

@@ -8,24 +8,18 @@ use native.Mathlib.Omega.{arith}
 use Rattle.unification.proofs.Sides.{side_more}
 use Rattle.cells.specs.declared.Ty.{Ty}
 use Rattle.cells.specs.Stands.{Rows, tree, Ok}
-use Rattle.meaning.specs.File.{Described}
+use Rattle.format.specs.File.{Described}
 use Rattle.meaning.specs.Check.{Checker, Step, Does, and_then}
 use Rattle.meaning.specs.Grades.{unknowns, Ready}
 use Rattle.meaning.proofs.Meets.{Meets, made_more}
 use Rattle.cells.specs.Inferred.{More}
 use Rattle.state.specs.Runs.{Grew}
-use Rattle.steps.specs.Ends.{Gives, Gone, Ends, went, spent}
+use Rattle.steps.specs.Ends.{StepGives, Gone, StepEnds, went, spent}
 use Rattle.steps.specs.Loads.{Load, both, FitsIn, Begins}
 use Rattle.steps.specs.Promises.{Fine}
 use Rattle.cells.proofs.Frame.{tree_more, more_refl}
 use Rattle.steps.proofs.Growing.{ok_kept, more_trans, grew_refl, grew_trans}
 use Rattle.steps.proofs.Sequel.{free_after, begins_part, holds_left, Led, led}
-
--- What is lent on is what was lent, and as long (`Lent`).
-pub lent_on : {A B C : Type 0} {a a' a'' : A} {b b' b'' : B} {c c' c'' : C} {m m' m'' n n' n'' : ℕ}
-    → (a' ≡ a) × (b' ≡ b) × (c' ≡ c) × (m' ≡ m) × (n' ≡ n) → (a'' ≡ a') × (b'' ≡ b') × (c'' ≡ c') × (m'' ≡ m') × (n'' ≡ n')
-    → (a'' ≡ a) × (b'' ≡ b) × (c'' ≡ c) × (m'' ≡ m) × (n'' ≡ n)
-lent_on h k = (k.0 ∙ h.0, k.1 ∙ h.1, k.2 ∙ h.2, k.3 ∙ h.3, k.4 ∙ h.4)
 
 -- Of the load K, H is left for the rest.
 pub record Midway {A : Type 0} (f w₀ ou₀ w ou : List ℕ) (T : Rows) (d : Described) (K H : Load) (left : ℕ) (c : Checker) (whole : Step A)
@@ -71,11 +65,11 @@ module _ {A : Type 0} {f w₀ ou₀ w ou : List ℕ} {T : Rows} {d : Described} 
   }
 
   -- How the rest ends, the whole ends.
-  pub mid_ends : {w₂ ou₂ : List ℕ} {E : Gives A} → Ends f w ou w₂ ou₂ M.T₁ d H.records H.fields E (rest M.b)
-      → Ends f w₀ ou₀ w₂ ou₂ T d K.records K.fields E whole
+  pub mid_ends : {w₂ ou₂ : List ℕ} {E : StepGives A} → StepEnds f w ou w₂ ou₂ M.T₁ d H.records H.fields E (rest M.b)
+      → StepEnds f w₀ ou₀ w₂ ou₂ T d K.records K.fields E whole
   mid_ends {w₂} {ou₂} {E} h = rw M.same (go h)
     where
-      on : {B : Type 0} {F : Gives B} {a : B} {b : Checker} {v : ℕ} → Gone f w ou w₂ ou₂ M.T₁ d H.records H.fields F a b v
+      on : {B : Type 0} {F : StepGives B} {a : B} {b : Checker} {v : ℕ} → Gone f w ou w₂ ou₂ M.T₁ d H.records H.fields F a b v
           → Gone f w₀ ou₀ w₂ ou₂ T d K.records K.fields F a b v
       on g = record {
         T' = g.T';
@@ -86,14 +80,14 @@ module _ {A : Type 0} {f w₀ ou₀ w ou : List ℕ} {T : Rows} {d : Described} 
         is = g.is;
       }
 
-      go : {s : Step A} → Ends f w ou w₂ ou₂ M.T₁ d H.records H.fields E s → Ends f w₀ ou₀ w₂ ou₂ T d K.records K.fields E s
+      go : {s : Step A} → StepEnds f w ou w₂ ou₂ M.T₁ d H.records H.fields E s → StepEnds f w₀ ou₀ w₂ ou₂ T d K.records K.fields E s
       go (went g) = went (on g)
       go (spent g) = spent (on g)
 
   -- A turn that goes on.
-  module _ {B : Type 0} {w₁ ou₁ : List ℕ} (G H' : Load) (fits : FitsIn (both G H') H) {E : Gives B} (P : B → Checker → Type 0) (m : Step B) where
+  module _ {B : Type 0} {w₁ ou₁ : List ℕ} (G H' : Load) (fits : FitsIn (both G H') H) {E : StepGives B} (P : B → Checker → Type 0) (m : Step B) where
     pub mid_led : ¬ E.Out → (Ready G.grade M.b → Meets P G.grade M.b m)
-        → (Begins f w ou M.T₁ d G left M.b → Ends f w ou w₁ ou₁ M.T₁ d G.records G.fields E m) → Led f w ou w₁ ou₁ M.T₁ d G E P M.b m
+        → (Begins f w ou M.T₁ d G left M.b → StepEnds f w ou w₁ ou₁ M.T₁ d G.records G.fields E m) → Led f w ou w₁ ou₁ M.T₁ d G E P M.b m
     mid_led never meets first = let s = begins_part G H (holds_left G H' H fits) M.begins in led G P never (meets s.free.ready) (first s)
 
     pub mid_same : (L : Led f w ou w₁ ou₁ M.T₁ d G E P M.b m) (next : B → Does A) → rest M.b ≡ and_then m next → whole ≡ next L.a L.b

@@ -14,9 +14,9 @@ use Rattle.cells.specs.declared.Kind.TheVariants.{Fields}
 use Rattle.cells.specs.declared.Part as Cell
 use Rattle.cells.specs.Stands.{Rows, tree}
 use Rattle.cells.specs.Promises.{found_part, FindsKey}
-use Rattle.meaning.specs.Syntax as Syntax
-use Rattle.meaning.specs.References.{field_values}
-use Rattle.meaning.specs.File.{Described}
+use Rattle.format.specs.Syntax as Syntax
+use Rattle.format.specs.References.{field_values}
+use Rattle.format.specs.File.{Described}
 use Rattle.meaning.specs.Check.{Checker, Step, Does, check_mentioned, check_fields}
 use Rattle.meaning.specs.Weights.{sum_of}
 use Rattle.meaning.specs.Grades.{unknowns, Ready, one_diagnostic, checking}
@@ -26,7 +26,7 @@ use Rattle.meaning.proofs.Visits.{size_pos, check_field_meets}
 use Rattle.messages.specs.declared.Message.TheVariants as Message
 use Rattle.tree.specs.declared.items.Items.{Items}
 use Rattle.tree.specs.Nodes.{field_w, field_of, fields_from}
-use Rattle.steps.specs.Ends.{done, Ends}
+use Rattle.steps.specs.Ends.{done, StepEnds}
 use Rattle.steps.specs.Loads.{Load, both, FitsIn, checks, visits, Begins}
 use Rattle.steps.specs.Promises.{nodes_of, FineRecord, Rejects, Named, AllNamed}
 use Rattle.checker.specs.Promises.{below, Mentions, ChecksFields}
@@ -91,7 +91,7 @@ some_fits d k x fs = record { grade = omega arith; records = omega arith; fields
 module _ {f w₀ ou₀ w ou : List ℕ} {T : Rows} {d : Described} {K : Load} {rest : ℕ} {c : Checker} {whole : Step (Unit {0})} (k e : ℕ)
     (fine : FineRecord w₀ e T c) where
   fields_done : Midway f w₀ ou₀ w ou T d K (visits (nodes_of d) k (field_values [])) rest c whole (mentioning_all d k (T e) [])
-      → Ends f w₀ ou₀ w ou T d K.records K.fields (done (Some rest)) whole
+      → StepEnds f w₀ ou₀ w ou T d K.records K.fields (done (Some rest)) whole
   unfolding check_fields
   fields_done M = mid_ends M (on_here M.begins.runs M.begins.lines M.begins.visits)
 
@@ -105,7 +105,7 @@ module _ {f w₀ ou₀ w ou : List ℕ} {T : Rows} {d : Described} {K : Load} {r
     row_same = M.more.same Fields e fine.cell
 
     mentioned_ends : Begins f w ou M.T₁ d (checks (nodes_of d) k x.value) rest M.b
-        → Ends f w ou w' ou' M.T₁ d (checks (nodes_of d) k x.value).records (checks (nodes_of d) k x.value).fields (done r)
+        → StepEnds f w ou w' ou' M.T₁ d (checks (nodes_of d) k x.value).records (checks (nodes_of d) k x.value).fields (done r)
         (mentioning d k x (T e) M.b)
     mentioned_ends s = rw (← row_same) ((U.is d k named).is M.T₁ M.b s
         (record { cell = cell_kept M.grew.adds fine.cell; side = rw row_same row_side }))
@@ -119,7 +119,7 @@ module _ {f w₀ ou₀ w ou : List ℕ} {T : Rows} {d : Described} {K : Load} {r
         mid_after M (checks (nodes_of d) k x.value) (visits (nodes_of d) k (field_values fs)) (some_fits d k x fs) Nothing
         (mentioning d k x (T e) M.b) L (λ u. mentioning_all d k (T e) fs) l refl (cc (g, L.gone.is))
 
-    fields_stop : r ≡ None → Ends f w₀ ou₀ w' ou' T d K.records K.fields (done None) whole
+    fields_stop : r ≡ None → StepEnds f w₀ ou₀ w' ou' T d K.records K.fields (done None) whole
     unfolding check_fields
     fields_stop g = mid_ends M (stop_done (checks (nodes_of d) k x.value) (visits (nodes_of d) k (field_values fs))
         (visits (nodes_of d) k (field_values (x ∷ fs))) (some_fits d k x fs) Nothing (mentioning d k x (T e) M.b)

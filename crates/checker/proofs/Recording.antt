@@ -15,16 +15,16 @@ use Rattle.cells.specs.declared.Ty.{Ty}
 use Rattle.cells.specs.declared.Part as Cell
 use Rattle.cells.specs.Words.{made_field}
 use Rattle.cells.specs.Stands.{Rows, tree, Ok}
-use Rattle.cells.specs.Inferred.{reserve_w, put_field_w, new_record_w, new_record_ty, Adds, More, Reserved, Filled, row_made, rows_with}
+use Rattle.cells.specs.Inferred.{reserve_w, put_field_w, new_record_w, new_record_ty, AddsCells, More, Reserved, Filled, row_made, rows_with}
 use Rattle.cells.proofs.Frame.{more_refl, keeps_trans, keeps_wider, tree_more, made_field_same, ok_old}
 use Rattle.cells.proofs.Making.{reserve_other, reserve_reserved, reserved_kept, put_field_keeps, put_field_here, put_field_apart, put_field_old}
 use Rattle.cells.proofs.Making.{put_field_reserved, put_field_adds, new_record_ty_lem, new_record_keeps, new_record_count, new_record_other, new_record_adds}
 use Rattle.cells.proofs.Making.{new_record_row, new_record_more, new_record_cell}
-use Rattle.meaning.specs.Syntax as Syntax
-use Rattle.meaning.specs.Syntax.{ExprKind}
-use Rattle.meaning.specs.References.{field_names, field_values}
-use Rattle.meaning.specs.All.{Below}
-use Rattle.meaning.specs.File.{Described}
+use Rattle.format.specs.Syntax as Syntax
+use Rattle.format.specs.Syntax.{ExprKind}
+use Rattle.format.specs.References.{field_names, field_values}
+use Rattle.format.specs.All.{Below}
+use Rattle.format.specs.File.{Described}
 use Rattle.meaning.specs.Check.{Checker, Step, Does}
 use Rattle.meaning.proofs.Meets.{made_refl}
 use Rattle.meaning.proofs.Steps.{IsSide}
@@ -35,7 +35,7 @@ use Rattle.tree.specs.Nodes.{field_w, field_of, fields_from}
 use Rattle.tree.proofs.Steps.{fields_next, fields_end, fields_length}
 use Rattle.state.proofs.Lining.{told_same}
 use Rattle.state.proofs.Recording.{reserve_runs, reserve_grew, put_field_runs, new_record_runs, within}
-use Rattle.steps.specs.Ends.{typed, Ends, went}
+use Rattle.steps.specs.Ends.{typed, StepEnds, went}
 use Rattle.steps.specs.Loads.{Load, both, FitsIn, infers, parts, Begins}
 use Rattle.steps.specs.Promises.{nodes_of, Named, AllNamed}
 use Rattle.checker.specs.Promises.{below, Infers, InfersRecord}
@@ -148,7 +148,7 @@ module _ {f w₀ ou₀ w ou : List ℕ} {T : Rows} {d : Described} {K H : Load} 
   put_within = omega (arith, R.given, M.begins.runs.holds.cells.few_fields)
 
   put_count : (j : ℕ) → j < RECORD-FIELDS → get_or (put_field_w w i name t) j 0 ≡ get_or w j 0
-  put_count j h = (put_field_keeps w i name t put_within small).below j h
+  put_count j h = (put_field_keeps w i name t).below j h
 
   abbrev mid_put : Midway f w₀ ou₀ (put_field_w w i name t) ou T d K H left c whole rest
   mid_put = record {
@@ -159,7 +159,7 @@ module _ {f w₀ ou₀ w ou : List ℕ} {T : Rows} {d : Described} {K H : Load} 
     more = M.more;
     grew = record {
       adds = put_field_adds w i name t put_within small M.begins.runs.holds.cells.few_records (omega arith) M.grew.adds;
-      keeps = keeps_trans M.grew.keeps (keeps_wider (omega arith) (omega arith) (put_field_keeps w i name t put_within small));
+      keeps = keeps_trans M.grew.keeps (keeps_wider (omega arith) (omega arith) (put_field_keeps w i name t));
       records = omega (arith, put_count RECORD-COUNT (omega arith), M.grew.records);
       fields = omega (arith, put_count RECORD-FIELD-COUNT (omega arith), M.grew.fields);
     };
@@ -184,7 +184,7 @@ module _ {f w₀ ou₀ w ou : List ℕ} {T : Rows} {d : Described} {K H : Load} 
   }
 
 -- The fields put before stand in the words after, and the new one is behind them.
-module _ {w w₁ : List ℕ} {T T₁ : Rows} {from n : ℕ} (A : Adds w w₁) (more : More w T T₁) (R : Reserved w from n) (R₁ : Reserved w₁ from n)
+module _ {w w₁ : List ℕ} {T T₁ : Rows} {from n : ℕ} (A : AddsCells w w₁) (more : More w T T₁) (R : Reserved w from n) (R₁ : Reserved w₁ from n)
     (long : END ≤ length w₁) (few : get_or w₁ RECORD-COUNT 0 ≤ 512)
     (few_fields : get_or w₁ RECORD-FIELD-COUNT 0 ≤ 512) (i name : ℕ) (t : Ty) (lt : i < n) (small : name < 65536)
     (ok : (j : ℕ) → from ≤ j → j < from + i → Ok w (made w j).ty) where
@@ -225,10 +225,10 @@ module _ {f w₀ ou₀ w ou w₁ ou₁ : List ℕ} {T : Rows} {d : Described} {k
   next ty = built d k (λ row. M.front (Tree.cell x.name 0 ty row)) fs
 
   inferred_ends : Begins f w ou M.mid.T₁ d (infers (nodes_of d) k x.value) left M.mid.b
-      → Ends f w ou w₁ ou₁ M.mid.T₁ d (infers (nodes_of d) k x.value).records (infers (nodes_of d) k x.value).fields (typed w₁ r) inferred
+      → StepEnds f w ou w₁ ou₁ M.mid.T₁ d (infers (nodes_of d) k x.value).records (infers (nodes_of d) k x.value).fields (typed w₁ r) inferred
   inferred_ends s = (I.is d k named).is M.mid.T₁ M.mid.b s tt
 
-  recorded_stop : r ≡ None → Ends f w₀ ou₀ w₁ ou₁ T d (parts (nodes_of d) k (ExprKind.Record whole)).records
+  recorded_stop : r ≡ None → StepEnds f w₀ ou₀ w₁ ou₁ T d (parts (nodes_of d) k (ExprKind.Record whole)).records
       (parts (nodes_of d) k (ExprKind.Record whole)).fields (typed w₁ None) (built d k (λ row. row) whole c)
   recorded_stop g = mid_ends M.mid (rw (built_some d k M.front x fs M.mid.b)
       (stop_typed (infers (nodes_of d) k x.value) (builds d k fs) (builds d k (x ∷ fs)) (built_fits d k x fs) inferred next g refl M.mid.begins
@@ -277,7 +277,7 @@ module _ {f w₀ ou₀ w ou : List ℕ} {T : Rows} {d : Described} {k from n lef
   record_row : (is : Tree.Row) → is ≡ row_made M.mid.T₁ w from n → M.front Tree.ε ≡ is
   record_row is e = M.row Tree.ε ∙ onto_none M.mid.T₁ w from n ∙ sym e
 
-  recorded_end : Ends f w₀ ou₀ (new_record_w w from n) ou T d (parts (nodes_of d) k (ExprKind.Record whole)).records
+  recorded_end : StepEnds f w₀ ou₀ (new_record_w w from n) ou T d (parts (nodes_of d) k (ExprKind.Record whole)).records
       (parts (nodes_of d) k (ExprKind.Record whole)).fields
       (typed (new_record_w w from n) (Some ((new_record_ty w from n), left))) (built d k (λ row. row) whole c)
   recorded_end =
@@ -294,7 +294,7 @@ module _ {f w₀ ou₀ w ou : List ℕ} {T : Rows} {d : Described} {k from n lef
             M.mid.begins.lines;
         grew = record {
           adds = new_record_adds w from n record_room given long M.low M.mid.grew.adds;
-          keeps = keeps_trans M.mid.grew.keeps (new_record_keeps w from n record_room given);
+          keeps = keeps_trans M.mid.grew.keeps (new_record_keeps w from n);
           records = omega (arith, new_record_count w from n record_room given long, M.mid.grew.records, M.mid.few_records);
           fields = omega (
             arith,

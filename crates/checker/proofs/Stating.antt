@@ -7,15 +7,16 @@ use Rattle.unification.specs.Ty as Tree
 use Rattle.cells.specs.declared.Ty.{Ty}
 use Rattle.cells.specs.declared.Ty.TheVariants.{Var}
 use Rattle.cells.specs.Stands.{Rows, tree}
-use Rattle.meaning.specs.File.{Described}
-use Rattle.meaning.specs.Check.{Checker, and_then, introduce, annotate, reject, unify_at, bind_variable, bad_target, only_right, not_yet, destructure, bind_wildcard}
+use Rattle.format.specs.File.{Described}
+use Rattle.meaning.specs.Check.{Checker, and_then, introduce, annotate, reject, unify_at, bind_variable, bad_target, only_right, not_yet, destructure}
+use Rattle.meaning.specs.Check.{bind_wildcard}
 use Rattle.meaning.specs.Weights.{same, sum_of}
 use Rattle.meaning.specs.Grades.{one_diagnostic, one_unknown, one_node}
 use Rattle.meaning.proofs.Steps.{Nothing, IsUnknown, reject_meets, introduce_meets, annotate_meets}
 use Rattle.meaning.proofs.Visits.{size_pos, own_weight}
 use Rattle.messages.specs.declared.Message.{Message}
 use Rattle.messages.specs.Said.{said}
-use Rattle.steps.specs.Ends.{done, Ends}
+use Rattle.steps.specs.Ends.{done, StepEnds}
 use Rattle.steps.specs.Loads.{Load, only, both, FitsIn, infers, visits, Begins}
 use Rattle.steps.specs.Promises.{nodes_of, Fine, Notes, Rejects, Brings, UnifiesAt, only_w, Named}
 use Rattle.checker.specs.Promises.{below, Infers, Sides, NotYets, Destructures, BindsVariable}
@@ -31,7 +32,7 @@ OnlyRights f w ou lhs rhs left w' ou' r = Sides (λ d b x y. only_right d.schema
 
 right_ends : {f w ou w' ou' : List ℕ} {rhs left : ℕ} {r : Option (Ty × ℕ)} {T : Rows} {d : Described} {k : ℕ} {c : Checker} → Infers f w ou rhs left w' ou' r
     → Named d k rhs → Begins f w ou T d (infers (nodes_of d) k rhs) left c
-    → Ends f w ou w' ou' T d (infers (nodes_of d) k rhs).records (infers (nodes_of d) k rhs).fields (done (only_w r))
+    → StepEnds f w ou w' ou' T d (infers (nodes_of d) k rhs).records (infers (nodes_of d) k rhs).fields (done (only_w r))
     (only_right d.schema (nodes_of d) (below d k) rhs c)
 unfolding only_right
 right_ends {rhs = rhs} {T = T} {d = d} {k = k} {c = c} I named s = only_ends ((below d k).infer rhs c) ((I.is d k named).is T c s tt)
@@ -40,7 +41,8 @@ right_fits : (d : Described) (k lhs rhs : ℕ) → FitsIn (both (only one_diagno
 unfolding sum_of
 right_fits d k lhs rhs = record { grade = omega (arith, size_pos (nodes_of d) k lhs); records = omega arith; fields = omega arith }
 
-pub only_right_lem : {f w ou w' ou' : List ℕ} {lhs rhs left : ℕ} {r : Option (Ty × ℕ)} → Infers f w ou rhs left w' ou' r → OnlyRights f w ou lhs rhs left w' ou' (only_w r)
+pub only_right_lem : {f w ou w' ou' : List ℕ} {lhs rhs left : ℕ} {r : Option (Ty × ℕ)} → Infers f w ou rhs left w' ou' r
+    → OnlyRights f w ou lhs rhs left w' ou' (only_w r)
 unfolding sum_of
 only_right_lem {lhs = lhs} {rhs = rhs} I = record {
   is = λ d k nl nr. record {
@@ -53,7 +55,8 @@ only_right_lem {lhs = lhs} {rhs = rhs} I = record {
 
 -- ---- A target that can't be
 module _ {f w ou w₁ ou₁ : List ℕ} {lhs rhs left : ℕ} {m : Message} {x : Option ℕ} (R : Rejects f w ou lhs m left w₁ ou₁ x) where
-  pub bad_target_lem : {w₂ ou₂ : List ℕ} {l : ℕ} {r : Option (Ty × ℕ)} → x ≡ Some l → Infers f w₁ ou₁ rhs l w₂ ou₂ r → BadTargets m f w ou lhs rhs left w₂ ou₂ (only_w r)
+  pub bad_target_lem : {w₂ ou₂ : List ℕ} {l : ℕ} {r : Option (Ty × ℕ)} → x ≡ Some l → Infers f w₁ ou₁ rhs l w₂ ou₂ r
+      → BadTargets m f w ou lhs rhs left w₂ ou₂ (only_w r)
   unfolding bad_target only_right
   bad_target_lem g I = record {
     is = λ d k nl nr. record {
@@ -144,14 +147,14 @@ module _ {f w ou w₁ ou₁ : List ℕ} {rhs left : ℕ} {r : Option (Ty × ℕ)
   rest = both (infers (nodes_of d) k rhs) (only one_diagnostic)
 
   unified_ends : {w₂ ou₂ : List ℕ} {u : Ty} {l : ℕ} {x : Option ℕ} → r ≡ Some (u, l) → UnifiesAt f w₁ ou₁ rhs u t l w₂ ou₂ x
-      → Ends f w ou w₂ ou₂ T d rest.records rest.fields (done x)
+      → StepEnds f w ou w₂ ou₂ T d rest.records rest.fields (done x)
       (and_then ((below d k).infer rhs c) (λ ty. unify_at d.schema (nodes_of d) rhs ty (tree T t)))
   unified_ends g U = then_typed (infers (nodes_of d) k rhs) (only one_diagnostic) rest (unified_fits d k rhs) ((below d k).infer rhs c)
       (λ ty. unify_at d.schema (nodes_of d) rhs ty (tree T t)) g s
       (λ y. (good s k).infer rhs c s.orderly y) (λ s₁. (I.is d k named).is T c s₁ tt)
       (λ T₁ b a fine₁. rw (← tree_after a t fine.ok) ((U.is d named.there).is T₁ b a.begins (fine₁, fine_after a t fine)))
 
-  unified_out : r ≡ None → Ends f w ou w₁ ou₁ T d rest.records rest.fields (done None)
+  unified_out : r ≡ None → StepEnds f w ou w₁ ou₁ T d rest.records rest.fields (done None)
       (and_then ((below d k).infer rhs c) (λ ty. unify_at d.schema (nodes_of d) rhs ty (tree T t)))
   unified_out g = stop_typed (infers (nodes_of d) k rhs) (only one_diagnostic) rest (unified_fits d k rhs) ((below d k).infer rhs c)
       (λ ty. unify_at d.schema (nodes_of d) rhs ty (tree T t)) g refl s
@@ -168,7 +171,7 @@ module _ {f w ou w₁ ou₁ : List ℕ} {lhs rhs left : ℕ} {r : Option (Ty × 
   destructured : {w₂ ou₂ : List ℕ} {x : Option ℕ} {t : Ty} {l : ℕ} → r ≡ Some (t, l)
       → ((d : Described) (k : ℕ) → Named d k rhs → (T : Rows) (c : Checker) → Fine w₁ t T c
       → Begins f w₁ ou₁ T d (both (infers (nodes_of d) k rhs) (only one_diagnostic)) l c
-      → Ends f w₁ ou₁ w₂ ou₂ T d (both (infers (nodes_of d) k rhs) (only one_diagnostic)).records
+      → StepEnds f w₁ ou₁ w₂ ou₂ T d (both (infers (nodes_of d) k rhs) (only one_diagnostic)).records
       (both (infers (nodes_of d) k rhs) (only one_diagnostic)).fields (done x)
       (and_then ((below d k).infer rhs c) (λ ty. unify_at d.schema (nodes_of d) rhs ty (tree T t))))
       → Destructures f w ou lhs rhs left w₂ ou₂ x
@@ -257,7 +260,7 @@ module _ {f w ou w₁ ou₁ w₂ ou₂ w₃ ou₃ : List ℕ} {symbol lhs rhs le
   variable_then : {w₄ ou₄ : List ℕ} {x : Option ℕ}
       → ((d : Described) (k : ℕ) → Named d k rhs → (T : Rows) (c : Checker) → Fine w₂ (Var v) T c
       → Begins f w₂ ou₂ T d (both (infers (nodes_of d) k rhs) (only one_diagnostic)) left c
-      → Ends f w₂ ou₂ w₄ ou₄ T d (both (infers (nodes_of d) k rhs) (only one_diagnostic)).records
+      → StepEnds f w₂ ou₂ w₄ ou₄ T d (both (infers (nodes_of d) k rhs) (only one_diagnostic)).records
       (both (infers (nodes_of d) k rhs) (only one_diagnostic)).fields (done x)
       (and_then ((below d k).infer rhs c) (λ ty. unify_at d.schema (nodes_of d) rhs ty (Tree.Var v))))
       → BindsVariable f w ou symbol lhs rhs left w₄ ou₄ x

@@ -6,9 +6,9 @@ use Prim.Native.Nat.{ℕ, suc}
 use Rattle.unification.specs.Bindings.{Subst}
 use Rattle.cells.specs.declared.Ty.{Ty}
 use Rattle.cells.specs.Stands.{Rows, tree}
-use Rattle.meaning.specs.Syntax.{Field, ExprKind, node_at}
+use Rattle.format.specs.Syntax.{Field, ExprKind, node_at}
 use Rattle.meaning.specs.Diag as Diag
-use Rattle.meaning.specs.File.{Described}
+use Rattle.format.specs.File.{Described}
 use Rattle.meaning.specs.Check as Check
 use Rattle.meaning.specs.Check.{Does, Walk}
 use Rattle.messages.specs.declared.Message.{Message}

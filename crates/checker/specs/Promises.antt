@@ -6,19 +6,20 @@
 -- 0 infer_record infer_all branches check_fields stmt   1 stmts   2 subquery   3 infer_kind   4 infer   5
 -- infer_then_unify generator bind_name not_yet destructure   6 check_union bind deny compare   8 check   9 check_field
 -- fact. For it the functions over items need `0 < n → 0 < below`, `subquery` that its head is under `below`, and those
--- that take a node with its items that `below` is the node: `Lower` of tree/specs/Nodes.antt says so, whatever the file
+-- that take a node with its items that `below` is the node: `NamesLower` of tree/specs/Nodes.antt says so, whatever the file
 -- holds.
-use Rattle.std.specs.Prelude.{List, [], ◌∷◌, ◌≡◌, ℕ, suc, ◌<◌, length, None, Option, Some}
+use Rattle.std.specs.Prelude.{List, [], ◌∷◌, ◌≡◌, ℕ, suc, ◌<◌, ◌≤◌, length, None, Option, Some}
 use Rattle.unification.specs.Ty as Tree
 use Rattle.unification.specs.Unify.{find_key}
 use Rattle.cells.specs.declared.Ty.{Ty}
-use Rattle.cells.specs.Stands.{Rows, tree}
-use Rattle.meaning.specs.Syntax.{Field, Query, QueryStmt, ExprKind, node_at}
-use Rattle.meaning.specs.References.{field_names, field_values, stmt_nodes, query_nodes}
-use Rattle.meaning.specs.All.{Below}
+use Rattle.work.specs.Layout.{RECORD-COUNT, END}
+use Rattle.cells.specs.Stands.{Rows, tree, Keeps}
+use Rattle.format.specs.Syntax.{Field, Query, QueryStmt, ExprKind, node_at}
+use Rattle.format.specs.References.{field_names, field_values, stmt_nodes, query_nodes}
+use Rattle.format.specs.All.{Below}
 use Rattle.meaning.specs.Diag as Diag
-use Rattle.meaning.specs.File.{Described}
-use Rattle.meaning.specs.Sound.{Sound}
+use Rattle.format.specs.File.{Described}
+use Rattle.format.specs.Sound.{Sound}
 use Rattle.tree.specs.Stands.{Stands}
 use Rattle.meaning.specs.Check as Check
 use Rattle.meaning.specs.Check.{Checker, Step, Does, goes, out, and_then, Walk, walk, form}
@@ -48,14 +49,17 @@ pub record Infers (f w ou : List ℕ) (n left : ℕ) (w' ou' : List ℕ) (r : Op
 
 pub record InfersKind (f w ou : List ℕ) (n left : ℕ) (w' ou' : List ℕ) (r : Option (Ty × ℕ)) : Type 0 where
   pub is : (d : Described) (k : ℕ) → NodeAt d k n
-      → Beside f w ou left w' ou' (typed w' r) d (parts (nodes_of d) k (node_at (nodes_of d) n).kind) Always (λ T. Check.infer_kind d.schema (nodes_of d) (below d k) n (node_at (nodes_of d) n).kind)
+      → Beside f w ou left w' ou' (typed w' r) d (parts (nodes_of d) k (node_at (nodes_of d) n).kind) Always
+      (λ T. Check.infer_kind d.schema (nodes_of d) (below d k) n (node_at (nodes_of d) n).kind)
   pub found : (d : Described) (k x : ℕ) → NodeAt d k n → (node_at (nodes_of d) n).kind ≡ ExprKind.Var x
-      → Beside f w ou left w' ou' (typed w' r) d (only no_thing) (λ T c. Known x c) (λ T. Check.infer_kind d.schema (nodes_of d) (below d k) n (node_at (nodes_of d) n).kind)
+      → Beside f w ou left w' ou' (typed w' r) d (only no_thing) (λ T c. Known x c)
+      (λ T. Check.infer_kind d.schema (nodes_of d) (below d k) n (node_at (nodes_of d) n).kind)
 
 -- Names are half words.
 pub record InfersRecord (f w ou : List ℕ) (l : Items) (left : ℕ) (w' ou' : List ℕ) (r : Option (Ty × ℕ)) : Type 0 where
   pub is : (d : Described) (k id : ℕ) (fs : List Field) → fs ≡ fields_from f l 0 l.n → AllNamed d k (field_values fs) → Below 65536 (field_names fs)
-      → Beside f w ou left w' ou' (typed w' r) d (parts (nodes_of d) k (ExprKind.Record fs)) Always (λ T. Check.infer_kind d.schema (nodes_of d) (below d k) id (ExprKind.Record fs))
+      → Beside f w ou left w' ou' (typed w' r) d (parts (nodes_of d) k (ExprKind.Record fs)) Always
+      (λ T. Check.infer_kind d.schema (nodes_of d) (below d k) id (ExprKind.Record fs))
 
 -- The type comes back with which all were unified.
 unfoldable pub all_with : Described → ℕ → Tree.Ty → List ℕ → Does Tree.Ty
@@ -77,20 +81,24 @@ pub record Facts (f w ou : List ℕ) (p key left : ℕ) (w' ou' : List ℕ) (r :
 -- ---- `check`
 pub record InfersThenUnifies (f w ou : List ℕ) (n : ℕ) (t : Ty) (left : ℕ) (w' ou' : List ℕ) (r : Option ℕ) : Type 0 where
   pub is : (d : Described) (k : ℕ) → NodeAt d k n
-      → Beside f w ou left w' ou' (done r) d (checks (nodes_of d) (suc k) n) (Fine w t) (λ T. Check.infer_then_unify d.schema (nodes_of d) (below d k) n (tree T t))
+      → Beside f w ou left w' ou' (done r) d (checks (nodes_of d) (suc k) n) (Fine w t)
+      (λ T. Check.infer_then_unify d.schema (nodes_of d) (below d k) n (tree T t))
 
 -- A field that a record names, in a scope of its own: the expected record has it or not.
 pub record Mentions (f w ou : List ℕ) (name value e left : ℕ) (w' ou' : List ℕ) (r : Option ℕ) : Type 0 where
   pub is : (d : Described) (k : ℕ) → Named d k value
-      → Beside f w ou left w' ou' (done r) d (checks (nodes_of d) k value) (FineRecord w e) (λ T. Check.check_mentioned d.schema (nodes_of d) (below d k) (record { name = name; value = value }) (find_key name (T e)))
+      → Beside f w ou left w' ou' (done r) d (checks (nodes_of d) k value) (FineRecord w e)
+      (λ T. Check.check_mentioned d.schema (nodes_of d) (below d k) (record { name = name; value = value }) (find_key name (T e)))
 
 pub record ChecksFields (f w ou : List ℕ) (l : Items) (e left : ℕ) (w' ou' : List ℕ) (r : Option ℕ) : Type 0 where
   pub is : (d : Described) (k : ℕ) (fs : List Field) → fs ≡ fields_from f l 0 l.n → AllNamed d k (field_values fs)
-      → Beside f w ou left w' ou' (done r) d (visits (nodes_of d) k (field_values fs)) (FineRecord w e) (λ T. Check.check_fields d.schema (nodes_of d) (below d k) fs (T e))
+      → Beside f w ou left w' ou' (done r) d (visits (nodes_of d) k (field_values fs)) (FineRecord w e)
+      (λ T. Check.check_fields d.schema (nodes_of d) (below d k) fs (T e))
 
 pub record ChecksUnion (f w ou : List ℕ) (n : ℕ) (l : Items) (e left : ℕ) (w' ou' : List ℕ) (r : Option ℕ) : Type 0 where
   pub is : (d : Described) (k : ℕ) (fs : List Field) → fs ≡ fields_from f l 0 l.n → NodeAt d k n → (node_at (nodes_of d) n).kind ≡ ExprKind.Record fs
-      → Beside f w ou left w' ou' (done r) d (checks (nodes_of d) (suc k) n) (FineUnion w e) (λ T. Check.check_union d.schema (nodes_of d) (below d k) n fs (T e))
+      → Beside f w ou left w' ou' (done r) d (checks (nodes_of d) (suc k) n) (FineUnion w e)
+      (λ T. Check.check_union d.schema (nodes_of d) (below d k) n fs (T e))
 
 pub record Checks (f w ou : List ℕ) (n : ℕ) (t : Ty) (left : ℕ) (w' ou' : List ℕ) (r : Option ℕ) : Type 0 where
   pub is : (d : Described) (k : ℕ) → Named d k n
@@ -102,7 +110,8 @@ pub record Generates (f w ou : List ℕ) (n left : ℕ) (w' ou' : List ℕ) (r :
 
 pub record Branches (f w ou : List ℕ) (l : Items) (left : ℕ) (w' ou' : List ℕ) (r : Option (Ty × ℕ)) : Type 0 where
   pub is : (d : Described) (k : ℕ) (es : List ℕ) → es ≡ items_from f l 0 l.n → AllNamed d k es
-      → Beside f w ou left w' ou' (typed w' r) d (visits (nodes_of d) k es) Always (λ T. Check.generate_branches d.schema (nodes_of d) (below d k) Tree.Error es)
+      → Beside f w ou left w' ou' (typed w' r) d (visits (nodes_of d) k es) Always
+      (λ T. Check.generate_branches d.schema (nodes_of d) (below d k) Tree.Error es)
 
 -- ---- Statements
 
@@ -111,8 +120,9 @@ pub record Sides (m : Described → Walk → ℕ → ℕ → Does (Unit {0})) (f
   pub is : (d : Described) (k : ℕ) → Named d k lhs → Named d k rhs
       → Beside f w ou left w' ou' (done r) d (visits (nodes_of d) k (lhs ∷ rhs ∷ [])) Always (λ T. m d (below d k) lhs rhs)
 
-abbrev pub Binds : List ℕ → List ℕ → List ℕ → ℕ → ℕ → ℕ → List ℕ → List ℕ → Option ℕ → Type 0
-Binds f w ou lhs rhs left w' ou' r = Sides (λ d b x y. Check.bind_form d.schema (nodes_of d) b (form d.schema (nodes_of d) x) x y) f w ou lhs rhs left w' ou' r
+abbrev pub BindsSides : List ℕ → List ℕ → List ℕ → ℕ → ℕ → ℕ → List ℕ → List ℕ → Option ℕ → Type 0
+BindsSides f w ou lhs rhs left w' ou' r =
+    Sides (λ d b x y. Check.bind_form d.schema (nodes_of d) b (form d.schema (nodes_of d) x) x y) f w ou lhs rhs left w' ou' r
 
 abbrev pub Denies : List ℕ → List ℕ → List ℕ → ℕ → ℕ → ℕ → List ℕ → List ℕ → Option ℕ → Type 0
 Denies f w ou lhs rhs left w' ou' r = Sides (λ d b x y. Check.deny_form d.schema (nodes_of d) b (form d.schema (nodes_of d) x) x y) f w ou lhs rhs left w' ou' r
@@ -121,9 +131,11 @@ abbrev pub Compares : List ℕ → List ℕ → List ℕ → ℕ → ℕ → ℕ
 Compares f w ou lhs rhs left w' ou' r = Sides (λ d b x y. Check.compare d.schema (nodes_of d) b x y) f w ou lhs rhs left w' ou' r
 
 -- The same of a step that reports a message, of which the types exist.
-pub record SidesSaying (m : Described → Walk → Diag.Message → ℕ → ℕ → Does (Unit {0})) (x : Message) (f w ou : List ℕ) (lhs rhs left : ℕ) (w' ou' : List ℕ) (r : Option ℕ) : Type 0 where
+pub record SidesSaying (m : Described → Walk → Diag.Message → ℕ → ℕ → Does (Unit {0})) (x : Message) (f w ou : List ℕ) (lhs rhs left : ℕ) (w' ou' : List ℕ)
+    (r : Option ℕ) : Type 0 where
   pub is : (d : Described) (k : ℕ) → Named d k lhs → Named d k rhs
-      → Beside f w ou left w' ou' (done r) d (visits (nodes_of d) k (lhs ∷ rhs ∷ [])) (λ T c. OkMessage w x) (λ T c. m d (below d k) (said T c.state.subst x) lhs rhs c)
+      → Beside f w ou left w' ou' (done r) d (visits (nodes_of d) k (lhs ∷ rhs ∷ [])) (λ T c. OkMessage w x)
+      (λ T c. m d (below d k) (said T c.state.subst x) lhs rhs c)
 
 abbrev pub NotYets : Message → List ℕ → List ℕ → List ℕ → ℕ → ℕ → ℕ → List ℕ → List ℕ → Option ℕ → Type 0
 NotYets x f w ou lhs rhs left w' ou' r = SidesSaying (λ d b. Check.not_yet d.schema (nodes_of d) b) x f w ou lhs rhs left w' ou' r
@@ -159,6 +171,8 @@ run_until u d ceiling = Check.query d.schema (nodes_of d) d.ast.query (Check.beg
 
 pub record Queries (f w ou : List ℕ) (u : Until) (ceiling : ℕ) (w' ou' : List ℕ) (r : Option ℕ) : Type 0 where
   pub is : (T : Rows) (d : Described) → Sound d → Stands f w T d → Ran f w' ou' d r (run_until (until_of u) d ceiling)
-  -- whatever stands in the slices
+  -- whatever stands in the slices: as `Lent` says of each step, with the visits that are left
   pub words : length w' ≡ length w
   pub slice : length ou' ≡ length ou
+  pub keeps : Keeps RECORD-COUNT END w w'
+  pub fewer : (l : ℕ) → r ≡ Some l → l ≤ ceiling

@@ -5,7 +5,7 @@
 ghost use Rattle.std.specs.Prelude.{◌≡◌, ◌<◌};
 ghost use Rattle.tree.specs.Nodes.{LowerItems};
 ghost use Rattle.state.specs.Running.{with_left, left_if, Lent};
-ghost use Rattle.checker.specs.Promises.{InfersRecord, InfersAll, Subqueries, Facts, InfersKind, Infers, InfersThenUnifies, Mentions, ChecksFields, ChecksUnion, Checks, Generates, Branches, BindsVariable, NotYets, Destructures, Binds, Denies, Compares, States, StatesAll, Queries};
+ghost use Rattle.checker.specs.Promises.{InfersRecord, InfersAll, Subqueries, Facts, InfersKind, Infers, InfersThenUnifies, Mentions, ChecksFields, ChecksUnion, Checks, Generates, Branches, BindsVariable, NotYets, Destructures, BindsSides, Denies, Compares, States, StatesAll, Queries};
 
 use cells::{Kind, Ty};
 use messages::Message;
@@ -34,7 +34,9 @@ fn infer_record(run: &mut Run, items: Items) -> Option<Ty>
     Some(cells::new_record(run.words, from, n))
 }
 
-// Each operand or branch, unified with one type.
+// Each operand or branch, unified with one type. In `infer_kind` its loop would take room at every depth, for other nodes
+// too.
+#[inline(never)]
 #[cycle(checking)]
 fn infer_all(run: &mut Run, items: Items, with: Ty) -> Option<Ty>
     requires { 0 < items.n → 0 < items.below }
@@ -79,7 +81,8 @@ fn infer_kind(run: &mut Run, n: u32) -> Option<Ty>
     ensures is { InfersKind run.old.file.now run.old.words.now run.old.out.now n run.old.left run.new.words.now run.new.out.now (with_left result run.new.left) }
     ensures lent { Lent run.old run.new }
 {
-    match run.node(n) {
+    // Not by `Run::node`: inlined, the node would stand twice in this frame, once for each depth of a query.
+    match tree::node_at(run.file, run.view(), n) {
         Node::Int => Some(Ty::Int),
         Node::Bytes => Some(Ty::Bytes),
         Node::Str => Some(Ty::Str),
@@ -285,7 +288,7 @@ fn destructure(run: &mut Run, lhs: u32, rhs: u32) -> Option<()>
 
 #[cycle(checking)]
 fn bind(run: &mut Run, lhs: u32, rhs: u32) -> Option<()>
-    ensures is { Binds run.old.file.now run.old.words.now run.old.out.now lhs rhs run.old.left run.new.words.now run.new.out.now (left_if result run.new.left) }
+    ensures is { BindsSides run.old.file.now run.old.words.now run.old.out.now lhs rhs run.old.left run.new.words.now run.new.out.now (left_if result run.new.left) }
     ensures lent { Lent run.old run.new }
 {
     match run.node(lhs) {
@@ -383,7 +386,7 @@ fn stmts(run: &mut Run, body: Stmts) -> Option<()>
 }
 
 // The query of the file that was read: every type and diagnostic is then in the slice. The head is inferred last, and
-// then every entry leaves. What crate desk lends becomes a run here.
+// then every entry leaves. What crate driver lends becomes a run here.
 pub fn query(f: &[u8], w: &mut [u32], until: Until, ceiling: u32, out: &mut [u8]) -> Option<u32>
     ensures { Queries f.now w.old out.old until ceiling w.new out.new result }
 {

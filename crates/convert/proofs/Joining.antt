@@ -4,9 +4,9 @@ use mathlib.Core.Path.{◌≡◌, refl, sym, ap, ◌∙◌}
 use Prim.Native.Nat.{ℕ, ◌≤◌}
 use native.Mathlib.Omega.{arith}
 use lib.ListN.{length}
-use Rattle.meaning.specs.Frame.{Edition, narrow, Frame}
-use Rattle.meaning.specs.Answer.{hex_line}
-use Rattle.meaning.specs.Writing.{written, Fits}
+use Rattle.format.specs.Frame.{Edition, narrow, Frame}
+use Rattle.format.specs.Bytes.{hex_line}
+use Rattle.format.specs.Writing.{written, FrameFits}
 use Rattle.writer.specs.Writes.{Writes, WritesText, hex_of}
 use Rattle.writer.proofs.Writing.{writes_then, writes_full, writes_as, writes_to}
 use Rattle.writer.proofs.Digits.{hex_append, line_is}
@@ -44,5 +44,5 @@ line_joined a b c w = record { is = λ l. writes_as same (w.is l); long = w.long
 
 -- The bytes that were written are the frame's in the other edition.
 pub converted : (e : Edition) {out : List ℕ} {at : ℕ} {s t out' : List ℕ} {r : Option ℕ} → WritesLine out at t out' r
-    → ((g : Frame) → s ≡ written e g → Fits narrow g → t ≡ written (other e) g) → ConvertsLine e out at s out' r
+    → ((g : Frame) → s ≡ written e g → FrameFits narrow g → t ≡ written (other e) g) → ConvertsLine e out at s out' r
 converted e w same = record { is = λ g q f l. writes_as (ap hex_line (same g q f)) (w.is l); long = w.long }

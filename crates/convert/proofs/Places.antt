@@ -11,12 +11,13 @@ use borrow.Author.Tests.{eqb-true}
 use Rattle.std.specs.Prelude.{None, Option, Some, MatchOption, slice_range}
 use Rattle.std.proofs.lemmas.Option.{same_Some}
 use Rattle.unification.specs.Ty.{Int, String, Bytes, Fact}
-use Rattle.meaning.specs.Syntax.{FieldRef, Literal, ExprKind, Node}
-use Rattle.meaning.specs.Frame.{Edition, narrow, wide, kind_byte, a_leaf, a_record, a_union, Frame, the_limits, a_name, a_type, a_predicate, a_node, the_query, frame_kind}
-use Rattle.meaning.specs.Conditions.{any_of}
-use Rattle.meaning.specs.Answer.{bytes₂, bytes₄}
-use Rattle.meaning.specs.Writing.{as_reference, as_shape, as_expr, as_node, as_content, written, ExprFits, Fits}
-use Rattle.meaning.proofs.Tests.{cases}
+use Rattle.format.specs.Syntax.{FieldRef, Literal, ExprKind, Node}
+use Rattle.format.specs.Frame.{Edition, narrow, wide, kind_byte, a_leaf, a_record, a_union, Frame, the_limits, a_name, a_type, a_predicate, a_node, the_query}
+use Rattle.format.specs.Frame.{frame_kind}
+use Rattle.format.specs.Conditions.{any_of}
+use Rattle.format.specs.Bytes.{bytes₂, bytes₄}
+use Rattle.format.specs.Writing.{as_reference, as_shape, as_expr, as_node, as_content, written, ExprFits, FrameFits}
+use Rattle.format.proofs.Tests.{cases}
 use Rattle.frames.specs.Promises.{byte_w, half_w, full_w}
 use Rattle.frames.proofs.Shapes.{to_end}
 use Rattle.editions.specs.Converted.{shape_predicates, expr_predicates, predicates}
@@ -150,7 +151,7 @@ module _ (s : List ℕ) where
 
 -- ---- Two bytes more, two bytes less
 
-put_in : (g : Frame) {i : ℕ} → Fits narrow g → Names g i → take i (written narrow g) ++ (0 ∷ 0 ∷ [] ++ drop i (written narrow g)) ≡ written wide g
+put_in : (g : Frame) {i : ℕ} → FrameFits narrow g → Names g i → take i (written narrow g) ++ (0 ∷ 0 ∷ [] ++ drop i (written narrow g)) ≡ written wide g
 unfolding written as_content as_shape as_reference bytes₂ bytes₄ kind_byte frame_kind
 put_in g h (in_type p) = ap (λ s. 0x03 ∷ 0x03 ∷ s) (sym (low_bytes p h))
 put_in g h (in_node n p x q) =
@@ -182,7 +183,7 @@ four_bytes : (p : ℕ) → p < 4294967296 → (p / 65536 / 256 % 256 * 256 + p /
 four_bytes p h = omega arith
 
 module _ (least : ℕ) where
-  number_is : (g : Frame) {i : ℕ} → Fits wide g → Names g i → leb least (full_w (written wide g) i) ≡ any_of (leb least) (predicates g)
+  number_is : (g : Frame) {i : ℕ} → FrameFits wide g → Names g i → leb least (full_w (written wide g) i) ≡ any_of (leb least) (predicates g)
   unfolding written as_content as_shape as_reference bytes₂ bytes₄ kind_byte frame_kind full_w half_w predicates shape_predicates expr_predicates
   number_is g h (in_type p) = ap (leb least) (four_bytes p h) ∙ one_passes (leb least) p
   number_is g h (in_node n p x q) =
@@ -208,13 +209,14 @@ same_line p narrow g w = w ∙ sym (left_alone g (p.is narrow g w))
 same_line p wide g w = w ∙ left_alone g (p.is wide g w)
 
 module _ {s : List ℕ} {i : ℕ} (p : Placed s (Some i)) where
-  pub shorter_line : (g : Frame) → s ≡ written wide g → Fits narrow g → take i s ++ ([] ++ slice_range s (i + 2) (length s)) ≡ written narrow g
+  pub shorter_line : (g : Frame) → s ≡ written wide g → FrameFits narrow g → take i s ++ ([] ++ slice_range s (i + 2) (length s)) ≡ written narrow g
   shorter_line g w f = ap (λ t. take i s ++ ([] ++ t)) (to_end s (i + 2)) ∙ rw w (take_out g (names g (p.is wide g w)))
 
-  pub longer_line : (g : Frame) → s ≡ written narrow g → Fits narrow g → take i s ++ (0 ∷ 0 ∷ [] ++ slice_range s i (length s)) ≡ written wide g
+  pub longer_line : (g : Frame) → s ≡ written narrow g → FrameFits narrow g → take i s ++ (0 ∷ 0 ∷ [] ++ slice_range s i (length s)) ≡ written wide g
   longer_line g w f = ap (λ t. take i s ++ (0 ∷ 0 ∷ [] ++ t)) (to_end s i) ∙ rw w (put_in g f (names g (p.is narrow g w)))
 
-pub named_by : (s : List ℕ) (o : Option ℕ) → Placed s o → (least : ℕ) (r : Bool) → MatchOption o (r ≡ false) (λ i. r ≡ leb least (full_w s i)) → NamesFrom s least r
+pub named_by : (s : List ℕ) (o : Option ℕ) → Placed s o → (least : ℕ) (r : Bool) → MatchOption o (r ≡ false) (λ i. r ≡ leb least (full_w s i))
+    → NamesFrom s least r
 named_by s None p least r q = record { is = λ g w f. q ∙ no_number least g (p.is wide g w) }
 named_by s (Some i) p least r q = record { is = λ g w f. q ∙ rw w (number_is least g f (names g (p.is wide g w))) }
 

@@ -7,19 +7,19 @@ use native.Mathlib.Omega.{arith}
 use lib.Dec.{leb, ltb}
 use borrow.Author.Tests.{ltb-true, ltb-false}
 use lib.ListN.{length, take, drop}
-use Rattle.meaning.specs.Lines.{lines, max_bytes, some_bytes, bytes_of}
-use Rattle.meaning.specs.Frame.{Edition, narrow, wide, Frame}
-use Rattle.meaning.specs.SoFar.{malformed, frames, said_by, said}
-use Rattle.meaning.specs.Conditions.{any_of}
-use Rattle.meaning.specs.All.{All}
-use Rattle.meaning.specs.Answer.{hex_line}
-use Rattle.meaning.specs.Writing.{written, file_of, Fits, Writable}
-use Rattle.meaning.proofs.Hex.{decoded_hex}
-use Rattle.meaning.proofs.Bytes.{written_bytes}
-use Rattle.meaning.proofs.Written.{line_of, at_most_lem, said_line}
-use Rattle.meaning.proofs.Tests.{cases}
+use Rattle.format.specs.Lines.{lines, max_bytes, some_bytes, bytes_of}
+use Rattle.format.specs.Frame.{Edition, narrow, wide, Frame}
+use Rattle.format.specs.SoFar.{malformed, frames, said_by, said}
+use Rattle.format.specs.Conditions.{any_of}
+use Rattle.format.specs.All.{All}
+use Rattle.format.specs.Bytes.{hex_line}
+use Rattle.format.specs.Writing.{written, file_of, FrameFits, Writable}
+use Rattle.format.proofs.Hex.{decoded_hex}
+use Rattle.format.proofs.Bytes.{written_bytes}
+use Rattle.format.proofs.Written.{line_of, at_most_lem, said_line}
+use Rattle.format.proofs.Tests.{cases}
 use Rattle.sigla_hex.proofs.Line.{lines_at_end}
-use Rattle.frames.specs.Promises.{BytesAt, Malformed}
+use Rattle.frames.specs.Promises.{BytesAt, MalformedAt}
 use Rattle.writer.specs.Writes.{Writes}
 use Rattle.writer.proofs.Writing.{Goes, goes_start, goes_next, goes_full, goes_done}
 use Rattle.editions.specs.Converted.{predicates}
@@ -55,7 +55,7 @@ step e {f} {line} {at} {n} {next} h fs a = go fs (sym (ap (map (said e)) h.split
     go (g ∷ gs) q = made g gs (head-eq_of_cons-eq q) (tail-eq_of_cons-eq q)
 
 -- no line of frames is malformed
-pub no_bad : (e : Edition) {f : List ℕ} {at : ℕ} → Malformed f at → (fs : List Frame) → LinesAre e (drop at f) fs → ⊥
+pub no_bad : (e : Edition) {f : List ℕ} {at : ℕ} → MalformedAt f at → (fs : List Frame) → LinesAre e (drop at f) fs → ⊥
 unfolding said said_by
 no_bad e {f} {at} b fs a = go fs (sym (ap (map (said e)) b.splits) ∙ a)
   where
@@ -79,12 +79,12 @@ at_end_lem e f at l (g ∷ gs) a =
 pub record Left (e : Edition) (f out₀ : List ℕ) (at : ℕ) (out : List ℕ) (to : ℕ) (fs : List Frame) : Type 0 where
   pub rest : List Frame
   pub are : LinesAre e (drop at f) rest
-  pub fit : All (Fits narrow) rest
+  pub fit : All (FrameFits narrow) rest
   pub goes : Goes out₀ 0 (file_of (other e) fs) out to (file_of (other e) rest)
 
 pub record Converting (e : Edition) (f out₀ : List ℕ) (at : ℕ) (out : List ℕ) (to : ℕ) : Type 0 where
   pub long : length out ≡ length out₀
-  pub left : (fs : List Frame) → LinesAre e f fs → All (Fits narrow) fs → Left e f out₀ at out to fs
+  pub left : (fs : List Frame) → LinesAre e f fs → All (FrameFits narrow) fs → Left e f out₀ at out to fs
 
 pub converting_start : (e : Edition) (f out : List ℕ) → Converting e f out 0 out 0
 converting_start e f out = record {
@@ -94,7 +94,7 @@ converting_start e f out = record {
 }
 
 module _ (e : Edition) {f out₀ : List ℕ} {at : ℕ} {out : List ℕ} {to : ℕ} (c : Converting e f out₀ at out to) where
-  pub converting_bad : Malformed f at → ConvertsLines e f out₀ out None
+  pub converting_bad : MalformedAt f at → ConvertsLines e f out₀ out None
   converting_bad b = record { is = λ fs a h. let k = c.left fs a h in absurd (no_bad e b k.rest k.are); long = c.long }
 
   pub converting_done : length f ≤ at → ConvertsLines e f out₀ out (Some to)
@@ -108,7 +108,7 @@ module _ (e : Edition) {f out₀ : List ℕ} {at : ℕ} {out : List ℕ} {to : �
     record Turn (fs : List Frame) : Type 0 where
       rest : List Frame
       are : LinesAre e (drop next f) rest
-      fit : All (Fits narrow) rest
+      fit : All (FrameFits narrow) rest
       text : List ℕ
       goes : Goes out₀ 0 (file_of (other e) fs) out to (text ++ file_of (other e) rest)
       writes : Writes out to text out' r
@@ -117,7 +117,8 @@ module _ (e : Edition) {f out₀ : List ℕ} {at : ℕ} {out : List ℕ} {to : �
     unfolding file_of flat_map
     turn fs k = go k.rest k.fit k.goes (step e d k.rest k.are)
       where
-        go : (gs : List Frame) → All (Fits narrow) gs → Goes out₀ 0 (file_of (other e) fs) out to (file_of (other e) gs) → First e f line n next gs → Turn fs
+        go : (gs : List Frame) → All (FrameFits narrow) gs → Goes out₀ 0 (file_of (other e) fs) out to (file_of (other e) gs)
+            → First e f line n next gs → Turn fs
         go [] h g i = let q = i.are in let z : ◌≡◌ {A = ℕ} 0 1 = cc in absurd (omega arith)
         go (x ∷ gs) h g i =
             let q = i.are in
@@ -172,7 +173,7 @@ module _ {f : List ℕ} {least at : ℕ} (c : Seeking f least at) where
   abbrev found : List Frame → Bool
   found fs = any_of (leb least) (flat_map predicates fs)
 
-  seeking_bad : Malformed f at → SomeFrom f least false
+  seeking_bad : MalformedAt f at → SomeFrom f least false
   seeking_bad b = record { is = λ fs a. let k = c.left fs a in absurd (no_bad wide b k.0 k.1) }
 
   seeking_done : length f ≤ at → SomeFrom f least false
@@ -180,7 +181,7 @@ module _ {f : List ℕ} {least at : ℕ} (c : Seeking f least at) where
   seeking_done l = record { is = λ fs a. let k = c.left fs a in sym (k.2 ∙ ap found (at_end_lem wide f at l k.0 k.1)) }
 
   -- no line stands here
-  pub seeking_over : (at < length f → Malformed f at) → SomeFrom f least false
+  pub seeking_over : (at < length f → MalformedAt f at) → SomeFrom f least false
   seeking_over b = cases (ltb at (length f)) (λ q. seeking_bad (b (ltb-true at (length f) q))) (λ q. seeking_done (ltb-false at (length f) q))
 
   module _ {line : List ℕ} {n next : ℕ} (d : BytesAt f at line n next) {r : Bool} (w : NamesFrom (take n line) least r) where

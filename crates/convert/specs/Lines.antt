@@ -1,13 +1,13 @@
 -- What the functions of src/ promise of a line and of all lines. `e` is the edition that is read; the other one is written.
 use Rattle.std.specs.Prelude.{Bool, ◌≡◌, ℕ, ◌+◌, ◌≤◌, leb, length, None, Option, Some, IfSome}
 use mathlib.Core.List.{List, [], ◌∷◌, map, flat_map}
-use Rattle.meaning.specs.Lines.{lines}
-use Rattle.meaning.specs.Frame.{Edition, narrow, wide, Frame, the_limits, a_name, a_type, a_predicate, a_node, the_query}
-use Rattle.meaning.specs.SoFar.{frames, said}
-use Rattle.meaning.specs.Conditions.{any_of}
-use Rattle.meaning.specs.All.{All}
-use Rattle.meaning.specs.Answer.{hex_line}
-use Rattle.meaning.specs.Writing.{written, file_of, Fits}
+use Rattle.format.specs.Lines.{lines}
+use Rattle.format.specs.Frame.{Edition, narrow, wide, Frame, the_limits, a_name, a_type, a_predicate, a_node, the_query}
+use Rattle.format.specs.SoFar.{frames, said}
+use Rattle.format.specs.Conditions.{any_of}
+use Rattle.format.specs.All.{All}
+use Rattle.format.specs.Bytes.{hex_line}
+use Rattle.format.specs.Writing.{written, file_of, FrameFits}
 use Rattle.writer.specs.Writes.{Writes}
 use Rattle.editions.specs.Converted.{shape_predicates, expr_predicates, predicates, some_above}
 
@@ -40,7 +40,7 @@ pub record WritesLine (out : List ℕ) (at : ℕ) (s out' : List ℕ) (r : Optio
 
 -- A frame whose numbers fit the narrow edition, in the other edition.
 pub record ConvertsLine (e : Edition) (out : List ℕ) (at : ℕ) (s out' : List ℕ) (r : Option ℕ) : Type 0 where
-  pub is : (g : Frame) → s ≡ written e g → Fits narrow g → at ≤ length out → Writes out at (hex_line (written (other e) g)) out' r
+  pub is : (g : Frame) → s ≡ written e g → FrameFits narrow g → at ≤ length out → Writes out at (hex_line (written (other e) g)) out' r
   pub long : length out' ≡ length out
 
 -- A file whose lines are frames.
@@ -48,13 +48,13 @@ abbrev pub LinesAre : Edition → List ℕ → List Frame → Type 0
 LinesAre e f fs = map (said e) (lines f) ≡ map frames fs
 
 pub record ConvertsLines (e : Edition) (f out out' : List ℕ) (r : Option ℕ) : Type 0 where
-  pub is : (fs : List Frame) → LinesAre e f fs → All (Fits narrow) fs → Writes out 0 (file_of (other e) fs) out' r
+  pub is : (fs : List Frame) → LinesAre e f fs → All (FrameFits narrow) fs → Writes out 0 (file_of (other e) fs) out' r
   pub long : length out' ≡ length out
 
 -- ---- Predicates by this number or a higher one
 
 pub record NamesFrom (s : List ℕ) (least : ℕ) (r : Bool) : Type 0 where
-  pub is : (g : Frame) → s ≡ written wide g → Fits wide g → r ≡ any_of (leb least) (predicates g)
+  pub is : (g : Frame) → s ≡ written wide g → FrameFits wide g → r ≡ any_of (leb least) (predicates g)
 
 pub record SomeFrom (f : List ℕ) (least : ℕ) (r : Bool) : Type 0 where
   pub is : (fs : List Frame) → LinesAre wide f fs → r ≡ any_of (leb least) (flat_map predicates fs)

@@ -7,12 +7,12 @@ use native.Mathlib.Omega.{arith}
 use lib.ListN.{length, take, replicate, length-append, length-take, length-replicate}
 use lib.Seq.{length-take-le}
 use borrow.Author.Tests.{le-ltb}
-use Rattle.meaning.specs.Frame.{narrow, wide}
-use Rattle.meaning.specs.File.{Form, described, reading_of, max_file}
+use Rattle.format.specs.Frame.{narrow, wide}
+use Rattle.format.specs.File.{Form, described, reading_of, max_file}
 use Rattle.meaning.specs.Outcome as Defined
 use Rattle.meaning.specs.Outcome.{Decided, answered, min_words, accept, finish}
-use Rattle.meaning.proofs.Content.{says_exactly}
-use Rattle.desk.specs.Promises.{result_of, Finishes}
+use Rattle.format.proofs.Content.{says_exactly}
+use Rattle.driver.specs.Promises.{result_of, Finishes}
 use Rattle.editions.specs.Converted.{frames_in, some_above, widened, narrowed, decide_widen, decide_narrow}
 use Rattle.editions.proofs.Same.{widened_says, narrowed_says, out_and_back, back_and_out, widened_low}
 use Rattle.editions.proofs.Calls.{widen_answered, narrow_answered}
@@ -42,7 +42,8 @@ given {x} {w} {out} {w'} {out'} r ls e l h = go r (h.result ∙ ap (λ o. o.resu
         record { accepted = ap Ok long; stands = subst (λ m. take m out' ≡ ls) long there }
     go (Err i) q ends = let z : ◌≡◌ {A = ℕ} 0 1 = cc in absurd (omega arith)
 
-module _ (f : List ℕ) (d : Form) {w out w' out' v buf v' buf' : List ℕ} (r q : Result ℕ Refusal) (words : min_words ≤ length w) (words' : min_words ≤ length v) where
+module _ (f : List ℕ) (d : Form) {w out w' out' v buf v' buf' : List ℕ} (r q : Result ℕ Refusal) (words : min_words ≤ length w)
+    (words' : min_words ≤ length v) where
   -- of every file of the narrow edition past 1 to 10 and 13 whose wide file can be read
   pub code_out_and_back : reading_of narrow f ≡ described d → length (widened f) ≤ max_file → length (widened f) ≤ length out → length f ≤ length buf
       → Widens f w out w' out' r → Narrows (take (length (widened f)) out') v buf v' buf' q → Gives out' (widened f) r × Gives buf' f q

@@ -6,26 +6,26 @@ use Prim.Native.Nat.{ℕ, ◌≤◌, ◌<◌}
 use native.Mathlib.Omega.{arith}
 use lib.Dec.{ltb}
 use lib.ListN.{length, take}
-use Rattle.meaning.specs.Frame.{Edition, narrow, wide, Frame}
-use Rattle.meaning.specs.Lines.{lines}
-use Rattle.meaning.specs.SoFar.{said}
-use Rattle.meaning.specs.Refusal as Meaning
-use Rattle.meaning.specs.All.{All}
-use Rattle.meaning.specs.File.{Form, Reading, refused, described, reading_of}
-use Rattle.meaning.specs.Writing.{file_of, Fits, Writable}
-use Rattle.meaning.specs.Content.{frames_of, Says}
+use Rattle.format.specs.Frame.{Edition, narrow, wide, Frame}
+use Rattle.format.specs.Lines.{lines}
+use Rattle.format.specs.SoFar.{said}
+use Rattle.format.specs.Refusal as Meaning
+use Rattle.format.specs.All.{All}
+use Rattle.format.specs.File.{Form, Reading, refused, described, reading_of}
+use Rattle.format.specs.Writing.{file_of, FrameFits, Writable}
+use Rattle.format.specs.Content.{frames_of, Says}
 use Rattle.meaning.specs.Outcome.{Decided, turned_down, answered, min_words}
-use Rattle.meaning.proofs.Tests.{cases}
-use Rattle.meaning.proofs.Written.{file_lines}
-use Rattle.meaning.proofs.Content.{says_exactly}
-use Rattle.reading.specs.Promises.{refusal, Ends, reading_in, ReadsFile}
+use Rattle.format.proofs.Tests.{cases}
+use Rattle.format.proofs.Written.{file_lines}
+use Rattle.format.proofs.Content.{says_exactly}
+use Rattle.reading.specs.Promises.{refusal, ReadingEnds, reading_in, ReadsFile}
 use Rattle.reading.specs.declared.Refusal.{Refusal}
 use Rattle.reading.specs.declared.Refusal.TheVariants as Refusal
 use Rattle.writer.specs.Writes.{Writes}
 use Rattle.writer.proofs.Writing.{whole_there, whole_over}
-use Rattle.desk.specs.Promises.{Told, Finishes, Clears}
-use Rattle.desk.proofs.Deciding.{enough_words, refused_told}
-use Rattle.desk.proofs.Deciding as Deciding
+use Rattle.driver.specs.Promises.{CallEnds, Finishes, Clears}
+use Rattle.driver.proofs.Deciding.{enough_words, refused_told}
+use Rattle.driver.proofs.Deciding as Deciding
 use Rattle.editions.specs.Converted.{frames_in, some_above, widened, narrowed, widen_read, narrow_read, decide_widen, decide_narrow}
 use Rattle.editions.proofs.Same.{frames_are, all_narrow}
 use Rattle.convert.specs.Lines.{LinesAre, ConvertsLines, SomeAbove}
@@ -60,22 +60,23 @@ said_frames ed f d e =
     record { these = frames_of s.content; lines_are = l; frames = frames_are ed f (frames_of s.content) l; writable = s.lawful.writable }
 
 -- of an accepted reading
-described_by : (ed : Edition) {f w w' : List ℕ} {r : Result (Unit {0}) Refusal} → ReadsFile ed f w w' r → r ≡ Ok tt → (d : Form) × (reading_in ed f (length w) ≡ described d)
-unfolding Ends
+described_by : (ed : Edition) {f w w' : List ℕ} {r : Result (Unit {0}) Refusal} → ReadsFile ed f w w' r → r ≡ Ok tt → (d : Form)
+    × (reading_in ed f (length w) ≡ described d)
+unfolding ReadingEnds
 described_by ed {f} {w} {w'} {r} h q = go (reading_in ed f (length w)) refl h.ends
   where
-    go : (x : Reading) → reading_in ed f (length w) ≡ x → Ends ed f w' r x → (d : Form) × (reading_in ed f (length w) ≡ described d)
+    go : (x : Reading) → reading_in ed f (length w) ≡ x → ReadingEnds ed f w' r x → (d : Form) × (reading_in ed f (length w) ≡ described d)
     go (refused i) e g = let p = g.1 in let z : ◌≡◌ {A = ℕ} 0 1 = cc in absurd (omega arith)
     go (described d) e g = (d, e)
 
-all_fit : (fs : List Frame) → All (Writable narrow) fs → All (Fits narrow) fs
+all_fit : (fs : List Frame) → All (Writable narrow) fs → All (FrameFits narrow) fs
 all_fit [] w = tt
 all_fit (f ∷ fs) w = (w.0.fits, all_fit fs w.1)
 
 -- ---- What is written is told
 
-written_told : {out ls out' : List ℕ} (r : Option ℕ) → Writes out 0 ls out' r → Told out out' (ok_or r Refusal.AnswerTooLong) (answered ls)
-unfolding Told
+written_told : {out ls out' : List ℕ} (r : Option ℕ) → Writes out 0 ls out' r → CallEnds out out' (ok_or r Refusal.AnswerTooLong) (answered ls)
+unfolding CallEnds
 written_told {out} {ls} {out'} (Some n) w =
     let h = whole_there w refl in
     (λ l. (ap Ok h.0, subst (λ m. take m out' ≡ ls) h.0 h.2), λ l. absurd (omega (arith, l, h.0, h.1)))
@@ -86,7 +87,7 @@ module _ {f w w' out : List ℕ} where
       → RunsTo (decide_widen f (length w)) w out w' out (Err e)
   unfolding widen_read
   widen_refused {r} e h q = record {
-    told = subst (Told out out (Err e)) (sym (widen_decided f (length w)))
+    told = subst (CallEnds out out (Err e)) (sym (widen_decided f (length w)))
         (refused_told narrow (widen_read f) (λ i. refl) f w w' out r e h q);
     words = h.long;
     bytes = refl;
@@ -96,7 +97,7 @@ module _ {f w w' out : List ℕ} where
       → RunsTo (decide_narrow f (length w)) w out w' out (Err e)
   unfolding narrow_read
   narrow_refused {r} e h q = record {
-    told = subst (Told out out (Err e)) (sym (narrow_decided f (length w)))
+    told = subst (CallEnds out out (Err e)) (sym (narrow_decided f (length w)))
         (refused_told wide (narrow_read f) (λ i. refl) f w w' out r e h q);
     words = h.long;
     bytes = refl;
@@ -116,7 +117,7 @@ module _ {f w w' out : List ℕ} where
       let is : decide_widen f (length w) ≡ answered (file_of wide s.these) = widen_decided f (length w) ∙ ap (widen_read f) d.1 ∙ ap
       (λ l. answered (file_of wide l)) s.frames in
       record {
-        told = subst (Told out out' (ok_or x Refusal.AnswerTooLong)) (sym is)
+        told = subst (CallEnds out out' (ok_or x Refusal.AnswerTooLong)) (sym is)
             (written_told x (c.is s.these s.lines_are (all_fit s.these s.writable)));
         words = h.long;
         bytes = c.long;
@@ -124,7 +125,7 @@ module _ {f w w' out : List ℕ} where
 
   module _ {r : Result (Unit {0}) Refusal} {b : Bool} (h : ReadsFile wide f w w' r) (q : r ≡ Ok tt) (a : SomeAbove f b) where
     pub narrow_above : b ≡ true → RunsTo (decide_narrow f (length w)) w out w' out (Err Refusal.NumberTooWide)
-    unfolding narrow_read Told
+    unfolding narrow_read CallEnds
     narrow_above t =
         let d = described_by wide h q in
         let s = said_frames wide f d.0 (enough_words wide f (length w) d.0 d.1) in
@@ -132,7 +133,7 @@ module _ {f w w' out : List ℕ} where
         let is : decide_narrow f (length w) ≡ turned_down Meaning.number_too_wide = narrow_decided f (length w) ∙ ap (narrow_read f) d.1 ∙ rw
         (high, narrow_read) in
         record {
-          told = subst (Told out out (Err Refusal.NumberTooWide)) (sym is) (Refusal.NumberTooWide, refl, refl);
+          told = subst (CallEnds out out (Err Refusal.NumberTooWide)) (sym is) (Refusal.NumberTooWide, refl, refl);
           words = h.long;
           bytes = refl;
         }
@@ -147,11 +148,12 @@ module _ {f w w' out : List ℕ} where
         let is : decide_narrow f (length w) ≡ answered (file_of narrow s.these) = narrow_decided f (length w) ∙ ap (narrow_read f) d.1 ∙ rw
         (ap some_above s.frames ∙ low, narrow_read) (ap (λ l. answered (file_of narrow l)) s.frames) in
         record {
-          told = subst (Told out out' (ok_or x Refusal.AnswerTooLong)) (sym is)
+          told = subst (CallEnds out out' (ok_or x Refusal.AnswerTooLong)) (sym is)
               (written_told x (c.is s.these s.lines_are (all_fit s.these (all_narrow s.these s.writable low))));
           words = h.long;
           bytes = c.long;
         }
 
-pub cleared : {x : Decided} {w out w₁ out₁ w' out' : List ℕ} (r : Result ℕ Refusal) → RunsTo x w out w₁ out₁ r → Clears r w₁ out₁ w' out' → Finishes x w out w' out' r
+pub cleared : {x : Decided} {w out w₁ out₁ w' out' : List ℕ} (r : Result ℕ Refusal) → RunsTo x w out w₁ out₁ r → Clears r w₁ out₁ w' out'
+    → Finishes x w out w' out' r
 cleared r h c = Deciding.cleared h.words h.bytes r h.told c

@@ -1,9 +1,9 @@
 // Card 6: files of the narrow edition turned into the wide one, and back; the whole calls, with the parameters of the
-// call of crate desk.
+// call of crate driver.
 #![tactic(auto)]
 
 ghost use Rattle.std.specs.Prelude.{◌≡◌, length};
-ghost use Rattle.converters.specs.Promises.{decide_from, RunsTo, Converts, Widens, Narrows};
+ghost use Rattle.converters.specs.Promises.{decide_from, RunsTo, ConvertsFile, Widens, Narrows};
 
 use reading::{Edition, Refusal};
 
@@ -18,7 +18,7 @@ fn run(file: &[u8], work: &mut [u32], out: &mut [u8], from: Edition) -> Result<u
     }
 }
 
-// As `desk::check_file` does. What they share is `clear_after`: a common call would take the run as a closure over both
+// As `driver::check_file` does. What they share is `clear_after`: a common call would take the run as a closure over both
 // slices, and be no shorter.
 fn convert_file(
     file: &[u8],
@@ -26,10 +26,10 @@ fn convert_file(
     out: &mut [u8],
     from: Edition,
 ) -> Result<usize, Refusal>
-    ensures { Converts from file.now work.old out.old work.new out.new result }
+    ensures { ConvertsFile from file.now work.old out.old work.new out.new result }
 {
     let r = run(file, work, out, from);
-    desk::clear_after(r, work, out);
+    driver::clear_after(r, work, out);
     r
 }
 

@@ -8,15 +8,15 @@ use native.Mathlib.Omega.{arith}
 use lib.Dec.{ltb, leb}
 use lib.ListN.{length}
 use borrow.Author.Tests.{ltb-true, ltb-false, lt-ltb, le-ltb, leb-true, le-leb}
-use Rattle.meaning.specs.Refusal.{Refusal, work_too_short, answer_too_long, number_too_wide}
-use Rattle.meaning.specs.Frame.{narrow, wide, Frame}
-use Rattle.meaning.specs.Conditions.{any_of}
-use Rattle.meaning.specs.All.{Any}
-use Rattle.meaning.specs.File.{Form, Reading, refused, described, reading_of, max_file}
+use Rattle.format.specs.Refusal.{Refusal, work_too_short, answer_too_long, number_too_wide}
+use Rattle.format.specs.Frame.{narrow, wide, Frame}
+use Rattle.format.specs.Conditions.{any_of}
+use Rattle.format.specs.All.{Any}
+use Rattle.format.specs.File.{Form, Reading, refused, described, reading_of, max_file}
 use Rattle.meaning.specs.Outcome.{Decided, turned_down, answered, Outcome, Accepted, Refused, min_words, refuse, accept, finish}
-use Rattle.meaning.proofs.Tests.{cases, clash}
-use Rattle.meaning.proofs.Refused.{refused_when}
-use Rattle.meaning.proofs.Content.{says_exactly}
+use Rattle.format.proofs.Tests.{cases, clash}
+use Rattle.format.proofs.Refused.{refused_when}
+use Rattle.format.proofs.Content.{says_exactly}
 use Rattle.editions.specs.Converted.{frames_in, predicates, is_above, some_above, widened, narrowed, widen_read, narrow_read, decide_widen, decide_narrow}
 use Rattle.editions.specs.Converted.{outcome_widen, outcome_narrow}
 use Rattle.editions.specs.Demands.{WidenRefused, NarrowRefused, Converts}
@@ -182,7 +182,8 @@ module _ (file : List ℕ) (words : ℕ) where
   unfolding narrow_read
   narrow_answered d h e a = narrow_reads h ∙ ap (narrow_read file) e ∙ rw (a, narrow_read)
 
-pub narrow_converts : (file : List ℕ) (words bytes : ℕ) → Converts (outcome_narrow file words bytes) (NarrowRefused file words bytes) (narrowed file) words bytes
+pub narrow_converts : (file : List ℕ) (words bytes : ℕ) → Converts (outcome_narrow file words bytes) (NarrowRefused file words bytes)
+    (narrowed file) words bytes
 unfolding outcome_narrow some_above
 narrow_converts file words bytes = converts words bytes (outcome_narrow file words bytes) (NarrowRefused file words bytes) (narrowed file) ends back
   where

@@ -5,20 +5,20 @@ use mathlib.Core.Path.{◌≡◌, refl, sym, ap, subst, ◌∙◌}
 use Prim.Native.Nat.{ℕ, ◌≤◌}
 use native.Mathlib.Omega.{arith}
 use lib.ListN.{length, length-append}
-use Rattle.meaning.specs.Frame.{Edition, narrow, wide, Frame}
-use Rattle.meaning.specs.Lines.{lines}
-use Rattle.meaning.specs.SoFar.{frames, said}
-use Rattle.meaning.specs.Conditions.{any_of}
-use Rattle.meaning.specs.File.{Form, described, reading_of, max_file}
-use Rattle.meaning.specs.All.{All}
-use Rattle.meaning.specs.Answer.{hex_line}
-use Rattle.meaning.specs.Writing.{written, file_of, Writable}
-use Rattle.meaning.specs.Content.{Content, frames_of, Lawful, Says}
-use Rattle.meaning.proofs.Tests.{cases, clash}
-use Rattle.meaning.proofs.Hex.{line_length}
+use Rattle.format.specs.Frame.{Edition, narrow, wide, Frame}
+use Rattle.format.specs.Lines.{lines}
+use Rattle.format.specs.SoFar.{frames, said}
+use Rattle.format.specs.Conditions.{any_of}
+use Rattle.format.specs.File.{Form, described, reading_of, max_file}
+use Rattle.format.specs.All.{All}
+use Rattle.format.specs.Bytes.{hex_line}
+use Rattle.format.specs.Writing.{written, file_of, Writable}
+use Rattle.format.specs.Content.{Content, frames_of, Lawful, Says}
+use Rattle.format.proofs.Tests.{cases, clash}
+use Rattle.format.proofs.Hex.{line_length}
 use Rattle.meaning.proofs.Alone.{lawful_with}
-use Rattle.meaning.proofs.Written.{file_lines}
-use Rattle.meaning.proofs.Content.{says_exactly}
+use Rattle.format.proofs.Written.{file_lines}
+use Rattle.format.proofs.Content.{says_exactly}
 use Rattle.editions.specs.Converted.{frames_on, frames_in, widened, narrowed, is_above, predicates, some_above}
 use Rattle.editions.specs.Demands.{SameAs}
 use Rattle.editions.proofs.Views.{widen_writable, narrow_writable, fits_low, shorter}

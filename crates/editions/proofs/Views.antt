@@ -8,19 +8,20 @@ use lib.Dec.{leb}
 use lib.ListN.{length}
 use borrow.Author.Tests.{leb-false, lt-leb}
 use Rattle.unification.specs.Ty.{Int, String, Bytes, Fact}
-use Rattle.meaning.specs.Syntax.{FieldRef, Literal, ExprKind, Node}
-use Rattle.meaning.specs.Frame.{Edition, narrow, wide, kind_byte, a_leaf, a_record, a_union, Frame, the_limits, a_name, a_type, a_predicate, a_node, the_query, frame_kind}
-use Rattle.meaning.specs.Lines.{max_bytes}
-use Rattle.meaning.specs.Conditions.{any_of}
-use Rattle.meaning.specs.Answer.{bytes₂, bytes₄}
-use Rattle.meaning.specs.Writing.{as_reference, as_shape, as_expr, as_node, as_content, written, ExprFits, Fits, Writable}
+use Rattle.format.specs.Syntax.{FieldRef, Literal, ExprKind, Node}
+use Rattle.format.specs.Frame.{Edition, narrow, wide, kind_byte, a_leaf, a_record, a_union, Frame, the_limits, a_name, a_type, a_predicate, a_node, the_query}
+use Rattle.format.specs.Frame.{frame_kind}
+use Rattle.format.specs.Lines.{max_bytes}
+use Rattle.format.specs.Conditions.{any_of}
+use Rattle.format.specs.Bytes.{bytes₂, bytes₄}
+use Rattle.format.specs.Writing.{as_reference, as_shape, as_expr, as_node, as_content, written, ExprFits, FrameFits, Writable}
 use Rattle.editions.specs.Converted.{shape_predicates, expr_predicates, predicates, is_above}
-use Rattle.meaning.proofs.Tests.{cases, clash}
+use Rattle.format.proofs.Tests.{cases, clash}
 
 pub record Plain (f : Frame) : Type 0 where
   pub same : written wide f ≡ written narrow f
-  pub widens : Fits narrow f → Fits wide f
-  pub narrows : Fits wide f → Fits narrow f
+  pub widens : FrameFits narrow f → FrameFits wide f
+  pub narrows : FrameFits wide f → FrameFits narrow f
   pub none : predicates f ≡ []
 
 pub data View : Frame → Type 0 where
@@ -88,10 +89,10 @@ node_bytes_lem e n p x q = ap (λ k. 0x05 ∷ bytes₄ n.span.start ++ bytes₄ 
 
 -- ---- Writable in the one, writable in the other
 
-pub widen_fits : (f : Frame) → Fits narrow f → Fits wide f
+pub widen_fits : (f : Frame) → FrameFits narrow f → FrameFits wide f
 widen_fits f h = go f (view f) h
   where
-    go : (f : Frame) → View f → Fits narrow f → Fits wide f
+    go : (f : Frame) → View f → FrameFits narrow f → FrameFits wide f
     go f (a_type_lem p) h = omega arith
     go f (a_node_lem n p x q) h =
         let k = subst (ExprFits narrow) q h.2 in
@@ -108,14 +109,14 @@ widen_writable f w = record { fits = widen_fits f w.fits; short = go f (view f) 
     go f (plain y) h = subst (λ s. length s ≤ max_bytes) (sym y.same) h
 
 -- none of its numbers is above
-pub narrow_fits : (f : Frame) → Fits wide f → any_of is_above (predicates f) ≡ false → Fits narrow f
+pub narrow_fits : (f : Frame) → FrameFits wide f → any_of is_above (predicates f) ≡ false → FrameFits narrow f
 unfolding predicates shape_predicates expr_predicates any_of is_above
 narrow_fits f h a = go f (view f) h a
   where
     below : (p : ℕ) → any_of is_above (p ∷ []) ≡ false → p < 65536
     below p a = cases (leb 65536 p) (λ q. clash (sym (rw (q, any_of)) ∙ a)) (λ q. leb-false 65536 p q)
 
-    go : (f : Frame) → View f → Fits wide f → any_of is_above (predicates f) ≡ false → Fits narrow f
+    go : (f : Frame) → View f → FrameFits wide f → any_of is_above (predicates f) ≡ false → FrameFits narrow f
     go f (a_type_lem p) h a = below p a
     go f (a_node_lem n p x q) h a =
         let k = subst (ExprFits wide) q h.2 in
@@ -124,14 +125,14 @@ narrow_fits f h a = go f (view f) h a
     go f (plain y) h a = y.narrows h
 
 -- and back: what fits the narrow edition is not above
-pub fits_low : (f : Frame) → Fits narrow f → any_of is_above (predicates f) ≡ false
+pub fits_low : (f : Frame) → FrameFits narrow f → any_of is_above (predicates f) ≡ false
 unfolding predicates shape_predicates expr_predicates any_of is_above
 fits_low f h = go f (view f) h
   where
     low : (p : ℕ) → p < 65536 → any_of is_above (p ∷ []) ≡ false
     low p l = rw (lt-leb 65536 p l, any_of)
 
-    go : (f : Frame) → View f → Fits narrow f → any_of is_above (predicates f) ≡ false
+    go : (f : Frame) → View f → FrameFits narrow f → any_of is_above (predicates f) ≡ false
     go f (a_type_lem p) h = low p h
     go f (a_node_lem n p x q) h = subst (λ y. any_of is_above (expr_predicates y) ≡ false) (sym q) (low p (subst (ExprFits narrow) q h.2).0)
     go f (plain y) h = ap (any_of is_above) y.none

@@ -3,14 +3,14 @@
 use Rattle.std.specs.Prelude.{Bool, true, false, ℕ, leb, ltb}
 use mathlib.Core.List.{List, [], ◌∷◌, map, flat_map}
 use Rattle.unification.specs.Ty.{Int, String, Bytes, Fact}
-use Rattle.meaning.specs.Syntax.{ExprKind}
-use Rattle.meaning.specs.Lines.{lines}
-use Rattle.meaning.specs.Frame.{Edition, narrow, wide, TypeShape, a_leaf, a_record, a_union, Frame, the_limits, a_name, a_type, a_predicate, a_node, the_query}
-use Rattle.meaning.specs.SoFar.{Said, malformed, unknown_kind, no_frame, frames, said}
-use Rattle.meaning.specs.Conditions.{any_of}
-use Rattle.meaning.specs.Refusal.{work_too_short, number_too_wide}
-use Rattle.meaning.specs.File.{Reading, refused, described, reading_of}
-use Rattle.meaning.specs.Writing.{file_of}
+use Rattle.format.specs.Syntax.{ExprKind}
+use Rattle.format.specs.Lines.{lines}
+use Rattle.format.specs.Frame.{Edition, narrow, wide, TypeShape, a_leaf, a_record, a_union, Frame, the_limits, a_name, a_type, a_predicate, a_node, the_query}
+use Rattle.format.specs.SoFar.{Said, malformed, unknown_kind, no_frame, frames, said}
+use Rattle.format.specs.Conditions.{any_of}
+use Rattle.format.specs.Refusal.{work_too_short, number_too_wide}
+use Rattle.format.specs.File.{Reading, refused, described, reading_of}
+use Rattle.format.specs.Writing.{file_of}
 use Rattle.meaning.specs.Outcome.{Decided, turned_down, answered, min_words, Outcome, finish}
 
 -- the frames that a file's lines say, in file order

@@ -9,24 +9,24 @@ use native.Mathlib.Omega.{arith}
 use lib.Dec.{ltb}
 use lib.ListN.{length, replicate}
 use Rattle.unification.specs.Ty.{Ty}
-use Rattle.unification.specs.Calls.{Entry}
+use Rattle.unification.specs.Calls.{UnifyEntry}
 use Rattle.unification.proofs.Tests.{clash}
-use Rattle.meaning.specs.Syntax.{Ast}
-use Rattle.meaning.specs.Schema.{Schema}
-use Rattle.meaning.specs.Refusal.{Refusal}
-use Rattle.meaning.specs.All.{All, Each}
-use Rattle.meaning.specs.File.{Form, view_of, Reading, refused, described, reading}
-use Rattle.meaning.specs.Sound.{Sound}
+use Rattle.format.specs.Syntax.{Ast}
+use Rattle.format.specs.Schema.{Schema}
+use Rattle.format.specs.Refusal.{Refusal}
+use Rattle.format.specs.All.{All, Each}
+use Rattle.format.specs.File.{Form, view_of, Reading, refused, described, reading}
+use Rattle.format.specs.Sound.{Sound}
 use Rattle.meaning.specs.Messages.{text_in}
 use Rattle.meaning.specs.Check.{Checker, Step, goes, out, entry, begin_until, query, Typed, typed, checked, check, reversed}
 use Rattle.meaning.specs.Run.{EntryLed, ending, run}
 use Rattle.meaning.specs.Outcome as Outcome
 use Rattle.meaning.specs.Outcome.{min_words, max_visits, answered, decide_run, decide_read, decide, run_all}
-use Rattle.meaning.proofs.Lists.{all_append, all_map}
-use Rattle.meaning.proofs.Tests.{cases}
+use Rattle.format.proofs.Lists.{all_append, all_map}
+use Rattle.format.proofs.Tests.{cases}
 use Rattle.meaning.proofs.Forms.{Ran, Runs, all_ran, one_out, runs}
 use Rattle.meaning.proofs.Run.{sound_well_formed, run_entries}
-use Rattle.meaning.proofs.Sound.{sound}
+use Rattle.format.proofs.Sound.{sound}
 use Rattle.laws.proofs.Agree.{Lit, dark_goes, dark_out, shines}
 use Rattle.laws.proofs.Run.{reversed_all}
 use Rattle.laws.proofs.Until.{run_until_lem}
@@ -79,8 +79,8 @@ module _ (schema : Schema) (a : Ast) where
   pub record StopsAt (n : ℕ) : Type 0 where
     pub at : Checker
     pub is : run_to n ≡ out at
-    pub here : Entry
-    pub older : List Entry
+    pub here : UnifyEntry
+    pub older : List UnifyEntry
     pub newest : at.entries ≡ here ∷ older
     pub count : length older ≡ n
     pub before : here.before ≡ at.state.subst
@@ -103,7 +103,7 @@ module _ (schema : Schema) (a : Ast) where
         go s s' is q (dark_goes t b z) = let same : b ≡ c = cc q in absurd (omega (arith, entries_many, ap (λ (x : Checker). length x.entries) same))
         go s s' is q (dark_out b z) = clash (cc q)
         go s s' is q (shines _ b (x, older, p, m, f) l) =
-            let all : c.entries ≡ l.entered ++ x ∷ older = sym (ap (λ (k : Step Ty). (ending k).entries) q) ∙ l.entries ∙ ap {B = List Entry}
+            let all : c.entries ≡ l.entered ++ x ∷ older = sym (ap (λ (k : Step Ty). (ending k).entries) q) ∙ l.entries ∙ ap {B = List UnifyEntry}
             (λ es. l.entered ++ es) p in
             record {
               at = b;
@@ -113,15 +113,15 @@ module _ (schema : Schema) (a : Ast) where
               newest = p;
               count = m;
               before = f;
-              nth_is = ap {B = Option Entry} (λ es. nth es n)
-                  (entries_are ∙ ap {B = List Entry} (λ es. reversed es []) all ∙ reversed_append l.entered (x ∷ older) [])
+              nth_is = ap {B = Option UnifyEntry} (λ es. nth es n)
+                  (entries_are ∙ ap {B = List UnifyEntry} (λ es. reversed es []) all ∙ reversed_append l.entered (x ∷ older) [])
                   ∙ (let k : n ≡ length older + 0 = omega (arith, m) in rw k (nth_behind older (x ∷ reversed l.entered []) 0));
             }
 
 -- ---- Where the n-th is found
 
 -- It is one of a run that goes to its end.
-abbrev pub Reached : Entry → Type 0
+abbrev pub Reached : UnifyEntry → Type 0
 Reached e = (nodes : ℕ) × EntryLed max_visits (replicate nodes None) e
 
 all_nth : {A : Type 0} (P : A → Type 0) (xs : List A) (n : ℕ) (x : A) → All P xs → nth xs n ≡ Some x → P x
@@ -161,7 +161,7 @@ module _ (file : List ℕ) (n words : ℕ) where
       same : {i : Refusal} → (Outcome.turned_down i ≡ Outcome.turned_down r) ↔ (turned_down i ≡ turned_down r)
       same {i} = (λ e. let z : i ≡ r = cc in ap turned_down z, λ e. let z : i ≡ r = cc in ap Outcome.turned_down z)
 
-      never : (o : Option Entry) → among o ≡ turned_down r → ⊥
+      never : (o : Option UnifyEntry) → among o ≡ turned_down r → ⊥
       never None e = clash (cc e)
       never (Some x) e = clash (cc e)
 
@@ -175,12 +175,12 @@ module _ (file : List ℕ) (n words : ℕ) where
       read (described f) = run_by f.schema f.queries f (run_all f.schema f.queries)
 
   -- Where it is found, what the plain solver's theorems ask for holds of it.
-  pub sought_led : (e : Entry) → entry_at file n words ≡ found e → Reached e
+  pub sought_led : (e : UnifyEntry) → entry_at file n words ≡ found e → Reached e
   unfolding entry_at sought_read sought_run among
   sought_led e z = cases (ltb words min_words) (λ q. let k : turned_down _ ≡ found e = rw (q, entry_at) at z in clash (cc k))
       (λ q. read (reading file) refl (rw (q, entry_at) at z))
     where
-      is_some : (o : Option Entry) → among o ≡ found e → o ≡ Some e
+      is_some : (o : Option UnifyEntry) → among o ≡ found e → o ≡ Some e
       is_some None h = clash (cc h)
       is_some (Some x) h = let k : x ≡ e = cc h in ap Some k
 

@@ -2,21 +2,21 @@
 -- queries' runs in order, with one count; each entry has its sides and the bindings right before it. Entries that fail,
 -- that are rolled back later, or that have Error on a side are entries too.
 use Rattle.std.specs.Prelude.{true, false, List, [], ◌∷◌, ◌++◌, ℕ, zero, suc, ltb, None, Option, Some}
-use Rattle.unification.specs.Calls.{Entry}
-use Rattle.meaning.specs.Syntax.{Ast}
-use Rattle.meaning.specs.Schema.{Schema}
-use Rattle.meaning.specs.Refusal.{Refusal, work_too_short, too_many_visits}
-use Rattle.meaning.specs.File.{Reading, refused, described, reading_of, reading}
+use Rattle.unification.specs.Calls.{UnifyEntry}
+use Rattle.format.specs.Syntax.{Ast}
+use Rattle.format.specs.Schema.{Schema}
+use Rattle.format.specs.Refusal.{Refusal, work_too_short, too_many_visits}
+use Rattle.format.specs.File.{Reading, refused, described, reading_of, reading}
 use Rattle.meaning.specs.Check.{Typed, reversed}
 use Rattle.meaning.specs.Run.{ending, run}
 use Rattle.meaning.specs.Outcome.{min_words, max_visits, run_all}
 
 -- Those of a query's whole run, the first one first.
-unfoldable pub entries_of : Schema → Ast → List Entry
+unfoldable pub entries_of : Schema → Ast → List UnifyEntry
 unfolding run ending reversed max_visits
 entries_of schema a = reversed (ending (run schema a max_visits)).entries []
 
-unfoldable pub entries_all : Schema → List Ast → List Entry
+unfoldable pub entries_all : Schema → List Ast → List UnifyEntry
 unfolding entries_of
 entries_all schema [] = []
 entries_all schema (a ∷ more) = entries_of schema a ++ entries_all schema more
@@ -27,11 +27,11 @@ nth (x ∷ xs) zero = Some x
 nth (x ∷ xs) (suc n) = nth xs n
 
 pub data Sought : Type 0 where
-  found : Entry → Sought
+  found : UnifyEntry → Sought
   fewer : Sought
   turned_down : Refusal → Sought
 
-unfoldable pub among : Option Entry → Sought
+unfoldable pub among : Option UnifyEntry → Sought
 among None = fewer
 among (Some e) = found e
 

@@ -4,11 +4,12 @@ use native.Mathlib.Decide.{ℕ_discrete}
 use mathlib.Core.Path.{refl}
 use Rattle.unification.specs.Bindings as Bindings
 use Rattle.unification.specs.Unify as Unify
-use Rattle.meaning.specs.Table.{at_limits, holds, Rows, end, ◌then◌, wholes, ends}
+use Rattle.meaning.specs.Table.{at_limits, holds, TableRows, end, ◌then◌, wholes, ends}
 
 -- The last that passes and the first that does not.
-pub limit_examples : Rows holds at_limits
-unfolding at_limits holds ℕ_discrete Bindings.fresh Bindings.fresh_id Bindings.annotate Bindings.snapshot Bindings.rollback Bindings.zonk Unify.unify Unify.orderable
+pub limit_examples : TableRows holds at_limits
+unfolding at_limits holds ℕ_discrete Bindings.fresh Bindings.fresh_id Bindings.annotate Bindings.snapshot Bindings.rollback Bindings.zonk Unify.unify
+    Unify.orderable
 limit_examples =
     -- 65,537 bytes
     refl then
@@ -27,8 +28,9 @@ limit_examples =
     end
 
 -- The result and both slices.
-pub whole_outcomes : Rows ends wholes
-unfolding wholes ends ℕ_discrete Bindings.fresh Bindings.fresh_id Bindings.annotate Bindings.snapshot Bindings.rollback Bindings.zonk Unify.unify Unify.orderable
+pub whole_outcomes : TableRows ends wholes
+unfolding wholes ends ℕ_discrete Bindings.fresh Bindings.fresh_id Bindings.annotate Bindings.snapshot Bindings.rollback Bindings.zonk Unify.unify
+    Unify.orderable
 whole_outcomes =
     -- M in 27 bytes
     refl then

@@ -9,12 +9,12 @@ use native.Mathlib.Omega.{arith}
 use lib.Dec.{ltb}
 use lib.ListN.{length, get_or, take, drop, set, length-append, length-set}
 use lib.Seq.{take-suc-set, length-take-le}
-use Rattle.meaning.specs.Lines.{LF, lines, digit, decoded, some_bytes}
+use Rattle.format.specs.Lines.{LF, lines, digit, decoded, some_bytes}
 use Rattle.sigla_hex.specs.Digits.{byte_of, pair_at, first_line, line_at}
 use Rattle.sigla_hex.proofs.Line.{pair_within, pair_past, decoded_none, lines_at_end, head_line, others, decoded_line, decoded_at, others_at, prefixed}
 use Rattle.sigla_hex.proofs.Line.{prefixed_nil, prefixed_twice, lines_at_LF, lines_split, decoded_on, others_on}
 use Rattle.sigla_hex.proofs.Bytes.{From, ends, from, bytes_of_lem, bytes_enough, bytes_too_many}
-use Rattle.frames.specs.Promises.{BytesAt, Malformed, Decodes}
+use Rattle.frames.specs.Promises.{BytesAt, MalformedAt, Decodes}
 use Rattle.std.specs.Prelude.{None, Option, Some}
 
 -- ---- Two digits
@@ -69,7 +69,7 @@ module _ {f : List ℕ} {at : ℕ} {line : List ℕ} {i n : ℕ} (r : SoFar f at
       }
 
   module _ (begins : at < length f) where
-    malformed : some_bytes (decoded_at f at) ≡ None → Malformed f at
+    malformed : some_bytes (decoded_at f at) ≡ None → MalformedAt f at
     malformed e = record {
       first = head_line (lines (drop at f));
       rest = others_at f at;
@@ -77,7 +77,7 @@ module _ {f : List ℕ} {at : ℕ} {line : List ℕ} {i n : ℕ} (r : SoFar f at
       bytes = bytes_of_lem (head_line (lines (drop at f))) ∙ e;
     }
 
-    pub no_bytes : decoded_at f i ≡ None → Malformed f at
+    pub no_bytes : decoded_at f i ≡ None → MalformedAt f at
     unfolding some_bytes
     no_bytes e = malformed (ap some_bytes (r.holds ∙ ap (prefixed (take n line)) e))
 
@@ -87,7 +87,7 @@ module _ {f : List ℕ} {at : ℕ} {line : List ℕ} {i n : ℕ} (r : SoFar f at
       closed_here e = r.holds ∙ ap (prefixed (take n line)) (ap (λ ls. decoded_line (head_line ls)) (lines_at_LF f i here e)) ∙ ap Some
           (append-nil (take n line))
 
-      pub empty : get_or f i 0 ≡ LF → n ≡ 0 → Malformed f at
+      pub empty : get_or f i 0 ≡ LF → n ≡ 0 → MalformedAt f at
       unfolding some_bytes
       empty e z = malformed (ap some_bytes (closed_here e ∙ ap (λ k. Some (take k line)) z))
 
@@ -107,7 +107,7 @@ module _ {f : List ℕ} {at : ℕ} {line : List ℕ} {i n : ℕ} (r : SoFar f at
             within = omega arith;
           }
 
-      pub too_long : (get_or f i 0 ≡ LF → ⊥) → 512 ≤ n → Malformed f at
+      pub too_long : (get_or f i 0 ≡ LF → ⊥) → 512 ≤ n → MalformedAt f at
       unfolding some_bytes
       too_long other h = malformed (ap some_bytes r.holds ∙ go (decoded_at f i) refl)
         where
@@ -124,7 +124,7 @@ module _ {f : List ℕ} {at : ℕ} {line : List ℕ} {i n : ℕ} (r : SoFar f at
 
 -- ---- The answers
 
-pub bad : {f : List ℕ} {at : ℕ} {line : List ℕ} {i n : ℕ} → SoFar f at line i n → (at < length f → Malformed f at) → Decodes f at line None
+pub bad : {f : List ℕ} {at : ℕ} {line : List ℕ} {i n : ℕ} → SoFar f at line i n → (at < length f → MalformedAt f at) → Decodes f at line None
 bad r m = record { room = r.room; holds = tt; fails = λ _. m }
 
 pub good : {f : List ℕ} {at : ℕ} {line : List ℕ} {i n next : ℕ} → SoFar f at line i n → BytesAt f at line n next → Decodes f at line (Some (n, next))

@@ -9,8 +9,8 @@ use denote.Enum.Bare.{sameb}
 use denote.Enum.Enum.{tag}
 use denote.Enum.Declared.{intoss}
 use denote.Struct.Field.{rows}
-use Rattle.meaning.specs.Frame as Frame
-use Rattle.meaning.specs.Frame.{limits, name, schema_type, predicate, node, query, kind_byte, kind_of, repeatable, rises, follows, may_stand}
+use Rattle.format.specs.Frame as Frame
+use Rattle.format.specs.Frame.{limits, name, schema_type, predicate, node, query, kind_byte, kind_of, repeatable, rises, follows, may_stand}
 use Rattle.frames.specs.contracts.Kind.{the_type, as_values}
 use Rattle.frames.specs.declared.Kind.{Kind}
 use Rattle.frames.specs.declared.Kind.TheVariants.{Limits, Name, SchemaType, Predicate, Node, Query}

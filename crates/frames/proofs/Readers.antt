@@ -10,9 +10,9 @@ use lib.Dec.{eqb, ltb}
 use lib.ListN.{length, drop, length-drop, drop_of_length-le}
 use borrow.Author.Tests.{eq-eqb, ne_eqb, ltb-true, ltb-false}
 use Rattle.sigla_hex.proofs.Line.{from_here}
-use Rattle.meaning.specs.Syntax.{Field}
-use Rattle.meaning.specs.Frame.{Edition, narrow, wide, Alternative, Got, got, fails, Reader, and_then, nothing, one, pair, triple, byte, two, four, many_in}
-use Rattle.meaning.specs.Frame.{many, field, alternative, reference, whole}
+use Rattle.format.specs.Syntax.{Field}
+use Rattle.format.specs.Frame.{Edition, narrow, wide, Alternative, Got, got, fails, Reader, and_then, nothing, one, pair, triple, byte, two, four, many_in}
+use Rattle.format.specs.Frame.{many, field, alternative, reference, whole}
 use Rattle.frames.specs.Promises.{byte_w, half_w, full_w, reference_size, reference_w, wholly}
 use Rattle.frames.specs.Items.{field_at, alternative_at, items_at}
 

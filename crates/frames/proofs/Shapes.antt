@@ -9,9 +9,9 @@ use lib.Dec.{eqb, ltb, leb}
 use lib.ListN.{length, get_or, drop, drop_of_length-le, get_or-eq_default}
 use borrow.Author.Tests.{ne_eqb, eqb-true, eqb-false, ltb-true, ltb-false, le-leb, lt-leb}
 use Rattle.sigla_hex.proofs.Line.{from_here}
-use Rattle.meaning.specs.Frame.{Edition, limits, name, schema_type, predicate, node, query, the_limits, a_type, a_predicate, a_node, the_query, Got, got, fails}
-use Rattle.meaning.specs.Frame.{Reader, and_then, nothing, one, pair, triple, byte, two, many, entry, choice, type_shapes, value_types}
-use Rattle.meaning.specs.Frame.{head_and_body, expr_kinds, span_and_kind, rest, frame, whole, frame_of}
+use Rattle.format.specs.Frame.{Edition, limits, name, schema_type, predicate, node, query, the_limits, a_type, a_predicate, a_node, the_query, Got, got, fails}
+use Rattle.format.specs.Frame.{Reader, and_then, nothing, one, pair, triple, byte, two, many, entry, choice, type_shapes, value_types}
+use Rattle.format.specs.Frame.{head_and_body, expr_kinds, span_and_kind, rest, frame, whole, frame_of}
 use Rattle.frames.specs.Promises.{byte_w, half_w, reference_size, wholly, is_frame, size_w, type_shape, value_type, statement, expr_kind}
 use Rattle.frames.proofs.Readers.{Sized, sized_nothing, sized_byte, sized_two, sized_four, sized_reference, sized_one, sized_pair, sized_field}
 use Rattle.frames.proofs.Readers.{sized_alternative, many_end, many_stop, items_test}
@@ -76,7 +76,8 @@ module _ {A : Type 0} {r : Reader A} {m : ℕ} {v : List ℕ → ℕ → A} (p :
   after_test f t on short = go (ltb (length s) (i + suc m)) refl
     where
       go : (u : Bool) → ltb (length s) (i + suc m) ≡ u → wholly (and_then (r (drop i s)) f) ≡ t
-      go true e = let h = ltb-true (length s) (i + suc m) e in fails_test (and_then (r (drop i s)) f) (ap (λ g. and_then g f) (lacks_anywhere h)) ∙ sym (short h)
+      go true e =
+          let h = ltb-true (length s) (i + suc m) e in fails_test (and_then (r (drop i s)) f) (ap (λ g. and_then g f) (lacks_anywhere h)) ∙ sym (short h)
       go false e = let h = ltb-false (length s) (i + suc m) e in ap (λ g. wholly (and_then g f)) (p.reads s i h) ∙ on h
 
 -- ---- A byte that says how to go on
@@ -218,7 +219,8 @@ module _ (ed : Edition) (s : List ℕ) where
   query_test = one_test the_query head_and_body (drop 1 s) ∙ body_test 1
 
   pub query_body : 3 ≤ length s → wholly (many statement (slice_range s 3 (length s))) ≡ is_frame ed (Some query) (drop 1 s)
-  query_body h = ap (λ t. wholly (many statement t)) (to_end s 3) ∙ sym (query_test ∙ ap (λ t. (t && wholly (many statement (drop 3 s)))) (le-leb 3 (length s) h))
+  query_body h =
+      ap (λ t. wholly (many statement t)) (to_end s 3) ∙ sym (query_test ∙ ap (λ t. (t && wholly (many statement (drop 3 s)))) (le-leb 3 (length s) h))
 
   -- 00 to 10
   abbrev pub node_tests : List Bool

@@ -10,8 +10,8 @@ use lib.Dec.{eqb, ltb}
 use lib.ListN.{length, drop, length-drop, drop_of_length-le}
 use borrow.Author.Tests.{eqb-true, eqb-false, ltb-true, ltb-false}
 use Rattle.sigla_hex.proofs.Line.{from_here}
-use Rattle.meaning.specs.Syntax.{QueryStmt}
-use Rattle.meaning.specs.Frame.{Got, got, fails, Reader, and_then, one, pair, two, many, entry, choice, statements}
+use Rattle.format.specs.Syntax.{QueryStmt}
+use Rattle.format.specs.Frame.{Got, got, fails, Reader, and_then, one, pair, two, many, entry, choice, statements}
 use Rattle.frames.specs.Promises.{byte_w, half_w, size_w, statement}
 use Rattle.frames.specs.Items.{statement_of, statement_at, Fill, end, then}
 use Rattle.frames.proofs.Readers.{sized_one, sized_pair, sized_two, Shrinks, many_end, many_stop, many_step}
@@ -89,7 +89,8 @@ module _ (s : List ℕ) (i : ℕ) where
 
 -- What stands where bytes are left.
 pub data Next (s : List ℕ) (i : ℕ) : Type 0 where
-  reads : 0 < size_w (byte_w s i) → i + size_w (byte_w s i) ≤ length s → statement (drop i s) ≡ got (statement_at s i) (drop (i + size_w (byte_w s i)) s) → Next s i
+  reads : 0 < size_w (byte_w s i) → i + size_w (byte_w s i) ≤ length s → statement (drop i s) ≡ got (statement_at s i) (drop (i + size_w (byte_w s i)) s)
+      → Next s i
   stops : statement (drop i s) ≡ fails → Next s i
 
 pub next : (s : List ℕ) (i : ℕ) → i < length s → Next s i
@@ -126,7 +127,8 @@ statements_step s i p h =
 pub statements_of : (s : List ℕ) (i : ℕ) (xs : List QueryStmt) → Fill s i xs → many statement (drop i s) ≡ got xs []
 unfolding one and_then
 statements_of s i [] (end e) = many_end statement s i (omega arith)
-statements_of s i (x ∷ xs) (then p h f) = statements_step s i p h ∙ ap (λ g. and_then g (λ more. got (x ∷ more))) (statements_of s (i + size_w (byte_w s i)) xs f)
+statements_of s i (x ∷ xs) (then p h f) =
+    statements_step s i p h ∙ ap (λ g. and_then g (λ more. got (x ∷ more))) (statements_of s (i + size_w (byte_w s i)) xs f)
 
 data Opened (s : List ℕ) (i : ℕ) (t : List ℕ) : List QueryStmt → Type 0 where
   nothing_left : i ≡ length s → t ≡ [] → Opened s i t []

@@ -1,8 +1,8 @@
 -- Parts of a frame by their places: fields and alternatives of a type, items of one size, and statements that fill a
 -- line.
 use Rattle.std.specs.Prelude.{List, [], ◌∷◌, ◌≡◌, ℕ, zero, suc, ◌+◌, ◌<◌, ◌≤◌, length, get_or}
-use Rattle.meaning.specs.Syntax.{Field, QueryStmt}
-use Rattle.meaning.specs.Frame.{Alternative}
+use Rattle.format.specs.Syntax.{Field, QueryStmt}
+use Rattle.format.specs.Frame.{Alternative}
 use Rattle.frames.specs.Promises.{byte_w, half_w, full_w, size_w}
 
 abbrev pub field_at : List ℕ → ℕ → Field

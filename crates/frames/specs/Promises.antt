@@ -1,9 +1,9 @@
 -- What the functions of src/ promise, in the terms of the definitions of a file's lines and frames.
 use Rattle.std.specs.Prelude.{Bool, true, false, List, [], ◌∷◌, ◌≡◌, ℕ, ◌+◌, ◌*◌, ◌<◌, ◌≤◌, length, get_or, take, drop, None, Option, Some, IfSome}
-use Rattle.meaning.specs.Lines.{Line, lines, bytes_of}
-use Rattle.meaning.specs.Syntax.{QueryStmt, ExprKind}
-use Rattle.meaning.specs.Frame as Frame
-use Rattle.meaning.specs.Frame.{may_stand, Got, Reader, choice, TypeShape, type_shapes, value_types, statements, expr_kinds, whole, frame_of}
+use Rattle.format.specs.Lines.{Line, lines, bytes_of}
+use Rattle.format.specs.Syntax.{QueryStmt, ExprKind}
+use Rattle.format.specs.Frame as Frame
+use Rattle.format.specs.Frame.{may_stand, Got, Reader, choice, TypeShape, type_shapes, value_types, statements, expr_kinds, whole, frame_of}
 use Rattle.frames.specs.declared.Kind.{Kind}
 use Rattle.frames.specs.declared.Kind.TheVariants.{Limits, Name, SchemaType, Predicate, Node, Query}
 use Rattle.frames.specs.declared.Edition.{Edition}
@@ -23,7 +23,7 @@ pub record BytesAt (file : List ℕ) (at : ℕ) (line : List ℕ) (n next : ℕ)
   pub within : next ≤ length file
 
 -- The line at a place meets condition 3.
-pub record Malformed (file : List ℕ) (at : ℕ) : Type 0 where
+pub record MalformedAt (file : List ℕ) (at : ℕ) : Type 0 where
   pub first : Line
   pub rest : List Line
   pub splits : lines (drop at file) ≡ first ∷ rest
@@ -32,7 +32,7 @@ pub record Malformed (file : List ℕ) (at : ℕ) : Type 0 where
 pub record Decodes (file : List ℕ) (at : ℕ) (line : List ℕ) (r : Option (ℕ × ℕ)) : Type 0 where
   pub room : length line ≡ 512
   pub holds : IfSome r (λ p. BytesAt file at line p.0 p.1)
-  pub fails : r ≡ None → at < length file → Malformed file at
+  pub fails : r ≡ None → at < length file → MalformedAt file at
 
 -- ---- Kinds
 

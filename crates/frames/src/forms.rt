@@ -1,6 +1,6 @@
 // Frames: which kind may follow which, big-endian numbers, and the form of each kind.
 ghost use Rattle.std.specs.Prelude.{◌≡◌, ◌<◌, ◌≤◌, length, drop, MatchOption};
-ghost use Rattle.meaning.specs.Frame.{kind_of, schema_type, predicate, node, query, many};
+ghost use Rattle.format.specs.Frame.{kind_of, schema_type, predicate, node, query, many};
 ghost use Rattle.frames.specs.Promises.{known, stands, byte_w, half_w, full_w, edition_of, reference_size, reference_w, wholly, is_frame, Formed, size_w, statement};
 
 use crate::{Edition, Kind};
@@ -17,7 +17,7 @@ const FOLLOWS: [[bool; 6]; 6] = [
 ];
 
 // None says it all, so no `TryFrom`: its error would be a type with nothing in it, which each caller drops.
-#[tactic(auto, unfolding(meaning::specs::Frame::kind_of), using(crate::proofs::Following::no_kind))]
+#[tactic(auto, unfolding(format::specs::Frame::kind_of), using(crate::proofs::Following::no_kind))]
 pub fn kind_of(b: u8) -> Option<Kind>
     ensures { known result ≡ kind_of b }
 {

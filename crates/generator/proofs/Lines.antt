@@ -1,17 +1,18 @@
 -- What each line of the code is in the rule: the schema's by their numbers, a node by its place in a block, a query by its row.
-use Rattle.std.proofs.Common.{◌≡◌, ℕ, suc, ◌+◌, ◌-◌, ◌*◌, ◌%◌, ◌<◌, ◌≤◌, Bool, true, false, eqb, leb, ◌⊎◌, List, [], ◌∷◌, ◌++◌, map, length, get_or, drop, None, Option, Some, sym, refl, ap, ◌∙◌, subst, ⊎_elim, append_assoc, add-one, arith, drop_of_length-le, drop-cons, eq-eqb, ne_eqb, eqb-true, leb-true}
+use Rattle.std.proofs.Common.{◌≡◌, ℕ, suc, ◌+◌, ◌-◌, ◌*◌, ◌%◌, ◌<◌, ◌≤◌, Bool, true, false, eqb, leb, ◌⊎◌, List, [], ◌∷◌, ◌++◌, map, length, get_or, drop, None}
+use Rattle.std.proofs.Common.{Option, Some, sym, refl, ap, ◌∙◌, subst, ⊎_elim, append_assoc, add-one, arith, drop_of_length-le, drop-cons, eq-eqb, ne_eqb}
+use Rattle.std.proofs.Common.{eqb-true, leb-true}
 use mathlib.Core.List.{flat_map}
 use Rattle.std.proofs.lemmas.List.{get_or-map}
 use Rattle.std.specs.Prelude.{◌&&◌}
 use Rattle.std.proofs.lemmas.Bool.{and_parts, agree_below, agree_below_at}
-use Rattle.meaning.specs.Syntax.{ExprKind}
-use Rattle.meaning.specs.Diag.{ascii}
-use Rattle.meaning.specs.Frame.{wide, kind_byte, a_record, Frame, a_name, a_node, frame_kind}
-use Rattle.meaning.specs.Answer.{bytes₂, bytes₄, hex_line}
-use Rattle.meaning.specs.All.{All}
-use Rattle.meaning.specs.Content.{schema_frames}
-use Rattle.meaning.specs.Writing.{as_shape, as_node, as_expr, as_content, written, file_of}
-use Rattle.meaning.proofs.Lists.{all_at}
+use Rattle.format.specs.Syntax.{ExprKind}
+use Rattle.format.specs.Bytes.{ascii, bytes₂, bytes₄, hex_line}
+use Rattle.format.specs.Frame.{wide, kind_byte, a_record, Frame, a_name, a_node, frame_kind}
+use Rattle.format.specs.All.{All}
+use Rattle.format.specs.Content.{schema_frames}
+use Rattle.format.specs.Writing.{as_shape, as_node, as_expr, as_content, written, file_of}
+use Rattle.format.proofs.Lists.{all_at}
 use Rattle.testload.specs.Rule.{limit, limits, names, base, simple, compound, predicates, predicate, leaves, pairs}
 use Rattle.testload.specs.Rule.{singles, exprs, expr_at, from, choice, node_of, limits_of, simple_of, compound_of, predicate_of, content_of}
 use Rattle.writer.specs.Writes.{Writes, hex_of}
@@ -131,7 +132,8 @@ module _ (ws : List ℕ) where
   Chosen l = choice ws l < 16 → HasRow l (choice ws l)
 
   fixed_lines : All Fixed (from 1 16)
-  unfolding Fixed HasRow from kind_at table_at schema_frames content_of written as_content frame_kind kind_byte names base content joined tables as_shape ascii bytes₂
+  unfolding Fixed HasRow from kind_at table_at schema_frames content_of written as_content frame_kind kind_byte names base content joined tables as_shape ascii
+      bytes₂
   fixed_lines = (refl, (refl, (refl, (refl, (refl, (refl, (refl, (refl, (refl, (refl, (refl, (refl, (refl, (refl, (refl, (refl, tt))))))))))))))))
 
   chosen_lines : All Chosen chosen_places

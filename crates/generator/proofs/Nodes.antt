@@ -1,11 +1,12 @@
 -- A query line by line, and the queries one after the other: what is left from here on.
-use Rattle.std.proofs.Common.{◌≡◌, ℕ, suc, ◌+◌, ◌-◌, ◌*◌, ◌%◌, ◌<◌, ◌≤◌, List, [], ◌∷◌, ◌++◌, map, get_or, sym, ap, ◌∙◌, subst, append_assoc, append-nil, add-one, arith}
+use Rattle.std.proofs.Common.{◌≡◌, ℕ, suc, ◌+◌, ◌-◌, ◌*◌, ◌%◌, ◌<◌, ◌≤◌, List, [], ◌∷◌, ◌++◌, map, get_or, sym, ap, ◌∙◌, subst, append_assoc, append-nil}
+use Rattle.std.proofs.Common.{add-one, arith}
 use mathlib.Core.List.{flat_map}
 use Rattle.std.proofs.lemmas.List.{get_or-map}
-use Rattle.meaning.specs.Frame.{wide, kind_byte, a_node, the_query, frame_kind}
-use Rattle.meaning.specs.Answer.{bytes₄, hex_line}
-use Rattle.meaning.specs.Content.{query_frames, schema_frames, frames_of}
-use Rattle.meaning.specs.Writing.{as_query, as_content, written, file_of}
+use Rattle.format.specs.Frame.{wide, kind_byte, a_node, the_query, frame_kind}
+use Rattle.format.specs.Bytes.{bytes₄, hex_line}
+use Rattle.format.specs.Content.{query_frames, schema_frames, frames_of}
+use Rattle.format.specs.Writing.{as_query, as_content, written, file_of}
 use Rattle.testload.specs.Rule.{queries, counts, from, choice, node_of, no_plan, plan_of, query_of, count_of, content_of}
 use Rattle.generator.specs.Promises.{tables, content, blocks}
 use Rattle.generator.proofs.Rows.{content_at}
@@ -75,12 +76,14 @@ module _ (ws : List ℕ) where
 
     pub query_next : (n i v : ℕ) → i < n → v ≡ choice ws (33 + 32 * q + i) → v < 16
         → query_from n i
-        ≡ hex_line (5 ∷ bytes₄ (get_or ws (55 + 64 * q + 2 * i) 0) ++ bytes₄ (get_or ws (55 + 64 * q + 2 * i + 1) 0) ++ content i (16 * get_or slots (i % 8) 0 + v))
+        ≡ hex_line (5 ∷ bytes₄ (get_or ws (55 + 64 * q + 2 * i) 0) ++ bytes₄ (get_or ws (55 + 64 * q + 2 * i + 1) 0) ++ content i
+        (16 * get_or slots (i % 8) 0 + v))
         ++ query_from n (i + 1)
     query_next n i v l e h =
         subst
         (λ x. query_from n i
-        ≡ hex_line (5 ∷ bytes₄ (get_or ws (55 + 64 * q + 2 * i) 0) ++ bytes₄ (get_or ws (55 + 64 * q + 2 * i + 1) 0) ++ content i (16 * get_or slots (i % 8) 0 + x))
+        ≡ hex_line (5 ∷ bytes₄ (get_or ws (55 + 64 * q + 2 * i) 0) ++ bytes₄ (get_or ws (55 + 64 * q + 2 * i + 1) 0) ++ content i
+        (16 * get_or slots (i % 8) 0 + x))
         ++ query_from n (i + 1))
         (sym e)
         (next n i l (subst (λ x. x < 16) e h))
@@ -99,7 +102,8 @@ module _ (ws : List ℕ) where
 
   pub queries_start : (v : ℕ) → v ≡ choice ws 27 → v < 16 → queries_from (get_or counts v 0) 0 ≡ file_of wide (flat_map query_frames (content_of ws).queries)
   queries_start v e h =
-      subst (λ x. queries_from (get_or counts x 0) 0 ≡ file_of wide (flat_map query_frames (content_of ws).queries)) (sym e) (all_queries (subst (λ x. x < 16) e h))
+      subst (λ x. queries_from (get_or counts x 0) 0 ≡ file_of wide (flat_map query_frames (content_of ws).queries)) (sym e)
+      (all_queries (subst (λ x. x < 16) e h))
 
   pub queries_next : (n q : ℕ) → q < n → queries_from n q ≡ file_of wide (query_frames (query_of ws q)) ++ queries_from n (q + 1)
   unfolding queries_from flat_map
@@ -111,6 +115,7 @@ module _ (ws : List ℕ) where
   unfolding queries_from file_of flat_map
   queries_end n q l = ap (λ l. file_of wide (flat_map query_frames (map (query_of ws) l))) (from_end q n l)
 
-  pub file_is : file_of wide (frames_of (content_of ws)) ≡ file_of wide (schema_frames (content_of ws)) ++ file_of wide (flat_map query_frames (content_of ws).queries)
+  pub file_is : file_of wide (frames_of (content_of ws)) ≡ file_of wide (schema_frames (content_of ws)) ++ file_of wide
+      (flat_map query_frames (content_of ws).queries)
   unfolding frames_of
   file_is = file_append (schema_frames (content_of ws)) (flat_map query_frames (content_of ws).queries)

@@ -1,9 +1,10 @@
 -- A row is written cell by cell, and the tables stand one after the other.
-use Rattle.std.proofs.Common.{◌≡◌, ℕ, zero, suc, ◌+◌, ◌*◌, ◌<◌, ◌≤◌, List, [], ◌∷◌, ◌++◌, length, get_or, drop, None, Option, Some, sym, refl, ap, ◌∙◌, append_assoc, le_of_suc-le-suc, not-suc-le-zero, add-one, arith, drop-cons, drop_of_length-le, get_or-append-add, ne_eqb}
+use Rattle.std.proofs.Common.{◌≡◌, ℕ, zero, suc, ◌+◌, ◌*◌, ◌<◌, ◌≤◌, List, [], ◌∷◌, ◌++◌, length, get_or, drop, None, Option, Some, sym, refl, ap, ◌∙◌}
+use Rattle.std.proofs.Common.{append_assoc, le_of_suc-le-suc, not-suc-le-zero, add-one, arith, drop-cons, drop_of_length-le, get_or-append-add, ne_eqb}
 use mathlib.Core.List.{flat_map}
 use Rattle.std.proofs.lemmas.List.{get_or_append_left}
-use Rattle.meaning.specs.Answer.{hex_line}
-use Rattle.meaning.specs.All.{All}
+use Rattle.format.specs.Bytes.{hex_line}
+use Rattle.format.specs.All.{All}
 use Rattle.testload.specs.Rule.{limits, names, base, simple, compound, predicates, leaves, pairs, singles, queries, from}
 use Rattle.writer.specs.Writes.{Writes, hex_of}
 use Rattle.writer.proofs.Writing.{writes_then, writes_full, writes_as}

@@ -1,10 +1,10 @@
 -- What the functions of src/ promise: `make` writes the file of the seed, as the rule of crates/testload/specs/Rule.antt has it.
 use Rattle.std.specs.Prelude.{◌≡◌, ℕ, ◌-◌, ◌≤◌, true, false, List, [], ◌∷◌, ◌++◌, map, length, ◌==◌, slice_index_or, None, Option, Some}
-use Rattle.meaning.specs.Refusal.{answer_too_long}
-use Rattle.meaning.specs.Frame.{wide}
-use Rattle.meaning.specs.Answer.{bytes₂}
-use Rattle.meaning.specs.Content.{PredicateFrame}
-use Rattle.meaning.specs.Writing.{as_shape, as_value_type, as_query, as_expr}
+use Rattle.format.specs.Refusal.{answer_too_long}
+use Rattle.format.specs.Frame.{wide}
+use Rattle.format.specs.Bytes.{bytes₂}
+use Rattle.format.specs.Content.{PredicateFrame}
+use Rattle.format.specs.Writing.{as_shape, as_value_type, as_query, as_expr}
 use Rattle.meaning.specs.Outcome.{Result, Accepted, Refused, answered, finish}
 use Rattle.testload.specs.Rule.{Limits, limits, names, base, simple, compound, predicates, leaves, pairs, singles, queries, load_file}
 

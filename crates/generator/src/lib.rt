@@ -3,10 +3,10 @@
 
 ghost use Rattle.std.specs.Prelude.{◌≡◌, ℕ, ◌-◌, ◌/◌, ◌<◌, ◌≤◌, ◌∷◌, ◌++◌, ◌+◌, length, take, drop, slice_index};
 ghost use mathlib.Core.List.{flat_map};
-ghost use Rattle.meaning.specs.Frame.{wide};
-ghost use Rattle.meaning.specs.Answer.{bytes₄, hex_line};
-ghost use Rattle.meaning.specs.Writing.{file_of};
-ghost use Rattle.meaning.specs.Content.{schema_frames, query_frames, frames_of};
+ghost use Rattle.format.specs.Frame.{wide};
+ghost use Rattle.format.specs.Bytes.{bytes₄, hex_line};
+ghost use Rattle.format.specs.Writing.{file_of};
+ghost use Rattle.format.specs.Content.{schema_frames, query_frames, frames_of};
 ghost use Rattle.testload.specs.Words.{next, words};
 ghost use Rattle.testload.specs.Rule.{choice, query_of, content_of};
 ghost use Rattle.writer.specs.Writes.{Writes, hex_of};

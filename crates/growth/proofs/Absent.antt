@@ -7,13 +7,13 @@ use lib.Dec.{leb}
 use lib.ListN.{length}
 use borrow.Author.Tests.{leb-false, lt-leb}
 use Rattle.unification.specs.Ty.{Int, String, Bytes, Fact}
-use Rattle.meaning.specs.Syntax.{ExprKind, Ast}
-use Rattle.meaning.specs.Frame.{TypeShape, a_leaf, a_record, a_union, Frame, the_limits, a_name, a_type, a_node, the_query}
-use Rattle.meaning.specs.Conditions.{any_of}
-use Rattle.meaning.specs.All.{All, Below}
-use Rattle.meaning.specs.Content.{Content, predicate_frame, query_frames, schema_frames, frames_of}
-use Rattle.meaning.proofs.Lists.{all_append, all_left, all_right}
-use Rattle.meaning.proofs.Tests.{none_passes, passes_none}
+use Rattle.format.specs.Syntax.{ExprKind, Ast}
+use Rattle.format.specs.Frame.{TypeShape, a_leaf, a_record, a_union, Frame, the_limits, a_name, a_type, a_node, the_query}
+use Rattle.format.specs.Conditions.{any_of}
+use Rattle.format.specs.All.{All, Below}
+use Rattle.format.specs.Content.{Content, predicate_frame, query_frames, schema_frames, frames_of}
+use Rattle.format.proofs.Lists.{all_append, all_left, all_right}
+use Rattle.format.proofs.Tests.{none_passes, passes_none}
 use Rattle.editions.specs.Converted.{shape_predicates, expr_predicates, predicates}
 use Rattle.laws.specs.Growth.{ShapeFacts, NodeFacts, NoAbsent}
 

@@ -7,13 +7,14 @@ use mathlib.Core.Path.{◌≡◌, refl, sym, ap, subst, ◌∙◌}
 use Prim.Native.Nat.{ℕ, ◌≤◌, ◌<◌}
 use native.Mathlib.Omega.{arith}
 use lib.ListN.{length}
-use Rattle.meaning.specs.Syntax.{Node, Query, Ast}
-use Rattle.meaning.specs.Frame.{kind_byte, name, schema_type, predicate, node, TypeShape, Frame, the_limits, a_name, a_type, a_predicate, a_node, the_query, frame_kind}
-use Rattle.meaning.specs.All.{All}
-use Rattle.meaning.specs.Content.{PredicateFrame, Content, predicate_frame, query_frames, schema_frames, frames_of}
-use Rattle.meaning.proofs.Lists.{all_append}
+use Rattle.format.specs.Syntax.{Node, Query, Ast}
+use Rattle.format.specs.Frame.{kind_byte, name, schema_type, predicate, node, TypeShape, Frame, the_limits, a_name, a_type, a_predicate, a_node, the_query}
+use Rattle.format.specs.Frame.{frame_kind}
+use Rattle.format.specs.All.{All}
+use Rattle.format.specs.Content.{PredicateFrame, Content, predicate_frame, query_frames, schema_frames, frames_of}
+use Rattle.format.proofs.Lists.{all_append}
 use Rattle.laws.specs.Growth.{grow, Grown}
-use Rattle.growth.specs.Lines.{kind_of, Adds}
+use Rattle.growth.specs.Lines.{kind_of, WithAdditions}
 use Rattle.std.specs.Prelude.{Option}
 
 -- ---- One kind
@@ -33,7 +34,7 @@ module _ {A : Type 0} (make : A → Frame) (k : ℕ) (kind : (a : A) → kind_of
   starts j h (a ∷ l) fs s = omega (arith, kind a, h)
 
   module _ (least : kind_byte name ≤ k) (most : k ≤ kind_byte predicate) where
-    all_added : (fs gs : List Frame) → Starts k fs → (more : List A) → Adds fs gs → Adds fs (map make more ++ gs)
+    all_added : (fs gs : List Frame) → Starts k fs → (more : List A) → WithAdditions fs gs → WithAdditions fs (map make more ++ gs)
     all_added fs gs s [] h = h
     all_added [] gs s (m ∷ more) h = absurd s
     all_added (f ∷ fs) gs s (m ∷ more) h =
@@ -46,27 +47,29 @@ module _ {A : Type 0} (make : A → Frame) (k : ℕ) (kind : (a : A) → kind_of
           all_added (f ∷ fs) gs s more h,
         )
 
-    kind_adds : (fs gs : List Frame) → Starts k fs → (old more : List A) → Adds fs gs → Adds (map make old ++ fs) (map make (old ++ more) ++ gs)
+    kind_adds : (fs gs : List Frame) → Starts k fs → (old more : List A) → WithAdditions fs gs
+        → WithAdditions (map make old ++ fs) (map make (old ++ more) ++ gs)
     kind_adds fs gs s [] more h = all_added fs gs s more h
     kind_adds fs gs s (a ∷ old) more h = inl (refl, kind_adds fs gs s old more h)
 
   record Grew (old new : List A) (fs gs : List Frame) : Type 0 where
     more : List A
     are : new ≡ old ++ more
-    rest : Adds fs gs
+    rest : WithAdditions fs gs
 
-  no_more : (a : A) (gs fs : List Frame) → Starts k fs → Adds fs (make a ∷ gs) → Adds fs gs
+  no_more : (a : A) (gs fs : List Frame) → Starts k fs → WithAdditions fs (make a ∷ gs) → WithAdditions fs gs
   no_more a gs [] s h = absurd s
   no_more a gs (f ∷ fs) s (inl h) = absurd (omega (arith, s, kind a, ap kind_of h.0))
   no_more a gs (f ∷ fs) s (inr h) = h.1
 
-  none_lost : (a : A) (fs gs : List Frame) → Starts k gs → Adds (make a ∷ fs) gs → ⊥
+  none_lost : (a : A) (fs gs : List Frame) → Starts k gs → WithAdditions (make a ∷ fs) gs → ⊥
   none_lost a fs [] s h = s
   none_lost a fs (g ∷ gs) s (inl h) = omega (arith, s, kind a, ap kind_of h.0)
   none_lost a fs (g ∷ gs) s (inr h) = omega (arith, s, kind a, h.0.later)
 
   module _ (only : (a b : A) → make a ≡ make b → a ≡ b) where
-    adds_kind : (old new : List A) (fs gs : List Frame) → Starts k fs → Starts k gs → Adds (map make old ++ fs) (map make new ++ gs) → Grew old new fs gs
+    adds_kind : (old new : List A) (fs gs : List Frame) → Starts k fs → Starts k gs → WithAdditions (map make old ++ fs) (map make new ++ gs)
+        → Grew old new fs gs
     adds_kind [] [] fs gs s t h = record { more = []; are = refl; rest = h }
     adds_kind [] (b ∷ new) fs gs s t h =
         let g = adds_kind [] new fs gs s t (no_more b (map make new ++ gs) fs s h) in
@@ -79,7 +82,7 @@ module _ {A : Type 0} (make : A → Frame) (k : ℕ) (kind : (a : A) → kind_of
 
 -- ---- Nodes and queries
 
-no_additions : (fs gs : List Frame) → All (λ g. kind_byte node ≤ kind_of g) gs → Adds fs gs → fs ≡ gs
+no_additions : (fs gs : List Frame) → All (λ g. kind_byte node ≤ kind_of g) gs → WithAdditions fs gs → fs ≡ gs
 unfolding kind_byte
 no_additions [] [] a h = refl
 no_additions [] (g ∷ gs) a h = absurd h
@@ -87,7 +90,7 @@ no_additions (f ∷ fs) [] a h = absurd h
 no_additions (f ∷ fs) (g ∷ gs) a (inl h) = ap (λ l. f ∷ l) (no_additions fs gs a.1 h.1) ∙ ap (λ x. x ∷ gs) h.0
 no_additions (f ∷ fs) (g ∷ gs) a (inr h) = absurd (omega (arith, a.0, h.0.most))
 
-no_change : (fs : List Frame) → Adds fs fs
+no_change : (fs : List Frame) → WithAdditions fs fs
 no_change [] = tt
 no_change (f ∷ fs) = inl (refl, no_change fs)
 
@@ -196,7 +199,7 @@ module _ (c : Content) (some : 1 ≤ length c.queries) where
       (later (kind_byte name) (kind_byte schema_type) (omega arith) (from_predicates c) after_types)
 
 -- A content that has grown.
-pub grown_adds : (c c' : Content) → 1 ≤ length c.queries → Grown c c' → Adds (frames_of c) (frames_of c')
+pub grown_adds : (c c' : Content) → 1 ≤ length c.queries → Grown c c' → WithAdditions (frames_of c) (frames_of c')
 unfolding limits_frame from_names from_types from_predicates from_queries kind_byte
 grown_adds c c' some g =
     let d = grow c g.names g.types g.predicates in
@@ -206,8 +209,9 @@ grown_adds c c' some g =
     (from_predicates c) (from_predicates d) (after_types c some) c.types g.types predicates in
     let names = kind_adds a_name (kind_byte name) name_kind (omega arith) (omega arith)
     (from_types c) (from_types d) (after_names c some) c.names g.names types in
-    let all : Adds (limits_frame c ∷ from_names c) (limits_frame d ∷ from_names d) = inl (refl, names) in
-    subst (λ l. Adds l (frames_of c')) (sym (spread c)) (subst (λ l. Adds (limits_frame c ∷ from_names c) l) (sym (ap frames_of g.is ∙ spread d)) all)
+    let all : WithAdditions (limits_frame c ∷ from_names c) (limits_frame d ∷ from_names d) = inl (refl, names) in
+    subst (λ l. WithAdditions l (frames_of c')) (sym (spread c))
+    (subst (λ l. WithAdditions (limits_frame c ∷ from_names c) l) (sym (ap frames_of g.is ∙ spread d)) all)
 
 -- And back.
 abbrev content : ℕ → ℕ → List (List ℕ) → List TypeShape → List PredicateFrame → List Ast → Content
@@ -246,16 +250,16 @@ same_predicate a b e =
     of : ℕ → ℕ → Option ℕ → PredicateFrame
     of n k v = record { name = n; key = k; value = v }
 
-limits_adds : (f : Frame) (c' : Content) (fs gs : List Frame) → Adds (f ∷ fs) (limits_frame c' ∷ gs) → (f ≡ limits_frame c') × Adds fs gs
+limits_adds : (f : Frame) (c' : Content) (fs gs : List Frame) → WithAdditions (f ∷ fs) (limits_frame c' ∷ gs) → (f ≡ limits_frame c') × WithAdditions fs gs
 unfolding limits_frame kind_byte frame_kind
 limits_adds f c' fs gs (inl h) = h
 limits_adds f c' fs gs (inr h) = absurd (omega (arith, h.0.least))
 
-pub adds_grown : (c c' : Content) → 1 ≤ length c.queries → 1 ≤ length c'.queries → Adds (frames_of c) (frames_of c') → Grown c c'
+pub adds_grown : (c c' : Content) → 1 ≤ length c.queries → 1 ≤ length c'.queries → WithAdditions (frames_of c) (frames_of c') → Grown c c'
 unfolding limits_frame from_names from_types from_predicates from_queries kind_byte distance_of term_of
 adds_grown c c' some some' h =
-    let all : Adds (limits_frame c ∷ from_names c) (limits_frame c' ∷ from_names c') =
-    subst (λ l. Adds (limits_frame c ∷ from_names c) l) (spread c') (subst (λ l. Adds l (frames_of c')) (spread c) h) in
+    let all : WithAdditions (limits_frame c ∷ from_names c) (limits_frame c' ∷ from_names c') =
+    subst (λ l. WithAdditions (limits_frame c ∷ from_names c) l) (spread c') (subst (λ l. WithAdditions l (frames_of c')) (spread c) h) in
     let first = limits_adds (limits_frame c) c' (from_names c) (from_names c') all in
     let names = adds_kind a_name (kind_byte name) name_kind same_name c.names c'.names
     (from_types c) (from_types c') (after_names c some) (after_names c' some') first.1 in

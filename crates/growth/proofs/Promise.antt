@@ -6,12 +6,12 @@ use Prim.Native.Nat.{ℕ}
 use native.Mathlib.Omega.{arith}
 use lib.Dec.{leb}
 use lib.ListN.{length, length-map}
-use Rattle.meaning.specs.Frame.{wide}
-use Rattle.meaning.specs.Conditions.{any_of}
-use Rattle.meaning.specs.File.{Form, described}
-use Rattle.meaning.specs.Content.{frames_of, describes}
+use Rattle.format.specs.Frame.{wide}
+use Rattle.format.specs.Conditions.{any_of}
+use Rattle.format.specs.File.{Form, described}
+use Rattle.format.specs.Content.{frames_of, describes}
 use Rattle.meaning.specs.Outcome.{outcome}
-use Rattle.meaning.proofs.Content.{says_exactly}
+use Rattle.format.proofs.Content.{says_exactly}
 use Rattle.editions.specs.Converted.{predicates}
 use Rattle.editions.proofs.Same.{says_frames}
 use Rattle.laws.specs.Growth.{NoAbsent}

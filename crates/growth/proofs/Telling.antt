@@ -8,26 +8,26 @@ use native.Mathlib.Omega.{arith}
 use lib.Dec.{leb, ltb}
 use lib.ListN.{length, get_or, replicate, length-map}
 use borrow.Author.Tests.{ltb-false, le-ltb}
-use Rattle.meaning.specs.Lines.{lines}
-use Rattle.meaning.specs.Frame.{wide}
-use Rattle.meaning.specs.SoFar.{said}
-use Rattle.meaning.specs.Conditions.{any_of}
-use Rattle.meaning.specs.Refusal as Meaning
-use Rattle.meaning.specs.File.{Form, Reading, refused, described}
-use Rattle.meaning.specs.Content.{frames_of, describes}
-use Rattle.meaning.specs.Answer.{hex_line}
+use Rattle.format.specs.Lines.{lines}
+use Rattle.format.specs.Frame.{wide}
+use Rattle.format.specs.SoFar.{said}
+use Rattle.format.specs.Conditions.{any_of}
+use Rattle.format.specs.Refusal as Meaning
+use Rattle.format.specs.File.{Form, Reading, refused, described}
+use Rattle.format.specs.Content.{frames_of, describes}
+use Rattle.format.specs.Bytes.{hex_line}
 use Rattle.meaning.specs.Outcome.{min_words}
-use Rattle.meaning.proofs.Tests.{cases, clash}
-use Rattle.meaning.proofs.Written.{file_lines}
-use Rattle.meaning.proofs.Content.{says_exactly}
+use Rattle.format.proofs.Tests.{cases, clash}
+use Rattle.format.proofs.Written.{file_lines}
+use Rattle.format.proofs.Content.{says_exactly}
 use Rattle.work.specs.Layout.{PREDICATE-COUNT}
-use Rattle.reading.specs.Promises.{Ends, reading_in, ReadsFile}
+use Rattle.reading.specs.Promises.{ReadingEnds, reading_in, ReadsFile}
 use Rattle.reading.specs.declared.Refusal.{Refusal}
 use Rattle.editions.specs.Converted.{predicates}
 use Rattle.convert.specs.Lines.{LinesAre, SomeFrom}
 use Rattle.growth.specs.Premises.{Past, content_of, OnlyAdded, NamesNoAbsent}
 use Rattle.growth.specs.Lines.{TellsAdded}
-use Rattle.growth.specs.Promises.{number, Compares, ChecksGrowth}
+use Rattle.growth.specs.Promises.{number, ComparesFiles, ChecksGrowth}
 use Rattle.growth.proofs.Additions.{grown_adds, adds_grown}
 use Rattle.growth.proofs.Absent.{none_absent, absent_none}
 use Rattle.std.specs.Result.{result_or}
@@ -52,26 +52,26 @@ past_lines p = ap (λ x. map (said wide) (lines x)) p.says.is ∙ file_lines wid
 
 module _ {f w w' : List ℕ} {r : Result (Unit {0}) Refusal} (h : ReadsFile wide f w w' r) where
   pub was_refused : (i : Refusal) → r ≡ Err i → Past (length w) f → ⊥
-  unfolding Ends
+  unfolding ReadingEnds
   was_refused i q p =
-      let g : Ends wide f w' r (described p.form) = subst (Ends wide f w' r) (past_reads (length w) f p) h.ends in
+      let g : ReadingEnds wide f w' r (described p.form) = subst (ReadingEnds wide f w' r) (past_reads (length w) f p) h.ends in
       let c : Err i ≡ (Ok tt) = sym q ∙ g.0 in
       let z : ◌≡◌ {A = ℕ} 0 1 = cc in
       omega arith
 
   pub was_accepted : r ≡ Ok tt → Past (length w) f
-  unfolding Ends
+  unfolding ReadingEnds
   was_accepted q = go (reading_in wide f (length w)) refl h.ends
     where
-      go : (x : Reading) → reading_in wide f (length w) ≡ x → Ends wide f w' r x → Past (length w) f
+      go : (x : Reading) → reading_in wide f (length w) ≡ x → ReadingEnds wide f w' r x → Past (length w) f
       go (refused i) e g = let c : (Ok tt) ≡ Err g.0 = sym q ∙ g.1 in let z : ◌≡◌ {A = ℕ} 0 1 = cc in absurd (omega arith)
       go (described d) e g = reads_past (length w) f d e
 
   -- the number of its predicates
   pub counted : (p : Past (length w) f) → get_or w' PREDICATE-COUNT 0 ≡ length (content_of p).predicates
-  unfolding Ends describes
+  unfolding ReadingEnds describes
   counted p =
-      let g : Ends wide f w' r (described p.form) = subst (Ends wide f w' r) (past_reads (length w) f p) h.ends in
+      let g : ReadingEnds wide f w' r (described p.form) = subst (ReadingEnds wide f w' r) (past_reads (length w) f p) h.ends in
       g.2.1.predicates ∙ ap (λ (x : Form). length x.schema.predicates) p.says.tree ∙ length-map (content_of p).predicates _
 
 -- ---- What the walks tell
@@ -122,7 +122,7 @@ module _ (r : Result (Unit {0}) Refusal) (p : Premise) where
 -- ---- The call
 
 module _ {old new w w₁ : List ℕ} {r : Result (Unit {0}) Refusal} (h : ReadsFile wide old w w₁ r) where
-  pub tells_1 : {i : Refusal} → r ≡ Err i → Compares old new w w₁ (Err Premise.OldRefused)
+  pub tells_1 : {i : Refusal} → r ≡ Err i → ComparesFiles old new w w₁ (Err Premise.OldRefused)
   tells_1 {i} q = record { told = inl (was_refused h i q, refl); long = h.long }
 
   module _ (a : r ≡ Ok tt) {w₂ : List ℕ} {r' : Result (Unit {0}) Refusal} (h' : ReadsFile wide new w₁ w₂ r') where
@@ -132,7 +132,7 @@ module _ {old new w w₁ : List ℕ} {r : Result (Unit {0}) Refusal} (h : ReadsF
     kept : length w₂ ≡ length w
     kept = h'.long ∙ h.long
 
-    pub tells_2 : {i : Refusal} → r' ≡ Err i → Compares old new w w₂ (Err Premise.NewRefused)
+    pub tells_2 : {i : Refusal} → r' ≡ Err i → ComparesFiles old new w w₂ (Err Premise.NewRefused)
     tells_2 {i} q = record {
       told = inr (p, inl ((λ x. was_refused h' i q (subst (λ n. Past n new) (sym h.long) x)), refl));
       long = kept;
@@ -142,17 +142,18 @@ module _ {old new w w₁ : List ℕ} {r : Result (Unit {0}) Refusal} (h : ReadsF
       p' : Past (length w) new
       p' = subst (λ n. Past n new) h.long (was_accepted h' a')
 
-      pub tells_3 : b ≡ false → Compares old new w w₂ (Err Premise.OtherChange)
+      pub tells_3 : b ≡ false → ComparesFiles old new w w₂ (Err Premise.OtherChange)
       tells_3 e = record { told = inr (p, inr (p', inl (was_other t e, refl))); long = kept }
 
       module _ (e : b ≡ true) {least : ℕ} (is : least ≡ get_or w₁ PREDICATE-COUNT 0) {x : Bool} (s : SomeFrom old least x) where
-        pub tells_4 : x ≡ true → Compares old new w w₂ (Err Premise.NamesAbsent)
+        pub tells_4 : x ≡ true → ComparesFiles old new w w₂ (Err Premise.NamesAbsent)
         tells_4 d = record { told = inr (p, inr (p', inr (was_added t p p' e, inl (was_absent s (λ y. is ∙ counted h y) d, refl)))); long = kept }
 
-        pub tells_0 : x ≡ false → Compares old new w w₂ (Ok tt)
+        pub tells_0 : x ≡ false → ComparesFiles old new w w₂ (Ok tt)
         tells_0 d = record { told = inr (p, inr (p', inr (was_added t p p' e, inr (was_present s (λ y. is ∙ counted h y) p d, refl)))); long = kept }
 
-pub cleared : {old new w w₁ w' : List ℕ} {r : Result (Unit {0}) Premise} → Compares old new w w₁ r → w' ≡ replicate (length w₁) 0 → ChecksGrowth old new w w' r
+pub cleared : {old new w w₁ w' : List ℕ} {r : Result (Unit {0}) Premise} → ComparesFiles old new w w₁ r → w' ≡ replicate (length w₁) 0
+    → ChecksGrowth old new w w' r
 cleared h z = record { told = h.told; work = z ∙ ap (λ n. replicate n 0) h.long }
 
 -- ---- The line

@@ -8,22 +8,22 @@ use native.Mathlib.Omega.{arith}
 use lib.Dec.{leb, eqb}
 use lib.ListN.{length, get_or, take, drop, length-drop}
 use borrow.Author.Tests.{leb-true, leb-false, le-leb, lt-leb}
-use Rattle.meaning.specs.Lines.{Line, closed, unclosed, LF, in_front, lines}
-use Rattle.meaning.specs.Frame.{wide, kind_byte, Frame}
-use Rattle.meaning.specs.SoFar.{frames, said}
-use Rattle.meaning.specs.Writing.{written, Writable}
-use Rattle.meaning.proofs.Tests.{cases, clash}
+use Rattle.format.specs.Lines.{Line, closed, unclosed, LF, in_front, lines}
+use Rattle.format.specs.Frame.{wide, kind_byte, Frame}
+use Rattle.format.specs.SoFar.{frames, said}
+use Rattle.format.specs.Writing.{written, Writable}
+use Rattle.format.proofs.Tests.{cases, clash}
 use lib.Pointwise.{pointwise}
 use Rattle.std.proofs.lemmas.Bool.Decides.{Decides-eqb}
 use Rattle.std.proofs.lemmas.Slice.Eq.{slice_eq-Decides}
-use Rattle.meaning.proofs.Hex.{hexes}
-use Rattle.meaning.proofs.Written.{says}
-use Rattle.frames.specs.Promises.{byte_w, BytesAt, Malformed}
+use Rattle.format.proofs.Hex.{hexes}
+use Rattle.format.proofs.Written.{says}
+use Rattle.frames.specs.Promises.{byte_w, BytesAt, MalformedAt}
 use Rattle.convert.specs.Lines.{LinesAre}
 use Rattle.convert.proofs.Walking.{step, no_bad, at_end_lem}
 use Rattle.growth.specs.declared.Beside.{Beside}
 use Rattle.growth.specs.declared.Beside.TheVariants.{Same, Added, Other}
-use Rattle.growth.specs.Lines.{kind_of, Addition, Adds, IsBeside, TellsBeside, TellsAdded}
+use Rattle.growth.specs.Lines.{kind_of, Addition, WithAdditions, IsBeside, TellsBeside, TellsAdded}
 
 -- ---- Two lines
 
@@ -69,8 +69,8 @@ pub record Left (old new : List ℕ) (i j : ℕ) (fs gs : List Frame) : Type 0 w
   pub news : List Frame
   pub old_are : LinesAre wide (drop i old) olds
   pub new_are : LinesAre wide (drop j new) news
-  pub to : Adds fs gs → Adds olds news
-  pub back : Adds olds news → Adds fs gs
+  pub to : WithAdditions fs gs → WithAdditions olds news
+  pub back : WithAdditions olds news → WithAdditions fs gs
 
 pub record Walking (old new : List ℕ) (i j : ℕ) : Type 0 where
   pub left : (fs gs : List Frame) → LinesAre wide old fs → LinesAre wide new gs → Left old new i j fs gs
@@ -96,23 +96,24 @@ some_left f at l a = go (lines (drop at f)) refl a
 
 module _ {old new : List ℕ} {i j : ℕ} (c : Walking old new i j) where
   -- by what is left
-  never : ((olds news : List Frame) → LinesAre wide (drop i old) olds → LinesAre wide (drop j new) news → Adds olds news → ⊥) → TellsAdded old new false
+  never : ((olds news : List Frame) → LinesAre wide (drop i old) olds → LinesAre wide (drop j new) news → WithAdditions olds news → ⊥)
+      → TellsAdded old new false
   never n = record {
     added = λ fs gs a b q. let z : ◌≡◌ {A = ℕ} 0 1 = cc in absurd (omega arith);
     other = λ fs gs a b q h. let k = c.left fs gs a b in n k.olds k.news k.old_are k.new_are (k.to h);
   }
 
-  pub walking_bad_new : Malformed new j → TellsAdded old new false
+  pub walking_bad_new : MalformedAt new j → TellsAdded old new false
   walking_bad_new m = never (λ olds news a b h. no_bad wide m news b)
 
-  pub walking_bad_old : Malformed old i → TellsAdded old new false
+  pub walking_bad_old : MalformedAt old i → TellsAdded old new false
   walking_bad_old m = never (λ olds news a b h. no_bad wide m olds a)
 
   -- the old file has ended
   pub walking_longer : length old ≤ i → j < length new → TellsAdded old new false
   walking_longer l m = never (λ olds news a b h. go olds (at_end_lem wide old i l olds a) news b h)
     where
-      go : (olds : List Frame) → olds ≡ [] → (news : List Frame) → LinesAre wide (drop j new) news → Adds olds news → ⊥
+      go : (olds : List Frame) → olds ≡ [] → (news : List Frame) → LinesAre wide (drop j new) news → WithAdditions olds news → ⊥
       go [] e [] b h = some_left new j m b
       go [] e (g ∷ gs) b h = h
       go (f ∷ fs) e news b h = let z : ◌≡◌ {A = ℕ} 0 1 = cc in omega arith
@@ -129,24 +130,24 @@ module _ {old new : List ℕ} {i j : ℕ} (c : Walking old new i j) where
       }))
       (λ q. subst (TellsAdded old new) (sym q) (never (λ olds news a b h. shorter olds news (at_end_lem wide new j m news b) (leb-false (length old) i q) a h)))
     where
-      both : (olds news : List Frame) → olds ≡ [] → news ≡ [] → Adds olds news
+      both : (olds news : List Frame) → olds ≡ [] → news ≡ [] → WithAdditions olds news
       both [] [] e d = tt
       both (f ∷ fs) news e d = let z : ◌≡◌ {A = ℕ} 0 1 = cc in absurd (omega arith)
       both [] (g ∷ gs) e d = let z : ◌≡◌ {A = ℕ} 0 1 = cc in absurd (omega arith)
 
-      shorter : (olds news : List Frame) → news ≡ [] → i < length old → LinesAre wide (drop i old) olds → Adds olds news → ⊥
+      shorter : (olds news : List Frame) → news ≡ [] → i < length old → LinesAre wide (drop i old) olds → WithAdditions olds news → ⊥
       shorter [] news e l a h = some_left old i l a
       shorter (f ∷ fs) [] e l a h = h
       shorter (f ∷ fs) (g ∷ gs) e l a h = let z : ◌≡◌ {A = ℕ} 0 1 = cc in omega arith
 
   -- a line of the new file, and no further one of the old
-  pub walking_none : (i < length old → Malformed old i) → {b : List ℕ} {m after : ℕ} → BytesAt new j b m after → TellsAdded old new false
+  pub walking_none : (i < length old → MalformedAt old i) → {b : List ℕ} {m after : ℕ} → BytesAt new j b m after → TellsAdded old new false
   walking_none fails e = cases (leb (length old) i)
       (λ q. walking_longer (leb-true (length old) i q) (omega (arith, e.on, e.within)))
       (λ q. walking_bad_old (fails (leb-false (length old) i q)))
 
   -- no further line of the new file
-  module _ (fails : j < length new → Malformed new j) where
+  module _ (fails : j < length new → MalformedAt new j) where
     pub walking_ended : length old ≤ i → TellsAdded old new (leb (length new) j)
     walking_ended l = cases (leb (length new) j)
         (λ q. rw q (rw (le-leb (length old) i l) at (walking_done (leb-true (length new) j q))))
@@ -168,8 +169,8 @@ module _ {old new : List ℕ} {i j : ℕ} (c : Walking old new i j) where
       old_are : LinesAre wide (drop next old) olds
       new_are : LinesAre wide (drop after new) news
       both_are : LinesAre wide (drop i old) (left ∷ olds)
-      to : Adds fs gs → Adds (left ∷ olds) (right ∷ news)
-      back : Adds (left ∷ olds) (right ∷ news) → Adds fs gs
+      to : WithAdditions fs gs → WithAdditions (left ∷ olds) (right ∷ news)
+      back : WithAdditions (left ∷ olds) (right ∷ news) → WithAdditions fs gs
 
     turn : (r : Beside) → TellsBeside (take n a) (take m b) r → (fs gs : List Frame) → LinesAre wide old fs → LinesAre wide new gs → Turn r fs gs
     turn r t fs gs u v =
@@ -185,8 +186,8 @@ module _ {old new : List ℕ} {i j : ℕ} (c : Walking old new i j) where
           old_are = x.later;
           new_are = y.later;
           both_are = subst (LinesAre wide (drop i old)) x.are k.old_are;
-          to = λ h. subst (λ l. Adds (x.first ∷ x.rest) l) y.are (subst (λ l. Adds l k.news) x.are (k.to h));
-          back = λ h. k.back (subst (λ l. Adds l k.news) (sym x.are) (subst (λ l. Adds (x.first ∷ x.rest) l) (sym y.are) h));
+          to = λ h. subst (λ l. WithAdditions (x.first ∷ x.rest) l) y.are (subst (λ l. WithAdditions l k.news) x.are (k.to h));
+          back = λ h. k.back (subst (λ l. WithAdditions l k.news) (sym x.are) (subst (λ l. WithAdditions (x.first ∷ x.rest) l) (sym y.are) h));
         }
 
     pub walking_same : TellsBeside (take n a) (take m b) Same → Walking old new next after
@@ -201,7 +202,7 @@ module _ {old new : List ℕ} {i j : ℕ} (c : Walking old new i j) where
       };
     }
       where
-        past : (f g : Frame) → f ≡ g → (fs gs : List Frame) → Adds (f ∷ fs) (g ∷ gs) → Adds fs gs
+        past : (f g : Frame) → f ≡ g → (fs gs : List Frame) → WithAdditions (f ∷ fs) (g ∷ gs) → WithAdditions fs gs
         past f g q fs gs (inl h) = h.1
         past f g q fs gs (inr h) = absurd (omega (arith, h.0.later, ap kind_of q))
 
@@ -217,7 +218,7 @@ module _ {old new : List ℕ} {i j : ℕ} (c : Walking old new i j) where
       };
     }
       where
-        past : (f g : Frame) → Addition f g → (fs gs : List Frame) → Adds (f ∷ fs) (g ∷ gs) → Adds (f ∷ fs) gs
+        past : (f g : Frame) → Addition f g → (fs gs : List Frame) → WithAdditions (f ∷ fs) (g ∷ gs) → WithAdditions (f ∷ fs) gs
         past f g q fs gs (inl h) = absurd (omega (arith, q.later, ap kind_of h.0))
         past f g q fs gs (inr h) = h.1
 
@@ -227,6 +228,6 @@ module _ {old new : List ℕ} {i j : ℕ} (c : Walking old new i j) where
       other = λ fs gs u v q h. let k = turn Other t fs gs u v in past k.left k.right k.is k.olds k.news (k.to h);
     }
       where
-        past : (f g : Frame) → IsBeside f g Other → (fs gs : List Frame) → Adds (f ∷ fs) (g ∷ gs) → ⊥
+        past : (f g : Frame) → IsBeside f g Other → (fs gs : List Frame) → WithAdditions (f ∷ fs) (g ∷ gs) → ⊥
         past f g q fs gs (inl h) = q.0 h.0
         past f g q fs gs (inr h) = q.1 h.0

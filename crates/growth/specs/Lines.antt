@@ -1,7 +1,7 @@
 -- What a line of the new file is beside a line of the old one, and what the walk through both promises.
 use Rattle.std.specs.Prelude.{Bool, true, false, List, [], ◌∷◌, ◌⊎◌, ◌≡◌, ℕ, ◌≤◌, ◌<◌}
-use Rattle.meaning.specs.Frame.{wide, kind_byte, name, predicate, Frame, frame_kind}
-use Rattle.meaning.specs.Writing.{written, Writable}
+use Rattle.format.specs.Frame.{wide, kind_byte, name, predicate, Frame, frame_kind}
+use Rattle.format.specs.Writing.{written, Writable}
 use Rattle.convert.specs.Lines.{LinesAre}
 use Rattle.growth.specs.declared.Beside.{Beside}
 use Rattle.growth.specs.declared.Beside.TheVariants.{Same, Added, Other}
@@ -17,11 +17,11 @@ pub record Addition (old new : Frame) : Type 0 where
   pub later : kind_of new < kind_of old
 
 -- The second file's frames are the first's with additions.
-abbrev pub Adds : List Frame → List Frame → Type 0
-Adds [] [] = Unit {0}
-Adds [] (g ∷ gs) = ⊥
-Adds (f ∷ fs) [] = ⊥
-Adds (f ∷ fs) (g ∷ gs) = ((f ≡ g) × Adds fs gs) ⊎ (Addition f g × Adds (f ∷ fs) gs)
+abbrev pub WithAdditions : List Frame → List Frame → Type 0
+WithAdditions [] [] = Unit {0}
+WithAdditions [] (g ∷ gs) = ⊥
+WithAdditions (f ∷ fs) [] = ⊥
+WithAdditions (f ∷ fs) (g ∷ gs) = ((f ≡ g) × WithAdditions fs gs) ⊎ (Addition f g × WithAdditions (f ∷ fs) gs)
 
 abbrev pub IsBeside : Frame → Frame → Beside → Type 0
 IsBeside f g Same = f ≡ g
@@ -32,5 +32,5 @@ pub record TellsBeside (a b : List ℕ) (r : Beside) : Type 0 where
   pub is : (f g : Frame) → a ≡ written wide f → b ≡ written wide g → Writable wide f → Writable wide g → IsBeside f g r
 
 pub record TellsAdded (old new : List ℕ) (r : Bool) : Type 0 where
-  pub added : (fs gs : List Frame) → LinesAre wide old fs → LinesAre wide new gs → r ≡ true → Adds fs gs
-  pub other : (fs gs : List Frame) → LinesAre wide old fs → LinesAre wide new gs → r ≡ false → Adds fs gs → ⊥
+  pub added : (fs gs : List Frame) → LinesAre wide old fs → LinesAre wide new gs → r ≡ true → WithAdditions fs gs
+  pub other : (fs gs : List Frame) → LinesAre wide old fs → LinesAre wide new gs → r ≡ false → WithAdditions fs gs → ⊥

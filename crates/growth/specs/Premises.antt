@@ -1,16 +1,16 @@
 -- Card 14: the premises, and which of them is told. "If the new file differs only by added names, types and predicates,
 -- each after all old ones of its kind, and no predicate number named in the old file was absent there, an old query
 -- accepted before gets the same answer, byte for byte. Both files are past refusals 1 to 10 and 13." What a file holds
--- is `content` of crates/meaning/specs/Content.antt; `Grown` and `NoAbsent` are of crates/laws/specs/Growth.antt.
+-- is `content` of crates/format/specs/Content.antt; `Grown` and `NoAbsent` are of crates/laws/specs/Growth.antt.
 use Rattle.std.specs.Prelude.{List, [], ◌∷◌, ◌⊎◌, ◌≡◌, ℕ, ◌≤◌}
-use Rattle.meaning.specs.Frame.{wide}
-use Rattle.meaning.specs.File.{Form}
-use Rattle.meaning.specs.Content.{Content, Says}
+use Rattle.format.specs.Frame.{wide}
+use Rattle.format.specs.File.{Form}
+use Rattle.format.specs.Content.{Content, Says}
 use Rattle.meaning.specs.Outcome.{min_words}
 use Rattle.laws.specs.Growth.{Grown, NoAbsent}
 
 -- Past 1, which is of the work slice alone, and past 2 to 10 and 13 (`says_exactly` in
--- crates/meaning/proofs/Content.antt).
+-- crates/format/proofs/Content.antt).
 pub record Past (words : ℕ) (file : List ℕ) : Type 0 where
   pub enough : min_words ≤ words
   pub form : Form

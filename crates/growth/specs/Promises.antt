@@ -12,7 +12,7 @@ number (Err Premise.OtherChange) = 3
 number (Err Premise.NamesAbsent) = 4
 
 -- before the slice is cleared
-pub record Compares (old new w w' : List ℕ) (r : Result (Unit {0}) Premise) : Type 0 where
+pub record ComparesFiles (old new w w' : List ℕ) (r : Result (Unit {0}) Premise) : Type 0 where
   pub told : FirstFailing (premises (length w) old new) (number r)
   pub long : length w' ≡ length w
 

@@ -1,10 +1,10 @@
 // Card 14: whether the queries of an old file keep their answers in a new one. Files and slice are parameters, as in
-// crate desk.
+// crate driver.
 #![tactic(auto)]
 
 ghost use Rattle.std.specs.Prelude.{[], ◌∷◌, ◌≡◌};
-ghost use Rattle.meaning.specs.Answer.{hex_line};
-ghost use Rattle.growth.specs.Promises.{number, Compares, ChecksGrowth};
+ghost use Rattle.format.specs.Bytes.{hex_line};
+ghost use Rattle.growth.specs.Promises.{number, ComparesFiles, ChecksGrowth};
 ghost use Rattle.growth.specs.Lines.{TellsBeside, TellsAdded};
 
 use frames::byte;
@@ -68,7 +68,7 @@ fn only_added(old: &[u8], new: &[u8]) -> bool
 
 // The work slice holds anything afterwards.
 fn compare(old: &[u8], new: &[u8], work: &mut [u32]) -> Result<(), Premise>
-    ensures { Compares old.now new.now work.old work.new result }
+    ensures { ComparesFiles old.now new.now work.old work.new result }
 {
     reading::read_file(old, work, Edition::Wide).or(Err(Premise::OldRefused))?;
     let predicates = work::word(work, work::PREDICATE_COUNT);

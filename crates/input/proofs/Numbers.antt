@@ -1,5 +1,6 @@
 -- What `parse` says of a text without a plus sign is what its digits go on to, one by one.
-use Rattle.std.proofs.Common.{◌≡◌, ℕ, ◌+◌, ◌-◌, ◌*◌, ◌<◌, ◌≤◌, rules, Bool, true, false, ltb, leb, List, [], ◌∷◌, length, get_or, None, Some, refl, sym, ap, ◌∙◌, arith, eqb, eqb-true, lt-ltb, ltb-true, leb-true}
+use Rattle.std.proofs.Common.{◌≡◌, ℕ, ◌+◌, ◌-◌, ◌*◌, ◌<◌, ◌≤◌, rules, Bool, true, false, ltb, leb, List, [], ◌∷◌, length, get_or, None, Some, refl, sym, ap}
+use Rattle.std.proofs.Common.{◌∙◌, arith, eqb, eqb-true, lt-ltb, ltb-true, leb-true}
 use Rattle.std.specs.Prelude.{◌&&◌, Ok, Err, Result}
 use Rattle.std.specs.Borrow.{Bor}
 use Rattle.std.specs.Result.{MatchResult, OkIff, result_ok}

@@ -8,11 +8,11 @@ use lib.ListN.{length, replicate}
 use Rattle.unification.specs.Ty.{Ty}
 use Rattle.unification.specs.Bindings.{State, Subst, zonk}
 use Rattle.unification.specs.Unify.{Unified, Ok, Err, Spent, unify}
-use Rattle.unification.specs.Calls.{Entry, Side, Admitted, Respects, Machine, Calls}
+use Rattle.unification.specs.Calls.{UnifyEntry, Side, Admitted, Respects, Machine, Calls}
 use Rattle.unification.specs.Acyclic.{Acyclic}
 use Rattle.unification.proofs.Tests.{clash}
 use Rattle.unification.proofs.Demand3.{calls_inv}
-use Rattle.meaning.specs.Refusal.{Refusal, number}
+use Rattle.format.specs.Refusal.{Refusal, number}
 use Rattle.meaning.specs.Run.{EntryLed}
 use Rattle.meaning.specs.Outcome as Outcome
 use Rattle.meaning.specs.Outcome.{max_visits, decide}
@@ -29,42 +29,42 @@ use Rattle.std.specs.Prelude.{None, Option, Some}
 
 -- ---- What the solver answers is no refusal of the reading
 
-told_refused : (a : Solver.Answer) (r : Refusal) → ¬ (told a ≡ Refused r)
+told_refused : (a : Solver.PlainAnswer) (r : Refusal) → ¬ (told a ≡ Refused r)
 unfolding told
 told_refused (Solver.Success bs) r e = clash (cc e)
 told_refused Solver.Failure r e = clash (cc e)
 told_refused Solver.ShutOut r e = clash (cc e)
 told_refused Solver.TooFew r e = clash (cc e)
 
-told_fewer : (a : Solver.Answer) → ¬ (told a ≡ Fewer)
+told_fewer : (a : Solver.PlainAnswer) → ¬ (told a ≡ Fewer)
 unfolding told
 told_fewer (Solver.Success bs) e = clash (cc e)
 told_fewer Solver.Failure e = clash (cc e)
 told_fewer Solver.ShutOut e = clash (cc e)
 told_fewer Solver.TooFew e = clash (cc e)
 
-told_too_few : (a : Solver.Answer) → (told a ≡ TooFewWords) ↔ (a ≡ Solver.TooFew)
+told_too_few : (a : Solver.PlainAnswer) → (told a ≡ TooFewWords) ↔ (a ≡ Solver.TooFew)
 unfolding told
 told_too_few (Solver.Success bs) = (λ e. clash (cc e), λ e. clash (cc e))
 told_too_few Solver.Failure = (λ e. clash (cc e), λ e. clash (cc e))
 told_too_few Solver.ShutOut = (λ e. clash (cc e), λ e. clash (cc e))
 told_too_few Solver.TooFew = (λ e. refl, λ e. refl)
 
-told_shut_out : (a : Solver.Answer) → (told a ≡ ShutOut) ↔ (a ≡ Solver.ShutOut)
+told_shut_out : (a : Solver.PlainAnswer) → (told a ≡ ShutOut) ↔ (a ≡ Solver.ShutOut)
 unfolding told
 told_shut_out (Solver.Success bs) = (λ e. clash (cc e), λ e. clash (cc e))
 told_shut_out Solver.Failure = (λ e. clash (cc e), λ e. clash (cc e))
 told_shut_out Solver.ShutOut = (λ e. refl, λ e. refl)
 told_shut_out Solver.TooFew = (λ e. clash (cc e), λ e. clash (cc e))
 
-told_failure : (a : Solver.Answer) → (told a ≡ Failure) ↔ (a ≡ Solver.Failure)
+told_failure : (a : Solver.PlainAnswer) → (told a ≡ Failure) ↔ (a ≡ Solver.Failure)
 unfolding told
 told_failure (Solver.Success bs) = (λ e. clash (cc e), λ e. clash (cc e))
 told_failure Solver.Failure = (λ e. refl, λ e. refl)
 told_failure Solver.ShutOut = (λ e. clash (cc e), λ e. clash (cc e))
 told_failure Solver.TooFew = (λ e. clash (cc e), λ e. clash (cc e))
 
-told_success : (a : Solver.Answer) (bs : List Binding) → told a ≡ Success bs → a ≡ Solver.Success bs
+told_success : (a : Solver.PlainAnswer) (bs : List Binding) → told a ≡ Success bs → a ≡ Solver.Success bs
 unfolding told
 told_success (Solver.Success cs) bs e = let same : cs ≡ bs = cc e in ap Solver.Success same
 told_success Solver.Failure bs e = clash (cc e)
@@ -105,7 +105,7 @@ admitted? s A a b = go (both (pure? (zonk s a)) (pure? (zonk s b)))
     go (yes h) = yes ((admitted_exactly s A a).1 h.0, (admitted_exactly s A b).1 h.1)
     go (no m) = no (λ h. m ((admitted_exactly s A a).0 h.0, (admitted_exactly s A b).0 h.1))
 
-module _ (lent v : ℕ) (tys : List (Option Ty)) (m : Machine) (cs : Calls v tys m) (e : Entry) where
+module _ (lent v : ℕ) (tys : List (Option Ty)) (m : Machine) (cs : Calls v tys m) (e : UnifyEntry) where
   facts_at : m.state.subst ≡ e.before → Side (length m.state.subst) e.got → Side (length m.state.subst) e.expected
       → Ends (unify m.state e.got e.expected) → Facts lent m.state e.before e.got e.expected
   facts_at before got expected ended =
@@ -120,7 +120,7 @@ module _ (lent v : ℕ) (tys : List (Option Ty)) (m : Machine) (cs : Calls v tys
       })
 
 -- From the state to which the calls before the entry lead.
-led : (lent v : ℕ) (tys : List (Option Ty)) (e : Entry) (h : EntryLed v tys e) → Facts lent h.at.state e.before e.got e.expected
+led : (lent v : ℕ) (tys : List (Option Ty)) (e : UnifyEntry) (h : EntryLed v tys e) → Facts lent h.at.state e.before e.got e.expected
 led lent v tys e h = facts_at lent v tys h.at h.calls e h.before h.got h.expected (go (unify h.at.state e.got e.expected) refl)
   where
     go : (u : Unified) → unify h.at.state e.got e.expected ≡ u → Ends u
@@ -131,24 +131,24 @@ led lent v tys e h = facts_at lent v tys h.at h.calls e h.before h.got h.expecte
 -- ---- The whole
 
 module _ (file : List ℕ) (n words lent : ℕ) where
-  at_entry : (e : Entry) → entry_at file n words ≡ found e → decide_plain file n words lent ≡ told (answer lent e.before e.got e.expected)
+  at_entry : (e : UnifyEntry) → entry_at file n words ≡ found e → decide_plain file n words lent ≡ told (answer lent e.before e.got e.expected)
   unfolding decide_plain inspected
   at_entry e q = ap (inspected lent) q
 
-  reaches : (e : Entry) → entry_at file n words ≡ found e → (nodes : ℕ) × EntryLed max_visits (replicate nodes None) e
+  reaches : (e : UnifyEntry) → entry_at file n words ≡ found e → (nodes : ℕ) × EntryLed max_visits (replicate nodes None) e
   reaches e q = sought_led file n words e q
 
-  there : (e : Entry) (q : entry_at file n words ≡ found e) → Facts lent (reaches e q).1.at.state e.before e.got e.expected
+  there : (e : UnifyEntry) (q : entry_at file n words ≡ found e) → Facts lent (reaches e q).1.at.state e.before e.got e.expected
   there e q = let r = reaches e q in led lent max_visits (replicate r.0 None) e r.1
 
   -- An answer that neither the reading nor the count gives is the solver's, at an entry.
   by_entry : (x : Inspected) → ((r : Refusal) → ¬ (x ≡ Refused r)) → ¬ (x ≡ Fewer) → decide_plain file n words lent ≡ x
-      → (e : Entry) × (entry_at file n words ≡ found e) × (told (answer lent e.before e.got e.expected) ≡ x)
+      → (e : UnifyEntry) × (entry_at file n words ≡ found e) × (told (answer lent e.before e.got e.expected) ≡ x)
   unfolding decide_plain inspected
   by_entry x notRefused notFewer h = go (entry_at file n words) refl h
     where
       go : (s : Sought) → entry_at file n words ≡ s → inspected lent s ≡ x
-          → (e : Entry) × (entry_at file n words ≡ found e) × (told (answer lent e.before e.got e.expected) ≡ x)
+          → (e : UnifyEntry) × (entry_at file n words ≡ found e) × (told (answer lent e.before e.got e.expected) ≡ x)
       go (found e) q p = (e, q, p)
       go fewer q p = absurd (notFewer (sym p))
       go (turned_down r) q p = absurd (notRefused r (sym p))
@@ -191,7 +191,7 @@ module _ (file : List ℕ) (n words lent : ℕ) where
         (((there y.0 y.1).too_few y.2.0.0 y.2.0.1).1 y.2.1),
   )
     where
-      go : (e : Entry) {st : State} → Facts lent st e.before e.got e.expected → answer lent e.before e.got e.expected ≡ Solver.TooFew
+      go : (e : UnifyEntry) {st : State} → Facts lent st e.before e.got e.expected → answer lent e.before e.got e.expected ≡ Solver.TooFew
           → Dec (BothAdmitted e) → BothAdmitted e × Overflows lent e
       go e F few (yes h) = (h, (F.too_few h.0 h.1).0 few)
       go e F few (no m) = let shut = F.shuts_out.1 m in clash (cc (few, shut))
@@ -208,7 +208,7 @@ module _ (file : List ℕ) (n words lent : ℕ) where
     );
   }
 
-  as_from : (e : Entry) → entry_at file n words ≡ found e → (st : State) → Facts lent st e.before e.got e.expected
+  as_from : (e : UnifyEntry) → entry_at file n words ≡ found e → (st : State) → Facts lent st e.before e.got e.expected
       → AsUnifyFrom file n words lent e st
   as_from e q st F =
       let a = answer lent e.before e.got e.expected in
@@ -220,7 +220,7 @@ module _ (file : List ℕ) (n words lent : ℕ) where
         bindings = λ h after bs ok p. F.bindings h.0 h.1 after bs ok (told_success a bs (sym is ∙ p));
       }
 
-  pub beside_unify : (e : Entry) → entry_at file n words ≡ found e → BesideUnify file n words lent e
+  pub beside_unify : (e : UnifyEntry) → entry_at file n words ≡ found e → BesideUnify file n words lent e
   beside_unify e q =
       let r = reaches e q in
       record {

@@ -3,8 +3,8 @@ use Rattle.std.specs.Prelude.{List, ◌↔◌, ◌⊎◌, ◌≡◌, ℕ, ◌<�
 use Rattle.unification.specs.Ty.{Ty}
 use Rattle.unification.specs.Bindings.{State}
 use Rattle.unification.specs.Unify.{Ok, unify}
-use Rattle.unification.specs.Calls.{Entry, Admitted, Respects, Machine, Calls}
-use Rattle.meaning.specs.Refusal.{Refusal, number}
+use Rattle.unification.specs.Calls.{UnifyEntry, Admitted, Respects, Machine, Calls}
+use Rattle.format.specs.Refusal.{Refusal, number}
 use Rattle.meaning.specs.Run.{EntryLed}
 use Rattle.meaning.specs.Outcome as Outcome
 use Rattle.meaning.specs.Outcome.{max_visits, decide}
@@ -14,17 +14,17 @@ use Rattle.entries.specs.Entries.{found, fewer, entry_at}
 use Rattle.inspect.specs.Inspect.{Success, Failure, ShutOut, Fewer, Refused, TooFewWords, decide_plain, refused_by}
 
 -- Demand 3 admits both sides of an entry.
-abbrev pub BothAdmitted : Entry → Type 0
+abbrev pub BothAdmitted : UnifyEntry → Type 0
 BothAdmitted e = Admitted e.before e.got × Admitted e.before e.expected
 
 -- A stage of the run from an entry on needs more words.
-abbrev pub Overflows : ℕ → Entry → Type 0
+abbrev pub Overflows : ℕ → UnifyEntry → Type 0
 Overflows lent e = (h : Stage) × Along (start e.before e.got e.expected) h × (lent < needs h)
 
 module _ (file : List ℕ) (n words lent : ℕ) where
   -- The n-th entry is there, and P holds of it.
-  abbrev pub There : (Entry → Type 0) → Type 0
-  There P = (e : Entry) × (entry_at file n words ≡ found e) × P e
+  abbrev pub There : (UnifyEntry → Type 0) → Type 0
+  There P = (e : UnifyEntry) × (entry_at file n words ≡ found e) × P e
 
   -- Which answer is given where; each is one of these.
   pub record Exactly : Type 0 where
@@ -37,14 +37,14 @@ module _ (file : List ℕ) (n words lent : ℕ) where
         ↔ (((r : Refusal) × (decide file words ≡ Outcome.turned_down r) × (number r ≡ i)) ⊎ ((i ≡ 18) × There (λ e. BothAdmitted e × Overflows lent e)))
 
   -- The answer at an entry, beside `unify` from a state.
-  pub record AsUnifyFrom (e : Entry) (st : State) : Type 0 where
+  pub record AsUnifyFrom (e : UnifyEntry) (st : State) : Type 0 where
     pub fails : BothAdmitted e → ¬ (decide_plain file n words lent ≡ TooFewWords)
         → (decide_plain file n words lent ≡ Failure) ↔ Fails (unify st e.got e.expected)
     pub bindings : BothAdmitted e → (after : State) (bs : List Binding) → unify st e.got e.expected ≡ Ok after
         → decide_plain file n words lent ≡ Success bs → (σ : ℕ → Ty) → Respects σ after.subst ↔ Respected σ bs
 
   -- From every state with the entry's bindings to which a list of calls leads and from which `unify` ends; the run's is one.
-  pub record BesideUnify (e : Entry) : Type 0 where
+  pub record BesideUnify (e : UnifyEntry) : Type 0 where
     pub every : (v : ℕ) (tys : List (Option Ty)) (m : Machine) → Calls v tys m → m.state.subst ≡ e.before
         → Ends (unify m.state e.got e.expected) → AsUnifyFrom e m.state
     pub reached : (nodes : ℕ) × EntryLed max_visits (replicate nodes None) e

@@ -2,8 +2,8 @@
 -- where the visits run out only after the n-th; 18 where, on sides that demand 3 admits, a step of the defined run needs more words than were lent,
 -- after all others, this engine only; any of them leaves zeros in the lent slice and the work slice."
 use Rattle.std.specs.Prelude.{List, [], ◌∷◌, ◌++◌, ℕ, ◌-◌, length, replicate, None, Option, Some}
-use Rattle.meaning.specs.Refusal.{Refusal, number}
-use Rattle.meaning.specs.Answer.{hex_line}
+use Rattle.format.specs.Refusal.{Refusal, number}
+use Rattle.format.specs.Bytes.{hex_line}
 use Rattle.plain_theory.specs.Plain.{Binding}
 use Rattle.plain_theory.specs.Words.{bindings_spelled}
 use Rattle.plain_theory.specs.Answer as Solver
@@ -17,7 +17,7 @@ pub data Inspected : Type 0 where
   -- refusal 18, which no other call has
   TooFewWords : Inspected
 
-unfoldable pub told : Solver.Answer → Inspected
+unfoldable pub told : Solver.PlainAnswer → Inspected
 told (Solver.Success bs) = Success bs
 told Solver.Failure = Failure
 told Solver.ShutOut = ShutOut
@@ -56,12 +56,12 @@ lent_after lent Fewer = replicate lent 0
 lent_after lent (Refused r) = replicate lent 0
 lent_after lent TooFewWords = replicate lent 0
 
-pub record Outcome : Type 0 where
+pub record InspectOutcome : Type 0 where
   pub result : Inspected
   pub work : List ℕ
   pub lent : List ℕ
 
-unfoldable pub outcome : List ℕ → ℕ → ℕ → ℕ → Outcome
+unfoldable pub outcome : List ℕ → ℕ → ℕ → ℕ → InspectOutcome
 unfolding decide_plain lent_after
 outcome file n words lent = record {
   result = decide_plain file n words lent;

@@ -1,7 +1,7 @@
 -- What the functions of src/ promise: for every file, every number and both slices the outcome is the definition's.
 use Rattle.std.specs.Prelude.{List, [], ◌∷◌, ◌≡◌, ℕ, length, replicate, Err, Ok, Result}
-use Rattle.meaning.specs.Refusal.{number}
-use Rattle.meaning.specs.Answer.{hex_line}
+use Rattle.format.specs.Refusal.{number}
+use Rattle.format.specs.Bytes.{hex_line}
 use Rattle.plain_theory.specs.Words.{bindings_spelled}
 use Rattle.reading.specs.Promises.{refusal}
 use Rattle.reading.specs.declared.Refusal.{Refusal}
@@ -17,22 +17,22 @@ inspected_by (Err Unsolved.ShutOut) = Inspected.ShutOut
 inspected_by (Err Unsolved.TooFew) = Inspected.TooFewWords
 
 -- What is answered, beside what the definition decides.
-abbrev pub Told : Inspected → Defined.Inspected → Type 0
-Told r (Defined.Success bs) = r ≡ Inspected.Success (length (bindings_spelled bs))
-Told r Defined.Failure = r ≡ Inspected.Failure
-Told r Defined.ShutOut = r ≡ Inspected.ShutOut
-Told r Defined.Fewer = r ≡ Inspected.Fewer
-Told r (Defined.Refused i) = (i' : Refusal) × (r ≡ Inspected.Refused i') × (refusal i' ≡ i)
-Told r Defined.TooFewWords = r ≡ Inspected.TooFewWords
+abbrev pub ToldInspected : Inspected → Defined.Inspected → Type 0
+ToldInspected r (Defined.Success bs) = r ≡ Inspected.Success (length (bindings_spelled bs))
+ToldInspected r Defined.Failure = r ≡ Inspected.Failure
+ToldInspected r Defined.ShutOut = r ≡ Inspected.ShutOut
+ToldInspected r Defined.Fewer = r ≡ Inspected.Fewer
+ToldInspected r (Defined.Refused i) = (i' : Refusal) × (r ≡ Inspected.Refused i') × (refusal i' ≡ i)
+ToldInspected r Defined.TooFewWords = r ≡ Inspected.TooFewWords
 
 pub record Answers (f : List ℕ) (n : ℕ) (w l w' l' : List ℕ) (r : Inspected) : Type 0 where
-  pub told : Told r (decide_plain f n (length w) (length l))
+  pub told : ToldInspected r (decide_plain f n (length w) (length l))
   pub lent : l' ≡ lent_after (length l) (decide_plain f n (length w) (length l))
   pub words : length w' ≡ length w
 
 -- The answer and the lent slice are the definition's, and the work slice is zero throughout.
 pub record Inspects (f : List ℕ) (n : ℕ) (w l w' l' : List ℕ) (r : Inspected) : Type 0 where
-  pub told : Told r (decide_plain f n (length w) (length l))
+  pub told : ToldInspected r (decide_plain f n (length w) (length l))
   pub lent : l' ≡ lent_after (length l) (decide_plain f n (length w) (length l))
   pub work : w' ≡ replicate (length w) 0
 

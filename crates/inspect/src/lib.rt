@@ -70,7 +70,7 @@ pub fn line(r: Inspected) -> [u8; 5]
         Inspected::Failure => *b"0e00\n",
         Inspected::ShutOut => *b"0e02\n",
         Inspected::Fewer => *b"0e03\n",
-        Inspected::Refused(e) => desk::refusal_line(e),
+        Inspected::Refused(e) => driver::refusal_line(e),
         Inspected::TooFewWords => *b"0f12\n",
     }
 }

@@ -9,16 +9,16 @@ use Rattle.unification.specs.Ty as Tree
 use Rattle.unification.proofs.Tests.{clash}
 use Rattle.work.specs.Layout.{DIAGNOSTIC-COUNT, LEFT}
 use Rattle.cells.specs.Stands.{Rows}
-use Rattle.meaning.specs.Syntax.{Ast}
+use Rattle.format.specs.Syntax.{Ast}
 use Rattle.meaning.specs.Diag.{Diagnostic}
-use Rattle.meaning.specs.File.{Described, Form, view_of, described, reading, max_file}
-use Rattle.meaning.specs.All.{All}
-use Rattle.meaning.specs.Sound.{Sound}
+use Rattle.format.specs.File.{Described, Form, view_of, described, reading, max_file}
+use Rattle.format.specs.All.{All}
+use Rattle.format.specs.Sound.{Sound}
 use Rattle.meaning.specs.Check.{Step, goes, out, first_diagnostic}
 use Rattle.meaning.specs.Outcome.{min_words, max_visits}
 use Rattle.meaning.specs.Lamp as Defined
 use Rattle.meaning.specs.Lamp.{lit_run, stopped, lamp_after, lamp_all, visits_after, visits_all}
-use Rattle.meaning.proofs.Sound.{sound}
+use Rattle.format.proofs.Sound.{sound}
 use Rattle.tree.specs.Stands.{SchemaStands, Stands}
 use Rattle.state.specs.declared.Until.TheVariants as Until
 use Rattle.checker.specs.Promises.{Ran, to_the_end, ended_early, run_until, Queries}

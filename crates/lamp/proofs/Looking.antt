@@ -5,17 +5,17 @@ use Prim.Native.Nat.{ℕ}
 use lib.Dec.{ltb}
 use lib.ListN.{length, replicate}
 use Rattle.unification.proofs.Tests.{clash}
-use Rattle.meaning.specs.Frame.{wide}
-use Rattle.meaning.specs.File.{Reading, refused, described}
+use Rattle.format.specs.Frame.{wide}
+use Rattle.format.specs.File.{Reading, refused, described}
 use Rattle.meaning.specs.Outcome.{min_words}
 use Rattle.meaning.specs.Lamp as Defined
 use Rattle.meaning.specs.Lamp.{lamp_read, visits_read, lamp, lamp_visits}
-use Rattle.meaning.proofs.Tests.{cases}
-use Rattle.reading.specs.Promises.{refusal, Ends, reading_in, ReadsFile}
+use Rattle.format.proofs.Tests.{cases}
+use Rattle.reading.specs.Promises.{refusal, ReadingEnds, reading_in, ReadsFile}
 use Rattle.reading.specs.declared.Refusal.{Refusal}
-use Rattle.desk.proofs.Deciding.{enough_words}
+use Rattle.driver.proofs.Deciding.{enough_words}
 use Rattle.lamp.specs.declared.Lit.{Lit}
-use Rattle.lamp.specs.Promises.{signal_of, Asks, Looks, Lights}
+use Rattle.lamp.specs.Promises.{signal_of, Asks, LooksAtFile, Lights}
 use Rattle.std.specs.Prelude.{Err, Ok, Result}
 
 module _ (f : List ℕ) (words : ℕ) where
@@ -28,25 +28,25 @@ module _ (f : List ℕ) (words : ℕ) where
   visits_by = cases (ltb words min_words) (λ q. rw (q, lamp_visits, reading_in)) (λ q. rw (q, lamp_visits, reading_in))
 
 module _ {f w w₁ : List ℕ} {r : Result (Unit {0}) Refusal} (h : ReadsFile wide f w w₁ r) where
-  pub not_read : {e : Refusal} → r ≡ Err e → Looks f w w₁ (record { signal = Err e; visits = 0 })
-  unfolding Ends lamp_read visits_read
+  pub not_read : {e : Refusal} → r ≡ Err e → LooksAtFile f w w₁ (record { signal = Err e; visits = 0 })
+  unfolding ReadingEnds lamp_read visits_read
   not_read {e} q =
       let x = go (reading_in wide f (length w)) h.ends in
       record { lamp = x.0 ∙ sym (lamp_by f (length w)); visits = x.1 ∙ sym (visits_by f (length w)); words = h.long }
     where
-      go : (x : Reading) → Ends wide f w₁ r x → (Defined.Refused (refusal e) ≡ lamp_read x) × (0 ≡ visits_read x)
+      go : (x : Reading) → ReadingEnds wide f w₁ r x → (Defined.Refused (refusal e) ≡ lamp_read x) × (0 ≡ visits_read x)
       go (refused i) g = let same : e ≡ g.0 = cc (q, g.1) in (ap Defined.Refused (ap refusal same ∙ g.2), refl)
       go (described d) g = clash (cc (q, g.0))
 
-  pub was_read : {w' : List ℕ} {o : Lit} → r ≡ Ok tt → Asks f w₁ o → length w' ≡ length w₁ → Looks f w w' o
-  unfolding Ends lamp_read visits_read min_words
+  pub was_read : {w' : List ℕ} {o : Lit} → r ≡ Ok tt → Asks f w₁ o → length w' ≡ length w₁ → LooksAtFile f w w' o
+  unfolding ReadingEnds lamp_read visits_read min_words
   was_read {w'} {o} q A long =
       let x = go (reading_in wide f (length w)) refl h.ends in
       record { lamp = x.0 ∙ sym (lamp_by f (length w)); visits = x.1 ∙ sym (visits_by f (length w)); words = long ∙ h.long }
     where
-      go : (x : Reading) → reading_in wide f (length w) ≡ x → Ends wide f w₁ r x → (signal_of o.signal ≡ lamp_read x) × (o.visits ≡ visits_read x)
+      go : (x : Reading) → reading_in wide f (length w) ≡ x → ReadingEnds wide f w₁ r x → (signal_of o.signal ≡ lamp_read x) × (o.visits ≡ visits_read x)
       go (refused i) e g = clash (cc (q, g.1))
       go (described d) e g = A.is g.2.0 d (enough_words wide f (length w) d e) g.1 g.2.1
 
-pub lights : {f w w₁ w' : List ℕ} {o : Lit} → Looks f w w₁ o → w' ≡ replicate (length w₁) 0 → Lights f w w' o
+pub lights : {f w w₁ w' : List ℕ} {o : Lit} → LooksAtFile f w w₁ o → w' ≡ replicate (length w₁) 0 → Lights f w w' o
 lights L c = record { lamp = L.lamp; visits = L.visits; work = c ∙ ap (λ n. replicate n 0) L.words }

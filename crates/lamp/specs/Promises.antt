@@ -4,10 +4,10 @@ use Rattle.std.specs.Prelude.{List, [], ◌∷◌, ◌≡◌, ℕ, ◌-◌, ◌�
 use Rattle.unification.specs.Ty as Tree
 use Rattle.cells.specs.Stands.{Rows}
 use Rattle.meaning.specs.Diag.{Diagnostic}
-use Rattle.meaning.specs.Refusal.{number}
-use Rattle.meaning.specs.Answer.{hex_line}
-use Rattle.meaning.specs.File.{Described, Form, described, reading}
-use Rattle.meaning.specs.Sound.{Sound}
+use Rattle.format.specs.Refusal.{number}
+use Rattle.format.specs.Bytes.{hex_line}
+use Rattle.format.specs.File.{Described, Form, described, reading}
+use Rattle.format.specs.Sound.{Sound}
 use Rattle.meaning.specs.Check.{Step, goes, out}
 use Rattle.meaning.specs.Outcome.{min_words, max_visits}
 use Rattle.meaning.specs.Lamp as Defined
@@ -54,7 +54,7 @@ pub record Asks (f w : List ℕ) (r : Lit) : Type 0 where
   pub is : (T : Rows) (form : Form) → reading f ≡ described form → min_words ≤ length w → SchemaStands f w T form.names form.schema
       → (signal_of r.signal ≡ lamp_all form.schema form.queries) × (r.visits ≡ visits_all form.schema form.queries)
 
-pub record Looks (f w w' : List ℕ) (r : Lit) : Type 0 where
+pub record LooksAtFile (f w w' : List ℕ) (r : Lit) : Type 0 where
   pub lamp : signal_of r.signal ≡ lamp f (length w)
   pub visits : r.visits ≡ lamp_visits f (length w)
   pub words : length w' ≡ length w

@@ -1,9 +1,9 @@
 // Card 4's call: whether a query of a file has a diagnostic. Each query runs until its first one, and no answer is
-// written. The file and the slices are parameters, as in crate desk.
+// written. The file and the slices are parameters, as in crate driver.
 #![tactic(auto)]
 
 ghost use Rattle.std.specs.Prelude.{◌≡◌, ◌≤◌, length};
-ghost use Rattle.lamp.specs.Promises.{signal_of, lamp_line, Glows, Asks, Looks, Lights};
+ghost use Rattle.lamp.specs.Promises.{signal_of, lamp_line, Glows, Asks, LooksAtFile, Lights};
 
 use reading::{Counters, Edition, Refusal};
 use state::Until;
@@ -49,7 +49,7 @@ fn one_query(file: &[u8], work: &mut [u32]) -> Lit
 }
 
 // The queries of a file that was read, one after the other, until one stops. Such a file is short: that is why the sum
-// of the visits has room; `look` owes it, as `run` of desk does.
+// of the visits has room; `look` owes it, as `run` of driver does.
 fn ask(file: &[u8], work: &mut [u32]) -> Lit
     requires { length file.now ≤ 65536 }
     ensures { Asks file.now work.old result }
@@ -79,7 +79,7 @@ fn ask(file: &[u8], work: &mut [u32]) -> Lit
 
 // The work slice holds anything afterwards.
 fn look(file: &[u8], work: &mut [u32]) -> Lit
-    ensures { Looks file.now work.old work.new result }
+    ensures { LooksAtFile file.now work.old work.new result }
 {
     let r = reading::read_file(file, work, Edition::Wide);
     match r {
@@ -106,6 +106,6 @@ pub fn line(l: Result<bool, Refusal>) -> [u8; 5]
     match l {
         Ok(true) => *b"0d01\n",
         Ok(false) => *b"0d00\n",
-        Err(e) => desk::refusal_line(e),
+        Err(e) => driver::refusal_line(e),
     }
 }

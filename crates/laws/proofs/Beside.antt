@@ -7,17 +7,18 @@ use native.Mathlib.Omega.{arith}
 use lib.Dec.{ltb}
 use lib.ListN.{replicate}
 use Rattle.unification.specs.Ty.{Ty}
-use Rattle.meaning.specs.All.{Absent}
-use Rattle.meaning.specs.Diag.{Message, Diagnostic, ascii}
-use Rattle.meaning.specs.Lines.{closed, unclosed, LF, in_front, lines}
-use Rattle.meaning.specs.Conditions.{same_text}
+use Rattle.format.specs.All.{Absent}
+use Rattle.format.specs.Bytes.{ascii, bytes₂, bytes₄, hex_digit, hex_line}
+use Rattle.meaning.specs.Diag.{Message, Diagnostic}
+use Rattle.format.specs.Lines.{closed, unclosed, LF, in_front, lines}
+use Rattle.format.specs.Conditions.{same_text}
 use Rattle.meaning.specs.Check.{Typed}
-use Rattle.meaning.specs.Syntax.{Span}
-use Rattle.meaning.specs.Answer.{bytes₂, bytes₄, hex_digit, hex_line, slot_bytes, node_lines, diagnostic_line, diagnostic_lines, unused_line, unused_lines}
+use Rattle.format.specs.Syntax.{Span}
+use Rattle.meaning.specs.Answer.{slot_bytes, node_lines, diagnostic_line, diagnostic_lines, unused_line, unused_lines}
 use Rattle.meaning.specs.Answer.{answer_lines, numbered, form_lines}
-use Rattle.meaning.proofs.Tests.{cases}
-use Rattle.meaning.proofs.Hex.{hexes, line_hexes}
-use Rattle.meaning.proofs.Lines.{lines_closed}
+use Rattle.format.proofs.Tests.{cases}
+use Rattle.format.proofs.Hex.{hexes, line_hexes}
+use Rattle.format.proofs.Lines.{lines_closed}
 use Rattle.laws.specs.Names.{of_kind, beside_kind, lines_but}
 use Rattle.std.specs.Prelude.{Option}
 
@@ -78,7 +79,8 @@ module _ (kind : List ℕ) where
   same_nothing = record { before = λ rest rest' h. h }
 
   pub same_line : (s : List ℕ) → SamePiece kind (hex_line s) (hex_line s)
-  same_line s = record { before = λ rest rest' h. first_line_lem kind s rest ∙ ap (unless (of_kind kind (hexes s)) (hexes s)) h ∙ sym (first_line_lem kind s rest') }
+  same_line s =
+      record { before = λ rest rest' h. first_line_lem kind s rest ∙ ap (unless (of_kind kind (hexes s)) (hexes s)) h ∙ sym (first_line_lem kind s rest') }
 
   pub same_then : {a b c d : List ℕ} → SamePiece kind a b → SamePiece kind c d → SamePiece kind (a ++ c) (b ++ d)
   same_then {a} {b} {c} {d} f g = record {

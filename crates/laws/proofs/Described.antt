@@ -3,52 +3,52 @@ use mathlib.Core.List.{List, [], ◌∷◌, ◌++◌, map}
 use Prim.Native.Nat.{ℕ, zero, suc, ◌<◌}
 use lib.ListN.{length}
 use Rattle.unification.specs.Ty.{Record, Union, Ty, Error}
-use Rattle.meaning.specs.All.{All}
-use Rattle.meaning.specs.Syntax.{Field}
-use Rattle.meaning.specs.Schema.{get}
-use Rattle.meaning.specs.Frame.{Alternative, TypeShape, a_leaf, a_record, a_union}
-use Rattle.meaning.specs.References.{field_names, shape_names}
-use Rattle.meaning.specs.SoFar.{type_at, field_row, alternative_row, ty_of, value_ty, predicate_of}
-use Rattle.meaning.specs.Content.{PredicateFrame, Content, types_from, predicate_with, describes}
-use Rattle.laws.specs.Over.{Language, Over, RowOver, OptionOver, PredicateOver}
+use Rattle.format.specs.All.{All}
+use Rattle.format.specs.Syntax.{Field}
+use Rattle.format.specs.Schema.{get}
+use Rattle.format.specs.Frame.{Alternative, TypeShape, a_leaf, a_record, a_union}
+use Rattle.format.specs.References.{field_names, shape_names}
+use Rattle.format.specs.SoFar.{type_at, field_row, alternative_row, ty_of, value_ty, predicate_of}
+use Rattle.format.specs.Content.{PredicateFrame, Content, types_from, predicate_with, describes}
+use Rattle.laws.specs.Over.{Language, TypeOver, RowOver, OptionOver, PredicateOver}
 use Rattle.laws.specs.Growth.{ShapeFacts}
 use Rattle.laws.specs.Marks.{NamedBelow}
 use Rattle.laws.proofs.Over.{all_get_d}
-use Rattle.meaning.proofs.Lists.{all_snoc}
+use Rattle.format.proofs.Lists.{all_snoc}
 use Rattle.std.specs.Prelude.{None, Option, Some, slice_get}
 
 module _ (L : Language) where
-  fields_over : (ts : List Ty) (fs : List Field) → All (Over L) ts → All L.name (field_names fs) → RowOver L (field_row ts fs) Record
+  fields_over : (ts : List Ty) (fs : List Field) → All (TypeOver L) ts → All L.name (field_names fs) → RowOver L (field_row ts fs) Record
   unfolding field_row type_at field_names
   fields_over ts [] h n = tt
-  fields_over ts (f ∷ fs) h n = (n.0, (all_get_d (Over L) ts f.value Error h tt, fields_over ts fs h n.1))
+  fields_over ts (f ∷ fs) h n = (n.0, (all_get_d (TypeOver L) ts f.value Error h tt, fields_over ts fs h n.1))
 
-  alternatives_over : (ts : List Ty) (alts : List Alternative) → All (Over L) ts → All L.name (map (λ a. a.name) alts)
+  alternatives_over : (ts : List Ty) (alts : List Alternative) → All (TypeOver L) ts → All L.name (map (λ a. a.name) alts)
       → RowOver L (alternative_row ts alts) Union
   unfolding alternative_row type_at
   alternatives_over ts [] h n = tt
-  alternatives_over ts (a ∷ alts) h n = (n.0, (all_get_d (Over L) ts a.type Error h tt, alternatives_over ts alts h n.1))
+  alternatives_over ts (a ∷ alts) h n = (n.0, (all_get_d (TypeOver L) ts a.type Error h tt, alternatives_over ts alts h n.1))
 
-  ty_of_over : (ts : List Ty) (s : TypeShape) → All (Over L) ts → ShapeFacts L.predicate s → All L.name (shape_names s) → Over L (ty_of ts s)
+  ty_of_over : (ts : List Ty) (s : TypeShape) → All (TypeOver L) ts → ShapeFacts L.predicate s → All L.name (shape_names s) → TypeOver L (ty_of ts s)
   unfolding ty_of shape_names
   ty_of_over ts (a_leaf l) h i n = i
   ty_of_over ts (a_record fs) h i n = fields_over ts fs h n
   ty_of_over ts (a_union alts) h i n = alternatives_over ts alts h n
 
-  types_over : (ts : List Ty) (a : List TypeShape) → All (Over L) ts → All (ShapeFacts L.predicate) a → All (λ s. All L.name (shape_names s)) a
-      → All (Over L) (types_from ts a)
+  types_over : (ts : List Ty) (a : List TypeShape) → All (TypeOver L) ts → All (ShapeFacts L.predicate) a → All (λ s. All L.name (shape_names s)) a
+      → All (TypeOver L) (types_from ts a)
   unfolding types_from
   types_over ts [] h i n = h
-  types_over ts (s ∷ a) h i n = types_over (ts ++ ty_of ts s ∷ []) a (all_snoc (Over L) ts (ty_of ts s) h (ty_of_over ts s h i.0 n.0)) i.1 n.1
+  types_over ts (s ∷ a) h i n = types_over (ts ++ ty_of ts s ∷ []) a (all_snoc (TypeOver L) ts (ty_of ts s) h (ty_of_over ts s h i.0 n.0)) i.1 n.1
 
-  predicate_over : (ts : List Ty) (ps : List PredicateFrame) (p : ℕ) → All (Over L) ts → PredicateOver L (slice_get (map (predicate_with ts) ps) p)
+  predicate_over : (ts : List Ty) (ps : List PredicateFrame) (p : ℕ) → All (TypeOver L) ts → PredicateOver L (slice_get (map (predicate_with ts) ps) p)
   unfolding predicate_with predicate_of type_at value_ty
   predicate_over ts [] p h = tt
-  predicate_over ts (x ∷ ps) zero h = (all_get_d (Over L) ts x.key Error h tt, value x.value)
+  predicate_over ts (x ∷ ps) zero h = (all_get_d (TypeOver L) ts x.key Error h tt, value x.value)
     where
       value : (o : Option ℕ) → OptionOver L (value_ty ts o)
       value None = tt
-      value (Some n) = all_get_d (Over L) ts n Error h tt
+      value (Some n) = all_get_d (TypeOver L) ts n Error h tt
   predicate_over ts (x ∷ ps) (suc p) h = predicate_over ts ps p h
 
   pub content_over : (c : Content) → All (ShapeFacts L.predicate) c.types → All (λ s. All L.name (shape_names s)) c.types

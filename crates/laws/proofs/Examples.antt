@@ -15,21 +15,21 @@ use Rattle.text.proofs.Grammar.{counts}
 use Rattle.unification.specs.Ty.{leaf, Int}
 use Rattle.unification.specs.Bindings as Bindings
 use Rattle.unification.specs.Unify as Unify
-use Rattle.meaning.specs.Diag.{ascii, code_of, RejectFuzzyTerm, RejectValueShadowed, RejectNoValue}
-use Rattle.meaning.specs.Frame.{wide}
-use Rattle.meaning.specs.Lines.{position, lines}
-use Rattle.meaning.specs.Conditions.{same_text, max_names, max_types, max_predicates, max_nodes, max_queries}
-use Rattle.meaning.specs.File.{refused, described, reading_of, reading, value_text, max_file}
-use Rattle.meaning.specs.Writing.{file_of, Writable}
-use Rattle.meaning.specs.Content.{Content, frames_of, describes, Says}
-use Rattle.meaning.specs.References.{shape_names, shape_types, shape_keys, optional, expr_names, expr_nodes, query_nodes}
-use Rattle.meaning.specs.Sound.{nodes_named, LawfulQuery}
+use Rattle.format.specs.Bytes.{ascii, hex_line}
+use Rattle.meaning.specs.Diag.{code_of, RejectFuzzyTerm, RejectValueShadowed, RejectNoValue}
+use Rattle.format.specs.Frame.{wide}
+use Rattle.format.specs.Lines.{position, lines}
+use Rattle.format.specs.Conditions.{same_text, max_names, max_types, max_predicates, max_nodes, max_queries}
+use Rattle.format.specs.File.{refused, described, reading_of, reading, value_text, max_file}
+use Rattle.format.specs.Writing.{file_of, Writable}
+use Rattle.format.specs.Content.{Content, frames_of, describes, Says}
+use Rattle.format.specs.References.{shape_names, shape_types, shape_keys, optional, expr_names, expr_nodes, query_nodes}
+use Rattle.format.specs.Sound.{nodes_named, LawfulQuery}
 use Rattle.meaning.specs.Messages.{quoted, message_text, text_in}
 use Rattle.meaning.specs.Check.{Typed, typed, exhausted, check}
-use Rattle.meaning.specs.All.{All}
-use Rattle.meaning.specs.SoFar.{said}
-use Rattle.meaning.specs.Refusal.{name_given_before, answer_too_long}
-use Rattle.meaning.specs.Answer.{hex_line}
+use Rattle.format.specs.All.{All}
+use Rattle.format.specs.SoFar.{said}
+use Rattle.format.specs.Refusal.{name_given_before, answer_too_long}
 use Rattle.meaning.specs.Outcome.{min_words, max_visits, Accepted, Refused, outcome}
 use Rattle.laws.specs.Marks.{NoMark}
 use Rattle.laws.specs.Names.{Renamed, lines_but, lines_beside, SameBeside, Fits}
@@ -37,8 +37,8 @@ use Rattle.laws.specs.Growth.{Grown, NoAbsent}
 use Rattle.laws.specs.Examples.{all_codes, all_texts, one_compared, comparing, named, roomier, ab, accented, short, value, asking, asking_grown, told}
 use Rattle.laws.specs.Examples.{telling, before, grown, blackened}
 use Rattle.unification.proofs.Tests.{clash}
-use Rattle.meaning.proofs.Written.{are_lines}
-use Rattle.meaning.proofs.Content.{says_exactly}
+use Rattle.format.proofs.Written.{are_lines}
+use Rattle.format.proofs.Content.{says_exactly}
 use Rattle.laws.proofs.Run.{more_visits_lem}
 use Rattle.laws.proofs.Names.{answers, names_private}
 use Rattle.laws.proofs.Growth.{Refers, grown_answers}
@@ -51,7 +51,8 @@ abbrev three_ints : Typed
 three_ints = record { tys = Some (leaf Int) ∷ Some (leaf Int) ∷ Some (leaf Int) ∷ []; diagnostics = []; unused = []; visits = 2 }
 
 two_suffice : check 2 (describes comparing).schema one_compared ≡ typed three_ints
-unfolding check code_of describes ℕ_discrete Bindings.fresh Bindings.fresh_id Bindings.annotate Bindings.snapshot Bindings.rollback Bindings.zonk Unify.unify Unify.orderable
+unfolding check code_of describes ℕ_discrete Bindings.fresh Bindings.fresh_id Bindings.annotate Bindings.snapshot Bindings.rollback Bindings.zonk Unify.unify
+    Unify.orderable
 two_suffice = refl
 
 pub the_limit_too : check max_visits (describes comparing).schema one_compared ≡ typed three_ints
@@ -59,7 +60,8 @@ unfolding max_visits
 the_limit_too = more_visits_lem (describes comparing).schema one_compared 2 max_visits three_ints (omega arith) two_suffice
 
 one_is_too_few : check 1 (describes comparing).schema one_compared ≡ exhausted
-unfolding check code_of describes ℕ_discrete Bindings.fresh Bindings.fresh_id Bindings.annotate Bindings.snapshot Bindings.rollback Bindings.zonk Unify.unify Unify.orderable
+unfolding check code_of describes ℕ_discrete Bindings.fresh Bindings.fresh_id Bindings.annotate Bindings.snapshot Bindings.rollback Bindings.zonk Unify.unify
+    Unify.orderable
 one_is_too_few = refl
 
 -- ---- Names
@@ -71,22 +73,26 @@ pub renamed_alike : answers max_visits (named (ab ∷ value ∷ [])) ≡ answers
 renamed_alike = names_private _ _ renamed max_visits
 
 both_codes : all_codes (answers 9 (named (ab ∷ value ∷ []))) ≡ (RejectFuzzyTerm ∷ RejectValueShadowed ∷ []) ∷ []
-unfolding check code_of describes ℕ_discrete Bindings.fresh Bindings.fresh_id Bindings.annotate Bindings.snapshot Bindings.rollback Bindings.zonk Unify.unify Unify.orderable
+unfolding check code_of describes ℕ_discrete Bindings.fresh Bindings.fresh_id Bindings.annotate Bindings.snapshot Bindings.rollback Bindings.zonk Unify.unify
+    Unify.orderable
 both_codes = refl
 
 -- another number of characters
 other_length : all_codes (answers 9 (named (short ∷ value ∷ []))) ≡ (RejectValueShadowed ∷ []) ∷ []
-unfolding check code_of describes ℕ_discrete Bindings.fresh Bindings.fresh_id Bindings.annotate Bindings.snapshot Bindings.rollback Bindings.zonk Unify.unify Unify.orderable
+unfolding check code_of describes ℕ_discrete Bindings.fresh Bindings.fresh_id Bindings.annotate Bindings.snapshot Bindings.rollback Bindings.zonk Unify.unify
+    Unify.orderable
 other_length = refl
 
 -- no name is `value`
 other_value : all_codes (answers 9 (named (ab ∷ short ∷ []))) ≡ (RejectFuzzyTerm ∷ []) ∷ []
-unfolding check code_of describes ℕ_discrete Bindings.fresh Bindings.fresh_id Bindings.annotate Bindings.snapshot Bindings.rollback Bindings.zonk Unify.unify Unify.orderable
+unfolding check code_of describes ℕ_discrete Bindings.fresh Bindings.fresh_id Bindings.annotate Bindings.snapshot Bindings.rollback Bindings.zonk Unify.unify
+    Unify.orderable
 other_value = refl
 
 -- more than names differ
 other_limit : all_codes (answers 9 (roomier (named (ab ∷ value ∷ [])))) ≡ (RejectValueShadowed ∷ []) ∷ []
-unfolding check code_of describes ℕ_discrete Bindings.fresh Bindings.fresh_id Bindings.annotate Bindings.snapshot Bindings.rollback Bindings.zonk Unify.unify Unify.orderable
+unfolding check code_of describes ℕ_discrete Bindings.fresh Bindings.fresh_id Bindings.annotate Bindings.snapshot Bindings.rollback Bindings.zonk Unify.unify
+    Unify.orderable
 other_limit = refl
 
 -- ---- Growth
@@ -106,16 +112,19 @@ pub grown_alike : answers max_visits (asking 0) ≡ answers max_visits (asking_g
 grown_alike = grown_answers (asking 0) refers present _ _ _ max_visits
 
 no_value_lem : all_codes (answers 9 (asking 0)) ≡ (RejectNoValue ∷ []) ∷ []
-unfolding check code_of describes ℕ_discrete Bindings.fresh Bindings.fresh_id Bindings.annotate Bindings.snapshot Bindings.rollback Bindings.zonk Unify.unify Unify.orderable
+unfolding check code_of describes ℕ_discrete Bindings.fresh Bindings.fresh_id Bindings.annotate Bindings.snapshot Bindings.rollback Bindings.zonk Unify.unify
+    Unify.orderable
 no_value_lem = refl
 
 -- a predicate that was absent
 absent_before : all_codes (answers 9 (asking 1)) ≡ (RejectNoValue ∷ []) ∷ []
-unfolding check code_of describes ℕ_discrete Bindings.fresh Bindings.fresh_id Bindings.annotate Bindings.snapshot Bindings.rollback Bindings.zonk Unify.unify Unify.orderable
+unfolding check code_of describes ℕ_discrete Bindings.fresh Bindings.fresh_id Bindings.annotate Bindings.snapshot Bindings.rollback Bindings.zonk Unify.unify
+    Unify.orderable
 absent_before = refl
 
 there_after : all_codes (answers 9 (asking_grown 1)) ≡ (RejectValueShadowed ∷ []) ∷ []
-unfolding check code_of describes ℕ_discrete Bindings.fresh Bindings.fresh_id Bindings.annotate Bindings.snapshot Bindings.rollback Bindings.zonk Unify.unify Unify.orderable
+unfolding check code_of describes ℕ_discrete Bindings.fresh Bindings.fresh_id Bindings.annotate Bindings.snapshot Bindings.rollback Bindings.zonk Unify.unify
+    Unify.orderable
 there_after = refl
 
 -- ---- The files that hold these contents pass 2 to 10
@@ -142,25 +151,30 @@ file c = file_of wide (frames_of c)
 
 -- "`ab`" twice
 with_names_lem : all_texts (text_in (describes (before 0))) (answers 9 (before 0)) ≡ both_texts (quoted ab) (quoted ab)
-unfolding check describes message_text ℕ_discrete Bindings.fresh Bindings.fresh_id Bindings.annotate Bindings.snapshot Bindings.rollback Bindings.zonk Unify.unify Unify.orderable
+unfolding check describes message_text ℕ_discrete Bindings.fresh Bindings.fresh_id Bindings.annotate Bindings.snapshot Bindings.rollback Bindings.zonk
+    Unify.unify Unify.orderable
 with_names_lem = refl
 
 other_names : all_texts (text_in (describes (blackened 0))) (answers 9 (blackened 0)) ≡ both_texts (quoted accented) (quoted accented)
-unfolding check describes message_text ℕ_discrete Bindings.fresh Bindings.fresh_id Bindings.annotate Bindings.snapshot Bindings.rollback Bindings.zonk Unify.unify Unify.orderable
+unfolding check describes message_text ℕ_discrete Bindings.fresh Bindings.fresh_id Bindings.annotate Bindings.snapshot Bindings.rollback Bindings.zonk
+    Unify.unify Unify.orderable
 other_names = refl
 
 -- A content that is no file's shows the mark, and a fact without its name.
 without_names : all_texts (text_in (describes (telling [] 0))) (answers 9 (telling [] 0)) ≡ both_texts (ascii "a fact") (quoted (ascii "?"))
-unfolding check describes message_text ℕ_discrete Bindings.fresh Bindings.fresh_id Bindings.annotate Bindings.snapshot Bindings.rollback Bindings.zonk Unify.unify Unify.orderable
+unfolding check describes message_text ℕ_discrete Bindings.fresh Bindings.fresh_id Bindings.annotate Bindings.snapshot Bindings.rollback Bindings.zonk
+    Unify.unify Unify.orderable
 without_names = refl
 
 -- a predicate that was absent: its facts get a name
 absent_text : all_texts (text_in (describes (before 1))) (answers 9 (before 1)) ≡ (ascii "expected a fact, found an integer" ∷ []) ∷ []
-unfolding check describes message_text ℕ_discrete Bindings.fresh Bindings.fresh_id Bindings.annotate Bindings.snapshot Bindings.rollback Bindings.zonk Unify.unify Unify.orderable
+unfolding check describes message_text ℕ_discrete Bindings.fresh Bindings.fresh_id Bindings.annotate Bindings.snapshot Bindings.rollback Bindings.zonk
+    Unify.unify Unify.orderable
 absent_text = refl
 
 there_text : all_texts (text_in (describes (grown 1))) (answers 9 (grown 1)) ≡ both_texts (quoted value) (quoted ab)
-unfolding check describes message_text ℕ_discrete Bindings.fresh Bindings.fresh_id Bindings.annotate Bindings.snapshot Bindings.rollback Bindings.zonk Unify.unify Unify.orderable
+unfolding check describes message_text ℕ_discrete Bindings.fresh Bindings.fresh_id Bindings.annotate Bindings.snapshot Bindings.rollback Bindings.zonk
+    Unify.unify Unify.orderable
 there_text = refl
 
 -- ---- Over files
@@ -271,11 +285,13 @@ fits : (t : List ℕ) → (outcome (file (telling (t ∷ short ∷ []) 0)) 16384
 fits t e q = let z : Accepted ≡ Refused answer_too_long = sym e ∙ q in clash (cc)
 
 old_answered : (outcome (file (before 0)) 16384 999).result ≡ Accepted
-unfolding outcome check ℕ_discrete file_of frames_of Bindings.fresh Bindings.fresh_id Bindings.annotate Bindings.snapshot Bindings.rollback Bindings.zonk Unify.unify Unify.orderable
+unfolding outcome check ℕ_discrete file_of frames_of Bindings.fresh Bindings.fresh_id Bindings.annotate Bindings.snapshot Bindings.rollback Bindings.zonk
+    Unify.unify Unify.orderable
 old_answered = refl
 
 renamed_answered : (outcome (file (blackened 0)) 16384 999).result ≡ Accepted
-unfolding outcome check ℕ_discrete file_of frames_of Bindings.fresh Bindings.fresh_id Bindings.annotate Bindings.snapshot Bindings.rollback Bindings.zonk Unify.unify Unify.orderable
+unfolding outcome check ℕ_discrete file_of frames_of Bindings.fresh Bindings.fresh_id Bindings.annotate Bindings.snapshot Bindings.rollback Bindings.zonk
+    Unify.unify Unify.orderable
 renamed_answered = refl
 
 pub renamed_outcome : SameBeside (outcome (file (before 0)) 16384 999) (outcome (file (blackened 0)) 16384 999)
@@ -292,11 +308,13 @@ given_twice = refl
 
 -- An answer slice that is large enough for one of the two alone.
 old_just_fits : (outcome (file (before 0)) 16384 335).result ≡ Accepted
-unfolding outcome check ℕ_discrete file_of frames_of Bindings.fresh Bindings.fresh_id Bindings.annotate Bindings.snapshot Bindings.rollback Bindings.zonk Unify.unify Unify.orderable
+unfolding outcome check ℕ_discrete file_of frames_of Bindings.fresh Bindings.fresh_id Bindings.annotate Bindings.snapshot Bindings.rollback Bindings.zonk
+    Unify.unify Unify.orderable
 old_just_fits = refl
 
 renamed_too_long : (outcome (file (blackened 0)) 16384 335).result ≡ Refused answer_too_long
-unfolding outcome check ℕ_discrete file_of frames_of Bindings.fresh Bindings.fresh_id Bindings.annotate Bindings.snapshot Bindings.rollback Bindings.zonk Unify.unify Unify.orderable
+unfolding outcome check ℕ_discrete file_of frames_of Bindings.fresh Bindings.fresh_id Bindings.annotate Bindings.snapshot Bindings.rollback Bindings.zonk
+    Unify.unify Unify.orderable
 renamed_too_long = refl
 
 -- A message line is left out, and what follows the last LF; nothing else is.

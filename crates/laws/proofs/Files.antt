@@ -6,22 +6,22 @@ use Prim.Native.Nat.{ℕ, ◌-◌, ◌≤◌}
 use lib.Dec.{ltb}
 use lib.ListN.{length}
 use borrow.Author.Tests.{le-ltb, ltb-true, ltb-false}
-use Rattle.meaning.specs.All.{All, Each}
-use Rattle.meaning.specs.Syntax.{Ast}
-use Rattle.meaning.specs.Schema.{Schema}
-use Rattle.meaning.specs.Frame.{wide}
-use Rattle.meaning.specs.File.{Form, described, reading}
-use Rattle.meaning.specs.Frame.{TypeShape}
+use Rattle.format.specs.All.{All, Each}
+use Rattle.format.specs.Syntax.{Ast}
+use Rattle.format.specs.Schema.{Schema}
+use Rattle.format.specs.Frame.{wide}
+use Rattle.format.specs.File.{Form, described, reading}
+use Rattle.format.specs.Frame.{TypeShape}
 use Rattle.meaning.specs.Diag.{Message}
-use Rattle.meaning.specs.Content.{PredicateFrame, Content, Lawful, Says, describes}
+use Rattle.format.specs.Content.{PredicateFrame, Content, Lawful, Says, describes}
 use Rattle.meaning.specs.Messages.{text_in}
 use Rattle.meaning.specs.Answer.{form_lines}
 use Rattle.meaning.specs.Check.{Typed, Checked, typed, exhausted, check}
 use Rattle.meaning.specs.Outcome.{min_words, max_visits, answered, with_checked, run_all, decide_run, decide_read, decide, refuse, accept, finish}
 use Rattle.meaning.specs.Outcome.{outcome}
-use Rattle.meaning.proofs.Lists.{all_map}
-use Rattle.meaning.proofs.Tests.{cases}
-use Rattle.meaning.proofs.Content.{says_exactly}
+use Rattle.format.proofs.Lists.{all_map}
+use Rattle.format.proofs.Tests.{cases}
+use Rattle.format.proofs.Content.{says_exactly}
 use Rattle.meaning.proofs.Demands.{short_decides}
 use Rattle.meaning.proofs.Forms.{Ran, each_ran}
 use Rattle.laws.specs.Over.{Language, MessageOver, CheckedOver}

@@ -12,29 +12,29 @@ use borrow.Author.Tests.{ne_eqb}
 use Rattle.text.specs.Utf8.{characters, one_more}
 use Rattle.unification.specs.Ty.{Record, Union, Ty, leaf, node, Var, Error, Row, ε, cell}
 use Rattle.unification.specs.Unify.{find_key}
-use Rattle.meaning.specs.All.{All, Below}
-use Rattle.meaning.specs.Syntax.{ExprKind, Node, Ast}
-use Rattle.meaning.specs.Schema.{Predicate, get, field_of}
-use Rattle.meaning.specs.Frame.{Edition, TypeShape}
-use Rattle.meaning.specs.References.{shape_names, optional, expr_names}
+use Rattle.format.specs.All.{All, Below}
+use Rattle.format.specs.Syntax.{ExprKind, Node, Ast}
+use Rattle.format.specs.Schema.{Predicate, get, field_of}
+use Rattle.format.specs.Frame.{Edition, TypeShape}
+use Rattle.format.specs.References.{shape_names, optional, expr_names}
 use Rattle.meaning.specs.Diag.{Message}
 use Rattle.meaning.specs.Messages.{text_in}
-use Rattle.meaning.specs.Lines.{position}
-use Rattle.meaning.specs.Conditions.{same_text}
-use Rattle.meaning.specs.SoFar.{type_at, ty_of, value_ty, predicate_of}
-use Rattle.meaning.specs.File.{Form, count_of, value_text}
-use Rattle.meaning.specs.Content.{PredicateFrame, Content, Lawful, types_from, predicate_with, describes}
+use Rattle.format.specs.Lines.{position}
+use Rattle.format.specs.Conditions.{same_text}
+use Rattle.format.specs.SoFar.{type_at, ty_of, value_ty, predicate_of}
+use Rattle.format.specs.File.{Form, count_of, value_text}
+use Rattle.format.specs.Content.{PredicateFrame, Content, Lawful, types_from, predicate_with, describes}
 use Rattle.meaning.specs.Check.{key_shadows_value, is_some, check}
-use Rattle.meaning.specs.Sound.{LawfulQuery}
-use Rattle.laws.specs.Over.{language_of, Over, RowOver, PredicateOver, MessageOver, CheckedOver}
-use Rattle.laws.specs.Same.{Asks, Same}
-use Rattle.laws.specs.Growth.{grow, NodeFacts, There, spoken, NoAbsent}
+use Rattle.format.specs.Sound.{LawfulQuery}
+use Rattle.laws.specs.Over.{language_of, TypeOver, RowOver, PredicateOver, MessageOver, CheckedOver}
+use Rattle.laws.specs.Same.{AsksAlike, Same}
+use Rattle.laws.specs.Growth.{grow, NodeFacts, IsPredicate, spoken, NoAbsent}
 use Rattle.laws.proofs.Described.{content_over, content_named}
 use Rattle.laws.proofs.Texts.{at_append, fact_append, text_same}
 use Rattle.laws.proofs.Shadows.{shadowing, shadows_is}
 use Rattle.laws.proofs.Run.{same_run, told_over}
 use Rattle.laws.proofs.Names.{answers, count_at}
-use Rattle.meaning.proofs.Lawful.{types_length}
+use Rattle.format.proofs.Lawful.{types_length}
 use Rattle.std.specs.Prelude.{None, Option, Some, slice_get}
 
 -- ---- Types
@@ -56,7 +56,7 @@ not_found P n j ε le h = refl
 not_found P n j (cell k l t r) le h = let e : eqb j k ≡ false = ne_eqb j k (λ q. absurd (omega (arith, h.0))) in rw (e, find_key)
     (not_found P n j r le h.1.1)
 
-no_field : (P : ℕ → Type 0) (n j : ℕ) (t : Ty) → n ≤ j → Over (language_of P n) t → field_of t j ≡ None
+no_field : (P : ℕ → Type 0) (n j : ℕ) (t : Ty) → n ≤ j → TypeOver (language_of P n) t → field_of t j ≡ None
 unfolding field_of
 no_field P n j (leaf l) le h = refl
 no_field P n j (node Record r) le h = rw (not_found P n j r le h, field_of)
@@ -135,27 +135,28 @@ module _ (c : Content) (refers : Refers c) (present : NoAbsent c) (names : List 
   abbrev old_types : List Ty
   old_types = types_from [] c.types
 
-  get_same : (p : ℕ) → There c p → get old.schema p ≡ get new.schema p
+  get_same : (p : ℕ) → IsPredicate c p → get old.schema p ≡ get new.schema p
   unfolding describes get
   get_same p h =
       let more = types_begin old_types types in
       let e : types_from [] (c.types ++ types) ≡ old_types ++ more.0 = types_append [] c.types types ∙ more.1 in
       let n : length old_types ≡ length c.types = types_length [] c.types ∙ zero-add (length c.types) in
-      rw e (get_grown old_types more.0 c.predicates predicates p h (subst (λ m. All (λ q. Below m (q.key ∷ optional q.value)) c.predicates) (sym n) refers.predicate_types))
+      rw e (get_grown old_types more.0 c.predicates predicates p h
+      (subst (λ m. All (λ q. Below m (q.key ∷ optional q.value)) c.predicates) (sym n) refers.predicate_types))
 
   old_over : (p : ℕ) → PredicateOver (spoken c) (get old.schema p)
   old_over p = content_over (spoken c) c present.types refers.type_names p
 
-  shadows_same : (ns : List Node) (p : ℕ) → There c p → key_shadows_value old.schema ns p ≡ key_shadows_value new.schema ns p
+  shadows_same : (ns : List Node) (p : ℕ) → IsPredicate c p → key_shadows_value old.schema ns p ≡ key_shadows_value new.schema ns p
   unfolding describes
   shadows_same ns p h =
       shadows_is old.schema ns p
-      ∙ shadowing_later (There c) (length c.names) (get old.schema p) old.schema.value_field new.schema.value_field (old_over p)
+      ∙ shadowing_later (IsPredicate c) (length c.names) (get old.schema p) old.schema.value_field new.schema.value_field (old_over p)
       (position_later (same_text value_text) c.names names)
       ∙ ap (λ (o : Option Predicate). shadowing o new.schema.value_field) (get_same p h)
       ∙ sym (shadows_is new.schema ns p)
 
-  asks : (e : ExprKind) → Below (length c.names) (expr_names e) → NodeFacts (There c) e → Asks (There c) old.schema new.schema e
+  asks : (e : ExprKind) → Below (length c.names) (expr_names e) → NodeFacts (IsPredicate c) e → AsksAlike (IsPredicate c) old.schema new.schema e
   unfolding describes expr_names
   asks (ExprKind.Fuzzy x d) l h = count_at c.names x ∙ ap (λ s. count_of (characters s)) (sym (get_or-append c.names names [] x l.0)) ∙ sym
       (count_at (c.names ++ names) x)
@@ -173,12 +174,12 @@ module _ (c : Content) (refers : Refers c) (present : NoAbsent c) (names : List 
   asks ExprKind.Error l h = tt
   asks (ExprKind.Select x e) l h = tt
 
-  all_ask : (ns : List Node) → All (λ n. Below (length c.names) (expr_names n.kind)) ns → All (λ n. NodeFacts (There c) n.kind) ns
-      → All (λ n. Asks (There c) old.schema new.schema n.kind) ns
+  all_ask : (ns : List Node) → All (λ n. Below (length c.names) (expr_names n.kind)) ns → All (λ n. NodeFacts (IsPredicate c) n.kind) ns
+      → All (λ n. AsksAlike (IsPredicate c) old.schema new.schema n.kind) ns
   all_ask [] l h = tt
   all_ask (n ∷ ns) l h = (asks n.kind l.0 h.0, all_ask ns l.1 h.1)
 
-  grown_same : (a : Ast) → All (λ n. Below (length c.names) (expr_names n.kind)) a.nodes → All (λ n. NodeFacts (There c) n.kind) a.nodes
+  grown_same : (a : Ast) → All (λ n. Below (length c.names) (expr_names n.kind)) a.nodes → All (λ n. NodeFacts (IsPredicate c) n.kind) a.nodes
       → Same (spoken c) a.nodes old.schema new.schema
   unfolding describes
   grown_same a below facts = record {
@@ -192,7 +193,7 @@ module _ (c : Content) (refers : Refers c) (present : NoAbsent c) (names : List 
   }
 
   each_grown : (v : ℕ) (qs : List Ast) → All (λ a. All (λ n. Below (length c.names) (expr_names n.kind)) a.nodes) qs
-      → All (λ a. All (λ n. NodeFacts (There c) n.kind) a.nodes) qs
+      → All (λ a. All (λ n. NodeFacts (IsPredicate c) n.kind) a.nodes) qs
       → map (λ (a : Ast). check v old.schema a) qs ≡ map (λ (a : Ast). check v new.schema a) qs
   each_grown v [] l h = refl
   each_grown v (a ∷ qs) l h =
@@ -206,7 +207,7 @@ module _ (c : Content) (refers : Refers c) (present : NoAbsent c) (names : List 
 
   -- ---- The messages are the same, and so are their texts.
   each_over : (v : ℕ) (qs : List Ast) → All (λ a. All (λ n. Below (length c.names) (expr_names n.kind)) a.nodes) qs
-      → All (λ a. All (λ n. NodeFacts (There c) n.kind) a.nodes) qs
+      → All (λ a. All (λ n. NodeFacts (IsPredicate c) n.kind) a.nodes) qs
       → All (λ a. CheckedOver (spoken c) (check v new.schema a)) qs
   each_over v [] l h = tt
   each_over v (a ∷ qs) l h = (told_over (spoken c) old.schema new.schema a (grown_same a l.0 h.0) v, each_over v qs l.1 h.1)

@@ -9,26 +9,28 @@ use lib.Dec.{ltb}
 use borrow.Author.Tests.{ltb-false, lt-ltb, le-ltb}
 use lib.ListN.{drop}
 use Rattle.unification.specs.Ty.{Ty}
-use Rattle.meaning.specs.Syntax.{Span, Ast}
-use Rattle.meaning.specs.Schema.{Schema}
+use Rattle.format.specs.Syntax.{Span, Ast}
+use Rattle.format.specs.Schema.{Schema}
 use Rattle.meaning.specs.Diag.{Message, Diagnostic}
-use Rattle.meaning.specs.Refusal.{Refusal, work_too_short, too_many_visits}
-use Rattle.meaning.specs.All.{All, Any, Each}
-use Rattle.meaning.specs.Lines.{closed, LF, lines}
-use Rattle.meaning.specs.Answer.{bytes₂, bytes₄, hex_digit, hex_line, slot_bytes, node_lines, diagnostic_bytes, diagnostic_line, diagnostic_lines, unused_line}
+use Rattle.format.specs.Refusal.{Refusal, work_too_short, too_many_visits}
+use Rattle.format.specs.All.{All, Any, Each}
+use Rattle.format.specs.Lines.{closed, LF, lines}
+use Rattle.format.specs.Bytes.{bytes₂, bytes₄, hex_digit, hex_line}
+use Rattle.meaning.specs.Answer.{slot_bytes, node_lines, diagnostic_bytes, diagnostic_line, diagnostic_lines, unused_line}
 use Rattle.meaning.specs.Answer.{unused_lines, answer_lines, numbered, form_lines}
 use Rattle.meaning.specs.Check.{Step, goes, out, first_diagnostic, lasting, Typed, typed, reversed}
 use Rattle.meaning.specs.Check.{checked, check}
 use Rattle.meaning.specs.Run.{ending, run}
 use Rattle.meaning.specs.Outcome.{min_words, max_visits, turned_down, answered, decide_run, decide_read, decide}
-use Rattle.meaning.specs.File.{Form, Reading, refused, described, reading}
+use Rattle.format.specs.File.{Form, Reading, refused, described, reading}
 use Rattle.meaning.specs.Messages.{text_in}
-use Rattle.meaning.specs.Lamp.{lit_run, Lamp, Yes, No, Refused, stopped, lamp_after, lamp_all, lamp_read, lamp, Clean, Shows, Silent, First, here, later}
+use Rattle.meaning.specs.Lamp.{lit_run, Lamp, Yes, No, Refused, stopped, lamp_after, lamp_all, lamp_read, lamp, RunsClean, HasDiagnostic, Silent, FirstNot}
+use Rattle.meaning.specs.Lamp.{here, later}
 use Rattle.meaning.specs.Lamp.{LampIs, shown, none_shown, ran_out, Is08, Has08}
-use Rattle.meaning.proofs.Tests.{cases}
+use Rattle.format.proofs.Tests.{cases}
 use Rattle.meaning.proofs.Forms.{Ran, Runs, all_ran, one_out, runs}
-use Rattle.meaning.proofs.Hex.{hexes, line_hexes}
-use Rattle.meaning.proofs.Lines.{lines_closed}
+use Rattle.format.proofs.Hex.{hexes, line_hexes}
+use Rattle.format.proofs.Lines.{lines_closed}
 use Rattle.laws.proofs.Beside.{hexes_no_LF}
 use Rattle.laws.proofs.Agree.{Lit, dark_goes, dark_out, shines}
 use Rattle.laws.proofs.Until.{run_until_lem}
@@ -41,7 +43,7 @@ not_empty (x ∷ xs) d e = let z : ◌≡◌ {A = ℕ} 0 1 = cc in omega arith
 -- ---- All of them in turn
 
 module _ (schema : Schema) where
-  clean_first : (a : Ast) (qs : List Ast) → Clean schema a → {l : Lamp} → LampIs schema qs l → LampIs schema (a ∷ qs) l
+  clean_first : (a : Ast) (qs : List Ast) → RunsClean schema a → {l : Lamp} → LampIs schema qs l → LampIs schema (a ∷ qs) l
   clean_first a qs p (shown f) = shown (later p f)
   clean_first a qs p (none_shown f) = none_shown (p, f)
   clean_first a qs p (ran_out f) = ran_out (later p f)
@@ -51,7 +53,8 @@ module _ (schema : Schema) where
   lamp_is [] = none_shown tt
   lamp_is (a ∷ qs) = go (run schema a max_visits) (lit_run schema a max_visits) refl (run_until_lem schema a first_diagnostic max_visits) (lamp_is qs)
     where
-      go : (s s' : Step Ty) → run schema a max_visits ≡ s → Lit first_diagnostic s s' → {l : Lamp} → LampIs schema qs l → LampIs schema (a ∷ qs) (lamp_after s' l)
+      go : (s s' : Step Ty) → run schema a max_visits ≡ s → Lit first_diagnostic s s' → {l : Lamp} → LampIs schema qs l
+          → LampIs schema (a ∷ qs) (lamp_after s' l)
       go s s' e (dark_goes ty c n) l = clean_first a qs (ty, c, e, n) l
       go s s' e (dark_out c n) l = rw n (ran_out (here (c, e, n)))
       go s s' e (shines _ c (d, q) p) l =
@@ -127,7 +130,7 @@ unused_skip (s ∷ ss) =
 
 -- some have none, then one has one
 abbrev Told : List Typed → Type 0
-Told ts = First (λ t. t.diagnostics ≡ []) (λ t. t.diagnostics ≢ []) ts
+Told ts = FirstNot (λ t. t.diagnostics ≡ []) (λ t. t.diagnostics ≢ []) ts
 
 module _ (text : Message → List ℕ) where
   diagnostic_begins : (d : Diagnostic) → Begins (diagnostic_line text d)
@@ -208,11 +211,11 @@ module _ (schema : Schema) where
   unfolding check run
   told a t s e r = ap (checked max_visits) (sym e) ∙ r
 
-  clean_told : (a : Ast) (t : Typed) → Ran schema a t → Clean schema a → t.diagnostics ≡ []
+  clean_told : (a : Ast) (t : Typed) → Ran schema a t → RunsClean schema a → t.diagnostics ≡ []
   unfolding checked reversed
   clean_told a t r h = let e : t.diagnostics ≡ reversed h.1.diagnostics [] = cc (told a t (goes h.0 h.1) h.2 r) in e ∙ rw h.3
 
-  shows_told : (a : Ast) (t : Typed) → Ran schema a t → Shows schema a → t.diagnostics ≢ []
+  shows_told : (a : Ast) (t : Typed) → Ran schema a t → HasDiagnostic schema a → t.diagnostics ≢ []
   unfolding checked ending
   shows_told a t r h = go (run schema a max_visits) refl
     where
@@ -227,19 +230,19 @@ module _ (schema : Schema) where
   unfolding checked
   silent_not a t r h = let w = told a t (out h.0) h.1 r in let o : ◌≡◌ {A = ℕ} 0 1 = cc in omega arith
 
-  all_clean : (qs : List Ast) (ts : List Typed) → Each (Ran schema) qs ts → All (Clean schema) qs → All (λ t. t.diagnostics ≡ []) ts
+  all_clean : (qs : List Ast) (ts : List Typed) → Each (Ran schema) qs ts → All (RunsClean schema) qs → All (λ t. t.diagnostics ≡ []) ts
   all_clean [] [] e h = tt
   all_clean [] (t ∷ ts) e h = absurd e
   all_clean (a ∷ qs) [] e h = absurd e
   all_clean (a ∷ qs) (t ∷ ts) e h = (clean_told a t e.0 h.0, all_clean qs ts e.1 h.1)
 
-  one_shows : (qs : List Ast) (ts : List Typed) → Each (Ran schema) qs ts → First (Clean schema) (Shows schema) qs → Told ts
+  one_shows : (qs : List Ast) (ts : List Typed) → Each (Ran schema) qs ts → FirstNot (RunsClean schema) (HasDiagnostic schema) qs → Told ts
   one_shows (a ∷ qs) [] e h = absurd e
   one_shows (a ∷ qs) (t ∷ ts) e (here x) = here (shows_told a t e.0 x)
   one_shows (a ∷ qs) (t ∷ ts) e (later x h) = later (clean_told a t e.0 x) (one_shows qs ts e.1 h)
   one_shows [] ts e h = elim h [ ]
 
-  none_silent : (qs : List Ast) (ts : List Typed) → Each (Ran schema) qs ts → First (Clean schema) (Silent schema) qs → ⊥
+  none_silent : (qs : List Ast) (ts : List Typed) → Each (Ran schema) qs ts → FirstNot (RunsClean schema) (Silent schema) qs → ⊥
   none_silent (a ∷ qs) [] e h = e
   none_silent (a ∷ qs) (t ∷ ts) e (here x) = silent_not a t e.0 x
   none_silent (a ∷ qs) (t ∷ ts) e (later x h) = none_silent qs ts e.1 h

@@ -5,19 +5,19 @@ use mathlib.Core.Path.{◌≡◌, refl, sym, subst}
 use Prim.Native.Nat.{ℕ}
 use lib.ListN.{length}
 use Rattle.unification.specs.Ty.{Int, String, Bytes, Fact}
-use Rattle.meaning.specs.All.{All}
-use Rattle.meaning.specs.Syntax.{Ast}
-use Rattle.meaning.specs.Frame.{TypeShape, a_leaf, a_record, a_union}
+use Rattle.format.specs.All.{All}
+use Rattle.format.specs.Syntax.{Ast}
+use Rattle.format.specs.Frame.{TypeShape, a_leaf, a_record, a_union}
 use Rattle.meaning.specs.Diag.{Message}
 use Rattle.meaning.specs.Messages.{message_text, text_in}
 use Rattle.meaning.specs.Check.{Checked, typed, exhausted, check}
-use Rattle.meaning.specs.File.{Form, described, reading}
-use Rattle.meaning.specs.Frame.{wide}
-use Rattle.meaning.specs.Sound.{LawfulQuery}
-use Rattle.meaning.specs.Content.{Content, Lawful, describes}
+use Rattle.format.specs.File.{Form, described, reading}
+use Rattle.format.specs.Frame.{wide}
+use Rattle.format.specs.Sound.{LawfulQuery}
+use Rattle.format.specs.Content.{Content, Lawful, describes}
 use Rattle.meaning.specs.Outcome.{max_visits}
-use Rattle.meaning.proofs.Lists.{all_map}
-use Rattle.meaning.proofs.Content.{says_exactly}
+use Rattle.format.proofs.Lists.{all_map}
+use Rattle.format.proofs.Content.{says_exactly}
 use Rattle.laws.specs.Over.{MessageOver, CheckedOver}
 use Rattle.laws.specs.Growth.{ShapeFacts}
 use Rattle.laws.specs.Marks.{of_file, NoMark}

@@ -4,16 +4,16 @@ use mathlib.Core.Path.{◌≡◌, refl, sym, ◌∙◌, ap}
 use Prim.Native.Nat.{ℕ}
 use lib.ListN.{get_or, get_or-map}
 use Rattle.text.specs.Utf8.{characters}
-use Rattle.meaning.specs.All.{All}
-use Rattle.meaning.specs.Syntax.{ExprKind, Node, Ast}
-use Rattle.meaning.specs.Schema.{get}
-use Rattle.meaning.specs.Lines.{position}
-use Rattle.meaning.specs.Conditions.{same_text}
-use Rattle.meaning.specs.File.{count_of, value_text}
-use Rattle.meaning.specs.Content.{Content, describes}
+use Rattle.format.specs.All.{All}
+use Rattle.format.specs.Syntax.{ExprKind, Node, Ast}
+use Rattle.format.specs.Schema.{get}
+use Rattle.format.specs.Lines.{position}
+use Rattle.format.specs.Conditions.{same_text}
+use Rattle.format.specs.File.{count_of, value_text}
+use Rattle.format.specs.Content.{Content, describes}
 use Rattle.meaning.specs.Check.{Checked, check}
 use Rattle.laws.specs.Over.{everything}
-use Rattle.laws.specs.Same.{Asks, Same}
+use Rattle.laws.specs.Same.{AsksAlike, Same}
 use Rattle.laws.specs.Names.{with_names, TermKept, Renamed}
 use Rattle.laws.proofs.Shadows.{shadowing, shadows_is}
 use Rattle.laws.proofs.Over.{predicate_everything, names_everything}
@@ -29,7 +29,7 @@ abbrev pub answers : ℕ → Content → List Checked
 answers v c = map (λ (a : Ast). check v (describes c).schema a) c.queries
 
 module _ (c : Content) (names : List (List ℕ)) where
-  asks : (e : ExprKind) → TermKept c.names names e → Asks everything.predicate (describes c).schema (describes (with_names c names)).schema e
+  asks : (e : ExprKind) → TermKept c.names names e → AsksAlike everything.predicate (describes c).schema (describes (with_names c names)).schema e
   unfolding describes
   asks (ExprKind.Fuzzy x d) h = count_at c.names x ∙ ap count_of h ∙ sym (count_at names x)
   asks (ExprKind.Fact p e) h = tt
@@ -47,7 +47,7 @@ module _ (c : Content) (names : List (List ℕ)) where
   asks (ExprKind.Select x e) h = tt
 
   all_ask : (ns : List Node) → All (λ n. TermKept c.names names n.kind) ns
-      → All (λ n. Asks everything.predicate (describes c).schema (describes (with_names c names)).schema n.kind) ns
+      → All (λ n. AsksAlike everything.predicate (describes c).schema (describes (with_names c names)).schema n.kind) ns
   all_ask [] h = tt
   all_ask (n ∷ ns) h = (asks n.kind h.0, all_ask ns h.1)
 

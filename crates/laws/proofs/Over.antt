@@ -9,11 +9,11 @@ use Rattle.unification.specs.Ty.{Int, String, Bytes, Fact, Kind, Record, Union, 
 use Rattle.unification.specs.Bindings.{Subst, bound, follow, repr, zonk_in, zonk, State, Undo, Binding, Annotation, revert, rewind, Snapshot, rollback}
 use Rattle.unification.specs.Bindings.{with_history}
 use Rattle.unification.specs.Unify.{find_key, find_label}
-use Rattle.meaning.specs.All.{All}
-use Rattle.meaning.specs.Syntax.{Node}
-use Rattle.meaning.specs.Schema.{Predicate, field_of}
-use Rattle.meaning.specs.References.{expr_names}
-use Rattle.laws.specs.Over.{Language, everything, cell_name, Over, RowOver, OptionOver, PredicateOver, UndoOver, FineState}
+use Rattle.format.specs.All.{All}
+use Rattle.format.specs.Syntax.{Node}
+use Rattle.format.specs.Schema.{Predicate, field_of}
+use Rattle.format.specs.References.{expr_names}
+use Rattle.laws.specs.Over.{Language, everything, cell_name, TypeOver, RowOver, OptionOver, PredicateOver, UndoOver, FineState}
 use Rattle.std.specs.Prelude.{None, Option, Some}
 
 -- ---- Lists
@@ -37,7 +37,7 @@ all_replicate Q (suc n) a p = (p, all_replicate Q n a p)
 
 -- ---- Where nothing is left out
 mutual
-  pub over_everything : (t : Ty) → Over everything t
+  pub over_everything : (t : Ty) → TypeOver everything t
   over_everything (leaf Int) = tt
   over_everything (leaf String) = tt
   over_everything (leaf Bytes) = tt
@@ -71,7 +71,7 @@ module _ (L : Language) where
 
   abbrev pub FoundOver : Kind → Option (ℕ × Ty) → Type 0
   FoundOver k None = Unit {0}
-  FoundOver k (Some f) = LabelOver k f.0 × Over L f.1
+  FoundOver k (Some f) = LabelOver k f.0 × TypeOver L f.1
 
   label_over : (k : Kind) (key label : ℕ) → L.name (cell_name k key label) → LabelOver k label
   label_over Record key label h = tt
@@ -95,7 +95,7 @@ module _ (L : Language) where
       go true e i = rw (e, find_label) h.1.0
       go false e i = rw (e, find_label) i
 
-  pub field_of_over : (t : Ty) (n : ℕ) → Over L t → OptionOver L (field_of t n)
+  pub field_of_over : (t : Ty) (n : ℕ) → TypeOver L t → OptionOver L (field_of t n)
   unfolding field_of
   field_of_over (leaf p) n h = tt
   field_of_over (node Record r) n h = go (find_key n r) refl (find_key_over n r Record h)
@@ -108,45 +108,46 @@ module _ (L : Language) where
   field_of_over Error n h = tt
 
   -- ---- Along bindings
-  follow_over : (k : ℕ) (s : Subst) (t : Ty) → All (OptionOver L) s → Over L t → Over L (follow k s t)
+  follow_over : (k : ℕ) (s : Subst) (t : Ty) → All (OptionOver L) s → TypeOver L t → TypeOver L (follow k s t)
   unfolding follow bound
   follow_over zero s t a h = h
   follow_over (suc k) s (leaf p) a h = h
   follow_over (suc k) s (node c r) a h = h
   follow_over (suc k) s (Var x) a h = go (bound s x) refl (all_get_d (OptionOver L) s x None a tt) (λ t i. follow_over k s t a i)
     where
-      go : (o : Option Ty) → bound s x ≡ o → OptionOver L o → ((t : Ty) → Over L t → Over L (follow k s t)) → Over L (follow (suc k) s (Var x))
+      go : (o : Option Ty) → bound s x ≡ o → OptionOver L o → ((t : Ty) → TypeOver L t → TypeOver L (follow k s t)) → TypeOver L (follow (suc k) s (Var x))
       go None e i ih = rw (e, follow) tt
       go (Some t) e i ih = rw (e, follow) (ih t i)
   follow_over (suc k) s Error a h = h
 
-  pub repr_over : (s : Subst) (t : Ty) → All (OptionOver L) s → Over L t → Over L (repr s t)
+  pub repr_over : (s : Subst) (t : Ty) → All (OptionOver L) s → TypeOver L t → TypeOver L (repr s t)
   unfolding repr
   repr_over s t a h = follow_over (suc (length s)) s t a h
 
   mutual
     unfolding app
 
-    app_over : (θ : ℕ → Ty) → ((x : ℕ) → Over L (θ x)) → (t : Ty) → Over L t → Over L (app θ t)
+    app_over : (θ : ℕ → Ty) → ((x : ℕ) → TypeOver L (θ x)) → (t : Ty) → TypeOver L t → TypeOver L (app θ t)
     app_over θ f (leaf p) h = h
     app_over θ f (node k r) h = app_row_over θ f r k h
     app_over θ f (Var x) h = f x
     app_over θ f Error h = tt
 
-    app_row_over : (θ : ℕ → Ty) → ((x : ℕ) → Over L (θ x)) → (r : Row) (k : Kind) → RowOver L r k → RowOver L (app_row θ r) k
+    app_row_over : (θ : ℕ → Ty) → ((x : ℕ) → TypeOver L (θ x)) → (r : Row) (k : Kind) → RowOver L r k → RowOver L (app_row θ r) k
     app_row_over θ f ε k h = tt
     app_row_over θ f (cell key label t r) k h = (h.0, (app_over θ f t h.1.0, app_row_over θ f r k h.1.1))
 
-  zonk_in_over : (d : ℕ) (s : Subst) (t : Ty) → All (OptionOver L) s → Over L t → Over L (zonk_in d s t)
+  zonk_in_over : (d : ℕ) (s : Subst) (t : Ty) → All (OptionOver L) s → TypeOver L t → TypeOver L (zonk_in d s t)
   unfolding zonk_in bound
   zonk_in_over zero s t a h = h
   zonk_in_over (suc d) s t a h = app_over _ (λ x. go x (bound s x) (all_get_d (OptionOver L) s x None a tt) (λ u i. zonk_in_over d s u a i)) t h
     where
-      go : (x : ℕ) (o : Option Ty) → OptionOver L o → ((u : Ty) → Over L u → Over L (zonk_in d s u)) → Over L (elim o [ None ↦ Var x | Some u ↦ zonk_in d s u ])
+      go : (x : ℕ) (o : Option Ty) → OptionOver L o → ((u : Ty) → TypeOver L u → TypeOver L (zonk_in d s u))
+          → TypeOver L (elim o [ None ↦ Var x | Some u ↦ zonk_in d s u ])
       go x None i ih = tt
       go x (Some u) i ih = ih u i
 
-  pub zonk_over : (s : Subst) (t : Ty) → All (OptionOver L) s → Over L t → Over L (zonk s t)
+  pub zonk_over : (s : Subst) (t : Ty) → All (OptionOver L) s → TypeOver L t → TypeOver L (zonk s t)
   unfolding zonk
   zonk_over s t a h = zonk_in_over (length s) s t a h
 

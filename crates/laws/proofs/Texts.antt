@@ -7,14 +7,16 @@ use native.Mathlib.Nat.{not-suc-le-zero, le_of_suc-le-suc}
 use lib.ListN.{length}
 use Rattle.unification.specs.Ty.{Leaf, Kind, Ty, Row}
 use Rattle.unification.specs.Unify.{UnionDiff}
-use Rattle.meaning.specs.All.{All}
+use Rattle.format.specs.All.{All}
 use Rattle.meaning.specs.Diag.{Message, Diagnostic}
-use Rattle.meaning.specs.Schema.{Predicate, Schema, get}
+use Rattle.format.specs.Schema.{Predicate, Schema, get}
 use Rattle.meaning.specs.Check.{Typed}
-use Rattle.meaning.specs.Messages.{or_mark, or_fact, name_of, fact_name, render_leaf, separator, part, render, render_row, difference, expected_found, message_text}
-use Rattle.meaning.specs.Answer.{diagnostic_line, diagnostic_lines, unused_lines, node_lines, answer_lines, numbered, form_lines, bytes₄, hex_line}
+use Rattle.meaning.specs.Messages.{or_mark, or_fact, name_of, fact_name, render_leaf, separator, part, render, render_row, difference, expected_found}
+use Rattle.meaning.specs.Messages.{message_text}
+use Rattle.format.specs.Bytes.{bytes₄, hex_line}
+use Rattle.meaning.specs.Answer.{diagnostic_line, diagnostic_lines, unused_lines, node_lines, answer_lines, numbered, form_lines}
 use Rattle.meaning.specs.Outcome.{decide_run}
-use Rattle.laws.specs.Over.{Language, LeafFacts, cell_name, Over, RowOver, DiffOver, MessageOver}
+use Rattle.laws.specs.Over.{Language, LeafFacts, cell_name, TypeOver, RowOver, DiffOver, MessageOver}
 use Rattle.laws.specs.Marks.{NamedBelow}
 use Rattle.std.specs.Prelude.{None, Option, Some, slice_get}
 
@@ -69,7 +71,7 @@ module _ (L : Language) (names names' : List (List ℕ)) (s s' : Schema) (same :
   mutual
     unfolding render
 
-    render_same : (t : Ty) → Over L t → render names s t ≡ render names' s' t
+    render_same : (t : Ty) → TypeOver L t → render names s t ≡ render names' s' t
     render_same (Ty.leaf l) h = leaf_same l h
     render_same (Ty.node k r) h = let i = row_same r k h in cc
     render_same (Ty.Var x) h = refl
@@ -89,7 +91,7 @@ module _ (L : Language) (names names' : List (List ℕ)) (s s' : Schema) (same :
   difference_same (UnionDiff.Renamed expected got disc) h = let i = name_same expected h.0 in let j = name_same got h.1 in cc
   difference_same (UnionDiff.Payload name disc) h = let i = name_same name h in cc
 
-  both_same : (e g : Ty) → Over L e → Over L g → expected_found names s e g ≡ expected_found names' s' e g
+  both_same : (e g : Ty) → TypeOver L e → TypeOver L g → expected_found names s e g ≡ expected_found names' s' e g
   unfolding expected_found
   both_same e g h i = let a = render_same e h in let b = render_same g i in cc
 

@@ -4,11 +4,12 @@ use mathlib.Core.Path.{sym, ◌∙◌}
 use Prim.Native.Nat.{ℕ}
 use lib.ListN.{length}
 use Rattle.unification.specs.Ty.{Ty}
-use Rattle.meaning.specs.Syntax.{Span, Ast}
-use Rattle.meaning.specs.Schema.{Schema, get}
-use Rattle.meaning.specs.Diag.{Message, Diagnostic, ascii}
+use Rattle.format.specs.Syntax.{Span, Ast}
+use Rattle.format.specs.Schema.{Schema, get}
+use Rattle.format.specs.Bytes.{ascii, bytes₄}
+use Rattle.meaning.specs.Diag.{Message, Diagnostic}
 use Rattle.meaning.specs.Check.{Step, with_marks, with_unused, Typed, begin, zonked, checked, check}
-use Rattle.meaning.specs.Answer.{bytes₄, diagnostic_bytes, diagnostic_line, diagnostic_lines, answer_lines}
+use Rattle.meaning.specs.Answer.{diagnostic_bytes, diagnostic_line, diagnostic_lines, answer_lines}
 use Rattle.laws.specs.Over.{everything}
 use Rattle.laws.specs.Unmarked.{remarked, check_from, with_lines, SameButUnused, both_typed, both_exhausted}
 use Rattle.laws.proofs.Over.{predicate_everything, names_everything}

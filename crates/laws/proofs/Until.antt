@@ -4,8 +4,8 @@ use Prim.Native.Nat.{ℕ, ◌≤◌}
 use native.Mathlib.Omega.{arith}
 use lib.ListN.{length}
 use Rattle.unification.specs.Ty.{Ty}
-use Rattle.meaning.specs.Syntax.{Ast}
-use Rattle.meaning.specs.Schema.{Schema, get}
+use Rattle.format.specs.Syntax.{Ast}
+use Rattle.format.specs.Schema.{Schema, get}
 use Rattle.meaning.specs.Check.{Until, Checker, goes, lasting, begin, begin_until, query}
 use Rattle.meaning.specs.Run.{run}
 use Rattle.meaning.proofs.Run.{nothing_yet}

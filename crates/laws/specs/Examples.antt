@@ -1,11 +1,11 @@
 -- Small contents on which the laws say something.
 use Rattle.std.specs.Prelude.{List, [], ◌∷◌, map, ℕ, None, Some}
 use Rattle.unification.specs.Ty.{Leaf}
-use Rattle.meaning.specs.Syntax.{QueryStmt, FieldRef, Literal, ExprKind, Node, Ast}
+use Rattle.format.specs.Syntax.{QueryStmt, FieldRef, Literal, ExprKind, Node, Ast}
 use Rattle.meaning.specs.Diag.{Code, Message, code_of}
-use Rattle.meaning.specs.Frame.{a_leaf, a_record}
+use Rattle.format.specs.Frame.{a_leaf, a_record}
 use Rattle.meaning.specs.Check.{Checked, typed, exhausted}
-use Rattle.meaning.specs.Content.{Content}
+use Rattle.format.specs.Content.{Content}
 use Rattle.laws.specs.Growth.{grow}
 
 abbrev pub shape : ExprKind → Node
@@ -44,7 +44,10 @@ named texts = record {
   names = texts;
   types = a_leaf Leaf.Int ∷ a_record (record { name = 1; value = 0 } ∷ []) ∷ [];
   predicates = record { name = 0; key = 1; value = Some 0 } ∷ [];
-  queries = record { nodes = shape (ExprKind.Fuzzy 0 1) ∷ shape ExprKind.Wildcard ∷ shape (ExprKind.Fact 0 1) ∷ shape (ExprKind.Access FieldRef.Value 2) ∷ []; query = record { head = 3; body = QueryStmt.Implicit 0 ∷ [] } } ∷ [];
+  queries = record {
+    nodes = shape (ExprKind.Fuzzy 0 1) ∷ shape ExprKind.Wildcard ∷ shape (ExprKind.Fact 0 1) ∷ shape (ExprKind.Access FieldRef.Value 2) ∷ [];
+    query = record { head = 3; body = QueryStmt.Implicit 0 ∷ [] };
+  } ∷ [];
 }
 
 -- The same with terms of two characters allowed.
@@ -72,7 +75,10 @@ asking p = record {
   names = ab ∷ short ∷ [];
   types = a_leaf Leaf.Int ∷ a_record (record { name = 1; value = 0 } ∷ []) ∷ [];
   predicates = record { name = 0; key = 1; value = None } ∷ [];
-  queries = record { nodes = shape ExprKind.Wildcard ∷ shape (ExprKind.Fact p 0) ∷ shape (ExprKind.Access FieldRef.Value 1) ∷ []; query = record { head = 2; body = [] } } ∷ [];
+  queries = record {
+    nodes = shape ExprKind.Wildcard ∷ shape (ExprKind.Fact p 0) ∷ shape (ExprKind.Access FieldRef.Value 1) ∷ [];
+    query = record { head = 2; body = [] };
+  } ∷ [];
 }
 
 -- The same with the name `value`, a record with such a field, and a predicate keyed by it.

@@ -1,15 +1,14 @@
 -- Card 14: the new file "differs only by added names, types and predicates, each after all old ones of its kind, and no predicate
 -- number named in the old file was absent there".
 use Rattle.std.specs.Prelude.{List, ◌++◌, ◌≡◌, ℕ, ◌<◌, length}
-use Rattle.meaning.specs.All.{All}
-use Rattle.meaning.specs.Syntax.{ExprKind}
-use Rattle.meaning.specs.Frame.{TypeShape, a_leaf, a_record, a_union}
-use Rattle.meaning.specs.Content.{PredicateFrame, Content}
+use Rattle.format.specs.All.{All}
+use Rattle.format.specs.Syntax.{ExprKind}
+use Rattle.format.specs.Frame.{TypeShape, a_leaf, a_record, a_union}
+use Rattle.format.specs.Content.{PredicateFrame, Content}
 use Rattle.laws.specs.Over.{Language, language_of, LeafFacts}
 
 abbrev pub grow : Content → List (List ℕ) → List TypeShape → List PredicateFrame → Content
-grow c names types predicates =
-    record { max_distance = c.max_distance; max_term_chars = c.max_term_chars; names = c.names ++ names; types = c.types ++ types; predicates = c.predicates ++ predicates; queries = c.queries }
+grow c names types predicates = record c { names = c.names ++ names; types = c.types ++ types; predicates = c.predicates ++ predicates }
 
 pub record Grown (c c' : Content) : Type 0 where
   pub names : List (List ℕ)
@@ -39,13 +38,13 @@ NodeFacts P ExprKind.Error = Unit {0}
 NodeFacts P (ExprKind.Select x e) = Unit {0}
 
 -- The predicates that there are.
-abbrev pub There : Content → ℕ → Type 0
-There c p = p < length c.predicates
+abbrev pub IsPredicate : Content → ℕ → Type 0
+IsPredicate c p = p < length c.predicates
 
 -- What there is to speak of.
 abbrev pub spoken : Content → Language
-spoken c = language_of (There c) (length c.names)
+spoken c = language_of (IsPredicate c) (length c.names)
 
 pub record NoAbsent (c : Content) : Type 0 where
-  pub types : All (ShapeFacts (There c)) c.types
-  pub nodes : All (λ a. All (λ n. NodeFacts (There c) n.kind) a.nodes) c.queries
+  pub types : All (ShapeFacts (IsPredicate c)) c.types
+  pub nodes : All (λ a. All (λ n. NodeFacts (IsPredicate c) n.kind) a.nodes) c.queries

@@ -1,9 +1,9 @@
 -- Card 1: "?" would stand where the Rust resolves no name. What a file can name: its names by their numbers, and every predicate that is absent
 -- or has one of its names.
 use Rattle.std.specs.Prelude.{List, ◌++◌, ◌≡◌, ℕ, ◌<◌, length, None, Option, Some}
-use Rattle.meaning.specs.Schema.{Predicate, get}
-use Rattle.meaning.specs.File.{Form}
-use Rattle.meaning.specs.All.{All}
+use Rattle.format.specs.Schema.{Predicate, get}
+use Rattle.format.specs.File.{Form}
+use Rattle.format.specs.All.{All}
 use Rattle.meaning.specs.Messages.{message_text, text_in}
 use Rattle.meaning.specs.Check.{Checked, typed, exhausted}
 use Rattle.laws.specs.Over.{Language, language_of}

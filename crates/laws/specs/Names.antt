@@ -2,19 +2,19 @@
 -- term has the same number of characters".
 use Rattle.std.specs.Prelude.{Bool, true, false, List, [], ◌∷◌, ◌≢◌, ◌≡◌, ℕ, get_or, take}
 use Rattle.text.specs.Utf8.{characters}
-use Rattle.meaning.specs.All.{All}
-use Rattle.meaning.specs.Syntax.{ExprKind}
-use Rattle.meaning.specs.Diag.{ascii}
-use Rattle.meaning.specs.Refusal as Refusal
-use Rattle.meaning.specs.Lines.{Line, closed, unclosed, position, lines}
-use Rattle.meaning.specs.Conditions.{same_text}
-use Rattle.meaning.specs.File.{value_text}
-use Rattle.meaning.specs.Content.{Content}
+use Rattle.format.specs.All.{All}
+use Rattle.format.specs.Syntax.{ExprKind}
+use Rattle.format.specs.Bytes.{ascii}
+use Rattle.format.specs.Refusal as Refusal
+use Rattle.format.specs.Lines.{Line, closed, unclosed, position, lines}
+use Rattle.format.specs.Conditions.{same_text}
+use Rattle.format.specs.File.{value_text}
+use Rattle.format.specs.Content.{Content}
 use Rattle.meaning.specs.Outcome.{Outcome, Refused}
 
 -- The content with these names instead.
 abbrev pub with_names : Content → List (List ℕ) → Content
-with_names c names = record { max_distance = c.max_distance; max_term_chars = c.max_term_chars; names = names; types = c.types; predicates = c.predicates; queries = c.queries }
+with_names c names = record c { names = names }
 
 abbrev pub TermKept : List (List ℕ) → List (List ℕ) → ExprKind → Type 0
 TermKept a b (ExprKind.Fuzzy x d) = characters (get_or a x []) ≡ characters (get_or b x [])

@@ -4,9 +4,9 @@ use Rattle.std.specs.Prelude.{List, ℕ, ◌<◌, None, Option, Some}
 use Rattle.unification.specs.Ty.{Leaf, Int, String, Bytes, Fact, Kind, Record, Union, Ty, leaf, node, Var, Error, Row, ε, cell}
 use Rattle.unification.specs.Bindings.{Undo, Binding, Annotation, State}
 use Rattle.unification.specs.Unify.{UnionDiff, Absent, Renamed, Payload, TyError}
-use Rattle.meaning.specs.All.{All}
+use Rattle.format.specs.All.{All}
 use Rattle.meaning.specs.Diag.{Message, Diagnostic}
-use Rattle.meaning.specs.Schema.{Predicate}
+use Rattle.format.specs.Schema.{Predicate}
 use Rattle.meaning.specs.Check.{Checker, message_of, Checked, typed, exhausted}
 
 pub record Language : Type 1 where
@@ -34,24 +34,24 @@ cell_name Record key label = key
 cell_name Union key label = label
 
 abbrev mutual
-  pub Over : Language → Ty → Type 0
-  Over L (leaf l) = LeafFacts L.predicate l
-  Over L (node k r) = RowOver L r k
-  Over L (Var x) = Unit {0}
-  Over L Error = Unit {0}
+  pub TypeOver : Language → Ty → Type 0
+  TypeOver L (leaf l) = LeafFacts L.predicate l
+  TypeOver L (node k r) = RowOver L r k
+  TypeOver L (Var x) = Unit {0}
+  TypeOver L Error = Unit {0}
 
   pub RowOver : Language → Row → Kind → Type 0
   RowOver L ε k = Unit {0}
-  RowOver L (cell key label t r) k = L.name (cell_name k key label) × (Over L t × RowOver L r k)
+  RowOver L (cell key label t r) k = L.name (cell_name k key label) × (TypeOver L t × RowOver L r k)
 
 abbrev pub OptionOver : Language → Option Ty → Type 0
 OptionOver L None = Unit {0}
-OptionOver L (Some t) = Over L t
+OptionOver L (Some t) = TypeOver L t
 
 -- A predicate's types, if it is there.
 abbrev pub PredicateOver : Language → Option Predicate → Type 0
 PredicateOver L None = Unit {0}
-PredicateOver L (Some d) = Over L d.key × OptionOver L d.value
+PredicateOver L (Some d) = TypeOver L d.key × OptionOver L d.value
 
 -- ---- Messages
 abbrev pub DiffOver : Language → UnionDiff → Type 0
@@ -73,12 +73,12 @@ MessageOver L Message.no_value = Unit {0}
 MessageOver L (Message.no_alternative x) = L.name x
 MessageOver L (Message.no_field x) = L.name x
 MessageOver L (Message.not_one_alternative n) = Unit {0}
-MessageOver L (Message.not_aunion t) = Over L t
-MessageOver L (Message.not_afact t) = Over L t
-MessageOver L (Message.no_fields t) = Over L t
-MessageOver L (Message.no_order t) = Over L t
-MessageOver L (Message.mismatch expected got) = Over L expected × Over L got
-MessageOver L (Message.union_mismatch diff expected got) = DiffOver L diff × (Over L expected × Over L got)
+MessageOver L (Message.not_aunion t) = TypeOver L t
+MessageOver L (Message.not_afact t) = TypeOver L t
+MessageOver L (Message.no_fields t) = TypeOver L t
+MessageOver L (Message.no_order t) = TypeOver L t
+MessageOver L (Message.mismatch expected got) = TypeOver L expected × TypeOver L got
+MessageOver L (Message.union_mismatch diff expected got) = DiffOver L diff × (TypeOver L expected × TypeOver L got)
 MessageOver L Message.infinite = Unit {0}
 
 abbrev pub ErrorOver : Language → TyError → Type 0
@@ -102,13 +102,13 @@ UndoOver L (Binding x prev) = OptionOver L prev
 UndoOver L (Annotation n prev) = OptionOver L prev
 
 -- Every type that a state holds: bound, annotated, or noted to be put back.
-pub record Fine (L : Language) (s ts : List (Option Ty)) (us : List Undo) : Type 0 where
+pub record StateOver (L : Language) (s ts : List (Option Ty)) (us : List Undo) : Type 0 where
   pub subst : All (OptionOver L) s
   pub tys : All (OptionOver L) ts
   pub undo : All (UndoOver L) us
 
 abbrev pub FineState : Language → State → Type 0
-FineState L st = Fine L st.subst st.tys st.undo
+FineState L st = StateOver L st.subst st.tys st.undo
 
 -- The diagnostics too.
 abbrev pub FineChecker : Language → Checker → Type 0

@@ -1,8 +1,8 @@
 -- Card 9: marks decide nothing but the lines 0c. A run may begin with any marks, all unknowns among them, so that no entry would leave
 -- unmarked, and with any spans before its own: types, diagnostics and visits are those of `check`, and so are all the other lines.
 use Rattle.std.specs.Prelude.{List, ℕ, length}
-use Rattle.meaning.specs.Syntax.{Span, Ast}
-use Rattle.meaning.specs.Schema.{Schema}
+use Rattle.format.specs.Syntax.{Span, Ast}
+use Rattle.format.specs.Schema.{Schema}
 use Rattle.meaning.specs.Check.{Checker, with_marks, with_unused, Typed, Checked, typed, exhausted, begin, query, checked}
 
 -- The same checker but for the marks and what left unmarked.

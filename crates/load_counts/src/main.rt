@@ -128,7 +128,7 @@ impl Counts {
         let mut file = [0; 8255];
         let n = generator::make(seed, &mut file)?;
         let file = &file[..n];
-        match desk::check_file(file, work, out) {
+        match driver::check_file(file, work, out) {
             Ok(m) => {
                 add_one(Some(&mut self.accepted));
                 self.count_lines(file, &out[..m])

@@ -5,15 +5,15 @@ use Prim.Native.Nat.{ℕ, ◌≤◌, ◌<◌}
 use native.Mathlib.Decide.{dec_le}
 use native.Mathlib.Omega.{arith}
 use lib.ListN.{length, get_or, take, drop}
-use Rattle.meaning.specs.Syntax.{Node, Ast}
-use Rattle.meaning.specs.Lines.{lines}
-use Rattle.meaning.specs.Frame.{wide, Kind, kind_byte, kind_of, Frame, a_node, the_query, frame_kind, frame_of}
-use Rattle.meaning.specs.SoFar.{frames, said_of, said_in, said_by, said}
-use Rattle.meaning.specs.File.{Form, described, reading, max_file}
-use Rattle.meaning.specs.Content.{query_frames}
-use Rattle.meaning.proofs.Written.{kind_byte_lem}
-use Rattle.meaning.proofs.Places.{lined}
-use Rattle.meaning.proofs.Sound.{some_queries}
+use Rattle.format.specs.Syntax.{Node, Ast}
+use Rattle.format.specs.Lines.{lines}
+use Rattle.format.specs.Frame.{wide, Kind, kind_byte, kind_of, Frame, a_node, the_query, frame_kind, frame_of}
+use Rattle.format.specs.SoFar.{frames, said_of, said_in, said_by, said}
+use Rattle.format.specs.File.{Form, described, reading, max_file}
+use Rattle.format.specs.Content.{query_frames}
+use Rattle.format.proofs.Written.{kind_byte_lem}
+use Rattle.format.proofs.Places.{lined}
+use Rattle.format.proofs.Sound.{some_queries}
 use Rattle.sigla_hex.proofs.Line.{lines_at_end, lines_split}
 use Rattle.frames.specs.Promises.{BytesAt}
 use Rattle.reading.proofs.AnyLine.{frame_kind_lem}

@@ -7,26 +7,26 @@ use native.Mathlib.Omega.{arith}
 use lib.ListN.{length, get_or, take, drop, set, length-append, length-set}
 use lib.Dec.{ltb}
 use borrow.Author.Tests.{ltb-true, ltb-false}
-use Rattle.meaning.proofs.Tests.{cases}
+use Rattle.format.proofs.Tests.{cases}
 use lib.Seq.{get_or-set_same, get_or-set_other}
 use Rattle.work.specs.Layout.{NODE-COUNT, QUERY, NODES, FIELDS}
 use Rattle.cells.specs.Stands.{Rows}
 use Rattle.cells.proofs.Frame.{more_refl}
-use Rattle.meaning.specs.Frame as Frame
-use Rattle.meaning.specs.Syntax.{Node, Query, Ast}
-use Rattle.meaning.specs.Lines.{lines}
-use Rattle.meaning.specs.Frame.{node, kind_byte, kind_of, Frame, a_node, the_query, frame_kind}
-use Rattle.meaning.specs.SoFar.{malformed, frames, said_by, said}
-use Rattle.meaning.specs.File.{Described, max_file}
-use Rattle.meaning.specs.All.{All}
-use Rattle.meaning.specs.Content.{query_frames}
-use Rattle.meaning.specs.Conditions.{max_names, max_predicates, max_nodes}
-use Rattle.meaning.specs.Sound.{Sound}
+use Rattle.format.specs.Frame as Frame
+use Rattle.format.specs.Syntax.{Node, Query, Ast}
+use Rattle.format.specs.Lines.{lines}
+use Rattle.format.specs.Frame.{node, kind_byte, kind_of, Frame, a_node, the_query, frame_kind}
+use Rattle.format.specs.SoFar.{malformed, frames, said_by, said}
+use Rattle.format.specs.File.{Described, max_file}
+use Rattle.format.specs.All.{All}
+use Rattle.format.specs.Content.{query_frames}
+use Rattle.format.specs.Conditions.{max_names, max_predicates, max_nodes}
+use Rattle.format.specs.Sound.{Sound}
 use Rattle.meaning.specs.Outcome.{min_words}
 use Rattle.sigla_hex.specs.Digits.{line_at}
 use Rattle.frames.specs.declared.Kind.{Kind}
 use Rattle.frames.specs.declared.Kind.TheVariants as Code
-use Rattle.frames.specs.Promises.{BytesAt, Malformed, kind_meant, known}
+use Rattle.frames.specs.Promises.{BytesAt, MalformedAt, kind_meant, known}
 use Rattle.frames.proofs.Following.{same_known}
 use Rattle.frames.proofs.Decoding.{holds_line}
 use Rattle.tree.specs.Stands.{SchemaStands, Stands}
@@ -114,7 +114,7 @@ module _ {f : List ℕ} {at : ℕ} {w₀ w : List ℕ} {i n : ℕ} (m : Loading 
   loading_ended l = nothing (λ d qs x. let g = some_frame d.ast.query qs x.left x.schema in let z : i < length f = not_ended f i g.0
       g.1 (x.are ∙ ap (map frames) g.2) in omega arith)
 
-  loading_bad : Malformed f i → Loads f at w₀ w (length f)
+  loading_bad : MalformedAt f i → Loads f at w₀ w (length f)
   unfolding said said_by
   loading_bad b = nothing (λ d qs x.
       let g = some_frame d.ast.query qs x.left x.schema in
@@ -125,7 +125,7 @@ module _ {f : List ℕ} {at : ℕ} {w₀ w : List ℕ} {i n : ℕ} (m : Loading 
       omega arith)
 
   -- no line stands here
-  pub loading_over : (i < length f → Malformed f i) → Loads f at w₀ w (length f)
+  pub loading_over : (i < length f → MalformedAt f i) → Loads f at w₀ w (length f)
   loading_over b = cases (ltb i (length f)) (λ q. loading_bad (b (ltb-true i (length f) q))) (λ q. loading_ended (ltb-false i (length f) q))
 
   -- ---- A line

@@ -4,14 +4,14 @@ use mathlib.Core.List.{List, [], ◌∷◌, ◌++◌, map, flat_map}
 use Rattle.std.specs.Prelude.{◌≡◌, ℕ, ◌≤◌, ◌<◌, length, get_or, drop}
 use Rattle.work.specs.Layout.{NODE-COUNT, QUERY, NODES, FIELDS}
 use Rattle.cells.specs.Stands.{Rows}
-use Rattle.meaning.specs.Syntax.{Ast}
-use Rattle.meaning.specs.Lines.{lines}
-use Rattle.meaning.specs.Frame.{wide, node, kind_byte, Frame, frame_kind}
-use Rattle.meaning.specs.SoFar.{frames, said}
-use Rattle.meaning.specs.File.{Described, max_file}
-use Rattle.meaning.specs.All.{All}
-use Rattle.meaning.specs.Content.{query_frames}
-use Rattle.meaning.specs.Sound.{Sound}
+use Rattle.format.specs.Syntax.{Ast}
+use Rattle.format.specs.Lines.{lines}
+use Rattle.format.specs.Frame.{wide, node, kind_byte, Frame, frame_kind}
+use Rattle.format.specs.SoFar.{frames, said}
+use Rattle.format.specs.File.{Described, max_file}
+use Rattle.format.specs.All.{All}
+use Rattle.format.specs.Content.{query_frames}
+use Rattle.format.specs.Sound.{Sound}
 use Rattle.meaning.specs.Outcome.{min_words}
 use Rattle.tree.specs.Stands.{SchemaStands, Stands}
 
@@ -34,5 +34,6 @@ pub record Loads (f : List ℕ) (at : ℕ) (w w' : List ℕ) (next : ℕ) : Type
   pub words : Reloads w w'
   pub onward : at < length f → at < next
   pub within : next ≤ length f
-  pub stands : (T : Rows) (d : Described) (qs : List Ast) → Sound d → min_words ≤ length w → SchemaStands f w T d.names d.schema → Ahead f at (d.ast ∷ qs) → Stands f w' T d
+  pub stands : (T : Rows) (d : Described) (qs : List Ast) → Sound d → min_words ≤ length w → SchemaStands f w T d.names d.schema → Ahead f at (d.ast ∷ qs)
+      → Stands f w' T d
   pub ahead : (d : Described) (qs : List Ast) → Sound d → min_words ≤ length w → Ahead f at (d.ast ∷ qs) → Ahead f next qs

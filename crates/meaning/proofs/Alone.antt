@@ -8,26 +8,27 @@ use native.Mathlib.Omega.{arith}
 use lib.Dec.{ltb}
 use lib.ListN.{length, length-append}
 use borrow.Author.Tests.{ltb-true}
-use Rattle.meaning.specs.Syntax.{Ast}
-use Rattle.meaning.specs.Schema.{Schema}
-use Rattle.meaning.specs.Refusal.{Refusal, work_too_short, too_many_visits}
-use Rattle.meaning.specs.Frame.{Edition, wide, Frame}
-use Rattle.meaning.specs.Conditions.{max_queries}
-use Rattle.meaning.specs.File.{described, reading, max_file}
-use Rattle.meaning.specs.All.{All, Any, Each}
+use Rattle.format.specs.Syntax.{Ast}
+use Rattle.format.specs.Schema.{Schema}
+use Rattle.format.specs.Refusal.{Refusal, work_too_short, too_many_visits}
+use Rattle.format.specs.Frame.{Edition, wide, Frame}
+use Rattle.format.specs.Conditions.{max_queries}
+use Rattle.format.specs.File.{described, reading, max_file}
+use Rattle.format.specs.All.{All, Any, Each}
 use Rattle.meaning.specs.Check.{Typed, check}
 use Rattle.meaning.specs.Diag.{Message}
 use Rattle.meaning.specs.Messages.{text_in}
-use Rattle.meaning.specs.Answer.{bytes₂, hex_line, answer_lines, numbered, form_lines}
-use Rattle.meaning.specs.Writing.{file_of, written, Writable}
-use Rattle.meaning.specs.Content.{Content, query_frames, schema_frames, frames_of, Lawful, describes}
-use Rattle.meaning.specs.Sound.{LawfulQuery}
+use Rattle.format.specs.Bytes.{bytes₂, hex_line}
+use Rattle.meaning.specs.Answer.{answer_lines, numbered, form_lines}
+use Rattle.format.specs.Writing.{file_of, written, Writable}
+use Rattle.format.specs.Content.{Content, query_frames, schema_frames, frames_of, Lawful, describes}
+use Rattle.format.specs.Sound.{LawfulQuery}
 use Rattle.meaning.specs.Outcome.{Decided, turned_down, answered, with_checked, run_all, decide_run, decide_read, decide, min_words, max_visits}
 use Rattle.meaning.specs.Alone.{alone, file_alone, joined, Apart}
-use Rattle.meaning.proofs.Lists.{all_append, all_left, all_right, all_map}
-use Rattle.meaning.proofs.Tests.{cases}
+use Rattle.format.proofs.Lists.{all_append, all_left, all_right, all_map}
+use Rattle.format.proofs.Tests.{cases}
 use Rattle.meaning.proofs.Forms.{Ran, RanOut, Runs, all_ran, one_out, runs}
-use Rattle.meaning.proofs.Content.{says_exactly}
+use Rattle.format.proofs.Content.{says_exactly}
 use Rattle.meaning.proofs.Demands.{short_decides}
 use Rattle.std.specs.Prelude.{Option, Some}
 
@@ -36,7 +37,8 @@ use Rattle.std.specs.Prelude.{Option, Some}
 pub file_append : (e : Edition) (fs gs : List Frame) → file_of e (fs ++ gs) ≡ file_of e fs ++ file_of e gs
 unfolding file_of flat_map
 file_append e [] gs = refl
-file_append e (f ∷ fs) gs = ap (λ s. hex_line (written e f) ++ s) (file_append e fs gs) ∙ sym (append_assoc (hex_line (written e f)) (file_of e fs) (file_of e gs))
+file_append e (f ∷ fs) gs =
+    ap (λ s. hex_line (written e f) ++ s) (file_append e fs gs) ∙ sym (append_assoc (hex_line (written e f)) (file_of e fs) (file_of e gs))
 
 -- The lines of a form are those of its schema and then those of each query; the file of one alone has the first and its own.
 pub form_lines_lem : (c : Content) → file_of wide (frames_of c) ≡ file_of wide (schema_frames c) ++ file_of wide (flat_map query_frames c.queries)
@@ -236,7 +238,8 @@ module _ (c : Content) (lawful : Lawful wide c) (size : length (file_of wide (fr
       forth e = go (lent _ e not_short) (runs (describes c).schema c.queries) (sym (is_decided (lent _ e not_short)) ∙ e)
         where
           go : ltb words min_words ≡ false → {o : Option (List Typed)} → Runs (describes c).schema c.queries o
-              → decide_run (text_in (describes c)) o ≡ turned_down too_many_visits → Any (λ a. decide (file_alone c a) words ≡ turned_down too_many_visits) c.queries
+              → decide_run (text_in (describes c)) o ≡ turned_down too_many_visits
+              → Any (λ a. decide (file_alone c a) words ≡ turned_down too_many_visits) c.queries
           go n (one_out x) q = any_ran_out c words n c.queries (alone_passes c lawful size) x
           go n (all_ran ts x) q = absurd (clashing q)
 

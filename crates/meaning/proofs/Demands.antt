@@ -7,12 +7,12 @@ use native.Mathlib.Omega.{arith}
 use lib.Dec.{ltb}
 use lib.ListN.{length, replicate}
 use borrow.Author.Tests.{ltb-true, ltb-false, lt-ltb, le-ltb}
-use Rattle.meaning.specs.Refusal.{Refusal, work_too_short, broken_text, too_many_visits, answer_too_long}
-use Rattle.meaning.specs.Frame.{wide}
-use Rattle.meaning.specs.Refused as Lines
-use Rattle.meaning.specs.All.{All, Any, Each}
-use Rattle.meaning.specs.File.{Form, view_of, Reading, refused, described, reading}
-use Rattle.meaning.specs.Sound.{Sound}
+use Rattle.format.specs.Refusal.{Refusal, work_too_short, broken_text, too_many_visits, answer_too_long}
+use Rattle.format.specs.Frame.{wide}
+use Rattle.format.specs.Refused as Lines
+use Rattle.format.specs.All.{All, Any, Each}
+use Rattle.format.specs.File.{Form, view_of, Reading, refused, described, reading}
+use Rattle.format.specs.Sound.{Sound}
 use Rattle.meaning.specs.Check.{Typed}
 use Rattle.meaning.specs.Answer.{form_lines}
 use Rattle.meaning.specs.Messages.{text_in}
@@ -20,13 +20,13 @@ use Rattle.meaning.specs.Outcome.{Decided, turned_down, answered, Outcome, Accep
 use Rattle.meaning.specs.Outcome.{decide, refuse, accept, finish, outcome}
 use Rattle.meaning.specs.Demands.{RefusedWhen, for_work, for_file, for_visits, for_answer, AcceptedWhen, Demand1, Demand2}
 use Rattle.meaning.specs.Run.{RunDemand3, RunAsRobinson}
-use Rattle.meaning.proofs.Tests.{cases}
-use Rattle.meaning.proofs.Lists.{all_map}
-use Rattle.meaning.proofs.Refused.{refused_when}
+use Rattle.format.proofs.Tests.{cases}
+use Rattle.format.proofs.Lists.{all_map}
+use Rattle.format.proofs.Refused.{refused_when}
 use Rattle.meaning.proofs.Forms.{Ran, RanOut, Runs, all_ran, one_out, runs, each_ran, any_out}
-use Rattle.meaning.proofs.Texts.{texts_counted, broken_exactly}
+use Rattle.format.proofs.Texts.{texts_counted, broken_exactly}
 use Rattle.meaning.proofs.Nonzero.{form_nonzero}
-use Rattle.meaning.proofs.Sound.{sound}
+use Rattle.format.proofs.Sound.{sound}
 use Rattle.meaning.proofs.Run.{sound_well_formed, run_demand_3, run_robinson}
 use Rattle.std.specs.Prelude.{None, Option, Some}
 

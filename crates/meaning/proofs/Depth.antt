@@ -10,15 +10,15 @@ use native.Mathlib.Omega.{arith}
 use lib.ListN.{length, get_or-eq_default}
 use Rattle.unification.specs.Ty.{Leaf, Kind, Ty, Row}
 use Rattle.unification.specs.Unify.{find_key, find_label}
-use Rattle.meaning.specs.Syntax.{Field, QueryStmt, Query, FieldRef, Literal, ExprKind, Node, no_node, node_at, all_fields, destructurable_kind}
-use Rattle.meaning.specs.Syntax.{destructurable_in, is_destructurable}
-use Rattle.meaning.specs.Schema.{Schema}
-use Rattle.meaning.specs.References.{field_values, stmt_nodes, query_nodes, expr_nodes}
-use Rattle.meaning.specs.All.{All}
-use Rattle.meaning.specs.Sound.{Lower}
-use Rattle.meaning.proofs.Lists.{all_map}
-use Rattle.meaning.proofs.Sound.{lower_at}
-use Rattle.meaning.specs.Check.{Form, a_wildcard, a_variable, a_constant, a_record, a_disjunction, an_error, another, form_of, Walk, kind, form, key_ty}
+use Rattle.format.specs.Syntax.{Field, QueryStmt, Query, FieldRef, Literal, ExprKind, Node, no_node, node_at, all_fields, destructurable_kind}
+use Rattle.format.specs.Syntax.{destructurable_in, is_destructurable}
+use Rattle.format.specs.Schema.{Schema}
+use Rattle.format.specs.References.{field_values, stmt_nodes, query_nodes, expr_nodes}
+use Rattle.format.specs.All.{All}
+use Rattle.format.specs.Sound.{Lower}
+use Rattle.format.proofs.Lists.{all_map}
+use Rattle.format.proofs.Sound.{lower_at}
+use Rattle.meaning.specs.Check.{NodeForm, a_wildcard, a_variable, a_constant, a_record, a_disjunction, an_error, another, form_of, Walk, kind, form, key_ty}
 use Rattle.meaning.specs.Check.{access, select, infer_fields, infer_all, disjunction, fact, bind_variable, bad_target, only_right, not_yet, destructure}
 use Rattle.meaning.specs.Check.{bind_wildcard, bind_form, deny_form, compare, generate, stmt, stmts, subquery, infer_kind, infer_at, infer_then_unify}
 use Rattle.meaning.specs.Check.{check_field, check_mentioned, check_fields, check_alternative, check_union, check_record, check_form, check_against, check_at}
@@ -66,7 +66,8 @@ module _ (schema : Schema) (nodes : List Node) (below below' : Walk) where
       all : (t : Ty) → infer_all schema nodes below t es ≡ infer_all schema nodes below' t es
       all t = infer_all_alike t es h
 
-  bind_form_alike : (f : Form) (l r : ℕ) → Alike below below' l → Alike below below' r → bind_form schema nodes below f l r ≡ bind_form schema nodes below' f l r
+  bind_form_alike : (f : NodeForm) (l r : ℕ) → Alike below below' l → Alike below below' r
+      → bind_form schema nodes below f l r ≡ bind_form schema nodes below' f l r
   unfolding bind_form bind_variable bad_target only_right not_yet destructure bind_wildcard
   bind_form_alike a_wildcard l r p q = rw q.infer
   bind_form_alike (a_variable x) l r p q = rw q.infer
@@ -80,7 +81,8 @@ module _ (schema : Schema) (nodes : List Node) (below below' : Walk) where
   bind_form_alike an_error l r p q = rw q.infer
   bind_form_alike another l r p q = rw (p.infer, q.infer)
 
-  deny_form_alike : (f : Form) (l r : ℕ) → Alike below below' l → Alike below below' r → deny_form schema nodes below f l r ≡ deny_form schema nodes below' f l r
+  deny_form_alike : (f : NodeForm) (l r : ℕ) → Alike below below' l → Alike below below' r
+      → deny_form schema nodes below f l r ≡ deny_form schema nodes below' f l r
   unfolding deny_form bind_variable bad_target only_right not_yet
   deny_form_alike a_wildcard l r p q = rw q.infer
   deny_form_alike (a_variable x) l r p q = rw q.infer
@@ -104,7 +106,8 @@ module _ (schema : Schema) (nodes : List Node) (below below' : Walk) where
   subquery_alike q h = rw (stmts_alike q.body h.1, h.0.infer)
 
   -- ---- `infer`
-  infer_kind_alike : (id : ℕ) (k : ExprKind) → All (Alike below below') (expr_nodes k) → infer_kind schema nodes below id k ≡ infer_kind schema nodes below' id k
+  infer_kind_alike : (id : ℕ) (k : ExprKind) → All (Alike below below') (expr_nodes k)
+      → infer_kind schema nodes below id k ≡ infer_kind schema nodes below' id k
   unfolding infer_kind expr_nodes
   infer_kind_alike id (ExprKind.Lit Literal.Int) h = refl
   infer_kind_alike id (ExprKind.Lit Literal.Str) h = refl

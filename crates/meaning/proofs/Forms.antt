@@ -2,9 +2,9 @@
 use mathlib.Core.List.{List, [], ◌∷◌}
 use mathlib.Core.Logic.{inl, inr}
 use mathlib.Core.Path.{◌≡◌, refl, ap, ◌∙◌}
-use Rattle.meaning.specs.Syntax.{Ast}
-use Rattle.meaning.specs.Schema.{Schema}
-use Rattle.meaning.specs.All.{Any, Each}
+use Rattle.format.specs.Syntax.{Ast}
+use Rattle.format.specs.Schema.{Schema}
+use Rattle.format.specs.All.{Any, Each}
 use Rattle.meaning.specs.Check.{Typed, Checked, typed, exhausted, check}
 use Rattle.meaning.specs.Outcome.{with_checked, run_all, max_visits}
 use Rattle.std.specs.Prelude.{None, Option, Some}

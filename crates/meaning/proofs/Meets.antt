@@ -12,9 +12,9 @@ use Rattle.unification.proofs.Sides.{side_more}
 use Rattle.unification.proofs.Undo.{Since, since_refl, since_trans, since_length}
 use Rattle.meaning.specs.Diag.{Diagnostic}
 use Rattle.meaning.specs.Check.{Checker, Entry, Step, goes, out, Does, and_then}
-use Rattle.meaning.specs.All.{All}
+use Rattle.format.specs.All.{All}
 use Rattle.meaning.specs.Run.{Led, EntryLed}
-use Rattle.meaning.specs.Grades.{Grade, plus, Fits, unknowns, Orderly, Ready}
+use Rattle.meaning.specs.Grades.{Grade, plus, GradeFits, unknowns, Orderly, Ready}
 use Rattle.std.specs.Prelude.{None, Option}
 
 -- From the first checker to the second no more was made than the grade allows.
@@ -102,7 +102,7 @@ reached_refl c v tys ts cs = ([], cs, λ h. h)
 pub stays : {A : Type 0} (P : A → Checker → Type 0) (g : Grade) (c : Checker) (a : A) → Orderly c → P a c → Meets P g c (goes a c)
 stays P g c a o p = went (record { orderly = o; made = made_refl g c; reached = reached_refl c; holds = p })
 
-pub made_trans : (g h k : Grade) (a b c : Checker) → Fits (plus g h) k → Made g a b → Made h b c → Made k a c
+pub made_trans : (g h k : Grade) (a b c : Checker) → GradeFits (plus g h) k → Made g a b → Made h b c → Made k a c
 made_trans g h k a b c f p q = record {
   new = p.new + q.new;
   since = since_trans p.since q.since;
@@ -120,7 +120,7 @@ made_trans g h k a b c f p q = record {
   until = q.until ∙ p.until;
 }
 
-pub made_fits : (g k : Grade) (a b : Checker) → Fits g k → Made g a b → Made k a b
+pub made_fits : (g k : Grade) (a b : Checker) → GradeFits g k → Made g a b → Made k a b
 made_fits g k a b f p = record {
   new = p.new;
   since = p.since;
@@ -149,7 +149,7 @@ unfolding Reached Stopped
 stopped_trans a b c p q v tys ts cs = let x = p v tys ts cs in q v tys (x.0 ++ ts) x.1
 
 -- ---- Nodes that are ready
-pub ready_fits : (g k : Grade) (c : Checker) → Fits g k → Ready k c → Ready g c
+pub ready_fits : (g k : Grade) (c : Checker) → GradeFits g k → Ready k c → Ready g c
 ready_fits g k c f r = record {
   once = λ x. omega (arith, f.nodes x, r.once x);
   there = λ x h. r.there x (omega (arith, f.nodes x));
@@ -157,19 +157,19 @@ ready_fits g k c f r = record {
 }
 
 -- What one step annotated, the next does not.
-pub ready_after : (g h k : Grade) (c c' : Checker) → Fits (plus g h) k → Made g c c' → Ready k c → Ready h c'
+pub ready_after : (g h k : Grade) (c c' : Checker) → GradeFits (plus g h) k → Made g c c' → Ready k c → Ready h c'
 ready_after g h k c c' f m r = record {
   once = λ x. omega (arith, f.nodes x, r.once x);
   there = λ x i. rw m.nodes (r.there x (omega (arith, f.nodes x)));
   bare = λ x i. m.elsewhere x (omega (arith, f.nodes x, r.once x)) ∙ r.bare x (omega (arith, f.nodes x));
 }
 
-pub fits_left : (g h k : Grade) → Fits (plus g h) k → Fits g k
+pub fits_left : (g h k : Grade) → GradeFits (plus g h) k → GradeFits g k
 fits_left g h k f = record { nodes = λ x. omega (arith, f.nodes x); unknowns = omega (arith, f.unknowns); diagnostics = omega (arith, f.diagnostics) }
 
 -- ---- Steps that join
 
-module _ {A B : Type 0} (P : A → Checker → Type 0) (Q : B → Checker → Type 0) (g h k : Grade) (c : Checker) (f : Fits (plus g h) k) where
+module _ {A B : Type 0} (P : A → Checker → Type 0) (Q : B → Checker → Type 0) (g h k : Grade) (c : Checker) (f : GradeFits (plus g h) k) where
   went_on : {a : A} {b : Checker} {s : Step B} → Went P g c a b → Meets Q h b s → Meets Q k c s
   went_on {a} {b} p (went {c' = e} q) = went (record {
     orderly = q.orderly;
@@ -197,13 +197,13 @@ module _ {A B : Type 0} (P : A → Checker → Type 0) (Q : B → Checker → Ty
 
 -- What follows a step, said from before the step.
 pub meets_from : {A B : Type 0} (P : A → Checker → Type 0) (Q : B → Checker → Type 0) (g k : Grade) (c : Checker) (m : Step A) (next : A → Does B)
-    → Fits g k → Meets P g c m
+    → GradeFits g k → Meets P g c m
     → ((a : A) (b : Checker) → Went P g c a b → Meets Q k c (next a b)) → Meets Q k c (and_then m next)
 unfolding and_then
 meets_from P Q g k c m next f (went {a} {c' = b} w) q = q a b w
 meets_from P Q g k c m next f (ended {c' = b} w) q = ended (record { made = made_fits g k c b f w.made; stopped = w.stopped })
 
-pub meets_fits : {A : Type 0} (P : A → Checker → Type 0) (g k : Grade) (c : Checker) {m : Step A} → Fits g k → Meets P g c m → Meets P k c m
+pub meets_fits : {A : Type 0} (P : A → Checker → Type 0) (g k : Grade) (c : Checker) {m : Step A} → GradeFits g k → Meets P g c m → Meets P k c m
 meets_fits P g k c f (went {c' = b} w) = went (record { orderly = w.orderly; made = made_fits g k c b f w.made; reached = w.reached; holds = w.holds })
 meets_fits P g k c f (ended {c' = b} w) = ended (record { made = made_fits g k c b f w.made; stopped = w.stopped })
 

@@ -5,14 +5,15 @@ use Prim.Native.Nat.{ℕ, suc, ◌/◌, ◌%◌, ◌<◌}
 use native.Mathlib.Omega.{arith}
 use lib.Dec.{ltb}
 use Rattle.unification.specs.Ty.{Ty}
-use Rattle.meaning.specs.All.{All}
-use Rattle.meaning.specs.Syntax.{Span}
+use Rattle.format.specs.All.{All}
+use Rattle.format.specs.Syntax.{Span}
 use Rattle.meaning.specs.Diag.{Message, Diagnostic}
 use Rattle.meaning.specs.Check.{Typed}
-use Rattle.meaning.specs.Answer.{diagnostic_line, bytes₂, bytes₄, hex_digit, hex_line, slot_bytes, node_lines, diagnostic_bytes, diagnostic_lines}
+use Rattle.format.specs.Bytes.{bytes₂, bytes₄, hex_digit, hex_line}
+use Rattle.meaning.specs.Answer.{diagnostic_line, slot_bytes, node_lines, diagnostic_bytes, diagnostic_lines}
 use Rattle.meaning.specs.Answer.{unused_line, unused_lines, answer_lines, numbered, form_lines}
-use Rattle.meaning.proofs.Lists.{all_append}
-use Rattle.meaning.proofs.Tests.{cases}
+use Rattle.format.proofs.Lists.{all_append}
+use Rattle.format.proofs.Tests.{cases}
 use Rattle.std.specs.Prelude.{Option}
 
 abbrev Nonzero : List ℕ → Type 0

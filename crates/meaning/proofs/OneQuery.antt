@@ -6,15 +6,15 @@ use mathlib.Core.Path.{◌≡◌, refl, sym, ap, subst, ◌∙◌}
 use Prim.Native.Nat.{ℕ}
 use native.Mathlib.Omega.{arith}
 use lib.Dec.{ltb}
-use Rattle.meaning.specs.Syntax.{Ast}
-use Rattle.meaning.specs.Schema.{Schema}
-use Rattle.meaning.specs.Refusal.{Refusal}
-use Rattle.meaning.specs.Lines.{lines}
-use Rattle.meaning.specs.Frame.{wide, Kind, limits, name, schema_type, predicate, node, query, kind_byte, follows, may_stand, the_limits}
-use Rattle.meaning.specs.Frame.{a_name, a_type, a_predicate, a_node, the_query, frame_kind}
-use Rattle.meaning.specs.SoFar.{Said, malformed, unknown_kind, no_frame, frames, said, SoFar, start, add, after}
-use Rattle.meaning.specs.Conditions.{is_misplaced, is_last_query_past, is_query_too_many, max_queries, Condition, conditions, first_of}
-use Rattle.meaning.specs.File.{schema_of, describe, Reading, refused, described, at_end, read_from, is_too_long, reading_of, reading}
+use Rattle.format.specs.Syntax.{Ast}
+use Rattle.format.specs.Schema.{Schema}
+use Rattle.format.specs.Refusal.{Refusal}
+use Rattle.format.specs.Lines.{lines}
+use Rattle.format.specs.Frame.{wide, Kind, limits, name, schema_type, predicate, node, query, kind_byte, follows, may_stand, the_limits}
+use Rattle.format.specs.Frame.{a_name, a_type, a_predicate, a_node, the_query, frame_kind}
+use Rattle.format.specs.SoFar.{Said, malformed, unknown_kind, no_frame, frames, said, SoFar, start, add, after}
+use Rattle.format.specs.Conditions.{is_misplaced, is_last_query_past, is_query_too_many, max_queries, Condition, conditions, first_of}
+use Rattle.format.specs.File.{schema_of, describe, Reading, refused, described, at_end, read_from, is_too_long, reading_of, reading}
 use Rattle.meaning.specs.Check.{Checked, typed, exhausted, check}
 use Rattle.meaning.specs.Messages.{message_text}
 use Rattle.meaning.specs.Answer.{form_lines}
@@ -22,9 +22,9 @@ use Rattle.meaning.specs.Outcome.{with_checked, run_all, decide_run, decide_read
 use Rattle.meaning.specs.OneQuery.{SoFarBefore, start_before, add_before, after_before, as_now, may_stand_before, is_misplaced_before, conditions_before}
 use Rattle.meaning.specs.OneQuery.{ReadingBefore, refused_before, described_before, describe_before, at_end_before, read_from_before, reading_before}
 use Rattle.meaning.specs.OneQuery.{decide_checked_before, decide_read_before, decide_before, outcome_before, kind_in, QueryLast}
-use Rattle.meaning.proofs.Tests.{cases}
-use Rattle.meaning.proofs.Conditions.{passed}
-use Rattle.meaning.proofs.Refused.{read_next}
+use Rattle.format.proofs.Tests.{cases}
+use Rattle.format.proofs.Conditions.{passed}
+use Rattle.format.proofs.Refused.{read_next}
 use Rattle.std.specs.Prelude.{None, Option, Some}
 
 -- ---- The conditions
@@ -160,7 +160,8 @@ one_more : (b : SoFarBefore) (l : Said) (ls : List Said) → Open b → kind_in 
 one_more b l ls o h q ih =
     let now : read_from (as_now b) (l ∷ ls) ≡ read_from (as_now (after_before b l)) ls = read_next (as_now b) l ls (same_first b l o ∙ q) ∙ ap
     (λ so. read_from so ls) (same_after b l h) in
-    subst (λ r. Alike r (read_from_before b (l ∷ ls))) (sym now) (subst (λ r. Alike (read_from (as_now (after_before b l)) ls) r) (sym (next_before b l ls q)) ih)
+    subst (λ r. Alike r (read_from_before b (l ∷ ls))) (sym now)
+    (subst (λ r. Alike (read_from (as_now (after_before b l)) ls) r) (sym (next_before b l ls q)) ih)
 
 alike : (b : SoFarBefore) (ls : List Said) → Open b → QueryLast ls → Alike (read_from (as_now b) ls) (read_from_before b ls)
 unfolding read_from read_from_before

@@ -21,12 +21,12 @@ use Rattle.unification.proofs.Log.{taken_pad}
 use Rattle.unification.proofs.Sides.{bound_pad}
 use Rattle.unification.proofs.Demand3.{calls_inv, demand_3}
 use Rattle.unification.proofs.Robinson.{robinson, robinson_at_the_limit}
-use Rattle.meaning.specs.Syntax.{Node, Ast}
-use Rattle.meaning.specs.Schema.{Schema}
-use Rattle.meaning.specs.References.{stmt_nodes, query_nodes}
-use Rattle.meaning.specs.File.{Described}
-use Rattle.meaning.specs.All.{All}
-use Rattle.meaning.specs.Sound.{Sound}
+use Rattle.format.specs.Syntax.{Node, Ast}
+use Rattle.format.specs.Schema.{Schema}
+use Rattle.format.specs.References.{stmt_nodes, query_nodes}
+use Rattle.format.specs.File.{Described}
+use Rattle.format.specs.All.{All}
+use Rattle.format.specs.Sound.{Sound}
 use Rattle.meaning.specs.Check.{Until, the_end, first_diagnostic, entry, Checker, Step, goes, begin}
 use Rattle.meaning.specs.Run.{Led, EntryLed, between_calls, at_the_limit, ending, NotYet, run, RunDemand3, RunAsRobinson}
 use Rattle.meaning.specs.Weights.{WellFormed, same, sum_of, total, weight, size, records, record_fields}

@@ -25,18 +25,18 @@ use Rattle.unification.specs.Log.{Log}
 use Rattle.unification.proofs.Log.{taken_pad, log_annotate, Logged, unify_logged}
 use Rattle.unification.proofs.Demand3.{rolled_since}
 use Rattle.unification.proofs.Tests.{clash}
-use Rattle.meaning.specs.Syntax.{Span, Node, node_at}
-use Rattle.meaning.specs.Schema.{Schema}
+use Rattle.format.specs.Syntax.{Span, Node, node_at}
+use Rattle.format.specs.Schema.{Schema}
 use Rattle.meaning.specs.Diag.{Message}
 use Rattle.meaning.specs.Check.{Until, the_end, first_diagnostic, entry, Entry, Checker, goes, Does, and_then, with_state, with_env, with_marks}
 use Rattle.meaning.specs.Check.{with_unused, with_diagnostics, with_entries, diagnosed, reported, fresh_var_id, lookup_in, lookup, push_env, is_in, marked}
 use Rattle.meaning.specs.Check.{mark, introduce, annotate, unified, united, entered, arrived, enter, unify, ordered, orderable, Mark}
 use Rattle.meaning.specs.Check.{truncate_env, truncate_marks, rollback, leaving, leave, reject, report, unify_at}
-use Rattle.meaning.specs.All.{All}
+use Rattle.format.specs.All.{All}
 use Rattle.meaning.specs.Run.{between_calls, at_the_limit, NotYet}
 use Rattle.meaning.specs.Weights.{same}
-use Rattle.meaning.proofs.Lists.{all_map}
-use Rattle.meaning.proofs.Tests.{cases}
+use Rattle.format.proofs.Lists.{all_map}
+use Rattle.format.proofs.Tests.{cases}
 use Rattle.meaning.proofs.Marked.{total_more, present_more}
 use Rattle.meaning.specs.Grades.{Grade, unknowns, present, marks_below, Orderly, Ready, no_thing, one_diagnostic, one_unknown, one_node, Known}
 use Rattle.meaning.proofs.Meets.{Made, Reached, Stopped, Went, Meets, went, ended, meets, made_more, made_trans, stays, meets_then}

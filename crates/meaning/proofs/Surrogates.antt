@@ -9,22 +9,22 @@ use lib.ListN.{length}
 use Rattle.text.specs.Utf8.{characters}
 use Rattle.text.specs.Surrogates.{HasSurrogate, characters_open}
 use Rattle.text.proofs.Surrogates.{kept, surrogate_no_text}
-use Rattle.meaning.specs.All.{All}
-use Rattle.meaning.specs.Refusal.{Refusal, malformed_line, misplaced_kind, too_many, malformed_frame, broken_text, name_given_before, bad_reference}
-use Rattle.meaning.specs.Refusal.{repeated_key, too_many_queries}
-use Rattle.meaning.specs.Frame.{wide, Kind, limits, name, schema_type, predicate, node, query, may_stand, the_limits, a_name, a_type, a_predicate}
-use Rattle.meaning.specs.Frame.{a_node, the_query}
-use Rattle.meaning.specs.References.{texts_of}
-use Rattle.meaning.specs.Lines.{lines}
-use Rattle.meaning.specs.SoFar.{Said, malformed, unknown_kind, no_frame, frames, said, SoFar, start, add, after}
-use Rattle.meaning.specs.Conditions.{any_of, of_frame, broken, max_names, Condition, conditions, first_of, is_malformed, is_misplaced, is_one_too_many}
-use Rattle.meaning.specs.Conditions.{is_query_too_many, is_no_frame, is_broken_text, is_name_given_before, is_bad_reference, is_repeated_key}
-use Rattle.meaning.specs.File.{max_file, count_of, schema_of, describe, at_end, read_from, is_too_long, reading_of, reading}
+use Rattle.format.specs.All.{All}
+use Rattle.format.specs.Refusal.{Refusal, malformed_line, misplaced_kind, too_many, malformed_frame, broken_text, name_given_before, bad_reference}
+use Rattle.format.specs.Refusal.{repeated_key, too_many_queries}
+use Rattle.format.specs.Frame.{wide, Kind, limits, name, schema_type, predicate, node, query, may_stand, the_limits, a_name, a_type, a_predicate}
+use Rattle.format.specs.Frame.{a_node, the_query}
+use Rattle.format.specs.References.{texts_of}
+use Rattle.format.specs.Lines.{lines}
+use Rattle.format.specs.SoFar.{Said, malformed, unknown_kind, no_frame, frames, said, SoFar, start, add, after}
+use Rattle.format.specs.Conditions.{any_of, of_frame, broken, max_names, Condition, conditions, first_of, is_malformed, is_misplaced, is_one_too_many}
+use Rattle.format.specs.Conditions.{is_query_too_many, is_no_frame, is_broken_text, is_name_given_before, is_bad_reference, is_repeated_key}
+use Rattle.format.specs.File.{max_file, count_of, schema_of, describe, at_end, read_from, is_too_long, reading_of, reading}
 use Rattle.meaning.specs.Outcome.{Refused, decide, min_words, outcome}
 use Rattle.meaning.specs.Surrogates.{broken_open, is_broken_open, conditions_open, schema_open, describe_open, at_end_open, read_from_open, reading_open}
 use Rattle.meaning.specs.Surrogates.{decide_open, outcome_open, NoSurrogate, NoSurrogateOn, NoSurrogateIn}
-use Rattle.meaning.specs.Refused.{Pass}
-use Rattle.meaning.proofs.Lists.{all_snoc}
+use Rattle.format.specs.Refused.{Pass}
+use Rattle.format.proofs.Lists.{all_snoc}
 use Rattle.meaning.proofs.Demands.{demand_1}
 use Rattle.std.specs.Prelude.{None, Option, Some}
 

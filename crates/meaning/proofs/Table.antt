@@ -1,18 +1,15 @@
 -- The rows of specs/Table.antt, computed over the definitions. Each has a line of its own, so that a message tells which one fails.
-use mathlib.Core.List.{List, [], ◌∷◌}
-use mathlib.Core.Path.{◌≡◌, refl}
-use Prim.Native.String.{String}
+use mathlib.Core.Path.{refl}
 use native.Mathlib.Decide.{ℕ_discrete}
-use Rattle.unification.specs.Ty.{Int, Record, Union, leaf, node, ε, cell}
 use Rattle.unification.specs.Bindings as Bindings
 use Rattle.unification.specs.Unify as Unify
-use Rattle.meaning.specs.Frame.{wide}
-use Rattle.meaning.specs.File.{types_of}
-use Rattle.meaning.specs.Table.{text, examples, own_examples, message_examples, unused_examples, forms, refusals, limits_of, holds, Rows, end, ◌then◌, short_wholes, ends}
+use Rattle.meaning.specs.Table.{examples, own_examples, message_examples, unused_examples, forms, refusals, limits_of, holds, TableRows, end, ◌then◌}
+use Rattle.meaning.specs.Table.{short_wholes, ends}
 
 -- Document 01's list.
-pub table : Rows holds examples
-unfolding examples holds ℕ_discrete Bindings.fresh Bindings.fresh_id Bindings.annotate Bindings.snapshot Bindings.rollback Bindings.zonk Unify.unify Unify.orderable
+pub table : TableRows holds examples
+unfolding examples holds ℕ_discrete Bindings.fresh Bindings.fresh_id Bindings.annotate Bindings.snapshot Bindings.rollback Bindings.zonk Unify.unify
+    Unify.orderable
 table =
     -- M
     refl then
@@ -45,8 +42,9 @@ table =
     end
 
 -- Our own.
-pub own_examples_lem : Rows holds own_examples
-unfolding own_examples holds ℕ_discrete Bindings.fresh Bindings.fresh_id Bindings.annotate Bindings.snapshot Bindings.rollback Bindings.zonk Unify.unify Unify.orderable
+pub own_examples_lem : TableRows holds own_examples
+unfolding own_examples holds ℕ_discrete Bindings.fresh Bindings.fresh_id Bindings.annotate Bindings.snapshot Bindings.rollback Bindings.zonk Unify.unify
+    Unify.orderable
 own_examples_lem =
     -- a failed bind
     refl then
@@ -65,8 +63,9 @@ own_examples_lem =
     end
 
 -- The text of each message.
-pub message_examples_lem : Rows holds message_examples
-unfolding message_examples holds ℕ_discrete Bindings.fresh Bindings.fresh_id Bindings.annotate Bindings.snapshot Bindings.rollback Bindings.zonk Unify.unify Unify.orderable
+pub message_examples_lem : TableRows holds message_examples
+unfolding message_examples holds ℕ_discrete Bindings.fresh Bindings.fresh_id Bindings.annotate Bindings.snapshot Bindings.rollback Bindings.zonk Unify.unify
+    Unify.orderable
 message_examples_lem =
     -- left sides and the head
     refl then
@@ -85,8 +84,9 @@ message_examples_lem =
     end
 
 -- Card 9's.
-pub unused_examples_lem : Rows holds unused_examples
-unfolding unused_examples holds ℕ_discrete Bindings.fresh Bindings.fresh_id Bindings.annotate Bindings.snapshot Bindings.rollback Bindings.zonk Unify.unify Unify.orderable
+pub unused_examples_lem : TableRows holds unused_examples
+unfolding unused_examples holds ℕ_discrete Bindings.fresh Bindings.fresh_id Bindings.annotate Bindings.snapshot Bindings.rollback Bindings.zonk Unify.unify
+    Unify.orderable
 unused_examples_lem =
     -- x < x
     refl then
@@ -105,8 +105,9 @@ unused_examples_lem =
     end
 
 -- Forms of several queries.
-pub form_examples : Rows holds forms
-unfolding forms holds ℕ_discrete Bindings.fresh Bindings.fresh_id Bindings.annotate Bindings.snapshot Bindings.rollback Bindings.zonk Unify.unify Unify.orderable
+pub form_examples : TableRows holds forms
+unfolding forms holds ℕ_discrete Bindings.fresh Bindings.fresh_id Bindings.annotate Bindings.snapshot Bindings.rollback Bindings.zonk Unify.unify
+    Unify.orderable
 form_examples =
     -- two queries
     refl then
@@ -145,8 +146,9 @@ form_examples =
     end
 
 -- Document 01's table of refusals.
-pub refusal_examples : Rows holds refusals
-unfolding refusals holds ℕ_discrete Bindings.fresh Bindings.fresh_id Bindings.annotate Bindings.snapshot Bindings.rollback Bindings.zonk Unify.unify Unify.orderable
+pub refusal_examples : TableRows holds refusals
+unfolding refusals holds ℕ_discrete Bindings.fresh Bindings.fresh_id Bindings.annotate Bindings.snapshot Bindings.rollback Bindings.zonk Unify.unify
+    Unify.orderable
 refusal_examples =
     -- 1
     refl then
@@ -177,8 +179,9 @@ refusal_examples =
     end
 
 -- Forms that document 01 leaves open.
-pub limit_examples : Rows holds limits_of
-unfolding limits_of holds ℕ_discrete Bindings.fresh Bindings.fresh_id Bindings.annotate Bindings.snapshot Bindings.rollback Bindings.zonk Unify.unify Unify.orderable
+pub limit_examples : TableRows holds limits_of
+unfolding limits_of holds ℕ_discrete Bindings.fresh Bindings.fresh_id Bindings.annotate Bindings.snapshot Bindings.rollback Bindings.zonk Unify.unify
+    Unify.orderable
 limit_examples =
     -- an empty line
     refl then
@@ -219,21 +222,12 @@ limit_examples =
     end
 
 -- The result and both slices.
-pub outcome_examples : Rows ends short_wholes
-unfolding short_wholes ends ℕ_discrete Bindings.fresh Bindings.fresh_id Bindings.annotate Bindings.snapshot Bindings.rollback Bindings.zonk Unify.unify Unify.orderable
+pub outcome_examples : TableRows ends short_wholes
+unfolding short_wholes ends ℕ_discrete Bindings.fresh Bindings.fresh_id Bindings.annotate Bindings.snapshot Bindings.rollback Bindings.zonk Unify.unify
+    Unify.orderable
 outcome_examples =
     -- M in 20 bytes
     refl then
     -- in 3 words
     refl then
     end
-
--- A file's types by number, none of which a predicate names: Int; a record of it under the name 0; a union of the two, by their
--- discriminants 5 and 7 and their names 0 and 1.
-unfoldable three : List String
-three = "01020020" ∷ "0261" ∷ "0262" ∷ "0300" ∷ "030400000000" ∷ "030500000000000500000001000000070001" ∷ "05000000000000000300" ∷ "060000" ∷ []
-
-types : types_of wide (text three) ≡ leaf Int ∷ node Record (cell 0 0 (leaf Int) ε) ∷ node Union
-    (cell 5 0 (leaf Int) (cell 7 1 (node Record (cell 0 0 (leaf Int) ε)) ε)) ∷ []
-unfolding types_of text three
-types = refl

@@ -13,15 +13,15 @@ use Rattle.unification.specs.Unify.{TyError, find_key, find_label}
 use Rattle.unification.specs.Calls.{Declared, DeclaredRow, Side, SideRow}
 use Rattle.unification.proofs.Tests.{clash}
 use Rattle.unification.proofs.Sides.{side_row_more, declared_side, Part, find_part, Field, fields, side_follow}
-use Rattle.meaning.specs.Syntax.{QueryStmt, Query, FieldRef, Literal, ExprKind, Node, node_at, is_destructurable}
-use Rattle.meaning.specs.Syntax as Syntax
-use Rattle.meaning.specs.Schema.{Predicate, Schema, get, field_of}
+use Rattle.format.specs.Syntax.{QueryStmt, Query, FieldRef, Literal, ExprKind, Node, node_at, is_destructurable}
+use Rattle.format.specs.Syntax as Syntax
+use Rattle.format.specs.Schema.{Predicate, Schema, get, field_of}
 use Rattle.meaning.specs.Diag.{Message}
-use Rattle.meaning.specs.References.{field_values, stmt_nodes, query_nodes, expr_nodes}
-use Rattle.meaning.specs.All.{All}
-use Rattle.meaning.specs.Sound.{DeclaredOption, DeclaredPredicate}
+use Rattle.format.specs.References.{field_values, stmt_nodes, query_nodes, expr_nodes}
+use Rattle.format.specs.All.{All}
+use Rattle.format.specs.Sound.{DeclaredOption, DeclaredPredicate}
 use Rattle.meaning.specs.Check.{Checker, goes, Does, and_then, fresh_var_id, fresh_var, introduce, annotate, repr, unify, orderable, snapshot, rollback}
-use Rattle.meaning.specs.Check.{diagnostics_len, Form, a_wildcard, a_variable, a_constant, a_record, a_disjunction, an_error, another, form_of, Walk, kind}
+use Rattle.meaning.specs.Check.{diagnostics_len, NodeForm, a_wildcard, a_variable, a_constant, a_record, a_disjunction, an_error, another, form_of, Walk, kind}
 use Rattle.meaning.specs.Check.{form, reject, reject_ty, report, unify_at, unresolved, key_ty, value_ty, key_shadows_value, value_of, field_at, key_of}
 use Rattle.meaning.specs.Check.{select_of, access_of, access, select, fuzzy_distance, fuzzy_term, infer_fields, infer_all, disjunction, fact, bind_variable}
 use Rattle.meaning.specs.Check.{bad_target, only_right, not_yet, destructure, bind_wildcard, bind_form, deny_form, introduce_side, compare_order, compare}
@@ -29,7 +29,7 @@ use Rattle.meaning.specs.Check.{generate, stmt, stmts, subquery, infer_kind, inf
 use Rattle.meaning.specs.Check.{check_alternative, check_union, check_record, check_form, check_against, check_at, generate_branches, generator_form}
 use Rattle.meaning.specs.Check.{generator_at, walk, head_form, infer_query, query}
 use Rattle.meaning.specs.Weights.{same, sum_of, weight, size}
-use Rattle.meaning.specs.Grades.{Grade, plus, Fits, unknowns, Orderly, Ready, no_thing, one_diagnostic, one_unknown, one_node, Known, inferring}
+use Rattle.meaning.specs.Grades.{Grade, plus, GradeFits, unknowns, Orderly, Ready, no_thing, one_diagnostic, one_unknown, one_node, Known, inferring}
 use Rattle.meaning.specs.Grades.{finding, checking, visiting, within, early, introducing}
 use Rattle.meaning.proofs.Meets.{Made, Went, Meets, going, made_more, made_side, stays, ready_fits, meets_after, meets_then, meets_from, meets_fits}
 use Rattle.meaning.proofs.Meets.{went_with, meets_nest}
@@ -132,7 +132,8 @@ module _ (schema : Schema) (nodes : List Node) (declared : All DeclaredPredicate
   key_of_meets name Ty.Error h = stays IsSide one_diagnostic c Ty.Error o tt
   key_of_meets name (Ty.leaf (Leaf.Fact p)) h = go (key_ty schema nodes p) refl (key_declared schema nodes declared p)
     where
-      go : (k : Option Ty) → key_ty schema nodes p ≡ k → DeclaredOption k → Meets IsSide one_diagnostic c (key_of schema nodes id name (Ty.leaf (Leaf.Fact p)) c)
+      go : (k : Option Ty) → key_ty schema nodes p ≡ k → DeclaredOption k
+          → Meets IsSide one_diagnostic c (key_of schema nodes id name (Ty.leaf (Leaf.Fact p)) c)
       go None e q = rw (e, key_of) (stays IsSide one_diagnostic c Ty.Error o tt)
       go (Some key) e q = rw (e, key_of) (field_at_meets name key (declared_side (unknowns c) key q))
   key_of_meets name (Ty.leaf Leaf.Int) h = reject_ty_meets _
@@ -178,7 +179,7 @@ module _ (schema : Schema) (nodes : List Node) (declared : All DeclaredPredicate
 
 -- ---- A comparison introduces a side that is a variable, and finds it when it infers that side.
 -- Of k unknowns, those that are left for later.
-unfoldable pub late : Form → ℕ → ℕ
+unfoldable pub late : NodeForm → ℕ → ℕ
 late (a_variable x) k = 0
 late a_wildcard k = k
 late a_constant k = k
@@ -187,7 +188,7 @@ late (a_disjunction es) k = k
 late an_error k = k
 late another k = k
 
-pub early_late : (f : Form) (k : ℕ) → 1 ≤ k → early f + late f k ≤ k
+pub early_late : (f : NodeForm) (k : ℕ) → 1 ≤ k → early f + late f k ≤ k
 unfolding early late
 early_late (a_variable x) k h = omega arith
 early_late a_wildcard k h = omega arith
@@ -197,10 +198,10 @@ early_late (a_disjunction es) k h = omega arith
 early_late an_error k h = omega arith
 early_late another k h = omega arith
 
-abbrev pub inferring_late : List Node → ℕ → ℕ → Form → Grade
+abbrev pub inferring_late : List Node → ℕ → ℕ → NodeForm → Grade
 inferring_late nodes d n f = record { nodes = λ x. weight nodes (λ m. same x m) d n; unknowns = late f (size nodes d n); diagnostics = 3 * size nodes d n - 1 }
 
-abbrev pub Introduced : Form → Checker → Type 0
+abbrev pub Introduced : NodeForm → Checker → Type 0
 Introduced (a_variable x) c = Known x c
 Introduced a_wildcard c = Unit {0}
 Introduced a_constant c = Unit {0}
@@ -209,7 +210,7 @@ Introduced (a_disjunction es) c = Unit {0}
 Introduced an_error c = Unit {0}
 Introduced another c = Unit {0}
 
-pub made_introduced : (g : Grade) (c c' : Checker) (f : Form) → Made g c c' → Introduced f c → Introduced f c'
+pub made_introduced : (g : Grade) (c c' : Checker) (f : NodeForm) → Made g c c' → Introduced f c → Introduced f c'
 made_introduced g c c' (a_variable x) m k = made_known g c c' x m k
 made_introduced g c c' a_wildcard m k = tt
 made_introduced g c c' a_constant m k = tt
@@ -218,7 +219,7 @@ made_introduced g c c' (a_disjunction es) m k = tt
 made_introduced g c c' an_error m k = tt
 made_introduced g c c' another m k = tt
 
-pub introduce_side_meets : (schema : Schema) (nodes : List Node) (n : ℕ) (f : Form) (c : Checker) → Orderly c
+pub introduce_side_meets : (schema : Schema) (nodes : List Node) (n : ℕ) (f : NodeForm) (c : Checker) → Orderly c
     → Meets (λ u b. Introduced f b) (introducing f) c (introduce_side schema nodes n f c)
 unfolding introduce_side early
 introduce_side_meets schema nodes n (a_variable x) c o =
@@ -331,7 +332,7 @@ module _ (schema : Schema) (nodes : List Node) (declared : All DeclaredPredicate
       (λ u b' w' r''. stays IsSide no_thing b' _ w'.orderly (made_side _ _ b' (Ty.Var (Bindings.fresh_id c.state)) w'.made w.holds)))
 
   -- ---- Statements
-  pub right_meets : (g : Grade) (r : ℕ) (c : Checker) → Fits (inferring nodes d r) g → Orderly c → Ready g c
+  pub right_meets : (g : Grade) (r : ℕ) (c : Checker) → GradeFits (inferring nodes d r) g → Orderly c → Ready g c
       → Meets Nothing g c (only_right schema nodes below r c)
   unfolding only_right
   right_meets g r c f o y =
@@ -351,7 +352,7 @@ module _ (schema : Schema) (nodes : List Node) (declared : All DeclaredPredicate
       (λ t b'' w'' z'. unify_at_meets schema nodes r t (Ty.Var v) b'' w''.orderly z' w''.holds
       (made_side _ _ b'' (Ty.Var v) w''.made (made_side _ b _ (Ty.Var v) w'.made w.holds.0)))))
     where
-      bind_fits : (l r : ℕ) → Fits (plus one_unknown (plus (one_node l) (plus (inferring nodes d r) one_diagnostic))) (visiting nodes d (l ∷ r ∷ []))
+      bind_fits : (l r : ℕ) → GradeFits (plus one_unknown (plus (one_node l) (plus (inferring nodes d r) one_diagnostic))) (visiting nodes d (l ∷ r ∷ []))
       bind_fits l r = record {
         nodes = λ x. omega (arith, own_weight nodes (λ m. same x m) d l);
         unknowns = omega (arith, size_pos nodes d l);
@@ -401,7 +402,7 @@ module _ (schema : Schema) (nodes : List Node) (declared : All DeclaredPredicate
       (below.infer r c) _ y (good.infer r c o)
       (λ t b w y'. annotate_meets l t b w.orderly y' w.holds)
 
-  pub bind_form_meets : (f : Form) (l r : ℕ) (c : Checker) → Orderly c → Ready (visiting nodes d (l ∷ r ∷ [])) c
+  pub bind_form_meets : (f : NodeForm) (l r : ℕ) (c : Checker) → Orderly c → Ready (visiting nodes d (l ∷ r ∷ [])) c
       → Meets Nothing (visiting nodes d (l ∷ r ∷ [])) c (bind_form schema nodes below f l r c)
   unfolding bind_form
   bind_form_meets a_wildcard l r c o y = bind_wildcard_meets l r c o y
@@ -416,7 +417,7 @@ module _ (schema : Schema) (nodes : List Node) (declared : All DeclaredPredicate
   bind_form_meets an_error l r c o y = only_right_meets l r c o y
   bind_form_meets another l r c o y = not_yet_meets _ l r c o y
 
-  pub deny_form_meets : (f : Form) (l r : ℕ) (c : Checker) → Orderly c → Ready (visiting nodes d (l ∷ r ∷ [])) c
+  pub deny_form_meets : (f : NodeForm) (l r : ℕ) (c : Checker) → Orderly c → Ready (visiting nodes d (l ∷ r ∷ [])) c
       → Meets Nothing (visiting nodes d (l ∷ r ∷ [])) c (deny_form schema nodes below f l r c)
   unfolding deny_form
   deny_form_meets a_wildcard l r c o y = bad_target_meets _ l r c o y
@@ -427,7 +428,7 @@ module _ (schema : Schema) (nodes : List Node) (declared : All DeclaredPredicate
   deny_form_meets an_error l r c o y = only_right_meets l r c o y
   deny_form_meets another l r c o y = not_yet_meets _ l r c o y
 
-  pub infer_late : (n : ℕ) (f : Form) (c : Checker) → form schema nodes n ≡ f → Orderly c → Ready (inferring_late nodes d n f) c → Introduced f c
+  pub infer_late : (n : ℕ) (f : NodeForm) (c : Checker) → form schema nodes n ≡ f → Orderly c → Ready (inferring_late nodes d n f) c → Introduced f c
       → Meets IsSide (inferring_late nodes d n f) c (below.infer n c)
   unfolding form kind late
   infer_late n (a_variable x) c e o y k = good.found n x c (variable_kind (node_at nodes n).kind x e) o y k
@@ -664,7 +665,8 @@ module _ (schema : Schema) (nodes : List Node) (declared : All DeclaredPredicate
   weight_kind own n k e = rw e
 
   module _ (id : ℕ) (fs : List Syntax.Field) (is : (node_at nodes id).kind ≡ ExprKind.Record fs) where
-    record_fits : Fits (plus (visiting nodes d (field_values fs)) (record { nodes = λ x. same x id; unknowns = 0; diagnostics = 1 })) (checking nodes (suc d) id)
+    record_fits : GradeFits (plus (visiting nodes d (field_values fs)) (record { nodes = λ x. same x id; unknowns = 0; diagnostics = 1 }))
+        (checking nodes (suc d) id)
     unfolding expr_nodes
     record_fits = record {
       nodes = λ x. omega (arith, weight_kind (λ m. same x m) id (ExprKind.Record fs) is);
@@ -693,7 +695,7 @@ module _ (schema : Schema) (nodes : List Node) (declared : All DeclaredPredicate
   check_form_meets id (ExprKind.Lit l) t c e o y h = infer_then_unify_meets id t c o y h
   check_form_meets id (ExprKind.Var x) t c e o y h = infer_then_unify_meets id t c o y h
   check_form_meets id ExprKind.Wildcard t c e o y h =
-      let fits : Fits (one_node id) (checking nodes (suc d) id) = record
+      let fits : GradeFits (one_node id) (checking nodes (suc d) id) = record
       { nodes = λ x. own_weight nodes (λ m. same x m) (suc d) id; unknowns = omega arith; diagnostics = omega arith } in
       meets_fits Nothing (one_node id) (checking nodes (suc d) id) c fits
       (annotate_meets id t c o (ready_fits (one_node id) (checking nodes (suc d) id) c fits y) h)
@@ -780,7 +782,7 @@ module _ (schema : Schema) (nodes : List Node) (declared : All DeclaredPredicate
     generator = λ n c o y. generator_at_meets schema nodes declared d (walk schema nodes d) (walk_good d) n c o y;
   }
 
-  pub head_form_meets : (n : ℕ) (f : Form) (c : Checker) → Orderly c → Meets Nothing one_diagnostic c (head_form schema nodes n f c)
+  pub head_form_meets : (n : ℕ) (f : NodeForm) (c : Checker) → Orderly c → Meets Nothing one_diagnostic c (head_form schema nodes n f c)
   unfolding head_form
   head_form_meets n a_wildcard c o = reject_meets schema nodes n _ c o
   head_form_meets n (a_variable x) c o = stays Nothing one_diagnostic c tt o tt

@@ -8,12 +8,12 @@ use Prim.Native.Nat.{ℕ, zero, suc, ◌+◌, ◌≤◌, ◌<◌}
 use native.Mathlib.Decide.{ℕ_discrete}
 use native.Mathlib.Omega.{arith}
 use lib.ListN.{length, get_or, length-map}
-use Rattle.meaning.specs.Syntax.{ExprKind, Node, no_node, node_at}
-use Rattle.meaning.specs.References.{field_values, expr_nodes}
-use Rattle.meaning.specs.All.{All, Absent, Distinct}
-use Rattle.meaning.specs.Sound.{nodes_named}
+use Rattle.format.specs.Syntax.{ExprKind, Node, no_node, node_at}
+use Rattle.format.specs.References.{field_values, expr_nodes}
+use Rattle.format.specs.All.{All, Absent, Distinct}
+use Rattle.format.specs.Sound.{nodes_named}
 use Rattle.meaning.specs.Weights.{same, sum_of, total, weight, size, records_of, records, fields_of, record_fields}
-use Rattle.meaning.proofs.Lists.{all_map, all_append, all_left, all_right}
+use Rattle.format.proofs.Lists.{all_map, all_append, all_left, all_right}
 use Rattle.meaning.proofs.Depth.{Falls}
 use Rattle.meaning.proofs.Steps.{same_self, same_other}
 

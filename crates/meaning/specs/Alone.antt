@@ -2,17 +2,17 @@
 -- the names and schema before it." Proofs/Alone.antt: that file passes (`alone_passes`), the answer of a form is made so (`apart`), and 11 comes
 -- exactly where one of these files gets it (`ran_out`).
 use Rattle.std.specs.Prelude.{List, [], ◌∷◌, ◌++◌, ◌≡◌, ℕ, suc}
-use Rattle.meaning.specs.Syntax.{Ast}
-use Rattle.meaning.specs.All.{Each}
-use Rattle.meaning.specs.Answer.{bytes₂, hex_line}
-use Rattle.meaning.specs.Frame.{wide}
-use Rattle.meaning.specs.Writing.{file_of}
-use Rattle.meaning.specs.Content.{Content, frames_of}
+use Rattle.format.specs.Syntax.{Ast}
+use Rattle.format.specs.All.{Each}
+use Rattle.format.specs.Bytes.{bytes₂, hex_line}
+use Rattle.format.specs.Frame.{wide}
+use Rattle.format.specs.Writing.{file_of}
+use Rattle.format.specs.Content.{Content, frames_of}
 use Rattle.meaning.specs.Outcome.{answered, decide}
 
 -- the same names and schema, and that query
 unfoldable pub alone : Content → Ast → Content
-alone c a = record { max_distance = c.max_distance; max_term_chars = c.max_term_chars; names = c.names; types = c.types; predicates = c.predicates; queries = a ∷ [] }
+alone c a = record c { queries = a ∷ [] }
 
 unfoldable pub file_alone : Content → Ast → List ℕ
 unfolding file_of frames_of alone

@@ -1,19 +1,12 @@
 -- The bytes of the answer (document 01, "Frame lines", "The answer"): for each node a line 07, for each diagnostic a line
 -- 08 and one 0a with the text of its message, in lower-case hexadecimal, each closed by LF. Then card 9's lines 0c and card 7's 09.
-use Rattle.std.specs.Prelude.{true, false, ℕ, suc, ◌+◌, ◌/◌, ◌%◌, ltb, None, Option, Some}
+use Rattle.std.specs.Prelude.{ℕ, suc, None, Option, Some}
 use mathlib.Core.List.{List, [], ◌∷◌, ◌++◌}
 use Rattle.unification.specs.Ty.{Leaf, Kind, Ty, Row, row_len}
-use Rattle.meaning.specs.Syntax.{Span}
-use Rattle.meaning.specs.Diag.{Message, Diagnostic, ascii, as_str, code_of}
+use Rattle.format.specs.Bytes.{bytes₂, bytes₄, hex_line, ascii}
+use Rattle.format.specs.Syntax.{Span}
+use Rattle.meaning.specs.Diag.{Message, Diagnostic, as_str, code_of}
 use Rattle.meaning.specs.Check.{Typed}
-
--- Big-endian numbers.
-unfoldable pub bytes₂ : ℕ → List ℕ
-bytes₂ n = n / 0x100 % 0x100 ∷ n % 0x100 ∷ []
-
-unfoldable pub bytes₄ : ℕ → List ℕ
-unfolding bytes₂
-bytes₄ n = bytes₂ (n / 0x1_0000) ++ bytes₂ n
 
 -- A type is written as a schema type is, but a record and a union have a count after the shape byte, and inner types
 -- stand in place of references. In a record a cell's key is its name; in a union the key is the discriminant and the
@@ -53,14 +46,6 @@ slot_bytes None = 0xff ∷ []
 slot_bytes (Some t) = ty_bytes t
 
 -- ---- Lines
-
-unfoldable pub hex_digit : ℕ → ℕ
-hex_digit n = elim (ltb n 10) [ true ↦ 48 + n | false ↦ 87 + n ]
-
-unfoldable pub hex_line : List ℕ → List ℕ
-unfolding hex_digit
-hex_line [] = 10 ∷ []
-hex_line (b ∷ bs) = hex_digit (b / 16) ∷ hex_digit (b % 16) ∷ hex_line bs
 
 -- The nodes from number n on.
 unfoldable pub node_lines : ℕ → List (Option Ty) → List ℕ

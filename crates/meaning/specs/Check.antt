@@ -10,8 +10,8 @@ use Rattle.unification.specs.Bindings.{Answer, State, Snapshot, History}
 use Rattle.unification.specs.Unify as Unify
 use Rattle.unification.specs.Unify.{TyError, Unified, find_key, find_label}
 use Rattle.unification.specs.Calls as Calls
-use Rattle.meaning.specs.Syntax.{Span, Field, QueryStmt, Query, FieldRef, Literal, ExprKind, Node, Ast, node_at, is_destructurable}
-use Rattle.meaning.specs.Schema.{Schema, get, field_of}
+use Rattle.format.specs.Syntax.{Span, Field, QueryStmt, Query, FieldRef, Literal, ExprKind, Node, Ast, node_at, is_destructurable}
+use Rattle.format.specs.Schema.{Schema, get, field_of}
 use Rattle.meaning.specs.Diag.{Message, Diagnostic}
 
 -- ---- The state, and steps over it
@@ -33,7 +33,7 @@ pub record Checker : Type 0 where
   pub state : State
   pub env : List Entry
   pub diagnostics : List Diagnostic
-  pub entries : List Calls.Entry
+  pub entries : List Calls.UnifyEntry
   pub until : Until
   pub marks : List ℕ
   pub unused : List Span
@@ -82,7 +82,7 @@ lasting u c = record { state = c.state; env = c.env; diagnostics = c.diagnostics
 unfoldable pub with_diagnostics : Checker → List Diagnostic → Checker
 with_diagnostics c ds = record { state = c.state; env = c.env; diagnostics = ds; entries = c.entries; until = c.until; marks = c.marks; unused = c.unused }
 
-unfoldable pub with_entries : Checker → List Calls.Entry → Checker
+unfoldable pub with_entries : Checker → List Calls.UnifyEntry → Checker
 with_entries c es = record { state = c.state; env = c.env; diagnostics = c.diagnostics; entries = es; until = c.until; marks = c.marks; unused = c.unused }
 
 -- `fresh_var_id`
@@ -230,31 +230,31 @@ diagnostics_len c = goes (length c.diagnostics) c
 -- ---- The walk
 
 -- What `bind`, `deny`, `compare`, `check`, `generator` and `query` ask of a node's kind before they visit it.
-pub data Form : Type 0 where
-  a_wildcard : Form
-  a_variable : ℕ → Form
+pub data NodeForm : Type 0 where
+  a_wildcard : NodeForm
+  a_variable : ℕ → NodeForm
   -- `Lit` and `Prefix`
-  a_constant : Form
-  a_record : List Field → Form
-  a_disjunction : List ℕ → Form
-  an_error : Form
-  another : Form
+  a_constant : NodeForm
+  a_record : List Field → NodeForm
+  a_disjunction : List ℕ → NodeForm
+  an_error : NodeForm
+  another : NodeForm
 
-unfoldable pub form_of : ExprKind → Form
-form_of ExprKind.Wildcard = Form.a_wildcard
-form_of (ExprKind.Var x) = Form.a_variable x
-form_of (ExprKind.Lit l) = Form.a_constant
-form_of (ExprKind.Prefix x) = Form.a_constant
-form_of (ExprKind.Record fs) = Form.a_record fs
-form_of (ExprKind.Disjunction es) = Form.a_disjunction es
-form_of ExprKind.Error = Form.an_error
-form_of ExprKind.Never = Form.another
-form_of (ExprKind.Fuzzy x d) = Form.another
-form_of (ExprKind.Access f e) = Form.another
-form_of (ExprKind.Subquery q) = Form.another
-form_of (ExprKind.Fact p e) = Form.another
-form_of (ExprKind.Arith es) = Form.another
-form_of (ExprKind.Select x e) = Form.another
+unfoldable pub form_of : ExprKind → NodeForm
+form_of ExprKind.Wildcard = NodeForm.a_wildcard
+form_of (ExprKind.Var x) = NodeForm.a_variable x
+form_of (ExprKind.Lit l) = NodeForm.a_constant
+form_of (ExprKind.Prefix x) = NodeForm.a_constant
+form_of (ExprKind.Record fs) = NodeForm.a_record fs
+form_of (ExprKind.Disjunction es) = NodeForm.a_disjunction es
+form_of ExprKind.Error = NodeForm.an_error
+form_of ExprKind.Never = NodeForm.another
+form_of (ExprKind.Fuzzy x d) = NodeForm.another
+form_of (ExprKind.Access f e) = NodeForm.another
+form_of (ExprKind.Subquery q) = NodeForm.another
+form_of (ExprKind.Fact p e) = NodeForm.another
+form_of (ExprKind.Arith es) = NodeForm.another
+form_of (ExprKind.Select x e) = NodeForm.another
 
 -- What `report` says of an error
 unfoldable pub message_of : TyError → Message
@@ -282,7 +282,7 @@ module _ (schema : Schema) (nodes : List Node) where
   unfolding node_at
   kind n = (node_at nodes n).kind
 
-  unfoldable pub form : ℕ → Form
+  unfoldable pub form : ℕ → NodeForm
   unfolding kind form_of
   form n = form_of (kind n)
 
@@ -422,7 +422,8 @@ module _ (schema : Schema) (nodes : List Node) where
 
   unfoldable pub fuzzy_term : ℕ → ℕ → Does (Unit {0})
   unfolding reject
-  fuzzy_term id text = elim (ltb schema.max_term_chars (get_or schema.characters text 0)) [ true ↦ reject id (Message.term_too_long (get_or schema.characters text 0)) | false ↦ return tt ]
+  fuzzy_term id text = elim (ltb schema.max_term_chars (get_or schema.characters text 0))
+      [ true ↦ reject id (Message.term_too_long (get_or schema.characters text 0)) | false ↦ return tt ]
 
   -- A record's fields, in order
   unfoldable pub infer_fields : Walk → List Field → Does Row
@@ -504,39 +505,40 @@ module _ (schema : Schema) (nodes : List Node) where
     annotate lhs ty
 
   -- `bind`
-  unfoldable pub bind_form : Walk → Form → ℕ → ℕ → Does (Unit {0})
+  unfoldable pub bind_form : Walk → NodeForm → ℕ → ℕ → Does (Unit {0})
   unfolding bind_variable bad_target only_right not_yet destructure bind_wildcard is_destructurable
-  bind_form below Form.a_wildcard lhs rhs = bind_wildcard below lhs rhs
-  bind_form below (Form.a_variable symbol) lhs rhs = bind_variable below symbol lhs rhs
-  bind_form below (Form.a_record fs) lhs rhs = elim (is_destructurable nodes lhs) [ true ↦ destructure below lhs rhs | false ↦ not_yet below Message.matched_patterns lhs rhs ]
-  bind_form below Form.a_constant lhs rhs = bad_target below Message.bound_constant lhs rhs
-  bind_form below Form.an_error lhs rhs = only_right below rhs
-  bind_form below (Form.a_disjunction es) lhs rhs = not_yet below Message.matched_patterns lhs rhs
-  bind_form below Form.another lhs rhs = not_yet below Message.matched_patterns lhs rhs
+  bind_form below NodeForm.a_wildcard lhs rhs = bind_wildcard below lhs rhs
+  bind_form below (NodeForm.a_variable symbol) lhs rhs = bind_variable below symbol lhs rhs
+  bind_form below (NodeForm.a_record fs) lhs rhs =
+      elim (is_destructurable nodes lhs) [ true ↦ destructure below lhs rhs | false ↦ not_yet below Message.matched_patterns lhs rhs ]
+  bind_form below NodeForm.a_constant lhs rhs = bad_target below Message.bound_constant lhs rhs
+  bind_form below NodeForm.an_error lhs rhs = only_right below rhs
+  bind_form below (NodeForm.a_disjunction es) lhs rhs = not_yet below Message.matched_patterns lhs rhs
+  bind_form below NodeForm.another lhs rhs = not_yet below Message.matched_patterns lhs rhs
 
   -- `deny`
-  unfoldable pub deny_form : Walk → Form → ℕ → ℕ → Does (Unit {0})
+  unfoldable pub deny_form : Walk → NodeForm → ℕ → ℕ → Does (Unit {0})
   unfolding bind_variable bad_target only_right not_yet
-  deny_form below (Form.a_variable symbol) lhs rhs = bind_variable below symbol lhs rhs
-  deny_form below Form.a_wildcard lhs rhs = bad_target below Message.denied_constant lhs rhs
-  deny_form below Form.a_constant lhs rhs = bad_target below Message.denied_constant lhs rhs
-  deny_form below Form.an_error lhs rhs = only_right below rhs
-  deny_form below (Form.a_record fs) lhs rhs = not_yet below Message.denied_pattern lhs rhs
-  deny_form below (Form.a_disjunction es) lhs rhs = not_yet below Message.denied_pattern lhs rhs
-  deny_form below Form.another lhs rhs = not_yet below Message.denied_pattern lhs rhs
+  deny_form below (NodeForm.a_variable symbol) lhs rhs = bind_variable below symbol lhs rhs
+  deny_form below NodeForm.a_wildcard lhs rhs = bad_target below Message.denied_constant lhs rhs
+  deny_form below NodeForm.a_constant lhs rhs = bad_target below Message.denied_constant lhs rhs
+  deny_form below NodeForm.an_error lhs rhs = only_right below rhs
+  deny_form below (NodeForm.a_record fs) lhs rhs = not_yet below Message.denied_pattern lhs rhs
+  deny_form below (NodeForm.a_disjunction es) lhs rhs = not_yet below Message.denied_pattern lhs rhs
+  deny_form below NodeForm.another lhs rhs = not_yet below Message.denied_pattern lhs rhs
 
   -- A side of a comparison that is a variable is introduced before anything is inferred.
-  unfoldable pub introduce_side : ℕ → Form → Does (Unit {0})
+  unfoldable pub introduce_side : ℕ → NodeForm → Does (Unit {0})
   unfolding introduce and_then
-  introduce_side node (Form.a_variable symbol) = do
+  introduce_side node (NodeForm.a_variable symbol) = do
     introduce node symbol
     return tt
-  introduce_side node Form.a_wildcard = return tt
-  introduce_side node Form.a_constant = return tt
-  introduce_side node Form.an_error = return tt
-  introduce_side node (Form.a_record fs) = return tt
-  introduce_side node (Form.a_disjunction es) = return tt
-  introduce_side node Form.another = return tt
+  introduce_side node NodeForm.a_wildcard = return tt
+  introduce_side node NodeForm.a_constant = return tt
+  introduce_side node NodeForm.an_error = return tt
+  introduce_side node (NodeForm.a_record fs) = return tt
+  introduce_side node (NodeForm.a_disjunction es) = return tt
+  introduce_side node NodeForm.another = return tt
 
   -- The two sides agree: the type must have an order.
   unfoldable pub compare_order : ℕ → Ty → Does (Unit {0})
@@ -692,15 +694,15 @@ module _ (schema : Schema) (nodes : List Node) where
   check_record below id fs (Ty.Var x) = infer_then_unify below id (Ty.Var x)
   check_record below id fs Ty.Error = infer_then_unify below id Ty.Error
 
-  unfoldable pub check_form : Walk → ℕ → Form → Ty → Does (Unit {0})
+  unfoldable pub check_form : Walk → ℕ → NodeForm → Ty → Does (Unit {0})
   unfolding annotate check_record infer_then_unify
-  check_form below id Form.a_wildcard expected = annotate id expected
-  check_form below id (Form.a_record fs) expected = check_record below id fs expected
-  check_form below id (Form.a_variable x) expected = infer_then_unify below id expected
-  check_form below id Form.a_constant expected = infer_then_unify below id expected
-  check_form below id Form.an_error expected = infer_then_unify below id expected
-  check_form below id (Form.a_disjunction es) expected = infer_then_unify below id expected
-  check_form below id Form.another expected = infer_then_unify below id expected
+  check_form below id NodeForm.a_wildcard expected = annotate id expected
+  check_form below id (NodeForm.a_record fs) expected = check_record below id fs expected
+  check_form below id (NodeForm.a_variable x) expected = infer_then_unify below id expected
+  check_form below id NodeForm.a_constant expected = infer_then_unify below id expected
+  check_form below id NodeForm.an_error expected = infer_then_unify below id expected
+  check_form below id (NodeForm.a_disjunction es) expected = infer_then_unify below id expected
+  check_form below id NodeForm.another expected = infer_then_unify below id expected
 
   -- Against Error nothing is visited.
   unfoldable pub check_against : Walk → ℕ → Ty → Does (Unit {0})
@@ -725,18 +727,18 @@ module _ (schema : Schema) (nodes : List Node) where
     ty ← below.generator e
     generate_branches below ty es
 
-  unfoldable pub generator_form : Walk → ℕ → Form → Does Ty
+  unfoldable pub generator_form : Walk → ℕ → NodeForm → Does Ty
   unfolding generate_branches annotate infer_at and_then
-  generator_form below id (Form.a_disjunction es) = do
+  generator_form below id (NodeForm.a_disjunction es) = do
     last ← generate_branches below Ty.Error es
     annotate id last
     return last
-  generator_form below id Form.a_wildcard = infer_at below id
-  generator_form below id (Form.a_variable x) = infer_at below id
-  generator_form below id Form.a_constant = infer_at below id
-  generator_form below id Form.an_error = infer_at below id
-  generator_form below id (Form.a_record fs) = infer_at below id
-  generator_form below id Form.another = infer_at below id
+  generator_form below id NodeForm.a_wildcard = infer_at below id
+  generator_form below id (NodeForm.a_variable x) = infer_at below id
+  generator_form below id NodeForm.a_constant = infer_at below id
+  generator_form below id NodeForm.an_error = infer_at below id
+  generator_form below id (NodeForm.a_record fs) = infer_at below id
+  generator_form below id NodeForm.another = infer_at below id
 
   unfoldable pub generator_at : Walk → ℕ → Does Ty
   unfolding generator_form form
@@ -755,15 +757,15 @@ module _ (schema : Schema) (nodes : List Node) where
   }
 
   -- A wildcard head is rejected, and inferred all the same.
-  unfoldable pub head_form : ℕ → Form → Does (Unit {0})
+  unfoldable pub head_form : ℕ → NodeForm → Does (Unit {0})
   unfolding reject
-  head_form head Form.a_wildcard = reject head Message.wildcard_head
-  head_form head (Form.a_variable x) = return tt
-  head_form head Form.a_constant = return tt
-  head_form head Form.an_error = return tt
-  head_form head (Form.a_record fs) = return tt
-  head_form head (Form.a_disjunction es) = return tt
-  head_form head Form.another = return tt
+  head_form head NodeForm.a_wildcard = reject head Message.wildcard_head
+  head_form head (NodeForm.a_variable x) = return tt
+  head_form head NodeForm.a_constant = return tt
+  head_form head NodeForm.an_error = return tt
+  head_form head (NodeForm.a_record fs) = return tt
+  head_form head (NodeForm.a_disjunction es) = return tt
+  head_form head NodeForm.another = return tt
 
   -- `query`: the head is inferred last, since it reads variables that the body binds.
   unfoldable pub infer_query : Query → Does Ty

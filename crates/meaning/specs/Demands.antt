@@ -1,14 +1,14 @@
--- Document 01's three demands of the whole call, said of `outcome` (Outcome.antt), which `check_file` of crate desk gives by its contract. The
--- theorems stand in proofs/Demands.antt. What a file says is `reading` of it; `Says` (Content.antt) is the same from the writer's side by
--- `says_exactly` of proofs/Content.antt, and `Means` (Means.antt) has what each line says, without the reader of Frame.antt.
+-- Document 01's three demands of the whole call, said of `outcome` (Outcome.antt), which `check_file` of crate driver gives by its contract. The
+-- theorems stand in proofs/Demands.antt. What a file says is `reading` of it (crate format); there `Says` (Content.antt) is the same from the
+-- writer's side by `says_exactly` of proofs/Content.antt, and `Means` (Means.antt) has what each line says, without the reader of Frame.antt.
 use Rattle.std.specs.Prelude.{List, ◌++◌, ◌↔◌, ◌≡◌, ℕ, ◌-◌, ◌<◌, ◌≤◌, length, replicate}
 use Rattle.text.specs.Utf8.{Text}
-use Rattle.meaning.specs.Refusal.{Refusal, work_too_short, broken_text, too_many_visits, answer_too_long}
-use Rattle.meaning.specs.Frame.{wide}
-use Rattle.meaning.specs.Refused as Lines
-use Rattle.meaning.specs.All.{All, Any, Each}
-use Rattle.meaning.specs.SoFar.{texts_in}
-use Rattle.meaning.specs.File.{Form, described, reading}
+use Rattle.format.specs.Refusal.{Refusal, work_too_short, broken_text, too_many_visits, answer_too_long}
+use Rattle.format.specs.Frame.{wide}
+use Rattle.format.specs.Refused as Lines
+use Rattle.format.specs.All.{All, Any, Each}
+use Rattle.format.specs.SoFar.{texts_in}
+use Rattle.format.specs.File.{Form, described, reading}
 use Rattle.meaning.specs.Check.{Typed, typed, exhausted, check}
 use Rattle.meaning.specs.Run.{RunAsRobinson}
 use Rattle.meaning.specs.Messages.{text_in}
@@ -18,12 +18,13 @@ use Rattle.meaning.specs.Outcome.{Accepted, Refused, min_words, max_visits, outc
 -- ---- Demand 1
 
 -- When a call is refused for which reason. Each condition stands where those before it in the order do not hold: 1; then 2, the lines in
--- file order and the missing query (`Refused` of Refused.antt, 2 to 10 and 13); then, of the form that the file describes, 11 of any query,
+-- file order and the missing query (`Refused` of format/specs/Refused.antt, 2 to 10 and 13); then, of the form that the file describes, 11 of any query,
 -- and 12 of the whole answer.
 pub data RefusedWhen (file : List ℕ) (words bytes : ℕ) : Refusal → Type 0 where
   for_work : words < min_words → RefusedWhen file words bytes work_too_short
   for_file : {i : Refusal} → min_words ≤ words → Lines.Refused wide file i → RefusedWhen file words bytes i
-  for_visits : (f : Form) → min_words ≤ words → reading file ≡ described f → Any (λ a. check max_visits f.schema a ≡ exhausted) f.queries → RefusedWhen file words bytes too_many_visits
+  for_visits : (f : Form) → min_words ≤ words → reading file ≡ described f → Any (λ a. check max_visits f.schema a ≡ exhausted) f.queries
+      → RefusedWhen file words bytes too_many_visits
   for_answer : (f : Form) (ts : List Typed) → min_words ≤ words → reading file ≡ described f → Each (λ a t. check max_visits f.schema a ≡ typed t) f.queries ts
       → bytes < length (form_lines (text_in f) ts) → RefusedWhen file words bytes answer_too_long
 

@@ -1,10 +1,9 @@
 -- The codes that ty.rs reports, `Code::as_str` (diag.rs), and what a diagnostic says.
-use Rattle.std.specs.Prelude.{List, ℕ}
-use Prim.Native.Char.{code}
+use Rattle.std.specs.Prelude.{ℕ}
 use Prim.Native.String.{String}
 use Rattle.unification.specs.Ty.{Ty}
 use Rattle.unification.specs.Unify.{UnionDiff}
-use Rattle.meaning.specs.Syntax.{Span}
+use Rattle.format.specs.Syntax.{Span}
 
 pub data Code : Type 0 where
   NyiBindUnification RejectBindLhs RejectFuzzyDistance RejectFuzzyTerm RejectInfiniteType : Code
@@ -55,11 +54,6 @@ code_of infinite = RejectInfiniteType
 pub record Diagnostic : Type 0 where
   pub message : Message
   pub span : Span
-
--- The codes of the characters of a text; these texts have none above 127, so they are its bytes.
-unfoldable pub ascii : String → List ℕ
-ascii String.[] = List.[]
-ascii (String.◌∷◌ c s) = List.◌∷◌ (code c) (ascii s)
 
 -- `as_str`
 unfoldable pub as_str : Code → String

@@ -4,9 +4,9 @@ use Rattle.std.specs.Prelude.{true, false, List, ◌≡◌, ℕ, ◌+◌, ◌-�
 use Rattle.unification.specs.Ty.{Ty}
 use Rattle.unification.specs.Calls.{Side}
 use Rattle.unification.specs.Log.{Log}
-use Rattle.meaning.specs.Syntax.{Node}
-use Rattle.meaning.specs.Check.{Checker, Entry, lookup_in, is_in, Form, a_wildcard, a_variable, a_constant, a_record, a_disjunction, an_error, another}
-use Rattle.meaning.specs.All.{All}
+use Rattle.format.specs.Syntax.{Node}
+use Rattle.meaning.specs.Check.{Checker, Entry, lookup_in, is_in, NodeForm, a_wildcard, a_variable, a_constant, a_record, a_disjunction, an_error, another}
+use Rattle.format.specs.All.{All}
 use Rattle.meaning.specs.Run.{NotYet}
 use Rattle.meaning.specs.Weights.{same, sum_of, total, weight, size}
 
@@ -20,7 +20,7 @@ pub record Grade : Type 0 where
 abbrev pub plus : Grade → Grade → Grade
 plus g h = record { nodes = λ x. g.nodes x + h.nodes x; unknowns = g.unknowns + h.unknowns; diagnostics = g.diagnostics + h.diagnostics }
 
-pub record Fits (g h : Grade) : Type 0 where
+pub record GradeFits (g h : Grade) : Type 0 where
   pub nodes : (x : ℕ) → g.nodes x ≤ h.nodes x
   pub unknowns : g.unknowns ≤ h.unknowns
   pub diagnostics : g.diagnostics ≤ h.diagnostics
@@ -101,7 +101,7 @@ within nodes d ns = record {
 }
 
 -- ---- A comparison introduces a side that is a variable.
-unfoldable pub early : Form → ℕ
+unfoldable pub early : NodeForm → ℕ
 early (a_variable x) = 1
 early a_wildcard = 0
 early a_constant = 0
@@ -110,5 +110,5 @@ early (a_disjunction es) = 0
 early an_error = 0
 early another = 0
 
-abbrev pub introducing : Form → Grade
+abbrev pub introducing : NodeForm → Grade
 introducing f = record { nodes = λ x. 0; unknowns = early f; diagnostics = 0 }

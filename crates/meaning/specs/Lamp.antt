@@ -3,13 +3,13 @@
 -- (`lamp_is`, `lamp_answered`, `lamp_refused` of crates/laws/proofs/Lamp.antt).
 use Rattle.std.specs.Prelude.{true, false, List, [], ◌∷◌, ◌≢◌, ◌≡◌, ℕ, ◌+◌, ◌-◌, ltb, length}
 use Rattle.unification.specs.Ty.{Ty}
-use Rattle.meaning.specs.Syntax.{Ast}
-use Rattle.meaning.specs.Schema.{Schema}
+use Rattle.format.specs.Syntax.{Ast}
+use Rattle.format.specs.Schema.{Schema}
 use Rattle.meaning.specs.Diag.{Diagnostic}
-use Rattle.meaning.specs.Refusal.{Refusal, work_too_short, too_many_visits}
-use Rattle.meaning.specs.Lines.{Line, closed, lines}
-use Rattle.meaning.specs.All.{All, Any}
-use Rattle.meaning.specs.File.{Reading, refused, described, reading_of, reading}
+use Rattle.format.specs.Refusal.{Refusal, work_too_short, too_many_visits}
+use Rattle.format.specs.Lines.{Line, closed, lines}
+use Rattle.format.specs.All.{All, Any}
+use Rattle.format.specs.File.{Reading, refused, described, reading_of, reading}
 use Rattle.meaning.specs.Check.{Checker, Step, goes, out, first_diagnostic, begin_until, query}
 use Rattle.meaning.specs.Run.{ending, run}
 use Rattle.meaning.specs.Outcome.{min_words, max_visits}
@@ -73,26 +73,26 @@ lamp_visits file words = elim (ltb words min_words) [ true ↦ 0 | false ↦ vis
 -- ---- Of whole runs
 
 -- The run goes through and has no diagnostic.
-abbrev pub Clean : Schema → Ast → Type 0
-Clean schema a = (ty : Ty) × (c : Checker) × (run schema a max_visits ≡ goes ty c) × (c.diagnostics ≡ [])
+abbrev pub RunsClean : Schema → Ast → Type 0
+RunsClean schema a = (ty : Ty) × (c : Checker) × (run schema a max_visits ≡ goes ty c) × (c.diagnostics ≡ [])
 
 -- It has one, whether it goes through or not.
-abbrev pub Shows : Schema → Ast → Type 0
-Shows schema a = (ending (run schema a max_visits)).diagnostics ≢ []
+abbrev pub HasDiagnostic : Schema → Ast → Type 0
+HasDiagnostic schema a = (ending (run schema a max_visits)).diagnostics ≢ []
 
 -- The visits run out, and none came before.
 abbrev pub Silent : Schema → Ast → Type 0
 Silent schema a = (c : Checker) × (run schema a max_visits ≡ out c) × (c.diagnostics ≡ [])
 
 -- The first that is not P is Q.
-pub data First {A : Type 0} (P Q : A → Type 0) : List A → Type 0 where
-  here : {a : A} {more : List A} → Q a → First P Q (a ∷ more)
-  later : {a : A} {more : List A} → P a → First P Q more → First P Q (a ∷ more)
+pub data FirstNot {A : Type 0} (P Q : A → Type 0) : List A → Type 0 where
+  here : {a : A} {more : List A} → Q a → FirstNot P Q (a ∷ more)
+  later : {a : A} {more : List A} → P a → FirstNot P Q more → FirstNot P Q (a ∷ more)
 
 pub data LampIs (schema : Schema) (qs : List Ast) : Lamp → Type 0 where
-  shown : First (Clean schema) (Shows schema) qs → LampIs schema qs Yes
-  none_shown : All (Clean schema) qs → LampIs schema qs No
-  ran_out : First (Clean schema) (Silent schema) qs → LampIs schema qs (Refused too_many_visits)
+  shown : FirstNot (RunsClean schema) (HasDiagnostic schema) qs → LampIs schema qs Yes
+  none_shown : All (RunsClean schema) qs → LampIs schema qs No
+  ran_out : FirstNot (RunsClean schema) (Silent schema) qs → LampIs schema qs (Refused too_many_visits)
 
 -- ---- Of the answer
 

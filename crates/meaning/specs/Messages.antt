@@ -4,9 +4,10 @@ use Rattle.std.specs.Prelude.{true, false, ℕ, zero, suc, ◌+◌, ◌/◌, ◌
 use mathlib.Core.List.{List, [], ◌∷◌, ◌++◌}
 use Rattle.unification.specs.Ty.{Leaf, Kind, Ty, Row}
 use Rattle.unification.specs.Unify.{UnionDiff}
-use Rattle.meaning.specs.Schema.{Schema, get}
-use Rattle.meaning.specs.Diag.{Message, ascii}
-use Rattle.meaning.specs.File.{Form}
+use Rattle.format.specs.Schema.{Schema, get}
+use Rattle.format.specs.Bytes.{ascii}
+use Rattle.meaning.specs.Diag.{Message}
+use Rattle.format.specs.File.{Form}
 
 -- `{}` of a number. A number has fewer digits than its successor, so nothing is cut off.
 unfoldable pub decimal_in : ℕ → ℕ → List ℕ

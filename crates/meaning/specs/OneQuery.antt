@@ -2,15 +2,18 @@
 -- was; what did not move is used as it stands. `as_before` in proofs/OneQuery.antt says what the card keeps.
 use Rattle.std.specs.Prelude.{Bool, true, false, not, List, [], ◌∷◌, ◌++◌, map, ◌≢◌, ℕ, eqb, ltb, None, Option, Some}
 use Rattle.unification.specs.Ty.{Ty}
-use Rattle.meaning.specs.Syntax.{Query, Node}
-use Rattle.meaning.specs.Schema.{Predicate}
-use Rattle.meaning.specs.Refusal.{Refusal, work_too_short, file_too_long, malformed_line, misplaced_kind, too_many, malformed_frame, broken_text, name_given_before, bad_reference, repeated_key, too_many_visits}
-use Rattle.meaning.specs.Lines.{lines}
-use Rattle.meaning.specs.Frame.{wide, Kind, limits, name, schema_type, predicate, node, query, kind_byte, rises, Frame, the_limits, a_name, a_type, a_predicate, a_node, the_query, frame_kind}
-use Rattle.meaning.specs.References.{expr_nodes, query_nodes}
-use Rattle.meaning.specs.SoFar.{Said, malformed, unknown_kind, no_frame, frames, said, SoFar, ty_of, predicate_of}
-use Rattle.meaning.specs.Conditions.{is_malformed, is_one_too_many, is_no_frame, is_broken_text, is_name_given_before, is_bad_reference, is_repeated_key, Condition, first_of}
-use Rattle.meaning.specs.File.{Described, schema_of, is_too_long}
+use Rattle.format.specs.Syntax.{Query, Node}
+use Rattle.format.specs.Schema.{Predicate}
+use Rattle.format.specs.Refusal.{Refusal, work_too_short, file_too_long, malformed_line, misplaced_kind, too_many, malformed_frame, broken_text}
+use Rattle.format.specs.Refusal.{name_given_before, bad_reference, repeated_key, too_many_visits}
+use Rattle.format.specs.Lines.{lines}
+use Rattle.format.specs.Frame.{wide, Kind, limits, name, schema_type, predicate, node, query, kind_byte, rises, Frame, the_limits, a_name, a_type, a_predicate}
+use Rattle.format.specs.Frame.{a_node, the_query, frame_kind}
+use Rattle.format.specs.References.{expr_nodes, query_nodes}
+use Rattle.format.specs.SoFar.{Said, malformed, unknown_kind, no_frame, frames, said, SoFar, ty_of, predicate_of}
+use Rattle.format.specs.Conditions.{is_malformed, is_one_too_many, is_no_frame, is_broken_text, is_name_given_before, is_bad_reference, is_repeated_key}
+use Rattle.format.specs.Conditions.{Condition, first_of}
+use Rattle.format.specs.File.{Described, schema_of, is_too_long}
 use Rattle.meaning.specs.Check.{Checked, typed, exhausted, check}
 use Rattle.meaning.specs.Diag.{Message}
 use Rattle.meaning.specs.Messages.{message_text}
@@ -33,12 +36,12 @@ start_before = record { previous = None; max_distance = 0; max_term_chars = 0; n
 
 unfoldable pub add_before : SoFarBefore → Frame → SoFarBefore
 unfolding ty_of predicate_of expr_nodes query_nodes
-add_before so (the_limits d t) = record { previous = Some limits; max_distance = d; max_term_chars = t; names = so.names; types = so.types; predicates = so.predicates; nodes = so.nodes; named = so.named; query = so.query }
-add_before so (a_name s) = record { previous = Some name; max_distance = so.max_distance; max_term_chars = so.max_term_chars; names = so.names ++ s ∷ []; types = so.types; predicates = so.predicates; nodes = so.nodes; named = so.named; query = so.query }
-add_before so (a_type t) = record { previous = Some schema_type; max_distance = so.max_distance; max_term_chars = so.max_term_chars; names = so.names; types = so.types ++ ty_of so.types t ∷ []; predicates = so.predicates; nodes = so.nodes; named = so.named; query = so.query }
-add_before so (a_predicate n k v) = record { previous = Some predicate; max_distance = so.max_distance; max_term_chars = so.max_term_chars; names = so.names; types = so.types; predicates = so.predicates ++ predicate_of so.types n k v ∷ []; nodes = so.nodes; named = so.named; query = so.query }
-add_before so (a_node n) = record { previous = Some node; max_distance = so.max_distance; max_term_chars = so.max_term_chars; names = so.names; types = so.types; predicates = so.predicates; nodes = so.nodes ++ n ∷ []; named = so.named ++ expr_nodes n.kind; query = so.query }
-add_before so (the_query q) = record { previous = Some query; max_distance = so.max_distance; max_term_chars = so.max_term_chars; names = so.names; types = so.types; predicates = so.predicates; nodes = so.nodes; named = so.named ++ query_nodes q; query = Some q }
+add_before so (the_limits d t) = record so { previous = Some limits; max_distance = d; max_term_chars = t }
+add_before so (a_name s) = record so { previous = Some name; names = so.names ++ s ∷ [] }
+add_before so (a_type t) = record so { previous = Some schema_type; types = so.types ++ ty_of so.types t ∷ [] }
+add_before so (a_predicate n k v) = record so { previous = Some predicate; predicates = so.predicates ++ predicate_of so.types n k v ∷ [] }
+add_before so (a_node n) = record so { previous = Some node; nodes = so.nodes ++ n ∷ []; named = so.named ++ expr_nodes n.kind }
+add_before so (the_query q) = record so { previous = Some query; named = so.named ++ query_nodes q; query = Some q }
 
 unfoldable pub after_before : SoFarBefore → Said → SoFarBefore
 unfolding add_before
@@ -49,7 +52,17 @@ after_before so (frames f) = add_before so f
 
 -- What the conditions look at: all but the query.
 unfoldable pub as_now : SoFarBefore → SoFar
-as_now so = record { previous = so.previous; max_distance = so.max_distance; max_term_chars = so.max_term_chars; names = so.names; types = so.types; predicates = so.predicates; nodes = so.nodes; named = so.named; queries = [] }
+as_now so = record {
+  previous = so.previous;
+  max_distance = so.max_distance;
+  max_term_chars = so.max_term_chars;
+  names = so.names;
+  types = so.types;
+  predicates = so.predicates;
+  nodes = so.nodes;
+  named = so.named;
+  queries = [];
+}
 
 -- "The kinds never fall, and one that stands once does not follow itself. So nothing follows the query."
 unfoldable pub may_stand_before : Option Kind → Kind → Bool

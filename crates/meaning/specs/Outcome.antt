@@ -2,14 +2,15 @@
 -- from the file and the lengths of the two slices alone. "1, 2, then lines in file order, in each the lowest number, then
 -- the missing 06, then 11, then 12. After a refusal both slices are zero throughout."
 use Rattle.std.specs.Prelude.{true, false, List, [], ◌∷◌, ◌++◌, ℕ, ◌-◌, ltb, length, replicate, None, Option, Some}
-use Rattle.meaning.specs.Syntax.{Ast}
-use Rattle.meaning.specs.Schema.{Schema}
-use Rattle.meaning.specs.Refusal.{Refusal, work_too_short, too_many_visits, answer_too_long, number}
-use Rattle.meaning.specs.File.{Reading, refused, described, reading_of, reading}
+use Rattle.format.specs.Syntax.{Ast}
+use Rattle.format.specs.Schema.{Schema}
+use Rattle.format.specs.Refusal.{Refusal, work_too_short, too_many_visits, answer_too_long, number}
+use Rattle.format.specs.File.{Reading, refused, described, reading_of, reading}
 use Rattle.meaning.specs.Check.{Typed, Checked, typed, exhausted, check}
 use Rattle.meaning.specs.Diag.{Message}
 use Rattle.meaning.specs.Messages.{message_text, text_in}
-use Rattle.meaning.specs.Answer.{form_lines, hex_line}
+use Rattle.format.specs.Bytes.{hex_line}
+use Rattle.meaning.specs.Answer.{form_lines}
 
 -- The words that must be lent, and the visits that a query of a form may make.
 unfoldable pub min_words : ℕ

@@ -3,10 +3,10 @@ use Rattle.std.specs.Prelude.{List, [], ◌≡◌, ℕ, ◌≤◌, length, repli
 use Rattle.unification.specs.Ty.{Ty}
 use Rattle.unification.specs.Bindings.{State}
 use Rattle.unification.specs.Unify.{Spent, unify}
-use Rattle.unification.specs.Calls.{Side, Assignment, Machine, Calls, Entry, Claim}
+use Rattle.unification.specs.Calls.{Side, Assignment, Machine, Calls, UnifyEntry, Claim}
 use Rattle.unification.specs.Tie.{AllAsRobinson}
-use Rattle.meaning.specs.Syntax.{Ast}
-use Rattle.meaning.specs.Schema.{Schema}
+use Rattle.format.specs.Syntax.{Ast}
+use Rattle.format.specs.Schema.{Schema}
 use Rattle.meaning.specs.Diag.{Diagnostic}
 use Rattle.meaning.specs.Check.{Until, the_end, first_diagnostic, entry, Checker, Step, goes, out, query, begin}
 
@@ -18,7 +18,7 @@ pub data Led (v : ℕ) (tys : List (Option Ty)) : State → Type 0 where
       → unify m.state a b ≡ Spent st → Led v tys st
 
 -- An entry to `unify` that ended, well or not: a list of calls leads to its bindings, and its sides have the permitted form.
-pub record EntryLed (v : ℕ) (tys : List (Option Ty)) (e : Entry) : Type 0 where
+pub record EntryLed (v : ℕ) (tys : List (Option Ty)) (e : UnifyEntry) : Type 0 where
   pub at : Machine
   pub calls : Calls v tys at
   pub before : at.state.subst ≡ e.before
@@ -27,7 +27,7 @@ pub record EntryLed (v : ℕ) (tys : List (Option Ty)) (e : Entry) : Type 0 wher
   pub ends : (st : State) → ¬ (unify at.state e.got e.expected ≡ Spent st)
 
 -- What a run is to last until has not come, by its diagnostics and its entries.
-abbrev pub NotYet : Until → List Diagnostic → List Entry → Type 0
+abbrev pub NotYet : Until → List Diagnostic → List UnifyEntry → Type 0
 NotYet the_end ds es = Unit {0}
 NotYet first_diagnostic ds es = ds ≡ []
 NotYet (entry n) ds es = length es ≤ n

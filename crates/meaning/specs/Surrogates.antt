@@ -3,15 +3,17 @@
 -- the card keeps.
 use Rattle.std.specs.Prelude.{Bool, true, false, List, [], ◌∷◌, map, ℕ, ltb, None, Option, Some}
 use Rattle.text.specs.Surrogates.{HasSurrogate, characters_open}
-use Rattle.meaning.specs.All.{All}
-use Rattle.meaning.specs.Schema.{Schema}
-use Rattle.meaning.specs.Refusal.{work_too_short, file_too_long, malformed_line, misplaced_kind, too_many, malformed_frame, broken_text, name_given_before, bad_reference, repeated_key, too_many_queries}
-use Rattle.meaning.specs.Frame.{wide, Kind, limits, name, schema_type, predicate, node, query}
-use Rattle.meaning.specs.References.{texts_of}
-use Rattle.meaning.specs.Lines.{position, lines}
-use Rattle.meaning.specs.SoFar.{Said, malformed, unknown_kind, no_frame, frames, said, SoFar, start, after}
-use Rattle.meaning.specs.Conditions.{any_of, same_text, of_frame, Condition, first_of, is_malformed, is_misplaced, is_one_too_many, is_query_too_many, is_no_frame, is_name_given_before, is_bad_reference, is_repeated_key}
-use Rattle.meaning.specs.File.{Form, count_of, value_text, Reading, refused, described, is_too_long}
+use Rattle.format.specs.All.{All}
+use Rattle.format.specs.Schema.{Schema}
+use Rattle.format.specs.Refusal.{work_too_short, file_too_long, malformed_line, misplaced_kind, too_many, malformed_frame, broken_text, name_given_before}
+use Rattle.format.specs.Refusal.{bad_reference, repeated_key, too_many_queries}
+use Rattle.format.specs.Frame.{wide, Kind, limits, name, schema_type, predicate, node, query}
+use Rattle.format.specs.References.{texts_of}
+use Rattle.format.specs.Lines.{position, lines}
+use Rattle.format.specs.SoFar.{Said, malformed, unknown_kind, no_frame, frames, said, SoFar, start, after}
+use Rattle.format.specs.Conditions.{any_of, same_text, of_frame, Condition, first_of, is_malformed, is_misplaced, is_one_too_many, is_query_too_many}
+use Rattle.format.specs.Conditions.{is_no_frame, is_name_given_before, is_bad_reference, is_repeated_key}
+use Rattle.format.specs.File.{Form, count_of, value_text, Reading, refused, described, is_too_long}
 use Rattle.meaning.specs.Outcome.{Decided, turned_down, decide_read, min_words, Outcome, finish}
 
 unfoldable pub broken_open : List ℕ → Bool

@@ -4,12 +4,12 @@
 -- visits. Then whole outcomes: the result and both slices.
 use Rattle.std.specs.Prelude.{◌&&◌, Bool, true, List, [], ◌∷◌, ◌++◌, ◌≡◌, ℕ, zero, suc, ◌+◌, ◌/◌, ◌%◌, eqb, replicate, None, Option, Some}
 use Prim.Native.String.{String}
-use Rattle.meaning.specs.Diag.{ascii}
-use Rattle.meaning.specs.Conditions.{same_text}
-use Rattle.meaning.specs.File.{Reading, refused, described, reading_of, reading}
+use Rattle.format.specs.Table.{text, M, again}
+use Rattle.format.specs.Bytes.{ascii, bytes₄, hex_line}
+use Rattle.format.specs.Conditions.{same_text}
+use Rattle.format.specs.File.{Reading, refused, described, reading_of, reading}
 use Rattle.meaning.specs.Check.{Typed}
-use Rattle.meaning.specs.Answer.{bytes₄, hex_line}
-use Rattle.meaning.specs.Refusal.{number}
+use Rattle.format.specs.Refusal.{number}
 use Rattle.meaning.specs.Outcome.{decide, printed_lines, run_all, Result, Accepted, Refused, Outcome, outcome}
 
 pub record Example : Type 0 where
@@ -19,12 +19,6 @@ pub record Example : Type 0 where
   pub prints : List ℕ
   pub visits : ℕ
 
--- Each line closed by LF.
-unfoldable pub text : List String → List ℕ
-unfolding ascii
-text [] = []
-text (l ∷ ls) = ascii l ++ 10 ∷ text ls
-
 -- One query: its line 09 follows from its visits.
 unfoldable pub accepted : List String → List String → ℕ → Example
 unfolding text hex_line bytes₄
@@ -33,9 +27,6 @@ accepted file prints visits = record { file = text file; words = 16384; bytes = 
 unfoldable pub turned_down : List ℕ → ℕ → ℕ → String → Example
 unfolding text
 turned_down file words bytes number = record { file = file; words = words; bytes = bytes; prints = text (number ∷ []); visits = 0 }
-
-unfoldable pub M : List String
-M = "01020020" ∷ "05000000000000000300" ∷ "060000" ∷ []
 
 unfoldable pub examples : List Example
 unfolding accepted M
@@ -887,12 +878,6 @@ message_examples =
 
 -- ---- Forms (card 3)
 
--- M's query, so many times
-unfoldable pub again : ℕ → List ℕ
-unfolding text
-again zero = []
-again (suc n) = text ("05000000000000000300" ∷ "060000" ∷ []) ++ again n
-
 -- Card 9: names written once.
 unfoldable pub unused_examples : List Example
 unfolding accepted
@@ -1171,7 +1156,13 @@ forms =
     -- a node of the query before is no earlier node
     turned_down (text ("01020020" ∷ "05000000000000000300" ∷ "060000" ∷ "0500000000000000030a0000" ∷ "060000" ∷ [])) 16384 65536 "0f09" ∷
     -- the whole answer counts for 12: 2 * 27 bytes
-    record { file = text ("01020020" ∷ []) ++ again 2; words = 16384; bytes = 54; prints = text ("0b0000" ∷ "07000000" ∷ "0900000000" ∷ "0b0001" ∷ "07000000" ∷ "0900000000" ∷ []); visits = 0 } ∷
+    record {
+      file = text ("01020020" ∷ []) ++ again 2;
+      words = 16384;
+      bytes = 54;
+      prints = text ("0b0000" ∷ "07000000" ∷ "0900000000" ∷ "0b0001" ∷ "07000000" ∷ "0900000000" ∷ []);
+      visits = 0;
+    } ∷
     turned_down (text ("01020020" ∷ []) ++ again 2) 16384 53 "0f0c" ∷
     -- 13: the 65th 06, before 6 (a length wrong for 06) and after 4 (06 after 06)
     turned_down (text ("01020020" ∷ []) ++ again 65) 16384 65536 "0f0d" ∷
@@ -1231,7 +1222,13 @@ limits_of =
     turned_down (text ("01020020" ∷ "02eda080" ∷ [])) 16384 65536 "0f07" ∷
     turned_down (text ("01020020" ∷ "02edbfbf" ∷ [])) 16384 65536 "0f07" ∷
     turned_down (text ("01020020" ∷ "02eda0bdedb880" ∷ [])) 16384 65536 "0f07" ∷
-    record { file = text ("01020020" ∷ "02ed9fbf" ∷ "02ee8080" ∷ []) ++ again 1; words = 16384; bytes = 65536; prints = text ("07000000" ∷ "0900000000" ∷ []); visits = 0 } ∷
+    record {
+      file = text ("01020020" ∷ "02ed9fbf" ∷ "02ee8080" ∷ []) ++ again 1;
+      words = 16384;
+      bytes = 65536;
+      prints = text ("07000000" ∷ "0900000000" ∷ []);
+      visits = 0;
+    } ∷
     []
 
 -- So many names, each another text of two characters.
@@ -1254,7 +1251,13 @@ at_limits =
     turned_down (replicate 65537 0) 16384 65536 "0f02" ∷
     turned_down (replicate 65537 0) 16383 65536 "0f01" ∷
     -- 3: a name of 511 bytes and one of 512
-    record { file = text ("01020020" ∷ []) ++ hex_line (0x02 ∷ replicate 511 0x61) ++ again 1; words = 16384; bytes = 65536; prints = text ("07000000" ∷ "0900000000" ∷ []); visits = 0 } ∷
+    record {
+      file = text ("01020020" ∷ []) ++ hex_line (0x02 ∷ replicate 511 0x61) ++ again 1;
+      words = 16384;
+      bytes = 65536;
+      prints = text ("07000000" ∷ "0900000000" ∷ []);
+      visits = 0;
+    } ∷
     turned_down (text ("01020020" ∷ []) ++ hex_line (0x02 ∷ replicate 512 0x61)) 16384 65536 "0f03" ∷
     -- 5: the 257th name, the 257th type and the 129th predicate
     turned_down (text ("01020020" ∷ []) ++ name_lines 257) 16384 65536 "0f05" ∷
@@ -1281,9 +1284,9 @@ holds e = same_text (printed_lines (decide e.file e.words) e.bytes) e.prints && 
 
 -- Each row passes its test.
 infixr 30 ◌then◌
-pub data Rows {A : Type 0} (test : A → Bool) : List A → Type 0 where
-  end : Rows test []
-  ◌then◌ : {a : A} {l : List A} → test a ≡ true → Rows test l → Rows test (a ∷ l)
+pub data TableRows {A : Type 0} (test : A → Bool) : List A → Type 0 where
+  end : TableRows test []
+  ◌then◌ : {a : A} {l : List A} → test a ≡ true → TableRows test l → TableRows test (a ∷ l)
 
 -- ---- Whole outcomes
 
@@ -1333,7 +1336,13 @@ wholes =
     record { file = ascii "0102002"; words = 16384; bytes = 3; result = 3; answer = 0 ∷ 0 ∷ 0 ∷ [] } ∷
     record { file = []; words = 16384; bytes = 5; result = 4; answer = replicate 5 0 } ∷
     -- two queries
-    record { file = text two; words = 16384; bytes = 91; result = 0; answer = text ("0b0000" ∷ "070000060000" ∷ "0c0000000000000001" ∷ "0900000000" ∷ "0b0001" ∷ "07000000" ∷ "0900000000" ∷ []) ++ replicate 14 0 } ∷
+    record {
+      file = text two;
+      words = 16384;
+      bytes = 91;
+      result = 0;
+      answer = text ("0b0000" ∷ "070000060000" ∷ "0c0000000000000001" ∷ "0900000000" ∷ "0b0001" ∷ "07000000" ∷ "0900000000" ∷ []) ++ replicate 14 0;
+    } ∷
     -- its visits after a message: it just fits, and one byte less
     record { file = text wild; words = 16384; bytes = 156; result = 0; answer = text wild_says } ∷
     record { file = text wild; words = 16384; bytes = 155; result = 12; answer = replicate 155 0 } ∷

@@ -1,11 +1,11 @@
 -- What a run rests on, and what the nodes under a node weigh together, by which everything that a run makes is bounded: means to demand 3 and to the
 -- room that the code's regions have.
 use Rattle.std.specs.Prelude.{true, false, List, [], ◌∷◌, ◌++◌, ℕ, zero, suc, ◌+◌, ◌<◌, eqb, length}
-use Rattle.meaning.specs.Syntax.{ExprKind, Node, Ast, node_at}
-use Rattle.meaning.specs.Schema.{Schema}
-use Rattle.meaning.specs.References.{expr_nodes, query_nodes}
-use Rattle.meaning.specs.All.{All, Distinct}
-use Rattle.meaning.specs.Sound.{DeclaredPredicate, Lower, nodes_named}
+use Rattle.format.specs.Syntax.{ExprKind, Node, Ast, node_at}
+use Rattle.format.specs.Schema.{Schema}
+use Rattle.format.specs.References.{expr_nodes, query_nodes}
+use Rattle.format.specs.All.{All, Distinct}
+use Rattle.format.specs.Sound.{DeclaredPredicate, Lower, nodes_named}
 
 -- What of a file that passes 1 to 10 the run rests on.
 pub record WellFormed (schema : Schema) (ast : Ast) : Type 0 where

@@ -1,2 +1,2 @@
-// What a file says and what check answers, as definitions (specs/) with what is proved of them (proofs/). No code stands here.
+// What check answers of a file (crate format), as definitions (specs/) with what is proved of them (proofs/). No code stands here.
 #![tactic(auto)]

@@ -1,20 +1,21 @@
 -- The file's digits of a name's line, after the kind's, are those of its text. A fact is shown by the name of its predicate, where that is a name.
-use Rattle.std.proofs.Common.{Bool, true, false, not, cond, ◌==◌, List, [], ◌∷◌, ◌≡◌, refl, sym, ap, ◌∙◌, ℕ, ◌+◌, ◌/◌, ◌<◌, ◌≤◌, arith, length, get_or, take, drop, None, Option, Some}
+use Rattle.std.proofs.Common.{Bool, true, false, not, cond, ◌==◌, List, [], ◌∷◌, ◌≡◌, refl, sym, ap, ◌∙◌, ℕ, ◌+◌, ◌/◌, ◌<◌, ◌≤◌, arith, length, get_or, take}
+use Rattle.std.proofs.Common.{drop, None, Option, Some}
 use Rattle.std.proofs.lemmas.Option.{slice_get-get_or, slice_get_past}
 use Rattle.std.specs.List.{slice_get, before_first, position_or_len}
 use Rattle.std.proofs.Math.Numerals.{one-add}
 use Rattle.work.specs.Layout.{NAME-COUNT, NAMES, PREDICATE-COUNT, PREDICATES}
-use Rattle.meaning.specs.Diag.{ascii}
-use Rattle.meaning.specs.Lines.{Line, closed, unclosed, in_front, lines}
+use Rattle.format.specs.Bytes.{ascii}
+use Rattle.format.specs.Lines.{Line, closed, unclosed, in_front, lines}
 use Rattle.meaning.specs.Messages.{name_of, or_mark, or_fact, fact_name}
-use Rattle.meaning.specs.Schema.{get}
-use Rattle.meaning.proofs.Hex.{hexes, hex_decoded}
+use Rattle.format.specs.Schema.{get}
+use Rattle.format.proofs.Hex.{hexes, hex_decoded}
 use Rattle.sigla_hex.proofs.Line.{head_line, decoded_line, decoded_at}
 use Rattle.sigla_hex.proofs.Bytes.{From, more, from, line_takes}
 use Rattle.tree.specs.Stands.{no_predicate}
 use Rattle.writer.specs.Writes.{Writes, WritesText, hex_of}
 use Rattle.writer.proofs.Writing.{writes_as, writes_moves}
-use Rattle.messages.specs.Shown.{Sight, Seen, Shows, Always, name_text, quoted_text, fact_text}
+use Rattle.messages.specs.Shown.{Sight, Seen, Shows, NothingNeeded, name_text, quoted_text, fact_text}
 use Rattle.messages.proofs.Showing.{shows_as, shows_text}
 
 -- ---- To LF
@@ -83,10 +84,11 @@ module _ {f w : List ℕ} {v : Sight} (S : Seen f w v) where
   no_name x h = rw (slice_get_past v.names x (omega (arith, counted)))
 
 module _ {f w out : List ℕ} {at x : ℕ} {out' : List ℕ} {r : Option ℕ} {n : ℕ} (c : n ≡ get_or w NAME-COUNT 0) where
-  pub name_shown : x < n → {i : ℕ} → i ≡ get_or w (NAMES + x) 0 / 512 + 2 → Writes out at (before_first is_LF (drop i f)) out' r → Shows f w out at Always (name_text x) out' r
+  pub name_shown : x < n → {i : ℕ} → i ≡ get_or w (NAMES + x) 0 / 512 + 2 → Writes out at (before_first is_LF (drop i f)) out' r
+      → Shows f w out at NothingNeeded (name_text x) out' r
   name_shown h e g = record { is = λ v S o b. writes_as (digits_are S x (omega arith)) (rw e at g); moves = writes_moves g }
 
-  pub name_marked : n ≤ x → WritesText out at (63 ∷ []) out' r → Shows f w out at Always (name_text x) out' r
+  pub name_marked : n ≤ x → WritesText out at (63 ∷ []) out' r → Shows f w out at NothingNeeded (name_text x) out' r
   name_marked h g = shows_as (λ v S o. no_name S x (omega arith)) (shows_text g)
 
 -- ---- Facts
@@ -108,7 +110,8 @@ module _ {f w : List ℕ} {v : Sight} (S : Seen f w v) (p : ℕ) where
       let i = slice_get-get_or v.names x [] (omega (arith, counted S)) in
       rw (predicate_name h, ← e, i)
 
-  fact_unnamed : p < get_or w PREDICATE-COUNT 0 → (x : ℕ) → x ≡ get_or w (PREDICATES + p) 0 / 131072 → get_or w NAME-COUNT 0 ≤ x → ascii "a fact" ≡ fact_text p v
+  fact_unnamed : p < get_or w PREDICATE-COUNT 0 → (x : ℕ) → x ≡ get_or w (PREDICATES + p) 0 / 131072 → get_or w NAME-COUNT 0 ≤ x
+      → ascii "a fact" ≡ fact_text p v
   unfolding or_fact ascii
   fact_unnamed h x e l = rw (predicate_name h, ← e, slice_get_past v.names x (omega (arith, counted S)))
 
@@ -117,12 +120,12 @@ module _ {f w : List ℕ} {v : Sight} (S : Seen f w v) (p : ℕ) where
   fact_unknown h = rw (no_predicate_lem h)
 
 module _ {f w out : List ℕ} {at p : ℕ} {out' : List ℕ} {r : Option ℕ} {m : ℕ} (c : m ≡ get_or w PREDICATE-COUNT 0) where
-  pub fact_past : m ≤ p → WritesText out at (ascii "a fact") out' r → Shows f w out at Always (fact_text p) out' r
+  pub fact_past : m ≤ p → WritesText out at (ascii "a fact") out' r → Shows f w out at NothingNeeded (fact_text p) out' r
   fact_past h g = shows_as (λ v S o. fact_unknown S p (omega arith)) (shows_text g)
 
   module _ (h : p < m) {x n : ℕ} (e : x ≡ get_or w (PREDICATES + p) 0 / 131072) (d : n ≡ get_or w NAME-COUNT 0) where
-    pub fact_shown : x < n → Shows f w out at Always (quoted_text x) out' r → Shows f w out at Always (fact_text p) out' r
+    pub fact_shown : x < n → Shows f w out at NothingNeeded (quoted_text x) out' r → Shows f w out at NothingNeeded (fact_text p) out' r
     fact_shown l g = shows_as (λ v S o. fact_named S p (omega arith) x e (omega arith)) g
 
-    pub fact_bare : n ≤ x → WritesText out at (ascii "a fact") out' r → Shows f w out at Always (fact_text p) out' r
+    pub fact_bare : n ≤ x → WritesText out at (ascii "a fact") out' r → Shows f w out at NothingNeeded (fact_text p) out' r
     fact_bare l g = shows_as (λ v S o. fact_unnamed S p (omega arith) x e (omega arith)) (shows_text g)

@@ -20,15 +20,16 @@ use Rattle.cells.specs.Words.{count_w, part_w}
 use Rattle.cells.specs.Stands.{Rows, tree, kind_tree, IsCell, Ok}
 use Rattle.cells.specs.Promises.{Reprs}
 use Rattle.cells.proofs.Parts.{rest, rest_whole, rest_cell, rest_none, cell_ty, cell_ok, part_ok}
-use Rattle.meaning.specs.Diag.{ascii}
+use Rattle.format.specs.Bytes.{ascii}
 use Rattle.meaning.specs.Messages.{decimal, render, render_row, separator, part}
 use Rattle.writer.specs.Writes.{Writes, WritesText, hex_of}
 use Rattle.writer.proofs.Writing.{writes_to}
-use Rattle.messages.specs.Shown.{Sight, Seen, Shows, Always, shown, shown_row, render_text, cell_text, before_text, parted_by, after_text}
+use Rattle.messages.specs.Shown.{Sight, Seen, Shows, NothingNeeded, shown, shown_row, render_text, cell_text, before_text, parted_by, after_text}
 use Rattle.messages.specs.Shown.{name_text, discriminant_text, Ended, Looks}
 use Rattle.messages.specs.declared.shown.Bindings.{Bindings}
 use Rattle.messages.specs.declared.shown.Bindings.TheVariants.{Ignored, Followed}
-use Rattle.messages.proofs.Showing.{shows_as, shows_where, shows_text, shows_writes, shows_then, shows_full, text_then, text_full, Showing, showing_start, showing_next}
+use Rattle.messages.proofs.Showing.{shows_as, shows_where, shows_text, shows_writes, shows_then, shows_full, text_then, text_full, Showing, showing_start}
+use Rattle.messages.proofs.Showing.{showing_next}
 use Rattle.messages.proofs.Showing.{showing_full, showing_last}
 use Rattle.std.specs.Prelude.{None, Option, Some}
 
@@ -80,7 +81,8 @@ module _ {f w out : List ℕ} {at : ℕ} {t : Ty} {b : Bindings} {out' : List �
 
 -- ---- The parts of a cell
 
-shown_cons : (b : Bindings) (s : Subst) (key label : ℕ) (t : Tree.Ty) (r : Row) → shown_row b s (cell key label t r) ≡ cell key label (shown b s t) (shown_row b s r)
+shown_cons : (b : Bindings) (s : Subst) (key label : ℕ) (t : Tree.Ty) (r : Row)
+    → shown_row b s (cell key label t r) ≡ cell key label (shown b s t) (shown_row b s r)
 unfolding app_row
 shown_cons Followed s key label t r = rw (zonk_replaces s t)
 shown_cons Ignored s key label t r = refl
@@ -158,7 +160,7 @@ cell_start f w out at b k c n e = record {
 
 module _ {f w out₀ : List ℕ} {at : ℕ} {b : Bindings} {k : Kind} {c n : ℕ} {out : List ℕ} {j to : ℕ} (g : Celling f w out₀ at b k c n out j to) where
   module _ (p : Part) (l : j < n) (e : p ≡ part_w w k c j) {mid : List ℕ} {x : Option ℕ}
-      (before : Shows f w out to Always (before_text k p.key p.label) mid x) where
+      (before : Shows f w out to NothingNeeded (before_text k p.key p.label) mid x) where
     parted : (v : Sight) → separator v.names v.schema (kind_tree k) (shown_row b v.subst (rest v.rows w k c n (j + 1))) ≡ parted_by k (ltb (j + 1) n)
     parted v = go (ltb (j + 1) n) refl
       where
@@ -209,7 +211,8 @@ module _ {f w out₀ : List ℕ} {at : ℕ} {b : Bindings} {k : Kind} {c n : ℕ
 -- ---- The whole cell
 
 -- Where the parts start there is less room.
-pub brace_moves : {out : List ℕ} {at : ℕ} {mid : List ℕ} {h : Option ℕ} {n : ℕ} → Writes out at (hex_of (123 ∷ [])) mid h → h ≡ Some n → (at < n) × (n ≤ length out)
+pub brace_moves : {out : List ℕ} {at : ℕ} {mid : List ℕ} {h : Option ℕ} {n : ℕ} → Writes out at (hex_of (123 ∷ [])) mid h → h ≡ Some n → (at < n)
+    × (n ≤ length out)
 unfolding hex_of
 brace_moves f e = let g = writes_to f e in (omega (arith, g.0), g.1)
 

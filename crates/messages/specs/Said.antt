@@ -5,8 +5,9 @@ use Rattle.unification.specs.Bindings.{Subst, State, zonk}
 use Rattle.cells.specs.Stands.{Rows, tree, Ok, Holds}
 use Rattle.cells.specs.Promises.{diff_of}
 use Rattle.meaning.specs.Diag as Diag
-use Rattle.meaning.specs.Diag.{ascii, as_str, code_of}
-use Rattle.meaning.specs.File.{Described}
+use Rattle.format.specs.Bytes.{ascii}
+use Rattle.meaning.specs.Diag.{as_str, code_of}
+use Rattle.format.specs.File.{Described}
 use Rattle.meaning.specs.Messages.{message_text}
 use Rattle.tree.specs.Stands.{Stands}
 use Rattle.writer.specs.Writes.{Writes, WritesText, Moves, hex_of}

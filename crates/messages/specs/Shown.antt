@@ -8,9 +8,9 @@ use Rattle.cells.specs.declared.Ty.{Ty}
 use Rattle.cells.specs.declared.Kind.{Kind}
 use Rattle.cells.specs.declared.Kind.TheVariants.{Fields, Alternatives}
 use Rattle.cells.specs.Stands.{Rows, tree, kind_tree, Ok, Cells, Binds}
-use Rattle.meaning.specs.Diag.{ascii}
+use Rattle.format.specs.Bytes.{ascii}
 use Rattle.meaning.specs.Messages.{decimal, quoted, or_fact, name_of, fact_name, render}
-use Rattle.meaning.specs.Schema.{Schema}
+use Rattle.format.specs.Schema.{Schema}
 use Rattle.tree.specs.Stands.{SchemaStands}
 use Rattle.writer.specs.Writes.{Writes, Moves, hex_of}
 use Rattle.messages.specs.declared.shown.Piece.{Piece}
@@ -36,8 +36,8 @@ pub record Shows (f w out : List ℕ) (at : ℕ) (ok : Type 0) (text : Sight →
   pub moves : Moves out at out' r
 
 -- nothing has to exist
-abbrev pub Always : Type 0
-Always = Unit {0}
+abbrev pub NothingNeeded : Type 0
+NothingNeeded = Unit {0}
 
 -- ---- Names
 

@@ -49,7 +49,7 @@ impl From<TyError> for Message {
     }
 }
 
-#[tactic(auto, unfolding(meaning::specs::Diag::ascii, meaning::specs::Diag::as_str, meaning::specs::Diag::code_of))]
+#[tactic(auto, unfolding(format::specs::Bytes::ascii, meaning::specs::Diag::as_str, meaning::specs::Diag::code_of))]
 fn code_of(m: Message) -> &'static str
     ensures { CodeIs m result.now }
 {

@@ -5,7 +5,7 @@ ghost use Rattle.std.specs.List.{before_first};
 ghost use Rattle.meaning.specs.Messages.{decimal};
 ghost use Rattle.writer.specs.Writes.{WritesText};
 ghost use Rattle.cells.specs.Stands.{Ok, IsCell};
-ghost use Rattle.messages.specs.Shown.{Always, Shows, Looks, ok_piece, ok_pieces, piece_text, pieces_text, name_text, quoted_text, fact_text, before_text, parted_by, discriminant_text, render_text, cell_text};
+ghost use Rattle.messages.specs.Shown.{NothingNeeded, Shows, Looks, ok_piece, ok_pieces, piece_text, pieces_text, name_text, quoted_text, fact_text, before_text, parted_by, discriminant_text, render_text, cell_text};
 
 use cells::{Kind, Part, Ty};
 use work::{wide, word};
@@ -72,7 +72,7 @@ fn after(out: &mut [u8], at: usize, k: Kind, key: u32) -> Option<usize>
 }
 
 // What stands between two parts. What a record and a union show differs, here and above and in `before`: so a `match`.
-#[tactic(auto, unfolding(meaning::specs::Diag::ascii))]
+#[tactic(auto, unfolding(format::specs::Bytes::ascii))]
 fn between(k: Kind) -> &'static str
     ensures { result.now ≡ parted_by k true }
 {
@@ -93,7 +93,7 @@ pub struct View<'a> {
 impl View<'_> {
     // The name's line has its text after the kind's two digits.
     fn name(&self, out: &mut [u8], at: usize, x: u32) -> Option<usize>
-        ensures { Shows self.now.f.now self.now.w.now out.old at Always (name_text x) out.new result }
+        ensures { Shows self.now.f.now self.now.w.now out.old at NothingNeeded (name_text x) out.new result }
     {
         if x < word(self.w, work::NAME_COUNT) {
             let place = work::name_place(word(self.w, work::NAMES + wide(x)));
@@ -103,7 +103,7 @@ impl View<'_> {
     }
 
     fn quoted(&self, out: &mut [u8], at: usize, x: u32) -> Option<usize>
-        ensures { Shows self.now.f.now self.now.w.now out.old at Always (quoted_text x) out.new result }
+        ensures { Shows self.now.f.now self.now.w.now out.old at NothingNeeded (quoted_text x) out.new result }
     {
         let at = text(out, at, "`")?;
         let at = self.name(out, at, x)?;
@@ -112,7 +112,7 @@ impl View<'_> {
 
     // A fact by the name of its predicate, where it has one.
     fn fact(&self, out: &mut [u8], at: usize, p: u32) -> Option<usize>
-        ensures { Shows self.now.f.now self.now.w.now out.old at Always (fact_text p) out.new result }
+        ensures { Shows self.now.f.now self.now.w.now out.old at NothingNeeded (fact_text p) out.new result }
     {
         if p < word(self.w, work::PREDICATE_COUNT) {
             let x = work::predicate_name(word(self.w, work::PREDICATES + wide(p)));
@@ -125,7 +125,7 @@ impl View<'_> {
 
     // What stands before the type of a part: `name = ` in a record, `name : ` in a union.
     fn before(&self, out: &mut [u8], at: usize, k: Kind, p: &Part) -> Option<usize>
-        ensures { Shows self.now.f.now self.now.w.now out.old at Always (before_text k p.now.key p.now.label) out.new result }
+        ensures { Shows self.now.f.now self.now.w.now out.old at NothingNeeded (before_text k p.now.key p.now.label) out.new result }
     {
         let (name, mark) = match k {
             Kind::Fields => (p.key, " = "),

@@ -4,9 +4,9 @@ use Rattle.std.specs.Prelude.{MatchOption, None, Option, Some}
 use Rattle.std.specs.Borrow.{Bor}
 use Rattle.unification.specs.Ty.{Kind, Record, Union, Ty, Row, ε, cell, row_len}
 use Rattle.unification.specs.Unify.{find_key}
-use Rattle.plain_theory.specs.Plain.{Parts, parts, unlike, with_part, Named, named?, part, matched}
+use Rattle.plain_theory.specs.Plain.{Parts, parts, unlike, with_part, NamedAlike, named?, part, matched}
 use Rattle.plain_theory.specs.Words.{spelled, row_spelled}
-use Rattle.plain.specs.Tokens.{behind, label_of, NoCell, FirstCell, Absent, FoundAt, TwoRows, Like, Alike, FirstUnlike, FirstAlike}
+use Rattle.plain.specs.Tokens.{behind, label_of, NoCell, FirstCell, KeyAbsent, FoundAt, TwoRows, Like, Alike, FirstUnlike, FirstAlike}
 use Rattle.plain.proofs.Types.{past_type}
 
 -- ---- What becomes of a cell
@@ -16,27 +16,27 @@ unfolding with_part
 like_with t u (parts qs) = refl
 like_with t u unlike = refl
 
-part_like : (k : Kind) (a : ℕ) (t : Ty) (u : ℕ × Ty) (ps : Parts) → Named k a u.0 → part k a t (Some u) ps ≡ with_part t u.1 ps
+part_like : (k : Kind) (a : ℕ) (t : Ty) (u : ℕ × Ty) (ps : Parts) → NamedAlike k a u.0 → part k a t (Some u) ps ≡ with_part t u.1 ps
 unfolding part
 part_like k a t u ps h = go (named? k a u.0) refl
   where
-    go : (d : Dec (Named k a u.0)) → named? k a u.0 ≡ d → part k a t (Some u) ps ≡ with_part t u.1 ps
+    go : (d : Dec (NamedAlike k a u.0)) → named? k a u.0 ≡ d → part k a t (Some u) ps ≡ with_part t u.1 ps
     go (yes e) q = rw (q, part)
     go (no n) q = absurd (n h)
 
-part_unlike : (k : Kind) (a : ℕ) (t : Ty) (u : ℕ × Ty) (ps : Parts) → ¬ Named k a u.0 → part k a t (Some u) ps ≡ unlike
+part_unlike : (k : Kind) (a : ℕ) (t : Ty) (u : ℕ × Ty) (ps : Parts) → ¬ NamedAlike k a u.0 → part k a t (Some u) ps ≡ unlike
 unfolding part
 part_unlike k a t u ps h = go (named? k a u.0) refl
   where
-    go : (d : Dec (Named k a u.0)) → named? k a u.0 ≡ d → part k a t (Some u) ps ≡ unlike
+    go : (d : Dec (NamedAlike k a u.0)) → named? k a u.0 ≡ d → part k a t (Some u) ps ≡ unlike
     go (yes e) q = absurd (h e)
     go (no n) q = rw (q, part)
 
-named : (k : Kind) (a b : ℕ) → label_of k a ≡ label_of k b → Named k a b
+named : (k : Kind) (a b : ℕ) → label_of k a ≡ label_of k b → NamedAlike k a b
 named Record a b e = tt
 named Union a b e = e
 
-not_named : (k : Kind) (a b : ℕ) → (label_of k a ≡ label_of k b → ⊥) → ¬ Named k a b
+not_named : (k : Kind) (a b : ℕ) → (label_of k a ≡ label_of k b → ⊥) → ¬ NamedAlike k a b
 not_named Record a b n h = n refl
 not_named Union a b n h = n h
 
@@ -48,7 +48,7 @@ module _ {n : ℕ} {row other : List ℕ} where
   no_cell f k r s key label t e o m ps = absurd (f k key label (spelled t ++ row_spelled r k) e)
 
   module _ {a y : ℕ} {ws : List ℕ} (f : FirstCell row a y ws) where
-    pub no_partner : Absent other n a → FirstUnlike n row other
+    pub no_partner : KeyAbsent other n a → FirstUnlike n row other
     unfolding row_spelled part
     no_partner g k r s key label t e o m ps =
         let c = f k key label (spelled t ++ row_spelled r k) e in

@@ -5,7 +5,7 @@ use borrow.Author.Tests.{eq-eqb, ne_eqb}
 use Rattle.unification.specs.Ty.{Kind, Ty, Row, ε, cell, row_len}
 use Rattle.unification.specs.Unify.{find_key}
 use Rattle.plain_theory.specs.Words.{spelled, row_spelled}
-use Rattle.plain.specs.Tokens.{behind, label_of, NoCell, FirstCell, Absent, FoundAt}
+use Rattle.plain.specs.Tokens.{behind, label_of, NoCell, FirstCell, KeyAbsent, FoundAt}
 use Rattle.plain.proofs.Types.{past_type}
 
 -- ---- The first cell of a row
@@ -53,7 +53,7 @@ pub find_start : (row : List ℕ) (n key : ℕ) → Finding row n key row 0
 find_start row n key = record { to = λ k s m e. record { row = s; stands = e; same = refl; many = omega arith } }
 
 module _ {row : List ℕ} {n key : ℕ} {rest : List ℕ} {j : ℕ} (g : Finding row n key rest j) where
-  pub find_none : n ≤ j → Absent row n key
+  pub find_none : n ≤ j → KeyAbsent row n key
   unfolding find_key row_len
   find_none le k s m e = let x = g.to k s m e in go s x.row x.same x.many
     where
@@ -62,14 +62,14 @@ module _ {row : List ℕ} {n key : ℕ} {rest : List ℕ} {j : ℕ} (g : Finding
       go s (cell a b u r) e m = absurd (omega arith)
 
   module _ (lt : j < n) where
-    pub find_cut : NoCell rest → Absent row n key
+    pub find_cut : NoCell rest → KeyAbsent row n key
     find_cut f k s m e = let x = g.to k s m e in absurd (not_held k f x.row x.stands (omega (arith, x.many)))
 
     module _ {a label : ℕ} {ws : List ℕ} (f : FirstCell rest a label ws) where
       here : (k : Kind) (s : Row) (m : row_len s ≡ n) (e : row ≡ row_spelled s k) → Held k (g.to k s m e).row a label ws
       here k s m e = let x = g.to k s m e in held k f x.row x.stands (omega (arith, x.many))
 
-      pub find_broken : behind ws 1 ≡ None → Absent row n key
+      pub find_broken : behind ws 1 ≡ None → KeyAbsent row n key
       find_broken q k s m e = let z : None ≡ Some (row_spelled (here k s m e).others k) = sym q ∙ held_behind (here k s m e) in absurd (cc)
 
       pub find_here : a ≡ key → FoundAt row n key label ws

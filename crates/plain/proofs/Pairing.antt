@@ -7,9 +7,9 @@ use Rattle.unification.specs.Robinson.{Equation}
 use Rattle.unification.proofs.Tests.{clash}
 use Rattle.writer.specs.Writes.{Writes, Moves}
 use Rattle.writer.proofs.Writing.{writes_as, writes_moves, full_moves, moves_none, moves_next, Goes, goes_start, goes_next, goes_full, goes_done}
-use Rattle.plain_theory.specs.Plain.{Parts, parts, unlike, with_part, Named, named?, part, matched}
+use Rattle.plain_theory.specs.Plain.{Parts, parts, unlike, with_part, NamedAlike, named?, part, matched}
 use Rattle.plain_theory.specs.Words.{spelled, row_spelled, pairs_spelled}
-use Rattle.plain.specs.Tokens.{NoType, FirstType, NoCell, FirstCell, Absent, FoundAt, TwoRows, Pairs}
+use Rattle.plain.specs.Tokens.{NoType, FirstType, NoCell, FirstCell, KeyAbsent, FoundAt, TwoRows, Pairs}
 use Rattle.plain.proofs.Finding.{not_held}
 
 -- ---- What a pair of cells gives
@@ -26,7 +26,7 @@ unfolding part with_part
 paired k a t None ps qs e = clash (cc)
 paired k a t (Some u) ps qs e = go (named? k a u.0) refl ps refl
   where
-    go : (d : Dec (Named k a u.0)) → named? k a u.0 ≡ d → (x : Parts) → ps ≡ x → Paired t (Some u) ps qs
+    go : (d : Dec (NamedAlike k a u.0)) → named? k a u.0 ≡ d → (x : Parts) → ps ≡ x → Paired t (Some u) ps qs
     go (yes n) q (parts rest) p =
         let whole : parts (record { left = t; right = u.1 } ∷ rest) ≡ parts qs = rw (q, p, part, with_part) at e in
         record { other = u; found = refl; rest = rest; others = p; are = cc }
@@ -80,7 +80,8 @@ nothing_left k ε s ps j n e m le = let z : parts [] ≡ parts ps = e in cc
 nothing_left k (cell a b u o) s ps j n e m le = absurd (omega arith)
 
 module _ {n : ℕ} {left right out₀ : List ℕ} {at : ℕ} {out rest : List ℕ} {j to : ℕ} (g : Pairing n left right out₀ at out rest j to) where
-  never : ((k : Kind) (r s : Row) (qs : List Equation) → TwoRows n left right k r s → matched k r s ≡ parts qs → ⊥) → {out' : List ℕ} → length out' ≡ length out₀
+  never : ((k : Kind) (r s : Row) (qs : List Equation) → TwoRows n left right k r s → matched k r s ≡ parts qs → ⊥) → {out' : List ℕ}
+      → length out' ≡ length out₀
       → Pairs n left right out₀ at out' None
   never f e = record { is = λ k r s qs t m. absurd (f k r s qs t m); moves = full_moves e }
 
@@ -125,7 +126,7 @@ module _ {n : ℕ} {left right out₀ : List ℕ} {at : ℕ} {out rest : List �
       pub pair_broken : NoType ws → Pairs n left right out₀ at out None
       pair_broken h = never (λ k r s qs t m. let c = held k r s qs t m in h c.ty (row_spelled c.others k) c.words) g.moves.long
 
-      pub pair_absent : Absent right n a → Pairs n left right out₀ at out None
+      pub pair_absent : KeyAbsent right n a → Pairs n left right out₀ at out None
       pair_absent h = never
           (λ k r s qs t m.
           let c = held k r s qs t m in
@@ -150,7 +151,8 @@ module _ {n : ℕ} {left right out₀ : List ℕ} {at : ℕ} {out rest : List �
 
         module _ {one more : List ℕ} (F : FirstType ws one more) {two others : List ℕ} (S : FirstType vs two others) {mid : List ℕ} {r₁ : Option ℕ}
             (W : Writes out to one mid r₁) where
-          one_is : (k : Kind) (r s : Row) (qs : List Equation) (t : TwoRows n left right k r s) (m : matched k r s ≡ parts qs) → one ≡ spelled (held k r s qs t m).ty
+          one_is : (k : Kind) (r s : Row) (qs : List Equation) (t : TwoRows n left right k r s) (m : matched k r s ≡ parts qs)
+              → one ≡ spelled (held k r s qs t m).ty
           one_is k r s qs t m = let c = held k r s qs t m in (F.is c.ty (row_spelled c.others k) c.words).0
 
           two_is : (k : Kind) (r s : Row) (qs : List Equation) (t : TwoRows n left right k r s) (m : matched k r s ≡ parts qs)

@@ -17,7 +17,8 @@ rest n ws = take (length ws - n) (drop n ws)
 abbrev pub Left : List ℕ → ℕ → List ℕ → List ℕ → ℕ → List ℕ → Type 0
 Left out₀ at whole out to ws = (out' : List ℕ) (r : Option ℕ) → Writes out to ws out' r → Writes out₀ at whole out' r
 
-module _ {out₀ : List ℕ} {at : ℕ} {whole out : List ℕ} {to : ℕ} {ws : List ℕ} (a vs : List ℕ) {out' : List ℕ} (g : Left out₀ at whole out to ws) (e : ws ≡ a ++ vs) where
+module _ {out₀ : List ℕ} {at : ℕ} {whole out : List ℕ} {to : ℕ} {ws : List ℕ} (a vs : List ℕ) {out' : List ℕ} (g : Left out₀ at whole out to ws)
+    (e : ws ≡ a ++ vs) where
   pub left_next : {n : ℕ} → Writes out to a out' (Some n) → Left out₀ at whole out' n vs
   left_next f out'' r h = g out'' r (writes_as (sym e) (writes_then f refl h))
 

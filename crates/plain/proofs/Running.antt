@@ -1,21 +1,21 @@
--- The run: the stage that stands in the slice has the result of the first. Each turn leaves fewer unknowns in the pairs, or as
+-- The run: the stage that stands in a half of the slice has the result of the first. Each turn leaves fewer unknowns in the pairs, or as
 -- many and fewer words on the left sides; both are at most the words of the stage, so neither count runs out.
-use Rattle.std.proofs.Common.{List, [], ◌∷◌, ◌++◌, append_assoc, map, ◌≡◌, ℕ, suc, ◌+◌, ◌-◌, ◌*◌, ◌≤◌, ◌<◌, length, take, drop, refl, sym, ap, ◌∙◌, inl, inr, ⊎_elim, arith, length-append, length-drop}
-use Rattle.std.proofs.lemmas.List.{take_at, take-append-le, length-take, length-take-le}
+use Rattle.std.proofs.Common.{Bool, true, false, List, [], ◌∷◌, ◌++◌, append_assoc, map, ◌≡◌, ℕ, suc, ◌+◌, ◌-◌, ◌*◌, ◌≤◌, ◌<◌, length, take, drop, refl, sym}
+use Rattle.std.proofs.Common.{ap, ◌∙◌, inl, inr, ⊎_elim, arith, length-append, length-drop}
+use Rattle.std.proofs.lemmas.List.{take_at, take-append-le, take-take, length-take, length-take-le}
 use Rattle.std.proofs.lemmas.Slice.{between_is}
 use Rattle.std.proofs.Math.Seq.{drop-drop}
 use Rattle.std.proofs.Math.Nat.{suc-mul}
+use mathlib.Core.Bool.{not}
 use Rattle.std.specs.Prelude.{Err, None, Ok, Option, Result, Some}
 use Rattle.std.specs.Borrow.{Bor}
-use Rattle.std.specs.Option.{ok_or}
-use Rattle.std.specs.Result.{IsErrAnd}
-use Rattle.std.proofs.lemmas.Result.{err_from_is_err_and}
 use Rattle.plain.specs.Slices.{slice}
 use Rattle.unification.specs.Ty.{Kind, Ty, leaf, node, Var, Error, Row, ε, cell}
 use Rattle.unification.specs.Robinson.{Equation}
 use Rattle.unification.proofs.Tests.{clash}
 use Rattle.plain_theory.specs.Plain as Theory
-use Rattle.plain_theory.specs.Plain.{Stage, solved, failed, in_pair, in_binding, Step, drops, fails, splits, binds, step, needs, done, on, after, next_of, next, full}
+use Rattle.plain_theory.specs.Plain.{Stage, solved, failed, in_pair, in_binding, PlainStep, drops, fails, splits, binds, step, needs, done, on, after, next_of}
+use Rattle.plain_theory.specs.Plain.{next, full}
 use Rattle.plain_theory.specs.Words.{head_spelled, spelled, row_spelled, pairs_spelled, bindings_spelled}
 use Rattle.plain_theory.specs.Falls.{in_pairs_append, lefts, lefts_append, words_some, replaced_pairs, StepFalls, step_falls}
 use Rattle.plain_theory.specs.Solve.{without, mem_without, without_fewer, Lists, unknowns, row_unknowns, all_unknowns, all_listed, solve}
@@ -23,9 +23,11 @@ use Rattle.plain_theory.proofs.Runs.{solve_next, solve_done, solve_stuck, solve_
 use Rattle.plain_theory.proofs.Words.{spelled_words, needs_words}
 use Rattle.plain.specs.declared.Next.{Next}
 use Rattle.plain.specs.declared.Next.TheVariants.{Done, Stuck, Drop, Bind, Split}
+use Rattle.plain.specs.declared.Turn.{Turn}
+use Rattle.plain.specs.declared.Turn.TheVariants.{Last, Dropped, Bound, Parted}
 use Rattle.plain.specs.declared.Unsolved.{Unsolved}
 use Rattle.plain.specs.Tokens.{swapped}
-use Rattle.plain.specs.Stages.{Rows, ToldOf, Told, Tells, Lays, Stays, Gives, Runs}
+use Rattle.plain.specs.Stages.{ToldOf, ToldNext, TellsNext, Lays, StaysInside, BindLays, SplitLays, OverRoom, PlainTurned, GivesResult, PlainRuns}
 use Rattle.plain.proofs.Slices.{slice_long, slice_low, slice_rest, part_is}
 use Rattle.plain.proofs.Swaps.{swap_pairs, swap_bindings}
 
@@ -101,15 +103,6 @@ less_unknowns {u} {x} h w t e =
     let all : u * (h + 1) ≡ x * (h + 1) + (h + 1) = ap (λ (k : ℕ). k * (h + 1)) one ∙ suc-mul x (h + 1) in
     omega arith
 
--- A turn that cannot go on tells that it is too few words.
-pub too_few : {A : Type 0} (r : Result ℕ Unsolved) {f : Unsolved} (o : Option A) → IsErrAnd r (λ e. e ≡ f) → o ≡ None
-    → ◌≡◌ {A = Result A Unsolved} (Err f) (ok_or o Unsolved.TooFew) → r ≡ Err Unsolved.TooFew
-too_few {A} r {f} o h e g =
-    let p = err_from_is_err_and r h in
-    let z : ◌≡◌ {A = Result A Unsolved} (Err f) (Err Unsolved.TooFew) = g ∙ ap (λ (x : Option A). ok_or x Unsolved.TooFew) e in
-    let same : f ≡ Unsolved.TooFew = cc in
-    p.1 ∙ ap Err (p.2 ∙ same)
-
 -- ---- What is told says what comes next
 
 -- The first pair, and what is told of it.
@@ -119,11 +112,11 @@ record Taken (ps : List Equation) (r : Next) : Type 0 where
   are : ps ≡ first ∷ rest
   told : ToldOf r (pairs_spelled rest) (step first.left first.right)
 
-taken : {r : Next} (ps : List Equation) → (r ≡ Done → ⊥) → Told r ps → Taken ps r
+taken : {r : Next} (ps : List Equation) → (r ≡ Done → ⊥) → ToldNext r ps → Taken ps r
 taken [] n t = absurd (n t)
 taken (c ∷ ps) n t = record { first = c; rest = ps; are = refl; told = t }
 
-none_left : (ps : List Equation) → Told Done ps → ps ≡ []
+none_left : (ps : List Equation) → ToldNext Done ps → ps ≡ []
 none_left [] t = refl
 none_left (c ∷ ps) t = absurd t
 
@@ -131,16 +124,30 @@ next_none : (g : Stage) → g.pairs ≡ [] → next g ≡ done
 unfolding next next_of
 next_none g e = ap (λ (ps : List Equation). next_of ps g.bindings) e
 
-next_after : (g : Stage) (c : Equation) (ps : List Equation) → g.pairs ≡ c ∷ ps → (st : Step) → step c.left c.right ≡ st
+next_after : (g : Stage) (c : Equation) (ps : List Equation) → g.pairs ≡ c ∷ ps → (st : PlainStep) → step c.left c.right ≡ st
     → next g ≡ after st ps g.bindings
 unfolding next next_of
-next_after g c ps e st f = ap (λ (qs : List Equation). next_of qs g.bindings) e ∙ ap (λ (s : Step). after s ps g.bindings) f
+next_after g c ps e st f = ap (λ (qs : List Equation). next_of qs g.bindings) e ∙ ap (λ (s : PlainStep). after s ps g.bindings) f
 
-lays_as : {a b out out' : List ℕ} {r r' : Option (ℕ × ℕ)} → r ≡ r' → Lays a b out out' r → Lays a b out out' r'
-lays_as e f = rw e at f
+-- ---- The halves
 
-pub stays_as : {out out' : List ℕ} {r r' : Option (ℕ × ℕ)} → r ≡ r' → Stays out out' r → Stays out out' r'
-stays_as e f = rw e at f
+-- The half that the stage stands in, with the halves in order; with the halves exchanged, the room.
+abbrev pub half_at : Bool → List ℕ → List ℕ → List ℕ
+half_at true low high = high
+half_at false low high = low
+
+-- A turn read the half of the stage and wrote into the other.
+pub record Turning (up : Bool) (low high : List ℕ) (b p e : ℕ) (low' high' : List ℕ) (r : Result Turn Unsolved) : Type 0 where
+  pub turned : PlainTurned (take b (half_at up low high)) (slice p e (half_at up low high)) (half_at up high low) (half_at up high' low') r
+  pub kept : half_at up low' high' ≡ half_at up low high
+
+pub turning_up : {up : Bool} → up ≡ true → (low high : List ℕ) (b p e : ℕ) (low' high' : List ℕ) (r : Result Turn Unsolved) → high' ≡ high
+    → PlainTurned (take b high) (take (e - p) (drop p high)) low low' r → Turning up low high b p e low' high' r
+turning_up z low high b p e low' high' r k t = rw z (record { turned = rw (part_is high p e) at t; kept = k })
+
+pub turning_low : {up : Bool} → up ≡ false → (low high : List ℕ) (b p e : ℕ) (low' high' : List ℕ) (r : Result Turn Unsolved) → low' ≡ low
+    → PlainTurned (take b low) (take (e - p) (drop p low)) high high' r → Turning up low high b p e low' high' r
+turning_low z low high b p e low' high' r k t = rw z (record { turned = rw (part_is low p e) at t; kept = k })
 
 -- ---- The stage that stands there
 
@@ -192,29 +199,30 @@ module _ {l₀ : List ℕ} {b₀ e₀ : ℕ} {l room : List ℕ} {b p e u w : �
       omega (arith, needs_words s.stage, g.b_p, g.p_e, g.e_in, g.long)
 
   -- what is told of the stage that stands there
-  telling : {t : Next} → Tells (take (e - p) (drop p l)) t → {lent : ℕ} {g₀ : Stage} (s : Standing lent g₀ l b p e u w) → Told t s.stage.pairs
-  telling T s = T.is s.stage.pairs (part_is l p e ∙ s.pairs)
+  telling : {t : Next} → TellsNext (slice p e l) t → {lent : ℕ} {g₀ : Stage} (s : Standing lent g₀ l b p e u w) → ToldNext t s.stage.pairs
+  telling T s = T.is s.stage.pairs s.pairs
 
-  pub run_done : Tells (take (e - p) (drop p l)) Done → Runs l₀ (length l₀) 0 b₀ e₀ l (Ok b)
-  run_done T = record {
+  -- at the end the words may stand elsewhere
+  pub run_done : TellsNext (slice p e l) Done → {l' : List ℕ} → take b l' ≡ take b l → length l' ≡ length l₀ → PlainRuns l₀ (length l₀) 0 b₀ e₀ l' (Ok b)
+  run_done T {l'} copied long = record {
     is = λ lent g₀ lo hi eb ep.
         let s = g.stands lent g₀ lo hi eb ep in
         let bs : length (bindings_spelled s.stage.bindings) ≡ b - 0 =
         ap length (sym s.bound) ∙ slice_long l 0 b (omega (arith, g.b_p, g.p_e, g.e_in)) in
         let same : b ≡ length (bindings_spelled s.stage.bindings) = omega arith in
         rw (s.same ∙ solve_done lent s.stage (fits lo s) (next_none s.stage (none_left s.stage.pairs (telling T s))))
-        (ap Ok same, ap (λ (k : ℕ). slice 0 k l) (sym same) ∙ s.bound);
-    long = g.long;
+        (ap Ok same, ap (λ (k : ℕ). slice 0 k l') (sym same) ∙ slice_low l l' b copied 0 b (omega arith) ∙ s.bound);
+    long = long;
   }
 
-  pub run_stuck : Tells (take (e - p) (drop p l)) Stuck → Runs l₀ (length l₀) 0 b₀ e₀ l (Err Unsolved.Failure)
+  pub run_stuck : TellsNext (slice p e l) Stuck → {l' : List ℕ} → length l' ≡ length l₀ → PlainRuns l₀ (length l₀) 0 b₀ e₀ l' (Err Unsolved.Failure)
   unfolding after
-  run_stuck T = record {
+  run_stuck T long = record {
     is = λ lent g₀ lo hi eb ep.
         let s = g.stands lent g₀ lo hi eb ep in
         let c = taken s.stage.pairs (λ z. clash (cc)) (telling T s) in
         rw (s.same ∙ solve_stuck lent s.stage (fits lo s) (next_after s.stage c.first c.rest c.are fails c.told)) refl;
-    long = g.long;
+    long = long;
   }
 
   -- a pair is left where there is something to be done
@@ -222,22 +230,23 @@ module _ {l₀ : List ℕ} {b₀ e₀ : ℕ} {l room : List ℕ} {b p e u w : �
   unfolding lefts
   some_words s c = omega (arith, s.fewer, ap lefts c.are, words_some c.first.left)
 
-  pub never_out : {t : Next} → Tells (take (e - p) (drop p l)) t → (t ≡ Done → ⊥) → (1 ≤ w → ⊥) → Runs l₀ (length l₀) 0 b₀ e₀ l (Err Unsolved.TooFew)
-  never_out T n z = record {
+  pub never_out : {t : Next} → TellsNext (slice p e l) t → (t ≡ Done → ⊥) → (1 ≤ w → ⊥) → {l' : List ℕ} → length l' ≡ length l₀
+      → PlainRuns l₀ (length l₀) 0 b₀ e₀ l' (Err Unsolved.TooFew)
+  never_out T n z long = record {
     is = λ lent g₀ lo hi eb ep.
         let s = g.stands lent g₀ lo hi eb ep in
         absurd (omega (arith, some_words s (taken s.stage.pairs n (telling T s))));
-    long = g.long;
+    long = long;
   }
 
   -- ---- A pair is dropped
 
-  pub run_drop : (o : Bor (List ℕ)) → Tells (take (e - p) (drop p l)) (Drop o) → {w' : ℕ} → w' ≡ w - 1
-      → Running l₀ b₀ e₀ l room b (e - length o.now) e u w'
+  pub run_drop : (o : Bor (List ℕ)) → TellsNext (slice p e l) (Drop o) → {room' : List ℕ} → length room' ≡ length l₀ → {w' : ℕ} → w' ≡ w - 1
+      → Running l₀ b₀ e₀ l room' b (e - length o.now) e u w'
   unfolding after lefts pairs_spelled
-  run_drop o T {w'} le = record {
+  run_drop o T long le = record {
     long = g.long;
-    room_long = g.room_long;
+    room_long = long;
     b_p = omega (arith, shorter, g.b_p, g.p_e);
     p_e = omega arith;
     e_in = g.e_in;
@@ -264,7 +273,7 @@ module _ {l₀ : List ℕ} {b₀ e₀ : ℕ} {l room : List ℕ} {b p e u w : �
   }
     where
       shorter : length o.now ≤ e - p
-      shorter = omega (arith, T.within, ap length (part_is l p e) ∙ slice_long l p e g.e_in)
+      shorter = omega (arith, T.within, slice_long l p e g.e_in)
 
   -- ---- The next stage, laid out in the room or too long for it
 
@@ -273,59 +282,42 @@ module _ {l₀ : List ℕ} {b₀ e₀ : ℕ} {l room : List ℕ} {b p e u w : �
   over_full {lent} lo hi s g' nx L =
       s.same ∙ solve_next lent s.stage g' (fits lo s) nx ∙ solve_full lent g' (omega (arith, needs_words g', L.over refl, g.room_long))
 
-  module _ {room' lowered : List ℕ} {j k : ℕ} (stays : Stays room room' (Some (j, k)))
-      (e' : lowered ≡ take k room' ++ drop (length (take k room')) l) where
+  module _ {room' : List ℕ} {j k : ℕ} (stays : StaysInside room room' (Some (j, k))) where
     k_in : k ≤ length room'
     k_in = omega (arith, stays.long, (stays.inside j k refl).1)
-
-    there : take k lowered ≡ take k room'
-    there = ap (take k) e' ∙ take_at (take k room') (drop (length (take k room')) l) k (length-take-le k room' k_in)
-
-    pub lowered_long : length lowered ≡ length l₀
-    lowered_long =
-        omega (
-          arith,
-          ap length e',
-          length-append (take k room') (drop (length (take k room')) l),
-          length-drop (length (take k room')) l,
-          length-take-le k room' k_in,
-          k_in,
-          stays.long,
-          g.room_long,
-          g.long,
-        )
 
     landed : {lent : ℕ} {g₀ : Stage} → length l₀ + length l₀ ≤ lent → (s : Standing lent g₀ l b p e u w) (g' : Stage) → next s.stage ≡ on g'
         → Lays (bindings_spelled g'.bindings) (pairs_spelled g'.pairs) room room' (Some (j, k))
         → {u' w' : ℕ} → lefts g'.pairs ≤ w' → (us : List ℕ) → Lists us g'.pairs → length us ≤ u'
-        → Standing lent g₀ lowered j j k u' w'
+        → Standing lent g₀ room' j j k u' w'
     landed {lent} lo s g' nx L le us ls few = record {
       stage = g';
       same = s.same ∙ solve_next lent s.stage g' (fits lo s) nx;
-      bound = slice_low room' lowered k there 0 j (stays.inside j k refl).0 ∙ (L.there j k refl).0;
-      pairs = slice_low room' lowered k there j k (omega arith) ∙ (L.there j k refl).1;
+      bound = (L.there j k refl).0;
+      pairs = (L.there j k refl).1;
       fewer = le;
       list = us;
       lists = ls;
       few = few;
     }
 
+    -- the stage that was there is the room of the next
     runs_on : {u' w' : ℕ} → ((lent : ℕ) (g₀ : Stage) → length l₀ + length l₀ ≤ lent → lent ≤ length l₀ + length l₀ + 1
-        → slice 0 b₀ l₀ ≡ bindings_spelled g₀.bindings → slice b₀ e₀ l₀ ≡ pairs_spelled g₀.pairs → Standing lent g₀ lowered j j k u' w')
-        → Running l₀ b₀ e₀ lowered room' j j k u' w'
+        → slice 0 b₀ l₀ ≡ bindings_spelled g₀.bindings → slice b₀ e₀ l₀ ≡ pairs_spelled g₀.pairs → Standing lent g₀ room' j j k u' w')
+        → Running l₀ b₀ e₀ room' l j j k u' w'
     runs_on f = record {
-      long = lowered_long;
-      room_long = stays.long ∙ g.room_long;
+      long = stays.long ∙ g.room_long;
+      room_long = g.long;
       b_p = omega arith;
       p_e = (stays.inside j k refl).0;
-      e_in = omega (arith, (stays.inside j k refl).1, g.room_long, lowered_long);
+      e_in = k_in;
       stands = f;
     }
 
   -- ---- A pair is taken apart
 
-  module _ {n : ℕ} {left right rest : Bor (List ℕ)} (T : Tells (take (e - p) (drop p l)) (Split n left right rest)) {room' : List ℕ} {r : Option (ℕ × ℕ)}
-      (S : (qs : List Equation) → Rows n left.now right.now qs → Lays (take b l) (pairs_spelled qs ++ rest.now) room room' r) where
+  module _ {n : ℕ} {left right rest : Bor (List ℕ)} (T : TellsNext (slice p e l) (Split n left right rest)) {room' : List ℕ} {r : Option (ℕ × ℕ)}
+      (S : SplitLays (take b l) room room' n left.now right.now rest.now r) where
     take_is : slice 0 b l ≡ take b l
     unfolding slice
     take_is = refl
@@ -354,26 +346,27 @@ module _ {l₀ : List ℕ} {b₀ e₀ : ℕ} {l room : List ℕ} {b p e u w : �
           lists = λ y j. ls y (⊎_elim (λ i. inl (down.1 y i)) inr (in_pairs_append y f.0 c.rest j));
         }
 
-    pub run_split_full : r ≡ None → Runs l₀ (length l₀) 0 b₀ e₀ l (Err Unsolved.TooFew)
-    run_split_full f = record {
+  module _ {n : ℕ} {left right rest : Bor (List ℕ)} (T : TellsNext (slice p e l) (Split n left right rest)) {room' : List ℕ} where
+    run_split_full : SplitLays (take b l) room room' n left.now right.now rest.now None → {l' : List ℕ} → length l' ≡ length l₀
+        → PlainRuns l₀ (length l₀) 0 b₀ e₀ l' (Err Unsolved.TooFew)
+    run_split_full S long = record {
       is = λ lent g₀ lo hi eb ep.
           let s = g.stands lent g₀ lo hi eb ep in
-          let c = parting s in
-          rw (over_full lo hi s c.to c.goes (lays_as f c.lays)) refl;
-      long = g.long;
+          let c = parting T S s in
+          rw (over_full lo hi s c.to c.goes c.lays) refl;
+      long = long;
     }
 
-    pub run_split : {j k : ℕ} → r ≡ Some (j, k) → Stays room room' r → {lowered : List ℕ}
-        → lowered ≡ take k room' ++ drop (length (take k room')) l → {w' : ℕ} → w' ≡ w - 1
-        → Running l₀ b₀ e₀ lowered room' j j k u w'
-    run_split {j} {k} f stays e' z = runs_on (stays_as f stays) e' (λ lent g₀ lo hi eb ep.
+    pub run_split : {j k : ℕ} → SplitLays (take b l) room room' n left.now right.now rest.now (Some (j, k)) → StaysInside room room' (Some (j, k))
+        → {w' : ℕ} → w' ≡ w - 1 → Running l₀ b₀ e₀ room' l j j k u w'
+    run_split S stays z = runs_on stays (λ lent g₀ lo hi eb ep.
         let s = g.stands lent g₀ lo hi eb ep in
-        let c = parting s in
-        landed (stays_as f stays) e' lo s c.to c.goes (lays_as f c.lays) (omega (arith, c.fewer)) s.list c.lists s.few)
+        let c = parting T S s in
+        landed stays lo s c.to c.goes c.lays (omega (arith, c.fewer)) s.list c.lists s.few)
 
   -- ---- An unknown is bound
 
-  module _ {x : ℕ} {ts rest : Bor (List ℕ)} (T : Tells (take (e - p) (drop p l)) (Bind x ts rest)) where
+  module _ {x : ℕ} {ts rest : Bor (List ℕ)} (T : TellsNext (slice p e l) (Bind x ts rest)) where
     record BindingNow {lent : ℕ} {g₀ : Stage} (s : Standing lent g₀ l b p e u w) : Type 0 where
       ty : Ty
       others : List Equation
@@ -407,14 +400,13 @@ module _ {l₀ : List ℕ} {b₀ e₀ : ℕ} {l room : List ℕ} {b p e u w : �
               (replaced_pairs x f.0 y c.rest j);
         }
 
-    pub run_bind_none : (1 ≤ u → ⊥) → Runs l₀ (length l₀) 0 b₀ e₀ l (Err Unsolved.TooFew)
-    run_bind_none z = record {
+    pub run_bind_none : (1 ≤ u → ⊥) → {l' : List ℕ} → length l' ≡ length l₀ → PlainRuns l₀ (length l₀) 0 b₀ e₀ l' (Err Unsolved.TooFew)
+    run_bind_none z long = record {
       is = λ lent g₀ lo hi eb ep. let s = g.stands lent g₀ lo hi eb ep in absurd (omega (arith, (binding_now s).fewer, s.few));
-      long = g.long;
+      long = long;
     }
 
-    module _ {room' : List ℕ} {r : Option (ℕ × ℕ)}
-        (B : Lays (11 ∷ x ∷ (ts.now ++ swapped x ts.now (take b l))) (swapped x ts.now rest.now) room room' r) where
+    module _ {room' : List ℕ} {r : Option (ℕ × ℕ)} (B : BindLays (take b l) room room' x ts.now rest.now r) where
       laid : {lent : ℕ} {g₀ : Stage} (s : Standing lent g₀ l b p e u w) (c : BindingNow s)
           → Lays (bindings_spelled (record { unknown = x; to = c.ty } ∷ map (in_binding x c.ty) s.stage.bindings))
           (pairs_spelled (map (in_pair x c.ty) c.others)) room room' r
@@ -427,27 +419,107 @@ module _ {l₀ : List ℕ} {b₀ e₀ : ℕ} {l room : List ℕ} {b p e u w : �
           rw (c.stands, c.behind) (swap_pairs x c.ty c.others) in
           rw (← bs, ← ps) B
 
-      pub run_bind_full : r ≡ None → Runs l₀ (length l₀) 0 b₀ e₀ l (Err Unsolved.TooFew)
-      run_bind_full f = record {
+    module _ {room' : List ℕ} where
+      run_bind_full : BindLays (take b l) room room' x ts.now rest.now None → {l' : List ℕ} → length l' ≡ length l₀
+          → PlainRuns l₀ (length l₀) 0 b₀ e₀ l' (Err Unsolved.TooFew)
+      run_bind_full B long = record {
         is = λ lent g₀ lo hi eb ep.
             let s = g.stands lent g₀ lo hi eb ep in
             let c = binding_now s in
-            rw (over_full lo hi s _ c.goes (lays_as f (laid s c))) refl;
-        long = g.long;
+            rw (over_full lo hi s _ c.goes (laid B s c)) refl;
+        long = long;
       }
 
-      pub run_bind : {j k : ℕ} → r ≡ Some (j, k) → Stays room room' r → {lowered : List ℕ}
-          → lowered ≡ take k room' ++ drop (length (take k room')) l → {u' w' : ℕ} → u' ≡ u - 1
-          → w' ≡ length l₀ → Running l₀ b₀ e₀ lowered room' j j k u' w'
-      run_bind {j} {k} f stays {lowered} e' {u'} {w'} y z = runs_on (stays_as f stays) e' (λ lent g₀ lo hi eb ep.
+      pub run_bind : {j k : ℕ} → BindLays (take b l) room room' x ts.now rest.now (Some (j, k)) → StaysInside room room' (Some (j, k))
+          → {u' w' : ℕ} → u' ≡ u - 1 → w' ≡ length l₀ → Running l₀ b₀ e₀ room' l j j k u' w'
+      run_bind {j} {k} B stays y z = runs_on stays (λ lent g₀ lo hi eb ep.
           let s = g.stands lent g₀ lo hi eb ep in
           let c = binding_now s in
-          let L = lays_as f (laid s c) in
+          let L = laid B s c in
           let words : length (pairs_spelled (map (in_pair x c.ty) c.others)) ≡ k - j =
-          ap length (sym (L.there j k refl).1) ∙ slice_long room' j k (k_in (stays_as f stays) e') in
-          landed (stays_as f stays) e' lo s _ c.goes L
-          (omega (arith, words, lefts_few (map (in_pair x c.ty) c.others), (stays_as f stays).inside j k refl, g.room_long))
+          ap length (sym (L.there j k refl).1) ∙ slice_long room' j k (k_in stays) in
+          landed stays lo s _ c.goes L
+          (omega (arith, words, lefts_few (map (in_pair x c.ty) c.others), stays.inside j k refl, g.room_long))
           (without x s.list) c.lists (omega (arith, c.fewer, s.few)))
+
+  -- ---- A turn that ends the run with an error
+
+  ends_full : (room' : List ℕ) (t : Next) → TellsNext (slice p e l) t → OverRoom (take b l) room room' t → {l' : List ℕ} → length l' ≡ length l₀
+      → PlainRuns l₀ (length l₀) 0 b₀ e₀ l' (Err Unsolved.TooFew)
+  ends_full room' Done T o long = absurd o
+  ends_full room' Stuck T o long = absurd o
+  ends_full room' (Drop rest) T o long = absurd o
+  ends_full room' (Bind x ts rest) T o long = run_bind_full T o long
+  ends_full room' (Split n left right rest) T o long = run_split_full T o long
+
+  pub run_ends : (room' : List ℕ) (f : Unsolved) → PlainTurned (take b l) (slice p e l) room room' (Err f) → {l' : List ℕ} → length l' ≡ length l₀
+      → PlainRuns l₀ (length l₀) 0 b₀ e₀ l' (Err f)
+  run_ends room' Unsolved.Failure T long = run_stuck T long
+  run_ends room' Unsolved.ShutOut T long = absurd T
+  run_ends room' Unsolved.TooFew T long = ends_full room' T.0 T.1 T.2 long
+
+-- ---- The halves change roles
+
+half_long : {n : ℕ} (up : Bool) (low high : List ℕ) → (length low ≡ n) × (length high ≡ n) → length (half_at up low high) ≡ n
+half_long true low high e = e.1
+half_long false low high e = e.0
+
+flipped : (up : Bool) (low high : List ℕ) → half_at (not up) low high ≡ half_at up high low
+flipped true low high = refl
+flipped false low high = refl
+
+module _ {l₀ : List ℕ} {b₀ e₀ : ℕ} {up : Bool} {low high : List ℕ} {b p e u w : ℕ}
+    (g : Running l₀ b₀ e₀ (half_at up low high) (half_at up high low) b p e u w) {low' high' : List ℕ} {r : Result Turn Unsolved}
+    (T : Turning up low high b p e low' high' r) (long : (length low' ≡ length l₀) × (length high' ≡ length l₀)) where
+  room_long : length (half_at up high' low') ≡ length l₀
+  room_long = half_long up high' low' (long.1, long.0)
+
+  told : {r' : Result Turn Unsolved} → r ≡ r'
+      → PlainTurned (take b (half_at up low high)) (slice p e (half_at up low high)) (half_at up high low) (half_at up high' low') r'
+  told z = rw z at T.turned
+
+  pub halves_end : {f : Unsolved} → r ≡ Err f → PlainRuns l₀ (length l₀) 0 b₀ e₀ low' (Err f)
+  halves_end {f} z = run_ends g (half_at up high' low') f (told z) long.0
+
+  -- after the last turn the upper half's bindings are copied down
+  pub halves_copied : r ≡ Ok Last → up ≡ true → {l' : List ℕ} → l' ≡ take b high' ++ drop (length (take b high')) low' → length l' ≡ length low'
+      → PlainRuns l₀ (length l₀) 0 b₀ e₀ l' (Ok b)
+  halves_copied z y {l'} c n =
+      let stands : high' ≡ half_at up low high = ap (λ (v : Bool). half_at v low' high') (sym y) ∙ T.kept in
+      let fits : length (take b high') ≡ b = length-take-le b high' (omega (arith, g.b_p, g.p_e, g.e_in, ap length stands)) in
+      run_done g (told z) (ap (take b) c ∙ take_at (take b high') (drop (length (take b high')) low') b fits ∙ ap (take b) stands) (n ∙ long.0)
+
+  pub halves_done : r ≡ Ok Last → up ≡ false → PlainRuns l₀ (length l₀) 0 b₀ e₀ low' (Ok b)
+  halves_done z y =
+      let stands : low' ≡ half_at up low high = ap (λ (v : Bool). half_at v low' high') (sym y) ∙ T.kept in
+      run_done g (told z) (ap (take b) stands) long.0
+
+  pub halves_drop : {n w' : ℕ} → r ≡ Ok (Dropped n) → w' ≡ w - 1
+      → Running l₀ b₀ e₀ (half_at up low' high') (half_at up high' low') b (e - n) e u w'
+  halves_drop z y =
+      let t = told z in
+      rw (T.kept, t.2) (run_drop g t.0 t.1 room_long y)
+
+  pub halves_drop_out : {n : ℕ} → r ≡ Ok (Dropped n) → (1 ≤ w → ⊥) → PlainRuns l₀ (length l₀) 0 b₀ e₀ low' (Err Unsolved.TooFew)
+  halves_drop_out z y = never_out g (told z).1 (λ x. clash (cc)) y long.0
+
+  pub halves_bind : {j k u' w' : ℕ} → r ≡ Ok (Bound j k) → u' ≡ u - 1 → w' ≡ length l₀
+      → Running l₀ b₀ e₀ (half_at (not up) low' high') (half_at (not up) high' low') j j k u' w'
+  halves_bind z x y =
+      let t = told z in
+      rw (flipped up low' high', flipped up high' low', T.kept) (run_bind g t.3 t.4 t.5 x y)
+
+  pub halves_bind_out : {j k : ℕ} → r ≡ Ok (Bound j k) → (1 ≤ u → ⊥) → PlainRuns l₀ (length l₀) 0 b₀ e₀ low' (Err Unsolved.TooFew)
+  halves_bind_out z y = run_bind_none g (told z).3 y long.0
+
+  pub halves_split : {j k w' : ℕ} → r ≡ Ok (Parted j k) → w' ≡ w - 1
+      → Running l₀ b₀ e₀ (half_at (not up) low' high') (half_at (not up) high' low') j j k u w'
+  halves_split z x =
+      let t = told z in
+      rw (flipped up low' high', flipped up high' low', T.kept) (run_split g t.4 t.5 t.6 x)
+
+  pub halves_split_out : {j k : ℕ} → r ≡ Ok (Parted j k) → (1 ≤ w → ⊥) → PlainRuns l₀ (length l₀) 0 b₀ e₀ low' (Err Unsolved.TooFew)
+  halves_split_out z y = never_out g (told z).4 (λ x. clash (cc)) y long.0
 
 -- ---- From the half on
 
@@ -457,7 +529,7 @@ slice_behind l h i j =
     let near : h + j - h ≡ j = omega arith in
     ap (drop i) (ap (λ (k : ℕ). take k (drop h l)) (sym near) ∙ between_is l h (h + j)) ∙ drop-drop i h (take (h + j) l)
 
-pub gives_front : (a b : List ℕ) (r : Result ℕ Unsolved) (t : Theory.Result) → Gives a r t → Gives (a ++ b) r t
+pub gives_front : (a b : List ℕ) (r : Result ℕ Unsolved) (t : Theory.PlainResult) → GivesResult a r t → GivesResult (a ++ b) r t
 unfolding slice
 gives_front a b r (solved bs) g =
     let n = length (bindings_spelled bs) in
@@ -465,47 +537,31 @@ gives_front a b r (solved bs) g =
 gives_front a b r failed g = g
 gives_front a b r full g = g
 
-pub run_lowered : {l : List ℕ} {h b e : ℕ} → h + h ≤ length l → (h ≤ b) × (b ≤ e) × (e ≤ h + h)
-    → {stage room lowered : List ℕ} → stage ≡ take h l → room ≡ drop h l
-    → lowered ≡ take (e - h) room ++ drop (length (take (e - h) room)) stage
-    → {stage' : List ℕ} (room' : List ℕ) {r : Result ℕ Unsolved} → length room' ≡ length (take h room)
-    → Runs lowered (length lowered) 0 (b - h) (e - h) stage' r → Runs l h h b e (stage' ++ (room' ++ drop h room)) r
-run_lowered {l} {h} {b} {e} twice pre {stage} {room} {lowered} es er ec {stage'} room' {r} kept R = record {
-  is = λ lent g lo hi eb ep. gives_front stage' (room' ++ drop h room) r (solve lent g)
-      (R.is lent g (omega (arith, moved_long)) (omega (arith, moved_long)) (rw h_h at (part h b (omega arith) pre.0 pre.1) ∙ eb) (part b e pre.0 pre.1 (omega arith) ∙ ep));
-  long = simp (length-append, length-drop) (omega (arith, R.long, moved_long, kept, length-take h room, room_long, twice));
+pub run_raised : {l : List ℕ} {h b e : ℕ} → h + h ≤ length l → (h ≤ b) × (b ≤ e) × (e ≤ h + h) → {low high : List ℕ} → low ≡ take h l → high ≡ drop h l
+    → {low' : List ℕ} (high' : List ℕ) {r : Result ℕ Unsolved} → length high' ≡ length (take h high)
+    → PlainRuns (take h high) (length (take h high)) 0 (b - h) (e - h) low' r → PlainRuns l h h b e (low' ++ (high' ++ drop h high)) r
+run_raised {l} {h} {b} {e} twice pre {low} {high} el eh {low'} high' {r} kept R = record {
+  is = λ lent g lo hi eb ep. gives_front low' (high' ++ drop h high) r (solve lent g)
+      (R.is lent g (omega (arith, high_long)) (omega (arith, high_long)) (rw h_h at (part h b (omega arith) pre.0 pre.1) ∙ eb)
+      (part b e pre.0 pre.1 (omega arith) ∙ ep));
+  long = simp (length-append, length-drop) (omega (arith, R.long, kept, high_long, room_long, twice));
 }
   where
-    room_long : length room ≡ length l - h
-    room_long = ap length er ∙ length-drop h l
+    room_long : length high ≡ length l - h
+    room_long = ap length eh ∙ length-drop h l
 
-    stage_long : length stage ≡ h
-    stage_long = omega (arith, ap length es, length-take h l, twice)
-
-    low_long : length (take (e - h) room) ≡ e - h
-    low_long = omega (arith, length-take (e - h) room, room_long, pre.2, twice)
-
-    moved_long : length lowered ≡ h
-    moved_long =
-        omega (
-          arith,
-          ap length ec,
-          length-append (take (e - h) room) (drop (length (take (e - h) room)) stage),
-          length-drop (length (take (e - h) room)) stage,
-          low_long,
-          stage_long,
-          pre.2,
-        )
+    high_long : length (take h high) ≡ h
+    high_long = omega (arith, length-take h high, room_long, twice)
 
     h_h : h - h ≡ 0
     h_h = omega arith
 
-    low : take (e - h) lowered ≡ take (e - h) (drop h l)
-    low = ap (take (e - h)) ec ∙ take_at (take (e - h) room) (drop (length (take (e - h) room)) stage) (e - h) low_long ∙ ap (take (e - h)) er
+    upper : take h (take h high) ≡ take h (drop h l)
+    upper = take-take h h high (omega arith) ∙ ap (take h) eh
 
-    part : (i j : ℕ) → h ≤ i → i ≤ j → j ≤ e → slice (i - h) (j - h) lowered ≡ slice i j l
+    part : (i j : ℕ) → h ≤ i → i ≤ j → j ≤ e → slice (i - h) (j - h) (take h high) ≡ slice i j l
     part i j x y z =
         let one : h + (i - h) ≡ i = omega arith in
         let two : h + (j - h) ≡ j = omega arith in
-        slice_low (drop h l) lowered (e - h) low (i - h) (j - h) (omega arith)
+        slice_low (drop h l) (take h high) h upper (i - h) (j - h) (omega arith)
         ∙ slice_behind l h (i - h) (j - h) ∙ rw (one, two)

@@ -16,7 +16,7 @@ use Rattle.plain_theory.proofs.Words.{spelled_words}
 use Rattle.plain.specs.declared.Next.{Next}
 use Rattle.plain.specs.declared.Next.TheVariants.{Done, Stuck, Drop, Bind, Split}
 use Rattle.plain.specs.Tokens.{among, NoType, FirstType, NoUnknown, NoNode, TwoRows, Like, Alike}
-use Rattle.plain.specs.Stages.{ToldOf, Told, Within, TellsBound, TellsApart, Tells}
+use Rattle.plain.specs.Stages.{ToldOf, ToldNext, WithinPairs, TellsBound, TellsApart, TellsNext}
 use Rattle.plain.proofs.Swaps.{bind_occurs, bind_free}
 
 -- ---- Which type the words are
@@ -333,39 +333,39 @@ no_var n t p x q = n x (p ∙ ap spelled q)
 spelled_some : (t : Ty) → 1 ≤ length (spelled t)
 spelled_some t = omega (arith, spelled_words t, words_some t)
 
-pub step_done : (pairs : List ℕ) → length pairs ≡ 0 → Tells pairs Done
+pub step_done : (pairs : List ℕ) → length pairs ≡ 0 → TellsNext pairs Done
 unfolding pairs_spelled
 step_done pairs h = record { is = go; within = tt }
   where
-    go : (ps : List Equation) → pairs ≡ pairs_spelled ps → Told Done ps
+    go : (ps : List Equation) → pairs ≡ pairs_spelled ps → ToldNext Done ps
     go [] e = refl
     go (c ∷ ps) e = absurd (omega (arith, ap length e, spelled_some c.left, length-append (spelled c.left) (spelled c.right ++ pairs_spelled ps)))
 
 module _ (pairs : List ℕ) (some : length pairs ≡ 0 → ⊥) where
-  pub step_no_left : NoType pairs → Tells pairs Stuck
+  pub step_no_left : NoType pairs → TellsNext pairs Stuck
   unfolding pairs_spelled
   step_no_left h = record { is = go; within = tt }
     where
-      go : (ps : List Equation) → pairs ≡ pairs_spelled ps → Told Stuck ps
+      go : (ps : List Equation) → pairs ≡ pairs_spelled ps → ToldNext Stuck ps
       go [] e = absurd (some (ap length e))
       go (c ∷ ps) e = absurd (h c.left _ e)
 
   module _ {left rest : List ℕ} (F : FirstType pairs left rest) where
-    pub step_no_right : NoType rest → Tells pairs Stuck
+    pub step_no_right : NoType rest → TellsNext pairs Stuck
     unfolding pairs_spelled
     step_no_right h = record { is = go; within = tt }
       where
-        go : (ps : List Equation) → pairs ≡ pairs_spelled ps → Told Stuck ps
+        go : (ps : List Equation) → pairs ≡ pairs_spelled ps → ToldNext Stuck ps
         go [] e = absurd (some (ap length e))
         go (c ∷ ps) e = absurd (h c.right _ (F.is c.left _ e).1)
 
     module _ {right rest' : List ℕ} (S : FirstType rest right rest') {r : Next} where
       -- what is told of the first two types is told of the pairs
-      tells : Within (length rest') r → ((a b : Ty) → left ≡ spelled a → right ≡ spelled b → ToldOf r rest' (step a b)) → Tells pairs r
+      tells : WithinPairs (length rest') r → ((a b : Ty) → left ≡ spelled a → right ≡ spelled b → ToldOf r rest' (step a b)) → TellsNext pairs r
       unfolding pairs_spelled
       tells w f = record { is = go; within = inner r w }
         where
-          go : (ps : List Equation) → pairs ≡ pairs_spelled ps → Told r ps
+          go : (ps : List Equation) → pairs ≡ pairs_spelled ps → ToldNext r ps
           go [] e = absurd (some (ap length e))
           go (c ∷ ps) e =
               let one = F.is c.left _ e in
@@ -375,20 +375,20 @@ module _ (pairs : List ℕ) (some : length pairs ≡ 0 → ⊥) where
           shorter : length rest' ≤ length pairs
           shorter = omega (arith, ap length F.parts ∙ length-append left rest, ap length S.parts ∙ length-append right rest')
 
-          inner : (r : Next) → Within (length rest') r → Within (length pairs) r
+          inner : (r : Next) → WithinPairs (length rest') r → WithinPairs (length pairs) r
           inner Done w = tt
           inner Stuck w = tt
           inner (Drop o) w = omega (arith, shorter)
           inner (Bind x ts o) w = tt
           inner (Split n a b o) w = tt
 
-      pub step_left : {x : ℕ} → left ≡ 7 ∷ x ∷ [] → TellsBound x right rest' r → Tells pairs r
+      pub step_left : {x : ℕ} → left ≡ 7 ∷ x ∷ [] → TellsBound x right rest' r → TellsNext pairs r
       step_left {x} e B = tells B.within (λ a b p q. rw (is_var a x (sym p ∙ e)) (B.is b q))
 
       module _ (n : NoUnknown left) where
-        pub step_right : {y : ℕ} → right ≡ 7 ∷ y ∷ [] → TellsBound y left rest' r → Tells pairs r
+        pub step_right : {y : ℕ} → right ≡ 7 ∷ y ∷ [] → TellsBound y left rest' r → TellsNext pairs r
         step_right {y} e B = tells B.within (λ a b p q.
             rw (is_var b y (sym q ∙ e)) (rw (← other_var a y (no_var n a p)) (B.is a p)))
 
-        pub step_apart : NoUnknown right → TellsApart left right rest' r → Tells pairs r
+        pub step_apart : NoUnknown right → TellsApart left right rest' r → TellsNext pairs r
         step_apart m A = tells A.within (λ a b p q. A.is a b p q (no_var n a p) (no_var m b q))

@@ -22,7 +22,10 @@ module _ (ws rest : List ℕ) (q : behind ws 1 ≡ Some rest) where
     is = λ t vs e.
         let z : Some vs ≡ Some rest = sym (past_type t vs) ∙ ap (λ (l : List ℕ). behind l 1) (sym e) ∙ q in
         let same : vs ≡ rest = cc in
-        let long : length (spelled t) ≡ length ws - length rest = omega (arith, ap length e ∙ length-append (spelled t) vs, ap length same) in
-        (front ∙ ap (take (length ws - length rest)) e ∙ take_at (spelled t) vs _ long, back ∙ ap (drop (length ws - length rest)) e ∙ drop_at (spelled t) vs _ long);
+        let long : length (spelled t) ≡ length ws - length rest = omega (arith, ap length e ∙ length-append (spelled t) vs, ap length same) in (
+          front ∙ ap (take (length ws - length rest)) e ∙ take_at (spelled t) vs _ long,
+          back ∙ ap (drop (length ws - length rest)) e ∙ drop_at
+              (spelled t) vs _ long,
+        );
     parts = rw (front, back) (sym (take-append-drop (length ws - length rest) ws));
   }

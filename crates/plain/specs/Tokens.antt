@@ -74,10 +74,10 @@ abbrev pub FirstCell : List ℕ → ℕ → ℕ → List ℕ → Type 0
 FirstCell row key label ws = (k : Kind) (x y : ℕ) (vs : List ℕ) → row ≡ head_spelled k x y ++ vs → (key ≡ x) × (label ≡ label_of k y) × (ws ≡ vs)
 
 -- The first cell with this key, in a row of n cells.
-abbrev pub Absent : List ℕ → ℕ → ℕ → Type 0
-Absent row n key = (k : Kind) (s : Row) → row_len s ≡ n → row ≡ row_spelled s k → find_key key s ≡ None
+abbrev pub KeyAbsent : List ℕ → ℕ → ℕ → Type 0
+KeyAbsent row n key = (k : Kind) (s : Row) → row_len s ≡ n → row ≡ row_spelled s k → find_key key s ≡ None
 
-pub record Stands (k : Kind) (key : ℕ) (s : Row) (label : ℕ) (ws : List ℕ) : Type 0 where
+pub record CellStands (k : Kind) (key : ℕ) (s : Row) (label : ℕ) (ws : List ℕ) : Type 0 where
   pub cell : ℕ × Ty
   pub is : find_key key s ≡ Some cell
   pub named : label ≡ label_of k cell.0
@@ -85,7 +85,7 @@ pub record Stands (k : Kind) (key : ℕ) (s : Row) (label : ℕ) (ws : List ℕ)
   pub words : ws ≡ spelled cell.1 ++ behind
 
 abbrev pub FoundAt : List ℕ → ℕ → ℕ → ℕ → List ℕ → Type 0
-FoundAt row n key label ws = (k : Kind) (s : Row) → row_len s ≡ n → row ≡ row_spelled s k → Stands k key s label ws
+FoundAt row n key label ws = (k : Kind) (s : Row) → row_len s ≡ n → row ≡ row_spelled s k → CellStands k key s label ws
 
 -- Two rows of n cells.
 pub record TwoRows (n : ℕ) (left right : List ℕ) (k : Kind) (r s : Row) : Type 0 where

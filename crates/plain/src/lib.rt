@@ -6,8 +6,8 @@ ghost use Rattle.std.specs.Prelude.{List, [], ◌∷◌, ◌++◌, ◌≡◌, �
 ghost use Rattle.unification.specs.Robinson.{Equation};
 ghost use Rattle.plain_theory.specs.Words.{pairs_spelled};
 ghost use Rattle.writer.specs.Writes.{Writes};
-ghost use Rattle.plain.specs.Tokens.{short, is_unknown, owed, instead_of, swapped, among, behind, NoType, FirstType, NoCell, FirstCell, Absent, FoundAt, FirstUnlike, FirstAlike, Alike, Pairs, NoUnknown, NoNode};
-ghost use Rattle.plain.specs.Stages.{Rows, TellsBound, TellsApart, Tells, Lays, Stays, half, Runs};
+ghost use Rattle.plain.specs.Tokens.{short, is_unknown, owed, instead_of, swapped, among, behind, NoType, FirstType, NoCell, FirstCell, KeyAbsent, FoundAt, FirstUnlike, FirstAlike, Alike, Pairs, NoUnknown, NoNode};
+ghost use Rattle.plain.specs.Stages.{PairedRows, TellsBound, TellsApart, TellsNext, Lays, StaysInside, PlainTurned, half, PlainRuns};
 
 use work::wide;
 use writer::{copy, one, two};
@@ -186,7 +186,7 @@ fn first_cell(row: &[u32]) -> Option<Cell<'_>>
 
 // The first cell with this key. Where a cell ends its type says: std's `find` has nothing to go over.
 fn find(row: &[u32], n: u32, key: u32) -> Option<Cell<'_>>
-    ensures { MatchOption result (Absent row.now n key) (λ c. FoundAt row.now n key c.label c.ty.now) }
+    ensures { MatchOption result (KeyAbsent row.now n key) (λ c. FoundAt row.now n key c.label c.ty.now) }
 {
     let mut rest = row;
     for _ in 0..n {
@@ -316,7 +316,7 @@ fn apart<'a>(left: &'a [u32], right: &'a [u32], rest: &'a [u32]) -> Next<'a>
 
 // The first of the pairs.
 fn step(pairs: &[u32]) -> Next<'_>
-    ensures { Tells pairs.now result }
+    ensures { TellsNext pairs.now result }
 {
     if pairs.is_empty() {
         return Next::Done;
@@ -345,7 +345,7 @@ fn bind(
     ts: &[u32],
 ) -> Option<(usize, usize)>
     ensures lays { Lays (11 ∷ x ∷ (ts.now ++ swapped x ts.now bindings.now)) (swapped x ts.now pairs.now) out.old out.new result }
-    ensures stays { Stays out.old out.new result }
+    ensures stays { StaysInside out.old out.new result }
 {
     let at = two(out, 0, BINDING, x)?;
     let at = copy(out, at, ts)?;
@@ -363,8 +363,8 @@ fn split(
     right: &[u32],
     pairs: &[u32],
 ) -> Option<(usize, usize)>
-    ensures lays { (qs : List Equation) → Rows n left.now right.now qs → Lays bindings.now (pairs_spelled qs ++ pairs.now) out.old out.new result }
-    ensures stays { Stays out.old out.new result }
+    ensures lays { (qs : List Equation) → PairedRows n left.now right.now qs → Lays bindings.now (pairs_spelled qs ++ pairs.now) out.old out.new result }
+    ensures stays { StaysInside out.old out.new result }
 {
     let b = copy(out, 0, bindings)?;
     let at = pair_up(out, b, n, left, right)?;
@@ -372,46 +372,86 @@ fn split(
     Some((b, e))
 }
 
-// The words of the room, moved to the start of the stage, where they fit.
-fn lower(stage: &mut [u32], words: &[u32])
-    requires { length words.now ≤ length stage.old }
-    ensures { stage.new ≡ words.now ++ drop (length words.now) stage.old }
+// The bindings, copied to the start of the slice.
+fn lower(low: &mut [u32], bindings: &[u32])
+    requires { length bindings.now ≤ length low.old }
+    ensures { low.new ≡ bindings.now ++ drop (length bindings.now) low.old }
 {
-    copy(stage, 0, words);
+    copy(low, 0, bindings);
 }
 
-// The run from a stage, its bindings up to b and its pairs up to e; the next one is written into as many words of room.
+// What a turn comes to: it is the last, so many words of pairs are left behind a dropped one, or the next stage stands in
+// the room, its bindings up to the first place and its pairs up to the second.
+#[derive(Clone, Copy)]
+enum Turn {
+    Last,
+    Dropped(usize),
+    Bound(usize, usize),
+    Parted(usize, usize),
+}
+
+// One turn: a stage is read, and the next one is written into the room.
+fn take_turn(bindings: &[u32], pairs: &[u32], room: &mut [u32]) -> Result<Turn, Unsolved>
+    ensures { PlainTurned bindings.now pairs.now room.old room.new result }
+{
+    match step(pairs) {
+        Next::Done => Ok(Turn::Last),
+        Next::Stuck => Err(Unsolved::Failure),
+        Next::Drop(rest) => Ok(Turn::Dropped(rest.len())),
+        Next::Bind(x, ts, rest) => {
+            let (b, e) = bind(room, bindings, rest, x, ts).ok_or(Unsolved::TooFew)?;
+            Ok(Turn::Bound(b, e))
+        }
+        Next::Split(n, left, right, rest) => {
+            let (b, e) = split(room, bindings, n, left, right, rest).ok_or(Unsolved::TooFew)?;
+            Ok(Turn::Parted(b, e))
+        }
+    }
+}
+
+// The run from the stage in the upper half, its bindings up to b and its pairs up to e. Each next stage is written into
+// the half that the last one does not stand in, so that none is copied back.
 // It ends on any words: each turn leaves fewer unknowns that can still be bound, or as many and fewer words on the left
 // sides. Only its step says whether a turn is the last.
 // Here and in `run`, `b` and `e` are places, since the next stage is written by its places.
-fn turns(stage: &mut [u32], room: &mut [u32], mut b: usize, mut e: usize) -> Result<usize, Unsolved>
-    requires { (b ≤ e) × (e ≤ length stage.old) × (length room.old ≡ length stage.old) }
-    ensures { Runs stage.old (length stage.old) 0 b e stage.new result }
+fn turns(low: &mut [u32], high: &mut [u32], mut b: usize, mut e: usize) -> Result<usize, Unsolved>
+    requires { (b ≤ e) × (e ≤ length high.old) × (length low.old ≡ length high.old) }
+    ensures { PlainRuns high.old (length high.old) 0 b e low.new result }
 {
+    // Whether the stage stands in the upper half.
+    let mut up = true;
     let mut p = b;
-    let mut unknowns = stage.len();
-    let mut words = stage.len();
+    let mut unknowns = high.len();
+    let mut words = high.len();
     loop {
-        let now = &*stage;
-        match step(&now[p..e]) {
-            Next::Done => return Ok(b),
-            Next::Stuck => return Err(Unsolved::Failure),
-            Next::Drop(rest) => {
-                words = words.checked_sub(1).ok_or(Unsolved::TooFew)?;
-                p = e - rest.len();
+        let turn = if up {
+            let stage = &*high;
+            take_turn(&stage[..b], &stage[p..e], low)
+        } else {
+            let stage = &*low;
+            take_turn(&stage[..b], &stage[p..e], high)
+        };
+        match turn? {
+            Turn::Last => {
+                if up {
+                    lower(low, &high[..b]);
+                }
+                return Ok(b);
             }
-            Next::Bind(x, ts, rest) => {
+            Turn::Dropped(left) => {
+                words = words.checked_sub(1).ok_or(Unsolved::TooFew)?;
+                p = e - left;
+            }
+            Turn::Bound(to, end) => {
                 unknowns = unknowns.checked_sub(1).ok_or(Unsolved::TooFew)?;
-                (b, e) = bind(room, &now[..b], rest, x, ts).ok_or(Unsolved::TooFew)?;
-                lower(stage, &room[..e]);
-                p = b;
-                words = stage.len();
+                (b, p, e) = (to, to, end);
+                up = !up;
+                words = high.len();
             }
-            Next::Split(n, left, right, rest) => {
+            Turn::Parted(to, end) => {
                 words = words.checked_sub(1).ok_or(Unsolved::TooFew)?;
-                (b, e) = split(room, &now[..b], n, left, right, rest).ok_or(Unsolved::TooFew)?;
-                lower(stage, &room[..e]);
-                p = b;
+                (b, p, e) = (to, to, end);
+                up = !up;
             }
         }
     }
@@ -421,10 +461,9 @@ fn turns(stage: &mut [u32], room: &mut [u32], mut b: usize, mut e: usize) -> Res
 // odd word is left over. After a success the slice starts with the bindings.
 pub fn run(l: &mut [u32], b: usize, e: usize) -> Result<usize, Unsolved>
     requires { (half l.old ≤ b) × (b ≤ e) × (e ≤ half l.old + half l.old) }
-    ensures { Runs l.old (half l.old) (half l.old) b e l.new result }
+    ensures { PlainRuns l.old (half l.old) (half l.old) b e l.new result }
 {
     let h = l.len() / 2;
-    let (stage, room) = l.split_at_mut(h);
-    lower(stage, &room[..e - h]);
-    turns(stage, &mut room[..h], b - h, e - h)
+    let (low, high) = l.split_at_mut(h);
+    turns(low, &mut high[..h], b - h, e - h)
 }

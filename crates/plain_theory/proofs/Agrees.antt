@@ -8,10 +8,10 @@ use mathlib.Core.Path.{◌≡◌, refl}
 use Prim.Native.Nat.{ℕ}
 use lib.ListN.{length}
 use Rattle.unification.specs.Ty.{Ty, Var, app}
-use Rattle.unification.specs.Order.{Same}
+use Rattle.unification.specs.Order.{SameTy}
 use Rattle.unification.specs.Bindings.{Subst, State}
 use Rattle.unification.specs.Unify.{Unified, Ok, Err, Spent, unify}
-use Rattle.unification.specs.Robinson.{Substitution, ◌then◌, Equation, Unifies, MostGeneral}
+use Rattle.unification.specs.Robinson.{Substitution, ◌then◌, Equation, IsUnifier, MostGeneral}
 use Rattle.unification.specs.Calls.{Side, Admitted, Respects, Machine, unification, failure, Calls, then_call}
 use Rattle.unification.specs.Tie.{solution, Together}
 use Rattle.unification.specs.Acyclic.{Acyclic}
@@ -19,7 +19,7 @@ use Rattle.unification.proofs.Order.{same_sym, same_trans, same_both, same_app, 
 use Rattle.unification.proofs.Demand3.{calls_inv}
 use Rattle.unification.proofs.Kept.{Notes, unify_notes}
 use Rattle.unification.proofs.Robinson.{unifies_then, solution_respects, robinson}
-use Rattle.plain_theory.specs.Plain.{Binding, Result, solved, failed, full, start}
+use Rattle.plain_theory.specs.Plain.{Binding, PlainResult, solved, failed, full, start}
 use Rattle.plain_theory.specs.Solve.{solve}
 use Rattle.plain_theory.specs.Claims.{Respected, Ends, Succeeds, Fails}
 use Rattle.plain_theory.proofs.Runs.{Says, run_says, solve_runs}
@@ -29,7 +29,7 @@ use Rattle.std.specs.Prelude.{Option}
 -- ---- A most general unifier is respected by the unifiers, and by nothing else
 
 -- The same substitution, up to order, unifies the same.
-unifies_like : (θ η : Substitution) → ((x : ℕ) → Same (θ x) (η x)) → (es : List Equation) → Unifies η es → Unifies θ es
+unifies_like : (θ η : Substitution) → ((x : ℕ) → SameTy (θ x) (η x)) → (es : List Equation) → IsUnifier η es → IsUnifier θ es
 unifies_like θ η h [] u = tt
 unifies_like θ η h (e ∷ es) u = (
   same_both (app θ e.left) (app η e.left) (app θ e.right) (app η e.right) (app_same θ η h e.left) (app_same θ η h e.right)
@@ -38,11 +38,11 @@ unifies_like θ η h (e ∷ es) u = (
 )
 
 module _ (s : Subst) (A : Acyclic s) (es : List Equation) (M : MostGeneral (solution s) es) (σ : Substitution) where
-  respects_unifies : Respects σ s → Unifies σ es
+  respects_unifies : Respects σ s → IsUnifier σ es
   unfolding solution app
   respects_unifies R = unifies_like σ (◌then◌ (solution s) σ) (λ x. resolving σ s (Var x) R) es (unifies_then (solution s) σ es M.unifies)
 
-  unifies_respected : Unifies σ es → Respects σ s
+  unifies_respected : IsUnifier σ es → Respects σ s
   unfolding Respects
   unifies_respected u x t e =
       let θ = solution s in
@@ -79,7 +79,7 @@ module _ (v : ℕ) (tys : List (Option Ty)) (m : Machine) (cs : Calls v tys m) (
   -- What `unify` found: a most general unifier of the sides and the bindings, or that there is none.
   abbrev Found : Unified → Type 0
   Found (Ok st) = MostGeneral (solution st.subst) (Together m.state.subst a b)
-  Found (Err e st) = (θ : Substitution) → ¬ Unifies θ (Together m.state.subst a b)
+  Found (Err e st) = (θ : Substitution) → ¬ IsUnifier θ (Together m.state.subst a b)
   Found (Spent st) = Unit {0}
 
   found : Found (unify m.state a b)
@@ -91,10 +91,10 @@ module _ (v : ℕ) (tys : List (Option Ty)) (m : Machine) (cs : Calls v tys m) (
       go (Spent st) e n = tt
 
   -- So it succeeds exactly where there is a unifier.
-  succeeds_exactly : Ends (unify m.state a b) → Succeeds (unify m.state a b) ↔ ((θ : Substitution) × Unifies θ (Together m.state.subst a b))
+  succeeds_exactly : Ends (unify m.state a b) → Succeeds (unify m.state a b) ↔ ((θ : Substitution) × IsUnifier θ (Together m.state.subst a b))
   succeeds_exactly e = go (unify m.state a b) e found
     where
-      go : (u : Unified) → Ends u → Found u → Succeeds u ↔ ((θ : Substitution) × Unifies θ (Together m.state.subst a b))
+      go : (u : Unified) → Ends u → Found u → Succeeds u ↔ ((θ : Substitution) × IsUnifier θ (Together m.state.subst a b))
       go (Ok st) h r = (λ s. (solution st.subst, r.unifies), λ x. tt)
       go (Err c st) h r = (λ s. absurd s, λ x. r x.0 x.1)
       go (Spent st) h r = absurd h
@@ -113,7 +113,7 @@ module _ (v : ℕ) (tys : List (Option Ty)) (m : Machine) (cs : Calls v tys m) (
       → (solve lent (start m.state.subst a b) ≡ failed) ↔ Fails (unify m.state a b)
   fails_exactly e n = (λ q. failed_fails (unify m.state a b) e (failed_never q e), λ h. go (solve lent (start m.state.subst a b)) refl h)
     where
-      go : (r : Result) → solve lent (start m.state.subst a b) ≡ r → Fails (unify m.state a b) → solve lent (start m.state.subst a b) ≡ failed
+      go : (r : PlainResult) → solve lent (start m.state.subst a b) ≡ r → Fails (unify m.state a b) → solve lent (start m.state.subst a b) ≡ failed
       go (solved bs) q h = absurd (fails_not (unify m.state a b) h (solved_succeeds bs q e))
       go failed q h = q
       go full q h = absurd (n q)
@@ -122,7 +122,7 @@ module _ (v : ℕ) (tys : List (Option Ty)) (m : Machine) (cs : Calls v tys m) (
       → ((bs : List Binding) × (solve lent (start m.state.subst a b) ≡ solved bs)) ↔ Succeeds (unify m.state a b)
   solves_exactly e n = (λ x. solved_succeeds x.0 x.1 e, λ h. go (solve lent (start m.state.subst a b)) refl h)
     where
-      go : (r : Result) → solve lent (start m.state.subst a b) ≡ r → Succeeds (unify m.state a b)
+      go : (r : PlainResult) → solve lent (start m.state.subst a b) ≡ r → Succeeds (unify m.state a b)
           → (bs : List Binding) × (solve lent (start m.state.subst a b) ≡ solved bs)
       go (solved bs) q h = (bs, q)
       go failed q h = absurd (failed_never q e h)

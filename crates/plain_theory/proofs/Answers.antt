@@ -8,7 +8,7 @@ use lib.ListN.{length}
 use Rattle.unification.specs.Ty.{Kind, Record, Union, Ty, leaf, node, Var, Error, Row, ε, cell, app, app_row}
 use Rattle.unification.specs.Bindings.{Subst, zonk_in, zonk}
 use Rattle.unification.specs.Unify.{unify}
-use Rattle.unification.specs.Calls.{Lacks, Distinct, Side, Reaches, itself, inside, through, ReachesRow, first, later, Allowed, Admitted, Machine, Calls}
+use Rattle.unification.specs.Calls.{Lacks, DistinctKeys, Side, LeadsTo, itself, inside, through, RowLeadsTo, first, later, Allowed, Admitted, Machine, Calls}
 use Rattle.unification.specs.Tie.{solution}
 use Rattle.unification.specs.Acyclic.{Acyclic}
 use Rattle.unification.proofs.Tests.{clash}
@@ -16,9 +16,9 @@ use Rattle.unification.proofs.Rows.{distinct_app}
 use Rattle.unification.proofs.Reach.{reaches_trans}
 use Rattle.unification.proofs.Zonk.{zonk_none, zonk_app, zonk_var, zonk_is, zonk_error, zonk_of_bound, zonk_of_node}
 use Rattle.unification.proofs.Demand3.{calls_inv}
-use Rattle.plain_theory.specs.Plain.{Binding, Stage, In, InRow, needs, Along, Result, solved, failed, full, start}
+use Rattle.plain_theory.specs.Plain.{Binding, Stage, In, InRow, needs, Along, PlainResult, solved, failed, full, start}
 use Rattle.plain_theory.specs.Solve.{solve}
-use Rattle.plain_theory.specs.Answer.{Pure, PureRow, both, pure?, Answer, Success, Failure, ShutOut, TooFew, of, answer}
+use Rattle.plain_theory.specs.Answer.{Pure, PureRow, both, pure?, PlainAnswer, Success, Failure, ShutOut, TooFew, of, answer}
 use Rattle.plain_theory.specs.Claims.{Ends, AsUnify}
 use Rattle.plain_theory.proofs.Start.{in_reaches}
 use Rattle.plain_theory.proofs.Runs.{full_exactly}
@@ -51,7 +51,7 @@ mutual
   pure_itself s (Var x) g = tt
   pure_itself s Error g = g Error itself
 
-  pure_row_itself : (s : Subst) (r : Row) → ((u : Ty) → ReachesRow s r u → Allowed u) → PureRow r
+  pure_row_itself : (s : Subst) (r : Row) → ((u : Ty) → RowLeadsTo s r u → Allowed u) → PureRow r
   pure_row_itself s ε g = tt
   pure_row_itself s (cell k l t r) g = (pure_itself s t (λ u h. g u (first h)), pure_row_itself s r (λ u h. g u (later h)))
 
@@ -70,7 +70,7 @@ unfolding app_row
 lacks_back f k ε h = tt
 lacks_back f k (cell m l t r) h = (h.0, lacks_back f k r h.1)
 
-distinct_back : (f : ℕ → Ty) (r : Row) → Distinct (app_row f r) → Distinct r
+distinct_back : (f : ℕ → Ty) (r : Row) → DistinctKeys (app_row f r) → DistinctKeys r
 unfolding app_row
 distinct_back f ε h = tt
 distinct_back f (cell k l t r) h = (lacks_back f k r h.0, distinct_back f r h.1)
@@ -90,12 +90,12 @@ module _ (s : Subst) (A : Acyclic s) where
   mutual
     unfolding app_row
 
-    reached_allowed : (t u : Ty) → Reaches s t u → Pure (zonk s t) → Allowed u
+    reached_allowed : (t u : Ty) → LeadsTo s t u → Pure (zonk s t) → Allowed u
     reached_allowed t u itself h = pure_allowed u h
     reached_allowed t u (inside {k} {r} i) h = reached_row_allowed r u i (pure_row k r h)
     reached_allowed t u (through {x} {t = w} e i) h = reached_allowed w u i (rw (zonk_of_bound s A x w e) at h)
 
-    reached_row_allowed : (r : Row) (u : Ty) → ReachesRow s r u → PureRow (app_row (solution s) r) → Allowed u
+    reached_row_allowed : (r : Row) (u : Ty) → RowLeadsTo s r u → PureRow (app_row (solution s) r) → Allowed u
     reached_row_allowed r u (first {t = w} i) h = reached_allowed w u i (rw (zonk_is s A w) h.0)
     reached_row_allowed r u (later {r = r'} i) h = reached_row_allowed r' u i h.1
 
@@ -105,32 +105,32 @@ module _ (s : Subst) (A : Acyclic s) where
 
 -- ---- The answer
 
-of_shut : (r : Result) → ¬ (of r ≡ ShutOut)
+of_shut : (r : PlainResult) → ¬ (of r ≡ ShutOut)
 unfolding of
 of_shut (solved bs) e = clash (cc)
 of_shut failed e = clash (cc)
 of_shut full e = clash (cc)
 
-of_failed : (r : Result) → (of r ≡ Failure) ↔ (r ≡ failed)
+of_failed : (r : PlainResult) → (of r ≡ Failure) ↔ (r ≡ failed)
 unfolding of
 of_failed (solved bs) = (λ e. clash (cc), λ e. clash (cc))
 of_failed failed = (λ e. refl, λ e. refl)
 of_failed full = (λ e. clash (cc), λ e. clash (cc))
 
-of_full : (r : Result) → (of r ≡ TooFew) ↔ (r ≡ full)
+of_full : (r : PlainResult) → (of r ≡ TooFew) ↔ (r ≡ full)
 unfolding of
 of_full (solved bs) = (λ e. clash (cc), λ e. clash (cc))
 of_full failed = (λ e. clash (cc), λ e. clash (cc))
 of_full full = (λ e. refl, λ e. refl)
 
-of_solved : (r : Result) (bs : List Binding) → of r ≡ Success bs → r ≡ solved bs
+of_solved : (r : PlainResult) (bs : List Binding) → of r ≡ Success bs → r ≡ solved bs
 unfolding of
 of_solved (solved cs) bs e = cc
 of_solved failed bs e = clash (cc)
 of_solved full bs e = clash (cc)
 
 module _ (lent : ℕ) (s : Subst) (A : Acyclic s) (a b : Ty) where
-  answer_by : (Q : Answer → Type 0) → (Pure (zonk s a) × Pure (zonk s b) → Q (of (solve lent (start s a b))))
+  answer_by : (Q : PlainAnswer → Type 0) → (Pure (zonk s a) × Pure (zonk s b) → Q (of (solve lent (start s a b))))
       → (¬ (Pure (zonk s a) × Pure (zonk s b)) → Q ShutOut) → Q (answer lent s a b)
   unfolding answer
   answer_by Q f g = go (both (pure? (zonk s a)) (pure? (zonk s b))) refl

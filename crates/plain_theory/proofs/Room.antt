@@ -11,10 +11,10 @@ use native.Mathlib.Omega.{arith}
 use lib.Dec.{eqb}
 use Rattle.unification.specs.Ty.{Leaf-discrete, Kind, Record, Union, Ty, leaf, node, Var, Error, Row, ε, cell, row_len}
 use Rattle.unification.specs.Unify.{find_key}
-use Rattle.unification.specs.Calls.{Lacks, Distinct}
+use Rattle.unification.specs.Calls.{Lacks, DistinctKeys}
 use Rattle.unification.specs.Robinson.{Equation}
 use Rattle.unification.proofs.Rows.{find_tail, find_under}
-use Rattle.plain_theory.specs.Plain.{Binding, in?, In, Parts, parts, unlike, with_part, Named, named?, part, matched, rows, Step, drops, fails}
+use Rattle.plain_theory.specs.Plain.{Binding, in?, In, Parts, parts, unlike, with_part, NamedAlike, named?, part, matched, rows, PlainStep, drops, fails}
 use Rattle.plain_theory.specs.Plain.{splits, binds, bind, split, nodes, step, head_words, words, row_words, pair_words, sum, needs}
 use Rattle.plain_theory.specs.Claims.{Clean}
 use Rattle.std.specs.Prelude.{None, Option, Some}
@@ -76,20 +76,20 @@ unfolding part with_part sum pair_words row_words
 part_room kind m l t r s None ps e h = tt
 part_room kind m l t r s (Some u) ps e h = go (named? kind l u.0) refl ps h
   where
-    go : (d : Dec (Named kind l u.0)) → named? kind l u.0 ≡ d → (ps : Parts) → PartsRoom kind r (remove m s) ps
+    go : (d : Dec (NamedAlike kind l u.0)) → named? kind l u.0 ≡ d → (ps : Parts) → PartsRoom kind r (remove m s) ps
         → PartsRoom kind (cell m l t r) s (part kind l t (Some u) ps)
     go (yes i) q (parts qs) h = rw (q, part) (omega (arith, e, h, head_some kind))
     go (yes i) q unlike h = rw (q, part) tt
     go (no n) q ps h = rw (q, part) tt
 
-matched_room : (kind : Kind) (r s : Row) → Distinct r → PartsRoom kind r s (matched kind r s)
+matched_room : (kind : Kind) (r s : Row) → DistinctKeys r → PartsRoom kind r s (matched kind r s)
 unfolding matched sum
 matched_room kind ε s d = omega arith
 matched_room kind (cell m l t r) s d =
     part_room kind m l t r s (find_key m s) (matched kind r s) (words_remove kind m s)
     (rw (matched_remove kind m r s d.0) at (matched_room kind r (remove m s) d.1))
 
-rows_room : (kind : Kind) (r s : Row) → Distinct r → PartsRoom kind r s (rows kind r s)
+rows_room : (kind : Kind) (r s : Row) → DistinctKeys r → PartsRoom kind r s (rows kind r s)
 unfolding rows
 rows_room kind r s d = go (ℕ_discrete (row_len r) (row_len s)) refl
   where
@@ -99,7 +99,7 @@ rows_room kind r s d = go (ℕ_discrete (row_len r) (row_len s)) refl
 
 -- ---- Steps
 
-abbrev StepRoom : Ty → Ty → Step → Type 0
+abbrev StepRoom : Ty → Ty → PlainStep → Type 0
 StepRoom a b drops = Unit {0}
 StepRoom a b fails = Unit {0}
 StepRoom a b (splits qs) = sum pair_words qs ≤ pair_words (record { left = a; right = b })

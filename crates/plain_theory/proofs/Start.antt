@@ -7,10 +7,10 @@ use Prim.Native.Nat.{ℕ, zero, suc, ◌+◌}
 use native.Mathlib.Nat.{zero-add, add-zero}
 use lib.ListN.{length, get_or}
 use Rattle.unification.specs.Ty.{Kind, Record, Union, Ty, leaf, node, Var, Error, Row, ε, cell, app}
-use Rattle.unification.specs.Order.{Same}
+use Rattle.unification.specs.Order.{SameTy}
 use Rattle.unification.specs.Bindings.{Subst, bound, zonk_in, zonk}
-use Rattle.unification.specs.Robinson.{Substitution, ◌then◌, Unifies}
-use Rattle.unification.specs.Calls.{Declared, DeclaredRow, Side, SideRow, Reaches, itself, inside, through, ReachesRow, first, later, Allowed, Admitted}
+use Rattle.unification.specs.Robinson.{Substitution, ◌then◌, IsUnifier}
+use Rattle.unification.specs.Calls.{Declared, DeclaredRow, Side, SideRow, LeadsTo, itself, inside, through, RowLeadsTo, first, later, Allowed, Admitted}
 use Rattle.unification.specs.Calls.{Respects}
 use Rattle.unification.specs.Tie.{equations, solution, Together}
 use Rattle.unification.specs.Acyclic.{Acyclic}
@@ -27,14 +27,14 @@ use Rattle.std.specs.Prelude.{None, Option, Some}
 
 -- ---- Resolving, for what respects the bindings
 
-pub resolving : (σ : Substitution) (s : Subst) (t : Ty) → Respects σ s → Same (app σ t) (app σ (zonk s t))
+pub resolving : (σ : Substitution) (s : Subst) (t : Ty) → Respects σ s → SameTy (app σ t) (app σ (zonk s t))
 unfolding zonk
 resolving σ s t R = zonk_same (length s) σ s t R
 
 -- ---- The resolved bindings
 
 abbrev Resolves : (ℕ → Ty) → Subst → ℕ → Type 0
-Resolves σ s x = Same (σ x) (app σ (zonk s (Var x)))
+Resolves σ s x = SameTy (σ x) (app σ (zonk s (Var x)))
 
 module _ (σ : ℕ → Ty) (s : Subst) where
   to_list : (x : ℕ) (us : Subst) → ((y : ℕ) (t : Ty) → get_or us y None ≡ Some t → Resolves σ s (x + y)) → Respected σ (resolved_from x us s)
@@ -74,7 +74,7 @@ module _ (σ : ℕ → Ty) (s : Subst) where
     λ R. to_list zero s (λ y t e. rw (zero-add y) (resolving σ s (Var y) R)),
   )
 
-pub start_holds : (s : Subst) (a b : Ty) → Acyclic s → (σ : ℕ → Ty) → Satisfies σ (start s a b) ↔ Unifies σ (Together s a b)
+pub start_holds : (s : Subst) (a b : Ty) → Acyclic s → (σ : ℕ → Ty) → Satisfies σ (start s a b) ↔ IsUnifier σ (Together s a b)
 unfolding start
 start_holds s a b A σ =
     let r = resolved_respected σ s A in
@@ -87,7 +87,7 @@ start_holds s a b A σ =
     )
 
 -- A unifier of the resolved sides: first resolve.
-pub start_unifiable : (s : Subst) (a b : Ty) → Acyclic s → Unifiable (start s a b).pairs → (θ : Substitution) × Unifies θ (Together s a b)
+pub start_unifiable : (s : Subst) (a b : Ty) → Acyclic s → Unifiable (start s a b).pairs → (θ : Substitution) × IsUnifier θ (Together s a b)
 unfolding start
 start_unifiable s a b A u =
     let σ = u.0 in
@@ -122,18 +122,18 @@ mutual
   clean_side n s (Var x) i g = tt
   clean_side n s Error i g = tt
 
-  clean_row_side : (n : ℕ) (s : Subst) (r : Row) → SideRow n r → ((u : Ty) → ReachesRow s r u → Allowed u) → CleanRow Record r
+  clean_row_side : (n : ℕ) (s : Subst) (r : Row) → SideRow n r → ((u : Ty) → RowLeadsTo s r u → Allowed u) → CleanRow Record r
   clean_row_side n s ε i g = tt
   clean_row_side n s (cell k l t r) i g = (i.0, clean_side n s t i.1 (λ u h. g u (first h)), clean_row_side n s r i.2 (λ u h. g u (later h)))
 
 mutual
-  pub in_reaches : (s : Subst) (y : ℕ) (t : Ty) → In y t → Reaches s t (Var y)
+  pub in_reaches : (s : Subst) (y : ℕ) (t : Ty) → In y t → LeadsTo s t (Var y)
   in_reaches s y (leaf p) h = absurd h
   in_reaches s y (node k r) h = inside (in_row_reaches s y r h)
   in_reaches s y (Var x) h = rw h itself
   in_reaches s y Error h = absurd h
 
-  in_row_reaches : (s : Subst) (y : ℕ) (r : Row) → InRow y r → ReachesRow s r (Var y)
+  in_row_reaches : (s : Subst) (y : ℕ) (r : Row) → InRow y r → RowLeadsTo s r (Var y)
   in_row_reaches s y ε h = absurd h
   in_row_reaches s y (cell k l t r) (inl h) = first (in_reaches s y t h)
   in_row_reaches s y (cell k l t r) (inr h) = later (in_row_reaches s y r h)

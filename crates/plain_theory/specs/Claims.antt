@@ -1,27 +1,27 @@
 -- What is claimed of a run: which substitutions make its pairs equal and respect its bindings.
 use Rattle.std.specs.Prelude.{List, [], ◌∷◌, ◌↔◌, ◌⊎◌, ◌≡◌, ℕ, ◌<◌}
 use Rattle.unification.specs.Ty.{Kind, Ty, leaf, node, Var, Error, Row, ε, cell, app}
-use Rattle.unification.specs.Order.{Same}
+use Rattle.unification.specs.Order.{SameTy}
 use Rattle.unification.specs.Bindings.{State}
 use Rattle.unification.specs.Unify.{Unified, Ok, Err, Spent, unify}
-use Rattle.unification.specs.Calls.{Distinct, Labelled, Admitted, Respects}
-use Rattle.unification.specs.Robinson.{Equation, Unifies}
+use Rattle.unification.specs.Calls.{DistinctKeys, Labelled, Admitted, Respects}
+use Rattle.unification.specs.Robinson.{Equation, IsUnifier}
 use Rattle.plain_theory.specs.Plain.{Binding, Stage, In, needs, Along, start}
 use Rattle.plain_theory.specs.Falls.{InPairs}
 use Rattle.plain_theory.specs.Answer.{Success, Failure, ShutOut, TooFew, answer}
 
 abbrev pub Respected : (ℕ → Ty) → List Binding → Type 0
 Respected σ [] = Unit {0}
-Respected σ (b ∷ bs) = Same (σ b.unknown) (app σ b.to) × Respected σ bs
+Respected σ (b ∷ bs) = SameTy (σ b.unknown) (app σ b.to) × Respected σ bs
 
 abbrev pub Satisfies : (ℕ → Ty) → Stage → Type 0
-Satisfies σ g = Unifies σ g.pairs × Respected σ g.bindings
+Satisfies σ g = IsUnifier σ g.pairs × Respected σ g.bindings
 
 -- No row in it has a key twice, and a record's cells have no label.
 abbrev mutual
   pub Clean : Ty → Type 0
   Clean (leaf p) = Unit {0}
-  Clean (node k r) = Distinct r × CleanRow k r
+  Clean (node k r) = DistinctKeys r × CleanRow k r
   Clean (Var x) = Unit {0}
   Clean Error = Unit {0}
 
@@ -65,7 +65,7 @@ Once [] = Unit {0}
 Once (b ∷ bs) = (¬ BoundIn b.unknown bs) × Once bs
 
 -- No bound unknown stands in a pair or in what another is bound to.
-pub record Apart (g : Stage) : Type 0 where
+pub record BoundApart (g : Stage) : Type 0 where
   pub pairs : (x : ℕ) → BoundIn x g.bindings → ¬ InPairs x g.pairs
   pub bindings : (x : ℕ) → BoundIn x g.bindings → ¬ InBindings x g.bindings
   pub once : Once g.bindings
@@ -75,7 +75,9 @@ pub record Apart (g : Stage) : Type 0 where
 -- What the card claims of an entry that has ended, with permitted sides, after whatever calls.
 pub record AsUnify (lent : ℕ) (st : State) (a b : Ty) : Type 0 where
   pub shuts_out : (answer lent st.subst a b ≡ ShutOut) ↔ (¬ (Admitted st.subst a × Admitted st.subst b))
-  pub too_few : Admitted st.subst a → Admitted st.subst b → (answer lent st.subst a b ≡ TooFew) ↔ ((h : Stage) × Along (start st.subst a b) h × (lent < needs h))
+  pub too_few : Admitted st.subst a → Admitted st.subst b → (answer lent st.subst a b ≡ TooFew)
+      ↔ ((h : Stage) × Along (start st.subst a b) h × (lent < needs h))
   pub fails : Admitted st.subst a → Admitted st.subst b → ¬ (answer lent st.subst a b ≡ TooFew) → (answer lent st.subst a b ≡ Failure) ↔ Fails (unify st a b)
-  pub bindings : Admitted st.subst a → Admitted st.subst b → (after : State) (bs : List Binding) → unify st a b ≡ Ok after → answer lent st.subst a b ≡ Success bs
+  pub bindings : Admitted st.subst a → Admitted st.subst b → (after : State) (bs : List Binding) → unify st a b ≡ Ok after
+      → answer lent st.subst a b ≡ Success bs
       → (σ : ℕ → Ty) → Respects σ after.subst ↔ Respected σ bs

@@ -4,7 +4,7 @@ use mathlib.Core.Path.{◌≡◌, sym, subst}
 use Prim.Native.Nat.{ℕ}
 use lib.ListN.{length}
 use Rattle.meaning.specs.Outcome.{outcome}
-use Rattle.desk.specs.Promises.{Finishes, ChecksFile}
+use Rattle.driver.specs.Promises.{Finishes, ChecksFile}
 use Rattle.converters.specs.Promises.{Widens, Narrows}
 use Rattle.program.specs.declared.Job.{Job}
 use Rattle.program.specs.Promises.{decided_by}

@@ -8,15 +8,15 @@ use lib.Dec.{ltb}
 use lib.ListN.{length, take, drop, replicate, length-append, length-take, length-replicate, replicate-append-replicate}
 use lib.Seq.{drop_at, take-length, length-take-le}
 use borrow.Author.Tests.{le-ltb}
-use Rattle.meaning.specs.Refusal as Meaning
-use Rattle.meaning.specs.Refusal.{number, answer_too_long}
-use Rattle.meaning.specs.Answer.{hex_line}
+use Rattle.format.specs.Refusal as Meaning
+use Rattle.format.specs.Refusal.{number, answer_too_long}
+use Rattle.format.specs.Bytes.{hex_line}
 use Rattle.meaning.specs.Outcome as Defined
 use Rattle.meaning.specs.Outcome.{Decided, turned_down, answered, min_words, refuse, accept, finish, printed_lines}
-use Rattle.meaning.proofs.Tests.{cases}
+use Rattle.format.proofs.Tests.{cases}
 use Rattle.reading.specs.Promises.{refusal}
 use Rattle.reading.specs.declared.Refusal.{Refusal}
-use Rattle.desk.specs.Promises.{Finishes}
+use Rattle.driver.specs.Promises.{Finishes}
 use Rattle.program.specs.Promises.{Prints}
 use Rattle.std.specs.Prelude.{Err, Ok}
 

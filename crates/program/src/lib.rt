@@ -4,7 +4,7 @@
 
 ghost use Rattle.std.specs.Prelude.{◌≤◌, length, IfOk};
 ghost use Rattle.meaning.specs.Outcome.{min_words};
-ghost use Rattle.desk.specs.Promises.{Finishes};
+ghost use Rattle.driver.specs.Promises.{Finishes};
 ghost use Rattle.program.specs.Promises.{decided_by, Prints, PrintsLamp};
 
 use reading::Refusal;
@@ -23,7 +23,7 @@ fn done(job: Job, file: &[u8], work: &mut [u32], out: &mut [u8]) -> Result<usize
 {
     // Three calls that `decided_by` names one by one: as closures they would bring their contracts to each caller.
     match job {
-        Job::Check => desk::check_file(file, work, out),
+        Job::Check => driver::check_file(file, work, out),
         Job::Widen => converters::widen(file, work, out),
         Job::Narrow => converters::narrow(file, work, out),
     }
@@ -37,7 +37,7 @@ pub fn printed(job: Job, file: &[u8], work: &mut [u32; 16384], out: &mut [u8; 65
     match done(job, file, work, out) {
         Ok(n) => n,
         Err(e) => {
-            let line = desk::refusal_line(e);
+            let line = driver::refusal_line(e);
             out[..line.len()].copy_from_slice(&line);
             line.len()
         }

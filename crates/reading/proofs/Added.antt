@@ -12,17 +12,17 @@ use Rattle.unification.specs.Ty as Tree
 use Rattle.cells.specs.Words.{pick}
 use Rattle.cells.specs.Stands.{Rows}
 use Rattle.cells.proofs.Frame.{keeps_set}
-use Rattle.meaning.specs.Syntax.{Node, Query, no_node, node_at}
-use Rattle.meaning.specs.Schema.{Predicate}
-use Rattle.meaning.specs.References.{optional}
-use Rattle.meaning.specs.Frame.{Edition, node, query, a_node, the_query, frame_of}
-use Rattle.meaning.specs.Frame as Frame
-use Rattle.meaning.specs.SoFar.{type_at, value_ty, predicate_of}
-use Rattle.meaning.specs.All.{Below}
-use Rattle.meaning.specs.Lines.{position}
-use Rattle.meaning.specs.Conditions.{any_of, same_text, given}
-use Rattle.meaning.specs.File.{value_text, count_of}
-use Rattle.meaning.proofs.Tests.{cases, clash, same_text_lem}
+use Rattle.format.specs.Syntax.{Node, Query, no_node, node_at}
+use Rattle.format.specs.Schema.{Predicate}
+use Rattle.format.specs.References.{optional}
+use Rattle.format.specs.Frame.{Edition, node, query, a_node, the_query, frame_of}
+use Rattle.format.specs.Frame as Frame
+use Rattle.format.specs.SoFar.{type_at, value_ty, predicate_of}
+use Rattle.format.specs.All.{Below}
+use Rattle.format.specs.Lines.{position}
+use Rattle.format.specs.Conditions.{any_of, same_text, given}
+use Rattle.format.specs.File.{value_text, count_of}
+use Rattle.format.proofs.Tests.{cases, clash, same_text_lem}
 use Rattle.sigla_hex.specs.Digits.{line_at}
 use Rattle.tree.specs.Stands.{NameIs, NodeIn, QueryIs, PredicateIs, no_predicate}
 use Rattle.reading.specs.Held.{NamesHeld, TypesHeld, PredicatesHeld, NodesHeld}

@@ -7,35 +7,35 @@ use lib.ListN.{length, get_or, take, drop}
 use borrow.Author.Tests.{lt-ltb, le-ltb}
 use Rattle.cells.specs.CodeCalls.{Declares}
 use Rattle.cells.specs.Stands.{Rows}
-use Rattle.meaning.specs.Refusal as Refused
-use Rattle.meaning.specs.Frame.{query, kind_of}
-use Rattle.meaning.specs.Lines.{lines, position}
-use Rattle.meaning.specs.SoFar.{SoFar, Said, start, said, said_by, after}
-use Rattle.meaning.specs.Refused.{Pass, none_left, more}
-use Rattle.meaning.proofs.Conditions.{none_holds}
-use Rattle.meaning.proofs.Sound.{pass_kept}
-use Rattle.meaning.specs.Conditions.{same_text, conditions, first_of}
-use Rattle.meaning.specs.File.{value_text, max_file, Reading, refused, described, at_end, read_from, is_too_long, reading_of, last_of, types_of}
-use Rattle.meaning.specs.Frame.{wide}
+use Rattle.format.specs.Refusal as Refused
+use Rattle.format.specs.Frame.{query, kind_of}
+use Rattle.format.specs.Lines.{lines, position}
+use Rattle.format.specs.SoFar.{SoFar, Said, start, said, said_by, after}
+use Rattle.format.specs.Refused.{Pass, none_left, more}
+use Rattle.format.proofs.Conditions.{none_holds}
+use Rattle.format.proofs.Sound.{pass_kept}
+use Rattle.format.specs.Conditions.{same_text, conditions, first_of}
+use Rattle.format.specs.File.{value_text, max_file, Reading, refused, described, at_end, read_from, is_too_long, reading_of, last_of, types_of}
+use Rattle.format.specs.Frame.{wide}
 use Rattle.meaning.specs.Outcome.{min_words, decide_read, decide}
-use Rattle.meaning.proofs.Tests.{cases, clash}
+use Rattle.format.proofs.Tests.{cases, clash}
 use lib.Dec.{ltb}
 use Rattle.std.specs.Result.{is_err}
-use Rattle.meaning.proofs.Refused.{read_refused, read_next, within, not_ended}
+use Rattle.format.proofs.Refused.{read_refused, read_next, within, not_ended}
 use Rattle.sigla_hex.proofs.Line.{lines_at_end, place_below}
 use Rattle.frames.specs.declared.Kind as Coded
 use Rattle.frames.specs.declared.Kind.TheVariants as Code
-use Rattle.frames.specs.Promises.{BytesAt, Decodes, Malformed, kind_meant, known}
+use Rattle.frames.specs.Promises.{BytesAt, Decodes, MalformedAt, kind_meant, known}
 use Rattle.frames.proofs.Decoding.{holds_line}
 use Rattle.reading.specs.declared.Refusal.{Refusal}
 use Rattle.work.specs.declared.Counters.{Counters}
 use Rattle.work.specs.Counted.{no_counters}
 use Rattle.reading.specs.Held.{Held}
-use Rattle.reading.specs.Promises.{refusal, Line, Steps, TakesLine, counted, Ends, TakesLines, reading_in}
+use Rattle.reading.specs.Promises.{refusal, LineAt, LineEnds, TakesLine, counted, ReadingEnds, TakesLines, reading_in}
 use Rattle.reading.proofs.Order.{first_malformed}
 use Rattle.reading.proofs.AnyLine.{unknown}
 use Rattle.reading.proofs.Ends.{nothing_held, schema_held, long_held, all_declared}
-use Rattle.meaning.specs.Frame.{Edition}
+use Rattle.format.specs.Frame.{Edition}
 use Rattle.std.specs.Prelude.{Bool, true, Err, IfSome, None, Ok, Option, Result, Some}
 
 -- ---- Between two lines
@@ -75,9 +75,9 @@ unfolding max_file
 midway_start ed f w small long =
     record { rows = _; so = _; held = nothing_held ed f w small long; left = within ed f small; before = []; passed = none_left; last = refl }
 
-ends_refused : (ed : Edition) (f w : List ℕ) (e : Refusal) (r : Reading) → r ≡ refused (refusal e) → Ends ed f w (Err e) r
-unfolding Ends
-ends_refused ed f w e r q = subst (Ends ed f w (Err e)) (sym q) (e, refl, refl)
+ends_refused : (ed : Edition) (f w : List ℕ) (e : Refusal) (r : Reading) → r ≡ refused (refusal e) → ReadingEnds ed f w (Err e) r
+unfolding ReadingEnds
+ends_refused ed f w e r q = subst (ReadingEnds ed f w (Err e)) (sym q) (e, refl, refl)
 
 -- ---- A line
 
@@ -85,7 +85,7 @@ pub decoded : {f line : List ℕ} {at n next : ℕ} {r : Option (ℕ × ℕ)} �
 decoded {f} {line} {at} d e = subst (λ r. IfSome r (λ p. BytesAt f at line p.0 p.1)) e d.holds
 
 module _ (ed : Edition) {f : List ℕ} {at : ℕ} {line : List ℕ} {n next : ℕ} (h : BytesAt f at line n next) where
-  pub line_holds : Line f at next (take n line)
+  pub line_holds : LineAt f at next (take n line)
   line_holds = record {
     is = holds_line f at line n next h;
     on = omega (arith, h.on, h.count);
@@ -124,14 +124,14 @@ module _ (ed : Edition) {f w : List ℕ} {c : Counters} {previous : Option Coded
 
     module _ (kind : Coded.Kind) (e : Some (kind_meant kind) ≡ kind_of (get_or line 0 0)) (w' : List ℕ) where
       steps : (r : Result Counters Refusal) → TakesLine ed f at (take n line) w c previous kind w' r
-          → Steps ed f next w' (Some (kind_meant kind)) (after m.so says) r (first_of conditions m.so says)
+          → LineEnds ed f next w' (Some (kind_meant kind)) (after m.so says) r (first_of conditions m.so says)
       steps r t = t.is next m.rows m.so m.held
           (line_holds ed h) (e ∙ ap kind_of (sym (first_taken ed h)))
 
       pub midway_on : (d : Counters) → TakesLine ed f at (take n line) w c previous kind w' (Ok d) → Midway ed f w' d (Some kind) next
       midway_on d t = go (first_of conditions m.so says) refl (steps (Ok d) t)
         where
-          go : (o : Option Refused.Refusal) → first_of conditions m.so says ≡ o → Steps ed f next w' (Some (kind_meant kind)) (after m.so says) (Ok d) o
+          go : (o : Option Refused.Refusal) → first_of conditions m.so says ≡ o → LineEnds ed f next w' (Some (kind_meant kind)) (after m.so says) (Ok d) o
               → Midway ed f w' d (Some kind) next
           go None q s =
               let same : d ≡ s.0 = cc s.1 in
@@ -146,11 +146,11 @@ module _ (ed : Edition) {f w : List ℕ} {c : Counters} {previous : Option Coded
               }
           go (Some i) q s = let x = s.1 in let z : ◌≡◌ {A = ℕ} 0 1 = cc in absurd (omega arith)
 
-      pub midway_off : (i : Refusal) → TakesLine ed f at (take n line) w c previous kind w' (Err i) → Ends ed f w' (Err i) (reading_of ed f)
+      pub midway_off : (i : Refusal) → TakesLine ed f at (take n line) w c previous kind w' (Err i) → ReadingEnds ed f w' (Err i) (reading_of ed f)
       midway_off i t = go (first_of conditions m.so says) refl (steps (Err i) t)
         where
-          go : (o : Option Refused.Refusal) → first_of conditions m.so says ≡ o → Steps ed f next w' (Some (kind_meant kind)) (after m.so says) (Err i) o
-              → Ends ed f w' (Err i) (reading_of ed f)
+          go : (o : Option Refused.Refusal) → first_of conditions m.so says ≡ o → LineEnds ed f next w' (Some (kind_meant kind)) (after m.so says) (Err i) o
+              → ReadingEnds ed f w' (Err i) (reading_of ed f)
           go None q s = let x = s.1 in let z : ◌≡◌ {A = ℕ} 0 1 = cc in absurd (omega arith)
           go (Some j) q s =
               let same : i ≡ s.0 = cc s.1 in
@@ -158,7 +158,7 @@ module _ (ed : Edition) {f w : List ℕ} {c : Counters} {previous : Option Coded
               (map (said ed) (lines (drop next f))) j q ∙ ap refused (sym (ap refusal same ∙ s.2)))
 
     -- a line of no kind
-    pub midway_unknown : None ≡ kind_of (get_or line 0 0) → Ends ed f w (Err Refusal.MisplacedKind) (reading_of ed f)
+    pub midway_unknown : None ≡ kind_of (get_or line 0 0) → ReadingEnds ed f w (Err Refusal.MisplacedKind) (reading_of ed f)
     midway_unknown z = ends_refused ed f w Refusal.MisplacedKind (reading_of ed f)
         (m.left ∙ next_lines ed h m.so ∙ read_refused m.so says (map (said ed) (lines (drop next f))) Refused.misplaced_kind
         (unknown ed m.so (take n line) (line_holds ed h).some (z ∙ ap kind_of (sym (first_taken ed h)))))
@@ -177,7 +177,7 @@ module _ (ed : Edition) {f w : List ℕ} {c : Counters} {previous : Option Coded
   midway_value = subst (λ v. IfSome v (λ n. n < 256)) (sym m.held.names.valued)
       (position_few (same_text value_text) m.so.names 256 m.held.names.few)
 
-  pub midway_bad : Malformed f at → Ends ed f w (Err Refusal.MalformedLine) (reading_of ed f)
+  pub midway_bad : MalformedAt f at → ReadingEnds ed f w (Err Refusal.MalformedLine) (reading_of ed f)
   unfolding said said_by
   midway_bad b =
       ends_refused ed f w Refusal.MalformedLine (reading_of ed f)
@@ -194,22 +194,22 @@ module _ (ed : Edition) {f w : List ℕ} {c : Counters} {previous : Option Coded
     unfolding last_of types_of
     types_were = ap SoFar.types (sym (m.last ∙ ap (λ ls. last_of m.so (map (said ed) ls)) (lines_at_end f at last)))
 
-    pub midway_whole : previous ≡ Some Code.Query → Ends ed f (counted w c) (Ok tt) (reading_of ed f)
-    unfolding at_end Ends
+    pub midway_whole : previous ≡ Some Code.Query → ReadingEnds ed f (counted w c) (Ok tt) (reading_of ed f)
+    unfolding at_end ReadingEnds
     midway_whole e =
         let was : m.so.previous ≡ Some query = sym (rw e at m.held.kind) in
         let types = subst (Declares (counted w c) m.rows) types_were (all_declared ed m.held (pass_kept m.passed)) in
-        subst (Ends ed f (counted w c) (Ok tt)) (sym (at_end_lem ∙ ap (at_end m.so) was))
+        subst (ReadingEnds ed f (counted w c) (Ok tt)) (sym (at_end_lem ∙ ap (at_end m.so) was))
         (refl, long_held ed m.held, (m.rows, schema_held ed m.held query was, types))
 
-    pub midway_missing : (previous ≡ Some Code.Query → ⊥) → Ends ed f w (Err Refusal.MisplacedKind) (reading_of ed f)
+    pub midway_missing : (previous ≡ Some Code.Query → ⊥) → ReadingEnds ed f w (Err Refusal.MisplacedKind) (reading_of ed f)
     midway_missing e = ends_refused ed f w Refusal.MisplacedKind (reading_of ed f)
         (at_end_lem ∙ not_ended m.so m.so.previous (λ q. e (meant_query previous (m.held.kind ∙ q))))
 
 -- ---- The file
 
 module _ (ed : Edition) (f w : List ℕ) where
-  pub file_short_work : length w < 16384 → Ends ed f w (Err Refusal.WorkTooShort) (reading_in ed f (length w))
+  pub file_short_work : length w < 16384 → ReadingEnds ed f w (Err Refusal.WorkTooShort) (reading_in ed f (length w))
   unfolding reading_in min_words
   file_short_work l = ends_refused ed f w Refusal.WorkTooShort (reading_in ed f (length w)) (rw (lt-ltb (length w) 16384 l, reading_in))
 
@@ -218,12 +218,12 @@ module _ (ed : Edition) (f w : List ℕ) where
     unfolding reading_in min_words
     enough = rw (le-ltb (length w) 16384 l, reading_in)
 
-    pub file_too_long_lem : 65536 < length f → Ends ed f w (Err Refusal.FileTooLong) (reading_in ed f (length w))
+    pub file_too_long_lem : 65536 < length f → ReadingEnds ed f w (Err Refusal.FileTooLong) (reading_in ed f (length w))
     unfolding reading_of is_too_long max_file
     file_too_long_lem h = ends_refused ed f w Refusal.FileTooLong (reading_in ed f (length w)) (enough ∙ rw (lt-ltb 65536 (length f) h, reading_of))
 
-    pub file_taken : (w' : List ℕ) (r : Result (Unit {0}) Refusal) → TakesLines ed f w w' r → Ends ed f w' r (reading_in ed f (length w))
-    file_taken w' r t = subst (Ends ed f w' r) (sym enough) t.ends
+    pub file_taken : (w' : List ℕ) (r : Result (Unit {0}) Refusal) → TakesLines ed f w w' r → ReadingEnds ed f w' r (reading_in ed f (length w))
+    file_taken w' r t = subst (ReadingEnds ed f w' r) (sym enough) t.ends
 
 -- The whole call decides by this reading.
 pub decided : (f : List ℕ) (words : ℕ) → decide f words ≡ decide_read (reading_in wide f words)
@@ -231,8 +231,9 @@ unfolding decide decide_read reading_in
 decided f words = cases (ltb words min_words) (λ q. rw (q, decide, reading_in)) (λ q. rw (q, decide, reading_in))
 
 -- A refusal says nothing of the slice.
-pub ends_cleared : (ed : Edition) (f w w' : List ℕ) (r : Result (Unit {0}) Refusal) (e : Refusal) (d : Reading) → r ≡ Err e → Ends ed f w r d → Ends ed f w' r d
-unfolding Ends
+pub ends_cleared : (ed : Edition) (f w w' : List ℕ) (r : Result (Unit {0}) Refusal) (e : Refusal) (d : Reading) → r ≡ Err e → ReadingEnds ed f w r d
+    → ReadingEnds ed f w' r d
+unfolding ReadingEnds
 ends_cleared ed f w w' r e (refused i) q h = h
 ends_cleared ed f w w' r e (described d) q h = let x = h.0 in let z : ◌≡◌ {A = ℕ} 0 1 = cc in absurd (omega arith)
 

@@ -9,17 +9,18 @@ use lib.ListN.{length, drop, set}
 use borrow.Author.Tests.{ltb-true, ltb-false, leb-false}
 use Rattle.work.specs.Layout.{MAX-DISTANCE, MAX-TERM}
 use Rattle.cells.specs.Stands.{Rows}
-use Rattle.meaning.specs.Refusal as Refused
-use Rattle.meaning.specs.Frame as Frame
-use Rattle.meaning.specs.Frame.{Kind, Frame, the_limits, a_name, a_type, a_predicate, a_node, the_query, Got, got, fails, Reader, and_then, one, pair, triple}
-use Rattle.meaning.specs.Frame.{byte, two, rest, choice, type_shapes, value_types, span_and_kind, head_and_body, may_stand, kind_byte, kind_of, frame_kind, frame}
-use Rattle.meaning.specs.Frame.{frame_of}
-use Rattle.meaning.specs.References.{texts_of, name_refs, type_refs, node_refs, keys_of}
-use Rattle.meaning.specs.SoFar.{SoFar, said_of, said_in, said_by, frames, add, after}
-use Rattle.meaning.specs.Conditions.{any_of, all_below, again, max_names, max_types, max_predicates, max_nodes, max_queries, is_full, is_last_query_past}
-use Rattle.meaning.specs.Conditions.{refers_earlier, refers_badly, conditions, first_of}
-use Rattle.meaning.proofs.Tests.{cases, clash}
-use Rattle.meaning.proofs.Written.{kind_byte_lem}
+use Rattle.format.specs.Refusal as Refused
+use Rattle.format.specs.Frame as Frame
+use Rattle.format.specs.Frame.{Kind, Frame, the_limits, a_name, a_type, a_predicate, a_node, the_query, Got, got, fails, Reader, and_then, one, pair, triple}
+use Rattle.format.specs.Frame.{byte, two, rest, choice, type_shapes, value_types, span_and_kind, head_and_body, may_stand, kind_byte, kind_of, frame_kind}
+use Rattle.format.specs.Frame.{frame}
+use Rattle.format.specs.Frame.{frame_of}
+use Rattle.format.specs.References.{texts_of, name_refs, type_refs, node_refs, keys_of}
+use Rattle.format.specs.SoFar.{SoFar, said_of, said_in, said_by, frames, add, after}
+use Rattle.format.specs.Conditions.{any_of, all_below, again, max_names, max_types, max_predicates, max_nodes, max_queries, is_full, is_last_query_past}
+use Rattle.format.specs.Conditions.{refers_earlier, refers_badly, conditions, first_of}
+use Rattle.format.proofs.Tests.{cases, clash}
+use Rattle.format.proofs.Written.{kind_byte_lem}
 use Rattle.frames.specs.declared.Kind as Coded
 use Rattle.frames.specs.declared.Kind.TheVariants as Code
 use Rattle.frames.specs.Promises.{kind_meant, known, stands, byte_w, half_w, is_some, is_frame}
@@ -28,18 +29,19 @@ use Rattle.frames.proofs.Shapes.{type_short, predicate_short, node_short}
 use Rattle.reading.specs.declared.Refusal.{Refusal}
 use Rattle.work.specs.declared.Counters.{Counters}
 use Rattle.reading.specs.Held.{Held}
-use Rattle.reading.specs.Promises.{Comes, Steps, Takes, TakesAnywhere, full_of, past_of, TakesLine}
+use Rattle.reading.specs.Promises.{Comes, LineEnds, Takes, TakesAnywhere, full_of, past_of, TakesLine}
 use Rattle.reading.proofs.Lines.{limits_held}
 use Rattle.reading.proofs.Order.{first_unknown, first_misplaced, first_too_many, first_too_many_queries, first_no_frame, first_none}
 use Rattle.reading.proofs.Stepping.{refuses, goes_on}
 use Rattle.reading.proofs.Typing.{sized_got}
-use Rattle.meaning.specs.Frame.{Edition}
+use Rattle.format.specs.Frame.{Edition}
 use Rattle.std.specs.Prelude.{Err, None, Ok, Option, Result, Some}
 use Rattle.tree.proofs.LineParts.{whole_got}
 
 -- ---- The limits
 
-limits_frame : (ed : Edition) (s : List ℕ) (fr : Frame) → 0 < length s → frame_of ed Frame.limits (drop 1 s) ≡ Some fr → fr ≡ the_limits (byte_w s 1) (half_w s 2)
+limits_frame : (ed : Edition) (s : List ℕ) (fr : Frame) → 0 < length s → frame_of ed Frame.limits (drop 1 s) ≡ Some fr
+    → fr ≡ the_limits (byte_w s 1) (half_w s 2)
 unfolding frame_of frame
 limits_frame ed s fr l e = sized_got (sized_pair the_limits sized_byte sized_two) s 1 fr [] l (whole_got (pair the_limits byte two (drop 1 s)) fr e)
 
@@ -50,7 +52,8 @@ limits_takes ed s w w' c d t p q e = record {
   is = λ f at. record {
     is = λ next T previous so fr h l k.
         rw (e, p, q, limits_frame ed s fr l.some k.is)
-        (goes_on ed f next (set (set w MAX-DISTANCE (byte_w s 1)) MAX-TERM (half_w s 2)) (Some Frame.limits) (add so (the_limits (byte_w s 1) (half_w s 2))) c T _
+        (goes_on ed f next (set (set w MAX-DISTANCE (byte_w s 1)) MAX-TERM (half_w s 2)) (Some Frame.limits)
+        (add so (the_limits (byte_w s 1) (half_w s 2))) c T _
         (first_none so (the_limits (byte_w s 1) (half_w s 2)) k.placed k.room k.turn refl refl refl refl)
         (limits_held ed h next (omega (arith, l.on)) l.within (byte_w s 1) (half_w s 2) k.placed));
   };
@@ -213,7 +216,7 @@ module _ (ed : Edition) (f : List ℕ) (at : ℕ) (s w : List ℕ) (c : Counters
           record {
             is = λ next T so h l e.
                 let z : said_by ed (Some s) ≡ frames y.0 = says ed s h l.some k e ∙ ap (said_of k) y.1 in
-                subst (λ x. Steps ed f next w' (Some k) (after so x) r (first_of conditions so x)) (sym z)
+                subst (λ x. LineEnds ed f next w' (Some k) (after so x) r (first_of conditions so x)) (sym z)
                 (b.is next T (known previous) so y.0 h l (comes ed s h l.some k e t y.0 u p y.1));
           }
 

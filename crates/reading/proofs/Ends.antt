@@ -15,13 +15,13 @@ use Rattle.cells.specs.declared.Kind.TheVariants.{Fields, Alternatives}
 use Rattle.cells.specs.Words.{declared_w, count_w, first_w, declared_field, alternative_w, part_w}
 use Rattle.cells.specs.CodeCalls.{Declares}
 use Rattle.cells.specs.Stands.{Rows, part_words, Keeps}
-use Rattle.meaning.specs.Frame as Frame
-use Rattle.meaning.specs.Lines.{position}
-use Rattle.meaning.specs.Conditions.{any_of, among}
-use Rattle.meaning.specs.SoFar.{SoFar, start}
-use Rattle.meaning.specs.File.{count_of, schema_of, describe}
-use Rattle.meaning.specs.Sound.{Kept}
-use Rattle.meaning.proofs.Lists.{all_at}
+use Rattle.format.specs.Frame as Frame
+use Rattle.format.specs.Lines.{position}
+use Rattle.format.specs.Conditions.{any_of, among}
+use Rattle.format.specs.SoFar.{SoFar, start}
+use Rattle.format.specs.File.{count_of, schema_of, describe}
+use Rattle.format.specs.Sound.{Kept}
+use Rattle.format.proofs.Lists.{all_at}
 use Rattle.tree.specs.Stands.{TypeCells, SchemaStands, numbered}
 use Rattle.work.specs.declared.Counters.{Counters}
 use Rattle.work.specs.Counted.{no_counters}
@@ -30,7 +30,7 @@ use Rattle.reading.specs.Held.{LimitsHeld, part_type, IsOf, TypesHeld, Held}
 use Rattle.reading.proofs.Regions.{over, keeps_sets, WordsAt, sets_words}
 use Rattle.reading.proofs.Lines.{types_same, predicates_same}
 use Rattle.cells.proofs.Frame.{field_declared}
-use Rattle.meaning.specs.Frame.{Edition}
+use Rattle.format.specs.Frame.{Edition}
 use Rattle.std.specs.Prelude.{None, Option, Some}
 
 -- ---- Before the first line
@@ -81,7 +81,8 @@ no_characters : count_of (characters []) ≡ 0
 unfolding count_of characters count
 no_characters = refl
 
-module _ (ed : Edition) {f : List ℕ} {at : ℕ} {w : List ℕ} {T : Rows} {c : Counters} {previous : Option Frame.Kind} {so : SoFar} (h : Held ed f at w T c previous so) where
+module _ (ed : Edition) {f : List ℕ} {at : ℕ} {w : List ℕ} {T : Rows} {c : Counters} {previous : Option Frame.Kind} {so : SoFar}
+    (h : Held ed f at w T c previous so) where
   kept : Keeps NAME-COUNT MAX-DISTANCE w (counted w c)
   kept = keeps_sets w NAME-COUNT (counts c) (omega arith) (omega arith)
 

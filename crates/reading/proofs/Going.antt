@@ -38,14 +38,16 @@ module _ {X : Type 0} (w₀ : List ℕ) (names nodes : ℕ) (xs : List X) (gx gn
         (append-nil (g (get_or xs i d)))
 
     all : (g : X → List ℕ) → gather g xs ≡ (gather g (take i xs) ++ g (get_or xs i d)) ++ gather g (drop (i + 1) xs)
-    all g = ap (gather g) (sym (take-append-drop (i + 1) xs)) ∙ gather_append g (take (i + 1) xs) (drop (i + 1) xs) ∙ ap (λ l. l ++ gather g (drop (i + 1) xs)) (one g)
+    all g = ap (gather g) (sym (take-append-drop (i + 1) xs)) ∙ gather_append g (take (i + 1) xs) (drop (i + 1) xs)
+        ∙ ap (λ l. l ++ gather g (drop (i + 1) xs)) (one g)
 
     module _ {v : List ℕ} {r : Bool} (h : Refers w names (gx (get_or xs i d)) nodes (gn (get_or xs i d)) v r) where
       go_next : r ≡ true → Going (i + 1) v
       go_next e = rw (one gx, one gn) (refers_then names nodes t (rw e at h))
 
       go_stop : r ≡ false → Refers w₀ names (gather gx xs) nodes (gather gn xs) v false
-      go_stop e = rw (all gx, all gn) (refers_stop names nodes (refers_then names nodes t (rw e at h)) (gather gx (drop (i + 1) xs)) (gather gn (drop (i + 1) xs)))
+      go_stop e =
+          rw (all gx, all gn) (refers_stop names nodes (refers_then names nodes t (rw e at h)) (gather gx (drop (i + 1) xs)) (gather gn (drop (i + 1) xs)))
 
   go_end : {i : ℕ} {w : List ℕ} → Going i w → length xs ≤ i → Refers w₀ names (gather gx xs) nodes (gather gn xs) w true
   go_end {i} {w} t l = subst (λ ys. Refers w₀ names (gather gx ys) nodes (gather gn ys) w true) (take_all i xs l) t

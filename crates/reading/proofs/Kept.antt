@@ -18,13 +18,13 @@ use Rattle.cells.specs.declared.Part.{Part}
 use Rattle.cells.proofs.Frame.{field_declared}
 use Rattle.cells.specs.Words.{pick, ty_w, declared_w, count_w, first_w, declared_field, alternative_w, part_w}
 use Rattle.cells.specs.Stands.{Rows, tree, row_from, row_w}
-use Rattle.meaning.specs.Syntax.{Node, Query}
-use Rattle.meaning.specs.Schema.{Predicate}
-use Rattle.meaning.specs.Frame as Frame
-use Rattle.meaning.specs.Conditions.{among}
-use Rattle.meaning.specs.Frame.{Edition}
+use Rattle.format.specs.Syntax.{Node, Query}
+use Rattle.format.specs.Schema.{Predicate}
+use Rattle.format.specs.Frame as Frame
+use Rattle.format.specs.Conditions.{among}
+use Rattle.format.specs.Frame.{Edition}
 use Rattle.tree.specs.Stands.{NodeIn, QueryIs, PredicateIs, no_predicate, value_of}
-use Rattle.meaning.proofs.Tests.{clash}
+use Rattle.format.proofs.Tests.{clash}
 use Rattle.reading.specs.Held.{LimitsHeld, NamesHeld, words_of, part_type, IsOf, TypesHeld, PredicatesHeld, NodesHeld, flag, Marked}
 use Rattle.reading.proofs.Regions.{Same}
 use Rattle.std.specs.Prelude.{None, Option, Some}
@@ -192,7 +192,8 @@ module _ (n fields : ℕ) (w w' : List ℕ) (T T' : Rows) (words : Same TYPES (T
       go true q = rw q (ap Some (type_kept (x / 2 % 256) (h (eqb-true (x % 2) 1 q))))
       go false q = rw q
 
-  predicate_kept : (m p : ℕ) (d : Predicate) → n ≤ m → get_or w' (PREDICATES + p) 0 ≡ get_or w (PREDICATES + p) 0 → PredicateIs w T n p d → PredicateIs w' T' m p d
+  predicate_kept : (m p : ℕ) (d : Predicate) → n ≤ m → get_or w' (PREDICATES + p) 0 ≡ get_or w (PREDICATES + p) 0 → PredicateIs w T n p d
+      → PredicateIs w' T' m p d
   predicate_kept m p d e x h = record {
     name = rw x h.name;
     key = rw x (h.key ∙ sym (type_kept (get_or w (PREDICATES + p) 0 / 512 % 256) h.key_there));

@@ -13,14 +13,14 @@ use Rattle.cells.specs.Words.{pick}
 use Rattle.cells.specs.Stands.{Rows, Keeps}
 use Rattle.cells.proofs.Frame.{keeps_trans, keeps_wider, keeps_set}
 use Rattle.sigla_hex.specs.Digits.{line_at}
-use Rattle.meaning.specs.Syntax.{Node, Query}
-use Rattle.meaning.specs.References.{shape_types, optional, expr_nodes}
-use Rattle.meaning.specs.All.{Below}
-use Rattle.meaning.specs.Frame as Frame
-use Rattle.meaning.specs.Frame.{TypeShape, may_stand, the_limits, a_name, a_type, a_predicate, a_node, the_query, frame_of}
-use Rattle.meaning.specs.SoFar.{SoFar, ty_of, add}
-use Rattle.meaning.specs.Conditions.{any_of, among, same_text, given}
-use Rattle.meaning.specs.File.{value_text}
+use Rattle.format.specs.Syntax.{Node, Query}
+use Rattle.format.specs.References.{shape_types, optional, expr_nodes}
+use Rattle.format.specs.All.{Below}
+use Rattle.format.specs.Frame as Frame
+use Rattle.format.specs.Frame.{TypeShape, may_stand, the_limits, a_name, a_type, a_predicate, a_node, the_query, frame_of}
+use Rattle.format.specs.SoFar.{SoFar, ty_of, add}
+use Rattle.format.specs.Conditions.{any_of, among, same_text, given}
+use Rattle.format.specs.File.{value_text}
 use Rattle.work.specs.declared.Counters.{Counters}
 use Rattle.reading.specs.Marks.{Marks}
 use Rattle.reading.specs.Promises.{with_name, with_type, with_predicate, with_node, with_query}
@@ -29,10 +29,11 @@ use Rattle.reading.proofs.Regions.{Same, same_part, under, over, same_trans, kee
 use Rattle.reading.proofs.Kept.{limits_kept, names_kept, marked_kept, marked_more, nodes_kept, types_kept, predicates_kept}
 use Rattle.reading.proofs.Added.{name_added, value_word, predicate_added, node_added}
 use Rattle.reading.proofs.Shapes.{shape_words, shape_head, shape_second, shape_row, with_row, older_row, new_row, shape_added}
-use Rattle.meaning.specs.Frame.{Edition}
+use Rattle.format.specs.Frame.{Edition}
 use Rattle.std.specs.Prelude.{Option, Some}
 
-module _ (ed : Edition) {f : List ℕ} {at : ℕ} {w : List ℕ} {T : Rows} {c : Counters} {previous : Option Frame.Kind} {so : SoFar} (h : Held ed f at w T c previous so) where
+module _ (ed : Edition) {f : List ℕ} {at : ℕ} {w : List ℕ} {T : Rows} {c : Counters} {previous : Option Frame.Kind} {so : SoFar}
+    (h : Held ed f at w T c previous so) where
   -- ---- What is held of the kinds that a line is not of
   module _ {w' : List ℕ} where
     pub types_same : Same TYPES PREDICATES w w' → Same FIELDS (FIELDS + c.fields) w w' → TypesHeld w' T c.types c.fields so.types

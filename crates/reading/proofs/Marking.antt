@@ -11,11 +11,11 @@ use lib.Seq.{get_or-set_same, get_or-set_other}
 use borrow.Author.Tests.{eq-eqb, ne_eqb, eqb-true, eqb-false, lt-ltb, le-ltb, not-true}
 use Rattle.work.specs.Layout.{NODES}
 use Rattle.cells.proofs.Frame.{keeps_refl, keeps_trans, keeps_set}
-use Rattle.meaning.specs.Conditions.{any_of, all_below, among, again}
-use Rattle.meaning.proofs.Tests.{cases, clash}
+use Rattle.format.specs.Conditions.{any_of, all_below, among, again}
+use Rattle.format.proofs.Tests.{cases, clash}
 use Rattle.reading.specs.Held.{flag, Marked}
 use Rattle.reading.specs.declared.Refusal.{Refusal}
-use Rattle.reading.specs.Marks.{told, Told, Marks, Roomy, Refers, NamesNode}
+use Rattle.reading.specs.Marks.{told, ToldWhether, Marks, Roomy, Refers, NamesNode}
 use Rattle.std.specs.Prelude.{◌&&◌, Err, Ok, Result}
 use Rattle.std.proofs.lemmas.Bool.{and_parts, and_right}
 use Rattle.reading.proofs.Walks.{again_same, again_next, again_here, among_last}
@@ -32,7 +32,8 @@ unfolding among any_of
 among_middle m n [] b = refl
 among_middle m n (x ∷ a) b = cases (eqb m x)
     (λ q. cases (eqb m n) (λ p. rw (p, q, any_of)) (λ p. rw (p, q, any_of)))
-    (λ q. cases (eqb m n) (λ p. rw (p, q, any_of) (rw (p, any_of) at (among_middle m n a b))) (λ p. rw (p, q, any_of) (rw (p, any_of) at (among_middle m n a b))))
+    (λ q. cases (eqb m n) (λ p. rw (p, q, any_of) (rw (p, any_of) at (among_middle m n a b)))
+    (λ p. rw (p, q, any_of) (rw (p, any_of) at (among_middle m n a b))))
 
 -- the list is new to the earlier ones, so the rest is tested against both
 again_append : (e a b : List ℕ) → again e a ≡ false → again e (a ++ b) ≡ again (e ++ a) b
@@ -82,7 +83,8 @@ module _ (names nodes : ℕ) where
           let b = (and_parts (all_below names xs) _ t).1 in
           let c = (and_parts (all_below nodes ns) _ b).0 in
           let d : again named ns ≡ false = not-true (again named ns) (and_parts (all_below nodes ns) _ b).1 in
-          q.is (room_on m (p.marks m refl)) (named ++ ns) (p.marked m refl named h) ∙ sym (rw (below_append names xs ys, below_append nodes ns ms, a, c, again_append named ns ms d));
+          q.is (room_on m (p.marks m refl)) (named ++ ns) (p.marked m refl named h)
+          ∙ sym (rw (below_append names xs ys, below_append nodes ns ms, a, c, again_append named ns ms d));
       marks = λ m e. marks_trans (p.marks m refl) (q.marks (room_on m (p.marks m refl)) e);
       marked = λ m e named h. subst (Marked u nodes) (append_assoc named ns ms)
           (q.marked (room_on m (p.marks m refl)) e (named ++ ns) (p.marked m refl named h));
@@ -94,7 +96,8 @@ module _ (names nodes : ℕ) where
     fails_on m named h = cases (all_below names xs)
         (λ a. cases (all_below nodes ns)
         (λ b. cases (again named ns)
-        (λ c. rw (a, b, again_more named ns ms c) (sym (ap (λ b. all_below names ys && b) (and_right (all_below nodes ms) false refl) ∙ and_right (all_below names ys) false refl)))
+        (λ c. rw (a, b, again_more named ns ms c) (sym
+        (ap (λ b. all_below names ys && b) (and_right (all_below nodes ms) false refl) ∙ and_right (all_below names ys) false refl)))
         (λ c. clash (sym (rw (a, b, c) at (p.is m named h)))))
         (λ b. rw (a, b) (sym (and_right (all_below names ys) false refl))))
         (λ a. rw a)
@@ -182,25 +185,26 @@ module _ (w : List ℕ) (m nodes : ℕ) where
 
 -- ---- What a refusal says
 
-pub told_there : {P : Bool → Type 0} {r : Result (Unit {0}) Refusal} → Told P r → r ≡ Ok tt → P true
+pub told_there : {P : Bool → Type 0} {r : Result (Unit {0}) Refusal} → ToldWhether P r → r ≡ Ok tt → P true
 told_there {P} {r} t e = go t.there t.is t.holds
   where
     go : (b : Bool) → r ≡ told b → P b → P true
     go true q h = h
-    go false q h = let x : ◌≡◌ {A = Result (Unit {0}) Refusal} (Ok tt) (Err Refusal.BadReference) = sym e ∙ q in let z : ◌≡◌ {A = ℕ} 0 1 = cc in absurd (omega arith)
+    go false q h =
+        let x : ◌≡◌ {A = Result (Unit {0}) Refusal} (Ok tt) (Err Refusal.BadReference) = sym e ∙ q in let z : ◌≡◌ {A = ℕ} 0 1 = cc in absurd (omega arith)
 
-pub told_missing : {P : Bool → Type 0} {r : Result (Unit {0}) Refusal} {e : Refusal} → Told P r → r ≡ Err e → (e ≡ Refusal.BadReference) × P false
+pub told_missing : {P : Bool → Type 0} {r : Result (Unit {0}) Refusal} {e : Refusal} → ToldWhether P r → r ≡ Err e → (e ≡ Refusal.BadReference) × P false
 told_missing {P} {r} {e} t q = go t.there t.is t.holds
   where
     go : (b : Bool) → r ≡ told b → P b → (e ≡ Refusal.BadReference) × P false
     go true p h = let x : ◌≡◌ {A = Result (Unit {0}) Refusal} (Ok tt) (Err e) = sym p ∙ q in let z : ◌≡◌ {A = ℕ} 0 1 = cc in absurd (omega arith)
     go false p h = let x : ◌≡◌ {A = Result (Unit {0}) Refusal} (Err e) (Err Refusal.BadReference) = sym q ∙ p in (cc, h)
 
-pub told_by : {P Q : Bool → Type 0} {r : Result (Unit {0}) Refusal} → ((b : Bool) → P b → Q b) → Told P r → Told Q r
+pub told_by : {P Q : Bool → Type 0} {r : Result (Unit {0}) Refusal} → ((b : Bool) → P b → Q b) → ToldWhether P r → ToldWhether Q r
 told_by f t = record { there = t.there; is = t.is; holds = f t.there t.holds }
 
-pub missing : {P : Bool → Type 0} {e : Refusal} → e ≡ Refusal.BadReference → P false → Told P (Err e)
+pub missing : {P : Bool → Type 0} {e : Refusal} → e ≡ Refusal.BadReference → P false → ToldWhether P (Err e)
 missing q h = record { there = false; is = ap Err q; holds = h }
 
-pub all_there : {P : Bool → Type 0} → P true → Told P (Ok tt)
+pub all_there : {P : Bool → Type 0} → P true → ToldWhether P (Ok tt)
 all_there h = record { there = true; is = refl; holds = h }

@@ -11,20 +11,20 @@ use Rattle.text.proofs.Laws.{characters_le}
 use Rattle.work.specs.Layout.{NAMES}
 use Rattle.cells.specs.Words.{pick}
 use Rattle.cells.specs.Stands.{Rows}
-use Rattle.meaning.specs.Refusal as Refused
-use Rattle.meaning.specs.Frame as Frame
-use Rattle.meaning.specs.Frame.{Frame, a_name, may_stand, kind_byte, frame_kind, frame, one, and_then, rest, whole, frame_of}
-use Rattle.meaning.specs.References.{texts_of, name_refs, type_refs, node_refs, keys_of}
-use Rattle.meaning.specs.SoFar.{SoFar, add, frames}
-use Rattle.meaning.specs.Conditions.{any_of, all_below, again, broken, given, same_text, refers_earlier, refers_badly, conditions, first_of}
-use Rattle.meaning.specs.File.{value_text}
+use Rattle.format.specs.Refusal as Refused
+use Rattle.format.specs.Frame as Frame
+use Rattle.format.specs.Frame.{Frame, a_name, may_stand, kind_byte, frame_kind, frame, one, and_then, rest, whole, frame_of}
+use Rattle.format.specs.References.{texts_of, name_refs, type_refs, node_refs, keys_of}
+use Rattle.format.specs.SoFar.{SoFar, add, frames}
+use Rattle.format.specs.Conditions.{any_of, all_below, again, broken, given, same_text, refers_earlier, refers_badly, conditions, first_of}
+use Rattle.format.specs.File.{value_text}
 use Rattle.work.specs.declared.Counters.{Counters}
 use Rattle.reading.specs.Held.{Held}
-use Rattle.reading.specs.Promises.{with_name, Line, Comes, Takes, NameLine, GivenBefore}
+use Rattle.reading.specs.Promises.{with_name, LineAt, Comes, Takes, NameLine, GivenBefore}
 use Rattle.reading.proofs.Lines.{name_held}
 use Rattle.reading.proofs.Order.{first_broken, first_given, first_none}
 use Rattle.reading.proofs.Stepping.{no_value, the_value, refuses, goes_on, begun, names_room}
-use Rattle.meaning.specs.Frame.{Edition}
+use Rattle.format.specs.Frame.{Edition}
 use lib.Dec.{eqb}
 use Rattle.std.proofs.lemmas.Bool.Decides.{Decides-eqb}
 use Rattle.std.specs.Cmp.Lexicographic.{pointwise}
@@ -99,12 +99,12 @@ module _ (ed : Edition) (f : List ℕ) (at : ℕ) (s w : List ℕ) (c : Counters
     unfolding texts_of
     read = any_one broken (drop 1 s) false (whole_text (drop 1 s) chars text)
 
-    as_line : {so : SoFar} {fr : Frame} {next : ℕ} → Line f at next s → Comes ed so Frame.name s fr → NameLine f at s chars (drop 1 s)
+    as_line : {so : SoFar} {fr : Frame} {next : ℕ} → LineAt f at next s → Comes ed so Frame.name s fr → NameLine f at s chars (drop 1 s)
     unfolding kind_byte
     as_line l k = record { line = l.is; is = k.first; characters = text }
 
     given_is : {so : SoFar} {fr : Frame} {next : ℕ} {T : Rows} {previous : Option Frame.Kind} (r : Bool) → GivenBefore f at s w c.names chars r
-        → Held ed f at w T c previous so → Line f at next s → Comes ed so Frame.name s fr
+        → Held ed f at w T c previous so → LineAt f at next s → Comes ed so Frame.name s fr
         → any_of (given so.names) (texts_of (a_name (drop 1 s))) ≡ r
     unfolding texts_of kind_byte
     given_is {so} r g h l k = any_one (given so.names) (drop 1 s) r (sym (g.is c.value so.names (drop 1 s) h.names (as_line l k)))

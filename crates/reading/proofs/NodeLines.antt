@@ -7,13 +7,13 @@ use native.Mathlib.Omega.{arith}
 use lib.ListN.{length, drop, set}
 use Rattle.work.specs.Layout.{NODES}
 use Rattle.cells.specs.Stands.{Rows}
-use Rattle.meaning.specs.Syntax.{Node, Query}
-use Rattle.meaning.specs.Refusal as Refused
-use Rattle.meaning.specs.Frame as Frame
-use Rattle.meaning.specs.Frame.{Frame, a_node, the_query, got, and_then, one, span_and_kind, head_and_body, may_stand, kind_byte, frame_kind, frame, frame_of}
-use Rattle.meaning.specs.References.{stmt_nodes, query_nodes, expr_names, expr_nodes, texts_of, name_refs, type_refs, node_refs, keys_of}
-use Rattle.meaning.specs.SoFar.{SoFar, add, frames}
-use Rattle.meaning.specs.Conditions.{any_of, all_below, again, refers_earlier, refers_badly, conditions, first_of}
+use Rattle.format.specs.Syntax.{Node, Query}
+use Rattle.format.specs.Refusal as Refused
+use Rattle.format.specs.Frame as Frame
+use Rattle.format.specs.Frame.{Frame, a_node, the_query, got, and_then, one, span_and_kind, head_and_body, may_stand, kind_byte, frame_kind, frame, frame_of}
+use Rattle.format.specs.References.{stmt_nodes, query_nodes, expr_names, expr_nodes, texts_of, name_refs, type_refs, node_refs, keys_of}
+use Rattle.format.specs.SoFar.{SoFar, add, frames}
+use Rattle.format.specs.Conditions.{any_of, all_below, again, refers_earlier, refers_badly, conditions, first_of}
 use Rattle.frames.specs.Promises.{half_w}
 use Rattle.reading.specs.declared.Refusal.TheVariants as Refusal
 use Rattle.work.specs.declared.Counters.{Counters}
@@ -26,7 +26,7 @@ use Rattle.reading.proofs.Stepping.{refuses, goes_on, begun, nodes_room, queries
 use Rattle.reading.proofs.Typing.{one_made}
 use Rattle.reading.proofs.Marking.{refers_then, refers_stop}
 use Rattle.reading.proofs.Refs.{HeadIs, head_is}
-use Rattle.meaning.specs.Frame.{Edition}
+use Rattle.format.specs.Frame.{Edition}
 use Rattle.std.specs.Prelude.{◌&&◌, Err, Ok, Option, Some}
 use Rattle.tree.proofs.LineParts.{whole_got}
 
@@ -51,7 +51,8 @@ unfolding refers_badly refers_earlier name_refs type_refs node_refs all_below
 query_refers so q = de_morgan true (all_below (length so.nodes) (query_nodes q)) (again so.named (query_nodes q))
 
 -- the loops' answer is that test
-module _ (ed : Edition) {f : List ℕ} {at : ℕ} {w : List ℕ} {T : Rows} {c : Counters} {previous : Option Frame.Kind} {so : SoFar} (h : Held ed f at w T c previous so)
+module _ (ed : Edition) {f : List ℕ} {at : ℕ} {w : List ℕ} {T : Rows} {c : Counters} {previous : Option Frame.Kind} {so : SoFar}
+    (h : Held ed f at w T c previous so)
     {xs ns v : List ℕ} {r : Bool} (a : Refers w c.names xs c.nodes ns v r) where
   roomy : Roomy w c.nodes
   roomy = record { few = omega (arith, h.nodes.count, h.nodes.few); long = h.long }

@@ -4,14 +4,17 @@ use mathlib.Core.List.{List, [], ◌∷◌}
 use mathlib.Core.Path.{◌≡◌, refl, ap, ◌∙◌}
 use Prim.Native.Nat.{ℕ}
 use lib.ListN.{drop}
-use Rattle.meaning.specs.Refusal.{malformed_line, misplaced_kind, too_many, malformed_frame, broken_text, name_given_before, bad_reference, repeated_key, too_many_queries}
-use Rattle.meaning.specs.Frame.{Kind, Frame, may_stand, frame_kind}
-use Rattle.meaning.specs.References.{texts_of, keys_of}
-use Rattle.meaning.specs.SoFar.{SoFar, Said, malformed, unknown_kind, said_of, frames}
-use Rattle.meaning.specs.Conditions.{any_of, again, given, is_malformed, is_misplaced, is_full, is_one_too_many, is_last_query_past, is_query_too_many, is_no_frame}
-use Rattle.meaning.specs.Conditions.{of_frame, broken, is_broken_text, is_name_given_before, refers_badly, is_bad_reference, is_repeated_key, Condition, conditions}
-use Rattle.meaning.specs.Conditions.{first_of}
-use Rattle.meaning.proofs.Conditions.{passed}
+use Rattle.format.specs.Refusal.{malformed_line, misplaced_kind, too_many, malformed_frame, broken_text, name_given_before, bad_reference, repeated_key}
+use Rattle.format.specs.Refusal.{too_many_queries}
+use Rattle.format.specs.Frame.{Kind, Frame, may_stand, frame_kind}
+use Rattle.format.specs.References.{texts_of, keys_of}
+use Rattle.format.specs.SoFar.{SoFar, Said, malformed, unknown_kind, said_of, frames}
+use Rattle.format.specs.Conditions.{any_of, again, given, is_malformed, is_misplaced, is_full, is_one_too_many, is_last_query_past, is_query_too_many}
+use Rattle.format.specs.Conditions.{is_no_frame}
+use Rattle.format.specs.Conditions.{of_frame, broken, is_broken_text, is_name_given_before, refers_badly, is_bad_reference, is_repeated_key, Condition}
+use Rattle.format.specs.Conditions.{conditions}
+use Rattle.format.specs.Conditions.{first_of}
+use Rattle.format.proofs.Conditions.{passed}
 use Rattle.std.specs.Prelude.{None, Option, Some}
 
 met : (c : Condition) (cs : List Condition) (so : SoFar) (l : Said) → c.holds so l ≡ true → first_of (c ∷ cs) so l ≡ Some c.refusal

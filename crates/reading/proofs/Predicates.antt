@@ -9,15 +9,15 @@ use lib.ListN.{length, drop, set}
 use borrow.Author.Tests.{ltb-true, lt-ltb, le-ltb}
 use Rattle.work.specs.Layout.{PREDICATES}
 use Rattle.cells.specs.Stands.{Rows}
-use Rattle.meaning.specs.Refusal as Refused
-use Rattle.meaning.specs.Frame as Frame
-use Rattle.meaning.specs.Frame.{Frame, a_predicate, got, fails, and_then, nothing, one, pair, triple, two, entry, value_types, may_stand, kind_byte, frame_kind}
-use Rattle.meaning.specs.Frame.{frame, frame_of}
-use Rattle.meaning.specs.References.{optional, texts_of, name_refs, type_refs, node_refs, keys_of}
-use Rattle.meaning.specs.SoFar.{SoFar, add, frames}
-use Rattle.meaning.specs.Conditions.{any_of, all_below, again, refers_earlier, refers_badly, conditions, first_of}
-use Rattle.meaning.specs.All.{Below}
-use Rattle.meaning.proofs.Tests.{below_all}
+use Rattle.format.specs.Refusal as Refused
+use Rattle.format.specs.Frame as Frame
+use Rattle.format.specs.Frame.{Frame, a_predicate, got, fails, and_then, nothing, one, pair, triple, two, entry, value_types, may_stand, kind_byte, frame_kind}
+use Rattle.format.specs.Frame.{frame, frame_of}
+use Rattle.format.specs.References.{optional, texts_of, name_refs, type_refs, node_refs, keys_of}
+use Rattle.format.specs.SoFar.{SoFar, add, frames}
+use Rattle.format.specs.Conditions.{any_of, all_below, again, refers_earlier, refers_badly, conditions, first_of}
+use Rattle.format.specs.All.{Below}
+use Rattle.format.proofs.Tests.{below_all}
 use Rattle.frames.specs.Promises.{byte_w, half_w, value_type}
 use Rattle.frames.proofs.Readers.{sized_one, sized_two}
 use Rattle.frames.proofs.Statements.{choice_at}
@@ -30,7 +30,7 @@ use Rattle.reading.proofs.Order.{first_bad, first_none}
 use Rattle.reading.proofs.Stepping.{refuses, goes_on, begun, predicates_room}
 use Rattle.reading.proofs.Typing.{one_made, sized_got}
 use Rattle.std.proofs.Math.Bool.{and-true, or-false}
-use Rattle.meaning.specs.Frame.{Edition}
+use Rattle.format.specs.Frame.{Edition}
 use Rattle.std.specs.Prelude.{◌&&◌, Err, None, Option, Result, Some, slice_get}
 use Rattle.std.proofs.lemmas.Bool.{and_parts, and_right}
 use Rattle.reading.specs.declared.Refusal.{Refusal}
@@ -97,7 +97,8 @@ module _ (ed : Edition) (s w : List ℕ) (c : Counters) (long : 6 ≤ length s) 
   abbrev there : Option ℕ → Bool
   there v = ltb (half_w s 1) c.names && (ltb (half_w s 3) c.types && all_below c.types (optional v))
 
-  refers : {f : List ℕ} {at : ℕ} {T : Rows} {previous : Option Frame.Kind} {so : SoFar} → Held ed f at w T c previous so → (v : Option ℕ) (b : Bool) → there v ≡ b
+  refers : {f : List ℕ} {at : ℕ} {T : Rows} {previous : Option Frame.Kind} {so : SoFar} → Held ed f at w T c previous so
+      → (v : Option ℕ) (b : Bool) → there v ≡ b
       → refers_badly so (a_predicate (half_w s 1) (half_w s 3) v) ≡ not b
   refers {so = so} h v b e =
       let q : (ltb (half_w s 1) (length so.names) && (ltb (half_w s 3) (length so.types) && all_below (length so.types) (optional v))) ≡

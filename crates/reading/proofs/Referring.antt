@@ -8,18 +8,18 @@ use native.Mathlib.Omega.{arith}
 use lib.Dec.{eqb, ltb}
 use lib.ListN.{length, drop, length-drop}
 use borrow.Author.Tests.{ltb-true, ltb-false, eqb-true, eqb-false}
-use Rattle.meaning.specs.Syntax.{Node}
-use Rattle.meaning.specs.Frame as Frame
-use Rattle.meaning.specs.Frame.{a_node, frame_of}
-use Rattle.meaning.specs.References.{stmt_nodes}
-use Rattle.meaning.proofs.Tests.{cases}
+use Rattle.format.specs.Syntax.{Node}
+use Rattle.format.specs.Frame as Frame
+use Rattle.format.specs.Frame.{a_node, frame_of}
+use Rattle.format.specs.References.{stmt_nodes}
+use Rattle.format.proofs.Tests.{cases}
 use Rattle.frames.specs.Promises.{byte_w, half_w, reference_size}
 use Rattle.std.specs.Simd.{first_chunks}
 use Rattle.reading.specs.Marks.{Refers, NamesNode, NamesFields, NamesItems, NamesStatements, NamesAll}
 use Rattle.reading.proofs.Marking.{refers_none, refers_name, refers_then, refers_stop}
 use Rattle.reading.proofs.Refs.{RefsAre, plain_refs, var_refs, prefix_refs, fuzzy_refs, key_refs, value_refs, fact_refs, select_refs, error_refs}
 use Rattle.reading.proofs.Refs.{wildcard_refs, never_refs, no_refs, record_refs, branches_refs, operands_refs, subquery_refs}
-use Rattle.meaning.specs.Frame.{Edition}
+use Rattle.format.specs.Frame.{Edition}
 use Rattle.std.specs.Prelude.{Some}
 
 module _ (ed : Edition) (s w : List ℕ) (names nodes : ℕ) (long : 10 ≤ length s) where
@@ -76,7 +76,8 @@ module _ (ed : Edition) (s w : List ℕ) (names nodes : ℕ) (long : 10 ≤ leng
           (refers_stop names nodes (n.is names) [] (stmt_nodes k.0));
     }
 
-    pub all_subquery : NamesNode w (half_w s 10) nodes v true → (u : List ℕ) (r : Bool) → NamesStatements (drop 12 s) v nodes u r → NamesAll ed s w names nodes u r
+    pub all_subquery : NamesNode w (half_w s 10) nodes v true → (u : List ℕ) (r : Bool) → NamesStatements (drop 12 s) v nodes u r
+        → NamesAll ed s w names nodes u r
     all_subquery n u r m = record {
       is = λ nd f. let k = subquery_refs ed s nd long f b in rw (k.2.names, k.2.nodes)
           (refers_then names nodes (n.is names) (m.is names k.0 k.1));
@@ -84,7 +85,8 @@ module _ (ed : Edition) (s w : List ℕ) (names nodes : ℕ) (long : 10 ≤ leng
 
   -- any other shape refers to nothing
   pub all_none : (byte_w s 9 ≡ 3 → ⊥) → (byte_w s 9 ≡ 6 → ⊥) → (byte_w s 9 ≡ 7 → ⊥) → (byte_w s 9 ≡ 8 → ⊥) → (byte_w s 9 ≡ 9 → ⊥) → (byte_w s 9 ≡ 10 → ⊥)
-      → (byte_w s 9 ≡ 11 → ⊥) → (byte_w s 9 ≡ 12 → ⊥) → (byte_w s 9 ≡ 13 → ⊥) → (byte_w s 9 ≡ 14 → ⊥) → (byte_w s 9 ≡ 16 → ⊥) → NamesAll ed s w names nodes w true
+      → (byte_w s 9 ≡ 11 → ⊥) → (byte_w s 9 ≡ 12 → ⊥) → (byte_w s 9 ≡ 13 → ⊥) → (byte_w s 9 ≡ 14 → ⊥) → (byte_w s 9 ≡ 16 → ⊥)
+      → NamesAll ed s w names nodes w true
   all_none a b c d e f g h i j k = record { is = λ nd q. let p = refs nd q in rw (p.names, p.nodes) (refers_none names nodes w) }
     where
       refs : (nd : Node) → frame_of ed Frame.node (drop 1 s) ≡ Some (a_node nd) → RefsAre nd.kind [] []

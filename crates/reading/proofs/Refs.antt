@@ -8,12 +8,12 @@ use native.Mathlib.Omega.{arith}
 use lib.ListN.{length, drop}
 use lib.Dec.{ltb}
 use borrow.Author.Tests.{ltb-true, ltb-false}
-use Rattle.meaning.proofs.Tests.{cases}
-use Rattle.meaning.specs.Syntax.{QueryStmt, Query, FieldRef, Literal, ExprKind, Node}
-use Rattle.meaning.specs.Frame as Frame
-use Rattle.meaning.specs.Frame.{Frame, a_node, got, fails, Reader, and_then, nothing, one, pair, triple, two, many, field, head_and_body, entry, expr_kinds}
-use Rattle.meaning.specs.Frame.{span_and_kind, frame, frame_of}
-use Rattle.meaning.specs.References.{field_names, field_values, stmt_nodes, query_nodes, expr_names, expr_nodes}
+use Rattle.format.proofs.Tests.{cases}
+use Rattle.format.specs.Syntax.{QueryStmt, Query, FieldRef, Literal, ExprKind, Node}
+use Rattle.format.specs.Frame as Frame
+use Rattle.format.specs.Frame.{Frame, a_node, got, fails, Reader, and_then, nothing, one, pair, triple, two, many, field, head_and_body, entry, expr_kinds}
+use Rattle.format.specs.Frame.{span_and_kind, frame, frame_of}
+use Rattle.format.specs.References.{field_names, field_values, stmt_nodes, query_nodes, expr_names, expr_nodes}
 use Rattle.frames.specs.Promises.{reference_size, reference_w, byte_w, half_w, full_w, expr_kind, statement}
 use Rattle.frames.specs.Items.{items_at, field_at, Fill}
 use Rattle.frames.proofs.Readers.{sized_reference, Sized, sized_one, sized_pair, sized_two, sized_four, sized_byte, fields_are, numbers_are}
@@ -22,7 +22,7 @@ use Rattle.std.specs.Simd.{first_chunks}
 use Rattle.reading.proofs.Cuts.{half_cut, cut_items}
 use Rattle.reading.proofs.Typing.{one_made, sized_got, map_items}
 use Rattle.std.proofs.lemmas.Option.{slice_get_past}
-use Rattle.meaning.specs.Frame.{Edition}
+use Rattle.format.specs.Frame.{Edition}
 use Rattle.std.specs.Prelude.{Some, slice_get}
 use Rattle.tree.proofs.LineParts.{whole_got}
 
@@ -86,7 +86,8 @@ module _ (ed : Edition) (s : List ℕ) (nd : Node) (long : 10 ≤ length s) (is 
   chosen : entry (slice_get (expr_kinds ed) (byte_w s 9)) (drop 10 s) ≡ got nd.kind []
   unfolding frame_of frame one
   chosen =
-      let m = one_made a_node (span_and_kind ed (drop 1 s)) (a_node nd) [] (whole_got (and_then (span_and_kind ed (drop 1 s)) (λ n. got (a_node n))) (a_node nd) is) in
+      let m = one_made a_node (span_and_kind ed (drop 1 s)) (a_node nd) []
+      (whole_got (and_then (span_and_kind ed (drop 1 s)) (λ n. got (a_node n))) (a_node nd) is) in
       let same : m.0 ≡ nd = cc m.2 in
       span_kind ed s long nd (m.1 ∙ ap (λ n. got n []) same)
 

@@ -14,11 +14,11 @@ use Rattle.cells.specs.declared.Kind.{Kind}
 use Rattle.cells.specs.declared.Kind.TheVariants.{Fields, Alternatives}
 use Rattle.cells.specs.Words.{pick, ty_w, declared_w, count_w, first_w, declared_field, alternative_w}
 use Rattle.cells.specs.Stands.{Rows, tree, kind_tree, tag_of, row_from, row_w}
-use Rattle.meaning.specs.Syntax.{Field}
-use Rattle.meaning.specs.Frame.{Alternative, TypeShape, a_leaf, a_record, a_union}
-use Rattle.meaning.specs.References.{field_values, shape_types}
-use Rattle.meaning.specs.SoFar.{type_at, field_row, alternative_row, ty_of}
-use Rattle.meaning.specs.All.{Below}
+use Rattle.format.specs.Syntax.{Field}
+use Rattle.format.specs.Frame.{Alternative, TypeShape, a_leaf, a_record, a_union}
+use Rattle.format.specs.References.{field_values, shape_types}
+use Rattle.format.specs.SoFar.{type_at, field_row, alternative_row, ty_of}
+use Rattle.format.specs.All.{Below}
 use Rattle.reading.specs.Held.{words_of, part_type, IsOf, TypesHeld}
 use Rattle.reading.proofs.Regions.{WordsAt, words_head, words_tail, snoc}
 use Rattle.cells.proofs.Frame.{field_declared}

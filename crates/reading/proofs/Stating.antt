@@ -9,8 +9,8 @@ use lib.ListN.{length, get_or, drop, length-drop}
 use lib.Seq.{get_or-drop}
 use native.Mathlib.Nat.{add-zero}
 use Rattle.std.proofs.lemmas.List.{drop-drop}
-use Rattle.meaning.specs.Syntax.{QueryStmt}
-use Rattle.meaning.specs.References.{stmt_nodes}
+use Rattle.format.specs.Syntax.{QueryStmt}
+use Rattle.format.specs.References.{stmt_nodes}
 use Rattle.frames.specs.Promises.{byte_w, half_w, size_w}
 use Rattle.frames.specs.Items.{statement_of, statement_at, Fill, end, then}
 use Rattle.reading.specs.Marks.{Refers, NamesNode, NamesStatements}

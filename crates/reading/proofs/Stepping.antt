@@ -8,25 +8,25 @@ use native.Mathlib.Omega.{arith}
 use lib.ListN.{length}
 use borrow.Author.Tests.{leb-false}
 use Rattle.cells.specs.Stands.{Rows}
-use Rattle.meaning.specs.Refusal as Refused
-use Rattle.meaning.specs.Frame.{Kind, name, schema_type, predicate, node, query, may_stand}
-use Rattle.meaning.specs.SoFar.{SoFar}
-use Rattle.meaning.specs.Conditions.{max_names, max_types, max_predicates, max_nodes, max_queries, is_full, is_last_query_past}
-use Rattle.meaning.proofs.Tests.{clash}
+use Rattle.format.specs.Refusal as Refused
+use Rattle.format.specs.Frame.{Kind, name, schema_type, predicate, node, query, may_stand}
+use Rattle.format.specs.SoFar.{SoFar}
+use Rattle.format.specs.Conditions.{max_names, max_types, max_predicates, max_nodes, max_queries, is_full, is_last_query_past}
+use Rattle.format.proofs.Tests.{clash}
 use Rattle.reading.specs.declared.Refusal.{Refusal}
 use Rattle.work.specs.declared.Counters.{Counters}
 use Rattle.reading.specs.Held.{Held}
-use Rattle.reading.specs.Promises.{refusal, Steps}
-use Rattle.meaning.specs.Frame.{Edition}
+use Rattle.reading.specs.Promises.{refusal, LineEnds}
+use Rattle.format.specs.Frame.{Edition}
 use Rattle.std.specs.Option.{ok_or}
 use Rattle.std.specs.Prelude.{Err, None, Ok, Option, Result, Some}
 
 module _ (ed : Edition) (f : List ℕ) (next : ℕ) (w : List ℕ) (kind : Option Kind) (so : SoFar) where
-  pub refuses : (e : Refusal) (o : Option Refused.Refusal) → o ≡ Some (refusal e) → Steps ed f next w kind so (Err e) o
-  refuses e o q = subst (Steps ed f next w kind so (Err e)) (sym q) (e, refl, refl)
+  pub refuses : (e : Refusal) (o : Option Refused.Refusal) → o ≡ Some (refusal e) → LineEnds ed f next w kind so (Err e) o
+  refuses e o q = subst (LineEnds ed f next w kind so (Err e)) (sym q) (e, refl, refl)
 
-  pub goes_on : (c : Counters) (T : Rows) (o : Option Refused.Refusal) → o ≡ None → Held ed f next w T c kind so → Steps ed f next w kind so (Ok c) o
-  goes_on c T o q h = subst (Steps ed f next w kind so (Ok c)) (sym q) (c, refl, (T, h))
+  pub goes_on : (c : Counters) (T : Rows) (o : Option Refused.Refusal) → o ≡ None → Held ed f next w T c kind so → LineEnds ed f next w kind so (Ok c) o
+  goes_on c T o q h = subst (LineEnds ed f next w kind so (Ok c)) (sym q) (c, refl, (T, h))
 
 -- What `ok_or` and a failure say, or a success.
 pub no_value : {A : Type 0} (o : Option A) (e x : Refusal) → ◌≡◌ {A = Result A Refusal} (Err x) (ok_or o e) → (x ≡ e) × (o ≡ None)

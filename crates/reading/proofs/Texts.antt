@@ -21,10 +21,10 @@ use Rattle.work.specs.Layout.{NAMES}
 use Rattle.sigla_hex.specs.Digits.{line_at}
 use Rattle.frames.proofs.Shapes.{to_end}
 use Rattle.sigla_hex.proofs.Bytes.{line_takes, line_spells, same_digits, same_bytes}
-use Rattle.meaning.specs.Diag.{ascii}
-use Rattle.meaning.specs.Conditions.{any_of, same_text, given}
-use Rattle.meaning.specs.File.{value_text, count_of}
-use Rattle.meaning.proofs.Tests.{cases, clash, same_text_lem, text_same}
+use Rattle.format.specs.Bytes.{ascii}
+use Rattle.format.specs.Conditions.{any_of, same_text, given}
+use Rattle.format.specs.File.{value_text, count_of}
+use Rattle.format.proofs.Tests.{cases, clash, same_text_lem, text_same}
 use Rattle.reading.specs.Held.{NamesHeld}
 use Rattle.reading.specs.Promises.{Unlike, NameLine, GivenBefore}
 use Rattle.std.specs.Prelude.{Option, None, Some}
@@ -93,7 +93,8 @@ module _ (f : List ℕ) (x at : ℕ) (bytes : List ℕ) (chars : ℕ) where
         let m : own ≡ digits f at (2 * length (0x02 ∷ t) + 1) = ap (λ u. digits f at (2 * length u + 1)) l.is in
         let z : length own ≡ 2 * length (0x02 ∷ t) + 1 = ap length m ∙ long f (x / 512) at (0x02 ∷ s) (0x02 ∷ t) p q in
         cases (same_text s t)
-        (λ e. d.1 (m ∙ sym (same_goes_on f (x / 512) at (0x02 ∷ s) (0x02 ∷ t) p q (ap (λ u. 0x02 ∷ u) (same_text_lem s t e))) ∙ ap (λ n. take n (drop (x / 512) f)) (sym z)) ∙ sym e)
+        (λ e. d.1 (m ∙ sym (same_goes_on f (x / 512) at (0x02 ∷ s) (0x02 ∷ t) p q (ap (λ u. 0x02 ∷ u) (same_text_lem s t e)))
+        ∙ ap (λ n. take n (drop (x / 512) f)) (sym z)) ∙ sym e)
         (λ e. go s t e r refl p q m z);
   }
     where

@@ -19,15 +19,15 @@ use Rattle.std.specs.Simd.{first_chunks}
 use Rattle.std.proofs.lemmas.List.{drop-drop}
 use Rattle.std.proofs.lemmas.Option.{slice_get_past}
 use Rattle.std.proofs.Math.Bool.{and-true, or-false}
-use Rattle.meaning.specs.Syntax.{Field}
-use Rattle.meaning.specs.Refusal as Refused
-use Rattle.meaning.specs.Frame as Frame
-use Rattle.meaning.specs.Frame.{Frame, a_type, TypeShape, a_leaf, a_record, a_union, Alternative, Got, got, fails, Reader, and_then, nothing, one, two, many}
-use Rattle.meaning.specs.Frame.{field, alternative, entry, type_shapes, may_stand, kind_byte, frame_kind, frame, frame_of}
-use Rattle.meaning.specs.References.{field_names, field_values, shape_names, shape_types, shape_keys, texts_of, name_refs, type_refs, node_refs, keys_of}
-use Rattle.meaning.specs.SoFar.{SoFar, add, frames}
-use Rattle.meaning.specs.Conditions.{any_of, all_below, again, refers_earlier, refers_badly, conditions, first_of}
-use Rattle.meaning.proofs.Tests.{cases, below_all}
+use Rattle.format.specs.Syntax.{Field}
+use Rattle.format.specs.Refusal as Refused
+use Rattle.format.specs.Frame as Frame
+use Rattle.format.specs.Frame.{Frame, a_type, TypeShape, a_leaf, a_record, a_union, Alternative, Got, got, fails, Reader, and_then, nothing, one, two, many}
+use Rattle.format.specs.Frame.{field, alternative, entry, type_shapes, may_stand, kind_byte, frame_kind, frame, frame_of}
+use Rattle.format.specs.References.{field_names, field_values, shape_names, shape_types, shape_keys, texts_of, name_refs, type_refs, node_refs, keys_of}
+use Rattle.format.specs.SoFar.{SoFar, add, frames}
+use Rattle.format.specs.Conditions.{any_of, all_below, again, refers_earlier, refers_badly, conditions, first_of}
+use Rattle.format.proofs.Tests.{cases, below_all}
 use Rattle.frames.specs.Promises.{reference_w, byte_w, half_w, full_w, type_shape}
 use Rattle.frames.specs.Items.{items_at, field_at, alternative_at}
 use Rattle.frames.proofs.Readers.{sized_reference, Sized, sized_one, Items, fields_are, alternatives_are}
@@ -36,14 +36,14 @@ use Rattle.work.specs.declared.Counters.{Counters}
 use Rattle.reading.specs.Held.{Held}
 use Rattle.reading.specs.Parts.{size_of, shape_of, type_w, key_w, names_of, types_of, words_of}
 use Rattle.reading.specs.Parts as Parts
-use Rattle.reading.specs.Promises.{with_type, Line, Comes, Steps, TakesAnywhere, AddsType, TakesType}
+use Rattle.reading.specs.Promises.{with_type, LineAt, Comes, LineEnds, TakesAnywhere, AddsType, TakesType}
 use Rattle.reading.proofs.Shapes.{field_word, alternative_words, leaf_tag, leaf_payload, shape_words, shape_head, shape_second, shape_row, with_row}
 use Rattle.reading.proofs.Cuts.{half_cut, full_cut, cut_items, length_cuts}
 use Rattle.reading.proofs.Walks.{earlier}
 use Rattle.reading.proofs.Lines.{type_held}
 use Rattle.reading.proofs.Order.{first_bad, first_repeated, first_none}
 use Rattle.reading.proofs.Stepping.{refuses, goes_on, begun, types_room}
-use Rattle.meaning.specs.Frame.{Edition}
+use Rattle.format.specs.Frame.{Edition}
 use Rattle.std.specs.Prelude.{◌&&◌, Err, None, Ok, Option, Result, Some, slice_get}
 use Rattle.std.proofs.lemmas.Bool.{and_parts}
 use Rattle.reading.specs.declared.Refusal.{Refusal}
@@ -80,7 +80,8 @@ pub record PartsAre (s : List ℕ) (k : Kind) (t : TypeShape) : Type 0 where
   pub head : shape_head t ≡ count * 16 + tag_of k
   pub second : (n : ℕ) → shape_second n t ≡ n
 
-pub one_made : {A B : Type 0} (make : A → B) (g : Got A) (b : B) (t : List ℕ) → and_then g (λ a. got (make a)) ≡ got b t → (a : A) × (g ≡ got a t) × (b ≡ make a)
+pub one_made : {A B : Type 0} (make : A → B) (g : Got A) (b : B) (t : List ℕ) → and_then g (λ a. got (make a)) ≡ got b t → (a : A)
+    × (g ≡ got a t) × (b ≡ make a)
 unfolding and_then
 one_made make (got a u) b t e = (a, cc, cc)
 one_made make fails b t e = let z : ◌≡◌ {A = ℕ} 0 1 = cc in absurd (omega arith)
@@ -191,14 +192,14 @@ type_refers so t = or-false (not (all_below (length so.names) (shape_names t) &&
     (λ b. not (all_below (length so.names) (shape_names t) && b)) (and-true (all_below (length so.types) (shape_types t)))
 
 module _ (ed : Edition) {f : List ℕ} {at next : ℕ} {s w : List ℕ} {T : Rows} {c : Counters} {previous : Option Frame.Kind} {so : SoFar} {fr : Frame}
-    (h : Held ed f at w T c previous so) (l : Line f at next s) (k : Comes ed so Frame.schema_type s fr) (t : TypeShape) (is : fr ≡ a_type t) where
+    (h : Held ed f at w T c previous so) (l : LineAt f at next s) (k : Comes ed so Frame.schema_type s fr) (t : TypeShape) (is : fr ≡ a_type t) where
   as_type : (o : Option Refused.Refusal) → first_of conditions so (frames (a_type t)) ≡ o → first_of conditions so (frames fr) ≡ o
   as_type o e = subst (λ x. first_of conditions so (frames x) ≡ o) (sym is) e
 
   -- nothing holds of it
   type_goes : (w' : List ℕ) → refers_badly so (a_type t) ≡ false → again [] (shape_keys t) ≡ false → 8 * (c.fields + length (shape_words t)) ≤ next
       → w' ≡ set (set (sets w (FIELDS + c.fields) (shape_words t)) (TYPES + 2 * c.types) (shape_head t)) (TYPES + 2 * c.types + 1) (shape_second c.fields t)
-      → Steps ed f next w' (Some Frame.schema_type) (add so fr) (Ok (with_type c (length (shape_words t)))) (first_of conditions so (frames fr))
+      → LineEnds ed f next w' (Some Frame.schema_type) (add so fr) (Ok (with_type c (length (shape_words t)))) (first_of conditions so (frames fr))
   unfolding frame_kind texts_of any_of keys_of may_stand
   type_goes w' r q fits e =
       let b = begun so.previous Frame.schema_type k.placed refl in
@@ -217,13 +218,13 @@ module _ (ed : Edition) {f : List ℕ} {at next : ℕ} {s w : List ℕ} {T : Row
     earlier_is = type_refers so t ∙ ap not (rw (p.names, p.types, ← h.names.count, ← h.types.count))
 
     type_bad : earlier kind c.names c.types parts ≡ false
-        → Steps ed f next w (Some Frame.schema_type) (add so fr) (Err Refusal.BadReference) (first_of conditions so (frames fr))
+        → LineEnds ed f next w (Some Frame.schema_type) (add so fr) (Err Refusal.BadReference) (first_of conditions so (frames fr))
     unfolding frame_kind texts_of any_of
     type_bad e = refuses ed f next w (Some Frame.schema_type) (add so fr) Refusal.BadReference _
         (as_type _ (first_bad so (a_type t) k.placed k.room k.turn refl refl (earlier_is ∙ ap not e)))
 
     type_repeats : earlier kind c.names c.types parts ≡ true → again [] (Parts.keys_of kind parts) ≡ true
-        → Steps ed f next w (Some Frame.schema_type) (add so fr) (Err Refusal.RepeatedKey) (first_of conditions so (frames fr))
+        → LineEnds ed f next w (Some Frame.schema_type) (add so fr) (Err Refusal.RepeatedKey) (first_of conditions so (frames fr))
     unfolding frame_kind texts_of any_of keys_of
     type_repeats e d = refuses ed f next w (Some Frame.schema_type) (add so fr) Refusal.RepeatedKey _
         (as_type _ (first_repeated so (a_type t) k.placed k.room k.turn refl refl (earlier_is ∙ ap not e) (rw p.keys d)))
@@ -265,7 +266,8 @@ pub adds_as : {v v' : List ℕ} {c : Counters} {h h' p n n' : ℕ} {w' : List �
 adds_as e q m a = rw (← e, ← q, ← m) a
 
 -- What the parts of the line are, in so many pieces.
-shape_is : (ed : Edition) (so : SoFar) (s : List ℕ) (fr : Frame) → 2 ≤ length s → Comes ed so Frame.schema_type s fr → (kind : Kind) → byte_w s 1 ≡ shape_of kind
+shape_is : (ed : Edition) (so : SoFar) (s : List ℕ) (fr : Frame) → 2 ≤ length s → Comes ed so Frame.schema_type s fr → (kind : Kind)
+    → byte_w s 1 ≡ shape_of kind
     → (t : TypeShape) × (fr ≡ a_type t) × PartsAre s kind t
 shape_is ed so s fr long k Fields b = let x = record_is ed so s fr long k b in (a_record x.0, x.1, fields_parts s x.0 x.2)
 shape_is ed so s fr long k Alternatives b = let x = union_is ed so s fr long k b in (a_union x.0, x.1, alternatives_parts s x.0 x.2)
@@ -345,7 +347,8 @@ no_shape ed so s fr long k h =
     let z : ◌≡◌ {A = ℕ} 0 1 = cc in
     omega arith
 
-pub other_takes : (ed : Edition) (s w : List ℕ) (c : Counters) (w' : List ℕ) (r : Result Counters Refusal) → 2 ≤ length s → 5 ≤ byte_w s 1 → TakesType ed 5 s w c w' r
+pub other_takes : (ed : Edition) (s w : List ℕ) (c : Counters) (w' : List ℕ) (r : Result Counters Refusal) → 2 ≤ length s → 5 ≤ byte_w s 1
+    → TakesType ed 5 s w c w' r
     → TakesAnywhere ed Frame.schema_type s w c w' r
 other_takes ed s w c w' r long h t = record {
   is = λ f at. cases (ltb 5 (byte_w s 1))
@@ -357,14 +360,17 @@ pub shape_takes : (ed : Edition) (shape : ℕ) (s w : List ℕ) (c : Counters) (
     → TakesType ed shape s w c w' r → TakesAnywhere ed Frame.schema_type s w c w' r
 shape_takes ed shape s w c w' r e t = record { is = λ f at. t.is f at e }
 
-pub int_takes : (ed : Edition) (s w : List ℕ) (c : Counters) (w' : List ℕ) (r : Result Counters Refusal) → 2 ≤ length s → AddsType w c 1 0 0 w' r → TakesType ed 0 s w c w' r
+pub int_takes : (ed : Edition) (s w : List ℕ) (c : Counters) (w' : List ℕ) (r : Result Counters Refusal) → 2 ≤ length s → AddsType w c 1 0 0 w' r
+    → TakesType ed 0 s w c w' r
 unfolding type_shapes
 int_takes ed s w c w' r long a = leaf_takes ed s w c w' r Int 0 refl long a
 
-pub string_takes : (ed : Edition) (s w : List ℕ) (c : Counters) (w' : List ℕ) (r : Result Counters Refusal) → 2 ≤ length s → AddsType w c 2 0 0 w' r → TakesType ed 1 s w c w' r
+pub string_takes : (ed : Edition) (s w : List ℕ) (c : Counters) (w' : List ℕ) (r : Result Counters Refusal) → 2 ≤ length s → AddsType w c 2 0 0 w' r
+    → TakesType ed 1 s w c w' r
 unfolding type_shapes
 string_takes ed s w c w' r long a = leaf_takes ed s w c w' r String 1 refl long a
 
-pub bytes_takes : (ed : Edition) (s w : List ℕ) (c : Counters) (w' : List ℕ) (r : Result Counters Refusal) → 2 ≤ length s → AddsType w c 3 0 0 w' r → TakesType ed 2 s w c w' r
+pub bytes_takes : (ed : Edition) (s w : List ℕ) (c : Counters) (w' : List ℕ) (r : Result Counters Refusal) → 2 ≤ length s → AddsType w c 3 0 0 w' r
+    → TakesType ed 2 s w c w' r
 unfolding type_shapes
 bytes_takes ed s w c w' r long a = leaf_takes ed s w c w' r Bytes 2 refl long a

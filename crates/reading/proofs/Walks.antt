@@ -17,8 +17,8 @@ use Rattle.std.proofs.lemmas.Bool.{and_parts, and_cases, and_right}
 use Rattle.cells.specs.declared.Kind.{Kind}
 use Rattle.cells.specs.declared.Kind.TheVariants.{Fields, Alternatives}
 use Rattle.cells.specs.Stands.{part_words}
-use Rattle.meaning.specs.Conditions.{any_of, all_below, among, again}
-use Rattle.meaning.proofs.Tests.{cases}
+use Rattle.format.specs.Conditions.{any_of, all_below, among, again}
+use Rattle.format.proofs.Tests.{cases}
 use Rattle.frames.specs.Promises.{half_w}
 use Rattle.reading.specs.Parts.{type_w, words_w, names_of, types_of, is_early, words_of}
 
@@ -71,7 +71,8 @@ module _ (k : Kind) (names types : ℕ) where
 
   -- what `all` gives
   pub all_early : (parts : List (List ℕ)) (r : Bool)
-      → MatchBool r (AllWithin (λ p. is_early k names types p ≡ true) parts 0 (length parts)) ((j : ℕ) × (j < length parts) × HoldsAt (λ p. is_early k names types p ≡ false) parts j)
+      → MatchBool r (AllWithin (λ p. is_early k names types p ≡ true) parts 0 (length parts))
+      ((j : ℕ) × (j < length parts) × HoldsAt (λ p. is_early k names types p ≡ false) parts j)
       → r ≡ earlier parts
   all_early parts true m = sym (early_all parts m)
   all_early [] false m = absurd (omega (arith, m.1))
@@ -121,7 +122,8 @@ module _ {X : Type 0} (key : X → ℕ) (n : ℕ) where
   among_none (x ∷ xs) h = among_next n (key x) (map key xs) (h 0 x (omega arith) (omega arith))
       ∙ among_none xs (λ k d a b. h (suc k) d (omega arith) (omega arith))
 
-  pub any_among : (xs : List X) (r : Bool) → MatchBool r ((k : ℕ) × (k < length xs) × HoldsAt (λ x. key x ≡ n) xs k) (AllWithin (λ x. key x ≢ n) xs 0 (length xs))
+  pub any_among : (xs : List X) (r : Bool) → MatchBool r ((k : ℕ) × (k < length xs) × HoldsAt (λ x. key x ≡ n) xs k)
+      (AllWithin (λ x. key x ≢ n) xs 0 (length xs))
       → r ≡ among n (map key xs)
   any_among [] true m = absurd (omega (arith, m.1))
   any_among (x ∷ xs) true m = sym (among_one (x ∷ xs) m.0 x m.1 (m.2 x))

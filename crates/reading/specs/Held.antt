@@ -1,5 +1,5 @@
 -- What the work slice and the counters hold in the midst of reading: what has been read so far (`SoFar` of
--- meaning/specs/SoFar.antt), kind by kind. `at` is where the next line starts.
+-- format/specs/SoFar.antt), kind by kind. `at` is where the next line starts.
 use Rattle.std.specs.Prelude.{Bool, true, false, List, [], ◌≡◌, ℕ, ◌+◌, ◌*◌, ◌%◌, ◌≤◌, ◌<◌, length, get_or, None, Option, Some}
 use Rattle.unification.specs.Ty as Tree
 use Rattle.work.specs.Layout.{NAMES, TYPES, NODES, FIELDS, MAX-DISTANCE, MAX-TERM}
@@ -7,14 +7,14 @@ use Rattle.cells.specs.declared.Kind.{Kind}
 use Rattle.cells.specs.declared.Kind.TheVariants.{Fields, Alternatives}
 use Rattle.cells.specs.Words.{declared_w, count_w, first_w}
 use Rattle.cells.specs.Stands.{Rows, tree, tag_of, row_w, part_words}
-use Rattle.meaning.specs.Syntax.{Node, node_at}
-use Rattle.meaning.specs.Schema.{Predicate}
-use Rattle.meaning.specs.Frame as Frame
-use Rattle.meaning.specs.Frame.{Edition}
-use Rattle.meaning.specs.Lines.{position}
-use Rattle.meaning.specs.SoFar.{SoFar}
-use Rattle.meaning.specs.Conditions.{among, same_text}
-use Rattle.meaning.specs.File.{value_text, count_of}
+use Rattle.format.specs.Syntax.{Node, node_at}
+use Rattle.format.specs.Schema.{Predicate}
+use Rattle.format.specs.Frame as Frame
+use Rattle.format.specs.Frame.{Edition}
+use Rattle.format.specs.Lines.{position}
+use Rattle.format.specs.SoFar.{SoFar}
+use Rattle.format.specs.Conditions.{among, same_text}
+use Rattle.format.specs.File.{value_text, count_of}
 use Rattle.text.specs.Utf8.{characters}
 use Rattle.tree.specs.Stands.{NameIs, NodeIn, PredicateIs, no_predicate}
 use Rattle.work.specs.declared.Counters.{Counters}

@@ -3,11 +3,11 @@
 use Rattle.std.specs.Prelude.{◌&&◌, Bool, true, false, not, List, [], ◌∷◌, ◌++◌, map, ◌≡◌, ℕ, ◌+◌, ◌/◌, ◌≤◌, length, get_or, drop, Err, Ok, Result, Some}
 use Rattle.work.specs.Layout.{NODES, FIELDS}
 use Rattle.cells.specs.Stands.{Keeps}
-use Rattle.meaning.specs.Syntax.{QueryStmt, Node}
-use Rattle.meaning.specs.Frame as Frame
-use Rattle.meaning.specs.Frame.{Edition, frame_of}
-use Rattle.meaning.specs.References.{stmt_nodes, expr_names, expr_nodes}
-use Rattle.meaning.specs.Conditions.{all_below, again}
+use Rattle.format.specs.Syntax.{QueryStmt, Node}
+use Rattle.format.specs.Frame as Frame
+use Rattle.format.specs.Frame.{Edition, frame_of}
+use Rattle.format.specs.References.{stmt_nodes, expr_names, expr_nodes}
+use Rattle.format.specs.Conditions.{all_below, again}
 use Rattle.frames.specs.Promises.{half_w}
 use Rattle.frames.specs.Items.{Fill}
 use Rattle.reading.specs.declared.Refusal.{Refusal}
@@ -20,7 +20,7 @@ abbrev pub told : Bool → Result (Unit {0}) Refusal
 told true = Ok tt
 told false = Err Refusal.BadReference
 
-pub record Told (P : Bool → Type 0) (r : Result (Unit {0}) Refusal) : Type 0 where
+pub record ToldWhether (P : Bool → Type 0) (r : Result (Unit {0}) Refusal) : Type 0 where
   pub there : Bool
   pub is : r ≡ told there
   pub holds : P there

@@ -1,14 +1,15 @@
 -- What the functions of src/ promise.
 use Rattle.std.specs.Int.{from_le_bytes, w64}
-use Rattle.std.specs.Prelude.{Bool, true, false, List, [], ◌∷◌, ◌≡◌, ℕ, ◌+◌, ◌*◌, ◌<◌, ◌≤◌, leb, ltb, length, get_or, take, drop, set, replicate, Err, None, Ok, Option, Result, Some}
+use Rattle.std.specs.Prelude.{Bool, true, false, List, [], ◌∷◌, ◌≡◌, ℕ, ◌+◌, ◌*◌, ◌<◌, ◌≤◌, leb, ltb, length, get_or, take, drop, set, replicate, Err, None, Ok}
+use Rattle.std.specs.Prelude.{Option, Result, Some}
 use Rattle.std.proofs.lemmas.List.Edits.{sets}
 use Rattle.work.specs.Layout.{NAME-COUNT, TYPES, PREDICATES}
-use Rattle.meaning.specs.Refusal as Refused
-use Rattle.meaning.specs.Frame as Frame
-use Rattle.meaning.specs.Frame.{Edition, may_stand, kind_byte, kind_of, frame_of}
-use Rattle.meaning.specs.SoFar.{SoFar, frames, said_by, add, after}
-use Rattle.meaning.specs.Conditions.{given, is_full, is_last_query_past, conditions, first_of}
-use Rattle.meaning.specs.File.{Reading, refused, described, reading_of, types_of}
+use Rattle.format.specs.Refusal as Refused
+use Rattle.format.specs.Frame as Frame
+use Rattle.format.specs.Frame.{Edition, may_stand, kind_byte, kind_of, frame_of}
+use Rattle.format.specs.SoFar.{SoFar, frames, said_by, add, after}
+use Rattle.format.specs.Conditions.{given, is_full, is_last_query_past, conditions, first_of}
+use Rattle.format.specs.File.{Reading, refused, described, reading_of, types_of}
 use Rattle.meaning.specs.Outcome.{min_words}
 use Rattle.text.specs.Utf8.{characters}
 use Rattle.sigla_hex.specs.Digits.{line_at}
@@ -44,16 +45,16 @@ refusal Refusal.OutsideTheRules = Refused.outside_the_rules
 -- ---- The counters after a line of each kind
 
 abbrev pub with_name : Counters → Option ℕ → Counters
-with_name c value = record { names = c.names + 1; types = c.types; predicates = c.predicates; nodes = c.nodes; fields = c.fields; value = value; queries = c.queries }
+with_name c value = record c { names = c.names + 1; value = value }
 
 abbrev pub with_type : Counters → ℕ → Counters
-with_type c words = record { names = c.names; types = c.types + 1; predicates = c.predicates; nodes = c.nodes; fields = c.fields + words; value = c.value; queries = c.queries }
+with_type c words = record c { types = c.types + 1; fields = c.fields + words }
 
 abbrev pub with_predicate : Counters → Counters
-with_predicate c = record { names = c.names; types = c.types; predicates = c.predicates + 1; nodes = c.nodes; fields = c.fields; value = c.value; queries = c.queries }
+with_predicate c = record c { predicates = c.predicates + 1 }
 
 abbrev pub with_node : Counters → Counters
-with_node c = record { names = c.names; types = c.types; predicates = c.predicates; nodes = c.nodes + 1; fields = c.fields; value = c.value; queries = c.queries }
+with_node c = record c { nodes = c.nodes + 1 }
 
 -- The nodes start anew.
 abbrev pub with_query : Counters → Counters
@@ -62,7 +63,7 @@ with_query c = record { names = c.names; types = c.types; predicates = c.predica
 -- ---- One line
 
 -- The line at a place has these bytes, and the next one starts at `next`.
-pub record Line (f : List ℕ) (at next : ℕ) (s : List ℕ) : Type 0 where
+pub record LineAt (f : List ℕ) (at next : ℕ) (s : List ℕ) : Type 0 where
   pub is : line_at f at ≡ Some s
   pub on : next ≡ at + 2 * length s + 1
   pub within : next ≤ length f
@@ -82,13 +83,14 @@ pub record Comes (e : Edition) (so : SoFar) (k : Frame.Kind) (s : List ℕ) (fra
   pub is : frame_of e k (drop 1 s) ≡ Some frame
 
 -- How a line ends by the first condition that holds of it, if any.
-abbrev pub Steps : (e : Edition) (f : List ℕ) (next : ℕ) (w' : List ℕ) (kind : Option Frame.Kind) → SoFar → Result Counters Refusal → Option Refused.Refusal → Type 0
-Steps e f next w' kind so r (Some i) = (i' : Refusal) × (r ≡ Err i') × (refusal i' ≡ i)
-Steps e f next w' kind so r None = (c' : Counters) × (r ≡ Ok c') × ((T' : Rows) × Held e f next w' T' c' kind so)
+abbrev pub LineEnds : (e : Edition) (f : List ℕ) (next : ℕ) (w' : List ℕ) (kind : Option Frame.Kind) → SoFar → Result Counters Refusal
+    → Option Refused.Refusal → Type 0
+LineEnds e f next w' kind so r (Some i) = (i' : Refusal) × (r ≡ Err i') × (refusal i' ≡ i)
+LineEnds e f next w' kind so r None = (c' : Counters) × (r ≡ Ok c') × ((T' : Rows) × Held e f next w' T' c' kind so)
 
 pub record Takes (e : Edition) (f : List ℕ) (at : ℕ) (k : Frame.Kind) (s w : List ℕ) (c : Counters) (w' : List ℕ) (r : Result Counters Refusal) : Type 0 where
-  pub is : (next : ℕ) (T : Rows) (previous : Option Frame.Kind) (so : SoFar) (frame : Frame.Frame) → Held e f at w T c previous so → Line f at next s
-      → Comes e so k s frame → Steps e f next w' (Some k) (add so frame) r (first_of conditions so (frames frame))
+  pub is : (next : ℕ) (T : Rows) (previous : Option Frame.Kind) (so : SoFar) (frame : Frame.Frame) → Held e f at w T c previous so → LineAt f at next s
+      → Comes e so k s frame → LineEnds e f next w' (Some k) (add so frame) r (first_of conditions so (frames frame))
 
 -- Wherever the line stands.
 pub record TakesAnywhere (e : Edition) (k : Frame.Kind) (s w : List ℕ) (c : Counters) (w' : List ℕ) (r : Result Counters Refusal) : Type 0 where
@@ -156,8 +158,8 @@ past_of c Frame.query = leb 64 c.queries
 -- The line is refused by the first condition that holds of what it says, or that is added to what was read.
 pub record TakesLine (e : Edition) (f : List ℕ) (at : ℕ) (s w : List ℕ) (c : Counters) (previous : Option Kind) (kind : Kind) (w' : List ℕ)
     (r : Result Counters Refusal) : Type 0 where
-  pub is : (next : ℕ) (T : Rows) (so : SoFar) → Held e f at w T c (known previous) so → Line f at next s → Some (kind_meant kind) ≡ kind_of (get_or s 0 0)
-      → Steps e f next w' (Some (kind_meant kind)) (after so (said_by e (Some s))) r (first_of conditions so (said_by e (Some s)))
+  pub is : (next : ℕ) (T : Rows) (so : SoFar) → Held e f at w T c (known previous) so → LineAt f at next s → Some (kind_meant kind) ≡ kind_of (get_or s 0 0)
+      → LineEnds e f next w' (Some (kind_meant kind)) (after so (said_by e (Some s))) r (first_of conditions so (said_by e (Some s)))
 
 -- ---- All lines
 
@@ -170,12 +172,12 @@ counted w c = sets w NAME-COUNT (counts c)
 
 -- Refused exactly as the definition says, or the schema and the names that the definition describes stand in the slice,
 -- and every type of the file by its number.
-unfoldable pub Ends : Edition → List ℕ → List ℕ → Result (Unit {0}) Refusal → Reading → Type 0
-Ends e f w' r (refused i) = (i' : Refusal) × (r ≡ Err i') × (refusal i' ≡ i)
-Ends e f w' r (described d) = (r ≡ Ok tt) × (16384 ≤ length w') × ((T : Rows) × SchemaStands f w' T d.names d.schema × Declares w' T (types_of e f))
+unfoldable pub ReadingEnds : Edition → List ℕ → List ℕ → Result (Unit {0}) Refusal → Reading → Type 0
+ReadingEnds e f w' r (refused i) = (i' : Refusal) × (r ≡ Err i') × (refusal i' ≡ i)
+ReadingEnds e f w' r (described d) = (r ≡ Ok tt) × (16384 ≤ length w') × ((T : Rows) × SchemaStands f w' T d.names d.schema × Declares w' T (types_of e f))
 
 pub record TakesLines (e : Edition) (f w w' : List ℕ) (r : Result (Unit {0}) Refusal) : Type 0 where
-  pub ends : Ends e f w' r (reading_of e f)
+  pub ends : ReadingEnds e f w' r (reading_of e f)
 
 -- ---- The file
 
@@ -186,11 +188,11 @@ unfolding reading_of min_words
 reading_in e f words = elim (ltb words min_words) [ true ↦ refused Refused.work_too_short | false ↦ reading_of e f ]
 
 pub record ReadsFile (e : Edition) (f w w' : List ℕ) (r : Result (Unit {0}) Refusal) : Type 0 where
-  pub ends : Ends e f w' r (reading_in e f (length w))
+  pub ends : ReadingEnds e f w' r (reading_in e f (length w))
   pub long : length w' ≡ length w
 
 -- The same, with zeros throughout after a refusal.
 pub record Reads (e : Edition) (f w w' : List ℕ) (r : Result (Unit {0}) Refusal) : Type 0 where
-  pub ends : Ends e f w' r (reading_in e f (length w))
+  pub ends : ReadingEnds e f w' r (reading_in e f (length w))
   pub long : length w' ≡ length w
   pub cleared : (i : Refusal) → r ≡ Err i → w' ≡ replicate (length w) 0

@@ -2,7 +2,7 @@
 #![tactic(auto)]
 
 ghost use Rattle.std.specs.Prelude.{◌≡◌, ℕ, ◌+◌, ◌*◌, ◌<◌, ◌≤◌, length, take, drop, IfSome};
-ghost use Rattle.meaning.specs.Frame.{limits};
+ghost use Rattle.format.specs.Frame.{limits};
 ghost use Rattle.frames.specs.Promises.{kind_meant, edition_of};
 ghost use Rattle.reading.specs.Promises.{InEither, TakesAnywhere, full_of, past_of, TakesLine, counted, TakesLines, ReadsFile, Reads};
 

@@ -2,7 +2,7 @@
 ghost use Rattle.std.specs.Prelude.{◌≡◌, ℕ, ◌+◌, ◌<◌, ◌≤◌, length, drop, take, true};
 ghost use Rattle.std.specs.List.{starts_with};
 ghost use Rattle.std.proofs.Math.Dec.{eqb};
-ghost use Rattle.meaning.specs.Frame.{name};
+ghost use Rattle.format.specs.Frame.{name};
 ghost use Rattle.reading.specs.Promises.{eight_at, Unlike, GivenBefore, InEither, Takes};
 
 use crate::{Counters, Line, Refusal};

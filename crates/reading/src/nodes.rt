@@ -1,9 +1,9 @@
 // Node and query lines: what they name.
 ghost use Rattle.std.specs.Prelude.{◌≡◌, ℕ, ◌+◌, ◌<◌, ◌≤◌, length, drop, ltb};
-ghost use Rattle.meaning.specs.Frame.{node, query};
+ghost use Rattle.format.specs.Frame.{node, query};
 ghost use Rattle.reading.specs.Promises.{InEither, TakesAnywhere, TakesThere};
 ghost use Rattle.frames.specs.Promises.{edition_of};
-ghost use Rattle.reading.specs.Marks.{Told, NamesNode, NamesFields, NamesItems, NamesStatements, NamesAll};
+ghost use Rattle.reading.specs.Marks.{ToldWhether, NamesNode, NamesFields, NamesItems, NamesStatements, NamesAll};
 
 use crate::{Counters, Line, Refusal};
 use frames::{Edition, byte, half, reference_size};
@@ -19,7 +19,7 @@ fn past(s: &[u8], n: usize) -> &[u8]
 
 // A name is there: it is a number below their count.
 fn check_name(name: u32, names: u32) -> Result<(), Refusal>
-    ensures { Told (λ b. b ≡ ltb name names) result }
+    ensures { ToldWhether (λ b. b ≡ ltb name names) result }
 {
     if name < names {
         Ok(())
@@ -30,7 +30,7 @@ fn check_name(name: u32, names: u32) -> Result<(), Refusal>
 
 // Marks a node as named: it is there, and was not named before.
 fn name_node(w: &mut [u32], m: u32, nodes: u32) -> Result<(), Refusal>
-    ensures { Told (NamesNode w.old m nodes w.new) result }
+    ensures { ToldWhether (NamesNode w.old m nodes w.new) result }
 {
     let at = work::NODES + wide(m);
     let x = word(w, at);
@@ -43,7 +43,7 @@ fn name_node(w: &mut [u32], m: u32, nodes: u32) -> Result<(), Refusal>
 
 // The fields of a record.
 fn name_fields(fields: &[[u8; 4]], w: &mut [u32], names: u32, nodes: u32) -> Result<(), Refusal>
-    ensures { Told (NamesFields fields.now w.old names nodes w.new) result }
+    ensures { ToldWhether (NamesFields fields.now w.old names nodes w.new) result }
 {
     for field in fields {
         check_name(half(field, 0), names)?;
@@ -54,7 +54,7 @@ fn name_fields(fields: &[[u8; 4]], w: &mut [u32], names: u32, nodes: u32) -> Res
 
 // The branches or operands.
 fn name_items(items: &[[u8; 2]], w: &mut [u32], nodes: u32) -> Result<(), Refusal>
-    ensures { Told (NamesItems items.now w.old nodes w.new) result }
+    ensures { ToldWhether (NamesItems items.now w.old nodes w.new) result }
 {
     for item in items {
         name_node(w, half(item, 0), nodes)?;
@@ -65,7 +65,7 @@ fn name_items(items: &[[u8; 2]], w: &mut [u32], nodes: u32) -> Result<(), Refusa
 // Each takes three bytes or five, so the rest is walked, and not chunks of one size. What they take stands once more in
 // `tree::stmt_size`, in digits, and in crate frames, which refuses the other tags: here an arm names the nodes with it.
 fn name_statements(s: &[u8], w: &mut [u32], nodes: u32) -> Result<(), Refusal>
-    ensures { Told (NamesStatements s.now w.old nodes w.new) result }
+    ensures { ToldWhether (NamesStatements s.now w.old nodes w.new) result }
 {
     let mut rest = s;
     while let [tag, ..] = rest {
@@ -84,7 +84,7 @@ fn name_statements(s: &[u8], w: &mut [u32], nodes: u32) -> Result<(), Refusal>
 
 fn name_all(s: &[u8], w: &mut [u32], c: Counters, edition: Edition) -> Result<(), Refusal>
     requires { 10 ≤ length s.now }
-    ensures { Told (NamesAll (edition_of edition) s.now w.old c.names c.nodes w.new) result }
+    ensures { ToldWhether (NamesAll (edition_of edition) s.now w.old c.names c.nodes w.new) result }
 {
     let rest = past(s, 10);
     // The shape is the file's byte, as in `type_frame` of crate frames.

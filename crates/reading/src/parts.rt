@@ -5,7 +5,7 @@ ghost use Rattle.work.specs.Layout.{FIELDS};
 ghost use Rattle.cells.specs.declared.Kind.{Kind};
 ghost use Rattle.cells.specs.declared.Kind.TheVariants.{Fields, Alternatives};
 ghost use Rattle.cells.specs.Stands.{tag_of, part_words};
-ghost use Rattle.meaning.specs.Conditions.{all_below, among, again};
+ghost use Rattle.format.specs.Conditions.{all_below, among, again};
 ghost use Rattle.frames.specs.Promises.{half_w, full_w};
 ghost use Rattle.reading.specs.Parts.{size_of, words_w, names_of, types_of, is_early, keys_of, words_of};
 

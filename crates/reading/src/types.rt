@@ -1,6 +1,6 @@
 // Schema type and predicate lines.
 ghost use Rattle.std.specs.Prelude.{◌≡◌, ◌<◌, ◌≤◌, length};
-ghost use Rattle.meaning.specs.Frame.{schema_type, predicate};
+ghost use Rattle.format.specs.Frame.{schema_type, predicate};
 ghost use Rattle.frames.specs.Promises.{edition_of};
 ghost use Rattle.reading.specs.Parts.{shape_of};
 ghost use Rattle.reading.specs.Promises.{InEither, TakesAnywhere, AddsType, TakesType, AddsPredicate};

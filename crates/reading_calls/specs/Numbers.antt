@@ -1,7 +1,7 @@
 -- How the reading's answer goes as a number: 0, or document 01's number of the refusal.
 use Rattle.std.specs.Prelude.{List, ◌≡◌, ℕ, Err, Ok, Result}
-use Rattle.meaning.specs.Refusal.{number}
-use Rattle.meaning.specs.Frame.{wide}
+use Rattle.format.specs.Refusal.{number}
+use Rattle.format.specs.Frame.{wide}
 use Rattle.reading.specs.Promises.{refusal, Reads}
 use Rattle.reading.specs.declared.Refusal.{Refusal}
 

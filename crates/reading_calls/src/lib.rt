@@ -15,6 +15,6 @@ pub extern "C" fn sigla_read(file: &[u8], work: &mut [u32]) -> u8
 {
     match reading::read_or_clear(file, work, Edition::Wide) {
         Ok(()) => 0,
-        Err(e) => desk::refusal_number(e),
+        Err(e) => driver::refusal_number(e),
     }
 }

@@ -11,29 +11,29 @@ use Rattle.work.specs.Layout.{END}
 use Rattle.cells.specs.CodeCalls.{untyped, CodeCalls, none_yet}
 use Rattle.cells.proofs.Frame.{more_refl}
 use Rattle.cells.proofs.CodeCalls.{declared_permitted}
-use Rattle.meaning.specs.Frame.{wide}
-use Rattle.meaning.specs.File.{Described, Form, view_of, view_at, described, reading, types_of}
-use Rattle.meaning.specs.Conditions.{max_names, max_predicates}
+use Rattle.format.specs.Frame.{wide}
+use Rattle.format.specs.File.{Described, Form, view_of, view_at, described, reading, types_of}
+use Rattle.format.specs.Conditions.{max_names, max_predicates}
 use Rattle.meaning.specs.Check as Check
 use Rattle.meaning.specs.Outcome.{min_words}
-use Rattle.meaning.specs.Sound.{Sound}
-use Rattle.meaning.proofs.Sound.{sound_at}
+use Rattle.format.specs.Sound.{Sound}
+use Rattle.format.proofs.Sound.{sound_at}
 use Rattle.tree.specs.Stands.{Stands}
 use Rattle.state.specs.declared.Until.{Until}
 use Rattle.state.proofs.Standing.{cells_start, schema_stands}
 use Rattle.steps.specs.Outside.{StartsRun}
 use Rattle.calls.specs.Beginning.{begun_w}
 use Rattle.calls.proofs.Beginning.{declares_kept, begun_keeps, begun_records, begun_fields, list_begins}
-use Rattle.reading.specs.Promises.{Ends, reading_in, ReadsFile}
+use Rattle.reading.specs.Promises.{ReadingEnds, reading_in, ReadsFile}
 use Rattle.runs.specs.Beginning.{SameSchema, AfterReading}
 use Rattle.std.specs.Prelude.{Ok}
 
 -- `read_file` leaves it, where it accepts.
 pub accepted : {f w₀ w : List ℕ} {form : Form} → min_words ≤ length w₀ → reading f ≡ described form → ReadsFile wide f w₀ w (Ok tt)
     → AfterReading f w form
-unfolding Ends reading_in min_words
+unfolding ReadingEnds reading_in min_words
 accepted {f} {w₀} {w} {form} enough is R =
-    let x : Ends wide f w (Ok tt) (described form) = subst (Ends wide f w (Ok tt)) (past ∙ is) R.ends in
+    let x : ReadingEnds wide f w (Ok tt) (described form) = subst (ReadingEnds wide f w (Ok tt)) (past ∙ is) R.ends in
     record { long = x.1; rows = x.2.0; schema = x.2.1; types = x.2.2 }
   where
     past : reading_in wide f (length w₀) ≡ reading f

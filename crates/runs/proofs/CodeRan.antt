@@ -3,10 +3,10 @@ use mathlib.Core.List.{List}
 use Prim.Native.Nat.{ℕ}
 use Rattle.unification.specs.Ty as Tree
 use Rattle.cells.specs.Stands.{Rows}
-use Rattle.meaning.specs.File.{Described}
+use Rattle.format.specs.File.{Described}
 use Rattle.meaning.specs.Check.{Step, goes, out, begin}
 use Rattle.meaning.specs.Run.{run}
-use Rattle.meaning.specs.Sound.{Sound}
+use Rattle.format.specs.Sound.{Sound}
 use Rattle.meaning.proofs.Run.{sound_well_formed, run_demand_3, run_robinson}
 use Rattle.tree.specs.Stands.{Stands}
 use Rattle.state.specs.declared.Until.TheVariants as Until

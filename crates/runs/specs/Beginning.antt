@@ -3,8 +3,8 @@ use Rattle.std.specs.Prelude.{List, ◌≡◌, ℕ, ◌<◌, ◌≤◌, length, 
 use Rattle.work.specs.Layout.{NODE-COUNT, QUERY, NODES}
 use Rattle.cells.specs.Stands.{Rows}
 use Rattle.cells.specs.CodeCalls.{Declares}
-use Rattle.meaning.specs.Frame.{wide}
-use Rattle.meaning.specs.File.{Form, types_of}
+use Rattle.format.specs.Frame.{wide}
+use Rattle.format.specs.File.{Form, types_of}
 use Rattle.meaning.specs.Outcome.{min_words}
 use Rattle.tree.specs.Stands.{SchemaStands}
 

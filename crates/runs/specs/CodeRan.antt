@@ -3,7 +3,7 @@
 use Rattle.std.specs.Prelude.{List, ◌≡◌, ℕ, None, Option, Some}
 use Rattle.unification.specs.Ty as Tree
 use Rattle.cells.specs.Stands.{Rows, Holds}
-use Rattle.meaning.specs.File.{Described}
+use Rattle.format.specs.File.{Described}
 use Rattle.meaning.specs.Check.{Step, goes, out}
 use Rattle.meaning.specs.Run.{run, RunDemand3, RunAsRobinson}
 

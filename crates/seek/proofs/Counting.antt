@@ -6,11 +6,11 @@ use Prim.Native.Nat.{ℕ, ◌+◌, ◌-◌, ◌<◌, ◌≤◌}
 use native.Mathlib.Omega.{arith}
 use lib.ListN.{length}
 use Rattle.unification.specs.Ty.{Ty}
-use Rattle.unification.specs.Calls.{Entry}
+use Rattle.unification.specs.Calls.{UnifyEntry}
 use Rattle.unification.proofs.Tests.{clash}
-use Rattle.meaning.specs.Syntax.{Ast}
-use Rattle.meaning.specs.Schema.{Schema, get}
-use Rattle.meaning.specs.Refusal.{too_many_visits}
+use Rattle.format.specs.Syntax.{Ast}
+use Rattle.format.specs.Schema.{Schema, get}
+use Rattle.format.specs.Refusal.{too_many_visits}
 use Rattle.meaning.specs.Check.{Until, Checker, goes, out, begin, begin_until, query, Typed, Checked, typed, exhausted, checked, check}
 use Rattle.meaning.specs.Run.{ending, run}
 use Rattle.meaning.specs.Outcome.{max_visits, with_checked, run_all}
@@ -25,7 +25,7 @@ use Rattle.std.specs.Prelude.{None, Option, Some}
 -- ---- What is left
 
 -- An entry, unless a query that is still to be run runs out of visits.
-unfoldable pub unless_out : Option Entry → Option (List Typed) → Sought
+unfoldable pub unless_out : Option UnifyEntry → Option (List Typed) → Sought
 unfolding among
 unless_out o None = turned_down too_many_visits
 unless_out o (Some ts) = among o
@@ -35,7 +35,7 @@ unfolding sought_run unless_out
 sought_is schema qs n None = refl
 sought_is schema qs n (Some ts) = refl
 
-unless_typed : (o : Option Entry) (t : Typed) (x : Option (List Typed)) → unless_out o (with_checked (typed t) x) ≡ unless_out o x
+unless_typed : (o : Option UnifyEntry) (t : Typed) (x : Option (List Typed)) → unless_out o (with_checked (typed t) x) ≡ unless_out o x
 unfolding unless_out with_checked
 unless_typed o t None = refl
 unless_typed o t (Some ts) = refl
@@ -56,7 +56,7 @@ module _ (schema : Schema) (a : Ast) (qs : List Ast) where
         go exhausted q = clash (cc q)
         go (typed t) q = (t, ap (λ s. with_checked (checked max_visits s) (run_all schema qs)) e ∙ ap (λ x. with_checked x (run_all schema qs)) q)
 
-    left_by : (o : Option Entry) → unless_out o (run_all schema (a ∷ qs)) ≡ unless_out o (run_all schema qs)
+    left_by : (o : Option UnifyEntry) → unless_out o (run_all schema (a ∷ qs)) ≡ unless_out o (run_all schema qs)
     left_by o = let r = goes_first in ap (unless_out o) r.1 ∙ unless_typed o r.0 (run_all schema qs)
 
     pub in_first : (n : ℕ) → n < length c.entries
@@ -73,7 +73,7 @@ module _ (schema : Schema) (a : Ast) (qs : List Ast) where
     in_later n h =
         let k : n ≡ length (entries_of schema a) + (n - length c.entries) = omega (arith, entries_many schema a ty c e) in
         left_by (nth (entries_all schema (a ∷ qs)) n) ∙ ap (λ o. unless_out o (run_all schema qs))
-        (ap {B = Option Entry} (λ m. nth (entries_of schema a ++ entries_all schema qs) m) k
+        (ap {B = Option UnifyEntry} (λ m. nth (entries_of schema a ++ entries_all schema qs) m) k
         ∙ nth_later (entries_of schema a) (entries_all schema qs) (n - length c.entries))
 
 -- ---- What a run is to last until

@@ -3,27 +3,27 @@ use Rattle.std.proofs.Common.{List, [], ◌∷◌, ◌≡◌, ℕ, ◌-◌, ◌�
 use Rattle.std.specs.Prelude.{Err, None, Ok, Option, Result, Some}
 use Rattle.reading.specs.declared.Refusal.{Refusal}
 use Rattle.unification.specs.Ty as Tree
-use Rattle.unification.specs.Calls.{Entry}
+use Rattle.unification.specs.Calls.{UnifyEntry}
 use Rattle.unification.proofs.Tests.{clash}
 use Rattle.cells.specs.Stands.{Rows}
-use Rattle.meaning.specs.Syntax.{Ast}
-use Rattle.meaning.specs.All.{All}
-use Rattle.meaning.specs.Frame.{wide}
-use Rattle.meaning.specs.File.{Form, view_of, described, reading}
-use Rattle.meaning.specs.Sound.{Sound}
+use Rattle.format.specs.Syntax.{Ast}
+use Rattle.format.specs.All.{All}
+use Rattle.format.specs.Frame.{wide}
+use Rattle.format.specs.File.{Form, view_of, described, reading}
+use Rattle.format.specs.Sound.{Sound}
 use Rattle.meaning.specs.Check.{Checker, Step, goes, out, Typed}
 use Rattle.meaning.specs.Run.{run}
 use Rattle.meaning.specs.Outcome.{min_words, max_visits, run_all}
-use Rattle.meaning.specs.Refusal.{too_many_visits}
-use Rattle.meaning.proofs.Sound.{sound}
-use Rattle.meaning.proofs.Content.{says_exactly}
+use Rattle.format.specs.Refusal.{too_many_visits}
+use Rattle.format.proofs.Sound.{sound}
+use Rattle.format.proofs.Content.{says_exactly}
 use Rattle.entries.proofs.Entries.{entries_many}
 use Rattle.entries.specs.Entries as Defined
 use Rattle.entries.specs.Entries.{entries_of, entries_all, nth, fewer, turned_down, among, sought_run}
 use Rattle.tree.specs.Stands.{SchemaStands}
 use Rattle.loading.specs.Promises.{Ahead}
 use Rattle.loading.proofs.Lines.{query_ahead, all_ahead}
-use Rattle.seek.specs.Promises.{SchemaIn, Turned, Turns, RanOn, RunsOn, Within, Places}
+use Rattle.seek.specs.Promises.{SchemaIn, EntriesCounted, CountsEntries, RanOn, RunsOn, SoughtHere, Places}
 use Rattle.seek.proofs.Running.{ok_parts}
 use Rattle.seek.proofs.Counting.{unless_out, sought_is, out_first, in_first, in_later}
 
@@ -66,7 +66,7 @@ module _ {f : List ℕ} {n : ℕ} {w₀ w : List ℕ} {at rest : ℕ} (P : Placi
       go form [] a p = p
       go form (y ∷ qs) a p = absurd (omega (arith, query_ahead a))
 
-  module _ (here : at < length f) {w₁ : List ℕ} {t : Result (ℕ × ℕ) Refusal} (G : Turns f at w w₁ t) where
+  module _ (here : at < length f) {w₁ : List ℕ} {t : Result (ℕ × ℕ) Refusal} (G : CountsEntries f at w w₁ t) where
     -- The query that is run, and what is left after it.
     record First (form : Form) (x : Defined.Sought) : Type 0 where
       a : Ast
@@ -75,7 +75,7 @@ module _ {f : List ℕ} {n : ℕ} {w₀ w : List ℕ} {at rest : ℕ} (P : Placi
       sound : All (λ a. Sound (view_of form a)) qs
       ahead : Ahead f at (a ∷ qs)
       is : x ≡ unless_out (nth (entries_all form.schema (a ∷ qs)) rest) (run_all form.schema (a ∷ qs))
-      turned : Turned f w₁ form qs t (run form.schema a max_visits)
+      turned : EntriesCounted f w₁ form qs t (run form.schema a max_visits)
 
     first : (T : Rows) (form : Form) → reading f ≡ described form → min_words ≤ length w₀ → SchemaStands f w₀ T form.names form.schema
         → First form (sought form n)
@@ -89,13 +89,13 @@ module _ {f : List ℕ} {n : ℕ} {w₀ w : List ℕ} {at rest : ℕ} (P : Placi
             record { a = y; qs = qs; fine = s.0; sound = s.1; ahead = a; is = p; turned = G.is b.stands.0 form y qs s.0 enough b.stands.1 a }
 
     pub place_out : {fault : Refusal} → t ≡ Err fault → Places f n w₀ w₁ (Err fault)
-    unfolding Turned unless_out
+    unfolding EntriesCounted unless_out
     place_out {fault} e = record {
       is = λ T form q l S. let b = first T form q l S in go b (run form.schema b.a max_visits) refl b.turned;
       words = G.words ∙ P.words;
     }
       where
-        go : {form : Form} {x : Defined.Sought} (b : First form x) (s : Step Tree.Ty) → run form.schema b.a max_visits ≡ s → Turned f w₁ form b.qs t s
+        go : {form : Form} {x : Defined.Sought} (b : First form x) (s : Step Tree.Ty) → run form.schema b.a max_visits ≡ s → EntriesCounted f w₁ form b.qs t s
             → (fault ≡ Refusal.TooManyVisits) × (x ≡ turned_down too_many_visits)
         go b (goes ty c) q h = clash (cc (h.1, e))
         go {form} b (out c) q h =
@@ -103,14 +103,14 @@ module _ {f : List ℕ} {n : ℕ} {w₀ w : List ℕ} {at rest : ℕ} (P : Placi
 
     module _ {next m : ℕ} (e : t ≡ Ok (next, m)) where
       pub place_next : m ≤ rest → Placing f n w₀ w₁ next (rest - m)
-      unfolding Turned
+      unfolding EntriesCounted
       place_next before = record {
         words = G.words ∙ P.words;
         is = λ T form q l S. let b = first T form q l S in go b (run form.schema b.a max_visits) refl b.turned;
       }
         where
           go : {form : Form} {x : Defined.Sought} (b : First form x) (s : Step Tree.Ty) → run form.schema b.a max_visits ≡ s
-              → Turned f w₁ form b.qs t s → Left f w₁ form next (rest - m) x
+              → EntriesCounted f w₁ form b.qs t s → Left f w₁ form next (rest - m) x
           go {form} b (goes ty c) q h =
               let place : h.0 ≡ next = (ok_parts (sym h.1 ∙ e)).0 in
               let count : length c.entries ≡ m = (ok_parts (sym h.1 ∙ e)).1 in
@@ -136,10 +136,10 @@ module _ {f : List ℕ} {n : ℕ} {w₀ w : List ℕ} {at rest : ℕ} (P : Placi
 
         here_is : (T : Rows) (form : Form) → reading f ≡ described form → min_words ≤ length w₀ → SchemaStands f w₀ T form.names form.schema
             → Here form (sought form n)
-        unfolding Turned
+        unfolding EntriesCounted
         here_is T form q l S = let b = first T form q l S in go b (run form.schema b.a max_visits) refl b.turned
           where
-            go : (b : First form (sought form n)) (s : Step Tree.Ty) → run form.schema b.a max_visits ≡ s → Turned f w₁ form b.qs t s
+            go : (b : First form (sought form n)) (s : Step Tree.Ty) → run form.schema b.a max_visits ≡ s → EntriesCounted f w₁ form b.qs t s
                 → Here form (sought form n)
             go b (goes ty c) q h =
                 let place : h.0 ≡ next = (ok_parts (sym h.1 ∙ e)).0 in
@@ -166,7 +166,7 @@ module _ {f : List ℕ} {n : ℕ} {w₀ w : List ℕ} {at rest : ℕ} (P : Placi
           words = O.words ∙ G.words ∙ P.words;
         }
           where
-            go : (form : Form) (d : Option Entry) (o : Option (List Typed)) → RanOn f w₂ form r o
+            go : (form : Form) (d : Option UnifyEntry) (o : Option (List Typed)) → RanOn f w₂ form r o
                 → (fault ≡ Refusal.TooManyVisits) × (unless_out d o ≡ turned_down too_many_visits)
             go form d None h = (cc (h, z), refl)
             go form d (Some ts) h = clash (cc (h.0, z))
@@ -181,7 +181,7 @@ module _ {f : List ℕ} {n : ℕ} {w₀ w : List ℕ} {at rest : ℕ} (P : Placi
         }
           where
             go : {form : Form} {x : Defined.Sought} (y : Here form x) (o : Option (List Typed))
-                → x ≡ unless_out (nth (entries_of form.schema y.first.a) rest) o → RanOn f w₂ form r o → Within f w₂ form at rest x
+                → x ≡ unless_out (nth (entries_of form.schema y.first.a) rest) o → RanOn f w₂ form r o → SoughtHere f w₂ form at rest x
             go y None p h = clash (cc (h, z))
             go {form} y (Some ts) p h = record {
               query = y.first.a;

@@ -5,33 +5,34 @@ use Prim.Native.Nat.{ℕ}
 use lib.Dec.{ltb}
 use lib.ListN.{length}
 use Rattle.unification.proofs.Tests.{clash}
-use Rattle.meaning.specs.Frame.{wide}
-use Rattle.meaning.specs.Refusal as Meaning
-use Rattle.meaning.specs.File.{Form, Reading, refused, described, reading}
+use Rattle.format.specs.Frame.{wide}
+use Rattle.format.specs.Refusal as Meaning
+use Rattle.format.specs.File.{Form, Reading, refused, described, reading}
 use Rattle.meaning.specs.Outcome.{min_words, run_all}
-use Rattle.meaning.proofs.Tests.{cases}
+use Rattle.format.proofs.Tests.{cases}
 use Rattle.entries.specs.Entries.{sought_run, sought_read, entry_at}
-use Rattle.reading.specs.Promises.{refusal, Ends, reading_in, ReadsFile}
+use Rattle.reading.specs.Promises.{refusal, ReadingEnds, reading_in, ReadsFile}
 use Rattle.reading.specs.declared.Refusal.{Refusal}
-use Rattle.seek.specs.Promises.{Places, Told, Stops, Finds, Seeks}
+use Rattle.seek.specs.Promises.{Places, ToldSought, StopsAtEntry, Finds, Seeks}
 use Rattle.std.specs.Prelude.{Err, None, Ok, Option, Result, Some}
 use Rattle.cells.specs.declared.Ty.{Ty}
 
 -- ---- Of a file that was read
 
 module _ {f : List ℕ} {n : ℕ} {w w₁ : List ℕ} where
-  pub find_at : {at rest : ℕ} → Places f n w w₁ (Ok (Some (at, rest))) → {w₂ : List ℕ} {r : Ty × Ty} → Stops f at rest w₁ w₂ r → Finds f n w w₂ (Ok (Some r))
+  pub find_at : {at rest : ℕ} → Places f n w w₁ (Ok (Some (at, rest))) → {w₂ : List ℕ} {r : Ty × Ty} → StopsAtEntry f at rest w₁ w₂ r
+      → Finds f n w w₂ (Ok (Some r))
   find_at P S = record {
     is = λ T form q l s. S.is form (sought_run form.schema form.queries n (run_all form.schema form.queries)) (rw P.words l) (P.is T form q l s);
     words = S.words ∙ P.words;
   }
 
   pub find_fewer : Places f n w w₁ (Ok None) → Finds f n w w₁ (Ok None)
-  find_fewer P = record { is = λ T form q l s. subst (Told w₁ (Ok None)) (sym (P.is T form q l s)) refl; words = P.words }
+  find_fewer P = record { is = λ T form q l s. subst (ToldSought w₁ (Ok None)) (sym (P.is T form q l s)) refl; words = P.words }
 
   pub find_out : {e : Refusal} → Places f n w w₁ (Err e) → Finds f n w w₁ (Err e)
   find_out {e} P = record {
-    is = λ T form q l s. let h = P.is T form q l s in subst (Told w₁ (Err e)) (sym h.1) (e, refl, ap refusal h.0);
+    is = λ T form q l s. let h = P.is T form q l s in subst (ToldSought w₁ (Err e)) (sym h.1) (e, refl, ap refusal h.0);
     words = P.words;
   }
 
@@ -49,23 +50,23 @@ enough_words f words d e = cases (ltb words min_words)
 
 module _ {f w w₁ : List ℕ} {x : Result (Unit {0}) Refusal} (h : ReadsFile wide f w w₁ x) where
   pub not_read : {e : Refusal} (n : ℕ) → x ≡ Err e → Seeks f n w w₁ (Err e)
-  unfolding Ends sought_read
+  unfolding ReadingEnds sought_read
   not_read {e} n q = record {
-    is = subst (Told w₁ (Err e)) (sym (sought_by f n (length w))) (go (reading_in wide f (length w)) h.ends);
+    is = subst (ToldSought w₁ (Err e)) (sym (sought_by f n (length w))) (go (reading_in wide f (length w)) h.ends);
     words = h.long;
   }
     where
-      go : (y : Reading) → Ends wide f w₁ x y → Told w₁ (Err e) (sought_read n y)
+      go : (y : Reading) → ReadingEnds wide f w₁ x y → ToldSought w₁ (Err e) (sought_read n y)
       go (refused i) g = let same : e ≡ g.0 = cc (q, g.1) in (e, refl, ap refusal same ∙ g.2)
       go (described d) g = clash (cc (q, g.0))
 
   pub was_read : {n : ℕ} {w₂ : List ℕ} {r : Result (Option (Ty × Ty)) Refusal} → x ≡ Ok tt → Finds f n w₁ w₂ r → Seeks f n w w₂ r
-  unfolding Ends sought_read min_words
+  unfolding ReadingEnds sought_read min_words
   was_read {n} {w₂} {r} q F = record {
-    is = subst (Told w₂ r) (sym (sought_by f n (length w))) (go (reading_in wide f (length w)) refl h.ends);
+    is = subst (ToldSought w₂ r) (sym (sought_by f n (length w))) (go (reading_in wide f (length w)) refl h.ends);
     words = F.words ∙ h.long;
   }
     where
-      go : (y : Reading) → reading_in wide f (length w) ≡ y → Ends wide f w₁ x y → Told w₂ r (sought_read n y)
+      go : (y : Reading) → reading_in wide f (length w) ≡ y → ReadingEnds wide f w₁ x y → ToldSought w₂ r (sought_read n y)
       go (refused i) e g = clash (cc (q, g.1))
       go (described d) e g = F.is g.2.0 d (enough_words f (length w) d e) g.1 g.2.1

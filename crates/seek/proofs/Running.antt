@@ -10,10 +10,10 @@ use Rattle.unification.specs.Ty as Tree
 use Rattle.unification.proofs.Tests.{clash}
 use Rattle.work.specs.Layout.{ENTERED}
 use Rattle.cells.specs.Stands.{Rows}
-use Rattle.meaning.specs.Syntax.{Ast}
-use Rattle.meaning.specs.All.{All}
-use Rattle.meaning.specs.File.{Form, view_of}
-use Rattle.meaning.specs.Sound.{Sound}
+use Rattle.format.specs.Syntax.{Ast}
+use Rattle.format.specs.All.{All}
+use Rattle.format.specs.File.{Form, view_of}
+use Rattle.format.specs.Sound.{Sound}
 use Rattle.meaning.specs.Check.{Step, goes, out, the_end, begin, Typed, typed}
 use Rattle.meaning.specs.Run.{run}
 use Rattle.meaning.specs.Outcome.{min_words, max_visits, with_checked, run_all}
@@ -24,7 +24,7 @@ use Rattle.state.specs.declared.Until.TheVariants as Until
 use Rattle.checker.specs.Promises.{Ran, to_the_end, ended_early, run_until, Queries}
 use Rattle.loading.specs.Promises.{Ahead, Loads}
 use Rattle.loading.proofs.Lines.{query_ahead}
-use Rattle.seek.specs.Promises.{SchemaIn, Turned, Turns, RanOn, RunsOn}
+use Rattle.seek.specs.Promises.{SchemaIn, EntriesCounted, CountsEntries, RanOn, RunsOn}
 use Rattle.seek.proofs.Counting.{out_first, goes_first}
 
 -- ---- What comes through a `?`
@@ -63,8 +63,8 @@ module _ {f w w₁ o w₂ o' : List ℕ} {at next : ℕ} {x : Option ℕ} (L : L
   unfolding view_of
   ran T form a qs s l S A = rw (sym (run_is form a)) (Q.is T (view_of form a) s (L.stands T (view_of form a) qs s l S A))
 
-  pub query_on : {left m : ℕ} → x ≡ Some left → m ≡ get_or w₂ ENTERED 0 → Turns f at w w₂ (Ok (next, m))
-  unfolding Turned view_of max_visits
+  pub query_on : {left m : ℕ} → x ≡ Some left → m ≡ get_or w₂ ENTERED 0 → CountsEntries f at w w₂ (Ok (next, m))
+  unfolding EntriesCounted view_of max_visits
   query_on {left} {m} e count = record {
     is = λ T form a qs s l S A. go form a qs (L.ahead (view_of form a) qs s l A) (run form.schema a max_visits) refl (ran T form a qs s l S A);
     onward = λ n k q. let same : n ≡ next = sym (ok_parts q).0 in rw same (L.onward, L.within);
@@ -72,21 +72,22 @@ module _ {f w w₁ o w₂ o' : List ℕ} {at next : ℕ} {x : Option ℕ} (L : L
   }
     where
       go : (form : Form) (a : Ast) (qs : List Ast) → Ahead f next qs → (s : Step Tree.Ty) → run form.schema a max_visits ≡ s → Ran f w₂ o' (view_of form a) x s
-          → Turned f w₂ form qs (Ok (next, m)) s
+          → EntriesCounted f w₂ form qs (Ok (next, m)) s
       go form a qs A (goes ty c) q (to_the_end T R t p) =
           let few : length c.entries ≤ 1048576 = run_few form.schema a max_visits ty c q in
           (next, ap (λ m. Ok (next, m)) (count ∙ t.entered ∙ capped_few (length c.entries) few), A, (T, R.stands.schema))
       go form a qs A (out c) q (ended_early T R t k p) = clash (cc (e, p))
 
-  pub query_out : x ≡ None → Turns f at w w₂ (Err Refusal.TooManyVisits)
-  unfolding Turned
+  pub query_out : x ≡ None → CountsEntries f at w w₂ (Err Refusal.TooManyVisits)
+  unfolding EntriesCounted
   query_out e = record {
     is = λ T form a qs s l S A. go form a qs (run form.schema a max_visits) (ran T form a qs s l S A);
     onward = λ n k q. clash (cc q);
     words = Q.words ∙ L.words.long;
   }
     where
-      go : (form : Form) (a : Ast) (qs : List Ast) (s : Step Tree.Ty) → Ran f w₂ o' (view_of form a) x s → Turned f w₂ form qs (Err Refusal.TooManyVisits) s
+      go : (form : Form) (a : Ast) (qs : List Ast) (s : Step Tree.Ty) → Ran f w₂ o' (view_of form a) x s
+          → EntriesCounted f w₂ form qs (Err Refusal.TooManyVisits) s
       go form a qs (goes ty c) (to_the_end T R t p) = clash (cc (e, p))
       go form a qs (out c) (ended_early T R t k p) = refl
 
@@ -111,7 +112,8 @@ run_start f from w = record {
   is = λ T form qs s l S A. record { qs = qs; sound = s; ahead = A; stands = (T, S); back = λ b w' r. r };
 }
 
-typed_on : (f w : List ℕ) (form : Form) (b : Result (Unit {0}) Refusal) (t : Typed) (o : Option (List Typed)) → RanOn f w form b o → RanOn f w form b (with_checked (typed t) o)
+typed_on : (f w : List ℕ) (form : Form) (b : Result (Unit {0}) Refusal) (t : Typed) (o : Option (List Typed)) → RanOn f w form b o
+    → RanOn f w form b (with_checked (typed t) o)
 unfolding RanOn with_checked
 typed_on f w form b t None r = r
 typed_on f w form b t (Some ts) r = r
@@ -129,21 +131,22 @@ module _ {f : List ℕ} {from : ℕ} {w₀ w : List ℕ} {at : ℕ} (R : Running
       go b [] a k = k (Ok tt) w (refl, b.stands)
       go b (x ∷ qs) a k = absurd (omega (arith, query_ahead a))
 
-  module _ (here : at < length f) {w₁ : List ℕ} {t : Result (ℕ × ℕ) Refusal} (G : Turns f at w w₁ t) where
+  module _ (here : at < length f) {w₁ : List ℕ} {t : Result (ℕ × ℕ) Refusal} (G : CountsEntries f at w w₁ t) where
     pub run_next : {next m : ℕ} → t ≡ Ok (next, m) → Running f from w₀ w₁ next
-    unfolding Turned
+    unfolding EntriesCounted
     run_next {next} {m} e = record {
       words = G.words ∙ R.words;
       is = λ T form qs s l S A. let b = R.is T form qs s l S A in go b (omega (arith, R.words, l)) b.qs b.sound b.ahead b.back;
     }
       where
         go : {form : Form} {o : Option (List Typed)} → Left f w form at o → min_words ≤ length w → (qs : List Ast) → All (λ a. Sound (view_of form a)) qs
-            → Ahead f at qs → ((b : Result (Unit {0}) Refusal) (w' : List ℕ) → RanOn f w' form b (run_all form.schema qs) → RanOn f w' form b o) → Left f w₁ form next o
+            → Ahead f at qs → ((b : Result (Unit {0}) Refusal) (w' : List ℕ) → RanOn f w' form b (run_all form.schema qs) → RanOn f w' form b o)
+            → Left f w₁ form next o
         go b l [] s a k = absurd (omega (arith, a.ended refl))
         go {form} {o} b l (x ∷ qs) s a k =
             step (run form.schema x max_visits) refl (G.is b.stands.0 form x qs s.0 l b.stands.1 a)
           where
-            step : (y : Step Tree.Ty) → run form.schema x max_visits ≡ y → Turned f w₁ form qs t y → Left f w₁ form next o
+            step : (y : Step Tree.Ty) → run form.schema x max_visits ≡ y → EntriesCounted f w₁ form qs t y → Left f w₁ form next o
             step (goes ty c) q h =
                 let same : h.0 ≡ next = (ok_parts (sym h.1 ∙ e)).0 in
                 let g = goes_first form.schema x qs q in
@@ -157,19 +160,20 @@ module _ {f : List ℕ} {from : ℕ} {w₀ w : List ℕ} {at : ℕ} (R : Running
             step (out c) q h = clash (cc (h, e))
 
     pub run_out : {fault : Refusal} → t ≡ Err fault → RunsOn f from w₀ w₁ (Err fault)
-    unfolding Turned RanOn
+    unfolding EntriesCounted RanOn
     run_out {fault} e = record {
       is = λ T form qs s l S A. let b = R.is T form qs s l S A in go b (omega (arith, R.words, l)) b.qs b.sound b.ahead b.back;
       words = G.words ∙ R.words;
     }
       where
         go : {form : Form} {o : Option (List Typed)} → Left f w form at o → min_words ≤ length w → (qs : List Ast) → All (λ a. Sound (view_of form a)) qs
-            → Ahead f at qs → ((b : Result (Unit {0}) Refusal) (w' : List ℕ) → RanOn f w' form b (run_all form.schema qs) → RanOn f w' form b o) → RanOn f w₁ form (Err fault) o
+            → Ahead f at qs → ((b : Result (Unit {0}) Refusal) (w' : List ℕ) → RanOn f w' form b (run_all form.schema qs) → RanOn f w' form b o)
+            → RanOn f w₁ form (Err fault) o
         go b l [] s a k = absurd (omega (arith, a.ended refl))
         go {form} {o} b l (x ∷ qs) s a k =
             step (run form.schema x max_visits) refl (G.is b.stands.0 form x qs s.0 l b.stands.1 a)
           where
-            step : (y : Step Tree.Ty) → run form.schema x max_visits ≡ y → Turned f w₁ form qs t y → RanOn f w₁ form (Err fault) o
+            step : (y : Step Tree.Ty) → run form.schema x max_visits ≡ y → EntriesCounted f w₁ form qs t y → RanOn f w₁ form (Err fault) o
             step (goes ty c) q h = clash (cc (h.1, e))
             step (out c) q h =
                 let same : fault ≡ Refusal.TooManyVisits = cc in

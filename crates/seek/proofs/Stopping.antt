@@ -5,14 +5,14 @@ use Prim.Native.Nat.{ℕ, ◌+◌, ◌≤◌, ◌<◌}
 use native.Mathlib.Omega.{arith}
 use lib.ListN.{length, get_or}
 use Rattle.unification.specs.Ty as Tree
-use Rattle.unification.specs.Calls.{Entry}
+use Rattle.unification.specs.Calls.{UnifyEntry}
 use Rattle.unification.proofs.Tests.{clash}
 use Rattle.work.specs.Layout.{GOT, EXPECTED}
 use Rattle.cells.specs.declared.Ty.{Ty}
 use Rattle.cells.specs.Words.{ty_w}
 use Rattle.cells.specs.Stands.{Rows}
-use Rattle.meaning.specs.Syntax.{Ast}
-use Rattle.meaning.specs.File.{Form, view_of}
+use Rattle.format.specs.Syntax.{Ast}
+use Rattle.format.specs.File.{Form, view_of}
 use Rattle.meaning.specs.Check as Check
 use Rattle.meaning.specs.Check.{Checker, Step, goes, out, begin_until, query}
 use Rattle.meaning.specs.Run.{ending}
@@ -20,11 +20,11 @@ use Rattle.meaning.specs.Outcome.{min_words, max_visits}
 use Rattle.entries.specs.Entries as Defined
 use Rattle.entries.specs.Entries.{entries_of, nth, found, among}
 use Rattle.entries.proofs.Entries.{StopsAt, stops_at}
-use Rattle.state.specs.Lines.{side_w, Sides, AtEntry}
+use Rattle.state.specs.Lines.{side_w, EntrySides, AtEntry}
 use Rattle.state.specs.declared.Until.TheVariants as Until
 use Rattle.checker.specs.Promises.{Ran, ended_early, run_until, Queries}
 use Rattle.loading.specs.Promises.{Loads}
-use Rattle.seek.specs.Promises.{Within, Told, Stops}
+use Rattle.seek.specs.Promises.{SoughtHere, ToldSought, StopsAtEntry}
 use Rattle.seek.proofs.Counting.{until_kept}
 use Rattle.std.specs.Prelude.{Ok, Option, Some}
 
@@ -33,10 +33,11 @@ pub side_is : (w : List ℕ) (at : ℕ) {tag payload : ℕ} {t : Ty} → t ≡ t
 unfolding side_w
 side_is w at e p q = rw (e, p, q)
 
-sides_of : (w : List ℕ) (T : Rows) {n : ℕ} {e : Entry} {older : List Entry} (u : Check.Until) (es : List Entry) → AtEntry w T u es → u ≡ Check.entry n
-    → es ≡ e ∷ older → length older ≡ n → Sides w T (e ∷ older)
+sides_of : (w : List ℕ) (T : Rows) {n : ℕ} {e : UnifyEntry} {older : List UnifyEntry} (u : Check.Until) (es : List UnifyEntry) → AtEntry w T u es
+    → u ≡ Check.entry n
+    → es ≡ e ∷ older → length older ≡ n → EntrySides w T (e ∷ older)
 sides_of w T {n} {e} {older} u es k p q m =
-    let j : n < length (e ∷ older) → Sides w T (e ∷ older) = rw (p, q) at k in
+    let j : n < length (e ∷ older) → EntrySides w T (e ∷ older) = rw (p, q) at k in
     j (omega (arith, m))
 
 run_is : (form : Form) (a : Ast) (n : ℕ) → run_until (Check.entry n) (view_of form a) 1048576
@@ -45,27 +46,27 @@ unfolding run_until view_of max_visits
 run_is form a n = refl
 
 module _ {f w w₁ o w₂ o' : List ℕ} {at n next : ℕ} {x : Option ℕ} (L : Loads f at w w₁ next) (Q : Queries f w₁ o (Until.Entry n) 1048576 w₂ o' x) where
-  pub stops : {a b : Ty} → a ≡ side_w w₂ GOT → b ≡ side_w w₂ EXPECTED → Stops f at n w w₂ (a, b)
+  pub stops : {a b : Ty} → a ≡ side_w w₂ GOT → b ≡ side_w w₂ EXPECTED → StopsAtEntry f at n w w₂ (a, b)
   unfolding view_of among ending
   stops {a} {b} got expected = record { is = go; words = Q.words ∙ L.words.long }
     where
-      go : (form : Form) (s : Defined.Sought) → min_words ≤ length w → Within f w form at n s → Told w₂ (Ok (Some (a, b))) s
+      go : (form : Form) (s : Defined.Sought) → min_words ≤ length w → SoughtHere f w form at n s → ToldSought w₂ (Ok (Some (a, b))) s
       go form s l W =
           let d = view_of form W.query in
           let S = stops_at form.schema W.query W.ty W.last W.ran n W.here in
           let ends : run_until (Check.entry n) d 1048576 ≡ out S.at = run_is form W.query n ∙ S.is in
           let kept : S.at.until ≡ Check.entry n = sym (ap (λ y. (ending y).until) S.is) ∙ until_kept form.schema W.query (Check.entry n) max_visits in
           let it : s ≡ found S.here = W.is ∙ ap among S.nth_is in
-          subst (Told w₂ (Ok (Some (a, b)))) (sym it) (by (run_until (Check.entry n) d 1048576) S ends kept
+          subst (ToldSought w₂ (Ok (Some (a, b)))) (sym it) (by (run_until (Check.entry n) d 1048576) S ends kept
           (Q.is W.rows d W.sound (L.stands W.rows d W.more W.sound l W.stands W.ahead)))
         where
           by : (y : Step Tree.Ty) (S : StopsAt form.schema W.query n) → y ≡ out S.at → S.at.until ≡ Check.entry n
-              → Ran f w₂ o' (view_of form W.query) x y → Told w₂ (Ok (Some (a, b))) (found S.here)
+              → Ran f w₂ o' (view_of form W.query) x y → ToldSought w₂ (Ok (Some (a, b))) (found S.here)
           by (goes ty c) S e u r = clash (cc e)
           by (out c) S e u (ended_early T R t k p) =
               let same : c ≡ S.at = cc e in
-              let sides : Sides w₂ T (S.here ∷ S.older) = sides_of w₂ T c.until c.entries k (ap (λ y. y.until) same ∙ u)
-              (ap {B = List Entry} (λ y. y.entries) same ∙ S.newest) S.count in (
+              let sides : EntrySides w₂ T (S.here ∷ S.older) = sides_of w₂ T c.until c.entries k (ap (λ y. y.until) same ∙ u)
+              (ap {B = List UnifyEntry} (λ y. y.entries) same ∙ S.newest) S.count in (
                 a,
                 b,
                 refl,

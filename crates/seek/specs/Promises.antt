@@ -3,14 +3,14 @@
 use Rattle.std.specs.Prelude.{List, ◌∷◌, ◌≡◌, ℕ, ◌≤◌, ◌<◌, length, Err, None, Option, Result, Some}
 use Rattle.unification.specs.Ty as Tree
 use Rattle.unification.specs.Bindings.{State}
-use Rattle.unification.specs.Calls.{Entry}
+use Rattle.unification.specs.Calls.{UnifyEntry}
 use Rattle.cells.specs.declared.Ty.{Ty}
 use Rattle.cells.specs.Stands.{Rows, tree, Ok, Holds}
-use Rattle.meaning.specs.Syntax.{Ast}
-use Rattle.meaning.specs.All.{All}
-use Rattle.meaning.specs.Refusal.{too_many_visits}
-use Rattle.meaning.specs.File.{Form, view_of, described, reading}
-use Rattle.meaning.specs.Sound.{Sound}
+use Rattle.format.specs.Syntax.{Ast}
+use Rattle.format.specs.All.{All}
+use Rattle.format.specs.Refusal.{too_many_visits}
+use Rattle.format.specs.File.{Form, view_of, described, reading}
+use Rattle.format.specs.Sound.{Sound}
 use Rattle.meaning.specs.Check.{Checker, Step, goes, out, Typed}
 use Rattle.meaning.specs.Run.{run}
 use Rattle.meaning.specs.Outcome.{min_words, max_visits, run_all}
@@ -28,13 +28,13 @@ SchemaIn f w form = (T : Rows) × SchemaStands f w T form.names form.schema
 -- ---- The queries' whole runs
 
 -- As the definition's run ends; where it went to its end its entries are counted and the others lie ahead.
-unfoldable pub Turned : List ℕ → List ℕ → Form → List Ast → Result (ℕ × ℕ) Refusal → Step Tree.Ty → Type 0
-Turned f w' form qs r (goes ty c) = (next : ℕ) × (r ≡ Result.Ok (next, length c.entries)) × Ahead f next qs × SchemaIn f w' form
-Turned f w' form qs r (out c) = r ≡ Err Refusal.TooManyVisits
+unfoldable pub EntriesCounted : List ℕ → List ℕ → Form → List Ast → Result (ℕ × ℕ) Refusal → Step Tree.Ty → Type 0
+EntriesCounted f w' form qs r (goes ty c) = (next : ℕ) × (r ≡ Result.Ok (next, length c.entries)) × Ahead f next qs × SchemaIn f w' form
+EntriesCounted f w' form qs r (out c) = r ≡ Err Refusal.TooManyVisits
 
-pub record Turns (f : List ℕ) (at : ℕ) (w w' : List ℕ) (r : Result (ℕ × ℕ) Refusal) : Type 0 where
+pub record CountsEntries (f : List ℕ) (at : ℕ) (w w' : List ℕ) (r : Result (ℕ × ℕ) Refusal) : Type 0 where
   pub is : (T : Rows) (form : Form) (a : Ast) (qs : List Ast) → Sound (view_of form a) → min_words ≤ length w → SchemaStands f w T form.names form.schema
-      → Ahead f at (a ∷ qs) → Turned f w' form qs r (run form.schema a max_visits)
+      → Ahead f at (a ∷ qs) → EntriesCounted f w' form qs r (run form.schema a max_visits)
   pub onward : (next m : ℕ) → r ≡ Result.Ok (next, m) → (at < length f → at < next) × (next ≤ length f)
   pub words : length w' ≡ length w
 
@@ -50,7 +50,7 @@ pub record RunsOn (f : List ℕ) (from : ℕ) (w w' : List ℕ) (r : Result (Uni
 -- ---- The query in which the entry is
 
 -- It starts here, its run goes to its end, and what is sought is this entry of that run.
-pub record Within (f w : List ℕ) (form : Form) (at rest : ℕ) (s : Defined.Sought) : Type 0 where
+pub record SoughtHere (f w : List ℕ) (form : Form) (at rest : ℕ) (s : Defined.Sought) : Type 0 where
   pub query : Ast
   pub more : List Ast
   pub sound : Sound (view_of form query)
@@ -64,20 +64,20 @@ pub record Within (f w : List ℕ) (form : Form) (at rest : ℕ) (s : Defined.So
   pub is : s ≡ among (nth (entries_of form.schema query) rest)
 
 -- There is such an entry, there are fewer, or a query's visits ran out.
-abbrev pub Placed : List ℕ → List ℕ → Form → Result (Option (ℕ × ℕ)) Refusal → Defined.Sought → Type 0
-Placed f w' form (Result.Ok (Some place)) s = Within f w' form place.0 place.1 s
-Placed f w' form (Result.Ok None) s = s ≡ fewer
-Placed f w' form (Err e) s = (e ≡ Refusal.TooManyVisits) × (s ≡ turned_down too_many_visits)
+abbrev pub PlacedEntry : List ℕ → List ℕ → Form → Result (Option (ℕ × ℕ)) Refusal → Defined.Sought → Type 0
+PlacedEntry f w' form (Result.Ok (Some place)) s = SoughtHere f w' form place.0 place.1 s
+PlacedEntry f w' form (Result.Ok None) s = s ≡ fewer
+PlacedEntry f w' form (Err e) s = (e ≡ Refusal.TooManyVisits) × (s ≡ turned_down too_many_visits)
 
 pub record Places (f : List ℕ) (n : ℕ) (w w' : List ℕ) (r : Result (Option (ℕ × ℕ)) Refusal) : Type 0 where
   pub is : (T : Rows) (form : Form) → reading f ≡ described form → min_words ≤ length w → SchemaStands f w T form.names form.schema
-      → Placed f w' form r (sought_run form.schema form.queries n (run_all form.schema form.queries))
+      → PlacedEntry f w' form r (sought_run form.schema form.queries n (run_all form.schema form.queries))
   pub words : length w' ≡ length w
 
 -- ---- The entry
 
 -- The words hold a state with its bindings, and its sides are in hand.
-pub record Shows (w : List ℕ) (a b : Ty) (e : Entry) : Type 0 where
+pub record ShowsEntry (w : List ℕ) (a b : Ty) (e : UnifyEntry) : Type 0 where
   pub rows : Rows
   pub state : State
   pub holds : Holds w rows state
@@ -88,22 +88,22 @@ pub record Shows (w : List ℕ) (a b : Ty) (e : Entry) : Type 0 where
   pub expected : tree rows b ≡ e.expected
 
 -- What was found, beside what the definition finds.
-abbrev pub Told : List ℕ → Result (Option (Ty × Ty)) Refusal → Defined.Sought → Type 0
-Told w r (found e) = (a : Ty) × (b : Ty) × (r ≡ Result.Ok (Some (a, b))) × Shows w a b e
-Told w r fewer = r ≡ Result.Ok None
-Told w r (turned_down i) = (i' : Refusal) × (r ≡ Err i') × (refusal i' ≡ i)
+abbrev pub ToldSought : List ℕ → Result (Option (Ty × Ty)) Refusal → Defined.Sought → Type 0
+ToldSought w r (found e) = (a : Ty) × (b : Ty) × (r ≡ Result.Ok (Some (a, b))) × ShowsEntry w a b e
+ToldSought w r fewer = r ≡ Result.Ok None
+ToldSought w r (turned_down i) = (i' : Refusal) × (r ≡ Err i') × (refusal i' ≡ i)
 
-pub record Stops (f : List ℕ) (at n : ℕ) (w w' : List ℕ) (r : Ty × Ty) : Type 0 where
-  pub is : (form : Form) (s : Defined.Sought) → min_words ≤ length w → Within f w form at n s → Told w' (Result.Ok (Some r)) s
+pub record StopsAtEntry (f : List ℕ) (at n : ℕ) (w w' : List ℕ) (r : Ty × Ty) : Type 0 where
+  pub is : (form : Form) (s : Defined.Sought) → min_words ≤ length w → SoughtHere f w form at n s → ToldSought w' (Result.Ok (Some r)) s
   pub words : length w' ≡ length w
 
 -- ---- The whole
 
 pub record Finds (f : List ℕ) (n : ℕ) (w w' : List ℕ) (r : Result (Option (Ty × Ty)) Refusal) : Type 0 where
   pub is : (T : Rows) (form : Form) → reading f ≡ described form → min_words ≤ length w → SchemaStands f w T form.names form.schema
-      → Told w' r (sought_run form.schema form.queries n (run_all form.schema form.queries))
+      → ToldSought w' r (sought_run form.schema form.queries n (run_all form.schema form.queries))
   pub words : length w' ≡ length w
 
 pub record Seeks (f : List ℕ) (n : ℕ) (w w' : List ℕ) (r : Result (Option (Ty × Ty)) Refusal) : Type 0 where
-  pub is : Told w' r (entry_at f n (length w))
+  pub is : ToldSought w' r (entry_at f n (length w))
   pub words : length w' ≡ length w

@@ -1,9 +1,9 @@
 // Card 12: the n-th entry to `unify` of a file's run. The whole file is run first, so that 11 is told wherever the
 // visits run out, and then the entry's query again, up to the entry. File and slice are two parameters, as in crate
-// desk.
+// driver.
 #![tactic(auto)]
 
-ghost use Rattle.seek.specs.Promises.{Turns, RunsOn, Places, Stops, Finds, Seeks};
+ghost use Rattle.seek.specs.Promises.{CountsEntries, RunsOn, Places, StopsAtEntry, Finds, Seeks};
 
 use cells::Ty;
 use reading::{Counters, Edition, Refusal};
@@ -13,7 +13,7 @@ use work::word;
 // The run of the query from `at` on: where the next one starts, and this one's entries. The answer slice that is lent
 // to it is empty.
 fn one_query(file: &[u8], at: usize, work: &mut [u32]) -> Result<(usize, u32), Refusal>
-    ensures { Turns file.now at work.old work.new result }
+    ensures { CountsEntries file.now at work.old work.new result }
 {
     let next = loading::load(file, at, work);
     checker::query(file, work, Until::TheEnd, Counters::VISITS, &mut []).ok_or(
@@ -55,7 +55,7 @@ fn place_of(file: &[u8], n: u32, work: &mut [u32]) -> Result<Option<(usize, u32)
 
 // The query from `at` on is run again, up to its n-th entry.
 fn sides_at(file: &[u8], at: usize, n: u32, work: &mut [u32]) -> (Ty, Ty)
-    ensures { Stops file.now at n work.old work.new result }
+    ensures { StopsAtEntry file.now at n work.old work.new result }
 {
     loading::load(file, at, work);
     checker::query(file, work, Until::Entry(n), Counters::VISITS, &mut []);

@@ -9,7 +9,7 @@ use lib.Dec.{eqb, ltb, leb}
 use lib.ListN.{length, get_or, drop}
 use lib.Seq.{ext_get_or}
 use borrow.Author.Tests.{eqb-true, eqb-false, lt-ltb, le-ltb, le-leb, lt-leb, leb-true, ltb-true, ltb-false}
-use Rattle.meaning.specs.Lines.{Line, closed, unclosed, LF, lines, digit, decoded, max_bytes, at_most, some_bytes, bytes_of}
+use Rattle.format.specs.Lines.{Line, closed, unclosed, LF, lines, digit, decoded, max_bytes, at_most, some_bytes, bytes_of}
 use Rattle.sigla_hex.specs.Digits.{digit_w, digits_w, pair_at, first_line, line_at}
 use Rattle.sigla_hex.proofs.Line.{digit_below, digit_same, digit_other, pair_below, head_line, decoded_line, decoded_at, prefixed, pair_digits}
 use Rattle.sigla_hex.proofs.Line.{lines_at_LF, lines_at_end, decoded_on, decoded_none}
@@ -162,7 +162,8 @@ module _ (f : List ℕ) (at : ℕ) (s : List ℕ) (e : line_at f at ≡ Some s) 
 
 -- ---- Two lines
 
-pub same_pair : (f : List ℕ) (a b c : ℕ) → pair_at f a ≡ Some c → pair_at f b ≡ Some c → (get_or f a 0 ≡ get_or f b 0) × (get_or f (a + 1) 0 ≡ get_or f (b + 1) 0)
+pub same_pair : (f : List ℕ) (a b c : ℕ) → pair_at f a ≡ Some c → pair_at f b ≡ Some c → (get_or f a 0 ≡ get_or f b 0)
+    × (get_or f (a + 1) 0 ≡ get_or f (b + 1) 0)
 same_pair f a b c p q =
     let x = pair_digits f a c p in
     let y = pair_digits f b c q in
@@ -175,7 +176,8 @@ same_pair f a b c p q =
     )
 
 -- The same bytes have the same digits, up to LF.
-pub same_digits : (f s : List ℕ) (a b : ℕ) → decoded_at f a ≡ Some s → decoded_at f b ≡ Some s → (k : ℕ) → k ≤ 2 * length s → get_or f (a + k) 0 ≡ get_or f (b + k) 0
+pub same_digits : (f s : List ℕ) (a b : ℕ) → decoded_at f a ≡ Some s → decoded_at f b ≡ Some s → (k : ℕ) → k ≤ 2 * length s
+    → get_or f (a + k) 0 ≡ get_or f (b + k) 0
 same_digits f [] a b p q k h =
     let z : k ≡ 2 * 0 = omega arith in
     rw z ((spells f a [] p).close ∙ sym (spells f b [] q).close)
@@ -192,7 +194,8 @@ same_digits f (c ∷ s) a b p q k h = go (from f a (c ∷ s) p) (from f b (c ∷
         rw (u, v) (on x y k (omega arith))
 
 -- Two bytes with the same digits are the same.
-same_byte : (f : List ℕ) (a b x y : ℕ) → pair_at f a ≡ Some x → pair_at f b ≡ Some y → get_or f a 0 ≡ get_or f b 0 → get_or f (a + 1) 0 ≡ get_or f (b + 1) 0 → x ≡ y
+same_byte : (f : List ℕ) (a b x y : ℕ) → pair_at f a ≡ Some x → pair_at f b ≡ Some y → get_or f a 0 ≡ get_or f b 0 → get_or f (a + 1) 0 ≡ get_or f (b + 1) 0
+    → x ≡ y
 same_byte f a b x y p q u v =
     let c = pair_digits f a x p in
     let d = pair_digits f b y q in

@@ -10,8 +10,8 @@ use lib.ListN.{length, get_or, drop, drop_of_length-le}
 use lib.Seq.{drop-cons}
 use borrow.Author.Tests.{eq-eqb, ne_eqb, eqb-true, eqb-false, lt-ltb, le-ltb, ltb-true, ltb-false}
 use Rattle.text.specs.Utf8.{one_more}
-use Rattle.meaning.specs.Diag.{ascii}
-use Rattle.meaning.specs.Lines.{Line, closed, unclosed, LF, in_front, lines, position, digits, digit, pair, decoded}
+use Rattle.format.specs.Bytes.{ascii}
+use Rattle.format.specs.Lines.{Line, closed, unclosed, LF, in_front, lines, position, digits, digit, pair, decoded}
 use Rattle.sigla_hex.specs.Digits.{digit_w, byte_of, pair_at}
 use Rattle.std.specs.Prelude.{None, Option, Some, unwrap_or}
 
@@ -81,7 +81,8 @@ pair_past f i h = ap (λ t. elim t [ true ↦ byte_of (digit (get_or f i 0)) (di
 
 pub pair_below : (f : List ℕ) (i n : ℕ) → pair_at f i ≡ Some n → n < 256
 unfolding pair_at byte_of
-pair_below f i n e = go (ltb (i + 1) (length f)) (digit (get_or f i 0)) (digit (get_or f (i + 1) 0)) (digit_below (get_or f i 0)) (digit_below (get_or f (i + 1) 0)) e
+pair_below f i n e =
+    go (ltb (i + 1) (length f)) (digit (get_or f i 0)) (digit (get_or f (i + 1) 0)) (digit_below (get_or f i 0)) (digit_below (get_or f (i + 1) 0)) e
   where
     go : (b : Bool) (o p : Option ℕ) → ((m : ℕ) → o ≡ Some m → m < 16) → ((m : ℕ) → p ≡ Some m → m < 16)
         → elim b [ true ↦ byte_of o p | false ↦ None ] ≡ Some n → n < 256
@@ -193,7 +194,8 @@ module _ (f : List ℕ) (i : ℕ) where
   pub lines_at_LF : i < length f → get_or f i 0 ≡ LF → lines (drop i f) ≡ closed [] ∷ lines (drop (i + 1) f)
   lines_at_LF h e = ap lines (from_here h) ∙ lines_LF (get_or f i 0) (drop (i + 1) f) e
 
-  pub lines_at_other : i < length f → (get_or f i 0 ≡ LF → ⊥) → lines (drop i f) ≡ longer (get_or f i 0) (head_line (lines (drop (i + 1) f))) ∷ others_at f (i + 1)
+  pub lines_at_other : i < length f → (get_or f i 0 ≡ LF → ⊥) → lines (drop i f) ≡ longer (get_or f i 0) (head_line (lines (drop (i + 1) f))) ∷
+      others_at f (i + 1)
   lines_at_other h n = ap lines (from_here h) ∙ lines_other (get_or f i 0) (drop (i + 1) f) n
 
   pub lines_at_end : length f ≤ i → lines (drop i f) ≡ []

@@ -7,7 +7,7 @@ use lib.Dec.{eqb}
 use borrow.Author.Tests.{eqb-true}
 use Rattle.std.specs.Prelude.{Some, None}
 use Rattle.std.proofs.lemmas.Bool.{agree_below, agree_below_at}
-use Rattle.meaning.specs.Lines.{digit}
+use Rattle.format.specs.Lines.{digit}
 use Rattle.sigla_hex.specs.Digits.{digit_w}
 use Rattle.sigla_hex.proofs.Line.{is_digit_lem, no_digit}
 

@@ -1,6 +1,6 @@
 -- The digits of the file's text, read where they stand.
 use Rattle.std.specs.Prelude.{true, false, List, [], ◌∷◌, ℕ, ◌+◌, ◌*◌, ltb, length, get_or, drop, None, Option, Some, unwrap_or}
-use Rattle.meaning.specs.Lines.{Line, bytes_of, lines, digit}
+use Rattle.format.specs.Lines.{Line, bytes_of, lines, digit}
 
 -- A digit's value, and 16 for any other byte.
 unfoldable pub digit_w : ℕ → ℕ

@@ -2,7 +2,7 @@
 #![tactic(auto)]
 
 ghost use Rattle.std.specs.Prelude.{◌≡◌, ◌<◌, IfSome};
-ghost use Rattle.meaning.specs.Lines.{digit};
+ghost use Rattle.format.specs.Lines.{digit};
 
 // The value of a digit. std's `to_digit` takes upper case too.
 #[tactic(auto, using(crate::proofs::Values::digit_values))]

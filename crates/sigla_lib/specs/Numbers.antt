@@ -1,9 +1,9 @@
 -- How an outcome goes as a number: 0, or the number of the refusal. A group goes as fifty words, a tally as three (ledger/specs/Words.antt).
 use Rattle.std.specs.Prelude.{Bool, true, false, Option, Some, None, unwrap_or, Result, Ok, Err, List, ◌≡◌, ℕ, length, replicate}
-use Rattle.meaning.specs.Refusal.{number}
+use Rattle.format.specs.Refusal.{number}
 use Rattle.reading.specs.Promises.{refusal}
-use Rattle.desk.specs.declared.Desked.{Desked}
-use Rattle.desk.specs.Promises.{ChecksFile, ChecksAt}
+use Rattle.driver.specs.declared.Desked.{Desked}
+use Rattle.driver.specs.Promises.{ChecksFile, ChecksAt}
 use Rattle.lamp.specs.declared.Lit.{Lit}
 use Rattle.lamp.specs.Promises.{Lights}
 use Rattle.converters.specs.Promises.{Widens, Narrows}

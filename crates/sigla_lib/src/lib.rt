@@ -1,10 +1,10 @@
 // The calls for programs in other languages: every slice goes as a pointer and a length, an array as a pointer. Each
 // gives back 0, or the number of the refusal.
-#![tactic(auto, unfolding(meaning::specs::Refusal::number))]
+#![tactic(auto, unfolding(format::specs::Refusal::number))]
 
 ghost use Rattle.sigla_lib.specs.Numbers.{CallsCheck, CallsLamp, CallsInspect, CallsWiden, CallsNarrow, CallsTally, CallsSetUp, CallsCeiling, CallsNewDay, CallsCheckAt, CallsGrowth, CallsLoad, outcome_number, or_else};
 ghost use Rattle.cabinet.specs.Promises.{left};
-ghost use Rattle.meaning.specs.Refusal.{number};
+ghost use Rattle.format.specs.Refusal.{number};
 ghost use Rattle.reading.specs.Promises.{refusal};
 ghost use Rattle.std.specs.Prelude.{◌≡◌};
 
@@ -19,7 +19,7 @@ fn number(r: Result<usize, Refusal>) -> u8
 {
     match r {
         Ok(_) => 0,
-        Err(e) => desk::refusal_number(e),
+        Err(e) => driver::refusal_number(e),
     }
 }
 
@@ -30,7 +30,7 @@ fn left<T>(r: Result<T, T>, e: Refusal) -> (T, u8)
 {
     match r {
         Ok(x) => (x, 0),
-        Err(x) => (x, desk::refusal_number(e)),
+        Err(x) => (x, driver::refusal_number(e)),
     }
 }
 
@@ -39,7 +39,7 @@ fn left<T>(r: Result<T, T>, e: Refusal) -> (T, u8)
 pub extern "C" fn sigla_check(file: &[u8], work: &mut [u32], out: &mut [u8]) -> u8
     ensures { CallsCheck file.now work.old out.old work.new out.new result }
 {
-    number(desk::check_file(file, work, out))
+    number(driver::check_file(file, work, out))
 }
 
 // ---- The lamp
@@ -59,7 +59,7 @@ pub extern "C" fn sigla_lamp(file: &[u8], work: &mut [u32], lit: &mut u32) -> u8
         }
         Err(e) => {
             *lit = 0;
-            desk::refusal_number(e)
+            driver::refusal_number(e)
         }
     }
 }
@@ -99,7 +99,7 @@ pub extern "C" fn sigla_inspect(
         }
         Inspected::Refused(e) => {
             *told = 0;
-            desk::refusal_number(e)
+            driver::refusal_number(e)
         }
         Inspected::TooFewWords => {
             *told = 0;
@@ -208,7 +208,7 @@ pub extern "C" fn sigla_check_at(
 ) -> u8
     ensures { CallsCheckAt group.old desk file.now work.old out.old group.new work.new out.new result }
 {
-    let d = desk::check_at(ledger::group(group), desk, file, work, out);
+    let d = driver::check_at(ledger::group(group), desk, file, work, out);
     let after = d.group;
     let r = d.outcome;
     ledger::put_group(group, after);

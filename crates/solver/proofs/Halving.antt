@@ -1,6 +1,7 @@
 -- The engine in two halves of the lent slice: the first stage stands in the upper one, or is longer than half of what was lent, which is
 -- where the definition's run needs too many words at once.
-use Rattle.std.proofs.Common.{◌≡◌, ℕ, ◌+◌, ◌≤◌, ◌<◌, List, ◌++◌, length, take, drop, None, Option, Some, Err, Result, refl, sym, ap, ◌∙◌, append_assoc, arith, length-append, length-take-le, length-drop, take_at}
+use Rattle.std.proofs.Common.{◌≡◌, ℕ, ◌+◌, ◌≤◌, ◌<◌, List, ◌++◌, length, take, drop, None, Option, Some, Err, Result, refl, sym, ap, ◌∙◌, append_assoc, arith}
+use Rattle.std.proofs.Common.{length-append, length-take-le, length-drop, take_at}
 use Rattle.std.proofs.lemmas.List.{drop_at}
 use Rattle.std.proofs.Math.Decide.{dec_le}
 use Rattle.plain.specs.Slices.{slice}
@@ -13,8 +14,8 @@ use Rattle.plain_theory.specs.Words.{bindings_spelled}
 use Rattle.plain_theory.proofs.Words.{needs_words}
 use Rattle.plain_theory.proofs.Runs.{solve_full}
 use Rattle.plain.proofs.Running.{gives_front}
-use Rattle.plain.specs.Stages.{half, Runs}
-use Rattle.spelling.specs.Tokens.{spelled_stage, Starts}
+use Rattle.plain.specs.Stages.{half, PlainRuns}
+use Rattle.spelling.specs.Tokens.{spelled_stage, SpellsStart}
 use Rattle.spelling.proofs.Staging.{start_needs}
 use Rattle.solver.specs.Promises.{RunsEngine}
 use Rattle.plain.specs.declared.Unsolved.{Unsolved}
@@ -57,8 +58,8 @@ module _ {l : List ℕ} {at : ℕ} {a b l' : List ℕ} {e : ℕ} (W : Writes l a
 
 -- ---- From the upper half on
 module _ {w l : List ℕ} {got expected : Ty} {h : ℕ} (low : h + h ≤ length l) (high : length l ≤ h + h + 1) {l₁ : List ℕ} {s : Option (ℕ × ℕ)}
-    (S : Starts w (take (h + h) l) h got expected l₁ s) where
-  pub engine_runs : {b e : ℕ} → s ≡ Some (b, e) → {l₂ : List ℕ} {r : Result ℕ Unsolved} → Runs l₁ (half l₁) (half l₁) b e l₂ r
+    (S : SpellsStart w (take (h + h) l) h got expected l₁ s) where
+  pub engine_runs : {b e : ℕ} → s ≡ Some (b, e) → {l₂ : List ℕ} {r : Result ℕ Unsolved} → PlainRuns l₁ (half l₁) (half l₁) b e l₂ r
       → RunsEngine w got expected l (l₂ ++ drop (h + h) l) r
   engine_runs {b} {e} q {l₂} {r} R = record {
     is = λ T st H o p.

@@ -16,7 +16,7 @@ use Rattle.plain_theory.specs.Solve.{solve}
 use Rattle.plain_theory.specs.Answer.{of}
 use Rattle.plain_theory.specs.Words.{bindings_spelled}
 use Rattle.plain_theory.proofs.Answers.{shut_out_exactly, admitted_answer}
-use Rattle.plain.specs.Stages.{Gives}
+use Rattle.plain.specs.Stages.{GivesResult}
 use Rattle.plain.specs.declared.Unsolved.{Unsolved}
 use Rattle.solver.specs.Promises.{RunsEngine, Left, Solves}
 
@@ -27,7 +27,8 @@ ok_settled S t o = ok_same (keeps_cells (omega arith) S.keeps) t o
 module _ (l₁ : List ℕ) (r : Result ℕ Unsolved) {n : ℕ} (at : n ≡ min (result_unwrap_or r 0) (length l₁)) {l' : List ℕ}
     (c : l' ≡ take n l₁ ++ replicate (length l₁ - n) 0) where
   same_long : length l' ≡ length l₁
-  same_long = ap length c ∙ length-append (take n l₁) (replicate (length l₁ - n) 0) ∙ omega (arith, length-take n l₁, length-replicate {A = ℕ} (length l₁ - n) 0)
+  same_long =
+      ap length c ∙ length-append (take n l₁) (replicate (length l₁ - n) 0) ∙ omega (arith, length-take n l₁, length-replicate {A = ℕ} (length l₁ - n) 0)
 
   nothing : (e : Unsolved) → r ≡ Err e → l' ≡ replicate (length l₁) 0
   nothing e q =
@@ -43,7 +44,8 @@ module _ {w w₁ l : List ℕ} {got expected : Ty} (S : Settles w w₁) (l₁ : 
       → ((T : Rows) (st : State) → Holds w T st → Ok w got → Ok w expected → ¬ (Admitted st.subst (tree T got) × Admitted st.subst (tree T expected)))
       → Solves w got expected l w₁ l' r
   solve_shut e q no-side = record {
-    is = λ T st H o p. rw ((shut_out_exactly (length l) st.subst H.acyclic (tree T got) (tree T expected)).1 (no-side T st H o p)) (q, rw e at (nothing l₁ r at c Unsolved.ShutOut q));
+    is = λ T st H o p. rw ((shut_out_exactly (length l) st.subst H.acyclic (tree T got) (tree T expected)).1 (no-side T st H o p))
+        (q, rw e at (nothing l₁ r at c Unsolved.ShutOut q));
     long = same_long l₁ r at c ∙ ap length e;
     keeps = S.keeps;
   }
@@ -68,7 +70,7 @@ module _ {w w₁ l : List ℕ} {got expected : Ty} (S : Settles w w₁) (l₁ : 
     keeps = S.keeps;
   }
     where
-      go : (x : Theory.Result) → Gives l₁ r x → Left l' (length l) r (of x)
+      go : (x : Theory.PlainResult) → GivesResult l₁ r x → Left l' (length l) r (of x)
       go (solved bs) k =
           let some : result_unwrap_or r 0 ≡ length (bindings_spelled bs) = rw k.0 in
           let same : n ≡ length (bindings_spelled bs) = omega (arith, ap length k.1, length-take (length (bindings_spelled bs)) l₁) in

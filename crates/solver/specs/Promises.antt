@@ -9,7 +9,7 @@ use Rattle.plain_theory.specs.Solve.{solve}
 use Rattle.plain_theory.specs.Answer as Answer
 use Rattle.plain_theory.specs.Answer.{answer}
 use Rattle.plain_theory.specs.Words.{bindings_spelled}
-use Rattle.plain.specs.Stages.{Gives}
+use Rattle.plain.specs.Stages.{GivesResult}
 use Rattle.plain.specs.declared.Unsolved.{Unsolved}
 
 -- ---- The engine on sides that are not shut out
@@ -17,13 +17,13 @@ use Rattle.plain.specs.declared.Unsolved.{Unsolved}
 -- In two halves of the slice; an odd word that was lent is left over.
 pub record RunsEngine (w : List ℕ) (got expected : Ty) (l l' : List ℕ) (r : Result ℕ Unsolved) : Type 0 where
   pub is : (T : Rows) (st : State) → Holds w T st → Ok w got → Ok w expected
-      → Gives l' r (solve (length l) (start st.subst (tree T got) (tree T expected)))
+      → GivesResult l' r (solve (length l) (start st.subst (tree T got) (tree T expected)))
   pub long : length l' ≡ length l
 
 -- ---- The whole
 
 -- After a success the lent slice holds the bindings and then zeros, and the words that they take are told; else zeros throughout.
-abbrev pub Left : List ℕ → ℕ → Result ℕ Unsolved → Answer.Answer → Type 0
+abbrev pub Left : List ℕ → ℕ → Result ℕ Unsolved → Answer.PlainAnswer → Type 0
 Left l n r (Answer.Success bs) = (r ≡ Result.Ok (length (bindings_spelled bs))) × (l ≡ bindings_spelled bs ++ replicate (n - length (bindings_spelled bs)) 0)
 Left l n r Answer.Failure = (r ≡ Err Unsolved.Failure) × (l ≡ replicate n 0)
 Left l n r Answer.ShutOut = (r ≡ Err Unsolved.ShutOut) × (l ≡ replicate n 0)

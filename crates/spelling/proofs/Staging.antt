@@ -1,5 +1,6 @@
 -- The bindings one by one: to write those from x on is to write them all. Then the two sides.
-use Rattle.std.proofs.Common.{◌≡◌, ◌↔◌, ℕ, zero, suc, ◌+◌, ◌*◌, ◌≤◌, ◌<◌, List, [], ◌∷◌, ◌++◌, length, get_or, drop, None, Option, Some, refl, sym, ap, ◌∙◌, append-nil, add-one, arith, drop_of_length-le, drop-cons, length-append}
+use Rattle.std.proofs.Common.{◌≡◌, ◌↔◌, ℕ, zero, suc, ◌+◌, ◌*◌, ◌≤◌, ◌<◌, List, [], ◌∷◌, ◌++◌, length, get_or, drop, None, Option, Some, refl, sym, ap, ◌∙◌}
+use Rattle.std.proofs.Common.{append-nil, add-one, arith, drop_of_length-le, drop-cons, length-append}
 use Rattle.std.proofs.lemmas.Option.{some_pair_parts}
 use Rattle.unification.specs.Ty as Tree
 use Rattle.unification.specs.Bindings.{Subst, bound, zonk, State}
@@ -16,7 +17,7 @@ use Rattle.resolving.proofs.Typing.{resolves}
 use Rattle.plain_theory.specs.Plain.{Stage, needs, resolved_from, start}
 use Rattle.plain_theory.specs.Words.{spelled, pairs_spelled, bindings_spelled}
 use Rattle.plain_theory.proofs.Words.{needs_words}
-use Rattle.spelling.specs.Tokens.{SpellsTy, binding_spelled, SpellsBinding, SpellsBindings, SpellsPair, ended, spelled_stage, Starts}
+use Rattle.spelling.specs.Tokens.{SpellsTy, binding_spelled, SpellsBinding, SpellsBindings, SpellsPair, ended, spelled_stage, SpellsStart}
 
 -- ---- A binding
 module _ {w l : List ℕ} {at x : ℕ} where
@@ -100,7 +101,7 @@ module _ {w l : List ℕ} {at : ℕ} {a b : Ty} {mid : List ℕ} {h : Option ℕ
 
 -- ---- The stage
 module _ {w l : List ℕ} {at : ℕ} {a b : Ty} {mid : List ℕ} {h : Option ℕ} (f : SpellsBindings w l at mid h) where
-  pub start_full : h ≡ None → Starts w l at a b mid None
+  pub start_full : h ≡ None → SpellsStart w l at a b mid None
   unfolding start
   start_full q = record {
     is = λ T st H o p i. writes_full (f.is T st.subst (resolves H) i) q _;
@@ -110,7 +111,7 @@ module _ {w l : List ℕ} {at : ℕ} {a b : Ty} {mid : List ℕ} {h : Option ℕ
   }
 
   module _ {n : ℕ} (q : h ≡ Some n) {l' : List ℕ} {r : Option ℕ} (g : SpellsPair w mid n a b l' r) where
-    pub start_over : r ≡ None → Starts w l at a b l' None
+    pub start_over : r ≡ None → SpellsStart w l at a b l' None
     unfolding start
     start_over z = record {
       is = λ T st H o p i. rw z at (writes_then (f.is T st.subst (resolves H) i) q (g.is T st.subst (resolves H) o p));
@@ -119,7 +120,7 @@ module _ {w l : List ℕ} {at : ℕ} {a b : Ty} {mid : List ℕ} {h : Option ℕ
       long = g.moves.long ∙ f.moves.long;
     }
 
-    pub start_at : {e : ℕ} → r ≡ Some e → Starts w l at a b l' (Some (n, e))
+    pub start_at : {e : ℕ} → r ≡ Some e → SpellsStart w l at a b l' (Some (n, e))
     unfolding start
     start_at {e} z = record {
       is = λ T st H o p i. rw z at (writes_then (f.is T st.subst (resolves H) i) q (g.is T st.subst (resolves H) o p));
@@ -135,7 +136,7 @@ module _ {w l : List ℕ} {at : ℕ} {a b : Ty} {mid : List ℕ} {h : Option ℕ
     }
 
 -- ---- For who lends two halves and has the second written
-module _ {w l : List ℕ} {at : ℕ} {a b : Ty} {l' : List ℕ} {r : Option (ℕ × ℕ)} (S : Starts w l at a b l' r) {T : Rows} {st : State} (H : Holds w T st)
+module _ {w l : List ℕ} {at : ℕ} {a b : Ty} {l' : List ℕ} {r : Option (ℕ × ℕ)} (S : SpellsStart w l at a b l' r) {T : Rows} {st : State} (H : Holds w T st)
     (o : Ok w a) (p : Ok w b) (half : length l ≡ 2 * at) where
   -- The slice is full exactly where the first stage needs more words than were lent.
   pub start_needs : (r ≡ None) ↔ (length l < needs (start st.subst (tree T a) (tree T b)))

@@ -63,7 +63,7 @@ spelled_stage g = bindings_spelled g.bindings ++ pairs_spelled g.pairs
 
 -- The stage stands there, or does not fit; and where its bindings end and its pairs start is told. Both places lie in the slice,
 -- whatever the words are.
-pub record Starts (w l : List ℕ) (at : ℕ) (a b : Ty) (l' : List ℕ) (r : Option (ℕ × ℕ)) : Type 0 where
+pub record SpellsStart (w l : List ℕ) (at : ℕ) (a b : Ty) (l' : List ℕ) (r : Option (ℕ × ℕ)) : Type 0 where
   pub is : (T : Rows) (st : State) → Holds w T st → Ok w a → Ok w b → at ≤ length l
       → Writes l at (spelled_stage (start st.subst (tree T a) (tree T b))) l' (ended r)
   pub between : (T : Rows) (st : State) → Holds w T st → Ok w a → Ok w b → at ≤ length l → (m e : ℕ) → r ≡ Some (m, e)

@@ -2,7 +2,7 @@
 // every binding, resolved, by ascending unknown, and the two sides, resolved.
 #![tactic(auto)]
 
-ghost use Rattle.spelling.specs.Tokens.{tokens, head_some, SpellsBinding, SpellsBindings, SpellsPair, Starts};
+ghost use Rattle.spelling.specs.Tokens.{tokens, head_some, SpellsBinding, SpellsBindings, SpellsPair, SpellsStart};
 
 use cells::{Part, Ty};
 use resolving::{Script, ty};
@@ -80,7 +80,7 @@ fn pair(w: &[u32], l: &mut [u32], at: usize, a: Ty, b: Ty) -> Option<usize>
 
 // The first stage, from a place on: where its bindings end, and where it ends.
 pub fn start(w: &[u32], l: &mut [u32], at: usize, a: Ty, b: Ty) -> Option<(usize, usize)>
-    ensures { Starts w.now l.old at a b l.new result }
+    ensures { SpellsStart w.now l.old at a b l.new result }
 {
     let sides = bindings(w, l, at)?;
     let end = pair(w, l, sides, a, b)?;

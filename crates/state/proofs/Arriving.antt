@@ -9,20 +9,20 @@ use lib.ListN.{length, get_or, set, length-set}
 use lib.Seq.{get_or-set_same, get_or-set_other}
 use borrow.Author.Tests.{ltb-true, ltb-false, lt-ltb, le-ltb}
 use Rattle.unification.specs.Ty as Tree
-use Rattle.unification.specs.Calls.{Entry}
+use Rattle.unification.specs.Calls.{UnifyEntry}
 use Rattle.work.specs.Layout.{PLACE, UNTIL, LEFT, STOP, ENTERED, GOT, EXPECTED, END}
 use Rattle.cells.specs.declared.Ty.{Ty}
 use Rattle.cells.specs.Words.{ty_w, tag_w, payload_w, put_ty}
 use Rattle.cells.specs.Stands.{Rows, Keeps}
 use Rattle.cells.proofs.Frame.{keeps_refl, keeps_trans, keeps_wider, keeps_set}
-use Rattle.cells.proofs.State.{read_back}
-use Rattle.meaning.specs.File.{Described}
-use Rattle.meaning.specs.Sound.{Sound}
+use Rattle.cells.proofs.State.{read_back, put_keeps}
+use Rattle.format.specs.File.{Described}
+use Rattle.format.specs.Sound.{Sound}
 use Rattle.meaning.specs.Diag.{Diagnostic}
 use Rattle.meaning.specs.Check as Check
 use Rattle.meaning.specs.Check.{Checker, Step, goes, out, entered, with_entries, arrived}
 use Rattle.meaning.specs.Run.{NotYet}
-use Rattle.meaning.proofs.Tests.{cases}
+use Rattle.format.proofs.Tests.{cases}
 use Rattle.state.specs.Runs.{Runs, Grew}
 use Rattle.state.specs.Lines.{AFTER-SIDES, capped, until_w, stop_w, Keeping, Told, entered_w, sides_w, side_w, Enters, enters, enters_before, stops_here}
 use Rattle.state.proofs.Lining.{lines_same}
@@ -43,6 +43,13 @@ entered_cases w f g = cases (ltb (get_or w ENTERED 0) 4294967295) (λ q. f (ltb-
 
 pub entered_keeps : (w : List ℕ) → Keeps ENTERED GOT w (entered_w w)
 entered_keeps w = entered_cases w (λ l e. rw e (keeps_set w ENTERED (get_or w ENTERED 0 + 1) (omega arith) (omega arith))) (λ l e. rw e keeps_refl)
+
+pub sides_keeps : (w : List ℕ) (got expected : Ty) (left : ℕ) → Keeps LEFT AFTER-SIDES w (sides_w w got expected left)
+unfolding sides_w
+sides_keeps w got expected left =
+    let v = put_ty w GOT got in
+    keeps_trans (put_keeps w GOT got (omega arith) (omega arith)) (keeps_trans (put_keeps v EXPECTED expected (omega arith) (omega arith))
+    (keeps_set (put_ty v EXPECTED expected) LEFT left (omega arith) (omega arith)))
 
 entered_now : (w : List ℕ) (n : ℕ) → END ≤ length w → get_or w ENTERED 0 ≡ capped n → get_or (entered_w w) ENTERED 0 ≡ capped (suc n)
 entered_now w n long q = entered_cases w
@@ -72,7 +79,7 @@ module _ {w o s : List ℕ} {u : Check.Until} {m : ℕ} (K : Keeping w o s u m 0
             rw (le-ltb k (length x.entries) (omega (arith, n)), arrived)
 
     -- What it is to last until has still not come.
-    pub still_not : {w' : List ℕ} {l : ℕ} (ds : List Diagnostic) (es : List Entry) → NotYet u ds es → Enters w got expected left w' (Some l)
+    pub still_not : {w' : List ℕ} {l : ℕ} (ds : List Diagnostic) (es : List UnifyEntry) → NotYet u ds es → Enters w got expected left w' (Some l)
         → NotYet u ds x.entries
     still_not ds es h (enters z) = go u refl h
       where
@@ -162,16 +169,8 @@ module _ {f w o : List ℕ} {T : Rows} {d : Described} {c : Checker} (sound : So
     abbrev v₄ : List ℕ
     v₄ = set v₃ (EXPECTED + 1) (payload_w expected)
 
-    sides_keeps : Keeps LEFT AFTER-SIDES v₀ (sides_w v₀ got expected left)
-    unfolding sides_w put_ty
-    sides_keeps =
-        keeps_trans (keeps_set v₀ GOT (tag_w got) (omega arith) (omega arith)) (keeps_trans (keeps_set v₁ (GOT + 1) (payload_w got) (omega arith) (omega arith))
-        (keeps_trans (keeps_set v₂ EXPECTED (tag_w expected) (omega arith) (omega arith))
-        (keeps_trans (keeps_set v₃ (EXPECTED + 1) (payload_w expected) (omega arith) (omega arith))
-        (keeps_set v₄ LEFT left (omega arith) (omega arith)))))
-
     pub stopped_keeps : Keeps PLACE AFTER-SIDES w (sides_w v₀ got expected left)
-    stopped_keeps = keeps_trans counted (keeps_wider (omega arith) (omega arith) sides_keeps)
+    stopped_keeps = keeps_trans counted (keeps_wider (omega arith) (omega arith) (sides_keeps v₀ got expected left))
 
     pub stopped_runs : Runs f (sides_w v₀ got expected left) T d (entered a b c)
     stopped_runs = noted_runs (place_runs sound R stopped_keeps)

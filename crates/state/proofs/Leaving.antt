@@ -10,10 +10,10 @@ use Prim.Native.Nat.{ℕ, zero, suc, ◌+◌, ◌-◌, ◌/◌, ◌%◌, ◌<◌
 use lib.ListN.{length, get_or, take, drop}
 use Rattle.work.specs.Layout.{ENV-LEN, MARK-COUNT, UNUSED-COUNT, ENV, MARKS, UNUSED, TYS, END}
 use Rattle.cells.specs.Stands.{Rows}
-use Rattle.meaning.specs.All.{All}
-use Rattle.meaning.specs.Syntax.{Span}
-use Rattle.meaning.specs.Sound.{Sound}
-use Rattle.meaning.specs.File.{Described}
+use Rattle.format.specs.All.{All}
+use Rattle.format.specs.Syntax.{Span}
+use Rattle.format.specs.Sound.{Sound}
+use Rattle.format.specs.File.{Described}
 use Rattle.meaning.specs.Check.{Entry, Checker, is_in, leaving, with_env, with_unused}
 use Rattle.state.specs.Words.{entry_w, env_of, push_w, is_marked_w, leave_entry_w, left_w, leave_w}
 use Rattle.state.specs.Runs.{span_of, Scopes, Runs, Grew}

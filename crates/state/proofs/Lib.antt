@@ -12,3 +12,4 @@ pub mod Starting
 pub mod Lined
 pub mod Arriving
 pub mod Lefts
+pub mod Lending

@@ -9,11 +9,11 @@ use Rattle.work.specs.Layout.{ENV-LEN, DIAGNOSTIC-COUNT, UNKNOWNS, PLACE, PLACE-
 use Rattle.cells.specs.Stands.{Rows, Keeps}
 use Rattle.cells.proofs.Frame.{keeps_refl, keeps_wider, keeps_set}
 use Rattle.cells.proofs.Elsewhere.{SameState}
-use Rattle.meaning.specs.Syntax.{node_at}
+use Rattle.format.specs.Syntax.{node_at}
 use Rattle.meaning.specs.Diag as Diag
 use Rattle.meaning.specs.Diag.{Diagnostic}
-use Rattle.meaning.specs.Sound.{Sound}
-use Rattle.meaning.specs.File.{Described}
+use Rattle.format.specs.Sound.{Sound}
+use Rattle.format.specs.File.{Described}
 use Rattle.meaning.specs.Check.{Checker, first_diagnostic, with_diagnostics, reversed}
 use Rattle.meaning.specs.Messages.{message_text}
 use Rattle.meaning.specs.Answer.{diagnostic_line, diagnostic_lines}

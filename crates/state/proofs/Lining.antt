@@ -10,8 +10,8 @@ use Rattle.work.specs.Layout.{PLACE, PLACE-HIGH, FULL, UNTIL, LEFT, STOP, ENTERE
 use Rattle.unification.specs.Bindings.{State}
 use Rattle.cells.specs.Stands.{Rows, Holds, Keeps}
 use Rattle.cells.proofs.Frame.{keeps_refl, keeps_trans, keeps_set}
-use Rattle.meaning.specs.Syntax.{Span}
-use Rattle.meaning.specs.File.{Described}
+use Rattle.format.specs.Syntax.{Span}
+use Rattle.format.specs.File.{Described}
 use Rattle.meaning.specs.Check.{Until}
 use Rattle.writer.specs.Writes.{placed, Writes}
 use Rattle.writer.proofs.Writing.{writes_to, writes_over}
@@ -21,7 +21,9 @@ use Rattle.messages.specs.declared.Message.{Message}
 use Rattle.messages.specs.Said.{OkMessage}
 use Rattle.state.specs.declared.Until as Stop
 use Rattle.cells.specs.declared.Ty.{Ty}
-use Rattle.state.specs.Lines.{UntilIs, at_end, at_diagnostic, at_entry, Halts, goes_on, ends_here, Enters, enters, enters_before, stops_here, entered_w, sides_w, AFTER-FULL, place_w, set_place_w, SpanAt, diagnosed, line_of, WritesLine, Lines, within, beyond, Keeping, Tells, AFTER-SIDES}
+use Rattle.state.specs.Lines.{UntilIs, at_end, at_diagnostic, at_entry, Halts, goes_on, ends_here, Enters, enters, enters_before, stops_here, entered_w}
+use Rattle.state.specs.Lines.{sides_w, AFTER-FULL, place_w, set_place_w, SpanAt, diagnosed, line_of, WritesBothLines, Lines, within, beyond, Keeping, Tells}
+use Rattle.state.specs.Lines.{AFTER-SIDES}
 use Rattle.std.specs.Prelude.{None, Option, Some}
 
 -- ---- The words of the lines are as they were
@@ -91,7 +93,7 @@ lines_full {s = s} x some (beyond q l) = let n : length (s ++ x) ≡ length s + 
 
 -- ---- `tell`
 module _ {f w o : List ℕ} {n : ℕ} {m : Message} {full : ℕ} (p : full ≡ get_or w FULL 0) where
-  module _ (free : full ≡ 0) {at : ℕ} (q : at ≡ place_w w) {o' : List ℕ} {r : Option ℕ} (g : WritesLine f w o at n m o' r) where
+  module _ (free : full ≡ 0) {at : ℕ} (q : at ≡ place_w w) {o' : List ℕ} {r : Option ℕ} (g : WritesBothLines f w o at n m o' r) where
     text : (T : Rows) (d : Described) (st : State) (x : Span) → Stands f w T d → Holds w T st → OkMessage w m → SpanAt f (line_start_w w n) x
         → Writes o (place_w w) (line_of d (diagnosed T st.subst m x)) o' r
     text T d st x S H ok t = rw q at (g.is T d st x S H ok t)

@@ -11,8 +11,8 @@ use Rattle.cells.specs.Inferred.{reserve_w, put_field_w, new_record_w, Reserved,
 use Rattle.cells.proofs.Frame.{more_refl}
 use Rattle.cells.proofs.Making.{adds_old, reserve_other, reserve_keeps, reserve_count, reserve_adds, reserve_holds, put_field_keeps, put_field_old}
 use Rattle.cells.proofs.Making.{put_field_holds, new_record_other, new_record_keeps, new_record_old, new_record_more, new_record_holds}
-use Rattle.meaning.specs.Sound.{Sound}
-use Rattle.meaning.specs.File.{Described}
+use Rattle.format.specs.Sound.{Sound}
+use Rattle.format.specs.File.{Described}
 use Rattle.meaning.specs.Check.{Checker, with_state}
 use Rattle.state.specs.Runs.{Runs, Grew}
 use Rattle.state.proofs.Running.{runs_state}
@@ -30,14 +30,14 @@ module _ {f w : List ℕ} {T : Rows} {d : Described} {c : Checker} (sound : Soun
             at = λ i l h. reserve_other w n room i (λ q. omega arith);
           };
           diagnostics = reserve_other w n room DIAGNOSTIC-COUNT (λ q. omega arith);
-          long = (reserve_keeps w n room).long;
+          long = (reserve_keeps w n).long;
         })
         (reserve_holds w n room R.holds) refl
 
     pub reserve_grew : Grew w (reserve_w w n) 0 n
     reserve_grew = record {
       adds = reserve_adds w n room R.holds.long;
-      keeps = reserve_keeps w n room;
+      keeps = reserve_keeps w n;
       records = omega (arith, reserve_other w n room RECORD-COUNT (λ q. omega arith));
       fields = omega (arith, reserve_count w n room R.holds.long);
     }
@@ -49,7 +49,7 @@ module _ {f w : List ℕ} {T : Rows} {d : Described} {c : Checker} (sound : Soun
     pub put_field_runs : Runs f (put_field_w w i name t) T d c
     unfolding with_state
     put_field_runs =
-        let K = put_field_keeps w i name t fits small in
+        let K = put_field_keeps w i name t in
         runs_state sound R (put_field_old w i name t fits small S low high R.holds.cells.few_records) more_refl
         (record {
           scopes = record {
@@ -80,6 +80,6 @@ module _ {f w : List ℕ} {T : Rows} {d : Described} {c : Checker} (sound : Soun
             at = λ j l h. other j (λ q. omega arith) (λ q. omega arith);
           };
           diagnostics = other DIAGNOSTIC-COUNT (λ q. omega arith) (λ q. omega arith);
-          long = (new_record_keeps w from n room within).long;
+          long = (new_record_keeps w from n).long;
         })
         (new_record_holds w from n room within R.holds.long R.holds F) refl

@@ -7,16 +7,16 @@ use Prim.Native.Nat.{ℕ, suc, ◌+◌, ◌<◌, ◌≤◌}
 use lib.ListN.{length, get_or, set}
 use lib.Seq.{get_or-set_same, get_or-set_other}
 use borrow.Author.Tests.{lt-ltb}
-use Rattle.work.specs.Layout.{RECORD-COUNT, ENV-LEN, DIAGNOSTIC-COUNT, UNKNOWNS, MARK-COUNT, UNUSED-COUNT, END}
-use Rattle.cells.specs.Stands.{Rows, Keeps}
-use Rattle.cells.proofs.Frame.{keeps_set}
+use Rattle.work.specs.Layout.{ENV-LEN, DIAGNOSTIC-COUNT, UNKNOWNS, MARK-COUNT, UNUSED-COUNT, END}
+use Rattle.cells.specs.Stands.{Rows}
 use Rattle.cells.proofs.Elsewhere.{SameState}
 use Rattle.meaning.specs.Diag.{Diagnostic}
-use Rattle.meaning.specs.Sound.{Sound}
-use Rattle.meaning.specs.File.{Described}
+use Rattle.format.specs.Sound.{Sound}
+use Rattle.format.specs.File.{Described}
 use Rattle.meaning.specs.Check.{Checker, with_diagnostics}
 use Rattle.state.specs.Words.{counted_w}
 use Rattle.state.specs.Runs.{Runs, Grew}
+use Rattle.state.proofs.Lending.{counted_within}
 use Rattle.state.proofs.Running.{same_grew, Unscoped, scopes_same, runs_aside}
 
 module _ (w : List ℕ) (room : get_or w DIAGNOSTIC-COUNT 0 < 1536) where
@@ -30,9 +30,6 @@ module _ (w : List ℕ) (room : get_or w DIAGNOSTIC-COUNT 0 < 1536) where
   pub count_other : (j : ℕ) → j ≢ DIAGNOSTIC-COUNT → get_or (counted_w w) j 0 ≡ get_or w j 0
   count_other j p = rw count_is (get_or-set_other w DIAGNOSTIC-COUNT j (count + 1) 0 p)
 
-  count_keeps : Keeps RECORD-COUNT END w (counted_w w)
-  count_keeps = rw count_is (keeps_set w DIAGNOSTIC-COUNT (count + 1) (omega arith) (omega arith))
-
   count_aside : SameState w (counted_w w)
   count_aside = record {
     cells = record {
@@ -40,7 +37,7 @@ module _ (w : List ℕ) (room : get_or w DIAGNOSTIC-COUNT 0 < 1536) where
       made = λ i l h. count_other i (λ q. omega arith);
       unknowns = omega (arith, count_other UNKNOWNS (λ q. omega arith));
     };
-    slots = record { unknowns = count_other UNKNOWNS (λ q. omega arith); at = λ i l h. count_other i (λ q. omega arith); long = count_keeps.long };
+    slots = record { unknowns = count_other UNKNOWNS (λ q. omega arith); at = λ i l h. count_other i (λ q. omega arith); long = (counted_within w).long };
   }
 
   counted : END ≤ length w → get_or (counted_w w) DIAGNOSTIC-COUNT 0 ≡ count + 1
@@ -65,4 +62,4 @@ module _ {f w : List ℕ} {T : Rows} {d : Described} {c : Checker} (sound : Soun
       (omega (arith, more))
 
   pub count_grew : Grew w (counted_w w) 0 0
-  count_grew = same_grew R.holds (count_aside w room).cells (count_keeps w room)
+  count_grew = same_grew R.holds (count_aside w room).cells (counted_within w)

@@ -16,10 +16,10 @@ use Rattle.cells.specs.Stands.{Rows, tree, Ok, Holds, Keeps}
 use Rattle.cells.specs.Inferred.{More}
 use Rattle.cells.proofs.Frame.{keeps_refl, keeps_trans, keeps_wider, OldCells, more_refl, SameCells, keeps_cells, same_old}
 use Rattle.cells.proofs.Elsewhere.{SameState, holds_same}
-use Rattle.cells.proofs.Holding.{annotate_keeps, annotate_holds, fresh_other, fresh_length, fresh_cells, fresh_holds}
+use Rattle.cells.proofs.Holding.{annotate_keeps, annotate_holds, fresh_keeps, fresh_other, fresh_length, fresh_cells, fresh_holds}
 use Rattle.cells.proofs.Making.{adds_refl, adds_trans, same_adds}
-use Rattle.meaning.specs.Sound.{Sound}
-use Rattle.meaning.specs.File.{Described}
+use Rattle.format.specs.Sound.{Sound}
+use Rattle.format.specs.File.{Described}
 use Rattle.meaning.specs.Check.{Checker, with_state}
 use Rattle.state.specs.Words.{env_of, numbers_of, unused_of}
 use Rattle.state.specs.Runs.{span_of, Scopes, Runs, Grew}
@@ -137,13 +137,6 @@ module _ {f w : List ℕ} {T : Rows} {d : Described} {c : Checker} (sound : Soun
     pub fresh_word : (i : ℕ) → i ≢ UNKNOWNS → i < BINDINGS → get_or (fresh_w w) i 0 ≡ get_or w i 0
     fresh_word i n h = fresh_other R.holds few i n (λ q. omega arith)
 
-    fresh_keeps : Keeps RECORD-COUNT END w (fresh_w w)
-    fresh_keeps = record {
-      below = λ i h. fresh_word i (λ q. omega arith) (omega arith);
-      above = λ i h. fresh_other R.holds few i (λ q. omega arith) (λ q. omega (arith, R.holds.binds.unknowns));
-      long = fresh_length R.holds few;
-    }
-
     pub fresh_runs : Runs f (fresh_w w) T d (with_state c (Bindings.fresh c.state))
     unfolding Bindings.fresh
     fresh_runs = runs_state sound R (same_old (fresh_cells R.holds few) R.holds.cells) more_refl
@@ -160,7 +153,7 @@ module _ {f w : List ℕ} {T : Rows} {d : Described} {c : Checker} (sound : Soun
         (fresh_holds R.holds few) refl
 
     pub fresh_grew : Grew w (fresh_w w) 0 0
-    fresh_grew = same_grew R.holds (fresh_cells R.holds few) fresh_keeps
+    fresh_grew = same_grew R.holds (fresh_cells R.holds few) (fresh_keeps w)
 
 -- ---- All but the state changed
 pub runs_aside : {f w w' : List ℕ} {T : Rows} {d : Described} {c c' : Checker} → Sound d → Runs f w T d c → SameState w w' → c'.state ≡ c.state

@@ -19,9 +19,9 @@ use Rattle.cells.specs.Words.{fresh_w}
 use Rattle.cells.specs.Stands.{Rows, Keeps}
 use Rattle.cells.specs.Promises.{RollsBack}
 use Rattle.cells.proofs.Elsewhere.{SameState}
-use Rattle.meaning.specs.All.{All}
-use Rattle.meaning.specs.Sound.{Sound}
-use Rattle.meaning.specs.File.{Described}
+use Rattle.format.specs.All.{All}
+use Rattle.format.specs.Sound.{Sound}
+use Rattle.format.specs.File.{Described}
 use Rattle.meaning.specs.Check as Check
 use Rattle.meaning.specs.Check.{Entry, Checker, Step, goes, and_then, lookup_in, is_in, marked, with_state, with_env, with_marks}
 use Rattle.state.specs.Words.{entry_w, env_of, known_as, numbers_of, push_w, push_env_w, marks_of, unused_of, is_marked_w, mark_w, Introduces}
@@ -341,7 +341,12 @@ module _ {w : List ℕ} {d : Described} {c : Checker} (S : Scopes w d c) (long :
         let k = get_or w MARK-COUNT 0 - n in
         let all : k + n ≡ get_or w MARK-COUNT 0 = omega arith in
         let len : length c.marks ≡ get_or w MARK-COUNT 0 = ap (λ (ms : List ℕ). length ms) S.marks ∙ numbers_length MARKS w (get_or w MARK-COUNT 0) in
-        rw (len, S.marks, get_or-set_same w MARK-COUNT n 0 (omega arith), numbers_same MARKS w unmarked n (λ i h. unmarked_other (MARKS + i) (λ q. omega arith)))
+        rw (
+          len,
+          S.marks,
+          get_or-set_same w MARK-COUNT n 0 (omega arith),
+          numbers_same MARKS w unmarked n (λ i h. unmarked_other (MARKS + i) (λ q. omega arith)),
+        )
         (ap (λ (m : ℕ). drop k (marks_of w m)) (sym all) ∙ numbers_drop MARKS w k n)
 
     pub unmarked_scopes : Scopes (set w MARK-COUNT n) d (with_marks c (drop (length c.marks - n) c.marks))

@@ -20,10 +20,10 @@ use Rattle.cells.specs.Words.{pick, ty_w, declared_w, count_w, first_w, declared
 use Rattle.cells.specs.Stands.{Rows, tree, row_from, row_w, tag_of, IsCell, declared, made, Ok, part_words, Cells}
 use Rattle.cells.specs.Inferred.{More}
 use Rattle.cells.proofs.Frame.{field_declared, tree_more}
-use Rattle.meaning.specs.Schema.{Predicate, Schema}
-use Rattle.meaning.specs.Conditions.{max_names, max_predicates}
-use Rattle.meaning.specs.Sound.{Sound}
-use Rattle.meaning.specs.File.{Described}
+use Rattle.format.specs.Schema.{Predicate, Schema}
+use Rattle.format.specs.Conditions.{max_names, max_predicates}
+use Rattle.format.specs.Sound.{Sound}
+use Rattle.format.specs.File.{Described}
 use Rattle.tree.specs.Stands.{TypeCells, value_of, PredicateIs, SchemaStands, Stands}
 use Rattle.std.specs.Prelude.{None, Some}
 
@@ -48,7 +48,8 @@ declared_ok w t lt many small = five (eqb (tag_at w t) 5) refl
     six true n q = declared lt many (eqb-true (tag_at w t) 6 q)
     six false n q = leaf_ok w (tag_at w t) (get_or w (TYPES + 2 * t + 1) 0) n q small
 
-    five : (b : Bool) → eqb (tag_at w t) 5 ≡ b → Ok w (pick b (Record t) (pick (eqb (tag_at w t) 6) (Union t) (ty_w (tag_at w t) (get_or w (TYPES + 2 * t + 1) 0))))
+    five : (b : Bool) → eqb (tag_at w t) 5 ≡ b → Ok w
+        (pick b (Record t) (pick (eqb (tag_at w t) 6) (Union t) (ty_w (tag_at w t) (get_or w (TYPES + 2 * t + 1) 0))))
     five true q = declared lt many (eqb-true (tag_at w t) 5 q)
     five false q = six (eqb (tag_at w t) 6) q refl
 
@@ -61,7 +62,8 @@ part_ok {w = w} S k c j h tag lt =
     rw e.2 (declared_ok w e.0 (omega (arith, S.types)) there (S.cells.tags e.0 there))
 
 -- ---- No record was made
-made_none : (w : List ℕ) → get_or w RECORD-COUNT 0 ≡ 0 → {k : Kind} {c : ℕ} → IsCell w k c → (c < get_or w TYPE-COUNT 0) × (get_or w (TYPES + 2 * c) 0 % 16 ≡ tag_of k)
+made_none : (w : List ℕ) → get_or w RECORD-COUNT 0 ≡ 0 → {k : Kind} {c : ℕ} → IsCell w k c → (c < get_or w TYPE-COUNT 0)
+    × (get_or w (TYPES + 2 * c) 0 % 16 ≡ tag_of k)
 made_none w empty (declared {k} {c} lt many tag) = (many, tag)
 made_none w empty (made {c} le many) = absurd (omega arith)
 
@@ -95,7 +97,8 @@ module _ (w w' : List ℕ) (said : (i : ℕ) → i < NODES → (i ≡ NODE-COUNT
   unfolding first_w
   first_said c lt = rw (lt-ltb c 256 lt, said (TYPES + 2 * c + 1) (omega arith) (λ e. omega arith) (λ e. omega arith))
 
-  part_said : (k : Kind) (c j : ℕ) → c < 256 → FIELDS + (first_w w c + part_words k * count_w w c) ≤ RECORD-COUNT → j < count_w w c → part_w w' k c j ≡ part_w w k c j
+  part_said : (k : Kind) (c j : ℕ) → c < 256 → FIELDS + (first_w w c + part_words k * count_w w c) ≤ RECORD-COUNT → j < count_w w c
+      → part_w w' k c j ≡ part_w w k c j
   unfolding declared_field alternative_w
   part_said Fields c j lt fits h =
       let at = FIELDS + first_w w c + j in

@@ -11,8 +11,8 @@ use Rattle.work.specs.Layout.{RECORD-COUNT, RECORD-FIELD-COUNT, ENV-LEN, DIAGNOS
 use Rattle.cells.specs.Stands.{Rows, Keeps}
 use Rattle.cells.proofs.Frame.{more_refl}
 use Rattle.cells.proofs.Starting.{start_holds}
-use Rattle.meaning.specs.Sound.{Sound}
-use Rattle.meaning.specs.File.{Described}
+use Rattle.format.specs.Sound.{Sound}
+use Rattle.format.specs.File.{Described}
 use Rattle.meaning.specs.Check.{Until, begin_until}
 use Rattle.tree.specs.Stands.{Stands}
 use Rattle.state.specs.Words.{env_of, numbers_of}

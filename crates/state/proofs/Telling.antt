@@ -10,10 +10,11 @@ use Rattle.std.proofs.lemmas.List.{take_rest}
 use Rattle.unification.specs.Ty.{Row}
 use Rattle.unification.specs.Bindings.{Subst, State}
 use Rattle.cells.specs.Stands.{Rows, Holds}
-use Rattle.meaning.specs.Syntax.{Node, Span}
-use Rattle.meaning.specs.File.{Described}
+use Rattle.format.specs.Syntax.{Node, Span}
+use Rattle.format.specs.File.{Described}
 use Rattle.meaning.specs.Messages.{message_text}
-use Rattle.meaning.specs.Answer.{bytes₂, bytes₄, hex_line, diagnostic_bytes, unused_line, diagnostic_line}
+use Rattle.format.specs.Bytes.{bytes₂, bytes₄, hex_line}
+use Rattle.meaning.specs.Answer.{diagnostic_bytes, unused_line, diagnostic_line}
 use Rattle.writer.specs.Writes.{Writes, hex_of}
 use Rattle.writer.proofs.Writing.{writes_as, writes_to, writes_then, writes_full}
 use Rattle.writer.proofs.Digits.{hex_then, hex_full, line_then, line_full}
@@ -22,7 +23,7 @@ use Rattle.tree.specs.Stands.{NodeIs, Stands}
 use Rattle.tree.proofs.Spans.{span_written, span_there}
 use Rattle.messages.specs.declared.Message.{Message}
 use Rattle.messages.specs.Said.{said, OkMessage, WritesCode, WritesMessage}
-use Rattle.state.specs.Lines.{SpanAt, diagnosed, WritesSpan, WritesUnusedLine, WritesCodeLine, said_bytes, WritesMessageLine, WritesLine}
+use Rattle.state.specs.Lines.{SpanAt, diagnosed, WritesSpan, WritesUnusedLine, WritesCodeLine, said_bytes, WritesMessageLine, WritesBothLines}
 use Rattle.std.specs.Prelude.{None, Option, Some}
 
 -- ---- A span
@@ -81,7 +82,8 @@ pub record WritesDiagnostic (f w out : List ℕ) (at n : ℕ) (m : Message) (out
   pub long : length out' ≡ length out
 
 pub record WritesSaid (f w out : List ℕ) (at : ℕ) (m : Message) (out' : List ℕ) (r : Option ℕ) : Type 0 where
-  pub is : (T : Rows) (d : Described) (st : State) → Stands f w T d → Holds w T st → OkMessage w m → Writes out at (hex_of (said_bytes d (said T st.subst m))) out' r
+  pub is : (T : Rows) (d : Described) (st : State) → Stands f w T d → Holds w T st → OkMessage w m
+      → Writes out at (hex_of (said_bytes d (said T st.subst m))) out' r
   pub long : length out' ≡ length out
 
 module _ {f w out : List ℕ} {at : ℕ} {m : Message} {mid : List ℕ} {h : Option ℕ} where
@@ -125,10 +127,10 @@ module _ {f w out : List ℕ} {at n : ℕ} {m : Message} {mid : List ℕ} {h : O
     code_full e = record { is = λ T s x t. line_full _ (p.is T s x t) e; long = p.long }
 
   module _ (p : WritesCodeLine f w out at n m mid h) where
-    pub both_then : {e : ℕ} → h ≡ Some e → {out' : List ℕ} {r : Option ℕ} → WritesMessageLine f w mid e m out' r → WritesLine f w out at n m out' r
+    pub both_then : {e : ℕ} → h ≡ Some e → {out' : List ℕ} {r : Option ℕ} → WritesMessageLine f w mid e m out' r → WritesBothLines f w out at n m out' r
     unfolding diagnostic_line
     both_then e g = record { is = λ T d st x S H o t. writes_then (p.is T st.subst x t) e (g.is T d st S H o); long = g.long ∙ p.long }
 
-    pub both_full : h ≡ None → WritesLine f w out at n m mid None
+    pub both_full : h ≡ None → WritesBothLines f w out at n m mid None
     unfolding diagnostic_line
     both_full e = record { is = λ T d st x S H o t. writes_full (p.is T st.subst x t) e (hex_line (said_bytes d (said T st.subst m))); long = p.long }

@@ -4,18 +4,19 @@
 use Rattle.std.specs.Prelude.{List, [], ◌∷◌, ◌++◌, ◌≡◌, ℕ, ◌+◌, ◌*◌, ◌/◌, ◌%◌, ◌<◌, ◌≤◌, length, get_or, set, take, drop, ltb, None, Option, Some}
 use Rattle.work.specs.Layout.{PLACE, PLACE-HIGH, FULL, UNTIL, LEFT, STOP, ENTERED, GOT, EXPECTED}
 use Rattle.unification.specs.Bindings.{Subst, State}
-use Rattle.unification.specs.Calls.{Entry}
+use Rattle.unification.specs.Calls.{UnifyEntry}
 use Rattle.cells.specs.declared.Ty.{Ty}
 use Rattle.cells.specs.Words.{pick, ty_w, put_ty}
 use Rattle.cells.specs.Stands.{Rows, tree, Ok, Holds, Keeps}
-use Rattle.meaning.specs.Syntax.{Span}
+use Rattle.format.specs.Syntax.{Span}
 use Rattle.meaning.specs.Diag as Diag
 use Rattle.meaning.specs.Diag.{Diagnostic}
-use Rattle.meaning.specs.File.{Described}
+use Rattle.format.specs.File.{Described}
 use Rattle.meaning.specs.Check as Check
 use Rattle.meaning.specs.Check.{Checker, reversed}
 use Rattle.meaning.specs.Messages.{message_text}
-use Rattle.meaning.specs.Answer.{bytes₄, hex_line, diagnostic_bytes, unused_line, diagnostic_line, diagnostic_lines}
+use Rattle.format.specs.Bytes.{bytes₄, hex_line}
+use Rattle.meaning.specs.Answer.{diagnostic_bytes, unused_line, diagnostic_line, diagnostic_lines}
 use Rattle.writer.specs.Writes.{Writes, hex_of}
 use Rattle.tree.specs.Nodes.{line_start_w}
 use Rattle.tree.specs.Stands.{Stands}
@@ -69,11 +70,12 @@ abbrev pub said_bytes : Described → Diag.Message → List ℕ
 said_bytes d x = 0x0a ∷ message_text d.names d.schema x
 
 pub record WritesMessageLine (f w out : List ℕ) (at : ℕ) (m : Message) (out' : List ℕ) (r : Option ℕ) : Type 0 where
-  pub is : (T : Rows) (d : Described) (st : State) → Stands f w T d → Holds w T st → OkMessage w m → Writes out at (hex_line (said_bytes d (said T st.subst m))) out' r
+  pub is : (T : Rows) (d : Described) (st : State) → Stands f w T d → Holds w T st → OkMessage w m
+      → Writes out at (hex_line (said_bytes d (said T st.subst m))) out' r
   pub long : length out' ≡ length out
 
 -- Both.
-pub record WritesLine (f w out : List ℕ) (at n : ℕ) (m : Message) (out' : List ℕ) (r : Option ℕ) : Type 0 where
+pub record WritesBothLines (f w out : List ℕ) (at n : ℕ) (m : Message) (out' : List ℕ) (r : Option ℕ) : Type 0 where
   pub is : (T : Rows) (d : Described) (st : State) (p : Span) → Stands f w T d → Holds w T st → OkMessage w m → SpanAt f (line_start_w w n) p
       → Writes out at (line_of d (diagnosed T st.subst m p)) out' r
   pub long : length out' ≡ length out
@@ -164,12 +166,12 @@ unfolding ty_w
 side_w w at = ty_w (get_or w at 0) (get_or w (at + 1) 0)
 
 -- The newest entry's sides stand in the words.
-abbrev pub Sides : List ℕ → Rows → List Entry → Type 0
-Sides w T [] = ⊥
-Sides w T (e ∷ es) = Ok w (side_w w GOT) × (tree T (side_w w GOT) ≡ e.got) × Ok w (side_w w EXPECTED) × (tree T (side_w w EXPECTED) ≡ e.expected)
+abbrev pub EntrySides : List ℕ → Rows → List UnifyEntry → Type 0
+EntrySides w T [] = ⊥
+EntrySides w T (e ∷ es) = Ok w (side_w w GOT) × (tree T (side_w w GOT) ≡ e.got) × Ok w (side_w w EXPECTED) × (tree T (side_w w EXPECTED) ≡ e.expected)
 
 -- Where the run was to last until an entry that came.
-abbrev pub AtEntry : List ℕ → Rows → Check.Until → List Entry → Type 0
+abbrev pub AtEntry : List ℕ → Rows → Check.Until → List UnifyEntry → Type 0
 AtEntry w T Check.the_end es = Unit {0}
 AtEntry w T Check.first_diagnostic es = Unit {0}
-AtEntry w T (Check.entry n) es = n < length es → Sides w T es
+AtEntry w T (Check.entry n) es = n < length es → EntrySides w T es

@@ -3,10 +3,10 @@
 use Rattle.std.specs.Prelude.{List, map, ◌≡◌, ℕ, ◌+◌, ◌≤◌, ◌<◌, length, get_or}
 use Rattle.work.specs.Layout.{RECORD-COUNT, RECORD-FIELD-COUNT, ENV-LEN, DIAGNOSTIC-COUNT, MARK-COUNT, UNUSED-COUNT, END}
 use Rattle.cells.specs.Stands.{Rows, Holds, Keeps}
-use Rattle.cells.specs.Inferred.{Adds}
-use Rattle.meaning.specs.All.{All}
-use Rattle.meaning.specs.Syntax.{Span, node_at}
-use Rattle.meaning.specs.File.{Described}
+use Rattle.cells.specs.Inferred.{AddsCells}
+use Rattle.format.specs.All.{All}
+use Rattle.format.specs.Syntax.{Span, node_at}
+use Rattle.format.specs.File.{Described}
 use Rattle.meaning.specs.Check.{Checker}
 use Rattle.tree.specs.Stands.{Stands}
 use Rattle.state.specs.Words.{env_of, marks_of, unused_of}
@@ -36,7 +36,7 @@ pub record Runs (f w : List ℕ) (T : Rows) (d : Described) (c : Checker) : Type
 
 -- At most n records and m fields were made, and only words of the run changed.
 pub record Grew (w w' : List ℕ) (n m : ℕ) : Type 0 where
-  pub adds : Adds w w'
+  pub adds : AddsCells w w'
   pub keeps : Keeps RECORD-COUNT END w w'
   pub records : get_or w' RECORD-COUNT 0 ≤ get_or w RECORD-COUNT 0 + n
   pub fields : get_or w' RECORD-FIELD-COUNT 0 ≤ get_or w RECORD-FIELD-COUNT 0 + m

@@ -6,7 +6,7 @@ ghost use Rattle.std.specs.Prelude.{◌≡◌, ◌+◌, ◌*◌, get_or, set, �
 ghost use Rattle.work.specs.Layout.{PLACE, PLACE-HIGH, FULL, UNTIL, LEFT, STOP, ENTERED, ENV-LEN, MARK-COUNT};
 ghost use Rattle.meaning.specs.Check.{lookup_in, is_in};
 ghost use Rattle.state.specs.Words.{bumped_w, counted_w, entry_w, env_of, known_as, push_env_w, marks_of, mark_w, leave_entry_w, leave_w, Introduces};
-ghost use Rattle.state.specs.Lines.{place_w, set_place_w, WritesSpan, WritesUnusedLine, WritesCodeLine, WritesMessageLine, WritesLine, until_of, until_w, stop_w, UntilIs, Tells, Halts, Rejected, entered_w, sides_w, Enters};
+ghost use Rattle.state.specs.Lines.{place_w, set_place_w, WritesSpan, WritesUnusedLine, WritesCodeLine, WritesMessageLine, WritesBothLines, until_of, until_w, stop_w, UntilIs, Tells, Halts, Rejected, entered_w, sides_w, Enters};
 ghost use Rattle.state.specs.Running.{left_if, Lent};
 ghost use Rattle.tree.specs.Nodes.{IsNode};
 
@@ -242,7 +242,7 @@ fn message_line(f: &[u8], w: &[u32], out: &mut [u8], at: usize, m: Message) -> O
 
 // Both lines: the code with the span, and the text.
 fn line(f: &[u8], w: &[u32], out: &mut [u8], at: usize, n: u32, m: Message) -> Option<usize>
-    ensures { WritesLine f.now w.now out.old at n m out.new result }
+    ensures { WritesBothLines f.now w.now out.old at n m out.new result }
 {
     let e = code_line(f, w, out, at, n, m)?;
     message_line(f, w, out, e, m)

@@ -14,9 +14,9 @@ use Rattle.cells.specs.declared.Part.{Part}
 use Rattle.cells.specs.Stands.{Rows, tree, Ok}
 use Rattle.cells.specs.Promises.{FindsName}
 use Rattle.cells.specs.contracts.Ty.{the_type}
-use Rattle.meaning.specs.Schema.{field_of}
-use Rattle.meaning.specs.File.{Described}
-use Rattle.meaning.specs.Sound.{Sound}
+use Rattle.format.specs.Schema.{field_of}
+use Rattle.format.specs.File.{Described}
+use Rattle.format.specs.Sound.{Sound}
 use Rattle.meaning.specs.Check.{Checker, Does, goes, reject_ty, key_ty, value_ty, field_at, key_of, value_of, select_of, unresolved}
 use Rattle.meaning.specs.Grades.{unknowns}
 use Rattle.meaning.proofs.Visits.{key_declared}
@@ -42,7 +42,8 @@ module _ {f w ou : List ℕ} {n name left : ℕ} {t : Ty} {b : Option Ty} (F : F
     };
   }
 
-  pub field_at_none : b ≡ None → {w' ou' : List ℕ} {r : Option (Ty × ℕ)} → RejectsTy f w ou n (Message.NoField name) left w' ou' r → FieldAt f w ou n name t left w' ou' r
+  pub field_at_none : b ≡ None → {w' ou' : List ℕ} {r : Option (Ty × ℕ)} → RejectsTy f w ou n (Message.NoField name) left w' ou' r
+      → FieldAt f w ou n name t left w' ou' r
   unfolding field_at
   field_at_none q x = record {
     is = λ d there. record {
@@ -137,12 +138,14 @@ module _ {f w ou : List ℕ} (n name : ℕ) {left : ℕ} {t : Ty} where
   unfolding key_of unresolved
   key_unknown x e q = head_rejects (keys n name) Message.UnknownType (λ o. tt) (λ T d c R o. rw e) q
 
-  pub key_record : (k : ℕ) → t ≡ Record k → {w' ou' : List ℕ} {r : Option (Ty × ℕ)} → FieldAt f w ou n name t left w' ou' r → KeyOf f w ou n name t left w' ou' r
+  pub key_record : (k : ℕ) → t ≡ Record k → {w' ou' : List ℕ} {r : Option (Ty × ℕ)} → FieldAt f w ou n name t left w' ou' r
+      → KeyOf f w ou n name t left w' ou' r
   unfolding key_of
   key_record k e F = record { is = λ d there. record { is = λ T c B fine. rw e (rw e at ((F.is d there).is T c B fine)) } }
 
   module _ {p : ℕ} (e : t ≡ Fact p) {key : Option Ty} (k : key ≡ key_ty_w w p) where
-    pub key_found : (u : Ty) → key ≡ Some u → {w' ou' : List ℕ} {r : Option (Ty × ℕ)} → FieldAt f w ou n name u left w' ou' r → KeyOf f w ou n name t left w' ou' r
+    pub key_found : (u : Ty) → key ≡ Some u → {w' ou' : List ℕ} {r : Option (Ty × ℕ)} → FieldAt f w ou n name u left w' ou' r
+        → KeyOf f w ou n name t left w' ou' r
     unfolding key_of
     key_found u q F = record {
       is = λ d there. record {
@@ -188,7 +191,8 @@ module _ {f w ou : List ℕ} (n : ℕ) {left : ℕ} {t : Ty} where
   value_unknown x e q = head_rejects (values n) Message.UnknownType (λ o. tt) (λ T d c R o. rw e) q
 
   module _ {p : ℕ} (e : t ≡ Fact p) {b : Bool} (S : Shadows w p b) where
-    pub value_shadowed_lem : b ≡ true → {w' ou' : List ℕ} {r : Option (Ty × ℕ)} → RejectsTy f w ou n Message.ValueShadowed left w' ou' r → ValueOf f w ou n t left w' ou' r
+    pub value_shadowed_lem : b ≡ true → {w' ou' : List ℕ} {r : Option (Ty × ℕ)} → RejectsTy f w ou n Message.ValueShadowed left w' ou' r
+        → ValueOf f w ou n t left w' ou' r
     unfolding value_of
     value_shadowed_lem q x = head_rejects (values n) Message.ValueShadowed (λ o. tt) (λ T d c R o. rw (e, ← (S.is f T d c R), q, value_of)) x
 
@@ -199,7 +203,8 @@ module _ {f w ou : List ℕ} (n : ℕ) {left : ℕ} {t : Ty} where
           let y : Some (tree T u) ≡ value_ty d.schema (nodes_of d) p = rw (← v, z) at (value_stands R p) in
           (rw (← v, z) at (value_ok R p), rw (e, ← (S.is f T d c R), q, ← y, value_of)))
 
-      pub value_absent : value ≡ None → {w' ou' : List ℕ} {r : Option (Ty × ℕ)} → RejectsTy f w ou n Message.NoValue left w' ou' r → ValueOf f w ou n t left w' ou' r
+      pub value_absent : value ≡ None → {w' ou' : List ℕ} {r : Option (Ty × ℕ)} → RejectsTy f w ou n Message.NoValue left w' ou' r
+          → ValueOf f w ou n t left w' ou' r
       unfolding value_of
       value_absent z x = head_rejects (values n) Message.NoValue (λ o. tt) (λ T d c R o.
           let y : None ≡ value_ty d.schema (nodes_of d) p = rw (← v, z) at (value_stands R p) in rw (e, ← (S.is f T d c R), q, ← y, value_of)) x

@@ -22,7 +22,7 @@ use Rattle.cells.specs.Stands.{Rows, tree, Ok, Keeps}
 use Rattle.cells.specs.Promises as Cells
 use Rattle.cells.specs.Promises.{error_of, OkError, RollsBack, Unifies}
 use Rattle.cells.proofs.Frame.{more_refl, keeps_wider}
-use Rattle.meaning.specs.File.{Described}
+use Rattle.format.specs.File.{Described}
 use Rattle.meaning.specs.Check as Check
 use Rattle.meaning.specs.Diag.{Diagnostic}
 use Rattle.meaning.specs.Check.{Checker, Step, Does, goes, and_then}
@@ -30,12 +30,12 @@ use Rattle.meaning.specs.Run.{NotYet}
 use Rattle.meaning.specs.Grades.{Orderly, no_thing, one_diagnostic}
 use Rattle.meaning.proofs.Meets.{Meets}
 use Rattle.meaning.proofs.Steps.{Nothing, reject_meets, reject_if}
-use Rattle.unification.specs.Calls.{Entry}
+use Rattle.unification.specs.Calls.{UnifyEntry}
 use Rattle.unification.proofs.Tests.{clash}
 use Rattle.unification.specs.Bindings.{Subst}
 use Rattle.messages.specs.declared.Message.{Message}
 use Rattle.messages.specs.Said.{said, report_message, OkMessage}
-use Rattle.state.specs.Lines.{Rejected, entered_w, sides_w, Sides, AtEntry, Enters, enters, enters_before, stops_here}
+use Rattle.state.specs.Lines.{Rejected, entered_w, sides_w, EntrySides, AtEntry, Enters, enters, enters_before, stops_here}
 use Rattle.state.proofs.Arriving.{goes_past, still_not, stops_there, entered_keeps, entered_runs, entered_grew, entered_told, stopped_runs, stopped_grew}
 use Rattle.state.proofs.Arriving.{stopped_told, got_side, expected_side}
 use Rattle.state.proofs.Running.{runs_slots, grew_slots}
@@ -44,7 +44,7 @@ use Rattle.state.proofs.Leaving.{leave_runs, leave_unlined, leave_grew}
 use Rattle.state.specs.Words.{leave_w}
 use Rattle.state.proofs.Lining.{told_same}
 use Rattle.state.proofs.Lined.{keeps_unlined}
-use Rattle.steps.specs.Ends.{done, silent, unified, Gone, Ends, went, spent}
+use Rattle.steps.specs.Ends.{done, silent, unified, Gone, StepEnds, went, spent}
 use Rattle.steps.specs.Loads.{Load, only, both, FitsIn, Begins, Beside}
 use Rattle.steps.specs.Promises.{nodes_of, Reports, RollsTo, Leaves, fuzzy, Fuzzes, UnifiesOutside, typed_after}
 use Rattle.steps.specs.declared.Mark.{Mark}
@@ -124,13 +124,13 @@ module _ {f w ou : List ℕ} {T : Rows} {d : Described} {left : ℕ} {c : Checke
     (there : n < length (nodes_of d)) where
   -- By a test.
   reject_if_ends : (m : Message) → OkMessage w m → {w' ou' : List ℕ} {r : Option ℕ} (b : Bool) → RejectedIf f w ou n m left w' ou' r b
-      → Ends f w ou w' ou' T d 0 0 (done r) ((elim b as (λ b. Does (Unit {0}))
+      → StepEnds f w ou w' ou' T d 0 0 (done r) ((elim b as (λ b. Does (Unit {0}))
       [ true ↦ Check.reject d.schema (nodes_of d) n (said T c.state.subst m) | false ↦ (λ c. goes tt c) ]) c)
   reject_if_ends m ok true (reported x) = reject_ends B n there m ok x
   reject_if_ends m ok false (stayed p q z) = rw (p, q, z) (on_here B.runs B.lines B.visits)
 
   distance_ends : (distance : ℕ) {w' ou' : List ℕ} {r : Option ℕ} → RejectedIf f w ou n (Message.DistanceOutside distance) left w' ou' r (far_w w distance)
-      → Ends f w ou w' ou' T d 0 0 (done r) (Check.fuzzy_distance d.schema (nodes_of d) n distance c)
+      → StepEnds f w ou w' ou' T d 0 0 (done r) (Check.fuzzy_distance d.schema (nodes_of d) n distance c)
   unfolding Check.fuzzy_distance
   distance_ends zero (reported x) = reject_ends B n there (Message.DistanceOutside zero) tt x
   distance_ends (suc e) x = reject_if_ends (Message.DistanceOutside (suc e)) tt (ltb d.schema.max_distance (suc e))
@@ -138,7 +138,7 @@ module _ {f w ou : List ℕ} {T : Rows} {d : Described} {left : ℕ} {c : Checke
 
   term_ends : (term : ℕ) → term < length d.schema.characters → {w' ou' : List ℕ} {r : Option ℕ}
       → RejectedIf f w ou n (Message.TermTooLong (characters_w w term)) left w' ou' r (long_w w term)
-      → Ends f w ou w' ou' T d 0 0 (done r) (Check.fuzzy_term d.schema (nodes_of d) n term c)
+      → StepEnds f w ou w' ou' T d 0 0 (done r) (Check.fuzzy_term d.schema (nodes_of d) n term c)
   unfolding Check.fuzzy_term
   term_ends term name x = reject_if_ends (Message.TermTooLong (get_or d.schema.characters term 0)) tt
       (ltb d.schema.max_term_chars (get_or d.schema.characters term 0))
@@ -193,15 +193,15 @@ module _ {f w ou w₁ ou₁ : List ℕ} (n term distance : ℕ) {left : ℕ} {r 
 -- ---- `unify`
 
 -- What the run is to last until has not come, so no sides are kept.
-pub not_come : (u : Check.Until) (w : List ℕ) (T : Rows) (ds : List Diagnostic) (es : List Entry) → NotYet u ds es → AtEntry w T u es
+pub not_come : (u : Check.Until) (w : List ℕ) (T : Rows) (ds : List Diagnostic) (es : List UnifyEntry) → NotYet u ds es → AtEntry w T u es
 not_come Check.the_end w T ds es h = tt
 not_come Check.first_diagnostic w T ds es h = tt
 not_come (Check.entry n) w T ds es h = λ l. absurd (omega arith)
 
 module _ {f w ou w' : List ℕ} {T : Rows} {d : Described} {left : ℕ} {c : Checker} {r : Result ℕ Failure} (B : Begins f w ou T d (only no_thing) left c) where
-  unified_ends : (res : Unify.Unified) → Cells.Ends w w' T r res → Kept.After (Kept.Kept c.state) res
-      → Ends f w ou w' ou T d 0 0 (unified w' r) (Check.unified c res)
-  unfolding Check.unified Check.with_state Cells.Ends
+  unified_ends : (res : Unify.Unified) → Cells.UnifyEnds w w' T r res → Kept.After (Kept.Kept c.state) res
+      → StepEnds f w ou w' ou T d 0 0 (unified w' r) (Check.unified c res)
+  unfolding Check.unified Check.with_state Cells.UnifyEnds
   unified_ends (Unify.Ok st) e k =
       let K : Keeps TYS END w w' = keeps_wider (omega arith) (omega arith) e.1.keeps in
       went (record {
@@ -234,7 +234,7 @@ module _ {f w ou w' : List ℕ} {T : Rows} {d : Described} {left : ℕ} {c : Che
       })
 
   united_ends : {got expected : Ty} → Unifies w got expected left w' r → Ok w got → Ok w expected
-      → Ends f w ou w' ou T d 0 0 (unified w' r) (Check.united (tree T got) (tree T expected) c)
+      → StepEnds f w ou w' ou T d 0 0 (unified w' r) (Check.united (tree T got) (tree T expected) c)
   unfolding Check.united Unify.unify
   united_ends {got} {expected} U p q = unified_ends (Unify.unify c.state (tree T got) (tree T expected))
       (U.is T c.state B.runs.holds B.visits p q c.state.left (omega (arith, B.visits)))
@@ -279,8 +279,8 @@ module _ {f w ou : List ℕ} {T : Rows} {d : Described} {left : ℕ} {c : Checke
   }
 
   made : {got expected : Ty} {l : ℕ} {w₁ w' : List ℕ} {r : Result ℕ Failure} → Enters w got expected left w₁ (Some l)
-      → Ends f (entered_w w) ou w' ou T d 0 0 (unified w' r) (Check.united a b (Check.entered a b c))
-      → Ends f w ou w' ou T d 0 0 (unified w' r) (Check.unify a b c)
+      → StepEnds f (entered_w w) ou w' ou T d 0 0 (unified w' r) (Check.united a b (Check.entered a b c))
+      → StepEnds f w ou w' ou T d 0 0 (unified w' r) (Check.unify a b c)
   unfolding Check.unify Check.enter and_then
   made {w' = w'} {r} E h =
       let g : Gone f w ou (entered_w w) ou T d 0 0 (silent left) tt (Check.entered a b c) 0 = record {
@@ -291,12 +291,12 @@ module _ {f w ou : List ℕ} {T : Rows} {d : Described} {left : ℕ} {c : Checke
         grew = entered_grew B.sound B.runs B.lines a b;
         is = B.visits;
       } in
-      subst (λ (s : Step (Unit {0})). Ends f w ou w' ou T d 0 0 (unified w' r) (and_then s (λ _. Check.united a b)))
+      subst (λ (s : Step (Unit {0})). StepEnds f w ou w' ou T d 0 0 (unified w' r) (and_then s (λ _. Check.united a b)))
       (sym (goes_past B.lines (Check.entered a b c) one_more E))
       (gone_on (only no_thing) (only no_thing) (only no_thing) no_more g h)
 
   unmade : {got expected : Ty} {w' : List ℕ} → Enters w got expected left w' None → tree T got ≡ a → tree T expected ≡ b → Ok w got
-      → Ok w expected → Ends f w ou w' ou T d 0 0 (unified w' (Err Failure.Spent)) (Check.unify a b c)
+      → Ok w expected → StepEnds f w ou w' ou T d 0 0 (unified w' (Err Failure.Spent)) (Check.unify a b c)
   unfolding Check.unify Check.enter and_then
   unmade {got} {expected} (stops_here z l) p q i j =
       let S = sides_w (entered_w w) got expected left in
@@ -304,7 +304,7 @@ module _ {f w ou : List ℕ} {T : Rows} {d : Described} {left : ℕ} {c : Checke
       let G = stopped_grew B.sound B.runs B.lines a b got expected left in
       let s = got_side B.sound B.runs B.lines a b got expected left in
       let t = expected_side B.sound B.runs B.lines a b got expected left in
-      subst (λ (s : Step (Unit {0})). Ends f w ou S ou T d 0 0 (unified S (Err Failure.Spent)) (and_then s (λ _. Check.united a b)))
+      subst (λ (s : Step (Unit {0})). StepEnds f w ou S ou T d 0 0 (unified S (Err Failure.Spent)) (and_then s (λ _. Check.united a b)))
       (sym (stops_there B.lines (Check.entered a b c) one_more E))
       (spent (record {
         T' = T;
@@ -315,7 +315,7 @@ module _ {f w ou : List ℕ} {T : Rows} {d : Described} {left : ℕ} {c : Checke
         is = (refl, there c.until (rw s (ok_kept G.adds got i), rw s p, rw t (ok_kept G.adds expected j), rw t q));
       }))
     where
-      there : (u : Check.Until) → Sides (sides_w (entered_w w) got expected left) T (Check.entered a b c).entries
+      there : (u : Check.Until) → EntrySides (sides_w (entered_w w) got expected left) T (Check.entered a b c).entries
           → AtEntry (sides_w (entered_w w) got expected left) T u (Check.entered a b c).entries
       there Check.the_end h = tt
       there Check.first_diagnostic h = tt

@@ -16,7 +16,7 @@ use Rattle.cells.specs.Words.{annotate_w, fresh_w}
 use Rattle.cells.specs.Stands.{Rows, tree, Ok}
 use Rattle.cells.proofs.Holding.{annotate_keeps}
 use Rattle.cells.proofs.Frame.{more_refl}
-use Rattle.meaning.specs.File.{Described}
+use Rattle.format.specs.File.{Described}
 use Rattle.meaning.specs.Check as Check
 use Rattle.meaning.specs.Check.{Checker, Step, goes, and_then, lookup_in}
 use Rattle.meaning.specs.Grades.{unknowns, one_diagnostic}
@@ -31,7 +31,7 @@ use Rattle.state.proofs.Running.{grew_refl, annotate_runs, grew_slots, fresh_wor
 use Rattle.state.proofs.Scoping.{runs_env_length, runs_marks_length, Gives, introduce_runs}
 use Rattle.state.proofs.Lining.{told_same}
 use Rattle.state.proofs.Lined.{rejected_runs, rejected_grew, rejected_on, rejected_out}
-use Rattle.steps.specs.Ends.{typed, done, numbered, Ends, went, spent}
+use Rattle.steps.specs.Ends.{typed, done, numbered, StepEnds, went, spent}
 use Rattle.steps.specs.Loads.{Load, only, Begins}
 use Rattle.steps.specs.Promises.{nodes_of, Rejects, Notes, Freshens, Brings}
 use Rattle.steps.specs.Outside.{RejectsTy}
@@ -40,7 +40,7 @@ use Rattle.std.specs.Prelude.{None, Option, Some, ℕ}
 
 module _ {f w ou : List ℕ} {T : Rows} {d : Described} {left : ℕ} {c : Checker} (B : Begins f w ou T d (only one_diagnostic) left c) where
   -- A type in hand comes back.
-  pub ends_with : (t : Ty) (ty : Tree.Ty) → Ok w t → tree T t ≡ ty → Ends f w ou w ou T d 0 0 (typed w (Some (t, left))) (goes ty c)
+  pub ends_with : (t : Ty) (ty : Tree.Ty) → Ok w t → tree T t ≡ ty → StepEnds f w ou w ou T d 0 0 (typed w (Some (t, left))) (goes ty c)
   ends_with t ty o e = went (record {
     T' = T;
     more = more_refl;
@@ -56,11 +56,11 @@ module _ {f w ou : List ℕ} {T : Rows} {d : Described} {left : ℕ} {c : Checke
 
     -- By what the run is to last until.
     pub reject_ends : {w' ou' : List ℕ} {r : Option ℕ} → Rejected f w ou n m left w' ou' r
-        → Ends f w ou w' ou' T d 0 0 (done r) (Check.reject d.schema (nodes_of d) n (said T c.state.subst m) c)
+        → StepEnds f w ou w' ou' T d 0 0 (done r) (Check.reject d.schema (nodes_of d) n (said T c.state.subst m) c)
     unfolding Check.reject Check.diagnosed Check.with_diagnostics Check.reported
     reject_ends {w'} {ou'} {r} x = go c.until refl
       where
-        on : ¬ (until_w c.until ≡ 1) → Ends f w ou w' ou' T d 0 0 (done r)
+        on : ¬ (until_w c.until ≡ 1) → StepEnds f w ou w' ou' T d 0 0 (done r)
             (goes tt (Check.diagnosed d.schema (nodes_of d) n (said T c.state.subst m) c))
         on z =
             let h = rejected_on B.sound B.runs x room there ok B.lines z in
@@ -73,7 +73,7 @@ module _ {f w ou : List ℕ} {T : Rows} {d : Described} {left : ℕ} {c : Checke
               is = h.0 ∙ ap Some (sym B.visits);
             })
 
-        go : (u : Check.Until) → c.until ≡ u → Ends f w ou w' ou' T d 0 0 (done r) (Check.reject d.schema (nodes_of d) n (said T c.state.subst m) c)
+        go : (u : Check.Until) → c.until ≡ u → StepEnds f w ou w' ou' T d 0 0 (done r) (Check.reject d.schema (nodes_of d) n (said T c.state.subst m) c)
         go Check.the_end q = rw (q, Check.reported) (on (λ z. let k : ◌≡◌ {A = ℕ} 0 1 = sym (ap until_w q) ∙ z in omega arith))
         go (Check.entry k) q = rw (q, Check.reported) (on (λ z. let k : ◌≡◌ {A = ℕ} 2 1 = sym (ap until_w q) ∙ z in omega arith))
         go Check.first_diagnostic q =
@@ -89,7 +89,7 @@ module _ {f w ou : List ℕ} {T : Rows} {d : Described} {left : ℕ} {c : Checke
 
     -- `reject_ty`
     pub reject_ty_ends : {w' ou' : List ℕ} {r : Option (Ty × ℕ)} → RejectsTy f w ou n m left w' ou' r
-        → Ends f w ou w' ou' T d 0 0 (typed w' r) (Check.reject_ty d.schema (nodes_of d) n (said T c.state.subst m) c)
+        → StepEnds f w ou w' ou' T d 0 0 (typed w' r) (Check.reject_ty d.schema (nodes_of d) n (said T c.state.subst m) c)
     unfolding Check.reject_ty
     reject_ty_ends x = rw x.is (done_typed Error tt (reject_ends x.rejected))
 
@@ -132,7 +132,7 @@ freshens f w left d = record {
 
 -- ---- A variable's unknown
 given : {f w ou w' : List ℕ} {T : Rows} {d : Described} {left x : ℕ} (c : Checker) (s : Step ℕ) → c.state.left ≡ left → Told d w ou c 0
-    → Gives f w w' T d c s x → ((b : Checker) → s ≡ goes x b → b.state.left ≡ c.state.left) → Ends f w ou w' ou T d 0 0 (numbered x left) s
+    → Gives f w w' T d c s x → ((b : Checker) → s ≡ goes x b → b.state.left ≡ c.state.left) → StepEnds f w ou w' ou T d 0 0 (numbered x left) s
 given {w = w} {ou} {w'} {d = d} c s v t G same = rw G.step
     (went (record {
       T' = _;

@@ -9,8 +9,8 @@ use types.Run.{OneOf, miss}
 use denote.Enum.Declared.{tag_of}
 use borrow.Author.Tests.{eqb-true}
 use Rattle.unification.proofs.Tests.{clash}
-use Rattle.meaning.specs.Syntax.{Field, destructurable_kind}
-use Rattle.meaning.specs.Check.{Form, a_wildcard, a_variable, a_constant, a_record, a_disjunction, an_error, another, form_of}
+use Rattle.format.specs.Syntax.{Field, destructurable_kind}
+use Rattle.meaning.specs.Check.{NodeForm, a_wildcard, a_variable, a_constant, a_record, a_disjunction, an_error, another, form_of}
 use Rattle.tree.specs.declared.Node.{Node}
 use Rattle.tree.specs.Nodes.{kind_w}
 use Rattle.tree.specs.contracts.Node.{the_type}
@@ -28,13 +28,14 @@ seen : (tags ks : List ℕ) (k : ℕ) → T (has_key ks k) → OneOf tags k → 
 seen tags [] k h x = h
 seen tags (j ∷ ks) k h x = go (eqb j k) refl (has_key tags j) refl (λ h. seen tags ks k h x)
   where
-    go : (b : Bool) → eqb j k ≡ b → (a : Bool) → has_key tags j ≡ a → (T (has_key ks k) → T (among tags ks)) → T (elim a [ true ↦ true | false ↦ among tags ks ])
+    go : (b : Bool) → eqb j k ≡ b → (a : Bool) → has_key tags j ≡ a → (T (has_key ks k) → T (among tags ks))
+        → T (elim a [ true ↦ true | false ↦ among tags ks ])
     go b q true e on = tt
     go true q false e on = absurd (miss tags j (untrue (has_key tags j) e) (rw (eqb-true j k q) x))
     go false q false e on = on (rw q at h)
 
 -- What is asked of each form that a node of these tags can have. For tags that are written out each condition computes.
-pub record ByForm (tags : List ℕ) (P : Form → Type 0) : Type 0 where
+pub record ByForm (tags : List ℕ) (P : NodeForm → Type 0) : Type 0 where
   pub wildcard : T (among tags (4 ∷ [])) → P a_wildcard
   pub variable : (x : ℕ) → T (among tags (3 ∷ [])) → P (a_variable x)
   pub constant : T (among tags (0 ∷ 1 ∷ 2 ∷ 6 ∷ [])) → P a_constant
@@ -43,7 +44,7 @@ pub record ByForm (tags : List ℕ) (P : Form → Type 0) : Type 0 where
   pub failed : T (among tags (15 ∷ [])) → P an_error
   pub other : T (among tags (5 ∷ 7 ∷ 9 ∷ 10 ∷ 12 ∷ 13 ∷ 14 ∷ 16 ∷ [])) → P another
 
-pub by_form : (f : List ℕ) (tags : List ℕ) (P : Form → Type 0) → ByForm tags P → (nd : Node) → OneOf tags (tag_of the_type nd) → P (form_of (kind_w f nd))
+pub by_form : (f : List ℕ) (tags : List ℕ) (P : NodeForm → Type 0) → ByForm tags P → (nd : Node) → OneOf tags (tag_of the_type nd) → P (form_of (kind_w f nd))
 unfolding kind_w form_of
 by_form f tags P h Node.Int x = h.constant (seen tags (0 ∷ 1 ∷ 2 ∷ 6 ∷ []) 0 tt x)
 by_form f tags P h Node.Str x = h.constant (seen tags (0 ∷ 1 ∷ 2 ∷ 6 ∷ []) 1 tt x)

@@ -21,8 +21,8 @@ use Rattle.cells.specs.Words.{pick, declared_w}
 use Rattle.cells.specs.Stands.{Rows, tree, bound_tree, Ok, OkBound}
 use Rattle.cells.specs.Promises.{FindsKey}
 use Rattle.cells.specs.contracts.Ty.{the_type}
-use Rattle.meaning.specs.Schema.{Schema, get, field_of}
-use Rattle.meaning.specs.File.{Described}
+use Rattle.format.specs.Schema.{Schema, get, field_of}
+use Rattle.format.specs.File.{Described}
 use Rattle.std.specs.Prelude as Std
 use Rattle.meaning.specs.Check.{Checker, is_some, key_ty, value_ty, key_shadows_value}
 use Rattle.tree.specs.Stands.{PredicateIs, no_predicate, numbered, SchemaStands}

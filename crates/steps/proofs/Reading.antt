@@ -6,16 +6,16 @@ use Prim.Native.Nat.{ℕ, suc, ◌+◌, ◌-◌, ◌≤◌, ◌<◌}
 use native.Mathlib.Omega.{arith}
 use lib.ListN.{length}
 use Rattle.cells.specs.Stands.{Rows}
-use Rattle.meaning.specs.Syntax.{ExprKind, no_node, node_at}
-use Rattle.meaning.specs.References.{expr_names, expr_nodes}
-use Rattle.meaning.specs.Conditions.{max_names}
-use Rattle.meaning.specs.All.{All, Below}
-use Rattle.meaning.specs.File.{Described}
-use Rattle.meaning.specs.Sound.{Sound}
+use Rattle.format.specs.Syntax.{ExprKind, no_node, node_at}
+use Rattle.format.specs.References.{expr_names, expr_nodes}
+use Rattle.format.specs.Conditions.{max_names}
+use Rattle.format.specs.All.{All, Below}
+use Rattle.format.specs.File.{Described}
+use Rattle.format.specs.Sound.{Sound}
 use Rattle.meaning.specs.Check.{Checker, kind, form, form_of}
-use Rattle.meaning.proofs.Lists.{all_map, all_at}
-use Rattle.meaning.proofs.Tests.{all_below_lem}
-use Rattle.meaning.proofs.Sound.{lower_at}
+use Rattle.format.proofs.Lists.{all_map, all_at}
+use Rattle.format.proofs.Tests.{all_below_lem}
+use Rattle.format.proofs.Sound.{lower_at}
 use Rattle.tree.specs.declared.items.Items.{Items}
 use Rattle.tree.specs.declared.Node.{Node}
 use Rattle.tree.specs.Nodes.{field_w, field_of, fields_from, kind_w, IsNode}

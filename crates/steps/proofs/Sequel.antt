@@ -8,13 +8,13 @@ use native.Mathlib.Omega.{arith}
 use lib.ListN.{length, length-append}
 use Rattle.unification.proofs.Undo.{since_length}
 use Rattle.cells.specs.Stands.{Rows}
-use Rattle.meaning.specs.File.{Described}
+use Rattle.format.specs.File.{Described}
 use Rattle.meaning.specs.Check.{Checker, Step, goes, out, Does, and_then}
 use Rattle.meaning.specs.Grades.{Grade, unknowns, Ready}
 use Rattle.meaning.proofs.Meets.{Made, Went, Meets, going, ready_fits, ready_after}
 use Rattle.state.specs.Runs.{Runs, Grew}
 use Rattle.state.specs.Lines.{Told}
-use Rattle.steps.specs.Ends.{Gives, Gone, Ends, went, spent}
+use Rattle.steps.specs.Ends.{StepGives, Gone, StepEnds, went, spent}
 use Rattle.steps.specs.Loads.{Load, both, FitsIn, Free, Begins}
 use Rattle.cells.proofs.Frame.{more_refl}
 use Rattle.steps.proofs.Growing.{more_trans, grew_refl, grew_trans}
@@ -74,24 +74,24 @@ pub begins_part : (G K : Load) {f w ou : List ℕ} {T : Rows} {d : Described} {l
 begins_part G K h b = record { sound = b.sound; runs = b.runs; lines = b.lines; orderly = b.orderly; visits = b.visits; free = free_part G K h b.free }
 
 -- ---- Ends
-pub ends_here : {A : Type 0} {f w ou : List ℕ} {T : Rows} {d : Described} {n m : ℕ} {E : Gives A} (a : A) (c : Checker) → Runs f w T d c
-    → Told d w ou c 0 → E.Is T a c.state.left → Ends f w ou w ou T d n m E (goes a c)
+pub ends_here : {A : Type 0} {f w ou : List ℕ} {T : Rows} {d : Described} {n m : ℕ} {E : StepGives A} (a : A) (c : Checker) → Runs f w T d c
+    → Told d w ou c 0 → E.Is T a c.state.left → StepEnds f w ou w ou T d n m E (goes a c)
 ends_here {T = T} a c r t i = went (record { T' = T; more = more_refl; runs = r; lines = t; grew = grew_refl; is = i })
 
 -- More may have been made than was; and another result by the same words.
-pub gone_as : {A B : Type 0} {f w ou w' ou' : List ℕ} {T : Rows} {d : Described} {n m k l : ℕ} {E : Gives A} {E' : Gives B} {a : A} {a' : B}
+pub gone_as : {A B : Type 0} {f w ou w' ou' : List ℕ} {T : Rows} {d : Described} {n m k l : ℕ} {E : StepGives A} {E' : StepGives B} {a : A} {a' : B}
     {c : Checker} {h : ℕ}
     → n ≤ k → m ≤ l → ((R : Rows) → E.Is R a c.state.left → E'.Is R a' c.state.left) → Gone f w ou w' ou' T d n m E a c h
     → Gone f w ou w' ou' T d k l E' a' c h
 gone_as i j to g = record { T' = g.T'; more = g.more; runs = g.runs; lines = g.lines; grew = grew_less i j g.grew; is = to g.T' g.is }
 
-pub ends_wider : {A : Type 0} {f w ou w' ou' : List ℕ} {T : Rows} {d : Described} {n m k l : ℕ} {E : Gives A} {s : Step A} → n ≤ k → m ≤ l
-    → Ends f w ou w' ou' T d n m E s → Ends f w ou w' ou' T d k l E s
+pub ends_wider : {A : Type 0} {f w ou w' ou' : List ℕ} {T : Rows} {d : Described} {n m k l : ℕ} {E : StepGives A} {s : Step A} → n ≤ k → m ≤ l
+    → StepEnds f w ou w' ou' T d n m E s → StepEnds f w ou w' ou' T d k l E s
 ends_wider i j (went g) = went (gone_as i j (λ R x. x) g)
 ends_wider i j (spent g) = spent (gone_as i j (λ R x. x) g)
 
 -- ---- Where a step that goes on leads
-pub record Led {A : Type 0} (f w ou w' ou' : List ℕ) (T : Rows) (d : Described) (G : Load) (E : Gives A) (P : A → Checker → Type 0) (c : Checker)
+pub record Led {A : Type 0} (f w ou w' ou' : List ℕ) (T : Rows) (d : Described) (G : Load) (E : StepGives A) (P : A → Checker → Type 0) (c : Checker)
     (m : Step A) : Type 0 where
   pub a : A
   pub b : Checker
@@ -99,14 +99,14 @@ pub record Led {A : Type 0} (f w ou w' ou' : List ℕ) (T : Rows) (d : Described
   pub gone : Gone f w ou w' ou' T d G.records G.fields E a b 0
   pub went : Went P G.grade c a b
 
-pub led : {A : Type 0} {f w ou w' ou' : List ℕ} {T : Rows} {d : Described} (G : Load) {E : Gives A} (P : A → Checker → Type 0) {c : Checker}
-    {m : Step A} → ¬ E.Out → Meets P G.grade c m → Ends f w ou w' ou' T d G.records G.fields E m
+pub led : {A : Type 0} {f w ou w' ou' : List ℕ} {T : Rows} {d : Described} (G : Load) {E : StepGives A} (P : A → Checker → Type 0) {c : Checker}
+    {m : Step A} → ¬ E.Out → Meets P G.grade c m → StepEnds f w ou w' ou' T d G.records G.fields E m
     → Led f w ou w' ou' T d G E P c m
 led G P never meets (went {a} {c = b} g) = record { a = a; b = b; is = refl; gone = g; went = going meets }
 led G P never meets (spent g) = absurd (never g.is.0)
 
 -- ---- One after another
-pub gone_trans : {A B : Type 0} {f w ou w₁ ou₁ w₂ ou₂ : List ℕ} {T : Rows} {d : Described} (G H K : Load) {E : Gives A} {E' : Gives B} {a : A}
+pub gone_trans : {A B : Type 0} {f w ou w₁ ou₁ w₂ ou₂ : List ℕ} {T : Rows} {d : Described} (G H K : Load) {E : StepGives A} {E' : StepGives B} {a : A}
     {b : Checker} {a' : B} {b' : Checker} {v : ℕ} → FitsIn (both G H) K
     → (g : Gone f w ou w₁ ou₁ T d G.records G.fields E a b 0) → Gone f w₁ ou₁ w₂ ou₂ g.T' d H.records H.fields E' a' b' v
     → Gone f w ou w₂ ou₂ T d K.records K.fields E' a' b' v
@@ -119,14 +119,14 @@ gone_trans G H K fits g h = record {
   is = h.is;
 }
 
-pub gone_on : {A B : Type 0} {f w ou w₁ ou₁ w₂ ou₂ : List ℕ} {T : Rows} {d : Described} (G H K : Load) {E : Gives A} {E' : Gives B} {a : A}
+pub gone_on : {A B : Type 0} {f w ou w₁ ou₁ w₂ ou₂ : List ℕ} {T : Rows} {d : Described} (G H K : Load) {E : StepGives A} {E' : StepGives B} {a : A}
     {b : Checker} {s : Step B} → FitsIn (both G H) K
-    → (g : Gone f w ou w₁ ou₁ T d G.records G.fields E a b 0) → Ends f w₁ ou₁ w₂ ou₂ g.T' d H.records H.fields E' s
-    → Ends f w ou w₂ ou₂ T d K.records K.fields E' s
+    → (g : Gone f w ou w₁ ou₁ T d G.records G.fields E a b 0) → StepEnds f w₁ ou₁ w₂ ou₂ g.T' d H.records H.fields E' s
+    → StepEnds f w ou w₂ ou₂ T d K.records K.fields E' s
 gone_on G H K fits g (went h) = went (gone_trans G H K fits g h)
 gone_on G H K fits g (spent h) = spent (gone_trans G H K fits g h)
 
-pub begins_after : {A : Type 0} {f w ou w₁ ou₁ : List ℕ} {T : Rows} {d : Described} {left : ℕ} {c : Checker} (G H K : Load) {E : Gives A}
+pub begins_after : {A : Type 0} {f w ou w₁ ou₁ : List ℕ} {T : Rows} {d : Described} {left : ℕ} {c : Checker} (G H K : Load) {E : StepGives A}
     (P : A → Checker → Type 0) {a : A} {b : Checker} → FitsIn (both G H) K
     → (g : Gone f w ou w₁ ou₁ T d G.records G.fields E a b 0) → Went P G.grade c a b → Begins f w ou T d K left c
     → Begins f w₁ ou₁ g.T' d H b.state.left b
@@ -139,20 +139,21 @@ begins_after G H K P fits g v s = record {
   free = free_after G H K fits v.made g.grew s.free;
 }
 
-ends_there : {A B : Type 0} {f w ou w₁ ou₁ : List ℕ} {T : Rows} {d : Described} {n m k l : ℕ} {E : Gives A} {E' : Gives B} → n ≤ k → m ≤ l
+ends_there : {A B : Type 0} {f w ou w₁ ou₁ : List ℕ} {T : Rows} {d : Described} {n m k l : ℕ} {E : StepGives A} {E' : StepGives B} → n ≤ k → m ≤ l
     → (s : Step A) (next : A → Does B)
-    → ((R : Rows) (a : A) (v : ℕ) → ¬ (E.Is R a v)) → (E.Out → E'.Out) → Ends f w ou w₁ ou₁ T d n m E s → Ends f w ou w₁ ou₁ T d k l E' (and_then s next)
+    → ((R : Rows) (a : A) (v : ℕ) → ¬ (E.Is R a v)) → (E.Out → E'.Out) → StepEnds f w ou w₁ ou₁ T d n m E s
+    → StepEnds f w ou w₁ ou₁ T d k l E' (and_then s next)
 unfolding and_then
 ends_there i j s next never so (went {a} {c = b} g) = absurd (never g.T' a b.state.left g.is)
 ends_there i j s next never so (spent g) = spent (gone_as i j (λ R x. (so x.0, x.1)) g)
 
 module _ {A B : Type 0} {f w ou w₁ ou₁ : List ℕ} {T : Rows} {d : Described} {left : ℕ} {c : Checker} (G H K : Load) (fits : FitsIn (both G H) K)
-    {E : Gives A} {E' : Gives B} where
+    {E : StepGives A} {E' : StepGives B} where
   after : {w₂ ou₂ : List ℕ} (P : A → Checker → Type 0) (m : Step A) (next : A → Does B) → ¬ E.Out → Begins f w ou T d K left c → Meets P G.grade c m
-      → Ends f w ou w₁ ou₁ T d G.records G.fields E m
+      → StepEnds f w ou w₁ ou₁ T d G.records G.fields E m
       → ((a : A) (b : Checker) (g : Gone f w ou w₁ ou₁ T d G.records G.fields E a b 0) → Went P G.grade c a b
-      → Begins f w₁ ou₁ g.T' d H b.state.left b → Ends f w₁ ou₁ w₂ ou₂ g.T' d H.records H.fields E' (next a b))
-      → Ends f w ou w₂ ou₂ T d K.records K.fields E' (and_then m next)
+      → Begins f w₁ ou₁ g.T' d H b.state.left b → StepEnds f w₁ ou₁ w₂ ou₂ g.T' d H.records H.fields E' (next a b))
+      → StepEnds f w ou w₂ ou₂ T d K.records K.fields E' (and_then m next)
   unfolding and_then
   after P m next go s meets (went {a} {c = b} g) rest = gone_on G H K fits g (rest a b g (going meets) (begins_after G H K P fits g (going meets) s))
   after P m next go s meets (spent g) rest = absurd (go g.is.0)
@@ -160,14 +161,14 @@ module _ {A B : Type 0} {f w ou w₁ ou₁ : List ℕ} {T : Rows} {d : Described
   -- The first step goes on.
   pub then_ends : {w₂ ou₂ : List ℕ} (P : A → Checker → Type 0) (m : Step A) (next : A → Does B) → ¬ E.Out → Begins f w ou T d K left c
       → (Ready G.grade c → Meets P G.grade c m)
-      → (Begins f w ou T d G left c → Ends f w ou w₁ ou₁ T d G.records G.fields E m)
+      → (Begins f w ou T d G left c → StepEnds f w ou w₁ ou₁ T d G.records G.fields E m)
       → ((a : A) (b : Checker) (g : Gone f w ou w₁ ou₁ T d G.records G.fields E a b 0) → Went P G.grade c a b
-      → Begins f w₁ ou₁ g.T' d H b.state.left b → Ends f w₁ ou₁ w₂ ou₂ g.T' d H.records H.fields E' (next a b))
-      → Ends f w ou w₂ ou₂ T d K.records K.fields E' (and_then m next)
+      → Begins f w₁ ou₁ g.T' d H b.state.left b → StepEnds f w₁ ou₁ w₂ ou₂ g.T' d H.records H.fields E' (next a b))
+      → StepEnds f w ou w₂ ou₂ T d K.records K.fields E' (and_then m next)
   then_ends P m next go s meets first rest = let s₁ = begins_part G K (holds_left G H K fits) s in after P m next go s (meets s₁.free.ready) (first s₁) rest
 
   -- The run ended in it.
   pub stop_ends : (m : Step A) (next : A → Does B) → ((R : Rows) (a : A) (v : ℕ) → ¬ (E.Is R a v)) → (E.Out → E'.Out) → Begins f w ou T d K left c
-      → (Begins f w ou T d G left c → Ends f w ou w₁ ou₁ T d G.records G.fields E m) → Ends f w ou w₁ ou₁ T d K.records K.fields E' (and_then m next)
+      → (Begins f w ou T d G left c → StepEnds f w ou w₁ ou₁ T d G.records G.fields E m) → StepEnds f w ou w₁ ou₁ T d K.records K.fields E' (and_then m next)
   stop_ends m next never so s first = ends_there (omega (arith, fits.records)) (omega (arith, fits.fields)) m next never so
       (first (begins_part G K (holds_left G H K fits) s))

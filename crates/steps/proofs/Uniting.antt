@@ -15,7 +15,7 @@ use Rattle.cells.specs.Stands.{Rows, tree}
 use Rattle.cells.specs.Promises.{error_of, OkError, answer_of, IsOrderable}
 use Rattle.cells.proofs.Frame.{more_refl, keeps_refl}
 use Rattle.cells.proofs.Holding.{holds_left}
-use Rattle.meaning.specs.File.{Described}
+use Rattle.format.specs.File.{Described}
 use Rattle.meaning.specs.Check as Check
 use Rattle.meaning.specs.Check.{Checker, Step, Does, goes, and_then}
 use Rattle.meaning.proofs.Meets.{Went, Meets, going}
@@ -28,7 +28,7 @@ use Rattle.state.specs.Runs.{Runs}
 use Rattle.state.specs.Running.{left_if, ok_left}
 use Rattle.state.proofs.Lefts.{ended}
 use Rattle.state.proofs.Running.{runs_slots}
-use Rattle.steps.specs.Ends.{IsUnified, unified, done, silent, Gone, Ends, spent}
+use Rattle.steps.specs.Ends.{IsUnified, unified, done, silent, Gone, StepEnds, spent}
 use Rattle.steps.specs.Loads.{only, both, FitsIn, Begins, Beside}
 use Rattle.steps.specs.Promises.{Fine, UnifiesTo, UnifiesOutside, compare_types, UnifiesAt, ComparesTypes}
 use Rattle.steps.specs.Outside.{ComparesOrder}
@@ -60,24 +60,24 @@ module _ {f w ou w₁ ou₁ : List ℕ} {got expected : Ty} {left : ℕ} {r : Re
 
   then_good : {w₂ ou₂ : List ℕ} {x : Option ℕ} (next : Option Unify.TyError → Does (Unit {0})) {l : ℕ} → r ≡ Ok l
       → ((T₁ : Rows) (b : Checker) → After f w ou w₁ ou₁ T d (only no_thing) (only one_diagnostic) l c T₁ b
-      → Ends f w₁ ou₁ w₂ ou₂ T₁ d 0 0 (done x) (next None b)) → Ends f w ou w₂ ou₂ T d 0 0 (done x) (and_then first next)
+      → StepEnds f w₁ ou₁ w₂ ou₂ T₁ d 0 0 (done x) (next None b)) → StepEnds f w ou w₂ ou₂ T d 0 0 (done x) (and_then first next)
   then_good {w₂} {ou₂} {x} next {l} e rest = then_ends (only no_thing) (only one_diagnostic) (only one_diagnostic) then_one Nothing first next
       (λ o. clash (cc (e, o))) B (λ y. meets) (λ s. (U d).is T c s fine) on
     where
       on : (a : Option Unify.TyError) (b : Checker) (g : Gone f w ou w₁ ou₁ T d 0 0 (unified w₁ r) a b 0) → Went Nothing no_thing c a b
-          → Begins f w₁ ou₁ g.T' d (only one_diagnostic) b.state.left b → Ends f w₁ ou₁ w₂ ou₂ g.T' d 0 0 (done x) (next a b)
+          → Begins f w₁ ou₁ g.T' d (only one_diagnostic) b.state.left b → StepEnds f w₁ ou₁ w₂ ou₂ g.T' d 0 0 (done x) (next a b)
       on None b g v s = let q : b.state.left ≡ l = cc (e, g.is) in rest g.T' b
           (record { more = g.more; grew = g.grew; made = v.made; begins = with_visits q s })
       on (Some y) b g v s = clash (cc (e, g.is.1))
 
   then_bad : {w₂ ou₂ : List ℕ} {x : Option ℕ} (next : Option Unify.TyError → Does (Unit {0})) {err : TyError} {l : ℕ} → r ≡ Err (Failure.Bad err l)
       → ((T₁ : Rows) (b : Checker) → After f w ou w₁ ou₁ T d (only no_thing) (only one_diagnostic) l c T₁ b → OkError w₁ err
-      → Ends f w₁ ou₁ w₂ ou₂ T₁ d 0 0 (done x) (next (Some (error_of T₁ err)) b)) → Ends f w ou w₂ ou₂ T d 0 0 (done x) (and_then first next)
+      → StepEnds f w₁ ou₁ w₂ ou₂ T₁ d 0 0 (done x) (next (Some (error_of T₁ err)) b)) → StepEnds f w ou w₂ ou₂ T d 0 0 (done x) (and_then first next)
   then_bad {w₂} {ou₂} {x} next {err} {l} e rest = then_ends (only no_thing) (only one_diagnostic) (only one_diagnostic) then_one Nothing first next
       (λ o. clash (cc (e, o))) B (λ y. meets) (λ s. (U d).is T c s fine) on
     where
       on : (a : Option Unify.TyError) (b : Checker) (g : Gone f w ou w₁ ou₁ T d 0 0 (unified w₁ r) a b 0) → Went Nothing no_thing c a b
-          → Begins f w₁ ou₁ g.T' d (only one_diagnostic) b.state.left b → Ends f w₁ ou₁ w₂ ou₂ g.T' d 0 0 (done x) (next a b)
+          → Begins f w₁ ou₁ g.T' d (only one_diagnostic) b.state.left b → StepEnds f w₁ ou₁ w₂ ou₂ g.T' d 0 0 (done x) (next a b)
       on None b g v s = clash (cc (e, g.is))
       on (Some y) b g v s =
           let q : b.state.left ≡ l = cc (e, g.is.1) in
@@ -87,7 +87,7 @@ module _ {f w ou w₁ ou₁ : List ℕ} {got expected : Ty} {left : ℕ} {r : Re
           rw (← z) (rest g.T' b (record { more = g.more; grew = g.grew; made = v.made; begins = with_visits q s }) ok)
 
   then_spent : {x : Option ℕ} (next : Option Unify.TyError → Does (Unit {0})) → r ≡ Err Failure.Spent → x ≡ None
-      → Ends f w ou w₁ ou₁ T d 0 0 (done x) (and_then first next)
+      → StepEnds f w ou w₁ ou₁ T d 0 0 (done x) (and_then first next)
   then_spent next e o = stop_ends (only no_thing) (only one_diagnostic) (only one_diagnostic) then_one first next never (λ p. o) B (λ s. (U d).is T c s fine)
     where
       never : (R : Rows) (a : Option Unify.TyError) (v : ℕ) → ¬ (IsUnified w₁ r R a v)

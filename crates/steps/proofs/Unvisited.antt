@@ -8,10 +8,10 @@ use lib.ListN.{length}
 use types.Run.{OneOf}
 use denote.Enum.Declared.{tag_of}
 use Rattle.cells.specs.Stands.{Rows}
-use Rattle.meaning.specs.Syntax.{all_fields, destructurable_kind, destructurable_in, is_destructurable}
-use Rattle.meaning.specs.File.{Described}
-use Rattle.meaning.specs.Sound.{Sound}
-use Rattle.meaning.specs.Check.{Checker, Step, goes, and_then, Form, a_wildcard, a_variable, form, form_of, introduce, introduce_side, head_form}
+use Rattle.format.specs.Syntax.{all_fields, destructurable_kind, destructurable_in, is_destructurable}
+use Rattle.format.specs.File.{Described}
+use Rattle.format.specs.Sound.{Sound}
+use Rattle.meaning.specs.Check.{Checker, Step, goes, and_then, NodeForm, a_wildcard, a_variable, form, form_of, introduce, introduce_side, head_form}
 use Rattle.meaning.specs.Grades.{early}
 use Rattle.meaning.proofs.Depth.{lower_falls, destructurable_is}
 use Rattle.tree.specs.declared.items.Items.{Items}
@@ -24,8 +24,8 @@ use Rattle.messages.specs.declared.Message.TheVariants as Message
 use Rattle.state.specs.Words.{Introduces}
 use Rattle.state.specs.Lines.{Rejected}
 use Rattle.state.specs.Runs.{Runs}
-use Rattle.steps.specs.Ends.{silent, numbered, Ends, went, spent}
-use Rattle.steps.specs.Promises.{nodes_of, Asks, all_apart, AsksAll}
+use Rattle.steps.specs.Ends.{silent, numbered, StepEnds, went, spent}
+use Rattle.steps.specs.Promises.{nodes_of, TellsDestructurable, all_apart, AsksAll}
 use Rattle.steps.specs.Outside.{IntroducesSide, ChecksHead}
 use Rattle.steps.proofs.Ending.{reject_ends, brings}
 use Rattle.steps.proofs.Sequel.{ends_here}
@@ -35,7 +35,7 @@ use Rattle.steps.proofs.Forms.{ByForm, by_form, whole_kind}
 use Rattle.std.specs.Prelude.{Option, Some}
 
 -- ---- `introduce_side`
-abbrev form_at : Described → ℕ → Form
+abbrev form_at : Described → ℕ → NodeForm
 form_at d n = form d.schema (nodes_of d) n
 
 -- All but a variable.
@@ -64,8 +64,8 @@ module _ {f w ou : List ℕ} {n : ℕ} {nd : Node} (i : IsNode f w n nd) where
     };
   }
 
-brought : {f w ou w' ou' : List ℕ} {T : Rows} {d : Described} {a b left v : ℕ} (m : Step ℕ) → Ends f w ou w' ou' T d a b (numbered v left) m
-    → Ends f w ou w' ou' T d a b (silent left) (and_then m (λ y e. goes tt e))
+brought : {f w ou w' ou' : List ℕ} {T : Rows} {d : Described} {a b left v : ℕ} (m : Step ℕ) → StepEnds f w ou w' ou' T d a b (numbered v left) m
+    → StepEnds f w ou w' ou' T d a b (silent left) (and_then m (λ y e. goes tt e))
 unfolding and_then
 brought m (went g) = went (record { T' = g.T'; more = g.more; runs = g.runs; lines = g.lines; grew = g.grew; is = g.is.1 })
 brought m (spent g) = absurd g.is.0
@@ -120,15 +120,15 @@ module _ {f w ou : List ℕ} {n left : ℕ} {nd : Node} (i : IsNode f w n nd) wh
 
 -- ---- `destructurable`
 module _ {f w : List ℕ} {n : ℕ} {nd : Node} (i : IsNode f w n nd) where
-  pub asks_variable : (x : ℕ) → nd ≡ Node.Var x → Asks f w n true
+  pub asks_variable : (x : ℕ) → nd ≡ Node.Var x → TellsDestructurable f w n true
   unfolding is_destructurable destructurable_in destructurable_kind kind_w
   asks_variable x e = record { is = λ T d c s R there. rw (kind_is s R there (rw e at i), destructurable_kind) refl }
 
-  pub asks_wildcard : nd ≡ Node.Wildcard → Asks f w n true
+  pub asks_wildcard : nd ≡ Node.Wildcard → TellsDestructurable f w n true
   unfolding is_destructurable destructurable_in destructurable_kind kind_w
   asks_wildcard e = record { is = λ T d c s R there. rw (kind_is s R there (rw e at i), destructurable_kind) refl }
 
-  pub asks_record : (l : Items) → nd ≡ Node.Record l → {r : Bool} → AsksAll f w l r → Asks f w n r
+  pub asks_record : (l : Items) → nd ≡ Node.Record l → {r : Bool} → AsksAll f w l r → TellsDestructurable f w n r
   unfolding is_destructurable destructurable_in destructurable_kind kind_w
   asks_record l e A = record {
     is = λ T d c s R there.
@@ -139,7 +139,7 @@ module _ {f w : List ℕ} {n : ℕ} {nd : Node} (i : IsNode f w n nd) where
   pub items_lower : (l : Items) → nd ≡ Node.Record l → LowerItems n l
   items_lower l e = rw e at i.lower
 
-  pub asks_other : OneOf (0 ∷ 1 ∷ 2 ∷ 5 ∷ 6 ∷ 7 ∷ 9 ∷ 10 ∷ 11 ∷ 12 ∷ 13 ∷ 14 ∷ 15 ∷ 16 ∷ []) (tag_of the_type nd) → Asks f w n false
+  pub asks_other : OneOf (0 ∷ 1 ∷ 2 ∷ 5 ∷ 6 ∷ 7 ∷ 9 ∷ 10 ∷ 11 ∷ 12 ∷ 13 ∷ 14 ∷ 15 ∷ 16 ∷ []) (tag_of the_type nd) → TellsDestructurable f w n false
   unfolding is_destructurable destructurable_in
   asks_other x = record { is = λ T d c s R there. rw (kind_is s R there i) (sym (whole_kind f (λ m. destructurable_in n (nodes_of d) m) nd x)) }
 
@@ -166,12 +166,12 @@ module _ {f w : List ℕ} {l : Items} {i : ℕ} (A : Asking f w l i) where
   unfolding all_fields
   asking_done h = record { is = λ T d c s R few k above. sym (A.is T d c s R few k above ∙ rw (fields_none f l i h) refl) }
 
-  module _ (low : 0 < l.n → 0 < l.below) (h : i < l.n) {e : Field} (q : e ≡ field_w f l i) {b : Bool} (D : Asks f w e.value b) where
+  module _ (low : 0 < l.n → 0 < l.below) (h : i < l.n) {e : Field} (q : e ≡ field_w f l i) {b : Bool} (D : TellsDestructurable f w e.value b) where
     asked : {T : Rows} {d : Described} {c : Checker} → Sound d → Runs f w T d c → l.below ≤ length (nodes_of d) → (k : ℕ) → l.below ≤ k
         → destructurable_in k (nodes_of d) (field_w f l i).value ≡ b
     asked {T} {d} {c} s R few k above =
         let v = field_lower f l i low h in
-        let D' : Asks f w (field_w f l i).value b = rw q at D in
+        let D' : TellsDestructurable f w (field_w f l i).value b = rw q at D in
         destructurable_is (nodes_of d) (lower_falls (nodes_of d) s.lower) k (field_w f l i).value (omega (arith, v)) ∙ sym
         (D'.is T d c s R (omega (arith, v)))
 

@@ -7,7 +7,7 @@ use Rattle.cells.specs.declared.Ty.{Ty}
 use Rattle.cells.specs.declared.TyError.{TyError}
 use Rattle.cells.specs.Stands.{Rows, tree, Ok}
 use Rattle.cells.specs.Promises.{IsError}
-use Rattle.meaning.specs.File.{Described}
+use Rattle.format.specs.File.{Described}
 use Rattle.meaning.specs.Check.{Checker, Step, goes, out}
 use Rattle.cells.specs.Inferred.{More}
 use Rattle.state.specs.Runs.{Runs, Grew}
@@ -17,7 +17,7 @@ use Rattle.cells.specs.declared.Failure.{Failure}
 -- ---- What the code gives back
 
 -- For a value of the definition, with the visits left; and where the run ended.
-pub record Gives (A : Type 0) : Type 1 where
+pub record StepGives (A : Type 0) : Type 1 where
   pub Is : Rows → A → ℕ → Type 0
   pub Out : Type 0
 
@@ -28,22 +28,22 @@ pub record IsTyped (w : List ℕ) (r : Option (Ty × ℕ)) (T : Rows) (ty : Tree
   pub ok : Ok w t
   pub is : tree T t ≡ ty
 
-abbrev pub typed : List ℕ → Option (Ty × ℕ) → Gives Tree.Ty
+abbrev pub typed : List ℕ → Option (Ty × ℕ) → StepGives Tree.Ty
 typed w r = record { Is = λ T ty left. IsTyped w r T ty left; Out = r ≡ None }
 
-abbrev pub done : Option ℕ → Gives (Unit {0})
+abbrev pub done : Option ℕ → StepGives (Unit {0})
 done r = record { Is = λ T u left. r ≡ Some left; Out = r ≡ None }
 
 -- The type is left out.
-abbrev pub counted : Option ℕ → Gives Tree.Ty
+abbrev pub counted : Option ℕ → StepGives Tree.Ty
 counted r = record { Is = λ T ty left. r ≡ Some left; Out = r ≡ None }
 
 -- Nothing comes back, and no visits are spent.
-abbrev pub silent : ℕ → Gives (Unit {0})
+abbrev pub silent : ℕ → StepGives (Unit {0})
 silent left = record { Is = λ T u l. l ≡ left; Out = ⊥ }
 
 -- An unknown's number comes back, and no visits are spent.
-abbrev pub numbered : ℕ → ℕ → Gives ℕ
+abbrev pub numbered : ℕ → ℕ → StepGives ℕ
 numbered x left = record { Is = λ T v l. (x ≡ v) × (l ≡ left); Out = ⊥ }
 
 -- A unification succeeds, or the error in hand stands for the definition's.
@@ -51,13 +51,13 @@ abbrev pub IsUnified : List ℕ → Result ℕ Failure → Rows → Option Unify
 IsUnified w r T None left = r ≡ Result.Ok left
 IsUnified w r T (Some e) left = (x : TyError) × (r ≡ Err (Failure.Bad x left)) × IsError w T x e
 
-abbrev pub unified : List ℕ → Result ℕ Failure → Gives (Option Unify.TyError)
+abbrev pub unified : List ℕ → Result ℕ Failure → StepGives (Option Unify.TyError)
 unified w r = record { Is = λ T e left. IsUnified w r T e left; Out = r ≡ (Err Failure.Spent) }
 
 -- ---- The end
 
 -- At most n records and m fields of records were made; h is what the word of the visits left at an early end holds.
-pub record Gone {A : Type 0} (f w ou w' ou' : List ℕ) (T : Rows) (d : Described) (n m : ℕ) (E : Gives A) (a : A) (c : Checker) (h : ℕ) : Type 0 where
+pub record Gone {A : Type 0} (f w ou w' ou' : List ℕ) (T : Rows) (d : Described) (n m : ℕ) (E : StepGives A) (a : A) (c : Checker) (h : ℕ) : Type 0 where
   pub T' : Rows
   pub more : More w T T'
   pub runs : Runs f w' T' d c
@@ -67,11 +67,11 @@ pub record Gone {A : Type 0} (f w ou w' ou' : List ℕ) (T : Rows) (d : Describe
 
 -- The run ended in this checker: no value comes back, and the code says so; where it was to last until an entry that
 -- came, its sides stand in the words.
-abbrev pub stopped : {A : Type 0} → List ℕ → Checker → Gives A → Gives (Unit {0})
+abbrev pub stopped : {A : Type 0} → List ℕ → Checker → StepGives A → StepGives (Unit {0})
 stopped w c E = record { Is = λ T u left. E.Out × AtEntry w T c.until c.entries; Out = ⊥ }
 
 -- Also where the run ended, by its visits or by what it was to last until, the words stand for the checker in which the
 -- step stopped, and the visits that it had left are kept.
-pub data Ends {A : Type 0} (f w ou w' ou' : List ℕ) (T : Rows) (d : Described) (n m : ℕ) (E : Gives A) : Step A → Type 0 where
-  went : {a : A} {c : Checker} → Gone f w ou w' ou' T d n m E a c 0 → Ends f w ou w' ou' T d n m E (goes a c)
-  spent : {c : Checker} → Gone f w ou w' ou' T d n m (stopped w' c E) tt c c.state.left → Ends f w ou w' ou' T d n m E (out c)
+pub data StepEnds {A : Type 0} (f w ou w' ou' : List ℕ) (T : Rows) (d : Described) (n m : ℕ) (E : StepGives A) : Step A → Type 0 where
+  went : {a : A} {c : Checker} → Gone f w ou w' ou' T d n m E a c 0 → StepEnds f w ou w' ou' T d n m E (goes a c)
+  spent : {c : Checker} → Gone f w ou w' ou' T d n m (stopped w' c E) tt c c.state.left → StepEnds f w ou w' ou' T d n m E (out c)

@@ -3,16 +3,16 @@
 use Rattle.std.specs.Prelude.{List, ◌≡◌, ℕ, ◌+◌, ◌≤◌, length, get_or}
 use Rattle.work.specs.Layout.{RECORD-COUNT, RECORD-FIELD-COUNT}
 use Rattle.cells.specs.Stands.{Rows}
-use Rattle.meaning.specs.Syntax.{ExprKind, Node}
-use Rattle.meaning.specs.References.{expr_nodes}
-use Rattle.meaning.specs.File.{Described}
-use Rattle.meaning.specs.Sound.{Sound}
+use Rattle.format.specs.Syntax.{ExprKind, Node}
+use Rattle.format.specs.References.{expr_nodes}
+use Rattle.format.specs.File.{Described}
+use Rattle.format.specs.Sound.{Sound}
 use Rattle.meaning.specs.Check.{Checker, Does}
 use Rattle.meaning.specs.Weights.{sum_of, records_of, records, fields_of, record_fields}
-use Rattle.meaning.specs.Grades.{Grade, unknowns, Orderly, Ready, Fits, plus, inferring, finding, checking, visiting, within}
+use Rattle.meaning.specs.Grades.{Grade, unknowns, Orderly, Ready, GradeFits, plus, inferring, finding, checking, visiting, within}
 use Rattle.state.specs.Runs.{Runs}
 use Rattle.state.specs.Lines.{Told}
-use Rattle.steps.specs.Ends.{Gives, Ends}
+use Rattle.steps.specs.Ends.{StepGives, StepEnds}
 
 -- ---- Loads
 pub record Load : Type 0 where
@@ -28,7 +28,7 @@ abbrev pub both : Load → Load → Load
 both g h = record { grade = plus g.grade h.grade; records = g.records + h.records; fields = g.fields + h.fields }
 
 pub record FitsIn (g h : Load) : Type 0 where
-  pub grade : Fits g.grade h.grade
+  pub grade : GradeFits g.grade h.grade
   pub records : g.records ≤ h.records
   pub fields : g.fields ≤ h.fields
 
@@ -73,5 +73,6 @@ pub record Begins (f w ou : List ℕ) (T : Rows) (d : Described) (L : Load) (lef
 
 -- A step of the code beside one of the definition: from words that stand for a checker of which P holds, to words that
 -- stand for what the definition gives.
-pub record Beside {A : Type 0} (f w ou : List ℕ) (left : ℕ) (w' ou' : List ℕ) (E : Gives A) (d : Described) (L : Load) (P : Rows → Checker → Type 0) (m : Rows → Does A) : Type 0 where
-  pub is : (T : Rows) (c : Checker) → Begins f w ou T d L left c → P T c → Ends f w ou w' ou' T d L.records L.fields E (m T c)
+pub record Beside {A : Type 0} (f w ou : List ℕ) (left : ℕ) (w' ou' : List ℕ) (E : StepGives A) (d : Described) (L : Load) (P : Rows → Checker → Type 0)
+    (m : Rows → Does A) : Type 0 where
+  pub is : (T : Rows) (c : Checker) → Begins f w ou T d L left c → P T c → StepEnds f w ou w' ou' T d L.records L.fields E (m T c)

@@ -1,13 +1,14 @@
 -- What the steps outside of the cycle promise (src/lib.rt): those that read or write words say which; the others go
 -- beside their namesakes of meaning/specs/Check.antt.
 use Rattle.std.specs.Prelude.{Bool, true, false, List, ◌≡◌, ℕ, ◌+◌, ◌*◌, ◌/◌, ◌%◌, ◌<◌, eqb, ltb, length, get_or, set, None, Option, Some}
-use Rattle.work.specs.Layout.{PREDICATE-COUNT, MAX-DISTANCE, MAX-TERM, NAMES, PREDICATES, RECORD-COUNT, RECORD-FIELD-COUNT, ENV-LEN, DIAGNOSTIC-COUNT, UNKNOWNS, MARK-COUNT, UNUSED-COUNT, TYS, UNDO-LEN}
+use Rattle.work.specs.Layout.{PREDICATE-COUNT, MAX-DISTANCE, MAX-TERM, NAMES, PREDICATES, RECORD-COUNT, RECORD-FIELD-COUNT, ENV-LEN, DIAGNOSTIC-COUNT, UNKNOWNS}
+use Rattle.work.specs.Layout.{MARK-COUNT, UNUSED-COUNT, TYS, UNDO-LEN}
 use Rattle.cells.specs.declared.Ty.{Ty}
 use Rattle.cells.specs.Words.{pick, declared_w}
 use Rattle.cells.specs.Stands.{Rows, tree, bound_tree, Ok, OkBound, Cells, Keeps}
 use Rattle.cells.specs.Promises.{RollsBack}
-use Rattle.meaning.specs.Schema.{field_of}
-use Rattle.meaning.specs.File.{Described}
+use Rattle.format.specs.Schema.{field_of}
+use Rattle.format.specs.File.{Described}
 use Rattle.meaning.specs.Check as Check
 use Rattle.meaning.specs.Check.{Checker}
 use Rattle.meaning.specs.Grades.{one_diagnostic}
@@ -55,7 +56,7 @@ abbrev pub long_w : List ℕ → ℕ → Bool
 long_w w term = ltb (get_or w MAX-TERM 0) (characters_w w term)
 
 -- The lengths of now.
-pub record Takes (w : List ℕ) (at : Mark) : Type 0 where
+pub record TakesMark (w : List ℕ) (at : Mark) : Type 0 where
   pub undo : at.undo ≡ get_or w UNDO-LEN 0
   pub env : at.env ≡ get_or w ENV-LEN 0
   pub marks : at.marks ≡ get_or w MARK-COUNT 0
@@ -89,7 +90,8 @@ SelectOf f w ou n name t left w' ou' r = OnType (λ d ty. Check.select_of d.sche
 
 -- ---- Steps that spend visits
 pub record ComparesOrder (f w ou : List ℕ) (lhs : ℕ) (t : Ty) (left : ℕ) (w' ou' : List ℕ) (r : Option ℕ) : Type 0 where
-  pub is : (d : Described) → lhs < length (nodes_of d) → Beside f w ou left w' ou' (done r) d (only one_diagnostic) (Fine w t) (λ T. Check.compare_order d.schema (nodes_of d) lhs (tree T t))
+  pub is : (d : Described) → lhs < length (nodes_of d) → Beside f w ou left w' ou' (done r) d (only one_diagnostic) (Fine w t)
+      (λ T. Check.compare_order d.schema (nodes_of d) lhs (tree T t))
 
 -- ---- Steps on a node, which spend none
 pub record IntroducesSide (f w ou : List ℕ) (n : ℕ) (w' ou' : List ℕ) : Type 0 where
@@ -105,7 +107,8 @@ pub record ChecksHead (f w ou : List ℕ) (n left : ℕ) (w' ou' : List ℕ) (r 
 -- ---- The start
 unfoldable pub counters_w : List ℕ → List ℕ
 counters_w w =
-    set (set (set (set (set (set (set (set w RECORD-COUNT 0) RECORD-FIELD-COUNT 0) ENV-LEN 0) DIAGNOSTIC-COUNT 0) UNKNOWNS 0) MARK-COUNT 0) UNUSED-COUNT 0) UNDO-LEN 0
+    set (set (set (set (set (set (set (set w RECORD-COUNT 0) RECORD-FIELD-COUNT 0) ENV-LEN 0) DIAGNOSTIC-COUNT 0) UNKNOWNS 0) MARK-COUNT 0) UNUSED-COUNT 0)
+    UNDO-LEN 0
 
 -- The first n nodes have no type, and only words of node types changed.
 pub record Untypes (w : List ℕ) (n : ℕ) (w' : List ℕ) : Type 0 where

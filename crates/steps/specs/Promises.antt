@@ -6,10 +6,10 @@ use Rattle.unification.specs.Calls.{Side, SideRow}
 use Rattle.cells.specs.declared.Ty.{Ty}
 use Rattle.cells.specs.declared.Kind.TheVariants.{Fields, Alternatives}
 use Rattle.cells.specs.Stands.{Rows, tree, bound_tree, IsCell, Ok, OkBound, Keeps}
-use Rattle.meaning.specs.Syntax.{Field, Node, all_fields, destructurable_in, is_destructurable}
-use Rattle.meaning.specs.All.{All}
-use Rattle.meaning.specs.File.{Described}
-use Rattle.meaning.specs.Sound.{Sound}
+use Rattle.format.specs.Syntax.{Field, Node, all_fields, destructurable_in, is_destructurable}
+use Rattle.format.specs.All.{All}
+use Rattle.format.specs.File.{Described}
+use Rattle.format.specs.Sound.{Sound}
 use Rattle.work.specs.Layout.{RECORD-COUNT, RECORD-FIELD-COUNT, END}
 use Rattle.tree.specs.Stands.{Stands}
 use Rattle.meaning.specs.Check as Check
@@ -67,7 +67,8 @@ pub record FineUnion (w : List ℕ) (e : ℕ) (T : Rows) (c : Checker) : Type 0 
 
 -- `annotate`: a node has this type.
 abbrev pub Notes : List ℕ → List ℕ → List ℕ → ℕ → Ty → ℕ → List ℕ → List ℕ → Type 0
-Notes f w ou n t left w' ou' = (d : Described) → n < length (nodes_of d) → Beside f w ou left w' ou' (silent left) d (only (one_node n)) (Fine w t) (λ T. Check.annotate n (tree T t))
+Notes f w ou n t left w' ou' =
+    (d : Described) → n < length (nodes_of d) → Beside f w ou left w' ou' (silent left) d (only (one_node n)) (Fine w t) (λ T. Check.annotate n (tree T t))
 
 -- `reject`; the types that the message shows exist
 abbrev pub Rejects : List ℕ → List ℕ → List ℕ → ℕ → Message → ℕ → List ℕ → List ℕ → Option ℕ → Type 0
@@ -80,7 +81,8 @@ Freshens f w ou left w' ou' x = (d : Described) → Beside f w ou left w' ou' (n
 
 -- `introduce`; a variable that the environment has makes no unknown
 pub record Brings (f w ou : List ℕ) (n symbol left : ℕ) (w' ou' : List ℕ) (x : ℕ) : Type 0 where
-  pub is : (d : Described) → symbol < 256 → n < length (nodes_of d) → Beside f w ou left w' ou' (numbered x left) d (only one_unknown) Always (λ T. Check.introduce n symbol)
+  pub is : (d : Described) → symbol < 256 → n < length (nodes_of d) → Beside f w ou left w' ou' (numbered x left) d (only one_unknown) Always
+      (λ T. Check.introduce n symbol)
   pub found : (d : Described) → symbol < 256 → n < length (nodes_of d)
       → Beside f w ou left w' ou' (numbered x left) d (only no_thing) (λ T c. Known symbol c) (λ T. Check.introduce n symbol)
 
@@ -103,7 +105,8 @@ pub record Fuzzes (f w ou : List ℕ) (n term distance left : ℕ) (w' ou' : Lis
 
 -- `unify`
 abbrev pub UnifiesTo : List ℕ → List ℕ → List ℕ → Ty → Ty → ℕ → List ℕ → List ℕ → Result ℕ Failure → Type 0
-UnifiesTo f w ou got expected left w' ou' r = (d : Described) → Beside f w ou left w' ou' (unified w' r) d (only no_thing) (λ T c. Fine w got T c × Fine w expected T c) (λ T. Check.unify (tree T got) (tree T expected))
+UnifiesTo f w ou got expected left w' ou' r = (d : Described)
+    → Beside f w ou left w' ou' (unified w' r) d (only no_thing) (λ T c. Fine w got T c × Fine w expected T c) (λ T. Check.unify (tree T got) (tree T expected))
 
 -- The answer slice stays as it is, whatever it holds.
 pub record UnifiesOutside (w : List ℕ) (got expected : Ty) (left : ℕ) (w' : List ℕ) (r : Result ℕ Failure) : Type 0 where
@@ -111,7 +114,8 @@ pub record UnifiesOutside (w : List ℕ) (got expected : Ty) (left : ℕ) (w' : 
 
 -- `report`; the types that the error shows exist
 abbrev pub Reports : List ℕ → List ℕ → List ℕ → ℕ → TyError → ℕ → List ℕ → List ℕ → Option ℕ → Type 0
-Reports f w ou n err left w' ou' r = (d : Described) → n < length (nodes_of d) → Beside f w ou left w' ou' (done r) d (only one_diagnostic) (λ T c. OkError w err) (λ T. Check.report d.schema (nodes_of d) n (error_of T err))
+Reports f w ou n err left w' ou' r = (d : Described) → n < length (nodes_of d)
+    → Beside f w ou left w' ou' (done r) d (only one_diagnostic) (λ T c. OkError w err) (λ T. Check.report d.schema (nodes_of d) n (error_of T err))
 
 -- `rollback`, to lengths of the undo log, of the environment and of the marks
 abbrev pub RollsTo : List ℕ → List ℕ → List ℕ → ℕ → ℕ → ℕ → List ℕ → List ℕ → Type 0
@@ -121,12 +125,14 @@ RollsTo f w ou undo env marks w' ou' = (d : Described) (left : ℕ) (at : Check.
 -- `unify_at`
 pub record UnifiesAt (f w ou : List ℕ) (n : ℕ) (got expected : Ty) (left : ℕ) (w' ou' : List ℕ) (r : Option ℕ) : Type 0 where
   pub is : (d : Described) → n < length (nodes_of d)
-      → Beside f w ou left w' ou' (done r) d (only one_diagnostic) (λ T c. Fine w got T c × Fine w expected T c) (λ T. Check.unify_at d.schema (nodes_of d) n (tree T got) (tree T expected))
+      → Beside f w ou left w' ou' (done r) d (only one_diagnostic) (λ T c. Fine w got T c × Fine w expected T c)
+      (λ T. Check.unify_at d.schema (nodes_of d) n (tree T got) (tree T expected))
 
 -- `introduce_side`
 abbrev pub BringsSide : List ℕ → List ℕ → List ℕ → ℕ → ℕ → List ℕ → List ℕ → Type 0
 BringsSide f w ou n left w' ou' = (d : Described) → n < length (nodes_of d)
-    → Beside f w ou left w' ou' (silent left) d (only (introducing (form d.schema (nodes_of d) n))) Always (λ T. Check.introduce_side d.schema (nodes_of d) n (form d.schema (nodes_of d) n))
+    → Beside f w ou left w' ou' (silent left) d (only (introducing (form d.schema (nodes_of d) n))) Always
+    (λ T. Check.introduce_side d.schema (nodes_of d) n (form d.schema (nodes_of d) n))
 
 -- `compare_types`: the right side's type unified with the left's, which must then have an order.
 unfoldable pub compare_types : Described → ℕ → ℕ → Tree.Ty → Tree.Ty → Does (Unit {0})
@@ -172,7 +178,7 @@ Heads f w ou head left w' ou' r = (d : Described) → head < length (nodes_of d)
     → Beside f w ou left w' ou' (done r) d (only one_diagnostic) Always (λ T. Check.head_form d.schema (nodes_of d) head (form d.schema (nodes_of d) head))
 
 -- `destructurable`
-pub record Asks (f w : List ℕ) (n : ℕ) (r : Bool) : Type 0 where
+pub record TellsDestructurable (f w : List ℕ) (n : ℕ) (r : Bool) : Type 0 where
   pub is : (T : Rows) (d : Described) (c : Checker) → Sound d → Runs f w T d c → n < length (nodes_of d) → r ≡ is_destructurable (nodes_of d) n
 
 -- `all_destructurable`: any depth that is above the fields serves.
@@ -180,4 +186,5 @@ abbrev pub all_apart : Described → ℕ → List Field → Bool
 all_apart d k fs = all_fields (λ m. destructurable_in k (nodes_of d) m) fs
 
 pub record AsksAll (f w : List ℕ) (l : Items) (r : Bool) : Type 0 where
-  pub is : (T : Rows) (d : Described) (c : Checker) → Sound d → Runs f w T d c → l.below ≤ length (nodes_of d) → (k : ℕ) → l.below ≤ k → r ≡ all_apart d k (fields_from f l 0 l.n)
+  pub is : (T : Rows) (d : Described) (c : Checker) → Sound d → Runs f w T d c → l.below ≤ length (nodes_of d) → (k : ℕ) → l.below ≤ k
+      → r ≡ all_apart d k (fields_from f l 0 l.n)

@@ -1,4 +1,5 @@
-// The steps of `check` outside of its cycle: they visit no node.
+// The steps of `check` outside of its cycle: they visit no node. Those with `#[inline(never)]` would have room for their
+// messages and errors in the frames of the cycle (crate checker), which stand on the stack once for each depth.
 #![tactic(auto)]
 
 ghost use Rattle.std.specs.Prelude.{◌≡◌, ◌<◌, get_or};
@@ -6,8 +7,8 @@ ghost use Rattle.state.specs.Lines.{Rejected};
 ghost use Rattle.state.specs.Running.{with_left, left_if, ok_left, Lent};
 ghost use Rattle.messages.specs.declared.Message.TheVariants as Message;
 ghost use Rattle.messages.specs.Said.{report_message};
-ghost use Rattle.steps.specs.Outside.{predicate_w, key_ty_w, value_ty_w, RejectsTy, RejectedIf, far_w, characters_w, long_w, Takes, Rewinds, FieldIs, Shadows, ValueOf, FieldAt, KeyOf, SelectOf, ComparesOrder, IntroducesSides, ChecksHead, counters_w, Untypes, StartsRun};
-ghost use Rattle.steps.specs.Promises.{Fuzzes, UnifiesOutside, UnifiesAt, ComparesTypes, Asks, AsksAll};
+ghost use Rattle.steps.specs.Outside.{predicate_w, key_ty_w, value_ty_w, RejectsTy, RejectedIf, far_w, characters_w, long_w, TakesMark, Rewinds, FieldIs, Shadows, ValueOf, FieldAt, KeyOf, SelectOf, ComparesOrder, IntroducesSides, ChecksHead, counters_w, Untypes, StartsRun};
+ghost use Rattle.steps.specs.Promises.{Fuzzes, UnifiesOutside, UnifiesAt, ComparesTypes, TellsDestructurable, AsksAll};
 
 use cells::{Failure, Kind, Ty, TyError};
 use messages::Message;
@@ -25,6 +26,7 @@ pub fn reject_ty(run: &mut Run, n: u32, m: Message) -> Option<Ty>
     Some(Ty::Error)
 }
 
+#[inline(never)]
 pub fn report(run: &mut Run, n: u32, err: TyError) -> Option<()>
     ensures is { Rejected run.old.file.now run.old.words.now run.old.out.now n (report_message err) run.old.left run.new.words.now run.new.out.now (left_if result run.new.left) }
     ensures lent { Lent run.old run.new }
@@ -41,7 +43,7 @@ pub struct Mark {
 }
 
 pub fn snapshot(w: &[u32]) -> Mark
-    ensures { Takes w.now result }
+    ensures { TakesMark w.now result }
 {
     Mark {
         undo: cells::snapshot(w),
@@ -79,6 +81,7 @@ pub fn unify_outside(run: &mut Run, got: Ty, expected: Ty) -> Option<Result<(), 
 }
 
 // Unifies, and reports a failure at a node.
+#[inline(never)]
 pub fn unify_at(run: &mut Run, n: u32, got: Ty, expected: Ty) -> Option<()>
     ensures is { UnifiesAt run.old.file.now run.old.words.now run.old.out.now n got expected run.old.left run.new.words.now run.new.out.now (left_if result run.new.left) }
     ensures lent { Lent run.old run.new }
@@ -166,6 +169,7 @@ pub fn key_shadows_value(w: &[u32], p: u32) -> bool
 
 // ---- Access and select, on the resolved base
 
+#[inline(never)]
 pub fn value_of(run: &mut Run, n: u32, base: Ty) -> Option<Ty>
     ensures is { ValueOf run.old.file.now run.old.words.now run.old.out.now n base run.old.left run.new.words.now run.new.out.now (with_left result run.new.left) }
     ensures lent { Lent run.old run.new }
@@ -199,6 +203,7 @@ pub fn field_at(run: &mut Run, n: u32, name: u32, t: Ty) -> Option<Ty>
 }
 
 // On a fact it is the key's field, and a fact of an absent predicate is an error without a diagnostic.
+#[inline(never)]
 pub fn key_of(run: &mut Run, n: u32, name: u32, base: Ty) -> Option<Ty>
     ensures is { KeyOf run.old.file.now run.old.words.now run.old.out.now n name base run.old.left run.new.words.now run.new.out.now (with_left result run.new.left) }
     ensures lent { Lent run.old run.new }
@@ -215,6 +220,7 @@ pub fn key_of(run: &mut Run, n: u32, name: u32, base: Ty) -> Option<Ty>
     }
 }
 
+#[inline(never)]
 pub fn select_of(run: &mut Run, n: u32, name: u32, base: Ty) -> Option<Ty>
     ensures is { SelectOf run.old.file.now run.old.words.now run.old.out.now n name base run.old.left run.new.words.now run.new.out.now (with_left result run.new.left) }
     ensures lent { Lent run.old run.new }
@@ -254,6 +260,7 @@ fn fuzzy_term(run: &mut Run, n: u32, term: u32) -> Option<()>
 }
 
 // The distance first.
+#[inline(never)]
 pub fn fuzzy(run: &mut Run, n: u32, term: u32, distance: u32) -> Option<Ty>
     ensures is { Fuzzes run.old.file.now run.old.words.now run.old.out.now n term distance run.old.left run.new.words.now run.new.out.now (with_left result run.new.left) }
     ensures lent { Lent run.old run.new }
@@ -292,7 +299,7 @@ pub fn check_head(run: &mut Run, n: u32) -> Option<()>
 // call and taken apart in it.
 #[cycle(destructuring)]
 pub fn destructurable(f: &[u8], w: &[u32], n: u32) -> bool
-    ensures { Asks f.now w.now n result }
+    ensures { TellsDestructurable f.now w.now n result }
 {
     match tree::node_at(f, w, n) {
         Node::Var(_) | Node::Wildcard => true,

@@ -2,9 +2,9 @@
 use Rattle.std.proofs.Common.{List, ◌∷◌, ◌≡◌, refl, ℕ, ◌+◌, ◌/◌, ◌-◌, arith}
 use Rattle.tariff.specs.declared.Tally.{Tally}
 use Rattle.tariff.specs.Tariff.{filled, next}
-use Rattle.tariff.specs.Sums.{Query, Run, start, counts, refuses, all_visits, all_cents, Sums}
+use Rattle.tariff.specs.Sums.{PricedQuery, TallyRun, start, counts, refuses, all_visits, all_cents, Sums}
 
-module _ (qs : List Query) (t : Tally) (visits price : ℕ) (s : Sums qs t) where
+module _ (qs : List PricedQuery) (t : Tally) (visits price : ℕ) (s : Sums qs t) where
   -- The remainder's thousands are those that all visits fill now and did not fill before.
   crossed : filled t visits ≡ (all_visits qs + visits) / 1000 - all_visits qs / 1000
   crossed = omega (arith, s.visits, s.below)
@@ -13,7 +13,7 @@ module _ (qs : List Query) (t : Tally) (visits price : ℕ) (s : Sums qs t) wher
   unfolding all_visits all_cents
   counted = record { visits = omega (arith, s.visits, s.below); below = omega arith; cents = cc (s.cents, crossed) }
 
-pub sums : {qs : List Query} {t : Tally} → Run qs t → Sums qs t
+pub sums : {qs : List PricedQuery} {t : Tally} → TallyRun qs t → Sums qs t
 unfolding all_visits all_cents
 sums start = record { visits = refl; below = omega arith; cents = refl }
 sums (counts {qs} {t} visits price run a) = rw a.counted (counted qs t visits price (sums run))

@@ -5,19 +5,19 @@ use Prim.Native.Nat.{ℕ, zero, suc, ◌+◌, ◌-◌, ◌*◌, ◌<◌, ◌≤�
 use native.Mathlib.Omega.{arith}
 use lib.ListN.{length, get_or, length-append, length-map}
 use Rattle.text.specs.Utf8.{Text}
-use Rattle.meaning.specs.Syntax.{Node, Ast, no_node}
-use Rattle.meaning.specs.References.{shape_names, shape_types, shape_keys, optional, expr_names}
-use Rattle.meaning.specs.Frame.{wide, TypeShape, a_record, Frame, the_limits, a_name, a_type, a_predicate, a_node, the_query}
-use Rattle.meaning.specs.Lines.{max_bytes}
-use Rattle.meaning.specs.Conditions.{max_names, max_types, max_predicates, max_nodes, max_queries}
-use Rattle.meaning.specs.File.{max_file, no_ast}
-use Rattle.meaning.specs.All.{All, Distinct, Below}
-use Rattle.meaning.specs.Answer.{bytes₂, bytes₄, hex_line}
-use Rattle.meaning.specs.Content.{PredicateFrame, predicate_frame, query_frames, schema_frames, frames_of, TypesBefore, Lawful}
-use Rattle.meaning.specs.Sound.{Lower, nodes_named, LawfulQuery}
-use Rattle.meaning.specs.Writing.{as_value_type, as_content, as_node, written, file_of, Fits, Writable}
-use Rattle.meaning.proofs.Lists.{all_append, all_map, all_at}
-use Rattle.meaning.proofs.Hex.{line_length}
+use Rattle.format.specs.Syntax.{Node, Ast, no_node}
+use Rattle.format.specs.References.{shape_names, shape_types, shape_keys, optional, expr_names}
+use Rattle.format.specs.Frame.{wide, TypeShape, a_record, Frame, the_limits, a_name, a_type, a_predicate, a_node, the_query}
+use Rattle.format.specs.Lines.{max_bytes}
+use Rattle.format.specs.Conditions.{max_names, max_types, max_predicates, max_nodes, max_queries}
+use Rattle.format.specs.File.{max_file, no_ast}
+use Rattle.format.specs.All.{All, Distinct, Below}
+use Rattle.format.specs.Bytes.{bytes₂, bytes₄, hex_line}
+use Rattle.format.specs.Content.{PredicateFrame, predicate_frame, query_frames, schema_frames, frames_of, TypesBefore, Lawful}
+use Rattle.format.specs.Sound.{Lower, nodes_named, LawfulQuery}
+use Rattle.format.specs.Writing.{as_value_type, as_content, as_node, written, file_of, FrameFits, Writable}
+use Rattle.format.proofs.Lists.{all_append, all_map, all_at}
+use Rattle.format.proofs.Hex.{line_length}
 use Rattle.testload.specs.Rule.{Limits, limit, limits, names, base, simple, compound, predicates, predicate, Plan, queries, counts, from, choice}
 use Rattle.testload.specs.Rule.{node_of, no_plan, plan_of, query_of, limits_of, simple_of, compound_of, predicate_of, count_of, content_of}
 use Rattle.testload.proofs.Tables.{TypeRow, PredicateRow, LimitsRow, NameRow, ExprRow, PlanRow, base_rows, simple_rows, compound_rows, limits_rows}
@@ -53,7 +53,7 @@ below_more n m h l a = all_map (λ x. x < n) (λ x. x < m) l (λ x b. omega arit
 
 -- a frame whose line is short
 pub record Short (f : Frame) : Type 0 where
-  pub fits : Fits wide f
+  pub fits : FrameFits wide f
   pub short : length (written wide f) ≤ 32
 
 short_writable : (f : Frame) → Short f → Writable wide f
@@ -299,7 +299,8 @@ module _ (ws : List ℕ) (small : (n : ℕ) → get_or ws n 0 < 0x1_0000_0000) w
   pub lawful : Lawful wide (content_of ws)
   unfolding content_of names base from max_names max_types max_predicates max_queries
   lawful =
-      let long : length (map (query_of ws) (from 0 (count_of ws))) ≡ count_of ws = length-map (from 0 (count_of ws)) (query_of ws) ∙ length_from 0 (count_of ws) in
+      let long : length (map (query_of ws) (from 0 (count_of ws))) ≡ count_of ws =
+      length-map (from 0 (count_of ws)) (query_of ws) ∙ length_from 0 (count_of ws) in
       record {
         names_max = omega arith;
         types_max = omega arith;

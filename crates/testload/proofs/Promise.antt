@@ -5,16 +5,16 @@ use Prim.Native.Nat.{ℕ, zero, suc, ◌+◌, ◌-◌, ◌*◌, ◌%◌, ◌^◌
 use native.Mathlib.Decide.{dec_le}
 use native.Mathlib.Omega.{arith}
 use lib.ListN.{length, get_or}
-use Rattle.meaning.specs.Syntax.{no_node}
-use Rattle.meaning.specs.Frame.{wide}
-use Rattle.meaning.specs.File.{Form, no_ast, refused, described, reading_of, reading}
-use Rattle.meaning.specs.Refusal.{Refusal}
-use Rattle.meaning.specs.Refused.{Refused}
-use Rattle.meaning.specs.All.{All}
-use Rattle.meaning.specs.Content.{describes, Says}
-use Rattle.meaning.proofs.Lists.{all_snoc}
-use Rattle.meaning.proofs.Content.{says_exactly}
-use Rattle.meaning.proofs.Refused.{refused_when}
+use Rattle.format.specs.Syntax.{no_node}
+use Rattle.format.specs.Frame.{wide}
+use Rattle.format.specs.File.{Form, no_ast, refused, described, reading_of, reading}
+use Rattle.format.specs.Refusal.{Refusal}
+use Rattle.format.specs.Refused.{Refused}
+use Rattle.format.specs.All.{All}
+use Rattle.format.specs.Content.{describes, Says}
+use Rattle.format.proofs.Lists.{all_snoc}
+use Rattle.format.proofs.Content.{says_exactly}
+use Rattle.format.proofs.Refused.{refused_when}
 use Rattle.testload.specs.Words.{next, words, word_at}
 use Rattle.testload.specs.Rule.{content_of, word_count, load_file}
 use Rattle.testload.proofs.Words.{next_first, next_early, next_later, words_at, first_word, next_54, later_words}

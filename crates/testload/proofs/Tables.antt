@@ -11,18 +11,17 @@ use borrow.Author.Tests.{leb-true, not-true}
 use borrow.Author.Rules.{rules}
 use Rattle.text.specs.Utf8.{Text, characters}
 use Rattle.text.proofs.Grammar.{counts as counted}
-use Rattle.meaning.specs.Syntax.{ExprKind}
-use Rattle.meaning.specs.References.{shape_names, shape_types, shape_keys, optional, field_names, field_values, stmt_nodes, query_nodes, expr_names, expr_nodes}
-use Rattle.meaning.specs.Diag.{ascii}
-use Rattle.meaning.specs.Frame.{wide, TypeShape}
-use Rattle.meaning.specs.Conditions.{any_of, all_below, among, again, same_text, given}
-use Rattle.meaning.specs.All.{All, Distinct, Below, Each}
-use Rattle.meaning.specs.Answer.{bytes₂, bytes₄}
-use Rattle.meaning.specs.Content.{PredicateFrame}
-use Rattle.meaning.specs.Writing.{as_field, as_alternative, as_reference, as_shape, as_statement, as_query, as_expr, Byte, InTwo, ShapeFits}
-use Rattle.meaning.specs.Writing.{QueryFits, ExprFits}
-use Rattle.meaning.proofs.Lists.{all_at}
-use Rattle.meaning.proofs.Tests.{clash, below_all, again_distinct, given_absent}
+use Rattle.format.specs.Syntax.{ExprKind}
+use Rattle.format.specs.References.{shape_names, shape_types, shape_keys, optional, field_names, field_values, stmt_nodes, query_nodes, expr_names, expr_nodes}
+use Rattle.format.specs.Bytes.{ascii, bytes₂, bytes₄}
+use Rattle.format.specs.Frame.{wide, TypeShape}
+use Rattle.format.specs.Conditions.{any_of, all_below, among, again, same_text, given}
+use Rattle.format.specs.All.{All, Distinct, Below, Each}
+use Rattle.format.specs.Content.{PredicateFrame}
+use Rattle.format.specs.Writing.{as_field, as_alternative, as_reference, as_shape, as_statement, as_query, as_expr, Byte, InTwo, ShapeFits}
+use Rattle.format.specs.Writing.{QueryFits, ExprFits}
+use Rattle.format.proofs.Lists.{all_at}
+use Rattle.format.proofs.Tests.{clash, below_all, again_distinct, given_absent}
 use Rattle.testload.specs.Rule.{Limits, limits, names, base, simple, compound, predicates, leaves, pairs, singles, exprs, expr_at, Plan, queries}
 use Rattle.testload.specs.Rule.{counts, from}
 use Rattle.std.specs.Prelude.{◌&&◌, None, Option, Some}
@@ -109,11 +108,13 @@ unfolding base all_of type_test all_below again among any_of shape_names shape_t
 base_rows = rows (ShapeFits wide) (TypeRow 0) (type_test 0) (type_row 0) base base_fits refl
 
 pub simple_rows : All (TypeRow 3) simple
-unfolding simple all_of type_test all_below again among any_of shape_names shape_types shape_keys field_names field_values as_shape as_field as_alternative as_reference bytes₂ bytes₄ flat_map
+unfolding simple all_of type_test all_below again among any_of shape_names shape_types shape_keys field_names field_values as_shape as_field as_alternative
+    as_reference bytes₂ bytes₄ flat_map
 simple_rows = rows (ShapeFits wide) (TypeRow 3) (type_test 3) (type_row 3) simple simple_fits refl
 
 pub compound_rows : All (TypeRow 6) compound
-unfolding compound all_of type_test all_below again among any_of shape_names shape_types shape_keys field_names field_values as_shape as_field as_alternative as_reference bytes₂ bytes₄ flat_map
+unfolding compound all_of type_test all_below again among any_of shape_names shape_types shape_keys field_names field_values as_shape as_field as_alternative
+    as_reference bytes₂ bytes₄ flat_map
 compound_rows = rows (ShapeFits wide) (TypeRow 6) (type_test 6) (type_row 6) compound compound_fits refl
 
 -- ---- Limits, names, predicates
@@ -180,7 +181,13 @@ unfolding expr_test
 expr_row named e f h =
     let a = all_below 13 (expr_names e) in
     let b = leb (length (as_expr wide e)) 23 in
-    record { fits = f.0; nodes = f.1; names = below_all 13 (expr_names e) (and_parts a b h).0; short = leb-true (length (as_expr wide e)) 23 (and_parts a b h).1 }
+    record {
+      fits = f.0;
+      nodes = f.1;
+      names = below_all 13 (expr_names e) (and_parts a b h).0;
+      short = leb-true (length (as_expr wide e)) 23
+          (and_parts a b h).1;
+    }
 
 both_all : {A : Type 0} (P Q : A → Type 0) (l : List A) → All P l → All Q l → All (λ a. P a × Q a) l
 both_all P Q [] a b = tt
@@ -371,7 +378,8 @@ named_by i = [] ∷ [] ∷ ((i - 2) ∷ (i - 1) ∷ []) ∷ ((i - 1) ∷ []) ∷
 pub named_at : ℕ → List ℕ
 named_at i = get_or (named_by i) (i % 8) []
 
-each_at : {A B : Type 0} (R : A → B → Type 0) (l : List A) (m : List B) → Each R l m → (n : ℕ) (d : A) (d' : B) → n < length l → R (get_or l n d) (get_or m n d')
+each_at : {A B : Type 0} (R : A → B → Type 0) (l : List A) (m : List B) → Each R l m → (n : ℕ) (d : A) (d' : B) → n < length l
+    → R (get_or l n d) (get_or m n d')
 each_at R [] [] e n d d' h = absurd (not-suc-le-zero h)
 each_at R (a ∷ l) (b ∷ m) e zero d d' h = e.0
 each_at R (a ∷ l) (b ∷ m) e (suc n) d d' h = each_at R l m e.1 n d d' (le_of_suc-le-suc h)

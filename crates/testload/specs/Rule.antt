@@ -5,14 +5,14 @@ use mathlib.Core.List.{List, [], ◌∷◌, ◌++◌, map}
 use Rattle.std.specs.Prelude.{ℕ, zero, suc, ◌+◌, ◌-◌, ◌*◌, ◌/◌, ◌%◌, None, Option, Some}
 use Rattle.std.proofs.Math.ListN.{get_or}
 use Rattle.unification.specs.Ty.{Int, String, Bytes, Fact}
-use Rattle.meaning.specs.Syntax.{Field, QueryStmt, Query, Literal, ExprKind, Node, Ast}
-use Rattle.meaning.specs.Syntax.ExprKind.{Lit, Var, Wildcard, Never, Prefix, Fuzzy, Record, Access, Disjunction, Subquery, Arith, Error, Select}
-use Rattle.meaning.specs.Syntax.QueryStmt.{Bind, Deny, Compare, Implicit, Negation}
-use Rattle.meaning.specs.Syntax.FieldRef.{Key, Value}
-use Rattle.meaning.specs.Diag.{ascii}
-use Rattle.meaning.specs.Frame.{wide, Alternative, TypeShape, a_leaf, a_record, a_union}
-use Rattle.meaning.specs.Writing.{file_of}
-use Rattle.meaning.specs.Content.{PredicateFrame, Content, frames_of}
+use Rattle.format.specs.Syntax.{Field, QueryStmt, Query, Literal, ExprKind, Node, Ast}
+use Rattle.format.specs.Syntax.ExprKind.{Lit, Var, Wildcard, Never, Prefix, Fuzzy, Record, Access, Disjunction, Subquery, Arith, Error, Select}
+use Rattle.format.specs.Syntax.QueryStmt.{Bind, Deny, Compare, Implicit, Negation}
+use Rattle.format.specs.Syntax.FieldRef.{Key, Value}
+use Rattle.format.specs.Bytes.{ascii}
+use Rattle.format.specs.Frame.{wide, Alternative, TypeShape, a_leaf, a_record, a_union}
+use Rattle.format.specs.Writing.{file_of}
+use Rattle.format.specs.Content.{PredicateFrame, Content, frames_of}
 use Rattle.testload.specs.Words.{words}
 
 -- ---- The tables

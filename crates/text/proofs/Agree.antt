@@ -1,22 +1,23 @@
 -- The rule of 01-scope.md and the grammar of RFC 3629 have the same characters, and so the same texts. A computed test
 -- says which bytes have two, three or four leading ones, and what such a byte holds after them; the rest is arithmetic
 -- on the value.
-use Rattle.std.proofs.Common.{◌≡◌, refl, sym, ◌∙◌, ◌↔◌, ℕ, zero, suc, ◌+◌, ◌-◌, ◌*◌, ◌%◌, ◌≤◌, ◌<◌, Bool, true, ◌&&◌, T, eqb, leb, ltb, lit<, List, [], ◌∷◌, ◌++◌, length, get_or, arith}
+use Rattle.std.proofs.Common.{◌≡◌, refl, sym, ◌∙◌, ◌↔◌, ℕ, zero, suc, ◌+◌, ◌-◌, ◌*◌, ◌%◌, ◌≤◌, ◌<◌, Bool, true, ◌&&◌, T, eqb, leb, ltb, lit<, List, [], ◌∷◌}
+use Rattle.std.proofs.Common.{◌++◌, length, get_or, arith}
 use Rattle.std.proofs.Math.Dec.{leb→le}
 use Rattle.std.proofs.Math.Nat.{le_trans, le_of_suc-le-suc, not-suc-le-zero}
 use Rattle.std.proofs.lemmas.Bool.{agree_below, agree_below_at, and_parts, eq-eqb, eqb-true}
 use native.Mathlib.Decide.{dec_le}
-use Rattle.text.specs.Star.{Each, Star, none as nil, more}
+use Rattle.text.specs.Star.{Every, Star, none as nil, more}
 use Rattle.text.specs.Utf8 as utf8
-use Rattle.text.specs.Utf8.{Range, ◌to◌, In, Fits, end, then, OneOf, this, later, inside}
+use Rattle.text.specs.Utf8.{Range, ◌to◌, InRange, FitsRanges, end, then, OneOf, this, later, inside}
 use Rattle.text.specs.Rule as rule
 use Rattle.text.specs.Rule.{ones_of, ones, head, value, least, Later, Scalar, Sequence, alone, several}
 use Rattle.text.proofs.Grammar.{range, inside_in, in_inside}
 
 -- the bytes with n leading ones are those from low to high, and hold what is above low
 record Lead (n low high : ℕ) : Type 0 where
-  found : (b : ℕ) → b < 256 → ones b ≡ n → In (low to high) b
-  given : (b : ℕ) → b < 256 → In (low to high) b → ones b ≡ n
+  found : (b : ℕ) → b < 256 → ones b ≡ n → InRange (low to high) b
+  given : (b : ℕ) → b < 256 → InRange (low to high) b → ones b ≡ n
   holds : (b : ℕ) → b < 256 → ones b ≡ n → head b ≡ b - low
 
 has : ℕ → ℕ → Bool
@@ -51,28 +52,28 @@ unfolding has above ones_of ones head
 four = leads 4 0xf0 0xf7 refl refl
 
 module _ {n low high : ℕ} (lead : Lead n low high) (b : ℕ) (byte : b < 256) (t : List ℕ) where
-  make : 2 ≤ n → n ≤ 4 → In (low to high) b → 1 + length t ≡ n → Each Later t → least n ≤ value (b - low) t → value (b - low) t ≤ 0x10ffff
+  make : 2 ≤ n → n ≤ 4 → InRange (low to high) b → 1 + length t ≡ n → Every Later t → least n ≤ value (b - low) t → value (b - low) t ≤ 0x10ffff
       → Scalar (value (b - low) t) → Sequence b t
   make h₂ h₄ i long tail l h whole =
       let e = lead.given b byte i in
       let v = lead.holds b byte e in
       record { two = rw e h₂; four = rw e h₄; long = long ∙ sym e; tail = tail; low = rw (e, v) l; high = rw v h; scalar = rw v whole }
 
-  taken : ones b ≡ n → Sequence b t → In (low to high) b × (least n ≤ value (b - low) t) × (value (b - low) t ≤ 0x10ffff) × Scalar (value (b - low) t)
+  taken : ones b ≡ n → Sequence b t → InRange (low to high) b × (least n ≤ value (b - low) t) × (value (b - low) t ≤ 0x10ffff) × Scalar (value (b - low) t)
   taken e q =
       let v = lead.holds b byte e in
       (lead.found b byte e, rw (e, v) at q.low, rw v at q.high, rw v at q.scalar)
 
-tail : {b : ℕ} → Later b → In utf8.tail b
+tail : {b : ℕ} → Later b → InRange utf8.tail b
 tail h = record { low = h.low; high = h.high }
 
-choose : (g : List (List Range)) (k : ℕ) {s : List ℕ} → k < length g → Fits (get_or g k []) s → OneOf g s
+choose : (g : List (List Range)) (k : ℕ) {s : List ℕ} → k < length g → FitsRanges (get_or g k []) s → OneOf g s
 choose [] k h f = absurd (not-suc-le-zero h)
 choose (rs ∷ g) zero h f = this f
 choose (rs ∷ g) (suc k) h f = later (choose g k (le_of_suc-le-suc h) f)
 
 -- the alternatives of UTF8-char, counted from 0
-alternative : (k : ℕ) {s : List ℕ} → T (ltb k 9) → Fits (get_or utf8.utf8_char k []) s → utf8.Character s
+alternative : (k : ℕ) {s : List ℕ} → T (ltb k 9) → FitsRanges (get_or utf8.utf8_char k []) s → utf8.Character s
 alternative k h f = choose utf8.utf8_char k (lit< h) f
 
 -- ed's second byte, where the value is not from d800 to dfff
@@ -122,21 +123,21 @@ in_grammar b (x ∷ y ∷ z ∷ []) l q =
 in_grammar b (x ∷ y ∷ z ∷ u ∷ t) l q = absurd (omega (arith, q.four, q.long))
 
 -- a byte of a range is in a wider one
-narrow : {low high low' high' b : ℕ} → In (low' to high') b → T (leb low low') → T (leb high' high) → In (low to high) b
+narrow : {low high low' high' b : ℕ} → InRange (low' to high') b → T (leb low low') → T (leb high' high) → InRange (low to high) b
 narrow i l h = record { low = le_trans (leb→le _ _ l) i.low; high = le_trans i.high (leb→le _ _ h) }
 
 -- and a later byte where the range lies within the tail's
-follows : {low high b : ℕ} → In (low to high) b → T (leb 0x80 low) → T (leb high 0xbf) → Later b
+follows : {low high b : ℕ} → InRange (low to high) b → T (leb 0x80 low) → T (leb high 0xbf) → Later b
 follows {b = b} i l h =
-    let wide : In (0x80 to 0xbf) b = narrow i l h in
+    let wide : InRange (0x80 to 0xbf) b = narrow i l h in
     record { low = wide.low; high = wide.high }
 
-of_two : (b x : ℕ) → In (0xc0 to 0xdf) b → Later x → 0x80 ≤ (b - 0xc0) * 64 + x % 64 → rule.Character (b ∷ x ∷ [])
+of_two : (b x : ℕ) → InRange (0xc0 to 0xdf) b → Later x → 0x80 ≤ (b - 0xc0) * 64 + x % 64 → rule.Character (b ∷ x ∷ [])
 unfolding value
 of_two b x i j low = several (make two b (omega (arith, i)) (x ∷ []) (omega arith) (omega arith) i refl (j, tt) low (omega (arith, i, j))
     (λ h. omega (arith, i, j)))
 
-of_three : (b x y : ℕ) → In (0xe0 to 0xef) b → Later x → Later y → 0x800 ≤ ((b - 0xe0) * 64 + x % 64) * 64 + y % 64
+of_three : (b x y : ℕ) → InRange (0xe0 to 0xef) b → Later x → Later y → 0x800 ≤ ((b - 0xe0) * 64 + x % 64) * 64 + y % 64
     → Scalar (((b - 0xe0) * 64 + x % 64) * 64 + y % 64)
     → rule.Character (b ∷ x ∷ y ∷ [])
 unfolding value
@@ -144,7 +145,7 @@ of_three b x y i j k low whole =
     several
     (make three b (omega (arith, i)) (x ∷ y ∷ []) (omega arith) (omega arith) i refl (j, (k, tt)) low (omega (arith, i, j, k)) whole)
 
-of_four : (b x y z : ℕ) → In (0xf0 to 0xf4) b → Later x → Later y → Later z
+of_four : (b x y z : ℕ) → InRange (0xf0 to 0xf4) b → Later x → Later y → Later z
     → 0x10000 ≤ (((b - 0xf0) * 64 + x % 64) * 64 + y % 64) * 64 + z % 64
     → (((b - 0xf0) * 64 + x % 64) * 64 + y % 64) * 64 + z % 64 ≤ 0x10ffff
     → rule.Character (b ∷ x ∷ y ∷ z ∷ [])
@@ -181,28 +182,28 @@ abbrev pub Byte : ℕ → Type 0
 Byte b = b < 256
 
 -- The rule and the grammar have the same characters.
-pub same_character : (s : List ℕ) → Each Byte s → rule.Character s ↔ utf8.Character s
+pub same_character : (s : List ℕ) → Every Byte s → rule.Character s ↔ utf8.Character s
 same_character s bytes = (go s bytes, in_rule)
   where
-    go : (s : List ℕ) → Each Byte s → rule.Character s → utf8.Character s
+    go : (s : List ℕ) → Every Byte s → rule.Character s → utf8.Character s
     go (b ∷ []) bytes (alone h) = alternative 0 tt (then (range 0x00 0x7f b (omega arith) (omega arith)) end)
     go (b ∷ t) bytes (several q) = in_grammar b t bytes.0 q
     go [] bytes h = elim h [ ]
 
-pub each_left : (P : ℕ → Type 0) (a t : List ℕ) → Each P (a ++ t) → Each P a
+pub each_left : (P : ℕ → Type 0) (a t : List ℕ) → Every P (a ++ t) → Every P a
 each_left P [] t h = tt
 each_left P (b ∷ a) t h = (h.0, each_left P a t h.1)
 
-pub each_right : (P : ℕ → Type 0) (a t : List ℕ) → Each P (a ++ t) → Each P t
+pub each_right : (P : ℕ → Type 0) (a t : List ℕ) → Every P (a ++ t) → Every P t
 each_right P [] t h = h
 each_right P (b ∷ a) t h = each_right P a t h.1
 
 -- pieces of one kind that are pieces of another
-recast : {C D : List ℕ → Type 0} {s : List ℕ} {n : ℕ} → ((a : List ℕ) → Each Byte a → C a → D a) → Each Byte s → Star C s n → Star D s n
+recast : {C D : List ℕ → Type 0} {s : List ℕ} {n : ℕ} → ((a : List ℕ) → Every Byte a → C a → D a) → Every Byte s → Star C s n → Star D s n
 recast f bytes nil = nil
 recast f bytes (more {a = a} {t = t} c r) = more (f a (each_left Byte a t bytes) c) (recast f (each_right Byte a t bytes) r)
 
 -- The rule and the grammar have the same texts, with the same number of characters.
-pub same_text_lem : (s : List ℕ) (n : ℕ) → Each Byte s → rule.Text s n ↔ utf8.Text s n
+pub same_text_lem : (s : List ℕ) (n : ℕ) → Every Byte s → rule.Text s n ↔ utf8.Text s n
 same_text_lem s n bytes =
     (λ r. recast (λ a h. (same_character a h).0) bytes r, λ r. recast (λ a h. (same_character a h).1) bytes r)

@@ -1,6 +1,7 @@
 -- The character that a list starts with: its first byte decides how long it can be, so that one sequence alone is in
 -- question.
-use Rattle.std.proofs.Common.{◌≡◌, refl, ap, ℕ, zero, suc, ◌-◌, ◌<◌, ◌≤◌, Bool, true, false, ◌⊎◌, inl, inr, ⊎_elim, List, [], ◌∷◌, length, take, arith, MatchOption, IsTrue, ◌↔◌}
+use Rattle.std.proofs.Common.{◌≡◌, refl, ap, ℕ, zero, suc, ◌-◌, ◌<◌, ◌≤◌, Bool, true, false, ◌⊎◌, inl, inr, ⊎_elim, List, [], ◌∷◌, length, take, arith}
+use Rattle.std.proofs.Common.{MatchOption, IsTrue, ◌↔◌}
 use Rattle.std.specs.Bool.{then_some}
 use Rattle.std.proofs.lemmas.Bool.{false≢true, le-leb}
 use Rattle.text.specs.Rule.{ones_of, ones, Sequence, Character, alone, several}

@@ -4,16 +4,17 @@
 use Rattle.std.proofs.Common.{◌≡◌, refl, ap, ◌∙◌, ◌↔◌, ℕ, suc, ◌≤◌, ◌<◌, Bool, true, false, List, [], ◌∷◌, ◌++◌, leb, lit≤, arith}
 use Rattle.std.proofs.lemmas.Bool.{and_parts, and_from, and_right, leb-true, le-leb, lt-leb}
 use Rattle.text.specs.Star.{none as nil, more}
-use Rattle.text.specs.Utf8.{Range, ◌to◌, In, Fits, end, then, OneOf, this, later, inside, following, one_more, count, utf8_char, Character, Text, characters}
+use Rattle.text.specs.Utf8.{Range, ◌to◌, InRange, FitsRanges, end, then, OneOf, this, later, inside, following, one_more, count, utf8_char, Character, Text}
+use Rattle.text.specs.Utf8.{characters}
 use Rattle.std.specs.Prelude.{None, Option, Some}
 
-pub range : (low high b : ℕ) → low ≤ b → b ≤ high → In (low to high) b
+pub range : (low high b : ℕ) → low ≤ b → b ≤ high → InRange (low to high) b
 range low high b l h = record { low = l; high = h }
 
-pub inside_in : (r : Range) (b : ℕ) → inside r b ≡ true → In r b
+pub inside_in : (r : Range) (b : ℕ) → inside r b ≡ true → InRange r b
 inside_in r b h = let p = and_parts _ _ h in record { low = leb-true _ _ p.0; high = leb-true _ _ p.1 }
 
-pub in_inside : (r : Range) (b : ℕ) → In r b → inside r b ≡ true
+pub in_inside : (r : Range) (b : ℕ) → InRange r b → inside r b ≡ true
 in_inside r b h = and_from _ _ (le-leb _ _ h.low) (le-leb _ _ h.high)
 
 -- no alternative is empty, and each starts above the one before it
@@ -47,7 +48,7 @@ passed r rs g b h = rw (and_right (leb r.low b) _ (lt-leb b r.high h), following
 record Chosen (g : List (List Range)) (b : ℕ) (s : List ℕ) : Type 0 where
   ranges : List Range
   is : following g b ≡ Some ranges
-  fit : Fits ranges s
+  fit : FitsRanges ranges s
 
 chosen : {l b : ℕ} {g : List (List Range)} {s : List ℕ} → Rising l g → OneOf g (b ∷ s) → Chosen g b s
 unfolding following
@@ -59,7 +60,7 @@ chosen {b = b} (up {r = r} {rs = rs} {g = g} from some_byte rest) (later o) =
 chosen {b = b} {s = s} (top {l = l}) h = elim h [ ]
 
 -- the bytes that are owed are read, and the count goes on after them
-read : (g : List (List Range)) {rs : List Range} {a : List ℕ} (t : List ℕ) → Fits rs a → count g rs (a ++ t) ≡ count g [] t
+read : (g : List (List Range)) {rs : List Range} {a : List ℕ} (t : List ℕ) → FitsRanges rs a → count g rs (a ++ t) ≡ count g [] t
 unfolding count
 read g t end = refl
 read g t (then {r = r} {b = b} i f) = rw (in_inside r b i, count) (read g t f)
@@ -78,9 +79,9 @@ forth (more {a = a} {t = t} c r) = step a t c ∙ ap one_more (forth r)
 
 -- what a count of n says: the owed bytes come first, and a text of n characters follows
 data Split (rs : List Range) : List ℕ → ℕ → Type 0 where
-  split : {a t : List ℕ} {n : ℕ} → Fits rs a → Text t n → Split rs (a ++ t) n
+  split : {a t : List ℕ} {n : ℕ} → FitsRanges rs a → Text t n → Split rs (a ++ t) n
 
-begins : (g : List (List Range)) (b : ℕ) {rs : List Range} {a : List ℕ} → following g b ≡ Some rs → Fits rs a → OneOf g (b ∷ a)
+begins : (g : List (List Range)) (b : ℕ) {rs : List Range} {a : List ℕ} → following g b ≡ Some rs → FitsRanges rs a → OneOf g (b ∷ a)
 unfolding following
 begins [] b e f = cc
 begins ([] ∷ g) b e f = later (begins g b e f)
@@ -97,7 +98,7 @@ begins ((r ∷ rs) ∷ g) b {rs = x} {a = a} e f = go (λ h. begins g b h f) (in
 start : {b : ℕ} {rs : List Range} {s : List ℕ} {n : ℕ} → following utf8_char b ≡ Some rs → Split rs s n → Split [] (b ∷ s) (suc n)
 start {b} q (split f t) = split end (more (begins utf8_char b q f) t)
 
-join : {r : Range} {b : ℕ} {rs : List Range} {s : List ℕ} {n : ℕ} → In r b → Split rs s n → Split (r ∷ rs) (b ∷ s) n
+join : {r : Range} {b : ℕ} {rs : List Range} {s : List ℕ} {n : ℕ} → InRange r b → Split rs s n → Split (r ∷ rs) (b ∷ s) n
 join i (split f t) = split (then i f) t
 
 back : (rs : List Range) (s : List ℕ) (n : ℕ) → count utf8_char rs s ≡ Some n → Split rs s n

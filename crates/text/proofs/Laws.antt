@@ -1,6 +1,6 @@
 -- What callers cite: what the answer None says in the grammar's terms, and how many characters there can be.
 use Rattle.std.proofs.Common.{◌≡◌, refl, sym, ◌∙◌, ℕ, ◌≤◌, ◌<◌, List, [], ◌∷◌, length, length-append, arith, Option, Some, None}
-use Rattle.text.specs.Star.{Each, none as nil, more}
+use Rattle.text.specs.Star.{Every, none as nil, more}
 use Rattle.text.specs.Utf8.{this, then, end, Character, Text, count, characters}
 use Rattle.text.specs.Answer.{Tests}
 use Rattle.text.proofs.Grammar.{range, not_empty, counts}
@@ -30,9 +30,9 @@ pub characters_le : (s : List ℕ) (n : ℕ) → characters s ≡ Some n → n �
 characters_le s n e = text_le ((counts s n).1 e)
 
 -- bytes below 80 are a character each
-pub characters_ascii : (s : List ℕ) → Each (λ b. b < 0x80) s → characters s ≡ Some (length s)
+pub characters_ascii : (s : List ℕ) → Every (λ b. b < 0x80) s → characters s ≡ Some (length s)
 characters_ascii s h = (counts s (length s)).0 (go s h)
   where
-    go : (s : List ℕ) → Each (λ b. b < 0x80) s → Text s (length s)
+    go : (s : List ℕ) → Every (λ b. b < 0x80) s → Text s (length s)
     go [] h = nil
     go (b ∷ s) h = more {a = b ∷ []} (this (then (range 0x00 0x7f b (omega arith) (omega (arith, h.0))) end)) (go s h.1)

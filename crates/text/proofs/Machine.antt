@@ -8,7 +8,7 @@ use Rattle.std.proofs.lemmas.List.{get_or_past}
 use Rattle.text.specs.declared.TheConstants.{CLASS, NEXT}
 use Rattle.text.specs.Utf8.{Range, ◌to◌, following}
 use Rattle.text.proofs.Bytes.{same_at_bytes}
-use Rattle.text.specs.Machine.{first_above, class_of, states, wanted, after, Steps, Stops}
+use Rattle.text.specs.Machine.{first_above, class_of, states, wanted, after, Steps, NoSuchByte}
 use Rattle.std.specs.Prelude.{None, Option, Some}
 
 -- ---- Classes
@@ -68,12 +68,12 @@ stopped : (next : ℕ) → 8 ≤ next → wanted next ≡ None
 stopped next h = get_or_past states next None h
 
 pub stepped : (state b class next : ℕ) → state < 8 → b < 256 → class ≡ get_or CLASS b 0 → next ≡ next_of state class
-    → MatchOption (then_some (ltb next 8) next) (Stops state b) (λ next. (next < 8) × Steps state b next)
+    → MatchOption (then_some (ltb next 8) next) (NoSuchByte state b) (λ next. (next < 8) × Steps state b next)
 stepped state b class next s l e f = go (ltb next 8) refl
   where
     one : Steps state b next
     one = rw (f, e) (steps state b s l)
 
-    go : (t : Bool) → ltb next 8 ≡ t → MatchOption (then_some t next) (Stops state b) (λ next. (next < 8) × Steps state b next)
+    go : (t : Bool) → ltb next 8 ≡ t → MatchOption (then_some t next) (NoSuchByte state b) (λ next. (next < 8) × Steps state b next)
     go true q = (ltb-true _ _ q, one)
     go false q = sym one.is ∙ stopped next (ltb-false _ _ q)

@@ -2,10 +2,10 @@
 use Rattle.std.proofs.Common.{◌≡◌, refl, ℕ, ◌+◌, ◌*◌, ◌%◌, ◌^◌, ◌<◌, List, [], ◌∷◌, ◌++◌, length, get_or, take, add-one, arith}
 use Rattle.std.proofs.Math.Nat.{pow-suc}
 use Rattle.std.proofs.Math.Seq.{take-suc}
-use Rattle.text.specs.Star.{Each}
+use Rattle.text.specs.Star.{Every}
 use Rattle.text.specs.Rule.{value, Later}
 
-each_snoc : (P : ℕ → Type 0) (t : List ℕ) (x : ℕ) → Each P t → P x → Each P (t ++ (x ∷ []))
+each_snoc : (P : ℕ → Type 0) (t : List ℕ) (x : ℕ) → Every P t → P x → Every P (t ++ (x ∷ []))
 each_snoc P [] x e p = (p, tt)
 each_snoc P (y ∷ t) x e p = (e.0, each_snoc P t x e.1 p)
 
@@ -17,7 +17,7 @@ value_snoc v (y ∷ t) x = value_snoc (v * 64 + y % 64) t x
 -- k later bytes of t were read after v, and gave w
 pub record Reading (v : ℕ) (t : List ℕ) (k w : ℕ) : Type 0 where
   pub is : w ≡ value v (take k t)
-  pub later : Each Later (take k t)
+  pub later : Every Later (take k t)
   pub small : w < 256 * 64 ^ k
 
 pub reading_none : (v : ℕ) (t : List ℕ) → v < 256 → Reading v t 0 v

@@ -2,7 +2,7 @@
 use Rattle.std.proofs.Common.{◌≡◌, refl, ap, sym, ◌∙◌, ◌↔◌, ℕ, Bool, true, false, ◌&&◌, eqb, ltb, List, [], ◌∷◌, ◌++◌, arith}
 use Rattle.std.proofs.lemmas.Bool.{and_parts, and_right, eqb-true, eqb-false, lt-leb, ltb-true, false_from_ne_true}
 use native.Mathlib.Decide.{dec_le}
-use Rattle.text.specs.Utf8.{Range, ◌to◌, only, tail, In, Text, utf8_1, utf8_2, utf8_4, utf8_char, inside, following, one_more, count, characters}
+use Rattle.text.specs.Utf8.{Range, ◌to◌, only, tail, InRange, Text, utf8_1, utf8_2, utf8_4, utf8_char, inside, following, one_more, count, characters}
 use Rattle.text.specs.Rule.{ones_of, ones, head, value}
 use Rattle.text.specs.Surrogates.{utf8_char_open, characters_open, HasSurrogate, here, later}
 use Rattle.text.proofs.Grammar.{range, inside_in, in_inside, counts}
@@ -11,7 +11,7 @@ use Rattle.std.specs.Prelude.{None, Option, Some}
 -- ---- Which bytes they are
 
 -- Of the characters of three bytes that begin with ed, those whose value is from d800 to dfff have a0 to bf next.
-pub surrogate_values : (x y : ℕ) → In tail x → In tail y → In (0xa0 to 0xbf) x ↔ In (0xd800 to 0xdfff) (value (head 0xed) (x ∷ y ∷ []))
+pub surrogate_values : (x y : ℕ) → InRange tail x → InRange tail y → InRange (0xa0 to 0xbf) x ↔ InRange (0xd800 to 0xdfff) (value (head 0xed) (x ∷ y ∷ []))
 unfolding value head ones ones_of
 surrogate_values x y i j = (
   λ h. range 0xd800 0xdfff _ (omega (arith, h, i, j)) (omega (arith, h, i, j)),
@@ -37,14 +37,14 @@ same_following b n =
     ((0xee to 0xef ∷ tail ∷ tail ∷ []) ∷ utf8_4)
     (only 0xed) (0x80 to 0x9f ∷ tail ∷ []) (0x80 to 0xbf ∷ tail ∷ []) b (outside_ed b n)
 
-above_9f : (x : ℕ) → inside (0x80 to 0x9f) x ≡ false → In (0x80 to 0xbf) x → In (0xa0 to 0xbf) x
+above_9f : (x : ℕ) → inside (0x80 to 0x9f) x ≡ false → InRange (0x80 to 0xbf) x → InRange (0xa0 to 0xbf) x
 above_9f x e i =
     elim (dec_le x 0x9f) [
       | yes h ↦ cc (in_inside (0x80 to 0x9f) x (range 0x80 0x9f x i.low h))
       | no h ↦ range 0xa0 0xbf x (omega arith) i.high
     ]
 
-outside_9f : (x : ℕ) → In (0xa0 to 0xbf) x → inside (0x80 to 0x9f) x ≡ false
+outside_9f : (x : ℕ) → InRange (0xa0 to 0xbf) x → inside (0x80 to 0x9f) x ≡ false
 outside_9f x i = and_right _ _ (lt-leb x 0x9f (omega (arith, i)))
 
 -- the two counts of s, and the two counts of s after ed
@@ -72,7 +72,7 @@ module _ (b : ℕ) (s : List ℕ) (ih : Same s) where
   unfolding count
   after_ed_more n = go (inside (0x80 to 0x9f) b) refl (inside (0x80 to 0xbf) b) refl
     where
-      third : (s : List ℕ) → (HasSurrogate (0xed ∷ b ∷ s) → ⊥) → In (0xa0 to 0xbf) b → None ≡ count utf8_char_open (tail ∷ []) s
+      third : (s : List ℕ) → (HasSurrogate (0xed ∷ b ∷ s) → ⊥) → InRange (0xa0 to 0xbf) b → None ≡ count utf8_char_open (tail ∷ []) s
       third [] n i = refl
       third (y ∷ s) n i = last (inside tail y) refl
         where

@@ -1,5 +1,6 @@
 -- The machine's walk: what a step from state to state does to the count of the bytes that are left.
-use Rattle.std.proofs.Common.{◌≡◌, refl, ap, ◌∙◌, ℕ, suc, ◌+◌, ◌≤◌, ◌<◌, Bool, true, false, ◌⊎◌, inl, inr, eqb, List, [], ◌∷◌, length, get_or, drop, add-one, drop-cons, Some, arith}
+use Rattle.std.proofs.Common.{◌≡◌, refl, ap, ◌∙◌, ℕ, suc, ◌+◌, ◌≤◌, ◌<◌, Bool, true, false, ◌⊎◌, inl, inr, eqb, List, [], ◌∷◌, length, get_or, drop, add-one}
+use Rattle.std.proofs.Common.{drop-cons, Some, arith}
 use Rattle.std.proofs.Math.ListN.{drop_of_length-le}
 use Rattle.std.proofs.lemmas.Bool.{agree_below_at, eqb-true, eqb-false, ne_eqb}
 use Rattle.std.specs.Bool.{then_some}

@@ -3,7 +3,7 @@ use Rattle.std.proofs.Common.{◌≡◌, refl, ap, sym, ◌∙◌, ℕ, suc, ◌
 use Rattle.std.proofs.Math.ListN.{take-append-drop}
 use Rattle.std.proofs.Math.Nat.{zero-add}
 use Rattle.std.proofs.Math.Seq.{take-append_seam}
-use Rattle.text.specs.Star.{Each, none as nil, more}
+use Rattle.text.specs.Star.{Every, none as nil, more}
 use Rattle.text.specs.Utf8.{Text, count, characters, one_more}
 use Rattle.text.specs.Width.{StartsWith, StartsWithNone}
 use Rattle.text.proofs.Grammar.{step, counts}
@@ -25,7 +25,7 @@ plus_more k None = refl
 plus_more k (Some n) = ap Some (omega arith)
 
 -- what is known of each place, of the whole list
-pub bytes : (s : List ℕ) → ((k : ℕ) → Byte (get_or s k 0)) → Each Byte s
+pub bytes : (s : List ℕ) → ((k : ℕ) → Byte (get_or s k 0)) → Every Byte s
 bytes [] h = tt
 bytes (b ∷ s) h = (h 0, bytes s (λ k. h (suc k)))
 
@@ -41,12 +41,12 @@ done (b ∷ s) k h = absurd (omega arith)
 
 module _ (s : List ℕ) where
   -- past the character that s starts with
-  pub on : (k n : ℕ) → Each Byte s → StartsWith s n → plus k (characters s) ≡ plus (k + 1) (characters (drop n s))
+  pub on : (k n : ℕ) → Every Byte s → StartsWith s n → plus k (characters s) ≡ plus (k + 1) (characters (drop n s))
   on k n h w =
       let c = (same_character (take n s) (each_left Byte (take n s) (drop n s) (rw take-append-drop h))).0 w.whole in
       ap (plus k) (rw take-append-drop at (step (take n s) (drop n s) c)) ∙ plus_more k (characters (drop n s))
 
-  pub left : (n : ℕ) → Each Byte s → Each Byte (drop n s)
+  pub left : (n : ℕ) → Every Byte s → Every Byte (drop n s)
   left n h = each_right Byte (take n s) (drop n s) (rw take-append-drop h)
 
   no_text : (n : ℕ) → 0 < length s → StartsWithNone s → {t : List ℕ} → Text t n → s ≡ t → ⊥

@@ -15,7 +15,8 @@ unfoldable pub class_of : ℕ → ℕ
 unfolding first_above
 class_of b =
     first_above b
-    ((0x80, 0) ∷ (0x90, 1) ∷ (0xa0, 2) ∷ (0xc0, 3) ∷ (0xc2, 11) ∷ (0xe0, 4) ∷ (0xe1, 5) ∷ (0xed, 6) ∷ (0xee, 7) ∷ (0xf0, 6) ∷ (0xf1, 8) ∷ (0xf4, 9) ∷ (0xf5, 10) ∷ [])
+    ((0x80, 0) ∷ (0x90, 1) ∷ (0xa0, 2) ∷ (0xc0, 3) ∷ (0xc2, 11) ∷ (0xe0, 4) ∷ (0xe1, 5) ∷ (0xed, 6) ∷ (0xee, 7) ∷ (0xf0, 6) ∷ (0xf1, 8) ∷ (0xf4, 9) ∷
+    (0xf5, 10) ∷ [])
 
 -- what each state wants
 abbrev pub states : List (Option (List Range))
@@ -47,5 +48,5 @@ pub record Steps (state b r : ℕ) : Type 0 where
   pub is : wanted r ≡ after (wanted state) b
 
 -- no character has that byte there
-abbrev pub Stops : ℕ → ℕ → Type 0
-Stops state b = after (wanted state) b ≡ None
+abbrev pub NoSuchByte : ℕ → ℕ → Type 0
+NoSuchByte state b = after (wanted state) b ≡ None

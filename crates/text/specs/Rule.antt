@@ -4,7 +4,7 @@
 -- forbids the values d800 to dfff (hexadecimal)". `same_text_lem` in proofs/Agree.antt shows that it is the grammar of
 -- Utf8.antt.
 use Rattle.std.specs.Prelude.{ℕ, zero, suc, ◌+◌, ◌-◌, ◌*◌, ◌%◌, ◌^◌, ◌≤◌, ◌<◌, true, false, ◌≡◌, List, [], ◌∷◌, leb, length, get_or}
-use Rattle.text.specs.Star.{Each, Star}
+use Rattle.text.specs.Star.{Every, Star}
 
 -- the one bits that a number of so many bits starts with
 unfoldable pub ones_of : ℕ → ℕ → ℕ
@@ -41,7 +41,7 @@ pub record Sequence (b : ℕ) (t : List ℕ) : Type 0 where
   pub two : 2 ≤ ones b
   pub four : ones b ≤ 4
   pub long : 1 + length t ≡ ones b
-  pub tail : Each Later t
+  pub tail : Every Later t
   pub low : least (ones b) ≤ value (head b) t
   pub high : value (head b) t ≤ 0x10ffff
   pub scalar : Scalar (value (head b) t)

@@ -2,9 +2,9 @@
 use Rattle.std.specs.Prelude.{ℕ, suc, List, [], ◌∷◌, ◌++◌}
 
 -- every element has the property
-abbrev pub Each : (ℕ → Type 0) → List ℕ → Type 0
-Each P [] = Unit {0}
-Each P (b ∷ s) = P b × Each P s
+abbrev pub Every : (ℕ → Type 0) → List ℕ → Type 0
+Every P [] = Unit {0}
+Every P (b ∷ s) = P b × Every P s
 
 -- n pieces of the kind C, one after the other: ABNF's `*( C )`, with the number of pieces
 pub data Star (C : List ℕ → Type 0) : List ℕ → ℕ → Type 0 where

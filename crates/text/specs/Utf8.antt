@@ -53,18 +53,18 @@ utf8_4 =
 abbrev pub utf8_char : List (List Range)
 utf8_char = utf8_1 ++ utf8_2 ++ utf8_3 ++ utf8_4
 
-pub record In (r : Range) (b : ℕ) : Type 0 where
+pub record InRange (r : Range) (b : ℕ) : Type 0 where
   pub low : r.low ≤ b
   pub high : b ≤ r.high
 
 -- the bytes stand in the ranges, one in each
-pub data Fits : List Range → List ℕ → Type 0 where
-  end : Fits [] []
-  then : {r : Range} {rs : List Range} {b : ℕ} {s : List ℕ} → In r b → Fits rs s → Fits (r ∷ rs) (b ∷ s)
+pub data FitsRanges : List Range → List ℕ → Type 0 where
+  end : FitsRanges [] []
+  then : {r : Range} {rs : List Range} {b : ℕ} {s : List ℕ} → InRange r b → FitsRanges rs s → FitsRanges (r ∷ rs) (b ∷ s)
 
 -- the bytes fit one of the alternatives
 pub data OneOf : List (List Range) → List ℕ → Type 0 where
-  this : {rs : List Range} {g : List (List Range)} {s : List ℕ} → Fits rs s → OneOf (rs ∷ g) s
+  this : {rs : List Range} {g : List (List Range)} {s : List ℕ} → FitsRanges rs s → OneOf (rs ∷ g) s
   later : {rs : List Range} {g : List (List Range)} {s : List ℕ} → OneOf g s → OneOf (rs ∷ g) s
 
 -- UTF8-char: the bytes of one character

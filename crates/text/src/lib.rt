@@ -2,9 +2,9 @@
 #![tactic(auto)]
 
 ghost use Rattle.std.specs.Prelude.{◌≡◌, ◌<◌, ◌≤◌, ◌+◌, ◌↔◌, length, IsTrue, MatchOption};
-ghost use Rattle.text.specs.Machine.{Steps, Stops};
+ghost use Rattle.text.specs.Machine.{Steps, NoSuchByte};
 ghost use Rattle.text.specs.Rule.{ones, head, Later, Scalar, Sequence};
-ghost use Rattle.text.specs.Star.{Each};
+ghost use Rattle.text.specs.Star.{Every};
 ghost use Rattle.text.specs.Width.{StartsWith, StartsWithNone, HasValue};
 ghost use Rattle.text.specs.Answer.{Tests};
 
@@ -31,7 +31,7 @@ fn head(b: u8, n: usize) -> u8
 // What the first byte holds, then six bits of each byte after it.
 fn value(head: u8, later: &[u8]) -> Option<u32>
     requires { length later.now ≤ 3 }
-    ensures { MatchOption result (Each Later later.now → ⊥) (HasValue head later.now) }
+    ensures { MatchOption result (Every Later later.now → ⊥) (HasValue head later.now) }
 {
     let mut value = u32::from(head);
     for &b in later {
@@ -124,7 +124,7 @@ static NEXT: [[u8; 12]; 8] = [
 #[inline]
 fn step(state: usize, b: u8) -> Option<usize>
     requires { state < 8 }
-    ensures { MatchOption result (Stops state b) (λ next. (next < 8) × Steps state b next) }
+    ensures { MatchOption result (NoSuchByte state b) (λ next. (next < 8) × Steps state b next) }
 {
     let class = usize::from(CLASS[usize::from(b)]);
     let next = usize::from(NEXT[state][class]);

@@ -9,12 +9,12 @@ use lib.Dec.{T, eqb, ltb}
 use lib.ListN.{length}
 use borrow.Author.Tests.{ltb-true, lt-ltb, le-ltb}
 use Rattle.cells.specs.Words.{pick}
-use Rattle.meaning.specs.Syntax as Syntax
-use Rattle.meaning.specs.Syntax.{QueryStmt}
-use Rattle.meaning.specs.Conditions.{all_below}
-use Rattle.meaning.specs.References.{field_values, stmt_nodes}
-use Rattle.meaning.specs.Frame.{got, field, choice, entry}
-use Rattle.meaning.specs.Frame as Frame
+use Rattle.format.specs.Syntax as Syntax
+use Rattle.format.specs.Syntax.{QueryStmt}
+use Rattle.format.specs.Conditions.{all_below}
+use Rattle.format.specs.References.{field_values, stmt_nodes}
+use Rattle.format.specs.Frame.{got, field, choice, entry}
+use Rattle.format.specs.Frame as Frame
 use Rattle.sigla_hex.specs.Digits.{digits_w, half_at}
 use Rattle.tree.specs.declared.items.Items.{Items}
 use Rattle.tree.specs.declared.Stmt.TheVariants as Stmt

@@ -7,19 +7,19 @@ use native.Mathlib.Omega.{arith}
 use lib.Dec.{T}
 use lib.ListN.{length, get_or}
 use Rattle.work.specs.Layout.{NODES, QUERY}
-use Rattle.meaning.specs.Syntax as Syntax
-use Rattle.meaning.specs.Syntax.{ExprKind, Query}
-use Rattle.meaning.specs.Frame.{wide, Got, got, fails, one, pair, triple, four, two, many, span_and_kind, head_and_body, frame, frame_of, whole, Frame, a_node}
-use Rattle.meaning.specs.Frame.{the_query, node, query, expr_kinds, choice}
+use Rattle.format.specs.Syntax as Syntax
+use Rattle.format.specs.Syntax.{ExprKind, Query}
+use Rattle.format.specs.Frame.{wide, Got, got, fails, one, pair, triple, four, two, many, span_and_kind, head_and_body, frame, frame_of, whole, Frame, a_node}
+use Rattle.format.specs.Frame.{the_query, node, query, expr_kinds, choice}
 use Rattle.frames.specs.Promises.{expr_kind}
-use Rattle.meaning.specs.Frame as Frame
-use Rattle.meaning.specs.References.{query_nodes}
-use Rattle.meaning.specs.Conditions.{all_below}
+use Rattle.format.specs.Frame as Frame
+use Rattle.format.specs.References.{query_nodes}
+use Rattle.format.specs.Conditions.{all_below}
 use Rattle.sigla_hex.specs.Digits.{digits_w, half_at, line_at}
 use Rattle.sigla_hex.proofs.Bytes.{digits_of_line, byte_of_line}
 use Rattle.tree.specs.Stands.{LineIs, NodeIs, QueryIs}
 use Rattle.tree.specs.Nodes.{stmt_size_w, lower_w, stmts_from}
-use Rattle.meaning.proofs.Inverse.{went}
+use Rattle.format.proofs.Inverse.{went}
 use Rattle.tree.proofs.Readers.{Stand, stand, Reads, no_got, reads_pair, reads_two, Listed, listed}
 use Rattle.tree.proofs.Below.{first_below, others_below, lower_is, stmt_at, reads_statement, stmts_are}
 use Rattle.std.specs.Prelude.{Some}
@@ -143,7 +143,8 @@ module _ (f : List ℕ) (at end n : ℕ) (q : Query) (h : QueryAt f at end q) (b
 
 -- ---- The query's line
 
-pub query_line : (f w : List ℕ) (q : Query) → QueryIs f w q → QueryAt f (get_or w QUERY 0 / 1024 + 2) (get_or w QUERY 0 / 1024 + 2 * (get_or w QUERY 0 % 1024)) q
+pub query_line : (f w : List ℕ) (q : Query) → QueryIs f w q
+    → QueryAt f (get_or w QUERY 0 / 1024 + 2) (get_or w QUERY 0 / 1024 + 2 * (get_or w QUERY 0 % 1024)) q
 unfolding frame_of frame one
 query_line f w q h =
     let x = went (head_and_body h.content) (λ a. got (the_query a)) (the_query q) [] (whole_got (frame wide query h.content) (the_query q) h.frame) in

@@ -10,19 +10,20 @@ use lib.ListN.{length, get_or, length-map}
 use borrow.Author.Tests.{eqb-true, eqb-false, ne_eqb}
 use Rattle.cells.specs.Words.{pick}
 use Rattle.work.specs.Layout.{NODES}
-use Rattle.meaning.specs.Syntax as Syntax
-use Rattle.meaning.specs.Syntax.{ExprKind, Literal, FieldRef, Query}
-use Rattle.meaning.specs.Frame.{wide, got, fails, Reader, one, pair, two, four, many, field, head_and_body, choice, entry, expr_kinds}
+use Rattle.format.specs.Syntax as Syntax
+use Rattle.format.specs.Syntax.{ExprKind, Literal, FieldRef, Query}
+use Rattle.format.specs.Frame.{wide, got, fails, Reader, one, pair, two, four, many, field, head_and_body, choice, entry, expr_kinds}
 use Rattle.frames.specs.Promises.{expr_kind}
-use Rattle.meaning.specs.References.{field_values, query_nodes, expr_nodes}
-use Rattle.meaning.specs.Conditions.{all_below}
+use Rattle.format.specs.References.{field_values, query_nodes, expr_nodes}
+use Rattle.format.specs.Conditions.{all_below}
 use Rattle.sigla_hex.specs.Digits.{digits_w, half_at}
 use Rattle.tree.specs.declared.items.Items.{Items}
 use Rattle.tree.specs.declared.Node.{Node}
 use Rattle.tree.specs.Stands.{NodeIs}
-use Rattle.tree.specs.Nodes.{lower_w, full_at, ItemsAre, parent_w, SubqueryIs, ParentIs, fields_from, items_from, stmts_from, stmts_w, kind_w, LowerItems, Lower, IsNode}
+use Rattle.tree.specs.Nodes.{lower_w, full_at, ItemsAre, parent_w, SubqueryIs, ParentIs, fields_from, items_from, stmts_from, stmts_w, kind_w, LowerItems}
+use Rattle.tree.specs.Nodes.{NamesLower, IsNode}
 use Rattle.tree.proofs.Lowering.{lower_stays, lower_below}
-use Rattle.meaning.proofs.Inverse.{went}
+use Rattle.format.proofs.Inverse.{went}
 use Rattle.tree.proofs.Readers.{Reads, no_got, reads_nothing, reads_byte, reads_one, reads_pair, reads_two, Listed, listed, listed_length}
 use Rattle.tree.proofs.Below.{first_below, items_are, field_at, reads_field, fields_are}
 use Rattle.tree.proofs.ItemsOf.{items_count, items_some}
@@ -189,7 +190,7 @@ module _ (f w : List ℕ) (n start size shape : ℕ) (p : At f w n start size sh
   abbrev Is : Node → Type 0
   Is r = (nd : Syntax.Node) → NodeIs f w n nd → T (all_below n (expr_nodes nd.kind)) → kind_w f r ≡ nd.kind
 
-  parent_lower : Lower n (parent_w f start shape n)
+  parent_lower : NamesLower n (parent_w f start shape n)
   unfolding parent_w
   parent_lower = go (eqb n 0) refl (eqb shape 9) (eqb shape 10) (eqb shape 13) (eqb shape 16)
     where
@@ -202,7 +203,7 @@ module _ (f w : List ℕ) (n start size shape : ℕ) (p : At f w n start size sh
       c : ℕ
       c = lower_w (half_at f (start + 28)) n
 
-      go : (first : Bool) → eqb n 0 ≡ first → (p q s t : Bool) → Lower n
+      go : (first : Bool) → eqb n 0 ≡ first → (p q s t : Bool) → NamesLower n
           (pick first Node.Error (pick p (Node.Key (half_at f (start + 20)) b)
           (pick q (Node.Value a) (pick s (Node.Fact (full_at f (start + 20)) c) (pick t (Node.Select (half_at f (start + 20)) b) Node.Error)))))
       go true e p q s t = tt

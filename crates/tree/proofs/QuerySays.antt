@@ -7,9 +7,9 @@ use native.Mathlib.Omega.{arith}
 use lib.Dec.{T}
 use lib.ListN.{get_or}
 use Rattle.work.specs.Layout.{QUERY}
-use Rattle.meaning.specs.Syntax.{Query}
-use Rattle.meaning.specs.References.{query_nodes}
-use Rattle.meaning.specs.Conditions.{all_below}
+use Rattle.format.specs.Syntax.{Query}
+use Rattle.format.specs.References.{query_nodes}
+use Rattle.format.specs.Conditions.{all_below}
 use Rattle.tree.specs.Stands.{QueryIs}
 use Rattle.tree.specs.declared.items.Stmts.{Stmts}
 use Rattle.tree.specs.Nodes.{stmts_w, head_w, BodyIs}

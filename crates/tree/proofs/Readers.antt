@@ -6,8 +6,8 @@ use Prim.Native.Nat.{ℕ, zero, suc, ◌+◌, ◌*◌, ◌<◌}
 use native.Mathlib.Nat.{zero-lt-suc}
 use native.Mathlib.Omega.{arith}
 use lib.ListN.{length, get_or}
-use Rattle.meaning.specs.Frame.{got, fails, Reader, nothing, one, pair, byte, two, many_in, many}
-use Rattle.meaning.proofs.Inverse.{Went, went}
+use Rattle.format.specs.Frame.{got, fails, Reader, nothing, one, pair, byte, two, many_in, many}
+use Rattle.format.proofs.Inverse.{Went, went}
 use Rattle.sigla_hex.specs.Digits.{digits_w, half_at}
 
 -- ---- Bytes that stand at a place

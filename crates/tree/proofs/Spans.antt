@@ -8,11 +8,11 @@ use native.Mathlib.Omega.{arith}
 use lib.ListN.{length, get_or, take, drop}
 use lib.Seq.{drop-cons}
 use Rattle.work.specs.Layout.{NODES}
-use Rattle.meaning.specs.Lines.{digit}
-use Rattle.meaning.specs.Syntax.{Node}
-use Rattle.meaning.specs.Frame.{got, four, two, byte, pair, one, and_then}
-use Rattle.meaning.specs.Answer.{bytes₂, bytes₄, hex_digit, hex_line}
-use Rattle.meaning.proofs.Hex.{digit_of}
+use Rattle.format.specs.Lines.{digit}
+use Rattle.format.specs.Syntax.{Node}
+use Rattle.format.specs.Frame.{got, four, two, byte, pair, one, and_then}
+use Rattle.format.specs.Bytes.{bytes₂, bytes₄, hex_digit, hex_line}
+use Rattle.format.proofs.Hex.{digit_of}
 use Rattle.sigla_hex.specs.Digits.{pair_at}
 use Rattle.sigla_hex.proofs.Line.{digit_below, digit_same, pair_digits}
 use Rattle.sigla_hex.proofs.Bytes.{line_spells, byte_of_line}

@@ -2,10 +2,10 @@
 use Rattle.std.specs.Prelude.{true, false, List, [], ◌∷◌, ◌≡◌, ℕ, zero, suc, ◌+◌, ◌-◌, ◌*◌, ◌/◌, ◌%◌, ◌<◌, T, eqb, ltb, get_or}
 use Rattle.work.specs.Layout.{NODES, QUERY}
 use Rattle.cells.specs.Words.{pick}
-use Rattle.meaning.specs.Syntax as Syntax
-use Rattle.meaning.specs.Syntax.{ExprKind, QueryStmt, FieldRef, Literal}
-use Rattle.meaning.specs.References.{expr_nodes}
-use Rattle.meaning.specs.Conditions.{all_below}
+use Rattle.format.specs.Syntax as Syntax
+use Rattle.format.specs.Syntax.{ExprKind, QueryStmt, FieldRef, Literal}
+use Rattle.format.specs.References.{expr_nodes}
+use Rattle.format.specs.Conditions.{all_below}
 use Rattle.tree.specs.declared.items.Items.{Items}
 use Rattle.tree.specs.declared.items.Stmts.{Stmts}
 use Rattle.tree.specs.declared.Field.{Field}
@@ -32,7 +32,8 @@ unfolding half_at lower_w
 item_w f l i = lower_w (half_at f (l.at + 4 * i)) l.below
 
 unfoldable pub stmt_of : ℕ → ℕ → ℕ → Stmt
-stmt_of tag a b = pick (eqb tag 0) (Stmt.Bind a b) (pick (eqb tag 1) (Stmt.Implicit a) (pick (eqb tag 2) (Stmt.Negation a) (pick (eqb tag 3) (Stmt.Deny a b) (Stmt.Compare a b))))
+stmt_of tag a b = pick (eqb tag 0) (Stmt.Bind a b)
+    (pick (eqb tag 1) (Stmt.Implicit a) (pick (eqb tag 2) (Stmt.Negation a) (pick (eqb tag 3) (Stmt.Deny a b) (Stmt.Compare a b))))
 
 unfoldable pub stmt_w : List ℕ → ℕ → ℕ → Stmt
 unfolding stmt_of digits_w half_at lower_w
@@ -149,26 +150,26 @@ pub record LowerItems (n : ℕ) (l : Items) : Type 0 where
   pub some : 0 < l.n → 0 < n
 
 -- What a node names is lower, whatever the file holds.
-abbrev pub Lower : ℕ → Node → Type 0
-Lower n Node.Int = Unit {0}
-Lower n Node.Str = Unit {0}
-Lower n Node.Bytes = Unit {0}
-Lower n (Node.Var x) = Unit {0}
-Lower n Node.Wildcard = Unit {0}
-Lower n Node.Never = Unit {0}
-Lower n (Node.Prefix x) = Unit {0}
-Lower n (Node.Fuzzy x d) = Unit {0}
-Lower n (Node.Record l) = LowerItems n l
-Lower n (Node.Key x e) = e < n
-Lower n (Node.Value e) = e < n
-Lower n (Node.Disjunction l) = LowerItems n l
-Lower n (Node.Subquery h b) = (h < n) × (b.below ≡ n)
-Lower n (Node.Fact p e) = e < n
-Lower n (Node.Arith l) = LowerItems n l
-Lower n Node.Error = Unit {0}
-Lower n (Node.Select x e) = e < n
+abbrev pub NamesLower : ℕ → Node → Type 0
+NamesLower n Node.Int = Unit {0}
+NamesLower n Node.Str = Unit {0}
+NamesLower n Node.Bytes = Unit {0}
+NamesLower n (Node.Var x) = Unit {0}
+NamesLower n Node.Wildcard = Unit {0}
+NamesLower n Node.Never = Unit {0}
+NamesLower n (Node.Prefix x) = Unit {0}
+NamesLower n (Node.Fuzzy x d) = Unit {0}
+NamesLower n (Node.Record l) = LowerItems n l
+NamesLower n (Node.Key x e) = e < n
+NamesLower n (Node.Value e) = e < n
+NamesLower n (Node.Disjunction l) = LowerItems n l
+NamesLower n (Node.Subquery h b) = (h < n) × (b.below ≡ n)
+NamesLower n (Node.Fact p e) = e < n
+NamesLower n (Node.Arith l) = LowerItems n l
+NamesLower n Node.Error = Unit {0}
+NamesLower n (Node.Select x e) = e < n
 
 -- The node that the n-th node's line says, if its references are to lower nodes.
 pub record IsNode (f w : List ℕ) (n : ℕ) (r : Node) : Type 0 where
   pub is : (node : Syntax.Node) → NodeIs f w n node → T (all_below n (expr_nodes node.kind)) → kind_w f r ≡ node.kind
-  pub lower : Lower n r
+  pub lower : NamesLower n r

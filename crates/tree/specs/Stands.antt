@@ -2,14 +2,15 @@
 -- describes. The checker builds on this.
 use Rattle.std.specs.Prelude.{List, [], ◌∷◌, ◌≡◌, ℕ, suc, ◌+◌, ◌*◌, ◌/◌, ◌%◌, ◌≤◌, ◌<◌, T, eqb, length, get_or, None, Option, Some}
 use Rattle.unification.specs.Ty as Tree
-use Rattle.work.specs.Layout.{NAME-COUNT, TYPE-COUNT, PREDICATE-COUNT, NODE-COUNT, VALUE-NAME, MAX-DISTANCE, MAX-TERM, QUERY, NAMES, TYPES, PREDICATES, NODES, FIELDS, RECORD-COUNT, END}
+use Rattle.work.specs.Layout.{NAME-COUNT, TYPE-COUNT, PREDICATE-COUNT, NODE-COUNT, VALUE-NAME, MAX-DISTANCE, MAX-TERM, QUERY, NAMES, TYPES, PREDICATES, NODES}
+use Rattle.work.specs.Layout.{FIELDS, RECORD-COUNT, END}
 use Rattle.cells.specs.declared.Kind.{Kind}
 use Rattle.cells.specs.Words.{pick, declared_w, count_w, first_w, part_w}
 use Rattle.cells.specs.Stands.{Rows, tree, tag_of, row_w, part_words}
-use Rattle.meaning.specs.Syntax.{Node, Query, node_at}
-use Rattle.meaning.specs.Schema.{Predicate, Schema}
-use Rattle.meaning.specs.Frame.{Edition, wide, a_node, the_query, node, query, frame_of}
-use Rattle.meaning.specs.File.{Described}
+use Rattle.format.specs.Syntax.{Node, Query, node_at}
+use Rattle.format.specs.Schema.{Predicate, Schema}
+use Rattle.format.specs.Frame.{Edition, wide, a_node, the_query, node, query, frame_of}
+use Rattle.format.specs.File.{Described}
 use Rattle.sigla_hex.specs.Digits.{line_at}
 
 -- ---- Lines that the slice points at
@@ -39,7 +40,8 @@ pub record QueryIs (f w : List ℕ) (q : Query) : Type 0 where
 -- parts in their region. No type is an unknown.
 pub record TypeCells (w : List ℕ) (T : Rows) (n : ℕ) : Type 0 where
   pub row : (k : Kind) (c : ℕ) → c < n → get_or w (TYPES + 2 * c) 0 % 16 ≡ tag_of k → T c ≡ row_w T w k c
-  pub earlier : (k : Kind) (c j : ℕ) → c < n → get_or w (TYPES + 2 * c) 0 % 16 ≡ tag_of k → j < count_w w c → (t : ℕ) × (t < c) × ((part_w w k c j).ty ≡ declared_w w t)
+  pub earlier : (k : Kind) (c j : ℕ) → c < n → get_or w (TYPES + 2 * c) 0 % 16 ≡ tag_of k → j < count_w w c → (t : ℕ) × (t < c)
+      × ((part_w w k c j).ty ≡ declared_w w t)
   pub fits : (k : Kind) (c : ℕ) → c < n → get_or w (TYPES + 2 * c) 0 % 16 ≡ tag_of k → FIELDS + (first_w w c + part_words k * count_w w c) ≤ RECORD-COUNT
   pub tags : (c : ℕ) → c < n → get_or w (TYPES + 2 * c) 0 % 16 < 7
 

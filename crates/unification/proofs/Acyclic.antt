@@ -10,7 +10,7 @@ use lib.ListN.{length, set}
 use Rattle.unification.specs.Ty.{Ty, Var, Row}
 use Rattle.unification.specs.Bindings.{Subst, bound}
 use Rattle.unification.specs.Acyclic.{Behind, Acyclic}
-use Rattle.unification.specs.Calls.{Reaches, itself, inside, through, ReachesRow, first, later, LeadsBack, NoLoop}
+use Rattle.unification.specs.Calls.{LeadsTo, itself, inside, through, RowLeadsTo, first, later, LeadsBack, NoLoop}
 use Rattle.unification.proofs.Reach.{bound_same, bound_other, reaches_trans, reaches_after}
 use Rattle.std.specs.Prelude.{Some}
 
@@ -26,12 +26,12 @@ abbrev pub Among : Subst → Subst → Type 0
 Among s' s = (x : ℕ) (t : Ty) → bound s' x ≡ Some t → bound s x ≡ Some t
 
 mutual
-  pub reaches_among : {s' s : Subst} → Among s' s → {t u : Ty} → Reaches s' t u → Reaches s t u
+  pub reaches_among : {s' s : Subst} → Among s' s → {t u : Ty} → LeadsTo s' t u → LeadsTo s t u
   reaches_among a itself = itself
   reaches_among a (inside h) = inside (reaches_row_among a h)
   reaches_among a (through e h) = through (a _ _ e) (reaches_among a h)
 
-  reaches_row_among : {s' s : Subst} → Among s' s → {r : Row} {u : Ty} → ReachesRow s' r u → ReachesRow s r u
+  reaches_row_among : {s' s : Subst} → Among s' s → {r : Row} {u : Ty} → RowLeadsTo s' r u → RowLeadsTo s r u
   reaches_row_among a (first h) = first (reaches_among a h)
   reaches_row_among a (later h) = later (reaches_row_among a h)
 
@@ -39,9 +39,9 @@ pub acyclic_among : (s' s : Subst) → Among s' s → Acyclic s → Acyclic s'
 unfolding Acyclic Behind
 acyclic_among s' s a A x = Subrelation.accessible (λ y z b. (b.0, a z b.0 b.1, reaches_among a b.2)) (A x)
 
-module _ (s : Subst) (x : ℕ) (t : Ty) (lt : x < length s) (away : ¬ Reaches s t (Var x)) where
+module _ (s : Subst) (x : ℕ) (t : Ty) (lt : x < length s) (away : ¬ LeadsTo s t (Var x)) where
   -- What does not reach x stays accessible.
-  apart : (z : ℕ) → Acc (Behind s) z → ¬ Reaches s (Var z) (Var x) → Acc (Behind (set s x (Some t))) z
+  apart : (z : ℕ) → Acc (Behind s) z → ¬ LeadsTo s (Var z) (Var x) → Acc (Behind (set s x (Some t))) z
   unfolding Behind
   apart z (Acc.intro z' h) off = Acc.intro z' (λ y b.
       let n : z' ≢ x = λ p. off (rw p itself) in
@@ -51,7 +51,7 @@ module _ (s : Subst) (x : ℕ) (t : Ty) (lt : x < length s) (away : ¬ Reaches s
       (λ i. absurd (off (through e i.0)))
       (reaches_after s x t lt b.0 (Var y) b.2))
 
-  behind_t : Acyclic s → (y : ℕ) → Reaches s t (Var y) → Acc (Behind (set s x (Some t))) y
+  behind_t : Acyclic s → (y : ℕ) → LeadsTo s t (Var y) → Acc (Behind (set s x (Some t))) y
   unfolding Acyclic
   behind_t A y i = apart y (A y) (λ j. away (reaches_trans s i j))
 

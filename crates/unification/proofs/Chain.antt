@@ -9,31 +9,31 @@ use native.Mathlib.Omega.{arith}
 use lib.ListN.{length, set}
 use Rattle.unification.specs.Ty.{Leaf, Kind, Ty, leaf, node, Var, Error, Row, ε, cell}
 use Rattle.unification.specs.Bindings.{Subst, bound, follow, repr, Resolved}
-use Rattle.unification.specs.Calls.{Reaches, itself, inside, through, ReachesRow, first, later, LeadsBack, NoLoop}
+use Rattle.unification.specs.Calls.{LeadsTo, itself, inside, through, RowLeadsTo, first, later, LeadsBack, NoLoop}
 use Rattle.unification.proofs.Tests.{clash}
 use Rattle.unification.proofs.Reach.{bound_other, follow_reaches}
 use Rattle.unification.specs.Acyclic.{Acyclic}
 use Rattle.unification.proofs.Acyclic.{no_loop, Among, acyclic_among}
 use Rattle.std.specs.Prelude.{None, Option, Some}
 
-pub not_behind : (s : Subst) → Acyclic s → (x : ℕ) (t : Ty) → bound s x ≡ Some t → ¬ Reaches s t (Var x)
+pub not_behind : (s : Subst) → Acyclic s → (x : ℕ) (t : Ty) → bound s x ≡ Some t → ¬ LeadsTo s t (Var x)
 unfolding NoLoop LeadsBack
 not_behind s A x t e h = no_loop s A x (t, e, h)
 
 -- ---- What reaches an unknown
-pub leaf_reaches : (s : Subst) (p : Leaf) (z : ℕ) → ¬ Reaches s (leaf p) (Var z)
+pub leaf_reaches : (s : Subst) (p : Leaf) (z : ℕ) → ¬ LeadsTo s (leaf p) (Var z)
 leaf_reaches s p z = elim [ ]
 
-pub error_reaches : (s : Subst) (z : ℕ) → ¬ Reaches s Error (Var z)
+pub error_reaches : (s : Subst) (z : ℕ) → ¬ LeadsTo s Error (Var z)
 error_reaches s z = elim [ ]
 
-pub node_reaches : (s : Subst) (k : Kind) (r : Row) (z : ℕ) → Reaches s (node k r) (Var z) → ReachesRow s r (Var z)
+pub node_reaches : (s : Subst) (k : Kind) (r : Row) (z : ℕ) → LeadsTo s (node k r) (Var z) → RowLeadsTo s r (Var z)
 node_reaches s k r z (inside h) = h
 
-pub nil_reaches : (s : Subst) (z : ℕ) → ¬ ReachesRow s ε (Var z)
+pub nil_reaches : (s : Subst) (z : ℕ) → ¬ RowLeadsTo s ε (Var z)
 nil_reaches s z = elim [ ]
 
-pub cell_reaches : (s : Subst) (k l : ℕ) (t : Ty) (r : Row) (z : ℕ) → ReachesRow s (cell k l t r) (Var z) → Reaches s t (Var z) ⊎ ReachesRow s r (Var z)
+pub cell_reaches : (s : Subst) (k l : ℕ) (t : Ty) (r : Row) (z : ℕ) → RowLeadsTo s (cell k l t r) (Var z) → LeadsTo s t (Var z) ⊎ RowLeadsTo s r (Var z)
 cell_reaches s k l t r z (first h) = inl h
 cell_reaches s k l t r z (later h) = inr h
 
@@ -80,13 +80,13 @@ unset_acyclic s x A = acyclic_among (unset s x) s (unset_among s x) A
 
 -- What does not reach x reaches what it reaches without the binding of x.
 mutual
-  pub unset_reaches : (s : Subst) (x : ℕ) {t u : Ty} → ¬ Reaches s t (Var x) → Reaches s t u → Reaches (unset s x) t u
+  pub unset_reaches : (s : Subst) (x : ℕ) {t u : Ty} → ¬ LeadsTo s t (Var x) → LeadsTo s t u → LeadsTo (unset s x) t u
   unset_reaches s x off itself = itself
   unset_reaches s x off (inside h) = inside (unset_reaches_row s x (λ i. off (inside i)) h)
   unset_reaches s x off (through {x = y} e h) =
       through (unset_other s x y (λ p. off (rw p itself)) ∙ e) (unset_reaches s x (λ i. off (through e i)) h)
 
-  unset_reaches_row : (s : Subst) (x : ℕ) {r : Row} {u : Ty} → ¬ ReachesRow s r (Var x) → ReachesRow s r u → ReachesRow (unset s x) r u
+  unset_reaches_row : (s : Subst) (x : ℕ) {r : Row} {u : Ty} → ¬ RowLeadsTo s r (Var x) → RowLeadsTo s r u → RowLeadsTo (unset s x) r u
   unset_reaches_row s x off (first h) = first (unset_reaches s x (λ i. off (first i)) h)
   unset_reaches_row s x off (later h) = later (unset_reaches_row s x (λ i. off (later i)) h)
 
@@ -108,7 +108,7 @@ repr_resolved_is s (node k r) h = refl
 repr_resolved_is s (Var x) h = follow_free (suc (length s)) s x h
 repr_resolved_is s Error h = refl
 
-follow_unset : (k : ℕ) (s : Subst) (x : ℕ) (t : Ty) → ¬ Reaches s t (Var x) → follow k (unset s x) t ≡ follow k s t
+follow_unset : (k : ℕ) (s : Subst) (x : ℕ) (t : Ty) → ¬ LeadsTo s t (Var x) → follow k (unset s x) t ≡ follow k s t
 unfolding follow
 follow_unset zero s x t off = refl
 follow_unset (suc k) s x (leaf p) off = refl
@@ -119,12 +119,12 @@ follow_unset (suc k) s x (Var y) off = go (bound s y) refl (λ t. follow_unset k
     same : bound (unset s x) y ≡ bound s y
     same = unset_other s x y (λ p. off (rw p itself))
 
-    go : (o : Option Ty) → bound s y ≡ o → ((t : Ty) → ¬ Reaches s t (Var x) → follow k (unset s x) t ≡ follow k s t)
+    go : (o : Option Ty) → bound s y ≡ o → ((t : Ty) → ¬ LeadsTo s t (Var x) → follow k (unset s x) t ≡ follow k s t)
         → follow (suc k) (unset s x) (Var y) ≡ follow (suc k) s (Var y)
     go None e ih = rw (same, e, follow)
     go (Some t) e ih = rw (same, e, follow) (ih t (λ h. off (through e h)))
 
-resolved_set : (s : Subst) (x : ℕ) (t : Ty) → ¬ Reaches s t (Var x) → Resolved (unset s x) t → Resolved s t
+resolved_set : (s : Subst) (x : ℕ) (t : Ty) → ¬ LeadsTo s t (Var x) → Resolved (unset s x) t → Resolved s t
 resolved_set s x (leaf p) off h = tt
 resolved_set s x (node k r) off h = tt
 resolved_set s x (Var y) off h = sym (unset_other s x y (λ p. off (rw p itself))) ∙ h

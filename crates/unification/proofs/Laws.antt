@@ -12,7 +12,7 @@ use Rattle.unification.specs.Bindings.{Subst, bound, zonk, start, ended, State, 
 use Rattle.unification.specs.Bindings.{snapshot, rollback, Resolved}
 use Rattle.unification.specs.Unify.{Absent, Renamed, Payload, TyError, Mismatch, UnionMismatch, UnknownField, Infinite, Unified, Ok, Err, Spent}
 use Rattle.unification.specs.Unify.{unify_heads, note, unify_in, unify}
-use Rattle.unification.specs.Order.{Same}
+use Rattle.unification.specs.Order.{SameTy}
 use Rattle.unification.specs.Calls.{Assignment, Respects, Machine, begin, unknown, unification, Calls, none_yet}
 use Rattle.unification.specs.Calls.{then_call, live, BindingsClaim}
 use Rattle.unification.proofs.Reach.{admitted_leaf, admitted_free}
@@ -244,6 +244,6 @@ unfolding united first_unknown unify fresh begin with_history set_var with_left
 calls_united = then_call (then_call none_yet unknown) (unification {m = first_unknown} (Var 0) int (omega arith) tt refl)
 
 -- So demand 3 says of it that exactly the assignments of Int to the unknown respect the bindings.
-united_means : (σ : ℕ → Ty) → Assignment σ → Respects σ united.subst ↔ (Same (σ 0) int × Unit {0})
+united_means : (σ : ℕ → Ty) → Assignment σ → Respects σ united.subst ↔ (SameTy (σ 0) int × Unit {0})
 unfolding BindingsClaim live united app with_history set_var with_left first_unknown fresh begin
 united_means σ a = (demand_3 9 [] _ calls_united).between_calls.bindings (admitted_free (None ∷ []) 0 refl, admitted_leaf (None ∷ []) Int, tt) σ a

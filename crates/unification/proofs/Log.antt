@@ -14,7 +14,7 @@ use Rattle.unification.specs.Bindings.{set_var, annotate, Resolved}
 use Rattle.unification.specs.Unify.{UnionDiff, TyError, Unified, Ok, Err, Spent, and_then, map_err, bind_var, find_key, unify_field, unify_fields}
 use Rattle.unification.specs.Unify.{unify_record, discriminants, unify_alternative, unify_alternatives, unify_union, unify_nodes, unify_heads, note}
 use Rattle.unification.specs.Unify.{unify_in, unify}
-use Rattle.unification.specs.Calls.{Side, Reaches}
+use Rattle.unification.specs.Calls.{Side, LeadsTo}
 use Rattle.unification.proofs.Tests.{clash}
 use Rattle.unification.proofs.Chain.{error_reaches, repr_resolved}
 use Rattle.unification.proofs.Occurs.{occurs_no}
@@ -81,7 +81,7 @@ pub logged_left : (n : ℕ) (st : State) (v : ℕ) → Logged n st → Logged n 
 unfolding with_left
 logged_left n st v h = record { log = record { wf = h.log.wf; blank = h.log.blank; exact = h.log.exact }; len = h.len }
 
-pub logged_set_var : (n : ℕ) (st : State) (x : ℕ) (t : Ty) → bound st.subst x ≡ None → x < n → Side n t → ¬ Reaches st.subst t (Var x)
+pub logged_set_var : (n : ℕ) (st : State) (x : ℕ) (t : Ty) → bound st.subst x ≡ None → x < n → Side n t → ¬ LeadsTo st.subst t (Var x)
     → Logged n st → Logged n (set_var st x t)
 unfolding set_var bound
 logged_set_var n st x t free lt side off h =

@@ -5,11 +5,11 @@ use mathlib.Core.Path.{◌≡◌, refl}
 use Prim.Native.Nat.{ℕ}
 use native.Mathlib.Omega.{arith}
 use Rattle.unification.specs.Ty.{Int, String, Fact, Record, Ty, leaf, node, Var, Error, Row, ε, cell}
-use Rattle.unification.specs.Order.{Same, SameRow, Inserted, here, there}
-use Rattle.unification.specs.Robinson.{Substitution, Unifies, MostGeneral}
+use Rattle.unification.specs.Order.{SameTy, SameRow, Inserted, here, there}
+use Rattle.unification.specs.Robinson.{Substitution, IsUnifier, MostGeneral}
 use Rattle.unification.specs.Bindings.{Subst, bound, start, State, fresh, rollback, snapshot}
 use Rattle.unification.specs.Unify.{end_of, unify}
-use Rattle.unification.specs.Calls.{Reaches, itself, through, Allowed, Admitted, Machine, begin, take_snapshot, Calls, none_yet, then_call, unknown}
+use Rattle.unification.specs.Calls.{LeadsTo, itself, through, Allowed, Admitted, Machine, begin, take_snapshot, Calls, none_yet, then_call, unknown}
 use Rattle.unification.specs.Calls.{unification, failure, snapping, rolling_back, live, BackTo, bindings_at}
 use Rattle.unification.specs.Tie.{solution, Together}
 use Rattle.unification.proofs.Tests.{clash}
@@ -49,27 +49,27 @@ unfolding Admitted bound
 bound_admitted s u itself = tt
 bound_admitted s u (through {t = t} e h) = let q : int ≡ t = cc in go (rw (← q) at h)
   where
-    go : {u : Ty} → Reaches (Some int ∷ s) int u → Allowed u
+    go : {u : Ty} → LeadsTo (Some int ∷ s) int u → Allowed u
     go itself = tt
 
 -- ---- Equal up to order: repeated fields in any order, as often.
-swapped : Same (two 1 int 1 string) (two 1 string 1 int)
+swapped : SameTy (two 1 int 1 string) (two 1 string 1 int)
 swapped = (refl, (int, cell 1 0 string ε, refl, (string, ε, refl, tt, here), there here))
 
-no_int_in_one : (t : Ty) (r : Row) → Same int t → ¬ Inserted 1 0 t r (cell 1 0 string ε)
+no_int_in_one : (t : Ty) (r : Row) → SameTy int t → ¬ Inserted 1 0 t r (cell 1 0 string ε)
 no_int_in_one t r e here = clash (cc)
 no_int_in_one t _ e (there {r = r} i) = elim i [ ]
 
-no_int : (t : Ty) (r : Row) → Same int t → ¬ Inserted 1 0 t r (cell 1 0 string (cell 1 0 string ε))
+no_int : (t : Ty) (r : Row) → SameTy int t → ¬ Inserted 1 0 t r (cell 1 0 string (cell 1 0 string ε))
 no_int t r e here = clash (cc)
 no_int t r e (there i) = no_int_in_one t _ e i
 
-one_int : (t : Ty) (r : Row) → Same int t → Inserted 1 0 t r (cell 1 0 int (cell 1 0 string (cell 1 0 string ε)))
+one_int : (t : Ty) (r : Row) → SameTy int t → Inserted 1 0 t r (cell 1 0 int (cell 1 0 string (cell 1 0 string ε)))
     → ¬ SameRow (cell 1 0 int (cell 1 0 string ε)) r
 one_int t r e here q = no_int q.0 q.1 q.2 q.4
 one_int t r e (there i) q = no_int t _ e i
 
-as_often : ¬ Same (three int int string) (three int string string)
+as_often : ¬ SameTy (three int int string) (three int string string)
 as_often h = let q = h.1 in one_int q.0 q.1 q.2 q.4 q.3
 
 -- ---- What is not undone
@@ -140,7 +140,7 @@ finds : MostGeneral (solution (Some int ∷ [])) (Together (None ∷ []) (Var 0)
 unfolding one_bound one_made unify fresh begin
 finds = (robinson 9 [] _ calls_bound).0 (admitted_free (None ∷ []) 0 refl) (admitted_leaf (None ∷ []) Int)
 
-finds_none : (θ : Substitution) → ¬ Unifies θ (Together (Some int ∷ Some string ∷ None ∷ []) (Var 0) string)
+finds_none : (θ : Substitution) → ¬ IsUnifier θ (Together (Some int ∷ Some string ∷ None ∷ []) (Var 0) string)
 unfolding one_refused three_made two_bound two_made one_bound one_made unify fresh begin bound
 finds_none = (robinson 9 [] _ calls_refused).0 (bound_admitted (Some string ∷ None ∷ [])) (admitted_leaf (Some int ∷ Some string ∷ None ∷ []) String)
 

@@ -9,10 +9,10 @@ use native.Mathlib.Omega.{arith}
 use lib.Dec.{eqb}
 use lib.ListN.{length}
 use Rattle.unification.specs.Ty.{Leaf, Int, String, Bytes, Fact, Ty, leaf, node, Var, Error, Row, ε, cell, app, app_row}
-use Rattle.unification.specs.Order.{Same}
+use Rattle.unification.specs.Order.{SameTy}
 use Rattle.unification.specs.Bindings.{Subst, bound, repr, Answer, yes_left, no_left, spent, any_row, occurs_in, occurs, Resolved}
 use Rattle.unification.specs.Unify.{visited, leaf_orderable, orderable, all_orderable}
-use Rattle.unification.specs.Calls.{Reaches, ReachesRow, Respects}
+use Rattle.unification.specs.Calls.{LeadsTo, RowLeadsTo, Respects}
 use Rattle.unification.proofs.Tests.{clash}
 use Rattle.unification.proofs.Order.{size, row_size, same_size}
 use Rattle.unification.proofs.Reach.{reaches_var, reaches_follow}
@@ -72,7 +72,7 @@ occurs_in_var ask x v y w e = go (eqb x y) refl
     go false q = let e' : no_left v ≡ yes_left w = rw (q, occurs_in) at e in clash (cc)
 
 never_same : (σ : ℕ → Ty) (s : Subst) (x d v : ℕ) (t : Ty) (w : ℕ) → Respects σ s → ¬ (t ≡ Var x)
-    → occurs_in (λ u t'. occurs d s x u t') x v t ≡ yes_left w → ¬ Same (σ x) (app σ t)
+    → occurs_in (λ u t'. occurs d s x u t') x v t ≡ yes_left w → ¬ SameTy (σ x) (app σ t)
 unfolding occurs_in app size
 never_same σ s x d v (leaf p) w R n e q = clash (cc)
 never_same σ s x d v (node k r) w R n e q =
@@ -82,34 +82,34 @@ never_same σ s x d v Error w R n e q = clash (cc)
 
 -- No substitution that respects the bindings makes an unknown the same as another type in which it occurs.
 pub occurs_never : (σ : ℕ → Ty) (s : Subst) (x d v : ℕ) (t : Ty) (w : ℕ) → Resolved s t → ¬ (t ≡ Var x) → Respects σ s → occurs d s x v t ≡ yes_left w
-    → ¬ Same (σ x) (app σ t)
+    → ¬ SameTy (σ x) (app σ t)
 unfolding occurs
 occurs_never σ s x zero v t w c n R e = clash (cc)
 occurs_never σ s x (suc d) zero t w c n R e = clash (cc)
 occurs_never σ s x (suc d) (suc v) t w c n R e = never_same σ s x d v t w R n (rw (repr_resolved_is s t c) at e)
 
 -- ---- No
-any_no : (ask : ℕ → Ty → Answer) (s : Subst) (x : ℕ) → ((v : ℕ) (t : Ty) (w : ℕ) → ask v t ≡ no_left w → ¬ Reaches s t (Var x))
-    → (v : ℕ) (r : Row) (w : ℕ) → any_row ask v r ≡ no_left w → ¬ ReachesRow s r (Var x)
+any_no : (ask : ℕ → Ty → Answer) (s : Subst) (x : ℕ) → ((v : ℕ) (t : Ty) (w : ℕ) → ask v t ≡ no_left w → ¬ LeadsTo s t (Var x))
+    → (v : ℕ) (r : Row) (w : ℕ) → any_row ask v r ≡ no_left w → ¬ RowLeadsTo s r (Var x)
 any_no ask s x h v ε w e = nil_reaches s x
 any_no ask s x h v (cell k l t r) w e = any_cell ask v k l t r (no_left w) _ e
     (λ u q p. clash (cc))
     (λ u q p i. ⊎_elim (h v t u q) (any_no ask s x h u r w p) (cell_reaches s k l t r x i))
     (λ q p. clash (cc))
 
-occurs_in_no : (ask : ℕ → Ty → Answer) (s : Subst) (x : ℕ) → ((v : ℕ) (t : Ty) (w : ℕ) → ask v t ≡ no_left w → ¬ Reaches s t (Var x))
-    → (v : ℕ) (t : Ty) (w : ℕ) → Resolved s t → occurs_in ask x v t ≡ no_left w → ¬ Reaches s t (Var x)
+occurs_in_no : (ask : ℕ → Ty → Answer) (s : Subst) (x : ℕ) → ((v : ℕ) (t : Ty) (w : ℕ) → ask v t ≡ no_left w → ¬ LeadsTo s t (Var x))
+    → (v : ℕ) (t : Ty) (w : ℕ) → Resolved s t → occurs_in ask x v t ≡ no_left w → ¬ LeadsTo s t (Var x)
 unfolding occurs_in
 occurs_in_no ask s x h v (leaf p) w c e = leaf_reaches s p x
 occurs_in_no ask s x h v (node k r) w c e = λ i. any_no ask s x h v r w e (node_reaches s k r x i)
 occurs_in_no ask s x h v Error w c e = error_reaches s x
 occurs_in_no ask s x h v (Var y) w c e = go (eqb x y) refl
   where
-    go : (b : Bool) → eqb x y ≡ b → ¬ Reaches s (Var y) (Var x)
+    go : (b : Bool) → eqb x y ≡ b → ¬ LeadsTo s (Var y) (Var x)
     go true q i = let e' : yes_left v ≡ no_left w = rw (q, occurs_in) at e in clash (cc)
     go false q i = ⊎_elim (λ p. eqb-false x y q (cc (p))) (λ p. clash (cc (c, p.1))) (reaches_var s y (Var x) i)
 
-pub occurs_no : (s : Subst) (x : ℕ) → bound s x ≡ None → Acyclic s → (d v : ℕ) (t : Ty) (w : ℕ) → occurs d s x v t ≡ no_left w → ¬ Reaches s t (Var x)
+pub occurs_no : (s : Subst) (x : ℕ) → bound s x ≡ None → Acyclic s → (d v : ℕ) (t : Ty) (w : ℕ) → occurs d s x v t ≡ no_left w → ¬ LeadsTo s t (Var x)
 unfolding occurs repr
 occurs_no s x free A zero v t w e = clash (cc)
 occurs_no s x free A (suc d) zero t w e = clash (cc)

@@ -4,10 +4,10 @@ use mathlib.Core.Path.{◌≡◌, refl, sym, ◌∙◌, ap}
 use Prim.Native.Nat.{ℕ, suc, ◌+◌}
 use native.Mathlib.Omega.{arith}
 use Rattle.unification.specs.Ty.{Ty, leaf, node, Var, Error, Row, ε, cell, app, app_row}
-use Rattle.unification.specs.Order.{Same, SameRow, Inserted, here, there}
+use Rattle.unification.specs.Order.{SameTy, SameRow, Inserted, here, there}
 
 mutual
-  pub same_refl : (a : Ty) → Same a a
+  pub same_refl : (a : Ty) → SameTy a a
   same_refl (leaf p) = refl
   same_refl (node k r) = (refl, same_row_refl r)
   same_refl (Var x) = refl
@@ -27,20 +27,20 @@ inserted_swap (there i) (there j) = let x = inserted_swap i j in (_, there x.1, 
 
 -- A cell of the left side has its partner on the right.
 same_row_pick : {k l : ℕ} {t : Ty} {s₀ s : Row} → Inserted k l t s₀ s → (u : Row) → SameRow s u
-    → (t' : Ty) × (u₀ : Row) × Same t t' × SameRow s₀ u₀ × Inserted k l t' u₀ u
+    → (t' : Ty) × (u₀ : Row) × SameTy t t' × SameRow s₀ u₀ × Inserted k l t' u₀ u
 same_row_pick here u e = e
 same_row_pick (there i) u e =
     let h = same_row_pick i e.1 e.3 in
     let w = inserted_swap h.4 e.4 in
     (h.0, w.0, h.2, (e.0, h.1, e.2, h.3, w.1), w.2)
 
-same_row_put : {k l : ℕ} {t : Ty} (t' : Ty) {s₀ s : Row} → Inserted k l t s₀ s → (u : Row) → Same t t' → SameRow s₀ u → SameRow s (cell k l t' u)
+same_row_put : {k l : ℕ} {t : Ty} (t' : Ty) {s₀ s : Row} → Inserted k l t s₀ s → (u : Row) → SameTy t t' → SameRow s₀ u → SameRow s (cell k l t' u)
 same_row_put t' here u h e = (t', u, h, e, here)
 same_row_put {k} {l} t' (there i) u h e = (e.0, cell k l t' e.1, e.2, same_row_put t' i e.1 h e.3, there e.4)
 
 -- ---- Symmetry and transitivity
 mutual
-  pub same_sym : (a b : Ty) → Same a b → Same b a
+  pub same_sym : (a b : Ty) → SameTy a b → SameTy b a
   same_sym (leaf p) (leaf q) e = sym e
   same_sym (leaf p) (node k r) e = e
   same_sym (leaf p) (Var x) e = e
@@ -64,7 +64,7 @@ mutual
   same_row_sym (cell k l t r) s e = same_row_put t e.4 r (same_sym t e.0 e.2) (same_row_sym r e.1 e.3)
 
 mutual
-  pub same_trans : (a b c : Ty) → Same a b → Same b c → Same a c
+  pub same_trans : (a b c : Ty) → SameTy a b → SameTy b c → SameTy a c
   same_trans (leaf p) (leaf q) c e f = rw e f
   same_trans (leaf p) (node k r) c e f = absurd e
   same_trans (leaf p) (Var x) c e f = absurd e
@@ -112,7 +112,7 @@ inserted_size (there i) = rw (inserted_size i) (omega arith)
 mutual
   unfolding size
 
-  pub same_size : (a b : Ty) → Same a b → size a ≡ size b
+  pub same_size : (a b : Ty) → SameTy a b → size a ≡ size b
   same_size (leaf p) (leaf q) e = refl
   same_size (leaf p) (node k r) e = absurd e
   same_size (leaf p) (Var x) e = absurd e
@@ -139,13 +139,13 @@ mutual
 mutual
   unfolding app
 
-  pub app_same : (σ τ : ℕ → Ty) → ((x : ℕ) → Same (σ x) (τ x)) → (t : Ty) → Same (app σ t) (app τ t)
+  pub app_same : (σ τ : ℕ → Ty) → ((x : ℕ) → SameTy (σ x) (τ x)) → (t : Ty) → SameTy (app σ t) (app τ t)
   app_same σ τ h (leaf p) = refl
   app_same σ τ h (node k r) = (refl, app_row_same σ τ h r)
   app_same σ τ h (Var x) = h x
   app_same σ τ h Error = tt
 
-  pub app_row_same : (σ τ : ℕ → Ty) → ((x : ℕ) → Same (σ x) (τ x)) → (r : Row) → SameRow (app_row σ r) (app_row τ r)
+  pub app_row_same : (σ τ : ℕ → Ty) → ((x : ℕ) → SameTy (σ x) (τ x)) → (r : Row) → SameRow (app_row σ r) (app_row τ r)
   app_row_same σ τ h ε = tt
   app_row_same σ τ h (cell k l t r) = (app τ t, app_row τ r, app_same σ τ h t, app_row_same σ τ h r, here)
 
@@ -157,7 +157,7 @@ inserted_app σ (there i) = there (inserted_app σ i)
 mutual
   unfolding app
 
-  pub same_app : (σ : ℕ → Ty) (a b : Ty) → Same a b → Same (app σ a) (app σ b)
+  pub same_app : (σ : ℕ → Ty) (a b : Ty) → SameTy a b → SameTy (app σ a) (app σ b)
   same_app σ (leaf p) (leaf q) e = e
   same_app σ (leaf p) (node k r) e = absurd e
   same_app σ (leaf p) (Var x) e = absurd e
@@ -207,5 +207,5 @@ mutual
   app_row_id (cell k l t r) = rw (app_id t, app_row_id r)
 
 -- Both sides replaced by the same.
-pub same_both : (a a' b b' : Ty) → Same a a' → Same b b' → Same a' b' → Same a b
+pub same_both : (a a' b b' : Ty) → SameTy a a' → SameTy b b' → SameTy a' b' → SameTy a b
 same_both a a' b b' p q e = same_trans a a' b p (same_trans a' b' b e (same_sym b b' q))

@@ -8,11 +8,11 @@ use Prim.Native.Nat.{ℕ}
 use lib.Dec.{eqb}
 use lib.ListN.{length}
 use Rattle.unification.specs.Ty.{Kind, Record, Union, Ty, node, Row, ε, cell, row_len, app, app_row}
-use Rattle.unification.specs.Order.{Same, SameRow}
+use Rattle.unification.specs.Order.{SameTy, SameRow}
 use Rattle.unification.specs.Bindings.{Subst, History, start, ended, rolled, State}
 use Rattle.unification.specs.Unify.{UnionDiff, TyError, Unified, Ok, Err, Spent, and_then, map_err, find_key, unify_field, unify_fields, unify_record}
 use Rattle.unification.specs.Unify.{discriminants, unify_alternative, unify_alternatives, unify_union, unify_nodes}
-use Rattle.unification.specs.Calls.{Distinct, Side, itself, Admitted, Respects, live, AllAdmitted, MakesEqual, EntryClaim, BindingsClaim, BackTo}
+use Rattle.unification.specs.Calls.{DistinctKeys, Side, itself, Admitted, Respects, live, AllAdmitted, MakesEqual, EntryClaim, BindingsClaim, BackTo}
 use Rattle.unification.specs.Calls.{bindings_at, Noted}
 use Rattle.unification.specs.Acyclic.{Acyclic}
 use Rattle.unification.proofs.Tests.{clash}
@@ -176,7 +176,7 @@ loosen s h A C (Spent b) p = p
 abbrev pub Entry : (State → Ty → Ty → Unified) → Type 1
 Entry u = (A : Type 0) (st : State) (a b : Ty) → Wf st.subst → Side (length st.subst) a → Side (length st.subst) b
     → (A → Admitted st.subst a × Admitted st.subst b)
-    → Post st.subst st.history A (λ σ. Same (app σ a) (app σ b)) (u st a b)
+    → Post st.subst st.history A (λ σ. SameTy (app σ a) (app σ b)) (u st a b)
 
 record_union : ¬ (Record ≡ Union)
 record_union e = clash (cc)
@@ -209,7 +209,7 @@ module _ (u : State → Ty → Ty → Unified) (rec : Entry u) (A : Type 0) wher
       (λ p. let x = a p in (permits_map st.subst b.subst (n p) r x.0.1, permits_map st.subst b.subst (n p) ys x.1)))
 
   record_post : (st : State) (xs ys : Row) → Wf st.subst → Parts (Field (length st.subst)) xs → Parts (Field (length st.subst)) ys
-      → (A → Parts (Permits st.subst) xs × Parts (Permits st.subst) ys) → (A → Distinct xs × Distinct ys)
+      → (A → Parts (Permits st.subst) xs × Parts (Permits st.subst) ys) → (A → DistinctKeys xs × DistinctKeys ys)
       → Post st.subst st.history A (λ σ. SameRow (app_row σ xs) (app_row σ ys)) (unify_record u st xs ys)
   unfolding unify_record
   record_post st xs ys w f g a d = go (eqb (row_len xs) (row_len ys)) refl
@@ -217,7 +217,8 @@ module _ (u : State → Ty → Ty → Unified) (rec : Entry u) (A : Type 0) wher
       go : (b : Bool) → eqb (row_len xs) (row_len ys) ≡ b → Post st.subst st.history A (λ σ. SameRow (app_row σ xs) (app_row σ ys)) (unify_record u st xs ys)
       go true q = rw (q, unify_record) (change st.subst st.history A _ _ (unify_fields u st xs ys)
           (λ p σ R. (
-            match_same (app_row σ xs) (app_row σ ys) (distinct_app σ xs (d p).0) (row_len_app σ xs ∙ eqb-true (row_len xs) (row_len ys) q ∙ sym (row_len_app σ ys)),
+            match_same (app_row σ xs) (app_row σ ys) (distinct_app σ xs (d p).0)
+                (row_len_app σ xs ∙ eqb-true (row_len xs) (row_len ys) q ∙ sym (row_len_app σ ys)),
             same_match (app_row σ xs) (app_row σ ys) (distinct_app σ xs (d p).0) (distinct_app σ ys (d p).1),
           ))
           (fields_post st xs ys w f g a))
@@ -260,7 +261,7 @@ module _ (u : State → Ty → Ty → Unified) (rec : Entry u) (A : Type 0) wher
       (λ p. let x = a p in (permits_map st.subst b.subst (n p) xs x.0, permits_map st.subst b.subst (n p) ys x.1)))
 
   union_post : (st : State) (xs ys : Row) → Wf st.subst → Parts (Alternative (length st.subst)) xs → Parts (Alternative (length st.subst)) ys
-      → (A → Parts (Permits st.subst) xs × Parts (Permits st.subst) ys) → Distinct xs → Distinct ys
+      → (A → Parts (Permits st.subst) xs × Parts (Permits st.subst) ys) → DistinctKeys xs → DistinctKeys ys
       → Post st.subst st.history A (λ σ. SameRow (app_row σ xs) (app_row σ ys)) (unify_union u st xs ys)
   unfolding unify_union
   union_post st xs ys w f g a d e =
@@ -274,7 +275,7 @@ module _ (u : State → Ty → Ty → Unified) (rec : Entry u) (A : Type 0) wher
   pub nodes_post : (st : State) (k : Kind) (xs : Row) (k' : Kind) (ys : Row) → Wf st.subst → Side (length st.subst) (node k xs)
       → Side (length st.subst) (node k' ys)
       → (A → Admitted st.subst (node k xs) × Admitted st.subst (node k' ys))
-      → Post st.subst st.history A (λ σ. Same (app σ (node k xs)) (app σ (node k' ys))) (unify_nodes u st k xs k' ys)
+      → Post st.subst st.history A (λ σ. SameTy (app σ (node k xs)) (app σ (node k' ys))) (unify_nodes u st k xs k' ys)
   unfolding unify_nodes app Admitted
   nodes_post st Record xs Record ys w f g a =
       change st.subst st.history A _ _ (unify_record u st xs ys) (λ p σ R. (λ c. (refl, c), λ c. c.1))

@@ -8,7 +8,7 @@ use lib.ListN.{length, set}
 use lib.Seq.{get_or-set_same, get_or-set_other}
 use Rattle.unification.specs.Ty.{Leaf, Ty, leaf, node, Var, Error, Row}
 use Rattle.unification.specs.Bindings.{Subst, bound, follow}
-use Rattle.unification.specs.Calls.{Reaches, itself, inside, through, ReachesRow, first, later, Admitted}
+use Rattle.unification.specs.Calls.{LeadsTo, itself, inside, through, RowLeadsTo, first, later, Admitted}
 use Rattle.unification.proofs.Tests.{clash}
 use Rattle.std.specs.Prelude.{None, Option, Some}
 
@@ -21,17 +21,17 @@ unfolding bound
 bound_other s x y o h = get_or-set_other s x y o None h
 
 mutual
-  pub reaches_trans : (s : Subst) {t u w : Ty} → Reaches s t u → Reaches s u w → Reaches s t w
+  pub reaches_trans : (s : Subst) {t u w : Ty} → LeadsTo s t u → LeadsTo s u w → LeadsTo s t w
   reaches_trans s itself k = k
   reaches_trans s (inside h) k = inside (reaches_row_trans s h k)
   reaches_trans s (through e h) k = through e (reaches_trans s h k)
 
-  reaches_row_trans : (s : Subst) {r : Row} {u w : Ty} → ReachesRow s r u → Reaches s u w → ReachesRow s r w
+  reaches_row_trans : (s : Subst) {r : Row} {u w : Ty} → RowLeadsTo s r u → LeadsTo s u w → RowLeadsTo s r w
   reaches_row_trans s (first h) k = first (reaches_trans s h k)
   reaches_row_trans s (later h) k = later (reaches_row_trans s h k)
 
 -- What an unknown reaches is itself or behind its binding.
-pub reaches_var : (s : Subst) (x : ℕ) (u : Ty) → Reaches s (Var x) u → (Var x ≡ u) ⊎ ((t : Ty) × (bound s x ≡ Some t) × Reaches s t u)
+pub reaches_var : (s : Subst) (x : ℕ) (u : Ty) → LeadsTo s (Var x) u → (Var x ≡ u) ⊎ ((t : Ty) × (bound s x ≡ Some t) × LeadsTo s t u)
 reaches_var s x u itself = inl refl
 reaches_var s x u (through e h) = inr (_, e, h)
 
@@ -46,7 +46,7 @@ admitted_free s x free u itself = tt
 admitted_free s x free u (through e h) = clash (cc)
 
 -- ---- Following
-pub follow_reaches : (k : ℕ) (s : Subst) (t u : Ty) → Reaches s (follow k s t) u → Reaches s t u
+pub follow_reaches : (k : ℕ) (s : Subst) (t u : Ty) → LeadsTo s (follow k s t) u → LeadsTo s t u
 unfolding follow
 follow_reaches zero s t u h = h
 follow_reaches (suc k) s (leaf p) u h = h
@@ -54,12 +54,12 @@ follow_reaches (suc k) s (node c r) u h = h
 follow_reaches (suc k) s Error u h = h
 follow_reaches (suc k) s (Var x) u h = go (bound s x) refl (λ t. follow_reaches k s t u)
   where
-    go : (o : Option Ty) → bound s x ≡ o → ((t : Ty) → Reaches s (follow k s t) u → Reaches s t u) → Reaches s (Var x) u
+    go : (o : Option Ty) → bound s x ≡ o → ((t : Ty) → LeadsTo s (follow k s t) u → LeadsTo s t u) → LeadsTo s (Var x) u
     go None e ih = rw (e, follow) at h
     go (Some t) e ih = through e (ih t (rw (e, follow) at h))
 
 -- A free unknown is reached still.
-pub reaches_follow : (k : ℕ) (s : Subst) (x : ℕ) → bound s x ≡ None → (t : Ty) → Reaches s t (Var x) → Reaches s (follow k s t) (Var x)
+pub reaches_follow : (k : ℕ) (s : Subst) (x : ℕ) → bound s x ≡ None → (t : Ty) → LeadsTo s t (Var x) → LeadsTo s (follow k s t) (Var x)
 unfolding follow
 reaches_follow zero s x free t h = h
 reaches_follow (suc k) s x free (leaf p) h = h
@@ -67,16 +67,16 @@ reaches_follow (suc k) s x free (node c r) h = h
 reaches_follow (suc k) s x free Error h = h
 reaches_follow (suc k) s x free (Var y) h = go (bound s y) refl (reaches_var s y (Var x) h) (λ t. reaches_follow k s x free t)
   where
-    go : (o : Option Ty) → bound s y ≡ o → (Var y ≡ Var x) ⊎ ((t : Ty) × (bound s y ≡ Some t) × Reaches s t (Var x))
-        → ((t : Ty) → Reaches s t (Var x) → Reaches s (follow k s t) (Var x)) → Reaches s (follow (suc k) s (Var y)) (Var x)
+    go : (o : Option Ty) → bound s y ≡ o → (Var y ≡ Var x) ⊎ ((t : Ty) × (bound s y ≡ Some t) × LeadsTo s t (Var x))
+        → ((t : Ty) → LeadsTo s t (Var x) → LeadsTo s (follow k s t) (Var x)) → LeadsTo s (follow (suc k) s (Var y)) (Var x)
     go None e c ih = rw (e, follow) h
     go (Some t) e (inl q) ih = let p : y ≡ x = cc in clash (cc)
     go (Some t) e (inr c) ih = let q : c.0 ≡ t = cc c.1 in rw (e, follow) (ih t (rw q at c.2))
 
 -- ---- Binding x to t
 module _ (s : Subst) (x : ℕ) (t : Ty) (lt : x < length s) where
-  through_bound : (y : ℕ) (w u : Ty) → bound (set s x (Some t)) y ≡ Some w → Reaches s w u ⊎ (Reaches s w (Var x) × Reaches s t u)
-      → Reaches s (Var y) u ⊎ (Reaches s (Var y) (Var x) × Reaches s t u)
+  through_bound : (y : ℕ) (w u : Ty) → bound (set s x (Some t)) y ≡ Some w → LeadsTo s w u ⊎ (LeadsTo s w (Var x) × LeadsTo s t u)
+      → LeadsTo s (Var y) u ⊎ (LeadsTo s (Var y) (Var x) × LeadsTo s t u)
   through_bound y w u e (inl h) = by_cases (ℕ_discrete y x)
       (λ p. let q : w ≡ t = cc (bound_same s x (Some t) lt) in inr (rw p itself, rw q at h))
       (λ n. inl (through (sym (bound_other s x y (Some t) n) ∙ e) h))
@@ -86,12 +86,12 @@ module _ (s : Subst) (x : ℕ) (t : Ty) (lt : x < length s) where
 
   -- What is reached afterwards was reached before, or x was and t reached it.
   mutual
-    pub reaches_after : (a u : Ty) → Reaches (set s x (Some t)) a u → Reaches s a u ⊎ (Reaches s a (Var x) × Reaches s t u)
+    pub reaches_after : (a u : Ty) → LeadsTo (set s x (Some t)) a u → LeadsTo s a u ⊎ (LeadsTo s a (Var x) × LeadsTo s t u)
     reaches_after a u itself = inl itself
     reaches_after a u (inside h) = ⊎_map inside (λ i. (inside i.0, i.1)) (reaches_row_after _ u h)
     reaches_after a u (through {x = y} {t = w} e h) = through_bound y w u e (reaches_after w u h)
 
-    reaches_row_after : (r : Row) (u : Ty) → ReachesRow (set s x (Some t)) r u → ReachesRow s r u ⊎ (ReachesRow s r (Var x) × Reaches s t u)
+    reaches_row_after : (r : Row) (u : Ty) → RowLeadsTo (set s x (Some t)) r u → RowLeadsTo s r u ⊎ (RowLeadsTo s r (Var x) × LeadsTo s t u)
     reaches_row_after r u (first h) = ⊎_map first (λ i. (first i.0, i.1)) (reaches_after _ u h)
     reaches_row_after r u (later h) = ⊎_map later (λ i. (later i.0, i.1)) (reaches_row_after _ u h)
 

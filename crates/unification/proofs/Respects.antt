@@ -6,7 +6,7 @@ use Prim.Native.Nat.{ℕ, zero, suc, ◌<◌}
 use native.Mathlib.Decide.{ℕ_discrete}
 use lib.ListN.{length, set}
 use Rattle.unification.specs.Ty.{Ty, leaf, node, Var, Error, app}
-use Rattle.unification.specs.Order.{Same}
+use Rattle.unification.specs.Order.{SameTy}
 use Rattle.unification.specs.Bindings.{Subst, bound, follow, repr}
 use Rattle.unification.specs.Calls.{Respects}
 use Rattle.unification.proofs.Tests.{clash}
@@ -20,7 +20,7 @@ unfolding Respects
 respects_among σ s' s a R x t e = R x t (a x t e)
 
 pub respects_bind : (σ : ℕ → Ty) (s : Subst) (x : ℕ) (t : Ty) → x < length s → bound s x ≡ None
-    → Respects σ (set s x (Some t)) ↔ (Respects σ s × Same (σ x) (app σ t))
+    → Respects σ (set s x (Some t)) ↔ (Respects σ s × SameTy (σ x) (app σ t))
 unfolding Respects
 respects_bind σ s x t lt free = (
   λ R. (
@@ -34,7 +34,7 @@ respects_bind σ s x t lt free = (
       (λ n. R.0 y u (sym (bound_other s x y (Some t) n) ∙ e)),
 )
 
-follow_same : (k : ℕ) (σ : ℕ → Ty) (s : Subst) (t : Ty) → Respects σ s → Same (app σ t) (app σ (follow k s t))
+follow_same : (k : ℕ) (σ : ℕ → Ty) (s : Subst) (t : Ty) → Respects σ s → SameTy (app σ t) (app σ (follow k s t))
 unfolding follow app Respects
 follow_same zero σ s t R = same_refl (app σ t)
 follow_same (suc k) σ s (leaf p) R = refl
@@ -42,10 +42,10 @@ follow_same (suc k) σ s (node c r) R = same_refl (app σ (node c r))
 follow_same (suc k) σ s Error R = tt
 follow_same (suc k) σ s (Var x) R = go (bound s x) refl (λ t. follow_same k σ s t R)
   where
-    go : (o : Option Ty) → bound s x ≡ o → ((t : Ty) → Same (app σ t) (app σ (follow k s t))) → Same (σ x) (app σ (follow (suc k) s (Var x)))
+    go : (o : Option Ty) → bound s x ≡ o → ((t : Ty) → SameTy (app σ t) (app σ (follow k s t))) → SameTy (σ x) (app σ (follow (suc k) s (Var x)))
     go None e ih = rw (e, follow) (same_refl (σ x))
     go (Some t) e ih = rw (e, follow) (same_trans (σ x) (app σ t) (app σ (follow k s t)) (R x t e) (ih t))
 
-pub repr_same : (σ : ℕ → Ty) (s : Subst) (t : Ty) → Respects σ s → Same (app σ t) (app σ (repr s t))
+pub repr_same : (σ : ℕ → Ty) (s : Subst) (t : Ty) → Respects σ s → SameTy (app σ t) (app σ (repr s t))
 unfolding repr
 repr_same σ s t R = follow_same (suc (length s)) σ s t R

@@ -9,8 +9,8 @@ use native.Mathlib.Nat.{zero-add, add-zero}
 use native.Mathlib.Omega.{arith}
 use lib.ListN.{length, get_or}
 use Rattle.unification.specs.Ty.{Ty, Var, app}
-use Rattle.unification.specs.Order.{Same}
-use Rattle.unification.specs.Robinson.{Substitution, ◌then◌, Equation, Unifies, MostGeneral}
+use Rattle.unification.specs.Order.{SameTy}
+use Rattle.unification.specs.Robinson.{Substitution, ◌then◌, Equation, IsUnifier, MostGeneral}
 use Rattle.unification.specs.Bindings.{Subst, bound, zonk_in, zonk, History, start, ended, rolled, State}
 use Rattle.unification.specs.Unify.{Spent, unify}
 use Rattle.unification.specs.Calls.{Side, Admitted, Respects, Machine, Calls, EntryClaim}
@@ -24,7 +24,7 @@ use Rattle.unification.proofs.Demand3.{Sound, unify_sound, calls_inv}
 use Rattle.std.specs.Prelude.{None, Option, Some}
 
 -- ---- An instance of a unifier is a unifier
-pub unifies_then : (θ μ : Substitution) (es : List Equation) → Unifies θ es → Unifies (◌then◌ θ μ) es
+pub unifies_then : (θ μ : Substitution) (es : List Equation) → IsUnifier θ es → IsUnifier (◌then◌ θ μ) es
 unifies_then θ μ [] u = tt
 unifies_then θ μ (e ∷ es) u =
     (rw (← app_app θ μ e.left, ← app_app θ μ e.right) (same_app μ (app θ e.left) (app θ e.right) u.0), unifies_then θ μ es u.1)
@@ -34,13 +34,13 @@ pub shift : (x y : ℕ) → suc x + y ≡ x + suc y
 shift x y = omega arith
 
 module _ (θ : Substitution) where
-  from_respects : (x : ℕ) (s : Subst) → ((y : ℕ) (t : Ty) → get_or s y None ≡ Some t → Same (θ (x + y)) (app θ t)) → Unifies θ (equations_from x s)
+  from_respects : (x : ℕ) (s : Subst) → ((y : ℕ) (t : Ty) → get_or s y None ≡ Some t → SameTy (θ (x + y)) (app θ t)) → IsUnifier θ (equations_from x s)
   unfolding equations_from app
   from_respects x [] h = tt
   from_respects x (None ∷ s) h = from_respects (suc x) s (λ y t e. rw (shift x y) (h (suc y) t e))
   from_respects x (Some t ∷ s) h = (rw (add-zero x) at (h zero t refl), from_respects (suc x) s (λ y u e. rw (shift x y) (h (suc y) u e)))
 
-  to_respects : (x : ℕ) (s : Subst) → Unifies θ (equations_from x s) → (y : ℕ) (t : Ty) → get_or s y None ≡ Some t → Same (θ (x + y)) (app θ t)
+  to_respects : (x : ℕ) (s : Subst) → IsUnifier θ (equations_from x s) → (y : ℕ) (t : Ty) → get_or s y None ≡ Some t → SameTy (θ (x + y)) (app θ t)
   unfolding equations_from app
   to_respects x [] u y t e = clash (cc)
   to_respects x (None ∷ s) u zero t e = clash (cc)
@@ -48,7 +48,7 @@ module _ (θ : Substitution) where
   to_respects x (Some w ∷ s) u zero t e = let q : w ≡ t = cc in rw (add-zero x, ← q) u.0
   to_respects x (Some w ∷ s) u (suc y) t e = rw (← shift x y) (to_respects (suc x) s u.1 y t e)
 
-  pub unifies_respects : (s : Subst) → Unifies θ (equations s) ↔ Respects θ s
+  pub unifies_respects : (s : Subst) → IsUnifier θ (equations s) ↔ Respects θ s
   unfolding equations Respects bound
   unifies_respects s =
       (λ u x t e. rw (zero-add x) at (to_respects zero s u x t e), λ R. from_respects zero s (λ y t e. rw (zero-add y) (R y t e)))
@@ -61,16 +61,16 @@ solution_respects s A x t e =
     rw q (same_refl (app (solution s) t))
 
 -- What respects the bindings does not notice resolving.
-pub zonk_same : (k : ℕ) (η : Substitution) (s : Subst) (t : Ty) → Respects η s → Same (app η t) (app η (zonk_in k s t))
+pub zonk_same : (k : ℕ) (η : Substitution) (s : Subst) (t : Ty) → Respects η s → SameTy (app η t) (app η (zonk_in k s t))
 unfolding Respects app
 zonk_same zero η s t R = rw (zonk_none s t) (same_refl (app η t))
 zonk_same (suc k) η s t R =
     rw (zonk_app k s t, app_app (λ y. zonk_in (suc k) s (Var y)) η t)
-    (app_same η (λ y. app η (zonk_in (suc k) s (Var y))) (λ y. zonk_var k s y (λ u. Same (η y) (app η u)) (λ e. same_refl (η y))
+    (app_same η (λ y. app η (zonk_in (suc k) s (Var y))) (λ y. zonk_var k s y (λ u. SameTy (η y) (app η u)) (λ e. same_refl (η y))
     (λ u e. same_trans (η y) (app η u) (app η (zonk_in k s u)) (R y u e) (zonk_same k η s u R))) t)
 
 -- ---- The bindings after a success are a most general unifier
-pub solution_general : (s : Subst) → Acyclic s → (es : List Equation) → ((η : Substitution) → Unifies η es ↔ Respects η s) → MostGeneral (solution s) es
+pub solution_general : (s : Subst) → Acyclic s → (es : List Equation) → ((η : Substitution) → IsUnifier η es ↔ Respects η s) → MostGeneral (solution s) es
 unfolding solution zonk app
 solution_general s A es h = record {
   unifies = (h (solution s)).1 (solution_respects s A);
@@ -104,6 +104,6 @@ robinson_at_the_limit v tys m cs a b st i j e =
 
 -- So a unification succeeds exactly where there is a unifier.
 pub succeeds_exactly : (s : Subst) (a b : Ty) (ok : Bool) (s' : Subst) → AsRobinson s a b ok s'
-    → (ok ≡ true) ↔ ((θ : Substitution) × Unifies θ (Together s a b))
+    → (ok ≡ true) ↔ ((θ : Substitution) × IsUnifier θ (Together s a b))
 succeeds_exactly s a b true s' r = (λ e. (solution s', r.unifies), λ u. refl)
 succeeds_exactly s a b false s' r = (λ e. clash (cc), λ u. absurd (r u.0 u.1))

@@ -9,9 +9,9 @@ use native.Mathlib.Decide.{ℕ_discrete}
 use native.Mathlib.Omega.{arith}
 use lib.Dec.{eqb, ltb}
 use Rattle.unification.specs.Ty.{Ty, Row, ε, cell, row_len, app, app_row}
-use Rattle.unification.specs.Order.{Same, SameRow, Inserted, here, there}
+use Rattle.unification.specs.Order.{SameTy, SameRow, Inserted, here, there}
 use Rattle.unification.specs.Unify.{find_key, insert_once, with_keys, discriminants}
-use Rattle.unification.specs.Calls.{Lacks, Distinct}
+use Rattle.unification.specs.Calls.{Lacks, DistinctKeys}
 use Rattle.std.specs.Prelude.{None, Option, Some}
 use Rattle.std.proofs.lemmas.Bool.{eqb-true, eqb-false}
 
@@ -60,14 +60,14 @@ inserted_lacks : {k l : ℕ} {t : Ty} {r s : Row} (j : ℕ) → Inserted k l t r
 inserted_lacks j here h = h
 inserted_lacks j (there i) h = let x = inserted_lacks j i h.1 in (x.0, (h.0, x.1))
 
-inserted_distinct : {k l : ℕ} {t : Ty} {r s : Row} → Inserted k l t r s → Distinct s → Lacks k r × Distinct r
+inserted_distinct : {k l : ℕ} {t : Ty} {r s : Row} → Inserted k l t r s → DistinctKeys s → Lacks k r × DistinctKeys r
 inserted_distinct here h = h
 inserted_distinct (there i) h =
     let x = inserted_distinct i h.1 in
     let y = inserted_lacks _ i h.0 in
     (((λ e. y.0 (sym e)), x.0), (y.1, x.1))
 
-inserted_found : {k l : ℕ} {t : Ty} {r s : Row} → Inserted k l t r s → Distinct s → find_key k s ≡ Some (l, t)
+inserted_found : {k l : ℕ} {t : Ty} {r s : Row} → Inserted k l t r s → DistinctKeys s → find_key k s ≡ Some (l, t)
 inserted_found {k} {l} {t} {r} here h = find_head k l t r
 inserted_found {k} (there {m} {n} {u} {s} i) h =
     find_tail k m n u s (λ q. (inserted_lacks m i h.0).0 (sym q)) ∙ inserted_found i h.1
@@ -77,25 +77,25 @@ abbrev pub Both : Option (ℕ × Ty) → Option (ℕ × Ty) → Type 0
 Both None None = Unit {0}
 Both None (Some q) = ⊥
 Both (Some p) None = ⊥
-Both (Some p) (Some q) = (p.0 ≡ q.0) × Same p.1 q.1
+Both (Some p) (Some q) = (p.0 ≡ q.0) × SameTy p.1 q.1
 
 abbrev pub Agree : Row → Row → Type 0
 Agree r s = (k : ℕ) → Both (find_key k r) (find_key k s)
 
 -- A cell that a look-up agrees with has its partner there.
-both_pick : (k l : ℕ) (t : Ty) (s : Row) → Both (Some (l, t)) (find_key k s) → (t' : Ty) × (s' : Row) × Same t t' × Inserted k l t' s' s
+both_pick : (k l : ℕ) (t : Ty) (s : Row) → Both (Some (l, t)) (find_key k s) → (t' : Ty) × (s' : Row) × SameTy t t' × Inserted k l t' s' s
 unfolding find_key
 both_pick k l t ε b = absurd b
 both_pick k l t (cell m n u s) b = go (eqb k m) refl (λ b'. both_pick k l t s b')
   where
-    go : (c : Bool) → eqb k m ≡ c → (Both (Some (l, t)) (find_key k s) → (t' : Ty) × (s' : Row) × Same t t' × Inserted k l t' s' s)
-        → (t' : Ty) × (s' : Row) × Same t t' × Inserted k l t' s' (cell m n u s)
+    go : (c : Bool) → eqb k m ≡ c → (Both (Some (l, t)) (find_key k s) → (t' : Ty) × (s' : Row) × SameTy t t' × Inserted k l t' s' s)
+        → (t' : Ty) × (s' : Row) × SameTy t t' × Inserted k l t' s' (cell m n u s)
     go true q ih =
-        let c : (l ≡ n) × Same t u = rw (q, find_key) at b in
+        let c : (l ≡ n) × SameTy t u = rw (q, find_key) at b in
         (u, s, c.1, rw (eqb-true k m q, c.0) here)
     go false q ih = let x = ih (rw (q, find_key) at b) in (x.0, cell m n u x.1, x.2, there x.3)
 
-pub agree_same : (r s : Row) → Distinct r → Distinct s → Agree r s → SameRow r s
+pub agree_same : (r s : Row) → DistinctKeys r → DistinctKeys s → Agree r s → SameRow r s
 agree_same ε ε d e a = tt
 agree_same ε (cell k l t s) d e a = absurd (rw (find_nil, find_head k l t s) at (a k))
 agree_same (cell k l t r) s d e a =
@@ -110,7 +110,7 @@ agree_same (cell k l t r) s d e a =
       x.3,
     )
 
-pub same_agree : (r s : Row) → Distinct r → Distinct s → SameRow r s → Agree r s
+pub same_agree : (r s : Row) → DistinctKeys r → DistinctKeys s → SameRow r s → Agree r s
 same_agree ε ε d e h k = rw find_nil tt
 same_agree ε (cell m l t s) d e h k = absurd h
 same_agree (cell m l t r) s d e h k = by_cases (ℕ_discrete k m)
@@ -132,7 +132,7 @@ match_less {k} i (cell j n u r) h =
     let ih = match_less i r h.1 in
     (λ m. (rw q at m.0, ih.0 m.1), λ m. (rw q m.0, ih.1 m.1))
 
-pub match_same : (r s : Row) → Distinct r → row_len r ≡ row_len s → Match r s → SameRow r s
+pub match_same : (r s : Row) → DistinctKeys r → row_len r ≡ row_len s → Match r s → SameRow r s
 unfolding row_len
 match_same ε ε d e m = tt
 match_same ε (cell k l t s) d e m = absurd (omega arith)
@@ -140,7 +140,7 @@ match_same (cell k l t r) s d e m =
     let x = both_pick k l t s m.0 in
     (x.0, x.1, x.2, match_same r x.1 d.1 (omega (arith, inserted_len x.3)) ((match_less x.3 r d.0).0 m.1), x.3)
 
-pub same_match : (r s : Row) → Distinct r → Distinct s → SameRow r s → Match r s
+pub same_match : (r s : Row) → DistinctKeys r → DistinctKeys s → SameRow r s → Match r s
 same_match ε s d e h = tt
 same_match (cell k l t r) s d e h =
     (rw (inserted_found h.4 e) (refl, h.2), (match_less h.4 r d.0).1 (same_match r h.1 d.1 (inserted_distinct h.4 e).1 h.3))
@@ -236,7 +236,7 @@ unfolding app_row
 lacks_app σ k ε h = tt
 lacks_app σ k (cell m l t r) h = (h.0, lacks_app σ k r h.1)
 
-pub distinct_app : (σ : ℕ → Ty) (r : Row) → Distinct r → Distinct (app_row σ r)
+pub distinct_app : (σ : ℕ → Ty) (r : Row) → DistinctKeys r → DistinctKeys (app_row σ r)
 unfolding app_row
 distinct_app σ ε h = tt
 distinct_app σ (cell k l t r) h = (lacks_app σ k r h.0, distinct_app σ r h.1)

@@ -12,7 +12,7 @@ use lib.ListN.{length, set, replicate, length-set, length-append}
 use Rattle.unification.specs.Ty.{Kind, Record, Union, Ty, leaf, node, Var, Error, Row, ε, cell}
 use Rattle.unification.specs.Bindings.{Subst, bound, follow}
 use Rattle.unification.specs.Unify.{find_key}
-use Rattle.unification.specs.Calls.{Declared, DeclaredRow, Side, SideRow, Reaches, inside, ReachesRow, first, later, Allowed, Admitted}
+use Rattle.unification.specs.Calls.{Declared, DeclaredRow, Side, SideRow, LeadsTo, inside, RowLeadsTo, first, later, Allowed, Admitted}
 use Rattle.unification.proofs.Reach.{bound_same, bound_other}
 use Rattle.unification.specs.Log.{Wf}
 use Rattle.unification.proofs.Acyclic.{acyclic_bind, Among, acyclic_among}
@@ -88,7 +88,7 @@ pub admitted_parts : (s : Subst) (k : Kind) (r : Row) → Admitted s (node k r) 
 unfolding Admitted
 admitted_parts s k r h = go r (λ u i. h u (inside i))
   where
-    go : (r : Row) → ((u : Ty) → ReachesRow s r u → Allowed u) → Parts (Permits s) r
+    go : (r : Row) → ((u : Ty) → RowLeadsTo s r u → Allowed u) → Parts (Permits s) r
     go ε h = tt
     go (cell k l t r) h = ((λ u i. h u (first i)), go r (λ u i. h u (later i)))
 
@@ -105,7 +105,7 @@ side_follow (suc k) s (Var x) w h = go (bound s x) refl (λ t. side_follow k s t
     go None e ih = rw (e, follow) h
     go (Some t) e ih = rw (e, follow) (ih t (w.sides x t e))
 
-pub wf_bind : (s : Subst) (x : ℕ) (t : Ty) → x < length s → Side (length s) t → ¬ Reaches s t (Var x) → Wf s → Wf (set s x (Some t))
+pub wf_bind : (s : Subst) (x : ℕ) (t : Ty) → x < length s → Side (length s) t → ¬ LeadsTo s t (Var x) → Wf s → Wf (set s x (Some t))
 wf_bind s x t lt side off w = record {
   acyclic = acyclic_bind s x t lt off w.acyclic;
   sides = λ y u e. rw (length-set s x (Some t)) (by_cases (ℕ_discrete y x)

@@ -11,10 +11,10 @@ use native.Mathlib.Omega.{arith}
 use lib.Dec.{eqb}
 use lib.ListN.{length, replicate, length-set}
 use Rattle.unification.specs.Ty.{Leaf-discrete, Ty, leaf, node, Var, Error, app}
-use Rattle.unification.specs.Order.{Same}
+use Rattle.unification.specs.Order.{SameTy}
 use Rattle.unification.specs.Bindings.{Subst, bound, repr, Answer, yes_left, no_left, spent, occurs, History, ended, State, with_left, set_var, Resolved}
 use Rattle.unification.specs.Unify.{Unified, Ok, Err, Spent, bind_var, unify_nodes, unify_heads, note, unify_in, unify}
-use Rattle.unification.specs.Calls.{Side, Reaches, itself, Admitted, Respects, live, EntryClaim, BindingsClaim, Noted}
+use Rattle.unification.specs.Calls.{Side, LeadsTo, itself, Admitted, Respects, live, EntryClaim, BindingsClaim, Noted}
 use Rattle.unification.proofs.Tests.{clash}
 use Rattle.unification.proofs.Order.{same_refl, same_sym, same_both}
 use Rattle.unification.proofs.Reach.{admitted_bind, admitted_follow}
@@ -29,7 +29,7 @@ use Rattle.std.specs.Prelude.{None, Some}
 use Rattle.std.proofs.lemmas.Bool.{eqb-true, eqb-false}
 
 -- ---- Binding
-set_var_step : (st : State) (x : ℕ) (t : Ty) → Wf st.subst → x < length st.subst → Side (length st.subst) t → ¬ Reaches st.subst t (Var x)
+set_var_step : (st : State) (x : ℕ) (t : Ty) → Wf st.subst → x < length st.subst → Side (length st.subst) t → ¬ LeadsTo st.subst t (Var x)
     → Step st.subst st.history (set_var st x t)
 unfolding set_var
 set_var_step st x t w lt side off = record {
@@ -42,11 +42,11 @@ set_var_step st x t w lt side off = record {
 
 bind_var_post : (d : ℕ) (A : Type 0) (st : State) (x : ℕ) (t : Ty) → Wf st.subst → bound st.subst x ≡ None → Resolved st.subst t → ¬ (t ≡ Var x)
     → x < length st.subst → Side (length st.subst) t → (A → Admitted st.subst t)
-    → Inside st.subst st.history A (λ σ. Same (σ x) (app σ t)) (bind_var d st x t)
+    → Inside st.subst st.history A (λ σ. SameTy (σ x) (app σ t)) (bind_var d st x t)
 unfolding bind_var set_var with_left BindingsClaim
 bind_var_post d A st x t w free res n lt side a = go (occurs d st.subst x st.left t) refl
   where
-    go : (o : Answer) → occurs d st.subst x st.left t ≡ o → Inside st.subst st.history A (λ σ. Same (σ x) (app σ t)) (bind_var d st x t)
+    go : (o : Answer) → occurs d st.subst x st.left t ≡ o → Inside st.subst st.history A (λ σ. SameTy (σ x) (app σ t)) (bind_var d st x t)
     go (yes_left v) e = rw (e, bind_var) (record {
       step = step_refl (with_left st v) w;
       here = λ k. k.here;
@@ -87,14 +87,14 @@ module _ (d : ℕ) (u : State → Ty → Ty → Unified) (rec : Entry u) (A : Ty
   -- The unknown on the right takes what is on the left.
   right_var : (a : Ty) (y : ℕ) → bound st.subst y ≡ None → Resolved st.subst a → ¬ (a ≡ Var y) → y < length st.subst
       → Side (length st.subst) a → (A → Admitted st.subst a)
-      → Inside st.subst st.history A (λ σ. Same (app σ a) (σ y)) (bind_var d st y a)
+      → Inside st.subst st.history A (λ σ. SameTy (app σ a) (σ y)) (bind_var d st y a)
   right_var a y free res n lt side p =
-      turn st.subst st.history A (λ σ. Same (σ y) (app σ a)) _ (bind_var d st y a) (λ σ. (same_sym (σ y) (app σ a), same_sym (app σ a) (σ y)))
+      turn st.subst st.history A (λ σ. SameTy (σ y) (app σ a)) _ (bind_var d st y a) (λ σ. (same_sym (σ y) (app σ a), same_sym (app σ a) (σ y)))
       (bind_var_post d A st y a w free res n lt side p)
 
   heads_post : (a b : Ty) → Resolved st.subst a → Resolved st.subst b → Side (length st.subst) a → Side (length st.subst) b
       → (A → Admitted st.subst a × Admitted st.subst b)
-      → Inside st.subst st.history A (λ σ. Same (app σ a) (app σ b)) (unify_heads d u st a b)
+      → Inside st.subst st.history A (λ σ. SameTy (app σ a) (app σ b)) (unify_heads d u st a b)
   unfolding unify_heads app
   heads_post Error Error e f i j p = beside_error _ _ A _ st (λ q. no_error (p q).0) (step_refl st w)
   heads_post Error (leaf y) e f i j p = beside_error _ _ A _ st (λ q. no_error (p q).0) (step_refl st w)
@@ -107,8 +107,8 @@ module _ (d : ℕ) (u : State → Ty → Ty → Unified) (rec : Entry u) (A : Ty
       (set_var_step st x Error w i tt (error_reaches st.subst x))
   heads_post (Var x) (Var y) e f i j p = go (eqb x y) refl
     where
-      go : (b : Bool) → eqb x y ≡ b → Inside st.subst st.history A (λ σ. Same (σ x) (σ y)) (unify_heads d u st (Var x) (Var y))
-      go true q = rw (q, unify_heads) (loosen _ _ A _ (Ok st) (stay st A _ w (λ o σ. subst (λ (z : ℕ). Same (σ x) (σ z)) (eqb-true x y q) (same_refl (σ x)))))
+      go : (b : Bool) → eqb x y ≡ b → Inside st.subst st.history A (λ σ. SameTy (σ x) (σ y)) (unify_heads d u st (Var x) (Var y))
+      go true q = rw (q, unify_heads) (loosen _ _ A _ (Ok st) (stay st A _ w (λ o σ. subst (λ (z : ℕ). SameTy (σ x) (σ z)) (eqb-true x y q) (same_refl (σ x)))))
       go false q = rw (q, unify_heads) (bind_var_post d A st x (Var y) w e f (λ o. eqb-false x y q (cc)) i j (λ o. (p o).1))
   heads_post (Var x) (leaf y) e f i j p = bind_var_post d A st x (leaf y) w e f (λ q. clash (cc)) i j (λ o. (p o).1)
   heads_post (Var x) (node k r) e f i j p = bind_var_post d A st x (node k r) w e f (λ q. clash (cc)) i j (λ o. (p o).1)
@@ -128,7 +128,7 @@ pub noted_end : (s : Subst) → s ≡ s ++ replicate (length s - length s) None
 noted_end s = let e : length s - length s ≡ 0 = omega arith in rw e (sym (append-nil s))
 
 module _ (s : Subst) (h : History) (a b : Ty) where
-  at_repr : (σ : ℕ → Ty) → Respects σ s → Same (app σ (repr s a)) (app σ (repr s b)) ↔ Same (app σ a) (app σ b)
+  at_repr : (σ : ℕ → Ty) → Respects σ s → SameTy (app σ (repr s a)) (app σ (repr s b)) ↔ SameTy (app σ a) (app σ b)
   at_repr σ R =
       let p = repr_same σ s a R in
       let q = repr_same σ s b R in (
@@ -136,8 +136,8 @@ module _ (s : Subst) (h : History) (a b : Ty) where
         same_both (app σ (repr s a)) (app σ a) (app σ (repr s b)) (app σ b) (same_sym (app σ a) (app σ (repr s a)) p) (same_sym (app σ b) (app σ (repr s b)) q),
       )
 
-  note_post : (res : Unified) → Inside s h (Admitted s a × Admitted s b) (λ σ. Same (app σ (repr s a)) (app σ (repr s b))) res
-      → Post s h (Admitted s a × Admitted s b) (λ σ. Same (app σ a) (app σ b)) (note s a b res)
+  note_post : (res : Unified) → Inside s h (Admitted s a × Admitted s b) (λ σ. SameTy (app σ (repr s a)) (app σ (repr s b))) res
+      → Post s h (Admitted s a × Admitted s b) (λ σ. SameTy (app σ a) (app σ b)) (note s a b res)
   unfolding note EntryClaim BindingsClaim live Noted
   note_post (Ok st) p = record {
     step = record {
@@ -152,7 +152,7 @@ module _ (s : Subst) (h : History) (a b : Ty) where
     same = sem;
   }
     where
-      sem : Admitted s a × Admitted s b → (σ : ℕ → Ty) → Respects σ st.subst ↔ (Respects σ s × Same (app σ a) (app σ b))
+      sem : Admitted s a × Admitted s b → (σ : ℕ → Ty) → Respects σ st.subst ↔ (Respects σ s × SameTy (app σ a) (app σ b))
       sem g σ =
           let e = p.same g σ in
           (λ R. let x = e.0 R in (x.0, (at_repr σ x.0).0 x.1), λ R. e.1 (R.0, (at_repr σ R.0).1 R.1))
@@ -175,14 +175,14 @@ module _ (s : Subst) (h : History) (a b : Ty) where
     never = sem;
   }
     where
-      sem : Admitted s a × Admitted s b → (σ : ℕ → Ty) → Respects σ s → ¬ Same (app σ a) (app σ b)
+      sem : Admitted s a × Admitted s b → (σ : ℕ → Ty) → Respects σ s → ¬ SameTy (app σ a) (app σ b)
       sem g σ R c = p.never g σ R ((at_repr σ R).1 c)
   note_post (Spent st) p = p
 
 inner_post : (d : ℕ) → Entry (λ st a b. unify_in d st a b) → (st : State) (v : ℕ) (a b : Ty) → Wf st.subst → Side (length st.subst) a
     → Side (length st.subst) b
     → Inside st.subst st.history (Admitted st.subst a × Admitted st.subst b)
-    (λ σ. Same (app σ (repr st.subst a)) (app σ (repr st.subst b))) (heads_in d st v a b)
+    (λ σ. SameTy (app σ (repr st.subst a)) (app σ (repr st.subst b))) (heads_in d st v a b)
 unfolding heads_in with_left repr
 inner_post d ih st v a b w i j =
     let s = st.subst in
@@ -197,7 +197,7 @@ unify_in_post zero A st a b w i j p = record { step = step_refl st w; here = λ 
 unify_in_post (suc d) A st a b w i j p = go st.left refl (λ A' st' a' b'. unify_in_post d A' st' a' b')
   where
     go : (v : ℕ) → st.left ≡ v → Entry (λ st' a' b'. unify_in d st' a' b')
-        → Post st.subst st.history A (λ σ. Same (app σ a) (app σ b)) (unify_in (suc d) st a b)
+        → Post st.subst st.history A (λ σ. SameTy (app σ a) (app σ b)) (unify_in (suc d) st a b)
     go zero e ih = rw (unify_in_spent d st a b e) (record { step = step_refl st w; here = λ k. k.here })
     go (suc v) e ih =
         rw (unify_in_visit d st v a b e)

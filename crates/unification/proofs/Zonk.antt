@@ -8,7 +8,7 @@ use native.Mathlib.Omega.{arith}
 use lib.ListN.{length}
 use Rattle.unification.specs.Ty.{Leaf, Kind, Ty, leaf, node, Var, Error, Row, ε, cell, app, app_row}
 use Rattle.unification.specs.Bindings.{Subst, bound, follow, repr, zonk_in, zonk}
-use Rattle.unification.specs.Calls.{Reaches, itself, inside, through, ReachesRow, first, later}
+use Rattle.unification.specs.Calls.{LeadsTo, itself, inside, through, RowLeadsTo, first, later}
 use Rattle.unification.specs.Tie.{solution}
 use Rattle.unification.proofs.Tests.{clash}
 use Rattle.unification.proofs.Order.{app_app, app_id, size, row_size}
@@ -20,7 +20,7 @@ use Rattle.std.specs.Prelude.{None, Option, Some}
 
 -- All unknowns in it are free.
 unfoldable pub Solved : Subst → Ty → Type 0
-Solved s t = (x : ℕ) → Reaches s t (Var x) → bound s x ≡ None
+Solved s t = (x : ℕ) → LeadsTo s t (Var x) → bound s x ≡ None
 
 pub zonk_none : (s : Subst) (t : Ty) → zonk_in zero s t ≡ t
 unfolding zonk_in
@@ -43,13 +43,13 @@ zonk_app k s t = refl
 mutual
   unfolding app
 
-  app_reaches : (s : Subst) (f : ℕ → Ty) (t : Ty) (z : ℕ) → Reaches s (app f t) (Var z) → (y : ℕ) × Reaches s t (Var y) × Reaches s (f y) (Var z)
+  app_reaches : (s : Subst) (f : ℕ → Ty) (t : Ty) (z : ℕ) → LeadsTo s (app f t) (Var z) → (y : ℕ) × LeadsTo s t (Var y) × LeadsTo s (f y) (Var z)
   app_reaches s f (leaf p) z h = absurd (leaf_reaches s p z h)
   app_reaches s f (node k r) z h = let x = app_row_reaches s f r z (node_reaches s k (app_row f r) z h) in (x.0, inside x.1, x.2)
   app_reaches s f (Var y) z h = (y, itself, h)
   app_reaches s f Error z h = absurd (error_reaches s z h)
 
-  app_row_reaches : (s : Subst) (f : ℕ → Ty) (r : Row) (z : ℕ) → ReachesRow s (app_row f r) (Var z) → (y : ℕ) × ReachesRow s r (Var y) × Reaches s (f y) (Var z)
+  app_row_reaches : (s : Subst) (f : ℕ → Ty) (r : Row) (z : ℕ) → RowLeadsTo s (app_row f r) (Var z) → (y : ℕ) × RowLeadsTo s r (Var y) × LeadsTo s (f y) (Var z)
   app_row_reaches s f ε z h = absurd (nil_reaches s z h)
   app_row_reaches s f (cell k l t r) z h = ⊎_elim
       (λ i. let x = app_reaches s f t z i in (x.0, first x.1, x.2))
@@ -60,13 +60,13 @@ mutual
   unfolding app
 
   -- Two substitutions that give the same to what is reached give the same type.
-  pub app_ext : (s : Subst) (f g : ℕ → Ty) (t : Ty) → ((x : ℕ) → Reaches s t (Var x) → f x ≡ g x) → app f t ≡ app g t
+  pub app_ext : (s : Subst) (f g : ℕ → Ty) (t : Ty) → ((x : ℕ) → LeadsTo s t (Var x) → f x ≡ g x) → app f t ≡ app g t
   app_ext s f g (leaf p) h = refl
   app_ext s f g (node k r) h = ap (node k) (app_row_ext s f g r (λ x i. h x (inside i)))
   app_ext s f g (Var x) h = h x itself
   app_ext s f g Error h = refl
 
-  app_row_ext : (s : Subst) (f g : ℕ → Ty) (r : Row) → ((x : ℕ) → ReachesRow s r (Var x) → f x ≡ g x) → app_row f r ≡ app_row g r
+  app_row_ext : (s : Subst) (f g : ℕ → Ty) (r : Row) → ((x : ℕ) → RowLeadsTo s r (Var x) → f x ≡ g x) → app_row f r ≡ app_row g r
   app_row_ext s f g ε h = refl
   app_row_ext s f g (cell k l t r) h = rw (app_ext s f g t (λ x i. h x (first i)), app_row_ext s f g r (λ x i. h x (later i)))
 
@@ -79,21 +79,21 @@ zonk_var k s x Q f g = go (bound s x) refl
     go None e = rw (zonk_free (suc k) s x e) (f e)
     go (Some t) e = rw (zonk_bound k s x t e) (g t e)
 
-zonk_reaches : (k : ℕ) (s : Subst) (t : Ty) (z : ℕ) → Reaches s (zonk_in k s t) (Var z) → Reaches s t (Var z)
+zonk_reaches : (k : ℕ) (s : Subst) (t : Ty) (z : ℕ) → LeadsTo s (zonk_in k s t) (Var z) → LeadsTo s t (Var z)
 unfolding zonk_in
 zonk_reaches zero s t z h = h
 zonk_reaches (suc k) s t z h =
     let x = app_reaches s (λ y. zonk_in (suc k) s (Var y)) t z (rw (zonk_app k s t) at h) in
-    reaches_trans s x.1 (zonk_var k s x.0 (λ u. Reaches s u (Var z) → Reaches s (Var x.0) (Var z)) (λ e i. i)
+    reaches_trans s x.1 (zonk_var k s x.0 (λ u. LeadsTo s u (Var z) → LeadsTo s (Var x.0) (Var z)) (λ e i. i)
     (λ u e i. through e (zonk_reaches k s u z i)) x.2)
 
 -- What does not reach x resolves without the binding of x.
-zonk_unset : (k : ℕ) (s : Subst) (x : ℕ) (t : Ty) → ¬ Reaches s t (Var x) → zonk_in k (unset s x) t ≡ zonk_in k s t
+zonk_unset : (k : ℕ) (s : Subst) (x : ℕ) (t : Ty) → ¬ LeadsTo s t (Var x) → zonk_in k (unset s x) t ≡ zonk_in k s t
 unfolding zonk_in
 zonk_unset zero s x t off = refl
 zonk_unset (suc k) s x t off = zonk_app k (unset s x) t ∙ app_ext s _ _ t (each (λ u. zonk_unset k s x u)) ∙ sym (zonk_app k s t)
   where
-    each : ((u : Ty) → ¬ Reaches s u (Var x) → zonk_in k (unset s x) u ≡ zonk_in k s u) → (y : ℕ) → Reaches s t (Var y)
+    each : ((u : Ty) → ¬ LeadsTo s u (Var x) → zonk_in k (unset s x) u ≡ zonk_in k s u) → (y : ℕ) → LeadsTo s t (Var y)
         → zonk_in (suc k) (unset s x) (Var y) ≡ zonk_in (suc k) s (Var y)
     each ih y i =
         let same : bound (unset s x) y ≡ bound s y = unset_other s x y (λ p. off (rw (← p) i)) in
@@ -101,7 +101,7 @@ zonk_unset (suc k) s x t off = zonk_app k (unset s x) t ∙ app_ext s _ _ t (eac
         (λ e. zonk_free (suc k) (unset s x) y (same ∙ e))
         (λ u e. zonk_bound k (unset s x) y u (same ∙ e) ∙ ih u (λ h. off (reaches_trans s i (through e h))))
 
-solved_set : (s : Subst) (x : ℕ) (t : Ty) → ¬ Reaches s t (Var x) → Solved (unset s x) t → Solved s t
+solved_set : (s : Subst) (x : ℕ) (t : Ty) → ¬ LeadsTo s t (Var x) → Solved (unset s x) t → Solved s t
 unfolding Solved
 solved_set s x t off h z i = sym (unset_other s x z (λ p. off (rw (← p) i))) ∙ h z (unset_reaches s x off i)
 

@@ -4,11 +4,11 @@ use Rattle.std.specs.Prelude.{◌≡◌, ℕ, Some}
 use mathlib.Core.WellFounded.{Acc}
 use Rattle.unification.specs.Ty.{Ty, Var}
 use Rattle.unification.specs.Bindings.{Subst, bound}
-use Rattle.unification.specs.Calls.{Reaches}
+use Rattle.unification.specs.Calls.{LeadsTo}
 
 -- y is reached behind the binding of x.
 unfoldable pub Behind : Subst → ℕ → ℕ → Type 0
-Behind s y x = (t : Ty) × (bound s x ≡ Some t) × Reaches s t (Var y)
+Behind s y x = (t : Ty) × (bound s x ≡ Some t) × LeadsTo s t (Var y)
 
 unfoldable pub Acyclic : Subst → Type 0
 Acyclic s = (x : ℕ) → Acc (Behind s) x

@@ -2,7 +2,7 @@
 -- clauses of the claim.
 use Rattle.std.specs.Prelude.{Bool, true, false, List, [], ◌∷◌, ◌++◌, ◌↔◌, ◌≢◌, ◌≡◌, ℕ, ◌-◌, ◌<◌, ◌≤◌, length, replicate, None, Option, Some}
 use Rattle.unification.specs.Ty.{Kind, Record, Union, Ty, leaf, node, Var, Error, Row, ε, cell, app}
-use Rattle.unification.specs.Order.{Same, Finite}
+use Rattle.unification.specs.Order.{SameTy, Finite}
 use Rattle.unification.specs.Bindings.{Subst, bound, History, start, ended, rolled, State, with_left, fresh, annotate, Snapshot, snapshot, rollback}
 use Rattle.unification.specs.Unify.{TyError, Ok, Err, Spent, unify}
 
@@ -13,9 +13,9 @@ abbrev pub Lacks : ℕ → Row → Type 0
 Lacks k ε = Unit {0}
 Lacks k (cell m l t r) = (k ≢ m) × Lacks k r
 
-abbrev pub Distinct : Row → Type 0
-Distinct ε = Unit {0}
-Distinct (cell k l t r) = Lacks k r × Distinct r
+abbrev pub DistinctKeys : Row → Type 0
+DistinctKeys ε = Unit {0}
+DistinctKeys (cell k l t r) = Lacks k r × DistinctKeys r
 
 -- The label that a cell has by its row's kind: in a record 0.
 abbrev pub Labelled : Kind → ℕ → Type 0
@@ -26,7 +26,7 @@ Labelled Union l = Unit {0}
 abbrev mutual
   pub Declared : Ty → Type 0
   Declared (leaf p) = Unit {0}
-  Declared (node k r) = Distinct r × DeclaredRow k r
+  Declared (node k r) = DistinctKeys r × DeclaredRow k r
   Declared (Var x) = ⊥
   Declared Error = ⊥
 
@@ -50,30 +50,30 @@ abbrev mutual
 -- ---- Reaching: a side reaches itself, what stands in it at any depth and, for each unknown it reaches, what the binding
 -- of that unknown reaches. (A Fact's key is no part of it.)
 mutual
-  pub data Reaches (s : Subst) : Ty → Ty → Type 0 where
-    itself : {t : Ty} → Reaches s t t
-    inside : {k : Kind} {r : Row} {u : Ty} → ReachesRow s r u → Reaches s (node k r) u
-    through : {x : ℕ} {t u : Ty} → bound s x ≡ Some t → Reaches s t u → Reaches s (Var x) u
+  pub data LeadsTo (s : Subst) : Ty → Ty → Type 0 where
+    itself : {t : Ty} → LeadsTo s t t
+    inside : {k : Kind} {r : Row} {u : Ty} → RowLeadsTo s r u → LeadsTo s (node k r) u
+    through : {x : ℕ} {t u : Ty} → bound s x ≡ Some t → LeadsTo s t u → LeadsTo s (Var x) u
 
-  pub data ReachesRow (s : Subst) : Row → Ty → Type 0 where
-    first : {k l : ℕ} {t u : Ty} {r : Row} → Reaches s t u → ReachesRow s (cell k l t r) u
-    later : {k l : ℕ} {t u : Ty} {r : Row} → ReachesRow s r u → ReachesRow s (cell k l t r) u
+  pub data RowLeadsTo (s : Subst) : Row → Ty → Type 0 where
+    first : {k l : ℕ} {t u : Ty} {r : Row} → LeadsTo s t u → RowLeadsTo s (cell k l t r) u
+    later : {k l : ℕ} {t u : Ty} {r : Row} → RowLeadsTo s r u → RowLeadsTo s (cell k l t r) u
 
 -- Neither an Error nor a record that names a field twice.
 abbrev pub Allowed : Ty → Type 0
 Allowed (leaf p) = Unit {0}
-Allowed (node Record r) = Distinct r
+Allowed (node Record r) = DistinctKeys r
 Allowed (node Union r) = Unit {0}
 Allowed (Var x) = Unit {0}
 Allowed Error = ⊥
 
 -- The proviso, of one side by the bindings at the start of the unification.
 unfoldable pub Admitted : Subst → Ty → Type 0
-Admitted s t = (u : Ty) → Reaches s t u → Allowed u
+Admitted s t = (u : Ty) → LeadsTo s t u → Allowed u
 
 -- An unknown leads back to itself.
 unfoldable pub LeadsBack : Subst → ℕ → Type 0
-LeadsBack s x = (t : Ty) × (bound s x ≡ Some t) × Reaches s t (Var x)
+LeadsBack s x = (t : Ty) × (bound s x ≡ Some t) × LeadsTo s t (Var x)
 
 -- ---- Assignments
 
@@ -83,7 +83,7 @@ Assignment σ = (x : ℕ) → Finite (σ x)
 
 -- A binding is respected when the unknown and what it is bound to become equal up to order.
 unfoldable pub Respects : (ℕ → Ty) → Subst → Type 0
-Respects σ s = (x : ℕ) (t : Ty) → bound s x ≡ Some t → Same (σ x) (app σ t)
+Respects σ s = (x : ℕ) (t : Ty) → bound s x ≡ Some t → SameTy (σ x) (app σ t)
 
 -- ---- The list of calls
 
@@ -125,31 +125,31 @@ pub data Calls (v : ℕ) (tys : List (Option Ty)) : Machine → Type 0 where
 -- ---- The claim
 
 -- A unification that succeeded and is not undone: the bindings at its start and its sides.
-pub record Entry : Type 0 where
+pub record UnifyEntry : Type 0 where
   pub before : Subst
   pub got : Ty
   pub expected : Ty
 
 -- A rollback undoes the unifications begun after its snapshot. (No snapshot is taken inside a unification.)
-unfoldable pub live : History → List Entry
+unfoldable pub live : History → List UnifyEntry
 live start = []
 live (ended s a b true s' h) = record { before = s; got = a; expected = b } ∷ live h
 live (ended s a b false s' h) = live h
 live (rolled past s s' h) = live past
 
-abbrev pub AllAdmitted : List Entry → Type 0
+abbrev pub AllAdmitted : List UnifyEntry → Type 0
 AllAdmitted [] = Unit {0}
 AllAdmitted (e ∷ es) = Admitted e.before e.got × Admitted e.before e.expected × AllAdmitted es
 
 -- σ makes the sides of each equal up to order.
-abbrev pub MakesEqual : (ℕ → Ty) → List Entry → Type 0
+abbrev pub MakesEqual : (ℕ → Ty) → List UnifyEntry → Type 0
 MakesEqual σ [] = Unit {0}
-MakesEqual σ (e ∷ es) = Same (app σ e.got) (app σ e.expected) × MakesEqual σ es
+MakesEqual σ (e ∷ es) = SameTy (app σ e.got) (app σ e.expected) × MakesEqual σ es
 
 -- (a) One unification: the assignments that respect the bindings after it, by those that respect the bindings before it.
 unfoldable pub EntryClaim : ((ℕ → Ty) → Type 0) → Subst → Ty → Ty → Bool → Subst → Type 0
-EntryClaim P s a b true s' = Admitted s a → Admitted s b → (σ : ℕ → Ty) → P σ → Respects σ s' ↔ (Respects σ s × Same (app σ a) (app σ b))
-EntryClaim P s a b false s' = Admitted s a → Admitted s b → (σ : ℕ → Ty) → P σ → Respects σ s → ¬ Same (app σ a) (app σ b)
+EntryClaim P s a b true s' = Admitted s a → Admitted s b → (σ : ℕ → Ty) → P σ → Respects σ s' ↔ (Respects σ s × SameTy (app σ a) (app σ b))
+EntryClaim P s a b false s' = Admitted s a → Admitted s b → (σ : ℕ → Ty) → P σ → Respects σ s → ¬ SameTy (app σ a) (app σ b)
 
 -- (b) The bindings of a moment, by all that succeeded and is not undone.
 unfoldable pub BindingsClaim : ((ℕ → Ty) → Type 0) → Subst → History → Type 0

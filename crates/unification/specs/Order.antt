@@ -10,29 +10,29 @@ pub data Inserted (k l : ℕ) (t : Ty) : Row → Row → Type 0 where
   there : {m n : ℕ} {u : Ty} {r s : Row} → Inserted k l t r s → Inserted k l t (cell m n u r) (cell m n u s)
 
 abbrev mutual
-  pub Same : Ty → Ty → Type 0
-  Same (leaf p) (leaf q) = p ≡ q
-  Same (leaf p) (node k r) = ⊥
-  Same (leaf p) (Var x) = ⊥
-  Same (leaf p) Error = ⊥
-  Same (node k r) (leaf p) = ⊥
-  Same (node k r) (node k' r') = (k ≡ k') × SameRow r r'
-  Same (node k r) (Var x) = ⊥
-  Same (node k r) Error = ⊥
-  Same (Var x) (leaf p) = ⊥
-  Same (Var x) (node k r) = ⊥
-  Same (Var x) (Var y) = x ≡ y
-  Same (Var x) Error = ⊥
-  Same Error (leaf p) = ⊥
-  Same Error (node k r) = ⊥
-  Same Error (Var x) = ⊥
-  Same Error Error = Unit {0}
+  pub SameTy : Ty → Ty → Type 0
+  SameTy (leaf p) (leaf q) = p ≡ q
+  SameTy (leaf p) (node k r) = ⊥
+  SameTy (leaf p) (Var x) = ⊥
+  SameTy (leaf p) Error = ⊥
+  SameTy (node k r) (leaf p) = ⊥
+  SameTy (node k r) (node k' r') = (k ≡ k') × SameRow r r'
+  SameTy (node k r) (Var x) = ⊥
+  SameTy (node k r) Error = ⊥
+  SameTy (Var x) (leaf p) = ⊥
+  SameTy (Var x) (node k r) = ⊥
+  SameTy (Var x) (Var y) = x ≡ y
+  SameTy (Var x) Error = ⊥
+  SameTy Error (leaf p) = ⊥
+  SameTy Error (node k r) = ⊥
+  SameTy Error (Var x) = ⊥
+  SameTy Error Error = Unit {0}
 
   -- Each cell of the first row has a partner of its own in the second, and none is left over there.
   pub SameRow : Row → Row → Type 0
   SameRow ε ε = Unit {0}
   SameRow ε (cell k l t s) = ⊥
-  SameRow (cell k l t r) s = (t' : Ty) × (s' : Row) × Same t t' × SameRow r s' × Inserted k l t' s' s
+  SameRow (cell k l t r) s = (t' : Ty) × (s' : Row) × SameTy t t' × SameRow r s' × Inserted k l t' s' s
 
 abbrev mutual
   pub Finite : Ty → Type 0

@@ -2,7 +2,7 @@
 -- unifier, most general unifier, over types whose fields and alternatives are unordered.
 use Rattle.std.specs.Prelude.{List, [], ◌∷◌, ℕ}
 use Rattle.unification.specs.Ty.{Ty, app}
-use Rattle.unification.specs.Order.{Same}
+use Rattle.unification.specs.Order.{SameTy}
 
 abbrev pub Substitution : Type 0
 Substitution = ℕ → Ty
@@ -16,11 +16,11 @@ pub record Equation : Type 0 where
   pub right : Ty
 
 -- θ makes the two sides of each equation the same.
-abbrev pub Unifies : Substitution → List Equation → Type 0
-Unifies θ [] = Unit {0}
-Unifies θ (e ∷ es) = Same (app θ e.left) (app θ e.right) × Unifies θ es
+abbrev pub IsUnifier : Substitution → List Equation → Type 0
+IsUnifier θ [] = Unit {0}
+IsUnifier θ (e ∷ es) = SameTy (app θ e.left) (app θ e.right) × IsUnifier θ es
 
 -- Every other unifier is this one followed by some substitution.
 pub record MostGeneral (θ : Substitution) (es : List Equation) : Type 0 where
-  pub unifies : Unifies θ es
-  pub general : (η : Substitution) → Unifies η es → (μ : Substitution) × ((x : ℕ) → Same (η x) (◌then◌ θ μ x))
+  pub unifies : IsUnifier θ es
+  pub general : (η : Substitution) → IsUnifier η es → (μ : Substitution) × ((x : ℕ) → SameTy (η x) (◌then◌ θ μ x))

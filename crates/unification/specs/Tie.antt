@@ -4,7 +4,7 @@ use Rattle.std.specs.Prelude.{Bool, true, false, List, [], ◌∷◌, ℕ, zero,
 use Rattle.unification.specs.Ty.{Ty, Var}
 use Rattle.unification.specs.Bindings.{Subst, zonk, History, start, ended, rolled}
 use Rattle.unification.specs.Calls.{Admitted}
-use Rattle.unification.specs.Robinson.{Substitution, Equation, Unifies, MostGeneral}
+use Rattle.unification.specs.Robinson.{Substitution, Equation, IsUnifier, MostGeneral}
 
 -- The bindings from the x-th unknown on: each bound one equals what it is bound to.
 unfoldable pub equations_from : ℕ → Subst → List Equation
@@ -28,7 +28,7 @@ Together s a b = record { left = a; right = b } ∷ equations s
 -- A unification that ended. Success: the bindings after it are a most general unifier. Failure: there is no unifier.
 abbrev pub AsRobinson : Subst → Ty → Ty → Bool → Subst → Type 0
 AsRobinson s a b true s' = MostGeneral (solution s') (Together s a b)
-AsRobinson s a b false s' = (θ : Substitution) → ¬ Unifies θ (Together s a b)
+AsRobinson s a b false s' = (θ : Substitution) → ¬ IsUnifier θ (Together s a b)
 
 -- Every unification of a history that demand 3's proviso admits, those inside another included.
 abbrev pub AllAsRobinson : History → Type 0

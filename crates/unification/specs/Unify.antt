@@ -48,7 +48,8 @@ map_err e (Spent st) = Spent st
 -- `bind_var`
 unfoldable pub bind_var : ℕ → State → ℕ → Ty → Unified
 unfolding occurs set_var with_left
-bind_var d st x t = elim (occurs d st.subst x st.left t) [ yes_left v ↦ Err Infinite (with_left st v) | no_left v ↦ Ok (set_var (with_left st v) x t) | spent ↦ Spent (with_left st zero) ]
+bind_var d st x t = elim (occurs d st.subst x st.left t)
+    [ yes_left v ↦ Err Infinite (with_left st v) | no_left v ↦ Ok (set_var (with_left st v) x t) | spent ↦ Spent (with_left st zero) ]
 
 -- The first cell with this key: its label and its type.
 unfoldable pub find_key : ℕ → Row → Option (ℕ × Ty)
@@ -96,12 +97,14 @@ unfolding map_err
 unify_alternative u st differ k None None = Ok st
 unify_alternative u st differ k None (Some y) = Err (differ (Absent y.0 k)) st
 unify_alternative u st differ k (Some x) None = Err (differ (Absent x.0 k)) st
-unify_alternative u st differ k (Some x) (Some y) = elim (eqb x.0 y.0) [ true ↦ map_err (differ (Payload x.0 k)) (u st x.1 y.1) | false ↦ Err (differ (Renamed y.0 x.0 k)) st ]
+unify_alternative u st differ k (Some x) (Some y) =
+    elim (eqb x.0 y.0) [ true ↦ map_err (differ (Payload x.0 k)) (u st x.1 y.1) | false ↦ Err (differ (Renamed y.0 x.0 k)) st ]
 
 unfoldable pub unify_alternatives : (State → Ty → Ty → Unified) → State → (UnionDiff → TyError) → List ℕ → Row → Row → Unified
 unfolding unify_alternative and_then find_key
 unify_alternatives u st differ [] xs ys = Ok st
-unify_alternatives u st differ (k ∷ ks) xs ys = and_then (unify_alternative u st differ k (find_key k xs) (find_key k ys)) (λ st'. unify_alternatives u st' differ ks xs ys)
+unify_alternatives u st differ (k ∷ ks) xs ys =
+    and_then (unify_alternative u st differ k (find_key k xs) (find_key k ys)) (λ st'. unify_alternatives u st' differ ks xs ys)
 
 -- `unify_union`
 unfoldable pub unify_union : (State → Ty → Ty → Unified) → State → Row → Row → Unified
@@ -146,7 +149,11 @@ note s a b (Spent st) = Spent st
 unfoldable pub unify_in : ℕ → State → Ty → Ty → Unified
 unfolding unify_heads repr note with_left
 unify_in zero st got expected = Spent st
-unify_in (suc d) st got expected = elim st.left [ zero ↦ Spent st | suc v ↦ note st.subst got expected (unify_heads d (λ st' a b. unify_in d st' a b) (with_left st v) (repr st.subst got) (repr st.subst expected)) ]
+unify_in (suc d) st got expected = elim st.left [
+  | zero ↦ Spent st
+  | suc v ↦ note st.subst got expected
+      (unify_heads d (λ st' a b. unify_in d st' a b) (with_left st v) (repr st.subst got) (repr st.subst expected))
+]
 
 unfoldable pub unify : State → Ty → Ty → Unified
 unfolding unify_in

@@ -1,7 +1,7 @@
 // `unify` and `orderable` over the cells, as ty.rs has them. A visit is counted at each entry.
 #![tactic(auto)]
 
-ghost use Rattle.std.specs.Prelude.{◌≡◌, ◌↔◌, IsTrue, get_or};
+ghost use Rattle.std.specs.Prelude.{Err, SomeIff, ◌≡◌, ◌↔◌, ◌≤◌, ◌-◌, IsTrue, get_or, ok_or};
 ghost use Rattle.work.specs.Layout.{UNDO-LEN};
 ghost use Rattle.unify.specs.Last.{Remembers};
 ghost use Rattle.cells.specs.Words.{after_w};
@@ -16,70 +16,105 @@ use cells::{
     part_count, part_ty, place_from, place_of, repr, set_var, snapshot,
 };
 
-// The words and the visits left are two parameters all through: the visits come back in each result, with a failure
-// too, so that `?` hands both on; a struct of both would be taken out of a run (crate state), which stands above this,
-// at each entry. The two cells that are compared, `c` and `d`, part again in the first call below.
-fn bind_var(w: &mut [u32], x: u32, t: Ty, left: u32) -> Result<u32, Failure>
-    ensures { BindsVar w.old x t left w.new result }
+// Inside, the visits left come back where the sides unify, and where they do not, `why` holds the failure: it stands
+// once, below all entries, since in each result it would have room of its own on the stack at every depth.
+fn fail(why: &mut Failure, failure: Failure) -> Option<u32>
+    ensures { ok_or result why.new ≡ Err failure }
 {
-    let (found, l) = occurs(w, x, t, left).ok_or(Failure::Spent)?;
+    *why = failure;
+    None
+}
+
+fn spend(left: u32, cost: u32, why: &mut Failure) -> Option<u32>
+    ensures rest { SomeIff result (cost ≤ left) (left - cost) }
+    ensures why { ok_or result why.new ≡ ok_or result Failure.Spent }
+{
+    let rest = left.checked_sub(cost);
+    if rest.is_none() {
+        *why = Failure::Spent;
+    }
+    rest
+}
+
+// The words and the visits left are two parameters all through: `?` hands the visits on; a struct of both would be taken
+// out of a run (crate state), which stands above this, at each entry. The two cells that are compared, `c` and `d`, part
+// again in the first call below. Here and at `unify_union` `#[inline(never)]` keeps what records do not use out of the
+// frames that stand on the stack once for each depth of a record.
+#[inline(never)]
+fn bind_var(w: &mut [u32], x: u32, t: Ty, left: u32, why: &mut Failure) -> Option<u32>
+    ensures { BindsVar w.old x t left w.new (ok_or result why.new) }
+{
+    let Some((found, l)) = occurs(w, x, t, left) else {
+        return fail(why, Failure::Spent);
+    };
     if found {
-        return Err(Failure::Bad(TyError::Infinite, l));
+        return fail(why, Failure::Bad(TyError::Infinite, l));
     }
     set_var(w, x, t);
-    Ok(l)
+    Some(l)
 }
 
 // `got` is the type of the node that the caller reports at. Two parameters, by the names of ty.rs: each is looked up by
 // itself at once.
-#[cycle(unifying)]
 pub fn unify(w: &mut [u32], got: Ty, expected: Ty, left: u32) -> Result<u32, Failure>
     ensures { Unifies w.old got expected left w.new result }
 {
-    let rest = left.checked_sub(1).ok_or(Failure::Spent)?;
-    let a = repr(w, got);
-    let b = repr(w, expected);
-    unify_heads(w, a, b, rest)
+    let mut why = Failure::Spent;
+    let rest = unify_sides(w, got, expected, left, &mut why);
+    rest.ok_or(why)
 }
 
 #[cycle(unifying)]
-fn unify_heads(w: &mut [u32], a: Ty, b: Ty, left: u32) -> Result<u32, Failure>
-    ensures { UnifiesHeads w.old a b left w.new result }
+fn unify_sides(w: &mut [u32], got: Ty, expected: Ty, left: u32, why: &mut Failure) -> Option<u32>
+    ensures { Unifies w.old got expected left w.new (ok_or result why.new) }
+{
+    let rest = spend(left, 1, why)?;
+    let a = repr(w, got);
+    let b = repr(w, expected);
+    unify_heads(w, a, b, rest, why)
+}
+
+#[cycle(unifying)]
+fn unify_heads(w: &mut [u32], a: Ty, b: Ty, left: u32, why: &mut Failure) -> Option<u32>
+    ensures { UnifiesHeads w.old a b left w.new (ok_or result why.new) }
 {
     match (a, b) {
         (Ty::Error, Ty::Var(x)) | (Ty::Var(x), Ty::Error) => {
             set_var(w, x, Ty::Error);
-            Ok(left)
+            Some(left)
         }
-        (Ty::Error, _) | (_, Ty::Error) => Ok(left),
-        (Ty::Var(x), Ty::Var(y)) if x == y => Ok(left),
-        (Ty::Var(x), _) => bind_var(w, x, b, left),
-        (_, Ty::Var(y)) => bind_var(w, y, a, left),
-        _ => unify_shapes(w, a, b, left),
+        (Ty::Error, _) | (_, Ty::Error) => Some(left),
+        (Ty::Var(x), Ty::Var(y)) if x == y => Some(left),
+        (Ty::Var(x), _) => bind_var(w, x, b, left, why),
+        (_, Ty::Var(y)) => bind_var(w, y, a, left, why),
+        _ => unify_shapes(w, a, b, left, why),
     }
 }
 
 #[cycle(unifying)]
-fn unify_shapes(w: &mut [u32], a: Ty, b: Ty, left: u32) -> Result<u32, Failure>
-    ensures { UnifiesShapes w.old a b left w.new result }
+fn unify_shapes(w: &mut [u32], a: Ty, b: Ty, left: u32, why: &mut Failure) -> Option<u32>
+    ensures { UnifiesShapes w.old a b left w.new (ok_or result why.new) }
 {
     match (a, b) {
-        (Ty::Record(c), Ty::Record(d)) => unify_record(w, c, d, left),
-        (Ty::Union(c), Ty::Union(d)) => unify_union(w, c, d, left),
-        _ if a == b => Ok(left),
-        _ => Err(Failure::Bad(TyError::Mismatch(b, a), left)),
+        (Ty::Record(c), Ty::Record(d)) => unify_record(w, c, d, left, why),
+        (Ty::Union(c), Ty::Union(d)) => unify_union(w, c, d, left, why),
+        _ if a == b => Some(left),
+        _ => fail(why, Failure::Bad(TyError::Mismatch(b, a), left)),
     }
 }
 
 #[cycle(unifying)]
-fn unify_record(w: &mut [u32], c: u32, d: u32, left: u32) -> Result<u32, Failure>
-    ensures { UnifiesRecord w.old c d left w.new result }
+fn unify_record(w: &mut [u32], c: u32, d: u32, left: u32, why: &mut Failure) -> Option<u32>
+    ensures { UnifiesRecord w.old c d left w.new (ok_or result why.new) }
 {
     let n = count(w, c);
     if n == count(w, d) {
-        unify_fields(w, c, d, n, left)
+        unify_fields(w, c, d, n, left, why)
     } else {
-        Err(Failure::Bad(TyError::Mismatch(Ty::Record(d), Ty::Record(c)), left))
+        fail(
+            why,
+            Failure::Bad(TyError::Mismatch(Ty::Record(d), Ty::Record(c)), left),
+        )
     }
 }
 
@@ -122,38 +157,39 @@ fn unify_next(
     got: Ty,
     expected: Ty,
     left: u32,
-) -> Result<u32, Failure>
-    ensures { UnifiesNext w.old (Remembers last.old) got expected left w.new (Remembers last.new) result }
+    why: &mut Failure,
+) -> Option<u32>
+    ensures { UnifiesNext w.old (Remembers last.old) got expected left w.new (Remembers last.new) (ok_or result why.new) }
 {
     if last.is(w, got, expected) {
-        return left.checked_sub(last.cost).ok_or(Failure::Spent);
+        return spend(left, last.cost, why);
     }
     let log = snapshot(w);
-    let rest = unify(w, got, expected, left)?;
+    let rest = unify_sides(w, got, expected, left, why)?;
     *last = Last {
         got,
         expected,
         cost: left - rest,
         log,
     };
-    Ok(rest)
+    Some(rest)
 }
 
 // Each name of the found side is sought in the expected.
 #[cycle(unifying)]
-fn unify_fields(w: &mut [u32], c: u32, d: u32, n: u32, left: u32) -> Result<u32, Failure>
-    ensures { UnifiesFields w.old c d n left w.new result }
+fn unify_fields(w: &mut [u32], c: u32, d: u32, n: u32, left: u32, why: &mut Failure) -> Option<u32>
+    ensures { UnifiesFields w.old c d n left w.new (ok_or result why.new) }
 {
     let mut rest = left;
     let mut last = Last::new();
     for j in 0..n {
         let p = field(w, c, j);
         let Some(i) = place_of(w, Kind::Fields, d, p.key) else {
-            return Err(Failure::Bad(TyError::UnknownField(p.key), rest));
+            return fail(why, Failure::Bad(TyError::UnknownField(p.key), rest));
         };
-        rest = unify_next(w, &mut last, p.ty, field(w, d, i).ty, rest)?;
+        rest = unify_next(w, &mut last, p.ty, field(w, d, i).ty, rest, why)?;
     }
-    Ok(rest)
+    Some(rest)
 }
 
 // The least discriminant of one union that is not below `from`, or `best` where that is less. The first i alternatives
@@ -218,9 +254,10 @@ fn after(a: u32, i: u32) -> u32
 
 // Discriminants ascending: presence on both sides, then the name, then the payload; each is compared whole before the
 // next. A failure inside becomes a difference of the payload. The next is sought from the last one on: no range has it.
+#[inline(never)]
 #[cycle(unifying)]
-fn unify_union(w: &mut [u32], c: u32, d: u32, left: u32) -> Result<u32, Failure>
-    ensures { UnifiesUnion w.old c d left w.new result }
+fn unify_union(w: &mut [u32], c: u32, d: u32, left: u32, why: &mut Failure) -> Option<u32>
+    ensures { UnifiesUnion w.old c d left w.new (ok_or result why.new) }
 {
     let mut from: u64 = 0;
     let mut rest = left;
@@ -232,29 +269,35 @@ fn unify_union(w: &mut [u32], c: u32, d: u32, left: u32) -> Result<u32, Failure>
             (Some(a), Some(b)) => (a, b),
             (Some(a), None) => {
                 let diff = UnionDiff::Absent(alternative(w, c, a).label, k);
-                return Err(differ(c, d, diff, rest));
+                return fail(why, differ(c, d, diff, rest));
             }
             (None, Some(b)) => {
                 let diff = UnionDiff::Absent(alternative(w, d, b).label, k);
-                return Err(differ(c, d, diff, rest));
+                return fail(why, differ(c, d, diff, rest));
             }
-            (None, None) => return Ok(rest),
+            (None, None) => return Some(rest),
         };
         let p = alternative(w, c, a);
         let q = alternative(w, d, b);
         if p.label != q.label {
-            return Err(differ(c, d, UnionDiff::Renamed(q.label, p.label, k), rest));
+            return fail(
+                why,
+                differ(c, d, UnionDiff::Renamed(q.label, p.label, k), rest),
+            );
         }
         let diff = UnionDiff::Payload(p.label, k);
-        rest = unify_next(w, &mut last, p.ty, q.ty, rest).map_err(|e| match e {
-            Failure::Bad(_, l) => differ(c, d, diff, l),
-            Failure::Spent => e,
-        })?;
+        let Some(l) = unify_next(w, &mut last, p.ty, q.ty, rest, why) else {
+            if let Failure::Bad(_, l) = *why {
+                *why = differ(c, d, diff, l);
+            }
+            return None;
+        };
+        rest = l;
         i = after(a, i);
         j = after(b, j);
         from = u64::from(k) + 1;
     }
-    Ok(rest)
+    Some(rest)
 }
 
 fn differ(c: u32, d: u32, diff: UnionDiff, left: u32) -> Failure

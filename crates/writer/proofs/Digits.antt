@@ -3,7 +3,7 @@ use Rattle.std.proofs.Common.{◌≡◌, ℕ, ◌/◌, ◌%◌, List, [], ◌∷
 use Rattle.std.specs.Int.{w32, to_be_bytes}
 use Rattle.std.proofs.lemmas.Bool.{agree_below, agree_below_at}
 use Rattle.writer.specs.declared.TheConstants.{DIGITS}
-use Rattle.meaning.specs.Answer.{hex_digit, hex_line, bytes₂}
+use Rattle.format.specs.Bytes.{hex_digit, hex_line, bytes₂}
 use Rattle.writer.specs.Writes.{Writes, hex_of}
 use Rattle.writer.proofs.Writing.{writes_then, writes_full, writes_as}
 

@@ -1,7 +1,8 @@
 -- A text is written byte by byte, two digits to a byte.
-use Rattle.std.proofs.Common.{◌≡◌, ℕ, ◌+◌, ◌-◌, ◌*◌, ◌/◌, ◌%◌, ◌≤◌, ◌<◌, List, [], ◌∷◌, ◌++◌, length, get_or, set, take, None, Some, refl, arith, length-set, take_all}
+use Rattle.std.proofs.Common.{◌≡◌, ℕ, ◌+◌, ◌-◌, ◌*◌, ◌/◌, ◌%◌, ◌≤◌, ◌<◌, List, [], ◌∷◌, ◌++◌, length, get_or, set, take, None, Some, refl, arith, length-set}
+use Rattle.std.proofs.Common.{take_all}
 use Rattle.std.proofs.lemmas.List.{take_more}
-use Rattle.meaning.specs.Answer.{hex_digit}
+use Rattle.format.specs.Bytes.{hex_digit}
 use Rattle.writer.specs.Writes.{Writes, WritesText, hex_of}
 use Rattle.writer.proofs.Writing.{writes_none, writes_one, writes_then, writes_as, writes_moves, full_moves}
 use Rattle.writer.proofs.Digits.{hex_append}

@@ -1,6 +1,8 @@
 -- One writer after another is the writer of the joined text: the first leaves the place where the second starts, and what
 -- the first could not finish the two cannot.
-use Rattle.std.proofs.Common.{◌≡◌, ℕ, suc, ◌+◌, ◌-◌, ◌≤◌, ◌<◌, List, [], ◌∷◌, ◌++◌, length, take, drop, get_or, set, None, Option, Some, refl, sym, ap, ◌∙◌, append_assoc, append-nil, add-one, arith, length-append, length-take, length-drop, length-set, take-append-drop, replicate, drop_of_length-le}
+use Rattle.std.proofs.Common.{◌≡◌, ℕ, suc, ◌+◌, ◌-◌, ◌≤◌, ◌<◌, List, [], ◌∷◌, ◌++◌, length, take, drop, get_or, set, None, Option, Some, refl, sym, ap, ◌∙◌}
+use Rattle.std.proofs.Common.{append_assoc, append-nil, add-one, arith, length-append, length-take, length-drop, length-set, take-append-drop, replicate}
+use Rattle.std.proofs.Common.{drop_of_length-le}
 use Rattle.std.proofs.Math.Decide.{dec_le}
 use Rattle.std.proofs.lemmas.List.{take_more, take_all}
 use Rattle.std.proofs.Math.Seq.{length-take-le, take_at, drop-append-add, drop-drop, set_split, append_snoc}
@@ -143,7 +145,8 @@ pub writes_to : {A : Type 0} {out : List A} {at : ℕ} {a : List A} {out' : List
 writes_to f e = ends_there (λ h. (f.fits h).0) f.over e
 
 -- What the caller of a whole text is told: it stands at the slice's start and ends where it is said, or it is longer than the slice.
-pub whole_there : {A : Type 0} {out a out' : List A} {r : Option ℕ} {n : ℕ} → Writes out 0 a out' r → r ≡ Some n → (n ≡ length a) × (n ≤ length out) × (take n out' ≡ a)
+pub whole_there : {A : Type 0} {out a out' : List A} {r : Option ℕ} {n : ℕ} → Writes out 0 a out' r → r ≡ Some n → (n ≡ length a) × (n ≤ length out)
+    × (take n out' ≡ a)
 unfolding placed
 whole_there {out} {a} {out'} {r} {n} f e =
     let h = writes_to f e in

@@ -1,7 +1,7 @@
 -- What it is to write a text into a lent slice from a place on: where it fits, it stands there and the rest of the slice is as
 -- it was; where it does not, the slice is full. So a slice is full exactly where the text is longer than the room.
 use Rattle.std.specs.Prelude.{List, [], ◌∷◌, ◌++◌, ◌≡◌, ℕ, ◌+◌, ◌/◌, ◌%◌, ◌≤◌, ◌<◌, length, take, drop, None, Option, Some}
-use Rattle.meaning.specs.Answer.{hex_digit}
+use Rattle.format.specs.Bytes.{hex_digit}
 
 unfoldable pub placed : {A : Type 0} → ℕ → List A → List A → List A
 placed at text out = take at out ++ text ++ drop (at + length text) out

@@ -3,7 +3,7 @@
 #![tactic(auto)]
 
 ghost use Rattle.std.specs.Prelude.{[], ◌∷◌, ◌<◌, ◌≡◌};
-ghost use Rattle.meaning.specs.Answer.{hex_digit, bytes₂, bytes₄};
+ghost use Rattle.format.specs.Bytes.{hex_digit, bytes₂, bytes₄};
 ghost use Rattle.writer.specs.Writes.{Writes, WritesText, hex_of};
 
 // The slice and the place are two parameters: with a struct of both, writing took 2.5 times as long, as a store of a

@@ -1,6 +1,6 @@
 -- The shape, then the number.
 use Rattle.std.proofs.Common.{[], ◌∷◌}
-use Rattle.meaning.specs.Answer.{bytes₄}
+use Rattle.format.specs.Bytes.{bytes₄}
 use Rattle.writer.proofs.Digits.{hex_then, hex_full}
 use Rattle.answer.proofs.fact.Goals as goal
 

@@ -1,6 +1,6 @@
 -- The kind, the span and the row, one after the other.
 use Rattle.std.proofs.Common.{[], ◌∷◌}
-use Rattle.meaning.specs.Answer.{bytes₂, bytes₄}
+use Rattle.format.specs.Bytes.{bytes₂, bytes₄}
 use Rattle.generator.proofs.Lines.{line_after, line_cut}
 use Rattle.generator.proofs.node.Goals as goal
 

@@ -2,8 +2,8 @@
 use Rattle.std.proofs.Common.{List, ℕ, Bor, refl, sym, arith}
 use Rattle.std.proofs.Math.ListN.{get_or-map}
 use mathlib.Core.List.{flat_map}
-use Rattle.meaning.specs.Answer.{bytes₂}
-use Rattle.meaning.specs.Writing.{as_statement, as_query}
+use Rattle.format.specs.Bytes.{bytes₂}
+use Rattle.format.specs.Writing.{as_statement, as_query}
 use Rattle.testload.specs.Rule.{queries}
 use Rattle.generator.specs.Promises.{cell_bytes, tables, content, blocks}
 use Rattle.generator.proofs.Rows.{content_at}

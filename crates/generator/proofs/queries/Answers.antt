@@ -8,7 +8,8 @@ unfolding counts
 loop-q-init c = goes_start _ _ _ _ c.requires (queries_start _ _ c.choice.ensures.value c.choice.ensures.upper_bound)
 
 pub returns-in_err-at : goal.returns-in_err-at
-returns-in_err-at c = rw c.from_residual.ensures (goes_full c.loop-q.invariant _ _ (queries_next _ _ c.loop-q.q c.loop-q-test.true) c.query.ensures c.in_err-at.was)
+returns-in_err-at c =
+    rw c.from_residual.ensures (goes_full c.loop-q.invariant _ _ (queries_next _ _ c.loop-q.q c.loop-q-test.true) c.query.ensures c.in_err-at.was)
 
 pub loop-q-preserved : goal.loop-q-preserved
 loop-q-preserved c = goes_next c.loop-q.invariant _ _ (queries_next _ _ c.loop-q.q c.loop-q-test.true) c.query.ensures c.in_ok-at.was

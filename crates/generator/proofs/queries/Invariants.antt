@@ -1,8 +1,8 @@
 -- To write the queries from q on is to write them all.
 use mathlib.Core.List.{flat_map}
-use Rattle.meaning.specs.Frame.{wide}
-use Rattle.meaning.specs.Content.{query_frames}
-use Rattle.meaning.specs.Writing.{file_of}
+use Rattle.format.specs.Frame.{wide}
+use Rattle.format.specs.Content.{query_frames}
+use Rattle.format.specs.Writing.{file_of}
 use Rattle.testload.specs.Rule.{content_of}
 use Rattle.writer.proofs.Writing.{Goes}
 use Rattle.generator.proofs.Nodes.{queries_from}

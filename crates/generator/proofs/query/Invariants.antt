@@ -1,7 +1,7 @@
 -- To write the nodes from i on and the query is to write the whole.
-use Rattle.meaning.specs.Frame.{wide}
-use Rattle.meaning.specs.Content.{query_frames}
-use Rattle.meaning.specs.Writing.{file_of}
+use Rattle.format.specs.Frame.{wide}
+use Rattle.format.specs.Content.{query_frames}
+use Rattle.format.specs.Writing.{file_of}
 use Rattle.testload.specs.Rule.{query_of}
 use Rattle.generator.proofs.Rows.{Left}
 use Rattle.generator.proofs.Nodes.{query_from}

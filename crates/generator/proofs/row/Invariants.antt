@@ -1,5 +1,5 @@
 -- To write the cells from the index on, and LF, is to write the row.
-use Rattle.meaning.specs.Answer.{hex_line}
+use Rattle.format.specs.Bytes.{hex_line}
 use mathlib.Core.List.{flat_map}
 use Rattle.generator.specs.Promises.{cell_bytes}
 use Rattle.generator.proofs.Rows.{Left, cells_from}

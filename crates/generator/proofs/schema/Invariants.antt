@@ -1,7 +1,7 @@
 -- To write the lines from l on is to write the schema.
-use Rattle.meaning.specs.Frame.{wide}
-use Rattle.meaning.specs.Content.{schema_frames}
-use Rattle.meaning.specs.Writing.{file_of}
+use Rattle.format.specs.Frame.{wide}
+use Rattle.format.specs.Content.{schema_frames}
+use Rattle.format.specs.Writing.{file_of}
 use Rattle.testload.specs.Rule.{content_of}
 use Rattle.writer.proofs.Writing.{Goes}
 use Rattle.generator.proofs.Lines.{schema_from}

@@ -7,7 +7,8 @@ pub returns-in_default-decode : goal.returns-in_default-decode
 returns-in_default-decode c = walking_none c.loop-m.invariant.2 (c.decode-in-Some.ensures.fails c.in_default-decode.is) c.in-Some.ensures.holds
 
 pub returns-in-Other : goal.returns-in-Other
-returns-in-Other c = walking_other c.loop-m.invariant.2 c.in-Some-decode.ensures.holds c.in-Some.ensures.holds (subst (TellsBeside _ _) c.in-Other.is c.line_beside.ensures)
+returns-in-Other c =
+    walking_other c.loop-m.invariant.2 c.in-Some-decode.ensures.holds c.in-Some.ensures.holds (subst (TellsBeside _ _) c.in-Other.is c.line_beside.ensures)
 
 pub loop-m-preserved-in-Same : goal.loop-m-preserved-in-Same
 loop-m-preserved-in-Same c = (

@@ -1,5 +1,5 @@
 -- The digits of each.
-use Rattle.meaning.specs.Answer.{hex_line, hex_digit}
+use Rattle.format.specs.Bytes.{hex_line, hex_digit}
 use Rattle.inspect.specs.Promises.{line_of}
 use Rattle.inspect.proofs.line.Goals as goal
 

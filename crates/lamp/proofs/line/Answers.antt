@@ -1,5 +1,5 @@
 -- The digits of each.
-use Rattle.meaning.specs.Answer.{hex_line, hex_digit}
+use Rattle.format.specs.Bytes.{hex_line, hex_digit}
 use Rattle.lamp.specs.Promises.{lamp_line}
 use Rattle.lamp.proofs.line.Goals as goal
 

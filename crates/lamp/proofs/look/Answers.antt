@@ -1,6 +1,6 @@
 -- `lamp::look` meets its contract: the reading, and then the queries of what was read.
 use borrow.Author.Rules.{rules}
-use Rattle.desk.proofs.Deciding.{read_small}
+use Rattle.driver.proofs.Deciding.{read_small}
 use Rattle.lamp.proofs.Looking.{not_read, was_read}
 use Rattle.lamp.proofs.look.Goals as goal
 

@@ -1,6 +1,7 @@
 -- Each arm's text is the code of its messages.
 use Rattle.std.proofs.Common.{inl, inr, refl}
-use Rattle.meaning.specs.Diag.{ascii, as_str, code_of}
+use Rattle.format.specs.Bytes.{ascii}
+use Rattle.meaning.specs.Diag.{as_str, code_of}
 use Rattle.messages.proofs.code_of.Goals as goal
 
 pub returns-in-WildcardHead : goal.returns-in-WildcardHead

@@ -1,6 +1,6 @@
 -- The pieces are the message's text.
 use Rattle.std.proofs.Common.{append-nil, refl}
-use Rattle.meaning.specs.Diag.{ascii}
+use Rattle.format.specs.Bytes.{ascii}
 use Rattle.meaning.specs.Messages.{message_text}
 use Rattle.messages.proofs.Parting.{found_then, message_shown, text_shown}
 use Rattle.messages.proofs.text.Goals as goal
@@ -27,11 +27,13 @@ returns-in-DeniedPattern c = text_shown c.in-DeniedPattern.is refl c.write-in-De
 
 pub returns-in-DistanceOutside : goal.returns-in-DistanceOutside
 unfolding message_text
-returns-in-DistanceOutside c = rw c.in-DistanceOutside.is (message_shown (λ v S. rw (c.word.ensures, S.schema.distance) (simp append-nil)) (λ o. (tt, (tt, (tt, (tt, tt))))) c.write-in-DistanceOutside.ensures)
+returns-in-DistanceOutside c = rw c.in-DistanceOutside.is
+    (message_shown (λ v S. rw (c.word.ensures, S.schema.distance) (simp append-nil)) (λ o. (tt, (tt, (tt, (tt, tt))))) c.write-in-DistanceOutside.ensures)
 
 pub returns-in-TermTooLong : goal.returns-in-TermTooLong
 unfolding message_text
-returns-in-TermTooLong c = rw c.in-TermTooLong.is (message_shown (λ v S. rw (c.word-in-TermTooLong.ensures, S.schema.term) refl) (λ o. (tt, (tt, (tt, (tt, (tt, tt)))))) c.write-in-TermTooLong.ensures)
+returns-in-TermTooLong c = rw c.in-TermTooLong.is
+    (message_shown (λ v S. rw (c.word-in-TermTooLong.ensures, S.schema.term) refl) (λ o. (tt, (tt, (tt, (tt, (tt, tt)))))) c.write-in-TermTooLong.ensures)
 
 pub returns-in-UnknownType : goal.returns-in-UnknownType
 unfolding message_text
@@ -55,7 +57,8 @@ returns-in-NoField c = rw c.in-NoField.is (message_shown (λ v S. refl) (λ o. (
 
 pub returns-in-NotOneAlternative : goal.returns-in-NotOneAlternative
 unfolding message_text
-returns-in-NotOneAlternative c = rw c.in-NotOneAlternative.is (message_shown (λ v S. simp append-nil) (λ o. (tt, (tt, tt))) c.write-in-NotOneAlternative.ensures)
+returns-in-NotOneAlternative c =
+    rw c.in-NotOneAlternative.is (message_shown (λ v S. simp append-nil) (λ o. (tt, (tt, tt))) c.write-in-NotOneAlternative.ensures)
 
 pub returns-in-NotAUnion : goal.returns-in-NotAUnion
 unfolding message_text
@@ -81,19 +84,25 @@ pub returns-in-UnionMismatch-Absent-default-default : goal.returns-in-UnionMisma
 unfolding message_text
 returns-in-UnionMismatch-Absent-default-default c =
     let d = rw c.in-UnionMismatch-Absent-default-default.is at c.in-UnionMismatch-Absent-default-default.field-0-is in
-    rw (c.in-UnionMismatch-Absent-default-default.is, d) (message_shown (λ v S. simp append-nil (found_then (ascii "expected ") _ (ascii ", found ") _ _)) (λ o. (tt, (o.0, (tt, (o.1, (tt, (tt, (tt, (tt, tt))))))))) c.write-in-UnionMismatch-Absent-default-default.ensures)
+    rw (c.in-UnionMismatch-Absent-default-default.is, d)
+    (message_shown (λ v S. simp append-nil (found_then (ascii "expected ") _ (ascii ", found ") _ _))
+    (λ o. (tt, (o.0, (tt, (o.1, (tt, (tt, (tt, (tt, tt))))))))) c.write-in-UnionMismatch-Absent-default-default.ensures)
 
 pub returns-in-UnionMismatch-Renamed-default-default : goal.returns-in-UnionMismatch-Renamed-default-default
 unfolding message_text
 returns-in-UnionMismatch-Renamed-default-default c =
     let d = rw c.in-UnionMismatch-Renamed-default-default.is at c.in-UnionMismatch-Renamed-default-default.field-0-is in
-    rw (c.in-UnionMismatch-Renamed-default-default.is, d) (message_shown (λ v S. simp append-nil (found_then (ascii "expected ") _ (ascii ", found ") _ _)) (λ o. (tt, (o.0, (tt, (o.1, (tt, (tt, (tt, (tt, (tt, (tt, tt))))))))))) c.write-in-UnionMismatch-Renamed-default-default.ensures)
+    rw (c.in-UnionMismatch-Renamed-default-default.is, d)
+    (message_shown (λ v S. simp append-nil (found_then (ascii "expected ") _ (ascii ", found ") _ _))
+    (λ o. (tt, (o.0, (tt, (o.1, (tt, (tt, (tt, (tt, (tt, (tt, tt))))))))))) c.write-in-UnionMismatch-Renamed-default-default.ensures)
 
 pub returns-in-UnionMismatch-Payload-default-default : goal.returns-in-UnionMismatch-Payload-default-default
 unfolding message_text
 returns-in-UnionMismatch-Payload-default-default c =
     let d = rw c.in-UnionMismatch-Payload-default-default.is at c.in-UnionMismatch-Payload-default-default.field-0-is in
-    rw (c.in-UnionMismatch-Payload-default-default.is, d) (message_shown (λ v S. found_then (ascii "expected ") _ (ascii ", found ") _ _) (λ o. (tt, (o.0, (tt, (o.1, (tt, (tt, (tt, (tt, (tt, tt)))))))))) c.write-in-UnionMismatch-Payload-default-default.ensures)
+    rw (c.in-UnionMismatch-Payload-default-default.is, d)
+    (message_shown (λ v S. found_then (ascii "expected ") _ (ascii ", found ") _ _) (λ o. (tt, (o.0, (tt, (o.1, (tt, (tt, (tt, (tt, (tt, tt))))))))))
+    c.write-in-UnionMismatch-Payload-default-default.ensures)
 
 pub returns-in-Infinite : goal.returns-in-Infinite
 unfolding message_text

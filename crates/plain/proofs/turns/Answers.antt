@@ -1,88 +1,75 @@
-use Rattle.std.proofs.Common.{rules, sym, arith}
-use Rattle.std.proofs.lemmas.List.{length-take-le}
-use Rattle.unification.proofs.Tests.{clash}
-use Rattle.plain.proofs.Running.{less_words, less_unknowns, too_few, stays_as, run_start, run_done, run_stuck, never_out, run_drop, lowered_long, run_split_full, run_split, run_bind_none, run_bind_full, run_bind}
+-- A turn reads one half and writes into the other; what it tells says which lemma goes on.
+use Rattle.std.proofs.Common.{◌≡◌, length, ap, ◌∙◌, arith}
+use Rattle.std.specs.Prelude.{Ok}
+use Rattle.plain.proofs.Staging.{passed_on, too_few}
+use Rattle.plain.proofs.Running.{Turning, turning_up, turning_low, run_start, halves_end, halves_copied, halves_done}
+use Rattle.plain.proofs.Running.{halves_drop, halves_drop_out, halves_bind, halves_bind_out, halves_split, halves_split_out}
 use Rattle.plain.proofs.turns.Goals as goal
+use Rattle.plain.proofs.turns.Goals.{Joined-up, then-up, else-up}
 
-pub loop-rest-init : goal.loop-rest-init
-loop-rest-init c = run_start _ _ _ _ c.requires
+-- What one turn did, whichever half it read.
+turning : (c : Joined-up) → Turning c.loop-up.up c.loop-up.low c.loop-up.high c.loop-up.b c.loop-up.p c.loop-up.e c.if-up.low c.if-up.high c.if-up.turn
+turning c = elim c.if-up.branch [
+  | then-up w ↦ turning_up w.if-up.true _ _ _ _ _ _ _ _ w.high-is (rw (w.low-is, w.turn-is) w.take_turn-turn.ensures)
+  | else-up w ↦ turning_low w.if-up.false _ _ _ _ _ _ _ _ w.low-is (rw (w.high-is, w.turn-is) w.take_turn-turn-else-up.ensures)
+]
 
-pub offset_bounds-now-p : goal.offset_bounds-now-p
-offset_bounds-now-p c = search (rules, c.loop-rest.invariant.p_e, c.loop-rest.invariant.e_in)
+long : (c : Joined-up) → (length c.if-up.low ≡ length c.args.high.now) × (length c.if-up.high ≡ length c.args.high.now)
+long c = (omega (arith, c.if-up.auto.low, c.loop-up.auto.low, c.requires), omega (arith, c.if-up.auto.high, c.loop-up.auto.high))
 
-pub slice_bounds-step-count : goal.slice_bounds-step-count
-slice_bounds-step-count c = c.loop-rest.invariant.p_e
+pub loop-up-init : goal.loop-up-init
+loop-up-init c = run_start _ _ _ _ c.requires
 
-pub slice_bounds-step-start : goal.slice_bounds-step-start
-slice_bounds-step-start c = omega (arith, c.loop-rest.invariant.p_e, c.loop-rest.invariant.e_in)
+pub returns-in_err-turn : goal.returns-in_err-turn
+returns-in_err-turn c =
+    let d = (goal.at.returns-in_err-turn c).Joined-up in
+    rw (passed_on _ c.from_residual.ensures.1) (halves_end c.loop-up.invariant (turning d) (long d) c.in_err-turn.was)
 
-pub slice_bounds-step-end : goal.slice_bounds-step-end
-slice_bounds-step-end c = omega (arith, c.loop-rest.invariant.e_in)
+pub returns-then-up-2 : goal.returns-then-up-2
+returns-then-up-2 c =
+    let d = (goal.at.returns-then-up-2 c).Joined-up in
+    halves_copied c.loop-up.invariant (turning d) (long d) (c.in_ok-turn.was ∙ ap Ok c.in-Last.is) c.if-up-2.true c.lower.ensures c.lower.auto.low
 
-pub returns-in-Done : goal.returns-in-Done
-returns-in-Done c = run_done c.loop-rest.invariant c.in-Done.ensures
+pub returns-else-up-2 : goal.returns-else-up-2
+returns-else-up-2 c =
+    let d = (goal.at.returns-else-up-2 c).Joined-up in
+    halves_done c.loop-up.invariant (turning d) (long d) (c.in_ok-turn.was ∙ ap Ok c.in-Last.is) c.if-up-2.false
 
-pub returns-in-Stuck : goal.returns-in-Stuck
-returns-in-Stuck c = run_stuck c.loop-rest.invariant c.in-Stuck.ensures
+pub returns-in_err-words-in-Dropped : goal.returns-in_err-words-in-Dropped
+returns-in_err-words-in-Dropped c =
+    let d = (goal.at.returns-in_err-words-in-Dropped c).Joined-up in
+    let e = c.in_err-words-in-Dropped.ensures in
+    rw (too_few _ _ c.from_residual-in_err-words-in-Dropped.ensures.1 e.ok_part e.value)
+    (halves_drop_out c.loop-up.invariant (turning d) (long d) (c.in_ok-turn.was ∙ ap Ok c.in-Dropped.is) (rw e.ok_part at c.checked_sub.ensures))
 
-pub returns-in_err-words-in-Drop : goal.returns-in_err-words-in-Drop
-returns-in_err-words-in-Drop c =
-    let e = c.in_err-words-in-Drop.ensures in
-    rw (too_few _ _ c.from_residual.ensures.1 e.ok_part e.value)
-    (never_out c.loop-rest.invariant c.in-Drop.ensures (λ z. clash (cc)) (rw e.ok_part at c.checked_sub.ensures))
+pub loop-up-preserved-in-Dropped : goal.loop-up-preserved-in-Dropped
+loop-up-preserved-in-Dropped c =
+    let d = (goal.at.loop-up-preserved-in-Dropped c).Joined-up in
+    halves_drop c.loop-up.invariant (turning d) (long d) (c.in_ok-turn.was ∙ ap Ok c.in-Dropped.is)
+    (rw c.in_ok-words-in-Dropped.ensures.ok_part at c.checked_sub.ensures).1
 
-pub loop-rest-smaller-in-Drop : goal.loop-rest-smaller-in-Drop
-loop-rest-smaller-in-Drop c = less_words _ _ (rw c.in_ok-words-in-Drop.ensures.ok_part at c.checked_sub.ensures)
+pub returns-in_err-unknowns-in-Bound : goal.returns-in_err-unknowns-in-Bound
+returns-in_err-unknowns-in-Bound c =
+    let d = (goal.at.returns-in_err-unknowns-in-Bound c).Joined-up in
+    let e = c.in_err-unknowns-in-Bound.ensures in
+    rw (too_few _ _ c.from_residual-in_err-unknowns-in-Bound.ensures.1 e.ok_part e.value)
+    (halves_bind_out c.loop-up.invariant (turning d) (long d) (c.in_ok-turn.was ∙ ap Ok c.in-Bound.is) (rw e.ok_part at c.checked_sub-in-Bound.ensures))
 
-pub loop-rest-preserved-in-Drop : goal.loop-rest-preserved-in-Drop
-loop-rest-preserved-in-Drop c =
-    run_drop c.loop-rest.invariant c.in-Drop.rest c.in-Drop.ensures (rw c.in_ok-words-in-Drop.ensures.ok_part at c.checked_sub.ensures).1
+pub loop-up-preserved-in-Bound : goal.loop-up-preserved-in-Bound
+loop-up-preserved-in-Bound c =
+    let d = (goal.at.loop-up-preserved-in-Bound c).Joined-up in
+    halves_bind c.loop-up.invariant (turning d) (long d) (c.in_ok-turn.was ∙ ap Ok c.in-Bound.is)
+    (rw c.in_ok-unknowns-in-Bound.ensures.ok_part at c.checked_sub-in-Bound.ensures).1 (long d).1
 
-pub returns-in_err-unknowns-in-Bind : goal.returns-in_err-unknowns-in-Bind
-returns-in_err-unknowns-in-Bind c =
-    let e = c.in_err-unknowns-in-Bind.ensures in
-    rw (too_few _ _ c.from_residual-in_err-unknowns-in-Bind.ensures.1 e.ok_part e.value)
-    (run_bind_none c.loop-rest.invariant c.in-Bind.ensures (rw e.ok_part at c.checked_sub-in-Bind.ensures))
+pub returns-in_err-words-in-Parted : goal.returns-in_err-words-in-Parted
+returns-in_err-words-in-Parted c =
+    let d = (goal.at.returns-in_err-words-in-Parted c).Joined-up in
+    let e = c.in_err-words-in-Parted.ensures in
+    rw (too_few _ _ c.from_residual-in_err-words-in-Parted.ensures.1 e.ok_part e.value)
+    (halves_split_out c.loop-up.invariant (turning d) (long d) (c.in_ok-turn.was ∙ ap Ok c.in-Parted.is) (rw e.ok_part at c.checked_sub-in-Parted.ensures))
 
-pub slice_bounds-bind-end : goal.slice_bounds-bind-end
-slice_bounds-bind-end c = sym (length-take-le _ _ (omega (arith, c.loop-rest.invariant.b_p, c.loop-rest.invariant.p_e, c.loop-rest.invariant.e_in)))
-
-pub returns-in_err-b-in-Bind : goal.returns-in_err-b-in-Bind
-returns-in_err-b-in-Bind c =
-    let e = c.in_err-b-in-Bind.ensures in
-    rw (too_few _ _ c.from_residual-in_err-b-in-Bind.ensures.1 e.ok_part e.value)
-    (run_bind_full c.loop-rest.invariant c.in-Bind.ensures c.bind.ensures.lays e.ok_part)
-
-pub loop-rest-smaller-in-Bind : goal.loop-rest-smaller-in-Bind
-loop-rest-smaller-in-Bind c = less_unknowns _ _ (rw c.in_ok-unknowns-in-Bind.ensures.ok_part at c.checked_sub-in-Bind.ensures)
-    (lowered_long c.loop-rest.invariant (stays_as c.in_ok-b-in-Bind.ensures.ok_part c.bind.ensures.stays) c.lower.ensures)
-
-pub loop-rest-preserved-in-Bind : goal.loop-rest-preserved-in-Bind
-loop-rest-preserved-in-Bind c =
-    let e = c.in_ok-b-in-Bind.ensures.ok_part in
-    run_bind c.loop-rest.invariant c.in-Bind.ensures c.bind.ensures.lays e c.bind.ensures.stays c.lower.ensures
-    (rw c.in_ok-unknowns-in-Bind.ensures.ok_part at c.checked_sub-in-Bind.ensures).1
-    (lowered_long c.loop-rest.invariant (stays_as e c.bind.ensures.stays) c.lower.ensures)
-
-pub returns-in_err-words-in-Split : goal.returns-in_err-words-in-Split
-returns-in_err-words-in-Split c =
-    let e = c.in_err-words-in-Split.ensures in
-    rw (too_few _ _ c.from_residual-in_err-words-in-Split.ensures.1 e.ok_part e.value)
-    (never_out c.loop-rest.invariant c.in-Split.ensures (λ z. clash (cc)) (rw e.ok_part at c.checked_sub-in-Split.ensures))
-
-pub slice_bounds-split-end : goal.slice_bounds-split-end
-slice_bounds-split-end c = sym (length-take-le _ _ (omega (arith, c.loop-rest.invariant.b_p, c.loop-rest.invariant.p_e, c.loop-rest.invariant.e_in)))
-
-pub returns-in_err-b-in-Split : goal.returns-in_err-b-in-Split
-returns-in_err-b-in-Split c =
-    let e = c.in_err-b-in-Split.ensures in
-    rw (too_few _ _ c.from_residual-in_err-b-in-Split.ensures.1 e.ok_part e.value)
-    (run_split_full c.loop-rest.invariant c.in-Split.ensures c.split.ensures.lays e.ok_part)
-
-pub loop-rest-smaller : goal.loop-rest-smaller
-loop-rest-smaller c = less_words _ _ (rw c.in_ok-words-in-Split.ensures.ok_part at c.checked_sub-in-Split.ensures)
-
-pub loop-rest-preserved : goal.loop-rest-preserved
-loop-rest-preserved c =
-    run_split c.loop-rest.invariant c.in-Split.ensures c.split.ensures.lays c.in_ok-b-in-Split.ensures.ok_part c.split.ensures.stays
-    c.lower-in-Split.ensures (rw c.in_ok-words-in-Split.ensures.ok_part at c.checked_sub-in-Split.ensures).1
+pub loop-up-preserved : goal.loop-up-preserved
+loop-up-preserved c =
+    let d = (goal.at.loop-up-preserved c).Joined-up in
+    halves_split c.loop-up.invariant (turning d) (long d) (c.in_ok-turn.was ∙ ap Ok c.in-Parted.is)
+    (rw c.in_ok-words-in-Parted.ensures.ok_part at c.checked_sub-in-Parted.ensures).1

@@ -1,21 +1,25 @@
 -- `reading::take_line` meets its contract: each end is one of a line's, and each arm takes a frame of its kind.
 use mathlib.Core.Path.{sym, ap, ◌∙◌}
-use Rattle.meaning.specs.Frame as Frame
+use Rattle.format.specs.Frame as Frame
 use Rattle.frames.specs.Promises.{kind_meant, edition_of}
-use Rattle.reading.proofs.AnyLine.{line_misplaced, line_too_many, line_too_many_queries, line_no_frame, line_takes, room_for_predicate, room_for_node, long_type, long_predicate, long_node}
+use Rattle.reading.proofs.AnyLine.{line_misplaced, line_too_many, line_too_many_queries, line_no_frame, line_takes, room_for_predicate, room_for_node}
+use Rattle.reading.proofs.AnyLine.{long_type, long_predicate, long_node}
 use Rattle.reading.proofs.take_line.Goals as goal
 
 pub returns-then-not-may_stand : goal.returns-then-not-may_stand
 returns-then-not-may_stand c = line_misplaced _ _ _ c.args.line.bytes.now _ _ _ _ (sym c.may_stand.ensures ∙ c.if-not-may_stand.true)
 
 pub returns-then-is_full : goal.returns-then-is_full
-returns-then-is_full c = line_too_many _ _ _ c.args.line.bytes.now _ _ _ _ (sym c.may_stand.ensures ∙ c.if-not-may_stand.false) (sym c.is_full.ensures ∙ c.if-is_full.true)
+returns-then-is_full c =
+    line_too_many _ _ _ c.args.line.bytes.now _ _ _ _ (sym c.may_stand.ensures ∙ c.if-not-may_stand.false) (sym c.is_full.ensures ∙ c.if-is_full.true)
 
 pub returns-then-is_past : goal.returns-then-is_past
-returns-then-is_past c = line_too_many_queries _ _ _ c.args.line.bytes.now _ _ _ _ (sym c.may_stand.ensures ∙ c.if-not-may_stand.false) (sym c.is_full.ensures ∙ c.if-is_full.false) (sym c.is_past.ensures ∙ c.if-is_past.true)
+returns-then-is_past c = line_too_many_queries _ _ _ c.args.line.bytes.now _ _ _ _ (sym c.may_stand.ensures ∙ c.if-not-may_stand.false)
+    (sym c.is_full.ensures ∙ c.if-is_full.false) (sym c.is_past.ensures ∙ c.if-is_past.true)
 
 pub returns-then-not-is_frame : goal.returns-then-not-is_frame
-returns-then-not-is_frame c = line_no_frame _ _ _ c.args.line.bytes.now _ _ _ _ (sym c.may_stand.ensures ∙ c.if-not-may_stand.false) (sym c.is_full.ensures ∙ c.if-is_full.false) (sym c.is_past.ensures ∙ c.if-is_past.false) (sym c.is_frame.ensures ∙ c.if-not-is_frame.true)
+returns-then-not-is_frame c = line_no_frame _ _ _ c.args.line.bytes.now _ _ _ _ (sym c.may_stand.ensures ∙ c.if-not-may_stand.false)
+    (sym c.is_full.ensures ∙ c.if-is_full.false) (sym c.is_past.ensures ∙ c.if-is_past.false) (sym c.is_frame.ensures ∙ c.if-not-is_frame.true)
 
 pub take_type-requires : goal.take_type-requires
 take_type-requires c = (

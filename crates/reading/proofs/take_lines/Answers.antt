@@ -4,7 +4,8 @@ use borrow.Author.Rules.{rules}
 use Rattle.std.proofs.lemmas.Result.{err_from_is_err_and}
 use Rattle.frames.specs.Promises.{known, edition_of}
 use Rattle.reading.proofs.Stepping.{no_value, the_value}
-use Rattle.reading.proofs.AllLines.{midway_start, midway_on, midway_off, midway_unknown, midway_value, midway_asks, midway_placed, midway_bad, midway_whole, midway_missing, decoded, line_holds}
+use Rattle.reading.proofs.AllLines.{midway_start, midway_on, midway_off, midway_unknown, midway_value, midway_asks, midway_placed, midway_bad, midway_whole}
+use Rattle.reading.proofs.AllLines.{midway_missing, decoded, line_holds}
 use Rattle.reading.proofs.take_lines.Goals as goal
 
 pub loop-at-init : goal.loop-at-init

@@ -5,7 +5,8 @@ pub returns-in_err-at : goal.returns-in_err-at
 returns-in_err-at g t c = rw c.from_residual.ensures (typing_full g.S.Script.script c.repr-u.result c.repr-u.ensures c.head.ensures c.in_err-at.was)
 
 pub loop-j-init : goal.loop-j-init
-loop-j-init g t c = typing_start g.S.Script.script c.args.w.now c.head.new.out c.in_ok-at.at c.repr-u.result c.part_count-j-end.result c.part_count-j-end.ensures
+loop-j-init g t c =
+    typing_start g.S.Script.script c.args.w.now c.head.new.out c.in_ok-at.at c.repr-u.result c.part_count-j-end.result c.part_count-j-end.ensures
 
 pub returns-in_err-from : goal.returns-in_err-from
 returns-in_err-from g t c = rw c.from_residual-in_err-from.ensures (typing_stops g.S.Script.script c.in_ok-at.was c.part_of-p.result

@@ -2,7 +2,8 @@
 use borrow.Author.Tests.{lt-ltb, le-ltb}
 use Rattle.state.specs.Words.{push_w, push_env_w}
 use Rattle.state.proofs.push_env.Goals as goal
-use Rattle.state.proofs.push_env.Goals.{else-symbol-lt16384-via-then-symbol-lt16384+then-node-lt512+else-var-lt512, else-symbol-lt16384-via-then-symbol-lt16384+else-node-lt512, else-symbol-lt16384-via-else-symbol-lt16384}
+use Rattle.state.proofs.push_env.Goals.{else-symbol-lt16384-via-then-symbol-lt16384+then-node-lt512+else-var-lt512}
+use Rattle.state.proofs.push_env.Goals.{else-symbol-lt16384-via-then-symbol-lt16384+else-node-lt512, else-symbol-lt16384-via-else-symbol-lt16384}
 
 pub returns-then-var-lt512 : goal.returns-then-var-lt512
 unfolding push_w push_env_w

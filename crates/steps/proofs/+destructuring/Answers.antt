@@ -3,7 +3,8 @@ use mathlib.Core.Bool.{not}
 use mathlib.Core.Path.{ap}
 use borrow.Enum.Refused.{opened}
 use native.Mathlib.Omega.{arith}
-use Rattle.steps.proofs.Unvisited.{asks_variable, asks_wildcard, asks_record, asks_other, items_lower, asking_start, asking_next, asking_stops, asking_done, field_falls}
+use Rattle.steps.proofs.Unvisited.{asks_variable, asks_wildcard, asks_record, asks_other, items_lower, asking_start, asking_next, asking_stops, asking_done}
+use Rattle.steps.proofs.Unvisited.{field_falls}
 use Rattle.steps.proofs.+destructuring.Goals as goal
 
 pub all_destructurable-loop-i-init : goal.all_destructurable-loop-i-init
@@ -13,10 +14,12 @@ pub all_destructurable-destructurable-requires : goal.all_destructurable-destruc
 all_destructurable-destructurable-requires t c = omega (arith, field_falls _ _ _ c.requires c.loop-i-test.true c.field_at-e.ensures)
 
 pub all_destructurable-returns-then-not-destructurable : goal.all_destructurable-returns-then-not-destructurable
-all_destructurable-returns-then-not-destructurable t c = asking_stops c.loop-i.invariant c.requires c.loop-i-test.true c.field_at-e.ensures c.destructurable.ensures (ap not c.if-not-destructurable.true)
+all_destructurable-returns-then-not-destructurable t c =
+    asking_stops c.loop-i.invariant c.requires c.loop-i-test.true c.field_at-e.ensures c.destructurable.ensures (ap not c.if-not-destructurable.true)
 
 pub all_destructurable-loop-i-preserved : goal.all_destructurable-loop-i-preserved
-all_destructurable-loop-i-preserved t c = asking_next c.loop-i.invariant c.requires c.loop-i-test.true c.field_at-e.ensures c.destructurable.ensures (ap not c.if-not-destructurable.false)
+all_destructurable-loop-i-preserved t c =
+    asking_next c.loop-i.invariant c.requires c.loop-i-test.true c.field_at-e.ensures c.destructurable.ensures (ap not c.if-not-destructurable.false)
 
 pub all_destructurable-returns : goal.all_destructurable-returns
 all_destructurable-returns t c = asking_done c.loop-i.invariant c.loop-i-test.false

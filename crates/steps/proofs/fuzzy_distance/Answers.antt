@@ -13,4 +13,5 @@ returns-then-distance-eq0-clause-is c = elim c.then-distance-eq0.branch [
 ]
 
 pub returns-clause-is : goal.returns-clause-is
-returns-clause-is c = rw (ne_eqb _ _ c.if-distance-eq0.false, le-ltb _ _ (rw (c.word.ensures, c.view.ensures) at c.if-word-distance.false)) (stayed refl refl refl)
+returns-clause-is c =
+    rw (ne_eqb _ _ c.if-distance-eq0.false, le-ltb _ _ (rw (c.word.ensures, c.view.ensures) at c.if-word-distance.false)) (stayed refl refl refl)

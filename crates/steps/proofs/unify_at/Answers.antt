@@ -8,7 +8,8 @@ pub returns-in-Ok-clause-is : goal.returns-in-Ok-clause-is
 returns-in-Ok-clause-is c = rw c.unify_outside.ensures.out (unite_good _ c.unify_outside.ensures.is (succeeded c.in_ok-unify_outside.was c.in-Ok.is))
 
 pub returns-in-Err-clause-is : goal.returns-in-Err-clause-is
-returns-in-Err-clause-is c = unite_bad _ c.unify_outside.ensures.is (failed c.in_ok-unify_outside.was _ c.in-Err.is) (rw (c.unify_outside.ensures.lent.0, c.unify_outside.ensures.out) at c.report.ensures.is)
+returns-in-Err-clause-is c = unite_bad _ c.unify_outside.ensures.is (failed c.in_ok-unify_outside.was _ c.in-Err.is)
+    (rw (c.unify_outside.ensures.lent.0, c.unify_outside.ensures.out) at c.report.ensures.is)
 
 pub returns-in_err-unify_outside-clause-is : goal.returns-in_err-unify_outside-clause-is
 unfolding unify_at

@@ -1,6 +1,6 @@
 -- What is counted, added to the count of the bytes that are left, is the count of all.
 use Rattle.std.proofs.Common.{◌≡◌, ◌+◌, ◌≤◌, length}
-use Rattle.text.specs.Star.{Each}
+use Rattle.text.specs.Star.{Every}
 use Rattle.text.specs.Utf8.{characters}
 use Rattle.text.proofs.Agree.{Byte}
 use Rattle.text.proofs.Walk.{plus}
@@ -9,7 +9,7 @@ use Rattle.text.proofs.characters.Given as goal
 abbrev pub invariant-loop-rest : goal.invariant-loop-rest
 invariant-loop-rest l = record {
   room : l.count + length l.rest ≤ length l.s;
-  bytes : Each Byte l.rest;
+  bytes : Every Byte l.rest;
   counted : characters l.s ≡ plus l.count (characters l.rest);
 }
 

@@ -12,7 +12,8 @@ loop-b-init c = record { few = omega arith; in_table = omega arith; counted = st
 counted : (c : Joined-state-eq0) → characters c.args.s.now
     ≡ plus c.if-state-eq0.chars (rest (after (wanted c.loop-b.state) (get_or c.args.s.now c.loop-b.b-index 0)) (drop (c.loop-b.b-index + 1) c.args.s.now))
 counted c =
-    c.loop-b.invariant.counted ∙ on c.args.s.now c.loop-b.b-index c.loop-b.state c.loop-b.chars c.if-state-eq0.chars c.loop-b-test.true c.loop-b.invariant.in_table
+    c.loop-b.invariant.counted ∙ on c.args.s.now c.loop-b.b-index c.loop-b.state c.loop-b.chars c.if-state-eq0.chars c.loop-b-test.true
+    c.loop-b.invariant.in_table
     (elim c.if-state-eq0.branch [
       | then-state-eq0 w ↦ inl (w.if-state-eq0.true, w.chars-is)
       | else-state-eq0 w ↦ inr (w.if-state-eq0.false, w.chars-is)

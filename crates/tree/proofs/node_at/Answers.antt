@@ -14,37 +14,57 @@ line {w = w} k a x p s z d =
     record { begins = omega arith; long = omega arith; says = d }
 
 pub returns-in-0 : goal.returns-in-0
-returns-in-0 c = int _ _ _ _ _ _ (line c.wide.ensures.0 c.word.ensures c.node_line-x.ensures c.line_place.ensures c.wide-start.ensures.0 c.line_size-size.ensures c.hex_byte-shape.ensures.0) c.in-0.is
+returns-in-0 c =
+    int _ _ _ _ _ _ (line c.wide.ensures.0 c.word.ensures c.node_line-x.ensures c.line_place.ensures c.wide-start.ensures.0 c.line_size-size.ensures
+    c.hex_byte-shape.ensures.0) c.in-0.is
 
 pub returns-in-1 : goal.returns-in-1
-returns-in-1 c = str _ _ _ _ _ _ (line c.wide.ensures.0 c.word.ensures c.node_line-x.ensures c.line_place.ensures c.wide-start.ensures.0 c.line_size-size.ensures c.hex_byte-shape.ensures.0) c.in-1.is
+returns-in-1 c =
+    str _ _ _ _ _ _ (line c.wide.ensures.0 c.word.ensures c.node_line-x.ensures c.line_place.ensures c.wide-start.ensures.0 c.line_size-size.ensures
+    c.hex_byte-shape.ensures.0) c.in-1.is
 
 pub returns-in-2 : goal.returns-in-2
-returns-in-2 c = bytes _ _ _ _ _ _ (line c.wide.ensures.0 c.word.ensures c.node_line-x.ensures c.line_place.ensures c.wide-start.ensures.0 c.line_size-size.ensures c.hex_byte-shape.ensures.0) c.in-2.is
+returns-in-2 c =
+    bytes _ _ _ _ _ _ (line c.wide.ensures.0 c.word.ensures c.node_line-x.ensures c.line_place.ensures c.wide-start.ensures.0 c.line_size-size.ensures
+    c.hex_byte-shape.ensures.0) c.in-2.is
 
 pub returns-in-3 : goal.returns-in-3
-returns-in-3 c = rw c.hex_half-a.ensures.0 (var _ _ _ _ _ _ (line c.wide.ensures.0 c.word.ensures c.node_line-x.ensures c.line_place.ensures c.wide-start.ensures.0 c.line_size-size.ensures c.hex_byte-shape.ensures.0) c.in-3.is)
+returns-in-3 c =
+    rw c.hex_half-a.ensures.0 (var _ _ _ _ _ _ (line c.wide.ensures.0 c.word.ensures c.node_line-x.ensures c.line_place.ensures c.wide-start.ensures.0
+    c.line_size-size.ensures c.hex_byte-shape.ensures.0) c.in-3.is)
 
 pub returns-in-4 : goal.returns-in-4
-returns-in-4 c = wildcard _ _ _ _ _ _ (line c.wide.ensures.0 c.word.ensures c.node_line-x.ensures c.line_place.ensures c.wide-start.ensures.0 c.line_size-size.ensures c.hex_byte-shape.ensures.0) c.in-4.is
+returns-in-4 c = wildcard _ _ _ _ _ _ (line c.wide.ensures.0 c.word.ensures c.node_line-x.ensures c.line_place.ensures c.wide-start.ensures.0
+    c.line_size-size.ensures c.hex_byte-shape.ensures.0) c.in-4.is
 
 pub returns-in-5 : goal.returns-in-5
-returns-in-5 c = never _ _ _ _ _ _ (line c.wide.ensures.0 c.word.ensures c.node_line-x.ensures c.line_place.ensures c.wide-start.ensures.0 c.line_size-size.ensures c.hex_byte-shape.ensures.0) c.in-5.is
+returns-in-5 c =
+    never _ _ _ _ _ _ (line c.wide.ensures.0 c.word.ensures c.node_line-x.ensures c.line_place.ensures c.wide-start.ensures.0 c.line_size-size.ensures
+    c.hex_byte-shape.ensures.0) c.in-5.is
 
 pub returns-in-6 : goal.returns-in-6
-returns-in-6 c = rw c.hex_half-a.ensures.0 (prefix _ _ _ _ _ _ (line c.wide.ensures.0 c.word.ensures c.node_line-x.ensures c.line_place.ensures c.wide-start.ensures.0 c.line_size-size.ensures c.hex_byte-shape.ensures.0) c.in-6.is)
+returns-in-6 c =
+    rw c.hex_half-a.ensures.0 (prefix _ _ _ _ _ _
+    (line c.wide.ensures.0 c.word.ensures c.node_line-x.ensures c.line_place.ensures c.wide-start.ensures.0 c.line_size-size.ensures c.hex_byte-shape.ensures.0)
+    c.in-6.is)
 
 pub returns-in-7 : goal.returns-in-7
-returns-in-7 c = rw (c.hex_half-a.ensures.0, c.hex_byte.ensures.0) (fuzzy _ _ _ _ _ _ (line c.wide.ensures.0 c.word.ensures c.node_line-x.ensures c.line_place.ensures c.wide-start.ensures.0 c.line_size-size.ensures c.hex_byte-shape.ensures.0) c.in-7.is)
+returns-in-7 c = rw (c.hex_half-a.ensures.0, c.hex_byte.ensures.0)
+    (fuzzy _ _ _ _ _ _ (line c.wide.ensures.0 c.word.ensures c.node_line-x.ensures c.line_place.ensures c.wide-start.ensures.0 c.line_size-size.ensures
+    c.hex_byte-shape.ensures.0) c.in-7.is)
 
 pub returns-in-8 : goal.returns-in-8
-returns-in-8 c = fields _ _ _ _ _ _ (line c.wide.ensures.0 c.word.ensures c.node_line-x.ensures c.line_place.ensures c.wide-start.ensures.0 c.line_size-size.ensures c.hex_byte-shape.ensures.0) c.items_of.ensures c.in-8.is
+returns-in-8 c = fields _ _ _ _ _ _ (line c.wide.ensures.0 c.word.ensures c.node_line-x.ensures c.line_place.ensures c.wide-start.ensures.0
+    c.line_size-size.ensures c.hex_byte-shape.ensures.0) c.items_of.ensures c.in-8.is
 
 pub returns-in-11 : goal.returns-in-11
-returns-in-11 c = disjunction _ _ _ _ _ _ (line c.wide.ensures.0 c.word.ensures c.node_line-x.ensures c.line_place.ensures c.wide-start.ensures.0 c.line_size-size.ensures c.hex_byte-shape.ensures.0) c.items_of-in-11.ensures c.in-11.is
+returns-in-11 c = disjunction _ _ _ _ _ _ (line c.wide.ensures.0 c.word.ensures c.node_line-x.ensures c.line_place.ensures c.wide-start.ensures.0
+    c.line_size-size.ensures c.hex_byte-shape.ensures.0) c.items_of-in-11.ensures c.in-11.is
 
 pub returns-in-14 : goal.returns-in-14
-returns-in-14 c = arithmetic _ _ _ _ _ _ (line c.wide.ensures.0 c.word.ensures c.node_line-x.ensures c.line_place.ensures c.wide-start.ensures.0 c.line_size-size.ensures c.hex_byte-shape.ensures.0) c.items_of-in-14.ensures c.in-14.is
+returns-in-14 c = arithmetic _ _ _ _ _ _ (line c.wide.ensures.0 c.word.ensures c.node_line-x.ensures c.line_place.ensures c.wide-start.ensures.0
+    c.line_size-size.ensures c.hex_byte-shape.ensures.0) c.items_of-in-14.ensures c.in-14.is
 
 pub returns-in_default : goal.returns-in_default
-returns-in_default c = parents _ _ _ _ _ _ (line c.wide.ensures.0 c.word.ensures c.node_line-x.ensures c.line_place.ensures c.wide-start.ensures.0 c.line_size-size.ensures c.hex_byte-shape.ensures.0) c.in_default.in_default-own.rest c.parent.ensures
+returns-in_default c = parents _ _ _ _ _ _ (line c.wide.ensures.0 c.word.ensures c.node_line-x.ensures c.line_place.ensures c.wide-start.ensures.0
+    c.line_size-size.ensures c.hex_byte-shape.ensures.0) c.in_default.in_default-own.rest c.parent.ensures

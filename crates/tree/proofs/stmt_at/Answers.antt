@@ -21,4 +21,11 @@ returns-in-3 c = rw (← c.hex_byte-tag.ensures.0, c.in-3.is) (cc (c.hex_half.en
 
 pub returns-in_default : goal.returns-in_default
 unfolding stmt_w stmt_of
-returns-in_default c = rw (← c.hex_byte-tag.ensures.0, ne_eqb _ 0 c.in_default.in_default-own.rest.0.0.0.1, ne_eqb _ 1 c.in_default.in_default-own.rest.0.0.1, ne_eqb _ 2 c.in_default.in_default-own.rest.0.1, ne_eqb _ 3 c.in_default.in_default-own.rest.1) (cc (c.hex_half.ensures.0, c.hex_half-2.ensures.0, c.lower-a.ensures, c.lower-b.ensures))
+returns-in_default c = rw (
+  ← c.hex_byte-tag.ensures.0,
+  ne_eqb _ 0 c.in_default.in_default-own.rest.0.0.0.1,
+  ne_eqb _ 1 c.in_default.in_default-own.rest.0.0.1,
+  ne_eqb _ 2 c.in_default.in_default-own.rest.0.1,
+  ne_eqb _ 3 c.in_default.in_default-own.rest.1,
+)
+    (cc (c.hex_half.ensures.0, c.hex_half-2.ensures.0, c.lower-a.ensures, c.lower-b.ensures))

@@ -1,5 +1,5 @@
 -- The high half, then the low one.
-use Rattle.meaning.specs.Answer.{bytes₄}
+use Rattle.format.specs.Bytes.{bytes₄}
 use Rattle.writer.proofs.Digits.{hex_then, hex_full}
 use Rattle.writer.proofs.full.Goals as goal
 

@@ -298,6 +298,15 @@ fn grown(mut time: impl FnMut(&[u8]) -> Timed, limits: &Limits) -> Result<(), St
     Ok(())
 }
 
+/// Four generated files of about a million visits.
+pub fn million(limits: &Limits) -> Vec<(String, Vec<u8>)> {
+    (0..40)
+        .map(|seed| (format!("visits-{seed}"), files::generate("visits", seed)))
+        .filter(|(_, file)| matches!(judge::answer(file, limits).answer, Answer::Lines(_)))
+        .take(4)
+        .collect()
+}
+
 /// Files of one shape each, with where the time goes on both sides, and a million visits.
 fn shapes(rounds: u32) -> Done {
     let limits = Limits::default();
@@ -311,14 +320,7 @@ fn shapes(rounds: u32) -> Done {
             all.push((name, file));
         }
     }
-    let mut visits = 0;
-    for seed in 0..40 {
-        let file = files::generate("visits", seed);
-        if matches!(judge::answer(&file, &limits).answer, Answer::Lines(_)) && visits < 4 {
-            visits += 1;
-            all.push((format!("visits-{seed}"), file));
-        }
-    }
+    all.extend(million(&limits));
     parts(&all, rounds)
 }
 
@@ -404,19 +406,22 @@ pub fn right(name: &str, file: &[u8], expected: &Answer, limits: &Limits) -> Res
     Err(format!("{name}: the port's answer is another ({first})"))
 }
 
+/// Forms of so many queries: the means of five.
+pub struct Formed {
+    pub queries: usize,
+    pub bytes: usize,
+    pub port: Duration,
+    pub rust: Duration,
+    pub lines: Duration,
+    /// The port's calls on files of one query each.
+    pub alone: Duration,
+}
+
 /// A form beside the Rust that reads the schema once, and beside a call of the port for each query alone.
-fn forms(rounds: u32) -> Done {
+pub fn form_times(rounds: u32) -> Result<Vec<Formed>, String> {
     let limits = Limits::default();
     let mut slices = Slices::new(&limits);
-    println!("{BEST}");
-    println!(
-        "times in us: the port's call on a form, the Rust (one reading, one schema, a tree and a check for each query),"
-    );
-    println!("and the port's calls on files of one query each; ratios of the first to the others");
-    println!(
-        "{:>7} {:>6} {:>9} {:>9} {:>9} {:>9} | {:>6} {:>7} {:>6}",
-        "queries", "bytes", "port", "Rust", "[lines]", "alone", "Rust", "[lines]", "alone"
-    );
+    let mut all = vec![];
     for queries in [1, 2, 4, 8, 15, 30, 60, 64] {
         let mut sums = [Duration::ZERO; 4];
         let mut bytes = 0;
@@ -451,9 +456,28 @@ fn forms(rounds: u32) -> Done {
                 *sum += best / 5;
             }
         }
-        let [port, rust, lines, alone] = sums.map(|time| time.as_secs_f64() * 1e6);
+        let [port, rust, lines, alone] = sums;
+        all.push(Formed { queries, bytes, port, rust, lines, alone });
+    }
+    Ok(all)
+}
+
+fn forms(rounds: u32) -> Done {
+    println!("{BEST}");
+    println!(
+        "times in us: the port's call on a form, the Rust (one reading, one schema, a tree and a check for each query),"
+    );
+    println!("and the port's calls on files of one query each; ratios of the first to the others");
+    println!(
+        "{:>7} {:>6} {:>9} {:>9} {:>9} {:>9} | {:>6} {:>7} {:>6}",
+        "queries", "bytes", "port", "Rust", "[lines]", "alone", "Rust", "[lines]", "alone"
+    );
+    for form in form_times(rounds)? {
+        let [port, rust, lines, alone] = [form.port, form.rust, form.lines, form.alone].map(micros);
         println!(
-            "{queries:7} {bytes:6} {port:9.2} {rust:9.2} {lines:9.2} {alone:9.2} | {:6.2} {:>7} {:6.2}",
+            "{:7} {:6} {port:9.2} {rust:9.2} {lines:9.2} {alone:9.2} | {:6.2} {:>7} {:6.2}",
+            form.queries,
+            form.bytes,
             port / rust,
             format!("[{:.2}]", port / lines),
             port / alone

@@ -431,8 +431,20 @@ fn widened_type(line: &[u8], at: usize, wide: &mut Vec<u8>, count: &mut u64) -> 
     }
 }
 
+/// One file's times, each the quickest.
+pub struct Converted {
+    pub name: String,
+    pub bytes: usize,
+    pub widen: Duration,
+    pub back: Duration,
+    /// Reading and clearing alone.
+    pub read: Duration,
+    defined: Duration,
+    pub copy: Duration,
+}
+
 /// Times of a conversion beside the reading alone and beside a copy of the file.
-pub fn bench(rounds: u32) -> Done {
+pub fn times(rounds: u32) -> Result<Vec<Converted>, String> {
     if !linked::convert::HAS || !linked::HAS_CHECK {
         return Err(format!(
             "nothing to time: {NO_LIBRARY} or has no converters"
@@ -444,7 +456,7 @@ pub fn bench(rounds: u32) -> Done {
     };
     let mut work = vec![0; limits.words];
     let mut out = vec![0; limits.bytes];
-    println!("us for a file: out, back, reading and clearing alone, the definition's out, a copy");
+    let mut all = vec![];
     for (name, wide) in sizes() {
         let Answer::Lines(narrow) = judge::convert(&wide, Edition::Wide, &limits) else {
             return Err(format!("{name} can't be converted"));
@@ -486,10 +498,21 @@ pub fn bench(rounds: u32) -> Done {
                 black_box(&out);
             });
         }
-        let [widen, narrow_, read, rust, copy] = best.map(|time| time.as_secs_f64() * 1e6);
+        let [widen, back, read, defined, copy] = best;
+        all.push(Converted { name, bytes: narrow.len(), widen, back, read, defined, copy });
+    }
+    Ok(all)
+}
+
+pub fn bench(rounds: u32) -> Done {
+    println!("us for a file: out, back, reading and clearing alone, the definition's out, a copy");
+    for one in times(rounds)? {
+        let [widen, back, read, defined, copy] =
+            [one.widen, one.back, one.read, one.defined, one.copy].map(|time| time.as_secs_f64() * 1e6);
         println!(
-            "{name:24} {:6} bytes: {widen:8.1} {narrow_:8.1} {read:8.1} {rust:8.1} {copy:8.2}; out / reading {:.2}",
-            narrow.len(),
+            "{:24} {:6} bytes: {widen:8.1} {back:8.1} {read:8.1} {defined:8.1} {copy:8.2}; out / reading {:.2}",
+            one.name,
+            one.bytes,
             widen / read
         );
     }

@@ -153,15 +153,31 @@ fn quickest(rounds: u32, mut work: impl FnMut()) -> Duration {
         .unwrap_or_default()
 }
 
+/// The lamp's time and the full call's on one file.
+pub struct Lit {
+    pub name: String,
+    /// Where the diagnostic stands.
+    pub place: &'static str,
+    visits: u64,
+    lamp: Duration,
+    full: Duration,
+}
+
+impl Lit {
+    pub fn ratio(&self) -> f64 {
+        self.lamp.as_secs_f64() / self.full.as_secs_f64()
+    }
+}
+
 /// Files of many visits with a diagnostic first, in the midst and last.
-pub fn bench(rounds: u32) -> Done {
+pub fn times(rounds: u32) -> Result<Vec<Lit>, String> {
     if !linked::HAS_LAMP || !linked::HAS_CHECK {
         return Err(format!("nothing to time: {NO_LAMP}"));
     }
     let limits = Limits::default();
     let mut answer = vec![0_u8; limits.bytes];
     let mut work = vec![0_u32; limits.words];
-    println!("{:>10} {:>10} {:>9} {:>12} {:>12} {:>8}", "file", "diagnostic", "visits", "lamp us", "full us", "ratio");
+    let mut all = vec![];
     let places: [(&str, fn(usize) -> usize); 3] = [("first", |_| 0), ("midst", |n| n / 2), ("last", |n| n)];
     let mut taken = 0;
     for seed in 0..1000 {
@@ -181,14 +197,23 @@ pub fn bench(rounds: u32) -> Done {
             let full = quickest(rounds, || {
                 linked::check(&bytes, &mut work, &mut answer);
             });
-            println!(
-                "{:>10} {place:>10} {visits:>9} {:>12.1} {:>12.1} {:>8.4}",
-                format!("visits-{seed}"),
-                lamp.as_secs_f64() * 1e6,
-                full.as_secs_f64() * 1e6,
-                lamp.as_secs_f64() / full.as_secs_f64()
-            );
+            all.push(Lit { name: format!("visits-{seed}"), place, visits, lamp, full });
         }
+    }
+    Ok(all)
+}
+
+pub fn bench(rounds: u32) -> Done {
+    println!("{:>10} {:>10} {:>9} {:>12} {:>12} {:>8}", "file", "diagnostic", "visits", "lamp us", "full us", "ratio");
+    for lit in times(rounds)? {
+        let (lamp, full) = (lit.lamp.as_secs_f64() * 1e6, lit.full.as_secs_f64() * 1e6);
+        println!(
+            "{:>10} {:>10} {:>9} {lamp:>12.1} {full:>12.1} {:>8.4}",
+            lit.name,
+            lit.place,
+            lit.visits,
+            lit.ratio()
+        );
     }
     Ok(true)
 }

@@ -127,7 +127,7 @@ oracle bench report [--rounds R]
     query each. Lamp: files whose first diagnostic stands before, amid or after a million visits, beside the
     full call. Texts: both text tests on names of 511 bytes beside the Rust's own. Convert: both converters
     beside reading alone (the check of the file without its last line), the definition, and a copy of the file.
-    Report: styles, shapes, messages and growth as one page of ratios; tools/bench keeps it as docs/BENCH.md.
+    Report: all of these as one page of ratios, and the stack; tools/bench keeps it as docs/BENCH.md.
 
 oracle record [--check]
     Writes crates/replay/stdin, the recorded sample of answers; with --check holds it against the

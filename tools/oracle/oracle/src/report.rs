@@ -6,6 +6,7 @@ use judge::{Answer, Limits, Parts};
 
 use crate::Done;
 use crate::bench::{self, Slices};
+use crate::{convert, stack, texts as tests};
 
 /// How long a part of the report may go on with further rounds once each file had its first ones.
 const PATIENCE: Duration = Duration::from_secs(50);
@@ -20,9 +21,16 @@ pub fn run(rounds: u32) -> Done {
     println!("the quickest of {rounds} rounds in turn, in one process; below 1 the port is quicker. How both were built:");
     println!("{}.", bench::BEST);
     styles(rounds)?;
-    parts("Shapes", &files::shapes(), rounds)?;
+    let mut shapes = files::shapes();
+    shapes.extend(bench::million(&Limits::default()));
+    parts("Shapes", &shapes, rounds)?;
     parts("Messages", &files::speaking(), rounds)?;
     growth(rounds)?;
+    forms(rounds)?;
+    lamp(rounds)?;
+    converters(rounds)?;
+    texts(rounds)?;
+    stack()?;
     Ok(true)
 }
 
@@ -153,6 +161,88 @@ fn styles(rounds: u32) -> Result<(), String> {
             ratios[(ratios.len() - 1) / 2],
             ratios[ratios.len() - 1]
         );
+    }
+    Ok(())
+}
+
+/// Forms beside the Rust, which reads the schema once, and beside calls with one query each.
+fn forms(rounds: u32) -> Result<(), String> {
+    println!("\n## Forms\n");
+    println!("Five forms each; the last column is to the port's calls on files of one query each.\n");
+    println!("| queries | bytes | ratio | with the Rust's lines | to calls of one query each |");
+    println!("|---|---|---|---|---|");
+    for form in bench::form_times(rounds)? {
+        println!(
+            "| {} | {} | {:.2} | {:.2} | {:.2} |",
+            form.queries,
+            form.bytes,
+            ratio(form.port, form.rust),
+            ratio(form.port, form.lines),
+            ratio(form.port, form.alone)
+        );
+    }
+    Ok(())
+}
+
+/// The lamp beside the full call.
+fn lamp(rounds: u32) -> Result<(), String> {
+    println!("\n## The lamp\n");
+    println!("Files of about a million visits with a diagnostic: the lamp's time to the full call's.\n");
+    println!("| file | its diagnostic | ratio |");
+    println!("|---|---|---|");
+    for lit in crate::lamp::times(rounds)? {
+        println!("| {} | {} | {:.2} |", lit.name, lit.place, lit.ratio());
+    }
+    Ok(())
+}
+
+/// The converters beside the reading of the same file, and a copy of it in memory.
+fn converters(rounds: u32) -> Result<(), String> {
+    println!("\n## The converters\n");
+    println!("Ratios to reading the file and clearing the slices.\n");
+    println!("| file | bytes | out | back | a copy in memory |");
+    println!("|---|---|---|---|---|");
+    for one in convert::times(rounds)? {
+        println!(
+            "| {} | {} | {:.2} | {:.2} | {:.2} |",
+            one.name,
+            one.bytes,
+            ratio(one.widen, one.read),
+            ratio(one.back, one.read),
+            ratio(one.copy, one.read)
+        );
+    }
+    Ok(())
+}
+
+/// The two tests of a text beside each other and beside the Rust's.
+fn texts(rounds: u32) -> Result<(), String> {
+    println!("\n## Texts\n");
+    println!("Long names: the test by table to the first one, which the reading uses; both to the Rust's.\n");
+    println!("| text | characters | table to first | first to the Rust | table to the Rust |");
+    println!("|---|---|---|---|---|");
+    for one in tests::times(rounds.max(20))? {
+        println!(
+            "| {} | {} | {:.2} | {:.2} | {:.2} |",
+            one.name,
+            one.characters,
+            ratio(one.table, one.first),
+            ratio(one.first, one.rust),
+            ratio(one.table, one.rust)
+        );
+    }
+    Ok(())
+}
+
+/// The greatest use of the stack; it is counted, not timed.
+fn stack() -> Result<(), String> {
+    println!("\n## Stack\n");
+    let found = stack::found()?;
+    println!("The files that take the most of {}, on a painted stack:\n", found.len());
+    println!("| file | bytes | stack, bytes |");
+    println!("|---|---|---|");
+    for one in found.iter().take(4) {
+        println!("| {} | {} | {} |", one.name, one.file.len(), one.bytes);
     }
     Ok(())
 }

@@ -9,15 +9,22 @@ use crate::options::Options;
 /// Seeds of the styles that go deep.
 const SEEDS: u64 = 300;
 
-pub fn run(given: &[String]) -> Done {
-    let options = Options::parse(given, &["out", "most"], &[])?;
+/// What the call used on one file, and how it ended.
+pub struct Used {
+    pub bytes: usize,
+    number: u8,
+    pub name: String,
+    pub file: Vec<u8>,
+}
+
+/// The deepest files, the one that takes the most first.
+pub fn found() -> Result<Vec<Used>, String> {
     if !linked::HAS_CHECK {
         return Err(format!(
             "nothing to measure: {}",
             crate::compare::NO_LIBRARY
         ));
     }
-    let most: Option<usize> = options.number("most")?;
     let mut files = files::stacked();
     for style in ["deep", "deepest", "visits", "edge", "large"] {
         let count = if style == "deepest" {
@@ -34,30 +41,36 @@ pub fn run(given: &[String]) -> Done {
     let mut answer = vec![0; limits.bytes];
     let mut painted = Painted::new()?;
     let mut found = vec![];
-    for (name, file) in &files {
-        let (used, number) = painted.used(file, &mut work, &mut answer)?;
-        found.push((used, number, name, file));
+    for (name, file) in files {
+        let (bytes, number) = painted.used(&file, &mut work, &mut answer)?;
+        found.push(Used { bytes, number, name, file });
     }
-    found.sort_by_key(|(used, ..)| std::cmp::Reverse(*used));
-    for (used, number, name, file) in found.iter().take(8) {
-        let how = match number {
+    found.sort_by_key(|one| std::cmp::Reverse(one.bytes));
+    Ok(found)
+}
+
+pub fn run(given: &[String]) -> Done {
+    let options = Options::parse(given, &["out", "most"], &[])?;
+    let most: Option<usize> = options.number("most")?;
+    let found = found()?;
+    for one in found.iter().take(8) {
+        let how = match one.number {
             0 => "accepted".to_owned(),
             number => format!("refused with {number}"),
         };
-        println!(
-            "{used:8} bytes of stack: {name}, a file of {} bytes, {how}",
-            file.len()
-        );
+        println!("{:8} bytes of stack: {}, a file of {} bytes, {how}", one.bytes, one.name, one.file.len());
     }
-    let Some((used, _, name, file)) = found.first() else {
+    let Some(deepest) = found.first() else {
         return Err("there are no files".to_owned());
     };
     if let Some(path) = options.text("out") {
-        std::fs::write(path, file).map_err(|why| format!("{path}: {why}"))?;
+        std::fs::write(path, &deepest.file).map_err(|why| format!("{path}: {why}"))?;
     }
     println!(
-        "stack: {} files, {used} bytes at most, by {name}",
-        found.len()
+        "stack: {} files, {} bytes at most, by {}",
+        found.len(),
+        deepest.bytes,
+        deepest.name
     );
-    Ok(most.is_none_or(|most| *used <= most))
+    Ok(most.is_none_or(|most| deepest.bytes <= most))
 }

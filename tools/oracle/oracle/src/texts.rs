@@ -100,18 +100,21 @@ fn long_names() -> [(&'static str, Vec<u8>); 5] {
     ]
 }
 
+/// What one name takes by the first test, by the one of the table and by the Rust.
+pub struct Named {
+    pub name: &'static str,
+    pub characters: u64,
+    pub first: Duration,
+    pub table: Duration,
+    pub rust: Duration,
+}
+
 /// Both tests and the Rust's on long names: the quickest round of each, taken in turn.
-pub fn bench(rounds: u32) -> Done {
+pub fn times(rounds: u32) -> Result<Vec<Named>, String> {
     if !HAS {
         return Err(format!("nothing to time: {NO_LIBRARY}"));
     }
-    println!(
-        "names of {LENGTH} bytes, ns for each; the Rust: str::from_utf8 and the characters counted"
-    );
-    println!(
-        "{:12} {:>10} {:>8} {:>8} {:>8} {:>12} {:>11} {:>11}",
-        "text", "characters", "first", "table", "Rust", "table/first", "first/Rust", "table/Rust"
-    );
+    let mut all = vec![];
     for (name, text) in long_names() {
         let mut best = [Duration::MAX; 3];
         let tests: [fn(&[u8]) -> Option<u64>; 3] = [characters, characters_by_table, by_the_rust];
@@ -128,10 +131,26 @@ pub fn bench(rounds: u32) -> Done {
         if counts != [counts[2]; 3] {
             return Err(format!("{name}: the tests count {counts:?}"));
         }
-        let [first, table, rust] = best.map(|time| time.as_secs_f64() * 1e9);
+        let [first, table, rust] = best;
+        all.push(Named { name, characters: counts[2].unwrap_or(0), first, table, rust });
+    }
+    Ok(all)
+}
+
+pub fn bench(rounds: u32) -> Done {
+    println!(
+        "names of {LENGTH} bytes, ns for each; the Rust: str::from_utf8 and the characters counted"
+    );
+    println!(
+        "{:12} {:>10} {:>8} {:>8} {:>8} {:>12} {:>11} {:>11}",
+        "text", "characters", "first", "table", "Rust", "table/first", "first/Rust", "table/Rust"
+    );
+    for one in times(rounds)? {
+        let [first, table, rust] = [one.first, one.table, one.rust].map(|time| time.as_secs_f64() * 1e9);
         println!(
-            "{name:12} {:10} {first:8.0} {table:8.0} {rust:8.0} {:12.2} {:11.2} {:11.2}",
-            counts[2].unwrap_or(0),
+            "{:12} {:10} {first:8.0} {table:8.0} {rust:8.0} {:12.2} {:11.2} {:11.2}",
+            one.name,
+            one.characters,
             table / first,
             first / rust,
             table / rust

@@ -1,7 +1,7 @@
 -- Statements fill what is left exactly where they fill the whole.
 use mathlib.Core.Path.{◌≡◌}
 use lib.ListN.{length}
-use Rattle.meaning.specs.Frame.{many}
+use Rattle.format.specs.Frame.{many}
 use Rattle.frames.specs.Promises.{wholly, statement}
 use Rattle.frames.proofs.forms.are_statements.Given as goal
 

@@ -16,5 +16,6 @@ ends p s = else_all _ _ (prefix_len-le-length (λ x. not (p x)) s)
 
 pub returns : goal.returns
 returns c =
-    let e = position_from_yields_List (λ b. b == 10) _ _ c.position.result c.position.ensures.ran (YieldsList-from_slice c.args.s.now cc) (λ x b q k. search (rules, tests)) in
+    let e = position_from_yields_List (λ b. b == 10) _ _ c.position.result c.position.ensures.ran (YieldsList-from_slice c.args.s.now cc)
+    (λ x b q k. search (rules, tests)) in
     ap (λ n. take n c.args.s.now) (c.unwrap_or-end.ensures ∙ rw e (ends (λ b. b == 10) c.args.s.now))

@@ -20,25 +20,33 @@ loop-j-init c = look_start _ _ _ _ _ _
 
 pub loop-j-preserved-then-wide-chars : goal.loop-j-preserved-then-wide-chars
 loop-j-preserved-then-wide-chars c = look_next c.loop-j.invariant c.loop-j-test.true
-    (at_place _ _ c.word-x.ensures c.wide.ensures.0 (name_other_count c.args.line.file.now c.word-x.result c.args.line.at c.args.line.bytes.now _ (λ q. c.if-wide-chars.true (c.wide-in-loop-j.ensures.0 ∙ c.name_chars.ensures ∙ q)))) refl
+    (at_place _ _ c.word-x.ensures c.wide.ensures.0
+    (name_other_count c.args.line.file.now c.word-x.result c.args.line.at c.args.line.bytes.now _
+    (λ q. c.if-wide-chars.true (c.wide-in-loop-j.ensures.0 ∙ c.name_chars.ensures ∙ q)))) refl
 
 pub loop-j-preserved-in_default : goal.loop-j-preserved-in_default
 loop-j-preserved-in_default c = let h = c.in_default.ensures.lookup.0 in look_next c.loop-j.invariant c.loop-j-test.true
-    (at_place _ _ c.word-x.ensures c.wide.ensures.0 (name_nowhere c.args.line.file.now c.word-x.result c.args.line.at c.args.line.bytes.now _ (⊎_elim (λ l. omega (arith, c.wide-in-loop-j-2.ensures.0, c.name_place.ensures)) (λ l. absurd (omega arith)) h))) refl
+    (at_place _ _ c.word-x.ensures c.wide.ensures.0
+    (name_nowhere c.args.line.file.now c.word-x.result c.args.line.at c.args.line.bytes.now _
+    (⊎_elim (λ l. omega (arith, c.wide-in-loop-j-2.ensures.0, c.name_place.ensures)) (λ l. absurd (omega arith)) h))) refl
 
 pub returns-then-begins : goal.returns-then-begins
 returns-then-begins c = look_found c.loop-j.invariant c.loop-j-test.true
-    (at_place _ _ c.word-x.ensures c.wide.ensures.0 (name_compared c.args.line.file.now c.word-x.result c.args.line.at c.args.line.bytes.now _ _ _ c.digits-digits.ensures
+    (at_place _ _ c.word-x.ensures c.wide.ensures.0
+    (name_compared c.args.line.file.now c.word-x.result c.args.line.at c.args.line.bytes.now _ _ _ c.digits-digits.ensures
     (rw (c.wide-in-loop-j-2.ensures.0, c.name_place.ensures) at c.in-Some.ensures.lookup.0.2) _ c.begins.ensures)) c.if-begins.true
 
 pub loop-j-preserved : goal.loop-j-preserved
 loop-j-preserved c = elim c.else-is_none.branch [
   | else-is_none-via-then-is_none+else-begins w ↦ look_next c.loop-j.invariant c.loop-j-test.true
-      (at_place _ _ c.word-x.ensures c.wide.ensures.0 (name_compared c.args.line.file.now c.word-x.result c.args.line.at c.args.line.bytes.now _ _ _ c.digits-digits.ensures
+      (at_place _ _ c.word-x.ensures c.wide.ensures.0
+      (name_compared c.args.line.file.now c.word-x.result c.args.line.at c.args.line.bytes.now _ _ _ c.digits-digits.ensures
       (rw (c.wide-in-loop-j-2.ensures.0, c.name_place.ensures) at c.in-Some.ensures.lookup.0.2) _ w.begins.ensures)) w.if-begins.false
   | else-is_none-via-else-is_none w ↦ look_next c.loop-j.invariant c.loop-j-test.true
-      (at_place _ _ c.word-x.ensures c.wide.ensures.0 (name_differs c.args.line.file.now c.word-x.result c.args.line.at c.args.line.bytes.now _ _ _ c.digits-digits.ensures
-      (rw (c.wide-in-loop-j-2.ensures.0, c.name_place.ensures) at c.in-Some.ensures.lookup.0.2) _ c.differ-place.ensures (c.is_none.ensures ∙ ap not w.if-is_none.false))) refl
+      (at_place _ _ c.word-x.ensures c.wide.ensures.0
+      (name_differs c.args.line.file.now c.word-x.result c.args.line.at c.args.line.bytes.now _ _ _ c.digits-digits.ensures
+      (rw (c.wide-in-loop-j-2.ensures.0, c.name_place.ensures) at c.in-Some.ensures.lookup.0.2) _ c.differ-place.ensures
+      (c.is_none.ensures ∙ ap not w.if-is_none.false))) refl
 ]
 
 pub returns : goal.returns

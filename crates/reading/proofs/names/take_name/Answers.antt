@@ -9,21 +9,31 @@ returns-in_err-chars c =
     rw (p.1, p.2, t.0) (record { is = λ e. name_broken e c.args.line.file.now _ c.args.line.bytes.now _ _ t.1 })
 
 pub returns-then-given_before : goal.returns-then-given_before
-returns-then-given_before c = record { is = λ e. name_given e c.args.line.file.now _ c.args.line.bytes.now _ _ _ (text_some c.args.line.bytes.now _ c.characters.ensures _ _ c.in_ok-chars.ensures.value) (rw c.if-given_before.true at c.given_before.ensures) }
+returns-then-given_before c =
+    record {
+      is = λ e. name_given e c.args.line.file.now _ c.args.line.bytes.now _ _ _
+          (text_some c.args.line.bytes.now _ c.characters.ensures _ _ c.in_ok-chars.ensures.value) (rw c.if-given_before.true at c.given_before.ensures);
+    }
 
 pub name_word-requires : goal.name_word-requires
-name_word-requires c = (c.args.line.placed, few_characters c.args.line.bytes.now _ (text_some _ _ c.characters.ensures _ _ c.in_ok-chars.ensures.value) c.args.line.some c.args.line.short)
+name_word-requires c = (
+  c.args.line.placed,
+  few_characters c.args.line.bytes.now _ (text_some _ _ c.characters.ensures _ _ c.in_ok-chars.ensures.value)
+      c.args.line.some c.args.line.short,
+)
 
 pub returns-then-eq : goal.returns-then-eq
 returns-then-eq c = record {
   is = λ e. name_adds e c.args.line.file.now _ c.args.line.bytes.now _ _ _ (text_some _ _ c.characters.ensures _ _ c.in_ok-chars.ensures.value)
       (rw c.if-given_before.false at c.given_before.ensures) _
-      (value_true c.args.line.bytes.now c.args.c.names c.args.c.value _ c.as_slice.ensures _ c.eq.ensures c.if-eq.true) _ (rw (c.wide.ensures.0, c.name_word.ensures) at c.put.ensures);
+      (value_true c.args.line.bytes.now c.args.c.names c.args.c.value _ c.as_slice.ensures _ c.eq.ensures c.if-eq.true) _
+      (rw (c.wide.ensures.0, c.name_word.ensures) at c.put.ensures);
 }
 
 pub returns-else-eq : goal.returns-else-eq
 returns-else-eq c = record {
   is = λ e. name_adds e c.args.line.file.now _ c.args.line.bytes.now _ _ _ (text_some _ _ c.characters.ensures _ _ c.in_ok-chars.ensures.value)
       (rw c.if-given_before.false at c.given_before.ensures) _
-      (value_false c.args.line.bytes.now c.args.c.names c.args.c.value _ c.as_slice.ensures _ c.eq.ensures c.if-eq.false) _ (rw (c.wide.ensures.0, c.name_word.ensures) at c.put.ensures);
+      (value_false c.args.line.bytes.now c.args.c.names c.args.c.value _ c.as_slice.ensures _ c.eq.ensures c.if-eq.false) _
+      (rw (c.wide.ensures.0, c.name_word.ensures) at c.put.ensures);
 }

@@ -11,4 +11,5 @@ returns-in_err-name_all c =
     rw (p.1, p.2, m.0) (node_bad _ _ c.args.line.bytes.now _ c.args.c _ m.1)
 
 pub returns : goal.returns
-returns c = node_takes _ _ c.args.line.bytes.now _ c.args.c _ (told_there c.in_ok-name_all.ensures refl) _ (rw (c.wide.ensures.0, c.node_word.ensures) at c.put.ensures)
+returns c =
+    node_takes _ _ c.args.line.bytes.now _ c.args.c _ (told_there c.in_ok-name_all.ensures refl) _ (rw (c.wide.ensures.0, c.node_word.ensures) at c.put.ensures)

@@ -20,7 +20,8 @@ loop-bytes-preserved g c =
     record {
       place = omega (arith, c.loop-bytes.invariant.place, few_words k, n);
       words = c.loop-bytes.invariant.words
-          ∙ ap (λ l. sets c.loop-bytes.w c.loop-bytes.at (words_of k l)) (front_is c.args.parts.now _ c.bytes-item.result c.loop-bytes-test.true c.bytes-item.is)
+          ∙ ap (λ l. sets c.loop-bytes.w c.loop-bytes.at (words_of k l))
+          (front_is c.args.parts.now _ c.bytes-item.result c.loop-bytes-test.true c.bytes-item.is)
           ∙ words_next k c.bytes-item.result left c.loop-bytes.w c.loop-bytes.at
           ∙ ap (λ v. sets v (c.loop-bytes.at + part_words k) (words_of k left)) (sym c.put.ensures)
           ∙ ap (λ (m : ℕ). sets c.put.new.w (c.loop-bytes.at + m) (words_of k left)) (sym n);

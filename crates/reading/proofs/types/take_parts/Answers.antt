@@ -5,7 +5,7 @@ use lib.ListN.{length}
 use lib.Seq.{sets}
 use borrow.Author.Tests.{not-true, not-false}
 use Rattle.work.specs.Layout.{FIELDS}
-use Rattle.meaning.specs.Conditions.{again}
+use Rattle.format.specs.Conditions.{again}
 use Rattle.reading.specs.Parts.{keys_of, words_of}
 use Rattle.reading.proofs.Walks.{earlier}
 use Rattle.reading.proofs.Cuts.{length_cuts}

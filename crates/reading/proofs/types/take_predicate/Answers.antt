@@ -17,16 +17,30 @@ returns-then-c-p c = record {
 pub returns-then-p-eq0 : goal.returns-then-p-eq0
 returns-then-p-eq0 c = record {
   is = λ e. predicate_takes e c.args.s.now _ _ c.requires.0 None (value_none c.args.s.now (sym c.read_predicate-p.ensures.flag ∙ c.if-p-eq0.true))
-      (none_there e c.args.s.now c.args.w.now c.args.c c.requires.0 (rw c.read_predicate-p.ensures.name at c.if-c-p.false) (rw c.read_predicate-p.ensures.key at c.if-c-p-2.false)) _ _ _
+      (none_there e c.args.s.now c.args.w.now c.args.c c.requires.0 (rw c.read_predicate-p.ensures.name at c.if-c-p.false)
+      (rw c.read_predicate-p.ensures.key at c.if-c-p-2.false)) _ _ _
       (omega (arith, c.read_predicate-p.ensures.name, c.read_predicate-p.ensures.key, c.predicate_word-entry.ensures)) c.add_predicate.ensures;
 }
 
 pub returns-then-c-p-3 : goal.returns-then-c-p-3
-returns-then-c-p-3 c = record { is = λ e. predicate_bad e c.args.s.now _ _ c.requires.0 (λ v a. no_value_lem e c.args.s.now c.args.w.now c.args.c c.requires.0 (λ q. c.if-p-eq0.false (c.read_predicate-p.ensures.flag ∙ q)) (rw c.read_predicate-p.ensures.value at c.if-c-p-3.true) v a) }
+returns-then-c-p-3 c =
+    record {
+      is = λ e. predicate_bad e c.args.s.now _ _ c.requires.0
+          (λ v a. no_value_lem e c.args.s.now c.args.w.now c.args.c c.requires.0 (λ q. c.if-p-eq0.false (c.read_predicate-p.ensures.flag ∙ q))
+          (rw c.read_predicate-p.ensures.value at c.if-c-p-3.true) v a);
+    }
 
 pub returns : goal.returns
 returns c = record {
   is = λ e. predicate_takes e c.args.s.now _ _ c.requires.0 _ (value_some c.args.s.now (λ q. c.if-p-eq0.false (c.read_predicate-p.ensures.flag ∙ q)))
-      (some_there e c.args.s.now c.args.w.now c.args.c c.requires.0 (rw c.read_predicate-p.ensures.name at c.if-c-p.false) (rw c.read_predicate-p.ensures.key at c.if-c-p-2.false) (rw c.read_predicate-p.ensures.value at c.if-c-p-3.false)) _ _ _
-      (omega (arith, c.read_predicate-p.ensures.name, c.read_predicate-p.ensures.key, c.read_predicate-p.ensures.value, c.predicate_word-entry.ensures, c.with_value.ensures)) c.add_predicate-2.ensures;
+      (some_there e c.args.s.now c.args.w.now c.args.c c.requires.0 (rw c.read_predicate-p.ensures.name at c.if-c-p.false)
+      (rw c.read_predicate-p.ensures.key at c.if-c-p-2.false) (rw c.read_predicate-p.ensures.value at c.if-c-p-3.false)) _ _ _
+      (omega (
+        arith,
+        c.read_predicate-p.ensures.name,
+        c.read_predicate-p.ensures.key,
+        c.read_predicate-p.ensures.value,
+        c.predicate_word-entry.ensures,
+        c.with_value.ensures,
+      )) c.add_predicate-2.ensures;
 }

@@ -1,10 +1,11 @@
 use Rattle.std.proofs.Common.{refl, arith}
 use Rattle.unification.specs.Ty as Tree
 use Rattle.cells.specs.declared.Kind.TheVariants.{Fields, Alternatives}
-use Rattle.meaning.specs.Diag.{ascii}
+use Rattle.format.specs.Bytes.{ascii}
 use Rattle.meaning.specs.Messages.{render, render_leaf}
 use Rattle.messages.proofs.Showing.{shows_where, shows_text}
-use Rattle.messages.proofs.Rendering.{leaf_shown, var_shown, error_shown, render_as, render_cell, cell_start, before_full, type_full, after_full, after_cut, after_parted, after_last, part_next, parts_done, brace_full, brace_moves, brace_then}
+use Rattle.messages.proofs.Rendering.{leaf_shown, var_shown, error_shown, render_as, render_cell, cell_start, before_full, type_full, after_full, after_cut}
+use Rattle.messages.proofs.Rendering.{after_parted, after_last, part_next, parts_done, brace_full, brace_moves, brace_then}
 use Rattle.messages.proofs.shown.View.+rendering.Goals as goal
 use Rattle.messages.proofs.shown.View.+rendering.Goals.{cell-then-j-n+in_ok-to-5, cell-else-j-n}
 
@@ -23,29 +24,44 @@ cell-returns-in_err-to-2 t c = rw c.from_residual-in_err-to-2.ensures (brace_the
 pub cell-render-requires : goal.cell-render-requires
 cell-render-requires t c =
     let brace = c.byte.ensures in
-    omega (arith, brace_moves brace c.in_ok-to.was, c.loop-j.invariant.showing.moves.onward _ refl, c.loop-j.invariant.showing.moves.long, c.byte.ensures.long, c.before-in-loop-j.ensures.moves.onward _ c.in_ok-to-2.was, c.before-in-loop-j.ensures.moves.long)
+    omega (
+      arith,
+      brace_moves brace c.in_ok-to.was,
+      c.loop-j.invariant.showing.moves.onward _ refl,
+      c.loop-j.invariant.showing.moves.long,
+      c.byte.ensures.long,
+      c.before-in-loop-j.ensures.moves.onward _ c.in_ok-to-2.was,
+      c.before-in-loop-j.ensures.moves.long,
+    )
 
 pub cell-returns-in_err-to-3 : goal.cell-returns-in_err-to-3
 cell-returns-in_err-to-3 t c = rw c.from_residual-in_err-to-3.ensures (brace_then c.args.b c.args.k c.args.c c.byte.ensures c.in_ok-to.was
-    (type_full c.loop-j.invariant c.part_at-p.result c.loop-j-test.true c.part_at-p.ensures c.before-in-loop-j.ensures c.in_ok-to-2.was c.render.ensures c.in_err-to-3.was))
+    (type_full c.loop-j.invariant c.part_at-p.result c.loop-j-test.true c.part_at-p.ensures c.before-in-loop-j.ensures c.in_ok-to-2.was c.render.ensures
+    c.in_err-to-3.was))
 
 pub cell-returns-in_err-to-4 : goal.cell-returns-in_err-to-4
 cell-returns-in_err-to-4 t c = rw c.from_residual-in_err-to-4.ensures (brace_then c.args.b c.args.k c.args.c c.byte.ensures c.in_ok-to.was
-    (after_full c.loop-j.invariant c.part_at-p.result c.loop-j-test.true c.part_at-p.ensures c.before-in-loop-j.ensures c.in_ok-to-2.was c.render.ensures c.in_ok-to-3.was
+    (after_full c.loop-j.invariant c.part_at-p.result c.loop-j-test.true c.part_at-p.ensures c.before-in-loop-j.ensures c.in_ok-to-2.was c.render.ensures
+    c.in_ok-to-3.was
     (after_cut c.args.k c.part_at-p.result.key c.after.ensures _ c.in_err-to-4.was) refl))
 
 pub cell-returns-in_err-to-5 : goal.cell-returns-in_err-to-5
 cell-returns-in_err-to-5 t c = rw c.from_residual-in_err-to-5.ensures (brace_then c.args.b c.args.k c.args.c c.byte.ensures c.in_ok-to.was
-    (after_full c.loop-j.invariant c.part_at-p.result c.loop-j-test.true c.part_at-p.ensures c.before-in-loop-j.ensures c.in_ok-to-2.was c.render.ensures c.in_ok-to-3.was
-    (after_parted c.args.k c.part_at-p.result.key c.after.ensures c.in_ok-to-4.was _ _ c.if-j-n.true (rw c.between.ensures at c.text.ensures)) c.in_err-to-5.was))
+    (after_full c.loop-j.invariant c.part_at-p.result c.loop-j-test.true c.part_at-p.ensures c.before-in-loop-j.ensures c.in_ok-to-2.was c.render.ensures
+    c.in_ok-to-3.was
+    (after_parted c.args.k c.part_at-p.result.key c.after.ensures c.in_ok-to-4.was _ _ c.if-j-n.true (rw c.between.ensures at c.text.ensures))
+    c.in_err-to-5.was))
 
 pub cell-loop-j-preserved : goal.cell-loop-j-preserved
 cell-loop-j-preserved t c = elim c.if-j-n.branch [
   | cell-then-j-n+in_ok-to-5 w ↦ rw (w.out-is, w.to-is)
-      (part_next c.loop-j.invariant c.part_at-p.result c.loop-j-test.true c.part_at-p.ensures c.before-in-loop-j.ensures c.in_ok-to-2.was c.render.ensures c.in_ok-to-3.was
-      (after_parted c.args.k c.part_at-p.result.key c.after.ensures c.in_ok-to-4.was _ _ w.if-j-n.true (rw w.between.ensures at w.text.ensures)) w.in_ok-to-5.was)
+      (part_next c.loop-j.invariant c.part_at-p.result c.loop-j-test.true c.part_at-p.ensures c.before-in-loop-j.ensures c.in_ok-to-2.was c.render.ensures
+      c.in_ok-to-3.was
+      (after_parted c.args.k c.part_at-p.result.key c.after.ensures c.in_ok-to-4.was _ _ w.if-j-n.true (rw w.between.ensures at w.text.ensures))
+      w.in_ok-to-5.was)
   | cell-else-j-n w ↦ rw (w.out-is, w.to-is)
-      (part_next c.loop-j.invariant c.part_at-p.result c.loop-j-test.true c.part_at-p.ensures c.before-in-loop-j.ensures c.in_ok-to-2.was c.render.ensures c.in_ok-to-3.was
+      (part_next c.loop-j.invariant c.part_at-p.result c.loop-j-test.true c.part_at-p.ensures c.before-in-loop-j.ensures c.in_ok-to-2.was c.render.ensures
+      c.in_ok-to-3.was
       (after_last c.args.k c.part_at-p.result.key c.after.ensures _ _ w.if-j-n.false) c.in_ok-to-4.was)
 ]
 

@@ -7,12 +7,14 @@ use Rattle.messages.proofs.shown.View.write.Goals as goal
 
 pub returns-in_err-to : goal.returns-in_err-to
 returns-in_err-to c = rw c.from_residual.ensures
-    (showing_full c.loop-p.invariant (shows_where (λ v S o. piece_ok _ c.args.pieces.now _ _ c.loop-p-test.true o) c.piece.ensures) (pieces_text (drop (c.loop-p.p-index + 1) c.args.pieces.now))
+    (showing_full c.loop-p.invariant (shows_where (λ v S o. piece_ok _ c.args.pieces.now _ _ c.loop-p-test.true o) c.piece.ensures)
+    (pieces_text (drop (c.loop-p.p-index + 1) c.args.pieces.now))
     (λ v S o. pieces_more c.args.pieces.now _ _ c.loop-p-test.true v) c.in_err-to.was)
 
 pub loop-p-preserved : goal.loop-p-preserved
 loop-p-preserved c =
-    showing_next c.loop-p.invariant (shows_where (λ v S o. piece_ok _ c.args.pieces.now _ _ c.loop-p-test.true o) c.piece.ensures) (pieces_text (drop (c.loop-p.p-index + 1) c.args.pieces.now))
+    showing_next c.loop-p.invariant (shows_where (λ v S o. piece_ok _ c.args.pieces.now _ _ c.loop-p-test.true o) c.piece.ensures)
+    (pieces_text (drop (c.loop-p.p-index + 1) c.args.pieces.now))
     (λ v S o. pieces_more c.args.pieces.now _ _ c.loop-p-test.true v) c.in_ok-to.was
 
 pub returns : goal.returns

@@ -5,4 +5,5 @@ use Rattle.messages.proofs.Showing.{Showing}
 use Rattle.messages.proofs.shown.View.write.Given as goal
 
 abbrev pub invariant-loop-p : goal.invariant-loop-p
-invariant-loop-p l = Showing l.self.f.now l.self.w.now l.initial.out l.at (ok_pieces l.self.w.now l.pieces) (pieces_text l.pieces) l.out l.to (pieces_text (drop l.p-index l.pieces))
+invariant-loop-p l = Showing l.self.f.now l.self.w.now l.initial.out l.at (ok_pieces l.self.w.now l.pieces) (pieces_text l.pieces) l.out l.to
+    (pieces_text (drop l.p-index l.pieces))

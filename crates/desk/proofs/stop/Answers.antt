@@ -1,9 +1,0 @@
--- `desk::stop` meets its contract.
-use Rattle.desk.proofs.Opening.{stop_under, stop_limit}
-use Rattle.desk.proofs.stop.Goals as goal
-
-pub returns-then-ceiling-lt-VISITS : goal.returns-then-ceiling-lt-VISITS
-returns-then-ceiling-lt-VISITS c = stop_under _ c.if-ceiling-lt-VISITS.true
-
-pub returns-else-ceiling-lt-VISITS : goal.returns-else-ceiling-lt-VISITS
-returns-else-ceiling-lt-VISITS c = stop_limit _ c.if-ceiling-lt-VISITS.false
