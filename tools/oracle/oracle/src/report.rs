@@ -165,85 +165,81 @@ fn styles(rounds: u32) -> Result<(), String> {
     Ok(())
 }
 
+/// A part of the page that is one table.
+fn table(title: &str, text: &str, columns: &str, rows: impl Iterator<Item = String>) {
+    println!("\n## {title}\n\n{text}\n\n| {columns} |\n|{}", "---|".repeat(columns.split('|').count()));
+    for row in rows {
+        println!("| {row} |");
+    }
+}
+
 /// Forms beside the Rust, which reads the schema once, and beside calls with one query each.
 fn forms(rounds: u32) -> Result<(), String> {
-    println!("\n## Forms\n");
-    println!("Five forms each; the last column is to the port's calls on files of one query each.\n");
-    println!("| queries | bytes | ratio | with the Rust's lines | to calls of one query each |");
-    println!("|---|---|---|---|---|");
-    for form in bench::form_times(rounds)? {
-        println!(
-            "| {} | {} | {:.2} | {:.2} | {:.2} |",
-            form.queries,
-            form.bytes,
-            ratio(form.port, form.rust),
-            ratio(form.port, form.lines),
-            ratio(form.port, form.alone)
-        );
-    }
+    let rows = bench::form_times(rounds)?.into_iter().map(|form| {
+        let [rust, lines, alone] = [form.rust, form.lines, form.alone].map(|other| ratio(form.port, other));
+        format!("{} | {} | {rust:.2} | {lines:.2} | {alone:.2}", form.queries, form.bytes)
+    });
+    table(
+        "Forms",
+        "Five forms each; the last column is to the port's calls on files of one query each.",
+        "queries | bytes | ratio | with the Rust's lines | to calls of one query each",
+        rows,
+    );
     Ok(())
 }
 
 /// The lamp beside the full call.
 fn lamp(rounds: u32) -> Result<(), String> {
-    println!("\n## The lamp\n");
-    println!("Files of about a million visits with a diagnostic: the lamp's time to the full call's.\n");
-    println!("| file | its diagnostic | ratio |");
-    println!("|---|---|---|");
-    for lit in crate::lamp::times(rounds)? {
-        println!("| {} | {} | {:.2} |", lit.name, lit.place, lit.ratio());
-    }
+    let rows = crate::lamp::times(rounds)?;
+    table(
+        "The lamp",
+        "Files of about a million visits with a diagnostic: the lamp's time to the full call's.",
+        "file | its diagnostic | ratio",
+        rows.iter().map(|lit| format!("{} | {} | {:.2}", lit.name, lit.place, lit.ratio())),
+    );
     Ok(())
 }
 
 /// The converters beside the reading of the same file, and a copy of it in memory.
 fn converters(rounds: u32) -> Result<(), String> {
-    println!("\n## The converters\n");
-    println!("Ratios to reading the file and clearing the slices.\n");
-    println!("| file | bytes | out | back | a copy in memory |");
-    println!("|---|---|---|---|---|");
-    for one in convert::times(rounds)? {
-        println!(
-            "| {} | {} | {:.2} | {:.2} | {:.2} |",
-            one.name,
-            one.bytes,
-            ratio(one.widen, one.read),
-            ratio(one.back, one.read),
-            ratio(one.copy, one.read)
-        );
-    }
+    let rows = convert::times(rounds)?.into_iter().map(|one| {
+        let [out, back, copy] = [one.widen, one.back, one.copy].map(|time| ratio(time, one.read));
+        format!("{} | {} | {out:.2} | {back:.2} | {copy:.2}", one.name, one.bytes)
+    });
+    table(
+        "The converters",
+        "Ratios to reading the file and clearing the slices.",
+        "file | bytes | out | back | a copy in memory",
+        rows,
+    );
     Ok(())
 }
 
 /// The two tests of a text beside each other and beside the Rust's.
 fn texts(rounds: u32) -> Result<(), String> {
-    println!("\n## Texts\n");
-    println!("Long names: the test by table to the first one, which the reading uses; both to the Rust's.\n");
-    println!("| text | characters | table to first | first to the Rust | table to the Rust |");
-    println!("|---|---|---|---|---|");
-    for one in tests::times(rounds.max(20))? {
-        println!(
-            "| {} | {} | {:.2} | {:.2} | {:.2} |",
-            one.name,
-            one.characters,
-            ratio(one.table, one.first),
-            ratio(one.first, one.rust),
-            ratio(one.table, one.rust)
-        );
-    }
+    let rows = tests::times(rounds.max(20))?.into_iter().map(|one| {
+        let [to_first, first, by_table] =
+            [(one.table, one.first), (one.first, one.rust), (one.table, one.rust)].map(|(a, b)| ratio(a, b));
+        format!("{} | {} | {to_first:.2} | {first:.2} | {by_table:.2}", one.name, one.characters)
+    });
+    table(
+        "Texts",
+        "Long names: the test by table to the first one, which the reading uses; both to the Rust's.",
+        "text | characters | table to first | first to the Rust | table to the Rust",
+        rows,
+    );
     Ok(())
 }
 
 /// The greatest use of the stack; it is counted, not timed.
 fn stack() -> Result<(), String> {
-    println!("\n## Stack\n");
     let found = stack::found()?;
-    println!("The files that take the most of {}, on a painted stack:\n", found.len());
-    println!("| file | bytes | stack, bytes |");
-    println!("|---|---|---|");
-    for one in found.iter().take(4) {
-        println!("| {} | {} | {} |", one.name, one.file.len(), one.bytes);
-    }
+    table(
+        "Stack",
+        &format!("The files that take the most of {}, on a painted stack.", found.len()),
+        "file | bytes | stack, bytes",
+        found.iter().take(4).map(|one| format!("{} | {} | {}", one.name, one.file.len(), one.bytes)),
+    );
     Ok(())
 }
 
