@@ -21,9 +21,9 @@ pub fn run(rounds: u32) -> Done {
     println!("the quickest of {rounds} rounds in turn, in one process; below 1 the port is quicker. How both were built:");
     println!("{}.", bench::BEST);
     styles(rounds)?;
-    let mut shapes = files::shapes();
-    shapes.extend(bench::million(&Limits::default()));
-    parts("Shapes", &shapes, rounds)?;
+    parts("Shapes", &files::shapes(), rounds)?;
+    // By themselves: what the Rust allocates for one of these empties the caches, and the smallest file would pay.
+    parts("A million visits", &bench::million(&Limits::default()), rounds)?;
     parts("Messages", &files::speaking(), rounds)?;
     growth(rounds)?;
     forms(rounds)?;
