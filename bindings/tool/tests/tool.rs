@@ -2,16 +2,20 @@
 
 use std::io::Write;
 use std::path::PathBuf;
-use std::process::{Command, Output, Stdio};
+use std::process::{Child, Command, Output, Stdio};
 
-fn tool(arguments: &[&str], input: &[u8]) -> Output {
-    let mut child = Command::new(env!("CARGO_BIN_EXE_sigla-tool"))
+fn start(arguments: &[&str]) -> Child {
+    Command::new(env!("CARGO_BIN_EXE_sigla-tool"))
         .args(arguments)
         .stdin(Stdio::piped())
         .stdout(Stdio::piped())
         .stderr(Stdio::piped())
         .spawn()
-        .expect("the tool starts");
+        .expect("the tool starts")
+}
+
+fn tool(arguments: &[&str], input: &[u8]) -> Output {
+    let mut child = start(arguments);
     // a command that does not read its input may have ended by now
     let _ = child.stdin.take().expect("it is piped").write_all(input);
     child.wait_with_output().expect("the tool ends")
@@ -346,13 +350,7 @@ fn many_files_are_summed_up() {
 
 /// Runs the tool on an input that does not end after these bytes; it is to end all the same.
 fn endless(arguments: &[&str], input: &[u8]) -> (Option<i32>, String) {
-    let mut child = Command::new(env!("CARGO_BIN_EXE_sigla-tool"))
-        .args(arguments)
-        .stdin(Stdio::piped())
-        .stdout(Stdio::piped())
-        .stderr(Stdio::piped())
-        .spawn()
-        .expect("the tool starts");
+    let mut child = start(arguments);
     let mut pipe = child.stdin.take().expect("it is piped");
     pipe.write_all(input).expect("the tool reads so much");
     for _ in 0..1000 {
