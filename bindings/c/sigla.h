@@ -32,7 +32,7 @@
 #define SIGLA_BYTES 65536       /* the answer bytes that the program lends */
 #define SIGLA_QUERIES 64        /* the most queries of a file */
 #define SIGLA_LENT_WORDS 65536  /* the words that the program lends to the plain solver */
-#define SIGLA_STACK 1048576     /* bytes of stack that suffice for every file tried (221,336 were used) */
+#define SIGLA_STACK 1048576     /* bytes of stack that suffice for every file tried (229,400 were used) */
 
 /* The limits of a file. */
 #define SIGLA_FILE_BYTES 65536

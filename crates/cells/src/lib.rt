@@ -2,7 +2,7 @@
 // has them. A visit is counted at each entry of `occurs`.
 #![tactic(auto)]
 
-ghost use Rattle.std.specs.Prelude.{◌≡◌, ℕ, IsTrue, ◌+◌, ◌*◌, ◌<◌, ◌≤◌, length, get_or, set};
+ghost use Rattle.std.specs.Prelude.{◌≡◌, ◌↔◌, ℕ, IsTrue, ◌+◌, ◌*◌, ◌<◌, ◌≤◌, length, get_or, set};
 ghost use Rattle.work.specs.Layout.{UNKNOWNS, UNDO, UNDO-LEN};
 ghost use Rattle.cells.specs.Words.{ty_w, tag_w, payload_w, declared_w, count_w, first_w, field_w, alternative_w, part_w, slot_w, bound_w, put_ty, push_undo_w, set_var_w, annotate_w, fresh_w, revert_w, parts_w, part_of_w};
 ghost use Rattle.cells.specs.Promises.{part_at, FirstPlace, PartsWithin, FindsKey, FindsName, Reprs, Occurs, RollsBack};
@@ -222,16 +222,32 @@ pub fn key_at(w: &[u32], k: Kind, c: u32, j: u32) -> u32
     key_from(w, k, c, first(w, c), j)
 }
 
-// Where the first part with this key stands, of those from the i-th on. A loop where `key_within` reads: it asks that j
-// is below the count, which the closure of a `find` is not told.
+// Where the first part with this key stands, of those from the i-th on. Of many the i-th is asked first: in two unions
+// of the same order it is the one.
 pub fn place_from(w: &[u32], k: Kind, c: u32, i: u32, key: u32) -> Option<u32>
     ensures { FirstPlace (λ j. (part_w w.now k c j).key ≡ key) i (count_w w.now c) result }
 {
     let f = first(w, c);
-    if !are_within(w, c) {
-        return (i..count(w, c)).find(|j| key_from(w, k, c, f, *j) == key);
+    let n = count(w, c);
+    if !end_within(w, c, f, n) {
+        return (i..n).find(|j| key_from(w, k, c, f, *j) == key);
     }
-    for j in i..count(w, c) {
+    if n < 24 {
+        return place_below(w, k, c, f, i, n, key);
+    }
+    if i < n && key_within(w, k, c, f, i) == key {
+        return Some(i);
+    }
+    place_by_eights(w, k, c, i, key)
+}
+
+// Those below the n-th alone, one by one. A loop where `key_within` reads: it asks that j is below the count, which the
+// closure of a `find` is not told.
+fn place_below(w: &[u32], k: Kind, c: u32, f: usize, i: u32, n: u32, key: u32) -> Option<u32>
+    requires { (f ≡ first_w w.now c) × (f < 4294967296) × (n ≤ count_w w.now c) × PartsWithin w.now c }
+    ensures { FirstPlace (λ j. (part_w w.now k c j).key ≡ key) i n result }
+{
+    for j in i..n {
         if key_within(w, k, c, f, j) == key {
             return Some(j);
         }
@@ -239,16 +255,55 @@ pub fn place_from(w: &[u32], k: Kind, c: u32, i: u32, key: u32) -> Option<u32>
     None
 }
 
+// Eight at a time: two instructions for each key that is passed, where one by one takes five to eight. Below 24 parts
+// what it takes to begin is more than that. It is no part of `place_from`, where it would take registers from the
+// search among few, and reads anew where the parts are: with the same arguments the call is a jump.
+#[inline(never)]
+fn place_by_eights(w: &[u32], k: Kind, c: u32, i: u32, key: u32) -> Option<u32>
+    requires { PartsWithin w.now c }
+    ensures { FirstPlace (λ j. (part_w w.now k c j).key ≡ key) i (count_w w.now c) result }
+{
+    let f = first(w, c);
+    let n = count(w, c);
+    let mut at = i;
+    while 8 <= n && at <= n - 8 {
+        if !none_of_eight(w, k, c, f, at, key) {
+            return place_below(w, k, c, f, at, at + 8, key);
+        }
+        at += 8;
+    }
+    place_below(w, k, c, f, at, n, key)
+}
+
+// Whether none of the eight from the j-th on has the key. It goes on after one that has it: so LLVM compares four at
+// once.
+fn none_of_eight(w: &[u32], k: Kind, c: u32, f: usize, j: u32, key: u32) -> bool
+    requires { (f ≡ first_w w.now c) × (f < 4294967296) × (j + 8 ≤ count_w w.now c) × (j + 8 < 4294967296) × PartsWithin w.now c }
+    ensures { IsTrue result ↔ ((m : ℕ) → j ≤ m → m < j + 8 → ¬ ((part_w w.now k c m).key ≡ key)) }
+{
+    let mut hit = false;
+    for m in j..j + 8 {
+        hit |= key_within(w, k, c, f, m) == key;
+    }
+    !hit
+}
+
 // Whether all parts of a cell are within the slice, as they are in every run.
 fn are_within(w: &[u32], c: u32) -> bool
     ensures { IsTrue result → PartsWithin w.now c }
 {
-    let f = first(w, c);
-    let n = wide(count(w, c));
+    end_within(w, c, first(w, c), count(w, c))
+}
+
+// The same where it is known where they start and how many they are: neither is read a second time.
+fn end_within(w: &[u32], c: u32, f: usize, n: u32) -> bool
+    requires { (f ≡ first_w w.now c) × (f < 4294967296) × (n ≡ count_w w.now c) }
+    ensures { IsTrue result → PartsWithin w.now c }
+{
     if c < Counters::TYPES {
-        work::FIELDS + f + 2 * n <= w.len()
+        work::FIELDS + f + 2 * wide(n) <= w.len()
     } else {
-        work::RECORD_FIELDS + 2 * (f + n) <= w.len()
+        work::RECORD_FIELDS + 2 * (f + wide(n)) <= w.len()
     }
 }
 

@@ -4,3 +4,5 @@ pub mod Numbers
 pub mod Readers
 pub mod Statements
 pub mod Shapes
+pub mod Passing
+pub mod Digits

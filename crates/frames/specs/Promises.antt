@@ -34,6 +34,19 @@ pub record Decodes (file : List ℕ) (at : ℕ) (line : List ℕ) (r : Option (�
   pub holds : IfSome r (λ p. BytesAt file at line p.0 p.1)
   pub fails : r ≡ None → at < length file → MalformedAt file at
 
+-- n bytes have room at a place, and the next line starts in the file.
+pub record FitsAt (file : List ℕ) (at n next : ℕ) : Type 0 where
+  pub some : 0 < n
+  pub most : n ≤ 512
+  pub on : next ≡ at + 2 * n + 1
+  pub within : next ≤ length file
+
+-- Where the line at a place is well formed: its first byte, how many it has, and where the next line starts. Of any
+-- other line it may say whatever fits.
+pub record PassesOver (file : List ℕ) (at : ℕ) (r : Option (ℕ × ℕ × ℕ)) : Type 0 where
+  pub holds : {line : List ℕ} {n next : ℕ} → BytesAt file at line n next → r ≡ Some (get_or line 0 0, n, next)
+  pub fits : IfSome r (λ p. FitsAt file at p.1 p.2)
+
 -- ---- Kinds
 
 -- The code's kinds in the definitions' terms.

@@ -5,7 +5,7 @@ mod forms;
 mod lines;
 
 pub use forms::{byte, full, half, is_frame, kind_of, may_stand, reference, reference_size};
-pub use lines::decode;
+pub use lines::{decode, pass};
 
 #[derive(Clone, Copy, PartialEq, Eq)]
 pub enum Kind {

@@ -1,12 +1,12 @@
 -- What lies ahead of a place: a line there is the first of the frames, and a query ahead means that the file has not ended.
 use mathlib.Core.List.{List, [], ◌∷◌, ◌++◌, map, flat_map, head-eq_of_cons-eq, tail-eq_of_cons-eq}
 use mathlib.Core.Path.{◌≡◌, refl, sym, ap, ◌∙◌}
-use Prim.Native.Nat.{ℕ, ◌≤◌, ◌<◌}
+use Prim.Native.Nat.{ℕ, ◌+◌, ◌*◌, ◌≤◌, ◌<◌}
 use native.Mathlib.Decide.{dec_le}
 use native.Mathlib.Omega.{arith}
-use lib.ListN.{length, get_or, take, drop}
+use lib.ListN.{length, get_or, drop}
 use Rattle.format.specs.Syntax.{Node, Ast}
-use Rattle.format.specs.Lines.{lines}
+use Rattle.format.specs.Lines.{Line, lines}
 use Rattle.format.specs.Frame.{wide, Kind, kind_byte, kind_of, Frame, a_node, the_query, frame_kind, frame_of}
 use Rattle.format.specs.SoFar.{frames, said_of, said_in, said_by, said}
 use Rattle.format.specs.File.{Form, described, reading, max_file}
@@ -14,8 +14,10 @@ use Rattle.format.specs.Content.{query_frames}
 use Rattle.format.proofs.Written.{kind_byte_lem}
 use Rattle.format.proofs.Places.{lined}
 use Rattle.format.proofs.Sound.{some_queries}
+use Rattle.sigla_hex.specs.Digits.{first_line, line_at}
 use Rattle.sigla_hex.proofs.Line.{lines_at_end, lines_split}
 use Rattle.frames.specs.Promises.{BytesAt}
+use Rattle.frames.proofs.Passing.{bytes_at}
 use Rattle.reading.proofs.AnyLine.{frame_kind_lem}
 use Rattle.loading.specs.Promises.{Ahead}
 use Rattle.std.specs.Prelude.{None, Option, Some}
@@ -50,18 +52,27 @@ is_frame_lem (b ∷ t) g e = kinds (kind_of b) refl e
     kinds None q c = let z : ◌≡◌ {A = ℕ} 0 1 = cc in absurd (omega arith)
     kinds (Some k) q c = says k q (frame_of wide k t) refl c
 
--- The line here is the first of the frames, and the others follow it.
-module _ {f : List ℕ} {at : ℕ} {line : List ℕ} {n next : ℕ} (h : BytesAt f at line n next) (g : Frame) (gs : List Frame)
-    (e : map (said wide) (lines (drop at f)) ≡ frames g ∷ map frames gs) where
-  both : said_by wide (Some (take n line)) ∷ map (said wide) (lines (drop next f)) ≡ frames g ∷ map frames gs
-  unfolding said
-  both = ap (λ o. said_by wide o ∷ map (said wide) (lines (drop next f))) (sym h.bytes) ∙ sym (ap (map (said wide)) h.splits) ∙ e
+-- The line at a place says the frame, and the others follow it.
+pub record LineAhead (f : List ℕ) (at : ℕ) (g : Frame) (gs : List Frame) : Type 0 where
+  pub line : List ℕ
+  pub bytes : BytesAt f at line (length line) (at + 2 * length line + 1)
+  pub frame : IsFrame line g
+  pub later : map (said wide) (lines (drop (at + 2 * length line + 1) f)) ≡ map frames gs
 
-  pub first_frame : IsFrame (take n line) g
-  first_frame = is_frame_lem (take n line) g (head-eq_of_cons-eq both)
+first_said : (ls : List Line) (g : Frame) (gs : List Frame) → map (said wide) ls ≡ frames g ∷ map frames gs → said_by wide (first_line ls) ≡ frames g
+unfolding said first_line
+first_said [] g gs q = let z : ◌≡◌ {A = ℕ} 0 1 = cc in absurd (omega arith)
+first_said (l ∷ ls) g gs q = head-eq_of_cons-eq q
 
-  pub later_frames : map (said wide) (lines (drop next f)) ≡ map frames gs
-  later_frames = tail-eq_of_cons-eq both
+pub line_ahead : (f : List ℕ) (at : ℕ) (g : Frame) (gs : List Frame) → map (said wide) (lines (drop at f)) ≡ frames g ∷ map frames gs → LineAhead f at g gs
+unfolding said_by line_at
+line_ahead f at g gs e = go (line_at f at) refl (first_said (lines (drop at f)) g gs e)
+  where
+    go : (o : Option (List ℕ)) → line_at f at ≡ o → said_by wide o ≡ frames g → LineAhead f at g gs
+    go None q c = let z : ◌≡◌ {A = ℕ} 0 1 = cc in absurd (omega arith)
+    go (Some s) q c =
+        let bytes = bytes_at f at s q in
+        record { line = s; bytes = bytes; frame = is_frame_lem s g c; later = tail-eq_of_cons-eq (sym (ap (map (said wide)) bytes.splits) ∙ e) }
 
 -- ---- The end of the file
 

@@ -4,19 +4,16 @@ use mathlib.Core.List.{List, [], ◌∷◌, ◌++◌, map, flat_map, append_asso
 use mathlib.Core.Path.{◌≡◌, refl, sym, ap, ◌∙◌}
 use Prim.Native.Nat.{ℕ, ◌+◌, ◌*◌, ◌/◌, ◌≤◌, ◌<◌}
 use native.Mathlib.Omega.{arith}
-use lib.ListN.{length, get_or, take, drop, set, length-append, length-set}
-use lib.Dec.{ltb}
-use borrow.Author.Tests.{ltb-true, ltb-false}
-use Rattle.format.proofs.Tests.{cases}
-use lib.Seq.{get_or-set_same, get_or-set_other}
+use lib.ListN.{length, drop, set, length-append, length-set}
+use lib.Seq.{get_or-set_same, get_or-set_other, take-length}
 use Rattle.work.specs.Layout.{NODE-COUNT, QUERY, NODES, FIELDS}
 use Rattle.cells.specs.Stands.{Rows}
 use Rattle.cells.proofs.Frame.{more_refl}
 use Rattle.format.specs.Frame as Frame
 use Rattle.format.specs.Syntax.{Node, Query, Ast}
 use Rattle.format.specs.Lines.{lines}
-use Rattle.format.specs.Frame.{node, kind_byte, kind_of, Frame, a_node, the_query, frame_kind}
-use Rattle.format.specs.SoFar.{malformed, frames, said_by, said}
+use Rattle.format.specs.Frame.{node, kind_byte, kind_of, Frame, a_node, the_query, frame_kind, frame_of}
+use Rattle.format.specs.SoFar.{frames, said}
 use Rattle.format.specs.File.{Described, max_file}
 use Rattle.format.specs.All.{All}
 use Rattle.format.specs.Content.{query_frames}
@@ -26,7 +23,7 @@ use Rattle.meaning.specs.Outcome.{min_words}
 use Rattle.sigla_hex.specs.Digits.{line_at}
 use Rattle.frames.specs.declared.Kind.{Kind}
 use Rattle.frames.specs.declared.Kind.TheVariants as Code
-use Rattle.frames.specs.Promises.{BytesAt, MalformedAt, kind_meant, known}
+use Rattle.frames.specs.Promises.{PassesOver, kind_meant, known}
 use Rattle.frames.proofs.Following.{same_known}
 use Rattle.frames.proofs.Decoding.{holds_line}
 use Rattle.tree.specs.Stands.{SchemaStands, Stands}
@@ -34,10 +31,9 @@ use Rattle.state.proofs.Standing.{schema_stands}
 use Rattle.reading.specs.Held.{NodesHeld}
 use Rattle.reading.proofs.Kept.{node_kept, query_kept}
 use Rattle.reading.proofs.Added.{node_added, query_added}
-use Rattle.reading.proofs.AllLines.{first_taken}
 use Rattle.loading.specs.Promises.{Ahead, Reloads, Loads}
-use Rattle.loading.proofs.Lines.{IsFrame, first_frame, later_frames, not_ended, is_ended}
-use Rattle.std.specs.Prelude.{Option, Some}
+use Rattle.loading.proofs.Lines.{line_ahead, is_ended}
+use Rattle.std.specs.Prelude.{None, Option, Some}
 use Rattle.std.proofs.lemmas.Option.{same_Some}
 
 -- ---- Words
@@ -110,48 +106,55 @@ module _ {f : List ℕ} {at : ℕ} {w₀ w : List ℕ} {i n : ℕ} (m : Loading 
     ahead = λ d qs s l a. absurd (never d qs (m.is d qs s l a));
   }
 
-  loading_ended : length f ≤ i → Loads f at w₀ w (length f)
-  loading_ended l = nothing (λ d qs x. let g = some_frame d.ast.query qs x.left x.schema in let z : i < length f = not_ended f i g.0
-      g.1 (x.are ∙ ap (map frames) g.2) in omega arith)
-
-  loading_bad : MalformedAt f i → Loads f at w₀ w (length f)
-  unfolding said said_by
-  loading_bad b = nothing (λ d qs x.
+  -- no line stands here
+  pub loading_over : PassesOver f i None → Loads f at w₀ w (length f)
+  loading_over p = nothing (λ d qs x.
       let g = some_frame d.ast.query qs x.left x.schema in
-      let e : malformed ∷ map (said Frame.wide) b.rest ≡ frames g.0 ∷ map frames g.1 = ap
-      (λ o. said_by Frame.wide o ∷ map (said Frame.wide) b.rest) (sym b.bytes) ∙ sym (ap (map (said Frame.wide)) b.splits) ∙ x.are ∙ ap
-      (map frames) g.2 in
-      let z : ◌≡◌ {A = ℕ} 0 1 = cc in
+      let z : ◌≡◌ {A = ℕ} 0 1 = cc (p.holds (line_ahead f i g.0 g.1 (x.are ∙ ap (map frames) g.2)).bytes) in
       omega arith)
 
-  -- no line stands here
-  pub loading_over : (i < length f → MalformedAt f i) → Loads f at w₀ w (length f)
-  loading_over b = cases (ltb i (length f)) (λ q. loading_bad (b (ltb-true i (length f) q))) (λ q. loading_ended (ltb-false i (length f) q))
-
   -- ---- A line
-  module _ {line : List ℕ} {size next : ℕ} (h : BytesAt f i line size next) (kind : Option Kind) (e : known kind ≡ kind_of (get_or line 0 0)) where
-    says : {g : Frame} → IsFrame (take size line) g → known kind ≡ Some (frame_kind g)
-    says x = e ∙ ap kind_of (sym (first_taken Frame.wide h)) ∙ x.kind
+  module _ {b size next : ℕ} (p : PassesOver f i (Some (b, size, next))) (kind : Option Kind) (e : known kind ≡ kind_of b) where
+    -- the line here is the first of the frames
+    record Here (g : Frame) (gs : List Frame) : Type 0 where
+      content : List ℕ
+      line : line_at f i ≡ Some (kind_byte (frame_kind g) ∷ content)
+      long : size ≡ length (kind_byte (frame_kind g) ∷ content)
+      is : frame_of Frame.wide (frame_kind g) content ≡ Some g
+      says : known kind ≡ Some (frame_kind g)
+      later : map (said Frame.wide) (lines (drop next f)) ≡ map frames gs
 
-    byte_is : {g : Frame} {k : Kind} → IsFrame (take size line) g → kind ≡ Some k → kind_byte (frame_kind g) ≡ kind_byte (kind_meant k)
-    byte_is x q = ap kind_byte (same_Some _ _ (sym (says x) ∙ ap known q))
+    here : (g : Frame) (gs : List Frame) → map (said Frame.wide) (lines (drop i f)) ≡ frames g ∷ map frames gs → Here g gs
+    here g gs are =
+        let x = line_ahead f i g gs are in
+        let same = same_Some _ _ (p.holds x.bytes) in
+        let long : size ≡ length x.line = ap (λ (t : ℕ × ℕ × ℕ). t.1) same in
+        record {
+          content = x.frame.content;
+          line = holds_line f i x.line (length x.line) (i + 2 * length x.line + 1) x.bytes ∙ ap Some (take-length x.line ∙ x.frame.first);
+          long = long ∙ ap length x.frame.first;
+          is = x.frame.is;
+          says = e ∙ ap (λ (t : ℕ × ℕ × ℕ). kind_of t.0) same ∙ x.frame.kind;
+          later = ap (λ (t : ℕ × ℕ × ℕ). map (said Frame.wide) (lines (drop t.2 f))) same ∙ x.later;
+        }
+
+    byte_is : {g : Frame} {gs : List Frame} {k : Kind} → Here g gs → kind ≡ Some k → kind_byte (frame_kind g) ≡ kind_byte (kind_meant k)
+    byte_is x q = ap kind_byte (same_Some _ _ (sym x.says ∙ ap known q))
 
     -- The 06 line: it is the query's, and the words are complete.
     module _ (k : kind ≡ Some Code.Query) where
       record AtQuery (q : Query) (qs : List Ast) (left : List Node) : Type 0 where
         none_left : left ≡ []
-        frame : IsFrame (take size line) (the_query q)
-        later : map (said Frame.wide) (lines (drop next f)) ≡ map frames (flat_map query_frames qs)
+        line : Here (the_query q) (flat_map query_frames qs)
 
       at_query : (q : Query) (qs : List Ast) (left : List Node) (schema : List Frame) → All (λ g. kind_byte (frame_kind g) < kind_byte node) schema
           → map (said Frame.wide) (lines (drop i f)) ≡ map frames (Rest q qs left schema) → AtQuery q qs left
       unfolding kind_byte frame_kind
-      at_query q qs left (g ∷ schema) early are = absurd (omega (arith, byte_is (first_frame h g (Rest q qs left schema) are) k, early.0))
-      at_query q qs (nd ∷ left) [] early are = absurd (omega (arith, byte_is (first_frame h (a_node nd) (Rest q qs left []) are) k))
+      at_query q qs left (g ∷ schema) early are = absurd (omega (arith, byte_is (here g (Rest q qs left schema) are) k, early.0))
+      at_query q qs (nd ∷ left) [] early are = absurd (omega (arith, byte_is (here (a_node nd) (Rest q qs left []) are) k))
       at_query q qs [] [] early are = record {
         none_left = refl;
-        frame = first_frame h (the_query q) (flat_map query_frames qs) are;
-        later = later_frames h (the_query q) (flat_map query_frames qs) are;
+        line = here (the_query q) (flat_map query_frames qs) are;
       }
 
       at_end_lem : (a : Ast) (qs : List Ast) (x : Midst f w i n a qs) → AtQuery a.query qs x.left
@@ -174,9 +177,7 @@ module _ {f : List ℕ} {at : ℕ} {w₀ w : List ℕ} {i n : ℕ} (m : Loading 
           let wide : 16384 ≤ length w = omega (arith, m.words.long) in
           let wide₁ : length w₁ ≡ length w = length-set w QUERY (i * 1024 + size) in
           let nodes : x.done ≡ d.ast.nodes = sym (append-nil x.done) ∙ ap (λ t. x.done ++ t) (sym y.none_left) ∙ x.nodes in
-          let frame = y.frame in
-          let line_is : line_at f i ≡ Some (0x06 ∷ frame.content) = holds_line f i line size next h ∙ ap Some frame.first in
-          let long : size ≡ length (0x06 ∷ frame.content) = sym h.count ∙ ap length frame.first in
+          let l₀ = y.line in
           record {
             long = omega (arith, reloaded.long);
             schema = schema_stands w₀ counted reloaded.below (λ j lo hi. reloaded.above j lo) more_refl S s.predicates_max s.names_max;
@@ -186,15 +187,15 @@ module _ {f : List ℕ} {at : ℕ} {w₀ w : List ℕ} {i n : ℕ} (m : Loading 
                 (get_or-set_other w₁ NODE-COUNT (NODES + j) n 0 (λ q. omega arith) ∙ get_or-set_other w QUERY (NODES + j) (i * 1024 + size) 0
                 (λ q. omega arith))) (x.held.node j (omega (arith, ap length nodes))));
             query = query_kept (get_or-set_other w₁ NODE-COUNT QUERY n 0 (λ q. omega arith))
-                (query_added i size 0x06 frame.content line_is long h.most w d.ast.query wide refl frame.is);
+                (query_added i size 0x06 l₀.content l₀.line l₀.long p.fits.most w d.ast.query wide refl l₀.is);
           }
 
       pub loading_query : Loads f at w₀ (set (set w QUERY (i * 1024 + size)) NODE-COUNT n) next
       unfolding counted flat_map
       loading_query = record {
         words = reloaded;
-        onward = λ l. omega (arith, m.here, h.on);
-        within = h.within;
+        onward = λ l. omega (arith, m.here, p.fits.on);
+        within = p.fits.within;
         stands = stood;
         ahead = λ d qs s l a.
             let y = at_end_lem d.ast qs (m.is d qs s l a) in
@@ -202,8 +203,8 @@ module _ {f : List ℕ} {at : ℕ} {w₀ w : List ℕ} {i n : ℕ} (m : Loading 
               small = a.small;
               schema = [];
               early = tt;
-              are = y.later;
-              ended = λ none_left. is_ended f next (y.later ∙ ap (λ t. map frames (flat_map query_frames t)) none_left);
+              are = y.line.later;
+              ended = λ none_left. is_ended f next (y.line.later ∙ ap (λ t. map frames (flat_map query_frames t)) none_left);
             };
       }
 
@@ -213,21 +214,19 @@ module _ {f : List ℕ} {at : ℕ} {w₀ w : List ℕ} {i n : ℕ} (m : Loading 
         nd : Node
         more : List Node
         first_left : left ≡ nd ∷ more
-        frame : IsFrame (take size line) (a_node nd)
-        later : map (said Frame.wide) (lines (drop next f)) ≡ map frames (Rest q qs more [])
+        line : Here (a_node nd) (Rest q qs more [])
 
       at_node : (q : Query) (qs : List Ast) (left : List Node) (schema : List Frame) → All (λ g. kind_byte (frame_kind g) < kind_byte node) schema
           → map (said Frame.wide) (lines (drop i f)) ≡ map frames (Rest q qs left schema) → AtNode q qs left
       unfolding kind_byte frame_kind
-      at_node q qs left (g ∷ schema) early are = absurd (omega (arith, byte_is (first_frame h g (Rest q qs left schema) are) k, early.0))
+      at_node q qs left (g ∷ schema) early are = absurd (omega (arith, byte_is (here g (Rest q qs left schema) are) k, early.0))
       at_node q qs (nd ∷ left) [] early are = record {
         nd = nd;
         more = left;
         first_left = refl;
-        frame = first_frame h (a_node nd) (Rest q qs left []) are;
-        later = later_frames h (a_node nd) (Rest q qs left []) are;
+        line = here (a_node nd) (Rest q qs left []) are;
       }
-      at_node q qs [] [] early are = absurd (omega (arith, byte_is (first_frame h (the_query q) (flat_map query_frames qs) are) k))
+      at_node q qs [] [] early are = absurd (omega (arith, byte_is (here (the_query q) (flat_map query_frames qs) are) k))
 
       -- there is room for it
       module _ (d : Described) (qs : List Ast) (s : Sound d) (x : Midst f w i n d.ast qs) where
@@ -246,7 +245,7 @@ module _ {f : List ℕ} {at : ℕ} {w₀ w : List ℕ} {i n : ℕ} (m : Loading 
       pub loading_full : 512 ≤ n → Loading f at w₀ w next n
       loading_full full = record {
         words = m.words;
-        here = omega (arith, m.here, h.on);
+        here = omega (arith, m.here, p.fits.on);
         small = m.small;
         few = m.few;
         is = λ d qs s l a. let x = m.is d qs s l a in absurd (omega (arith, room d qs s x, x.held.count));
@@ -256,22 +255,21 @@ module _ {f : List ℕ} {at : ℕ} {w₀ w : List ℕ} {i n : ℕ} (m : Loading 
       unfolding Its min_words kind_byte frame_kind
       loading_node lt = record {
         words = reloads_set m.words (NODES + n) ((i * 1024 + size) * 2) (λ i l p q s. omega arith, omega arith);
-        here = omega (arith, m.here, h.on);
+        here = omega (arith, m.here, p.fits.on);
         small = m.small;
         few = omega arith;
         is = λ d qs s l a.
             let x = m.is d qs s l a in
             let y = here_node d qs s x in
-            let frame = y.frame in
+            let l₀ = y.line in
             record {
               done = x.done ++ y.nd ∷ [];
               left = y.more;
               schema = [];
               nodes = append_assoc x.done (y.nd ∷ []) y.more ∙ one_more d qs s x;
-              held = node_added i size 0x05 frame.content (holds_line f i line size next h ∙ ap Some frame.first)
-                  (sym h.count ∙ ap length frame.first) h.most y.nd x.held (omega (arith, m.words.long)) (room d qs s x) refl frame.is;
+              held = node_added i size 0x05 l₀.content l₀.line l₀.long p.fits.most y.nd x.held (omega (arith, m.words.long)) (room d qs s x) refl l₀.is;
               early = tt;
-              are = y.later;
+              are = l₀.later;
             };
       }
 
@@ -285,14 +283,14 @@ module _ {f : List ℕ} {at : ℕ} {w₀ w : List ℕ} {i n : ℕ} (m : Loading 
       at_schema : (q : Query) (qs : List Ast) (left : List Node) (schema : List Frame) → All (λ g. kind_byte (frame_kind g) < kind_byte node) schema
           → map (said Frame.wide) (lines (drop i f)) ≡ map frames (Rest q qs left schema) → AtSchema q qs left
       unfolding kind_byte frame_kind
-      at_schema q qs left (g ∷ schema) early are = record { more = schema; early = early.1; later = later_frames h g (Rest q qs left schema) are }
-      at_schema q qs (nd ∷ left) [] early are = absurd (j (same_known kind Code.Node (says (first_frame h (a_node nd) (Rest q qs left []) are))))
-      at_schema q qs [] [] early are = absurd (k (same_known kind Code.Query (says (first_frame h (the_query q) (flat_map query_frames qs) are))))
+      at_schema q qs left (g ∷ schema) early are = record { more = schema; early = early.1; later = (here g (Rest q qs left schema) are).later }
+      at_schema q qs (nd ∷ left) [] early are = absurd (j (same_known kind Code.Node (here (a_node nd) (Rest q qs left []) are).says))
+      at_schema q qs [] [] early are = absurd (k (same_known kind Code.Query (here (the_query q) (flat_map query_frames qs) are).says))
 
       pub loading_past : Loading f at w₀ w next n
       loading_past = record {
         words = m.words;
-        here = omega (arith, m.here, h.on);
+        here = omega (arith, m.here, p.fits.on);
         small = m.small;
         few = m.few;
         is = λ d qs s l a.
@@ -312,4 +310,4 @@ loading_too_long f at w l = record {
   ahead = λ d qs s e a. absurd (omega (arith, a.small));
 }
 
-pub ruleset loading = (loading_start, loading_query, loading_full, loading_node)
+pub ruleset loading = (loading_start, loading_node)

@@ -18,12 +18,12 @@ pub fn load(file: &[u8], at: usize, w: &mut [u32]) -> usize
     if Counters::FILE < file.len() {
         return file.len();
     }
-    let mut line = [0u8; Counters::LINE];
     let mut nodes = 0;
     let mut i = at;
-    // Each line starts where `decode` says that the one before ends: no iterator, as crate reading says.
-    while let Some((n, next)) = frames::decode(file, i, &mut line) {
-        match frames::kind_of(line[0]) {
+    // No bytes are decoded but the kind's: the reading had them all. Each line starts where `pass` says that the one
+    // before ends: an iterator over the lines would have this one caller.
+    while let Some((kind, n, next)) = frames::pass(file, i) {
+        match frames::kind_of(kind) {
             Some(Kind::Query) => {
                 put(w, work::QUERY, line_word(i, n));
                 put(w, work::NODE_COUNT, nodes);

@@ -31,7 +31,9 @@ use Rattle.reading.specs.declared.Refusal.{Refusal}
 use Rattle.work.specs.declared.Counters.{Counters}
 use Rattle.work.specs.Counted.{no_counters}
 use Rattle.reading.specs.Held.{Held}
+use Rattle.reading.specs.Prints.{Printed}
 use Rattle.reading.specs.Promises.{refusal, LineAt, LineEnds, TakesLine, counted, ReadingEnds, TakesLines, reading_in}
+use Rattle.reading.proofs.Prints.{no_prints}
 use Rattle.reading.proofs.Order.{first_malformed}
 use Rattle.reading.proofs.AnyLine.{unknown}
 use Rattle.reading.proofs.Ends.{nothing_held, schema_held, long_held, all_declared}
@@ -61,19 +63,28 @@ pass_on : {so mid : SoFar} {ls : List Said} (l : Said) → Pass so ls mid → fi
 pass_on {mid = mid} l none_left e = more (none_holds conditions mid l e) none_left
 pass_on l (more a p) e = more a (pass_on l p e)
 
-pub record Midway (ed : Edition) (f w : List ℕ) (c : Counters) (previous : Option Coded.Kind) (at : ℕ) : Type 0 where
+pub record Midway (ed : Edition) (f w prints : List ℕ) (c : Counters) (previous : Option Coded.Kind) (at : ℕ) : Type 0 where
   pub rows : Rows
   pub so : SoFar
   pub held : Held ed f at w rows c (known previous) so
+  pub printed : Printed prints so.names
   pub left : reading_of ed f ≡ read_from so (map (said ed) (lines (drop at f)))
   pub before : List Said
   pub passed : Pass start before so
   pub last : last_of start (map (said ed) (lines f)) ≡ last_of so (map (said ed) (lines (drop at f)))
 
-pub midway_start : (ed : Edition) (f w : List ℕ) → length f ≤ 65536 → 16384 ≤ length w → Midway ed f w no_counters None 0
-unfolding max_file
-midway_start ed f w small long =
-    record { rows = _; so = _; held = nothing_held ed f w small long; left = within ed f small; before = []; passed = none_left; last = refl }
+pub midway_start : (ed : Edition) (f w prints : List ℕ) → length f ≤ 65536 → 16384 ≤ length w → Midway ed f w prints no_counters None 0
+unfolding max_file start
+midway_start ed f w prints small long = record {
+  rows = _;
+  so = _;
+  held = nothing_held ed f w small long;
+  printed = no_prints prints;
+  left = within ed f small;
+  before = [];
+  passed = none_left;
+  last = refl;
+}
 
 ends_refused : (ed : Edition) (f w : List ℕ) (e : Refusal) (r : Reading) → r ≡ refused (refusal e) → ReadingEnds ed f w (Err e) r
 unfolding ReadingEnds
@@ -117,28 +128,29 @@ module _ (ed : Edition) {f : List ℕ} {at : ℕ} {line : List ℕ} {n next : �
   unfolding last_of
   next_last so = ap (last_of so) says_next
 
-module _ (ed : Edition) {f w : List ℕ} {c : Counters} {previous : Option Coded.Kind} {at : ℕ} (m : Midway ed f w c previous at) where
+module _ (ed : Edition) {f w prints : List ℕ} {c : Counters} {previous : Option Coded.Kind} {at : ℕ} (m : Midway ed f w prints c previous at) where
   module _ {line : List ℕ} {n next : ℕ} (h : BytesAt f at line n next) where
     abbrev says : Said
     says = said_by ed (Some (take n line))
 
-    module _ (kind : Coded.Kind) (e : Some (kind_meant kind) ≡ kind_of (get_or line 0 0)) (w' : List ℕ) where
-      steps : (r : Result Counters Refusal) → TakesLine ed f at (take n line) w c previous kind w' r
+    module _ (kind : Coded.Kind) (e : Some (kind_meant kind) ≡ kind_of (get_or line 0 0)) (w' prints' : List ℕ) where
+      steps : (r : Result Counters Refusal) → TakesLine ed f at (take n line) w prints c previous kind w' prints' r
           → LineEnds ed f next w' (Some (kind_meant kind)) (after m.so says) r (first_of conditions m.so says)
-      steps r t = t.is next m.rows m.so m.held
+      steps r t = t.is next m.rows m.so m.held m.printed
           (line_holds ed h) (e ∙ ap kind_of (sym (first_taken ed h)))
 
-      pub midway_on : (d : Counters) → TakesLine ed f at (take n line) w c previous kind w' (Ok d) → Midway ed f w' d (Some kind) next
+      pub midway_on : (d : Counters) → TakesLine ed f at (take n line) w prints c previous kind w' prints' (Ok d) → Midway ed f w' prints' d (Some kind) next
       midway_on d t = go (first_of conditions m.so says) refl (steps (Ok d) t)
         where
           go : (o : Option Refused.Refusal) → first_of conditions m.so says ≡ o → LineEnds ed f next w' (Some (kind_meant kind)) (after m.so says) (Ok d) o
-              → Midway ed f w' d (Some kind) next
+              → Midway ed f w' prints' d (Some kind) next
           go None q s =
               let same : d ≡ s.0 = cc s.1 in
               record {
                 rows = s.2.0;
                 so = after m.so says;
                 held = subst (λ x. Held ed f next w' s.2.0 x (Some (kind_meant kind)) (after m.so says)) (sym same) s.2.1;
+                printed = t.printed next m.rows m.so d m.held m.printed (line_holds ed h) (e ∙ ap kind_of (sym (first_taken ed h))) refl;
                 left = m.left ∙ next_lines ed h m.so ∙ read_next m.so says (map (said ed) (lines (drop next f))) q;
                 before = m.before ++ says ∷ [];
                 passed = pass_on says m.passed q;
@@ -146,7 +158,8 @@ module _ (ed : Edition) {f w : List ℕ} {c : Counters} {previous : Option Coded
               }
           go (Some i) q s = let x = s.1 in let z : ◌≡◌ {A = ℕ} 0 1 = cc in absurd (omega arith)
 
-      pub midway_off : (i : Refusal) → TakesLine ed f at (take n line) w c previous kind w' (Err i) → ReadingEnds ed f w' (Err i) (reading_of ed f)
+      pub midway_off : (i : Refusal) → TakesLine ed f at (take n line) w prints c previous kind w' prints' (Err i)
+          → ReadingEnds ed f w' (Err i) (reading_of ed f)
       midway_off i t = go (first_of conditions m.so says) refl (steps (Err i) t)
         where
           go : (o : Option Refused.Refusal) → first_of conditions m.so says ≡ o → LineEnds ed f next w' (Some (kind_meant kind)) (after m.so says) (Err i) o

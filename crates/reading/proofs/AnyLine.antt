@@ -29,7 +29,10 @@ use Rattle.frames.proofs.Shapes.{type_short, predicate_short, node_short}
 use Rattle.reading.specs.declared.Refusal.{Refusal}
 use Rattle.work.specs.declared.Counters.{Counters}
 use Rattle.reading.specs.Held.{Held}
-use Rattle.reading.specs.Promises.{Comes, LineEnds, Takes, TakesAnywhere, full_of, past_of, TakesLine}
+use Rattle.reading.specs.Prints.{Printed}
+use Rattle.reading.specs.Promises.{LineAt, Comes, LineEnds, Takes, TakesAnywhere, TakesName, full_of, past_of, TakesLine}
+use Rattle.reading.proofs.Naming.{name_frame}
+use Rattle.reading.proofs.Prints.{no_step, printed_added, is_other, same_names}
 use Rattle.reading.proofs.Lines.{limits_held}
 use Rattle.reading.proofs.Order.{first_unknown, first_misplaced, first_too_many, first_too_many_queries, first_no_frame, first_none}
 use Rattle.reading.proofs.Stepping.{refuses, goes_on}
@@ -177,52 +180,90 @@ unknown ed so s l e = ap (first_of conditions so) (said_as ed s l ∙ ap (λ o. 
 
 -- ---- The ends of a line
 
-module _ (ed : Edition) (f : List ℕ) (at : ℕ) (s w : List ℕ) (c : Counters) (previous : Option Coded.Kind) (kind : Coded.Kind) where
+module _ (ed : Edition) (f : List ℕ) (at : ℕ) (s w prints : List ℕ) (c : Counters) (previous : Option Coded.Kind) (kind : Coded.Kind) where
   abbrev k : Kind
   k = kind_meant kind
 
-  pub line_misplaced : stands (known previous) (Some k) ≡ false → TakesLine ed f at s w c previous kind w (Err Refusal.MisplacedKind)
+  pub line_misplaced : stands (known previous) (Some k) ≡ false → TakesLine ed f at s w prints c previous kind w prints (Err Refusal.MisplacedKind)
   line_misplaced t = record {
-    is = λ next T so h l e. refuses ed f next w (Some k) (after so (said_by ed (Some s))) Refusal.MisplacedKind _
+    printed = λ next T so d h p l e r. no_step r;
+    is = λ next T so h p l e. refuses ed f next w (Some k) (after so (said_by ed (Some s))) Refusal.MisplacedKind _
         (misplaces ed s h l.some k e t);
   }
 
   module _ (t : stands (known previous) (Some k) ≡ true) where
-    pub line_too_many : full_of c k ≡ true → TakesLine ed f at s w c previous kind w (Err Refusal.TooMany)
+    pub line_too_many : full_of c k ≡ true → TakesLine ed f at s w prints c previous kind w prints (Err Refusal.TooMany)
     line_too_many u = record {
-      is = λ next T so h l e. refuses ed f next w (Some k) (after so (said_by ed (Some s))) Refusal.TooMany _
+      printed = λ next T so d h p l e r. no_step r;
+      is = λ next T so h p l e. refuses ed f next w (Some k) (after so (said_by ed (Some s))) Refusal.TooMany _
           (overfills ed s h l.some k e t u);
     }
 
-    pub line_too_many_queries : full_of c k ≡ false → past_of c k ≡ true → TakesLine ed f at s w c previous kind w (Err Refusal.TooManyQueries)
+    pub line_too_many_queries : full_of c k ≡ false → past_of c k ≡ true
+        → TakesLine ed f at s w prints c previous kind w prints (Err Refusal.TooManyQueries)
     line_too_many_queries u p = record {
-      is = λ next T so h l e. refuses ed f next w (Some k) (after so (said_by ed (Some s))) Refusal.TooManyQueries _
+      printed = λ next T so d h p l e r. no_step r;
+      is = λ next T so h q l e. refuses ed f next w (Some k) (after so (said_by ed (Some s))) Refusal.TooManyQueries _
           (overturns ed s h l.some k e t u p);
     }
 
     module _ (u : full_of c k ≡ false) (p : past_of c k ≡ false) where
-      pub line_no_frame : is_frame ed (Some k) (drop 1 s) ≡ false → TakesLine ed f at s w c previous kind w (Err Refusal.MalformedFrame)
+      pub line_no_frame : is_frame ed (Some k) (drop 1 s) ≡ false → TakesLine ed f at s w prints c previous kind w prints (Err Refusal.MalformedFrame)
       line_no_frame v = record {
-        is = λ next T so h l e. refuses ed f next w (Some k) (after so (said_by ed (Some s))) Refusal.MalformedFrame _
+        printed = λ next T so d h p l e r. no_step r;
+        is = λ next T so h q l e. refuses ed f next w (Some k) (after so (said_by ed (Some s))) Refusal.MalformedFrame _
             (misforms ed s h l.some k e t u p v);
       }
 
-      pub line_takes : is_frame ed (Some k) (drop 1 s) ≡ true → (j : Kind) → k ≡ j → (w' : List ℕ) (r : Result Counters Refusal)
-          → Takes ed f at j s w c w' r → TakesLine ed f at s w c previous kind w' r
-      unfolding after said_of
-      line_takes v j n w' r a =
-          let y = frame_there (frame_of ed k (drop 1 s)) v in
-          let b : Takes ed f at k s w c w' r = subst (λ i. Takes ed f at i s w c w' r) (sym n) a in
-          record {
-            is = λ next T so h l e.
-                let z : said_by ed (Some s) ≡ frames y.0 = says ed s h l.some k e ∙ ap (said_of k) y.1 in
-                subst (λ x. LineEnds ed f next w' (Some k) (after so x) r (first_of conditions so x)) (sym z)
-                (b.is next T (known previous) so y.0 h l (comes ed s h l.some k e t y.0 u p y.1));
+      module _ (v : is_frame ed (Some k) (drop 1 s) ≡ true) where
+        there : (fr : Frame) × (frame_of ed k (drop 1 s) ≡ Some fr)
+        there = frame_there (frame_of ed k (drop 1 s)) v
+
+        says_there : {next : ℕ} {T : Rows} {so : SoFar} → Held ed f at w T c (known previous) so → LineAt f at next s → Some k ≡ kind_of (byte_w s 0)
+            → said_by ed (Some s) ≡ frames there.0
+        unfolding said_of
+        says_there h l e = says ed s h l.some k e ∙ ap (said_of k) there.1
+
+        -- of any other kind than a name
+        pub line_takes : (j : Kind) → k ≡ j → is_other j ≡ true → (w' : List ℕ) (r : Result Counters Refusal)
+            → Takes ed f at j s w c w' r → TakesLine ed f at s w prints c previous kind w' prints r
+        unfolding after
+        line_takes j n o w' r a =
+            let b : Takes ed f at k s w c w' r = subst (λ i. Takes ed f at i s w c w' r) (sym n) a in
+            let other : is_other (frame_kind there.0) ≡ true = ap is_other (frame_kind_lem ed k (drop 1 s) there.0 there.1 ∙ n) ∙ o in
+            record {
+              is = λ next T so h q l e.
+                  subst (λ x. LineEnds ed f next w' (Some k) (after so x) r (first_of conditions so x)) (sym (says_there h l e))
+                  (b.is next T (known previous) so there.0 h l (comes ed s h l.some k e t there.0 u p there.1));
+              printed = λ next T so d h q l e x.
+                  subst (Printed prints) (sym (ap (λ y. (after so y).names) (says_there h l e) ∙ same_names so there.0 other)) q;
+            }
+
+        module _ (n : k ≡ Frame.name) where
+          comes_name : {next : ℕ} {T : Rows} {so : SoFar} → Held ed f at w T c (known previous) so → LineAt f at next s → Some k ≡ kind_of (byte_w s 0)
+              → Comes ed so Frame.name s there.0
+          comes_name {so = so} h l e = subst (λ i. Comes ed so i s there.0) n (comes ed s h l.some k e t there.0 u p there.1)
+
+          pub line_takes_name : (w' prints' : List ℕ) (r : Result Counters Refusal) → c.names < length prints
+              → TakesName ed f at s w prints c w' prints' r → TakesLine ed f at s w prints c previous kind w' prints' r
+          unfolding after add
+          line_takes_name w' prints' r room a = record {
+            is = λ next T so h q l e.
+                subst (λ x. LineEnds ed f next w' (Some k) (after so x) r (first_of conditions so x)) (sym (says_there h l e))
+                (subst (λ i. LineEnds ed f next w' (Some i) (add so there.0) r (first_of conditions so (frames there.0))) (sym n)
+                (a.is next T (known previous) so there.0 h q l (comes_name h l e)));
+            printed = λ next T so d h q l e x.
+                let own : a_name (drop 1 s) ≡ there.0 = name_frame ed so s there.0 (comes_name h l e) in
+                subst (Printed prints') (sym (ap (λ y. (after so y).names) (says_there h l e ∙ ap frames (sym own))))
+                (rw (a.printed d x) (printed_added c.names (drop 1 s) h.names.count room q));
           }
 
 -- ---- What the functions for each kind ask
 
 module _ (c : Counters) (kind : Coded.Kind) (u : full_of c (kind_meant kind) ≡ false) where
+  pub room_for_name : kind ≡ Code.Name → c.names < 256
+  room_for_name e = leb-false 256 c.names (rw e at u)
+
   pub room_for_predicate : kind ≡ Code.Predicate → c.predicates < 128
   room_for_predicate e = leb-false 128 c.predicates (rw e at u)
 

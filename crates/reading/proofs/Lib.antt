@@ -5,6 +5,7 @@ pub mod Shapes
 pub mod Lines
 pub mod Ends
 pub mod Texts
+pub mod Prints
 pub mod Order
 pub mod Stepping
 pub mod Naming

@@ -20,7 +20,9 @@ use Rattle.format.specs.Conditions.{any_of, all_below, again, broken, given, sam
 use Rattle.format.specs.File.{value_text}
 use Rattle.work.specs.declared.Counters.{Counters}
 use Rattle.reading.specs.Held.{Held}
-use Rattle.reading.specs.Promises.{with_name, LineAt, Comes, Takes, NameLine, GivenBefore}
+use Rattle.reading.specs.Prints.{print_of, Printed}
+use Rattle.reading.specs.Promises.{with_name, LineAt, Comes, NameLine, GivenBefore, TakesName}
+use Rattle.reading.proofs.Prints.{no_step}
 use Rattle.reading.proofs.Lines.{name_held}
 use Rattle.reading.proofs.Order.{first_broken, first_given, first_none}
 use Rattle.reading.proofs.Stepping.{no_value, the_value, refuses, goes_on, begun, names_room}
@@ -35,7 +37,7 @@ use Rattle.std.specs.Prelude.{Err, None, Ok, Option, Result, Some}
 use Rattle.reading.specs.declared.Refusal.{Refusal}
 
 -- Any text is a name's frame.
-name_frame : (ed : Edition) (so : SoFar) (s : List ℕ) (fr : Frame) → Comes ed so Frame.name s fr → a_name (drop 1 s) ≡ fr
+pub name_frame : (ed : Edition) (so : SoFar) (s : List ℕ) (fr : Frame) → Comes ed so Frame.name s fr → a_name (drop 1 s) ≡ fr
 unfolding frame_of frame one and_then rest whole
 name_frame ed so s fr c = cc c.is
 
@@ -63,6 +65,11 @@ module _ (s : List ℕ) (r : Option ℕ) (is : r ≡ characters (take (length s 
   pub text_some : (n : ℕ) → ◌≡◌ {A = Result ℕ Refusal} (Ok n) (ok_or r e) → characters (drop 1 s) ≡ Some n
   text_some n q = over_text ∙ the_value r e n q
 
+-- the print of the line's text, written at the name's number
+pub print_set : (s prints : List ℕ) (i n r : ℕ) → i ≡ n → r ≡ print_of (take (length s - 1) (drop 1 s))
+    → set prints i r ≡ set prints n (print_of (drop 1 s))
+print_set s prints i n r p e = rw (p, e, take_all (length s - 1) (drop 1 s) (omega (arith, length-drop 1 s))) refl
+
 pub few_characters : (s : List ℕ) (n : ℕ) → characters (drop 1 s) ≡ Some n → 0 < length s → length s ≤ 512 → n < 512
 few_characters s n e l h = omega (arith, characters_le (drop 1 s) n e, length-drop 1 s)
 
@@ -79,19 +86,20 @@ module _ (s : List ℕ) (n : ℕ) (v : Option ℕ) (t : List ℕ) (is : t ≡ 0x
   pub value_false : r ≡ false → v ≡ pick (same_text value_text (drop 1 s)) (Some n) v
   value_false q = rw (← told_value, q)
 
-module _ (ed : Edition) (f : List ℕ) (at : ℕ) (s w : List ℕ) (c : Counters) where
+module _ (ed : Edition) (f : List ℕ) (at : ℕ) (s w prints : List ℕ) (c : Counters) where
   -- what holds of the name's frame holds of the line's
   as_name : (so : SoFar) (fr : Frame) (o : Option Refused.Refusal) → Comes ed so Frame.name s fr
       → first_of conditions so (frames (a_name (drop 1 s))) ≡ o → first_of conditions so (frames fr) ≡ o
   as_name so fr o k e = subst (λ x. first_of conditions so (frames x) ≡ o) (name_frame ed so s fr k) e
 
-  pub name_broken : characters (drop 1 s) ≡ None → Takes ed f at Frame.name s w c w (Err Refusal.BrokenText)
+  pub name_broken : characters (drop 1 s) ≡ None → TakesName ed f at s w prints c w prints (Err Refusal.BrokenText)
   unfolding frame_kind texts_of
   name_broken e = record {
-    is = λ next T previous so fr h l k.
+    is = λ next T previous so fr h p l k.
         refuses ed f next w (Some Frame.name) (add so fr) Refusal.BrokenText _
         (as_name so fr _ k (first_broken so (a_name (drop 1 s)) k.placed k.room k.turn
         (any_one broken (drop 1 s) true (broken_text_lem (drop 1 s) e))));
+    printed = λ d e. no_step e;
   }
 
   module _ (chars : ℕ) (text : characters (drop 1 s) ≡ Some chars) where
@@ -99,40 +107,43 @@ module _ (ed : Edition) (f : List ℕ) (at : ℕ) (s w : List ℕ) (c : Counters
     unfolding texts_of
     read = any_one broken (drop 1 s) false (whole_text (drop 1 s) chars text)
 
-    as_line : {so : SoFar} {fr : Frame} {next : ℕ} → LineAt f at next s → Comes ed so Frame.name s fr → NameLine f at s chars (drop 1 s)
+    as_line : {so : SoFar} {fr : Frame} {next : ℕ} → LineAt f at next s → Comes ed so Frame.name s fr → NameLine f at s (drop 1 s)
     unfolding kind_byte
-    as_line l k = record { line = l.is; is = k.first; characters = text }
+    as_line l k = record { line = l.is; is = k.first }
 
-    given_is : {so : SoFar} {fr : Frame} {next : ℕ} {T : Rows} {previous : Option Frame.Kind} (r : Bool) → GivenBefore f at s w c.names chars r
-        → Held ed f at w T c previous so → LineAt f at next s → Comes ed so Frame.name s fr
+    given_is : {so : SoFar} {fr : Frame} {next : ℕ} {T : Rows} {previous : Option Frame.Kind} (r : Bool) → GivenBefore f at s w prints c.names r
+        → Held ed f at w T c previous so → Printed prints so.names → LineAt f at next s → Comes ed so Frame.name s fr
         → any_of (given so.names) (texts_of (a_name (drop 1 s))) ≡ r
     unfolding texts_of kind_byte
-    given_is {so} r g h l k = any_one (given so.names) (drop 1 s) r (sym (g.is c.value so.names (drop 1 s) h.names (as_line l k)))
+    given_is {so} r g h p l k = any_one (given so.names) (drop 1 s) r (sym (g.is c.value so.names (drop 1 s) h.names p (as_line l k)))
 
-    pub name_given : GivenBefore f at s w c.names chars true → Takes ed f at Frame.name s w c w (Err Refusal.NameGivenBefore)
+    pub name_given : GivenBefore f at s w prints c.names true → TakesName ed f at s w prints c w prints (Err Refusal.NameGivenBefore)
     unfolding frame_kind
     name_given g = record {
-      is = λ next T previous so fr h l k. refuses ed f next w (Some Frame.name) (add so fr) Refusal.NameGivenBefore _
-          (as_name so fr _ k (first_given so (a_name (drop 1 s)) k.placed k.room k.turn read (given_is true g h l k)));
+      is = λ next T previous so fr h p l k. refuses ed f next w (Some Frame.name) (add so fr) Refusal.NameGivenBefore _
+          (as_name so fr _ k (first_given so (a_name (drop 1 s)) k.placed k.room k.turn read (given_is true g h p l k)));
+      printed = λ d e. no_step e;
     }
 
-    pub name_taken : GivenBefore f at s w c.names chars false
-        → Takes ed f at Frame.name s w c (set w (NAMES + c.names) (at * 512 + chars))
+    pub name_taken : GivenBefore f at s w prints c.names false
+        → TakesName ed f at s w prints c (set w (NAMES + c.names) (at * 512 + chars)) (set prints c.names (print_of (drop 1 s)))
         (Ok (with_name c (pick (same_text value_text (drop 1 s)) (Some c.names) c.value)))
     unfolding frame_kind texts_of keys_of again refers_badly refers_earlier all_below name_refs type_refs node_refs may_stand
     name_taken g = record {
-      is = λ next T previous so fr h l k.
+      printed = λ d e. refl;
+      is = λ next T previous so fr h p l k.
           let b = begun so.previous Frame.name k.placed refl in
-          let n = g.is c.value so.names (drop 1 s) h.names (as_line l k) in
+          let n = g.is c.value so.names (drop 1 s) h.names p (as_line l k) in
           let few = few_characters s chars text l.some l.most in
           goes_on ed f next _ (Some Frame.name) (add so fr) _ T _
-          (as_name so fr None k (first_none so (a_name (drop 1 s)) k.placed k.room k.turn read (given_is false g h l k) refl refl))
+          (as_name so fr None k (first_none so (a_name (drop 1 s)) k.placed k.room k.turn read (given_is false g h p l k) refl refl))
           (subst (λ x. Held ed f next (set w (NAMES + c.names) (at * 512 + chars)) T
           (with_name c (pick (same_text value_text (drop 1 s)) (Some c.names) c.value)) (Some Frame.name) (add so x)) (name_frame ed so s fr k)
           (name_held ed h next (omega (arith, l.on)) l.within (drop 1 s) chars b.0 k.placed b.1 (names_room so k.room)
           (l.is ∙ ap Some k.first) text few (sym n)));
     }
 
-    pub name_adds : GivenBefore f at s w c.names chars false → (value : Option ℕ) → value ≡ pick (same_text value_text (drop 1 s)) (Some c.names) c.value
-        → (w' : List ℕ) → w' ≡ set w (NAMES + c.names) (at * 512 + chars) → Takes ed f at Frame.name s w c w' (Ok (with_name c value))
-    name_adds g value v w' e = rw (e, v) (name_taken g)
+    pub name_adds : GivenBefore f at s w prints c.names false → (value : Option ℕ) → value ≡ pick (same_text value_text (drop 1 s)) (Some c.names) c.value
+        → (w' : List ℕ) → w' ≡ set w (NAMES + c.names) (at * 512 + chars) → (prints' : List ℕ) → prints' ≡ set prints c.names (print_of (drop 1 s))
+        → TakesName ed f at s w prints c w' prints' (Ok (with_name c value))
+    name_adds g value v w' e prints' q = rw (e, v, q) (name_taken g)

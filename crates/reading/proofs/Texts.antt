@@ -3,31 +3,30 @@
 use mathlib.Core.Bool.{Bool, true, false}
 use mathlib.Core.List.{List, [], ◌∷◌}
 use mathlib.Core.Path.{◌≡◌, refl, sym, ap, subst, ◌∙◌}
-use Prim.Native.Nat.{ℕ, ◌+◌, ◌*◌, ◌/◌, ◌%◌, ◌<◌, ◌≤◌}
+use Prim.Native.Nat.{ℕ, zero, suc, ◌+◌, ◌*◌, ◌/◌, ◌<◌, ◌≤◌, min}
 use native.Mathlib.Numerals.{add-one}
 use native.Mathlib.Omega.{arith}
-use lib.Dec.{eqb}
+use lib.Dec.{eqb, ltb}
 use lib.ListN.{length, get_or, take, drop, length-drop, length-take, drop_of_length-le}
 use lib.Seq.{drop-cons, get_or-drop, ext_get_or}
-use borrow.Author.Tests.{eqb-true, eqb-false, ne_eqb, eq-eqb}
+use borrow.Author.Tests.{eqb-true, eqb-false, ne_eqb, eq-eqb, ltb-true, ltb-false}
 use Rattle.std.proofs.lemmas.List.{get_or-take}
 use Rattle.std.specs.Bool.{Decides}
 use Rattle.std.specs.List.{slice_range, starts_with}
-use Rattle.std.specs.Option.{is_some}
 use Rattle.std.proofs.lemmas.Bool.Decides.{Decides-eqb}
 use Rattle.std.proofs.lemmas.Slice.Eq.{slice_eq-Decides}
-use Rattle.text.specs.Utf8.{characters}
 use Rattle.work.specs.Layout.{NAMES}
 use Rattle.sigla_hex.specs.Digits.{line_at}
 use Rattle.frames.proofs.Shapes.{to_end}
 use Rattle.sigla_hex.proofs.Bytes.{line_takes, line_spells, same_digits, same_bytes}
 use Rattle.format.specs.Bytes.{ascii}
 use Rattle.format.specs.Conditions.{any_of, same_text, given}
-use Rattle.format.specs.File.{value_text, count_of}
+use Rattle.format.specs.File.{value_text}
 use Rattle.format.proofs.Tests.{cases, clash, same_text_lem, text_same}
 use Rattle.reading.specs.Held.{NamesHeld}
-use Rattle.reading.specs.Promises.{Unlike, NameLine, GivenBefore}
-use Rattle.std.specs.Prelude.{Option, None, Some}
+use Rattle.reading.specs.Prints.{print_of, Printed}
+use Rattle.reading.specs.Promises.{NameLine, GivenBefore}
+use Rattle.std.specs.Prelude.{Option, Some}
 
 -- ---- Two lines
 
@@ -64,31 +63,26 @@ module _ (f : List ℕ) (a b : ℕ) (s t : List ℕ) (p : line_at f a ≡ Some s
 
 -- ---- One name
 
-pub record SameName (f : List ℕ) (x at : ℕ) (bytes : List ℕ) (chars : ℕ) (r : Bool) : Type 0 where
-  pub is : (s t : List ℕ) → line_at f (x / 512) ≡ Some (0x02 ∷ s) → x % 512 ≡ count_of (characters s) → NameLine f at bytes chars t → r ≡ same_text s t
+pub record SameName (f : List ℕ) (x at : ℕ) (bytes : List ℕ) (r : Bool) : Type 0 where
+  pub is : (s t : List ℕ) → line_at f (x / 512) ≡ Some (0x02 ∷ s) → NameLine f at bytes t → r ≡ same_text s t
 
-module _ (f : List ℕ) (x at : ℕ) (bytes : List ℕ) (chars : ℕ) where
+module _ (f : List ℕ) (x at : ℕ) (bytes : List ℕ) where
   abbrev own : List ℕ
   own = digits f at (2 * length bytes + 1)
 
   -- no text has both the name's word and the line
-  unlike : ((s : List ℕ) → line_at f (x / 512) ≡ Some (0x02 ∷ s) → x % 512 ≡ count_of (characters s) → NameLine f at bytes chars s → ⊥)
-      → SameName f x at bytes chars false
+  unlike : ((s : List ℕ) → line_at f (x / 512) ≡ Some (0x02 ∷ s) → NameLine f at bytes s → ⊥) → SameName f x at bytes false
   unlike n = record {
-    is = λ s t p c l. cases (same_text s t) (λ e. absurd (n s p c (subst (NameLine f at bytes chars) (sym (same_text_lem s t e)) l))) (λ e. sym e);
+    is = λ s t p l. cases (same_text s t) (λ e. absurd (n s p (subst (NameLine f at bytes) (sym (same_text_lem s t e)) l))) (λ e. sym e);
   }
 
-  pub name_other_count : (x % 512 ≡ chars → ⊥) → SameName f x at bytes chars false
-  unfolding count_of
-  name_other_count n = unlike (λ s p c l. n (c ∙ ap count_of l.characters))
+  pub name_nowhere : length f < x / 512 → SameName f x at bytes false
+  name_nowhere h = unlike (λ s p l. let y = line_spells f (x / 512) (0x02 ∷ s) p in omega (arith, y.within))
 
-  pub name_nowhere : length f < x / 512 → SameName f x at bytes chars false
-  name_nowhere h = unlike (λ s p c l. let y = line_spells f (x / 512) (0x02 ∷ s) p in omega (arith, y.within))
-
-  pub name_goes_on : (r : Bool) → Decides r (own ≡ take (length own) (drop (x / 512) f)) → SameName f x at bytes chars r
+  name_goes_on : (r : Bool) → Decides r (own ≡ take (length own) (drop (x / 512) f)) → SameName f x at bytes r
   unfolding same_text
   name_goes_on r d = record {
-    is = λ s t p c l.
+    is = λ s t p l.
         let q : line_at f at ≡ Some (0x02 ∷ t) = l.line ∙ ap Some l.is in
         let m : own ≡ digits f at (2 * length (0x02 ∷ t) + 1) = ap (λ u. digits f at (2 * length u + 1)) l.is in
         let z : length own ≡ 2 * length (0x02 ∷ t) + 1 = ap length m ∙ long f (x / 512) at (0x02 ∷ s) (0x02 ∷ t) p q in
@@ -108,20 +102,11 @@ module _ (f : List ℕ) (x at : ℕ) (bytes : List ℕ) (chars : ℕ) where
           let same = goes_on_same f (x / 512) at (0x02 ∷ s) (0x02 ∷ t) p q (ap (λ n. take n (drop (x / 512) f)) (sym z) ∙ sym (d.0 y) ∙ m) in
           clash (sym (subst (λ u. same_text s u ≡ true) (tail s t same) (text_same s)) ∙ e)
 
-  name_unlike : (i : ℕ) (r : Option ℕ) → Unlike (drop (x / 512) f) own r → r ≡ Some i → SameName f x at bytes chars false
-  name_unlike i r u e = name_goes_on false (λ q. clash (sym q), λ q. absurd (u.is i e (sym q)))
-
   -- what the code compares: its digits, and the file from the name's place on
-  module _ (d earlier : List ℕ) (is : d ≡ own) (from : earlier ≡ slice_range f (x / 512) (length f)) where
-    here : earlier ≡ drop (x / 512) f
-    here = from ∙ to_end f (x / 512)
-
-    pub name_compared : (r : Bool) → r ≡ starts_with eqb earlier d → SameName f x at bytes chars r
-    name_compared r e = name_goes_on r (rw (is, here) at (slice_eq-Decides Decides-eqb d (take (length d) earlier) r e))
-
-    pub name_differs : (r : Option ℕ) → Unlike earlier d r → is_some r ≡ true → SameName f x at bytes chars false
-    name_differs (Some i) u e = name_unlike i (Some i) (rw (is, here) at u) refl
-    name_differs None u e = clash (sym e)
+  pub name_compared : (d earlier : List ℕ) → d ≡ own → earlier ≡ slice_range f (x / 512) (length f) → (r : Bool) → r ≡ starts_with eqb earlier d
+      → SameName f x at bytes r
+  name_compared d earlier is from r e =
+      name_goes_on r (rw (is, from ∙ to_end f (x / 512)) at (slice_eq-Decides Decides-eqb d (take (length d) earlier) r e))
 
 -- ---- The names so far
 
@@ -138,39 +123,83 @@ same_swapped (a ∷ s) [] = refl
 same_swapped (a ∷ s) (b ∷ t) = rw (eqb_swapped a b, same_swapped s t)
 
 -- What is left to look at from name j on.
-pub record Looking (f : List ℕ) (at : ℕ) (bytes w : List ℕ) (n chars j : ℕ) : Type 0 where
-  pub within : j ≤ n
-  pub to : (value : Option ℕ) (names : List (List ℕ)) (s : List ℕ) → NamesHeld f w n value names → NameLine f at bytes chars s
+pub record Looking (f : List ℕ) (at : ℕ) (bytes w prints : List ℕ) (n j : ℕ) : Type 0 where
+  pub to : (value : Option ℕ) (names : List (List ℕ)) (s : List ℕ) → NamesHeld f w n value names → Printed prints names → NameLine f at bytes s
       → given names s ≡ any_of (same_text s) (drop j names)
 
-pub look_start : (f : List ℕ) (at : ℕ) (bytes w : List ℕ) (n chars : ℕ) → Looking f at bytes w n chars 0
+pub look_start : (f : List ℕ) (at : ℕ) (bytes w prints : List ℕ) (n : ℕ) → Looking f at bytes w prints n 0
 unfolding given
-look_start f at bytes w n chars = record { within = omega arith; to = λ v names s h l. refl }
+look_start f at bytes w prints n = record { to = λ v names s h p l. refl }
 
-module _ {f : List ℕ} {at : ℕ} {bytes w : List ℕ} {n chars j : ℕ} (g : Looking f at bytes w n chars j) where
-  module _ (here : j < n) {r : Bool} (same : SameName f (get_or w (NAMES + j) 0) at bytes chars r) where
-    at_name : (v : Option ℕ) (names : List (List ℕ)) (s : List ℕ) → NamesHeld f w n v names → NameLine f at bytes chars s
+module _ {f : List ℕ} {at : ℕ} {bytes w prints : List ℕ} {n : ℕ} where
+  -- past the last name nothing is left
+  pub look_past : {j : ℕ} (k : ℕ) → n ≤ j → n ≤ k → Looking f at bytes w prints n j → Looking f at bytes w prints n k
+  look_past {j} k a b g = record {
+    to = λ v names s h p l.
+        let jn : length names ≤ j = omega (arith, h.count) in
+        let kn : length names ≤ k = omega (arith, h.count) in
+        g.to v names s h p l ∙ ap (any_of (same_text s)) (drop_of_length-le names jn ∙ sym (drop_of_length-le names kn));
+  }
+
+  -- as many as there are, up to a place
+  pub look_up_to : {j : ℕ} (i : ℕ) → j ≡ min n i → Looking f at bytes w prints n j → Looking f at bytes w prints n i
+  look_up_to {j} i e g = cases (ltb n i)
+      (λ q. let past : n < i = ltb-true n i q in look_past i (omega arith) (omega arith) g)
+      (λ q. let here : i ≤ n = ltb-false n i q in let same : i ≡ j = omega arith in rw same g)
+
+  pub look_none : {j : ℕ} → Looking f at bytes w prints n j → n ≤ j → GivenBefore f at bytes w prints n false
+  unfolding any_of
+  look_none {j} g h = record {
+    is = λ v names s held p l. sym
+        (g.to v names s held p l ∙ ap (any_of (same_text s)) (let past : length names ≤ j = omega (arith, held.count) in drop_of_length-le names past));
+  }
+
+  module _ {j : ℕ} (g : Looking f at bytes w prints n j) where
+    -- by what is known of the j-th name's text
+    at_name : (here : j < n) (r : Bool) (v : Option ℕ) (names : List (List ℕ)) (s : List ℕ) → NamesHeld f w n v names → Printed prints names
+        → NameLine f at bytes s → r ≡ same_text (get_or names j []) s
         → given names s ≡ elim r [ true ↦ true | false ↦ any_of (same_text s) (drop (j + 1) names) ]
     unfolding any_of
-    at_name v names s h l =
+    at_name here r v names s h p l q =
         let b : j < length names = omega (arith, h.count) in
         let e : drop j names ≡ get_or names j [] ∷ drop (j + 1) names = rw add-one (drop-cons names j [] b) in
-        let q : r ≡ same_text (get_or names j []) s = same.is (get_or names j []) s (h.name j b) (h.characters j b) l in
-        g.to v names s h l ∙ ap (any_of (same_text s)) e ∙ ap (λ t. elim t [ true ↦ true | false ↦ any_of (same_text s) (drop (j + 1) names) ])
+        g.to v names s h p l ∙ ap (any_of (same_text s)) e ∙ ap (λ t. elim t [ true ↦ true | false ↦ any_of (same_text s) (drop (j + 1) names) ])
         (same_swapped s (get_or names j []) ∙ sym q)
 
-    pub look_found : r ≡ true → GivenBefore f at bytes w n chars true
-    look_found e = record { is = λ v names s h l. sym (at_name v names s h l ∙ rw e) }
+    -- by the name's word
+    module _ (here : j < n) {x : ℕ} (word : x ≡ get_or w (NAMES + j) 0) {r : Bool} (same : SameName f x at bytes r) where
+      told : (v : Option ℕ) (names : List (List ℕ)) (s : List ℕ) → NamesHeld f w n v names → NameLine f at bytes s → r ≡ same_text (get_or names j []) s
+      told v names s h l =
+          let b : j < length names = omega (arith, h.count) in
+          same.is (get_or names j []) s (subst (λ y. line_at f (y / 512) ≡ Some (0x02 ∷ get_or names j [])) (sym word) (h.name j b)) l
 
-    pub look_next : r ≡ false → Looking f at bytes w n chars (j + 1)
-    look_next e = record { within = omega arith; to = λ v names s h l. at_name v names s h l ∙ rw e }
+      pub look_found : r ≡ true → GivenBefore f at bytes w prints n true
+      look_found e = record { is = λ v names s h p l. sym (at_name here r v names s h p l (told v names s h l) ∙ rw e) }
 
-  pub look_none : n ≤ j → GivenBefore f at bytes w n chars false
-  unfolding any_of
-  look_none h = record {
-    is = λ v names s held l. sym
-        (g.to v names s held l ∙ ap (any_of (same_text s)) (let past : length names ≤ j = omega (arith, held.count) in drop_of_length-le names past));
-  }
+      pub look_next : r ≡ false → Looking f at bytes w prints n (j + 1)
+      look_next e = record { to = λ v names s h p l. at_name here r v names s h p l (told v names s h l) ∙ rw e }
+
+    module _ (print : ℕ) (own : print ≡ print_of (drop 1 bytes)) where
+      -- a name with another print has another text
+      other_text : (get_or prints j 0 ≡ print → ⊥) → (names : List (List ℕ)) (s : List ℕ) → j < length names → Printed prints names → NameLine f at bytes s
+          → false ≡ same_text (get_or names j []) s
+      other_text o names s b p l = cases (same_text (get_or names j []) s)
+          (λ e. absurd (o (p.is j b ∙ ap print_of (same_text_lem (get_or names j []) s e ∙ sym (ap (drop 1) l.is)) ∙ sym own)))
+          (λ e. sym e)
+
+      pub look_other : (get_or prints j 0 ≡ print → ⊥) → Looking f at bytes w prints n (j + 1)
+      look_other o = cases (ltb j n)
+          (λ q. let here : j < n = ltb-true j n q in
+          record { to = λ v names s h p l. at_name here false v names s h p l (other_text o names s (omega (arith, h.count)) p l) })
+          (λ q. let past : n ≤ j = ltb-false j n q in look_past (j + 1) past (omega arith) g)
+
+  -- none of the next k has the print
+  pub look_block : {i : ℕ} (print : ℕ) → print ≡ print_of (drop 1 bytes) → (k : ℕ) → ((m : ℕ) → m < k → get_or prints (i + m) 0 ≡ print → ⊥)
+      → Looking f at bytes w prints n i → Looking f at bytes w prints n (i + k)
+  look_block {i} print own zero o g = let e : i + 0 ≡ i = omega arith in rw e g
+  look_block {i} print own (suc k) o g =
+      let e : i + suc k ≡ i + k + 1 = omega arith in
+      rw e (look_other (look_block print own k (λ m l. o m (omega arith)) g) print own (o k (omega arith)))
 
 -- ---- The name `value`
 

@@ -1,4 +1,5 @@
 pub mod Held
 pub mod Parts
+pub mod Prints
 pub mod Promises
 pub mod Marks

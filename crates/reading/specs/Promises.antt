@@ -1,6 +1,5 @@
 -- What the functions of src/ promise.
-use Rattle.std.specs.Int.{from_le_bytes, w64}
-use Rattle.std.specs.Prelude.{Bool, true, false, List, [], ◌∷◌, ◌≡◌, ℕ, ◌+◌, ◌*◌, ◌<◌, ◌≤◌, leb, ltb, length, get_or, take, drop, set, replicate, Err, None, Ok}
+use Rattle.std.specs.Prelude.{Bool, true, false, List, [], ◌∷◌, ◌≡◌, ℕ, ◌+◌, ◌*◌, ◌<◌, ◌≤◌, leb, ltb, length, get_or, drop, set, replicate, Err, None, Ok}
 use Rattle.std.specs.Prelude.{Option, Result, Some}
 use Rattle.std.proofs.lemmas.List.Edits.{sets}
 use Rattle.work.specs.Layout.{NAME-COUNT, TYPES, PREDICATES}
@@ -11,7 +10,6 @@ use Rattle.format.specs.SoFar.{SoFar, frames, said_by, add, after}
 use Rattle.format.specs.Conditions.{given, is_full, is_last_query_past, conditions, first_of}
 use Rattle.format.specs.File.{Reading, refused, described, reading_of, types_of}
 use Rattle.meaning.specs.Outcome.{min_words}
-use Rattle.text.specs.Utf8.{characters}
 use Rattle.sigla_hex.specs.Digits.{line_at}
 use Rattle.frames.specs.Promises.{kind_meant, known}
 use Rattle.frames.specs.declared.Kind.{Kind}
@@ -20,6 +18,7 @@ use Rattle.cells.specs.Stands.{Rows}
 use Rattle.reading.specs.declared.Refusal.{Refusal}
 use Rattle.work.specs.declared.Counters.{Counters}
 use Rattle.reading.specs.Held.{NamesHeld, Held}
+use Rattle.reading.specs.Prints.{print_of, Printed}
 use Rattle.tree.specs.Stands.{SchemaStands, numbered}
 
 -- Document 01's refusals, as the definitions have them.
@@ -102,24 +101,20 @@ pub record TakesThere (e : Edition) (at : ℕ) (k : Frame.Kind) (s w : List ℕ)
 
 -- ---- Names
 
--- The bytes at i as one number.
-unfoldable pub eight_at : List ℕ → ℕ → ℕ
-eight_at s i = from_le_bytes w64
-    (get_or s i 0 ∷ get_or s (i + 1) 0 ∷ get_or s (i + 2) 0 ∷ get_or s (i + 3) 0 ∷ get_or s (i + 4) 0 ∷ get_or s (i + 5) 0 ∷ get_or s (i + 6) 0
-    ∷ get_or s (i + 7) 0 ∷ [])
-
--- Where a place is told, t is not what s begins with. Nothing is said of others.
-pub record Unlike (s t : List ℕ) (r : Option ℕ) : Type 0 where
-  pub is : (i : ℕ) → r ≡ Some i → take (length t) s ≡ t → ⊥
-
--- The text of a name's line, by its characters.
-pub record NameLine (f : List ℕ) (at : ℕ) (bytes : List ℕ) (chars : ℕ) (s : List ℕ) : Type 0 where
+-- The text of a name's line.
+pub record NameLine (f : List ℕ) (at : ℕ) (bytes s : List ℕ) : Type 0 where
   pub line : line_at f at ≡ Some bytes
   pub is : bytes ≡ 0x02 ∷ s
-  pub characters : characters s ≡ Some chars
 
-pub record GivenBefore (f : List ℕ) (at : ℕ) (bytes w : List ℕ) (n chars : ℕ) (r : Bool) : Type 0 where
-  pub is : (value : Option ℕ) (names : List (List ℕ)) (s : List ℕ) → NamesHeld f w n value names → NameLine f at bytes chars s → r ≡ given names s
+pub record GivenBefore (f : List ℕ) (at : ℕ) (bytes w prints : List ℕ) (n : ℕ) (r : Bool) : Type 0 where
+  pub is : (value : Option ℕ) (names : List (List ℕ)) (s : List ℕ) → NamesHeld f w n value names → Printed prints names → NameLine f at bytes s
+      → r ≡ given names s
+
+-- As `Takes`, where the prints are those of the names so far; and its own is written where it is added.
+pub record TakesName (e : Edition) (f : List ℕ) (at : ℕ) (s w prints : List ℕ) (c : Counters) (w' prints' : List ℕ) (r : Result Counters Refusal) : Type 0 where
+  pub is : (next : ℕ) (T : Rows) (previous : Option Frame.Kind) (so : SoFar) (frame : Frame.Frame) → Held e f at w T c previous so → Printed prints so.names
+      → LineAt f at next s → Comes e so Frame.name s frame → LineEnds e f next w' (Some Frame.name) (add so frame) r (first_of conditions so (frames frame))
+  pub printed : (d : Counters) → r ≡ Ok d → prints' ≡ set prints c.names (print_of (drop 1 s))
 
 -- ---- Types and predicates
 
@@ -155,11 +150,15 @@ past_of c Frame.predicate = false
 past_of c Frame.node = false
 past_of c Frame.query = leb 64 c.queries
 
--- The line is refused by the first condition that holds of what it says, or that is added to what was read.
-pub record TakesLine (e : Edition) (f : List ℕ) (at : ℕ) (s w : List ℕ) (c : Counters) (previous : Option Kind) (kind : Kind) (w' : List ℕ)
+-- The line is refused by the first condition that holds of what it says, or that is added to what was read, and its
+-- print to the prints.
+pub record TakesLine (e : Edition) (f : List ℕ) (at : ℕ) (s w prints : List ℕ) (c : Counters) (previous : Option Kind) (kind : Kind) (w' prints' : List ℕ)
     (r : Result Counters Refusal) : Type 0 where
-  pub is : (next : ℕ) (T : Rows) (so : SoFar) → Held e f at w T c (known previous) so → LineAt f at next s → Some (kind_meant kind) ≡ kind_of (get_or s 0 0)
+  pub is : (next : ℕ) (T : Rows) (so : SoFar) → Held e f at w T c (known previous) so → Printed prints so.names → LineAt f at next s
+      → Some (kind_meant kind) ≡ kind_of (get_or s 0 0)
       → LineEnds e f next w' (Some (kind_meant kind)) (after so (said_by e (Some s))) r (first_of conditions so (said_by e (Some s)))
+  pub printed : (next : ℕ) (T : Rows) (so : SoFar) (d : Counters) → Held e f at w T c (known previous) so → Printed prints so.names → LineAt f at next s
+      → Some (kind_meant kind) ≡ kind_of (get_or s 0 0) → r ≡ Ok d → Printed prints' (after so (said_by e (Some s))).names
 
 -- ---- All lines
 

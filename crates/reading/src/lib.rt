@@ -88,20 +88,21 @@ fn take_limits(s: &[u8], w: &mut [u32], c: Counters) -> Result<Counters, Refusal
     Ok(c)
 }
 
-// One line: the lowest refusal that applies to it, or the counters after it. The slice is lent, while the counters go
-// through by value, as a refusal leaves none: what takes a line takes both, beside one another. The kinds are these
-// six, each taken in its own way, so an arm tells each. The counters' bounds are of the run and no type's: only after
-// the tests is there room for one more, as `Vacancy` has it.
+// One line: the lowest refusal that applies to it, or the counters after it. The slice and the names' prints are lent,
+// while the counters go through by value, as a refusal leaves none: what takes a line takes all, beside one another.
+// The kinds are these six, each taken in its own way, so an arm tells each. The counters' bounds are of the run and no
+// type's: only after the tests is there room for one more, as `Vacancy` has it.
 fn take_line(
     line: Line,
     w: &mut [u32],
+    prints: &mut [u16; 256],
     c: Counters,
     previous: Option<Kind>,
     kind: Kind,
     edition: Edition,
 ) -> Result<Counters, Refusal>
     requires { (c.names ≤ 256) × (c.types ≤ 256) × (c.fields ≤ 8192) }
-    ensures { TakesLine (edition_of edition) line.entry.file.now line.entry.at line.entry.bytes.now w.old c previous kind w.new result }
+    ensures { TakesLine (edition_of edition) line.entry.file.now line.entry.at line.entry.bytes.now w.old prints.old c previous kind w.new prints.new result }
 {
     if !frames::may_stand(previous, Some(kind)) {
         return Err(Refusal::MisplacedKind);
@@ -118,7 +119,7 @@ fn take_line(
     }
     match kind {
         Kind::Limits => take_limits(s, w, c),
-        Kind::Name => names::take_name(line, w, c),
+        Kind::Name => names::take_name(line, w, prints, c),
         Kind::SchemaType => types::take_type(s, w, types::Vacancy { c }, edition),
         Kind::Predicate => types::take_predicate(s, w, c),
         Kind::Node => nodes::take_node(line, w, c, edition),
@@ -138,15 +139,16 @@ fn put_counts(w: &mut [u32], c: Counters)
 }
 
 // The lines in file order, then the missing query. Each line says where the next one starts, and the loop follows that
-// place. No iterator over `decode`, here or in loading, convert and growth: each walk stops on other grounds and keeps
-// other counts, and the line that it reads into would be lent, which std's `Iterator` can't. After each query the nodes
-// start anew: `load` finds them again. Both lengths were tested in `read_file`, which alone asks: a type that says so
-// would be made for this one call.
+// place. No iterator over `decode`, here or in convert and growth: each walk stops on other grounds and keeps other
+// counts, and the line that it reads into would be lent, which std's `Iterator` can't. After each query the nodes start
+// anew: `load` finds them again. Both lengths were tested in `read_file`, which alone asks: a type that says so would
+// be made for this one call.
 fn take_lines(file: &[u8], w: &mut [u32], edition: Edition) -> Result<(), Refusal>
     requires { (length file.now ≤ 65536) × (16384 ≤ length w.old) }
     ensures { TakesLines (edition_of edition) file.now w.old w.new result }
 {
     let mut bytes = [0u8; Counters::LINE];
+    let mut prints = [0u16; Counters::NAMES as usize];
     let mut c = Counters::new();
     let mut previous = None;
     let mut at = 0;
@@ -158,7 +160,7 @@ fn take_lines(file: &[u8], w: &mut [u32], edition: Edition) -> Result<(), Refusa
             at,
             bytes: &bytes[..n],
         };
-        c = take_line(line, w, c, previous, kind, edition)?;
+        c = take_line(line, w, &mut prints, c, previous, kind, edition)?;
         previous = Some(kind);
         at = next;
     }

@@ -1,106 +1,99 @@
 // Name lines: the text, and whether it was given before.
-ghost use Rattle.std.specs.Prelude.{◌≡◌, ℕ, ◌+◌, ◌<◌, ◌≤◌, length, drop, take, true};
-ghost use Rattle.std.specs.List.{starts_with};
-ghost use Rattle.std.proofs.Math.Dec.{eqb};
-ghost use Rattle.format.specs.Frame.{name};
-ghost use Rattle.reading.specs.Promises.{eight_at, Unlike, GivenBefore, InEither, Takes};
+ghost use Rattle.std.specs.Prelude.{◌≡◌, ℕ, ◌+◌, ◌<◌, ◌≤◌, ◌↔◌, IsTrue, length, get_or, drop};
+ghost use Rattle.frames.specs.Promises.{full_w};
+ghost use Rattle.reading.specs.Prints.{print_of};
+ghost use Rattle.reading.specs.Promises.{GivenBefore, InEither, TakesName};
 
 use crate::{Counters, Line, Refusal};
-use work::{name_chars, name_place, name_word, put, wide, word};
+use work::{name_place, name_word, put, wide, word};
 
-// The eight digits at i as one number: two slices of eight are compared by a function for any length, some 25
-// instructions for 3. A `first_chunk` would test once more that they are there.
-#[tactic(auto, unfolding(crate::specs::Promises::eight_at))]
-fn eight(s: &[u8], i: usize) -> u64
-    requires { i + 8 ≤ length s.now }
-    ensures { result ≡ eight_at s.now i }
+// 2^32 by the golden ratio: products of numbers that are near one another lie far apart.
+const FACTOR: u32 = 2_654_435_769;
+
+// The four bytes at i as one number: `frames::full` tests for each whether it is there.
+#[tactic(auto, unfolding(frames::specs::Promises::full_w, frames::specs::Promises::half_w))]
+fn four(s: &[u8], i: usize) -> u32
+    requires { i + 4 ≤ length s.now }
+    ensures { result ≡ full_w s.now i }
 {
-    u64::from_le_bytes([
-        s[i],
-        s[i + 1],
-        s[i + 2],
-        s[i + 3],
-        s[i + 4],
-        s[i + 5],
-        s[i + 6],
-        s[i + 7],
-    ])
+    u32::from_be_bytes([s[i], s[i + 1], s[i + 2], s[i + 3]])
 }
 
-// Whether the eight digits at i differ.
-fn unlike(s: &[u8], t: &[u8], i: usize) -> bool
-    requires { (i + 8 ≤ length s.now) × (i + 8 ≤ length t.now) }
-    ensures { result ≡ true → s.now ≡ t.now → ⊥ }
+// A number made of all of a text: texts that differ seldom have the same. Four bytes at a time, the last four first; of
+// the last product the upper half, on which each bit bears.
+#[tactic(auto, unfolding(crate::specs::Prints::mixed, crate::specs::Prints::print_of))]
+fn print_of(s: &[u8]) -> u16
+    ensures { result ≡ print_of s.now }
 {
-    eight(s, i) != eight(t, i)
+    let last = match s.len().checked_sub(4) {
+        Some(last) => four(s, last),
+        None => frames::full(s, 0),
+    };
+    let mut mixed = last.wrapping_mul(FACTOR);
+    for k in 0..s.len() / 4 {
+        mixed = mixed.wrapping_add(four(s, 4 * k)).wrapping_mul(FACTOR);
+    }
+    (mixed / 65536) as u16
 }
 
-// Out of line, so that the loop over names keeps its registers.
+// Whether none of sixteen prints is this. It goes on where one is, so that the processor compares all at once.
+fn none_has(prints: &[u16; 256], i: usize, print: u16) -> bool
+    requires { i + 16 ≤ length prints.now }
+    ensures { IsTrue result ↔ ((k : ℕ) → k < 16 → ¬ (get_or prints.now (i + k) 0 ≡ print)) }
+{
+    let mut found = false;
+    for k in 0..16 {
+        found |= prints[i + k] == print;
+    }
+    !found
+}
+
+// The line's text has this print. Only names with the same are compared with it, and most blocks of sixteen have none:
+// an earlier name costs one instruction. Out of line, so that the loop over the blocks keeps its registers.
 #[inline(never)]
-fn begins(s: &[u8], t: &[u8]) -> bool
-    ensures { result ≡ starts_with eqb s.now t.now }
+fn given_before(line: Line, w: &[u32], prints: &[u16; 256], names: u32, print: u16) -> bool
+    requires { (names < 256) × (print ≡ print_of (drop 1 line.bytes.now)) }
+    ensures { GivenBefore line.entry.file.now line.entry.at line.entry.bytes.now w.now prints.now names result }
 {
-    s.starts_with(t)
-}
-
-// A place where eight digits of t differ from those that s begins with: where it is found the lines differ, so that all
-// of a line is seldom compared. The place where other lines differed comes first, then the last eight: names alike
-// often differ there. A loop over the others, as its place is within both: the closure of a `find` would need that as a
-// clause.
-fn differ(s: &[u8], t: &[u8], first: Option<usize>) -> Option<usize>
-    ensures { Unlike s.now t.now result }
-{
-    let s = s.get(..t.len())?;
-    let last = t.len().checked_sub(8)?;
-    if let Some(i) = first {
-        if i < last && unlike(s, t, i) {
-            return first;
-        }
-    }
-    if unlike(s, t, last) {
-        return Some(last);
-    }
-    for i in (0..last).step_by(8) {
-        if unlike(s, t, i) {
-            return Some(i);
-        }
-    }
-    None
-}
-
-// The line has so many characters. No `any` over the names: the place where one differed is carried to the next.
-fn given_before(line: Line, w: &[u32], names: u32, chars: usize) -> bool
-    ensures { GivenBefore line.entry.file.now line.entry.at line.entry.bytes.now w.now names chars result }
-{
+    let names = wide(names);
     let digits = line.digits();
-    let mut place = None;
-    for j in 0..names {
-        let x = word(w, work::NAMES + wide(j));
-        if wide(name_chars(x)) != chars {
+    for b in 0..names.div_ceil(16) {
+        if none_has(prints, 16 * b, print) {
             continue;
         }
-        let Some(earlier) = line.file.get(wide(name_place(x))..) else {
-            continue;
-        };
-        place = differ(earlier, digits, place);
-        if place.is_none() && begins(earlier, digits) {
-            return true;
+        for j in 16 * b..names.min(16 * b + 16) {
+            if prints[j] != print {
+                continue;
+            }
+            let Some(earlier) = line.file.get(wide(name_place(word(w, work::NAMES + j)))..) else {
+                continue;
+            };
+            if earlier.starts_with(digits) {
+                return true;
+            }
         }
     }
     false
 }
 
-pub fn take_name(line: Line, w: &mut [u32], c: Counters) -> Result<Counters, Refusal>
+pub fn take_name(
+    line: Line,
+    w: &mut [u32],
+    prints: &mut [u16; 256],
+    c: Counters,
+) -> Result<Counters, Refusal>
     requires { c.names < 256 }
-    ensures { InEither (λ e. Takes e line.entry.file.now line.entry.at name line.entry.bytes.now w.old c w.new result) }
+    ensures { InEither (λ e. TakesName e line.entry.file.now line.entry.at line.entry.bytes.now w.old prints.old c w.new prints.new result) }
 {
     let text = &line.bytes[1..];
     let chars = text::characters(text).ok_or(Refusal::BrokenText)?;
-    if given_before(line, w, c.names, chars) {
+    let print = print_of(text);
+    if given_before(line, w, prints, c.names, print) {
         return Err(Refusal::NameGivenBefore);
     }
     let n = c.names;
     put(w, work::NAMES + wide(n), name_word(line.at, chars));
+    prints[wide(n)] = print;
     Ok(Counters {
         names: n + 1,
         value: if text == b"value".as_slice() {

@@ -1,11 +1,12 @@
--- A search over the numbers of a region, the newest first: what `find` and `any` give over a range in reverse.
-use mathlib.Core.Bool.{Bool, true, false}
+-- A search over the numbers of a region, the newest first: what `find` and `any` give over a range in reverse, and what
+-- loops give that test no read.
+use mathlib.Core.Bool.{Bool, true, false, ◌||◌, true≢false}
 use mathlib.Core.List.{List, [], ◌∷◌}
 use mathlib.Core.Path.{◌≡◌, refl, sym, ◌∙◌, ap}
 use native.Mathlib.Omega.{arith}
 use Prim.Native.Nat.{ℕ, zero, suc, ◌+◌, ◌-◌, ◌/◌, ◌<◌}
 use lib.ListN.{length, get_or}
-use borrow.Author.Tests.{eq-eqb, ne_eqb}
+use borrow.Author.Tests.{eq-eqb, ne_eqb, eqb-false}
 use Rattle.std.specs.declared.ops.Range.{Range}
 use Rattle.std.specs.declared.iter.Rev.{Rev}
 use Rattle.std.specs.Iterator.{AlwaysYields}
@@ -16,7 +17,7 @@ use Rattle.std.specs.Bool.{MatchBool}
 use Rattle.std.proofs.lemmas.Iterator.{YieldsList}
 use Rattle.work.specs.Layout.{ENV}
 use Rattle.meaning.specs.Check.{Entry, lookup_in, is_in}
-use Rattle.state.specs.Words.{entry_w, env_of, known_as, numbers_of}
+use Rattle.state.specs.Words.{entry_w, env_of, known_as, numbers_of, symbols_of}
 use Rattle.std.specs.Prelude.{None, Option, Some, eqb}
 
 abbrev pub backs : Range ℕ → Option ℕ → Range ℕ → Type 0
@@ -63,6 +64,24 @@ module _ (x : ℕ) where
   any_is all true h = there all h.0 h.1 h.2
   any_is all false h = nowhere all h
 
+-- One number more, and whether x is one of them.
+either : (b c : Bool) → (b || c) ≡ (elim c [ true ↦ true | false ↦ b ])
+either true true = refl
+either true false = refl
+either false true = refl
+either false false = refl
+
+pub any_more : (from : ℕ) (w : List ℕ) (x n : ℕ) {b : Bool} → b ≡ is_in x (numbers_of from w n)
+    → (b || eqb (get_or w (from + n) 0) x) ≡ is_in x (numbers_of from w (n + 1))
+unfolding is_in numbers_of
+any_more from w x n {b} q = let e : n + 1 ≡ suc n = omega arith in rw (e, q) (either (is_in x (numbers_of from w n)) (eqb (get_or w (from + n) 0) x))
+
+pub symbols_more : (w : List ℕ) (x from n : ℕ) {b : Bool} → b ≡ is_in x (symbols_of w from n)
+    → (b || eqb (get_or w (ENV + from + n) 0 / 262144) x) ≡ is_in x (symbols_of w from (n + 1))
+unfolding is_in symbols_of
+symbols_more w x from n {b} q =
+    let e : n + 1 ≡ suc n = omega arith in rw (e, q) (either (is_in x (symbols_of w from n)) (eqb (get_or w (ENV + from + n) 0 / 262144) x))
+
 -- ---- `find`
 module _ (w : List ℕ) (symbol : ℕ) where
   abbrev Its : ℕ → Type 0
@@ -94,3 +113,34 @@ module _ (w : List ℕ) (symbol : ℕ) where
       → known_as r ≡ lookup_in (env_of w n) symbol
   find_is n q None h = unknown n (rw q at h)
   find_is n q (Some e) h = known n e h.1 h.0 (rw q at h.2) (rw q at h.3) (rw q at h.4)
+
+  -- ---- One entry more, which fits or does not
+  pub fits : (n : ℕ) → Its (get_or w (ENV + n) 0) → lookup_in (env_of w (n + 1)) symbol ≡ Some (entry_w (get_or w (ENV + n) 0))
+  unfolding env_of lookup_in
+  fits n q = let e : n + 1 ≡ suc n = omega arith in rw (e, env_of, eq-eqb (get_or w (ENV + n) 0 / 262144) symbol q, lookup_in) refl
+
+  pub passes : (n : ℕ) → Not (get_or w (ENV + n) 0) → lookup_in (env_of w (n + 1)) symbol ≡ lookup_in (env_of w n) symbol
+  unfolding env_of lookup_in
+  passes n q = let e : n + 1 ≡ suc n = omega arith in rw (e, env_of, ne_eqb (get_or w (ENV + n) 0 / 262144) symbol q, lookup_in) refl
+
+  -- none of a block, so the search begins before it
+  pub block_passes : (from k : ℕ) → is_in symbol (symbols_of w from k) ≡ false
+      → lookup_in (env_of w (from + k)) symbol ≡ lookup_in (env_of w from) symbol
+  unfolding is_in symbols_of
+  block_passes from zero q = let e : from + 0 ≡ from = omega arith in rw e refl
+  block_passes from (suc k) q = go (eqb (get_or w (ENV + from + k) 0 / 262144) symbol) refl q (block_passes from k)
+    where
+      go : (b : Bool) → eqb (get_or w (ENV + from + k) 0 / 262144) symbol ≡ b
+          → (elim b [ true ↦ true | false ↦ is_in symbol (symbols_of w from k) ]) ≡ false
+          → (is_in symbol (symbols_of w from k) ≡ false → lookup_in (env_of w (from + k)) symbol ≡ lookup_in (env_of w from) symbol)
+          → lookup_in (env_of w (from + suc k)) symbol ≡ lookup_in (env_of w from) symbol
+      go true p h rest = absurd (true≢false h)
+      go false p h rest =
+          let e : from + suc k ≡ from + k + 1 = omega arith in
+          let there : ENV + from + k ≡ ENV + (from + k) = omega arith in
+          rw e (passes (from + k) (eqb-false _ _ (rw there at p)) ∙ rest h)
+
+  -- none before the first
+  pub nothing : {n : ℕ} → n ≡ 0 → lookup_in (env_of w n) symbol ≡ None
+  unfolding env_of lookup_in
+  nothing e = rw e refl

@@ -22,6 +22,11 @@ unfoldable pub env_of : List ℕ → ℕ → List Entry
 env_of w zero = []
 env_of w (suc n) = entry_w (get_or w (ENV + n) 0) ∷ env_of w n
 
+-- the variables of so many entries from a number on
+unfoldable pub symbols_of : List ℕ → ℕ → ℕ → List ℕ
+symbols_of w from zero = []
+symbols_of w from (suc n) = get_or w (ENV + from + n) 0 / 262144 ∷ symbols_of w from n
+
 abbrev pub known_as : Option ℕ → Option Entry
 known_as (Some e) = Some (entry_w e)
 known_as None = None

@@ -1,12 +1,12 @@
 -- `begin`. A zero that is written stays, whatever zeros are written after it.
 use mathlib.Core.List.{List, [], ◌∷◌}
-use mathlib.Core.Logic.{by_cases}
 use mathlib.Core.Path.{◌≡◌, refl, ◌∙◌}
-use native.Mathlib.Decide.{ℕ_discrete}
 use native.Mathlib.Omega.{arith}
-use Prim.Native.Nat.{ℕ, zero, suc, ◌+◌, ◌*◌, ◌≤◌, ◌<◌}
-use lib.ListN.{length, get_or, set, length-set}
+use Prim.Native.Nat.{ℕ, zero, suc, ◌+◌, ◌-◌, ◌*◌, ◌≤◌, ◌<◌, min}
+use borrow.Rule.Slice.PartMut.{put_mid}
+use lib.ListN.{length, get_or, set, replicate, length-set}
 use lib.Seq.{get_or-set_same, get_or-set_other}
+use Rattle.std.proofs.lemmas.List.{places}
 use Rattle.work.specs.Layout.{RECORD-COUNT, RECORD-FIELD-COUNT, ENV-LEN, DIAGNOSTIC-COUNT, UNKNOWNS, PLACE, PLACE-HIGH, FULL, UNTIL, LEFT, STOP, ENTERED}
 use Rattle.work.specs.Layout.{GOT, MARK-COUNT, UNUSED-COUNT, TYS, UNDO-LEN, END}
 use Rattle.cells.specs.Stands.{Keeps}
@@ -72,18 +72,28 @@ started w w' U =
     }
 
 -- ---- Node types
-pub untypes_start : (w : List ℕ) → Untypes w 0 w
-untypes_start w = record { keeps = keeps_refl; untyped = λ i h. absurd (omega arith) }
+-- zeros from a to e
+abbrev filled : List ℕ → ℕ → ℕ → List ℕ
+filled w a e = put_mid a (e - a) w (replicate (e - a) 0)
 
-pub untypes_next : {w w' : List ℕ} {n : ℕ} → n < 512 → Untypes w n w' → Untypes w (n + 1) (set w' (TYS + 2 * n) 0)
-untypes_next {w} {w'} {n} h U = record {
-  keeps = keeps_trans U.keeps (keeps_set w' (TYS + 2 * n) 0 (omega arith) (omega arith));
-  untyped = λ i lt. by_cases (ℕ_discrete i n) (λ e. rw e (zero_at w' (TYS + 2 * n)))
-      (λ ne. zero_stays w' (TYS + 2 * n) (TYS + 2 * i) (U.untyped i (omega arith)));
-}
+module _ (w : List ℕ) {e a : ℕ} (end : e ≡ min (length w) UNDO-LEN) (from : a ≡ min TYS e) where
+  filled_below : (i : ℕ) → i < TYS → get_or (filled w a e) i 0 ≡ get_or w i 0
+  filled_below i h = grind (arith, places)
 
-pub untypes_end : {w w' : List ℕ} {n : ℕ} → 512 ≤ n → Untypes w n w' → Untypes w 512 w'
-untypes_end h U = record { keeps = U.keeps; untyped = λ i lt. U.untyped i (omega arith) }
+  filled_above : (i : ℕ) → UNDO-LEN ≤ i → get_or (filled w a e) i 0 ≡ get_or w i 0
+  filled_above i h = grind (arith, places)
+
+  filled_zero : (i : ℕ) → TYS ≤ i → i < UNDO-LEN → get_or (filled w a e) i 0 ≡ 0
+  filled_zero i lo hi = grind (arith, places)
+
+  filled_long : length (filled w a e) ≡ length w
+  filled_long = grind (arith, places)
+
+  pub untyped_all : {z : List ℕ} → z ≡ replicate (e - a) 0 → Untypes w 512 (put_mid a (e - a) w z)
+  untyped_all q = rw q (record {
+    keeps = record { below = filled_below; above = filled_above; long = filled_long };
+    untyped = λ i h. filled_zero (TYS + 2 * i) (omega arith) (omega arith);
+  })
 
 -- ---- `begin`
 module _ (w : List ℕ) (u : Until) {v x y w' : List ℕ} (e : v ≡ counters_w w) (U : Untypes v 512 x)

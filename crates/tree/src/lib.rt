@@ -12,11 +12,10 @@ use work::{line_place, line_size, node_line, wide, word};
 
 // A digit's value, and 16 for any other byte, which a file that was read has not: `hex_byte` adds up both digits, and
 // of an Option it would make a number again.
-#[tactic(auto, unfolding(sigla_hex::specs::Digits::digit_w))]
 fn digit(b: u8) -> u32
     ensures { (result ≡ digit_w b) × (result < 17) }
 {
-    sigla_hex::digit(b).map_or(16, u32::from)
+    u32::from(sigla_hex::value(b))
 }
 
 // The byte of two digits, and 0 past the end, where no line of a file that was read goes. A place is below 2^40, so

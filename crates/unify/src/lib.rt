@@ -1,9 +1,10 @@
 // `unify` and `orderable` over the cells, as ty.rs has them. A visit is counted at each entry.
 #![tactic(auto)]
 
-ghost use Rattle.std.specs.Prelude.{Err, SomeIff, ◌≡◌, ◌↔◌, ◌≤◌, ◌-◌, IsTrue, get_or, ok_or};
+ghost use Rattle.std.specs.Prelude.{Err, SomeIff, IfSome, ◌≡◌, ◌↔◌, ◌≤◌, ◌-◌, IsTrue, length, get_or, ok_or};
 ghost use Rattle.work.specs.Layout.{UNDO-LEN};
 ghost use Rattle.unify.specs.Last.{Remembers};
+ghost use Rattle.unify.specs.Nearest.{IsLeastWay, IsNearest};
 ghost use Rattle.cells.specs.Words.{after_w};
 ghost use Rattle.cells.specs.Promises.{IsOrderable, Lowers, LeastFrom, NextFrom, Passed, part_at, FindsKey, Unifies, BindsVar, UnifiesHeads, UnifiesShapes, UnifiesRecord, UnifiesFields, UnifiesUnion, UnifiesNext};
 ghost use Rattle.cells.specs.declared.Kind.TheVariants.{Alternatives};
@@ -15,6 +16,7 @@ use cells::{
     Failure, Kind, Ty, TyError, UnionDiff, alternative, count, field, first, key_from, occurs,
     part_count, part_ty, place_from, place_of, repr, set_var, snapshot,
 };
+use work::wide;
 
 // Inside, the visits left come back where the sides unify, and where they do not, `why` holds the failure: it stands
 // once, below all entries, since in each result it would have room of its own on the stack at every depth.
@@ -192,21 +194,66 @@ fn unify_fields(w: &mut [u32], c: u32, d: u32, n: u32, left: u32, why: &mut Fail
     Some(rest)
 }
 
+// How far it is up from `low` to the nearest of these keys, where 0 follows the greatest number: no key below `low` is
+// as near as one that is not. It leaves at none of them, so that the processor takes four at once.
+fn way_up(parts: &[[u32; 2]], low: u32) -> u32
+    ensures { IsLeastWay low parts.now (length parts.now) result }
+{
+    let mut least = u32::MAX;
+    for [key, _] in parts {
+        least = least.min(key.wrapping_sub(low));
+    }
+    least
+}
+
+// The same by sixteen keys, up to those with `low` itself: nothing is nearer. The last sixteen may have been looked at
+// in part: one by one, those that are left would cost as much as all before them.
+fn least_way(parts: &[[u32; 2]], low: u32) -> u32
+    ensures { IsLeastWay low parts.now (length parts.now) result }
+{
+    let Some(last) = parts.last_chunk::<16>() else {
+        return way_up(parts, low);
+    };
+    let mut least = u32::MAX;
+    for block in parts.as_chunks::<16>().0 {
+        least = least.min(way_up(block, low));
+        if least == 0 {
+            return 0;
+        }
+    }
+    least.min(way_up(last, low))
+}
+
+// The nearest discriminant of one union's alternatives from the i-th on; mostly the first of them has `from` itself.
+// None where there is none, and where not all are within the slice.
+fn nearest(w: &[u32], c: u32, i: u32, from: u64) -> Option<u32>
+    ensures { IfSome result (IsNearest w.now c i from) }
+{
+    let low = u32::try_from(from).ok()?;
+    let at = work::FIELDS + first(w, c);
+    let words = w.get(at + 2 * wide(i)..at + 2 * wide(count(w, c)))?;
+    let parts = words.as_chunks::<2>().0;
+    let [key, _] = parts.first()?;
+    if *key == low {
+        return Some(*key);
+    }
+    Some(low.wrapping_add(least_way(parts, low)))
+}
+
 // The least discriminant of one union that is not below `from`, or `best` where that is less. The first i alternatives
-// are below it; none is less than `from` itself, so the scan ends there, which no `fold` or `min` does. A type of a cell
-// and what is passed of it would be made anew for each discriminant, which passes more.
+// are below it, and of the others the nearest is below it only where all are. A type of a cell and what is passed of it
+// would be made anew for each discriminant, which passes more.
 fn least_from(w: &[u32], c: u32, i: u32, from: u64, best: Option<u32>) -> Option<u32>
     requires { Passed w.now c i from }
     ensures { LeastFrom w.now c from best result }
 {
+    if let Some(key) = nearest(w, c, i, from) {
+        return lower(key, from, best);
+    }
     let f = first(w, c);
     let mut least = best;
     for j in i..count(w, c) {
-        let key = key_from(w, Kind::Alternatives, c, f, j);
-        least = lower(key, from, least);
-        if u64::from(key) == from {
-            break;
-        }
+        least = lower(key_from(w, Kind::Alternatives, c, f, j), from, least);
     }
     least
 }

@@ -4,8 +4,8 @@ use lib.ListN.{length}
 use Rattle.loading.proofs.Loading.{Loading}
 use Rattle.loading.proofs.load.Given as goal
 
-abbrev pub invariant-loop-n : goal.invariant-loop-n
-invariant-loop-n l = Loading l.file l.at l.initial.w l.w l.i l.nodes
+abbrev pub invariant-loop-kind : goal.invariant-loop-kind
+invariant-loop-kind l = Loading l.file l.at l.initial.w l.w l.i l.nodes
 
-abbrev pub decreases-loop-n : goal.decreases-loop-n
-decreases-loop-n l = length l.file - l.i
+abbrev pub decreases-loop-kind : goal.decreases-loop-kind
+decreases-loop-kind l = length l.file - l.i

@@ -9,7 +9,7 @@ use Rattle.reading.proofs.AllLines.{midway_missing, decoded, line_holds}
 use Rattle.reading.proofs.take_lines.Goals as goal
 
 pub loop-at-init : goal.loop-at-init
-loop-at-init c = (refl, refl, rw c.new-c.ensures (midway_start _ _ _ c.requires.0 c.requires.1))
+loop-at-init c = (refl, refl, rw c.new-c.ensures (midway_start _ _ _ _ c.requires.0 c.requires.1))
 
 pub returns-in_err-n : goal.returns-in_err-n
 returns-in_err-n c =
@@ -45,7 +45,7 @@ returns-in_err-c c =
     let p = err_from_is_err_and c.from_residual-in_err-c.result c.from_residual-in_err-c.ensures.1 in
     let h = decoded c.decode.ensures (the_value _ _ _ c.in_ok-n.ensures.value) in
     let k = sym (ap known (the_value _ _ _ c.in_ok-kind.ensures.value)) ∙ c.kind_of.ensures in
-    rw (p.1, p.2) (record { ends = midway_off _ c.loop-at.invariant.2 h _ k _ _ c.in_err-c.ensures })
+    rw (p.1, p.2) (record { ends = midway_off _ c.loop-at.invariant.2 h _ k _ _ _ c.in_err-c.ensures })
 
 pub loop-at-smaller : goal.loop-at-smaller
 loop-at-smaller c =
@@ -56,7 +56,7 @@ pub loop-at-preserved : goal.loop-at-preserved
 loop-at-preserved c =
     let h = decoded c.decode.ensures (the_value _ _ _ c.in_ok-n.ensures.value) in
     let k = sym (ap known (the_value _ _ _ c.in_ok-kind.ensures.value)) ∙ c.kind_of.ensures in
-    (c.decode.ensures.room, c.take_line.auto.w ∙ c.loop-at.invariant.1, midway_on _ c.loop-at.invariant.2 h _ k _ _ c.in_ok-c.ensures)
+    (c.decode.ensures.room, c.take_line.auto.w ∙ c.loop-at.invariant.1, midway_on _ c.loop-at.invariant.2 h _ k _ _ _ c.in_ok-c.ensures)
 
 pub returns-then-ne : goal.returns-then-ne
 returns-then-ne c = let h = c.ne.ensures in record { ends = midway_missing _ c.loop-at.invariant.2 c.loop-at-test.false (search rules) }

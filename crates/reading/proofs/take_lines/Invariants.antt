@@ -8,7 +8,8 @@ use Rattle.reading.proofs.AllLines.{Midway}
 use Rattle.reading.proofs.take_lines.Given as goal
 
 abbrev pub invariant-loop-at : goal.invariant-loop-at
-invariant-loop-at l = (length l.bytes ≡ 512) × (length l.w ≡ length l.initial.w) × Midway (edition_of l.edition) l.file l.w l.c l.previous l.at
+invariant-loop-at l = (length l.bytes ≡ 512) × (length l.w ≡ length l.initial.w)
+    × Midway (edition_of l.edition) l.file l.w l.prints l.c l.previous l.at
 
 abbrev pub decreases-loop-at : goal.decreases-loop-at
 decreases-loop-at l = length l.file - l.at
