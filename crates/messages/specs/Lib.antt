@@ -1,2 +1,3 @@
 pub mod Shown
 pub mod Said
+pub mod Views

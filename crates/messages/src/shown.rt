@@ -4,8 +4,8 @@ ghost use Rattle.std.specs.Prelude.{true, ◌≡◌, ◌==◌, drop};
 ghost use Rattle.std.specs.List.{before_first};
 ghost use Rattle.meaning.specs.Messages.{decimal};
 ghost use Rattle.writer.specs.Writes.{WritesText};
-ghost use Rattle.cells.specs.Stands.{Ok, IsCell};
-ghost use Rattle.messages.specs.Shown.{NothingNeeded, Shows, Looks, ok_piece, ok_pieces, piece_text, pieces_text, name_text, quoted_text, fact_text, before_text, parted_by, discriminant_text, render_text, cell_text};
+ghost use Rattle.messages.specs.Views.{ShowsText, ShowsType, ShowsCell, ShowsPiece, ShowsPieces, before_part};
+ghost use Rattle.messages.specs.Shown.{Looks, name_text, quoted_text, fact_text, parted_by, discriminant_text};
 
 use cells::{Kind, Part, Ty};
 use work::{wide, word};
@@ -93,7 +93,7 @@ pub struct View<'a> {
 impl View<'_> {
     // The name's line has its text after the kind's two digits.
     fn name(&self, out: &mut [u8], at: usize, x: u32) -> Option<usize>
-        ensures { Shows self.now.f.now self.now.w.now out.old at NothingNeeded (name_text x) out.new result }
+        ensures { ShowsText self.now out.old at (name_text x) out.new result }
     {
         if x < word(self.w, work::NAME_COUNT) {
             let place = work::name_place(word(self.w, work::NAMES + wide(x)));
@@ -103,7 +103,7 @@ impl View<'_> {
     }
 
     fn quoted(&self, out: &mut [u8], at: usize, x: u32) -> Option<usize>
-        ensures { Shows self.now.f.now self.now.w.now out.old at NothingNeeded (quoted_text x) out.new result }
+        ensures { ShowsText self.now out.old at (quoted_text x) out.new result }
     {
         let at = text(out, at, "`")?;
         let at = self.name(out, at, x)?;
@@ -112,7 +112,7 @@ impl View<'_> {
 
     // A fact by the name of its predicate, where it has one.
     fn fact(&self, out: &mut [u8], at: usize, p: u32) -> Option<usize>
-        ensures { Shows self.now.f.now self.now.w.now out.old at NothingNeeded (fact_text p) out.new result }
+        ensures { ShowsText self.now out.old at (fact_text p) out.new result }
     {
         if p < word(self.w, work::PREDICATE_COUNT) {
             let x = work::predicate_name(word(self.w, work::PREDICATES + wide(p)));
@@ -125,7 +125,7 @@ impl View<'_> {
 
     // What stands before the type of a part: `name = ` in a record, `name : ` in a union.
     fn before(&self, out: &mut [u8], at: usize, k: Kind, p: &Part) -> Option<usize>
-        ensures { Shows self.now.f.now self.now.w.now out.old at NothingNeeded (before_text k p.now.key p.now.label) out.new result }
+        ensures { ShowsText self.now out.old at (before_part k p.now) out.new result }
     {
         let (name, mark) = match k {
             Kind::Fields => (p.key, " = "),
@@ -148,7 +148,7 @@ impl View<'_> {
     // `render`. A cell's brace is written before its parts, so the room left falls.
     #[cycle(rendering)]
     fn render(&self, out: &mut [u8], at: usize, t: Ty, b: Bindings) -> Option<usize>
-        ensures { Shows self.now.f.now self.now.w.now out.old at (Ok self.now.w.now t) (render_text b t) out.new result }
+        ensures { ShowsType self.now out.old at b t out.new result }
     {
         match self.look(t, b) {
             Ty::Int => text(out, at, "an integer"),
@@ -164,7 +164,7 @@ impl View<'_> {
 
     #[cycle(rendering)]
     fn cell(&self, out: &mut [u8], at: usize, k: Kind, c: u32, b: Bindings) -> Option<usize>
-        ensures { Shows self.now.f.now self.now.w.now out.old at (IsCell self.now.w.now k c) (cell_text b k c) out.new result }
+        ensures { ShowsCell self.now out.old at b k c out.new result }
     {
         let mut to = byte(out, at, b'{')?;
         let n = cells::count(self.w, c);
@@ -181,7 +181,7 @@ impl View<'_> {
     }
 
     fn piece(&self, out: &mut [u8], at: usize, p: Piece) -> Option<usize>
-        ensures { Shows self.now.f.now self.now.w.now out.old at (ok_piece self.now.w.now p) (piece_text p) out.new result }
+        ensures { ShowsPiece self.now out.old at p out.new result }
     {
         match p {
             Piece::Text(s) => text(out, at, s),
@@ -193,7 +193,7 @@ impl View<'_> {
     }
 
     pub fn write(&self, out: &mut [u8], at: usize, pieces: &[Piece]) -> Option<usize>
-        ensures { Shows self.now.f.now self.now.w.now out.old at (ok_pieces self.now.w.now pieces.now) (pieces_text pieces.now) out.new result }
+        ensures { ShowsPieces self.now out.old at pieces.now out.new result }
     {
         let mut to = at;
         for &p in pieces {

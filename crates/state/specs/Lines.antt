@@ -103,6 +103,13 @@ stop_w Check.the_end = 0
 stop_w Check.first_diagnostic = 0
 stop_w (Check.entry n) = n
 
+-- The words of a run that has told nothing and entered nothing yet.
+abbrev pub no_lines_w : List ℕ → Check.Until → List ℕ
+no_lines_w w u = set (set (set (set (set w PLACE 0) PLACE-HIGH 0) FULL 0) UNTIL (until_w u)) LEFT 0
+
+abbrev pub no_entries_w : List ℕ → Check.Until → List ℕ
+no_entries_w w u = set (set w STOP (stop_w u)) ENTERED 0
+
 -- The words say so.
 pub data UntilIs (w : List ℕ) : Until → Type 0 where
   at_end : ¬ (get_or w UNTIL 0 ≡ 1) → ¬ (get_or w UNTIL 0 ≡ 2) → UntilIs w Until.TheEnd

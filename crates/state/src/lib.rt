@@ -3,11 +3,11 @@
 #![tactic(auto)]
 
 ghost use Rattle.std.specs.Prelude.{◌≡◌, ◌+◌, ◌*◌, length, get_or, set, ◌<◌, ◌≤◌};
-ghost use Rattle.work.specs.Layout.{PLACE, PLACE-HIGH, FULL, UNTIL, LEFT, STOP, ENTERED, ENV-LEN, MARK-COUNT, MARKS, UNUSED};
+ghost use Rattle.work.specs.Layout.{ENV-LEN, MARK-COUNT, MARKS, UNUSED};
 ghost use Rattle.meaning.specs.Check.{lookup_in, is_in};
-ghost use Rattle.state.specs.Words.{bumped_w, counted_w, entry_w, env_of, known_as, push_env_w, symbols_of, marks_of, mark_w, leave_entry_w, leave_w, Introduces};
-ghost use Rattle.state.specs.Lines.{place_w, set_place_w, WritesSpan, WritesUnusedLine, WritesCodeLine, WritesMessageLine, WritesBothLines, until_of, until_w, stop_w, UntilIs, Tells, Halts, Rejected, entered_w, sides_w, Enters};
-ghost use Rattle.state.specs.Running.{left_if, Lent};
+ghost use Rattle.state.specs.Words.{bumped_w, counted_w, entry_w, env_of, known_as, push_env_w, symbols_of, marks_of, mark_w, leave_entry_w, leave_w};
+ghost use Rattle.state.specs.Lines.{place_w, set_place_w, WritesSpan, WritesUnusedLine, WritesCodeLine, WritesMessageLine, WritesBothLines, until_of, until_w, stop_w, no_lines_w, no_entries_w, UntilIs, entered_w, sides_w};
+ghost use Rattle.state.specs.Running.{TellsIn, HaltsIn, RejectsIn, EntersIn, IntroducesIn, Lent};
 ghost use Rattle.tree.specs.Nodes.{IsNode};
 
 use cells::Ty;
@@ -45,7 +45,7 @@ impl Run<'_> {
 
     // Its lines behind the lines before it; where there is no room, that is noted and no line is written from then on.
     fn tell(&mut self, n: u32, m: Message)
-        ensures is { Tells self.old.file.now self.old.words.now self.old.out.now n m self.new.words.now self.new.out.now }
+        ensures is { TellsIn self.old n m self.new }
         ensures left { self.new.left ≡ self.old.left }
         ensures lent { Lent self.old self.new }
     {
@@ -60,7 +60,7 @@ impl Run<'_> {
     }
 
     fn halt(&mut self) -> Option<()>
-        ensures is { Halts self.old.words.now self.old.left self.new.words.now (left_if result self.new.left) }
+        ensures is { HaltsIn self.old self.new result }
         ensures out { self.new.out ≡ self.old.out }
         ensures lent { Lent self.old self.new }
     {
@@ -73,7 +73,7 @@ impl Run<'_> {
 
     // A diagnostic at a node, and whether the run goes on.
     pub fn reject(&mut self, n: u32, m: Message) -> Option<()>
-        ensures is { Rejected self.old.file.now self.old.words.now self.old.out.now n m self.old.left self.new.words.now self.new.out.now (left_if result self.new.left) }
+        ensures is { RejectsIn self.old n m self.new result }
         ensures lent { Lent self.old self.new }
     {
         self.tell(n, m);
@@ -84,7 +84,7 @@ impl Run<'_> {
     // An entry to `unify` from outside is about to be made: it is counted, and the run goes on, or it was to last until
     // here. Its sides are two parameters, by the names of ty.rs.
     pub fn enter(&mut self, got: Ty, expected: Ty) -> Option<()>
-        ensures is { Enters self.old.words.now got expected self.old.left self.new.words.now (left_if result self.new.left) }
+        ensures is { EntersIn self.old got expected self.new result }
         ensures out { self.new.out ≡ self.old.out }
         ensures lent { Lent self.old self.new }
     {
@@ -103,7 +103,7 @@ impl Run<'_> {
 
     // The unknown of a variable that a node names; one that is new is introduced.
     pub fn introduce(&mut self, node: u32, symbol: u32) -> u32
-        ensures is { Introduces self.old.words.now node symbol self.new.words.now result }
+        ensures is { IntroducesIn self.old node symbol self.new result }
         ensures left { self.new.left ≡ self.old.left }
         ensures out { self.new.out ≡ self.old.out }
         ensures lent { Lent self.old self.new }
@@ -177,7 +177,7 @@ fn until_in(w: &[u32]) -> Until
 
 // No line yet.
 pub fn begin_lines(w: &mut [u32], until: Until)
-    ensures { w.new ≡ set (set (set (set (set w.old PLACE 0) PLACE-HIGH 0) FULL 0) UNTIL (until_w (until_of until))) LEFT 0 }
+    ensures { w.new ≡ no_lines_w w.old (until_of until) }
 {
     put(w, work::PLACE, 0);
     put(w, work::PLACE_HIGH, 0);
@@ -188,7 +188,7 @@ pub fn begin_lines(w: &mut [u32], until: Until)
 
 // No entry yet.
 pub fn begin_entries(w: &mut [u32], until: Until)
-    ensures { w.new ≡ set (set w.old STOP (stop_w (until_of until))) ENTERED 0 }
+    ensures { w.new ≡ no_entries_w w.old (until_of until) }
 {
     put(w, work::STOP, stop_word(until));
     put(w, work::ENTERED, 0);

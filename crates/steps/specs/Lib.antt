@@ -2,3 +2,4 @@ pub mod Ends
 pub mod Loads
 pub mod Promises
 pub mod Outside
+pub mod InRuns

@@ -3,12 +3,11 @@
 #![tactic(auto)]
 
 ghost use Rattle.std.specs.Prelude.{◌≡◌, ◌<◌, get_or};
-ghost use Rattle.state.specs.Lines.{Rejected};
-ghost use Rattle.state.specs.Running.{with_left, left_if, ok_left, Lent};
-ghost use Rattle.messages.specs.declared.Message.TheVariants as Message;
+ghost use Rattle.state.specs.Running.{RejectsIn, Lent};
 ghost use Rattle.messages.specs.Said.{report_message};
-ghost use Rattle.steps.specs.Outside.{predicate_w, key_ty_w, value_ty_w, RejectsTy, RejectedIf, far_w, characters_w, long_w, TakesMark, Rewinds, FieldIs, Shadows, ValueOf, FieldAt, KeyOf, SelectOf, ComparesOrder, IntroducesSides, ChecksHead, counters_w, Untypes, StartsRun};
-ghost use Rattle.steps.specs.Promises.{Fuzzes, UnifiesOutside, UnifiesAt, ComparesTypes, TellsDestructurable, AsksAll};
+ghost use Rattle.steps.specs.Outside.{predicate_w, key_ty_w, value_ty_w, TakesMark, Rewinds, FieldIs, Shadows, counters_w, Untypes, StartsRun};
+ghost use Rattle.steps.specs.Promises.{TellsDestructurable, AsksAll};
+ghost use Rattle.steps.specs.InRuns.{RejectsTyIn, UnifiesOutsideIn, UnifiesAtIn, ComparesTypesIn, ComparesOrderIn, ValueOfIn, FieldAtIn, KeyOfIn, SelectOfIn, DistanceIn, TermIn, FuzzesIn, IntroducesSideIn, ChecksHeadIn};
 
 use cells::{Failure, Kind, Ty, TyError};
 use messages::Message;
@@ -19,7 +18,7 @@ use work::{put, wide, word};
 // ---- State
 
 pub fn reject_ty(run: &mut Run, n: u32, m: Message) -> Option<Ty>
-    ensures is { RejectsTy run.old.file.now run.old.words.now run.old.out.now n m run.old.left run.new.words.now run.new.out.now (with_left result run.new.left) }
+    ensures is { RejectsTyIn run.old n m run.new result }
     ensures lent { Lent run.old run.new }
 {
     run.reject(n, m)?;
@@ -28,7 +27,7 @@ pub fn reject_ty(run: &mut Run, n: u32, m: Message) -> Option<Ty>
 
 #[inline(never)]
 pub fn report(run: &mut Run, n: u32, err: TyError) -> Option<()>
-    ensures is { Rejected run.old.file.now run.old.words.now run.old.out.now n (report_message err) run.old.left run.new.words.now run.new.out.now (left_if result run.new.left) }
+    ensures is { RejectsIn run.old n (report_message err) run.new result }
     ensures lent { Lent run.old run.new }
 {
     run.reject(n, Message::from(err))
@@ -62,7 +61,7 @@ pub fn rollback(w: &mut [u32], at: Mark)
 
 // `unify` from outside it, its two sides by the names of ty.rs; an entry that the run was to last until is not made.
 pub fn unify_outside(run: &mut Run, got: Ty, expected: Ty) -> Option<Result<(), TyError>>
-    ensures is { UnifiesOutside run.old.words.now got expected run.old.left run.new.words.now (ok_left result run.new.left) }
+    ensures is { UnifiesOutsideIn run.old got expected run.new result }
     ensures out { run.new.out ≡ run.old.out }
     ensures lent { Lent run.old run.new }
 {
@@ -83,7 +82,7 @@ pub fn unify_outside(run: &mut Run, got: Ty, expected: Ty) -> Option<Result<(), 
 // Unifies, and reports a failure at a node.
 #[inline(never)]
 pub fn unify_at(run: &mut Run, n: u32, got: Ty, expected: Ty) -> Option<()>
-    ensures is { UnifiesAt run.old.file.now run.old.words.now run.old.out.now n got expected run.old.left run.new.words.now run.new.out.now (left_if result run.new.left) }
+    ensures is { UnifiesAtIn run.old n got expected run.new result }
     ensures lent { Lent run.old run.new }
 {
     match unify_outside(run, got, expected)? {
@@ -94,7 +93,7 @@ pub fn unify_at(run: &mut Run, n: u32, got: Ty, expected: Ty) -> Option<()>
 
 // The two sides of a comparison agree: the type must have an order.
 pub fn compare_order(run: &mut Run, lhs: u32, t: Ty) -> Option<()>
-    ensures is { ComparesOrder run.old.file.now run.old.words.now run.old.out.now lhs t run.old.left run.new.words.now run.new.out.now (left_if result run.new.left) }
+    ensures is { ComparesOrderIn run.old lhs t run.new result }
     ensures lent { Lent run.old run.new }
 {
     let left = run.left;
@@ -108,7 +107,7 @@ pub fn compare_order(run: &mut Run, lhs: u32, t: Ty) -> Option<()>
 
 // Not `unify_at`, since after a report the order is not asked for. The sides are two parameters, as in crate checker.
 pub fn compare_types(run: &mut Run, lhs: u32, rhs: u32, a: Ty, b: Ty) -> Option<()>
-    ensures is { ComparesTypes run.old.file.now run.old.words.now run.old.out.now lhs rhs a b run.old.left run.new.words.now run.new.out.now (left_if result run.new.left) }
+    ensures is { ComparesTypesIn run.old lhs rhs a b run.new result }
     ensures lent { Lent run.old run.new }
 {
     match unify_outside(run, b, a)? {
@@ -171,7 +170,7 @@ pub fn key_shadows_value(w: &[u32], p: u32) -> bool
 
 #[inline(never)]
 pub fn value_of(run: &mut Run, n: u32, base: Ty) -> Option<Ty>
-    ensures is { ValueOf run.old.file.now run.old.words.now run.old.out.now n base run.old.left run.new.words.now run.new.out.now (with_left result run.new.left) }
+    ensures is { ValueOfIn run.old n base run.new result }
     ensures lent { Lent run.old run.new }
 {
     match base {
@@ -193,7 +192,7 @@ pub fn value_of(run: &mut Run, n: u32, base: Ty) -> Option<Ty>
 // Here, above and in `select_of` a `match`: the closure of an `or_else` would take the run, and say all that `reject_ty`
 // says once more.
 pub fn field_at(run: &mut Run, n: u32, name: u32, t: Ty) -> Option<Ty>
-    ensures is { FieldAt run.old.file.now run.old.words.now run.old.out.now n name t run.old.left run.new.words.now run.new.out.now (with_left result run.new.left) }
+    ensures is { FieldAtIn run.old n name t run.new result }
     ensures lent { Lent run.old run.new }
 {
     match field_of(run.view(), t, name) {
@@ -205,7 +204,7 @@ pub fn field_at(run: &mut Run, n: u32, name: u32, t: Ty) -> Option<Ty>
 // On a fact it is the key's field, and a fact of an absent predicate is an error without a diagnostic.
 #[inline(never)]
 pub fn key_of(run: &mut Run, n: u32, name: u32, base: Ty) -> Option<Ty>
-    ensures is { KeyOf run.old.file.now run.old.words.now run.old.out.now n name base run.old.left run.new.words.now run.new.out.now (with_left result run.new.left) }
+    ensures is { KeyOfIn run.old n name base run.new result }
     ensures lent { Lent run.old run.new }
 {
     match base {
@@ -222,7 +221,7 @@ pub fn key_of(run: &mut Run, n: u32, name: u32, base: Ty) -> Option<Ty>
 
 #[inline(never)]
 pub fn select_of(run: &mut Run, n: u32, name: u32, base: Ty) -> Option<Ty>
-    ensures is { SelectOf run.old.file.now run.old.words.now run.old.out.now n name base run.old.left run.new.words.now run.new.out.now (with_left result run.new.left) }
+    ensures is { SelectOfIn run.old n name base run.new result }
     ensures lent { Lent run.old run.new }
 {
     match base {
@@ -239,7 +238,7 @@ pub fn select_of(run: &mut Run, n: u32, name: u32, base: Ty) -> Option<Ty>
 // ---- Both bounds of a fuzzy pattern
 
 fn fuzzy_distance(run: &mut Run, n: u32, distance: u32) -> Option<()>
-    ensures is { RejectedIf run.old.file.now run.old.words.now run.old.out.now n (Message.DistanceOutside distance) run.old.left run.new.words.now run.new.out.now (left_if result run.new.left) (far_w run.old.words.now distance) }
+    ensures is { DistanceIn run.old n distance run.new result }
     ensures lent { Lent run.old run.new }
 {
     if distance == 0 || word(run.view(), work::MAX_DISTANCE) < distance {
@@ -249,7 +248,7 @@ fn fuzzy_distance(run: &mut Run, n: u32, distance: u32) -> Option<()>
 }
 
 fn fuzzy_term(run: &mut Run, n: u32, term: u32) -> Option<()>
-    ensures is { RejectedIf run.old.file.now run.old.words.now run.old.out.now n (Message.TermTooLong (characters_w run.old.words.now term)) run.old.left run.new.words.now run.new.out.now (left_if result run.new.left) (long_w run.old.words.now term) }
+    ensures is { TermIn run.old n term run.new result }
     ensures lent { Lent run.old run.new }
 {
     let characters = work::name_chars(word(run.view(), work::NAMES + wide(term)));
@@ -262,7 +261,7 @@ fn fuzzy_term(run: &mut Run, n: u32, term: u32) -> Option<()>
 // The distance first.
 #[inline(never)]
 pub fn fuzzy(run: &mut Run, n: u32, term: u32, distance: u32) -> Option<Ty>
-    ensures is { Fuzzes run.old.file.now run.old.words.now run.old.out.now n term distance run.old.left run.new.words.now run.new.out.now (with_left result run.new.left) }
+    ensures is { FuzzesIn run.old n term distance run.new result }
     ensures lent { Lent run.old run.new }
 {
     fuzzy_distance(run, n, distance)?;
@@ -274,7 +273,7 @@ pub fn fuzzy(run: &mut Run, n: u32, term: u32, distance: u32) -> Option<Ty>
 
 // A side that is a variable is introduced before either side is inferred.
 pub fn introduce_side(run: &mut Run, n: u32)
-    ensures is { IntroducesSides run.old.file.now run.old.words.now n run.new.words.now }
+    ensures is { IntroducesSideIn run.old n run.new }
     ensures left { run.new.left ≡ run.old.left }
     ensures out { run.new.out ≡ run.old.out }
     ensures lent { Lent run.old run.new }
@@ -286,7 +285,7 @@ pub fn introduce_side(run: &mut Run, n: u32)
 
 // A wildcard has no type of its own that the head could have.
 pub fn check_head(run: &mut Run, n: u32) -> Option<()>
-    ensures is { ChecksHead run.old.file.now run.old.words.now run.old.out.now n run.old.left run.new.words.now run.new.out.now (left_if result run.new.left) }
+    ensures is { ChecksHeadIn run.old n run.new result }
     ensures lent { Lent run.old run.new }
 {
     match run.node(n) {

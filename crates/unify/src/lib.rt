@@ -1,12 +1,11 @@
 // `unify` and `orderable` over the cells, as ty.rs has them. A visit is counted at each entry.
 #![tactic(auto)]
 
-ghost use Rattle.std.specs.Prelude.{Err, SomeIff, IfSome, ◌≡◌, ◌↔◌, ◌≤◌, ◌-◌, IsTrue, length, get_or, ok_or};
-ghost use Rattle.work.specs.Layout.{UNDO-LEN};
-ghost use Rattle.unify.specs.Last.{Remembers};
+ghost use Rattle.std.specs.Prelude.{Err, SomeIff, IfSome, ◌≡◌, ◌↔◌, ◌≤◌, ◌-◌, IsTrue, length, ok_or};
+ghost use Rattle.unify.specs.Last.{Repeats, UnifiesAfter};
 ghost use Rattle.unify.specs.Nearest.{IsLeastWay, IsNearest};
 ghost use Rattle.cells.specs.Words.{after_w};
-ghost use Rattle.cells.specs.Promises.{IsOrderable, Lowers, LeastFrom, NextFrom, Passed, part_at, FindsKey, Unifies, BindsVar, UnifiesHeads, UnifiesShapes, UnifiesRecord, UnifiesFields, UnifiesUnion, UnifiesNext};
+ghost use Rattle.cells.specs.Promises.{IsOrderable, Lowers, LeastFrom, NextFrom, Passed, part_at, FindsKey, Unifies, BindsVar, UnifiesHeads, UnifiesShapes, UnifiesRecord, UnifiesFields, UnifiesUnion};
 ghost use Rattle.cells.specs.declared.Kind.TheVariants.{Alternatives};
 ghost use Rattle.cells.specs.declared.Ty.TheVariants as Ty;
 ghost use Rattle.cells.specs.declared.TyError.TheVariants as TyError;
@@ -144,7 +143,7 @@ impl Last {
 
     // Whether these two are the same, and nothing was bound since. What they cost is not compared: no `==`.
     fn is(self, w: &[u32], got: Ty, expected: Ty) -> bool
-        ensures { IsTrue result ↔ ((got ≡ self.got) × (expected ≡ self.expected) × (get_or w.now UNDO-LEN 0 ≡ self.log)) }
+        ensures { IsTrue result ↔ Repeats self w.now got expected }
     {
         got == self.got && expected == self.expected && snapshot(w) == self.log
     }
@@ -161,7 +160,7 @@ fn unify_next(
     left: u32,
     why: &mut Failure,
 ) -> Option<u32>
-    ensures { UnifiesNext w.old (Remembers last.old) got expected left w.new (Remembers last.new) (ok_or result why.new) }
+    ensures { UnifiesAfter last.old w.old got expected left last.new w.new result why.new }
 {
     if last.is(w, got, expected) {
         return spend(left, last.cost, why);
