@@ -4,8 +4,9 @@
 
 ghost use Rattle.std.specs.Prelude.{◌≡◌, ◌<◌};
 ghost use Rattle.tree.specs.Nodes.{LowerItems};
-ghost use Rattle.state.specs.Running.{with_left, left_if, Lent};
-ghost use Rattle.checker.specs.Promises.{InfersRecord, InfersAll, Subqueries, Facts, InfersKind, Infers, InfersThenUnifies, Mentions, ChecksFields, ChecksUnion, Checks, Generates, Branches, BindsVariable, NotYets, Destructures, BindsSides, Denies, Compares, States, StatesAll, Queries};
+ghost use Rattle.state.specs.Running.{Lent};
+ghost use Rattle.checker.specs.InRuns.{InfersIn, InfersKindIn, SubqueriesIn, InfersRecordIn, InfersAllIn, FactsIn, InfersThenUnifiesIn, MentionsIn, ChecksFieldsIn, ChecksUnionIn, ChecksIn, GeneratesIn, BranchesIn, BindsVariableIn, NotYetsIn, DestructuresIn, BindsSidesIn, DeniesIn, ComparesIn, StatesIn, StatesAllIn};
+ghost use Rattle.checker.specs.Promises.{Queries};
 
 use cells::{Kind, Ty};
 use messages::Message;
@@ -17,7 +18,7 @@ use work::{Counters, word};
 #[cycle(checking)]
 fn infer_record(run: &mut Run, items: Items) -> Option<Ty>
     requires { 0 < items.n → 0 < items.below }
-    ensures is { InfersRecord run.old.file.now run.old.words.now run.old.out.now items run.old.left run.new.words.now run.new.out.now (with_left result run.new.left) }
+    ensures is { InfersRecordIn run.old items run.new result }
     ensures lent { Lent run.old run.new }
 {
     let n = items.n;
@@ -40,7 +41,7 @@ fn infer_record(run: &mut Run, items: Items) -> Option<Ty>
 #[cycle(checking)]
 fn infer_all(run: &mut Run, items: Items, with: Ty) -> Option<Ty>
     requires { 0 < items.n → 0 < items.below }
-    ensures is { InfersAll run.old.file.now run.old.words.now run.old.out.now items with run.old.left run.new.words.now run.new.out.now (with_left result run.new.left) }
+    ensures is { InfersAllIn run.old items with run.new result }
     ensures lent { Lent run.old run.new }
 {
     for i in 0..items.n {
@@ -54,7 +55,7 @@ fn infer_all(run: &mut Run, items: Items, with: Ty) -> Option<Ty>
 #[cycle(checking)]
 fn subquery(run: &mut Run, head: u32, body: Stmts) -> Option<Ty>
     requires { head < body.below }
-    ensures is { Subqueries run.old.file.now run.old.words.now run.old.out.now head body run.old.left run.new.words.now run.new.out.now (with_left result run.new.left) }
+    ensures is { SubqueriesIn run.old head body run.new result }
     ensures lent { Lent run.old run.new }
 {
     let scope = word(run.view(), work::ENV_LEN);
@@ -66,7 +67,7 @@ fn subquery(run: &mut Run, head: u32, body: Stmts) -> Option<Ty>
 
 #[cycle(checking)]
 fn fact(run: &mut Run, p: u32, key: u32) -> Option<Ty>
-    ensures is { Facts run.old.file.now run.old.words.now run.old.out.now p key run.old.left run.new.words.now run.new.out.now (with_left result run.new.left) }
+    ensures is { FactsIn run.old p key run.new result }
     ensures lent { Lent run.old run.new }
 {
     let Some(t) = steps::key_ty(run.view(), p) else {
@@ -78,7 +79,7 @@ fn fact(run: &mut Run, p: u32, key: u32) -> Option<Ty>
 
 #[cycle(checking)]
 fn infer_kind(run: &mut Run, n: u32) -> Option<Ty>
-    ensures is { InfersKind run.old.file.now run.old.words.now run.old.out.now n run.old.left run.new.words.now run.new.out.now (with_left result run.new.left) }
+    ensures is { InfersKindIn run.old n run.new result }
     ensures lent { Lent run.old run.new }
 {
     // Not by `Run::node`: inlined, the node would stand twice in this frame, once for each depth of a query.
@@ -121,7 +122,7 @@ fn infer_kind(run: &mut Run, n: u32) -> Option<Ty>
 
 #[cycle(checking)]
 pub fn infer(run: &mut Run, n: u32) -> Option<Ty>
-    ensures is { Infers run.old.file.now run.old.words.now run.old.out.now n run.old.left run.new.words.now run.new.out.now (with_left result run.new.left) }
+    ensures is { InfersIn run.old n run.new result }
     ensures lent { Lent run.old run.new }
 {
     let t = infer_kind(run, n)?;
@@ -131,7 +132,7 @@ pub fn infer(run: &mut Run, n: u32) -> Option<Ty>
 
 #[cycle(checking)]
 fn infer_then_unify(run: &mut Run, n: u32, expected: Ty) -> Option<()>
-    ensures is { InfersThenUnifies run.old.file.now run.old.words.now run.old.out.now n expected run.old.left run.new.words.now run.new.out.now (left_if result run.new.left) }
+    ensures is { InfersThenUnifiesIn run.old n expected run.new result }
     ensures lent { Lent run.old run.new }
 {
     let at = steps::snapshot(run.view());
@@ -148,7 +149,7 @@ fn infer_then_unify(run: &mut Run, n: u32, expected: Ty) -> Option<()>
 // A field in a scope of its own: whatever diagnostic arose inside it, it is rolled back.
 #[cycle(checking)]
 fn check_field(run: &mut Run, c: u32, name: u32, value: u32) -> Option<()>
-    ensures is { Mentions run.old.file.now run.old.words.now run.old.out.now name value c run.old.left run.new.words.now run.new.out.now (left_if result run.new.left) }
+    ensures is { MentionsIn run.old name value c run.new result }
     ensures lent { Lent run.old run.new }
 {
     let Some(p) = cells::find_key(run.view(), Kind::Fields, c, name) else {
@@ -166,7 +167,7 @@ fn check_field(run: &mut Run, c: u32, name: u32, value: u32) -> Option<()>
 #[cycle(checking)]
 fn check_fields(run: &mut Run, items: Items, c: u32) -> Option<()>
     requires { 0 < items.n → 0 < items.below }
-    ensures is { ChecksFields run.old.file.now run.old.words.now run.old.out.now items c run.old.left run.new.words.now run.new.out.now (left_if result run.new.left) }
+    ensures is { ChecksFieldsIn run.old items c run.new result }
     ensures lent { Lent run.old run.new }
 {
     for i in 0..items.n {
@@ -179,7 +180,7 @@ fn check_fields(run: &mut Run, items: Items, c: u32) -> Option<()>
 #[cycle(checking)]
 fn check_union(run: &mut Run, n: u32, items: Items, c: u32) -> Option<()>
     requires { LowerItems n items }
-    ensures is { ChecksUnion run.old.file.now run.old.words.now run.old.out.now n items c run.old.left run.new.words.now run.new.out.now (left_if result run.new.left) }
+    ensures is { ChecksUnionIn run.old n items c run.new result }
     ensures lent { Lent run.old run.new }
 {
     if items.n != 1 {
@@ -197,7 +198,7 @@ fn check_union(run: &mut Run, n: u32, items: Items, c: u32) -> Option<()>
 // Against Error nothing is visited.
 #[cycle(checking)]
 pub fn check(run: &mut Run, n: u32, expected: Ty) -> Option<()>
-    ensures is { Checks run.old.file.now run.old.words.now run.old.out.now n expected run.old.left run.new.words.now run.new.out.now (left_if result run.new.left) }
+    ensures is { ChecksIn run.old n expected run.new result }
     ensures lent { Lent run.old run.new }
 {
     let t = cells::repr(run.view(), expected);
@@ -225,7 +226,7 @@ pub fn check(run: &mut Run, n: u32, expected: Ty) -> Option<()>
 // Branches are not unified.
 #[cycle(checking)]
 pub fn generator(run: &mut Run, n: u32) -> Option<Ty>
-    ensures is { Generates run.old.file.now run.old.words.now run.old.out.now n run.old.left run.new.words.now run.new.out.now (with_left result run.new.left) }
+    ensures is { GeneratesIn run.old n run.new result }
     ensures lent { Lent run.old run.new }
 {
     match run.node(n) {
@@ -241,7 +242,7 @@ pub fn generator(run: &mut Run, n: u32) -> Option<Ty>
 #[cycle(checking)]
 fn branches(run: &mut Run, items: Items) -> Option<Ty>
     requires { 0 < items.n → 0 < items.below }
-    ensures is { Branches run.old.file.now run.old.words.now run.old.out.now items run.old.left run.new.words.now run.new.out.now (with_left result run.new.left) }
+    ensures is { BranchesIn run.old items run.new result }
     ensures lent { Lent run.old run.new }
 {
     let mut last = Ty::Error;
@@ -255,7 +256,7 @@ fn branches(run: &mut Run, items: Items) -> Option<Ty>
 // both would be taken apart again in each function.
 #[cycle(checking)]
 fn bind_name(run: &mut Run, symbol: u32, lhs: u32, rhs: u32) -> Option<()>
-    ensures is { BindsVariable run.old.file.now run.old.words.now run.old.out.now symbol lhs rhs run.old.left run.new.words.now run.new.out.now (left_if result run.new.left) }
+    ensures is { BindsVariableIn run.old symbol lhs rhs run.new result }
     ensures lent { Lent run.old run.new }
 {
     let var = run.introduce(lhs, symbol);
@@ -266,7 +267,7 @@ fn bind_name(run: &mut Run, symbol: u32, lhs: u32, rhs: u32) -> Option<()>
 
 #[cycle(checking)]
 fn not_yet(run: &mut Run, lhs: u32, rhs: u32, m: Message) -> Option<()>
-    ensures is { NotYets m run.old.file.now run.old.words.now run.old.out.now lhs rhs run.old.left run.new.words.now run.new.out.now (left_if result run.new.left) }
+    ensures is { NotYetsIn run.old m lhs rhs run.new result }
     ensures lent { Lent run.old run.new }
 {
     run.reject(lhs, m)?;
@@ -278,7 +279,7 @@ fn not_yet(run: &mut Run, lhs: u32, rhs: u32, m: Message) -> Option<()>
 // `compare` begins alike, but both types go on from there: one function for both beginnings would be as long.
 #[cycle(checking)]
 fn destructure(run: &mut Run, lhs: u32, rhs: u32) -> Option<()>
-    ensures is { Destructures run.old.file.now run.old.words.now run.old.out.now lhs rhs run.old.left run.new.words.now run.new.out.now (left_if result run.new.left) }
+    ensures is { DestructuresIn run.old lhs rhs run.new result }
     ensures lent { Lent run.old run.new }
 {
     let pattern = infer(run, lhs)?;
@@ -288,7 +289,7 @@ fn destructure(run: &mut Run, lhs: u32, rhs: u32) -> Option<()>
 
 #[cycle(checking)]
 fn bind(run: &mut Run, lhs: u32, rhs: u32) -> Option<()>
-    ensures is { BindsSides run.old.file.now run.old.words.now run.old.out.now lhs rhs run.old.left run.new.words.now run.new.out.now (left_if result run.new.left) }
+    ensures is { BindsSidesIn run.old lhs rhs run.new result }
     ensures lent { Lent run.old run.new }
 {
     match run.node(lhs) {
@@ -321,7 +322,7 @@ fn bind(run: &mut Run, lhs: u32, rhs: u32) -> Option<()>
 // `bind` has arms like these two, but for the message: a function for them would be one more of the cycle.
 #[cycle(checking)]
 fn deny(run: &mut Run, lhs: u32, rhs: u32) -> Option<()>
-    ensures is { Denies run.old.file.now run.old.words.now run.old.out.now lhs rhs run.old.left run.new.words.now run.new.out.now (left_if result run.new.left) }
+    ensures is { DeniesIn run.old lhs rhs run.new result }
     ensures lent { Lent run.old run.new }
 {
     match run.node(lhs) {
@@ -341,7 +342,7 @@ fn deny(run: &mut Run, lhs: u32, rhs: u32) -> Option<()>
 
 #[cycle(checking)]
 fn compare(run: &mut Run, lhs: u32, rhs: u32) -> Option<()>
-    ensures is { Compares run.old.file.now run.old.words.now run.old.out.now lhs rhs run.old.left run.new.words.now run.new.out.now (left_if result run.new.left) }
+    ensures is { ComparesIn run.old lhs rhs run.new result }
     ensures lent { Lent run.old run.new }
 {
     steps::introduce_side(run, lhs);
@@ -355,7 +356,7 @@ fn compare(run: &mut Run, lhs: u32, rhs: u32) -> Option<()>
 #[cycle(checking)]
 fn stmt(run: &mut Run, at: usize, below: u32) -> Option<()>
     requires { (0 < below) × (at < 2147483648) }
-    ensures is { States run.old.file.now run.old.words.now run.old.out.now at below run.old.left run.new.words.now run.new.out.now (left_if result run.new.left) }
+    ensures is { StatesIn run.old at below run.new result }
     ensures lent { Lent run.old run.new }
 {
     match tree::stmt_at(run.file, at, below) {
@@ -371,7 +372,7 @@ fn stmt(run: &mut Run, at: usize, below: u32) -> Option<()>
 
 #[cycle(checking)]
 fn stmts(run: &mut Run, body: Stmts) -> Option<()>
-    ensures is { StatesAll run.old.file.now run.old.words.now run.old.out.now body run.old.left run.new.words.now run.new.out.now (left_if result run.new.left) }
+    ensures is { StatesAllIn run.old body run.new result }
     ensures lent { Lent run.old run.new }
 {
     let end = body.end;
