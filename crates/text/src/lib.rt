@@ -16,7 +16,7 @@ const LEAST: [u32; 5] = [0, 0, 0x80, 0x800, 0x10000];
 fn ones(b: u8) -> usize
     ensures { result ≡ ones b }
 {
-    b.leading_ones() as usize
+    (!b).leading_zeros() as usize
 }
 
 // What a first byte with n leading ones holds after them.
