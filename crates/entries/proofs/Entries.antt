@@ -1,14 +1,16 @@
 -- The n-th entry of a file. It is refused as the full check is, its length left aside (`sought_refused`); where it is
--- found, a list of demand 3's calls leads to it and `unify` ends there (`sought_led`); and a query's run that is to
+-- found, it was made in the file's run, whose entries before it led to it (`own_entry`); and a query's run that is to
 -- last until it ends right before it, with its sides and bindings (`stops_at`).
 use mathlib.Core.List.{List, [], ◌∷◌, ◌++◌}
-use mathlib.Core.Logic.{◌↔◌}
+use mathlib.Core.Logic.{◌↔◌, by_cases}
 use mathlib.Core.Path.{◌≡◌, refl, sym, ap, ◌∙◌, subst}
-use Prim.Native.Nat.{ℕ, zero, suc, ◌+◌, ◌<◌, ◌≤◌}
+use Prim.Native.Nat.{ℕ, zero, suc, ◌+◌, ◌-◌, ◌<◌, ◌≤◌}
+use native.Mathlib.Decide.{dec_lt}
 use native.Mathlib.Omega.{arith}
 use lib.Dec.{ltb}
 use lib.ListN.{length, replicate}
 use Rattle.unification.specs.Ty.{Ty}
+use Rattle.unification.specs.Bindings.{History}
 use Rattle.unification.specs.Calls.{UnifyEntry}
 use Rattle.unification.proofs.Tests.{clash}
 use Rattle.format.specs.Syntax.{Ast}
@@ -19,18 +21,17 @@ use Rattle.format.specs.File.{Form, view_of, Reading, refused, described, readin
 use Rattle.format.specs.Sound.{Sound}
 use Rattle.meaning.specs.Messages.{text_in}
 use Rattle.meaning.specs.Check.{Checker, Step, goes, out, entry, begin_until, query, Typed, typed, checked, check, reversed}
-use Rattle.meaning.specs.Run.{EntryLed, ending, run}
+use Rattle.meaning.specs.Run.{ending, run}
+use Rattle.meaning.specs.Entries.{EntryLed, EntriesLead, no_entry, rolled_back, then_entry, EntryOfRun}
 use Rattle.meaning.specs.Outcome as Outcome
 use Rattle.meaning.specs.Outcome.{min_words, max_visits, answered, decide_run, decide_read, decide, run_all}
-use Rattle.format.proofs.Lists.{all_append, all_map}
 use Rattle.format.proofs.Tests.{cases}
 use Rattle.meaning.proofs.Forms.{Ran, Runs, all_ran, one_out, runs}
 use Rattle.meaning.proofs.Run.{sound_well_formed, run_entries}
 use Rattle.format.proofs.Sound.{sound}
 use Rattle.laws.proofs.Agree.{Lit, dark_goes, dark_out, shines}
-use Rattle.laws.proofs.Run.{reversed_all}
 use Rattle.laws.proofs.Until.{run_until_lem}
-use Rattle.entries.specs.Entries.{entries_of, entries_all, nth, found, turned_down, among, sought_run, sought_read, entry_at}
+use Rattle.entries.specs.Entries.{entries_of, entries_all, nth, found, turned_down, among, sought_run, sought_read, entry_at, FallsIn, here, later, OwnEntry}
 use Rattle.std.specs.Prelude.{None, Option, Some}
 
 -- ---- Lists, the oldest first
@@ -44,6 +45,13 @@ nth_behind : {A : Type 0} (xs ys : List A) (k : ℕ) → nth (reversed xs ys) (l
 unfolding reversed nth
 nth_behind [] ys k = let e : 0 + k ≡ k = omega arith in rw e
 nth_behind (x ∷ xs) ys k = let e : length (x ∷ xs) + k ≡ length xs + suc k = omega arith in rw e (nth_behind xs (x ∷ ys) (suc k))
+
+-- The one that so many others are older than.
+nth_newer : {A : Type 0} (newer older : List A) (x : A) → nth (reversed (newer ++ x ∷ older) []) (length older) ≡ Some x
+unfolding reversed nth
+nth_newer newer older x =
+    let k : length older ≡ length older + 0 = omega arith in
+    rw k (ap {B = Option _} (λ es. nth es (length older + 0)) (reversed_append newer (x ∷ older) []) ∙ nth_behind older (x ∷ reversed newer []) 0)
 
 length_reversed : {A : Type 0} (xs ys : List A) → length (reversed xs ys) ≡ length xs + length ys
 unfolding reversed
@@ -113,42 +121,103 @@ module _ (schema : Schema) (a : Ast) where
               newest = p;
               count = m;
               before = f;
-              nth_is = ap {B = Option UnifyEntry} (λ es. nth es n)
-                  (entries_are ∙ ap {B = List UnifyEntry} (λ es. reversed es []) all ∙ reversed_append l.entered (x ∷ older) [])
-                  ∙ (let k : n ≡ length older + 0 = omega (arith, m) in rw k (nth_behind older (x ∷ reversed l.entered []) 0));
+              nth_is = ap {B = Option UnifyEntry} (λ es. nth es n) (entries_are ∙ ap {B = List UnifyEntry} (λ es. reversed es []) all)
+                  ∙ subst (λ k. nth (reversed (l.entered ++ x ∷ older) []) k ≡ Some x) m (nth_newer l.entered older x);
             }
 
--- ---- Where the n-th is found
+-- ---- An entry in its run
 
--- It is one of a run that goes to its end.
-abbrev pub Reached : UnifyEntry → Type 0
-Reached e = (nodes : ℕ) × EntryLed max_visits (replicate nodes None) e
+-- Entries that lead from one history to another, split at the k-th, the oldest being the 0th.
+record SplitAt (v : ℕ) (tys : List (Option Ty)) (from : History) (es : List UnifyEntry) (h : History) (k : ℕ) : Type 0 where
+  here : UnifyEntry
+  led : EntryLed v tys here
+  older : List UnifyEntry
+  newer : List UnifyEntry
+  is : es ≡ newer ++ here ∷ older
+  count : length older ≡ k
+  to_it : EntriesLead v tys from older led.at.state.history
+  from_it : EntriesLead v tys led.after.history newer h
 
-all_nth : {A : Type 0} (P : A → Type 0) (xs : List A) (n : ℕ) (x : A) → All P xs → nth xs n ≡ Some x → P x
-unfolding nth
-all_nth P [] n x h e = clash (cc e)
-all_nth P (y ∷ ys) zero x h e = let q : y ≡ x = cc e in subst P q h.0
-all_nth P (y ∷ ys) (suc n) x h e = all_nth P ys n x h.1 e
+split_at : {v : ℕ} {tys : List (Option Ty)} {from : History} {es : List UnifyEntry} {h : History} → EntriesLead v tys from es h → (k : ℕ)
+    → k < length es → SplitAt v tys from es h k
+split_at no_entry k p = absurd (omega arith)
+split_at (rolled_back past s s' l) k p =
+    let S = split_at l k p in
+    record {
+      here = S.here;
+      led = S.led;
+      older = S.older;
+      newer = S.newer;
+      is = S.is;
+      count = S.count;
+      to_it = S.to_it;
+      from_it = rolled_back past s s' S.from_it;
+    }
+split_at (then_entry {es} {e = e} l led q) k p = by_cases (dec_lt k (length es))
+    (λ i. let S = split_at l k i in record {
+      here = S.here;
+      led = S.led;
+      older = S.older;
+      newer = e ∷ S.newer;
+      is = ap {B = List UnifyEntry} (λ xs. e ∷ xs) S.is;
+      count = S.count;
+      to_it = S.to_it;
+      from_it = then_entry S.from_it led q;
+    })
+    (λ i. record {
+      here = e;
+      led = led;
+      older = es;
+      newer = [];
+      is = refl;
+      count = omega arith;
+      to_it = rw q l;
+      from_it = no_entry;
+    })
 
 module _ (form : Form) where
-  query_led : (a : Ast) (t : Typed) → Sound (view_of form a) → Ran form.schema a t → All Reached (entries_of form.schema a)
-  unfolding check run checked view_of
-  query_led a t s r = go (run form.schema a max_visits) refl
-    where
-      go : (x : Step Ty) → run form.schema a max_visits ≡ x → All Reached (entries_of form.schema a)
-      go (goes ty c) e =
-          rw (entries_are form.schema a ty c e) (reversed_all Reached c.entries []
-          (all_map (EntryLed max_visits (replicate (length a.nodes) None)) Reached c.entries (λ x h. (length a.nodes, h))
-          (run_entries form.schema a (sound_well_formed (view_of form a) s) max_visits ty c e)) tt)
-      go (out c) e = let z : checked max_visits (out c) ≡ typed t = ap (checked max_visits) (sym e) ∙ r in clash (cc z)
+  abbrev EntryIn : Ast → ℕ → UnifyEntry → Type 0
+  EntryIn a k e = EntryOfRun max_visits (replicate (length a.nodes) None) (ending (run form.schema a max_visits)) k e
 
-  all_led : (qs : List Ast) (ts : List Typed) → All (λ a. Sound (view_of form a)) qs → Each (Ran form.schema) qs ts
-      → All Reached (entries_all form.schema qs)
-  unfolding entries_all
-  all_led [] ts s e = tt
-  all_led (a ∷ qs) [] s e = absurd e
-  all_led (a ∷ qs) (t ∷ ts) s e = all_append Reached (entries_of form.schema a) (entries_all form.schema qs) (query_led a t s.0 e.0)
-      (all_led qs ts s.1 e.1)
+  own_in : (a : Ast) (t : Typed) → Sound (view_of form a) → Ran form.schema a t → (k : ℕ) → k < length (entries_of form.schema a) → (e : UnifyEntry)
+      → nth (entries_of form.schema a) k ≡ Some e → EntryIn a k e
+  unfolding check run checked view_of ending reversed nth
+  own_in a t s r k p e h = go (run form.schema a max_visits) refl
+    where
+      go : (x : Step Ty) → run form.schema a max_visits ≡ x → EntryIn a k e
+      go (goes ty c) q =
+          let L = run_entries form.schema a (sound_well_formed (view_of form a) s) max_visits ty c q in
+          let S = split_at L k (omega (arith, entries_many form.schema a ty c q)) in
+          let there : nth (entries_of form.schema a) k ≡ Some S.here =
+          ap {B = Option UnifyEntry} (λ es. nth es k) (entries_are form.schema a ty c q ∙ ap {B = List UnifyEntry} (λ es. reversed es []) S.is)
+          ∙ subst (λ m. nth (reversed (S.newer ++ S.here ∷ S.older) []) m ≡ Some S.here) S.count (nth_newer S.newer S.older S.here) in
+          let same : S.here ≡ e = cc (h, there) in
+          rw q (subst (λ x. EntryOfRun max_visits (replicate (length a.nodes) None) c k x) same (record {
+            led = S.led;
+            older = S.older;
+            newer = S.newer;
+            is = S.is;
+            count = S.count;
+            to_it = S.to_it;
+            from_it = S.from_it;
+          }))
+      go (out c) q = let z : checked max_visits (out c) ≡ typed t = ap (checked max_visits) (sym q) ∙ r in clash (cc z)
+
+  own_among : (qs : List Ast) (ts : List Typed) → All (λ a. Sound (view_of form a)) qs → Each (Ran form.schema) qs ts → (n : ℕ) (e : UnifyEntry)
+      → nth (entries_all form.schema qs) n ≡ Some e → (a : Ast) × (k : ℕ) × FallsIn form.schema qs n a k × EntryIn a k e
+  unfolding entries_all nth
+  own_among [] ts s r n e h = clash (cc h)
+  own_among (a ∷ qs) [] s r n e h = absurd r
+  own_among (a ∷ qs) (t ∷ ts) s r n e h =
+      let first = entries_of form.schema a in
+      by_cases (dec_lt n (length first))
+      (λ p. (a, n, here p, own_in a t s.0 r.0 n p e (sym (nth_first first (entries_all form.schema qs) n p) ∙ h)))
+      (λ p.
+      let m = n - length first in
+      let is : n ≡ length first + m = omega arith in
+      let y = own_among qs ts s.1 r.1 m e (sym (nth_later first (entries_all form.schema qs) m)
+      ∙ subst (λ i. nth (first ++ entries_all form.schema qs) i ≡ Some e) is h) in
+      (y.0, y.1, subst (λ i. FallsIn form.schema (a ∷ qs) i y.0 y.1) (sym is) (later y.2), y.3))
 
 -- ---- The whole
 
@@ -174,10 +243,10 @@ module _ (file : List ℕ) (n words : ℕ) where
       read (refused i) = same
       read (described f) = run_by f.schema f.queries f (run_all f.schema f.queries)
 
-  -- Where it is found, what the plain solver's theorems ask for holds of it.
-  pub sought_led : (e : UnifyEntry) → entry_at file n words ≡ found e → Reached e
+  -- Where it is found, it was made in the file's run, which led to it.
+  pub own_entry : (e : UnifyEntry) → entry_at file n words ≡ found e → OwnEntry file n e
   unfolding entry_at sought_read sought_run among
-  sought_led e z = cases (ltb words min_words) (λ q. let k : turned_down _ ≡ found e = rw (q, entry_at) at z in clash (cc k))
+  own_entry e z = cases (ltb words min_words) (λ q. let k : turned_down _ ≡ found e = rw (q, entry_at) at z in clash (cc k))
       (λ q. read (reading file) refl (rw (q, entry_at) at z))
     where
       is_some : (o : Option UnifyEntry) → among o ≡ found e → o ≡ Some e
@@ -185,11 +254,12 @@ module _ (file : List ℕ) (n words : ℕ) where
       is_some (Some x) h = let k : x ≡ e = cc h in ap Some k
 
       by : (f : Form) → reading file ≡ described f → {o : Option (List Typed)} → Runs f.schema f.queries o
-          → sought_run f.schema f.queries n o ≡ found e → Reached e
-      by f p (all_ran ts r) h = all_nth Reached (entries_all f.schema f.queries) n e (all_led f f.queries ts (sound file f p) r)
-          (is_some (nth (entries_all f.schema f.queries) n) h)
+          → sought_run f.schema f.queries n o ≡ found e → OwnEntry file n e
+      by f p (all_ran ts r) h =
+          let y = own_among f f.queries ts (sound file f p) r n e (is_some (nth (entries_all f.schema f.queries) n) h) in
+          record { form = f; reads = p; query = y.0; k = y.1; falls = y.2; made = y.3 }
       by f p (one_out r) h = clash (cc h)
 
-      read : (x : Reading) → reading file ≡ x → sought_read n (reading file) ≡ found e → Reached e
+      read : (x : Reading) → reading file ≡ x → sought_read n (reading file) ≡ found e → OwnEntry file n e
       read (refused i) p h = let k : turned_down i ≡ found e = rw p at h in clash (cc k)
       read (described f) p h = by f p (runs f.schema f.queries) (rw p at h)

@@ -13,7 +13,7 @@ use Rattle.unification.specs.Acyclic.{Acyclic}
 use Rattle.unification.proofs.Tests.{clash}
 use Rattle.unification.proofs.Demand3.{calls_inv}
 use Rattle.format.specs.Refusal.{Refusal, number}
-use Rattle.meaning.specs.Run.{EntryLed}
+use Rattle.meaning.specs.Entries.{Leaves, EntryLed}
 use Rattle.meaning.specs.Outcome as Outcome
 use Rattle.meaning.specs.Outcome.{max_visits, decide}
 use Rattle.plain_theory.specs.Plain.{Binding, Stage, needs, Along, start}
@@ -22,7 +22,7 @@ use Rattle.plain_theory.specs.Answer.{Pure, both, pure?, answer}
 use Rattle.plain_theory.specs.Claims.{Ends, Fails, Respected}
 use Rattle.plain_theory.proofs.Answers.{admitted_exactly, as_unify}
 use Rattle.entries.specs.Entries.{Sought, found, fewer, turned_down, entry_at}
-use Rattle.entries.proofs.Entries.{sought_refused, sought_led}
+use Rattle.entries.proofs.Entries.{sought_refused, own_entry}
 use Rattle.inspect.specs.Inspect.{Inspected, Success, Failure, ShutOut, Fewer, Refused, TooFewWords, told, inspected, decide_plain, refused_by}
 use Rattle.inspect.specs.Claims.{BothAdmitted, Overflows, There, Exactly, AsUnifyFrom, BesideUnify}
 use Rattle.std.specs.Prelude.{None, Option, Some}
@@ -119,14 +119,15 @@ module _ (lent v : ℕ) (tys : List (Option Ty)) (m : Machine) (cs : Calls v tys
         bindings = u.bindings;
       })
 
--- From the state to which the calls before the entry lead.
+-- What left a state has ended.
+left_ends : (u : Unified) (after : State) → Leaves u after → Ends u
+left_ends (Ok st) after h = tt
+left_ends (Err x st) after h = tt
+left_ends (Spent st) after h = absurd h
+
+-- From the state in which the entry was made.
 led : (lent v : ℕ) (tys : List (Option Ty)) (e : UnifyEntry) (h : EntryLed v tys e) → Facts lent h.at.state e.before e.got e.expected
-led lent v tys e h = facts_at lent v tys h.at h.calls e h.before h.got h.expected (go (unify h.at.state e.got e.expected) refl)
-  where
-    go : (u : Unified) → unify h.at.state e.got e.expected ≡ u → Ends u
-    go (Ok st) q = tt
-    go (Err x st) q = tt
-    go (Spent st) q = h.ends st q
+led lent v tys e h = facts_at lent v tys h.at h.calls e h.before h.got h.expected (left_ends (unify h.at.state e.got e.expected) h.after h.ended)
 
 -- ---- The whole
 
@@ -135,11 +136,8 @@ module _ (file : List ℕ) (n words lent : ℕ) where
   unfolding decide_plain inspected
   at_entry e q = ap (inspected lent) q
 
-  reaches : (e : UnifyEntry) → entry_at file n words ≡ found e → (nodes : ℕ) × EntryLed max_visits (replicate nodes None) e
-  reaches e q = sought_led file n words e q
-
-  there : (e : UnifyEntry) (q : entry_at file n words ≡ found e) → Facts lent (reaches e q).1.at.state e.before e.got e.expected
-  there e q = let r = reaches e q in led lent max_visits (replicate r.0 None) e r.1
+  there : (e : UnifyEntry) (q : entry_at file n words ≡ found e) → Facts lent (own_entry file n words e q).made.led.at.state e.before e.got e.expected
+  there e q = let o = own_entry file n words e q in led lent max_visits (replicate (length o.query.nodes) None) e o.made.led
 
   -- An answer that neither the reading nor the count gives is the solver's, at an entry.
   by_entry : (x : Inspected) → ((r : Refusal) → ¬ (x ≡ Refused r)) → ¬ (x ≡ Fewer) → decide_plain file n words lent ≡ x
@@ -222,11 +220,12 @@ module _ (file : List ℕ) (n words lent : ℕ) where
 
   pub beside_unify : (e : UnifyEntry) → entry_at file n words ≡ found e → BesideUnify file n words lent e
   beside_unify e q =
-      let r = reaches e q in
+      let o = own_entry file n words e q in
+      let l = o.made.led in
       record {
         every = λ v tys m cs before ended.
-            let same : r.1.at.state.subst ≡ m.state.subst = r.1.before ∙ sym before in
-            as_from e q m.state (facts_at lent v tys m cs e before (subst (λ s. Side (length s) e.got) same r.1.got)
-            (subst (λ s. Side (length s) e.expected) same r.1.expected) ended);
-        reached = r;
+            let same : l.at.state.subst ≡ m.state.subst = l.before ∙ sym before in
+            as_from e q m.state (facts_at lent v tys m cs e before (subst (λ s. Side (length s) e.got) same l.got)
+            (subst (λ s. Side (length s) e.expected) same l.expected) ended);
+        own = (o, as_from e q l.at.state (there e q));
       }

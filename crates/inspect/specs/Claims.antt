@@ -1,16 +1,15 @@
 -- What is claimed of the call, over the definitions alone (proofs/Promises.antt).
-use Rattle.std.specs.Prelude.{List, ◌↔◌, ◌⊎◌, ◌≡◌, ℕ, ◌<◌, replicate, None, Option, Some}
+use Rattle.std.specs.Prelude.{List, ◌↔◌, ◌⊎◌, ◌≡◌, ℕ, ◌<◌, Option, Some}
 use Rattle.unification.specs.Ty.{Ty}
 use Rattle.unification.specs.Bindings.{State}
 use Rattle.unification.specs.Unify.{Ok, unify}
 use Rattle.unification.specs.Calls.{UnifyEntry, Admitted, Respects, Machine, Calls}
 use Rattle.format.specs.Refusal.{Refusal, number}
-use Rattle.meaning.specs.Run.{EntryLed}
 use Rattle.meaning.specs.Outcome as Outcome
-use Rattle.meaning.specs.Outcome.{max_visits, decide}
+use Rattle.meaning.specs.Outcome.{decide}
 use Rattle.plain_theory.specs.Plain.{Binding, Stage, needs, Along, start}
 use Rattle.plain_theory.specs.Claims.{Respected, Ends, Fails}
-use Rattle.entries.specs.Entries.{found, fewer, entry_at}
+use Rattle.entries.specs.Entries.{found, fewer, entry_at, OwnEntry}
 use Rattle.inspect.specs.Inspect.{Success, Failure, ShutOut, Fewer, Refused, TooFewWords, decide_plain, refused_by}
 
 -- Demand 3 admits both sides of an entry.
@@ -43,8 +42,9 @@ module _ (file : List ℕ) (n words lent : ℕ) where
     pub bindings : BothAdmitted e → (after : State) (bs : List Binding) → unify st e.got e.expected ≡ Ok after
         → decide_plain file n words lent ≡ Success bs → (σ : ℕ → Ty) → Respects σ after.subst ↔ Respected σ bs
 
-  -- From every state with the entry's bindings to which a list of calls leads and from which `unify` ends; the run's is one.
+  -- From every state with the entry's bindings to which a list of calls leads and from which `unify` ends; so from the one in which the
+  -- entry was made in the file's run.
   pub record BesideUnify (e : UnifyEntry) : Type 0 where
     pub every : (v : ℕ) (tys : List (Option Ty)) (m : Machine) → Calls v tys m → m.state.subst ≡ e.before
         → Ends (unify m.state e.got e.expected) → AsUnifyFrom e m.state
-    pub reached : (nodes : ℕ) × EntryLed max_visits (replicate nodes None) e
+    pub own : (o : OwnEntry file n e) × AsUnifyFrom e o.made.led.at.state

@@ -7,13 +7,14 @@ use Prim.Native.Nat.{ℕ, ◌+◌, ◌≤◌}
 use native.Mathlib.Omega.{arith}
 use lib.ListN.{length, get_or, length-append}
 use Rattle.unification.specs.Ty.{Ty}
+use Rattle.unification.specs.Bindings.{start}
 use Rattle.unification.specs.Calls.{Side, Taken, Calls}
 use Rattle.unification.proofs.Sides.{side_more}
 use Rattle.unification.proofs.Undo.{Since, since_refl, since_trans, since_length}
 use Rattle.meaning.specs.Diag.{Diagnostic}
 use Rattle.meaning.specs.Check.{Checker, Entry, Step, goes, out, Does, and_then}
-use Rattle.format.specs.All.{All}
-use Rattle.meaning.specs.Run.{Led, EntryLed}
+use Rattle.meaning.specs.Run.{Led}
+use Rattle.meaning.specs.Entries.{EntriesLead}
 use Rattle.meaning.specs.Grades.{Grade, plus, GradeFits, unknowns, Orderly, Ready}
 use Rattle.std.specs.Prelude.{None, Option}
 
@@ -33,11 +34,11 @@ pub record Made (g : Grade) (c c' : Checker) : Type 0 where
   pub nodes : length c'.state.tys ≡ length c.state.tys
   pub until : c'.until ≡ c.until
 
--- A list of calls that led to the first leads on to the second, with the same snapshots at hand, and to each entry between them.
+-- A list of calls that led to the first leads on to the second, with the same snapshots at hand, and so do the entries, by the histories.
 unfoldable pub Reached : Checker → Checker → Type 0
 Reached c c' = (v : ℕ) (tys : List (Option Ty)) (ts : List Taken) → Calls v tys (record { state = c.state; taken = ts })
     → (newer : List Taken) × Calls v tys (record { state = c'.state; taken = newer ++ ts }) ×
-    (All (EntryLed v tys) c.entries → All (EntryLed v tys) c'.entries)
+    (EntriesLead v tys start c.entries c.state.history → EntriesLead v tys start c'.entries c'.state.history)
 
 -- The same where the run ended.
 unfoldable pub Stopped : Checker → Checker → Type 0

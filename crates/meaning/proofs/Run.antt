@@ -11,7 +11,7 @@ use native.Mathlib.Decide.{dec_lt}
 use native.Mathlib.Omega.{arith}
 use lib.ListN.{length, replicate, length-replicate, get_or-replicate}
 use Rattle.unification.specs.Ty.{Ty}
-use Rattle.unification.specs.Bindings.{bound, State}
+use Rattle.unification.specs.Bindings.{bound, start, State}
 use Rattle.unification.specs.Calls as Calls
 use Rattle.unification.specs.Calls.{Assignment, Claim, none_yet}
 use Rattle.unification.specs.Tie.{AllAsRobinson}
@@ -28,7 +28,8 @@ use Rattle.format.specs.File.{Described}
 use Rattle.format.specs.All.{All}
 use Rattle.format.specs.Sound.{Sound}
 use Rattle.meaning.specs.Check.{Until, the_end, first_diagnostic, entry, Checker, Step, goes, begin}
-use Rattle.meaning.specs.Run.{Led, EntryLed, between_calls, at_the_limit, ending, NotYet, run, RunDemand3, RunAsRobinson}
+use Rattle.meaning.specs.Entries.{EntriesLead, no_entry}
+use Rattle.meaning.specs.Run.{Led, between_calls, at_the_limit, ending, NotYet, run, RunDemand3, RunAsRobinson}
 use Rattle.meaning.specs.Weights.{WellFormed, same, sum_of, total, weight, size, records, record_fields}
 use Rattle.meaning.proofs.Depth.{lower_falls}
 use Rattle.meaning.specs.Grades.{Grade, Orderly, Ready, visiting}
@@ -129,11 +130,11 @@ module _ (schema : Schema) (ast : Ast) (wf : WellFormed schema ast) where
   unfolding begin Calls.begin
   run_led ceiling = meets_led IsSide _ _ ceiling (replicate (length nodes) None) [] (run schema ast ceiling) none_yet (run_meets ceiling)
 
-  -- Each entry of a run that went to its end.
+  -- The entries of a run that went to its end lead to its history.
   pub run_entries : (ceiling : ℕ) (ty : Ty) (c : Checker) → run schema ast ceiling ≡ goes ty c
-      → All (EntryLed ceiling (replicate (length nodes) None)) c.entries
+      → EntriesLead ceiling (replicate (length nodes) None) start c.entries c.state.history
   unfolding begin Calls.begin Reached
-  run_entries ceiling ty c e = ((going (rw e at (run_meets ceiling))).reached ceiling (replicate (length nodes) None) [] none_yet).2 tt
+  run_entries ceiling ty c e = ((going (rw e at (run_meets ceiling))).reached ceiling (replicate (length nodes) None) [] none_yet).2 no_entry
 
   pub run_demand_3 : (ceiling : ℕ) → RunDemand3 schema ast ceiling
   run_demand_3 ceiling = record {

@@ -13,10 +13,10 @@ use lib.Seq.{get_or-set_same, get_or-set_other, drop_at, length-take-le}
 use borrow.Author.Tests.{eq-eqb, ne_eqb, ltb-false}
 use Rattle.unification.specs.Ty.{Ty}
 use Rattle.unification.specs.Bindings as Bindings
-use Rattle.unification.specs.Bindings.{Answer, yes_left, no_left, spent, State}
+use Rattle.unification.specs.Bindings.{Answer, yes_left, no_left, spent, start, State, with_history}
 use Rattle.unification.specs.Unify as Unify
 use Rattle.unification.specs.Unify.{TyError, Unified, Ok, Err, Spent}
-use Rattle.unification.specs.Calls.{Side, take_snapshot, unknown, unification, failure, snapping, rolling_back, spending, annotation, then_call}
+use Rattle.unification.specs.Calls.{Side, UnifyEntry, take_snapshot, unknown, unification, failure, snapping, rolling_back, spending, annotation, then_call}
 use Rattle.unification.proofs.Sides.{side_more, wf_pad}
 use Rattle.unification.proofs.Occurs.{Fewer, orderable_fewer}
 use Rattle.unification.proofs.Undo.{Since, since_refl, since_length, since_fresh, since_annotate, since_left, rollback_subst, rollback_tys, rollback_undo}
@@ -34,6 +34,7 @@ use Rattle.meaning.specs.Check.{mark, introduce, annotate, unified, united, ente
 use Rattle.meaning.specs.Check.{truncate_env, truncate_marks, rollback, leaving, leave, reject, report, unify_at}
 use Rattle.format.specs.All.{All}
 use Rattle.meaning.specs.Run.{between_calls, at_the_limit, NotYet}
+use Rattle.meaning.specs.Entries.{EntriesLead, rolled_back, then_entry}
 use Rattle.meaning.specs.Weights.{same}
 use Rattle.format.proofs.Lists.{all_map}
 use Rattle.format.proofs.Tests.{cases}
@@ -153,7 +154,7 @@ fresh_made c es = record {
 }
 
 fresh_reached : (c : Checker) (es : List Entry) → Reached c (with_env (with_state c (Bindings.fresh c.state)) es)
-unfolding Reached with_env with_state
+unfolding Reached with_env with_state Bindings.fresh
 fresh_reached c es v tys ts cs = ([], then_call cs unknown, λ h. h)
 
 env_more : (c : Checker) → Orderly c → All (λ e. e.unknown < unknowns c + 1) c.env
@@ -383,7 +384,7 @@ module _ (a b : Ty) (c : Checker) (o : Orderly c) (i : Side (unknowns c) a) (j :
     reached = λ v tys ts cs. (
       [],
       then_call cs (unification a b i j e),
-      λ h. (record { at = _; calls = cs; before = refl; got = i; expected = j; ends = λ z q. clash (cc (e, q)) }, h),
+      λ h. then_entry h (record { at = _; calls = cs; before = refl; got = i; expected = j; after = st; ended = rw e refl }) refl,
     );
     holds = tt;
   })
@@ -393,7 +394,7 @@ module _ (a b : Ty) (c : Checker) (o : Orderly c) (i : Side (unknowns c) a) (j :
     reached = λ v tys ts cs. (
       [],
       then_call cs (failure a b err i j e),
-      λ h. (record { at = _; calls = cs; before = refl; got = i; expected = j; ends = λ z q. clash (cc (e, q)) }, h),
+      λ h. then_entry h (record { at = _; calls = cs; before = refl; got = i; expected = j; after = st; ended = rw e refl }) refl,
     );
     holds = tt;
   })
@@ -452,6 +453,11 @@ orderable_meets t c o = ordered_meets c (Unify.orderable (Bindings.zonk c.state.
     (orderable_fewer (Bindings.zonk c.state.subst t) c.state.left)
 
 -- ---- A rollback to where the stretch began: what it made is gone but the unknowns, the diagnostics, and what left
+lead_rolled : {v : ℕ} {tys : List (Option Ty)} {es : List UnifyEntry} (st : State) (at : Bindings.Snapshot) → EntriesLead v tys start es st.history
+    → EntriesLead v tys start es (Bindings.rollback st at).history
+unfolding Bindings.rollback with_history
+lead_rolled st at h = rolled_back _ _ _ h
+
 module _ (g : Grade) (c c' : Checker) (o : Orderly c) (o' : Orderly c') (m : Made g c c') where
   gone : drop (length c'.env - length c.env) c'.env ≡ c.env
   gone = rw m.env (drop_at m.pushed c.env (length (m.pushed ++ c.env) - length c.env) (omega (arith, length-append m.pushed c.env)))
@@ -505,7 +511,7 @@ module _ (g : Grade) (c c' : Checker) (o : Orderly c) (o' : Orderly c') (m : Mad
       until = m.until;
     };
     reached = λ v tys ts cs. let x = r v tys (take_snapshot c.state ∷ ts) (then_call cs snapping) in
-        (take_snapshot c.state ∷ [], then_call x.1 (rolling_back x.0 ts (take_snapshot c.state) refl), x.2);
+        (take_snapshot c.state ∷ [], then_call x.1 (rolling_back x.0 ts (take_snapshot c.state) refl), λ h. lead_rolled c'.state _ (x.2 h));
     holds = tt;
   })
 

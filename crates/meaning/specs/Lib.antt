@@ -5,6 +5,7 @@ pub mod Answer
 pub mod Outcome
 pub mod Table
 pub mod Run
+pub mod Entries
 pub mod Lamp
 pub mod Weights
 pub mod Alone

@@ -17,15 +17,6 @@ pub data Led (v : ℕ) (tys : List (Option Ty)) : State → Type 0 where
   at_the_limit : {m : Machine} (a b : Ty) {st : State} → Calls v tys m → Side (length m.state.subst) a → Side (length m.state.subst) b
       → unify m.state a b ≡ Spent st → Led v tys st
 
--- An entry to `unify` that ended, well or not: a list of calls leads to its bindings, and its sides have the permitted form.
-pub record EntryLed (v : ℕ) (tys : List (Option Ty)) (e : UnifyEntry) : Type 0 where
-  pub at : Machine
-  pub calls : Calls v tys at
-  pub before : at.state.subst ≡ e.before
-  pub got : Side (length at.state.subst) e.got
-  pub expected : Side (length at.state.subst) e.expected
-  pub ends : (st : State) → ¬ (unify at.state e.got e.expected ≡ Spent st)
-
 -- What a run is to last until has not come, by its diagnostics and its entries.
 abbrev pub NotYet : Until → List Diagnostic → List UnifyEntry → Type 0
 NotYet the_end ds es = Unit {0}

@@ -1,2 +1,3 @@
 pub mod Beginning
 pub mod CodeRan
+pub mod Sequence
